@@ -1,0 +1,99 @@
+-- Lemmas on the blocks of a list.
+use Rattle.std.proofs.Common.{arith, refl, sym, subst, ap, ◌∙◌, ◌≡◌, ℕ, zero, suc, ◌+◌, ◌-◌, ◌*◌, ◌/◌, ◌%◌, ◌<◌, ◌≤◌, List, [], ◌∷◌, length, take, drop, get_or, add-one, length-drop}
+use Rattle.std.proofs.lemmas.List.{take-append-drop, drop-drop, drop-take, length-take-le, take-take}
+use Rattle.std.proofs.Math.Nat.{mod_self, mod-add-div', mul-mod_left, add-div_right, div-eq_of_lt, div-zero, div-mul-le_self, suc-mul, mul-div_cancel, mul-le-mul_right, add_comm}
+use Rattle.std.proofs.Math.Seq.{take-length}
+use Rattle.std.specs.Simd.{first_chunks}
+use Rattle.aead_ciphers_base.specs.Blocks.{blocks, joined}
+
+pub blocks_none : {T : Type 0} (xs : List T) → blocks 0 xs ≡ []
+unfolding blocks
+blocks_none xs = ap (λ k. first_chunks 0 k xs) (div-zero (length xs))
+
+pub blocks_short : {T : Type 0} (n : ℕ) (xs : List T) → length xs < n → blocks n xs ≡ []
+unfolding blocks
+blocks_short n xs short = ap (λ k. first_chunks n k xs) (div-eq_of_lt short)
+
+one_less : (n k : ℕ) → 0 < n → n ≤ k → k / n ≡ suc ((k - n) / n)
+one_less n k some fits =
+    let e : k ≡ k - n + n = omega arith in
+    let d : (k - n + n) / n ≡ (k - n) / n + 1 = add-div_right (k - n) some in
+    ap (λ m. m / n) e ∙ d ∙ add-one ((k - n) / n)
+
+pub blocks_cons : {T : Type 0} (n : ℕ) (xs : List T) → 0 < n → n ≤ length xs → blocks n xs ≡ take n xs ∷ blocks n (drop n xs)
+unfolding blocks
+blocks_cons n xs some fits =
+    ap (λ k. first_chunks n k xs) (one_less n (length xs) some fits ∙ ap (λ k. suc (k / n)) (sym (length-drop n xs)))
+
+length-first_chunks : {T : Type 0} (n k : ℕ) (xs : List T) → length (first_chunks n k xs) ≡ k
+length-first_chunks n zero xs = refl
+length-first_chunks n (suc k) xs = ap suc (length-first_chunks n k (drop n xs))
+
+pub length_blocks : {T : Type 0} (n : ℕ) (xs : List T) → length (blocks n xs) ≡ length xs / n
+unfolding blocks
+length_blocks n xs = length-first_chunks n (length xs / n) xs
+
+first_chunks-take : {T : Type 0} (n k m : ℕ) (xs : List T) → k * n ≤ m → first_chunks n k (take m xs) ≡ first_chunks n k xs
+first_chunks-take n zero m xs h = refl
+first_chunks-take n (suc k) m xs h =
+    let more : k * n + n ≤ m = subst (λ (x : ℕ). x ≤ m) (suc-mul k n) h in
+    let e : n + (m - n) ≡ m = omega arith in
+    let front : take n (take m xs) ≡ take n xs = take-take n m xs (omega arith) in
+    let back : drop n (take m xs) ≡ take (m - n) (drop n xs) = ap (λ (x : ℕ). drop n (take x xs)) (sym e) ∙ drop-take n (m - n) xs in
+    let tail : first_chunks n k (take (m - n) (drop n xs)) ≡ first_chunks n k (drop n xs) = first_chunks-take n k (m - n) (drop n xs) (omega arith) in
+    rw (front, back, tail)
+
+count_kept : (n k m : ℕ) → m ≡ k / n * n → m / n ≡ k / n
+count_kept zero k m e = div-zero m ∙ sym (div-zero k)
+count_kept (suc n) k m e = ap (λ x. x / suc n) e ∙ mul-div_cancel (k / suc n) (omega arith)
+
+pub blocks_take : {T : Type 0} (n : ℕ) (xs : List T) → blocks n (take (length xs / n * n) xs) ≡ blocks n xs
+unfolding blocks
+blocks_take n xs =
+    let within : length xs / n * n ≤ length xs = div-mul-le_self (length xs) n in
+    let count : length (take (length xs / n * n) xs) / n ≡ length xs / n = count_kept n (length xs) (length (take (length xs / n * n) xs)) (length-take-le (length xs / n * n) xs within) in
+    ap (λ k. first_chunks n k (take (length xs / n * n) xs)) count ∙ first_chunks-take n (length xs / n) (length xs / n * n) xs (omega arith)
+
+pub blocks_one : {T : Type 0} (n : ℕ) (xs : List T) → 0 < n → length xs ≡ n → blocks n xs ≡ xs ∷ []
+blocks_one n xs some e =
+    let rest : blocks n (drop n xs) ≡ [] = blocks_short n (drop n xs) (omega (arith, length-drop n xs)) in
+    let whole : take n xs ≡ xs = ap (λ k. take k xs) (sym e) ∙ take-length xs in
+    blocks_cons n xs some (omega arith) ∙ rw (rest, whole)
+
+first_chunks-at : {T : Type 0} (n k : ℕ) (xs : List T) (i : ℕ) (d : List T) → i < k → get_or (first_chunks n k xs) i d ≡ take n (drop (i * n) xs)
+first_chunks-at n zero xs i d h = absurd (omega arith)
+first_chunks-at n (suc k) xs zero d h = let e : 0 * n ≡ 0 = omega arith in rw e
+first_chunks-at n (suc k) xs (suc i) d h =
+    let less : i < k = omega arith in
+    let at : drop (i * n) (drop n xs) ≡ drop (suc i * n) xs = drop-drop (i * n) n xs ∙ ap (λ x. drop x xs) (add_comm n (i * n) ∙ sym (suc-mul i n)) in
+    first_chunks-at n k (drop n xs) i d less ∙ ap (take n) at
+
+pub blocks_at : {T : Type 0} (n : ℕ) (xs : List T) (i : ℕ) (d : List T) → i < length xs / n → get_or (blocks n xs) i d ≡ take n (drop (i * n) xs)
+unfolding blocks
+blocks_at n xs i d h = first_chunks-at n (length xs / n) xs i d h
+
+-- block i lies within the list
+pub block_within : {T : Type 0} (n : ℕ) (xs : List T) (i : ℕ) → i < length xs / n → i * n + n ≤ length xs
+block_within n xs i h =
+    let up : suc i * n ≤ length xs / n * n = mul-le-mul_right n h in
+    let all : length xs / n * n ≤ length xs = div-mul-le_self (length xs) n in
+    let e : suc i * n ≡ i * n + n = suc-mul i n in
+    omega arith
+
+joined_first : {T : Type 0} (n k : ℕ) (xs : List T) → k * n ≡ length xs → joined (first_chunks n k xs) ≡ xs
+joined_first n zero [] e = refl
+joined_first n zero (x ∷ xs) e = let z : 0 * n ≡ 0 = omega arith in absurd (omega arith)
+joined_first n (suc k) xs e =
+    let up : suc k * n ≡ k * n + n = suc-mul k n in
+    let rest : joined (first_chunks n k (drop n xs)) ≡ drop n xs = joined_first n k (drop n xs) (omega (arith, length-drop n xs)) in
+    rw (rest, take-append-drop) refl
+
+pub joined_blocks : {T : Type 0} (n : ℕ) (xs : List T) → length xs % n ≡ 0 → xs ≡ joined (blocks n xs)
+unfolding blocks
+joined_blocks n xs e = sym (joined_first n (length xs / n) xs (omega (arith, mod-add-div' (length xs) n)))
+
+pub whole_blocks : {T : Type 0} (n : ℕ) (xs : List T) → length (take (length xs / n * n) xs) % n ≡ 0
+whole_blocks n xs = ap (λ k. k % n) (length-take-le (length xs / n * n) xs (div-mul-le_self (length xs) n)) ∙ mul-mod_left (length xs / n) n
+
+pub whole_one : {T : Type 0} (n : ℕ) (xs : List T) → length xs ≡ n → length xs % n ≡ 0
+whole_one n xs e = ap (λ k. k % n) e ∙ mod_self n

@@ -1,0 +1,34 @@
+-- Lists made by index, and cuts of lists.
+use Rattle.std.proofs.Common.{◌≡◌, ℕ, zero, suc, ◌+◌, ◌<◌, List, [], ◌∷◌, ◌++◌, length, get_or, refl, sym, ap, ap₂, ◌∙◌, arith}
+use Rattle.std.proofs.lemmas.List.{append_assoc, append-nil}
+use Rattle.std.proofs.lemmas.List.FromFn.{length-map-range_with_len, get_or-map-range_with_len, map-range_with_len_more}
+use Rattle.aead_ciphers_base.specs.Bytes.{each_below}
+
+pub length-each : {X : Type 0} (n : ℕ) (f : ℕ → X) → length (each_below n f) ≡ n
+length-each n f = length-map-range_with_len f 0 n
+
+pub get_or-each : {X : Type 0} (n : ℕ) (f : ℕ → X) (i : ℕ) (d : X) → i < n → get_or (each_below n f) i d ≡ f i
+get_or-each n f i d h = get_or-map-range_with_len f 0 n i i d h (omega arith)
+
+pub each-same : {X : Type 0} (n : ℕ) (f g : ℕ → X) → ((i : ℕ) → i < n → f i ≡ g i) → each_below n f ≡ each_below n g
+each-same zero f g h = refl
+each-same (suc n) f g h =
+    let here : n < suc n = omega arith in
+    let e : suc n ≡ n + 1 = omega arith in
+    ap (λ (k : ℕ). each_below k f) e
+    ∙ map-range_with_len_more f 0 n n (omega arith)
+    ∙ ap₂ (λ (xs : List _) (x : _). xs ++ x ∷ []) (each-same n f g (λ i lt. h i (omega arith))) (h n here)
+    ∙ sym (map-range_with_len_more g 0 n n (omega arith))
+    ∙ sym (ap (λ (k : ℕ). each_below k g) e)
+
+pub each-append : {X : Type 0} (m n : ℕ) (f : ℕ → X) → each_below (m + n) f ≡ each_below m f ++ each_below n (λ i. f (m + i))
+each-append m zero f = ap (λ (k : ℕ). each_below k f) (let e : m + 0 ≡ m = omega arith in e) ∙ sym (append-nil (each_below m f))
+each-append m (suc n) f =
+    let e : m + suc n ≡ m + n + 1 = omega arith in
+    let e' : n + 1 ≡ suc n = omega arith in
+    ap (λ (k : ℕ). each_below k f) e
+    ∙ map-range_with_len_more f 0 (m + n) (m + n) (omega arith)
+    ∙ ap (λ (xs : List _). xs ++ f (m + n) ∷ []) (each-append m n f)
+    ∙ append_assoc (each_below m f) (each_below n (λ i. f (m + i))) (f (m + n) ∷ [])
+    ∙ ap (λ (xs : List _). each_below m f ++ xs)
+    (sym (map-range_with_len_more (λ (i : ℕ). f (m + i)) 0 n n (omega arith)) ∙ ap (λ (k : ℕ). each_below k (λ i. f (m + i))) e')

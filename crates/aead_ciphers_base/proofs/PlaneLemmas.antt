@@ -1,0 +1,211 @@
+-- Operations on planes, seen at one byte.
+use Rattle.std.proofs.Common.{◌≡◌, ℕ, zero, suc, ◌+◌, ◌-◌, ◌/◌, ◌%◌, ◌^◌, ◌<◌, ◌≤◌, min, Bool, true, false, ◌&&◌, List, [], ◌∷◌, refl, sym, ap, ap₂, ◌∙◌, arith, bit_xor, bit_and, slice_index, if◌then◌else◌, div-one}
+use Rattle.std.specs.Prelude.{◌==◌}
+use Rattle.std.specs.Int.{bit_at}
+use Rattle.std.proofs.lemmas.Nat.{shr-shr, shr_le}
+use Rattle.std.proofs.lemmas.Nat.Bits.{bit_at_xor, bit_at_and, bit_at-lt, bit_at_ones, bit_at-zero}
+use Rattle.aead_ciphers_base.specs.Polynomial.{◌xor◌, coefficient, polynomial}
+use Rattle.aead_ciphers_base.specs.ByteField.{bits_of, value_of, mul8, affine, affine_bit}
+use Rattle.aead_ciphers_base.specs.Planes.{plane_byte}
+use Rattle.aead_ciphers_base.specs.declared.aes.planes.TheConstants.{CONSTANT}
+use Rattle.aead_ciphers_base.proofs.PolynomialLemmas.{same-polynomial, polynomial-add, coefficient-polynomial}
+use Rattle.aead_ciphers_base.proofs.BitsLemmas.{bits_of-value_of, value_of-lt, value_of-add, IsAdditive_zero, all_below, same_below}
+use Rattle.aead_ciphers_base.proofs.ByteFieldLemmas.{field, mul8-xor_right}
+use Rattle.aead_ciphers_base.proofs.FastLemmas.{step_of_product}
+
+-- ---- one bit
+
+pub is_set : ℕ → ℕ → Bool
+is_set n p = bit_at n p == 1
+
+sum_digit : (x y : ℕ) → x < 2 → y < 2 → ((x + y) % 2 == 1) ≡ ◌xor◌ (x == 1) (y == 1)
+sum_digit zero zero hx hy = refl
+sum_digit zero (suc zero) hx hy = refl
+sum_digit (suc zero) zero hx hy = refl
+sum_digit (suc zero) (suc zero) hx hy = refl
+sum_digit (suc (suc x)) y hx hy = absurd (omega arith)
+sum_digit zero (suc (suc y)) hx hy = absurd (omega arith)
+sum_digit (suc zero) (suc (suc y)) hx hy = absurd (omega arith)
+
+min_digit : (x y : ℕ) → x < 2 → y < 2 → (min x y == 1) ≡ ((x == 1) && (y == 1))
+min_digit zero zero hx hy = refl
+min_digit zero (suc zero) hx hy = refl
+min_digit (suc zero) zero hx hy = refl
+min_digit (suc zero) (suc zero) hx hy = refl
+min_digit (suc (suc x)) y hx hy = absurd (omega arith)
+min_digit zero (suc (suc y)) hx hy = absurd (omega arith)
+min_digit (suc zero) (suc (suc y)) hx hy = absurd (omega arith)
+
+-- XOR and AND keep each bit apart from the others
+pub set-xor : (a b p : ℕ) → (bit_at (bit_xor a b) p == 1) ≡ ◌xor◌ (bit_at a p == 1) (bit_at b p == 1)
+set-xor a b p = ap (λ t. t == 1) (bit_at_xor a b p) ∙ sum_digit (bit_at a p) (bit_at b p) (bit_at-lt a p) (bit_at-lt b p)
+
+pub set-and : (a b p : ℕ) → (bit_at (bit_and a b) p == 1) ≡ ((bit_at a p == 1) && (bit_at b p == 1))
+set-and a b p = ap (λ t. t == 1) (bit_at_and a b p) ∙ min_digit (bit_at a p) (bit_at b p) (bit_at-lt a p) (bit_at-lt b p)
+
+-- ---- one byte
+
+abbrev pub plane_bits : List ℕ → ℕ → List Bool
+plane_bits a p = polynomial 8 (λ b. bit_at (slice_index a b) p == 1)
+
+pub plane_byte_is : (a : List ℕ) (p : ℕ) → plane_byte a p ≡ value_of (plane_bits a p)
+unfolding plane_byte
+plane_byte_is a p = refl
+
+pub plane_byte_lt : (a : List ℕ) (p : ℕ) → plane_byte a p < 256
+unfolding plane_byte
+plane_byte_lt a p = value_of-lt (plane_bits a p)
+
+pub plane_byte_bits : (a : List ℕ) (p : ℕ) → bits_of 8 (plane_byte a p) ≡ plane_bits a p
+unfolding plane_byte
+plane_byte_bits a p = bits_of-value_of (plane_bits a p)
+
+pub plane_byte_zero : (p : ℕ) → plane_byte (0 ∷ 0 ∷ 0 ∷ 0 ∷ 0 ∷ 0 ∷ 0 ∷ 0 ∷ []) p ≡ 0
+unfolding plane_byte
+plane_byte_zero p = let e : bit_at 0 p ≡ 0 = bit_at-zero p in rw e refl
+
+-- bit i of a number
+pub bits_of_at : (k n i : ℕ) → i < k → coefficient (bits_of k n) i ≡ (n / 2 ^ i % 2 == 1)
+bits_of_at zero n i h = absurd (omega arith)
+bits_of_at (suc k) n zero h = ap (λ t. t % 2 == 1) (sym (div-one n))
+bits_of_at (suc k) n (suc i) h =
+    let e : n / 2 ^ 1 / 2 ^ i ≡ n / 2 ^ (1 + i) = shr-shr n 1 i in
+    let s : 1 + i ≡ suc i = omega arith in
+    bits_of_at k (n / 2) i (omega arith) ∙ ap (λ t. t % 2 == 1) (e ∙ ap (λ t. n / 2 ^ t) s)
+
+pub plane_bit : (a : List ℕ) (p i : ℕ) → i < 8 → (bit_at (slice_index a i) p == 1) ≡ (plane_byte a p / 2 ^ i % 2 == 1)
+plane_bit a p i h =
+    sym (coefficient-polynomial 8 (λ b. bit_at (slice_index a b) p == 1) i h) ∙ ap (λ q. coefficient q i) (sym (plane_byte_bits a p)) ∙ bits_of_at 8 (plane_byte a p) i h
+
+-- ---- times x
+
+times_x_bits : List Bool → List Bool
+times_x_bits q =
+    coefficient q 7 ∷ ◌xor◌ (coefficient q 0) (coefficient q 7) ∷ coefficient q 1 ∷ ◌xor◌ (coefficient q 2) (coefficient q 7)
+    ∷ ◌xor◌ (coefficient q 3) (coefficient q 7) ∷ coefficient q 4 ∷ coefficient q 5 ∷ coefficient q 6 ∷ []
+
+times_x_test : all_below (λ n. value_of (times_x_bits (bits_of 8 n)) == mul8 2 n) 256 ≡ true
+unfolding field times_x_bits
+times_x_test = refl
+
+pub times_x_plane : (a : List ℕ) (p : ℕ)
+    → plane_byte (slice_index a 7 ∷ bit_xor (slice_index a 0) (slice_index a 7) ∷ slice_index a 1 ∷ bit_xor (slice_index a 2) (slice_index a 7)
+    ∷ bit_xor (slice_index a 3) (slice_index a 7) ∷ slice_index a 4 ∷ slice_index a 5 ∷ slice_index a 6 ∷ []) p ≡ mul8 2 (plane_byte a p)
+unfolding plane_byte times_x_bits
+times_x_plane a p =
+    let at0 = set-xor (slice_index a 0) (slice_index a 7) p in
+    let at2 = set-xor (slice_index a 2) (slice_index a 7) p in
+    let at3 = set-xor (slice_index a 3) (slice_index a 7) p in
+    let n = plane_byte a p in
+    let test = same_below (λ t. value_of (times_x_bits (bits_of 8 t))) (mul8 2) 256 n times_x_test (plane_byte_lt a p) in
+    rw (at0, at2, at3) (ap (λ q. value_of (times_x_bits q)) (sym (plane_byte_bits a p)) ∙ test)
+
+-- ---- a sum under a mask
+
+masked : (f : ℕ → Bool) (m : Bool) → value_of (polynomial 8 (λ b. f b && m)) ≡ (if m then value_of (polynomial 8 f) else 0)
+masked f true = ap value_of (same-polynomial 8 (λ b. f b && true) f (λ i _. and_true (f i)))
+  where
+    and_true : (b : Bool) → (b && true) ≡ b
+    and_true true = refl
+    and_true false = refl
+masked f false = ap value_of (same-polynomial 8 (λ b. f b && false) (λ b. false) (λ i _. and_false (f i)))
+  where
+    and_false : (b : Bool) → (b && false) ≡ false
+    and_false true = refl
+    and_false false = refl
+
+pub add_where_plane : (a b s : List ℕ) (mask : ℕ) → ((k : ℕ) → k < 8 → slice_index s k ≡ bit_xor (slice_index a k) (bit_and (slice_index b k) mask))
+    → (p : ℕ) → plane_byte s p ≡ bit_xor (plane_byte a p) (if bit_at mask p == 1 then plane_byte b p else 0)
+unfolding plane_byte
+add_where_plane a b s mask h p =
+    let f = λ (k : ℕ). bit_at (slice_index a k) p == 1 in
+    let g = λ (k : ℕ). bit_at (slice_index b k) p == 1 in
+    let m = bit_at mask p == 1 in
+    ap value_of (same-polynomial 8 (λ k. bit_at (slice_index s k) p == 1) (λ k. ◌xor◌ (f k) (g k && m))
+    (λ k lt.
+    ap (λ t. bit_at t p == 1) (h k lt) ∙ set-xor (slice_index a k) (bit_and (slice_index b k) mask) p
+    ∙ ap (◌xor◌ (f k)) (set-and (slice_index b k) mask p)))
+    ∙ ap value_of (polynomial-add 8 f (λ k. g k && m))
+    ∙ value_of-add (polynomial 8 f) (polynomial 8 (λ k. g k && m)) refl
+    ∙ ap (bit_xor (value_of (polynomial 8 f))) (masked g m)
+
+-- ---- the product, highest bit first
+
+pub multiply_init : (a b : List ℕ) (p : ℕ) → plane_byte (0 ∷ 0 ∷ 0 ∷ 0 ∷ 0 ∷ 0 ∷ 0 ∷ 0 ∷ []) p ≡ mul8 (plane_byte a p) (plane_byte b p / 2 ^ (8 - 0))
+multiply_init a b p =
+    let small = plane_byte_lt b p in
+    let e : plane_byte b p / 256 ≡ 0 = omega arith in
+    plane_byte_zero p ∙ sym (ap (mul8 (plane_byte a p)) e ∙ IsAdditive_zero (mul8 (plane_byte a p)) (mul8-xor_right (plane_byte a p)))
+
+pub multiply_step : (a b product twice next : List ℕ) (n p : ℕ) → n < 8
+    → plane_byte product p ≡ mul8 (plane_byte a p) (plane_byte b p / 2 ^ (8 - n))
+    → plane_byte twice p ≡ mul8 2 (plane_byte product p)
+    → plane_byte next p ≡ bit_xor (plane_byte twice p) (if bit_at (slice_index b (7 - n)) p == 1 then plane_byte a p else 0)
+    → plane_byte next p ≡ mul8 (plane_byte a p) (plane_byte b p / 2 ^ (8 - (n + 1)))
+multiply_step a b product twice next n p h e_product e_twice e_next =
+    let x = plane_byte a p in
+    let y = plane_byte b p in
+    let z = y / 2 ^ (7 - n) in
+    let z_le : z ≤ y = shr_le y (7 - n) in
+    let small : z < 256 = omega (arith, plane_byte_lt b p) in
+    let half : y / 2 ^ (8 - n) ≡ z / 2 =
+    let s : 8 - n ≡ (7 - n) + 1 = omega arith in ap (λ t. y / 2 ^ t) s ∙ sym (shr-shr y (7 - n) 1) in
+    let last : 8 - (n + 1) ≡ 7 - n = omega arith in
+    e_next
+    ∙ ap₂ (λ t m. bit_xor t (if m then x else 0)) (e_twice ∙ ap (mul8 2) (e_product ∙ ap (mul8 x) half)) (plane_bit b p (7 - n) (omega arith))
+    ∙ sym (step_of_product x z (plane_byte_lt a p) small)
+    ∙ ap (λ t. mul8 x (y / 2 ^ t)) (sym last)
+
+pub multiply_end : (a b product : List ℕ) (n p : ℕ) → n ≡ 8 → plane_byte product p ≡ mul8 (plane_byte a p) (plane_byte b p / 2 ^ (8 - n)) → plane_byte product p ≡ mul8 (plane_byte a p) (plane_byte b p)
+multiply_end a b product n p e h = h ∙ ap (λ t. mul8 (plane_byte a p) (plane_byte b p / 2 ^ (8 - t))) e ∙ ap (mul8 (plane_byte a p)) (div-one (plane_byte b p))
+
+-- ---- the affine map
+
+ones_bit : (p : ℕ) → p < 64 → (bit_at 0xffffffffffffffff p == 1) ≡ true
+ones_bit p h = ap (λ t. t == 1) (bit_at_ones 64 p h)
+
+zeros_bit : (p : ℕ) → (bit_at 0 p == 1) ≡ false
+zeros_bit p = ap (λ t. t == 1) (bit_at-zero p)
+
+constant_bit : (k p : ℕ) → k < 8 → p < 64 → (bit_at (slice_index CONSTANT k) p == 1) ≡ coefficient (bits_of 8 0x63) k
+constant_bit zero p hk hp = ones_bit p hp
+constant_bit (suc zero) p hk hp = ones_bit p hp
+constant_bit (suc (suc zero)) p hk hp = zeros_bit p
+constant_bit (suc (suc (suc zero))) p hk hp = zeros_bit p
+constant_bit (suc (suc (suc (suc zero)))) p hk hp = zeros_bit p
+constant_bit (suc (suc (suc (suc (suc zero))))) p hk hp = ones_bit p hp
+constant_bit (suc (suc (suc (suc (suc (suc zero)))))) p hk hp = ones_bit p hp
+constant_bit (suc (suc (suc (suc (suc (suc (suc zero))))))) p hk hp = zeros_bit p
+constant_bit (suc (suc (suc (suc (suc (suc (suc (suc k)))))))) p hk hp = absurd (omega arith)
+
+set-xor_six : (a b c d e f p : ℕ)
+    → (bit_at (bit_xor (bit_xor (bit_xor (bit_xor (bit_xor a b) c) d) e) f) p == 1)
+    ≡ ((bit_at a p == 1) xor (bit_at b p == 1) xor (bit_at c p == 1) xor (bit_at d p == 1) xor (bit_at e p == 1) xor (bit_at f p == 1))
+set-xor_six a b c d e f p =
+    set-xor (bit_xor (bit_xor (bit_xor (bit_xor a b) c) d) e) f p
+    ∙ ap (λ t. t xor (bit_at f p == 1)) (set-xor (bit_xor (bit_xor (bit_xor a b) c) d) e p
+    ∙ ap (λ t. t xor (bit_at e p == 1)) (set-xor (bit_xor (bit_xor a b) c) d p
+    ∙ ap (λ t. t xor (bit_at d p == 1)) (set-xor (bit_xor a b) c p
+    ∙ ap (λ t. t xor (bit_at c p == 1)) (set-xor a b p))))
+
+affine_at : (a : List ℕ) (k p : ℕ) → k < 8 → p < 64
+    → ((bit_at (slice_index a k) p == 1) xor (bit_at (slice_index a ((k + 4) % 8)) p == 1) xor (bit_at (slice_index a ((k + 5) % 8)) p == 1)
+    xor (bit_at (slice_index a ((k + 6) % 8)) p == 1) xor (bit_at (slice_index a ((k + 7) % 8)) p == 1) xor (bit_at (slice_index CONSTANT k) p == 1))
+    ≡ affine_bit (plane_bits a p) (bits_of 8 0x63) k
+affine_at a k p hk hp =
+    let at = λ (j : ℕ) (h : j < 8). sym (coefficient-polynomial 8 (λ b. bit_at (slice_index a b) p == 1) j h) in
+    ap₂ ◌xor◌ (ap₂ ◌xor◌ (ap₂ ◌xor◌ (ap₂ ◌xor◌ (ap₂ ◌xor◌ (at k hk) (at ((k + 4) % 8) (omega arith))) (at ((k + 5) % 8) (omega arith)))
+    (at ((k + 6) % 8) (omega arith))) (at ((k + 7) % 8) (omega arith))) (constant_bit k p hk hp)
+
+pub affine_plane : (a s : List ℕ) → ((k : ℕ) → k < 8 → slice_index s k
+    ≡ bit_xor (bit_xor (bit_xor (bit_xor (bit_xor (slice_index a k) (slice_index a ((k + 4) % 8))) (slice_index a ((k + 5) % 8))) (slice_index a ((k + 6) % 8))) (slice_index a ((k + 7) % 8))) (slice_index CONSTANT k))
+    → (p : ℕ) → p < 64 → plane_byte s p ≡ affine (plane_byte a p)
+unfolding affine
+affine_plane a s h p hp =
+    plane_byte_is s p
+    ∙ ap value_of (same-polynomial 8 (λ k. bit_at (slice_index s k) p == 1) (affine_bit (plane_bits a p) (bits_of 8 0x63))
+    (λ k lt.
+    ap (λ t. bit_at t p == 1) (h k lt)
+    ∙ set-xor_six (slice_index a k) (slice_index a ((k + 4) % 8)) (slice_index a ((k + 5) % 8)) (slice_index a ((k + 6) % 8)) (slice_index a ((k + 7) % 8)) (slice_index CONSTANT k) p
+    ∙ affine_at a k p lt hp))
+    ∙ ap (λ q. value_of (polynomial 8 (affine_bit q (bits_of 8 0x63)))) (sym (plane_byte_bits a p))

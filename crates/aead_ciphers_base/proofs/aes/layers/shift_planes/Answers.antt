@@ -1,0 +1,13 @@
+use Rattle.std.proofs.Common.{arith, length-set, ◌∙◌}
+use Rattle.aead_ciphers_base.specs.Planes.{shifted_from}
+use Rattle.aead_ciphers_base.proofs.LayerLemmas.{planes_moved, moves_more}
+use Rattle.aead_ciphers_base.proofs.aes.layers.shift_planes.Goals as goal
+
+pub returns : goal.returns
+returns c = λ p lt. planes_moved c.args.a c.loop-k.out p (shifted_from p) (λ j h. c.loop-k.invariant.1 j (omega arith) p lt)
+
+pub loop-k-preserved : goal.loop-k-preserved
+loop-k-preserved c = (
+  length-set _ _ _ ∙ c.loop-k.invariant.0,
+  moves_more c.args.a c.loop-k.out (shifted_from) c.loop-k.k c.rows_shifted.result (omega arith) c.loop-k.invariant.1 c.rows_shifted.ensures,
+)

@@ -1,0 +1,5 @@
+use Rattle.aead_ciphers_base.proofs.PlaneLemmas.{times_x_plane}
+use Rattle.aead_ciphers_base.proofs.aes.planes.times_x.Goals as goal
+
+pub returns : goal.returns
+returns c = λ p. times_x_plane c.args.a p

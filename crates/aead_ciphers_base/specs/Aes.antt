@@ -1,0 +1,90 @@
+-- The cipher AES and its key schedule (FIPS 197).
+use Rattle.std.specs.Prelude.{ℕ, zero, suc, ◌+◌, ◌-◌, ◌*◌, ◌/◌, ◌%◌, ◌==◌, ◌&&◌, List, [], ◌∷◌, ◌++◌, length, map, bit_xor, slice_index, slice_index_or, if◌then◌else◌}
+use Rattle.std.specs.List.{range_with_len}
+use Rattle.aead_ciphers_base.specs.ByteField.{mul8, sbox}
+
+-- the sum of two bytes: the XOR of their bits (section 4.1)
+infixl 40 ◌⊻◌
+abbrev pub ◌⊻◌ : ℕ → ℕ → ℕ
+x ⊻ y = bit_xor x y
+
+-- the byte in row r and column c of the state: byte r + 4c of the block (section 3.4)
+abbrev pub at : List ℕ → ℕ → ℕ → ℕ
+at s r c = slice_index s (r + 4 * c)
+
+-- the state with the byte f r c in row r and column c (section 3.4)
+abbrev pub state : (ℕ → ℕ → ℕ) → List ℕ
+state f = map (λ k. f (k % 4) (k / 4)) (range_with_len 0 16)
+
+-- SubBytes: the S-box of each byte (section 5.1.1)
+unfoldable pub sub_bytes : List ℕ → List ℕ
+sub_bytes s = state (λ r c. sbox (at s r c))
+
+-- ShiftRows: row r is shifted cyclically to the left by r bytes (section 5.1.2)
+unfoldable pub shift_rows : List ℕ → List ℕ
+shift_rows s = state (λ r c. at s r ((c + r) % 4))
+
+-- a byte of a mixed column, from its own row and the three below it: {02} a + {03} b + c + d (section 5.1.3)
+abbrev pub mixed : ℕ → ℕ → ℕ → ℕ → ℕ
+mixed a b c d = mul8 2 a ⊻ mul8 3 b ⊻ c ⊻ d
+
+-- MixColumns: each column is mixed, its rows counted modulo 4 (section 5.1.3)
+unfoldable pub mix_columns : List ℕ → List ℕ
+mix_columns s = state (λ r c. mixed (at s r c) (at s ((r + 1) % 4) c) (at s ((r + 2) % 4) c) (at s ((r + 3) % 4) c))
+
+-- word i of the schedule, a list of four bytes (section 5.2)
+abbrev pub word_at : List (List ℕ) → ℕ → List ℕ
+word_at w i = slice_index_or w i []
+
+-- the word with the bytes f 0, .., f 3
+abbrev pub word : (ℕ → ℕ) → List ℕ
+word f = map f (range_with_len 0 4)
+
+-- the sum of two words, byte by byte (section 4.1)
+unfoldable pub add_words : List ℕ → List ℕ → List ℕ
+add_words a b = word (λ k. slice_index a k ⊻ slice_index b k)
+
+-- RotWord: [a0, a1, a2, a3] becomes [a1, a2, a3, a0] (section 5.2)
+unfoldable pub rot_word : List ℕ → List ℕ
+rot_word a = word (λ k. slice_index a ((k + 1) % 4))
+
+-- SubWord: the S-box of each byte of a word (section 5.2)
+unfoldable pub sub_word : List ℕ → List ℕ
+sub_word a = word (λ k. sbox (slice_index a k))
+
+-- x^n as a byte, the first byte of the round constant Rcon[n + 1] (section 5.2)
+unfoldable pub power_of_x : ℕ → ℕ
+power_of_x zero = 1
+power_of_x (suc n) = mul8 2 (power_of_x n)
+
+-- word i from the words w before it, under a key of nk words (section 5.2)
+unfoldable pub next_word : ℕ → List (List ℕ) → ℕ → List ℕ
+next_word nk w i =
+    let t = word_at w (i - 1) in
+    add_words (word_at w (i - nk))
+    (if i % nk == 0 then add_words (sub_word (rot_word t)) (power_of_x (i / nk - 1) ∷ 0 ∷ 0 ∷ 0 ∷ [])
+    else (if (nk == 8) && (i % 8 == 4) then sub_word t else t))
+
+-- KeyExpansion: the nk words of the key, and n more (section 5.2)
+unfoldable pub key_words : ℕ → List ℕ → ℕ → List (List ℕ)
+key_words nk key zero = map (λ i. word (λ k. slice_index key (4 * i + k))) (range_with_len 0 nk)
+key_words nk key (suc n) = let w = key_words nk key n in w ++ next_word nk w (nk + n) ∷ []
+
+-- AddRoundKey: word 4j + c of the schedule is added to column c (section 5.1.4)
+unfoldable pub add_round_key : List (List ℕ) → ℕ → List ℕ → List ℕ
+add_round_key w j s = state (λ r c. at s r c ⊻ slice_index (word_at w (4 * j + c)) r)
+
+-- the state after the first AddRoundKey and n rounds (section 5.1)
+unfoldable pub rounds : List (List ℕ) → List ℕ → ℕ → List ℕ
+rounds w b zero = add_round_key w 0 b
+rounds w b (suc n) = add_round_key w (suc n) (mix_columns (shift_rows (sub_bytes (rounds w b n))))
+
+-- Cipher: nr rounds, the last with no MixColumns (section 5.1)
+unfoldable pub cipher : List (List ℕ) → ℕ → List ℕ → List ℕ
+cipher w nr b = add_round_key w nr (shift_rows (sub_bytes (rounds w b (nr - 1))))
+
+-- AES of the block b under a key of nk words, 4 or 8: nr = nk + 6 rounds and 4 (nr + 1) words (section 5)
+unfoldable pub aes : List ℕ → List ℕ → List ℕ
+aes key b =
+    let nk = length key / 4 in
+    cipher (key_words nk key (4 * (nk + 7) - nk)) (nk + 6) b

@@ -1,0 +1,18 @@
+-- Lists of bytes.
+use Rattle.std.specs.Prelude.{ℕ, List, [], ◌∷◌, map, replicate, bit_xor}
+use Rattle.std.specs.List.{range_with_len}
+
+-- the list f 0, f 1, .., f (n - 1)
+abbrev pub each_below : {X : Type 0} → ℕ → (ℕ → X) → List X
+each_below n f = map f (range_with_len 0 n)
+
+infixl 60 ◌⊕◌
+-- the XOR of two lists, byte by byte, as long as the shorter (SP 800-38D section 4.2.2)
+abbrev pub ◌⊕◌ : List ℕ → List ℕ → List ℕ
+[] ⊕ ys = []
+(x ∷ xs) ⊕ [] = []
+(x ∷ xs) ⊕ (y ∷ ys) = bit_xor x y ∷ (xs ⊕ ys)
+
+-- the block of 128 zero bits
+abbrev pub zero_block : List ℕ
+zero_block = replicate 16 0

@@ -1,0 +1,22 @@
+-- The round keys as planes.
+use Rattle.std.specs.Prelude.{ℕ, ◌+◌, ◌-◌, ◌*◌, ◌/◌, ◌%◌, ◌≡◌, ◌<◌, ◌≤◌, List, [], map, slice_index, slice_index_or}
+use Rattle.std.specs.List.{range_with_len}
+use Rattle.aead_ciphers_base.specs.Aes.{word_at, key_words}
+use Rattle.aead_ciphers_base.specs.Planes.{plane_byte}
+
+-- the first n round keys hold the words, in each of the four blocks
+abbrev pub HoldsWords : List (List ℕ) → List (List ℕ) → ℕ → Type 0
+HoldsWords round_keys words n = (j p : ℕ) → j < n → p < 64
+    → plane_byte (slice_index_or round_keys j []) p ≡ slice_index (word_at words (4 * j + p % 16 / 4)) (p % 4)
+
+-- the key of 4 (rounds - 6) bytes with which the round keys begin
+unfoldable pub key_of : List (List ℕ) → ℕ → List ℕ
+key_of round_keys rounds =
+    map (λ j. plane_byte (slice_index_or round_keys (j / 16) []) (j % 16)) (range_with_len 0 (4 * (rounds - 6)))
+
+-- the round keys are those of the key with which they begin
+pub record IsSchedule (round_keys : List (List ℕ)) (rounds : ℕ) : Type 0 where
+  pub enough : 10 ≤ rounds
+  pub in_range : rounds ≤ 14
+  pub expanded : let nk = rounds - 6 in
+      HoldsWords round_keys (key_words nk (key_of round_keys rounds) (4 * (rounds + 1) - nk)) (rounds + 1)

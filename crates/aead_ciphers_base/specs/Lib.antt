@@ -1,0 +1,11 @@
+pub mod Aes
+pub mod Blocks
+pub mod ByteField
+pub mod Bytes
+pub mod CounterMode
+pub mod KeyBytes
+pub mod KeySchedule
+pub mod Planes
+pub mod Polynomial
+pub mod Values
+pub mod Work

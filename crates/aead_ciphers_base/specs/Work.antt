@@ -1,0 +1,18 @@
+-- What a contract sees of a `Work`: how many cipher blocks and field products were counted.
+use Rattle.std.specs.Prelude.{◌≡◌, ℕ, ◌+◌, ◌<◌, ◌≤◌, ◌^◌}
+
+pub record Tallies : Type 0 where
+  pub blocks : ℕ
+  pub products : ℕ
+
+-- so many blocks and products more, and nothing else
+abbrev pub Adds : Tallies → Tallies → ℕ → ℕ → Type 0
+Adds was now blocks products = (now.blocks ≡ was.blocks + blocks) × (now.products ≡ was.products + products)
+
+-- the sums with so many more fit 64 bits
+abbrev pub Room : Tallies → ℕ → ℕ → Type 0
+Room work blocks products = (work.blocks + blocks < 2 ^ 64) × (work.products + products < 2 ^ 64)
+
+-- room enough for one seal or open
+abbrev pub HasRoom : Tallies → Type 0
+HasRoom work = (work.blocks ≤ 2 ^ 62) × (work.products ≤ 2 ^ 62)

@@ -1,0 +1,157 @@
+//! AES (FIPS 197), bit-sliced over four blocks, and counter mode over it (SP 800-38D section 6.5).
+//!
+//! Four blocks stand in eight planes of 64 bits: bit `16 * block + byte` of plane `b` is bit `b` of
+//! that byte. No step reads a table or branches on a byte.
+
+ghost use Rattle.std.specs.Prelude.{◌≡◌, ◌<◌, ◌⊎◌, ⊤, ℕ, List, [], length, slice_index_or, IsOk, IfOk};
+ghost use Rattle.aead_ciphers_base.specs.Aes.{aes};
+ghost use Rattle.aead_ciphers_base.specs.Bytes.{◌⊕◌};
+ghost use Rattle.aead_ciphers_base.specs.KeyBytes.{key_bytes};
+ghost use Rattle.aead_ciphers_base.specs.Work.{Adds, Room};
+
+use crate::bb;
+use crate::error::Unspecified;
+use std::alloc::AllocError;
+use std::marker::Model;
+
+mod bit_sliced;
+mod counter;
+#[cfg(test)]
+mod counter_tests;
+mod key_schedule;
+mod layers;
+mod pack;
+mod planes;
+mod work;
+
+pub use counter::{Counter, Iv};
+pub use planes::sub_planes;
+pub use work::Work;
+
+/// The length of an AES-128 key, in bytes.
+pub const AES_128_KEY_LEN: usize = 16;
+
+/// The length of an AES-256 key, in bytes.
+pub const AES_256_KEY_LEN: usize = 32;
+
+/// The length of a block, in bytes.
+pub const BLOCK_LEN: usize = 16;
+
+/// A block: 16 bytes.
+pub type Block = [u8; BLOCK_LEN];
+
+/// The block of zero bytes.
+pub const ZERO_BLOCK: Block = [0; BLOCK_LEN];
+
+/// The bytes of a key, by the length of the key.
+#[derive(Clone, Copy)]
+pub enum KeyBytes<'a> {
+    /// A key of AES-128: 16 bytes.
+    AES_128(&'a [u8; AES_128_KEY_LEN]),
+    /// A key of AES-256: 32 bytes.
+    AES_256(&'a [u8; AES_256_KEY_LEN]),
+}
+
+/// A block cipher under a key.
+pub trait EncryptBlock {
+    // The cipher of a block under this key.
+    ghost cipher: { Self → List ℕ → List ℕ };
+
+    /// The cipher of a block: 16 bytes in, 16 bytes out.
+    fn encrypt_block(&self, block: Block, work: &mut Work) -> Block
+        requires { Room work.old 1 0 }
+        ensures value { result ≡ cipher self.now block }
+        ensures worked { Adds work.old work.new 1 0 };
+
+    /// A block XOR the cipher of the counter block `iv`: 16 bytes in, 16 bytes out.
+    fn encrypt_iv_xor_block(&self, iv: Iv, block: Block, work: &mut Work) -> Block
+        requires { Room work.old 1 0 }
+        ensures value { result ≡ block ⊕ cipher self.now iv }
+        ensures worked { Adds work.old work.new 1 0 };
+}
+
+/// A key, expanded: its round keys (FIPS 197 section 5.2), each in all four blocks of eight planes.
+#[derive(Drop)]
+pub struct Key {
+    round_keys: [[u64; 8]; 15],
+    rounds: usize,
+}
+
+impl Model for Key {
+    ghost use Rattle.std.specs.Prelude.{ℕ, List};
+    ghost use Rattle.aead_ciphers_base.specs.KeySchedule.{key_of, IsSchedule};
+
+    ghost Value = { List ℕ };
+
+    ghost view = { λ key. key_of key.round_keys key.rounds };
+
+    ghost invariant = { λ key. IsSchedule key.round_keys key.rounds };
+}
+
+impl Clone for Key {
+    ghost is_clone = { λ key clone. clone ≡ key };
+
+    ghost is_infallible = { λ _. ⊤ };
+
+    fn clone(&self) -> Result<Self, AllocError> {
+        Ok(Key {
+            round_keys: self.round_keys,
+            rounds: self.rounds,
+        })
+    }
+}
+
+impl Key {
+    /// Expands a key of 16 or 32 bytes (FIPS 197 section 5.2). It is never refused.
+    pub fn new(bytes: KeyBytes<'_>) -> Result<Key, Unspecified>
+        ensures accepted { IsOk result }
+        ensures made { IfOk result (λ key. key ≡ key_bytes bytes.entry) }
+    {
+        match bytes {
+            KeyBytes::AES_128(key) => Ok(Key::expanded(key)),
+            KeyBytes::AES_256(key) => Ok(Key::expanded(key)),
+        }
+    }
+
+    fn expanded(key: &[u8]) -> Key
+        requires { (length key.now ≡ 16) ⊎ (length key.now ≡ 32) }
+        ensures { result ≡ key.now }
+    {
+        let rounds = key.len() / 4 + 6;
+        let words = key_schedule::expand(key);
+        Key {
+            round_keys: key_schedule::round_keys(&words[..4 * (rounds + 1)]),
+            rounds,
+        }
+    }
+
+    /// The cipher of each of four blocks (FIPS 197 section 5.1), in one pass of the planes. It is in no
+    /// tally.
+    pub fn encrypt_four(&self, blocks: [Block; 4]) -> [Block; 4]
+        ensures { (k : ℕ) → k < 4
+            → slice_index_or result k [] ≡ aes self.now (slice_index_or blocks k []) }
+    {
+        bit_sliced::encrypt_four(&self.round_keys, self.rounds, blocks)
+    }
+
+    // The cipher of one block, in the first of the four places.
+    fn cipher_block(&self, block: Block) -> Block
+        ensures { result ≡ aes self.now block }
+    {
+        let [first, _, _, _] = self.encrypt_four([block, ZERO_BLOCK, ZERO_BLOCK, ZERO_BLOCK]);
+        first
+    }
+}
+
+impl EncryptBlock for Key {
+    ghost cipher = { λ key block. aes key block };
+
+    fn encrypt_block(&self, block: Block, work: &mut Work) -> Block {
+        work.add_block();
+        self.cipher_block(block)
+    }
+
+    fn encrypt_iv_xor_block(&self, iv: Iv, block: Block, work: &mut Work) -> Block {
+        bb::xor_16(block, self.encrypt_block(iv.into_block_less_safe(), work))
+    }
+}

@@ -1,0 +1,93 @@
+//! Counter blocks of a 12-byte nonce (SP 800-38D sections 6.2 and 7.1).
+
+ghost use Rattle.std.specs.Prelude.{◌≡◌, ℕ, ◌+◌, List};
+ghost use Rattle.aead_ciphers_base.specs.CounterMode.{IsCounter, counter_block};
+
+use crate::aes::{BLOCK_LEN, Block};
+use crate::values::{NONCE_LEN, Nonce};
+use std::marker::Model;
+
+/// A counter block: a nonce of 12 bytes, and a number modulo 2^32 in four big-endian bytes.
+#[derive(Drop)]
+pub struct Counter {
+    block: Block,
+}
+
+impl Model for Counter {
+    ghost use Rattle.std.specs.Prelude.{ℕ, List};
+
+    ghost Value = { List ℕ };
+
+    ghost view = { λ counter. counter.block };
+}
+
+impl Counter {
+    /// Counter block 1 of the nonce, J0 of SP 800-38D section 7.1.
+    pub fn one(nonce: Nonce) -> Self
+        ensures { result ≡ counter_block nonce 1 }
+    {
+        let mut block = [0; BLOCK_LEN];
+        block[..NONCE_LEN].copy_from_slice(nonce.as_ref());
+        block[BLOCK_LEN - 1] = 1;
+        Counter { block }
+    }
+
+    /// Answers the counter block as it was, and adds one to its number (inc32).
+    pub fn increment(&mut self) -> Iv
+        ensures iv { result ≡ self.old }
+        ensures counter { (nonce : List ℕ) (k : ℕ) → IsCounter self.old nonce k → IsCounter self.new nonce (k + 1) }
+    {
+        let iv = Iv { block: self.block };
+        self.increment_by_less_safe(1);
+        iv
+    }
+
+    /// Adds to its number, modulo 2^32. That no counter block comes twice is the caller's matter.
+    pub fn increment_by_less_safe(&mut self, increment_by: u32)
+        ensures { (nonce : List ℕ) (k : ℕ) → IsCounter self.old nonce k → IsCounter self.new nonce (k + increment_by) }
+    {
+        let [.., n0, n1, n2, n3] = self.block;
+        let number = u32::from_be_bytes([n0, n1, n2, n3]);
+        let next = number.wrapping_add(increment_by).to_be_bytes();
+        self.block[NONCE_LEN..].copy_from_slice(&next);
+    }
+
+    /// Its bytes.
+    pub fn as_ref(&self) -> &Block
+        ensures { result.now ≡ self.now }
+    {
+        &self.block
+    }
+}
+
+/// A counter block that is used once.
+#[derive(Drop)]
+pub struct Iv {
+    block: Block,
+}
+
+impl Model for Iv {
+    ghost use Rattle.std.specs.Prelude.{ℕ, List};
+
+    ghost Value = { List ℕ };
+
+    ghost view = { λ iv. iv.block };
+}
+
+impl From<Counter> for Iv {
+    ghost from_gives = { λ counter iv. iv ≡ counter };
+
+    fn from(counter: Counter) -> Self {
+        let Counter { block } = counter;
+        Iv { block }
+    }
+}
+
+impl Iv {
+    /// Its bytes.
+    pub fn into_block_less_safe(self) -> Block
+        ensures { result ≡ self }
+    {
+        self.block
+    }
+}

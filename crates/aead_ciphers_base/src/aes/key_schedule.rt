@@ -1,0 +1,112 @@
+//! The key schedule (FIPS 197 section 5.2), with SubWord on planes.
+
+ghost use Rattle.std.specs.Prelude.{◌≡◌, ◌+◌, ◌-◌, ◌*◌, ◌/◌, ◌%◌, ◌<◌, ◌≤◌, ◌⊎◌, ℕ, length, take, slice_index};
+ghost use Rattle.aead_ciphers_base.specs.Aes.{add_words, rot_word, sub_word, word_at, next_word, key_words, power_of_x};
+ghost use Rattle.aead_ciphers_base.specs.Planes.{plane_byte};
+ghost use Rattle.aead_ciphers_base.specs.KeySchedule.{HoldsWords};
+
+use super::pack::{byte_at, pack};
+use super::planes::sub_planes;
+
+// The first byte of each Rcon word.
+const ROUND_CONSTANTS: [u8; 10] = [0x01, 0x02, 0x04, 0x08, 0x10, 0x20, 0x40, 0x80, 0x1b, 0x36];
+
+fn add_words(a: [u8; 4], b: [u8; 4]) -> [u8; 4]
+    ensures { result ≡ add_words a b }
+{
+    [a[0] ^ b[0], a[1] ^ b[1], a[2] ^ b[2], a[3] ^ b[3]]
+}
+
+fn rot_word(a: [u8; 4]) -> [u8; 4]
+    ensures { result ≡ rot_word a }
+{
+    [a[1], a[2], a[3], a[0]]
+}
+
+// The word stands in the first four of the 64 bytes.
+fn sub_word(a: [u8; 4]) -> [u8; 4]
+    ensures { result ≡ sub_word a }
+{
+    let mut bytes = [0; 64];
+    bytes[0] = a[0];
+    bytes[1] = a[1];
+    bytes[2] = a[2];
+    bytes[3] = a[3];
+    let mut planes = pack(&bytes);
+    sub_planes(&mut planes);
+    [
+        byte_at(&planes, 0),
+        byte_at(&planes, 1),
+        byte_at(&planes, 2),
+        byte_at(&planes, 3),
+    ]
+}
+
+fn round_constant(n: usize) -> u8
+    requires { n < 10 }
+    ensures { result ≡ power_of_x n }
+{
+    ROUND_CONSTANTS[n]
+}
+
+fn next_word(words: &[[u8; 4]], i: usize, nk: usize) -> [u8; 4]
+    requires positive { 0 < nk }
+    requires from { nk ≤ i }
+    requires below { i < 11 * nk }
+    requires within { i ≤ length words.now }
+    ensures { result ≡ next_word nk words.now i }
+{
+    let last = words[i - 1];
+    let turned = if i % nk == 0 {
+        add_words(
+            sub_word(rot_word(last)),
+            [round_constant(i / nk - 1), 0, 0, 0],
+        )
+    } else if nk == 8 && i % 8 == 4 {
+        sub_word(last)
+    } else {
+        last
+    };
+    add_words(words[i - nk], turned)
+}
+
+/// The words of the schedule of a key of 16 or 32 bytes.
+pub fn expand(key: &[u8]) -> [[u8; 4]; 60]
+    requires { (length key.now ≡ 16) ⊎ (length key.now ≡ 32) }
+    ensures { let nk = length key.now / 4 in
+        take (4 * (nk + 7)) result ≡ key_words nk key.now (4 * (nk + 7) - nk) }
+{
+    let nk = key.len() / 4;
+    let mut words = [[0; 4]; 60];
+    for i in 0..nk {
+        words[i] = [key[4 * i], key[4 * i + 1], key[4 * i + 2], key[4 * i + 3]];
+    }
+    for n in nk..4 * (nk + 7) {
+        words[n] = next_word(&words, n, nk);
+    }
+    words
+}
+
+fn pack_round_key(words: &[[u8; 4]], round: usize) -> [u64; 8]
+    requires { 4 * round + 4 ≤ length words.now }
+    ensures { (p : ℕ) → p < 64
+        → plane_byte result p ≡ slice_index (word_at words.now (4 * round + p % 16 / 4)) (p % 4) }
+{
+    let mut bytes = [0; 64];
+    for p in 0..64 {
+        bytes[p] = words[4 * round + p % 16 / 4][p % 4];
+    }
+    pack(&bytes)
+}
+
+/// The round keys with these words, four words a round.
+pub fn round_keys(words: &[[u8; 4]]) -> [[u64; 8]; 15]
+    requires { length words.now ≤ 60 }
+    ensures { HoldsWords result words.now (length words.now / 4) }
+{
+    let mut planes = [[0; 8]; 15];
+    for j in 0..words.len() / 4 {
+        planes[j] = pack_round_key(words, j);
+    }
+    planes
+}

@@ -1,0 +1,52 @@
+//! Building blocks: comparing and XORing bytes.
+
+ghost use Rattle.std.specs.Prelude.{◌≡◌, ◌↔◌, ◌++◌, IsOk, bit_xor, drop, length, map};
+ghost use Rattle.aead_ciphers_base.specs.Bytes.{◌⊕◌};
+
+use crate::error::Unspecified;
+
+/// Whether two slices are equal. Of slices of one length every byte is read, whatever they hold.
+pub fn verify_slices_are_equal(a: &[u8], b: &[u8]) -> Result<(), Unspecified>
+    ensures { IsOk result ↔ (a.now ≡ b.now) }
+{
+    if a.len() != b.len() {
+        return Err(Unspecified);
+    }
+    let mut difference = 0u8;
+    for i in 0..a.len() {
+        difference |= a[i] ^ b[i];
+    }
+    if difference == 0 {
+        Ok(())
+    } else {
+        Err(Unspecified)
+    }
+}
+
+/// The XOR of two blocks of 16 bytes.
+pub fn xor_16(a: [u8; 16], b: [u8; 16]) -> [u8; 16]
+    ensures { result ≡ a ⊕ b }
+{
+    let mut r = a;
+    xor_assign_at_start(&mut r, &b);
+    r
+}
+
+/// XORs `b` into each byte of `a`.
+pub fn xor_assign(a: &mut [u8], b: u8)
+    ensures { a.new ≡ map (λ x. bit_xor x b) a.old }
+{
+    for i in 0..a.len() {
+        a[i] ^= b;
+    }
+}
+
+/// XORs the bytes of `b` into those of `a`, as far as the shorter goes.
+pub fn xor_assign_at_start(a: &mut [u8], b: &[u8])
+    ensures { a.new ≡ (a.old ⊕ b.now) ++ drop (length b.now) a.old }
+{
+    let count = a.len().min(b.len());
+    for i in 0..count {
+        a[i] ^= b[i];
+    }
+}

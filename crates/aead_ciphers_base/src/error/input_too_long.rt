@@ -1,0 +1,33 @@
+//! The error of an input that is too long.
+
+ghost use Rattle.std.specs.Prelude.{◌≡◌};
+
+use std::marker::Model;
+
+/// An input that is longer than what takes it allows.
+#[derive(Clone, Copy, PartialEq, Eq, Debug)]
+pub struct InputTooLongError<T = usize>(T);
+
+impl<T> Model for InputTooLongError<T> {
+    ghost Value = { T };
+
+    ghost view = { λ e. e.0 };
+
+    ghost inverse = { λ n. record { 0 = n } };
+}
+
+impl<T> InputTooLongError<T> {
+    pub fn new(imprecise_input_length: T) -> Self
+        ensures { result ≡ imprecise_input_length }
+    {
+        InputTooLongError(imprecise_input_length)
+    }
+
+    /// The length of the input, in items.
+    pub fn value(self) -> T
+        ensures { result ≡ self }
+    {
+        let InputTooLongError(value) = self;
+        value
+    }
+}

@@ -1,0 +1,5 @@
+//! Buffers whose output overlaps their input.
+
+mod base;
+
+pub use base::Overlapping;

@@ -1,0 +1,3 @@
+//! What the standard library may have one day.
+
+pub mod slice;

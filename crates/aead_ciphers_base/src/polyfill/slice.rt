@@ -1,0 +1,5 @@
+//! Slices as whole blocks.
+
+mod chunks;
+
+pub use chunks::{AsChunks, AsChunksIter, as_chunks};

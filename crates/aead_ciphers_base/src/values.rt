@@ -1,0 +1,156 @@
+//! The plain values that calls take and give: nonces, additional authenticated data, tags, samples.
+
+ghost use Rattle.std.specs.Prelude.{◌≡◌, ◌↔◌, [], length, IsOk, IfOk, IsTrue};
+
+use crate::error::Unspecified;
+use std::alloc::AllocError;
+use std::fmt;
+use std::marker::Model;
+
+#[cfg(test)]
+mod tests;
+
+/// The length of a nonce, in bytes.
+pub const NONCE_LEN: usize = 12;
+
+/// The length of the longest tag, in bytes. Every tag here has it.
+pub const MAX_TAG_LEN: usize = 16;
+
+/// The part of a packet that a header mask is made from (RFC 9001 section 5.4.2): 16 bytes.
+pub type Sample = [u8; 16];
+
+/// A nonce: 12 bytes that are used once under a key. A call consumes it, and it can't be cloned.
+#[derive(Drop)]
+pub struct Nonce {
+    bytes: [u8; NONCE_LEN],
+}
+
+impl Model for Nonce {
+    ghost use Rattle.std.specs.Prelude.{ℕ, List};
+
+    ghost Value = { List ℕ };
+
+    ghost view = { λ nonce. nonce.bytes };
+}
+
+impl Nonce {
+    /// The nonce of these bytes. That they are used once is the caller's matter.
+    pub fn assume_unique_for_key(value: [u8; NONCE_LEN]) -> Self
+        ensures { result ≡ value }
+    {
+        Nonce { bytes: value }
+    }
+
+    /// The nonce of a slice. Refused where the slice hasn't 12 bytes.
+    pub fn try_assume_unique_for_key(value: &[u8]) -> Result<Self, Unspecified>
+        ensures accepted { IsOk result ↔ (length value.now ≡ 12) }
+        ensures bytes { IfOk result (λ nonce. nonce ≡ value.now) }
+    {
+        match value.as_array::<NONCE_LEN>() {
+            Some(bytes) => Ok(Nonce { bytes: *bytes }),
+            None => Err(Unspecified),
+        }
+    }
+
+    /// Its bytes.
+    pub fn as_ref(&self) -> &[u8; NONCE_LEN]
+        ensures { result.now ≡ self.now }
+    {
+        &self.bytes
+    }
+}
+
+/// Additional authenticated data: bytes that a tag covers and that aren't encrypted.
+#[derive(Clone, Copy, PartialEq, Eq)]
+pub struct Aad<'a> {
+    bytes: &'a [u8],
+}
+
+impl<'a> From<&'a [u8]> for Aad<'a> {
+    ghost use Rattle.aead_ciphers_base.specs.Values.{aad_bytes};
+
+    ghost from_gives = { λ bytes aad. aad_bytes aad ≡ bytes.now };
+
+    fn from(bytes: &'a [u8]) -> Self {
+        Aad { bytes }
+    }
+}
+
+impl<'a> Aad<'a> {
+    ghost use Rattle.aead_ciphers_base.specs.Values.{aad_bytes};
+
+    /// No data.
+    pub fn empty() -> Self
+        ensures { aad_bytes result ≡ [] }
+    {
+        Aad { bytes: &[] }
+    }
+
+    /// Its bytes.
+    pub fn as_ref(&self) -> &'a [u8]
+        ensures { result.now ≡ aad_bytes self.now }
+    {
+        self.bytes
+    }
+}
+
+impl fmt::Debug for Aad<'_> {
+    fn fmt<W: fmt::Write>(&self, f: &mut fmt::Formatter<W>) -> fmt::Result {
+        let bytes = self.bytes;
+        write!(f, "Aad({bytes:?})")
+    }
+}
+
+/// An authentication tag of 16 bytes.
+pub struct Tag {
+    bytes: [u8; MAX_TAG_LEN],
+}
+
+impl Model for Tag {
+    ghost use Rattle.std.specs.Prelude.{ℕ, List};
+
+    ghost Value = { List ℕ };
+
+    ghost view = { λ tag. tag.bytes };
+
+    ghost inverse = { λ bytes. record { bytes = bytes } };
+}
+
+impl Clone for Tag {
+    fn clone(&self) -> Result<Self, AllocError> {
+        Ok(*self)
+    }
+}
+
+impl Copy for Tag {}
+
+impl From<[u8; MAX_TAG_LEN]> for Tag {
+    ghost from_gives = { λ bytes tag. tag ≡ bytes };
+
+    fn from(bytes: [u8; MAX_TAG_LEN]) -> Self {
+        Tag { bytes }
+    }
+}
+
+/// The tag of a slice. Refused where the slice hasn't 16 bytes.
+impl TryFrom<&[u8]> for Tag {
+    type Error = Unspecified;
+
+    ghost try_from_gives = { λ bytes r. (IsOk r ↔ (length bytes.now ≡ 16)) × IfOk r (λ tag. tag ≡ bytes.now) };
+
+    fn try_from(value: &[u8]) -> Result<Self, Unspecified> {
+        match value.as_array::<MAX_TAG_LEN>() {
+            Some(bytes) => Ok(Tag { bytes: *bytes }),
+            None => Err(Unspecified),
+        }
+    }
+}
+
+impl Tag {
+    /// Its bytes.
+    pub fn as_ref(&self) -> &[u8]
+        ensures { result.now ≡ self.now }
+    {
+        &self.bytes
+    }
+}
