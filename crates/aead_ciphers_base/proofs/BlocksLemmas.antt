@@ -1,7 +1,8 @@
 -- Lemmas on the blocks of a list.
-use Rattle.std.proofs.Common.{arith, refl, sym, subst, ap, ◌∙◌, ◌≡◌, ℕ, zero, suc, ◌+◌, ◌-◌, ◌*◌, ◌/◌, ◌%◌, ◌<◌, ◌≤◌, List, [], ◌∷◌, length, take, drop, get_or, add-one, length-drop}
+use Rattle.std.proofs.Common.{arith, refl, sym, subst, ap, ◌∙◌, ◌≡◌, ℕ, zero, suc, ◌+◌, ◌-◌, ◌*◌, ◌/◌, ◌%◌, ◌<◌, ◌≤◌, List, [], ◌∷◌, length, take, drop, get_or, add-one, length-drop, min, max, zero-add, inl, inr, Option, None, Some, MatchOption, MutBor, ◌++◌, length-append}
 use Rattle.std.proofs.lemmas.List.{take-append-drop, drop-drop, drop-take, length-take-le, take-take}
-use Rattle.std.proofs.Math.Nat.{mod_self, mod-add-div', mul-mod_left, add-div_right, div-eq_of_lt, div-zero, div-mul-le_self, suc-mul, mul-div_cancel, mul-le-mul_right, add_comm}
+use Rattle.std.proofs.lemmas.Bool.{cases_lt}
+use Rattle.std.proofs.Math.Nat.{mod_self, mod-add-div', mul-mod_left, add-div_right, div-eq_of_lt, div-zero, div-mul-le_self, suc-mul, mul-div_cancel, mul-le-mul_right, add_comm, add-mul-mod_self_right, zero-div, mod-zero, zero-mod}
 use Rattle.std.proofs.Math.Seq.{take-length}
 use Rattle.std.specs.Simd.{first_chunks}
 use Rattle.aead_ciphers_base.specs.Blocks.{blocks, joined}
@@ -97,3 +98,90 @@ whole_blocks n xs = ap (λ k. k % n) (length-take-le (length xs / n * n) xs (div
 
 pub whole_one : {T : Type 0} (n : ℕ) (xs : List T) → length xs ≡ n → length xs % n ≡ 0
 whole_one n xs e = ap (λ k. k % n) e ∙ mod_self n
+
+-- the first `mid` blocks lie within the list
+pub blocks_fit : {T : Type 0} (n mid : ℕ) (xs : List T) → mid ≤ length (blocks n xs) → mid * n ≤ length xs
+blocks_fit n mid xs within =
+    let few : mid ≤ length xs / n = omega (arith, length_blocks n xs) in
+    let up : mid * n ≤ length xs / n * n = mul-le-mul_right n few in
+    let all : length xs / n * n ≤ length xs = div-mul-le_self (length xs) n in
+    omega arith
+
+pub whole_front : {T : Type 0} (n mid : ℕ) (xs : List T) → mid * n ≤ length xs → length (take (mid * n) xs) % n ≡ 0
+whole_front n mid xs fits = ap (λ k. k % n) (length-take-le (mid * n) xs fits) ∙ mul-mod_left mid n
+
+pub whole_back : {T : Type 0} (n mid : ℕ) (xs : List T) → mid * n ≤ length xs → length xs % n ≡ 0 → length (drop (mid * n) xs) % n ≡ 0
+whole_back n mid xs fits whole =
+    let all : length (drop (mid * n) xs) + mid * n ≡ length xs = omega (arith, length-drop (mid * n) xs) in
+    sym (add-mul-mod_self_right (length (drop (mid * n) xs)) mid n) ∙ ap (λ k. k % n) all ∙ whole
+
+-- where there is a block, it has items, and the list has them
+one_block : (n k len : ℕ) → suc k ≤ len / n → (0 < n) × (n ≤ len)
+one_block zero k len some = let none : len / 0 ≡ 0 = div-zero len in absurd (omega arith)
+one_block (suc n) k len some =
+    let up : suc k * suc n ≤ len / suc n * suc n = mul-le-mul_right (suc n) some in
+    let all : len / suc n * suc n ≤ len = div-mul-le_self len (suc n) in
+    let one : suc k * suc n ≡ k * suc n + suc n = suc-mul k (suc n) in
+    (omega arith, omega arith)
+
+-- the first `mid` blocks
+pub blocks_front : {T : Type 0} (n mid : ℕ) (xs : List T) → mid ≤ length (blocks n xs) → blocks n (take (mid * n) xs) ≡ take mid (blocks n xs)
+unfolding blocks
+blocks_front n zero xs within = let none : 0 * n ≡ 0 = omega arith in rw (none, zero-div) refl
+blocks_front n (suc mid) xs within =
+    let some : suc mid ≤ length xs / n = omega (arith, length_blocks n xs) in
+    let one = one_block n mid (length xs) some in
+    let cons : blocks n xs ≡ take n xs ∷ blocks n (drop n xs) = blocks_cons n xs one.0 one.1 in
+    let less : mid ≤ length (blocks n (drop n xs)) = omega (arith, ap length cons) in
+    let up : suc mid * n ≡ n + mid * n = suc-mul mid n ∙ add_comm (mid * n) n in
+    let long : length (take (suc mid * n) xs) ≡ suc mid * n = length-take-le (suc mid * n) xs (blocks_fit n (suc mid) xs within) in
+    let first : take n (take (suc mid * n) xs) ≡ take n xs = take-take n (suc mid * n) xs (omega arith) in
+    let rest : drop n (take (suc mid * n) xs) ≡ take (mid * n) (drop n xs) = ap (λ x. drop n (take x xs)) up ∙ drop-take n (mid * n) xs in
+    let front : blocks n (take (suc mid * n) xs) ≡ take n xs ∷ blocks n (take (mid * n) (drop n xs)) =
+    blocks_cons n (take (suc mid * n) xs) one.0 (omega arith) ∙ ap (λ x. x ∷ blocks n (drop n (take (suc mid * n) xs))) first ∙ ap (λ x. take n xs ∷ blocks n x) rest in
+    let tail : blocks n (take (mid * n) (drop n xs)) ≡ take mid (blocks n (drop n xs)) = blocks_front n mid (drop n xs) less in
+    front ∙ ap (λ x. take n xs ∷ x) tail ∙ ap (take (suc mid)) (sym cons)
+
+-- and those behind them
+pub blocks_back : {T : Type 0} (n mid : ℕ) (xs : List T) → mid ≤ length (blocks n xs) → blocks n (drop (mid * n) xs) ≡ drop mid (blocks n xs)
+blocks_back n zero xs within = let none : 0 * n ≡ 0 = omega arith in rw none refl
+blocks_back n (suc mid) xs within =
+    let some : suc mid ≤ length xs / n = omega (arith, length_blocks n xs) in
+    let one = one_block n mid (length xs) some in
+    let cons : blocks n xs ≡ take n xs ∷ blocks n (drop n xs) = blocks_cons n xs one.0 one.1 in
+    let less : mid ≤ length (blocks n (drop n xs)) = omega (arith, ap length cons) in
+    let at : drop (suc mid * n) xs ≡ drop (mid * n) (drop n xs) = ap (λ x. drop x xs) (suc-mul mid n ∙ add_comm (mid * n) n) ∙ sym (drop-drop (mid * n) n xs) in
+    rw (at, cons) (blocks_back n mid (drop n xs) less)
+
+-- the next part of at most `size` items is whole blocks, where `size` is and the items are
+pub whole_part : (n size len : ℕ) → (0 < n → size % n ≡ 0) → len % n ≡ 0 → min size len % n ≡ 0
+whole_part zero size len whole all = let none : min size len ≡ 0 = omega (arith, sym (mod-zero len) ∙ all) in ap (λ k. k % 0) none ∙ zero-mod 0
+whole_part (suc n) size len whole all =
+    let cut : size < len → min size len % suc n ≡ 0 = λ less. let e : min size len ≡ size = omega arith in ap (λ k. k % suc n) e ∙ whole (omega arith) in
+    let end : len ≤ size → min size len % suc n ≡ 0 = λ more. let e : min size len ≡ len = omega arith in ap (λ k. k % suc n) e ∙ all in
+    elim (cases_lt size len) [ inl less ↦ cut less | inr more ↦ end more ]
+
+-- and so is what it leaves
+pub whole_rest : (n size len : ℕ) → (0 < n → size % n ≡ 0) → len % n ≡ 0 → (len - min size len) % n ≡ 0
+whole_rest n size len whole all =
+    let part : min size len % n ≡ 0 = whole_part n size len whole all in
+    let both : len - min size len + min size len ≡ len = omega arith in
+    let back : (len - min size len + min size len) % n ≡ (len - min size len) % n =
+    ap (λ k. (len - min size len + k) % n) (sym (mod-add-div' (min size len) n) ∙ ap (λ k. k + min size len / n * n) part ∙ zero-add (min size len / n * n)) ∙ add-mul-mod_self_right (len - min size len) (min size len / n) n in
+    sym back ∙ ap (λ k. k % n) both ∙ all
+
+-- what an iterator over such parts has left is whole blocks
+pub whole_left : {T : Type 0} (n size : ℕ) (xs rest : List T) (r : Option (MutBor (List T)))
+    → MatchOption r ((length xs ≡ 0) × (length rest ≡ 0)) (λ x. (xs ≡ x.now ++ rest) × (length x.now ≡ min size (length xs)) × (0 < length xs))
+    → (0 < n → size % n ≡ 0) → length xs % n ≡ 0 → length rest % n ≡ 0
+whole_left n size xs rest None h whole all = ap (λ k. k % n) h.1 ∙ zero-mod n
+whole_left n size xs rest (Some x) h whole all =
+    let left : length rest ≡ length xs - min size (length xs) = omega (arith, ap length h.0, length-append x.now rest) in
+    ap (λ k. k % n) left ∙ whole_rest n size (length xs) whole all
+
+-- k blocks of n items are whole blocks, and at least one item
+pub whole_size : (k n : ℕ) → 0 < k → 0 < n → max (k * n) 1 % n ≡ 0
+whole_size k n some items =
+    let up : 1 * n ≤ k * n = mul-le-mul_right n some in
+    let e : max (k * n) 1 ≡ k * n = omega arith in
+    ap (λ m. m % n) e ∙ mul-mod_left k n

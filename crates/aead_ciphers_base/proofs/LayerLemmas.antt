@@ -1,5 +1,5 @@
 -- Where shifts and masks move each bit of a plane.
-use Rattle.std.proofs.Common.{length, set, below_more, get_or-set_other, get_or-set_same, ◌≡◌, ℕ, ◌+◌, ◌*◌, ◌/◌, ◌%◌, ◌^◌, ◌<◌, Bool, true, refl, ap, ◌∙◌, arith, bit_xor, bit_and, List, slice_index}
+use Rattle.std.proofs.Common.{length, set, below_more, get_or-set_other, get_or-set_same, ◌≡◌, ℕ, ◌+◌, ◌*◌, ◌/◌, ◌%◌, ◌^◌, ◌<◌, Bool, true, refl, sym, ap, ◌∙◌, arith, bit_xor, bit_and, List, slice_index}
 use Rattle.std.specs.Prelude.{◌==◌}
 use Rattle.std.specs.Int.{bit_at}
 use Rattle.std.specs.Int.Bits.{xor_assoc}
@@ -33,23 +33,30 @@ right_under k m = additive_after (λ t. bit_and t m) (λ x. x / 2 ^ k) (additive
 left_under : (k m : ℕ) → IsAdditive (λ x. bit_and (x * 2 ^ k % 2 ^ 64) m)
 left_under k m = additive_after (λ t. bit_and t m) (λ x. x * 2 ^ k % 2 ^ 64) (additive_and m) (additive_shl k 64)
 
-abbrev pub rows_below_of : ℕ → ℕ
-rows_below_of x = bit_xor (bit_and (x / 2 ^ 1) 0x7777777777777777) (bit_and (x * 2 ^ 3 % 2 ^ 64) 0x8888888888888888)
-
-rows_below_test : moves rows_below_of (λ p. below p 1) ≡ true
-rows_below_test = refl
-
-pub rows_below_moves : (x : ℕ) → x < 2 ^ 64 → (p : ℕ) → p < 64 → bit_at (rows_below_of x) p ≡ bit_at x (below p 1)
-rows_below_moves x h p hp =
-    moved rows_below_of (λ t. below t 1)
-    (additive_xor (λ t. bit_and (t / 2 ^ 1) 0x7777777777777777) (λ t. bit_and (t * 2 ^ 3 % 2 ^ 64) 0x8888888888888888) (right_under 1 0x7777777777777777) (left_under 3 0x8888888888888888))
-    rows_below_test x h p hp
-
 abbrev pub pair : ℕ → ℕ → ℕ → ℕ → ℕ → ℕ
 pair r m l n x = bit_xor (bit_and (x / 2 ^ r) m) (bit_and (x * 2 ^ l % 2 ^ 64) n)
 
 pair_additive : (r m l n : ℕ) → IsAdditive (pair r m l n)
 pair_additive r m l n = additive_xor (λ x. bit_and (x / 2 ^ r) m) (λ x. bit_and (x * 2 ^ l % 2 ^ 64) n) (right_under r m) (left_under l n)
+
+abbrev pub one_below_of : ℕ → ℕ
+one_below_of x = pair 1 0x7777777777777777 3 0x8888888888888888 x
+
+one_below_test : moves one_below_of (λ p. below p 1) ≡ true
+one_below_test = refl
+
+pub one_below_moves : (x : ℕ) → x < 2 ^ 64 → (p : ℕ) → p < 64 → bit_at (one_below_of x) p ≡ bit_at x (below p 1)
+one_below_moves x h p hp =
+    moved one_below_of (λ t. below t 1) (pair_additive 1 0x7777777777777777 3 0x8888888888888888) one_below_test x h p hp
+
+abbrev pub two_below_of : ℕ → ℕ
+two_below_of x = pair 2 0x3333333333333333 2 0xcccccccccccccccc x
+
+two_below_test : moves two_below_of (λ p. below p 2) ≡ true
+two_below_test = refl
+
+pub two_below_moves : (x : ℕ) → x < 2 ^ 64 → (p : ℕ) → p < 64 → bit_at (two_below_of x) p ≡ bit_at x (below p 2)
+two_below_moves x h p hp = moved two_below_of (λ t. below t 2) (pair_additive 2 0x3333333333333333 2 0xcccccccccccccccc) two_below_test x h p hp
 
 abbrev pub rows_shifted_of : ℕ → ℕ
 rows_shifted_of x =
@@ -91,11 +98,12 @@ add_plane a b s h p =
     ∙ ap value_of (polynomial-add 8 f g)
     ∙ value_of-add (polynomial 8 f) (polynomial 8 g) refl
 
--- 2 (x + y) + y = 2 x + 3 y
-pub mixed_is : (x y z w : ℕ) → y < 256 → bit_xor (bit_xor (bit_xor (mul8 2 (bit_xor x y)) y) z) w ≡ mixed x y z w
+-- (2 (x + y) + y) + (z + w) = 2 x + 3 y + z + w
+pub mixed_is : (x y z w : ℕ) → y < 256 → bit_xor (bit_xor (mul8 2 (bit_xor x y)) y) (bit_xor z w) ≡ mixed x y z w
 mixed_is x y z w hy =
-    ap (λ t. bit_xor (bit_xor t z) w)
+    ap (λ t. bit_xor t (bit_xor z w))
     (ap (λ t. bit_xor t y) (mul8-xor_right 2 x y) ∙ xor_assoc (mul8 2 x) (mul8 2 y) y ∙ ap (bit_xor (mul8 2 x)) (three_is y hy))
+    ∙ sym (xor_assoc (bit_xor (mul8 2 x) (mul8 3 y)) z w)
 
 pub below_lt : (p i : ℕ) → p < 64 → below p i < 64
 below_lt p i h = omega arith

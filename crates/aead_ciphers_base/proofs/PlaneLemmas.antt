@@ -1,17 +1,16 @@
 -- Operations on planes, seen at one byte.
-use Rattle.std.proofs.Common.{◌≡◌, ℕ, zero, suc, ◌+◌, ◌-◌, ◌/◌, ◌%◌, ◌^◌, ◌<◌, ◌≤◌, min, Bool, true, false, ◌&&◌, List, [], ◌∷◌, refl, sym, ap, ap₂, ◌∙◌, arith, bit_xor, bit_and, slice_index, if◌then◌else◌, div-one}
+use Rattle.std.proofs.Common.{◌≡◌, ℕ, zero, suc, ◌+◌, ◌/◌, ◌%◌, ◌^◌, ◌<◌, min, Bool, true, false, ◌&&◌, List, [], ◌∷◌, refl, sym, ap, ap₂, ◌∙◌, arith, bit_xor, bit_and, slice_index, div-one}
 use Rattle.std.specs.Prelude.{◌==◌}
 use Rattle.std.specs.Int.{bit_at}
-use Rattle.std.proofs.lemmas.Nat.{shr-shr, shr_le}
+use Rattle.std.proofs.lemmas.Nat.{shr-shr}
 use Rattle.std.proofs.lemmas.Nat.Bits.{bit_at_xor, bit_at_and, bit_at-lt, bit_at_ones, bit_at-zero}
 use Rattle.aead_ciphers_base.specs.Polynomial.{◌xor◌, coefficient, polynomial}
 use Rattle.aead_ciphers_base.specs.ByteField.{bits_of, value_of, mul8, affine, affine_bit}
 use Rattle.aead_ciphers_base.specs.Planes.{plane_byte}
 use Rattle.aead_ciphers_base.specs.declared.aes.planes.TheConstants.{CONSTANT}
-use Rattle.aead_ciphers_base.proofs.PolynomialLemmas.{same-polynomial, polynomial-add, coefficient-polynomial}
-use Rattle.aead_ciphers_base.proofs.BitsLemmas.{bits_of-value_of, value_of-lt, value_of-add, IsAdditive_zero, all_below, same_below}
-use Rattle.aead_ciphers_base.proofs.ByteFieldLemmas.{field, mul8-xor_right}
-use Rattle.aead_ciphers_base.proofs.FastLemmas.{step_of_product}
+use Rattle.aead_ciphers_base.proofs.PolynomialLemmas.{same-polynomial, coefficient-polynomial}
+use Rattle.aead_ciphers_base.proofs.BitsLemmas.{bits_of-value_of, value_of-lt, all_below, same_below}
+use Rattle.aead_ciphers_base.proofs.ByteFieldLemmas.{field}
 
 -- ---- one bit
 
@@ -99,65 +98,6 @@ times_x_plane a p =
     let n = plane_byte a p in
     let test = same_below (λ t. value_of (times_x_bits (bits_of 8 t))) (mul8 2) 256 n times_x_test (plane_byte_lt a p) in
     rw (at0, at2, at3) (ap (λ q. value_of (times_x_bits q)) (sym (plane_byte_bits a p)) ∙ test)
-
--- ---- a sum under a mask
-
-masked : (f : ℕ → Bool) (m : Bool) → value_of (polynomial 8 (λ b. f b && m)) ≡ (if m then value_of (polynomial 8 f) else 0)
-masked f true = ap value_of (same-polynomial 8 (λ b. f b && true) f (λ i _. and_true (f i)))
-  where
-    and_true : (b : Bool) → (b && true) ≡ b
-    and_true true = refl
-    and_true false = refl
-masked f false = ap value_of (same-polynomial 8 (λ b. f b && false) (λ b. false) (λ i _. and_false (f i)))
-  where
-    and_false : (b : Bool) → (b && false) ≡ false
-    and_false true = refl
-    and_false false = refl
-
-pub add_where_plane : (a b s : List ℕ) (mask : ℕ) → ((k : ℕ) → k < 8 → slice_index s k ≡ bit_xor (slice_index a k) (bit_and (slice_index b k) mask))
-    → (p : ℕ) → plane_byte s p ≡ bit_xor (plane_byte a p) (if bit_at mask p == 1 then plane_byte b p else 0)
-unfolding plane_byte
-add_where_plane a b s mask h p =
-    let f = λ (k : ℕ). bit_at (slice_index a k) p == 1 in
-    let g = λ (k : ℕ). bit_at (slice_index b k) p == 1 in
-    let m = bit_at mask p == 1 in
-    ap value_of (same-polynomial 8 (λ k. bit_at (slice_index s k) p == 1) (λ k. ◌xor◌ (f k) (g k && m))
-    (λ k lt.
-    ap (λ t. bit_at t p == 1) (h k lt) ∙ set-xor (slice_index a k) (bit_and (slice_index b k) mask) p
-    ∙ ap (◌xor◌ (f k)) (set-and (slice_index b k) mask p)))
-    ∙ ap value_of (polynomial-add 8 f (λ k. g k && m))
-    ∙ value_of-add (polynomial 8 f) (polynomial 8 (λ k. g k && m)) refl
-    ∙ ap (bit_xor (value_of (polynomial 8 f))) (masked g m)
-
--- ---- the product, highest bit first
-
-pub multiply_init : (a b : List ℕ) (p : ℕ) → plane_byte (0 ∷ 0 ∷ 0 ∷ 0 ∷ 0 ∷ 0 ∷ 0 ∷ 0 ∷ []) p ≡ mul8 (plane_byte a p) (plane_byte b p / 2 ^ (8 - 0))
-multiply_init a b p =
-    let small = plane_byte_lt b p in
-    let e : plane_byte b p / 256 ≡ 0 = omega arith in
-    plane_byte_zero p ∙ sym (ap (mul8 (plane_byte a p)) e ∙ IsAdditive_zero (mul8 (plane_byte a p)) (mul8-xor_right (plane_byte a p)))
-
-pub multiply_step : (a b product twice next : List ℕ) (n p : ℕ) → n < 8
-    → plane_byte product p ≡ mul8 (plane_byte a p) (plane_byte b p / 2 ^ (8 - n))
-    → plane_byte twice p ≡ mul8 2 (plane_byte product p)
-    → plane_byte next p ≡ bit_xor (plane_byte twice p) (if bit_at (slice_index b (7 - n)) p == 1 then plane_byte a p else 0)
-    → plane_byte next p ≡ mul8 (plane_byte a p) (plane_byte b p / 2 ^ (8 - (n + 1)))
-multiply_step a b product twice next n p h e_product e_twice e_next =
-    let x = plane_byte a p in
-    let y = plane_byte b p in
-    let z = y / 2 ^ (7 - n) in
-    let z_le : z ≤ y = shr_le y (7 - n) in
-    let small : z < 256 = omega (arith, plane_byte_lt b p) in
-    let half : y / 2 ^ (8 - n) ≡ z / 2 =
-    let s : 8 - n ≡ (7 - n) + 1 = omega arith in ap (λ t. y / 2 ^ t) s ∙ sym (shr-shr y (7 - n) 1) in
-    let last : 8 - (n + 1) ≡ 7 - n = omega arith in
-    e_next
-    ∙ ap₂ (λ t m. bit_xor t (if m then x else 0)) (e_twice ∙ ap (mul8 2) (e_product ∙ ap (mul8 x) half)) (plane_bit b p (7 - n) (omega arith))
-    ∙ sym (step_of_product x z (plane_byte_lt a p) small)
-    ∙ ap (λ t. mul8 x (y / 2 ^ t)) (sym last)
-
-pub multiply_end : (a b product : List ℕ) (n p : ℕ) → n ≡ 8 → plane_byte product p ≡ mul8 (plane_byte a p) (plane_byte b p / 2 ^ (8 - n)) → plane_byte product p ≡ mul8 (plane_byte a p) (plane_byte b p)
-multiply_end a b product n p e h = h ∙ ap (λ t. mul8 (plane_byte a p) (plane_byte b p / 2 ^ (8 - t))) e ∙ ap (mul8 (plane_byte a p)) (div-one (plane_byte b p))
 
 -- ---- the affine map
 

@@ -10,6 +10,14 @@ pub xor_false : (a : Bool) → ◌xor◌ a false ≡ a
 xor_false true = refl
 xor_false false = refl
 
+pub and_true : (b : Bool) → (b && true) ≡ b
+and_true true = refl
+and_true false = refl
+
+pub and_false : (b : Bool) → (b && false) ≡ false
+and_false true = refl
+and_false false = refl
+
 pub xor_self : (a : Bool) → ◌xor◌ a a ≡ false
 xor_self true = refl
 xor_self false = refl

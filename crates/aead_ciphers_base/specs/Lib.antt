@@ -1,11 +1,17 @@
 pub mod Aes
+pub mod AsChunksMut
 pub mod Blocks
 pub mod ByteField
 pub mod Bytes
+pub mod ChaCha20
+pub mod ChunksMut
 pub mod CounterMode
 pub mod KeyBytes
 pub mod KeySchedule
+pub mod Mask
+pub mod Overlapping
 pub mod Planes
 pub mod Polynomial
+pub mod Shift
 pub mod Values
 pub mod Work

@@ -1,5 +1,5 @@
 -- Four blocks in eight planes of 64 bits: bit 16 block + byte of plane b is bit b of that byte.
-use Rattle.std.specs.Prelude.{ℕ, ◌+◌, ◌*◌, ◌/◌, ◌%◌, ◌==◌, List, slice_index}
+use Rattle.std.specs.Prelude.{ℕ, ◌+◌, ◌-◌, ◌*◌, ◌/◌, ◌%◌, ◌^◌, ◌==◌, Bool, List, slice_index}
 use Rattle.std.specs.Int.{bit_at}
 use Rattle.aead_ciphers_base.specs.Polynomial.{polynomial}
 use Rattle.aead_ciphers_base.specs.ByteField.{value_of}
@@ -8,6 +8,10 @@ use Rattle.aead_ciphers_base.specs.Aes.{state}
 -- byte p: the one whose bit b is bit p of plane b
 unfoldable pub plane_byte : List ℕ → ℕ → ℕ
 plane_byte planes p = value_of (polynomial 8 (λ b. bit_at (slice_index planes b) p == 1))
+
+-- the polynomial whose coefficient of x^b is bit p of plane b, for n planes
+unfoldable pub plane_polynomial : ℕ → List ℕ → ℕ → List Bool
+plane_polynomial n planes p = polynomial n (λ b. bit_at (slice_index planes b) p == 1)
 
 -- block k: its byte j is byte 16 k + j
 unfoldable pub plane_block : List ℕ → ℕ → List ℕ
@@ -20,3 +24,12 @@ below p i = p / 4 * 4 + (p + i) % 4
 -- the place whose byte ShiftRows moves to p
 abbrev pub shifted_from : ℕ → ℕ
 shifted_from p = p / 16 * 16 + (p % 4 + 4 * ((p / 4 + p) % 4))
+
+-- bit n of words of 64 bits, the lowest of word 0 first
+unfoldable pub word_bit : List ℕ → ℕ → ℕ
+word_bit words n = bit_at (slice_index words (n / 64)) (n % 64)
+
+-- the bit that comes to bit n when digit k of the place and the highest digit of the number of one of eight words
+-- are exchanged, and the number's digits turned: the highest becomes the lowest
+abbrev pub exchanged_from : ℕ → ℕ → ℕ
+exchanged_from k n = 64 * (n / 128 + 4 * bit_at n k) + (n % 64 + n / 64 % 2 * 2 ^ k - bit_at n k * 2 ^ k)

@@ -3,14 +3,18 @@
 //! Four blocks stand in eight planes of 64 bits: bit `16 * block + byte` of plane `b` is bit `b` of
 //! that byte. No step reads a table or branches on a byte.
 
-ghost use Rattle.std.specs.Prelude.{◌≡◌, ◌<◌, ◌⊎◌, ⊤, ℕ, List, [], length, slice_index_or, IsOk, IfOk};
+ghost use Rattle.std.specs.Prelude.{◌≡◌, ◌<◌, ◌⊎◌, ⊤, ℕ, ◌+◌, ◌-◌, ◌/◌, ◌%◌, ◌++◌, List, [], length, drop, slice_index_or, IsOk, IfOk};
 ghost use Rattle.aead_ciphers_base.specs.Aes.{aes};
 ghost use Rattle.aead_ciphers_base.specs.Bytes.{◌⊕◌};
+ghost use Rattle.aead_ciphers_base.specs.CounterMode.{IsCounter, counter_mode};
 ghost use Rattle.aead_ciphers_base.specs.KeyBytes.{key_bytes};
+ghost use Rattle.aead_ciphers_base.specs.Mask.{aes_mask};
 ghost use Rattle.aead_ciphers_base.specs.Work.{Adds, Room};
 
 use crate::bb;
 use crate::error::Unspecified;
+use crate::overlapping;
+use crate::values::Sample;
 use std::alloc::AllocError;
 use std::marker::Model;
 
@@ -18,6 +22,7 @@ mod bit_sliced;
 mod counter;
 #[cfg(test)]
 mod counter_tests;
+mod ctr32;
 mod key_schedule;
 mod layers;
 mod pack;
@@ -68,6 +73,28 @@ pub trait EncryptBlock {
         requires { Room work.old 1 0 }
         ensures value { result ≡ block ⊕ cipher self.now iv }
         ensures worked { Adds work.old work.new 1 0 };
+}
+
+/// A buffer of bytes whose output is its front.
+pub type Overlapping<'o> = overlapping::Overlapping<'o, u8>;
+
+/// Counter mode over a block cipher under a key (SP 800-38D section 6.5, GCTR).
+pub trait EncryptCtr32: EncryptBlock {
+    /// Encrypts or decrypts whole blocks: output block j is input block j, as it stood at entry, XOR
+    /// the cipher of the counter block plus j. The bytes behind the output stay, and the counter
+    /// grows by the number of blocks.
+    fn ctr32_encrypt_within(&self, in_out: Overlapping<'_>, counter: &mut Counter, work: &mut Work)
+        requires whole { (length in_out.in_out.now - in_out.start) % 16 ≡ 0 }
+        requires room { Room work.old ((length in_out.in_out.now - in_out.start) / 16) 0 }
+        ensures output { (nonce : List ℕ) (k : ℕ) → IsCounter counter.old nonce k →
+            let was = in_out.entry.in_out.now in let start = in_out.entry.start in
+            in_out.exit.0.now ≡ counter_mode (Self.cipher self.now) nonce k (drop start was)
+            ++ drop (length was - start) was }
+        ensures counter { (nonce : List ℕ) (k : ℕ) → IsCounter counter.old nonce k →
+            IsCounter counter.new nonce
+            (k + (length in_out.entry.in_out.now - in_out.entry.start) / 16) }
+        ensures worked { Adds work.old work.new
+            ((length in_out.entry.in_out.now - in_out.entry.start) / 16) 0 };
 }
 
 /// A key, expanded: its round keys (FIPS 197 section 5.2), each in all four blocks of eight planes.
@@ -143,6 +170,19 @@ impl Key {
     }
 }
 
+impl Key {
+    /// The header protection mask of a sample, under this key (RFC 9001 section 5.4.3): 16 bytes in, 5 bytes out.
+    #[tactic(auto, unfolding(crate::specs::Mask::aes_mask))]
+    pub fn new_mask(&self, sample: Sample) -> [u8; 5]
+        ensures { result ≡ aes_mask self.now sample }
+    {
+        let block = self.encrypt_block(sample, &mut Work::new());
+        let mut mask = [0; 5];
+        mask.copy_from_slice(&block[..5]);
+        mask
+    }
+}
+
 impl EncryptBlock for Key {
     ghost cipher = { λ key block. aes key block };
 
@@ -153,5 +193,17 @@ impl EncryptBlock for Key {
 
     fn encrypt_iv_xor_block(&self, iv: Iv, block: Block, work: &mut Work) -> Block {
         bb::xor_16(block, self.encrypt_block(iv.into_block_less_safe(), work))
+    }
+}
+
+impl EncryptCtr32 for Key {
+    fn ctr32_encrypt_within(
+        &self,
+        in_out: Overlapping<'_>,
+        counter: &mut Counter,
+        work: &mut Work,
+    ) {
+        let Overlapping { in_out, start } = in_out;
+        ctr32::encrypt_to_front(self, in_out, start, counter, work);
     }
 }

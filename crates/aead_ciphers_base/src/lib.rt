@@ -4,7 +4,9 @@
 
 pub mod aes;
 pub mod bb;
+pub mod chacha;
 pub mod error;
 pub mod overlapping;
 pub mod polyfill;
+pub mod shift;
 pub mod values;

@@ -1,5 +1,11 @@
 //! Buffers whose output overlaps their input.
 
+mod array;
 mod base;
+mod chunk;
+mod partial_block;
 
+pub use array::{Array, first_array};
 pub use base::Overlapping;
+pub use chunk::{Chunk, chunk_at, map_chunk};
+pub use partial_block::PartialBlock;

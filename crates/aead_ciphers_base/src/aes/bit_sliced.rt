@@ -7,31 +7,21 @@ ghost use Rattle.aead_ciphers_base.specs.KeySchedule.{HoldsWords};
 use super::Block;
 use super::layers::{add_planes, mix_planes, shift_planes};
 use super::pack::{pack, unpack};
-use super::planes::sub_planes;
+use super::planes::{Planes, sub_planes};
 
 /// The cipher of each block under the words that the round keys hold.
-pub fn encrypt_four(round_keys: &[[u64; 8]; 15], rounds: usize, blocks: [Block; 4]) -> [Block; 4]
+pub fn encrypt_four(round_keys: &[Planes; 15], rounds: usize, blocks: [Block; 4]) -> [Block; 4]
     requires some { 0 < rounds }
     requires within { rounds < 15 }
     ensures { (words : List (List ℕ)) → HoldsWords round_keys.now words (rounds + 1)
         → (k : ℕ) → k < 4
         → slice_index_or result k [] ≡ cipher words rounds (slice_index_or blocks k []) }
 {
-    let mut bytes = [0; 64];
-    for p in 0..64 {
-        bytes[p] = blocks[p / 16][p % 16];
-    }
-    let mut state = add_planes(pack(&bytes), round_keys[0]);
+    let mut state = add_planes(pack(blocks), round_keys[0]);
     for round in 1..rounds {
         sub_planes(&mut state);
         state = add_planes(mix_planes(shift_planes(state)), round_keys[round]);
     }
     sub_planes(&mut state);
-    state = add_planes(shift_planes(state), round_keys[rounds]);
-    [
-        unpack(&state, 0),
-        unpack(&state, 1),
-        unpack(&state, 2),
-        unpack(&state, 3),
-    ]
+    unpack(add_planes(shift_planes(state), round_keys[rounds]))
 }

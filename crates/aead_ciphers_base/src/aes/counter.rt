@@ -1,7 +1,7 @@
 //! Counter blocks of a 12-byte nonce (SP 800-38D sections 6.2 and 7.1).
 
-ghost use Rattle.std.specs.Prelude.{◌≡◌, ℕ, ◌+◌, List};
-ghost use Rattle.aead_ciphers_base.specs.CounterMode.{IsCounter, counter_block};
+ghost use Rattle.std.specs.Prelude.{◌≡◌, ◌<◌, ℕ, ◌+◌, List, [], slice_index_or};
+ghost use Rattle.aead_ciphers_base.specs.CounterMode.{IsCounter};
 
 use crate::aes::{BLOCK_LEN, Block};
 use crate::values::{NONCE_LEN, Nonce};
@@ -24,7 +24,7 @@ impl Model for Counter {
 impl Counter {
     /// Counter block 1 of the nonce, J0 of SP 800-38D section 7.1.
     pub fn one(nonce: Nonce) -> Self
-        ensures { result ≡ counter_block nonce 1 }
+        ensures { IsCounter result nonce 1 }
     {
         let mut block = [0; BLOCK_LEN];
         block[..NONCE_LEN].copy_from_slice(nonce.as_ref());
@@ -46,10 +46,27 @@ impl Counter {
     pub fn increment_by_less_safe(&mut self, increment_by: u32)
         ensures { (nonce : List ℕ) (k : ℕ) → IsCounter self.old nonce k → IsCounter self.new nonce (k + increment_by) }
     {
-        let [.., n0, n1, n2, n3] = self.block;
+        self.block = self.plus(increment_by);
+    }
+
+    /// The counter block with so much more as its number, modulo 2^32.
+    pub(crate) fn plus(&self, more: u32) -> Block
+        ensures { (nonce : List ℕ) (k : ℕ) → IsCounter self.now nonce k → IsCounter result nonce (k + more) }
+    {
+        let mut block = self.block;
+        let [.., n0, n1, n2, n3] = block;
         let number = u32::from_be_bytes([n0, n1, n2, n3]);
-        let next = number.wrapping_add(increment_by).to_be_bytes();
-        self.block[NONCE_LEN..].copy_from_slice(&next);
+        let next = number.wrapping_add(more).to_be_bytes();
+        block[NONCE_LEN..].copy_from_slice(&next);
+        block
+    }
+
+    /// The counter block and the next three.
+    pub(crate) fn next_four(&self) -> [Block; 4]
+        ensures { (nonce : List ℕ) (k : ℕ) → IsCounter self.now nonce k → (i : ℕ) → i < 4 →
+            IsCounter (slice_index_or result i []) nonce (k + i) }
+    {
+        [self.plus(0), self.plus(1), self.plus(2), self.plus(3)]
     }
 
     /// Its bytes.

@@ -5,8 +5,9 @@ ghost use Rattle.aead_ciphers_base.specs.Aes.{add_words, rot_word, sub_word, wor
 ghost use Rattle.aead_ciphers_base.specs.Planes.{plane_byte};
 ghost use Rattle.aead_ciphers_base.specs.KeySchedule.{HoldsWords};
 
-use super::pack::{byte_at, pack};
-use super::planes::sub_planes;
+use super::ZERO_BLOCK;
+use super::pack::{pack, unpack};
+use super::planes::{Planes, sub_planes};
 
 // The first byte of each Rcon word.
 const ROUND_CONSTANTS: [u8; 10] = [0x01, 0x02, 0x04, 0x08, 0x10, 0x20, 0x40, 0x80, 0x1b, 0x36];
@@ -27,19 +28,12 @@ fn rot_word(a: [u8; 4]) -> [u8; 4]
 fn sub_word(a: [u8; 4]) -> [u8; 4]
     ensures { result ≡ sub_word a }
 {
-    let mut bytes = [0; 64];
-    bytes[0] = a[0];
-    bytes[1] = a[1];
-    bytes[2] = a[2];
-    bytes[3] = a[3];
-    let mut planes = pack(&bytes);
+    let [a0, a1, a2, a3] = a;
+    let block = [a0, a1, a2, a3, 0, 0, 0, 0, 0, 0, 0, 0, 0, 0, 0, 0];
+    let mut planes = pack([block, ZERO_BLOCK, ZERO_BLOCK, ZERO_BLOCK]);
     sub_planes(&mut planes);
-    [
-        byte_at(&planes, 0),
-        byte_at(&planes, 1),
-        byte_at(&planes, 2),
-        byte_at(&planes, 3),
-    ]
+    let [first, _, _, _] = unpack(planes);
+    [first[0], first[1], first[2], first[3]]
 }
 
 fn round_constant(n: usize) -> u8
@@ -87,20 +81,21 @@ pub fn expand(key: &[u8]) -> [[u8; 4]; 60]
     words
 }
 
-fn pack_round_key(words: &[[u8; 4]], round: usize) -> [u64; 8]
+// A round key, in each of the four blocks.
+fn pack_round_key(words: &[[u8; 4]], round: usize) -> Planes
     requires { 4 * round + 4 ≤ length words.now }
     ensures { (p : ℕ) → p < 64
         → plane_byte result p ≡ slice_index (word_at words.now (4 * round + p % 16 / 4)) (p % 4) }
 {
-    let mut bytes = [0; 64];
-    for p in 0..64 {
-        bytes[p] = words[4 * round + p % 16 / 4][p % 4];
+    let mut block = ZERO_BLOCK;
+    for k in 0..16 {
+        block[k] = words[4 * round + k / 4][k % 4];
     }
-    pack(&bytes)
+    pack([block, block, block, block])
 }
 
-/// The round keys with these words, four words a round.
-pub fn round_keys(words: &[[u8; 4]]) -> [[u64; 8]; 15]
+/// The round keys with these words, four words each.
+pub fn round_keys(words: &[[u8; 4]]) -> [Planes; 15]
     requires { length words.now ≤ 60 }
     ensures { HoldsWords result words.now (length words.now / 4) }
 {

@@ -1,18 +1,30 @@
 //! ShiftRows, MixColumns and AddRoundKey on planes.
 
-ghost use Rattle.std.specs.Prelude.{◌≡◌, ◌<◌, ◌==◌, ℕ, bit_xor, if◌then◌else◌};
+ghost use Rattle.std.specs.Prelude.{◌≡◌, ◌<◌, ℕ, bit_xor};
 ghost use Rattle.std.specs.Int.{bit_at};
 ghost use Rattle.aead_ciphers_base.specs.Aes.{mixed};
 ghost use Rattle.aead_ciphers_base.specs.Planes.{plane_byte, below, shifted_from};
 
-use super::planes::times_x;
+use super::planes::{Planes, times_x};
 
-fn rows_below(x: u64) -> u64
+// Moves the bit of each row into the row above it.
+#[inline(always)]
+fn one_below(x: u64) -> u64
     ensures { (p : ℕ) → p < 64 → bit_at result p ≡ bit_at x (below p 1) }
 {
     ((x >> 1) & 0x7777_7777_7777_7777) ^ ((x << 3) & 0x8888_8888_8888_8888)
 }
 
+// Moves the bit of each row two rows up.
+#[inline(always)]
+fn two_below(x: u64) -> u64
+    ensures { (p : ℕ) → p < 64 → bit_at result p ≡ bit_at x (below p 2) }
+{
+    ((x >> 2) & 0x3333_3333_3333_3333) ^ ((x << 2) & 0xcccc_cccc_cccc_cccc)
+}
+
+// Rows 1, 2 and 3 move by one, two and three columns of four bits.
+#[inline(always)]
 fn rows_shifted(x: u64) -> u64
     ensures { (p : ℕ) → p < 64 → bit_at result p ≡ bit_at x (shifted_from p) }
 {
@@ -22,17 +34,31 @@ fn rows_shifted(x: u64) -> u64
         ^ (((x >> 12) & 0x0008_0008_0008_0008) ^ ((x << 4) & 0x8880_8880_8880_8880))
 }
 
-fn below_planes(a: [u64; 8]) -> [u64; 8]
+#[inline(always)]
+fn planes_one_below(a: Planes) -> Planes
     ensures { (p : ℕ) → p < 64 → plane_byte result p ≡ plane_byte a (below p 1) }
 {
     let mut out = [0; 8];
     for k in 0..8 {
-        out[k] = rows_below(a[k]);
+        out[k] = one_below(a[k]);
     }
     out
 }
 
-pub fn shift_planes(a: [u64; 8]) -> [u64; 8]
+#[inline(always)]
+fn planes_two_below(a: Planes) -> Planes
+    ensures { (p : ℕ) → p < 64 → plane_byte result p ≡ plane_byte a (below p 2) }
+{
+    let mut out = [0; 8];
+    for k in 0..8 {
+        out[k] = two_below(a[k]);
+    }
+    out
+}
+
+/// ShiftRows (FIPS 197 section 5.1.2) in each block.
+#[inline(always)]
+pub fn shift_planes(a: Planes) -> Planes
     ensures { (p : ℕ) → p < 64 → plane_byte result p ≡ plane_byte a (shifted_from p) }
 {
     let mut out = [0; 8];
@@ -42,7 +68,9 @@ pub fn shift_planes(a: [u64; 8]) -> [u64; 8]
     out
 }
 
-pub fn add_planes(a: [u64; 8], b: [u64; 8]) -> [u64; 8]
+/// The sum of the bytes of `a` and `b`: AddRoundKey (FIPS 197 section 5.1.4), if `b` is a round key.
+#[inline(always)]
+pub fn add_planes(a: Planes, b: Planes) -> Planes
     ensures { (p : ℕ) → plane_byte result p ≡ bit_xor (plane_byte a p) (plane_byte b p) }
 {
     let mut out = [0; 8];
@@ -52,14 +80,15 @@ pub fn add_planes(a: [u64; 8], b: [u64; 8]) -> [u64; 8]
     out
 }
 
-pub fn mix_planes(a: [u64; 8]) -> [u64; 8]
+/// MixColumns (FIPS 197 section 5.1.3) in each block.
+#[inline(always)]
+pub fn mix_planes(a: Planes) -> Planes
     ensures { (p : ℕ) → p < 64 → plane_byte result p
-        ≡ mixed (plane_byte a p) (plane_byte a (below p 1)) (plane_byte a (below p 2)) (plane_byte a (below p 3)) }
+        ≡ mixed (plane_byte a p) (plane_byte a (below p 1))
+        (plane_byte a (below p 2)) (plane_byte a (below p 3)) }
 {
-    let b = below_planes(a);
-    let c = below_planes(b);
-    let d = below_planes(c);
-    let doubled = add_planes(times_x(add_planes(a, b)), b);
-    let three = add_planes(doubled, c);
-    add_planes(three, d)
+    let b = planes_one_below(a);
+    let sum = add_planes(a, b);
+    let doubled = add_planes(times_x(sum), b);
+    add_planes(doubled, planes_two_below(sum))
 }

@@ -1,51 +1,135 @@
 //! Four blocks in eight planes, and back.
+//!
+//! Read as eight words, the lowest byte first, the blocks have bit `b` of byte `8 * i + j` as bit
+//! `8 * j + b` of word `i`. Two transpositions make it bit `8 * i + j` of plane `b`.
 
-ghost use Rattle.std.specs.Prelude.{◌≡◌, ◌+◌, ◌*◌, ◌/◌, ◌%◌, ◌<◌, ℕ, length, slice_index};
-ghost use Rattle.std.specs.Int.{bit_at};
-ghost use Rattle.aead_ciphers_base.specs.Planes.{plane_byte, plane_block};
+ghost use Rattle.std.specs.Prelude.{◌≡◌, ◌+◌, ◌-◌, ◌*◌, ◌/◌, ◌%◌, ◌^◌, ◌<◌, ◌==◌, ◌++◌, ℕ, [], slice_index, slice_index_or, if◌then◌else◌};
+ghost use Rattle.std.specs.Int.{bit_at, w64, to_le_bytes};
+ghost use Rattle.aead_ciphers_base.specs.Planes.{plane_byte, plane_block, word_bit, exchanged_from};
 
-// Bit `bit` of each byte.
-fn gather(bytes: &[u8; 64], bit: u32) -> u64
-    requires { bit < 8 }
-    ensures { (p : ℕ) → p < 64 → bit_at result p ≡ bit_at (slice_index bytes.now p) bit }
+use super::Block;
+use super::planes::Planes;
+
+// The places of which binary digit `k` is zero.
+const LOW: [u64; 6] = [
+    0x5555_5555_5555_5555,
+    0x3333_3333_3333_3333,
+    0x0f0f_0f0f_0f0f_0f0f,
+    0x00ff_00ff_00ff_00ff,
+    0x0000_ffff_0000_ffff,
+    0x0000_0000_ffff_ffff,
+];
+
+// Exchanges the bits of `a` at places with digit `k` one and those of `b` with digit `k` zero.
+#[inline(always)]
+fn exchange(a: u64, b: u64, k: usize) -> (u64, u64)
+    requires { k < 6 }
+    ensures first { (q : ℕ) → q < 64
+        → bit_at result.0 q ≡ (if bit_at q k == 0 then bit_at a q else bit_at b (q - 2 ^ k)) }
+    ensures second { (q : ℕ) → q < 64
+        → bit_at result.1 q ≡ (if bit_at q k == 0 then bit_at a (q + 2 ^ k) else bit_at b q) }
 {
-    let mut plane = 0;
-    for p in 0..64 {
-        let set = (bytes[p] >> bit) & 1;
-        plane |= u64::from(set) << p;
-    }
-    plane
+    let shift = 1u32 << k;
+    let moved = ((a >> shift) ^ b) & LOW[k];
+    (a ^ (moved << shift), b ^ moved)
 }
 
-pub fn pack(bytes: &[u8; 64]) -> [u64; 8]
-    ensures { (p : ℕ) → p < 64 → plane_byte result p ≡ slice_index bytes.now p }
+// Exchanges digit `k` of each place and the highest digit of the word's number, and turns the
+// number's digits: the highest becomes the lowest.
+#[inline(always)]
+fn exchange_digits(words: [u64; 8], k: usize) -> [u64; 8]
+    requires { k < 6 }
+    ensures { (n : ℕ) → n < 512 → word_bit result n ≡ word_bit words (exchanged_from k n) }
 {
-    let mut planes = [0; 8];
-    for bit in 0..8u32 {
-        planes[bit as usize] = gather(bytes, bit);
-    }
-    planes
+    let [w0, w1, w2, w3, w4, w5, w6, w7] = words;
+    let (r0, r1) = exchange(w0, w4, k);
+    let (r2, r3) = exchange(w1, w5, k);
+    let (r4, r5) = exchange(w2, w6, k);
+    let (r6, r7) = exchange(w3, w7, k);
+    [r0, r1, r2, r3, r4, r5, r6, r7]
 }
 
-pub fn byte_at(planes: &[u64; 8], p: u32) -> u8
-    requires { p < 64 }
-    ensures { result ≡ plane_byte planes.now p }
+// Byte `j` of word `i` becomes byte `i` of word `j`.
+#[inline(always)]
+fn transpose_bytes(words: [u64; 8]) -> [u64; 8]
+    ensures { (n : ℕ) → n < 512
+        → word_bit result n ≡ word_bit words (n / 8 % 8 * 64 + n / 64 * 8 + n % 8) }
 {
-    let mut byte = 0;
-    for bit in 0..8 {
-        let set = (planes[bit] >> p) & 1;
-        byte |= (set as u8) << bit;
-    }
-    byte
+    exchange_digits(exchange_digits(exchange_digits(words, 5), 4), 3)
 }
 
-pub fn unpack(planes: &[u64; 8], k: u32) -> [u8; 16]
-    requires { k < 4 }
-    ensures { result ≡ plane_block planes.now k }
+// Bit `b` of each byte of word `i` becomes bit `i` of that byte of word `b`.
+#[inline(always)]
+fn transpose_bits(words: [u64; 8]) -> [u64; 8]
+    ensures { (n : ℕ) → n < 512
+        → word_bit result n ≡ word_bit words (n % 8 * 64 + n / 8 % 8 * 8 + n / 64) }
 {
-    let mut block = [0; 16];
-    for j in 0..16u32 {
-        block[j as usize] = byte_at(planes, 16 * k + j);
-    }
-    block
+    exchange_digits(exchange_digits(exchange_digits(words, 2), 1), 0)
+}
+
+#[inline(always)]
+fn words_of(block: Block) -> (u64, u64)
+    ensures { to_le_bytes w64 result.0 ++ to_le_bytes w64 result.1 ≡ block }
+{
+    let [
+        b0,
+        b1,
+        b2,
+        b3,
+        b4,
+        b5,
+        b6,
+        b7,
+        b8,
+        b9,
+        b10,
+        b11,
+        b12,
+        b13,
+        b14,
+        b15,
+    ] = block;
+    (
+        u64::from_le_bytes([b0, b1, b2, b3, b4, b5, b6, b7]),
+        u64::from_le_bytes([b8, b9, b10, b11, b12, b13, b14, b15]),
+    )
+}
+
+#[inline(always)]
+fn block_of(low: u64, high: u64) -> Block
+    ensures { result ≡ to_le_bytes w64 low ++ to_le_bytes w64 high }
+{
+    let [b0, b1, b2, b3, b4, b5, b6, b7] = low.to_le_bytes();
+    let [b8, b9, b10, b11, b12, b13, b14, b15] = high.to_le_bytes();
+    [
+        b0, b1, b2, b3, b4, b5, b6, b7, b8, b9, b10, b11, b12, b13, b14, b15,
+    ]
+}
+
+/// The planes of four blocks: bit `16 * block + byte` of plane `b` is bit `b` of that byte.
+#[inline(always)]
+pub fn pack(blocks: [Block; 4]) -> Planes
+    ensures { (p : ℕ) → p < 64
+        → plane_byte result p ≡ slice_index (slice_index_or blocks (p / 16) []) (p % 16) }
+{
+    let [first, second, third, fourth] = blocks;
+    let (w0, w1) = words_of(first);
+    let (w2, w3) = words_of(second);
+    let (w4, w5) = words_of(third);
+    let (w6, w7) = words_of(fourth);
+    transpose_bits(transpose_bytes([w0, w1, w2, w3, w4, w5, w6, w7]))
+}
+
+/// The four blocks of the planes.
+#[inline(always)]
+pub fn unpack(planes: Planes) -> [Block; 4]
+    ensures { (k : ℕ) → k < 4 → slice_index_or result k [] ≡ plane_block planes k }
+{
+    let [w0, w1, w2, w3, w4, w5, w6, w7] = transpose_bytes(transpose_bits(planes));
+    [
+        block_of(w0, w1),
+        block_of(w2, w3),
+        block_of(w4, w5),
+        block_of(w6, w7),
+    ]
 }

@@ -1,7 +1,10 @@
 //! A slice and a start: the input is the slice from the start on, the output its front.
 
-ghost use Rattle.std.specs.Prelude.{◌≡◌, ◌↔◌, ◌-◌, ◌≤◌, IsOk, IfOk, IfErr, drop, length};
+ghost use Rattle.std.specs.Prelude.{◌≡◌, ◌↔◌, ◌-◌, ◌≤◌, ◌++◌, IsOk, IfOk, IfErr, drop, length, take};
+ghost use Rattle.std.specs.Borrow.{sem, follows, Array};
+ghost use Rattle.aead_ciphers_base.specs.Overlapping.{TakesChunk};
 
+use super::{Chunk, map_chunk};
 use crate::error::IndexError;
 use std::ops::RangeFrom;
 
@@ -71,5 +74,71 @@ impl<'o, T> Overlapping<'o, T> {
     {
         let Overlapping { in_out, start } = self;
         (in_out, start..)
+    }
+
+    /// The front of the slice, as long as the input, for writing.
+    pub fn into_unwritten_output(self) -> &'o mut [T]
+        ensures* writes_back { sem 𝓛 (follows (Array T.row 0) (Array T.row 0)
+            self.entry.in_out.ghost_name result.ghost_name
+            (λ w. w ++ drop (length self.entry.in_out.now - self.entry.start)
+            self.entry.in_out.now)) }
+        ensures items { result.now ≡ take (length self.entry.in_out.now - self.entry.start)
+            self.entry.in_out.now }
+    {
+        let Overlapping { in_out, start } = self;
+        let count = in_out.len() - start;
+        &mut in_out[..count]
+    }
+
+    /// Copies the input to the front of the slice.
+    pub fn copy_to_front(&mut self)
+    where
+        T: Copy,
+        ensures same_reference { self.new.in_out.ghost_name ≡ self.old.in_out.ghost_name }
+        ensures items { self.new.in_out.now ≡ drop self.old.start self.old.in_out.now
+            ++ drop (length self.old.in_out.now - self.old.start) self.old.in_out.now }
+        ensures start { self.new.start ≡ self.old.start }
+    {
+        self.in_out.copy_within(self.start.., 0);
+    }
+
+    /// Copies the input to the front of the slice, and lends that front.
+    pub fn copy_within(mut self) -> &'o mut [T]
+    where
+        T: Copy,
+        ensures items { result.now ≡ drop self.entry.start self.entry.in_out.now }
+    {
+        self.copy_to_front();
+        self.into_unwritten_output()
+    }
+
+    /// `f` maps the first chunk of the input, its answer is written to the front of the slice, and
+    /// the slice behind it comes back with the same start. Where the input is shorter than a chunk,
+    /// it is refused with the length of a chunk, and `f` isn't called.
+    pub fn split_first_chunk<C: Chunk<T>, F: FnOnce(&C) -> C>(
+        self,
+        f: F,
+    ) -> Result<Self, IndexError>
+    where
+        T: Drop,
+        F: Drop,
+        requires { C.chunk_len ≤ length self.in_out.now - self.start
+            → TakesChunk C.chunk_items F.FnOnce C.chunk_len f (drop self.start self.in_out.now) }
+        ensures accepted { IsOk result ↔ (C.chunk_len ≤ length self.entry.in_out.now - self.entry.start) }
+        ensures rest { IfOk result (λ o. o.in_out.now ≡ drop C.chunk_len self.entry.in_out.now) }
+        ensures start { IfOk result (λ o. o.start ≡ self.entry.start) }
+        ensures refused { IfErr result (λ e. e ≡ C.chunk_len) }
+    {
+        let Overlapping { in_out, start } = self;
+        let count = C::chunk_len();
+        if in_out.len() - start < count {
+            return Err(IndexError::new(count));
+        }
+        map_chunk(in_out, start, f);
+        let (_front, tail) = in_out.split_at_mut(count);
+        Ok(Overlapping {
+            in_out: tail,
+            start,
+        })
     }
 }

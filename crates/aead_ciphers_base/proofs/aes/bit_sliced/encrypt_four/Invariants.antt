@@ -1,12 +1,8 @@
-use Rattle.std.proofs.Common.{◌≡◌, ◌<◌, ◌+◌, ◌-◌, ◌/◌, ◌%◌, ℕ, List, slice_index, slice_index_or, [], length}
+use Rattle.std.proofs.Common.{◌≡◌, ◌<◌, ◌+◌, ◌-◌, ℕ, List, slice_index_or, []}
 use Rattle.aead_ciphers_base.specs.Aes.{rounds}
 use Rattle.aead_ciphers_base.specs.Planes.{plane_block}
 use Rattle.aead_ciphers_base.specs.KeySchedule.{HoldsWords}
 use Rattle.aead_ciphers_base.proofs.aes.bit_sliced.encrypt_four.Given as goal
-
-abbrev pub invariant-loop-p : goal.invariant-loop-p
-invariant-loop-p l =
-    (length l.bytes ≡ 64) × ((q : ℕ) → q < l.p → slice_index l.bytes q ≡ slice_index (slice_index_or l.blocks (q / 16) []) (q % 16))
 
 abbrev pub invariant-loop-round : goal.invariant-loop-round
 invariant-loop-round l =

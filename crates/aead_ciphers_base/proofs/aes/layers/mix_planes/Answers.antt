@@ -8,14 +8,12 @@ use Rattle.aead_ciphers_base.proofs.aes.layers.mix_planes.Goals as goal
 pub returns : goal.returns
 returns c = λ p lt.
     let a = c.args.a in
-    let below1 = c.below_planes-b.ensures p lt in
-    let below2 : plane_byte c.below_planes-c.result p ≡ plane_byte a (below p 2) =
-    c.below_planes-c.ensures p lt ∙ c.below_planes-b.ensures (below p 1) (below_lt p 1 lt) ∙ ap (plane_byte a) (below_twice p 1 1) in
-    let below3 : plane_byte c.below_planes-d.result p ≡ plane_byte a (below p 3) =
-    c.below_planes-d.ensures p lt ∙ c.below_planes-c.ensures (below p 1) (below_lt p 1 lt)
-    ∙ c.below_planes-b.ensures (below (below p 1) 1) (below_lt (below p 1) 1 (below_lt p 1 lt))
-    ∙ ap (plane_byte a) (below_twice (below p 1) 1 1 ∙ below_twice p 1 2) in
-    let twice = c.times_x.ensures p ∙ ap (mul8 2) (c.add_planes.ensures p ∙ ap (bit_xor (plane_byte a p)) below1) in
-    c.add_planes-2.ensures p
-    ∙ ap₂ bit_xor (c.add_planes-three.ensures p ∙ ap₂ bit_xor (c.add_planes-doubled.ensures p ∙ ap₂ bit_xor twice below1) below2) below3
-    ∙ mixed_is (plane_byte a p) (plane_byte a (below p 1)) (plane_byte a (below p 2)) (plane_byte a (below p 3)) (plane_byte_lt a (below p 1))
+    let byte = plane_byte c.args.a in
+    let b_at = c.planes_one_below-b.ensures in
+    let sum_at = c.add_planes-sum.ensures in
+    let doubled = c.add_planes-doubled.ensures p ∙ ap₂ bit_xor (c.times_x.ensures p ∙ ap (mul8 2) (sum_at p ∙ ap (bit_xor (byte p)) (b_at p lt))) (b_at p lt) in
+    let third : plane_byte c.planes_one_below-b.result (below p 2) ≡ byte (below p 3) =
+    b_at (below p 2) (below_lt p 2 lt) ∙ ap byte (below_twice p 2 1) in
+    c.add_planes.ensures p
+    ∙ ap₂ bit_xor doubled (c.planes_two_below.ensures p lt ∙ sum_at (below p 2) ∙ ap (bit_xor (byte (below p 2))) third)
+    ∙ mixed_is (byte p) (byte (below p 1)) (byte (below p 2)) (byte (below p 3)) (plane_byte_lt a (below p 1))

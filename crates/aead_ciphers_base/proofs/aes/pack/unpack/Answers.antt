@@ -1,13 +1,9 @@
-use Rattle.std.proofs.Common.{arith, ap, ◌∙◌, ◌/◌, ◌%◌, ◌+◌, ◌*◌, ◌≡◌}
-use Rattle.aead_ciphers_base.specs.Planes.{plane_byte, plane_block}
-use Rattle.aead_ciphers_base.proofs.StateLemmas.{state_is}
+use Rattle.std.proofs.Common.{sym, [], ◌∷◌}
+use Rattle.aead_ciphers_base.proofs.PackLemmas.{unpacked_block}
 use Rattle.aead_ciphers_base.proofs.aes.pack.unpack.Goals as goal
 
 pub returns : goal.returns
-unfolding plane_block
 returns c =
-    let k = c.args.k in
-    state_is (λ r q. plane_byte c.args.planes.now (16 * k + (r + 4 * q))) c.loop-j.block c.loop-j.invariant.0
-    (λ j lt.
-    let place : 16 * c.args.k + j ≡ 16 * c.args.k + (j % 4 + 4 * (j / 4)) = omega arith in
-    c.loop-j.invariant.1 j (omega arith) ∙ ap (plane_byte c.args.planes.now) place)
+    unpacked_block c.args.planes c.transpose_bits.result c.transpose_bytes.result
+    (c.block_of.result ∷ c.block_of-2.result ∷ c.block_of-3.result ∷ c.block_of-4.result ∷ []) c.transpose_bits.ensures c.transpose_bytes.ensures
+    (sym c.block_of.ensures) (sym c.block_of-2.ensures) (sym c.block_of-3.ensures) (sym c.block_of-4.ensures)

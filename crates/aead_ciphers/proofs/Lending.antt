@@ -1,0 +1,90 @@
+-- What the proofs of the opening calls share. Assumes `Logic`.
+--     Answer, answer_Lawful      the type of an answer, and its law
+--     Out, out_Lawful      the type of a lent result, and its law
+--     Own, as_own, as_slice      what a `&mut [u8]` owns, as `sl_relend` has it;  to it and back
+--     turned      what the second call leaves owed of the buffer is what the contract says
+use mathlib.Core.Path.{◌≡◌, refl, sym, subst}
+use mathlib.Core.List.{List, [], ◌∷◌, ◌++◌}
+use Prim.Native.Nat.{ℕ}
+use seplogic.Ra.Ura.{Ura}
+use mir.Syntax.{Lifetime, Ty, ty_int, w8, erased}
+use mir.Val.{Val, has_ty, WT}
+use lib.Dec.{T}
+use base.Logic.{ent, id⊢}
+use base.Fml.{Fml, Lft, GName}
+use types.Logic.{Logic, sem}
+use types.Kit.{‵, ◌$◌, ◌∵◌, !, qed, drop, fsplit, fsplit3, fjoin, done, rewrite}
+use denote.Array.{Array}
+use denote.Builtin.{u8, usize}
+use denote.Follow.{follows, follows_by}
+use denote.Laws.{Lawful, Typed}
+use denote.RattleType.{RattleType}
+use denote.Ref.{MutBor}
+use denote.Shadow.{pure_i}
+use denote.Slice.{MutSlice, Room, room, slice_val, shr_slice_at}
+use denote.Enum.Declared.{shape}
+use denote.Enum.Enum.{Enum, Enum-Lawful}
+use denote.Param.Laws as PL
+use denote.Param.Shared as PS
+use denote.Struct.Field.{u64-field}
+use denote.Struct.Laws.{u64-laws, u64-copy}
+use denote.Struct.Recorded.{recorded_lawful}
+use borrow.Table.Owned as owned-types
+use lib.ListN.{length, drop as drop_list}
+use Rattle.std.specs.Prelude.{Result, Ok, Err, IsOk, OnErr}
+use Rattle.std.specs.contracts.result.Result as RS
+use Rattle.std.proofs.result.Result.TheLaws as RL
+use Rattle.std.specs.contracts.ops.RangeFrom as RF
+use Rattle.aead_ciphers_base.specs.contracts.error.Unspecified as US
+use Rattle.aead_ciphers_base.proofs.error.Unspecified.TheLaws as UL
+use Rattle.aead_ciphers.specs.Lending.{LendsFront}
+
+abbrev pub usize_laws : PL.Laws usize
+usize_laws = PL.of_field u64-field u64-laws refl (PS.copy_shared u64-field u64-copy)
+
+abbrev pub Answer : RattleType
+Answer = RS.the_row usize US.the_row
+
+abbrev pub Range : RattleType
+Range = RF.the_row usize
+
+abbrev pub Out : RattleType → RattleType
+Out X = RS.the_row X US.the_row
+
+abbrev pub Own : ℕ → ℕ → Lft → GName → List ℕ → Fml
+Own b o k g xs = (owned-types.MutSlice erased k u8).own_val (record { ref_ptr = (b, o); ghost_name = g; now = xs })
+
+abbrev pub lone : List Ty → Ty
+lone [] = ty_int w8
+lone (τ ∷ τs) = τ
+
+-- where a type's values are one word, the list of them is that word
+pub one : (τ : Ty) (vs : List Val) → Typed (τ ∷ []) vs → (v : Val) × (vs ≡ v ∷ []) × (T (has_ty τ v) × WT v)
+one τ [] t = absurd t
+one τ (v ∷ []) t = (v, refl, t.0)
+one τ (v ∷ w ∷ vs) t = absurd t.1
+
+module _ {M : Type 1} {𝓤 : Ura M} (𝓛 : Logic 𝓤) where
+  pub answer_Lawful : Lawful 𝓛 Answer
+  answer_Lawful = (RL.the_row_laws usize US.the_row usize_laws UL.the_row_laws).lawful 𝓛
+
+  pub out_Lawful : (X : RattleType) → Lawful 𝓛 X → Lawful 𝓛 (Out X)
+  out_Lawful X L = let T = RS.the_type X US.the_row in recorded_lawful (Enum (shape T)) T.D T.to T.to_one 𝓛 (Enum-Lawful 𝓛 (shape T) tt ((L, tt), (((UL.the_row_laws).lawful 𝓛, tt), tt)))
+
+  module _ (ℓ : Lifetime) (κ : Lft) (b o : ℕ) (γ : GName) where
+    pub as_own : (xs : List ℕ) (vs : List Val) → Room u8 (length xs) → ent 𝓤 (sem 𝓛 ((MutSlice ℓ κ u8).own_val (record { ref_ptr = (b, o); ghost_name = γ; now = xs }) vs)) (sem 𝓛 (Own b o κ γ xs))
+    as_own xs vs rm = qed 𝓛 (‵ ((MutSlice ℓ κ u8).own_val (record { ref_ptr = (b, o); ghost_name = γ; now = xs }) vs) ∷ []) ∵
+        fsplit3 ! $ drop ! $ fjoin ! $ pure_i ! (room u8 (length xs)) (tt, tt) rm $ fjoin ! $ done !
+
+    pub as_slice : (ys : List ℕ) (n : ℕ) → length ys ≡ n → Room u8 n → ent 𝓤 (sem 𝓛 (Own b o κ γ ys)) (sem 𝓛 ((MutSlice ℓ κ u8).own_val (record { ref_ptr = (b, o); ghost_name = γ; now = ys }) (slice_val (b, o) n ∷ [])))
+    as_slice ys n e rm =
+        let rm' : Room u8 (length ys) = subst (Room u8) (sym e) rm in
+        qed 𝓛 (‵ (Own b o κ γ ys) ∷ []) ∵ fsplit ! $ drop ! $
+        pure_i ! (shr_slice_at u8 (record { ref_ptr = (b, o); now = ys }) (slice_val (b, o) (length ys) ∷ [])) (tt, (tt, tt)) (refl, rm') $ fjoin ! $
+        rewrite ! 0 (λ (k : ℕ). ‵ ((MutSlice ℓ κ u8).own_val (record { ref_ptr = (b, o); ghost_name = γ; now = ys }) (slice_val (b, o) k ∷ []))) e refl $ done !
+
+  pub turned : {E : Type 0} (s : MutBor (List ℕ)) (r : Result (MutBor (List ℕ)) E) (n m : ℕ) (ys : List ℕ) → (IsOk r → drop_list n ys ≡ drop_list m s.now) → OnErr r (ys ≡ s.now)
+      → ent 𝓤 (sem 𝓛 (LendsFront (record s { now = ys }) r n)) (sem 𝓛 (LendsFront s r m))
+  unfolding follows_by
+  turned s (Ok p) n m ys e f = subst (λ (l : List ℕ). ent 𝓤 (sem 𝓛 (follows (Array u8 0) (Array u8 0) s.ghost_name p.ghost_name (λ w. w ++ drop_list n ys))) (sem 𝓛 (follows (Array u8 0) (Array u8 0) s.ghost_name p.ghost_name (λ w. w ++ l)))) (e refl) (id⊢ 𝓤 _)
+  turned s (Err x) n m ys e f = subst (λ (l : List ℕ). ent 𝓤 (sem 𝓛 (LendsFront (record s { now = ys }) (Err x) n)) (sem 𝓛 (LendsFront (record s { now = l }) (Err x) m))) f (id⊢ 𝓤 _)

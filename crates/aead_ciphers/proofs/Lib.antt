@@ -1,0 +1,15 @@
+pub mod FrontLemmas
+pub mod GcmLemmas
+pub mod GhashBits
+pub mod GhashBlocks
+pub mod GhashBytes
+pub mod GhashLaws
+pub mod HashLemmas
+pub mod Lending
+pub mod LendingSteps
+pub mod OpenedLemmas
+pub mod PaddingLemmas
+pub mod ProductLoop
+pub mod RoundTripLemmas
+pub mod WordLemmas
+pub mod XorLaws

@@ -1,0 +1,32 @@
+-- Opening undoes sealing.
+use Rattle.std.proofs.Common.{◌≡◌, ◌∙◌, refl, sym, ap₂, subst, arith, ℕ, List, [], ◌-◌, ◌++◌, length, drop, append-nil, drop_of_length-le, All, Some, slice_get}
+use Rattle.std.proofs.lemmas.List.Elements.{All-get_or}
+use Rattle.std.proofs.lemmas.Option.{get_or_from_slice_get, slice_get_within}
+use Rattle.aead_ciphers_base.specs.Aes.{aes}
+use Rattle.aead_ciphers_base.proofs.CounterModeLemmas.{length-counter_mode}
+use Rattle.aead_ciphers_base.proofs.CounterModeTwice.{counter_mode-twice}
+use Rattle.aead_ciphers.specs.AesGcm.{aes_encrypted}
+use Rattle.aead_ciphers.specs.Gcm.{Fits, decrypted}
+use Rattle.aead_ciphers.specs.Laws.{OpensAgain}
+
+-- what holds of each item holds of the one at a place
+pub All-slice_get : {X : Type 0} (P : X → Type 0) (xs : List X) (i : ℕ) (x : X) → All P xs → slice_get xs i ≡ Some x → P x
+All-slice_get P xs i x all here = subst P (get_or_from_slice_get xs i x x here) (All-get_or P xs i x (slice_get_within xs i x here) all)
+
+pub opens_again : (key nonce aad message : List ℕ) → Fits (length aad) (length message) → OpensAgain key nonce aad message
+opens_again key nonce aad message fits =
+    let ciphertext : List ℕ = aes_encrypted key nonce message in
+    let size : length ciphertext ≡ length message = length-counter_mode (aes key) nonce 2 message in
+    let fitting : Fits (length aad) (length ciphertext - 0) = record { aad = fits.aad; message = let m = fits.message in omega arith } in
+    let none : drop (length ciphertext - 0) ciphertext ≡ [] = drop_of_length-le ciphertext (omega arith) in
+    let back : message ≡ decrypted (aes key) nonce ciphertext ++ drop (length ciphertext - 0) ciphertext =
+        sym (ap₂ (λ (xs ys : List ℕ). xs ++ ys) (counter_mode-twice (aes key) nonce 2 message) none ∙ append-nil message) in
+    record {
+      comes_back = record {
+        out_of_range = λ past. absurd (omega arith);
+        too_long = λ _ long. absurd (long fitting);
+        right_tag = λ _ _ _. (refl, back);
+        false_tag = λ _ _ wrong. absurd (wrong refl);
+      };
+      nothing_else = λ accepts new opened. let done = opened.right_tag (omega arith) fitting refl in (done.0, done.1 ∙ sym back);
+    }

@@ -1,0 +1,24 @@
+use Rattle.std.proofs.Common.{◌≡◌, ◌≢◌, ◌<◌, Err, inl, inr, length, sym, arith, refl}
+use Rattle.std.specs.Prelude.{codes}
+use Rattle.std.proofs.lemmas.Bool.Decides.{nat_tests}
+use Rattle.hex.specs.Hex.{decode_of}
+use Rattle.aead_ciphers.proofs.WordLemmas.{IsBytesWord-decoded, IsBytesWord-undecoded, bytes_of_word-decoded, bytes_of_word-undecoded}
+use Rattle.aead_ciphers.proofs.aeadrun.words.bytes.Goals as goal
+
+pub returns-in-Ok : goal.returns-in-Ok
+returns-in-Ok c =
+    let some : 0 < length c.args.word.now = grind (arith, nat_tests, c.if-is_empty.ensures) in
+    record {
+      accepted = (λ _. IsBytesWord-decoded c.args.word.now _ some c.in-Ok.ensures.ok, λ _. refl);
+      value = sym (bytes_of_word-decoded c.args.word.now _ some c.in-Ok.ensures.ok);
+    }
+
+pub returns-in_default : goal.returns-in_default
+returns-in_default c =
+    let other : c.args.word.now ≢ codes "-" = λ same. cc (rw same at c.if-eq.ensures) in
+    let undecoded : decode_of c.args.word.now ≡ Err c.in-Err.error =
+    elim c.in-Err.ensures.err [ inl memory ↦ absurd (c.in_default.not-OutOfMemory memory) | inr bad ↦ bad ] in
+    record {
+      accepted = (λ some. cc some, λ word. absurd (IsBytesWord-undecoded c.args.word.now _ other undecoded word));
+      value = sym (bytes_of_word-undecoded c.args.word.now _ other undecoded);
+    }

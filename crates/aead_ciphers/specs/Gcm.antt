@@ -1,0 +1,72 @@
+-- Authenticated encryption over a block cipher of 16-byte blocks, with 12-byte nonces and 16-byte tags
+-- (SP 800-38D section 7). A cipher is a function on blocks; bytes are taken by index, and 0 past the end.
+use Rattle.std.specs.Prelude.{◌≡◌, ◌≢◌, ℕ, Bool, true, false, ◌+◌, ◌-◌, ◌*◌, ◌/◌, ◌^◌, ◌<◌, ◌≤◌, List, [], ◌∷◌, ◌++◌, length, take, drop, slice_index}
+use Rattle.std.specs.Int.{to_be_bytes, w64}
+use Rattle.aead_ciphers_base.specs.Bytes.{each_below, ◌⊕◌, zero_block}
+use Rattle.aead_ciphers_base.specs.CounterMode.{counter_block, counter_mode}
+use Rattle.aead_ciphers.specs.Ghash.{ghash}
+
+-- 16 bytes from byte 16 i on, zeros past the end
+unfoldable pub padded_block : List ℕ → ℕ → List ℕ
+padded_block bytes i = each_below 16 (λ j. slice_index bytes (16 * i + j))
+
+-- the bytes in blocks, the last padded with zeros (section 7.1 step 4)
+unfoldable pub padded_blocks : List ℕ → List (List ℕ)
+padded_blocks bytes = each_below ((length bytes + 15) / 16) (padded_block bytes)
+
+-- the numbers of bits of a bytes of AAD and n bytes of ciphertext, in eight big-endian bytes each (section 7.1 step 5)
+unfoldable pub length_block : ℕ → ℕ → List ℕ
+length_block a n = to_be_bytes w64 (8 * a) ++ to_be_bytes w64 (8 * n)
+
+-- the blocks that a tag hashes: the AAD and the ciphertext, each padded by itself, and their lengths (section 7.1 step 5)
+unfoldable pub hashed : List ℕ → List ℕ → List (List ℕ)
+hashed aad ciphertext =
+    padded_blocks aad ++ padded_blocks ciphertext ++ length_block (length aad) (length ciphertext) ∷ []
+
+-- the lengths of AAD and message, in bytes, that have a ciphertext (section 5.2.1.1)
+pub record Fits (a n : ℕ) : Type 0 where
+  pub aad : a < 2 ^ 61
+  pub message : n ≤ 2 ^ 36 - 32
+
+-- the ciphertext of a message: counter mode from counter block 2 on (section 7.1 step 3)
+abbrev pub encrypted : (List ℕ → List ℕ) → List ℕ → List ℕ → List ℕ
+encrypted cipher nonce message = counter_mode cipher nonce 2 message
+
+-- the message of a ciphertext: the same (section 7.2 step 4)
+abbrev pub decrypted : (List ℕ → List ℕ) → List ℕ → List ℕ → List ℕ
+decrypted cipher nonce ciphertext = counter_mode cipher nonce 2 ciphertext
+
+-- the tag of a ciphertext, its hash subkey being the cipher of the zero block (section 7.1 steps 1 and 6)
+unfoldable pub tag : (List ℕ → List ℕ) → List ℕ → List ℕ → List ℕ → List ℕ
+tag cipher nonce aad ciphertext =
+    ghash (cipher zero_block) (hashed aad ciphertext) ⊕ cipher (counter_block nonce 1)
+
+-- the ciphertext of a message, followed by its tag (section 7.1 step 7)
+abbrev pub sealed : (List ℕ → List ℕ) → List ℕ → List ℕ → List ℕ → List ℕ
+sealed cipher nonce aad message =
+    let ciphertext = encrypted cipher nonce message in ciphertext ++ tag cipher nonce aad ciphertext
+
+-- What opening the bytes of a buffer from `start` on, under a received tag, makes of the buffer, and whether it accepts
+-- (section 7.2): the message stands at the front, and a refusal changes no byte.
+pub record Opened (cipher : List ℕ → List ℕ) (nonce aad received : List ℕ) (start : ℕ) (old : List ℕ) (accepts : Bool) (new : List ℕ) : Type 0 where
+  pub out_of_range : length old < start → (accepts ≡ false) × (new ≡ old)
+  pub too_long : start ≤ length old → ¬ Fits (length aad) (length old - start) → (accepts ≡ false) × (new ≡ old)
+  pub right_tag : start ≤ length old → Fits (length aad) (length old - start)
+      → received ≡ tag cipher nonce aad (drop start old)
+      → (accepts ≡ true) × (new ≡ decrypted cipher nonce (drop start old) ++ drop (length old - start) old)
+  pub false_tag : start ≤ length old → Fits (length aad) (length old - start)
+      → received ≢ tag cipher nonce aad (drop start old) → (accepts ≡ false) × (new ≡ old)
+
+-- The same with the tag attached: it is the buffer's last 16 bytes, and stays.
+pub record OpenedAttached (cipher : List ℕ → List ℕ) (nonce aad : List ℕ) (start : ℕ) (old : List ℕ) (accepts : Bool) (new : List ℕ) : Type 0 where
+  pub no_tag : length old < 16 → (accepts ≡ false) × (new ≡ old)
+  pub tagged : 16 ≤ length old → let n = length old - 16 in (body : List ℕ)
+      × Opened cipher nonce aad (drop n old) start (take n old) accepts body × (new ≡ body ++ drop n old)
+
+-- the cipher blocks of a seal, or of an open that accepts, of n bytes of message
+abbrev pub sealing_blocks : ℕ → ℕ
+sealing_blocks n = (n + 15) / 16 + 1
+
+-- the field products of a seal or an open of a bytes of AAD and n bytes of message
+abbrev pub sealing_products : ℕ → ℕ → ℕ
+sealing_products a n = (a + 15) / 16 + (n + 15) / 16 + 1

@@ -1,0 +1,62 @@
+-- The product of blocks, and GHASH (SP 800-38D section 6).
+use Rattle.std.specs.Prelude.{◌≡◌, ℕ, zero, suc, ◌+◌, ◌*◌, ◌<◌, Bool, List, [], ◌∷◌, length, replicate, fold, flat_map, All, if◌then◌else◌, ◌==◌}
+use Rattle.std.specs.Int.{bit_at, to_be_bytes, w128}
+use Rattle.aead_ciphers_base.specs.Polynomial.{field_product}
+use Rattle.aead_ciphers_base.specs.Bytes.{◌⊕◌, zero_block}
+
+-- a block is 16 bytes, each below 256
+pub record IsBlock (block : List ℕ) : Type 0 where
+  pub size : length block ≡ 16
+  pub bytes : All (λ byte. byte < 256) block
+
+-- each of the list has 16 bytes
+abbrev pub AllSized : List (List ℕ) → Type 0
+AllSized [] = Unit {0}
+AllSized (x ∷ xs) = (length x ≡ 16) × AllSized xs
+
+-- the lowest k bits of n, the highest of them first
+unfoldable pub bits_high_first : ℕ → ℕ → List Bool
+bits_high_first zero n = []
+bits_high_first (suc k) n = (bit_at n k == 1) ∷ bits_high_first k n
+
+-- section 6.3: the block x_0 x_1 .. x_127, leftmost bit first, is the polynomial x_0 + x_1 u + .. + x_127 u^127
+unfoldable pub block_bits : List ℕ → List Bool
+block_bits block = flat_map (bits_high_first 8) block
+
+-- the number with these bits, the highest first
+abbrev pub number : List Bool → ℕ
+number bits = fold (λ n b. 2 * n + (if b then 1 else 0)) 0 bits
+
+-- the block with these bits, the leftmost first
+unfoldable pub block_of : List Bool → List ℕ
+block_of bits = to_be_bytes w128 (number bits)
+
+-- section 6.3: the modulus is 1 + u + u^2 + u^7 + u^128, and these are its powers below 128
+abbrev pub block_taps : List ℕ
+block_taps = 0 ∷ 1 ∷ 2 ∷ 7 ∷ []
+
+infixl 70 ◌•◌
+-- section 6.3: the product of two blocks
+unfoldable pub ◌•◌ : List ℕ → List ℕ → List ℕ
+x • y = block_of (field_product block_taps 128 (block_bits x) (block_bits y))
+
+-- the block whose product with each block is that block
+abbrev pub unit_block : List ℕ
+unit_block = 0x80 ∷ replicate 15 0
+
+-- section 6.3: the power h^k, as h^2 = h • h
+abbrev pub power : List ℕ → ℕ → List ℕ
+power h zero = unit_block
+power h (suc zero) = h
+power h (suc (suc k)) = power h (suc k) • h
+
+-- section 6.4: GHASH of the blocks X_1, .., X_m is X_1 • H^m ⊕ X_2 • H^(m - 1) ⊕ .. ⊕ X_m • H
+unfoldable pub ghash : List ℕ → List (List ℕ) → List ℕ
+ghash h [] = zero_block
+ghash h (x ∷ xs) = x • power h (length (x ∷ xs)) ⊕ ghash h xs
+
+-- the XOR of two lists of blocks, block by block
+abbrev pub xor_blocks : List (List ℕ) → List (List ℕ) → List (List ℕ)
+xor_blocks [] ys = []
+xor_blocks (x ∷ xs) [] = []
+xor_blocks (x ∷ xs) (y ∷ ys) = (x ⊕ y) ∷ xor_blocks xs ys

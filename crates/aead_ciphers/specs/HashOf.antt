@@ -1,0 +1,15 @@
+-- What contracts say of a hash that runs over a list of blocks.
+use Rattle.std.specs.Prelude.{◌≡◌, ℕ, List}
+use Rattle.aead_ciphers.specs.Ghash.{AllSized, ghash}
+
+-- xi is the GHASH of the blocks, of 16 bytes each, under the hash subkey h
+pub record IsHashOf (h : List ℕ) (blocks : List (List ℕ)) (xi : List ℕ) : Type 0 where
+  pub sized : AllSized blocks
+  pub value : ghash h blocks ≡ xi
+
+-- what a contract sees of a `Context`: its hash subkey, the lengths in bytes that its last block has, and its running block
+pub record HashState : Type 0 where
+  pub hash_key : List ℕ
+  pub aad_len : ℕ
+  pub in_out_len : ℕ
+  pub xi : List ℕ

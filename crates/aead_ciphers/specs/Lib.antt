@@ -1,0 +1,9 @@
+pub mod AeadKey
+pub mod AesGcm
+pub mod Algorithm
+pub mod Gcm
+pub mod Ghash
+pub mod HashOf
+pub mod Laws
+pub mod Lending
+pub mod Words

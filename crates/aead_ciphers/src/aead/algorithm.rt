@@ -1,0 +1,85 @@
+//! The algorithms.
+
+ghost use Rattle.std.specs.Prelude.{◌≡◌, ◌↔◌, length, IsOk, IfOk};
+ghost use Rattle.aead_ciphers_base.specs.KeyBytes.{key_bytes};
+
+use aead_ciphers_base::aes::{AES_128_KEY_LEN, AES_256_KEY_LEN, KeyBytes};
+use aead_ciphers_base::error::Unspecified;
+use aead_ciphers_base::values::{MAX_TAG_LEN, NONCE_LEN};
+use std::fmt;
+
+/// An AEAD algorithm. Two are equal where their ids are.
+#[derive(Clone, Copy, PartialEq, Eq)]
+pub struct Algorithm {
+    id: AlgorithmId,
+}
+
+#[derive(Clone, Copy, PartialEq, Eq)]
+enum AlgorithmId {
+    AES_128_GCM,
+    AES_256_GCM,
+}
+
+/// AES-128 in Galois/Counter Mode (SP 800-38D), with 12-byte nonces and 16-byte tags.
+pub static AES_128_GCM: Algorithm = Algorithm {
+    id: AlgorithmId::AES_128_GCM,
+};
+
+/// AES-256 in Galois/Counter Mode (SP 800-38D), with 12-byte nonces and 16-byte tags.
+pub static AES_256_GCM: Algorithm = Algorithm {
+    id: AlgorithmId::AES_256_GCM,
+};
+
+impl Algorithm {
+    ghost use Rattle.aead_ciphers.specs.Algorithm.{key_len};
+
+    /// The length of a key, in bytes.
+    pub fn key_len(&self) -> usize
+        ensures { result ≡ key_len self.now }
+    {
+        match self.id {
+            AlgorithmId::AES_128_GCM => AES_128_KEY_LEN,
+            AlgorithmId::AES_256_GCM => AES_256_KEY_LEN,
+        }
+    }
+
+    /// The length of a tag, in bytes.
+    pub fn tag_len(&self) -> usize
+        ensures { result ≡ 16 }
+    {
+        MAX_TAG_LEN
+    }
+
+    /// The length of a nonce, in bytes.
+    pub fn nonce_len(&self) -> usize
+        ensures { result ≡ 12 }
+    {
+        NONCE_LEN
+    }
+
+    /// The bytes of a key of this algorithm. Refused where they aren't `key_len` many.
+    pub(crate) fn key_bytes<'a>(&self, bytes: &'a [u8]) -> Result<KeyBytes<'a>, Unspecified>
+        ensures accepted { IsOk result ↔ (length bytes.now ≡ key_len self.now) }
+        ensures bytes { IfOk result (λ key. key_bytes key ≡ bytes.now) }
+    {
+        match self.id {
+            AlgorithmId::AES_128_GCM => match bytes.as_array::<AES_128_KEY_LEN>() {
+                Some(bytes) => Ok(KeyBytes::AES_128(bytes)),
+                None => Err(Unspecified),
+            },
+            AlgorithmId::AES_256_GCM => match bytes.as_array::<AES_256_KEY_LEN>() {
+                Some(bytes) => Ok(KeyBytes::AES_256(bytes)),
+                None => Err(Unspecified),
+            },
+        }
+    }
+}
+
+impl fmt::Debug for Algorithm {
+    fn fmt<W: fmt::Write>(&self, f: &mut fmt::Formatter<W>) -> fmt::Result {
+        match self.id {
+            AlgorithmId::AES_128_GCM => write!(f, "AES_128_GCM"),
+            AlgorithmId::AES_256_GCM => write!(f, "AES_256_GCM"),
+        }
+    }
+}

@@ -1,0 +1,277 @@
+//! Keys that take the nonce of each call.
+
+ghost use Rattle.std.specs.Prelude.{◌≡◌, ◌-◌, ◌≤◌, ◌↔◌, length, drop, take, is_ok, IsOk, IfOk, OnOk, OnErr};
+ghost use Rattle.std.specs.Borrow.{sem};
+ghost use Rattle.aead_ciphers_base.specs.Aes.{aes};
+ghost use Rattle.aead_ciphers_base.specs.Values.{aad_bytes};
+ghost use Rattle.aead_ciphers.specs.AesGcm.{aes_encrypted, aes_tag, aes_sealed, AesOpened, AesOpenedAttached};
+ghost use Rattle.aead_ciphers.specs.Algorithm.{key_len};
+ghost use Rattle.aead_ciphers.specs.Gcm.{Fits, decrypted};
+ghost use Rattle.aead_ciphers.specs.Lending.{LendsFront, lent_buffer};
+
+use crate::aead::algorithm::Algorithm;
+use crate::aead::in_out::InOut;
+use crate::aead::lend::front_if;
+use crate::aead::unbound_key::UnboundKey;
+use crate::aes_gcm;
+use aead_ciphers_base::aes::Work;
+use aead_ciphers_base::error::Unspecified;
+use aead_ciphers_base::values::{Aad, MAX_TAG_LEN, Nonce, Tag};
+use std::alloc::AllocError;
+use std::fmt;
+use std::marker::Model;
+use std::ops::RangeFrom;
+
+/// A key whose calls take the nonce. That no nonce comes twice under it is the caller's matter.
+#[derive(Drop)]
+pub struct LessSafeKey {
+    key: aes_gcm::Key,
+    algorithm: &'static Algorithm,
+}
+
+impl Model for LessSafeKey {
+    ghost use Rattle.aead_ciphers.specs.AeadKey.{AeadKey};
+
+    ghost Value = { AeadKey };
+
+    ghost view = { λ key. record { algorithm = key.algorithm.now; bytes = key.key } };
+}
+
+/// The same key with the same algorithm. Cloning takes no memory, and always succeeds.
+impl Clone for LessSafeKey {
+    ghost use Rattle.std.specs.Prelude.{◌≡◌, ⊤};
+
+    ghost is_clone = { λ key clone. clone ≡ key };
+
+    ghost is_infallible = { λ _. ⊤ };
+
+    fn clone(&self) -> Result<Self, AllocError> {
+        Ok(LessSafeKey {
+            key: self.key.clone()?,
+            algorithm: self.algorithm,
+        })
+    }
+}
+
+impl LessSafeKey {
+    /// The key as it was made, for use with nonces of the caller's choice.
+    pub fn new(key: UnboundKey) -> Self
+        ensures { result ≡ key }
+    {
+        key.into_inner()
+    }
+
+    pub(crate) fn new_(algorithm: &'static Algorithm, key_bytes: &[u8]) -> Result<Self, Unspecified>
+        ensures accepted { IsOk result ↔ (length key_bytes.now ≡ key_len algorithm.now) }
+        ensures made { IfOk result (λ key. key ≡ record { algorithm = algorithm.now; bytes = key_bytes.now }) }
+    {
+        let key_bytes = algorithm.key_bytes(key_bytes)?;
+        let mut work = Work::new();
+        let key = aes_gcm::Key::new(key_bytes, &mut work)?;
+        Ok(LessSafeKey { key, algorithm })
+    }
+
+    /// The algorithm that it was made with.
+    pub fn algorithm(&self) -> &'static Algorithm
+        ensures { result.now ≡ self.now.algorithm }
+    {
+        self.algorithm
+    }
+
+    /// Encrypts the buffer in place, and answers the tag of what it then holds and the AAD (SP 800-38D
+    /// algorithm 4).
+    ///
+    /// `in_out` is the message, and then the ciphertext, of as many bytes. Refused where the message is longer
+    /// than 2^36 - 32 bytes or the AAD has 2^61 bytes or more.
+    pub fn seal_in_place_separate_tag(
+        &self,
+        nonce: Nonce,
+        aad: Aad<'_>,
+        in_out: &mut [u8],
+    ) -> Result<Tag, Unspecified>
+        ensures accepted { IsOk result ↔ Fits (length (aad_bytes aad.entry)) (length in_out.old) }
+        ensures ciphertext { OnOk result (in_out.new ≡ aes_encrypted self.now.bytes nonce in_out.old) }
+        ensures tag { IfOk result (λ tag. tag ≡ aes_tag self.now.bytes nonce (aad_bytes aad.entry) in_out.new) }
+        ensures refused { OnErr result (in_out.new ≡ in_out.old) }
+    {
+        let mut work = Work::new();
+        aes_gcm::seal(&self.key, nonce, aad, in_out, &mut work)
+    }
+
+    /// Encrypts the buffer in place, and appends the tag of the ciphertext and the AAD (SP 800-38D algorithm 4).
+    ///
+    /// `in_out` is the message, and then the ciphertext followed by the tag: n bytes, then n + 16. Room for the tag
+    /// is asked for first. Refused where there is none, or else where the lengths don't fit, as in
+    /// `seal_in_place_separate_tag`.
+    pub fn seal_in_place_append_tag<B: InOut>(
+        &self,
+        nonce: Nonce,
+        aad: Aad<'_>,
+        in_out: &mut B,
+    ) -> Result<(), Unspecified>
+        ensures granted { IsOk result → B.may_grant in_out.old }
+        ensures fits { IsOk result → Fits (length (aad_bytes aad.entry)) (length (B.bytes in_out.old)) }
+        ensures sealed { OnOk result (B.bytes in_out.new
+            ≡ aes_sealed self.now.bytes nonce (aad_bytes aad.entry) (B.bytes in_out.old)) }
+        ensures refused { OnErr result (Fits (length (aad_bytes aad.entry)) (length (B.bytes in_out.old))
+            → B.may_refuse in_out.old) }
+        ensures kept { OnErr result (B.bytes in_out.new ≡ B.bytes in_out.old) }
+    {
+        in_out.grow_by_tag()?;
+        self.seal_with_room(nonce, aad, in_out)
+    }
+
+    /// Encrypts all but the last 16 bytes, and writes the tag over those. Where the lengths don't fit, they are cut.
+    pub(crate) fn seal_with_room<B: InOut>(
+        &self,
+        nonce: Nonce,
+        aad: Aad<'_>,
+        in_out: &mut B,
+    ) -> Result<(), Unspecified>
+        requires { 16 ≤ length (B.bytes in_out.old) }
+        ensures accepted { IsOk result ↔ Fits (length (aad_bytes aad.entry)) (length (B.bytes in_out.old) - 16) }
+        ensures sealed { let message = take (length (B.bytes in_out.old) - 16) (B.bytes in_out.old) in
+            OnOk result (B.bytes in_out.new ≡ aes_sealed self.now.bytes nonce (aad_bytes aad.entry) message) }
+        ensures kept { let message = take (length (B.bytes in_out.old) - 16) (B.bytes in_out.old) in
+            OnErr result (B.bytes in_out.new ≡ message) }
+    {
+        let bytes = in_out.as_mut_bytes();
+        let message_len = bytes.len() - MAX_TAG_LEN;
+        let (message, room) = bytes.split_at_mut(message_len);
+        match self.seal_in_place_separate_tag(nonce, aad, message) {
+            Ok(tag) => {
+                room.copy_from_slice(tag.as_ref());
+                Ok(())
+            }
+            Err(error) => {
+                in_out.cut_tag();
+                Err(error)
+            }
+        }
+    }
+
+    /// Opens the ciphertext that is the buffer from `ciphertext.start` on (SP 800-38D algorithm 5), and gives the
+    /// plaintext at the front of the buffer for writing. Bytes behind the plaintext stay.
+    ///
+    /// Refused, in this order and with the buffer as it came, where the start is out of range, where the lengths
+    /// don't fit (as in `seal_in_place_separate_tag`), and where the tag isn't that of the ciphertext and the AAD.
+    pub fn open_in_place_separate_tag<'a>(
+        &self,
+        nonce: Nonce,
+        aad: Aad<'_>,
+        tag: Tag,
+        in_out: &'a mut [u8],
+        ciphertext: RangeFrom<usize>,
+    ) -> Result<&'a mut [u8], Unspecified>
+        ensures* writes_back { sem 𝓛 (LendsFront in_out.entry result (length in_out.old - ciphertext.start)) }
+        ensures opened { AesOpened self.now.bytes nonce (aad_bytes aad.entry) tag ciphertext.start
+            in_out.old (is_ok result) (lent_buffer result in_out.old) }
+        ensures plaintext { IfOk result (λ plaintext. plaintext.now
+            ≡ decrypted (aes self.now.bytes) nonce (drop ciphertext.start in_out.old)) }
+    {
+        let opened = self.open_in_place_separate_tag_len(nonce, aad, tag, in_out, ciphertext);
+        front_if(in_out, opened)
+    }
+
+    /// `open_in_place_separate_tag` that answers the length of the plaintext, which stands at the front of the buffer.
+    /// This call is this library's own.
+    pub fn open_in_place_separate_tag_len(
+        &self,
+        nonce: Nonce,
+        aad: Aad<'_>,
+        tag: Tag,
+        in_out: &mut [u8],
+        ciphertext: RangeFrom<usize>,
+    ) -> Result<usize, Unspecified>
+        ensures opened { AesOpened self.now.bytes nonce (aad_bytes aad.entry) tag ciphertext.start
+            in_out.old (is_ok result) in_out.new }
+        ensures count { IfOk result (λ n. n ≡ length in_out.old - ciphertext.start) }
+    {
+        let len = in_out.len();
+        let start = ciphertext.start;
+        let mut work = Work::new();
+        aes_gcm::open(&self.key, nonce, aad, tag, in_out, ciphertext, &mut work)?;
+        Ok(len - start)
+    }
+
+    /// The same with the tag attached: it is the last 16 bytes of the buffer, and stays.
+    ///
+    /// A buffer of fewer than 16 bytes is refused before all else.
+    pub fn open_within<'a>(
+        &self,
+        nonce: Nonce,
+        aad: Aad<'_>,
+        in_out: &'a mut [u8],
+        ciphertext_and_tag: RangeFrom<usize>,
+    ) -> Result<&'a mut [u8], Unspecified>
+        ensures* writes_back { sem 𝓛 (LendsFront in_out.entry result (length in_out.old - 16 - ciphertext_and_tag.start)) }
+        ensures opened { AesOpenedAttached self.now.bytes nonce (aad_bytes aad.entry) ciphertext_and_tag.start
+            in_out.old (is_ok result) (lent_buffer result in_out.old) }
+        ensures plaintext { IfOk result (λ plaintext. plaintext.now
+            ≡ decrypted (aes self.now.bytes) nonce (drop ciphertext_and_tag.start (take (length in_out.old - 16) in_out.old))) }
+    {
+        let opened = self.open_within_len(nonce, aad, in_out, ciphertext_and_tag);
+        front_if(in_out, opened)
+    }
+
+    /// `open_within` that answers the length of the plaintext, which stands at the front of the buffer. This call is
+    /// this library's own.
+    pub fn open_within_len(
+        &self,
+        nonce: Nonce,
+        aad: Aad<'_>,
+        in_out: &mut [u8],
+        ciphertext_and_tag: RangeFrom<usize>,
+    ) -> Result<usize, Unspecified>
+        ensures opened { AesOpenedAttached self.now.bytes nonce (aad_bytes aad.entry) ciphertext_and_tag.start
+            in_out.old (is_ok result) in_out.new }
+        ensures count { IfOk result (λ n. n ≡ length in_out.old - 16 - ciphertext_and_tag.start) }
+    {
+        match in_out.split_last_chunk_mut::<MAX_TAG_LEN>() {
+            Some((before_tag, tag)) => {
+                let tag = Tag::from(*tag);
+                self.open_in_place_separate_tag_len(nonce, aad, tag, before_tag, ciphertext_and_tag)
+            }
+            None => Err(Unspecified),
+        }
+    }
+
+    /// `open_within` of the whole buffer.
+    pub fn open_in_place<'a>(
+        &self,
+        nonce: Nonce,
+        aad: Aad<'_>,
+        in_out: &'a mut [u8],
+    ) -> Result<&'a mut [u8], Unspecified>
+        ensures* writes_back { sem 𝓛 (LendsFront in_out.entry result (length in_out.old - 16)) }
+        ensures opened { AesOpenedAttached self.now.bytes nonce (aad_bytes aad.entry) 0
+            in_out.old (is_ok result) (lent_buffer result in_out.old) }
+        ensures plaintext { IfOk result (λ plaintext. plaintext.now
+            ≡ decrypted (aes self.now.bytes) nonce (take (length in_out.old - 16) in_out.old)) }
+    {
+        let opened = self.open_in_place_len(nonce, aad, in_out);
+        front_if(in_out, opened)
+    }
+
+    /// `open_in_place` that answers the length of the plaintext, which stands at the front of the buffer. This call is
+    /// this library's own.
+    pub fn open_in_place_len(
+        &self,
+        nonce: Nonce,
+        aad: Aad<'_>,
+        in_out: &mut [u8],
+    ) -> Result<usize, Unspecified>
+        ensures opened { AesOpenedAttached self.now.bytes nonce (aad_bytes aad.entry) 0
+            in_out.old (is_ok result) in_out.new }
+        ensures count { IfOk result (λ n. n ≡ length in_out.old - 16) }
+    {
+        self.open_within_len(nonce, aad, in_out, 0..)
+    }
+}
+
+impl fmt::Debug for LessSafeKey {
+    fn fmt<W: fmt::Write>(&self, f: &mut fmt::Formatter<W>) -> fmt::Result {
+        let algorithm = self.algorithm;
+        write!(f, "LessSafeKey {{ algorithm: {algorithm:?} }}")
+    }
+}

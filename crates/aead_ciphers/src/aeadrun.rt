@@ -1,0 +1,94 @@
+//! The program `aeadrun`: it reads commands in lines and answers each by a line.
+//!
+//! A line is read whole before anything is done, so a line with a bad word changes nothing.
+
+ghost use Rattle.std.specs.Prelude.{◌≤◌};
+
+use std::alloc::{AllocError, Global};
+use std::io;
+use std::io::{BufRead, Write};
+
+mod answers;
+mod line;
+#[cfg(test)]
+mod tests;
+mod words;
+
+use self::answers::answer;
+pub use self::words::{bytes, text};
+
+/// The exit status where each line was a command.
+const ALL_ANSWERED: u8 = 0;
+
+/// The exit status where a line was none.
+const BAD_LINE: u8 = 1;
+
+/// The exit status where reading or writing failed, or memory was refused.
+pub const FAULT: u8 = 2;
+
+/// Why the program stops before its input ends.
+#[derive(Drop)]
+struct Fault;
+
+impl From<AllocError> for Fault {
+    fn from(_error: AllocError) -> Fault {
+        Fault
+    }
+}
+
+impl From<io::Error> for Fault {
+    fn from(_error: io::Error) -> Fault {
+        Fault
+    }
+}
+
+/// Answers each line of `input` by a line of `output`, and gives the exit status.
+///
+/// A line ends at LF, and the last one may lack it. The answers stop at the first failure, and what was
+/// written by then is a beginning of what would have been written. `output` is flushed in every case.
+pub fn lines<R: BufRead, W: Write>(alloc: Global, input: &mut R, output: &mut W) -> u8
+    ensures { result ≤ FAULT }
+{
+    let outcome = answer_lines(alloc, input, output);
+    let flushed = output.flush();
+    match (outcome, flushed) {
+        (Ok(true), Ok(())) => ALL_ANSWERED,
+        (Ok(false), Ok(())) => BAD_LINE,
+        _ => FAULT,
+    }
+}
+
+/// Answers each line, and says whether each was a command.
+fn answer_lines<R: BufRead, W: Write>(
+    alloc: Global,
+    input: &mut R,
+    output: &mut W,
+) -> Result<bool, Fault> {
+    let mut line = Vec::new(alloc);
+    let mut all_answered = true;
+    for _ in 0..u64::MAX {
+        if !read_line(input, &mut line)? {
+            break;
+        }
+        match answer(alloc, line.as_slice())? {
+            Some(answer) => writeln!(output, "{answer}")?,
+            None => {
+                writeln!(output, "bad line")?;
+                all_answered = false;
+            }
+        }
+    }
+    Ok(all_answered)
+}
+
+/// Reads the next line into `line` without its LF, and says whether there was one.
+fn read_line<R: BufRead>(input: &mut R, line: &mut Vec<u8>) -> io::Result<bool> {
+    line.clear();
+    if input.read_until(b'\n', line)? == 0 {
+        return Ok(false);
+    }
+    if line.last() == Some(&b'\n') {
+        let _ = line.pop();
+    }
+    Ok(true)
+}

@@ -1,0 +1,300 @@
+use super::{FAULT, lines};
+use std::alloc::Global;
+use std::io::{self, BufReader, BufWriter, Read, Write};
+use std::process::Abort;
+use std::test::Fail;
+
+// The key, nonce, AAD and plaintext of the GCM specification's test case 4, and what they give.
+const KEY: &str = "feffe9928665731c6d6a8f9467308308";
+
+const NONCE: &str = "cafebabefacedbaddecaf888";
+
+const AAD: &str = "feedfacedeadbeeffeedfacedeadbeefabaddad2";
+
+const PLAINTEXT: &str =
+    "d9313225f88406e5a55909c5aff5269a86a7a9531534f7da2e4c303d8a318a721c3c0c95956809532fcf0e2449a6b525b16aedf5aa0de657ba637b39";
+
+const CIPHERTEXT: &str =
+    "42831ec2217774244b7221b784d0d49ce3aa212f2c02a4e035c17e2329aca12e21d514b25466931c7d8f6a5aac84aa051ba30b396a0aac973d58e091";
+
+const TAG: &str = "5bc94fbc3221a5db94fae95ae7121a47";
+
+// 16 and 12 zero bytes.
+const ZERO_BLOCK: &str = "00000000000000000000000000000000";
+
+const ZERO_NONCE: &str = "000000000000000000000000";
+
+// Lines of each kind, for the tests of failing streams.
+const MIXED_LINES: &[u8] = b"seal 128 00 - - -\nseal 256 00\n\nseal 128 00 00 - -";
+
+/// Runs the program on an input: the exit status, and what it printed.
+fn run(alloc: Global, input: &[u8]) -> Result<(u8, String), Fail> {
+    let mut input = input;
+    let mut output = Vec::new(alloc);
+    let status = lines(alloc, &mut input, &mut output);
+    Ok((status, String::from_utf8(output)?))
+}
+
+#[test]
+fn gcm_spec_cases(rt: HostRuntime) -> Result<(), Fail> {
+    let alloc = rt.alloc();
+    let input = format!(in alloc;
+        "seal 128 {ZERO_BLOCK} {ZERO_NONCE} - -\n\
+         seal 128 {ZERO_BLOCK} {ZERO_NONCE} - {ZERO_BLOCK}\n\
+         seal 128 {KEY} {NONCE} - {PLAINTEXT}1aafd255\n\
+         seal 128 {KEY} {NONCE} {AAD} {PLAINTEXT}\n\
+         seal 256 {ZERO_BLOCK}{ZERO_BLOCK} {ZERO_NONCE} - -\n\
+         seal 256 {ZERO_BLOCK}{ZERO_BLOCK} {ZERO_NONCE} - {ZERO_BLOCK}\n\
+         seal 256 {KEY}{KEY} {NONCE} {AAD} {PLAINTEXT}\n"
+    )?;
+    let (status, printed) = run(alloc, input.as_bytes())?;
+    let answers = format!(in alloc;
+        "ok - 58e2fccefa7e3061367f1d57a4e7455a\n\
+         ok 0388dace60b6a392f328c2b971b2fe78 ab6e47d42cec13bdf53a67b21257bddf\n\
+         ok {CIPHERTEXT}473f5985 4d5c2af327cd64a62cf35abd2ba6fab4\n\
+         ok {CIPHERTEXT} {TAG}\n\
+         ok - 530f8afbc74536b9a963b4f1c4cb738b\n\
+         ok cea7403d4d606b6e074ec5d3baf39d18 d0d1c8a799996bf0265b98b5d48ab919\n\
+         ok 522dc1f099567d07f47f37a32a84427d643a8cdcbfe5c0c97598a2bd2555d1aa\
+         8cb08e48590dbb3da7b08b1056828838c5f61e6393ba7a0abcc9f662 76fc6ece0f4e1768cddf8853bb2d551b\n"
+    )?;
+    assert_eq!(rt; printed.as_str(), answers.as_str());
+    assert_eq!(rt; status, 0);
+    Ok(())
+}
+
+#[test]
+fn digits_of_either_case(rt: HostRuntime) -> Result<(), Fail> {
+    let alloc = rt.alloc();
+    let lower = format!(in alloc; "seal 128 {KEY} {NONCE} {AAD} abcdef")?;
+    let mixed = format!(in alloc; "seal 128 {KEY} CAFEBABEfacedbadDECAF888 {AAD} aBCdEF")?;
+    let (status, printed) = run(alloc, lower.as_bytes())?;
+    assert_eq!(rt; status, 0);
+    let (status, again) = run(alloc, mixed.as_bytes())?;
+    assert_eq!(rt; status, 0);
+    assert_eq!(rt; again.as_str(), printed.as_str());
+    Ok(())
+}
+
+#[test]
+fn refusals_are_no_bad_lines(rt: HostRuntime) -> Result<(), Fail> {
+    let alloc = rt.alloc();
+    let input = format!(in alloc;
+        "seal 128 00 00 - -\n\
+         seal 256 {KEY} {NONCE} - -\n\
+         seal 128 {KEY}{KEY} {NONCE} - -\n\
+         seal 128 - {NONCE} - -\n\
+         seal 128 {KEY} - - -\n\
+         seal 128 {KEY} {NONCE}00 - -\n"
+    )?;
+    let (status, printed) = run(alloc, input.as_bytes())?;
+    assert_eq!(rt;
+        printed.as_str(),
+        "refused\nrefused\nrefused\nrefused\nrefused\nrefused\n"
+    );
+    assert_eq!(rt; status, 0);
+    Ok(())
+}
+
+#[test]
+fn bad_lines(rt: HostRuntime) -> Result<(), Fail> {
+    let lines: [&[u8]; 24] = [
+        b"\n",
+        b" \n",
+        b"seal\n",
+        b"seal 128 00 -\n",
+        b"seal 128 00 00 - - -\n",
+        b"seal 128 00 00 - - \n",
+        b" seal 128 00 00 - -\n",
+        b"seal 128 00  00 - -\n",
+        b"seal\t128 00 00 - -\n",
+        b"seal 128 00 00 - -\r\n",
+        b"seal 128 00 00 - -\0\n",
+        b"\xef\xbb\xbfseal 128 00 00 - -\n",
+        b"seal 128 00 00 - \xff\n",
+        b"Seal 128 00 00 - -\n",
+        b"seal 192 00 00 - -\n",
+        b"seal 0128 00 00 - -\n",
+        b"seal 128 0 00 - -\n",
+        b"seal 128 00 000 - -\n",
+        b"seal 128 00 00 zz -\n",
+        b"seal 128 00 00 - zz\n",
+        b"seal 128 00 00 - --\n",
+        b"seal 128 00 00 - 0x\n",
+        b"seal 128 00 00 - +1\n",
+        b"seal 128 00 00 - \xef\xbc\x90\xef\xbc\x90",
+    ];
+    for line in lines {
+        let (status, printed) = run(rt.alloc(), line)?;
+        assert_eq!(rt; printed.as_str(), "bad line\n", "for {line:?}");
+        assert_eq!(rt; status, 1);
+    }
+    Ok(())
+}
+
+#[test]
+fn goes_on_after_a_bad_line(rt: HostRuntime) -> Result<(), Fail> {
+    let (status, printed) = run(rt.alloc(), MIXED_LINES)?;
+    assert_eq!(rt; printed.as_str(), "refused\nbad line\nbad line\nrefused\n");
+    assert_eq!(rt; status, 1);
+    Ok(())
+}
+
+#[test]
+fn no_input_has_no_answer(rt: HostRuntime) -> Result<(), Fail> {
+    let (status, printed) = run(rt.alloc(), b"")?;
+    assert_eq!(rt; printed.as_str(), "");
+    assert_eq!(rt; status, 0);
+    Ok(())
+}
+
+#[test]
+fn a_message_of_a_mebibyte(rt: HostRuntime) -> Result<(), Fail> {
+    const LEN: usize = 1 << 20;
+    let alloc = rt.alloc();
+    let message = vec![in alloc; b'0'; 2 * LEN]?;
+    let message = String::from_utf8(message)?;
+    let input = format!(in alloc; "seal 128 {ZERO_BLOCK} {ZERO_NONCE} - {message}\n")?;
+    let (status, printed) = run(alloc, input.as_bytes())?;
+    assert_eq!(rt; status, 0);
+    assert_eq!(rt;
+        printed.len(),
+        "ok ".len() + 2 * LEN + " ".len() + ZERO_BLOCK.len() + "\n".len()
+    );
+    assert!(rt;
+        printed
+            .as_str()
+            .starts_with("ok 0388dace60b6a392f328c2b971b2fe78")
+    );
+    Ok(())
+}
+
+// Gives its bytes, and fails once, at the call after `calls_left` more.
+#[derive(Drop)]
+struct FailingReader<'a> {
+    rest: &'a [u8],
+    calls_left: Option<u32>,
+}
+
+// Keeps what is written, at most three bytes a call, and fails once, at the call after `calls_left` more.
+#[derive(Drop)]
+struct FailingWriter {
+    written: Vec<u8>,
+    calls_left: Option<u32>,
+}
+
+fn failing_writer(alloc: Global, calls_left: u32) -> FailingWriter {
+    FailingWriter {
+        written: Vec::new(alloc),
+        calls_left: Some(calls_left),
+    }
+}
+
+/// Counts a call, and fails where none was left.
+fn count_call(calls_left: &mut Option<u32>) -> io::Result<()> {
+    match *calls_left {
+        Some(0) => {
+            *calls_left = None;
+            Err(io::Error::from(io::ErrorKind::BrokenPipe))
+        }
+        Some(count) => {
+            *calls_left = Some(count - 1);
+            Ok(())
+        }
+        None => Ok(()),
+    }
+}
+
+impl Read for FailingReader<'_> {
+    fn read(&mut self, buf: &mut [u8]) -> io::Result<usize> {
+        count_call(&mut self.calls_left)?;
+        self.rest.read(buf)
+    }
+}
+
+impl Write for FailingWriter {
+    fn write(&mut self, buf: &[u8]) -> io::Result<usize> {
+        count_call(&mut self.calls_left)?;
+        let count = buf.len().min(3);
+        self.written.extend_from_slice(&buf[..count])?;
+        Ok(count)
+    }
+
+    fn flush(&mut self) -> io::Result<()> {
+        count_call(&mut self.calls_left)
+    }
+}
+
+/// Whether a run ended with a fault. What it printed is then a beginning of what the whole run prints.
+fn is_cut_short(rt: &impl Abort, status: u8, printed: &str, whole: &(u8, String)) -> bool {
+    if status == FAULT {
+        assert!(rt; whole.1.as_str().starts_with(printed));
+        return true;
+    }
+    assert_eq!(rt; status, whole.0);
+    assert_eq!(rt; printed, whole.1.as_str());
+    false
+}
+
+#[test]
+fn a_failed_read_ends_the_run(rt: HostRuntime) -> Result<(), Fail> {
+    let alloc = rt.alloc();
+    let whole = run(alloc, MIXED_LINES)?;
+    let mut faults = 0;
+    for calls in 0..40 {
+        let reader = FailingReader {
+            rest: MIXED_LINES,
+            calls_left: Some(calls),
+        };
+        let mut input = BufReader::with_capacity(alloc, 4, reader)?;
+        let mut output = Vec::new(alloc);
+        let status = lines(alloc, &mut input, &mut output);
+        let printed = String::from_utf8(output)?;
+        if is_cut_short(&rt, status, printed.as_str(), &whole) {
+            assert_eq!(rt; calls, faults);
+            faults = calls + 1;
+        }
+    }
+    assert_eq!(rt; faults, 15, "13 reads of 4 bytes, and the end twice");
+    Ok(())
+}
+
+#[test]
+fn a_failed_write_ends_the_run(rt: HostRuntime) -> Result<(), Fail> {
+    let alloc = rt.alloc();
+    let whole = run(alloc, MIXED_LINES)?;
+    let mut faults = 0;
+    for calls in 0..40 {
+        let mut input = MIXED_LINES;
+        let mut output = failing_writer(alloc, calls);
+        let status = lines(alloc, &mut input, &mut output);
+        let printed = String::from_utf8(output.written)?;
+        if is_cut_short(&rt, status, printed.as_str(), &whole) {
+            assert_eq!(rt; calls, faults);
+            faults = calls + 1;
+        }
+    }
+    assert_eq!(rt; faults, 15, "14 writes of 3 bytes or less, and the flush");
+    Ok(())
+}
+
+#[test]
+fn a_failed_write_of_a_buffer_ends_the_run(rt: HostRuntime) -> Result<(), Fail> {
+    let alloc = rt.alloc();
+    let whole = run(alloc, MIXED_LINES)?;
+    let mut faults = 0;
+    for calls in 0..40 {
+        let mut input = MIXED_LINES;
+        let mut writer = failing_writer(alloc, calls);
+        let mut output = BufWriter::with_capacity(alloc, 16, &mut writer)?;
+        let status = lines(alloc, &mut input, &mut output);
+        drop(output);
+        let printed = String::from_utf8(writer.written)?;
+        if is_cut_short(&rt, status, printed.as_str(), &whole) {
+            assert_eq!(rt; calls, faults);
+            faults = calls + 1;
+        }
+    }
+    assert_eq!(rt; faults, 14, "13 writes of 3 bytes or less, and the flush");
+    Ok(())
+}

@@ -1,0 +1,130 @@
+//! AES-GCM with 12-byte nonces and 16-byte tags (SP 800-38D section 7), in place.
+
+ghost use Rattle.std.specs.Prelude.{◌≡◌, ◌≤◌, ◌-◌, ◌+◌, ◌↔◌, length, IsOk, IfOk, OnOk, OnErr, is_ok, ⊤};
+ghost use Rattle.aead_ciphers_base.specs.KeyBytes.{key_bytes};
+ghost use Rattle.aead_ciphers_base.specs.Values.{aad_bytes};
+ghost use Rattle.aead_ciphers_base.specs.Work.{Adds, Room, HasRoom};
+ghost use Rattle.aead_ciphers.specs.AesGcm.{AesOpened, aes_encrypted, aes_tag};
+ghost use Rattle.aead_ciphers.specs.Gcm.{Fits, sealing_blocks, sealing_products};
+
+mod counter_mode;
+mod hash;
+mod opening;
+mod sealing;
+
+use crate::gcm;
+use aead_ciphers_base::aes::{self, EncryptBlock, KeyBytes, Work, ZERO_BLOCK};
+use aead_ciphers_base::error::Unspecified;
+use aead_ciphers_base::values::{Aad, Nonce, Tag};
+use std::alloc::AllocError;
+use std::marker::Model;
+use std::ops::RangeFrom;
+
+/// A key of AES-GCM: the expanded AES key, and the hash subkey that it makes.
+#[derive(Drop)]
+pub struct Key {
+    aes: aes::Key,
+    gcm: gcm::Key,
+}
+
+impl Model for Key {
+    ghost use Rattle.std.specs.Prelude.{◌≡◌, ℕ, List};
+    ghost use Rattle.aead_ciphers_base.specs.Aes.{aes as aes_cipher};
+    ghost use Rattle.aead_ciphers_base.specs.Bytes.{zero_block};
+
+    ghost Value = { List ℕ };
+
+    ghost view = { λ key. key.aes };
+
+    ghost invariant = { λ key. key.gcm ≡ aes_cipher key.aes zero_block };
+}
+
+impl Clone for Key {
+    ghost is_clone = { λ x y. y ≡ x };
+
+    ghost is_infallible = { λ _. ⊤ };
+
+    fn clone(&self) -> Result<Self, AllocError> {
+        Ok(Key {
+            aes: self.aes.clone()?,
+            gcm: self.gcm.clone()?,
+        })
+    }
+}
+
+impl Key {
+    /// Expands a key of 16 or 32 bytes, and makes its hash subkey by one cipher block (SP 800-38D
+    /// section 7.1 step 1). It is never refused.
+    pub fn new(bytes: KeyBytes<'_>, work: &mut Work) -> Result<Key, Unspecified>
+        requires { Room work.old 1 0 }
+        ensures accepted { IsOk result }
+        ensures made { IfOk result (λ key. key ≡ key_bytes bytes.entry) }
+        ensures worked { Adds work.old work.new 1 0 }
+    {
+        let aes = aes::Key::new(bytes)?;
+        let subkey = aes.encrypt_block(ZERO_BLOCK, work);
+        let gcm = gcm::Key::new(gcm::KeyValue::new(subkey));
+        Ok(Key { aes, gcm })
+    }
+}
+
+/// Encrypts the buffer in place, and answers the tag of 16 bytes (SP 800-38D section 7.1). Refused
+/// where the buffer is above 2^36 - 32 bytes or the AAD has 2^61 bytes or more: then no byte of the
+/// buffer is changed.
+pub fn seal(
+    key: &Key,
+    nonce: Nonce,
+    aad: Aad<'_>,
+    in_out: &mut [u8],
+    work: &mut Work,
+) -> Result<Tag, Unspecified>
+    requires { HasRoom work.old }
+    ensures accepted { IsOk result ↔ Fits (length (aad_bytes aad.entry)) (length in_out.old) }
+    ensures ciphertext { OnOk result (in_out.new ≡ aes_encrypted key.now nonce in_out.old) }
+    ensures tag { IfOk result (λ t. t ≡ aes_tag key.now nonce (aad_bytes aad.entry) in_out.new) }
+    ensures refused { OnErr result (in_out.new ≡ in_out.old) }
+    ensures worked { OnOk result
+        (let n = length in_out.old in let a = length (aad_bytes aad.entry) in
+        Adds work.old work.new (sealing_blocks n) (sealing_products a n)) }
+    ensures idle { OnErr result (Adds work.old work.new 0 0) }
+{
+    sealing::seal_with(&key.aes, &key.gcm, nonce, aad, in_out, work)
+}
+
+/// Opens the bytes from `src.start` on (SP 800-38D section 7.2): compares their tag with the received
+/// one, and then decrypts them to the front of the buffer. Refused, in this order, where the start is
+/// past the end, where the lengths don't fit as in `seal`, and where the tag is false: then no byte of
+/// the buffer is changed.
+pub fn open(
+    key: &Key,
+    nonce: Nonce,
+    aad: Aad<'_>,
+    received_tag: Tag,
+    in_out: &mut [u8],
+    src: RangeFrom<usize>,
+    work: &mut Work,
+) -> Result<(), Unspecified>
+    requires { HasRoom work.old }
+    ensures opened { AesOpened key.now nonce (aad_bytes aad.entry) received_tag src.start in_out.old
+        (is_ok result) in_out.new }
+    ensures worked { OnOk result
+        (let n = length in_out.old - src.start in let a = length (aad_bytes aad.entry) in
+        Adds work.old work.new (sealing_blocks n) (sealing_products a n)) }
+    ensures compared { src.start ≤ length in_out.old →
+        let n = length in_out.old - src.start in let a = length (aad_bytes aad.entry) in
+        Fits a n → OnErr result (Adds work.old work.new 1 (sealing_products a n)) }
+    ensures idle { ¬ ((src.start ≤ length in_out.old)
+        × Fits (length (aad_bytes aad.entry)) (length in_out.old - src.start)) →
+        Adds work.old work.new 0 0 }
+{
+    opening::open_with(
+        &key.aes,
+        &key.gcm,
+        nonce,
+        aad,
+        received_tag,
+        in_out,
+        src,
+        work,
+    )
+}

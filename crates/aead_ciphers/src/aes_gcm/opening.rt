@@ -1,0 +1,56 @@
+//! Opening over any cipher and hash (SP 800-38D section 7.2).
+
+ghost use Rattle.std.specs.Prelude.{◌≡◌, ◌≤◌, ◌-◌, length, OnOk, OnErr, is_ok};
+ghost use Rattle.aead_ciphers_base.specs.Bytes.{zero_block};
+ghost use Rattle.aead_ciphers_base.specs.Values.{aad_bytes};
+ghost use Rattle.aead_ciphers_base.specs.Work.{Adds, HasRoom};
+ghost use Rattle.aead_ciphers.specs.Gcm.{Fits, Opened, sealing_blocks, sealing_products};
+
+use super::counter_mode::encrypt_within;
+use super::hash::{absorb, finish};
+use crate::gcm::{Context, UpdateBlocks};
+use aead_ciphers_base::aes::{Counter, EncryptCtr32, Work};
+use aead_ciphers_base::bb;
+use aead_ciphers_base::error::Unspecified;
+use aead_ciphers_base::values::{Aad, Nonce, Tag};
+use std::ops::RangeFrom;
+
+/// Compares the tag of the bytes from `src.start` on, and then decrypts them to the front. Refused
+/// where the start is out of range, where the lengths don't fit and where the tag is false.
+pub(super) fn open_with<A: EncryptCtr32, G: UpdateBlocks>(
+    aes: &A,
+    gcm: &G,
+    nonce: Nonce,
+    aad: Aad<'_>,
+    received_tag: Tag,
+    in_out: &mut [u8],
+    src: RangeFrom<usize>,
+    work: &mut Work,
+) -> Result<(), Unspecified>
+    requires room { HasRoom work.old }
+    requires subkey { G.hash_key gcm.now ≡ A.cipher aes.now zero_block }
+    ensures opened { Opened (A.cipher aes.now) nonce (aad_bytes aad.entry) received_tag src.start
+        in_out.old (is_ok result) in_out.new }
+    ensures worked { OnOk result
+        (let n = length in_out.old - src.start in
+        Adds work.old work.new (sealing_blocks n) (sealing_products (length (aad_bytes aad.entry)) n)) }
+    ensures compared { src.start ≤ length in_out.old →
+        let n = length in_out.old - src.start in let a = length (aad_bytes aad.entry) in
+        Fits a n → OnErr result (Adds work.old work.new 1 (sealing_products a n)) }
+    ensures idle { ¬ ((src.start ≤ length in_out.old)
+        × Fits (length (aad_bytes aad.entry)) (length in_out.old - src.start)) →
+        Adds work.old work.new 0 0 }
+{
+    let start = src.start;
+    if start > in_out.len() {
+        return Err(Unspecified);
+    }
+    let mut auth = Context::new(gcm, aad, in_out.len() - start, work)?;
+    let mut counter = Counter::one(nonce);
+    let tag_iv = counter.increment();
+    absorb(&mut auth, &in_out[start..], work);
+    let tag = finish(aes, auth, tag_iv, work);
+    bb::verify_slices_are_equal(tag.as_ref(), received_tag.as_ref())?;
+    encrypt_within(aes, counter, in_out, start, work);
+    Ok(())
+}

@@ -1,0 +1,159 @@
+//! GHASH (SP 800-38D section 6.4), over the blocks of an AAD and a ciphertext.
+
+ghost use Rattle.std.specs.Prelude.{◌≡◌, ℕ, ◌+◌, ◌/◌, List, [], ◌∷◌, ◌++◌, length, ⊤};
+ghost use Rattle.std.specs.Int.{to_be_bytes, w128};
+ghost use Rattle.aead_ciphers_base.specs.Blocks.{blocks};
+ghost use Rattle.aead_ciphers_base.specs.Work.{Adds, Room};
+ghost use Rattle.aead_ciphers.specs.HashOf.{IsHashOf};
+
+mod context;
+mod product;
+#[cfg(test)]
+mod tests;
+
+use aead_ciphers_base::aes::{BLOCK_LEN, Block, Work, ZERO_BLOCK};
+use aead_ciphers_base::polyfill::slice::AsChunks;
+pub(crate) use context::padded;
+pub use context::{Context, MAX_IN_OUT_LEN};
+use std::alloc::AllocError;
+use std::marker::Model;
+
+/// A hash subkey, H of SP 800-38D: 16 bytes.
+#[derive(Drop)]
+pub struct KeyValue {
+    block: Block,
+}
+
+impl Model for KeyValue {
+    ghost use Rattle.std.specs.Prelude.{ℕ, List};
+
+    ghost Value = { List ℕ };
+
+    ghost view = { λ value. value.block };
+}
+
+impl KeyValue {
+    /// The hash subkey of these bytes.
+    pub fn new(block: Block) -> Self
+        ensures { result ≡ block }
+    {
+        KeyValue { block }
+    }
+}
+
+/// The running block of a hash: 16 bytes.
+#[derive(Drop)]
+pub struct Xi {
+    block: Block,
+}
+
+impl Model for Xi {
+    ghost use Rattle.std.specs.Prelude.{ℕ, List};
+
+    ghost Value = { List ℕ };
+
+    ghost view = { λ xi. xi.block };
+}
+
+impl Xi {
+    /// The GHASH of no block.
+    pub fn zero() -> Self
+        ensures { (h : List ℕ) → IsHashOf h [] result }
+    {
+        Xi { block: ZERO_BLOCK }
+    }
+
+    /// Its bytes.
+    pub fn as_ref(&self) -> &Block
+        ensures { result.now ≡ self.now }
+    {
+        &self.block
+    }
+}
+
+/// A hash that takes one block.
+pub trait UpdateBlock {
+    // The hash subkey.
+    ghost hash_key: { Self → List ℕ };
+
+    /// Takes in one block, by one field product.
+    fn update_block(&self, xi: &mut Xi, block: Block, work: &mut Work)
+        requires { Room work.old 0 1 }
+        ensures hashed { (done : List (List ℕ)) → IsHashOf (hash_key self.now) done xi.old
+            → IsHashOf (hash_key self.now) (done ++ block ∷ []) xi.new }
+        ensures worked { Adds work.old work.new 0 1 };
+}
+
+/// A hash that takes many blocks.
+pub trait UpdateBlocks: UpdateBlock {
+    /// Takes in the blocks in order, by one field product each.
+    fn update_blocks(&self, xi: &mut Xi, input: AsChunks<'_, u8, BLOCK_LEN>, work: &mut Work)
+        requires { Room work.old 0 (length input.items.now / 16) }
+        ensures hashed { (done : List (List ℕ)) → IsHashOf (Self.hash_key self.now) done xi.old
+            → IsHashOf (Self.hash_key self.now) (done ++ blocks 16 input.entry.items.now) xi.new }
+        ensures worked { Adds work.old work.new 0 (length input.entry.items.now / 16) };
+}
+
+/// GHASH under a hash subkey.
+#[derive(Drop)]
+pub struct Key {
+    h: u128,
+}
+
+impl Model for Key {
+    ghost use Rattle.std.specs.Prelude.{ℕ, List};
+    ghost use Rattle.std.specs.Int.{to_be_bytes, w128};
+
+    ghost Value = { List ℕ };
+
+    ghost view = { λ key. to_be_bytes w128 key.h };
+}
+
+impl Clone for Key {
+    ghost is_clone = { λ x y. y ≡ x };
+
+    ghost is_infallible = { λ _. ⊤ };
+
+    fn clone(&self) -> Result<Self, AllocError> {
+        Ok(Key { h: self.h })
+    }
+}
+
+impl Key {
+    /// GHASH under this hash subkey.
+    pub fn new(value: KeyValue) -> Self
+        ensures { result ≡ value }
+    {
+        Key {
+            h: number(value.block),
+        }
+    }
+}
+
+/// The number whose big-endian bytes a block is.
+fn number(block: Block) -> u128
+    ensures { to_be_bytes w128 result ≡ block }
+{
+    u128::from_be_bytes(block)
+}
+
+impl UpdateBlock for Key {
+    ghost hash_key = { λ key. key };
+
+    fn update_block(&self, xi: &mut Xi, block: Block, work: &mut Work) {
+        let sum = number(xi.block) ^ number(block);
+        xi.block = product::product(sum, self.h).to_be_bytes();
+        work.add_product();
+    }
+}
+
+impl UpdateBlocks for Key {
+    fn update_blocks(&self, xi: &mut Xi, input: AsChunks<'_, u8, BLOCK_LEN>, work: &mut Work) {
+        let mut sum = number(xi.block);
+        for block in input {
+            sum = product::product(sum ^ number(*block), self.h);
+            work.add_product();
+        }
+        xi.block = sum.to_be_bytes();
+    }
+}

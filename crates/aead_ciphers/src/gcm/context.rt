@@ -1,0 +1,147 @@
+//! The hash of an AAD and a ciphertext, and of their lengths (SP 800-38D section 7.1).
+
+ghost use Rattle.std.specs.Prelude.{◌≡◌, ℕ, ◌+◌, ◌/◌, ◌↔◌, List, [], ◌∷◌, ◌++◌, length, IsOk, IfOk, OnOk, OnErr, ◌≤◌};
+ghost use Rattle.aead_ciphers_base.specs.Blocks.{blocks};
+ghost use Rattle.aead_ciphers_base.specs.Values.{aad_bytes};
+ghost use Rattle.aead_ciphers_base.specs.Work.{Adds, Room};
+ghost use Rattle.aead_ciphers.specs.Gcm.{Fits, length_block, padded_block, padded_blocks};
+ghost use Rattle.aead_ciphers.specs.HashOf.{IsHashOf};
+
+use super::{UpdateBlock, UpdateBlocks, Xi};
+use aead_ciphers_base::aes::{BLOCK_LEN, Block, Work, ZERO_BLOCK};
+use aead_ciphers_base::error::Unspecified;
+use aead_ciphers_base::polyfill::slice::AsChunks;
+use aead_ciphers_base::values::{Aad, Tag};
+use std::marker::Model;
+
+/// The most bytes of a message (SP 800-38D section 5.2.1.1).
+pub const MAX_IN_OUT_LEN: usize = (1 << 36) - 32;
+
+/// A hash that has taken in an AAD and takes in a ciphertext.
+#[derive(Drop)]
+pub struct Context<'key, K: UpdateBlock> {
+    xi: Xi,
+    key: &'key K,
+    aad_len: usize,
+    in_out_len: usize,
+}
+
+impl<'key, K: UpdateBlock> Model for Context<'key, K> {
+    ghost use Rattle.aead_ciphers.specs.Gcm.{Fits};
+    ghost use Rattle.aead_ciphers.specs.HashOf.{HashState};
+
+    ghost Value = { HashState };
+
+    ghost view = { λ context. record {
+      hash_key = K.hash_key context.key.now;
+      aad_len = context.aad_len;
+      in_out_len = context.in_out_len;
+      xi = context.xi;
+    } };
+
+    ghost invariant = { λ context. Fits context.aad_len context.in_out_len };
+}
+
+impl<'key, K: UpdateBlock> Context<'key, K> {
+    /// Takes in the AAD, padded with zeros to whole blocks. Refused where the AAD has 2^61 bytes or more, or `in_out_len`
+    /// is above 2^36 - 32 (SP 800-38D section 5.2.1.1).
+    pub fn new(
+        key: &'key K,
+        aad: Aad<'_>,
+        in_out_len: usize,
+        work: &mut Work,
+    ) -> Result<Self, Unspecified>
+        requires { Room work.old 0 ((length (aad_bytes aad) + 15) / 16) }
+        ensures accepted { IsOk result ↔ Fits (length (aad_bytes aad.entry)) in_out_len }
+        ensures hash_key { IfOk result (λ context. context.hash_key ≡ K.hash_key key.now) }
+        ensures aad_len { IfOk result (λ context. context.aad_len ≡ length (aad_bytes aad.entry)) }
+        ensures in_out_len { IfOk result (λ context. context.in_out_len ≡ in_out_len) }
+        ensures hashed { IfOk result
+            (λ context. IsHashOf context.hash_key (padded_blocks (aad_bytes aad.entry)) context.xi) }
+        ensures worked { OnOk result
+            (Adds work.old work.new 0 ((length (aad_bytes aad.entry) + 15) / 16)) }
+        ensures idle { OnErr result (work.new ≡ work.old) }
+    {
+        let aad = aad.as_ref();
+        if in_out_len > MAX_IN_OUT_LEN || aad.len() >= 1 << 61 {
+            return Err(Unspecified);
+        }
+        let mut xi = Xi::zero();
+        for bytes in aad.chunks(BLOCK_LEN) {
+            key.update_block(&mut xi, padded(bytes), work);
+        }
+        Ok(Context {
+            xi,
+            key,
+            aad_len: aad.len(),
+            in_out_len,
+        })
+    }
+
+    /// Takes in one block, by one field product.
+    pub fn update_block(&mut self, block: Block, work: &mut Work)
+        requires { Room work.old 0 1 }
+        ensures hashed { (done : List (List ℕ)) → IsHashOf self.old.hash_key done self.old.xi
+            → IsHashOf self.old.hash_key (done ++ block ∷ []) self.new.xi }
+        ensures kept { self.new ≡ record self.old { xi = self.new.xi } }
+        ensures worked { Adds work.old work.new 0 1 }
+    {
+        self.key.update_block(&mut self.xi, block, work);
+    }
+
+    /// Takes in the block of the lengths of the AAD and of `in_out_len`, by one field product, and answers what `f` makes of
+    /// the hash.
+    pub fn pre_finish<F: FnOnce(Block) -> Tag>(self, work: &mut Work, f: F) -> Tag
+        requires room { Room work.old 0 1 }
+        requires callable { F.IsAlwaysCallable f }
+        ensures hashed { (xi : List ℕ) × F.post f xi result
+            × ((done : List (List ℕ)) → IsHashOf self.entry.hash_key done self.entry.xi
+            → IsHashOf self.entry.hash_key
+            (done ++ length_block self.entry.aad_len self.entry.in_out_len ∷ []) xi) }
+        ensures worked { Adds work.old work.new 0 1 }
+    {
+        let Context {
+            mut xi,
+            key,
+            aad_len,
+            in_out_len,
+        } = self;
+        let lengths = lengths(aad_len as u64, in_out_len as u64);
+        key.update_block(&mut xi, lengths, work);
+        f(*xi.as_ref())
+    }
+}
+
+impl<'key, K: UpdateBlocks> Context<'key, K> {
+    /// Takes in the blocks in order, by one field product each.
+    pub fn update_blocks(&mut self, input: AsChunks<'_, u8, BLOCK_LEN>, work: &mut Work)
+        requires { Room work.old 0 (length input.items.now / 16) }
+        ensures hashed { (done : List (List ℕ)) → IsHashOf self.old.hash_key done self.old.xi
+            → IsHashOf self.old.hash_key (done ++ blocks 16 input.entry.items.now) self.new.xi }
+        ensures kept { self.new ≡ record self.old { xi = self.new.xi } }
+        ensures worked { Adds work.old work.new 0 (length input.entry.items.now / 16) }
+    {
+        self.key.update_blocks(&mut self.xi, input, work);
+    }
+}
+
+/// A block with these bytes in front, and zeros behind them.
+pub(crate) fn padded(bytes: &[u8]) -> Block
+    requires { length bytes.now ≤ 16 }
+    ensures { result ≡ padded_block bytes.now 0 }
+{
+    let mut block = ZERO_BLOCK;
+    block[..bytes.len()].copy_from_slice(bytes);
+    block
+}
+
+/// The block of two lengths in bytes, which it holds in bits.
+fn lengths(aad_len: u64, in_out_len: u64) -> Block
+    requires { Fits aad_len in_out_len }
+    ensures { result ≡ length_block aad_len in_out_len }
+{
+    let mut block = ZERO_BLOCK;
+    block[..8].copy_from_slice(&(8 * aad_len).to_be_bytes());
+    block[8..].copy_from_slice(&(8 * in_out_len).to_be_bytes());
+    block
+}

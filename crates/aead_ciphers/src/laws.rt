@@ -1,0 +1,32 @@
+//! Laws of the definitions: functions that answer nothing, whose contracts state a law for their arguments.
+
+ghost use Rattle.std.specs.Prelude.{◌≡◌, ◌^◌, ◌-◌, ◌<◌, ◌≤◌, ◌⊎◌, length, vec_len, All};
+ghost use Rattle.aead_ciphers_base.specs.Bytes.{◌⊕◌};
+ghost use Rattle.aead_ciphers.specs.Ghash.{ghash, xor_blocks};
+ghost use Rattle.aead_ciphers.specs.Laws.{EachPlace, OpensAgain};
+
+use aead_ciphers_base::aes::Block;
+use aead_ciphers_base::values::NONCE_LEN;
+
+/// GHASH under a hash subkey keeps XOR: of two lists of one length (SP 800-38D section 6.4).
+pub fn ghash_sum(h: Block, left: &[Block], right: &[Block])
+    requires { length left.now ≡ length right.now }
+    ensures { ghash h (xor_blocks left.now right.now) ≡ ghash h left.now ⊕ ghash h right.now }
+{}
+
+/// Opening undoes sealing (SP 800-38D section 7.2), for every key and every list of nonces, AADs and
+/// messages.
+pub fn round_trip(
+    key: &[u8],
+    nonces: &[[u8; NONCE_LEN]],
+    aads: &[Vec<u8>],
+    messages: &[Vec<u8>],
+)
+    requires key_len { (length key.now ≡ 16) ⊎ (length key.now ≡ 32) }
+    requires aads_len { length aads.now ≡ length nonces.now }
+    requires messages_len { length messages.now ≡ length nonces.now }
+    requires aads_fit { All (λ aad. vec_len aad < 2 ^ 61) aads.now }
+    requires messages_fit { All (λ message. vec_len message ≤ 2 ^ 36 - 32) messages.now }
+    ensures { EachPlace (λ nonce aad message. OpensAgain key.now nonce aad.items message.items)
+        nonces.now aads.now messages.now }
+{}

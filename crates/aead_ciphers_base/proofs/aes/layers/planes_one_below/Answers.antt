@@ -1,0 +1,13 @@
+use Rattle.std.proofs.Common.{arith, length-set, ◌∙◌}
+use Rattle.aead_ciphers_base.specs.Planes.{below}
+use Rattle.aead_ciphers_base.proofs.LayerLemmas.{planes_moved, moves_more}
+use Rattle.aead_ciphers_base.proofs.aes.layers.planes_one_below.Goals as goal
+
+pub returns : goal.returns
+returns c = λ p lt. planes_moved c.args.a c.loop-k.out p (below p 1) (λ j h. c.loop-k.invariant.1 j (omega arith) p lt)
+
+pub loop-k-preserved : goal.loop-k-preserved
+loop-k-preserved c = (
+  length-set _ _ _ ∙ c.loop-k.invariant.0,
+  moves_more c.args.a c.loop-k.out (λ p. below p 1) c.loop-k.k c.one_below.result (omega arith) c.loop-k.invariant.1 c.one_below.ensures,
+)

@@ -1,0 +1,6 @@
+use Rattle.std.proofs.Common.{rules}
+use Rattle.aead_ciphers_base.proofs.PackLemmas.{words_of_block}
+use Rattle.aead_ciphers_base.proofs.aes.pack.words_of.Goals as goal
+
+pub returns : goal.returns
+returns c = words_of_block c.args.block c.from_le_bytes.result c.from_le_bytes-2.result (search rules) (search rules) c.from_le_bytes.ensures c.from_le_bytes-2.ensures

@@ -1,0 +1,20 @@
+-- The items of a view that is written, on loan.
+use Rattle.std.specs.Prelude.{ℕ, ◌%◌, List, ◌++◌, drop, length, take, refl, []}
+use Rattle.std.specs.Borrow.{Array, Fml, Lends, MutBor, RattleType}
+use Rattle.std.specs.List.{length_refill}
+use denote.Param.{value_of}
+use mir.Syntax.{named}
+use mathlib.Core.Path.{ap, sym, ◌∙◌}
+use Rattle.aead_ciphers_base.specs.declared.polyfill.slice.chunks_mut.AsChunksMut.{AsChunksMut}
+use Rattle.aead_ciphers_base.specs.contracts.polyfill.slice.chunks_mut.AsChunksMut.{the_row}
+
+-- v with ws as its items. Where ws has another length it is cut, or filled up from v's, so that the length stays
+abbrev pub with_items : {T : Type 0} {N : ℕ} → AsChunksMut T N → List T → AsChunksMut T N
+with_items {T} {N} v ws = record {
+  items = record v.items { now = take (length v.items.now) (ws ++ drop (length ws) v.items.now) };
+  whole = ap (λ (k : ℕ). k % N) (sym (length_refill (length v.items.now) v.items.now ws refl)) ∙ v.whole;
+}
+
+-- v ends with the last value behind r as its items
+abbrev pub LendsItems : (T N : RattleType) → MutBor (AsChunksMut T.Denot (value_of N)) → MutBor (List T.Denot) → Fml
+LendsItems T N v r = Lends (the_row (record { mir = named 1; lft = [] }) T N) (Array T 0) v r (with_items v.now)

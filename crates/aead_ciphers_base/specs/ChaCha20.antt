@@ -1,0 +1,81 @@
+-- ChaCha20 (RFC 8439). A word is a number below 2 ^ 32, a state a list of 16 words; a key, a nonce,
+-- a block, a key stream and a message are lists of bytes.
+use Rattle.std.specs.Prelude.{ℕ, ◌+◌, ◌/◌, ◌%◌, ◌^◌, List, [], ◌∷◌, ◌++◌, bit_xor, slice_index, slice_set, fold, length}
+use Rattle.std.specs.Fn.{iterate}
+use Rattle.std.specs.Int.{w32, rotate_left, to_le_bytes, from_le_bytes}
+use Rattle.std.specs.List.{flat_map}
+use Rattle.std.specs.Simd.Lanes.{zip2}
+use Rattle.aead_ciphers_base.specs.Bytes.{each_below, ◌⊕◌}
+
+-- section 2.1: the sum of two words modulo 2 ^ 32
+abbrev pub add32 : ℕ → ℕ → ℕ
+add32 x y = (x + y) % 2 ^ 32
+
+-- section 2.1: x ^= y; x <<<= n
+abbrev pub xor_rotate : ℕ → ℕ → ℕ → ℕ
+xor_rotate x y n = rotate_left w32 (bit_xor x y) n
+
+-- section 2.1: the quarter round, on four words
+unfoldable pub quarter_round : ℕ → ℕ → ℕ → ℕ → ℕ × ℕ × ℕ × ℕ
+quarter_round a b c d =
+    let a1 = add32 a b in
+    let d1 = xor_rotate d a1 16 in
+    let c1 = add32 c d1 in
+    let b1 = xor_rotate b c1 12 in
+    let a2 = add32 a1 b1 in
+    let d2 = xor_rotate d1 a2 8 in
+    let c2 = add32 c1 d2 in
+    let b2 = xor_rotate b1 c2 7 in
+    (a2, b2, c2, d2)
+
+-- section 2.2: QUARTERROUND(x, y, z, w), on the words of a state at four indices
+abbrev pub quarter_round_at : List ℕ → ℕ × ℕ × ℕ × ℕ → List ℕ
+quarter_round_at s p =
+    let q = quarter_round (slice_index s p.0) (slice_index s p.1) (slice_index s p.2) (slice_index s p.3) in
+    slice_set (slice_set (slice_set (slice_set s p.0 q.0) p.1 q.1) p.2 q.2) p.3 q.3
+
+-- section 2.3: a column round, then a diagonal round, of four quarter rounds each
+unfoldable pub double_round : List ℕ → List ℕ
+double_round s =
+    fold quarter_round_at s
+    ((0, 4, 8, 12) ∷ (1, 5, 9, 13) ∷ (2, 6, 10, 14) ∷ (3, 7, 11, 15)
+    ∷ (0, 5, 10, 15) ∷ (1, 6, 11, 12) ∷ (2, 7, 8, 13) ∷ (3, 4, 9, 14) ∷ [])
+
+-- section 2.3: a list of bytes, read as words in little-endian order, four bytes each
+unfoldable pub le_words : List ℕ → List ℕ
+le_words (a ∷ b ∷ c ∷ d ∷ bytes) = from_le_bytes w32 (a ∷ b ∷ c ∷ d ∷ []) ∷ le_words bytes
+le_words _ = []
+
+-- section 2.3: a list of words, written as bytes in little-endian order
+unfoldable pub le_bytes : List ℕ → List ℕ
+le_bytes words = flat_map (to_le_bytes w32) words
+
+-- section 2.3: the initial state: four constants, the key, the block counter, the nonce
+unfoldable pub initial_state : List ℕ → ℕ → List ℕ → List ℕ
+initial_state key counter nonce =
+    0x61707865 ∷ 0x3320646e ∷ 0x79622d32 ∷ 0x6b206574 ∷ le_words key ++ counter ∷ le_words nonce
+
+-- section 2.3: the initial words are added to those after 20 rounds, and the sums written as bytes
+unfoldable pub state_block : List ℕ → List ℕ
+state_block s = le_bytes (zip2 add32 (iterate double_round 10 s) s)
+
+-- section 2.3: the block function
+unfoldable pub chacha20_block : List ℕ → ℕ → List ℕ → List ℕ
+chacha20_block key counter nonce = state_block (initial_state key counter nonce)
+
+-- section 2.4: byte i of the key stream, the blocks from the counter on
+unfoldable pub stream_byte : List ℕ → ℕ → List ℕ → ℕ → ℕ
+stream_byte key counter nonce i = slice_index (chacha20_block key (counter + i / 64) nonce) (i % 64)
+
+-- section 2.4: the first n bytes of the key stream
+unfoldable pub key_stream : List ℕ → ℕ → List ℕ → ℕ → List ℕ
+key_stream key counter nonce n = each_below n (stream_byte key counter nonce)
+
+-- section 2.4: the message, XORed with the key stream
+unfoldable pub chacha20_encrypted : List ℕ → ℕ → List ℕ → List ℕ → List ℕ
+chacha20_encrypted key counter nonce message = message ⊕ key_stream key counter nonce (length message)
+
+-- what a contract sees of a counter: the block counter, and the bytes of the nonce
+pub record Position : Type 0 where
+  pub number : ℕ
+  pub nonce : List ℕ

@@ -1,0 +1,82 @@
+//! Counter mode in batches of four blocks (SP 800-38D section 6.5).
+
+ghost use Rattle.std.specs.Prelude.{◌≡◌, ◌<◌, ◌≤◌, ℕ, ◌+◌, ◌-◌, ◌/◌, ◌%◌, ◌++◌, List, [], length, drop, take, slice_index_or};
+ghost use Rattle.aead_ciphers_base.specs.Aes.{aes};
+ghost use Rattle.aead_ciphers_base.specs.CounterMode.{IsCounter, counter_mode};
+ghost use Rattle.aead_ciphers_base.specs.Work.{Adds, Room};
+
+use crate::aes::{BLOCK_LEN, Counter, Key, Work};
+use crate::bb;
+
+/// The length of a batch, in bytes: the blocks that one pass of the cipher encrypts.
+const BATCH_LEN: usize = 4 * BLOCK_LEN;
+
+/// Encrypts the whole blocks from `start` on, to the front, batch by batch.
+pub(crate) fn encrypt_to_front(
+    key: &Key,
+    in_out: &mut [u8],
+    start: usize,
+    counter: &mut Counter,
+    work: &mut Work,
+)
+    requires within { start ≤ length in_out.old }
+    requires whole { (length in_out.old - start) % 16 ≡ 0 }
+    requires room { Room work.old ((length in_out.old - start) / 16) 0 }
+    ensures output { (nonce : List ℕ) (k : ℕ) → IsCounter counter.old nonce k →
+        in_out.new ≡ counter_mode (aes key.now) nonce k (drop start in_out.old)
+        ++ drop (length in_out.old - start) in_out.old }
+    ensures counter { (nonce : List ℕ) (k : ℕ) → IsCounter counter.old nonce k →
+        IsCounter counter.new nonce (k + (length in_out.old - start) / 16) }
+    ensures worked { Adds work.old work.new ((length in_out.old - start) / 16) 0 }
+{
+    let len = in_out.len() - start;
+    let mut done = 0;
+    while done < len {
+        let count = (len - done).min(BATCH_LEN);
+        encrypt_batch(key, in_out, start, done, count, counter, work);
+        done += count;
+    }
+}
+
+/// Encrypts one to four blocks: the `count` bytes from `start + done` on, to `done`. All of them are
+/// read before one is written.
+fn encrypt_batch(
+    key: &Key,
+    in_out: &mut [u8],
+    start: usize,
+    done: usize,
+    count: usize,
+    counter: &mut Counter,
+    work: &mut Work,
+)
+    requires within { start + done + count ≤ length in_out.old }
+    requires whole { count % 16 ≡ 0 }
+    requires short { count ≤ 64 }
+    requires room { Room work.old (count / 16) 0 }
+    ensures output { (nonce : List ℕ) (k : ℕ) → IsCounter counter.old nonce k →
+        in_out.new ≡ take done in_out.old
+        ++ counter_mode (aes key.now) nonce k (take count (drop (start + done) in_out.old))
+        ++ drop (done + count) in_out.old }
+    ensures counter { (nonce : List ℕ) (k : ℕ) → IsCounter counter.old nonce k →
+        IsCounter counter.new nonce (k + count / 16) }
+    ensures worked { Adds work.old work.new (count / 16) 0 }
+{
+    let mut batch = [0; BATCH_LEN];
+    batch[..count].copy_from_slice(&in_out[start + done..start + done + count]);
+    xor_keystream(key, counter, &mut batch);
+    let blocks = count / BLOCK_LEN;
+    counter.increment_by_less_safe(blocks as u32);
+    work.add_blocks(blocks as u64);
+    in_out[done..done + count].copy_from_slice(&batch[..count]);
+}
+
+/// XORs the ciphers of the counter block and of the next three into a batch.
+fn xor_keystream(key: &Key, counter: &Counter, batch: &mut [u8; BATCH_LEN])
+    ensures { (nonce : List ℕ) (k : ℕ) → IsCounter counter.now nonce k →
+        batch.new ≡ counter_mode (aes key.now) nonce k batch.old }
+{
+    let keystream = key.encrypt_four(counter.next_four());
+    for i in 0..4 {
+        bb::xor_assign_at_start(&mut batch[BLOCK_LEN * i..], &keystream[i]);
+    }
+}

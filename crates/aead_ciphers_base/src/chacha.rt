@@ -1,0 +1,303 @@
+//! The stream cipher ChaCha20 (RFC 8439, sections 2.1 to 2.4).
+ghost use Rattle.std.specs.Prelude.{◌≡◌, ⊤, ℕ, ◌+◌, ◌-◌, ◌*◌, ◌/◌, ◌^◌, ◌<◌, ◌≤◌, List, ◌∷◌, ◌++◌, length, take, drop, slice_index};
+ghost use Rattle.std.specs.Int.{div_ceil};
+ghost use Rattle.std.specs.Simd.Lanes.{zip2};
+ghost use Rattle.aead_ciphers_base.specs.Bytes.{◌⊕◌};
+ghost use Rattle.aead_ciphers_base.specs.ChaCha20.{add32, quarter_round, quarter_round_at, double_round, state_block, le_words, le_bytes, initial_state, chacha20_encrypted, Position};
+ghost use Rattle.aead_ciphers_base.specs.Mask.{chacha_mask};
+
+use crate::bb::xor_assign_at_start;
+use crate::overlapping;
+use crate::values::{Nonce, Sample};
+use std::alloc::AllocError;
+use std::marker::Model;
+
+#[cfg(test)]
+mod tests;
+
+/// The length of a key in bytes.
+pub const KEY_LEN: usize = 32;
+
+/// The length of a block of the key stream in bytes.
+pub const BLOCK_LEN: usize = 64;
+
+pub type Overlapping<'o> = overlapping::Overlapping<'o, u8>;
+
+type State = [u32; 16];
+
+const CONSTANTS: [u32; 4] = [0x6170_7865, 0x3320_646e, 0x7962_2d32, 0x6b20_6574];
+
+#[inline(always)]
+#[tactic(auto, unfolding(crate::specs::ChaCha20::quarter_round))]
+fn quarter_round(a: u32, b: u32, c: u32, d: u32) -> (u32, u32, u32, u32)
+    ensures { result ≡ quarter_round a b c d }
+{
+    let a1 = a.wrapping_add(b);
+    let d1 = (d ^ a1).rotate_left(16);
+    let c1 = c.wrapping_add(d1);
+    let b1 = (b ^ c1).rotate_left(12);
+    let a2 = a1.wrapping_add(b1);
+    let d2 = (d1 ^ a2).rotate_left(8);
+    let c2 = c1.wrapping_add(d2);
+    let b2 = (b1 ^ c2).rotate_left(7);
+    (a2, b2, c2, d2)
+}
+
+#[inline(always)]
+fn quarter_round_at(state: &mut State, a: usize, b: usize, c: usize, d: usize)
+    requires a_in_state { a < 16 }
+    requires b_in_state { b < 16 }
+    requires c_in_state { c < 16 }
+    requires d_in_state { d < 16 }
+    ensures { state.new ≡ quarter_round_at state.old (a, b, c, d) }
+{
+    let (x, y, z, w) = quarter_round(state[a], state[b], state[c], state[d]);
+    state[a] = x;
+    state[b] = y;
+    state[c] = z;
+    state[d] = w;
+}
+
+#[inline(always)]
+#[tactic(auto, unfolding(crate::specs::ChaCha20::double_round))]
+fn double_round(state: &mut State)
+    ensures { state.new ≡ double_round state.old }
+{
+    quarter_round_at(state, 0, 4, 8, 12);
+    quarter_round_at(state, 1, 5, 9, 13);
+    quarter_round_at(state, 2, 6, 10, 14);
+    quarter_round_at(state, 3, 7, 11, 15);
+    quarter_round_at(state, 0, 5, 10, 15);
+    quarter_round_at(state, 1, 6, 11, 12);
+    quarter_round_at(state, 2, 7, 8, 13);
+    quarter_round_at(state, 3, 4, 9, 14);
+}
+
+#[inline(always)]
+fn add_words(words: &mut State, addend: &State)
+    ensures { words.new ≡ zip2 add32 words.old addend.now }
+{
+    for i in 0..16 {
+        words[i] = words[i].wrapping_add(addend[i]);
+    }
+}
+
+#[inline(always)]
+fn to_le_bytes(words: &State) -> [u8; BLOCK_LEN]
+    ensures { result ≡ le_bytes words.now }
+{
+    let mut bytes = [0; BLOCK_LEN];
+    for i in 0..16 {
+        bytes[4 * i..4 * i + 4].copy_from_slice(&words[i].to_le_bytes());
+    }
+    bytes
+}
+
+fn state_block(state: &State) -> [u8; BLOCK_LEN]
+    ensures { result ≡ state_block state.now }
+{
+    let mut words = *state;
+    for _round in 0..10u32 {
+        double_round(&mut words);
+    }
+    add_words(&mut words, state);
+    to_le_bytes(&words)
+}
+
+/// A key of 32 bytes.
+#[derive(Drop)]
+pub struct Key {
+    words: [u32; 8],
+}
+
+impl Model for Key {
+    ghost Value = { List ℕ };
+
+    ghost view = { λ k. le_bytes k.words };
+
+    ghost invariant = { λ k. (i : ℕ) → slice_index k.words i < 2 ^ 32 };
+}
+
+impl Clone for Key {
+    ghost is_clone = { λ x y. y ≡ x };
+
+    ghost is_infallible = { λ _. ⊤ };
+
+    fn clone(&self) -> Result<Self, AllocError> {
+        Ok(Key { words: self.words })
+    }
+}
+
+/// A block counter and a nonce: where a key stream starts.
+#[derive(Drop)]
+pub struct Counter {
+    words: [u32; 4],
+}
+
+impl Model for Counter {
+    ghost Value = { Position };
+
+    ghost view = { λ c. record { number = slice_index c.words 0; nonce = le_bytes (drop 1 c.words) } };
+
+    ghost invariant = { λ c. (i : ℕ) → slice_index c.words i < 2 ^ 32 };
+}
+
+/// Reads words of four bytes in little-endian order.
+fn le_words<const N: usize>(bytes: &[u8]) -> [u32; N]
+    requires { length bytes.now ≡ 4 * N }
+    ensures { result ≡ le_words bytes.now }
+{
+    let mut words = [0; N];
+    for i in 0..N {
+        let at = 4 * i;
+        words[i] = u32::from_le_bytes([bytes[at], bytes[at + 1], bytes[at + 2], bytes[at + 3]]);
+    }
+    words
+}
+
+impl Counter {
+    /// The counter of block `ctr` under the nonce.
+    pub fn from_nonce_and_ctr(nonce: Nonce, ctr: u32) -> Self
+        ensures number { result.number ≡ ctr }
+        ensures nonce { result.nonce ≡ nonce }
+    {
+        let [n0, n1, n2] = le_words::<3>(nonce.as_ref());
+        Counter {
+            words: [ctr, n0, n1, n2],
+        }
+    }
+
+    /// The counters of blocks 0 and 1 under one nonce.
+    pub fn zero_one_less_safe(nonce: Nonce) -> (Self, Self)
+        ensures zero { result.0 ≡ record { number = 0; nonce = nonce } }
+        ensures one { result.1 ≡ record { number = 1; nonce = nonce } }
+    {
+        let zero = Self::from_nonce_and_ctr(nonce, 0);
+        let [_, n0, n1, n2] = zero.words;
+        let one = Counter {
+            words: [1, n0, n1, n2],
+        };
+        (zero, one)
+    }
+
+    /// The block counter, then the three little-endian words of the nonce.
+    pub fn into_words_less_safe(self) -> [u32; 4]
+        ensures { result ≡ self.number ∷ le_words self.nonce }
+    {
+        self.words
+    }
+}
+
+/// Writes `n` bytes of the slice, from `start + at` on, XORed with the block, at `at`.
+#[inline(always)]
+fn xor_block(in_out: &mut [u8], start: usize, at: usize, n: usize, mut block: [u8; BLOCK_LEN])
+    requires in_slice { start + at + n ≤ length in_out.old }
+    requires in_block { n ≤ 64 }
+    ensures { in_out.new ≡
+        take at in_out.old ++ (take n (drop (start + at) in_out.old) ⊕ block) ++ drop (at + n) in_out.old }
+{
+    let from = start + at;
+    xor_assign_at_start(&mut block, &in_out[from..from + n]);
+    in_out[at..at + n].copy_from_slice(&block[..n]);
+}
+
+impl Key {
+    /// Takes the bytes of a key.
+    pub fn new(value: [u8; KEY_LEN]) -> Self
+        ensures { result ≡ value }
+    {
+        Key {
+            words: le_words(&value),
+        }
+    }
+
+    /// The eight little-endian words of the key.
+    pub fn words_less_safe(&self) -> &[u32; 8]
+        ensures { result.now ≡ le_words self.now }
+    {
+        &self.words
+    }
+
+    /// The initial state of the `j`th block from the counter on.
+    #[inline(always)]
+    fn initial_state(&self, counter: &Counter, j: u32) -> State
+        requires { counter.now.number + j < 2 ^ 32 }
+        ensures { result ≡ initial_state self.now (counter.now.number + j) counter.now.nonce }
+    {
+        let [k0, k1, k2, k3, k4, k5, k6, k7] = self.words;
+        let [number, n0, n1, n2] = counter.words;
+        let [c0, c1, c2, c3] = CONSTANTS;
+        [
+            c0,
+            c1,
+            c2,
+            c3,
+            k0,
+            k1,
+            k2,
+            k3,
+            k4,
+            k5,
+            k6,
+            k7,
+            number + j,
+            n0,
+            n1,
+            n2,
+        ]
+    }
+
+    /// XORs the input with the key stream from the counter on, and writes the result to the front
+    /// of the slice (RFC 8439, section 2.4).
+    pub fn encrypt(&self, counter: Counter, in_out: Overlapping<'_>)
+        requires { counter.number + div_ceil (length in_out.in_out.now - in_out.start) 64 ≤ 2 ^ 32 }
+        ensures { let input = drop in_out.entry.start in_out.entry.in_out.now in in_out.exit.0.now ≡
+            chacha20_encrypted self.now counter.number counter.nonce input
+            ++ drop (length input) in_out.entry.in_out.now }
+    {
+        let Overlapping { in_out, start } = in_out;
+        let len = in_out.len() - start;
+        for j in 0..len.div_ceil(BLOCK_LEN) {
+            let at = BLOCK_LEN * j;
+            let n = BLOCK_LEN.min(len - at);
+            let block = state_block(&self.initial_state(&counter, j as u32));
+            xor_block(in_out, start, at, n, block);
+        }
+    }
+
+    // `encrypt` from the start of a slice on.
+    fn encrypt_in_place(&self, counter: Counter, in_out: &mut [u8])
+        requires { counter.number + div_ceil (length in_out.old) 64 ≤ 2 ^ 32 }
+        ensures { in_out.new ≡ chacha20_encrypted self.now counter.number counter.nonce in_out.old }
+    {
+        self.encrypt(counter, Overlapping::from(in_out));
+    }
+
+    /// Encrypts at most one block with block counter 0, and returns the counter of block 1.
+    pub fn encrypt_single_block_with_ctr_0<const N: usize>(
+        &self,
+        nonce: Nonce,
+        in_out: &mut [u8; N],
+    ) -> Counter
+        requires { N ≤ 64 }
+        ensures encrypted { in_out.new ≡ chacha20_encrypted self.now 0 nonce in_out.old }
+        ensures one { result ≡ record { number = 1; nonce = nonce } }
+    {
+        let (zero, one) = Counter::zero_one_less_safe(nonce);
+        self.encrypt_in_place(zero, &mut in_out[..]);
+        one
+    }
+
+    /// The header protection mask of a sample (RFC 9001, section 5.4.4).
+    pub fn new_mask(&self, sample: Sample) -> [u8; 5]
+        ensures { result ≡ chacha_mask self.now sample }
+    {
+        let counter = Counter {
+            words: le_words(&sample),
+        };
+        let block = state_block(&self.initial_state(&counter, 0));
+        let mut mask = [0; 5];
+        mask.copy_from_slice(&block[..5]);
+        mask
+    }
+}

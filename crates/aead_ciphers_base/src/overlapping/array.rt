@@ -1,0 +1,68 @@
+//! An input of a fixed number of items.
+
+ghost use Rattle.std.specs.Prelude.{◌≡◌, ◌↔◌, ◌-◌, ◌<◌, ◌≤◌, ◌++◌, IsOk, IfOk, IfErr, drop, length, take};
+ghost use Rattle.std.specs.Borrow.{sem, Lends, Array as ArrayRow, follows};
+
+use super::Overlapping;
+use crate::error::LenMismatchError;
+
+/// An overlapping buffer whose input has exactly `N` items, and `N` is not zero.
+#[derive(Drop)]
+pub struct Array<'o, T, const N: usize> {
+    /// The whole slice.
+    pub in_out: &'o mut [T],
+    /// Where the input starts, in items.
+    pub start: usize,
+    pub ghost some: { 0 < N },
+    pub ghost within: { start ≤ length in_out.now },
+    pub ghost exact: { length in_out.now - start ≡ N },
+}
+
+impl<'o, T, const N: usize> Array<'o, T, N> {
+    /// Refused with `N` where `N` is zero or the input has another length.
+    pub fn new(in_out: Overlapping<'o, T>) -> Result<Self, LenMismatchError>
+        ensures accepted { IsOk result ↔ ((0 < N) × (length in_out.entry.in_out.now - in_out.entry.start ≡ N)) }
+        ensures same_reference { IfOk result (λ a. a.in_out.ghost_name ≡ in_out.entry.in_out.ghost_name) }
+        ensures items { IfOk result (λ a. a.in_out.now ≡ in_out.entry.in_out.now) }
+        ensures start { IfOk result (λ a. a.start ≡ in_out.entry.start) }
+        ensures refused { IfErr result (λ e. e ≡ N) }
+    {
+        let Overlapping { in_out, start } = in_out;
+        if N == 0 || in_out.len() - start != N {
+            return Err(LenMismatchError::new(N));
+        }
+        Ok(Array { in_out, start })
+    }
+
+    /// The slice from the start on.
+    pub fn input(&self) -> &[T; N]
+        ensures { result.now ≡ drop self.now.start self.now.in_out.now }
+    {
+        let input = &self.in_out[self.start..];
+        match input.as_array::<N>() {
+            Some(input) => input,
+            None => unreachable!(),
+        }
+    }
+
+    /// The first `N` items of the slice, for writing.
+    pub fn into_unwritten_output(self) -> &'o mut [T; N]
+        ensures items { result.now ≡ take N self.entry.in_out.now }
+    {
+        let Array { in_out, start: _ } = self;
+        first_array::<T, N>(in_out)
+    }
+}
+
+/// The first `N` items of a slice, for writing.
+pub fn first_array<T, const N: usize>(items: &mut [T]) -> &mut [T; N]
+    requires { N ≤ length items.old }
+    ensures* writes_back { sem 𝓛 (Lends (ArrayRow T.row 0) (ArrayRow T.row 0) items.entry result
+        (λ w. w ++ drop N items.old)) }
+    ensures value { result.now ≡ take N items.old }
+{
+    match items.first_chunk_mut::<N>() {
+        Some(front) => front,
+        None => unreachable!(),
+    }
+}

@@ -1,0 +1,73 @@
+//! Chunks of a fixed number of items, for closures that map them.
+
+ghost use Rattle.std.specs.Prelude.{◌≡◌, ◌↔◌, ℕ, ◌+◌, ◌≤◌, List, IsSome, IfSome, drop, length, take};
+ghost use Rattle.aead_ciphers_base.specs.Overlapping.{MapsChunk, TakesChunk};
+
+/// A fixed number of items: `[T; N]`.
+pub trait Chunk<T>: Sized {
+    ghost chunk_items: { Self → List T };
+
+    ghost chunk_len: { ℕ };
+
+    /// How many items a chunk has.
+    fn chunk_len() -> usize
+        ensures { result ≡ chunk_len };
+
+    /// The items as a chunk, where there are as many.
+    fn of(items: &[T]) -> Option<&Self>
+        ensures found { IsSome result ↔ (length items.now ≡ chunk_len) }
+        ensures same { IfSome result (λ c. chunk_items c.now ≡ items.now) };
+
+    /// Writes the chunk over `to`.
+    fn put(self, to: &mut [T])
+        requires { length to.old ≡ chunk_len }
+        ensures { to.new ≡ chunk_items self };
+}
+
+impl<T: Drop, const N: usize> Chunk<T> for [T; N] {
+    ghost chunk_items = { λ xs. xs };
+
+    ghost chunk_len = { N };
+
+    fn chunk_len() -> usize {
+        N
+    }
+
+    fn of(items: &[T]) -> Option<&Self> {
+        items.as_array::<N>()
+    }
+
+    fn put(self, to: &mut [T]) {
+        match to.as_mut_array::<N>() {
+            Some(place) => *place = self,
+            None => unreachable!(),
+        }
+    }
+}
+
+/// The chunk that starts at `start`.
+pub fn chunk_at<T, C: Chunk<T>>(items: &[T], start: usize) -> &C
+    requires { start + C.chunk_len ≤ length items.now }
+    ensures { C.chunk_items result.now ≡ take C.chunk_len (drop start items.now) }
+{
+    let rest = &items[start..];
+    match C::of(&rest[..C::chunk_len()]) {
+        Some(chunk) => chunk,
+        None => unreachable!(),
+    }
+}
+
+/// `f` maps the chunk that starts at `start`, and its answer is written to the front.
+pub fn map_chunk<T, C: Chunk<T>, F: FnOnce(&C) -> C>(in_out: &mut [T], start: usize, f: F)
+where
+    T: Drop,
+    F: Drop,
+    requires callable { TakesChunk C.chunk_items F.FnOnce C.chunk_len f (drop start in_out.old) }
+    requires room { start + C.chunk_len ≤ length in_out.old }
+    ensures { MapsChunk C.chunk_items F.FnOnce C.chunk_len f in_out.old start in_out.new }
+{
+    let count = C::chunk_len();
+    let output = f(chunk_at(in_out, start));
+    let front = &mut in_out[..count];
+    output.put(front);
+}

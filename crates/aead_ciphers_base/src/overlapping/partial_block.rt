@@ -1,0 +1,74 @@
+//! An input that is shorter than a block.
+
+ghost use Rattle.std.specs.Prelude.{◌≡◌, ◌↔◌, ◌-◌, ◌<◌, ◌≤◌, ◌++◌, IsOk, IfOk, IfErr, drop, length, take};
+
+use super::Overlapping;
+use crate::error::InputTooLongError;
+
+/// An overlapping buffer whose input has fewer than `BLOCK_LEN` items.
+#[derive(Drop)]
+pub struct PartialBlock<'i, T, const BLOCK_LEN: usize> {
+    /// The whole slice.
+    pub in_out: &'i mut [T],
+    /// Where the input starts, in items.
+    pub start: usize,
+    pub ghost within: { start ≤ length in_out.now },
+    pub ghost short: { length in_out.now - start < BLOCK_LEN },
+}
+
+impl<'i, T, const BLOCK_LEN: usize> PartialBlock<'i, T, BLOCK_LEN> {
+    /// Refused with the length of the input where that is at or above `BLOCK_LEN`.
+    pub fn new(in_out: Overlapping<'i, T>) -> Result<Self, InputTooLongError>
+        ensures accepted { IsOk result ↔ (length in_out.entry.in_out.now - in_out.entry.start < BLOCK_LEN) }
+        ensures same_reference { IfOk result (λ b. b.in_out.ghost_name ≡ in_out.entry.in_out.ghost_name) }
+        ensures items { IfOk result (λ b. b.in_out.now ≡ in_out.entry.in_out.now) }
+        ensures start { IfOk result (λ b. b.start ≡ in_out.entry.start) }
+        ensures refused { IfErr result (λ e. e ≡ length in_out.entry.in_out.now - in_out.entry.start) }
+    {
+        let Overlapping { in_out, start } = in_out;
+        let len = in_out.len() - start;
+        if len >= BLOCK_LEN {
+            return Err(InputTooLongError::new(len));
+        }
+        Ok(PartialBlock { in_out, start })
+    }
+
+    /// As `new`, for an input that is known to be short.
+    pub fn short(in_out: Overlapping<'i, T>) -> Self
+        requires { length in_out.in_out.now - in_out.start < BLOCK_LEN }
+        ensures same_reference { result.in_out.ghost_name ≡ in_out.entry.in_out.ghost_name }
+        ensures items { result.in_out.now ≡ in_out.entry.in_out.now }
+        ensures start { result.start ≡ in_out.entry.start }
+    {
+        let Overlapping { in_out, start } = in_out;
+        PartialBlock { in_out, start }
+    }
+
+    /// The slice from the start on.
+    pub fn input(&self) -> &[T]
+        ensures { result.now ≡ drop self.now.start self.now.in_out.now }
+    {
+        &self.in_out[self.start..]
+    }
+
+    /// The length of the input, in items.
+    pub fn len(&self) -> usize
+        ensures { result ≡ length self.now.in_out.now - self.now.start }
+    {
+        self.in_out.len() - self.start
+    }
+
+    /// Writes as many items of `padded` as the input has to the front of the slice.
+    pub fn overwrite_at_start(self, padded: [T; BLOCK_LEN])
+    where
+        T: Copy,
+        ensures { self.exit.0.now
+            ≡ take (length self.entry.in_out.now - self.entry.start) padded
+            ++ drop (length self.entry.in_out.now - self.entry.start) self.entry.in_out.now }
+    {
+        let PartialBlock { in_out, start } = self;
+        let count = in_out.len() - start;
+        let output = &mut in_out[..count];
+        output.copy_from_slice(&padded[..count]);
+    }
+}

@@ -1,0 +1,175 @@
+//! Views of a slice as blocks that are written.
+
+ghost use Rattle.std.specs.Prelude.{◌≡◌, ℕ, ◌*◌, ◌/◌, ◌%◌, ◌<◌, ◌≤◌, ◌^◌, ◌++◌, MatchOption, drop, length, take};
+ghost use Rattle.std.specs.Borrow.{sem, LendsBoth, Array};
+ghost use Rattle.std.specs.Fn.{FnOnceReturnsAtMut, FnOnceTakesAtMut};
+ghost use Rattle.std.specs.Iterator.{at_most};
+ghost use Rattle.std.specs.Slice.Iter.{chunk_count, chunks_mut_rest, chunks_mut_size};
+ghost use Rattle.aead_ciphers_base.specs.Blocks.{blocks, joined};
+ghost use Rattle.aead_ciphers_base.specs.ChunksMut.{IsNextPart};
+
+use super::AsChunks;
+
+/// As many items as fill whole blocks of `N`, and the rest.
+pub fn split_whole<T, const N: usize>(items: &mut [T]) -> (&mut [T], &mut [T])
+    requires { 0 < N }
+    ensures* writes_back { sem 𝓛 (LendsBoth (Array T.row 0) (Array T.row 0) (Array T.row 0) items.entry result ◌++◌) }
+    ensures whole { result.0.now ≡ take (length items.old / N * N) items.old }
+    ensures rest { result.1.now ≡ drop (length items.old / N * N) items.old }
+{
+    let count = items.len() / N * N;
+    items.split_at_mut(count)
+}
+
+/// As many whole blocks of `N` as fit, and the rest.
+#[tactic(auto, using(crate::proofs::BlocksLemmas::blocks_take, crate::proofs::BlocksLemmas::whole_blocks))]
+pub fn as_chunks_mut<T, const N: usize>(items: &mut [T]) -> (AsChunksMut<'_, T, N>, &mut [T])
+    requires { 0 < N }
+    ensures view { blocks N result.0.items.now ≡ blocks N items.old }
+    ensures whole { result.0.items.now ≡ take (length items.old / N * N) items.old }
+    ensures rest { result.1.now ≡ drop (length items.old / N * N) items.old }
+    ensures short { length result.1.now < N }
+{
+    let (whole, rest) = split_whole::<T, N>(items);
+    (AsChunksMut { items: whole }, rest)
+}
+
+/// Whole blocks of `N` items, seen as the list of their items.
+#[derive(Drop)]
+pub struct AsChunksMut<'a, T, const N: usize> {
+    /// The items of all blocks.
+    pub items: &'a mut [T],
+    pub ghost whole: { length items.now % N ≡ 0 },
+}
+
+impl<'a, 'b, T, const N: usize> From<&'a AsChunksMut<'b, T, N>> for AsChunks<'a, T, N> {
+    ghost from_gives = { λ m v. v.items.now ≡ m.now.items.now };
+
+    fn from(view: &'a AsChunksMut<'b, T, N>) -> Self {
+        AsChunks { items: view.items }
+    }
+}
+
+impl<'a, T, const N: usize> AsChunksMut<'a, T, N> {
+    ghost use Rattle.aead_ciphers_base.specs.AsChunksMut.{LendsItems};
+
+    /// The blocks of a slice that is known to be whole blocks.
+    pub fn from_whole(items: &'a mut [T]) -> Self
+        requires { length items.old % N ≡ 0 }
+        ensures same_reference { result.items.ghost_name ≡ items.entry.ghost_name }
+        ensures items { result.items.now ≡ items.old }
+    {
+        AsChunksMut { items }
+    }
+
+    /// The items of all blocks.
+    #[tactic(auto, using(crate::proofs::BlocksLemmas::joined_blocks))]
+    pub fn as_flattened(&self) -> &[T]
+        ensures items { result.now ≡ self.now.items.now }
+        ensures view { result.now ≡ joined (blocks N self.now.items.now) }
+    {
+        self.items
+    }
+
+    /// The items of all blocks, for writing.
+    #[tactic(auto, using(crate::proofs::BlocksLemmas::joined_blocks))]
+    pub fn as_flattened_mut(&mut self) -> &mut [T]
+        ensures* writes_back { sem 𝓛 (LendsItems T.row N.row self.entry result) }
+        ensures items { result.now ≡ self.old.items.now }
+    {
+        self.items
+    }
+
+    /// `f` gets the items of all blocks, for writing.
+    pub fn with_flattened_mut<R, F: FnOnce(&mut [T]) -> R>(&mut self, f: F) -> R
+        requires { FnOnceTakesAtMut F.FnOnce f self.old.items.now }
+        ensures same_reference { self.new.items.ghost_name ≡ self.old.items.ghost_name }
+        ensures written { FnOnceReturnsAtMut F.FnOnce f self.old.items.now result self.new.items.now }
+    {
+        f(self.items)
+    }
+
+    /// Hands the items back.
+    pub fn into_flattened(self) -> &'a mut [T]
+        ensures same_reference { result.ghost_name ≡ self.entry.items.ghost_name }
+        ensures items { result.now ≡ self.entry.items.now }
+    {
+        self.items
+    }
+
+    /// The same blocks, for a shorter time.
+    pub fn as_mut(&mut self) -> AsChunksMut<'_, T, N>
+        ensures { result.items.now ≡ self.old.items.now }
+    {
+        AsChunksMut {
+            items: self.as_flattened_mut(),
+        }
+    }
+
+    /// The same blocks, for reading.
+    pub fn as_ref(&self) -> AsChunks<'_, T, N>
+        ensures { result.items.now ≡ self.now.items.now }
+    {
+        AsChunks::from(self)
+    }
+
+    /// The first `mid` blocks, and the blocks behind them.
+    #[tactic(auto, using(crate::proofs::BlocksLemmas::blocks_fit, crate::proofs::BlocksLemmas::whole_front, crate::proofs::BlocksLemmas::whole_back, crate::proofs::BlocksLemmas::blocks_front, crate::proofs::BlocksLemmas::blocks_back))]
+    pub fn split_at_mut(&mut self, mid: usize) -> (AsChunksMut<'_, T, N>, AsChunksMut<'_, T, N>)
+        requires { mid ≤ length (blocks N self.old.items.now) }
+        ensures before { blocks N result.0.items.now ≡ take mid (blocks N self.old.items.now) }
+        ensures after { blocks N result.1.items.now ≡ drop mid (blocks N self.old.items.now) }
+        ensures front { result.0.items.now ≡ take (mid * N) self.old.items.now }
+        ensures back { result.1.items.now ≡ drop (mid * N) self.old.items.now }
+    {
+        let (before, after) = self.as_flattened_mut().split_at_mut(mid * N);
+        (AsChunksMut { items: before }, AsChunksMut { items: after })
+    }
+
+    /// Views of `CHUNK_LEN` blocks each, in order; the last may have fewer.
+    #[tactic(auto, using(crate::proofs::BlocksLemmas::whole_size))]
+    pub fn chunks_mut<const CHUNK_LEN: usize>(&mut self) -> AsChunksMutChunksMutIter<'_, T, N>
+        requires some { 0 < CHUNK_LEN }
+        requires fits { CHUNK_LEN * N < 2 ^ 64 }
+        ensures rest { chunks_mut_rest result.chunks ≡ self.old.items.now }
+        ensures size { 0 < N → chunks_mut_size result.chunks ≡ CHUNK_LEN * N }
+    {
+        let size = (CHUNK_LEN * N).max(1);
+        AsChunksMutChunksMutIter {
+            chunks: self.as_flattened_mut().chunks_mut(size),
+        }
+    }
+}
+
+/// The views that `AsChunksMut::chunks_mut` gives.
+#[derive(Drop)]
+pub struct AsChunksMutChunksMutIter<'a, T, const N: usize> {
+    /// The items that are left, in chunks of whole blocks.
+    pub chunks: std::slice::ChunksMut<'a, T>,
+    pub ghost some: { 0 < chunks_mut_size chunks },
+    pub ghost whole_size: { 0 < N → chunks_mut_size chunks % N ≡ 0 },
+    pub ghost whole_rest: { length (chunks_mut_rest chunks) % N ≡ 0 },
+}
+
+impl<'a, T, const N: usize> Iterator for AsChunksMutChunksMutIter<'a, T, N> {
+    type Item = AsChunksMut<'a, T, N>;
+
+    ghost next_gives = { λ s r t. (chunks_mut_size t.chunks ≡ chunks_mut_size s.chunks)
+        × MatchOption r
+        ((length (chunks_mut_rest s.chunks) ≡ 0) × (length (chunks_mut_rest t.chunks) ≡ 0))
+        (λ v. IsNextPart (chunks_mut_size s.chunks)
+        (chunks_mut_rest s.chunks) v.items.now (chunks_mut_rest t.chunks)) };
+
+    ghost remaining = { λ s. at_most (chunk_count (length (chunks_mut_rest s.chunks)) (chunks_mut_size s.chunks)) };
+
+    fn size_hint(&self) -> (usize, Option<usize>) {
+        self.chunks.size_hint()
+    }
+
+    fn next(&mut self) -> Option<AsChunksMut<'a, T, N>> {
+        match self.chunks.next() {
+            Some(items) => Some(AsChunksMut { items }),
+            None => None,
+        }
+    }
+}

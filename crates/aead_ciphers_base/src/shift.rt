@@ -1,0 +1,29 @@
+//! Blocks that are transformed while they are moved to the front.
+
+ghost use Rattle.std.specs.Prelude.{◌≡◌, ◌-◌, ◌%◌, ◌<◌, drop, length};
+ghost use Rattle.aead_ciphers_base.specs.Shift.{ShiftsBlocks, TakesBlocks};
+
+use crate::overlapping::{Chunk, Overlapping, chunk_at};
+
+/// Each block of the input goes through `transform` to the front of the slice, in order.
+pub fn shift_full_blocks<C: Chunk<u8>, F: FnMut(&C) -> C + Drop>(
+    in_out: Overlapping<'_, u8>,
+    mut transform: F,
+)
+    requires some { 0 < C.chunk_len }
+    requires whole { (length in_out.in_out.now - in_out.start) % C.chunk_len ≡ 0 }
+    requires callable { TakesBlocks C.chunk_items F.FnMut C.chunk_len transform
+        (drop in_out.start in_out.in_out.now) }
+    ensures { ShiftsBlocks C.chunk_items F.FnMut C.chunk_len transform
+        in_out.entry.in_out.now in_out.entry.start in_out.exit.0.now }
+{
+    let Overlapping { in_out, start } = in_out;
+    let size = C::chunk_len();
+    let count = (in_out.len() - start) / size;
+    for i in 0..count {
+        let from = i * size;
+        let output = transform(chunk_at(in_out, start + from));
+        let place = &mut in_out[from..from + size];
+        output.put(place);
+    }
+}
