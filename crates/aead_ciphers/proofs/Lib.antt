@@ -1,3 +1,5 @@
+pub mod CounterSequenceLemmas
+pub mod FreshLemmas
 pub mod FrontLemmas
 pub mod GcmLemmas
 pub mod GhashBits
@@ -7,9 +9,12 @@ pub mod GhashLaws
 pub mod HashLemmas
 pub mod Lending
 pub mod LendingSteps
+pub mod OpenLemmas
 pub mod OpenedLemmas
 pub mod PaddingLemmas
 pub mod ProductLoop
 pub mod RoundTripLemmas
+pub mod RunLemmas
+pub mod SealLemmas
 pub mod WordLemmas
 pub mod XorLaws

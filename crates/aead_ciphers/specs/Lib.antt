@@ -1,9 +1,16 @@
 pub mod AeadKey
 pub mod AesGcm
 pub mod Algorithm
+pub mod BoundState
+pub mod CounterSequence
+pub mod FreshNonces
 pub mod Gcm
 pub mod Ghash
 pub mod HashOf
+pub mod HeaderProtection
 pub mod Laws
 pub mod Lending
+pub mod NonceSequence
+pub mod Runs
+pub mod Steps
 pub mod Words

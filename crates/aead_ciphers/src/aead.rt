@@ -1,16 +1,27 @@
 //! Authenticated encryption with additional authenticated data, by AES-GCM (SP 800-38D).
 
 mod algorithm;
+mod bound_key;
+mod counter_sequence;
 mod in_out;
 pub mod lend;
 mod less_safe_key;
+mod nonce_sequence;
+mod opening_key;
+pub mod quic;
+mod sealing_key;
 mod unbound_key;
 
 pub use aead_ciphers_base::error::Unspecified;
 pub use aead_ciphers_base::values::{Aad, MAX_TAG_LEN, NONCE_LEN, Nonce, Tag};
 pub use algorithm::{AES_128_GCM, AES_256_GCM, Algorithm};
+pub use bound_key::BoundKey;
+pub use counter_sequence::CounterSequence;
 pub use in_out::InOut;
 pub use less_safe_key::LessSafeKey;
+pub use nonce_sequence::NonceSequence;
+pub use opening_key::OpeningKey;
+pub use sealing_key::SealingKey;
 pub use unbound_key::UnboundKey;
 
 #[cfg(test)]

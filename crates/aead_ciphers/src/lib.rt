@@ -6,3 +6,4 @@ pub mod aeadrun;
 pub mod aes_gcm;
 pub mod gcm;
 pub mod laws;
+pub mod session;

@@ -21,12 +21,12 @@ enum AlgorithmId {
 }
 
 /// AES-128 in Galois/Counter Mode (SP 800-38D), with 12-byte nonces and 16-byte tags.
-pub static AES_128_GCM: Algorithm = Algorithm {
+pub const AES_128_GCM: Algorithm = Algorithm {
     id: AlgorithmId::AES_128_GCM,
 };
 
 /// AES-256 in Galois/Counter Mode (SP 800-38D), with 12-byte nonces and 16-byte tags.
-pub static AES_256_GCM: Algorithm = Algorithm {
+pub const AES_256_GCM: Algorithm = Algorithm {
     id: AlgorithmId::AES_256_GCM,
 };
 

@@ -1,6 +1,6 @@
 //! Lines of input as commands.
 
-use super::words::bytes;
+use super::words::{bytes, number};
 use crate::aead::{AES_128_GCM, AES_256_GCM, Algorithm};
 use std::alloc::{AllocError, Global};
 use std::str;
@@ -16,6 +16,15 @@ pub(super) enum Command {
         nonce: Vec<u8>,
         aad: Vec<u8>,
         message: Vec<u8>,
+    },
+    /// `open 128|256 KEY NONCE AAD START BUFFER`
+    Open {
+        algorithm: &'static Algorithm,
+        key: Vec<u8>,
+        nonce: Vec<u8>,
+        aad: Vec<u8>,
+        start: usize,
+        buffer: Vec<u8>,
     },
 }
 
@@ -46,6 +55,7 @@ impl Command {
         };
         let command = match words.next()? {
             "seal" => Command::seal(&mut words)?,
+            "open" => Command::open(&mut words)?,
             _ => return Err(LineError::BadLine),
         };
         words.end()?;
@@ -59,6 +69,17 @@ impl Command {
             nonce: words.bytes()?,
             aad: words.bytes()?,
             message: words.bytes()?,
+        })
+    }
+
+    fn open(words: &mut Words<'_>) -> Result<Command, LineError> {
+        Ok(Command::Open {
+            algorithm: words.algorithm()?,
+            key: words.bytes()?,
+            nonce: words.bytes()?,
+            aad: words.bytes()?,
+            start: words.number()? as usize,
+            buffer: words.bytes()?,
         })
     }
 }
@@ -79,6 +100,11 @@ impl<'a> Words<'a> {
     /// The next word as bytes.
     fn bytes(&mut self) -> Result<Vec<u8>, LineError> {
         bytes(self.alloc, self.next()?)?.ok_or(LineError::BadLine)
+    }
+
+    /// The next word as a number.
+    fn number(&mut self) -> Result<u64, LineError> {
+        number(self.next()?).ok_or(LineError::BadLine)
     }
 
     /// The next word as the name of an algorithm.

@@ -77,6 +77,64 @@ fn digits_of_either_case(rt: HostRuntime) -> Result<(), Fail> {
 }
 
 #[test]
+fn opens_gcm_spec_case_4_behind_four_bytes(rt: HostRuntime) -> Result<(), Fail> {
+    let alloc = rt.alloc();
+    let input = format!(in alloc;
+        "open 128 {KEY} {NONCE} {AAD} 4 00000000{CIPHERTEXT}{TAG}\n\
+         open 128 {KEY} {NONCE} {AAD} 4 00000000{CIPHERTEXT}5bc94fbc3221a5db94fae95ae7121a46\n\
+         open 128 {KEY} {NONCE} {AAD} 3 00000000{CIPHERTEXT}{TAG}\n"
+    )?;
+    let (status, printed) = run(alloc, input.as_bytes())?;
+    let answers = format!(in alloc;
+        "ok {PLAINTEXT} {PLAINTEXT}3d58e091{TAG}\n\
+         refused 00000000{CIPHERTEXT}5bc94fbc3221a5db94fae95ae7121a46\n\
+         refused 00000000{CIPHERTEXT}{TAG}\n"
+    )?;
+    assert_eq!(rt; printed.as_str(), answers.as_str());
+    assert_eq!(rt; status, 0);
+    Ok(())
+}
+
+#[test]
+fn opens_gcm_spec_case_1(rt: HostRuntime) -> Result<(), Fail> {
+    let alloc = rt.alloc();
+    let input = format!(in alloc;
+        "open 128 {ZERO_BLOCK} {ZERO_NONCE} - 0 58e2fccefa7e3061367f1d57a4e7455a\n\
+         open 128 {ZERO_BLOCK} {ZERO_NONCE} - 1 58e2fccefa7e3061367f1d57a4e7455a\n\
+         open 128 {ZERO_BLOCK} {ZERO_NONCE} - 0 -\n"
+    )?;
+    let (status, printed) = run(alloc, input.as_bytes())?;
+    let answers = "ok - 58e2fccefa7e3061367f1d57a4e7455a\n\
+                   refused 58e2fccefa7e3061367f1d57a4e7455a\n\
+                   refused -\n";
+    assert_eq!(rt; printed.as_str(), answers);
+    assert_eq!(rt; status, 0);
+    Ok(())
+}
+
+#[test]
+fn starts(rt: HostRuntime) -> Result<(), Fail> {
+    let alloc = rt.alloc();
+    let input = format!(in alloc;
+        "open 128 {KEY} {NONCE} - 18446744073709551615 ff\n\
+         open 128 {KEY} {NONCE} - 007 00112233445566778899aabbccddee\n\
+         open 128 {KEY} {NONCE} - 00000000000000000000 ff\n\
+         open 128 {KEY} {NONCE} - 18446744073709551616 ff\n\
+         open 128 {KEY} {NONCE} - 000000000000000000000 ff\n\
+         open 128 {KEY} {NONCE} - +1 ff\n\
+         open 128 {KEY} {NONCE} - 0x1 ff\n\
+         open 128 {KEY} {NONCE} - - ff\n\
+         open 128 {KEY} {NONCE} -  ff\n"
+    )?;
+    let (status, printed) = run(alloc, input.as_bytes())?;
+    let answers = "refused ff\nrefused 00112233445566778899aabbccddee\nrefused ff\n\
+                   bad line\nbad line\nbad line\nbad line\nbad line\nbad line\n";
+    assert_eq!(rt; printed.as_str(), answers);
+    assert_eq!(rt; status, 1);
+    Ok(())
+}
+
+#[test]
 fn refusals_are_no_bad_lines(rt: HostRuntime) -> Result<(), Fail> {
     let alloc = rt.alloc();
     let input = format!(in alloc;
@@ -85,13 +143,15 @@ fn refusals_are_no_bad_lines(rt: HostRuntime) -> Result<(), Fail> {
          seal 128 {KEY}{KEY} {NONCE} - -\n\
          seal 128 - {NONCE} - -\n\
          seal 128 {KEY} - - -\n\
-         seal 128 {KEY} {NONCE}00 - -\n"
+         seal 128 {KEY} {NONCE}00 - -\n\
+         open 128 00 00 - 0 ff\n\
+         open 256 {KEY} {NONCE} - 0 {TAG}\n"
     )?;
     let (status, printed) = run(alloc, input.as_bytes())?;
-    assert_eq!(rt;
-        printed.as_str(),
-        "refused\nrefused\nrefused\nrefused\nrefused\nrefused\n"
-    );
+    let answers = format!(in alloc;
+        "refused\nrefused\nrefused\nrefused\nrefused\nrefused\nrefused ff\nrefused {TAG}\n"
+    )?;
+    assert_eq!(rt; printed.as_str(), answers.as_str());
     assert_eq!(rt; status, 0);
     Ok(())
 }

@@ -1,13 +1,17 @@
-//! The words of a line that stand for bytes.
-ghost use Rattle.std.specs.Prelude.{◌≡◌, ◌↔◌, option_map, Some, IsSome, IfOk};
+//! The words of a line that stand for bytes and for numbers.
+ghost use Rattle.std.specs.Prelude.{◌≡◌, ◌↔◌, option_map, Some, IsSome, IfSome, IfOk};
 ghost use Rattle.std.specs.String.{string_bytes};
-ghost use Rattle.aead_ciphers.specs.Words.{IsBytesWord, bytes_of_word, word_of_bytes};
+ghost use Rattle.std.specs.Str.Parse.{digits_value};
+ghost use Rattle.aead_ciphers.specs.Words.{IsBytesWord, IsNumberWord, bytes_of_word, word_of_bytes};
 
 use hex::FromHexError;
 use std::alloc::{AllocError, Global};
 
 /// The word that stands for no bytes.
 const NO_BYTES: &str = "-";
+
+/// The most digits that a number has.
+const MAX_DIGITS: usize = 20;
 
 /// The bytes that a word stands for, or `None` where it stands for none: `-` is no bytes, else each byte
 /// is two hex digits of either case.
@@ -39,4 +43,15 @@ pub fn text(alloc: Global, bytes: &[u8]) -> Result<String, AllocError>
         return String::from_str(alloc, NO_BYTES);
     }
     hex::encode(alloc, bytes)
+}
+
+/// The number that a word of decimal digits stands for, or `None` where it stands for none.
+pub(super) fn number(word: &str) -> Option<u64>
+    ensures accepted { IsSome result ↔ IsNumberWord word.now }
+    ensures value { IfSome result (λ n. n ≡ digits_value 10 word.now) }
+{
+    if word.len() > MAX_DIGITS || word.starts_with('+') {
+        return None;
+    }
+    word.parse().ok()
 }

@@ -1,0 +1,46 @@
+-- The cases of a sealing call.
+use Rattle.std.proofs.Common.{◌≡◌, ℕ, ◌-◌, ◌↔◌, ◌++◌, List, Bool, true, false, length, take, replicate, is_ok, IsOk, IsErr, IfOk, OnOk, OnErr, Ok, Err, Result, refl, sym, ap, ◌∙◌, subst, arith, length-append}
+use Rattle.std.proofs.Math.Seq.{take-append_seam}
+use Rattle.aead_ciphers.specs.AesGcm.{aes_encrypted, aes_tag, aes_sealed}
+use Rattle.aead_ciphers.specs.BoundState.{BoundState}
+use Rattle.aead_ciphers.specs.Gcm.{Fits}
+use Rattle.aead_ciphers.specs.NonceSequence.{Closes}
+use Rattle.aead_ciphers.specs.Steps.{SealStep, no_room, no_nonce, too_long, sealed, Spends, Refuses, with_tag}
+
+pub grown_less : (xs : List ℕ) → length (xs ++ replicate 16 0) - 16 ≡ length xs
+grown_less xs = omega (arith, length-append xs (replicate 16 0))
+
+pub grown_front : (xs : List ℕ) → take (length (xs ++ replicate 16 0) - 16) (xs ++ replicate 16 0) ≡ xs
+grown_front xs = rw (grown_less xs) (take-append_seam xs (replicate 16 0))
+
+module _ {N : Type 0} (spent : N → List (List ℕ)) (is_closed : N → Bool) (refuse grant : Type 0) (was : BoundState N) (aad old : List ℕ) where
+  -- a sealing that found no room
+  pub no_room_step : {X E : Type 0} (new : List ℕ) (r : Result X E) → IsErr r → refuse → new ≡ old
+      → SealStep spent is_closed refuse grant was was aad old new (is_ok r)
+  no_room_step new (Ok x) is h e = let no : false ≡ true = is in absurd (cc)
+  no_room_step new (Err x) is h e = no_room h refl e
+
+  -- a sealing whose sequence refused, where the tag stands apart
+  pub no_nonce_separate : {E : Type 0} (now : BoundState N) (new : List ℕ) (r : Result (List ℕ) E) → IsErr r → grant
+      → Closes (spent was.sequence) (spent now.sequence) (is_closed now.sequence) → new ≡ old
+      → SealStep spent is_closed refuse grant was now aad old (with_tag new r) (is_ok r)
+  no_nonce_separate now new (Ok x) is g closes e = let no : false ≡ true = is in absurd (cc)
+  no_nonce_separate now new (Err x) is g closes e = no_nonce g closes e
+
+  -- a sealing that spent its nonce
+  pub spent_step : {X E : Type 0} (now : BoundState N) (nonce new : List ℕ) (r : Result X E) → grant → Spends spent is_closed was now nonce
+      → (IsOk r ↔ Fits (length aad) (length old)) → OnOk r (new ≡ aes_sealed was.key.bytes nonce aad old) → OnErr r (new ≡ old)
+      → SealStep spent is_closed refuse grant was now aad old new (is_ok r)
+  spent_step now nonce new (Ok x) g spends accepted ok err = sealed g nonce spends (accepted.0 refl) ok
+  spent_step now nonce new (Err e) g spends accepted ok err =
+      too_long g nonce spends (λ fits. let no : false ≡ true = accepted.1 fits in cc) err
+
+  -- the same where the tag stands apart
+  pub separate_step : {E : Type 0} (now : BoundState N) (nonce new : List ℕ) (r : Result (List ℕ) E) → grant → Spends spent is_closed was now nonce
+      → (IsOk r ↔ Fits (length aad) (length old)) → OnOk r (new ≡ aes_encrypted was.key.bytes nonce old)
+      → IfOk r (λ tag. tag ≡ aes_tag was.key.bytes nonce aad new) → OnErr r (new ≡ old)
+      → SealStep spent is_closed refuse grant was now aad old (with_tag new r) (is_ok r)
+  separate_step now nonce new (Ok tag) g spends accepted ok tagged err =
+      sealed g nonce spends (accepted.0 refl) (rw (tagged, ok) refl)
+  separate_step now nonce new (Err e) g spends accepted ok tagged err =
+      too_long g nonce spends (λ fits. let no : false ≡ true = accepted.1 fits in cc) err

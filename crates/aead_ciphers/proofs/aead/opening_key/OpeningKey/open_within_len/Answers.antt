@@ -1,0 +1,12 @@
+use Rattle.std.proofs.Common.{refl}
+use Rattle.aead_ciphers.specs.Steps.{opened}
+use Rattle.aead_ciphers.proofs.OpenLemmas.{no_nonce_open}
+use Rattle.aead_ciphers.proofs.aead.opening_key.OpeningKey.open_within_len.Goals as goal
+
+pub returns-in_err-nonce-clause-step : goal.returns-in_err-nonce-clause-step
+returns-in_err-nonce-clause-step g c =
+    rw (← c.self.view_is) (no_nonce_open _ _ _ _ _ _ _ _ c.from_residual.result c.from_residual.ensures.0 c.in_err-nonce.ensures.err refl)
+
+pub returns-clause-step : goal.returns-clause-step
+returns-clause-step g c =
+    rw (← c.self.view_is) (opened c.in_ok-nonce.nonce _ c.in_ok-nonce.ensures.ok c.open_within_len.ensures.opened)

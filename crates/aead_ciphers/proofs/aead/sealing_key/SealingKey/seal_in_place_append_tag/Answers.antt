@@ -1,0 +1,26 @@
+use Rattle.std.proofs.Common.{◌≡◌, ◌++◌, ◌-◌, ◌∙◌, length, take, refl, replicate}
+use Rattle.std.proofs.Math.Seq.{take-append_seam}
+use Rattle.aead_ciphers.specs.Steps.{SealStep, no_nonce}
+use Rattle.aead_ciphers.proofs.SealLemmas.{no_room_step, grown_less, grown_front, spent_step}
+use Rattle.aead_ciphers.proofs.aead.sealing_key.SealingKey.seal_in_place_append_tag.Goals as goal
+use Rattle.aead_ciphers.proofs.aead.sealing_key.SealingKey.seal_in_place_append_tag.Goals.{in-Ok, in-Err}
+
+pub returns-in_err-grow_by_tag-clause-step : goal.returns-in_err-grow_by_tag-clause-step
+returns-in_err-grow_by_tag-clause-step g c =
+    let e = c.in_err-grow_by_tag.ensures in
+    no_room_step _ _ _ _ _ _ _ _ c.from_residual.result c.from_residual.ensures.0 e.refused e.kept
+
+pub returns-clause-step : goal.returns-clause-step
+returns-clause-step g c =
+    let bytes = g.B.InOut.bytes in
+    let old = bytes c.args.in_out.now in
+    let grown : bytes c.grow_by_tag.new.self ≡ old ++ replicate 16 0 = c.in_ok-grow_by_tag.ensures.grown in
+    let few : length (bytes c.grow_by_tag.new.self) - 16 ≡ length old = rw grown (grown_less old) in
+    let front : take (length old) (bytes c.grow_by_tag.new.self) ≡ old = rw grown (take-append_seam old (replicate 16 0)) in
+    elim c.match-advance.branch [
+      | in-Ok w ↦
+        let made = rw (few, front) at w.seal_with_room.ensures in
+        rw (← c.self.view_is, w.in_out-is, w.result-is) (spent_step _ _ _ _ _ _ _ _ _ _ w.seal_with_room.result c.in_ok-grow_by_tag.ensures.granted w.in-Ok.ensures.ok made.accepted made.sealed made.kept)
+      | in-Err w ↦
+        rw (← c.self.view_is, w.in_out-is, w.result-is) (no_nonce c.in_ok-grow_by_tag.ensures.granted w.in-Err.ensures.err (w.cut_tag.ensures ∙ rw grown (grown_front old)))
+    ]

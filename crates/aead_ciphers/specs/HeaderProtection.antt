@@ -1,0 +1,36 @@
+-- Header protection of QUIC (RFC 9001).
+use Rattle.std.specs.Prelude.{ℕ, List}
+use Rattle.aead_ciphers_base.specs.Mask.{aes_mask, chacha_mask}
+use Rattle.aead_ciphers.specs.declared.aead.quic.Algorithm.{Algorithm}
+use Rattle.aead_ciphers.specs.declared.aead.quic.AlgorithmId.{AlgorithmId}
+use Rattle.aead_ciphers.specs.declared.aead.quic.AlgorithmId.TheVariants.{AES_128, AES_256, CHACHA20}
+use Rattle.aead_ciphers.specs.declared.aead.quic.KeyInner.{KeyInner}
+use Rattle.aead_ciphers.specs.declared.aead.quic.KeyInner.TheVariants.{Aes128, Aes256, ChaCha20}
+
+abbrev pub id_key_len : AlgorithmId → ℕ
+id_key_len AES_128 = 16
+id_key_len AES_256 = 32
+id_key_len CHACHA20 = 32
+
+-- sections 5.4.3 and 5.4.4: the bytes in a header protection key
+abbrev pub key_len : Algorithm → ℕ
+key_len algorithm = id_key_len algorithm.id
+
+abbrev pub id_mask : AlgorithmId → List ℕ → List ℕ → List ℕ
+id_mask AES_128 key sample = aes_mask key sample
+id_mask AES_256 key sample = aes_mask key sample
+id_mask CHACHA20 key sample = chacha_mask key sample
+
+-- section 5.4.1: mask = header_protection(hp_key, sample)
+abbrev pub header_protection : Algorithm → List ℕ → List ℕ → List ℕ
+header_protection algorithm key sample = id_mask algorithm.id key sample
+
+-- what a contract sees of a header protection key: the algorithm that it was made with, and its bytes
+pub record HeaderKey : Type 0 where
+  pub algorithm : Algorithm
+  pub bytes : List ℕ
+
+abbrev pub header_key : KeyInner → HeaderKey
+header_key (Aes128 key) = record { algorithm = record { id = AES_128 }; bytes = key }
+header_key (Aes256 key) = record { algorithm = record { id = AES_256 }; bytes = key }
+header_key (ChaCha20 key) = record { algorithm = record { id = CHACHA20 }; bytes = key }

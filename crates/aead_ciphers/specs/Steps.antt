@@ -1,0 +1,35 @@
+-- What one call of a bound key does, by cases: the key and its sequence, and the buffer, before and after.
+use Rattle.std.specs.Prelude.{◌≡◌, ℕ, Bool, true, false, List, ◌++◌, length, Result, Ok, Err}
+use Rattle.aead_ciphers.specs.AesGcm.{aes_sealed, AesOpenedAttached}
+use Rattle.aead_ciphers.specs.BoundState.{BoundState}
+use Rattle.aead_ciphers.specs.Gcm.{Fits}
+use Rattle.aead_ciphers.specs.NonceSequence.{Appends, Closes}
+
+module _ {N : Type 0} (spent : N → List (List ℕ)) (is_closed : N → Bool) where
+  -- the sequence spends this nonce
+  abbrev pub Spends : BoundState N → BoundState N → List ℕ → Type 0
+  Spends was now nonce = Appends (spent was.sequence) (spent now.sequence) (is_closed was.sequence) nonce
+
+  -- the sequence refuses
+  abbrev pub Refuses : BoundState N → BoundState N → Type 0
+  Refuses was now = Closes (spent was.sequence) (spent now.sequence) (is_closed now.sequence)
+
+  -- Sealing with the tag appended, and whether it succeeds. Room for the tag is asked for first.
+  pub data SealStep (may_refuse may_grant : Type 0) (was now : BoundState N) (aad old new : List ℕ) : Bool → Type 0 where
+    no_room : may_refuse → now ≡ was → new ≡ old → SealStep may_refuse may_grant was now aad old new false
+    no_nonce : may_grant → Refuses was now → new ≡ old → SealStep may_refuse may_grant was now aad old new false
+    too_long : may_grant → (nonce : List ℕ) → Spends was now nonce → ¬ Fits (length aad) (length old) → new ≡ old
+        → SealStep may_refuse may_grant was now aad old new false
+    sealed : may_grant → (nonce : List ℕ) → Spends was now nonce → Fits (length aad) (length old)
+        → new ≡ aes_sealed was.key.bytes nonce aad old → SealStep may_refuse may_grant was now aad old new true
+
+  -- Opening with the tag attached, and whether it succeeds.
+  pub data OpenStep (was now : BoundState N) (aad : List ℕ) (start : ℕ) (old new : List ℕ) : Bool → Type 0 where
+    no_nonce : Refuses was now → new ≡ old → OpenStep was now aad start old new false
+    opened : (nonce : List ℕ) (accepts : Bool) → Spends was now nonce
+        → AesOpenedAttached was.key.bytes nonce aad start old accepts new → OpenStep was now aad start old new accepts
+
+-- the bytes, followed by the tag where there is one
+abbrev pub with_tag : {E : Type 0} → List ℕ → Result (List ℕ) E → List ℕ
+with_tag bytes (Ok tag) = bytes ++ tag
+with_tag bytes (Err e) = bytes

@@ -1,0 +1,88 @@
+//! Nonces of a prefix and a number that counts up.
+ghost use Rattle.std.specs.Prelude.{◌≡◌, ◌+◌, ◌^◌, ◌<◌, ◌≤◌, ◌↔◌, ◌++◌, IsOk, IfOk, OnOk, OnErr};
+ghost use Rattle.std.specs.Int.{to_be_bytes, w64};
+ghost use Rattle.aead_ciphers.specs.CounterSequence.{Counting, spent_nonces, is_used_up, origin_of};
+ghost use Rattle.aead_ciphers.specs.NonceSequence.{Appends, Closes};
+
+use crate::aead::{Nonce, NonceSequence, NONCE_LEN};
+use aead_ciphers_base::error::Unspecified;
+use std::marker::Model;
+
+/// The nonces of a 4-byte prefix and a number of 8 big-endian bytes that counts up from a first number (the
+/// deterministic construction of SP 800-38D section 8.2.1).
+#[derive(Drop)]
+pub struct CounterSequence {
+    prefix: [u8; 4],
+    first: u64,
+    count: u64,
+    used: u64,
+}
+
+impl Model for CounterSequence {
+    ghost use Rattle.std.specs.Prelude.{◌≡◌, ◌+◌, ◌^◌, ◌≤◌, length};
+    ghost use Rattle.aead_ciphers.specs.CounterSequence.{Counting};
+
+    ghost Value = { Counting };
+
+    ghost view = { λ s. record { prefix = s.prefix; first = s.first; count = s.count; used = s.used } };
+
+    ghost invariant = { λ s. (s.used ≤ s.count) × (s.first + s.count ≤ 2 ^ 64) };
+}
+
+impl CounterSequence {
+    /// A sequence of `count` nonces, of the numbers from `first` on. Refused where `first + count` is above
+    /// 2^64.
+    pub fn new(prefix: [u8; 4], first: u64, count: u64) -> Result<Self, Unspecified>
+        ensures accepted { IsOk result ↔ (first + count ≤ 2 ^ 64) }
+        ensures made { IfOk result (λ sequence. sequence
+            ≡ record { prefix = prefix; first = first; count = count; used = 0 }) }
+    {
+        if count > 0 && first > u64::MAX - (count - 1) {
+            return Err(Unspecified);
+        }
+        Ok(CounterSequence {
+            prefix,
+            first,
+            count,
+            used: 0,
+        })
+    }
+}
+
+// The nonce of a prefix and a number.
+fn nonce_of(prefix: &[u8; 4], number: u64) -> Nonce
+    ensures { result ≡ prefix.now ++ to_be_bytes w64 number }
+{
+    let mut bytes = [0; NONCE_LEN];
+    bytes[..4].copy_from_slice(prefix);
+    bytes[4..].copy_from_slice(&number.to_be_bytes());
+    Nonce::assume_unique_for_key(bytes)
+}
+
+impl NonceSequence for CounterSequence {
+    ghost use Rattle.aead_ciphers.specs.CounterSequence.{spent_nonces, is_used_up, origin_of};
+
+    ghost spent = { spent_nonces };
+
+    ghost is_closed = { is_used_up };
+
+    ghost origin = { origin_of };
+
+    fn advance(&mut self) -> Result<Nonce, Unspecified>
+        ensures ok { IfOk result (λ nonce.
+            Appends (spent_nonces self.old) (spent_nonces self.new) (is_used_up self.old) nonce) }
+        ensures err { OnErr result
+            (Closes (spent_nonces self.old) (spent_nonces self.new) (is_used_up self.new)) }
+        ensures origin_kept { origin_of self.new ≡ origin_of self.old }
+        ensures accepted { IsOk result ↔ (self.old.used < self.old.count) }
+        ensures counted { OnOk result (self.new ≡ record self.old { used = self.old.used + 1 }) }
+        ensures refused { OnErr result (self.new ≡ self.old) }
+    {
+        if self.used >= self.count {
+            return Err(Unspecified);
+        }
+        let nonce = nonce_of(&self.prefix, self.first + self.used);
+        self.used += 1;
+        Ok(nonce)
+    }
+}

@@ -1,0 +1,119 @@
+//! A key that opens with the nonces of a sequence.
+ghost use Rattle.std.specs.Prelude.{◌≡◌, ◌-◌, length, is_ok, IfOk};
+ghost use Rattle.std.specs.Borrow.{sem};
+ghost use Rattle.aead_ciphers_base.specs.Values.{aad_bytes};
+ghost use Rattle.aead_ciphers.specs.BoundState.{Keeps};
+ghost use Rattle.aead_ciphers.specs.Lending.{LendsFront, lent_buffer};
+ghost use Rattle.aead_ciphers.specs.Steps.{OpenStep};
+
+use crate::aead::lend::front_if;
+use crate::aead::{Aad, Algorithm, BoundKey, LessSafeKey, NonceSequence, UnboundKey, Unspecified};
+use std::fmt;
+use std::marker::Model;
+use std::ops::RangeFrom;
+
+/// A key that opens, each time with the next nonce of its sequence. It can't be cloned.
+#[derive(Drop)]
+pub struct OpeningKey<N> {
+    key: LessSafeKey,
+    nonce_sequence: N,
+}
+
+impl<N> Model for OpeningKey<N> {
+    ghost use Rattle.aead_ciphers.specs.BoundState.{BoundState};
+
+    ghost Value = { BoundState N };
+
+    ghost view = { λ bound. record { key = bound.key; sequence = bound.nonce_sequence } };
+}
+
+impl<N> fmt::Debug for OpeningKey<N> {
+    fn fmt<W: fmt::Write>(&self, f: &mut fmt::Formatter<W>) -> fmt::Result {
+        let algorithm = self.key.algorithm();
+        write!(f, "OpeningKey {{ algorithm: {algorithm:?} }}")
+    }
+}
+
+impl<N: NonceSequence> BoundKey<N> for OpeningKey<N> {
+    ghost key = { λ bound. bound.key };
+
+    ghost sequence = { λ bound. bound.sequence };
+
+    fn new(unbound_key: UnboundKey, nonce_sequence: N) -> Self {
+        OpeningKey {
+            key: LessSafeKey::new(unbound_key),
+            nonce_sequence,
+        }
+    }
+
+    fn algorithm(&self) -> &'static Algorithm {
+        self.key.algorithm()
+    }
+}
+
+impl<N: NonceSequence> OpeningKey<N> {
+    /// What `open_within` does to the buffer. It gives the plaintext's length in place of the plaintext.
+    pub fn open_within_len(
+        &mut self,
+        aad: Aad<'_>,
+        in_out: &mut [u8],
+        ciphertext_and_tag: RangeFrom<usize>,
+    ) -> Result<usize, Unspecified>
+        ensures kept { Keeps N.origin self.old self.new }
+        ensures step { OpenStep N.spent N.is_closed self.old self.new (aad_bytes aad.entry)
+            ciphertext_and_tag.start in_out.old in_out.new (is_ok result) }
+        ensures count { IfOk result (λ n. n ≡ length in_out.old - 16 - ciphertext_and_tag.start) }
+    {
+        let nonce = self.nonce_sequence.advance()?;
+        self.key.open_within_len(nonce, aad, in_out, ciphertext_and_tag)
+    }
+
+    /// What `open_in_place` does to the buffer. It gives the plaintext's length in place of the plaintext.
+    pub fn open_in_place_len(
+        &mut self,
+        aad: Aad<'_>,
+        in_out: &mut [u8],
+    ) -> Result<usize, Unspecified>
+        ensures kept { Keeps N.origin self.old self.new }
+        ensures step { OpenStep N.spent N.is_closed self.old self.new (aad_bytes aad.entry)
+            0 in_out.old in_out.new (is_ok result) }
+        ensures count { IfOk result (λ n. n ≡ length in_out.old - 16) }
+    {
+        self.open_within_len(aad, in_out, 0..)
+    }
+    /// Opens the buffer from byte `ciphertext_and_tag.start` on under the next nonce, and lends the plaintext, which
+    /// stands at the front of the buffer (SP 800-38D algorithm 5). The last 16 bytes are the tag, and stay.
+    ///
+    /// The sequence is asked first. Refused where it refuses; then, with the nonce spent, where there are no 16
+    /// bytes, where the start is past the tag's, where the lengths don't fit, and where the tag is another.
+    pub fn open_within<'a>(
+        &mut self,
+        aad: Aad<'_>,
+        in_out: &'a mut [u8],
+        ciphertext_and_tag: RangeFrom<usize>,
+    ) -> Result<&'a mut [u8], Unspecified>
+        ensures* writes_back { sem 𝓛 (LendsFront in_out.entry result
+            (length in_out.old - 16 - ciphertext_and_tag.start)) }
+        ensures kept { Keeps N.origin self.old self.new }
+        ensures step { OpenStep N.spent N.is_closed self.old self.new (aad_bytes aad.entry)
+            ciphertext_and_tag.start in_out.old (lent_buffer result in_out.old) (is_ok result) }
+    {
+        let opened = self.open_within_len(aad, in_out, ciphertext_and_tag);
+        front_if(in_out, opened)
+    }
+
+    /// `open_within` from the first byte on.
+    pub fn open_in_place<'a>(
+        &mut self,
+        aad: Aad<'_>,
+        in_out: &'a mut [u8],
+    ) -> Result<&'a mut [u8], Unspecified>
+        ensures* writes_back { sem 𝓛 (LendsFront in_out.entry result (length in_out.old - 16)) }
+        ensures kept { Keeps N.origin self.old self.new }
+        ensures step { OpenStep N.spent N.is_closed self.old self.new (aad_bytes aad.entry)
+            0 in_out.old (lent_buffer result in_out.old) (is_ok result) }
+    {
+        let opened = self.open_in_place_len(aad, in_out);
+        front_if(in_out, opened)
+    }
+}

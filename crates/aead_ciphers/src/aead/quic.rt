@@ -1,0 +1,148 @@
+//! Header protection masks of QUIC (RFC 9001 section 5.4).
+
+ghost use Rattle.std.specs.Prelude.{◌≡◌, ◌↔◌, length, IsOk, IfOk};
+
+use aead_ciphers_base::aes::{AES_128_KEY_LEN, AES_256_KEY_LEN, KeyBytes};
+use aead_ciphers_base::error::Unspecified;
+pub use aead_ciphers_base::values::Sample;
+use aead_ciphers_base::{aes, chacha};
+use std::fmt;
+use std::marker::Model;
+
+#[cfg(test)]
+mod tests;
+
+const SAMPLE_LEN: usize = 16;
+
+/// A header protection algorithm. Two are equal where their ids are.
+#[derive(Clone, Copy, PartialEq, Eq)]
+pub struct Algorithm {
+    id: AlgorithmId,
+}
+
+#[derive(Clone, Copy, PartialEq, Eq)]
+enum AlgorithmId {
+    AES_128,
+    AES_256,
+    CHACHA20,
+}
+
+/// Header protection by AES-128 (RFC 9001 section 5.4.3).
+pub const AES_128: Algorithm = Algorithm {
+    id: AlgorithmId::AES_128,
+};
+
+/// Header protection by AES-256 (RFC 9001 section 5.4.3).
+pub const AES_256: Algorithm = Algorithm {
+    id: AlgorithmId::AES_256,
+};
+
+/// Header protection by ChaCha20 (RFC 9001 section 5.4.4).
+pub const CHACHA20: Algorithm = Algorithm {
+    id: AlgorithmId::CHACHA20,
+};
+
+impl fmt::Debug for Algorithm {
+    fn fmt<W: fmt::Write>(&self, f: &mut fmt::Formatter<W>) -> fmt::Result {
+        match self.id {
+            AlgorithmId::AES_128 => write!(f, "AES_128"),
+            AlgorithmId::AES_256 => write!(f, "AES_256"),
+            AlgorithmId::CHACHA20 => write!(f, "CHACHA20"),
+        }
+    }
+}
+
+impl Algorithm {
+    ghost use Rattle.aead_ciphers.specs.HeaderProtection.{key_len};
+
+    /// The length of a key, in bytes.
+    pub fn key_len(&self) -> usize
+        ensures { result ≡ key_len self.now }
+    {
+        match self.id {
+            AlgorithmId::AES_128 => AES_128_KEY_LEN,
+            AlgorithmId::AES_256 => AES_256_KEY_LEN,
+            AlgorithmId::CHACHA20 => chacha::KEY_LEN,
+        }
+    }
+
+    /// The length of a sample, in bytes.
+    pub fn sample_len(&self) -> usize
+        ensures { result ≡ 16 }
+    {
+        SAMPLE_LEN
+    }
+}
+
+/// A header protection key.
+#[derive(Drop)]
+pub struct HeaderProtectionKey {
+    inner: KeyInner,
+}
+
+#[derive(Drop)]
+enum KeyInner {
+    Aes128(aes::Key),
+    Aes256(aes::Key),
+    ChaCha20(chacha::Key),
+}
+
+impl Model for HeaderProtectionKey {
+    ghost use Rattle.aead_ciphers.specs.HeaderProtection.{HeaderKey, header_key};
+
+    ghost Value = { HeaderKey };
+
+    ghost view = { λ key. header_key key.inner };
+}
+
+impl HeaderProtectionKey {
+    ghost use Rattle.aead_ciphers.specs.HeaderProtection.{key_len, header_protection};
+
+    /// The key of these bytes. Refused where the algorithm's keys have another length.
+    pub fn new(algorithm: &Algorithm, key_bytes: &[u8]) -> Result<Self, Unspecified>
+        ensures accepted { IsOk result ↔ (length key_bytes.now ≡ key_len algorithm.now) }
+        ensures made { IfOk result (λ key. key ≡ record { algorithm = algorithm.now; bytes = key_bytes.now }) }
+    {
+        let inner = match algorithm.id {
+            AlgorithmId::AES_128 => match key_bytes.as_array::<AES_128_KEY_LEN>() {
+                Some(bytes) => KeyInner::Aes128(aes::Key::new(KeyBytes::AES_128(bytes))?),
+                None => return Err(Unspecified),
+            },
+            AlgorithmId::AES_256 => match key_bytes.as_array::<AES_256_KEY_LEN>() {
+                Some(bytes) => KeyInner::Aes256(aes::Key::new(KeyBytes::AES_256(bytes))?),
+                None => return Err(Unspecified),
+            },
+            AlgorithmId::CHACHA20 => match key_bytes.as_array::<{ chacha::KEY_LEN }>() {
+                Some(bytes) => KeyInner::ChaCha20(chacha::Key::new(*bytes)),
+                None => return Err(Unspecified),
+            },
+        };
+        Ok(HeaderProtectionKey { inner })
+    }
+
+    /// The mask of a sample. Refused where the sample hasn't 16 bytes.
+    pub fn new_mask(&self, sample: &[u8]) -> Result<[u8; 5], Unspecified>
+        ensures accepted { IsOk result ↔ (length sample.now ≡ 16) }
+        ensures mask { IfOk result (λ mask. mask ≡ header_protection self.now.algorithm self.now.bytes sample.now) }
+    {
+        let Some(sample) = sample.as_array::<SAMPLE_LEN>() else {
+            return Err(Unspecified);
+        };
+        Ok(match &self.inner {
+            KeyInner::Aes128(key) => key.new_mask(*sample),
+            KeyInner::Aes256(key) => key.new_mask(*sample),
+            KeyInner::ChaCha20(key) => key.new_mask(*sample),
+        })
+    }
+
+    /// The algorithm that it was made with.
+    pub fn algorithm(&self) -> &'static Algorithm
+        ensures { result.now ≡ self.now.algorithm }
+    {
+        match self.inner {
+            KeyInner::Aes128(_) => &AES_128,
+            KeyInner::Aes256(_) => &AES_256,
+            KeyInner::ChaCha20(_) => &CHACHA20,
+        }
+    }
+}

@@ -1,0 +1,89 @@
+//! A key that seals with the nonces of a sequence.
+ghost use Rattle.std.specs.Prelude.{⊤, is_ok};
+ghost use Rattle.aead_ciphers_base.specs.Values.{aad_bytes};
+ghost use Rattle.aead_ciphers.specs.BoundState.{Keeps};
+ghost use Rattle.aead_ciphers.specs.Steps.{SealStep, with_tag};
+
+use crate::aead::{
+    Aad, Algorithm, BoundKey, InOut, LessSafeKey, NonceSequence, Tag, UnboundKey, Unspecified,
+};
+use std::fmt;
+use std::marker::Model;
+
+/// A key that seals, each time with the next nonce of its sequence. It can't be cloned.
+#[derive(Drop)]
+pub struct SealingKey<N> {
+    key: LessSafeKey,
+    nonce_sequence: N,
+}
+
+impl<N> Model for SealingKey<N> {
+    ghost use Rattle.aead_ciphers.specs.BoundState.{BoundState};
+
+    ghost Value = { BoundState N };
+
+    ghost view = { λ bound. record { key = bound.key; sequence = bound.nonce_sequence } };
+}
+
+impl<N> fmt::Debug for SealingKey<N> {
+    fn fmt<W: fmt::Write>(&self, f: &mut fmt::Formatter<W>) -> fmt::Result {
+        let algorithm = self.key.algorithm();
+        write!(f, "SealingKey {{ algorithm: {algorithm:?} }}")
+    }
+}
+
+impl<N: NonceSequence> BoundKey<N> for SealingKey<N> {
+    ghost key = { λ bound. bound.key };
+
+    ghost sequence = { λ bound. bound.sequence };
+
+    fn new(unbound_key: UnboundKey, nonce_sequence: N) -> Self {
+        SealingKey {
+            key: LessSafeKey::new(unbound_key),
+            nonce_sequence,
+        }
+    }
+
+    fn algorithm(&self) -> &'static Algorithm {
+        self.key.algorithm()
+    }
+}
+
+impl<N: NonceSequence> SealingKey<N> {
+    /// Encrypts the buffer under the next nonce and appends the tag (SP 800-38D algorithm 4): n bytes in,
+    /// n + 16 out. Room for the tag is asked for first, then the sequence, and then the lengths are looked at.
+    pub fn seal_in_place_append_tag<B: InOut>(
+        &mut self,
+        aad: Aad<'_>,
+        in_out: &mut B,
+    ) -> Result<(), Unspecified>
+        ensures kept { Keeps N.origin self.old self.new }
+        ensures step { SealStep N.spent N.is_closed (B.may_refuse in_out.old) (B.may_grant in_out.old)
+            self.old self.new (aad_bytes aad.entry) (B.bytes in_out.old) (B.bytes in_out.new)
+            (is_ok result) }
+    {
+        in_out.grow_by_tag()?;
+        match self.nonce_sequence.advance() {
+            Ok(nonce) => self.key.seal_with_room(nonce, aad, in_out),
+            Err(error) => {
+                in_out.cut_tag();
+                Err(error)
+            }
+        }
+    }
+
+    /// Encrypts the buffer under the next nonce, and gives the tag (SP 800-38D algorithm 4). The sequence is
+    /// asked first, and then the lengths are looked at.
+    pub fn seal_in_place_separate_tag(
+        &mut self,
+        aad: Aad<'_>,
+        in_out: &mut [u8],
+    ) -> Result<Tag, Unspecified>
+        ensures kept { Keeps N.origin self.old self.new }
+        ensures step { SealStep N.spent N.is_closed ⊥ ⊤ self.old self.new (aad_bytes aad.entry)
+            in_out.old (with_tag in_out.new result) (is_ok result) }
+    {
+        let nonce = self.nonce_sequence.advance()?;
+        self.key.seal_in_place_separate_tag(nonce, aad, in_out)
+    }
+}
