@@ -13,7 +13,7 @@ use Rattle.aead_ciphers_base.proofs.PolynomialBits.{Series}
 use Rattle.aead_ciphers_base.proofs.PolynomialAction.{times}
 use Rattle.aead_ciphers_base.proofs.PolynomialLaws.{field_product_is, length-field_product, modulus, same_coefficients}
 use Rattle.aead_ciphers.proofs.GhashBits.{length-bits}
-use Rattle.aead_ciphers.proofs.GhashBytes.{block_bits_of_number, number_after, power_256, byte_at_is}
+use Rattle.aead_ciphers.proofs.GhashBytes.{digit_up, block_bits_of_number, number_after, power_256, byte_at_is}
 use Rattle.aead_ciphers.proofs.ProductLoop.{block_low}
 
 -- ---- bytes back from bits
@@ -26,9 +26,6 @@ All-first x xs h = h 0 x (omega arith)
 
 All-rest : (x : ℕ) (xs : List ℕ) → All Byte (x ∷ xs) → All Byte xs
 All-rest x xs h = λ k d below. h (suc k) d (omega arith)
-
-digit_up : (a c x p q r : ℕ) → q ≡ p * c → (a * c + x) * p + r ≡ a * q + (x * p + r)
-digit_up a c x p q r e = (let h : (a * c + x) * p + r ≡ a * (p * c) + (x * p + r) = omega arith in h) ∙ ap (λ (y : ℕ). a * y + (x * p + r)) (sym e)
 
 digit_below : (c x p q r : ℕ) → q ≡ p * c → x < c → r < p → x * p + r < q
 digit_below c x p q r e small below = let h = mul-add-lt x p r c small below in omega (arith, h)

@@ -1,5 +1,5 @@
 -- The bits of a number's big-endian bytes are the number's bits.
-use Rattle.std.proofs.Common.{◌≡◌, ℕ, zero, suc, ◌+◌, ◌*◌, ◌/◌, ◌%◌, ◌^◌, ◌<◌, ◌≤◌, Bool, List, ◌∷◌, ◌++◌, fold, flat_map, refl, sym, ap, ap₂, ◌∙◌, arith, if◌then◌else◌, ◌==◌, zero-add, mod-eq_of_lt, pow-suc, div-one, bit_xor}
+use Rattle.std.proofs.Common.{◌≡◌, ℕ, zero, suc, ◌+◌, ◌*◌, ◌/◌, ◌%◌, ◌^◌, ◌<◌, ◌≤◌, Bool, List, ◌∷◌, ◌++◌, fold, flat_map, refl, sym, ap, ap₂, ◌∙◌, arith, if◌then◌else◌, ◌==◌, zero-add, mod-eq_of_lt, pow-suc, div-one, bit_xor, mul_comm}
 use Rattle.std.specs.Int.{bit_at, bytes_high_first, byte_at, to_be_bytes, w128}
 use Rattle.std.proofs.lemmas.Nat.{mod-pow-add, shr-shr, div-add-mod', pow-add, xor_shr, xor_mod}
 use Rattle.std.proofs.lemmas.Nat.Bits.{bit_at-lt, bit_at_cat_low}
@@ -46,8 +46,9 @@ bit_value zero h = refl
 bit_value (suc zero) h = refl
 bit_value (suc (suc x)) h = absurd (omega arith)
 
-regroup : (a x p q r : ℕ) → q ≡ p * 2 → (2 * a + x) * p + r ≡ a * q + (x * p + r)
-regroup a x p q r e = (let h : (2 * a + x) * p + r ≡ a * (p * 2) + (x * p + r) = omega arith in h) ∙ ap (λ (y : ℕ). a * y + (x * p + r)) (sym e)
+-- a digit x below the number a, above the rest r
+pub digit_up : (a c x p q r : ℕ) → q ≡ p * c → (a * c + x) * p + r ≡ a * q + (x * p + r)
+digit_up a c x p q r e = (let h : (a * c + x) * p + r ≡ a * (p * c) + (x * p + r) = omega arith in h) ∙ ap (λ (y : ℕ). a * y + (x * p + r)) (sym e)
 
 pub number_after : (k n a : ℕ) → fold (λ (m : ℕ) (b : Bool). 2 * m + (if b then 1 else 0)) a (bits_high_first k n) ≡ a * 2 ^ k + n % 2 ^ k
 unfolding bits_high_first
@@ -57,7 +58,7 @@ number_after (suc k) n a =
     ∙ ap (λ (x : ℕ). (2 * a + x) * 2 ^ k + n % 2 ^ k) (bit_value (bit_at n k) (bit_at-lt n k))
     ∙ (let one_more : suc k ≡ 1 + k = omega arith in
     let e : n % 2 ^ suc k ≡ bit_at n k * 2 ^ k + n % 2 ^ k = ap (λ (j : ℕ). n % 2 ^ j) one_more ∙ mod-pow-add n 1 k in
-    regroup a (bit_at n k) (2 ^ k) (2 ^ suc k) (n % 2 ^ k) (pow-suc 2 k) ∙ ap (λ (x : ℕ). a * 2 ^ suc k + x) (sym e))
+    ap (λ (y : ℕ). (y + bit_at n k) * 2 ^ k + n % 2 ^ k) (mul_comm 2 a) ∙ digit_up a 2 (bit_at n k) (2 ^ k) (2 ^ suc k) (n % 2 ^ k) (pow-suc 2 k) ∙ ap (λ (x : ℕ). a * 2 ^ suc k + x) (sym e))
 
 pub number_of_bits : (n : ℕ) → n < 2 ^ 128 → number (bits_high_first 128 n) ≡ n
 number_of_bits n h = number_after 128 n 0 ∙ omega (arith, mod-eq_of_lt h)

@@ -1,5 +1,5 @@
 -- The running hash, block by block.
-use Rattle.std.proofs.Common.{◌≡◌, ℕ, List, [], ◌∷◌, ◌++◌, length, bit_xor, refl, sym, ap, ap₂, subst, ◌∙◌, append_assoc, append-nil}
+use Rattle.std.proofs.Common.{◌≡◌, ℕ, List, [], ◌∷◌, ◌++◌, length, bit_xor, sym, ap, ap₂, subst, ◌∙◌, append_assoc, append-nil}
 use Rattle.std.specs.Int.{to_be_bytes, w128}
 use Rattle.aead_ciphers_base.specs.Bytes.{◌⊕◌}
 use Rattle.aead_ciphers.specs.Ghash.{◌•◌}
@@ -23,9 +23,6 @@ hash_one h xi block key sum number next done is_h is_xi is_block is_next at =
 -- some list in front has the hash, and it and the blocks that are left are all of them
 abbrev pub HashedFront : List ℕ → List (List ℕ) → List (List ℕ) → List ℕ → Type 0
 HashedFront h left all xi = (front : List (List ℕ)) × (front ++ left ≡ all) × IsHashOf h front xi
-
-pub front_start : (h : List ℕ) (done left : List (List ℕ)) (xi : List ℕ) → IsHashOf h done xi → HashedFront h left (done ++ left) xi
-front_start h done left xi at = (done, refl, at)
 
 pub front_more : (h : List ℕ) (block : List ℕ) (left rest all : List (List ℕ)) (xi xi' : List ℕ) → left ≡ block ∷ rest →
     ((done : List (List ℕ)) → IsHashOf h done xi → IsHashOf h (done ++ block ∷ []) xi') → HashedFront h left all xi → HashedFront h rest all xi'

@@ -1,6 +1,6 @@
 //! AES-GCM with 12-byte nonces and 16-byte tags (SP 800-38D section 7), in place.
 
-ghost use Rattle.std.specs.Prelude.{◌≡◌, ◌≤◌, ◌-◌, ◌+◌, ◌↔◌, length, IsOk, IfOk, OnOk, OnErr, is_ok, ⊤};
+ghost use Rattle.std.specs.Prelude.{◌≡◌, ◌≤◌, ◌<◌, ◌-◌, ◌+◌, ◌↔◌, length, IsOk, IfOk, OnOk, OnErr, is_ok, ⊤};
 ghost use Rattle.aead_ciphers_base.specs.KeyBytes.{key_bytes};
 ghost use Rattle.aead_ciphers_base.specs.Values.{aad_bytes};
 ghost use Rattle.aead_ciphers_base.specs.Work.{Adds, Room, HasRoom};
@@ -11,6 +11,8 @@ mod counter_mode;
 mod hash;
 mod opening;
 mod sealing;
+#[cfg(test)]
+mod tests;
 
 use crate::gcm;
 use aead_ciphers_base::aes::{self, EncryptBlock, KeyBytes, Work, ZERO_BLOCK};
@@ -110,11 +112,12 @@ pub fn open(
     ensures worked { OnOk result
         (let n = length in_out.old - src.start in let a = length (aad_bytes aad.entry) in
         Adds work.old work.new (sealing_blocks n) (sealing_products a n)) }
-    ensures compared { src.start ≤ length in_out.old →
+    ensures false_tag { src.start ≤ length in_out.old →
         let n = length in_out.old - src.start in let a = length (aad_bytes aad.entry) in
         Fits a n → OnErr result (Adds work.old work.new 1 (sealing_products a n)) }
-    ensures idle { ¬ ((src.start ≤ length in_out.old)
-        × Fits (length (aad_bytes aad.entry)) (length in_out.old - src.start)) →
+    ensures out_of_range { length in_out.old < src.start → Adds work.old work.new 0 0 }
+    ensures too_long { src.start ≤ length in_out.old →
+        ¬ Fits (length (aad_bytes aad.entry)) (length in_out.old - src.start) →
         Adds work.old work.new 0 0 }
 {
     opening::open_with(

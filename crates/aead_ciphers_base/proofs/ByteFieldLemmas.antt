@@ -1,10 +1,10 @@
 -- The laws of the bytes as a field.
-use Rattle.std.proofs.Common.{◌≡◌, ℕ, ◌^◌, ◌<◌, Bool, true, List, [], ◌∷◌, length, refl, sym, ap, ◌∙◌, arith}
+use Rattle.std.proofs.Common.{◌≡◌, ℕ, ◌*◌, ◌/◌, ◌%◌, ◌^◌, ◌<◌, Bool, true, List, [], ◌∷◌, length, refl, sym, ap, ◌∙◌, arith, bit_xor}
 use Rattle.std.specs.Prelude.{◌==◌}
 use Rattle.aead_ciphers_base.specs.Polynomial.{field_product, polynomial_product, reduced, without_highests, without_highest}
 use Rattle.aead_ciphers_base.specs.ByteField.{bits_of, value_of, mul8, inv, affine, sbox}
 use Rattle.aead_ciphers_base.proofs.PolynomialLemmas.{polynomial_product-add_left, polynomial_product-add_right, reduced-add, length-polynomial_product, length-reduced}
-use Rattle.aead_ciphers_base.proofs.BitsLemmas.{bits_of-xor, value_of-add, value_of-lt, IsAdditive, IsAdditive_zero, same_additive, all_below, all_below_at, same_below}
+use Rattle.aead_ciphers_base.proofs.BitsLemmas.{bits_of-xor, value_of-add, value_of-lt, IsAdditive, same_additive, all_below, all_below_at, same_below}
 
 -- `unfolding field` lets `refl` compute in the field
 unfoldable pub field : Unit {0}
@@ -36,7 +36,7 @@ mul8-xor_right x y z =
     ∙ ap value_of (reduced-add taps 8 (long y) (long z) (length_long x y ∙ sym (length_long x z)))
     ∙ value_of-add (reduced taps 8 (long y)) (reduced taps 8 (long z)) (length_short x y ∙ sym (length_short x z))
 
-pub mul8-xor_left : (y : ℕ) → IsAdditive (λ x. mul8 x y)
+mul8-xor_left : (y : ℕ) → IsAdditive (λ x. mul8 x y)
 unfolding mul8 field_product
 mul8-xor_left y x z =
     let long = λ (t : ℕ). polynomial_product (bits_of 8 t) (bits_of 8 y) in
@@ -69,9 +69,6 @@ one_test = refl
 pub one-mul8 : (x : ℕ) → x < 256 → mul8 1 x ≡ x
 one-mul8 x h = same_additive (mul8 1) (λ a. a) (mul8-xor_right 1) (λ a b. refl) 8 (λ i lt. same_below (λ a. mul8 1 (2 ^ a)) (λ a. 2 ^ a) 8 i one_test lt) x h
 
-pub zero-mul8 : (y : ℕ) → mul8 0 y ≡ 0
-zero-mul8 y = IsAdditive_zero (λ x. mul8 x y) (mul8-xor_left y)
-
 abbrev associates : ℕ → ℕ → ℕ → Bool
 associates i j k = mul8 (mul8 (2 ^ i) (2 ^ j)) (2 ^ k) == mul8 (2 ^ i) (mul8 (2 ^ j) (2 ^ k))
 
@@ -101,3 +98,19 @@ mul8_assoc x y z hx hy hz =
     z hz)
     y hy)
     x hx
+
+-- ---- the products by {02} and {03}
+
+two_test : all_below (λ b. bit_xor (b * 2 ^ 1 % 2 ^ 8) (b / 2 ^ 7 * 0x1b) == mul8 2 b) 256 ≡ true
+unfolding field
+two_test = refl
+
+three_test : all_below (λ b. bit_xor (mul8 2 b) b == mul8 3 b) 256 ≡ true
+unfolding field
+three_test = refl
+
+pub two_is : (b : ℕ) → b < 256 → bit_xor (b * 2 ^ 1 % 2 ^ 8) (b / 2 ^ 7 * 0x1b) ≡ mul8 2 b
+two_is b h = same_below (λ t. bit_xor (t * 2 ^ 1 % 2 ^ 8) (t / 2 ^ 7 * 0x1b)) (mul8 2) 256 b two_test h
+
+pub three_is : (b : ℕ) → b < 256 → bit_xor (mul8 2 b) b ≡ mul8 3 b
+three_is b h = same_below (λ t. bit_xor (mul8 2 t) t) (mul8 3) 256 b three_test h

@@ -3,7 +3,7 @@ use Rattle.std.proofs.Common.{◌≡◌, ℕ, ◌+◌, ◌%◌, ◌^◌, ◌<◌
 use Rattle.std.specs.Int.{from_be_bytes, to_be_bytes, w32}
 use Rattle.std.proofs.lemmas.Nat.{be_bytes_4, from_be_bytes-to_be_bytes_4}
 use Rattle.std.proofs.lemmas.List.{take-append-drop, length-take-le, length-drop, get_or-drop, take_at, drop_at, get_or-append-add, append-nil, set-append_right}
-use Rattle.aead_ciphers_base.specs.CounterMode.{counter_block, counter_mode, IsCounter}
+use Rattle.aead_ciphers_base.specs.CounterMode.{counter_block, IsCounter}
 
 -- its last four bytes
 pub last_byte : (old nonce : List ℕ) (k j : ℕ) → IsCounter old nonce k → get_or old (12 + j) 0 ≡ get_or (to_be_bytes w32 (k % 2 ^ 32)) j 0
@@ -49,11 +49,6 @@ counter_still c nonce k at = subst (λ (n : ℕ). IsCounter c nonce n) (let e : 
 
 pub counter_at : (c nonce : List ℕ) (j k : ℕ) → IsCounter c nonce j → j ≡ k → IsCounter c nonce k
 counter_at c nonce j k at e = subst (λ (n : ℕ). IsCounter c nonce n) e at
-
--- counter mode of nothing
-pub nothing : (cipher : List ℕ → List ℕ) (nonce rest : List ℕ) (k : ℕ) → rest ≡ counter_mode cipher nonce k [] ++ rest
-unfolding counter_mode
-nothing cipher nonce rest k = refl
 
 -- every block of bytes is a counter block
 pub counter_exists : (block : List ℕ) → length block ≡ 16 → ((i : ℕ) → get_or block i 0 < 256) → IsCounter block (take 12 block) (from_be_bytes w32 (drop 12 block))

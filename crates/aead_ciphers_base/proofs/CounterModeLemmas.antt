@@ -48,15 +48,6 @@ take-counter_mode cipher nonce k n text le =
     ∙ ap (λ (x : ℕ). bit_xor x (get_or (cipher (counter_block nonce (k + i / 16))) (i % 16) 0)) (sym (get_or-take n text i 0 below))
     ∙ sym (get_or-each (length (take n text)) (λ (j : ℕ). bit_xor (get_or (take n text) j 0) (get_or (cipher (counter_block nonce (k + j / 16))) (j % 16) 0)) i 0 (omega (arith, length-take-le n text le))))
 
--- counter mode after q blocks
-pub drop-counter_mode : (cipher : List ℕ → List ℕ) (nonce : List ℕ) (k q w : ℕ) (text : List ℕ) → w ≡ 16 * q → w ≤ length text →
-    drop w (counter_mode cipher nonce k text) ≡ counter_mode cipher nonce (k + q) (drop w text)
-drop-counter_mode cipher nonce k q w text whole le =
-    let front : length (take w text) ≡ w = length-take-le w text le in
-    ap (λ (u : List ℕ). drop w (counter_mode cipher nonce k u)) (sym (take-append-drop w text))
-    ∙ ap (drop w) (counter_mode-append cipher nonce k (take w text) (drop w text) q (front ∙ whole))
-    ∙ drop_at (counter_mode cipher nonce k (take w text)) (counter_mode cipher nonce (k + q) (drop w text)) w (length-counter_mode cipher nonce k (take w text) ∙ front)
-
 -- counter mode of nothing
 pub counter_mode-nil : (cipher : List ℕ → List ℕ) (nonce : List ℕ) (k : ℕ) (text : List ℕ) → text ≡ [] → counter_mode cipher nonce k text ≡ []
 unfolding counter_mode

@@ -4,7 +4,7 @@ use Rattle.std.specs.Prelude.{◌==◌}
 use Rattle.std.specs.List.{range_with_len}
 use Rattle.aead_ciphers_base.specs.ByteField.{mul8, inv}
 use Rattle.aead_ciphers_base.proofs.BitsLemmas.{all_below, same_below}
-use Rattle.aead_ciphers_base.proofs.FastLemmas.{by_fast_mul8}
+use Rattle.aead_ciphers_base.proofs.FastProductLemmas.{by_fast_mul8}
 
 -- the power 254 by a chain of 11 products, for any product
 abbrev power254_by : (ℕ → ℕ → ℕ) → ℕ → ℕ

@@ -7,7 +7,7 @@ use Rattle.aead_ciphers_base.specs.Planes.{plane_byte}
 use Rattle.aead_ciphers_base.specs.KeySchedule.{HoldsWords, key_of, IsSchedule}
 use Rattle.aead_ciphers_base.proofs.ScheduleLemmas.{key_word}
 
-pub length-key_words : (nk : ℕ) (key : List ℕ) (n : ℕ) → length (key_words nk key n) ≡ nk + n
+length-key_words : (nk : ℕ) (key : List ℕ) (n : ℕ) → length (key_words nk key n) ≡ nk + n
 unfolding key_words
 length-key_words nk key zero = length-map-range_with_len (key_word key) 0 nk ∙ omega arith
 length-key_words nk key (suc n) =
@@ -22,7 +22,7 @@ key_words_front nk key (suc n) i h =
     get_or_append_left (key_words nk key n) _ [] i (omega (arith, length-key_words nk key n)) ∙ key_words_front nk key n i h
 
 -- the round keys of a key begin with it
-pub key_of_schedule : (key : List ℕ) (round_keys : List (List ℕ)) (nk m n : ℕ) → length key ≡ 4 * nk → nk ≤ 8 → 2 ≤ n
+key_of_schedule : (key : List ℕ) (round_keys : List (List ℕ)) (nk m n : ℕ) → length key ≡ 4 * nk → nk ≤ 8 → 2 ≤ n
     → HoldsWords round_keys (key_words nk key m) n → key_of round_keys (nk + 6) ≡ key
 unfolding key_of
 key_of_schedule key round_keys nk m n len hk hn holds =

@@ -8,8 +8,7 @@ use Rattle.aead_ciphers_base.specs.Aes.{mixed}
 use Rattle.aead_ciphers_base.specs.Planes.{plane_byte, below, shifted_from}
 use Rattle.aead_ciphers_base.proofs.PolynomialLemmas.{same-polynomial, polynomial-add}
 use Rattle.aead_ciphers_base.proofs.PlaneLemmas.{set-xor}
-use Rattle.aead_ciphers_base.proofs.ByteFieldLemmas.{mul8-xor_right}
-use Rattle.aead_ciphers_base.proofs.TimesLemmas.{three_is}
+use Rattle.aead_ciphers_base.proofs.ByteFieldLemmas.{mul8-xor_right, three_is}
 use Rattle.aead_ciphers_base.specs.Polynomial.{◌xor◌, polynomial}
 use Rattle.aead_ciphers_base.proofs.BitsLemmas.{value_of-add, IsAdditive, same_additive, all_below, all_below_at, same_below}
 use Rattle.aead_ciphers_base.proofs.AdditiveLemmas.{additive_and, additive_shr, additive_shl, additive_xor, additive_after, additive_bit}

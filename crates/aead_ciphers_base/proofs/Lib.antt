@@ -1,5 +1,6 @@
 pub mod AdditiveLemmas
 pub mod BitsLemmas
+pub mod BlockLemmas
 pub mod BlocksLemmas
 pub mod BufferLemmas
 pub mod ByteFieldLemmas
@@ -9,8 +10,7 @@ pub mod CounterLemmas
 pub mod CounterModeLemmas
 pub mod CounterModeTwice
 pub mod EachLemmas
-pub mod FastLemmas
-pub mod FourLemmas
+pub mod FastProductLemmas
 pub mod InverseLemmas
 pub mod KeyLemmas
 pub mod KeyStreamLemmas
@@ -24,7 +24,5 @@ pub mod PolynomialLemmas
 pub mod ProductLemmas
 pub mod ScheduleLemmas
 pub mod ShiftLemmas
-pub mod StateLemmas
-pub mod TimesLemmas
 pub mod WordsLemmas
 pub mod XorLemmas

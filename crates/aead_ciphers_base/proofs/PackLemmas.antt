@@ -7,15 +7,15 @@ use Rattle.std.proofs.lemmas.List.{get_or_append_left, get_or-append_right}
 use Rattle.std.proofs.lemmas.List.FromFn.{fill_by_all}
 use Rattle.std.proofs.lemmas.Nat.Bits.{bit_at-lt, bit_at_cat_low, bit_at_cat_high, bit_at-zero}
 use Rattle.std.proofs.lemmas.Bool.{cases_lt, cond-true, cond-false, ltb-true, lt-ltb, le-ltb}
+use Rattle.std.proofs.Math.Bool.{and-false}
 use Rattle.aead_ciphers_base.specs.Polynomial.{◌xor◌, polynomial}
 use Rattle.aead_ciphers_base.specs.ByteField.{bits_of, value_of}
 use Rattle.aead_ciphers_base.specs.Planes.{plane_byte, plane_block, word_bit, exchanged_from}
 use Rattle.aead_ciphers_base.specs.declared.aes.pack.TheConstants.{LOW}
 use Rattle.aead_ciphers_base.proofs.BitsLemmas.{all_below, all_below_at, same_below, value_of-bits_of, length-bits_of}
-use Rattle.aead_ciphers_base.proofs.PolynomialLemmas.{and_false, same_polynomials, coefficient-polynomial}
+use Rattle.aead_ciphers_base.proofs.PolynomialLemmas.{same_polynomials, coefficient-polynomial}
 use Rattle.aead_ciphers_base.proofs.PlaneLemmas.{set-xor, set-and, bits_of_at}
-use Rattle.aead_ciphers_base.proofs.StateLemmas.{state_is}
-use Rattle.aead_ciphers_base.proofs.FourLemmas.{by_four}
+use Rattle.aead_ciphers_base.proofs.BlockLemmas.{state_is, by_four}
 
 bit_at-shr : (x s q : ℕ) → bit_at (x / 2 ^ s) q ≡ bit_at x (q + s)
 bit_at-shr x s q = let e : s + q ≡ q + s = omega arith in ap (λ t. t % 2) (shr-shr x s q) ∙ ap (bit_at x) e
@@ -120,7 +120,7 @@ module _ (a b k q : ℕ) (hk : k < 6) (hq : q < 64) where
     | inl less ↦
         let digit : bit_at q k ≡ 0 = sym (lower_is k q hk hq) ∙ cond-true (nat_lt q (2 ^ k)) 0 _ (lt-ltb q (2 ^ k) less) in
         ap (λ t. t == 1) (bit_at-shl_low moved (2 ^ k) 64 q hq less)
-        ∙ sym (ap (λ t. ((bit_at a q == 1) xor (bit_at b (q - 2 ^ k) == 1)) && (t == 1)) digit ∙ and_false ((bit_at a q == 1) xor (bit_at b (q - 2 ^ k) == 1)))
+        ∙ sym (ap (λ t. ((bit_at a q == 1) xor (bit_at b (q - 2 ^ k) == 1)) && (t == 1)) digit ∙ and-false ((bit_at a q == 1) xor (bit_at b (q - 2 ^ k) == 1)))
     | inr more ↦
         let digit : 1 - bit_at (q - 2 ^ k) k ≡ bit_at q k = sym (cond-false (nat_lt q (2 ^ k)) 0 _ (le-ltb q (2 ^ k) more)) ∙ lower_is k q hk hq in
         let place : q - 2 ^ k + 2 ^ k ≡ q = omega arith in

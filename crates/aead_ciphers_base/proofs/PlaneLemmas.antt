@@ -14,9 +14,6 @@ use Rattle.aead_ciphers_base.proofs.ByteFieldLemmas.{field}
 
 -- ---- one bit
 
-pub is_set : ℕ → ℕ → Bool
-is_set n p = bit_at n p == 1
-
 sum_digit : (x y : ℕ) → x < 2 → y < 2 → ((x + y) % 2 == 1) ≡ ◌xor◌ (x == 1) (y == 1)
 sum_digit zero zero hx hy = refl
 sum_digit zero (suc zero) hx hy = refl
@@ -59,10 +56,6 @@ pub plane_byte_bits : (a : List ℕ) (p : ℕ) → bits_of 8 (plane_byte a p) �
 unfolding plane_byte
 plane_byte_bits a p = bits_of-value_of (plane_bits a p)
 
-pub plane_byte_zero : (p : ℕ) → plane_byte (0 ∷ 0 ∷ 0 ∷ 0 ∷ 0 ∷ 0 ∷ 0 ∷ 0 ∷ []) p ≡ 0
-unfolding plane_byte
-plane_byte_zero p = let e : bit_at 0 p ≡ 0 = bit_at-zero p in rw e refl
-
 -- bit i of a number
 pub bits_of_at : (k n i : ℕ) → i < k → coefficient (bits_of k n) i ≡ (n / 2 ^ i % 2 == 1)
 bits_of_at zero n i h = absurd (omega arith)
@@ -71,10 +64,6 @@ bits_of_at (suc k) n (suc i) h =
     let e : n / 2 ^ 1 / 2 ^ i ≡ n / 2 ^ (1 + i) = shr-shr n 1 i in
     let s : 1 + i ≡ suc i = omega arith in
     bits_of_at k (n / 2) i (omega arith) ∙ ap (λ t. t % 2 == 1) (e ∙ ap (λ t. n / 2 ^ t) s)
-
-pub plane_bit : (a : List ℕ) (p i : ℕ) → i < 8 → (bit_at (slice_index a i) p == 1) ≡ (plane_byte a p / 2 ^ i % 2 == 1)
-plane_bit a p i h =
-    sym (coefficient-polynomial 8 (λ b. bit_at (slice_index a b) p == 1) i h) ∙ ap (λ q. coefficient q i) (sym (plane_byte_bits a p)) ∙ bits_of_at 8 (plane_byte a p) i h
 
 -- ---- times x
 

@@ -1,14 +1,13 @@
 -- What reduction leaves: the same multiple of one, and as many coefficients as the degree.
-use Rattle.std.proofs.Common.{◌≡◌, ◌==◌, ℕ, zero, suc, ◌+◌, ◌-◌, ◌<◌, ◌≤◌, Bool, true, false, ◌&&◌, ◌||◌, List, [], ◌∷◌, length, refl, sym, ap, ap₂, subst, ◌∙◌, arith, zero-add, suc-add}
+use Rattle.std.proofs.Common.{◌≡◌, ◌==◌, ℕ, zero, suc, ◌+◌, ◌-◌, ◌<◌, ◌≤◌, Bool, true, false, ◌&&◌, ◌||◌, List, [], ◌∷◌, length, refl, sym, ap, ap₂, ◌∙◌, arith, zero-add, suc-add}
 use Rattle.std.specs.List.{list_any}
 use Rattle.std.proofs.Math.ListN.{get_or-eq_default}
 use Rattle.std.proofs.Math.Dec.{eqb-suc-suc, eqb-suc-zero}
 use Rattle.std.proofs.lemmas.Bool.{ne_eqb}
-use Rattle.std.proofs.lemmas.List.{same_lists, get_or_default}
-use Rattle.std.proofs.lemmas.List.FromFn.{length-map-range_with_len}
-use Rattle.aead_ciphers_base.specs.Polynomial.{◌xor◌, coefficient, polynomial, polynomial_product, without_highest, without_highests, reduced, field_product}
+use Rattle.aead_ciphers_base.specs.Polynomial.{◌xor◌, coefficient, polynomial_product, without_highest, without_highests, reduced, field_product}
 use Rattle.aead_ciphers_base.proofs.PolynomialBits.{xor_zero, and_zero, and_one, Series, same_series, add, scale, shift, add_assoc, add_self}
-use Rattle.aead_ciphers_base.proofs.PolynomialAction.{product_coefficient, mul_x, horner, times, raise, horner_add, horner_scale, horner_push, polynomial_times, product_times}
+use Rattle.aead_ciphers_base.proofs.PolynomialLemmas.{length-polynomial, length-polynomial_product, length-reduced, same_polynomials}
+use Rattle.aead_ciphers_base.proofs.PolynomialAction.{mul_x, horner, times, raise, horner_add, horner_scale, horner_push, polynomial_times, product_times}
 
 abbrev pub one : Series
 one zero = true
@@ -42,10 +41,7 @@ monomial_same zero = refl
 monomial_same (suc n) = monomial_same n
 
 pub same_coefficients : (p q : List Bool) → length p ≡ length q → coefficient p ≡ coefficient q → p ≡ q
-same_coefficients p q e h = same_lists p q e (λ k d below. get_or_default p k d false below ∙ ap (λ (f : Series). f k) h ∙ get_or_default q k false d (subst (λ (n : ℕ). k < n) e below))
-
-pub length-polynomial : (n : ℕ) (f : Series) → length (polynomial n f) ≡ n
-length-polynomial n f = length-map-range_with_len f 0 n
+same_coefficients p q e h = same_polynomials p q e (λ k below. ap (λ (f : Series). f k) h)
 
 same_test : (f g : ℕ → Bool) (xs : List ℕ) → ((t : ℕ) → f t ≡ g t) → list_any f xs ≡ list_any g xs
 same_test f g xs h = ap (λ (test : ℕ → Bool). list_any test xs) (λ i t. h t i)
@@ -141,10 +137,6 @@ module _ (taps : List ℕ) (top : ℕ) (low : AllBelow (suc top) taps) where
 
   -- ---- reduction
 
-  length-without_highest : (n : ℕ) (p : List Bool) → length (without_highest taps (suc top) n p) ≡ suc top + n
-  unfolding without_highest
-  length-without_highest n p = length-polynomial (suc top + n) _
-
   times_without_highest : (n : ℕ) (p : List Bool) → length p ≡ suc (suc top + n) → times top m (without_highest taps (suc top) n p) one ≡ times top m p one
   unfolding without_highest
   times_without_highest n p e =
@@ -157,36 +149,23 @@ module _ (taps : List ℕ) (top : ℕ) (low : AllBelow (suc top) taps) where
       ∙ sym (horner_push top m k (coefficient p) one)
       ∙ ap (λ (j : ℕ). horner top m j (coefficient p) one) (sym e)
 
-  length-without_highests : (n : ℕ) (p : List Bool) → length p ≡ suc top + n → length (without_highests taps (suc top) n p) ≡ suc top
-  unfolding without_highests
-  length-without_highests zero p e = omega arith
-  length-without_highests (suc n) p e = length-without_highests n (without_highest taps (suc top) n p) (length-without_highest n p)
-
   times_without_highests : (n : ℕ) (p : List Bool) → length p ≡ suc top + n → times top m (without_highests taps (suc top) n p) one ≡ times top m p one
-  unfolding without_highests
+  unfolding without_highest without_highests
   times_without_highests zero p e = refl
   times_without_highests (suc n) p e =
-      times_without_highests n (without_highest taps (suc top) n p) (length-without_highest n p) ∙ times_without_highest n p (omega arith)
-
-  pub length-reduced : (p : List Bool) → suc top ≤ length p → length (reduced taps (suc top) p) ≡ suc top
-  unfolding reduced
-  length-reduced p long = length-without_highests (length p - suc top) p (omega arith)
+      times_without_highests n (without_highest taps (suc top) n p) (length-polynomial (suc top + n) _) ∙ times_without_highest n p (omega arith)
 
   pub coefficient-reduced : (p : List Bool) → suc top ≤ length p → coefficient (reduced taps (suc top) p) ≡ times top m p one
   unfolding reduced
   coefficient-reduced p long =
-      sym (times_one (reduced taps (suc top) p) (let e = length-reduced p long in omega arith))
+      sym (times_one (reduced taps (suc top) p) (let e = length-reduced taps (suc top) p long in omega arith))
       ∙ times_without_highests (length p - suc top) p (omega arith)
-
-  pub length-polynomial_product : (a b : List Bool) → length (polynomial_product a b) ≡ length a + length b - 1
-  unfolding polynomial_product
-  length-polynomial_product a b = length-polynomial (length a + length b - 1) (product_coefficient a b)
 
   -- ---- the product of polynomials of `suc top` coefficients
 
   pub length-field_product : (a b : List Bool) → length a ≡ suc top → length b ≡ suc top → length (field_product taps (suc top) a b) ≡ suc top
   unfolding field_product
-  length-field_product a b la lb = let e = length-polynomial_product a b in length-reduced (polynomial_product a b) (omega arith)
+  length-field_product a b la lb = let e = length-polynomial_product a b in length-reduced taps (suc top) (polynomial_product a b) (omega arith)
 
   pub field_product_is : (a b : List Bool) → length a ≡ suc top → length b ≡ suc top → coefficient (field_product taps (suc top) a b) ≡ times top m a (coefficient b)
   unfolding field_product

@@ -1,58 +1,16 @@
 -- The product and the reduction keep sums.
-use Rattle.std.proofs.Common.{◌≡◌, ℕ, zero, suc, ◌+◌, ◌-◌, ◌<◌, ◌≤◌, Bool, true, false, ◌&&◌, List, [], ◌∷◌, length, refl, sym, ap, ap₂, ◌∙◌, arith, ext_get_or}
+use Rattle.std.proofs.Common.{◌≡◌, ℕ, zero, suc, ◌+◌, ◌-◌, ◌<◌, ◌≤◌, Bool, false, ◌&&◌, List, [], ◌∷◌, length, refl, sym, ap, ap₂, ◌∙◌, arith, ext_get_or}
 use Rattle.std.proofs.lemmas.List.{get_or_past}
 use Rattle.std.proofs.lemmas.List.FromFn.{get_or-map-range_with_len, length-map-range_with_len}
 use Rattle.std.specs.List.{list_any}
 use Rattle.std.specs.Prelude.{◌==◌}
+use Rattle.aead_ciphers_base.proofs.PolynomialBits.{xor_zero, xor_exchange, and_xor, xor_and}
 use Rattle.aead_ciphers_base.specs.Polynomial.{◌xor◌, xor_sum, coefficient, polynomial, polynomial_product, without_highest, without_highests, reduced}
-
-pub xor_false : (a : Bool) → ◌xor◌ a false ≡ a
-xor_false true = refl
-xor_false false = refl
-
-pub and_true : (b : Bool) → (b && true) ≡ b
-and_true true = refl
-and_true false = refl
-
-pub and_false : (b : Bool) → (b && false) ≡ false
-and_false true = refl
-and_false false = refl
-
-pub xor_self : (a : Bool) → ◌xor◌ a a ≡ false
-xor_self true = refl
-xor_self false = refl
-
--- (a + b) + (c + d) = (a + c) + (b + d)
-pub xor_swap : (a b c d : Bool) → ◌xor◌ (◌xor◌ a b) (◌xor◌ c d) ≡ ◌xor◌ (◌xor◌ a c) (◌xor◌ b d)
-xor_swap false b false d = refl
-xor_swap false true true true = refl
-xor_swap false true true false = refl
-xor_swap false false true true = refl
-xor_swap false false true false = refl
-xor_swap true true true true = refl
-xor_swap true true true false = refl
-xor_swap true false true true = refl
-xor_swap true false true false = refl
-xor_swap true true false true = refl
-xor_swap true true false false = refl
-xor_swap true false false true = refl
-xor_swap true false false false = refl
-
-pub and_xor_right : (a b c : Bool) → (a && ◌xor◌ b c) ≡ ◌xor◌ (a && b) (a && c)
-and_xor_right true b c = refl
-and_xor_right false b c = refl
-
-pub and_xor_left : (a b c : Bool) → (◌xor◌ a b && c) ≡ ◌xor◌ (a && c) (b && c)
-and_xor_left true true true = refl
-and_xor_left true true false = refl
-and_xor_left true false true = refl
-and_xor_left true false false = refl
-and_xor_left false b c = refl
 
 pub xor_sum-add : (n : ℕ) (f g : ℕ → Bool) → xor_sum n (λ i. ◌xor◌ (f i) (g i)) ≡ ◌xor◌ (xor_sum n f) (xor_sum n g)
 xor_sum-add zero f g = refl
 xor_sum-add (suc n) f g =
-    ap (λ t. ◌xor◌ t (◌xor◌ (f n) (g n))) (xor_sum-add n f g) ∙ xor_swap (xor_sum n f) (xor_sum n g) (f n) (g n)
+    ap (λ t. ◌xor◌ t (◌xor◌ (f n) (g n))) (xor_sum-add n f g) ∙ xor_exchange (xor_sum n f) (xor_sum n g) (f n) (g n)
 
 pub xor_sum-same : (n : ℕ) (f g : ℕ → Bool) → ((i : ℕ) → i < n → f i ≡ g i) → xor_sum n f ≡ xor_sum n g
 xor_sum-same zero f g h = refl
@@ -88,7 +46,7 @@ polynomial_sum (a ∷ p) (b ∷ q) = ◌xor◌ a b ∷ polynomial_sum p q
 
 pub coefficient-polynomial_sum : (p q : List Bool) (i : ℕ) → coefficient (polynomial_sum p q) i ≡ ◌xor◌ (coefficient p i) (coefficient q i)
 coefficient-polynomial_sum [] q i = refl
-coefficient-polynomial_sum (a ∷ p) [] i = sym (xor_false (coefficient (a ∷ p) i))
+coefficient-polynomial_sum (a ∷ p) [] i = sym (xor_zero (coefficient (a ∷ p) i))
 coefficient-polynomial_sum (a ∷ p) (b ∷ q) zero = refl
 coefficient-polynomial_sum (a ∷ p) (b ∷ q) (suc i) = coefficient-polynomial_sum p q i
 
@@ -127,7 +85,7 @@ polynomial_product-add_right a b c e =
     (λ k. ◌xor◌ (xor_sum (suc k) (term b k)) (xor_sum (suc k) (term c k)))
     (λ k _.
     xor_sum-same (suc k) (term (polynomial_sum b c) k) (λ i. ◌xor◌ (term b k i) (term c k i))
-    (λ i _. ap (λ t. coefficient a i && t) (coefficient-polynomial_sum b c (k - i)) ∙ and_xor_right (coefficient a i) (coefficient b (k - i)) (coefficient c (k - i)))
+    (λ i _. ap (λ t. coefficient a i && t) (coefficient-polynomial_sum b c (k - i)) ∙ and_xor (coefficient a i) (coefficient b (k - i)) (coefficient c (k - i)))
     ∙ xor_sum-add (suc k) (term b k) (term c k))
     ∙ polynomial-add (length a + length c - 1) (λ k. xor_sum (suc k) (term b k)) (λ k. xor_sum (suc k) (term c k))
     ∙ ap (λ n. polynomial_sum (polynomial (length a + n - 1) (λ k. xor_sum (suc k) (term b k))) (polynomial (length a + length c - 1) (λ k. xor_sum (suc k) (term c k)))) (sym e)
@@ -142,7 +100,7 @@ polynomial_product-add_left a b c e =
     (λ k. ◌xor◌ (xor_sum (suc k) (term a k)) (xor_sum (suc k) (term b k)))
     (λ k _.
     xor_sum-same (suc k) (term (polynomial_sum a b) k) (λ i. ◌xor◌ (term a k i) (term b k i))
-    (λ i _. ap (λ t. t && coefficient c (k - i)) (coefficient-polynomial_sum a b i) ∙ and_xor_left (coefficient a i) (coefficient b i) (coefficient c (k - i)))
+    (λ i _. ap (λ t. t && coefficient c (k - i)) (coefficient-polynomial_sum a b i) ∙ xor_and (coefficient a i) (coefficient b i) (coefficient c (k - i)))
     ∙ xor_sum-add (suc k) (term a k) (term b k))
     ∙ polynomial-add (length b + length c - 1) (λ k. xor_sum (suc k) (term a k)) (λ k. xor_sum (suc k) (term b k))
     ∙ ap (λ n. polynomial_sum (polynomial (n + length c - 1) (λ k. xor_sum (suc k) (term a k))) (polynomial (length b + length c - 1) (λ k. xor_sum (suc k) (term b k)))) (sym e)
@@ -157,8 +115,8 @@ without_highest-add taps d n p q =
     same-polynomial (d + n) (bit (polynomial_sum p q)) (λ j. ◌xor◌ (bit p j) (bit q j))
     (λ j _.
     ap₂ (λ s t. ◌xor◌ s (t && hit j)) (coefficient-polynomial_sum p q j) (coefficient-polynomial_sum p q (d + n))
-    ∙ ap (◌xor◌ (◌xor◌ (coefficient p j) (coefficient q j))) (and_xor_left (coefficient p (d + n)) (coefficient q (d + n)) (hit j))
-    ∙ xor_swap (coefficient p j) (coefficient q j) (coefficient p (d + n) && hit j) (coefficient q (d + n) && hit j))
+    ∙ ap (◌xor◌ (◌xor◌ (coefficient p j) (coefficient q j))) (xor_and (coefficient p (d + n)) (coefficient q (d + n)) (hit j))
+    ∙ xor_exchange (coefficient p j) (coefficient q j) (coefficient p (d + n) && hit j) (coefficient q (d + n) && hit j))
     ∙ polynomial-add (d + n) (bit p) (bit q)
 
 pub without_highests-add : (taps : List ℕ) (d n : ℕ) (p q : List Bool) → without_highests taps d n (polynomial_sum p q) ≡ polynomial_sum (without_highests taps d n p) (without_highests taps d n q)

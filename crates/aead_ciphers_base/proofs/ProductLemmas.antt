@@ -4,13 +4,15 @@ use Rattle.std.proofs.lemmas.List.FromFn.{get_or-map-range_with_len}
 use Rattle.std.specs.Prelude.{◌==◌}
 use Rattle.std.specs.Int.{bit_at}
 use Rattle.std.specs.List.{range_with_len, list_any}
+use Rattle.std.proofs.Math.Bool.{and-true, and-false}
 use Rattle.aead_ciphers_base.specs.Polynomial.{◌xor◌, xor_sum, coefficient, polynomial, polynomial_product, without_highest, without_highests, reduced, field_product}
 use Rattle.aead_ciphers_base.specs.ByteField.{bits_of, value_of, mul8}
 use Rattle.aead_ciphers_base.specs.Planes.{plane_byte, plane_polynomial}
-use Rattle.aead_ciphers_base.proofs.PolynomialLemmas.{xor_false, and_true, and_false, same-polynomial, coefficient-polynomial, length-polynomial, polynomial_past}
+use Rattle.aead_ciphers_base.proofs.PolynomialBits.{xor_zero}
+use Rattle.aead_ciphers_base.proofs.PolynomialLemmas.{same-polynomial, coefficient-polynomial, length-polynomial, polynomial_past}
 use Rattle.aead_ciphers_base.proofs.PlaneLemmas.{set-xor, set-and, plane_byte_is, plane_byte_bits, plane_byte_lt}
 use Rattle.aead_ciphers_base.proofs.BitsLemmas.{all_below, same_below}
-use Rattle.aead_ciphers_base.proofs.FastLemmas.{by_fast_mul8}
+use Rattle.aead_ciphers_base.proofs.FastProductLemmas.{by_fast_mul8}
 use Rattle.std.proofs.lemmas.Nat.Bits.{bit_at-zero}
 
 -- planes 0, .., n - 1 are f 0, .., f (n - 1)
@@ -52,7 +54,7 @@ xor_sum_past : (n m : ℕ) (f : ℕ → Bool) → ((i : ℕ) → n ≤ i → i <
 xor_sum_past n zero f h = let e : 0 + n ≡ n = omega arith in ap (λ t. xor_sum t f) e
 xor_sum_past n (suc m) f h =
     let e : suc m + n ≡ suc (m + n) = omega arith in
-    ap (λ t. xor_sum t f) e ∙ ap₂ ◌xor◌ (xor_sum_past n m f (λ i le lt. h i le (omega arith))) (h (m + n) (omega arith) (omega arith)) ∙ xor_false (xor_sum n f)
+    ap (λ t. xor_sum t f) e ∙ ap₂ ◌xor◌ (xor_sum_past n m f (λ i le lt. h i le (omega arith))) (h (m + n) (omega arith) (omega arith)) ∙ xor_zero (xor_sum n f)
 
 module _ (a b : List ℕ) (p k : ℕ) where
   term : ℕ → Bool
@@ -67,7 +69,7 @@ module _ (a b : List ℕ) (p k : ℕ) where
   term_before : (i : ℕ) → 8 ≤ k - i → term i ≡ false
   unfolding term
   term_before i h =
-      ap (λ t. coefficient (plane_polynomial 8 a p) i && t) (coefficient_past 8 b p (k - i) h) ∙ and_false (coefficient (plane_polynomial 8 a p) i)
+      ap (λ t. coefficient (plane_polynomial 8 a p) i && t) (coefficient_past 8 b p (k - i) h) ∙ and-false (coefficient (plane_polynomial 8 a p) i)
 
   term_after : (i : ℕ) → 8 ≤ i → term i ≡ false
   unfolding term
@@ -116,8 +118,8 @@ planes_without_highests taps d zero c = c
 planes_without_highests taps d (suc n) c = planes_without_highests taps d n (planes_without_highest taps d n c)
 
 one_flipped : (hit : Bool) (x y p : ℕ) → (bit_at (if hit then bit_xor x y else x) p == 1) ≡ ((bit_at x p == 1) xor ((bit_at y p == 1) && hit))
-one_flipped true x y p = set-xor x y p ∙ ap (λ t. (bit_at x p == 1) xor t) (sym (and_true (bit_at y p == 1)))
-one_flipped false x y p = sym (ap (λ t. (bit_at x p == 1) xor t) (and_false (bit_at y p == 1)) ∙ xor_false (bit_at x p == 1))
+one_flipped true x y p = set-xor x y p ∙ ap (λ t. (bit_at x p == 1) xor t) (sym (and-true (bit_at y p == 1)))
+one_flipped false x y p = sym (ap (λ t. (bit_at x p == 1) xor t) (and-false (bit_at y p == 1)) ∙ xor_zero (bit_at x p == 1))
 
 without_highest_planes : (taps : List ℕ) (d n : ℕ) (c : List ℕ) (p : ℕ)
     → plane_polynomial (d + n) (planes_without_highest taps d n c) p ≡ without_highest taps d n (plane_polynomial (d + suc n) c p)

@@ -41,7 +41,7 @@ module _ (nk : ℕ) (w : List (List ℕ)) (i : ℕ) where
       ap (add_words back) (cond-false (i % nk == 0) _ _ (ne_eqb (i % nk) 0 ne) ∙ cond-false ((nk == 8) && (i % 8 == 4)) _ _ f)
 
 -- the next word looks at the words before it alone
-pub next_word_front : (nk : ℕ) (w : List (List ℕ)) (i : ℕ) → 0 < nk → nk ≤ i → next_word nk (take i w) i ≡ next_word nk w i
+next_word_front : (nk : ℕ) (w : List (List ℕ)) (i : ℕ) → 0 < nk → nk ≤ i → next_word nk (take i w) i ≡ next_word nk w i
 unfolding next_word
 next_word_front nk w i hk hi =
     let last : word_at (take i w) (i - 1) ≡ word_at w (i - 1) = get_or-take i w (i - 1) [] (omega arith) in
@@ -53,7 +53,7 @@ next_word_front nk w i hk hi =
 abbrev pub key_word : List ℕ → ℕ → List ℕ
 key_word key i = word (λ k. slice_index key (4 * i + k))
 
-pub key_word_is : (key : List ℕ) (i : ℕ) → (slice_index key (4 * i) ∷ slice_index key (4 * i + 1) ∷ slice_index key (4 * i + 2) ∷ slice_index key (4 * i + 3) ∷ []) ≡ key_word key i
+key_word_is : (key : List ℕ) (i : ℕ) → (slice_index key (4 * i) ∷ slice_index key (4 * i + 1) ∷ slice_index key (4 * i + 2) ∷ slice_index key (4 * i + 3) ∷ []) ≡ key_word key i
 key_word_is key i =
     let e : 4 * i ≡ 4 * i + 0 = omega arith in
     ap (λ t. slice_index key t ∷ slice_index key (4 * i + 1) ∷ slice_index key (4 * i + 2) ∷ slice_index key (4 * i + 3) ∷ []) e
@@ -63,7 +63,7 @@ pub first_word_step : (key : List ℕ) (words : List (List ℕ)) (i : ℕ) → i
 first_word_step key words i lt e =
     take_more_set words i _ lt ∙ ap₂ (λ t v. t ++ v ∷ []) e (key_word_is key i) ∙ sym (map-range_with_len_more (key_word key) 0 i i (omega arith))
 
-pub key_words_none : (nk : ℕ) (key : List ℕ) → key_words nk key (nk - nk) ≡ map (key_word key) (range_with_len 0 nk)
+key_words_none : (nk : ℕ) (key : List ℕ) → key_words nk key (nk - nk) ≡ map (key_word key) (range_with_len 0 nk)
 unfolding key_words
 key_words_none nk key = let e : nk - nk ≡ 0 = omega arith in ap (key_words nk key) e
 

@@ -27,6 +27,8 @@ mod key_schedule;
 mod layers;
 mod pack;
 mod planes;
+#[cfg(test)]
+mod tests;
 mod work;
 
 pub use counter::{Counter, Iv};
@@ -77,6 +79,9 @@ pub trait EncryptBlock {
 
 /// A buffer of bytes whose output is its front.
 pub type Overlapping<'o> = overlapping::Overlapping<'o, u8>;
+
+/// The same with an input shorter than a block.
+pub type OverlappingPartialBlock<'o> = overlapping::PartialBlock<'o, u8, BLOCK_LEN>;
 
 /// Counter mode over a block cipher under a key (SP 800-38D section 6.5, GCTR).
 pub trait EncryptCtr32: EncryptBlock {

@@ -97,7 +97,7 @@ impl<const CAP: usize> InOut for ArrayVec<u8, CAP> {
     }
 
     fn cut_tag(&mut self) {
-        let len = self.len() - MAX_TAG_LEN;
-        self.truncate(len);
+        let new_len = self.len() - MAX_TAG_LEN;
+        self.truncate(new_len);
     }
 }

@@ -1,17 +1,26 @@
 //! Printed text, refused lengths and the test vectors of the GCM specification (McGrew and Viega,
 //! "The Galois/Counter Mode of Operation", appendix B).
 
-ghost use Rattle.std.specs.Prelude.{◌≡◌, ◌↔◌, IsTrue};
+ghost use Rattle.std.specs.Prelude.{◌≡◌, ◌+◌, ◌<◌, ◌≤◌, ◌↔◌, length, slice_set, IsTrue, IsOk, OnOk, OnErr};
+ghost use Rattle.arrayvec.specs.ArrayVec.{array_vec_len};
+ghost use Rattle.aead_ciphers_base.specs.Aes.{aes};
 ghost use Rattle.aead_ciphers_base.specs.Values.{aad_bytes};
 ghost use Rattle.aead_ciphers.specs.Algorithm.{id};
+ghost use Rattle.aead_ciphers.specs.Gcm.{Fits, decrypted};
 
-use super::{AES_128_GCM, AES_256_GCM, Aad, Algorithm, LessSafeKey, Nonce, Tag, UnboundKey};
+use super::lend::parts_if;
+use super::{
+    AES_128_GCM, AES_256_GCM, Aad, Algorithm, LessSafeKey, Nonce, Tag, UnboundKey, Unspecified,
+};
+use crate::laws;
+use arrayvec::ArrayVec;
 use hex::FromHex;
 use std::alloc::Global;
 use std::process::Abort;
 use std::test::Fail;
 
 /// A test vector. Bytes are in hex.
+#[derive(Drop)]
 struct Vector {
     algorithm: &'static Algorithm,
     key: &'static str,
@@ -161,6 +170,48 @@ fn other_lengths_are_refused(rt: HostRuntime) {
     }
 }
 
+/// Opens, and writes 7 over the first byte of the plaintext: the whole buffer is known.
+fn open_and_mark(
+    key: &LessSafeKey,
+    nonce: Nonce,
+    aad: Aad<'_>,
+    tag: Tag,
+    in_out: &mut [u8],
+) -> Result<(), Unspecified>
+    requires { 0 < length in_out.old }
+    ensures marked { OnOk result (in_out.new
+        ≡ slice_set (decrypted (aes key.now.bytes) nonce in_out.old) 0 7) }
+    ensures kept { OnErr result (in_out.new ≡ in_out.old) }
+{
+    let opened = key.open_in_place_separate_tag_len(nonce, aad, tag, in_out, 0..);
+    match parts_if(in_out, opened) {
+        Some((plaintext, _rest)) => {
+            plaintext[0] = 7;
+            Ok(())
+        }
+        None => Err(Unspecified),
+    }
+}
+
+/// Where 16 places are free and the lengths fit, appending to an `ArrayVec` succeeds.
+fn append<const CAP: usize>(
+    key: &LessSafeKey,
+    nonce: Nonce,
+    aad: Aad<'_>,
+    in_out: &mut ArrayVec<u8, CAP>,
+) -> Result<(), Unspecified>
+    ensures { IsOk result ↔ (Fits (length (aad_bytes aad.entry)) (array_vec_len in_out.old)
+        × (array_vec_len in_out.old + 16 ≤ CAP)) }
+{
+    key.seal_in_place_append_tag(nonce, aad, in_out)
+}
+
+/// The bytes of three texts in hex, joined.
+fn joined(alloc: Global, a: &str, b: &str, c: &str) -> Result<Vec<u8>, Fail> {
+    let text = format!(in alloc; "{a}{b}{c}")?;
+    Ok(hex::decode(alloc, text.as_str())?)
+}
+
 impl Vector {
     fn key(&self, alloc: Global) -> Result<LessSafeKey, Fail> {
         let bytes = hex::decode(alloc, self.key)?;
@@ -175,34 +226,185 @@ impl Vector {
         Ok(Tag::from(<[u8; 16]>::from_hex(self.tag)?))
     }
 
-    /// Seals with a separate tag.
+    /// Seals with a separate tag, and opens.
     fn seals(&self, rt: &impl Abort, alloc: Global) -> Result<(), Fail> {
         let key = self.key(alloc)?;
         let aad = hex::decode(alloc, self.aad)?;
-        let mut in_out = hex::decode(alloc, self.message)?;
-        let tag = key.seal_in_place_separate_tag(
-            self.nonce()?,
-            Aad::from(aad.as_slice()),
-            &mut in_out,
-        )?;
-        assert_eq!(rt;
-            hex::encode(alloc, in_out.as_slice())?.as_str(),
-            self.ciphertext
-        );
-        assert_eq!(rt; hex::encode(alloc, tag.as_ref())?.as_str(), self.tag);
+        let aad = Aad::from(aad.as_slice());
+        let message = hex::decode(alloc, self.message)?;
+        let ciphertext = hex::decode(alloc, self.ciphertext)?;
+        let mut in_out = message.clone()?;
+        let tag = key.seal_in_place_separate_tag(self.nonce()?, aad, &mut in_out)?;
+        assert_eq!(rt; in_out.as_slice(), ciphertext.as_slice());
+        assert_eq!(rt; tag.as_ref(), self.tag()?.as_ref());
+        let plaintext = key.open_in_place_separate_tag(self.nonce()?, aad, tag, &mut in_out, 0..)?;
+        assert_eq!(rt; plaintext.len(), message.len());
+        assert_eq!(rt; in_out.as_slice(), message.as_slice());
+        Ok(())
+    }
+
+    /// Seals with the tag appended, and opens. Where memory is refused, the buffer is as it was.
+    fn appends(&self, rt: &impl Abort, alloc: Global) -> Result<(), Fail> {
+        let key = self.key(alloc)?;
+        let aad = hex::decode(alloc, self.aad)?;
+        let aad = Aad::from(aad.as_slice());
+        let message = hex::decode(alloc, self.message)?;
+        let sealed = joined(alloc, self.ciphertext, self.tag, "")?;
+        let mut in_out = message.clone()?;
+        if key
+            .seal_in_place_append_tag(self.nonce()?, aad, &mut in_out)
+            .is_err()
+        {
+            assert_eq!(rt; in_out.as_slice(), message.as_slice());
+            return Err(Fail::from(Unspecified));
+        }
+        assert_eq!(rt; in_out.as_slice(), sealed.as_slice());
+        let plaintext = key.open_in_place(self.nonce()?, aad, &mut in_out)?;
+        assert_eq!(rt; plaintext.len(), message.len());
         Ok(())
     }
 }
 
 #[test]
-fn gcm_spec_seals(rt: HostRuntime) -> Result<(), Fail> {
-    GCM_SPEC_CASE_1.seals(&rt, rt.alloc())?;
-    GCM_SPEC_CASE_2.seals(&rt, rt.alloc())?;
-    GCM_SPEC_CASE_3.seals(&rt, rt.alloc())?;
-    GCM_SPEC_CASE_4.seals(&rt, rt.alloc())?;
-    GCM_SPEC_CASE_13.seals(&rt, rt.alloc())?;
-    GCM_SPEC_CASE_14.seals(&rt, rt.alloc())?;
-    GCM_SPEC_CASE_16.seals(&rt, rt.alloc())
+fn gcm_spec_cases(rt: HostRuntime) -> Result<(), Fail> {
+    let cases = [
+        GCM_SPEC_CASE_1,
+        GCM_SPEC_CASE_2,
+        GCM_SPEC_CASE_3,
+        GCM_SPEC_CASE_4,
+        GCM_SPEC_CASE_13,
+        GCM_SPEC_CASE_14,
+        GCM_SPEC_CASE_16,
+    ];
+    for case in &cases {
+        case.seals(&rt, rt.alloc())?;
+        case.appends(&rt, rt.alloc())?;
+    }
+    Ok(())
+}
+
+#[test]
+fn gcm_spec_case_4_within(rt: HostRuntime) -> Result<(), Fail> {
+    let alloc = rt.alloc();
+    let case = GCM_SPEC_CASE_4;
+    let key = case.key(alloc)?;
+    let aad = hex::decode(alloc, case.aad)?;
+    let aad = Aad::from(aad.as_slice());
+    let mut in_out = joined(alloc, "00000000", case.ciphertext, case.tag)?;
+    let plaintext = key.open_within(case.nonce()?, aad, &mut in_out, 4..)?;
+    assert_eq!(rt; &*plaintext, joined(alloc, case.message, "", "")?.as_slice());
+    plaintext.fill(0x11);
+    let ones = format!(in alloc; "{:1<120}", "")?;
+    assert_eq!(rt;
+        in_out.as_slice(),
+        joined(alloc, ones.as_str(), "3d58e091", case.tag)?.as_slice()
+    );
+    Ok(())
+}
+
+#[test]
+fn false_tags_leave_the_buffer(rt: HostRuntime) -> Result<(), Fail> {
+    let alloc = rt.alloc();
+    let case = GCM_SPEC_CASE_4;
+    let aad = hex::decode(alloc, case.aad)?;
+    let aad = Aad::from(aad.as_slice());
+    let tag = "5bc94fbc3221a5db94fae95ae7121a46";
+    let attached = joined(alloc, "00000000", case.ciphertext, tag)?;
+    let mut in_out = attached.clone()?;
+    assert!(rt;
+        case.key(alloc)?
+            .open_within(case.nonce()?, aad, &mut in_out, 4..)
+            .is_err()
+    );
+    assert_eq!(rt; in_out.as_slice(), attached.as_slice());
+
+    let case = GCM_SPEC_CASE_2;
+    let tag = Tag::from(<[u8; 16]>::from_hex("ab6e47d42cec13bdf53a67b21257bdde")?);
+    let ciphertext = joined(alloc, case.ciphertext, "", "")?;
+    let mut in_out = ciphertext.clone()?;
+    let opened = case
+        .key(alloc)?
+        .open_in_place_separate_tag(case.nonce()?, Aad::empty(), tag, &mut in_out, 0..);
+    assert!(rt; opened.is_err());
+    assert_eq!(rt; in_out.as_slice(), ciphertext.as_slice());
+    Ok(())
+}
+
+#[test]
+fn attached_tag_alone(rt: HostRuntime) -> Result<(), Fail> {
+    let case = GCM_SPEC_CASE_1;
+    let key = case.key(rt.alloc())?;
+    let mut short = [7; 15];
+    assert!(rt;
+        key.open_within(case.nonce()?, Aad::empty(), &mut short, 0..)
+            .is_err()
+    );
+    assert_eq!(rt; short, [7; 15]);
+    let tag = <[u8; 16]>::from_hex(case.tag)?;
+    let mut in_out = tag;
+    assert!(rt;
+        key.open_within(case.nonce()?, Aad::empty(), &mut in_out, 1..)
+            .is_err()
+    );
+    assert_eq!(rt; in_out, tag);
+    assert!(rt;
+        key.open_within(case.nonce()?, Aad::empty(), &mut in_out, 0..)?
+            .is_empty()
+    );
+    assert_eq!(rt; in_out, tag);
+    let mut none = [0; 0];
+    assert!(rt;
+        key.open_in_place_separate_tag(case.nonce()?, Aad::empty(), case.tag()?, &mut none, 0..)?
+            .is_empty()
+    );
+    Ok(())
+}
+
+#[test]
+fn appends_to_an_array_vec(rt: HostRuntime) -> Result<(), Fail> {
+    let alloc = rt.alloc();
+    let case = GCM_SPEC_CASE_1;
+    let key = case.key(alloc)?;
+    let mut room: ArrayVec<u8, 16> = ArrayVec::new();
+    append(&key, case.nonce()?, Aad::empty(), &mut room)?;
+    assert_eq!(rt; room.as_slice(), case.tag()?.as_ref());
+    let mut no_room: ArrayVec<u8, 15> = ArrayVec::new();
+    assert!(rt; append(&key, case.nonce()?, Aad::empty(), &mut no_room).is_err());
+    assert!(rt; no_room.is_empty());
+
+    let case = GCM_SPEC_CASE_4;
+    let key = case.key(alloc)?;
+    let aad = hex::decode(alloc, case.aad)?;
+    let aad = Aad::from(aad.as_slice());
+    let message = hex::decode(alloc, case.message)?;
+    let mut room: ArrayVec<u8, 76> = ArrayVec::try_from(message.as_slice())?;
+    append(&key, case.nonce()?, aad, &mut room)?;
+    assert_eq!(rt;
+        room.as_slice(),
+        joined(alloc, case.ciphertext, case.tag, "")?.as_slice()
+    );
+    let mut no_room: ArrayVec<u8, 75> = ArrayVec::try_from(message.as_slice())?;
+    assert!(rt; append(&key, case.nonce()?, aad, &mut no_room).is_err());
+    assert_eq!(rt; no_room.as_slice(), message.as_slice());
+    Ok(())
+}
+
+#[test]
+fn marks_the_plaintext(rt: HostRuntime) -> Result<(), Fail> {
+    let case = GCM_SPEC_CASE_2;
+    let key = case.key(rt.alloc())?.clone()?;
+    let mut in_out = <[u8; 16]>::from_hex(case.ciphertext)?;
+    open_and_mark(&key, case.nonce()?, Aad::empty(), case.tag()?, &mut in_out)?;
+    assert_eq!(rt; in_out, [7, 0, 0, 0, 0, 0, 0, 0, 0, 0, 0, 0, 0, 0, 0, 0]);
+    Ok(())
+}
+
+#[test]
+fn round_trip_of_one(rt: HostRuntime) -> Result<(), Fail> {
+    let aad = [1].to_vec(rt.alloc())?;
+    let message = [2, 3].to_vec(rt.alloc())?;
+    laws::round_trip(&[0; 16], &[[0; 12]], &[aad], &[message]);
+    Ok(())
 }
 
 /// Counter mode twice gives the message back (SP 800-38D section 7.2 step 4).

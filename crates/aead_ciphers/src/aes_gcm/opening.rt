@@ -1,6 +1,6 @@
 //! Opening over any cipher and hash (SP 800-38D section 7.2).
 
-ghost use Rattle.std.specs.Prelude.{◌≡◌, ◌≤◌, ◌-◌, length, OnOk, OnErr, is_ok};
+ghost use Rattle.std.specs.Prelude.{◌≡◌, ◌≤◌, ◌<◌, ◌-◌, length, OnOk, OnErr, is_ok};
 ghost use Rattle.aead_ciphers_base.specs.Bytes.{zero_block};
 ghost use Rattle.aead_ciphers_base.specs.Values.{aad_bytes};
 ghost use Rattle.aead_ciphers_base.specs.Work.{Adds, HasRoom};
@@ -32,13 +32,14 @@ pub(super) fn open_with<A: EncryptCtr32, G: UpdateBlocks>(
     ensures opened { Opened (A.cipher aes.now) nonce (aad_bytes aad.entry) received_tag src.start
         in_out.old (is_ok result) in_out.new }
     ensures worked { OnOk result
-        (let n = length in_out.old - src.start in
-        Adds work.old work.new (sealing_blocks n) (sealing_products (length (aad_bytes aad.entry)) n)) }
-    ensures compared { src.start ≤ length in_out.old →
+        (let n = length in_out.old - src.start in let a = length (aad_bytes aad.entry) in
+        Adds work.old work.new (sealing_blocks n) (sealing_products a n)) }
+    ensures false_tag { src.start ≤ length in_out.old →
         let n = length in_out.old - src.start in let a = length (aad_bytes aad.entry) in
         Fits a n → OnErr result (Adds work.old work.new 1 (sealing_products a n)) }
-    ensures idle { ¬ ((src.start ≤ length in_out.old)
-        × Fits (length (aad_bytes aad.entry)) (length in_out.old - src.start)) →
+    ensures out_of_range { length in_out.old < src.start → Adds work.old work.new 0 0 }
+    ensures too_long { src.start ≤ length in_out.old →
+        ¬ Fits (length (aad_bytes aad.entry)) (length in_out.old - src.start) →
         Adds work.old work.new 0 0 }
 {
     let start = src.start;

@@ -32,8 +32,8 @@ pub(super) fn seal_with<A: EncryptCtr32, G: UpdateBlocks>(
         (λ t. t ≡ tag (A.cipher aes.now) nonce (aad_bytes aad.entry) in_out.new) }
     ensures refused { OnErr result (in_out.new ≡ in_out.old) }
     ensures worked { OnOk result
-        (let n = length in_out.old in
-        Adds work.old work.new (sealing_blocks n) (sealing_products (length (aad_bytes aad.entry)) n)) }
+        (let n = length in_out.old in let a = length (aad_bytes aad.entry) in
+        Adds work.old work.new (sealing_blocks n) (sealing_products a n)) }
     ensures idle { OnErr result (Adds work.old work.new 0 0) }
 {
     let mut auth = Context::new(gcm, aad, in_out.len(), work)?;

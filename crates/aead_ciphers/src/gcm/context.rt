@@ -17,7 +17,7 @@ use std::marker::Model;
 /// The most bytes of a message (SP 800-38D section 5.2.1.1).
 pub const MAX_IN_OUT_LEN: usize = (1 << 36) - 32;
 
-/// A hash that has taken in an AAD and takes in a ciphertext.
+/// A hash that has taken in an AAD and takes in a ciphertext (SP 800-38D section 7.1 steps 4 and 5).
 #[derive(Drop)]
 pub struct Context<'key, K: UpdateBlock> {
     xi: Xi,
@@ -43,8 +43,9 @@ impl<'key, K: UpdateBlock> Model for Context<'key, K> {
 }
 
 impl<'key, K: UpdateBlock> Context<'key, K> {
-    /// Takes in the AAD, padded with zeros to whole blocks. Refused where the AAD has 2^61 bytes or more, or `in_out_len`
-    /// is above 2^36 - 32 (SP 800-38D section 5.2.1.1).
+    /// Takes in the AAD, padded with zeros to whole blocks, by one field product a block. `in_out_len`
+    /// is the length of the ciphertext, in bytes. Refused where it is above 2^36 - 32, or where the AAD
+    /// has 2^61 bytes or more (SP 800-38D section 5.2.1.1).
     pub fn new(
         key: &'key K,
         aad: Aad<'_>,
@@ -89,8 +90,8 @@ impl<'key, K: UpdateBlock> Context<'key, K> {
         self.key.update_block(&mut self.xi, block, work);
     }
 
-    /// Takes in the block of the lengths of the AAD and of `in_out_len`, by one field product, and answers what `f` makes of
-    /// the hash.
+    /// Takes in the block of the lengths of the AAD and of `in_out_len`, by one field product, and
+    /// answers what `f` makes of the hash: 16 bytes.
     pub fn pre_finish<F: FnOnce(Block) -> Tag>(self, work: &mut Work, f: F) -> Tag
         requires room { Room work.old 0 1 }
         requires callable { F.IsAlwaysCallable f }

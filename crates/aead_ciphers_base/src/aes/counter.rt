@@ -1,6 +1,6 @@
 //! Counter blocks of a 12-byte nonce (SP 800-38D sections 6.2 and 7.1).
 
-ghost use Rattle.std.specs.Prelude.{◌≡◌, ◌<◌, ℕ, ◌+◌, List, [], slice_index_or};
+ghost use Rattle.std.specs.Prelude.{◌≡◌, ◌<◌, ℕ, ◌+◌, List, [], length, slice_index_or};
 ghost use Rattle.aead_ciphers_base.specs.CounterMode.{IsCounter};
 
 use crate::aes::{BLOCK_LEN, Block};
@@ -35,7 +35,8 @@ impl Counter {
     /// Answers the counter block as it was, and adds one to its number (inc32).
     pub fn increment(&mut self) -> Iv
         ensures iv { result ≡ self.old }
-        ensures counter { (nonce : List ℕ) (k : ℕ) → IsCounter self.old nonce k → IsCounter self.new nonce (k + 1) }
+        ensures counter { (nonce : List ℕ) (k : ℕ) → IsCounter self.old nonce k →
+            IsCounter self.new nonce (k + 1) }
     {
         let iv = Iv { block: self.block };
         self.increment_by_less_safe(1);
@@ -44,14 +45,16 @@ impl Counter {
 
     /// Adds to its number, modulo 2^32. That no counter block comes twice is the caller's matter.
     pub fn increment_by_less_safe(&mut self, increment_by: u32)
-        ensures { (nonce : List ℕ) (k : ℕ) → IsCounter self.old nonce k → IsCounter self.new nonce (k + increment_by) }
+        ensures { (nonce : List ℕ) (k : ℕ) → IsCounter self.old nonce k →
+            IsCounter self.new nonce (k + increment_by) }
     {
         self.block = self.plus(increment_by);
     }
 
     /// The counter block with so much more as its number, modulo 2^32.
     pub(crate) fn plus(&self, more: u32) -> Block
-        ensures { (nonce : List ℕ) (k : ℕ) → IsCounter self.now nonce k → IsCounter result nonce (k + more) }
+        ensures { (nonce : List ℕ) (k : ℕ) → IsCounter self.now nonce k →
+            IsCounter result nonce (k + more) }
     {
         let mut block = self.block;
         let [.., n0, n1, n2, n3] = block;
@@ -69,13 +72,21 @@ impl Counter {
         [self.plus(0), self.plus(1), self.plus(2), self.plus(3)]
     }
 
-    /// Its bytes.
+    /// Its bytes. They are the counter block of some nonce and number.
     pub fn as_ref(&self) -> &Block
-        ensures { result.now ≡ self.now }
+        ensures bytes { result.now ≡ self.now }
+        ensures counter { (nonce : List ℕ) × (k : ℕ) × IsCounter self.now nonce k }
     {
+        is_some_counter(&self.block);
         &self.block
     }
 }
+
+/// States that every block is the counter block of some nonce and number.
+fn is_some_counter(block: &[u8])
+    requires { length block.now ≡ 16 }
+    ensures { (nonce : List ℕ) × (k : ℕ) × IsCounter block.now nonce k }
+{}
 
 /// A counter block that is used once.
 #[derive(Drop)]

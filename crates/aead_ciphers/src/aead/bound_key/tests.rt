@@ -21,6 +21,10 @@ const CASE_4_AAD: &str = "feedfacedeadbeeffeedfacedeadbeefabaddad2";
 const CASE_4_MESSAGE: &str = "d9313225f88406e5a55909c5aff5269a86a7a9531534f7da2e4c303d8a318a721c3c0c95956809532fcf0e2449a6b525b16aedf5aa0de657ba637b39";
 const CASE_4_SEALED: &str = "42831ec2217774244b7221b784d0d49ce3aa212f2c02a4e035c17e2329aca12e21d514b25466931c7d8f6a5aac84aa051ba30b396a0aac973d58e0915bc94fbc3221a5db94fae95ae7121a47";
 
+/// The sealed message of test case 4 behind four zero bytes, opened from byte 4 on: the message, the last four
+/// bytes of the ciphertext, and the tag.
+const CASE_4_OPENED_AT_4: &str = "d9313225f88406e5a55909c5aff5269a86a7a9531534f7da2e4c303d8a318a721c3c0c95956809532fcf0e2449a6b525b16aedf5aa0de657ba637b393d58e0915bc94fbc3221a5db94fae95ae7121a47";
+
 /// One nonce, given once.
 #[derive(Drop)]
 struct Once {
@@ -114,9 +118,9 @@ fn seals_while_there_are_nonces(rt: HostRuntime) -> Result<(), Fail> {
 fn a_refused_opening_spends_its_nonce(rt: HostRuntime) -> Result<(), Fail> {
     let mut tag = hex::decode(rt.alloc(), CASE_1_TAG)?;
     let mut opening = OpeningKey::new(zero_key()?, CounterSequence::new([0; 4], 0, 2)?);
-    assert!(rt; opening.open_in_place_len(Aad::empty(), &mut tag).is_ok());
+    assert_eq!(rt; opening.open_in_place(Aad::empty(), &mut tag)?.len(), 0);
     let mut opening = OpeningKey::new(zero_key()?, CounterSequence::new([0; 4], 0, 2)?);
-    assert!(rt; opening.open_in_place_len(Aad::empty(), &mut [0; 15]).is_err());
+    assert!(rt; opening.open_in_place(Aad::empty(), &mut [0; 15]).is_err());
     assert!(rt; opening.open_in_place_len(Aad::empty(), &mut tag).is_err());
     assert_eq!(rt; hex::encode(rt.alloc(), tag.as_slice())?.as_str(), CASE_1_TAG);
     Ok(())
@@ -151,8 +155,16 @@ fn case_4_sealed_and_opened(rt: HostRuntime) -> Result<(), Fail> {
     assert!(rt; sealing.seal_in_place_separate_tag(aad, &mut []).is_err());
 
     let mut opening = OpeningKey::new(case_4_key(rt.alloc())?, case_4_sequence()?);
-    assert!(rt; opening.open_in_place_len(aad, in_out.as_mut_slice()) == Ok(60));
+    let mut packet = [0; 4].to_vec(rt.alloc())?;
+    packet.extend_from_slice(in_out.as_slice())?;
+    let plaintext = opening.open_within(aad, packet.as_mut_slice(), 4..)?;
+    assert_eq!(rt; hex::encode(rt.alloc(), plaintext)?.as_str(), CASE_4_MESSAGE);
+    assert_eq!(rt; hex::encode(rt.alloc(), packet.as_slice())?.as_str(), CASE_4_OPENED_AT_4);
+    assert!(rt; opening.open_within(aad, in_out.as_mut_slice(), 0..).is_err());
+    assert_eq!(rt; hex::encode(rt.alloc(), in_out.as_slice())?.as_str(), CASE_4_SEALED);
+
+    let mut opening = OpeningKey::new(case_4_key(rt.alloc())?, case_4_sequence()?);
+    assert!(rt; opening.open_within_len(aad, in_out.as_mut_slice(), 0..) == Ok(60));
     assert!(rt; in_out.as_slice().starts_with(&message));
-    assert!(rt; opening.open_in_place_len(aad, in_out.as_mut_slice()).is_err());
     Ok(())
 }

@@ -1,6 +1,6 @@
 use Rattle.std.proofs.Common.{arith, ◌∙◌, ap, ◌≡◌, ◌/◌, ◌%◌, ◌*◌, ◌+◌, refl, slice_index, slice_index_or, [], ◌∷◌}
 use Rattle.aead_ciphers_base.specs.Aes.{word_at}
-use Rattle.aead_ciphers_base.proofs.FourLemmas.{by_four}
+use Rattle.aead_ciphers_base.proofs.BlockLemmas.{by_four}
 use Rattle.aead_ciphers_base.proofs.aes.key_schedule.pack_round_key.Goals as goal
 
 pub returns : goal.returns

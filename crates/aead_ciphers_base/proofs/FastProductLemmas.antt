@@ -4,8 +4,7 @@ use Rattle.std.specs.Prelude.{◌==◌}
 use Rattle.aead_ciphers_base.specs.Polynomial.{field_product}
 use Rattle.aead_ciphers_base.specs.ByteField.{value_of, mul8}
 use Rattle.aead_ciphers_base.proofs.BitsLemmas.{all_below, same_below, IsAdditive_zero, bits_of-mod}
-use Rattle.aead_ciphers_base.proofs.ByteFieldLemmas.{field, mul8_lt, mul8_comm, mul8_assoc, one-mul8, mul8-xor_right}
-use Rattle.aead_ciphers_base.proofs.TimesLemmas.{two_is}
+use Rattle.aead_ciphers_base.proofs.ByteFieldLemmas.{field, mul8_lt, mul8_comm, mul8_assoc, one-mul8, mul8-xor_right, two_is}
 
 halves_test : all_below (λ z. bit_xor (mul8 2 (z / 2)) (z % 2) == z) 256 ≡ true
 unfolding field
@@ -42,14 +41,14 @@ fast_mul_is (suc k) x z hx hz h =
     ∙ ap (λ t. bit_xor t (if z % 2 == 1 then x else 0)) (two_is (mul8 x (z / 2)) (mul8_lt x (z / 2)))
     ∙ sym (step_of_product x z hx hz)
 
-abbrev pub fast_mul8 : ℕ → ℕ → ℕ
+abbrev fast_mul8 : ℕ → ℕ → ℕ
 fast_mul8 x z = fast_mul 8 (x % 256) (z % 256)
 
 mul8-mod : (x z : ℕ) → mul8 (x % 256) (z % 256) ≡ mul8 x z
 unfolding mul8
 mul8-mod x z = ap₂ (λ p q. value_of (field_product (0 ∷ 1 ∷ 3 ∷ 4 ∷ []) 8 p q)) (bits_of-mod 8 x) (bits_of-mod 8 z)
 
-pub fast_mul8_is : (x z : ℕ) → fast_mul8 x z ≡ mul8 x z
+fast_mul8_is : (x z : ℕ) → fast_mul8 x z ≡ mul8 x z
 fast_mul8_is x z = fast_mul_is 8 (x % 256) (z % 256) (omega arith) (omega arith) (omega arith) ∙ mul8-mod x z
 
 -- a test of the product passes if it passes with the fast one

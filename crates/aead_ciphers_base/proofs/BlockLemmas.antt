@@ -1,24 +1,28 @@
--- What the steps on planes do to each of the four blocks.
-use Rattle.std.proofs.Common.{◌≡◌, ℕ, zero, suc, ◌+◌, ◌*◌, ◌/◌, ◌%◌, ◌<◌, List, refl, sym, ap, ap₂, ◌∙◌, arith, bit_xor, slice_index, slice_index_or, []}
+-- Blocks byte by byte, and what the steps on planes do to each of the four.
+use Rattle.std.proofs.Common.{◌≡◌, ℕ, zero, suc, ◌+◌, ◌*◌, ◌/◌, ◌%◌, ◌<◌, List, length, refl, sym, ap, ap₂, ◌∙◌, arith, bit_xor, slice_index, slice_index_or, []}
+use Rattle.std.proofs.lemmas.List.FromFn.{fill_by_all, get_or-map-range_with_len}
 use Rattle.aead_ciphers_base.specs.ByteField.{sbox, mul8}
 use Rattle.aead_ciphers_base.specs.Aes.{at, state, sub_bytes, shift_rows, mixed, mix_columns, add_round_key, word_at}
 use Rattle.aead_ciphers_base.specs.Planes.{plane_byte, plane_block, below, shifted_from}
 use Rattle.aead_ciphers_base.specs.KeySchedule.{HoldsWords}
-use Rattle.aead_ciphers_base.proofs.StateLemmas.{state_is, byte_of_state}
+
+-- a block is a state if its byte k stands in row k % 4 and column k / 4
+pub state_is : (f : ℕ → ℕ → ℕ) (s : List ℕ) → length s ≡ 16 → ((k : ℕ) → k < 16 → slice_index s k ≡ f (k % 4) (k / 4)) → s ≡ state f
+state_is f s e h = fill_by_all (λ k. f (k % 4) (k / 4)) s 16 0 e h
+
+pub byte_of_state : (f : ℕ → ℕ → ℕ) (k : ℕ) → k < 16 → slice_index (state f) k ≡ f (k % 4) (k / 4)
+byte_of_state f k h = get_or-map-range_with_len (λ j. f (j % 4) (j / 4)) 0 16 k k 0 h (omega arith)
 
 pub state_same : (f g : ℕ → ℕ → ℕ) → ((r c : ℕ) → r < 4 → c < 4 → f r c ≡ g r c) → state f ≡ state g
 state_same f g h = state_is g (state f) refl (λ k lt. byte_of_state f k lt ∙ h (k % 4) (k / 4) (omega arith) (omega arith))
 
-pub at_state : (f : ℕ → ℕ → ℕ) (r c : ℕ) → r < 4 → c < 4 → at (state f) r c ≡ f r c
+at_state : (f : ℕ → ℕ → ℕ) (r c : ℕ) → r < 4 → c < 4 → at (state f) r c ≡ f r c
 at_state f r c hr hc =
     let row : (r + 4 * c) % 4 ≡ r = omega arith in
     let column : (r + 4 * c) / 4 ≡ c = omega arith in
     byte_of_state f (r + 4 * c) (omega arith) ∙ ap₂ f row column
 
 module _ (old new : List ℕ) (k : ℕ) (hk : k < 4) where
-  byte_old : ℕ → ℕ → ℕ
-  byte_old r c = plane_byte old (16 * k + (r + 4 * c))
-
   at_old : (r c : ℕ) → r < 4 → c < 4 → at (plane_block old k) r c ≡ plane_byte old (16 * k + (r + 4 * c))
   unfolding plane_block
   at_old r c hr hc = at_state (λ r c. plane_byte old (16 * k + (r + 4 * c))) r c hr hc
