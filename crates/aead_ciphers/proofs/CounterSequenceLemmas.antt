@@ -28,7 +28,7 @@ not_yet s n zero h le (i, lt, e) = absurd (omega arith)
 not_yet s n (suc k) h le c =
     let step : suc k ≡ k + 1 = omega arith in
     let split : each_below (suc k) (nonce_at s) ≡ each_below k (nonce_at s) ++ nonce_at s k ∷ [] =
-        ap (λ (m : ℕ). each_below m (nonce_at s)) step ∙ each_more k (nonce_at s) in
+    ap (λ (m : ℕ). each_below m (nonce_at s)) step ∙ each_more k (nonce_at s) in
     elim (Contains-append_cases (each_below k (nonce_at s)) (nonce_at s k ∷ []) (nonce_at s n) (subst (λ (l : List (List ℕ)). Contains l (nonce_at s n)) split c)) [
       | inl was ↦ not_yet s n k h (omega arith) was
       | inr now ↦ let same : s.first + k ≡ s.first + n = same_number s.prefix (s.first + k) (s.first + n) (omega arith) h (in_one _ _ now) in absurd (omega arith)

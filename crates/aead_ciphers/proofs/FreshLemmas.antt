@@ -38,8 +38,8 @@ fresh_one was now closed nonce a = subst (λ (l : List (List ℕ)). GrewFresh wa
       let last : j ≡ length was = omega arith in
       let within : i < length was = omega arith in
       let e : get_or was i [] ≡ nonce =
-          sym (get_or-append was (nonce ∷ []) [] i within) ∙ read_same all i j to same
-          ∙ ap (λ (k : ℕ). get_or all k []) last ∙ get_or-append_seam was nonce [] [] in
+      sym (get_or-append was (nonce ∷ []) [] i within) ∙ read_same all i j to same
+      ∙ ap (λ (k : ℕ). get_or all k []) last ∙ get_or-append_seam was nonce [] [] in
       a.fresh (subst (λ (x : List ℕ). Contains was x) e (Contains-get_or was i [] within));
 })
 
@@ -48,7 +48,7 @@ fresh_more was mid now a b =
     let shorter : length was ≤ length mid = omega (arith, ap length a.kept, length-take (length was) mid) in
     let longer : length mid ≤ length now = omega (arith, ap length b.kept, length-take (length mid) now) in
     let at : (i : ℕ) → i < length mid → get_or mid i [] ≡ get_or now i [] =
-        λ i h. ap (λ (l : List (List ℕ)). get_or l i []) (sym b.kept) ∙ get_or-take (length mid) now i [] h in
+    λ i h. ap (λ (l : List (List ℕ)). get_or l i []) (sym b.kept) ∙ get_or-take (length mid) now i [] h in
     record {
       kept = sym (take-take (length was) (length mid) now shorter) ∙ ap (take (length was)) b.kept ∙ a.kept;
       fresh = λ i j lt from to same.

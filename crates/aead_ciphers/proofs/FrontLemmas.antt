@@ -78,10 +78,10 @@ module _ (cipher : List ℕ → List ℕ) (nonce aad : List ℕ) (start : ℕ) w
     opened_length : (accepts : Bool) → Opened cipher nonce aad received start old accepts new → length new ≡ length old
     opened_length accepts opened = elim (opened_cases cipher nonce aad received start old accepts new opened) [
       | inl done ↦
-        let front : List ℕ = decrypted cipher nonce (drop start old) in
-        let rest : List ℕ = drop (length old - start) old in
-        let within : start ≤ length old = done.1.in_range in
-        ap length done.1.buffer ∙ length-append front rest ∙ (let sum : length front + length rest ≡ length old = omega (arith, plaintext_size within, length-drop (length old - start) old) in sum)
+          let front : List ℕ = decrypted cipher nonce (drop start old) in
+          let rest : List ℕ = drop (length old - start) old in
+          let within : start ≤ length old = done.1.in_range in
+          ap length done.1.buffer ∙ length-append front rest ∙ (let sum : length front + length rest ≡ length old = omega (arith, plaintext_size within, length-drop (length old - start) old) in sum)
       | inr refused ↦ ap length refused.1
     ]
 
@@ -122,11 +122,11 @@ module _ (cipher : List ℕ → List ℕ) (nonce aad : List ℕ) (start : ℕ) w
       attached_fronts answer opened count = elim (cases_lt (length old) 16) [
         | inl short ↦ let refused = opened.no_tag short in fronts_refused m old new answer refused.0 refused.1
         | inr long ↦
-          let size : m ≡ length before - start = is ∙ ap (λ k. k - start) (sym (before_size long)) in
-          let tagged = opened.tagged long in
-          let inner : Fronts (length before - start) before tagged.0 answer = opened_fronts received before tagged.0 answer tagged.1 (subst (λ (k : ℕ). IfOk answer (λ n. n ≡ k)) size count) in
-          let wide = widened (length old - 16) m old tagged.0 answer (omega arith) (opened_length received before tagged.0 (is_ok answer) tagged.1 ∙ before_size long) (subst (λ (k : ℕ). Fronts k before tagged.0 answer) (sym size) inner) in
-          subst (λ (l : List ℕ). Fronts m old l answer) (sym tagged.2) wide
+            let size : m ≡ length before - start = is ∙ ap (λ k. k - start) (sym (before_size long)) in
+            let tagged = opened.tagged long in
+            let inner : Fronts (length before - start) before tagged.0 answer = opened_fronts received before tagged.0 answer tagged.1 (subst (λ (k : ℕ). IfOk answer (λ n. n ≡ k)) size count) in
+            let wide = widened (length old - 16) m old tagged.0 answer (omega arith) (opened_length received before tagged.0 (is_ok answer) tagged.1 ∙ before_size long) (subst (λ (k : ℕ). Fronts k before tagged.0 answer) (sym size) inner) in
+            subst (λ (l : List ℕ). Fronts m old l answer) (sym tagged.2) wide
       ]
 
       pub attached_plaintext : {E : Type 0} (answer : Result ℕ E) → OpenedAttached cipher nonce aad start old (is_ok answer) new → OnOk answer (take m new ≡ decrypted cipher nonce (drop start before))
@@ -134,9 +134,9 @@ module _ (cipher : List ℕ → List ℕ) (nonce aad : List ℕ) (start : ℕ) w
       attached_plaintext {E} (Ok n) opened = elim (cases_lt (length old) 16) [
         | inl short ↦ absurd (let refused = opened.no_tag short in let e : true ≡ false = refused.0 in cc)
         | inr long ↦
-          let size : m ≡ length before - start = is ∙ ap (λ k. k - start) (sym (before_size long)) in
-          let tagged = opened.tagged long in
-          let body_size = opened_length received before tagged.0 true tagged.1 ∙ before_size long in
-          let inner : take (length before - start) tagged.0 ≡ decrypted cipher nonce (drop start before) = opened_plaintext received before tagged.0 {E = E} (Ok n) tagged.1 in
-          ap (take m) tagged.2 ∙ take-append-le m tagged.0 received (omega arith) ∙ ap (λ (k : ℕ). take k tagged.0) size ∙ inner
+            let size : m ≡ length before - start = is ∙ ap (λ k. k - start) (sym (before_size long)) in
+            let tagged = opened.tagged long in
+            let body_size = opened_length received before tagged.0 true tagged.1 ∙ before_size long in
+            let inner : take (length before - start) tagged.0 ≡ decrypted cipher nonce (drop start before) = opened_plaintext received before tagged.0 {E = E} (Ok n) tagged.1 in
+            ap (take m) tagged.2 ∙ take-append-le m tagged.0 received (omega arith) ∙ ap (λ (k : ℕ). take k tagged.0) size ∙ inner
       ]

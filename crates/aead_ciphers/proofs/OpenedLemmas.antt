@@ -38,8 +38,8 @@ module _ (cipher : List ℕ → List ℕ) (nonce aad received : List ℕ) (start
       | inl fits ↦ elim (same_or_not received (tag cipher nonce aad (drop start old))) [
         | inr wrong ↦ inr (opened.false_tag within fits wrong)
         | inl right ↦
-          let done = opened.right_tag within fits right in
-          inl (done.0, record { in_range = within; fits = fits; right_tag = right; buffer = done.1 })
+            let done = opened.right_tag within fits right in
+            inl (done.0, record { in_range = within; fits = fits; right_tag = right; buffer = done.1 })
       ]
     ]
   ]

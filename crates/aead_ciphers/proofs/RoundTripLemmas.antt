@@ -20,7 +20,7 @@ opens_again key nonce aad message fits =
     let fitting : Fits (length aad) (length ciphertext - 0) = record { aad = fits.aad; message = let m = fits.message in omega arith } in
     let none : drop (length ciphertext - 0) ciphertext ≡ [] = drop_of_length-le ciphertext (omega arith) in
     let back : message ≡ decrypted (aes key) nonce ciphertext ++ drop (length ciphertext - 0) ciphertext =
-        sym (ap₂ (λ (xs ys : List ℕ). xs ++ ys) (counter_mode-twice (aes key) nonce 2 message) none ∙ append-nil message) in
+    sym (ap₂ (λ (xs ys : List ℕ). xs ++ ys) (counter_mode-twice (aes key) nonce 2 message) none ∙ append-nil message) in
     record {
       comes_back = record {
         out_of_range = λ past. absurd (omega arith);

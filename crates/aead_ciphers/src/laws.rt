@@ -19,12 +19,7 @@ pub fn ghash_sum(h: Block, left: &[Block], right: &[Block])
 
 /// Opening undoes sealing (SP 800-38D section 7.2), for every key and every list of nonces, AADs and
 /// messages.
-pub fn round_trip(
-    key: &[u8],
-    nonces: &[[u8; NONCE_LEN]],
-    aads: &[Vec<u8>],
-    messages: &[Vec<u8>],
-)
+pub fn round_trip(key: &[u8], nonces: &[[u8; NONCE_LEN]], aads: &[Vec<u8>], messages: &[Vec<u8>])
     requires key_len { (length key.now ≡ 16) ⊎ (length key.now ≡ 32) }
     requires aads_len { length aads.now ≡ length nonces.now }
     requires messages_len { length messages.now ≡ length nonces.now }

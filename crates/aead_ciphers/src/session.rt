@@ -42,7 +42,11 @@ impl Job {
     /// A job that didn't run yet.
     pub fn new(operation: Operation, aad: Vec<u8>, buffer: Vec<u8>) -> Self
         ensures { result ≡ record {
-            operation = operation; aad = aad; buffer = buffer; outcome = Outcome.Refused } }
+          operation = operation;
+          aad = aad;
+          buffer = buffer;
+          outcome = Outcome.Refused;
+        } }
     {
         Job {
             operation,

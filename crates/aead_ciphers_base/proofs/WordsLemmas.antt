@@ -1,7 +1,7 @@
 -- Words and bytes in little-endian order.
-use Rattle.std.proofs.Common.{◌≡◌, ℕ, zero, suc, ◌+◌, ◌*◌, ◌^◌, ◌<◌, ◌≤◌, List, [], ◌∷◌, ◌++◌, length, take, drop, get_or, slice_index, refl, ap, ap₂, sym, ◌∙◌, arith, get_or-drop}
+use Rattle.std.proofs.Common.{replicate, ◌≡◌, ℕ, zero, suc, ◌+◌, ◌*◌, ◌^◌, ◌<◌, ◌≤◌, List, [], ◌∷◌, ◌++◌, length, take, drop, get_or, slice_index, refl, ap, ap₂, sym, ◌∙◌, arith, get_or-drop}
 use Rattle.std.specs.Int.{w32, from_le_bytes, to_le_bytes}
-use Rattle.std.proofs.lemmas.List.{take_more, drop_all}
+use Rattle.std.proofs.lemmas.List.{take_more, take_at, drop_at, drop_all}
 use Rattle.std.proofs.lemmas.Grind.{flat_map-append}
 use Rattle.std.proofs.lemmas.Nat.{le_bytes_4, from_le_bytes-to_le_bytes_4}
 use Rattle.std.proofs.lemmas.Slice.{take-put_mid}
@@ -95,13 +95,15 @@ take-le_bytes out words bytes i k h within held e =
     take-put_mid (4 * i) k out bytes (4 * (i + 1)) (omega arith) (omega arith) in
     rw (front, held, e, take_more words i 0 within) (sym (flat_map-append (to_le_bytes w32) (take i words) (get_or words i 0 ∷ [])))
 
--- the initial state, word by word
-pub initial_state_words : (key counter : List ℕ) (number : ℕ) → length key ≡ 8 → length counter ≡ 4
+-- the initial state, of words that were copied to their places
+pub initial_state_words : (key counter c k n : List ℕ) (number : ℕ) → length key ≡ 8 → length counter ≡ 4
     → ((i : ℕ) → get_or key i 0 < 2 ^ 32) → ((i : ℕ) → get_or counter i 0 < 2 ^ 32)
-    → 0x61707865 ∷ 0x3320646e ∷ 0x79622d32 ∷ 0x6b206574 ∷ elements_from 8 0 key ++ number ∷ elements_from 3 1 counter
-    ≡ initial_state (le_bytes key) number (le_bytes (drop 1 counter))
+    → c ≡ 0x61707865 ∷ 0x3320646e ∷ 0x79622d32 ∷ 0x6b206574 ∷ [] → k ≡ key → n ≡ number ∷ elements_from 3 1 counter
+    → put_mid 12 4 (put_mid 4 8 (c ++ replicate 12 0) k) n ≡ initial_state (le_bytes key) number (le_bytes (drop 1 counter))
 unfolding initial_state
-initial_state_words key counter number lk lc fk fc =
+initial_state_words key counter c k n number lk lc fk fc ec ek en =
+    let zeros : List ℕ = replicate 4 0 in
     let fits : (i : ℕ) → get_or (drop 1 counter) i 0 < 2 ^ 32 = λ i. rw get_or-drop (fc (1 + i)) in
-    sym (ap₂ (λ (k n : List ℕ). 0x61707865 ∷ 0x3320646e ∷ 0x79622d32 ∷ 0x6b206574 ∷ k ++ number ∷ n)
-    (le_words-le_bytes key fk ∙ drop-elements 8 0 key lk) (le_words-le_bytes (drop 1 counter) fits ∙ drop-elements 3 1 counter lc))
+    rw (ec, ek, en, take_at key zeros 8 lk, drop_at key zeros 8 lk)
+    (sym (ap₂ (λ (k n : List ℕ). 0x61707865 ∷ 0x3320646e ∷ 0x79622d32 ∷ 0x6b206574 ∷ k ++ number ∷ n)
+    (le_words-le_bytes key fk) (le_words-le_bytes (drop 1 counter) fits ∙ drop-elements 3 1 counter lc)))

@@ -7,15 +7,15 @@ use Rattle.std.specs.List.{flat_map}
 use Rattle.std.specs.Simd.Lanes.{zip2}
 use Rattle.aead_ciphers_base.specs.Bytes.{each_below, ◌⊕◌}
 
--- section 2.1: the sum of two words modulo 2 ^ 32
+-- the sum of two words modulo 2 ^ 32 (section 2.1)
 abbrev pub add32 : ℕ → ℕ → ℕ
 add32 x y = (x + y) % 2 ^ 32
 
--- section 2.1: x ^= y; x <<<= n
+-- x ^= y; x <<<= n (section 2.1)
 abbrev pub xor_rotate : ℕ → ℕ → ℕ → ℕ
 xor_rotate x y n = rotate_left w32 (bit_xor x y) n
 
--- section 2.1: the quarter round, on four words
+-- the quarter round, on four words (section 2.1)
 unfoldable pub quarter_round : ℕ → ℕ → ℕ → ℕ → ℕ × ℕ × ℕ × ℕ
 quarter_round a b c d =
     let a1 = add32 a b in
@@ -28,54 +28,54 @@ quarter_round a b c d =
     let b2 = xor_rotate b1 c2 7 in
     (a2, b2, c2, d2)
 
--- section 2.2: QUARTERROUND(x, y, z, w), on the words of a state at four indices
+-- QUARTERROUND(x, y, z, w), on the words of a state at four indices (section 2.2)
 abbrev pub quarter_round_at : List ℕ → ℕ × ℕ × ℕ × ℕ → List ℕ
 quarter_round_at s p =
     let q = quarter_round (slice_index s p.0) (slice_index s p.1) (slice_index s p.2) (slice_index s p.3) in
     slice_set (slice_set (slice_set (slice_set s p.0 q.0) p.1 q.1) p.2 q.2) p.3 q.3
 
--- section 2.3: a column round, then a diagonal round, of four quarter rounds each
+-- four quarter rounds on the columns of the state, then four on its diagonals (section 2.3)
 unfoldable pub double_round : List ℕ → List ℕ
 double_round s =
     fold quarter_round_at s
     ((0, 4, 8, 12) ∷ (1, 5, 9, 13) ∷ (2, 6, 10, 14) ∷ (3, 7, 11, 15)
     ∷ (0, 5, 10, 15) ∷ (1, 6, 11, 12) ∷ (2, 7, 8, 13) ∷ (3, 4, 9, 14) ∷ [])
 
--- section 2.3: a list of bytes, read as words in little-endian order, four bytes each
+-- bytes, read as words of four in little-endian order (section 2.3)
 unfoldable pub le_words : List ℕ → List ℕ
 le_words (a ∷ b ∷ c ∷ d ∷ bytes) = from_le_bytes w32 (a ∷ b ∷ c ∷ d ∷ []) ∷ le_words bytes
 le_words _ = []
 
--- section 2.3: a list of words, written as bytes in little-endian order
+-- words, written as bytes in little-endian order (section 2.3)
 unfoldable pub le_bytes : List ℕ → List ℕ
 le_bytes words = flat_map (to_le_bytes w32) words
 
--- section 2.3: the initial state: four constants, the key, the block counter, the nonce
+-- the initial state: four constants, the key, the block counter, the nonce (section 2.3)
 unfoldable pub initial_state : List ℕ → ℕ → List ℕ → List ℕ
 initial_state key counter nonce =
     0x61707865 ∷ 0x3320646e ∷ 0x79622d32 ∷ 0x6b206574 ∷ le_words key ++ counter ∷ le_words nonce
 
--- section 2.3: the initial words are added to those after 20 rounds, and the sums written as bytes
+-- after 20 rounds the initial words are added, and the sums written as bytes (section 2.3)
 unfoldable pub state_block : List ℕ → List ℕ
 state_block s = le_bytes (zip2 add32 (iterate double_round 10 s) s)
 
--- section 2.3: the block function
+-- the block function (section 2.3)
 unfoldable pub chacha20_block : List ℕ → ℕ → List ℕ → List ℕ
 chacha20_block key counter nonce = state_block (initial_state key counter nonce)
 
--- section 2.4: byte i of the key stream, the blocks from the counter on
+-- byte i of the key stream: the blocks at the counter, the counter plus 1, .., in a row (section 2.4)
 unfoldable pub stream_byte : List ℕ → ℕ → List ℕ → ℕ → ℕ
 stream_byte key counter nonce i = slice_index (chacha20_block key (counter + i / 64) nonce) (i % 64)
 
--- section 2.4: the first n bytes of the key stream
+-- the first n bytes of the key stream (section 2.4)
 unfoldable pub key_stream : List ℕ → ℕ → List ℕ → ℕ → List ℕ
 key_stream key counter nonce n = each_below n (stream_byte key counter nonce)
 
--- section 2.4: the message, XORed with the key stream
+-- the message XOR the key stream (section 2.4)
 unfoldable pub chacha20_encrypted : List ℕ → ℕ → List ℕ → List ℕ → List ℕ
 chacha20_encrypted key counter nonce message = message ⊕ key_stream key counter nonce (length message)
 
--- what a contract sees of a counter: the block counter, and the bytes of the nonce
+-- what a contract sees of a `Counter`: the block counter, and the bytes of the nonce
 pub record Position : Type 0 where
   pub number : ℕ
   pub nonce : List ℕ

@@ -11,10 +11,9 @@ ghost use Rattle.aead_ciphers_base.specs.KeyBytes.{key_bytes};
 ghost use Rattle.aead_ciphers_base.specs.Mask.{aes_mask};
 ghost use Rattle.aead_ciphers_base.specs.Work.{Adds, Room};
 
-use crate::bb;
 use crate::error::Unspecified;
-use crate::overlapping;
 use crate::values::Sample;
+use crate::{bb, overlapping};
 use std::alloc::AllocError;
 use std::marker::Model;
 

@@ -1,30 +1,32 @@
-//! The stream cipher ChaCha20 (RFC 8439, sections 2.1 to 2.4).
-ghost use Rattle.std.specs.Prelude.{◌≡◌, ⊤, ℕ, ◌+◌, ◌-◌, ◌*◌, ◌/◌, ◌^◌, ◌<◌, ◌≤◌, List, ◌∷◌, ◌++◌, length, take, drop, slice_index};
+//! The stream cipher ChaCha20 (RFC 8439 sections 2.1 to 2.4).
+
+ghost use Rattle.std.specs.Prelude.{◌≡◌, ⊤, ℕ, ◌+◌, ◌-◌, ◌*◌, ◌^◌, ◌<◌, ◌≤◌, List, ◌∷◌, ◌++◌, length, take, drop, slice_index};
 ghost use Rattle.std.specs.Int.{div_ceil};
 ghost use Rattle.std.specs.Simd.Lanes.{zip2};
 ghost use Rattle.aead_ciphers_base.specs.Bytes.{◌⊕◌};
 ghost use Rattle.aead_ciphers_base.specs.ChaCha20.{add32, quarter_round, quarter_round_at, double_round, state_block, le_words, le_bytes, initial_state, chacha20_encrypted, Position};
 ghost use Rattle.aead_ciphers_base.specs.Mask.{chacha_mask};
 
-use crate::bb::xor_assign_at_start;
-use crate::overlapping;
 use crate::values::{Nonce, Sample};
+use crate::{bb, overlapping};
 use std::alloc::AllocError;
 use std::marker::Model;
 
 #[cfg(test)]
 mod tests;
 
-/// The length of a key in bytes.
+/// The length of a key, in bytes.
 pub const KEY_LEN: usize = 32;
 
-/// The length of a block of the key stream in bytes.
+/// The length of a block of the key stream, in bytes.
 pub const BLOCK_LEN: usize = 64;
 
+/// Bytes that are read from a start on, and written from the front on.
 pub type Overlapping<'o> = overlapping::Overlapping<'o, u8>;
 
 type State = [u32; 16];
 
+// The first four words of a state (section 2.3).
 const CONSTANTS: [u32; 4] = [0x6170_7865, 0x3320_646e, 0x7962_2d32, 0x6b20_6574];
 
 #[inline(always)]
@@ -73,7 +75,6 @@ fn double_round(state: &mut State)
     quarter_round_at(state, 3, 4, 9, 14);
 }
 
-#[inline(always)]
 fn add_words(words: &mut State, addend: &State)
     ensures { words.new ≡ zip2 add32 words.old addend.now }
 {
@@ -82,8 +83,8 @@ fn add_words(words: &mut State, addend: &State)
     }
 }
 
-#[inline(always)]
-fn to_le_bytes(words: &State) -> [u8; BLOCK_LEN]
+// Writes words in little-endian order.
+fn le_bytes(words: &State) -> [u8; BLOCK_LEN]
     ensures { result ≡ le_bytes words.now }
 {
     let mut bytes = [0; BLOCK_LEN];
@@ -93,56 +94,7 @@ fn to_le_bytes(words: &State) -> [u8; BLOCK_LEN]
     bytes
 }
 
-fn state_block(state: &State) -> [u8; BLOCK_LEN]
-    ensures { result ≡ state_block state.now }
-{
-    let mut words = *state;
-    for _round in 0..10u32 {
-        double_round(&mut words);
-    }
-    add_words(&mut words, state);
-    to_le_bytes(&words)
-}
-
-/// A key of 32 bytes.
-#[derive(Drop)]
-pub struct Key {
-    words: [u32; 8],
-}
-
-impl Model for Key {
-    ghost Value = { List ℕ };
-
-    ghost view = { λ k. le_bytes k.words };
-
-    ghost invariant = { λ k. (i : ℕ) → slice_index k.words i < 2 ^ 32 };
-}
-
-impl Clone for Key {
-    ghost is_clone = { λ x y. y ≡ x };
-
-    ghost is_infallible = { λ _. ⊤ };
-
-    fn clone(&self) -> Result<Self, AllocError> {
-        Ok(Key { words: self.words })
-    }
-}
-
-/// A block counter and a nonce: where a key stream starts.
-#[derive(Drop)]
-pub struct Counter {
-    words: [u32; 4],
-}
-
-impl Model for Counter {
-    ghost Value = { Position };
-
-    ghost view = { λ c. record { number = slice_index c.words 0; nonce = le_bytes (drop 1 c.words) } };
-
-    ghost invariant = { λ c. (i : ℕ) → slice_index c.words i < 2 ^ 32 };
-}
-
-/// Reads words of four bytes in little-endian order.
+// Reads words in little-endian order.
 fn le_words<const N: usize>(bytes: &[u8]) -> [u32; N]
     requires { length bytes.now ≡ 4 * N }
     ensures { result ≡ le_words bytes.now }
@@ -155,8 +107,46 @@ fn le_words<const N: usize>(bytes: &[u8]) -> [u32; N]
     words
 }
 
+// The block of an initial state.
+fn state_block(state: &State) -> [u8; BLOCK_LEN]
+    ensures { result ≡ state_block state.now }
+{
+    let mut words = *state;
+    for _round in 0..10u32 {
+        double_round(&mut words);
+    }
+    add_words(&mut words, state);
+    le_bytes(&words)
+}
+
+// Writes to `at` the `n` bytes from `start + at` on, XORed with the block.
+fn xor_block(in_out: &mut [u8], start: usize, at: usize, n: usize, mut block: [u8; BLOCK_LEN])
+    requires in_slice { start + at + n ≤ length in_out.old }
+    requires in_block { n ≤ 64 }
+    ensures { in_out.new ≡
+        take at in_out.old ++ (take n (drop (start + at) in_out.old) ⊕ block) ++ drop (at + n) in_out.old }
+{
+    let from = start + at;
+    bb::xor_assign_at_start(&mut block, &in_out[from..from + n]);
+    in_out[at..at + n].copy_from_slice(&block[..n]);
+}
+
+/// A block counter and a nonce: where a key stream starts.
+#[derive(Drop)]
+pub struct Counter {
+    words: [u32; 4],
+}
+
+impl Model for Counter {
+    ghost Value = { Position };
+
+    ghost view = { λ counter. record { number = slice_index counter.words 0; nonce = le_bytes (drop 1 counter.words) } };
+
+    ghost invariant = { λ counter. (i : ℕ) → slice_index counter.words i < 2 ^ 32 };
+}
+
 impl Counter {
-    /// The counter of block `ctr` under the nonce.
+    /// Block `ctr` under the nonce.
     pub fn from_nonce_and_ctr(nonce: Nonce, ctr: u32) -> Self
         ensures number { result.number ≡ ctr }
         ensures nonce { result.nonce ≡ nonce }
@@ -167,7 +157,7 @@ impl Counter {
         }
     }
 
-    /// The counters of blocks 0 and 1 under one nonce.
+    /// Blocks 0 and 1 under one nonce.
     pub fn zero_one_less_safe(nonce: Nonce) -> (Self, Self)
         ensures zero { result.0 ≡ record { number = 0; nonce = nonce } }
         ensures one { result.1 ≡ record { number = 1; nonce = nonce } }
@@ -180,7 +170,7 @@ impl Counter {
         (zero, one)
     }
 
-    /// The block counter, then the three little-endian words of the nonce.
+    /// The block counter, then the nonce as three little-endian words.
     pub fn into_words_less_safe(self) -> [u32; 4]
         ensures { result ≡ self.number ∷ le_words self.nonce }
     {
@@ -188,21 +178,32 @@ impl Counter {
     }
 }
 
-/// Writes `n` bytes of the slice, from `start + at` on, XORed with the block, at `at`.
-#[inline(always)]
-fn xor_block(in_out: &mut [u8], start: usize, at: usize, n: usize, mut block: [u8; BLOCK_LEN])
-    requires in_slice { start + at + n ≤ length in_out.old }
-    requires in_block { n ≤ 64 }
-    ensures { in_out.new ≡
-        take at in_out.old ++ (take n (drop (start + at) in_out.old) ⊕ block) ++ drop (at + n) in_out.old }
-{
-    let from = start + at;
-    xor_assign_at_start(&mut block, &in_out[from..from + n]);
-    in_out[at..at + n].copy_from_slice(&block[..n]);
+/// A key of 32 bytes.
+#[derive(Drop)]
+pub struct Key {
+    words: [u32; 8],
+}
+
+impl Model for Key {
+    ghost Value = { List ℕ };
+
+    ghost view = { λ key. le_bytes key.words };
+
+    ghost invariant = { λ key. (i : ℕ) → slice_index key.words i < 2 ^ 32 };
+}
+
+impl Clone for Key {
+    ghost is_clone = { λ key clone. clone ≡ key };
+
+    ghost is_infallible = { λ _. ⊤ };
+
+    fn clone(&self) -> Result<Self, AllocError> {
+        Ok(Key { words: self.words })
+    }
 }
 
 impl Key {
-    /// Takes the bytes of a key.
+    /// The key of these bytes.
     pub fn new(value: [u8; KEY_LEN]) -> Self
         ensures { result ≡ value }
     {
@@ -211,48 +212,19 @@ impl Key {
         }
     }
 
-    /// The eight little-endian words of the key.
+    /// The key as eight little-endian words.
     pub fn words_less_safe(&self) -> &[u32; 8]
         ensures { result.now ≡ le_words self.now }
     {
         &self.words
     }
 
-    /// The initial state of the `j`th block from the counter on.
-    #[inline(always)]
-    fn initial_state(&self, counter: &Counter, j: u32) -> State
-        requires { counter.now.number + j < 2 ^ 32 }
-        ensures { result ≡ initial_state self.now (counter.now.number + j) counter.now.nonce }
-    {
-        let [k0, k1, k2, k3, k4, k5, k6, k7] = self.words;
-        let [number, n0, n1, n2] = counter.words;
-        let [c0, c1, c2, c3] = CONSTANTS;
-        [
-            c0,
-            c1,
-            c2,
-            c3,
-            k0,
-            k1,
-            k2,
-            k3,
-            k4,
-            k5,
-            k6,
-            k7,
-            number + j,
-            n0,
-            n1,
-            n2,
-        ]
-    }
-
-    /// XORs the input with the key stream from the counter on, and writes the result to the front
-    /// of the slice (RFC 8439, section 2.4).
+    /// XORs the input with the key stream from the counter on (RFC 8439 section 2.4). The output
+    /// is as long as the input.
     pub fn encrypt(&self, counter: Counter, in_out: Overlapping<'_>)
         requires { counter.number + div_ceil (length in_out.in_out.now - in_out.start) 64 ≤ 2 ^ 32 }
-        ensures { let input = drop in_out.entry.start in_out.entry.in_out.now in in_out.exit.0.now ≡
-            chacha20_encrypted self.now counter.number counter.nonce input
+        ensures { let input = drop in_out.entry.start in_out.entry.in_out.now in
+            in_out.exit.0.now ≡ chacha20_encrypted self.now counter.number counter.nonce input
             ++ drop (length input) in_out.entry.in_out.now }
     {
         let Overlapping { in_out, start } = in_out;
@@ -273,7 +245,7 @@ impl Key {
         self.encrypt(counter, Overlapping::from(in_out));
     }
 
-    /// Encrypts at most one block with block counter 0, and returns the counter of block 1.
+    /// Encrypts at most one block, the one with counter 0, and gives the counter of the next.
     pub fn encrypt_single_block_with_ctr_0<const N: usize>(
         &self,
         nonce: Nonce,
@@ -288,7 +260,7 @@ impl Key {
         one
     }
 
-    /// The header protection mask of a sample (RFC 9001, section 5.4.4).
+    /// The header protection mask of a sample (RFC 9001 section 5.4.4).
     pub fn new_mask(&self, sample: Sample) -> [u8; 5]
         ensures { result ≡ chacha_mask self.now sample }
     {
@@ -299,5 +271,18 @@ impl Key {
         let mut mask = [0; 5];
         mask.copy_from_slice(&block[..5]);
         mask
+    }
+
+    // The initial state of block `j` after the counter.
+    fn initial_state(&self, counter: &Counter, j: u32) -> State
+        requires { counter.now.number + j < 2 ^ 32 }
+        ensures { result ≡ initial_state self.now (counter.now.number + j) counter.now.nonce }
+    {
+        let [number, n0, n1, n2] = counter.words;
+        let mut state = [0; 16];
+        state[..4].copy_from_slice(&CONSTANTS);
+        state[4..12].copy_from_slice(&self.words);
+        state[12..].copy_from_slice(&[number + j, n0, n1, n2]);
+        state
     }
 }

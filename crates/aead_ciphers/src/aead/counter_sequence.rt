@@ -4,7 +4,7 @@ ghost use Rattle.std.specs.Int.{to_be_bytes, w64};
 ghost use Rattle.aead_ciphers.specs.CounterSequence.{Counting, spent_nonces, is_used_up, origin_of};
 ghost use Rattle.aead_ciphers.specs.NonceSequence.{Appends, Closes};
 
-use crate::aead::{Nonce, NonceSequence, NONCE_LEN};
+use crate::aead::{NONCE_LEN, Nonce, NonceSequence};
 use aead_ciphers_base::error::Unspecified;
 use std::marker::Model;
 

@@ -65,7 +65,8 @@ impl<N: NonceSequence> OpeningKey<N> {
         ensures count { IfOk result (λ n. n ≡ length in_out.old - 16 - ciphertext_and_tag.start) }
     {
         let nonce = self.nonce_sequence.advance()?;
-        self.key.open_within_len(nonce, aad, in_out, ciphertext_and_tag)
+        self.key
+            .open_within_len(nonce, aad, in_out, ciphertext_and_tag)
     }
 
     /// What `open_in_place` does to the buffer. It gives the plaintext's length in place of the plaintext.

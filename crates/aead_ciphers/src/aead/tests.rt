@@ -292,7 +292,10 @@ fn gcm_spec_case_4_within(rt: HostRuntime) -> Result<(), Fail> {
     let aad = Aad::from(aad.as_slice());
     let mut in_out = joined(alloc, "00000000", case.ciphertext, case.tag)?;
     let plaintext = key.open_within(case.nonce()?, aad, &mut in_out, 4..)?;
-    assert_eq!(rt; &*plaintext, joined(alloc, case.message, "", "")?.as_slice());
+    assert_eq!(rt;
+        &*plaintext,
+        joined(alloc, case.message, "", "")?.as_slice()
+    );
     plaintext.fill(0x11);
     let ones = format!(in alloc; "{:1<120}", "")?;
     assert_eq!(rt;

@@ -39,7 +39,10 @@ fn seals_and_opens_once(rt: HostRuntime) -> Result<(), Fail> {
     assert_eq!(rt; jobs[0].outcome, Outcome::Sealed);
     assert_eq!(rt; jobs[0].buffer.as_slice(), sealed.as_slice());
     assert_eq!(rt; jobs[1].outcome, Outcome::Opened(16));
-    assert_eq!(rt; hex::encode(alloc, jobs[1].buffer.as_slice())?.as_str(), CASE_2_OPENED);
+    assert_eq!(rt;
+        hex::encode(alloc, jobs[1].buffer.as_slice())?.as_str(),
+        CASE_2_OPENED
+    );
     assert_eq!(rt; jobs[2].outcome, Outcome::Refused);
     assert_eq!(rt; jobs[2].buffer.as_slice(), [0; 16].as_slice());
     assert_eq!(rt; jobs[3].outcome, Outcome::Refused);
@@ -58,7 +61,11 @@ fn refuses_once_the_nonces_are_spent(rt: HostRuntime) -> Result<(), Fail> {
     }
     run(&mut sealing, &mut opening, jobs.as_mut_slice());
     for (i, job) in jobs.iter().enumerate() {
-        let (outcome, len) = if i < 2 { (Outcome::Sealed, 36) } else { (Outcome::Refused, 20) };
+        let (outcome, len) = if i < 2 {
+            (Outcome::Sealed, 36)
+        } else {
+            (Outcome::Refused, 20)
+        };
         assert_eq!(rt; job.outcome, outcome, "job {i}");
         assert_eq!(rt; job.buffer.len(), len, "job {i}");
     }

@@ -1,9 +1,9 @@
 //! Masks of RFC 9001, FIPS 197 and RFC 8439, and what is refused.
 
-ghost use Rattle.std.specs.Prelude.{◌≡◌};
+ghost use Rattle.std.specs.Prelude.{◌≡◌, ◌↔◌, IsTrue};
 ghost use Rattle.aead_ciphers_base.specs.Mask.{chacha_mask};
 
-use super::{AES_128, AES_256, CHACHA20, HeaderProtectionKey};
+use super::{AES_128, AES_256, Algorithm, CHACHA20, HeaderProtectionKey};
 use aead_ciphers_base::error::Unspecified;
 use std::test::Fail;
 
@@ -24,6 +24,13 @@ const COUNTING: [u8; 32] = [
     0x00, 0x01, 0x02, 0x03, 0x04, 0x05, 0x06, 0x07, 0x08, 0x09, 0x0a, 0x0b, 0x0c, 0x0d, 0x0e, 0x0f,
     0x10, 0x11, 0x12, 0x13, 0x14, 0x15, 0x16, 0x17, 0x18, 0x19, 0x1a, 0x1b, 0x1c, 0x1d, 0x1e, 0x1f,
 ];
+
+// What a caller learns from `==`.
+fn same_algorithm(a: &Algorithm, b: &Algorithm) -> bool
+    ensures { IsTrue result ↔ (a.now ≡ b.now) }
+{
+    *a == *b
+}
 
 // The definition gives the mask of appendix A.5.
 fn rfc_9001_a_5_mask()
@@ -90,7 +97,7 @@ fn other_lengths_are_refused(rt: HostRuntime) -> Result<(), Fail> {
             assert!(rt; HeaderProtectionKey::new(&algorithm, &zeros[..refused]).is_err());
         }
         let key = HeaderProtectionKey::new(&algorithm, &zeros[..len])?;
-        assert_eq!(rt; *key.algorithm(), algorithm);
+        assert!(rt; same_algorithm(key.algorithm(), &algorithm));
         assert_eq!(rt; algorithm.sample_len(), 16);
         for refused in [0, 15, 17] {
             assert_eq!(rt; key.new_mask(&zeros[..refused]), Err(Unspecified));

@@ -18,4 +18,4 @@ unfolding state_block
 returns c =
     let ten : c.loop-round._round ≡ 10 = omega arith in
     let words = c.loop-round.invariant ∙ ap (λ (n : ℕ). iterate double_round n c.args.state.now) ten in
-    c.to_le_bytes.ensures ∙ ap le_bytes (c.add_words.ensures ∙ ap (λ (xs : List ℕ). zip2 add32 xs c.args.state.now) words)
+    c.le_bytes.ensures ∙ ap le_bytes (c.add_words.ensures ∙ ap (λ (xs : List ℕ). zip2 add32 xs c.args.state.now) words)

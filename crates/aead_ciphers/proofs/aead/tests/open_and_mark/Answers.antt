@@ -22,5 +22,5 @@ returns-in-Some-clause-marked c =
     let plain : c.in-Some.plaintext.now ≡ decrypted cipher c.args.nonce c.args.in_out.now = c.in-Some.ensures.value.0 ∙ parts.0 in
     let none : c.in-Some._rest.now ≡ [] = c.in-Some.ensures.value.1 ∙ parts.1 in
     let kept : slice_set c.in-Some.plaintext.now 0 7 ++ c.in-Some._rest.now ≡ slice_set (decrypted cipher c.args.nonce c.args.in_out.now) 0 7 =
-        ap₂ (λ (xs ys : List ℕ). slice_set xs 0 7 ++ ys) plain none ∙ append-nil _ in
+    ap₂ (λ (xs ys : List ℕ). slice_set xs 0 7 ++ ys) plain none ∙ append-nil _ in
     rw (← kept) (search rules)

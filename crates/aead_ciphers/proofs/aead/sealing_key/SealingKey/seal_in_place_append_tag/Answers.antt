@@ -19,8 +19,8 @@ returns-clause-step g c =
     let front : take (length old) (bytes c.grow_by_tag.new.self) ≡ old = rw grown (take-append_seam old (replicate 16 0)) in
     elim c.match-advance.branch [
       | in-Ok w ↦
-        let made = rw (few, front) at w.seal_with_room.ensures in
-        rw (← c.self.view_is, w.in_out-is, w.result-is) (spent_step _ _ _ _ _ _ _ _ _ _ w.seal_with_room.result c.in_ok-grow_by_tag.ensures.granted w.in-Ok.ensures.ok made.accepted made.sealed made.kept)
+          let made = rw (few, front) at w.seal_with_room.ensures in
+          rw (← c.self.view_is, w.in_out-is, w.result-is) (spent_step _ _ _ _ _ _ _ _ _ _ w.seal_with_room.result c.in_ok-grow_by_tag.ensures.granted w.in-Ok.ensures.ok made.accepted made.sealed made.kept)
       | in-Err w ↦
-        rw (← c.self.view_is, w.in_out-is, w.result-is) (no_nonce c.in_ok-grow_by_tag.ensures.granted w.in-Err.ensures.err (w.cut_tag.ensures ∙ rw grown (grown_front old)))
+          rw (← c.self.view_is, w.in_out-is, w.result-is) (no_nonce c.in_ok-grow_by_tag.ensures.granted w.in-Err.ensures.err (w.cut_tag.ensures ∙ rw grown (grown_front old)))
     ]

@@ -1,6 +1,6 @@
 use Rattle.std.proofs.Common.{◌≡◌, ◌*◌, length, take}
 use Rattle.aead_ciphers_base.specs.ChaCha20.{le_bytes}
-use Rattle.aead_ciphers_base.proofs.chacha.to_le_bytes.Given as goal
+use Rattle.aead_ciphers_base.proofs.chacha.le_bytes.Given as goal
 
 abbrev pub invariant-loop-i : goal.invariant-loop-i
 invariant-loop-i l = record {
