@@ -7,6 +7,7 @@ pub mod GhashBlocks
 pub mod GhashBytes
 pub mod GhashLaws
 pub mod HashLemmas
+pub mod KeysLemmas
 pub mod Lending
 pub mod LendingSteps
 pub mod OpenLemmas

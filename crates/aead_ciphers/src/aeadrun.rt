@@ -9,12 +9,14 @@ use std::io;
 use std::io::{BufRead, Write};
 
 mod answers;
+mod calls;
 mod line;
+mod program;
 #[cfg(test)]
 mod tests;
 mod words;
 
-use self::answers::answer;
+use self::program::Program;
 pub use self::words::{bytes, text};
 
 /// The exit status where each line was a command.
@@ -64,13 +66,14 @@ fn answer_lines<R: BufRead, W: Write>(
     input: &mut R,
     output: &mut W,
 ) -> Result<bool, Fault> {
+    let mut program = Program::new(alloc);
     let mut line = Vec::new(alloc);
     let mut all_answered = true;
     for _ in 0..u64::MAX {
         if !read_line(input, &mut line)? {
             break;
         }
-        match answer(alloc, line.as_slice())? {
+        match program.answer(line.as_slice())? {
             Some(answer) => writeln!(output, "{answer}")?,
             None => {
                 writeln!(output, "bad line")?;

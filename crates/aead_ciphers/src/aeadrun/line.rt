@@ -1,7 +1,7 @@
 //! Lines of input as commands.
 
-use super::words::{bytes, number};
-use crate::aead::{AES_128_GCM, AES_256_GCM, Algorithm};
+use super::words::{array, bytes, number};
+use crate::aead::{AES_128_GCM, AES_256_GCM, Algorithm, quic};
 use std::alloc::{AllocError, Global};
 use std::str;
 use std::str::Split;
@@ -22,6 +22,31 @@ pub(super) enum Command {
         algorithm: &'static Algorithm,
         key: Vec<u8>,
         nonce: Vec<u8>,
+        aad: Vec<u8>,
+        start: usize,
+        buffer: Vec<u8>,
+    },
+    /// `mask aes128|aes256|chacha20 KEY SAMPLE`
+    Mask {
+        algorithm: &'static quic::Algorithm,
+        key: Vec<u8>,
+        sample: Vec<u8>,
+    },
+    /// `keys 128|256 KEY PREFIX FIRST COUNT`
+    Keys {
+        algorithm: &'static Algorithm,
+        key: Vec<u8>,
+        prefix: [u8; 4],
+        first: u64,
+        count: u64,
+    },
+    /// `next-seal AAD MESSAGE`
+    NextSeal {
+        aad: Vec<u8>,
+        message: Vec<u8>,
+    },
+    /// `next-open AAD START BUFFER`
+    NextOpen {
         aad: Vec<u8>,
         start: usize,
         buffer: Vec<u8>,
@@ -56,6 +81,10 @@ impl Command {
         let command = match words.next()? {
             "seal" => Command::seal(&mut words)?,
             "open" => Command::open(&mut words)?,
+            "mask" => Command::mask(&mut words)?,
+            "keys" => Command::keys(&mut words)?,
+            "next-seal" => Command::next_seal(&mut words)?,
+            "next-open" => Command::next_open(&mut words)?,
             _ => return Err(LineError::BadLine),
         };
         words.end()?;
@@ -82,6 +111,39 @@ impl Command {
             buffer: words.bytes()?,
         })
     }
+
+    fn mask(words: &mut Words<'_>) -> Result<Command, LineError> {
+        Ok(Command::Mask {
+            algorithm: words.mask_algorithm()?,
+            key: words.bytes()?,
+            sample: words.bytes()?,
+        })
+    }
+
+    fn keys(words: &mut Words<'_>) -> Result<Command, LineError> {
+        Ok(Command::Keys {
+            algorithm: words.algorithm()?,
+            key: words.bytes()?,
+            prefix: words.array::<4>()?,
+            first: u64::from_be_bytes(words.array::<8>()?),
+            count: words.number()?,
+        })
+    }
+
+    fn next_seal(words: &mut Words<'_>) -> Result<Command, LineError> {
+        Ok(Command::NextSeal {
+            aad: words.bytes()?,
+            message: words.bytes()?,
+        })
+    }
+
+    fn next_open(words: &mut Words<'_>) -> Result<Command, LineError> {
+        Ok(Command::NextOpen {
+            aad: words.bytes()?,
+            start: words.number()? as usize,
+            buffer: words.bytes()?,
+        })
+    }
 }
 
 /// The words of a line that aren't read yet.
@@ -102,6 +164,11 @@ impl<'a> Words<'a> {
         bytes(self.alloc, self.next()?)?.ok_or(LineError::BadLine)
     }
 
+    /// The next word as `N` bytes.
+    fn array<const N: usize>(&mut self) -> Result<[u8; N], LineError> {
+        array(self.next()?).ok_or(LineError::BadLine)
+    }
+
     /// The next word as a number.
     fn number(&mut self) -> Result<u64, LineError> {
         number(self.next()?).ok_or(LineError::BadLine)
@@ -112,6 +179,16 @@ impl<'a> Words<'a> {
         match self.next()? {
             "128" => Ok(&AES_128_GCM),
             "256" => Ok(&AES_256_GCM),
+            _ => Err(LineError::BadLine),
+        }
+    }
+
+    /// The next word as the name of a header protection algorithm.
+    fn mask_algorithm(&mut self) -> Result<&'static quic::Algorithm, LineError> {
+        match self.next()? {
+            "aes128" => Ok(&quic::AES_128),
+            "aes256" => Ok(&quic::AES_256),
+            "chacha20" => Ok(&quic::CHACHA20),
             _ => Err(LineError::BadLine),
         }
     }

@@ -135,6 +135,142 @@ fn starts(rt: HostRuntime) -> Result<(), Fail> {
 }
 
 #[test]
+fn keys_seal_and_open_gcm_spec_case_4(rt: HostRuntime) -> Result<(), Fail> {
+    let alloc = rt.alloc();
+    let input = format!(in alloc;
+        "keys 128 {KEY} cafebabe facedbaddecaf888 1\n\
+         next-seal {AAD} {PLAINTEXT}\n\
+         next-seal - -\n\
+         next-open {AAD} 4 00000000{CIPHERTEXT}{TAG}\n\
+         next-open {AAD} 4 00000000{CIPHERTEXT}{TAG}\n\
+         keys 128 {KEY} cafebabe facedbaddecaf888 1\n\
+         next-open {AAD} 4 00000000{CIPHERTEXT}5bc94fbc3221a5db94fae95ae7121a46\n\
+         next-seal {AAD} {PLAINTEXT}\n"
+    )?;
+    let (status, printed) = run(alloc, input.as_bytes())?;
+    let answers = format!(in alloc;
+        "ok\n\
+         ok {CIPHERTEXT}{TAG}\n\
+         refused\n\
+         ok {PLAINTEXT} {PLAINTEXT}3d58e091{TAG}\n\
+         refused 00000000{CIPHERTEXT}{TAG}\n\
+         ok\n\
+         refused 00000000{CIPHERTEXT}5bc94fbc3221a5db94fae95ae7121a46\n\
+         ok {CIPHERTEXT}{TAG}\n"
+    )?;
+    assert_eq!(rt; printed.as_str(), answers.as_str());
+    assert_eq!(rt; status, 0);
+    Ok(())
+}
+
+#[test]
+fn refused_keys_keep_those_before(rt: HostRuntime) -> Result<(), Fail> {
+    let alloc = rt.alloc();
+    let input = format!(in alloc;
+        "keys 128 {ZERO_BLOCK} 00000000 0000000000000000 2\n\
+         keys 128 {ZERO_BLOCK} 00000000 ffffffffffffffff 2\n\
+         keys 256 {ZERO_BLOCK} 00000000 0000000000000000 1\n\
+         next-seal - {ZERO_BLOCK}\n\
+         keys 128 {ZERO_BLOCK} 00000000 ffffffffffffffff 1\n\
+         next-seal - -\n\
+         next-seal - -\n\
+         keys 128 {ZERO_BLOCK} 00000000 0000000000000000 0\n\
+         next-seal - -\n\
+         next-open - 0 58e2fccefa7e3061367f1d57a4e7455a\n"
+    )?;
+    let (status, printed) = run(alloc, input.as_bytes())?;
+    let lines = printed.as_str().lines().collect::<Vec<_>>(alloc)?;
+    assert_eq!(rt; lines.len(), 10);
+    assert_eq!(rt; lines[0], "ok");
+    assert_eq!(rt; lines[1], "refused");
+    assert_eq!(rt; lines[2], "refused");
+    assert_eq!(rt;
+        lines[3],
+        "ok 0388dace60b6a392f328c2b971b2fe78ab6e47d42cec13bdf53a67b21257bddf"
+    );
+    assert_eq!(rt; lines[4], "ok");
+    assert!(rt; lines[5].starts_with("ok "));
+    assert_eq!(rt; lines[6], "refused");
+    assert_eq!(rt; lines[7], "ok");
+    assert_eq!(rt; lines[8], "refused");
+    assert_eq!(rt; lines[9], "refused 58e2fccefa7e3061367f1d57a4e7455a");
+    assert_eq!(rt; status, 0);
+    Ok(())
+}
+
+#[test]
+fn bad_lines_of_keys(rt: HostRuntime) -> Result<(), Fail> {
+    let lines: [&[u8]; 14] = [
+        b"next-seal - -\n",
+        b"next-open - 0 -\n",
+        b"keys 128 00 00000000 0000000000000000\n",
+        b"keys 128 00 00000000 0000000000000000 1 1\n",
+        b"keys 192 00 00000000 0000000000000000 1\n",
+        b"keys 128 0 00000000 0000000000000000 1\n",
+        b"keys 128 00 - 0000000000000000 1\n",
+        b"keys 128 00 000000 0000000000000000 1\n",
+        b"keys 128 00 0000000000 0000000000000000 1\n",
+        b"keys 128 00 0000000g 0000000000000000 1\n",
+        b"keys 128 00 00000000 - 1\n",
+        b"keys 128 00 00000000 00000000000000000 1\n",
+        b"keys 128 00 00000000 0000000000000000 -\n",
+        b"keys 128 00 00000000 0000000000000000 18446744073709551616\n",
+    ];
+    for line in lines {
+        let (status, printed) = run(rt.alloc(), line)?;
+        assert_eq!(rt; printed.as_str(), "bad line\n", "for {line:?}");
+        assert_eq!(rt; status, 1);
+    }
+    let (status, printed) = run(
+        rt.alloc(),
+        b"keys 128 00 00000000 0000000000000000 1\nnext-seal - -\n",
+    )?;
+    assert_eq!(rt;
+        printed.as_str(),
+        "refused\nbad line\n",
+        "no keys were made"
+    );
+    assert_eq!(rt; status, 1);
+    Ok(())
+}
+
+#[test]
+fn masks(rt: HostRuntime) -> Result<(), Fail> {
+    let alloc = rt.alloc();
+    // RFC 9001 A.2 and A.5, and the cipher examples of FIPS 197 C.1 and C.3.
+    let input = "mask aes128 9f50449e04a0e810283a1e9933adedd2 d1b1c98dd7689fb8ec11d242b123dc9b\n\
+                 mask chacha20 25a282b9e82f06f21f488917a4fc8f1b73573685608597d0efcb076b0ab7a7a4 5e5cd55c41f69080575d7999c25a5bfb\n\
+                 mask aes128 000102030405060708090a0b0c0d0e0f 00112233445566778899aabbccddeeff\n\
+                 mask aes256 000102030405060708090a0b0c0d0e0f101112131415161718191a1b1c1d1e1f 00112233445566778899aabbccddeeff\n\
+                 mask aes128 9f50449e04a0e810283a1e9933adedd2 d1b1c98dd7689fb8ec11d242b123dc\n\
+                 mask aes256 9f50449e04a0e810283a1e9933adedd2 d1b1c98dd7689fb8ec11d242b123dc9b\n\
+                 mask chacha20 - -\n";
+    let (status, printed) = run(alloc, input.as_bytes())?;
+    let answers =
+        "ok 437b9aec36\nok aefefe7d03\nok 69c4e0d86a\nok 8ea2b7ca51\nrefused\nrefused\nrefused\n";
+    assert_eq!(rt; printed.as_str(), answers);
+    assert_eq!(rt; status, 0);
+    Ok(())
+}
+
+#[test]
+fn bad_lines_of_masks(rt: HostRuntime) -> Result<(), Fail> {
+    let lines: [&[u8]; 5] = [
+        b"mask aes128 abc -\n",
+        b"mask 128 - -\n",
+        b"mask AES128 - -\n",
+        b"mask aes128 -\n",
+        b"mask aes128 - - -\n",
+    ];
+    for line in lines {
+        let (status, printed) = run(rt.alloc(), line)?;
+        assert_eq!(rt; printed.as_str(), "bad line\n", "for {line:?}");
+        assert_eq!(rt; status, 1);
+    }
+    Ok(())
+}
+
+#[test]
 fn refusals_are_no_bad_lines(rt: HostRuntime) -> Result<(), Fail> {
     let alloc = rt.alloc();
     let input = format!(in alloc;

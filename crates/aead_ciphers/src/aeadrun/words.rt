@@ -1,10 +1,12 @@
 //! The words of a line that stand for bytes and for numbers.
 ghost use Rattle.std.specs.Prelude.{◌≡◌, ◌↔◌, option_map, Some, IsSome, IfSome, IfOk};
+ghost use Rattle.std.specs.Result.{result_ok};
 ghost use Rattle.std.specs.String.{string_bytes};
 ghost use Rattle.std.specs.Str.Parse.{digits_value};
+ghost use Rattle.hex.specs.Hex.{decode_sized};
 ghost use Rattle.aead_ciphers.specs.Words.{IsBytesWord, IsNumberWord, bytes_of_word, word_of_bytes};
 
-use hex::FromHexError;
+use hex::{FromHex, FromHexError};
 use std::alloc::{AllocError, Global};
 
 /// The word that stands for no bytes.
@@ -32,6 +34,14 @@ pub fn bytes(alloc: Global, word: &str) -> Result<Option<Vec<u8>>, AllocError>
             _ => Ok(None),
         },
     }
+}
+
+/// The `N` bytes that a word of `2 * N` hex digits stands for, or `None` where it stands for other bytes
+/// or for none.
+pub(super) fn array<const N: usize>(word: &str) -> Option<[u8; N]>
+    ensures { result ≡ result_ok (decode_sized word.now N) }
+{
+    <[u8; N]>::from_hex(word).ok()
 }
 
 /// The word that bytes are printed as: lower case hex, or `-` for no bytes.

@@ -1,0 +1,18 @@
+-- What the outcome of a job says of its buffer.
+use Rattle.std.proofs.Common.{◌≡◌, ℕ, ◌-◌, ◌≤◌, Bool, true, false, List, length, length-drop, Ok, refl, ap, arith}
+use Rattle.aead_ciphers.specs.BoundState.{BoundState}
+use Rattle.aead_ciphers.specs.Runs.{open_outcome}
+use Rattle.aead_ciphers.specs.Steps.{OpenStep}
+use Rattle.aead_ciphers.specs.declared.session.Outcome.TheVariants.{Opened}
+use Rattle.aead_ciphers.proofs.OpenLemmas.{step_fronts}
+
+-- the plaintext of a job that opened is within the buffer
+pub opened_within : {N : Type 0} (spent : N → List (List ℕ)) (is_closed : N → Bool) (was now : BoundState N) (aad : List ℕ) (start : ℕ) (old new : List ℕ) (accepts : Bool) (n : ℕ)
+    → OpenStep spent is_closed was now aad start old new accepts → open_outcome (length old - 16 - start) accepts ≡ Opened n → n ≤ length new
+opened_within spent is_closed was now aad start old new true n step is =
+    let m : ℕ = length old - 16 - start in
+    let count : m ≡ n = cc in
+    let fronts = step_fronts spent is_closed was now aad start old new {E = Unit {0}} m refl (Ok m) step refl in
+    let rest = ap length fronts.ok.2 in
+    omega (arith, rest, length-drop m old, length-drop m new)
+opened_within spent is_closed was now aad start old new false n step is = cc

@@ -1,0 +1,15 @@
+use Rattle.std.proofs.Common.{◌≡◌, ◌≤◌, ◌∙◌, sym, length, arith}
+use Rattle.aead_ciphers.proofs.KeysLemmas.{opened_within}
+use Rattle.aead_ciphers.proofs.aeadrun.calls.Keys.next_open.Goals as goal
+use Rattle.aead_ciphers.proofs.aeadrun.calls.Keys.next_open.Goals.{in-Opened, in_default}
+
+pub returns : goal.returns
+returns c =
+    let opens = (rw c.new.ensures at c.run-job.ensures.performs).1 in
+    let length_is = c.run-job.result.buffer.ok.0 in
+    elim c.match-job.branch [
+      | in-Opened w ↦
+          let within : w.in-Opened.count ≤ length c.run-job.result.buffer.items = opened_within _ _ _ _ _ _ _ _ _ _ opens.step (sym opens.outcome ∙ w.in-Opened.is) in
+          rw w.opened-is (omega (arith, length_is, within))
+      | in_default w ↦ rw w.opened-is tt
+    ]
