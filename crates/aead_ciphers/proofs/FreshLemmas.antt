@@ -1,5 +1,5 @@
 -- Sealing calls spend fresh nonces.
-use Rattle.std.proofs.Common.{◌≡◌, ◌≢◌, ℕ, suc, ◌+◌, ◌<◌, ◌≤◌, List, [], ◌∷◌, ◌++◌, Bool, length, length-append, take, get_or, Contains, inl, inr, refl, sym, ap, ◌∙◌, subst, arith}
+use Rattle.std.proofs.Common.{◌≡◌, ℕ, ◌+◌, ◌<◌, ◌≤◌, List, [], ◌∷◌, ◌++◌, Bool, length, length-append, take, get_or, Contains, inl, inr, sym, ap, ◌∙◌, subst, arith}
 use Rattle.std.proofs.Math.ListN.{get_or-append}
 use Rattle.std.proofs.Math.Seq.{take-length, take-append_seam, get_or-append_seam}
 use Rattle.std.proofs.lemmas.Bool.{cases_lt}
@@ -10,7 +10,7 @@ use Rattle.std.specs.Prelude.{⊤, Some, slice_get}
 use Rattle.aead_ciphers.specs.BoundState.{BoundState}
 use Rattle.aead_ciphers.specs.FreshNonces.{GrewFresh, SealCalls}
 use Rattle.aead_ciphers.specs.NonceSequence.{Appends}
-use Rattle.aead_ciphers.specs.Runs.{Runs, Performs, JobStep, Run}
+use Rattle.aead_ciphers.specs.Runs.{Performs, Run}
 use Rattle.aead_ciphers.specs.declared.session.Job.{Job}
 use Rattle.aead_ciphers.specs.declared.session.Operation.{Operation}
 use Rattle.aead_ciphers.specs.declared.session.Operation.TheVariants.{Seal, Open}

@@ -1,5 +1,7 @@
 -- The cases of an opening call.
-use Rattle.std.proofs.Common.{◌≡◌, ℕ, ◌-◌, List, Bool, true, false, length, take, refl, is_ok, IsErr, IfOk, OnOk, Ok, Err, Result}
+use Rattle.std.proofs.Common.{◌≡◌, ℕ, ◌-◌, ◌≤◌, List, Bool, true, false, length, take, refl, ap, ◌∙◌, arith, is_ok, IsErr, IfOk, OnOk, Ok, Err, Result}
+use Rattle.std.proofs.lemmas.List.{length-take-le}
+use Rattle.std.specs.Borrow.{MutBor}
 use Rattle.aead_ciphers_base.specs.Aes.{aes}
 use Rattle.aead_ciphers.specs.BoundState.{BoundState}
 use Rattle.aead_ciphers.specs.NonceSequence.{Closes}
@@ -25,3 +27,13 @@ module _ {N : Type 0} (spent : N → List (List ℕ)) (is_closed : N → Bool) (
 pub its_front : {E : Type 0} (m : ℕ) (new : List ℕ) (answer : Result ℕ E) → OnOk answer (take m new ≡ take m new)
 its_front m new (Ok n) = refl
 its_front m new (Err e) = tt
+
+-- what is lent has the length that was answered
+pub lent_count : {E : Type 0} (m : ℕ) (old new : List ℕ) (answer : Result ℕ E) (result : Result (MutBor (List ℕ)) E) → Fronts m old new answer
+    → length new ≡ length old → is_ok answer ≡ is_ok result → IfOk result (λ front. front.now ≡ take m new) → IfOk result (λ front. length front.now ≡ m)
+lent_count m old new (Ok n) (Ok front) fronts long same value =
+    let is : n ≡ m = fronts.ok.0 in
+    let within : n ≤ length old = fronts.ok.1 in
+    ap length value ∙ length-take-le m new (omega (arith, is, within, long))
+lent_count m old new (Err e) (Ok front) fronts long same value = let no : false ≡ true = same in absurd (cc)
+lent_count m old new answer (Err e) fronts long same value = tt

@@ -1,11 +1,11 @@
 -- The cases of a sealing call.
-use Rattle.std.proofs.Common.{◌≡◌, ℕ, ◌-◌, ◌↔◌, ◌++◌, List, Bool, true, false, length, take, replicate, is_ok, IsOk, IsErr, IfOk, OnOk, OnErr, Ok, Err, Result, refl, sym, ap, ◌∙◌, subst, arith, length-append}
+use Rattle.std.proofs.Common.{◌≡◌, ℕ, ◌-◌, ◌↔◌, ◌++◌, List, Bool, true, false, length, take, replicate, is_ok, IsOk, IsErr, IfOk, OnOk, OnErr, Ok, Err, Result, refl, arith, length-append}
 use Rattle.std.proofs.Math.Seq.{take-append_seam}
 use Rattle.aead_ciphers.specs.AesGcm.{aes_encrypted, aes_tag, aes_sealed}
 use Rattle.aead_ciphers.specs.BoundState.{BoundState}
 use Rattle.aead_ciphers.specs.Gcm.{Fits}
 use Rattle.aead_ciphers.specs.NonceSequence.{Closes}
-use Rattle.aead_ciphers.specs.Steps.{SealStep, no_room, no_nonce, too_long, sealed, Spends, Refuses, with_tag}
+use Rattle.aead_ciphers.specs.Steps.{SealStep, no_room, no_nonce, too_long, sealed, Spends, with_tag}
 
 pub grown_less : (xs : List ℕ) → length (xs ++ replicate 16 0) - 16 ≡ length xs
 grown_less xs = omega (arith, length-append xs (replicate 16 0))

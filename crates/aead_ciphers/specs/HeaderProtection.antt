@@ -25,7 +25,7 @@ id_mask CHACHA20 key sample = chacha_mask key sample
 abbrev pub header_protection : Algorithm → List ℕ → List ℕ → List ℕ
 header_protection algorithm key sample = id_mask algorithm.id key sample
 
--- what a contract sees of a header protection key: the algorithm that it was made with, and its bytes
+-- what a contract sees of a `HeaderProtectionKey`: its algorithm, and its bytes
 pub record HeaderKey : Type 0 where
   pub algorithm : Algorithm
   pub bytes : List ℕ

@@ -11,6 +11,7 @@ pub mod HeaderProtection
 pub mod Laws
 pub mod Lending
 pub mod NonceSequence
+pub mod Program
 pub mod Runs
 pub mod Steps
 pub mod Words

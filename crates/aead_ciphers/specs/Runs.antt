@@ -1,5 +1,5 @@
 -- Runs: a step for each item of a list, in order.
-use Rattle.std.specs.Prelude.{◌≡◌, ◌≢◌, ℕ, Bool, true, false, ◌+◌, ◌-◌, ◌<◌, ◌≤◌, List, [], ◌∷◌, length, take, slice_get, vec_len, vec_capacity, ⊤}
+use Rattle.std.specs.Prelude.{◌≡◌, ℕ, Bool, true, false, ◌+◌, ◌-◌, ◌<◌, List, [], ◌∷◌, length, vec_len, vec_capacity, ⊤}
 use Rattle.aead_ciphers.specs.BoundState.{BoundState, Keeps}
 use Rattle.aead_ciphers.specs.Steps.{SealStep, OpenStep}
 use Rattle.aead_ciphers.specs.declared.session.Job.{Job}

@@ -53,7 +53,7 @@ module _ (a a' : List ℕ) (i v : ℕ) (here : i < length a) (is : a' ≡ slice_
       → take (i + 1) a' ++ (drop (i + 1) a' ⊕ drop (i + 1) b) ++ drop (length b) a' ≡ take i a ++ (drop i a ⊕ drop i b) ++ drop (length b) a
   xor_at_start_more b within e =
       let past : drop (length b) a' ≡ drop (length b) a = rest_set (length b) within in
-      rw (front_set, past, rest_set (i + 1) (omega arith), drop_more a i 0 here, drop_more b i 0 within, e, append_assoc) (simp append_assoc)
+      rw (front_set, past, rest_set (i + 1) (omega arith), drop_more a i 0 here, drop_more b i 0 within, e) (simp append_assoc)
 
 xor_none : (xs ys : List ℕ) → min (length xs) (length ys) ≡ 0 → xs ⊕ ys ≡ []
 xor_none [] ys e = refl

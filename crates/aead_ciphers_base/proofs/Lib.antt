@@ -24,5 +24,6 @@ pub mod PolynomialLemmas
 pub mod ProductLemmas
 pub mod ScheduleLemmas
 pub mod ShiftLemmas
+pub mod Walks
 pub mod WordsLemmas
 pub mod XorLemmas

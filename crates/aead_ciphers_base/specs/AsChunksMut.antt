@@ -1,6 +1,6 @@
 -- The items of a view that is written, on loan.
 use Rattle.std.specs.Prelude.{ℕ, ◌%◌, List, ◌++◌, drop, length, take, refl, []}
-use Rattle.std.specs.Borrow.{Array, Fml, Lends, MutBor, RattleType}
+use Rattle.std.specs.Borrow.{Array, Fml, Lends, LendsBoth, MutBor, RattleType}
 use Rattle.std.specs.List.{length_refill}
 use denote.Param.{value_of}
 use mir.Syntax.{named}
@@ -18,3 +18,7 @@ with_items {T} {N} v ws = record {
 -- v ends with the last value behind r as its items
 abbrev pub LendsItems : (T N : RattleType) → MutBor (AsChunksMut T.Denot (value_of N)) → MutBor (List T.Denot) → Fml
 LendsItems T N v r = Lends (the_row (record { mir = named 1; lft = [] }) T N) (Array T 0) v r (with_items v.now)
+
+-- v ends with the last values behind r and q as its items, one after the other
+abbrev pub LendsParts : (T N : RattleType) → MutBor (AsChunksMut T.Denot (value_of N)) → MutBor (List T.Denot) → MutBor (List T.Denot) → Fml
+LendsParts T N v r q = LendsBoth (the_row (record { mir = named 1; lft = [] }) T N) (Array T 0) (Array T 0) v (r, q) (λ front back. with_items v.now (front ++ back))

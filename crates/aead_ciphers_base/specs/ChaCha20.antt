@@ -63,7 +63,7 @@ state_block s = le_bytes (zip2 add32 (iterate double_round 10 s) s)
 unfoldable pub chacha20_block : List ℕ → ℕ → List ℕ → List ℕ
 chacha20_block key counter nonce = state_block (initial_state key counter nonce)
 
--- byte i of the key stream: the blocks at the counter, the counter plus 1, .., in a row (section 2.4)
+-- byte i of the key stream, the blocks from the counter on in a row (section 2.4)
 unfoldable pub stream_byte : List ℕ → ℕ → List ℕ → ℕ → ℕ
 stream_byte key counter nonce i = slice_index (chacha20_block key (counter + i / 64) nonce) (i % 64)
 
@@ -73,7 +73,8 @@ key_stream key counter nonce n = each_below n (stream_byte key counter nonce)
 
 -- the message XOR the key stream (section 2.4)
 unfoldable pub chacha20_encrypted : List ℕ → ℕ → List ℕ → List ℕ → List ℕ
-chacha20_encrypted key counter nonce message = message ⊕ key_stream key counter nonce (length message)
+chacha20_encrypted key counter nonce message =
+    message ⊕ key_stream key counter nonce (length message)
 
 -- what a contract sees of a `Counter`: the block counter, and the bytes of the nonce
 pub record Position : Type 0 where

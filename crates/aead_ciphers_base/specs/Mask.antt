@@ -11,4 +11,5 @@ aes_mask key sample = take 5 (aes key sample)
 -- the first five bytes of the block whose counter is the first four bytes of the sample, in
 -- little-endian order, and whose nonce is the other twelve (section 5.4.4)
 unfoldable pub chacha_mask : List ℕ → List ℕ → List ℕ
-chacha_mask key sample = take 5 (chacha20_block key (from_le_bytes w32 (take 4 sample)) (drop 4 sample))
+chacha_mask key sample =
+    take 5 (chacha20_block key (from_le_bytes w32 (take 4 sample)) (drop 4 sample))

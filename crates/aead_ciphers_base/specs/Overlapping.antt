@@ -1,7 +1,11 @@
--- What is done with the chunks of a slice.
+-- What is done with the front and the chunks of a slice.
 use Rattle.std.specs.Prelude.{ℕ, ◌≡◌, List, ◌++◌, drop, take}
-use Rattle.std.specs.Borrow.{Bor}
+use Rattle.std.specs.Borrow.{Array, Bor, Fml, MutBor, RattleType, follows}
 use Rattle.std.specs.Fn.{Once, FnOnceReturnsAt, FnOnceTakesAt}
+
+-- s ends with the last value behind r, and then its own items from n on
+abbrev pub LendsOutput : (T : RattleType) → MutBor (List T.Denot) → MutBor (List T.Denot) → ℕ → Fml
+LendsOutput T s r n = follows (Array T 0) (Array T 0) s.ghost_name r.ghost_name (λ w. w ++ drop n s.now)
 
 -- f may be called at the first n items of xs
 abbrev pub TakesChunk : {T C F : Type 0} → (C → List T) → Once F (Bor C × Unit {0}) C → ℕ → F → List T → Type 0

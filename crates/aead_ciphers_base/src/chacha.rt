@@ -123,8 +123,9 @@ fn state_block(state: &State) -> [u8; BLOCK_LEN]
 fn xor_block(in_out: &mut [u8], start: usize, at: usize, n: usize, mut block: [u8; BLOCK_LEN])
     requires in_slice { start + at + n ≤ length in_out.old }
     requires in_block { n ≤ 64 }
-    ensures { in_out.new ≡
-        take at in_out.old ++ (take n (drop (start + at) in_out.old) ⊕ block) ++ drop (at + n) in_out.old }
+    ensures { in_out.new ≡ take at in_out.old
+        ++ (take n (drop (start + at) in_out.old) ⊕ block)
+        ++ drop (at + n) in_out.old }
 {
     let from = start + at;
     bb::xor_assign_at_start(&mut block, &in_out[from..from + n]);
@@ -140,7 +141,10 @@ pub struct Counter {
 impl Model for Counter {
     ghost Value = { Position };
 
-    ghost view = { λ counter. record { number = slice_index counter.words 0; nonce = le_bytes (drop 1 counter.words) } };
+    ghost view = { λ counter. record {
+      number = slice_index counter.words 0;
+      nonce = le_bytes (drop 1 counter.words);
+    } };
 
     ghost invariant = { λ counter. (i : ℕ) → slice_index counter.words i < 2 ^ 32 };
 }

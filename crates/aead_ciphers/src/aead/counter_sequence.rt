@@ -1,15 +1,14 @@
 //! Nonces of a prefix and a number that counts up.
 ghost use Rattle.std.specs.Prelude.{◌≡◌, ◌+◌, ◌^◌, ◌<◌, ◌≤◌, ◌↔◌, ◌++◌, IsOk, IfOk, OnOk, OnErr};
 ghost use Rattle.std.specs.Int.{to_be_bytes, w64};
-ghost use Rattle.aead_ciphers.specs.CounterSequence.{Counting, spent_nonces, is_used_up, origin_of};
+ghost use Rattle.aead_ciphers.specs.CounterSequence.{spent_nonces, is_used_up, origin_of};
 ghost use Rattle.aead_ciphers.specs.NonceSequence.{Appends, Closes};
 
-use crate::aead::{NONCE_LEN, Nonce, NonceSequence};
-use aead_ciphers_base::error::Unspecified;
+use crate::aead::{NONCE_LEN, Nonce, NonceSequence, Unspecified};
 use std::marker::Model;
 
-/// The nonces of a 4-byte prefix and a number of 8 big-endian bytes that counts up from a first number (the
-/// deterministic construction of SP 800-38D section 8.2.1).
+/// Nonces of 12 bytes: a prefix of 4 bytes, which all of them have, and a number in 8 big-endian bytes, which counts
+/// up from a first one (the fixed field and the invocation field of SP 800-38D section 8.2.1). It can't be cloned.
 #[derive(Drop)]
 pub struct CounterSequence {
     prefix: [u8; 4],
@@ -19,7 +18,7 @@ pub struct CounterSequence {
 }
 
 impl Model for CounterSequence {
-    ghost use Rattle.std.specs.Prelude.{◌≡◌, ◌+◌, ◌^◌, ◌≤◌, length};
+    ghost use Rattle.std.specs.Prelude.{◌+◌, ◌^◌, ◌≤◌};
     ghost use Rattle.aead_ciphers.specs.CounterSequence.{Counting};
 
     ghost Value = { Counting };
@@ -30,8 +29,8 @@ impl Model for CounterSequence {
 }
 
 impl CounterSequence {
-    /// A sequence of `count` nonces, of the numbers from `first` on. Refused where `first + count` is above
-    /// 2^64.
+    /// The sequence of the `count` nonces with the numbers from `first` on, of which none is spent. Refused where
+    /// `first + count` is above 2^64.
     pub fn new(prefix: [u8; 4], first: u64, count: u64) -> Result<Self, Unspecified>
         ensures accepted { IsOk result ↔ (first + count ≤ 2 ^ 64) }
         ensures made { IfOk result (λ sequence. sequence

@@ -2,11 +2,10 @@
 ghost use Rattle.std.specs.Prelude.{◌≡◌, ℕ, Bool, List, IfOk, OnErr};
 ghost use Rattle.aead_ciphers.specs.NonceSequence.{Appends, Closes};
 
-use crate::aead::Nonce;
-use aead_ciphers_base::error::Unspecified;
+use crate::aead::{Nonce, Unspecified};
 
-/// A source of nonces for one key, none of which comes twice (SP 800-38D section 8). It means a list of
-/// spent nonces, whether it is closed, and an origin.
+/// A source of nonces for one key, none of which comes twice (SP 800-38D section 8). It starts open or closed, and
+/// stays closed once it is.
 pub trait NonceSequence {
     // The nonces that it gave, in order.
     ghost spent: { Self → List (List ℕ) };
@@ -15,7 +14,7 @@ pub trait NonceSequence {
     // Numbers that no call changes.
     ghost origin: { Self → List ℕ };
 
-    /// Gives the next nonce, or refuses, from then on for ever.
+    /// Gives the next nonce. Refused where it gives no further one, and then by every later call too.
     fn advance(&mut self) -> Result<Nonce, Unspecified>
         ensures ok { IfOk result (λ nonce.
             Appends (spent self.old) (spent self.new) (is_closed self.old) nonce) }

@@ -52,7 +52,8 @@ impl<N: NonceSequence> BoundKey<N> for OpeningKey<N> {
 }
 
 impl<N: NonceSequence> OpeningKey<N> {
-    /// What `open_within` does to the buffer. It gives the plaintext's length in place of the plaintext.
+    /// `open_within` that answers the length of the plaintext, which stands at the front of the buffer. This call is
+    /// this library's own.
     pub fn open_within_len(
         &mut self,
         aad: Aad<'_>,
@@ -69,7 +70,8 @@ impl<N: NonceSequence> OpeningKey<N> {
             .open_within_len(nonce, aad, in_out, ciphertext_and_tag)
     }
 
-    /// What `open_in_place` does to the buffer. It gives the plaintext's length in place of the plaintext.
+    /// `open_in_place` that answers the length of the plaintext, which stands at the front of the buffer. This call is
+    /// this library's own.
     pub fn open_in_place_len(
         &mut self,
         aad: Aad<'_>,
@@ -82,6 +84,7 @@ impl<N: NonceSequence> OpeningKey<N> {
     {
         self.open_within_len(aad, in_out, 0..)
     }
+
     /// Opens the buffer from byte `ciphertext_and_tag.start` on under the next nonce, and lends the plaintext, which
     /// stands at the front of the buffer (SP 800-38D algorithm 5). The last 16 bytes are the tag, and stay.
     ///
@@ -98,6 +101,8 @@ impl<N: NonceSequence> OpeningKey<N> {
         ensures kept { Keeps N.origin self.old self.new }
         ensures step { OpenStep N.spent N.is_closed self.old self.new (aad_bytes aad.entry)
             ciphertext_and_tag.start in_out.old (lent_buffer result in_out.old) (is_ok result) }
+        ensures count { IfOk result (λ plaintext.
+            length plaintext.now ≡ length in_out.old - 16 - ciphertext_and_tag.start) }
     {
         let opened = self.open_within_len(aad, in_out, ciphertext_and_tag);
         front_if(in_out, opened)
@@ -113,6 +118,7 @@ impl<N: NonceSequence> OpeningKey<N> {
         ensures kept { Keeps N.origin self.old self.new }
         ensures step { OpenStep N.spent N.is_closed self.old self.new (aad_bytes aad.entry)
             0 in_out.old (lent_buffer result in_out.old) (is_ok result) }
+        ensures count { IfOk result (λ plaintext. length plaintext.now ≡ length in_out.old - 16) }
     {
         let opened = self.open_in_place_len(aad, in_out);
         front_if(in_out, opened)

@@ -101,7 +101,8 @@ impl HeaderProtectionKey {
     /// The key of these bytes. Refused where the algorithm's keys have another length.
     pub fn new(algorithm: &Algorithm, key_bytes: &[u8]) -> Result<Self, Unspecified>
         ensures accepted { IsOk result ↔ (length key_bytes.now ≡ key_len algorithm.now) }
-        ensures made { IfOk result (λ key. key ≡ record { algorithm = algorithm.now; bytes = key_bytes.now }) }
+        ensures algorithm { IfOk result (λ key. key.algorithm ≡ algorithm.now) }
+        ensures bytes { IfOk result (λ key. key.bytes ≡ key_bytes.now) }
     {
         let inner = match algorithm.id {
             AlgorithmId::AES_128 => match key_bytes.as_array::<AES_128_KEY_LEN>() {
@@ -123,7 +124,8 @@ impl HeaderProtectionKey {
     /// The mask of a sample. Refused where the sample hasn't 16 bytes.
     pub fn new_mask(&self, sample: &[u8]) -> Result<[u8; 5], Unspecified>
         ensures accepted { IsOk result ↔ (length sample.now ≡ 16) }
-        ensures mask { IfOk result (λ mask. mask ≡ header_protection self.now.algorithm self.now.bytes sample.now) }
+        ensures mask { IfOk result (λ mask.
+            mask ≡ header_protection self.now.algorithm self.now.bytes sample.now) }
     {
         let Some(sample) = sample.as_array::<SAMPLE_LEN>() else {
             return Err(Unspecified);

@@ -50,8 +50,13 @@ impl<N: NonceSequence> BoundKey<N> for SealingKey<N> {
 }
 
 impl<N: NonceSequence> SealingKey<N> {
-    /// Encrypts the buffer under the next nonce and appends the tag (SP 800-38D algorithm 4): n bytes in,
-    /// n + 16 out. Room for the tag is asked for first, then the sequence, and then the lengths are looked at.
+    /// Encrypts the buffer in place under the next nonce, and appends the tag of the ciphertext and the AAD (SP 800-38D
+    /// algorithm 4).
+    ///
+    /// `in_out` is the message, and then the ciphertext followed by the tag: n bytes, then n + 16. Room for the tag is
+    /// asked for first, then the sequence, and then the lengths are looked at. Refused where there is no room or the
+    /// sequence refuses; and, with the nonce spent, where the message is longer than 2^36 - 32 bytes or the AAD has
+    /// 2^61 bytes or more.
     pub fn seal_in_place_append_tag<B: InOut>(
         &mut self,
         aad: Aad<'_>,
@@ -72,8 +77,11 @@ impl<N: NonceSequence> SealingKey<N> {
         }
     }
 
-    /// Encrypts the buffer under the next nonce, and gives the tag (SP 800-38D algorithm 4). The sequence is
-    /// asked first, and then the lengths are looked at.
+    /// Encrypts the buffer in place under the next nonce, and answers the tag of what it then holds and the AAD
+    /// (SP 800-38D algorithm 4).
+    ///
+    /// `in_out` is the message, and then the ciphertext, of as many bytes. The sequence is asked first, and then the
+    /// lengths are looked at. Refused as in `seal_in_place_append_tag`, which alone needs room.
     pub fn seal_in_place_separate_tag(
         &mut self,
         aad: Aad<'_>,

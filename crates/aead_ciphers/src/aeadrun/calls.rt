@@ -1,9 +1,13 @@
 //! The calls of the library that commands ask for.
-ghost use Rattle.std.specs.Prelude.{◌≤◌, length, vec_len, IfOk};
+ghost use Rattle.std.specs.Prelude.{◌≡◌, ◌+◌, ◌^◌, ◌≤◌, ◌↔◌, ⊤, length, vec_len, vec_capacity, is_ok, IsOk, IsErr, IfOk, OnOk, OnErr};
+ghost use Rattle.aead_ciphers.specs.AesGcm.{aes_encrypted, aes_tag, AesOpenedAttached};
+ghost use Rattle.aead_ciphers.specs.Algorithm.{key_len};
+ghost use Rattle.aead_ciphers.specs.Gcm.{Fits};
+ghost use Rattle.aead_ciphers.specs.HeaderProtection.{key_len as mask_key_len, header_protection};
 
 use crate::aead::{
-    Aad, Algorithm, BoundKey, CounterSequence, LessSafeKey, Nonce, OpeningKey, SealingKey, Tag,
-    UnboundKey, Unspecified, quic,
+    Aad, Algorithm, BoundKey, CounterSequence, LessSafeKey, MAX_TAG_LEN, NONCE_LEN, Nonce,
+    OpeningKey, SealingKey, Tag, UnboundKey, Unspecified, quic,
 };
 use crate::session::{self, Job, Operation, Outcome};
 use std::slice;
@@ -13,7 +17,11 @@ fn key_and_nonce(
     algorithm: &'static Algorithm,
     key: &[u8],
     nonce: &[u8],
-) -> Result<(LessSafeKey, Nonce), Unspecified> {
+) -> Result<(LessSafeKey, Nonce), Unspecified>
+    ensures accepted { IsOk result
+        ↔ ((length key.now ≡ key_len algorithm.now) × (length nonce.now ≡ NONCE_LEN)) }
+    ensures made { IfOk result (λ made. (made.0.bytes ≡ key.now) × (made.1 ≡ nonce.now)) }
+{
     let key = LessSafeKey::new(UnboundKey::new(algorithm, key)?);
     Ok((key, Nonce::try_assume_unique_for_key(nonce)?))
 }
@@ -25,7 +33,13 @@ pub(super) fn seal(
     nonce: &[u8],
     aad: &[u8],
     in_out: &mut [u8],
-) -> Result<Tag, Unspecified> {
+) -> Result<Tag, Unspecified>
+    ensures accepted { IsOk result ↔ ((length key.now ≡ key_len algorithm.now)
+        × (length nonce.now ≡ NONCE_LEN) × Fits (length aad.now) (length in_out.old)) }
+    ensures ciphertext { OnOk result (in_out.new ≡ aes_encrypted key.now nonce.now in_out.old) }
+    ensures tag { IfOk result (λ tag. tag ≡ aes_tag key.now nonce.now aad.now in_out.new) }
+    ensures refused { OnErr result (in_out.new ≡ in_out.old) }
+{
     let (key, nonce) = key_and_nonce(algorithm, key, nonce)?;
     key.seal_in_place_separate_tag(nonce, Aad::from(aad), in_out)
 }
@@ -40,7 +54,13 @@ pub(super) fn open(
     start: usize,
     in_out: &mut [u8],
 ) -> Result<usize, Unspecified>
-    ensures { IfOk result (λ count. count ≤ length in_out.new) }
+    ensures within { IfOk result (λ count. count ≤ length in_out.new) }
+    ensures opened { length key.now ≡ key_len algorithm.now → length nonce.now ≡ NONCE_LEN
+        → AesOpenedAttached key.now nonce.now aad.now start in_out.old (is_ok result) in_out.new }
+    ensures key_length { (length key.now ≡ key_len algorithm.now → ⊥)
+        → IsErr result × (in_out.new ≡ in_out.old) }
+    ensures nonce_length { (length nonce.now ≡ NONCE_LEN → ⊥)
+        → IsErr result × (in_out.new ≡ in_out.old) }
 {
     let (key, nonce) = key_and_nonce(algorithm, key, nonce)?;
     key.open_within_len(nonce, Aad::from(aad), in_out, start..)
@@ -51,7 +71,11 @@ pub(super) fn mask(
     algorithm: &quic::Algorithm,
     key: &[u8],
     sample: &[u8],
-) -> Result<[u8; 5], Unspecified> {
+) -> Result<[u8; 5], Unspecified>
+    ensures accepted { IsOk result
+        ↔ ((length key.now ≡ mask_key_len algorithm.now) × (length sample.now ≡ 16)) }
+    ensures mask { IfOk result (λ mask. mask ≡ header_protection algorithm.now key.now sample.now) }
+{
     quic::HeaderProtectionKey::new(algorithm, key)?.new_mask(sample)
 }
 
@@ -64,7 +88,9 @@ pub(super) struct Keys {
 
 impl Keys {
     ghost use Rattle.aead_ciphers.specs.CounterSequence.{spent_nonces, is_used_up, origin_of};
+    ghost use Rattle.aead_ciphers.specs.Program.{first_state};
     ghost use Rattle.aead_ciphers.specs.Runs.{JobStep};
+    ghost use Rattle.aead_ciphers.specs.Steps.{OpenStep, SealStep};
 
     /// The keys of these bytes, and sequences of `count` nonces from the number `first` on. Refused where
     /// the algorithm's keys have another length, or the numbers don't fit 64 bits.
@@ -74,7 +100,13 @@ impl Keys {
         prefix: [u8; 4],
         first: u64,
         count: u64,
-    ) -> Result<Keys, Unspecified> {
+    ) -> Result<Keys, Unspecified>
+        ensures accepted { IsOk result
+            ↔ ((length key.now ≡ key_len algorithm.now) × (first + count ≤ 2 ^ 64)) }
+        ensures sealing { IfOk result (λ keys. keys.sealing
+            ≡ first_state algorithm.now key.now prefix first count) }
+        ensures opening { IfOk result (λ keys. keys.opening ≡ keys.sealing) }
+    {
         let sealing = UnboundKey::new(algorithm, key)?;
         let opening = UnboundKey::new(algorithm, key)?;
         Ok(Keys {
@@ -104,7 +136,10 @@ impl Keys {
         start: usize,
         buffer: Vec<u8>,
     ) -> (Vec<u8>, Result<usize, Unspecified>)
-        ensures { IfOk result.1 (λ count. count ≤ vec_len result.0) }
+        ensures within { IfOk result.1 (λ count. count ≤ vec_len result.0) }
+        ensures opened { OpenStep spent_nonces is_used_up self.old.opening self.new.opening aad.items start
+            buffer.items result.0.items (is_ok result.1) }
+        ensures kept { self.new.sealing ≡ self.old.sealing }
     {
         let job = self.run(Job::new(Operation::Open(start), aad, buffer));
         let opened = match job.outcome {

@@ -255,7 +255,7 @@ fn work_that_is_asked_for(rt: HostRuntime) -> Result<(), Fail> {
 fn every_byte_at_every_start(rt: HostRuntime) -> Result<(), Fail> {
     let aes_key = aes::Key::new(KeyBytes::AES_128(&KEY))?;
     let key = Key::new(KeyBytes::AES_128(&KEY), &mut Work::new())?;
-    for n in [0, 1, 15, 16, 17, 3071, 3072, 3073, 6144, 6145] {
+    for n in [0usize, 1, 15, 16, 17, 3071, 3072, 3073, 6144, 6145] {
         let mut message = Vec::new(rt.alloc());
         for i in 0..n {
             message.push((i % 251) as u8)?;

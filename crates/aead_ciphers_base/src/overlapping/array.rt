@@ -1,7 +1,8 @@
 //! An input of a fixed number of items.
 
-ghost use Rattle.std.specs.Prelude.{◌≡◌, ◌↔◌, ◌-◌, ◌<◌, ◌≤◌, ◌++◌, IsOk, IfOk, IfErr, drop, length, take};
-ghost use Rattle.std.specs.Borrow.{sem, Lends, Array as ArrayRow, follows};
+ghost use Rattle.std.specs.Prelude.{◌≡◌, ◌↔◌, ◌-◌, ◌<◌, ◌≤◌, IsOk, IfOk, IfErr, drop, length, take};
+ghost use Rattle.std.specs.Borrow.{sem};
+ghost use Rattle.aead_ciphers_base.specs.Overlapping.{LendsOutput};
 
 use super::Overlapping;
 use crate::error::LenMismatchError;
@@ -47,18 +48,25 @@ impl<'o, T, const N: usize> Array<'o, T, N> {
 
     /// The first `N` items of the slice, for writing.
     pub fn into_unwritten_output(self) -> &'o mut [T; N]
+        ensures* writes_back { sem 𝓛 (LendsOutput T.row self.entry.in_out result N) }
         ensures items { result.now ≡ take N self.entry.in_out.now }
     {
-        let Array { in_out, start: _ } = self;
-        first_array::<T, N>(in_out)
+        first_array::<T, N>(self.into_slice())
+    }
+
+    /// The whole slice.
+    fn into_slice(self) -> &'o mut [T]
+        ensures same_reference { result.ghost_name ≡ self.entry.in_out.ghost_name }
+        ensures items { result.now ≡ self.entry.in_out.now }
+    {
+        self.in_out
     }
 }
 
 /// The first `N` items of a slice, for writing.
 pub fn first_array<T, const N: usize>(items: &mut [T]) -> &mut [T; N]
     requires { N ≤ length items.old }
-    ensures* writes_back { sem 𝓛 (Lends (ArrayRow T.row 0) (ArrayRow T.row 0) items.entry result
-        (λ w. w ++ drop N items.old)) }
+    ensures* writes_back { sem 𝓛 (LendsOutput T.row items.entry result N) }
     ensures value { result.now ≡ take N items.old }
 {
     match items.first_chunk_mut::<N>() {

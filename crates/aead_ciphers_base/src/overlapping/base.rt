@@ -1,8 +1,8 @@
 //! A slice and a start: the input is the slice from the start on, the output its front.
 
 ghost use Rattle.std.specs.Prelude.{◌≡◌, ◌↔◌, ◌-◌, ◌≤◌, ◌++◌, IsOk, IfOk, IfErr, drop, length, take};
-ghost use Rattle.std.specs.Borrow.{sem, follows, Array};
-ghost use Rattle.aead_ciphers_base.specs.Overlapping.{TakesChunk};
+ghost use Rattle.std.specs.Borrow.{sem};
+ghost use Rattle.aead_ciphers_base.specs.Overlapping.{LendsOutput, TakesChunk};
 
 use super::{Chunk, map_chunk};
 use crate::error::IndexError;
@@ -78,10 +78,8 @@ impl<'o, T> Overlapping<'o, T> {
 
     /// The front of the slice, as long as the input, for writing.
     pub fn into_unwritten_output(self) -> &'o mut [T]
-        ensures* writes_back { sem 𝓛 (follows (Array T.row 0) (Array T.row 0)
-            self.entry.in_out.ghost_name result.ghost_name
-            (λ w. w ++ drop (length self.entry.in_out.now - self.entry.start)
-            self.entry.in_out.now)) }
+        ensures* writes_back { sem 𝓛 (LendsOutput T.row self.entry.in_out result
+            (length self.entry.in_out.now - self.entry.start)) }
         ensures items { result.now ≡ take (length self.entry.in_out.now - self.entry.start)
             self.entry.in_out.now }
     {
@@ -102,14 +100,28 @@ impl<'o, T> Overlapping<'o, T> {
         self.in_out.copy_within(self.start.., 0);
     }
 
-    /// Copies the input to the front of the slice, and lends that front.
-    pub fn copy_within(mut self) -> &'o mut [T]
+    /// The same buffer, with its input copied to the front.
+    fn copied_to_front(mut self) -> Self
     where
         T: Copy,
-        ensures items { result.now ≡ drop self.entry.start self.entry.in_out.now }
+        ensures same_reference { result.in_out.ghost_name ≡ self.entry.in_out.ghost_name }
+        ensures items { result.in_out.now ≡ drop self.entry.start self.entry.in_out.now
+            ++ drop (length self.entry.in_out.now - self.entry.start) self.entry.in_out.now }
+        ensures start { result.start ≡ self.entry.start }
     {
         self.copy_to_front();
-        self.into_unwritten_output()
+        self
+    }
+
+    /// Copies the input to the front of the slice, and lends that front.
+    pub fn copy_within(self) -> &'o mut [T]
+    where
+        T: Copy,
+        ensures* writes_back { sem 𝓛 (LendsOutput T.row self.entry.in_out result
+            (length self.entry.in_out.now - self.entry.start)) }
+        ensures items { result.now ≡ drop self.entry.start self.entry.in_out.now }
+    {
+        self.copied_to_front().into_unwritten_output()
     }
 
     /// `f` maps the first chunk of the input, its answer is written to the front of the slice, and

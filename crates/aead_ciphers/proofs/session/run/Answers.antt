@@ -1,4 +1,4 @@
-use Rattle.std.proofs.Common.{arith, ◌≡◌, ◌<◌, length}
+use Rattle.std.proofs.Common.{arith, ◌<◌, length}
 use Rattle.aead_ciphers.proofs.FreshLemmas.{fresh_run}
 use Rattle.aead_ciphers.proofs.RunLemmas.{Runs-next}
 use Rattle.aead_ciphers.proofs.session.run.Goals as goal

@@ -11,7 +11,7 @@ fn keystream_block(key: &aes::Key, nonce: &[u8; 12], k: u32) -> [u8; 16] {
     key.encrypt_block(block, &mut Work::new())
 }
 
-/// The ciphertext of a message: byte i is XORed with byte `i % 16` of counter block `2 + i / 16`.
+/// The ciphertext of a message: its piece j of 16 bytes XOR counter block 2 + j, encrypted.
 pub(super) fn ciphertext<A: Allocator>(
     alloc: A,
     key: &aes::Key,
@@ -19,18 +19,22 @@ pub(super) fn ciphertext<A: Allocator>(
     message: &[u8],
 ) -> Result<Vec<u8, A>, AllocError> {
     let mut bytes = Vec::new(alloc);
-    for i in 0..message.len() {
-        let block = keystream_block(key, nonce, (i / 16) as u32 + 2);
-        bytes.push(message[i] ^ block[i % 16])?;
+    let mut k = 1u32;
+    for piece in message.chunks(16) {
+        k = k.wrapping_add(1);
+        let keystream = keystream_block(key, nonce, k);
+        for (byte, mask) in piece.iter().zip(&keystream) {
+            bytes.push(byte ^ mask)?;
+        }
     }
     Ok(bytes)
 }
 
-/// Block i of some bytes, the first byte the highest, with zeros past the end.
-fn block_at(bytes: &[u8], i: usize) -> u128 {
+/// At most 16 bytes, the first the highest, with zeros behind them.
+fn padded(piece: &[u8]) -> u128 {
     let mut block = [0; 16];
-    for j in 0..16 {
-        block[j] = bytes.get(16 * i + j).copied().unwrap_or(0);
+    for (to, from) in block.iter_mut().zip(piece) {
+        *to = *from;
     }
     u128::from_be_bytes(block)
 }
@@ -39,8 +43,8 @@ fn block_at(bytes: &[u8], i: usize) -> u128 {
 fn product(x: u128, y: u128) -> u128 {
     let mut sum = 0;
     let mut power = y;
-    for i in 0..128 {
-        if x >> (127 - i) & 1 == 1 {
+    for i in (0..128u32).rev() {
+        if x >> i & 1 == 1 {
             sum ^= power;
         }
         let carry = power & 1 == 1;
@@ -52,17 +56,16 @@ fn product(x: u128, y: u128) -> u128 {
     sum
 }
 
-/// The tag: block i of m blocks times the power m - i of the hash subkey, all summed.
+/// The tag: block i of m blocks times the power m + 1 - i of the hash subkey, all summed.
 pub(super) fn tag(key: &aes::Key, nonce: &[u8; 12], aad: &[u8], ciphertext: &[u8]) -> [u8; 16] {
     let h = u128::from_be_bytes(key.encrypt_block([0; 16], &mut Work::new()));
-    let lengths = (aad.len() as u128 * 8) << 64 | ciphertext.len() as u128 * 8;
+    let lengths = (8 * aad.len() as u128) << 64 | 8 * ciphertext.len() as u128;
     let mut power = h;
     let mut sum = product(lengths, power);
     for bytes in [ciphertext, aad] {
-        let count = bytes.len().div_ceil(16);
-        for i in 0..count {
+        for piece in bytes.chunks(16).rev() {
             power = product(power, h);
-            sum ^= product(block_at(bytes, count - 1 - i), power);
+            sum ^= product(padded(piece), power);
         }
     }
     (sum ^ u128::from_be_bytes(keystream_block(key, nonce, 1))).to_be_bytes()

@@ -1,7 +1,7 @@
 //! Views of a slice as blocks that are written.
 
 ghost use Rattle.std.specs.Prelude.{◌≡◌, ℕ, ◌*◌, ◌/◌, ◌%◌, ◌<◌, ◌≤◌, ◌^◌, ◌++◌, MatchOption, drop, length, take};
-ghost use Rattle.std.specs.Borrow.{sem, LendsBoth, Array};
+ghost use Rattle.std.specs.Borrow.{sem, LendsBoth, Array, follows_both};
 ghost use Rattle.std.specs.Fn.{FnOnceReturnsAtMut, FnOnceTakesAtMut};
 ghost use Rattle.std.specs.Iterator.{at_most};
 ghost use Rattle.std.specs.Slice.Iter.{chunk_count, chunks_mut_rest, chunks_mut_size};
@@ -10,21 +10,33 @@ ghost use Rattle.aead_ciphers_base.specs.ChunksMut.{IsNextPart};
 
 use super::AsChunks;
 
-/// As many items as fill whole blocks of `N`, and the rest.
+/// The items of the first `count` blocks of `N`, and the rest.
+fn split_blocks<T, const N: usize>(items: &mut [T], count: usize) -> (&mut [T], &mut [T])
+    requires { count * N ≤ length items.old }
+    ensures* writes_back { sem 𝓛 (LendsBoth (Array T.row 0) (Array T.row 0) (Array T.row 0) items.entry result ◌++◌) }
+    ensures front { result.0.now ≡ take (count * N) items.old }
+    ensures back { result.1.now ≡ drop (count * N) items.old }
+{
+    items.split_at_mut(count * N)
+}
+
+/// The items that fill whole blocks of `N`, and the rest.
 pub fn split_whole<T, const N: usize>(items: &mut [T]) -> (&mut [T], &mut [T])
     requires { 0 < N }
     ensures* writes_back { sem 𝓛 (LendsBoth (Array T.row 0) (Array T.row 0) (Array T.row 0) items.entry result ◌++◌) }
     ensures whole { result.0.now ≡ take (length items.old / N * N) items.old }
     ensures rest { result.1.now ≡ drop (length items.old / N * N) items.old }
 {
-    let count = items.len() / N * N;
-    items.split_at_mut(count)
+    let count = items.len() / N;
+    split_blocks::<T, N>(items, count)
 }
 
 /// As many whole blocks of `N` as fit, and the rest.
 #[tactic(auto, using(crate::proofs::BlocksLemmas::blocks_take, crate::proofs::BlocksLemmas::whole_blocks))]
 pub fn as_chunks_mut<T, const N: usize>(items: &mut [T]) -> (AsChunksMut<'_, T, N>, &mut [T])
     requires { 0 < N }
+    ensures* writes_back { sem 𝓛 (follows_both (Array T.row 0) (Array T.row 0) (Array T.row 0)
+        items.entry.ghost_name result.0.items.ghost_name result.1.ghost_name ◌++◌) }
     ensures view { blocks N result.0.items.now ≡ blocks N items.old }
     ensures whole { result.0.items.now ≡ take (length items.old / N * N) items.old }
     ensures rest { result.1.now ≡ drop (length items.old / N * N) items.old }
@@ -51,7 +63,7 @@ impl<'a, 'b, T, const N: usize> From<&'a AsChunksMut<'b, T, N>> for AsChunks<'a,
 }
 
 impl<'a, T, const N: usize> AsChunksMut<'a, T, N> {
-    ghost use Rattle.aead_ciphers_base.specs.AsChunksMut.{LendsItems};
+    ghost use Rattle.aead_ciphers_base.specs.AsChunksMut.{LendsItems, LendsParts};
 
     /// The blocks of a slice that is known to be whole blocks.
     pub fn from_whole(items: &'a mut [T]) -> Self
@@ -99,7 +111,8 @@ impl<'a, T, const N: usize> AsChunksMut<'a, T, N> {
 
     /// The same blocks, for a shorter time.
     pub fn as_mut(&mut self) -> AsChunksMut<'_, T, N>
-        ensures { result.items.now ≡ self.old.items.now }
+        ensures* writes_back { sem 𝓛 (LendsItems T.row N.row self.entry result.items) }
+        ensures items { result.items.now ≡ self.old.items.now }
     {
         AsChunksMut {
             items: self.as_flattened_mut(),
@@ -117,12 +130,13 @@ impl<'a, T, const N: usize> AsChunksMut<'a, T, N> {
     #[tactic(auto, using(crate::proofs::BlocksLemmas::blocks_fit, crate::proofs::BlocksLemmas::whole_front, crate::proofs::BlocksLemmas::whole_back, crate::proofs::BlocksLemmas::blocks_front, crate::proofs::BlocksLemmas::blocks_back))]
     pub fn split_at_mut(&mut self, mid: usize) -> (AsChunksMut<'_, T, N>, AsChunksMut<'_, T, N>)
         requires { mid ≤ length (blocks N self.old.items.now) }
+        ensures* writes_back { sem 𝓛 (LendsParts T.row N.row self.entry result.0.items result.1.items) }
         ensures before { blocks N result.0.items.now ≡ take mid (blocks N self.old.items.now) }
         ensures after { blocks N result.1.items.now ≡ drop mid (blocks N self.old.items.now) }
         ensures front { result.0.items.now ≡ take (mid * N) self.old.items.now }
         ensures back { result.1.items.now ≡ drop (mid * N) self.old.items.now }
     {
-        let (before, after) = self.as_flattened_mut().split_at_mut(mid * N);
+        let (before, after) = split_blocks::<T, N>(self.as_flattened_mut(), mid);
         (AsChunksMut { items: before }, AsChunksMut { items: after })
     }
 

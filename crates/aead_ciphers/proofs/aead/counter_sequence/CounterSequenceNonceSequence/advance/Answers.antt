@@ -1,5 +1,5 @@
-use Rattle.std.proofs.Common.{rules, arith, ◌≡◌, ◌+◌, ◌<◌, ◌^◌}
-use Rattle.aead_ciphers.specs.CounterSequence.{Counting, nonce_at}
+use Rattle.std.proofs.Common.{rules, arith, ◌+◌, ◌<◌, ◌^◌}
+use Rattle.aead_ciphers.specs.CounterSequence.{Counting}
 use Rattle.aead_ciphers.proofs.CounterSequenceLemmas.{spent_nonces-next, fresh_nonce, nonce_at-is}
 use Rattle.aead_ciphers.proofs.aead.counter_sequence.CounterSequenceNonceSequence.advance.Goals as goal
 

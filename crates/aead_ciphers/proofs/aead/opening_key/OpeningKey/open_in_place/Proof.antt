@@ -1,7 +1,6 @@
 -- `open_in_place` lends what `front_if` lends, after `open_in_place_len` wrote it. The borrow checker shows no
 -- write-back clause for a slice that lends a slice, so this proof walks the code by hand.
-use Rattle.aead_ciphers.proofs.LendingSteps.{◌≡◌, refl, sym, subst, ℕ, ◌-◌, ◌≤◌, List, [], ◌∷◌, ◌++◌, Ura, named, Dict, a_type, dcons, dnil, Val, full_share, SProp, ent, sep, ex, emp, guard, id⊢, Lft, GName, Share, ftrue, flft, Fml, fsep, fres, fbor, Logic, sem, lft_new, lft_end, Item, Sq, prop, mean, ‵, ◌⊛◌, raw, given, some, later, ◌$◌, ◌∵◌, !, qed, move, keep, drop, split, split3, join, learn, check, fsplit, fjoin, use0, use1, use2, use3, await, pick, suffices, frame, done, updating, now, show, stop, fld, hop, from, addr, of_opd, and_then, no_more, returns, enter, whole, sub, agg, alloc_all, pass_all, free_all, look_at, look_in_at, get, get_in, sets, lands_as, through, Lfts, Shares, AllOutlive, fact, fact_i, Running, tables, Model, WpFn, u8, usize, RefOf, yes, no, Is, Typed, shows, RattleType, owns, Valss, MutBor, ShrRef, shr_vals, shr_Tells, MutRef, mut_vals, mut_Tells, plain, mut_slice_of, named_lft, MutSlice, Room, slice_val, mut_slice_vals, mut_slice_Tells, mut_slice_Lawful, nothing, heard, peeks, calls_at, Clauses, lasts, on_entry, Args, triple_of, Contract, framed, Stays, stay_dropped, walk_of, ends_at, Goes-dropped, Goes-spent_slice, gave_ref, Goes-gave_ref, length, take, drop_list, sl_relend, sl_relent_backˡ, kept_f, says_two, proved_at, Result, IsOk, IfOk, OnOk, ◌↔◌, Option, Body, mem, inst_fn, param, bounded}
-use Rattle.std.proofs.ops.RangeFrom.TheLaws as RFL
+use Rattle.aead_ciphers.proofs.LendingSteps.{◌≡◌, refl, sym, subst, ℕ, ◌-◌, ◌≤◌, List, [], ◌∷◌, Ura, named, Dict, a_type, dcons, dnil, Val, full_share, SProp, ent, sep, ex, emp, guard, id⊢, Lft, GName, Share, ftrue, flft, Fml, fsep, fres, fbor, Logic, sem, lft_new, lft_end, Item, Sq, prop, mean, ‵, ◌⊛◌, raw, given, some, later, ◌$◌, ◌∵◌, !, qed, move, keep, drop, split, split3, join, learn, check, fsplit, fjoin, use0, use1, use2, use3, await, pick, suffices, frame, done, updating, now, show, stop, fld, hop, from, addr, of_opd, and_then, no_more, returns, enter, whole, sub, agg, alloc_all, pass_all, free_all, look_at, look_in_at, get, get_in, sets, lands_as, through, Lfts, Shares, AllOutlive, fact, fact_i, Running, tables, Model, WpFn, u8, no, Is, Typed, shows, RattleType, owns, Valss, MutBor, MutRef, mut_vals, mut_Tells, plain, mut_slice_of, named_lft, MutSlice, Room, slice_val, mut_slice_vals, mut_slice_Tells, mut_slice_Lawful, nothing, heard, peeks, calls_at, Clauses, lasts, on_entry, Args, triple_of, Contract, framed, Stays, stay_dropped, walk_of, ends_at, Goes-dropped, Goes-spent_slice, gave_ref, Goes-gave_ref, length, take, sl_relend, sl_relent_backˡ, kept_f, proved_at, IsOk, IfOk, ◌↔◌, Body, mem, inst_fn, param, bounded}
 use Rattle.aead_ciphers_base.specs.Values.{aad_bytes}
 use Rattle.aead_ciphers.specs.BoundState.{Keeps}
 use Rattle.aead_ciphers.specs.Steps.{OpenStep}
@@ -9,13 +8,14 @@ use Rattle.aead_ciphers.specs.Lending.{LendsFront, count_of}
 use Rattle.std.specs.Prelude.{Bool, is_ok}
 use denote.Param.Laws as PL
 use Rattle.aead_ciphers.specs.declared.aead.nonce_sequence.NonceSequence.{Ghosts}
-use Rattle.aead_ciphers.proofs.OpenLemmas.{its_front, step_fronts}
+use Rattle.aead_ciphers.proofs.OpenLemmas.{its_front, lent_count, step_fronts}
+use Rattle.std.proofs.mem.Facts.{says_three}
 use Rattle.aead_ciphers.specs.contracts.aead.opening_key.OpeningKey as OK
 use Rattle.aead_ciphers_base.specs.contracts.values.Aad as D
 use Rattle.aead_ciphers_base.proofs.values.Aad.TheLaws as D-laws
 use Rattle.aead_ciphers.specs.contracts.aead.lend.front_if as L
 use Rattle.aead_ciphers.proofs.aead.lend.front_if.Met as L-met
-use Rattle.aead_ciphers.proofs.Lending.{usize_laws, Range, lone, one, Answer, answer_Lawful, Out, out_Lawful, Own, as_own, as_slice, turned}
+use Rattle.aead_ciphers.proofs.Lending.{lone, one, Answer, answer_Lawful, Out, out_Lawful, Own, as_own, as_slice, turned}
 use Rattle.aead_ciphers.proofs.FrontLemmas.{Concluded, concluded, within, as_lent, sub-zero}
 use Rattle.aead_ciphers.specs.contracts.aead.opening_key.OpeningKey.open_in_place_len as G
 use Rattle.aead_ciphers.proofs.aead.opening_key.OpeningKey.open_in_place_len.Met as G-met
@@ -153,7 +153,7 @@ module _ {M : Type 1} {𝓤 : Ura M} (𝓛 : Logic 𝓤) (𝓜 : Model 𝓤 𝓛
       use1 𝓛 (‵ (LendsFront arg r count)) (turned 𝓛 arg r (count_of p.0) count p.1.0 end.rest end.kept) $
       suffices ! _ (ends_at 𝓛 (F.ended N g d) (stayed N LN g d) c y w r (p.1.1, (tt, (tt, tt))) (tt, (tt, (tt, tt)))) $
       nothing ! $ nothing ! $ fjoin ! $ nothing ! $ fjoin ! $ move ! (7 ∷ 0 ∷ []) $ fjoin ! $ move ! (0 ∷ 3 ∷ []) $ join ! $ move ! (2 ∷ []) $ split ! $
-      move ! (6 ∷ 1 ∷ []) $ join ! $ move ! (1 ∷ 0 ∷ []) $ join ! $ move ! (4 ∷ 0 ∷ []) $ join ! $ move ! (3 ∷ 0 ∷ []) $ join ! $ join ! $ frame ! $ says_two ! (told.stays, as_lent (λ (accepts : Bool) (new : List ℕ). OpenStep g.spent g.is_closed a.0.now p.1.1 (aad_bytes a.1.0) 0 xs new accepts) (take count p.1.0) xs p.1.0 count p.0 r end told.step) $ done !)))
+      move ! (6 ∷ 1 ∷ []) $ join ! $ move ! (1 ∷ 0 ∷ []) $ join ! $ move ! (4 ∷ 0 ∷ []) $ join ! $ move ! (3 ∷ 0 ∷ []) $ join ! $ join ! $ frame ! $ says_three ! (told.stays, as_lent (λ (accepts : Bool) (new : List ℕ). OpenStep g.spent g.is_closed a.0.now p.1.1 (aad_bytes a.1.0) 0 xs new accepts) (take count p.1.0) xs p.1.0 count p.0 r end told.step, lent_count count xs p.1.0 p.0 r (step_fronts g.spent g.is_closed a.0.now p.1.1 (aad_bytes a.1.0) 0 xs p.1.0 (length xs - 16) (sub-zero (length xs - 16)) p.0 told.step told.counted) told.long end.accepts end.value) $ done !)))
 
 pub open_in_place_spec : {M : Type 1} → statement M
 open_in_place_spec 𝓤 𝓛 𝓜 𝓡 wired N LN g d met =

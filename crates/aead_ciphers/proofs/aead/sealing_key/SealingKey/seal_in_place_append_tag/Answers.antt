@@ -1,6 +1,6 @@
-use Rattle.std.proofs.Common.{◌≡◌, ◌++◌, ◌-◌, ◌∙◌, length, take, refl, replicate}
+use Rattle.std.proofs.Common.{◌≡◌, ◌++◌, ◌-◌, ◌∙◌, length, take, replicate}
 use Rattle.std.proofs.Math.Seq.{take-append_seam}
-use Rattle.aead_ciphers.specs.Steps.{SealStep, no_nonce}
+use Rattle.aead_ciphers.specs.Steps.{no_nonce}
 use Rattle.aead_ciphers.proofs.SealLemmas.{no_room_step, grown_less, grown_front, spent_step}
 use Rattle.aead_ciphers.proofs.aead.sealing_key.SealingKey.seal_in_place_append_tag.Goals as goal
 use Rattle.aead_ciphers.proofs.aead.sealing_key.SealingKey.seal_in_place_append_tag.Goals.{in-Ok, in-Err}

@@ -3,8 +3,8 @@ use Rattle.aead_ciphers.proofs.KeysLemmas.{opened_within}
 use Rattle.aead_ciphers.proofs.aeadrun.calls.Keys.next_open.Goals as goal
 use Rattle.aead_ciphers.proofs.aeadrun.calls.Keys.next_open.Goals.{in-Opened, in_default}
 
-pub returns : goal.returns
-returns c =
+pub returns-clause-within : goal.returns-clause-within
+returns-clause-within c =
     let opens = (rw c.new.ensures at c.run-job.ensures.performs).1 in
     let length_is = c.run-job.result.buffer.ok.0 in
     elim c.match-job.branch [

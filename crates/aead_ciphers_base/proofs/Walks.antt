@@ -1,0 +1,34 @@
+-- What walks by hand share.
+use mathlib.Core.Path.{◌≡◌, refl}
+use mathlib.Core.List.{List, [], ◌∷◌}
+use lib.Dec.{T}
+use mir.Syntax.{Ty}
+use mir.Val.{Val, has_ty, WT}
+use seplogic.Ra.Ura.{Ura}
+use base.Logic.{ent, sep, wand, all_e, apply∗}
+use base.Fml.{Fml, GName, fres, fsep}
+use types.Logic.{Logic, sem}
+use types.Kit.{‵, raw, ◌$◌, ◌∵◌, !, qed, by, move, each, assume, use1, use2}
+use denote.Follow.{follows, follows_both, followed, both_by}
+use denote.Laws.{Typed}
+use denote.RattleType.{RattleType}
+
+-- where a type's values are one word, the list of them is that word
+pub one : (τ : Ty) (vs : List Val) → Typed (τ ∷ []) vs → (v : Val) × (vs ≡ v ∷ []) × (T (has_ty τ v) × WT v)
+one τ [] t = absurd t
+one τ (v ∷ []) t = (v, refl, t.0)
+one τ (v ∷ w ∷ vs) t = absurd t.1
+
+-- what follows a part that is lent on in two parts follows the two
+module _ {M : Type 1} {𝓤 : Ura M} (𝓛 : Logic 𝓤) (R T U V : RattleType) (F : T.Denot → R.Denot) (G : U.Denot → V.Denot → T.Denot) (γ γ' γ₁ γ₂ : GName) where
+  open 𝓛 use {A}
+
+  abbrev Both : U.Denot × V.Denot → Fml
+  Both w = fsep (fres γ₁ (U.coded.code w.0)) (fres γ₂ (V.coded.code w.1))
+
+  pub follows_parts : ent 𝓤 (sep 𝓤 (sem 𝓛 (follows R T γ γ' F)) (sem 𝓛 (follows_both T U V γ' γ₁ γ₂ G))) (sem 𝓛 (follows_both R U V γ γ₁ γ₂ (λ u v. F (G u v))))
+  unfolding both_by
+  follows_parts = qed 𝓛 (‵ (follows R T γ γ' F) ∷ ‵ (follows_both T U V γ' γ₁ γ₂ G) ∷ []) ∵ each ! (λ (w : U.Denot × V.Denot). wand 𝓤 (sem 𝓛 (Both w)) (A.res γ (R.coded.code (F (G w.0 w.1))))) (λ w. assume ! (‵ (Both w)) $
+      move ! (2 ∷ []) $ use1 𝓛 (raw (wand 𝓤 (sem 𝓛 (Both w)) (A.res γ' (T.coded.code (G w.0 w.1))))) (all_e 𝓤 (λ (z : U.Denot × V.Denot). wand 𝓤 (sem 𝓛 (Both z)) (A.res γ' (T.coded.code (G z.0 z.1)))) w) $
+      move ! (1 ∷ 0 ∷ []) $ use2 𝓛 (‵ (fres γ' (T.coded.code (G w.0 w.1)))) (apply∗ 𝓤 (sem 𝓛 (Both w)) (A.res γ' (T.coded.code (G w.0 w.1)))) $
+      move ! (1 ∷ 0 ∷ []) $ by ! (followed 𝓛 R T F γ γ' (G w.0 w.1)))
