@@ -243,7 +243,7 @@ impl Vector {
         Ok(())
     }
 
-    /// Seals with the tag appended, and opens. Where memory is refused, the buffer is as it was.
+    /// Seals with the tag appended, and opens.
     fn appends(&self, rt: &impl Abort, alloc: Global) -> Result<(), Fail> {
         let key = self.key(alloc)?;
         let aad = hex::decode(alloc, self.aad)?;
@@ -251,13 +251,7 @@ impl Vector {
         let message = hex::decode(alloc, self.message)?;
         let sealed = joined(alloc, self.ciphertext, self.tag, "")?;
         let mut in_out = message.clone()?;
-        if key
-            .seal_in_place_append_tag(self.nonce()?, aad, &mut in_out)
-            .is_err()
-        {
-            assert_eq!(rt; in_out.as_slice(), message.as_slice());
-            return Err(Fail::from(Unspecified));
-        }
+        key.seal_in_place_append_tag(self.nonce()?, aad, &mut in_out)?;
         assert_eq!(rt; in_out.as_slice(), sealed.as_slice());
         let plaintext = key.open_in_place(self.nonce()?, aad, &mut in_out)?;
         assert_eq!(rt; plaintext.len(), message.len());
@@ -389,6 +383,19 @@ fn appends_to_an_array_vec(rt: HostRuntime) -> Result<(), Fail> {
     let mut no_room: ArrayVec<u8, 75> = ArrayVec::try_from(message.as_slice())?;
     assert!(rt; append(&key, case.nonce()?, aad, &mut no_room).is_err());
     assert_eq!(rt; no_room.as_slice(), message.as_slice());
+    Ok(())
+}
+
+/// Where growing is refused, as when the second allocation fails, the buffer is as it was.
+#[test]
+fn appends_or_leaves_a_vec(rt: HostRuntime) -> Result<(), Fail> {
+    let key = LessSafeKey::new(UnboundKey::new(&AES_128_GCM, &[0; 16])?);
+    let nonce = Nonce::assume_unique_for_key([0; 12]);
+    let mut in_out = [1, 2, 3].to_vec(rt.alloc())?;
+    match key.seal_in_place_append_tag(nonce, Aad::empty(), &mut in_out) {
+        Ok(()) => assert_eq!(rt; in_out.len(), 19),
+        Err(Unspecified) => assert_eq!(rt; in_out.as_slice(), [1, 2, 3].as_slice()),
+    }
     Ok(())
 }
 
