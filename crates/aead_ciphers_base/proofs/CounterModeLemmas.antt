@@ -1,6 +1,6 @@
 -- Counter mode of a text in pieces.
 use Rattle.std.proofs.Common.{◌≡◌, ℕ, zero, suc, ◌+◌, ◌-◌, ◌*◌, ◌/◌, ◌%◌, ◌<◌, ◌≤◌, List, [], ◌∷◌, ◌++◌, length, take, drop, get_or, bit_xor, refl, sym, ap, ap₂, ◌∙◌, arith}
-use Rattle.std.proofs.lemmas.List.{append-nil, append_assoc, length-append, length-take-le, length-drop, nil_from_length, take_at, drop_at, drop-drop, take-append-drop, get_or_append_left, get_or-append-add, ext_get_or, get_or-take}
+use Rattle.std.proofs.lemmas.List.{append-nil, append_assoc, length-append, length-take-le, length-drop, nil_from_length, take_at, drop-drop, get_or_append_left, get_or-append-add, ext_get_or, get_or-take}
 use Rattle.std.proofs.Math.Seq.{take-add}
 use Rattle.aead_ciphers_base.specs.Bytes.{each_below, ◌⊕◌}
 use Rattle.aead_ciphers_base.specs.CounterMode.{counter_block, counter_mode}

@@ -104,22 +104,3 @@ module _ {T C F : Type 0} (items : C → List T) (g : Mut F (Bor C × Unit {0}) 
         taken = s.taken ∙ ap (λ (x : ℕ). first_chunks n x (drop start old)) (done ∙ ap (λ (x : ℕ). x / n) (sym (length-drop start old)));
         written = s.written ∙ ap (λ (x : ℕ). joined (map (λ (x : C × C). items x.1) s.calls) ++ drop x old) all;
       }
-
--- where each call answers h of its block, the answers are h of the blocks
-answers_are : {T C F : Type 0} (items : C → List T) (g : Mut F (Bor C × Unit {0}) C) (h : List T → List T)
-    → ((p : F) (c o : C) (q : F) → CalledAt g p c o q → items o ≡ h (items c))
-    → (f : F) (calls : List (C × C)) (last : F) → Answers g f calls last
-    → map (λ (x : C × C). items x.1) calls ≡ map h (map (λ (x : C × C). items x.0) calls)
-answers_are items g h each f [] last ran = refl
-answers_are items g h each f (x ∷ calls) last ran =
-    let first : items x.1 ≡ h (items x.0) = each f x.0 x.1 ran.0 ran.1 in
-    let rest = answers_are items g h each ran.0 calls last ran.2 in
-    rw (first, rest) refl
-
--- a closure that always answers h of its block leaves h of the blocks at the front
-pub shifts_by : {T C F : Type 0} (items : C → List T) (g : Mut F (Bor C × Unit {0}) C) (h : List T → List T)
-    → ((p : F) (c o : C) (q : F) → CalledAt g p c o q → items o ≡ h (items c))
-    → (n : ℕ) (f : F) (old : List T) (start : ℕ) (new : List T) → ShiftsBlocks items g n f old start new
-    → new ≡ joined (map h (blocks n (drop start old))) ++ drop (length old - start) old
-shifts_by items g h each n f old start new s =
-    s.written ∙ ap (λ (t : List (List _)). joined t ++ drop (length old - start) old) (answers_are items g h each f s.calls s.last s.ran ∙ ap (map h) s.taken)
