@@ -1,6 +1,6 @@
 //! AES-GCM with 12-byte nonces and 16-byte tags (SP 800-38D section 7), in place.
 
-ghost use Rattle.std.specs.Prelude.{◌≡◌, ◌≤◌, ◌<◌, ◌-◌, ◌+◌, ◌↔◌, length, IsOk, IfOk, OnOk, OnErr, is_ok, ⊤};
+ghost use Rattle.std.specs.Prelude.{◌≡◌, ◌≤◌, ◌<◌, ◌-◌, ◌+◌, ◌↔◌, length, IsOk, IfOk, OnOk, OnErr, is_ok};
 ghost use Rattle.aead_ciphers_base.specs.KeyBytes.{key_bytes};
 ghost use Rattle.aead_ciphers_base.specs.Values.{aad_bytes};
 ghost use Rattle.aead_ciphers_base.specs.Work.{Adds, Room, HasRoom};
@@ -18,12 +18,11 @@ use crate::gcm;
 use aead_ciphers_base::aes::{self, EncryptBlock, KeyBytes, Work, ZERO_BLOCK};
 use aead_ciphers_base::error::Unspecified;
 use aead_ciphers_base::values::{Aad, Nonce, Tag};
-use std::alloc::AllocError;
 use std::marker::Model;
 use std::ops::RangeFrom;
 
 /// A key of AES-GCM: the expanded AES key, and the hash subkey that it makes.
-#[derive(Drop)]
+#[derive(Clone, Drop)]
 pub struct Key {
     aes: aes::Key,
     gcm: gcm::Key,
@@ -39,19 +38,6 @@ impl Model for Key {
     ghost view = { λ key. key.aes };
 
     ghost invariant = { λ key. key.gcm ≡ aes_cipher key.aes zero_block };
-}
-
-impl Clone for Key {
-    ghost is_clone = { λ x y. y ≡ x };
-
-    ghost is_infallible = { λ _. ⊤ };
-
-    fn clone(&self) -> Result<Self, AllocError> {
-        Ok(Key {
-            aes: self.aes.clone()?,
-            gcm: self.gcm.clone()?,
-        })
-    }
 }
 
 impl Key {

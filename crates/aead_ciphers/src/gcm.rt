@@ -1,6 +1,6 @@
 //! GHASH (SP 800-38D section 6.4), over the blocks of an AAD and a ciphertext.
 
-ghost use Rattle.std.specs.Prelude.{◌≡◌, ℕ, ◌+◌, ◌/◌, List, [], ◌∷◌, ◌++◌, length, ⊤};
+ghost use Rattle.std.specs.Prelude.{◌≡◌, ℕ, ◌+◌, ◌/◌, List, [], ◌∷◌, ◌++◌, length};
 ghost use Rattle.std.specs.Int.{to_be_bytes, w128};
 ghost use Rattle.aead_ciphers_base.specs.Blocks.{blocks};
 ghost use Rattle.aead_ciphers_base.specs.Work.{Adds, Room};
@@ -15,7 +15,6 @@ use aead_ciphers_base::aes::{BLOCK_LEN, Block, Work, ZERO_BLOCK};
 use aead_ciphers_base::polyfill::slice::AsChunks;
 pub(crate) use context::padded;
 pub use context::{Context, MAX_IN_OUT_LEN};
-use std::alloc::AllocError;
 use std::marker::Model;
 
 /// A hash subkey, H of SP 800-38D: 16 bytes.
@@ -95,7 +94,7 @@ pub trait UpdateBlocks: UpdateBlock {
 }
 
 /// GHASH under a hash subkey.
-#[derive(Drop)]
+#[derive(Clone, Drop)]
 pub struct Key {
     h: u128,
 }
@@ -107,16 +106,6 @@ impl Model for Key {
     ghost Value = { List ℕ };
 
     ghost view = { λ key. to_be_bytes w128 key.h };
-}
-
-impl Clone for Key {
-    ghost is_clone = { λ x y. y ≡ x };
-
-    ghost is_infallible = { λ _. ⊤ };
-
-    fn clone(&self) -> Result<Self, AllocError> {
-        Ok(Key { h: self.h })
-    }
 }
 
 impl Key {

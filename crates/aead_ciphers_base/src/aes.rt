@@ -3,7 +3,7 @@
 //! Four blocks stand in eight planes of 64 bits: bit `16 * block + byte` of plane `b` is bit `b` of
 //! that byte. No step reads a table or branches on a byte.
 
-ghost use Rattle.std.specs.Prelude.{◌≡◌, ◌<◌, ◌⊎◌, ⊤, ℕ, ◌+◌, ◌-◌, ◌/◌, ◌%◌, ◌++◌, List, [], length, drop, slice_index_or, IsOk, IfOk};
+ghost use Rattle.std.specs.Prelude.{◌≡◌, ◌<◌, ◌⊎◌, ℕ, ◌+◌, ◌-◌, ◌/◌, ◌%◌, ◌++◌, List, [], length, drop, slice_index_or, IsOk, IfOk};
 ghost use Rattle.aead_ciphers_base.specs.Aes.{aes};
 ghost use Rattle.aead_ciphers_base.specs.Bytes.{◌⊕◌};
 ghost use Rattle.aead_ciphers_base.specs.CounterMode.{IsCounter, counter_mode};
@@ -14,7 +14,6 @@ ghost use Rattle.aead_ciphers_base.specs.Work.{Adds, Room};
 use crate::error::Unspecified;
 use crate::values::Sample;
 use crate::{bb, overlapping};
-use std::alloc::AllocError;
 use std::marker::Model;
 
 mod bit_sliced;
@@ -102,7 +101,7 @@ pub trait EncryptCtr32: EncryptBlock {
 }
 
 /// A key, expanded: its round keys (FIPS 197 section 5.2), each in all four blocks of eight planes.
-#[derive(Drop)]
+#[derive(Clone, Drop)]
 pub struct Key {
     round_keys: [[u64; 8]; 15],
     rounds: usize,
@@ -117,19 +116,6 @@ impl Model for Key {
     ghost view = { λ key. key_of key.round_keys key.rounds };
 
     ghost invariant = { λ key. IsSchedule key.round_keys key.rounds };
-}
-
-impl Clone for Key {
-    ghost is_clone = { λ key clone. clone ≡ key };
-
-    ghost is_infallible = { λ _. ⊤ };
-
-    fn clone(&self) -> Result<Self, AllocError> {
-        Ok(Key {
-            round_keys: self.round_keys,
-            rounds: self.rounds,
-        })
-    }
 }
 
 impl Key {
@@ -172,9 +158,7 @@ impl Key {
         let [first, _, _, _] = self.encrypt_four([block, ZERO_BLOCK, ZERO_BLOCK, ZERO_BLOCK]);
         first
     }
-}
 
-impl Key {
     /// The header protection mask of a sample, under this key (RFC 9001 section 5.4.3): 16 bytes in, 5 bytes out.
     #[tactic(auto, unfolding(crate::specs::Mask::aes_mask))]
     pub fn new_mask(&self, sample: Sample) -> [u8; 5]

@@ -1,6 +1,6 @@
 //! The stream cipher ChaCha20 (RFC 8439 sections 2.1 to 2.4).
 
-ghost use Rattle.std.specs.Prelude.{◌≡◌, ⊤, ℕ, ◌+◌, ◌-◌, ◌*◌, ◌^◌, ◌<◌, ◌≤◌, List, ◌∷◌, ◌++◌, length, take, drop, slice_index};
+ghost use Rattle.std.specs.Prelude.{◌≡◌, ℕ, ◌+◌, ◌-◌, ◌*◌, ◌^◌, ◌<◌, ◌≤◌, List, ◌∷◌, ◌++◌, length, take, drop, slice_index};
 ghost use Rattle.std.specs.Int.{div_ceil};
 ghost use Rattle.std.specs.Simd.Lanes.{zip2};
 ghost use Rattle.aead_ciphers_base.specs.Bytes.{◌⊕◌};
@@ -9,7 +9,6 @@ ghost use Rattle.aead_ciphers_base.specs.Mask.{chacha_mask};
 
 use crate::values::{Nonce, Sample};
 use crate::{bb, overlapping};
-use std::alloc::AllocError;
 use std::marker::Model;
 
 #[cfg(test)]
@@ -183,7 +182,7 @@ impl Counter {
 }
 
 /// A key of 32 bytes.
-#[derive(Drop)]
+#[derive(Clone, Drop)]
 pub struct Key {
     words: [u32; 8],
 }
@@ -194,16 +193,6 @@ impl Model for Key {
     ghost view = { λ key. le_bytes key.words };
 
     ghost invariant = { λ key. (i : ℕ) → slice_index key.words i < 2 ^ 32 };
-}
-
-impl Clone for Key {
-    ghost is_clone = { λ key clone. clone ≡ key };
-
-    ghost is_infallible = { λ _. ⊤ };
-
-    fn clone(&self) -> Result<Self, AllocError> {
-        Ok(Key { words: self.words })
-    }
 }
 
 impl Key {

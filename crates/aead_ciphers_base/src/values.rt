@@ -3,7 +3,6 @@
 ghost use Rattle.std.specs.Prelude.{◌≡◌, ◌↔◌, [], length, IsOk, IfOk, IsTrue};
 
 use crate::error::Unspecified;
-use std::alloc::AllocError;
 use std::fmt;
 use std::marker::Model;
 
@@ -102,6 +101,7 @@ impl fmt::Debug for Aad<'_> {
 }
 
 /// An authentication tag of 16 bytes.
+#[derive(Clone, Copy)]
 pub struct Tag {
     bytes: [u8; MAX_TAG_LEN],
 }
@@ -115,14 +115,6 @@ impl Model for Tag {
 
     ghost inverse = { λ bytes. record { bytes = bytes } };
 }
-
-impl Clone for Tag {
-    fn clone(&self) -> Result<Self, AllocError> {
-        Ok(*self)
-    }
-}
-
-impl Copy for Tag {}
 
 impl From<[u8; MAX_TAG_LEN]> for Tag {
     ghost from_gives = { λ bytes tag. tag ≡ bytes };

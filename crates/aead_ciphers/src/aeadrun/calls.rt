@@ -1,5 +1,5 @@
 //! The calls of the library that commands ask for.
-ghost use Rattle.std.specs.Prelude.{◌≡◌, ◌+◌, ◌^◌, ◌≤◌, ◌↔◌, ⊤, length, vec_len, vec_capacity, is_ok, IsOk, IsErr, IfOk, OnOk, OnErr};
+ghost use Rattle.std.specs.Prelude.{◌≡◌, ◌+◌, ◌^◌, ◌<◌, ◌≤◌, ◌↔◌, ⊤, true, false, length, vec_len, vec_capacity, is_ok, IsOk, IsErr, IfOk, OnOk, OnErr};
 ghost use Rattle.aead_ciphers.specs.AesGcm.{aes_encrypted, aes_tag, AesOpenedAttached};
 ghost use Rattle.aead_ciphers.specs.Algorithm.{key_len};
 ghost use Rattle.aead_ciphers.specs.Gcm.{Fits};
@@ -120,7 +120,15 @@ impl Keys {
         &mut self,
         aad: Vec<u8>,
         message: Vec<u8>,
-    ) -> Result<Vec<u8>, Unspecified> {
+    ) -> Result<Vec<u8>, Unspecified>
+        ensures sealed { IfOk result (λ buffer. SealStep spent_nonces is_used_up
+            (vec_capacity message < vec_len message + 16) ⊤ self.old.sealing self.new.sealing
+            aad.items message.items buffer.items true) }
+        ensures refused { OnErr result (SealStep spent_nonces is_used_up
+            (vec_capacity message < vec_len message + 16) ⊤ self.old.sealing self.new.sealing
+            aad.items message.items message.items false) }
+        ensures kept { self.new.opening ≡ self.old.opening }
+    {
         let job = self.run(Job::new(Operation::Seal, aad, message));
         match job.outcome {
             Outcome::Sealed => Ok(job.buffer),
