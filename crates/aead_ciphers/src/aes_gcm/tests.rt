@@ -1,13 +1,12 @@
 //! The GCM specification's test cases, the work of each call, and every byte of long messages.
 
 mod counting;
-mod plain;
 
 use self::counting::{CountingCipher, CountingHash};
 use super::opening::open_with;
 use super::sealing::seal_with;
 use super::{Key, open, seal};
-use crate::gcm;
+use crate::{gcm, plain};
 use aead_ciphers_base::aes::{self, EncryptBlock, KeyBytes, Work, ZERO_BLOCK};
 use aead_ciphers_base::values::{Aad, Nonce, Tag};
 use hex::FromHex;
@@ -158,18 +157,65 @@ fn work_of_a_key(rt: HostRuntime) -> Result<(), Fail> {
     let mut work = Work::new();
     let key = Key::new(KeyBytes::AES_128(&KEY), &mut work)?;
     assert_eq!(rt; (work.blocks(), work.products()), (1, 0));
-    let mut work = Work::new();
-    let out_of_range = open(
-        &key,
-        nonce(),
-        Aad::empty(),
-        Tag::from([0; 16]),
-        &mut [0; 4],
-        5..,
-        &mut work,
-    );
-    assert!(rt; out_of_range.is_err());
-    assert_eq!(rt; (work.blocks(), work.products()), (0, 0));
+    Ok(())
+}
+
+#[test]
+fn work_of_sealing_and_opening(rt: HostRuntime) -> Result<(), Fail> {
+    let key = Key::new(KeyBytes::AES_128(&KEY), &mut Work::new())?;
+    for (n, a, blocks, products) in [
+        (0, 0, 1, 1),
+        (1, 1, 2, 3),
+        (16, 0, 2, 2),
+        (17, 0, 3, 3),
+        (64, 0, 5, 5),
+        (60, 20, 5, 7),
+        (3073, 20, 194, 196),
+    ] {
+        let bytes = vec![in rt.alloc(); 0; a]?;
+        let aad = Aad::from(bytes.as_slice());
+        let mut buffer = vec![in rt.alloc(); 0; n]?;
+        let mut work = Work::new();
+        let tag = seal(&key, nonce(), aad, &mut buffer, &mut work)?;
+        assert_eq!(rt;
+            (work.blocks(), work.products()),
+            (blocks, products),
+            "seal {n}"
+        );
+        let mut work = Work::new();
+        open(&key, nonce(), aad, tag, &mut buffer, 0.., &mut work)?;
+        assert_eq!(rt;
+            (work.blocks(), work.products()),
+            (blocks, products),
+            "open {n}"
+        );
+    }
+    Ok(())
+}
+
+// False tags, and a start past the end.
+#[test]
+fn work_of_a_refused_opening(rt: HostRuntime) -> Result<(), Fail> {
+    let key = Key::new(KeyBytes::AES_128(&KEY), &mut Work::new())?;
+    for (len, start, blocks, products) in [(3073, 0, 1, 196), (64, 4, 1, 7), (4, 5, 0, 0)] {
+        let mut buffer = vec![in rt.alloc(); 0; len]?;
+        let mut work = Work::new();
+        let opened = open(
+            &key,
+            nonce(),
+            Aad::from(AAD.as_slice()),
+            Tag::from([0; 16]),
+            &mut buffer,
+            start..,
+            &mut work,
+        );
+        assert!(rt; opened.is_err(), "{len} bytes at {start}");
+        assert_eq!(rt;
+            (work.blocks(), work.products()),
+            (blocks, products),
+            "{len} bytes at {start}"
+        );
+    }
     Ok(())
 }
 

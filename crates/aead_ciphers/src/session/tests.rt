@@ -56,18 +56,18 @@ fn refuses_once_the_nonces_are_spent(rt: HostRuntime) -> Result<(), Fail> {
     let mut sealing = SealingKey::new(key()?, sequence(2)?);
     let mut opening = OpeningKey::new(key()?, sequence(0)?);
     let mut jobs = Vec::new(alloc);
-    for _ in 0..5 {
-        jobs.push(Job::new(Operation::Seal, Vec::new(alloc), [0; 20].to_vec(alloc)?))?;
+    for i in 0..5u8 {
+        jobs.push(Job::new(Operation::Seal, Vec::new(alloc), [i; 20].to_vec(alloc)?))?;
     }
     run(&mut sealing, &mut opening, jobs.as_mut_slice());
-    for (i, job) in jobs.iter().enumerate() {
-        let (outcome, len) = if i < 2 {
-            (Outcome::Sealed, 36)
+    for (i, job) in (0..5u8).zip(jobs.iter()) {
+        if i < 2 {
+            assert_eq!(rt; job.outcome, Outcome::Sealed, "job {i}");
+            assert_eq!(rt; job.buffer.len(), 36, "job {i}");
         } else {
-            (Outcome::Refused, 20)
-        };
-        assert_eq!(rt; job.outcome, outcome, "job {i}");
-        assert_eq!(rt; job.buffer.len(), len, "job {i}");
+            assert_eq!(rt; job.outcome, Outcome::Refused, "job {i}");
+            assert_eq!(rt; job.buffer.as_slice(), [i; 20].as_slice(), "job {i}");
+        }
     }
     Ok(())
 }

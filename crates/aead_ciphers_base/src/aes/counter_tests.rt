@@ -44,4 +44,9 @@ fn sums_wrap_in_the_last_four_bytes(rt: HostRuntime) {
         *counter.as_ref(),
         [1, 1, 1, 1, 1, 1, 1, 1, 1, 1, 1, 1, 255, 255, 255, 255]
     );
+    let _ = counter.increment();
+    assert_eq!(rt;
+        *counter.as_ref(),
+        [1, 1, 1, 1, 1, 1, 1, 1, 1, 1, 1, 1, 0, 0, 0, 0]
+    );
 }

@@ -17,18 +17,6 @@ fn counter_block(number: u32) -> [u8; 16] {
 }
 
 #[test]
-fn counter_adds_modulo_2_32(rt: HostRuntime) {
-    let mut counter = Counter::one(Nonce::assume_unique_for_key(NONCE));
-    assert_eq!(rt; *counter.as_ref(), counter_block(1));
-    counter.increment();
-    assert_eq!(rt; *counter.as_ref(), counter_block(2));
-    counter.increment_by_less_safe(4_294_967_293);
-    assert_eq!(rt; *counter.as_ref(), counter_block(u32::MAX));
-    counter.increment();
-    assert_eq!(rt; *counter.as_ref(), counter_block(0));
-}
-
-#[test]
 fn five_blocks_wrap(rt: HostRuntime) -> Result<(), Fail> {
     let key = Key::new(KeyBytes::AES_128(&[0; 16]))?;
     let mut counter = Counter::one(Nonce::assume_unique_for_key(NONCE));

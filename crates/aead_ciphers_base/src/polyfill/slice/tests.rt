@@ -44,6 +44,10 @@ fn blocks_of_items_that_are_not_copied(rt: HostRuntime) {
     assert_eq!(rt; blocks.len(), 2);
     assert_eq!(rt; blocks[1], [Item(3), Item(4)]);
     assert_eq!(rt; rest, [Item(5)].as_slice());
+    let mut walk = blocks.into_iter();
+    assert_eq!(rt; walk.next(), Some(&[Item(1), Item(2)]));
+    assert_eq!(rt; walk.next(), Some(&[Item(3), Item(4)]));
+    assert_eq!(rt; walk.next(), None);
 }
 
 #[test]
@@ -75,14 +79,17 @@ fn groups_of_blocks_and_a_last_of_fewer(rt: HostRuntime) -> Result<(), Fail> {
 
 #[test]
 fn writes_reach_the_slice(rt: HostRuntime) {
-    let mut items = [0u8; 8];
+    let mut items = [1, 2, 3, 4, 5, 6, 7, 8].map(Item);
     let mut view = AsChunksMut::<_, 2>::from_whole(items.as_mut_slice());
-    for mut group in view.chunks_mut::<3>() {
-        group.as_flattened_mut().fill(7);
+    for (mut group, mark) in view.chunks_mut::<3>().zip([10, 11]) {
+        if let Some(first) = group.as_flattened_mut().first_mut() {
+            *first = Item(mark);
+        }
         let mut part = group.as_mut();
-        part.with_flattened_mut(|items: &mut [u8]| items.reverse());
+        part.with_flattened_mut(|items: &mut [Item]| items.reverse());
     }
-    let read = AsChunks::from(&view);
-    assert_eq!(rt; read.as_flattened(), [7; 8].as_slice());
+    let expected = [6, 5, 4, 3, 2, 10, 8, 11].map(Item);
+    assert_eq!(rt; AsChunks::from(&view).as_flattened(), expected.as_slice());
     assert!(rt; view.into_flattened().len() == 8);
+    assert_eq!(rt; items, expected);
 }

@@ -1,4 +1,4 @@
-//! Counter mode and the tag by index, block by block, as SP 800-38D writes them.
+//! Counter mode and the tag by index, block by block, as SP 800-38D writes them: what the tests compare with.
 
 use aead_ciphers_base::aes::{self, EncryptBlock, Work};
 use std::alloc::{AllocError, Allocator};
@@ -12,7 +12,7 @@ fn keystream_block(key: &aes::Key, nonce: &[u8; 12], k: u32) -> [u8; 16] {
 }
 
 /// The ciphertext of a message: its piece j of 16 bytes XOR counter block 2 + j, encrypted.
-pub(super) fn ciphertext<A: Allocator>(
+pub(crate) fn ciphertext<A: Allocator>(
     alloc: A,
     key: &aes::Key,
     nonce: &[u8; 12],
@@ -57,7 +57,7 @@ fn product(x: u128, y: u128) -> u128 {
 }
 
 /// The tag: block i of m blocks times the power m + 1 - i of the hash subkey, all summed.
-pub(super) fn tag(key: &aes::Key, nonce: &[u8; 12], aad: &[u8], ciphertext: &[u8]) -> [u8; 16] {
+pub(crate) fn tag(key: &aes::Key, nonce: &[u8; 12], aad: &[u8], ciphertext: &[u8]) -> [u8; 16] {
     let h = u128::from_be_bytes(key.encrypt_block([0; 16], &mut Work::new()));
     let lengths = (8 * aad.len() as u128) << 64 | 8 * ciphertext.len() as u128;
     let mut power = h;
