@@ -3,15 +3,22 @@ use mathlib.Core.Path.{◌≡◌, refl}
 use mathlib.Core.List.{List, [], ◌∷◌}
 use lib.Dec.{T}
 use mir.Syntax.{Ty}
-use mir.Val.{Val, has_ty, WT}
+use mir.Val.{Val, has_ty, WT, of_list}
 use seplogic.Ra.Ura.{Ura}
 use base.Logic.{ent, sep, wand, all_e, apply∗}
 use base.Fml.{Fml, GName, fres, fsep}
 use types.Logic.{Logic, sem}
-use types.Kit.{‵, raw, ◌$◌, ◌∵◌, !, qed, by, move, each, assume, use1, use2}
+use types.Kit.{‵, raw, ◌$◌, ◌∵◌, !, qed, by, move, each, assume, use1, use2, fjoin, fpack, feq_i, done}
+use types.Match.{live}
 use denote.Follow.{follows, follows_both, followed, both_by}
 use denote.Laws.{Typed}
-use denote.RattleType.{RattleType}
+use denote.RattleType.{RattleType, Valss, owns}
+use denote.Enum.Declared.{shape}
+use denote.Enum.Enum.{form_of, in_a_row}
+use denote.Enum.Row.{tagged_with}
+use denote.Steps.{nothing}
+use Rattle.std.specs.declared.result.Result.TheVariants.{Ok, Err}
+use Rattle.std.specs.contracts.result.Result.{the_row, the_type}
 
 -- where a type's values are one word, the list of them is that word
 pub one : (τ : Ty) (vs : List Val) → Typed (τ ∷ []) vs → (v : Val) × (vs ≡ v ∷ []) × (T (has_ty τ v) × WT v)
@@ -32,3 +39,19 @@ module _ {M : Type 1} {𝓤 : Ura M} (𝓛 : Logic 𝓤) (R T U V : RattleType) 
       move ! (2 ∷ []) $ use1 𝓛 (raw (wand 𝓤 (sem 𝓛 (Both w)) (A.res γ' (T.coded.code (G w.0 w.1))))) (all_e 𝓤 (λ (z : U.Denot × V.Denot). wand 𝓤 (sem 𝓛 (Both z)) (A.res γ' (T.coded.code (G z.0 z.1)))) w) $
       move ! (1 ∷ 0 ∷ []) $ use2 𝓛 (‵ (fres γ' (T.coded.code (G w.0 w.1)))) (apply∗ 𝓤 (sem 𝓛 (Both w)) (A.res γ' (T.coded.code (G w.0 w.1)))) $
       move ! (1 ∷ 0 ∷ []) $ by ! (followed 𝓛 R T F γ γ' (G w.0 w.1)))
+
+-- what an `Ok` and an `Err` own
+module _ {M : Type 1} {𝓤 : Ura M} (𝓛 : Logic 𝓤) (X E : RattleType) where
+  pub ok_of : (x : X.Denot) (v : Val) → ent 𝓤 (sem 𝓛 (X.own_val x (v ∷ []))) (sem 𝓛 ((the_row X E).own_val (Ok x) (live 0 (of_list (v ∷ [])) ∷ [])))
+  ok_of x v =
+      let w : Val = live 0 (of_list (v ∷ [])) in
+      qed 𝓛 (‵ (X.own_val x (v ∷ [])) ∷ []) ∵ nothing ! $ move ! (1 ∷ 0 ∷ []) $ fjoin ! $ feq_i ! (List Val) (v ∷ []) (v ∷ []) refl $ fjoin ! $
+      fpack ! (Valss (X ∷ [])) (in_a_row (X ∷ []) (owns (X ∷ []) (x, tt)) (v ∷ [])) (v ∷ [], tt) $ feq_i ! (List Val) (w ∷ []) (w ∷ []) refl $ fjoin ! $
+      fpack ! (List Val) (tagged_with (form_of (shape (the_type X E))) (form_of (shape (the_type X E))).payload ((the_type X E).to (Ok x)) (w ∷ [])) (v ∷ []) $ done !
+
+  pub err_of : (e : E.Denot) (v : Val) → ent 𝓤 (sem 𝓛 (E.own_val e (v ∷ []))) (sem 𝓛 ((the_row X E).own_val (Err e) (live 1 (of_list (v ∷ [])) ∷ [])))
+  err_of e v =
+      let w : Val = live 1 (of_list (v ∷ [])) in
+      qed 𝓛 (‵ (E.own_val e (v ∷ [])) ∷ []) ∵ nothing ! $ move ! (1 ∷ 0 ∷ []) $ fjoin ! $ feq_i ! (List Val) (v ∷ []) (v ∷ []) refl $ fjoin ! $
+      fpack ! (Valss (E ∷ [])) (in_a_row (E ∷ []) (owns (E ∷ []) (e, tt)) (v ∷ [])) (v ∷ [], tt) $ feq_i ! (List Val) (w ∷ []) (w ∷ []) refl $ fjoin ! $
+      fpack ! (List Val) (tagged_with (form_of (shape (the_type X E))) (form_of (shape (the_type X E))).payload ((the_type X E).to (Err e)) (w ∷ [])) (v ∷ []) $ done !

@@ -1,8 +1,7 @@
 //! A slice and a start: the input is the slice from the start on, the output its front.
 
-ghost use Rattle.std.specs.Prelude.{◌≡◌, ◌↔◌, ◌-◌, ◌≤◌, ◌++◌, IsOk, IfOk, IfErr, drop, length, take};
+ghost use Rattle.std.specs.Prelude.{◌≡◌, ◌↔◌, ◌-◌, ◌<◌, ◌≤◌, ◌++◌, IsOk, IfOk, IfErr, drop, length, take};
 ghost use Rattle.std.specs.Borrow.{sem};
-ghost use Rattle.aead_ciphers_base.specs.Overlapping.{LendsOutput, TakesChunk};
 
 use super::{Chunk, map_chunk};
 use crate::error::IndexError;
@@ -27,6 +26,8 @@ impl<'o, T> From<&'o mut [T]> for Overlapping<'o, T> {
 }
 
 impl<'o, T> Overlapping<'o, T> {
+    ghost use Rattle.aead_ciphers_base.specs.Overlapping.{LendsOutput, LendsRest, MapsChunk, TakesChunk};
+
     /// The input is `in_out` from `src.start` on.
     pub fn new(in_out: &'o mut [T], src: RangeFrom<usize>) -> Result<Self, IndexError>
         ensures accepted { IsOk result ↔ (src.start ≤ length in_out.old) }
@@ -124,6 +125,34 @@ impl<'o, T> Overlapping<'o, T> {
         self.copied_to_front().into_unwritten_output()
     }
 
+    /// The same buffer with its first chunk mapped by `f`, where its input has one.
+    fn first_chunk_mapped<C: Chunk<T>, F: FnOnce(&C) -> C>(self, f: F) -> FirstMapped<'o, T>
+    where
+        T: Drop,
+        F: Drop,
+        requires { C.chunk_len ≤ length self.in_out.now - self.start
+            → TakesChunk C.chunk_items F.FnOnce C.chunk_len f (drop self.start self.in_out.now) }
+        ensures same_reference { result.in_out.ghost_name ≡ self.entry.in_out.ghost_name }
+        ensures mapped { C.chunk_len ≤ length self.entry.in_out.now - self.entry.start
+            → MapsChunk C.chunk_items F.FnOnce C.chunk_len f self.entry.in_out.now self.entry.start result.in_out.now }
+        ensures kept { length self.entry.in_out.now - self.entry.start < C.chunk_len
+            → result.in_out.now ≡ self.entry.in_out.now }
+        ensures same_length { length result.in_out.now ≡ length self.entry.in_out.now }
+        ensures start { result.start ≡ self.entry.start }
+        ensures count { result.count ≡ C.chunk_len }
+    {
+        let Overlapping { in_out, start } = self;
+        let count = C::chunk_len();
+        if count <= in_out.len() - start {
+            map_chunk(in_out, start, f);
+        }
+        FirstMapped {
+            in_out,
+            start,
+            count,
+        }
+    }
+
     /// `f` maps the first chunk of the input, its answer is written to the front of the slice, and
     /// the slice behind it comes back with the same start. Where the input is shorter than a chunk,
     /// it is refused with the length of a chunk, and `f` isn't called.
@@ -136,20 +165,45 @@ impl<'o, T> Overlapping<'o, T> {
         F: Drop,
         requires { C.chunk_len ≤ length self.in_out.now - self.start
             → TakesChunk C.chunk_items F.FnOnce C.chunk_len f (drop self.start self.in_out.now) }
+        ensures* writes_back { sem 𝓛 (LendsRest T.row C.chunk_items F.FnOnce C.chunk_len f self.entry result) }
         ensures accepted { IsOk result ↔ (C.chunk_len ≤ length self.entry.in_out.now - self.entry.start) }
         ensures rest { IfOk result (λ o. o.in_out.now ≡ drop C.chunk_len self.entry.in_out.now) }
         ensures start { IfOk result (λ o. o.start ≡ self.entry.start) }
         ensures refused { IfErr result (λ e. e ≡ C.chunk_len) }
     {
-        let Overlapping { in_out, start } = self;
-        let count = C::chunk_len();
+        self.first_chunk_mapped(f).rest()
+    }
+}
+
+/// A buffer, and how many items are split off.
+struct FirstMapped<'o, T> {
+    in_out: &'o mut [T],
+    start: usize,
+    count: usize,
+    ghost within: { start ≤ length in_out.now },
+}
+
+impl<'o, T> FirstMapped<'o, T> {
+    ghost use Rattle.aead_ciphers_base.specs.Overlapping.{LendsTail};
+
+    /// The buffer behind the first `count` items, where the input has as many.
+    fn rest(self) -> Result<Overlapping<'o, T>, IndexError>
+        ensures* writes_back { sem 𝓛 (LendsTail T.row self.entry.in_out self.entry.count result) }
+        ensures accepted { IsOk result ↔ (self.entry.count ≤ length self.entry.in_out.now - self.entry.start) }
+        ensures rest { IfOk result (λ o. o.in_out.now ≡ drop self.entry.count self.entry.in_out.now) }
+        ensures start { IfOk result (λ o. o.start ≡ self.entry.start) }
+        ensures refused { IfErr result (λ e. e ≡ self.entry.count) }
+    {
+        let FirstMapped {
+            in_out,
+            start,
+            count,
+        } = self;
         if in_out.len() - start < count {
             return Err(IndexError::new(count));
         }
-        map_chunk(in_out, start, f);
-        let (_front, tail) = in_out.split_at_mut(count);
         Ok(Overlapping {
-            in_out: tail,
+            in_out: &mut in_out[count..],
             start,
         })
     }
