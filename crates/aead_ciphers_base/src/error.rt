@@ -34,7 +34,8 @@ impl IndexError {
     pub fn value(self) -> usize
         ensures { result ≡ self }
     {
-        self.0
+        let IndexError(value) = self;
+        value
     }
 }
 
@@ -61,6 +62,7 @@ impl LenMismatchError {
     pub fn value(self) -> usize
         ensures { result ≡ self }
     {
-        self.0
+        let LenMismatchError(value) = self;
+        value
     }
 }

@@ -143,6 +143,6 @@ impl Tag {
     pub fn as_ref(&self) -> &[u8]
         ensures { result.now ≡ self.now }
     {
-        &self.bytes
+        self.bytes.as_slice()
     }
 }

@@ -17,13 +17,13 @@ use crate::aes_gcm;
 use aead_ciphers_base::aes::Work;
 use aead_ciphers_base::error::Unspecified;
 use aead_ciphers_base::values::{Aad, MAX_TAG_LEN, Nonce, Tag};
+use std::alloc::AllocError;
 use std::fmt;
 use std::marker::Model;
 use std::ops::RangeFrom;
 
-/// A key whose calls take the nonce. That no nonce comes twice under it is the caller's matter. A clone is the same
-/// key with the same algorithm, and cloning takes no memory.
-#[derive(Clone, Drop)]
+/// A key whose calls take the nonce. That no nonce comes twice under it is the caller's matter.
+#[derive(Drop)]
 pub struct LessSafeKey {
     key: aes_gcm::Key,
     algorithm: &'static Algorithm,
@@ -35,6 +35,22 @@ impl Model for LessSafeKey {
     ghost Value = { AeadKey };
 
     ghost view = { λ key. record { algorithm = key.algorithm.now; bytes = key.key } };
+}
+
+/// The same key with the same algorithm. Cloning takes no memory, and always succeeds.
+impl Clone for LessSafeKey {
+    ghost use Rattle.std.specs.Prelude.{◌≡◌, ⊤};
+
+    ghost is_clone = { λ key clone. clone ≡ key };
+
+    ghost is_infallible = { λ _. ⊤ };
+
+    fn clone(&self) -> Result<Self, AllocError> {
+        Ok(LessSafeKey {
+            key: self.key.clone()?,
+            algorithm: self.algorithm,
+        })
+    }
 }
 
 impl LessSafeKey {

@@ -1,6 +1,6 @@
 //! Views of a slice as blocks that are read.
 
-ghost use Rattle.std.specs.Prelude.{◌≡◌, ℕ, ◌*◌, ◌/◌, ◌%◌, ◌<◌, ◌↔◌, [], ◌∷◌, IsTrue, drop, length, slice_index_or, take};
+ghost use Rattle.std.specs.Prelude.{◌≡◌, ⊤, ℕ, ◌*◌, ◌/◌, ◌%◌, ◌<◌, ◌↔◌, [], ◌∷◌, IsTrue, drop, length, slice_index_or, take};
 ghost use Rattle.std.specs.Iterator.{YieldsFirstRef, item_count};
 ghost use Rattle.aead_ciphers_base.specs.Blocks.{blocks, joined};
 
@@ -15,6 +15,8 @@ pub struct AsChunks<'a, T, const N: usize> {
 
 impl<T, const N: usize> Clone for AsChunks<'_, T, N> {
     ghost is_clone = { λ s r. r.items.now ≡ s.items.now };
+
+    ghost is_infallible = { λ _. ⊤ };
 
     fn clone(&self) -> Result<Self, std::alloc::AllocError> {
         Ok(*self)
