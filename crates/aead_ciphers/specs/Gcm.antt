@@ -6,7 +6,7 @@ use Rattle.aead_ciphers_base.specs.Bytes.{each_below, ◌⊕◌, zero_block}
 use Rattle.aead_ciphers_base.specs.CounterMode.{counter_block, counter_mode}
 use Rattle.aead_ciphers.specs.Ghash.{ghash}
 
--- 16 bytes from byte 16 i on, zeros past the end
+-- 16 bytes from byte 16 i on, zeros past the end (section 7.1 step 4)
 unfoldable pub padded_block : List ℕ → ℕ → List ℕ
 padded_block bytes i = each_below 16 (λ j. slice_index bytes (16 * i + j))
 
@@ -63,10 +63,12 @@ pub record OpenedAttached (cipher : List ℕ → List ℕ) (nonce aad : List ℕ
   pub tagged : 16 ≤ length old → let n = length old - 16 in (body : List ℕ)
       × Opened cipher nonce aad (drop n old) start (take n old) accepts body × (new ≡ body ++ drop n old)
 
--- the cipher blocks of a seal, or of an open that accepts, of n bytes of message
+-- the cipher blocks of a seal, or of an open that accepts, of n bytes of message: one for each block of the message, and
+-- one for the tag (section 7.1 steps 3 and 6)
 abbrev pub sealing_blocks : ℕ → ℕ
 sealing_blocks n = (n + 15) / 16 + 1
 
--- the field products of a seal or an open of a bytes of AAD and n bytes of message
+-- the field products of a seal or an open of a bytes of AAD and n bytes of message: one for each block that is hashed
+-- (sections 6.4 and 7.1 step 5)
 abbrev pub sealing_products : ℕ → ℕ → ℕ
 sealing_products a n = (a + 15) / 16 + (n + 15) / 16 + 1

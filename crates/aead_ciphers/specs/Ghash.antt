@@ -4,17 +4,17 @@ use Rattle.std.specs.Int.{bit_at, to_be_bytes, w128}
 use Rattle.aead_ciphers_base.specs.Polynomial.{field_product}
 use Rattle.aead_ciphers_base.specs.Bytes.{◌⊕◌, zero_block}
 
--- a block is 16 bytes, each below 256
+-- a block: 16 bytes, each below 256 (section 6.3)
 pub record IsBlock (block : List ℕ) : Type 0 where
   pub size : length block ≡ 16
   pub bytes : All (λ byte. byte < 256) block
 
--- each of the list has 16 bytes
+-- each of the list has 16 bytes (section 6.4)
 abbrev pub AllSized : List (List ℕ) → Type 0
 AllSized [] = Unit {0}
 AllSized (x ∷ xs) = (length x ≡ 16) × AllSized xs
 
--- the lowest k bits of n, the highest of them first
+-- the lowest k bits of n, the highest of them first (section 4.2.2)
 unfoldable pub bits_high_first : ℕ → ℕ → List Bool
 bits_high_first zero n = []
 bits_high_first (suc k) n = (bit_at n k == 1) ∷ bits_high_first k n
@@ -23,11 +23,11 @@ bits_high_first (suc k) n = (bit_at n k == 1) ∷ bits_high_first k n
 unfoldable pub block_bits : List ℕ → List Bool
 block_bits block = flat_map (bits_high_first 8) block
 
--- the number with these bits, the highest first
+-- the number with these bits, the highest first (section 4.2.2)
 abbrev pub number : List Bool → ℕ
 number bits = fold (λ n b. 2 * n + (if b then 1 else 0)) 0 bits
 
--- the block with these bits, the leftmost first
+-- the block with these bits, the leftmost first (section 4.2.2)
 unfoldable pub block_of : List Bool → List ℕ
 block_of bits = to_be_bytes w128 (number bits)
 
@@ -40,7 +40,7 @@ infixl 70 ◌•◌
 unfoldable pub ◌•◌ : List ℕ → List ℕ → List ℕ
 x • y = block_of (field_product block_taps 128 (block_bits x) (block_bits y))
 
--- the block whose product with each block is that block
+-- section 6.3: the block of the polynomial 1, whose product with each block is that block
 abbrev pub unit_block : List ℕ
 unit_block = 0x80 ∷ replicate 15 0
 
@@ -55,7 +55,7 @@ unfoldable pub ghash : List ℕ → List (List ℕ) → List ℕ
 ghash h [] = zero_block
 ghash h (x ∷ xs) = x • power h (length (x ∷ xs)) ⊕ ghash h xs
 
--- the XOR of two lists of blocks, block by block
+-- the XOR of two lists of blocks, block by block (section 4.2.2)
 abbrev pub xor_blocks : List (List ℕ) → List (List ℕ) → List (List ℕ)
 xor_blocks [] ys = []
 xor_blocks (x ∷ xs) [] = []

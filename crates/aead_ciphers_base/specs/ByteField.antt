@@ -9,7 +9,7 @@ abbrev pub bits_of : ℕ → ℕ → List Bool
 bits_of zero n = []
 bits_of (suc k) n = (n % 2 == 1) ∷ bits_of k (n / 2)
 
--- the number with these bits
+-- the number with these bits, the bit of value 1 first (section 3.2)
 abbrev pub value_of : List Bool → ℕ
 value_of [] = 0
 value_of (b ∷ bs) = (if b then 1 else 0) + 2 * value_of bs

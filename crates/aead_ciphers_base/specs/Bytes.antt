@@ -13,6 +13,6 @@ abbrev pub ◌⊕◌ : List ℕ → List ℕ → List ℕ
 (x ∷ xs) ⊕ [] = []
 (x ∷ xs) ⊕ (y ∷ ys) = bit_xor x y ∷ (xs ⊕ ys)
 
--- the block of 128 zero bits
+-- the block of 128 zero bits (SP 800-38D section 4.2.2)
 abbrev pub zero_block : List ℕ
 zero_block = replicate 16 0

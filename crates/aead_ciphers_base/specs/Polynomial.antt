@@ -3,45 +3,46 @@
 use Rattle.std.specs.Prelude.{ℕ, zero, suc, ◌+◌, ◌-◌, ◌==◌, Bool, true, false, not, ◌&&◌, List, length, map, slice_index_or}
 use Rattle.std.specs.List.{range_with_len, list_any}
 
--- the sum of two bits
+-- the sum of two bits (FIPS 197 section 4.1)
 infixl 40 ◌xor◌
 abbrev pub ◌xor◌ : Bool → Bool → Bool
 true xor b = not b
 false xor b = b
 
--- the sum of the bits f 0, .., f (n - 1)
+-- the sum of the bits f 0, .., f (n - 1) (FIPS 197 section 4.1)
 abbrev pub xor_sum : ℕ → (ℕ → Bool) → Bool
 xor_sum zero f = false
 xor_sum (suc n) f = xor_sum n f xor f n
 
--- the coefficient of x^i, zero past the end
+-- the coefficient of x^i, zero past the end (FIPS 197 section 4)
 abbrev pub coefficient : List Bool → ℕ → Bool
 coefficient p i = slice_index_or p i false
 
--- the polynomial with the n coefficients f 0, .., f (n - 1)
+-- the polynomial with the n coefficients f 0, .., f (n - 1) (FIPS 197 section 4)
 abbrev pub polynomial : ℕ → (ℕ → Bool) → List Bool
 polynomial n f = map f (range_with_len 0 n)
 
--- the product: coefficient k is the sum of `a_i and b_j` over all i + j = k
+-- the product: coefficient k is the sum of `a_i and b_j` over all i + j = k (FIPS 197 section 4.2)
 unfoldable pub polynomial_product : List Bool → List Bool → List Bool
 polynomial_product a b = polynomial (length a + length b - 1)
     (λ k. xor_sum (suc k) (λ i. coefficient a i && coefficient b (k - i)))
 
 -- p, whose highest coefficient is that of x^(d + n), without it: if it was one, the coefficients of x^(n + t) are
--- flipped for each of the taps t, since x^d is the sum of the x^t
+-- flipped for each of the taps t, since x^d is the sum of the x^t (FIPS 197 section 4.2, SP 800-38D section 6.3)
 unfoldable pub without_highest : List ℕ → ℕ → ℕ → List Bool → List Bool
 without_highest taps d n p = polynomial (d + n)
     (λ j. coefficient p j xor (coefficient p (d + n) && list_any (λ t. n + t == j) taps))
 
--- p, which has d + n coefficients, without its n highest
+-- p, which has d + n coefficients, without its n highest, one after the other
 unfoldable pub without_highests : List ℕ → ℕ → ℕ → List Bool → List Bool
 without_highests taps d zero p = p
 without_highests taps d (suc n) p = without_highests taps d n (without_highest taps d n p)
 
--- p modulo x^d plus the sum of x^t over the taps t
+-- p modulo x^d plus the sum of x^t over the taps t (FIPS 197 section 4.2, SP 800-38D section 6.3)
 unfoldable pub reduced : List ℕ → ℕ → List Bool → List Bool
 reduced taps d p = without_highests taps d (length p - d) p
 
--- the product of two polynomials modulo x^d plus the sum of x^t over the taps t
+-- the product of two polynomials modulo x^d plus the sum of x^t over the taps t (FIPS 197 section 4.2, SP 800-38D
+-- section 6.3)
 unfoldable pub field_product : List ℕ → ℕ → List Bool → List Bool → List Bool
 field_product taps d a b = reduced taps d (polynomial_product a b)
