@@ -1,19 +1,19 @@
 //! Views of a slice as blocks that are written.
 
-ghost use Rattle.std.specs.Prelude.{◌≡◌, ℕ, ◌*◌, ◌/◌, ◌%◌, ◌<◌, ◌≤◌, ◌^◌, ◌++◌, MatchOption, drop, length, take};
-ghost use Rattle.std.specs.Borrow.{sem, LendsBoth, Array, follows_both};
+ghost use Rattle.std.specs.Prelude.{◌≡◌, ℕ, ◌*◌, ◌/◌, ◌%◌, ◌<◌, ◌≤◌, ◌^◌, MatchOption, drop, length, take};
+ghost use Rattle.std.specs.Borrow.{sem};
 ghost use Rattle.std.specs.Fn.{FnOnceReturnsAtMut, FnOnceTakesAtMut};
 ghost use Rattle.std.specs.Iterator.{at_most};
 ghost use Rattle.std.specs.Slice.Iter.{chunk_count, chunks_mut_rest, chunks_mut_size};
 ghost use Rattle.aead_ciphers_base.specs.Blocks.{blocks, joined};
-ghost use Rattle.aead_ciphers_base.specs.ChunksMut.{IsNextPart};
+ghost use Rattle.aead_ciphers_base.specs.ChunksMut.{IsNextPart, LendsInTwo};
 
 use super::AsChunks;
 
 /// The items of the first `count` blocks of `N`, and the rest.
 fn split_blocks<T, const N: usize>(items: &mut [T], count: usize) -> (&mut [T], &mut [T])
     requires { count * N ≤ length items.old }
-    ensures* writes_back { sem 𝓛 (LendsBoth (Array T.row 0) (Array T.row 0) (Array T.row 0) items.entry result ◌++◌) }
+    ensures* writes_back { sem 𝓛 (LendsInTwo T.row items.entry result) }
     ensures front { result.0.now ≡ take (count * N) items.old }
     ensures back { result.1.now ≡ drop (count * N) items.old }
 {
@@ -23,7 +23,7 @@ fn split_blocks<T, const N: usize>(items: &mut [T], count: usize) -> (&mut [T], 
 /// The items that fill whole blocks of `N`, and the rest.
 pub fn split_whole<T, const N: usize>(items: &mut [T]) -> (&mut [T], &mut [T])
     requires { 0 < N }
-    ensures* writes_back { sem 𝓛 (LendsBoth (Array T.row 0) (Array T.row 0) (Array T.row 0) items.entry result ◌++◌) }
+    ensures* writes_back { sem 𝓛 (LendsInTwo T.row items.entry result) }
     ensures whole { result.0.now ≡ take (length items.old / N * N) items.old }
     ensures rest { result.1.now ≡ drop (length items.old / N * N) items.old }
 {
@@ -35,8 +35,7 @@ pub fn split_whole<T, const N: usize>(items: &mut [T]) -> (&mut [T], &mut [T])
 #[tactic(auto, using(crate::proofs::BlocksLemmas::blocks_take, crate::proofs::BlocksLemmas::whole_blocks))]
 pub fn as_chunks_mut<T, const N: usize>(items: &mut [T]) -> (AsChunksMut<'_, T, N>, &mut [T])
     requires { 0 < N }
-    ensures* writes_back { sem 𝓛 (follows_both (Array T.row 0) (Array T.row 0) (Array T.row 0)
-        items.entry.ghost_name result.0.items.ghost_name result.1.ghost_name ◌++◌) }
+    ensures* writes_back { sem 𝓛 (LendsInTwo T.row items.entry (result.0.items, result.1)) }
     ensures view { blocks N result.0.items.now ≡ blocks N items.old }
     ensures whole { result.0.items.now ≡ take (length items.old / N * N) items.old }
     ensures rest { result.1.now ≡ drop (length items.old / N * N) items.old }
