@@ -23,6 +23,3 @@ pub use nonce_sequence::NonceSequence;
 pub use opening_key::OpeningKey;
 pub use sealing_key::SealingKey;
 pub use unbound_key::UnboundKey;
-
-#[cfg(test)]
-mod tests;

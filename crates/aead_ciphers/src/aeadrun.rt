@@ -12,8 +12,6 @@ mod answers;
 mod calls;
 mod line;
 mod program;
-#[cfg(test)]
-mod tests;
 mod words;
 
 use self::program::Program;

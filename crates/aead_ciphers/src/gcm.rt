@@ -8,8 +8,6 @@ ghost use Rattle.aead_ciphers.specs.HashOf.{IsHashOf};
 
 mod context;
 mod product;
-#[cfg(test)]
-mod tests;
 
 use aead_ciphers_base::aes::{BLOCK_LEN, Block, Work, ZERO_BLOCK};
 use aead_ciphers_base::polyfill::slice::AsChunks;

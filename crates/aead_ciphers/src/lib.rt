@@ -6,6 +6,4 @@ pub mod aeadrun;
 pub mod aes_gcm;
 pub mod gcm;
 pub mod laws;
-#[cfg(test)]
-mod plain;
 pub mod session;

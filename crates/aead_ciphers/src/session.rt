@@ -95,6 +95,3 @@ pub fn run<S: NonceSequence, O: NonceSequence>(
         job.perform(sealing, opening);
     }
 }
-
-#[cfg(test)]
-mod tests;

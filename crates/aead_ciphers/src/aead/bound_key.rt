@@ -24,6 +24,3 @@ pub trait BoundKey<N: NonceSequence>: fmt::Debug {
     fn algorithm(&self) -> &'static Algorithm
         ensures { result.now ≡ (key self.now).algorithm };
 }
-
-#[cfg(test)]
-mod tests;

@@ -9,9 +9,6 @@ use aead_ciphers_base::{aes, chacha};
 use std::fmt;
 use std::marker::Model;
 
-#[cfg(test)]
-mod tests;
-
 const SAMPLE_LEN: usize = 16;
 
 /// A header protection algorithm. Two are equal where their ids are.

@@ -4,7 +4,7 @@ use Rattle.aead_ciphers_base.specs.Values.{aad_bytes}
 use Rattle.aead_ciphers.specs.Gcm.{decrypted}
 use Rattle.aead_ciphers.specs.Lending.{count_of}
 use Rattle.aead_ciphers.proofs.FrontLemmas.{Fronts, opened_fronts, opened_plaintext}
-use Rattle.aead_ciphers.proofs.aead.tests.open_and_mark.Goals as goal
+use Rattle.aead_ciphers_tests.proofs.callers.open_and_mark.Goals as goal
 
 -- what is in front of a whole buffer, and that nothing is behind it
 whole : {E : Type 0} (plaintext old new : List ℕ) (answer : Result ℕ E) → IsOk answer → Fronts (length old - 0) old new answer → OnOk answer (take (length old - 0) new ≡ plaintext)

@@ -1,0 +1,244 @@
+//! Keys over a counter and over a sequence that isn't one.
+
+ghost use Rattle.std.specs.Prelude.{◌≡◌, ◌↔◌, IsOk};
+
+use crate::vectors::{CASE_1, CASE_4, Vector, case_at, holds, same};
+use aead_ciphers::aead::{
+    AES_128_GCM, Aad, BoundKey, CounterSequence, LessSafeKey, NONCE_LEN, Nonce, NonceSequence,
+    OpeningKey, SealingKey, Unspecified,
+};
+use arrayvec::ArrayVec;
+use std::alloc::Global;
+use std::process::Abort;
+use std::test::Fail;
+
+/// One nonce, given once.
+#[derive(Drop)]
+struct Once {
+    nonce: [u8; NONCE_LEN],
+    is_spent: bool,
+}
+
+impl NonceSequence for Once {
+    ghost use Rattle.std.specs.Prelude.{if◌then◌else◌, [], ◌∷◌};
+
+    ghost spent = { λ s. (if s.is_spent then s.nonce ∷ [] else []) };
+
+    ghost is_closed = { λ s. s.is_spent };
+
+    ghost origin = { λ s. s.nonce };
+
+    fn advance(&mut self) -> Result<Nonce, Unspecified> {
+        if self.is_spent {
+            return Err(Unspecified);
+        }
+        self.is_spent = true;
+        Ok(Nonce::assume_unique_for_key(self.nonce))
+    }
+}
+
+fn spent_once(case: &Vector) -> Once {
+    Once {
+        nonce: case.nonce,
+        is_spent: false,
+    }
+}
+
+fn sealing_once(case: &Vector) -> Result<SealingKey<Once>, Fail> {
+    Ok(SealingKey::new(case.unbound_key()?, spent_once(case)))
+}
+
+fn opening_once(case: &Vector) -> Result<OpeningKey<Once>, Fail> {
+    Ok(OpeningKey::new(case.unbound_key()?, spent_once(case)))
+}
+
+fn sealing(case: &Vector, count: u64) -> Result<SealingKey<CounterSequence>, Fail> {
+    let sequence = CounterSequence::new([0; 4], 0, count)?;
+    Ok(SealingKey::new(case.unbound_key()?, sequence))
+}
+
+fn opening(case: &Vector, count: u64) -> Result<OpeningKey<CounterSequence>, Fail> {
+    let sequence = CounterSequence::new([0; 4], 0, count)?;
+    Ok(OpeningKey::new(case.unbound_key()?, sequence))
+}
+
+#[test]
+fn debug_texts(rt: HostRuntime) -> Result<(), Fail> {
+    let case = case_at(rt.alloc(), CASE_1)?;
+    let (sealing, opening) = (sealing_once(&case)?, opening_once(&case)?);
+    assert!(rt; *sealing.algorithm() == AES_128_GCM);
+    assert!(rt; *opening.algorithm() == AES_128_GCM);
+    let text = format!(in rt.alloc(); "{sealing:?} {opening:?}")?;
+    assert_eq!(rt;
+        text.as_str(),
+        "SealingKey { algorithm: AES_128_GCM } OpeningKey { algorithm: AES_128_GCM }"
+    );
+    Ok(())
+}
+
+/// A counter of so many numbers from `first` on is made, or not.
+fn counts(rt: &impl Abort, first: u64, count: u64, is_made: bool) {
+    let sequence = CounterSequence::new([0; 4], first, count);
+    holds(rt, sequence.is_ok() == is_made, "a counter's end");
+}
+
+#[test]
+fn a_counter_ends_at_the_last_number(rt: HostRuntime) {
+    counts(&rt, u64::MAX, 1, true);
+    counts(&rt, u64::MAX, 2, false);
+    counts(&rt, u64::MAX, 0, true);
+    counts(&rt, 0, u64::MAX, true);
+    counts(&rt, 1, u64::MAX, true);
+    counts(&rt, 2, u64::MAX, false);
+}
+
+/// The next nonce is this one, or there is none.
+fn gives(rt: &impl Abort, sequence: &mut CounterSequence, wanted: Option<&[u8; NONCE_LEN]>) {
+    match (sequence.advance(), wanted) {
+        (Ok(nonce), Some(wanted)) => same(rt, nonce.as_ref(), wanted, "the nonce"),
+        (Err(Unspecified), None) => {}
+        _ => holds(rt, false, "a nonce or none"),
+    }
+}
+
+#[test]
+fn a_counter_gives_big_endian_numbers(rt: HostRuntime) -> Result<(), Fail> {
+    let mut sequence = CounterSequence::new([1, 2, 3, 4], 0x05060708090a0bff, 2)?;
+    gives(
+        &rt,
+        &mut sequence,
+        Some(&[1, 2, 3, 4, 5, 6, 7, 8, 9, 10, 11, 255]),
+    );
+    gives(
+        &rt,
+        &mut sequence,
+        Some(&[1, 2, 3, 4, 5, 6, 7, 8, 9, 10, 12, 0]),
+    );
+    gives(&rt, &mut sequence, None);
+    gives(&rt, &mut sequence, None);
+    Ok(())
+}
+
+/// Sealing no message gives this tag, or is refused.
+fn seals<N: NonceSequence>(
+    rt: &impl Abort,
+    key: &mut SealingKey<N>,
+    aad: Aad<'_>,
+    wanted: Option<&[u8]>,
+) {
+    match (key.seal_in_place_separate_tag(aad, &mut []), wanted) {
+        (Ok(tag), Some(wanted)) => same(rt, tag.as_ref(), wanted, "the tag"),
+        (Err(Unspecified), None) => {}
+        _ => holds(rt, false, "sealed or refused"),
+    }
+}
+
+#[test]
+fn seals_while_there_are_nonces(rt: HostRuntime) -> Result<(), Fail> {
+    let case = case_at(rt.alloc(), CASE_1)?;
+    let nonce = Nonce::assume_unique_for_key([0, 0, 0, 0, 0, 0, 0, 0, 0, 0, 0, 1]);
+    let key: LessSafeKey = case.key()?;
+    let tag = key.seal_in_place_separate_tag(nonce, Aad::empty(), &mut [])?;
+    let mut sealing = sealing(&case, 2)?;
+    seals(&rt, &mut sealing, Aad::empty(), Some(&case.tag));
+    seals(&rt, &mut sealing, Aad::empty(), Some(tag.as_ref()));
+    seals(&rt, &mut sealing, Aad::empty(), None);
+    seals(&rt, &mut sealing, Aad::empty(), None);
+    Ok(())
+}
+
+#[test]
+fn a_refused_opening_spends_its_nonce(rt: HostRuntime) -> Result<(), Fail> {
+    let case = case_at(rt.alloc(), CASE_1)?;
+    let mut tag = case.tag;
+    let opened = opening(&case, 2)?.open_in_place_len(Aad::empty(), &mut tag);
+    holds(&rt, opened == Ok(0), "no message");
+    let mut opening = opening(&case, 2)?;
+    let mut short = [0; 15];
+    let opened = opening.open_in_place(Aad::empty(), &mut short);
+    holds(&rt, opened.is_err(), "no tag");
+    let opened = opening.open_in_place_len(Aad::empty(), &mut tag);
+    holds(&rt, opened.is_err(), "the second nonce");
+    same(&rt, &tag, &case.tag, "the tag stays");
+    Ok(())
+}
+
+#[test]
+fn no_room_spends_no_nonce(rt: HostRuntime) -> Result<(), Fail> {
+    let case = case_at(rt.alloc(), CASE_1)?;
+    let mut sealing = sealing(&case, 1)?;
+    let mut short = ArrayVec::<u8, 15>::new();
+    let sealed = sealing.seal_in_place_append_tag(Aad::empty(), &mut short);
+    holds(&rt, sealed.is_err() && short.is_empty(), "no room");
+    let mut in_out = Vec::new(rt.alloc());
+    sealing.seal_in_place_append_tag(Aad::empty(), &mut in_out)?;
+    same(&rt, &in_out, &case.tag, "the tag");
+    Ok(())
+}
+
+/// Appending to a message succeeds, or leaves the message.
+fn appends<const CAP: usize>(
+    rt: &impl Abort,
+    key: &mut SealingKey<Once>,
+    case: &Vector,
+    in_out: &mut ArrayVec<u8, CAP>,
+    wanted: Option<&[u8]>,
+) -> Result<(), Fail> {
+    in_out.try_extend_from_slice(&case.message)?;
+    let sealed = key.seal_in_place_append_tag(case.aad(), in_out);
+    holds(rt, sealed.is_ok() == wanted.is_some(), "sealed or refused");
+    same(
+        rt,
+        in_out.as_slice(),
+        wanted.unwrap_or(&case.message),
+        "the buffer",
+    );
+    Ok(())
+}
+
+#[test]
+fn case_4_sealed(rt: HostRuntime) -> Result<(), Fail> {
+    let case = case_at(rt.alloc(), CASE_4)?;
+    let mut key = sealing_once(&case)?;
+    appends(&rt, &mut key, &case, &mut ArrayVec::<u8, 75>::new(), None)?;
+    let sealed = case.sealed(rt.alloc(), &[])?;
+    appends(
+        &rt,
+        &mut key,
+        &case,
+        &mut ArrayVec::<u8, 76>::new(),
+        Some(&sealed),
+    )?;
+    seals(&rt, &mut key, case.aad(), None);
+    Ok(())
+}
+
+fn opens_at_4(rt: &impl Abort, alloc: Global, case: &Vector) -> Result<(), Fail> {
+    let mut key = opening_once(case)?;
+    let mut packet = case.sealed(alloc, &[0; 4])?;
+    let plaintext = key.open_within(case.aad(), &mut packet, 4..)?;
+    same(rt, plaintext, &case.message, "the plaintext");
+    holds(
+        rt,
+        packet.as_slice().starts_with(&case.message),
+        "the plaintext in front",
+    );
+    let mut sealed = case.sealed(alloc, &[])?;
+    let opened = key.open_within(case.aad(), &mut sealed, 0..);
+    holds(rt, opened.is_err(), "the nonce is spent");
+    same(rt, &sealed, &case.sealed(alloc, &[])?, "the buffer stays");
+    let opened = opening_once(case)?.open_within_len(case.aad(), &mut sealed, 0..);
+    holds(rt, opened == Ok(60), "the message's length");
+    holds(
+        rt,
+        sealed.as_slice().starts_with(&case.message),
+        "the message",
+    );
+    Ok(())
+}
+
+#[test]
+fn case_4_opened(rt: HostRuntime) -> Result<(), Fail> {
+    let case = case_at(rt.alloc(), CASE_4)?;
+    opens_at_4(&rt, rt.alloc(), &case)
+}
