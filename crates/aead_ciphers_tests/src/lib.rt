@@ -19,6 +19,8 @@ mod plain;
 #[cfg(test)]
 mod quic;
 #[cfg(test)]
+mod refusals;
+#[cfg(test)]
 mod session;
 #[cfg(test)]
 mod streams;
