@@ -5,9 +5,7 @@ use crate::plain;
 use crate::vectors::{
     CASE_1, CASE_2, CASE_4, CASE_16, CASES, Vector, case_at, holds, key_bytes, read, same,
 };
-use aead_ciphers::aead::{
-    AES_128_GCM, AES_256_GCM, Aad, LessSafeKey, Nonce, Tag, UnboundKey, Unspecified,
-};
+use aead_ciphers::aead::{AES_128_GCM, AES_256_GCM, Aad, LessSafeKey, Nonce, Tag, UnboundKey};
 use aead_ciphers::laws;
 use aead_ciphers_base::aes;
 use arrayvec::ArrayVec;
@@ -232,19 +230,6 @@ fn appends_to_an_array_vec(rt: HostRuntime) -> Result<(), Fail> {
         &mut ArrayVec::<u8, 75>::new(),
         false,
     )
-}
-
-/// Where growing is refused, as when the second allocation fails, the buffer is as it was.
-#[test]
-fn appends_or_leaves_a_vec(rt: HostRuntime) -> Result<(), Fail> {
-    let key = LessSafeKey::new(UnboundKey::new(&AES_128_GCM, &[0; 16])?);
-    let nonce = Nonce::assume_unique_for_key([0; 12]);
-    let mut in_out = [1, 2, 3].to_vec(rt.alloc())?;
-    match key.seal_in_place_append_tag(nonce, Aad::empty(), &mut in_out) {
-        Ok(()) => assert!(rt; in_out.len() == 19),
-        Err(Unspecified) => same(&rt, &in_out, &[1, 2, 3], "what is left"),
-    }
-    Ok(())
 }
 
 #[test]
