@@ -1,7 +1,7 @@
 //! `aes_gcm`: the specification's cases, the work of each call, and every byte of long messages.
 
 use crate::plain;
-use crate::vectors::{CASE_4, CASES, Vector, case_at, holds, key_bytes, read, same};
+use crate::vectors::{CASE_4, CASE_16, CASES, Vector, case_at, holds, key_bytes, read, same};
 use aead_ciphers::aes_gcm::{Key, open, seal};
 use aead_ciphers_base::aes::{self, KeyBytes, Work};
 use aead_ciphers_base::values::{Aad, Nonce, Tag};
@@ -110,7 +110,7 @@ fn work_of_sealing_and_opening(rt: HostRuntime) -> Result<(), Fail> {
     Ok(())
 }
 
-// False tags, and a start past the end.
+// A false tag, and a start past the end.
 #[test]
 fn work_of_a_refused_opening(rt: HostRuntime) -> Result<(), Fail> {
     let case = case_at(rt.alloc(), CASE_4)?;
@@ -125,6 +125,26 @@ fn work_of_a_refused_opening(rt: HostRuntime) -> Result<(), Fail> {
     Ok(())
 }
 
+/// Five blocks and seven products to seal and to open, one block and seven products to refuse a false tag.
+fn work_of_the_case(rt: &impl Abort, case: &Vector) -> Result<(), Fail> {
+    let key = key(case)?;
+    let mut buffer = case.message.clone()?;
+    let (tag, work) = sealed(&key, &case.nonce, &case.aad, &mut buffer)?;
+    worked(rt, &work, 5, 7, "seal");
+    let false_tag = Tag::from(with_last_bit_flipped(case.tag));
+    let (_, work) = opened(&key, &case.nonce, &case.aad, false_tag, &mut buffer, 0);
+    worked(rt, &work, 1, 7, "a false tag");
+    let (_, work) = opened(&key, &case.nonce, &case.aad, tag, &mut buffer, 0);
+    worked(rt, &work, 5, 7, "open");
+    same(rt, &buffer, &case.message, "the message");
+    Ok(())
+}
+
+#[test]
+fn work_of_gcm_spec_case_4(rt: HostRuntime) -> Result<(), Fail> {
+    work_of_the_case(&rt, &case_at(rt.alloc(), CASE_4)?)
+}
+
 /// The bytes 0 to 250, over and over.
 fn counting(alloc: Global, len: usize) -> Result<Vec<u8>, Fail> {
     let mut bytes = Vec::new(alloc);
@@ -134,29 +154,37 @@ fn counting(alloc: Global, len: usize) -> Result<Vec<u8>, Fail> {
     Ok(bytes)
 }
 
-/// Opens a ciphertext behind a start: the message stands in front, and each later byte is as it was.
+/// Opening a ciphertext behind a start refuses a false tag and leaves the buffer; under the right one the message stands
+/// in front, and each later byte is as it was.
 fn opened_behind(
     rt: &impl Abort,
     alloc: Global,
     case: &Vector,
-    tag: Tag,
+    tag: [u8; 16],
     (message, ciphertext): (&[u8], &[u8]),
     start: usize,
 ) -> Result<(), Fail> {
+    let key = key(case)?;
     let mut whole = vec![in alloc; 0x7b; start]?;
     whole.extend_from_slice(ciphertext)?;
     let mut buffer = whole.clone()?;
-    let (is_opened, _) = opened(&key(case)?, &case.nonce, &case.aad, tag, &mut buffer, start);
+    let false_tag = Tag::from(with_last_bit_flipped(tag));
+    let (is_opened, _) = opened(&key, &case.nonce, &case.aad, false_tag, &mut buffer, start);
+    holds(rt, !is_opened, "a false tag");
+    same(rt, &buffer, &whole, "the buffer stays");
+    let tag = Tag::from(tag);
+    let (is_opened, _) = opened(&key, &case.nonce, &case.aad, tag, &mut buffer, start);
     holds(rt, is_opened, "opened");
     let (front, behind) = parts(&buffer, message.len());
     same(rt, front, message, "the message");
-    same(
-        rt,
-        behind,
-        parts(&whole, message.len()).1,
-        "what is behind it",
-    );
+    let (_, later) = parts(&whole, message.len());
+    same(rt, behind, later, "what is behind it");
     Ok(())
+}
+
+fn with_last_bit_flipped(mut tag: [u8; 16]) -> [u8; 16] {
+    tag[15] ^= 1;
+    tag
 }
 
 /// The bytes before a place, and those from it on.
@@ -165,8 +193,7 @@ fn parts(bytes: &[u8], place: usize) -> (&[u8], &[u8]) {
 }
 
 fn every_start(rt: &impl Abort, alloc: Global, case: &Vector, len: usize) -> Result<(), Fail> {
-    let bytes = case.key.as_array::<16>().ok_or("a key's length")?;
-    let aes_key = aes::Key::new(KeyBytes::AES_128(bytes))?;
+    let aes_key = aes::Key::new(key_bytes(&case.key).ok_or("a key's length")?)?;
     let message = counting(alloc, len)?;
     let ciphertext = plain::ciphertext(alloc, &aes_key, &case.nonce, &message)?;
     let expected = plain::tag(&aes_key, &case.nonce, &case.aad, &ciphertext);
@@ -174,8 +201,8 @@ fn every_start(rt: &impl Abort, alloc: Global, case: &Vector, len: usize) -> Res
     let (tag, _) = sealed(&key(case)?, &case.nonce, &case.aad, &mut buffer)?;
     same(rt, &buffer, &ciphertext, "the ciphertext");
     same(rt, tag.as_ref(), &expected, "the tag");
-    for start in [0, 1, 4, 15, 16, 3071, 3072, 3073] {
-        opened_behind(rt, alloc, case, tag, (&message, &ciphertext), start)?;
+    for start in [0, 1, 4, 15, 16, 17, 3071, 3072, 3073] {
+        opened_behind(rt, alloc, case, expected, (&message, &ciphertext), start)?;
     }
     Ok(())
 }
@@ -183,7 +210,18 @@ fn every_start(rt: &impl Abort, alloc: Global, case: &Vector, len: usize) -> Res
 #[test]
 fn every_byte_at_every_start(rt: HostRuntime) -> Result<(), Fail> {
     let case = case_at(rt.alloc(), CASE_4)?;
-    for len in [0, 1, 15, 16, 17, 3071, 3072, 3073, 6144, 6145] {
+    for len in [
+        0, 1, 15, 16, 17, 31, 32, 33, 3071, 3072, 3073, 3088, 6143, 6144, 6145,
+    ] {
+        every_start(&rt, rt.alloc(), &case, len)?;
+    }
+    Ok(())
+}
+
+#[test]
+fn every_byte_at_every_start_under_aes_256(rt: HostRuntime) -> Result<(), Fail> {
+    let case = case_at(rt.alloc(), CASE_16)?;
+    for len in [0, 1, 15, 16, 17, 31, 32, 33] {
         every_start(&rt, rt.alloc(), &case, len)?;
     }
     Ok(())
