@@ -52,10 +52,10 @@ const RUNS: [Run; 12] = [
     },
     Run {
         name: "starts",
-        input: "open 128 <key> <nonce> - 18446744073709551615 ff\n\
+        input: "open 128 <key> <nonce> <aad> 18446744073709551615 ff\n\
                 open 128 <key> <nonce> - 007 00112233445566778899aabbccddee\n\
                 open 128 <key> <nonce> - 00000000000000000000 ff\n\
-                open 128 <key> <nonce> - 18446744073709551616 ff\n\
+                open 128 <key> <nonce> <aad> 18446744073709551616 ff\n\
                 open 128 <key> <nonce> - 000000000000000000000 ff\n\
                 open 128 <key> <nonce> - +1 ff\n\
                 open 128 <key> <nonce> - 0x1 ff\n\
@@ -147,7 +147,7 @@ const RUNS: [Run; 12] = [
     Run {
         name: "refusals are no bad lines",
         input: "seal 128 00 00 - -\n\
-                seal 256 <key> <nonce> - -\n\
+                seal 256 <zeros> <nonce> - -\n\
                 seal 128 <key><key> <nonce> - -\n\
                 seal 128 - <nonce> - -\n\
                 seal 128 <key> - - -\n\

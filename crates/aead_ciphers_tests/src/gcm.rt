@@ -6,7 +6,7 @@ ghost use Rattle.aead_ciphers.specs.Ghash.{IsBlock, ◌•◌, ghash, unit_block
 
 use crate::vectors::{CASE_4, case_at, holds, same};
 use aead_ciphers::gcm::{Context, Key, KeyValue, MAX_IN_OUT_LEN, UpdateBlock, UpdateBlocks, Xi};
-use aead_ciphers_base::aes::{BLOCK_LEN, Work, ZERO_BLOCK};
+use aead_ciphers_base::aes::{self, BLOCK_LEN, EncryptBlock, KeyBytes, Work, ZERO_BLOCK};
 use aead_ciphers_base::error::Unspecified;
 use aead_ciphers_base::polyfill::slice::as_chunks;
 use aead_ciphers_base::values::{Aad, Tag};
@@ -65,6 +65,14 @@ fn gcm_spec_case_2(rt: HostRuntime) {
         0x5e2ec746917062882c85b0685353deb7,
     );
     hashes(&rt, &key, &mut xi, 0x80, 0xf38cbb1ad69223dcc3457ae5b6b0f885);
+}
+
+#[test]
+fn subkey_of_gcm_spec_case_2(rt: HostRuntime) -> Result<(), Fail> {
+    let key = aes::Key::new(KeyBytes::AES_128(&[0; 16]))?;
+    let subkey = key.encrypt_block(ZERO_BLOCK, &mut Work::new());
+    same(&rt, &subkey, &CASE_2_H.to_be_bytes(), "the hash subkey");
+    Ok(())
 }
 
 // Takes in the blocks of 80 bytes in pieces: there is a cut after block i where bit i of `cuts` is one.

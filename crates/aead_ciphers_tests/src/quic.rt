@@ -6,6 +6,8 @@ ghost use Rattle.aead_ciphers_base.specs.Mask.{chacha_mask};
 use crate::callers::same_quic_algorithm;
 use crate::vectors::{MASKS, bytes, holds, same};
 use aead_ciphers::aead::quic::{AES_128, AES_256, Algorithm, CHACHA20, HeaderProtectionKey};
+use aead_ciphers_base::chacha::{self, Overlapping};
+use aead_ciphers_base::values::Nonce;
 use std::alloc::Global;
 use std::process::Abort;
 use std::test::Fail;
@@ -52,6 +54,17 @@ fn masks_of(rt: &impl Abort, alloc: Global) -> Result<(), Fail> {
 #[test]
 fn masks(rt: HostRuntime) -> Result<(), Fail> {
     masks_of(&rt, rt.alloc())
+}
+
+// The first four bytes of a sample are a counter, and the others a nonce (RFC 9001 section 5.4.4).
+#[test]
+fn mask_at_the_last_counter(rt: HostRuntime) -> Result<(), Fail> {
+    let nonce = Nonce::assume_unique_for_key([1, 2, 3, 4, 5, 6, 7, 8, 9, 10, 11, 12]);
+    let sample = [255, 255, 255, 255, 1, 2, 3, 4, 5, 6, 7, 8, 9, 10, 11, 12];
+    let mut bytes = [0; 5];
+    let counter = chacha::Counter::from_nonce_and_ctr(nonce, u32::MAX);
+    chacha::Key::new(KEY).encrypt(counter, Overlapping::from(bytes.as_mut_slice()));
+    gives(&rt, &CHACHA20, &KEY, &sample, &bytes)
 }
 
 /// Keys and samples of a byte more or less are refused.
