@@ -68,7 +68,7 @@ shifted q = same_series go
     go (suc k) = refl
 
 -- the code's next multiple is x times the multiple
-multiple_is : (v : ℕ) → v < 2 ^ 128 → coefficients 128 (next_multiple v) ≡ mul_x 127 (modulus block_taps 128) (coefficients 128 v)
+pub multiple_is : (v : ℕ) → v < 2 ^ 128 → coefficients 128 (next_multiple v) ≡ mul_x 127 (modulus block_taps 128) (coefficients 128 v)
 multiple_is v below =
     let lowest : bit_and v 1 ≡ bit_at v 0 = and_mask v 1 ∙ sym (bit_at_lowest v) in
     let q = bits_high_first 127 (v / 2) in

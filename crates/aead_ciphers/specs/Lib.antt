@@ -3,6 +3,7 @@ pub mod AesGcm
 pub mod Algorithm
 pub mod BoundState
 pub mod CounterSequence
+pub mod Different
 pub mod FreshNonces
 pub mod Gcm
 pub mod Ghash
