@@ -20,6 +20,7 @@ pub fn times_x(a: Planes) -> Planes
 
 /// The S-box (FIPS 197 section 5.1.1) of each of the 64 bytes that the planes hold: byte `p` is the
 /// one whose bit `b` is bit `p` of plane `b`.
+#[inline(always)]
 pub fn sub_planes(planes: &mut [u64; 8])
     ensures { (p : ℕ) → p < 64 → plane_byte planes.new p ≡ sbox (plane_byte planes.old p) }
 {
