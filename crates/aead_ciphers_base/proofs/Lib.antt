@@ -11,7 +11,6 @@ pub mod CounterModeLemmas
 pub mod CounterModeTwice
 pub mod EachLemmas
 pub mod FastProductLemmas
-pub mod InverseLemmas
 pub mod KeyLemmas
 pub mod KeyStreamLemmas
 pub mod LayerLemmas
@@ -21,9 +20,9 @@ pub mod PolynomialAction
 pub mod PolynomialBits
 pub mod PolynomialLaws
 pub mod PolynomialLemmas
-pub mod ProductLemmas
 pub mod ScheduleLemmas
 pub mod ShiftLemmas
+pub mod TowerLemmas
 pub mod Walks
 pub mod WordsLemmas
 pub mod XorLemmas

@@ -13,5 +13,6 @@ pub mod Overlapping
 pub mod Planes
 pub mod Polynomial
 pub mod Shift
+pub mod Tower
 pub mod Values
 pub mod Work

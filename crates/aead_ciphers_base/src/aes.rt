@@ -27,6 +27,7 @@ mod pack;
 mod planes;
 #[cfg(test)]
 mod tests;
+mod tower;
 mod work;
 
 pub use counter::{Counter, Iv};
