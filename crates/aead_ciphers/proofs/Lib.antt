@@ -21,6 +21,7 @@ pub mod KeysLemmas
 pub mod Lending
 pub mod LendingSteps
 pub mod LinearMaps
+pub mod MultiplesLemmas
 pub mod OpenLemmas
 pub mod OpenedLemmas
 pub mod PaddingLemmas

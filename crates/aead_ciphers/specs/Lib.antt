@@ -11,6 +11,7 @@ pub mod HashOf
 pub mod HeaderProtection
 pub mod Laws
 pub mod Lending
+pub mod Multiples
 pub mod NonceSequence
 pub mod Program
 pub mod Runs
