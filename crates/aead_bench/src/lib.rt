@@ -71,9 +71,9 @@ fn sum_of_aes_key(key: &aes::Key) -> u64 {
     first_bytes_of_block(first)
 }
 
-/// The tag of the empty message, to tell keys of AES-GCM apart.
+/// The tag of the nonce as AAD, to tell keys of AES-GCM apart.
 fn sum_of_less_safe_key(key: &LessSafeKey) -> u64 {
-    match key.seal_in_place_separate_tag(nonce(), Aad::empty(), &mut []) {
+    match key.seal_in_place_separate_tag(nonce(), Aad::from(&NONCE[..]), &mut []) {
         Ok(tag) => first_bytes(tag.as_ref()),
         Err(_) => 0,
     }
@@ -132,7 +132,7 @@ pub extern "C" fn bench_seal(times: u64, key: &[u8], buffer: &mut [u8]) -> u64 {
     last
 }
 
-/// Opens the buffer in place over and over, and answers how often it was accepted.
+/// Opens the buffer in place over and over, and adds to the answer how often it was accepted.
 ///
 /// Opening changes the buffer to the plaintext. That is the ciphertext of what stood there before, so two tags
 /// take turns.
@@ -147,13 +147,13 @@ pub extern "C" fn bench_open(times: u64, key: &[u8], buffer: &mut [u8]) -> u64 {
     let Ok(even) = key.seal_in_place_separate_tag(nonce(), Aad::empty(), buffer) else {
         return 0;
     };
-    let mut accepted = 0u64;
+    let mut answer = first_bytes(even.as_ref());
     for turn in 0..times {
         let tag = if turn % 2 == 0 { even } else { odd };
         let opened = key.open_in_place_separate_tag(nonce(), Aad::empty(), tag, buffer, 0..);
-        accepted = accepted.wrapping_add(u64::from(opened.is_ok()));
+        answer = answer.wrapping_add(u64::from(opened.is_ok()));
     }
-    accepted
+    answer
 }
 
 /// Makes an AES key over and over, of the bytes of the buffer.
@@ -184,10 +184,10 @@ pub extern "C" fn bench_less_safe_key(times: u64, key: &[u8], buffer: &mut [u8])
     sum_of_less_safe_key(&last)
 }
 
-/// Clones a key of AES-GCM over and over, each time the clone made last.
+/// Clones a key of AES-GCM over and over, each time the clone made last: at first over the key of the buffer.
 #[unsafe(no_mangle)]
-pub extern "C" fn bench_clone(times: u64, key: &[u8], _buffer: &mut [u8]) -> u64 {
-    let (Ok(even), Ok(odd)) = (less_safe_key(key), less_safe_key(key)) else {
+pub extern "C" fn bench_clone(times: u64, key: &[u8], buffer: &mut [u8]) -> u64 {
+    let (Ok(even), Ok(odd)) = (less_safe_key(key), less_safe_key(buffer)) else {
         return 0;
     };
     let mut keys = [even, odd];
@@ -197,7 +197,7 @@ pub extern "C" fn bench_clone(times: u64, key: &[u8], _buffer: &mut [u8]) -> u64
             keys[1 - from] = clone;
         }
     }
-    sum_of_less_safe_key(&keys[0])
+    sum_of_less_safe_key(&keys[1])
 }
 
 /// Encrypts the buffer in place by ChaCha20 over and over.
