@@ -130,7 +130,6 @@ impl<'o, T> Overlapping<'o, T> {
     fn first_chunk_mapped<C: Chunk<T>, F: FnOnce(&C) -> C>(self, f: F) -> FirstMapped<'o, T>
     where
         T: Drop,
-        F: Drop,
         requires { C.chunk_len ≤ length self.in_out.now - self.start
             → TakesChunk C.chunk_items F.FnOnce C.chunk_len f (drop self.start self.in_out.now) }
         ensures same_reference { result.in_out.ghost_name ≡ self.entry.in_out.ghost_name }
@@ -163,7 +162,6 @@ impl<'o, T> Overlapping<'o, T> {
     ) -> Result<Self, IndexError>
     where
         T: Drop,
-        F: Drop,
         requires { C.chunk_len ≤ length self.in_out.now - self.start
             → TakesChunk C.chunk_items F.FnOnce C.chunk_len f (drop self.start self.in_out.now) }
         ensures* writes_back { sem 𝓛 (LendsRest T.row C.chunk_items F.FnOnce C.chunk_len f self.entry result) }
