@@ -23,7 +23,8 @@ const ALL_ANSWERED: u8 = 0;
 /// The exit status where a line was none.
 const BAD_LINE: u8 = 1;
 
-/// The exit status where reading or writing failed, or memory was refused.
+/// The exit status where reading or writing failed, or memory was refused. Memory for the tag of `next-seal` is no part of
+/// this: where it is refused, the answer is `refused`.
 pub const FAULT: u8 = 2;
 
 /// Why the program stops before its input ends.

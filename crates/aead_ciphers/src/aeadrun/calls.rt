@@ -116,7 +116,8 @@ impl Keys {
         })
     }
 
-    /// Encrypts a message with the next nonce, and gives the ciphertext and its tag.
+    /// Encrypts a message with the next nonce, and gives the ciphertext and its tag. Where the message can't grow by the
+    /// tag, it is refused and no nonce is spent.
     pub(super) fn next_seal(
         &mut self,
         aad: Vec<u8>,
