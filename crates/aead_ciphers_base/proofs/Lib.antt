@@ -14,6 +14,7 @@ pub mod FastProductLemmas
 pub mod InverseLemmas
 pub mod KeyLemmas
 pub mod KeyStreamLemmas
+pub mod LaneLemmas
 pub mod LayerLemmas
 pub mod PackLemmas
 pub mod PlaneLemmas
@@ -22,6 +23,7 @@ pub mod PolynomialBits
 pub mod PolynomialLaws
 pub mod PolynomialLemmas
 pub mod ProductLemmas
+pub mod RoundLemmas
 pub mod ScheduleLemmas
 pub mod ShiftLemmas
 pub mod Walks
