@@ -13,6 +13,7 @@ pub mod EachLemmas
 pub mod FastProductLemmas
 pub mod KeyLemmas
 pub mod KeyStreamLemmas
+pub mod LaneLemmas
 pub mod LayerLemmas
 pub mod PackLemmas
 pub mod PlaneLemmas
@@ -20,6 +21,7 @@ pub mod PolynomialAction
 pub mod PolynomialBits
 pub mod PolynomialLaws
 pub mod PolynomialLemmas
+pub mod RoundLemmas
 pub mod ScheduleLemmas
 pub mod ShiftLemmas
 pub mod TowerLemmas

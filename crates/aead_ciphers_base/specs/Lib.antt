@@ -8,6 +8,7 @@ pub mod ChunksMut
 pub mod CounterMode
 pub mod KeyBytes
 pub mod KeySchedule
+pub mod Lanes
 pub mod Mask
 pub mod Overlapping
 pub mod Planes
