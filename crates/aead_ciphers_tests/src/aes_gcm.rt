@@ -1,41 +1,43 @@
-//! `aes_gcm`: the specification's cases, the work of each call, and every byte of long messages.
+//! `aes_gcm`: the work of each call, and every byte of long messages.
 
-use crate::plain;
-use crate::vectors::{CASE_4, CASES, Vector, case_at, holds, key_bytes, read, same};
+use crate::cases::key_bytes;
+use crate::checks::{holds, same};
+use crate::reference;
 use aead_ciphers::aes_gcm::{Key, open, seal};
 use aead_ciphers_base::aes::{self, KeyBytes, Work};
 use aead_ciphers_base::values::{Aad, Nonce, Tag};
+use aead_vectors::gcm_spec::CASE_4;
 use std::alloc::Global;
 use std::process::Abort;
 use std::test::Fail;
 
-/// The key of a case.
-fn key(case: &Vector) -> Result<Key, Fail> {
-    let bytes = key_bytes(&case.key).ok_or("a key's length")?;
-    Ok(Key::new(bytes, &mut Work::new())?)
+/// The key of test case 4.
+fn key() -> Result<Key, Fail> {
+    Ok(Key::new(key_bytes(&CASE_4)?, &mut Work::new())?)
 }
 
-/// Seals, and answers the tag and the work.
-fn sealed(key: &Key, nonce: &[u8; 12], aad: &[u8], buffer: &mut [u8]) -> Result<(Tag, Work), Fail> {
+/// Seals under the key and the nonce of test case 4, and answers the tag and the work.
+fn sealed(aad: &[u8], buffer: &mut [u8]) -> Result<(Tag, Work), Fail> {
     let mut work = Work::new();
-    let nonce = Nonce::assume_unique_for_key(*nonce);
-    let tag = seal(key, nonce, Aad::from(aad), buffer, &mut work)?;
+    let nonce = Nonce::assume_unique_for_key(CASE_4.nonce);
+    let tag = seal(&key()?, nonce, Aad::from(aad), buffer, &mut work)?;
     Ok((tag, work))
 }
 
-/// Opens from a start on, and answers whether that succeeded, and the work.
-fn opened(
-    key: &Key,
-    nonce: &[u8; 12],
-    aad: &[u8],
-    tag: Tag,
-    buffer: &mut [u8],
-    start: usize,
-) -> (bool, Work) {
+/// Opens from a start on under the same, and answers whether that succeeded, and the work.
+fn opened(aad: &[u8], tag: Tag, buffer: &mut [u8], start: usize) -> Result<(bool, Work), Fail> {
     let mut work = Work::new();
-    let nonce = Nonce::assume_unique_for_key(*nonce);
-    let opened = open(key, nonce, Aad::from(aad), tag, buffer, start.., &mut work);
-    (opened.is_ok(), work)
+    let nonce = Nonce::assume_unique_for_key(CASE_4.nonce);
+    let opened = open(
+        &key()?,
+        nonce,
+        Aad::from(aad),
+        tag,
+        buffer,
+        start..,
+        &mut work,
+    );
+    Ok((opened.is_ok(), work))
 }
 
 /// The tallies are these.
@@ -47,26 +49,6 @@ fn worked(rt: &impl Abort, work: &Work, blocks: u64, products: u64, what: &str) 
     );
 }
 
-fn case_is_sealed_and_opened(rt: &impl Abort, case: &Vector) -> Result<(), Fail> {
-    let key = key(case)?;
-    let mut buffer = case.message.clone()?;
-    let (tag, _) = sealed(&key, &case.nonce, &case.aad, &mut buffer)?;
-    same(rt, &buffer, &case.ciphertext, case.name);
-    same(rt, tag.as_ref(), &case.tag, case.name);
-    let (is_opened, _) = opened(&key, &case.nonce, &case.aad, tag, &mut buffer, 0);
-    holds(rt, is_opened, case.name);
-    same(rt, &buffer, &case.message, case.name);
-    Ok(())
-}
-
-#[test]
-fn gcm_spec_cases(rt: HostRuntime) -> Result<(), Fail> {
-    for case in &CASES {
-        case_is_sealed_and_opened(&rt, &read(rt.alloc(), case)?)?;
-    }
-    Ok(())
-}
-
 #[test]
 fn work_of_a_key(rt: HostRuntime) {
     let mut work = Work::new();
@@ -75,27 +57,25 @@ fn work_of_a_key(rt: HostRuntime) {
     worked(&rt, &work, 1, 0, "a key");
 }
 
+/// Sealing and opening so long a message and AAD takes so many cipher blocks and products.
 fn work_at(
     rt: &impl Abort,
     alloc: Global,
-    case: &Vector,
-    lens: (usize, usize),
-    tallies: (u64, u64),
+    (len, aad_len): (usize, usize),
+    (blocks, products): (u64, u64),
 ) -> Result<(), Fail> {
-    let key = key(case)?;
-    let aad = vec![in alloc; 0; lens.1]?;
-    let mut buffer = vec![in alloc; 0; lens.0]?;
-    let (tag, work) = sealed(&key, &case.nonce, &aad, &mut buffer)?;
-    worked(rt, &work, tallies.0, tallies.1, "seal");
-    let (is_opened, work) = opened(&key, &case.nonce, &aad, tag, &mut buffer, 0);
+    let aad = vec![in alloc; 0; aad_len]?;
+    let mut buffer = vec![in alloc; 0; len]?;
+    let (tag, work) = sealed(&aad, &mut buffer)?;
+    worked(rt, &work, blocks, products, "seal");
+    let (is_opened, work) = opened(&aad, tag, &mut buffer, 0)?;
     holds(rt, is_opened, "opened");
-    worked(rt, &work, tallies.0, tallies.1, "open");
+    worked(rt, &work, blocks, products, "open");
     Ok(())
 }
 
 #[test]
 fn work_of_sealing_and_opening(rt: HostRuntime) -> Result<(), Fail> {
-    let case = case_at(rt.alloc(), CASE_4)?;
     for (lens, tallies) in [
         ((0, 0), (1, 1)),
         ((1, 1), (2, 3)),
@@ -105,7 +85,7 @@ fn work_of_sealing_and_opening(rt: HostRuntime) -> Result<(), Fail> {
         ((60, 20), (5, 7)),
         ((3073, 20), (194, 196)),
     ] {
-        work_at(&rt, rt.alloc(), &case, lens, tallies)?;
+        work_at(&rt, rt.alloc(), lens, tallies)?;
     }
     Ok(())
 }
@@ -113,12 +93,10 @@ fn work_of_sealing_and_opening(rt: HostRuntime) -> Result<(), Fail> {
 // False tags, and a start past the end.
 #[test]
 fn work_of_a_refused_opening(rt: HostRuntime) -> Result<(), Fail> {
-    let case = case_at(rt.alloc(), CASE_4)?;
-    let key = key(&case)?;
     for (len, start, blocks, products) in [(3073, 0, 1, 196), (64, 4, 1, 7), (4, 5, 0, 0)] {
         let mut buffer = vec![in rt.alloc(); 0; len]?;
         let zeros = Tag::from([0; 16]);
-        let (is_opened, work) = opened(&key, &case.nonce, &case.aad, zeros, &mut buffer, start);
+        let (is_opened, work) = opened(CASE_4.aad, zeros, &mut buffer, start)?;
         holds(&rt, !is_opened, "a refusal");
         worked(&rt, &work, blocks, products, "a refusal");
     }
@@ -138,7 +116,6 @@ fn counting(alloc: Global, len: usize) -> Result<Vec<u8>, Fail> {
 fn opened_behind(
     rt: &impl Abort,
     alloc: Global,
-    case: &Vector,
     tag: Tag,
     (message, ciphertext): (&[u8], &[u8]),
     start: usize,
@@ -146,16 +123,12 @@ fn opened_behind(
     let mut whole = vec![in alloc; 0x7b; start]?;
     whole.extend_from_slice(ciphertext)?;
     let mut buffer = whole.clone()?;
-    let (is_opened, _) = opened(&key(case)?, &case.nonce, &case.aad, tag, &mut buffer, start);
+    let (is_opened, _) = opened(CASE_4.aad, tag, &mut buffer, start)?;
     holds(rt, is_opened, "opened");
     let (front, behind) = parts(&buffer, message.len());
     same(rt, front, message, "the message");
-    same(
-        rt,
-        behind,
-        parts(&whole, message.len()).1,
-        "what is behind it",
-    );
+    let (_, behind_before) = parts(&whole, message.len());
+    same(rt, behind, behind_before, "what is behind it");
     Ok(())
 }
 
@@ -164,27 +137,26 @@ fn parts(bytes: &[u8], place: usize) -> (&[u8], &[u8]) {
     bytes.split_at(place.min(bytes.len()))
 }
 
-fn every_start(rt: &impl Abort, alloc: Global, case: &Vector, len: usize) -> Result<(), Fail> {
-    let bytes = case.key.as_array::<16>().ok_or("a key's length")?;
-    let aes_key = aes::Key::new(KeyBytes::AES_128(bytes))?;
+/// Seals a message, and opens it at each of eight starts.
+fn every_start(rt: &impl Abort, alloc: Global, key: &aes::Key, len: usize) -> Result<(), Fail> {
     let message = counting(alloc, len)?;
-    let ciphertext = plain::ciphertext(alloc, &aes_key, &case.nonce, &message)?;
-    let expected = plain::tag(&aes_key, &case.nonce, &case.aad, &ciphertext);
+    let ciphertext = reference::ciphertext(alloc, key, &CASE_4.nonce, &message)?;
+    let expected = reference::tag(key, &CASE_4.nonce, CASE_4.aad, &ciphertext);
     let mut buffer = message.clone()?;
-    let (tag, _) = sealed(&key(case)?, &case.nonce, &case.aad, &mut buffer)?;
+    let (tag, _) = sealed(CASE_4.aad, &mut buffer)?;
     same(rt, &buffer, &ciphertext, "the ciphertext");
     same(rt, tag.as_ref(), &expected, "the tag");
     for start in [0, 1, 4, 15, 16, 3071, 3072, 3073] {
-        opened_behind(rt, alloc, case, tag, (&message, &ciphertext), start)?;
+        opened_behind(rt, alloc, tag, (&message, &ciphertext), start)?;
     }
     Ok(())
 }
 
 #[test]
 fn every_byte_at_every_start(rt: HostRuntime) -> Result<(), Fail> {
-    let case = case_at(rt.alloc(), CASE_4)?;
+    let key = aes::Key::new(key_bytes(&CASE_4)?)?;
     for len in [0, 1, 15, 16, 17, 3071, 3072, 3073, 6144, 6145] {
-        every_start(&rt, rt.alloc(), &case, len)?;
+        every_start(&rt, rt.alloc(), &key, len)?;
     }
     Ok(())
 }
