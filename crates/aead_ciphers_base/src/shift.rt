@@ -27,6 +27,3 @@ pub fn shift_full_blocks<C: Chunk<u8>, F: FnMut(&C) -> C>(
         output.put(place);
     }
 }
-
-#[cfg(test)]
-mod tests;

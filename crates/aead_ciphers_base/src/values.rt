@@ -6,9 +6,6 @@ use crate::error::Unspecified;
 use std::fmt;
 use std::marker::Model;
 
-#[cfg(test)]
-mod tests;
-
 /// The length of a nonce, in bytes.
 pub const NONCE_LEN: usize = 12;
 

@@ -1,4 +1,4 @@
-//! What the generic bodies ask of a cipher and a hash.
+//! The test cases of the GCM specification, and what the generic bodies ask of a cipher and a hash.
 
 mod counting;
 
@@ -9,13 +9,50 @@ ghost use Rattle.aead_ciphers_base.specs.Bytes.{zero_block};
 use self::counting::{CountingCipher, CountingHash};
 use super::opening::open_with;
 use super::sealing::seal_with;
+use super::{Key, open, seal};
 use crate::gcm;
 use aead_ciphers_base::aes::{self, EncryptBlock, KeyBytes, Work, ZERO_BLOCK};
 use aead_ciphers_base::values::{Aad, Nonce, Tag};
+use aead_vectors::gcm_spec::{CASES, Case};
 use std::alloc::Global;
 use std::cell::Cell;
 use std::process::Abort;
 use std::test::Fail;
+
+/// The key of a case.
+fn key(case: &Case) -> Result<Key, Fail> {
+    let bytes = match case.key.as_array::<16>() {
+        Some(key) => KeyBytes::AES_128(key),
+        None => KeyBytes::AES_256(case.key.as_array::<32>().ok_or("a key's length")?),
+    };
+    Ok(Key::new(bytes, &mut Work::new())?)
+}
+
+/// A case is sealed to its ciphertext and tag, and opened to its message.
+fn seals_and_opens(rt: &impl Abort, alloc: Global, case: &Case) -> Result<(), Fail> {
+    let key = key(case)?;
+    let nonce = || Nonce::assume_unique_for_key(case.nonce);
+    let aad = Aad::from(case.aad);
+    let mut buffer = case.message.to_vec(alloc)?;
+    let tag = seal(&key, nonce(), aad, &mut buffer, &mut Work::new())?;
+    assert_eq!(rt;
+        (&*buffer, tag.as_ref()),
+        (case.ciphertext, case.tag.as_slice()),
+        "{}",
+        case.name
+    );
+    open(&key, nonce(), aad, tag, &mut buffer, 0.., &mut Work::new())?;
+    assert_eq!(rt; &*buffer, case.message, "{}", case.name);
+    Ok(())
+}
+
+#[test]
+fn gcm_spec_cases(rt: HostRuntime) -> Result<(), Fail> {
+    for case in &CASES {
+        seals_and_opens(&rt, rt.alloc(), case)?;
+    }
+    Ok(())
+}
 
 /// The tallies, and what a cipher and a hash were asked for, are these. What was asked for is zero again.
 fn worked(

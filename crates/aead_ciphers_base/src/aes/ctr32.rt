@@ -8,9 +8,6 @@ ghost use Rattle.aead_ciphers_base.specs.Work.{Adds, Room};
 use crate::aes::{BLOCK_LEN, Counter, Key, Work};
 use crate::bb;
 
-#[cfg(test)]
-mod tests;
-
 /// The length of a batch, in bytes: the blocks that one pass of the cipher encrypts.
 const BATCH_LEN: usize = 4 * BLOCK_LEN;
 
