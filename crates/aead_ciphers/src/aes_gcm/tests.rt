@@ -74,6 +74,40 @@ fn nonce() -> Nonce {
     Nonce::assume_unique_for_key([7; 12])
 }
 
+fn seals(
+    rt: &impl Abort,
+    cipher: &CountingCipher<'_>,
+    hash: &CountingHash<'_>,
+    aad: Aad<'_>,
+    buffer: &mut [u8],
+    tallies: (u64, u64),
+) -> Result<Tag, Fail>
+    requires { hash.now.key.now ≡ aes_cipher cipher.now.key.now zero_block }
+{
+    let mut work = Work::new();
+    let tag = seal_with(cipher, hash, nonce(), aad, buffer, &mut work)?;
+    worked(rt, &work, cipher.blocks, hash.products, tallies);
+    Ok(tag)
+}
+
+fn opens(
+    rt: &impl Abort,
+    cipher: &CountingCipher<'_>,
+    hash: &CountingHash<'_>,
+    aad: Aad<'_>,
+    tag: Tag,
+    buffer: &mut [u8],
+    tallies: (u64, u64),
+) -> bool
+    requires { hash.now.key.now ≡ aes_cipher cipher.now.key.now zero_block }
+{
+    let mut work = Work::new();
+    let opened = open_with(cipher, hash, nonce(), aad, tag, buffer, 0.., &mut work);
+    worked(rt, &work, cipher.blocks, hash.products, tallies);
+    opened.is_ok()
+}
+
+/// Seals, opens with a false tag, and opens, at a message and an AAD of these lengths.
 fn work_at(
     rt: &impl Abort,
     alloc: Global,
@@ -84,50 +118,25 @@ fn work_at(
 ) -> Result<(), Fail>
     requires { hash_key.now ≡ aes_cipher key.now zero_block }
 {
-    let (n, a) = lens;
-    let (_, products) = tallies;
-    let (asked_blocks, asked_products) = (Cell::new(0), Cell::new(0));
+    let (blocks, products) = (Cell::new(0), Cell::new(0));
     let cipher = CountingCipher {
         key,
-        blocks: &asked_blocks,
+        blocks: &blocks,
     };
     let hash = CountingHash {
         key: hash_key,
-        products: &asked_products,
+        products: &products,
     };
-    let bytes = vec![in alloc; 0; a]?;
+    let (len, aad_len) = lens;
+    let bytes = vec![in alloc; 0; aad_len]?;
     let aad = Aad::from(bytes.as_slice());
-    let mut buffer = vec![in alloc; 0; n]?;
-    let mut work = Work::new();
-    let tag = seal_with(&cipher, &hash, nonce(), aad, &mut buffer, &mut work)?;
-    worked(rt, &work, &asked_blocks, &asked_products, tallies);
-    let mut work = Work::new();
+    let mut buffer = vec![in alloc; 0; len]?;
+    let tag = seals(rt, &cipher, &hash, aad, &mut buffer, tallies)?;
     let zeros = Tag::from([0; 16]);
-    let opened = open_with(
-        &cipher,
-        &hash,
-        nonce(),
-        aad,
-        zeros,
-        &mut buffer,
-        0..,
-        &mut work,
-    );
-    assert!(rt; opened.is_err(), "a false tag");
-    worked(rt, &work, &asked_blocks, &asked_products, (1, products));
-    let mut work = Work::new();
-    let opened = open_with(
-        &cipher,
-        &hash,
-        nonce(),
-        aad,
-        tag,
-        &mut buffer,
-        0..,
-        &mut work,
-    );
-    assert!(rt; opened.is_ok(), "the tag");
-    worked(rt, &work, &asked_blocks, &asked_products, tallies);
+    let is_opened = opens(rt, &cipher, &hash, aad, zeros, &mut buffer, (1, tallies.1));
+    assert!(rt; !is_opened, "a false tag");
+    let is_opened = opens(rt, &cipher, &hash, aad, tag, &mut buffer, tallies);
+    assert!(rt; is_opened, "the tag");
     Ok(())
 }
 
