@@ -1,7 +1,7 @@
-/* The speed of the library's calls beside plain C of the same algorithms: AES bit-sliced over four
- * blocks in eight 64-bit planes, with the inverse of the S-box as x^254 by four products on planes;
- * GHASH by 128 one-bit shifts under masks, on two 64-bit words; ChaCha20 one block at a time. Both
- * sides run the same loop. What they answer and what they leave in the buffer is compared first.
+/* The speed of the library's calls beside plain C: AES bit-sliced over four blocks in eight 64-bit
+ * planes, with the inverse of the S-box as x^254 by four products on planes; GHASH by 128 one-bit
+ * shifts under masks, on two 64-bit words; ChaCha20 one block at a time. Both sides run the same
+ * loop. What they answer and what they leave in the buffer is compared first.
  *
  * Use: bench [SECONDS [WORD..]]   seconds for each row; the rows that have one of the words in their
  *                                 name; `bench/run` builds and runs it
