@@ -1,6 +1,6 @@
 //! The block function on four states side by side in vectors (RFC 8439 section 2.3).
 
-ghost use Rattle.std.specs.Prelude.{◌≡◌, ◌<◌, ℕ, ◌*◌, List, drop, take, slice_index, slice_set};
+ghost use Rattle.std.specs.Prelude.{◌≡◌, ◌<◌, ℕ, ◌+◌, ◌*◌, ◌^◌, List, drop, take, slice_index, slice_set};
 ghost use Rattle.std.specs.Simd.Lanes.{zip2};
 ghost use Rattle.aead_ciphers_base.specs.ChaCha20.{add32, xor_rotate, quarter_round, quarter_round_at, double_round, le_bytes, state_block};
 ghost use Rattle.aead_ciphers_base.specs.Lanes.{lane};
@@ -116,8 +116,9 @@ fn four_le_bytes(states: &States) -> [u8; BATCH_LEN]
 
 /// Four copies of a state, with the block counters (word 12) from its own on.
 pub(super) fn four_states(state: &State) -> States
+    requires { slice_index state.now 12 + 3 < 2 ^ 32 }
     ensures { (j : ℕ) → j < 4
-        → lane j result ≡ slice_set state.now 12 (add32 (slice_index state.now 12) j) }
+        → lane j result ≡ slice_set state.now 12 (slice_index state.now 12 + j) }
 {
     let mut states = [u32x4::splat(0); 16];
     for k in 0..16 {

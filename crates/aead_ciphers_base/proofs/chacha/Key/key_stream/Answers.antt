@@ -1,10 +1,23 @@
 use Rattle.std.proofs.Common.{◌≡◌, ◌<◌, ◌≤◌, ℕ, ◌+◌, ◌*◌, List, ◌++◌, length, length-append, length-take, length-drop, take, slice_index, slice_set, rules, refl, ap, ap₂, sym, ◌∙◌, arith}
 use Rattle.std.proofs.lemmas.List.{get_or-set_same, take-take}
 use Rattle.std.proofs.lemmas.Slice.{take-put_mid}
-use Rattle.aead_ciphers_base.specs.ChaCha20.{add32, chacha20_block, key_stream, state_block}
+use Rattle.aead_ciphers_base.specs.ChaCha20.{chacha20_block, key_stream, state_block}
 use Rattle.aead_ciphers_base.specs.Lanes.{lane}
 use Rattle.aead_ciphers_base.proofs.KeyStreamLemmas.{block-key_stream, blocks-key_stream, key_stream-add, take-key_stream}
 use Rattle.aead_ciphers_base.proofs.chacha.Key.key_stream.Goals as goal
+
+-- word 12 of the initial state
+first_word : (state first_state : List ℕ) (first : ℕ) → length state ≡ 16 → slice_set state 12 first ≡ first_state → state ≡ first_state
+    → slice_index state 12 ≡ first
+first_word state first_state first size numbered e =
+    sym (ap (λ (s : List ℕ). slice_index s 12) (numbered ∙ sym e)) ∙ get_or-set_same state 12 first 0 (omega arith)
+
+pub four_states-requires : goal.four_states-requires
+four_states-requires c =
+    let first : ℕ = c.args.counter.now.number + c.args.j in
+    let word : slice_index c.initial_state.result 12 ≡ first =
+    first_word c.initial_state.result _ first (search rules) (c.initial_state.ensures.counter_in_word_12 first) c.initial_state.ensures.state in
+    omega (arith, word, c.div_ceil-blocks.ensures)
 
 pub returns-then-blocks-eq4 : goal.returns-then-blocks-eq4
 unfolding chacha20_block
@@ -14,11 +27,9 @@ returns-then-blocks-eq4 c =
     let nonce : List ℕ = c.args.counter.now.nonce in
     let state : List ℕ = c.initial_state.result in
     let numbered = c.initial_state.ensures.counter_in_word_12 in
-    let word : slice_index state 12 ≡ first =
-    sym (ap (λ (s : List ℕ). slice_index s 12) (numbered first ∙ sym c.initial_state.ensures.state)) ∙ get_or-set_same state 12 first 0 (omega arith) in
-    let number : (i : ℕ) → i < 4 → add32 (slice_index state 12) i ≡ first + i = λ i h. omega (arith, c.div_ceil-blocks.ensures) in
+    let word : slice_index state 12 ≡ first = first_word state _ first (search rules) (numbered first) c.initial_state.ensures.state in
     let block : (i : ℕ) → i < 4 → state_block (lane i c.four_states.result) ≡ chacha20_block key (first + i) nonce = λ i h.
-    ap state_block (c.four_states.ensures i h ∙ ap (slice_set state 12) (number i h) ∙ numbered (first + i)) in
+    ap state_block (c.four_states.ensures i h ∙ ap (λ (n : ℕ). slice_set state 12 (n + i)) word ∙ numbered (first + i)) in
     ap (take c.args.n) (blocks-key_stream key first nonce c.state_blocks.result 4 (search rules) (λ i h. c.state_blocks.ensures i h ∙ block i h))
     ∙ take-key_stream key first nonce 256 c.args.n c.requires.in_batch
 

@@ -1,4 +1,4 @@
-use Rattle.std.proofs.Common.{◌≡◌, ℕ, List, [], ◌∷◌, length-set, slice_index, slice_set, refl, ap₂, sym, ◌∙◌, arith}
+use Rattle.std.proofs.Common.{◌≡◌, ℕ, ◌+◌, List, [], ◌∷◌, length-set, slice_index, slice_set, refl, ap₂, sym, ◌∙◌, arith}
 use Rattle.std.proofs.lemmas.List.{get_or-replicate}
 use Rattle.aead_ciphers_base.specs.ChaCha20.{add32}
 use Rattle.aead_ciphers_base.specs.Lanes.{lane}
@@ -24,5 +24,6 @@ returns c j h =
     (omega (arith, length-lane j c.loop-k.states, c.loop-k.invariant.size)) (omega arith) (c.loop-k.invariant.copied j h) in
     let count : slice_index (0 ∷ 1 ∷ 2 ∷ 3 ∷ []) j ≡ j = below_four (λ i. slice_index (0 ∷ 1 ∷ 2 ∷ 3 ∷ []) i ≡ i) refl refl refl refl j h in
     let counter = sym (slice_index-lane j 12 c.loop-k.states [] (omega (arith, c.loop-k.invariant.size))) in
+    let sum : add32 (slice_index c.args.state.now 12) j ≡ slice_index c.args.state.now 12 + j = omega (arith, c.requires) in
     lane-set j 12 c.loop-k.states c.add.result
-    ∙ ap₂ (λ (xs : List ℕ) (x : ℕ). slice_set xs 12 x) copy (c.add.ensures j h ∙ ap₂ add32 (rw copy at counter) count)
+    ∙ ap₂ (λ (xs : List ℕ) (x : ℕ). slice_set xs 12 x) copy (c.add.ensures j h ∙ ap₂ add32 (rw copy at counter) count ∙ sum)
