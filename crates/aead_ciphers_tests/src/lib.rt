@@ -15,6 +15,8 @@ mod callers;
 #[cfg(test)]
 mod gcm;
 #[cfg(test)]
+mod laws;
+#[cfg(test)]
 mod plain;
 #[cfg(test)]
 mod quic;
