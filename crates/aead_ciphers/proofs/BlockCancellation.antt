@@ -4,13 +4,16 @@ use Rattle.std.specs.Int.Bits.{xor_self as number_self}
 use Rattle.aead_ciphers_base.specs.Bytes.{◌⊕◌, zero_block}
 use Rattle.aead_ciphers_base.proofs.XorLemmas.{xor-xor}
 use Rattle.aead_ciphers.specs.Different.{HasInverse}
-use Rattle.aead_ciphers.specs.Ghash.{IsBlock, ◌•◌}
+use Rattle.aead_ciphers.specs.Ghash.{IsBlock, ◌•◌, unit_block}
 use Rattle.aead_ciphers.proofs.GhashBlocks.{IsBlock-number}
 use Rattle.aead_ciphers.proofs.GhashLaws.{Sized, Sized-product, product_assoc, product_comm, product_unit, product_xor_right}
 use Rattle.aead_ciphers.proofs.XorLaws.{xor_comm}
 
 pub IsBlock-zero : IsBlock zero_block
 IsBlock-zero = IsBlock-number 0
+
+pub IsBlock-unit : IsBlock unit_block
+IsBlock-unit = IsBlock-number 0x80000000000000000000000000000000
 
 zeros_of_xor : (n : ℕ) (a : List ℕ) → length a ≡ n → a ⊕ a ≡ replicate n 0
 zeros_of_xor zero [] e = refl

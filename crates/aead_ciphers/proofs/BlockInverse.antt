@@ -8,7 +8,7 @@ use Rattle.aead_ciphers_base.proofs.PolynomialBits.{Series, add, add_none, none,
 use Rattle.aead_ciphers_base.proofs.PolynomialLaws.{modulus, one, same_coefficients}
 use Rattle.aead_ciphers.specs.Different.{HasInverse}
 use Rattle.aead_ciphers.specs.Ghash.{IsBlock, bits_high_first, block_bits, block_taps, ◌•◌, unit_block}
-use Rattle.aead_ciphers.proofs.BlockCancellation.{IsBlock-zero, product_zero, xor_self}
+use Rattle.aead_ciphers.proofs.BlockCancellation.{IsBlock-unit, IsBlock-zero, product_zero, xor_self}
 use Rattle.aead_ciphers.proofs.BlockLists.{Blocks}
 use Rattle.aead_ciphers.proofs.BlockSquares.{X, multiple, own_square_bits, square_number}
 use Rattle.aead_ciphers.proofs.GhashBits.{length-bits}
@@ -28,9 +28,6 @@ zero_bits = refl
 
 series-zero : series zero_block ≡ none
 series-zero = ap coefficient zero_bits ∙ (λ i k. zeros_end 128 k i)
-
-IsBlock-unit : IsBlock unit_block
-IsBlock-unit = IsBlock-number 0x80000000000000000000000000000000
 
 -- ---- blocks that are their own square
 

@@ -49,11 +49,11 @@ pub fn encrypt_twice(key: &[u8; 32], counter: u32, nonce: &[u8; NONCE_LEN], mess
         in chacha20_encrypted key.now counter nonce.now ciphertext ≡ message.now }
 {}
 
-/// If the hash subkey of the key has an inverse, a message that is changed in exactly one of the blocks
-/// that its tag hashes has another tag (SP 800-38D section 7.1).
+/// If the hash subkey of the key has an inverse, a message that is changed in exactly one of the
+/// blocks that its tag hashes has another tag (SP 800-38D section 7.1).
 ///
-/// By `AesOpened` the changed message is then refused under the old tag and nonce, and the buffer is
-/// left as it was. `has_inverse` says that every hash subkey but zero has an inverse.
+/// By `AesOpened` the changed message is then refused under the old tag and nonce, and the buffer
+/// is left as it was. By `has_inverse` every hash subkey but zero has an inverse.
 pub fn one_changed_block(
     key: &[u8],
     nonce: [u8; NONCE_LEN],
@@ -66,15 +66,17 @@ pub fn one_changed_block(
     requires fits { Fits (length aad.now) (length ciphertext.now) }
     requires other_fits { Fits (length other_aad.now) (length other_ciphertext.now) }
     ensures { HasInverse (aes key.now zero_block)
-        → length aad.now ≡ length other_aad.now → length ciphertext.now ≡ length other_ciphertext.now
-        → DifferInOneBlock (hashed aad.now ciphertext.now) (hashed other_aad.now other_ciphertext.now)
+        → length aad.now ≡ length other_aad.now
+        → length ciphertext.now ≡ length other_ciphertext.now
+        → DifferInOneBlock (hashed aad.now ciphertext.now)
+        (hashed other_aad.now other_ciphertext.now)
         → aes_tag key.now nonce aad.now ciphertext.now
         ≢ aes_tag key.now nonce other_aad.now other_ciphertext.now }
 {}
 
-/// If two lists of blocks differ when padded, the XOR of their GHASHes is `sum` under at most as many
-/// hash subkeys as the longer list has blocks (SP 800-38D section 6.4). The subkeys are told apart by the
-/// XOR of any two, which has an inverse.
+/// If two lists of blocks differ when padded, the XOR of the keys at any two places has an inverse,
+/// and under each key as hash subkey the XOR of the two GHASHes is `sum`, then there are at most as
+/// many keys as blocks in the longer list (SP 800-38D section 6.4).
 #[tactic(auto, using(crate::proofs::FewHashKeys::few_hash_keys))]
 pub fn few_hash_keys(left: &[Block], right: &[Block], sum: Block, keys: &[Block])
     ensures { DifferWhenPadded left.now right.now
@@ -87,14 +89,15 @@ pub fn few_hash_keys(left: &[Block], right: &[Block], sum: Block, keys: &[Block]
     are_blocks(right);
 }
 
-/// If two pairs of an AAD and a ciphertext differ, the lists of blocks that their tags hash differ when
-/// padded (SP 800-38D section 7.1 step 5).
+/// If two pairs of an AAD and a ciphertext differ, the lists of blocks that their tags hash differ
+/// when padded (SP 800-38D section 7.1 step 5).
 #[tactic(auto, using(crate::proofs::DifferentMessages::different_messages))]
 pub fn different_messages(aad: &[u8], ciphertext: &[u8], other_aad: &[u8], other_ciphertext: &[u8])
     requires fits { Fits (length aad.now) (length ciphertext.now) }
     requires other_fits { Fits (length other_aad.now) (length other_ciphertext.now) }
     ensures { ¬ ((aad.now ≡ other_aad.now) × (ciphertext.now ≡ other_ciphertext.now))
-        → DifferWhenPadded (hashed aad.now ciphertext.now) (hashed other_aad.now other_ciphertext.now) }
+        → DifferWhenPadded (hashed aad.now ciphertext.now)
+        (hashed other_aad.now other_ciphertext.now) }
 {}
 
 /// Every block but zero has an inverse: the blocks are a field (SP 800-38D section 6.3).
@@ -105,13 +108,13 @@ pub fn has_inverse(block: Block)
     is_block(block);
 }
 
-/// If two pairs of an AAD and a ciphertext differ, `tag` and `other_tag` are their tags under at most as
-/// many hash subkeys as the longer hashed list has blocks, each subkey with a mask of its own
+/// If two pairs of an AAD and a ciphertext differ, `tag` and `other_tag` are their tags under at most
+/// as many hash subkeys as the longer hashed list has blocks, whatever mask each subkey goes with
 /// (SP 800-38D section 7.1).
 ///
 /// So whatever was sent once under a nonce, another message and tag are accepted under at most
-/// ceil(a / 16) + ceil(n / 16) + 1 of the 2^128 hash subkeys that are possible with what was seen, for a
-/// bytes of AAD and n of ciphertext in the longer of the two.
+/// ceil(a / 16) + ceil(n / 16) + 1 of the 2^128 hash subkeys that are possible with what was seen,
+/// where the longer list is that of a bytes of AAD and n bytes of ciphertext.
 #[tactic(auto, using(crate::proofs::FewSubkeys::few_subkeys))]
 pub fn few_subkeys_accept(
     aad: &[u8],

@@ -29,6 +29,8 @@ mod gcm;
 #[cfg(test)]
 mod items;
 #[cfg(test)]
+mod laws;
+#[cfg(test)]
 mod masks;
 #[cfg(test)]
 mod memory;
