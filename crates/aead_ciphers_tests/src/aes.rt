@@ -77,37 +77,50 @@ fn increment_gives_the_counter_as_it_was(rt: HostRuntime) {
     stands_at(&rt, &counter, 2);
 }
 
+/// A counter that stands at a number.
+fn counter_at(number: u32) -> Counter {
+    let mut counter = one();
+    counter.increment_by_less_safe(number.wrapping_sub(1));
+    counter
+}
+
 #[test]
 fn sums_wrap_in_the_last_four_bytes(rt: HostRuntime) {
-    for (sum, number) in [(0xffff_fffe, 0), (0xffff_fffd, u32::MAX)] {
-        let mut counter = one();
-        let _ = counter.increment();
-        counter.increment_by_less_safe(sum);
+    for number in [0xffff_fffe, u32::MAX, 0, 1] {
+        let mut counter = counter_at(2);
+        counter.increment_by_less_safe(number.wrapping_sub(2));
         stands_at(&rt, &counter, number);
-        let _ = counter.increment();
+        let iv = counter.increment().into_block_less_safe();
+        same(&rt, &iv, &counter_block(number), "the counter as it was");
         stands_at(&rt, &counter, number.wrapping_add(1));
     }
+}
+
+/// Five blocks of the key stream, from a number on.
+fn keystream_from(rt: &impl Abort, key: &Key, number: u32) {
+    let mut counter = counter_at(number);
+    let mut keystream = [0; 5 * BLOCK_LEN];
+    let mut work = Work::new();
+    let in_out = Overlapping::from(keystream.as_mut_slice());
+    key.ctr32_encrypt_within(in_out, &mut counter, &mut work);
+    for (block, j) in keystream.chunks(BLOCK_LEN).zip(0..5u32) {
+        let block_at = counter_block(number.wrapping_add(j));
+        let wanted = key.encrypt_block(block_at, &mut Work::new());
+        same(rt, block, &wanted, "the key stream");
+    }
+    holds(
+        rt,
+        work.blocks() == 5 && work.products() == 0,
+        "the tallies",
+    );
+    stands_at(rt, &counter, number.wrapping_add(5));
 }
 
 #[test]
 fn counter_mode_wraps(rt: HostRuntime) -> Result<(), Fail> {
     let key = Key::new(KeyBytes::AES_128(&[0; 16]))?;
-    let mut counter = one();
-    counter.increment_by_less_safe(0xffff_fffd);
-    let mut keystream = [0; 5 * BLOCK_LEN];
-    let mut work = Work::new();
-    let in_out = Overlapping::from(keystream.as_mut_slice());
-    key.ctr32_encrypt_within(in_out, &mut counter, &mut work);
-    let numbers = [0xffff_fffe, 0xffff_ffff, 0, 1, 2];
-    for (block, number) in keystream.chunks(BLOCK_LEN).zip(numbers) {
-        let wanted = key.encrypt_block(counter_block(number), &mut Work::new());
-        same(&rt, block, &wanted, "the key stream");
+    for number in [0xffff_fffb, 0xffff_fffc, 0xffff_fffe, u32::MAX] {
+        keystream_from(&rt, &key, number);
     }
-    holds(
-        &rt,
-        work.blocks() == 5 && work.products() == 0,
-        "the tallies",
-    );
-    stands_at(&rt, &counter, 3);
     Ok(())
 }
