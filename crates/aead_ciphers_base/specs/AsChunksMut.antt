@@ -1,7 +1,8 @@
 -- The items of a view that is written, on loan.
 use Rattle.std.specs.Prelude.{ℕ, ◌%◌, List, ◌++◌, drop, length, take, refl, []}
-use Rattle.std.specs.Borrow.{Array, Fml, Lends, LendsBoth, MutBor, RattleType}
+use Rattle.std.specs.Borrow.{Array, Fml, GName, Lends, LendsBoth, MutBor, RattleType, follows}
 use Rattle.std.specs.List.{length_refill}
+use base.Fml.{fex}
 use denote.Param.{value_of}
 use mir.Syntax.{named}
 use mathlib.Core.Path.{ap, sym, ◌∙◌}
@@ -22,3 +23,7 @@ LendsItems T N v r = Lends (the_row (record { mir = named 1; lft = [] }) T N) (A
 -- v ends with the last values behind r and q as its items, one after the other
 abbrev pub LendsParts : (T N : RattleType) → MutBor (AsChunksMut T.Denot (value_of N)) → MutBor (List T.Denot) → MutBor (List T.Denot) → Fml
 LendsParts T N v r q = LendsBoth (the_row (record { mir = named 1; lft = [] }) T N) (Array T 0) (Array T 0) v (r, q) (λ front back. with_items v.now (front ++ back))
+
+-- v ends with as many items as it has: with what some loan of them leaves
+abbrev pub KeepsCount : (T N : RattleType) → MutBor (AsChunksMut T.Denot (value_of N)) → Fml
+KeepsCount T N v = fex GName (λ loan. follows (the_row (record { mir = named 1; lft = [] }) T N) (Array T 0) v.ghost_name loan (with_items v.now))

@@ -63,7 +63,7 @@ impl<'a, 'b, T, const N: usize> From<&'a AsChunksMut<'b, T, N>> for AsChunks<'a,
 }
 
 impl<'a, T, const N: usize> AsChunksMut<'a, T, N> {
-    ghost use Rattle.aead_ciphers_base.specs.AsChunksMut.{LendsItems, LendsParts};
+    ghost use Rattle.aead_ciphers_base.specs.AsChunksMut.{KeepsCount, LendsItems, LendsParts};
 
     /// The blocks of a slice that is known to be whole blocks.
     pub fn from_whole(items: &'a mut [T]) -> Self
@@ -141,17 +141,31 @@ impl<'a, T, const N: usize> AsChunksMut<'a, T, N> {
     }
 
     /// Views of `CHUNK_LEN` blocks each, in order; the last may have fewer.
-    #[tactic(auto, using(crate::proofs::BlocksLemmas::whole_size))]
     pub fn chunks_mut<const CHUNK_LEN: usize>(&mut self) -> AsChunksMutChunksMutIter<'_, T, N>
         requires some { 0 < CHUNK_LEN }
         requires fits { CHUNK_LEN * N < 2 ^ 64 }
+        ensures* kept { sem 𝓛 (KeepsCount T.row N.row self.entry) }
         ensures rest { chunks_mut_rest result.chunks ≡ self.old.items.now }
         ensures size { 0 < N → chunks_mut_size result.chunks ≡ CHUNK_LEN * N }
     {
-        let size = (CHUNK_LEN * N).max(1);
-        AsChunksMutChunksMutIter {
-            chunks: self.as_flattened_mut().chunks_mut(size),
-        }
+        in_chunks::<T, N, CHUNK_LEN>(self.as_flattened_mut())
+    }
+}
+
+/// Views of `CHUNK_LEN` blocks of a slice of whole blocks, in order.
+#[tactic(auto, using(crate::proofs::BlocksLemmas::whole_size))]
+fn in_chunks<T, const N: usize, const CHUNK_LEN: usize>(
+    items: &mut [T],
+) -> AsChunksMutChunksMutIter<'_, T, N>
+    requires some { 0 < CHUNK_LEN }
+    requires fits { CHUNK_LEN * N < 2 ^ 64 }
+    requires whole { length items.old % N ≡ 0 }
+    ensures rest { chunks_mut_rest result.chunks ≡ items.old }
+    ensures size { 0 < N → chunks_mut_size result.chunks ≡ CHUNK_LEN * N }
+{
+    let size = (CHUNK_LEN * N).max(1);
+    AsChunksMutChunksMutIter {
+        chunks: items.chunks_mut(size),
     }
 }
 
