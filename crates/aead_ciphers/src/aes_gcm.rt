@@ -93,7 +93,8 @@ pub fn open(
     src: RangeFrom<usize>,
     work: &mut Work,
 ) -> Result<(), Unspecified>
-    requires { let n = length in_out.old - src.start in let a = length (aad_bytes aad) in
+    requires { src.start ≤ length in_out.old →
+        let n = length in_out.old - src.start in let a = length (aad_bytes aad) in
         Fits a n → Room work.old (sealing_blocks n) (sealing_products a n) }
     ensures opened { AesOpened key.now nonce (aad_bytes aad.entry) received_tag src.start in_out.old
         (is_ok result) in_out.new }

@@ -27,7 +27,8 @@ pub(super) fn open_with<A: EncryptCtr32, G: UpdateBlocks>(
     src: RangeFrom<usize>,
     work: &mut Work,
 ) -> Result<(), Unspecified>
-    requires room { let n = length in_out.old - src.start in let a = length (aad_bytes aad) in
+    requires room { src.start ≤ length in_out.old →
+        let n = length in_out.old - src.start in let a = length (aad_bytes aad) in
         Fits a n → Room work.old (sealing_blocks n) (sealing_products a n) }
     requires subkey { G.hash_key gcm.now ≡ A.cipher aes.now zero_block }
     ensures opened { Opened (A.cipher aes.now) nonce (aad_bytes aad.entry) received_tag src.start
