@@ -1,16 +1,16 @@
 -- The transpositions by which four blocks become eight planes.
-use Rattle.std.proofs.Common.{◌≡◌, ℕ, zero, suc, ◌+◌, ◌-◌, ◌*◌, ◌/◌, ◌%◌, ◌^◌, ◌<◌, ◌≤◌, Bool, true, false, ◌&&◌, List, [], ◌++◌, length, take, drop, refl, sym, ap, ap₂, ◌∙◌, arith, inl, inr, bit_xor, bit_and, slice_index, slice_index_or, nat_lt, if◌then◌else◌, div-one}
+use Rattle.std.proofs.Common.{min, set, below_more, get_or-set_other, get_or-set_same, ne_eqb, ◌≡◌, ℕ, zero, suc, ◌+◌, ◌-◌, ◌*◌, ◌/◌, ◌%◌, ◌^◌, ◌<◌, ◌≤◌, Bool, true, false, ◌&&◌, List, [], ◌++◌, length, take, drop, refl, sym, ap, ap₂, ◌∙◌, arith, inl, inr, bit_xor, bit_and, slice_index, slice_index_or, nat_lt, if◌then◌else◌, div-one}
 use Rattle.std.specs.Prelude.{◌==◌}
 use Rattle.std.specs.Int.{bit_at, w64, to_le_bytes, from_le_bytes}
 use Rattle.std.proofs.lemmas.Nat.{shr-shr, pow_pos, le_bytes_8}
 use Rattle.std.proofs.lemmas.List.{get_or_append_left, get_or-append_right, get_or-take, get_or-drop, get_or_past, length-take, length-take-le, length-drop, take_all, take-append-drop}
-use Rattle.std.proofs.lemmas.Nat.Bits.{bit_at-lt, bit_at_cat_low, bit_at_cat_high, bit_at-zero}
-use Rattle.std.proofs.lemmas.Bool.{cases_lt, cond-true, cond-false, ltb-true, lt-ltb, le-ltb}
+use Rattle.std.proofs.lemmas.Nat.Bits.{bit_at_xor, bit_at_and, bit_at-lt, bit_at_cat_low, bit_at_cat_high, bit_at-zero}
+use Rattle.std.proofs.lemmas.Bool.{cases_lt, cond-true, cond-false, eq-eqb, ltb-true, lt-ltb, le-ltb}
 use Rattle.std.proofs.Math.Bool.{and-false}
 use Rattle.aead_ciphers_base.specs.Polynomial.{◌xor◌, polynomial}
 use Rattle.aead_ciphers_base.specs.ByteField.{bits_of, value_of}
 use Rattle.aead_ciphers_base.specs.Planes.{plane_byte, plane_block, word_bit, exchanged_from}
-use Rattle.aead_ciphers_base.specs.declared.aes.pack.TheConstants.{LOW}
+use Rattle.aead_ciphers_base.specs.declared.aes.pack.TheConstants.{LOW, EIGHTHS}
 use Rattle.aead_ciphers_base.proofs.BitsLemmas.{all_below, all_below_at, same_below, value_of-bits_of, length-bits_of}
 use Rattle.aead_ciphers_base.proofs.PolynomialLemmas.{same_polynomials, coefficient-polynomial}
 use Rattle.aead_ciphers_base.proofs.PlaneLemmas.{set-xor, set-and, bits_of_at}
@@ -338,3 +338,85 @@ unpacked_block planes turned words blocks bits bytes held0 held1 held2 held3 k h
     (λ j hj.
     let place : 16 * k + j ≡ 16 * k + (j % 4 + 4 * (j / 4)) = omega arith in
     byte_of_block words planes packed k j hk hj ∙ ap (plane_byte planes) place)
+
+-- ---- every eighth place
+
+eighths_test : all_below (λ q. bit_at EIGHTHS q == (if q % 8 == 0 then 1 else 0)) 64 ≡ true
+eighths_test = refl
+
+eighths_at : (q : ℕ) → q < 64 → bit_at EIGHTHS q ≡ (if q % 8 == 0 then 1 else 0)
+eighths_at q h = same_below (bit_at EIGHTHS) (λ t. if t % 8 == 0 then 1 else 0) 64 q eighths_test h
+
+-- plane q is the word from bit q on, below b
+abbrev pub IsSpread : ℕ → List ℕ → ℕ → Type 0
+IsSpread word planes b = (q : ℕ) → q < b → slice_index planes q ≡ word / 2 ^ q
+
+pub spread_more : (word : ℕ) (planes : List ℕ) (b : ℕ) → b < length planes → IsSpread word planes b → IsSpread word (set planes b (word / 2 ^ b)) (b + 1)
+spread_more word planes b fits before =
+    below_more (λ q. slice_index (set planes b (word / 2 ^ b)) q ≡ word / 2 ^ q) b
+    (λ q h. get_or-set_other planes b q (word / 2 ^ b) 0 (λ e. absurd (omega arith)) ∙ before q h)
+    (get_or-set_same planes b (word / 2 ^ b) 0 fits)
+
+pub spread_byte : (word : ℕ) (planes : List ℕ) → IsSpread word planes 8 → (j : ℕ) → j < 8
+    → plane_byte planes (8 * j) ≡ slice_index (to_le_bytes w64 word) j
+spread_byte word planes h j hj =
+    let n = slice_index (to_le_bytes w64 word) j in
+    let size = byte_is word j hj in
+    sym (plane_byte_from planes (8 * j) n (omega arith)
+    (λ q hq. bit_of_byte word j q hj hq ∙ sym (ap (λ t. bit_at t (8 * j)) (h q hq) ∙ bit_at-shr word q (8 * j))))
+
+-- the bits of a plane at every eighth place, moved by b
+abbrev placed : ℕ → ℕ → ℕ
+placed plane b = bit_and plane EIGHTHS * 2 ^ b % 2 ^ 64
+
+placed_here : (plane b i : ℕ) → b < 8 → i < 64 → i % 8 ≡ b → bit_at (placed plane b) i ≡ bit_at plane (i - i % 8)
+placed_here plane b i hb hi e =
+    let place : i - b ≡ i - i % 8 = omega arith in
+    let whole : (i - b) % 8 ≡ 0 = omega arith in
+    let one : bit_at EIGHTHS (i - b) ≡ 1 = eighths_at (i - b) (omega arith) ∙ cond-true ((i - b) % 8 == 0) 1 0 (eq-eqb ((i - b) % 8) 0 whole) in
+    bit_at-shl_high (bit_and plane EIGHTHS) b 64 i hi (omega arith) ∙ bit_at_and plane EIGHTHS (i - b) ∙ ap (min (bit_at plane (i - b))) one
+    ∙ by_digit (λ d. min d 1 ≡ d) (bit_at plane (i - b)) (bit_at-lt plane (i - b)) (λ _. refl) (λ _. refl) ∙ ap (bit_at plane) place
+
+placed_elsewhere : (plane b i : ℕ) → b < 8 → i < 64 → (i % 8 ≡ b → ⊥) → bit_at (placed plane b) i ≡ 0
+placed_elsewhere plane b i hb hi differs = elim (cases_lt i b) [
+  | inl less ↦ bit_at-shl_low (bit_and plane EIGHTHS) b 64 i hi less
+  | inr more ↦
+      bit_at-shl_high (bit_and plane EIGHTHS) b 64 i hi more ∙ bit_at_and plane EIGHTHS (i - b)
+      ∙ ap (min (bit_at plane (i - b))) (eighths_at (i - b) (omega arith) ∙ cond-false ((i - b) % 8 == 0) 1 0 (ne_eqb ((i - b) % 8) 0 (λ e. differs (omega arith))))
+      ∙ by_digit (λ d. min d 0 ≡ 0) (bit_at plane (i - b)) (bit_at-lt plane (i - b)) (λ _. refl) (λ _. refl)
+]
+
+-- the word has the bits of the planes below b, and no others
+abbrev pub IsGathered : List ℕ → ℕ → ℕ → Type 0
+IsGathered planes word b = (i : ℕ) → i < 64
+    → (i % 8 < b → bit_at word i ≡ bit_at (slice_index planes (i % 8)) (i - i % 8)) × (b ≤ i % 8 → bit_at word i ≡ 0)
+
+pub gathered_more : (planes : List ℕ) (word b : ℕ) → b < 8 → IsGathered planes word b → IsGathered planes (bit_xor word (placed (slice_index planes b) b)) (b + 1)
+gathered_more planes word b hb before = λ i hi.
+    let plane = slice_index planes b in
+    let sum = λ (x y : ℕ) (ex : bit_at word i ≡ x) (ey : bit_at (placed plane b) i ≡ y). bit_at_xor word (placed plane b) i ∙ ap₂ (λ s t. (s + t) % 2) ex ey in
+    let old = before i hi in (
+      λ now. elim (cases_lt (i % 8) b) [
+        | inl less ↦
+            let v = bit_at (slice_index planes (i % 8)) (i - i % 8) in
+            let digit = bit_at-lt (slice_index planes (i % 8)) (i - i % 8) in
+            sum v 0 (old.0 less) (placed_elsewhere plane b i hb hi (λ e. absurd (omega arith))) ∙ omega arith
+        | inr more ↦
+            let here : i % 8 ≡ b = omega arith in
+            let digit = bit_at-lt plane (i - i % 8) in
+            sum 0 (bit_at plane (i - i % 8)) (old.1 more) (placed_here plane b i hb hi here) ∙ omega arith
+            ∙ ap (λ k. bit_at (slice_index planes k) (i - i % 8)) (sym here)
+      ],
+      λ later. sum 0 0 (old.1 (omega arith)) (placed_elsewhere plane b i hb hi (λ e. absurd (omega arith))),
+    )
+
+pub gathered_byte : (planes : List ℕ) (word : ℕ) → IsGathered planes word 8 → (j : ℕ) → j < 8
+    → slice_index (to_le_bytes w64 word) j ≡ plane_byte planes (8 * j)
+gathered_byte planes word h j hj =
+    let n = slice_index (to_le_bytes w64 word) j in
+    let size = byte_is word j hj in
+    plane_byte_from planes (8 * j) n (omega arith)
+    (λ q hq.
+    let plane : (8 * j + q) % 8 ≡ q = omega arith in
+    let place : 8 * j + q - (8 * j + q) % 8 ≡ 8 * j = omega arith in
+    bit_of_byte word j q hj hq ∙ (h (8 * j + q) (omega arith)).0 (omega arith) ∙ ap₂ (λ k t. bit_at (slice_index planes k) t) plane place)

@@ -6,7 +6,7 @@ ghost use Rattle.aead_ciphers_base.specs.Planes.{plane_byte};
 ghost use Rattle.aead_ciphers_base.specs.KeySchedule.{HoldsWords};
 
 use super::ZERO_BLOCK;
-use super::pack::{pack, unpack};
+use super::pack::{gather, pack, spread};
 use super::planes::{Planes, sub_planes};
 
 // The first byte of each Rcon word.
@@ -24,16 +24,14 @@ fn rot_word(a: [u8; 4]) -> [u8; 4]
     [a[1], a[2], a[3], a[0]]
 }
 
-// The word stands in the first four of the 64 bytes.
+// The bytes of the word stand in every eighth of the 64 places.
 fn sub_word(a: [u8; 4]) -> [u8; 4]
     ensures { result ≡ sub_word a }
 {
-    let [a0, a1, a2, a3] = a;
-    let block = [a0, a1, a2, a3, 0, 0, 0, 0, 0, 0, 0, 0, 0, 0, 0, 0];
-    let mut planes = pack([block, ZERO_BLOCK, ZERO_BLOCK, ZERO_BLOCK]);
+    let mut planes = spread(u64::from(u32::from_le_bytes(a)));
     sub_planes(&mut planes);
-    let [first, _, _, _] = unpack(planes);
-    [first[0], first[1], first[2], first[3]]
+    let [b0, b1, b2, b3, _, _, _, _] = gather(planes).to_le_bytes();
+    [b0, b1, b2, b3]
 }
 
 fn round_constant(n: usize) -> u8

@@ -115,3 +115,30 @@ pub fn unpack(planes: Planes) -> [Block; 4]
         block_of(w6, w7),
     ]
 }
+
+// Every eighth place.
+const EIGHTHS: u64 = 0x0101_0101_0101_0101;
+
+/// Planes that hold the bytes of a word in every eighth place.
+#[inline(always)]
+pub fn spread(word: u64) -> Planes
+    ensures { (j : ℕ) → j < 8 → plane_byte result (8 * j) ≡ slice_index (to_le_bytes w64 word) j }
+{
+    let mut planes = [0; 8];
+    for b in 0..8 {
+        planes[b] = word >> b;
+    }
+    planes
+}
+
+/// The word of the bytes that planes hold in every eighth place.
+#[inline(always)]
+pub fn gather(planes: Planes) -> u64
+    ensures { (j : ℕ) → j < 8 → slice_index (to_le_bytes w64 result) j ≡ plane_byte planes (8 * j) }
+{
+    let mut word = 0;
+    for b in 0..8 {
+        word ^= (planes[b] & EIGHTHS) << b;
+    }
+    word
+}

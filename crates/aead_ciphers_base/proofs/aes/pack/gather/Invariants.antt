@@ -1,0 +1,5 @@
+use Rattle.aead_ciphers_base.proofs.PackLemmas.{IsGathered}
+use Rattle.aead_ciphers_base.proofs.aes.pack.gather.Given as goal
+
+abbrev pub invariant-loop-b : goal.invariant-loop-b
+invariant-loop-b l = IsGathered l.planes l.word l.b
