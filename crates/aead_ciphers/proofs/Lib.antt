@@ -8,6 +8,7 @@ pub mod GhashBytes
 pub mod GhashLaws
 pub mod HashLemmas
 pub mod KeysLemmas
+pub mod LaneLemmas
 pub mod Lending
 pub mod LendingSteps
 pub mod MultiplesLemmas
