@@ -52,7 +52,7 @@ coefficients-zero (suc k) = same_series (go (coefficients-zero k))
 abbrev pub mask : ℕ → ℕ → ℕ
 mask w bit = (0 + (2 ^ w - bit)) % 2 ^ w
 
-masked : (w v x : ℕ) → x < 2 → v < 2 ^ w → bit_and v (mask w x) ≡ (if x == 1 then v else 0)
+pub masked : (w v x : ℕ) → x < 2 → v < 2 ^ w → bit_and v (mask w x) ≡ (if x == 1 then v else 0)
 masked w v zero h below =
     let e : 0 + (2 ^ w - 0) ≡ 2 ^ w = omega arith in
     ap (bit_and v) (ap (λ (n : ℕ). n % 2 ^ w) e ∙ mod_self (2 ^ w)) ∙ and_zero_r v

@@ -18,6 +18,7 @@ pub mod GhashPolynomial
 pub mod HashLemmas
 pub mod HashedBlocks
 pub mod KeysLemmas
+pub mod LaneLemmas
 pub mod Lending
 pub mod LendingSteps
 pub mod LinearMaps

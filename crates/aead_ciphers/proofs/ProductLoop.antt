@@ -1,4 +1,4 @@
--- The code's next sum and next multiple.
+-- The next multiple of a block, as the code shifts it.
 use Rattle.std.proofs.Common.{◌≡◌, ℕ, zero, suc, ◌/◌, ◌^◌, ◌<◌, Bool, true, false, List, ◌∷◌, replicate, refl, sym, ap, ap₂, subst, ◌∙◌, arith, ◌==◌, bit_and, bit_xor}
 use Rattle.std.specs.Int.{bit_at}
 use Rattle.std.proofs.Math.Dec.{lit<}
@@ -18,10 +18,7 @@ block_low = (lit< tt, (lit< tt, (lit< tt, (lit< tt, tt))))
 abbrev pub reduction : ℕ
 reduction = 0xe1000000000000000000000000000000
 
--- the code's next sum and next multiple
-abbrev pub next_sum : ℕ → ℕ → ℕ → ℕ
-next_sum sum multiple bit = bit_xor sum (bit_and multiple (mask 128 bit))
-
+-- the code's next multiple
 abbrev pub next_multiple : ℕ → ℕ
 next_multiple v = bit_xor (v / 2) (bit_and reduction (mask 128 (bit_and v 1)))
 

@@ -1,31 +1,34 @@
 //! The product of blocks (SP 800-38D section 6.3), by the multiples of one of them.
 
-ghost use Rattle.std.specs.Prelude.{◌≡◌};
+ghost use Rattle.std.specs.Prelude.{◌≡◌, ℕ, ◌+◌, ◌-◌, ◌*◌, ◌/◌, ◌%◌, ◌^◌, ◌<◌, ◌≤◌, ◌==◌, if◌then◌else◌, List, [], ◌∷◌, bit_xor, slice_index};
 ghost use Rattle.std.specs.Int.{to_be_bytes, w128};
 ghost use Rattle.aead_ciphers.specs.Ghash.{◌•◌};
+ghost use Rattle.aead_ciphers.specs.Multiples.{number_of_words};
 
 use std::marker::Model;
+use std::simd::u32x4;
 
 /// R of section 6.3: 11100001 and 120 zero bits.
 const R: u128 = 0xe1 << 120;
 
-/// The products of a block and u^0, .., u^127 (section 6.3), each the number of its big-endian bytes.
+/// The products of a block and u^0, .., u^127 (section 6.3).
 #[derive(Clone, Drop)]
 pub(crate) struct Multiples {
-    numbers: [u128; 128],
+    /// The four words of each: those of multiples i, 32 + i, 64 + i and 96 + i are neighbours.
+    table: [u32; 512],
 }
 
 impl Model for Multiples {
-    ghost use Rattle.std.specs.Prelude.{ℕ, slice_index};
+    ghost use Rattle.std.specs.Prelude.{ℕ};
     ghost use Rattle.std.specs.Int.{to_be_bytes, w128};
-    ghost use Rattle.aead_ciphers.specs.Multiples.{AreMultiples};
+    ghost use Rattle.aead_ciphers.specs.Multiples.{AreMultiples, entry};
 
     ghost Value = { ℕ };
 
-    ghost view = { λ multiples. slice_index multiples.numbers 0 };
+    ghost view = { λ multiples. entry multiples.table 0 };
 
     ghost invariant = { λ multiples.
-        AreMultiples (to_be_bytes w128 (slice_index multiples.numbers 0)) multiples.numbers };
+        AreMultiples (to_be_bytes w128 (entry multiples.table 0)) multiples.table };
 }
 
 impl Multiples {
@@ -33,25 +36,88 @@ impl Multiples {
     pub(crate) fn new(block: u128) -> Self
         ensures { result ≡ block }
     {
-        let mut numbers = [0; 128];
+        let mut table = [0; 512];
         let mut multiple = block;
         for k in 0..128 {
-            numbers[k] = multiple;
+            let [first, second, third, fourth] = words(multiple).to_array();
+            let place = 4 * (k % 32) + k / 32;
+            table[place] = first;
+            table[128 + place] = second;
+            table[256 + place] = third;
+            table[384 + place] = fourth;
             multiple = (multiple >> 1) ^ (R & 0u128.wrapping_sub(multiple & 1));
         }
-        Multiples { numbers }
+        Multiples { table }
     }
 
-    /// The product of a block and the one whose multiples these are: the sum of those at which the block has a one.
+    /// The product of a block and the one whose multiples these are: the sum of the multiples at which the block has
+    /// a one, those of its four words side by side.
     pub(crate) fn product(&self, block: u128) -> u128
         ensures { to_be_bytes w128 result ≡ to_be_bytes w128 block • to_be_bytes w128 self.now }
     {
-        let mut sum = 0;
-        let mut bits = block;
-        for k in 0..128 {
-            sum ^= self.numbers[k] & 0u128.wrapping_sub(bits >> 127);
-            bits <<= 1;
+        let mut bits = words(block);
+        let mut first = u32x4::splat(0);
+        let mut second = u32x4::splat(0);
+        let mut third = u32x4::splat(0);
+        let mut fourth = u32x4::splat(0);
+        for i in 0..32 {
+            first = add_chosen(first, bits, lanes(&self.table, 4 * i));
+            second = add_chosen(second, bits, lanes(&self.table, 128 + 4 * i));
+            third = add_chosen(third, bits, lanes(&self.table, 256 + 4 * i));
+            fourth = add_chosen(fourth, bits, lanes(&self.table, 384 + 4 * i));
+            bits = bits + bits;
         }
-        sum
+        joined(
+            first.reduce_xor(),
+            second.reduce_xor(),
+            third.reduce_xor(),
+            fourth.reduce_xor(),
+        )
     }
+}
+
+/// The four words of a block, the highest first.
+#[inline(always)]
+fn words(block: u128) -> u32x4
+    ensures { (j : ℕ) → j < 4 → slice_index result j ≡ block / 2 ^ (96 - 32 * j) % 2 ^ 32 }
+{
+    u32x4::from_array([
+        (block >> 96) as u32,
+        ((block >> 64) & 0xffff_ffff) as u32,
+        ((block >> 32) & 0xffff_ffff) as u32,
+        (block & 0xffff_ffff) as u32,
+    ])
+}
+
+/// The block of four words, the highest first.
+#[inline(always)]
+fn joined(first: u32, second: u32, third: u32, fourth: u32) -> u128
+    ensures { result ≡ number_of_words (first ∷ second ∷ third ∷ fourth ∷ []) }
+{
+    (u128::from(first) << 96)
+        | (u128::from(second) << 64)
+        | (u128::from(third) << 32)
+        | u128::from(fourth)
+}
+
+/// The four words of a table from `at` on.
+#[inline(always)]
+fn lanes(table: &[u32; 512], at: usize) -> u32x4
+    requires { at + 4 ≤ 512 }
+    ensures read { (j : ℕ) → j < 4 → slice_index result j ≡ slice_index table.now (at + j) }
+    ensures fits { (j : ℕ) → j < 4 → slice_index result j < 2 ^ 32 }
+{
+    u32x4::from_slice(&table[at..])
+}
+
+/// Adds each word whose lane of `bits` has its highest bit.
+#[inline(always)]
+fn add_chosen(sum: u32x4, bits: u32x4, words: u32x4) -> u32x4
+    ensures { (j : ℕ) → j < 4
+        → slice_index result j ≡ (if slice_index bits j / 2 ^ 31 == 1
+        then bit_xor (slice_index sum j) (slice_index words j)
+        else slice_index sum j) }
+{
+    let chosen = u32x4::splat(0) - (bits >> u32x4::splat(31));
+    sum ^ (words & chosen)
 }

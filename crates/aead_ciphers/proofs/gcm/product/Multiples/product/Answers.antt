@@ -1,20 +1,58 @@
-use Rattle.std.proofs.Common.{slice_index, ap, ◌∙◌, arith, rules}
+use Rattle.std.proofs.Common.{◌≡◌, ℕ, ◌+◌, ◌*◌, ◌/◌, ◌-◌, ◌%◌, ◌^◌, ◌<◌, ◌==◌, if◌then◌else◌, slice_index, bit_xor, sym, ap, subst, ◌∙◌, arith, rules}
 use Rattle.std.specs.Int.{to_be_bytes, w128}
+use Rattle.std.proofs.lemmas.Simd.{get_or-zip2}
 use Rattle.aead_ciphers.specs.Ghash.{◌•◌}
-use Rattle.aead_ciphers.proofs.MultiplesLemmas.{turn_start, turn_next, turn_end, multiple_of-block}
+use Rattle.aead_ciphers.specs.Multiples.{entry, number_of_words}
+use Rattle.aead_ciphers.proofs.LaneLemmas.{AllSmall, below_four, entry_is, lane, small-lane, number-lanes, words_chosen}
+use Rattle.aead_ciphers.proofs.MultiplesLemmas.{IsStretch, stretch_start, stretch_next, bits_next, product_end, raised_of-block}
 use Rattle.aead_ciphers.proofs.gcm.product.Multiples.product.Goals as goal
 
-pub loop-k-init : goal.loop-k-init
-loop-k-init c = turn_start c.args.block (slice_index c.self.inside.numbers 0) (search rules)
+pub loop-i-init : goal.loop-i-init
+loop-i-init c =
+    let h = entry c.self.inside.table 0 in
+    record {
+      bits = λ j within. c.words-bits.ensures j within ∙ omega arith;
+      sums = below_four _ (stretch_start c.args.block h 0) (stretch_start c.args.block h 32) (stretch_start c.args.block h 64) (stretch_start c.args.block h 96);
+    }
 
-pub loop-k-preserved : goal.loop-k-preserved
-loop-k-preserved c =
-    let h = slice_index c.self.inside.numbers 0 in
-    let v = slice_index c.self.inside.numbers c.loop-k.k in
-    turn_next c.args.block h c.loop-k.sum c.loop-k.bits v c.loop-k.k (omega arith)
-    (multiple_of-block h c.loop-k.k v (omega arith) (search rules) (c.self.invariant c.loop-k.k (omega arith))) c.loop-k.invariant
+pub loop-i-preserved : goal.loop-i-preserved
+loop-i-preserved c =
+    let a = c.args.block in
+    let table = c.self.inside.table in
+    let h = entry table 0 in
+    let i = c.loop-i.i in
+    let at = c.loop-i.auto in
+    record {
+      bits = λ j within.
+          bits_next (a / 2 ^ (96 - 32 * j) % 2 ^ 32) i (slice_index c.loop-i.bits j) _ (c.loop-i.invariant.bits j within)
+          (get_or-zip2 (λ x y. (x + y) % 2 ^ 32) c.loop-i.bits c.loop-i.bits j 0 0 0 (omega (arith, at.bits.0)) (omega (arith, at.bits.0)));
+      sums = λ j within.
+          let sums = lane c.loop-i.first c.loop-i.second c.loop-i.third c.loop-i.fourth j in
+          let b = slice_index c.loop-i.bits j / 2 ^ 31 == 1 in
+          let words = lane c.lanes.result c.lanes-in-loop-i.result c.lanes-in-loop-i-2.result c.lanes-in-loop-i-3.result j in
+          let small_sums = small-lane c.loop-i.first c.loop-i.second c.loop-i.third c.loop-i.fourth j at.first at.second at.third at.fourth within in
+          let small_words : AllSmall words = (c.lanes.ensures.fits j within, (c.lanes-in-loop-i.ensures.fits j within, (c.lanes-in-loop-i-2.ensures.fits j within, (c.lanes-in-loop-i-3.ensures.fits j within, tt)))) in
+          let words_are : number_of_words words ≡ entry table (32 * j + i) =
+          rw (c.lanes.ensures.read j within, c.lanes-in-loop-i.ensures.read j within, c.lanes-in-loop-i-2.ensures.read j within, c.lanes-in-loop-i-3.ensures.read j within) (sym (entry_is table j i within (omega arith))) in
+          let is : number_of_words (lane c.add_chosen-first.result c.add_chosen-second.result c.add_chosen-third.result c.add_chosen-fourth.result j)
+          ≡ (if b then bit_xor (number_of_words sums) (entry table (32 * j + i)) else number_of_words sums) =
+          words_chosen b _ _ _ _ _ _ _ _ _ _ _ _ small_sums small_words
+          (c.add_chosen-first.ensures j within) (c.add_chosen-second.ensures j within) (c.add_chosen-third.ensures j within) (c.add_chosen-fourth.ensures j within)
+          ∙ ap (λ v. if b then bit_xor (number_of_words sums) v else number_of_words sums) words_are in
+          subst (IsStretch a h (32 * j) (i + 1)) (sym is)
+          (stretch_next a h j i (slice_index c.loop-i.bits j) (number_of_words sums) (entry table (32 * j + i)) within (omega arith) (c.loop-i.invariant.bits j within)
+          (raised_of-block h (32 * j + i) (entry table (32 * j + i)) (omega arith) (c.self.invariant (32 * j + i) (omega arith))) (c.loop-i.invariant.sums j within));
+    }
 
 pub returns : goal.returns
 returns c =
-    turn_end c.args.block (slice_index c.self.inside.numbers 0) c.loop-k.sum c.loop-k.bits c.loop-k.k (omega arith) (omega arith) (search rules) c.loop-k.invariant
-    ∙ ap (λ h. to_be_bytes w128 c.args.block • to_be_bytes w128 h) c.self.view_is
+    let a = c.args.block in
+    let h = entry c.self.inside.table 0 in
+    let at = c.loop-i.auto in
+    let all : c.loop-i.i ≡ 32 = omega arith in
+    let sums : (j : ℕ) → j < 4 → IsStretch a h (32 * j) 32 (number_of_words (lane c.loop-i.first c.loop-i.second c.loop-i.third c.loop-i.fourth j)) =
+    λ j within. subst (λ n. IsStretch a h (32 * j) n (number_of_words (lane c.loop-i.first c.loop-i.second c.loop-i.third c.loop-i.fourth j))) all (c.loop-i.invariant.sums j within) in
+    product_end a h _ _ _ _ c.joined.result (search rules)
+    (c.joined.ensures ∙ number-lanes c.loop-i.first c.loop-i.second c.loop-i.third c.loop-i.fourth at.first at.second at.third at.fourth)
+    (sums 0 (omega arith)) (sums 1 (omega arith)) (sums 2 (omega arith)) (sums 3 (omega arith))
+    ∙ ap (λ n. to_be_bytes w128 a • to_be_bytes w128 n) c.self.view_is
