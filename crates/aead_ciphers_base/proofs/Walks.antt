@@ -82,9 +82,10 @@ module _ {M : Type 1} {𝓤 : Ura M} (𝓛 : Logic 𝓤) (T : RattleType) where
   follows_itself : (γ : GName) → ent 𝓤 (sem 𝓛 ftrue) (sem 𝓛 (follows Items Items γ γ (λ w. w)))
   follows_itself γ =
       let From : List T.Denot → List T.Denot → Fml = λ z w. fsep (feq (List T.Denot) z w) (fauth γ (code w)) in
-      let said = qed 𝓛 (‵ ftrue ∷ []) ∵ each ! (λ (w : List T.Denot). wand 𝓤 (A.res γ (code w)) (A.res γ (code w))) (λ w. assume ! (‵ (fres γ (code w))) $ keep ! (0 ∷ []) $ done !) in
-      let back = qed 𝓛 (‵ ftrue ∷ []) ∵ each ! (λ (z : List T.Denot). wand 𝓤 (A.auth γ (code z)) (sem 𝓛 (fex (List T.Denot) (From z)))) (λ z. assume ! (‵ (fauth γ (code z))) $
-      keep ! (0 ∷ []) $ feq_i ! (List T.Denot) z z refl $ fjoin ! $ fpack ! (List T.Denot) (From z) z $ done !) in
+      let said = qed 𝓛 (‵ ftrue ∷ []) ∵ each ! (λ (w : List T.Denot). wand 𝓤 (A.res γ (code w)) (A.res γ (code w))) (λ w. assume ! (‵ (fres γ (code w))) $
+      keep ! (0 ∷ []) $ done !) in
+      let back = qed 𝓛 (‵ ftrue ∷ []) ∵ each ! (λ (z : List T.Denot). wand 𝓤 (A.auth γ (code z)) (sem 𝓛 (fex (List T.Denot) (From z)))) (λ z.
+      assume ! (‵ (fauth γ (code z))) $ keep ! (0 ∷ []) $ feq_i ! (List T.Denot) z z refl $ fjoin ! $ fpack ! (List T.Denot) (From z) z $ done !) in
       record { apply = λ a p. (said.apply a p, back.apply a p) }
 
   abbrev Ends : Type 0
@@ -96,7 +97,8 @@ module _ {M : Type 1} {𝓤 : Ura M} (𝓛 : Logic 𝓤) (T : RattleType) where
     kept_in_ok x e =
         qed 𝓛 (‵ ftrue ∷ []) ∵ use1 𝓛 (‵ (follows Items Items s.ghost_name s.ghost_name (λ w. w))) (follows_itself s.ghost_name) $
         rewrite ! 0 (λ (γ : GName). ‵ (follows Items Items s.ghost_name γ (λ w. w))) (sym e) refl $
-        fpack ! ((f : Ends) × ((w : List T.Denot) → f.0 w ≡ w) × Unit {0}) (λ f. follows Items Items s.ghost_name (name x) f.0.0) (((λ w. w), s.now), (λ w. refl), tt) $ done !
+        fpack ! ((f : Ends) × ((w : List T.Denot) → f.0 w ≡ w) × Unit {0}) (λ f. follows Items Items s.ghost_name (name x) f.0.0)
+        (((λ w. w), s.now), (λ w. refl), tt) $ done !
 
     pub kept_at_err : (e : E) (κ : Lft) (vs : List Val) → ent 𝓤 (sem 𝓛 ((MutSlice (named 0) κ T).own_val s vs)) (sem 𝓛 (KeptIfErr T s name (Err e)))
     unfolding such_by follows_by
