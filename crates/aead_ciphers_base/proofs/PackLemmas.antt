@@ -382,7 +382,8 @@ placed_elsewhere plane b i hb hi differs = elim (cases_lt i b) [
   | inl less ↦ bit_at-shl_low (bit_and plane EIGHTHS) b 64 i hi less
   | inr more ↦
       bit_at-shl_high (bit_and plane EIGHTHS) b 64 i hi more ∙ bit_at_and plane EIGHTHS (i - b)
-      ∙ ap (min (bit_at plane (i - b))) (eighths_at (i - b) (omega arith) ∙ cond-false ((i - b) % 8 == 0) 1 0 (ne_eqb ((i - b) % 8) 0 (λ e. differs (omega arith))))
+      ∙ ap (min (bit_at plane (i - b)))
+      (eighths_at (i - b) (omega arith) ∙ cond-false ((i - b) % 8 == 0) 1 0 (ne_eqb ((i - b) % 8) 0 (λ e. differs (omega arith))))
       ∙ by_digit (λ d. min d 0 ≡ 0) (bit_at plane (i - b)) (bit_at-lt plane (i - b)) (λ _. refl) (λ _. refl)
 ]
 
@@ -394,7 +395,8 @@ IsGathered planes word b = (i : ℕ) → i < 64
 pub gathered_more : (planes : List ℕ) (word b : ℕ) → b < 8 → IsGathered planes word b → IsGathered planes (bit_xor word (placed (slice_index planes b) b)) (b + 1)
 gathered_more planes word b hb before = λ i hi.
     let plane = slice_index planes b in
-    let sum = λ (x y : ℕ) (ex : bit_at word i ≡ x) (ey : bit_at (placed plane b) i ≡ y). bit_at_xor word (placed plane b) i ∙ ap₂ (λ s t. (s + t) % 2) ex ey in
+    let sum = λ (x y : ℕ) (ex : bit_at word i ≡ x) (ey : bit_at (placed plane b) i ≡ y).
+    bit_at_xor word (placed plane b) i ∙ ap₂ (λ s t. (s + t) % 2) ex ey in
     let old = before i hi in (
       λ now. elim (cases_lt (i % 8) b) [
         | inl less ↦

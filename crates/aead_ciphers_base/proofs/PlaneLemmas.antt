@@ -46,7 +46,7 @@ pub plane_byte_lt : (a : List ℕ) (p : ℕ) → plane_byte a p < 256
 unfolding plane_byte
 plane_byte_lt a p = value_of-lt (plane_bits a p)
 
-pub plane_byte_bits : (a : List ℕ) (p : ℕ) → bits_of 8 (plane_byte a p) ≡ plane_bits a p
+plane_byte_bits : (a : List ℕ) (p : ℕ) → bits_of 8 (plane_byte a p) ≡ plane_bits a p
 unfolding plane_byte
 plane_byte_bits a p = bits_of-value_of (plane_bits a p)
 

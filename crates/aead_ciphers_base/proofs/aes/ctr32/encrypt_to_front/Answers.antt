@@ -32,7 +32,8 @@ loop-done-preserved c =
           c.encrypt_batch.ensures.output nonce (k + d / 16) (inv.counter nonce k at)
           ∙ advance (aes c.args.key.now) nonce k (d / 16) d 64 s was c.loop-done.in_out whole (omega arith) (inv.output nonce k at);
       counter = λ nonce k at.
-          counter_at _ nonce (k + d / 16 + 64 / 16) (k + (d + 64) / 16) (c.encrypt_batch.ensures.counter nonce (k + d / 16) (inv.counter nonce k at)) (omega arith);
+          counter_at _ nonce (k + d / 16 + 64 / 16) (k + (d + 64) / 16)
+          (c.encrypt_batch.ensures.counter nonce (k + d / 16) (inv.counter nonce k at)) (omega arith);
     }
 
 -- once the last byte is done
@@ -40,7 +41,8 @@ at_the_end : (cipher : List ℕ → List ℕ) (nonce : List ℕ) (k s d : ℕ) (
     → counter_mode cipher nonce k (take d (drop s was)) ++ drop d was ≡ counter_mode cipher nonce k (drop s was) ++ drop (length was - s) was
 at_the_end cipher nonce k s d was all =
     ap (λ (n : ℕ). counter_mode cipher nonce k (take n (drop s was)) ++ drop n was) all
-    ∙ ap (λ (u : List ℕ). counter_mode cipher nonce k u ++ drop (length was - s) was) (take_all (length was - s) (drop s was) (omega (arith, length-drop s was)))
+    ∙ ap (λ (u : List ℕ). counter_mode cipher nonce k u ++ drop (length was - s) was)
+    (take_all (length was - s) (drop s was) (omega (arith, length-drop s was)))
 
 pub returns-then-done-len-clause-output : goal.returns-then-done-len-clause-output
 returns-then-done-len-clause-output c = λ nonce k at.
