@@ -1,6 +1,6 @@
 -- The key stream, a block at a time.
-use Rattle.std.proofs.Common.{◌≡◌, ℕ, ◌+◌, ◌-◌, ◌*◌, ◌/◌, ◌%◌, ◌<◌, ◌≤◌, List, ◌++◌, length, take, drop, refl, ap, ap₂, sym, ◌∙◌, arith, min, get_or, get_or-drop, length-take, length-append, length-drop}
-use Rattle.std.proofs.lemmas.List.{take_at, drop_at, drop-drop, take_min, get_or-take}
+use Rattle.std.proofs.Common.{◌≡◌, ℕ, ◌+◌, ◌-◌, ◌*◌, ◌/◌, ◌%◌, ◌<◌, ◌≤◌, List, [], ◌++◌, length, take, drop, refl, ap, ap₂, sym, ◌∙◌, arith, append_assoc, min, get_or, get_or-drop, length-take, length-append, length-drop}
+use Rattle.std.proofs.lemmas.List.{append-nil, drop_all, take_all, take-append-drop, take_at, drop_at, drop-drop, take_min, get_or-take}
 use Rattle.std.proofs.Math.Seq.{take-add}
 use Rattle.std.proofs.lemmas.List.FromFn.{fill_by_all}
 use Rattle.aead_ciphers_base.specs.Bytes.{each_below, ◌⊕◌}
@@ -74,17 +74,17 @@ chacha20_encrypted-append key counter nonce stream done piece j e whole =
     (xor-append done piece front (take (length piece) stream) (omega (arith, length-key_stream key counter nonce (64 * j)))
     ∙ ap (λ (xs : List ℕ). (done ⊕ front) ++ xs) (xor-take piece stream))
 
--- one more batch, of n bytes, of a slice of which the first `at` bytes, j blocks, are written
-pub written_more : (key : List ℕ) (counter : ℕ) (nonce : List ℕ) (start at j batch n : ℕ) (old was stream : List ℕ)
+-- one more piece, of n bytes, of a slice of which the first `at` bytes, j blocks, are written
+pub written_more : (key : List ℕ) (counter : ℕ) (nonce : List ℕ) (start at j size n : ℕ) (old was stream : List ℕ)
     → was ≡ chacha20_encrypted key counter nonce (take at (drop start old)) ++ drop (length (take at (drop start old))) old
     → take n stream ≡ key_stream key (counter + j) nonce n → at ≡ 64 * j
-    → start + at ≤ length old → n ≡ min batch (length old - start - at)
+    → start + at ≤ length old → n ≡ min size (length old - start - at)
     → take at was ++ (take n (drop (start + at) was) ⊕ stream) ++ drop (at + n) was
-    ≡ chacha20_encrypted key counter nonce (take (at + batch) (drop start old)) ++ drop (length (take (at + batch) (drop start old))) old
-written_more key counter nonce start at j batch n old was stream held e whole within short =
+    ≡ chacha20_encrypted key counter nonce (take (at + size) (drop start old)) ++ drop (length (take (at + size) (drop start old))) old
+written_more key counter nonce start at j size n old was stream held e whole within short =
     let input : List ℕ = drop start old in
     let done : List ℕ = take at input in
-    let piece : List ℕ = take batch (drop at input) in
+    let piece : List ℕ = take size (drop at input) in
     let ld : length done ≡ at = simp (length-take, length-drop) (omega arith) in
     let le : length (chacha20_encrypted key counter nonce done) ≡ at = length-chacha20_encrypted key counter nonce done ∙ ld in
     let front : take at was ≡ chacha20_encrypted key counter nonce done = ap (take at) held ∙ take_at _ _ at le in
@@ -95,12 +95,49 @@ written_more key counter nonce start at j batch n old was stream held e whole wi
     ap (λ (k : ℕ). drop k was) (omega arith) ∙ sym (drop-drop start at was) ∙ ap (drop start) rest ∙ drop-drop start at old
     ∙ ap (λ (k : ℕ). drop k old) (omega arith) ∙ sym (drop-drop at start old) in
     let piece_is : take n (drop (start + at) was) ≡ piece =
-    ap₂ (λ (k : ℕ) (xs : List ℕ). take k xs) (short ∙ ap (min batch) (sym li)) input_is ∙ take_min batch (drop at input) in
+    ap₂ (λ (k : ℕ) (xs : List ℕ). take k xs) (short ∙ ap (min size) (sym li)) input_is ∙ take_min size (drop at input) in
     let behind : drop (at + n) was ≡ drop (length (done ++ piece)) old =
     sym (drop-drop n at was) ∙ ap (drop n) rest ∙ drop-drop n at old ∙ ap (λ (k : ℕ). drop k old) (simp length-append (omega arith)) in
-    rw (take-add at batch input, front, piece_is, behind)
+    rw (take-add at size input, front, piece_is, behind)
     (ap (λ (xs : List ℕ). xs ++ drop (length (done ++ piece)) old)
     (sym (chacha20_encrypted-append key counter nonce stream done piece j (rw lp e) (ld ∙ whole))))
+
+piece_encrypted : (key : List ℕ) (counter : ℕ) (nonce piece : List ℕ)
+    → piece ⊕ key_stream key counter nonce (length piece) ≡ chacha20_encrypted key counter nonce piece
+unfolding chacha20_encrypted
+piece_encrypted key counter nonce piece = refl
+
+-- what stands behind j whole blocks of a slice is written, after them
+pub written_rest : (key : List ℕ) (counter : ℕ) (nonce : List ℕ) (start at j : ℕ) (old was rest : List ℕ)
+    → was ≡ chacha20_encrypted key counter nonce (take at (drop start old)) ++ drop (length (take at (drop start old))) old
+    → at ≡ 64 * j → start + at ≤ length old
+    → rest ≡ chacha20_encrypted key (counter + j) nonce (drop start (take (length was - at) (drop at was)))
+    ++ drop (length (drop start (take (length was - at) (drop at was)))) (take (length was - at) (drop at was))
+    → take at was ++ (rest ++ drop (length was - at) (drop at was))
+    ≡ chacha20_encrypted key counter nonce (drop start old) ++ drop (length (drop start old)) old
+written_rest key counter nonce start at j old was rest held whole within e =
+    let input : List ℕ = drop start old in
+    let done : List ℕ = take at input in
+    let piece : List ℕ = drop at input in
+    let ld : length done ≡ at = simp (length-take, length-drop) (omega arith) in
+    let le : length (chacha20_encrypted key counter nonce done) ≡ at = length-chacha20_encrypted key counter nonce done ∙ ld in
+    let front : take at was ≡ chacha20_encrypted key counter nonce done = ap (take at) held ∙ take_at _ _ at le in
+    let behind : drop at was ≡ drop at old = ap (drop at) held ∙ drop_at _ _ at le ∙ ap (λ (k : ℕ). drop k old) ld in
+    let piece_is : drop start (drop at was) ≡ piece =
+    ap (drop start) behind ∙ drop-drop start at old ∙ ap (λ (k : ℕ). drop k old) (omega arith) ∙ sym (drop-drop at start old) in
+    let past : drop (length piece) (drop at was) ≡ drop (length input) old =
+    ap (drop (length piece)) behind ∙ drop-drop (length piece) at old ∙ ap (λ (k : ℕ). drop k old) (simp length-drop (omega arith)) in
+    let lp : length (done ++ piece) ≡ length input = ap length (take-append-drop at input) in
+    let stream : List ℕ = key_stream key (counter + j) nonce (length piece) in
+    let both : chacha20_encrypted key counter nonce input
+    ≡ chacha20_encrypted key counter nonce done ++ chacha20_encrypted key (counter + j) nonce piece =
+    ap (chacha20_encrypted key counter nonce) (sym (take-append-drop at input))
+    ∙ chacha20_encrypted-append key counter nonce stream done piece j (take_all (length piece) stream (omega (arith, length-key_stream key (counter + j) nonce (length piece)))) (ld ∙ whole)
+    ∙ ap (λ (xs : List ℕ). chacha20_encrypted key counter nonce done ++ xs) (piece_encrypted key (counter + j) nonce piece) in
+    let none : drop (length was - at) (drop at was) ≡ [] = drop_all (length was - at) (drop at was) (simp length-drop (omega arith)) in
+    let part : take (length was - at) (drop at was) ≡ drop at was = take_all (length was - at) (drop at was) (simp length-drop (omega arith)) in
+    rw (none, append-nil rest, rw part at e, front, piece_is, past, both)
+    (sym (append_assoc (chacha20_encrypted key counter nonce done) (chacha20_encrypted key (counter + j) nonce piece) (drop (length input) old)))
 
 -- encrypting twice
 pub chacha20_encrypted-chacha20_encrypted : (key : List ℕ) (counter : ℕ) (nonce m : List ℕ)

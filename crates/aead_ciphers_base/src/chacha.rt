@@ -122,11 +122,17 @@ fn state_block(state: &State) -> [u8; BLOCK_LEN]
 
 // Writes to `at` the `n` bytes from `start + at` on, XORed with the key stream. All are read before
 // one is written.
-fn xor_batch(in_out: &mut [u8], start: usize, at: usize, n: usize, mut stream: [u8; BATCH_LEN])
+fn xor_stream<const N: usize>(
+    in_out: &mut [u8],
+    start: usize,
+    at: usize,
+    n: usize,
+    mut stream: [u8; N],
+)
     requires in_slice { start + at + n ≤ length in_out.old }
-    requires in_batch { n ≤ 256 }
+    requires in_stream { n ≤ N }
     ensures { in_out.new ≡ take at in_out.old
-        ++ (take n (drop (start + at) in_out.old) ⊕ stream)
+        ++ (take n (drop (start + at) in_out.old) ⊕ stream.entry)
         ++ drop (at + n) in_out.old }
 {
     let from = start + at;
@@ -224,13 +230,14 @@ impl Key {
             ++ drop (length input) in_out.entry.in_out.now }
     {
         let Overlapping { in_out, start } = in_out;
-        let len = in_out.len() - start;
-        for j in 0..len.div_ceil(BATCH_LEN) {
-            let at = BATCH_LEN * j;
-            let n = BATCH_LEN.min(len - at);
-            let stream = self.key_stream(&counter, (4 * j) as u32, n);
-            xor_batch(in_out, start, at, n, stream);
-        }
+        let batches = (in_out.len() - start) / BATCH_LEN;
+        self.encrypt_batches(&counter, in_out, start, batches);
+        self.encrypt_blocks(
+            &counter,
+            4 * batches,
+            &mut in_out[BATCH_LEN * batches..],
+            start,
+        );
     }
 
     // `encrypt` from the start of a slice on.
@@ -269,25 +276,47 @@ impl Key {
         mask
     }
 
-    // The first `n` bytes of the key stream from block `j` after the counter on. Four blocks are
-    // made side by side, and fewer one by one, so that no counter behind the last block is summed.
-    fn key_stream(&self, counter: &Counter, j: u32, n: usize) -> [u8; BATCH_LEN]
-        requires in_batch { n ≤ 256 }
-        requires counted { counter.now.number + j + div_ceil n 64 ≤ 2 ^ 32 }
-        ensures { take n result
-            ≡ key_stream self.now (counter.now.number + j) counter.now.nonce n }
+    // Encrypts the first batches of four blocks, side by side.
+    fn encrypt_batches(&self, counter: &Counter, in_out: &mut [u8], start: usize, batches: usize)
+        requires within { start + 256 * batches ≤ length in_out.old }
+        requires counted { counter.now.number + 4 * batches ≤ 2 ^ 32 }
+        ensures { let input = take (256 * batches) (drop start in_out.old) in
+            in_out.new
+            ≡ chacha20_encrypted self.now counter.now.number counter.now.nonce input
+            ++ drop (length input) in_out.old }
     {
-        let blocks = n.div_ceil(BLOCK_LEN);
-        if blocks == 4 {
-            return lanes::state_blocks(&lanes::four_states(&self.initial_state(counter, j)));
+        for j in 0..batches {
+            let stream = self.four_blocks(counter, (4 * j) as u32);
+            xor_stream(in_out, start, BATCH_LEN * j, BATCH_LEN, stream);
         }
-        let mut stream = [0; BATCH_LEN];
-        for i in 0..blocks {
-            let at = BLOCK_LEN * i;
-            let block = state_block(&self.initial_state(counter, j + i as u32));
-            stream[at..at + BLOCK_LEN].copy_from_slice(&block);
+    }
+
+    // Encrypts one block at a time, from block `first` after the counter on, so that no counter behind
+    // the last block is summed.
+    fn encrypt_blocks(&self, counter: &Counter, first: usize, in_out: &mut [u8], start: usize)
+        requires within { start ≤ length in_out.old }
+        requires counted { counter.now.number + first + div_ceil (length in_out.old - start) 64
+            ≤ 2 ^ 32 }
+        ensures { let input = drop start in_out.old in
+            in_out.new
+            ≡ chacha20_encrypted self.now (counter.now.number + first) counter.now.nonce input
+            ++ drop (length input) in_out.old }
+    {
+        let len = in_out.len() - start;
+        for j in 0..len.div_ceil(BLOCK_LEN) {
+            let at = BLOCK_LEN * j;
+            let n = BLOCK_LEN.min(len - at);
+            let block = state_block(&self.initial_state(counter, (first + j) as u32));
+            xor_stream(in_out, start, at, n, block);
         }
-        stream
+    }
+
+    // The four blocks of the key stream from block `j` after the counter on.
+    fn four_blocks(&self, counter: &Counter, j: u32) -> [u8; BATCH_LEN]
+        requires { counter.now.number + j + 4 ≤ 2 ^ 32 }
+        ensures { result ≡ key_stream self.now (counter.now.number + j) counter.now.nonce 256 }
+    {
+        lanes::state_blocks(&lanes::four_states(&self.initial_state(counter, j)))
     }
 
     // The initial state of block `j` after the counter.

@@ -2,7 +2,7 @@ use Rattle.std.proofs.Common.{◌≡◌, ℕ, List, ◌+◌, ◌-◌, ◌≤◌,
 use Rattle.std.proofs.lemmas.List.{take_at, drop-drop}
 use Rattle.aead_ciphers_base.specs.Bytes.{◌⊕◌}
 use Rattle.aead_ciphers_base.proofs.XorLemmas.{length-xor, xor_lists_comm}
-use Rattle.aead_ciphers_base.proofs.chacha.xor_batch.Goals as goal
+use Rattle.aead_ciphers_base.proofs.chacha.xor_stream.Goals as goal
 
 -- n bytes of a block that was XORed with n bytes
 front : (block mixed piece : List ℕ) (n : ℕ) → length piece ≡ n → n ≤ length block
@@ -13,8 +13,8 @@ front block mixed piece n size short e =
     ap (take n) e ∙ take_at (block ⊕ piece) (drop (length piece) block) n long ∙ order
 
 pub returns : goal.returns
-returns c =
-    let size : length c.args.stream ≡ 256 = search rules in
+returns g c =
+    let size : length c.args.stream ≡ g.row.N = search rules in
     let from : ℕ = c.args.start + c.args.at in
     let source : List ℕ = c.args.in_out.now in
     let read : from + c.args.n - from ≡ c.args.n = omega arith in

@@ -1,0 +1,20 @@
+use Rattle.std.proofs.Common.{◌≡◌, ℕ, ◌+◌, ◌*◌, refl, ap, ◌∙◌, arith, take}
+use Rattle.aead_ciphers_base.specs.ChaCha20.{chacha20_encrypted}
+use Rattle.aead_ciphers_base.proofs.KeyStreamLemmas.{take-key_stream, written_more}
+use Rattle.aead_ciphers_base.proofs.chacha.Key.encrypt_batches.Goals as goal
+
+pub loop-j-init : goal.loop-j-init
+unfolding chacha20_encrypted
+loop-j-init c = refl
+
+pub loop-j-preserved : goal.loop-j-preserved
+loop-j-preserved c =
+    let key = c.args.self.now in
+    let nonce = c.args.counter.now.nonce in
+    let j : ℕ = c.loop-j.j in
+    let next : 256 * (j + 1) ≡ 256 * j + 256 = omega arith in
+    rw next (c.xor_stream.ensures
+    ∙ written_more key c.args.counter.now.number nonce c.args.start (256 * j) (4 * j) 256 256
+    c.args.in_out.now c.loop-j.in_out c.four_blocks-stream.result c.loop-j.invariant
+    (ap (take 256) c.four_blocks-stream.ensures ∙ take-key_stream key (c.args.counter.now.number + 4 * j) nonce 256 256 (omega arith))
+    (omega arith) (omega arith) (omega arith))
