@@ -10,7 +10,7 @@ ghost use Rattle.aead_ciphers_base.specs.CounterMode.{Advances, EncryptsToFront}
 ghost use Rattle.aead_ciphers_base.specs.KeyBytes.{key_bytes};
 ghost use Rattle.aead_ciphers_base.specs.Mask.{aes_mask};
 ghost use Rattle.aead_ciphers_base.specs.Overlapping.{input_len};
-ghost use Rattle.aead_ciphers_base.specs.Work.{Adds, Room};
+ghost use Rattle.aead_ciphers_base.specs.Work.{Adds, CanAdd};
 
 use crate::error::Unspecified;
 use crate::values::Sample;
@@ -21,9 +21,9 @@ mod bit_sliced;
 mod counter;
 mod ctr32;
 mod key_schedule;
-mod layers;
 mod pack;
 mod planes;
+mod round;
 #[cfg(test)]
 mod tests;
 mod tower;
@@ -64,13 +64,13 @@ pub trait EncryptBlock {
 
     /// The cipher of a block: 16 bytes in, 16 bytes out.
     fn encrypt_block(&self, block: Block, work: &mut Work) -> Block
-        requires { Room work.old 1 0 }
+        requires { CanAdd work.old 1 0 }
         ensures value { result ≡ cipher self.now block }
         ensures worked { Adds work.old work.new 1 0 };
 
     /// A block XOR the cipher of the counter block `iv`: 16 bytes in, 16 bytes out.
     fn encrypt_iv_xor_block(&self, iv: Iv, block: Block, work: &mut Work) -> Block
-        requires { Room work.old 1 0 }
+        requires { CanAdd work.old 1 0 }
         ensures value { result ≡ block ⊕ cipher self.now iv }
         ensures worked { Adds work.old work.new 1 0 };
 }
@@ -88,7 +88,7 @@ pub trait EncryptCtr32: EncryptBlock {
     /// grows by the number of blocks.
     fn ctr32_encrypt_within(&self, in_out: Overlapping<'_>, counter: &mut Counter, work: &mut Work)
         requires whole { input_len in_out % 16 ≡ 0 }
-        requires room { Room work.old (input_len in_out / 16) 0 }
+        requires sums { CanAdd work.old (input_len in_out / 16) 0 }
         ensures output { EncryptsToFront (Self.cipher self.now) counter.old in_out.entry.start
             in_out.entry.in_out.now in_out.exit.0.now }
         ensures counter { Advances counter.old counter.new (input_len in_out.entry / 16) }

@@ -2,7 +2,7 @@
 
 ghost use Rattle.std.specs.Prelude.{◌≡◌, ◌≤◌, ◌<◌, ◌+◌, ◌-◌, ◌/◌, ◌%◌, ◌++◌, length, take, drop};
 ghost use Rattle.aead_ciphers_base.specs.CounterMode.{Advances, EncryptsFirst, EncryptsToFront, EncryptsWindow, InCounterMode};
-ghost use Rattle.aead_ciphers_base.specs.Work.{Adds, Room};
+ghost use Rattle.aead_ciphers_base.specs.Work.{Adds, CanAdd};
 
 use crate::gcm::padded;
 use aead_ciphers_base::aes::{
@@ -21,7 +21,7 @@ pub(super) fn encrypt_within<A: EncryptCtr32>(
     work: &mut Work,
 )
     requires within { start ≤ length in_out.old }
-    requires room { Room work.old ((length in_out.old - start + 15) / 16) 0 }
+    requires sums { CanAdd work.old ((length in_out.old - start + 15) / 16) 0 }
     ensures output { EncryptsToFront (A.cipher aes.now) counter start in_out.old in_out.new }
     ensures worked { Adds work.old work.new ((length in_out.old - start + 15) / 16) 0 }
 {
@@ -41,7 +41,7 @@ fn encrypt_whole<A: EncryptCtr32>(
 )
     requires within { start + whole ≤ length in_out.old }
     requires whole { whole % 16 ≡ 0 }
-    requires room { Room work.old (whole / 16) 0 }
+    requires sums { CanAdd work.old (whole / 16) 0 }
     ensures output { EncryptsFirst (A.cipher aes.now) counter.old start whole
         in_out.old in_out.new }
     ensures counter { Advances counter.old counter.new (whole / 16) }
@@ -67,7 +67,7 @@ pub(super) fn encrypt_chunk<A: EncryptCtr32>(
 )
     requires within { start + done + count ≤ length in_out.old }
     requires whole { count % 16 ≡ 0 }
-    requires room { Room work.old (count / 16) 0 }
+    requires sums { CanAdd work.old (count / 16) 0 }
     ensures output { EncryptsWindow (A.cipher aes.now) counter.old start done count
         in_out.old in_out.new }
     ensures counter { Advances counter.old counter.new (count / 16) }
@@ -87,7 +87,7 @@ fn encrypt_to_front<A: EncryptCtr32>(
 )
     requires within { start ≤ length in_out.old }
     requires whole { (length in_out.old - start) % 16 ≡ 0 }
-    requires room { Room work.old ((length in_out.old - start) / 16) 0 }
+    requires sums { CanAdd work.old ((length in_out.old - start) / 16) 0 }
     ensures output { EncryptsToFront (A.cipher aes.now) counter.old start in_out.old in_out.new }
     ensures counter { Advances counter.old counter.new ((length in_out.old - start) / 16) }
     ensures worked { Adds work.old work.new ((length in_out.old - start) / 16) 0 }
@@ -106,7 +106,7 @@ pub(super) fn encrypt_rest<A: EncryptBlock>(
 )
     requires within { start + done ≤ length in_out.old }
     requires short { length in_out.old < start + done + 16 }
-    requires room { Room work.old ((length in_out.old - start - done + 15) / 16) 0 }
+    requires sums { CanAdd work.old ((length in_out.old - start - done + 15) / 16) 0 }
     ensures output { InCounterMode (A.cipher aes.now) counter (drop (start + done) in_out.old)
         (λ text. in_out.new ≡ take done in_out.old ++ text
         ++ drop (length in_out.old - start) in_out.old) }

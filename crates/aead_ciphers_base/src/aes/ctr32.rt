@@ -3,7 +3,7 @@
 ghost use Rattle.std.specs.Prelude.{◌≡◌, ◌<◌, ◌≤◌, ℕ, ◌+◌, ◌-◌, ◌/◌, ◌%◌, List, [], length, slice_index_or};
 ghost use Rattle.aead_ciphers_base.specs.Aes.{aes};
 ghost use Rattle.aead_ciphers_base.specs.CounterMode.{IsCounter, Advances, EncryptsToFront, EncryptsWindow, counter_mode};
-ghost use Rattle.aead_ciphers_base.specs.Work.{Adds, Room};
+ghost use Rattle.aead_ciphers_base.specs.Work.{Adds, CanAdd};
 
 use crate::aes::{BLOCK_LEN, Counter, Key, Work};
 use crate::bb;
@@ -21,7 +21,7 @@ pub(crate) fn encrypt_to_front(
 )
     requires within { start ≤ length in_out.old }
     requires whole { (length in_out.old - start) % 16 ≡ 0 }
-    requires room { Room work.old ((length in_out.old - start) / 16) 0 }
+    requires sums { CanAdd work.old ((length in_out.old - start) / 16) 0 }
     ensures output { EncryptsToFront (aes key.now) counter.old start in_out.old in_out.new }
     ensures counter { Advances counter.old counter.new ((length in_out.old - start) / 16) }
     ensures worked { Adds work.old work.new ((length in_out.old - start) / 16) 0 }
@@ -52,7 +52,7 @@ fn encrypt_batch(
     requires within { start + done + count ≤ length in_out.old }
     requires whole { count % 16 ≡ 0 }
     requires short { count ≤ 64 }
-    requires room { Room work.old (count / 16) 0 }
+    requires sums { CanAdd work.old (count / 16) 0 }
     ensures output { EncryptsWindow (aes key.now) counter.old start done count
         in_out.old in_out.new }
     ensures counter { Advances counter.old counter.new (count / 16) }
