@@ -1,11 +1,15 @@
 -- AES-GCM: authenticated encryption (SP 800-38D section 7) over AES under a key (FIPS 197).
 use Rattle.std.specs.Prelude.{ℕ, Bool, List}
 use Rattle.aead_ciphers_base.specs.Aes.{aes}
-use Rattle.aead_ciphers.specs.Gcm.{encrypted, tag, sealed, Opened, OpenedAttached}
+use Rattle.aead_ciphers.specs.Gcm.{encrypted, decrypted, tag, sealed, Opened, OpenedAttached}
 
 -- the ciphertext of a message, under a key and a nonce
 abbrev pub aes_encrypted : List ℕ → List ℕ → List ℕ → List ℕ
 aes_encrypted key nonce message = encrypted (aes key) nonce message
+
+-- the message of a ciphertext, under a key and a nonce
+abbrev pub aes_decrypted : List ℕ → List ℕ → List ℕ → List ℕ
+aes_decrypted key nonce ciphertext = decrypted (aes key) nonce ciphertext
 
 -- the tag of a ciphertext, under a key, a nonce and an AAD
 abbrev pub aes_tag : List ℕ → List ℕ → List ℕ → List ℕ → List ℕ

@@ -1,9 +1,10 @@
 -- Authenticated encryption over a block cipher of 16-byte blocks, with 12-byte nonces and 16-byte tags
 -- (SP 800-38D section 7). A cipher is a function on blocks; bytes are taken by index, and 0 past the end.
-use Rattle.std.specs.Prelude.{◌≡◌, ◌≢◌, ℕ, Bool, true, false, ◌+◌, ◌-◌, ◌*◌, ◌/◌, ◌^◌, ◌<◌, ◌≤◌, List, [], ◌∷◌, ◌++◌, length, take, drop, slice_index}
+use Rattle.std.specs.Prelude.{◌≡◌, ◌≢◌, ℕ, Bool, true, false, ◌+◌, ◌-◌, ◌*◌, ◌/◌, ◌^◌, ◌<◌, ◌≤◌, List, [], ◌∷◌, ◌++◌, length, take, drop, slice_index, Result, OnOk, OnErr}
 use Rattle.std.specs.Int.{to_be_bytes, w64}
 use Rattle.aead_ciphers_base.specs.Bytes.{each_below, ◌⊕◌, zero_block}
 use Rattle.aead_ciphers_base.specs.CounterMode.{counter_block, counter_mode}
+use Rattle.aead_ciphers_base.specs.Work.{Adds, Tallies}
 use Rattle.aead_ciphers.specs.Ghash.{ghash}
 
 -- 16 bytes from byte 16 i on, zeros past the end (section 7.1 step 4)
@@ -72,3 +73,17 @@ sealing_blocks n = (n + 15) / 16 + 1
 -- (sections 6.4 and 7.1 step 5)
 abbrev pub sealing_products : ℕ → ℕ → ℕ
 sealing_products a n = (a + 15) / 16 + (n + 15) / 16 + 1
+
+-- the tallies of a seal of n bytes of message under a bytes of AAD; a refused seal counts nothing
+pub record SealWork {T E : Type 0} (a n : ℕ) (result : Result T E) (was now : Tallies) : Type 0 where
+  pub worked : OnOk result (Adds was now (sealing_blocks n) (sealing_products a n))
+  pub idle : OnErr result (Adds was now 0 0)
+
+-- the tallies of an open of the bytes from `start` on of a buffer of len bytes: a false tag is found by the products
+-- and one block, and where the start or the lengths are refused nothing is counted
+pub record OpenWork {T E : Type 0} (a start len : ℕ) (result : Result T E) (was now : Tallies) : Type 0 where
+  pub worked : let n = len - start in OnOk result (Adds was now (sealing_blocks n) (sealing_products a n))
+  pub false_tag : start ≤ len → let n = len - start in
+      Fits a n → OnErr result (Adds was now 1 (sealing_products a n))
+  pub out_of_range : len < start → Adds was now 0 0
+  pub too_long : start ≤ len → ¬ Fits a (len - start) → Adds was now 0 0

@@ -1,11 +1,11 @@
 //! AES-GCM with 12-byte nonces and 16-byte tags (SP 800-38D section 7), in place.
 
-ghost use Rattle.std.specs.Prelude.{◌≡◌, ◌≤◌, ◌<◌, ◌-◌, ◌+◌, ◌↔◌, length, IsOk, IfOk, OnOk, OnErr, is_ok};
+ghost use Rattle.std.specs.Prelude.{◌≡◌, ◌-◌, ◌↔◌, length, IsOk, IfOk, OnOk, OnErr, is_ok};
 ghost use Rattle.aead_ciphers_base.specs.KeyBytes.{key_bytes};
 ghost use Rattle.aead_ciphers_base.specs.Values.{aad_bytes};
-ghost use Rattle.aead_ciphers_base.specs.Work.{Adds, Room};
+ghost use Rattle.aead_ciphers_base.specs.Work.{Adds, CanAdd};
 ghost use Rattle.aead_ciphers.specs.AesGcm.{AesOpened, aes_encrypted, aes_tag};
-ghost use Rattle.aead_ciphers.specs.Gcm.{Fits, sealing_blocks, sealing_products};
+ghost use Rattle.aead_ciphers.specs.Gcm.{Fits, OpenWork, SealWork, sealing_blocks, sealing_products};
 
 mod counter_mode;
 mod hash;
@@ -44,7 +44,7 @@ impl Key {
     /// Expands a key of 16 or 32 bytes, and makes its hash subkey by one cipher block (SP 800-38D
     /// section 7.1 step 1). It is never refused.
     pub fn new(bytes: KeyBytes<'_>, work: &mut Work) -> Result<Key, Unspecified>
-        requires { Room work.old 1 0 }
+        requires { CanAdd work.old 1 0 }
         ensures accepted { IsOk result }
         ensures made { IfOk result (λ key. key ≡ key_bytes bytes.entry) }
         ensures worked { Adds work.old work.new 1 0 }
@@ -67,15 +67,13 @@ pub fn seal(
     work: &mut Work,
 ) -> Result<Tag, Unspecified>
     requires { let n = length in_out.old in let a = length (aad_bytes aad) in
-        Fits a n → Room work.old (sealing_blocks n) (sealing_products a n) }
+        Fits a n → CanAdd work.old (sealing_blocks n) (sealing_products a n) }
     ensures accepted { IsOk result ↔ Fits (length (aad_bytes aad.entry)) (length in_out.old) }
     ensures ciphertext { OnOk result (in_out.new ≡ aes_encrypted key.now nonce in_out.old) }
     ensures tag { IfOk result (λ t. t ≡ aes_tag key.now nonce (aad_bytes aad.entry) in_out.new) }
     ensures refused { OnErr result (in_out.new ≡ in_out.old) }
-    ensures worked { OnOk result
-        (let n = length in_out.old in let a = length (aad_bytes aad.entry) in
-        Adds work.old work.new (sealing_blocks n) (sealing_products a n)) }
-    ensures idle { OnErr result (Adds work.old work.new 0 0) }
+    ensures worked { SealWork (length (aad_bytes aad.entry)) (length in_out.old) result
+        work.old work.new }
 {
     sealing::seal_with(&key.aes, &key.gcm, nonce, aad, in_out, work)
 }
@@ -95,19 +93,11 @@ pub fn open(
 ) -> Result<(), Unspecified>
     requires { src.start ≤ length in_out.old →
         let n = length in_out.old - src.start in let a = length (aad_bytes aad) in
-        Fits a n → Room work.old (sealing_blocks n) (sealing_products a n) }
+        Fits a n → CanAdd work.old (sealing_blocks n) (sealing_products a n) }
     ensures opened { AesOpened key.now nonce (aad_bytes aad.entry) received_tag src.start in_out.old
         (is_ok result) in_out.new }
-    ensures worked { OnOk result
-        (let n = length in_out.old - src.start in let a = length (aad_bytes aad.entry) in
-        Adds work.old work.new (sealing_blocks n) (sealing_products a n)) }
-    ensures false_tag { src.start ≤ length in_out.old →
-        let n = length in_out.old - src.start in let a = length (aad_bytes aad.entry) in
-        Fits a n → OnErr result (Adds work.old work.new 1 (sealing_products a n)) }
-    ensures out_of_range { length in_out.old < src.start → Adds work.old work.new 0 0 }
-    ensures too_long { src.start ≤ length in_out.old →
-        ¬ Fits (length (aad_bytes aad.entry)) (length in_out.old - src.start) →
-        Adds work.old work.new 0 0 }
+    ensures worked { OpenWork (length (aad_bytes aad.entry)) src.start (length in_out.old) result
+        work.old work.new }
 {
     opening::open_with(
         &key.aes,

@@ -3,7 +3,7 @@
 ghost use Rattle.std.specs.Prelude.{◌≡◌, ℕ, ◌+◌, ◌/◌, List, [], ◌∷◌, ◌++◌, length};
 ghost use Rattle.std.specs.Int.{to_be_bytes, w128};
 ghost use Rattle.aead_ciphers_base.specs.Blocks.{blocks};
-ghost use Rattle.aead_ciphers_base.specs.Work.{Adds, Room};
+ghost use Rattle.aead_ciphers_base.specs.Work.{Adds, CanAdd};
 ghost use Rattle.aead_ciphers.specs.HashOf.{IsHashOf};
 
 mod context;
@@ -76,7 +76,7 @@ pub trait UpdateBlock {
 
     /// Takes in one block, by one field product.
     fn update_block(&self, xi: &mut Xi, block: Block, work: &mut Work)
-        requires { Room work.old 0 1 }
+        requires { CanAdd work.old 0 1 }
         ensures hashed { (done : List (List ℕ)) → IsHashOf (hash_key self.now) done xi.old
             → IsHashOf (hash_key self.now) (done ++ block ∷ []) xi.new }
         ensures worked { Adds work.old work.new 0 1 };
@@ -86,7 +86,7 @@ pub trait UpdateBlock {
 pub trait UpdateBlocks: UpdateBlock {
     /// Takes in the blocks in order, by one field product each.
     fn update_blocks(&self, xi: &mut Xi, input: AsChunks<'_, u8, BLOCK_LEN>, work: &mut Work)
-        requires { Room work.old 0 (length input.items.now / 16) }
+        requires { CanAdd work.old 0 (length input.items.now / 16) }
         ensures hashed { (done : List (List ℕ)) → IsHashOf (Self.hash_key self.now) done xi.old
             → IsHashOf (Self.hash_key self.now) (done ++ blocks 16 input.entry.items.now) xi.new }
         ensures worked { Adds work.old work.new 0 (length input.entry.items.now / 16) };

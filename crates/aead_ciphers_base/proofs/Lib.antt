@@ -14,7 +14,6 @@ pub mod FastProductLemmas
 pub mod KeyLemmas
 pub mod KeyStreamLemmas
 pub mod LaneLemmas
-pub mod LayerLemmas
 pub mod PackLemmas
 pub mod PlaneLemmas
 pub mod PolynomialAction
@@ -22,6 +21,7 @@ pub mod PolynomialBits
 pub mod PolynomialLaws
 pub mod PolynomialLemmas
 pub mod RoundLemmas
+pub mod RoundStepLemmas
 pub mod ScheduleLemmas
 pub mod ShiftLemmas
 pub mod TowerLemmas

@@ -34,7 +34,7 @@ bit_at-shl_high x s w q hw hs =
     let plain : x * 2 ^ s + 0 ≡ x * 2 ^ s = omega arith in
     bit_at-mod (x * 2 ^ s) w q hw ∙ sym (ap (λ t. bit_at t q) plain) ∙ bit_at_cat_high x s 0 q (pow_pos s) hs
 
--- ---- the exchange of two words
+-- ---- the delta swap of two words
 
 pub shift_is : (k : ℕ) → k < 6 → 1 * 2 ^ k % 2 ^ 32 ≡ 2 ^ k
 shift_is k h = same_below (λ t. 1 * 2 ^ t % 2 ^ 32) (λ t. 2 ^ t) 6 k refl h
@@ -104,8 +104,8 @@ module _ (a b k q : ℕ) (hk : k < 6) (hq : q < 64) where
       set-and (bit_xor (a / 2 ^ (2 ^ k)) b) (slice_index LOW k) t
       ∙ ap₂ ◌&&◌ (set-xor (a / 2 ^ (2 ^ k)) b t ∙ ap (λ x. (x == 1) xor (bit_at b t == 1)) (bit_at-shr a (2 ^ k) t)) (ap (λ x. x == 1) (low_is k t hk h))
 
-  pub exchange_second : bit_at (bit_xor b moved) q ≡ (if bit_at q k == 0 then bit_at a (q + 2 ^ k) else bit_at b q)
-  exchange_second =
+  pub delta_swap_second : bit_at (bit_xor b moved) q ≡ (if bit_at q k == 0 then bit_at a (q + 2 ^ k) else bit_at b q)
+  delta_swap_second =
       chosen_digit (bit_at q k == 0) (bit_at a (q + 2 ^ k)) (bit_at b q) (bit_at (bit_xor b moved) q) (bit_at-lt a (q + 2 ^ k)) (bit_at-lt b q) (bit_at-lt (bit_xor b moved) q)
       (set-xor b moved q ∙ ap (λ t. (bit_at b q == 1) xor t) (moved_bit q hq)
       ∙ second_choice (bit_at a (q + 2 ^ k) == 1) (bit_at b q == 1) (bit_at q k) (bit_at-lt q k))
@@ -127,8 +127,8 @@ module _ (a b k q : ℕ) (hk : k < 6) (hq : q < 64) where
         ∙ ap₂ (λ i d. ((bit_at a i == 1) xor (bit_at b (q - 2 ^ k) == 1)) && (d == 1)) place digit
   ]
 
-  pub exchange_first : bit_at (bit_xor a shifted) q ≡ (if bit_at q k == 0 then bit_at a q else bit_at b (q - 2 ^ k))
-  exchange_first =
+  pub delta_swap_first : bit_at (bit_xor a shifted) q ≡ (if bit_at q k == 0 then bit_at a q else bit_at b (q - 2 ^ k))
+  delta_swap_first =
       chosen_digit (bit_at q k == 0) (bit_at a q) (bit_at b (q - 2 ^ k)) (bit_at (bit_xor a shifted) q) (bit_at-lt a q) (bit_at-lt b (q - 2 ^ k)) (bit_at-lt (bit_xor a shifted) q)
       (set-xor a shifted q ∙ ap (λ t. (bit_at a q == 1) xor t) shifted_bit
       ∙ first_choice (bit_at a q == 1) (bit_at b (q - 2 ^ k) == 1) (bit_at q k) (bit_at-lt q k))
@@ -163,7 +163,7 @@ by_digit P zero h zero_case one_case = zero_case refl
 by_digit P (suc zero) h zero_case one_case = one_case refl
 by_digit P (suc (suc d)) h zero_case one_case = absurd (omega arith)
 
--- words 2 i and 2 i + 1 of r are those that `exchange` makes of words i and i + 4 of w
+-- words 2 i and 2 i + 1 of r are those that `delta_swap` makes of words i and i + 4 of w
 abbrev pub FirstOf : List ℕ → List ℕ → ℕ → ℕ → Type 0
 FirstOf w r k i = (q : ℕ) → q < 64
     → bit_at (slice_index r (2 * i)) q ≡ (if bit_at q k == 0 then bit_at (slice_index w i) q else bit_at (slice_index w (i + 4)) (q - 2 ^ k))

@@ -1,10 +1,10 @@
 -- The key schedule, word by word.
 use Rattle.std.proofs.Common.{◌≡◌, ℕ, suc, ◌+◌, ◌-◌, ◌*◌, ◌/◌, ◌%◌, ◌<◌, ◌≤◌, true, false, ◌&&◌, List, [], ◌∷◌, ◌++◌, length, take, set, refl, sym, ◌∙◌, ap, ap₂, arith, slice_index, get_or-take, map, eq-eqb, ne_eqb}
-use Rattle.std.specs.Prelude.{◌==◌}
+use Rattle.std.specs.Prelude.{◌==◌, nat_lt}
 use Rattle.std.proofs.lemmas.List.{take_more_set}
 use Rattle.std.proofs.lemmas.List.FromFn.{map-range_with_len_more}
 use Rattle.std.specs.List.{range_with_len}
-use Rattle.std.proofs.lemmas.Bool.{cond-true, cond-false, and_from}
+use Rattle.std.proofs.lemmas.Bool.{cond-true, cond-false, and_from, lt-ltb}
 use Rattle.aead_ciphers_base.specs.declared.aes.key_schedule.TheConstants.{ROUND_CONSTANTS}
 use Rattle.aead_ciphers_base.specs.Aes.{word, word_at, add_words, rot_word, sub_word, power_of_x, next_word, key_words}
 use Rattle.aead_ciphers_base.proofs.BitsLemmas.{all_below, same_below}
@@ -28,17 +28,17 @@ module _ (nk : ℕ) (w : List (List ℕ)) (i : ℕ) where
   unfolding next_word
   next_word_turned e = ap (add_words back) (cond-true (i % nk == 0) _ _ (eq-eqb (i % nk) 0 e))
 
-  pub next_word_middle : (i % nk ≡ 0 → ⊥) → nk ≡ 8 → i % 8 ≡ 4 → next_word nk w i ≡ add_words back (sub_word before)
+  pub next_word_middle : (i % nk ≡ 0 → ⊥) → 6 < nk → i % nk ≡ 4 → next_word nk w i ≡ add_words back (sub_word before)
   unfolding next_word
   next_word_middle ne e f =
       ap (add_words back)
       (cond-false (i % nk == 0) _ _ (ne_eqb (i % nk) 0 ne)
-      ∙ cond-true ((nk == 8) && (i % 8 == 4)) _ _ (and_from (nk == 8) (i % 8 == 4) (eq-eqb nk 8 e) (eq-eqb (i % 8) 4 f)))
+      ∙ cond-true (nat_lt 6 nk && (i % nk == 4)) _ _ (and_from (nat_lt 6 nk) (i % nk == 4) (lt-ltb 6 nk e) (eq-eqb (i % nk) 4 f)))
 
-  pub next_word_plain : (i % nk ≡ 0 → ⊥) → (((nk == 8) && (i % 8 == 4)) ≡ false) → next_word nk w i ≡ add_words back before
+  pub next_word_plain : (i % nk ≡ 0 → ⊥) → ((nat_lt 6 nk && (i % nk == 4)) ≡ false) → next_word nk w i ≡ add_words back before
   unfolding next_word
   next_word_plain ne f =
-      ap (add_words back) (cond-false (i % nk == 0) _ _ (ne_eqb (i % nk) 0 ne) ∙ cond-false ((nk == 8) && (i % 8 == 4)) _ _ f)
+      ap (add_words back) (cond-false (i % nk == 0) _ _ (ne_eqb (i % nk) 0 ne) ∙ cond-false (nat_lt 6 nk && (i % nk == 4)) _ _ f)
 
 -- the next word looks at the words before it alone
 next_word_front : (nk : ℕ) (w : List (List ℕ)) (i : ℕ) → 0 < nk → nk ≤ i → next_word nk (take i w) i ≡ next_word nk w i

@@ -1,5 +1,5 @@
 -- The cipher AES and its key schedule (FIPS 197).
-use Rattle.std.specs.Prelude.{ℕ, zero, suc, ◌+◌, ◌-◌, ◌*◌, ◌/◌, ◌%◌, ◌==◌, ◌&&◌, List, [], ◌∷◌, ◌++◌, length, map, bit_xor, slice_index, slice_index_or, if◌then◌else◌}
+use Rattle.std.specs.Prelude.{ℕ, zero, suc, ◌+◌, ◌-◌, ◌*◌, ◌/◌, ◌%◌, ◌==◌, ◌&&◌, nat_lt, List, [], ◌∷◌, ◌++◌, length, map, bit_xor, slice_index, slice_index_or, if◌then◌else◌}
 use Rattle.std.specs.List.{range_with_len}
 use Rattle.aead_ciphers_base.specs.ByteField.{mul8, sbox}
 
@@ -63,7 +63,7 @@ next_word nk w i =
     let t = word_at w (i - 1) in
     add_words (word_at w (i - nk))
     (if i % nk == 0 then add_words (sub_word (rot_word t)) (power_of_x (i / nk - 1) ∷ 0 ∷ 0 ∷ 0 ∷ [])
-    else (if (nk == 8) && (i % 8 == 4) then sub_word t else t))
+    else (if nat_lt 6 nk && (i % nk == 4) then sub_word t else t))
 
 -- KeyExpansion: the nk words of the key, and n more (section 5.2)
 unfoldable pub key_words : ℕ → List ℕ → ℕ → List (List ℕ)

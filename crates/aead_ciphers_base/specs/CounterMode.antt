@@ -1,5 +1,5 @@
 -- Counter mode over a block cipher, by byte index (SP 800-38D section 6.5).
-use Rattle.std.specs.Prelude.{◌≡◌, ℕ, ◌+◌, ◌/◌, ◌%◌, ◌^◌, List, ◌++◌, length, bit_xor, slice_index}
+use Rattle.std.specs.Prelude.{◌≡◌, ℕ, ◌+◌, ◌-◌, ◌/◌, ◌%◌, ◌^◌, List, ◌++◌, length, take, drop, bit_xor, slice_index}
 use Rattle.std.specs.Int.{to_be_bytes, w32}
 use Rattle.aead_ciphers_base.specs.Bytes.{each_below}
 
@@ -17,3 +17,28 @@ counter_mode cipher nonce k text = each_below (length text)
 pub record IsCounter (block nonce : List ℕ) (k : ℕ) : Type 0 where
   pub size : length nonce ≡ 12
   pub value : block ≡ counter_block nonce k
+
+-- the number of a counter block grows by n: under whatever nonce and number it was one, it is that nonce's, n on
+abbrev pub Advances : List ℕ → List ℕ → ℕ → Type 0
+Advances was now n = (nonce : List ℕ) (k : ℕ) → IsCounter was nonce k → IsCounter now nonce (k + n)
+
+-- what is said of the text in counter mode from a counter block on, under whatever nonce and number that is one
+abbrev pub InCounterMode : (List ℕ → List ℕ) → List ℕ → List ℕ → (List ℕ → Type 0) → Type 0
+InCounterMode cipher counter text Says =
+    (nonce : List ℕ) (k : ℕ) → IsCounter counter nonce k → Says (counter_mode cipher nonce k text)
+
+-- the bytes of a buffer from `start` on, in counter mode, stand at its front; the bytes behind those stay
+abbrev pub EncryptsToFront : (List ℕ → List ℕ) → List ℕ → ℕ → List ℕ → List ℕ → Type 0
+EncryptsToFront cipher counter start old new =
+    InCounterMode cipher counter (drop start old) (λ text. new ≡ text ++ drop (length old - start) old)
+
+-- `count` bytes from `start` on, in counter mode, stand at the front; the others stay
+abbrev pub EncryptsFirst : (List ℕ → List ℕ) → List ℕ → ℕ → ℕ → List ℕ → List ℕ → Type 0
+EncryptsFirst cipher counter start count old new =
+    InCounterMode cipher counter (take count (drop start old)) (λ text. new ≡ text ++ drop count old)
+
+-- `count` bytes from `start + done` on, in counter mode, stand from `done` on; the others stay
+abbrev pub EncryptsWindow : (List ℕ → List ℕ) → List ℕ → ℕ → ℕ → ℕ → List ℕ → List ℕ → Type 0
+EncryptsWindow cipher counter start done count old new =
+    InCounterMode cipher counter (take count (drop (start + done) old))
+    (λ text. new ≡ take done old ++ text ++ drop (done + count) old)

@@ -1,9 +1,21 @@
 -- What is done with the front and the chunks of a slice.
-use Rattle.std.specs.Prelude.{ℕ, ◌≡◌, List, ◌++◌, drop, take, Result, Ok, Err}
+use Rattle.std.specs.Prelude.{ℕ, ◌≡◌, ◌-◌, List, ◌++◌, length, drop, take, Result, Ok, Err}
 use Rattle.std.specs.Borrow.{Array, Bor, Fml, GName, MutBor, RattleType, RestsIfErr, follows}
 use Rattle.std.specs.Fn.{Once, FnOnceReturnsAt, FnOnceTakesAt}
 use base.Fml.{fex, fres}
 use Rattle.aead_ciphers_base.specs.declared.overlapping.base.Overlapping.{Overlapping}
+
+-- the input: the items from the start on
+abbrev pub input_of : {T : Type 0} → Overlapping T → List T
+input_of o = drop o.start o.in_out.now
+
+-- how many items the input has
+abbrev pub input_len : {T : Type 0} → Overlapping T → ℕ
+input_len o = length o.in_out.now - o.start
+
+-- the items behind the output, which is as long as the input
+abbrev pub after_output : {T : Type 0} → Overlapping T → List T
+after_output o = drop (input_len o) o.in_out.now
 
 -- s ends with the last value behind r, and then its own items from n on
 abbrev pub LendsOutput : (T : RattleType) → MutBor (List T.Denot) → MutBor (List T.Denot) → ℕ → Fml

@@ -10,8 +10,8 @@ abbrev pub Adds : Tallies → Tallies → ℕ → ℕ → Type 0
 Adds was now blocks products = (now.blocks ≡ was.blocks + blocks) × (now.products ≡ was.products + products)
 
 -- the sums with so many more fit 64 bits
-abbrev pub Room : Tallies → ℕ → ℕ → Type 0
-Room work blocks products = (work.blocks + blocks < 2 ^ 64) × (work.products + products < 2 ^ 64)
+abbrev pub CanAdd : Tallies → ℕ → ℕ → Type 0
+CanAdd work blocks products = (work.blocks + blocks < 2 ^ 64) × (work.products + products < 2 ^ 64)
 
 -- room enough for one seal or open
 abbrev pub HasRoom : Tallies → Type 0

@@ -3,13 +3,14 @@
 //! Four blocks stand in eight planes of 64 bits: bit `16 * block + byte` of plane `b` is bit `b` of
 //! that byte. No step reads a table or branches on a byte.
 
-ghost use Rattle.std.specs.Prelude.{◌≡◌, ◌<◌, ◌⊎◌, ℕ, ◌+◌, ◌-◌, ◌/◌, ◌%◌, ◌++◌, List, [], length, drop, slice_index_or, IsOk, IfOk};
+ghost use Rattle.std.specs.Prelude.{◌≡◌, ◌<◌, ◌⊎◌, ℕ, ◌/◌, ◌%◌, List, [], length, slice_index_or, IsOk, IfOk};
 ghost use Rattle.aead_ciphers_base.specs.Aes.{aes};
 ghost use Rattle.aead_ciphers_base.specs.Bytes.{◌⊕◌};
-ghost use Rattle.aead_ciphers_base.specs.CounterMode.{IsCounter, counter_mode};
+ghost use Rattle.aead_ciphers_base.specs.CounterMode.{Advances, EncryptsToFront};
 ghost use Rattle.aead_ciphers_base.specs.KeyBytes.{key_bytes};
 ghost use Rattle.aead_ciphers_base.specs.Mask.{aes_mask};
-ghost use Rattle.aead_ciphers_base.specs.Work.{Adds, Room};
+ghost use Rattle.aead_ciphers_base.specs.Overlapping.{input_len};
+ghost use Rattle.aead_ciphers_base.specs.Work.{Adds, CanAdd};
 
 use crate::error::Unspecified;
 use crate::values::Sample;
@@ -20,9 +21,9 @@ mod bit_sliced;
 mod counter;
 mod ctr32;
 mod key_schedule;
-mod layers;
 mod pack;
 mod planes;
+mod round;
 #[cfg(test)]
 mod tests;
 mod tower;
@@ -63,13 +64,13 @@ pub trait EncryptBlock {
 
     /// The cipher of a block: 16 bytes in, 16 bytes out.
     fn encrypt_block(&self, block: Block, work: &mut Work) -> Block
-        requires { Room work.old 1 0 }
+        requires { CanAdd work.old 1 0 }
         ensures value { result ≡ cipher self.now block }
         ensures worked { Adds work.old work.new 1 0 };
 
     /// A block XOR the cipher of the counter block `iv`: 16 bytes in, 16 bytes out.
     fn encrypt_iv_xor_block(&self, iv: Iv, block: Block, work: &mut Work) -> Block
-        requires { Room work.old 1 0 }
+        requires { CanAdd work.old 1 0 }
         ensures value { result ≡ block ⊕ cipher self.now iv }
         ensures worked { Adds work.old work.new 1 0 };
 }
@@ -86,17 +87,12 @@ pub trait EncryptCtr32: EncryptBlock {
     /// the cipher of the counter block plus j. The bytes behind the output stay, and the counter
     /// grows by the number of blocks.
     fn ctr32_encrypt_within(&self, in_out: Overlapping<'_>, counter: &mut Counter, work: &mut Work)
-        requires whole { (length in_out.in_out.now - in_out.start) % 16 ≡ 0 }
-        requires room { Room work.old ((length in_out.in_out.now - in_out.start) / 16) 0 }
-        ensures output { (nonce : List ℕ) (k : ℕ) → IsCounter counter.old nonce k →
-            let was = in_out.entry.in_out.now in let start = in_out.entry.start in
-            in_out.exit.0.now ≡ counter_mode (Self.cipher self.now) nonce k (drop start was)
-            ++ drop (length was - start) was }
-        ensures counter { (nonce : List ℕ) (k : ℕ) → IsCounter counter.old nonce k →
-            IsCounter counter.new nonce
-            (k + (length in_out.entry.in_out.now - in_out.entry.start) / 16) }
-        ensures worked { Adds work.old work.new
-            ((length in_out.entry.in_out.now - in_out.entry.start) / 16) 0 };
+        requires whole { input_len in_out % 16 ≡ 0 }
+        requires sums { CanAdd work.old (input_len in_out / 16) 0 }
+        ensures output { EncryptsToFront (Self.cipher self.now) counter.old in_out.entry.start
+            in_out.entry.in_out.now in_out.exit.0.now }
+        ensures counter { Advances counter.old counter.new (input_len in_out.entry / 16) }
+        ensures worked { Adds work.old work.new (input_len in_out.entry / 16) 0 };
 }
 
 /// A key, expanded: its round keys (FIPS 197 section 5.2), each in all four blocks of eight planes.

@@ -6,6 +6,7 @@ ghost use Rattle.std.specs.Simd.Lanes.{zip2};
 ghost use Rattle.aead_ciphers_base.specs.Bytes.{◌⊕◌};
 ghost use Rattle.aead_ciphers_base.specs.ChaCha20.{add32, quarter_round, quarter_round_at, double_round, state_block, le_words, le_bytes, initial_state, key_stream, chacha20_encrypted, Position};
 ghost use Rattle.aead_ciphers_base.specs.Mask.{chacha_mask};
+ghost use Rattle.aead_ciphers_base.specs.Overlapping.{input_len, input_of};
 
 use crate::values::{Nonce, Sample};
 use crate::{bb, overlapping};
@@ -224,8 +225,8 @@ impl Key {
     /// XORs the input with the key stream from the counter on (RFC 8439 section 2.4). The output
     /// is as long as the input.
     pub fn encrypt(&self, counter: Counter, in_out: Overlapping<'_>)
-        requires { counter.number + div_ceil (length in_out.in_out.now - in_out.start) 64 ≤ 2 ^ 32 }
-        ensures { let input = drop in_out.entry.start in_out.entry.in_out.now in
+        requires { counter.number + div_ceil (input_len in_out) 64 ≤ 2 ^ 32 }
+        ensures { let input = input_of in_out.entry in
             in_out.exit.0.now ≡ chacha20_encrypted self.now counter.number counter.nonce input
             ++ drop (length input) in_out.entry.in_out.now }
     {

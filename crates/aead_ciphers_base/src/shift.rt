@@ -1,6 +1,7 @@
 //! Blocks that are transformed while they are moved to the front.
 
-ghost use Rattle.std.specs.Prelude.{◌≡◌, ◌-◌, ◌%◌, ◌<◌, drop, length};
+ghost use Rattle.std.specs.Prelude.{◌≡◌, ◌%◌, ◌<◌};
+ghost use Rattle.aead_ciphers_base.specs.Overlapping.{input_len, input_of};
 ghost use Rattle.aead_ciphers_base.specs.Shift.{ShiftsBlocks, TakesBlocks};
 
 use crate::overlapping::{Chunk, Overlapping, chunk_at};
@@ -11,9 +12,8 @@ pub fn shift_full_blocks<C: Chunk<u8>, F: FnMut(&C) -> C>(
     mut transform: F,
 )
     requires some { 0 < C.chunk_len }
-    requires whole { (length in_out.in_out.now - in_out.start) % C.chunk_len ≡ 0 }
-    requires callable { TakesBlocks C.chunk_items F.FnMut C.chunk_len transform
-        (drop in_out.start in_out.in_out.now) }
+    requires whole { input_len in_out % C.chunk_len ≡ 0 }
+    requires callable { TakesBlocks C.chunk_items F.FnMut C.chunk_len transform (input_of in_out) }
     ensures { ShiftsBlocks C.chunk_items F.FnMut C.chunk_len transform
         in_out.entry.in_out.now in_out.entry.start in_out.exit.0.now }
 {

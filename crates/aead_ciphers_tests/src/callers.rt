@@ -2,11 +2,11 @@
 
 ghost use Rattle.std.specs.Prelude.{◌≡◌, ◌+◌, ◌<◌, ◌≤◌, ◌↔◌, length, slice_set, IsTrue, IsOk, OnOk, OnErr};
 ghost use Rattle.arrayvec.specs.ArrayVec.{array_vec_len};
-ghost use Rattle.aead_ciphers_base.specs.Aes.{aes};
 ghost use Rattle.aead_ciphers_base.specs.Values.{aad_bytes};
 ghost use Rattle.aead_ciphers_base.specs.Work.{HasRoom};
+ghost use Rattle.aead_ciphers.specs.AesGcm.{aes_decrypted};
 ghost use Rattle.aead_ciphers.specs.Algorithm.{id};
-ghost use Rattle.aead_ciphers.specs.Gcm.{Fits, decrypted};
+ghost use Rattle.aead_ciphers.specs.Gcm.{Fits};
 
 use aead_ciphers::aead::lend::parts_if;
 use aead_ciphers::aead::{
@@ -55,7 +55,7 @@ pub(crate) fn open_and_mark(
 ) -> Result<(), Unspecified>
     requires { 0 < length in_out.old }
     ensures marked { OnOk result (in_out.new
-        ≡ slice_set (decrypted (aes key.now.bytes) nonce in_out.old) 0 7) }
+        ≡ slice_set (aes_decrypted key.now.bytes nonce in_out.old) 0 7) }
     ensures kept { OnErr result (in_out.new ≡ in_out.old) }
 {
     let opened = key.open_in_place_separate_tag_len(nonce, aad, tag, in_out, 0..);

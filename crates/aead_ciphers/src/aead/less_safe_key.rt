@@ -2,11 +2,10 @@
 
 ghost use Rattle.std.specs.Prelude.{◌≡◌, ◌-◌, ◌≤◌, ◌↔◌, length, drop, take, is_ok, IsOk, IfOk, OnOk, OnErr};
 ghost use Rattle.std.specs.Borrow.{sem};
-ghost use Rattle.aead_ciphers_base.specs.Aes.{aes};
 ghost use Rattle.aead_ciphers_base.specs.Values.{aad_bytes};
-ghost use Rattle.aead_ciphers.specs.AesGcm.{aes_encrypted, aes_tag, aes_sealed, AesOpened, AesOpenedAttached};
+ghost use Rattle.aead_ciphers.specs.AesGcm.{aes_encrypted, aes_decrypted, aes_tag, aes_sealed, AesOpened, AesOpenedAttached};
 ghost use Rattle.aead_ciphers.specs.Algorithm.{key_len};
-ghost use Rattle.aead_ciphers.specs.Gcm.{Fits, decrypted};
+ghost use Rattle.aead_ciphers.specs.Gcm.{Fits};
 ghost use Rattle.aead_ciphers.specs.Lending.{LendsFront, lent_buffer};
 
 use crate::aead::algorithm::Algorithm;
@@ -167,7 +166,7 @@ impl LessSafeKey {
         ensures opened { AesOpened self.now.bytes nonce (aad_bytes aad.entry) tag ciphertext.start
             in_out.old (is_ok result) (lent_buffer result in_out.old) }
         ensures plaintext { IfOk result (λ plaintext. plaintext.now
-            ≡ decrypted (aes self.now.bytes) nonce (drop ciphertext.start in_out.old)) }
+            ≡ aes_decrypted self.now.bytes nonce (drop ciphertext.start in_out.old)) }
     {
         let opened = self.open_in_place_separate_tag_len(nonce, aad, tag, in_out, ciphertext);
         front_if(in_out, opened)
@@ -208,7 +207,8 @@ impl LessSafeKey {
         ensures opened { AesOpenedAttached self.now.bytes nonce (aad_bytes aad.entry) ciphertext_and_tag.start
             in_out.old (is_ok result) (lent_buffer result in_out.old) }
         ensures plaintext { IfOk result (λ plaintext. plaintext.now
-            ≡ decrypted (aes self.now.bytes) nonce (drop ciphertext_and_tag.start (take (length in_out.old - 16) in_out.old))) }
+            ≡ aes_decrypted self.now.bytes nonce
+            (drop ciphertext_and_tag.start (take (length in_out.old - 16) in_out.old))) }
     {
         let opened = self.open_within_len(nonce, aad, in_out, ciphertext_and_tag);
         front_if(in_out, opened)
@@ -247,7 +247,7 @@ impl LessSafeKey {
         ensures opened { AesOpenedAttached self.now.bytes nonce (aad_bytes aad.entry) 0
             in_out.old (is_ok result) (lent_buffer result in_out.old) }
         ensures plaintext { IfOk result (λ plaintext. plaintext.now
-            ≡ decrypted (aes self.now.bytes) nonce (take (length in_out.old - 16) in_out.old)) }
+            ≡ aes_decrypted self.now.bytes nonce (take (length in_out.old - 16) in_out.old)) }
     {
         let opened = self.open_in_place_len(nonce, aad, in_out);
         front_if(in_out, opened)

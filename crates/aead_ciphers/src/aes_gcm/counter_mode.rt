@@ -1,8 +1,8 @@
 //! Counter mode in place, in chunks (SP 800-38D section 6.5).
 
-ghost use Rattle.std.specs.Prelude.{◌≡◌, ◌≤◌, ◌<◌, ◌+◌, ◌-◌, ◌/◌, ◌%◌, ℕ, List, ◌++◌, length, take, drop};
-ghost use Rattle.aead_ciphers_base.specs.CounterMode.{IsCounter, counter_mode};
-ghost use Rattle.aead_ciphers_base.specs.Work.{Adds, Room};
+ghost use Rattle.std.specs.Prelude.{◌≡◌, ◌≤◌, ◌<◌, ◌+◌, ◌-◌, ◌/◌, ◌%◌, ◌++◌, length, take, drop};
+ghost use Rattle.aead_ciphers_base.specs.CounterMode.{Advances, EncryptsFirst, EncryptsToFront, EncryptsWindow, InCounterMode};
+ghost use Rattle.aead_ciphers_base.specs.Work.{Adds, CanAdd};
 
 use crate::gcm::padded;
 use aead_ciphers_base::aes::{
@@ -21,10 +21,8 @@ pub(super) fn encrypt_within<A: EncryptCtr32>(
     work: &mut Work,
 )
     requires within { start ≤ length in_out.old }
-    requires room { Room work.old ((length in_out.old - start + 15) / 16) 0 }
-    ensures output { (nonce : List ℕ) (k : ℕ) → IsCounter counter nonce k →
-        in_out.new ≡ counter_mode (A.cipher aes.now) nonce k (drop start in_out.old)
-        ++ drop (length in_out.old - start) in_out.old }
+    requires sums { CanAdd work.old ((length in_out.old - start + 15) / 16) 0 }
+    ensures output { EncryptsToFront (A.cipher aes.now) counter start in_out.old in_out.new }
     ensures worked { Adds work.old work.new ((length in_out.old - start + 15) / 16) 0 }
 {
     let whole = (in_out.len() - start) / BLOCK_LEN * BLOCK_LEN;
@@ -43,12 +41,10 @@ fn encrypt_whole<A: EncryptCtr32>(
 )
     requires within { start + whole ≤ length in_out.old }
     requires whole { whole % 16 ≡ 0 }
-    requires room { Room work.old (whole / 16) 0 }
-    ensures output { (nonce : List ℕ) (k : ℕ) → IsCounter counter.old nonce k →
-        in_out.new ≡ counter_mode (A.cipher aes.now) nonce k (take whole (drop start in_out.old))
-        ++ drop whole in_out.old }
-    ensures counter { (nonce : List ℕ) (k : ℕ) → IsCounter counter.old nonce k →
-        IsCounter counter.new nonce (k + whole / 16) }
+    requires sums { CanAdd work.old (whole / 16) 0 }
+    ensures output { EncryptsFirst (A.cipher aes.now) counter.old start whole
+        in_out.old in_out.new }
+    ensures counter { Advances counter.old counter.new (whole / 16) }
     ensures worked { Adds work.old work.new (whole / 16) 0 }
 {
     let mut done = 0;
@@ -71,13 +67,10 @@ pub(super) fn encrypt_chunk<A: EncryptCtr32>(
 )
     requires within { start + done + count ≤ length in_out.old }
     requires whole { count % 16 ≡ 0 }
-    requires room { Room work.old (count / 16) 0 }
-    ensures output { (nonce : List ℕ) (k : ℕ) → IsCounter counter.old nonce k →
-        in_out.new ≡ take done in_out.old
-        ++ counter_mode (A.cipher aes.now) nonce k (take count (drop (start + done) in_out.old))
-        ++ drop (done + count) in_out.old }
-    ensures counter { (nonce : List ℕ) (k : ℕ) → IsCounter counter.old nonce k →
-        IsCounter counter.new nonce (k + count / 16) }
+    requires sums { CanAdd work.old (count / 16) 0 }
+    ensures output { EncryptsWindow (A.cipher aes.now) counter.old start done count
+        in_out.old in_out.new }
+    ensures counter { Advances counter.old counter.new (count / 16) }
     ensures worked { Adds work.old work.new (count / 16) 0 }
 {
     let window = &mut in_out[done..done + count + start];
@@ -94,12 +87,9 @@ fn encrypt_to_front<A: EncryptCtr32>(
 )
     requires within { start ≤ length in_out.old }
     requires whole { (length in_out.old - start) % 16 ≡ 0 }
-    requires room { Room work.old ((length in_out.old - start) / 16) 0 }
-    ensures output { (nonce : List ℕ) (k : ℕ) → IsCounter counter.old nonce k →
-        in_out.new ≡ counter_mode (A.cipher aes.now) nonce k (drop start in_out.old)
-        ++ drop (length in_out.old - start) in_out.old }
-    ensures counter { (nonce : List ℕ) (k : ℕ) → IsCounter counter.old nonce k →
-        IsCounter counter.new nonce (k + (length in_out.old - start) / 16) }
+    requires sums { CanAdd work.old ((length in_out.old - start) / 16) 0 }
+    ensures output { EncryptsToFront (A.cipher aes.now) counter.old start in_out.old in_out.new }
+    ensures counter { Advances counter.old counter.new ((length in_out.old - start) / 16) }
     ensures worked { Adds work.old work.new ((length in_out.old - start) / 16) 0 }
 {
     aes.ctr32_encrypt_within(Overlapping::within(in_out, start), counter, work);
@@ -116,11 +106,10 @@ pub(super) fn encrypt_rest<A: EncryptBlock>(
 )
     requires within { start + done ≤ length in_out.old }
     requires short { length in_out.old < start + done + 16 }
-    requires room { Room work.old ((length in_out.old - start - done + 15) / 16) 0 }
-    ensures output { (nonce : List ℕ) (k : ℕ) → IsCounter counter nonce k →
-        in_out.new ≡ take done in_out.old
-        ++ counter_mode (A.cipher aes.now) nonce k (drop (start + done) in_out.old)
-        ++ drop (length in_out.old - start) in_out.old }
+    requires sums { CanAdd work.old ((length in_out.old - start - done + 15) / 16) 0 }
+    ensures output { InCounterMode (A.cipher aes.now) counter (drop (start + done) in_out.old)
+        (λ text. in_out.new ≡ take done in_out.old ++ text
+        ++ drop (length in_out.old - start) in_out.old) }
     ensures worked { Adds work.old work.new ((length in_out.old - start - done + 15) / 16) 0 }
 {
     let rest = in_out.len() - start - done;

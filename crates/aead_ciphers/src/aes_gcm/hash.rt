@@ -2,7 +2,7 @@
 
 ghost use Rattle.std.specs.Prelude.{◌≡◌, ◌+◌, ◌/◌, ℕ, List, [], ◌∷◌, ◌++◌, length};
 ghost use Rattle.aead_ciphers_base.specs.Bytes.{◌⊕◌};
-ghost use Rattle.aead_ciphers_base.specs.Work.{Adds, Room};
+ghost use Rattle.aead_ciphers_base.specs.Work.{Adds, CanAdd};
 ghost use Rattle.aead_ciphers.specs.Gcm.{length_block, padded_blocks};
 ghost use Rattle.aead_ciphers.specs.Ghash.{ghash};
 ghost use Rattle.aead_ciphers.specs.HashOf.{IsHashOf};
@@ -15,7 +15,7 @@ use aead_ciphers_base::values::Tag;
 
 /// Takes in bytes in blocks, the last padded with zeros.
 pub(super) fn absorb<G: UpdateBlocks>(auth: &mut Context<'_, G>, input: &[u8], work: &mut Work)
-    requires { Room work.old 0 ((length input.now + 15) / 16) }
+    requires { CanAdd work.old 0 ((length input.now + 15) / 16) }
     ensures hashed { (done : List (List ℕ)) → IsHashOf auth.old.hash_key done auth.old.xi →
         IsHashOf auth.old.hash_key (done ++ padded_blocks input.now) auth.new.xi }
     ensures kept { auth.new ≡ record auth.old { xi = auth.new.xi } }
@@ -35,7 +35,7 @@ pub(super) fn finish<A: EncryptBlock, G: UpdateBlock>(
     tag_iv: Iv,
     work: &mut Work,
 ) -> Tag
-    requires { Room work.old 1 1 }
+    requires { CanAdd work.old 1 1 }
     ensures tag { (done : List (List ℕ)) → IsHashOf auth.entry.hash_key done auth.entry.xi →
         let last = length_block auth.entry.aad_len auth.entry.in_out_len in
         result ≡ ghash auth.entry.hash_key (done ++ last ∷ []) ⊕ A.cipher aes.now tag_iv }

@@ -1,10 +1,10 @@
 //! Opening over any cipher and hash (SP 800-38D section 7.2).
 
-ghost use Rattle.std.specs.Prelude.{◌≡◌, ◌≤◌, ◌<◌, ◌-◌, length, OnOk, OnErr, is_ok};
+ghost use Rattle.std.specs.Prelude.{◌≡◌, ◌-◌, length, is_ok};
 ghost use Rattle.aead_ciphers_base.specs.Bytes.{zero_block};
 ghost use Rattle.aead_ciphers_base.specs.Values.{aad_bytes};
-ghost use Rattle.aead_ciphers_base.specs.Work.{Adds, Room};
-ghost use Rattle.aead_ciphers.specs.Gcm.{Fits, Opened, sealing_blocks, sealing_products};
+ghost use Rattle.aead_ciphers_base.specs.Work.{CanAdd};
+ghost use Rattle.aead_ciphers.specs.Gcm.{Fits, OpenWork, Opened, sealing_blocks, sealing_products};
 
 use super::counter_mode::encrypt_within;
 use super::hash::{absorb, finish};
@@ -27,22 +27,14 @@ pub(super) fn open_with<A: EncryptCtr32, G: UpdateBlocks>(
     src: RangeFrom<usize>,
     work: &mut Work,
 ) -> Result<(), Unspecified>
-    requires room { src.start ≤ length in_out.old →
+    requires sums { src.start ≤ length in_out.old →
         let n = length in_out.old - src.start in let a = length (aad_bytes aad) in
-        Fits a n → Room work.old (sealing_blocks n) (sealing_products a n) }
+        Fits a n → CanAdd work.old (sealing_blocks n) (sealing_products a n) }
     requires subkey { G.hash_key gcm.now ≡ A.cipher aes.now zero_block }
     ensures opened { Opened (A.cipher aes.now) nonce (aad_bytes aad.entry) received_tag src.start
         in_out.old (is_ok result) in_out.new }
-    ensures worked { OnOk result
-        (let n = length in_out.old - src.start in let a = length (aad_bytes aad.entry) in
-        Adds work.old work.new (sealing_blocks n) (sealing_products a n)) }
-    ensures false_tag { src.start ≤ length in_out.old →
-        let n = length in_out.old - src.start in let a = length (aad_bytes aad.entry) in
-        Fits a n → OnErr result (Adds work.old work.new 1 (sealing_products a n)) }
-    ensures out_of_range { length in_out.old < src.start → Adds work.old work.new 0 0 }
-    ensures too_long { src.start ≤ length in_out.old →
-        ¬ Fits (length (aad_bytes aad.entry)) (length in_out.old - src.start) →
-        Adds work.old work.new 0 0 }
+    ensures worked { OpenWork (length (aad_bytes aad.entry)) src.start (length in_out.old) result
+        work.old work.new }
 {
     let start = src.start;
     if start > in_out.len() {

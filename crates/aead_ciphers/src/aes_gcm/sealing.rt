@@ -2,10 +2,10 @@
 
 ghost use Rattle.std.specs.Prelude.{◌≡◌, ◌≤◌, ◌+◌, ◌/◌, ◌%◌, ◌↔◌, ℕ, List, ◌++◌, length, take, drop, IsOk, IfOk, OnOk, OnErr};
 ghost use Rattle.aead_ciphers_base.specs.Bytes.{zero_block};
-ghost use Rattle.aead_ciphers_base.specs.CounterMode.{IsCounter, counter_mode};
+ghost use Rattle.aead_ciphers_base.specs.CounterMode.{Advances, EncryptsFirst, InCounterMode};
 ghost use Rattle.aead_ciphers_base.specs.Values.{aad_bytes};
-ghost use Rattle.aead_ciphers_base.specs.Work.{Adds, Room};
-ghost use Rattle.aead_ciphers.specs.Gcm.{Fits, encrypted, padded_blocks, sealing_blocks, sealing_products, tag};
+ghost use Rattle.aead_ciphers_base.specs.Work.{Adds, CanAdd};
+ghost use Rattle.aead_ciphers.specs.Gcm.{Fits, SealWork, encrypted, padded_blocks, sealing_blocks, sealing_products, tag};
 ghost use Rattle.aead_ciphers.specs.HashOf.{IsHashOf};
 
 use super::counter_mode::{CHUNK_LEN, encrypt_chunk, encrypt_rest};
@@ -24,18 +24,16 @@ pub(super) fn seal_with<A: EncryptCtr32, G: UpdateBlocks>(
     in_out: &mut [u8],
     work: &mut Work,
 ) -> Result<Tag, Unspecified>
-    requires room { let n = length in_out.old in let a = length (aad_bytes aad) in
-        Fits a n → Room work.old (sealing_blocks n) (sealing_products a n) }
+    requires sums { let n = length in_out.old in let a = length (aad_bytes aad) in
+        Fits a n → CanAdd work.old (sealing_blocks n) (sealing_products a n) }
     requires subkey { G.hash_key gcm.now ≡ A.cipher aes.now zero_block }
     ensures accepted { IsOk result ↔ Fits (length (aad_bytes aad.entry)) (length in_out.old) }
     ensures ciphertext { OnOk result (in_out.new ≡ encrypted (A.cipher aes.now) nonce in_out.old) }
     ensures tag { IfOk result
         (λ t. t ≡ tag (A.cipher aes.now) nonce (aad_bytes aad.entry) in_out.new) }
     ensures refused { OnErr result (in_out.new ≡ in_out.old) }
-    ensures worked { OnOk result
-        (let n = length in_out.old in let a = length (aad_bytes aad.entry) in
-        Adds work.old work.new (sealing_blocks n) (sealing_products a n)) }
-    ensures idle { OnErr result (Adds work.old work.new 0 0) }
+    ensures worked { SealWork (length (aad_bytes aad.entry)) (length in_out.old) result
+        work.old work.new }
 {
     let mut auth = Context::new(gcm, aad, in_out.len(), work)?;
     let mut counter = Counter::one(nonce);
@@ -58,16 +56,12 @@ fn seal_whole<A: EncryptCtr32, G: UpdateBlocks>(
 )
     requires within { whole ≤ length in_out.old }
     requires whole { whole % 16 ≡ 0 }
-    requires room { Room work.old (whole / 16) (whole / 16) }
-    ensures output { (nonce : List ℕ) (k : ℕ) → IsCounter counter.old nonce k →
-        in_out.new ≡ counter_mode (A.cipher aes.now) nonce k (take whole in_out.old)
-        ++ drop whole in_out.old }
-    ensures counter { (nonce : List ℕ) (k : ℕ) → IsCounter counter.old nonce k →
-        IsCounter counter.new nonce (k + whole / 16) }
-    ensures hashed { (nonce : List ℕ) (k : ℕ) → IsCounter counter.old nonce k →
-        (done : List (List ℕ)) → IsHashOf auth.old.hash_key done auth.old.xi →
-        let ciphertext = take whole (counter_mode (A.cipher aes.now) nonce k in_out.old) in
-        IsHashOf auth.old.hash_key (done ++ padded_blocks ciphertext) auth.new.xi }
+    requires sums { CanAdd work.old (whole / 16) (whole / 16) }
+    ensures output { EncryptsFirst (A.cipher aes.now) counter.old 0 whole in_out.old in_out.new }
+    ensures counter { Advances counter.old counter.new (whole / 16) }
+    ensures hashed { InCounterMode (A.cipher aes.now) counter.old in_out.old
+        (λ text. (done : List (List ℕ)) → IsHashOf auth.old.hash_key done auth.old.xi
+        → IsHashOf auth.old.hash_key (done ++ padded_blocks (take whole text)) auth.new.xi) }
     ensures kept { auth.new ≡ record auth.old { xi = auth.new.xi } }
     ensures worked { Adds work.old work.new (whole / 16) (whole / 16) }
 {

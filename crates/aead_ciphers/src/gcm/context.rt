@@ -3,7 +3,7 @@
 ghost use Rattle.std.specs.Prelude.{◌≡◌, ℕ, ◌+◌, ◌/◌, ◌↔◌, List, [], ◌∷◌, ◌++◌, length, IsOk, IfOk, OnOk, OnErr, ◌≤◌};
 ghost use Rattle.aead_ciphers_base.specs.Blocks.{blocks};
 ghost use Rattle.aead_ciphers_base.specs.Values.{aad_bytes};
-ghost use Rattle.aead_ciphers_base.specs.Work.{Adds, Room};
+ghost use Rattle.aead_ciphers_base.specs.Work.{Adds, CanAdd};
 ghost use Rattle.aead_ciphers.specs.Gcm.{Fits, length_block, padded_block, padded_blocks};
 ghost use Rattle.aead_ciphers.specs.HashOf.{IsHashOf};
 
@@ -53,7 +53,7 @@ impl<'key, K: UpdateBlock> Context<'key, K> {
         work: &mut Work,
     ) -> Result<Self, Unspecified>
         requires { Fits (length (aad_bytes aad)) in_out_len
-            → Room work.old 0 ((length (aad_bytes aad) + 15) / 16) }
+            → CanAdd work.old 0 ((length (aad_bytes aad) + 15) / 16) }
         ensures accepted { IsOk result ↔ Fits (length (aad_bytes aad.entry)) in_out_len }
         ensures hash_key { IfOk result (λ context. context.hash_key ≡ K.hash_key key.now) }
         ensures aad_len { IfOk result (λ context. context.aad_len ≡ length (aad_bytes aad.entry)) }
@@ -82,7 +82,7 @@ impl<'key, K: UpdateBlock> Context<'key, K> {
 
     /// Takes in one block, by one field product.
     pub fn update_block(&mut self, block: Block, work: &mut Work)
-        requires { Room work.old 0 1 }
+        requires { CanAdd work.old 0 1 }
         ensures hashed { (done : List (List ℕ)) → IsHashOf self.old.hash_key done self.old.xi
             → IsHashOf self.old.hash_key (done ++ block ∷ []) self.new.xi }
         ensures kept { self.new ≡ record self.old { xi = self.new.xi } }
@@ -94,7 +94,7 @@ impl<'key, K: UpdateBlock> Context<'key, K> {
     /// Takes in the block of the lengths of the AAD and of `in_out_len`, by one field product, and
     /// answers what `f` makes of the hash: 16 bytes.
     pub fn pre_finish<F: FnOnce(Block) -> Tag>(self, work: &mut Work, f: F) -> Tag
-        requires room { Room work.old 0 1 }
+        requires sums { CanAdd work.old 0 1 }
         requires callable { (xi : List ℕ)
             → ((done : List (List ℕ)) → IsHashOf self.hash_key done self.xi
             → IsHashOf self.hash_key (done ++ length_block self.aad_len self.in_out_len ∷ []) xi)
@@ -120,7 +120,7 @@ impl<'key, K: UpdateBlock> Context<'key, K> {
 impl<'key, K: UpdateBlocks> Context<'key, K> {
     /// Takes in the blocks in order, by one field product each.
     pub fn update_blocks(&mut self, input: AsChunks<'_, u8, BLOCK_LEN>, work: &mut Work)
-        requires { Room work.old 0 (length input.items.now / 16) }
+        requires { CanAdd work.old 0 (length input.items.now / 16) }
         ensures hashed { (done : List (List ℕ)) → IsHashOf self.old.hash_key done self.old.xi
             → IsHashOf self.old.hash_key (done ++ blocks 16 input.entry.items.now) self.new.xi }
         ensures kept { self.new ≡ record self.old { xi = self.new.xi } }

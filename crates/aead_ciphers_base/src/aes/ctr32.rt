@@ -1,9 +1,9 @@
 //! Counter mode in batches of four blocks (SP 800-38D section 6.5).
 
-ghost use Rattle.std.specs.Prelude.{◌≡◌, ◌<◌, ◌≤◌, ℕ, ◌+◌, ◌-◌, ◌/◌, ◌%◌, ◌++◌, List, [], length, drop, take, slice_index_or};
+ghost use Rattle.std.specs.Prelude.{◌≡◌, ◌<◌, ◌≤◌, ℕ, ◌+◌, ◌-◌, ◌/◌, ◌%◌, List, [], length, slice_index_or};
 ghost use Rattle.aead_ciphers_base.specs.Aes.{aes};
-ghost use Rattle.aead_ciphers_base.specs.CounterMode.{IsCounter, counter_mode};
-ghost use Rattle.aead_ciphers_base.specs.Work.{Adds, Room};
+ghost use Rattle.aead_ciphers_base.specs.CounterMode.{IsCounter, Advances, EncryptsToFront, EncryptsWindow, counter_mode};
+ghost use Rattle.aead_ciphers_base.specs.Work.{Adds, CanAdd};
 
 use crate::aes::{BLOCK_LEN, Counter, Key, Work};
 use crate::bb;
@@ -21,12 +21,9 @@ pub(crate) fn encrypt_to_front(
 )
     requires within { start ≤ length in_out.old }
     requires whole { (length in_out.old - start) % 16 ≡ 0 }
-    requires room { Room work.old ((length in_out.old - start) / 16) 0 }
-    ensures output { (nonce : List ℕ) (k : ℕ) → IsCounter counter.old nonce k →
-        in_out.new ≡ counter_mode (aes key.now) nonce k (drop start in_out.old)
-        ++ drop (length in_out.old - start) in_out.old }
-    ensures counter { (nonce : List ℕ) (k : ℕ) → IsCounter counter.old nonce k →
-        IsCounter counter.new nonce (k + (length in_out.old - start) / 16) }
+    requires sums { CanAdd work.old ((length in_out.old - start) / 16) 0 }
+    ensures output { EncryptsToFront (aes key.now) counter.old start in_out.old in_out.new }
+    ensures counter { Advances counter.old counter.new ((length in_out.old - start) / 16) }
     ensures worked { Adds work.old work.new ((length in_out.old - start) / 16) 0 }
 {
     let len = in_out.len() - start;
@@ -55,13 +52,10 @@ fn encrypt_batch(
     requires within { start + done + count ≤ length in_out.old }
     requires whole { count % 16 ≡ 0 }
     requires short { count ≤ 64 }
-    requires room { Room work.old (count / 16) 0 }
-    ensures output { (nonce : List ℕ) (k : ℕ) → IsCounter counter.old nonce k →
-        in_out.new ≡ take done in_out.old
-        ++ counter_mode (aes key.now) nonce k (take count (drop (start + done) in_out.old))
-        ++ drop (done + count) in_out.old }
-    ensures counter { (nonce : List ℕ) (k : ℕ) → IsCounter counter.old nonce k →
-        IsCounter counter.new nonce (k + count / 16) }
+    requires sums { CanAdd work.old (count / 16) 0 }
+    ensures output { EncryptsWindow (aes key.now) counter.old start done count
+        in_out.old in_out.new }
+    ensures counter { Advances counter.old counter.new (count / 16) }
     ensures worked { Adds work.old work.new (count / 16) 0 }
 {
     let mut batch = [0; BATCH_LEN];

@@ -54,7 +54,7 @@ fn next_word(words: &[[u8; 4]], i: usize, nk: usize) -> [u8; 4]
             sub_word(rot_word(last)),
             [round_constant(i / nk - 1), 0, 0, 0],
         )
-    } else if nk == 8 && i % 8 == 4 {
+    } else if nk > 6 && i % nk == 4 {
         sub_word(last)
     } else {
         last

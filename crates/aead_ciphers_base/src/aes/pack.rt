@@ -20,9 +20,9 @@ const LOW: [u64; 6] = [
     0x0000_0000_ffff_ffff,
 ];
 
-// Exchanges the bits of `a` at places with digit `k` one and those of `b` with digit `k` zero.
+// A delta swap: exchanges the bits of `a` at places with digit `k` one and those of `b` with digit `k` zero.
 #[inline(always)]
-fn exchange(a: u64, b: u64, k: usize) -> (u64, u64)
+fn delta_swap(a: u64, b: u64, k: usize) -> (u64, u64)
     requires { k < 6 }
     ensures first { (q : ℕ) → q < 64
         → bit_at result.0 q ≡ (if bit_at q k == 0 then bit_at a q else bit_at b (q - 2 ^ k)) }
@@ -30,8 +30,8 @@ fn exchange(a: u64, b: u64, k: usize) -> (u64, u64)
         → bit_at result.1 q ≡ (if bit_at q k == 0 then bit_at a (q + 2 ^ k) else bit_at b q) }
 {
     let shift = 1u32 << k;
-    let moved = ((a >> shift) ^ b) & LOW[k];
-    (a ^ (moved << shift), b ^ moved)
+    let delta = ((a >> shift) ^ b) & LOW[k];
+    (a ^ (delta << shift), b ^ delta)
 }
 
 // Exchanges digit `k` of each place and the highest digit of the word's number, and turns the
@@ -42,10 +42,10 @@ fn exchange_digits(words: [u64; 8], k: usize) -> [u64; 8]
     ensures { (n : ℕ) → n < 512 → word_bit result n ≡ word_bit words (exchanged_from k n) }
 {
     let [w0, w1, w2, w3, w4, w5, w6, w7] = words;
-    let (r0, r1) = exchange(w0, w4, k);
-    let (r2, r3) = exchange(w1, w5, k);
-    let (r4, r5) = exchange(w2, w6, k);
-    let (r6, r7) = exchange(w3, w7, k);
+    let (r0, r1) = delta_swap(w0, w4, k);
+    let (r2, r3) = delta_swap(w1, w5, k);
+    let (r4, r5) = delta_swap(w2, w6, k);
+    let (r6, r7) = delta_swap(w3, w7, k);
     [r0, r1, r2, r3, r4, r5, r6, r7]
 }
 

@@ -1,7 +1,7 @@
 //! How much was computed.
 
 ghost use Rattle.std.specs.Prelude.{◌≡◌, ◌↔◌, IsTrue};
-ghost use Rattle.aead_ciphers_base.specs.Work.{Adds, Room, HasRoom};
+ghost use Rattle.aead_ciphers_base.specs.Work.{Adds, CanAdd, HasRoom};
 
 use std::marker::Model;
 
@@ -56,7 +56,7 @@ impl Work {
 
     /// Counts a field product.
     pub fn add_product(&mut self)
-        requires { Room self.old 0 1 }
+        requires { CanAdd self.old 0 1 }
         ensures { Adds self.old self.new 0 1 }
     {
         self.products += 1;
@@ -64,7 +64,7 @@ impl Work {
 
     /// Counts a cipher block.
     pub(crate) fn add_block(&mut self)
-        requires { Room self.old 1 0 }
+        requires { CanAdd self.old 1 0 }
         ensures { Adds self.old self.new 1 0 }
     {
         self.blocks += 1;
@@ -72,7 +72,7 @@ impl Work {
 
     /// Counts so many cipher blocks.
     pub(crate) fn add_blocks(&mut self, count: u64)
-        requires { Room self.old count 0 }
+        requires { CanAdd self.old count 0 }
         ensures { Adds self.old self.new count 0 }
     {
         self.blocks += count;

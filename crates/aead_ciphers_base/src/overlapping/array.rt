@@ -2,7 +2,7 @@
 
 ghost use Rattle.std.specs.Prelude.{◌≡◌, ◌↔◌, ◌-◌, ◌<◌, ◌≤◌, IsOk, IfOk, IfErr, drop, length, take};
 ghost use Rattle.std.specs.Borrow.{sem};
-ghost use Rattle.aead_ciphers_base.specs.Overlapping.{KeptIfErr, LendsOutput};
+ghost use Rattle.aead_ciphers_base.specs.Overlapping.{KeptIfErr, LendsOutput, input_len};
 
 use super::Overlapping;
 use crate::error::LenMismatchError;
@@ -22,9 +22,11 @@ pub struct Array<'o, T, const N: usize> {
 impl<'o, T, const N: usize> Array<'o, T, N> {
     /// Refused with `N` where `N` is zero or the input has another length.
     pub fn new(in_out: Overlapping<'o, T>) -> Result<Self, LenMismatchError>
-        ensures* kept { sem 𝓛 (KeptIfErr T.row in_out.entry.in_out (λ a. a.in_out.ghost_name) result) }
-        ensures accepted { IsOk result ↔ ((0 < N) × (length in_out.entry.in_out.now - in_out.entry.start ≡ N)) }
-        ensures same_reference { IfOk result (λ a. a.in_out.ghost_name ≡ in_out.entry.in_out.ghost_name) }
+        ensures* kept { sem 𝓛 (KeptIfErr T.row in_out.entry.in_out
+            (λ a. a.in_out.ghost_name) result) }
+        ensures accepted { IsOk result ↔ ((0 < N) × (input_len in_out.entry ≡ N)) }
+        ensures same_reference { IfOk result
+            (λ a. a.in_out.ghost_name ≡ in_out.entry.in_out.ghost_name) }
         ensures items { IfOk result (λ a. a.in_out.now ≡ in_out.entry.in_out.now) }
         ensures start { IfOk result (λ a. a.start ≡ in_out.entry.start) }
         ensures refused { IfErr result (λ e. e ≡ N) }

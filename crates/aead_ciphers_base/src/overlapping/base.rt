@@ -18,7 +18,8 @@ pub struct Overlapping<'o, T> {
 }
 
 impl<'o, T> From<&'o mut [T]> for Overlapping<'o, T> {
-    ghost from_gives = { λ s o. (o.in_out.ghost_name ≡ s.ghost_name) × (o.in_out.now ≡ s.now) × (o.start ≡ 0) };
+    ghost from_gives = { λ s o.
+        (o.in_out.ghost_name ≡ s.ghost_name) × (o.in_out.now ≡ s.now) × (o.start ≡ 0) };
 
     fn from(in_out: &'o mut [T]) -> Self {
         Overlapping { in_out, start: 0 }
@@ -26,7 +27,7 @@ impl<'o, T> From<&'o mut [T]> for Overlapping<'o, T> {
 }
 
 impl<'o, T> Overlapping<'o, T> {
-    ghost use Rattle.aead_ciphers_base.specs.Overlapping.{KeptIfErr, LendsOutput, LendsRest, MapsChunk, TakesChunk};
+    ghost use Rattle.aead_ciphers_base.specs.Overlapping.{KeptIfErr, LendsOutput, LendsRest, MapsChunk, TakesChunk, after_output, input_len, input_of};
 
     /// The input is `in_out` from `src.start` on.
     pub fn new(in_out: &'o mut [T], src: RangeFrom<usize>) -> Result<Self, IndexError>
@@ -56,14 +57,14 @@ impl<'o, T> Overlapping<'o, T> {
 
     /// The length of the input, in items.
     pub fn len(&self) -> usize
-        ensures { result ≡ length self.now.in_out.now - self.now.start }
+        ensures { result ≡ input_len self.now }
     {
         self.in_out.len() - self.start
     }
 
     /// The slice from the start on.
     pub fn input(&self) -> &[T]
-        ensures { result.now ≡ drop self.now.start self.now.in_out.now }
+        ensures { result.now ≡ input_of self.now }
     {
         &self.in_out[self.start..]
     }
@@ -81,9 +82,8 @@ impl<'o, T> Overlapping<'o, T> {
     /// The front of the slice, as long as the input, for writing.
     pub fn into_unwritten_output(self) -> &'o mut [T]
         ensures* writes_back { sem 𝓛 (LendsOutput T.row self.entry.in_out result
-            (length self.entry.in_out.now - self.entry.start)) }
-        ensures items { result.now ≡ take (length self.entry.in_out.now - self.entry.start)
-            self.entry.in_out.now }
+            (input_len self.entry)) }
+        ensures items { result.now ≡ take (input_len self.entry) self.entry.in_out.now }
     {
         let Overlapping { in_out, start } = self;
         let count = in_out.len() - start;
@@ -95,8 +95,7 @@ impl<'o, T> Overlapping<'o, T> {
     where
         T: Copy,
         ensures same_reference { self.new.in_out.ghost_name ≡ self.old.in_out.ghost_name }
-        ensures items { self.new.in_out.now ≡ drop self.old.start self.old.in_out.now
-            ++ drop (length self.old.in_out.now - self.old.start) self.old.in_out.now }
+        ensures items { self.new.in_out.now ≡ input_of self.old ++ after_output self.old }
         ensures start { self.new.start ≡ self.old.start }
     {
         self.in_out.copy_within(self.start.., 0);
@@ -107,8 +106,7 @@ impl<'o, T> Overlapping<'o, T> {
     where
         T: Copy,
         ensures same_reference { result.in_out.ghost_name ≡ self.entry.in_out.ghost_name }
-        ensures items { result.in_out.now ≡ drop self.entry.start self.entry.in_out.now
-            ++ drop (length self.entry.in_out.now - self.entry.start) self.entry.in_out.now }
+        ensures items { result.in_out.now ≡ input_of self.entry ++ after_output self.entry }
         ensures start { result.start ≡ self.entry.start }
     {
         self.copy_to_front();
@@ -120,8 +118,8 @@ impl<'o, T> Overlapping<'o, T> {
     where
         T: Copy,
         ensures* writes_back { sem 𝓛 (LendsOutput T.row self.entry.in_out result
-            (length self.entry.in_out.now - self.entry.start)) }
-        ensures items { result.now ≡ drop self.entry.start self.entry.in_out.now }
+            (input_len self.entry)) }
+        ensures items { result.now ≡ input_of self.entry }
     {
         self.copied_to_front().into_unwritten_output()
     }
@@ -130,12 +128,13 @@ impl<'o, T> Overlapping<'o, T> {
     fn first_chunk_mapped<C: Chunk<T>, F: FnOnce(&C) -> C>(self, f: F) -> FirstMapped<'o, T>
     where
         T: Drop,
-        requires { C.chunk_len ≤ length self.in_out.now - self.start
-            → TakesChunk C.chunk_items F.FnOnce C.chunk_len f (drop self.start self.in_out.now) }
+        requires { C.chunk_len ≤ input_len self
+            → TakesChunk C.chunk_items F.FnOnce C.chunk_len f (input_of self) }
         ensures same_reference { result.in_out.ghost_name ≡ self.entry.in_out.ghost_name }
-        ensures mapped { C.chunk_len ≤ length self.entry.in_out.now - self.entry.start
-            → MapsChunk C.chunk_items F.FnOnce C.chunk_len f self.entry.in_out.now self.entry.start result.in_out.now }
-        ensures kept { length self.entry.in_out.now - self.entry.start < C.chunk_len
+        ensures mapped { C.chunk_len ≤ input_len self.entry
+            → MapsChunk C.chunk_items F.FnOnce C.chunk_len f self.entry.in_out.now self.entry.start
+            result.in_out.now }
+        ensures kept { input_len self.entry < C.chunk_len
             → result.in_out.now ≡ self.entry.in_out.now }
         ensures same_length { length result.in_out.now ≡ length self.entry.in_out.now }
         ensures start { result.start ≡ self.entry.start }
@@ -162,10 +161,11 @@ impl<'o, T> Overlapping<'o, T> {
     ) -> Result<Self, IndexError>
     where
         T: Drop,
-        requires { C.chunk_len ≤ length self.in_out.now - self.start
-            → TakesChunk C.chunk_items F.FnOnce C.chunk_len f (drop self.start self.in_out.now) }
-        ensures* writes_back { sem 𝓛 (LendsRest T.row C.chunk_items F.FnOnce C.chunk_len f self.entry result) }
-        ensures accepted { IsOk result ↔ (C.chunk_len ≤ length self.entry.in_out.now - self.entry.start) }
+        requires { C.chunk_len ≤ input_len self
+            → TakesChunk C.chunk_items F.FnOnce C.chunk_len f (input_of self) }
+        ensures* writes_back { sem 𝓛 (LendsRest T.row C.chunk_items F.FnOnce C.chunk_len f
+            self.entry result) }
+        ensures accepted { IsOk result ↔ (C.chunk_len ≤ input_len self.entry) }
         ensures rest { IfOk result (λ o. o.in_out.now ≡ drop C.chunk_len self.entry.in_out.now) }
         ensures start { IfOk result (λ o. o.start ≡ self.entry.start) }
         ensures refused { IfErr result (λ e. e ≡ C.chunk_len) }
@@ -188,8 +188,10 @@ impl<'o, T> FirstMapped<'o, T> {
     /// The buffer behind the first `count` items, where the input has as many.
     fn rest(self) -> Result<Overlapping<'o, T>, IndexError>
         ensures* writes_back { sem 𝓛 (LendsTail T.row self.entry.in_out self.entry.count result) }
-        ensures accepted { IsOk result ↔ (self.entry.count ≤ length self.entry.in_out.now - self.entry.start) }
-        ensures rest { IfOk result (λ o. o.in_out.now ≡ drop self.entry.count self.entry.in_out.now) }
+        ensures accepted { IsOk result
+            ↔ (self.entry.count ≤ length self.entry.in_out.now - self.entry.start) }
+        ensures rest { IfOk result
+            (λ o. o.in_out.now ≡ drop self.entry.count self.entry.in_out.now) }
         ensures start { IfOk result (λ o. o.start ≡ self.entry.start) }
         ensures refused { IfErr result (λ e. e ≡ self.entry.count) }
     {

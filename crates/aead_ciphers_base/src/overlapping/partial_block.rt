@@ -2,7 +2,7 @@
 
 ghost use Rattle.std.specs.Prelude.{◌≡◌, ◌↔◌, ◌-◌, ◌<◌, ◌≤◌, ◌++◌, IsOk, IfOk, IfErr, drop, length, take};
 ghost use Rattle.std.specs.Borrow.{sem};
-ghost use Rattle.aead_ciphers_base.specs.Overlapping.{KeptIfErr};
+ghost use Rattle.aead_ciphers_base.specs.Overlapping.{KeptIfErr, input_len};
 
 use super::Overlapping;
 use crate::error::InputTooLongError;
@@ -28,12 +28,14 @@ pub struct PartialBlock<'i, T, const BLOCK_LEN: usize> {
 impl<'i, T, const BLOCK_LEN: usize> PartialBlock<'i, T, BLOCK_LEN> {
     /// Refused with the length of the input where that is at or above `BLOCK_LEN`.
     pub fn new(in_out: Overlapping<'i, T>) -> Result<Self, InputTooLongError>
-        ensures* kept { sem 𝓛 (KeptIfErr T.row in_out.entry.in_out (λ b. b.in_out.ghost_name) result) }
-        ensures accepted { IsOk result ↔ (length in_out.entry.in_out.now - in_out.entry.start < BLOCK_LEN) }
-        ensures same_reference { IfOk result (λ b. b.in_out.ghost_name ≡ in_out.entry.in_out.ghost_name) }
+        ensures* kept { sem 𝓛 (KeptIfErr T.row in_out.entry.in_out
+            (λ b. b.in_out.ghost_name) result) }
+        ensures accepted { IsOk result ↔ (input_len in_out.entry < BLOCK_LEN) }
+        ensures same_reference { IfOk result
+            (λ b. b.in_out.ghost_name ≡ in_out.entry.in_out.ghost_name) }
         ensures items { IfOk result (λ b. b.in_out.now ≡ in_out.entry.in_out.now) }
         ensures start { IfOk result (λ b. b.start ≡ in_out.entry.start) }
-        ensures refused { IfErr result (λ e. e ≡ length in_out.entry.in_out.now - in_out.entry.start) }
+        ensures refused { IfErr result (λ e. e ≡ input_len in_out.entry) }
     {
         let Overlapping { in_out, start } = in_out;
         let len = in_out.len() - start;
@@ -45,7 +47,7 @@ impl<'i, T, const BLOCK_LEN: usize> PartialBlock<'i, T, BLOCK_LEN> {
 
     /// As `new`, for an input that is known to be short.
     pub fn short(in_out: Overlapping<'i, T>) -> Self
-        requires { length in_out.in_out.now - in_out.start < BLOCK_LEN }
+        requires { input_len in_out < BLOCK_LEN }
         ensures same_reference { result.in_out.ghost_name ≡ in_out.entry.in_out.ghost_name }
         ensures items { result.in_out.now ≡ in_out.entry.in_out.now }
         ensures start { result.start ≡ in_out.entry.start }

@@ -1,5 +1,5 @@
-use Rattle.std.proofs.Common.{◌≡◌, ℕ, ◌+◌, ◌-◌, ◌/◌, ◌%◌, ◌≤◌, List, ◌++◌, length, drop, take}
-use Rattle.aead_ciphers_base.specs.CounterMode.{IsCounter, counter_mode}
+use Rattle.std.proofs.Common.{◌≡◌, ◌-◌, ◌/◌, ◌%◌, ◌≤◌, length}
+use Rattle.aead_ciphers_base.specs.CounterMode.{Advances, EncryptsFirst}
 use Rattle.aead_ciphers_base.specs.Work.{Adds}
 use Rattle.aead_ciphers.proofs.aes_gcm.counter_mode.encrypt_whole.Given as goal
 
@@ -9,9 +9,8 @@ invariant-loop-done g l = record {
   aligned : l.done % 16 ≡ 0;
   within : l.done ≤ l.whole;
   size : length l.in_out ≡ length l.initial.in_out;
-  output : (nonce : List ℕ) (k : ℕ) → IsCounter l.initial.counter nonce k →
-      l.in_out ≡ counter_mode (g.A.EncryptBlock.cipher l.aes) nonce k (take l.done (drop l.start l.initial.in_out)) ++ drop l.done l.initial.in_out;
-  counter : (nonce : List ℕ) (k : ℕ) → IsCounter l.initial.counter nonce k → IsCounter l.counter nonce (k + l.done / 16);
+  output : EncryptsFirst (g.A.EncryptBlock.cipher l.aes) l.initial.counter l.start l.done l.initial.in_out l.in_out;
+  counter : Advances l.initial.counter l.counter (l.done / 16);
 }
 
 abbrev pub decreases-loop-done : goal.decreases-loop-done

@@ -1,5 +1,5 @@
-use Rattle.std.proofs.Common.{◌≡◌, ℕ, ◌+◌, ◌-◌, ◌/◌, ◌%◌, ◌≤◌, List, ◌++◌, length, drop, take}
-use Rattle.aead_ciphers_base.specs.CounterMode.{IsCounter, counter_mode}
+use Rattle.std.proofs.Common.{◌≡◌, ℕ, ◌-◌, ◌/◌, ◌%◌, ◌≤◌, List, ◌++◌, length, take}
+use Rattle.aead_ciphers_base.specs.CounterMode.{Advances, EncryptsFirst, InCounterMode}
 use Rattle.aead_ciphers_base.specs.Work.{Adds}
 use Rattle.aead_ciphers.specs.Gcm.{padded_blocks}
 use Rattle.aead_ciphers.specs.HashOf.{IsHashOf}
@@ -11,12 +11,11 @@ invariant-loop-done g l = record {
   aligned : l.done % 16 ≡ 0;
   within : l.done ≤ l.whole;
   size : length l.in_out ≡ length l.initial.in_out;
-  output : (nonce : List ℕ) (k : ℕ) → IsCounter l.initial.counter nonce k →
-      l.in_out ≡ counter_mode (g.A.EncryptBlock.cipher l.aes) nonce k (take l.done l.initial.in_out) ++ drop l.done l.initial.in_out;
-  counter : (nonce : List ℕ) (k : ℕ) → IsCounter l.initial.counter nonce k → IsCounter l.counter nonce (k + l.done / 16);
+  output : EncryptsFirst (g.A.EncryptBlock.cipher l.aes) l.initial.counter 0 l.done l.initial.in_out l.in_out;
+  counter : Advances l.initial.counter l.counter (l.done / 16);
   kept : l.auth ≡ record l.initial.auth { xi = l.auth.xi };
-  hashed : (nonce : List ℕ) (k : ℕ) → IsCounter l.initial.counter nonce k → (done : List (List ℕ)) → IsHashOf l.initial.auth.hash_key done l.initial.auth.xi →
-      IsHashOf l.initial.auth.hash_key (done ++ padded_blocks (take l.done (counter_mode (g.A.EncryptBlock.cipher l.aes) nonce k l.initial.in_out))) l.auth.xi;
+  hashed : InCounterMode (g.A.EncryptBlock.cipher l.aes) l.initial.counter l.initial.in_out (λ text. (done : List (List ℕ)) → IsHashOf l.initial.auth.hash_key done l.initial.auth.xi →
+      IsHashOf l.initial.auth.hash_key (done ++ padded_blocks (take l.done text)) l.auth.xi);
 }
 
 abbrev pub decreases-loop-done : goal.decreases-loop-done

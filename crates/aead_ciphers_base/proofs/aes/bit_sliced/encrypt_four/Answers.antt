@@ -6,17 +6,17 @@ use Rattle.aead_ciphers_base.proofs.aes.bit_sliced.encrypt_four.Goals as goal
 
 pub loop-round-init : goal.loop-round-init
 loop-round-init c = λ words holds k hk.
-    add_block c.pack.result c.add_planes-state.result k hk c.args.round_keys.now words 0 (c.args.rounds + 1) holds (omega arith) c.add_planes-state.ensures
+    add_block c.pack.result c.add_round_key-state.result k hk c.args.round_keys.now words 0 (c.args.rounds + 1) holds (omega arith) c.add_round_key-state.ensures
     ∙ packed_block c.pack.result c.args.blocks words k hk c.pack.ensures
     ∙ sym (rounds_none words (slice_index_or c.args.blocks k []))
 
 pub loop-round-preserved : goal.loop-round-preserved
 loop-round-preserved c = λ words holds k hk.
-    add_block c.mix_planes.result c.add_planes-state-in-loop-round.result k hk c.args.round_keys.now words c.loop-round.round (c.args.rounds + 1)
-    holds (omega arith) c.add_planes-state-in-loop-round.ensures
+    add_block c.mix_columns.result c.add_round_key-state-in-loop-round.result k hk c.args.round_keys.now words c.loop-round.round (c.args.rounds + 1)
+    holds (omega arith) c.add_round_key-state-in-loop-round.ensures
     ∙ ap (add_round_key words c.loop-round.round)
-    (mix_block c.shift_planes.result c.mix_planes.result k hk c.mix_planes.ensures
-    ∙ ap mix_columns (shift_block c.sub_planes.new.planes c.shift_planes.result k hk c.shift_planes.ensures
+    (mix_block c.shift_rows.result c.mix_columns.result k hk c.mix_columns.ensures
+    ∙ ap mix_columns (shift_block c.sub_planes.new.planes c.shift_rows.result k hk c.shift_rows.ensures
     ∙ ap shift_rows (sub_block c.loop-round.state c.sub_planes.new.planes k hk c.sub_planes.ensures
     ∙ ap sub_bytes (c.loop-round.invariant words holds k hk))))
     ∙ sym (rounds_more words (slice_index_or c.args.blocks k []) c.loop-round.round (omega arith))
@@ -27,9 +27,9 @@ returns c = λ words holds k hk.
     let block = slice_index_or c.args.blocks k [] in
     let whole : c.loop-round.round - 1 ≡ nr - 1 = omega arith in
     c.unpack.ensures k hk
-    ∙ add_block c.shift_planes-2.result c.add_planes.result k hk c.args.round_keys.now words nr (nr + 1) holds (omega arith) c.add_planes.ensures
+    ∙ add_block c.shift_rows-2.result c.add_round_key.result k hk c.args.round_keys.now words nr (nr + 1) holds (omega arith) c.add_round_key.ensures
     ∙ ap (add_round_key words nr)
-    (shift_block c.sub_planes-2.new.planes c.shift_planes-2.result k hk c.shift_planes-2.ensures
+    (shift_block c.sub_planes-2.new.planes c.shift_rows-2.result k hk c.shift_rows-2.ensures
     ∙ ap shift_rows (sub_block c.loop-round.state c.sub_planes-2.new.planes k hk c.sub_planes-2.ensures
     ∙ ap sub_bytes (c.loop-round.invariant words holds k hk ∙ ap (rounds words block) whole)))
     ∙ sym (cipher_is words nr block)

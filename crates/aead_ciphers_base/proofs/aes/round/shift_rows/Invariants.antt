@@ -1,7 +1,7 @@
 use Rattle.std.proofs.Common.{◌≡◌, ◌<◌, ℕ, slice_index, length}
 use Rattle.std.specs.Int.{bit_at}
 use Rattle.aead_ciphers_base.specs.Planes.{shifted_from}
-use Rattle.aead_ciphers_base.proofs.aes.layers.shift_planes.Given as goal
+use Rattle.aead_ciphers_base.proofs.aes.round.shift_rows.Given as goal
 
 abbrev pub invariant-loop-k : goal.invariant-loop-k
 invariant-loop-k l =

@@ -1,5 +1,5 @@
 use Rattle.std.proofs.Common.{◌≡◌, ◌<◌, ℕ, slice_index, length, bit_xor}
-use Rattle.aead_ciphers_base.proofs.aes.layers.add_planes.Given as goal
+use Rattle.aead_ciphers_base.proofs.aes.round.add_planes.Given as goal
 
 abbrev pub invariant-loop-k : goal.invariant-loop-k
 invariant-loop-k l =

@@ -58,11 +58,11 @@ pub two_below_moves : (x : ℕ) → x < 2 ^ 64 → (p : ℕ) → p < 64 → bit_
 two_below_moves x h p hp = moved two_below_of (λ t. below t 2) (pair_additive 2 0x3333333333333333 2 0xcccccccccccccccc) two_below_test x h p hp
 
 -- the bits of rows 2 and 3 that differ two columns on
-abbrev exchanged : ℕ → ℕ
-exchanged x = bit_and (bit_xor (x / 2 ^ 8) x) 0x00cc00cc00cc00cc
+abbrev delta : ℕ → ℕ
+delta x = bit_and (bit_xor (x / 2 ^ 8) x) 0x00cc00cc00cc00cc
 
 abbrev by_two : ℕ → ℕ
-by_two x = bit_xor (bit_xor x (exchanged x)) (exchanged x * 2 ^ 8 % 2 ^ 64)
+by_two x = bit_xor (bit_xor x (delta x)) (delta x * 2 ^ 8 % 2 ^ 64)
 
 abbrev by_one : ℕ → ℕ
 by_one x = bit_xor (bit_and x 0x5555555555555555) (pair 4 0x0aaa0aaa0aaa0aaa 12 0xa000a000a000a000 x)
@@ -70,16 +70,16 @@ by_one x = bit_xor (bit_and x 0x5555555555555555) (pair 4 0x0aaa0aaa0aaa0aaa 12 
 rows_shifted_test : moves (λ x. by_one (by_two x)) shifted_from ≡ true
 rows_shifted_test = refl
 
-exchanged_additive : IsAdditive exchanged
-exchanged_additive =
+delta_additive : IsAdditive delta
+delta_additive =
     additive_after (λ t. bit_and t 0x00cc00cc00cc00cc) (λ x. bit_xor (x / 2 ^ 8) x) (additive_and 0x00cc00cc00cc00cc)
     (additive_xor (λ x. x / 2 ^ 8) (λ x. x) (additive_shr 8) (λ a b. refl))
 
 by_two_additive : IsAdditive by_two
 by_two_additive =
-    additive_xor (λ x. bit_xor x (exchanged x)) (λ x. exchanged x * 2 ^ 8 % 2 ^ 64)
-    (additive_xor (λ x. x) exchanged (λ a b. refl) exchanged_additive)
-    (additive_after (λ t. t * 2 ^ 8 % 2 ^ 64) exchanged (additive_shl 8 64) exchanged_additive)
+    additive_xor (λ x. bit_xor x (delta x)) (λ x. delta x * 2 ^ 8 % 2 ^ 64)
+    (additive_xor (λ x. x) delta (λ a b. refl) delta_additive)
+    (additive_after (λ t. t * 2 ^ 8 % 2 ^ 64) delta (additive_shl 8 64) delta_additive)
 
 by_one_additive : IsAdditive by_one
 by_one_additive =

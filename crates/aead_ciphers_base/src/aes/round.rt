@@ -1,4 +1,4 @@
-//! ShiftRows, MixColumns and AddRoundKey on planes.
+//! The steps of a round on planes (FIPS 197 section 5.1), but for SubBytes.
 
 ghost use Rattle.std.specs.Prelude.{◌≡◌, ◌<◌, ℕ, bit_xor};
 ghost use Rattle.std.specs.Int.{bit_at};
@@ -23,13 +23,13 @@ fn two_below(x: u64) -> u64
     ((x >> 2) & 0x3333_3333_3333_3333) ^ ((x << 2) & 0xcccc_cccc_cccc_cccc)
 }
 
-// Rows 2 and 3 move by two columns of four bits, and then rows 1 and 3 by one.
+// Rows 2 and 3 move by two columns of four bits, by a delta swap, and then rows 1 and 3 by one.
 #[inline(always)]
 fn rows_shifted(x: u64) -> u64
     ensures { (p : ℕ) → p < 64 → bit_at result p ≡ bit_at x (shifted_from p) }
 {
-    let exchanged = ((x >> 8) ^ x) & 0x00cc_00cc_00cc_00cc;
-    let by_two = x ^ exchanged ^ (exchanged << 8);
+    let delta = ((x >> 8) ^ x) & 0x00cc_00cc_00cc_00cc;
+    let by_two = x ^ delta ^ (delta << 8);
     (by_two & 0x5555_5555_5555_5555)
         ^ (((by_two >> 4) & 0x0aaa_0aaa_0aaa_0aaa) ^ ((by_two << 12) & 0xa000_a000_a000_a000))
 }
@@ -56,21 +56,9 @@ fn planes_two_below(a: Planes) -> Planes
     out
 }
 
-/// ShiftRows (FIPS 197 section 5.1.2) in each block.
+// The sum of the bytes of `a` and `b`.
 #[inline(always)]
-pub fn shift_planes(a: Planes) -> Planes
-    ensures { (p : ℕ) → p < 64 → plane_byte result p ≡ plane_byte a (shifted_from p) }
-{
-    let mut out = [0; 8];
-    for k in 0..8 {
-        out[k] = rows_shifted(a[k]);
-    }
-    out
-}
-
-/// The sum of the bytes of `a` and `b`: AddRoundKey (FIPS 197 section 5.1.4), if `b` is a round key.
-#[inline(always)]
-pub fn add_planes(a: Planes, b: Planes) -> Planes
+fn add_planes(a: Planes, b: Planes) -> Planes
     ensures { (p : ℕ) → plane_byte result p ≡ bit_xor (plane_byte a p) (plane_byte b p) }
 {
     let mut out = [0; 8];
@@ -80,9 +68,21 @@ pub fn add_planes(a: Planes, b: Planes) -> Planes
     out
 }
 
+/// ShiftRows (FIPS 197 section 5.1.2) in each block.
+#[inline(always)]
+pub fn shift_rows(a: Planes) -> Planes
+    ensures { (p : ℕ) → p < 64 → plane_byte result p ≡ plane_byte a (shifted_from p) }
+{
+    let mut out = [0; 8];
+    for k in 0..8 {
+        out[k] = rows_shifted(a[k]);
+    }
+    out
+}
+
 /// MixColumns (FIPS 197 section 5.1.3) in each block.
 #[inline(always)]
-pub fn mix_planes(a: Planes) -> Planes
+pub fn mix_columns(a: Planes) -> Planes
     ensures { (p : ℕ) → p < 64 → plane_byte result p
         ≡ mixed (plane_byte a p) (plane_byte a (below p 1))
         (plane_byte a (below p 2)) (plane_byte a (below p 3)) }
@@ -91,4 +91,13 @@ pub fn mix_planes(a: Planes) -> Planes
     let sum = add_planes(a, b);
     let doubled = add_planes(times_x(sum), b);
     add_planes(doubled, planes_two_below(sum))
+}
+
+/// AddRoundKey (FIPS 197 section 5.1.4) in each block.
+#[inline(always)]
+pub fn add_round_key(a: Planes, round_key: &Planes) -> Planes
+    ensures { (p : ℕ) → plane_byte result p
+        ≡ bit_xor (plane_byte a p) (plane_byte round_key.now p) }
+{
+    add_planes(a, *round_key)
 }

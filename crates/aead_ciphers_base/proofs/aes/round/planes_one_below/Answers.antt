@@ -1,7 +1,7 @@
 use Rattle.std.proofs.Common.{arith, length-set, ◌∙◌}
 use Rattle.aead_ciphers_base.specs.Planes.{below}
-use Rattle.aead_ciphers_base.proofs.LayerLemmas.{planes_moved, moves_more}
-use Rattle.aead_ciphers_base.proofs.aes.layers.planes_one_below.Goals as goal
+use Rattle.aead_ciphers_base.proofs.RoundStepLemmas.{planes_moved, moves_more}
+use Rattle.aead_ciphers_base.proofs.aes.round.planes_one_below.Goals as goal
 
 pub returns : goal.returns
 returns c = λ p lt. planes_moved c.args.a c.loop-k.out p (below p 1) (λ j h. c.loop-k.invariant.1 j (omega arith) p lt)
