@@ -1,6 +1,6 @@
 //! `aead`: keys that use the nonce handed in.
 
-use crate::callers::{append, open_and_mark};
+use crate::callers::{append, open_and_mark, seal};
 use crate::cases::{aad, false_tag, key, key_bytes, nonce, opened_at_4, sealed};
 use crate::checks::{holds, reads, same};
 use crate::reference;
@@ -76,6 +76,20 @@ fn gcm_spec_cases(rt: HostRuntime) -> Result<(), Fail> {
         appends(&rt, rt.alloc(), case)?;
     }
     Ok(())
+}
+
+/// Seals a case of AES-128-GCM from its bytes alone.
+fn seals_by_bytes(rt: &impl Abort, alloc: Global, case: &Case) -> Result<(), Fail> {
+    let mut in_out = case.message.to_vec(alloc)?;
+    let tag = seal(case.key, case.nonce, case.aad, &mut in_out)?;
+    same(rt, &in_out, case.ciphertext, case.name);
+    same(rt, tag.as_ref(), &case.tag, case.name);
+    Ok(())
+}
+
+#[test]
+fn gcm_spec_case_4_by_bytes(rt: HostRuntime) -> Result<(), Fail> {
+    seals_by_bytes(&rt, rt.alloc(), &CASE_4)
 }
 
 /// Opens test case 4 from byte 4 on.

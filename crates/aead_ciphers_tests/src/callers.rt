@@ -4,13 +4,14 @@ ghost use Rattle.std.specs.Prelude.{◌≡◌, ◌+◌, ◌<◌, ◌≤◌, ◌�
 ghost use Rattle.arrayvec.specs.ArrayVec.{array_vec_len};
 ghost use Rattle.aead_ciphers_base.specs.Values.{aad_bytes};
 ghost use Rattle.aead_ciphers_base.specs.Work.{HasRoom};
-ghost use Rattle.aead_ciphers.specs.AesGcm.{aes_decrypted};
+ghost use Rattle.aead_ciphers.specs.AesGcm.{aes_decrypted, aes_encrypted};
 ghost use Rattle.aead_ciphers.specs.Algorithm.{id};
 ghost use Rattle.aead_ciphers.specs.Gcm.{Fits};
 
 use aead_ciphers::aead::lend::parts_if;
 use aead_ciphers::aead::{
-    AES_128_GCM, AES_256_GCM, Aad, Algorithm, LessSafeKey, Nonce, Tag, Unspecified, quic,
+    AES_128_GCM, AES_256_GCM, Aad, Algorithm, LessSafeKey, NONCE_LEN, Nonce, Tag, UnboundKey,
+    Unspecified, quic,
 };
 use aead_ciphers::aes_gcm;
 use aead_ciphers_base::aes::Work;
@@ -43,6 +44,20 @@ fn equality(rt: HostRuntime) {
     assert!(rt; !same_algorithm(&AES_128_GCM, &AES_256_GCM));
     assert!(rt; same_aad(&Aad::from(b"".as_slice()), &Aad::empty()));
     assert!(rt; !same_aad(&Aad::from(b"a".as_slice()), &Aad::from(b"b".as_slice())));
+}
+
+/// Seals a message in place under AES-128-GCM, and answers its tag.
+pub(crate) fn seal(
+    key_bytes: &[u8],
+    nonce: [u8; NONCE_LEN],
+    aad: &[u8],
+    in_out: &mut [u8],
+) -> Result<Tag, Unspecified>
+    ensures { OnOk result (in_out.new ≡ aes_encrypted key_bytes.now nonce in_out.old) }
+{
+    let key = LessSafeKey::new(UnboundKey::new(&AES_128_GCM, key_bytes)?);
+    let nonce = Nonce::assume_unique_for_key(nonce);
+    key.seal_in_place_separate_tag(nonce, Aad::from(aad), in_out)
 }
 
 /// Opens, and writes 7 over the first byte of the plaintext: the whole buffer is known.
