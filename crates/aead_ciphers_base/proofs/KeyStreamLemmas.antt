@@ -132,7 +132,8 @@ written_rest key counter nonce start at j old was rest held whole within e =
     let both : chacha20_encrypted key counter nonce input
     ≡ chacha20_encrypted key counter nonce done ++ chacha20_encrypted key (counter + j) nonce piece =
     ap (chacha20_encrypted key counter nonce) (sym (take-append-drop at input))
-    ∙ chacha20_encrypted-append key counter nonce stream done piece j (take_all (length piece) stream (omega (arith, length-key_stream key (counter + j) nonce (length piece)))) (ld ∙ whole)
+    ∙ chacha20_encrypted-append key counter nonce stream done piece j
+    (take_all (length piece) stream (omega (arith, length-key_stream key (counter + j) nonce (length piece)))) (ld ∙ whole)
     ∙ ap (λ (xs : List ℕ). chacha20_encrypted key counter nonce done ++ xs) (piece_encrypted key (counter + j) nonce piece) in
     let none : drop (length was - at) (drop at was) ≡ [] = drop_all (length was - at) (drop at was) (simp length-drop (omega arith)) in
     let part : take (length was - at) (drop at was) ≡ drop at was = take_all (length was - at) (drop at was) (simp length-drop (omega arith)) in

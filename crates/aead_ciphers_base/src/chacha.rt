@@ -292,8 +292,8 @@ impl Key {
         }
     }
 
-    // Encrypts one block at a time, from block `first` after the counter on, so that no counter behind
-    // the last block is summed.
+    // Encrypts one block at a time, from block `first` after the counter on. No counter behind the
+    // last block is summed.
     fn encrypt_blocks(&self, counter: &Counter, first: usize, in_out: &mut [u8], start: usize)
         requires within { start ≤ length in_out.old }
         requires counted { counter.now.number + first + div_ceil (length in_out.old - start) 64
