@@ -1,3 +1,11 @@
+pub use Rattle.aead_ciphers_base.specs.Aes
+pub use Rattle.aead_ciphers_base.specs.Blocks
+pub use Rattle.aead_ciphers_base.specs.Bytes
+pub use Rattle.aead_ciphers_base.specs.ChaCha20
+pub use Rattle.aead_ciphers_base.specs.KeyBytes
+pub use Rattle.aead_ciphers_base.specs.Mask
+pub use Rattle.aead_ciphers_base.specs.Values
+pub use Rattle.aead_ciphers_base.specs.Work
 pub mod AeadKey
 pub mod AesGcm
 pub mod Algorithm

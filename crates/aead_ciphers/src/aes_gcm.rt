@@ -1,6 +1,6 @@
 //! AES-GCM with 12-byte nonces and 16-byte tags (SP 800-38D section 7), in place.
 
-ghost use Rattle.std.specs.Prelude.{◌≡◌, ◌-◌, ◌↔◌, length, IsOk, IfOk, OnOk, OnErr, is_ok};
+ghost use Rattle.std.specs.Prelude.{◌≡◌, ◌≤◌, ◌-◌, ◌↔◌, length, IsOk, IfOk, OnOk, OnErr, is_ok};
 ghost use Rattle.aead_ciphers_base.specs.KeyBytes.{key_bytes};
 ghost use Rattle.aead_ciphers_base.specs.Values.{aad_bytes};
 ghost use Rattle.aead_ciphers_base.specs.Work.{Adds, CanAdd};

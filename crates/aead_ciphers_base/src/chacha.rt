@@ -28,7 +28,7 @@ pub type Overlapping<'o> = overlapping::Overlapping<'o, u8>;
 
 type State = [u32; 16];
 
-// The first four words of a state (section 2.3).
+// The first four words of a state (section 2.3): "expand 32-byte k" in little-endian words.
 const CONSTANTS: [u32; 4] = [0x6170_7865, 0x3320_646e, 0x7962_2d32, 0x6b20_6574];
 
 #[inline(always)]

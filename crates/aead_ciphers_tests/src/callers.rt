@@ -2,11 +2,11 @@
 
 ghost use Rattle.std.specs.Prelude.{◌≡◌, ◌+◌, ◌<◌, ◌≤◌, ◌↔◌, length, slice_set, IsTrue, IsOk, OnOk, OnErr};
 ghost use Rattle.arrayvec.specs.ArrayVec.{array_vec_len};
-ghost use Rattle.aead_ciphers_base.specs.Values.{aad_bytes};
-ghost use Rattle.aead_ciphers_base.specs.Work.{HasRoom};
 ghost use Rattle.aead_ciphers.specs.AesGcm.{aes_decrypted, aes_encrypted};
 ghost use Rattle.aead_ciphers.specs.Algorithm.{id};
 ghost use Rattle.aead_ciphers.specs.Gcm.{Fits};
+ghost use Rattle.aead_ciphers.specs.Values.{aad_bytes};
+ghost use Rattle.aead_ciphers.specs.Work.{HasRoom};
 
 use aead_ciphers::aead::lend::parts_if;
 use aead_ciphers::aead::{

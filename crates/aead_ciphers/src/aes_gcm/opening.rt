@@ -1,6 +1,6 @@
 //! Opening over any cipher and hash (SP 800-38D section 7.2).
 
-ghost use Rattle.std.specs.Prelude.{◌≡◌, ◌-◌, length, is_ok};
+ghost use Rattle.std.specs.Prelude.{◌≡◌, ◌≤◌, ◌-◌, length, is_ok};
 ghost use Rattle.aead_ciphers_base.specs.Bytes.{zero_block};
 ghost use Rattle.aead_ciphers_base.specs.Values.{aad_bytes};
 ghost use Rattle.aead_ciphers_base.specs.Work.{CanAdd};

@@ -1,6 +1,6 @@
 //! The cipher on four blocks at a time.
 
-ghost use Rattle.std.specs.Prelude.{◌≡◌, ◌+◌, ◌<◌, ◌≤◌, ℕ, List, [], slice_index_or};
+ghost use Rattle.std.specs.Prelude.{◌≡◌, ◌+◌, ◌<◌, ℕ, List, [], slice_index_or};
 ghost use Rattle.aead_ciphers_base.specs.Aes.{cipher};
 ghost use Rattle.aead_ciphers_base.specs.KeySchedule.{HoldsWords};
 

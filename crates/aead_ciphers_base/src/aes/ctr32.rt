@@ -1,6 +1,6 @@
 //! Counter mode in batches of four blocks (SP 800-38D section 6.5).
 
-ghost use Rattle.std.specs.Prelude.{◌≡◌, ◌<◌, ◌≤◌, ℕ, ◌+◌, ◌-◌, ◌/◌, ◌%◌, List, [], length, slice_index_or};
+ghost use Rattle.std.specs.Prelude.{◌≡◌, ◌<◌, ◌≤◌, ℕ, ◌+◌, ◌-◌, ◌/◌, ◌%◌, List, length};
 ghost use Rattle.aead_ciphers_base.specs.Aes.{aes};
 ghost use Rattle.aead_ciphers_base.specs.CounterMode.{IsCounter, Advances, EncryptsToFront, EncryptsWindow, counter_mode};
 ghost use Rattle.aead_ciphers_base.specs.Work.{Adds, CanAdd};
