@@ -219,7 +219,8 @@ module _ (table : List ℕ) (p a b c d : ℕ) where
 -- entry k of a table
 entry_at : (table : List ℕ) (k : ℕ) →
     entry table k
-    ≡ number_of_words (slice_index table (place k) ∷ slice_index table (128 + place k) ∷ slice_index table (256 + place k) ∷ slice_index table (384 + place k) ∷ [])
+    ≡ number_of_words (slice_index table (place k) ∷ slice_index table (128 + place k)
+    ∷ slice_index table (256 + place k) ∷ slice_index table (384 + place k) ∷ [])
 entry_at table k =
     let e0 : 128 * 0 + 4 * (k % 32) + k / 32 ≡ place k = omega arith in
     let e1 : 128 * 1 + 4 * (k % 32) + k / 32 ≡ 128 + place k = omega arith in

@@ -30,12 +30,16 @@ loop-i-preserved c =
       sums = λ j within.
           let sums = lane c.loop-i.first c.loop-i.second c.loop-i.third c.loop-i.fourth j in
           let b = slice_index c.loop-i.bits j / 2 ^ 31 == 1 in
-          let words = lane c.lanes.result c.lanes-in-loop-i.result c.lanes-in-loop-i-2.result c.lanes-in-loop-i-3.result j in
+          let one = c.lanes in
+          let two = c.lanes-in-loop-i in
+          let three = c.lanes-in-loop-i-2 in
+          let four = c.lanes-in-loop-i-3 in
+          let words = lane one.result two.result three.result four.result j in
           let small_sums = small-lane c.loop-i.first c.loop-i.second c.loop-i.third c.loop-i.fourth j at.first at.second at.third at.fourth within in
           let small_words : AllSmall words =
-          (c.lanes.ensures.fits j within, (c.lanes-in-loop-i.ensures.fits j within, (c.lanes-in-loop-i-2.ensures.fits j within, (c.lanes-in-loop-i-3.ensures.fits j within, tt)))) in
+          (one.ensures.fits j within, (two.ensures.fits j within, (three.ensures.fits j within, (four.ensures.fits j within, tt)))) in
           let words_are : number_of_words words ≡ entry table (32 * j + i) =
-          rw (c.lanes.ensures.read j within, c.lanes-in-loop-i.ensures.read j within, c.lanes-in-loop-i-2.ensures.read j within, c.lanes-in-loop-i-3.ensures.read j within)
+          rw (one.ensures.read j within, two.ensures.read j within, three.ensures.read j within, four.ensures.read j within)
           (sym (entry_is table j i within (omega arith))) in
           let is : number_of_words (lane c.add_chosen-first.result c.add_chosen-second.result c.add_chosen-third.result c.add_chosen-fourth.result j)
           ≡ (if b then bit_xor (number_of_words sums) (entry table (32 * j + i)) else number_of_words sums) =
