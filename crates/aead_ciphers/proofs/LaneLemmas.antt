@@ -29,7 +29,8 @@ added_under_mask s w x small below = ap (bit_xor s) (masked 32 w x small below) 
 abbrev pub masks : List ℕ → List ℕ
 masks bits = zip2 (λ a b. (a + (2 ^ 32 - b)) % 2 ^ 32) (replicate 4 0) (zip2 (λ x n. x / 2 ^ n) bits (replicate 4 31))
 
-pub lane-chosen : (sum bits words : List ℕ) (j : ℕ) → length sum ≡ 4 → length bits ≡ 4 → length words ≡ 4 → j < 4 → slice_index bits j < 2 ^ 32 → slice_index words j < 2 ^ 32 →
+pub lane-chosen : (sum bits words : List ℕ) (j : ℕ) → length sum ≡ 4 → length bits ≡ 4 → length words ≡ 4 →
+    j < 4 → slice_index bits j < 2 ^ 32 → slice_index words j < 2 ^ 32 →
     slice_index (zip2 bit_xor sum (zip2 bit_and words (masks bits))) j
     ≡ (if slice_index bits j / 2 ^ 31 == 1 then bit_xor (slice_index sum j) (slice_index words j) else slice_index sum j)
 lane-chosen sum bits words j size_sum size_bits size_words within small below =
@@ -87,18 +88,21 @@ number-xor-from n m (x ∷ xs) (y ∷ ys) e small_x small_y =
     ap (λ (k : ℕ). fold join k (zip2 bit_xor xs ys)) (sym (xor_block 32 n m x y small_x.0 small_y.0))
     ∙ number-xor-from (join n x) (join m y) xs ys (omega arith) small_x.1 small_y.1
 
-pub number-xor : (xs ys : List ℕ) → length xs ≡ length ys → AllSmall xs → AllSmall ys → number_of_words (zip2 bit_xor xs ys) ≡ bit_xor (number_of_words xs) (number_of_words ys)
+pub number-xor : (xs ys : List ℕ) → length xs ≡ length ys → AllSmall xs → AllSmall ys →
+    number_of_words (zip2 bit_xor xs ys) ≡ bit_xor (number_of_words xs) (number_of_words ys)
 number-xor xs ys e small_x small_y = number-xor-from 0 0 xs ys e small_x small_y
 
 -- words that are added where b says so
 pub number-chosen : (b : Bool) (s0 s1 s2 s3 w0 w1 w2 w3 : ℕ) → AllSmall (s0 ∷ s1 ∷ s2 ∷ s3 ∷ []) → AllSmall (w0 ∷ w1 ∷ w2 ∷ w3 ∷ []) →
-    number_of_words ((if b then bit_xor s0 w0 else s0) ∷ (if b then bit_xor s1 w1 else s1) ∷ (if b then bit_xor s2 w2 else s2) ∷ (if b then bit_xor s3 w3 else s3) ∷ [])
+    number_of_words ((if b then bit_xor s0 w0 else s0) ∷ (if b then bit_xor s1 w1 else s1)
+    ∷ (if b then bit_xor s2 w2 else s2) ∷ (if b then bit_xor s3 w3 else s3) ∷ [])
     ≡ (if b then bit_xor (number_of_words (s0 ∷ s1 ∷ s2 ∷ s3 ∷ [])) (number_of_words (w0 ∷ w1 ∷ w2 ∷ w3 ∷ [])) else number_of_words (s0 ∷ s1 ∷ s2 ∷ s3 ∷ []))
 number-chosen false s0 s1 s2 s3 w0 w1 w2 w3 small_s small_w = refl
 number-chosen true s0 s1 s2 s3 w0 w1 w2 w3 small_s small_w = number-xor (s0 ∷ s1 ∷ s2 ∷ s3 ∷ []) (w0 ∷ w1 ∷ w2 ∷ w3 ∷ []) refl small_s small_w
 
 pub words_chosen : (b : Bool) (s0 s1 s2 s3 w0 w1 w2 w3 t0 t1 t2 t3 : ℕ) → AllSmall (s0 ∷ s1 ∷ s2 ∷ s3 ∷ []) → AllSmall (w0 ∷ w1 ∷ w2 ∷ w3 ∷ []) →
-    t0 ≡ (if b then bit_xor s0 w0 else s0) → t1 ≡ (if b then bit_xor s1 w1 else s1) → t2 ≡ (if b then bit_xor s2 w2 else s2) → t3 ≡ (if b then bit_xor s3 w3 else s3) →
+    t0 ≡ (if b then bit_xor s0 w0 else s0) → t1 ≡ (if b then bit_xor s1 w1 else s1) →
+    t2 ≡ (if b then bit_xor s2 w2 else s2) → t3 ≡ (if b then bit_xor s3 w3 else s3) →
     number_of_words (t0 ∷ t1 ∷ t2 ∷ t3 ∷ [])
     ≡ (if b then bit_xor (number_of_words (s0 ∷ s1 ∷ s2 ∷ s3 ∷ [])) (number_of_words (w0 ∷ w1 ∷ w2 ∷ w3 ∷ [])) else number_of_words (s0 ∷ s1 ∷ s2 ∷ s3 ∷ []))
 words_chosen b s0 s1 s2 s3 w0 w1 w2 w3 t0 t1 t2 t3 small_s small_w e0 e1 e2 e3 =
@@ -125,7 +129,8 @@ small-xor [] ys small_x small_y = tt
 small-xor (x ∷ xs) [] small_x small_y = tt
 small-xor (x ∷ xs) (y ∷ ys) small_x small_y = (xor_lt 32 x y small_x.0 small_y.0, small-xor xs ys small_x.1 small_y.1)
 
-fold-lanes : (xs : List ℕ) → length xs ≡ 4 → fold_l bit_xor 0 xs ≡ bit_xor (bit_xor (bit_xor (bit_xor 0 (slice_index xs 0)) (slice_index xs 1)) (slice_index xs 2)) (slice_index xs 3)
+fold-lanes : (xs : List ℕ) → length xs ≡ 4 →
+    fold_l bit_xor 0 xs ≡ bit_xor (bit_xor (bit_xor (bit_xor 0 (slice_index xs 0)) (slice_index xs 1)) (slice_index xs 2)) (slice_index xs 3)
 fold-lanes (a ∷ b ∷ c ∷ d ∷ []) e = refl
 fold-lanes [] e = absurd (omega arith)
 fold-lanes (a ∷ []) e = absurd (omega arith)
@@ -136,7 +141,8 @@ fold-lanes (a ∷ b ∷ c ∷ d ∷ x ∷ xs) e = absurd (omega arith)
 -- the sums of each vector's lanes are the words of the sum of the lanes
 pub number-lanes : (a b c d : List ℕ) → IsVector a → IsVector b → IsVector c → IsVector d →
     number_of_words (fold_l bit_xor 0 a ∷ fold_l bit_xor 0 b ∷ fold_l bit_xor 0 c ∷ fold_l bit_xor 0 d ∷ [])
-    ≡ bit_xor (bit_xor (bit_xor (bit_xor 0 (number_of_words (lane a b c d 0))) (number_of_words (lane a b c d 1))) (number_of_words (lane a b c d 2))) (number_of_words (lane a b c d 3))
+    ≡ bit_xor (bit_xor (bit_xor (bit_xor 0 (number_of_words (lane a b c d 0))) (number_of_words (lane a b c d 1))) (number_of_words (lane a b c d 2)))
+    (number_of_words (lane a b c d 3))
 number-lanes a b c d is_a is_b is_c is_d =
     let zeros : List ℕ = 0 ∷ 0 ∷ 0 ∷ 0 ∷ [] in
     let small : (j : ℕ) → j < 4 → AllSmall (lane a b c d j) =
@@ -158,7 +164,9 @@ number-lanes a b c d is_a is_b is_c is_d =
 
 -- entry 32 * j + i of a table
 pub entry_is : (table : List ℕ) (j i : ℕ) → j < 4 → i < 32 →
-    entry table (32 * j + i) ≡ number_of_words (slice_index table (4 * i + j) ∷ slice_index table (128 + 4 * i + j) ∷ slice_index table (256 + 4 * i + j) ∷ slice_index table (384 + 4 * i + j) ∷ [])
+    entry table (32 * j + i)
+    ≡ number_of_words (slice_index table (4 * i + j) ∷ slice_index table (128 + 4 * i + j)
+    ∷ slice_index table (256 + 4 * i + j) ∷ slice_index table (384 + 4 * i + j) ∷ [])
 entry_is table j i within inner =
     let row : (32 * j + i) % 32 ≡ i = omega arith in
     let lane : (32 * j + i) / 32 ≡ j = omega arith in
@@ -189,7 +197,8 @@ module _ (table : List ℕ) (p a b c d : ℕ) where
 
   written_other : (q : ℕ) → q ≢ p → q ≢ 128 + p → q ≢ 256 + p → q ≢ 384 + p → slice_index written q ≡ slice_index table q
   written_other q n0 n1 n2 n3 =
-      get_or-set_other three (384 + p) q d 0 n3 ∙ get_or-set_other two (256 + p) q c 0 n2 ∙ get_or-set_other one (128 + p) q b 0 n1 ∙ get_or-set_other table p q a 0 n0
+      get_or-set_other three (384 + p) q d 0 n3 ∙ get_or-set_other two (256 + p) q c 0 n2
+      ∙ get_or-set_other one (128 + p) q b 0 n1 ∙ get_or-set_other table p q a 0 n0
 
   number-written : length table ≡ 512 → p < 128 →
       number_of_words (slice_index written p ∷ slice_index written (128 + p) ∷ slice_index written (256 + p) ∷ slice_index written (384 + p) ∷ [])
@@ -199,15 +208,19 @@ module _ (table : List ℕ) (p a b c d : ℕ) where
       let size_2 = length-set one (128 + p) b in
       let size_3 = length-set two (256 + p) c in
       rw (
-        get_or-set_other three (384 + p) p d 0 (omega arith) ∙ get_or-set_other two (256 + p) p c 0 (omega arith) ∙ get_or-set_other one (128 + p) p b 0 (omega arith) ∙ get_or-set_same table p a 0 (omega arith),
-        get_or-set_other three (384 + p) (128 + p) d 0 (omega arith) ∙ get_or-set_other two (256 + p) (128 + p) c 0 (omega arith) ∙ get_or-set_same one (128 + p) b 0 (omega (arith, size_1)),
+        get_or-set_other three (384 + p) p d 0 (omega arith) ∙ get_or-set_other two (256 + p) p c 0 (omega arith)
+            ∙ get_or-set_other one (128 + p) p b 0 (omega arith) ∙ get_or-set_same table p a 0 (omega arith),
+        get_or-set_other three (384 + p) (128 + p) d 0 (omega arith) ∙ get_or-set_other two (256 + p) (128 + p) c 0 (omega arith)
+            ∙ get_or-set_same one (128 + p) b 0 (omega (arith, size_1)),
         get_or-set_other three (384 + p) (256 + p) d 0 (omega arith) ∙ get_or-set_same two (256 + p) c 0 (omega (arith, size_1, size_2)),
         get_or-set_same three (384 + p) d 0 (omega (arith, size_1, size_2, size_3)),
       ) refl
 
 -- entry k of a table
 entry_at : (table : List ℕ) (k : ℕ) →
-    entry table k ≡ number_of_words (slice_index table (place k) ∷ slice_index table (128 + place k) ∷ slice_index table (256 + place k) ∷ slice_index table (384 + place k) ∷ [])
+    entry table k
+    ≡ number_of_words (slice_index table (place k) ∷ slice_index table (128 + place k)
+    ∷ slice_index table (256 + place k) ∷ slice_index table (384 + place k) ∷ [])
 entry_at table k =
     let e0 : 128 * 0 + 4 * (k % 32) + k / 32 ≡ place k = omega arith in
     let e1 : 128 * 1 + 4 * (k % 32) + k / 32 ≡ 128 + place k = omega arith in
@@ -215,7 +228,8 @@ entry_at table k =
     let e3 : 128 * 3 + 4 * (k % 32) + k / 32 ≡ 384 + place k = omega arith in
     rw (e0, e1, e2, e3) refl
 
-pub entry-written : (table : List ℕ) (k a b c d : ℕ) → length table ≡ 512 → k < 128 → entry (written table (place k) a b c d) k ≡ number_of_words (a ∷ b ∷ c ∷ d ∷ [])
+pub entry-written : (table : List ℕ) (k a b c d : ℕ) → length table ≡ 512 → k < 128 →
+    entry (written table (place k) a b c d) k ≡ number_of_words (a ∷ b ∷ c ∷ d ∷ [])
 entry-written table k a b c d size within =
     entry_at (written table (place k) a b c d) k ∙ number-written table (place k) a b c d size (omega arith)
 

@@ -59,7 +59,8 @@ raised_next h k v below at =
     multiple_is v below ∙ ap (mul_x 127 (modulus block_taps 128)) at ∙ ap (λ (n : ℕ). raised n (coefficients 128 h)) e
 
 -- one entry more
-pub multiples_more : (h k v : ℕ) (old new : ℕ → ℕ) → IsMultiple h k v → new k ≡ v → ((j : ℕ) → j < k → new j ≡ old j) → ((j : ℕ) → j < k → IsMultiple h j (old j)) →
+pub multiples_more : (h k v : ℕ) (old new : ℕ → ℕ) → IsMultiple h k v → new k ≡ v → ((j : ℕ) → j < k → new j ≡ old j) →
+    ((j : ℕ) → j < k → IsMultiple h j (old j)) →
     (j : ℕ) → j < k + 1 → IsMultiple h j (new j)
 multiples_more h k v old new here is kept before =
     below_more (λ (j : ℕ). IsMultiple h j (new j)) k
@@ -159,7 +160,8 @@ pub stretch_next : (a h j i bits sum v : ℕ) → j < 4 → i < 32 → bits ≡ 
 stretch_next a h j i bits sum v within inner left is_v at =
     let bit : bits / 2 ^ 31 ≡ bit_at a (127 - (32 * j + i)) =
     ap (λ (n : ℕ). n / 2 ^ 31) left ∙ top_bit (a / 2 ^ (96 - 32 * j) % 2 ^ 32) 31 i (omega arith) ∙ word_bit a j i within inner in
-    let chosen : (bits / 2 ^ 31 == 1) ≡ coefficients 128 a (32 * j + i) = ap (λ (x : ℕ). x == 1) bit ∙ sym (coefficient-bits 128 a (32 * j + i) (omega arith)) in
+    let chosen : (bits / 2 ^ 31 == 1) ≡ coefficients 128 a (32 * j + i) =
+    ap (λ (x : ℕ). x == 1) bit ∙ sym (coefficient-bits 128 a (32 * j + i) (omega arith)) in
     let s : suc i ≡ i + 1 = omega arith in
     coefficients-chosen (bits / 2 ^ 31 == 1) sum v
     ∙ ap₂ add at (ap₂ (λ (b : Bool) (f : Series). scale b f) chosen is_v)
@@ -171,12 +173,14 @@ bits_next word i bits next left is =
     let twice : bits + bits ≡ bits * 2 = omega arith in
     is ∙ ap (λ (n : ℕ). n % 2 ^ 32) (twice ∙ ap (λ (n : ℕ). n * 2) left) ∙ shifted_next word 32 i
 
-word_more : (a h from sum next : ℕ) → coefficients 128 sum ≡ part a h from → IsStretch a h from 32 next → coefficients 128 (bit_xor sum next) ≡ part a h (from + 32)
+word_more : (a h from sum next : ℕ) → coefficients 128 sum ≡ part a h from → IsStretch a h from 32 next →
+    coefficients 128 (bit_xor sum next) ≡ part a h (from + 32)
 word_more a h from sum next before at = coefficients-xor 128 sum next ∙ ap₂ add before at ∙ sym (part-stretch a h from 32)
 
 -- the four lanes' sums together are the product
 pub product_end : (a h first second third fourth n : ℕ) → n < 2 ^ 128 → n ≡ bit_xor (bit_xor (bit_xor (bit_xor 0 first) second) third) fourth →
-    IsStretch a h 0 32 first → IsStretch a h 32 32 second → IsStretch a h 64 32 third → IsStretch a h 96 32 fourth → to_be_bytes w128 n ≡ to_be_bytes w128 a • to_be_bytes w128 h
+    IsStretch a h 0 32 first → IsStretch a h 32 32 second → IsStretch a h 64 32 third → IsStretch a h 96 32 fourth →
+    to_be_bytes w128 n ≡ to_be_bytes w128 a • to_be_bytes w128 h
 product_end a h first second third fourth n below is one two three four =
     let la = length-bits 128 a in
     let lh = length-bits 128 h in
@@ -185,4 +189,5 @@ product_end a h first second third fourth n below is one two three four =
     product_of_numbers a h n below
     (same_coefficients _ _
     (length-bits 128 n ∙ sym (length-field_product block_taps 127 block_low (bits_high_first 128 a) (bits_high_first 128 h) la lh))
-    (ap (coefficients 128) is ∙ whole ∙ ap (part a h) (sym la) ∙ sym (field_product_is block_taps 127 block_low (bits_high_first 128 a) (bits_high_first 128 h) la lh)))
+    (ap (coefficients 128) is ∙ whole ∙ ap (part a h) (sym la)
+    ∙ sym (field_product_is block_taps 127 block_low (bits_high_first 128 a) (bits_high_first 128 h) la lh)))

@@ -12,7 +12,8 @@ loop-i-init c =
     let h = entry c.self.inside.table 0 in
     record {
       bits = λ j within. c.words-bits.ensures j within ∙ omega arith;
-      sums = below_four _ (stretch_start c.args.block h 0) (stretch_start c.args.block h 32) (stretch_start c.args.block h 64) (stretch_start c.args.block h 96);
+      sums = below_four _ (stretch_start c.args.block h 0) (stretch_start c.args.block h 32)
+          (stretch_start c.args.block h 64) (stretch_start c.args.block h 96);
     }
 
 pub loop-i-preserved : goal.loop-i-preserved
@@ -29,19 +30,28 @@ loop-i-preserved c =
       sums = λ j within.
           let sums = lane c.loop-i.first c.loop-i.second c.loop-i.third c.loop-i.fourth j in
           let b = slice_index c.loop-i.bits j / 2 ^ 31 == 1 in
-          let words = lane c.lanes.result c.lanes-in-loop-i.result c.lanes-in-loop-i-2.result c.lanes-in-loop-i-3.result j in
+          let one = c.lanes in
+          let two = c.lanes-in-loop-i in
+          let three = c.lanes-in-loop-i-2 in
+          let four = c.lanes-in-loop-i-3 in
+          let words = lane one.result two.result three.result four.result j in
           let small_sums = small-lane c.loop-i.first c.loop-i.second c.loop-i.third c.loop-i.fourth j at.first at.second at.third at.fourth within in
-          let small_words : AllSmall words = (c.lanes.ensures.fits j within, (c.lanes-in-loop-i.ensures.fits j within, (c.lanes-in-loop-i-2.ensures.fits j within, (c.lanes-in-loop-i-3.ensures.fits j within, tt)))) in
+          let small_words : AllSmall words =
+          (one.ensures.fits j within, (two.ensures.fits j within, (three.ensures.fits j within, (four.ensures.fits j within, tt)))) in
           let words_are : number_of_words words ≡ entry table (32 * j + i) =
-          rw (c.lanes.ensures.read j within, c.lanes-in-loop-i.ensures.read j within, c.lanes-in-loop-i-2.ensures.read j within, c.lanes-in-loop-i-3.ensures.read j within) (sym (entry_is table j i within (omega arith))) in
+          rw (one.ensures.read j within, two.ensures.read j within, three.ensures.read j within, four.ensures.read j within)
+          (sym (entry_is table j i within (omega arith))) in
           let is : number_of_words (lane c.add_chosen-first.result c.add_chosen-second.result c.add_chosen-third.result c.add_chosen-fourth.result j)
           ≡ (if b then bit_xor (number_of_words sums) (entry table (32 * j + i)) else number_of_words sums) =
           words_chosen b _ _ _ _ _ _ _ _ _ _ _ _ small_sums small_words
-          (c.add_chosen-first.ensures j within) (c.add_chosen-second.ensures j within) (c.add_chosen-third.ensures j within) (c.add_chosen-fourth.ensures j within)
+          (c.add_chosen-first.ensures j within) (c.add_chosen-second.ensures j within)
+          (c.add_chosen-third.ensures j within) (c.add_chosen-fourth.ensures j within)
           ∙ ap (λ v. if b then bit_xor (number_of_words sums) v else number_of_words sums) words_are in
           subst (IsStretch a h (32 * j) (i + 1)) (sym is)
-          (stretch_next a h j i (slice_index c.loop-i.bits j) (number_of_words sums) (entry table (32 * j + i)) within (omega arith) (c.loop-i.invariant.bits j within)
-          (raised_of-block h (32 * j + i) (entry table (32 * j + i)) (omega arith) (c.self.invariant (32 * j + i) (omega arith))) (c.loop-i.invariant.sums j within));
+          (stretch_next a h j i (slice_index c.loop-i.bits j) (number_of_words sums) (entry table (32 * j + i)) within (omega arith)
+          (c.loop-i.invariant.bits j within)
+          (raised_of-block h (32 * j + i) (entry table (32 * j + i)) (omega arith) (c.self.invariant (32 * j + i) (omega arith)))
+          (c.loop-i.invariant.sums j within));
     }
 
 pub returns : goal.returns
@@ -51,7 +61,8 @@ returns c =
     let at = c.loop-i.auto in
     let all : c.loop-i.i ≡ 32 = omega arith in
     let sums : (j : ℕ) → j < 4 → IsStretch a h (32 * j) 32 (number_of_words (lane c.loop-i.first c.loop-i.second c.loop-i.third c.loop-i.fourth j)) =
-    λ j within. subst (λ n. IsStretch a h (32 * j) n (number_of_words (lane c.loop-i.first c.loop-i.second c.loop-i.third c.loop-i.fourth j))) all (c.loop-i.invariant.sums j within) in
+    λ j within. subst (λ n. IsStretch a h (32 * j) n (number_of_words (lane c.loop-i.first c.loop-i.second c.loop-i.third c.loop-i.fourth j))) all
+    (c.loop-i.invariant.sums j within) in
     product_end a h _ _ _ _ c.joined.result (search rules)
     (c.joined.ensures ∙ number-lanes c.loop-i.first c.loop-i.second c.loop-i.third c.loop-i.fourth at.first at.second at.third at.fourth)
     (sums 0 (omega arith)) (sums 1 (omega arith)) (sums 2 (omega arith)) (sums 3 (omega arith))
