@@ -7,6 +7,7 @@ use Rattle.std.proofs.lemmas.Nat.{le_bytes_4, from_le_bytes-to_le_bytes_4}
 use Rattle.std.proofs.lemmas.Slice.{take-put_mid}
 use borrow.Rule.Slice.PartMut.{put_mid}
 use Rattle.aead_ciphers_base.specs.ChaCha20.{le_words, le_bytes, initial_state}
+use Rattle.aead_ciphers_base.specs.declared.chacha.TheConstants.{CONSTANTS}
 use Rattle.std.proofs.Math.Seq.{drop-cons}
 
 -- the n elements from index k on
@@ -94,6 +95,11 @@ take-le_bytes out words bytes i k h within held e =
     let front : take (4 * (i + 1)) (put_mid (4 * i) k out bytes) ≡ take (4 * i) out ++ bytes =
     take-put_mid (4 * i) k out bytes (4 * (i + 1)) (omega arith) (omega arith) in
     rw (front, held, e, take_more words i 0 within) (sym (flat_map-append (to_le_bytes w32) (take i words) (get_or words i 0 ∷ [])))
+
+-- the constants of the initial state are the words of "expand 32-byte k"
+pub constants_are : le_words CONSTANTS.now ≡ 0x61707865 ∷ 0x3320646e ∷ 0x79622d32 ∷ 0x6b206574 ∷ []
+unfolding le_words
+constants_are = refl
 
 -- the initial state, of words that were copied to their places
 pub initial_state_words : (key counter c k n : List ℕ) (number : ℕ) → length key ≡ 8 → length counter ≡ 4

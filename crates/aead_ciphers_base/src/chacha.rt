@@ -28,8 +28,8 @@ pub type Overlapping<'o> = overlapping::Overlapping<'o, u8>;
 
 type State = [u32; 16];
 
-// The first four words of a state (section 2.3): "expand 32-byte k" in little-endian words.
-const CONSTANTS: [u32; 4] = [0x6170_7865, 0x3320_646e, 0x7962_2d32, 0x6b20_6574];
+// The first four words of a state (section 2.3), in little-endian order.
+const CONSTANTS: &[u8; 16] = b"expand 32-byte k";
 
 #[inline(always)]
 #[tactic(auto, unfolding(crate::specs::ChaCha20::quarter_round))]
@@ -328,9 +328,10 @@ impl Key {
         ensures counter_in_word_12 { (n : ℕ) → slice_set result 12 n
             ≡ initial_state self.now n counter.now.nonce }
     {
+        let [c0, c1, c2, c3] = le_words::<4>(CONSTANTS);
         let [number, n0, n1, n2] = counter.words;
         let mut state = [0; 16];
-        state[..4].copy_from_slice(&CONSTANTS);
+        state[..4].copy_from_slice(&[c0, c1, c2, c3]);
         state[4..12].copy_from_slice(&self.words);
         state[12..].copy_from_slice(&[number + j, n0, n1, n2]);
         state

@@ -14,7 +14,8 @@ invariant-loop-done g l = record {
   output : EncryptsFirst (g.A.EncryptBlock.cipher l.aes) l.initial.counter 0 l.done l.initial.in_out l.in_out;
   counter : Advances l.initial.counter l.counter (l.done / 16);
   kept : l.auth ≡ record l.initial.auth { xi = l.auth.xi };
-  hashed : InCounterMode (g.A.EncryptBlock.cipher l.aes) l.initial.counter l.initial.in_out (λ text. (done : List (List ℕ)) → IsHashOf l.initial.auth.hash_key done l.initial.auth.xi →
+  hashed : InCounterMode (g.A.EncryptBlock.cipher l.aes) l.initial.counter l.initial.in_out
+      (λ text. (done : List (List ℕ)) → IsHashOf l.initial.auth.hash_key done l.initial.auth.xi →
       IsHashOf l.initial.auth.hash_key (done ++ padded_blocks (take l.done text)) l.auth.xi);
 }
 

@@ -6,7 +6,8 @@ use Rattle.aead_ciphers_base.proofs.aes.bit_sliced.encrypt_four.Goals as goal
 
 pub loop-round-init : goal.loop-round-init
 loop-round-init c = λ words holds k hk.
-    add_block c.pack.result c.add_round_key-state.result k hk c.args.round_keys.now words 0 (c.args.rounds + 1) holds (omega arith) c.add_round_key-state.ensures
+    add_block c.pack.result c.add_round_key-state.result k hk c.args.round_keys.now words 0 (c.args.rounds + 1)
+    holds (omega arith) c.add_round_key-state.ensures
     ∙ packed_block c.pack.result c.args.blocks words k hk c.pack.ensures
     ∙ sym (rounds_none words (slice_index_or c.args.blocks k []))
 
