@@ -17,9 +17,9 @@ use types.Kit.{‵, ◌$◌, ◌∵◌, !, qed, drop, fsplit, fsplit3, fjoin, do
 use denote.Array.{Array}
 use denote.Builtin.{u8, usize}
 use denote.Follow.{follows, follows_by}
-use denote.Laws.{Lawful, Typed}
+use denote.Laws.{Lawful, Typed, Is}
 use denote.RattleType.{RattleType}
-use denote.Ref.{MutBor}
+use denote.Ref.{MutBor, NamedLft}
 use denote.Shadow.{pure_i}
 use denote.Slice.{MutSlice, Room, room, slice_val, shr_slice_at}
 use denote.Enum.Declared.{shape}
@@ -37,6 +37,13 @@ use Rattle.std.proofs.result.Result.TheLaws as RL
 use Rattle.std.specs.contracts.ops.RangeFrom as RF
 use Rattle.aead_ciphers_base.specs.contracts.error.Unspecified as US
 use Rattle.aead_ciphers_base.proofs.error.Unspecified.TheLaws as UL
+use Rattle.std.proofs.ops.RangeFrom.TheLaws as RFL
+use Rattle.aead_ciphers_base.specs.contracts.values.Aad as D
+use Rattle.aead_ciphers_base.proofs.values.Aad.TheLaws as DL
+use Rattle.aead_ciphers_base.specs.contracts.values.Nonce as N
+use Rattle.aead_ciphers_base.proofs.values.Nonce.TheLaws as NL
+use Rattle.aead_ciphers_base.specs.contracts.values.Tag as G
+use Rattle.aead_ciphers_base.proofs.values.Tag.TheLaws as GL
 use Rattle.aead_ciphers.specs.Lending.{LendsFront}
 
 abbrev pub usize_laws : PL.Laws usize
@@ -64,7 +71,23 @@ one τ [] t = absurd t
 one τ (v ∷ []) t = (v, refl, t.0)
 one τ (v ∷ w ∷ vs) t = absurd t.1
 
+-- the one word that stores a value, and that it is the list of the value's words
+abbrev pub Word : RattleType → List Val → Type 0
+Word R vs = (v : Val) × (vs ≡ v ∷ []) × (T (has_ty (lone R.mir) v) × WT v)
+
 module _ {M : Type 1} {𝓤 : Ura M} (𝓛 : Logic 𝓤) where
+  pub nonce_word : (x : (N.the_row).Denot) (vs : List Val) → Is N.the_row x vs → Word N.the_row vs
+  nonce_word x vs is = one (lone (N.the_row).mir) vs ((NL.the_row_laws.lawful 𝓛).typed x vs is)
+
+  pub aad_word : (ℓ : NamedLft) (x : (D.the_row ℓ).Denot) (vs : List Val) → Is (D.the_row ℓ) x vs → Word (D.the_row ℓ) vs
+  aad_word ℓ x vs is = one (lone (D.the_row ℓ).mir) vs (((DL.the_row_laws ℓ).lawful 𝓛).typed x vs is)
+
+  pub tag_word : (x : (G.the_row).Denot) (vs : List Val) → Is G.the_row x vs → Word G.the_row vs
+  tag_word x vs is = one (lone (G.the_row).mir) vs ((GL.the_row_laws.lawful 𝓛).typed x vs is)
+
+  pub range_word : (x : Range.Denot) (vs : List Val) → Is Range x vs → Word Range vs
+  range_word x vs is = one (lone Range.mir) vs (((RFL.the_row_laws usize usize_laws).lawful 𝓛).typed x vs is)
+
   pub answer_Lawful : Lawful 𝓛 Answer
   answer_Lawful = (RL.the_row_laws usize US.the_row usize_laws UL.the_row_laws).lawful 𝓛
 

@@ -29,7 +29,7 @@ pub use denote.Slice.{MutSlice, Room, slice_val, mut_slice_vals, mut_slice_Tells
 pub use denote.Steps.{nothing, heard, peeks}
 pub use denote.Triple.Call.{calls_at}
 pub use denote.Triple.Clauses.{Clauses, lasts}
-pub use denote.Triple.Entry.{on_entry, Args}
+pub use denote.Triple.Entry.{on_entry, Args, Vals}
 pub use denote.Triple.Spec.{triple_of}
 pub use denote.Triple.Statement.{Contract}
 pub use denote.Triple.Table.{framed}

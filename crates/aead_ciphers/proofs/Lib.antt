@@ -10,6 +10,7 @@ pub mod HashLemmas
 pub mod KeysLemmas
 pub mod Lending
 pub mod LendingSteps
+pub mod LendingWalk
 pub mod OpenLemmas
 pub mod OpenedLemmas
 pub mod PaddingLemmas
