@@ -1,9 +1,10 @@
-/* The speed of the library's calls beside plain C of the same algorithms: AES bit-sliced over four
- * blocks in eight 64-bit planes, with the inverse of the S-box as x^254 by four products on planes;
- * GHASH by 128 one-bit shifts under masks, on two 64-bit words; ChaCha20 one block at a time. Both
- * sides run the same loop and answer the same sum, which is compared.
+/* The speed of the library's calls beside plain C: AES bit-sliced over four blocks in eight 64-bit
+ * planes, with the inverse of the S-box as x^254 by four products on planes; GHASH by 128 one-bit
+ * shifts under masks, on two 64-bit words; ChaCha20 one block at a time. Both sides run the same
+ * loop. What they answer and what they leave in the buffer is compared first.
  *
- * Use: bench SECONDS    seconds for each figure; `bench/run` builds and runs it
+ * Use: bench [SECONDS [WORD..]]   seconds for each row; the rows that have one of the words in their
+ *                                 name; `bench/run` builds and runs it
  */
 #include <stdint.h>
 #include <stdio.h>
@@ -279,10 +280,20 @@ static void gcm_init(gcm_key *k, const u8 *key, int nk) {
   k->h = load(z);
 }
 
+/* the tag of what was hashed to y */
+static void finish(const gcm_key *k, const u8 nonce[12], u128 y, size_t a, size_t n, u8 tag[16]) {
+  u8 b[16];
+  store(b, (u128)(8 * (u64)a) << 64 | 8 * (u64)n);
+  y = ghash(y, k->h, b, 16);
+  put_counter(b, nonce, 1);
+  aes_one(&k->aes, tag, b);
+  store(b, y);
+  for (int i = 0; i < 16; i++) tag[i] ^= b[i];
+}
+
 static void seal(const gcm_key *k, const u8 nonce[12], const u8 *aad, size_t a, u8 *data, size_t n, u8 tag[16]) {
   u128 y = ghash(0, k->h, aad, a);
   u32 counter = 2;
-  u8 b[16];
   size_t left = n;
   while (left) {
     size_t m = left < 3072 ? left : 3072;
@@ -290,12 +301,18 @@ static void seal(const gcm_key *k, const u8 nonce[12], const u8 *aad, size_t a, 
     y = ghash(y, k->h, data, m);
     data += m, left -= m, counter += 192;
   }
-  store(b, (u128)(8 * (u64)a) << 64 | 8 * (u64)n);
-  y = ghash(y, k->h, b, 16);
-  put_counter(b, nonce, 1);
-  aes_one(&k->aes, tag, b);
-  store(b, y);
-  for (int i = 0; i < 16; i++) tag[i] ^= b[i];
+  finish(k, nonce, y, a, n, tag);
+}
+
+/* hashes and compares before it decrypts; answers whether the tag is that of the ciphertext */
+static int open(const gcm_key *k, const u8 nonce[12], const u8 *aad, size_t a, const u8 tag[16], u8 *data, size_t n) {
+  u128 y = ghash(ghash(0, k->h, aad, a), k->h, data, n);
+  u8 b[16], differ = 0;
+  finish(k, nonce, y, a, n, b);
+  for (int i = 0; i < 16; i++) differ |= b[i] ^ tag[i];
+  if (differ) return 0;
+  ctr(&k->aes, nonce, 2, data, n);
+  return 1;
 }
 
 /* ChaCha20, one block at a time, on 32-bit words */
@@ -305,137 +322,289 @@ static void seal(const gcm_key *k, const u8 nonce[12], const u8 *aad, size_t a, 
   (a += b, d ^= a, d = ROTL(d, 16), c += d, b ^= c, b = ROTL(b, 12), a += b, d ^= a, d = ROTL(d, 8), c += d, \
    b ^= c, b = ROTL(b, 7))
 
+static void chacha_block(u8 out[64], const u32 key[8], u32 counter, const u32 nonce[3]) {
+  u32 s[16] = {0x61707865, 0x3320646e, 0x79622d32, 0x6b206574}, x[16];
+  memcpy(s + 4, key, 32);
+  s[12] = counter;
+  memcpy(s + 13, nonce, 12);
+  memcpy(x, s, 64);
+  for (int i = 0; i < 10; i++) {
+    QR(x[0], x[4], x[8], x[12]), QR(x[1], x[5], x[9], x[13]), QR(x[2], x[6], x[10], x[14]), QR(x[3], x[7], x[11], x[15]);
+    QR(x[0], x[5], x[10], x[15]), QR(x[1], x[6], x[11], x[12]), QR(x[2], x[7], x[8], x[13]), QR(x[3], x[4], x[9], x[14]);
+  }
+  for (int i = 0; i < 16; i++) x[i] += s[i];
+  memcpy(out, x, 64); /* little endian machines alone */
+}
+
 static void chacha(const u32 key[8], u32 counter, const u32 nonce[3], u8 *data, size_t n) {
   while (n) {
-    u32 s[16] = {0x61707865, 0x3320646e, 0x79622d32, 0x6b206574}, x[16];
     u8 b[64];
-    memcpy(s + 4, key, 32);
-    s[12] = counter++;
-    memcpy(s + 13, nonce, 12);
-    memcpy(x, s, 64);
-    for (int i = 0; i < 10; i++) {
-      QR(x[0], x[4], x[8], x[12]), QR(x[1], x[5], x[9], x[13]), QR(x[2], x[6], x[10], x[14]), QR(x[3], x[7], x[11], x[15]);
-      QR(x[0], x[5], x[10], x[15]), QR(x[1], x[6], x[11], x[12]), QR(x[2], x[7], x[8], x[13]), QR(x[3], x[4], x[9], x[14]);
-    }
-    for (int i = 0; i < 16; i++) x[i] += s[i];
-    memcpy(b, x, 64); /* little endian machines alone */
+    chacha_block(b, key, counter++, nonce);
     size_t m = n < 64 ? n : 64;
     for (size_t i = 0; i < m; i++) data[i] ^= b[i];
     data += m, n -= m;
   }
 }
 
-/* the loops: each answers the first eight bytes of what it made */
+/* The loops. Each works on the buffer in place where the call does, and answers eight bytes of what
+ * it made. The key's length tells the cipher, as in crates/aead_bench. */
 
-static u64 sum_of(const u8 *p) {
+typedef u64 loop(u64 times, const u8 *key, size_t key_len, u8 *buffer, size_t len);
+
+static const u8 nonce12[12] = {1, 1, 1, 1, 1, 1, 1, 1, 1, 1, 1, 1};
+
+static u64 first_bytes(const u8 *p) {
   u64 x;
   memcpy(&x, p, 8);
   return x;
 }
 
-static const u8 key16[16] = {7, 7, 7, 7, 7, 7, 7, 7, 7, 7, 7, 7, 7, 7, 7, 7};
-static const u8 nonce12[12] = {1, 1, 1, 1, 1, 1, 1, 1, 1, 1, 1, 1};
+static u64 sum_of_aes_key(const aes_key *k) {
+  u8 b[64] = {0};
+  aes_four(k, b, b);
+  return first_bytes(b);
+}
 
-static u64 c_encrypt_four(u64 times) {
+static u64 sum_of_gcm_key(const gcm_key *k) {
+  u8 tag[16];
+  seal(k, nonce12, nonce12, 12, 0, 0, tag);
+  return first_bytes(tag);
+}
+
+static u64 c_encrypt_four(u64 times, const u8 *key, size_t key_len, u8 *buffer, size_t len) {
   aes_key k;
   u8 b[64] = {0};
-  aes_init(&k, key16, 4);
+  (void)buffer, (void)len;
+  aes_init(&k, key, (int)key_len / 4);
   for (u64 i = 0; i < times; i++) aes_four(&k, b, b);
-  return sum_of(b);
+  return first_bytes(b);
 }
 
-static u64 c_update_block(u64 times) {
-  u128 h = load(key16), y = 0;
+static u64 c_ctr32(u64 times, const u8 *key, size_t key_len, u8 *buffer, size_t len) {
+  aes_key k;
+  aes_init(&k, key, (int)key_len / 4);
+  for (u64 i = 0; i < times; i++) ctr(&k, nonce12, 1, buffer, len);
+  return first_bytes(buffer);
+}
+
+static u64 c_update_block(u64 times, const u8 *key, size_t key_len, u8 *buffer, size_t len) {
+  u128 h = load(key), y = 0;
   u8 b[16];
-  memcpy(b, key16, 16);
-  for (u64 i = 0; i < times; i++) y = mul_halves(y ^ load(b), h);
+  (void)key_len, (void)buffer, (void)len;
+  for (u64 i = 0; i < times; i++) y = mul_halves(y ^ load(key), h);
   store(b, y);
-  return sum_of(b);
+  return first_bytes(b);
 }
 
-static u64 c_seal(u64 times) {
-  static u8 buf[16384];
+static u64 c_seal(u64 times, const u8 *key, size_t key_len, u8 *buffer, size_t len) {
   gcm_key k;
   u8 tag[16] = {0};
-  memset(buf, 0, sizeof buf);
-  gcm_init(&k, key16, 4);
-  for (u64 i = 0; i < times; i++) seal(&k, nonce12, key16, 0, buf, sizeof buf, tag);
-  return sum_of(tag);
+  gcm_init(&k, key, (int)key_len / 4);
+  for (u64 i = 0; i < times; i++) seal(&k, nonce12, 0, 0, buffer, len, tag);
+  return first_bytes(tag);
 }
 
-static u64 c_chacha(u64 times) {
-  static u8 buf[16384];
-  u32 key[8], nonce[3];
-  memset(key, 7, sizeof key);
+/* the plaintext is the ciphertext of what stood there before, so two tags take turns */
+static u64 c_open(u64 times, const u8 *key, size_t key_len, u8 *buffer, size_t len) {
+  gcm_key k;
+  u8 tags[2][16];
+  gcm_init(&k, key, (int)key_len / 4);
+  seal(&k, nonce12, 0, 0, buffer, len, tags[1]);
+  seal(&k, nonce12, 0, 0, buffer, len, tags[0]);
+  u64 answer = first_bytes(tags[0]);
+  for (u64 i = 0; i < times; i++) answer += (u64)open(&k, nonce12, 0, 0, tags[i % 2], buffer, len);
+  return answer;
+}
+
+static u64 c_aes_key(u64 times, const u8 *key, size_t key_len, u8 *buffer, size_t len) {
+  aes_key k;
+  aes_init(&k, key, (int)key_len / 4);
+  for (u64 i = 0; i < times; i++) memcpy(buffer, &i, 8), aes_init(&k, buffer, (int)len / 4);
+  return sum_of_aes_key(&k);
+}
+
+static u64 c_gcm_key(u64 times, const u8 *key, size_t key_len, u8 *buffer, size_t len) {
+  gcm_key k;
+  gcm_init(&k, key, (int)key_len / 4);
+  for (u64 i = 0; i < times; i++) memcpy(buffer, &i, 8), gcm_init(&k, buffer, (int)len / 4);
+  return sum_of_gcm_key(&k);
+}
+
+static u64 c_clone(u64 times, const u8 *key, size_t key_len, u8 *buffer, size_t len) {
+  gcm_key k[2];
+  gcm_init(&k[0], key, (int)key_len / 4);
+  gcm_init(&k[1], buffer, (int)len / 4);
+  for (u64 i = 0; i < times; i++) k[1 - i % 2] = k[i % 2];
+  return sum_of_gcm_key(&k[1]);
+}
+
+static u64 c_chacha(u64 times, const u8 *key, size_t key_len, u8 *buffer, size_t len) {
+  u32 k[8], nonce[3];
+  memcpy(k, key, key_len);
   memcpy(nonce, nonce12, 12);
-  memset(buf, 0, sizeof buf);
-  for (u64 i = 0; i < times; i++) chacha(key, 1, nonce, buf, sizeof buf);
-  return sum_of(buf);
+  for (u64 i = 0; i < times; i++) chacha(k, 1, nonce, buffer, len);
+  return first_bytes(buffer);
+}
+
+/* the first five bytes of a block, written over the front of the sample that it was made from */
+static u64 c_mask(u64 times, const u8 *key, size_t key_len, u8 *buffer, size_t len) {
+  aes_key k;
+  u32 words[8], sample[4];
+  u8 b[64];
+  if (key_len == 16) aes_init(&k, key, 4);
+  else memcpy(words, key, key_len);
+  for (u64 i = 0; i < times; i++) {
+    memcpy(sample, buffer, len);
+    if (key_len == 16) aes_one(&k, b, buffer);
+    else chacha_block(b, words, sample[0], sample + 1);
+    memcpy(buffer, b, 5);
+  }
+  return first_bytes(buffer);
 }
 
 /* the library's, in crates/aead_bench */
-u64 bench_encrypt_four(u64 times);
-u64 bench_update_block(u64 times);
-u64 bench_seal(u64 times);
-u64 bench_chacha(u64 times);
+loop bench_encrypt_four, bench_ctr32, bench_update_block, bench_seal, bench_open, bench_aes_key, bench_less_safe_key,
+    bench_clone, bench_chacha, bench_mask;
 
-typedef u64 (*loop)(u64);
+enum { MOST = 16384 };
 
+#define LENGTHS(least, least_16_kib) {{0, 0}, {16, least}, {64, least}, {1350, least}, {MOST, least_16_kib}}
+
+/* a loop at a key length and at some buffer lengths, each with the least ratio that is wanted (0: none) */
 static const struct {
   const char *name;
-  loop ours, c;
-  double bytes, least;
-} rows[] = {
-    {"aes::Key::encrypt_four, AES-128", bench_encrypt_four, c_encrypt_four, 64, 0.8},
-    {"gcm::Key::update_block", bench_update_block, c_update_block, 16, 0.8},
-    {"aes_gcm::seal, AES-128, 16 KiB", bench_seal, c_seal, 16384, 0.8},
-    {"chacha::Key::encrypt, 16 KiB", bench_chacha, c_chacha, 16384, 0.9},
+  loop *ours, *c;
+  size_t key_len;
+  enum { MB_A_SECOND, NANOSECONDS } unit;
+  int sizes;
+  struct {
+    size_t len;
+    double least;
+  } size[5];
+} calls[] = {
+    {"`aes::Key::encrypt_four`, AES-128", bench_encrypt_four, c_encrypt_four, 16, MB_A_SECOND, 1, {{64, 2.5}}},
+    {"`aes::Key::encrypt_four`, AES-256", bench_encrypt_four, c_encrypt_four, 32, MB_A_SECOND, 1, {{64, 2.5}}},
+    {"counter mode, AES-128, 16 KiB", bench_ctr32, c_ctr32, 16, MB_A_SECOND, 1, {{MOST, 2.5}}},
+    {"counter mode, AES-256, 16 KiB", bench_ctr32, c_ctr32, 32, MB_A_SECOND, 1, {{MOST, 2.5}}},
+    {"`gcm::Key::update_block`", bench_update_block, c_update_block, 16, MB_A_SECOND, 1, {{16, 3.0}}},
+    {"sealing, AES-128", bench_seal, c_seal, 16, MB_A_SECOND, 5, LENGTHS(2.4, 2.7)},
+    {"sealing, AES-256", bench_seal, c_seal, 32, MB_A_SECOND, 5, LENGTHS(2.4, 2.7)},
+    {"opening, AES-128", bench_open, c_open, 16, MB_A_SECOND, 5, LENGTHS(0, 2.7)},
+    {"opening, AES-256", bench_open, c_open, 32, MB_A_SECOND, 5, LENGTHS(0, 2.7)},
+    {"`aes::Key::new`, AES-128", bench_aes_key, c_aes_key, 16, NANOSECONDS, 1, {{16, 0}}},
+    {"`aes::Key::new`, AES-256", bench_aes_key, c_aes_key, 32, NANOSECONDS, 1, {{32, 0}}},
+    {"`LessSafeKey::new`, AES-128", bench_less_safe_key, c_gcm_key, 16, NANOSECONDS, 1, {{16, 0}}},
+    {"`LessSafeKey::new`, AES-256", bench_less_safe_key, c_gcm_key, 32, NANOSECONDS, 1, {{32, 0}}},
+    {"`LessSafeKey::clone`, AES-128", bench_clone, c_clone, 16, NANOSECONDS, 1, {{16, 0}}},
+    {"`chacha::Key::encrypt`, 16 KiB", bench_chacha, c_chacha, 32, MB_A_SECOND, 1, {{MOST, 2.0}}},
+    {"a mask, AES-128", bench_mask, c_mask, 16, NANOSECONDS, 1, {{16, 0}}},
+    {"a mask, ChaCha20", bench_mask, c_mask, 32, NANOSECONDS, 1, {{16, 0}}},
 };
 
+/* the measure: both sides in turns, each from the same key and buffer */
+
+enum { TURNS = 31 };
+
+static u8 buffer[MOST];
+
+/* the processor time of this thread */
 static double now(void) {
   struct timespec t;
-  clock_gettime(CLOCK_MONOTONIC, &t);
+  clock_gettime(CLOCK_THREAD_CPUTIME_ID, &t);
   return (double)t.tv_sec + 1e-9 * (double)t.tv_nsec;
 }
 
-/* times a run of so many turns */
-static double seconds(loop f, u64 times) {
-  double t = now();
-  f(times);
-  return now() - t;
+static u64 run(loop *f, u64 times, size_t key_len, size_t len) {
+  static u8 key[32];
+  memset(key, 7, sizeof key);
+  for (size_t i = 0; i < len; i++) buffer[i] = (u8)(i * 167 + (i >> 5));
+  return f(times, key, key_len, buffer, len);
+}
+
+/* the time of the turns alone: that of a run of no turn, which makes keys and tags, is taken off */
+static double seconds(loop *f, u64 times, size_t key_len, size_t len) {
+  double before = now();
+  run(f, 0, key_len, len);
+  double ready = now();
+  run(f, times, key_len, len);
+  return now() - ready - (ready - before);
 }
 
 static int by_value(const void *a, const void *b) {
   double x = *(const double *)a, y = *(const double *)b;
-  return x < y ? -1 : x > y;
+  return (x > y) - (x < y);
 }
 
-enum { ROUNDS = 11 };
+static double median(double *values) {
+  qsort(values, TURNS, sizeof *values, by_value);
+  return values[TURNS / 2];
+}
+
+/* whether both answer the same, and leave the same buffer */
+static int agree(loop *ours, loop *c, size_t key_len, size_t len) {
+  static u8 left[MOST];
+  u64 answer = run(ours, 37, key_len, len);
+  memcpy(left, buffer, len);
+  return answer == run(c, 37, key_len, len) && !memcmp(left, buffer, len);
+}
+
+/* prints a row of the table, in Markdown; answers whether the two sides agree and the ratio is reached */
+static int row(const char *name, int megabytes, loop *ours, loop *c, size_t key_len, size_t len, double least,
+               double budget) {
+  double time[2][TURNS], ratio[TURNS];
+  loop *side[2] = {ours, c};
+  u64 times = 1;
+  if (!agree(ours, c, key_len, len)) {
+    printf("| %s | the two sides differ |\n", name);
+    return 0;
+  }
+  while (seconds(c, times, key_len, len) < budget / (3 * TURNS)) times *= 2;
+  for (int t = 0; t < TURNS; t++) {
+    for (int i = 0; i < 2; i++) {
+      int s = (t + i) % 2;
+      time[s][t] = seconds(side[s], times, key_len, len);
+    }
+    ratio[t] = time[1][t] / time[0][t];
+  }
+  printf("| %s |", name);
+  for (int s = 0; s < 2; s++) {
+    double one = median(time[s]) / (double)times;
+    if (megabytes) printf(" %.1f MB/s |", 1e-6 * (double)len / one);
+    else printf(" %.0f ns |", 1e9 * one);
+  }
+  double middle = median(ratio);
+  printf(" %.2f | ", middle);
+  if (least > 0) printf("%.1f", least);
+  printf(" | %.2f, %.2f |\n", ratio[0], ratio[TURNS - 1]);
+  fflush(stdout);
+  return middle >= least;
+}
+
+/* whether the name has one of the words, or there is none */
+static int wanted(const char *name, char **words) {
+  if (!*words) return 1;
+  for (; *words; words++)
+    if (strstr(name, *words)) return 1;
+  return 0;
+}
 
 int main(int n, char **v) {
   double budget = n > 1 ? atof(v[1]) : 2.0;
   int status = 0;
-  printf("%-34s %10s %10s %7s %7s %15s\n", "", "ours MB/s", "C MB/s", "ratio", "least", "ratios seen");
-  for (size_t i = 0; i < sizeof rows / sizeof rows[0]; i++) {
-    double ours[ROUNDS], c[ROUNDS], ratio[ROUNDS];
-    u64 times = 1;
-    if (rows[i].ours(37) != rows[i].c(37)) {
-      printf("%s: the two sums differ\n", rows[i].name);
-      return 1;
+  puts("| Loop | Ours | C | Ratio | At least | Least and greatest ratio |");
+  puts("|---|---|---|---|---|---|");
+  for (size_t i = 0; i < sizeof calls / sizeof *calls; i++) {
+    for (int j = 0; j < calls[i].sizes; j++) {
+      char name[80];
+      size_t len = calls[i].size[j].len;
+      int megabytes = calls[i].unit == MB_A_SECOND && len > 0;
+      if (calls[i].sizes == 1) snprintf(name, sizeof name, "%s", calls[i].name);
+      else if (len == MOST) snprintf(name, sizeof name, "%s, 16 KiB", calls[i].name);
+      else snprintf(name, sizeof name, "%s, %zu bytes", calls[i].name, len);
+      if (n > 2 && !wanted(name, v + 2)) continue;
+      if (!row(name, megabytes, calls[i].ours, calls[i].c, calls[i].key_len, len, calls[i].size[j].least, budget))
+        status = 2;
     }
-    while (seconds(rows[i].c, times) < budget / (3 * ROUNDS)) times *= 2;
-    for (int r = 0; r < ROUNDS; r++) {
-      ours[r] = seconds(rows[i].ours, times);
-      c[r] = seconds(rows[i].c, times);
-      ratio[r] = c[r] / ours[r];
-    }
-    qsort(ours, ROUNDS, sizeof(double), by_value);
-    qsort(c, ROUNDS, sizeof(double), by_value);
-    qsort(ratio, ROUNDS, sizeof(double), by_value);
-    double mb = rows[i].bytes * (double)times / 1e6;
-    printf("%-34s %10.1f %10.1f %7.2f %7.2f     %5.2f..%5.2f\n", rows[i].name, mb / ours[ROUNDS / 2],
-           mb / c[ROUNDS / 2], ratio[ROUNDS / 2], rows[i].least, ratio[0], ratio[ROUNDS - 1]);
-    if (ratio[ROUNDS / 2] < rows[i].least) status = 2;
   }
   return status;
 }

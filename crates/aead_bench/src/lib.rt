@@ -1,89 +1,235 @@
-//! Loops over the library's calls, which `bench/bench.c` times beside plain C of the same algorithms.
-//! Each answers the first eight bytes of what it made, so that the two sides can be compared.
+//! Loops over the library's calls, which `bench/bench.c` times beside plain C.
+//!
+//! Each takes a number of turns, a key and a buffer, works on the buffer in place where the call does, and
+//! answers eight bytes of what it made. So the two sides can be compared. Where the key or the buffer hasn't a
+//! length that the call takes, the loop makes no turn.
 #![tactic(auto)]
 
-use aead_ciphers::aes_gcm;
+use aead_ciphers::aead::{
+    AES_128_GCM, AES_256_GCM, Aad, LessSafeKey, Nonce, UnboundKey, Unspecified, quic,
+};
 use aead_ciphers::gcm::{self, KeyValue, UpdateBlock, Xi};
-use aead_ciphers_base::aes::{self, Block, KeyBytes, Work, ZERO_BLOCK};
+use aead_ciphers_base::aes::{
+    self, AES_128_KEY_LEN, AES_256_KEY_LEN, BLOCK_LEN, Block, Counter, EncryptCtr32, KeyBytes,
+    Work, ZERO_BLOCK,
+};
 use aead_ciphers_base::chacha;
 use aead_ciphers_base::overlapping::Overlapping;
-use aead_ciphers_base::values::{Aad, Nonce};
-
-const KEY: [u8; 16] = [7; 16];
-
-const CHACHA_KEY: [u8; 32] = [7; 32];
 
 const NONCE: [u8; 12] = [1; 12];
 
-/// The length of the buffers that are sealed and encrypted, in bytes.
-const BUFFER_LEN: usize = 16384;
+/// The most bytes that the loop over ChaCha20 encrypts in a turn.
+const CHACHA_MAX_LEN: usize = 1 << 20;
 
-/// The first eight bytes.
-fn first_bytes(block: Block) -> u64 {
-    let [b0, b1, b2, b3, b4, b5, b6, b7, ..] = block;
-    u64::from_le_bytes([b0, b1, b2, b3, b4, b5, b6, b7])
+fn nonce() -> Nonce {
+    Nonce::assume_unique_for_key(NONCE)
+}
+
+/// The first eight bytes, or 0 where there are fewer.
+fn first_bytes(bytes: &[u8]) -> u64 {
+    match bytes.first_chunk::<8>() {
+        Some(first) => u64::from_le_bytes(*first),
+        None => 0,
+    }
+}
+
+/// Writes a number over the first eight bytes.
+fn set_first_bytes(bytes: &mut [u8], number: u64) {
+    if let Some(first) = bytes.first_chunk_mut::<8>() {
+        *first = number.to_le_bytes();
+    }
+}
+
+/// The AES key of 16 or 32 bytes.
+fn aes_key(key: &[u8]) -> Result<aes::Key, Unspecified> {
+    if let Some(bytes) = key.as_array::<AES_128_KEY_LEN>() {
+        return aes::Key::new(KeyBytes::AES_128(bytes));
+    }
+    match key.as_array::<AES_256_KEY_LEN>() {
+        Some(bytes) => aes::Key::new(KeyBytes::AES_256(bytes)),
+        None => Err(Unspecified),
+    }
+}
+
+/// The key of AES-GCM of 16 or 32 bytes.
+fn less_safe_key(key: &[u8]) -> Result<LessSafeKey, Unspecified> {
+    let algorithm = match key.len() {
+        AES_128_KEY_LEN => &AES_128_GCM,
+        _ => &AES_256_GCM,
+    };
+    Ok(LessSafeKey::new(UnboundKey::new(algorithm, key)?))
+}
+
+/// The first eight bytes of a block.
+fn first_bytes_of_block(block: Block) -> u64 {
+    first_bytes(&block)
+}
+
+/// The cipher of the zero block, to tell AES keys apart.
+fn sum_of_aes_key(key: &aes::Key) -> u64 {
+    let [first, ..] = key.encrypt_four([ZERO_BLOCK; 4]);
+    first_bytes_of_block(first)
+}
+
+/// The tag of the nonce as AAD, to tell keys of AES-GCM apart.
+fn sum_of_less_safe_key(key: &LessSafeKey) -> u64 {
+    match key.seal_in_place_separate_tag(nonce(), Aad::from(&NONCE[..]), &mut []) {
+        Ok(tag) => first_bytes(tag.as_ref()),
+        Err(_) => 0,
+    }
 }
 
 /// Encrypts four blocks over and over.
 #[unsafe(no_mangle)]
-pub extern "C" fn bench_encrypt_four(times: u64) -> u64 {
-    let Ok(key) = aes::Key::new(KeyBytes::AES_128(&KEY)) else {
-        unreachable!()
-    };
+pub extern "C" fn bench_encrypt_four(times: u64, key: &[u8], _buffer: &mut [u8]) -> u64 {
+    let Ok(key) = aes_key(key) else { return 0 };
     let mut blocks = [ZERO_BLOCK; 4];
     for _ in 0..times {
         blocks = key.encrypt_four(blocks);
     }
     let [first, ..] = blocks;
-    first_bytes(first)
+    first_bytes_of_block(first)
 }
 
-/// Takes one block into a running hash over and over.
+/// Encrypts the whole blocks of the buffer by counter mode over and over.
 #[unsafe(no_mangle)]
-pub extern "C" fn bench_update_block(times: u64) -> u64 {
-    let key = gcm::Key::new(KeyValue::new(KEY));
+pub extern "C" fn bench_ctr32(times: u64, key: &[u8], buffer: &mut [u8]) -> u64 {
+    let Ok(key) = aes_key(key) else { return 0 };
+    for _ in 0..times {
+        let whole = buffer.len() / BLOCK_LEN * BLOCK_LEN;
+        let in_out = Overlapping::from(&mut buffer[..whole]);
+        key.ctr32_encrypt_within(in_out, &mut Counter::one(nonce()), &mut Work::new());
+    }
+    first_bytes(buffer)
+}
+
+/// Takes one block into a running hash over and over. The hash subkey and the block are the key.
+#[unsafe(no_mangle)]
+pub extern "C" fn bench_update_block(times: u64, key: &[u8], _buffer: &mut [u8]) -> u64 {
+    let Some(block) = key.as_array::<BLOCK_LEN>() else {
+        return 0;
+    };
+    let key = gcm::Key::new(KeyValue::new(*block));
     let mut xi = Xi::zero();
     for _ in 0..times {
-        key.update_block(&mut xi, KEY, &mut Work::new());
+        key.update_block(&mut xi, *block, &mut Work::new());
     }
-    first_bytes(*xi.as_ref())
+    first_bytes(xi.as_ref())
 }
 
-/// Seals a buffer in place over and over.
+/// Seals the buffer in place over and over.
 #[unsafe(no_mangle)]
-pub extern "C" fn bench_seal(times: u64) -> u64 {
-    let Ok(key) = aes_gcm::Key::new(KeyBytes::AES_128(&KEY), &mut Work::new()) else {
-        unreachable!()
+pub extern "C" fn bench_seal(times: u64, key: &[u8], buffer: &mut [u8]) -> u64 {
+    let Ok(key) = less_safe_key(key) else {
+        return 0
     };
-    let mut buffer = [0; BUFFER_LEN];
-    let mut last = ZERO_BLOCK;
+    let mut last = 0;
     for _ in 0..times {
-        let nonce = Nonce::assume_unique_for_key(NONCE);
-        if let Ok(tag) = aes_gcm::seal(&key, nonce, Aad::empty(), &mut buffer, &mut Work::new()) {
-            last = tag_block(tag.as_ref());
+        if let Ok(tag) = key.seal_in_place_separate_tag(nonce(), Aad::empty(), buffer) {
+            last = first_bytes(tag.as_ref());
         }
     }
-    first_bytes(last)
+    last
 }
 
-/// A tag as a block.
-fn tag_block(tag: &[u8]) -> Block {
-    match tag.as_array::<16>() {
-        Some(block) => *block,
-        None => ZERO_BLOCK,
-    }
-}
-
-/// Encrypts a buffer in place over and over, by ChaCha20.
+/// Opens the buffer in place over and over, and adds to the answer how often it was accepted.
+///
+/// Opening changes the buffer to the plaintext. That is the ciphertext of what stood there before, so two tags
+/// take turns.
 #[unsafe(no_mangle)]
-pub extern "C" fn bench_chacha(times: u64) -> u64 {
-    let key = chacha::Key::new(CHACHA_KEY);
-    let mut buffer = [0; BUFFER_LEN];
-    for _ in 0..times {
-        let nonce = Nonce::assume_unique_for_key(NONCE);
-        let counter = chacha::Counter::from_nonce_and_ctr(nonce, 1);
-        key.encrypt(counter, Overlapping::from(&mut buffer[..]));
+pub extern "C" fn bench_open(times: u64, key: &[u8], buffer: &mut [u8]) -> u64 {
+    let Ok(key) = less_safe_key(key) else {
+        return 0
+    };
+    let Ok(odd) = key.seal_in_place_separate_tag(nonce(), Aad::empty(), buffer) else {
+        return 0;
+    };
+    let Ok(even) = key.seal_in_place_separate_tag(nonce(), Aad::empty(), buffer) else {
+        return 0;
+    };
+    let mut answer = first_bytes(even.as_ref());
+    for turn in 0..times {
+        let tag = if turn % 2 == 0 { even } else { odd };
+        let opened = key.open_in_place_separate_tag(nonce(), Aad::empty(), tag, buffer, 0..);
+        answer = answer.wrapping_add(u64::from(opened.is_ok()));
     }
-    let [b0, b1, b2, b3, b4, b5, b6, b7, ..] = buffer;
-    u64::from_le_bytes([b0, b1, b2, b3, b4, b5, b6, b7])
+    answer
+}
+
+/// Makes an AES key over and over, of the bytes of the buffer.
+#[unsafe(no_mangle)]
+pub extern "C" fn bench_aes_key(times: u64, key: &[u8], buffer: &mut [u8]) -> u64 {
+    let Ok(mut last) = aes_key(key) else { return 0 };
+    for turn in 0..times {
+        set_first_bytes(buffer, turn);
+        if let Ok(made) = aes_key(buffer) {
+            last = made;
+        }
+    }
+    sum_of_aes_key(&last)
+}
+
+/// Makes a key of AES-GCM over and over, of the bytes of the buffer.
+#[unsafe(no_mangle)]
+pub extern "C" fn bench_less_safe_key(times: u64, key: &[u8], buffer: &mut [u8]) -> u64 {
+    let Ok(mut last) = less_safe_key(key) else {
+        return 0
+    };
+    for turn in 0..times {
+        set_first_bytes(buffer, turn);
+        if let Ok(made) = less_safe_key(buffer) {
+            last = made;
+        }
+    }
+    sum_of_less_safe_key(&last)
+}
+
+/// Clones a key of AES-GCM over and over, each time the clone made last: at first over the key of the buffer.
+#[unsafe(no_mangle)]
+pub extern "C" fn bench_clone(times: u64, key: &[u8], buffer: &mut [u8]) -> u64 {
+    let (Ok(even), Ok(odd)) = (less_safe_key(key), less_safe_key(buffer)) else {
+        return 0;
+    };
+    let mut keys = [even, odd];
+    for turn in 0..times {
+        let from = (turn % 2) as usize;
+        if let Ok(clone) = keys[from].clone() {
+            keys[1 - from] = clone;
+        }
+    }
+    sum_of_less_safe_key(&keys[1])
+}
+
+/// Encrypts the buffer in place by ChaCha20 over and over.
+#[unsafe(no_mangle)]
+pub extern "C" fn bench_chacha(times: u64, key: &[u8], buffer: &mut [u8]) -> u64 {
+    let Some(key) = key.as_array::<{ chacha::KEY_LEN }>() else {
+        return 0;
+    };
+    let key = chacha::Key::new(*key);
+    for _ in 0..times {
+        let len = buffer.len().min(CHACHA_MAX_LEN);
+        let counter = chacha::Counter::from_nonce_and_ctr(nonce(), 1);
+        key.encrypt(counter, Overlapping::from(&mut buffer[..len]));
+    }
+    first_bytes(buffer)
+}
+
+/// Makes the mask of the sample that is the buffer over and over, and writes it over the front of the sample:
+/// by AES-128 under a key of 16 bytes, by ChaCha20 under one of 32.
+#[unsafe(no_mangle)]
+pub extern "C" fn bench_mask(times: u64, key: &[u8], buffer: &mut [u8]) -> u64 {
+    let algorithm = match key.len() {
+        AES_128_KEY_LEN => &quic::AES_128,
+        _ => &quic::CHACHA20,
+    };
+    let Ok(key) = quic::HeaderProtectionKey::new(algorithm, key) else {
+        return 0;
+    };
+    for _ in 0..times {
+        if let (Ok(mask), Some(front)) = (key.new_mask(buffer), buffer.first_chunk_mut::<5>()) {
+            *front = mask;
+        }
+    }
+    first_bytes(buffer)
 }

@@ -126,7 +126,7 @@ All-byte : (x : ℕ) (xs : List ℕ) → x < 256 → All Byte xs → All Byte (x
 All-byte x xs h hs zero d below = h
 All-byte x xs h hs (suc k) d below = hs k d (omega arith)
 
-bytes-below : (k n : ℕ) → All Byte (bytes_high_first k n)
+pub bytes-below : (k n : ℕ) → All Byte (bytes_high_first k n)
 bytes-below zero n = λ k d below. absurd (omega arith)
 bytes-below (suc k) n = All-byte (byte_at k n) (bytes_high_first k n) (subst (λ (x : ℕ). x < 256) (sym (byte_at_is k n)) (mod_below (n / 2 ^ (8 * k)) 256 (lit< tt))) (bytes-below k n)
 

@@ -15,12 +15,12 @@ use Rattle.aead_ciphers.proofs.ProductLoop.{block_low, zeros_end}
 
 -- ---- XOR of blocks is XOR of coefficients
 
-abbrev xor_bits : List Bool → List Bool → List Bool
+abbrev pub xor_bits : List Bool → List Bool → List Bool
 xor_bits [] q = []
 xor_bits (a ∷ p) [] = []
 xor_bits (a ∷ p) (b ∷ q) = (a xor b) ∷ xor_bits p q
 
-bits-xor : (k x y : ℕ) → bits_high_first k (bit_xor x y) ≡ xor_bits (bits_high_first k x) (bits_high_first k y)
+pub bits-xor : (k x y : ℕ) → bits_high_first k (bit_xor x y) ≡ xor_bits (bits_high_first k x) (bits_high_first k y)
 unfolding bits_high_first
 bits-xor zero x y = refl
 bits-xor (suc k) x y =
@@ -56,16 +56,16 @@ flat-xor (x ∷ xs) (y ∷ ys) e =
 abbrev pub Sized : List ℕ → Type 0
 Sized a = length a ≡ 16
 
-Sized-xor : (a b : List ℕ) → Sized a → Sized b → Sized (a ⊕ b)
+pub Sized-xor : (a b : List ℕ) → Sized a → Sized b → Sized (a ⊕ b)
 Sized-xor a b size_a size_b = length-xor a b (size_a ∙ sym size_b) ∙ size_a
 
-IsBlock-xor : (a b : List ℕ) → IsBlock a → IsBlock b → IsBlock (a ⊕ b)
+pub IsBlock-xor : (a b : List ℕ) → IsBlock a → IsBlock b → IsBlock (a ⊕ b)
 IsBlock-xor a b is_a is_b = record {
   size = Sized-xor a b is_a.size is_b.size;
   bytes = bytes-xor a b is_a.bytes is_b.bytes;
 }
 
-series-xor : (a b : List ℕ) → Sized a → Sized b → series (a ⊕ b) ≡ add (series a) (series b)
+pub series-xor : (a b : List ℕ) → Sized a → Sized b → series (a ⊕ b) ≡ add (series a) (series b)
 unfolding block_bits
 series-xor a b is_a is_b =
     let e = is_a ∙ sym is_b in
@@ -74,26 +74,26 @@ series-xor a b is_a is_b =
 
 -- ---- the unit
 
-unit_bits : block_bits unit_block ≡ true ∷ replicate 127 false
+pub unit_bits : block_bits unit_block ≡ true ∷ replicate 127 false
 unfolding block_bits bits_high_first
 unit_bits = refl
 
-series-unit : series unit_block ≡ one
+pub series-unit : series unit_block ≡ one
 series-unit = ap coefficient unit_bits ∙ same_series go
   where
     go : (k : ℕ) → coefficient (true ∷ replicate 127 false) k ≡ one k
     go zero = refl
     go (suc k) = zeros_end 127 k
 
-xor_zero : (a : List ℕ) → Sized a → a ⊕ zero_block ≡ a
+pub xor_zero : (a : List ℕ) → Sized a → a ⊕ zero_block ≡ a
 xor_zero a size = xor_zeros a 16 size
 
 -- ---- the product, of lists of 16
 
-multiple_of_one : (a : List ℕ) → Sized a → block_times a one ≡ series a
+pub multiple_of_one : (a : List ℕ) → Sized a → block_times a one ≡ series a
 multiple_of_one a size = times_one block_taps 127 block_low (block_bits a) (let e = length-block_bits a size in omega arith)
 
-Sized-product : (a b : List ℕ) → Sized (a • b)
+pub Sized-product : (a b : List ℕ) → Sized (a • b)
 Sized-product a b = (IsBlock-product a b).size
 
 pub product_unit : (a : List ℕ) → IsBlock a → a • unit_block ≡ a
@@ -101,32 +101,32 @@ product_unit a is_a =
     same_from_series (a • unit_block) a (IsBlock-product a unit_block) is_a
     (series-product a unit_block is_a.size refl ∙ ap (block_times a) series-unit ∙ multiple_of_one a is_a.size)
 
-product_comm : (a b : List ℕ) → Sized a → Sized b → a • b ≡ b • a
+pub product_comm : (a b : List ℕ) → Sized a → Sized b → a • b ≡ b • a
 product_comm a b is_a is_b =
     same_from_series (a • b) (b • a) (IsBlock-product a b) (IsBlock-product b a)
     (series-product a b is_a is_b ∙ ap (block_times a) (sym (multiple_of_one b is_b))
     ∙ times_swap 127 (modulus block_taps 128) (block_bits a) (block_bits b) one
     ∙ ap (block_times b) (multiple_of_one a is_a) ∙ sym (series-product b a is_b is_a))
 
-product_left_swap : (a b c : List ℕ) → Sized a → Sized b → Sized c → a • (b • c) ≡ b • (a • c)
+pub product_left_swap : (a b c : List ℕ) → Sized a → Sized b → Sized c → a • (b • c) ≡ b • (a • c)
 product_left_swap a b c is_a is_b is_c =
     same_from_series (a • (b • c)) (b • (a • c)) (IsBlock-product a (b • c)) (IsBlock-product b (a • c))
     (series-product a (b • c) is_a (Sized-product b c) ∙ ap (block_times a) (series-product b c is_b is_c)
     ∙ times_swap 127 (modulus block_taps 128) (block_bits a) (block_bits b) (series c)
     ∙ sym (series-product b (a • c) is_b (Sized-product a c) ∙ ap (block_times b) (series-product a c is_a is_c)))
 
-product_assoc : (a b c : List ℕ) → Sized a → Sized b → Sized c → (a • b) • c ≡ a • (b • c)
+pub product_assoc : (a b c : List ℕ) → Sized a → Sized b → Sized c → (a • b) • c ≡ a • (b • c)
 product_assoc a b c is_a is_b is_c =
     product_comm (a • b) c (Sized-product a b) is_c ∙ product_left_swap c a b is_c is_a is_b ∙ ap (λ (x : List ℕ). a • x) (product_comm c b is_c is_b)
 
-product_xor_right : (a b c : List ℕ) → Sized a → Sized b → Sized c → a • (b ⊕ c) ≡ (a • b) ⊕ (a • c)
+pub product_xor_right : (a b c : List ℕ) → Sized a → Sized b → Sized c → a • (b ⊕ c) ≡ (a • b) ⊕ (a • c)
 product_xor_right a b c is_a is_b is_c =
     same_from_series (a • (b ⊕ c)) ((a • b) ⊕ (a • c)) (IsBlock-product a (b ⊕ c)) (IsBlock-xor (a • b) (a • c) (IsBlock-product a b) (IsBlock-product a c))
     (series-product a (b ⊕ c) is_a (Sized-xor b c is_b is_c) ∙ ap (block_times a) (series-xor b c is_b is_c)
     ∙ horner-add 127 (modulus block_taps 128) (length (block_bits a)) (series a) (series b) (series c)
     ∙ sym (series-xor (a • b) (a • c) (Sized-product a b) (Sized-product a c) ∙ ap₂ add (series-product a b is_a is_b) (series-product a c is_a is_c)))
 
-product_xor_left : (a b c : List ℕ) → Sized a → Sized b → Sized c → (a ⊕ b) • c ≡ (a • c) ⊕ (b • c)
+pub product_xor_left : (a b c : List ℕ) → Sized a → Sized b → Sized c → (a ⊕ b) • c ≡ (a • c) ⊕ (b • c)
 product_xor_left a b c is_a is_b is_c =
     product_comm (a ⊕ b) c (Sized-xor a b is_a is_b) is_c ∙ product_xor_right c a b is_c is_a is_b
     ∙ ap₂ (λ (x y : List ℕ). x ⊕ y) (product_comm c a is_c is_a) (product_comm c b is_c is_b)
@@ -137,12 +137,12 @@ pub AllSized-append : (xs ys : List (List ℕ)) → AllSized xs → AllSized ys 
 AllSized-append [] ys h j = j
 AllSized-append (x ∷ xs) ys h j = (h.0, AllSized-append xs ys h.1 j)
 
-Sized-power : (h : List ℕ) (k : ℕ) → Sized h → Sized (power h k)
+pub Sized-power : (h : List ℕ) (k : ℕ) → Sized h → Sized (power h k)
 Sized-power h zero is_h = refl
 Sized-power h (suc zero) is_h = is_h
 Sized-power h (suc (suc k)) is_h = Sized-product (power h (suc k)) h
 
-Sized-ghash : (h : List ℕ) (xs : List (List ℕ)) → Sized h → AllSized xs → Sized (ghash h xs)
+pub Sized-ghash : (h : List ℕ) (xs : List (List ℕ)) → Sized h → AllSized xs → Sized (ghash h xs)
 unfolding ghash
 Sized-ghash h [] is_h all = refl
 Sized-ghash h (x ∷ xs) is_h all =
@@ -167,7 +167,7 @@ ghash_more h (y ∷ ys) x is_h all is_x =
     ∙ sym (product_xor_left (y • p) (g ⊕ x) h is_yp (Sized-xor g x is_g is_x) is_h)
     ∙ ap (λ (r : List ℕ). r • h) (sym (xor_assoc (y • p) g x))
 
-length-xor_blocks : (xs ys : List (List ℕ)) → length xs ≡ length ys → length (xor_blocks xs ys) ≡ length xs
+pub length-xor_blocks : (xs ys : List (List ℕ)) → length xs ≡ length ys → length (xor_blocks xs ys) ≡ length xs
 length-xor_blocks [] [] e = refl
 length-xor_blocks [] (y ∷ ys) e = absurd (omega arith)
 length-xor_blocks (x ∷ xs) [] e = absurd (omega arith)

@@ -1,5 +1,5 @@
 -- Header protection of QUIC (RFC 9001).
-use Rattle.std.specs.Prelude.{ℕ, List}
+use Rattle.std.specs.Prelude.{ℕ, List, codes}
 use Rattle.aead_ciphers_base.specs.Mask.{aes_mask, chacha_mask}
 use Rattle.aead_ciphers.specs.declared.aead.quic.Algorithm.{Algorithm}
 use Rattle.aead_ciphers.specs.declared.aead.quic.AlgorithmId.{AlgorithmId}
@@ -15,6 +15,15 @@ id_key_len CHACHA20 = 32
 -- sections 5.4.3 and 5.4.4: the bytes in a header protection key
 abbrev pub key_len : Algorithm → ℕ
 key_len algorithm = id_key_len algorithm.id
+
+-- what `{:?}` prints of an algorithm
+abbrev pub id_debug_text : AlgorithmId → List ℕ
+id_debug_text AES_128 = codes "AES_128"
+id_debug_text AES_256 = codes "AES_256"
+id_debug_text CHACHA20 = codes "CHACHA20"
+
+abbrev pub debug_text : Algorithm → List ℕ
+debug_text algorithm = id_debug_text algorithm.id
 
 abbrev pub id_mask : AlgorithmId → List ℕ → List ℕ → List ℕ
 id_mask AES_128 key sample = aes_mask key sample

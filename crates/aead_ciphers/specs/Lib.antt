@@ -3,6 +3,7 @@ pub mod AesGcm
 pub mod Algorithm
 pub mod BoundState
 pub mod CounterSequence
+pub mod Different
 pub mod FreshNonces
 pub mod Gcm
 pub mod Ghash
@@ -10,6 +11,7 @@ pub mod HashOf
 pub mod HeaderProtection
 pub mod Laws
 pub mod Lending
+pub mod Multiples
 pub mod NonceSequence
 pub mod Program
 pub mod Runs

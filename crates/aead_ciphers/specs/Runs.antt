@@ -42,6 +42,7 @@ module _ {S O : Type 0} (s_spent : S → List (List ℕ)) (s_closed : S → Bool
     pub accepts : Bool
     pub step : OpenStep o_spent o_closed was now old.aad.items start old.buffer.items new.buffer.items accepts
     pub outcome : new.outcome ≡ open_outcome (length old.buffer.items - 16 - start) accepts
+    pub capacity_kept : vec_capacity new.buffer ≡ vec_capacity old.buffer
 
   -- what a job does, by its operation; the other key stays as it is
   abbrev pub Performs : Operation → (was now : BoundState S × BoundState O) (old new : Job) → Type 0
@@ -51,7 +52,7 @@ module _ {S O : Type 0} (s_spent : S → List (List ℕ)) (s_closed : S → Bool
   -- one job; its operation and its AAD stay
   pub record JobStep (was now : BoundState S × BoundState O) (old new : Job) : Type 0 where
     pub operation_kept : new.operation ≡ old.operation
-    pub aad_kept : new.aad.items ≡ old.aad.items
+    pub aad_kept : new.aad ≡ old.aad
     pub performs : Performs old.operation was now old new
 
   -- the jobs in order, on a sealing and an opening key

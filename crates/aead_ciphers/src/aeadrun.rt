@@ -2,7 +2,7 @@
 //!
 //! A line is read whole before anything is done, so a line with a bad word changes nothing.
 
-ghost use Rattle.std.specs.Prelude.{◌≤◌};
+ghost use Rattle.std.specs.Prelude.{◌≡◌, ◌≤◌};
 
 use std::alloc::{AllocError, Global};
 use std::io;
@@ -23,7 +23,8 @@ const ALL_ANSWERED: u8 = 0;
 /// The exit status where a line was none.
 const BAD_LINE: u8 = 1;
 
-/// The exit status where reading or writing failed, or memory was refused.
+/// The exit status where reading or writing failed, or memory was refused. Memory for the tag of `next-seal` is no part of
+/// this: where it is refused, the answer is `refused`.
 pub const FAULT: u8 = 2;
 
 /// Why the program stops before its input ends.
@@ -47,7 +48,8 @@ impl From<io::Error> for Fault {
 /// A line ends at LF, and the last one may lack it. The answers stop at the first failure, and what was
 /// written by then is a beginning of what would have been written. `output` is flushed in every case.
 pub fn lines<R: BufRead, W: Write>(alloc: Global, input: &mut R, output: &mut W) -> u8
-    ensures { result ≤ FAULT }
+    ensures status { result ≤ 2 }
+    ensures fault { FAULT ≡ 2 }
 {
     let outcome = answer_lines(alloc, input, output);
     let flushed = output.flush();

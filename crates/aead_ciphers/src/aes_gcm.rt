@@ -3,7 +3,7 @@
 ghost use Rattle.std.specs.Prelude.{◌≡◌, ◌≤◌, ◌<◌, ◌-◌, ◌+◌, ◌↔◌, length, IsOk, IfOk, OnOk, OnErr, is_ok};
 ghost use Rattle.aead_ciphers_base.specs.KeyBytes.{key_bytes};
 ghost use Rattle.aead_ciphers_base.specs.Values.{aad_bytes};
-ghost use Rattle.aead_ciphers_base.specs.Work.{Adds, Room, HasRoom};
+ghost use Rattle.aead_ciphers_base.specs.Work.{Adds, Room};
 ghost use Rattle.aead_ciphers.specs.AesGcm.{AesOpened, aes_encrypted, aes_tag};
 ghost use Rattle.aead_ciphers.specs.Gcm.{Fits, sealing_blocks, sealing_products};
 
@@ -66,7 +66,8 @@ pub fn seal(
     in_out: &mut [u8],
     work: &mut Work,
 ) -> Result<Tag, Unspecified>
-    requires { HasRoom work.old }
+    requires { let n = length in_out.old in let a = length (aad_bytes aad) in
+        Fits a n → Room work.old (sealing_blocks n) (sealing_products a n) }
     ensures accepted { IsOk result ↔ Fits (length (aad_bytes aad.entry)) (length in_out.old) }
     ensures ciphertext { OnOk result (in_out.new ≡ aes_encrypted key.now nonce in_out.old) }
     ensures tag { IfOk result (λ t. t ≡ aes_tag key.now nonce (aad_bytes aad.entry) in_out.new) }
@@ -92,7 +93,8 @@ pub fn open(
     src: RangeFrom<usize>,
     work: &mut Work,
 ) -> Result<(), Unspecified>
-    requires { HasRoom work.old }
+    requires { let n = length in_out.old - src.start in let a = length (aad_bytes aad) in
+        Fits a n → Room work.old (sealing_blocks n) (sealing_products a n) }
     ensures opened { AesOpened key.now nonce (aad_bytes aad.entry) received_tag src.start in_out.old
         (is_ok result) in_out.new }
     ensures worked { OnOk result

@@ -13,6 +13,7 @@ use aead_ciphers_base::aes::{BLOCK_LEN, Block, Work, ZERO_BLOCK};
 use aead_ciphers_base::polyfill::slice::AsChunks;
 pub(crate) use context::padded;
 pub use context::{Context, MAX_IN_OUT_LEN};
+use product::Multiples;
 use std::marker::Model;
 
 /// A hash subkey, H of SP 800-38D: 16 bytes.
@@ -94,7 +95,7 @@ pub trait UpdateBlocks: UpdateBlock {
 /// GHASH under a hash subkey.
 #[derive(Clone, Drop)]
 pub struct Key {
-    h: u128,
+    multiples: Multiples,
 }
 
 impl Model for Key {
@@ -103,7 +104,7 @@ impl Model for Key {
 
     ghost Value = { List ℕ };
 
-    ghost view = { λ key. to_be_bytes w128 key.h };
+    ghost view = { λ key. to_be_bytes w128 key.multiples };
 }
 
 impl Key {
@@ -112,7 +113,7 @@ impl Key {
         ensures { result ≡ value }
     {
         Key {
-            h: number(value.block),
+            multiples: Multiples::new(number(value.block)),
         }
     }
 }
@@ -129,7 +130,7 @@ impl UpdateBlock for Key {
 
     fn update_block(&self, xi: &mut Xi, block: Block, work: &mut Work) {
         let sum = number(xi.block) ^ number(block);
-        xi.block = product::product(sum, self.h).to_be_bytes();
+        xi.block = self.multiples.product(sum).to_be_bytes();
         work.add_product();
     }
 }
@@ -138,7 +139,7 @@ impl UpdateBlocks for Key {
     fn update_blocks(&self, xi: &mut Xi, input: AsChunks<'_, u8, BLOCK_LEN>, work: &mut Work) {
         let mut sum = number(xi.block);
         for block in input {
-            sum = product::product(sum ^ number(*block), self.h);
+            sum = self.multiples.product(sum ^ number(*block));
             work.add_product();
         }
         xi.block = sum.to_be_bytes();

@@ -1,10 +1,14 @@
 //! Laws of the definitions: functions that answer nothing, whose contracts state a law for their arguments.
 
-ghost use Rattle.std.specs.Prelude.{◌≡◌, ℕ, ◌^◌, ◌-◌, ◌<◌, ◌≤◌, ◌⊎◌, Bool, List, length, vec_len, All};
-ghost use Rattle.aead_ciphers_base.specs.Bytes.{◌⊕◌};
+ghost use Rattle.std.specs.Prelude.{◌≡◌, ◌≢◌, ℕ, ◌^◌, ◌-◌, ◌<◌, ◌≤◌, ◌⊎◌, Bool, List, length, max, vec_len, All, AllPairs};
+ghost use Rattle.aead_ciphers_base.specs.Aes.{aes};
+ghost use Rattle.aead_ciphers_base.specs.Bytes.{◌⊕◌, zero_block};
 ghost use Rattle.aead_ciphers_base.specs.ChaCha20.{chacha20_encrypted};
+ghost use Rattle.aead_ciphers.specs.AesGcm.{aes_tag};
+ghost use Rattle.aead_ciphers.specs.Different.{DifferInOneBlock, DifferWhenPadded, HasInverse, masked_tag};
 ghost use Rattle.aead_ciphers.specs.FreshNonces.{GrewFresh, SealCalls};
-ghost use Rattle.aead_ciphers.specs.Ghash.{ghash, xor_blocks};
+ghost use Rattle.aead_ciphers.specs.Gcm.{Fits, hashed, sealing_products};
+ghost use Rattle.aead_ciphers.specs.Ghash.{IsBlock, ghash, xor_blocks};
 ghost use Rattle.aead_ciphers.specs.Laws.{EachPlace, OpensAgain};
 
 use crate::aead::{NonceSequence, SealingKey};
@@ -44,3 +48,108 @@ pub fn encrypt_twice(key: &[u8; 32], counter: u32, nonce: &[u8; NONCE_LEN], mess
     ensures { let ciphertext = chacha20_encrypted key.now counter nonce.now message.now
         in chacha20_encrypted key.now counter nonce.now ciphertext ≡ message.now }
 {}
+
+/// If the hash subkey of the key has an inverse, a message that is changed in exactly one of the
+/// blocks that its tag hashes has another tag (SP 800-38D section 7.1).
+///
+/// By `AesOpened` the changed message is then refused under the old tag and nonce, and the buffer
+/// is left as it was. By `has_inverse` every hash subkey but zero has an inverse.
+pub fn one_changed_block(
+    key: &[u8],
+    nonce: [u8; NONCE_LEN],
+    aad: &[u8],
+    ciphertext: &[u8],
+    other_aad: &[u8],
+    other_ciphertext: &[u8],
+)
+    requires key_len { (length key.now ≡ 16) ⊎ (length key.now ≡ 32) }
+    requires fits { Fits (length aad.now) (length ciphertext.now) }
+    requires other_fits { Fits (length other_aad.now) (length other_ciphertext.now) }
+    ensures { HasInverse (aes key.now zero_block)
+        → length aad.now ≡ length other_aad.now
+        → length ciphertext.now ≡ length other_ciphertext.now
+        → DifferInOneBlock (hashed aad.now ciphertext.now)
+        (hashed other_aad.now other_ciphertext.now)
+        → aes_tag key.now nonce aad.now ciphertext.now
+        ≢ aes_tag key.now nonce other_aad.now other_ciphertext.now }
+{}
+
+/// If two lists of blocks differ when padded, the XOR of the keys at any two places has an inverse,
+/// and under each key as hash subkey the XOR of the two GHASHes is `sum`, then there are at most as
+/// many keys as blocks in the longer list (SP 800-38D section 6.4).
+#[tactic(auto, using(crate::proofs::FewHashKeys::few_hash_keys))]
+pub fn few_hash_keys(left: &[Block], right: &[Block], sum: Block, keys: &[Block])
+    ensures { DifferWhenPadded left.now right.now
+        → AllPairs (λ h k. HasInverse (h ⊕ k)) keys.now
+        → All (λ h. ghash h left.now ⊕ ghash h right.now ≡ sum) keys.now
+        → length keys.now ≤ max (length left.now) (length right.now) }
+{
+    is_block(sum);
+    are_blocks(left);
+    are_blocks(right);
+}
+
+/// If two pairs of an AAD and a ciphertext differ, the lists of blocks that their tags hash differ
+/// when padded (SP 800-38D section 7.1 step 5).
+#[tactic(auto, using(crate::proofs::DifferentMessages::different_messages))]
+pub fn different_messages(aad: &[u8], ciphertext: &[u8], other_aad: &[u8], other_ciphertext: &[u8])
+    requires fits { Fits (length aad.now) (length ciphertext.now) }
+    requires other_fits { Fits (length other_aad.now) (length other_ciphertext.now) }
+    ensures { ¬ ((aad.now ≡ other_aad.now) × (ciphertext.now ≡ other_ciphertext.now))
+        → DifferWhenPadded (hashed aad.now ciphertext.now)
+        (hashed other_aad.now other_ciphertext.now) }
+{}
+
+/// Every block but zero has an inverse: the blocks are a field (SP 800-38D section 6.3).
+#[tactic(auto, using(crate::proofs::BlockInverse::has_inverse))]
+pub fn has_inverse(block: Block)
+    ensures { block ≢ zero_block → HasInverse block }
+{
+    is_block(block);
+}
+
+/// If two pairs of an AAD and a ciphertext differ, `tag` and `other_tag` are their tags under at most
+/// as many hash subkeys as the longer hashed list has blocks, whatever mask each subkey goes with
+/// (SP 800-38D section 7.1).
+///
+/// So whatever was sent once under a nonce, another message and tag are accepted under at most
+/// ceil(a / 16) + ceil(n / 16) + 1 of the 2^128 hash subkeys that are possible with what was seen,
+/// where the longer list is that of a bytes of AAD and n bytes of ciphertext.
+#[tactic(auto, using(crate::proofs::FewSubkeys::few_subkeys))]
+pub fn few_subkeys_accept(
+    aad: &[u8],
+    ciphertext: &[u8],
+    tag: Block,
+    other_aad: &[u8],
+    other_ciphertext: &[u8],
+    other_tag: Block,
+    subkeys: &[Block],
+)
+    requires fits { Fits (length aad.now) (length ciphertext.now) }
+    requires other_fits { Fits (length other_aad.now) (length other_ciphertext.now) }
+    ensures { ¬ ((aad.now ≡ other_aad.now) × (ciphertext.now ≡ other_ciphertext.now))
+        → AllPairs (λ h k. h ≢ k) subkeys.now
+        → All (λ h. (mask : List ℕ) × IsBlock mask
+        × (tag ≡ masked_tag h mask aad.now ciphertext.now)
+        × (other_tag ≡ masked_tag h mask other_aad.now other_ciphertext.now)) subkeys.now
+        → length subkeys.now ≤ max (sealing_products (length aad.now) (length ciphertext.now))
+        (sealing_products (length other_aad.now) (length other_ciphertext.now)) }
+{
+    is_block(tag);
+    is_block(other_tag);
+    are_blocks(subkeys);
+}
+
+/// A block's numbers are bytes.
+fn is_block(block: Block)
+    ensures { IsBlock block }
+{}
+
+/// The numbers of each block are bytes.
+fn are_blocks(blocks: &[Block])
+    ensures { All IsBlock blocks.now }
+{
+    for block in blocks {
+        is_block(*block);
+    }
+}

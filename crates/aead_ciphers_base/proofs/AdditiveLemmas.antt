@@ -39,7 +39,7 @@ additive_shl k w a b =
     (sym (plain (bit_xor a b)) ∙ sym (xor_block k a b 0 0 (pow_pos k) (pow_pos k)) ∙ ap₂ bit_xor (plain a) (plain b))
     ∙ xor_mod (a * 2 ^ k) (b * 2 ^ k) w
 
-xor_four : (a b c d : ℕ) → bit_xor (bit_xor a b) (bit_xor c d) ≡ bit_xor (bit_xor a c) (bit_xor b d)
+pub xor_four : (a b c d : ℕ) → bit_xor (bit_xor a b) (bit_xor c d) ≡ bit_xor (bit_xor a c) (bit_xor b d)
 xor_four a b c d =
     xor_assoc a b (bit_xor c d)
     ∙ ap (bit_xor a) (sym (xor_assoc b c d) ∙ ap (λ t. bit_xor t d) (xor_comm b c) ∙ xor_assoc c b d)

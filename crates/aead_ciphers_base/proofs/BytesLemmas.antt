@@ -8,7 +8,7 @@ use Rattle.std.proofs.lemmas.Grind.{common_steps}
 use borrow.Author.Count.{below_more}
 use Rattle.aead_ciphers_base.specs.Bytes.{◌⊕◌}
 
-same_of_xor : (x y : ℕ) → bit_xor x y ≡ 0 → x ≡ y
+pub same_of_xor : (x y : ℕ) → bit_xor x y ≡ 0 → x ≡ y
 same_of_xor x y e = sym (xor_zero_r x) ∙ ap (bit_xor x) (sym (xor_self y)) ∙ sym (xor_assoc x y y) ∙ ap (λ (z : ℕ). bit_xor z y) e ∙ xor_zero_l y
 
 -- lists of one length with the same byte at each place are equal

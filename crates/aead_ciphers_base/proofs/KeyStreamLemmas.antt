@@ -1,11 +1,11 @@
 -- The key stream, a block at a time.
-use Rattle.std.proofs.Common.{◌≡◌, ℕ, ◌+◌, ◌-◌, ◌*◌, ◌/◌, ◌%◌, ◌≤◌, List, ◌++◌, length, take, drop, refl, ap, ap₂, sym, ◌∙◌, arith, min, length-take, length-append, length-drop}
+use Rattle.std.proofs.Common.{◌≡◌, ℕ, ◌+◌, ◌-◌, ◌*◌, ◌/◌, ◌%◌, ◌<◌, ◌≤◌, List, ◌++◌, length, take, drop, refl, ap, ap₂, sym, ◌∙◌, arith, min, get_or, get_or-drop, length-take, length-append, length-drop}
 use Rattle.std.proofs.lemmas.List.{take_at, drop_at, drop-drop, take_min, get_or-take}
 use Rattle.std.proofs.Math.Seq.{take-add}
 use Rattle.std.proofs.lemmas.List.FromFn.{fill_by_all}
-use Rattle.aead_ciphers_base.specs.Bytes.{◌⊕◌}
+use Rattle.aead_ciphers_base.specs.Bytes.{each_below, ◌⊕◌}
 use Rattle.aead_ciphers_base.specs.ChaCha20.{chacha20_block, stream_byte, key_stream, chacha20_encrypted}
-use Rattle.aead_ciphers_base.proofs.EachLemmas.{length-each, each-append}
+use Rattle.aead_ciphers_base.proofs.EachLemmas.{length-each, each-append, each-same}
 use Rattle.aead_ciphers_base.proofs.XorLemmas.{length-xor, xor-take, xor-append, xor-xor}
 
 pub length-key_stream : (key : List ℕ) (counter : ℕ) (nonce : List ℕ) (n : ℕ) → length (key_stream key counter nonce n) ≡ n
@@ -13,18 +13,48 @@ unfolding key_stream
 length-key_stream key counter nonce n = length-each n (stream_byte key counter nonce)
 
 -- the key stream behind j whole blocks
-pub key_stream-add : (key : List ℕ) (counter : ℕ) (nonce block : List ℕ) (j n : ℕ)
-    → block ≡ chacha20_block key (counter + j) nonce → length block ≡ 64 → n ≤ 64
-    → key_stream key counter nonce (64 * j + n) ≡ key_stream key counter nonce (64 * j) ++ take n block
+pub key_stream-add : (key : List ℕ) (counter : ℕ) (nonce : List ℕ) (j n : ℕ)
+    → key_stream key counter nonce (64 * j + n) ≡ key_stream key counter nonce (64 * j) ++ key_stream key (counter + j) nonce n
 unfolding key_stream stream_byte
-key_stream-add key counter nonce block j n e size short =
-    let whole : length (take n block) ≡ n = simp length-take (omega arith) in
-    each-append (64 * j) n (stream_byte key counter nonce)
+key_stream-add key counter nonce j n =
+    let byte = stream_byte key counter nonce in
+    each-append (64 * j) n byte
     ∙ ap (λ (xs : List ℕ). key_stream key counter nonce (64 * j) ++ xs)
-    (sym (fill_by_all (λ i. stream_byte key counter nonce (64 * j + i)) (take n block) n 0 whole (λ k h.
-    let row : (64 * j + k) / 64 ≡ j = omega arith in
-    let column : (64 * j + k) % 64 ≡ k = omega arith in
-    get_or-take n block k 0 (omega arith) ∙ rw (row, column, e) refl)))
+    (each-same n (λ k. byte (64 * j + k)) (stream_byte key (counter + j) nonce) (λ k h.
+    let row : counter + (64 * j + k) / 64 ≡ counter + j + k / 64 = omega arith in
+    let column : (64 * j + k) % 64 ≡ k % 64 = omega arith in
+    rw (row, column) refl))
+
+pub take-key_stream : (key : List ℕ) (counter : ℕ) (nonce : List ℕ) (m n : ℕ) → n ≤ m
+    → take n (key_stream key counter nonce m) ≡ key_stream key counter nonce n
+unfolding key_stream
+take-key_stream key counter nonce m n h =
+    let byte = stream_byte key counter nonce in
+    ap (λ (k : ℕ). take n (each_below k byte)) (let e : m ≡ n + (m - n) = omega arith in e)
+    ∙ ap (take n) (each-append n (m - n) byte)
+    ∙ take_at (each_below n byte) (each_below (m - n) (λ i. byte (n + i))) n (length-each n byte)
+
+-- n blocks in a row
+pub blocks-key_stream : (key : List ℕ) (counter : ℕ) (nonce bytes : List ℕ) (n : ℕ) → length bytes ≡ 64 * n
+    → ((i : ℕ) → i < n → take 64 (drop (64 * i) bytes) ≡ chacha20_block key (counter + i) nonce)
+    → bytes ≡ key_stream key counter nonce (64 * n)
+unfolding key_stream stream_byte
+blocks-key_stream key counter nonce bytes n size blocks =
+    fill_by_all (stream_byte key counter nonce) bytes (64 * n) 0 size (λ k h.
+    let place : 64 * (k / 64) + k % 64 ≡ k = omega arith in
+    sym (ap (λ (i : ℕ). get_or bytes i 0) place)
+    ∙ sym (get_or-take 64 (drop (64 * (k / 64)) bytes) (k % 64) 0 (omega arith) ∙ get_or-drop (64 * (k / 64)) bytes (k % 64) 0)
+    ∙ ap (λ (block : List ℕ). get_or block (k % 64) 0) (blocks (k / 64) (omega arith)))
+
+-- one block
+pub block-key_stream : (key : List ℕ) (counter : ℕ) (nonce block : List ℕ) → block ≡ chacha20_block key counter nonce → length block ≡ 64
+    → block ≡ key_stream key counter nonce 64
+unfolding key_stream stream_byte
+block-key_stream key counter nonce block e size =
+    fill_by_all (stream_byte key counter nonce) block 64 0 size (λ k h.
+    let row : counter + k / 64 ≡ counter = omega arith in
+    let column : k % 64 ≡ k = omega arith in
+    rw (row, column, e) refl)
 
 pub length-chacha20_encrypted : (key : List ℕ) (counter : ℕ) (nonce m : List ℕ) → length (chacha20_encrypted key counter nonce m) ≡ length m
 unfolding chacha20_encrypted
@@ -32,45 +62,45 @@ length-chacha20_encrypted key counter nonce m =
     length-xor m (key_stream key counter nonce (length m)) (omega (arith, length-key_stream key counter nonce (length m)))
 
 -- a piece that stands behind j whole blocks
-pub chacha20_encrypted-append : (key : List ℕ) (counter : ℕ) (nonce block done piece : List ℕ) (j : ℕ)
-    → block ≡ chacha20_block key (counter + j) nonce → length block ≡ 64 → length piece ≤ 64 → length done ≡ 64 * j
-    → chacha20_encrypted key counter nonce (done ++ piece) ≡ chacha20_encrypted key counter nonce done ++ (piece ⊕ block)
+pub chacha20_encrypted-append : (key : List ℕ) (counter : ℕ) (nonce stream done piece : List ℕ) (j : ℕ)
+    → take (length piece) stream ≡ key_stream key (counter + j) nonce (length piece) → length done ≡ 64 * j
+    → chacha20_encrypted key counter nonce (done ++ piece) ≡ chacha20_encrypted key counter nonce done ++ (piece ⊕ stream)
 unfolding chacha20_encrypted
-chacha20_encrypted-append key counter nonce block done piece j e size short whole =
+chacha20_encrypted-append key counter nonce stream done piece j e whole =
+    let front : List ℕ = key_stream key counter nonce (64 * j) in
     let n : length (done ++ piece) ≡ 64 * j + length piece = simp length-append (omega arith) in
-    let stream = ap (key_stream key counter nonce) n ∙ key_stream-add key counter nonce block j (length piece) e size short in
-    rw (stream, whole)
-    (xor-append done piece (key_stream key counter nonce (64 * j)) (take (length piece) block) (omega (arith, length-key_stream key counter nonce (64 * j)))
-    ∙ ap (λ (xs : List ℕ). (done ⊕ key_stream key counter nonce (64 * j)) ++ xs) (xor-take piece block))
+    let all = ap (key_stream key counter nonce) n ∙ key_stream-add key counter nonce j (length piece) ∙ ap (λ (xs : List ℕ). front ++ xs) (sym e) in
+    rw (all, whole)
+    (xor-append done piece front (take (length piece) stream) (omega (arith, length-key_stream key counter nonce (64 * j)))
+    ∙ ap (λ (xs : List ℕ). (done ⊕ front) ++ xs) (xor-take piece stream))
 
--- one more piece of a slice, of which the first j blocks are written
-pub written_more : (key : List ℕ) (counter : ℕ) (nonce : List ℕ) (start j n : ℕ) (old was block : List ℕ)
-    → was ≡ chacha20_encrypted key counter nonce (take (64 * j) (drop start old)) ++ drop (length (take (64 * j) (drop start old))) old
-    → block ≡ chacha20_block key (counter + j) nonce → length block ≡ 64
-    → start + 64 * j ≤ length old → n ≡ min 64 (length old - start - 64 * j)
-    → take (64 * j) was ++ (take n (drop (start + 64 * j) was) ⊕ block) ++ drop (64 * j + n) was
-    ≡ chacha20_encrypted key counter nonce (take (64 * (j + 1)) (drop start old)) ++ drop (length (take (64 * (j + 1)) (drop start old))) old
-written_more key counter nonce start j n old was block held e size within short =
-    let at : ℕ = 64 * j in
+-- one more batch, of n bytes, of a slice of which the first `at` bytes, j blocks, are written
+pub written_more : (key : List ℕ) (counter : ℕ) (nonce : List ℕ) (start at j batch n : ℕ) (old was stream : List ℕ)
+    → was ≡ chacha20_encrypted key counter nonce (take at (drop start old)) ++ drop (length (take at (drop start old))) old
+    → take n stream ≡ key_stream key (counter + j) nonce n → at ≡ 64 * j
+    → start + at ≤ length old → n ≡ min batch (length old - start - at)
+    → take at was ++ (take n (drop (start + at) was) ⊕ stream) ++ drop (at + n) was
+    ≡ chacha20_encrypted key counter nonce (take (at + batch) (drop start old)) ++ drop (length (take (at + batch) (drop start old))) old
+written_more key counter nonce start at j batch n old was stream held e whole within short =
     let input : List ℕ = drop start old in
     let done : List ℕ = take at input in
-    let piece : List ℕ = take 64 (drop at input) in
+    let piece : List ℕ = take batch (drop at input) in
     let ld : length done ≡ at = simp (length-take, length-drop) (omega arith) in
     let le : length (chacha20_encrypted key counter nonce done) ≡ at = length-chacha20_encrypted key counter nonce done ∙ ld in
     let front : take at was ≡ chacha20_encrypted key counter nonce done = ap (take at) held ∙ take_at _ _ at le in
     let rest : drop at was ≡ drop at old = ap (drop at) held ∙ drop_at _ _ at le ∙ ap (λ (k : ℕ). drop k old) ld in
-    let lp : length (drop at input) ≡ length old - start - at = simp length-drop refl in
+    let li : length (drop at input) ≡ length old - start - at = simp length-drop refl in
+    let lp : length piece ≡ n = simp (length-take, length-drop) (omega arith) in
     let input_is : drop (start + at) was ≡ drop at input =
     ap (λ (k : ℕ). drop k was) (omega arith) ∙ sym (drop-drop start at was) ∙ ap (drop start) rest ∙ drop-drop start at old
     ∙ ap (λ (k : ℕ). drop k old) (omega arith) ∙ sym (drop-drop at start old) in
     let piece_is : take n (drop (start + at) was) ≡ piece =
-    ap₂ (λ (k : ℕ) (xs : List ℕ). take k xs) (short ∙ ap (min 64) (sym lp)) input_is ∙ take_min 64 (drop at input) in
-    let all : take (64 * (j + 1)) input ≡ done ++ piece = ap (λ (k : ℕ). take k input) (omega arith) ∙ take-add at 64 input in
+    ap₂ (λ (k : ℕ) (xs : List ℕ). take k xs) (short ∙ ap (min batch) (sym li)) input_is ∙ take_min batch (drop at input) in
     let behind : drop (at + n) was ≡ drop (length (done ++ piece)) old =
-    sym (drop-drop n at was) ∙ ap (drop n) rest ∙ drop-drop n at old ∙ ap (λ (k : ℕ). drop k old) (simp (length-append, length-take, length-drop) (omega arith)) in
-    rw (all, front, piece_is, behind)
+    sym (drop-drop n at was) ∙ ap (drop n) rest ∙ drop-drop n at old ∙ ap (λ (k : ℕ). drop k old) (simp length-append (omega arith)) in
+    rw (take-add at batch input, front, piece_is, behind)
     (ap (λ (xs : List ℕ). xs ++ drop (length (done ++ piece)) old)
-    (sym (chacha20_encrypted-append key counter nonce block done piece j e size (simp length-take (omega arith)) ld)))
+    (sym (chacha20_encrypted-append key counter nonce stream done piece j (rw lp e) (ld ∙ whole))))
 
 -- encrypting twice
 pub chacha20_encrypted-chacha20_encrypted : (key : List ℕ) (counter : ℕ) (nonce m : List ℕ)

@@ -57,27 +57,38 @@ two_below_test = refl
 pub two_below_moves : (x : ℕ) → x < 2 ^ 64 → (p : ℕ) → p < 64 → bit_at (two_below_of x) p ≡ bit_at x (below p 2)
 two_below_moves x h p hp = moved two_below_of (λ t. below t 2) (pair_additive 2 0x3333333333333333 2 0xcccccccccccccccc) two_below_test x h p hp
 
-abbrev pub rows_shifted_of : ℕ → ℕ
-rows_shifted_of x =
-    bit_xor (bit_xor (bit_xor (bit_and x 0x1111111111111111) (pair 4 0x0222022202220222 12 0x2000200020002000 x)) (pair 8 0x0044004400440044 8 0x4400440044004400 x))
-    (pair 12 0x0008000800080008 4 0x8880888088808880 x)
+-- the bits of rows 2 and 3 that differ two columns on
+abbrev exchanged : ℕ → ℕ
+exchanged x = bit_and (bit_xor (x / 2 ^ 8) x) 0x00cc00cc00cc00cc
 
-rows_shifted_test : moves rows_shifted_of shifted_from ≡ true
+abbrev by_two : ℕ → ℕ
+by_two x = bit_xor (bit_xor x (exchanged x)) (exchanged x * 2 ^ 8 % 2 ^ 64)
+
+abbrev by_one : ℕ → ℕ
+by_one x = bit_xor (bit_and x 0x5555555555555555) (pair 4 0x0aaa0aaa0aaa0aaa 12 0xa000a000a000a000 x)
+
+rows_shifted_test : moves (λ x. by_one (by_two x)) shifted_from ≡ true
 rows_shifted_test = refl
 
-pub rows_shifted_moves : (x : ℕ) → x < 2 ^ 64 → (p : ℕ) → p < 64 → bit_at (rows_shifted_of x) p ≡ bit_at x (shifted_from p)
+exchanged_additive : IsAdditive exchanged
+exchanged_additive =
+    additive_after (λ t. bit_and t 0x00cc00cc00cc00cc) (λ x. bit_xor (x / 2 ^ 8) x) (additive_and 0x00cc00cc00cc00cc)
+    (additive_xor (λ x. x / 2 ^ 8) (λ x. x) (additive_shr 8) (λ a b. refl))
+
+by_two_additive : IsAdditive by_two
+by_two_additive =
+    additive_xor (λ x. bit_xor x (exchanged x)) (λ x. exchanged x * 2 ^ 8 % 2 ^ 64)
+    (additive_xor (λ x. x) exchanged (λ a b. refl) exchanged_additive)
+    (additive_after (λ t. t * 2 ^ 8 % 2 ^ 64) exchanged (additive_shl 8 64) exchanged_additive)
+
+by_one_additive : IsAdditive by_one
+by_one_additive =
+    additive_xor (λ x. bit_and x 0x5555555555555555) (pair 4 0x0aaa0aaa0aaa0aaa 12 0xa000a000a000a000)
+    (additive_and 0x5555555555555555) (pair_additive 4 0x0aaa0aaa0aaa0aaa 12 0xa000a000a000a000)
+
+pub rows_shifted_moves : (x : ℕ) → x < 2 ^ 64 → (p : ℕ) → p < 64 → bit_at (by_one (by_two x)) p ≡ bit_at x (shifted_from p)
 rows_shifted_moves x h p hp =
-    let first = λ (t : ℕ). bit_and t 0x1111111111111111 in
-    let second = pair 4 0x0222022202220222 12 0x2000200020002000 in
-    let third = pair 8 0x0044004400440044 8 0x4400440044004400 in
-    let fourth = pair 12 0x0008000800080008 4 0x8880888088808880 in
-    moved rows_shifted_of shifted_from
-    (additive_xor (λ t. bit_xor (bit_xor (first t) (second t)) (third t)) fourth
-    (additive_xor (λ t. bit_xor (first t) (second t)) third
-    (additive_xor first second (additive_and 0x1111111111111111) (pair_additive 4 0x0222022202220222 12 0x2000200020002000))
-    (pair_additive 8 0x0044004400440044 8 0x4400440044004400))
-    (pair_additive 12 0x0008000800080008 4 0x8880888088808880))
-    rows_shifted_test x h p hp
+    moved (λ t. by_one (by_two t)) shifted_from (additive_after by_one by_two by_one_additive by_two_additive) rows_shifted_test x h p hp
 
 -- ---- all eight planes
 

@@ -11,9 +11,9 @@ pub mod CounterModeLemmas
 pub mod CounterModeTwice
 pub mod EachLemmas
 pub mod FastProductLemmas
-pub mod InverseLemmas
 pub mod KeyLemmas
 pub mod KeyStreamLemmas
+pub mod LaneLemmas
 pub mod LayerLemmas
 pub mod PackLemmas
 pub mod PlaneLemmas
@@ -21,9 +21,10 @@ pub mod PolynomialAction
 pub mod PolynomialBits
 pub mod PolynomialLaws
 pub mod PolynomialLemmas
-pub mod ProductLemmas
+pub mod RoundLemmas
 pub mod ScheduleLemmas
 pub mod ShiftLemmas
+pub mod TowerLemmas
 pub mod Walks
 pub mod WordsLemmas
 pub mod XorLemmas

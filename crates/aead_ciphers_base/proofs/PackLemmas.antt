@@ -1,10 +1,9 @@
 -- The transpositions by which four blocks become eight planes.
-use Rattle.std.proofs.Common.{◌≡◌, ℕ, zero, suc, ◌+◌, ◌-◌, ◌*◌, ◌/◌, ◌%◌, ◌^◌, ◌<◌, ◌≤◌, Bool, true, false, ◌&&◌, List, [], ◌∷◌, ◌++◌, length, refl, sym, ap, ap₂, ◌∙◌, arith, inl, inr, bit_xor, bit_and, slice_index, slice_index_or, nat_lt, if◌then◌else◌, div-one}
+use Rattle.std.proofs.Common.{◌≡◌, ℕ, zero, suc, ◌+◌, ◌-◌, ◌*◌, ◌/◌, ◌%◌, ◌^◌, ◌<◌, ◌≤◌, Bool, true, false, ◌&&◌, List, [], ◌++◌, length, take, drop, refl, sym, ap, ap₂, ◌∙◌, arith, inl, inr, bit_xor, bit_and, slice_index, slice_index_or, nat_lt, if◌then◌else◌, div-one}
 use Rattle.std.specs.Prelude.{◌==◌}
 use Rattle.std.specs.Int.{bit_at, w64, to_le_bytes, from_le_bytes}
 use Rattle.std.proofs.lemmas.Nat.{shr-shr, pow_pos, le_bytes_8}
-use Rattle.std.proofs.lemmas.List.{get_or_append_left, get_or-append_right}
-use Rattle.std.proofs.lemmas.List.FromFn.{fill_by_all}
+use Rattle.std.proofs.lemmas.List.{get_or_append_left, get_or-append_right, get_or-take, get_or-drop, get_or_past, length-take, length-take-le, length-drop, take_all, take-append-drop}
 use Rattle.std.proofs.lemmas.Nat.Bits.{bit_at-lt, bit_at_cat_low, bit_at_cat_high, bit_at-zero}
 use Rattle.std.proofs.lemmas.Bool.{cases_lt, cond-true, cond-false, ltb-true, lt-ltb, le-ltb}
 use Rattle.std.proofs.Math.Bool.{and-false}
@@ -207,29 +206,20 @@ module _ (w r : List ℕ) (k : ℕ) (hk : k < 6) (first0 : FirstOf w r k 0) (sec
 
 -- ---- words and bytes
 
-eight_below : (f : ℕ → ℕ) → ((i : ℕ) → f i < 256) → (i : ℕ) → slice_index (f 0 ∷ f 1 ∷ f 2 ∷ f 3 ∷ f 4 ∷ f 5 ∷ f 6 ∷ f 7 ∷ []) i < 256
-eight_below f h zero = h 0
-eight_below f h (suc zero) = h 1
-eight_below f h (suc (suc zero)) = h 2
-eight_below f h (suc (suc (suc zero))) = h 3
-eight_below f h (suc (suc (suc (suc zero)))) = h 4
-eight_below f h (suc (suc (suc (suc (suc zero))))) = h 5
-eight_below f h (suc (suc (suc (suc (suc (suc zero)))))) = h 6
-eight_below f h (suc (suc (suc (suc (suc (suc (suc zero))))))) = h 7
-eight_below f h (suc (suc (suc (suc (suc (suc (suc (suc i)))))))) = omega arith
-
-half_of_block : (f : ℕ → ℕ) (n : ℕ) → ((i : ℕ) → f i < 256) → n ≡ from_le_bytes w64 (f 0 ∷ f 1 ∷ f 2 ∷ f 3 ∷ f 4 ∷ f 5 ∷ f 6 ∷ f 7 ∷ [])
-    → to_le_bytes w64 n ≡ (f 0 ∷ f 1 ∷ f 2 ∷ f 3 ∷ f 4 ∷ f 5 ∷ f 6 ∷ f 7 ∷ [])
-half_of_block f n h e = le_bytes_8 (f 0 ∷ f 1 ∷ f 2 ∷ f 3 ∷ f 4 ∷ f 5 ∷ f 6 ∷ f 7 ∷ []) n refl (eight_below f h) e
-
--- the words of a block give its bytes back
-pub words_of_block : (b : List ℕ) (low high : ℕ) → length b ≡ 16 → ((i : ℕ) → slice_index b i < 256)
-    → low ≡ from_le_bytes w64 (slice_index b 0 ∷ slice_index b 1 ∷ slice_index b 2 ∷ slice_index b 3 ∷ slice_index b 4 ∷ slice_index b 5 ∷ slice_index b 6 ∷ slice_index b 7 ∷ [])
-    → high ≡ from_le_bytes w64 (slice_index b 8 ∷ slice_index b 9 ∷ slice_index b 10 ∷ slice_index b 11 ∷ slice_index b 12 ∷ slice_index b 13 ∷ slice_index b 14 ∷ slice_index b 15 ∷ [])
-    → to_le_bytes w64 low ++ to_le_bytes w64 high ≡ b
-words_of_block b low high len fits e_low e_high =
-    ap₂ ◌++◌ (half_of_block (slice_index b) low fits e_low) (half_of_block (λ i. slice_index b (8 + i)) high (λ i. fits (8 + i)) e_high)
-    ∙ sym (fill_by_all (slice_index b) b 16 0 len (λ k lt. refl))
+-- the words that are read from the halves of a block give its bytes back
+pub words_of_block : (b x y : List ℕ) (low high : ℕ) → length b ≡ 16 → ((i : ℕ) → slice_index b i < 256) → x ≡ take 8 b → y ≡ take 8 (drop 8 b)
+    → low ≡ from_le_bytes w64 x → high ≡ from_le_bytes w64 y → to_le_bytes w64 low ++ to_le_bytes w64 high ≡ b
+words_of_block b x y low high len fits e_x e_y e_low e_high =
+    let first : (i : ℕ) → slice_index (take 8 b) i < 256 = λ i. elim (cases_lt i 8) [
+      | inl less ↦ rw (get_or-take 8 b i 0 less) (fits i)
+      | inr more ↦ rw (get_or_past (take 8 b) i 0 (omega (arith, length-take 8 b))) (omega arith)
+    ] in
+    let size : length (drop 8 b) ≡ 8 = omega (arith, length-drop 8 b) in
+    let second : (i : ℕ) → slice_index (drop 8 b) i < 256 = λ i. rw (get_or-drop 8 b i 0) (fits (8 + i)) in
+    ap₂ ◌++◌
+    (le_bytes_8 (take 8 b) low (length-take-le 8 b (omega arith)) first (e_low ∙ ap (from_le_bytes w64) e_x))
+    (le_bytes_8 (drop 8 b) high size second (e_high ∙ ap (from_le_bytes w64) (e_y ∙ take_all 8 (drop 8 b) (omega arith))))
+    ∙ take-append-drop 8 b
 
 byte_is : (n j : ℕ) → j < 8 → slice_index (to_le_bytes w64 n) j ≡ n / 2 ^ (8 * j) % 2 ^ 8
 byte_is n zero h = ap (λ t. t % 256) (sym (div-one n))

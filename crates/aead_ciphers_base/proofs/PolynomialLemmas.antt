@@ -1,6 +1,5 @@
 -- The product and the reduction keep sums.
 use Rattle.std.proofs.Common.{◌≡◌, ℕ, zero, suc, ◌+◌, ◌-◌, ◌<◌, ◌≤◌, Bool, false, ◌&&◌, List, [], ◌∷◌, length, refl, sym, ap, ap₂, ◌∙◌, arith, ext_get_or}
-use Rattle.std.proofs.lemmas.List.{get_or_past}
 use Rattle.std.proofs.lemmas.List.FromFn.{get_or-map-range_with_len, length-map-range_with_len}
 use Rattle.std.specs.List.{list_any}
 use Rattle.std.specs.Prelude.{◌==◌}
@@ -23,9 +22,6 @@ coefficient-polynomial n f i h = get_or-map-range_with_len f 0 n i i false h (om
 
 pub length-polynomial : (n : ℕ) (f : ℕ → Bool) → length (polynomial n f) ≡ n
 length-polynomial n f = length-map-range_with_len f 0 n
-
-pub polynomial_past : (n : ℕ) (f : ℕ → Bool) (i : ℕ) → n ≤ i → coefficient (polynomial n f) i ≡ false
-polynomial_past n f i h = get_or_past (polynomial n f) i false (omega (arith, length-polynomial n f))
 
 pub same_polynomials : (p q : List Bool) → length p ≡ length q → ((i : ℕ) → i < length p → coefficient p i ≡ coefficient q i) → p ≡ q
 same_polynomials p q e h = ext_get_or false p q e h

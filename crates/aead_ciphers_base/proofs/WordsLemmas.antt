@@ -1,7 +1,7 @@
 -- Words and bytes in little-endian order.
-use Rattle.std.proofs.Common.{replicate, ◌≡◌, ℕ, zero, suc, ◌+◌, ◌*◌, ◌^◌, ◌<◌, ◌≤◌, List, [], ◌∷◌, ◌++◌, length, take, drop, get_or, slice_index, refl, ap, ap₂, sym, ◌∙◌, arith, get_or-drop}
+use Rattle.std.proofs.Common.{replicate, ◌≡◌, ℕ, zero, suc, ◌+◌, ◌*◌, ◌^◌, ◌<◌, ◌≤◌, List, [], ◌∷◌, ◌++◌, length, take, drop, get_or, slice_index, slice_set, refl, ap, ap₂, sym, ◌∙◌, arith, get_or-drop}
 use Rattle.std.specs.Int.{w32, from_le_bytes, to_le_bytes}
-use Rattle.std.proofs.lemmas.List.{take_more, take_at, drop_at, drop_all}
+use Rattle.std.proofs.lemmas.List.{take_more, take_at, drop_at, drop_all, set_at}
 use Rattle.std.proofs.lemmas.Grind.{flat_map-append}
 use Rattle.std.proofs.lemmas.Nat.{le_bytes_4, from_le_bytes-to_le_bytes_4}
 use Rattle.std.proofs.lemmas.Slice.{take-put_mid}
@@ -107,3 +107,10 @@ initial_state_words key counter c k n number lk lc fk fc ec ek en =
     rw (ec, ek, en, take_at key zeros 8 lk, drop_at key zeros 8 lk)
     (sym (ap₂ (λ (k n : List ℕ). 0x61707865 ∷ 0x3320646e ∷ 0x79622d32 ∷ 0x6b206574 ∷ k ++ number ∷ n)
     (le_words-le_bytes key fk) (le_words-le_bytes (drop 1 counter) fits ∙ drop-elements 3 1 counter lc)))
+
+-- the block counter is word 12
+pub counter-initial_state : (key nonce : List ℕ) (m n : ℕ) → length (le_words key) ≡ 8
+    → slice_set (initial_state key m nonce) 12 n ≡ initial_state key n nonce
+unfolding initial_state
+counter-initial_state key nonce m n size =
+    ap (λ (ws : List ℕ). 0x61707865 ∷ 0x3320646e ∷ 0x79622d32 ∷ 0x6b206574 ∷ ws) (set_at (le_words key) m (le_words nonce) n 8 size)

@@ -8,10 +8,12 @@ pub mod ChunksMut
 pub mod CounterMode
 pub mod KeyBytes
 pub mod KeySchedule
+pub mod Lanes
 pub mod Mask
 pub mod Overlapping
 pub mod Planes
 pub mod Polynomial
 pub mod Shift
+pub mod Tower
 pub mod Values
 pub mod Work

@@ -1,6 +1,6 @@
 -- What is done with the front and the chunks of a slice.
 use Rattle.std.specs.Prelude.{ℕ, ◌≡◌, List, ◌++◌, drop, take, Result, Ok, Err}
-use Rattle.std.specs.Borrow.{Array, Bor, Fml, MutBor, RattleType, follows}
+use Rattle.std.specs.Borrow.{Array, Bor, Fml, GName, MutBor, RattleType, RestsIfErr, follows}
 use Rattle.std.specs.Fn.{Once, FnOnceReturnsAt, FnOnceTakesAt}
 use base.Fml.{fex, fres}
 use Rattle.aead_ciphers_base.specs.declared.overlapping.base.Overlapping.{Overlapping}
@@ -21,6 +21,10 @@ LendsBehind T s front r = follows (Array T 0) (Array T 0) s.ghost_name r.ghost_n
 abbrev pub LendsTail : (T : RattleType) {E : Type 0} → MutBor (List T.Denot) → ℕ → Result (Overlapping T.Denot) E → Fml
 LendsTail T s n (Ok rest) = LendsBehind T s (take n s.now) rest.in_out
 LendsTail T s n (Err e) = EndsAs T s s.now
+
+-- the answer holds s itself, under `name` of its value. After a refusal s ends as it was
+abbrev pub KeptIfErr : (T : RattleType) {A E : Type 0} → MutBor (List T.Denot) → (A → GName) → Result A E → Fml
+KeptIfErr T s name r = RestsIfErr (Array T 0) s name r (λ xs. xs ≡ s.now)
 
 -- f may be called at the first n items of xs
 abbrev pub TakesChunk : {T C F : Type 0} → (C → List T) → Once F (Bor C × Unit {0}) C → ℕ → F → List T → Type 0

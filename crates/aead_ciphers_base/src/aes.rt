@@ -18,8 +18,6 @@ use std::marker::Model;
 
 mod bit_sliced;
 mod counter;
-#[cfg(test)]
-mod counter_tests;
 mod ctr32;
 mod key_schedule;
 mod layers;
@@ -27,6 +25,7 @@ mod pack;
 mod planes;
 #[cfg(test)]
 mod tests;
+mod tower;
 mod work;
 
 pub use counter::{Counter, Iv};

@@ -50,6 +50,3 @@ pub fn xor_assign_at_start(a: &mut [u8], b: &[u8])
         a[i] ^= b[i];
     }
 }
-
-#[cfg(test)]
-mod tests;

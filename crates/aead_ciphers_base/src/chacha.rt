@@ -1,16 +1,18 @@
 //! The stream cipher ChaCha20 (RFC 8439 sections 2.1 to 2.4).
 
-ghost use Rattle.std.specs.Prelude.{◌≡◌, ℕ, ◌+◌, ◌-◌, ◌*◌, ◌^◌, ◌<◌, ◌≤◌, List, ◌∷◌, ◌++◌, length, take, drop, slice_index};
+ghost use Rattle.std.specs.Prelude.{◌≡◌, ℕ, ◌+◌, ◌-◌, ◌*◌, ◌^◌, ◌<◌, ◌≤◌, List, ◌∷◌, ◌++◌, length, take, drop, slice_index, slice_set};
 ghost use Rattle.std.specs.Int.{div_ceil};
 ghost use Rattle.std.specs.Simd.Lanes.{zip2};
 ghost use Rattle.aead_ciphers_base.specs.Bytes.{◌⊕◌};
-ghost use Rattle.aead_ciphers_base.specs.ChaCha20.{add32, quarter_round, quarter_round_at, double_round, state_block, le_words, le_bytes, initial_state, chacha20_encrypted, Position};
+ghost use Rattle.aead_ciphers_base.specs.ChaCha20.{add32, quarter_round, quarter_round_at, double_round, state_block, le_words, le_bytes, initial_state, key_stream, chacha20_encrypted, Position};
 ghost use Rattle.aead_ciphers_base.specs.Mask.{chacha_mask};
 
 use crate::values::{Nonce, Sample};
 use crate::{bb, overlapping};
+use lanes::BATCH_LEN;
 use std::marker::Model;
 
+mod lanes;
 #[cfg(test)]
 mod tests;
 
@@ -118,17 +120,18 @@ fn state_block(state: &State) -> [u8; BLOCK_LEN]
     le_bytes(&words)
 }
 
-// Writes to `at` the `n` bytes from `start + at` on, XORed with the block.
-fn xor_block(in_out: &mut [u8], start: usize, at: usize, n: usize, mut block: [u8; BLOCK_LEN])
+// Writes to `at` the `n` bytes from `start + at` on, XORed with the key stream. All are read before
+// one is written.
+fn xor_batch(in_out: &mut [u8], start: usize, at: usize, n: usize, mut stream: [u8; BATCH_LEN])
     requires in_slice { start + at + n ≤ length in_out.old }
-    requires in_block { n ≤ 64 }
+    requires in_batch { n ≤ 256 }
     ensures { in_out.new ≡ take at in_out.old
-        ++ (take n (drop (start + at) in_out.old) ⊕ block)
+        ++ (take n (drop (start + at) in_out.old) ⊕ stream)
         ++ drop (at + n) in_out.old }
 {
     let from = start + at;
-    bb::xor_assign_at_start(&mut block, &in_out[from..from + n]);
-    in_out[at..at + n].copy_from_slice(&block[..n]);
+    bb::xor_assign_at_start(&mut stream, &in_out[from..from + n]);
+    in_out[at..at + n].copy_from_slice(&stream[..n]);
 }
 
 /// A block counter and a nonce: where a key stream starts.
@@ -222,11 +225,11 @@ impl Key {
     {
         let Overlapping { in_out, start } = in_out;
         let len = in_out.len() - start;
-        for j in 0..len.div_ceil(BLOCK_LEN) {
-            let at = BLOCK_LEN * j;
-            let n = BLOCK_LEN.min(len - at);
-            let block = state_block(&self.initial_state(&counter, j as u32));
-            xor_block(in_out, start, at, n, block);
+        for j in 0..len.div_ceil(BATCH_LEN) {
+            let at = BATCH_LEN * j;
+            let n = BATCH_LEN.min(len - at);
+            let stream = self.key_stream(&counter, (4 * j) as u32, n);
+            xor_batch(in_out, start, at, n, stream);
         }
     }
 
@@ -266,10 +269,34 @@ impl Key {
         mask
     }
 
+    // The first `n` bytes of the key stream from block `j` after the counter on. Four blocks are
+    // made side by side, and fewer one by one, so that no counter behind the last block is summed.
+    fn key_stream(&self, counter: &Counter, j: u32, n: usize) -> [u8; BATCH_LEN]
+        requires in_batch { n ≤ 256 }
+        requires counted { counter.now.number + j + div_ceil n 64 ≤ 2 ^ 32 }
+        ensures { take n result
+            ≡ key_stream self.now (counter.now.number + j) counter.now.nonce n }
+    {
+        let blocks = n.div_ceil(BLOCK_LEN);
+        if blocks == 4 {
+            return lanes::state_blocks(&lanes::four_states(&self.initial_state(counter, j)));
+        }
+        let mut stream = [0; BATCH_LEN];
+        for i in 0..blocks {
+            let at = BLOCK_LEN * i;
+            let block = state_block(&self.initial_state(counter, j + i as u32));
+            stream[at..at + BLOCK_LEN].copy_from_slice(&block);
+        }
+        stream
+    }
+
     // The initial state of block `j` after the counter.
     fn initial_state(&self, counter: &Counter, j: u32) -> State
         requires { counter.now.number + j < 2 ^ 32 }
-        ensures { result ≡ initial_state self.now (counter.now.number + j) counter.now.nonce }
+        ensures state { result
+            ≡ initial_state self.now (counter.now.number + j) counter.now.nonce }
+        ensures counter_in_word_12 { (n : ℕ) → slice_set result 12 n
+            ≡ initial_state self.now n counter.now.nonce }
     {
         let [number, n0, n1, n2] = counter.words;
         let mut state = [0; 16];

@@ -9,6 +9,3 @@ pub use array::{Array, first_array};
 pub use base::Overlapping;
 pub use chunk::{Chunk, chunk_at, map_chunk};
 pub use partial_block::PartialBlock;
-
-#[cfg(test)]
-mod tests;

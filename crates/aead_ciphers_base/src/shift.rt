@@ -6,7 +6,7 @@ ghost use Rattle.aead_ciphers_base.specs.Shift.{ShiftsBlocks, TakesBlocks};
 use crate::overlapping::{Chunk, Overlapping, chunk_at};
 
 /// Each block of the input goes through `transform` to the front of the slice, in order.
-pub fn shift_full_blocks<C: Chunk<u8>, F: FnMut(&C) -> C + Drop>(
+pub fn shift_full_blocks<C: Chunk<u8>, F: FnMut(&C) -> C>(
     in_out: Overlapping<'_, u8>,
     mut transform: F,
 )
@@ -27,6 +27,3 @@ pub fn shift_full_blocks<C: Chunk<u8>, F: FnMut(&C) -> C + Drop>(
         output.put(place);
     }
 }
-
-#[cfg(test)]
-mod tests;

@@ -6,9 +6,6 @@ use crate::error::Unspecified;
 use std::fmt;
 use std::marker::Model;
 
-#[cfg(test)]
-mod tests;
-
 /// The length of a nonce, in bytes.
 pub const NONCE_LEN: usize = 12;
 
@@ -93,7 +90,14 @@ impl<'a> Aad<'a> {
     }
 }
 
+/// `Aad(` and the list of the bytes and `)`.
 impl fmt::Debug for Aad<'_> {
+    ghost use Rattle.std.specs.Prelude.{Some, codes};
+    ghost use Rattle.std.specs.Fmt.{debug_list, debug_variant, decimal};
+    ghost use Rattle.aead_ciphers_base.specs.Values.{aad_bytes};
+
+    ghost debug_output = { λ aad. debug_variant (codes "Aad") (debug_list (λ b. Some (decimal b)) (aad_bytes aad)) };
+
     fn fmt<W: fmt::Write>(&self, f: &mut fmt::Formatter<W>) -> fmt::Result {
         let bytes = self.bytes;
         write!(f, "Aad({bytes:?})")

@@ -1,13 +1,15 @@
 //! `aeadrun`: what lines are answered by.
 
-use crate::vectors::{CASE_4, CASES, Case, MASKS, Mask, holds};
+use crate::cases;
+use crate::checks::holds;
+use crate::masks::{MASKS, Mask};
 use aead_ciphers::aeadrun::lines;
+use aead_vectors::gcm_spec::{CASE_1, CASE_2, CASE_4, CASES, Case};
 use std::alloc::{AllocError, Global};
 use std::process::Abort;
 use std::test::Fail;
 
-/// Lines, the answers to them, and the exit status. `<key>`, `<nonce>`, `<aad>`, `<message>`, `<ciphertext>` and `<tag>` are
-/// those of test case 4, and `<zeros>` is a block of zeros.
+/// Lines, the answers to them, and the exit status. The bytes of test cases stand in them by the names of `filled`.
 struct Run {
     name: &'static str,
     input: &'static str,
@@ -33,20 +35,20 @@ const RUNS: [Run; 12] = [
     Run {
         name: "opening test case 4 behind four bytes",
         input: "open 128 <key> <nonce> <aad> 4 00000000<ciphertext><tag>\n\
-                open 128 <key> <nonce> <aad> 4 00000000<ciphertext>5bc94fbc3221a5db94fae95ae7121a46\n\
+                open 128 <key> <nonce> <aad> 4 00000000<ciphertext><false_tag>\n\
                 open 128 <key> <nonce> <aad> 3 00000000<ciphertext><tag>\n",
         printed: "ok <message> <message>3d58e091<tag>\n\
-                  refused 00000000<ciphertext>5bc94fbc3221a5db94fae95ae7121a46\n\
+                  refused 00000000<ciphertext><false_tag>\n\
                   refused 00000000<ciphertext><tag>\n",
         status: 0,
     },
     Run {
         name: "opening test case 1",
-        input: "open 128 <zeros> 000000000000000000000000 - 0 58e2fccefa7e3061367f1d57a4e7455a\n\
-                open 128 <zeros> 000000000000000000000000 - 1 58e2fccefa7e3061367f1d57a4e7455a\n\
+        input: "open 128 <zeros> 000000000000000000000000 - 0 <tag_1>\n\
+                open 128 <zeros> 000000000000000000000000 - 1 <tag_1>\n\
                 open 128 <zeros> 000000000000000000000000 - 0 -\n",
-        printed: "ok - 58e2fccefa7e3061367f1d57a4e7455a\n\
-                  refused 58e2fccefa7e3061367f1d57a4e7455a\n\
+        printed: "ok - <tag_1>\n\
+                  refused <tag_1>\n\
                   refused -\n",
         status: 0,
     },
@@ -76,7 +78,7 @@ const RUNS: [Run; 12] = [
                 keys 128 <zeros> 00000000 0000000000000000 000000000000000000001\n\
                 keys 128 <zeros> 00000000 0000000000000000 +1\n\
                 keys 128 <zeros> 00000000 0000000000000000 -\n",
-        printed: "ok\nok\nok 58e2fccefa7e3061367f1d57a4e7455a\nrefused\n\
+        printed: "ok\nok\nok <tag_1>\nrefused\n\
                   bad line\nbad line\nbad line\nbad line\n",
         status: 1,
     },
@@ -88,7 +90,7 @@ const RUNS: [Run; 12] = [
                 next-open <aad> 4 00000000<ciphertext><tag>\n\
                 next-open <aad> 4 00000000<ciphertext><tag>\n\
                 keys 128 <key> cafebabe facedbaddecaf888 1\n\
-                next-open <aad> 4 00000000<ciphertext>5bc94fbc3221a5db94fae95ae7121a46\n\
+                next-open <aad> 4 00000000<ciphertext><false_tag>\n\
                 next-seal <aad> <message>\n",
         printed: "ok\n\
                   ok <ciphertext><tag>\n\
@@ -96,7 +98,7 @@ const RUNS: [Run; 12] = [
                   ok <message> <message>3d58e091<tag>\n\
                   refused 00000000<ciphertext><tag>\n\
                   ok\n\
-                  refused 00000000<ciphertext>5bc94fbc3221a5db94fae95ae7121a46\n\
+                  refused 00000000<ciphertext><false_tag>\n\
                   ok <ciphertext><tag>\n",
         status: 0,
     },
@@ -112,17 +114,17 @@ const RUNS: [Run; 12] = [
                 next-seal - -\n\
                 keys 128 <zeros> 00000000 0000000000000000 0\n\
                 next-seal - -\n\
-                next-open - 0 58e2fccefa7e3061367f1d57a4e7455a\n",
+                next-open - 0 <tag_1>\n",
         printed: "ok\n\
                   refused\n\
                   refused\n\
-                  ok 0388dace60b6a392f328c2b971b2fe78ab6e47d42cec13bdf53a67b21257bddf\n\
+                  ok <ciphertext_2><tag_2>\n\
                   ok\n\
                   ok 146a01decd5caf4fbed83022cf474aeb\n\
                   refused\n\
                   ok\n\
                   refused\n\
-                  refused 58e2fccefa7e3061367f1d57a4e7455a\n",
+                  refused <tag_1>\n",
         status: 0,
     },
     Run {
@@ -134,7 +136,7 @@ const RUNS: [Run; 12] = [
                 next-seal - <zeros>\n\
                 keys 128 00 00000000 0000000000000000 1\n",
         printed: "ok\nbad line\nbad line\nbad line\n\
-                  ok 0388dace60b6a392f328c2b971b2fe78ab6e47d42cec13bdf53a67b21257bddf\n\
+                  ok <ciphertext_2><tag_2>\n\
                   refused\n",
         status: 1,
     },
@@ -155,8 +157,8 @@ const RUNS: [Run; 12] = [
                 open 128 00 00 - 0 ff\n\
                 open 128 <key> 00 - 0 ff\n\
                 open 256 <key> <nonce> - 0 <tag>\n\
-                mask aes128 9f50449e04a0e810283a1e9933adedd2 d1b1c98dd7689fb8ec11d242b123dc\n\
-                mask aes256 9f50449e04a0e810283a1e9933adedd2 d1b1c98dd7689fb8ec11d242b123dc9b\n\
+                mask aes128 <key> 000000000000000000000000000000\n\
+                mask aes256 <key> <zeros>\n\
                 mask chacha20 - -\n",
         printed: "refused\nrefused\nrefused\nrefused\nrefused\nrefused\nrefused ff\nrefused ff\nrefused <tag>\n\
                   refused\nrefused\nrefused\n",
@@ -232,23 +234,52 @@ fn answers(rt: &impl Abort, alloc: Global, input: &[u8], printed: &[u8], status:
     );
 }
 
-/// The bytes of test case 4 in place of their names.
-fn filled(alloc: Global, text: &str, case: &Case) -> Result<String, AllocError> {
-    let text = text.replace(alloc, "<key>", case.key)?;
-    let text = text.as_str().replace(alloc, "<nonce>", case.nonce)?;
-    let text = text.as_str().replace(alloc, "<aad>", case.aad)?;
-    let text = text.as_str().replace(alloc, "<message>", case.message)?;
-    let text = text
-        .as_str()
-        .replace(alloc, "<ciphertext>", case.ciphertext)?;
-    let text = text.as_str().replace(alloc, "<tag>", case.tag)?;
-    text.as_str()
-        .replace(alloc, "<zeros>", "00000000000000000000000000000000")
+/// The text with bytes in place of their names: of test cases 4 and 2, and a block of zeros.
+fn filled(alloc: Global, text: &str) -> Result<String, AllocError> {
+    let mut filled = with_tags(alloc, text)?;
+    for (name, bytes) in [
+        ("<key>", CASE_4.key),
+        ("<aad>", CASE_4.aad),
+        ("<message>", CASE_4.message),
+        ("<ciphertext>", CASE_4.ciphertext),
+        ("<ciphertext_2>", CASE_2.ciphertext),
+        ("<zeros>", CASE_2.message),
+    ] {
+        filled = with_bytes(alloc, filled.as_str(), name, bytes)?;
+    }
+    Ok(filled)
+}
+
+/// The text with the nonce of test case 4, and with tags: of the test cases, and test case 4's with its last bit flipped.
+fn with_tags(alloc: Global, text: &str) -> Result<String, AllocError> {
+    let mut filled = with_bytes(alloc, text, "<nonce>", &CASE_4.nonce)?;
+    let mut false_tag = CASE_4.tag;
+    false_tag[15] ^= 1;
+    for (name, tag) in [
+        ("<tag>", CASE_4.tag),
+        ("<false_tag>", false_tag),
+        ("<tag_1>", CASE_1.tag),
+        ("<tag_2>", CASE_2.tag),
+    ] {
+        filled = with_bytes(alloc, filled.as_str(), name, &tag)?;
+    }
+    Ok(filled)
+}
+
+/// The text with bytes in place of a name.
+fn with_bytes(
+    alloc: Global,
+    text: &str,
+    name: &'static str,
+    bytes: &[u8],
+) -> Result<String, AllocError> {
+    let hex = hex::encode(alloc, bytes)?;
+    text.replace(alloc, name, hex.as_str())
 }
 
 fn runs(rt: &impl Abort, alloc: Global, row: &Run) -> Result<(), Fail> {
-    let input = filled(alloc, row.input, &CASES[CASE_4])?;
-    let printed = filled(alloc, row.printed, &CASES[CASE_4])?;
+    let input = filled(alloc, row.input)?;
+    let printed = filled(alloc, row.printed)?;
     answers(rt, alloc, input.as_bytes(), printed.as_bytes(), row.status);
     Ok(())
 }
@@ -268,16 +299,54 @@ fn bad_lines(rt: HostRuntime) {
     }
 }
 
-/// The word of bytes in hex.
-fn word(bytes: &'static str) -> &'static str {
-    if bytes.is_empty() { "-" } else { bytes }
+/// The word of bytes.
+fn word(alloc: Global, bytes: &[u8]) -> Result<String, AllocError> {
+    if bytes.is_empty() {
+        String::from_str(alloc, "-")
+    } else {
+        hex::encode(alloc, bytes)
+    }
+}
+
+/// A line of words parted by one space, each of bytes but for the head.
+fn line(alloc: Global, head: &str, words: &[&[u8]]) -> Result<String, AllocError> {
+    let mut line = String::from_str(alloc, head)?;
+    for bytes in words {
+        line.push(' ')?;
+        line.push_str(word(alloc, bytes)?.as_str())?;
+    }
+    line.push('\n')?;
+    Ok(line)
+}
+
+fn seal_line<'a>(
+    alloc: Global,
+    algorithm: &str,
+    key: &'a [u8],
+    nonce: &'a [u8],
+    aad: &'a [u8],
+    message: &'a [u8],
+) -> Result<String, AllocError> {
+    let head = format!(in alloc; "seal {algorithm}")?;
+    line(alloc, head.as_str(), &[key, nonce, aad, message])
+}
+
+/// The answer to sealing.
+fn ok_line<'a>(alloc: Global, ciphertext: &'a [u8], tag: &'a [u8]) -> Result<String, AllocError> {
+    line(alloc, "ok", &[ciphertext, tag])
 }
 
 fn seals(rt: &impl Abort, alloc: Global, case: &Case) -> Result<(), Fail> {
-    let (aad, message) = (word(case.aad), word(case.message));
-    let head = format!(in alloc; "seal {} {} {}", case.word, case.key, case.nonce)?;
-    let input = format!(in alloc; "{head} {aad} {message}\n")?;
-    let printed = format!(in alloc; "ok {} {}\n", word(case.ciphertext), case.tag)?;
+    let algorithm = cases::word(case);
+    let input = seal_line(
+        alloc,
+        algorithm,
+        case.key,
+        &case.nonce,
+        case.aad,
+        case.message,
+    )?;
+    let printed = ok_line(alloc, case.ciphertext, &case.tag)?;
     answers(rt, alloc, input.as_bytes(), printed.as_bytes(), 0);
     Ok(())
 }
@@ -290,9 +359,11 @@ fn gcm_spec_cases(rt: HostRuntime) -> Result<(), Fail> {
     Ok(())
 }
 
-fn masks_of(rt: &impl Abort, alloc: Global, row: &Mask) -> Result<(), Fail> {
-    let input = format!(in alloc; "mask {} {} {}\n", row.word, row.key, row.sample)?;
-    let printed = format!(in alloc; "ok {}\n", row.mask)?;
+fn masks_so(rt: &impl Abort, alloc: Global, row: &Mask) -> Result<(), Fail> {
+    let head = format!(in alloc; "mask {}", row.word)?;
+    let input = line(alloc, head.as_str(), &[row.key, row.sample])?;
+    let mask = row.block.get(..5).ok_or("a mask")?;
+    let printed = line(alloc, "ok", &[mask])?;
     answers(rt, alloc, input.as_bytes(), printed.as_bytes(), 0);
     Ok(())
 }
@@ -300,30 +371,34 @@ fn masks_of(rt: &impl Abort, alloc: Global, row: &Mask) -> Result<(), Fail> {
 #[test]
 fn masks(rt: HostRuntime) -> Result<(), Fail> {
     for row in &MASKS {
-        masks_of(&rt, rt.alloc(), row)?;
+        masks_so(&rt, rt.alloc(), row)?;
     }
     Ok(())
 }
 
+const MEBIBYTE: usize = 1 << 20;
+
+/// A line that seals a mebibyte of zeros under a key and a nonce of zeros.
+fn line_of_a_mebibyte(alloc: Global) -> Result<String, Fail> {
+    let zeros = vec![in alloc; 0; MEBIBYTE]?;
+    Ok(seal_line(alloc, "128", CASE_2.key, &CASE_2.nonce, &[], &zeros)?)
+}
+
 #[test]
 fn a_message_of_a_mebibyte(rt: HostRuntime) -> Result<(), Fail> {
-    const LEN: usize = 1 << 20;
-    let alloc = rt.alloc();
-    let mut input = Vec::new(alloc);
-    input.extend_from_slice(
-        b"seal 128 00000000000000000000000000000000 000000000000000000000000 - ",
-    )?;
-    input.extend_from_slice(vec![in alloc; b'0'; 2 * LEN]?.as_slice())?;
-    input.push(b'\n')?;
-    let mut rest = input.as_slice();
-    let mut output = Vec::new(alloc);
-    holds(&rt, lines(alloc, &mut rest, &mut output) == 0, "the status");
-    holds(&rt, output.len() == 2 * LEN + 37, "the length");
+    let input = line_of_a_mebibyte(rt.alloc())?;
+    let mut rest = input.as_bytes();
+    let mut output = Vec::new(rt.alloc());
     holds(
         &rt,
-        output
-            .as_slice()
-            .starts_with(b"ok 0388dace60b6a392f328c2b971b2fe78"),
+        lines(rt.alloc(), &mut rest, &mut output) == 0,
+        "the status",
+    );
+    holds(&rt, output.len() == 2 * MEBIBYTE + 37, "the length");
+    let front = filled(rt.alloc(), "ok <ciphertext_2>")?;
+    holds(
+        &rt,
+        output.as_slice().starts_with(front.as_bytes()),
         "the first block",
     );
     // OpenSSL's last block and tag.

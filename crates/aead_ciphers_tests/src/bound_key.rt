@@ -1,14 +1,13 @@
 //! Keys over a counter and over a sequence that isn't one.
 
-ghost use Rattle.std.specs.Prelude.{◌≡◌, ◌↔◌, IsOk};
-
-use crate::vectors::{CASE_1, CASE_4, Vector, case_at, holds, same};
+use crate::cases::{aad, key, opened_at_4, sealed, unbound_key};
+use crate::checks::{holds, reads, same};
 use aead_ciphers::aead::{
-    AES_128_GCM, Aad, BoundKey, CounterSequence, LessSafeKey, NONCE_LEN, Nonce, NonceSequence,
-    OpeningKey, SealingKey, Unspecified,
+    AES_128_GCM, Aad, BoundKey, CounterSequence, NONCE_LEN, Nonce, NonceSequence, OpeningKey,
+    SealingKey, Unspecified,
 };
+use aead_vectors::gcm_spec::{CASE_1, CASE_4, Case};
 use arrayvec::ArrayVec;
-use std::alloc::Global;
 use std::process::Abort;
 use std::test::Fail;
 
@@ -37,41 +36,49 @@ impl NonceSequence for Once {
     }
 }
 
-fn spent_once(case: &Vector) -> Once {
+fn spent_once(case: &Case) -> Once {
     Once {
         nonce: case.nonce,
         is_spent: false,
     }
 }
 
-fn sealing_once(case: &Vector) -> Result<SealingKey<Once>, Fail> {
-    Ok(SealingKey::new(case.unbound_key()?, spent_once(case)))
+fn sealing_once(case: &Case) -> Result<SealingKey<Once>, Fail> {
+    Ok(SealingKey::new(unbound_key(case)?, spent_once(case)))
 }
 
-fn opening_once(case: &Vector) -> Result<OpeningKey<Once>, Fail> {
-    Ok(OpeningKey::new(case.unbound_key()?, spent_once(case)))
+fn opening_once(case: &Case) -> Result<OpeningKey<Once>, Fail> {
+    Ok(OpeningKey::new(unbound_key(case)?, spent_once(case)))
 }
 
-fn sealing(case: &Vector, count: u64) -> Result<SealingKey<CounterSequence>, Fail> {
+fn sealing(case: &Case, count: u64) -> Result<SealingKey<CounterSequence>, Fail> {
     let sequence = CounterSequence::new([0; 4], 0, count)?;
-    Ok(SealingKey::new(case.unbound_key()?, sequence))
+    Ok(SealingKey::new(unbound_key(case)?, sequence))
 }
 
-fn opening(case: &Vector, count: u64) -> Result<OpeningKey<CounterSequence>, Fail> {
+fn opening(case: &Case, count: u64) -> Result<OpeningKey<CounterSequence>, Fail> {
     let sequence = CounterSequence::new([0; 4], 0, count)?;
-    Ok(OpeningKey::new(case.unbound_key()?, sequence))
+    Ok(OpeningKey::new(unbound_key(case)?, sequence))
 }
 
 #[test]
 fn debug_texts(rt: HostRuntime) -> Result<(), Fail> {
-    let case = case_at(rt.alloc(), CASE_1)?;
-    let (sealing, opening) = (sealing_once(&case)?, opening_once(&case)?);
-    assert!(rt; *sealing.algorithm() == AES_128_GCM);
-    assert!(rt; *opening.algorithm() == AES_128_GCM);
+    let (sealing, opening) = (sealing_once(&CASE_1)?, opening_once(&CASE_1)?);
+    holds(
+        &rt,
+        *sealing.algorithm() == AES_128_GCM,
+        "the sealing key's",
+    );
+    holds(
+        &rt,
+        *opening.algorithm() == AES_128_GCM,
+        "the opening key's",
+    );
     let text = format!(in rt.alloc(); "{sealing:?} {opening:?}")?;
-    assert_eq!(rt;
+    reads(
+        &rt,
         text.as_str(),
-        "SealingKey { algorithm: AES_128_GCM } OpeningKey { algorithm: AES_128_GCM }"
+        "SealingKey { algorithm: AES_128_GCM } OpeningKey { algorithm: AES_128_GCM }",
     );
     Ok(())
 }
@@ -135,12 +142,10 @@ fn seals<N: NonceSequence>(
 
 #[test]
 fn seals_while_there_are_nonces(rt: HostRuntime) -> Result<(), Fail> {
-    let case = case_at(rt.alloc(), CASE_1)?;
     let nonce = Nonce::assume_unique_for_key([0, 0, 0, 0, 0, 0, 0, 0, 0, 0, 0, 1]);
-    let key: LessSafeKey = case.key()?;
-    let tag = key.seal_in_place_separate_tag(nonce, Aad::empty(), &mut [])?;
-    let mut sealing = sealing(&case, 2)?;
-    seals(&rt, &mut sealing, Aad::empty(), Some(&case.tag));
+    let tag = key(&CASE_1)?.seal_in_place_separate_tag(nonce, Aad::empty(), &mut [])?;
+    let mut sealing = sealing(&CASE_1, 2)?;
+    seals(&rt, &mut sealing, Aad::empty(), Some(&CASE_1.tag));
     seals(&rt, &mut sealing, Aad::empty(), Some(tag.as_ref()));
     seals(&rt, &mut sealing, Aad::empty(), None);
     seals(&rt, &mut sealing, Aad::empty(), None);
@@ -149,96 +154,95 @@ fn seals_while_there_are_nonces(rt: HostRuntime) -> Result<(), Fail> {
 
 #[test]
 fn a_refused_opening_spends_its_nonce(rt: HostRuntime) -> Result<(), Fail> {
-    let case = case_at(rt.alloc(), CASE_1)?;
-    let mut tag = case.tag;
-    let opened = opening(&case, 2)?.open_in_place_len(Aad::empty(), &mut tag);
+    let mut tag = CASE_1.tag;
+    let opened = opening(&CASE_1, 2)?.open_in_place_len(Aad::empty(), &mut tag);
     holds(&rt, opened == Ok(0), "no message");
-    let mut opening = opening(&case, 2)?;
+    let mut opening = opening(&CASE_1, 2)?;
     let mut short = [0; 15];
     let opened = opening.open_in_place(Aad::empty(), &mut short);
     holds(&rt, opened.is_err(), "no tag");
     let opened = opening.open_in_place_len(Aad::empty(), &mut tag);
     holds(&rt, opened.is_err(), "the second nonce");
-    same(&rt, &tag, &case.tag, "the tag stays");
+    same(&rt, &tag, &CASE_1.tag, "the tag stays");
     Ok(())
 }
 
 #[test]
 fn no_room_spends_no_nonce(rt: HostRuntime) -> Result<(), Fail> {
-    let case = case_at(rt.alloc(), CASE_1)?;
-    let mut sealing = sealing(&case, 1)?;
+    let mut sealing = sealing(&CASE_1, 1)?;
     let mut short = ArrayVec::<u8, 15>::new();
     let sealed = sealing.seal_in_place_append_tag(Aad::empty(), &mut short);
     holds(&rt, sealed.is_err() && short.is_empty(), "no room");
     let mut in_out = Vec::new(rt.alloc());
     sealing.seal_in_place_append_tag(Aad::empty(), &mut in_out)?;
-    same(&rt, &in_out, &case.tag, "the tag");
+    same(&rt, &in_out, &CASE_1.tag, "the tag");
     Ok(())
 }
 
-/// Appending to a message succeeds, or leaves the message.
+/// Appending to the message of test case 4 succeeds, or leaves the message.
 fn appends<const CAP: usize>(
     rt: &impl Abort,
     key: &mut SealingKey<Once>,
-    case: &Vector,
     in_out: &mut ArrayVec<u8, CAP>,
     wanted: Option<&[u8]>,
 ) -> Result<(), Fail> {
-    in_out.try_extend_from_slice(&case.message)?;
-    let sealed = key.seal_in_place_append_tag(case.aad(), in_out);
+    in_out.try_extend_from_slice(CASE_4.message)?;
+    let sealed = key.seal_in_place_append_tag(aad(&CASE_4), in_out);
     holds(rt, sealed.is_ok() == wanted.is_some(), "sealed or refused");
     same(
         rt,
         in_out.as_slice(),
-        wanted.unwrap_or(&case.message),
+        wanted.unwrap_or(CASE_4.message),
         "the buffer",
     );
     Ok(())
 }
 
 #[test]
-fn case_4_sealed(rt: HostRuntime) -> Result<(), Fail> {
-    let case = case_at(rt.alloc(), CASE_4)?;
-    let mut key = sealing_once(&case)?;
-    appends(&rt, &mut key, &case, &mut ArrayVec::<u8, 75>::new(), None)?;
-    let sealed = case.sealed(rt.alloc(), &[])?;
-    appends(
-        &rt,
-        &mut key,
-        &case,
-        &mut ArrayVec::<u8, 76>::new(),
-        Some(&sealed),
-    )?;
-    seals(&rt, &mut key, case.aad(), None);
+fn gcm_spec_case_4_sealed(rt: HostRuntime) -> Result<(), Fail> {
+    let mut key = sealing_once(&CASE_4)?;
+    appends(&rt, &mut key, &mut ArrayVec::<u8, 75>::new(), None)?;
+    let sealed = sealed(rt.alloc(), &CASE_4, &[])?;
+    appends(&rt, &mut key, &mut ArrayVec::<u8, 76>::new(), Some(&sealed))?;
+    seals(&rt, &mut key, aad(&CASE_4), None);
     Ok(())
 }
 
-fn opens_at_4(rt: &impl Abort, alloc: Global, case: &Vector) -> Result<(), Fail> {
-    let mut key = opening_once(case)?;
-    let mut packet = case.sealed(alloc, &[0; 4])?;
-    let plaintext = key.open_within(case.aad(), &mut packet, 4..)?;
-    same(rt, plaintext, &case.message, "the plaintext");
-    holds(
-        rt,
-        packet.as_slice().starts_with(&case.message),
-        "the plaintext in front",
-    );
-    let mut sealed = case.sealed(alloc, &[])?;
-    let opened = key.open_within(case.aad(), &mut sealed, 0..);
-    holds(rt, opened.is_err(), "the nonce is spent");
-    same(rt, &sealed, &case.sealed(alloc, &[])?, "the buffer stays");
-    let opened = opening_once(case)?.open_within_len(case.aad(), &mut sealed, 0..);
-    holds(rt, opened == Ok(60), "the message's length");
-    holds(
-        rt,
-        sealed.as_slice().starts_with(&case.message),
-        "the message",
-    );
+/// Opens test case 4 from byte 4 on.
+fn opens_at_4(rt: &impl Abort, key: &mut OpeningKey<Once>, packet: &mut [u8]) -> Result<(), Fail> {
+    let plaintext = key.open_within(aad(&CASE_4), packet, 4..)?;
+    same(rt, plaintext, CASE_4.message, "the plaintext");
     Ok(())
 }
 
 #[test]
-fn case_4_opened(rt: HostRuntime) -> Result<(), Fail> {
-    let case = case_at(rt.alloc(), CASE_4)?;
-    opens_at_4(&rt, rt.alloc(), &case)
+fn gcm_spec_case_4_opened_once(rt: HostRuntime) -> Result<(), Fail> {
+    let mut key = opening_once(&CASE_4)?;
+    let mut packet = sealed(rt.alloc(), &CASE_4, &[0; 4])?;
+    opens_at_4(&rt, &mut key, &mut packet)?;
+    same(
+        &rt,
+        &packet,
+        &opened_at_4(rt.alloc(), &CASE_4)?,
+        "the buffer",
+    );
+    let sealed = sealed(rt.alloc(), &CASE_4, &[])?;
+    let mut packet = sealed.clone()?;
+    let opened = key.open_within(aad(&CASE_4), &mut packet, 0..);
+    holds(&rt, opened.is_err(), "the nonce is spent");
+    same(&rt, &packet, &sealed, "the buffer stays");
+    Ok(())
+}
+
+#[test]
+fn gcm_spec_case_4_opened_len(rt: HostRuntime) -> Result<(), Fail> {
+    let mut packet = sealed(rt.alloc(), &CASE_4, &[])?;
+    let opened = opening_once(&CASE_4)?.open_within_len(aad(&CASE_4), &mut packet, 0..);
+    holds(&rt, opened == Ok(60), "the message's length");
+    holds(
+        &rt,
+        packet.as_slice().starts_with(CASE_4.message),
+        "the message in front",
+    );
+    Ok(())
 }

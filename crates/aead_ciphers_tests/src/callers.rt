@@ -4,6 +4,7 @@ ghost use Rattle.std.specs.Prelude.{◌≡◌, ◌+◌, ◌<◌, ◌≤◌, ◌�
 ghost use Rattle.arrayvec.specs.ArrayVec.{array_vec_len};
 ghost use Rattle.aead_ciphers_base.specs.Aes.{aes};
 ghost use Rattle.aead_ciphers_base.specs.Values.{aad_bytes};
+ghost use Rattle.aead_ciphers_base.specs.Work.{HasRoom};
 ghost use Rattle.aead_ciphers.specs.Algorithm.{id};
 ghost use Rattle.aead_ciphers.specs.Gcm.{Fits, decrypted};
 
@@ -11,6 +12,8 @@ use aead_ciphers::aead::lend::parts_if;
 use aead_ciphers::aead::{
     AES_128_GCM, AES_256_GCM, Aad, Algorithm, LessSafeKey, Nonce, Tag, Unspecified, quic,
 };
+use aead_ciphers::aes_gcm;
+use aead_ciphers_base::aes::Work;
 use arrayvec::ArrayVec;
 
 /// Equal exactly where the ids are.
@@ -76,4 +79,21 @@ pub(crate) fn append<const CAP: usize>(
         × (array_vec_len in_out.old + 16 ≤ CAP)) }
 {
     key.seal_in_place_append_tag(nonce, aad, in_out)
+}
+
+/// Seals where the tallies have room, which is enough for one call, of whatever lengths.
+pub(crate) fn seal_where_room(
+    key: &aes_gcm::Key,
+    nonce: Nonce,
+    aad: Aad<'_>,
+    in_out: &mut [u8],
+    work: &mut Work,
+) -> Result<Tag, Unspecified>
+    ensures { IsOk result ↔ (HasRoom work.old
+        × Fits (length (aad_bytes aad.entry)) (length in_out.old)) }
+{
+    if !work.has_room() {
+        return Err(Unspecified);
+    }
+    aes_gcm::seal(key, nonce, aad, in_out, work)
 }

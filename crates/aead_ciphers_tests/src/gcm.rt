@@ -1,26 +1,19 @@
 //! `gcm`: values of the GCM specification's test cases, and what no clause says.
 
 ghost use Rattle.std.specs.Prelude.{◌≡◌, ℕ, ◌<◌, ◌≤◌, List, [], ◌∷◌, length};
+ghost use Rattle.aead_vectors.specs.declared.gcm_spec.TheConstants.{CASE_2_CIPHERTEXT, CASE_2_GHASH, CASE_2_H, CASE_2_X_1};
 ghost use Rattle.std.specs.Int.{to_be_bytes, w128};
 ghost use Rattle.aead_ciphers.specs.Ghash.{IsBlock, ◌•◌, ghash, unit_block};
 
-use crate::vectors::{CASE_4, case_at, holds, same};
+use crate::checks::{holds, same};
 use aead_ciphers::gcm::{Context, Key, KeyValue, MAX_IN_OUT_LEN, UpdateBlock, UpdateBlocks, Xi};
 use aead_ciphers_base::aes::{self, BLOCK_LEN, EncryptBlock, KeyBytes, Work, ZERO_BLOCK};
 use aead_ciphers_base::error::Unspecified;
 use aead_ciphers_base::polyfill::slice::as_chunks;
 use aead_ciphers_base::values::{Aad, Tag};
+use aead_vectors::gcm_spec;
 use std::process::Abort;
 use std::test::Fail;
-
-// The hash subkey of test cases 1 and 2: the cipher of the zero block under the AES-128 key of zeros.
-const CASE_2_H: u128 = 0x66e94bd4ef8a2c3b884cfa59ca342b2e;
-
-// The ciphertext of test case 2.
-const CASE_2_CIPHERTEXT: u128 = 0x0388dace60b6a392f328c2b971b2fe78;
-
-// The hash subkey of test case 4.
-const CASE_4_H: u128 = 0xb83b533708bf535d0aa6e52980d53b78;
 
 // The block 80 00 .. 00 is the unit of the product.
 fn unit_of_the_product()
@@ -31,47 +24,50 @@ fn unit_of_the_product()
 fn gcm_spec_products()
     ensures reduced { to_be_bytes w128 1 • to_be_bytes w128 0x4000_0000_0000_0000_0000_0000_0000_0000
         ≡ to_be_bytes w128 0xe100_0000_0000_0000_0000_0000_0000_0000 }
-    ensures case_2 { to_be_bytes w128 0x0388dace60b6a392f328c2b971b2fe78
-        • to_be_bytes w128 0x66e94bd4ef8a2c3b884cfa59ca342b2e
-        ≡ to_be_bytes w128 0x5e2ec746917062882c85b0685353deb7 }
+    ensures case_2 { CASE_2_CIPHERTEXT • CASE_2_H ≡ CASE_2_X_1 }
 {}
 
 // GHASH of test case 2's ciphertext and length block, by the definition.
 fn gcm_spec_case_2_ghash()
-    ensures { ghash (to_be_bytes w128 0x66e94bd4ef8a2c3b884cfa59ca342b2e)
-        (to_be_bytes w128 0x0388dace60b6a392f328c2b971b2fe78 ∷ to_be_bytes w128 0x80 ∷ [])
-        ≡ to_be_bytes w128 0xf38cbb1ad69223dcc3457ae5b6b0f885 }
+    ensures { ghash CASE_2_H (CASE_2_CIPHERTEXT ∷ to_be_bytes w128 0x80 ∷ []) ≡ CASE_2_GHASH }
 {}
 
-fn key(h: u128) -> Key {
-    Key::new(KeyValue::new(h.to_be_bytes()))
+fn key(h: [u8; 16]) -> Key {
+    Key::new(KeyValue::new(h))
 }
 
 /// Takes in a block: the hash is then this one.
-fn hashes(rt: &impl Abort, key: &Key, xi: &mut Xi, block: u128, wanted: u128) {
-    key.update_block(xi, block.to_be_bytes(), &mut Work::new());
-    same(rt, xi.as_ref(), &wanted.to_be_bytes(), "the hash");
+fn hashes(rt: &impl Abort, key: &Key, xi: &mut Xi, block: [u8; 16], wanted: &[u8; 16]) {
+    key.update_block(xi, block, &mut Work::new());
+    same(rt, xi.as_ref(), wanted, "the hash");
 }
 
 #[test]
 fn gcm_spec_case_2(rt: HostRuntime) {
-    let key = key(CASE_2_H);
+    let key = key(gcm_spec::CASE_2_H);
+    let lengths: u128 = 0x80;
     let mut xi = Xi::zero();
     hashes(
         &rt,
         &key,
         &mut xi,
-        CASE_2_CIPHERTEXT,
-        0x5e2ec746917062882c85b0685353deb7,
+        gcm_spec::CASE_2_CIPHERTEXT,
+        &gcm_spec::CASE_2_X_1,
     );
-    hashes(&rt, &key, &mut xi, 0x80, 0xf38cbb1ad69223dcc3457ae5b6b0f885);
+    hashes(
+        &rt,
+        &key,
+        &mut xi,
+        lengths.to_be_bytes(),
+        &gcm_spec::CASE_2_GHASH,
+    );
 }
 
 #[test]
 fn subkey_of_gcm_spec_case_2(rt: HostRuntime) -> Result<(), Fail> {
     let key = aes::Key::new(KeyBytes::AES_128(&[0; 16]))?;
     let subkey = key.encrypt_block(ZERO_BLOCK, &mut Work::new());
-    same(&rt, &subkey, &CASE_2_H.to_be_bytes(), "the hash subkey");
+    same(&rt, &subkey, &gcm_spec::CASE_2_H, "the hash subkey");
     Ok(())
 }
 
@@ -94,7 +90,7 @@ fn in_pieces(key: &Key, bytes: &[u8; 80], cuts: u8) -> Xi {
 
 #[test]
 fn five_blocks_in_pieces(rt: HostRuntime) {
-    let key = key(CASE_2_H);
+    let key = key(gcm_spec::CASE_2_H);
     let mut bytes = [0; 80];
     for i in 0..80 {
         bytes[i] = i as u8;
@@ -108,7 +104,7 @@ fn five_blocks_in_pieces(rt: HostRuntime) {
 
 /// A context for so many bytes is made, or not.
 fn makes(rt: &impl Abort, len: usize, is_made: bool) {
-    let key = key(CASE_2_H);
+    let key = key(gcm_spec::CASE_2_H);
     let context = Context::new(&key, Aad::empty(), len, &mut Work::new());
     holds(rt, context.is_ok() == is_made, "a context's length");
 }
@@ -137,16 +133,8 @@ fn hash_of<K: UpdateBlocks>(key: &K, aad: &[u8], ciphertext: &[u8]) -> Result<Ta
 
 #[test]
 fn gcm_spec_case_4(rt: HostRuntime) -> Result<(), Fail> {
-    let case = case_at(rt.alloc(), CASE_4)?;
-    holds(
-        &rt,
-        case.aad.len() == 20 && case.ciphertext.len() == 60,
-        "the lengths",
-    );
-    if case.aad.len() < 1000 && case.ciphertext.len() < 1000 {
-        let hash = hash_of(&key(CASE_4_H), &case.aad, &case.ciphertext)?;
-        let wanted: u128 = 0x698e57f70e6ecc7fd9463b7260a9ae5f;
-        same(&rt, hash.as_ref(), &wanted.to_be_bytes(), "the hash");
-    }
+    let case = gcm_spec::CASE_4;
+    let hash = hash_of(&key(gcm_spec::CASE_4_H), case.aad, case.ciphertext)?;
+    same(&rt, hash.as_ref(), &gcm_spec::CASE_4_GHASH, "the hash");
     Ok(())
 }

@@ -7,19 +7,39 @@ mod aead;
 #[cfg(test)]
 mod aeadrun;
 #[cfg(test)]
+mod aes;
+#[cfg(test)]
 mod aes_gcm;
+#[cfg(test)]
+mod bb;
 #[cfg(test)]
 mod bound_key;
 #[cfg(test)]
 mod callers;
 #[cfg(test)]
+mod cases;
+#[cfg(test)]
+mod chacha;
+#[cfg(test)]
+mod checks;
+#[cfg(test)]
+mod chunks;
+#[cfg(test)]
 mod gcm;
+#[cfg(test)]
+mod items;
+#[cfg(test)]
+mod laws;
+#[cfg(test)]
+mod masks;
 #[cfg(test)]
 mod memory;
 #[cfg(test)]
-mod plain;
+mod overlapping;
 #[cfg(test)]
 mod quic;
+#[cfg(test)]
+mod reference;
 #[cfg(test)]
 mod refusals;
 #[cfg(test)]
@@ -27,4 +47,4 @@ mod session;
 #[cfg(test)]
 mod streams;
 #[cfg(test)]
-mod vectors;
+mod values;

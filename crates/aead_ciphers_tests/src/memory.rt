@@ -1,6 +1,6 @@
 //! Where memory is refused: `tools/allocations` runs these tests once more, with one allocation refused.
 
-use crate::vectors::{holds, same};
+use crate::checks::{holds, same};
 use aead_ciphers::aead::{
     AES_128_GCM, Aad, BoundKey, CounterSequence, LessSafeKey, Nonce, OpeningKey, SealingKey,
     UnboundKey, Unspecified,

@@ -2,58 +2,36 @@
 
 ghost use Rattle.std.specs.Prelude.{◌≡◌};
 ghost use Rattle.aead_ciphers_base.specs.Mask.{chacha_mask};
+ghost use Rattle.aead_vectors.specs.declared.rfc_9001.TheConstants.{A_5_KEY, A_5_MASK, A_5_SAMPLE};
 
 use crate::callers::same_quic_algorithm;
-use crate::vectors::{MASKS, bytes, holds, same};
+use crate::checks::{holds, reads, same};
+use crate::masks::{MASKS, Mask};
 use aead_ciphers::aead::quic::{AES_128, AES_256, Algorithm, CHACHA20, HeaderProtectionKey};
 use aead_ciphers_base::chacha::{self, Overlapping};
 use aead_ciphers_base::values::Nonce;
-use std::alloc::Global;
+use aead_vectors::rfc_9001::A_5_KEY;
 use std::process::Abort;
 use std::test::Fail;
 
-// The header protection key, the sample and the mask of RFC 9001 appendix A.5.
-const KEY: [u8; 32] = [
-    0x25, 0xa2, 0x82, 0xb9, 0xe8, 0x2f, 0x06, 0xf2, 0x1f, 0x48, 0x89, 0x17, 0xa4, 0xfc, 0x8f, 0x1b,
-    0x73, 0x57, 0x36, 0x85, 0x60, 0x85, 0x97, 0xd0, 0xef, 0xcb, 0x07, 0x6b, 0x0a, 0xb7, 0xa7, 0xa4,
-];
-
-const SAMPLE: [u8; 16] = [
-    0x5e, 0x5c, 0xd5, 0x5c, 0x41, 0xf6, 0x90, 0x80, 0x57, 0x5d, 0x79, 0x99, 0xc2, 0x5a, 0x5b, 0xfb,
-];
-
-const MASK: [u8; 5] = [0xae, 0xfe, 0xfe, 0x7d, 0x03];
-
 // The definition gives the mask of appendix A.5.
 fn rfc_9001_a_5_mask()
-    ensures { chacha_mask KEY SAMPLE ≡ MASK }
+    ensures { chacha_mask A_5_KEY A_5_SAMPLE ≡ A_5_MASK }
 {}
 
-/// The key of these bytes gives this mask of a sample.
-fn gives(
-    rt: &impl Abort,
-    algorithm: &Algorithm,
-    key: &[u8],
-    sample: &[u8],
-    mask: &[u8],
-) -> Result<(), Fail> {
-    let key = HeaderProtectionKey::new(algorithm, key)?;
-    same(rt, &key.new_mask(sample)?, mask, "the mask");
-    Ok(())
-}
-
-fn masks_of(rt: &impl Abort, alloc: Global) -> Result<(), Fail> {
-    for row in &MASKS {
-        let key = bytes(alloc, row.key)?;
-        let sample = bytes(alloc, row.sample)?;
-        gives(rt, row.algorithm, &key, &sample, &bytes(alloc, row.mask)?)?;
-    }
+/// The key gives the first bytes of the block.
+fn masks_so(rt: &impl Abort, row: &Mask) -> Result<(), Fail> {
+    let mask = HeaderProtectionKey::new(row.algorithm, row.key)?.new_mask(row.sample)?;
+    holds(rt, row.block.starts_with(&mask), row.word);
     Ok(())
 }
 
 #[test]
 fn masks(rt: HostRuntime) -> Result<(), Fail> {
-    masks_of(&rt, rt.alloc())
+    for row in &MASKS {
+        masks_so(&rt, row)?;
+    }
+    Ok(())
 }
 
 // The first four bytes of a sample are a counter, and the others a nonce (RFC 9001 section 5.4.4).
@@ -63,8 +41,10 @@ fn mask_at_the_last_counter(rt: HostRuntime) -> Result<(), Fail> {
     let sample = [255, 255, 255, 255, 1, 2, 3, 4, 5, 6, 7, 8, 9, 10, 11, 12];
     let mut bytes = [0; 5];
     let counter = chacha::Counter::from_nonce_and_ctr(nonce, u32::MAX);
-    chacha::Key::new(KEY).encrypt(counter, Overlapping::from(bytes.as_mut_slice()));
-    gives(&rt, &CHACHA20, &KEY, &sample, &bytes)
+    chacha::Key::new(A_5_KEY).encrypt(counter, Overlapping::from(bytes.as_mut_slice()));
+    let mask = HeaderProtectionKey::new(&CHACHA20, &A_5_KEY)?.new_mask(&sample)?;
+    same(&rt, &mask, &bytes, "the mask");
+    Ok(())
 }
 
 /// Keys and samples of a byte more or less are refused.
@@ -104,6 +84,6 @@ fn other_lengths_are_refused(rt: HostRuntime) -> Result<(), Fail> {
 #[test]
 fn debug_texts(rt: HostRuntime) -> Result<(), Fail> {
     let text = format!(in rt.alloc(); "{AES_128:?} {AES_256:?} {CHACHA20:?}")?;
-    assert_eq!(rt; text.as_str(), "AES_128 AES_256 CHACHA20");
+    reads(&rt, text.as_str(), "AES_128 AES_256 CHACHA20");
     Ok(())
 }

@@ -1,20 +1,22 @@
 //! `session`: runs of jobs with the bytes of test case 2.
 
-use crate::vectors::{CASE_2, Vector, case_at, holds, same};
+use crate::cases::{sealed, unbound_key};
+use crate::checks::{holds, same};
 use aead_ciphers::aead::{BoundKey, CounterSequence, OpeningKey, SealingKey};
 use aead_ciphers::session::{Job, Operation, Outcome, run};
+use aead_vectors::gcm_spec::CASE_2;
 use std::alloc::Global;
 use std::process::Abort;
 use std::test::Fail;
 
-fn sealing(case: &Vector, count: u64) -> Result<SealingKey<CounterSequence>, Fail> {
+fn sealing(count: u64) -> Result<SealingKey<CounterSequence>, Fail> {
     let sequence = CounterSequence::new([0; 4], 0, count)?;
-    Ok(SealingKey::new(case.unbound_key()?, sequence))
+    Ok(SealingKey::new(unbound_key(&CASE_2)?, sequence))
 }
 
-fn opening(case: &Vector, count: u64) -> Result<OpeningKey<CounterSequence>, Fail> {
+fn opening(count: u64) -> Result<OpeningKey<CounterSequence>, Fail> {
     let sequence = CounterSequence::new([0; 4], 0, count)?;
-    Ok(OpeningKey::new(case.unbound_key()?, sequence))
+    Ok(OpeningKey::new(unbound_key(&CASE_2)?, sequence))
 }
 
 /// A job of a buffer, with an outcome that no run gives it.
@@ -33,51 +35,54 @@ fn ended(rt: &impl Abort, job: Option<&Job>, outcome: Outcome, buffer: &[u8]) {
     same(rt, &job.buffer, buffer, "the buffer");
 }
 
+/// What an opened buffer holds: the message, and the tag behind it.
+fn opened(alloc: Global) -> Result<Vec<u8>, Fail> {
+    let mut bytes = CASE_2.message.to_vec(alloc)?;
+    bytes.extend_from_slice(&CASE_2.tag)?;
+    Ok(bytes)
+}
+
+/// Seals and opens the case twice, with one nonce for each key.
+fn jobs_of_case_2(alloc: Global, sealed: &[u8]) -> Result<Vec<Job>, Fail> {
+    let mut jobs = Vec::new(alloc);
+    for _ in 0..2u8 {
+        jobs.push(job(alloc, Operation::Seal, CASE_2.message)?)?;
+        jobs.push(job(alloc, Operation::Open(0), sealed)?)?;
+    }
+    Ok(jobs)
+}
+
 #[test]
 fn seals_and_opens_once(rt: HostRuntime) -> Result<(), Fail> {
-    let alloc = rt.alloc();
-    let case = case_at(alloc, CASE_2)?;
-    let sealed = case.sealed(alloc, &[])?;
-    let mut jobs = Vec::new(alloc);
-    for (operation, buffer) in [
-        (Operation::Seal, &case.message),
-        (Operation::Open(0), &sealed),
-        (Operation::Seal, &case.message),
-        (Operation::Open(0), &sealed),
-    ] {
-        jobs.push(job(alloc, operation, buffer)?)?;
-    }
-    run(&mut sealing(&case, 1)?, &mut opening(&case, 1)?, &mut jobs);
+    let sealed = sealed(rt.alloc(), &CASE_2, &[])?;
+    let mut jobs = jobs_of_case_2(rt.alloc(), &sealed)?;
+    run(&mut sealing(1)?, &mut opening(1)?, &mut jobs);
     ended(&rt, jobs.get(0), Outcome::Sealed, &sealed);
-    ended(&rt, jobs.get(1), Outcome::Opened(16), &opened(&case)?);
-    ended(&rt, jobs.get(2), Outcome::Refused, &case.message);
+    ended(&rt, jobs.get(1), Outcome::Opened(16), &opened(rt.alloc())?);
+    ended(&rt, jobs.get(2), Outcome::Refused, CASE_2.message);
     ended(&rt, jobs.get(3), Outcome::Refused, &sealed);
     Ok(())
 }
 
-/// What an opened buffer holds: the message, and the tag behind it.
-fn opened(case: &Vector) -> Result<Vec<u8>, Fail> {
-    let mut bytes = case.message.clone()?;
-    bytes.extend_from_slice(&case.tag)?;
-    Ok(bytes)
+/// The first `count` jobs sealed 20 bytes; those behind them were refused, and each buffer stays.
+fn sealed_so_many(rt: &impl Abort, jobs: &[Job], count: u8) {
+    for (i, job) in (0..5u8).zip(jobs.iter()) {
+        if i < count {
+            holds(rt, job.outcome == Outcome::Sealed, "sealed");
+            holds(rt, job.buffer.len() == 36, "the ciphertext and tag");
+        } else {
+            ended(rt, Some(job), Outcome::Refused, &[i; 20]);
+        }
+    }
 }
 
 #[test]
 fn refuses_once_the_nonces_are_spent(rt: HostRuntime) -> Result<(), Fail> {
-    let alloc = rt.alloc();
-    let case = case_at(alloc, CASE_2)?;
-    let mut jobs = Vec::new(alloc);
+    let mut jobs = Vec::new(rt.alloc());
     for i in 0..5u8 {
-        jobs.push(job(alloc, Operation::Seal, &[i; 20])?)?;
+        jobs.push(job(rt.alloc(), Operation::Seal, &[i; 20])?)?;
     }
-    run(&mut sealing(&case, 2)?, &mut opening(&case, 0)?, &mut jobs);
-    for (i, job) in (0..5u8).zip(jobs.iter()) {
-        if i < 2 {
-            holds(&rt, job.outcome == Outcome::Sealed, "sealed");
-            holds(&rt, job.buffer.len() == 36, "the ciphertext and tag");
-        } else {
-            ended(&rt, Some(job), Outcome::Refused, &[i; 20]);
-        }
-    }
+    run(&mut sealing(2)?, &mut opening(0)?, &mut jobs);
+    sealed_so_many(&rt, &jobs, 2);
     Ok(())
 }

@@ -1,6 +1,6 @@
 //! `aeadrun` over streams of which each call fails in turn.
 
-use crate::vectors::{holds, same};
+use crate::checks::{holds, same};
 use aead_ciphers::aeadrun::{FAULT, lines};
 use std::alloc::Global;
 use std::io::{self, BufReader, BufWriter, Read, Write};

@@ -35,7 +35,9 @@ impl Algorithm {
 
     /// The length of a key, in bytes.
     pub fn key_len(&self) -> usize
-        ensures { result ≡ key_len self.now }
+        ensures len { result ≡ key_len self.now }
+        ensures aes_128_gcm { self.now ≡ AES_128_GCM → result ≡ 16 }
+        ensures aes_256_gcm { self.now ≡ AES_256_GCM → result ≡ 32 }
     {
         match self.id {
             AlgorithmId::AES_128_GCM => AES_128_KEY_LEN,
@@ -76,6 +78,11 @@ impl Algorithm {
 }
 
 impl fmt::Debug for Algorithm {
+    ghost use Rattle.std.specs.Prelude.{Some};
+    ghost use Rattle.aead_ciphers.specs.Algorithm.{debug_text};
+
+    ghost debug_output = { λ algorithm. Some (debug_text algorithm) };
+
     fn fmt<W: fmt::Write>(&self, f: &mut fmt::Formatter<W>) -> fmt::Result {
         match self.id {
             AlgorithmId::AES_128_GCM => write!(f, "AES_128_GCM"),

@@ -41,9 +41,9 @@ pub trait InOut {
 
 /// Growing is refused only where its room doesn't suffice and the allocator refused to give more.
 impl InOut for Vec<u8> {
-    ghost use Rattle.std.specs.Prelude.{◌+◌, ◌<◌, ⊤, vec_len, vec_capacity};
+    ghost use Rattle.std.specs.Prelude.{◌+◌, ◌-◌, ◌<◌, ◌≤◌, ⊤, length, take, vec_len, vec_capacity};
     ghost use Rattle.std.specs.Vec.{with_items};
-    ghost use Rattle.std.proofs.Common.{sym, ◌∙◌};
+    ghost use Rattle.std.proofs.Common.{rules};
     ghost use Rattle.std.proofs.lemmas.List.{with_items_is};
 
     ghost bytes = { λ v. v.items };
@@ -54,7 +54,7 @@ impl InOut for Vec<u8> {
 
     ghost may_grant = { λ _. ⊤ };
 
-    ghost bytes_with_bytes = { λ v bs e. with_items_is v bs (e ∙ sym v.ok.0) };
+    ghost bytes_with_bytes = { λ v bs e. with_items_is v bs (Prim.search rules) };
 
     fn as_mut_bytes(&mut self) -> &mut [u8] {
         self.as_mut_slice()
@@ -65,7 +65,11 @@ impl InOut for Vec<u8> {
             .map_err(|_| Unspecified)
     }
 
-    fn cut_tag(&mut self) {
+    fn cut_tag(&mut self)
+        requires { 16 ≤ length self.old.items }
+        ensures bytes { self.new.items ≡ take (length self.old.items - 16) self.old.items }
+        ensures capacity { vec_capacity self.new ≡ vec_capacity self.old }
+    {
         let len = self.len() - MAX_TAG_LEN;
         self.truncate(len);
     }

@@ -270,6 +270,11 @@ impl LessSafeKey {
 }
 
 impl fmt::Debug for LessSafeKey {
+    ghost use Rattle.std.specs.Prelude.{Some, codes};
+    ghost use Rattle.aead_ciphers.specs.AeadKey.{key_debug_text};
+
+    ghost debug_output = { λ key. Some (key_debug_text (codes "LessSafeKey") key) };
+
     fn fmt<W: fmt::Write>(&self, f: &mut fmt::Formatter<W>) -> fmt::Result {
         let algorithm = self.algorithm;
         write!(f, "LessSafeKey {{ algorithm: {algorithm:?} }}")

@@ -28,6 +28,11 @@ impl<N> Model for OpeningKey<N> {
 }
 
 impl<N> fmt::Debug for OpeningKey<N> {
+    ghost use Rattle.std.specs.Prelude.{Some, codes};
+    ghost use Rattle.aead_ciphers.specs.AeadKey.{key_debug_text};
+
+    ghost debug_output = { λ bound. Some (key_debug_text (codes "OpeningKey") bound.key) };
+
     fn fmt<W: fmt::Write>(&self, f: &mut fmt::Formatter<W>) -> fmt::Result {
         let algorithm = self.key.algorithm();
         write!(f, "OpeningKey {{ algorithm: {algorithm:?} }}")

@@ -40,6 +40,11 @@ pub const CHACHA20: Algorithm = Algorithm {
 };
 
 impl fmt::Debug for Algorithm {
+    ghost use Rattle.std.specs.Prelude.{Some};
+    ghost use Rattle.aead_ciphers.specs.HeaderProtection.{debug_text};
+
+    ghost debug_output = { λ algorithm. Some (debug_text algorithm) };
+
     fn fmt<W: fmt::Write>(&self, f: &mut fmt::Formatter<W>) -> fmt::Result {
         match self.id {
             AlgorithmId::AES_128 => write!(f, "AES_128"),
@@ -54,7 +59,10 @@ impl Algorithm {
 
     /// The length of a key, in bytes.
     pub fn key_len(&self) -> usize
-        ensures { result ≡ key_len self.now }
+        ensures len { result ≡ key_len self.now }
+        ensures aes_128 { self.now ≡ AES_128 → result ≡ 16 }
+        ensures aes_256 { self.now ≡ AES_256 → result ≡ 32 }
+        ensures chacha20 { self.now ≡ CHACHA20 → result ≡ 32 }
     {
         match self.id {
             AlgorithmId::AES_128 => AES_128_KEY_LEN,

@@ -26,6 +26,11 @@ impl<N> Model for SealingKey<N> {
 }
 
 impl<N> fmt::Debug for SealingKey<N> {
+    ghost use Rattle.std.specs.Prelude.{Some, codes};
+    ghost use Rattle.aead_ciphers.specs.AeadKey.{key_debug_text};
+
+    ghost debug_output = { λ bound. Some (key_debug_text (codes "SealingKey") bound.key) };
+
     fn fmt<W: fmt::Write>(&self, f: &mut fmt::Formatter<W>) -> fmt::Result {
         let algorithm = self.key.algorithm();
         write!(f, "SealingKey {{ algorithm: {algorithm:?} }}")

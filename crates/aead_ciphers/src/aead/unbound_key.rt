@@ -49,6 +49,11 @@ impl UnboundKey {
 }
 
 impl fmt::Debug for UnboundKey {
+    ghost use Rattle.std.specs.Prelude.{Some, codes};
+    ghost use Rattle.aead_ciphers.specs.AeadKey.{key_debug_text};
+
+    ghost debug_output = { λ key. Some (key_debug_text (codes "UnboundKey") key) };
+
     fn fmt<W: fmt::Write>(&self, f: &mut fmt::Formatter<W>) -> fmt::Result {
         let algorithm = self.algorithm();
         write!(f, "UnboundKey {{ algorithm: {algorithm:?} }}")

@@ -1,5 +1,5 @@
 //! The calls of the library that commands ask for.
-ghost use Rattle.std.specs.Prelude.{◌≡◌, ◌+◌, ◌^◌, ◌<◌, ◌≤◌, ◌↔◌, ⊤, true, false, length, vec_len, vec_capacity, is_ok, IsOk, IsErr, IfOk, OnOk, OnErr};
+ghost use Rattle.std.specs.Prelude.{◌≡◌, ◌-◌, ◌+◌, ◌^◌, ◌<◌, ◌≤◌, ◌↔◌, ⊤, true, false, length, vec_len, vec_capacity, is_ok, IsOk, IsErr, IfOk, OnOk, OnErr};
 ghost use Rattle.aead_ciphers.specs.AesGcm.{aes_encrypted, aes_tag, AesOpenedAttached};
 ghost use Rattle.aead_ciphers.specs.Algorithm.{key_len};
 ghost use Rattle.aead_ciphers.specs.Gcm.{Fits};
@@ -55,6 +55,7 @@ pub(super) fn open(
     in_out: &mut [u8],
 ) -> Result<usize, Unspecified>
     ensures within { IfOk result (λ count. count ≤ length in_out.new) }
+    ensures count { IfOk result (λ count. count ≡ length in_out.old - 16 - start) }
     ensures opened { length key.now ≡ key_len algorithm.now → length nonce.now ≡ NONCE_LEN
         → AesOpenedAttached key.now nonce.now aad.now start in_out.old (is_ok result) in_out.new }
     ensures key_length { (length key.now ≡ key_len algorithm.now → ⊥)
@@ -115,7 +116,8 @@ impl Keys {
         })
     }
 
-    /// Encrypts a message with the next nonce, and gives the ciphertext and its tag.
+    /// Encrypts a message with the next nonce, and gives the ciphertext and its tag. Where the message can't grow by the
+    /// tag, it is refused and no nonce is spent.
     pub(super) fn next_seal(
         &mut self,
         aad: Vec<u8>,
@@ -145,6 +147,7 @@ impl Keys {
         buffer: Vec<u8>,
     ) -> (Vec<u8>, Result<usize, Unspecified>)
         ensures within { IfOk result.1 (λ count. count ≤ vec_len result.0) }
+        ensures count { IfOk result.1 (λ count. count ≡ vec_len buffer - 16 - start) }
         ensures opened { OpenStep spent_nonces is_used_up self.old.opening self.new.opening aad.items start
             buffer.items result.0.items (is_ok result.1) }
         ensures kept { self.new.sealing ≡ self.old.sealing }

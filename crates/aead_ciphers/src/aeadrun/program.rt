@@ -3,7 +3,6 @@
 use super::answers::{bytes_answer, keys_answer, open_answer, seal_answer};
 use super::calls::{Keys, mask, open, seal};
 use super::line::{Command, LineError};
-use crate::aead::MAX_TAG_LEN;
 use std::alloc::{AllocError, Global};
 
 /// The program between two lines.
@@ -74,12 +73,10 @@ impl Program {
                 }
                 answer
             }
-            Command::NextSeal { aad, mut message } => {
+            Command::NextSeal { aad, message } => {
                 let Some(keys) = &mut self.keys else {
                     return Ok(None);
                 };
-                // With room for the tag, want of memory is never the cause of a refusal.
-                message.reserve(MAX_TAG_LEN)?;
                 bytes_answer(alloc, keys.next_seal(aad, message))?
             }
             Command::NextOpen { aad, start, buffer } => {

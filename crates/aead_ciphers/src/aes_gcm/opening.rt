@@ -3,7 +3,7 @@
 ghost use Rattle.std.specs.Prelude.{◌≡◌, ◌≤◌, ◌<◌, ◌-◌, length, OnOk, OnErr, is_ok};
 ghost use Rattle.aead_ciphers_base.specs.Bytes.{zero_block};
 ghost use Rattle.aead_ciphers_base.specs.Values.{aad_bytes};
-ghost use Rattle.aead_ciphers_base.specs.Work.{Adds, HasRoom};
+ghost use Rattle.aead_ciphers_base.specs.Work.{Adds, Room};
 ghost use Rattle.aead_ciphers.specs.Gcm.{Fits, Opened, sealing_blocks, sealing_products};
 
 use super::counter_mode::encrypt_within;
@@ -27,7 +27,8 @@ pub(super) fn open_with<A: EncryptCtr32, G: UpdateBlocks>(
     src: RangeFrom<usize>,
     work: &mut Work,
 ) -> Result<(), Unspecified>
-    requires room { HasRoom work.old }
+    requires room { let n = length in_out.old - src.start in let a = length (aad_bytes aad) in
+        Fits a n → Room work.old (sealing_blocks n) (sealing_products a n) }
     requires subkey { G.hash_key gcm.now ≡ A.cipher aes.now zero_block }
     ensures opened { Opened (A.cipher aes.now) nonce (aad_bytes aad.entry) received_tag src.start
         in_out.old (is_ok result) in_out.new }

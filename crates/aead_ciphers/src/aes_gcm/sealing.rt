@@ -4,7 +4,7 @@ ghost use Rattle.std.specs.Prelude.{◌≡◌, ◌≤◌, ◌+◌, ◌/◌, ◌%
 ghost use Rattle.aead_ciphers_base.specs.Bytes.{zero_block};
 ghost use Rattle.aead_ciphers_base.specs.CounterMode.{IsCounter, counter_mode};
 ghost use Rattle.aead_ciphers_base.specs.Values.{aad_bytes};
-ghost use Rattle.aead_ciphers_base.specs.Work.{Adds, Room, HasRoom};
+ghost use Rattle.aead_ciphers_base.specs.Work.{Adds, Room};
 ghost use Rattle.aead_ciphers.specs.Gcm.{Fits, encrypted, padded_blocks, sealing_blocks, sealing_products, tag};
 ghost use Rattle.aead_ciphers.specs.HashOf.{IsHashOf};
 
@@ -24,7 +24,8 @@ pub(super) fn seal_with<A: EncryptCtr32, G: UpdateBlocks>(
     in_out: &mut [u8],
     work: &mut Work,
 ) -> Result<Tag, Unspecified>
-    requires room { HasRoom work.old }
+    requires room { let n = length in_out.old in let a = length (aad_bytes aad) in
+        Fits a n → Room work.old (sealing_blocks n) (sealing_products a n) }
     requires subkey { G.hash_key gcm.now ≡ A.cipher aes.now zero_block }
     ensures accepted { IsOk result ↔ Fits (length (aad_bytes aad.entry)) (length in_out.old) }
     ensures ciphertext { OnOk result (in_out.new ≡ encrypted (A.cipher aes.now) nonce in_out.old) }

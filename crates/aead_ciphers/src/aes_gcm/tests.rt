@@ -1,4 +1,4 @@
-//! What the generic bodies ask of a cipher and a hash.
+//! The test cases of the GCM specification, and what the generic bodies ask of a cipher and a hash.
 
 mod counting;
 
@@ -9,13 +9,50 @@ ghost use Rattle.aead_ciphers_base.specs.Bytes.{zero_block};
 use self::counting::{CountingCipher, CountingHash};
 use super::opening::open_with;
 use super::sealing::seal_with;
+use super::{Key, open, seal};
 use crate::gcm;
 use aead_ciphers_base::aes::{self, EncryptBlock, KeyBytes, Work, ZERO_BLOCK};
 use aead_ciphers_base::values::{Aad, Nonce, Tag};
+use aead_vectors::gcm_spec::{CASES, Case};
 use std::alloc::Global;
 use std::cell::Cell;
 use std::process::Abort;
 use std::test::Fail;
+
+/// The key of a case.
+fn key(case: &Case) -> Result<Key, Fail> {
+    let bytes = match case.key.as_array::<16>() {
+        Some(key) => KeyBytes::AES_128(key),
+        None => KeyBytes::AES_256(case.key.as_array::<32>().ok_or("a key's length")?),
+    };
+    Ok(Key::new(bytes, &mut Work::new())?)
+}
+
+/// A case is sealed to its ciphertext and tag, and opened to its message.
+fn seals_and_opens(rt: &impl Abort, alloc: Global, case: &Case) -> Result<(), Fail> {
+    let key = key(case)?;
+    let nonce = || Nonce::assume_unique_for_key(case.nonce);
+    let aad = Aad::from(case.aad);
+    let mut buffer = case.message.to_vec(alloc)?;
+    let tag = seal(&key, nonce(), aad, &mut buffer, &mut Work::new())?;
+    assert_eq!(rt;
+        (&*buffer, tag.as_ref()),
+        (case.ciphertext, case.tag.as_slice()),
+        "{}",
+        case.name
+    );
+    open(&key, nonce(), aad, tag, &mut buffer, 0.., &mut Work::new())?;
+    assert_eq!(rt; &*buffer, case.message, "{}", case.name);
+    Ok(())
+}
+
+#[test]
+fn gcm_spec_cases(rt: HostRuntime) -> Result<(), Fail> {
+    for case in &CASES {
+        seals_and_opens(&rt, rt.alloc(), case)?;
+    }
+    Ok(())
+}
 
 /// The tallies, and what a cipher and a hash were asked for, are these. What was asked for is zero again.
 fn worked(
@@ -37,6 +74,40 @@ fn nonce() -> Nonce {
     Nonce::assume_unique_for_key([7; 12])
 }
 
+fn seals(
+    rt: &impl Abort,
+    cipher: &CountingCipher<'_>,
+    hash: &CountingHash<'_>,
+    aad: Aad<'_>,
+    buffer: &mut [u8],
+    tallies: (u64, u64),
+) -> Result<Tag, Fail>
+    requires { hash.now.key.now ≡ aes_cipher cipher.now.key.now zero_block }
+{
+    let mut work = Work::new();
+    let tag = seal_with(cipher, hash, nonce(), aad, buffer, &mut work)?;
+    worked(rt, &work, cipher.blocks, hash.products, tallies);
+    Ok(tag)
+}
+
+fn opens(
+    rt: &impl Abort,
+    cipher: &CountingCipher<'_>,
+    hash: &CountingHash<'_>,
+    aad: Aad<'_>,
+    tag: Tag,
+    buffer: &mut [u8],
+    tallies: (u64, u64),
+) -> bool
+    requires { hash.now.key.now ≡ aes_cipher cipher.now.key.now zero_block }
+{
+    let mut work = Work::new();
+    let opened = open_with(cipher, hash, nonce(), aad, tag, buffer, 0.., &mut work);
+    worked(rt, &work, cipher.blocks, hash.products, tallies);
+    opened.is_ok()
+}
+
+/// Seals, opens with a false tag, and opens, at a message and an AAD of these lengths.
 fn work_at(
     rt: &impl Abort,
     alloc: Global,
@@ -47,50 +118,25 @@ fn work_at(
 ) -> Result<(), Fail>
     requires { hash_key.now ≡ aes_cipher key.now zero_block }
 {
-    let (n, a) = lens;
-    let (_, products) = tallies;
-    let (asked_blocks, asked_products) = (Cell::new(0), Cell::new(0));
+    let (blocks, products) = (Cell::new(0), Cell::new(0));
     let cipher = CountingCipher {
         key,
-        blocks: &asked_blocks,
+        blocks: &blocks,
     };
     let hash = CountingHash {
         key: hash_key,
-        products: &asked_products,
+        products: &products,
     };
-    let bytes = vec![in alloc; 0; a]?;
+    let (len, aad_len) = lens;
+    let bytes = vec![in alloc; 0; aad_len]?;
     let aad = Aad::from(bytes.as_slice());
-    let mut buffer = vec![in alloc; 0; n]?;
-    let mut work = Work::new();
-    let tag = seal_with(&cipher, &hash, nonce(), aad, &mut buffer, &mut work)?;
-    worked(rt, &work, &asked_blocks, &asked_products, tallies);
-    let mut work = Work::new();
+    let mut buffer = vec![in alloc; 0; len]?;
+    let tag = seals(rt, &cipher, &hash, aad, &mut buffer, tallies)?;
     let zeros = Tag::from([0; 16]);
-    let opened = open_with(
-        &cipher,
-        &hash,
-        nonce(),
-        aad,
-        zeros,
-        &mut buffer,
-        0..,
-        &mut work,
-    );
-    assert!(rt; opened.is_err(), "a false tag");
-    worked(rt, &work, &asked_blocks, &asked_products, (1, products));
-    let mut work = Work::new();
-    let opened = open_with(
-        &cipher,
-        &hash,
-        nonce(),
-        aad,
-        tag,
-        &mut buffer,
-        0..,
-        &mut work,
-    );
-    assert!(rt; opened.is_ok(), "the tag");
-    worked(rt, &work, &asked_blocks, &asked_products, tallies);
+    let is_opened = opens(rt, &cipher, &hash, aad, zeros, &mut buffer, (1, tallies.1));
+    assert!(rt; !is_opened, "a false tag");
+    let is_opened = opens(rt, &cipher, &hash, aad, tag, &mut buffer, tallies);
+    assert!(rt; is_opened, "the tag");
     Ok(())
 }
 

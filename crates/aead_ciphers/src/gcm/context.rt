@@ -52,7 +52,8 @@ impl<'key, K: UpdateBlock> Context<'key, K> {
         in_out_len: usize,
         work: &mut Work,
     ) -> Result<Self, Unspecified>
-        requires { Room work.old 0 ((length (aad_bytes aad) + 15) / 16) }
+        requires { Fits (length (aad_bytes aad)) in_out_len
+            → Room work.old 0 ((length (aad_bytes aad) + 15) / 16) }
         ensures accepted { IsOk result ↔ Fits (length (aad_bytes aad.entry)) in_out_len }
         ensures hash_key { IfOk result (λ context. context.hash_key ≡ K.hash_key key.now) }
         ensures aad_len { IfOk result (λ context. context.aad_len ≡ length (aad_bytes aad.entry)) }
@@ -94,7 +95,10 @@ impl<'key, K: UpdateBlock> Context<'key, K> {
     /// answers what `f` makes of the hash: 16 bytes.
     pub fn pre_finish<F: FnOnce(Block) -> Tag>(self, work: &mut Work, f: F) -> Tag
         requires room { Room work.old 0 1 }
-        requires callable { F.IsAlwaysCallable f }
+        requires callable { (xi : List ℕ)
+            → ((done : List (List ℕ)) → IsHashOf self.hash_key done self.xi
+            → IsHashOf self.hash_key (done ++ length_block self.aad_len self.in_out_len ∷ []) xi)
+            → F.pre f xi }
         ensures hashed { (xi : List ℕ) × F.post f xi result
             × ((done : List (List ℕ)) → IsHashOf self.entry.hash_key done self.entry.xi
             → IsHashOf self.entry.hash_key

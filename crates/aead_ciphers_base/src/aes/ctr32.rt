@@ -8,9 +8,6 @@ ghost use Rattle.aead_ciphers_base.specs.Work.{Adds, Room};
 use crate::aes::{BLOCK_LEN, Counter, Key, Work};
 use crate::bb;
 
-#[cfg(test)]
-mod tests;
-
 /// The length of a batch, in bytes: the blocks that one pass of the cipher encrypts.
 const BATCH_LEN: usize = 4 * BLOCK_LEN;
 
@@ -34,15 +31,18 @@ pub(crate) fn encrypt_to_front(
 {
     let len = in_out.len() - start;
     let mut done = 0;
-    while done < len {
-        let count = (len - done).min(BATCH_LEN);
-        encrypt_batch(key, in_out, start, done, count, counter, work);
-        done += count;
+    while BATCH_LEN <= len - done {
+        encrypt_batch(key, in_out, start, done, BATCH_LEN, counter, work);
+        done += BATCH_LEN;
+    }
+    if done < len {
+        encrypt_batch(key, in_out, start, done, len - done, counter, work);
     }
 }
 
 /// Encrypts one to four blocks: the `count` bytes from `start + done` on, to `done`. All of them are
 /// read before one is written.
+#[inline(always)]
 fn encrypt_batch(
     key: &Key,
     in_out: &mut [u8],

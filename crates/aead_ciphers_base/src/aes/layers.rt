@@ -23,15 +23,15 @@ fn two_below(x: u64) -> u64
     ((x >> 2) & 0x3333_3333_3333_3333) ^ ((x << 2) & 0xcccc_cccc_cccc_cccc)
 }
 
-// Rows 1, 2 and 3 move by one, two and three columns of four bits.
+// Rows 2 and 3 move by two columns of four bits, and then rows 1 and 3 by one.
 #[inline(always)]
 fn rows_shifted(x: u64) -> u64
     ensures { (p : ℕ) → p < 64 → bit_at result p ≡ bit_at x (shifted_from p) }
 {
-    (x & 0x1111_1111_1111_1111)
-        ^ (((x >> 4) & 0x0222_0222_0222_0222) ^ ((x << 12) & 0x2000_2000_2000_2000))
-        ^ (((x >> 8) & 0x0044_0044_0044_0044) ^ ((x << 8) & 0x4400_4400_4400_4400))
-        ^ (((x >> 12) & 0x0008_0008_0008_0008) ^ ((x << 4) & 0x8880_8880_8880_8880))
+    let exchanged = ((x >> 8) ^ x) & 0x00cc_00cc_00cc_00cc;
+    let by_two = x ^ exchanged ^ (exchanged << 8);
+    (by_two & 0x5555_5555_5555_5555)
+        ^ (((by_two >> 4) & 0x0aaa_0aaa_0aaa_0aaa) ^ ((by_two << 12) & 0xa000_a000_a000_a000))
 }
 
 #[inline(always)]

@@ -7,8 +7,8 @@ ghost use Rattle.std.specs.Prelude.{◌≡◌, ◌+◌, ◌-◌, ◌*◌, ◌/�
 ghost use Rattle.std.specs.Int.{bit_at, w64, to_le_bytes};
 ghost use Rattle.aead_ciphers_base.specs.Planes.{plane_byte, plane_block, word_bit, exchanged_from};
 
-use super::Block;
 use super::planes::Planes;
+use super::{Block, ZERO_BLOCK};
 
 // The places of which binary digit `k` is zero.
 const LOW: [u64; 6] = [
@@ -71,39 +71,21 @@ fn transpose_bits(words: [u64; 8]) -> [u64; 8]
 fn words_of(block: Block) -> (u64, u64)
     ensures { to_le_bytes w64 result.0 ++ to_le_bytes w64 result.1 ≡ block }
 {
-    let [
-        b0,
-        b1,
-        b2,
-        b3,
-        b4,
-        b5,
-        b6,
-        b7,
-        b8,
-        b9,
-        b10,
-        b11,
-        b12,
-        b13,
-        b14,
-        b15,
-    ] = block;
-    (
-        u64::from_le_bytes([b0, b1, b2, b3, b4, b5, b6, b7]),
-        u64::from_le_bytes([b8, b9, b10, b11, b12, b13, b14, b15]),
-    )
+    let mut low = [0; 8];
+    let mut high = [0; 8];
+    low.copy_from_slice(&block[..8]);
+    high.copy_from_slice(&block[8..]);
+    (u64::from_le_bytes(low), u64::from_le_bytes(high))
 }
 
 #[inline(always)]
 fn block_of(low: u64, high: u64) -> Block
     ensures { result ≡ to_le_bytes w64 low ++ to_le_bytes w64 high }
 {
-    let [b0, b1, b2, b3, b4, b5, b6, b7] = low.to_le_bytes();
-    let [b8, b9, b10, b11, b12, b13, b14, b15] = high.to_le_bytes();
-    [
-        b0, b1, b2, b3, b4, b5, b6, b7, b8, b9, b10, b11, b12, b13, b14, b15,
-    ]
+    let mut block = ZERO_BLOCK;
+    block[..8].copy_from_slice(&low.to_le_bytes());
+    block[8..].copy_from_slice(&high.to_le_bytes());
+    block
 }
 
 /// The planes of four blocks: bit `16 * block + byte` of plane `b` is bit `b` of that byte.

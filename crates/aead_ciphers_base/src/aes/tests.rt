@@ -1,33 +1,15 @@
+//! The vectors of FIPS 197 and of RFC 9001 appendix A.2, and the S-box of each byte in each block.
+
 ghost use Rattle.std.specs.Prelude.{◌≡◌, ◌+◌, ◌<◌, ℕ};
 ghost use Rattle.aead_ciphers_base.specs.ByteField.{mul8, inv, affine, sbox};
 
 use super::pack::{pack, unpack};
-use super::{Block, Key, KeyBytes, ZERO_BLOCK, sub_planes};
+use super::{Block, EncryptBlock, Key, KeyBytes, Work, ZERO_BLOCK, sub_planes};
+use aead_vectors::{fips_197, rfc_9001};
 use std::process::Abort;
 use std::test::Fail;
 
-const KEY_128: [u8; 16] = [
-    0x00, 0x01, 0x02, 0x03, 0x04, 0x05, 0x06, 0x07, 0x08, 0x09, 0x0a, 0x0b, 0x0c, 0x0d, 0x0e, 0x0f,
-];
-
-const KEY_256: [u8; 32] = [
-    0x00, 0x01, 0x02, 0x03, 0x04, 0x05, 0x06, 0x07, 0x08, 0x09, 0x0a, 0x0b, 0x0c, 0x0d, 0x0e, 0x0f,
-    0x10, 0x11, 0x12, 0x13, 0x14, 0x15, 0x16, 0x17, 0x18, 0x19, 0x1a, 0x1b, 0x1c, 0x1d, 0x1e, 0x1f,
-];
-
-const BLOCK: Block = [
-    0x00, 0x11, 0x22, 0x33, 0x44, 0x55, 0x66, 0x77, 0x88, 0x99, 0xaa, 0xbb, 0xcc, 0xdd, 0xee, 0xff,
-];
-
-const CIPHERTEXT_128: Block = [
-    0x69, 0xc4, 0xe0, 0xd8, 0x6a, 0x7b, 0x04, 0x30, 0xd8, 0xcd, 0xb7, 0x80, 0x70, 0xb4, 0xc5, 0x5a,
-];
-
-const CIPHERTEXT_256: Block = [
-    0x8e, 0xa2, 0xb7, 0xca, 0x51, 0x67, 0x45, 0xbf, 0xea, 0xfc, 0x49, 0x90, 0x4b, 0x49, 0x60, 0x89,
-];
-
-// Values that FIPS 197 gives for its field (section 4) and its S-box (section 5.1.1).
+// Values that FIPS 197 gives for its field (section 4) and its S-box (section 5.1.1), by the definitions.
 fn field_values()
     ensures product { mul8 0x57 0x83 ≡ 0xc1 }
     ensures inverse { inv 0x53 ≡ 0xca }
@@ -69,82 +51,70 @@ fn s_box(a: u8) -> u8
 #[test]
 fn field_values_of_fips_197(rt: HostRuntime) {
     field_values();
-    assert_eq!(rt; product(0x57, 0x83), 0xc1);
-    assert_eq!(rt; inverse(0x53), 0xca);
-    assert_eq!(rt; s_box(0x53), 0xed);
-}
-
-// The values 0 to 255, sixteen at a time and in another order in each block.
-#[test]
-fn s_box_of_each_byte_in_each_block(rt: HostRuntime) -> Result<(), Fail> {
-    for part in 0..16u8 {
-        let mut blocks = [ZERO_BLOCK; 4];
-        for k in 0..4u8 {
-            for j in 0..16u8 {
-                blocks[k as usize][j as usize] = (part + k) % 16 * 16 + j;
-            }
-        }
-        let mut planes = pack(blocks);
-        sub_planes(&mut planes);
-        let substituted = unpack(planes);
-        for k in 0..4 {
-            for j in 0..16 {
-                assert_eq!(rt; substituted[k][j], s_box(blocks[k][j]));
-            }
-        }
-    }
-    Ok(())
-}
-
-#[test]
-fn s_box_of_zero_planes(rt: HostRuntime) {
-    let mut planes = [0; 8];
-    sub_planes(&mut planes);
     assert_eq!(rt;
-        planes,
-        [u64::MAX, u64::MAX, 0, 0, 0, u64::MAX, u64::MAX, 0]
+        (product(0x57, 0x83), inverse(0x53), s_box(0x53)),
+        (0xc1, 0xca, 0xed)
     );
 }
 
-fn assert_in_each_place(rt: &impl Abort, key: &Key, block: Block, ciphertext: Block) {
-    assert_eq!(rt; key.cipher_block(block), ciphertext);
-    let of_zero = key.cipher_block(ZERO_BLOCK);
-    for k in 0..4 {
-        let mut blocks = [ZERO_BLOCK; 4];
-        blocks[k] = block;
-        let mut expected = [of_zero; 4];
-        expected[k] = ciphertext;
-        assert_eq!(rt; key.encrypt_four(blocks), expected);
+/// The values 0 to 255, sixteen in each block, the first of them at `part`.
+fn blocks_from(part: u8) -> [Block; 4]
+    requires { part < 16 }
+{
+    let mut blocks = [ZERO_BLOCK; 4];
+    for k in 0..4u8 {
+        for j in 0..16u8 {
+            blocks[k as usize][j as usize] = (part + k) % 16 * 16 + j;
+        }
     }
+    blocks
+}
+
+/// Each byte of a block is the S-box value of the other's.
+fn are_s_boxes(rt: &impl Abort, found: &Block, bytes: &Block) {
+    for (found, byte) in found.iter().zip(bytes) {
+        assert_eq!(rt; *found, s_box(*byte));
+    }
+}
+
+#[test]
+fn s_box_of_each_byte_in_each_block(rt: HostRuntime) {
+    for part in 0..16 {
+        let blocks = blocks_from(part);
+        let mut planes = pack(blocks);
+        sub_planes(&mut planes);
+        for (found, block) in unpack(planes).iter().zip(&blocks) {
+            are_s_boxes(&rt, found, block);
+        }
+    }
+}
+
+fn enciphers(
+    rt: &impl Abort,
+    key: KeyBytes<'_>,
+    plaintext: Block,
+    ciphertext: Block,
+) -> Result<(), Fail> {
+    let found = Key::new(key)?.encrypt_block(plaintext, &mut Work::new());
+    assert_eq!(rt; found, ciphertext);
+    Ok(())
 }
 
 #[test]
 fn fips_197_appendix_c_1(rt: HostRuntime) -> Result<(), Fail> {
-    let key = Key::new(KeyBytes::AES_128(&KEY_128))?;
-    assert_in_each_place(&rt, &key, BLOCK, CIPHERTEXT_128);
-    assert_in_each_place(&rt, &key.clone()?, BLOCK, CIPHERTEXT_128);
-    Ok(())
+    let key = KeyBytes::AES_128(&fips_197::C_1_KEY);
+    enciphers(&rt, key, fips_197::PLAINTEXT, fips_197::C_1_CIPHERTEXT)
 }
 
 #[test]
 fn fips_197_appendix_c_3(rt: HostRuntime) -> Result<(), Fail> {
-    let key = Key::new(KeyBytes::AES_256(&KEY_256))?;
-    assert_in_each_place(&rt, &key, BLOCK, CIPHERTEXT_256);
-    Ok(())
+    let key = KeyBytes::AES_256(&fips_197::C_3_KEY);
+    enciphers(&rt, key, fips_197::PLAINTEXT, fips_197::C_3_CIPHERTEXT)
 }
 
-// The mask of RFC 9001 appendix A.2.
 #[test]
 fn rfc_9001_appendix_a_2(rt: HostRuntime) -> Result<(), Fail> {
-    let key = Key::new(KeyBytes::AES_128(&[
-        0x9f, 0x50, 0x44, 0x9e, 0x04, 0xa0, 0xe8, 0x10, 0x28, 0x3a, 0x1e, 0x99, 0x33, 0xad, 0xed,
-        0xd2,
-    ]))?;
-    let sample = [
-        0xd1, 0xb1, 0xc9, 0x8d, 0xd7, 0x68, 0x9f, 0xb8, 0xec, 0x11, 0xd2, 0x42, 0xb1, 0x23, 0xdc,
-        0x9b,
-    ];
-    let [b0, b1, b2, b3, b4, ..] = key.cipher_block(sample);
-    assert_eq!(rt; [b0, b1, b2, b3, b4], [0x43, 0x7b, 0x9a, 0xec, 0x36]);
+    let key = Key::new(KeyBytes::AES_128(&rfc_9001::A_2_KEY))?;
+    assert_eq!(rt; key.new_mask(rfc_9001::A_2_SAMPLE), rfc_9001::A_2_MASK);
     Ok(())
 }

@@ -1,56 +1,13 @@
-//! Vectors of RFC 8439: computed by the definitions, in the contracts, and by the code.
+//! The vectors of RFC 8439 and of RFC 9001 appendix A.5: computed by the definitions, in the contracts, and by the code.
 
-ghost use Rattle.std.specs.Prelude.{◌≡◌};
+ghost use Rattle.std.specs.Prelude.{◌≡◌, ◌≤◌, length};
+ghost use Rattle.aead_vectors.specs.declared.rfc_8439.TheConstants.{BLOCK, BLOCK_NONCE, KEY};
 ghost use Rattle.aead_ciphers_base.specs.ChaCha20.{quarter_round, chacha20_block};
 
-use super::{BLOCK_LEN, Counter, KEY_LEN, Key, Overlapping};
+use super::{Counter, Key, Overlapping};
 use crate::values::{NONCE_LEN, Nonce};
-use std::test::Fail;
-
-// The key of sections 2.3.2 and 2.4.2.
-const KEY: [u8; KEY_LEN] = [
-    0x00, 0x01, 0x02, 0x03, 0x04, 0x05, 0x06, 0x07, 0x08, 0x09, 0x0a, 0x0b, 0x0c, 0x0d, 0x0e, 0x0f,
-    0x10, 0x11, 0x12, 0x13, 0x14, 0x15, 0x16, 0x17, 0x18, 0x19, 0x1a, 0x1b, 0x1c, 0x1d, 0x1e, 0x1f,
-];
-
-// The nonce and the block of section 2.3.2.
-const BLOCK_NONCE: [u8; NONCE_LEN] = [0, 0, 0, 9, 0, 0, 0, 0x4a, 0, 0, 0, 0];
-
-const BLOCK: [u8; BLOCK_LEN] = [
-    0x10, 0xf1, 0xe7, 0xe4, 0xd1, 0x3b, 0x59, 0x15, 0x50, 0x0f, 0xdd, 0x1f, 0xa3, 0x20, 0x71, 0xc4,
-    0xc7, 0xd1, 0xf4, 0xc7, 0x33, 0xc0, 0x68, 0x03, 0x04, 0x22, 0xaa, 0x9a, 0xc3, 0xd4, 0x6c, 0x4e,
-    0xd2, 0x82, 0x64, 0x46, 0x07, 0x9f, 0xaa, 0x09, 0x14, 0xc2, 0xd7, 0x05, 0xd9, 0x8b, 0x02, 0xa2,
-    0xb5, 0x12, 0x9c, 0xd1, 0xde, 0x16, 0x4e, 0xb9, 0xcb, 0xd0, 0x83, 0xe8, 0xa2, 0x50, 0x3c, 0x4e,
-];
-
-// The nonce, the plaintext and the ciphertext of section 2.4.2.
-const MESSAGE_NONCE: [u8; NONCE_LEN] = [0, 0, 0, 0, 0, 0, 0, 0x4a, 0, 0, 0, 0];
-
-const PLAINTEXT: &[u8; 114] =
-    b"Ladies and Gentlemen of the class of '99: If I could offer you only one tip for the future, sunscreen would be it.";
-
-const CIPHERTEXT: [u8; 114] = [
-    0x6e, 0x2e, 0x35, 0x9a, 0x25, 0x68, 0xf9, 0x80, 0x41, 0xba, 0x07, 0x28, 0xdd, 0x0d, 0x69, 0x81,
-    0xe9, 0x7e, 0x7a, 0xec, 0x1d, 0x43, 0x60, 0xc2, 0x0a, 0x27, 0xaf, 0xcc, 0xfd, 0x9f, 0xae, 0x0b,
-    0xf9, 0x1b, 0x65, 0xc5, 0x52, 0x47, 0x33, 0xab, 0x8f, 0x59, 0x3d, 0xab, 0xcd, 0x62, 0xb3, 0x57,
-    0x16, 0x39, 0xd6, 0x24, 0xe6, 0x51, 0x52, 0xab, 0x8f, 0x53, 0x0c, 0x35, 0x9f, 0x08, 0x61, 0xd8,
-    0x07, 0xca, 0x0d, 0xbf, 0x50, 0x0d, 0x6a, 0x61, 0x56, 0xa3, 0x8e, 0x08, 0x8a, 0x22, 0xb6, 0x5e,
-    0x52, 0xbc, 0x51, 0x4d, 0x16, 0xcc, 0xf8, 0x06, 0x81, 0x8c, 0xe9, 0x1a, 0xb7, 0x79, 0x37, 0x36,
-    0x5a, 0xf9, 0x0b, 0xbf, 0x74, 0xa3, 0x5b, 0xe6, 0xb4, 0x0b, 0x8e, 0xed, 0xf2, 0x78, 0x5e, 0x42,
-    0x87, 0x4d,
-];
-
-// The first bytes of the block of a zero key and a zero nonce at block counter 0 (appendix A.1,
-// test vector #1).
-const ZERO_STREAM: [u8; 16] = [
-    0x76, 0xb8, 0xe0, 0xad, 0xa0, 0xf1, 0x3d, 0x90, 0x40, 0x5d, 0x6a, 0xe5, 0x53, 0x86, 0xbd, 0x28,
-];
-
-fn counter(nonce: [u8; NONCE_LEN], number: u32) -> Counter
-    ensures { result.number ≡ number }
-{
-    Counter::from_nonce_and_ctr(Nonce::assume_unique_for_key(nonce), number)
-}
+use aead_vectors::{rfc_8439, rfc_9001};
+use std::process::Abort;
 
 // The definition gives the vector of section 2.1.1.
 #[tactic(auto, unfolding(crate::specs::ChaCha20::quarter_round))]
@@ -64,113 +21,39 @@ fn rfc_8439_2_3_2_block()
     ensures { chacha20_block KEY 1 BLOCK_NONCE ≡ BLOCK }
 {}
 
+/// Bytes are encrypted from block counter 1 on.
+fn encrypts(rt: &impl Abort, nonce: [u8; NONCE_LEN], bytes: &mut [u8], wanted: &[u8])
+    requires { length bytes.old ≤ 128 }
+{
+    let counter = Counter::from_nonce_and_ctr(Nonce::assume_unique_for_key(nonce), 1);
+    Key::new(rfc_8439::KEY).encrypt(counter, Overlapping::from(&mut *bytes));
+    assert_eq!(rt; &*bytes, wanted);
+}
+
 #[test]
 fn rfc_8439_2_3_2(rt: HostRuntime) {
-    let mut buffer = [0; BLOCK_LEN];
-    Key::new(KEY).encrypt(counter(BLOCK_NONCE, 1), Overlapping::from(&mut buffer[..]));
-    assert_eq!(rt; buffer, BLOCK);
+    encrypts(&rt, rfc_8439::BLOCK_NONCE, &mut [0; 64], &rfc_8439::BLOCK);
 }
 
 #[test]
 fn rfc_8439_2_4_2(rt: HostRuntime) {
-    let key = Key::new(KEY);
-    let mut buffer = *PLAINTEXT;
-    key.encrypt(
-        counter(MESSAGE_NONCE, 1),
-        Overlapping::from(&mut buffer[..]),
+    let mut bytes = *rfc_8439::PLAINTEXT;
+    encrypts(
+        &rt,
+        rfc_8439::MESSAGE_NONCE,
+        &mut bytes,
+        &rfc_8439::CIPHERTEXT,
     );
-    assert_eq!(rt; buffer, CIPHERTEXT);
-    key.encrypt(
-        counter(MESSAGE_NONCE, 1),
-        Overlapping::from(&mut buffer[..]),
-    );
-    assert_eq!(rt; buffer, *PLAINTEXT);
-}
-
-#[test]
-fn rfc_8439_a_1_vector_1(rt: HostRuntime) {
-    let key = Key::new([0; KEY_LEN]);
-    let mut buffer = [0; 16];
-    key.encrypt(
-        counter([0; NONCE_LEN], 0),
-        Overlapping::from(&mut buffer[..]),
-    );
-    assert_eq!(rt; buffer, ZERO_STREAM);
-    let mut block = [0; 16];
-    let one = key.encrypt_single_block_with_ctr_0(
-        Nonce::assume_unique_for_key([0; NONCE_LEN]),
-        &mut block,
-    );
-    assert_eq!(rt; block, ZERO_STREAM);
-    assert_eq!(rt; one.into_words_less_safe(), [1, 0, 0, 0]);
-    assert_eq!(rt; key.new_mask([0; 16]), [0x76, 0xb8, 0xe0, 0xad, 0xa0]);
-}
-
-#[test]
-fn the_input_stands_259_bytes_behind_the_output(rt: HostRuntime) -> Result<(), Fail> {
-    let mut buffer = [0x7b; 275];
-    for i in 259..275 {
-        buffer[i] = 0;
-    }
-    let in_out = Overlapping::new(&mut buffer[..], 259..)?;
-    Key::new([0; KEY_LEN]).encrypt(counter([0; NONCE_LEN], 0), in_out);
-    assert_eq!(rt; &buffer[..16], ZERO_STREAM.as_slice());
-    assert_eq!(rt; &buffer[16..259], [0x7b; 243].as_slice());
-    assert_eq!(rt; &buffer[259..], [0; 16].as_slice());
-    Ok(())
-}
-
-#[test]
-fn the_block_at_the_last_counter(rt: HostRuntime) {
-    let mut buffer = [0; BLOCK_LEN];
-    let nonce = [1, 2, 3, 4, 5, 6, 7, 8, 9, 10, 11, 12];
-    Key::new(KEY).encrypt(counter(nonce, u32::MAX), Overlapping::from(&mut buffer[..]));
-    // As OpenSSL gives it.
-    assert_eq!(rt;
-        buffer,
-        [
-            0xc4, 0xe9, 0xbc, 0x95, 0x85, 0x5b, 0xfc, 0x7f, 0x54, 0x56, 0xe7, 0x9b, 0x23, 0x56,
-            0x44, 0x22, 0xa6, 0x62, 0xe1, 0x95, 0x20, 0x8f, 0xc8, 0xa7, 0xd2, 0x4b, 0xd6, 0xc3,
-            0x5a, 0x36, 0x65, 0x73, 0x68, 0x8f, 0xeb, 0xc5, 0x4e, 0xad, 0xe6, 0x8b, 0xc3, 0xd3,
-            0xe3, 0x52, 0x9d, 0xce, 0xc5, 0x8a, 0xc7, 0x34, 0x40, 0x10, 0x7f, 0xf9, 0x02, 0x1d,
-            0xef, 0xca, 0x77, 0x1a, 0xd3, 0x82, 0x5c, 0x3d,
-        ]
-    );
-    let sample = [
-        0xff, 0xff, 0xff, 0xff, 1, 2, 3, 4, 5, 6, 7, 8, 9, 10, 11, 12,
-    ];
-    assert_eq!(rt;
-        Key::new(KEY).new_mask(sample),
-        [0xc4, 0xe9, 0xbc, 0x95, 0x85]
+    encrypts(
+        &rt,
+        rfc_8439::MESSAGE_NONCE,
+        &mut bytes,
+        rfc_8439::PLAINTEXT,
     );
 }
 
 #[test]
-fn words(rt: HostRuntime) {
-    assert_eq!(rt;
-        counter(BLOCK_NONCE, 1).into_words_less_safe(),
-        [1, 0x0900_0000, 0x4a00_0000, 0]
-    );
-    let (zero, one) = Counter::zero_one_less_safe(Nonce::assume_unique_for_key(BLOCK_NONCE));
-    assert_eq!(rt;
-        zero.into_words_less_safe(),
-        [0, 0x0900_0000, 0x4a00_0000, 0]
-    );
-    assert_eq!(rt;
-        one.into_words_less_safe(),
-        [1, 0x0900_0000, 0x4a00_0000, 0]
-    );
-    assert_eq!(rt;
-        *Key::new(KEY).words_less_safe(),
-        [
-            0x0302_0100,
-            0x0706_0504,
-            0x0b0a_0908,
-            0x0f0e_0d0c,
-            0x1312_1110,
-            0x1716_1514,
-            0x1b1a_1918,
-            0x1f1e_1d1c
-        ]
-    );
+fn rfc_9001_appendix_a_5(rt: HostRuntime) {
+    let mask = Key::new(rfc_9001::A_5_KEY).new_mask(rfc_9001::A_5_SAMPLE);
+    assert_eq!(rt; mask, rfc_9001::A_5_MASK);
 }

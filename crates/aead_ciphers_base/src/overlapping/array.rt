@@ -2,7 +2,7 @@
 
 ghost use Rattle.std.specs.Prelude.{◌≡◌, ◌↔◌, ◌-◌, ◌<◌, ◌≤◌, IsOk, IfOk, IfErr, drop, length, take};
 ghost use Rattle.std.specs.Borrow.{sem};
-ghost use Rattle.aead_ciphers_base.specs.Overlapping.{LendsOutput};
+ghost use Rattle.aead_ciphers_base.specs.Overlapping.{KeptIfErr, LendsOutput};
 
 use super::Overlapping;
 use crate::error::LenMismatchError;
@@ -22,6 +22,7 @@ pub struct Array<'o, T, const N: usize> {
 impl<'o, T, const N: usize> Array<'o, T, N> {
     /// Refused with `N` where `N` is zero or the input has another length.
     pub fn new(in_out: Overlapping<'o, T>) -> Result<Self, LenMismatchError>
+        ensures* kept { sem 𝓛 (KeptIfErr T.row in_out.entry.in_out (λ a. a.in_out.ghost_name) result) }
         ensures accepted { IsOk result ↔ ((0 < N) × (length in_out.entry.in_out.now - in_out.entry.start ≡ N)) }
         ensures same_reference { IfOk result (λ a. a.in_out.ghost_name ≡ in_out.entry.in_out.ghost_name) }
         ensures items { IfOk result (λ a. a.in_out.now ≡ in_out.entry.in_out.now) }
@@ -29,7 +30,8 @@ impl<'o, T, const N: usize> Array<'o, T, N> {
         ensures refused { IfErr result (λ e. e ≡ N) }
     {
         let Overlapping { in_out, start } = in_out;
-        if N == 0 || in_out.len() - start != N {
+        let len = in_out.len() - start;
+        if (N == 0) | (len != N) {
             return Err(LenMismatchError::new(N));
         }
         Ok(Array { in_out, start })

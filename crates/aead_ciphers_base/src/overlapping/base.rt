@@ -26,10 +26,11 @@ impl<'o, T> From<&'o mut [T]> for Overlapping<'o, T> {
 }
 
 impl<'o, T> Overlapping<'o, T> {
-    ghost use Rattle.aead_ciphers_base.specs.Overlapping.{LendsOutput, LendsRest, MapsChunk, TakesChunk};
+    ghost use Rattle.aead_ciphers_base.specs.Overlapping.{KeptIfErr, LendsOutput, LendsRest, MapsChunk, TakesChunk};
 
     /// The input is `in_out` from `src.start` on.
     pub fn new(in_out: &'o mut [T], src: RangeFrom<usize>) -> Result<Self, IndexError>
+        ensures* kept { sem 𝓛 (KeptIfErr T.row in_out.entry (λ o. o.in_out.ghost_name) result) }
         ensures accepted { IsOk result ↔ (src.start ≤ length in_out.old) }
         ensures same_reference { IfOk result (λ o. o.in_out.ghost_name ≡ in_out.entry.ghost_name) }
         ensures items { IfOk result (λ o. o.in_out.now ≡ in_out.old) }
@@ -129,7 +130,6 @@ impl<'o, T> Overlapping<'o, T> {
     fn first_chunk_mapped<C: Chunk<T>, F: FnOnce(&C) -> C>(self, f: F) -> FirstMapped<'o, T>
     where
         T: Drop,
-        F: Drop,
         requires { C.chunk_len ≤ length self.in_out.now - self.start
             → TakesChunk C.chunk_items F.FnOnce C.chunk_len f (drop self.start self.in_out.now) }
         ensures same_reference { result.in_out.ghost_name ≡ self.entry.in_out.ghost_name }
@@ -162,7 +162,6 @@ impl<'o, T> Overlapping<'o, T> {
     ) -> Result<Self, IndexError>
     where
         T: Drop,
-        F: Drop,
         requires { C.chunk_len ≤ length self.in_out.now - self.start
             → TakesChunk C.chunk_items F.FnOnce C.chunk_len f (drop self.start self.in_out.now) }
         ensures* writes_back { sem 𝓛 (LendsRest T.row C.chunk_items F.FnOnce C.chunk_len f self.entry result) }

@@ -61,7 +61,6 @@ pub fn chunk_at<T, C: Chunk<T>>(items: &[T], start: usize) -> &C
 pub fn map_chunk<T, C: Chunk<T>, F: FnOnce(&C) -> C>(in_out: &mut [T], start: usize, f: F)
 where
     T: Drop,
-    F: Drop,
     requires callable { TakesChunk C.chunk_items F.FnOnce C.chunk_len f (drop start in_out.old) }
     requires room { start + C.chunk_len ≤ length in_out.old }
     ensures { MapsChunk C.chunk_items F.FnOnce C.chunk_len f in_out.old start in_out.new }

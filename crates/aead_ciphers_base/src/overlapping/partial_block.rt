@@ -1,9 +1,18 @@
 //! An input that is shorter than a block.
 
 ghost use Rattle.std.specs.Prelude.{◌≡◌, ◌↔◌, ◌-◌, ◌<◌, ◌≤◌, ◌++◌, IsOk, IfOk, IfErr, drop, length, take};
+ghost use Rattle.std.specs.Borrow.{sem};
+ghost use Rattle.aead_ciphers_base.specs.Overlapping.{KeptIfErr};
 
 use super::Overlapping;
 use crate::error::InputTooLongError;
+
+/// The refusal of an input of `len` items.
+fn too_long(len: usize) -> InputTooLongError
+    ensures { result ≡ len }
+{
+    InputTooLongError::new(len)
+}
 
 /// An overlapping buffer whose input has fewer than `BLOCK_LEN` items.
 #[derive(Drop)]
@@ -19,6 +28,7 @@ pub struct PartialBlock<'i, T, const BLOCK_LEN: usize> {
 impl<'i, T, const BLOCK_LEN: usize> PartialBlock<'i, T, BLOCK_LEN> {
     /// Refused with the length of the input where that is at or above `BLOCK_LEN`.
     pub fn new(in_out: Overlapping<'i, T>) -> Result<Self, InputTooLongError>
+        ensures* kept { sem 𝓛 (KeptIfErr T.row in_out.entry.in_out (λ b. b.in_out.ghost_name) result) }
         ensures accepted { IsOk result ↔ (length in_out.entry.in_out.now - in_out.entry.start < BLOCK_LEN) }
         ensures same_reference { IfOk result (λ b. b.in_out.ghost_name ≡ in_out.entry.in_out.ghost_name) }
         ensures items { IfOk result (λ b. b.in_out.now ≡ in_out.entry.in_out.now) }
@@ -28,7 +38,7 @@ impl<'i, T, const BLOCK_LEN: usize> PartialBlock<'i, T, BLOCK_LEN> {
         let Overlapping { in_out, start } = in_out;
         let len = in_out.len() - start;
         if len >= BLOCK_LEN {
-            return Err(InputTooLongError::new(len));
+            return Err(too_long(len));
         }
         Ok(PartialBlock { in_out, start })
     }

@@ -5,6 +5,3 @@ mod chunks_mut;
 
 pub use chunks::{AsChunks, AsChunksIter, as_chunks};
 pub use chunks_mut::{AsChunksMut, AsChunksMutChunksMutIter, as_chunks_mut, split_whole};
-
-#[cfg(test)]
-mod tests;

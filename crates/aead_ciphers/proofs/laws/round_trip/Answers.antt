@@ -1,4 +1,4 @@
-use Rattle.std.proofs.Common.{◌<◌, ◌≤◌, ◌^◌, ◌-◌, arith, vec_len}
+use Rattle.std.proofs.Common.{◌≡◌, ◌<◌, ◌≤◌, ◌^◌, ◌-◌, arith, length, rules, vec_len}
 use Rattle.aead_ciphers.proofs.RoundTripLemmas.{All-slice_get, opens_again}
 use Rattle.aead_ciphers.proofs.laws.round_trip.Goals as goal
 
@@ -6,4 +6,6 @@ pub returns : goal.returns
 returns c i nonce aad message _ here there =
     let short : vec_len aad < 2 ^ 61 = All-slice_get (λ v. vec_len v < 2 ^ 61) c.args.aads.now i aad c.requires.aads_fit here in
     let fits : vec_len message ≤ 2 ^ 36 - 32 = All-slice_get (λ v. vec_len v ≤ 2 ^ 36 - 32) c.args.messages.now i message c.requires.messages_fit there in
-    opens_again c.args.key.now nonce aad.items message.items (record { aad = omega (arith, aad.ok.0); message = omega (arith, message.ok.0) })
+    let aad_len : vec_len aad ≡ length aad.items = search rules in
+    let message_len : vec_len message ≡ length message.items = search rules in
+    opens_again c.args.key.now nonce aad.items message.items (record { aad = omega arith; message = omega arith })

@@ -1,17 +1,14 @@
-use Rattle.std.proofs.Common.{◌≡◌, ℕ, zero, suc, refl, ap, sym, ◌∙◌, arith, List, add-one}
+use Rattle.std.proofs.Common.{◌≡◌, ℕ, ap, sym, ◌∙◌, arith, List}
 use Rattle.std.specs.Fn.{iterate}
 use Rattle.std.specs.Simd.Lanes.{zip2}
 use Rattle.aead_ciphers_base.specs.ChaCha20.{add32, double_round, le_bytes, state_block}
+use Rattle.aead_ciphers_base.proofs.RoundLemmas.{iterate_more}
 use Rattle.aead_ciphers_base.proofs.chacha.state_block.Goals as goal
-
-iterate-suc : {A : Type 0} (h : A → A) (n : ℕ) (x : A) → iterate h (suc n) x ≡ h (iterate h n x)
-iterate-suc h zero x = refl
-iterate-suc h (suc n) x = iterate-suc h n (h x)
 
 pub loop-round-preserved : goal.loop-round-preserved
 loop-round-preserved c =
     c.double_round.ensures ∙ ap double_round c.loop-round.invariant
-    ∙ sym (rw add-one (iterate-suc double_round c.loop-round._round c.args.state.now))
+    ∙ sym (iterate_more double_round c.loop-round._round c.args.state.now)
 
 pub returns : goal.returns
 unfolding state_block

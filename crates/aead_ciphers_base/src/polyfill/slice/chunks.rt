@@ -1,7 +1,8 @@
 //! Views of a slice as blocks that are read.
 
-ghost use Rattle.std.specs.Prelude.{◌≡◌, ⊤, ℕ, ◌*◌, ◌/◌, ◌%◌, ◌<◌, ◌↔◌, [], ◌∷◌, IsTrue, drop, length, slice_index_or, take};
-ghost use Rattle.std.specs.Iterator.{YieldsFirstRef, item_count};
+ghost use Rattle.std.specs.Prelude.{◌≡◌, ⊤, ℕ, ◌*◌, ◌/◌, ◌%◌, ◌<◌, ◌↔◌, [], ◌∷◌, IfSome, IsTrue, drop, length, slice_index_or, take};
+ghost use Rattle.std.specs.Iterator.{UpTo, YieldsFirstRef, at_most, item_count};
+ghost use Rattle.std.specs.Iterator.SizeHint.{IsWithinCount};
 ghost use Rattle.aead_ciphers_base.specs.Blocks.{blocks, joined};
 
 use std::ops::Index;
@@ -121,7 +122,11 @@ impl<'a, T, const N: usize> Iterator for AsChunksIter<'a, T, N> {
     ghost remaining = { item_count (λ s. blocks N s.items.now) };
 
     #[tactic(auto, using(crate::proofs::BlocksLemmas::length_blocks, crate::proofs::BlocksLemmas::blocks_none))]
-    fn size_hint(&self) -> (usize, Option<usize>) {
+    fn size_hint(&self) -> (usize, Option<usize>)
+        ensures lower { IsWithinCount result.0 (at_most (length (blocks N self.now.items.now))) }
+        ensures upper { IfSome result.1 (UpTo (at_most (length (blocks N self.now.items.now)))) }
+        ensures exact { let count = length (blocks N self.now.items.now) in result ≡ (count, Some count) }
+    {
         if N == 0 {
             return (0, Some(0));
         }

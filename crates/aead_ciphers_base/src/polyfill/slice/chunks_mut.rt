@@ -1,12 +1,13 @@
 //! Views of a slice as blocks that are written.
 
-ghost use Rattle.std.specs.Prelude.{◌≡◌, ℕ, ◌*◌, ◌/◌, ◌%◌, ◌<◌, ◌≤◌, ◌^◌, MatchOption, drop, length, take};
+ghost use Rattle.std.specs.Prelude.{◌≡◌, ℕ, ◌*◌, ◌/◌, ◌%◌, ◌<◌, ◌≤◌, ◌^◌, IfSome, MatchOption, drop, length, take};
 ghost use Rattle.std.specs.Borrow.{sem};
 ghost use Rattle.std.specs.Fn.{FnOnceReturnsAtMut, FnOnceTakesAtMut};
-ghost use Rattle.std.specs.Iterator.{at_most};
-ghost use Rattle.std.specs.Slice.Iter.{chunk_count, chunks_mut_rest, chunks_mut_size};
+ghost use Rattle.std.specs.Iterator.{UpTo, at_most};
+ghost use Rattle.std.specs.Iterator.SizeHint.{IsWithinCount};
+ghost use Rattle.std.specs.Slice.Iter.{chunks_mut_rest, chunks_mut_size};
 ghost use Rattle.aead_ciphers_base.specs.Blocks.{blocks, joined};
-ghost use Rattle.aead_ciphers_base.specs.ChunksMut.{IsNextPart, LendsInTwo};
+ghost use Rattle.aead_ciphers_base.specs.ChunksMut.{IsNextPart, LendsInTwo, parts_left};
 
 use super::AsChunks;
 
@@ -173,10 +174,15 @@ impl<'a, T, const N: usize> Iterator for AsChunksMutChunksMutIter<'a, T, N> {
         (λ v. IsNextPart (chunks_mut_size s.chunks)
         (chunks_mut_rest s.chunks) v.items.now (chunks_mut_rest t.chunks)) };
 
-    ghost remaining = { λ s. at_most (chunk_count (length (chunks_mut_rest s.chunks)) (chunks_mut_size s.chunks)) };
+    ghost remaining = { λ s. at_most (parts_left s.chunks) };
 
-    fn size_hint(&self) -> (usize, Option<usize>) {
-        self.chunks.size_hint()
+    fn size_hint(&self) -> (usize, Option<usize>)
+        ensures lower { IsWithinCount result.0 (at_most (parts_left self.now.chunks)) }
+        ensures upper { IfSome result.1 (UpTo (at_most (parts_left self.now.chunks))) }
+        ensures exact { let count = parts_left self.now.chunks in result ≡ (count, Some count) }
+    {
+        let count = self.chunks.len();
+        (count, Some(count))
     }
 
     fn next(&mut self) -> Option<AsChunksMut<'a, T, N>> {

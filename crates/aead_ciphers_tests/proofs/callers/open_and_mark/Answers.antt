@@ -1,4 +1,4 @@
-use Rattle.std.proofs.Common.{rules, ◌≡◌, ◌∙◌, ap, ap₂, ◌++◌, sym, refl, subst, arith, ℕ, List, [], ◌-◌, length, set, slice_set, Result, Ok, Err, is_ok, IsOk, IfOk, OnOk, drop, take, append-nil, drop_of_length-le}
+use Rattle.std.proofs.Common.{rules, ◌≡◌, ◌∙◌, ap, ap₂, ◌++◌, refl, arith, ℕ, List, [], ◌-◌, length, slice_set, Result, Ok, Err, IsOk, OnOk, drop, take, append-nil, drop_of_length-le}
 use Rattle.aead_ciphers_base.specs.Aes.{aes}
 use Rattle.aead_ciphers_base.specs.Values.{aad_bytes}
 use Rattle.aead_ciphers.specs.Gcm.{decrypted}

@@ -7,5 +7,5 @@ pub returns-clause-hashed : goal.returns-clause-hashed
 returns-clause-hashed c = λ done at.
     let h = c.args.self.now in
     subst (λ (xi : List ℕ). IsHashOf h (done ++ c.args.block ∷ []) xi) (sym c.to_be_bytes-xi-inside.ensures)
-    (hash_one h c.args.xi.now c.args.block c.self.inside.h c.number.result c.number-2.result c.product.result done
+    (hash_one h c.args.xi.now c.args.block c.self.inside.multiples c.number.result c.number-2.result c.product.result done
     c.self.view_is (c.number.ensures ∙ c.xi.view_is) c.number-2.ensures c.product.ensures at)

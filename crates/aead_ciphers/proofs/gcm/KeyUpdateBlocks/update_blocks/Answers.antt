@@ -18,7 +18,7 @@ loop-block-preserved c =
       products = omega arith;
       hashed = λ done at.
           front_more c.args.self.now c.in-Some.block.now _ _ _ _ _ c.in-Some.ensures.steps
-          (λ front was. hash_one c.args.self.now _ c.in-Some.block.now c.self.inside.h c.loop-block.sum c.number.result c.product-sum.result front c.self.view_is refl c.number.ensures c.product-sum.ensures was)
+          (λ front was. hash_one c.args.self.now _ c.in-Some.block.now c.self.inside.multiples c.loop-block.sum c.number.result c.product-sum.result front c.self.view_is refl c.number.ensures c.product-sum.ensures was)
           (c.loop-block.invariant.hashed done at);
     }
 

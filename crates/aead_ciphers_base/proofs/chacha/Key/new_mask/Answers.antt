@@ -16,4 +16,5 @@ returns c =
     ap (λ (ws : List ℕ). le_bytes (drop 1 ws)) words
     ∙ le_bytes-le_words 3 (drop 4 c.args.sample) (simp length-drop (omega arith)) (λ i. rw get_or-drop (bytes (4 + i))) in
     c.copy_from_slice.ensures.after
-    ∙ ap (take 5) (c.state_block-block.ensures ∙ ap state_block (c.initial_state.ensures ∙ ap₂ (λ (k : ℕ) (n : List ℕ). initial_state c.args.self.now k n) number nonce))
+    ∙ ap (take 5) (c.state_block-block.ensures
+    ∙ ap state_block (c.initial_state.ensures.state ∙ ap₂ (λ (k : ℕ) (n : List ℕ). initial_state c.args.self.now k n) number nonce))

@@ -12,7 +12,7 @@ use mir.MapTy.{inst_fn}
 use mir.Val.{Val, vint, vstruct, vcons, vnil, of_list}
 use base.Logic.{SProp, ent, sep, ex, emp, id⊢}
 use base.Stored.{coded_list}
-use base.Fml.{Fml, Lft, GName, Share, ftrue, flft, fobs, fres, fbor}
+use base.Fml.{Fml, Lft, GName, Share, ftrue, flft, fobs, fbor}
 use prog.Capped.{capped_is}
 use prog.Memory.{size, capped}
 use prog.Wp.{WpFn}
@@ -53,8 +53,8 @@ use Rattle.std.proofs.VecSteps.Shapes.{after}
 use Rattle.std.proofs.raw_atomic.Walks.{proved_at, leaves}
 use Rattle.std.specs.Prelude.{Ok, Err, IsOk, IfOk, IfErr, ◌↔◌}
 use Rattle.std.specs.contracts.result.Result as RS
-use Rattle.aead_ciphers_base.proofs.Walks.{ok_of, err_of}
-use Rattle.aead_ciphers_base.specs.Overlapping.{LendsTail}
+use Rattle.aead_ciphers_base.proofs.Walks.{ok_of, err_of, let_go}
+use Rattle.aead_ciphers_base.specs.Overlapping.{EndsAs, LendsTail}
 use Rattle.aead_ciphers_base.specs.contracts.error.IndexError as IE
 use Rattle.aead_ciphers_base.proofs.error.IndexError.TheLaws as IE-laws
 use Rattle.aead_ciphers_base.specs.contracts.error.IndexError.new as new
@@ -178,10 +178,9 @@ rest_spec 𝓤 𝓛 𝓜 𝓡 wired X L =
     let w : Val = vstruct (vcons (vint w64 n) vnil) in let told : v ∷ [] ≡ w ∷ [] = IE-laws.lowers.val_is e (v ∷ []) is-e ∙ ap (λ (j : ℕ). vstruct (vcons (vint w64 j) vnil) ∷ []) same in
     rewrite ! 0 (λ (ws : List Val). ‵ (IE.the_row.own_val e ws)) told refl $ lands_as ! (ap only told) refl (tt, (record { fits = fc }, tt)) $
     sets ! (agg ! (and_then ! (lit ! tt) (and_then ! (get ! refl) (no_more !)))) refl (tt, (record { fits = lit< tt }, ((record { fits = fc }, tt), tt))) $
-    let r : Out.Denot = Err e in let code_of = λ (l : List X.Denot). (coded_list R.coded).code l in
+    let r : Out.Denot = Err e in
     use1 𝓛 (‵ (Out.own_val r (live 1 (of_list (w ∷ [])) ∷ []))) (err_of 𝓛 Lent IE.the_row e w) $
-    move ! (1 ∷ []) $ fsplit3 ! $ drop ! $ rewrite ! 0 (λ (l : List X.Denot). ‵ (fobs γ (code_of l))) (heres_id R xs) refl $
-    use1 𝓛 (‵ (fres γ (code_of xs))) (𝓛.names.obs-res γ (code_of xs)) $ move ! (1 ∷ []) $ drop ! $ move ! (1 ∷ 0 ∷ []) $
+    move ! (1 ∷ []) $ use1 𝓛 (‵ (EndsAs R x.in_out xs)) (let_go 𝓛 R κs.0 x.in_out vss.0) $ move ! (1 ∷ 0 ∷ []) $
     returns_within ! Post refl (look_at ! 0 refl) $ free_all ! refl $
     ends r (live 1 (of_list (w ∷ []))) ((λ h. cc), λ h. absurd (omega (arith, ltb→lt m n short, h))) tt tt same))))))
     (λ long.

@@ -1,0 +1,116 @@
+//! The inverse and the affine map of the S-box (FIPS 197 section 5.1.1) on planes. The inverse is
+//! x^254, by four products in a tower of fields.
+//!
+//! The field of 256 elements is a field over one of 16, and that one over one of 4, each with a
+//! normal basis: the powers 16, 4 and 2 exchange the two halves of the coordinates. So x^17, an
+//! element of the field of 16, takes four planes, and x^85, one of the field of 4, takes two:
+//! x^17 = x * x^16, x^85 = x^17 * x^68, x^238 = x^68 * (x^85)^2, x^254 = x^16 * x^238.
+
+ghost use Rattle.std.specs.Prelude.{◌≡◌, ◌<◌, ℕ};
+ghost use Rattle.aead_ciphers_base.specs.ByteField.{mul8, affine, inv};
+ghost use Rattle.aead_ciphers_base.specs.Planes.{plane_byte};
+ghost use Rattle.aead_ciphers_base.specs.Tower.{plane_element, basis_4, basis_16, basis_256};
+
+use super::planes::Planes;
+
+// The product in the field of 4.
+#[inline(always)]
+fn multiply_4(a: [u64; 2], b: [u64; 2]) -> [u64; 2]
+    ensures { (p : ℕ) → plane_element basis_4 result p
+        ≡ mul8 (plane_element basis_4 a p) (plane_element basis_4 b p) }
+{
+    let [a0, a1] = a;
+    let [b0, b1] = b;
+    let both = (a0 ^ a1) & (b0 ^ b1);
+    [(a0 & b0) ^ both, (a1 & b1) ^ both]
+}
+
+// The product in the field of 16, by three in the field of 4.
+#[inline(always)]
+fn multiply_16(a: [u64; 4], b: [u64; 4]) -> [u64; 4]
+    ensures { (p : ℕ) → plane_element basis_16 result p
+        ≡ mul8 (plane_element basis_16 a p) (plane_element basis_16 b p) }
+{
+    let [a0, a1, a2, a3] = a;
+    let [b0, b1, b2, b3] = b;
+    let [low0, low1] = multiply_4([a0, a1], [b0, b1]);
+    let [high0, high1] = multiply_4([a2, a3], [b2, b3]);
+    let [both0, both1] = multiply_4([a0 ^ a2, a1 ^ a3], [b0 ^ b2, b1 ^ b3]);
+    let scaled = both0 ^ both1;
+    [low0 ^ scaled, low1 ^ both0, high0 ^ scaled, high1 ^ both0]
+}
+
+// The inverse in the field of 16, n^14 = n^4 * (n^5)^2, where n^5 lies in the field of 4.
+#[inline(always)]
+fn invert_16(n: [u64; 4]) -> [u64; 4]
+    ensures { (p : ℕ) → plane_element basis_16 result p ≡ inv (plane_element basis_16 n p) }
+{
+    let [n0, n1, n2, n3] = n;
+    let [c0, c1] = multiply_4([n2, n3], [n0, n1]);
+    let [s0, s1] = [n0 ^ n2, n1 ^ n3];
+    let n10 = [c1 ^ s1, c0 ^ s0 ^ s1];
+    let [low0, low1] = multiply_4(n10, [n2, n3]);
+    let [high0, high1] = multiply_4(n10, [n0, n1]);
+    [low0, low1, high0, high1]
+}
+
+/// The inverse of each byte, a^254 = a^16 * (a^17)^14, where a^17 lies in the field of 16.
+#[inline(always)]
+pub fn invert(a: Planes) -> Planes
+    ensures { (p : ℕ) → plane_element basis_256 result p ≡ inv (plane_element basis_256 a p) }
+{
+    let [a0, a1, a2, a3, a4, a5, a6, a7] = a;
+    let low = [a0, a1, a2, a3];
+    let high = [a4, a5, a6, a7];
+    let [c0, c1, c2, c3] = multiply_16(low, high);
+    let [s0, s1, s2, s3] = [a0 ^ a4, a1 ^ a5, a2 ^ a6, a3 ^ a7];
+    let a17 = [c0 ^ s1 ^ s3, c1 ^ s0 ^ s2, c2 ^ s2, c3 ^ s2 ^ s3];
+    let a238 = invert_16(a17);
+    let [r0, r1, r2, r3] = multiply_16(high, a238);
+    let [r4, r5, r6, r7] = multiply_16(low, a238);
+    [r0, r1, r2, r3, r4, r5, r6, r7]
+}
+
+/// The coordinates of each byte in the basis of the tower.
+#[inline(always)]
+pub fn to_tower(a: Planes) -> Planes
+    ensures { (p : ℕ) → plane_element basis_256 result p ≡ plane_byte a p }
+{
+    let [a0, a1, a2, a3, a4, a5, a6, a7] = a;
+    let a06 = a0 ^ a6;
+    let a056 = a5 ^ a06;
+    let a13 = a1 ^ a3;
+    let a0156 = a1 ^ a056;
+    [
+        a0,
+        a0 ^ a4 ^ (a7 ^ a13),
+        a2 ^ (a06 ^ a13),
+        a056,
+        a4 ^ a056,
+        a0156 ^ (a2 ^ a7),
+        a7 ^ a056,
+        a0156,
+    ]
+}
+
+/// The affine map of each byte whose coordinates in the basis of the tower the planes hold.
+#[inline(always)]
+pub fn map_affine(a: Planes) -> Planes
+    ensures { (p : ℕ) → p < 64 → plane_byte result p ≡ affine (plane_element basis_256 a p) }
+{
+    let [a0, a1, a2, a3, a4, a5, a6, a7] = a;
+    let a17 = a1 ^ a7;
+    let a157 = a5 ^ a17;
+    let a24 = a2 ^ a4;
+    let a36 = a3 ^ a6;
+    [
+        a4 ^ a36 ^ u64::MAX,
+        a7 ^ a36 ^ u64::MAX,
+        a0 ^ (a17 ^ a24),
+        a6 ^ (a4 ^ a157),
+        a157,
+        a24 ^ u64::MAX,
+        a1 ^ a5 ^ u64::MAX,
+        a17,
+    ]
+}

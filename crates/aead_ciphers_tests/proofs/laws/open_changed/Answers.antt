@@ -1,0 +1,33 @@
+use Rattle.std.proofs.Common.{◌≡◌, ℕ, ◌-◌, Result, Ok, Err, false, is_ok, IsErr, List, length, refl, sym, ap, subst, ◌∙◌, arith, rules}
+use Rattle.aead_ciphers_base.specs.Aes.{aes}
+use Rattle.aead_ciphers_base.specs.Bytes.{zero_block}
+use Rattle.aead_ciphers_base.specs.Values.{aad_bytes}
+use Rattle.aead_ciphers.specs.AesGcm.{aes_tag}
+use Rattle.aead_ciphers.specs.Different.{HasInverse}
+use Rattle.aead_ciphers.specs.Gcm.{Fits}
+use Rattle.aead_ciphers_tests.proofs.laws.open_changed.Goals as goal
+
+is_refusal : {E : Type 0} (r : Result ℕ E) → is_ok r ≡ false → IsErr r
+is_refusal (Ok n) e = absurd cc
+is_refusal (Err x) e = refl
+
+pub returns : goal.returns
+returns c tag_is some same_aad same_text one =
+    let key = c.args.sealed.now.key.now in
+    let old = c.args.in_out.now in
+    let made : c.in_ok-key.key ≡ key = search rules in
+    let subkey : c.encrypt_block.result ≡ aes key zero_block =
+    c.encrypt_block.ensures.value ∙ ap (λ (k : List ℕ). aes k zero_block) made in
+    let inverse = subst HasInverse subkey (c.has_inverse.ensures (λ e. some (sym subkey ∙ e))) in
+    let differ = c.one_changed_block.ensures inverse same_aad same_text one in
+    let key_is : c.new-key.result.bytes ≡ key = search rules in
+    let nonce_is : c.assume_unique_for_key-nonce.result ≡ c.args.sealed.now.nonce = search rules in
+    let aad_is : aad_bytes c.from.result ≡ c.args.aad.now = search rules in
+    let tag_was : c.from-tag.result ≡ c.args.sealed.now.tag = search rules in
+    let tag_now : aes_tag c.new-key.result.bytes c.assume_unique_for_key-nonce.result (aad_bytes c.from.result) old
+    ≡ aes_tag key c.args.sealed.now.nonce c.args.aad.now old = cc in
+    let fits : Fits (length (aad_bytes c.from.result)) (length old - 0) =
+    record { aad = omega (arith, ap length aad_is); message = omega arith } in
+    let refused =
+    c.open_in_place_separate_tag_len.ensures.opened.false_tag (omega arith) fits (λ e. differ (sym tag_is ∙ sym tag_was ∙ e ∙ tag_now)) in
+    (is_refusal c.open_in_place_separate_tag_len.result refused.0, refused.1)

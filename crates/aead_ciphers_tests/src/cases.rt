@@ -1,0 +1,75 @@
+//! What the calls take of a test case of the GCM specification.
+
+use aead_ciphers::aead::{
+    AES_128_GCM, AES_256_GCM, Aad, Algorithm, LessSafeKey, Nonce, Tag, UnboundKey,
+};
+use aead_ciphers_base::aes::{self, KeyBytes};
+use aead_vectors::gcm_spec::Case;
+use std::alloc::Global;
+use std::test::Fail;
+
+/// The algorithm, by the length of the key.
+fn algorithm(case: &Case) -> &'static Algorithm {
+    if case.key.len() == aes::AES_128_KEY_LEN {
+        &AES_128_GCM
+    } else {
+        &AES_256_GCM
+    }
+}
+
+/// The algorithm's word in a line of `aeadrun`.
+pub(crate) fn word(case: &Case) -> &'static str {
+    if case.key.len() == aes::AES_128_KEY_LEN {
+        "128"
+    } else {
+        "256"
+    }
+}
+
+pub(crate) fn key_bytes(case: &Case) -> Result<KeyBytes<'static>, Fail> {
+    match case.key.as_array::<16>() {
+        Some(key) => Ok(KeyBytes::AES_128(key)),
+        None => Ok(KeyBytes::AES_256(case.key.as_array::<32>().ok_or("a key's length")?)),
+    }
+}
+
+/// A fresh key that isn't bound.
+pub(crate) fn unbound_key(case: &Case) -> Result<UnboundKey, Fail> {
+    Ok(UnboundKey::new(algorithm(case), case.key)?)
+}
+
+pub(crate) fn key(case: &Case) -> Result<LessSafeKey, Fail> {
+    Ok(LessSafeKey::new(unbound_key(case)?))
+}
+
+pub(crate) fn nonce(case: &Case) -> Nonce {
+    Nonce::assume_unique_for_key(case.nonce)
+}
+
+pub(crate) fn aad(case: &Case) -> Aad<'static> {
+    Aad::from(case.aad)
+}
+
+/// The tag with its last bit flipped.
+pub(crate) fn false_tag(case: &Case) -> Tag {
+    let mut tag = case.tag;
+    tag[15] ^= 1;
+    Tag::from(tag)
+}
+
+/// Bytes in front, the ciphertext and the tag.
+pub(crate) fn sealed(alloc: Global, case: &Case, front: &[u8]) -> Result<Vec<u8>, Fail> {
+    let mut bytes = front.to_vec(alloc)?;
+    bytes.extend_from_slice(case.ciphertext)?;
+    bytes.extend_from_slice(&case.tag)?;
+    Ok(bytes)
+}
+
+/// What a buffer of four bytes, the ciphertext and the tag holds once it is opened from byte 4 on: the message, and each
+/// byte behind it as it was.
+pub(crate) fn opened_at_4(alloc: Global, case: &Case) -> Result<Vec<u8>, Fail> {
+    let before = sealed(alloc, case, &[0; 4])?;
+    let mut bytes = case.message.to_vec(alloc)?;
+    bytes.extend_from_slice(before.get(bytes.len()..).ok_or("a message's length")?)?;
+    Ok(bytes)
+}

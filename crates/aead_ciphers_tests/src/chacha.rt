@@ -1,0 +1,103 @@
+//! `chacha`: the words of keys and counters, the first and the last block, and an input far behind the output.
+
+use crate::checks::{holds, same};
+use aead_ciphers_base::chacha::{BLOCK_LEN, Counter, KEY_LEN, Key, Overlapping};
+use aead_ciphers_base::values::{NONCE_LEN, Nonce};
+use aead_vectors::rfc_8439::{BLOCK_NONCE, BLOCK_OF_ZEROS, KEY};
+use std::process::Abort;
+use std::test::Fail;
+
+fn zeros() -> Nonce {
+    Nonce::assume_unique_for_key([0; NONCE_LEN])
+}
+
+#[test]
+fn rfc_8439_a_1_vector_1(rt: HostRuntime) {
+    let key = Key::new([0; KEY_LEN]);
+    let mut buffer = [0; BLOCK_LEN];
+    key.encrypt(
+        Counter::from_nonce_and_ctr(zeros(), 0),
+        Overlapping::from(&mut buffer[..]),
+    );
+    same(&rt, &buffer, &BLOCK_OF_ZEROS, "the block");
+    let mut block = [0; 16];
+    let one = key.encrypt_single_block_with_ctr_0(zeros(), &mut block);
+    same(&rt, &block, &BLOCK_OF_ZEROS[..16], "block 0");
+    words_are(&rt, one, &[1, 0, 0, 0]);
+    same(
+        &rt,
+        &key.new_mask([0; 16]),
+        &BLOCK_OF_ZEROS[..5],
+        "the mask",
+    );
+}
+
+#[test]
+fn the_input_stands_259_bytes_behind_the_output(rt: HostRuntime) -> Result<(), Fail> {
+    let mut buffer = [0x7b; 275];
+    buffer[259..].fill(0);
+    let in_out = Overlapping::new(&mut buffer[..], 259..)?;
+    Key::new([0; KEY_LEN]).encrypt(Counter::from_nonce_and_ctr(zeros(), 0), in_out);
+    same(&rt, &buffer[..16], &BLOCK_OF_ZEROS[..16], "the output");
+    same(&rt, &buffer[16..259], &[0x7b; 243], "between them");
+    same(&rt, &buffer[259..], &[0; 16], "the input stays");
+    Ok(())
+}
+
+/// The block at the last block counter under the key of RFC 8439 section 2.3.2 and the nonce 01 02 .. 0c, as OpenSSL gives
+/// it.
+const LAST_BLOCK: [u8; BLOCK_LEN] = [
+    0xc4, 0xe9, 0xbc, 0x95, 0x85, 0x5b, 0xfc, 0x7f, 0x54, 0x56, 0xe7, 0x9b, 0x23, 0x56, 0x44, 0x22,
+    0xa6, 0x62, 0xe1, 0x95, 0x20, 0x8f, 0xc8, 0xa7, 0xd2, 0x4b, 0xd6, 0xc3, 0x5a, 0x36, 0x65, 0x73,
+    0x68, 0x8f, 0xeb, 0xc5, 0x4e, 0xad, 0xe6, 0x8b, 0xc3, 0xd3, 0xe3, 0x52, 0x9d, 0xce, 0xc5, 0x8a,
+    0xc7, 0x34, 0x40, 0x10, 0x7f, 0xf9, 0x02, 0x1d, 0xef, 0xca, 0x77, 0x1a, 0xd3, 0x82, 0x5c, 0x3d,
+];
+
+#[test]
+fn the_block_at_the_last_counter(rt: HostRuntime) {
+    let key = Key::new(KEY);
+    let nonce = Nonce::assume_unique_for_key([1, 2, 3, 4, 5, 6, 7, 8, 9, 10, 11, 12]);
+    let mut buffer = [0; BLOCK_LEN];
+    key.encrypt(
+        Counter::from_nonce_and_ctr(nonce, u32::MAX),
+        Overlapping::from(&mut buffer[..]),
+    );
+    same(&rt, &buffer, &LAST_BLOCK, "the block");
+    let mask = key.new_mask([
+        0xff, 0xff, 0xff, 0xff, 1, 2, 3, 4, 5, 6, 7, 8, 9, 10, 11, 12,
+    ]);
+    same(&rt, &mask, &LAST_BLOCK[..5], "the mask");
+}
+
+/// The words of a counter are these.
+fn words_are(rt: &impl Abort, counter: Counter, wanted: &[u32; 4]) {
+    holds(rt, counter.into_words_less_safe() == *wanted, "the words");
+}
+
+#[test]
+fn words_of_counters(rt: HostRuntime) {
+    let nonce = || Nonce::assume_unique_for_key(BLOCK_NONCE);
+    words_are(
+        &rt,
+        Counter::from_nonce_and_ctr(nonce(), 1),
+        &[1, 0x0900_0000, 0x4a00_0000, 0],
+    );
+    let (zero, one) = Counter::zero_one_less_safe(nonce());
+    words_are(&rt, zero, &[0, 0x0900_0000, 0x4a00_0000, 0]);
+    words_are(&rt, one, &[1, 0x0900_0000, 0x4a00_0000, 0]);
+}
+
+#[test]
+fn words_of_a_key(rt: HostRuntime) {
+    let wanted = [
+        0x0302_0100,
+        0x0706_0504,
+        0x0b0a_0908,
+        0x0f0e_0d0c,
+        0x1312_1110,
+        0x1716_1514,
+        0x1b1a_1918,
+        0x1f1e_1d1c,
+    ];
+    holds(&rt, *Key::new(KEY).words_less_safe() == wanted, "the words");
+}

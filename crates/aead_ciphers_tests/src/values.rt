@@ -1,0 +1,47 @@
+//! `values`: which lengths are refused, and how data prints.
+
+use crate::checks::{holds, reads, same};
+use aead_ciphers_base::values::{Aad, Nonce, Tag};
+use std::process::Abort;
+use std::test::Fail;
+
+#[test]
+fn nonces_have_twelve_bytes(rt: HostRuntime) -> Result<(), Fail> {
+    for len in [0, 11, 13] {
+        let nonce = Nonce::try_assume_unique_for_key(&[0; 13][..len]);
+        holds(&rt, nonce.is_err(), "a nonce's length");
+    }
+    let nonce = Nonce::try_assume_unique_for_key(&[7; 12])?;
+    same(&rt, nonce.as_ref(), &[7; 12], "the nonce");
+    Ok(())
+}
+
+#[test]
+fn tags_have_sixteen_bytes(rt: HostRuntime) -> Result<(), Fail> {
+    for len in [0, 15, 17] {
+        let tag = Tag::try_from(&[0; 17][..len]);
+        holds(&rt, tag.is_err(), "a tag's length");
+    }
+    let tag = Tag::try_from([7; 16].as_slice())?;
+    same(&rt, tag.as_ref(), &[7; 16], "the tag");
+    Ok(())
+}
+
+/// Two data are equal, or not.
+fn compares(rt: &impl Abort, a: Aad<'_>, b: Aad<'_>, are_equal: bool) {
+    holds(rt, (a == b) == are_equal, "equal or not");
+}
+
+#[test]
+fn aad_is_its_bytes(rt: HostRuntime) -> Result<(), Fail> {
+    let aad = Aad::from([1, 2].as_slice());
+    compares(&rt, aad, Aad::from([1, 2].as_slice()), true);
+    compares(&rt, aad, Aad::from([1, 3].as_slice()), false);
+    compares(&rt, aad, Aad::empty(), false);
+    reads(
+        &rt,
+        format!(in rt.alloc(); "{aad:?}")?.as_str(),
+        "Aad([1, 2])",
+    );
+    Ok(())
+}
