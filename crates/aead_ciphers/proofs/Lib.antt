@@ -19,6 +19,7 @@ pub mod HashLemmas
 pub mod HashedBlocks
 pub mod KeysLemmas
 pub mod Lending
+pub mod LendingLocals
 pub mod LendingSteps
 pub mod LendingWalk
 pub mod LinearMaps
