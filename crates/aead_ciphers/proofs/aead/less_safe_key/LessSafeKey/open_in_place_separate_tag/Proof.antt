@@ -1,48 +1,118 @@
--- `open_in_place_separate_tag` lends what `front_if` lends, after `open_in_place_separate_tag_len` wrote it. The borrow checker shows no
--- write-back clause for a slice that lends a slice, so this proof walks the code by hand.
-use Rattle.aead_ciphers.proofs.LendingSteps.{◌≡◌, refl, sym, ℕ, ◌-◌, List, [], ◌∷◌, full_share, id⊢, GName, ◌⊛◌, raw, ◌$◌, ◌∵◌, !, qed, move, keep, split, use1, stop, fld, hop, from, addr, of_opd, and_then, no_more, returns, enter, whole, sub, agg, alloc_all, pass_all, free_all, look_at, look_in_at, get, get_in, sets, lands_as, fact, tables, u8, Vals, shr_vals, named_lft, Room, mut_slice_vals, nothing, heard, calls_at, triple_of, framed, on_entry, Stays, length, drop_list, proved_at, IfOk}
-use Rattle.aead_ciphers.proofs.LendingWalk.{dropped, goes, Bool, is_ok, aes, aad_bytes, AesOpened, decrypted, nonce_word, aad_word, tag_word, range_word, spelled, spreads, readies, answers, relends, regains, lends, tells₂, ends, Lend, lend, within, as_lent, opened_fronts, opened_plaintext}
-use Rattle.aead_ciphers.proofs.LendingWalk.L-met
-use Rattle.aead_ciphers.specs.contracts.aead.less_safe_key.LessSafeKey.open_in_place_separate_tag_len as G
-use Rattle.aead_ciphers.proofs.aead.less_safe_key.LessSafeKey.open_in_place_separate_tag_len.Met as G-met
-use Rattle.aead_ciphers.specs.contracts.aead.less_safe_key.LessSafeKey.open_in_place_separate_tag as F
-use Rattle.aead_ciphers.proofs.aead.less_safe_key.LessSafeKey.open_in_place_separate_tag.Statement.{statement}
-use Rattle.aead_ciphers.proofs.aead.less_safe_key.LessSafeKey.open_in_place_separate_tag.Code as code
+-- `open_in_place_separate_tag` lends what `front_if` lends of what `open_in_place_separate_tag_len` wrote: the borrow checker shows
+-- no write-back clause for a slice that lends a slice.
+use Rattle.aead_ciphers.proofs.LendingSteps.{
+  refl,
+  ◌-◌,
+  [],
+  ◌∷◌,
+  full_share,
+  ◌$◌,
+  !,
+  move,
+  keep,
+  of_opd,
+  returns,
+  alloc_all,
+  pass_all,
+  free_all,
+  look_at,
+  get,
+  sets,
+  lands_as,
+  named_lft,
+  mut_slice_vals,
+  nothing,
+  length,
+  drop_list,
+  types_at,
+}
+use Rattle.aead_ciphers.proofs.LendingWalk.{
+  front_met,
+  dropped,
+  goes,
+  aes,
+  aad_bytes,
+  AesOpened,
+  decrypted,
+  Words,
+  words_vals,
+  words_typed,
+  slice_typed,
+  nonce_word,
+  aad_word,
+  tag_word,
+  range_word,
+  gets,
+  reborrows,
+  hears₂,
+  table_of,
+  walked,
+  consults,
+  relends,
+  regains,
+  lends,
+  tells₂,
+  ends,
+  within,
+  as_lent,
+  opened_fronts,
+  opened_plaintext,
+}
+use Rattle.aead_ciphers.specs.contracts.aead.less_safe_key.LessSafeKey as K
+use Rattle.aead_ciphers.proofs.aead.less_safe_key.LessSafeKey as P
 
-abbrev stayed : Stays F.ended.signature.params F.ended.kept
-stayed = dropped F.ended.signature.params F.ended.kept
-
-pub open_in_place_separate_tag_spec : {M : Type 1} → statement M
+pub open_in_place_separate_tag_spec : {M : Type 1} → P.open_in_place_separate_tag.Statement.statement M
 open_in_place_separate_tag_spec 𝓤 𝓛 𝓜 𝓡 wired =
-    let Tables = framed 𝓤 𝓛.H 𝓜 (tables 𝓤 𝓛.H 𝓜 𝓡 𝓡.env) in let c = F.clauses 𝓛 𝓜.mem 𝓡.returns in let Core = triple_of 𝓛 G.signature (G.spec 𝓛 𝓜.mem 𝓡.returns) in
-    proved_at 𝓛 F.ended stayed c 𝓜 𝓡 (goes 𝓛 3 F.ended.signature.params F.ended.kept (λ κs x f. refl, (λ κs x f. refl, (λ κs x f. refl, (λ κs x f. refl, (λ κs x f. refl, (λ κs x f. refl, tt)))))))
-    F.Key.name code.function (code.unfolded 𝓤 𝓛.H 𝓜 𝓡 wired)
-    (λ y₀ are. let κs = y₀.0.0 in let qs = y₀.0.1 in let a = y₀.0.3 in let κ = κs.1.1.0 in let q = qs.1.1.0 in let key = a.0.now.bytes in let nonce = a.1.0 in let aad = aad_bytes a.1.1.0 in let tag = a.1.1.1.0 in let arg = a.1.1.1.1.0 in let xs = arg.now in let start = a.1.1.1.1.1.0.start in
-    let count : ℕ = length xs - start in let plaintext : List ℕ = decrypted (aes key) nonce (drop_list start xs) in
-    let Opens : Bool → List ℕ → Type 0 = AesOpened key nonce aad tag start xs in
-    let rm : Room u8 (length xs) = are.1.1.1.1.0.0.1 in let nonce-is = nonce_word 𝓛 nonce _ are.1.0 in let aad-is = aad_word 𝓛 (named_lft 3 1 tt κs) a.1.1.0 _ are.1.1.0 in let tag-is = tag_word 𝓛 tag _ are.1.1.1.0 in let range-is = range_word 𝓛 a.1.1.1.1.1.0 _ are.1.1.1.1.1.0 in
-    let vss : Vals F.signature κs = (shr_vals a.0, (nonce-is.0 ∷ [], (aad-is.0 ∷ [], (tag-is.0 ∷ [], (mut_slice_vals arg, (range-is.0 ∷ [], tt)))))) in
-    let z : ℕ → GName → Core.Ghost = λ α δ. (((κs.0, (κs.1.0, (α ∷ [], tt))), (qs.0, (qs.1.0, (full_share, tt))), tt, (a.0, (nonce, (a.1.1.0, (tag, (record arg { ghost_name = δ }, (a.1.1.1.1.1.0, tt)))))), vss), tt) in
-    spelled 𝓛 F.ended stayed c 𝓜 𝓡 code.function y₀ vss (λ i. (sym (are.0.0) i, (sym (nonce-is.1) i, (sym (aad-is.1) i, (sym (tag-is.1) i, (sym (are.1.1.1.1.0.0.0) i, (sym (range-is.1) i, tt))))))) (
-    qed 𝓛 (raw (on_entry 𝓛 F.signature κs qs a vss) ∷ raw ((c κs a).requires tt) ∷ []) ∵ spreads 𝓛 ! F.signature κs qs a vss $
-    -- [three tokens; self, nonce, aad, tag, in_out, the range; the premise]
-    move ! (7 ∷ 2 ∷ []) $ enter ! _ _ _ _ _ $ alloc_all ! (λ l. pass_all ! refl ((tt, tt), (nonce-is.2, (aad-is.2, (tag-is.2, ((tt, (tt, (record { fits = rm.0 }, tt))), (range-is.2, tt)))))) $
-    sets ! (of_opd ! (get ! refl)) refl aad-is.2 $
-    sets ! (addr ! (from ! (fld ! refl (hop ! (look_in_at ! 5 (sub ! 0 refl (whole !))) (stop !))))) refl (tt, tt) $
-    sets ! (agg ! (and_then ! (get ! refl) (and_then ! (get_in ! (fld ! refl (stop !)) (sub ! 1 refl (whole !))) (no_more !)))) refl (tt, (tt, (record { fits = rm.0 }, tt))) $
-    relends 𝓛 κ q arg rm ! tt (mut_slice_vals arg) (λ α δ.
-    -- [in_out and its lifetime's token; what is kept; two tokens; self, nonce, aad, tag, the range; the premise]
-    move ! (3 ∷ 4 ∷ 1 ∷ 5 ∷ 6 ∷ 7 ∷ 8 ∷ 0 ∷ 9 ∷ 10 ∷ []) $ readies 𝓛 ! G.signature (G.spec 𝓛 𝓜.mem 𝓡.returns) (z α δ) $
-    calls_at ! Tables Core (G-met.met 𝓤 𝓛 𝓜 𝓡 (code.calls-aead_ciphers::aead::less_safe_key::LessSafeKey::open_in_place_separate_tag_len 𝓡.env wired)) (z α δ) (and_then ! (get ! refl) (and_then ! (get ! refl) (and_then ! (get ! refl) (and_then ! (get ! refl) (and_then ! (get ! refl) (and_then ! (get ! refl) (no_more !))))))) (λ v.
-    answers 𝓛 G.ended (G.clauses 𝓛 𝓜.mem 𝓡.returns) ! tt (z α δ) v (λ u ws. let ys : List ℕ = ws.1.1.1.1.0 in
-    -- [three tokens; the answer; nothing of self, nonce, aad, tag; what in_out ends as; nothing of the range; what is said; what is kept]
-    move ! (10 ∷ []) $ use1 𝓛 (raw (fact 𝓤 (Opens (is_ok u) ys)) ⊛ raw (fact 𝓤 (IfOk u (λ n. n ≡ count)))) (id⊢ 𝓤 _) $ split ! $ heard ! _ (λ opened. heard ! _ (λ counted.
-    let fronts = opened_fronts (aes key) nonce aad start tag xs ys u opened counted in let holds = opened_plaintext (aes key) nonce aad start tag xs ys u opened in
-    move ! (2 ∷ 3 ∷ 8 ∷ 10 ∷ []) $ regains 𝓛 κ q arg rm 𝓜 𝓡 v u ys ! tt α δ (within count xs ys u fronts) (λ same typed. lands_as ! refl refl typed.0 $
-    sets ! (addr ! (from ! (fld ! refl (hop ! (look_in_at ! 5 (sub ! 0 refl (whole !))) (stop !))))) refl (tt, tt) $
-    sets ! (agg ! (and_then ! (get ! refl) (and_then ! (get_in ! (fld ! refl (stop !)) (sub ! 1 refl (whole !))) (no_more !)))) refl (tt, (tt, (record { fits = rm.0 }, tt))) $
-    calls_at ! Tables (Lend 𝓛 κ q arg rm 𝓜 𝓡) (L-met.met 𝓤 𝓛 𝓜 𝓡 (code.calls-aead_ciphers::aead::lend::front_if 𝓡.env wired)) (lend 𝓛 κ q arg rm 𝓜 𝓡 v u ys) (and_then ! (get ! refl) (and_then ! (get ! refl) (no_more !))) (λ w.
-    lends 𝓛 κ q arg rm 𝓜 𝓡 v u ys ! tt w plaintext count fronts holds same (λ r is-r end. lands_as ! refl refl is-r.0 $ returns ! (look_at ! 0 refl) $ free_all ! refl $
-    -- [in_out's token; the front; what is owed of in_out; two tokens; five times nothing]
-    move ! (2 ∷ []) $ tells₂ 𝓛 ! (as_lent Opens plaintext xs ys count u r end opened) end.value $ nothing ! $ keep ! (4 ∷ 5 ∷ 2 ∷ 0 ∷ 6 ∷ 7 ∷ 8 ∷ 9 ∷ 10 ∷ 3 ∷ 1 ∷ []) $
-    ends 𝓛 F.ended stayed c ((κs, qs, y₀.0.2, a, vss), tt) w r (tt, (tt, (tt, (tt, (tt, (tt, tt)))))) ! (tt, (tt, (tt, (tt, (tt, (tt, tt)))))))))))))))))
+    let T = K.open_in_place_separate_tag.ended in let c = K.open_in_place_separate_tag.clauses 𝓛 𝓜.mem 𝓡.returns in let stayed =
+    dropped T.signature.params T.kept in
+    walked 𝓛 T stayed c 𝓜 𝓡 (goes 𝓛 3 T.signature.params T.kept (
+      λ κs x f. refl,
+      (λ κs x f. refl, (λ κs x f. refl, (λ κs x f. refl, (λ κs x f. refl, (λ κs x f. refl, tt))))),
+    ))
+    K.open_in_place_separate_tag.Key.name P.open_in_place_separate_tag.Code.function (P.open_in_place_separate_tag.Code.unfolded 𝓤 𝓛.H 𝓜 𝓡 wired) (λ y are.
+    let (κs, qs, bounds, a, passed) = y.0 in let κ = κs.1.1.0 in let q = qs.1.1.0 in let Ts = types_at T.signature.params κs in
+    let (self, (nonce, (aad, (tag, (in_out, (range, _)))))) = a in let (is-self, (is-nonce, (is-aad, (is-tag, (is-in_out, (is-range, _)))))) = are in
+    let key = self.now.bytes in let old = in_out.now in let room = is-in_out.0.1 in let typed-slice = slice_typed in_out.ref_ptr (length old) room in
+    let count = length old - range.start in let plaintext = decrypted (aes key) nonce (drop_list range.start old) in
+    let words : Words Ts passed = (
+      (_, is-self.0, (tt, tt)),
+      (
+        nonce_word 𝓛 nonce _ is-nonce,
+        (
+          aad_word 𝓛 (named_lft 3 1 tt κs) aad _ is-aad,
+          (tag_word 𝓛 tag _ is-tag, ((_, is-in_out.0.0, typed-slice), (range_word 𝓛 range _ is-range, tt))),
+        ),
+      ),
+    ) in let vals = words_vals Ts passed words in (
+      words,
+      move ! (7 ∷ 2 ∷ []) $ alloc_all ! (λ l. pass_all ! refl (words_typed Ts passed words) $
+          sets ! (of_opd ! (get ! refl)) refl words.1.1.0.2 $ reborrows ! in_out.ref_ptr (length old) refl refl (tt, tt) typed-slice $
+          relends 𝓛 κ q in_out room ! tt (mut_slice_vals in_out) (λ α δ.
+          -- [in_out and its lifetime's token; what is kept; two tokens; self, nonce, aad, tag, the range; the premise]
+          move ! (3 ∷ 4 ∷ 1 ∷ 5 ∷ 6 ∷ 7 ∷ 8 ∷ 0 ∷ 9 ∷ 10 ∷ []) $
+          consults 𝓛 K.open_in_place_separate_tag_len.ended (K.open_in_place_separate_tag_len.clauses 𝓛 𝓜.mem 𝓡.returns) ! (table_of 𝓛 𝓜 𝓡)
+          (P.open_in_place_separate_tag_len.Met.met 𝓤 𝓛 𝓜 𝓡
+          (P.open_in_place_separate_tag.Code.calls-aead_ciphers::aead::less_safe_key::LessSafeKey::open_in_place_separate_tag_len 𝓡.env wired)) (
+            (
+              (κs.0, (κs.1.0, (α ∷ [], tt))),
+              (qs.0, (qs.1.0, (full_share, tt))),
+              tt,
+              (self, (nonce, (aad, (tag, (record in_out { ghost_name = δ }, (range, tt)))))),
+              vals,
+            ),
+            tt,
+          )
+          (gets ! tt refl) (λ v u ws. let new = ws.1.1.1.1.0 in hears₂ ! (λ opened counted.
+          let fronts = opened_fronts (aes key) nonce (aad_bytes aad) range.start tag old new u opened counted in
+          let holds = opened_plaintext (aes key) nonce (aad_bytes aad) range.start tag old new u opened in
+          -- [the answer; three tokens; nothing of self, nonce, aad, tag; what in_out ends as; nothing of the range; what is kept]
+          move ! (3 ∷ 0 ∷ 8 ∷ 10 ∷ []) $ regains 𝓛 κ q in_out room 𝓜 𝓡 v u new ! tt α δ (within count old new u fronts) (λ same typed.
+          lands_as ! refl refl typed.0 $ reborrows ! in_out.ref_ptr (length old) refl refl (tt, tt) typed-slice $
+          lends 𝓛 κ q in_out room 𝓜 𝓡 v u new ! (table_of 𝓛 𝓜 𝓡)
+          (front_met 𝓤 𝓛 𝓜 𝓡 (P.open_in_place_separate_tag.Code.calls-aead_ciphers::aead::lend::front_if 𝓡.env wired))
+          plaintext count fronts holds same (gets ! tt refl) (λ w r is-r end. lands_as ! refl refl is-r.0 $ returns ! (look_at ! 0 refl) $ free_all ! refl $
+          -- [in_out's token; the front; what is owed of in_out; two tokens; five times nothing]
+          move ! (2 ∷ []) $ tells₂ 𝓛 ! (as_lent (AesOpened key nonce (aad_bytes aad) tag range.start old) plaintext old new count u r end opened) end.value $
+          nothing ! $ keep ! (4 ∷ 5 ∷ 2 ∷ 0 ∷ 6 ∷ 7 ∷ 8 ∷ 9 ∷ 10 ∷ 3 ∷ 1 ∷ []) $
+          ends 𝓛 T stayed c ((κs, qs, bounds, a, vals), tt) w r (tt, (tt, (tt, (tt, (tt, (tt, tt)))))) ! (tt, (tt, (tt, (tt, (tt, (tt, tt)))))))))))),
+    ))
