@@ -17,9 +17,9 @@ use types.Kit.{‵, ◌$◌, ◌∵◌, !, qed, drop, fsplit, fsplit3, fjoin, do
 use denote.Array.{Array}
 use denote.Builtin.{u8, usize}
 use denote.Follow.{follows, follows_by}
-use denote.Laws.{Lawful, Typed}
-use denote.RattleType.{RattleType}
-use denote.Ref.{MutBor}
+use denote.Laws.{Lawful, Typed, Is}
+use denote.RattleType.{RattleType, Valss}
+use denote.Ref.{MutBor, NamedLft}
 use denote.Shadow.{pure_i}
 use denote.Slice.{MutSlice, Room, room, slice_val, shr_slice_at}
 use denote.Enum.Declared.{shape}
@@ -37,6 +37,13 @@ use Rattle.std.proofs.result.Result.TheLaws as RL
 use Rattle.std.specs.contracts.ops.RangeFrom as RF
 use Rattle.aead_ciphers_base.specs.contracts.error.Unspecified as US
 use Rattle.aead_ciphers_base.proofs.error.Unspecified.TheLaws as UL
+use Rattle.std.proofs.ops.RangeFrom.TheLaws as RFL
+use Rattle.aead_ciphers_base.specs.contracts.values.Aad as D
+use Rattle.aead_ciphers_base.proofs.values.Aad.TheLaws as DL
+use Rattle.aead_ciphers_base.specs.contracts.values.Nonce as N
+use Rattle.aead_ciphers_base.proofs.values.Nonce.TheLaws as NL
+use Rattle.aead_ciphers_base.specs.contracts.values.Tag as G
+use Rattle.aead_ciphers_base.proofs.values.Tag.TheLaws as GL
 use Rattle.aead_ciphers.specs.Lending.{LendsFront}
 
 abbrev pub usize_laws : PL.Laws usize
@@ -64,27 +71,74 @@ one τ [] t = absurd t
 one τ (v ∷ []) t = (v, refl, t.0)
 one τ (v ∷ w ∷ vs) t = absurd t.1
 
+-- the one word that stores a value: the word, that it is the list of the value's words, and that it is of the type
+abbrev pub Word : RattleType → List Val → Type 0
+Word R vs = (v : Val) × (vs ≡ v ∷ []) × (T (has_ty (lone R.mir) v) × WT v)
+
+-- parameters that are stored as a word each
+abbrev pub Words : (Ts : List RattleType) → Valss Ts → Type 0
+Words [] vss = Unit {0}
+Words (R ∷ Ts) vss = Word R vss.0 × Words Ts vss.1
+
+abbrev pub words_vals : (Ts : List RattleType) (vss : Valss Ts) → Words Ts vss → Valss Ts
+words_vals [] vss ws = tt
+words_vals (R ∷ Ts) vss ws = (ws.0.0 ∷ [], words_vals Ts vss.1 ws.1)
+
+pub words_same : (Ts : List RattleType) (vss : Valss Ts) (ws : Words Ts vss) → words_vals Ts vss ws ≡ vss
+words_same [] vss ws = refl
+words_same (R ∷ Ts) vss ws = λ i. (sym (ws.0.1) i, words_same Ts vss.1 ws.1 i)
+
+abbrev pub WordsTyped : (Ts : List RattleType) (vss : Valss Ts) → Words Ts vss → Type 0
+WordsTyped [] vss ws = Unit {0}
+WordsTyped (R ∷ Ts) vss ws = (T (has_ty (lone R.mir) ws.0.0) × WT ws.0.0) × WordsTyped Ts vss.1 ws.1
+
+abbrev pub words_typed : (Ts : List RattleType) (vss : Valss Ts) (ws : Words Ts vss) → WordsTyped Ts vss ws
+words_typed [] vss ws = tt
+words_typed (R ∷ Ts) vss ws = (ws.0.2, words_typed Ts vss.1 ws.1)
+
+-- a slice's word is of the slice's type
+abbrev pub slice_typed : (p : ℕ × ℕ) (n : ℕ) → Room u8 n → Unit {0} × WT (slice_val p n)
+slice_typed p n rm = (tt, (tt, (record { fits = rm.0 }, tt)))
+
 module _ {M : Type 1} {𝓤 : Ura M} (𝓛 : Logic 𝓤) where
+  pub nonce_word : (x : (N.the_row).Denot) (vs : List Val) → Is N.the_row x vs → Word N.the_row vs
+  nonce_word x vs is = one (lone (N.the_row).mir) vs ((NL.the_row_laws.lawful 𝓛).typed x vs is)
+
+  pub aad_word : (ℓ : NamedLft) (x : (D.the_row ℓ).Denot) (vs : List Val) → Is (D.the_row ℓ) x vs → Word (D.the_row ℓ) vs
+  aad_word ℓ x vs is = one (lone (D.the_row ℓ).mir) vs (((DL.the_row_laws ℓ).lawful 𝓛).typed x vs is)
+
+  pub tag_word : (x : (G.the_row).Denot) (vs : List Val) → Is G.the_row x vs → Word G.the_row vs
+  tag_word x vs is = one (lone (G.the_row).mir) vs ((GL.the_row_laws.lawful 𝓛).typed x vs is)
+
+  pub range_word : (x : Range.Denot) (vs : List Val) → Is Range x vs → Word Range vs
+  range_word x vs is = one (lone Range.mir) vs (((RFL.the_row_laws usize usize_laws).lawful 𝓛).typed x vs is)
+
   pub answer_Lawful : Lawful 𝓛 Answer
   answer_Lawful = (RL.the_row_laws usize US.the_row usize_laws UL.the_row_laws).lawful 𝓛
 
   pub out_Lawful : (X : RattleType) → Lawful 𝓛 X → Lawful 𝓛 (Out X)
-  out_Lawful X L = let T = RS.the_type X US.the_row in recorded_lawful (Enum (shape T)) T.D T.to T.to_one 𝓛 (Enum-Lawful 𝓛 (shape T) tt ((L, tt), (((UL.the_row_laws).lawful 𝓛, tt), tt)))
+  out_Lawful X L = let T = RS.the_type X US.the_row in
+      recorded_lawful (Enum (shape T)) T.D T.to T.to_one 𝓛 (Enum-Lawful 𝓛 (shape T) tt ((L, tt), (((UL.the_row_laws).lawful 𝓛, tt), tt)))
 
   module _ (ℓ : Lifetime) (κ : Lft) (b o : ℕ) (γ : GName) where
-    pub as_own : (xs : List ℕ) (vs : List Val) → Room u8 (length xs) → ent 𝓤 (sem 𝓛 ((MutSlice ℓ κ u8).own_val (record { ref_ptr = (b, o); ghost_name = γ; now = xs }) vs)) (sem 𝓛 (Own b o κ γ xs))
+    pub as_own : (xs : List ℕ) (vs : List Val) → Room u8 (length xs)
+        → ent 𝓤 (sem 𝓛 ((MutSlice ℓ κ u8).own_val (record { ref_ptr = (b, o); ghost_name = γ; now = xs }) vs)) (sem 𝓛 (Own b o κ γ xs))
     as_own xs vs rm = qed 𝓛 (‵ ((MutSlice ℓ κ u8).own_val (record { ref_ptr = (b, o); ghost_name = γ; now = xs }) vs) ∷ []) ∵
         fsplit3 ! $ drop ! $ fjoin ! $ pure_i ! (room u8 (length xs)) (tt, tt) rm $ fjoin ! $ done !
 
-    pub as_slice : (ys : List ℕ) (n : ℕ) → length ys ≡ n → Room u8 n → ent 𝓤 (sem 𝓛 (Own b o κ γ ys)) (sem 𝓛 ((MutSlice ℓ κ u8).own_val (record { ref_ptr = (b, o); ghost_name = γ; now = ys }) (slice_val (b, o) n ∷ [])))
+    pub as_slice : (ys : List ℕ) (n : ℕ) → length ys ≡ n → Room u8 n
+        → ent 𝓤 (sem 𝓛 (Own b o κ γ ys)) (sem 𝓛 ((MutSlice ℓ κ u8).own_val (record { ref_ptr = (b, o); ghost_name = γ; now = ys }) (slice_val (b, o) n ∷ [])))
     as_slice ys n e rm =
         let rm' : Room u8 (length ys) = subst (Room u8) (sym e) rm in
         qed 𝓛 (‵ (Own b o κ γ ys) ∷ []) ∵ fsplit ! $ drop ! $
         pure_i ! (shr_slice_at u8 (record { ref_ptr = (b, o); now = ys }) (slice_val (b, o) (length ys) ∷ [])) (tt, (tt, tt)) (refl, rm') $ fjoin ! $
         rewrite ! 0 (λ (k : ℕ). ‵ ((MutSlice ℓ κ u8).own_val (record { ref_ptr = (b, o); ghost_name = γ; now = ys }) (slice_val (b, o) k ∷ []))) e refl $ done !
 
-  pub turned : {E : Type 0} (s : MutBor (List ℕ)) (r : Result (MutBor (List ℕ)) E) (n m : ℕ) (ys : List ℕ) → (IsOk r → drop_list n ys ≡ drop_list m s.now) → OnErr r (ys ≡ s.now)
+  pub turned : {E : Type 0} (s : MutBor (List ℕ)) (r : Result (MutBor (List ℕ)) E) (n m : ℕ) (ys : List ℕ) → (IsOk r → drop_list n ys ≡ drop_list m s.now)
+      → OnErr r (ys ≡ s.now)
       → ent 𝓤 (sem 𝓛 (LendsFront (record s { now = ys }) r n)) (sem 𝓛 (LendsFront s r m))
   unfolding follows_by
-  turned s (Ok p) n m ys e f = subst (λ (l : List ℕ). ent 𝓤 (sem 𝓛 (follows (Array u8 0) (Array u8 0) s.ghost_name p.ghost_name (λ w. w ++ drop_list n ys))) (sem 𝓛 (follows (Array u8 0) (Array u8 0) s.ghost_name p.ghost_name (λ w. w ++ l)))) (e refl) (id⊢ 𝓤 _)
-  turned s (Err x) n m ys e f = subst (λ (l : List ℕ). ent 𝓤 (sem 𝓛 (LendsFront (record s { now = ys }) (Err x) n)) (sem 𝓛 (LendsFront (record s { now = l }) (Err x) m))) f (id⊢ 𝓤 _)
+  turned s (Ok p) n m ys e f = subst (λ (l : List ℕ). ent 𝓤 (sem 𝓛 (follows (Array u8 0) (Array u8 0) s.ghost_name p.ghost_name (λ w. w ++ drop_list n ys)))
+      (sem 𝓛 (follows (Array u8 0) (Array u8 0) s.ghost_name p.ghost_name (λ w. w ++ l)))) (e refl) (id⊢ 𝓤 _)
+  turned s (Err x) n m ys e f = subst
+      (λ (l : List ℕ). ent 𝓤 (sem 𝓛 (LendsFront (record s { now = ys }) (Err x) n)) (sem 𝓛 (LendsFront (record s { now = l }) (Err x) m))) f (id⊢ 𝓤 _)

@@ -10,7 +10,44 @@ pub use base.Logic.{SProp, ent, sep, ex, emp, guard, id⊢}
 pub use base.Fml.{Lft, GName, Share, ftrue, flft, Fml, fsep, fres, fbor}
 pub use types.Logic.{Logic, sem}
 pub use types.Tokens.{lft_new, lft_end}
-pub use types.Kit.{Item, Sq, prop, mean, ‵, ◌⊛◌, raw, given, some, later, ◌$◌, ◌∵◌, !, qed, move, keep, drop, split, split3, join, learn, check, fsplit, fjoin, use0, use1, use2, use3, await, pick, suffices, frame, done, updating, now, show}
+pub use types.Kit.{
+  Item,
+  Sq,
+  prop,
+  mean,
+  ‵,
+  ◌⊛◌,
+  raw,
+  given,
+  some,
+  later,
+  ◌$◌,
+  ◌∵◌,
+  !,
+  qed,
+  move,
+  keep,
+  drop,
+  split,
+  split3,
+  join,
+  learn,
+  check,
+  fsplit,
+  fjoin,
+  use0,
+  use1,
+  use2,
+  use3,
+  await,
+  pick,
+  suffices,
+  frame,
+  done,
+  updating,
+  now,
+  show,
+}
 pub use types.Run.{stop, fld, hop, from, addr, of_opd, and_then, no_more, returns, enter}
 pub use types.Part.{whole, sub, agg}
 pub use types.ByLocal.{alloc_all, pass_all, free_all, look_at, look_in_at, get, get_in, sets, lands_as, through}
@@ -24,12 +61,12 @@ pub use denote.Exit.{yes, no}
 pub use denote.Laws.{Is, Typed, shows}
 pub use denote.RattleType.{RattleType, owns, Valss}
 pub use denote.Ref.{MutBor, ShrRef, shr_vals, shr_Tells, MutRef, mut_vals, mut_Tells}
-pub use denote.Signature.{plain, mut_slice_of, named_lft}
+pub use denote.Signature.{plain, mut_slice_of, named_lft, types_at}
 pub use denote.Slice.{MutSlice, Room, slice_val, mut_slice_vals, mut_slice_Tells, mut_slice_Lawful}
 pub use denote.Steps.{nothing, heard, peeks}
 pub use denote.Triple.Call.{calls_at}
 pub use denote.Triple.Clauses.{Clauses, lasts}
-pub use denote.Triple.Entry.{on_entry, Args}
+pub use denote.Triple.Entry.{on_entry, Args, Vals}
 pub use denote.Triple.Spec.{triple_of}
 pub use denote.Triple.Statement.{Contract}
 pub use denote.Triple.Table.{framed}

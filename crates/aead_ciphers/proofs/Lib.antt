@@ -20,7 +20,9 @@ pub mod HashedBlocks
 pub mod KeysLemmas
 pub mod LaneLemmas
 pub mod Lending
+pub mod LendingLocals
 pub mod LendingSteps
+pub mod LendingWalk
 pub mod LinearMaps
 pub mod MultiplesLemmas
 pub mod OpenLemmas

@@ -32,8 +32,8 @@ its_front m new (Err e) = tt
 pub lent_count : {E : Type 0} (m : ℕ) (old new : List ℕ) (answer : Result ℕ E) (result : Result (MutBor (List ℕ)) E) → Fronts m old new answer
     → length new ≡ length old → is_ok answer ≡ is_ok result → IfOk result (λ front. front.now ≡ take m new) → IfOk result (λ front. length front.now ≡ m)
 lent_count m old new (Ok n) (Ok front) fronts long same value =
-    let is : n ≡ m = fronts.ok.0 in
-    let within : n ≤ length old = fronts.ok.1 in
+    let is : n ≡ m = fronts.ok.count in
+    let within : n ≤ length old = fronts.ok.in_range in
     ap length value ∙ length-take-le m new (omega (arith, is, within, long))
 lent_count m old new (Err e) (Ok front) fronts long same value = let no : false ≡ true = same in absurd (cc)
 lent_count m old new answer (Err e) fronts long same value = tt

@@ -17,7 +17,46 @@ use types.Follow.{takes_part}
 use types.Match.{live, vrt, by_variants}
 use contract.Monad.{fact}
 use contract.Running.{tables}
-use types.Kit.{Item, Sq, prop, at_ret, ‵, ◌⊛◌, raw, some, later, ◌$◌, ◌∵◌, !, qed, move, keep, drop, split, split3, join, fsplit, fsplit3, fjoin, fpack, use0, use1, use2, await, pick, suffices, frame, done, updating, group, now, show, rewrite, feq_l, feq_i}
+use types.Kit.{
+  Item,
+  Sq,
+  prop,
+  at_ret,
+  ‵,
+  ◌⊛◌,
+  raw,
+  some,
+  later,
+  ◌$◌,
+  ◌∵◌,
+  !,
+  qed,
+  move,
+  keep,
+  drop,
+  split,
+  split3,
+  join,
+  fsplit,
+  fsplit3,
+  fjoin,
+  fpack,
+  use0,
+  use1,
+  use2,
+  await,
+  pick,
+  suffices,
+  frame,
+  done,
+  updating,
+  group,
+  now,
+  show,
+  rewrite,
+  feq_l,
+  feq_i,
+}
 use denote.Array.{Array}
 use denote.Builtin.{u8, usize}
 use denote.Exit.{no}
@@ -95,16 +134,19 @@ module _ {M : Type 1} {𝓤 : Ura M} (𝓛 : Logic 𝓤) where
         qed 𝓛 (‵ (X.own_val x (v ∷ [])) ∷ []) ∵ nothing ! $ move ! (1 ∷ 0 ∷ []) $ fjoin ! $ feq_i ! (List Val) (v ∷ []) (v ∷ []) refl $ fjoin ! $
         fpack ! (Valss (X ∷ [])) (in_a_row (X ∷ []) (owns (X ∷ []) (x, tt)) (v ∷ [])) (v ∷ [], tt) $
         feq_i ! (List Val) (live 0 (of_list (v ∷ [])) ∷ []) (live 0 (of_list (v ∷ [])) ∷ []) refl $ fjoin ! $
-        fpack ! (List Val) (tagged_with (form_of (shape (RS.the_type X US.the_row))) (form_of (shape (RS.the_type X US.the_row))).payload ((RS.the_type X US.the_row).to (Ok x)) (live 0 (of_list (v ∷ [])) ∷ [])) (v ∷ []) $ done !
+        fpack ! (List Val) (tagged_with (form_of (shape (RS.the_type X US.the_row))) (form_of (shape (RS.the_type X US.the_row))).payload
+        ((RS.the_type X US.the_row).to (Ok x)) (live 0 (of_list (v ∷ [])) ∷ [])) (v ∷ []) $ done !
 
     refused : ent 𝓤 (emp 𝓤) (sem 𝓛 ((RS.the_row X US.the_row).own_val (Err (record {})) (live 1 (of_list (vstruct vnil ∷ [])) ∷ [])))
     refused =
         let v : Val = vstruct vnil in
-        qed 𝓛 [] ∵ nothing ! $ owned ! (Struct (Declared.shape US.the_type)) (Is (Struct (Declared.shape US.the_type))) (Struct-Makes 𝓛 (Declared.shape US.the_type) tt) tt (v ∷ []) (tt, (refl, tt)) $ fjoin ! $
+        qed 𝓛 [] ∵ nothing ! $ owned ! (Struct (Declared.shape US.the_type)) (Is (Struct (Declared.shape US.the_type)))
+        (Struct-Makes 𝓛 (Declared.shape US.the_type) tt) tt (v ∷ []) (tt, (refl, tt)) $ fjoin ! $
         feq_i ! (List Val) (v ∷ []) (v ∷ []) refl $ fjoin ! $
         fpack ! (Valss (US.the_row ∷ [])) (in_a_row (US.the_row ∷ []) (owns (US.the_row ∷ []) (record {}, tt)) (v ∷ [])) (v ∷ [], tt) $
         feq_i ! (List Val) (live 1 (of_list (v ∷ [])) ∷ []) (live 1 (of_list (v ∷ [])) ∷ []) refl $ fjoin ! $
-        fpack ! (List Val) (tagged_with (form_of (shape (RS.the_type X US.the_row))) (form_of (shape (RS.the_type X US.the_row))).payload ((RS.the_type X US.the_row).to (Err (record {}))) (live 1 (of_list (v ∷ [])) ∷ [])) (v ∷ []) $ done !
+        fpack ! (List Val) (tagged_with (form_of (shape (RS.the_type X US.the_row))) (form_of (shape (RS.the_type X US.the_row))).payload
+        ((RS.the_type X US.the_row).to (Err (record {}))) (live 1 (of_list (v ∷ [])) ∷ [])) (v ∷ []) $ done !
 
   module _ (κ : Lft) (q : Share) (b o : ℕ) (γ : GName) (xs : List ℕ) (m : ℕ) where
     abbrev Sl : RattleType
@@ -139,10 +181,12 @@ module _ {M : Type 1} {𝓤 : Ura M} (𝓛 : Logic 𝓤) where
         feq_i ! ℕ (length (ws ++ back)) (length xs) (omega arith) $ fjoin ! $ done !)
 
     abbrev Lent : ℕ → GName → SProp 𝓤
-    Lent k δ = sep 𝓤 (sem 𝓛 (Sl.own_val (record { ref_ptr = (b, o); ghost_name = δ; now = front }) (slice_val (b, o) k ∷ []))) (sep 𝓤 (A.lft κ q) (sem 𝓛 (follows (Array u8 0) (Array u8 0) γ δ after)))
+    Lent k δ = sep 𝓤 (sem 𝓛 (Sl.own_val (record { ref_ptr = (b, o); ghost_name = δ; now = front }) (slice_val (b, o) k ∷ [])))
+        (sep 𝓤 (A.lft κ q) (sem 𝓛 (follows (Array u8 0) (Array u8 0) γ δ after)))
 
     abbrev lent : ℕ → GName → Item 𝓤
-    lent k δ = ‵ (Sl.own_val (record { ref_ptr = (b, o); ghost_name = δ; now = front }) (slice_val (b, o) k ∷ [])) ⊛ ‵ (flft κ q) ⊛ ‵ (follows (Array u8 0) (Array u8 0) γ δ after)
+    lent k δ = ‵ (Sl.own_val (record { ref_ptr = (b, o); ghost_name = δ; now = front }) (slice_val (b, o) k ∷ [])) ⊛ ‵ (flft κ q)
+        ⊛ ‵ (follows (Array u8 0) (Array u8 0) γ δ after)
 
     lends : m ≤ length xs → Room u8 (length xs) → (vs : List Val)
         → ent 𝓤 (sep 𝓤 (sem 𝓛 (Sl.own_val (record { ref_ptr = (b, o); ghost_name = γ; now = xs }) vs)) (A.lft κ q)) (H.⇛ (ex 𝓤 (Lent m)))
@@ -158,13 +202,17 @@ module _ {M : Type 1} {𝓤 : Ura M} (𝓛 : Logic 𝓤) where
         rewrite ! 0 (λ (l : List ℕ). ‵ (elements l o)) (sym (take-append-drop m xs)) refl $
         use1 𝓛 (‵ (elements front o) ⊛ ‵ (elements back (past (length front)))) (cut_app 𝓛 (mem u8) front back b o) $ split ! $
         feq_i ! ℕ (length front) (length front) refl $ fjoin ! $ move ! (2 ∷ 3 ∷ 4 ∷ 0 ∷ 1 ∷ []) $ group ! 5 $
-        use1 𝓛 (later (some (λ (δ : GName). ‵ (fobs δ (code front)) ⊛ ‵ (fbor κ (Body (Arr (mem u8) (length front)) b o δ)) ⊛ ‵ (flft κ q) ⊛ ‵ (follows (Array u8 0) (Array u8 0) γ δ after))))
-        (takes_part 𝓛 (Arr (mem u8) (length xs)) (Arr (mem u8) (length front)) after κ q b o b o γ Rest put (code xs) (code xs) front) $ await ! tt $ pick ! (λ δ. split3 ! $
-        use2 𝓛 (‵ (Sl.own_val (record { ref_ptr = (b, o); ghost_name = δ; now = front }) (slice_val (b, o) (length front) ∷ []))) (slice_of 𝓛 u8 (named 0) κ b o δ front room) $
+        use1 𝓛 (later (some (λ (δ : GName). ‵ (fobs δ (code front)) ⊛ ‵ (fbor κ (Body (Arr (mem u8) (length front)) b o δ)) ⊛ ‵ (flft κ q)
+        ⊛ ‵ (follows (Array u8 0) (Array u8 0) γ δ after))))
+        (takes_part 𝓛 (Arr (mem u8) (length xs)) (Arr (mem u8) (length front)) after κ q b o b o γ Rest put (code xs) (code xs) front) $ await ! tt $
+        pick ! (λ δ. split3 ! $
+        use2 𝓛 (‵ (Sl.own_val (record { ref_ptr = (b, o); ghost_name = δ; now = front }) (slice_val (b, o) (length front) ∷ [])))
+        (slice_of 𝓛 u8 (named 0) κ b o δ front room) $
         rewrite ! 0 (λ (k : ℕ). ‵ (Sl.own_val (record { ref_ptr = (b, o); ghost_name = δ; now = front }) (slice_val (b, o) k ∷ []))) count refl $
         now ! $ show ! (Lent m) δ $ done !)
 
-module _ {M : Type 1} {𝓤 : Ura M} (𝓛 : Logic 𝓤) (at_mem : Memory → SProp 𝓤) (run : Routine → Fun 𝓤) (C : Calls 𝓤 𝓛.H) (Λ : Loops 𝓤 𝓛.H) (κs : Lfts 1) (qs : Shares 1) (arg : MutBor (List ℕ)) (rm : Room u8 (length arg.now)) where
+module _ {M : Type 1} {𝓤 : Ura M} (𝓛 : Logic 𝓤) (at_mem : Memory → SProp 𝓤) (run : Routine
+    → Fun 𝓤) (C : Calls 𝓤 𝓛.H) (Λ : Loops 𝓤 𝓛.H) (κs : Lfts 1) (qs : Shares 1) (arg : MutBor (List ℕ)) (rm : Room u8 (length arg.now)) where
   open 𝓛 use {H, A}
 
   abbrev c : Clauses 𝓤 F.ended
@@ -198,7 +246,8 @@ module _ {M : Type 1} {𝓤 : Ura M} (𝓛 : Logic 𝓤) (at_mem : Memory → SP
   Out = RS.the_row Slice US.the_row
 
   walks : (x : Answer.Denot) → IfOk x (λ n. n ≤ length xs) → Typed Answer.mir (answer_val x ∷ [])
-      → Sq 𝓛 (‵ (Slice.own_val arg (mut_slice_vals arg)) ∷ ‵ (flft κ q) ∷ []) (prop (WpFn 𝓤 H C Λ code.function (slice_val arg.ref_ptr (length xs) ∷ answer_val x ∷ []) ((walk_of 𝓛 F.ended stayed c).post (y x))))
+      → Sq 𝓛 (‵ (Slice.own_val arg (mut_slice_vals arg)) ∷ ‵ (flft κ q) ∷ [])
+      (prop (WpFn 𝓤 H C Λ code.function (slice_val arg.ref_ptr (length xs) ∷ answer_val x ∷ []) ((walk_of 𝓛 F.ended stayed c).post (y x))))
   unfolding follows_by
   walks (Ok m) within typed =
       let fm : m < 2 ^ 64 = typed.0.1.1.0.fits in
@@ -213,14 +262,18 @@ module _ {M : Type 1} {𝓤 : Ura M} (𝓛 : Logic 𝓤) (at_mem : Memory → SP
             sets ! (of_opd ! (get_in ! (vrt ! refl (fld ! refl (stop !))) (in_variant ! 0 0 refl refl (whole !)))) refl (tt, record { fits = fm }) $
             sets ! (addr ! (from ! (fld ! refl (hop ! (look_in_at ! 1 (sub ! 0 refl (whole !))) (stop !))))) refl (tt, tt) $
             sets ! (agg ! (and_then ! (get ! refl) (and_then ! (get ! refl) (no_more !)))) refl (tt, (tt, (record { fits = fm }, tt))) $
-            sets_last ! (agg ! (and_then ! (lit ! tt) (and_then ! (get ! refl) (no_more !)))) refl (tt, (record { fits = lit< tt }, ((tt, (record { fits = fm }, tt)), tt))) $
+            sets_last ! (agg ! (and_then ! (lit ! tt) (and_then ! (get ! refl) (no_more !)))) refl (
+              tt,
+              (record { fits = lit< tt }, ((tt, (record { fits = fm }, tt)), tt)),
+            ) $
             exec ! C Λ En code.Mir.t-2 (at_ret En Post) $
             sets ! (of_opd ! (get ! refl)) refl (tt, (record { fits = lit< tt }, ((tt, (record { fits = fm }, tt)), tt))) $
             use2 𝓛 (later (some (lent 𝓛 κ q b o γ xs m m))) (lends 𝓛 κ q b o γ xs m within rm (mut_slice_vals arg)) $ await ! tt $ pick ! (λ δ.
             returns ! (look_at ! 0 refl) $ free_all ! refl $ split3 ! $
             use1 𝓛 (‵ (Out.own_val (Ok (r δ)) (live 0 (of_list (v ∷ [])) ∷ []))) (ok_of 𝓛 Slice (r δ) v) $
             suffices ! _ (ends_at 𝓛 F.ended stayed c (y (Ok m)) (live 0 (of_list (v ∷ []))) (Ok (r δ)) (tt, (tt, tt)) (tt, (tt, tt))) $
-            nothing ! $ nothing ! $ fjoin ! $ nothing ! $ fjoin ! $ join ! $ nothing ! $ move ! (2 ∷ 0 ∷ []) $ join ! $ join ! $ frame ! $ says_two ! (((λ _. refl), λ _. refl), refl) $ done !)),
+            nothing ! $ nothing ! $ fjoin ! $ nothing ! $ fjoin ! $ join ! $ nothing ! $ move ! (2 ∷ 0 ∷ []) $ join ! $ join ! $ frame ! $
+            says_two ! (((λ _. refl), λ _. refl), refl) $ done !)),
         ((λ e. absurd (suc-ne-zero 0 (sym e))), tt),
       ))
   walks (Err e) within typed =
@@ -243,7 +296,8 @@ module _ {M : Type 1} {𝓤 : Ura M} (𝓛 : Logic 𝓤) (at_mem : Memory → SP
               use1 𝓛 (‵ (fres γ (code_of xs))) (𝓛.names.obs-res γ (code_of xs)) $ move ! (1 ∷ []) $ drop ! $ move ! (1 ∷ []) $
               use0 𝓛 (‵ (Out.own_val (Err (record {})) (w ∷ []))) (refused 𝓛 Slice) $
               suffices ! _ (ends_at 𝓛 F.ended stayed c (y (Err e)) w (Err (record {})) (tt, (tt, tt)) (tt, (tt, tt))) $
-              nothing ! $ nothing ! $ fjoin ! $ nothing ! $ fjoin ! $ join ! $ nothing ! $ move ! (2 ∷ 0 ∷ []) $ join ! $ join ! $ frame ! $ says_two ! (((λ h. cc), λ h. cc), tt) $ done !),
+              nothing ! $ nothing ! $ fjoin ! $ nothing ! $ fjoin ! $ join ! $ nothing ! $ move ! (2 ∷ 0 ∷ []) $ join ! $ join ! $ frame ! $
+              says_two ! (((λ h. cc), λ h. cc), tt) $ done !),
           tt,
         ),
       ))
@@ -251,10 +305,15 @@ module _ {M : Type 1} {𝓤 : Ura M} (𝓛 : Logic 𝓤) (at_mem : Memory → SP
 pub front_if_spec : {M : Type 1} → statement M
 front_if_spec 𝓤 𝓛 𝓜 𝓡 wired =
     let c' = F.clauses 𝓛 𝓜.mem 𝓡.returns in let 𝓣 = tables 𝓤 𝓛.H 𝓜 𝓡 𝓡.env in
-    proved 𝓛 F.ended stayed c' 𝓜 𝓡 (Goes-spent_slice 𝓛 1 (0 ∷ []) tt (plain (λ _. u8)), (Goes-dropped 𝓛 1 (plain (λ _. Answer)) F.ended.kept.1.0 (λ κs x f. refl), tt))
+    proved 𝓛 F.ended stayed c' 𝓜 𝓡 (
+      Goes-spent_slice 𝓛 1 (0 ∷ []) tt (plain (λ _. u8)),
+      (Goes-dropped 𝓛 1 (plain (λ _. Answer)) F.ended.kept.1.0 (λ κs x f. refl), tt),
+    )
     F.Key.name code.function (code.unfolded 𝓤 𝓛.H 𝓜 𝓡 wired)
-    (λ κs. (mut_slice_vals, ((λ x. answer_val x ∷ []), tt))) (λ κs. (mut_slice_Tells (named 0) κs.0 u8, (EL.tells (RS.the_type usize US.the_row) answer_laws, tt))) (λ κs qs bounds a g are.
+    (λ κs. (mut_slice_vals, ((λ x. answer_val x ∷ []), tt)))
+    (λ κs. (mut_slice_Tells (named 0) κs.0 u8, (EL.tells (RS.the_type usize US.the_row) answer_laws, tt))) (λ κs qs bounds a g are.
     let x = a.1.0 in
-    qed 𝓛 (((‵ (flft κs.0 qs.0) ⊛ ‵ ftrue) ⊛ ‵ (owns (MutSlice (named 0) κs.0 u8 ∷ Answer ∷ []) a (mut_slice_vals a.0, (answer_val x ∷ [], tt)))) ∷ raw (fact 𝓤 (IfOk x (λ n. n ≤ length a.0.now))) ∷ []) ∵
+    qed 𝓛 (((‵ (flft κs.0 qs.0) ⊛ ‵ ftrue) ⊛ ‵ (owns (MutSlice (named 0) κs.0 u8 ∷ Answer ∷ []) a (mut_slice_vals a.0, (answer_val x ∷ [], tt))))
+    ∷ raw (fact 𝓤 (IfOk x (λ n. n ≤ length a.0.now))) ∷ []) ∵
     move ! (1 ∷ []) $ heard ! _ (λ le. split ! $ split ! $ move ! (2 ∷ []) $ fsplit ! $ keep ! (0 ∷ 2 ∷ []) $
     walks 𝓛 𝓜.mem 𝓡.returns 𝓣.C 𝓣.Λ κs qs a.0 are.0.0.1 x le (((RL.the_row_laws usize US.the_row usize_laws UL.the_row_laws).lawful 𝓛).typed x _ are.1.0)))

@@ -1,183 +1,118 @@
--- `open_in_place_separate_tag` lends what `front_if` lends, after `open_in_place_separate_tag_len` wrote it. The borrow checker shows no
--- write-back clause for a slice that lends a slice, so this proof walks the code by hand.
-use Rattle.aead_ciphers.proofs.LendingSteps.{◌≡◌, refl, sym, subst, ℕ, ◌-◌, ◌≤◌, List, [], ◌∷◌, Ura, named, Val, full_share, SProp, ent, sep, ex, emp, guard, id⊢, Lft, GName, Share, ftrue, flft, Logic, lft_new, lft_end, Item, Sq, prop, mean, ‵, ◌⊛◌, raw, given, some, later, ◌$◌, ◌∵◌, !, qed, move, keep, drop, split, split3, join, learn, check, fsplit, fjoin, use0, use1, use2, use3, await, pick, suffices, frame, done, updating, now, show, stop, fld, hop, from, addr, of_opd, and_then, no_more, returns, enter, whole, sub, agg, alloc_all, pass_all, free_all, look_at, look_in_at, get, get_in, sets, lands_as, Lfts, Shares, fact, fact_i, Running, tables, Model, WpFn, u8, usize, RefOf, yes, no, Is, Typed, shows, RattleType, owns, Valss, MutBor, ShrRef, shr_vals, shr_Tells, plain, mut_slice_of, named_lft, MutSlice, Room, slice_val, mut_slice_vals, mut_slice_Tells, mut_slice_Lawful, nothing, heard, peeks, calls_at, Clauses, lasts, on_entry, Args, triple_of, Contract, framed, Stays, stay_dropped, walk_of, ends_at, Goes-dropped, Goes-spent_slice, length, take, drop_list, sl_relend, sl_relent_backˡ, kept_f, says_two, proved_at, IsOk, IfOk, ◌↔◌}
-use Rattle.std.proofs.ops.RangeFrom.TheLaws as RFL
-use Rattle.aead_ciphers_base.specs.Aes.{aes}
-use Rattle.aead_ciphers_base.specs.Values.{aad_bytes}
-use Rattle.aead_ciphers.specs.AesGcm.{AesOpened}
-use Rattle.aead_ciphers.specs.Gcm.{decrypted}
-use Rattle.aead_ciphers.specs.Lending.{LendsFront, count_of}
-use Rattle.std.specs.Prelude.{Bool, is_ok}
+-- `open_in_place_separate_tag` lends what `front_if` lends of what `open_in_place_separate_tag_len` wrote: the borrow checker shows
+-- no write-back clause for a slice that lends a slice.
+use Rattle.aead_ciphers.proofs.LendingSteps.{
+  refl,
+  ◌-◌,
+  [],
+  ◌∷◌,
+  full_share,
+  ◌$◌,
+  !,
+  move,
+  keep,
+  of_opd,
+  returns,
+  alloc_all,
+  pass_all,
+  free_all,
+  look_at,
+  get,
+  sets,
+  lands_as,
+  named_lft,
+  mut_slice_vals,
+  nothing,
+  length,
+  drop_list,
+  types_at,
+}
+use Rattle.aead_ciphers.proofs.LendingWalk.{
+  front_met,
+  dropped,
+  goes,
+  aes,
+  aad_bytes,
+  AesOpened,
+  decrypted,
+  Words,
+  words_vals,
+  words_typed,
+  slice_typed,
+  nonce_word,
+  aad_word,
+  tag_word,
+  range_word,
+  gets,
+  reborrows,
+  hears₂,
+  table_of,
+  walked,
+  consults,
+  relends,
+  regains,
+  lends,
+  tells₂,
+  ends,
+  within,
+  as_lent,
+  opened_fronts,
+  opened_plaintext,
+}
 use Rattle.aead_ciphers.specs.contracts.aead.less_safe_key.LessSafeKey as K
-use Rattle.aead_ciphers_base.specs.contracts.values.Nonce as N
-use Rattle.aead_ciphers_base.proofs.values.Nonce.TheLaws as N-laws
-use Rattle.aead_ciphers_base.specs.contracts.values.Aad as D
-use Rattle.aead_ciphers_base.proofs.values.Aad.TheLaws as D-laws
-use Rattle.aead_ciphers_base.specs.contracts.values.Tag as TG
-use Rattle.aead_ciphers_base.proofs.values.Tag.TheLaws as TG-laws
-use Rattle.aead_ciphers.specs.contracts.aead.lend.front_if as L
-use Rattle.aead_ciphers.proofs.aead.lend.front_if.Met as L-met
-use Rattle.aead_ciphers.proofs.Lending.{usize_laws, Range, lone, one, Answer, answer_Lawful, Out, out_Lawful, Own, as_own, as_slice, turned}
-use Rattle.aead_ciphers.proofs.FrontLemmas.{Concluded, concluded, within, as_lent, opened_fronts, opened_plaintext}
-use Rattle.aead_ciphers.specs.contracts.aead.less_safe_key.LessSafeKey.open_in_place_separate_tag_len as G
-use Rattle.aead_ciphers.proofs.aead.less_safe_key.LessSafeKey.open_in_place_separate_tag_len.Met as G-met
-use Rattle.aead_ciphers.specs.contracts.aead.less_safe_key.LessSafeKey.open_in_place_separate_tag as F
-use Rattle.aead_ciphers.proofs.aead.less_safe_key.LessSafeKey.open_in_place_separate_tag.Statement.{statement}
-use Rattle.aead_ciphers.proofs.aead.less_safe_key.LessSafeKey.open_in_place_separate_tag.Code as code
+use Rattle.aead_ciphers.proofs.aead.less_safe_key.LessSafeKey as P
 
-abbrev stayed : Stays F.ended.signature.params F.ended.kept
-stayed = (stay_dropped (RefOf (0 ∷ []) tt (plain (λ _. K.the_row)) (λ _. tt)) yes, (stay_dropped (plain (λ _. N.the_row)) F.ended.kept.1.0, (stay_dropped (plain (λ κs. D.the_row (named_lft 3 1 tt κs))) F.ended.kept.1.1.0, (stay_dropped (plain (λ _. TG.the_row)) F.ended.kept.1.1.1.0, (stay_dropped (mut_slice_of (2 ∷ []) tt (plain (λ _. u8))) no, (stay_dropped (plain (λ _. Range)) F.ended.kept.1.1.1.1.1.0, tt))))))
-
-module _ {M : Type 1} {𝓤 : Ura M} (𝓛 : Logic 𝓤) (𝓜 : Model 𝓤 𝓛.H) (𝓡 : Running 𝓤 𝓛.H 𝓜) (κs : Lfts 3) (qs : Shares 3) (a : Args F.signature κs) (rm : Room u8 (length a.1.1.1.1.0.now)) (w-nonce w-aad w-tag w-ciphertext : Val) where
-  open 𝓛 use {H, A}
-
-  abbrev c : Clauses 𝓤 F.ended
-  c = F.clauses 𝓛 𝓜.mem 𝓡.returns
-
-  abbrev Core : Contract 𝓤
-  Core = triple_of 𝓛 G.signature (G.spec 𝓛 𝓜.mem 𝓡.returns)
-
-  abbrev Lend : Contract 𝓤
-  Lend = triple_of 𝓛 L.signature (L.spec 𝓛 𝓜.mem 𝓡.returns)
-
-  -- the lender
-  abbrev κ : Lft
-  κ = κs.1.1.0
-
-  abbrev q : Share
-  q = qs.1.1.0
-
-  abbrev arg : MutBor (List ℕ)
-  arg = a.1.1.1.1.0
-
-  abbrev b : ℕ
-  b = arg.ref_ptr.0
-
-  abbrev o : ℕ
-  o = arg.ref_ptr.1
-
-  abbrev γ : GName
-  γ = arg.ghost_name
-
-  abbrev xs : List ℕ
-  xs = arg.now
-
-  abbrev Slice : Lft → RattleType
-  Slice k = MutSlice (named 2) k u8
-
-  -- the plaintext, and how many bytes it has
-  abbrev plaintext : List ℕ
-  plaintext = decrypted (aes a.0.now.bytes) a.1.0 (drop_list a.1.1.1.1.1.0.start xs)
-
-  abbrev count : ℕ
-  count = length xs - a.1.1.1.1.1.0.start
-
-  -- the parameters
-  abbrev Rs : Lft → List RattleType
-  Rs k = ShrRef (named 0) κs.0 K.the_row ∷ N.the_row ∷ D.the_row (named_lft 3 1 tt κs) ∷ TG.the_row ∷ Slice k ∷ Range ∷ []
-
-  abbrev vss : Valss (Rs κ)
-  vss = (shr_vals a.0, (w-nonce ∷ [], (w-aad ∷ [], (w-tag ∷ [], (mut_slice_vals a.1.1.1.1.0, (w-ciphertext ∷ [], tt))))))
-
-  abbrev y : (walk_of 𝓛 F.ended stayed c).Ghost
-  y = ((κs, qs, tt, a, vss), tt)
-
-  -- the first call, with the buffer lent for p.0 under the name p.1
-  abbrev z : ℕ × GName → Core.Ghost
-  z p = (((κs.0, (κs.1.0, (p.0 ∷ [], tt))), (qs.0, (qs.1.0, (full_share, tt))), tt, (a.0, (a.1.0, (a.1.1.0, (a.1.1.1.0, (record arg { ghost_name = p.1 }, (a.1.1.1.1.1.0, tt)))))), vss), tt)
-
-  abbrev kept : ℕ × GName → Item 𝓤
-  kept p = kept_f 𝓛 u8 κ q (p.0 ∷ []) γ p.1 xs b o
-
-  abbrev Lent : ℕ × GName → SProp 𝓤
-  Lent p = sep 𝓤 (Core.pre (z p)) (mean 𝓛 (kept p))
-
-  lent : ent 𝓤 (sep 𝓤 (on_entry 𝓛 F.signature κs qs a vss) ((c κs a).requires tt)) (H.⇛ (ex 𝓤 Lent))
-  lent =
-      qed 𝓛 (((‵ (flft κs.0 qs.0) ⊛ ‵ (flft κs.1.0 qs.1.0) ⊛ ‵ (flft κ q) ⊛ ‵ ftrue) ⊛ ‵ (owns (Rs κ) a vss)) ∷ raw ((c κs a).requires tt) ∷ []) ∵ updating ! $
-      split ! $ split ! $ move ! (1 ∷ []) $ split ! $ move ! (1 ∷ []) $ split ! $ move ! (4 ∷ []) $ fsplit ! $ move ! (1 ∷ []) $ fsplit ! $ move ! (1 ∷ []) $
-      fsplit ! $ move ! (1 ∷ []) $ fsplit ! $ move ! (1 ∷ []) $ fsplit ! $
-      use1 𝓛 (‵ (Own b o κ γ xs)) (as_own 𝓛 (named 2) κ b o γ xs (mut_slice_vals arg) rm) $
-      lft_new ! tt (λ α. move ! (1 ∷ 7 ∷ []) $
-      use2 𝓛 (later (some (λ (δ : GName). ‵ (Own b o (α ∷ []) δ xs) ⊛ kept (α, δ)))) (sl_relend 𝓛 u8 κ q (α ∷ []) b o γ xs) $ await ! tt $ pick ! (λ δ. split ! $
-      use1 𝓛 (‵ ((Slice (α ∷ [])).own_val (record arg { ghost_name = δ }) (slice_val (b, o) (length xs) ∷ []))) (as_slice 𝓛 (named 2) (α ∷ []) b o δ xs (length xs) refl rm) $
-      move ! (0 ∷ 3 ∷ []) $ fjoin ! $ move ! (3 ∷ 0 ∷ []) $ fjoin ! $ move ! (3 ∷ 0 ∷ []) $ fjoin ! $ move ! (3 ∷ 0 ∷ []) $ fjoin ! $ move ! (3 ∷ 0 ∷ []) $
-      fjoin ! $ move ! (2 ∷ 3 ∷ []) $ join ! $ move ! (3 ∷ 0 ∷ []) $ join ! $ move ! (3 ∷ 0 ∷ []) $ join ! $ join ! $ move ! (0 ∷ 2 ∷ []) $
-      use2 𝓛 (raw (Core.pre (z (α, δ)))) (id⊢ 𝓤 _) $ now ! $ show ! Lent (α, δ) $ done !))
-
-  -- the second call, on the buffer as the first one left it
-  record Told (v : Val) (p : Answer.Denot × List ℕ) : Type 0 where
-    pub typed : Typed Answer.mir (v ∷ [])
-    pub long : length p.1 ≡ length xs
-    pub buffer : AesOpened a.0.now.bytes a.1.0 (aad_bytes a.1.1.0) a.1.1.1.0 a.1.1.1.1.1.0.start xs (is_ok p.0) p.1
-    pub counted : IfOk p.0 (λ n. n ≡ count)
-
-  abbrev z₂ : Val → Answer.Denot × List ℕ → Lend.Ghost
-  z₂ v p = (((κ, tt), (q, tt), tt, (record arg { now = p.1 }, (p.0, tt)), (slice_val (b, o) (length xs) ∷ [], (v ∷ [], tt))), tt)
-
-  abbrev Opened : Val → Answer.Denot × List ℕ → SProp 𝓤
-  Opened v p = guard 𝓤 (Told v p) (sep 𝓤 (Lend.pre (z₂ v p)) (sep 𝓤 (A.lft κs.0 qs.0) (A.lft κs.1.0 qs.1.0)))
-
-  opened : (p : ℕ × GName) (v : Val) → ent 𝓤 (sep 𝓤 (Core.post (z p) v) (mean 𝓛 (kept p))) (H.⇛ (ex 𝓤 (Opened v)))
-  opened p v =
-      qed 𝓛 (raw (Core.post (z p) v) ∷ kept p ∷ []) ∵ updating ! $
-      use1 𝓛 (later (some (λ (u : Answer.Denot). ((‵ (flft κs.0 qs.0) ⊛ ‵ (flft κs.1.0 qs.1.0) ⊛ ‵ (flft (p.0 ∷ []) full_share) ⊛ ‵ ftrue) ⊛ ‵ (Answer.own_val u (v ∷ []))) ⊛
-      some (λ (ws : Unit {0} × (Unit {0} × (Unit {0} × (Unit {0} × (List ℕ × (Unit {0} × (Unit {0}))))))). ‵ (lasts G.ended (z p).0.0 (z p).0.3 ws) ⊛ raw (fact 𝓤 (AesOpened a.0.now.bytes a.1.0 (aad_bytes a.1.1.0) a.1.1.1.0 a.1.1.1.1.1.0.start xs (is_ok u) ws.1.1.1.1.0)) ⊛ raw (fact 𝓤 (IfOk u (λ n. n ≡ count))))))) (id⊢ 𝓤 _) $ await ! tt $ pick ! (λ u. split ! $ split ! $ split ! $ move ! (1 ∷ []) $ split ! $ move ! (1 ∷ []) $ split ! $ lft_end ! tt $ move ! (4 ∷ []) $
-      peeks ! Answer (Is Answer) (shows 𝓛 Answer) u (v ∷ []) (λ is-u.
-      move ! (5 ∷ []) $ pick ! (λ ws. split ! $ move ! (1 ∷ []) $ split ! $ heard ! _ (λ buffer. heard ! _ (λ counted.
-      let ys : List ℕ = ws.1.1.1.1.0 in fsplit ! $ move ! (1 ∷ []) $ fsplit ! $ move ! (1 ∷ []) $ fsplit ! $ move ! (1 ∷ []) $ fsplit ! $ move ! (1 ∷ []) $ fsplit ! $ fsplit ! $ fsplit ! $
-      move ! (9 ∷ 13 ∷ 0 ∷ []) $
-      use3 𝓛 (later (given (length ys ≡ length xs) (‵ (Own b o κ γ ys) ⊛ ‵ (flft κ q)))) (sl_relent_backˡ 𝓛 u8 κ q (p.0 ∷ []) b o γ p.1 xs ys) $ await ! tt $ learn ! (λ same. split ! $
-      use1 𝓛 (‵ ((MutSlice (named 0) κ u8).own_val (record arg { now = ys }) (slice_val (b, o) (length xs) ∷ []))) (as_slice 𝓛 (named 0) κ b o γ ys (length xs) same rm) $
-      keep ! (0 ∷ 9 ∷ 1 ∷ 12 ∷ 11 ∷ []) $ nothing ! $ move ! (2 ∷ 0 ∷ []) $ fjoin ! $ move ! (1 ∷ 0 ∷ []) $ fjoin ! $ nothing ! $ move ! (2 ∷ 0 ∷ []) $
-      join ! $ join ! $
-      use0 𝓛 (raw (fact 𝓤 (IfOk u (λ n. n ≤ length ys)))) (fact_i 𝓤 _ (emp 𝓤) (within count xs ys u (opened_fronts (aes a.0.now.bytes) a.1.0 (aad_bytes a.1.1.0) a.1.1.1.1.1.0.start a.1.1.1.0 xs ys u buffer counted) same)) $ move ! (1 ∷ 0 ∷ []) $
-      use2 𝓛 (raw (Lend.pre (z₂ v (u, ys)))) (id⊢ 𝓤 _) $ now ! $ show ! (Opened v) (u, ys) $ check ! (record { typed = (answer_Lawful 𝓛).typed u (v ∷ []) is-u; long = same; buffer = buffer; counted = counted }) $ done !))))))
-
-  -- what the second call left, and the end
-  abbrev left : Val → Answer.Denot × List ℕ → (Out (Slice κ)).Denot → Item 𝓤
-  left v p r = some (λ (ws : Unit {0} × (Unit {0} × Unit {0})). ‵ (lasts L.ended (z₂ v p).0.0 (z₂ v p).0.3 ws) ⊛ ‵ (LendsFront (record arg { now = p.1 }) r (count_of p.0)) ⊛ raw (fact 𝓤 (IsOk r ↔ IsOk p.0)) ⊛ raw (fact 𝓤 (IfOk r (λ x. x.now ≡ take (count_of p.0) p.1))))
-
-  ends : (v : Val) (p : Answer.Denot × List ℕ) (told : Told v p) (w : Val) (r : (Out (Slice κ)).Denot)
-      → Sq 𝓛 ((‵ (flft κ q) ⊛ ‵ ftrue) ∷ ‵ ((Out (Slice κ)).own_val r (w ∷ [])) ∷ left v p r ∷ ‵ (flft κs.0 qs.0) ∷ ‵ (flft κs.1.0 qs.1.0) ∷ []) (prop ((walk_of 𝓛 F.ended stayed c).post y w))
-  ends v p told w r =
-      move ! (2 ∷ []) $ pick ! (λ ws. split ! $ drop ! $ split3 ! $ move ! (1 ∷ []) $ heard ! _ (λ same. move ! (1 ∷ []) $ heard ! _ (λ value.
-      let end : Concluded plaintext xs p.1 count p.0 r = concluded plaintext xs p.1 count p.0 r (opened_plaintext (aes a.0.now.bytes) a.1.0 (aad_bytes a.1.1.0) a.1.1.1.1.1.0.start a.1.1.1.0 xs p.1 p.0 told.buffer) (opened_fronts (aes a.0.now.bytes) a.1.0 (aad_bytes a.1.1.0) a.1.1.1.1.1.0.start a.1.1.1.0 xs p.1 p.0 told.buffer told.counted) told.long same value in
-      use1 𝓛 (‵ (LendsFront arg r count)) (turned 𝓛 arg r (count_of p.0) count p.1 end.rest end.kept) $
-      suffices ! _ (ends_at 𝓛 F.ended stayed c y w r (tt, (tt, (tt, (tt, (tt, (tt, tt)))))) (tt, (tt, (tt, (tt, (tt, (tt, tt))))))) $
-      nothing ! $ nothing ! $ fjoin ! $ nothing ! $ fjoin ! $ nothing ! $ fjoin ! $ nothing ! $ fjoin ! $ nothing ! $ fjoin ! $ nothing ! $ fjoin ! $
-      move ! (0 ∷ 3 ∷ []) $ join ! $ move ! (4 ∷ 2 ∷ []) $ join ! $ move ! (3 ∷ 0 ∷ []) $ join ! $ join ! $ frame ! $ says_two ! (as_lent (λ (accepts : Bool) (new : List ℕ). AesOpened a.0.now.bytes a.1.0 (aad_bytes a.1.1.0) a.1.1.1.0 a.1.1.1.1.1.0.start xs accepts new) plaintext xs p.1 count p.0 r end told.buffer, end.value) $ done !)))
-
-pub open_in_place_separate_tag_spec : {M : Type 1} → statement M
+pub open_in_place_separate_tag_spec : {M : Type 1} → P.open_in_place_separate_tag.Statement.statement M
 open_in_place_separate_tag_spec 𝓤 𝓛 𝓜 𝓡 wired =
-    let 𝓣 = tables 𝓤 𝓛.H 𝓜 𝓡 𝓡.env in
-    proved_at 𝓛 F.ended stayed (F.clauses 𝓛 𝓜.mem 𝓡.returns) 𝓜 𝓡 (Goes-dropped 𝓛 3 (RefOf (0 ∷ []) tt (plain (λ _. K.the_row)) (λ _. tt)) yes (λ κs x f. refl), (Goes-dropped 𝓛 3 (plain (λ _. N.the_row)) F.ended.kept.1.0 (λ κs x f. refl), (Goes-dropped 𝓛 3 (plain (λ κs. D.the_row (named_lft 3 1 tt κs))) F.ended.kept.1.1.0 (λ κs x f. refl), (Goes-dropped 𝓛 3 (plain (λ _. TG.the_row)) F.ended.kept.1.1.1.0 (λ κs x f. refl), (Goes-spent_slice 𝓛 3 (2 ∷ []) tt (plain (λ _. u8)), (Goes-dropped 𝓛 3 (plain (λ _. Range)) F.ended.kept.1.1.1.1.1.0 (λ κs x f. refl), tt))))))
-    F.Key.name code.function (code.unfolded 𝓤 𝓛.H 𝓜 𝓡 wired)
-    (λ y₀ are. let κs = y₀.0.0 in let qs = y₀.0.1 in let bounds = y₀.0.2 in let a = y₀.0.3 in
-    let rm : Room u8 (length a.1.1.1.1.0.now) = are.1.1.1.1.0.0.1 in
-    let got-nonce = one (lone (N.the_row).mir) y₀.0.4.1.0 ((N-laws.the_row_laws.lawful 𝓛).typed a.1.0 _ are.1.0) in
-    let got-aad = one (lone (D.the_row (named_lft 3 1 tt κs)).mir) y₀.0.4.1.1.0 (((D-laws.the_row_laws (named_lft 3 1 tt κs)).lawful 𝓛).typed a.1.1.0 _ are.1.1.0) in
-    let got-tag = one (lone (TG.the_row).mir) y₀.0.4.1.1.1.0 ((TG-laws.the_row_laws.lawful 𝓛).typed a.1.1.1.0 _ are.1.1.1.0) in
-    let got-ciphertext = one (lone (Range).mir) y₀.0.4.1.1.1.1.1.0 (((RFL.the_row_laws usize usize_laws).lawful 𝓛).typed a.1.1.1.1.1.0 _ are.1.1.1.1.1.0) in
-    let κ = κs.1.1.0 in let q = qs.1.1.0 in let X = Out (MutSlice (named 2) κ u8) in let Tables = framed 𝓤 𝓛.H 𝓜 𝓣 in
-    let W = walk_of 𝓛 F.ended stayed (c 𝓛 𝓜 𝓡 κs qs a rm got-nonce.0 got-aad.0 got-tag.0 got-ciphertext.0) in let At : Valss (Rs 𝓛 𝓜 𝓡 κs qs a rm got-nonce.0 got-aad.0 got-tag.0 got-ciphertext.0 κ) → W.Ghost = λ vss. ((κs, qs, bounds, a, vss), tt) in
-    subst (λ (vs : Valss (Rs 𝓛 𝓜 𝓡 κs qs a rm got-nonce.0 got-aad.0 got-tag.0 got-ciphertext.0 κ)). ent 𝓤 (W.pre (At vs)) (WpFn 𝓤 𝓛.H 𝓣.C 𝓣.Λ code.function (W.args (At vs)) (W.post (At vs)))) (λ i. (sym (shr_Tells (named 0) κs.0 K.the_row a.0 _ are.0) i, (sym (got-nonce.1) i, (sym (got-aad.1) i, (sym (got-tag.1) i, (sym (mut_slice_Tells (named 2) κs.1.1.0 u8 a.1.1.1.1.0 _ are.1.1.1.1.0) i, (sym (got-ciphertext.1) i, tt))))))) (
-    qed 𝓛 (raw (sep 𝓤 (on_entry 𝓛 F.signature κs qs a (vss 𝓛 𝓜 𝓡 κs qs a rm got-nonce.0 got-aad.0 got-tag.0 got-ciphertext.0)) ((c 𝓛 𝓜 𝓡 κs qs a rm got-nonce.0 got-aad.0 got-tag.0 got-ciphertext.0 κs a).requires tt)) ∷ []) ∵
-    enter ! _ _ _ _ _ $
-    alloc_all ! (λ l. pass_all ! refl ((tt, tt), (got-nonce.2, (got-aad.2, (got-tag.2, ((tt, (tt, (record { fits = rm.0 }, tt))), (got-ciphertext.2, tt)))))) $
-    sets ! (of_opd ! (get ! refl)) refl got-aad.2 $
-    sets ! (addr ! (from ! (fld ! refl (hop ! (look_in_at ! 5 (sub ! 0 refl (whole !))) (stop !))))) refl (tt, tt) $
-    sets ! (agg ! (and_then ! (get ! refl) (and_then ! (get_in ! (fld ! refl (stop !)) (sub ! 1 refl (whole !))) (no_more !)))) refl (tt, (tt, (record { fits = rm.0 }, tt))) $
-    use1 𝓛 (later (some (λ (p : ℕ × GName). raw ((Core 𝓛 𝓜 𝓡 κs qs a rm got-nonce.0 got-aad.0 got-tag.0 got-ciphertext.0).pre (z 𝓛 𝓜 𝓡 κs qs a rm got-nonce.0 got-aad.0 got-tag.0 got-ciphertext.0 p)) ⊛ kept 𝓛 𝓜 𝓡 κs qs a rm got-nonce.0 got-aad.0 got-tag.0 got-ciphertext.0 p))) (lent 𝓛 𝓜 𝓡 κs qs a rm got-nonce.0 got-aad.0 got-tag.0 got-ciphertext.0) $ await ! tt $ pick ! (λ p. split ! $
-    calls_at ! Tables (Core 𝓛 𝓜 𝓡 κs qs a rm got-nonce.0 got-aad.0 got-tag.0 got-ciphertext.0) (G-met.met 𝓤 𝓛 𝓜 𝓡 (code.calls-aead_ciphers::aead::less_safe_key::LessSafeKey::open_in_place_separate_tag_len 𝓡.env wired)) (z 𝓛 𝓜 𝓡 κs qs a rm got-nonce.0 got-aad.0 got-tag.0 got-ciphertext.0 p)
-    (and_then ! (get ! refl) (and_then ! (get ! refl) (and_then ! (get ! refl) (and_then ! (get ! refl) (and_then ! (get ! refl) (and_then ! (get ! refl) (no_more !))))))) (λ v.
-    use2 𝓛 (later (some (λ (u : Answer.Denot × List ℕ). given (Told 𝓛 𝓜 𝓡 κs qs a rm got-nonce.0 got-aad.0 got-tag.0 got-ciphertext.0 v u) (raw ((Lend 𝓛 𝓜 𝓡 κs qs a rm got-nonce.0 got-aad.0 got-tag.0 got-ciphertext.0).pre (z₂ 𝓛 𝓜 𝓡 κs qs a rm got-nonce.0 got-aad.0 got-tag.0 got-ciphertext.0 v u)) ⊛ ‵ (flft κs.0 qs.0) ⊛ ‵ (flft κs.1.0 qs.1.0))))) (opened 𝓛 𝓜 𝓡 κs qs a rm got-nonce.0 got-aad.0 got-tag.0 got-ciphertext.0 p v) $ await ! tt $ pick ! (λ u. learn ! (λ told.
-    lands_as ! refl refl (told.typed.0) $
-    sets ! (addr ! (from ! (fld ! refl (hop ! (look_in_at ! 5 (sub ! 0 refl (whole !))) (stop !))))) refl (tt, tt) $
-    sets ! (agg ! (and_then ! (get ! refl) (and_then ! (get_in ! (fld ! refl (stop !)) (sub ! 1 refl (whole !))) (no_more !)))) refl (tt, (tt, (record { fits = rm.0 }, tt))) $
-    split3 ! $
-    calls_at ! Tables (Lend 𝓛 𝓜 𝓡 κs qs a rm got-nonce.0 got-aad.0 got-tag.0 got-ciphertext.0) (L-met.met 𝓤 𝓛 𝓜 𝓡 (code.calls-aead_ciphers::aead::lend::front_if 𝓡.env wired)) (z₂ 𝓛 𝓜 𝓡 κs qs a rm got-nonce.0 got-aad.0 got-tag.0 got-ciphertext.0 v u) (and_then ! (get ! refl) (and_then ! (get ! refl) (no_more !))) (λ w.
-    use1 𝓛 (later (some (λ (r : X.Denot). ((‵ (flft κ q) ⊛ ‵ ftrue) ⊛ ‵ (X.own_val r (w ∷ []))) ⊛ left 𝓛 𝓜 𝓡 κs qs a rm got-nonce.0 got-aad.0 got-tag.0 got-ciphertext.0 v u r))) (id⊢ 𝓤 _) $ await ! tt $ pick ! (λ r. split ! $ split ! $ move ! (1 ∷ []) $
-    peeks ! X (Is X) (shows 𝓛 X) r (w ∷ []) (λ is-r.
-    lands_as ! refl refl (((out_Lawful 𝓛 (MutSlice (named 2) κ u8) (mut_slice_Lawful 𝓛 (named 2) κ u8)).typed r (w ∷ []) is-r).0) $ move ! (1 ∷ []) $
-    returns ! (look_at ! 0 refl) $ free_all ! refl $ ends 𝓛 𝓜 𝓡 κs qs a rm got-nonce.0 got-aad.0 got-tag.0 got-ciphertext.0 v u told w r))))))))))
+    let T = K.open_in_place_separate_tag.ended in let c = K.open_in_place_separate_tag.clauses 𝓛 𝓜.mem 𝓡.returns in let stayed =
+    dropped T.signature.params T.kept in
+    walked 𝓛 T stayed c 𝓜 𝓡 (goes 𝓛 3 T.signature.params T.kept (
+      λ κs x f. refl,
+      (λ κs x f. refl, (λ κs x f. refl, (λ κs x f. refl, (λ κs x f. refl, (λ κs x f. refl, tt))))),
+    ))
+    K.open_in_place_separate_tag.Key.name P.open_in_place_separate_tag.Code.function (P.open_in_place_separate_tag.Code.unfolded 𝓤 𝓛.H 𝓜 𝓡 wired) (λ y are.
+    let (κs, qs, bounds, a, passed) = y.0 in let κ = κs.1.1.0 in let q = qs.1.1.0 in let Ts = types_at T.signature.params κs in
+    let (self, (nonce, (aad, (tag, (in_out, (range, _)))))) = a in let (is-self, (is-nonce, (is-aad, (is-tag, (is-in_out, (is-range, _)))))) = are in
+    let key = self.now.bytes in let old = in_out.now in let room = is-in_out.0.1 in let typed-slice = slice_typed in_out.ref_ptr (length old) room in
+    let count = length old - range.start in let plaintext = decrypted (aes key) nonce (drop_list range.start old) in
+    let words : Words Ts passed = (
+      (_, is-self.0, (tt, tt)),
+      (
+        nonce_word 𝓛 nonce _ is-nonce,
+        (
+          aad_word 𝓛 (named_lft 3 1 tt κs) aad _ is-aad,
+          (tag_word 𝓛 tag _ is-tag, ((_, is-in_out.0.0, typed-slice), (range_word 𝓛 range _ is-range, tt))),
+        ),
+      ),
+    ) in let vals = words_vals Ts passed words in (
+      words,
+      move ! (7 ∷ 2 ∷ []) $ alloc_all ! (λ l. pass_all ! refl (words_typed Ts passed words) $
+          sets ! (of_opd ! (get ! refl)) refl words.1.1.0.2 $ reborrows ! in_out.ref_ptr (length old) refl refl (tt, tt) typed-slice $
+          relends 𝓛 κ q in_out room ! tt (mut_slice_vals in_out) (λ α δ.
+          -- [in_out and its lifetime's token; what is kept; two tokens; self, nonce, aad, tag, the range; the premise]
+          move ! (3 ∷ 4 ∷ 1 ∷ 5 ∷ 6 ∷ 7 ∷ 8 ∷ 0 ∷ 9 ∷ 10 ∷ []) $
+          consults 𝓛 K.open_in_place_separate_tag_len.ended (K.open_in_place_separate_tag_len.clauses 𝓛 𝓜.mem 𝓡.returns) ! (table_of 𝓛 𝓜 𝓡)
+          (P.open_in_place_separate_tag_len.Met.met 𝓤 𝓛 𝓜 𝓡
+          (P.open_in_place_separate_tag.Code.calls-aead_ciphers::aead::less_safe_key::LessSafeKey::open_in_place_separate_tag_len 𝓡.env wired)) (
+            (
+              (κs.0, (κs.1.0, (α ∷ [], tt))),
+              (qs.0, (qs.1.0, (full_share, tt))),
+              tt,
+              (self, (nonce, (aad, (tag, (record in_out { ghost_name = δ }, (range, tt)))))),
+              vals,
+            ),
+            tt,
+          )
+          (gets ! tt refl) (λ v u ws. let new = ws.1.1.1.1.0 in hears₂ ! (λ opened counted.
+          let fronts = opened_fronts (aes key) nonce (aad_bytes aad) range.start tag old new u opened counted in
+          let holds = opened_plaintext (aes key) nonce (aad_bytes aad) range.start tag old new u opened in
+          -- [the answer; three tokens; nothing of self, nonce, aad, tag; what in_out ends as; nothing of the range; what is kept]
+          move ! (3 ∷ 0 ∷ 8 ∷ 10 ∷ []) $ regains 𝓛 κ q in_out room 𝓜 𝓡 v u new ! tt α δ (within count old new u fronts) (λ same typed.
+          lands_as ! refl refl typed.0 $ reborrows ! in_out.ref_ptr (length old) refl refl (tt, tt) typed-slice $
+          lends 𝓛 κ q in_out room 𝓜 𝓡 v u new ! (table_of 𝓛 𝓜 𝓡)
+          (front_met 𝓤 𝓛 𝓜 𝓡 (P.open_in_place_separate_tag.Code.calls-aead_ciphers::aead::lend::front_if 𝓡.env wired))
+          plaintext count fronts holds same (gets ! tt refl) (λ w r is-r end. lands_as ! refl refl is-r.0 $ returns ! (look_at ! 0 refl) $ free_all ! refl $
+          -- [in_out's token; the front; what is owed of in_out; two tokens; five times nothing]
+          move ! (2 ∷ []) $ tells₂ 𝓛 ! (as_lent (AesOpened key nonce (aad_bytes aad) tag range.start old) plaintext old new count u r end opened) end.value $
+          nothing ! $ keep ! (4 ∷ 5 ∷ 2 ∷ 0 ∷ 6 ∷ 7 ∷ 8 ∷ 9 ∷ 10 ∷ 3 ∷ 1 ∷ []) $
+          ends 𝓛 T stayed c ((κs, qs, bounds, a, vals), tt) w r (tt, (tt, (tt, (tt, (tt, (tt, tt)))))) ! (tt, (tt, (tt, (tt, (tt, (tt, tt)))))))))))),
+    ))
