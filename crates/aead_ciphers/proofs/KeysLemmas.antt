@@ -13,6 +13,6 @@ opened_within spent is_closed was now aad start old new true n step is =
     let m : ℕ = length old - 16 - start in
     let count : m ≡ n = cc in
     let fronts = step_fronts spent is_closed was now aad start old new {E = Unit {0}} m refl (Ok m) step refl in
-    let rest = ap length fronts.ok.2 in
+    let rest = ap length fronts.ok.rest in
     omega (arith, rest, length-drop m old, length-drop m new)
 opened_within spent is_closed was now aad start old new false n step is = cc
