@@ -1,38 +1,6 @@
 -- What a call that opens answers, and what is then lent: the plaintext at the front of the buffer.
-use Rattle.std.proofs.Common.{
-  ◌≡◌,
-  ◌∙◌,
-  refl,
-  sym,
-  ap,
-  subst,
-  arith,
-  ℕ,
-  List,
-  Bool,
-  true,
-  false,
-  ◌+◌,
-  ◌-◌,
-  ◌≤◌,
-  ◌++◌,
-  length,
-  drop,
-  take,
-  length-append,
-  length-drop,
-  Result,
-  Ok,
-  Err,
-  is_ok,
-  IsOk,
-  IfOk,
-  OnOk,
-  OnErr,
-  ◌↔◌,
-  inl,
-  inr,
-}
+use Rattle.std.proofs.Common.{◌≡◌, ◌∙◌, refl, sym, ap, subst, arith, ℕ, List, Bool, true, false, ◌+◌, ◌-◌, ◌≤◌, ◌++◌, length, drop, take, length-append}
+use Rattle.std.proofs.Common.{length-drop, Result, Ok, Err, is_ok, IsOk, IfOk, OnOk, OnErr, ◌↔◌, inl, inr}
 use Rattle.std.specs.Borrow.{MutBor}
 use Rattle.std.proofs.lemmas.Bool.{cases_lt}
 use Rattle.std.proofs.lemmas.List.{take-append-drop, take-append-le, take_at, drop_at, drop-append-le, length-take-le}

@@ -7,11 +7,11 @@ use mathlib.Core.List.{List, [], ◌∷◌}
 use Prim.Native.Nat.{ℕ, zero}
 use seplogic.Ra.Ura.{Ura}
 use base.Fraction.{full_share}
-use base.Fml.{Share, fat, froom}
+use base.Fml.{fat, froom}
 use base.Logic.{id⊢, sep}
 use lib.Dec.{T}
 use contract.Monad.{fact}
-use mir.Syntax.{Lifetime, Ty, ty_int, w64, ty_ref, mut, Body, Opd, Place, copy, place, field, deref, seq, assign, addr_of, aggregate}
+use mir.Syntax.{Lifetime, Ty, ty_int, w64, ty_ref, mut, Body, Opd, copy, place, field, deref, seq, assign, addr_of, aggregate}
 use mir.Val.{Val, vptr, vint, WT, has_ty}
 use prog.Wp.{Env, Calls, Loops, spot_of}
 use types.Logic.{Logic}

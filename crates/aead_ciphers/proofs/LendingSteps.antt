@@ -10,44 +10,8 @@ pub use base.Logic.{SProp, ent, sep, ex, emp, guard, id⊢}
 pub use base.Fml.{Lft, GName, Share, ftrue, flft, Fml, fsep, fres, fbor}
 pub use types.Logic.{Logic, sem}
 pub use types.Tokens.{lft_new, lft_end}
-pub use types.Kit.{
-  Item,
-  Sq,
-  prop,
-  mean,
-  ‵,
-  ◌⊛◌,
-  raw,
-  given,
-  some,
-  later,
-  ◌$◌,
-  ◌∵◌,
-  !,
-  qed,
-  move,
-  keep,
-  drop,
-  split,
-  split3,
-  join,
-  learn,
-  check,
-  fsplit,
-  fjoin,
-  use0,
-  use1,
-  use2,
-  use3,
-  await,
-  pick,
-  suffices,
-  frame,
-  done,
-  updating,
-  now,
-  show,
-}
+pub use types.Kit.{Item, Sq, prop, mean, ‵, ◌⊛◌, raw, given, some, later, ◌$◌, ◌∵◌, !, qed, move, keep, drop, split, split3, join, learn, check, fsplit, fjoin}
+pub use types.Kit.{use0, use1, use2, use3, await, pick, suffices, frame, done, updating, now, show}
 pub use types.Run.{stop, fld, hop, from, addr, of_opd, and_then, no_more, returns, enter}
 pub use types.Part.{whole, sub, agg}
 pub use types.ByLocal.{alloc_all, pass_all, free_all, look_at, look_in_at, get, get_in, sets, lands_as, through}

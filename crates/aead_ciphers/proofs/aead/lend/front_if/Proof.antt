@@ -17,46 +17,8 @@ use types.Follow.{takes_part}
 use types.Match.{live, vrt, by_variants}
 use contract.Monad.{fact}
 use contract.Running.{tables}
-use types.Kit.{
-  Item,
-  Sq,
-  prop,
-  at_ret,
-  ‵,
-  ◌⊛◌,
-  raw,
-  some,
-  later,
-  ◌$◌,
-  ◌∵◌,
-  !,
-  qed,
-  move,
-  keep,
-  drop,
-  split,
-  split3,
-  join,
-  fsplit,
-  fsplit3,
-  fjoin,
-  fpack,
-  use0,
-  use1,
-  use2,
-  await,
-  pick,
-  suffices,
-  frame,
-  done,
-  updating,
-  group,
-  now,
-  show,
-  rewrite,
-  feq_l,
-  feq_i,
-}
+use types.Kit.{Item, Sq, prop, at_ret, ‵, ◌⊛◌, raw, some, later, ◌$◌, ◌∵◌, !, qed, move, keep, drop, split, split3, join, fsplit, fsplit3, fjoin, fpack, use0}
+use types.Kit.{use1, use2, await, pick, suffices, frame, done, updating, group, now, show, rewrite, feq_l, feq_i}
 use denote.Array.{Array}
 use denote.Builtin.{u8, usize}
 use denote.Exit.{no}

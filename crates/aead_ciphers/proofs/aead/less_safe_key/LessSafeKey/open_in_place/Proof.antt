@@ -1,62 +1,10 @@
 -- `open_in_place` lends what `front_if` lends of what `open_in_place_len` wrote: the borrow checker shows
 -- no write-back clause for a slice that lends a slice.
-use Rattle.aead_ciphers.proofs.LendingSteps.{
-  refl,
-  ◌-◌,
-  [],
-  ◌∷◌,
-  full_share,
-  ◌$◌,
-  !,
-  move,
-  keep,
-  of_opd,
-  returns,
-  alloc_all,
-  pass_all,
-  free_all,
-  look_at,
-  get,
-  sets,
-  lands_as,
-  named_lft,
-  mut_slice_vals,
-  nothing,
-  length,
-  take,
-  types_at,
-}
-use Rattle.aead_ciphers.proofs.LendingWalk.{
-  front_met,
-  dropped,
-  goes,
-  aes,
-  aad_bytes,
-  AesOpenedAttached,
-  decrypted,
-  Words,
-  words_vals,
-  words_typed,
-  slice_typed,
-  nonce_word,
-  aad_word,
-  sub-zero,
-  gets,
-  reborrows,
-  hears₂,
-  table_of,
-  walked,
-  consults,
-  relends,
-  regains,
-  lends,
-  tells₂,
-  ends,
-  within,
-  as_lent,
-  attached_fronts,
-  attached_plaintext,
-}
+use Rattle.aead_ciphers.proofs.LendingSteps.{refl, ◌-◌, [], ◌∷◌, full_share, ◌$◌, !, move, keep, of_opd, returns, alloc_all, pass_all, free_all, look_at, get}
+use Rattle.aead_ciphers.proofs.LendingSteps.{sets, lands_as, named_lft, mut_slice_vals, nothing, length, take, types_at}
+use Rattle.aead_ciphers.proofs.LendingWalk.{front_met, dropped, goes, aes, aad_bytes, AesOpenedAttached, decrypted, Words, words_vals, words_typed}
+use Rattle.aead_ciphers.proofs.LendingWalk.{slice_typed, nonce_word, aad_word, sub-zero, gets, reborrows, hears₂, table_of, walked, consults, relends, regains}
+use Rattle.aead_ciphers.proofs.LendingWalk.{lends, tells₂, ends, within, as_lent, attached_fronts, attached_plaintext}
 use Rattle.aead_ciphers.specs.contracts.aead.less_safe_key.LessSafeKey as K
 use Rattle.aead_ciphers.proofs.aead.less_safe_key.LessSafeKey as P
 

@@ -1,63 +1,10 @@
 -- `open_in_place_separate_tag` lends what `front_if` lends of what `open_in_place_separate_tag_len` wrote: the borrow checker shows
 -- no write-back clause for a slice that lends a slice.
-use Rattle.aead_ciphers.proofs.LendingSteps.{
-  refl,
-  ◌-◌,
-  [],
-  ◌∷◌,
-  full_share,
-  ◌$◌,
-  !,
-  move,
-  keep,
-  of_opd,
-  returns,
-  alloc_all,
-  pass_all,
-  free_all,
-  look_at,
-  get,
-  sets,
-  lands_as,
-  named_lft,
-  mut_slice_vals,
-  nothing,
-  length,
-  drop_list,
-  types_at,
-}
-use Rattle.aead_ciphers.proofs.LendingWalk.{
-  front_met,
-  dropped,
-  goes,
-  aes,
-  aad_bytes,
-  AesOpened,
-  decrypted,
-  Words,
-  words_vals,
-  words_typed,
-  slice_typed,
-  nonce_word,
-  aad_word,
-  tag_word,
-  range_word,
-  gets,
-  reborrows,
-  hears₂,
-  table_of,
-  walked,
-  consults,
-  relends,
-  regains,
-  lends,
-  tells₂,
-  ends,
-  within,
-  as_lent,
-  opened_fronts,
-  opened_plaintext,
-}
+use Rattle.aead_ciphers.proofs.LendingSteps.{refl, ◌-◌, [], ◌∷◌, full_share, ◌$◌, !, move, keep, of_opd, returns, alloc_all, pass_all, free_all, look_at, get}
+use Rattle.aead_ciphers.proofs.LendingSteps.{sets, lands_as, named_lft, mut_slice_vals, nothing, length, drop_list, types_at}
+use Rattle.aead_ciphers.proofs.LendingWalk.{front_met, dropped, goes, aes, aad_bytes, AesOpened, decrypted, Words, words_vals, words_typed, slice_typed}
+use Rattle.aead_ciphers.proofs.LendingWalk.{nonce_word, aad_word, tag_word, range_word, gets, reborrows, hears₂, table_of, walked, consults, relends, regains}
+use Rattle.aead_ciphers.proofs.LendingWalk.{lends, tells₂, ends, within, as_lent, opened_fronts, opened_plaintext}
 use Rattle.aead_ciphers.specs.contracts.aead.less_safe_key.LessSafeKey as K
 use Rattle.aead_ciphers.proofs.aead.less_safe_key.LessSafeKey as P
 

@@ -1,63 +1,10 @@
 -- `open_within` lends what `front_if` lends of what `open_within_len` wrote: the borrow checker shows
 -- no write-back clause for a slice that lends a slice.
-use Rattle.aead_ciphers.proofs.LendingSteps.{
-  refl,
-  ◌-◌,
-  [],
-  ◌∷◌,
-  full_share,
-  ◌$◌,
-  !,
-  move,
-  keep,
-  of_opd,
-  returns,
-  alloc_all,
-  pass_all,
-  free_all,
-  look_at,
-  get,
-  sets,
-  lands_as,
-  named_lft,
-  mut_slice_vals,
-  nothing,
-  length,
-  take,
-  drop_list,
-  types_at,
-}
-use Rattle.aead_ciphers.proofs.LendingWalk.{
-  front_met,
-  dropped,
-  goes,
-  aes,
-  aad_bytes,
-  AesOpenedAttached,
-  decrypted,
-  Words,
-  words_vals,
-  words_typed,
-  slice_typed,
-  nonce_word,
-  aad_word,
-  range_word,
-  gets,
-  reborrows,
-  hears₂,
-  table_of,
-  walked,
-  consults,
-  relends,
-  regains,
-  lends,
-  tells₂,
-  ends,
-  within,
-  as_lent,
-  attached_fronts,
-  attached_plaintext,
-}
+use Rattle.aead_ciphers.proofs.LendingSteps.{refl, ◌-◌, [], ◌∷◌, full_share, ◌$◌, !, move, keep, of_opd, returns, alloc_all, pass_all, free_all, look_at, get}
+use Rattle.aead_ciphers.proofs.LendingSteps.{sets, lands_as, named_lft, mut_slice_vals, nothing, length, take, drop_list, types_at}
+use Rattle.aead_ciphers.proofs.LendingWalk.{front_met, dropped, goes, aes, aad_bytes, AesOpenedAttached, decrypted, Words, words_vals, words_typed}
+use Rattle.aead_ciphers.proofs.LendingWalk.{slice_typed, nonce_word, aad_word, range_word, gets, reborrows, hears₂, table_of, walked, consults, relends}
+use Rattle.aead_ciphers.proofs.LendingWalk.{regains, lends, tells₂, ends, within, as_lent, attached_fronts, attached_plaintext}
 use Rattle.aead_ciphers.specs.contracts.aead.less_safe_key.LessSafeKey as K
 use Rattle.aead_ciphers.proofs.aead.less_safe_key.LessSafeKey as P
 
@@ -87,7 +34,13 @@ open_within_spec 𝓤 𝓛 𝓜 𝓡 wired =
           -- [in_out and its lifetime's token; what is kept; two tokens; self, nonce, aad, the range; the premise]
           move ! (3 ∷ 4 ∷ 1 ∷ 5 ∷ 6 ∷ 7 ∷ 0 ∷ 8 ∷ 9 ∷ []) $ consults 𝓛 K.open_within_len.ended (K.open_within_len.clauses 𝓛 𝓜.mem 𝓡.returns) ! (table_of 𝓛 𝓜 𝓡)
           (P.open_within_len.Met.met 𝓤 𝓛 𝓜 𝓡 (P.open_within.Code.calls-aead_ciphers::aead::less_safe_key::LessSafeKey::open_within_len 𝓡.env wired)) (
-            ((κs.0, (κs.1.0, (α ∷ [], tt))), (qs.0, (qs.1.0, (full_share, tt))), tt, (self, (nonce, (aad, (record in_out { ghost_name = δ }, (range, tt))))), vals),
+            (
+              (κs.0, (κs.1.0, (α ∷ [], tt))),
+              (qs.0, (qs.1.0, (full_share, tt))),
+              tt,
+              (self, (nonce, (aad, (record in_out { ghost_name = δ }, (range, tt))))),
+              vals,
+            ),
             tt,
           )
           (gets ! tt refl) (λ v u ws. let new = ws.1.1.1.0 in hears₂ ! (λ opened counted.
@@ -99,7 +52,8 @@ open_within_spec 𝓤 𝓛 𝓜 𝓡 wired =
           lends 𝓛 κ q in_out room 𝓜 𝓡 v u new ! (table_of 𝓛 𝓜 𝓡) (front_met 𝓤 𝓛 𝓜 𝓡 (P.open_within.Code.calls-aead_ciphers::aead::lend::front_if 𝓡.env wired))
           plaintext count fronts holds same (gets ! tt refl) (λ w r is-r end. lands_as ! refl refl is-r.0 $ returns ! (look_at ! 0 refl) $ free_all ! refl $
           -- [in_out's token; the front; what is owed of in_out; two tokens; four times nothing]
-          move ! (2 ∷ []) $ tells₂ 𝓛 ! (as_lent (AesOpenedAttached key nonce (aad_bytes aad) range.start old) plaintext old new count u r end opened) end.value $
+          move ! (2 ∷ []) $ tells₂ 𝓛 ! (as_lent
+          (AesOpenedAttached key nonce (aad_bytes aad) range.start old) plaintext old new count u r end opened) end.value $
           nothing ! $ keep ! (4 ∷ 5 ∷ 2 ∷ 0 ∷ 6 ∷ 7 ∷ 8 ∷ 9 ∷ 3 ∷ 1 ∷ []) $
           ends 𝓛 T stayed c ((κs, qs, bounds, a, vals), tt) w r (tt, (tt, (tt, (tt, (tt, tt))))) ! (tt, (tt, (tt, (tt, (tt, tt))))))))))),
     ))

@@ -1,72 +1,11 @@
 -- `open_in_place` lends what `front_if` lends of what `open_in_place_len` wrote: the borrow checker shows
 -- no write-back clause for a slice that lends a slice.
-use Rattle.aead_ciphers.proofs.LendingSteps.{
-  refl,
-  ◌-◌,
-  [],
-  ◌∷◌,
-  full_share,
-  ◌$◌,
-  !,
-  move,
-  keep,
-  addr,
-  through,
-  stop,
-  of_opd,
-  returns,
-  alloc_all,
-  pass_all,
-  free_all,
-  look_at,
-  get,
-  sets,
-  lands_as,
-  named_lft,
-  plain,
-  mut_slice_vals,
-  nothing,
-  length,
-  take,
-  types_at,
-  gave_ref,
-  Goes-gave_ref,
-  a_type,
-  dcons,
-  dnil,
-  inst_fn,
-  param,
-  bounded,
-}
-use Rattle.aead_ciphers.proofs.LendingWalk.{
-  front_met,
-  first_stays,
-  first_goes,
-  aad_bytes,
-  OpenStep,
-  Words,
-  words_vals,
-  words_typed,
-  slice_typed,
-  aad_word,
-  sub-zero,
-  gets,
-  reborrows,
-  hears₃,
-  table_of,
-  walked,
-  consults,
-  relends,
-  regains,
-  lends,
-  tells₃,
-  ends,
-  within,
-  as_lent,
-  its_front,
-  lent_count,
-  step_fronts,
-}
+use Rattle.aead_ciphers.proofs.LendingSteps.{refl, ◌-◌, [], ◌∷◌, full_share, ◌$◌, !, move, keep, addr, through, stop, of_opd, returns, alloc_all, pass_all}
+use Rattle.aead_ciphers.proofs.LendingSteps.{free_all, look_at, get, sets, lands_as, named_lft, plain, mut_slice_vals, nothing, length, take, types_at}
+use Rattle.aead_ciphers.proofs.LendingSteps.{gave_ref, Goes-gave_ref, a_type, dcons, dnil, inst_fn, param, bounded}
+use Rattle.aead_ciphers.proofs.LendingWalk.{front_met, first_stays, first_goes, aad_bytes, OpenStep, Words, words_vals, words_typed, slice_typed, aad_word}
+use Rattle.aead_ciphers.proofs.LendingWalk.{sub-zero, gets, reborrows, hears₃, table_of, walked, consults, relends, regains, lends, tells₃, ends, within}
+use Rattle.aead_ciphers.proofs.LendingWalk.{as_lent, its_front, lent_count, step_fronts}
 use Rattle.aead_ciphers.specs.contracts.aead.opening_key.OpeningKey as K
 use Rattle.aead_ciphers.proofs.aead.opening_key.OpeningKey as P
 
@@ -97,7 +36,8 @@ open_in_place_spec 𝓤 𝓛 𝓜 𝓡 wired N LN g d met =
           -- [in_out and its lifetime's token; what is kept; three tokens; self, aad; the premise]
           move ! (3 ∷ 4 ∷ 1 ∷ 5 ∷ 6 ∷ 7 ∷ 0 ∷ 8 ∷ []) $
           consults 𝓛 (K.open_in_place_len.ended N g d) (K.open_in_place_len.clauses N g d 𝓛 𝓜.mem 𝓡.returns) ! (table_of 𝓛 𝓜 𝓡)
-          (P.open_in_place_len.Met.met 𝓤 𝓛 𝓜 𝓡 (P.open_in_place.Code.calls-aead_ciphers::aead::opening_key::OpeningKey::open_in_place_len 𝓡.env wired) N LN g d met) (
+          (P.open_in_place_len.Met.met 𝓤 𝓛 𝓜 𝓡
+          (P.open_in_place.Code.calls-aead_ciphers::aead::opening_key::OpeningKey::open_in_place_len 𝓡.env wired) N LN g d met) (
             (
               (κs.0, (κs.1.0, (α ∷ [], (κs.1.1.1.0, tt)))),
               (qs.0, (qs.1.0, (full_share, (qs.1.1.1.0, tt)))),

@@ -1,72 +1,11 @@
 -- `open_within` lends what `front_if` lends of what `open_within_len` wrote: the borrow checker shows
 -- no write-back clause for a slice that lends a slice.
-use Rattle.aead_ciphers.proofs.LendingSteps.{
-  refl,
-  ◌-◌,
-  [],
-  ◌∷◌,
-  full_share,
-  ◌$◌,
-  !,
-  move,
-  keep,
-  addr,
-  through,
-  stop,
-  of_opd,
-  returns,
-  alloc_all,
-  pass_all,
-  free_all,
-  look_at,
-  get,
-  sets,
-  lands_as,
-  named_lft,
-  plain,
-  mut_slice_vals,
-  nothing,
-  length,
-  take,
-  types_at,
-  gave_ref,
-  Goes-gave_ref,
-  a_type,
-  dcons,
-  dnil,
-  inst_fn,
-  param,
-  bounded,
-}
-use Rattle.aead_ciphers.proofs.LendingWalk.{
-  front_met,
-  first_stays,
-  first_goes,
-  aad_bytes,
-  OpenStep,
-  Words,
-  words_vals,
-  words_typed,
-  slice_typed,
-  aad_word,
-  range_word,
-  gets,
-  reborrows,
-  hears₃,
-  table_of,
-  walked,
-  consults,
-  relends,
-  regains,
-  lends,
-  tells₃,
-  ends,
-  within,
-  as_lent,
-  its_front,
-  lent_count,
-  step_fronts,
-}
+use Rattle.aead_ciphers.proofs.LendingSteps.{refl, ◌-◌, [], ◌∷◌, full_share, ◌$◌, !, move, keep, addr, through, stop, of_opd, returns, alloc_all, pass_all}
+use Rattle.aead_ciphers.proofs.LendingSteps.{free_all, look_at, get, sets, lands_as, named_lft, plain, mut_slice_vals, nothing, length, take, types_at}
+use Rattle.aead_ciphers.proofs.LendingSteps.{gave_ref, Goes-gave_ref, a_type, dcons, dnil, inst_fn, param, bounded}
+use Rattle.aead_ciphers.proofs.LendingWalk.{front_met, first_stays, first_goes, aad_bytes, OpenStep, Words, words_vals, words_typed, slice_typed, aad_word}
+use Rattle.aead_ciphers.proofs.LendingWalk.{range_word, gets, reborrows, hears₃, table_of, walked, consults, relends, regains, lends, tells₃, ends, within}
+use Rattle.aead_ciphers.proofs.LendingWalk.{as_lent, its_front, lent_count, step_fronts}
 use Rattle.aead_ciphers.specs.contracts.aead.opening_key.OpeningKey as K
 use Rattle.aead_ciphers.proofs.aead.opening_key.OpeningKey as P
 
@@ -117,7 +56,8 @@ open_within_spec 𝓤 𝓛 𝓜 𝓡 wired N LN g d met =
           lands_as ! refl refl is-r.0 $ returns ! (look_at ! 0 refl) $ free_all ! refl $
           -- [in_out's token; the front; what is owed of in_out; three tokens; self; twice nothing]
           move ! (2 ∷ []) $ tells₃ 𝓛 ! stays
-          (as_lent (λ accepts left. OpenStep g.spent g.is_closed was now (aad_bytes aad) range.start old left accepts) (take count new) old new count u r end step)
+          (as_lent (λ accepts left. OpenStep g.spent g.is_closed was now (aad_bytes aad) range.start old left accepts)
+          (take count new) old new count u r end step)
           (lent_count count old new u r fronts same end.accepts end.value) $ nothing ! $ keep ! (4 ∷ 5 ∷ 2 ∷ 6 ∷ 7 ∷ 8 ∷ 9 ∷ 0 ∷ 3 ∷ 1 ∷ []) $
           ends 𝓛 T stayed c ((κs, qs, bounds, a, vals), tt) w r (now, (tt, (tt, (tt, tt)))) ! (tt, (tt, (tt, (tt, tt)))))))))),
     ))
