@@ -9,7 +9,7 @@ use Rattle.aead_ciphers_tests.proofs.callers.open_and_mark.Goals as goal
 -- what is in front of a whole buffer, and that nothing is behind it
 whole : {E : Type 0} (plaintext old new : List ℕ) (answer : Result ℕ E) → IsOk answer → Fronts (length old - 0) old new answer → OnOk answer (take (length old - 0) new ≡ plaintext)
     → (take (count_of answer) new ≡ plaintext) × (drop (count_of answer) new ≡ [])
-whole plaintext old new (Ok n) is fronts front = (ap (λ k. take k new) fronts.ok.count ∙ front, fronts.ok.rest ∙ drop_of_length-le old (let e = fronts.ok.0 in omega arith))
+whole plaintext old new (Ok n) is fronts front = (ap (λ k. take k new) fronts.ok.count ∙ front, fronts.ok.rest ∙ drop_of_length-le old (let e = fronts.ok.count in omega arith))
 whole plaintext old new (Err e) is fronts front = absurd (let h = is in cc)
 
 pub returns-in-Some-clause-marked : goal.returns-in-Some-clause-marked
