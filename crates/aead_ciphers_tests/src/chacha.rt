@@ -3,7 +3,9 @@
 use crate::checks::{holds, same};
 use aead_ciphers_base::chacha::{BLOCK_LEN, Counter, KEY_LEN, Key, Overlapping};
 use aead_ciphers_base::values::{NONCE_LEN, Nonce};
-use aead_vectors::rfc_8439::{BLOCK_NONCE, BLOCK_OF_ZEROS, KEY};
+use aead_vectors::rfc_8439::{
+    A_2_CIPHERTEXT, A_2_KEY, A_2_NONCE, A_2_PLAINTEXT, BLOCK_NONCE, BLOCK_OF_ZEROS, KEY,
+};
 use std::process::Abort;
 use std::test::Fail;
 
@@ -30,6 +32,18 @@ fn rfc_8439_a_1_vector_1(rt: HostRuntime) {
         &BLOCK_OF_ZEROS[..5],
         "the mask",
     );
+}
+
+// Four blocks that are made side by side, and two that aren't.
+#[test]
+fn rfc_8439_a_2_vector_2(rt: HostRuntime) {
+    let mut buffer = *A_2_PLAINTEXT;
+    let nonce = Nonce::assume_unique_for_key(A_2_NONCE);
+    Key::new(A_2_KEY).encrypt(
+        Counter::from_nonce_and_ctr(nonce, 1),
+        Overlapping::from(&mut buffer[..]),
+    );
+    same(&rt, &buffer, &A_2_CIPHERTEXT, "the ciphertext");
 }
 
 #[test]
