@@ -1,10 +1,10 @@
--- What the walks of the opening calls share. Such a call lends its buffer to a core, and then its front by `front_if`.
+-- What the walks of the opening calls share. Such a call lends its buffer to a core, and then its front by `lend_plaintext`.
 -- The context has an entry for each token and for what each parameter owns, and is named in this order. Assumes `Logic`.
 --     entered, spreads      what there is on entry
 --     readies               what a callee wants on entry, and then its premise
 --     answers               what a callee gave: the tokens, its answer, what it left of each parameter, and what it says
---     relends, regains      the buffer is lent to the core for a new lifetime, and is back as `front_if` wants it
---     lends                 `front_if` gave the front of the buffer
+--     relends, regains      the buffer is lent to the core for a new lifetime, and is back as `lend_plaintext` wants it
+--     lends                 `lend_plaintext` gave the front of the buffer
 --     ends                  the walk's end
 use mir.Syntax.{Fn, Callee, Opd, Place, Body, seq, call}
 use prog.Wp.{Env, Calls, Loops, Closed}
@@ -33,10 +33,10 @@ use Rattle.aead_ciphers.proofs.LendingSteps.{fact_i, Running, Model, u8, yes, Is
 use Rattle.aead_ciphers.proofs.LendingSteps.{mut_slice_Lawful, heard, peeks, Clauses, lasts, on_entry, Args, triple_of, Contract, Stays, walk_of, length, take}
 use Rattle.aead_ciphers.proofs.LendingSteps.{sl_relend, sl_relent_backˡ, kept_f, IsOk, IfOk, OnOk, ◌↔◌}
 use Rattle.aead_ciphers.specs.Lending.{LendsFront, count_of}
-use Rattle.aead_ciphers.specs.contracts.aead.lend.front_if as L
+use Rattle.aead_ciphers.specs.contracts.aead.lend.lend_plaintext as L
 pub use Rattle.aead_ciphers.proofs.Lending.{Words, words_vals, words_typed, slice_typed, nonce_word, aad_word, tag_word, range_word}
 pub use Rattle.aead_ciphers.proofs.LendingLocals.{gets, reborrows, hears₂, hears₃}
-pub use Rattle.aead_ciphers.proofs.aead.lend.front_if.Met.{met as front_met}
+pub use Rattle.aead_ciphers.proofs.aead.lend.lend_plaintext.Met.{met as front_met}
 pub use Rattle.aead_ciphers.proofs.FrontLemmas.{as_lent, attached_fronts, attached_plaintext, opened_fronts, opened_plaintext, sub-zero}
 pub use Rattle.aead_ciphers.proofs.OpenLemmas.{its_front, lent_count, step_fronts}
 pub use Rattle.aead_ciphers.specs.BoundState.{Keeps}
@@ -301,7 +301,7 @@ module _ {M : Type 1} {𝓤 : Ura M} (𝓛 : Logic 𝓤) where
         pick t (λ δ. split t $
         use1 𝓛 (at_loan α δ) (as_slice 𝓛 (named 2) (α ∷ []) b o δ xs (length xs) refl rm) $ move t (0 ∷ 2 ∷ []) $ k α δ))
 
-    -- the core answered u, and left ys: the buffer is back, and `front_if` may be called on it
+    -- the core answered u, and left ys: the buffer is back, and `lend_plaintext` may be called on it
     abbrev pub in_hand : List ℕ → MutBor (List ℕ)
     in_hand ys = record arg { now = ys }
 
@@ -331,7 +331,7 @@ module _ {M : Type 1} {𝓤 : Ura M} (𝓛 : Logic 𝓤) where
             move t (2 ∷ 1 ∷ 3 ∷ 0 ∷ []) $ readies t L.signature (L.spec 𝓛 𝓜.mem 𝓡.returns) (lend v u ys) $
             k same ((answer_Lawful 𝓛).typed u (v ∷ []) is-u)))
 
-        -- `front_if` is called, and gives the front, which is the plaintext
+        -- `lend_plaintext` is called, and gives the front, which is the plaintext
         pub lends : {K : Type 0} {Γ : List (Item 𝓤)} {E : Env 𝓤 𝓛.H} {C : Calls 𝓤 𝓛.H} {Λ : Loops 𝓤 𝓛.H} {q' : Post 𝓤 𝓛.H}
             {f : Callee} {xs : List Opd} {d : Place} {rest : Body}
             → K → FmC 𝓤 𝓛.H 𝓛.laws C → Triple 𝓤 (C f) Lend → (plaintext : List ℕ) (count : ℕ) → Fronts count arg.now ys u → OnOk u (take count ys ≡ plaintext)

@@ -8,7 +8,7 @@ ghost use Rattle.aead_ciphers.specs.Gcm.{Fits};
 ghost use Rattle.aead_ciphers.specs.Values.{aad_bytes};
 ghost use Rattle.aead_ciphers.specs.Work.{HasRoom};
 
-use aead_ciphers::aead::lend::parts_if;
+use aead_ciphers::aead::lend::lend_plaintext_and_rest;
 use aead_ciphers::aead::{
     AES_128_GCM, AES_256_GCM, Aad, Algorithm, LessSafeKey, NONCE_LEN, Nonce, Tag, UnboundKey,
     Unspecified, quic,
@@ -74,7 +74,7 @@ pub(crate) fn open_and_mark(
     ensures kept { OnErr result (in_out.new ≡ in_out.old) }
 {
     let opened = key.open_in_place_separate_tag_len(nonce, aad, tag, in_out, 0..);
-    match parts_if(in_out, opened) {
+    match lend_plaintext_and_rest(in_out, opened) {
         Some((plaintext, _rest)) => {
             plaintext[0] = 7;
             Ok(())

@@ -7,7 +7,7 @@ ghost use Rattle.aead_ciphers.specs.Lending.{count_of, LendsFront};
 use aead_ciphers_base::error::Unspecified;
 
 /// The first bytes of the buffer for writing, as many as the answer says, where it isn't a refusal.
-pub(crate) fn front_if(
+pub(crate) fn lend_plaintext(
     in_out: &mut [u8],
     opened: Result<usize, Unspecified>,
 ) -> Result<&mut [u8], Unspecified>
@@ -25,7 +25,7 @@ pub(crate) fn front_if(
 /// The plaintext at the front of the buffer and the bytes behind it, both for writing, where `opened` isn't a
 /// refusal. It is for a proved caller of a call that answers the plaintext's length: its proof knows the whole
 /// buffer when the loan ends.
-pub fn parts_if(
+pub fn lend_plaintext_and_rest(
     in_out: &mut [u8],
     opened: Result<usize, Unspecified>,
 ) -> Option<(&mut [u8], &mut [u8])>

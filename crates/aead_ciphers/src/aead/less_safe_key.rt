@@ -10,7 +10,7 @@ ghost use Rattle.aead_ciphers.specs.Lending.{LendsFront, lent_buffer};
 
 use crate::aead::algorithm::Algorithm;
 use crate::aead::in_out::InOut;
-use crate::aead::lend::front_if;
+use crate::aead::lend::lend_plaintext;
 use crate::aead::unbound_key::UnboundKey;
 use crate::aes_gcm;
 use aead_ciphers_base::aes::Work;
@@ -169,7 +169,7 @@ impl LessSafeKey {
             ≡ aes_decrypted self.now.bytes nonce (drop ciphertext.start in_out.old)) }
     {
         let opened = self.open_in_place_separate_tag_len(nonce, aad, tag, in_out, ciphertext);
-        front_if(in_out, opened)
+        lend_plaintext(in_out, opened)
     }
 
     /// `open_in_place_separate_tag` that answers the length of the plaintext, which stands at the front of the buffer.
@@ -211,7 +211,7 @@ impl LessSafeKey {
             (drop ciphertext_and_tag.start (take (length in_out.old - 16) in_out.old))) }
     {
         let opened = self.open_within_len(nonce, aad, in_out, ciphertext_and_tag);
-        front_if(in_out, opened)
+        lend_plaintext(in_out, opened)
     }
 
     /// `open_within` that answers the length of the plaintext, which stands at the front of the buffer. This call is
@@ -250,7 +250,7 @@ impl LessSafeKey {
             ≡ aes_decrypted self.now.bytes nonce (take (length in_out.old - 16) in_out.old)) }
     {
         let opened = self.open_in_place_len(nonce, aad, in_out);
-        front_if(in_out, opened)
+        lend_plaintext(in_out, opened)
     }
 
     /// `open_in_place` that answers the length of the plaintext, which stands at the front of the buffer. This call is

@@ -6,7 +6,7 @@ ghost use Rattle.aead_ciphers.specs.BoundState.{Keeps};
 ghost use Rattle.aead_ciphers.specs.Lending.{LendsFront, lent_buffer};
 ghost use Rattle.aead_ciphers.specs.Steps.{OpenStep};
 
-use crate::aead::lend::front_if;
+use crate::aead::lend::lend_plaintext;
 use crate::aead::{Aad, Algorithm, BoundKey, LessSafeKey, NonceSequence, UnboundKey, Unspecified};
 use std::fmt;
 use std::marker::Model;
@@ -110,7 +110,7 @@ impl<N: NonceSequence> OpeningKey<N> {
             length plaintext.now ≡ length in_out.old - 16 - ciphertext_and_tag.start) }
     {
         let opened = self.open_within_len(aad, in_out, ciphertext_and_tag);
-        front_if(in_out, opened)
+        lend_plaintext(in_out, opened)
     }
 
     /// `open_within` from the first byte on.
@@ -126,6 +126,6 @@ impl<N: NonceSequence> OpeningKey<N> {
         ensures count { IfOk result (λ plaintext. length plaintext.now ≡ length in_out.old - 16) }
     {
         let opened = self.open_in_place_len(aad, in_out);
-        front_if(in_out, opened)
+        lend_plaintext(in_out, opened)
     }
 }

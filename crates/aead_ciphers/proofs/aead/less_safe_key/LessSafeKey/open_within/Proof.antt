@@ -1,4 +1,4 @@
--- `open_within` lends what `front_if` lends of what `open_within_len` wrote: the borrow checker shows
+-- `open_within` lends what `lend_plaintext` lends of what `open_within_len` wrote: the borrow checker shows
 -- no write-back clause for a slice that lends a slice.
 use Rattle.aead_ciphers.proofs.LendingSteps.{refl, ◌-◌, [], ◌∷◌, full_share, ◌$◌, !, move, keep, of_opd, returns, alloc_all, pass_all, free_all, look_at, get}
 use Rattle.aead_ciphers.proofs.LendingSteps.{sets, lands_as, named_lft, mut_slice_vals, nothing, length, take, drop_list, types_at}
@@ -49,7 +49,7 @@ open_within_spec 𝓤 𝓛 𝓜 𝓡 wired =
           -- [the answer; three tokens; nothing of self, nonce, aad; what in_out ends as; nothing of the range; what is kept]
           move ! (3 ∷ 0 ∷ 7 ∷ 9 ∷ []) $ regains 𝓛 κ q in_out room 𝓜 𝓡 v u new ! tt α δ (within count old new u fronts) (λ same typed.
           lands_as ! refl refl typed.0 $ reborrows ! in_out.ref_ptr (length old) refl refl (tt, tt) typed-slice $
-          lends 𝓛 κ q in_out room 𝓜 𝓡 v u new ! (table_of 𝓛 𝓜 𝓡) (front_met 𝓤 𝓛 𝓜 𝓡 (P.open_within.Code.calls-aead_ciphers::aead::lend::front_if 𝓡.env wired))
+          lends 𝓛 κ q in_out room 𝓜 𝓡 v u new ! (table_of 𝓛 𝓜 𝓡) (front_met 𝓤 𝓛 𝓜 𝓡 (P.open_within.Code.calls-aead_ciphers::aead::lend::lend_plaintext 𝓡.env wired))
           plaintext count fronts holds same (gets ! tt refl) (λ w r is-r end. lands_as ! refl refl is-r.0 $ returns ! (look_at ! 0 refl) $ free_all ! refl $
           -- [in_out's token; the front; what is owed of in_out; two tokens; four times nothing]
           move ! (2 ∷ []) $ tells₂ 𝓛 ! (as_lent

@@ -1,4 +1,4 @@
--- `open_in_place` lends what `front_if` lends of what `open_in_place_len` wrote: the borrow checker shows
+-- `open_in_place` lends what `lend_plaintext` lends of what `open_in_place_len` wrote: the borrow checker shows
 -- no write-back clause for a slice that lends a slice.
 use Rattle.aead_ciphers.proofs.LendingSteps.{refl, ◌-◌, [], ◌∷◌, full_share, ◌$◌, !, move, keep, addr, through, stop, of_opd, returns, alloc_all, pass_all}
 use Rattle.aead_ciphers.proofs.LendingSteps.{free_all, look_at, get, sets, lands_as, named_lft, plain, mut_slice_vals, nothing, length, take, types_at}
@@ -52,7 +52,7 @@ open_in_place_spec 𝓤 𝓛 𝓜 𝓡 wired N LN g d met =
           -- [the answer; four tokens; self; nothing of aad; what in_out ends as; what is kept]
           move ! (3 ∷ 0 ∷ 7 ∷ 8 ∷ []) $ regains 𝓛 κ q in_out room 𝓜 𝓡 v u new ! tt α δ (within count old new u fronts) (λ same typed.
           lands_as ! refl refl typed.0 $ reborrows ! in_out.ref_ptr (length old) refl refl (tt, tt) typed-slice $
-          lends 𝓛 κ q in_out room 𝓜 𝓡 v u new ! (table_of 𝓛 𝓜 𝓡) (front_met 𝓤 𝓛 𝓜 𝓡 (P.open_in_place.Code.calls-aead_ciphers::aead::lend::front_if 𝓡.env wired))
+          lends 𝓛 κ q in_out room 𝓜 𝓡 v u new ! (table_of 𝓛 𝓜 𝓡) (front_met 𝓤 𝓛 𝓜 𝓡 (P.open_in_place.Code.calls-aead_ciphers::aead::lend::lend_plaintext 𝓡.env wired))
           (take count new) count fronts (its_front count new u) same (gets ! tt refl) (λ w r is-r end.
           lands_as ! refl refl is-r.0 $ returns ! (look_at ! 0 refl) $ free_all ! refl $
           -- [in_out's token; the front; what is owed of in_out; three tokens; self; once nothing]

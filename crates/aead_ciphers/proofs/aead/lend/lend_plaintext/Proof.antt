@@ -1,4 +1,4 @@
--- `front_if` lends the first bytes of a slice, or leaves it as it is. The borrow checker shows no
+-- `lend_plaintext` lends the first bytes of a slice, or leaves it as it is. The borrow checker shows no
 -- write-back clause for a slice that lends a slice, so this proof walks the code by hand.
 use mathlib.Core.Path.{◌≡◌, refl, sym, ap, ◌∙◌}
 use Prim.Native.Nat.{ℕ, ◌+◌, ◌*◌, ◌^◌, ◌<◌, ◌≤◌}
@@ -68,9 +68,9 @@ use Rattle.std.specs.declared.result.Result.TheVariants.{Ok, Err}
 use Rattle.std.specs.contracts.result.Result as RS
 use Rattle.std.proofs.raw_atomic.Walks.{proved}
 use Rattle.aead_ciphers_base.specs.contracts.error.Unspecified as US
-use Rattle.aead_ciphers.specs.contracts.aead.lend.front_if as F
-use Rattle.aead_ciphers.proofs.aead.lend.front_if.Statement.{statement}
-use Rattle.aead_ciphers.proofs.aead.lend.front_if.Code as code
+use Rattle.aead_ciphers.specs.contracts.aead.lend.lend_plaintext as F
+use Rattle.aead_ciphers.proofs.aead.lend.lend_plaintext.Statement.{statement}
+use Rattle.aead_ciphers.proofs.aead.lend.lend_plaintext.Code as code
 
 abbrev Answer : RattleType
 Answer = RS.the_row usize US.the_row
@@ -264,8 +264,8 @@ module _ {M : Type 1} {𝓤 : Ura M} (𝓛 : Logic 𝓤) (at_mem : Memory → SP
         ),
       ))
 
-pub front_if_spec : {M : Type 1} → statement M
-front_if_spec 𝓤 𝓛 𝓜 𝓡 wired =
+pub lend_plaintext_spec : {M : Type 1} → statement M
+lend_plaintext_spec 𝓤 𝓛 𝓜 𝓡 wired =
     let c' = F.clauses 𝓛 𝓜.mem 𝓡.returns in let 𝓣 = tables 𝓤 𝓛.H 𝓜 𝓡 𝓡.env in
     proved 𝓛 F.ended stayed c' 𝓜 𝓡 (
       Goes-spent_slice 𝓛 1 (0 ∷ []) tt (plain (λ _. u8)),
