@@ -19,13 +19,13 @@ zeros_of_xor : (n : ℕ) (a : List ℕ) → length a ≡ n → a ⊕ a ≡ repli
 zeros_of_xor zero [] e = refl
 zeros_of_xor (suc n) [] e = absurd (omega arith)
 zeros_of_xor zero (x ∷ xs) e = absurd (omega arith)
-zeros_of_xor (suc n) (x ∷ xs) e = ap₂ (λ (z : ℕ) (zs : List ℕ). z ∷ zs) (number_self x) (zeros_of_xor n xs (omega arith))
+zeros_of_xor (suc n) (x ∷ xs) e = ap₂ (λ z zs. z ∷ zs) (number_self x) (zeros_of_xor n xs (omega arith))
 
 pub xor_self : (a : List ℕ) → Sized a → a ⊕ a ≡ zero_block
 xor_self a size = zeros_of_xor 16 a size
 
 pub cancel_right : (a b c : List ℕ) → Sized a → Sized b → Sized c → a ⊕ c ≡ b ⊕ c → a ≡ b
-cancel_right a b c sa sb sc e = sym (xor-xor a c (omega arith)) ∙ ap (λ (x : List ℕ). x ⊕ c) e ∙ xor-xor b c (omega arith)
+cancel_right a b c sa sb sc e = sym (xor-xor a c (omega arith)) ∙ ap (λ x. x ⊕ c) e ∙ xor-xor b c (omega arith)
 
 pub cancel_left : (a b c : List ℕ) → Sized a → Sized b → Sized c → c ⊕ a ≡ c ⊕ b → a ≡ b
 cancel_left a b c sa sb sc e = cancel_right a b c sa sb sc (xor_comm a c ∙ e ∙ xor_comm c b)
@@ -44,6 +44,6 @@ cancel_factor a x y size inverse is_x is_y e =
     λ z is_z.
     sym (product_assoc b a z sb size is_z.size)
     ∙ product_comm (b • a) z (Sized-product b a) is_z.size
-    ∙ ap (λ (u : List ℕ). z • u) (product_comm b a sb size ∙ inverse.2)
+    ∙ ap (λ u. z • u) (product_comm b a sb size ∙ inverse.2)
     ∙ product_unit z is_z in
-    sym (back x is_x) ∙ ap (λ (u : List ℕ). b • u) e ∙ back y is_y
+    sym (back x is_x) ∙ ap (λ u. b • u) e ∙ back y is_y

@@ -25,9 +25,9 @@ ghash-reverse h (c ∷ cs) sh all =
     let v = h • value_at h cs in
     ap (ghash h) (reverse-append (c ∷ []) cs)
     ∙ ghash_more h (reverse cs) c sh (AllSized-blocks (reverse cs) (Each-reverse IsBlock cs all.1)) all.0.size
-    ∙ ap (λ (x : List ℕ). (x ⊕ c) • h) (ghash-reverse h cs sh all.1)
+    ∙ ap (λ x. (x ⊕ c) • h) (ghash-reverse h cs sh all.1)
     ∙ product_comm (v ⊕ c) h (Sized-xor v c (Sized-product h (value_at h cs)) all.0.size) sh
-    ∙ ap (λ (x : List ℕ). h • x) (xor_comm v c)
+    ∙ ap (λ x. h • x) (xor_comm v c)
 
 pub ghash_value : (h : List ℕ) (xs : List (List ℕ)) → Sized h → Blocks xs → ghash h xs ≡ h • value_at h (reverse xs)
 ghash_value h xs sh all = ap (ghash h) (sym (reverse-reverse xs)) ∙ ghash-reverse h (reverse xs) sh (Each-reverse IsBlock xs all)

@@ -1,21 +1,21 @@
 -- Steps of the machine over locals. Assumes `Logic`.
 --     gets          operands that are locals read whole
 --     reborrows     `&mut *s` of a slice s: its pointer, and then the pointer with the length
---     hears₂, hears₃      two facts, or three, are learned from the head
+--     hears         a fact is learned from the head (the last one by `heard`)
 use mathlib.Core.Path.{◌≡◌, sym, ap, subst, ◌∙◌, refl}
 use mathlib.Core.List.{List, [], ◌∷◌}
 use Prim.Native.Nat.{ℕ, zero}
 use seplogic.Ra.Ura.{Ura}
 use base.Fraction.{full_share}
 use base.Fml.{fat, froom}
-use base.Logic.{id⊢, sep}
+use base.Logic.{SProp, id⊢, sep}
 use lib.Dec.{T}
 use contract.Monad.{fact}
 use mir.Syntax.{Lifetime, Ty, ty_int, w64, ty_ref, mut, Body, Opd, copy, place, field, deref, seq, assign, addr_of, aggregate}
 use mir.Val.{Val, vptr, vint, WT, has_ty}
 use prog.Wp.{Env, Calls, Loops, spot_of}
 use types.Logic.{Logic}
-use types.Kit.{Item, ‵, ◌⊛◌, raw, nth, del, Post, Goal, runs, Seq, Step, step, ◌$◌, split, split3, use1}
+use types.Kit.{Item, ‵, ◌⊛◌, raw, nth, del, Post, Goal, runs, Seq, Step, step, ◌$◌, split, use1}
 use types.Run.{Opd as OneOpd, Finds, Walks, Opds, stop, hop, fld, from, load, init, and_then, no_more, addr, assigns}
 use types.Part.{Part, whole, sub, agg, look_in}
 use types.ByLocal.{cell, at, set, get}
@@ -109,9 +109,7 @@ module _ {M : Type 1} {𝓤 : Ura M} {𝓛 : Logic 𝓤} {K : Type 0} {Γ : List
         (and_then t (length_of 𝓛 K (set 𝓛 j (holds 𝓛 E j (vptr p.0 p.1)) Γ) E i p n ℓ ξ t is (ap (nth 𝓛 2) met)) (no_more t)))) (from t (stop t))
         (init t (cell k (set 𝓛 j (holds 𝓛 E j (vptr p.0 p.1)) Γ)) (ap (nth 𝓛 4) met) of-slice) $ s)
 
-  module _ {G : Goal 𝓤 H} {φ ψ : Type 0} where
-    pub hears₂ : K → (φ → ψ → Seq K 𝓛 Γ G) → Seq K 𝓛 (raw (sep 𝓤 (fact 𝓤 φ) (fact 𝓤 ψ)) ∷ Γ) G
-    hears₂ t k = use1 𝓛 (raw (fact 𝓤 φ) ⊛ raw (fact 𝓤 ψ)) (id⊢ 𝓤 _) $ split t $ heard t φ (λ x. heard t ψ (λ y. k x y))
-
-    pub hears₃ : K → {χ : Type 0} → (φ → ψ → χ → Seq K 𝓛 Γ G) → Seq K 𝓛 (raw (sep 𝓤 (fact 𝓤 φ) (sep 𝓤 (fact 𝓤 ψ) (fact 𝓤 χ))) ∷ Γ) G
-    hears₃ t {χ} k = use1 𝓛 (raw (fact 𝓤 φ) ⊛ raw (fact 𝓤 ψ) ⊛ raw (fact 𝓤 χ)) (id⊢ 𝓤 _) $ split3 t $ heard t φ (λ x. heard t ψ (λ y. heard t χ (λ z. k x y z)))
+  -- a fact is learned from the head
+  module _ {G : Goal 𝓤 H} {φ : Type 0} {P : SProp 𝓤} where
+    pub hears : K → (φ → Seq K 𝓛 (raw P ∷ Γ) G) → Seq K 𝓛 (raw (sep 𝓤 (fact 𝓤 φ) P) ∷ Γ) G
+    hears t k = use1 𝓛 (raw (fact 𝓤 φ) ⊛ raw P) (id⊢ 𝓤 _) $ split t $ heard t φ k

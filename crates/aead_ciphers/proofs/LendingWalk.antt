@@ -6,49 +6,85 @@
 --     relends, regains      the buffer is lent to the core for a new lifetime, and is back as `lend_plaintext` wants it
 --     lends                 `lend_plaintext` gave the front of the buffer
 --     ends                  the walk's end
-use mir.Syntax.{Fn, Callee, Opd, Place, Body, seq, call}
-use prog.Wp.{Env, Calls, Loops, Closed}
+use mathlib.Core.Path.{◌≡◌, subst}
+pub use mathlib.Core.Path.{refl}
+use Prim.Native.Nat.{ℕ, ◌≤◌, zero, suc}
+pub use Prim.Native.Nat.{◌-◌}
+use mathlib.Core.List.{List, ◌++◌}
+pub use mathlib.Core.List.{[], ◌∷◌}
+use seplogic.Ra.Ura.{Ura}
+use mir.Syntax.{named, Body, Fn, Callee, Opd, Place, seq, call}
+pub use mir.Syntax.{a_type, dcons, dnil}
+use mir.Val.{Val}
+pub use base.Fraction.{full_share}
+use base.Logic.{SProp, ent, sep, emp, id⊢, mono_l, mono_r, via, emp∗, comm∗}
+use base.Fml.{Lft, GName, Share, flft}
+use types.Logic.{Logic, sem}
+use types.Tokens.{lft_new, lft_end}
+use types.Kit.{Item, Sq, prop, mean, ‵, ◌⊛◌, raw, given, some, later, ◌∵◌, qed, drop, split, split3, learn, fsplit, use0, use1, use2, use3, await, pick, now}
+use types.Kit.{Seq, Step, Goal, Post, Soaks, ⋆, push, pop, ++⊢, ⊢++, cut, runs, lands, allocs, params', at_ret}
+pub use types.Kit.{◌$◌, !, move, keep}
+use types.Run.{enter, Opds}
+pub use types.Run.{stop, addr, of_opd, returns}
+pub use types.ByLocal.{alloc_all, pass_all, free_all, look_at, get, sets, lands_as, through}
+use contract.Lifetimes.{Lfts, Shares, toks}
+use contract.Monad.{fact, fact_i}
+use contract.Running.{Running, tables}
+use prog.Model.{Model}
+use prog.Wp.{WpFn, Env, Calls, Loops, Closed}
+use denote.Builtin.{u8}
+use denote.Exit.{yes, left}
+use denote.Laws.{Is, Typed, shows, Are, Ises}
+use denote.RattleType.{RattleType, owns, Valss, Denots}
+use denote.Ref.{MutBor}
+use denote.Signature.{Slot, Signature, type_at}
+pub use denote.Signature.{plain, named_lft, types_at}
+use denote.Slice.{MutSlice, Room, slice_val, mut_slice_Lawful}
+pub use denote.Slice.{mut_slice_vals}
+use denote.Steps.{peeks}
+pub use denote.Steps.{nothing, heard}
+use denote.Triple.Call.{calls_at}
+use denote.Triple.Clauses.{Clauses, lasts, Ended, Lasts, at_exit, closing}
+use denote.Triple.Entry.{on_entry, Args, Vals, alive, Res}
+use denote.Triple.Spec.{triple_of, Spec, Meets}
+use denote.Triple.Statement.{Contract, Triple}
+use denote.Triple.Table.{framed}
+use denote.Triple.Walked.{Stays, stay_dropped, walk_of, Goes-dropped, Fit, has_of, Stay, Silent, AllGo, Goes}
+pub use denote.Triple.Walked.{gave_ref, Goes-gave_ref}
+use lib.ListN.{take}
+pub use lib.ListN.{length}
+use borrow.Rule.Slice.Lend.{sl_relend, sl_relent_backˡ, kept_f}
+use Rattle.std.proofs.raw_atomic.Walks.{proved_at, leaves}
+use Rattle.std.specs.Prelude.{IsOk, IfOk, ◌↔◌}
+pub use mir.MapTy.{inst_fn}
+pub use denote.Param.{param, bounded}
 use sound.WpLaws.{FmC}
-use types.Run.{Opds}
-use denote.Triple.Statement.{Triple}
-use mathlib.Core.List.{List, [], ◌∷◌, ◌++◌}
-use Prim.Native.Nat.{ℕ, zero, suc}
-use base.Logic.{mono_l, mono_r, via, emp∗, comm∗}
-use Rattle.std.proofs.raw_atomic.Walks.{leaves}
-use denote.RattleType.{Denots}
-use denote.Signature.{Slot, Signature, types_at, type_at}
 use denote.Triple.End.{Kepts, Fins, lasts_of}
-use denote.Triple.Entry.{alive, Vals, Res}
-use denote.Triple.Clauses.{Ended, Lasts, at_exit, closing}
-use denote.Triple.Spec.{Spec, Meets}
-use denote.Laws.{Are, Ises}
-use denote.Triple.Walked.{Fit, has_of, Stay, Silent, AllGo, Goes, Goes-dropped, stay_dropped}
-use denote.Exit.{left}
-use types.Kit.{Seq, Sq, Step, Goal, Post, Soaks, ⋆, push, pop, ++⊢, ⊢++, cut, runs, lands, allocs, params', at_ret, qed, !, ◌∵◌}
-use contract.Lifetimes.{toks}
-use Rattle.aead_ciphers.proofs.LendingSteps.{framed, enter, calls_at, proved_at, ◌≡◌, refl, subst, tables, WpFn, ◌≤◌, Ura, named, Val, full_share, SProp, ent}
-use Rattle.aead_ciphers.proofs.LendingSteps.{sep, emp, id⊢, Lft, GName, Share, flft, Logic, sem, lft_new, lft_end, Item, mean, prop, ‵, ◌⊛◌, raw, given, some}
-use Rattle.aead_ciphers.proofs.LendingSteps.{later, ◌$◌, move, drop, split, split3, learn, fsplit, use0, use1, use2, use3, await, pick, Lfts, Shares, fact}
-use Rattle.aead_ciphers.proofs.LendingSteps.{fact_i, Running, Model, u8, yes, Is, Typed, shows, RattleType, owns, Valss, MutBor, MutSlice, Room, slice_val}
-use Rattle.aead_ciphers.proofs.LendingSteps.{mut_slice_Lawful, heard, peeks, Clauses, lasts, on_entry, Args, triple_of, Contract, Stays, walk_of, length, take}
-use Rattle.aead_ciphers.proofs.LendingSteps.{sl_relend, sl_relent_backˡ, kept_f, IsOk, IfOk, OnOk, ◌↔◌}
 use Rattle.aead_ciphers.specs.Lending.{LendsFront, count_of}
-use Rattle.aead_ciphers.specs.contracts.aead.lend.lend_plaintext as L
+use Rattle.aead_ciphers.proofs.Lending.{words_same, Answer, answer_Lawful, Out, out_Lawful, Own, as_own, as_slice, turned}
 pub use Rattle.aead_ciphers.proofs.Lending.{Words, words_vals, words_typed, slice_typed, nonce_word, aad_word, tag_word, range_word}
-pub use Rattle.aead_ciphers.proofs.LendingLocals.{gets, reborrows, hears₂, hears₃}
-pub use Rattle.aead_ciphers.proofs.aead.lend.lend_plaintext.Met.{met as front_met}
-pub use Rattle.aead_ciphers.proofs.FrontLemmas.{as_lent, attached_fronts, attached_plaintext, opened_fronts, opened_plaintext, sub-zero}
-pub use Rattle.aead_ciphers.proofs.OpenLemmas.{its_front, lent_count, step_fronts}
-pub use Rattle.aead_ciphers.specs.BoundState.{Keeps}
+pub use Rattle.aead_ciphers.proofs.LendingLocals.{gets, reborrows, hears}
+use Rattle.aead_ciphers.proofs.LentPlaintext.{Fronts, Concluded, concluded, within}
+pub use Rattle.aead_ciphers.proofs.LentPlaintext.{as_lent, attached_fronts, opened_fronts, step_fronts}
 pub use Rattle.aead_ciphers.specs.Steps.{OpenStep}
-pub use Rattle.aead_ciphers_base.specs.Aes.{aes}
 pub use Rattle.aead_ciphers_base.specs.Values.{aad_bytes}
 pub use Rattle.aead_ciphers.specs.AesGcm.{AesOpened, AesOpenedAttached}
-pub use Rattle.aead_ciphers.specs.Gcm.{decrypted}
-pub use Rattle.std.specs.Prelude.{Bool, is_ok}
-use Rattle.aead_ciphers.proofs.Lending.{words_same, Answer, answer_Lawful, Out, out_Lawful, Own, as_own, as_slice, turned}
-use Rattle.aead_ciphers.proofs.FrontLemmas.{Fronts, Concluded, concluded}
-pub use Rattle.aead_ciphers.proofs.FrontLemmas.{within}
+pub use Rattle.std.proofs.Common.{arith}
+use Rattle.aead_ciphers.specs.contracts.aead.lend.lend_plaintext as L
+pub use Rattle.aead_ciphers.proofs.aead.lend.lend_plaintext.Met.{met as front_met}
+
+-- the lifetimes, and their shares, with another third
+abbrev pub with_third : (n : ℕ) → Lft → Lfts n → Lfts n
+with_third (suc (suc (suc n))) κ κs = (κs.0, (κs.1.0, (κ, κs.1.1.1)))
+with_third n κ κs = κs
+
+abbrev pub with_third_share : (n : ℕ) → Share → Shares n → Shares n
+with_third_share (suc (suc (suc n))) q qs = (qs.0, (qs.1.0, (q, qs.1.1.1)))
+with_third_share n q qs = qs
+
+-- the words that store the parameters, and the walk with them
+pub at_words {ℓ} : {A : Type 0} {B : A → Type ℓ} (words : A) → B words → (ws : A) × B ws
+at_words words walk = (words, walk)
 
 -- ---- parameters of which nothing is had at the end
 abbrev pub dropped : {n : ℕ} (ss : List (Slot n)) (ks : Kepts ss) → Stays ss ks
@@ -169,48 +205,56 @@ module _ {M : Type 1} {𝓤 : Ura M} (𝓛 : Logic 𝓤) where
         (⊢join Δ R (on_entry 𝓛 S y.0.0 y.0.1 y.0.3 y.0.4) ((c y.0.0 y.0.3).requires y.1) (⊢entered S y.0.0 y.0.1 y.0.3 y.0.4)
         (id⊢ 𝓤 ((c y.0.0 y.0.3).requires y.1)))
 
+  -- the machine's table of calls, and that its entries keep a frame
+  abbrev pub calls_of : (𝓜 : Model 𝓤 𝓛.H) → Running 𝓤 𝓛.H 𝓜 → Calls 𝓤 𝓛.H
+  calls_of 𝓜 𝓡 = (tables 𝓤 𝓛.H 𝓜 𝓡 𝓡.env).C
+
+  abbrev table_of : (𝓜 : Model 𝓤 𝓛.H) (𝓡 : Running 𝓤 𝓛.H 𝓜) → FmC 𝓤 𝓛.H 𝓛.laws (calls_of 𝓜 𝓡)
+  table_of 𝓜 𝓡 = framed 𝓤 𝓛.H 𝓜 (tables 𝓤 𝓛.H 𝓜 𝓡 𝓡.env)
+
   -- what a callee gave
   module _ (T : Ended) (c : Clauses 𝓤 T) where
-    abbrev pub gave : (y : (triple_of 𝓛 T.signature (closing 𝓛 T c)).Ghost) (v : Val) (r : Res T.signature y.0.0) (ws : Lasts T y.0.0 y.0.3) → List (Item 𝓤)
-    gave y v r ws =
-        raw ((c y.0.0 y.0.3).ensures y.1 r (at_exit T y.0.0 y.0.3 ws)) ∷ ‵ ((type_at T.signature.result y.0.0).own_val r (v ∷ []))
-        ∷ (tokens 𝓤 T.signature.lifetimes y.0.0 y.0.1 ++ lasted 𝓤 y.0.0 T.signature.params T.kept y.0.3 ws)
+    abbrev pub Asked : Contract 𝓤
+    Asked = triple_of 𝓛 T.signature (closing 𝓛 T c)
 
-    module _ (y : (triple_of 𝓛 T.signature (closing 𝓛 T c)).Ghost) (v : Val) where
-      abbrev answer : Res T.signature y.0.0 → Item 𝓤
-      answer r = ‵ ((type_at T.signature.result y.0.0).own_val r (v ∷ []))
+    module _ (y : Asked.Ghost) where
+      abbrev pub answer : Val → Res T.signature y.0.0 → Item 𝓤
+      answer v r = ‵ ((type_at T.signature.result y.0.0).own_val r (v ∷ []))
 
-      abbrev said : (r : Res T.signature y.0.0) → Lasts T y.0.0 y.0.3 → Item 𝓤
-      said r ws = raw ((c y.0.0 y.0.3).ensures y.1 r (at_exit T y.0.0 y.0.3 ws))
+      abbrev pub ensured : Res T.signature y.0.0 → Lasts T y.0.0 y.0.3 → Item 𝓤
+      ensured r ws = raw ((c y.0.0 y.0.3).ensures y.1 r (at_exit T y.0.0 y.0.3 ws))
 
-      gave⊢ : (r : Res T.signature y.0.0) (ws : Lasts T y.0.0 y.0.3)
-          → ent 𝓤 (⋆ 𝓛 (said r ws ∷ answer r ∷ raw (alive 𝓛 T.signature y.0.0 y.0.1) ∷ ‵ (lasts T y.0.0 y.0.3 ws) ∷ [])) (⋆ 𝓛 (gave y v r ws))
-      gave⊢ r ws =
+      abbrev pub gave : Val → Res T.signature y.0.0 → Lasts T y.0.0 y.0.3 → List (Item 𝓤)
+      gave v r ws =
+          ensured r ws ∷ answer v r ∷ (tokens 𝓤 T.signature.lifetimes y.0.0 y.0.1 ++ lasted 𝓤 y.0.0 T.signature.params T.kept y.0.3 ws)
+
+      gave⊢ : (v : Val) (r : Res T.signature y.0.0) (ws : Lasts T y.0.0 y.0.3)
+          → ent 𝓤 (⋆ 𝓛 (ensured r ws ∷ answer v r ∷ raw (alive 𝓛 T.signature y.0.0 y.0.1) ∷ ‵ (lasts T y.0.0 y.0.3 ws) ∷ [])) (⋆ 𝓛 (gave v r ws))
+      gave⊢ v r ws =
           let A = alive 𝓛 T.signature y.0.0 y.0.1 in let L = sem 𝓛 (lasts T y.0.0 y.0.3 ws) in let Ts = tokens 𝓤 T.signature.lifetimes y.0.0 y.0.1 in
           let Δ = lasted 𝓤 y.0.0 T.signature.params T.kept y.0.3 ws in
-          cons⊢ (said r ws) (answer r ∷ (Ts ++ Δ)) (sep 𝓤 (mean 𝓛 (answer r)) (sep 𝓤 A L))
-          (cons⊢ (answer r) (Ts ++ Δ) (sep 𝓤 A L)
+          cons⊢ (ensured r ws) (answer v r ∷ (Ts ++ Δ)) (sep 𝓤 (mean 𝓛 (answer v r)) (sep 𝓤 A L))
+          (cons⊢ (answer v r) (Ts ++ Δ) (sep 𝓤 A L)
           (join⊢ Ts Δ A L (tokens⊢ T.signature.lifetimes y.0.0 y.0.1) (lasted⊢ y.0.0 T.signature.params T.kept y.0.3 ws)))
 
-      pub answers : {K : Type 0} {Γ : List (Item 𝓤)} {G : Goal 𝓤 𝓛.H} → K → Soaks G
-          → ((r : Res T.signature y.0.0) (ws : Lasts T y.0.0 y.0.3) → Seq K 𝓛 (gave y v r ws ++ Γ) G)
-          → Seq K 𝓛 (raw ((triple_of 𝓛 T.signature (closing 𝓛 T c)).post y v) ∷ Γ) G
-      answers {Γ = Γ} t soaks k =
+      pub answers : {K : Type 0} {Γ : List (Item 𝓤)} {G : Goal 𝓤 𝓛.H} (v : Val) → K → Soaks G
+          → ((r : Res T.signature y.0.0) (ws : Lasts T y.0.0 y.0.3) → Seq K 𝓛 (gave v r ws ++ Γ) G) → Seq K 𝓛 (raw (Asked.post y v) ∷ Γ) G
+      answers {Γ = Γ} v t soaks k =
           let A = raw (alive 𝓛 T.signature y.0.0 y.0.1) in
-          use1 𝓛 (later (some (λ (r : Res T.signature y.0.0). (A ⊛ answer r) ⊛ some (λ (ws : Lasts T y.0.0 y.0.3). ‵ (lasts T y.0.0 y.0.3 ws) ⊛ said r ws))))
-          (id⊢ 𝓤 _) $
+          use1 𝓛 (later (some (λ (r : Res T.signature y.0.0).
+          (A ⊛ answer v r) ⊛ some (λ (ws : Lasts T y.0.0 y.0.3). ‵ (lasts T y.0.0 y.0.3 ws) ⊛ ensured r ws)))) (id⊢ 𝓤 _) $
           await t soaks $ pick t (λ r. split t $ split t $ move t (2 ∷ []) $ pick t (λ ws. split t $ move t (1 ∷ 3 ∷ 2 ∷ 0 ∷ []) $
-          cut (said r ws ∷ answer r ∷ A ∷ ‵ (lasts T y.0.0 y.0.3 ws) ∷ []) (gave y v r ws) Γ (gave⊢ r ws) $ k r ws))
+          cut (ensured r ws ∷ answer v r ∷ A ∷ ‵ (lasts T y.0.0 y.0.3 ws) ∷ []) (gave v r ws) Γ (gave⊢ v r ws) $ k r ws))
 
     -- a call, from what the callee wants to what it gave
-    pub consults : {K : Type 0} {Γ : List
-        (Item 𝓤)} {E : Env 𝓤 𝓛.H} {C : Calls 𝓤 𝓛.H} {Λ : Loops 𝓤 𝓛.H} {q : Post 𝓤 𝓛.H} {f : Callee} {xs : List Opd} {d : Place} {rest : Body}
-        → K → FmC 𝓤 𝓛.H 𝓛.laws C → Triple 𝓤 (C f) (triple_of 𝓛 T.signature (closing 𝓛 T c)) → (y : (triple_of 𝓛 T.signature (closing 𝓛 T c)).Ghost)
-        → Opds K 𝓛 (raw ((triple_of 𝓛 T.signature (closing 𝓛 T c)).pre y) ∷ Γ) E xs ((triple_of 𝓛 T.signature (closing 𝓛 T c)).args y)
-        → ((v : Val) (r : Res T.signature y.0.0) (ws : Lasts T y.0.0 y.0.3) → Seq K 𝓛 (gave y v r ws ++ Γ) (lands C Λ E d v rest q))
-        → Seq K 𝓛 ((entered 𝓤 T.signature y.0.0 y.0.1 y.0.3 y.0.4 ++ (raw ((c y.0.0 y.0.3).requires y.1) ∷ [])) ++ Γ) (runs C Λ E (seq (call f xs d) rest) q)
-    consults t table met y operands k =
-        readies t T.signature (closing 𝓛 T c) y $ calls_at t table (triple_of 𝓛 T.signature (closing 𝓛 T c)) met y operands (λ v. answers y v t tt (k v))
+    pub consults : (𝓜 : Model 𝓤 𝓛.H) (𝓡 : Running 𝓤 𝓛.H 𝓜) {K : Type 0} {Γ : List (Item 𝓤)} {E : Env 𝓤 𝓛.H} {Λ : Loops 𝓤 𝓛.H} {q : Post 𝓤 𝓛.H}
+        {f : Callee} {xs : List Opd} {d : Place} {rest : Body} → K → Triple 𝓤 (calls_of 𝓜 𝓡 f) Asked → (y : Asked.Ghost)
+        → Opds K 𝓛 (raw (Asked.pre y) ∷ Γ) E xs (Asked.args y)
+        → ((v : Val) (r : Res T.signature y.0.0) (ws : Lasts T y.0.0 y.0.3) → Seq K 𝓛 (gave y v r ws ++ Γ) (lands (calls_of 𝓜 𝓡) Λ E d v rest q))
+        → Seq K 𝓛 ((entered 𝓤 T.signature y.0.0 y.0.1 y.0.3 y.0.4 ++ (raw ((c y.0.0 y.0.3).requires y.1) ∷ [])) ++ Γ)
+        (runs (calls_of 𝓜 𝓡) Λ E (seq (call f xs d) rest) q)
+    consults 𝓜 𝓡 t met y operands k =
+        readies t T.signature (closing 𝓛 T c) y $ calls_at t (table_of 𝓜 𝓡) Asked met y operands (λ v. answers y v t tt (k v))
 
   -- the walk's end
   module _ (T : Ended) (hs : Stays T.signature.params T.kept) (c : Clauses 𝓤 T) (y : (walk_of 𝓛 T hs c).Ghost) (v : Val) (r : Res T.signature y.0.0)
@@ -234,53 +278,42 @@ module _ {M : Type 1} {𝓤 : Ura M} (𝓛 : Logic 𝓤) where
               (leaves 𝓛 T hs c y v r ws fits);
         }
 
-  -- a walk with the parameters' machine values written out
-  pub spelled : (T : Ended) (hs : Stays T.signature.params T.kept) (c : Clauses 𝓤 T) (𝓜 : Model 𝓤 𝓛.H) (𝓡 : Running 𝓤 𝓛.H 𝓜) (e : Fn)
-      (y : (walk_of 𝓛 T hs c).Ghost) (vss : Vals T.signature y.0.0) → vss ≡ y.0.4
-      → (let 𝓣 = tables 𝓤 𝓛.H 𝓜 𝓡 𝓡.env in let W = walk_of 𝓛 T hs c in let y' : W.Ghost = ((y.0.0, y.0.1, y.0.2, y.0.3, vss), y.1) in
-      ent 𝓤 (W.pre y') (WpFn 𝓤 𝓛.H 𝓣.C 𝓣.Λ e (W.args y') (W.post y')))
-      → (let 𝓣 = tables 𝓤 𝓛.H 𝓜 𝓡 𝓡.env in let W = walk_of 𝓛 T hs c in ent 𝓤 (W.pre y) (WpFn 𝓤 𝓛.H 𝓣.C 𝓣.Λ e (W.args y) (W.post y)))
-  spelled T hs c 𝓜 𝓡 e y vss is walk =
-      let 𝓣 = tables 𝓤 𝓛.H 𝓜 𝓡 𝓡.env in let W = walk_of 𝓛 T hs c in
-      subst (λ (vs : Vals T.signature y.0.0). let y' : W.Ghost = ((y.0.0, y.0.1, y.0.2, y.0.3, vs), y.1) in
-      ent 𝓤 (W.pre y') (WpFn 𝓤 𝓛.H 𝓣.C 𝓣.Λ e (W.args y') (W.post y'))) is walk
+  module _ (T : Ended) (hs : Stays T.signature.params T.kept) (c : Clauses 𝓤 T) (𝓜 : Model 𝓤 𝓛.H) (𝓡 : Running 𝓤 𝓛.H 𝓜) where
+    abbrev Runs : Fn → (walk_of 𝓛 T hs c).Ghost → Type 1
+    Runs e y =
+        let 𝓣 = tables 𝓤 𝓛.H 𝓜 𝓡 𝓡.env in let W = walk_of 𝓛 T hs c in ent 𝓤 (W.pre y) (WpFn 𝓤 𝓛.H 𝓣.C 𝓣.Λ e (W.args y) (W.post y))
 
-  -- a walk from the entries to the end of the body, with the parameters' machine values written out
-  pub walked : (T : Ended) (hs : Stays T.signature.params T.kept) (c : Clauses 𝓤 T) (𝓜 : Model 𝓤 𝓛.H) (𝓡 : Running 𝓤 𝓛.H 𝓜)
-      → AllGo 𝓛 T.signature.lifetimes T.signature.params T.kept hs → (k : Callee) (e : Fn) → (let 𝓣 = tables 𝓤 𝓛.H 𝓜 𝓡 𝓡.env in Closed 𝓤 𝓛.H 𝓣.C 𝓣.Λ k e)
-      → ((y : (walk_of 𝓛 T hs c).Ghost) → Are (types_at T.signature.params y.0.0) (Ises (types_at T.signature.params y.0.0)) y.0.3 y.0.4
-      → (words : Words (types_at T.signature.params y.0.0) y.0.4) × (let 𝓣 = tables 𝓤 𝓛.H 𝓜 𝓡 𝓡.env in let W = walk_of 𝓛 T hs c in
-      let vss = words_vals (types_at T.signature.params y.0.0) y.0.4 words in let y' : W.Ghost = ((y.0.0, y.0.1, y.0.2, y.0.3, vss), y.1) in
-      Sq 𝓛 (entered 𝓤 T.signature y.0.0 y.0.1 y.0.3 vss ++ (raw ((c y.0.0 y.0.3).requires y.1) ∷ []))
-      (allocs e.locals (λ E. params' E (W.args y') (runs 𝓣.C 𝓣.Λ E e.body (at_ret E (W.post y')))))))
-      → (let 𝓣 = tables 𝓤 𝓛.H 𝓜 𝓡 𝓡.env in Meets 𝓛 T.signature (𝓣.C k) (closing 𝓛 T c))
-  walked T hs c 𝓜 𝓡 go k e closed walk = proved_at 𝓛 T hs c 𝓜 𝓡 go k e closed (λ y are.
-      let w = walk y are in let Ts = types_at T.signature.params y.0.0 in let vss = words_vals Ts y.0.4 w.0 in
-      spelled T hs c 𝓜 𝓡 e y vss (words_same Ts y.0.4 w.0)
-      (qed 𝓛 (raw (on_entry 𝓛 T.signature y.0.0 y.0.1 y.0.3 vss) ∷ raw ((c y.0.0 y.0.3).requires y.1) ∷ []) ∵
-      spreads ! T.signature y.0.0 y.0.1 y.0.3 vss $ enter ! _ _ _ _ _ $ w.1))
+    -- a walk with the parameters' machine values written out
+    pub spelled : (e : Fn) (y : (walk_of 𝓛 T hs c).Ghost) (vss : Vals T.signature y.0.0) → vss ≡ y.0.4
+        → Runs e ((y.0.0, y.0.1, y.0.2, y.0.3, vss), y.1) → Runs e y
+    spelled e y vss is walk = subst (λ (vs : Vals T.signature y.0.0). Runs e ((y.0.0, y.0.1, y.0.2, y.0.3, vs), y.1)) is walk
 
-  -- an entry of the machine's tables keeps a frame
-  abbrev pub table_of : (𝓜 : Model 𝓤 𝓛.H) (𝓡 : Running 𝓤 𝓛.H 𝓜) → FmC 𝓤 𝓛.H 𝓛.laws (tables 𝓤 𝓛.H 𝓜 𝓡 𝓡.env).C
-  table_of 𝓜 𝓡 = framed 𝓤 𝓛.H 𝓜 (tables 𝓤 𝓛.H 𝓜 𝓡 𝓡.env)
+    -- a walk from the entries to the end of the body, with the parameters' machine values written out
+    pub walked : AllGo 𝓛 T.signature.lifetimes T.signature.params T.kept hs
+        → (k : Callee) (e : Fn) → (let 𝓣 = tables 𝓤 𝓛.H 𝓜 𝓡 𝓡.env in Closed 𝓤 𝓛.H 𝓣.C 𝓣.Λ k e)
+        → ((y : (walk_of 𝓛 T hs c).Ghost) → Are (types_at T.signature.params y.0.0) (Ises (types_at T.signature.params y.0.0)) y.0.3 y.0.4
+        → (words : Words (types_at T.signature.params y.0.0) y.0.4) × (let 𝓣 = tables 𝓤 𝓛.H 𝓜 𝓡 𝓡.env in let W = walk_of 𝓛 T hs c in
+        let vss = words_vals (types_at T.signature.params y.0.0) y.0.4 words in let y' : W.Ghost = ((y.0.0, y.0.1, y.0.2, y.0.3, vss), y.1) in
+        Sq 𝓛 (entered 𝓤 T.signature y.0.0 y.0.1 y.0.3 vss ++ (raw ((c y.0.0 y.0.3).requires y.1) ∷ []))
+        (allocs e.locals (λ E. params' E (W.args y') (runs 𝓣.C 𝓣.Λ E e.body (at_ret E (W.post y')))))))
+        → (let 𝓣 = tables 𝓤 𝓛.H 𝓜 𝓡 𝓡.env in Meets 𝓛 T.signature (𝓣.C k) (closing 𝓛 T c))
+    walked go k e closed walk = proved_at 𝓛 T hs c 𝓜 𝓡 go k e closed (λ y are.
+        let w = walk y are in let Ts = types_at T.signature.params y.0.0 in let vss = words_vals Ts y.0.4 w.0 in
+        spelled e y vss (words_same Ts y.0.4 w.0) (qed 𝓛 (raw (on_entry 𝓛 T.signature y.0.0 y.0.1 y.0.3 vss) ∷ raw ((c y.0.0 y.0.3).requires y.1) ∷ []) ∵
+        spreads ! T.signature y.0.0 y.0.1 y.0.3 vss $ enter ! _ _ _ _ _ $ w.1))
 
   -- facts beside the head
-  facts₂ : (φ ψ : Type 0) → φ → ψ → ent 𝓤 (emp 𝓤) (sep 𝓤 (fact 𝓤 φ) (fact 𝓤 ψ))
-  facts₂ φ ψ x y = via 𝓤 (sep 𝓤 (fact 𝓤 φ) (emp 𝓤)) (via 𝓤 (sep 𝓤 (emp 𝓤) (emp 𝓤)) (emp∗ 𝓤 (emp 𝓤)) (mono_l 𝓤 (emp 𝓤) (fact_i 𝓤 φ (emp 𝓤) x)))
-      (mono_r 𝓤 (fact 𝓤 φ) (fact_i 𝓤 ψ (emp 𝓤) y))
+  pub last : {φ : Type 0} → φ → ent 𝓤 (emp 𝓤) (fact 𝓤 φ)
+  last {φ} x = fact_i 𝓤 φ (emp 𝓤) x
 
-  tells : {K : Type 0} {Γ : List (Item 𝓤)} {G : Goal 𝓤 𝓛.H} {i : Item 𝓤} → K → (Q : SProp 𝓤) → ent 𝓤 (emp 𝓤) Q
+  pub says : {φ : Type 0} {Q : SProp 𝓤} → φ → ent 𝓤 (emp 𝓤) Q → ent 𝓤 (emp 𝓤) (sep 𝓤 (fact 𝓤 φ) Q)
+  says {φ} {Q} x h = via 𝓤 (sep 𝓤 (emp 𝓤) Q) (via 𝓤 Q h (emp∗ 𝓤 Q)) (mono_l 𝓤 Q (last x))
+
+  pub tells : {K : Type 0} {Γ : List (Item 𝓤)} {G : Goal 𝓤 𝓛.H} {i : Item 𝓤} {Q : SProp 𝓤} → K → ent 𝓤 (emp 𝓤) Q
       → Step K 𝓛 (raw (sep 𝓤 (mean 𝓛 i) Q) ∷ Γ) G (i ∷ Γ) G
-  tells {i = i} t Q h = let P = mean 𝓛 i in use1 𝓛 (raw (sep 𝓤 P Q)) (via 𝓤 (sep 𝓤 (emp 𝓤) P) (emp∗ 𝓤 P) (via 𝓤 (sep 𝓤 Q P) (mono_l 𝓤 P h) (comm∗ 𝓤 Q P)))
-
-  pub tells₂ : {K : Type 0} {Γ : List (Item 𝓤)} {G : Goal 𝓤 𝓛.H} {i : Item 𝓤} → K → {φ ψ : Type 0} → φ → ψ
-      → Step K 𝓛 (raw (sep 𝓤 (mean 𝓛 i) (sep 𝓤 (fact 𝓤 φ) (fact 𝓤 ψ))) ∷ Γ) G (i ∷ Γ) G
-  tells₂ t {φ} {ψ} x y = tells t (sep 𝓤 (fact 𝓤 φ) (fact 𝓤 ψ)) (facts₂ φ ψ x y)
-
-  pub tells₃ : {K : Type 0} {Γ : List (Item 𝓤)} {G : Goal 𝓤 𝓛.H} {i : Item 𝓤} → K → {φ ψ χ : Type 0} → φ → ψ → χ
-      → Step K 𝓛 (raw (sep 𝓤 (mean 𝓛 i) (sep 𝓤 (fact 𝓤 φ) (sep 𝓤 (fact 𝓤 ψ) (fact 𝓤 χ)))) ∷ Γ) G (i ∷ Γ) G
-  tells₃ t {φ} {ψ} {χ} x y z = let Q = sep 𝓤 (fact 𝓤 ψ) (fact 𝓤 χ) in
-      tells t (sep 𝓤 (fact 𝓤 φ) Q) (via 𝓤 (sep 𝓤 (emp 𝓤) Q) (via 𝓤 Q (facts₂ ψ χ y z) (emp∗ 𝓤 Q)) (mono_l 𝓤 Q (fact_i 𝓤 φ (emp 𝓤) x)))
+  tells {i = i} {Q} t h =
+      let P = mean 𝓛 i in
+      use1 𝓛 (raw (sep 𝓤 P Q)) (via 𝓤 (sep 𝓤 (emp 𝓤) P) (emp∗ 𝓤 P) (via 𝓤 (sep 𝓤 Q P) (mono_l 𝓤 P h) (comm∗ 𝓤 Q P)))
 
   -- ---- the buffer
   module _ (κ : Lft) (q : Share) (arg : MutBor (List ℕ)) (rm : Room u8 (length arg.now)) where
@@ -314,11 +347,11 @@ module _ {M : Type 1} {𝓤 : Ura M} (𝓛 : Logic 𝓤) where
 
       module _ (v : Val) (u : Answer.Denot) (ys : List ℕ) where
         pub regains : {K : Type 0} {Γ : List (Item 𝓤)} {G : Goal 𝓤 𝓛.H} → K → Soaks G → (α : ℕ) (δ : GName)
-            → (length ys ≡ length arg.now → IfOk u (λ n. n ≤ length ys))
+            → {plaintext : List ℕ} {count : ℕ} → Fronts plaintext count arg.now ys u
             → (length ys ≡ length arg.now → Typed Answer.mir (v ∷ []) → Seq K 𝓛 (raw (Lend.pre (lend v u ys)) ∷ Γ) G)
             → Seq K 𝓛 (‵ (flft (α ∷ []) full_share) ∷ ‵ (Answer.own_val u (v ∷ []))
             ∷ ‵ (left ((MutSlice (named 2) (α ∷ []) u8).exit yes) (record arg { ghost_name = δ }) ys) ∷ kept α δ ∷ Γ) G
-        regains {Γ = Γ} t soaks α δ bound k =
+        regains t soaks α δ fronts k =
             let b = arg.ref_ptr.0 in let o = arg.ref_ptr.1 in let γ = arg.ghost_name in let xs = arg.now in
             lft_end t soaks $ move t (1 ∷ []) $ peeks t Answer (Is Answer) (shows 𝓛 Answer) u (v ∷ []) (λ is-u. move t (2 ∷ []) $ fsplit t $ fsplit t $
             -- [its last value; its length; its borrow; the answer; α is over; what was kept]
@@ -327,29 +360,29 @@ module _ {M : Type 1} {𝓤 : Ura M} (𝓛 : Logic 𝓤) where
             use1 𝓛 (‵ ((MutSlice (named 0) κ u8).own_val (in_hand ys) (slice_val arg.ref_ptr (length xs) ∷ [])))
             (as_slice 𝓛 (named 0) κ b o γ ys (length xs) same rm) $
             move t (2 ∷ 3 ∷ []) $ drop t $ drop t $
-            use0 𝓛 (raw (fact 𝓤 (IfOk u (λ n. n ≤ length ys)))) (fact_i 𝓤 (IfOk u (λ n. n ≤ length ys)) (emp 𝓤) (bound same)) $
+            use0 𝓛 (raw (fact 𝓤 (IfOk u (λ n. n ≤ length ys)))) (fact_i 𝓤 (IfOk u (λ n. n ≤ length ys)) (emp 𝓤) (within u fronts same)) $
             move t (2 ∷ 1 ∷ 3 ∷ 0 ∷ []) $ readies t L.signature (L.spec 𝓛 𝓜.mem 𝓡.returns) (lend v u ys) $
             k same ((answer_Lawful 𝓛).typed u (v ∷ []) is-u)))
 
         -- `lend_plaintext` is called, and gives the front, which is the plaintext
-        pub lends : {K : Type 0} {Γ : List (Item 𝓤)} {E : Env 𝓤 𝓛.H} {C : Calls 𝓤 𝓛.H} {Λ : Loops 𝓤 𝓛.H} {q' : Post 𝓤 𝓛.H}
-            {f : Callee} {xs : List Opd} {d : Place} {rest : Body}
-            → K → FmC 𝓤 𝓛.H 𝓛.laws C → Triple 𝓤 (C f) Lend → (plaintext : List ℕ) (count : ℕ) → Fronts count arg.now ys u → OnOk u (take count ys ≡ plaintext)
-            → length ys ≡ length arg.now
+        pub lends : {K : Type 0} {Γ : List (Item 𝓤)} {E : Env 𝓤 𝓛.H} {Λ : Loops 𝓤 𝓛.H} {q' : Post 𝓤 𝓛.H}
+            {f : Callee} {xs : List Opd} {d : Place} {rest : Body} → K → Triple 𝓤 (calls_of 𝓜 𝓡 f) Lend
+            → {plaintext : List ℕ} {count : ℕ} → Fronts plaintext count arg.now ys u → length ys ≡ length arg.now
             → Opds K 𝓛 (raw (Lend.pre (lend v u ys)) ∷ Γ) E xs (Lend.args (lend v u ys))
             → ((w : Val) (r : (Out (MutSlice (named 2) κ u8)).Denot) → Typed (Out (MutSlice (named 2) κ u8)).mir (w ∷ [])
             → Concluded plaintext arg.now ys count u r
-            → Seq K 𝓛 (‵ (flft κ q) ∷ ‵ ((Out (MutSlice (named 2) κ u8)).own_val r (w ∷ [])) ∷ ‵ (LendsFront arg r count) ∷ Γ) (lands C Λ E d w rest q'))
-            → Seq K 𝓛 (raw (Lend.pre (lend v u ys)) ∷ Γ) (runs C Λ E (seq (call f xs d) rest) q')
-        lends {Γ = Γ} t table met plaintext count fronts holds long operands k =
+            → Seq K 𝓛 (‵ (flft κ q) ∷ ‵ ((Out (MutSlice (named 2) κ u8)).own_val r (w ∷ [])) ∷ ‵ (LendsFront arg r count) ∷ Γ)
+            (lands (calls_of 𝓜 𝓡) Λ E d w rest q'))
+            → Seq K 𝓛 (raw (Lend.pre (lend v u ys)) ∷ Γ) (runs (calls_of 𝓜 𝓡) Λ E (seq (call f xs d) rest) q')
+        lends t met {plaintext} {count} fronts long operands k =
             let X = Out (MutSlice (named 2) κ u8) in
-            calls_at t table Lend met (lend v u ys) operands (λ w. answers L.ended (L.clauses 𝓛 𝓜.mem 𝓡.returns) (lend v u ys) w t tt (λ r ws.
+            calls_at t (table_of 𝓜 𝓡) Lend met (lend v u ys) operands (λ w. answers L.ended (L.clauses 𝓛 𝓜.mem 𝓡.returns) (lend v u ys) w t tt (λ r ws.
             -- [what it says; the front; the token; nothing of the buffer and the answer]
             move t (3 ∷ 4 ∷ []) $ drop t $ drop t $
             use1 𝓛 (‵ (LendsFront (in_hand ys) r (count_of u)) ⊛ raw (fact 𝓤 (IsOk r ↔ IsOk u)) ⊛ raw (fact 𝓤 (IfOk r (λ x. x.now ≡ take (count_of u) ys))))
             (id⊢ 𝓤 _) $ split3 t $
             move t (1 ∷ []) $ heard t _ (λ same. move t (1 ∷ []) $ heard t _ (λ value.
-            let end : Concluded plaintext arg.now ys count u r = concluded plaintext arg.now ys count u r holds fronts long same value in
+            let end : Concluded plaintext arg.now ys count u r = concluded u r fronts long same value in
             use1 𝓛 (‵ (LendsFront arg r count)) (turned 𝓛 arg r (count_of u) count ys end.rest end.kept) $ move t (1 ∷ []) $
             use1 𝓛 (‵ (X.own_val r (w ∷ []))) (id⊢ 𝓤 _) $ peeks t X (Is X) (shows 𝓛 X) r (w ∷ []) (λ is-r. move t (2 ∷ 0 ∷ 1 ∷ []) $
             k w r ((out_Lawful 𝓛 (MutSlice (named 2) κ u8) (mut_slice_Lawful 𝓛 (named 2) κ u8)).typed r (w ∷ []) is-r) end)))))

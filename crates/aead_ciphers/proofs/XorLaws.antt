@@ -21,22 +21,22 @@ pub xor_comm : (a b : List ℕ) → a ⊕ b ≡ b ⊕ a
 xor_comm [] [] = refl
 xor_comm [] (y ∷ ys) = refl
 xor_comm (x ∷ xs) [] = refl
-xor_comm (x ∷ xs) (y ∷ ys) = ap₂ (λ (z : ℕ) (zs : List ℕ). z ∷ zs) (number_comm x y) (xor_comm xs ys)
+xor_comm (x ∷ xs) (y ∷ ys) = ap₂ (λ z zs. z ∷ zs) (number_comm x y) (xor_comm xs ys)
 
 pub xor_assoc : (a b c : List ℕ) → (a ⊕ b) ⊕ c ≡ a ⊕ (b ⊕ c)
 xor_assoc [] b c = refl
 xor_assoc (x ∷ xs) [] c = refl
 xor_assoc (x ∷ xs) (y ∷ ys) [] = refl
-xor_assoc (x ∷ xs) (y ∷ ys) (z ∷ zs) = ap₂ (λ (n : ℕ) (ns : List ℕ). n ∷ ns) (number_assoc x y z) (xor_assoc xs ys zs)
+xor_assoc (x ∷ xs) (y ∷ ys) (z ∷ zs) = ap₂ (λ n ns. n ∷ ns) (number_assoc x y z) (xor_assoc xs ys zs)
 
 pub xor_zeros : (a : List ℕ) (n : ℕ) → length a ≡ n → a ⊕ replicate n 0 ≡ a
 xor_zeros [] n e = refl
 xor_zeros (x ∷ xs) zero e = absurd (omega arith)
-xor_zeros (x ∷ xs) (suc n) e = ap₂ (λ (z : ℕ) (zs : List ℕ). z ∷ zs) (xor_zero_r x) (xor_zeros xs n (omega arith))
+xor_zeros (x ∷ xs) (suc n) e = ap₂ (λ z zs. z ∷ zs) (xor_zero_r x) (xor_zeros xs n (omega arith))
 
 -- two sums of two, by the first and by the second of each
 pub xor_exchange : (a b c d : List ℕ) → (a ⊕ b) ⊕ (c ⊕ d) ≡ (a ⊕ c) ⊕ (b ⊕ d)
 xor_exchange a b c d =
     xor_assoc a b (c ⊕ d)
-    ∙ ap (λ (x : List ℕ). a ⊕ x) (sym (xor_assoc b c d) ∙ ap (λ (x : List ℕ). x ⊕ d) (xor_comm b c) ∙ xor_assoc c b d)
+    ∙ ap (λ x. a ⊕ x) (sym (xor_assoc b c d) ∙ ap (λ x. x ⊕ d) (xor_comm b c) ∙ xor_assoc c b d)
     ∙ sym (xor_assoc a c (b ⊕ d))

@@ -1,6 +1,6 @@
 use Rattle.std.proofs.Common.{refl}
 use Rattle.aead_ciphers.specs.Steps.{opened}
-use Rattle.aead_ciphers.proofs.OpenLemmas.{no_nonce_open}
+use Rattle.aead_ciphers.proofs.OpeningCases.{no_nonce_open}
 use Rattle.aead_ciphers.proofs.aead.opening_key.OpeningKey.open_within_len.Goals as goal
 
 pub returns-in_err-nonce-clause-step : goal.returns-in_err-nonce-clause-step

@@ -1,5 +1,6 @@
 -- The multiples of a block by the powers of u, and the loop of `product` over them.
-use Rattle.std.proofs.Common.{◌≡◌, ℕ, zero, suc, ◌+◌, ◌-◌, ◌/◌, ◌*◌, ◌%◌, ◌^◌, ◌<◌, ◌≤◌, Bool, true, false, List, ◌∷◌, ◌++◌, length, replicate, sym, ap, ap₂, subst, ◌∙◌, arith, ◌==◌, pow-suc, length-append, bit_xor, if◌then◌else◌, below_more}
+use Rattle.std.proofs.Common.{◌≡◌, ℕ, zero, suc, ◌+◌, ◌-◌, ◌/◌, ◌*◌, ◌%◌, ◌^◌, ◌<◌, ◌≤◌, Bool, true, false, List, ◌∷◌, ◌++◌, length, replicate, sym, ap, ap₂}
+use Rattle.std.proofs.Common.{subst, ◌∙◌, arith, ◌==◌, pow-suc, length-append, bit_xor, if◌then◌else◌, below_more}
 use Rattle.std.specs.Int.{bit_at, to_be_bytes, w128}
 use Rattle.std.proofs.lemmas.List.{length-replicate}
 use Rattle.std.proofs.lemmas.Nat.{div-add-mod', div-mul-add, mod-pow-add, mod_below, mul-mod_first, pow_pos, shr-shr}
@@ -23,14 +24,14 @@ raised k f = raise 127 (modulus block_taps 128) k f
 
 times_monomial : (top : ℕ) (m : Series) (k n : ℕ) (f : Series) → times top m (replicate k false ++ true ∷ replicate n false) f ≡ raise top m k f
 times_monomial top m zero n f =
-    ap (λ (s : Series). add f (mul_x top m s)) (horner_none top m (length (replicate n false)) (coefficient (replicate n false)) f (zeros_end n))
+    ap (λ s. add f (mul_x top m s)) (horner_none top m (length (replicate n false)) (coefficient (replicate n false)) f (zeros_end n))
     ∙ ap (add f) (mul_x-none top m) ∙ add_none f
 times_monomial top m (suc k) n f = ap (mul_x top m) (times_monomial top m k n f)
 
 length-monomial : (k : ℕ) → k < 128 → length (replicate k false ++ true ∷ replicate (127 - k) false) ≡ 128
 length-monomial k within =
     length-append (replicate k false) (true ∷ replicate (127 - k) false)
-    ∙ ap₂ (λ (m n : ℕ). m + suc n) (length-replicate k false) (length-replicate (127 - k) false)
+    ∙ ap₂ (λ m n. m + suc n) (length-replicate k false) (length-replicate (127 - k) false)
     ∙ omega arith
 
 series-monomial : (k : ℕ) (h : List ℕ) → k < 128 → length h ≡ 16 → series (monomial_block k • h) ≡ raised k (series h)
@@ -38,7 +39,7 @@ unfolding block_of
 series-monomial k h within size =
     let bits = replicate k false ++ true ∷ replicate (127 - k) false in
     series-product (monomial_block k) h (IsBlock-number (number bits)).size size
-    ∙ ap (λ (p : List Bool). times 127 (modulus block_taps 128) p (series h)) (block_bits_of-block bits (length-monomial k within))
+    ∙ ap (λ p. times 127 (modulus block_taps 128) p (series h)) (block_bits_of-block bits (length-monomial k within))
     ∙ times_monomial 127 (modulus block_taps 128) k (127 - k) (series h)
 
 series-number : (n : ℕ) → series (to_be_bytes w128 n) ≡ coefficients 128 n
@@ -56,7 +57,7 @@ pub record IsMultiple (h k v : ℕ) : Type 0 where
 pub raised_next : (h k v : ℕ) → v < 2 ^ 128 → IsRaised h k v → IsRaised h (k + 1) (next_multiple v)
 raised_next h k v below at =
     let e : suc k ≡ k + 1 = omega arith in
-    multiple_is v below ∙ ap (mul_x 127 (modulus block_taps 128)) at ∙ ap (λ (n : ℕ). raised n (coefficients 128 h)) e
+    multiple_is v below ∙ ap (mul_x 127 (modulus block_taps 128)) at ∙ ap (λ n. raised n (coefficients 128 h)) e
 
 -- one entry more
 pub multiples_more : (h k v : ℕ) (old new : ℕ → ℕ) → IsMultiple h k v → new k ≡ v → ((j : ℕ) → j < k → new j ≡ old j) →
@@ -88,29 +89,29 @@ raised_of-block h k v within e =
 bit_of-modulo : (n top : ℕ) → n % 2 ^ suc top / 2 ^ top ≡ bit_at n top
 bit_of-modulo n top =
     let e : suc top ≡ 1 + top = omega arith in
-    ap (λ (w : ℕ). n % 2 ^ w / 2 ^ top) e
-    ∙ ap (λ (m : ℕ). m / 2 ^ top) (mod-pow-add n 1 top)
+    ap (λ w. n % 2 ^ w / 2 ^ top) e
+    ∙ ap (λ m. m / 2 ^ top) (mod-pow-add n 1 top)
     ∙ div-mul-add (bit_at n top) (2 ^ top) (n % 2 ^ top) (mod_below n (2 ^ top) (pow_pos top))
 
 top_bit : (a top turn : ℕ) → turn ≤ top → a * 2 ^ turn % 2 ^ suc top / 2 ^ top ≡ bit_at a (top - turn)
 top_bit a top turn within =
     let e : a * 2 ^ turn ≡ a * 2 ^ turn + 0 = omega arith in
-    bit_of-modulo (a * 2 ^ turn) top ∙ ap (λ (n : ℕ). bit_at n top) e ∙ bit_at_cat_high a turn 0 top (pow_pos turn) within
+    bit_of-modulo (a * 2 ^ turn) top ∙ ap (λ n. bit_at n top) e ∙ bit_at_cat_high a turn 0 top (pow_pos turn) within
 
 shifted_next : (a width turn : ℕ) → a * 2 ^ turn % 2 ^ width * 2 % 2 ^ width ≡ a * 2 ^ (turn + 1) % 2 ^ width
 shifted_next a width turn =
     let e : a * 2 ^ turn * 2 ≡ a * (2 ^ turn * 2) = omega arith in
     let s : suc turn ≡ turn + 1 = omega arith in
     mul-mod_first (a * 2 ^ turn) 2 (2 ^ width)
-    ∙ ap (λ (n : ℕ). n % 2 ^ width) (e ∙ ap (λ (n : ℕ). a * n) (sym (pow-suc 2 turn) ∙ ap (λ (n : ℕ). 2 ^ n) s))
+    ∙ ap (λ n. n % 2 ^ width) (e ∙ ap (λ n. a * n) (sym (pow-suc 2 turn) ∙ ap (λ n. 2 ^ n) s))
 
 coefficient-bits : (n a k : ℕ) → k < n → coefficient (bits_high_first n a) k ≡ (bit_at a (n - 1 - k) == 1)
 unfolding bits_high_first
 coefficient-bits zero a k within = absurd (omega arith)
-coefficient-bits (suc n) a zero within = let e : n ≡ suc n - 1 - 0 = omega arith in ap (λ (i : ℕ). bit_at a i == 1) e
+coefficient-bits (suc n) a zero within = let e : n ≡ suc n - 1 - 0 = omega arith in ap (λ i. bit_at a i == 1) e
 coefficient-bits (suc n) a (suc k) within =
     let e : n - 1 - k ≡ suc n - 1 - suc k = omega arith in
-    coefficient-bits n a k (omega arith) ∙ ap (λ (i : ℕ). bit_at a i == 1) e
+    coefficient-bits n a k (omega arith) ∙ ap (λ i. bit_at a i == 1) e
 
 -- bit 31 - i of word j
 word_bit : (a j i : ℕ) → j < 4 → i < 32 → bit_at (a / 2 ^ (96 - 32 * j) % 2 ^ 32) (31 - i) ≡ bit_at a (127 - (32 * j + i))
@@ -118,8 +119,8 @@ word_bit a j i within inner =
     let n = a / 2 ^ (96 - 32 * j) in
     let e : 96 - 32 * j + (31 - i) ≡ 127 - (32 * j + i) = omega arith in
     sym (bit_at_cat_low (n / 2 ^ 32) 32 (n % 2 ^ 32) (31 - i) (omega arith))
-    ∙ ap (λ (x : ℕ). bit_at x (31 - i)) (div-add-mod' n (2 ^ 32))
-    ∙ ap (λ (x : ℕ). x % 2) (shr-shr a (96 - 32 * j) (31 - i))
+    ∙ ap (λ x. bit_at x (31 - i)) (div-add-mod' n (2 ^ 32))
+    ∙ ap (λ x. x % 2) (shr-shr a (96 - 32 * j) (31 - i))
     ∙ ap (bit_at a) e
 
 -- ---- the loop of `product`
@@ -144,7 +145,7 @@ part-stretch a h from (suc count) =
     let more = scale (coefficients 128 a (from + count)) (raised (from + count) (coefficients 128 h)) in
     ap (part a h) e
     ∙ horner_push 127 (modulus block_taps 128) (from + count) (coefficients 128 a) (coefficients 128 h)
-    ∙ ap (λ (s : Series). add s more) (part-stretch a h from count)
+    ∙ ap (λ s. add s more) (part-stretch a h from count)
     ∙ add_assoc (part a h from) (stretch (coefficients 128 a) (coefficients 128 h) from count) more
 
 coefficients-chosen : (b : Bool) (s v : ℕ) → coefficients 128 (if b then bit_xor s v else s) ≡ add (coefficients 128 s) (scale b (coefficients 128 v))
@@ -158,20 +159,20 @@ stretch_start a h from = coefficients-zero 128
 pub stretch_next : (a h j i bits sum v : ℕ) → j < 4 → i < 32 → bits ≡ a / 2 ^ (96 - 32 * j) % 2 ^ 32 * 2 ^ i % 2 ^ 32 → IsRaised h (32 * j + i) v →
     IsStretch a h (32 * j) i sum → IsStretch a h (32 * j) (i + 1) (if bits / 2 ^ 31 == 1 then bit_xor sum v else sum)
 stretch_next a h j i bits sum v within inner left is_v at =
-    let bit : bits / 2 ^ 31 ≡ bit_at a (127 - (32 * j + i)) =
-    ap (λ (n : ℕ). n / 2 ^ 31) left ∙ top_bit (a / 2 ^ (96 - 32 * j) % 2 ^ 32) 31 i (omega arith) ∙ word_bit a j i within inner in
-    let chosen : (bits / 2 ^ 31 == 1) ≡ coefficients 128 a (32 * j + i) =
-    ap (λ (x : ℕ). x == 1) bit ∙ sym (coefficient-bits 128 a (32 * j + i) (omega arith)) in
+    let bit =
+    ap (λ n. n / 2 ^ 31) left ∙ top_bit (a / 2 ^ (96 - 32 * j) % 2 ^ 32) 31 i (omega arith) ∙ word_bit a j i within inner in
+    let chosen =
+    ap (λ x. x == 1) bit ∙ sym (coefficient-bits 128 a (32 * j + i) (omega arith)) in
     let s : suc i ≡ i + 1 = omega arith in
     coefficients-chosen (bits / 2 ^ 31 == 1) sum v
-    ∙ ap₂ add at (ap₂ (λ (b : Bool) (f : Series). scale b f) chosen is_v)
+    ∙ ap₂ add at (ap₂ (λ b f. scale b f) chosen is_v)
     ∙ ap (stretch (coefficients 128 a) (coefficients 128 h) (32 * j)) s
 
 -- a word moved to the left by one more
 pub bits_next : (word i bits next : ℕ) → bits ≡ word * 2 ^ i % 2 ^ 32 → next ≡ (bits + bits) % 2 ^ 32 → next ≡ word * 2 ^ (i + 1) % 2 ^ 32
 bits_next word i bits next left is =
     let twice : bits + bits ≡ bits * 2 = omega arith in
-    is ∙ ap (λ (n : ℕ). n % 2 ^ 32) (twice ∙ ap (λ (n : ℕ). n * 2) left) ∙ shifted_next word 32 i
+    is ∙ ap (λ n. n % 2 ^ 32) (twice ∙ ap (λ n. n * 2) left) ∙ shifted_next word 32 i
 
 word_more : (a h from sum next : ℕ) → coefficients 128 sum ≡ part a h from → IsStretch a h from 32 next →
     coefficients 128 (bit_xor sum next) ≡ part a h (from + 32)

@@ -1,5 +1,7 @@
 -- Blocks as four words of 32 bits, and the lanes of vectors of them.
-use Rattle.std.proofs.Common.{◌≡◌, ℕ, zero, suc, ◌+◌, ◌-◌, ◌*◌, ◌/◌, ◌%◌, ◌^◌, ◌<◌, Bool, true, false, List, [], ◌∷◌, length, replicate, slice_index, set, length-set, get_or-set_same, get_or-set_other, ◌≢◌, fold, Fits, w32, bit_and, bit_or, bit_xor, refl, sym, ap, ap₂, ◌∙◌, arith, if◌then◌else◌, ◌==◌}
+use Rattle.std.proofs.Common.{◌≡◌, ℕ, zero, suc, ◌+◌, ◌-◌, ◌*◌, ◌/◌, ◌%◌, ◌^◌, ◌<◌, Bool, true, false, List, [], ◌∷◌, length, replicate, slice_index, set}
+use Rattle.std.proofs.Common.{length-set, get_or-set_same, get_or-set_other, ◌≢◌, fold, Fits, w32, bit_and, bit_or, bit_xor, refl, sym, ap, ap₂, ◌∙◌, arith}
+use Rattle.std.proofs.Common.{if◌then◌else◌, ◌==◌}
 use Rattle.std.specs.Simd.Lanes.{Each1, fold_l, zip2}
 use Rattle.std.specs.Int.Bits.{xor_zero_r}
 use Rattle.std.proofs.Math.Dec.{lit<}
@@ -35,15 +37,15 @@ pub lane-chosen : (sum bits words : List ℕ) (j : ℕ) → length sum ≡ 4 →
     ≡ (if slice_index bits j / 2 ^ 31 == 1 then bit_xor (slice_index sum j) (slice_index words j) else slice_index sum j)
 lane-chosen sum bits words j size_sum size_bits size_words within small below =
     let highest = zip2 (λ (x n : ℕ). x / 2 ^ n) bits (replicate 4 31) in
-    let size_highest : length highest ≡ 4 = length-zip2 (λ (x n : ℕ). x / 2 ^ n) bits (replicate 4 31) size_bits ∙ size_bits in
-    let size_masks : length (masks bits) ≡ 4 = length-zip2 (λ (a b : ℕ). (a + (2 ^ 32 - b)) % 2 ^ 32) (replicate 4 0) highest (sym size_highest) in
-    let size_chosen : length (zip2 bit_and words (masks bits)) ≡ 4 = length-zip2 bit_and words (masks bits) (size_words ∙ sym size_masks) ∙ size_words in
-    let highest_is : slice_index highest j ≡ slice_index bits j / 2 ^ 31 =
+    let size_highest = length-zip2 (λ (x n : ℕ). x / 2 ^ n) bits (replicate 4 31) size_bits ∙ size_bits in
+    let size_masks = length-zip2 (λ (a b : ℕ). (a + (2 ^ 32 - b)) % 2 ^ 32) (replicate 4 0) highest (sym size_highest) in
+    let size_chosen = length-zip2 bit_and words (masks bits) (size_words ∙ sym size_masks) ∙ size_words in
+    let highest_is =
     get_or-zip2 (λ (x n : ℕ). x / 2 ^ n) bits (replicate 4 31) j 0 0 0 (omega arith) (omega arith)
-    ∙ ap (λ (n : ℕ). slice_index bits j / 2 ^ n) (get_or-replicate 4 j 31 0 within) in
-    let mask_is : slice_index (masks bits) j ≡ mask 32 (slice_index bits j / 2 ^ 31) =
+    ∙ ap (λ n. slice_index bits j / 2 ^ n) (get_or-replicate 4 j 31 0 within) in
+    let mask_is =
     get_or-zip2 (λ (a b : ℕ). (a + (2 ^ 32 - b)) % 2 ^ 32) (replicate 4 0) highest j 0 0 0 (omega arith) (omega arith)
-    ∙ ap₂ (λ (a b : ℕ). (a + (2 ^ 32 - b)) % 2 ^ 32) (get_or-replicate 4 j 0 0 within) highest_is in
+    ∙ ap₂ (λ a b. (a + (2 ^ 32 - b)) % 2 ^ 32) (get_or-replicate 4 j 0 0 within) highest_is in
     get_or-zip2 bit_xor sum (zip2 bit_and words (masks bits)) j 0 0 0 (omega arith) (omega arith)
     ∙ ap (bit_xor (slice_index sum j))
     (get_or-zip2 bit_and words (masks bits) j 0 0 0 (omega arith) (omega arith) ∙ ap (bit_and (slice_index words j)) mask_is)
@@ -62,11 +64,11 @@ joined_is a b c d small_a small_b small_c small_d =
     let third : c * 2 ^ 32 % 2 ^ 128 ≡ c * 2 ^ 32 = omega arith in
     let two : a * 2 ^ 96 + b * 2 ^ 64 ≡ (a * 2 ^ 32 + b) * 2 ^ 64 = omega arith in
     let three : (a * 2 ^ 32 + b) * 2 ^ 64 + c * 2 ^ 32 ≡ ((a * 2 ^ 32 + b) * 2 ^ 32 + c) * 2 ^ 32 = omega arith in
-    ap (λ (n : ℕ). bit_or n d)
+    ap (λ n. bit_or n d)
     (ap₂ bit_or (ap₂ bit_or first second ∙ or_shifted a 96 (b * 2 ^ 64) (omega arith) ∙ two) third
     ∙ or_shifted (a * 2 ^ 32 + b) 64 (c * 2 ^ 32) (omega arith) ∙ three)
     ∙ or_shifted ((a * 2 ^ 32 + b) * 2 ^ 32 + c) 32 d small_d
-    ∙ ap (λ (n : ℕ). ((n * 2 ^ 32 + b) * 2 ^ 32 + c) * 2 ^ 32 + d) (let e : a ≡ 0 + a = omega arith in e)
+    ∙ ap (λ n. ((n * 2 ^ 32 + b) * 2 ^ 32 + c) * 2 ^ 32 + d) (let e : a ≡ 0 + a = omega arith in e)
 
 -- a number by its four words
 pub number-words : (n : ℕ) (xs : List ℕ) → n < 2 ^ 128 → ((j : ℕ) → j < 4 → slice_index xs j ≡ n / 2 ^ (96 - 32 * j) % 2 ^ 32) →
@@ -85,7 +87,7 @@ number-xor-from n m [] [] e small_x small_y = refl
 number-xor-from n m [] (y ∷ ys) e small_x small_y = absurd (omega arith)
 number-xor-from n m (x ∷ xs) [] e small_x small_y = absurd (omega arith)
 number-xor-from n m (x ∷ xs) (y ∷ ys) e small_x small_y =
-    ap (λ (k : ℕ). fold join k (zip2 bit_xor xs ys)) (sym (xor_block 32 n m x y small_x.0 small_y.0))
+    ap (λ k. fold join k (zip2 bit_xor xs ys)) (sym (xor_block 32 n m x y small_x.0 small_y.0))
     ∙ number-xor-from (join n x) (join m y) xs ys (omega arith) small_x.1 small_y.1
 
 pub number-xor : (xs ys : List ℕ) → length xs ≡ length ys → AllSmall xs → AllSmall ys →
@@ -150,16 +152,16 @@ number-lanes a b c d is_a is_b is_c is_d =
     let one = zip2 bit_xor zeros (lane a b c d 0) in
     let two = zip2 bit_xor one (lane a b c d 1) in
     let three = zip2 bit_xor two (lane a b c d 2) in
-    let small_1 : AllSmall one = small-xor zeros (lane a b c d 0) (lit< tt, (lit< tt, (lit< tt, (lit< tt, tt)))) (small 0 (omega arith)) in
-    let small_2 : AllSmall two = small-xor one (lane a b c d 1) small_1 (small 1 (omega arith)) in
-    let small_3 : AllSmall three = small-xor two (lane a b c d 2) small_2 (small 2 (omega arith)) in
+    let small_1 = small-xor zeros (lane a b c d 0) (lit< tt, (lit< tt, (lit< tt, (lit< tt, tt)))) (small 0 (omega arith)) in
+    let small_2 = small-xor one (lane a b c d 1) small_1 (small 1 (omega arith)) in
+    let small_3 = small-xor two (lane a b c d 2) small_2 (small 2 (omega arith)) in
     rw (fold-lanes a is_a.0, fold-lanes b is_b.0, fold-lanes c is_c.0, fold-lanes d is_d.0)
     (number-xor three (lane a b c d 3) refl small_3 (small 3 (omega arith))
-    ∙ ap (λ (n : ℕ). bit_xor n (number_of_words (lane a b c d 3)))
+    ∙ ap (λ n. bit_xor n (number_of_words (lane a b c d 3)))
     (number-xor two (lane a b c d 2) refl small_2 (small 2 (omega arith))
-    ∙ ap (λ (n : ℕ). bit_xor n (number_of_words (lane a b c d 2)))
+    ∙ ap (λ n. bit_xor n (number_of_words (lane a b c d 2)))
     (number-xor one (lane a b c d 1) refl small_1 (small 1 (omega arith))
-    ∙ ap (λ (n : ℕ). bit_xor n (number_of_words (lane a b c d 1)))
+    ∙ ap (λ n. bit_xor n (number_of_words (lane a b c d 1)))
     (number-xor zeros (lane a b c d 0) refl (lit< tt, (lit< tt, (lit< tt, (lit< tt, tt)))) (small 0 (omega arith))))))
 
 -- entry 32 * j + i of a table

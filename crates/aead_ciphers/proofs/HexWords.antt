@@ -30,7 +30,7 @@ IsBytesWord-decoded word bytes some h =
 pub bytes_of_word-undecoded : (word : List ℕ) (e : FromHexError) → word ≢ codes "-" → decode_of word ≡ Err e → bytes_of_word word ≡ None
 bytes_of_word-undecoded [] e other h = refl
 bytes_of_word-undecoded (c ∷ []) e other h =
-    let hyphen : c ≢ 45 = λ same. other (ap (λ (x : ℕ). x ∷ []) same) in
+    let hyphen : c ≢ 45 = λ same. other (ap (λ x. x ∷ []) same) in
     grind (arith, nat_tests)
 bytes_of_word-undecoded (c ∷ d ∷ rest) e other h = ap result_ok h
 

@@ -19,7 +19,7 @@ IsBlock-padded xs i h =
     let byte : ℕ → ℕ = λ j. get_or xs (16 * i + j) 0 in
     record {
       size = length-each 16 byte;
-      bytes = λ k d below. subst (λ (x : ℕ). x < 256) (sym (get_or-each 16 byte k d below)) (h (16 * i + k));
+      bytes = λ k d below. subst (λ x. x < 256) (sym (get_or-each 16 byte k d below)) (h (16 * i + k));
     }
 
 pub length-padded_blocks : (xs : List ℕ) → length (padded_blocks xs) ≡ (length xs + 15) / 16
@@ -54,4 +54,4 @@ count_hashed a c =
     let xs = padded_blocks a in
     let ys = padded_blocks c in
     length-append (xs ++ ys) (length_block (length a) (length c) ∷ [])
-    ∙ ap (λ (n : ℕ). n + 1) (length-append xs ys ∙ ap₂ ◌+◌ (length-padded_blocks a) (length-padded_blocks c))
+    ∙ ap (λ n. n + 1) (length-append xs ys ∙ ap₂ ◌+◌ (length-padded_blocks a) (length-padded_blocks c))
