@@ -2,10 +2,9 @@
 use Rattle.std.proofs.Common.{◌≡◌, ℕ, ◌+◌, ◌-◌, ◌*◌, ◌/◌, ◌%◌, ◌^◌, ◌<◌, max, List, [], ◌∷◌, ◌++◌, length, take, drop, get_or}
 use Rattle.std.proofs.Common.{replicate, refl, sym, ap, ap₂, ◌∙◌, arith, length-append, append_assoc}
 use Rattle.std.specs.Int.{from_be_bytes, to_be_bytes, w64}
-use Rattle.std.proofs.lemmas.List.{drop_at, take_at}
+use Rattle.std.proofs.lemmas.List.{drop_at, ext_get_or, take_at}
 use Rattle.std.proofs.lemmas.Nat.{from_be_bytes-to_be_bytes_8}
 use Rattle.aead_ciphers_base.specs.Bytes.{zero_block}
-use Rattle.aead_ciphers_base.proofs.BytesLemmas.{same_by_index}
 use Rattle.aead_ciphers_base.proofs.EachLemmas.{get_or-each}
 use Rattle.aead_ciphers.specs.Different.{DifferWhenPadded, zeros_before}
 use Rattle.aead_ciphers.specs.Gcm.{Fits, hashed, length_block, padded_block, padded_blocks, sealing_products}
@@ -34,7 +33,7 @@ byte_back xs k below =
 
 same_bytes : (xs ys : List ℕ) → length xs ≡ length ys → padded_blocks xs ≡ padded_blocks ys → xs ≡ ys
 same_bytes xs ys e h =
-    same_by_index xs ys e (λ k below.
+    ext_get_or 0 xs ys e (λ k below.
     sym (byte_back xs k below)
     ∙ ap (λ bs. get_or (get_or bs (k / 16) []) (k % 16) 0) h
     ∙ byte_back ys k (omega arith))

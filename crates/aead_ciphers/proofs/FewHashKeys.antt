@@ -8,7 +8,8 @@ use Rattle.aead_ciphers_base.specs.Bytes.{◌⊕◌, zero_block}
 use Rattle.aead_ciphers.specs.Different.{DifferWhenPadded, HasInverse, zeros_before}
 use Rattle.aead_ciphers.specs.Ghash.{IsBlock, ghash, power, xor_blocks}
 use Rattle.aead_ciphers.proofs.BlockCancellation.{IsBlock-zero, product_zero, same_of_xor, xor_self}
-use Rattle.aead_ciphers.proofs.BlockLists.{AllSized-blocks, Blocks, Blocks-from, Each-reverse}
+use Rattle.aead_ciphers.proofs.BlockLists.{AllSized-blocks, Blocks, Each-reverse}
+use Rattle.std.proofs.lemmas.List.Elements.{recursion_from_All}
 use Rattle.aead_ciphers.proofs.GhashLaws.{IsBlock-xor, Sized, Sized-ghash, Sized-power, ghash_xor, length-xor_blocks, product_comm, xor_zero}
 use Rattle.aead_ciphers.proofs.GhashPolynomial.{ghash_value, value_at}
 use Rattle.aead_ciphers.proofs.RootsOfBlocks.{EachAt, Zeros, all_zero}
@@ -84,4 +85,4 @@ pub few_hash_keys : (left right : List (List ℕ)) (sum : List ℕ) (keys : List
     All IsBlock left → All IsBlock right → IsBlock sum → EachAt Sized keys →
     DifferWhenPadded left right → AllPairs (λ h k. HasInverse (h ⊕ k)) keys → All (λ h. ghash h left ⊕ ghash h right ≡ sum) keys →
     length keys ≤ max (length left) (length right)
-few_hash_keys left right sum keys is_left is_right = few_keys left right sum keys (Blocks-from left is_left) (Blocks-from right is_right)
+few_hash_keys left right sum keys is_left is_right = few_keys left right sum keys (recursion_from_All IsBlock left is_left) (recursion_from_All IsBlock right is_right)

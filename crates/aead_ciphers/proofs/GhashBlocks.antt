@@ -14,19 +14,14 @@ use Rattle.aead_ciphers_base.proofs.PolynomialBits.{Series}
 use Rattle.aead_ciphers_base.proofs.PolynomialAction.{times}
 use Rattle.aead_ciphers_base.proofs.PolynomialLaws.{field_product_is, length-field_product, modulus, same_coefficients}
 use Rattle.aead_ciphers.proofs.GhashBits.{length-bits}
-use Rattle.aead_ciphers.proofs.GhashBytes.{digit_up, block_bits_of_number, number_after, power_256, byte_at_is}
+use Rattle.std.proofs.lemmas.List.Elements.{All-cons, All-head, All-tail}
+use Rattle.aead_ciphers.proofs.GhashBytes.{digits, digit_up, block_bits_of_number, number_after, power_256, byte_at_is}
 use Rattle.aead_ciphers.proofs.ProductLoop.{block_low}
 
 -- ---- bytes back from bits
 
 abbrev Byte : ℕ → Type 0
 Byte x = x < 256
-
-All-first : (x : ℕ) (xs : List ℕ) → All Byte (x ∷ xs) → x < 256
-All-first x xs h = h 0 x (omega arith)
-
-All-rest : (x : ℕ) (xs : List ℕ) → All Byte (x ∷ xs) → All Byte xs
-All-rest x xs h = λ k d below. h (suc k) d (omega arith)
 
 digit_below : (c x p q r : ℕ) → q ≡ p * c → x < c → r < p → x * p + r < q
 digit_below c x p q r e small below = let h = mul-add-lt x p r c small below in omega (arith, h)
@@ -36,19 +31,19 @@ abbrev value : ℕ → List ℕ → ℕ
 value a [] = a
 value a (x ∷ xs) = value (a * 256 + x) xs
 
-number-bytes : (xs : List ℕ) (a : ℕ) → All Byte xs → fold (λ (m : ℕ) (b : Bool). 2 * m + (if b then 1 else 0)) a (flat_map (bits_high_first 8) xs) ≡ value a xs
+number-bytes : (xs : List ℕ) (a : ℕ) → All Byte xs → digits a (flat_map (bits_high_first 8) xs) ≡ value a xs
 number-bytes [] a h = refl
 number-bytes (x ∷ xs) a h =
     fold-append (λ (m : ℕ) (b : Bool). 2 * m + (if b then 1 else 0)) a (bits_high_first 8 x) (flat_map (bits_high_first 8) xs)
-    ∙ ap (λ n. fold (λ (m : ℕ) (b : Bool). 2 * m + (if b then 1 else 0)) n (flat_map (bits_high_first 8) xs))
-    (number_after 8 x a ∙ ap (λ y. a * 256 + y) (mod-eq_of_lt (All-first x xs h)))
-    ∙ number-bytes xs (a * 256 + x) (All-rest x xs h)
+    ∙ ap (λ n. digits n (flat_map (bits_high_first 8) xs))
+    (number_after 8 x a ∙ ap (λ y. a * 256 + y) (mod-eq_of_lt (All-head Byte x xs h)))
+    ∙ number-bytes xs (a * 256 + x) (All-tail Byte x xs h)
 
 value-split : (xs : List ℕ) (a : ℕ) → All Byte xs → (r : ℕ) × (value a xs ≡ a * 256 ^ length xs + r) × (r < 256 ^ length xs)
 value-split [] a h = (0, omega arith, lit< tt)
 value-split (x ∷ xs) a h =
-    let w = value-split xs (a * 256 + x) (All-rest x xs h) in
-    let small = All-first x xs h in (
+    let w = value-split xs (a * 256 + x) (All-tail Byte x xs h) in
+    let small = All-head Byte x xs h in (
       x * 256 ^ length xs + w.0,
       w.1 ∙ digit_up a 256 x (256 ^ length xs) (256 ^ suc (length xs)) w.0 (pow-suc 256 (length xs)),
       digit_below 256 x (256 ^ length xs) (256 ^ suc (length xs)) w.0 (pow-suc 256 (length xs)) small w.2,
@@ -62,10 +57,10 @@ byte_of-value a x k n r small e below =
 bytes_of-value : (xs : List ℕ) (a : ℕ) → All Byte xs → bytes_high_first (length xs) (value a xs) ≡ xs
 bytes_of-value [] a h = refl
 bytes_of-value (x ∷ xs) a h =
-    let w = value-split xs (a * 256 + x) (All-rest x xs h) in
+    let w = value-split xs (a * 256 + x) (All-tail Byte x xs h) in
     ap₂ (λ y ys. y ∷ ys)
-    (byte_of-value a x (length xs) (value (a * 256 + x) xs) w.0 (All-first x xs h) w.1 w.2)
-    (bytes_of-value xs (a * 256 + x) (All-rest x xs h))
+    (byte_of-value a x (length xs) (value (a * 256 + x) xs) w.0 (All-head Byte x xs h) w.1 w.2)
+    (bytes_of-value xs (a * 256 + x) (All-tail Byte x xs h))
 
 pub block_of-bits : (b : List ℕ) → IsBlock b → block_of (block_bits b) ≡ b
 unfolding block_of block_bits
@@ -93,7 +88,7 @@ parity : (a : ℕ) (b : Bool) → ((2 * a + (if b then 1 else 0)) % 2 == 1) ≡ 
 parity a false = ap (λ m. m == 1) (let h : (2 * a + 0) % 2 ≡ 0 = omega arith in h)
 parity a true = ap (λ m. m == 1) (let h : (2 * a + 1) % 2 ≡ 1 = omega arith in h)
 
-number-split : (p : List Bool) (a : ℕ) → (r : ℕ) × (fold (λ (m : ℕ) (b : Bool). 2 * m + (if b then 1 else 0)) a p ≡ a * 2 ^ length p + r) × (r < 2 ^ length p)
+number-split : (p : List Bool) (a : ℕ) → (r : ℕ) × (digits a p ≡ a * 2 ^ length p + r) × (r < 2 ^ length p)
 number-split [] a = (0, omega arith, lit< tt)
 number-split (b ∷ p) a =
     let v = if b then 1 else 0 in
@@ -109,7 +104,7 @@ bit_of-number a b k n r e below =
     ∙ ap (λ m. m % 2 == 1) (div-mul-add (2 * a + (if b then 1 else 0)) (2 ^ k) r below)
     ∙ parity a b
 
-bits_of-number : (p : List Bool) (a : ℕ) → bits_high_first (length p) (fold (λ (m : ℕ) (b : Bool). 2 * m + (if b then 1 else 0)) a p) ≡ p
+bits_of-number : (p : List Bool) (a : ℕ) → bits_high_first (length p) (digits a p) ≡ p
 unfolding bits_high_first
 bits_of-number [] a = refl
 bits_of-number (b ∷ p) a =
@@ -123,14 +118,10 @@ unfolding block_of
 block_bits_of-block p e =
     block_bits_of_number (number p) ∙ ap (λ k. bits_high_first k (number p)) (sym e) ∙ bits_of-number p 0
 
-All-byte : (x : ℕ) (xs : List ℕ) → x < 256 → All Byte xs → All Byte (x ∷ xs)
-All-byte x xs h hs zero d below = h
-All-byte x xs h hs (suc k) d below = hs k d (omega arith)
-
 pub bytes-below : (k n : ℕ) → All Byte (bytes_high_first k n)
 bytes-below zero n = λ k d below. absurd (omega arith)
 bytes-below (suc k) n =
-    All-byte (byte_at k n) (bytes_high_first k n) (rw (byte_at_is k n) (mod_below (n / 2 ^ (8 * k)) 256 (lit< tt))) (bytes-below k n)
+    All-cons Byte (byte_at k n) (bytes_high_first k n) (rw (byte_at_is k n) (mod_below (n / 2 ^ (8 * k)) 256 (lit< tt))) (bytes-below k n)
 
 length-bytes : (k n : ℕ) → length (bytes_high_first k n) ≡ k
 length-bytes zero n = refl

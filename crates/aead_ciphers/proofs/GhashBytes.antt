@@ -1,5 +1,5 @@
 -- The bits of a number's big-endian bytes are the number's bits.
-use Rattle.std.proofs.Common.{◌≡◌, ℕ, zero, suc, ◌+◌, ◌*◌, ◌/◌, ◌%◌, ◌^◌, ◌<◌, ◌≤◌, Bool, ◌∷◌, ◌++◌, fold, flat_map, refl, sym, ap, ap₂, ◌∙◌, arith}
+use Rattle.std.proofs.Common.{◌≡◌, ℕ, List, zero, suc, ◌+◌, ◌*◌, ◌/◌, ◌%◌, ◌^◌, ◌<◌, ◌≤◌, Bool, ◌∷◌, ◌++◌, fold, flat_map, refl, sym, ap, ap₂, ◌∙◌, arith}
 use Rattle.std.proofs.Common.{if◌then◌else◌, ◌==◌, zero-add, mod-eq_of_lt, pow-suc, div-one, bit_xor, mul_comm}
 use Rattle.std.specs.Int.{bit_at, bytes_high_first, byte_at, to_be_bytes, w128}
 use Rattle.std.proofs.lemmas.Nat.{mod-pow-add, shr-shr, div-add-mod', pow-add, xor_shr, xor_mod}
@@ -51,7 +51,11 @@ bit_value (suc (suc x)) h = absurd (omega arith)
 pub digit_up : (a c x p q r : ℕ) → q ≡ p * c → (a * c + x) * p + r ≡ a * q + (x * p + r)
 digit_up a c x p q r e = (let h : (a * c + x) * p + r ≡ a * (p * c) + (x * p + r) = omega arith in h) ∙ ap (λ y. a * y + (x * p + r)) (sym e)
 
-pub number_after : (k n a : ℕ) → fold (λ (m : ℕ) (b : Bool). 2 * m + (if b then 1 else 0)) a (bits_high_first k n) ≡ a * 2 ^ k + n % 2 ^ k
+-- the number of bits, the highest first, after the number a
+abbrev pub digits : ℕ → List Bool → ℕ
+digits a bits = fold (λ n b. 2 * n + (if b then 1 else 0)) a bits
+
+pub number_after : (k n a : ℕ) → digits a (bits_high_first k n) ≡ a * 2 ^ k + n % 2 ^ k
 unfolding bits_high_first
 number_after zero n a = omega arith
 number_after (suc k) n a =

@@ -1,12 +1,12 @@
 -- What a tag hashes is a list of blocks.
 use Rattle.std.proofs.Common.{◌≡◌, ℕ, ◌+◌, ◌*◌, ◌/◌, ◌<◌, List, [], ◌∷◌, ◌++◌, length, get_or, refl, sym, ap, ap₂, subst, ◌∙◌, arith, length-append}
 use Rattle.std.specs.Int.{to_be_bytes, w64}
-use Rattle.std.proofs.lemmas.List.Elements.{All-append}
+use Rattle.std.proofs.lemmas.List.Elements.{All-append, All-from_get_or, recursion_from_All}
 use Rattle.aead_ciphers_base.specs.Bytes.{each_below}
 use Rattle.aead_ciphers_base.proofs.EachLemmas.{get_or-each, length-each}
 use Rattle.aead_ciphers.specs.Gcm.{hashed, length_block, padded_block, padded_blocks, sealing_products}
 use Rattle.aead_ciphers.specs.Ghash.{IsBlock}
-use Rattle.aead_ciphers.proofs.BlockLists.{Blocks, Each-append, Each-from}
+use Rattle.aead_ciphers.proofs.BlockLists.{Blocks, Each-append}
 use Rattle.aead_ciphers.proofs.GhashBlocks.{bytes-below}
 
 -- numbers that are bytes
@@ -30,8 +30,9 @@ Blocks-padded : (xs : List ℕ) → Bytes xs → Blocks (padded_blocks xs)
 unfolding padded_blocks
 Blocks-padded xs h =
     let n = (length xs + 15) / 16 in
-    Each-from IsBlock [] (each_below n (padded_block xs))
-    (λ i below. subst IsBlock (sym (get_or-each n (padded_block xs) i [] (omega (arith, length-padded_blocks xs)))) (IsBlock-padded xs i h))
+    let blocks = each_below n (padded_block xs) in
+    recursion_from_All IsBlock blocks (All-from_get_or IsBlock blocks [] (λ i below.
+    subst IsBlock (sym (get_or-each n (padded_block xs) i [] (omega (arith, length-padded_blocks xs)))) (IsBlock-padded xs i h)))
 
 IsBlock-lengths : (a n : ℕ) → IsBlock (length_block a n)
 unfolding length_block
