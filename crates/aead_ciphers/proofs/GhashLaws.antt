@@ -11,7 +11,8 @@ use Rattle.aead_ciphers_base.proofs.PolynomialAction.{horner-add, times_swap}
 use Rattle.aead_ciphers_base.proofs.PolynomialLaws.{modulus, one, times_one}
 use Rattle.aead_ciphers.proofs.GhashBits.{xor-parity, length-bits}
 use Rattle.aead_ciphers.proofs.GhashBlocks.{series, block_times, same_from_series, series-product, IsBlock-product, length-block_bits}
-use Rattle.aead_ciphers.proofs.XorLaws.{length-xor, bytes-xor, xor_comm, xor_assoc, xor_zeros, xor_exchange}
+use Rattle.aead_ciphers_base.proofs.XorLemmas.{length-xor}
+use Rattle.aead_ciphers.proofs.XorLaws.{bytes-xor, xor_comm, xor_assoc, xor_zeros, xor_exchange}
 use Rattle.aead_ciphers.proofs.ProductLoop.{block_low, zeros_end}
 
 -- ---- XOR of blocks is XOR of coefficients
@@ -61,7 +62,7 @@ abbrev pub Sized : List ℕ → Type 0
 Sized a = length a ≡ 16
 
 pub Sized-xor : (a b : List ℕ) → Sized a → Sized b → Sized (a ⊕ b)
-Sized-xor a b size_a size_b = length-xor a b (size_a ∙ sym size_b) ∙ size_a
+Sized-xor a b size_a size_b = length-xor a b (omega arith) ∙ size_a
 
 pub IsBlock-xor : (a b : List ℕ) → IsBlock a → IsBlock b → IsBlock (a ⊕ b)
 IsBlock-xor a b is_a is_b = record {

@@ -1,26 +1,22 @@
 -- Steps of the machine over locals. Assumes `Logic`.
 --     gets          operands that are locals read whole
 --     reborrows     `&mut *s` of a slice s: its pointer, and then the pointer with the length
---     hears         a fact is learned from the head (the last one by `heard`)
 use mathlib.Core.Path.{◌≡◌, sym, ap, subst, ◌∙◌, refl}
 use mathlib.Core.List.{List, [], ◌∷◌}
 use Prim.Native.Nat.{ℕ, zero}
 use seplogic.Ra.Ura.{Ura}
 use base.Fraction.{full_share}
 use base.Fml.{fat, froom}
-use base.Logic.{SProp, id⊢, sep}
 use lib.Dec.{T}
-use contract.Monad.{fact}
 use mir.Syntax.{Lifetime, Ty, ty_int, w64, ty_ref, mut, Body, Opd, copy, place, field, deref, seq, assign, addr_of, aggregate}
 use mir.Val.{Val, vptr, vint, WT, has_ty}
 use prog.Wp.{Env, Calls, Loops, spot_of}
 use types.Logic.{Logic}
-use types.Kit.{Item, ‵, ◌⊛◌, raw, nth, del, Post, Goal, runs, Seq, Step, step, ◌$◌, split, use1}
+use types.Kit.{Item, ‵, nth, del, Post, runs, Step, step, ◌$◌}
 use types.Run.{Opd as OneOpd, Finds, Walks, Opds, stop, hop, fld, from, load, init, and_then, no_more, addr, assigns}
 use types.Part.{Part, whole, sub, agg, look_in}
 use types.ByLocal.{cell, at, set, get}
 use denote.Slice.{slice_ty, slice_val}
-use denote.Steps.{heard}
 
 abbrev local_of : Opd → ℕ
 local_of (copy (place i st)) = i
@@ -108,8 +104,3 @@ module _ {M : Type 1} {𝓤 : Ura M} {𝓛 : Logic 𝓤} {K : Type 0} {Γ : List
         assigns t (agg t (and_then t (get t (ap (nth 𝓛 3) met))
         (and_then t (length_of 𝓛 K (set 𝓛 j (holds 𝓛 E j (vptr p.0 p.1)) Γ) E i p n ℓ ξ t is (ap (nth 𝓛 2) met)) (no_more t)))) (from t (stop t))
         (init t (cell k (set 𝓛 j (holds 𝓛 E j (vptr p.0 p.1)) Γ)) (ap (nth 𝓛 4) met) of-slice) $ s)
-
-  -- a fact is learned from the head
-  module _ {G : Goal 𝓤 H} {φ : Type 0} {P : SProp 𝓤} where
-    pub hears : K → (φ → Seq K 𝓛 (raw P ∷ Γ) G) → Seq K 𝓛 (raw (sep 𝓤 (fact 𝓤 φ) P) ∷ Γ) G
-    hears t k = use1 𝓛 (raw (fact 𝓤 φ) ⊛ raw P) (id⊢ 𝓤 _) $ split t $ heard t φ k

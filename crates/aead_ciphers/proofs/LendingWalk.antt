@@ -5,6 +5,7 @@
 --     answers               what a callee gave: the tokens, its answer, what it left of each parameter, and what it says
 --     relends, regains      the buffer is lent to the core for a new lifetime, and is back as `lend_plaintext` wants it
 --     lends                 `lend_plaintext` gave the front of the buffer
+--     says_next             what an opening key's call says beside what it lends
 --     ends                  the walk's end
 use mathlib.Core.Path.{◌≡◌, subst}
 pub use mathlib.Core.Path.{refl}
@@ -17,7 +18,7 @@ use mir.Syntax.{named, Body, Fn, Callee, Opd, Place, seq, call}
 pub use mir.Syntax.{a_type, dcons, dnil}
 use mir.Val.{Val}
 pub use base.Fraction.{full_share}
-use base.Logic.{SProp, ent, sep, emp, id⊢, mono_l, mono_r, via, emp∗, comm∗}
+use base.Logic.{SProp, ent, sep, emp, id⊢, mono_l, mono_r, via}
 use base.Fml.{Lft, GName, Share, flft}
 use types.Logic.{Logic, sem}
 use types.Tokens.{lft_new, lft_end}
@@ -55,18 +56,22 @@ use lib.ListN.{take}
 pub use lib.ListN.{length}
 use borrow.Rule.Slice.Lend.{sl_relend, sl_relent_backˡ, kept_f}
 use Rattle.std.proofs.raw_atomic.Walks.{proved_at, leaves}
-use Rattle.std.specs.Prelude.{IsOk, IfOk, ◌↔◌}
+use Rattle.std.specs.Prelude.{Bool, Result, is_ok, IsOk, IfOk, OnOk, OnErr, ◌↔◌}
 pub use mir.MapTy.{inst_fn}
 pub use denote.Param.{param, bounded}
 use sound.WpLaws.{FmC}
 use denote.Triple.End.{Kepts, Fins, lasts_of}
-use Rattle.aead_ciphers.specs.Lending.{LendsFront, count_of}
+use Rattle.aead_ciphers.specs.Lending.{LendsFront, count_of, lent_buffer}
 use Rattle.aead_ciphers.proofs.Lending.{words_same, Answer, answer_Lawful, Out, out_Lawful, Own, as_own, as_slice, turned}
 pub use Rattle.aead_ciphers.proofs.Lending.{Words, words_vals, words_typed, slice_typed, nonce_word, aad_word, tag_word, range_word}
-pub use Rattle.aead_ciphers.proofs.LendingLocals.{gets, reborrows, hears}
+pub use Rattle.aead_ciphers.proofs.LendingFacts.{hears, tells, says, last}
+pub use Rattle.aead_ciphers.proofs.LendingLocals.{gets, reborrows}
+use Rattle.aead_ciphers.proofs.NextNonce.{lent_next, on_ok, on_err}
+use Rattle.aead_ciphers.specs.BoundState.{BoundState}
+use Rattle.aead_ciphers.specs.NonceSequence.{UnderNext}
 use Rattle.aead_ciphers.proofs.LentPlaintext.{Fronts, Concluded, concluded, within}
 pub use Rattle.aead_ciphers.proofs.LentPlaintext.{as_lent, attached_fronts, opened_fronts, step_fronts}
-pub use Rattle.aead_ciphers.specs.Steps.{OpenStep}
+use Rattle.aead_ciphers.specs.Steps.{OpenStep}
 pub use Rattle.aead_ciphers_base.specs.Values.{aad_bytes}
 pub use Rattle.aead_ciphers.specs.AesGcm.{AesOpened, AesOpenedAttached}
 pub use Rattle.std.proofs.Common.{arith}
@@ -302,18 +307,25 @@ module _ {M : Type 1} {𝓤 : Ura M} (𝓛 : Logic 𝓤) where
         spelled e y vss (words_same Ts y.0.4 w.0) (qed 𝓛 (raw (on_entry 𝓛 T.signature y.0.0 y.0.1 y.0.3 vss) ∷ raw ((c y.0.0 y.0.3).requires y.1) ∷ []) ∵
         spreads ! T.signature y.0.0 y.0.1 y.0.3 vss $ enter ! _ _ _ _ _ $ w.1))
 
-  -- facts beside the head
-  pub last : {φ : Type 0} → φ → ent 𝓤 (emp 𝓤) (fact 𝓤 φ)
-  last {φ} x = fact_i 𝓤 φ (emp 𝓤) x
-
-  pub says : {φ : Type 0} {Q : SProp 𝓤} → φ → ent 𝓤 (emp 𝓤) Q → ent 𝓤 (emp 𝓤) (sep 𝓤 (fact 𝓤 φ) Q)
-  says {φ} {Q} x h = via 𝓤 (sep 𝓤 (emp 𝓤) Q) (via 𝓤 Q h (emp∗ 𝓤 Q)) (mono_l 𝓤 Q (last x))
-
-  pub tells : {K : Type 0} {Γ : List (Item 𝓤)} {G : Goal 𝓤 𝓛.H} {i : Item 𝓤} {Q : SProp 𝓤} → K → ent 𝓤 (emp 𝓤) Q
-      → Step K 𝓛 (raw (sep 𝓤 (mean 𝓛 i) Q) ∷ Γ) G (i ∷ Γ) G
-  tells {i = i} {Q} t h =
-      let P = mean 𝓛 i in
-      use1 𝓛 (raw (sep 𝓤 P Q)) (via 𝓤 (sep 𝓤 (emp 𝓤) P) (emp∗ 𝓤 P) (via 𝓤 (sep 𝓤 Q P) (mono_l 𝓤 P h) (comm∗ 𝓤 Q P)))
+  -- what an opening key's call says beside what it lends, from what its core said
+  pub says_next : (A B : Type 0) (plain : List ℕ → List ℕ) {φ R N E : Type 0} {spent : N → List (List ℕ)} {is_closed : N → Bool} {was after : BoundState N} {aad : List ℕ} {start m : ℕ}
+      {old new front : List ℕ} {u : Result ℕ E} {r : Result (MutBor (List ℕ)) E} {next : List ℕ → Type 0}
+      → Concluded front old new m u r → φ → OpenStep spent is_closed was after aad start old new (is_ok u)
+      → (¬ R → UnderNext next (λ nonce. AesOpenedAttached was.key.bytes nonce aad start old (is_ok u) new))
+      → OnOk u (UnderNext next (λ nonce. front ≡ plain nonce)) → OnOk u A → OnErr u B
+      → (let buffer = lent_buffer r old in ent 𝓤 (emp 𝓤) (sep 𝓤 (fact 𝓤 φ)
+      (sep 𝓤 (fact 𝓤 (OpenStep spent is_closed was after aad start old buffer (is_ok r)))
+      (sep 𝓤 (fact 𝓤 (IfOk r (λ lent. length lent.now ≡ m)))
+      (sep 𝓤 (fact 𝓤 (¬ R → UnderNext next (λ nonce. AesOpenedAttached was.key.bytes nonce aad start old (is_ok r) buffer)))
+      (sep 𝓤 (fact 𝓤 (IfOk r (λ lent. UnderNext next (λ nonce. lent.now ≡ plain nonce))))
+      (sep 𝓤 (fact 𝓤 (OnOk r A)) (fact 𝓤 (OnErr r B)))))))))
+  says_next A B plain {R = R} {spent = spent} {is_closed} {was} {after} {aad} {start} {old = old} {u = u} {r} {next} end stays step opened plaintext gives stands =
+      says 𝓛 stays
+      (says 𝓛 (as_lent (λ accepts buffer. OpenStep spent is_closed was after aad start old buffer accepts) end step)
+      (says 𝓛 end.count
+      (says 𝓛 (as_lent (λ accepts buffer. ¬ R → UnderNext next (λ nonce. AesOpenedAttached was.key.bytes nonce aad start old accepts buffer)) end opened)
+      (says 𝓛 (lent_next next plain _ u r end.accepts end.value plaintext)
+      (says 𝓛 (on_ok _ u r end.accepts gives) (last 𝓛 (on_err _ u r end.accepts stands)))))))
 
   -- ---- the buffer
   module _ (κ : Lft) (q : Share) (arg : MutBor (List ℕ)) (rm : Room u8 (length arg.now)) where

@@ -18,10 +18,12 @@ pub mod GhashPolynomial
 pub mod HexWords
 pub mod KeysLemmas
 pub mod Lending
+pub mod LendingFacts
 pub mod LendingLocals
 pub mod LendingWalk
 pub mod LentPlaintext
 pub mod LinearMaps
+pub mod NextNonce
 pub mod OpeningCases
 pub mod PaddedBlocks
 pub mod ProductLoop
@@ -30,7 +32,9 @@ pub mod RoundTripLemmas
 pub mod RunLemmas
 pub mod RunningHash
 pub mod SealLemmas
+pub mod SequenceLemmas
 pub mod SquareTables
 pub mod SubkeyMultiples
 pub mod TagInput
 pub mod XorLaws
+pub mod XoredSequenceLemmas

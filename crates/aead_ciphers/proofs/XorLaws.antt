@@ -4,12 +4,6 @@ use Rattle.std.proofs.lemmas.Nat.{xor_lt, xor_comm as number_comm}
 use Rattle.std.specs.Int.Bits.{xor_assoc as number_assoc, xor_zero_r}
 use Rattle.aead_ciphers_base.specs.Bytes.{◌⊕◌}
 
-pub length-xor : (a b : List ℕ) → length a ≡ length b → length (a ⊕ b) ≡ length a
-length-xor [] [] e = refl
-length-xor [] (y ∷ ys) e = absurd (omega arith)
-length-xor (x ∷ xs) [] e = absurd (omega arith)
-length-xor (x ∷ xs) (y ∷ ys) e = ap suc (length-xor xs ys (omega arith))
-
 pub bytes-xor : (a b : List ℕ) → All (λ x. x < 256) a → All (λ x. x < 256) b → All (λ x. x < 256) (a ⊕ b)
 bytes-xor [] b h j k d below = absurd (omega arith)
 bytes-xor (x ∷ xs) [] h j k d below = absurd (omega arith)

@@ -2,9 +2,8 @@
 use Rattle.aead_ciphers.proofs.LendingWalk.{refl, ◌-◌, [], ◌∷◌, a_type, dcons, dnil, full_share, ◌$◌, !, move, keep, stop, addr, of_opd, returns, alloc_all}
 use Rattle.aead_ciphers.proofs.LendingWalk.{pass_all, free_all, look_at, get, sets, lands_as, through, plain, named_lft, types_at, mut_slice_vals, nothing}
 use Rattle.aead_ciphers.proofs.LendingWalk.{heard, gave_ref, Goes-gave_ref, length, inst_fn, param, bounded, Words, words_vals, words_typed, slice_typed}
-use Rattle.aead_ciphers.proofs.LendingWalk.{aad_word, gets, reborrows, hears, as_lent, step_fronts, OpenStep, aad_bytes, arith, front_met, first_stays}
-use Rattle.aead_ciphers.proofs.LendingWalk.{first_goes, walked, consults, at_words, with_third, with_third_share, relends, regains, lends, tells, says, last}
-use Rattle.aead_ciphers.proofs.LendingWalk.{ends}
+use Rattle.aead_ciphers.proofs.LendingWalk.{aad_word, gets, reborrows, hears, step_fronts, aad_bytes, arith, front_met, first_stays, first_goes, walked}
+use Rattle.aead_ciphers.proofs.LendingWalk.{consults, at_words, with_third, with_third_share, relends, regains, lends, tells, ends, says_next}
 use Rattle.aead_ciphers.specs.contracts.aead.opening_key.OpeningKey as K
 use Rattle.aead_ciphers.proofs.aead.opening_key.OpeningKey.open_in_place as P
 use Rattle.aead_ciphers.proofs.aead.opening_key.OpeningKey.open_in_place_len.Met.{met as core_met}
@@ -26,14 +25,14 @@ open_in_place_spec 𝓤 𝓛 𝓜 𝓡 wired N LN g d met =
     move ! (3 ∷ 4 ∷ 1 ∷ 5 ∷ 6 ∷ 7 ∷ 0 ∷ 8 ∷ []) $ consults 𝓛 (K.open_in_place_len.ended N g d) (K.open_in_place_len.clauses N g d 𝓛 𝓜.mem 𝓡.returns) 𝓜 𝓡 !
     (core_met 𝓤 𝓛 𝓜 𝓡 (P.Code.calls-aead_ciphers::aead::opening_key::OpeningKey::open_in_place_len 𝓡.env wired) N LN g d met)
     ((with_third 4 (α ∷ []) κs, with_third_share 4 full_share qs, bounds, (self, (aad, (record in_out { ghost_name = δ }, tt))), vals), tt)
-    (gets ! tt refl) (λ v u ws. let after = ws.0 in let new = ws.1.1.0 in hears ! (λ stays. hears ! (λ step. heard ! _ (λ counted.
-    let fronts = step_fronts g.spent g.is_closed self.now after (aad_bytes aad) 0 old new (length old - 16) (omega arith) u step counted in
+    (gets ! tt refl) (λ v u ws. let was = self.now in let after = ws.0 in let new = ws.1.1.0 in hears ! (λ stays. hears ! (λ step. hears ! (λ counted.
+    hears ! (λ opened. hears ! (λ plaintext. hears ! (λ refused. hears ! (λ gave. heard ! _ (λ stands.
+    let fronts = step_fronts g.spent g.is_closed was after (aad_bytes aad) 0 old new (length old - 16) (omega arith) u step counted in
     -- [the answer; four tokens; self; nothing of aad; what in_out ends as; what is kept]
     move ! (3 ∷ 0 ∷ 7 ∷ 8 ∷ []) $ regains 𝓛 κ q in_out room 𝓜 𝓡 v u new ! tt α δ fronts (λ same typed.
     lands_as ! refl refl typed.0 $ reborrows ! in_out.ref_ptr (length old) refl refl (tt, tt) slice $ lends 𝓛 κ q in_out room 𝓜 𝓡 v u new !
     (front_met 𝓤 𝓛 𝓜 𝓡 (P.Code.calls-aead_ciphers::aead::lend::lend_plaintext 𝓡.env wired)) fronts same (gets ! tt refl) (λ w r is-r end.
     -- [in_out's token; the front; what is owed of in_out; three tokens; self; once nothing]
-    lands_as ! refl refl is-r.0 $ returns ! (look_at ! 0 refl) $ free_all ! refl $ move ! (2 ∷ []) $ tells 𝓛 ! (says 𝓛 stays
-    (says 𝓛 (as_lent (λ accepts buffer. OpenStep g.spent g.is_closed self.now after (aad_bytes aad) 0 old buffer accepts) end step)
-    (last 𝓛 end.count))) $ nothing ! $ keep ! (4 ∷ 5 ∷ 2 ∷ 6 ∷ 7 ∷ 8 ∷ 0 ∷ 3 ∷ 1 ∷ []) $
-    ends 𝓛 T stayed c ((κs, qs, bounds, a, vals), tt) w r (after, (tt, (tt, tt))) ! (tt, (tt, (tt, tt)))))))))))))
+    lands_as ! refl refl is-r.0 $ returns ! (look_at ! 0 refl) $ free_all ! refl $ move ! (2 ∷ []) $ tells 𝓛 !
+    (says_next 𝓛 _ _ _ end stays step opened plaintext gave stands) $ nothing ! $ keep ! (4 ∷ 5 ∷ 2 ∷ 6 ∷ 7 ∷ 8 ∷ 0 ∷ 3 ∷ 1 ∷ []) $
+    ends 𝓛 T stayed c ((κs, qs, bounds, a, vals), tt) w r (after, (tt, (tt, tt))) ! (tt, (tt, (tt, tt))))))))))))))))))
