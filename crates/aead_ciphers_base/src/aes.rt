@@ -187,6 +187,6 @@ impl EncryptCtr32 for Key {
         work: &mut Work,
     ) {
         let Overlapping { in_out, start } = in_out;
-        ctr32::encrypt_each_batch(self, in_out, start, counter, work);
+        ctr32::encrypt_to_front(self, in_out, start, counter, work);
     }
 }

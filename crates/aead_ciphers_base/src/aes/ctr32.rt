@@ -12,7 +12,7 @@ use crate::bb;
 const BATCH_LEN: usize = 4 * BLOCK_LEN;
 
 /// Encrypts the whole blocks from `start` on, to the front, batch by batch.
-pub(crate) fn encrypt_each_batch(
+pub(crate) fn encrypt_to_front(
     key: &Key,
     in_out: &mut [u8],
     start: usize,

@@ -21,7 +21,8 @@ use types.Mut.{open_ref, close_ref}
 use contract.Monad.{Fun, fact_use}
 use contract.Running.{tables, tables_of}
 use sound.WpLaws.{WpFn-mono}
-use types.Kit.{‵, raw, ◌⊛◌, some, later, ◌$◌, ◌∵◌, !, qed, by, move, keep, split, split3, join, fsplit, fsplit3, fjoin, fjoin3, fpick, fpack, feq_l, feq_i, rewrite, use1, use2, use3, await, pick, suffices, frame, check, done}
+use types.Kit.{‵, raw, ◌⊛◌, some, later, ◌$◌, ◌∵◌, !, qed, by, move, keep, split, split3, join, fsplit, fsplit3, fjoin, fjoin3, fpick, fpack, feq_l, feq_i}
+use types.Kit.{rewrite, use1, use2, use3, await, pick, suffices, frame, check, done}
 use types.Part.{whole, sub, look_in, agg}
 use types.Run.{stop, fld, hop, load, addr, of_opd, and_then, no_more, returns, enter}
 use types.ByLocal.{alloc_all, pass_all, free_all, look_at, get, through, sets}
@@ -117,7 +118,8 @@ module _ (X : RattleType) (N : ℕ) {M : Type 1} {𝓤 : Ura M} (𝓛 : Logic �
   cut : ent 𝓤 (sem 𝓛 (part_at G full_share d b o)) (Holds xs)
   unfolding part_of
   cut =
-      qed 𝓛 (‵ (part_at G full_share d b o) ∷ []) ∵ fpick ! (λ vs. fsplit ! $ move ! (1 ∷ []) $ fpick ! (λ vss. fsplit ! $ feq_l ! (λ ev. fsplit ! $ fsplit3 ! $ fsplit ! $ feq_l ! (λ told.
+      qed 𝓛 (‵ (part_at G full_share d b o) ∷ []) ∵ fpick ! (λ vs. fsplit ! $ move ! (1 ∷ []) $ fpick ! (λ vss. fsplit ! $ feq_l ! (λ ev. fsplit ! $
+      fsplit3 ! $ fsplit ! $ feq_l ! (λ told.
       rewrite ! 4 (λ (us : List Val). ‵ (cell_at full_share G.mir us b o)) (is_word vs vss ev told) refl $
       rewrite ! 1 (λ (l : List X.Denot). ‵ (fobs δ ((coded_list R.coded).code l))) (heres_id R xs) refl $ keep ! (1 ∷ 2 ∷ 4 ∷ 0 ∷ []) $ done !))))
 
@@ -134,9 +136,11 @@ module _ (X : RattleType) (N : ℕ) {M : Type 1} {𝓤 : Ura M} (𝓛 : Logic �
       rewrite ! 0 (λ (l : List X.Denot). ‵ (fobs δ ((coded_list R.coded).code l))) (sym is ∙ sym (heres_id R x.now)) refl $
       rewrite ! 1 (λ (k : ℕ). ‵ (fbor a.lft (Lies k δ))) kept refl $
       rewrite ! 2 (λ (k : ℕ). ‵ (fsep (Cell k) (room R k))) kept refl $
-      move ! (2 ∷ []) $ fsplit ! $ move ! (1 ∷ []) $ feq_i ! (List Val) (mut_slice_vals x) (mut_slice_vals x) refl $ fjoin ! $ move ! (0 ∷ 2 ∷ 3 ∷ []) $ fjoin3 ! $
+      move ! (2 ∷ []) $ fsplit ! $ move ! (1 ∷ []) $ feq_i ! (List Val) (mut_slice_vals x) (mut_slice_vals x) refl $ fjoin ! $ move ! (0 ∷ 2 ∷ 3 ∷ []) $
+      fjoin3 ! $
       nothing ! $ move ! (1 ∷ 0 ∷ []) $ fjoin ! $ feq_i ! (List Val) (word (length x.now) ∷ []) (word (length x.now) ∷ []) refl $ fjoin ! $
-      fpack ! (Valss (S ∷ [])) (within (shape (the_type a R (param 1 (number N)))) (x, tt) (word (length x.now) ∷ [])) (mut_slice_vals x, tt) $ move ! (1 ∷ 0 ∷ []) $ fjoin ! $
+      fpack ! (Valss (S ∷ [])) (within (shape (the_type a R (param 1 (number N)))) (x, tt) (word (length x.now) ∷ [])) (mut_slice_vals x, tt) $
+      move ! (1 ∷ 0 ∷ []) $ fjoin ! $
       fpack ! (List Val) (λ us. fsep (cell_at full_share G.mir us b o) (G.own_val (with_items d ws) us)) (word (length x.now) ∷ []) $ done !
 
   abbrev After : List X.Denot → AsChunksMut X.Denot N
@@ -203,17 +207,21 @@ module _ (X : RattleType) (N : ℕ) {M : Type 1} {𝓤 : Ura M} (𝓛 : Logic �
     val = slice_val d.items.ref_ptr count
 
     exits : (δ : GName)
-        → ent 𝓤 (sep 𝓤 (alive 𝓛 (ended X N).signature z.0.0 z.0.1) (sep 𝓤 (sem 𝓛 ((MutSlice (named 0) κ (param 0 X)).own_val (record { ref_ptr = d.items.ref_ptr; ghost_name = δ; now = d.items.now }) (val ∷ []))) (sem 𝓛 (follows Row (Array (param 0 X) 0) γ δ (with_items d)))))
+        → ent 𝓤 (sep 𝓤 (alive 𝓛 (ended X N).signature z.0.0 z.0.1) (sep 𝓤 (sem 𝓛 ((MutSlice (named 0) κ (param 0 X)).own_val (record { ref_ptr =
+        d.items.ref_ptr; ghost_name = δ; now = d.items.now }) (val ∷ []))) (sem 𝓛 (follows Row (Array (param 0 X) 0) γ δ (with_items d)))))
         (Post (vptr b o ∷ []) val)
     exits δ =
-        qed 𝓛 (raw (alive 𝓛 (ended X N).signature z.0.0 z.0.1) ∷ ‵ ((MutSlice (named 0) κ (param 0 X)).own_val (record { ref_ptr = d.items.ref_ptr; ghost_name = δ; now = d.items.now }) (val ∷ [])) ∷ ‵ (follows Row (Array (param 0 X) 0) γ δ (with_items d)) ∷ []) ∵
-        suffices ! _ (ends_at 𝓛 (ended X N) (stayed X N) clauses (At (vptr b o ∷ [])) val (record { ref_ptr = d.items.ref_ptr; ghost_name = δ; now = d.items.now }) (tt, tt) (tt, tt)) $
+        qed 𝓛 (raw (alive 𝓛 (ended X N).signature z.0.0 z.0.1) ∷ ‵ ((MutSlice (named 0) κ (param 0 X)).own_val (record { ref_ptr = d.items.ref_ptr;
+        ghost_name = δ; now = d.items.now }) (val ∷ [])) ∷ ‵ (follows Row (Array (param 0 X) 0) γ δ (with_items d)) ∷ []) ∵
+        suffices ! _ (ends_at 𝓛 (ended X N) (stayed X N) clauses (At (vptr b o ∷ [])) val (record { ref_ptr = d.items.ref_ptr; ghost_name = δ;
+        now = d.items.now }) (tt, tt) (tt, tt)) $
         nothing ! $ nothing ! $ fjoin ! $ move ! (0 ∷ 2 ∷ []) $ join ! $ move ! (1 ∷ 0 ∷ []) $ join ! $ frame ! $ says ! refl $ done !
 
     walks : Goes (vptr b o ∷ [])
     unfolding part_of
     walks =
-        qed 𝓛 (((‵ (flft κ q) ⊛ (‵ (flft z.0.0.1.0 z.0.1.1.0) ⊛ ‵ (flft z.0.0.1.1.0 z.0.1.1.1.0) ⊛ ‵ (flft z.0.0.1.1.1.0 z.0.1.1.1.1.0) ⊛ ‵ ftrue)) ⊛ ‵ (owns (types_at (ended X N).signature.params z.0.0) z.0.3 (vptr b o ∷ [], tt))) ∷ raw ((clauses z.0.0 z.0.3).requires z.1) ∷ []) ∵
+        qed 𝓛 (((‵ (flft κ q) ⊛ (‵ (flft z.0.0.1.0 z.0.1.1.0) ⊛ ‵ (flft z.0.0.1.1.0 z.0.1.1.1.0) ⊛ ‵ (flft z.0.0.1.1.1.0 z.0.1.1.1.1.0) ⊛ ‵ ftrue)) ⊛ ‵
+        (owns (types_at (ended X N).signature.params z.0.0) z.0.3 (vptr b o ∷ [], tt))) ∷ raw ((clauses z.0.0 z.0.3).requires z.1) ∷ []) ∵
         split ! $ split ! $ move ! (2 ∷ []) $ fsplit ! $ fsplit3 ! $ keep ! (1 ∷ 2 ∷ 4 ∷ 5 ∷ []) $
         enter ! C Λ (function X N) (vptr b o ∷ []) _ $ alloc_all ! (λ m. pass_all ! refl ((tt, tt), tt) $
         open_ref ! tt (mem Row) {x = d} $ fpick ! (λ vs. fsplit ! $ move ! (1 ∷ []) $ peeks ! Row (Is Row) (shows 𝓛 Row) d vs (λ told.
@@ -222,15 +230,18 @@ module _ (X : RattleType) (N : ℕ) {M : Type 1} {𝓤 : Ura M} (𝓛 : Logic �
         let fn : count < 2 ^ 64 = rm.0 in
         rewrite ! 1 (λ (us : List Val). ‵ (cell_at full_share Row.mir us b o)) ev refl $
         move ! (1 ∷ []) $ use1 𝓛 (‵ (fat full_share erased_ty b o w)) (𝓛.laws.raw_at full_share erased_ty b o w) $
-        sets ! (of_opd ! (load ! (through ! refl (fld ! refl (fld ! refl (stop !)))) (look_in ! 0 (sub ! 1 refl (sub ! 0 refl (whole !)))))) refl (tt, record { fits = fn }) $
+        sets ! (of_opd ! (load ! (through ! refl (fld ! refl (fld ! refl (stop !)))) (look_in ! 0 (sub ! 1 refl (sub ! 0 refl (whole !)))))) refl (tt,
+        record { fits = fn }) $
         sets ! (addr ! (through ! refl (fld ! refl (fld ! refl (hop ! (look_in ! 0 (sub ! 0 refl (sub ! 0 refl (whole !)))) (stop !)))))) refl (tt, tt) $
         sets ! (agg ! (and_then ! (get ! refl) (and_then ! (get ! refl) (no_more !)))) refl (tt, (tt, (record { fits = fn }, tt))) $
         use1 𝓛 (‵ (cell_at full_share Row.mir (w ∷ []) b o)) (𝓛.laws.at_raw full_share erased_ty b o w) $
         rewrite ! 0 (λ (us : List Val). ‵ (cell_at full_share Row.mir us b o)) (sym ev) refl $ fjoin ! $
         fpack ! (List Val) (λ us. fsep (cell_at full_share Row.mir us b o) (Row.own_val d us)) vs $ close_ref ! tt (mem Row) d $
-        use3 𝓛 (later (some (λ (δ : GName). ‵ (fobs δ ((coded_list (param 0 X).coded).code d.items.now)) ⊛ ‵ (fbor κ (Lies X N 𝓛 l d b o count δ)) ⊛ ‵ (flft κ q) ⊛ ‵ (follows Row (Array (param 0 X) 0) γ δ (with_items d)))))
+        use3 𝓛 (later (some (λ (δ : GName). ‵ (fobs δ ((coded_list (param 0 X).coded).code d.items.now)) ⊛ ‵ (fbor κ (Lies X N 𝓛 l d b o count δ)) ⊛ ‵
+        (flft κ q) ⊛ ‵ (follows Row (Array (param 0 X) 0) γ δ (with_items d)))))
         (hands X N 𝓛 l d b o κ z.0.2.0 q γ) $ await ! tt $ pick ! (λ δ. split3 ! $
-        use2 𝓛 (‵ ((MutSlice (named 0) κ (param 0 X)).own_val (record { ref_ptr = d.items.ref_ptr; ghost_name = δ; now = d.items.now }) (val ∷ []))) (slice_of 𝓛 (param 0 X) (named 0) κ d.items.ref_ptr.0 d.items.ref_ptr.1 δ d.items.now rm) $
+        use2 𝓛 (‵ ((MutSlice (named 0) κ (param 0 X)).own_val (record { ref_ptr = d.items.ref_ptr; ghost_name = δ;
+        now = d.items.now }) (val ∷ []))) (slice_of 𝓛 (param 0 X) (named 0) κ d.items.ref_ptr.0 d.items.ref_ptr.1 δ d.items.now rm) $
         move ! (1 ∷ []) $ split ! $ returns ! (look_at ! 0 refl) $ free_all ! refl $ move ! (0 ∷ 3 ∷ []) $ join ! $ keep ! (0 ∷ 2 ∷ 1 ∷ []) $ by ! (exits δ)))))
 
     entry : (us : List Val) → (us ≡ vptr b o ∷ []) × (Unit {0} × Unit {0}) → Goes us
@@ -238,15 +249,19 @@ module _ (X : RattleType) (N : ℕ) {M : Type 1} {𝓤 : Ura M} (𝓛 : Logic �
 
   meets : (𝓣 : Tables 𝓤 H) → Meets 𝓛 (ended X N).signature (WpFn 𝓤 H 𝓣.C 𝓣.Λ (function X N)) (closing 𝓛 (ended X N) clauses)
   meets 𝓣 =
-      walk_Meets 𝓛 (ended X N) (stayed X N) (Goes-spent_ref 𝓛 4 (0 ∷ []) tt (plain (λ κs. the_row (named_lft 4 1 tt κs) (param 0 X) (param 1 (number N)))), tt) clauses
+      walk_Meets 𝓛 (ended X N) (stayed X N) (Goes-spent_ref 𝓛 4 (0 ∷ []) tt (plain (λ κs. the_row (named_lft 4 1 tt κs) (param 0 X)
+      (param 1 (number N)))), tt) clauses
       (WpFn 𝓤 H 𝓣.C 𝓣.Λ (function X N)) (WpFn-mono 𝓤 H 𝓛.laws 𝓣 (function X N))
-      (λ z. let a = z.0.3 in let vss = z.0.4 in let Rs : List RattleType = types_at (ended X N).signature.params z.0.0 in let On : SProp 𝓤 = on_entry 𝓛 (ended X N).signature z.0.0 z.0.1 a vss in
-      fact_use 𝓤 (Are Rs (Ises Rs) a vss) (via 𝓤 (sem 𝓛 (owns Rs a vss)) (via 𝓤 On (fst∗ 𝓤 On ((clauses z.0.0 a).requires z.1)) (snd∗ 𝓤 (alive 𝓛 (ended X N).signature z.0.0 z.0.1) (sem 𝓛 (owns Rs a vss)))) (owns_show 𝓛 Rs (Ises Rs) (showss 𝓛 Rs) a vss)) (λ are.
+      (λ z. let a = z.0.3 in let vss = z.0.4 in let Rs : List RattleType = types_at (ended X N).signature.params z.0.0 in
+      let On : SProp 𝓤 = on_entry 𝓛 (ended X N).signature z.0.0 z.0.1 a vss in
+      fact_use 𝓤 (Are Rs (Ises Rs) a vss) (via 𝓤 (sem 𝓛 (owns Rs a vss)) (via 𝓤 On (fst∗ 𝓤 On ((clauses z.0.0 a).requires z.1))
+      (snd∗ 𝓤 (alive 𝓛 (ended X N).signature z.0.0 z.0.1) (sem 𝓛 (owns Rs a vss)))) (owns_show 𝓛 Rs (Ises Rs) (showss 𝓛 Rs) a vss)) (λ are.
       entry 𝓣.C 𝓣.Λ z vss.0 are.0))
 
 pub as_flattened_mut_spec : {M : Type 1} → stated.statement M
 unfolding tables_of
 as_flattened_mut_spec 𝓤 𝓛 𝓜 𝓡 wired X N L fits =
     let 𝓣 : Tables 𝓤 𝓛.H = tables_of 𝓤 𝓛.H 𝓜 (tables 𝓤 𝓛.H 𝓜 𝓡 𝓡.env) in
-    entered 𝓤 𝓛.H (triple_of 𝓛 (ended X N).signature (F.spec X (number N) 𝓛 𝓜.mem 𝓡.returns)) 𝓣.C 𝓣.Λ (#self (args X N)) (function X N) (code.unfolded 𝓤 𝓛.H 𝓜 𝓡 wired (X, (number N, tt)))
+    entered 𝓤 𝓛.H (triple_of 𝓛 (ended X N).signature (F.spec X (number N) 𝓛 𝓜.mem 𝓡.returns)) 𝓣.C 𝓣.Λ (#self (args X N)) (function X N)
+    (code.unfolded 𝓤 𝓛.H 𝓜 𝓡 wired (X, (number N, tt)))
     (meets X N 𝓛 𝓜.mem 𝓡.returns 𝓣)

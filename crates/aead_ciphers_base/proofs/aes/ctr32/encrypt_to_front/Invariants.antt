@@ -2,7 +2,7 @@ use Rattle.std.proofs.Common.{◌≡◌, ◌-◌, ◌/◌, ◌%◌, ◌≤◌, l
 use Rattle.aead_ciphers_base.specs.Aes.{aes}
 use Rattle.aead_ciphers_base.specs.CounterMode.{Advances, EncryptsFirst}
 use Rattle.aead_ciphers_base.specs.Work.{Adds}
-use Rattle.aead_ciphers_base.proofs.aes.ctr32.encrypt_each_batch.Given as goal
+use Rattle.aead_ciphers_base.proofs.aes.ctr32.encrypt_to_front.Given as goal
 
 abbrev pub invariant-loop-done : goal.invariant-loop-done
 invariant-loop-done l = record {

@@ -4,7 +4,7 @@ use Rattle.aead_ciphers_base.specs.Aes.{aes}
 use Rattle.aead_ciphers_base.specs.CounterMode.{counter_mode}
 use Rattle.aead_ciphers_base.proofs.CounterLemmas.{counter_still, counter_at}
 use Rattle.aead_ciphers_base.proofs.CounterModeLemmas.{advance, counter_mode-nil}
-use Rattle.aead_ciphers_base.proofs.aes.ctr32.encrypt_each_batch.Goals as goal
+use Rattle.aead_ciphers_base.proofs.aes.ctr32.encrypt_to_front.Goals as goal
 
 pub loop-done-init : goal.loop-done-init
 loop-done-init c = record {
