@@ -8,7 +8,6 @@ use seplogic.Ra.Ura.{Ura}
 use base.Fraction.{full_share}
 use base.Fml.{fat, froom}
 use lib.Dec.{T}
-
 use mir.Syntax.{Lifetime, Ty, ty_int, w64, ty_ref, mut, Body, Opd, copy, place, field, deref, seq, assign, addr_of, aggregate}
 use mir.Val.{Val, vptr, vint, WT, has_ty}
 use prog.Wp.{Env, Calls, Loops, spot_of}
@@ -113,4 +112,3 @@ module _ {M : Type 1} {𝓤 : Ura M} {𝓛 : Logic 𝓤} {K : Type 0} {Γ : List
         assigns t (agg t (and_then t (get t (ap (nth 𝓛 3) met))
         (and_then t (length_of 𝓛 K (set 𝓛 j (holds 𝓛 E j (vptr p.0 p.1)) Γ) E i p n ℓ ξ t is (ap (nth 𝓛 2) met)) (no_more t)))) (from t (stop t))
         (init t (cell k (set 𝓛 j (holds 𝓛 E j (vptr p.0 p.1)) Γ)) (ap (nth 𝓛 4) met) of-slice) $ s)
-

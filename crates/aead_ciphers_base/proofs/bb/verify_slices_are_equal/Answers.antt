@@ -7,5 +7,8 @@ pub loop-i-preserved : goal.loop-i-preserved
 loop-i-preserved c = same_more c.args.a.now c.args.b.now c.loop-i.difference c.loop-i.i c.loop-i.invariant
 
 pub returns-then-difference-eq0 : goal.returns-then-difference-eq0
-returns-then-difference-eq0 c = (λ t.
-    ext_get_or 0 c.args.a.now c.args.b.now (omega arith) (λ k small. c.loop-i.invariant.same (omega arith) k (omega arith)), λ e. refl)
+returns-then-difference-eq0 c = (
+  λ t.
+      ext_get_or 0 c.args.a.now c.args.b.now (omega arith) (λ k small. c.loop-i.invariant.same (omega arith) k (omega arith)),
+  λ e. refl,
+)

@@ -18,5 +18,5 @@ pub loop-n-preserved : goal.loop-n-preserved
 loop-n-preserved c = (
   length-set _ _ _ ∙ c.loop-n.invariant.0,
   next_word_step (length c.args.key.now / 4) c.args.key.now c.loop-n.words c.loop-n.n c.next_word.result (omega arith) (omega arith)
-  (omega arith) c.loop-n.invariant.1 c.next_word.ensures,
+      (omega arith) c.loop-n.invariant.1 c.next_word.ensures,
 )

@@ -40,11 +40,13 @@ into_unwritten_output_spec 𝓤 𝓛 𝓜 𝓡 wired X n L fits =
           (P.Array.into_unwritten_output.Code.calls-aead_ciphers_base::overlapping::array::first_array 𝓡.env wired) X n L fits)
           ((κs, qs, bounds, (r, tt), (v ∷ [], tt)), tt) (gets ! tt refl) (λ w s ws'.
           takes ! (follows (Items R 0) (Items R 0) r.ghost_name s.ghost_name (λ ws. ws ++ drop_list n r.now)) $ move ! (1 ∷ []) $ heard ! _ (λ value.
-          rewrite ! 0 (λ (p : GName × List X.Denot). ‵ (follows (Items R 0) (Items R 0) p.0 s.ghost_name (λ ws. ws ++ drop_list n p.1))) (λ i. (same i,
-          kept i)) refl $
+          rewrite ! 0 (λ (p : GName × List X.Denot). ‵ (follows (Items R 0) (Items R 0) p.0 s.ghost_name (λ ws. ws ++ drop_list n p.1))) (λ i. (
+            same i,
+            kept i,
+          )) refl $
           tell ! (value ∙ ap (take n) kept) $ move ! (1 ∷ 0 ∷ []) $ says ! $ move ! (1 ∷ []) $
           peeks ! Out (Is Out) (shows 𝓛 Out) s (w ∷ []) (λ is-s. lands_as ! refl refl (((mut_Lawful 𝓛 (named 0) κs.0 (ArrayAt R K)).typed s (w ∷ []) is-s).0) $
           returns ! (look_at ! 0 refl) $ free_all ! refl $ nothing ! $
           -- [nothing; the array; the clauses; three tokens]
-          keep ! (3 ∷ 4 ∷ 5 ∷ 0 ∷ 1 ∷ 2 ∷ []) $ ends 𝓛 T hs c ((κs, qs, bounds, a, vals), tt) w s ((tt, tt), tt) ! (tt, tt)))))))))))))
+          keep ! (3 ∷ 4 ∷ 5 ∷ 0 ∷ 1 ∷ 2 ∷ []) $ ends 𝓛 T hs c ((κs, qs, bounds, a, vals), tt) w s ((tt, tt), tt) ! (tt, tt))))))))))))),
     ))

@@ -88,5 +88,5 @@ new_spec 𝓤 𝓛 𝓜 𝓡 wired X n L fits =
           use1 𝓛 (‵ (Row.own_val d (held u s ∷ []))) (begun 𝓛 ℓ R b u is.2) $
           accepts made ! d (held u s) sizes refl refl refl $ returns ! (look_at ! 0 refl) $ free_all ! refl $ nothing ! $
           -- [nothing; the clauses; the answer; three tokens]
-          keep ! (3 ∷ 4 ∷ 5 ∷ 0 ∷ 2 ∷ 1 ∷ []) $ ends 𝓛 T hs c at_end (live 0 (of_list (held u s ∷ []))) (Ok d) ((tt, tt), tt) ! (tt, tt)))
+          keep ! (3 ∷ 4 ∷ 5 ∷ 0 ∷ 2 ∷ 1 ∷ []) $ ends 𝓛 T hs c at_end (live 0 (of_list (held u s ∷ []))) (Ok d) ((tt, tt), tt) ! (tt, tt))),
     ))

@@ -2,7 +2,7 @@
 -- the code by hand.
 use Rattle.aead_ciphers_base.proofs.WalkNames.{◌≡◌, refl, sym, ap, ◌∙◌, List, [], ◌∷◌, ◌++◌, ℕ, ◌+◌, ◌-◌, ◌*◌, ◌^◌, ◌<◌, ◌≤◌, arith, length, take, drop_list}
 use Rattle.aead_ciphers_base.proofs.WalkNames.{length-drop, w64, a_type, inst_fn, Val, vint, vstruct, vcons, vnil, of_list, Fits, size, ‵, some, later, ◌$◌}
-use Rattle.aead_ciphers_base.proofs.WalkNames.{!, move, keep, drop, split3, fsplit, fpick, feq_l, use1, use2, await, pick, rewrite, now, whole, sub, agg}
+use Rattle.aead_ciphers_base.proofs.WalkNames.{ !, move, keep, drop, split3, fsplit, fpick, feq_l, use1, use2, await, pick, rewrite, now, whole, sub, agg}
 use Rattle.aead_ciphers_base.proofs.WalkNames.{stop, fld, from, load, lit, size_word, of_opd, bin, addr, and_then, first, branches, skips, exec, returns}
 use Rattle.aead_ciphers_base.proofs.WalkNames.{returns_within, alloc_all, pass_all, free_all, look_at, look_in_at, get, sets, lands_as, through, env, usize}
 use Rattle.aead_ciphers_base.proofs.WalkNames.{Is, shows, param, layout, layouts, types_at, named_lft, Room, slice_val, nothing, heard, peeks, only, within}
@@ -49,11 +49,14 @@ rest_spec 𝓤 𝓛 𝓜 𝓡 wired X L =
     let long : length xs < 2 ^ 64 = rm.0 in let m-fits : m < 2 ^ 64 = omega arith in
     let u = slice_val s.ref_ptr (length xs) in let typed = slice_typed s.ref_ptr (length xs) long in
     let start : Fits w64 x.start = record { fits = start-is.1 } in let count : Fits w64 n = record { fits = count-is.1 } in
-    let words : Words Ts passed = ((
-      vstruct (vcons u (vcons (vint w64 x.start) (vcons (vint w64 n) vnil))),
-      are.0.1.0 ∙ (λ i. vstruct (of_list (slice-is.0.0 i ++ (start-is.0 i ++ (count-is.0 i ++ [])))) ∷ []),
-      (tt, (typed.1, (start, (count, tt)))),
-    ), tt) in let vals = words_vals Ts passed words in
+    let words : Words Ts passed = (
+      (
+        vstruct (vcons u (vcons (vint w64 x.start) (vcons (vint w64 n) vnil))),
+        are.0.1.0 ∙ (λ i. vstruct (of_list (slice-is.0.0 i ++ (start-is.0 i ++ (count-is.0 i ++ [])))) ∷ []),
+        (tt, (typed.1, (start, (count, tt)))),
+      ),
+      tt,
+    ) in let vals = words_vals Ts passed words in
     let Walk = walk_of 𝓛 T hs c in let at_end : Walk.Ghost = ((κs, qs, bounds, a, vals), tt) in let Post = Walk.post at_end in
     let Out = RS.the_row Row IE.the_row in (
       words,
@@ -113,5 +116,5 @@ rest_spec 𝓤 𝓛 𝓜 𝓡 wired X L =
           -- [the answer; the slice's token; what the slice follows; a token]
           move ! (2 ∷ []) $ tell {φ = Unit {0}} ! tt $ tells {φ = d.start ≡ x.start} ! refl $ tells {φ = d.in_out.now ≡ drop_list n xs} ! refl $
           tells ! accepted $ move ! (1 ∷ 0 ∷ []) $ says ! $ nothing ! $
-          keep ! (3 ∷ 4 ∷ 0 ∷ 2 ∷ 1 ∷ []) $ ends 𝓛 T hs c at_end w r ((tt, tt), tt) ! (tt, tt))))))
+          keep ! (3 ∷ 4 ∷ 0 ∷ 2 ∷ 1 ∷ []) $ ends 𝓛 T hs c at_end w r ((tt, tt), tt) ! (tt, tt)))))),
     ))

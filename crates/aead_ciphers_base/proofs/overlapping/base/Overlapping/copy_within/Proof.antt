@@ -19,8 +19,7 @@ copied_parts : {A : Type 0} (xs ys : List A) (start from : ℕ) → start ≤ le
 copied_parts xs ys start from within moved kept =
     let input = drop_list start xs in let rest = drop_list (length xs - start) xs in
     let long : length ys ≡ length input + length rest = ap length moved ∙ length-append input rest in
-    let count : length ys - from ≡ length input = omega (arith, length-drop start xs, length-drop (length xs - start) xs) in
-    (
+    let count : length ys - from ≡ length input = omega (arith, length-drop start xs, length-drop (length xs - start) xs) in (
       (λ i. take (count i) (moved i)) ∙ take-append_seam input rest,
       (λ i. drop_list (count i) (moved i)) ∙ drop-append_seam input rest,
     )
@@ -59,5 +58,5 @@ copy_within_spec 𝓤 𝓛 𝓜 𝓡 wired X L copy clone dict bound =
           returns ! (look_at ! 0 refl) $ free_all ! refl $
           -- [nothing; the slice; the clauses; two tokens]
           nothing ! $ keep ! (3 ∷ 4 ∷ 0 ∷ 1 ∷ 2 ∷ []) $
-          ends 𝓛 T hs c ((κs, qs, bounds, a, vals), tt) w s ((tt, tt), tt) ! (tt, tt)))))))))))
+          ends 𝓛 T hs c ((κs, qs, bounds, a, vals), tt) w s ((tt, tt), tt) ! (tt, tt))))))))))),
     ))

@@ -36,5 +36,5 @@ into_unwritten_output_spec 𝓤 𝓛 𝓜 𝓡 wired X L =
           -- [the front; its token; what the slice follows; a token]
           let d : MutBor (List X.Denot) = record { ref_ptr = s.ref_ptr; ghost_name = δ; now = take m xs } in
           move ! (2 ∷ []) $ tell {φ = d.now ≡ take m xs} ! refl $ move ! (1 ∷ 0 ∷ []) $ says ! $ nothing ! $ keep ! (3 ∷ 4 ∷ 0 ∷ 2 ∷ 1 ∷ []) $
-          ends 𝓛 T hs c ((κs, qs, bounds, a, vals), tt) (slice_val s.ref_ptr m) d ((tt, tt), tt) ! (tt, tt)))
+          ends 𝓛 T hs c ((κs, qs, bounds, a, vals), tt) (slice_val s.ref_ptr m) d ((tt, tt), tt) ! (tt, tt))),
     ))

@@ -1,6 +1,6 @@
 -- The slice is handed on, or let go as it came. This walks the code by hand.
 use Rattle.aead_ciphers_base.proofs.WalkNames.{◌≡◌, refl, ap, ◌∙◌, List, [], ◌∷◌, ◌≤◌, arith, length, w64, a_type, inst_fn, Val, vint, of_list, Fits, ‵, ◌$◌}
-use Rattle.aead_ciphers_base.proofs.WalkNames.{!, move, keep, drop, use1, rewrite, whole, sub, agg, stop, fld, from, load, lit, of_opd, bin, and_then, first}
+use Rattle.aead_ciphers_base.proofs.WalkNames.{ !, move, keep, drop, use1, rewrite, whole, sub, agg, stop, fld, from, load, lit, of_opd, bin, and_then, first}
 use Rattle.aead_ciphers_base.proofs.WalkNames.{branches, skips, exec, returns, returns_within, alloc_all, pass_all, free_all, look_at, look_in_at, get, sets}
 use Rattle.aead_ciphers_base.proofs.WalkNames.{lands_as, env, usize, yes, Is, shows, param, number, layouts, types_at, plain, named_lft, slice_val, nothing}
 use Rattle.aead_ciphers_base.proofs.WalkNames.{heard, peeks, only, within, Goes-dropped, Goes-spent_slice, Ok, Err}
@@ -65,5 +65,5 @@ new_spec 𝓤 𝓛 𝓜 𝓡 wired X L =
           move ! (2 ∷ []) $ use1 𝓛 (‵ (Row.own_val d (held u n ∷ []))) (begun 𝓛 (named_lft 2 0 tt κs) R d u range-is.1) $
           accepts made ! d (held u n) within refl refl refl $ returns ! (look_at ! 0 refl) $ free_all ! refl $ nothing ! $ nothing ! $
           -- [twice nothing; the clauses; the answer; two tokens]
-          keep ! (4 ∷ 5 ∷ 0 ∷ 1 ∷ 3 ∷ 2 ∷ []) $ ends 𝓛 T hs c at_end (live 0 (of_list (held u n ∷ []))) (Ok d) (tt, (tt, tt)) ! (tt, (tt, tt))))
+          keep ! (4 ∷ 5 ∷ 0 ∷ 1 ∷ 3 ∷ 2 ∷ []) $ ends 𝓛 T hs c at_end (live 0 (of_list (held u n ∷ []))) (Ok d) (tt, (tt, tt)) ! (tt, (tt, tt)))),
     ))

@@ -132,5 +132,5 @@ split_first_chunk_spec 𝓤 𝓛 𝓜 𝓡 wired X Y Z LX LY LZ chunk d₁ once 
           returns ! (look_at ! 0 refl) $ free_all ! refl $ nothing ! $ nothing ! $
           -- [twice nothing; the answer; the clauses; two tokens; nothing; two tokens]
           keep ! (4 ∷ 5 ∷ 7 ∷ 8 ∷ 0 ∷ 1 ∷ 2 ∷ 3 ∷ []) $
-          ends 𝓛 T hs c ((κs, qs, bounds, a, vals), tt) w out ((tt, tt), (tt, tt)) ! (tt, (tt, tt)))))))))))))))))))))
+          ends 𝓛 T hs c ((κs, qs, bounds, a, vals), tt) w out ((tt, tt), (tt, tt)) ! (tt, (tt, tt))))))))))))))))))))),
     ))

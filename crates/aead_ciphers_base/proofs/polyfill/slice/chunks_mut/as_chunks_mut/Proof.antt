@@ -58,5 +58,5 @@ as_chunks_mut_spec 𝓤 𝓛 𝓜 𝓡 wired X n L fits =
           tell ! (short n xs r.1.now some back) $ tells ! back $ tells ! front $ tells ! (ap (blocks n) front ∙ blocks_take n xs) $
           move ! (2 ∷ 0 ∷ []) $ says ! $ nothing ! $
           -- [nothing; the clauses; the answer; three tokens]
-          keep ! (3 ∷ 4 ∷ 5 ∷ 0 ∷ 2 ∷ 1 ∷ []) $ ends 𝓛 T hs c ((κs, qs, bounds, a, vals), tt) out (d, r.1) (tt, tt) ! (tt, tt))))))))))
+          keep ! (3 ∷ 4 ∷ 5 ∷ 0 ∷ 2 ∷ 1 ∷ []) $ ends 𝓛 T hs c ((κs, qs, bounds, a, vals), tt) out (d, r.1) (tt, tt) ! (tt, tt)))))))))),
     ))

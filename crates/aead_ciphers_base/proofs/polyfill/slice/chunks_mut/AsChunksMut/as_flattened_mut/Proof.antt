@@ -145,5 +145,5 @@ as_flattened_mut_spec 𝓤 𝓛 𝓜 𝓡 wired X N L fits =
           move ! (1 ∷ []) $ split ! $ returns ! (look_at ! 0 refl) $ free_all ! refl $
           -- [the items' token; what the view follows; the items; three tokens]
           move ! (1 ∷ []) $ tell {φ = r.now ≡ d.items.now} ! refl $ move ! (1 ∷ 0 ∷ []) $ says ! $ nothing ! $ keep ! (2 ∷ 4 ∷ 5 ∷ 6 ∷ 0 ∷ 3 ∷ 1 ∷ []) $
-          ends 𝓛 T hs c ((κs, qs, bounds, a, vals), tt) v r (tt, tt) ! (tt, tt)))))
+          ends 𝓛 T hs c ((κs, qs, bounds, a, vals), tt) v r (tt, tt) ! (tt, tt))))),
     ))

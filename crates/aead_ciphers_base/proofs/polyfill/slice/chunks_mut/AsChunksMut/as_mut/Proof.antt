@@ -1,6 +1,6 @@
 -- The items that `as_flattened_mut` lends are handed on in a view. This walks the code by hand.
 use Rattle.aead_ciphers_base.proofs.WalkNames.{refl, ap, ◌∙◌, List, [], ◌∷◌, ◌%◌, length, named, a_type, a_number, inst_fn, Val, vstruct, vcons, vnil, ‵, ◌$◌}
-use Rattle.aead_ciphers_base.proofs.WalkNames.{!, move, keep, use1, rewrite, whole, agg, stop, addr, returns, alloc_all, pass_all, free_all, look_at, sets}
+use Rattle.aead_ciphers_base.proofs.WalkNames.{ !, move, keep, use1, rewrite, whole, agg, stop, addr, returns, alloc_all, pass_all, free_all, look_at, sets}
 use Rattle.aead_ciphers_base.proofs.WalkNames.{lands_as, through, Items, follows, Is, shows, param, number, layouts, types_at, plain, named_lft, MutSlice}
 use Rattle.aead_ciphers_base.proofs.WalkNames.{slice_val, nothing, heard, peeks, only, Goes-spent_ref}
 use Rattle.aead_ciphers_base.proofs.WalkLocals.{alone, gets}
@@ -38,5 +38,5 @@ as_mut_spec 𝓤 𝓛 𝓜 𝓡 wired X n L fits =
           use1 𝓛 (‵ ((A.the_row lent R K).own_val d (w ∷ []))) (viewed 𝓛 lent R n d p) $ returns ! (look_at ! 0 refl) $ free_all ! refl $
           tell ! same $ move ! (2 ∷ 0 ∷ []) $ says ! $ nothing ! $
           -- [nothing; the clauses; the view; four tokens]
-          keep ! (3 ∷ 4 ∷ 5 ∷ 6 ∷ 0 ∷ 2 ∷ 1 ∷ []) $ ends 𝓛 T hs c ((κs, qs, bounds, a, vals), tt) w d (tt, tt) ! (tt, tt)))))))))
+          keep ! (3 ∷ 4 ∷ 5 ∷ 6 ∷ 0 ∷ 2 ∷ 1 ∷ []) $ ends 𝓛 T hs c ((κs, qs, bounds, a, vals), tt) w d (tt, tt) ! (tt, tt))))))))),
     ))

@@ -48,5 +48,5 @@ chunks_mut_spec 𝓤 𝓛 𝓜 𝓡 wired X n t L fits fits-t =
           move ! (6 ∷ []) $ fpack ! GName (λ loan. follows lender (Items R 0) x.ghost_name loan (with_items x.now)) r.ghost_name $
           tell ! sized $ tells ! (rest ∙ same) $ move ! (1 ∷ 0 ∷ []) $ says ! $ nothing ! $
           -- [nothing; the clauses; the walk; four tokens; nothing; the view's token]
-          keep ! (3 ∷ 8 ∷ 4 ∷ 5 ∷ 6 ∷ 0 ∷ 2 ∷ 1 ∷ []) $ ends 𝓛 T hs c ((κs, qs, bounds, a, vals), tt) w it (tt, tt) ! (tt, tt))))))))))))))))
+          keep ! (3 ∷ 8 ∷ 4 ∷ 5 ∷ 6 ∷ 0 ∷ 2 ∷ 1 ∷ []) $ ends 𝓛 T hs c ((κs, qs, bounds, a, vals), tt) w it (tt, tt) ! (tt, tt)))))))))))))))),
     ))

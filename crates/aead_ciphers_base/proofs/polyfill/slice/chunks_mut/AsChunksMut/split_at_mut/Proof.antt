@@ -21,8 +21,10 @@ split_at_mut_spec 𝓤 𝓛 𝓜 𝓡 wired X n L fits =
     let N = number n in let R = param 0 X in let K = param 1 N in let inst = layouts (a_type ∷ a_number ∷ []) (X, (N, tt)) in
     let T = C.AsChunksMut.split_at_mut.ended X N in let c = C.AsChunksMut.split_at_mut.clauses X N 𝓛 𝓜.mem 𝓡.returns in
     let hs = dropped T.signature.params T.kept in
-    walked 𝓛 T hs c 𝓜 𝓡 (Goes-spent_ref 𝓛 4 (0 ∷ []) tt (plain (λ κs. C.AsChunksMut.the_row (named_lft 4 1 tt κs) R K)),
-    (Goes-dropped 𝓛 4 (plain (λ _. usize)) yes (λ κs x f. refl), tt)) (C.AsChunksMut.split_at_mut.Key.name inst)
+    walked 𝓛 T hs c 𝓜 𝓡 (
+      Goes-spent_ref 𝓛 4 (0 ∷ []) tt (plain (λ κs. C.AsChunksMut.the_row (named_lft 4 1 tt κs) R K)),
+      (Goes-dropped 𝓛 4 (plain (λ _. usize)) yes (λ κs x f. refl), tt),
+    ) (C.AsChunksMut.split_at_mut.Key.name inst)
     (inst_fn inst P.AsChunksMut.split_at_mut.Code.function) (P.AsChunksMut.split_at_mut.Code.unfolded 𝓤 𝓛.H 𝓜 𝓡 wired (X, (N, tt))) (λ y are.
     let (κs, qs, bounds, a, passed) = y.0 in let Ts = types_at T.signature.params κs in let x = a.0 in let mid = a.1.0 in let xs = x.now.items.now in
     let words : Words Ts passed = ((_, are.0.0, (tt, tt)), ((vint w64 mid, are.1.0.0, (tt, record { fits = are.1.0.1 })), tt)) in
@@ -73,5 +75,5 @@ split_at_mut_spec 𝓤 𝓛 𝓜 𝓡 wired X n L fits =
           tells ! (ap (blocks n) front ∙ blocks_front n mid xs inside) $ move ! (2 ∷ 0 ∷ []) $ says ! $ nothing ! $ nothing ! $
           -- [twice nothing; the clauses; the answer; three tokens; twice nothing; the view's token]
           keep ! (4 ∷ 9 ∷ 5 ∷ 6 ∷ 0 ∷ 1 ∷ 3 ∷ 2 ∷ []) $
-          ends 𝓛 T hs c ((κs, qs, bounds, a, vals), tt) out (d₀, d₁) (tt, (tt, tt)) ! (tt, (tt, tt)))))))))))))))
+          ends 𝓛 T hs c ((κs, qs, bounds, a, vals), tt) out (d₀, d₁) (tt, (tt, tt)) ! (tt, (tt, tt))))))))))))))),
     ))
