@@ -1,6 +1,7 @@
 -- Every block but zero has an inverse, so the blocks are a field: 128 squarings give each block back, and only zero and the
 -- unit are their own squares.
 use Rattle.std.proofs.Common.{◌≡◌, ◌≢◌, ℕ, zero, suc, ◌⊎◌, inl, inr, ⊎_elim, Bool, true, false, List, [], ◌∷◌, map, replicate, refl, sym, ap, ap₂, ◌∙◌}
+use Rattle.aead_ciphers_base.proofs.XorLemmas.{xor_comm, xor_exchange}
 use Rattle.aead_ciphers_base.specs.Bytes.{◌⊕◌, zero_block}
 use Rattle.aead_ciphers_base.specs.Polynomial.{coefficient}
 use Rattle.aead_ciphers_base.proofs.PolynomialAction.{mul_x-none}
@@ -20,7 +21,6 @@ use Rattle.aead_ciphers.proofs.GhashPolynomial.{IsBlock-value, value_at}
 use Rattle.aead_ciphers.proofs.LinearMaps.{combined}
 use Rattle.aead_ciphers.proofs.ProductLoop.{zeros_end}
 use Rattle.aead_ciphers.proofs.SquareTables.{even_powers, squared_bits, x_bits, x_squared}
-use Rattle.aead_ciphers.proofs.XorLaws.{xor_comm, xor_exchange}
 
 zero_bits : block_bits zero_block ≡ replicate 128 false
 unfolding block_bits bits_high_first

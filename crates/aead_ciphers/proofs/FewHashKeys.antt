@@ -4,6 +4,7 @@ use Rattle.std.proofs.Common.{◌≡◌, ℕ, zero, suc, ◌-◌, ◌<◌, ◌�
 use Rattle.std.proofs.Common.{All, AllPairs, get_or, refl, sym, ap, ap₂, subst, ◌∙◌, arith, length-append}
 use Rattle.std.proofs.lemmas.Bool.{cases_lt}
 use Rattle.std.proofs.lemmas.List.{length-replicate, length-reverse, reverse-reverse}
+use Rattle.aead_ciphers_base.proofs.XorLemmas.{xor_comm}
 use Rattle.aead_ciphers_base.specs.Bytes.{◌⊕◌, zero_block}
 use Rattle.aead_ciphers.specs.Different.{DifferWhenPadded, HasInverse, zeros_before}
 use Rattle.aead_ciphers.specs.Ghash.{IsBlock, ghash, power, xor_blocks}
@@ -13,7 +14,6 @@ use Rattle.std.proofs.lemmas.List.Elements.{recursion_from_All}
 use Rattle.aead_ciphers.proofs.GhashLaws.{IsBlock-xor, Sized, Sized-ghash, Sized-power, ghash_xor, length-xor_blocks, product_comm, xor_zero}
 use Rattle.aead_ciphers.proofs.GhashPolynomial.{ghash_value, value_at}
 use Rattle.aead_ciphers.proofs.RootsOfBlocks.{EachAt, Zeros, all_zero}
-use Rattle.aead_ciphers.proofs.XorLaws.{xor_comm}
 
 -- ---- zero blocks in front
 

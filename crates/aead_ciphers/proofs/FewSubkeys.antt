@@ -1,5 +1,6 @@
 -- Few hash subkeys accept two messages that differ.
 use Rattle.std.proofs.Common.{◌≡◌, ◌≢◌, ℕ, ◌≤◌, max, List, [], length, get_or, All, AllPairs, sym, ap, ap₂, subst, ◌∙◌, arith}
+use Rattle.aead_ciphers_base.proofs.XorLemmas.{xor_exchange}
 use Rattle.aead_ciphers_base.specs.Bytes.{◌⊕◌}
 use Rattle.aead_ciphers.specs.Different.{HasInverse, masked_tag}
 use Rattle.aead_ciphers.specs.Gcm.{Fits, hashed, sealing_products}
@@ -11,7 +12,6 @@ use Rattle.aead_ciphers.proofs.DifferentMessages.{different_messages}
 use Rattle.aead_ciphers.proofs.FewHashKeys.{few_keys}
 use Rattle.aead_ciphers.proofs.GhashLaws.{IsBlock-xor, Sized, Sized-ghash, Sized-xor, xor_zero}
 use Rattle.aead_ciphers.proofs.TagInput.{Blocks-hashed, Bytes, count_hashed}
-use Rattle.aead_ciphers.proofs.XorLaws.{xor_exchange}
 
 -- one mask falls out of the XOR of two tags
 unmasked : (x y mask : List ℕ) → Sized x → Sized y → Sized mask → x ⊕ y ≡ (x ⊕ mask) ⊕ (y ⊕ mask)

@@ -3,6 +3,7 @@ use Rattle.std.proofs.Common.{◌≡◌, ℕ, zero, suc, ◌<◌, Bool, true, fa
 use Rattle.std.proofs.Common.{arith, ◌==◌, bit_xor, length-append, add-one}
 use Rattle.std.specs.Int.{bit_at}
 use Rattle.std.proofs.lemmas.Nat.Bits.{bit_at_xor, bit_at-lt}
+use Rattle.aead_ciphers_base.proofs.XorLemmas.{bytes-xor, length-xor, xor_assoc, xor_comm, xor_exchange, xor_zeros}
 use Rattle.aead_ciphers_base.specs.Polynomial.{◌xor◌, coefficient}
 use Rattle.aead_ciphers_base.specs.Bytes.{◌⊕◌, zero_block}
 use Rattle.aead_ciphers.specs.Ghash.{IsBlock, bits_high_first, block_bits, ◌•◌, unit_block, power, ghash, AllSized, xor_blocks, block_taps}
@@ -11,8 +12,6 @@ use Rattle.aead_ciphers_base.proofs.PolynomialAction.{horner-add, times_swap}
 use Rattle.aead_ciphers_base.proofs.PolynomialLaws.{modulus, one, times_one}
 use Rattle.aead_ciphers.proofs.GhashBits.{xor-parity, length-bits}
 use Rattle.aead_ciphers.proofs.GhashBlocks.{series, block_times, same_from_series, series-product, IsBlock-product, length-block_bits}
-use Rattle.aead_ciphers_base.proofs.XorLemmas.{length-xor}
-use Rattle.aead_ciphers.proofs.XorLaws.{bytes-xor, xor_comm, xor_assoc, xor_zeros, xor_exchange}
 use Rattle.aead_ciphers.proofs.ProductLoop.{block_low, zeros_end}
 
 -- ---- XOR of blocks is XOR of coefficients

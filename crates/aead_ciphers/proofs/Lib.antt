@@ -36,5 +36,4 @@ pub mod SequenceLemmas
 pub mod SquareTables
 pub mod SubkeyMultiples
 pub mod TagInput
-pub mod XorLaws
 pub mod XoredSequenceLemmas

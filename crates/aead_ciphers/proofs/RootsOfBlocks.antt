@@ -1,6 +1,7 @@
 -- A polynomial over blocks with as many roots as coefficients, whose differences have inverses, has zero coefficients only.
 use Rattle.std.proofs.Common.{◌≡◌, ℕ, suc, ◌<◌, ◌≤◌, List, [], ◌∷◌, length, get_or, AllPairs, refl, sym, ap, ap₂, ◌∙◌, arith}
 use Rattle.std.specs.List.{AllByRecursion}
+use Rattle.aead_ciphers_base.proofs.XorLemmas.{xor_assoc, xor_comm, xor_exchange}
 use Rattle.aead_ciphers_base.specs.Bytes.{◌⊕◌, zero_block}
 use Rattle.aead_ciphers.specs.Different.{HasInverse}
 use Rattle.aead_ciphers.specs.Ghash.{◌•◌}
@@ -8,7 +9,6 @@ use Rattle.aead_ciphers.proofs.BlockCancellation.{IsBlock-zero, cancel_factor, c
 use Rattle.aead_ciphers.proofs.BlockLists.{Blocks}
 use Rattle.aead_ciphers.proofs.GhashLaws.{Sized, Sized-product, Sized-xor, product_left_swap, product_xor_left, product_xor_right, xor_zero}
 use Rattle.aead_ciphers.proofs.GhashPolynomial.{IsBlock-value, value_at}
-use Rattle.aead_ciphers.proofs.XorLaws.{xor_assoc, xor_comm, xor_exchange}
 
 -- each of the list is the zero block
 abbrev pub Zeros : List (List ℕ) → Type 0

@@ -7,9 +7,9 @@ use Rattle.aead_ciphers_base.specs.Polynomial.{◌xor◌, coefficient}
 use Rattle.aead_ciphers_base.specs.ByteField.{bits_of, value_of, mul8, inv, affine}
 use Rattle.aead_ciphers_base.specs.Planes.{plane_byte, plane_polynomial}
 use Rattle.aead_ciphers_base.specs.Tower.{element, basis_4, basis_16, basis_256, plane_element}
-use Rattle.aead_ciphers_base.proofs.BitsLemmas.{all_below, same_below, bits_of-value_of, value_of-lt}
-use Rattle.aead_ciphers_base.proofs.ByteFieldLemmas.{field}
-use Rattle.aead_ciphers_base.proofs.FastProductLemmas.{by_fast_mul8}
+use Rattle.aead_ciphers_base.proofs.NumberBits.{all_below, same_below, bits_of-value_of, value_of-lt}
+use Rattle.aead_ciphers_base.proofs.ByteFieldLaws.{field}
+use Rattle.aead_ciphers_base.proofs.FastProduct.{by_fast_mul8}
 
 -- two functions agree at k bits if they do at those of each number below 2^k
 same_at_bits : (f g : List Bool → ℕ) (q : List Bool)

@@ -1,5 +1,6 @@
 -- The key schedule, word by word.
-use Rattle.std.proofs.Common.{◌≡◌, ℕ, suc, ◌+◌, ◌-◌, ◌*◌, ◌/◌, ◌%◌, ◌<◌, ◌≤◌, true, false, ◌&&◌, List, [], ◌∷◌, ◌++◌, length, take, set, refl, sym, ◌∙◌, ap, ap₂, arith, slice_index, get_or-take, map, eq-eqb, ne_eqb}
+use Rattle.std.proofs.Common.{◌≡◌, ℕ, suc, ◌+◌, ◌-◌, ◌*◌, ◌/◌, ◌%◌, ◌<◌, ◌≤◌, true, false, ◌&&◌, List, [], ◌∷◌, ◌++◌, length, take, set, refl, sym, ◌∙◌, ap}
+use Rattle.std.proofs.Common.{ap₂, arith, slice_index, get_or-take, map, eq-eqb, ne_eqb}
 use Rattle.std.specs.Prelude.{◌==◌, nat_lt}
 use Rattle.std.proofs.lemmas.List.{take_more_set}
 use Rattle.std.proofs.lemmas.List.FromFn.{map-range_with_len_more}
@@ -7,8 +8,8 @@ use Rattle.std.specs.List.{range_with_len}
 use Rattle.std.proofs.lemmas.Bool.{cond-true, cond-false, and_from, lt-ltb}
 use Rattle.aead_ciphers_base.specs.declared.aes.key_schedule.TheConstants.{ROUND_CONSTANTS}
 use Rattle.aead_ciphers_base.specs.Aes.{word, word_at, add_words, rot_word, sub_word, power_of_x, next_word, key_words}
-use Rattle.aead_ciphers_base.proofs.BitsLemmas.{all_below, same_below}
-use Rattle.aead_ciphers_base.proofs.ByteFieldLemmas.{field}
+use Rattle.aead_ciphers_base.proofs.NumberBits.{all_below, same_below}
+use Rattle.aead_ciphers_base.proofs.ByteFieldLaws.{field}
 
 constants_test : all_below (λ n. slice_index ROUND_CONSTANTS n == power_of_x n) 10 ≡ true
 unfolding field power_of_x
@@ -53,13 +54,15 @@ next_word_front nk w i hk hi =
 abbrev pub key_word : List ℕ → ℕ → List ℕ
 key_word key i = word (λ k. slice_index key (4 * i + k))
 
-key_word_is : (key : List ℕ) (i : ℕ) → (slice_index key (4 * i) ∷ slice_index key (4 * i + 1) ∷ slice_index key (4 * i + 2) ∷ slice_index key (4 * i + 3) ∷ []) ≡ key_word key i
+key_word_is : (key : List ℕ) (i : ℕ) → (slice_index key (4 * i) ∷ slice_index key (4 * i + 1) ∷ slice_index key (4 * i + 2) ∷ slice_index key (4 * i + 3)
+    ∷ []) ≡ key_word key i
 key_word_is key i =
     let e : 4 * i ≡ 4 * i + 0 = omega arith in
     ap (λ t. slice_index key t ∷ slice_index key (4 * i + 1) ∷ slice_index key (4 * i + 2) ∷ slice_index key (4 * i + 3) ∷ []) e
 
 pub first_word_step : (key : List ℕ) (words : List (List ℕ)) (i : ℕ) → i < length words → take i words ≡ map (key_word key) (range_with_len 0 i)
-    → take (i + 1) (set words i (slice_index key (4 * i) ∷ slice_index key (4 * i + 1) ∷ slice_index key (4 * i + 2) ∷ slice_index key (4 * i + 3) ∷ [])) ≡ map (key_word key) (range_with_len 0 (i + 1))
+    → take (i + 1) (set words i (slice_index key (4 * i) ∷ slice_index key (4 * i + 1) ∷ slice_index key (4 * i + 2) ∷ slice_index key (4 * i + 3) ∷ []))
+    ≡ map (key_word key) (range_with_len 0 (i + 1))
 first_word_step key words i lt e =
     take_more_set words i _ lt ∙ ap₂ (λ t v. t ++ v ∷ []) e (key_word_is key i) ∙ sym (map-range_with_len_more (key_word key) 0 i i (omega arith))
 

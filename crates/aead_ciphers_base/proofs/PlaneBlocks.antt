@@ -1,5 +1,6 @@
 -- Blocks byte by byte, and what the steps on planes do to each of the four.
-use Rattle.std.proofs.Common.{◌≡◌, ℕ, zero, suc, ◌+◌, ◌*◌, ◌/◌, ◌%◌, ◌<◌, List, length, refl, sym, ap, ap₂, ◌∙◌, arith, bit_xor, slice_index, slice_index_or, []}
+use Rattle.std.proofs.Common.{◌≡◌, ℕ, zero, suc, ◌+◌, ◌*◌, ◌/◌, ◌%◌, ◌<◌, List, length, refl, sym, ap, ap₂, ◌∙◌, arith, bit_xor, slice_index}
+use Rattle.std.proofs.Common.{slice_index_or, []}
 use Rattle.std.proofs.lemmas.List.FromFn.{fill_by_all, get_or-map-range_with_len}
 use Rattle.aead_ciphers_base.specs.ByteField.{sbox, mul8}
 use Rattle.aead_ciphers_base.specs.Aes.{at, state, sub_bytes, shift_rows, mixed, mix_columns, add_round_key, word_at}
@@ -42,12 +43,14 @@ module _ (old new : List ℕ) (k : ℕ) (hk : k < 4) where
       let e : shifted_from (16 * k + (r + 4 * c)) ≡ 16 * k + (r + 4 * ((c + r) % 4)) = omega arith in
       h p (omega arith) ∙ ap (plane_byte old) e ∙ sym (at_old r ((c + r) % 4) hr (omega arith)))
 
-  pub mix_block : ((p : ℕ) → p < 64 → plane_byte new p ≡ mixed (plane_byte old p) (plane_byte old (below p 1)) (plane_byte old (below p 2)) (plane_byte old (below p 3)))
+  pub mix_block : ((p : ℕ) → p < 64 → plane_byte new p ≡ mixed (plane_byte old p) (plane_byte old (below p 1)) (plane_byte old (below p 2))
+      (plane_byte old (below p 3)))
       → plane_block new k ≡ mix_columns (plane_block old k)
   unfolding mix_columns plane_block
   mix_block h =
       state_same (λ r c. plane_byte new (16 * k + (r + 4 * c)))
-      (λ r c. mixed (at (plane_block old k) r c) (at (plane_block old k) ((r + 1) % 4) c) (at (plane_block old k) ((r + 2) % 4) c) (at (plane_block old k) ((r + 3) % 4) c))
+      (λ r c. mixed (at (plane_block old k) r c) (at (plane_block old k) ((r + 1) % 4) c) (at (plane_block old k) ((r + 2) % 4) c) (at (plane_block old k)
+      ((r + 3) % 4) c))
       (λ r c hr hc.
       let place : (i : ℕ) → below (16 * k + (r + 4 * c)) i ≡ 16 * k + ((r + i) % 4 + 4 * c) = λ i. omega arith in
       let there : (i : ℕ) → plane_byte old (below (16 * k + (r + 4 * c)) i) ≡ at (plane_block old k) ((r + i) % 4) c =
@@ -55,7 +58,8 @@ module _ (old new : List ℕ) (k : ℕ) (hk : k < 4) where
       h (16 * k + (r + 4 * c)) (omega arith) ∙ ap₂ bit_xor
       (ap₂ bit_xor (ap₂ (λ s t. bit_xor (mul8 2 s) (mul8 3 t)) (sym (at_old r c hr hc)) (there 1)) (there 2)) (there 3))
 
-  pub add_block : (keys w : List (List ℕ)) (j n : ℕ) → HoldsWords keys w n → j < n → ((p : ℕ) → plane_byte new p ≡ bit_xor (plane_byte old p) (plane_byte (slice_index_or keys j []) p))
+  pub add_block : (keys w : List (List ℕ)) (j n : ℕ) → HoldsWords keys w n → j < n → ((p : ℕ)
+      → plane_byte new p ≡ bit_xor (plane_byte old p) (plane_byte (slice_index_or keys j []) p))
       → plane_block new k ≡ add_round_key w j (plane_block old k)
   unfolding add_round_key plane_block
   add_block keys w j n holds hj h =
@@ -72,7 +76,8 @@ pub packed_block : (planes : List ℕ) (blocks : List (List ℕ)) (w : List (Lis
 unfolding plane_block add_round_key
 packed_block planes blocks w k hk h =
     let b = slice_index_or blocks k [] in
-    state_same (λ r c. bit_xor (at (plane_block planes k) r c) (slice_index (word_at w (4 * 0 + c)) r)) (λ r c. bit_xor (at b r c) (slice_index (word_at w (4 * 0 + c)) r))
+    state_same (λ r c. bit_xor (at (plane_block planes k) r c) (slice_index (word_at w (4 * 0 + c)) r)) (λ r c. bit_xor (at b r c)
+    (slice_index (word_at w (4 * 0 + c)) r))
     (λ r c hr hc.
     let block : (16 * k + (r + 4 * c)) / 16 ≡ k = omega arith in
     let place : (16 * k + (r + 4 * c)) % 16 ≡ r + 4 * c = omega arith in

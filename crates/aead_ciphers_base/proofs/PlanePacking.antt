@@ -1,9 +1,12 @@
 -- The transpositions by which four blocks become eight planes.
-use Rattle.std.proofs.Common.{min, set, below_more, get_or-set_other, get_or-set_same, ne_eqb, ◌≡◌, ℕ, zero, suc, ◌+◌, ◌-◌, ◌*◌, ◌/◌, ◌%◌, ◌^◌, ◌<◌, ◌≤◌, Bool, true, false, ◌&&◌, List, [], ◌++◌, length, take, drop, refl, sym, ap, ap₂, ◌∙◌, arith, inl, inr, bit_xor, bit_and, slice_index, slice_index_or, nat_lt, if◌then◌else◌, div-one}
+use Rattle.std.proofs.Common.{min, set, below_more, get_or-set_other, get_or-set_same, ne_eqb, ◌≡◌, ℕ, zero, suc, ◌+◌, ◌-◌, ◌*◌, ◌/◌, ◌%◌, ◌^◌, ◌<◌, ◌≤◌}
+use Rattle.std.proofs.Common.{Bool, true, false, ◌&&◌, List, [], ◌++◌, length, take, drop, refl, sym, ap, ap₂, ◌∙◌, arith, inl, inr, bit_xor, bit_and}
+use Rattle.std.proofs.Common.{slice_index, slice_index_or, nat_lt, if◌then◌else◌, div-one}
 use Rattle.std.specs.Prelude.{◌==◌}
 use Rattle.std.specs.Int.{bit_at, w64, to_le_bytes, from_le_bytes}
 use Rattle.std.proofs.lemmas.Nat.{shr-shr, pow_pos, le_bytes_8}
-use Rattle.std.proofs.lemmas.List.{get_or_append_left, get_or-append_right, get_or-take, get_or-drop, get_or_past, length-take, length-take-le, length-drop, take_all, take-append-drop}
+use Rattle.std.proofs.lemmas.List.{get_or_append_left, get_or-append_right, get_or-take, get_or-drop, get_or_past, length-take, length-take-le, length-drop}
+use Rattle.std.proofs.lemmas.List.{take_all, take-append-drop}
 use Rattle.std.proofs.lemmas.Nat.Bits.{bit_at_xor, bit_at_and, bit_at-lt, bit_at_cat_low, bit_at_cat_high, bit_at-zero}
 use Rattle.std.proofs.lemmas.Bool.{cases_lt, cond-true, cond-false, eq-eqb, ltb-true, lt-ltb, le-ltb}
 use Rattle.std.proofs.Math.Bool.{and-false}
@@ -11,10 +14,11 @@ use Rattle.aead_ciphers_base.specs.Polynomial.{◌xor◌, polynomial}
 use Rattle.aead_ciphers_base.specs.ByteField.{bits_of, value_of}
 use Rattle.aead_ciphers_base.specs.Planes.{plane_byte, plane_block, word_bit, exchanged_from}
 use Rattle.aead_ciphers_base.specs.declared.aes.pack.TheConstants.{LOW, EIGHTHS}
-use Rattle.aead_ciphers_base.proofs.BitsLemmas.{all_below, all_below_at, same_below, value_of-bits_of, length-bits_of}
-use Rattle.aead_ciphers_base.proofs.PolynomialLemmas.{same_polynomials, coefficient-polynomial}
-use Rattle.aead_ciphers_base.proofs.PlaneLemmas.{set-xor, set-and, bits_of_at}
-use Rattle.aead_ciphers_base.proofs.BlockLemmas.{state_is, by_four}
+use Rattle.aead_ciphers_base.proofs.PolynomialBits.{xor_comm}
+use Rattle.aead_ciphers_base.proofs.NumberBits.{by_digit, by_digits, all_below, all_below_at, same_below, value_of-bits_of, length-bits_of}
+use Rattle.aead_ciphers_base.proofs.PolynomialSums.{same_polynomials, coefficient-polynomial}
+use Rattle.aead_ciphers_base.proofs.PlaneBits.{set-xor, set-and, bits_of_at}
+use Rattle.aead_ciphers_base.proofs.PlaneBlocks.{state_is, by_four}
 
 bit_at-shr : (x s q : ℕ) → bit_at (x / 2 ^ s) q ≡ bit_at x (q + s)
 bit_at-shr x s q = let e : s + q ≡ q + s = omega arith in ap (λ t. t % 2) (shr-shr x s q) ∙ ap (bit_at x) e
@@ -61,13 +65,7 @@ lower_is k q hk hq =
 
 -- a digit is known by whether it is one
 digit_from : (x y : ℕ) → x < 2 → y < 2 → (x == 1) ≡ (y == 1) → x ≡ y
-digit_from zero zero hx hy e = refl
-digit_from zero (suc zero) hx hy e = cc
-digit_from (suc zero) zero hx hy e = cc
-digit_from (suc zero) (suc zero) hx hy e = refl
-digit_from zero (suc (suc y)) hx hy e = absurd (omega arith)
-digit_from (suc zero) (suc (suc y)) hx hy e = absurd (omega arith)
-digit_from (suc (suc x)) y hx hy e = absurd (omega arith)
+digit_from x y hx hy = by_digits (λ x y. (x == 1) ≡ (y == 1) → x ≡ y) x y hx hy (λ _. refl) (λ e. cc) (λ e. cc) (λ _. refl)
 
 chosen_digit : (c : Bool) (x y z : ℕ) → x < 2 → y < 2 → z < 2 → (z == 1) ≡ (if c then x == 1 else y == 1) → z ≡ (if c then x else y)
 chosen_digit true x y z hx hy hz e = digit_from z x hz hx e
@@ -85,14 +83,8 @@ first_choice false false (suc zero) h = refl
 first_choice a b (suc (suc d)) h = absurd (omega arith)
 
 second_choice : (a b : Bool) (d : ℕ) → d < 2 → (b xor ((a xor b) && (1 - d == 1))) ≡ (if d == 0 then a else b)
-second_choice true true zero h = refl
-second_choice true false zero h = refl
-second_choice false true zero h = refl
-second_choice false false zero h = refl
-second_choice true true (suc zero) h = refl
-second_choice true false (suc zero) h = refl
-second_choice false true (suc zero) h = refl
-second_choice false false (suc zero) h = refl
+second_choice a b zero h = ap (λ t. b xor (t && true)) (xor_comm a b) ∙ first_choice b a 1 (omega arith)
+second_choice a b (suc zero) h = ap (λ t. b xor (t && false)) (xor_comm a b) ∙ first_choice b a 0 (omega arith)
 second_choice a b (suc (suc d)) h = absurd (omega arith)
 
 module _ (a b k q : ℕ) (hk : k < 6) (hq : q < 64) where
@@ -106,7 +98,8 @@ module _ (a b k q : ℕ) (hk : k < 6) (hq : q < 64) where
 
   pub delta_swap_second : bit_at (bit_xor b moved) q ≡ (if bit_at q k == 0 then bit_at a (q + 2 ^ k) else bit_at b q)
   delta_swap_second =
-      chosen_digit (bit_at q k == 0) (bit_at a (q + 2 ^ k)) (bit_at b q) (bit_at (bit_xor b moved) q) (bit_at-lt a (q + 2 ^ k)) (bit_at-lt b q) (bit_at-lt (bit_xor b moved) q)
+      chosen_digit (bit_at q k == 0) (bit_at a (q + 2 ^ k)) (bit_at b q) (bit_at (bit_xor b moved) q) (bit_at-lt a (q + 2 ^ k)) (bit_at-lt b q)
+      (bit_at-lt (bit_xor b moved) q)
       (set-xor b moved q ∙ ap (λ t. (bit_at b q == 1) xor t) (moved_bit q hq)
       ∙ second_choice (bit_at a (q + 2 ^ k) == 1) (bit_at b q == 1) (bit_at q k) (bit_at-lt q k))
 
@@ -129,7 +122,8 @@ module _ (a b k q : ℕ) (hk : k < 6) (hq : q < 64) where
 
   pub delta_swap_first : bit_at (bit_xor a shifted) q ≡ (if bit_at q k == 0 then bit_at a q else bit_at b (q - 2 ^ k))
   delta_swap_first =
-      chosen_digit (bit_at q k == 0) (bit_at a q) (bit_at b (q - 2 ^ k)) (bit_at (bit_xor a shifted) q) (bit_at-lt a q) (bit_at-lt b (q - 2 ^ k)) (bit_at-lt (bit_xor a shifted) q)
+      chosen_digit (bit_at q k == 0) (bit_at a q) (bit_at b (q - 2 ^ k)) (bit_at (bit_xor a shifted) q) (bit_at-lt a q) (bit_at-lt b (q - 2 ^ k))
+      (bit_at-lt (bit_xor a shifted) q)
       (set-xor a shifted q ∙ ap (λ t. (bit_at a q == 1) xor t) shifted_bit
       ∙ first_choice (bit_at a q == 1) (bit_at b (q - 2 ^ k) == 1) (bit_at q k) (bit_at-lt q k))
 
@@ -157,11 +151,6 @@ word_bit-at w i q h =
 word_bit_is : (w : List ℕ) (n i q : ℕ) → n / 64 ≡ i → n % 64 ≡ q → word_bit w n ≡ bit_at (slice_index w i) q
 unfolding word_bit
 word_bit_is w n i q word place = ap₂ (λ j t. bit_at (slice_index w j) t) word place
-
-by_digit : (P : ℕ → Type 0) (d : ℕ) → d < 2 → (d ≡ 0 → P 0) → (d ≡ 1 → P 1) → P d
-by_digit P zero h zero_case one_case = zero_case refl
-by_digit P (suc zero) h zero_case one_case = one_case refl
-by_digit P (suc (suc d)) h zero_case one_case = absurd (omega arith)
 
 -- words 2 i and 2 i + 1 of r are those that `delta_swap` makes of words i and i + 4 of w
 abbrev pub FirstOf : List ℕ → List ℕ → ℕ → ℕ → Type 0
@@ -192,13 +181,15 @@ module _ (w r : List ℕ) (k : ℕ) (hk : k < 6) (first0 : FirstOf w r k 0) (sec
       by_digit (λ h. n / 64 % 2 ≡ h → word_bit r n ≡ word_bit w (exchanged_from k n)) (n / 64 % 2) (omega arith)
       (λ _ eh.
       word_bit_is r n (2 * (n / 128)) (n % 64) (omega arith) refl ∙ firsts (n / 128) (omega arith) (n % 64) (omega arith)
-      ∙ by_digit (λ d. (if d == 0 then bit_at (slice_index w (n / 128)) (n % 64) else bit_at (slice_index w (n / 128 + 4)) (n % 64 - 2 ^ k)) ≡ word_bit w (exchanged_from k n))
+      ∙ by_digit (λ d. (if d == 0 then bit_at (slice_index w (n / 128)) (n % 64) else bit_at (slice_index w (n / 128 + 4)) (n % 64 - 2 ^ k))
+      ≡ word_bit w (exchanged_from k n))
       (bit_at (n % 64) k) (bit_at-lt (n % 64) k)
       (λ ed. exchanged_at n 0 0 (n / 128) (n % 64) hn (digit ∙ ed) eh (omega arith) (omega arith) (omega arith))
       (λ ed. exchanged_at n 1 0 (n / 128 + 4) (n % 64 - 2 ^ k) hn (digit ∙ ed) eh (omega arith) (omega arith) (omega arith)))
       (λ _ eh.
       word_bit_is r n (2 * (n / 128) + 1) (n % 64) (omega arith) refl ∙ seconds (n / 128) (omega arith) (n % 64) (omega arith)
-      ∙ by_digit (λ d. (if d == 0 then bit_at (slice_index w (n / 128)) (n % 64 + 2 ^ k) else bit_at (slice_index w (n / 128 + 4)) (n % 64)) ≡ word_bit w (exchanged_from k n))
+      ∙ by_digit (λ d. (if d == 0 then bit_at (slice_index w (n / 128)) (n % 64 + 2 ^ k) else bit_at (slice_index w (n / 128 + 4)) (n % 64))
+      ≡ word_bit w (exchanged_from k n))
       (bit_at (n % 64) k) (bit_at-lt (n % 64) k)
       (λ ed. exchanged_at n 0 1 (n / 128) (n % 64 + 2 ^ k) hn (digit ∙ ed) eh (omega arith) (omega arith) (upper_lt k (n % 64) hk (omega arith) ed))
       (λ ed. exchanged_at n 1 1 (n / 128 + 4) (n % 64) hn (digit ∙ ed) eh (omega arith) (omega arith) (omega arith)))
@@ -271,7 +262,8 @@ plane_byte_from planes p n hn h =
     let small : i < 8 = omega (arith, length-bits_of 8 n) in
     bits_of_at 8 n i small ∙ ap (λ t. t == 1) (h i small) ∙ sym (coefficient-polynomial 8 (λ b. bit_at (slice_index planes b) p == 1) i small)))
 
-byte_of_planes : (words planes : List ℕ) → IsPacked words planes → (p : ℕ) → p < 64 → slice_index (to_le_bytes w64 (slice_index words (p / 8))) (p % 8) ≡ plane_byte planes p
+byte_of_planes : (words planes : List ℕ) → IsPacked words planes → (p : ℕ) → p < 64 → slice_index (to_le_bytes w64 (slice_index words (p / 8))) (p % 8)
+    ≡ plane_byte planes p
 byte_of_planes words planes packed p hp =
     let n = slice_index (to_le_bytes w64 (slice_index words (p / 8))) (p % 8) in
     let size = byte_is (slice_index words (p / 8)) (p % 8) (omega arith) in
@@ -319,7 +311,8 @@ packed_byte words turned planes blocks bytes bits held0 held1 held2 held3 p hp =
     let place : p ≡ 16 * (p / 16) + p % 16 = omega arith in
     let packed : IsPacked words planes = λ q b hq hb.
     let one : (64 * b + q) % 8 * 64 + (64 * b + q) / 8 % 8 * 8 + (64 * b + q) / 64 ≡ q % 8 * 64 + q / 8 * 8 + b = omega arith in
-    let other : (q % 8 * 64 + q / 8 * 8 + b) / 8 % 8 * 64 + (q % 8 * 64 + q / 8 * 8 + b) / 64 * 8 + (q % 8 * 64 + q / 8 * 8 + b) % 8 ≡ 8 * q + b = omega arith in
+    let other : (q % 8 * 64 + q / 8 * 8 + b) / 8 % 8 * 64 + (q % 8 * 64 + q / 8 * 8 + b) / 64 * 8 + (q % 8 * 64 + q / 8 * 8 + b) % 8
+    ≡ 8 * q + b = omega arith in
     bits (64 * b + q) (omega arith) ∙ ap (word_bit turned) one ∙ bytes (q % 8 * 64 + q / 8 * 8 + b) (omega arith) ∙ ap (word_bit words) other in
     ap (plane_byte planes) place ∙ sym (byte_of_block words planes packed (p / 16) (p % 16) (omega arith) (omega arith))
     ∙ ap (λ b. slice_index b (p % 16)) (by_four (HoldsBlock words blocks) held0 held1 held2 held3 (p / 16) (omega arith))
@@ -331,10 +324,12 @@ unfolding plane_block
 unpacked_block planes turned words blocks bits bytes held0 held1 held2 held3 k hk =
     let packed : IsPacked words planes = λ q b hq hb.
     let one : (8 * q + b) / 8 % 8 * 64 + (8 * q + b) / 64 * 8 + (8 * q + b) % 8 ≡ q % 8 * 64 + q / 8 * 8 + b = omega arith in
-    let other : (q % 8 * 64 + q / 8 * 8 + b) % 8 * 64 + (q % 8 * 64 + q / 8 * 8 + b) / 8 % 8 * 8 + (q % 8 * 64 + q / 8 * 8 + b) / 64 ≡ 64 * b + q = omega arith in
+    let other : (q % 8 * 64 + q / 8 * 8 + b) % 8 * 64 + (q % 8 * 64 + q / 8 * 8 + b) / 8 % 8 * 8 + (q % 8 * 64 + q / 8 * 8 + b) / 64
+    ≡ 64 * b + q = omega arith in
     sym (bytes (8 * q + b) (omega arith) ∙ ap (word_bit turned) one ∙ bits (q % 8 * 64 + q / 8 * 8 + b) (omega arith) ∙ ap (word_bit planes) other) in
     sym (by_four (HoldsBlock words blocks) held0 held1 held2 held3 k hk)
-    ∙ state_is (λ r c. plane_byte planes (16 * k + (r + 4 * c))) (to_le_bytes w64 (slice_index words (2 * k)) ++ to_le_bytes w64 (slice_index words (2 * k + 1))) refl
+    ∙ state_is (λ r c. plane_byte planes (16 * k + (r + 4 * c))) (to_le_bytes w64 (slice_index words (2 * k))
+    ++ to_le_bytes w64 (slice_index words (2 * k + 1))) refl
     (λ j hj.
     let place : 16 * k + j ≡ 16 * k + (j % 4 + 4 * (j / 4)) = omega arith in
     byte_of_block words planes packed k j hk hj ∙ ap (plane_byte planes) place)
@@ -392,7 +387,8 @@ abbrev pub IsGathered : List ℕ → ℕ → ℕ → Type 0
 IsGathered planes word b = (i : ℕ) → i < 64
     → (i % 8 < b → bit_at word i ≡ bit_at (slice_index planes (i % 8)) (i - i % 8)) × (b ≤ i % 8 → bit_at word i ≡ 0)
 
-pub gathered_more : (planes : List ℕ) (word b : ℕ) → b < 8 → IsGathered planes word b → IsGathered planes (bit_xor word (placed (slice_index planes b) b)) (b + 1)
+pub gathered_more : (planes : List ℕ) (word b : ℕ) → b < 8 → IsGathered planes word b → IsGathered planes (bit_xor word (placed (slice_index planes b) b))
+    (b + 1)
 gathered_more planes word b hb before = λ i hi.
     let plane = slice_index planes b in
     let sum = λ (x y : ℕ) (ex : bit_at word i ≡ x) (ey : bit_at (placed plane b) i ≡ y).

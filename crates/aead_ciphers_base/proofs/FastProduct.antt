@@ -3,8 +3,8 @@ use Rattle.std.proofs.Common.{◌≡◌, ℕ, [], ◌∷◌, zero, suc, ◌*◌,
 use Rattle.std.specs.Prelude.{◌==◌}
 use Rattle.aead_ciphers_base.specs.Polynomial.{field_product}
 use Rattle.aead_ciphers_base.specs.ByteField.{value_of, mul8}
-use Rattle.aead_ciphers_base.proofs.BitsLemmas.{all_below, same_below, IsAdditive_zero, bits_of-mod}
-use Rattle.aead_ciphers_base.proofs.ByteFieldLemmas.{field, mul8_lt, mul8_comm, mul8_assoc, one-mul8, mul8-xor_right, two_is}
+use Rattle.aead_ciphers_base.proofs.NumberBits.{all_below, same_below, IsAdditive_zero, bits_of-mod}
+use Rattle.aead_ciphers_base.proofs.ByteFieldLaws.{field, mul8_lt, mul8_comm, mul8_assoc, one-mul8, mul8-xor_right, two_is}
 
 halves_test : all_below (λ z. bit_xor (mul8 2 (z / 2)) (z % 2) == z) 256 ≡ true
 unfolding field

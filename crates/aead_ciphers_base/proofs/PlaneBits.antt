@@ -1,5 +1,6 @@
 -- Operations on planes, seen at one byte.
-use Rattle.std.proofs.Common.{◌≡◌, ℕ, zero, suc, ◌+◌, ◌/◌, ◌%◌, ◌^◌, ◌<◌, min, Bool, true, ◌&&◌, List, [], ◌∷◌, refl, sym, ap, ◌∙◌, arith, bit_xor, bit_and, slice_index, div-one}
+use Rattle.std.proofs.Common.{◌≡◌, ℕ, zero, suc, ◌+◌, ◌/◌, ◌%◌, ◌^◌, ◌<◌, min, Bool, true, ◌&&◌, List, [], ◌∷◌, refl, sym, ap, ◌∙◌, arith, bit_xor, bit_and}
+use Rattle.std.proofs.Common.{slice_index, div-one}
 use Rattle.std.specs.Prelude.{◌==◌}
 use Rattle.std.specs.Int.{bit_at}
 use Rattle.std.proofs.lemmas.Nat.{shr-shr}
@@ -7,28 +8,16 @@ use Rattle.std.proofs.lemmas.Nat.Bits.{bit_at_xor, bit_at_and, bit_at-lt, bit_at
 use Rattle.aead_ciphers_base.specs.Polynomial.{◌xor◌, coefficient, polynomial}
 use Rattle.aead_ciphers_base.specs.ByteField.{bits_of, value_of, mul8}
 use Rattle.aead_ciphers_base.specs.Planes.{plane_byte}
-use Rattle.aead_ciphers_base.proofs.BitsLemmas.{bits_of-value_of, value_of-lt, all_below, same_below}
-use Rattle.aead_ciphers_base.proofs.ByteFieldLemmas.{field}
+use Rattle.aead_ciphers_base.proofs.NumberBits.{by_digits, bits_of-value_of, value_of-lt, all_below, same_below}
+use Rattle.aead_ciphers_base.proofs.ByteFieldLaws.{field}
 
 -- ---- one bit
 
 sum_digit : (x y : ℕ) → x < 2 → y < 2 → ((x + y) % 2 == 1) ≡ ◌xor◌ (x == 1) (y == 1)
-sum_digit zero zero hx hy = refl
-sum_digit zero (suc zero) hx hy = refl
-sum_digit (suc zero) zero hx hy = refl
-sum_digit (suc zero) (suc zero) hx hy = refl
-sum_digit (suc (suc x)) y hx hy = absurd (omega arith)
-sum_digit zero (suc (suc y)) hx hy = absurd (omega arith)
-sum_digit (suc zero) (suc (suc y)) hx hy = absurd (omega arith)
+sum_digit x y hx hy = by_digits (λ x y. ((x + y) % 2 == 1) ≡ ◌xor◌ (x == 1) (y == 1)) x y hx hy refl refl refl refl
 
 min_digit : (x y : ℕ) → x < 2 → y < 2 → (min x y == 1) ≡ ((x == 1) && (y == 1))
-min_digit zero zero hx hy = refl
-min_digit zero (suc zero) hx hy = refl
-min_digit (suc zero) zero hx hy = refl
-min_digit (suc zero) (suc zero) hx hy = refl
-min_digit (suc (suc x)) y hx hy = absurd (omega arith)
-min_digit zero (suc (suc y)) hx hy = absurd (omega arith)
-min_digit (suc zero) (suc (suc y)) hx hy = absurd (omega arith)
+min_digit x y hx hy = by_digits (λ x y. (min x y == 1) ≡ ((x == 1) && (y == 1))) x y hx hy refl refl refl refl
 
 -- XOR and AND keep each bit apart from the others
 pub set-xor : (a b p : ℕ) → (bit_at (bit_xor a b) p == 1) ≡ ◌xor◌ (bit_at a p == 1) (bit_at b p == 1)

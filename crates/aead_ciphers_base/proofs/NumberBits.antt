@@ -1,21 +1,26 @@
 -- Numbers and their bits: both ways between them keep sums.
-use Rattle.std.proofs.Common.{◌≡◌, ℕ, zero, suc, ◌+◌, ◌-◌, ◌*◌, ◌/◌, ◌%◌, ◌^◌, ◌<◌, ◌≤◌, Bool, true, false, ◌&&◌, List, [], ◌∷◌, length, refl, sym, ap, ap₂, ◌∙◌, arith, inl, inr, bit_xor, if◌then◌else◌, pow-suc}
+use Rattle.std.proofs.Common.{◌≡◌, ℕ, zero, suc, ◌+◌, ◌-◌, ◌*◌, ◌/◌, ◌%◌, ◌^◌, ◌<◌, ◌≤◌, Bool, true, false, ◌&&◌, List, [], ◌∷◌, length, refl, sym, ap, ap₂}
+use Rattle.std.proofs.Common.{◌∙◌, arith, inl, inr, bit_xor, if◌then◌else◌, pow-suc}
 use Rattle.std.specs.Prelude.{◌==◌}
 use Rattle.std.specs.Int.Bits.{xor_shr, xor_mod, xor_block, xor_shifted, xor_self as bit_xor_self}
 use Rattle.std.proofs.lemmas.Nat.{field_of, mod-pow-add}
 use Rattle.std.proofs.lemmas.Bool.{cases_lt, and_parts, eqb-true}
 use Rattle.aead_ciphers_base.specs.Polynomial.{◌xor◌}
 use Rattle.aead_ciphers_base.specs.ByteField.{bits_of, value_of}
-use Rattle.aead_ciphers_base.proofs.PolynomialLemmas.{polynomial_sum}
+use Rattle.aead_ciphers_base.proofs.PolynomialSums.{polynomial_sum}
+
+-- what holds at 0 and at 1 holds at each digit
+pub by_digit : (P : ℕ → Type 0) (d : ℕ) → d < 2 → (d ≡ 0 → P 0) → (d ≡ 1 → P 1) → P d
+by_digit P zero h zero_case one_case = zero_case refl
+by_digit P (suc zero) h zero_case one_case = one_case refl
+by_digit P (suc (suc d)) h zero_case one_case = absurd (omega arith)
+
+pub by_digits : (P : ℕ → ℕ → Type 0) (x y : ℕ) → x < 2 → y < 2 → P 0 0 → P 0 1 → P 1 0 → P 1 1 → P x y
+by_digits P x y hx hy p₀₀ p₀₁ p₁₀ p₁₁ = by_digit (λ d. P d y) x hx
+    (λ _. by_digit (P 0) y hy (λ _. p₀₀) (λ _. p₀₁)) (λ _. by_digit (P 1) y hy (λ _. p₁₀) (λ _. p₁₁))
 
 digit-xor : (x y : ℕ) → x < 2 → y < 2 → (bit_xor x y == 1) ≡ ◌xor◌ (x == 1) (y == 1)
-digit-xor zero zero hx hy = refl
-digit-xor zero (suc zero) hx hy = refl
-digit-xor (suc zero) zero hx hy = refl
-digit-xor (suc zero) (suc zero) hx hy = refl
-digit-xor (suc (suc x)) y hx hy = absurd (omega arith)
-digit-xor zero (suc (suc y)) hx hy = absurd (omega arith)
-digit-xor (suc zero) (suc (suc y)) hx hy = absurd (omega arith)
+digit-xor x y hx hy = by_digits (λ x y. (bit_xor x y == 1) ≡ ◌xor◌ (x == 1) (y == 1)) x y hx hy refl refl refl refl
 
 pub length-bits_of : (k n : ℕ) → length (bits_of k n) ≡ k
 length-bits_of zero n = refl

@@ -3,8 +3,9 @@ use Rattle.std.proofs.Common.{◌≡◌, ℕ, ◌*◌, ◌/◌, ◌%◌, ◌^◌
 use Rattle.std.specs.Prelude.{◌==◌}
 use Rattle.aead_ciphers_base.specs.Polynomial.{field_product, polynomial_product, reduced, without_highests, without_highest}
 use Rattle.aead_ciphers_base.specs.ByteField.{bits_of, value_of, mul8, inv, affine, sbox}
-use Rattle.aead_ciphers_base.proofs.PolynomialLemmas.{polynomial_product-add_left, polynomial_product-add_right, reduced-add, length-polynomial_product, length-reduced}
-use Rattle.aead_ciphers_base.proofs.BitsLemmas.{bits_of-xor, value_of-add, value_of-lt, IsAdditive, same_additive, all_below, all_below_at, same_below}
+use Rattle.aead_ciphers_base.proofs.PolynomialSums.{polynomial_product-add_left, polynomial_product-add_right, reduced-add, length-polynomial_product}
+use Rattle.aead_ciphers_base.proofs.PolynomialSums.{length-reduced}
+use Rattle.aead_ciphers_base.proofs.NumberBits.{bits_of-xor, value_of-add, value_of-lt, IsAdditive, same_additive, all_below, all_below_at, same_below}
 
 -- `unfolding field` lets `refl` compute in the field
 unfoldable pub field : Unit {0}

@@ -1,8 +1,8 @@
 -- The product and the reduction keep sums.
 use Rattle.std.proofs.Common.{◌≡◌, ℕ, zero, suc, ◌+◌, ◌-◌, ◌<◌, ◌≤◌, Bool, false, ◌&&◌, List, [], ◌∷◌, length, refl, sym, ap, ap₂, ◌∙◌, arith, ext_get_or}
-use Rattle.std.proofs.lemmas.List.FromFn.{get_or-map-range_with_len, length-map-range_with_len}
 use Rattle.std.specs.List.{list_any}
 use Rattle.std.specs.Prelude.{◌==◌}
+use Rattle.aead_ciphers_base.proofs.EachLemmas.{each-same, get_or-each, length-each}
 use Rattle.aead_ciphers_base.proofs.PolynomialBits.{xor_zero, xor_exchange, and_xor, xor_and}
 use Rattle.aead_ciphers_base.specs.Polynomial.{◌xor◌, xor_sum, coefficient, polynomial, polynomial_product, without_highest, without_highests, reduced}
 
@@ -18,20 +18,16 @@ xor_sum-same (suc n) f g h = ap₂ ◌xor◌ (xor_sum-same n f g (λ i lt. h i (
 -- ---- coefficients
 
 pub coefficient-polynomial : (n : ℕ) (f : ℕ → Bool) (i : ℕ) → i < n → coefficient (polynomial n f) i ≡ f i
-coefficient-polynomial n f i h = get_or-map-range_with_len f 0 n i i false h (omega arith)
+coefficient-polynomial n f i h = get_or-each n f i false h
 
 pub length-polynomial : (n : ℕ) (f : ℕ → Bool) → length (polynomial n f) ≡ n
-length-polynomial n f = length-map-range_with_len f 0 n
+length-polynomial n f = length-each n f
 
 pub same_polynomials : (p q : List Bool) → length p ≡ length q → ((i : ℕ) → i < length p → coefficient p i ≡ coefficient q i) → p ≡ q
 same_polynomials p q e h = ext_get_or false p q e h
 
 pub same-polynomial : (n : ℕ) (f g : ℕ → Bool) → ((i : ℕ) → i < n → f i ≡ g i) → polynomial n f ≡ polynomial n g
-same-polynomial n f g h =
-    same_polynomials (polynomial n f) (polynomial n g) (length-polynomial n f ∙ sym (length-polynomial n g))
-    (λ i lt.
-    let le : i < n = omega (arith, length-polynomial n f) in
-    coefficient-polynomial n f i le ∙ h i le ∙ sym (coefficient-polynomial n g i le))
+same-polynomial n f g h = each-same n f g h
 
 -- ---- sums of polynomials
 
@@ -71,7 +67,8 @@ pub length-polynomial_product : (a b : List Bool) → length (polynomial_product
 unfolding polynomial_product
 length-polynomial_product a b = length-polynomial _ _
 
-pub polynomial_product-add_right : (a b c : List Bool) → length b ≡ length c → polynomial_product a (polynomial_sum b c) ≡ polynomial_sum (polynomial_product a b) (polynomial_product a c)
+pub polynomial_product-add_right : (a b c : List Bool) → length b ≡ length c → polynomial_product a (polynomial_sum b c)
+    ≡ polynomial_sum (polynomial_product a b) (polynomial_product a c)
 unfolding polynomial_product
 polynomial_product-add_right a b c e =
     let ls = length-polynomial_sum b c e in
@@ -84,9 +81,11 @@ polynomial_product-add_right a b c e =
     (λ i _. ap (λ t. coefficient a i && t) (coefficient-polynomial_sum b c (k - i)) ∙ and_xor (coefficient a i) (coefficient b (k - i)) (coefficient c (k - i)))
     ∙ xor_sum-add (suc k) (term b k) (term c k))
     ∙ polynomial-add (length a + length c - 1) (λ k. xor_sum (suc k) (term b k)) (λ k. xor_sum (suc k) (term c k))
-    ∙ ap (λ n. polynomial_sum (polynomial (length a + n - 1) (λ k. xor_sum (suc k) (term b k))) (polynomial (length a + length c - 1) (λ k. xor_sum (suc k) (term c k)))) (sym e)
+    ∙ ap (λ n. polynomial_sum (polynomial (length a + n - 1) (λ k. xor_sum (suc k) (term b k))) (polynomial (length a + length c - 1)
+    (λ k. xor_sum (suc k) (term c k)))) (sym e)
 
-pub polynomial_product-add_left : (a b c : List Bool) → length a ≡ length b → polynomial_product (polynomial_sum a b) c ≡ polynomial_sum (polynomial_product a c) (polynomial_product b c)
+pub polynomial_product-add_left : (a b c : List Bool) → length a ≡ length b → polynomial_product (polynomial_sum a b) c
+    ≡ polynomial_sum (polynomial_product a c) (polynomial_product b c)
 unfolding polynomial_product
 polynomial_product-add_left a b c e =
     let ls = length-polynomial_sum a b e in
@@ -99,11 +98,13 @@ polynomial_product-add_left a b c e =
     (λ i _. ap (λ t. t && coefficient c (k - i)) (coefficient-polynomial_sum a b i) ∙ xor_and (coefficient a i) (coefficient b i) (coefficient c (k - i)))
     ∙ xor_sum-add (suc k) (term a k) (term b k))
     ∙ polynomial-add (length b + length c - 1) (λ k. xor_sum (suc k) (term a k)) (λ k. xor_sum (suc k) (term b k))
-    ∙ ap (λ n. polynomial_sum (polynomial (n + length c - 1) (λ k. xor_sum (suc k) (term a k))) (polynomial (length b + length c - 1) (λ k. xor_sum (suc k) (term b k)))) (sym e)
+    ∙ ap (λ n. polynomial_sum (polynomial (n + length c - 1) (λ k. xor_sum (suc k) (term a k))) (polynomial (length b + length c - 1)
+    (λ k. xor_sum (suc k) (term b k)))) (sym e)
 
 -- ---- the reduction
 
-pub without_highest-add : (taps : List ℕ) (d n : ℕ) (p q : List Bool) → without_highest taps d n (polynomial_sum p q) ≡ polynomial_sum (without_highest taps d n p) (without_highest taps d n q)
+pub without_highest-add : (taps : List ℕ) (d n : ℕ) (p q : List Bool) → without_highest taps d n (polynomial_sum p q)
+    ≡ polynomial_sum (without_highest taps d n p) (without_highest taps d n q)
 unfolding without_highest
 without_highest-add taps d n p q =
     let hit = λ (j : ℕ). list_any (λ t. n + t == j) taps in
@@ -115,13 +116,15 @@ without_highest-add taps d n p q =
     ∙ xor_exchange (coefficient p j) (coefficient q j) (coefficient p (d + n) && hit j) (coefficient q (d + n) && hit j))
     ∙ polynomial-add (d + n) (bit p) (bit q)
 
-pub without_highests-add : (taps : List ℕ) (d n : ℕ) (p q : List Bool) → without_highests taps d n (polynomial_sum p q) ≡ polynomial_sum (without_highests taps d n p) (without_highests taps d n q)
+pub without_highests-add : (taps : List ℕ) (d n : ℕ) (p q : List Bool) → without_highests taps d n (polynomial_sum p q)
+    ≡ polynomial_sum (without_highests taps d n p) (without_highests taps d n q)
 unfolding without_highests
 without_highests-add taps d zero p q = refl
 without_highests-add taps d (suc n) p q =
     ap (without_highests taps d n) (without_highest-add taps d n p q) ∙ without_highests-add taps d n (without_highest taps d n p) (without_highest taps d n q)
 
-pub reduced-add : (taps : List ℕ) (d : ℕ) (p q : List Bool) → length p ≡ length q → reduced taps d (polynomial_sum p q) ≡ polynomial_sum (reduced taps d p) (reduced taps d q)
+pub reduced-add : (taps : List ℕ) (d : ℕ) (p q : List Bool) → length p ≡ length q → reduced taps d (polynomial_sum p q)
+    ≡ polynomial_sum (reduced taps d p) (reduced taps d q)
 unfolding reduced
 reduced-add taps d p q e =
     ap (λ n. without_highests taps d (n - d) (polynomial_sum p q)) (length-polynomial_sum p q e)

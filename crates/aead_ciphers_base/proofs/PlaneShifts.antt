@@ -1,16 +1,17 @@
 -- Where shifts and masks move each bit of a plane.
-use Rattle.std.proofs.Common.{length, set, below_more, get_or-set_other, get_or-set_same, ◌≡◌, ℕ, ◌+◌, ◌*◌, ◌/◌, ◌%◌, ◌^◌, ◌<◌, Bool, true, refl, sym, ap, ◌∙◌, arith, bit_xor, bit_and, List, slice_index}
+use Rattle.std.proofs.Common.{length, set, below_more, get_or-set_other, get_or-set_same, ◌≡◌, ℕ, ◌+◌, ◌*◌, ◌/◌, ◌%◌, ◌^◌, ◌<◌, Bool, true, refl, sym, ap}
+use Rattle.std.proofs.Common.{◌∙◌, arith, bit_xor, bit_and, List, slice_index}
 use Rattle.std.specs.Prelude.{◌==◌}
 use Rattle.std.specs.Int.{bit_at}
 use Rattle.std.specs.Int.Bits.{xor_assoc}
 use Rattle.aead_ciphers_base.specs.ByteField.{mul8, value_of}
 use Rattle.aead_ciphers_base.specs.Aes.{mixed}
 use Rattle.aead_ciphers_base.specs.Planes.{plane_byte, below, shifted_from}
-use Rattle.aead_ciphers_base.proofs.PolynomialLemmas.{same-polynomial, polynomial-add}
-use Rattle.aead_ciphers_base.proofs.PlaneLemmas.{set-xor}
-use Rattle.aead_ciphers_base.proofs.ByteFieldLemmas.{mul8-xor_right, three_is}
+use Rattle.aead_ciphers_base.proofs.PolynomialSums.{same-polynomial, polynomial-add}
+use Rattle.aead_ciphers_base.proofs.PlaneBits.{set-xor}
+use Rattle.aead_ciphers_base.proofs.ByteFieldLaws.{mul8-xor_right, three_is}
 use Rattle.aead_ciphers_base.specs.Polynomial.{◌xor◌, polynomial}
-use Rattle.aead_ciphers_base.proofs.BitsLemmas.{value_of-add, IsAdditive, same_additive, all_below, all_below_at, same_below}
+use Rattle.aead_ciphers_base.proofs.NumberBits.{value_of-add, IsAdditive, same_additive, all_below, all_below_at, same_below}
 use Rattle.aead_ciphers_base.proofs.AdditiveLemmas.{additive_and, additive_shr, additive_shl, additive_xor, additive_after, additive_bit}
 
 abbrev moves : (ℕ → ℕ) → (ℕ → ℕ) → Bool

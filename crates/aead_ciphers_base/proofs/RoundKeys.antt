@@ -1,11 +1,12 @@
 -- The round keys of a key, and the key with which they begin.
-use Rattle.std.proofs.Common.{◌≡◌, ℕ, zero, suc, ◌+◌, ◌-◌, ◌*◌, ◌/◌, ◌%◌, ◌<◌, ◌≤◌, List, [], ◌∷◌, length, take, sym, ◌∙◌, ap, ap₂, arith, slice_index, slice_index_or, length-append}
+use Rattle.std.proofs.Common.{◌≡◌, ℕ, zero, suc, ◌+◌, ◌-◌, ◌*◌, ◌/◌, ◌%◌, ◌<◌, ◌≤◌, List, [], ◌∷◌, length, take, sym, ◌∙◌, ap, ap₂, arith, slice_index}
+use Rattle.std.proofs.Common.{slice_index_or, length-append}
 use Rattle.std.proofs.lemmas.List.{get_or_append_left}
 use Rattle.std.proofs.lemmas.List.FromFn.{fill_by_all, get_or-map-range_with_len, length-map-range_with_len}
 use Rattle.aead_ciphers_base.specs.Aes.{word_at, key_words, cipher, aes, next_word}
 use Rattle.aead_ciphers_base.specs.Planes.{plane_byte}
 use Rattle.aead_ciphers_base.specs.KeySchedule.{HoldsWords, key_of, IsSchedule}
-use Rattle.aead_ciphers_base.proofs.ScheduleLemmas.{key_word}
+use Rattle.aead_ciphers_base.proofs.KeySchedule.{key_word}
 
 length-key_words : (nk : ℕ) (key : List ℕ) (n : ℕ) → length (key_words nk key n) ≡ nk + n
 unfolding key_words
@@ -76,4 +77,5 @@ aes_of_schedule round_keys rounds b h =
     let count : rounds ≡ length (key_of round_keys rounds) / 4 + 6 = omega (arith, nk) in
     ap (λ n. cipher (key_words n (key_of round_keys rounds) (4 * (rounds + 1) - n)) rounds b) nk
     ∙ ap (λ m. cipher (key_words (length (key_of round_keys rounds) / 4) (key_of round_keys rounds) (m - length (key_of round_keys rounds) / 4)) rounds b) last
-    ∙ ap (λ m. cipher (key_words (length (key_of round_keys rounds) / 4) (key_of round_keys rounds) (4 * (length (key_of round_keys rounds) / 4 + 7) - length (key_of round_keys rounds) / 4)) m b) count
+    ∙ ap (λ m. cipher (key_words (length (key_of round_keys rounds) / 4) (key_of round_keys rounds)
+    (4 * (length (key_of round_keys rounds) / 4 + 7) - length (key_of round_keys rounds) / 4)) m b) count
