@@ -85,4 +85,5 @@ pub few_hash_keys : (left right : List (List ℕ)) (sum : List ℕ) (keys : List
     All IsBlock left → All IsBlock right → IsBlock sum → EachAt Sized keys →
     DifferWhenPadded left right → AllPairs (λ h k. HasInverse (h ⊕ k)) keys → All (λ h. ghash h left ⊕ ghash h right ≡ sum) keys →
     length keys ≤ max (length left) (length right)
-few_hash_keys left right sum keys is_left is_right = few_keys left right sum keys (recursion_from_All IsBlock left is_left) (recursion_from_All IsBlock right is_right)
+few_hash_keys left right sum keys is_left is_right =
+    few_keys left right sum keys (recursion_from_All IsBlock left is_left) (recursion_from_All IsBlock right is_right)

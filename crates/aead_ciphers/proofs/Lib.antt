@@ -19,7 +19,6 @@ pub mod HexWords
 pub mod KeysLemmas
 pub mod Lending
 pub mod LendingFacts
-pub mod LendingLocals
 pub mod LendingWalk
 pub mod LentPlaintext
 pub mod LinearMaps

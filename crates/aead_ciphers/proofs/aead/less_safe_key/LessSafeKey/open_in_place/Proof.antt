@@ -3,7 +3,7 @@ use Rattle.aead_ciphers.proofs.LendingWalk.{refl, ◌-◌, [], ◌∷◌, full_s
 use Rattle.aead_ciphers.proofs.LendingWalk.{sets, lands_as, named_lft, types_at, mut_slice_vals, nothing, heard, length, Words, words_vals, words_typed}
 use Rattle.aead_ciphers.proofs.LendingWalk.{slice_typed, nonce_word, aad_word, gets, reborrows, hears, as_lent, attached_fronts, aad_bytes, AesOpenedAttached}
 use Rattle.aead_ciphers.proofs.LendingWalk.{arith, front_met, dropped, goes, walked, consults, at_words, with_third, with_third_share, relends, regains, lends}
-use Rattle.aead_ciphers.proofs.LendingWalk.{tells, says, last, ends}
+use Rattle.aead_ciphers.proofs.LendingWalk.{tells, says, last, ends, table_of}
 use Rattle.aead_ciphers.specs.contracts.aead.less_safe_key.LessSafeKey.open_in_place as F
 use Rattle.aead_ciphers.specs.contracts.aead.less_safe_key.LessSafeKey.open_in_place_len as C
 use Rattle.aead_ciphers.proofs.aead.less_safe_key.LessSafeKey.open_in_place as P
@@ -16,15 +16,15 @@ open_in_place_spec 𝓤 𝓛 𝓜 𝓡 wired =
     walked 𝓛 T stayed c 𝓜 𝓡 silent F.Key.name P.Code.function (P.Code.unfolded 𝓤 𝓛.H 𝓜 𝓡 wired) (λ y are.
     let (κs, qs, bounds, a, vs) = y.0 in let κ = κs.1.1.0 in let q = qs.1.1.0 in let Ts = types_at T.signature.params κs in
     let (self, (nonce, (aad, (in_out, _)))) = a in let (is-self, (is-nonce, (is-aad, (is-in_out, _)))) = are in
-    let old = in_out.now in let room = is-in_out.0.1 in let slice = slice_typed in_out.ref_ptr (length old) room in
+    let old = in_out.now in let room = is-in_out.0.1 in let slice = slice_typed in_out.ref_ptr (length old) room.0 in
     let nonce-word = nonce_word 𝓛 nonce _ is-nonce in let aad-word = aad_word 𝓛 (named_lft 3 1 tt κs) aad _ is-aad in
     let words : Words Ts vs = ((_, is-self.0, (tt, tt)), (nonce-word, (aad-word, ((_, is-in_out.0.0, slice), tt)))) in
     let vals = words_vals Ts vs words in at_words words (move ! (6 ∷ 2 ∷ []) $ alloc_all ! (λ l. pass_all ! refl (words_typed Ts vs words) $
     sets ! (of_opd ! (get ! refl)) refl words.1.1.0.2 $ reborrows ! in_out.ref_ptr (length old) refl refl (tt, tt) slice $
     relends 𝓛 κ q in_out room ! tt (mut_slice_vals in_out) (λ α δ.
     -- [in_out and its lifetime's token; what is kept; two tokens; self, nonce, aad; the premise]
-    move ! (3 ∷ 4 ∷ 1 ∷ 5 ∷ 6 ∷ 7 ∷ 0 ∷ 8 ∷ []) $ consults 𝓛 C.ended (C.clauses 𝓛 𝓜.mem 𝓡.returns) 𝓜 𝓡 !
-    (met 𝓤 𝓛 𝓜 𝓡 (P.Code.calls-aead_ciphers::aead::less_safe_key::LessSafeKey::open_in_place_len 𝓡.env wired))
+    move ! (3 ∷ 4 ∷ 1 ∷ 5 ∷ 6 ∷ 7 ∷ 0 ∷ 8 ∷ []) $ consults 𝓛 C.ended (C.clauses 𝓛 𝓜.mem 𝓡.returns) !
+    (table_of 𝓛 𝓜 𝓡) (met 𝓤 𝓛 𝓜 𝓡 (P.Code.calls-aead_ciphers::aead::less_safe_key::LessSafeKey::open_in_place_len 𝓡.env wired))
     ((with_third 3 (α ∷ []) κs, with_third_share 3 full_share qs, tt, (self, (nonce, (aad, (record in_out { ghost_name = δ }, tt)))), vals), tt)
     (gets ! tt refl) (λ v u ws. let new = ws.1.1.1.0 in hears ! (λ opened. heard ! _ (λ counted.
     let fronts = attached_fronts (length old - 16) (omega arith) u opened counted in

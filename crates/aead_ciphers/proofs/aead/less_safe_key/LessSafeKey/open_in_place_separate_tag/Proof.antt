@@ -2,8 +2,8 @@
 use Rattle.aead_ciphers.proofs.LendingWalk.{refl, [], ◌∷◌, full_share, ◌$◌, !, move, keep, of_opd, returns, alloc_all, pass_all, free_all, look_at, get, sets}
 use Rattle.aead_ciphers.proofs.LendingWalk.{lands_as, named_lft, types_at, mut_slice_vals, nothing, heard, length, Words, words_vals, words_typed, slice_typed}
 use Rattle.aead_ciphers.proofs.LendingWalk.{nonce_word, aad_word, tag_word, range_word, gets, reborrows, hears, as_lent, opened_fronts, aad_bytes, AesOpened}
-use Rattle.aead_ciphers.proofs.LendingWalk.{front_met, dropped, goes, walked, consults, at_words, with_third, with_third_share, relends, regains, lends, tells}
-use Rattle.aead_ciphers.proofs.LendingWalk.{says, last, ends}
+use Rattle.aead_ciphers.proofs.LendingWalk.{table_of, front_met, dropped, goes, walked, consults, at_words, with_third, with_third_share, relends, regains}
+use Rattle.aead_ciphers.proofs.LendingWalk.{lends, tells, says, last, ends}
 use Rattle.aead_ciphers.specs.contracts.aead.less_safe_key.LessSafeKey.open_in_place_separate_tag as F
 use Rattle.aead_ciphers.specs.contracts.aead.less_safe_key.LessSafeKey.open_in_place_separate_tag_len as C
 use Rattle.aead_ciphers.proofs.aead.less_safe_key.LessSafeKey.open_in_place_separate_tag as P
@@ -16,7 +16,7 @@ open_in_place_separate_tag_spec 𝓤 𝓛 𝓜 𝓡 wired =
     walked 𝓛 T stayed c 𝓜 𝓡 silent F.Key.name P.Code.function (P.Code.unfolded 𝓤 𝓛.H 𝓜 𝓡 wired) (λ y are.
     let (κs, qs, bounds, a, vs) = y.0 in let κ = κs.1.1.0 in let q = qs.1.1.0 in let Ts = types_at T.signature.params κs in
     let (self, (nonce, (aad, (tag, (in_out, (range, _)))))) = a in let (is-self, (is-nonce, (is-aad, (is-tag, (is-in_out, (is-range, _)))))) = are in
-    let old = in_out.now in let room = is-in_out.0.1 in let slice = slice_typed in_out.ref_ptr (length old) room in let tag-word = tag_word 𝓛 tag _ is-tag in
+    let old = in_out.now in let room = is-in_out.0.1 in let slice = slice_typed in_out.ref_ptr (length old) room.0 in let tag-word = tag_word 𝓛 tag _ is-tag in
     let nonce-word = nonce_word 𝓛 nonce _ is-nonce in let aad-word = aad_word 𝓛 (named_lft 3 1 tt κs) aad _ is-aad in
     let range-word = range_word 𝓛 range _ is-range in
     let words : Words Ts vs = ((_, is-self.0, (tt, tt)), (nonce-word, (aad-word, (tag-word, ((_, is-in_out.0.0, slice), (range-word, tt)))))) in
@@ -24,8 +24,8 @@ open_in_place_separate_tag_spec 𝓤 𝓛 𝓜 𝓡 wired =
     sets ! (of_opd ! (get ! refl)) refl words.1.1.0.2 $ reborrows ! in_out.ref_ptr (length old) refl refl (tt, tt) slice $
     relends 𝓛 κ q in_out room ! tt (mut_slice_vals in_out) (λ α δ.
     -- [in_out and its lifetime's token; what is kept; two tokens; self, nonce, aad, tag, range; the premise]
-    move ! (3 ∷ 4 ∷ 1 ∷ 5 ∷ 6 ∷ 7 ∷ 8 ∷ 0 ∷ 9 ∷ 10 ∷ []) $ consults 𝓛 C.ended (C.clauses 𝓛 𝓜.mem 𝓡.returns) 𝓜 𝓡 !
-    (met 𝓤 𝓛 𝓜 𝓡 (P.Code.calls-aead_ciphers::aead::less_safe_key::LessSafeKey::open_in_place_separate_tag_len 𝓡.env wired))
+    move ! (3 ∷ 4 ∷ 1 ∷ 5 ∷ 6 ∷ 7 ∷ 8 ∷ 0 ∷ 9 ∷ 10 ∷ []) $ consults 𝓛 C.ended (C.clauses 𝓛 𝓜.mem 𝓡.returns) !
+    (table_of 𝓛 𝓜 𝓡) (met 𝓤 𝓛 𝓜 𝓡 (P.Code.calls-aead_ciphers::aead::less_safe_key::LessSafeKey::open_in_place_separate_tag_len 𝓡.env wired))
     ((with_third 3 (α ∷ []) κs, with_third_share 3 full_share qs, tt, (self, (nonce, (aad, (tag, (record in_out { ghost_name = δ }, (range, tt)))))), vals), tt)
     (gets ! tt refl) (λ v u ws. let new = ws.1.1.1.1.0 in hears ! (λ opened. heard ! _ (λ counted. let fronts = opened_fronts u opened counted in
     -- [the answer; three tokens; nothing of self, nonce, aad, tag; what in_out ends as; nothing of range; what is kept]
