@@ -1,13 +1,12 @@
 -- Blocks that cancel: in a sum, and in a product with a block that has an inverse.
 use Rattle.std.proofs.Common.{◌≡◌, ℕ, zero, suc, List, [], ◌∷◌, length, replicate, refl, sym, ap, ap₂, ◌∙◌, arith}
 use Rattle.std.specs.Int.Bits.{xor_self as number_self}
+use Rattle.aead_ciphers_base.proofs.XorLemmas.{xor-xor, xor_comm}
 use Rattle.aead_ciphers_base.specs.Bytes.{◌⊕◌, zero_block}
-use Rattle.aead_ciphers_base.proofs.XorLemmas.{xor-xor}
 use Rattle.aead_ciphers.specs.Different.{HasInverse}
 use Rattle.aead_ciphers.specs.Ghash.{IsBlock, ◌•◌, unit_block}
 use Rattle.aead_ciphers.proofs.GhashBlocks.{IsBlock-number}
 use Rattle.aead_ciphers.proofs.GhashLaws.{Sized, Sized-product, product_assoc, product_comm, product_unit, product_xor_right}
-use Rattle.aead_ciphers.proofs.XorLaws.{xor_comm}
 
 pub IsBlock-zero : IsBlock zero_block
 IsBlock-zero = IsBlock-number 0
@@ -19,13 +18,13 @@ zeros_of_xor : (n : ℕ) (a : List ℕ) → length a ≡ n → a ⊕ a ≡ repli
 zeros_of_xor zero [] e = refl
 zeros_of_xor (suc n) [] e = absurd (omega arith)
 zeros_of_xor zero (x ∷ xs) e = absurd (omega arith)
-zeros_of_xor (suc n) (x ∷ xs) e = ap₂ (λ (z : ℕ) (zs : List ℕ). z ∷ zs) (number_self x) (zeros_of_xor n xs (omega arith))
+zeros_of_xor (suc n) (x ∷ xs) e = ap₂ (λ z zs. z ∷ zs) (number_self x) (zeros_of_xor n xs (omega arith))
 
 pub xor_self : (a : List ℕ) → Sized a → a ⊕ a ≡ zero_block
 xor_self a size = zeros_of_xor 16 a size
 
 pub cancel_right : (a b c : List ℕ) → Sized a → Sized b → Sized c → a ⊕ c ≡ b ⊕ c → a ≡ b
-cancel_right a b c sa sb sc e = sym (xor-xor a c (omega arith)) ∙ ap (λ (x : List ℕ). x ⊕ c) e ∙ xor-xor b c (omega arith)
+cancel_right a b c sa sb sc e = sym (xor-xor a c (omega arith)) ∙ ap (λ x. x ⊕ c) e ∙ xor-xor b c (omega arith)
 
 pub cancel_left : (a b c : List ℕ) → Sized a → Sized b → Sized c → c ⊕ a ≡ c ⊕ b → a ≡ b
 cancel_left a b c sa sb sc e = cancel_right a b c sa sb sc (xor_comm a c ∙ e ∙ xor_comm c b)
@@ -44,6 +43,6 @@ cancel_factor a x y size inverse is_x is_y e =
     λ z is_z.
     sym (product_assoc b a z sb size is_z.size)
     ∙ product_comm (b • a) z (Sized-product b a) is_z.size
-    ∙ ap (λ (u : List ℕ). z • u) (product_comm b a sb size ∙ inverse.2)
+    ∙ ap (λ u. z • u) (product_comm b a sb size ∙ inverse.2)
     ∙ product_unit z is_z in
-    sym (back x is_x) ∙ ap (λ (u : List ℕ). b • u) e ∙ back y is_y
+    sym (back x is_x) ∙ ap (λ u. b • u) e ∙ back y is_y

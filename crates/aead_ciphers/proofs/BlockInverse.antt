@@ -1,6 +1,7 @@
 -- Every block but zero has an inverse, so the blocks are a field: 128 squarings give each block back, and only zero and the
 -- unit are their own squares.
 use Rattle.std.proofs.Common.{◌≡◌, ◌≢◌, ℕ, zero, suc, ◌⊎◌, inl, inr, ⊎_elim, Bool, true, false, List, [], ◌∷◌, map, replicate, refl, sym, ap, ap₂, ◌∙◌}
+use Rattle.aead_ciphers_base.proofs.XorLemmas.{xor_comm, xor_exchange}
 use Rattle.aead_ciphers_base.specs.Bytes.{◌⊕◌, zero_block}
 use Rattle.aead_ciphers_base.specs.Polynomial.{coefficient}
 use Rattle.aead_ciphers_base.proofs.PolynomialAction.{mul_x-none}
@@ -20,7 +21,6 @@ use Rattle.aead_ciphers.proofs.GhashPolynomial.{IsBlock-value, value_at}
 use Rattle.aead_ciphers.proofs.LinearMaps.{combined}
 use Rattle.aead_ciphers.proofs.ProductLoop.{zeros_end}
 use Rattle.aead_ciphers.proofs.SquareTables.{even_powers, squared_bits, x_bits, x_squared}
-use Rattle.aead_ciphers.proofs.XorLaws.{xor_comm, xor_exchange}
 
 zero_bits : block_bits zero_block ≡ replicate 128 false
 unfolding block_bits bits_high_first
@@ -47,7 +47,7 @@ own_square t is_t e =
 product_four : (a b c d : List ℕ) → Sized a → Sized b → Sized c → Sized d → (a • b) • (c • d) ≡ (a • c) • (b • d)
 product_four a b c d sa sb sc sd =
     product_assoc a b (c • d) sa sb (Sized-product c d)
-    ∙ ap (λ (x : List ℕ). a • x) (product_left_swap b c d sb sc sd)
+    ∙ ap (λ x. a • x) (product_left_swap b c d sb sc sd)
     ∙ sym (product_assoc a c (b • d) sa sc (Sized-product b d))
 
 square-xor : (a b : List ℕ) → Sized a → Sized b → (a ⊕ b) • (a ⊕ b) ≡ (a • a) ⊕ (b • b)
@@ -56,7 +56,7 @@ square-xor a b sa sb =
     product_xor_left a b (a ⊕ b) sa sb (Sized-xor a b sa sb)
     ∙ ap₂ ◌⊕◌ (product_xor_right a a b sa sa sb) (product_xor_right b a b sb sa sb ∙ xor_comm (b • a) (b • b))
     ∙ xor_exchange (a • a) (a • b) (b • b) (b • a)
-    ∙ ap (λ (x : List ℕ). ((a • a) ⊕ (b • b)) ⊕ x) (ap (λ (x : List ℕ). (a • b) ⊕ x) (product_comm b a sb sa) ∙ xor_self (a • b) ab)
+    ∙ ap (λ x. ((a • a) ⊕ (b • b)) ⊕ x) (ap (λ x. (a • b) ⊕ x) (product_comm b a sb sa) ∙ xor_self (a • b) ab)
     ∙ xor_zero ((a • a) ⊕ (b • b)) (Sized-xor (a • a) (b • b) (Sized-product a a) (Sized-product b b))
 
 unit_or_zero : Bool → List ℕ
@@ -95,7 +95,7 @@ square-bits_at y (b ∷ p) sy =
     let s = bits_at y p in
     let ss = (IsBlock-bits_at y p).size in
     square-xor (unit_or_zero b) (y • s) (IsBlock-unit_or_zero b).size (Sized-product y s)
-    ∙ ap₂ ◌⊕◌ (square-unit_or_zero b) (product_four y s y s sy ss sy ss ∙ ap (λ (x : List ℕ). (y • y) • x) (square-bits_at y p sy))
+    ∙ ap₂ ◌⊕◌ (square-unit_or_zero b) (product_four y s y s sy ss sy ss ∙ ap (λ x. (y • y) • x) (square-bits_at y p sy))
 
 -- ---- 128 squarings give each block back, since they give x back
 
@@ -111,7 +111,7 @@ IsBlock-squared (suc n) a is_a = IsBlock-product (squared n a) (squared n a)
 squared-bits_at : (n : ℕ) (y : List ℕ) (p : List Bool) → IsBlock y → squared n (bits_at y p) ≡ bits_at (squared n y) p
 squared-bits_at zero y p is_y = refl
 squared-bits_at (suc n) y p is_y =
-    ap (λ (x : List ℕ). x • x) (squared-bits_at n y p is_y) ∙ square-bits_at (squared n y) p (IsBlock-squared n y is_y).size
+    ap (λ x. x • x) (squared-bits_at n y p is_y) ∙ square-bits_at (squared n y) p (IsBlock-squared n y is_y).size
 
 square_bits : (a : List ℕ) → Sized a → block_bits (a • a) ≡ bits_high_first 128 (combined (block_bits a) even_powers)
 square_bits a size =
@@ -123,7 +123,7 @@ squared_is : (n : ℕ) (a : List ℕ) → IsBlock a → block_bits (squared n a)
 squared_is zero a is_a = refl
 squared_is (suc n) a is_a =
     square_bits (squared n a) (IsBlock-squared n a is_a).size
-    ∙ ap (λ (p : List Bool). bits_high_first 128 (combined p even_powers)) (squared_is n a is_a)
+    ∙ ap (λ p. bits_high_first 128 (combined p even_powers)) (squared_is n a is_a)
 
 unfoldable x_block : List ℕ
 x_block = 0x40 ∷ replicate 15 0
@@ -148,8 +148,8 @@ multiple-zeros (suc n) f = ap X (multiple-zeros n f) ∙ mul_x-none 127 (modulus
 times-x : (f : Series) → block_times x_block f ≡ X f
 unfolding x_bits
 times-x f =
-    ap (λ (p : List Bool). multiple p f) x_block_bits
-    ∙ ap (λ (s : Series). X (add f s)) (ap X (multiple-zeros 126 f) ∙ mul_x-none 127 (modulus block_taps 128))
+    ap (λ p. multiple p f) x_block_bits
+    ∙ ap (λ s. X (add f s)) (ap X (multiple-zeros 126 f) ∙ mul_x-none 127 (modulus block_taps 128))
     ∙ ap X (add_none f)
 
 -- a block is its polynomial's value at x
@@ -170,7 +170,7 @@ at_x a is_a =
 squared_back : (a : List ℕ) → IsBlock a → squared 128 a ≡ a
 squared_back a is_a =
     let p = block_bits a in
-    ap (squared 128) (sym (at_x a is_a)) ∙ squared-bits_at 128 x_block p IsBlock-x ∙ ap (λ (y : List ℕ). bits_at y p) x_back ∙ at_x a is_a
+    ap (squared 128) (sym (at_x a is_a)) ∙ squared-bits_at 128 x_block p IsBlock-x ∙ ap (λ y. bits_at y p) x_back ∙ at_x a is_a
 
 -- ---- a^(2^n - 1), whose product with a is a^(2^n)
 
@@ -201,10 +201,10 @@ has_inverse a is_a some =
     let t = u • a in
     let sa = is_a.size in
     let su = Sized-product q q in
-    let back : t • a ≡ a = lower_times 128 a is_a ∙ squared_back a is_a in
-    let own : t • t ≡ t = product_left_swap t u a (Sized-product u a) su sa ∙ ap (λ (x : List ℕ). u • x) back in
+    let back = lower_times 128 a is_a ∙ squared_back a is_a in
+    let own = product_left_swap t u a (Sized-product u a) su sa ∙ ap (λ x. u • x) back in
     ⊎_elim
     (λ (e : t ≡ zero_block).
-    absurd (some (sym back ∙ ap (λ (x : List ℕ). x • a) e ∙ product_comm zero_block a refl sa ∙ product_zero a sa)))
+    absurd (some (sym back ∙ ap (λ x. x • a) e ∙ product_comm zero_block a refl sa ∙ product_zero a sa)))
     (λ (e : t ≡ unit_block). let w : HasInverse a = (u, IsBlock-product q q, product_comm a u sa su ∙ e) in w)
     (own_square t (IsBlock-product u a) own)

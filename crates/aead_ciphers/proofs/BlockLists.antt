@@ -1,5 +1,5 @@
 -- Lists of blocks.
-use Rattle.std.proofs.Common.{ℕ, suc, ◌<◌, List, [], ◌∷◌, ◌++◌, length, get_or, reverse, All, sym, subst, arith}
+use Rattle.std.proofs.Common.{ℕ, List, [], ◌∷◌, ◌++◌, reverse, sym, subst}
 use Rattle.std.specs.List.{AllByRecursion}
 use Rattle.std.proofs.lemmas.List.{reverse-append}
 use Rattle.aead_ciphers.specs.Ghash.{AllSized, IsBlock}
@@ -17,17 +17,9 @@ Each-reverse P [] h = tt
 Each-reverse P (x ∷ xs) h =
     subst (AllByRecursion P) (sym (reverse-append (x ∷ []) xs)) (Each-append P (reverse xs) (x ∷ []) (Each-reverse P xs h.1) (h.0, tt))
 
--- from what holds at each index
-pub Each-from : {X : Type 0} (P : X → Type 0) (d : X) (xs : List X) → ((i : ℕ) → i < length xs → P (get_or xs i d)) → AllByRecursion P xs
-Each-from P d [] h = tt
-Each-from P d (x ∷ xs) h = (h 0 (omega arith), Each-from P d xs (λ i below. h (suc i) (omega arith)))
-
 -- each of the list is a block
 abbrev pub Blocks : List (List ℕ) → Type 0
 Blocks xs = AllByRecursion IsBlock xs
-
-pub Blocks-from : (xs : List (List ℕ)) → All IsBlock xs → Blocks xs
-Blocks-from xs h = Each-from IsBlock [] xs (λ i below. h i [] below)
 
 pub AllSized-blocks : (xs : List (List ℕ)) → Blocks xs → AllSized xs
 AllSized-blocks [] h = tt

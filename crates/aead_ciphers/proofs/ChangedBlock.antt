@@ -12,7 +12,7 @@ use Rattle.aead_ciphers.proofs.BlockCancellation.{IsBlock-zero, cancel_factor, c
 use Rattle.aead_ciphers.proofs.BlockLists.{AllSized-blocks, Blocks, Each-append, Each-parts, Each-reverse}
 use Rattle.aead_ciphers.proofs.GhashLaws.{Sized, Sized-ghash, Sized-product}
 use Rattle.aead_ciphers.proofs.GhashPolynomial.{IsBlock-value, ghash_value, value_at}
-use Rattle.aead_ciphers.proofs.HashedBlocks.{Blocks-hashed, Bytes}
+use Rattle.aead_ciphers.proofs.TagInput.{Blocks-hashed, Bytes}
 
 module _ (h : List ℕ) (size : Sized h) (inverse : HasInverse h) where
   -- the coefficients before and after it being the same, a coefficient is known by the value
@@ -37,14 +37,14 @@ module _ (h : List ℕ) (size : Sized h) (inverse : HasInverse h) where
       let back = reverse d.before in
       let turned : (u : List ℕ) → reverse (d.before ++ u ∷ d.after) ≡ front ++ u ∷ back =
       λ u.
-      reverse-append d.before (u ∷ d.after) ∙ ap (λ (us : List (List ℕ)). us ++ back) (reverse-append (u ∷ []) d.after)
+      reverse-append d.before (u ∷ d.after) ∙ ap (λ us. us ++ back) (reverse-append (u ∷ []) d.after)
       ∙ append_assoc front (u ∷ []) back in
       let value : (us : List (List ℕ)) (u : List ℕ) → Blocks us → us ≡ d.before ++ u ∷ d.after → ghash h us ≡ h • value_at h (front ++ u ∷ back) =
-      λ us u all same. ghash_value h us size all ∙ ap (λ (cs : List (List ℕ)). h • value_at h cs) (ap reverse same ∙ turned u) in
+      λ us u all same. ghash_value h us size all ∙ ap (λ cs. h • value_at h cs) (ap reverse same ∙ turned u) in
       d.differ
       (same_coefficient (zero_block ∷ front) back d.left_block d.right_block
       (IsBlock-zero, Each-reverse IsBlock d.after left.1.1) (Each-reverse IsBlock d.before left.0) left.1.0 right.1.0
-      (ap (λ (u : List ℕ). zero_block ⊕ u) (sym (value xs d.left_block all_x d.left_is) ∙ e ∙ value ys d.right_block all_y d.right_is)))
+      (ap (λ u. zero_block ⊕ u) (sym (value xs d.left_block all_x d.left_is) ∙ e ∙ value ys d.right_block all_y d.right_is)))
 
 Sized-aes : (key block : List ℕ) → Sized (aes key block)
 unfolding aes cipher add_round_key

@@ -2,14 +2,13 @@
 use Rattle.std.proofs.Common.{◌≡◌, ℕ, ◌+◌, ◌-◌, ◌*◌, ◌/◌, ◌%◌, ◌^◌, ◌<◌, max, List, [], ◌∷◌, ◌++◌, length, take, drop, get_or}
 use Rattle.std.proofs.Common.{replicate, refl, sym, ap, ap₂, ◌∙◌, arith, length-append, append_assoc}
 use Rattle.std.specs.Int.{from_be_bytes, to_be_bytes, w64}
-use Rattle.std.proofs.lemmas.List.{drop_at, take_at}
+use Rattle.std.proofs.lemmas.List.{drop_at, ext_get_or, take_at}
 use Rattle.std.proofs.lemmas.Nat.{from_be_bytes-to_be_bytes_8}
 use Rattle.aead_ciphers_base.specs.Bytes.{zero_block}
-use Rattle.aead_ciphers_base.proofs.BytesLemmas.{same_by_index}
 use Rattle.aead_ciphers_base.proofs.EachLemmas.{get_or-each}
 use Rattle.aead_ciphers.specs.Different.{DifferWhenPadded, zeros_before}
 use Rattle.aead_ciphers.specs.Gcm.{Fits, hashed, length_block, padded_block, padded_blocks, sealing_products}
-use Rattle.aead_ciphers.proofs.HashedBlocks.{count_hashed, length-padded_blocks}
+use Rattle.aead_ciphers.proofs.TagInput.{count_hashed, length-padded_blocks}
 
 -- equal lists, cut at one place
 same_parts : {X : Type 0} (xs ys us vs : List X) → length xs ≡ length us → xs ++ ys ≡ us ++ vs → (xs ≡ us) × (ys ≡ vs)
@@ -21,27 +20,27 @@ same_parts xs ys us vs e h =
 
 same_last : (xs ys : List (List ℕ)) (x y : List ℕ) → xs ++ x ∷ [] ≡ ys ++ y ∷ [] → x ≡ y
 same_last xs ys x y e =
-    let lengths : length xs + 1 ≡ length ys + 1 = sym (length-append xs (x ∷ [])) ∙ ap length e ∙ length-append ys (y ∷ []) in
-    ap (λ (bs : List (List ℕ)). get_or bs 0 []) (same_parts xs (x ∷ []) ys (y ∷ []) (omega arith) e).1
+    let lengths = sym (length-append xs (x ∷ [])) ∙ ap length e ∙ length-append ys (y ∷ []) in
+    ap (λ bs. get_or bs 0 []) (same_parts xs (x ∷ []) ys (y ∷ []) (omega arith) e).1
 
 -- bytes from their padded blocks
 byte_back : (xs : List ℕ) (k : ℕ) → k < length xs → get_or (get_or (padded_blocks xs) (k / 16) []) (k % 16) 0 ≡ get_or xs k 0
 unfolding padded_blocks padded_block
 byte_back xs k below =
-    ap (λ (b : List ℕ). get_or b (k % 16) 0) (get_or-each ((length xs + 15) / 16) (padded_block xs) (k / 16) [] (omega arith))
+    ap (λ b. get_or b (k % 16) 0) (get_or-each ((length xs + 15) / 16) (padded_block xs) (k / 16) [] (omega arith))
     ∙ get_or-each 16 (λ (j : ℕ). get_or xs (16 * (k / 16) + j) 0) (k % 16) 0 (omega arith)
-    ∙ ap (λ (j : ℕ). get_or xs j 0) (omega arith)
+    ∙ ap (λ j. get_or xs j 0) (omega arith)
 
 same_bytes : (xs ys : List ℕ) → length xs ≡ length ys → padded_blocks xs ≡ padded_blocks ys → xs ≡ ys
 same_bytes xs ys e h =
-    same_by_index xs ys e (λ k below.
+    ext_get_or 0 xs ys e (λ k below.
     sym (byte_back xs k below)
-    ∙ ap (λ (bs : List (List ℕ)). get_or (get_or bs (k / 16) []) (k % 16) 0) h
+    ∙ ap (λ bs. get_or (get_or bs (k / 16) []) (k % 16) 0) h
     ∙ byte_back ys k (omega arith))
 
 same_number : (m n : ℕ) → m < 2 ^ 61 → n < 2 ^ 61 → to_be_bytes w64 (8 * m) ≡ to_be_bytes w64 (8 * n) → m ≡ n
 same_number m n hm hn e =
-    let eight : 8 * m ≡ 8 * n =
+    let eight =
     sym (from_be_bytes-to_be_bytes_8 (8 * m) (omega arith)) ∙ ap (from_be_bytes w64) e ∙ from_be_bytes-to_be_bytes_8 (8 * n) (omega arith) in
     omega arith
 
@@ -66,13 +65,13 @@ same_messages a c a' c' fits fits' n e =
     let ends = same_last (zeros ++ (xs ++ ys)) (zeros' ++ (xs' ++ ys')) last last'
     (append_assoc zeros (xs ++ ys) (last ∷ []) ∙ e ∙ sym (append_assoc zeros' (xs' ++ ys') (last' ∷ []))) in
     let lengths = same_lengths (length a) (length c) (length a') (length c') fits fits' ends in
-    let all : length (hashed a c) ≡ length (hashed a' c') =
+    let all =
     count_hashed a c ∙ ap₂ sealing_products lengths.0 lengths.1 ∙ sym (count_hashed a' c') in
     let count : length (xs ++ ys) ≡ length (xs' ++ ys') =
     omega (arith, all, length-append (xs ++ ys) (last ∷ []), length-append (xs' ++ ys') (last' ∷ [])) in
-    let lists = same_parts zeros (hashed a c) zeros' (hashed a' c') (ap (λ (k : ℕ). length (replicate (n - k) zero_block)) all) e in
+    let lists = same_parts zeros (hashed a c) zeros' (hashed a' c') (ap (λ k. length (replicate (n - k) zero_block)) all) e in
     let bodies = same_parts (xs ++ ys) (last ∷ []) (xs' ++ ys') (last' ∷ []) count lists.1 in
-    let both = same_parts xs ys xs' ys' (length-padded_blocks a ∙ ap (λ (k : ℕ). (k + 15) / 16) lengths.0 ∙ sym (length-padded_blocks a')) bodies.0 in
+    let both = same_parts xs ys xs' ys' (length-padded_blocks a ∙ ap (λ k. (k + 15) / 16) lengths.0 ∙ sym (length-padded_blocks a')) bodies.0 in
     (same_bytes a a' lengths.0 both.0, same_bytes c c' lengths.1 both.1)
 
 pub different_messages : (a c a' c' : List ℕ) → Fits (length a) (length c) → Fits (length a') (length c') →

@@ -4,15 +4,16 @@ use Rattle.std.proofs.Common.{◌≡◌, ℕ, zero, suc, ◌-◌, ◌<◌, ◌�
 use Rattle.std.proofs.Common.{All, AllPairs, get_or, refl, sym, ap, ap₂, subst, ◌∙◌, arith, length-append}
 use Rattle.std.proofs.lemmas.Bool.{cases_lt}
 use Rattle.std.proofs.lemmas.List.{length-replicate, length-reverse, reverse-reverse}
+use Rattle.aead_ciphers_base.proofs.XorLemmas.{xor_comm}
 use Rattle.aead_ciphers_base.specs.Bytes.{◌⊕◌, zero_block}
 use Rattle.aead_ciphers.specs.Different.{DifferWhenPadded, HasInverse, zeros_before}
 use Rattle.aead_ciphers.specs.Ghash.{IsBlock, ghash, power, xor_blocks}
 use Rattle.aead_ciphers.proofs.BlockCancellation.{IsBlock-zero, product_zero, same_of_xor, xor_self}
-use Rattle.aead_ciphers.proofs.BlockLists.{AllSized-blocks, Blocks, Blocks-from, Each-reverse}
+use Rattle.aead_ciphers.proofs.BlockLists.{AllSized-blocks, Blocks, Each-reverse}
+use Rattle.std.proofs.lemmas.List.Elements.{recursion_from_All}
 use Rattle.aead_ciphers.proofs.GhashLaws.{IsBlock-xor, Sized, Sized-ghash, Sized-power, ghash_xor, length-xor_blocks, product_comm, xor_zero}
 use Rattle.aead_ciphers.proofs.GhashPolynomial.{ghash_value, value_at}
 use Rattle.aead_ciphers.proofs.RootsOfBlocks.{EachAt, Zeros, all_zero}
-use Rattle.aead_ciphers.proofs.XorLaws.{xor_comm}
 
 -- ---- zero blocks in front
 
@@ -45,7 +46,7 @@ same_lists [] [] e h j z = refl
 same_lists [] (y ∷ ys) e h j z = absurd (omega arith)
 same_lists (x ∷ xs) [] e h j z = absurd (omega arith)
 same_lists (x ∷ xs) (y ∷ ys) e h j z =
-    ap₂ (λ (u : List ℕ) (us : List (List ℕ)). u ∷ us) (same_of_xor x y h.0.size j.0.size z.0) (same_lists xs ys (omega arith) h.1 j.1 z.1)
+    ap₂ (λ u us. u ∷ us) (same_of_xor x y h.0.size j.0.size z.0) (same_lists xs ys (omega arith) h.1 j.1 z.1)
 
 -- ---- the law
 
@@ -58,22 +59,22 @@ few_keys left right sum keys is_left is_right is_sum sized differ apart each =
     let vs = zeros_before n right in
     let all_u = Blocks-zeros (n - length left) left is_left in
     let all_v = Blocks-zeros (n - length right) right is_right in
-    let long : length us ≡ n = length-zeros_before n left (omega arith) in
-    let same : length us ≡ length vs = long ∙ sym (length-zeros_before n right (omega arith)) in
+    let long = length-zeros_before n left (omega arith) in
+    let same = long ∙ sym (length-zeros_before n right (omega arith)) in
     let ds = xor_blocks us vs in
     let all_d = Blocks-xor us vs all_u all_v in
     let root : EachAt (λ h. value_at h (sum ∷ reverse ds) ≡ zero_block) keys =
     λ i below.
     let h = get_or keys i [] in
     let sh = sized i below in
-    ap (λ (x : List ℕ). sum ⊕ x)
+    ap (λ x. sum ⊕ x)
     (sym (ghash_value h ds sh all_d) ∙ ghash_xor h us vs sh (AllSized-blocks us all_u) (AllSized-blocks vs all_v) same
     ∙ ap₂ ◌⊕◌ (ghash-zeros h (n - length left) left sh is_left) (ghash-zeros h (n - length right) right sh is_right)
     ∙ each i [] below)
     ∙ xor_self sum is_sum.size in
     ⊎_elim
     (λ (many : n < length keys).
-    let count : length (reverse ds) ≡ n = length-reverse ds ∙ length-xor_blocks us vs same ∙ long in
+    let count = length-reverse ds ∙ length-xor_blocks us vs same ∙ long in
     let zeros = all_zero keys (sum ∷ reverse ds) (omega arith) sized (is_sum, Each-reverse IsBlock ds all_d) apart root in
     let none : Zeros ds = subst Zeros (reverse-reverse ds) (Each-reverse (λ c. c ≡ zero_block) (reverse ds) zeros.1) in
     absurd (differ (same_lists us vs same all_u all_v none)))
@@ -84,4 +85,5 @@ pub few_hash_keys : (left right : List (List ℕ)) (sum : List ℕ) (keys : List
     All IsBlock left → All IsBlock right → IsBlock sum → EachAt Sized keys →
     DifferWhenPadded left right → AllPairs (λ h k. HasInverse (h ⊕ k)) keys → All (λ h. ghash h left ⊕ ghash h right ≡ sum) keys →
     length keys ≤ max (length left) (length right)
-few_hash_keys left right sum keys is_left is_right = few_keys left right sum keys (Blocks-from left is_left) (Blocks-from right is_right)
+few_hash_keys left right sum keys is_left is_right =
+    few_keys left right sum keys (recursion_from_All IsBlock left is_left) (recursion_from_All IsBlock right is_right)

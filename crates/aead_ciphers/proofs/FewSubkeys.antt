@@ -1,5 +1,6 @@
 -- Few hash subkeys accept two messages that differ.
 use Rattle.std.proofs.Common.{◌≡◌, ◌≢◌, ℕ, ◌≤◌, max, List, [], length, get_or, All, AllPairs, sym, ap, ap₂, subst, ◌∙◌, arith}
+use Rattle.aead_ciphers_base.proofs.XorLemmas.{xor_exchange}
 use Rattle.aead_ciphers_base.specs.Bytes.{◌⊕◌}
 use Rattle.aead_ciphers.specs.Different.{HasInverse, masked_tag}
 use Rattle.aead_ciphers.specs.Gcm.{Fits, hashed, sealing_products}
@@ -10,13 +11,12 @@ use Rattle.aead_ciphers.proofs.BlockLists.{AllSized-blocks}
 use Rattle.aead_ciphers.proofs.DifferentMessages.{different_messages}
 use Rattle.aead_ciphers.proofs.FewHashKeys.{few_keys}
 use Rattle.aead_ciphers.proofs.GhashLaws.{IsBlock-xor, Sized, Sized-ghash, Sized-xor, xor_zero}
-use Rattle.aead_ciphers.proofs.HashedBlocks.{Blocks-hashed, Bytes, count_hashed}
-use Rattle.aead_ciphers.proofs.XorLaws.{xor_exchange}
+use Rattle.aead_ciphers.proofs.TagInput.{Blocks-hashed, Bytes, count_hashed}
 
 -- one mask falls out of the XOR of two tags
 unmasked : (x y mask : List ℕ) → Sized x → Sized y → Sized mask → x ⊕ y ≡ (x ⊕ mask) ⊕ (y ⊕ mask)
 unmasked x y mask sx sy sm =
-    sym (xor_exchange x mask y mask ∙ ap (λ (z : List ℕ). (x ⊕ y) ⊕ z) (xor_self mask sm) ∙ xor_zero (x ⊕ y) (Sized-xor x y sx sy))
+    sym (xor_exchange x mask y mask ∙ ap (λ z. (x ⊕ y) ⊕ z) (xor_self mask sm) ∙ xor_zero (x ⊕ y) (Sized-xor x y sx sy))
 
 pub few_subkeys : (a c tag a' c' tag' : List ℕ) (keys : List (List ℕ)) → Bytes a → Bytes c → Bytes a' → Bytes c' →
     Fits (length a) (length c) → Fits (length a') (length c') → IsBlock tag → IsBlock tag' → All IsBlock keys →
@@ -43,6 +43,6 @@ few_subkeys a c tag a' c' tag' keys ha hc ha' hc' fits fits' is_tag is_tag' is_k
     let sx = Sized-ghash h xs sh (AllSized-blocks xs all_x) in
     let sy = Sized-ghash h ys sh (AllSized-blocks ys all_y) in
     unmasked (ghash h xs) (ghash h ys) m.0 sx sy m.1.size ∙ sym (ap₂ ◌⊕◌ m.2 m.3) in
-    subst (λ (n : ℕ). length keys ≤ n) (ap₂ max (count_hashed a c) (count_hashed a' c'))
+    subst (λ n. length keys ≤ n) (ap₂ max (count_hashed a c) (count_hashed a' c'))
     (few_keys xs ys (tag ⊕ tag') keys all_x all_y (IsBlock-xor tag tag' is_tag is_tag') (λ i below. (is_keys i [] below).size)
     (different_messages a c a' c' fits fits' differ) apart same)

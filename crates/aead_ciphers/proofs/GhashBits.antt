@@ -1,5 +1,6 @@
 -- The bits of a number, as coefficients, under XOR, masks and a shift by one; and its bytes.
-use Rattle.std.proofs.Common.{◌≡◌, ℕ, zero, suc, ◌+◌, ◌-◌, ◌/◌, ◌%◌, ◌^◌, ◌<◌, Bool, true, false, List, [], ◌∷◌, ◌++◌, length, refl, sym, ap, ap₂, ◌∙◌, arith, if◌then◌else◌, ◌==◌, bit_and, bit_xor, mod-eq_of_lt, pow-suc}
+use Rattle.std.proofs.Common.{◌≡◌, ℕ, zero, suc, ◌+◌, ◌-◌, ◌/◌, ◌%◌, ◌^◌, ◌<◌, Bool, true, false, List, [], ◌∷◌, ◌++◌, length, refl, sym, ap, ap₂, ◌∙◌, arith}
+use Rattle.std.proofs.Common.{if◌then◌else◌, ◌==◌, bit_and, bit_xor, mod-eq_of_lt, pow-suc}
 use Rattle.std.proofs.Math.Nat.{mod_self}
 use Rattle.std.specs.Int.{bit_at}
 use Rattle.std.specs.Int.Bits.{and_zero_r}
@@ -8,7 +9,8 @@ use Rattle.std.proofs.lemmas.Nat.{and_mask, pow_pos}
 use Rattle.std.proofs.lemmas.Nat.Bits.{bit_at_xor, bit_at-zero, bit_at-suc, bit_at-lt, bit_at_above}
 use Rattle.aead_ciphers_base.specs.Polynomial.{◌xor◌, coefficient}
 use Rattle.aead_ciphers.specs.Ghash.{bits_high_first}
-use Rattle.aead_ciphers_base.proofs.PolynomialBits.{Series, add, add_assoc, add_none, add_self, and_one, and_zero, none, same_series, scale, shift, shift-add, xor_zero}
+use Rattle.aead_ciphers_base.proofs.PolynomialBits.{Series, add, add_assoc, add_none, add_self, and_one, and_zero, none, same_series, scale, shift, shift-add}
+use Rattle.aead_ciphers_base.proofs.PolynomialBits.{xor_zero}
 use Rattle.aead_ciphers_base.proofs.PolynomialAction.{mul_x}
 use Rattle.aead_ciphers_base.proofs.PolynomialLaws.{AllBelow, modulus, monomial, monomial_same, mul_x-high, mul_x-low, tap_bits}
 
@@ -35,9 +37,10 @@ unfolding bits_high_first
 coefficients-xor zero a b = refl
 coefficients-xor (suc k) a b = same_series (go (coefficients-xor k a b))
   where
-    go : coefficients k (bit_xor a b) ≡ add (coefficients k a) (coefficients k b) → (j : ℕ) → coefficients (suc k) (bit_xor a b) j ≡ add (coefficients (suc k) a) (coefficients (suc k) b) j
-    go ih zero = ap (λ (x : ℕ). x == 1) (bit_at_xor a b k) ∙ xor-parity (bit_at a k) (bit_at b k) (bit_at-lt a k) (bit_at-lt b k)
-    go ih (suc j) = ap (λ (f : Series). f j) ih
+    go : coefficients k (bit_xor a b) ≡ add (coefficients k a) (coefficients k b)
+        → (j : ℕ) → coefficients (suc k) (bit_xor a b) j ≡ add (coefficients (suc k) a) (coefficients (suc k) b) j
+    go ih zero = ap (λ x. x == 1) (bit_at_xor a b k) ∙ xor-parity (bit_at a k) (bit_at b k) (bit_at-lt a k) (bit_at-lt b k)
+    go ih (suc j) = ap (λ f. f j) ih
 
 pub coefficients-zero : (k : ℕ) → coefficients k 0 ≡ none
 unfolding bits_high_first
@@ -45,8 +48,8 @@ coefficients-zero zero = refl
 coefficients-zero (suc k) = same_series (go (coefficients-zero k))
   where
     go : coefficients k 0 ≡ none → (j : ℕ) → coefficients (suc k) 0 j ≡ false
-    go ih zero = ap (λ (x : ℕ). x == 1) (bit_at-zero k)
-    go ih (suc j) = ap (λ (f : Series). f j) ih
+    go ih zero = ap (λ x. x == 1) (bit_at-zero k)
+    go ih (suc j) = ap (λ f. f j) ih
 
 -- 0 less a bit, at w bits
 abbrev pub mask : ℕ → ℕ → ℕ
@@ -55,11 +58,11 @@ mask w bit = (0 + (2 ^ w - bit)) % 2 ^ w
 pub masked : (w v x : ℕ) → x < 2 → v < 2 ^ w → bit_and v (mask w x) ≡ (if x == 1 then v else 0)
 masked w v zero h below =
     let e : 0 + (2 ^ w - 0) ≡ 2 ^ w = omega arith in
-    ap (bit_and v) (ap (λ (n : ℕ). n % 2 ^ w) e ∙ mod_self (2 ^ w)) ∙ and_zero_r v
+    ap (bit_and v) (ap (λ n. n % 2 ^ w) e ∙ mod_self (2 ^ w)) ∙ and_zero_r v
 masked w v (suc zero) h below =
     let e : 0 + (2 ^ w - 1) ≡ 2 ^ w - 1 = omega arith in
     let p = pow_pos w in
-    ap (bit_and v) (ap (λ (n : ℕ). n % 2 ^ w) e ∙ mod-eq_of_lt (omega arith)) ∙ and_mask v w ∙ mod-eq_of_lt below
+    ap (bit_and v) (ap (λ n. n % 2 ^ w) e ∙ mod-eq_of_lt (omega arith)) ∙ and_mask v w ∙ mod-eq_of_lt below
 masked w v (suc (suc x)) h below = absurd (omega arith)
 
 chosen : (k v x : ℕ) → x < 2 → coefficients k (if x == 1 then v else 0) ≡ scale (x == 1) (coefficients k v)
@@ -75,11 +78,11 @@ coefficients-masked k w v x h below = ap (coefficients k) (masked w v x h below)
 pub bits-push : (k n : ℕ) → bits_high_first (suc k) n ≡ bits_high_first k (n / 2) ++ ((bit_at n 0 == 1) ∷ [])
 unfolding bits_high_first
 bits-push zero n = refl
-bits-push (suc k) n = ap₂ (λ (x : ℕ) (p : List Bool). (x == 1) ∷ p) (bit_at-suc n k) (bits-push k n)
+bits-push (suc k) n = ap₂ (λ x p. (x == 1) ∷ p) (bit_at-suc n k) (bits-push k n)
 
 pub bits-half : (k n : ℕ) → n < 2 ^ (suc k) → bits_high_first (suc k) (n / 2) ≡ false ∷ bits_high_first k (n / 2)
 unfolding bits_high_first
-bits-half k n h = ap (λ (x : ℕ). (x == 1) ∷ bits_high_first k (n / 2)) (bit_at_above (n / 2) k k (omega (arith, pow-suc 2 k)) (omega arith))
+bits-half k n h = ap (λ x. (x == 1) ∷ bits_high_first k (n / 2)) (bit_at_above (n / 2) k k (omega (arith, pow-suc 2 k)) (omega arith))
 
 coefficient-push : (q : List Bool) (b : Bool) → coefficient (q ++ (b ∷ [])) ≡ add (coefficient q) (scale b (monomial (length q)))
 coefficient-push [] b = same_series go
@@ -89,9 +92,10 @@ coefficient-push [] b = same_series go
     go (suc j) = sym (and_zero b)
 coefficient-push (x ∷ q) b = same_series (go (coefficient-push q b))
   where
-    go : coefficient (q ++ (b ∷ [])) ≡ add (coefficient q) (scale b (monomial (length q))) → (j : ℕ) → coefficient (x ∷ (q ++ (b ∷ []))) j ≡ add (coefficient (x ∷ q)) (scale b (monomial (suc (length q)))) j
-    go ih zero = sym (ap (λ (c : Bool). x xor c) (and_zero b) ∙ xor_zero x)
-    go ih (suc j) = ap (λ (f : Series). f j) ih
+    go : coefficient (q ++ (b ∷ [])) ≡ add (coefficient q) (scale b (monomial (length q)))
+        → (j : ℕ) → coefficient (x ∷ (q ++ (b ∷ []))) j ≡ add (coefficient (x ∷ q)) (scale b (monomial (suc (length q)))) j
+    go ih zero = sym (ap (λ c. x xor c) (and_zero b) ∙ xor_zero x)
+    go ih (suc j) = ap (λ f. f j) ih
 
 pub mul_x-push : (top : ℕ) (taps : List ℕ) (low : AllBelow (suc top) taps) (q : List Bool) (b : Bool) → length q ≡ top →
     mul_x top (modulus taps (suc top)) (coefficient (q ++ (b ∷ []))) ≡ add (shift (coefficient q)) (scale b (tap_bits taps))
@@ -102,8 +106,9 @@ mul_x-push top taps low q false e =
     ∙ sym (add_none (shift (coefficient q)))
 mul_x-push top taps low q true e =
     let m = modulus taps (suc top) in
-    ap (mul_x top m) (coefficient-push q true ∙ ap (λ (n : ℕ). add (coefficient q) (monomial n)) e)
+    let one = monomial (suc top) in
+    ap (mul_x top m) (coefficient-push q true ∙ ap (λ n. add (coefficient q) (monomial n)) e)
     ∙ mul_x-high taps top low (add (coefficient q) (monomial top)) (ap₂ ◌xor◌ (get_or-eq_default q false (omega arith)) (monomial_same top))
-    ∙ ap (λ (s : Series). add s m) (shift-add (coefficient q) (monomial top))
-    ∙ add_assoc (shift (coefficient q)) (monomial (suc top)) m
-    ∙ ap (add (shift (coefficient q))) (sym (add_assoc (monomial (suc top)) (monomial (suc top)) (tap_bits taps)) ∙ ap (λ (s : Series). add s (tap_bits taps)) (add_self (monomial (suc top))))
+    ∙ ap (λ s. add s m) (shift-add (coefficient q) (monomial top))
+    ∙ add_assoc (shift (coefficient q)) one m
+    ∙ ap (add (shift (coefficient q))) (sym (add_assoc one one (tap_bits taps)) ∙ ap (λ s. add s (tap_bits taps)) (add_self one))

@@ -1,5 +1,6 @@
 -- Blocks as coefficients: a block is known by its bits, and XOR and the product are those of the bits.
-use Rattle.std.proofs.Common.{◌≡◌, ℕ, zero, suc, ◌+◌, ◌*◌, ◌/◌, ◌%◌, ◌^◌, ◌<◌, Bool, true, false, List, [], ◌∷◌, length, get_or, fold, flat_map, map, All, refl, sym, ap, ap₂, subst, ◌∙◌, arith, if◌then◌else◌, ◌==◌, mod-eq_of_lt, pow-suc, length-append, mul_comm}
+use Rattle.std.proofs.Common.{◌≡◌, ℕ, zero, suc, ◌+◌, ◌*◌, ◌/◌, ◌%◌, ◌^◌, ◌<◌, Bool, true, false, List, [], ◌∷◌, length, get_or, fold, flat_map, map, All, refl}
+use Rattle.std.proofs.Common.{sym, ap, ap₂, subst, ◌∙◌, arith, if◌then◌else◌, ◌==◌, mod-eq_of_lt, pow-suc, length-append, mul_comm}
 use Rattle.std.specs.Int.{bit_at, bytes_high_first, byte_at, to_be_bytes, from_be_bytes, w128}
 use Rattle.std.proofs.Math.Dec.{lit<}
 use Rattle.std.proofs.lemmas.Nat.{div-mul-add, mod-mul-add, mod_below, mul-add-lt}
@@ -13,19 +14,14 @@ use Rattle.aead_ciphers_base.proofs.PolynomialBits.{Series}
 use Rattle.aead_ciphers_base.proofs.PolynomialAction.{times}
 use Rattle.aead_ciphers_base.proofs.PolynomialLaws.{field_product_is, length-field_product, modulus, same_coefficients}
 use Rattle.aead_ciphers.proofs.GhashBits.{length-bits}
-use Rattle.aead_ciphers.proofs.GhashBytes.{digit_up, block_bits_of_number, number_after, power_256, byte_at_is}
+use Rattle.std.proofs.lemmas.List.Elements.{All-cons, All-head, All-tail}
+use Rattle.aead_ciphers.proofs.GhashBytes.{digits, digit_up, block_bits_of_number, number_after, power_256, byte_at_is}
 use Rattle.aead_ciphers.proofs.ProductLoop.{block_low}
 
 -- ---- bytes back from bits
 
 abbrev Byte : ℕ → Type 0
 Byte x = x < 256
-
-All-first : (x : ℕ) (xs : List ℕ) → All Byte (x ∷ xs) → x < 256
-All-first x xs h = h 0 x (omega arith)
-
-All-rest : (x : ℕ) (xs : List ℕ) → All Byte (x ∷ xs) → All Byte xs
-All-rest x xs h = λ k d below. h (suc k) d (omega arith)
 
 digit_below : (c x p q r : ℕ) → q ≡ p * c → x < c → r < p → x * p + r < q
 digit_below c x p q r e small below = let h = mul-add-lt x p r c small below in omega (arith, h)
@@ -35,19 +31,19 @@ abbrev value : ℕ → List ℕ → ℕ
 value a [] = a
 value a (x ∷ xs) = value (a * 256 + x) xs
 
-number-bytes : (xs : List ℕ) (a : ℕ) → All Byte xs → fold (λ (m : ℕ) (b : Bool). 2 * m + (if b then 1 else 0)) a (flat_map (bits_high_first 8) xs) ≡ value a xs
+number-bytes : (xs : List ℕ) (a : ℕ) → All Byte xs → digits a (flat_map (bits_high_first 8) xs) ≡ value a xs
 number-bytes [] a h = refl
 number-bytes (x ∷ xs) a h =
     fold-append (λ (m : ℕ) (b : Bool). 2 * m + (if b then 1 else 0)) a (bits_high_first 8 x) (flat_map (bits_high_first 8) xs)
-    ∙ ap (λ (n : ℕ). fold (λ (m : ℕ) (b : Bool). 2 * m + (if b then 1 else 0)) n (flat_map (bits_high_first 8) xs))
-    (number_after 8 x a ∙ ap (λ (y : ℕ). a * 256 + y) (mod-eq_of_lt (All-first x xs h)))
-    ∙ number-bytes xs (a * 256 + x) (All-rest x xs h)
+    ∙ ap (λ n. digits n (flat_map (bits_high_first 8) xs))
+    (number_after 8 x a ∙ ap (λ y. a * 256 + y) (mod-eq_of_lt (All-head Byte x xs h)))
+    ∙ number-bytes xs (a * 256 + x) (All-tail Byte x xs h)
 
 value-split : (xs : List ℕ) (a : ℕ) → All Byte xs → (r : ℕ) × (value a xs ≡ a * 256 ^ length xs + r) × (r < 256 ^ length xs)
 value-split [] a h = (0, omega arith, lit< tt)
 value-split (x ∷ xs) a h =
-    let w = value-split xs (a * 256 + x) (All-rest x xs h) in
-    let small : x < 256 = All-first x xs h in (
+    let w = value-split xs (a * 256 + x) (All-tail Byte x xs h) in
+    let small = All-head Byte x xs h in (
       x * 256 ^ length xs + w.0,
       w.1 ∙ digit_up a 256 x (256 ^ length xs) (256 ^ suc (length xs)) w.0 (pow-suc 256 (length xs)),
       digit_below 256 x (256 ^ length xs) (256 ^ suc (length xs)) w.0 (pow-suc 256 (length xs)) small w.2,
@@ -55,22 +51,22 @@ value-split (x ∷ xs) a h =
 
 byte_of-value : (a x k n r : ℕ) → x < 256 → n ≡ (a * 256 + x) * 256 ^ k + r → r < 256 ^ k → byte_at k n ≡ x
 byte_of-value a x k n r small e below =
-    byte_at_is k n ∙ ap (λ (p : ℕ). n / p % 256) (sym (power_256 k))
-    ∙ ap (λ (m : ℕ). m / 256 ^ k % 256) e ∙ ap (λ (m : ℕ). m % 256) (div-mul-add (a * 256 + x) (256 ^ k) r below) ∙ mod-mul-add a 256 x small
+    byte_at_is k n ∙ ap (λ p. n / p % 256) (sym (power_256 k))
+    ∙ ap (λ m. m / 256 ^ k % 256) e ∙ ap (λ m. m % 256) (div-mul-add (a * 256 + x) (256 ^ k) r below) ∙ mod-mul-add a 256 x small
 
 bytes_of-value : (xs : List ℕ) (a : ℕ) → All Byte xs → bytes_high_first (length xs) (value a xs) ≡ xs
 bytes_of-value [] a h = refl
 bytes_of-value (x ∷ xs) a h =
-    let w = value-split xs (a * 256 + x) (All-rest x xs h) in
-    ap₂ (λ (y : ℕ) (ys : List ℕ). y ∷ ys)
-    (byte_of-value a x (length xs) (value (a * 256 + x) xs) w.0 (All-first x xs h) w.1 w.2)
-    (bytes_of-value xs (a * 256 + x) (All-rest x xs h))
+    let w = value-split xs (a * 256 + x) (All-tail Byte x xs h) in
+    ap₂ (λ y ys. y ∷ ys)
+    (byte_of-value a x (length xs) (value (a * 256 + x) xs) w.0 (All-head Byte x xs h) w.1 w.2)
+    (bytes_of-value xs (a * 256 + x) (All-tail Byte x xs h))
 
 pub block_of-bits : (b : List ℕ) → IsBlock b → block_of (block_bits b) ≡ b
 unfolding block_of block_bits
 block_of-bits b is =
     ap (to_be_bytes w128) (number-bytes b 0 is.bytes)
-    ∙ ap (λ (k : ℕ). bytes_high_first k (value 0 b)) (sym is.size)
+    ∙ ap (λ k. bytes_high_first k (value 0 b)) (sym is.size)
     ∙ bytes_of-value b 0 is.bytes
 
 pub same_blocks : (a b : List ℕ) → IsBlock a → IsBlock b → block_bits a ≡ block_bits b → a ≡ b
@@ -79,7 +75,7 @@ same_blocks a b is_a is_b e = sym (block_of-bits a is_a) ∙ ap block_of e ∙ b
 -- the bytes of a block as a big-endian number
 pub from_be_bytes_is : (b : List ℕ) → length b ≡ 16 → from_be_bytes w128 b ≡ value 0 b
 from_be_bytes_is b size =
-    let e : b ≡ map (λ k. get_or b k 0) (range_with_len 0 16) = fill_by_all (λ k. get_or b k 0) b 16 0 size (λ k below. refl) in
+    let e = fill_by_all (λ k. get_or b k 0) b 16 0 size (λ k below. refl) in
     (let h : from_be_bytes w128 b ≡ value 0 (map (λ k. get_or b k 0) (range_with_len 0 16)) = omega arith in h) ∙ ap (value 0) (sym e)
 
 -- ---- bits back from bytes
@@ -89,46 +85,43 @@ bit-below false = lit< tt
 bit-below true = lit< tt
 
 parity : (a : ℕ) (b : Bool) → ((2 * a + (if b then 1 else 0)) % 2 == 1) ≡ b
-parity a false = ap (λ (m : ℕ). m == 1) (let h : (2 * a + 0) % 2 ≡ 0 = omega arith in h)
-parity a true = ap (λ (m : ℕ). m == 1) (let h : (2 * a + 1) % 2 ≡ 1 = omega arith in h)
+parity a false = ap (λ m. m == 1) (let h : (2 * a + 0) % 2 ≡ 0 = omega arith in h)
+parity a true = ap (λ m. m == 1) (let h : (2 * a + 1) % 2 ≡ 1 = omega arith in h)
 
-number-split : (p : List Bool) (a : ℕ) → (r : ℕ) × (fold (λ (m : ℕ) (b : Bool). 2 * m + (if b then 1 else 0)) a p ≡ a * 2 ^ length p + r) × (r < 2 ^ length p)
+number-split : (p : List Bool) (a : ℕ) → (r : ℕ) × (digits a p ≡ a * 2 ^ length p + r) × (r < 2 ^ length p)
 number-split [] a = (0, omega arith, lit< tt)
 number-split (b ∷ p) a =
-    let v : ℕ = if b then 1 else 0 in
+    let v = if b then 1 else 0 in
     let w = number-split p (2 * a + v) in (
       v * 2 ^ length p + w.0,
-      w.1 ∙ ap (λ (y : ℕ). (y + v) * 2 ^ length p + w.0) (mul_comm 2 a) ∙ digit_up a 2 v (2 ^ length p) (2 ^ suc (length p)) w.0 (pow-suc 2 (length p)),
+      w.1 ∙ ap (λ y. (y + v) * 2 ^ length p + w.0) (mul_comm 2 a) ∙ digit_up a 2 v (2 ^ length p) (2 ^ suc (length p)) w.0 (pow-suc 2 (length p)),
       digit_below 2 v (2 ^ length p) (2 ^ suc (length p)) w.0 (pow-suc 2 (length p)) (bit-below b) w.2,
     )
 
 bit_of-number : (a : ℕ) (b : Bool) (k n r : ℕ) → n ≡ (2 * a + (if b then 1 else 0)) * 2 ^ k + r → r < 2 ^ k → (bit_at n k == 1) ≡ b
 bit_of-number a b k n r e below =
-    ap (λ (m : ℕ). m / 2 ^ k % 2 == 1) e
-    ∙ ap (λ (m : ℕ). m % 2 == 1) (div-mul-add (2 * a + (if b then 1 else 0)) (2 ^ k) r below)
+    ap (λ m. m / 2 ^ k % 2 == 1) e
+    ∙ ap (λ m. m % 2 == 1) (div-mul-add (2 * a + (if b then 1 else 0)) (2 ^ k) r below)
     ∙ parity a b
 
-bits_of-number : (p : List Bool) (a : ℕ) → bits_high_first (length p) (fold (λ (m : ℕ) (b : Bool). 2 * m + (if b then 1 else 0)) a p) ≡ p
+bits_of-number : (p : List Bool) (a : ℕ) → bits_high_first (length p) (digits a p) ≡ p
 unfolding bits_high_first
 bits_of-number [] a = refl
 bits_of-number (b ∷ p) a =
     let w = number-split p (2 * a + (if b then 1 else 0)) in
-    ap₂ (λ (y : Bool) (q : List Bool). y ∷ q)
+    ap₂ (λ y q. y ∷ q)
     (bit_of-number a b (length p) (fold (λ (m : ℕ) (c : Bool). 2 * m + (if c then 1 else 0)) (2 * a + (if b then 1 else 0)) p) w.0 w.1 w.2)
     (bits_of-number p (2 * a + (if b then 1 else 0)))
 
 pub block_bits_of-block : (p : List Bool) → length p ≡ 128 → block_bits (block_of p) ≡ p
 unfolding block_of
 block_bits_of-block p e =
-    block_bits_of_number (number p) ∙ ap (λ (k : ℕ). bits_high_first k (number p)) (sym e) ∙ bits_of-number p 0
-
-All-byte : (x : ℕ) (xs : List ℕ) → x < 256 → All Byte xs → All Byte (x ∷ xs)
-All-byte x xs h hs zero d below = h
-All-byte x xs h hs (suc k) d below = hs k d (omega arith)
+    block_bits_of_number (number p) ∙ ap (λ k. bits_high_first k (number p)) (sym e) ∙ bits_of-number p 0
 
 pub bytes-below : (k n : ℕ) → All Byte (bytes_high_first k n)
 bytes-below zero n = λ k d below. absurd (omega arith)
-bytes-below (suc k) n = All-byte (byte_at k n) (bytes_high_first k n) (subst (λ (x : ℕ). x < 256) (sym (byte_at_is k n)) (mod_below (n / 2 ^ (8 * k)) 256 (lit< tt))) (bytes-below k n)
+bytes-below (suc k) n =
+    All-cons Byte (byte_at k n) (bytes_high_first k n) (rw (byte_at_is k n) (mod_below (n / 2 ^ (8 * k)) 256 (lit< tt))) (bytes-below k n)
 
 length-bytes : (k n : ℕ) → length (bytes_high_first k n) ≡ k
 length-bytes zero n = refl
@@ -144,11 +137,11 @@ IsBlock-product a b = IsBlock-number _
 pub length-flat : (xs : List ℕ) → length (flat_map (bits_high_first 8) xs) ≡ 8 * length xs
 length-flat [] = refl
 length-flat (x ∷ xs) =
-    length-append (bits_high_first 8 x) (flat_map (bits_high_first 8) xs) ∙ ap₂ (λ (m n : ℕ). m + n) (length-bits 8 x) (length-flat xs) ∙ omega arith
+    length-append (bits_high_first 8 x) (flat_map (bits_high_first 8) xs) ∙ ap₂ (λ m n. m + n) (length-bits 8 x) (length-flat xs) ∙ omega arith
 
 pub length-block_bits : (b : List ℕ) → length b ≡ 16 → length (block_bits b) ≡ 128
 unfolding block_bits
-length-block_bits b size = length-flat b ∙ ap (λ (k : ℕ). 8 * k) size
+length-block_bits b size = length-flat b ∙ ap (λ k. 8 * k) size
 
 -- ---- blocks as coefficients
 
@@ -165,14 +158,17 @@ same_from_series a b is_a is_b e =
 pub series-product : (a b : List ℕ) → length a ≡ 16 → length b ≡ 16 → series (a • b) ≡ block_times a (series b)
 unfolding ◌•◌
 series-product a b is_a is_b =
-    let la = length-block_bits a is_a in
-    let lb = length-block_bits b is_b in
-    ap coefficient (block_bits_of-block (field_product block_taps 128 (block_bits a) (block_bits b)) (length-field_product block_taps 127 block_low (block_bits a) (block_bits b) la lb))
-    ∙ field_product_is block_taps 127 block_low (block_bits a) (block_bits b) la lb
+    let p = block_bits a in
+    let q = block_bits b in
+    let lp = length-block_bits a is_a in
+    let lq = length-block_bits b is_b in
+    ap coefficient (block_bits_of-block (field_product block_taps 128 p q) (length-field_product block_taps 127 block_low p q lp lq))
+    ∙ field_product_is block_taps 127 block_low p q lp lq
 
 -- the bytes of the number that bytes were read as
-pub to_be_bytes-from_be_bytes : (b : List ℕ) (n : ℕ) → length b ≡ 16 → ((k : ℕ) → k < length b → get_or b k 0 < 256) → n ≡ from_be_bytes w128 b → to_be_bytes w128 n ≡ b
+pub to_be_bytes-from_be_bytes : (b : List ℕ) (n : ℕ) → length b ≡ 16 → ((k : ℕ) → k < length b → get_or b k 0 < 256)
+    → n ≡ from_be_bytes w128 b → to_be_bytes w128 n ≡ b
 to_be_bytes-from_be_bytes b n size small e =
     ap (to_be_bytes w128) (e ∙ from_be_bytes_is b size)
-    ∙ ap (λ (k : ℕ). bytes_high_first k (value 0 b)) (sym size)
-    ∙ bytes_of-value b 0 (λ k d below. subst (λ (x : ℕ). x < 256) (get_or_default b k 0 d below) (small k below))
+    ∙ ap (λ k. bytes_high_first k (value 0 b)) (sym size)
+    ∙ bytes_of-value b 0 (λ k d below. subst (λ x. x < 256) (get_or_default b k 0 d below) (small k below))

@@ -1,5 +1,6 @@
 -- The bits of a number's big-endian bytes are the number's bits.
-use Rattle.std.proofs.Common.{◌≡◌, ℕ, zero, suc, ◌+◌, ◌*◌, ◌/◌, ◌%◌, ◌^◌, ◌<◌, ◌≤◌, Bool, List, ◌∷◌, ◌++◌, fold, flat_map, refl, sym, ap, ap₂, ◌∙◌, arith, if◌then◌else◌, ◌==◌, zero-add, mod-eq_of_lt, pow-suc, div-one, bit_xor, mul_comm}
+use Rattle.std.proofs.Common.{◌≡◌, ℕ, List, zero, suc, ◌+◌, ◌*◌, ◌/◌, ◌%◌, ◌^◌, ◌<◌, ◌≤◌, Bool, ◌∷◌, ◌++◌, fold, flat_map, refl, sym, ap, ap₂, ◌∙◌, arith}
+use Rattle.std.proofs.Common.{if◌then◌else◌, ◌==◌, zero-add, mod-eq_of_lt, pow-suc, div-one, bit_xor, mul_comm}
 use Rattle.std.specs.Int.{bit_at, bytes_high_first, byte_at, to_be_bytes, w128}
 use Rattle.std.proofs.lemmas.Nat.{mod-pow-add, shr-shr, div-add-mod', pow-add, xor_shr, xor_mod}
 use Rattle.std.proofs.lemmas.Nat.Bits.{bit_at-lt, bit_at_cat_low}
@@ -11,31 +12,31 @@ use Rattle.aead_ciphers.specs.Ghash.{bits_high_first, number, block_bits, block_
 bit_at_byte : (n s j : ℕ) → j < 8 → bit_at (n / 2 ^ s % 2 ^ 8) j ≡ bit_at n (s + j)
 bit_at_byte n s j h =
     sym (bit_at_cat_low (n / 2 ^ s / 2 ^ 8) 8 (n / 2 ^ s % 2 ^ 8) j h)
-    ∙ ap (λ (x : ℕ). bit_at x j) (div-add-mod' (n / 2 ^ s) (2 ^ 8))
-    ∙ ap (λ (x : ℕ). x % 2) (shr-shr n s j)
+    ∙ ap (λ x. bit_at x j) (div-add-mod' (n / 2 ^ s) (2 ^ 8))
+    ∙ ap (λ x. x % 2) (shr-shr n s j)
 
 bits_split : (n s j : ℕ) → j ≤ 8 → bits_high_first j (n / 2 ^ s % 2 ^ 8) ++ bits_high_first s n ≡ bits_high_first (j + s) n
 unfolding bits_high_first
-bits_split n s zero h = ap (λ (k : ℕ). bits_high_first k n) (sym (zero-add s))
+bits_split n s zero h = ap (λ k. bits_high_first k n) (sym (zero-add s))
 bits_split n s (suc j) h =
-    ap₂ (λ (x : ℕ) (p : List Bool). (x == 1) ∷ p) (bit_at_byte n s j h ∙ ap (bit_at n) (omega arith)) (bits_split n s j (omega arith))
-    ∙ ap (λ (k : ℕ). bits_high_first k n) (let e : suc (j + s) ≡ suc j + s = omega arith in e)
+    ap₂ (λ x p. (x == 1) ∷ p) (bit_at_byte n s j h ∙ ap (bit_at n) (omega arith)) (bits_split n s j (omega arith))
+    ∙ ap (λ k. bits_high_first k n) (let e : suc (j + s) ≡ suc j + s = omega arith in e)
 
 pub power_256 : (k : ℕ) → 256 ^ k ≡ 2 ^ (8 * k)
 power_256 zero = refl
-power_256 (suc k) = pow-suc 256 k ∙ ap (λ (x : ℕ). x * 256) (power_256 k) ∙ sym (pow-add 2 (8 * k) 8) ∙ ap (λ (x : ℕ). 2 ^ x) (omega arith)
+power_256 (suc k) = pow-suc 256 k ∙ ap (λ x. x * 256) (power_256 k) ∙ sym (pow-add 2 (8 * k) 8) ∙ ap (λ x. 2 ^ x) (omega arith)
 
 pub byte_at_is : (k n : ℕ) → byte_at k n ≡ n / 2 ^ (8 * k) % 2 ^ 8
-byte_at_is zero n = ap (λ (x : ℕ). x % 256) (sym (div-one n))
-byte_at_is (suc k) n = ap (λ (x : ℕ). n / x % 2 ^ 8) (power_256 (suc k))
+byte_at_is zero n = ap (λ x. x % 256) (sym (div-one n))
+byte_at_is (suc k) n = ap (λ x. n / x % 2 ^ 8) (power_256 (suc k))
 
 bytes_bits : (k n : ℕ) → flat_map (bits_high_first 8) (bytes_high_first k n) ≡ bits_high_first (8 * k) n
 unfolding bits_high_first
 bytes_bits zero n = refl
 bytes_bits (suc k) n =
-    ap₂ (λ (x : ℕ) (p : List Bool). bits_high_first 8 x ++ p) (byte_at_is k n) (bytes_bits k n)
+    ap₂ (λ x p. bits_high_first 8 x ++ p) (byte_at_is k n) (bytes_bits k n)
     ∙ bits_split n (8 * k) 8 (omega arith)
-    ∙ ap (λ (j : ℕ). bits_high_first j n) (omega arith)
+    ∙ ap (λ j. bits_high_first j n) (omega arith)
 
 pub block_bits_of_number : (n : ℕ) → block_bits (to_be_bytes w128 n) ≡ bits_high_first 128 n
 unfolding block_bits
@@ -48,17 +49,22 @@ bit_value (suc (suc x)) h = absurd (omega arith)
 
 -- a digit x below the number a, above the rest r
 pub digit_up : (a c x p q r : ℕ) → q ≡ p * c → (a * c + x) * p + r ≡ a * q + (x * p + r)
-digit_up a c x p q r e = (let h : (a * c + x) * p + r ≡ a * (p * c) + (x * p + r) = omega arith in h) ∙ ap (λ (y : ℕ). a * y + (x * p + r)) (sym e)
+digit_up a c x p q r e = (let h : (a * c + x) * p + r ≡ a * (p * c) + (x * p + r) = omega arith in h) ∙ ap (λ y. a * y + (x * p + r)) (sym e)
 
-pub number_after : (k n a : ℕ) → fold (λ (m : ℕ) (b : Bool). 2 * m + (if b then 1 else 0)) a (bits_high_first k n) ≡ a * 2 ^ k + n % 2 ^ k
+-- the number of bits, the highest first, after the number a
+abbrev pub digits : ℕ → List Bool → ℕ
+digits a bits = fold (λ n b. 2 * n + (if b then 1 else 0)) a bits
+
+pub number_after : (k n a : ℕ) → digits a (bits_high_first k n) ≡ a * 2 ^ k + n % 2 ^ k
 unfolding bits_high_first
 number_after zero n a = omega arith
 number_after (suc k) n a =
     number_after k n (2 * a + (if bit_at n k == 1 then 1 else 0))
-    ∙ ap (λ (x : ℕ). (2 * a + x) * 2 ^ k + n % 2 ^ k) (bit_value (bit_at n k) (bit_at-lt n k))
+    ∙ ap (λ x. (2 * a + x) * 2 ^ k + n % 2 ^ k) (bit_value (bit_at n k) (bit_at-lt n k))
     ∙ (let one_more : suc k ≡ 1 + k = omega arith in
-    let e : n % 2 ^ suc k ≡ bit_at n k * 2 ^ k + n % 2 ^ k = ap (λ (j : ℕ). n % 2 ^ j) one_more ∙ mod-pow-add n 1 k in
-    ap (λ (y : ℕ). (y + bit_at n k) * 2 ^ k + n % 2 ^ k) (mul_comm 2 a) ∙ digit_up a 2 (bit_at n k) (2 ^ k) (2 ^ suc k) (n % 2 ^ k) (pow-suc 2 k) ∙ ap (λ (x : ℕ). a * 2 ^ suc k + x) (sym e))
+    let e = ap (λ j. n % 2 ^ j) one_more ∙ mod-pow-add n 1 k in
+    ap (λ y. (y + bit_at n k) * 2 ^ k + n % 2 ^ k) (mul_comm 2 a)
+    ∙ digit_up a 2 (bit_at n k) (2 ^ k) (2 ^ suc k) (n % 2 ^ k) (pow-suc 2 k) ∙ ap (λ x. a * 2 ^ suc k + x) (sym e))
 
 pub number_of_bits : (n : ℕ) → n < 2 ^ 128 → number (bits_high_first 128 n) ≡ n
 number_of_bits n h = number_after 128 n 0 ∙ omega (arith, mod-eq_of_lt h)
@@ -67,19 +73,20 @@ pub product_of_numbers : (a b c : ℕ) → c < 2 ^ 128 → bits_high_first 128 c
     to_be_bytes w128 c ≡ to_be_bytes w128 a • to_be_bytes w128 b
 unfolding ◌•◌ block_of
 product_of_numbers a b c below h =
-    ap (to_be_bytes w128) (sym (number_of_bits c below) ∙ ap number (h ∙ ap₂ (field_product block_taps 128) (sym (block_bits_of_number a)) (sym (block_bits_of_number b))))
+    let bits = ap₂ (field_product block_taps 128) (sym (block_bits_of_number a)) (sym (block_bits_of_number b)) in
+    ap (to_be_bytes w128) (sym (number_of_bits c below) ∙ ap number (h ∙ bits))
 
 -- the bytes of an XOR
 byte-xor : (k a b : ℕ) → byte_at k (bit_xor a b) ≡ bit_xor (byte_at k a) (byte_at k b)
 byte-xor k a b =
     byte_at_is k (bit_xor a b)
-    ∙ ap (λ (x : ℕ). x % 2 ^ 8) (xor_shr a b (8 * k))
+    ∙ ap (λ x. x % 2 ^ 8) (xor_shr a b (8 * k))
     ∙ xor_mod (a / 2 ^ (8 * k)) (b / 2 ^ (8 * k)) 8
     ∙ ap₂ bit_xor (sym (byte_at_is k a)) (sym (byte_at_is k b))
 
 bytes-xor : (k a b : ℕ) → bytes_high_first k (bit_xor a b) ≡ bytes_high_first k a ⊕ bytes_high_first k b
 bytes-xor zero a b = refl
-bytes-xor (suc k) a b = ap₂ (λ (x : ℕ) (xs : List ℕ). x ∷ xs) (byte-xor k a b) (bytes-xor k a b)
+bytes-xor (suc k) a b = ap₂ (λ x xs. x ∷ xs) (byte-xor k a b) (bytes-xor k a b)
 
 pub to_be_bytes-xor : (a b : ℕ) → to_be_bytes w128 (bit_xor a b) ≡ to_be_bytes w128 a ⊕ to_be_bytes w128 b
 to_be_bytes-xor a b = bytes-xor 16 a b

@@ -1,16 +1,17 @@
 -- The ring of blocks, and GHASH of one block more.
-use Rattle.std.proofs.Common.{◌≡◌, ℕ, zero, suc, ◌<◌, Bool, true, false, List, [], ◌∷◌, ◌++◌, length, get_or, replicate, flat_map, refl, sym, ap, ap₂, ◌∙◌, arith, ◌==◌, bit_xor, length-append, add-one}
+use Rattle.std.proofs.Common.{◌≡◌, ℕ, zero, suc, ◌<◌, Bool, true, false, List, [], ◌∷◌, ◌++◌, length, get_or, replicate, flat_map, refl, sym, ap, ap₂, ◌∙◌}
+use Rattle.std.proofs.Common.{arith, ◌==◌, bit_xor, length-append, add-one}
 use Rattle.std.specs.Int.{bit_at}
 use Rattle.std.proofs.lemmas.Nat.Bits.{bit_at_xor, bit_at-lt}
+use Rattle.aead_ciphers_base.proofs.XorLemmas.{bytes-xor, length-xor, xor_assoc, xor_comm, xor_exchange, xor_zeros}
 use Rattle.aead_ciphers_base.specs.Polynomial.{◌xor◌, coefficient}
 use Rattle.aead_ciphers_base.specs.Bytes.{◌⊕◌, zero_block}
 use Rattle.aead_ciphers.specs.Ghash.{IsBlock, bits_high_first, block_bits, ◌•◌, unit_block, power, ghash, AllSized, xor_blocks, block_taps}
-use Rattle.aead_ciphers_base.proofs.PolynomialBits.{Series, add, same_series}
+use Rattle.aead_ciphers_base.proofs.PolynomialBits.{add, same_series}
 use Rattle.aead_ciphers_base.proofs.PolynomialAction.{horner-add, times_swap}
 use Rattle.aead_ciphers_base.proofs.PolynomialLaws.{modulus, one, times_one}
 use Rattle.aead_ciphers.proofs.GhashBits.{xor-parity, length-bits}
 use Rattle.aead_ciphers.proofs.GhashBlocks.{series, block_times, same_from_series, series-product, IsBlock-product, length-block_bits}
-use Rattle.aead_ciphers.proofs.XorLaws.{length-xor, bytes-xor, xor_comm, xor_assoc, xor_zeros, xor_exchange}
 use Rattle.aead_ciphers.proofs.ProductLoop.{block_low, zeros_end}
 
 -- ---- XOR of blocks is XOR of coefficients
@@ -24,15 +25,15 @@ pub bits-xor : (k x y : ℕ) → bits_high_first k (bit_xor x y) ≡ xor_bits (b
 unfolding bits_high_first
 bits-xor zero x y = refl
 bits-xor (suc k) x y =
-    ap₂ (λ (b : Bool) (p : List Bool). b ∷ p)
-    (ap (λ (n : ℕ). n == 1) (bit_at_xor x y k) ∙ xor-parity (bit_at x k) (bit_at y k) (bit_at-lt x k) (bit_at-lt y k))
+    ap₂ (λ b p. b ∷ p)
+    (ap (λ n. n == 1) (bit_at_xor x y k) ∙ xor-parity (bit_at x k) (bit_at y k) (bit_at-lt x k) (bit_at-lt y k))
     (bits-xor k x y)
 
 xor_bits-append : (p q r s : List Bool) → length p ≡ length q → xor_bits (p ++ r) (q ++ s) ≡ xor_bits p q ++ xor_bits r s
 xor_bits-append [] [] r s e = refl
 xor_bits-append [] (b ∷ q) r s e = absurd (omega arith)
 xor_bits-append (a ∷ p) [] r s e = absurd (omega arith)
-xor_bits-append (a ∷ p) (b ∷ q) r s e = ap (λ (t : List Bool). (a xor b) ∷ t) (xor_bits-append p q r s (omega arith))
+xor_bits-append (a ∷ p) (b ∷ q) r s e = ap (λ t. (a xor b) ∷ t) (xor_bits-append p q r s (omega arith))
 
 coefficient-xor_bits : (p q : List Bool) → length p ≡ length q → coefficient (xor_bits p q) ≡ add (coefficient p) (coefficient q)
 coefficient-xor_bits [] [] e = refl
@@ -40,24 +41,27 @@ coefficient-xor_bits [] (b ∷ q) e = absurd (omega arith)
 coefficient-xor_bits (a ∷ p) [] e = absurd (omega arith)
 coefficient-xor_bits (a ∷ p) (b ∷ q) e = same_series (go (coefficient-xor_bits p q (omega arith)))
   where
-    go : coefficient (xor_bits p q) ≡ add (coefficient p) (coefficient q) → (k : ℕ) → coefficient (xor_bits (a ∷ p) (b ∷ q)) k ≡ add (coefficient (a ∷ p)) (coefficient (b ∷ q)) k
+    go : coefficient (xor_bits p q) ≡ add (coefficient p) (coefficient q)
+        → (k : ℕ) → coefficient (xor_bits (a ∷ p) (b ∷ q)) k ≡ add (coefficient (a ∷ p)) (coefficient (b ∷ q)) k
     go ih zero = refl
-    go ih (suc k) = ap (λ (f : Series). f k) ih
+    go ih (suc k) = ap (λ f. f k) ih
 
-flat-xor : (a b : List ℕ) → length a ≡ length b → flat_map (bits_high_first 8) (a ⊕ b) ≡ xor_bits (flat_map (bits_high_first 8) a) (flat_map (bits_high_first 8) b)
+flat-xor : (a b : List ℕ) → length a ≡ length b
+    → flat_map (bits_high_first 8) (a ⊕ b) ≡ xor_bits (flat_map (bits_high_first 8) a) (flat_map (bits_high_first 8) b)
 flat-xor [] [] e = refl
 flat-xor [] (y ∷ ys) e = absurd (omega arith)
 flat-xor (x ∷ xs) [] e = absurd (omega arith)
 flat-xor (x ∷ xs) (y ∷ ys) e =
-    ap₂ (λ (p q : List Bool). p ++ q) (bits-xor 8 x y) (flat-xor xs ys (omega arith))
-    ∙ sym (xor_bits-append (bits_high_first 8 x) (bits_high_first 8 y) (flat_map (bits_high_first 8) xs) (flat_map (bits_high_first 8) ys) (length-bits 8 x ∙ sym (length-bits 8 y)))
+    ap₂ (λ p q. p ++ q) (bits-xor 8 x y) (flat-xor xs ys (omega arith))
+    ∙ sym (xor_bits-append (bits_high_first 8 x) (bits_high_first 8 y) (flat_map (bits_high_first 8) xs) (flat_map (bits_high_first 8) ys)
+    (length-bits 8 x ∙ sym (length-bits 8 y)))
 
 -- 16 numbers
 abbrev pub Sized : List ℕ → Type 0
 Sized a = length a ≡ 16
 
 pub Sized-xor : (a b : List ℕ) → Sized a → Sized b → Sized (a ⊕ b)
-Sized-xor a b size_a size_b = length-xor a b (size_a ∙ sym size_b) ∙ size_a
+Sized-xor a b size_a size_b = length-xor a b (omega arith) ∙ size_a
 
 pub IsBlock-xor : (a b : List ℕ) → IsBlock a → IsBlock b → IsBlock (a ⊕ b)
 IsBlock-xor a b is_a is_b = record {
@@ -117,7 +121,7 @@ product_left_swap a b c is_a is_b is_c =
 
 pub product_assoc : (a b c : List ℕ) → Sized a → Sized b → Sized c → (a • b) • c ≡ a • (b • c)
 product_assoc a b c is_a is_b is_c =
-    product_comm (a • b) c (Sized-product a b) is_c ∙ product_left_swap c a b is_c is_a is_b ∙ ap (λ (x : List ℕ). a • x) (product_comm c b is_c is_b)
+    product_comm (a • b) c (Sized-product a b) is_c ∙ product_left_swap c a b is_c is_a is_b ∙ ap (λ x. a • x) (product_comm c b is_c is_b)
 
 pub product_xor_right : (a b c : List ℕ) → Sized a → Sized b → Sized c → a • (b ⊕ c) ≡ (a • b) ⊕ (a • c)
 product_xor_right a b c is_a is_b is_c =
@@ -129,7 +133,7 @@ product_xor_right a b c is_a is_b is_c =
 pub product_xor_left : (a b c : List ℕ) → Sized a → Sized b → Sized c → (a ⊕ b) • c ≡ (a • c) ⊕ (b • c)
 product_xor_left a b c is_a is_b is_c =
     product_comm (a ⊕ b) c (Sized-xor a b is_a is_b) is_c ∙ product_xor_right c a b is_c is_a is_b
-    ∙ ap₂ (λ (x y : List ℕ). x ⊕ y) (product_comm c a is_c is_a) (product_comm c b is_c is_b)
+    ∙ ap₂ (λ x y. x ⊕ y) (product_comm c a is_c is_a) (product_comm c b is_c is_b)
 
 -- ---- GHASH
 
@@ -153,7 +157,7 @@ pub ghash_more : (h : List ℕ) (xs : List (List ℕ)) (x : List ℕ) → Sized 
 unfolding ghash ◌•◌
 ghash_more h [] x is_h all is_x =
     xor_zero (x • h) (Sized-product x h)
-    ∙ ap (λ (y : List ℕ). y • h) (sym (xor_comm zero_block x ∙ xor_zero x is_x))
+    ∙ ap (λ y. y • h) (sym (xor_comm zero_block x ∙ xor_zero x is_x))
 ghash_more h (y ∷ ys) x is_h all is_x =
     let n = length ys in
     let p = power h (suc n) in
@@ -161,11 +165,11 @@ ghash_more h (y ∷ ys) x is_h all is_x =
     let g = ghash h ys in
     let is_g = Sized-ghash h ys is_h all.1 in
     let is_yp = Sized-product y p in
-    let count : length (ys ++ (x ∷ [])) ≡ suc n = length-append ys (x ∷ []) ∙ add-one n in
-    ap₂ (λ (k : ℕ) (r : List ℕ). (y • power h (suc k)) ⊕ r) count (ghash_more h ys x is_h all.1 is_x)
-    ∙ ap (λ (r : List ℕ). r ⊕ ((g ⊕ x) • h)) (sym (product_assoc y p h all.0 is_p is_h))
+    let count = length-append ys (x ∷ []) ∙ add-one n in
+    ap₂ (λ k r. (y • power h (suc k)) ⊕ r) count (ghash_more h ys x is_h all.1 is_x)
+    ∙ ap (λ r. r ⊕ ((g ⊕ x) • h)) (sym (product_assoc y p h all.0 is_p is_h))
     ∙ sym (product_xor_left (y • p) (g ⊕ x) h is_yp (Sized-xor g x is_g is_x) is_h)
-    ∙ ap (λ (r : List ℕ). r • h) (sym (xor_assoc (y • p) g x))
+    ∙ ap (λ r. r • h) (sym (xor_assoc (y • p) g x))
 
 pub length-xor_blocks : (xs ys : List (List ℕ)) → length xs ≡ length ys → length (xor_blocks xs ys) ≡ length xs
 length-xor_blocks [] [] e = refl
@@ -173,7 +177,8 @@ length-xor_blocks [] (y ∷ ys) e = absurd (omega arith)
 length-xor_blocks (x ∷ xs) [] e = absurd (omega arith)
 length-xor_blocks (x ∷ xs) (y ∷ ys) e = ap suc (length-xor_blocks xs ys (omega arith))
 
-pub ghash_xor : (h : List ℕ) (xs ys : List (List ℕ)) → Sized h → AllSized xs → AllSized ys → length xs ≡ length ys → ghash h (xor_blocks xs ys) ≡ ghash h xs ⊕ ghash h ys
+pub ghash_xor : (h : List ℕ) (xs ys : List (List ℕ)) → Sized h → AllSized xs → AllSized ys → length xs ≡ length ys
+    → ghash h (xor_blocks xs ys) ≡ ghash h xs ⊕ ghash h ys
 unfolding ghash
 ghash_xor h [] [] is_h all_x all_y e = sym (xor_zero zero_block refl)
 ghash_xor h [] (y ∷ ys) is_h all_x all_y e = absurd (omega arith)
@@ -182,10 +187,10 @@ ghash_xor h (x ∷ xs) (y ∷ ys) is_h all_x all_y e =
     let same : length xs ≡ length ys = omega arith in
     let p = power h (suc (length xs)) in
     let is_p = Sized-power h (suc (length xs)) is_h in
-    ap₂ (λ (k : ℕ) (r : List ℕ). ((x ⊕ y) • power h (suc k)) ⊕ r) (length-xor_blocks xs ys same) (ghash_xor h xs ys is_h all_x.1 all_y.1 same)
-    ∙ ap (λ (r : List ℕ). r ⊕ (ghash h xs ⊕ ghash h ys)) (product_xor_left x y p all_x.0 all_y.0 is_p)
+    ap₂ (λ k r. ((x ⊕ y) • power h (suc k)) ⊕ r) (length-xor_blocks xs ys same) (ghash_xor h xs ys is_h all_x.1 all_y.1 same)
+    ∙ ap (λ r. r ⊕ (ghash h xs ⊕ ghash h ys)) (product_xor_left x y p all_x.0 all_y.0 is_p)
     ∙ xor_exchange (x • p) (y • p) (ghash h xs) (ghash h ys)
-    ∙ ap (λ (k : ℕ). ((x • p) ⊕ ghash h xs) ⊕ ((y • power h (suc k)) ⊕ ghash h ys)) same
+    ∙ ap (λ k. ((x • p) ⊕ ghash h xs) ⊕ ((y • power h (suc k)) ⊕ ghash h ys)) same
 
 pub AllSized-from : (xs : List (List ℕ)) → ((i : ℕ) → i < length xs → length (get_or xs i []) ≡ 16) → AllSized xs
 AllSized-from [] h = tt

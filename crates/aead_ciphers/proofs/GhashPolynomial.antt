@@ -1,13 +1,13 @@
 -- GHASH as a polynomial in the hash subkey: the blocks are its coefficients, the last that of the first power.
 use Rattle.std.proofs.Common.{◌≡◌, ℕ, List, [], ◌∷◌, reverse, sym, ap, ◌∙◌}
 use Rattle.std.proofs.lemmas.List.{reverse-append, reverse-reverse}
+use Rattle.aead_ciphers_base.proofs.XorLemmas.{xor_comm}
 use Rattle.aead_ciphers_base.specs.Bytes.{◌⊕◌, zero_block}
 use Rattle.aead_ciphers.specs.Ghash.{IsBlock, ◌•◌, ghash}
 use Rattle.aead_ciphers.proofs.BlockCancellation.{IsBlock-zero, product_zero}
 use Rattle.aead_ciphers.proofs.BlockLists.{AllSized-blocks, Blocks, Each-reverse}
 use Rattle.aead_ciphers.proofs.GhashBlocks.{IsBlock-product}
 use Rattle.aead_ciphers.proofs.GhashLaws.{IsBlock-xor, Sized, Sized-product, Sized-xor, ghash_more, product_comm}
-use Rattle.aead_ciphers.proofs.XorLaws.{xor_comm}
 
 -- the value at h of the polynomial with these coefficients, the constant one first
 abbrev pub value_at : List ℕ → List (List ℕ) → List ℕ
@@ -25,9 +25,9 @@ ghash-reverse h (c ∷ cs) sh all =
     let v = h • value_at h cs in
     ap (ghash h) (reverse-append (c ∷ []) cs)
     ∙ ghash_more h (reverse cs) c sh (AllSized-blocks (reverse cs) (Each-reverse IsBlock cs all.1)) all.0.size
-    ∙ ap (λ (x : List ℕ). (x ⊕ c) • h) (ghash-reverse h cs sh all.1)
+    ∙ ap (λ x. (x ⊕ c) • h) (ghash-reverse h cs sh all.1)
     ∙ product_comm (v ⊕ c) h (Sized-xor v c (Sized-product h (value_at h cs)) all.0.size) sh
-    ∙ ap (λ (x : List ℕ). h • x) (xor_comm v c)
+    ∙ ap (λ x. h • x) (xor_comm v c)
 
 pub ghash_value : (h : List ℕ) (xs : List (List ℕ)) → Sized h → Blocks xs → ghash h xs ≡ h • value_at h (reverse xs)
 ghash_value h xs sh all = ap (ghash h) (sym (reverse-reverse xs)) ∙ ghash-reverse h (reverse xs) sh (Each-reverse IsBlock xs all)

@@ -4,7 +4,7 @@ use Rattle.aead_ciphers.specs.BoundState.{BoundState}
 use Rattle.aead_ciphers.specs.Runs.{open_outcome}
 use Rattle.aead_ciphers.specs.Steps.{OpenStep}
 use Rattle.aead_ciphers.specs.declared.session.Outcome.TheVariants.{Opened}
-use Rattle.aead_ciphers.proofs.OpenLemmas.{step_fronts}
+use Rattle.aead_ciphers.proofs.LentPlaintext.{step_fronts}
 
 -- the plaintext of a job that opened is within the buffer
 pub opened_within : {N : Type 0} (spent : N → List (List ℕ)) (is_closed : N → Bool) (was now : BoundState N) (aad : List ℕ) (start : ℕ) (old new : List ℕ) (accepts : Bool) (n : ℕ)

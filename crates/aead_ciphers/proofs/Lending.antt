@@ -7,8 +7,8 @@ use mathlib.Core.Path.{◌≡◌, refl, sym, subst}
 use mathlib.Core.List.{List, [], ◌∷◌, ◌++◌}
 use Prim.Native.Nat.{ℕ}
 use seplogic.Ra.Ura.{Ura}
-use mir.Syntax.{Lifetime, Ty, ty_int, w8, erased}
-use mir.Val.{Val, has_ty, WT}
+use mir.Syntax.{Lifetime, erased}
+use mir.Val.{Val}
 use lib.Dec.{T}
 use base.Logic.{ent, id⊢}
 use base.Fml.{Fml, Lft, GName}
@@ -17,8 +17,8 @@ use types.Kit.{‵, ◌$◌, ◌∵◌, !, qed, drop, fsplit, fsplit3, fjoin, do
 use denote.Array.{Array}
 use denote.Builtin.{u8, usize}
 use denote.Follow.{follows, follows_by}
-use denote.Laws.{Lawful, Typed, Is}
-use denote.RattleType.{RattleType, Valss}
+use denote.Laws.{Lawful, Is}
+use denote.RattleType.{RattleType}
 use denote.Ref.{MutBor, NamedLft}
 use denote.Shadow.{pure_i}
 use denote.Slice.{MutSlice, Room, room, slice_val, shr_slice_at}
@@ -44,6 +44,7 @@ use Rattle.aead_ciphers_base.specs.contracts.values.Nonce as N
 use Rattle.aead_ciphers_base.proofs.values.Nonce.TheLaws as NL
 use Rattle.aead_ciphers_base.specs.contracts.values.Tag as G
 use Rattle.aead_ciphers_base.proofs.values.Tag.TheLaws as GL
+use Rattle.aead_ciphers_base.proofs.Walks.{Word, lone, one}
 use Rattle.aead_ciphers.specs.Lending.{LendsFront}
 
 abbrev pub usize_laws : PL.Laws usize
@@ -60,45 +61,6 @@ Out X = RS.the_row X US.the_row
 
 abbrev pub Own : ℕ → ℕ → Lft → GName → List ℕ → Fml
 Own b o k g xs = (owned-types.MutSlice erased k u8).own_val (record { ref_ptr = (b, o); ghost_name = g; now = xs })
-
-abbrev pub lone : List Ty → Ty
-lone [] = ty_int w8
-lone (τ ∷ τs) = τ
-
--- where a type's values are one word, the list of them is that word
-pub one : (τ : Ty) (vs : List Val) → Typed (τ ∷ []) vs → (v : Val) × (vs ≡ v ∷ []) × (T (has_ty τ v) × WT v)
-one τ [] t = absurd t
-one τ (v ∷ []) t = (v, refl, t.0)
-one τ (v ∷ w ∷ vs) t = absurd t.1
-
--- the one word that stores a value: the word, that it is the list of the value's words, and that it is of the type
-abbrev pub Word : RattleType → List Val → Type 0
-Word R vs = (v : Val) × (vs ≡ v ∷ []) × (T (has_ty (lone R.mir) v) × WT v)
-
--- parameters that are stored as a word each
-abbrev pub Words : (Ts : List RattleType) → Valss Ts → Type 0
-Words [] vss = Unit {0}
-Words (R ∷ Ts) vss = Word R vss.0 × Words Ts vss.1
-
-abbrev pub words_vals : (Ts : List RattleType) (vss : Valss Ts) → Words Ts vss → Valss Ts
-words_vals [] vss ws = tt
-words_vals (R ∷ Ts) vss ws = (ws.0.0 ∷ [], words_vals Ts vss.1 ws.1)
-
-pub words_same : (Ts : List RattleType) (vss : Valss Ts) (ws : Words Ts vss) → words_vals Ts vss ws ≡ vss
-words_same [] vss ws = refl
-words_same (R ∷ Ts) vss ws = λ i. (sym (ws.0.1) i, words_same Ts vss.1 ws.1 i)
-
-abbrev pub WordsTyped : (Ts : List RattleType) (vss : Valss Ts) → Words Ts vss → Type 0
-WordsTyped [] vss ws = Unit {0}
-WordsTyped (R ∷ Ts) vss ws = (T (has_ty (lone R.mir) ws.0.0) × WT ws.0.0) × WordsTyped Ts vss.1 ws.1
-
-abbrev pub words_typed : (Ts : List RattleType) (vss : Valss Ts) (ws : Words Ts vss) → WordsTyped Ts vss ws
-words_typed [] vss ws = tt
-words_typed (R ∷ Ts) vss ws = (ws.0.2, words_typed Ts vss.1 ws.1)
-
--- a slice's word is of the slice's type
-abbrev pub slice_typed : (p : ℕ × ℕ) (n : ℕ) → Room u8 n → Unit {0} × WT (slice_val p n)
-slice_typed p n rm = (tt, (tt, (record { fits = rm.0 }, tt)))
 
 module _ {M : Type 1} {𝓤 : Ura M} (𝓛 : Logic 𝓤) where
   pub nonce_word : (x : (N.the_row).Denot) (vs : List Val) → Is N.the_row x vs → Word N.the_row vs

@@ -37,7 +37,7 @@ combined-xor (a ∷ p) (b ∷ q) (n ∷ ns) e =
 
 image-xor : (ns : List ℕ) (m n : ℕ) → image ns (bit_xor m n) ≡ bit_xor (image ns m) (image ns n)
 image-xor ns m n =
-    ap (λ (p : List Bool). combined p ns) (bits-xor 128 m n)
+    ap (λ p. combined p ns) (bits-xor 128 m n)
     ∙ combined-xor (bits_high_first 128 m) (bits_high_first 128 n) ns (length-bits 128 m ∙ sym (length-bits 128 n))
 
 pub image-zero : (ns : List ℕ) → image ns 0 ≡ 0
@@ -76,7 +76,7 @@ none_combined zero [] size e = refl
 none_combined zero (b ∷ p) size e = absurd (omega arith)
 none_combined (suc n) [] size e = absurd (omega arith)
 none_combined (suc n) (false ∷ p) size e =
-    ap (λ (q : List Bool). false ∷ q) (none_combined n p (omega arith) (sym (xor_zero_l (combined p (twos n))) ∙ e))
+    ap (λ q. false ∷ q) (none_combined n p (omega arith) (sym (xor_zero_l (combined p (twos n))) ∙ e))
 none_combined (suc n) (true ∷ p) size e =
     let same = same_of_xor (2 ^ n) (combined p (twos n)) e in
     let below = combined-below n p in

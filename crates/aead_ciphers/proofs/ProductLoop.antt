@@ -1,11 +1,12 @@
 -- The next multiple of a block, as the code shifts it.
-use Rattle.std.proofs.Common.{◌≡◌, ℕ, zero, suc, ◌/◌, ◌^◌, ◌<◌, Bool, true, false, List, ◌∷◌, replicate, refl, sym, ap, ap₂, subst, ◌∙◌, arith, ◌==◌, bit_and, bit_xor}
+use Rattle.std.proofs.Common.{◌≡◌, ℕ, zero, suc, ◌/◌, ◌^◌, ◌<◌, Bool, true, false, List, ◌∷◌, replicate, refl, sym, ap, ap₂, subst, ◌∙◌, arith, ◌==◌, bit_and}
+use Rattle.std.proofs.Common.{bit_xor}
 use Rattle.std.specs.Int.{bit_at}
 use Rattle.std.proofs.Math.Dec.{lit<}
 use Rattle.std.proofs.lemmas.Nat.{and_mask}
 use Rattle.std.proofs.lemmas.Nat.Bits.{bit_at_lowest, bit_at-lt}
 use Rattle.aead_ciphers_base.specs.Polynomial.{coefficient}
-use Rattle.aead_ciphers_base.proofs.PolynomialBits.{Series, add, same_series, scale, shift}
+use Rattle.aead_ciphers_base.proofs.PolynomialBits.{add, same_series, scale, shift}
 use Rattle.aead_ciphers_base.proofs.PolynomialAction.{mul_x}
 use Rattle.aead_ciphers_base.proofs.PolynomialLaws.{AllBelow, modulus, tap_bits, taps_above}
 use Rattle.aead_ciphers.specs.Ghash.{bits_high_first, block_taps}
@@ -43,7 +44,9 @@ reduction_is = ap coefficient reduction_bits ∙ same_series go
     go (suc (suc (suc (suc (suc zero))))) = refl
     go (suc (suc (suc (suc (suc (suc zero)))))) = refl
     go (suc (suc (suc (suc (suc (suc (suc zero))))))) = refl
-    go (suc (suc (suc (suc (suc (suc (suc (suc k)))))))) = zeros_end 120 k ∙ sym (taps_above 8 block_taps (suc (suc (suc (suc (suc (suc (suc (suc k)))))))) (lit< tt, (lit< tt, (lit< tt, (lit< tt, tt)))) (omega arith))
+    go (suc (suc (suc (suc (suc (suc (suc (suc k)))))))) =
+        let past = suc (suc (suc (suc (suc (suc (suc (suc k))))))) in
+        zeros_end 120 k ∙ sym (taps_above 8 block_taps past (lit< tt, (lit< tt, (lit< tt, (lit< tt, tt)))) (omega arith))
 
 shifted : (q : List Bool) → coefficient (false ∷ q) ≡ shift (coefficient q)
 shifted q = same_series go
@@ -55,12 +58,12 @@ shifted q = same_series go
 -- the code's next multiple is x times the multiple
 pub multiple_is : (v : ℕ) → v < 2 ^ 128 → coefficients 128 (next_multiple v) ≡ mul_x 127 (modulus block_taps 128) (coefficients 128 v)
 multiple_is v below =
-    let lowest : bit_and v 1 ≡ bit_at v 0 = and_mask v 1 ∙ sym (bit_at_lowest v) in
+    let lowest = and_mask v 1 ∙ sym (bit_at_lowest v) in
     let q = bits_high_first 127 (v / 2) in
     coefficients-xor 128 (v / 2) _
     ∙ ap₂ add
     (ap coefficient (bits-half 127 v below) ∙ shifted q)
-    (coefficients-masked 128 128 reduction (bit_and v 1) (subst (λ (x : ℕ). x < 2) (sym lowest) (bit_at-lt v 0)) (lit< tt)
-    ∙ ap₂ (λ (x : ℕ) (s : Series). scale (x == 1) s) lowest reduction_is)
+    (coefficients-masked 128 128 reduction (bit_and v 1) (subst (λ x. x < 2) (sym lowest) (bit_at-lt v 0)) (lit< tt)
+    ∙ ap₂ (λ x s. scale (x == 1) s) lowest reduction_is)
     ∙ sym (mul_x-push 127 block_taps block_low q (bit_at v 0 == 1) (length-bits 127 (v / 2)))
-    ∙ ap (λ (p : List Bool). mul_x 127 (modulus block_taps 128) (coefficient p)) (sym (bits-push 127 v))
+    ∙ ap (λ p. mul_x 127 (modulus block_taps 128) (coefficient p)) (sym (bits-push 127 v))

@@ -1,6 +1,7 @@
 -- A polynomial over blocks with as many roots as coefficients, whose differences have inverses, has zero coefficients only.
 use Rattle.std.proofs.Common.{◌≡◌, ℕ, suc, ◌<◌, ◌≤◌, List, [], ◌∷◌, length, get_or, AllPairs, refl, sym, ap, ap₂, ◌∙◌, arith}
 use Rattle.std.specs.List.{AllByRecursion}
+use Rattle.aead_ciphers_base.proofs.XorLemmas.{xor_assoc, xor_comm, xor_exchange}
 use Rattle.aead_ciphers_base.specs.Bytes.{◌⊕◌, zero_block}
 use Rattle.aead_ciphers.specs.Different.{HasInverse}
 use Rattle.aead_ciphers.specs.Ghash.{◌•◌}
@@ -8,7 +9,6 @@ use Rattle.aead_ciphers.proofs.BlockCancellation.{IsBlock-zero, cancel_factor, c
 use Rattle.aead_ciphers.proofs.BlockLists.{Blocks}
 use Rattle.aead_ciphers.proofs.GhashLaws.{Sized, Sized-product, Sized-xor, product_left_swap, product_xor_left, product_xor_right, xor_zero}
 use Rattle.aead_ciphers.proofs.GhashPolynomial.{IsBlock-value, value_at}
-use Rattle.aead_ciphers.proofs.XorLaws.{xor_assoc, xor_comm, xor_exchange}
 
 -- each of the list is the zero block
 abbrev pub Zeros : List (List ℕ) → Type 0
@@ -41,13 +41,13 @@ module _ (r h : List ℕ) (sr : Sized r) (sh : Sized h) where
       let sw = Sized-product r (value_at r cs) in
       let st = Sized-xor c w all.0.size sw in
       let sq = (IsBlock-value h (without_root r cs) (Blocks-without_root r cs all.1)).size in
-      let same : t ⊕ (w ⊕ v) ≡ c ⊕ v =
-      ap (λ (x : List ℕ). t ⊕ x) (xor_comm w v) ∙ xor_exchange c w v w
-      ∙ ap (λ (x : List ℕ). (c ⊕ v) ⊕ x) (xor_self w sw) ∙ xor_zero (c ⊕ v) (Sized-xor c v all.0.size sv) in
+      let same =
+      ap (λ x. t ⊕ x) (xor_comm w v) ∙ xor_exchange c w v w
+      ∙ ap (λ x. (c ⊕ v) ⊕ x) (xor_self w sw) ∙ xor_zero (c ⊕ v) (Sized-xor c v all.0.size sv) in
       product_xor_right d t (h • q) sd st (Sized-product h q)
-      ∙ ap₂ ◌⊕◌ (product_xor_left r h t sr sh st) (product_left_swap d h q sd sh sq ∙ ap (λ (x : List ℕ). h • x) (divided cs all.1))
+      ∙ ap₂ ◌⊕◌ (product_xor_left r h t sr sh st) (product_left_swap d h q sd sh sq ∙ ap (λ x. h • x) (divided cs all.1))
       ∙ xor_assoc (r • t) (h • t) (h • (w ⊕ v))
-      ∙ ap (λ (x : List ℕ). r • t ⊕ x) (sym (product_xor_right h t (w ⊕ v) sh st (Sized-xor w v sw sv)) ∙ ap (λ (x : List ℕ). h • x) same)
+      ∙ ap (λ x. r • t ⊕ x) (sym (product_xor_right h t (w ⊕ v) sh st (Sized-xor w v sw sv)) ∙ ap (λ x. h • x) same)
 
   -- another root of the polynomial is one of what is left without r
   root_stays : (c : List ℕ) (cs : List (List ℕ)) → Blocks (c ∷ cs) → HasInverse (r ⊕ h) →
@@ -57,22 +57,22 @@ module _ (r h : List ℕ) (sr : Sized r) (sh : Sized h) where
       let w = r • value_at r cs in
       let sd = Sized-xor r h sr sh in
       let sv = Sized-product h (value_at h cs) in
-      let same : w ≡ v = cancel_left w v c (Sized-product r (value_at r cs)) sv all.0.size (at_r ∙ sym at_h) in
+      let same = cancel_left w v c (Sized-product r (value_at r cs)) sv all.0.size (at_r ∙ sym at_h) in
       let is_q = IsBlock-value h (without_root r cs) (Blocks-without_root r cs all.1) in
       cancel_factor (r ⊕ h) (value_at h (without_root r cs)) zero_block sd apart is_q IsBlock-zero
-      (divided cs all.1 ∙ ap (λ (x : List ℕ). x ⊕ v) same ∙ xor_self v sv ∙ sym (product_zero (r ⊕ h) sd))
+      (divided cs all.1 ∙ ap (λ x. x ⊕ v) same ∙ xor_self v sv ∙ sym (product_zero (r ⊕ h) sd))
 
 value-zeros : (h : List ℕ) (cs : List (List ℕ)) → Sized h → Zeros cs → value_at h cs ≡ zero_block
 value-zeros h [] sh z = refl
 value-zeros h (c ∷ cs) sh z =
-    ap₂ (λ (x y : List ℕ). x ⊕ h • y) z.0 (value-zeros h cs sh z.1) ∙ ap (λ (x : List ℕ). zero_block ⊕ x) (product_zero h sh)
+    ap₂ (λ x y. x ⊕ h • y) z.0 (value-zeros h cs sh z.1) ∙ ap (λ x. zero_block ⊕ x) (product_zero h sh)
 
 zeros_back : (r : List ℕ) (cs : List (List ℕ)) → Sized r → Blocks cs → Zeros (without_root r cs) → Zeros cs
 zeros_back r [] sr all z = tt
 zeros_back r (c ∷ cs) sr all z =
     let zs = zeros_back r cs sr all.1 z.1 in
     let first = same_of_xor c (r • value_at r cs) all.0.size (Sized-product r (value_at r cs)) z.0 in
-    (first ∙ ap (λ (x : List ℕ). r • x) (value-zeros r cs sr zs) ∙ product_zero r sr, zs)
+    (first ∙ ap (λ x. r • x) (value-zeros r cs sr zs) ∙ product_zero r sr, zs)
 
 -- the blocks at all places of the list
 abbrev pub EachAt : (List ℕ → Type 0) → List (List ℕ) → Type 0

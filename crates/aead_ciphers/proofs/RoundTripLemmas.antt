@@ -1,12 +1,12 @@
 -- Opening undoes sealing.
-use Rattle.std.proofs.Common.{◌≡◌, ◌∙◌, refl, sym, ap₂, subst, arith, ℕ, List, [], ◌-◌, ◌++◌, length, drop, append-nil, drop_of_length-le, All, Some, slice_get}
+use Rattle.std.proofs.Common.{◌≡◌, ◌∙◌, refl, sym, ap₂, subst, arith, ℕ, List, ◌-◌, ◌++◌, length, append-nil, drop_of_length-le, All, Some, slice_get}
 use Rattle.std.proofs.lemmas.List.Elements.{All-get_or}
 use Rattle.std.proofs.lemmas.Option.{get_or_from_slice_get, slice_get_within}
 use Rattle.aead_ciphers_base.specs.Aes.{aes}
 use Rattle.aead_ciphers_base.proofs.CounterModeLemmas.{length-counter_mode}
 use Rattle.aead_ciphers_base.proofs.CounterModeTwice.{counter_mode-twice}
 use Rattle.aead_ciphers.specs.AesGcm.{aes_encrypted}
-use Rattle.aead_ciphers.specs.Gcm.{Fits, decrypted}
+use Rattle.aead_ciphers.specs.Gcm.{Fits}
 use Rattle.aead_ciphers.specs.Laws.{OpensAgain}
 
 -- what holds of each item holds of the one at a place
@@ -15,12 +15,12 @@ All-slice_get P xs i x all here = subst P (get_or_from_slice_get xs i x x here) 
 
 pub opens_again : (key nonce aad message : List ℕ) → Fits (length aad) (length message) → OpensAgain key nonce aad message
 opens_again key nonce aad message fits =
-    let ciphertext : List ℕ = aes_encrypted key nonce message in
-    let size : length ciphertext ≡ length message = length-counter_mode (aes key) nonce 2 message in
+    let ciphertext = aes_encrypted key nonce message in
+    let size = length-counter_mode (aes key) nonce 2 message in
     let fitting : Fits (length aad) (length ciphertext - 0) = record { aad = fits.aad; message = let m = fits.message in omega arith } in
-    let none : drop (length ciphertext - 0) ciphertext ≡ [] = drop_of_length-le ciphertext (omega arith) in
-    let back : message ≡ decrypted (aes key) nonce ciphertext ++ drop (length ciphertext - 0) ciphertext =
-    sym (ap₂ (λ (xs ys : List ℕ). xs ++ ys) (counter_mode-twice (aes key) nonce 2 message) none ∙ append-nil message) in
+    let none = drop_of_length-le ciphertext (omega arith) in
+    let back =
+    sym (ap₂ (λ xs ys. xs ++ ys) (counter_mode-twice (aes key) nonce 2 message) none ∙ append-nil message) in
     record {
       comes_back = record {
         out_of_range = λ past. absurd (omega arith);

@@ -3,7 +3,7 @@ use Rattle.std.proofs.Common.{◌≡◌, ℕ, zero, suc, ◌+◌, ◌*◌, ◌/�
 use Rattle.std.specs.Int.{bit_at}
 use Rattle.std.specs.Int.Bits.{xor_shr, xor_mod, xor_block, xor_assoc, xor_comm}
 use Rattle.std.proofs.lemmas.Nat.Bits.{bit_at_xor, bit_at_and, bit_at-lt, same_from_bits}
-use Rattle.aead_ciphers_base.proofs.BitsLemmas.{IsAdditive}
+use Rattle.aead_ciphers_base.proofs.NumberBits.{IsAdditive, by_digits}
 
 min_sum : (x y z : ℕ) → x < 2 → y < 2 → z < 2 → min ((x + y) % 2) z ≡ (min x z + min y z) % 2
 min_sum zero zero zero hx hy hz = refl
@@ -52,13 +52,7 @@ pub additive_after : (f g : ℕ → ℕ) → IsAdditive f → IsAdditive g → I
 additive_after f g hf hg a b = ap f (hg a b) ∙ hf (g a) (g b)
 
 digit_sum : (x y : ℕ) → x < 2 → y < 2 → (x + y) % 2 ≡ bit_xor x y
-digit_sum zero zero hx hy = refl
-digit_sum zero (suc zero) hx hy = refl
-digit_sum (suc zero) zero hx hy = refl
-digit_sum (suc zero) (suc zero) hx hy = refl
-digit_sum (suc (suc x)) y hx hy = absurd (omega arith)
-digit_sum zero (suc (suc y)) hx hy = absurd (omega arith)
-digit_sum (suc zero) (suc (suc y)) hx hy = absurd (omega arith)
+digit_sum x y hx hy = by_digits (λ x y. (x + y) % 2 ≡ bit_xor x y) x y hx hy refl refl refl refl
 
 pub additive_bit : (i : ℕ) → IsAdditive (λ x. bit_at x i)
 additive_bit i a b = bit_at_xor a b i ∙ digit_sum (bit_at a i) (bit_at b i) (bit_at-lt a i) (bit_at-lt b i)

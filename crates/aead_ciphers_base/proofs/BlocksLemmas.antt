@@ -1,8 +1,10 @@
 -- Lemmas on the blocks of a list.
-use Rattle.std.proofs.Common.{arith, refl, sym, subst, ap, ◌∙◌, ◌≡◌, ℕ, zero, suc, ◌+◌, ◌-◌, ◌*◌, ◌/◌, ◌%◌, ◌<◌, ◌≤◌, List, [], ◌∷◌, length, take, drop, get_or, add-one, length-drop, min, max, zero-add, inl, inr, Option, None, Some, MatchOption, MutBor, ◌++◌, length-append}
+use Rattle.std.proofs.Common.{arith, refl, sym, subst, ap, ◌∙◌, ◌≡◌, ℕ, zero, suc, ◌+◌, ◌-◌, ◌*◌, ◌/◌, ◌%◌, ◌<◌, ◌≤◌, List, [], ◌∷◌, length, take, drop}
+use Rattle.std.proofs.Common.{get_or, add-one, length-drop, min, max, zero-add, inl, inr, Option, None, Some, MatchOption, MutBor, ◌++◌, length-append}
 use Rattle.std.proofs.lemmas.List.{take-append-drop, drop-drop, drop-take, length-take-le, take-take}
 use Rattle.std.proofs.lemmas.Bool.{cases_lt}
-use Rattle.std.proofs.Math.Nat.{mod_self, mod-add-div', mul-mod_left, add-div_right, div-eq_of_lt, div-zero, div-mul-le_self, suc-mul, mul-div_cancel, mul-le-mul_right, add_comm, add-mul-mod_self_right, zero-div, mod-zero, zero-mod}
+use Rattle.std.proofs.Math.Nat.{mod_self, mod-add-div', mul-mod_left, add-div_right, div-eq_of_lt, div-zero, div-mul-le_self, suc-mul, mul-div_cancel}
+use Rattle.std.proofs.Math.Nat.{mul-le-mul_right, add_comm, add-mul-mod_self_right, zero-div, mod-zero, zero-mod}
 use Rattle.std.proofs.Math.Seq.{take-length}
 use Rattle.std.specs.Simd.{first_chunks}
 use Rattle.aead_ciphers_base.specs.Blocks.{blocks, joined}
@@ -52,7 +54,8 @@ pub blocks_take : {T : Type 0} (n : ℕ) (xs : List T) → blocks n (take (lengt
 unfolding blocks
 blocks_take n xs =
     let within : length xs / n * n ≤ length xs = div-mul-le_self (length xs) n in
-    let count : length (take (length xs / n * n) xs) / n ≡ length xs / n = count_kept n (length xs) (length (take (length xs / n * n) xs)) (length-take-le (length xs / n * n) xs within) in
+    let count : length (take (length xs / n * n) xs) / n ≡ length xs / n = count_kept n (length xs) (length (take (length xs / n * n) xs))
+    (length-take-le (length xs / n * n) xs within) in
     ap (λ k. first_chunks n k (take (length xs / n * n) xs)) count ∙ first_chunks-take n (length xs / n) (length xs / n * n) xs (omega arith)
 
 pub blocks_one : {T : Type 0} (n : ℕ) (xs : List T) → 0 < n → length xs ≡ n → blocks n xs ≡ xs ∷ []
@@ -138,7 +141,8 @@ blocks_front n (suc mid) xs within =
     let first : take n (take (suc mid * n) xs) ≡ take n xs = take-take n (suc mid * n) xs (omega arith) in
     let rest : drop n (take (suc mid * n) xs) ≡ take (mid * n) (drop n xs) = ap (λ x. drop n (take x xs)) up ∙ drop-take n (mid * n) xs in
     let front : blocks n (take (suc mid * n) xs) ≡ take n xs ∷ blocks n (take (mid * n) (drop n xs)) =
-    blocks_cons n (take (suc mid * n) xs) one.0 (omega arith) ∙ ap (λ x. x ∷ blocks n (drop n (take (suc mid * n) xs))) first ∙ ap (λ x. take n xs ∷ blocks n x) rest in
+    blocks_cons n (take (suc mid * n) xs) one.0 (omega arith) ∙ ap (λ x. x ∷ blocks n (drop n (take (suc mid * n) xs))) first
+    ∙ ap (λ x. take n xs ∷ blocks n x) rest in
     let tail : blocks n (take (mid * n) (drop n xs)) ≡ take mid (blocks n (drop n xs)) = blocks_front n mid (drop n xs) less in
     front ∙ ap (λ x. take n xs ∷ x) tail ∙ ap (take (suc mid)) (sym cons)
 
@@ -167,7 +171,8 @@ whole_rest n size len whole all =
     let part : min size len % n ≡ 0 = whole_part n size len whole all in
     let both : len - min size len + min size len ≡ len = omega arith in
     let back : (len - min size len + min size len) % n ≡ (len - min size len) % n =
-    ap (λ k. (len - min size len + k) % n) (sym (mod-add-div' (min size len) n) ∙ ap (λ k. k + min size len / n * n) part ∙ zero-add (min size len / n * n)) ∙ add-mul-mod_self_right (len - min size len) (min size len / n) n in
+    ap (λ k. (len - min size len + k) % n) (sym (mod-add-div' (min size len) n) ∙ ap (λ k. k + min size len / n * n) part
+    ∙ zero-add (min size len / n * n)) ∙ add-mul-mod_self_right (len - min size len) (min size len / n) n in
     sym back ∙ ap (λ k. k % n) both ∙ all
 
 -- what an iterator over such parts has left is whole blocks

@@ -1,16 +1,6 @@
 -- Buffers of which a front, or a window, was written.
 use Rattle.std.proofs.Common.{◌≡◌, ℕ, ◌+◌, ◌-◌, ◌≤◌, List, ◌++◌, length, take, drop, sym, ap, ap₂, ◌∙◌, arith}
-use Rattle.std.proofs.lemmas.List.{append_assoc, length-take-le, length-drop, drop_at, drop-drop, drop-take, take-append-drop, take_all}
-
--- what lies past a front that was written
-pub rest_same : (d j : ℕ) (front xs now : List ℕ) → length front ≡ d → d ≤ j → now ≡ front ++ drop d xs → drop j now ≡ drop j xs
-rest_same d j front xs now len le e =
-    let at : d + (j - d) ≡ j = omega arith in
-    ap (λ (k : ℕ). drop k now) (sym at)
-    ∙ sym (drop-drop (j - d) d now)
-    ∙ ap (drop (j - d)) (ap (drop d) e ∙ drop_at front (drop d xs) d len)
-    ∙ drop-drop (j - d) d xs
-    ∙ ap (λ (k : ℕ). drop k xs) at
+use Rattle.std.proofs.lemmas.List.{append_assoc, length-take-le, length-drop, drop-drop, drop-take, take-append-drop, take_all}
 
 -- a window of xs from a on, of n bytes and s more, whose front is made of its last n bytes
 pub window_step : (a n s size : ℕ) (xs win w ys : List ℕ) → s + a + n ≤ length xs → size ≡ n + s →

@@ -1,5 +1,6 @@
 -- Lemmas on lists of bytes, and the steps of the loops over them.
-use Rattle.std.proofs.Common.{arith, refl, sym, ap, ◌∙◌, ◌≡◌, ℕ, suc, ◌+◌, ◌<◌, min, length-drop, List, [], ◌∷◌, ◌++◌, length, take, drop, get_or, map, bit_xor, bit_or, slice_set, add-one, append_assoc}
+use Rattle.std.proofs.Common.{arith, refl, sym, ap, ◌∙◌, ◌≡◌, ℕ, ◌+◌, ◌<◌, min, length-drop, List, [], ◌∷◌, ◌++◌, length, take, drop, get_or, map}
+use Rattle.std.proofs.Common.{bit_xor, bit_or, slice_set, add-one, append_assoc}
 use Rattle.std.proofs.lemmas.List.{drop_more, drop-set-lt, take-append-drop}
 use Rattle.std.proofs.lemmas.Nat.{le_or_l, le_or_r}
 use Rattle.std.proofs.Math.Seq.{take-suc-set}
@@ -11,23 +12,14 @@ use Rattle.aead_ciphers_base.specs.Bytes.{◌⊕◌}
 pub same_of_xor : (x y : ℕ) → bit_xor x y ≡ 0 → x ≡ y
 same_of_xor x y e = sym (xor_zero_r x) ∙ ap (bit_xor x) (sym (xor_self y)) ∙ sym (xor_assoc x y y) ∙ ap (λ (z : ℕ). bit_xor z y) e ∙ xor_zero_l y
 
--- lists of one length with the same byte at each place are equal
-pub same_by_index : (xs ys : List ℕ) → length xs ≡ length ys → ((k : ℕ) → k < length xs → get_or xs k 0 ≡ get_or ys k 0) → xs ≡ ys
-same_by_index [] [] e h = refl
-same_by_index [] (y ∷ ys) e h = absurd (omega arith)
-same_by_index (x ∷ xs) [] e h = absurd (omega arith)
-same_by_index (x ∷ xs) (y ∷ ys) e h =
-    let first : x ≡ y = h 0 (omega arith) in
-    let rest : xs ≡ ys = same_by_index xs ys (omega arith) (λ k small. h (suc k) (omega arith)) in
-    cc
-
 -- the difference is 0 exactly where the first i bytes are the same, in two halves
 pub record SameSoFar (a b : List ℕ) (difference i : ℕ) : Type 0 where
   pub same : difference ≡ 0 → (k : ℕ) → k < i → get_or a k 0 ≡ get_or b k 0
   pub zero_where_same : a ≡ b → difference ≡ 0
 
 -- one more byte is compared
-pub same_more : (a b : List ℕ) (difference i : ℕ) → SameSoFar a b difference i → SameSoFar a b (bit_or difference (bit_xor (get_or a i 0) (get_or b i 0))) (i + 1)
+pub same_more : (a b : List ℕ) (difference i : ℕ) → SameSoFar a b difference i → SameSoFar a b (bit_or difference (bit_xor (get_or a i 0) (get_or b i 0)))
+    (i + 1)
 same_more a b difference i s =
     record {
       same = λ e.
@@ -45,7 +37,8 @@ module _ (a a' : List ℕ) (i v : ℕ) (here : i < length a) (is : a' ≡ slice_
   front_set = ap (take (i + 1)) is ∙ ap (λ (k : ℕ). take k (slice_set a i v)) (add-one i) ∙ take-suc-set a i v here
 
   -- one more byte is XORed with b
-  pub xor_more : (b : ℕ) → v ≡ bit_xor (get_or a i 0) b → take (i + 1) a' ++ map (λ x. bit_xor x b) (drop (i + 1) a') ≡ take i a ++ map (λ x. bit_xor x b) (drop i a)
+  pub xor_more : (b : ℕ) → v ≡ bit_xor (get_or a i 0) b → take (i + 1) a' ++ map (λ x. bit_xor x b) (drop (i + 1) a')
+      ≡ take i a ++ map (λ x. bit_xor x b) (drop i a)
   xor_more b e = rw (front_set, rest_set (i + 1) (omega arith), drop_more a i 0 here, e, append_assoc) refl
 
   -- one more byte is XORed with the byte of b at its place

@@ -2,7 +2,8 @@
 use Rattle.std.proofs.Common.{◌≡◌, ℕ, ◌+◌, ◌%◌, ◌^◌, ◌<◌, List, [], ◌∷◌, ◌++◌, length, take, drop, set, get_or, refl, sym, ap, ap₂, subst, ◌∙◌, arith}
 use Rattle.std.specs.Int.{from_be_bytes, to_be_bytes, w32}
 use Rattle.std.proofs.lemmas.Nat.{be_bytes_4, from_be_bytes-to_be_bytes_4}
-use Rattle.std.proofs.lemmas.List.{take-append-drop, length-take-le, length-drop, get_or-drop, take_at, drop_at, get_or-append-add, append-nil, set-append_right}
+use Rattle.std.proofs.lemmas.List.{take-append-drop, length-take-le, length-drop, get_or-drop, take_at, drop_at, get_or-append-add, append-nil}
+use Rattle.std.proofs.lemmas.List.{set-append_right}
 use Rattle.aead_ciphers_base.specs.CounterMode.{counter_block, IsCounter}
 
 -- its last four bytes
@@ -51,7 +52,8 @@ pub counter_at : (c nonce : List ℕ) (j k : ℕ) → IsCounter c nonce j → j 
 counter_at c nonce j k at e = subst (λ (n : ℕ). IsCounter c nonce n) e at
 
 -- every block of bytes is a counter block
-pub counter_exists : (block : List ℕ) → length block ≡ 16 → ((i : ℕ) → get_or block i 0 < 256) → IsCounter block (take 12 block) (from_be_bytes w32 (drop 12 block))
+pub counter_exists : (block : List ℕ) → length block ≡ 16 → ((i : ℕ) → get_or block i 0 < 256)
+    → IsCounter block (take 12 block) (from_be_bytes w32 (drop 12 block))
 unfolding counter_block
 counter_exists block size bytes =
     let last : List ℕ = drop 12 block in

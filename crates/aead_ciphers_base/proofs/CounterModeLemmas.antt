@@ -1,10 +1,12 @@
 -- Counter mode of a text in pieces.
-use Rattle.std.proofs.Common.{◌≡◌, ℕ, zero, suc, ◌+◌, ◌-◌, ◌*◌, ◌/◌, ◌%◌, ◌<◌, ◌≤◌, List, [], ◌∷◌, ◌++◌, length, take, drop, get_or, bit_xor, refl, sym, ap, ap₂, ◌∙◌, arith}
-use Rattle.std.proofs.lemmas.List.{append-nil, append_assoc, length-append, length-take-le, length-drop, nil_from_length, take_at, drop-drop, get_or_append_left, get_or-append-add, ext_get_or, get_or-take}
+use Rattle.std.proofs.Common.{◌≡◌, ℕ, zero, suc, ◌+◌, ◌-◌, ◌*◌, ◌/◌, ◌%◌, ◌<◌, ◌≤◌, List, [], ◌∷◌, ◌++◌, length, take, drop, get_or, bit_xor, refl, sym, ap}
+use Rattle.std.proofs.Common.{ap₂, ◌∙◌, arith}
+use Rattle.std.proofs.lemmas.List.{append-nil, append_assoc, length-append, length-take-le, length-drop, nil_from_length, take_at, drop-drop}
+use Rattle.std.proofs.lemmas.List.{get_or_append_left, get_or-append-add, ext_get_or, get_or-take}
 use Rattle.std.proofs.Math.Seq.{take-add}
 use Rattle.aead_ciphers_base.specs.Bytes.{each_below, ◌⊕◌}
 use Rattle.aead_ciphers_base.specs.CounterMode.{counter_block, counter_mode}
-use Rattle.aead_ciphers_base.proofs.BufferLemmas.{rest_same}
+use Rattle.std.proofs.lemmas.Slice.{drop-append-drop}
 use Rattle.aead_ciphers_base.proofs.EachLemmas.{length-each, get_or-each, each-same, each-append}
 
 pub length-counter_mode : (cipher : List ℕ → List ℕ) (nonce : List ℕ) (k : ℕ) (text : List ℕ) → length (counter_mode cipher nonce k text) ≡ length text
@@ -46,7 +48,8 @@ take-counter_mode cipher nonce k n text le =
     get_or-take n (counter_mode cipher nonce k text) i 0 below
     ∙ get_or-each (length text) _ i 0 (omega arith)
     ∙ ap (λ (x : ℕ). bit_xor x (get_or (cipher (counter_block nonce (k + i / 16))) (i % 16) 0)) (sym (get_or-take n text i 0 below))
-    ∙ sym (get_or-each (length (take n text)) (λ (j : ℕ). bit_xor (get_or (take n text) j 0) (get_or (cipher (counter_block nonce (k + j / 16))) (j % 16) 0)) i 0 (omega (arith, length-take-le n text le))))
+    ∙ sym (get_or-each (length (take n text)) (λ (j : ℕ). bit_xor (get_or (take n text) j 0) (get_or (cipher (counter_block nonce (k + j / 16)))
+    (j % 16) 0)) i 0 (omega (arith, length-take-le n text le))))
 
 -- counter mode of nothing
 pub counter_mode-nil : (cipher : List ℕ → List ℕ) (nonce : List ℕ) (k : ℕ) (text : List ℕ) → text ≡ [] → counter_mode cipher nonce k text ≡ []
@@ -64,8 +67,8 @@ advance cipher nonce k q d n s was now whole room e =
     let front : length (take d text) ≡ d = length-take-le d text (omega (arith, length-drop s was)) in
     let len : length done ≡ d = length-counter_mode cipher nonce k (take d text) ∙ front in
     let more : take d now ≡ done = ap (take d) e ∙ take_at done (drop d was) d len in
-    let input : drop (s + d) now ≡ drop d text = rest_same d (s + d) done was now len (omega arith) e ∙ sym (drop-drop d s was) in
-    let rest : drop (d + n) now ≡ drop (d + n) was = rest_same d (d + n) done was now len (omega arith) e in
+    let input : drop (s + d) now ≡ drop d text = ap (drop (s + d)) e ∙ drop-append-drop d was done (s + d) (omega arith) len ∙ sym (drop-drop d s was) in
+    let rest : drop (d + n) now ≡ drop (d + n) was = ap (drop (d + n)) e ∙ drop-append-drop d was done (d + n) (omega arith) len in
     ap₂ (λ (u v : List ℕ). u ++ counter_mode cipher nonce (k + q) (take n (drop (s + d) now)) ++ v) more rest
     ∙ ap (λ (u : List ℕ). done ++ counter_mode cipher nonce (k + q) (take n u) ++ drop (d + n) was) input
     ∙ ap (λ (u : List ℕ). u ++ drop (d + n) was)

@@ -7,7 +7,8 @@ use Rattle.aead_ciphers_base.proofs.CounterModeLemmas.{length-counter_mode}
 use Rattle.aead_ciphers_base.proofs.EachLemmas.{get_or-each}
 
 -- counter mode of counter mode is the text
-pub counter_mode-twice : (cipher : List ℕ → List ℕ) (nonce : List ℕ) (k : ℕ) (text : List ℕ) → counter_mode cipher nonce k (counter_mode cipher nonce k text) ≡ text
+pub counter_mode-twice : (cipher : List ℕ → List ℕ) (nonce : List ℕ) (k : ℕ) (text : List ℕ)
+    → counter_mode cipher nonce k (counter_mode cipher nonce k text) ≡ text
 unfolding counter_mode
 counter_mode-twice cipher nonce k text =
     let once = counter_mode cipher nonce k text in
@@ -17,7 +18,8 @@ counter_mode-twice cipher nonce k text =
     let below : i < n = omega (arith, length-counter_mode cipher nonce k once, size, h) in
     let key : ℕ = get_or (cipher (counter_block nonce (k + i / 16))) (i % 16) 0 in
     get_or-each (length once) (λ (j : ℕ). bit_xor (get_or once j 0) (get_or (cipher (counter_block nonce (k + j / 16))) (j % 16) 0)) i 0 (omega arith)
-    ∙ ap (λ (x : ℕ). bit_xor x key) (get_or-each n (λ (j : ℕ). bit_xor (get_or text j 0) (get_or (cipher (counter_block nonce (k + j / 16))) (j % 16) 0)) i 0 below)
+    ∙ ap (λ (x : ℕ). bit_xor x key) (get_or-each n (λ (j : ℕ). bit_xor (get_or text j 0) (get_or (cipher (counter_block nonce (k + j / 16)))
+    (j % 16) 0)) i 0 below)
     ∙ xor_assoc (get_or text i 0) key key
     ∙ ap (bit_xor (get_or text i 0)) (xor_self key)
     ∙ xor_zero_r (get_or text i 0))

@@ -1,10 +1,12 @@
 -- Multiplication of coefficients by a polynomial, modulo another: Horner's rule, one step of x at a time.
-use Rattle.std.proofs.Common.{◌≡◌, ℕ, zero, suc, ◌+◌, ◌-◌, ◌<◌, ◌≤◌, Bool, true, false, ◌&&◌, List, [], ◌∷◌, length, map, refl, sym, ap, ap₂, ◌∙◌, arith, zero-add, add-zero}
+use Rattle.std.proofs.Common.{◌≡◌, ℕ, zero, suc, ◌+◌, ◌-◌, ◌<◌, ◌≤◌, Bool, true, false, ◌&&◌, List, [], ◌∷◌, length, map, refl, sym, ap, ap₂, ◌∙◌, arith}
+use Rattle.std.proofs.Common.{zero-add, add-zero}
 use Rattle.std.proofs.Math.ListN.{get_or-eq_default}
 use Rattle.std.proofs.Math.Nat.{suc-sub-suc, sub-zero}
 use Rattle.std.specs.List.{range_with_len}
 use Rattle.aead_ciphers_base.specs.Polynomial.{◌xor◌, xor_sum, coefficient, polynomial, polynomial_product}
-use Rattle.aead_ciphers_base.proofs.PolynomialBits.{xor_comm, xor_assoc, xor_zero, xor_exchange, and_xor, xor_and, and_assoc, Series, same_series, none, add, scale, shift, add_comm, add_assoc, add_exchange, scale_add, scale_xor, scale_none, scale_swap}
+use Rattle.aead_ciphers_base.proofs.PolynomialBits.{xor_comm, xor_assoc, xor_zero, xor_exchange, and_xor, xor_and, and_assoc, Series, same_series, none}
+use Rattle.aead_ciphers_base.proofs.PolynomialBits.{add, scale, shift, add_comm, add_assoc, add_exchange, scale_add, scale_xor, scale_none, scale_swap}
 
 -- ---- the coefficients of a product, by the first factor's first coefficient
 
@@ -31,7 +33,8 @@ product_coefficient-cons x a b = same_series go
     go (suc k) =
         xor_sum-first (suc k) (λ i. coefficient (x ∷ a) i && coefficient b (suc k - i))
         ∙ ap (λ (j : ℕ). (x && coefficient b j) xor xor_sum (suc k) (λ i. coefficient a i && coefficient b (suc k - suc i))) (sub-zero (suc k))
-        ∙ ap (λ (g : Series). (x && coefficient b (suc k)) xor xor_sum (suc k) g) (same_series (λ i. ap (λ (j : ℕ). coefficient a i && coefficient b j) (suc-sub-suc k i)))
+        ∙ ap (λ (g : Series). (x && coefficient b (suc k)) xor xor_sum (suc k) g) (same_series (λ i. ap (λ (j : ℕ). coefficient a i && coefficient b j)
+        (suc-sub-suc k i)))
 
 -- ---- one step of x, and Horner's rule. `top` is the degree less one, `m` the modulus with its highest coefficient
 
@@ -46,7 +49,8 @@ module _ (top : ℕ) (m : Series) where
     where
       go : (k : ℕ) → mul_x (add f g) k ≡ add (mul_x f) (mul_x g) k
       go zero = xor_and (f top) (g top) (m zero)
-      go (suc k) = ap (λ (b : Bool). (f k xor g k) xor b) (xor_and (f top) (g top) (m (suc k))) ∙ xor_exchange (f k) (g k) (f top && m (suc k)) (g top && m (suc k))
+      go (suc k) = ap (λ (b : Bool). (f k xor g k) xor b) (xor_and (f top) (g top) (m (suc k)))
+          ∙ xor_exchange (f k) (g k) (f top && m (suc k)) (g top && m (suc k))
 
   pub mul_x-scale : (b : Bool) (f : Series) → mul_x (scale b f) ≡ scale b (mul_x f)
   mul_x-scale b f = same_series go
@@ -144,7 +148,8 @@ module _ (top : ℕ) (m : Series) where
   horner_push zero c f = ap (add (scale (c zero) f)) mul_x-none ∙ add_comm (scale (c zero) f) none
   horner_push (suc n) c f =
       let d : Series = λ k. c (suc k) in
-      ap (add (scale (c zero) f)) (ap mul_x (horner_push n d f) ∙ mul_x-add (horner n d f) (scale (c (suc n)) (raise n f)) ∙ ap (add (mul_x (horner n d f))) (mul_x-scale (c (suc n)) (raise n f)))
+      ap (add (scale (c zero) f)) (ap mul_x (horner_push n d f) ∙ mul_x-add (horner n d f) (scale (c (suc n)) (raise n f))
+      ∙ ap (add (mul_x (horner n d f))) (mul_x-scale (c (suc n)) (raise n f)))
       ∙ sym (add_assoc (scale (c zero) f) (mul_x (horner n d f)) (scale (c (suc n)) (raise (suc n) f)))
 
   -- ---- of a list given by its coefficients, and of a product
@@ -158,14 +163,16 @@ module _ (top : ℕ) (m : Series) where
   pub polynomial_times : (n : ℕ) (c f : Series) → times (polynomial n c) f ≡ horner n c f
   polynomial_times n c f = map_times n 0 c f ∙ ap (λ (e : Series). horner n e f) (same_series (λ k. ap c (zero-add k)))
 
-  horner-product : (a b : List Bool) (n : ℕ) (f : Series) → 0 < length b → length a + length b ≤ suc n → horner n (product_coefficient a b) f ≡ times a (times b f)
+  horner-product : (a b : List Bool) (n : ℕ) (f : Series) → 0 < length b → length a + length b ≤ suc n
+      → horner n (product_coefficient a b) f ≡ times a (times b f)
   horner-product [] b n f some fits = horner_none n (product_coefficient [] b) f (product_of_none b)
   horner-product (x ∷ a) b zero f some fits = absurd (omega arith)
   horner-product (x ∷ a) b (suc n) f some fits =
       ap (λ (c : Series). horner (suc n) c f) (product_coefficient-cons x a b)
       ∙ horner_add (suc n) (scale x (coefficient b)) (shift (product_coefficient a b)) f
       ∙ ap₂ add
-      (horner_scale (suc n) x (coefficient b) f ∙ ap (scale x) (horner_more (suc n) (length b) (coefficient b) f (omega arith) (λ k h. get_or-eq_default b false h)))
+      (horner_scale (suc n) x (coefficient b) f ∙ ap (scale x) (horner_more (suc n) (length b) (coefficient b) f (omega arith)
+      (λ k h. get_or-eq_default b false h)))
       (ap mul_x (horner-product a b n f some (omega arith)))
 
   pub product_times : (a b : List Bool) (f : Series) → 0 < length b → times (polynomial_product a b) f ≡ times a (times b f)

@@ -1,12 +1,13 @@
 -- What reduction leaves: the same multiple of one, and as many coefficients as the degree.
-use Rattle.std.proofs.Common.{◌≡◌, ◌==◌, ℕ, zero, suc, ◌+◌, ◌-◌, ◌<◌, ◌≤◌, Bool, true, false, ◌&&◌, ◌||◌, List, [], ◌∷◌, length, refl, sym, ap, ap₂, ◌∙◌, arith, zero-add, suc-add}
+use Rattle.std.proofs.Common.{◌≡◌, ◌==◌, ℕ, zero, suc, ◌+◌, ◌-◌, ◌<◌, ◌≤◌, Bool, true, false, ◌&&◌, ◌||◌, List, [], ◌∷◌, length, refl, sym, ap, ap₂, ◌∙◌}
+use Rattle.std.proofs.Common.{arith, zero-add, suc-add}
 use Rattle.std.specs.List.{list_any}
 use Rattle.std.proofs.Math.ListN.{get_or-eq_default}
 use Rattle.std.proofs.Math.Dec.{eqb-suc-suc, eqb-suc-zero}
 use Rattle.std.proofs.lemmas.Bool.{ne_eqb}
 use Rattle.aead_ciphers_base.specs.Polynomial.{◌xor◌, coefficient, polynomial_product, without_highest, without_highests, reduced, field_product}
 use Rattle.aead_ciphers_base.proofs.PolynomialBits.{xor_zero, and_zero, and_one, Series, same_series, add, scale, shift, add_assoc, add_self}
-use Rattle.aead_ciphers_base.proofs.PolynomialLemmas.{length-polynomial, length-polynomial_product, length-reduced, same_polynomials}
+use Rattle.aead_ciphers_base.proofs.PolynomialSums.{length-polynomial, length-polynomial_product, length-reduced, same_polynomials}
 use Rattle.aead_ciphers_base.proofs.PolynomialAction.{mul_x, horner, times, raise, horner_add, horner_scale, horner_push, polynomial_times, product_times}
 
 abbrev pub one : Series
@@ -167,7 +168,8 @@ module _ (taps : List ℕ) (top : ℕ) (low : AllBelow (suc top) taps) where
   unfolding field_product
   length-field_product a b la lb = let e = length-polynomial_product a b in length-reduced taps (suc top) (polynomial_product a b) (omega arith)
 
-  pub field_product_is : (a b : List Bool) → length a ≡ suc top → length b ≡ suc top → coefficient (field_product taps (suc top) a b) ≡ times top m a (coefficient b)
+  pub field_product_is : (a b : List Bool) → length a ≡ suc top → length b ≡ suc top → coefficient (field_product taps (suc top) a b)
+      ≡ times top m a (coefficient b)
   unfolding field_product
   field_product_is a b la lb =
       let e = length-polynomial_product a b in

@@ -1,7 +1,7 @@
 -- The XOR of two lists of bytes.
-use Rattle.std.proofs.Common.{◌≡◌, ℕ, suc, ◌≤◌, List, [], ◌∷◌, ◌++◌, length, take, bit_xor, refl, ap, ap₂, ◌∙◌, arith}
-use Rattle.std.proofs.lemmas.Nat.{xor_comm}
-use Rattle.std.specs.Int.Bits.{xor_assoc, xor_self, xor_zero_r}
+use Rattle.std.proofs.Common.{◌≡◌, ℕ, zero, suc, ◌<◌, ◌≤◌, List, [], ◌∷◌, ◌++◌, length, take, replicate, All, bit_xor, refl, sym, ap, ap₂, ◌∙◌, arith}
+use Rattle.std.proofs.lemmas.Nat.{xor_lt, xor_comm as number_comm}
+use Rattle.std.specs.Int.Bits.{xor_assoc as number_assoc, xor_self, xor_zero_r}
 use Rattle.aead_ciphers_base.specs.Bytes.{◌⊕◌}
 
 pub length-xor : (xs ys : List ℕ) → length xs ≤ length ys → length (xs ⊕ ys) ≡ length xs
@@ -9,11 +9,36 @@ length-xor [] ys h = refl
 length-xor (x ∷ xs) [] h = absurd (omega arith)
 length-xor (x ∷ xs) (y ∷ ys) h = ap suc (length-xor xs ys (omega arith))
 
-pub xor_lists_comm : (xs ys : List ℕ) → xs ⊕ ys ≡ ys ⊕ xs
-xor_lists_comm [] [] = refl
-xor_lists_comm [] (y ∷ ys) = refl
-xor_lists_comm (x ∷ xs) [] = refl
-xor_lists_comm (x ∷ xs) (y ∷ ys) = ap₂ (λ (z : ℕ) (zs : List ℕ). z ∷ zs) (xor_comm x y) (xor_lists_comm xs ys)
+pub xor_comm : (xs ys : List ℕ) → xs ⊕ ys ≡ ys ⊕ xs
+xor_comm [] [] = refl
+xor_comm [] (y ∷ ys) = refl
+xor_comm (x ∷ xs) [] = refl
+xor_comm (x ∷ xs) (y ∷ ys) = ap₂ (λ (z : ℕ) (zs : List ℕ). z ∷ zs) (number_comm x y) (xor_comm xs ys)
+
+pub xor_assoc : (a b c : List ℕ) → (a ⊕ b) ⊕ c ≡ a ⊕ (b ⊕ c)
+xor_assoc [] b c = refl
+xor_assoc (x ∷ xs) [] c = refl
+xor_assoc (x ∷ xs) (y ∷ ys) [] = refl
+xor_assoc (x ∷ xs) (y ∷ ys) (z ∷ zs) = ap₂ (λ (n : ℕ) (ns : List ℕ). n ∷ ns) (number_assoc x y z) (xor_assoc xs ys zs)
+
+-- two sums of two, by the first and by the second of each
+pub xor_exchange : (a b c d : List ℕ) → (a ⊕ b) ⊕ (c ⊕ d) ≡ (a ⊕ c) ⊕ (b ⊕ d)
+xor_exchange a b c d =
+    xor_assoc a b (c ⊕ d)
+    ∙ ap (λ (x : List ℕ). a ⊕ x) (sym (xor_assoc b c d) ∙ ap (λ (x : List ℕ). x ⊕ d) (xor_comm b c) ∙ xor_assoc c b d)
+    ∙ sym (xor_assoc a c (b ⊕ d))
+
+pub xor_zeros : (a : List ℕ) (n : ℕ) → length a ≡ n → a ⊕ replicate n 0 ≡ a
+xor_zeros [] n e = refl
+xor_zeros (x ∷ xs) zero e = absurd (omega arith)
+xor_zeros (x ∷ xs) (suc n) e = ap₂ (λ (z : ℕ) (zs : List ℕ). z ∷ zs) (xor_zero_r x) (xor_zeros xs n (omega arith))
+
+pub bytes-xor : (a b : List ℕ) → All (λ x. x < 256) a → All (λ x. x < 256) b → All (λ x. x < 256) (a ⊕ b)
+bytes-xor [] b h j k d below = absurd (omega arith)
+bytes-xor (x ∷ xs) [] h j k d below = absurd (omega arith)
+bytes-xor (x ∷ xs) (y ∷ ys) h j zero d below = xor_lt 8 x y (h 0 x (omega arith)) (j 0 y (omega arith))
+bytes-xor (x ∷ xs) (y ∷ ys) h j (suc k) d below =
+    bytes-xor xs ys (λ i e l. h (suc i) e (omega arith)) (λ i e l. j (suc i) e (omega arith)) k d (omega arith)
 
 -- what is longer in the second list counts for nothing
 pub xor-take : (xs ys : List ℕ) → xs ⊕ take (length xs) ys ≡ xs ⊕ ys
@@ -33,4 +58,4 @@ xor-xor [] ys h = refl
 xor-xor (x ∷ xs) [] h = absurd (omega arith)
 xor-xor (x ∷ xs) (y ∷ ys) h =
     ap₂ (λ (z : ℕ) (zs : List ℕ). z ∷ zs)
-    (xor_assoc x y y ∙ ap (λ (v : ℕ). bit_xor x v) (xor_self y) ∙ xor_zero_r x) (xor-xor xs ys (omega arith))
+    (number_assoc x y y ∙ ap (λ (v : ℕ). bit_xor x v) (xor_self y) ∙ xor_zero_r x) (xor-xor xs ys (omega arith))

@@ -25,6 +25,8 @@ mod checks;
 #[cfg(test)]
 mod chunks;
 #[cfg(test)]
+mod errors;
+#[cfg(test)]
 mod gcm;
 #[cfg(test)]
 mod items;
@@ -42,6 +44,8 @@ mod quic;
 mod reference;
 #[cfg(test)]
 mod refusals;
+#[cfg(test)]
+mod sequences;
 #[cfg(test)]
 mod session;
 #[cfg(test)]

@@ -74,11 +74,12 @@ pub(super) fn encrypt_chunk<A: EncryptCtr32>(
     ensures worked { Adds work.old work.new (count / 16) 0 }
 {
     let window = &mut in_out[done..done + count + start];
-    encrypt_to_front(aes, counter, window, start, work);
+    encrypt_as_overlapping(aes, counter, window, start, work);
 }
 
-/// Encrypts the bytes from `start` on, which are whole blocks, to the front.
-fn encrypt_to_front<A: EncryptCtr32>(
+/// Encrypts the bytes from `start` on, which are whole blocks, to the front. A cipher takes an `Overlapping`, as
+/// ring's do, and takes it apart.
+fn encrypt_as_overlapping<A: EncryptCtr32>(
     aes: &A,
     counter: &mut Counter,
     in_out: &mut [u8],

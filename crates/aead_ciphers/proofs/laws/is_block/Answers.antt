@@ -8,5 +8,5 @@ small c = search rules
 pub returns : goal.returns
 returns c = record {
   size = search rules;
-  bytes = λ k d below. subst (λ (x : ℕ). x < 256) (get_or_default c.args.block k 0 d below) (small c k below);
+  bytes = λ k d below. subst (λ x. x < 256) (get_or_default c.args.block k 0 d below) (small c k below);
 }

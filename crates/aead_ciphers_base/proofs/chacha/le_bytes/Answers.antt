@@ -1,6 +1,6 @@
 use Rattle.std.proofs.Common.{◌≡◌, ◌∙◌, length, refl, ap, arith, length-append, length-take, length-drop}
 use Rattle.aead_ciphers_base.specs.ChaCha20.{le_bytes}
-use Rattle.aead_ciphers_base.proofs.WordsLemmas.{take-le_bytes}
+use Rattle.aead_ciphers_base.proofs.LittleEndian.{take-le_bytes}
 use Rattle.aead_ciphers_base.proofs.chacha.le_bytes.Goals as goal
 
 pub loop-i-init : goal.loop-i-init

@@ -2,8 +2,8 @@ use Rattle.std.proofs.Common.{◌≡◌, ℕ, length, length-set, refl, sym, ◌
 use Rattle.std.proofs.lemmas.List.{get_or-set_same, get_or-set_other}
 use borrow.Author.Count.{below_more}
 use Rattle.aead_ciphers_base.specs.ChaCha20.{le_words}
-use Rattle.aead_ciphers_base.proofs.BytesLemmas.{same_by_index}
-use Rattle.aead_ciphers_base.proofs.WordsLemmas.{length-le_words, get_or-le_words}
+use Rattle.std.proofs.lemmas.List.{ext_get_or}
+use Rattle.aead_ciphers_base.proofs.LittleEndian.{length-le_words, get_or-le_words}
 use Rattle.aead_ciphers_base.proofs.chacha.le_words.Goals as goal
 
 pub loop-i-preserved : goal.loop-i-preserved
@@ -21,4 +21,4 @@ loop-i-preserved g c =
 pub returns : goal.returns
 returns g c =
     let size : length (le_words c.args.bytes.now) ≡ g.row.N = length-le_words g.row.N c.args.bytes.now c.requires in
-    same_by_index _ _ (c.loop-i.invariant.size ∙ sym size) (λ k h. c.loop-i.invariant.done k (omega arith))
+    ext_get_or 0 _ _ (c.loop-i.invariant.size ∙ sym size) (λ k h. c.loop-i.invariant.done k (omega arith))

@@ -1,14 +1,14 @@
 use Rattle.std.proofs.Common.{◌≡◌, ℕ, List, ◌+◌, ◌-◌, ◌≤◌, ◌++◌, length, take, drop, rules, ap, sym, ◌∙◌, arith, append_assoc, length-take, length-drop}
 use Rattle.std.proofs.lemmas.List.{take_at, drop-drop}
 use Rattle.aead_ciphers_base.specs.Bytes.{◌⊕◌}
-use Rattle.aead_ciphers_base.proofs.XorLemmas.{length-xor, xor_lists_comm}
+use Rattle.aead_ciphers_base.proofs.XorLemmas.{length-xor, xor_comm}
 use Rattle.aead_ciphers_base.proofs.chacha.xor_stream.Goals as goal
 
 -- n bytes of a block that was XORed with n bytes
 front : (block mixed piece : List ℕ) (n : ℕ) → length piece ≡ n → n ≤ length block
     → mixed ≡ (block ⊕ piece) ++ drop (length piece) block → take n mixed ≡ piece ⊕ block
 front block mixed piece n size short e =
-    let order : block ⊕ piece ≡ piece ⊕ block = xor_lists_comm block piece in
+    let order : block ⊕ piece ≡ piece ⊕ block = xor_comm block piece in
     let long : length (block ⊕ piece) ≡ n = ap length order ∙ length-xor piece block (omega arith) ∙ size in
     ap (take n) e ∙ take_at (block ⊕ piece) (drop (length piece) block) n long ∙ order
 

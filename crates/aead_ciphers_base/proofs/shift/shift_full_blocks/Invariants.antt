@@ -1,4 +1,4 @@
-use Rattle.aead_ciphers_base.proofs.ShiftLemmas.{ShiftsFirst}
+use Rattle.aead_ciphers_base.proofs.ShiftedBlocks.{ShiftsFirst}
 use Rattle.aead_ciphers_base.proofs.shift.shift_full_blocks.Given as goal
 
 abbrev pub invariant-loop-i : goal.invariant-loop-i

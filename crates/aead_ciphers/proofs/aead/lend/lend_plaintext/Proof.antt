@@ -18,8 +18,10 @@ use types.Match.{live, vrt, by_variants}
 use contract.Monad.{fact}
 use contract.Running.{tables}
 use types.Kit.{Item, Sq, prop, at_ret, ‵, ◌⊛◌, raw, some, later, ◌$◌, ◌∵◌, !, qed, move, keep, drop, split, split3, join, fsplit, fsplit3, fjoin, fpack, use0}
+use types.Kit.{mean}
 use types.Kit.{use1, use2, await, pick, suffices, frame, done, updating, group, now, show, rewrite, feq_l, feq_i}
 use denote.Array.{Array}
+use Rattle.aead_ciphers.proofs.Lending.{Answer, usize_laws}
 use denote.Builtin.{u8, usize}
 use denote.Exit.{no}
 use denote.Follow.{follows, follows_by}
@@ -45,9 +47,8 @@ use types.Match.{in_variant}
 use prog.Wp.{WpFn}
 use denote.Enum.Laws as EL
 use denote.Param.Laws as PL
-use denote.Param.Shared as PS
 use denote.Struct.Field.{u64-field}
-use denote.Struct.Laws.{u64-laws, u64-copy}
+use denote.Struct.Laws.{u64-laws}
 use Rattle.std.proofs.result.Result.TheLaws as RL
 use Rattle.aead_ciphers_base.proofs.error.Unspecified.TheLaws as UL
 use contract.Lifetimes.{Lfts}
@@ -72,12 +73,6 @@ use Rattle.aead_ciphers.specs.contracts.aead.lend.lend_plaintext as F
 use Rattle.aead_ciphers.proofs.aead.lend.lend_plaintext.Statement.{statement}
 use Rattle.aead_ciphers.proofs.aead.lend.lend_plaintext.Code as code
 
-abbrev Answer : RattleType
-Answer = RS.the_row usize US.the_row
-
-abbrev usize_laws : PL.Laws usize
-usize_laws = PL.of_field u64-field u64-laws refl (PS.copy_shared u64-field u64-copy)
-
 abbrev answer_laws : EL.Laws (RS.the_type usize US.the_row)
 answer_laws = RL.the_laws usize US.the_row usize_laws UL.the_row_laws (PL.field_told u64-field u64-laws) UL.the_told
 
@@ -93,26 +88,26 @@ module _ {M : Type 1} {𝓤 : Ura M} (𝓛 : Logic 𝓤) where
   module _ (X : RattleType) where
     ok_of : (x : X.Denot) (v : Val) → ent 𝓤 (sem 𝓛 (X.own_val x (v ∷ []))) (sem 𝓛 ((RS.the_row X US.the_row).own_val (Ok x) (live 0 (of_list (v ∷ [])) ∷ [])))
     ok_of x v =
+        let T = RS.the_type X US.the_row in let w : Val = live 0 (of_list (v ∷ [])) in
         qed 𝓛 (‵ (X.own_val x (v ∷ [])) ∷ []) ∵ nothing ! $ move ! (1 ∷ 0 ∷ []) $ fjoin ! $ feq_i ! (List Val) (v ∷ []) (v ∷ []) refl $ fjoin ! $
         fpack ! (Valss (X ∷ [])) (in_a_row (X ∷ []) (owns (X ∷ []) (x, tt)) (v ∷ [])) (v ∷ [], tt) $
-        feq_i ! (List Val) (live 0 (of_list (v ∷ [])) ∷ []) (live 0 (of_list (v ∷ [])) ∷ []) refl $ fjoin ! $
-        fpack ! (List Val) (tagged_with (form_of (shape (RS.the_type X US.the_row))) (form_of (shape (RS.the_type X US.the_row))).payload
-        ((RS.the_type X US.the_row).to (Ok x)) (live 0 (of_list (v ∷ [])) ∷ [])) (v ∷ []) $ done !
+        feq_i ! (List Val) (w ∷ []) (w ∷ []) refl $ fjoin ! $
+        fpack ! (List Val) (tagged_with (form_of (shape T)) (form_of (shape T)).payload (T.to (Ok x)) (w ∷ [])) (v ∷ []) $ done !
 
     refused : ent 𝓤 (emp 𝓤) (sem 𝓛 ((RS.the_row X US.the_row).own_val (Err (record {})) (live 1 (of_list (vstruct vnil ∷ [])) ∷ [])))
     refused =
-        let v : Val = vstruct vnil in
-        qed 𝓛 [] ∵ nothing ! $ owned ! (Struct (Declared.shape US.the_type)) (Is (Struct (Declared.shape US.the_type)))
-        (Struct-Makes 𝓛 (Declared.shape US.the_type) tt) tt (v ∷ []) (tt, (refl, tt)) $ fjoin ! $
+        let T = RS.the_type X US.the_row in let v : Val = vstruct vnil in let w : Val = live 1 (of_list (v ∷ [])) in
+        let S = Declared.shape US.the_type in
+        qed 𝓛 [] ∵ nothing ! $ owned ! (Struct S) (Is (Struct S)) (Struct-Makes 𝓛 S tt) tt (v ∷ []) (tt, (refl, tt)) $ fjoin ! $
         feq_i ! (List Val) (v ∷ []) (v ∷ []) refl $ fjoin ! $
         fpack ! (Valss (US.the_row ∷ [])) (in_a_row (US.the_row ∷ []) (owns (US.the_row ∷ []) (record {}, tt)) (v ∷ [])) (v ∷ [], tt) $
-        feq_i ! (List Val) (live 1 (of_list (v ∷ [])) ∷ []) (live 1 (of_list (v ∷ [])) ∷ []) refl $ fjoin ! $
-        fpack ! (List Val) (tagged_with (form_of (shape (RS.the_type X US.the_row))) (form_of (shape (RS.the_type X US.the_row))).payload
-        ((RS.the_type X US.the_row).to (Err (record {}))) (live 1 (of_list (v ∷ [])) ∷ [])) (v ∷ []) $ done !
+        feq_i ! (List Val) (w ∷ []) (w ∷ []) refl $ fjoin ! $
+        fpack ! (List Val) (tagged_with (form_of (shape T)) (form_of (shape T)).payload (T.to (Err (record {}))) (w ∷ [])) (v ∷ []) $ done !
 
   module _ (κ : Lft) (q : Share) (b o : ℕ) (γ : GName) (xs : List ℕ) (m : ℕ) where
-    abbrev Sl : RattleType
-    Sl = MutSlice (named 0) κ u8
+    -- the slice's bytes ws, under the name δ
+    abbrev slice : GName → List ℕ → List Val → Fml
+    slice δ ws vs = (MutSlice (named 0) κ u8).own_val (record { ref_ptr = (b, o); ghost_name = δ; now = ws }) vs
 
     abbrev front : List ℕ
     front = take m xs
@@ -142,16 +137,14 @@ module _ {M : Type 1} {𝓤 : Ura M} (𝓛 : Logic 𝓤) where
         use2 𝓛 (‵ (elements (ws ++ back) o)) (join_app 𝓛 (mem u8) ws back b o) $
         feq_i ! ℕ (length (ws ++ back)) (length xs) (omega arith) $ fjoin ! $ done !)
 
-    abbrev Lent : ℕ → GName → SProp 𝓤
-    Lent k δ = sep 𝓤 (sem 𝓛 (Sl.own_val (record { ref_ptr = (b, o); ghost_name = δ; now = front }) (slice_val (b, o) k ∷ [])))
-        (sep 𝓤 (A.lft κ q) (sem 𝓛 (follows (Array u8 0) (Array u8 0) γ δ after)))
+    abbrev lent : GName → Item 𝓤
+    lent δ = ‵ (slice δ front (slice_val (b, o) m ∷ [])) ⊛ ‵ (flft κ q) ⊛ ‵ (follows (Array u8 0) (Array u8 0) γ δ after)
 
-    abbrev lent : ℕ → GName → Item 𝓤
-    lent k δ = ‵ (Sl.own_val (record { ref_ptr = (b, o); ghost_name = δ; now = front }) (slice_val (b, o) k ∷ [])) ⊛ ‵ (flft κ q)
-        ⊛ ‵ (follows (Array u8 0) (Array u8 0) γ δ after)
+    abbrev Lent : GName → SProp 𝓤
+    Lent δ = mean 𝓛 (lent δ)
 
     lends : m ≤ length xs → Room u8 (length xs) → (vs : List Val)
-        → ent 𝓤 (sep 𝓤 (sem 𝓛 (Sl.own_val (record { ref_ptr = (b, o); ghost_name = γ; now = xs }) vs)) (A.lft κ q)) (H.⇛ (ex 𝓤 (Lent m)))
+        → ent 𝓤 (sep 𝓤 (sem 𝓛 (slice γ xs vs)) (A.lft κ q)) (H.⇛ (ex 𝓤 Lent))
     lends within rm vs =
         let count : length front ≡ m = length-take-le m xs within in
         let bytes : length front * (mem u8).size ≤ length xs * (mem u8).size = mul-le-mul_right (mem u8).size (omega arith) in
@@ -159,7 +152,7 @@ module _ {M : Type 1} {𝓤 : Ura M} (𝓛 : Logic 𝓤) where
         let long : length xs < 2 ^ 64 = rm.0 in
         let room : Room u8 (length front) = (omega arith, omega arith) in
         let code = λ (l : List ℕ). (coded_list u8.coded).code l in
-        qed 𝓛 (‵ (Sl.own_val (record { ref_ptr = (b, o); ghost_name = γ; now = xs }) vs) ∷ ‵ (flft κ q) ∷ []) ∵ updating ! $ fsplit3 ! $ drop ! $
+        qed 𝓛 (‵ (slice γ xs vs) ∷ ‵ (flft κ q) ∷ []) ∵ updating ! $ fsplit3 ! $ drop ! $
         rewrite ! 0 (λ (l : List ℕ). ‵ (fobs γ (code l))) (heres_id u8 xs) refl $ open_ref ! tt (Arr (mem u8) (length xs)) {b = b} {o = o} $ fsplit ! $ drop ! $
         rewrite ! 0 (λ (l : List ℕ). ‵ (elements l o)) (sym (take-append-drop m xs)) refl $
         use1 𝓛 (‵ (elements front o) ⊛ ‵ (elements back (past (length front)))) (cut_app 𝓛 (mem u8) front back b o) $ split ! $
@@ -168,10 +161,10 @@ module _ {M : Type 1} {𝓤 : Ura M} (𝓛 : Logic 𝓤) where
         ⊛ ‵ (follows (Array u8 0) (Array u8 0) γ δ after))))
         (takes_part 𝓛 (Arr (mem u8) (length xs)) (Arr (mem u8) (length front)) after κ q b o b o γ Rest put (code xs) (code xs) front) $ await ! tt $
         pick ! (λ δ. split3 ! $
-        use2 𝓛 (‵ (Sl.own_val (record { ref_ptr = (b, o); ghost_name = δ; now = front }) (slice_val (b, o) (length front) ∷ [])))
+        use2 𝓛 (‵ (slice δ front (slice_val (b, o) (length front) ∷ [])))
         (slice_of 𝓛 u8 (named 0) κ b o δ front room) $
-        rewrite ! 0 (λ (k : ℕ). ‵ (Sl.own_val (record { ref_ptr = (b, o); ghost_name = δ; now = front }) (slice_val (b, o) k ∷ []))) count refl $
-        now ! $ show ! (Lent m) δ $ done !)
+        rewrite ! 0 (λ (k : ℕ). ‵ (slice δ front (slice_val (b, o) k ∷ []))) count refl $
+        now ! $ show ! Lent δ $ done !)
 
 module _ {M : Type 1} {𝓤 : Ura M} (𝓛 : Logic 𝓤) (at_mem : Memory → SProp 𝓤) (run : Routine
     → Fun 𝓤) (C : Calls 𝓤 𝓛.H) (Λ : Loops 𝓤 𝓛.H) (κs : Lfts 1) (qs : Shares 1) (arg : MutBor (List ℕ)) (rm : Room u8 (length arg.now)) where
@@ -230,7 +223,7 @@ module _ {M : Type 1} {𝓤 : Ura M} (𝓛 : Logic 𝓤) (at_mem : Memory → SP
             ) $
             exec ! C Λ En code.Mir.t-2 (at_ret En Post) $
             sets ! (of_opd ! (get ! refl)) refl (tt, (record { fits = lit< tt }, ((tt, (record { fits = fm }, tt)), tt))) $
-            use2 𝓛 (later (some (lent 𝓛 κ q b o γ xs m m))) (lends 𝓛 κ q b o γ xs m within rm (mut_slice_vals arg)) $ await ! tt $ pick ! (λ δ.
+            use2 𝓛 (later (some (lent 𝓛 κ q b o γ xs m))) (lends 𝓛 κ q b o γ xs m within rm (mut_slice_vals arg)) $ await ! tt $ pick ! (λ δ.
             returns ! (look_at ! 0 refl) $ free_all ! refl $ split3 ! $
             use1 𝓛 (‵ (Out.own_val (Ok (r δ)) (live 0 (of_list (v ∷ [])) ∷ []))) (ok_of 𝓛 Slice (r δ) v) $
             suffices ! _ (ends_at 𝓛 F.ended stayed c (y (Ok m)) (live 0 (of_list (v ∷ []))) (Ok (r δ)) (tt, (tt, tt)) (tt, (tt, tt))) $

@@ -2,7 +2,7 @@ use Rattle.std.proofs.Common.{◌≡◌, ◌≢◌, ◌<◌, Err, inl, inr, leng
 use Rattle.std.specs.Prelude.{codes}
 use Rattle.std.proofs.lemmas.Bool.Decides.{nat_tests}
 use Rattle.hex.specs.Hex.{decode_of}
-use Rattle.aead_ciphers.proofs.WordLemmas.{IsBytesWord-decoded, IsBytesWord-undecoded, bytes_of_word-decoded, bytes_of_word-undecoded}
+use Rattle.aead_ciphers.proofs.HexWords.{IsBytesWord-decoded, IsBytesWord-undecoded, bytes_of_word-decoded, bytes_of_word-undecoded}
 use Rattle.aead_ciphers.proofs.aeadrun.words.bytes.Goals as goal
 
 pub returns-in-Ok : goal.returns-in-Ok

@@ -1,4 +1,4 @@
-use Rattle.std.proofs.Common.{◌≡◌, ℕ, ◌+◌, ◌*◌, ◌/◌, List, [], ◌++◌, arith, ap, ◌∙◌, refl, sym}
+use Rattle.std.proofs.Common.{◌≡◌, ◌+◌, ◌*◌, ◌/◌, [], ◌++◌, arith, ap, ◌∙◌, refl, sym}
 use Rattle.aead_ciphers_base.proofs.CounterLemmas.{counter_still, counter_at}
 use Rattle.aead_ciphers_base.proofs.CounterModeLemmas.{advance, counter_mode-nil}
 use Rattle.aead_ciphers.proofs.aes_gcm.counter_mode.encrypt_whole.Goals as goal
@@ -9,7 +9,7 @@ loop-done-init g c = record {
   aligned = refl;
   within = omega arith;
   size = refl;
-  output = λ nonce k at. ap (λ (u : List ℕ). u ++ c.args.in_out.now) (sym (counter_mode-nil (g.A.EncryptBlock.cipher c.args.aes.now) nonce k [] refl));
+  output = λ nonce k at. ap (λ u. u ++ c.args.in_out.now) (sym (counter_mode-nil (g.A.EncryptBlock.cipher c.args.aes.now) nonce k [] refl));
   counter = λ nonce k at. counter_still _ nonce k at;
 }
 
@@ -30,5 +30,6 @@ loop-done-preserved g c =
           c.encrypt_chunk.ensures.output nonce (k + d / 16) (inv.counter nonce k at)
           ∙ advance (g.A.EncryptBlock.cipher c.args.aes.now) nonce k (d / 16) d n s was c.loop-done.in_out whole (omega arith) (inv.output nonce k at);
       counter = λ nonce k at.
-          counter_at _ nonce (k + d / 16 + n / 16) (k + (d + n) / 16) (c.encrypt_chunk.ensures.counter nonce (k + d / 16) (inv.counter nonce k at)) (omega arith);
+          let then = c.encrypt_chunk.ensures.counter nonce (k + d / 16) (inv.counter nonce k at) in
+          counter_at _ nonce (k + d / 16 + n / 16) (k + (d + n) / 16) then (omega arith);
     }

@@ -1,23 +1,21 @@
-use Rattle.std.specs.Prelude.{true, false, ◌==◌}
 use Rattle.std.proofs.lemmas.Bool.Decides.{nat_tests}
-use Rattle.std.proofs.Common.{◌≡◌, ℕ, ◌<◌, List, [], ◌∷◌, ◌++◌, length, arith, ap, ◌∙◌, sym, subst}
+use Rattle.std.proofs.Common.{◌≡◌, ◌<◌, [], ◌∷◌, ◌++◌, length, arith, ap, ◌∙◌, sym, subst}
 use Rattle.std.proofs.lemmas.List.{append-nil}
 use Rattle.aead_ciphers_base.specs.Blocks.{blocks}
-use Rattle.aead_ciphers.specs.Gcm.{padded_blocks}
 use Rattle.aead_ciphers.specs.HashOf.{IsHashOf, HashState}
-use Rattle.aead_ciphers.proofs.GcmLemmas.{hash_with, padded_blocks_short, whole_and_rest}
-use Rattle.aead_ciphers.proofs.PaddingLemmas.{padded_blocks_none}
+use Rattle.aead_ciphers.proofs.PaddedBlocks.{padded_blocks_short}
+use Rattle.aead_ciphers.proofs.RunningHash.{hash_with, whole_and_rest}
+use Rattle.aead_ciphers.proofs.PaddedBlocks.{padded_blocks_none}
 use Rattle.aead_ciphers.proofs.aes_gcm.hash.absorb.Goals as goal
 
 pub returns-then-not-is_empty-clause-hashed : goal.returns-then-not-is_empty-clause-hashed
 returns-then-not-is_empty-clause-hashed g c = λ done at.
     let whole = c.as_chunks.result.0.items.now in
     let rest = c.as_chunks.result.1.now in
-    let tested : false ≡ (length rest == 0) = c.if-not-is_empty.ensures in
+    let tested = c.if-not-is_empty.ensures in
     let some : 0 < length rest = grind (arith, nat_tests) in
-    hash_with c.args.auth.now.hash_key c.update_blocks.new.self.hash_key (done ++ blocks 16 whole) (done ++ padded_blocks c.args.input.now) (padded_blocks rest) (c.padded.result ∷ []) c.update_blocks.new.self.xi c.update_block.new.self.xi
-    (ap (λ (s : HashState). s.hash_key) c.update_blocks.ensures.kept)
-    (ap (λ (b : List ℕ). b ∷ []) c.padded.ensures ∙ sym (padded_blocks_short rest some (omega arith)))
+    hash_with (ap (λ (s : HashState). s.hash_key) c.update_blocks.ensures.kept)
+    (ap (λ b. b ∷ []) c.padded.ensures ∙ sym (padded_blocks_short rest some (omega arith)))
     (whole_and_rest done c.args.input.now whole rest c.as_chunks.ensures.whole c.as_chunks.ensures.rest)
     c.update_block.ensures.hashed (c.update_blocks.ensures.hashed done at)
 
@@ -26,9 +24,9 @@ pub returns-else-not-is_empty-clause-hashed : goal.returns-else-not-is_empty-cla
 returns-else-not-is_empty-clause-hashed g c = λ done at.
     let whole = c.as_chunks.result.0.items.now in
     let rest = c.as_chunks.result.1.now in
-    let tested : true ≡ (length rest == 0) = c.if-not-is_empty.ensures in
+    let tested = c.if-not-is_empty.ensures in
     let none : length rest ≡ 0 = grind (arith, nat_tests) in
-    let same : done ++ blocks 16 whole ≡ done ++ padded_blocks c.args.input.now =
-    sym (append-nil (done ++ blocks 16 whole)) ∙ ap (λ (u : List (List ℕ)). done ++ blocks 16 whole ++ u) (sym (padded_blocks_none rest none))
+    let same =
+    sym (append-nil (done ++ blocks 16 whole)) ∙ ap (λ u. done ++ blocks 16 whole ++ u) (sym (padded_blocks_none rest none))
     ∙ whole_and_rest done c.args.input.now whole rest c.as_chunks.ensures.whole c.as_chunks.ensures.rest in
-    subst (λ (bs : List (List ℕ)). IsHashOf c.args.auth.now.hash_key bs c.update_blocks.new.self.xi) same (c.update_blocks.ensures.hashed done at)
+    subst (λ bs. IsHashOf c.args.auth.now.hash_key bs c.update_blocks.new.self.xi) same (c.update_blocks.ensures.hashed done at)

@@ -1,11 +1,12 @@
-use Rattle.std.proofs.Common.{◌≡◌, ℕ, ◌+◌, ◌-◌, ◌*◌, ◌/◌, ◌≤◌, List, [], ◌++◌, length, drop, take, arith, ap, ◌∙◌, sym, refl, subst}
+use Rattle.std.proofs.Common.{◌≡◌, ◌+◌, ◌-◌, ◌*◌, ◌/◌, ◌≤◌, [], ◌++◌, length, drop, take, arith, ap, ◌∙◌, sym, refl, subst}
 use Rattle.std.proofs.lemmas.List.{append-nil, length-drop, length-take-le}
-use Rattle.aead_ciphers_base.specs.CounterMode.{IsCounter, counter_mode}
+use Rattle.aead_ciphers_base.specs.CounterMode.{EncryptsFirst, counter_mode}
 use Rattle.aead_ciphers_base.proofs.CounterLemmas.{counter_still, counter_at}
 use Rattle.aead_ciphers_base.proofs.CounterModeLemmas.{advance, counter_mode-nil, length-counter_mode}
 use Rattle.aead_ciphers.specs.HashOf.{IsHashOf, HashState}
-use Rattle.aead_ciphers.proofs.GcmLemmas.{hash_chunk, encrypted_piece}
-use Rattle.aead_ciphers.proofs.PaddingLemmas.{padded_blocks_none}
+use Rattle.aead_ciphers.proofs.RunningHash.{hash_chunk}
+use Rattle.aead_ciphers.proofs.CounterModePieces.{encrypted_piece}
+use Rattle.aead_ciphers.proofs.PaddedBlocks.{padded_blocks_none}
 use Rattle.aead_ciphers.proofs.aes_gcm.sealing.seal_whole.Goals as goal
 
 pub loop-done-init : goal.loop-done-init
@@ -14,11 +15,11 @@ loop-done-init g c = record {
   aligned = refl;
   within = omega arith;
   size = refl;
-  output = λ nonce k at. ap (λ (u : List ℕ). u ++ c.args.in_out.now) (sym (counter_mode-nil (g.A.EncryptBlock.cipher c.args.aes.now) nonce k [] refl));
+  output = λ nonce k at. ap (λ u. u ++ c.args.in_out.now) (sym (counter_mode-nil (g.A.EncryptBlock.cipher c.args.aes.now) nonce k [] refl));
   counter = λ nonce k at. counter_still _ nonce k at;
   kept = refl;
   hashed = λ nonce k at bs h.
-      subst (λ (x : List (List ℕ)). IsHashOf c.args.auth.now.hash_key x c.args.auth.now.xi) (sym (ap (λ (x : List (List ℕ)). bs ++ x) (padded_blocks_none [] refl) ∙ append-nil bs)) h;
+      subst (λ x. IsHashOf c.args.auth.now.hash_key x c.args.auth.now.xi) (sym (ap (λ x. bs ++ x) (padded_blocks_none [] refl) ∙ append-nil bs)) h;
 }
 
 pub loop-done-preserved : goal.loop-done-preserved
@@ -32,10 +33,11 @@ loop-done-preserved g c =
     let aligned : d ≡ 16 * (d / 16) = omega (arith, inv.aligned) in
     let room : 0 + d + n ≤ length was = omega arith in
     let size : d + n - d ≡ n = omega arith in
-    let output : (nonce : List ℕ) (k : ℕ) → IsCounter c.args.counter.now nonce k → c.encrypt_chunk.new.in_out ≡ counter_mode cipher nonce k (take (d + n) was) ++ drop (d + n) was =
-    λ nonce k at. c.encrypt_chunk.ensures.output nonce (k + d / 16) (inv.counter nonce k at) ∙ advance cipher nonce k (d / 16) d n 0 was now aligned room (inv.output nonce k at) in
-    let part : length (take (d + n - d) (drop d c.encrypt_chunk.new.in_out)) ≡ n =
-    length-take-le (d + n - d) (drop d c.encrypt_chunk.new.in_out) (omega (arith, length-drop d c.encrypt_chunk.new.in_out)) ∙ size in
+    let new = c.encrypt_chunk.new.in_out in
+    let output : EncryptsFirst cipher c.args.counter.now 0 (d + n) was new =
+    λ nonce k at. c.encrypt_chunk.ensures.output nonce (k + d / 16) (inv.counter nonce k at)
+    ∙ advance cipher nonce k (d / 16) d n 0 was now aligned room (inv.output nonce k at) in
+    let part = length-take-le (d + n - d) (drop d new) (omega (arith, length-drop d new)) ∙ size in
     record {
       worked = (omega arith, omega arith);
       aligned = omega arith;
@@ -43,11 +45,12 @@ loop-done-preserved g c =
       size = omega arith;
       output = output;
       counter = λ nonce k at.
-          counter_at _ nonce (k + d / 16 + n / 16) (k + (d + n) / 16) (c.encrypt_chunk.ensures.counter nonce (k + d / 16) (inv.counter nonce k at)) (omega arith);
+          let then = c.encrypt_chunk.ensures.counter nonce (k + d / 16) (inv.counter nonce k at) in
+          counter_at _ nonce (k + d / 16 + n / 16) (k + (d + n) / 16) then (omega arith);
       kept = c.absorb.ensures.kept ∙ ap (λ (s : HashState). record s { xi = c.absorb.new.auth.xi }) inv.kept;
       hashed = λ nonce k at bs h.
-          hash_chunk c.args.auth.now.hash_key c.loop-done.auth.hash_key bs c.loop-done.auth.xi c.absorb.new.auth.xi _ (counter_mode cipher nonce k was) d n (d / 16)
-          (ap (λ (s : HashState). s.hash_key) inv.kept) aligned (omega (arith, length-counter_mode cipher nonce k was))
-          (ap (λ (z : ℕ). take z (drop d c.encrypt_chunk.new.in_out)) size ∙ encrypted_piece cipher nonce k d n was c.encrypt_chunk.new.in_out (omega arith) (output nonce k at))
+          let piece = encrypted_piece cipher nonce k d n was new (omega arith) (output nonce k at) in
+          hash_chunk bs (counter_mode cipher nonce k was) d n (d / 16) (ap (λ (s : HashState). s.hash_key) inv.kept) aligned
+          (omega (arith, length-counter_mode cipher nonce k was)) (ap (λ z. take z (drop d new)) size ∙ piece)
           c.absorb.ensures.hashed (inv.hashed nonce k at bs h);
     }

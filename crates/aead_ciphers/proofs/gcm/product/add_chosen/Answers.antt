@@ -1,4 +1,4 @@
-use Rattle.aead_ciphers.proofs.LaneLemmas.{lane-small, lane-chosen}
+use Rattle.aead_ciphers.proofs.BlockLanes.{lane-small, lane-chosen}
 use Rattle.aead_ciphers.proofs.gcm.product.add_chosen.Goals as goal
 
 pub returns : goal.returns

@@ -1,5 +1,5 @@
 use Rattle.std.proofs.Common.{rules}
-use Rattle.aead_ciphers.proofs.LaneLemmas.{joined_is}
+use Rattle.aead_ciphers.proofs.BlockLanes.{joined_is}
 use Rattle.aead_ciphers.proofs.gcm.product.joined.Goals as goal
 
 pub returns : goal.returns

@@ -1,6 +1,6 @@
 use Rattle.std.proofs.Common.{◌/◌, ◌^◌, arith}
 use Rattle.std.proofs.lemmas.Nat.{and_mask}
-use Rattle.aead_ciphers.proofs.LaneLemmas.{below_four}
+use Rattle.aead_ciphers.proofs.BlockLanes.{below_four}
 use Rattle.aead_ciphers.proofs.gcm.product.words.Goals as goal
 
 pub returns : goal.returns

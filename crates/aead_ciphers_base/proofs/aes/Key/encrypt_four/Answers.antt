@@ -1,7 +1,7 @@
 use Rattle.std.proofs.Common.{◌∙◌, ap, ◌-◌, ◌*◌, ◌+◌, slice_index_or, []}
 use Rattle.aead_ciphers_base.specs.Aes.{aes, key_words}
 use Rattle.aead_ciphers_base.specs.KeySchedule.{key_of}
-use Rattle.aead_ciphers_base.proofs.KeyLemmas.{aes_of_schedule}
+use Rattle.aead_ciphers_base.proofs.RoundKeys.{aes_of_schedule}
 use Rattle.aead_ciphers_base.proofs.aes.Key.encrypt_four.Goals as goal
 
 pub returns : goal.returns

@@ -1,5 +1,5 @@
 use Rattle.std.proofs.Common.{arith, ◌≡◌, ◌*◌, ◌/◌, length}
-use Rattle.aead_ciphers_base.proofs.KeyLemmas.{key_of_is, is_schedule}
+use Rattle.aead_ciphers_base.proofs.RoundKeys.{key_of_is, is_schedule}
 use Rattle.aead_ciphers_base.proofs.aes.Key.expanded.Goals as goal
 
 pub invariant_of-result : goal.invariant_of-result

@@ -1,7 +1,7 @@
 use Rattle.std.proofs.Common.{arith, ap, sym, ◌∙◌, ◌≡◌, ◌+◌, ◌-◌, slice_index_or, []}
 use Rattle.aead_ciphers_base.specs.Aes.{add_round_key, mix_columns, shift_rows, sub_bytes, rounds}
-use Rattle.aead_ciphers_base.proofs.CipherLemmas.{rounds_none, rounds_more, cipher_is}
-use Rattle.aead_ciphers_base.proofs.BlockLemmas.{sub_block, shift_block, mix_block, add_block, packed_block}
+use Rattle.aead_ciphers_base.proofs.CipherRounds.{rounds_none, rounds_more, cipher_is}
+use Rattle.aead_ciphers_base.proofs.PlaneBlocks.{sub_block, shift_block, mix_block, add_block, packed_block}
 use Rattle.aead_ciphers_base.proofs.aes.bit_sliced.encrypt_four.Goals as goal
 
 pub loop-round-init : goal.loop-round-init

@@ -1,5 +1,5 @@
 use Rattle.std.proofs.Common.{◌≡◌, ◌∙◌, ◌/◌, length, arith, length-set}
-use Rattle.aead_ciphers_base.proofs.ScheduleLemmas.{first_word_step, first_words_end, next_word_step}
+use Rattle.aead_ciphers_base.proofs.KeySchedule.{first_word_step, first_words_end, next_word_step}
 use Rattle.aead_ciphers_base.proofs.aes.key_schedule.expand.Goals as goal
 
 pub loop-i-preserved : goal.loop-i-preserved
@@ -17,5 +17,6 @@ loop-n-init c =
 pub loop-n-preserved : goal.loop-n-preserved
 loop-n-preserved c = (
   length-set _ _ _ ∙ c.loop-n.invariant.0,
-  next_word_step (length c.args.key.now / 4) c.args.key.now c.loop-n.words c.loop-n.n c.next_word.result (omega arith) (omega arith) (omega arith) c.loop-n.invariant.1 c.next_word.ensures,
+  next_word_step (length c.args.key.now / 4) c.args.key.now c.loop-n.words c.loop-n.n c.next_word.result (omega arith) (omega arith)
+      (omega arith) c.loop-n.invariant.1 c.next_word.ensures,
 )

@@ -1,9 +1,10 @@
 use Rattle.std.proofs.Common.{ne_eqb}
 use Rattle.std.specs.Prelude.{nat_lt}
 use Rattle.std.proofs.lemmas.Bool.{and_left, and_right, le-ltb}
-use Rattle.aead_ciphers_base.proofs.ScheduleLemmas.{next_word_turned, next_word_middle, next_word_plain}
+use Rattle.aead_ciphers_base.proofs.KeySchedule.{next_word_turned, next_word_middle, next_word_plain}
 use Rattle.aead_ciphers_base.proofs.aes.key_schedule.next_word.Goals as goal
-use Rattle.aead_ciphers_base.proofs.aes.key_schedule.next_word.Goals.{then-i-nk-eq0, else-i-nk-eq0+then-nk-gt6+then-i-nk-eq4, else-i-nk-eq0+else-nk-gt6, else-nk-gt6-via-then-nk-gt6+else-i-nk-eq4, else-nk-gt6-via-else-nk-gt6}
+use Rattle.aead_ciphers_base.proofs.aes.key_schedule.next_word.Goals.{then-i-nk-eq0, else-i-nk-eq0+then-nk-gt6+then-i-nk-eq4, else-i-nk-eq0+else-nk-gt6}
+use Rattle.aead_ciphers_base.proofs.aes.key_schedule.next_word.Goals.{else-nk-gt6-via-then-nk-gt6+else-i-nk-eq4, else-nk-gt6-via-else-nk-gt6}
 
 pub returns : goal.returns
 returns c =

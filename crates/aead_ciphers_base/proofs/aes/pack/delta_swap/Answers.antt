@@ -1,4 +1,4 @@
-use Rattle.aead_ciphers_base.proofs.PackLemmas.{shift_is, shift_lt, delta_swap_first, delta_swap_second}
+use Rattle.aead_ciphers_base.proofs.PlanePacking.{shift_is, shift_lt, delta_swap_first, delta_swap_second}
 use Rattle.aead_ciphers_base.proofs.aes.pack.delta_swap.Goals as goal
 
 pub overflow_shr-delta : goal.overflow_shr-delta

@@ -1,4 +1,4 @@
-use Rattle.aead_ciphers_base.proofs.PackLemmas.{exchange_digits_is}
+use Rattle.aead_ciphers_base.proofs.PlanePacking.{exchange_digits_is}
 use Rattle.aead_ciphers_base.proofs.aes.pack.exchange_digits.Goals as goal
 
 pub returns : goal.returns

@@ -1,6 +1,6 @@
 use Rattle.std.proofs.Common.{arith}
 use Rattle.std.proofs.lemmas.Nat.Bits.{bit_at-zero}
-use Rattle.aead_ciphers_base.proofs.PackLemmas.{gathered_more, gathered_byte}
+use Rattle.aead_ciphers_base.proofs.PlanePacking.{gathered_more, gathered_byte}
 use Rattle.aead_ciphers_base.proofs.aes.pack.gather.Goals as goal
 
 pub loop-b-init : goal.loop-b-init

@@ -1,4 +1,4 @@
-use Rattle.aead_ciphers_base.proofs.PackLemmas.{IsGathered}
+use Rattle.aead_ciphers_base.proofs.PlanePacking.{IsGathered}
 use Rattle.aead_ciphers_base.proofs.aes.pack.gather.Given as goal
 
 abbrev pub invariant-loop-b : goal.invariant-loop-b

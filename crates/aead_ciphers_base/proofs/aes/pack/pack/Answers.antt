@@ -1,4 +1,4 @@
-use Rattle.aead_ciphers_base.proofs.PackLemmas.{packed_byte}
+use Rattle.aead_ciphers_base.proofs.PlanePacking.{packed_byte}
 use Rattle.aead_ciphers_base.proofs.aes.pack.pack.Goals as goal
 
 pub returns : goal.returns

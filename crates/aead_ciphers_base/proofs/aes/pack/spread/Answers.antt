@@ -1,5 +1,5 @@
 use Rattle.std.proofs.Common.{arith, length-set, ◌∙◌}
-use Rattle.aead_ciphers_base.proofs.PackLemmas.{spread_more, spread_byte}
+use Rattle.aead_ciphers_base.proofs.PlanePacking.{spread_more, spread_byte}
 use Rattle.aead_ciphers_base.proofs.aes.pack.spread.Goals as goal
 
 pub loop-b-preserved : goal.loop-b-preserved

@@ -1,5 +1,5 @@
 use Rattle.std.proofs.Common.{◌≡◌, length}
-use Rattle.aead_ciphers_base.proofs.PackLemmas.{IsSpread}
+use Rattle.aead_ciphers_base.proofs.PlanePacking.{IsSpread}
 use Rattle.aead_ciphers_base.proofs.aes.pack.spread.Given as goal
 
 abbrev pub invariant-loop-b : goal.invariant-loop-b

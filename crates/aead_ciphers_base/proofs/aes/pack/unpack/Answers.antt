@@ -1,5 +1,5 @@
 use Rattle.std.proofs.Common.{sym, [], ◌∷◌}
-use Rattle.aead_ciphers_base.proofs.PackLemmas.{unpacked_block}
+use Rattle.aead_ciphers_base.proofs.PlanePacking.{unpacked_block}
 use Rattle.aead_ciphers_base.proofs.aes.pack.unpack.Goals as goal
 
 pub returns : goal.returns

@@ -1,5 +1,5 @@
 use Rattle.std.proofs.Common.{rules}
-use Rattle.aead_ciphers_base.proofs.PackLemmas.{words_of_block}
+use Rattle.aead_ciphers_base.proofs.PlanePacking.{words_of_block}
 use Rattle.aead_ciphers_base.proofs.aes.pack.words_of.Goals as goal
 
 pub returns : goal.returns

@@ -1,4 +1,4 @@
-use Rattle.aead_ciphers_base.proofs.PlaneLemmas.{times_x_plane}
+use Rattle.aead_ciphers_base.proofs.PlaneBits.{times_x_plane}
 use Rattle.aead_ciphers_base.proofs.aes.planes.times_x.Goals as goal
 
 pub returns : goal.returns

@@ -1,5 +1,5 @@
 use Rattle.std.proofs.Common.{arith}
-use Rattle.aead_ciphers_base.proofs.RoundStepLemmas.{add_plane}
+use Rattle.aead_ciphers_base.proofs.PlaneShifts.{add_plane}
 use Rattle.aead_ciphers_base.proofs.aes.round.add_planes.Goals as goal
 
 pub returns : goal.returns

@@ -1,8 +1,8 @@
 use Rattle.std.proofs.Common.{ap, ap₂, ◌∙◌, ◌≡◌, bit_xor}
 use Rattle.aead_ciphers_base.specs.ByteField.{mul8}
 use Rattle.aead_ciphers_base.specs.Planes.{plane_byte, below}
-use Rattle.aead_ciphers_base.proofs.RoundStepLemmas.{mixed_is, below_lt, below_twice}
-use Rattle.aead_ciphers_base.proofs.PlaneLemmas.{plane_byte_lt}
+use Rattle.aead_ciphers_base.proofs.PlaneShifts.{mixed_is, below_lt, below_twice}
+use Rattle.aead_ciphers_base.proofs.PlaneBits.{plane_byte_lt}
 use Rattle.aead_ciphers_base.proofs.aes.round.mix_columns.Goals as goal
 
 pub returns : goal.returns

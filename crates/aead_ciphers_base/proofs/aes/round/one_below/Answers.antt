@@ -1,5 +1,5 @@
 use Rattle.std.proofs.Common.{arith}
-use Rattle.aead_ciphers_base.proofs.RoundStepLemmas.{one_below_moves}
+use Rattle.aead_ciphers_base.proofs.PlaneShifts.{one_below_moves}
 use Rattle.aead_ciphers_base.proofs.aes.round.one_below.Goals as goal
 
 pub returns : goal.returns

@@ -1,6 +1,6 @@
 use Rattle.std.proofs.Common.{arith, length-set, ◌∙◌}
 use Rattle.aead_ciphers_base.specs.Planes.{below}
-use Rattle.aead_ciphers_base.proofs.RoundStepLemmas.{planes_moved, moves_more}
+use Rattle.aead_ciphers_base.proofs.PlaneShifts.{planes_moved, moves_more}
 use Rattle.aead_ciphers_base.proofs.aes.round.planes_two_below.Goals as goal
 
 pub returns : goal.returns

@@ -1,5 +1,5 @@
 use Rattle.std.proofs.Common.{arith}
-use Rattle.aead_ciphers_base.proofs.RoundStepLemmas.{two_below_moves}
+use Rattle.aead_ciphers_base.proofs.PlaneShifts.{two_below_moves}
 use Rattle.aead_ciphers_base.proofs.aes.round.two_below.Goals as goal
 
 pub returns : goal.returns

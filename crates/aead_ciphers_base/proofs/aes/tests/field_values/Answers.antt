@@ -1,5 +1,5 @@
 use Rattle.std.proofs.Common.{refl}
-use Rattle.aead_ciphers_base.proofs.ByteFieldLemmas.{field}
+use Rattle.aead_ciphers_base.proofs.ByteFieldLaws.{field}
 use Rattle.aead_ciphers_base.proofs.aes.tests.field_values.Goals as goal
 
 pub returns : goal.returns

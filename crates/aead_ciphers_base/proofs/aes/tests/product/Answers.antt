@@ -3,9 +3,9 @@ use Rattle.std.specs.Prelude.{◌==◌}
 use Rattle.std.proofs.lemmas.Nat.{shr-shr, shr_le}
 use Rattle.std.proofs.lemmas.Nat.Bits.{shr_and_one}
 use Rattle.aead_ciphers_base.specs.ByteField.{mul8}
-use Rattle.aead_ciphers_base.proofs.BitsLemmas.{IsAdditive_zero}
-use Rattle.aead_ciphers_base.proofs.ByteFieldLemmas.{mul8-xor_right, two_is}
-use Rattle.aead_ciphers_base.proofs.FastProductLemmas.{step_of_product}
+use Rattle.aead_ciphers_base.proofs.NumberBits.{IsAdditive_zero}
+use Rattle.aead_ciphers_base.proofs.ByteFieldLaws.{mul8-xor_right, two_is}
+use Rattle.aead_ciphers_base.proofs.FastProduct.{step_of_product}
 use Rattle.aead_ciphers_base.proofs.aes.tests.product.Goals as goal
 
 by_bit : (a d : ℕ) → d < 2 → a * d ≡ (if d == 1 then a else 0)
@@ -26,7 +26,8 @@ loop-n-preserved c =
     let z : ℕ = c.args.b / 2 ^ (7 - c.loop-n.n) in
     let z_le : c.args.b / 2 ^ (7 - c.loop-n.n) ≤ c.args.b = shr_le c.args.b (7 - c.loop-n.n) in
     let s : 8 - c.loop-n.n ≡ (7 - c.loop-n.n) + 1 = omega arith in
-    let half : c.args.b / 2 ^ (8 - c.loop-n.n) ≡ c.args.b / 2 ^ (7 - c.loop-n.n) / 2 = ap (λ t. c.args.b / 2 ^ t) s ∙ sym (shr-shr c.args.b (7 - c.loop-n.n) 1) in
+    let half : c.args.b / 2 ^ (8 - c.loop-n.n) ≡ c.args.b / 2 ^ (7 - c.loop-n.n) / 2 = ap (λ t. c.args.b / 2 ^ t) s
+    ∙ sym (shr-shr c.args.b (7 - c.loop-n.n) 1) in
     let last : 7 - c.loop-n.n ≡ 8 - (c.loop-n.n + 1) = omega arith in
     ap₂ bit_xor
     (two_is c.loop-n.product (omega arith) ∙ ap (mul8 2) (c.loop-n.invariant ∙ ap (mul8 a) half))

@@ -2,7 +2,7 @@ use Rattle.std.proofs.Common.{◌≡◌, ℕ, true, refl, ap, ap₂, ◌∙◌, 
 use Rattle.std.specs.Prelude.{◌==◌}
 use Rattle.std.specs.Int.{w8, rotate_left}
 use Rattle.aead_ciphers_base.specs.ByteField.{affine, sbox}
-use Rattle.aead_ciphers_base.proofs.BitsLemmas.{all_below, same_below}
+use Rattle.aead_ciphers_base.proofs.NumberBits.{all_below, same_below}
 use Rattle.aead_ciphers_base.proofs.aes.tests.s_box.Goals as goal
 
 abbrev rotated : ℕ → ℕ

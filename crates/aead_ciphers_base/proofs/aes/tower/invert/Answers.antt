@@ -2,8 +2,8 @@ use Rattle.std.proofs.Common.{ap, ◌∙◌}
 use Rattle.aead_ciphers_base.specs.ByteField.{mul8}
 use Rattle.aead_ciphers_base.specs.Planes.{plane_polynomial}
 use Rattle.aead_ciphers_base.specs.Tower.{plane_element, basis_16, basis_256}
-use Rattle.aead_ciphers_base.proofs.PlaneLemmas.{set-xor}
-use Rattle.aead_ciphers_base.proofs.TowerLemmas.{four_bits, inverse_is}
+use Rattle.aead_ciphers_base.proofs.PlaneBits.{set-xor}
+use Rattle.aead_ciphers_base.proofs.TowerCoordinates.{four_bits, inverse_is}
 use Rattle.aead_ciphers_base.proofs.aes.tower.invert.Goals as goal
 
 pub returns : goal.returns

@@ -1,7 +1,7 @@
 use Rattle.aead_ciphers_base.specs.Planes.{plane_polynomial}
 use Rattle.aead_ciphers_base.specs.Tower.{plane_element, basis_4, basis_16}
-use Rattle.aead_ciphers_base.proofs.PlaneLemmas.{set-xor}
-use Rattle.aead_ciphers_base.proofs.TowerLemmas.{two_bits, inverse_16_is}
+use Rattle.aead_ciphers_base.proofs.PlaneBits.{set-xor}
+use Rattle.aead_ciphers_base.proofs.TowerCoordinates.{two_bits, inverse_16_is}
 use Rattle.aead_ciphers_base.proofs.aes.tower.invert_16.Goals as goal
 
 pub returns : goal.returns

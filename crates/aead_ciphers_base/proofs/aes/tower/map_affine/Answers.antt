@@ -1,6 +1,6 @@
 use Rattle.aead_ciphers_base.specs.Planes.{plane_byte, plane_polynomial}
-use Rattle.aead_ciphers_base.proofs.PlaneLemmas.{set-xor, ones_bit}
-use Rattle.aead_ciphers_base.proofs.TowerLemmas.{affine_is}
+use Rattle.aead_ciphers_base.proofs.PlaneBits.{set-xor, ones_bit}
+use Rattle.aead_ciphers_base.proofs.TowerCoordinates.{affine_is}
 use Rattle.aead_ciphers_base.proofs.aes.tower.map_affine.Goals as goal
 
 pub returns : goal.returns

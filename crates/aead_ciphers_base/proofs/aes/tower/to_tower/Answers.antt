@@ -1,7 +1,7 @@
 use Rattle.aead_ciphers_base.specs.Planes.{plane_polynomial}
 use Rattle.aead_ciphers_base.specs.Tower.{plane_element, basis_256}
-use Rattle.aead_ciphers_base.proofs.PlaneLemmas.{set-xor}
-use Rattle.aead_ciphers_base.proofs.TowerLemmas.{to_tower_is}
+use Rattle.aead_ciphers_base.proofs.PlaneBits.{set-xor}
+use Rattle.aead_ciphers_base.proofs.TowerCoordinates.{to_tower_is}
 use Rattle.aead_ciphers_base.proofs.aes.tower.to_tower.Goals as goal
 
 pub returns : goal.returns

@@ -1,6 +1,6 @@
 use Rattle.std.proofs.Common.{rules, ap, ◌∙◌}
 use Rattle.aead_ciphers_base.specs.ChaCha20.{le_bytes}
-use Rattle.aead_ciphers_base.proofs.WordsLemmas.{le_bytes-le_words}
+use Rattle.aead_ciphers_base.proofs.LittleEndian.{le_bytes-le_words}
 use Rattle.aead_ciphers_base.proofs.chacha.Key.new.Goals as goal
 
 pub returns : goal.returns

@@ -2,7 +2,7 @@ use Rattle.std.proofs.Common.{◌≡◌, ◌<◌, ◌+◌, ℕ, List, length, ta
 use Rattle.std.specs.Int.{w32, from_le_bytes}
 use Rattle.aead_ciphers_base.specs.ChaCha20.{initial_state, chacha20_block, state_block, le_bytes}
 use Rattle.aead_ciphers_base.specs.Mask.{chacha_mask}
-use Rattle.aead_ciphers_base.proofs.WordsLemmas.{le_words-first, le_bytes-le_words}
+use Rattle.aead_ciphers_base.proofs.LittleEndian.{le_words-first, le_bytes-le_words}
 use Rattle.aead_ciphers_base.proofs.chacha.Key.new_mask.Goals as goal
 
 pub returns : goal.returns

@@ -1,6 +1,6 @@
 use Rattle.std.proofs.Common.{ap, sym, ◌∙◌}
 use Rattle.aead_ciphers_base.specs.ChaCha20.{le_words}
-use Rattle.aead_ciphers_base.proofs.WordsLemmas.{le_words-le_bytes}
+use Rattle.aead_ciphers_base.proofs.LittleEndian.{le_words-le_bytes}
 use Rattle.aead_ciphers_base.proofs.chacha.Key.words_less_safe.Goals as goal
 
 pub returns : goal.returns

@@ -4,7 +4,7 @@ use Rattle.std.proofs.lemmas.List.{get_or-set_other}
 use Rattle.std.proofs.lemmas.Simd.{get_or-zip2, length-zip2}
 use Rattle.aead_ciphers_base.specs.ChaCha20.{add32}
 use Rattle.aead_ciphers_base.specs.Lanes.{lane}
-use Rattle.aead_ciphers_base.proofs.LaneLemmas.{lane_more, length-lane, same_of_takes, slice_index-lane}
+use Rattle.aead_ciphers_base.proofs.VectorLanes.{lane_more, length-lane, same_of_takes, slice_index-lane}
 use Rattle.aead_ciphers_base.proofs.chacha.lanes.add_states.Goals as goal
 
 sums : (j : ℕ) (xs ys : List (List ℕ)) → length xs ≡ 16 → length ys ≡ 16 → length (zip2 add32 (lane j xs) (lane j ys)) ≡ 16

@@ -1,4 +1,4 @@
-use Rattle.aead_ciphers_base.proofs.RoundLemmas.{double_round_steps}
+use Rattle.aead_ciphers_base.proofs.ChaChaRounds.{double_round_steps}
 use Rattle.aead_ciphers_base.proofs.chacha.lanes.double_round.Goals as goal
 
 pub returns : goal.returns

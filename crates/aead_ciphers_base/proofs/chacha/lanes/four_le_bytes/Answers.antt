@@ -2,7 +2,7 @@ use Rattle.std.proofs.Common.{◌≡◌, ℕ, ◌*◌, length, length-append, le
 use borrow.Author.Count.{below_more}
 use Rattle.aead_ciphers_base.specs.ChaCha20.{le_bytes}
 use Rattle.aead_ciphers_base.specs.Lanes.{lane}
-use Rattle.aead_ciphers_base.proofs.LaneLemmas.{block_kept, block_written}
+use Rattle.aead_ciphers_base.proofs.VectorLanes.{block_kept, block_written}
 use Rattle.aead_ciphers_base.proofs.chacha.lanes.four_le_bytes.Goals as goal
 
 pub loop-j-preserved : goal.loop-j-preserved

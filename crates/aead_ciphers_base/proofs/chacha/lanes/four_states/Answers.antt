@@ -2,7 +2,7 @@ use Rattle.std.proofs.Common.{◌≡◌, ℕ, ◌+◌, List, [], ◌∷◌, leng
 use Rattle.std.proofs.lemmas.List.{get_or-replicate}
 use Rattle.aead_ciphers_base.specs.ChaCha20.{add32}
 use Rattle.aead_ciphers_base.specs.Lanes.{lane}
-use Rattle.aead_ciphers_base.proofs.LaneLemmas.{below_four, lane_more, lane-set, length-lane, same_of_takes, slice_index-lane}
+use Rattle.aead_ciphers_base.proofs.VectorLanes.{below_four, lane_more, lane-set, length-lane, same_of_takes, slice_index-lane}
 use Rattle.aead_ciphers_base.proofs.chacha.lanes.four_states.Goals as goal
 
 pub loop-k-preserved : goal.loop-k-preserved

@@ -1,4 +1,4 @@
-use Rattle.aead_ciphers_base.proofs.LaneLemmas.{quarter_round_lane}
+use Rattle.aead_ciphers_base.proofs.VectorLanes.{quarter_round_lane}
 use Rattle.aead_ciphers_base.proofs.chacha.lanes.quarter_round_at.Goals as goal
 
 pub returns : goal.returns

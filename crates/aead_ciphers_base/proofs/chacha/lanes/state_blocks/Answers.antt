@@ -3,7 +3,7 @@ use Rattle.std.specs.Fn.{iterate}
 use Rattle.std.specs.Simd.Lanes.{zip2}
 use Rattle.aead_ciphers_base.specs.ChaCha20.{add32, double_round, le_bytes, state_block}
 use Rattle.aead_ciphers_base.specs.Lanes.{lane}
-use Rattle.aead_ciphers_base.proofs.RoundLemmas.{iterate_more}
+use Rattle.aead_ciphers_base.proofs.ChaChaRounds.{iterate_more}
 use Rattle.aead_ciphers_base.proofs.chacha.lanes.state_blocks.Goals as goal
 
 pub loop-round-preserved : goal.loop-round-preserved

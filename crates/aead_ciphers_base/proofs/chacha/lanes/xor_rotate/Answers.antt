@@ -1,4 +1,4 @@
-use Rattle.aead_ciphers_base.proofs.LaneLemmas.{shifts_rotate}
+use Rattle.aead_ciphers_base.proofs.VectorLanes.{shifts_rotate}
 use Rattle.aead_ciphers_base.proofs.chacha.lanes.xor_rotate.Goals as goal
 
 pub returns : goal.returns

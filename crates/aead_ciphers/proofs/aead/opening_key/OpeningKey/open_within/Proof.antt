@@ -1,63 +1,39 @@
--- `open_within` lends what `lend_plaintext` lends of what `open_within_len` wrote: the borrow checker shows
--- no write-back clause for a slice that lends a slice.
-use Rattle.aead_ciphers.proofs.LendingSteps.{refl, ◌-◌, [], ◌∷◌, full_share, ◌$◌, !, move, keep, addr, through, stop, of_opd, returns, alloc_all, pass_all}
-use Rattle.aead_ciphers.proofs.LendingSteps.{free_all, look_at, get, sets, lands_as, named_lft, plain, mut_slice_vals, nothing, length, take, types_at}
-use Rattle.aead_ciphers.proofs.LendingSteps.{gave_ref, Goes-gave_ref, a_type, dcons, dnil, inst_fn, param, bounded}
-use Rattle.aead_ciphers.proofs.LendingWalk.{front_met, first_stays, first_goes, aad_bytes, OpenStep, Words, words_vals, words_typed, slice_typed, aad_word}
-use Rattle.aead_ciphers.proofs.LendingWalk.{range_word, gets, reborrows, hears₃, table_of, walked, consults, relends, regains, lends, tells₃, ends, within}
-use Rattle.aead_ciphers.proofs.LendingWalk.{as_lent, its_front, lent_count, step_fronts}
+-- `open_within` lends what `lend_plaintext` lends of what `open_within_len` wrote.
+use Rattle.aead_ciphers.proofs.LendingWalk.{refl, ◌-◌, [], ◌∷◌, a_type, dcons, dnil, full_share, ◌$◌, !, move, keep, stop, addr, of_opd, returns, alloc_all}
+use Rattle.aead_ciphers.proofs.LendingWalk.{pass_all, free_all, look_at, get, sets, lands_as, through, plain, named_lft, types_at, mut_slice_vals, nothing}
+use Rattle.aead_ciphers.proofs.LendingWalk.{table_of, heard, gave_ref, Goes-gave_ref, length, inst_fn, param, bounded, Words, words_vals, words_typed}
+use Rattle.aead_ciphers.proofs.LendingWalk.{slice_typed, aad_word, range_word, gets, reborrows, hears, step_fronts, aad_bytes, front_met, first_stays}
+use Rattle.aead_ciphers.proofs.LendingWalk.{first_goes, walked, consults, at_words, with_third, with_third_share, relends, regains, lends, tells, ends}
+use Rattle.aead_ciphers.proofs.LendingWalk.{says_next}
 use Rattle.aead_ciphers.specs.contracts.aead.opening_key.OpeningKey as K
-use Rattle.aead_ciphers.proofs.aead.opening_key.OpeningKey as P
+use Rattle.aead_ciphers.proofs.aead.opening_key.OpeningKey.open_within as P
+use Rattle.aead_ciphers.proofs.aead.opening_key.OpeningKey.open_within_len.Met.{met as core_met}
 
-pub open_within_spec : {M : Type 1} → P.open_within.Statement.statement M
+pub open_within_spec : {M : Type 1} → P.Statement.statement M
 open_within_spec 𝓤 𝓛 𝓜 𝓡 wired N LN g d met =
     let inst = bounded (a_type ∷ []) (N, tt) (dcons d dnil) in let T = K.open_within.ended N g d in let c = K.open_within.clauses N g d 𝓛 𝓜.mem 𝓡.returns in
-    let own = gave_ref (0 ∷ []) tt (plain (λ _. K.the_row (param 0 N))) in let stayed = first_stays T.signature.params T.kept own in
-    walked 𝓛 T stayed c 𝓜 𝓡 (first_goes 𝓛 4 T.signature.params T.kept own
-    (Goes-gave_ref 𝓛 4 0 tt (plain (λ _. K.the_row (param 0 N))), (λ κs x f. refl, (λ κs x f. refl, (λ κs x f. refl, tt)))))
-    (K.open_within.Key.name inst) (inst_fn inst P.open_within.Code.function) (P.open_within.Code.unfolded 𝓤 𝓛.H 𝓜 𝓡 wired (N, tt) d) (λ y are.
-    let (κs, qs, bounds, a, passed) = y.0 in let κ = κs.1.1.0 in let q = qs.1.1.0 in let Ts = types_at T.signature.params κs in
-    let (self, (aad, (in_out, (range, _)))) = a in let (is-self, (is-aad, (is-in_out, (is-range, _)))) = are in
-    let was = self.now in let old = in_out.now in let room = is-in_out.0.1 in let typed-slice = slice_typed in_out.ref_ptr (length old) room in
-    let words : Words Ts passed = (
-      (_, is-self.0, (tt, tt)),
-      (
-        aad_word 𝓛 (named_lft 4 1 tt κs) aad _ is-aad,
-        (
-          (_, is-in_out.0.0, typed-slice),
-          (range_word 𝓛 range _ is-range, tt),
-        ),
-      ),
-    ) in let vals = words_vals Ts passed words in let count = length old - 16 - range.start in (
-      words,
-      move ! (6 ∷ 2 ∷ []) $ alloc_all ! (λ l. pass_all ! refl (words_typed Ts passed words) $ sets ! (addr ! (through ! refl (stop !))) refl (tt, tt) $
-          sets ! (of_opd ! (get ! refl)) refl words.1.0.2 $ reborrows ! in_out.ref_ptr (length old) refl refl (tt, tt) typed-slice $
-          relends 𝓛 κ q in_out room ! tt (mut_slice_vals in_out) (λ α δ.
-          -- [in_out and its lifetime's token; what is kept; three tokens; self, aad, the range; the premise]
-          move ! (3 ∷ 4 ∷ 1 ∷ 5 ∷ 6 ∷ 7 ∷ 0 ∷ 8 ∷ 9 ∷ []) $
-          consults 𝓛 (K.open_within_len.ended N g d) (K.open_within_len.clauses N g d 𝓛 𝓜.mem 𝓡.returns) ! (table_of 𝓛 𝓜 𝓡)
-          (P.open_within_len.Met.met 𝓤 𝓛 𝓜 𝓡 (P.open_within.Code.calls-aead_ciphers::aead::opening_key::OpeningKey::open_within_len 𝓡.env wired) N LN g d met) (
-            (
-              (κs.0, (κs.1.0, (α ∷ [], (κs.1.1.1.0, tt)))),
-              (qs.0, (qs.1.0, (full_share, (qs.1.1.1.0, tt)))),
-              bounds,
-              (self, (aad, (record in_out { ghost_name = δ }, (range, tt)))),
-              vals,
-            ),
-            tt,
-          )
-          (gets ! tt refl) (λ v u ws. let now = ws.0 in let new = ws.1.1.0 in hears₃ ! (λ stays step counted.
-          let fronts = step_fronts g.spent g.is_closed was now (aad_bytes aad) range.start old new count refl u step counted in
-          -- [the answer; four tokens; self; nothing of aad; what in_out ends as; nothing of the range; what is kept]
-          move ! (3 ∷ 0 ∷ 7 ∷ 9 ∷ []) $ regains 𝓛 κ q in_out room 𝓜 𝓡 v u new ! tt α δ (within count old new u fronts) (λ same typed.
-          lands_as ! refl refl typed.0 $ reborrows ! in_out.ref_ptr (length old) refl refl (tt, tt) typed-slice $
-          lends 𝓛 κ q in_out room 𝓜 𝓡 v u new ! (table_of 𝓛 𝓜 𝓡) (front_met 𝓤 𝓛 𝓜 𝓡 (P.open_within.Code.calls-aead_ciphers::aead::lend::lend_plaintext 𝓡.env wired))
-          (take count new) count fronts (its_front count new u) same (gets ! tt refl) (λ w r is-r end.
-          lands_as ! refl refl is-r.0 $ returns ! (look_at ! 0 refl) $ free_all ! refl $
-          -- [in_out's token; the front; what is owed of in_out; three tokens; self; twice nothing]
-          move ! (2 ∷ []) $ tells₃ 𝓛 ! stays
-          (as_lent (λ accepts left. OpenStep g.spent g.is_closed was now (aad_bytes aad) range.start old left accepts)
-          (take count new) old new count u r end step)
-          (lent_count count old new u r fronts same end.accepts end.value) $ nothing ! $ keep ! (4 ∷ 5 ∷ 2 ∷ 6 ∷ 7 ∷ 8 ∷ 9 ∷ 0 ∷ 3 ∷ 1 ∷ []) $
-          ends 𝓛 T stayed c ((κs, qs, bounds, a, vals), tt) w r (now, (tt, (tt, (tt, tt)))) ! (tt, (tt, (tt, (tt, tt)))))))))),
-    ))
+    let key = plain (λ _. K.the_row (param 0 N)) in let own = gave_ref (0 ∷ []) tt key in let stayed = first_stays T.signature.params T.kept own in
+    let silent = first_goes 𝓛 4 T.signature.params T.kept own (Goes-gave_ref 𝓛 4 0 tt key, (λ _ _ _. refl, (λ _ _ _. refl, (λ _ _ _. refl, tt)))) in
+    walked 𝓛 T stayed c 𝓜 𝓡 silent (K.open_within.Key.name inst) (inst_fn inst P.Code.function) (P.Code.unfolded 𝓤 𝓛.H 𝓜 𝓡 wired (N, tt) d) (λ y are.
+    let (κs, qs, bounds, a, vs) = y.0 in let κ = κs.1.1.0 in let q = qs.1.1.0 in let Ts = types_at T.signature.params κs in
+    let (self, (aad, (in_out, (range, _)))) = a in let (is-self, (is-aad, (is-in_out, (is-range, _)))) = are in let old = in_out.now in
+    let room = is-in_out.0.1 in let slice = slice_typed in_out.ref_ptr (length old) room.0 in let aad-word = aad_word 𝓛 (named_lft 4 1 tt κs) aad _ is-aad in
+    let words : Words Ts vs = ((_, is-self.0, (tt, tt)), (aad-word, ((_, is-in_out.0.0, slice), (range_word 𝓛 range _ is-range, tt)))) in
+    let vals = words_vals Ts vs words in at_words words (move ! (6 ∷ 2 ∷ []) $ alloc_all ! (λ l. pass_all ! refl (words_typed Ts vs words) $
+    sets ! (addr ! (through ! refl (stop !))) refl (tt, tt) $ sets ! (of_opd ! (get ! refl)) refl words.1.0.2 $
+    reborrows ! in_out.ref_ptr (length old) refl refl (tt, tt) slice $ relends 𝓛 κ q in_out room ! tt (mut_slice_vals in_out) (λ α δ.
+    -- [in_out and its lifetime's token; what is kept; three tokens; self, aad, range; the premise]
+    move ! (3 ∷ 4 ∷ 1 ∷ 5 ∷ 6 ∷ 7 ∷ 0 ∷ 8 ∷ 9 ∷ []) $ consults 𝓛 (K.open_within_len.ended N g d) (K.open_within_len.clauses N g d 𝓛 𝓜.mem 𝓡.returns) !
+    (table_of 𝓛 𝓜 𝓡) (core_met 𝓤 𝓛 𝓜 𝓡 (P.Code.calls-aead_ciphers::aead::opening_key::OpeningKey::open_within_len 𝓡.env wired) N LN g d met)
+    ((with_third 4 (α ∷ []) κs, with_third_share 4 full_share qs, bounds, (self, (aad, (record in_out { ghost_name = δ }, (range, tt)))), vals), tt)
+    (gets ! tt refl) (λ v u ws. let was = self.now in let after = ws.0 in let new = ws.1.1.0 in hears ! (λ stays. hears ! (λ step. hears ! (λ counted.
+    hears ! (λ opened. hears ! (λ plaintext. hears ! (λ refused. hears ! (λ gave. heard ! _ (λ stands.
+    let fronts = step_fronts g.spent g.is_closed was after (aad_bytes aad) range.start old new (length old - 16 - range.start) refl u step counted in
+    -- [the answer; four tokens; self; nothing of aad; what in_out ends as; nothing of range; what is kept]
+    move ! (3 ∷ 0 ∷ 7 ∷ 9 ∷ []) $ regains 𝓛 κ q in_out room 𝓜 𝓡 v u new ! tt α δ fronts (λ same typed.
+    lands_as ! refl refl typed.0 $ reborrows ! in_out.ref_ptr (length old) refl refl (tt, tt) slice $ lends 𝓛 κ q in_out room 𝓜 𝓡 v u new !
+    (front_met 𝓤 𝓛 𝓜 𝓡 (P.Code.calls-aead_ciphers::aead::lend::lend_plaintext 𝓡.env wired)) fronts same (gets ! tt refl) (λ w r is-r end.
+    -- [in_out's token; the front; what is owed of in_out; three tokens; self; twice nothing]
+    lands_as ! refl refl is-r.0 $ returns ! (look_at ! 0 refl) $ free_all ! refl $ move ! (2 ∷ []) $ tells 𝓛 !
+    (says_next 𝓛 _ _ _ end stays step opened plaintext gave stands) $ nothing ! $ keep ! (4 ∷ 5 ∷ 2 ∷ 6 ∷ 7 ∷ 8 ∷ 9 ∷ 0 ∷ 3 ∷ 1 ∷ []) $
+    ends 𝓛 T stayed c ((κs, qs, bounds, a, vals), tt) w r (after, (tt, (tt, (tt, tt)))) ! (tt, (tt, (tt, (tt, tt)))))))))))))))))))

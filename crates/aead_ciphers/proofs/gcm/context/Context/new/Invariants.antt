@@ -1,7 +1,7 @@
 use Rattle.std.proofs.Common.{◌≡◌, ◌+◌, ◌/◌, length}
 use Rattle.std.specs.Slice.Iter.{chunks_rest, chunks_size}
 use Rattle.aead_ciphers.specs.Gcm.{padded_blocks}
-use Rattle.aead_ciphers.proofs.HashLemmas.{HashedFront}
+use Rattle.aead_ciphers.proofs.RunningHash.{HashedFront}
 use Rattle.aead_ciphers.proofs.gcm.context.Context.new.Given as goal
 
 abbrev pub invariant-loop-bytes : goal.invariant-loop-bytes

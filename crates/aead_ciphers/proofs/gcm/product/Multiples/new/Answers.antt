@@ -1,9 +1,9 @@
-use Rattle.std.proofs.Common.{◌≡◌, ◌<◌, ◌^◌, ℕ, subst, sym, ◌∙◌, arith, rules}
+use Rattle.std.proofs.Common.{◌≡◌, ◌<◌, ◌^◌, subst, sym, ◌∙◌, arith, rules}
 use Rattle.std.specs.Int.{to_be_bytes, w128}
 use Rattle.aead_ciphers.specs.Ghash.{◌•◌}
 use Rattle.aead_ciphers.specs.Multiples.{entry, monomial_block}
-use Rattle.aead_ciphers.proofs.LaneLemmas.{place, length-written, entry-written, entry-written_other, number-words}
-use Rattle.aead_ciphers.proofs.MultiplesLemmas.{IsMultiple, raised_next, multiples_more, first_multiple, block_of-multiple}
+use Rattle.aead_ciphers.proofs.BlockLanes.{place, length-written, entry-written, entry-written_other, number-words}
+use Rattle.aead_ciphers.proofs.SubkeyMultiples.{IsMultiple, raised_next, multiples_more, first_multiple, block_of-multiple}
 use Rattle.aead_ciphers.proofs.gcm.product.Multiples.new.Goals as goal
 
 pub loop-k-preserved : goal.loop-k-preserved
@@ -25,7 +25,7 @@ pub invariant_of-result : goal.invariant_of-result
 invariant_of-result c = λ k within.
     let table = c.loop-k.table in
     let first = first_multiple c.args.block (entry table 0) (search rules) (c.loop-k.invariant.entries 0 (omega arith)) in
-    subst (λ (h : ℕ). to_be_bytes w128 (entry table k) ≡ monomial_block k • to_be_bytes w128 h) (sym first)
+    subst (λ h. to_be_bytes w128 (entry table k) ≡ monomial_block k • to_be_bytes w128 h) (sym first)
     (block_of-multiple c.args.block k (entry table k) within (c.loop-k.invariant.entries k (omega arith)))
 
 pub returns : goal.returns

@@ -1,6 +1,6 @@
 use Rattle.std.proofs.Common.{◌≡◌, ◌<◌, ℕ, length}
 use Rattle.aead_ciphers.specs.Multiples.{entry}
-use Rattle.aead_ciphers.proofs.MultiplesLemmas.{IsMultiple, IsRaised}
+use Rattle.aead_ciphers.proofs.SubkeyMultiples.{IsMultiple, IsRaised}
 use Rattle.aead_ciphers.proofs.gcm.product.Multiples.new.Given as goal
 
 abbrev pub invariant-loop-k : goal.invariant-loop-k

@@ -3,8 +3,8 @@ use Rattle.std.specs.Int.{to_be_bytes, w128}
 use Rattle.std.proofs.lemmas.Simd.{get_or-zip2}
 use Rattle.aead_ciphers.specs.Ghash.{◌•◌}
 use Rattle.aead_ciphers.specs.Multiples.{entry, number_of_words}
-use Rattle.aead_ciphers.proofs.LaneLemmas.{AllSmall, below_four, entry_is, lane, small-lane, number-lanes, words_chosen}
-use Rattle.aead_ciphers.proofs.MultiplesLemmas.{IsStretch, stretch_start, stretch_next, bits_next, product_end, raised_of-block}
+use Rattle.aead_ciphers.proofs.BlockLanes.{AllSmall, below_four, entry_is, lane, small-lane, number-lanes, words_chosen}
+use Rattle.aead_ciphers.proofs.SubkeyMultiples.{IsStretch, stretch_start, stretch_next, bits_next, product_end, raised_of-block}
 use Rattle.aead_ciphers.proofs.gcm.product.Multiples.product.Goals as goal
 
 pub loop-i-init : goal.loop-i-init
@@ -41,8 +41,7 @@ loop-i-preserved c =
           let words_are : number_of_words words ≡ entry table (32 * j + i) =
           rw (one.ensures.read j within, two.ensures.read j within, three.ensures.read j within, four.ensures.read j within)
           (sym (entry_is table j i within (omega arith))) in
-          let is : number_of_words (lane c.add_chosen-first.result c.add_chosen-second.result c.add_chosen-third.result c.add_chosen-fourth.result j)
-          ≡ (if b then bit_xor (number_of_words sums) (entry table (32 * j + i)) else number_of_words sums) =
+          let is =
           words_chosen b _ _ _ _ _ _ _ _ _ _ _ _ small_sums small_words
           (c.add_chosen-first.ensures j within) (c.add_chosen-second.ensures j within)
           (c.add_chosen-third.ensures j within) (c.add_chosen-fourth.ensures j within)

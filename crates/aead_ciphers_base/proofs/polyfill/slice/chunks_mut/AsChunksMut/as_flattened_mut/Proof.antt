@@ -1,72 +1,30 @@
 -- The items of a view are lent through the `&mut` to the view, which follows them. This walks the code by hand.
-use mathlib.Core.Path.{◌≡◌, refl, sym, subst, ap, ◌∙◌}
-use Prim.Native.Nat.{ℕ, ◌^◌, ◌<◌}
-use mathlib.Core.List.{List, [], ◌∷◌, ◌++◌}
-use lib.ListN.{length, take, drop as drop_list}
-use seplogic.Ra.Ura.{Ura}
-use mir.Syntax.{Ty, erased, Args, Fn, named, a_type, a_number}
-use mir.MapTy.{inst_fn}
-use mir.Val.{Val, vptr, vstruct, vcons, vnil, of_list}
-use base.Logic.{SProp, ent, sep, ex, via, fst∗, snd∗, guard}
+use Rattle.aead_ciphers_base.proofs.WalkNames.{◌≡◌, refl, sym, subst, ap, ◌∙◌, List, [], ◌∷◌, ◌++◌, ℕ, length, take, drop_list, Ura, named, a_type, a_number}
+use Rattle.aead_ciphers_base.proofs.WalkNames.{inst_fn, Val, vstruct, vcons, vnil, of_list, SProp, ent, sep, ex, coded_list, Fml, Lft, GName, Share, flft}
+use Rattle.aead_ciphers_base.proofs.WalkNames.{fsep, fobs, fbor, Logic, sem, open_ref, ‵, ◌⊛◌, some, later, ◌$◌, ◌∵◌, !, qed, move, keep, drop, split, split3}
+use Rattle.aead_ciphers_base.proofs.WalkNames.{fsplit, fsplit3, fjoin, fjoin3, fpick, fpack, feq_l, feq_i, use1, use2, use3, await, pick, rewrite, done, now}
+use Rattle.aead_ciphers_base.proofs.WalkNames.{check, whole, sub, agg, look_in, stop, fld, hop, load, of_opd, addr, returns, alloc_all, pass_all, free_all}
+use Rattle.aead_ciphers_base.proofs.WalkNames.{look_at, sets, through, Arr, Body, follows, Is, shows, mem, param, number, layout, layouts, RattleType, Valss}
+use Rattle.aead_ciphers_base.proofs.WalkNames.{NamedLft, MutBor, types_at, plain, named_lft, MutSlice, Room, slice_val, mut_slice_vals, nothing, peeks}
+use Rattle.aead_ciphers_base.proofs.WalkNames.{within, shape, Goes-spent_ref}
+use Rattle.aead_ciphers_base.proofs.WalkLocals.{both}
+use Rattle.aead_ciphers_base.proofs.Walks.{Words, words_vals, words_typed, slice_typed, dropped, ends, walked, tell, says}
+use mir.Syntax.{Ty, erased}
+use base.Logic.{guard}
 use base.Fraction.{full_share}
-use base.Fml.{Incl, Lft, GName, Share, Fml, ftrue, flft, fsep, fat, fobs, fbor}
-use base.Stored.{coded_list}
-use prog.Memory.{Memory}
-use prog.Routine.{Routine}
-use prog.Wp.{Calls, Loops, WpFn, Tables}
-use types.Logic.{Logic, sem}
-use types.SemTy.{Arr, Body}
+use base.Fml.{Incl, fat}
+use types.Mut.{close_ref}
 use types.Through.{hands_through}
-use types.Mut.{open_ref, close_ref}
-use contract.Monad.{Fun, fact_use}
-use contract.Running.{tables, tables_of}
-use sound.WpLaws.{WpFn-mono}
-use types.Kit.{‵, raw, ◌⊛◌, some, later, ◌$◌, ◌∵◌, !, qed, by, move, keep, split, split3, join, fsplit, fsplit3, fjoin, fjoin3, fpick, fpack, feq_l, feq_i, rewrite, use1, use2, use3, await, pick, suffices, frame, check, done}
-use types.Part.{whole, sub, look_in, agg}
-use types.Run.{stop, fld, hop, load, addr, of_opd, and_then, no_more, returns, enter}
-use types.ByLocal.{alloc_all, pass_all, free_all, look_at, get, through, sets}
 use denote.Array.{Array}
-use denote.Builtin.{RefMutOf}
-use denote.Exit.{no}
-use denote.Follow.{follows}
 use denote.FollowSlice.{heres_id, slice_of}
-use denote.Laws.{Are, Ises, Is, shows, owns_show, showss}
-use denote.Memory.{mem, cell_at, part_at, part_of}
-use denote.Param.{param, number, layout, layouts}
-use denote.RattleType.{RattleType, Valss, owns}
-use denote.Ref.{NamedLft, MutBor}
-use denote.Signature.{types_at, plain, named_lft}
-use denote.Slice.{MutSlice, Room, room, slice_val, mut_slice_vals}
-use denote.Steps.{nothing, peeks}
-use denote.Struct.Struct.{within}
-use denote.Struct.Declared.{shape}
-use denote.Triple.Clauses.{Clauses, Ended, closing}
-use denote.Triple.Entry.{on_entry, alive}
-use denote.Triple.Spec.{Meets, triple_of}
-use denote.Triple.Table.{entered}
-use denote.Triple.Walked.{Stays, stay_dropped, walk_of, ends_at, walk_Meets, Goes-spent_ref, says}
+use denote.Memory.{cell_at, part_at, part_of}
+use denote.Slice.{room}
 use Rattle.std.specs.List.{length_refill}
 use Rattle.std.proofs.Math.Seq.{take-append_seam}
 use Rattle.aead_ciphers_base.specs.AsChunksMut.{with_items}
 use Rattle.aead_ciphers_base.specs.declared.polyfill.slice.chunks_mut.AsChunksMut.{AsChunksMut}
-use Rattle.aead_ciphers_base.specs.contracts.polyfill.slice.chunks_mut.AsChunksMut.{the_type, the_row}
-use Rattle.aead_ciphers_base.specs.contracts.polyfill.slice.chunks_mut.AsChunksMut.as_flattened_mut as F
-use Rattle.aead_ciphers_base.specs.contracts.polyfill.slice.chunks_mut.AsChunksMut.as_flattened_mut.Key.{name as #self}
-use Rattle.aead_ciphers_base.proofs.polyfill.slice.chunks_mut.AsChunksMut.as_flattened_mut.Statement as stated
-use Rattle.aead_ciphers_base.proofs.polyfill.slice.chunks_mut.AsChunksMut.as_flattened_mut.Code as code
-
-module _ (X : RattleType) (N : ℕ) where
-  abbrev args : Args
-  args = layouts (a_type ∷ a_number ∷ []) (X, (number N, tt))
-
-  abbrev function : Fn
-  function = inst_fn args code.function
-
-  abbrev ended : Ended
-  ended = F.ended X (number N)
-
-  abbrev stayed : Stays ended.signature.params ended.kept
-  stayed = (stay_dropped (RefMutOf (0 ∷ []) tt (plain (λ κs. the_row (named_lft 4 1 tt κs) (param 0 X) (param 1 (number N)))) (λ _. tt)) no, tt)
+use Rattle.aead_ciphers_base.specs.contracts.polyfill.slice.chunks_mut.AsChunksMut as V
+use Rattle.aead_ciphers_base.proofs.polyfill.slice.chunks_mut.AsChunksMut as P
 
 -- the view at (b, o), whose items are at (c, e) under the name δ
 module _ (X : RattleType) (N : ℕ) {M : Type 1} {𝓤 : Ura M} (𝓛 : Logic 𝓤) (a : NamedLft) (d : AsChunksMut X.Denot N) (b o : ℕ) where
@@ -76,7 +34,7 @@ module _ (X : RattleType) (N : ℕ) {M : Type 1} {𝓤 : Ura M} (𝓛 : Logic �
   R = param 0 X
 
   abbrev G : RattleType
-  G = the_row a R (param 1 (number N))
+  G = V.the_row a R (param 1 (number N))
 
   abbrev xs : List X.Denot
   xs = d.items.now
@@ -117,7 +75,8 @@ module _ (X : RattleType) (N : ℕ) {M : Type 1} {𝓤 : Ura M} (𝓛 : Logic �
   cut : ent 𝓤 (sem 𝓛 (part_at G full_share d b o)) (Holds xs)
   unfolding part_of
   cut =
-      qed 𝓛 (‵ (part_at G full_share d b o) ∷ []) ∵ fpick ! (λ vs. fsplit ! $ move ! (1 ∷ []) $ fpick ! (λ vss. fsplit ! $ feq_l ! (λ ev. fsplit ! $ fsplit3 ! $ fsplit ! $ feq_l ! (λ told.
+      qed 𝓛 (‵ (part_at G full_share d b o) ∷ []) ∵ fpick ! (λ vs. fsplit ! $ move ! (1 ∷ []) $ fpick ! (λ vss. fsplit ! $ feq_l ! (λ ev. fsplit ! $
+      fsplit3 ! $ fsplit ! $ feq_l ! (λ told.
       rewrite ! 4 (λ (us : List Val). ‵ (cell_at full_share G.mir us b o)) (is_word vs vss ev told) refl $
       rewrite ! 1 (λ (l : List X.Denot). ‵ (fobs δ ((coded_list R.coded).code l))) (heres_id R xs) refl $ keep ! (1 ∷ 2 ∷ 4 ∷ 0 ∷ []) $ done !))))
 
@@ -134,9 +93,11 @@ module _ (X : RattleType) (N : ℕ) {M : Type 1} {𝓤 : Ura M} (𝓛 : Logic �
       rewrite ! 0 (λ (l : List X.Denot). ‵ (fobs δ ((coded_list R.coded).code l))) (sym is ∙ sym (heres_id R x.now)) refl $
       rewrite ! 1 (λ (k : ℕ). ‵ (fbor a.lft (Lies k δ))) kept refl $
       rewrite ! 2 (λ (k : ℕ). ‵ (fsep (Cell k) (room R k))) kept refl $
-      move ! (2 ∷ []) $ fsplit ! $ move ! (1 ∷ []) $ feq_i ! (List Val) (mut_slice_vals x) (mut_slice_vals x) refl $ fjoin ! $ move ! (0 ∷ 2 ∷ 3 ∷ []) $ fjoin3 ! $
+      move ! (2 ∷ []) $ fsplit ! $ move ! (1 ∷ []) $ feq_i ! (List Val) (mut_slice_vals x) (mut_slice_vals x) refl $ fjoin ! $ move ! (0 ∷ 2 ∷ 3 ∷ []) $
+      fjoin3 ! $
       nothing ! $ move ! (1 ∷ 0 ∷ []) $ fjoin ! $ feq_i ! (List Val) (word (length x.now) ∷ []) (word (length x.now) ∷ []) refl $ fjoin ! $
-      fpack ! (Valss (S ∷ [])) (within (shape (the_type a R (param 1 (number N)))) (x, tt) (word (length x.now) ∷ [])) (mut_slice_vals x, tt) $ move ! (1 ∷ 0 ∷ []) $ fjoin ! $
+      fpack ! (Valss (S ∷ [])) (within (shape (V.the_type a R (param 1 (number N)))) (x, tt) (word (length x.now) ∷ [])) (mut_slice_vals x, tt) $
+      move ! (1 ∷ 0 ∷ []) $ fjoin ! $
       fpack ! (List Val) (λ us. fsep (cell_at full_share G.mir us b o) (G.own_val (with_items d ws) us)) (word (length x.now) ∷ []) $ done !
 
   abbrev After : List X.Denot → AsChunksMut X.Denot N
@@ -149,104 +110,40 @@ module _ (X : RattleType) (N : ℕ) {M : Type 1} {𝓤 : Ura M} (𝓛 : Logic �
       → ent 𝓤 (sep 𝓤 (A.obs γ (G.coded.code d)) (sep 𝓤 (A.bor κ (Body (mem G) b o γ)) (A.lft κ q))) (H.⇛ (ex 𝓤 (Handed κ q γ)))
   hands κ inc q γ = hands_through 𝓛 (mem G) (Arr (mem R) n) After κ a.lft inc b o c e γ δ Rest (λ ws. length ws ≡ n) counts back q d xs cut
 
-module _ (X : RattleType) (N : ℕ) {M : Type 1} {𝓤 : Ura M} (𝓛 : Logic 𝓤) (at_mem : Memory → SProp 𝓤) (run : Routine → Fun 𝓤) where
-  open 𝓛 use {H}
-
-  abbrev clauses : Clauses 𝓤 (ended X N)
-  clauses = F.clauses X (number N) 𝓛 at_mem run
-
-  module _ (C : Calls 𝓤 H) (Λ : Loops 𝓤 H) (z : (walk_of 𝓛 (ended X N) (stayed X N) clauses).Ghost) where
-    abbrev At : List Val → (walk_of 𝓛 (ended X N) (stayed X N) clauses).Ghost
-    At us = ((z.0.0, z.0.1, z.0.2, z.0.3, (us, tt)), z.1)
-
-    abbrev Post : List Val → Val → SProp 𝓤
-    Post us = (walk_of 𝓛 (ended X N) (stayed X N) clauses).post (At us)
-
-    abbrev Goes : List Val → Type 1
-    Goes us = ent 𝓤 ((walk_of 𝓛 (ended X N) (stayed X N) clauses).pre (At us)) (WpFn 𝓤 H C Λ (function X N) (us ++ []) (Post us))
-
-    abbrev b : ℕ
-    b = z.0.3.0.ref_ptr.0
-
-    abbrev o : ℕ
-    o = z.0.3.0.ref_ptr.1
-
-    abbrev κ : Lft
-    κ = z.0.0.0
-
-    abbrev q : Share
-    q = z.0.1.0
-
-    abbrev l : NamedLft
-    l = named_lft 4 1 tt z.0.0
-
-    abbrev d : AsChunksMut X.Denot N
-    d = z.0.3.0.now
-
-    abbrev γ : GName
-    γ = z.0.3.0.ghost_name
-
-    abbrev Row : RattleType
-    Row = the_row l (param 0 X) (param 1 (number N))
-
-    abbrev count : ℕ
-    count = length d.items.now
-
-    -- the view's type as the code names it
-    abbrev erased_ty : Ty
-    erased_ty = layout (the_row (record { mir = erased; lft = [] }) (param 0 X) (param 1 (number N)))
-
-    abbrev w : Val
-    w = word X N 𝓛 l d b o count
-
-    abbrev val : Val
-    val = slice_val d.items.ref_ptr count
-
-    exits : (δ : GName)
-        → ent 𝓤 (sep 𝓤 (alive 𝓛 (ended X N).signature z.0.0 z.0.1) (sep 𝓤 (sem 𝓛 ((MutSlice (named 0) κ (param 0 X)).own_val (record { ref_ptr = d.items.ref_ptr; ghost_name = δ; now = d.items.now }) (val ∷ []))) (sem 𝓛 (follows Row (Array (param 0 X) 0) γ δ (with_items d)))))
-        (Post (vptr b o ∷ []) val)
-    exits δ =
-        qed 𝓛 (raw (alive 𝓛 (ended X N).signature z.0.0 z.0.1) ∷ ‵ ((MutSlice (named 0) κ (param 0 X)).own_val (record { ref_ptr = d.items.ref_ptr; ghost_name = δ; now = d.items.now }) (val ∷ [])) ∷ ‵ (follows Row (Array (param 0 X) 0) γ δ (with_items d)) ∷ []) ∵
-        suffices ! _ (ends_at 𝓛 (ended X N) (stayed X N) clauses (At (vptr b o ∷ [])) val (record { ref_ptr = d.items.ref_ptr; ghost_name = δ; now = d.items.now }) (tt, tt) (tt, tt)) $
-        nothing ! $ nothing ! $ fjoin ! $ move ! (0 ∷ 2 ∷ []) $ join ! $ move ! (1 ∷ 0 ∷ []) $ join ! $ frame ! $ says ! refl $ done !
-
-    walks : Goes (vptr b o ∷ [])
-    unfolding part_of
-    walks =
-        qed 𝓛 (((‵ (flft κ q) ⊛ (‵ (flft z.0.0.1.0 z.0.1.1.0) ⊛ ‵ (flft z.0.0.1.1.0 z.0.1.1.1.0) ⊛ ‵ (flft z.0.0.1.1.1.0 z.0.1.1.1.1.0) ⊛ ‵ ftrue)) ⊛ ‵ (owns (types_at (ended X N).signature.params z.0.0) z.0.3 (vptr b o ∷ [], tt))) ∷ raw ((clauses z.0.0 z.0.3).requires z.1) ∷ []) ∵
-        split ! $ split ! $ move ! (2 ∷ []) $ fsplit ! $ fsplit3 ! $ keep ! (1 ∷ 2 ∷ 4 ∷ 5 ∷ []) $
-        enter ! C Λ (function X N) (vptr b o ∷ []) _ $ alloc_all ! (λ m. pass_all ! refl ((tt, tt), tt) $
-        open_ref ! tt (mem Row) {x = d} $ fpick ! (λ vs. fsplit ! $ move ! (1 ∷ []) $ peeks ! Row (Is Row) (shows 𝓛 Row) d vs (λ told.
-        let ev : vs ≡ w ∷ [] = is_word X N 𝓛 l d b o vs told.0 told.1.0 told.1.1.0.0.0 in
-        let rm : Room (param 0 X) count = told.1.1.0.0.1 in
-        let fn : count < 2 ^ 64 = rm.0 in
-        rewrite ! 1 (λ (us : List Val). ‵ (cell_at full_share Row.mir us b o)) ev refl $
-        move ! (1 ∷ []) $ use1 𝓛 (‵ (fat full_share erased_ty b o w)) (𝓛.laws.raw_at full_share erased_ty b o w) $
-        sets ! (of_opd ! (load ! (through ! refl (fld ! refl (fld ! refl (stop !)))) (look_in ! 0 (sub ! 1 refl (sub ! 0 refl (whole !)))))) refl (tt, record { fits = fn }) $
-        sets ! (addr ! (through ! refl (fld ! refl (fld ! refl (hop ! (look_in ! 0 (sub ! 0 refl (sub ! 0 refl (whole !)))) (stop !)))))) refl (tt, tt) $
-        sets ! (agg ! (and_then ! (get ! refl) (and_then ! (get ! refl) (no_more !)))) refl (tt, (tt, (record { fits = fn }, tt))) $
-        use1 𝓛 (‵ (cell_at full_share Row.mir (w ∷ []) b o)) (𝓛.laws.at_raw full_share erased_ty b o w) $
-        rewrite ! 0 (λ (us : List Val). ‵ (cell_at full_share Row.mir us b o)) (sym ev) refl $ fjoin ! $
-        fpack ! (List Val) (λ us. fsep (cell_at full_share Row.mir us b o) (Row.own_val d us)) vs $ close_ref ! tt (mem Row) d $
-        use3 𝓛 (later (some (λ (δ : GName). ‵ (fobs δ ((coded_list (param 0 X).coded).code d.items.now)) ⊛ ‵ (fbor κ (Lies X N 𝓛 l d b o count δ)) ⊛ ‵ (flft κ q) ⊛ ‵ (follows Row (Array (param 0 X) 0) γ δ (with_items d)))))
-        (hands X N 𝓛 l d b o κ z.0.2.0 q γ) $ await ! tt $ pick ! (λ δ. split3 ! $
-        use2 𝓛 (‵ ((MutSlice (named 0) κ (param 0 X)).own_val (record { ref_ptr = d.items.ref_ptr; ghost_name = δ; now = d.items.now }) (val ∷ []))) (slice_of 𝓛 (param 0 X) (named 0) κ d.items.ref_ptr.0 d.items.ref_ptr.1 δ d.items.now rm) $
-        move ! (1 ∷ []) $ split ! $ returns ! (look_at ! 0 refl) $ free_all ! refl $ move ! (0 ∷ 3 ∷ []) $ join ! $ keep ! (0 ∷ 2 ∷ 1 ∷ []) $ by ! (exits δ)))))
-
-    entry : (us : List Val) → (us ≡ vptr b o ∷ []) × (Unit {0} × Unit {0}) → Goes us
-    entry us p = subst Goes (sym p.0) walks
-
-  meets : (𝓣 : Tables 𝓤 H) → Meets 𝓛 (ended X N).signature (WpFn 𝓤 H 𝓣.C 𝓣.Λ (function X N)) (closing 𝓛 (ended X N) clauses)
-  meets 𝓣 =
-      walk_Meets 𝓛 (ended X N) (stayed X N) (Goes-spent_ref 𝓛 4 (0 ∷ []) tt (plain (λ κs. the_row (named_lft 4 1 tt κs) (param 0 X) (param 1 (number N)))), tt) clauses
-      (WpFn 𝓤 H 𝓣.C 𝓣.Λ (function X N)) (WpFn-mono 𝓤 H 𝓛.laws 𝓣 (function X N))
-      (λ z. let a = z.0.3 in let vss = z.0.4 in let Rs : List RattleType = types_at (ended X N).signature.params z.0.0 in let On : SProp 𝓤 = on_entry 𝓛 (ended X N).signature z.0.0 z.0.1 a vss in
-      fact_use 𝓤 (Are Rs (Ises Rs) a vss) (via 𝓤 (sem 𝓛 (owns Rs a vss)) (via 𝓤 On (fst∗ 𝓤 On ((clauses z.0.0 a).requires z.1)) (snd∗ 𝓤 (alive 𝓛 (ended X N).signature z.0.0 z.0.1) (sem 𝓛 (owns Rs a vss)))) (owns_show 𝓛 Rs (Ises Rs) (showss 𝓛 Rs) a vss)) (λ are.
-      entry 𝓣.C 𝓣.Λ z vss.0 are.0))
-
-pub as_flattened_mut_spec : {M : Type 1} → stated.statement M
-unfolding tables_of
+pub as_flattened_mut_spec : {M : Type 1} → P.as_flattened_mut.Statement.statement M
+unfolding part_of
 as_flattened_mut_spec 𝓤 𝓛 𝓜 𝓡 wired X N L fits =
-    let 𝓣 : Tables 𝓤 𝓛.H = tables_of 𝓤 𝓛.H 𝓜 (tables 𝓤 𝓛.H 𝓜 𝓡 𝓡.env) in
-    entered 𝓤 𝓛.H (triple_of 𝓛 (ended X N).signature (F.spec X (number N) 𝓛 𝓜.mem 𝓡.returns)) 𝓣.C 𝓣.Λ (#self (args X N)) (function X N) (code.unfolded 𝓤 𝓛.H 𝓜 𝓡 wired (X, (number N, tt)))
-    (meets X N 𝓛 𝓜.mem 𝓡.returns 𝓣)
+    let R = param 0 X in let K = param 1 (number N) in let inst = layouts (a_type ∷ a_number ∷ []) (X, (number N, tt)) in
+    let T = V.as_flattened_mut.ended X (number N) in let c = V.as_flattened_mut.clauses X (number N) 𝓛 𝓜.mem 𝓡.returns in
+    let hs = dropped T.signature.params T.kept in
+    walked 𝓛 T hs c 𝓜 𝓡 (Goes-spent_ref 𝓛 4 (0 ∷ []) tt (plain (λ κs. V.the_row (named_lft 4 1 tt κs) R K)), tt) (V.as_flattened_mut.Key.name inst)
+    (inst_fn inst P.as_flattened_mut.Code.function) (P.as_flattened_mut.Code.unfolded 𝓤 𝓛.H 𝓜 𝓡 wired (X, (number N, tt))) (λ y are.
+    let (κs, qs, bounds, a, passed) = y.0 in let Ts = types_at T.signature.params κs in let x = a.0 in let d = x.now in
+    let b = x.ref_ptr.0 in let o = x.ref_ptr.1 in let κ = κs.0 in let ℓ = named_lft 4 1 tt κs in let Row = V.the_row ℓ R K in let S = MutSlice (named 0) κ R in
+    let words : Words Ts passed = ((_, are.0.0, (tt, tt)), tt) in let vals = words_vals Ts passed words in
+    -- the view's type as the code names it, and its word
+    let τ : Ty = layout (V.the_row (record { mir = erased; lft = [] }) R K) in let count = length d.items.now in let w = word X N 𝓛 ℓ d b o count in (
+      words,
+      -- [four tokens; the reference; the premise]
+      move ! (5 ∷ []) $ drop ! $ move ! (4 ∷ []) $ fsplit3 ! $ drop ! $ alloc_all ! (λ m. pass_all ! refl (words_typed Ts passed words) $
+          open_ref ! tt (mem Row) {x = d} $ fpick ! (λ vs. fsplit ! $ move ! (1 ∷ []) $ peeks ! Row (Is Row) (shows 𝓛 Row) d vs (λ told.
+          let ev : vs ≡ w ∷ [] = is_word X N 𝓛 ℓ d b o vs told.0 told.1.0 told.1.1.0.0.0 in let rm : Room R count = told.1.1.0.0.1 in
+          rewrite ! 1 (λ (us : List Val). ‵ (cell_at full_share Row.mir us b o)) ev refl $
+          move ! (1 ∷ []) $ use1 𝓛 (‵ (fat full_share τ b o w)) (𝓛.laws.raw_at full_share τ b o w) $
+          sets ! (of_opd ! (load ! (through ! refl (fld ! refl (fld ! refl (stop !)))) (look_in ! 0 (sub ! 1 refl (sub ! 0 refl (whole !)))))) refl
+          (tt, record { fits = rm.0 }) $
+          sets ! (addr ! (through ! refl (fld ! refl (fld ! refl (hop ! (look_in ! 0 (sub ! 0 refl (sub ! 0 refl (whole !)))) (stop !)))))) refl (tt, tt) $
+          sets ! (agg ! (both ! refl refl)) refl (slice_typed d.items.ref_ptr count rm.0) $
+          use1 𝓛 (‵ (cell_at full_share Row.mir (w ∷ []) b o)) (𝓛.laws.at_raw full_share τ b o w) $
+          rewrite ! 0 (λ (us : List Val). ‵ (cell_at full_share Row.mir us b o)) (sym ev) refl $ fjoin ! $
+          fpack ! (List Val) (λ us. fsep (cell_at full_share Row.mir us b o) (Row.own_val d us)) vs $ close_ref ! tt (mem Row) d $
+          use3 𝓛 (later (some (λ (δ : GName). ‵ (fobs δ ((coded_list R.coded).code d.items.now)) ⊛ ‵ (fbor κ (Lies X N 𝓛 ℓ d b o count δ))
+          ⊛ ‵ (flft κ qs.0) ⊛ ‵ (follows Row (Array R 0) x.ghost_name δ (with_items d)))))
+          (hands X N 𝓛 ℓ d b o κ bounds.0 qs.0 x.ghost_name) $ await ! tt $ pick ! (λ δ. split3 ! $
+          let r : MutBor (List X.Denot) = record { ref_ptr = d.items.ref_ptr; ghost_name = δ; now = d.items.now } in let v = slice_val d.items.ref_ptr count in
+          use2 𝓛 (‵ (S.own_val r (v ∷ []))) (slice_of 𝓛 R (named 0) κ d.items.ref_ptr.0 d.items.ref_ptr.1 δ d.items.now rm) $
+          move ! (1 ∷ []) $ split ! $ returns ! (look_at ! 0 refl) $ free_all ! refl $
+          -- [the items' token; what the view follows; the items; three tokens]
+          move ! (1 ∷ []) $ tell {φ = r.now ≡ d.items.now} ! refl $ move ! (1 ∷ 0 ∷ []) $ says ! $ nothing ! $ keep ! (2 ∷ 4 ∷ 5 ∷ 6 ∷ 0 ∷ 3 ∷ 1 ∷ []) $
+          ends 𝓛 T hs c ((κs, qs, bounds, a, vals), tt) v r (tt, tt) ! (tt, tt))))),
+    ))

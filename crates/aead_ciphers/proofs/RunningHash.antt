@@ -1,0 +1,112 @@
+-- The running hash: block by block, in chunks of a text, and the tag at its end.
+use Rattle.std.proofs.Common.{◌≡◌, ℕ, ◌+◌, ◌-◌, ◌*◌, ◌/◌, ◌≤◌, List, [], ◌∷◌, ◌++◌, length, take, drop, bit_xor, sym, ap, ap₂, subst, ◌∙◌, arith, append_assoc}
+use Rattle.std.proofs.Common.{append-nil}
+use Rattle.std.specs.Int.{to_be_bytes, w128}
+use Rattle.std.proofs.Math.Seq.{take-add}
+use Rattle.std.proofs.lemmas.List.{length-drop, length-take-le, take-append-drop}
+use Rattle.aead_ciphers_base.proofs.BufferLemmas.{to_end}
+use Rattle.aead_ciphers_base.specs.Blocks.{blocks}
+use Rattle.aead_ciphers_base.specs.Bytes.{◌⊕◌, zero_block}
+use Rattle.aead_ciphers_base.specs.CounterMode.{counter_block}
+use Rattle.aead_ciphers.specs.Gcm.{hashed, length_block, padded_blocks, tag}
+use Rattle.aead_ciphers.specs.Ghash.{◌•◌, ghash}
+use Rattle.aead_ciphers.specs.HashOf.{HashState, IsHashOf}
+use Rattle.aead_ciphers.proofs.GhashBytes.{to_be_bytes-xor}
+use Rattle.aead_ciphers.proofs.GhashLaws.{AllSized-append, ghash_more}
+use Rattle.aead_ciphers.proofs.PaddedBlocks.{blocks-append, padded_blocks-append}
+
+-- one block more, as the code takes it in: h, xi and the block are the bytes of the numbers
+pub hash_one : (h xi block : List ℕ) (key sum number next : ℕ) (done : List (List ℕ))
+    → to_be_bytes w128 key ≡ h → to_be_bytes w128 sum ≡ xi → to_be_bytes w128 number ≡ block
+    → to_be_bytes w128 next ≡ to_be_bytes w128 (bit_xor sum number) • to_be_bytes w128 key
+    → IsHashOf h done xi → IsHashOf h (done ++ block ∷ []) (to_be_bytes w128 next)
+hash_one h xi block key sum number next done is_h is_xi is_block is_next at =
+    let size_h = sym (ap length is_h) in
+    let size = sym (ap length is_block) in
+    record {
+      sized = AllSized-append done (block ∷ []) at.sized (size, tt);
+      value =
+          ghash_more h done block size_h at.sized size
+          ∙ sym (is_next ∙ ap₂ (λ x y. x • y) (to_be_bytes-xor sum number ∙ ap₂ (λ x y. x ⊕ y) (is_xi ∙ sym at.value) is_block) is_h);
+    }
+
+-- some list in front has the hash, and it and the blocks that are left are all of them
+abbrev pub HashedFront : List ℕ → List (List ℕ) → List (List ℕ) → List ℕ → Type 0
+HashedFront h left all xi = (front : List (List ℕ)) × (front ++ left ≡ all) × IsHashOf h front xi
+
+pub front_more : (h : List ℕ) (block : List ℕ) (left rest all : List (List ℕ)) (xi xi' : List ℕ) → left ≡ block ∷ rest →
+    ((done : List (List ℕ)) → IsHashOf h done xi → IsHashOf h (done ++ block ∷ []) xi') → HashedFront h left all xi → HashedFront h rest all xi'
+front_more h block left rest all xi xi' e step at = (
+  at.0 ++ block ∷ [],
+  append_assoc at.0 (block ∷ []) rest ∙ ap (λ bs. at.0 ++ bs) (sym e) ∙ at.1,
+  step at.0 at.2,
+)
+
+pub front_end : (h : List ℕ) (left all : List (List ℕ)) (xi : List ℕ) → left ≡ [] → HashedFront h left all xi → IsHashOf h all xi
+front_end h left all xi e at = subst (λ bs. IsHashOf h bs xi) (sym (append-nil at.0) ∙ ap (λ bs. at.0 ++ bs) (sym e) ∙ at.1) at.2
+
+-- what a step takes in under one name of the subkey and of the blocks it does under another
+pub hash_with : {h h' : List ℕ} {bs bs' more more' : List (List ℕ)} {xi xi' : List ℕ} → h' ≡ h → more' ≡ more → bs ++ more ≡ bs'
+    → ((done : List (List ℕ)) → IsHashOf h' done xi → IsHashOf h' (done ++ more') xi') → IsHashOf h bs xi → IsHashOf h bs' xi'
+hash_with {bs = bs} {more' = more'} {xi} {xi'} e em eb step start =
+    rw (← eb, ← em) (subst (λ h. IsHashOf h (bs ++ more') xi') e (step bs (subst (λ h. IsHashOf h bs xi) (sym e) start)))
+
+-- the blocks of a text, those of its whole blocks first
+pub all_blocks : (bs : List (List ℕ)) (text : List ℕ) (w q : ℕ) → w ≡ 16 * q → w ≤ length text
+    → bs ++ padded_blocks (take w text) ++ padded_blocks (drop w text) ≡ bs ++ padded_blocks text
+all_blocks bs text w q whole le =
+    let parts = padded_blocks-append q (take w text) (drop w text) (length-take-le w text le ∙ whole) in
+    append_assoc bs (padded_blocks (take w text)) (padded_blocks (drop w text))
+    ∙ ap (λ x. bs ++ x) (sym parts ∙ ap padded_blocks (take-append-drop w text))
+
+-- one more chunk of a text was hashed
+pub hash_chunk : {h h' xi xi' part : List ℕ} (bs : List (List ℕ)) (text : List ℕ) (d n q : ℕ)
+    → h' ≡ h → d ≡ 16 * q → d + n ≤ length text → part ≡ take n (drop d text)
+    → ((done : List (List ℕ)) → IsHashOf h' done xi → IsHashOf h' (done ++ padded_blocks part) xi')
+    → IsHashOf h (bs ++ padded_blocks (take d text)) xi → IsHashOf h (bs ++ padded_blocks (take (d + n) text)) xi'
+hash_chunk bs text d n q e whole room ep step start =
+    let front = take d text in
+    let more = take n (drop d text) in
+    let parts = padded_blocks-append q front more (length-take-le d text (omega arith) ∙ whole) in
+    let all = append_assoc bs (padded_blocks front) (padded_blocks more) ∙ ap (λ x. bs ++ x) (sym parts ∙ ap padded_blocks (sym (take-add d n text))) in
+    hash_with e (ap padded_blocks ep) all step start
+
+-- the whole blocks of bytes, and the rest
+pub whole_and_rest : (bs : List (List ℕ)) (input whole rest : List ℕ)
+    → whole ≡ take (length input / 16 * 16) input → rest ≡ drop (length input / 16 * 16) input
+    → bs ++ blocks 16 whole ++ padded_blocks rest ≡ bs ++ padded_blocks input
+whole_and_rest bs input whole rest we re =
+    let q = length input / 16 in
+    let w = q * 16 in
+    let size : length (take w input) ≡ 16 * q = length-take-le w input (omega arith) ∙ omega arith in
+    ap₂ (λ u v. bs ++ blocks 16 u ++ padded_blocks v) we re
+    ∙ append_assoc bs (blocks 16 (take w input)) (padded_blocks (drop w input))
+    ∙ ap (λ u. bs ++ u) (sym (blocks-append q (take w input) (drop w input) size) ∙ ap padded_blocks (take-append-drop w input))
+
+-- what ends a hash of an AAD and a ciphertext answers the tag
+pub tag_found : (cipher : List ℕ → List ℕ) (nonce aad text iv result : List ℕ) (started ended : HashState)
+    → started.hash_key ≡ cipher zero_block → started.aad_len ≡ length aad → started.in_out_len ≡ length text → iv ≡ counter_block nonce 1
+    → ended ≡ record started { xi = ended.xi } → IsHashOf started.hash_key (padded_blocks aad ++ padded_blocks text) ended.xi
+    → ((done : List (List ℕ)) → IsHashOf ended.hash_key done ended.xi
+    → result ≡ ghash ended.hash_key (done ++ length_block ended.aad_len ended.in_out_len ∷ []) ⊕ cipher iv)
+    → result ≡ tag cipher nonce aad text
+unfolding tag hashed
+tag_found cipher nonce aad text iv result started ended eh ea en ei kept all finish =
+    let bs = padded_blocks aad ++ padded_blocks text in
+    let same_key = ap (λ (s : HashState). s.hash_key) kept in
+    let lengths = ap₂ length_block (ap (λ (s : HashState). s.aad_len) kept ∙ ea) (ap (λ (s : HashState). s.in_out_len) kept ∙ en) in
+    finish bs (subst (λ x. IsHashOf x bs ended.xi) (sym same_key) all)
+    ∙ ap₂ (λ k b. ghash k (bs ++ b ∷ []) ⊕ cipher iv) (same_key ∙ eh) lengths
+    ∙ ap (λ i. ghash (cipher zero_block) (bs ++ length_block (length aad) (length text) ∷ []) ⊕ cipher i) ei
+
+-- the same of the ciphertext that a buffer has from `start` on
+pub tag_behind : (cipher : List ℕ → List ℕ) (nonce aad : List ℕ) (start : ℕ) (old : List ℕ) {iv result : List ℕ} (started ended : HashState)
+    → started.hash_key ≡ cipher zero_block → started.aad_len ≡ length aad → started.in_out_len ≡ length old - start → iv ≡ counter_block nonce 1
+    → ended ≡ record started { xi = ended.xi }
+    → IsHashOf started.hash_key (padded_blocks aad ++ padded_blocks (take (length old - start) (drop start old))) ended.xi
+    → ((done : List (List ℕ)) → IsHashOf ended.hash_key done ended.xi
+    → result ≡ ghash ended.hash_key (done ++ length_block ended.aad_len ended.in_out_len ∷ []) ⊕ cipher iv)
+    → result ≡ tag cipher nonce aad (drop start old)
+tag_behind cipher nonce aad start old {iv} {result} started ended eh ea en ei kept all finish =
+    tag_found cipher nonce aad (drop start old) iv result started ended eh ea (en ∙ sym (length-drop start old)) ei kept
+    (subst (λ t. IsHashOf started.hash_key (padded_blocks aad ++ padded_blocks t) ended.xi) (to_end start old) all) finish

@@ -1,0 +1,216 @@
+-- The operations of `aes::tower` on the coordinates at one place.
+use Rattle.std.proofs.Common.{◌≡◌, ℕ, ◌^◌, Bool, true, ◌&&◌, List, [], ◌∷◌, ◌++◌, length, take, drop, refl, sym, ap, ◌∙◌, find, unwrap_or, slice_index}
+use Rattle.std.specs.Prelude.{◌==◌}
+use Rattle.std.specs.Int.{bit_at}
+use Rattle.std.specs.List.{range_with_len}
+use Rattle.aead_ciphers_base.specs.Polynomial.{◌xor◌, coefficient}
+use Rattle.aead_ciphers_base.specs.ByteField.{bits_of, value_of, mul8, inv, affine}
+use Rattle.aead_ciphers_base.specs.Planes.{plane_byte, plane_polynomial}
+use Rattle.aead_ciphers_base.specs.Tower.{element, basis_4, basis_16, basis_256, plane_element}
+use Rattle.aead_ciphers_base.proofs.NumberBits.{all_below, same_below, bits_of-value_of, value_of-lt}
+use Rattle.aead_ciphers_base.proofs.ByteFieldLaws.{field}
+use Rattle.aead_ciphers_base.proofs.FastProduct.{by_fast_mul8}
+
+-- two functions agree at k bits if they do at those of each number below 2^k
+same_at_bits : (f g : List Bool → ℕ) (q : List Bool)
+    → all_below (λ n. f (bits_of (length q) n) == g (bits_of (length q) n)) (2 ^ length q) ≡ true → f q ≡ g q
+same_at_bits f g q test =
+    let back = bits_of-value_of q in
+    ap f (sym back)
+    ∙ same_below (λ n. f (bits_of (length q) n)) (λ n. g (bits_of (length q) n)) (2 ^ length q) (value_of q) test (value_of-lt q)
+    ∙ ap g back
+
+-- ---- coordinates
+
+number_of : List ℕ → ℕ → ℕ
+number_of basis e = unwrap_or (find (λ n. element basis (bits_of (length basis) n) == e) (range_with_len 0 (2 ^ length basis))) 0
+
+-- the coordinates of an element, the first that give it
+pub coordinates : List ℕ → ℕ → List Bool
+coordinates basis e = bits_of (length basis) (number_of basis e)
+
+coordinates_4_test : all_below (λ n. number_of basis_4 (element basis_4 (bits_of 2 n)) == value_of (bits_of 2 n)) 4 ≡ true
+unfolding number_of element basis_4
+coordinates_4_test = refl
+
+coordinates_16_test : all_below (λ n. number_of basis_16 (element basis_16 (bits_of 4 n)) == value_of (bits_of 4 n)) 16 ≡ true
+unfolding number_of element basis_16
+coordinates_16_test = refl
+
+-- bit p of plane k
+abbrev bit : List ℕ → ℕ → ℕ → Bool
+bit x k p = bit_at (slice_index x k) p == 1
+
+pub two_bits : (x : List ℕ) (p e : ℕ) → plane_element basis_4 x p ≡ e
+    → let q = coordinates basis_4 e in (bit x 0 p ≡ coefficient q 0) × (bit x 1 p ≡ coefficient q 1)
+unfolding coordinates plane_element plane_polynomial basis_4
+two_bits x p e h =
+    let q = plane_polynomial 2 x p in
+    let s : q ≡ coordinates basis_4 e =
+    sym (bits_of-value_of q) ∙ ap (bits_of 2) (sym (same_at_bits (λ r. number_of basis_4 (element basis_4 r)) value_of q coordinates_4_test)
+    ∙ ap (number_of basis_4) h) in
+    (ap (λ t. coefficient t 0) s, ap (λ t. coefficient t 1) s)
+
+pub four_bits : (x : List ℕ) (p e : ℕ) → plane_element basis_16 x p ≡ e
+    → let q = coordinates basis_16 e in
+    (bit x 0 p ≡ coefficient q 0) × (bit x 1 p ≡ coefficient q 1) × (bit x 2 p ≡ coefficient q 2) × (bit x 3 p ≡ coefficient q 3)
+unfolding coordinates plane_element plane_polynomial basis_16
+four_bits x p e h =
+    let q = plane_polynomial 4 x p in
+    let s : q ≡ coordinates basis_16 e =
+    sym (bits_of-value_of q) ∙ ap (bits_of 4) (sym (same_at_bits (λ r. number_of basis_16 (element basis_16 r)) value_of q coordinates_16_test)
+    ∙ ap (number_of basis_16) h) in
+    (ap (λ t. coefficient t 0) s, ap (λ t. coefficient t 1) s, ap (λ t. coefficient t 2) s, ap (λ t. coefficient t 3) s)
+
+-- ---- the products
+
+abbrev pub product_4 : List Bool → List Bool → List Bool
+product_4 a b =
+    let both = (coefficient a 0 xor coefficient a 1) && (coefficient b 0 xor coefficient b 1) in
+    ((coefficient a 0 && coefficient b 0) xor both) ∷ ((coefficient a 1 && coefficient b 1) xor both) ∷ []
+
+product_4_test : all_below (λ n. let q = bits_of 4 n in element basis_4 (product_4 (take 2 q) (drop 2 q))
+    == mul8 (element basis_4 (take 2 q)) (element basis_4 (drop 2 q))) 16 ≡ true
+unfolding field element basis_4
+product_4_test = refl
+
+pub product_4_is : (a b : List ℕ) (p : ℕ)
+    → element basis_4 (product_4 (plane_polynomial 2 a p) (plane_polynomial 2 b p)) ≡ mul8 (plane_element basis_4 a p) (plane_element basis_4 b p)
+unfolding plane_element plane_polynomial basis_4
+product_4_is a b p =
+    same_at_bits (λ q. element basis_4 (product_4 (take 2 q) (drop 2 q))) (λ q. mul8 (element basis_4 (take 2 q)) (element basis_4 (drop 2 q)))
+    (plane_polynomial 2 a p ++ plane_polynomial 2 b p) product_4_test
+
+abbrev low_2 : List Bool → List Bool
+low_2 a = coefficient a 0 ∷ coefficient a 1 ∷ []
+
+abbrev high_2 : List Bool → List Bool
+high_2 a = coefficient a 2 ∷ coefficient a 3 ∷ []
+
+abbrev both_2 : List Bool → List Bool
+both_2 a = (coefficient a 0 xor coefficient a 2) ∷ (coefficient a 1 xor coefficient a 3) ∷ []
+
+-- the coordinates of a product in the field of 4, for any product
+abbrev pub product_4_by : (ℕ → ℕ → ℕ) → List Bool → List Bool → List Bool
+product_4_by mul a b = coordinates basis_4 (mul (element basis_4 a) (element basis_4 b))
+
+abbrev pub product_16_by : (ℕ → ℕ → ℕ) → List Bool → List Bool → List Bool
+product_16_by mul a b =
+    let low = product_4_by mul (low_2 a) (low_2 b) in
+    let high = product_4_by mul (high_2 a) (high_2 b) in
+    let both = product_4_by mul (both_2 a) (both_2 b) in
+    let scaled = coefficient both 0 xor coefficient both 1 in
+    (coefficient low 0 xor scaled) ∷ (coefficient low 1 xor coefficient both 0)
+    ∷ (coefficient high 0 xor scaled) ∷ (coefficient high 1 xor coefficient both 0) ∷ []
+
+abbrev product_16_holds : (ℕ → ℕ → ℕ) → ℕ → Bool
+product_16_holds mul n =
+    let q = bits_of 8 n in
+    element basis_16 (product_16_by mul (take 4 q) (drop 4 q)) == mul (element basis_16 (take 4 q)) (element basis_16 (drop 4 q))
+
+product_16_test : all_below (product_16_holds mul8) 256 ≡ true
+unfolding coordinates number_of element basis_4 basis_16
+product_16_test = by_fast_mul8 (λ mul. all_below (product_16_holds mul) 256) refl
+
+pub product_16_is : (a b : List ℕ) (p : ℕ)
+    → element basis_16 (product_16_by mul8 (plane_polynomial 4 a p) (plane_polynomial 4 b p)) ≡ mul8 (plane_element basis_16 a p) (plane_element basis_16 b p)
+unfolding plane_element plane_polynomial basis_16
+product_16_is a b p =
+    same_at_bits (λ q. element basis_16 (product_16_by mul8 (take 4 q) (drop 4 q))) (λ q. mul8 (element basis_16 (take 4 q)) (element basis_16 (drop 4 q)))
+    (plane_polynomial 4 a p ++ plane_polynomial 4 b p) product_16_test
+
+-- ---- the inverses
+
+-- the least y with product 1, for any product
+abbrev inv_by : (ℕ → ℕ → ℕ) → ℕ → ℕ
+inv_by mul x = unwrap_or (find (λ y. mul x y == 1) (range_with_len 0 256)) 0
+
+abbrev pub inverse_16_by : (ℕ → ℕ → ℕ) → List Bool → List Bool
+inverse_16_by mul n =
+    let c = product_4_by mul (high_2 n) (low_2 n) in
+    let s = both_2 n in
+    let n10 = (coefficient c 1 xor coefficient s 1) ∷ (coefficient c 0 xor coefficient s 0 xor coefficient s 1) ∷ [] in
+    let low = product_4_by mul n10 (high_2 n) in
+    let high = product_4_by mul n10 (low_2 n) in
+    coefficient low 0 ∷ coefficient low 1 ∷ coefficient high 0 ∷ coefficient high 1 ∷ []
+
+abbrev inverse_16_holds : (ℕ → ℕ → ℕ) → ℕ → Bool
+inverse_16_holds mul n = element basis_16 (inverse_16_by mul (bits_of 4 n)) == inv_by mul (element basis_16 (bits_of 4 n))
+
+inverse_16_test : all_below (inverse_16_holds mul8) 16 ≡ true
+unfolding coordinates number_of element basis_4 basis_16
+inverse_16_test = by_fast_mul8 (λ mul. all_below (inverse_16_holds mul) 16) refl
+
+pub inverse_16_is : (n : List ℕ) (p : ℕ) → element basis_16 (inverse_16_by mul8 (plane_polynomial 4 n p)) ≡ inv (plane_element basis_16 n p)
+unfolding inv plane_element plane_polynomial basis_16
+inverse_16_is n p =
+    same_at_bits (λ q. element basis_16 (inverse_16_by mul8 q)) (λ q. inv (element basis_16 q)) (plane_polynomial 4 n p) inverse_16_test
+
+abbrev low_4 : List Bool → List Bool
+low_4 a = coefficient a 0 ∷ coefficient a 1 ∷ coefficient a 2 ∷ coefficient a 3 ∷ []
+
+abbrev high_4 : List Bool → List Bool
+high_4 a = coefficient a 4 ∷ coefficient a 5 ∷ coefficient a 6 ∷ coefficient a 7 ∷ []
+
+-- the inverse in the tower, for any product and any inverse in the field of 16
+abbrev pub inverse_by : (ℕ → ℕ → ℕ) → (ℕ → ℕ) → List Bool → List Bool
+inverse_by mul inv a =
+    let c = coordinates basis_16 (mul (element basis_16 (low_4 a)) (element basis_16 (high_4 a))) in
+    let s0 = coefficient a 0 xor coefficient a 4 in
+    let s1 = coefficient a 1 xor coefficient a 5 in
+    let s2 = coefficient a 2 xor coefficient a 6 in
+    let s3 = coefficient a 3 xor coefficient a 7 in
+    let a17 = (coefficient c 0 xor s1 xor s3) ∷ (coefficient c 1 xor s0 xor s2) ∷ (coefficient c 2 xor s2) ∷ (coefficient c 3 xor s2 xor s3) ∷ [] in
+    let a238 = inv (element basis_16 a17) in
+    let low = coordinates basis_16 (mul (element basis_16 (high_4 a)) a238) in
+    let high = coordinates basis_16 (mul (element basis_16 (low_4 a)) a238) in
+    coefficient low 0 ∷ coefficient low 1 ∷ coefficient low 2 ∷ coefficient low 3
+    ∷ coefficient high 0 ∷ coefficient high 1 ∷ coefficient high 2 ∷ coefficient high 3 ∷ []
+
+abbrev inverse_holds : (ℕ → ℕ → ℕ) → ℕ → Bool
+inverse_holds mul n = element basis_256 (inverse_by mul (inv_by mul) (bits_of 8 n)) == inv_by mul (element basis_256 (bits_of 8 n))
+
+inverse_test : all_below (inverse_holds mul8) 256 ≡ true
+unfolding coordinates number_of element basis_16 basis_256
+inverse_test = by_fast_mul8 (λ mul. all_below (inverse_holds mul) 256) refl
+
+pub inverse_is : (a : List ℕ) (p : ℕ) → element basis_256 (inverse_by mul8 inv (plane_polynomial 8 a p)) ≡ inv (plane_element basis_256 a p)
+unfolding inv plane_element plane_polynomial basis_256
+inverse_is a p =
+    same_at_bits (λ q. element basis_256 (inverse_by mul8 inv q)) (λ q. inv (element basis_256 q)) (plane_polynomial 8 a p) inverse_test
+
+-- ---- the changes of basis
+
+abbrev pub to_tower : List Bool → List Bool
+to_tower a =
+    let a06 = coefficient a 0 xor coefficient a 6 in
+    let a056 = coefficient a 5 xor a06 in
+    let a13 = coefficient a 1 xor coefficient a 3 in
+    let a0156 = coefficient a 1 xor a056 in
+    coefficient a 0 ∷ (coefficient a 0 xor coefficient a 4 xor (coefficient a 7 xor a13)) ∷ (coefficient a 2 xor (a06 xor a13)) ∷ a056
+    ∷ (coefficient a 4 xor a056) ∷ (a0156 xor (coefficient a 2 xor coefficient a 7)) ∷ (coefficient a 7 xor a056) ∷ a0156 ∷ []
+
+to_tower_test : all_below (λ n. element basis_256 (to_tower (bits_of 8 n)) == value_of (bits_of 8 n)) 256 ≡ true
+unfolding element basis_256
+to_tower_test = refl
+
+pub to_tower_is : (a : List ℕ) (p : ℕ) → element basis_256 (to_tower (plane_polynomial 8 a p)) ≡ plane_byte a p
+unfolding plane_byte plane_polynomial
+to_tower_is a p = same_at_bits (λ q. element basis_256 (to_tower q)) value_of (plane_polynomial 8 a p) to_tower_test
+
+abbrev pub affine_of : List Bool → List Bool
+affine_of a =
+    let a17 = coefficient a 1 xor coefficient a 7 in
+    let a157 = coefficient a 5 xor a17 in
+    let a24 = coefficient a 2 xor coefficient a 4 in
+    let a36 = coefficient a 3 xor coefficient a 6 in
+    (coefficient a 4 xor a36 xor true) ∷ (coefficient a 7 xor a36 xor true) ∷ (coefficient a 0 xor (a17 xor a24))
+    ∷ (coefficient a 6 xor (coefficient a 4 xor a157)) ∷ a157 ∷ (a24 xor true) ∷ (coefficient a 1 xor coefficient a 5 xor true) ∷ a17 ∷ []
+
+affine_test : all_below (λ n. value_of (affine_of (bits_of 8 n)) == affine (element basis_256 (bits_of 8 n))) 256 ≡ true
+unfolding affine element basis_256
+affine_test = refl
+
+pub affine_is : (a : List ℕ) (p : ℕ) → value_of (affine_of (plane_polynomial 8 a p)) ≡ affine (plane_element basis_256 a p)
+unfolding plane_element plane_polynomial basis_256
+affine_is a p = same_at_bits (λ q. value_of (affine_of q)) (λ q. affine (element basis_256 q)) (plane_polynomial 8 a p) affine_test
