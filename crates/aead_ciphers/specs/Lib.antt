@@ -21,6 +21,7 @@ pub mod Laws
 pub mod Lending
 pub mod Multiples
 pub mod NonceSequence
+pub mod Packet
 pub mod Program
 pub mod Runs
 pub mod Steps

@@ -7,6 +7,7 @@ ghost use Rattle.aead_ciphers.specs.AesGcm.{aes_encrypted, aes_decrypted, aes_ta
 ghost use Rattle.aead_ciphers.specs.Algorithm.{key_len};
 ghost use Rattle.aead_ciphers.specs.Gcm.{Fits};
 ghost use Rattle.aead_ciphers.specs.Lending.{LendsFront, lent_buffer};
+ghost use Rattle.aead_ciphers.specs.Packet.{PacketFits, sealed_packet};
 
 use crate::aead::algorithm::Algorithm;
 use crate::aead::in_out::InOut;
@@ -119,6 +120,33 @@ impl LessSafeKey {
     {
         in_out.grow_by_tag()?;
         self.seal_with_room(nonce, aad, in_out)
+    }
+
+    /// Seals a packet in place, which is a header of `header_len` bytes, then the message, then 16 bytes of room (SP
+    /// 800-38D algorithm 4). The header is the AAD and stays, the ciphertext takes the message's place, and the tag
+    /// the room. This call is this library's own.
+    ///
+    /// Refused where the packet has fewer than `header_len` + 16 bytes, or else where the lengths don't fit, as in
+    /// `seal_in_place_separate_tag`.
+    pub fn seal_packet_in_place(
+        &self,
+        nonce: Nonce,
+        packet: &mut [u8],
+        header_len: usize,
+    ) -> Result<(), Unspecified>
+        ensures accepted { IsOk result ↔ PacketFits header_len (length packet.old) }
+        ensures sealed { OnOk result (packet.new ≡ sealed_packet self.now.bytes nonce header_len packet.old) }
+        ensures refused { OnErr result (packet.new ≡ packet.old) }
+    {
+        if packet.len() < MAX_TAG_LEN || packet.len() - MAX_TAG_LEN < header_len {
+            return Err(Unspecified);
+        }
+        let (header, body) = packet.split_at_mut(header_len);
+        let message_len = body.len() - MAX_TAG_LEN;
+        let (message, tag_bytes) = body.split_at_mut(message_len);
+        let tag = self.seal_in_place_separate_tag(nonce, Aad::from(&*header), message)?;
+        tag_bytes.copy_from_slice(tag.as_ref());
+        Ok(())
     }
 
     /// Encrypts all but the last 16 bytes, and writes the tag over those. Where the lengths don't fit, they are cut.

@@ -1,0 +1,17 @@
+-- A packet that is sealed in place: a header, then a message, then 16 bytes of room for the tag.
+use Rattle.std.specs.Prelude.{ℕ, ◌+◌, ◌-◌, ◌≤◌, List, ◌++◌, length, take, drop}
+use Rattle.aead_ciphers.specs.AesGcm.{aes_sealed}
+use Rattle.aead_ciphers.specs.Gcm.{Fits}
+
+-- n bytes hold a header of h bytes and the room, and the lengths of header and message have a ciphertext
+pub record PacketFits (h n : ℕ) : Type 0 where
+  pub room : h + 16 ≤ n
+  pub lengths : Fits h (n - 16 - h)
+
+-- the bytes between the header and the room
+abbrev pub packet_message : ℕ → List ℕ → List ℕ
+packet_message h packet = take (length packet - 16 - h) (drop h packet)
+
+-- the packet sealed: its header, which is the AAD, then the ciphertext and the tag (SP 800-38D section 7.1)
+abbrev pub sealed_packet : (key nonce : List ℕ) → ℕ → List ℕ → List ℕ
+sealed_packet key nonce h packet = take h packet ++ aes_sealed key nonce (take h packet) (packet_message h packet)
