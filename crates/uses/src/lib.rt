@@ -1,0 +1,11 @@
+//! Uses of the library, as callers write them: what each function promises is proved from the library's contracts alone,
+//! without a file of proofs.
+#![tactic(auto)]
+
+
+pub mod messages;
+pub mod one_nonce;
+pub mod streams;
+
+#[cfg(test)]
+mod tests;
