@@ -47,7 +47,11 @@ pub fn open(
 
 /// Opens a message that has its nonce in front and its tag behind, and answers the length of the plaintext, which then
 /// stands at the front of the buffer.
-pub fn open_behind_nonce(key: &LessSafeKey, aad: &[u8], message: &mut [u8]) -> Result<usize, Unspecified>
+pub fn open_behind_nonce(
+    key: &LessSafeKey,
+    aad: &[u8],
+    message: &mut [u8],
+) -> Result<usize, Unspecified>
     ensures opened { 12 ≤ length message.old → AesOpenedAttached key.now.bytes (take 12 message.old) aad.now 12
         message.old (is_ok result) message.new }
     ensures count { IfOk result (λ n. n ≡ length message.old - 28) }
@@ -83,7 +87,12 @@ pub fn open_and_mark(
 }
 
 /// Seals what a `Vec` holds, and appends the tag.
-pub fn append(key: &LessSafeKey, nonce: Nonce, aad: &[u8], in_out: &mut Vec<u8>) -> Result<(), Unspecified>
+pub fn append(
+    key: &LessSafeKey,
+    nonce: Nonce,
+    aad: &[u8],
+    in_out: &mut Vec<u8>,
+) -> Result<(), Unspecified>
     ensures sealed { OnOk result (in_out.new.items ≡ aes_sealed key.now.bytes nonce aad.now in_out.old.items) }
     ensures grown { OnOk result (length in_out.new.items ≡ length in_out.old.items + 16) }
     ensures refused { OnErr result (in_out.new.items ≡ in_out.old.items) }

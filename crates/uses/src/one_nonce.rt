@@ -24,13 +24,19 @@ impl OneNonce {
 }
 
 impl NonceSequence for OneNonce {
-    ghost use Rattle.std.specs.Prelude.{if◌then◌else◌, [], ◌∷◌};
+    ghost use Rattle.std.specs.Prelude.{◌≡◌, if◌then◌else◌, [], ◌∷◌, true};
 
     ghost spent = { λ s. (if s.is_spent then s.nonce ∷ [] else []) };
 
     ghost is_closed = { λ s. s.is_spent };
 
     ghost origin = { λ s. s.nonce };
+
+    ghost gives = { λ s t. t ≡ record s { is_spent = true } };
+
+    ghost refuses = { λ s t. (s.is_spent ≡ true) × (t ≡ s) };
+
+    ghost is_next = { λ s nonce. nonce ≡ s.nonce };
 
     fn advance(&mut self) -> Result<Nonce, Unspecified> {
         if self.is_spent {

@@ -1,8 +1,9 @@
 //! The uses, on the standards' vectors.
 
-use crate::messages;
-use crate::streams;
-use aead_ciphers::aead::{AES_128_GCM, Aad, LessSafeKey, NONCE_LEN, Nonce, Tag, UnboundKey};
+use crate::{connection, messages, streams};
+use aead_ciphers::aead::{
+    AES_128_GCM, AES_256_GCM, Aad, LessSafeKey, NONCE_LEN, Nonce, Tag, UnboundKey,
+};
 use aead_vectors::gcm_spec::{CASE_1, CASE_2, CASE_2_CIPHERTEXT, CASE_4, Case};
 use aead_vectors::{rfc_8439, rfc_9001};
 use arrayvec::ArrayVec;
@@ -66,23 +67,54 @@ fn marks_the_plaintext(rt: HostRuntime) -> Result<(), Fail> {
     Ok(())
 }
 
-/// Appending the tag of an empty message to an `ArrayVec` succeeds where there is room for 16 bytes.
+/// Appending the tag of a case to an `ArrayVec` succeeds where there is room for 16 bytes.
 fn appends_to<const CAP: usize>(
     rt: &impl Abort,
+    case: &Case,
     in_out: &mut ArrayVec<u8, CAP>,
-    expected: &[u8],
+    has_room: bool,
 ) -> Result<(), Fail> {
-    let nonce = Nonce::assume_unique_for_key(CASE_1.nonce);
-    let appended = messages::append_to_array(&key(&CASE_1)?, nonce, Aad::empty(), in_out);
-    assert_eq!(rt; appended.is_ok(), !expected.is_empty());
-    same(rt, in_out.as_slice(), expected, "the tag");
+    in_out.try_extend_from_slice(case.message)?;
+    let nonce = Nonce::assume_unique_for_key(case.nonce);
+    let appended = messages::append_to_array(&key(case)?, nonce, Aad::from(case.aad), in_out);
+    assert!(rt; appended.is_ok() == has_room);
+    if has_room {
+        assert!(rt; in_out.as_slice().starts_with(case.ciphertext));
+        assert!(rt; in_out.as_slice().ends_with(&case.tag));
+    } else {
+        same(rt, in_out.as_slice(), case.message, "the message stays");
+    }
     Ok(())
 }
 
 #[test]
 fn appends_to_an_array_vec(rt: HostRuntime) -> Result<(), Fail> {
-    appends_to(&rt, &mut ArrayVec::<u8, 16>::new(), &CASE_1.tag)?;
-    appends_to(&rt, &mut ArrayVec::<u8, 15>::new(), &[])
+    appends_to(&rt, &CASE_1, &mut ArrayVec::<u8, 16>::new(), true)?;
+    appends_to(&rt, &CASE_1, &mut ArrayVec::<u8, 15>::new(), false)?;
+    appends_to(&rt, &CASE_4, &mut ArrayVec::<u8, 76>::new(), true)?;
+    appends_to(&rt, &CASE_4, &mut ArrayVec::<u8, 75>::new(), false)
+}
+
+/// Sends a message and receives it, and refuses it a second time.
+fn sends_and_receives(rt: &impl Abort, alloc: Global, text: &[u8]) -> Result<(), Fail> {
+    let mut sender = connection::sender(&AES_256_GCM, &[5; 32], [1, 2, 3, 4])?;
+    let mut receiver = connection::receiver(&AES_256_GCM, &[5; 32], [1, 2, 3, 4])?;
+    for aad in [b"first".as_slice(), b"second".as_slice()] {
+        let mut message = text.to_vec(alloc)?;
+        connection::send(&mut sender, aad, &mut message)?;
+        let len = connection::receive(&mut receiver, aad, &mut message)?;
+        assert_eq!(rt; len, text.len());
+        assert!(rt; message.as_slice().starts_with(text));
+    }
+    let mut message = text.to_vec(alloc)?;
+    connection::send_apart(&mut sender, &mut message)?;
+    assert!(rt; connection::receive(&mut receiver, &[], &mut message).is_err());
+    Ok(())
+}
+
+#[test]
+fn two_ends(rt: HostRuntime) -> Result<(), Fail> {
+    sends_and_receives(&rt, rt.alloc(), b"both ends count")
 }
 
 #[test]
