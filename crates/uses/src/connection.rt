@@ -1,7 +1,8 @@
 //! Two ends of a connection, each with a key that counts its own nonces.
 
-ghost use Rattle.std.specs.Prelude.{◌≡◌, ◌+◌, ◌-◌, ◌<◌, ◌≤◌, ◌↔◌, length, take, vec_capacity, vec_len, IsOk, OnOk, OnErr};
+ghost use Rattle.std.specs.Prelude.{◌≡◌, ◌+◌, ◌-◌, ◌^◌, ◌<◌, ◌≤◌, ◌↔◌, length, take, vec_capacity, vec_len, IsOk, IfOk, OnOk, OnErr};
 ghost use Rattle.aead_ciphers.specs.AesGcm.{aes_decrypted, aes_encrypted, aes_sealed};
+ghost use Rattle.aead_ciphers.specs.Algorithm.{key_len};
 ghost use Rattle.aead_ciphers.specs.CounterSequence.{nonce_at};
 ghost use Rattle.aead_ciphers.specs.Gcm.{Fits};
 
@@ -17,7 +18,11 @@ pub fn sender(
     algorithm: &'static Algorithm,
     key_bytes: &[u8],
     prefix: [u8; 4],
-) -> Result<SealingKey<CounterSequence>, Unspecified> {
+) -> Result<SealingKey<CounterSequence>, Unspecified>
+    ensures accepted { IsOk result ↔ (length key_bytes.now ≡ key_len algorithm.now) }
+    ensures key { IfOk result (λ key. key.key ≡ record { algorithm = algorithm.now; bytes = key_bytes.now }) }
+    ensures sequence { IfOk result (λ key. key.sequence ≡ record { prefix = prefix; first = 0; count = 2 ^ 32; used = 0 }) }
+{
     let sequence = CounterSequence::new(prefix, 0, NONCES)?;
     Ok(SealingKey::new(UnboundKey::new(algorithm, key_bytes)?, sequence))
 }
@@ -27,7 +32,11 @@ pub fn receiver(
     algorithm: &'static Algorithm,
     key_bytes: &[u8],
     prefix: [u8; 4],
-) -> Result<OpeningKey<CounterSequence>, Unspecified> {
+) -> Result<OpeningKey<CounterSequence>, Unspecified>
+    ensures accepted { IsOk result ↔ (length key_bytes.now ≡ key_len algorithm.now) }
+    ensures key { IfOk result (λ key. key.key ≡ record { algorithm = algorithm.now; bytes = key_bytes.now }) }
+    ensures sequence { IfOk result (λ key. key.sequence ≡ record { prefix = prefix; first = 0; count = 2 ^ 32; used = 0 }) }
+{
     let sequence = CounterSequence::new(prefix, 0, NONCES)?;
     Ok(OpeningKey::new(UnboundKey::new(algorithm, key_bytes)?, sequence))
 }

@@ -1,6 +1,6 @@
 //! The ChaCha20 stream, and header masks of QUIC.
 
-ghost use Rattle.std.specs.Prelude.{◌≡◌, ◌+◌, ◌^◌, ◌≤◌, length, IfOk};
+ghost use Rattle.std.specs.Prelude.{◌≡◌, ◌+◌, ◌^◌, ◌≤◌, length, IsOk, IfOk};
 ghost use Rattle.std.specs.Int.{div_ceil};
 ghost use Rattle.aead_ciphers.specs.ChaCha20.{chacha20_encrypted};
 ghost use Rattle.aead_ciphers.specs.Mask.{aes_mask};
@@ -22,7 +22,8 @@ pub fn xor_stream(key: [u8; chacha::KEY_LEN], nonce: [u8; NONCE_LEN], message: &
 
 /// The mask of a packet's sample under a key of AES-128 (RFC 9001 section 5.4.3).
 pub fn mask(key_bytes: &[u8; 16], sample: &Sample) -> Result<[u8; 5], Unspecified>
-    ensures { IfOk result (λ mask. mask ≡ aes_mask key_bytes.now sample.now) }
+    ensures accepted { IsOk result }
+    ensures mask { IfOk result (λ mask. mask ≡ aes_mask key_bytes.now sample.now) }
 {
     HeaderProtectionKey::new(&quic::AES_128, key_bytes)?.new_mask(sample)
 }
