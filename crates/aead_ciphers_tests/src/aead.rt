@@ -1,6 +1,5 @@
 //! `aead`: keys that use the nonce handed in.
 
-use crate::callers::{append, open_and_mark, seal};
 use crate::cases::{aad, false_tag, key, key_bytes, nonce, opened_at_4, sealed};
 use crate::checks::{holds, reads, same};
 use crate::reference;
@@ -76,20 +75,6 @@ fn gcm_spec_cases(rt: HostRuntime) -> Result<(), Fail> {
         appends(&rt, rt.alloc(), case)?;
     }
     Ok(())
-}
-
-/// Seals a case of AES-128-GCM from its bytes alone.
-fn seals_by_bytes(rt: &impl Abort, alloc: Global, case: &Case) -> Result<(), Fail> {
-    let mut in_out = case.message.to_vec(alloc)?;
-    let tag = seal(case.key, case.nonce, case.aad, &mut in_out)?;
-    same(rt, &in_out, case.ciphertext, case.name);
-    same(rt, tag.as_ref(), &case.tag, case.name);
-    Ok(())
-}
-
-#[test]
-fn gcm_spec_case_4_by_bytes(rt: HostRuntime) -> Result<(), Fail> {
-    seals_by_bytes(&rt, rt.alloc(), &CASE_4)
 }
 
 /// Opens test case 4 from byte 4 on.
@@ -181,45 +166,6 @@ fn attached_tag_alone(rt: HostRuntime) -> Result<(), Fail> {
     let plaintext = key.open_within(nonce(&CASE_1), aad(&CASE_1), &mut tag, 0..)?;
     same(&rt, plaintext, &[], "no plaintext");
     same(&rt, &tag, &CASE_1.tag, "the tag stays");
-    Ok(())
-}
-
-/// Appending to an `ArrayVec` of a message succeeds where there is room for 16 bytes.
-fn appends_to<const CAP: usize>(
-    rt: &impl Abort,
-    alloc: Global,
-    case: &Case,
-    in_out: &mut ArrayVec<u8, CAP>,
-    has_room: bool,
-) -> Result<(), Fail> {
-    in_out.try_extend_from_slice(case.message)?;
-    let appended = append(&key(case)?, nonce(case), aad(case), in_out);
-    holds(rt, appended.is_ok() == has_room, "room for a tag");
-    if has_room {
-        same(rt, in_out.as_slice(), &sealed(alloc, case, &[])?, case.name);
-    } else {
-        same(rt, in_out.as_slice(), case.message, "the message stays");
-    }
-    Ok(())
-}
-
-#[test]
-fn appends_to_an_array_vec(rt: HostRuntime) -> Result<(), Fail> {
-    let alloc = rt.alloc();
-    appends_to(&rt, alloc, &CASE_1, &mut ArrayVec::<u8, 16>::new(), true)?;
-    appends_to(&rt, alloc, &CASE_1, &mut ArrayVec::<u8, 15>::new(), false)?;
-    appends_to(&rt, alloc, &CASE_4, &mut ArrayVec::<u8, 76>::new(), true)?;
-    appends_to(&rt, alloc, &CASE_4, &mut ArrayVec::<u8, 75>::new(), false)
-}
-
-#[test]
-fn marks_the_plaintext(rt: HostRuntime) -> Result<(), Fail> {
-    let key = key(&CASE_2)?.clone()?;
-    let mut in_out = CASE_2_CIPHERTEXT;
-    let tag = Tag::from(CASE_2.tag);
-    open_and_mark(&key, nonce(&CASE_2), aad(&CASE_2), tag, &mut in_out)?;
-    let marked = [7, 0, 0, 0, 0, 0, 0, 0, 0, 0, 0, 0, 0, 0, 0, 0];
-    same(&rt, &in_out, &marked, "the mark");
     Ok(())
 }
 

@@ -10,51 +10,14 @@ use aead_vectors::gcm_spec::{CASE_1, CASE_4, Case};
 use arrayvec::ArrayVec;
 use std::process::Abort;
 use std::test::Fail;
+use uses::one_nonce::OneNonce;
 
-/// One nonce, given once.
-#[derive(Drop)]
-struct Once {
-    nonce: [u8; NONCE_LEN],
-    is_spent: bool,
+fn sealing_once(case: &Case) -> Result<SealingKey<OneNonce>, Fail> {
+    Ok(SealingKey::new(unbound_key(case)?, OneNonce::new(case.nonce)))
 }
 
-impl NonceSequence for Once {
-    ghost use Rattle.std.specs.Prelude.{if◌then◌else◌, [], ◌∷◌, ⊤};
-
-    ghost spent = { λ s. (if s.is_spent then s.nonce ∷ [] else []) };
-
-    ghost is_closed = { λ s. s.is_spent };
-
-    ghost origin = { λ s. s.nonce };
-
-    ghost gives = { λ _ _. ⊤ };
-
-    ghost refuses = { λ _ _. ⊤ };
-
-    ghost is_next = { λ _ _. ⊥ };
-
-    fn advance(&mut self) -> Result<Nonce, Unspecified> {
-        if self.is_spent {
-            return Err(Unspecified);
-        }
-        self.is_spent = true;
-        Ok(Nonce::assume_unique_for_key(self.nonce))
-    }
-}
-
-fn spent_once(case: &Case) -> Once {
-    Once {
-        nonce: case.nonce,
-        is_spent: false,
-    }
-}
-
-fn sealing_once(case: &Case) -> Result<SealingKey<Once>, Fail> {
-    Ok(SealingKey::new(unbound_key(case)?, spent_once(case)))
-}
-
-fn opening_once(case: &Case) -> Result<OpeningKey<Once>, Fail> {
-    Ok(OpeningKey::new(unbound_key(case)?, spent_once(case)))
+fn opening_once(case: &Case) -> Result<OpeningKey<OneNonce>, Fail> {
+    Ok(OpeningKey::new(unbound_key(case)?, OneNonce::new(case.nonce)))
 }
 
 fn sealing(case: &Case, count: u64) -> Result<SealingKey<CounterSequence>, Fail> {
@@ -145,7 +108,7 @@ fn no_room_spends_no_nonce(rt: HostRuntime) -> Result<(), Fail> {
 /// Appending to the message of test case 4 succeeds, or leaves the message.
 fn appends<const CAP: usize>(
     rt: &impl Abort,
-    key: &mut SealingKey<Once>,
+    key: &mut SealingKey<OneNonce>,
     in_out: &mut ArrayVec<u8, CAP>,
     wanted: Option<&[u8]>,
 ) -> Result<(), Fail> {
@@ -172,7 +135,11 @@ fn gcm_spec_case_4_sealed(rt: HostRuntime) -> Result<(), Fail> {
 }
 
 /// Opens test case 4 from byte 4 on.
-fn opens_at_4(rt: &impl Abort, key: &mut OpeningKey<Once>, packet: &mut [u8]) -> Result<(), Fail> {
+fn opens_at_4(
+    rt: &impl Abort,
+    key: &mut OpeningKey<OneNonce>,
+    packet: &mut [u8],
+) -> Result<(), Fail> {
     let plaintext = key.open_within(aad(&CASE_4), packet, 4..)?;
     same(rt, plaintext, CASE_4.message, "the plaintext");
     Ok(())

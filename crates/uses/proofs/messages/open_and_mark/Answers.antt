@@ -1,9 +1,9 @@
 use Rattle.std.proofs.Common.{rules, ◌≡◌, ◌∙◌, ap, ap₂, ◌++◌, refl, arith, ℕ, List, [], ◌-◌, length, slice_set, Result, Ok, Err, IsOk, drop, take, append-nil, drop_of_length-le}
-use Rattle.aead_ciphers_base.specs.Aes.{aes}
+use Rattle.aead_ciphers.specs.Aes.{aes}
 use Rattle.aead_ciphers.specs.Gcm.{decrypted}
 use Rattle.aead_ciphers.specs.Lending.{count_of}
 use Rattle.aead_ciphers.proofs.LentPlaintext.{Fronts, opened_fronts}
-use Rattle.aead_ciphers_tests.proofs.callers.open_and_mark.Goals as goal
+use Rattle.uses.proofs.messages.open_and_mark.Goals as goal
 
 -- what is in front of a whole buffer, and that nothing is behind it
 whole : {E : Type 0} {plaintext old new : List ℕ} (answer : Result ℕ E) → IsOk answer → Fronts plaintext (length old - 0) old new answer

@@ -1,0 +1,90 @@
+//! Two ends of a connection, each with a key that counts its own nonces.
+
+ghost use Rattle.std.specs.Prelude.{◌≡◌, ◌+◌, ◌-◌, ◌^◌, ◌<◌, ◌≤◌, ◌↔◌, length, take, vec_capacity, vec_len, IsOk, IfOk, OnOk, OnErr};
+ghost use Rattle.aead_ciphers.specs.AesGcm.{aes_decrypted, aes_encrypted, aes_sealed};
+ghost use Rattle.aead_ciphers.specs.Algorithm.{key_len};
+ghost use Rattle.aead_ciphers.specs.CounterSequence.{nonce_at};
+ghost use Rattle.aead_ciphers.specs.Gcm.{Fits};
+
+use aead_ciphers::aead::{
+    Aad, Algorithm, BoundKey, CounterSequence, OpeningKey, SealingKey, Tag, UnboundKey, Unspecified,
+};
+
+/// Every nonce of a connection: 2^32 of them, from number 0 on.
+const NONCES: u64 = 0x1_0000_0000;
+
+/// The end that seals. The other end has a key of the same bytes and the same prefix.
+pub fn sender(
+    algorithm: &'static Algorithm,
+    key_bytes: &[u8],
+    prefix: [u8; 4],
+) -> Result<SealingKey<CounterSequence>, Unspecified>
+    ensures accepted { IsOk result ↔ (length key_bytes.now ≡ key_len algorithm.now) }
+    ensures key { IfOk result (λ key. key.key ≡ record { algorithm = algorithm.now; bytes = key_bytes.now }) }
+    ensures sequence { IfOk result (λ key. key.sequence ≡ record { prefix = prefix; first = 0; count = 2 ^ 32; used = 0 }) }
+{
+    let sequence = CounterSequence::new(prefix, 0, NONCES)?;
+    Ok(SealingKey::new(UnboundKey::new(algorithm, key_bytes)?, sequence))
+}
+
+/// The end that opens what `sender`'s key sealed, in that order.
+pub fn receiver(
+    algorithm: &'static Algorithm,
+    key_bytes: &[u8],
+    prefix: [u8; 4],
+) -> Result<OpeningKey<CounterSequence>, Unspecified>
+    ensures accepted { IsOk result ↔ (length key_bytes.now ≡ key_len algorithm.now) }
+    ensures key { IfOk result (λ key. key.key ≡ record { algorithm = algorithm.now; bytes = key_bytes.now }) }
+    ensures sequence { IfOk result (λ key. key.sequence ≡ record { prefix = prefix; first = 0; count = 2 ^ 32; used = 0 }) }
+{
+    let sequence = CounterSequence::new(prefix, 0, NONCES)?;
+    Ok(OpeningKey::new(UnboundKey::new(algorithm, key_bytes)?, sequence))
+}
+
+/// Seals the next message, and appends its tag.
+pub fn send(
+    key: &mut SealingKey<CounterSequence>,
+    aad: &[u8],
+    message: &mut Vec<u8>,
+) -> Result<(), Unspecified>
+    ensures sealed { OnOk result (message.new.items ≡ aes_sealed key.old.key.bytes
+        (nonce_at key.old.sequence key.old.sequence.used) aad.now message.old.items) }
+    ensures grown { OnOk result (length message.new.items ≡ length message.old.items + 16) }
+    ensures counted { OnOk result (key.new.sequence.used ≡ key.old.sequence.used + 1) }
+    ensures refused { OnErr result (message.new.items ≡ message.old.items) }
+    ensures accepted { key.old.sequence.used < key.old.sequence.count
+        → Fits (length aad.now) (vec_len message.old)
+        → vec_len message.old + 16 ≤ vec_capacity message.old → IsOk result }
+{
+    key.seal_in_place_append_tag(Aad::from(aad), message)
+}
+
+/// Seals the next message, and answers its tag: it succeeds exactly while nonces are left.
+pub fn send_apart(
+    key: &mut SealingKey<CounterSequence>,
+    message: &mut [u8],
+) -> Result<Tag, Unspecified>
+    requires { length message.old ≤ 1000000 }
+    ensures accepted { IsOk result ↔ (key.old.sequence.used < key.old.sequence.count) }
+    ensures counted { OnOk result (key.new.sequence.used ≡ key.old.sequence.used + 1) }
+    ensures ciphertext { OnOk result (message.new ≡ aes_encrypted key.old.key.bytes
+        (nonce_at key.old.sequence key.old.sequence.used) message.old) }
+    ensures refused { OnErr result (message.new ≡ message.old) }
+{
+    key.seal_in_place_separate_tag(Aad::empty(), message)
+}
+
+/// Opens the next message, and answers the length of the plaintext, which then stands in front. A message that isn't
+/// the next one spends its nonce too.
+pub fn receive(
+    key: &mut OpeningKey<CounterSequence>,
+    aad: &[u8],
+    message: &mut [u8],
+) -> Result<usize, Unspecified>
+    ensures plaintext { OnOk result (take (length message.old - 16) message.new ≡ aes_decrypted key.old.key.bytes
+        (nonce_at key.old.sequence key.old.sequence.used) (take (length message.old - 16) message.old)) }
+    ensures counted { OnOk result (key.new.sequence.used ≡ key.old.sequence.used + 1) }
+    ensures refused { OnErr result (message.new ≡ message.old) }
+{
+    key.open_in_place_len(Aad::from(aad), message)
+}

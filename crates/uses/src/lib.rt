@@ -1,0 +1,9 @@
+//! Uses of the library, as callers write them: what each function promises is proved from the library's contracts alone.
+#![tactic(auto)]
+
+pub mod connection;
+pub mod messages;
+pub mod one_nonce;
+pub mod streams;
+#[cfg(test)]
+mod tests;

@@ -1,0 +1,114 @@
+//! Single messages, each under a nonce of the caller's.
+
+ghost use Rattle.std.specs.Prelude.{◌≡◌, ◌+◌, ◌-◌, ◌<◌, ◌≤◌, ◌↔◌, ◌++◌, [], length, take, slice_set, is_ok, IsOk, IfOk, OnOk, OnErr};
+ghost use Rattle.arrayvec.specs.ArrayVec.{array_vec_len};
+ghost use Rattle.aead_ciphers.specs.AesGcm.{aes_decrypted, aes_encrypted, aes_sealed, aes_tag, AesOpened, AesOpenedAttached};
+ghost use Rattle.aead_ciphers.specs.Gcm.{Fits};
+ghost use Rattle.aead_ciphers.specs.Values.{aad_bytes};
+
+use aead_ciphers::aead::lend::lend_plaintext_and_rest;
+use aead_ciphers::aead::{
+    AES_128_GCM, Aad, LessSafeKey, NONCE_LEN, Nonce, Tag, UnboundKey, Unspecified,
+};
+use arrayvec::ArrayVec;
+
+/// Encrypts a message in place under AES-128-GCM, and answers its tag.
+pub fn seal(
+    key_bytes: &[u8],
+    nonce: [u8; NONCE_LEN],
+    aad: &[u8],
+    in_out: &mut [u8],
+) -> Result<Tag, Unspecified>
+    ensures ciphertext { OnOk result (in_out.new ≡ aes_encrypted key_bytes.now nonce in_out.old) }
+    ensures tag { IfOk result (λ tag. tag ≡ aes_tag key_bytes.now nonce aad.now in_out.new) }
+    ensures refused { OnErr result (in_out.new ≡ in_out.old) }
+{
+    let key = LessSafeKey::new(UnboundKey::new(&AES_128_GCM, key_bytes)?);
+    let nonce = Nonce::assume_unique_for_key(nonce);
+    key.seal_in_place_separate_tag(nonce, Aad::from(aad), in_out)
+}
+
+/// Decrypts a ciphertext in place that `seal` made, if the tag is its own.
+pub fn open(
+    key_bytes: &[u8],
+    nonce: [u8; NONCE_LEN],
+    aad: &[u8],
+    tag: Tag,
+    in_out: &mut [u8],
+) -> Result<(), Unspecified>
+    ensures opened { length key_bytes.now ≡ 16 → AesOpened key_bytes.now nonce aad.now tag 0 in_out.old (is_ok result) in_out.new }
+    ensures refused { OnErr result (in_out.new ≡ in_out.old) }
+{
+    let key = LessSafeKey::new(UnboundKey::new(&AES_128_GCM, key_bytes)?);
+    let nonce = Nonce::assume_unique_for_key(nonce);
+    key.open_in_place_separate_tag_len(nonce, Aad::from(aad), tag, in_out, 0..)?;
+    Ok(())
+}
+
+/// Opens a message that has its nonce in front and its tag behind, and answers the length of the plaintext, which then
+/// stands at the front of the buffer.
+pub fn open_behind_nonce(
+    key: &LessSafeKey,
+    aad: &[u8],
+    message: &mut [u8],
+) -> Result<usize, Unspecified>
+    ensures opened { 12 ≤ length message.old → AesOpenedAttached key.now.bytes (take 12 message.old) aad.now 12
+        message.old (is_ok result) message.new }
+    ensures count { IfOk result (λ n. n ≡ length message.old - 28) }
+{
+    let Some(nonce) = message.first_chunk::<NONCE_LEN>() else {
+        return Err(Unspecified);
+    };
+    let nonce = Nonce::assume_unique_for_key(*nonce);
+    key.open_within_len(nonce, Aad::from(aad), message, NONCE_LEN..)
+}
+
+/// Opens, and writes 7 over the first byte of the plaintext: the whole buffer is known.
+pub fn open_and_mark(
+    key: &LessSafeKey,
+    nonce: Nonce,
+    aad: Aad<'_>,
+    tag: Tag,
+    in_out: &mut [u8],
+) -> Result<(), Unspecified>
+    requires { 0 < length in_out.old }
+    ensures marked { OnOk result (in_out.new
+        ≡ slice_set (aes_decrypted key.now.bytes nonce in_out.old) 0 7) }
+    ensures kept { OnErr result (in_out.new ≡ in_out.old) }
+{
+    let opened = key.open_in_place_separate_tag_len(nonce, aad, tag, in_out, 0..);
+    match lend_plaintext_and_rest(in_out, opened) {
+        Some((plaintext, _rest)) => {
+            plaintext[0] = 7;
+            Ok(())
+        }
+        None => Err(Unspecified),
+    }
+}
+
+/// Seals what a `Vec` holds, and appends the tag.
+pub fn append(
+    key: &LessSafeKey,
+    nonce: Nonce,
+    aad: &[u8],
+    in_out: &mut Vec<u8>,
+) -> Result<(), Unspecified>
+    ensures sealed { OnOk result (in_out.new.items ≡ aes_sealed key.now.bytes nonce aad.now in_out.old.items) }
+    ensures grown { OnOk result (length in_out.new.items ≡ length in_out.old.items + 16) }
+    ensures refused { OnErr result (in_out.new.items ≡ in_out.old.items) }
+{
+    key.seal_in_place_append_tag(nonce, Aad::from(aad), in_out)
+}
+
+/// The same without allocation: where 16 places are free and the lengths fit, it succeeds.
+pub fn append_to_array<const CAP: usize>(
+    key: &LessSafeKey,
+    nonce: Nonce,
+    aad: Aad<'_>,
+    in_out: &mut ArrayVec<u8, CAP>,
+) -> Result<(), Unspecified>
+    ensures { IsOk result ↔ (Fits (length (aad_bytes aad.entry)) (array_vec_len in_out.old)
+        × (array_vec_len in_out.old + 16 ≤ CAP)) }
+{
+    key.seal_in_place_append_tag(nonce, aad, in_out)
+}

@@ -1,0 +1,132 @@
+//! The uses, on the standards' vectors.
+
+use crate::{connection, messages, streams};
+use aead_ciphers::aead::{
+    AES_128_GCM, AES_256_GCM, Aad, LessSafeKey, NONCE_LEN, Nonce, Tag, UnboundKey,
+};
+use aead_vectors::gcm_spec::{CASE_1, CASE_2, CASE_2_CIPHERTEXT, CASE_4, Case};
+use aead_vectors::{rfc_8439, rfc_9001};
+use arrayvec::ArrayVec;
+use std::alloc::Global;
+use std::process::Abort;
+use std::test::Fail;
+
+fn same(rt: &impl Abort, left: &[u8], right: &[u8], what: &str) {
+    assert!(rt; left == right, "{what}");
+}
+
+fn key(case: &Case) -> Result<LessSafeKey, Fail> {
+    Ok(LessSafeKey::new(UnboundKey::new(&AES_128_GCM, case.key)?))
+}
+
+/// Seals a case and opens it again, then with a tag that isn't its own.
+fn seals_and_opens(rt: &impl Abort, alloc: Global, case: &Case) -> Result<(), Fail> {
+    let mut in_out = case.message.to_vec(alloc)?;
+    let tag = messages::seal(case.key, case.nonce, case.aad, &mut in_out)?;
+    same(rt, &in_out, case.ciphertext, case.name);
+    same(rt, tag.as_ref(), &case.tag, case.name);
+    let opened = messages::open(case.key, case.nonce, &[1], Tag::from(case.tag), &mut in_out);
+    assert!(rt; opened.is_err());
+    same(rt, &in_out, case.ciphertext, case.name);
+    messages::open(case.key, case.nonce, case.aad, tag, &mut in_out)?;
+    same(rt, &in_out, case.message, case.name);
+    Ok(())
+}
+
+#[test]
+fn gcm_spec_case_4(rt: HostRuntime) -> Result<(), Fail> {
+    seals_and_opens(&rt, rt.alloc(), &CASE_4)
+}
+
+/// Opens a case that stands behind its nonce.
+fn opens_behind_nonce(rt: &impl Abort, alloc: Global, case: &Case) -> Result<(), Fail> {
+    let mut message = case.nonce.to_vec(alloc)?;
+    message.extend_from_slice(case.ciphertext)?;
+    message.extend_from_slice(&case.tag)?;
+    let len = messages::open_behind_nonce(&key(case)?, case.aad, &mut message)?;
+    assert_eq!(rt; len, case.message.len());
+    assert!(rt; message.as_slice().starts_with(case.message));
+    let opened = messages::open_behind_nonce(&key(case)?, case.aad, &mut message[..NONCE_LEN - 1]);
+    assert!(rt; opened.is_err());
+    Ok(())
+}
+
+#[test]
+fn gcm_spec_case_4_behind_nonce(rt: HostRuntime) -> Result<(), Fail> {
+    opens_behind_nonce(&rt, rt.alloc(), &CASE_4)
+}
+
+#[test]
+fn marks_the_plaintext(rt: HostRuntime) -> Result<(), Fail> {
+    let nonce = Nonce::assume_unique_for_key(CASE_2.nonce);
+    let mut in_out = CASE_2_CIPHERTEXT;
+    let tag = Tag::from(CASE_2.tag);
+    messages::open_and_mark(&key(&CASE_2)?, nonce, Aad::empty(), tag, &mut in_out)?;
+    let marked = [7, 0, 0, 0, 0, 0, 0, 0, 0, 0, 0, 0, 0, 0, 0, 0];
+    same(&rt, &in_out, &marked, "the mark");
+    Ok(())
+}
+
+/// Appending the tag of a case to an `ArrayVec` succeeds where there is room for 16 bytes.
+fn appends_to<const CAP: usize>(
+    rt: &impl Abort,
+    case: &Case,
+    in_out: &mut ArrayVec<u8, CAP>,
+    has_room: bool,
+) -> Result<(), Fail> {
+    in_out.try_extend_from_slice(case.message)?;
+    let nonce = Nonce::assume_unique_for_key(case.nonce);
+    let appended = messages::append_to_array(&key(case)?, nonce, Aad::from(case.aad), in_out);
+    assert!(rt; appended.is_ok() == has_room);
+    if has_room {
+        assert!(rt; in_out.as_slice().starts_with(case.ciphertext));
+        assert!(rt; in_out.as_slice().ends_with(&case.tag));
+    } else {
+        same(rt, in_out.as_slice(), case.message, "the message stays");
+    }
+    Ok(())
+}
+
+#[test]
+fn appends_to_an_array_vec(rt: HostRuntime) -> Result<(), Fail> {
+    appends_to(&rt, &CASE_1, &mut ArrayVec::<u8, 16>::new(), true)?;
+    appends_to(&rt, &CASE_1, &mut ArrayVec::<u8, 15>::new(), false)?;
+    appends_to(&rt, &CASE_4, &mut ArrayVec::<u8, 76>::new(), true)?;
+    appends_to(&rt, &CASE_4, &mut ArrayVec::<u8, 75>::new(), false)
+}
+
+/// Sends a message and receives it, and refuses it a second time.
+fn sends_and_receives(rt: &impl Abort, alloc: Global, text: &[u8]) -> Result<(), Fail> {
+    let mut sender = connection::sender(&AES_256_GCM, &[5; 32], [1, 2, 3, 4])?;
+    let mut receiver = connection::receiver(&AES_256_GCM, &[5; 32], [1, 2, 3, 4])?;
+    for aad in [b"first".as_slice(), b"second".as_slice()] {
+        let mut message = text.to_vec(alloc)?;
+        connection::send(&mut sender, aad, &mut message)?;
+        let len = connection::receive(&mut receiver, aad, &mut message)?;
+        assert_eq!(rt; len, text.len());
+        assert!(rt; message.as_slice().starts_with(text));
+    }
+    let mut message = text.to_vec(alloc)?;
+    connection::send_apart(&mut sender, &mut message)?;
+    assert!(rt; connection::receive(&mut receiver, &[], &mut message).is_err());
+    Ok(())
+}
+
+#[test]
+fn two_ends(rt: HostRuntime) -> Result<(), Fail> {
+    sends_and_receives(&rt, rt.alloc(), b"both ends count")
+}
+
+#[test]
+fn rfc_8439_2_4_2_stream(rt: HostRuntime) {
+    let mut message = *rfc_8439::PLAINTEXT;
+    streams::xor_stream(rfc_8439::KEY, rfc_8439::MESSAGE_NONCE, &mut message);
+    same(&rt, &message, &rfc_8439::CIPHERTEXT, "the ciphertext");
+}
+
+#[test]
+fn rfc_9001_a_2_mask(rt: HostRuntime) -> Result<(), Fail> {
+    let mask = streams::mask(&rfc_9001::A_2_KEY, &rfc_9001::A_2_SAMPLE)?;
+    same(&rt, &mask, &rfc_9001::A_2_MASK, "the mask");
+    Ok(())
+}
