@@ -1,6 +1,6 @@
 //! AES-GCM (SP 800-38D) under a nonce of the caller's choice.
 
-ghost use Rattle.std.specs.Prelude.{◌≡◌, ◌-◌, ◌↔◌, length, is_ok, IsTrue, IsFalse, IsOk, IfOk, OnOk, OnErr};
+ghost use Rattle.std.specs.Prelude.{◌≡◌, ◌-◌, ◌↔◌, length, IsTrue, IsFalse, IsOk, IfOk, OnOk, OnErr};
 ghost use Rattle.aead_ciphers.specs.AesGcm.{aes_encrypted, aes_tag, AesOpenedAttached};
 ghost use Rattle.aead_ciphers.specs.Gcm.{Fits};
 ghost use Rattle.aead_ciphers_c.specs.AesKey.{IsAesKeyLen};

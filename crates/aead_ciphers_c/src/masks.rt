@@ -5,7 +5,7 @@ ghost use Rattle.aead_ciphers_base.specs.Mask.{aes_mask, chacha_mask};
 ghost use Rattle.aead_ciphers_c.specs.AesKey.{IsAesKeyLen};
 
 use aead_ciphers::aead::Unspecified;
-use aead_ciphers::aead::quic::{AES_128, AES_256, Algorithm, HeaderProtectionKey, Sample};
+use aead_ciphers::aead::quic::{AES_128, AES_256, HeaderProtectionKey, Sample};
 use aead_ciphers_base::aes::AES_256_KEY_LEN;
 use aead_ciphers_base::chacha;
 
