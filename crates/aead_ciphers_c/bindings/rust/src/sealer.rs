@@ -1,0 +1,108 @@
+//! A key that counts its nonces.
+
+use crate::{accepted, ffi, Unspecified, NONCE_LEN, TAG_LEN};
+use std::fmt;
+use std::ops::Range;
+
+/// A key of AES-GCM that seals each message under a nonce of its own: an IV XOR the message's number (RFC 8446 section
+/// 5.3, RFC 9001 section 5.3).
+///
+/// It can't be cloned, since the clone would spend the same nonces again:
+///
+/// ```compile_fail
+/// let sealer = deerlapse::Sealer::new(&[0; 16], &[0; 12], 0..9)?;
+/// let again = sealer.clone();
+/// # Ok::<(), deerlapse::Unspecified>(())
+/// ```
+pub struct Sealer(ffi::Sealer);
+
+impl Sealer {
+    /// The sealer whose messages have these numbers, in order. Refused where the key hasn't 16 or 32 bytes, and where
+    /// the range starts above its end.
+    ///
+    /// Two sealers with the same key and IV must have no number in common.
+    pub fn new(
+        key_bytes: &[u8],
+        iv: &[u8; NONCE_LEN],
+        numbers: Range<u64>,
+    ) -> Result<Self, Unspecified> {
+        let mut sealer = ffi::Sealer {
+            next: 0,
+            limit: 0,
+            key_len: 0,
+            key: [0; 32],
+            iv: [0; 12],
+        };
+        // SAFETY: the pointer and its length are those of one slice, and the others are references.
+        accepted(unsafe {
+            ffi::deerlapse_sealer_init(
+                &mut sealer,
+                key_bytes.as_ptr(),
+                key_bytes.len(),
+                iv,
+                numbers.start,
+                numbers.end,
+            )
+        })?;
+        Ok(Sealer(sealer))
+    }
+
+    /// The numbers that are left: the first of them is that of the next message.
+    pub fn numbers_left(&self) -> Range<u64> {
+        self.0.next..self.0.limit
+    }
+
+    /// Encrypts `in_out` in place under the nonce of the next number, and answers the tag of the ciphertext and the
+    /// AAD.
+    ///
+    /// Refused where no number is left and where the message is longer than 2^36 - 32 bytes. A refusal spends no number
+    /// and leaves the buffer as it came.
+    pub fn seal_in_place_separate_tag(
+        &mut self,
+        aad: &[u8],
+        in_out: &mut [u8],
+    ) -> Result<[u8; TAG_LEN], Unspecified> {
+        let mut tag = [0; TAG_LEN];
+        // SAFETY: each pointer and its length are those of one slice, which is borrowed for the call; the sealer,
+        // `in_out` and `tag` are borrowed for writing.
+        accepted(unsafe {
+            ffi::deerlapse_sealer_seal(
+                &mut self.0,
+                aad.as_ptr(),
+                aad.len(),
+                in_out.as_mut_ptr(),
+                in_out.len(),
+                &mut tag,
+            )
+        })?;
+        Ok(tag)
+    }
+
+    /// `seal_in_place_separate_tag` that appends the tag: n bytes become n + 16.
+    pub fn seal_in_place_append_tag(
+        &mut self,
+        aad: &[u8],
+        in_out: &mut Vec<u8>,
+    ) -> Result<(), Unspecified> {
+        let tag = self.seal_in_place_separate_tag(aad, in_out)?;
+        in_out.extend_from_slice(&tag);
+        Ok(())
+    }
+}
+
+/// Prints the numbers that are left, and nothing of the key or the IV.
+impl fmt::Debug for Sealer {
+    fn fmt(&self, f: &mut fmt::Formatter<'_>) -> fmt::Result {
+        f.debug_struct("Sealer")
+            .field("numbers_left", &self.numbers_left())
+            .finish_non_exhaustive()
+    }
+}
+
+/// The nonce of a number under an IV, for opening what a `Sealer` sealed.
+pub fn nonce_of(iv: &[u8; NONCE_LEN], number: u64) -> [u8; NONCE_LEN] {
+    let mut nonce = [0; NONCE_LEN];
+    // SAFETY: the parameters are references.
+    unsafe { ffi::deerlapse_nonce(iv, number, &mut nonce) };
+    nonce
+}

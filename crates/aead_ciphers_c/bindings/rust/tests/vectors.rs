@@ -1,0 +1,139 @@
+//! The functions on standard vectors, and what they refuse.
+
+use deerlapse::{chacha20, mask_aes, mask_chacha20, nonce_of, LessSafeKey, Sealer, Unspecified};
+use std::error::Error;
+
+/// The bytes of hexadecimal digits.
+fn hex(digits: &str) -> Vec<u8> {
+    assert_eq!(digits.len() % 2, 0);
+    (0..digits.len())
+        .step_by(2)
+        .map(|i| u8::from_str_radix(&digits[i..i + 2], 16).expect("two hexadecimal digits"))
+        .collect()
+}
+
+fn array<const N: usize>(digits: &str) -> [u8; N] {
+    hex(digits).try_into().expect("the length of an array")
+}
+
+// McGrew and Viega, "The Galois/Counter Mode of Operation (GCM)", appendix B, test case 4.
+const KEY: &str = "feffe9928665731c6d6a8f9467308308";
+const NONCE: &str = "cafebabefacedbaddecaf888";
+const AAD: &str = "feedfacedeadbeeffeedfacedeadbeefabaddad2";
+const MESSAGE: &str = "d9313225f88406e5a55909c5aff5269a86a7a9531534f7da2e4c303d8a318a72\
+    1c3c0c95956809532fcf0e2449a6b525b16aedf5aa0de657ba637b39";
+const SEALED: &str = "42831ec2217774244b7221b784d0d49ce3aa212f2c02a4e035c17e2329aca12e\
+    21d514b25466931c7d8f6a5aac84aa051ba30b396a0aac973d58e0915bc94fbc3221a5db94fae95ae7121a47";
+
+#[test]
+fn seals_and_opens() -> Result<(), Unspecified> {
+    let key = LessSafeKey::new(&hex(KEY))?;
+    let (aad, message, sealed) = (hex(AAD), hex(MESSAGE), hex(SEALED));
+    let mut buffer = message.clone();
+    key.seal_in_place_append_tag(array(NONCE), &aad, &mut buffer)?;
+    assert_eq!(buffer, sealed);
+
+    let mut buffer = [b"123".as_slice(), &sealed].concat();
+    assert_eq!(
+        key.open_within(array(NONCE), &aad, &mut buffer, 3..)?,
+        message
+    );
+    assert_eq!(buffer[message.len()..], sealed[message.len() - 3..]);
+    Ok(())
+}
+
+#[test]
+fn a_refusal_leaves_the_buffer() -> Result<(), Unspecified> {
+    let key = LessSafeKey::new(&hex(KEY))?;
+    let sealed = hex(SEALED);
+    for start in [1, sealed.len(), sealed.len() + 1, usize::MAX] {
+        let mut buffer = sealed.clone();
+        let opened = key.open_within(array(NONCE), &hex(AAD), &mut buffer, start..);
+        assert_eq!(opened, Err(Unspecified));
+        assert_eq!(buffer, sealed);
+    }
+    assert_eq!(
+        key.open_in_place(array(NONCE), b"", &mut []),
+        Err(Unspecified)
+    );
+    for len in [0, 15, 17, 24, 31, 33] {
+        assert_eq!(LessSafeKey::new(&vec![0; len]).err(), Some(Unspecified));
+        assert_eq!(mask_aes(&vec![0; len], &[0; 16]), Err(Unspecified));
+        assert_eq!(
+            Sealer::new(&vec![0; len], &[0; 12], 0..1).err(),
+            Some(Unspecified)
+        );
+    }
+    assert_eq!(
+        chacha20(&[0; 32], &[0; 12], u32::MAX, &mut [0; 65]),
+        Err(Unspecified)
+    );
+    Ok(())
+}
+
+// RFC 9001 appendix A.3: the server's packet, whose number is 1.
+#[test]
+fn a_sealer_counts() -> Result<(), Unspecified> {
+    let key = hex("cf3a5331653c364c88f0f379b6067e37");
+    let iv = array("0ac1493ca1905853b0bba03e");
+    let header = hex("c1000000010008f067a5502a4262b50040750001");
+    let payload = hex("02000000000600405a020000560303eefce7f7b37ba1d1632e96677825ddf73988cfc79825df\
+        566dc5430b9a045a1200130100002e00330024001d00209d3c940d89690b84d08a60993c144eca684d1081287c834d\
+        5311bcf32bb9da1a002b00020304");
+    let mut sealer = Sealer::new(&key, &iv, 1..2)?;
+    let mut buffer = payload.clone();
+    sealer.seal_in_place_append_tag(&header, &mut buffer)?;
+    assert_eq!(buffer[..14], hex("5a482cd0991cd25b0aac406a5816"));
+    assert_eq!(
+        buffer[buffer.len() - 16..],
+        hex("3d20398c276456cbc42158407dd074ee")
+    );
+    assert_eq!(sealer.numbers_left(), 2..2);
+    assert_eq!(
+        sealer.seal_in_place_separate_tag(&header, &mut []),
+        Err(Unspecified)
+    );
+
+    let opened = LessSafeKey::new(&key)?
+        .open_in_place(nonce_of(&iv, 1), &header, &mut buffer)?
+        .to_vec();
+    assert_eq!(opened, payload);
+    Ok(())
+}
+
+#[test]
+fn masks_and_streams() -> Result<(), Unspecified> {
+    // RFC 9001 appendices A.2 and A.5, FIPS 197 appendix C.3
+    let key = hex("9f50449e04a0e810283a1e9933adedd2");
+    assert_eq!(
+        mask_aes(&key, &array("d1b1c98dd7689fb8ec11d242b123dc9b"))?,
+        array("437b9aec36")
+    );
+    let key = hex("000102030405060708090a0b0c0d0e0f101112131415161718191a1b1c1d1e1f");
+    assert_eq!(
+        mask_aes(&key, &array("00112233445566778899aabbccddeeff"))?,
+        array("8ea2b7ca51")
+    );
+    let key = array("25a282b9e82f06f21f488917a4fc8f1b73573685608597d0efcb076b0ab7a7a4");
+    assert_eq!(
+        mask_chacha20(&key, &array("5e5cd55c41f69080575d7999c25a5bfb")),
+        array("aefefe7d03")
+    );
+
+    // RFC 8439 section 2.4.2, its first bytes
+    let key = array("000102030405060708090a0b0c0d0e0f101112131415161718191a1b1c1d1e1f");
+    let mut bytes = *b"Ladies and Gentl";
+    chacha20(&key, &array("000000000000004a00000000"), 1, &mut bytes)?;
+    assert_eq!(bytes, array("6e2e359a2568f98041ba0728dd0d6981"));
+    Ok(())
+}
+
+#[test]
+fn prints_no_secret() -> Result<(), Box<dyn Error>> {
+    let key = LessSafeKey::new(&[7; 16])?;
+    assert_eq!(format!("{key:?}"), "LessSafeKey { len: 16, .. }");
+    let sealer = Sealer::new(&[7; 32], &[7; 12], 3..9)?;
+    assert_eq!(format!("{sealer:?}"), "Sealer { numbers_left: 3..9, .. }");
+    assert_eq!(Unspecified.to_string(), "unspecified");
+    Ok(())
+}

@@ -1,0 +1,133 @@
+/* AES-GCM, the ChaCha20 stream and QUIC's header masks, for C and C++. The library is built by `rt lib` in
+ * crates/aead_ciphers_c: out/libaead_ciphers_c.a.
+ *
+ * Of every call:
+ *  - It answers true, or false with every byte as it came. Where it can't be refused it answers nothing.
+ *  - No pointer is null, also where its length is 0.
+ *  - A pointer with a length has that many bytes. A parameter like nonce[12] has the bytes that it says.
+ *  - What a call writes overlaps nothing else that the call is given. What it only reads may overlap. A tag may
+ *    stand right behind its message: `tag` is then `in_out + in_out_len`.
+ *  - It takes no memory, has no state and starts no thread. Calls in several threads at once are fine where none of
+ *    them writes what another is given.
+ */
+#ifndef DEERLAPSE_H
+#define DEERLAPSE_H
+
+#include <stdbool.h>
+#include <stddef.h>
+#include <stdint.h>
+
+#if defined(__GNUC__)
+/* The compiler warns where a null pointer is handed in. */
+#define DEERLAPSE_CALL __attribute__((nonnull))
+/* And where nobody looks at the answer. */
+#define DEERLAPSE_ANSWERS __attribute__((nonnull, warn_unused_result))
+#else
+#define DEERLAPSE_CALL
+#define DEERLAPSE_ANSWERS
+#endif
+
+#define DEERLAPSE_NONCE_LEN 12
+#define DEERLAPSE_TAG_LEN 16
+#define DEERLAPSE_SAMPLE_LEN 16
+#define DEERLAPSE_MASK_LEN 5
+
+#ifdef __cplusplus
+extern "C" {
+#endif
+
+/* Encrypts in place by AES-128-GCM or AES-256-GCM, and writes the tag.
+ *
+ *   key      key_len bytes: 16 for AES-128-GCM, 32 for AES-256-GCM
+ *   nonce    12 bytes, never twice under one key
+ *   aad      aad_len bytes, which the tag covers and which aren't encrypted
+ *   in_out   in_out_len bytes: the message, and then the ciphertext
+ *   tag      16 bytes, which are written
+ *
+ * False: key_len is neither 16 nor 32, in_out_len is above 2^36 - 32, or aad_len is 2^61 or more. */
+DEERLAPSE_ANSWERS
+bool deerlapse_seal(const uint8_t *key, size_t key_len, const uint8_t nonce[DEERLAPSE_NONCE_LEN],
+                    const uint8_t *aad, size_t aad_len, uint8_t *in_out, size_t in_out_len,
+                    uint8_t tag[DEERLAPSE_TAG_LEN]);
+
+/* Opens in place what deerlapse_seal made: the ciphertext from in_out + start on, and its tag, the last 16 of the
+ * in_out_len bytes. The plaintext then stands at the front, at in_out, and each byte behind it is as it was.
+ *
+ *   key, nonce, aad   as they were handed to deerlapse_seal
+ *   in_out            in_out_len bytes, `start` bytes of anything, the ciphertext and the tag
+ *   plaintext_len     is written: in_out_len - 16 - start
+ *
+ * False: a false tag, start above in_out_len - 16, or lengths that deerlapse_seal refuses. aad mustn't lie in in_out,
+ * also not before `start`: for a header in front of its ciphertext, hand in the pointer behind it, and start 0. */
+DEERLAPSE_ANSWERS
+bool deerlapse_open(const uint8_t *key, size_t key_len, const uint8_t nonce[DEERLAPSE_NONCE_LEN],
+                    const uint8_t *aad, size_t aad_len, uint8_t *in_out, size_t in_out_len, size_t start,
+                    size_t *plaintext_len);
+
+/* A key that seals each message under a nonce of its own: an IV XOR the message's number, in eight big-endian bytes
+ * behind four zeros (RFC 8446 section 5.3, RFC 9001 section 5.3). It lies in the caller's memory and is filled by
+ * deerlapse_sealer_init. Never copy it, since the copy spends the same nonces again, and write to no field of it. One
+ * thread uses it at a time. */
+typedef struct deerlapse_sealer {
+    uint64_t next;   /* the number of the next message */
+    uint64_t limit;  /* the first number that no message gets */
+    size_t key_len;  /* 16 or 32 */
+    uint8_t key[32]; /* the key, and zeros */
+    uint8_t iv[DEERLAPSE_NONCE_LEN];
+} deerlapse_sealer;
+
+/* Fills a sealer. What was in it isn't read.
+ *
+ *   key            key_len bytes, as in deerlapse_seal
+ *   iv             12 bytes
+ *   first, limit   the numbers of the messages are first, first + 1, .. up to limit, which is left out
+ *
+ * Two sealers with the same key and IV must have no number in common. False: key_len is neither 16 nor 32, or first
+ * is above limit. */
+DEERLAPSE_ANSWERS
+bool deerlapse_sealer_init(deerlapse_sealer *sealer, const uint8_t *key, size_t key_len,
+                           const uint8_t iv[DEERLAPSE_NONCE_LEN], uint64_t first, uint64_t limit);
+
+/* deerlapse_seal under the nonce of the number sealer->next, which then counts up by one.
+ *
+ * False: next is no longer below limit, or lengths that deerlapse_seal refuses. The sealer is then as it was. */
+DEERLAPSE_ANSWERS
+bool deerlapse_sealer_seal(deerlapse_sealer *sealer, const uint8_t *aad, size_t aad_len, uint8_t *in_out,
+                           size_t in_out_len, uint8_t tag[DEERLAPSE_TAG_LEN]);
+
+/* Writes the nonce of a number under an IV, for opening what a sealer sealed. */
+DEERLAPSE_CALL
+void deerlapse_nonce(const uint8_t iv[DEERLAPSE_NONCE_LEN], uint64_t number, uint8_t nonce[DEERLAPSE_NONCE_LEN]);
+
+/* Writes QUIC's header protection mask of a sample by AES (RFC 9001 section 5.4.3).
+ *
+ *   key   key_len bytes: 16 for AES-128, 32 for AES-256
+ *
+ * False: key_len is neither. */
+DEERLAPSE_ANSWERS
+bool deerlapse_mask_aes(const uint8_t *key, size_t key_len, const uint8_t sample[DEERLAPSE_SAMPLE_LEN],
+                        uint8_t mask[DEERLAPSE_MASK_LEN]);
+
+/* The same by ChaCha20 (RFC 9001 section 5.4.4). */
+DEERLAPSE_CALL
+void deerlapse_mask_chacha20(const uint8_t key[32], const uint8_t sample[DEERLAPSE_SAMPLE_LEN],
+                             uint8_t mask[DEERLAPSE_MASK_LEN]);
+
+/* XORs in_out with the ChaCha20 stream from block `counter` on (RFC 8439 section 2.4), which encrypts and decrypts. It
+ * makes no tag: whoever changes the ciphertext changes the plaintext.
+ *
+ *   in_out   in_out_len bytes
+ *
+ * False: the stream would go past the last block, whose counter is 2^32 - 1. */
+DEERLAPSE_ANSWERS
+bool deerlapse_chacha20(const uint8_t key[32], const uint8_t nonce[DEERLAPSE_NONCE_LEN], uint32_t counter,
+                        uint8_t *in_out, size_t in_out_len);
+
+#ifdef __cplusplus
+}
+#endif
+
+#undef DEERLAPSE_CALL
+#undef DEERLAPSE_ANSWERS
+
+#endif

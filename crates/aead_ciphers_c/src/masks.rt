@@ -1,0 +1,46 @@
+//! Header protection masks of QUIC (RFC 9001 section 5.4).
+
+ghost use Rattle.std.specs.Prelude.{◌≡◌, ◌↔◌, length, IsTrue, IsFalse};
+ghost use Rattle.aead_ciphers_base.specs.Mask.{aes_mask, chacha_mask};
+ghost use Rattle.aead_ciphers_c.specs.AesKey.{IsAesKeyLen};
+
+use aead_ciphers::aead::Unspecified;
+use aead_ciphers::aead::quic::{AES_128, AES_256, HeaderProtectionKey, Sample};
+use aead_ciphers_base::aes::AES_256_KEY_LEN;
+use aead_ciphers_base::chacha;
+
+/// Writes the header protection mask of a sample by AES-128 under a key of 16 bytes, by AES-256 under one of 32
+/// (RFC 9001 section 5.4.3). Refused where the key has another length.
+#[unsafe(no_mangle)]
+pub extern "C" fn deerlapse_mask_aes(key: &[u8], sample: &Sample, mask: &mut [u8; 5]) -> bool
+    ensures accepted { IsTrue result ↔ IsAesKeyLen (length key.now) }
+    ensures mask { IsTrue result → mask.new ≡ aes_mask key.now sample.now }
+    ensures refused { IsFalse result → mask.new ≡ mask.old }
+{
+    let algorithm = match key.len() {
+        AES_256_KEY_LEN => &AES_256,
+        _ => &AES_128,
+    };
+    let Ok(key) = HeaderProtectionKey::new(algorithm, key) else {
+        return false
+    };
+    match key.new_mask(sample) {
+        Ok(made) => {
+            *mask = made;
+            true
+        }
+        Err(Unspecified) => false,
+    }
+}
+
+/// Writes the header protection mask of a sample by ChaCha20 (RFC 9001 section 5.4.4). It is never refused.
+#[unsafe(no_mangle)]
+pub extern "C" fn deerlapse_mask_chacha20(
+    key: &[u8; chacha::KEY_LEN],
+    sample: &Sample,
+    mask: &mut [u8; 5],
+)
+    ensures { mask.new ≡ chacha_mask key.now sample.now }
+{
+    *mask = chacha::Key::new(*key).new_mask(*sample);
+}

@@ -1,0 +1,118 @@
+//! The calls on standard vectors.
+
+use crate::aes_gcm::{deerlapse_open, deerlapse_seal};
+use crate::chacha20::deerlapse_chacha20;
+use crate::masks::{deerlapse_mask_aes, deerlapse_mask_chacha20};
+use crate::sealer::{
+    DeerlapseSealer, deerlapse_nonce, deerlapse_sealer_init, deerlapse_sealer_seal,
+};
+use aead_vectors::gcm_spec::{CASES, Case};
+use aead_vectors::{fips_197, rfc_8439, rfc_9001};
+use std::alloc::Global;
+use std::process::Abort;
+use std::test::Fail;
+
+/// Two lists of bytes are equal.
+fn same(rt: &impl Abort, found: &[u8], wanted: &[u8], what: &str) {
+    assert_eq!(rt; found, wanted, "{what}");
+}
+
+/// A call is accepted.
+fn accepted(rt: &impl Abort, answer: bool, what: &str) {
+    assert!(rt; answer, "{what}");
+}
+
+/// Seals a case's message, and opens it behind three other bytes.
+fn seals_and_opens(rt: &impl Abort, alloc: Global, case: &Case) -> Result<(), Fail> {
+    let mut bytes = case.message.to_vec(alloc)?;
+    let mut tag = [0; 16];
+    let sealed = deerlapse_seal(case.key, &case.nonce, case.aad, &mut bytes, &mut tag);
+    accepted(rt, sealed, case.name);
+    same(rt, &bytes, case.ciphertext, case.name);
+    same(rt, &tag, &case.tag, case.name);
+
+    let mut bytes = [1, 2, 3].to_vec(alloc)?;
+    bytes.extend_from_slice(case.ciphertext)?;
+    bytes.extend_from_slice(&case.tag)?;
+    let mut len = 0;
+    let opened = deerlapse_open(case.key, &case.nonce, case.aad, &mut bytes, 3, &mut len);
+    accepted(rt, opened, case.name);
+    same(
+        rt,
+        bytes.get(..len).ok_or("a plaintext's length")?,
+        case.message,
+        case.name,
+    );
+    Ok(())
+}
+
+/// A sealer with one number, 0, whose nonce is the IV: it seals a case's message, and then none.
+fn seals_once(rt: &impl Abort, alloc: Global, case: &Case) -> Result<(), Fail> {
+    let mut sealer = DeerlapseSealer {
+        next: 0,
+        limit: 0,
+        key_len: 0,
+        key: [0; 32],
+        iv: [0; 12],
+    };
+    let filled = deerlapse_sealer_init(&mut sealer, case.key, &case.nonce, 0, 1);
+    accepted(rt, filled, case.name);
+    let mut bytes = case.message.to_vec(alloc)?;
+    let mut tag = [0; 16];
+    let sealed = deerlapse_sealer_seal(&mut sealer, case.aad, &mut bytes, &mut tag);
+    accepted(rt, sealed, case.name);
+    same(rt, &bytes, case.ciphertext, case.name);
+    same(rt, &tag, &case.tag, case.name);
+    let again = deerlapse_sealer_seal(&mut sealer, case.aad, &mut bytes, &mut tag);
+    accepted(rt, !again, case.name);
+    Ok(())
+}
+
+#[test]
+fn gcm_spec(rt: HostRuntime) -> Result<(), Fail> {
+    for case in &CASES {
+        seals_and_opens(&rt, rt.alloc(), case)?;
+        seals_once(&rt, rt.alloc(), case)?;
+    }
+    Ok(())
+}
+
+#[test]
+fn masks(rt: HostRuntime) {
+    let mut mask = [0; 5];
+    let answer = deerlapse_mask_aes(&rfc_9001::A_2_KEY, &rfc_9001::A_2_SAMPLE, &mut mask);
+    accepted(&rt, answer, "RFC 9001 appendix A.2");
+    same(&rt, &mask, &rfc_9001::A_2_MASK, "RFC 9001 appendix A.2");
+    let answer = deerlapse_mask_aes(&fips_197::C_3_KEY, &fips_197::PLAINTEXT, &mut mask);
+    accepted(&rt, answer, "FIPS 197 appendix C.3");
+    same(
+        &rt,
+        &mask,
+        &fips_197::C_3_CIPHERTEXT[..5],
+        "FIPS 197 appendix C.3",
+    );
+    deerlapse_mask_chacha20(&rfc_9001::A_5_KEY, &rfc_9001::A_5_SAMPLE, &mut mask);
+    same(&rt, &mask, &rfc_9001::A_5_MASK, "RFC 9001 appendix A.5");
+}
+
+#[test]
+fn chacha20(rt: HostRuntime) {
+    let mut bytes = *rfc_8439::PLAINTEXT;
+    let answer = deerlapse_chacha20(&rfc_8439::KEY, &rfc_8439::MESSAGE_NONCE, 1, &mut bytes);
+    accepted(&rt, answer, "RFC 8439 section 2.4.2");
+    same(&rt, &bytes, &rfc_8439::CIPHERTEXT, "RFC 8439 section 2.4.2");
+}
+
+// RFC 9001 appendix A.5: the nonce of packet number 654360564.
+#[test]
+fn nonce(rt: HostRuntime) {
+    let iv = [
+        0xe0, 0x45, 0x9b, 0x34, 0x74, 0xbd, 0xd0, 0xe4, 0x4a, 0x41, 0xc1, 0x44,
+    ];
+    let mut nonce = [0; 12];
+    deerlapse_nonce(&iv, 654_360_564, &mut nonce);
+    let wanted = [
+        0xe0, 0x45, 0x9b, 0x34, 0x74, 0xbd, 0xd0, 0xe4, 0x6d, 0x41, 0x7e, 0xb0,
+    ];
+    same(&rt, &nonce, &wanted, "RFC 9001 appendix A.5");
+}
