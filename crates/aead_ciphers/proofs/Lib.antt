@@ -33,6 +33,8 @@ pub mod RootsOfBlocks
 pub mod RoundTripLemmas
 pub mod RunLemmas
 pub mod SealLemmas
+pub mod SequenceLemmas
 pub mod SquareTables
 pub mod WordLemmas
 pub mod XorLaws
+pub mod XoredSequenceLemmas

@@ -25,3 +25,4 @@ pub mod Program
 pub mod Runs
 pub mod Steps
 pub mod Words
+pub mod XoredSequence

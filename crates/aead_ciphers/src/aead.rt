@@ -11,6 +11,7 @@ mod opening_key;
 pub mod quic;
 mod sealing_key;
 mod unbound_key;
+mod xored_sequence;
 
 pub use aead_ciphers_base::error::Unspecified;
 pub use aead_ciphers_base::values::{Aad, MAX_TAG_LEN, NONCE_LEN, Nonce, Tag};
@@ -23,3 +24,4 @@ pub use nonce_sequence::NonceSequence;
 pub use opening_key::OpeningKey;
 pub use sealing_key::SealingKey;
 pub use unbound_key::UnboundKey;
+pub use xored_sequence::{XoredSequence, nonce_of};

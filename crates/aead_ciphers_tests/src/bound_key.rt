@@ -83,49 +83,6 @@ fn debug_texts(rt: HostRuntime) -> Result<(), Fail> {
     Ok(())
 }
 
-/// A counter of so many numbers from `first` on is made, or not.
-fn counts(rt: &impl Abort, first: u64, count: u64, is_made: bool) {
-    let sequence = CounterSequence::new([0; 4], first, count);
-    holds(rt, sequence.is_ok() == is_made, "a counter's end");
-}
-
-#[test]
-fn a_counter_ends_at_the_last_number(rt: HostRuntime) {
-    counts(&rt, u64::MAX, 1, true);
-    counts(&rt, u64::MAX, 2, false);
-    counts(&rt, u64::MAX, 0, true);
-    counts(&rt, 0, u64::MAX, true);
-    counts(&rt, 1, u64::MAX, true);
-    counts(&rt, 2, u64::MAX, false);
-}
-
-/// The next nonce is this one, or there is none.
-fn gives(rt: &impl Abort, sequence: &mut CounterSequence, wanted: Option<&[u8; NONCE_LEN]>) {
-    match (sequence.advance(), wanted) {
-        (Ok(nonce), Some(wanted)) => same(rt, nonce.as_ref(), wanted, "the nonce"),
-        (Err(Unspecified), None) => {}
-        _ => holds(rt, false, "a nonce or none"),
-    }
-}
-
-#[test]
-fn a_counter_gives_big_endian_numbers(rt: HostRuntime) -> Result<(), Fail> {
-    let mut sequence = CounterSequence::new([1, 2, 3, 4], 0x05060708090a0bff, 2)?;
-    gives(
-        &rt,
-        &mut sequence,
-        Some(&[1, 2, 3, 4, 5, 6, 7, 8, 9, 10, 11, 255]),
-    );
-    gives(
-        &rt,
-        &mut sequence,
-        Some(&[1, 2, 3, 4, 5, 6, 7, 8, 9, 10, 12, 0]),
-    );
-    gives(&rt, &mut sequence, None);
-    gives(&rt, &mut sequence, None);
-    Ok(())
-}
-
 /// Sealing no message gives this tag, or is refused.
 fn seals<N: NonceSequence>(
     rt: &impl Abort,

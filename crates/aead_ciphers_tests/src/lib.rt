@@ -43,6 +43,8 @@ mod reference;
 #[cfg(test)]
 mod refusals;
 #[cfg(test)]
+mod sequences;
+#[cfg(test)]
 mod session;
 #[cfg(test)]
 mod streams;

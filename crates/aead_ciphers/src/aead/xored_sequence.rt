@@ -1,0 +1,90 @@
+//! Nonces of an IV, XORed with a number that counts up.
+ghost use Rattle.std.specs.Prelude.{◌≡◌, ◌+◌, ◌-◌, ◌<◌, ◌≤◌, ◌↔◌, IsOk, IfOk, OnOk, OnErr};
+ghost use Rattle.aead_ciphers.specs.NonceSequence.{Appends, Closes};
+ghost use Rattle.aead_ciphers.specs.XoredSequence.{xored_nonce, nonce_at, spent_nonces, is_used_up, origin_of};
+
+use crate::aead::{NONCE_LEN, Nonce, NonceSequence, Unspecified};
+use aead_ciphers_base::bb;
+use std::marker::Model;
+
+/// Nonces of 12 bytes: an IV, XORed with a number in 8 big-endian bytes behind four zeros, which counts up from a first
+/// one (RFC 8446 section 5.3: the number of a record; RFC 9001 section 5.3: the number of a packet). It can't be
+/// cloned. This type is this library's own.
+#[derive(Drop)]
+pub struct XoredSequence {
+    iv: [u8; NONCE_LEN],
+    first: u64,
+    count: u64,
+    used: u64,
+}
+
+impl Model for XoredSequence {
+    ghost use Rattle.std.specs.Prelude.{◌≡◌, ◌+◌, ◌^◌, ◌≤◌, length};
+    ghost use Rattle.aead_ciphers.specs.XoredSequence.{Numbering};
+
+    ghost Value = { Numbering };
+
+    ghost view = { λ s. record { iv = s.iv; first = s.first; count = s.count; used = s.used } };
+
+    ghost invariant = { λ s. (s.used ≤ s.count) × (s.first + s.count ≤ 2 ^ 64) × (length s.iv ≡ 12) };
+}
+
+impl XoredSequence {
+    /// The sequence of the nonces with the numbers from `first` to below `limit`, of which none is spent. Refused where
+    /// `first` is above `limit`.
+    pub fn new(iv: [u8; NONCE_LEN], first: u64, limit: u64) -> Result<Self, Unspecified>
+        ensures accepted { IsOk result ↔ (first ≤ limit) }
+        ensures made { IfOk result (λ sequence. sequence
+            ≡ record { iv = iv; first = first; count = limit - first; used = 0 }) }
+    {
+        if first > limit {
+            return Err(Unspecified);
+        }
+        Ok(XoredSequence {
+            iv,
+            first,
+            count: limit - first,
+            used: 0,
+        })
+    }
+}
+
+/// The nonce of a number under an IV, as a receiver needs it that reads the number from a packet (RFC 9001 section 5.3).
+/// This call is this library's own.
+pub fn nonce_of(iv: &[u8; NONCE_LEN], number: u64) -> Nonce
+    ensures { result ≡ xored_nonce iv.now number }
+{
+    let mut bytes = [0; NONCE_LEN];
+    bytes[4..].copy_from_slice(&number.to_be_bytes());
+    bb::xor_assign_at_start(&mut bytes, iv);
+    Nonce::assume_unique_for_key(bytes)
+}
+
+impl NonceSequence for XoredSequence {
+    ghost use Rattle.aead_ciphers.specs.XoredSequence.{spent_nonces, is_used_up, origin_of};
+
+    ghost spent = { spent_nonces };
+
+    ghost is_closed = { is_used_up };
+
+    ghost origin = { origin_of };
+
+    fn advance(&mut self) -> Result<Nonce, Unspecified>
+        ensures ok { IfOk result (λ nonce.
+            Appends (spent_nonces self.old) (spent_nonces self.new) (is_used_up self.old) nonce) }
+        ensures err { OnErr result
+            (Closes (spent_nonces self.old) (spent_nonces self.new) (is_used_up self.new)) }
+        ensures origin_kept { origin_of self.new ≡ origin_of self.old }
+        ensures accepted { IsOk result ↔ (self.old.used < self.old.count) }
+        ensures nonce { IfOk result (λ nonce. nonce ≡ nonce_at self.old self.old.used) }
+        ensures counted { OnOk result (self.new ≡ record self.old { used = self.old.used + 1 }) }
+        ensures refused { OnErr result (self.new ≡ self.old) }
+    {
+        if self.used >= self.count {
+            return Err(Unspecified);
+        }
+        let nonce = nonce_of(&self.iv, self.first + self.used);
+        self.used += 1;
+        Ok(nonce)
+    }
+}
