@@ -15,4 +15,16 @@ pub enum PacketError {
     /// section 5.4.2).
     #[error("the packet is too short for a sample of header protection")]
     NoSample,
+    /// The packet has fewer bytes than its header and a tag.
+    #[error("the packet is shorter than its header and a tag")]
+    TooShort,
+    /// The payload has more than 2^36 - 32 bytes, or the header 2^61 or more (SP 800-38D section 5.2.1.1).
+    #[error("the packet is longer than AES-GCM takes")]
+    TooLong,
+    /// The packet numbers end at 2^62 (RFC 9000 section 12.3).
+    #[error("no packet has this number: packet numbers end at 2^62")]
+    NumbersEnded,
+    /// The tag is another than that of the header, the payload and the number under this key.
+    #[error("the packet's tag isn't the one of its header, its payload and its number")]
+    Refused,
 }

@@ -6,6 +6,9 @@
 mod error;
 mod header;
 pub mod laws;
+mod packet;
+mod receive;
 
 pub use error::PacketError;
 pub use header::HeaderKey;
+pub use receive::ReceiveKey;
