@@ -1,9 +1,11 @@
 -- Packet protection (RFC 9001 section 5.3). A packet is its header, which ends with the packet number, its payload, and 16 bytes
 -- for the tag.
-use Rattle.std.specs.Prelude.{◌≡◌, ℕ, ◌+◌, ◌-◌, ◌^◌, ◌<◌, ◌≤◌, List, ◌++◌, length, take, drop, slice_range}
+use Rattle.std.specs.Prelude.{◌≡◌, ℕ, ◌+◌, ◌-◌, ◌^◌, ◌<◌, ◌≤◌, List, ◌++◌, length, take, drop, slice_index, slice_range}
+use Rattle.std.specs.Int.{to_be_bytes, w64}
 use Rattle.aead_ciphers.specs.AesGcm.{aes_decrypted, aes_sealed, aes_tag}
 use Rattle.aead_ciphers.specs.Gcm.{Fits}
 use Rattle.aead_ciphers.specs.XoredSequence.{xored_nonce}
+use Rattle.quic_packets.specs.Header.{number_len}
 
 -- a packet number lies below 2^62 (RFC 9000 section 12.3)
 abbrev pub IsNumber : ℕ → Type 0
@@ -40,3 +42,17 @@ IsGenuine key iv number header_len packet =
 abbrev pub opened_packet : (key iv : List ℕ) (number header_len : ℕ) → List ℕ → List ℕ
 opened_packet key iv number header_len packet =
     header header_len packet ++ aes_decrypted key (xored_nonce iv number) (payload header_len packet) ++ tag packet
+
+-- the packet number stands at the end of the header, from byte `start` to below `end`: behind the first byte, and as long as that
+-- byte says (RFC 9000 sections 17.2 and 17.3.1)
+pub record HasNumber (start end : ℕ) (packet : List ℕ) : Type 0 where
+  pub first_byte : 0 < start
+  pub len : end ≡ start + number_len (slice_index packet 0)
+
+-- the n low bytes of a number, the highest first
+unfoldable pub low_bytes : ℕ → ℕ → List ℕ
+low_bytes n number = drop (8 - n) (to_be_bytes w64 number)
+
+-- the packet number in the header is the low bytes of this number (RFC 9000 section 17.1)
+abbrev pub CarriesNumber : (number start end : ℕ) → List ℕ → Type 0
+CarriesNumber number start end packet = slice_range packet start end ≡ low_bytes (end - start) number

@@ -11,6 +11,12 @@ pub enum PacketError {
     /// The packet number begins at byte 0, which is the first byte of every header.
     #[error("a packet number can't begin at the header's first byte")]
     NumberAtFirstByte,
+    /// The packet number hasn't the length that the header's first byte gives it (RFC 9000 sections 17.2 and 17.3.1).
+    #[error("the header's first byte gives the packet number another length")]
+    NumberLength,
+    /// The header holds another packet number than the next one.
+    #[error("the header holds another packet number than the next one")]
+    OtherNumber,
     /// The packet ends before the 16 bytes that stand 4 bytes behind the packet number's first byte (RFC 9001
     /// section 5.4.2).
     #[error("the packet is too short for a sample of header protection")]

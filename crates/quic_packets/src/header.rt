@@ -97,8 +97,8 @@ impl HeaderKey {
     }
 }
 
-// The bytes in the packet number, by the unmasked first byte.
-fn number_len(first: u8) -> usize
+/// The bytes in the packet number, by the unmasked first byte.
+pub(crate) fn number_len(first: u8) -> usize
     ensures is { result ≡ number_len first }
     ensures few { (0 < result) × (result ≤ 4) }
 {

@@ -8,7 +8,9 @@ mod header;
 pub mod laws;
 mod packet;
 mod receive;
+mod send;
 
 pub use error::PacketError;
 pub use header::HeaderKey;
 pub use receive::ReceiveKey;
+pub use send::SendKey;
