@@ -29,11 +29,13 @@ opens key nonce aad old accepts new long fits it =
     let fitting : Fits (length aad) (length (take n old) - 0) = record { aad = fits.aad; message = omega (arith, size, fits.message) } in
     let none : drop (length (take n old) - 0) (take n old) ≡ [] = drop_all (length (take n old) - 0) (take n old) (omega arith) in
     record {
-      genuine = λ is. let done = t.1.right_tag (omega arith) fitting is in
-      (done.0, t.2 ∙ ap (λ (xs : List ℕ). xs ++ drop n old)
-          (done.1 ∙ ap (λ (xs : List ℕ). aes_decrypted key nonce (take n old) ++ xs) none ∙ append-nil (aes_decrypted key nonce (take n old))));
+      genuine = λ is. let done = t.1.right_tag (omega arith) fitting is in (
+        done.0,
+        t.2 ∙ ap (λ (xs : List ℕ). xs ++ drop n old)
+            (done.1 ∙ ap (λ (xs : List ℕ). aes_decrypted key nonce (take n old) ++ xs) none ∙ append-nil (aes_decrypted key nonce (take n old))),
+      );
       forged = λ other. let done = t.1.false_tag (omega arith) fitting other in
-      (done.0, t.2 ∙ ap (λ (xs : List ℕ). xs ++ drop n old) done.1 ∙ take-append-drop n old);
+          (done.0, t.2 ∙ ap (λ (xs : List ℕ). xs ++ drop n old) done.1 ∙ take-append-drop n old);
     }
 
 module _ (key iv : List ℕ) (number header_len : ℕ) (old : List ℕ) where
@@ -62,11 +64,13 @@ module _ (key iv : List ℕ) (number header_len : ℕ) (old : List ℕ) where
       let its : aes_tag key nonce aad (take (length rest - 16) rest) ≡ aes_tag key nonce aad (payload header_len old) =
       ap (aes_tag key nonce aad) text in
       record {
-        genuine = λ is. let done = o.genuine (tag_is ∙ is ∙ sym its) in
-        (done.0, ap (λ (xs : List ℕ). aad ++ xs) (done.1 ∙ ap₂ (λ (xs ys : List ℕ). aes_decrypted key nonce xs ++ ys) text tag_is)
-            ∙ sym (append_assoc aad (aes_decrypted key nonce (payload header_len old)) (tag old)));
+        genuine = λ is. let done = o.genuine (tag_is ∙ is ∙ sym its) in (
+          done.0,
+          ap (λ (xs : List ℕ). aad ++ xs) (done.1 ∙ ap₂ (λ (xs ys : List ℕ). aes_decrypted key nonce xs ++ ys) text tag_is)
+              ∙ sym (append_assoc aad (aes_decrypted key nonce (payload header_len old)) (tag old)),
+        );
         forged = λ other. let done = o.forged (λ e. other (sym tag_is ∙ e ∙ its)) in
-        (done.0, ap (λ (xs : List ℕ). aad ++ xs) done.1 ∙ take-append-drop header_len old);
+            (done.0, ap (λ (xs : List ℕ). aad ++ xs) done.1 ∙ take-append-drop header_len old);
       }
 
   -- what is known of a call that opens the packet from its parts

@@ -14,3 +14,6 @@ pub use error::PacketError;
 pub use header::HeaderKey;
 pub use receive::ReceiveKey;
 pub use send::SendKey;
+
+#[cfg(test)]
+mod tests;

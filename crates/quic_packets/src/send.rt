@@ -9,7 +9,9 @@ ghost use Rattle.quic_packets.specs.Packet.{CarriesNumber, HasNumber, HasPayload
 use crate::error::PacketError;
 use crate::header::number_len;
 use crate::packet::{NUMBERS_END, payload_len};
-use aead_ciphers::aead::{Aad, Algorithm, BoundKey, NONCE_LEN, SealingKey, UnboundKey, XoredSequence};
+use aead_ciphers::aead::{
+    Aad, Algorithm, BoundKey, NONCE_LEN, SealingKey, UnboundKey, XoredSequence,
+};
 use std::marker::Model;
 use std::ops::Range;
 
@@ -29,10 +31,10 @@ impl Model for SendKey {
     ghost Value = { Sending };
 
     ghost view = { λ key. record {
-        algorithm = key.key.key.algorithm;
-        bytes = key.key.key.bytes;
-        iv = key.key.sequence.iv;
-        next = key.next
+      algorithm = key.key.key.algorithm;
+      bytes = key.key.key.bytes;
+      iv = key.key.sequence.iv;
+      next = key.next;
     } };
 
     ghost invariant = { λ key. (key.next ≡ key.key.sequence.first + key.key.sequence.used)
