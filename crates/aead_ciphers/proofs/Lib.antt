@@ -20,11 +20,13 @@ pub mod HashedBlocks
 pub mod KeysLemmas
 pub mod LaneLemmas
 pub mod Lending
+pub mod LendingFacts
 pub mod LendingLocals
 pub mod LendingSteps
 pub mod LendingWalk
 pub mod LinearMaps
 pub mod MultiplesLemmas
+pub mod NextNonce
 pub mod OpenLemmas
 pub mod OpenedLemmas
 pub mod PaddingLemmas

@@ -1,5 +1,6 @@
 -- The cases of a sealing call.
-use Rattle.std.proofs.Common.{◌≡◌, ℕ, ◌-◌, ◌↔◌, ◌++◌, List, Bool, true, false, length, take, replicate, is_ok, IsOk, IsErr, IfOk, OnOk, OnErr, Ok, Err, Result, refl, arith, length-append}
+use Rattle.std.proofs.Common.{◌≡◌, ℕ, ◌+◌, ◌-◌, ◌↔◌, ◌++◌, List, Bool, true, false, length, take, replicate, is_ok, IsOk}
+use Rattle.std.proofs.Common.{IsErr, IfOk, OnOk, OnErr, Ok, Err, Result, refl, arith, length-append}
 use Rattle.std.proofs.Math.Seq.{take-append_seam}
 use Rattle.aead_ciphers.specs.AesGcm.{aes_encrypted, aes_tag, aes_sealed}
 use Rattle.aead_ciphers.specs.BoundState.{BoundState}
@@ -9,6 +10,9 @@ use Rattle.aead_ciphers.specs.Steps.{SealStep, no_room, no_nonce, too_long, seal
 
 pub grown_less : (xs : List ℕ) → length (xs ++ replicate 16 0) - 16 ≡ length xs
 grown_less xs = omega (arith, length-append xs (replicate 16 0))
+
+pub grown_more : (xs : List ℕ) → length (xs ++ replicate 16 0) ≡ length xs + 16
+grown_more xs = length-append xs (replicate 16 0)
 
 pub grown_front : (xs : List ℕ) → take (length (xs ++ replicate 16 0) - 16) (xs ++ replicate 16 0) ≡ xs
 grown_front xs = rw (grown_less xs) (take-append_seam xs (replicate 16 0))

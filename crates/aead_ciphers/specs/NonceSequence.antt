@@ -11,3 +11,7 @@ pub record Appends (was now : List (List ℕ)) (was_closed : Bool) (nonce : List
 pub record Closes (was now : List (List ℕ)) (is_closed : Bool) : Type 0 where
   pub kept : now ≡ was
   pub closed : is_closed ≡ true
+
+-- something holds of the next nonce, where the sequence says which it is
+abbrev pub UnderNext : (List ℕ → Type 0) → (List ℕ → Type 0) → Type 0
+UnderNext is_next P = (nonce : List ℕ) → is_next nonce → P nonce

@@ -5,11 +5,26 @@ ghost use Rattle.std.specs.Prelude.{◌≡◌, ℕ};
 mod input_too_long;
 
 pub use input_too_long::InputTooLongError;
+use std::error::Error;
+use std::fmt;
 use std::marker::Model;
 
 /// The error of every call that does not say why it refuses.
 #[derive(Clone, Copy, PartialEq, Eq, Debug)]
 pub struct Unspecified;
+
+/// `unspecified error`.
+impl fmt::Display for Unspecified {
+    ghost use Rattle.std.specs.Prelude.{Some, codes};
+
+    ghost output = { λ _. Some (codes "unspecified error") };
+
+    fn fmt<W: fmt::Write>(&self, f: &mut fmt::Formatter<W>) -> fmt::Result {
+        f.write_str("unspecified error")
+    }
+}
+
+impl Error for Unspecified {}
 
 /// A start or a block that does not lie within its input.
 #[derive(Clone, Copy, PartialEq, Eq, Debug)]
@@ -39,6 +54,19 @@ impl IndexError {
     }
 }
 
+/// `index out of range`.
+impl fmt::Display for IndexError {
+    ghost use Rattle.std.specs.Prelude.{Some, codes};
+
+    ghost output = { λ _. Some (codes "index out of range") };
+
+    fn fmt<W: fmt::Write>(&self, f: &mut fmt::Formatter<W>) -> fmt::Result {
+        f.write_str("index out of range")
+    }
+}
+
+impl Error for IndexError {}
+
 /// An input that has not the length that was asked for.
 #[derive(Clone, Copy, PartialEq, Eq, Debug)]
 pub struct LenMismatchError(usize);
@@ -66,3 +94,16 @@ impl LenMismatchError {
         value
     }
 }
+
+/// `length mismatch`.
+impl fmt::Display for LenMismatchError {
+    ghost use Rattle.std.specs.Prelude.{Some, codes};
+
+    ghost output = { λ _. Some (codes "length mismatch") };
+
+    fn fmt<W: fmt::Write>(&self, f: &mut fmt::Formatter<W>) -> fmt::Result {
+        f.write_str("length mismatch")
+    }
+}
+
+impl Error for LenMismatchError {}

@@ -19,13 +19,19 @@ struct Once {
 }
 
 impl NonceSequence for Once {
-    ghost use Rattle.std.specs.Prelude.{if◌then◌else◌, [], ◌∷◌};
+    ghost use Rattle.std.specs.Prelude.{if◌then◌else◌, [], ◌∷◌, ⊤};
 
     ghost spent = { λ s. (if s.is_spent then s.nonce ∷ [] else []) };
 
     ghost is_closed = { λ s. s.is_spent };
 
     ghost origin = { λ s. s.nonce };
+
+    ghost gives = { λ _ _. ⊤ };
+
+    ghost refuses = { λ _ _. ⊤ };
+
+    ghost is_next = { λ _ _. ⊥ };
 
     fn advance(&mut self) -> Result<Nonce, Unspecified> {
         if self.is_spent {

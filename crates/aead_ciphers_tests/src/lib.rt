@@ -25,6 +25,8 @@ mod checks;
 #[cfg(test)]
 mod chunks;
 #[cfg(test)]
+mod errors;
+#[cfg(test)]
 mod gcm;
 #[cfg(test)]
 mod items;

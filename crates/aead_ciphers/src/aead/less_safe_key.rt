@@ -1,6 +1,6 @@
 //! Keys that take the nonce of each call.
 
-ghost use Rattle.std.specs.Prelude.{◌≡◌, ◌-◌, ◌≤◌, ◌↔◌, length, drop, take, is_ok, IsOk, IfOk, OnOk, OnErr};
+ghost use Rattle.std.specs.Prelude.{◌≡◌, ◌+◌, ◌-◌, ◌≤◌, ◌↔◌, length, drop, take, is_ok, IsOk, IfOk, OnOk, OnErr};
 ghost use Rattle.std.specs.Borrow.{sem};
 ghost use Rattle.aead_ciphers_base.specs.Values.{aad_bytes};
 ghost use Rattle.aead_ciphers.specs.AesGcm.{aes_encrypted, aes_decrypted, aes_tag, aes_sealed, AesOpened, AesOpenedAttached};
@@ -112,6 +112,7 @@ impl LessSafeKey {
         ensures fits { IsOk result → Fits (length (aad_bytes aad.entry)) (length (B.bytes in_out.old)) }
         ensures sealed { OnOk result (B.bytes in_out.new
             ≡ aes_sealed self.now.bytes nonce (aad_bytes aad.entry) (B.bytes in_out.old)) }
+        ensures length { OnOk result (length (B.bytes in_out.new) ≡ length (B.bytes in_out.old) + 16) }
         ensures refused { OnErr result (Fits (length (aad_bytes aad.entry)) (length (B.bytes in_out.old))
             → B.may_refuse in_out.old) }
         ensures kept { OnErr result (B.bytes in_out.new ≡ B.bytes in_out.old) }
@@ -131,6 +132,7 @@ impl LessSafeKey {
         ensures accepted { IsOk result ↔ Fits (length (aad_bytes aad.entry)) (length (B.bytes in_out.old) - 16) }
         ensures sealed { let message = take (length (B.bytes in_out.old) - 16) (B.bytes in_out.old) in
             OnOk result (B.bytes in_out.new ≡ aes_sealed self.now.bytes nonce (aad_bytes aad.entry) message) }
+        ensures length { OnOk result (length (B.bytes in_out.new) ≡ length (B.bytes in_out.old)) }
         ensures kept { let message = take (length (B.bytes in_out.old) - 16) (B.bytes in_out.old) in
             OnErr result (B.bytes in_out.new ≡ message) }
     {

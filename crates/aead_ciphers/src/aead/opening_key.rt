@@ -1,9 +1,11 @@
 //! A key that opens with the nonces of a sequence.
-ghost use Rattle.std.specs.Prelude.{◌≡◌, ◌-◌, length, is_ok, IfOk};
+ghost use Rattle.std.specs.Prelude.{◌≡◌, ◌-◌, ◌⊎◌, length, drop, take, is_ok, IfOk, OnOk, OnErr};
 ghost use Rattle.std.specs.Borrow.{sem};
 ghost use Rattle.aead_ciphers_base.specs.Values.{aad_bytes};
+ghost use Rattle.aead_ciphers.specs.AesGcm.{aes_decrypted, AesOpenedAttached};
 ghost use Rattle.aead_ciphers.specs.BoundState.{Keeps};
 ghost use Rattle.aead_ciphers.specs.Lending.{LendsFront, lent_buffer};
+ghost use Rattle.aead_ciphers.specs.NonceSequence.{UnderNext};
 ghost use Rattle.aead_ciphers.specs.Steps.{OpenStep};
 
 use crate::aead::lend::lend_plaintext;
@@ -69,6 +71,16 @@ impl<N: NonceSequence> OpeningKey<N> {
         ensures step { OpenStep N.spent N.is_closed self.old self.new (aad_bytes aad.entry)
             ciphertext_and_tag.start in_out.old in_out.new (is_ok result) }
         ensures count { IfOk result (λ n. n ≡ length in_out.old - 16 - ciphertext_and_tag.start) }
+        ensures opened { ¬ N.refuses self.old.sequence self.new.sequence
+            → UnderNext (N.is_next self.old.sequence) (λ nonce. AesOpenedAttached self.old.key.bytes nonce
+            (aad_bytes aad.entry) ciphertext_and_tag.start in_out.old (is_ok result) in_out.new) }
+        ensures plaintext { OnOk result (UnderNext (N.is_next self.old.sequence) (λ nonce.
+            take (length in_out.old - 16 - ciphertext_and_tag.start) in_out.new
+            ≡ aes_decrypted self.old.key.bytes nonce (drop ciphertext_and_tag.start (take (length in_out.old - 16) in_out.old)))) }
+        ensures refused { OnErr result (in_out.new ≡ in_out.old) }
+        ensures gives { OnOk result (N.gives self.old.sequence self.new.sequence) }
+        ensures stands { OnErr result
+            (N.refuses self.old.sequence self.new.sequence ⊎ N.gives self.old.sequence self.new.sequence) }
     {
         let nonce = self.nonce_sequence.advance()?;
         self.key
@@ -86,6 +98,16 @@ impl<N: NonceSequence> OpeningKey<N> {
         ensures step { OpenStep N.spent N.is_closed self.old self.new (aad_bytes aad.entry)
             0 in_out.old in_out.new (is_ok result) }
         ensures count { IfOk result (λ n. n ≡ length in_out.old - 16) }
+        ensures opened { ¬ N.refuses self.old.sequence self.new.sequence
+            → UnderNext (N.is_next self.old.sequence) (λ nonce. AesOpenedAttached self.old.key.bytes nonce
+            (aad_bytes aad.entry) 0 in_out.old (is_ok result) in_out.new) }
+        ensures plaintext { OnOk result (UnderNext (N.is_next self.old.sequence) (λ nonce.
+            take (length in_out.old - 16) in_out.new
+            ≡ aes_decrypted self.old.key.bytes nonce (take (length in_out.old - 16) in_out.old))) }
+        ensures refused { OnErr result (in_out.new ≡ in_out.old) }
+        ensures gives { OnOk result (N.gives self.old.sequence self.new.sequence) }
+        ensures stands { OnErr result
+            (N.refuses self.old.sequence self.new.sequence ⊎ N.gives self.old.sequence self.new.sequence) }
     {
         self.open_within_len(aad, in_out, 0..)
     }
@@ -108,6 +130,14 @@ impl<N: NonceSequence> OpeningKey<N> {
             ciphertext_and_tag.start in_out.old (lent_buffer result in_out.old) (is_ok result) }
         ensures count { IfOk result (λ plaintext.
             length plaintext.now ≡ length in_out.old - 16 - ciphertext_and_tag.start) }
+        ensures opened { ¬ N.refuses self.old.sequence self.new.sequence
+            → UnderNext (N.is_next self.old.sequence) (λ nonce. AesOpenedAttached self.old.key.bytes nonce
+            (aad_bytes aad.entry) ciphertext_and_tag.start in_out.old (is_ok result) (lent_buffer result in_out.old)) }
+        ensures plaintext { IfOk result (λ plaintext. UnderNext (N.is_next self.old.sequence) (λ nonce.
+            plaintext.now ≡ aes_decrypted self.old.key.bytes nonce (drop ciphertext_and_tag.start (take (length in_out.old - 16) in_out.old)))) }
+        ensures gives { OnOk result (N.gives self.old.sequence self.new.sequence) }
+        ensures stands { OnErr result
+            (N.refuses self.old.sequence self.new.sequence ⊎ N.gives self.old.sequence self.new.sequence) }
     {
         let opened = self.open_within_len(aad, in_out, ciphertext_and_tag);
         lend_plaintext(in_out, opened)
@@ -124,6 +154,14 @@ impl<N: NonceSequence> OpeningKey<N> {
         ensures step { OpenStep N.spent N.is_closed self.old self.new (aad_bytes aad.entry)
             0 in_out.old (lent_buffer result in_out.old) (is_ok result) }
         ensures count { IfOk result (λ plaintext. length plaintext.now ≡ length in_out.old - 16) }
+        ensures opened { ¬ N.refuses self.old.sequence self.new.sequence
+            → UnderNext (N.is_next self.old.sequence) (λ nonce. AesOpenedAttached self.old.key.bytes nonce
+            (aad_bytes aad.entry) 0 in_out.old (is_ok result) (lent_buffer result in_out.old)) }
+        ensures plaintext { IfOk result (λ plaintext. UnderNext (N.is_next self.old.sequence) (λ nonce.
+            plaintext.now ≡ aes_decrypted self.old.key.bytes nonce (take (length in_out.old - 16) in_out.old))) }
+        ensures gives { OnOk result (N.gives self.old.sequence self.new.sequence) }
+        ensures stands { OnErr result
+            (N.refuses self.old.sequence self.new.sequence ⊎ N.gives self.old.sequence self.new.sequence) }
     {
         let opened = self.open_in_place_len(aad, in_out);
         lend_plaintext(in_out, opened)

@@ -1,7 +1,10 @@
 //! A key that seals with the nonces of a sequence.
-ghost use Rattle.std.specs.Prelude.{⊤, is_ok};
+ghost use Rattle.std.specs.Prelude.{◌≡◌, ◌+◌, ◌⊎◌, ⊤, length, is_ok, IsOk, IfOk, OnOk, OnErr};
 ghost use Rattle.aead_ciphers_base.specs.Values.{aad_bytes};
+ghost use Rattle.aead_ciphers.specs.AesGcm.{aes_encrypted, aes_tag, aes_sealed};
 ghost use Rattle.aead_ciphers.specs.BoundState.{Keeps};
+ghost use Rattle.aead_ciphers.specs.Gcm.{Fits};
+ghost use Rattle.aead_ciphers.specs.NonceSequence.{UnderNext};
 ghost use Rattle.aead_ciphers.specs.Steps.{SealStep, with_tag};
 
 use crate::aead::{
@@ -71,6 +74,17 @@ impl<N: NonceSequence> SealingKey<N> {
         ensures step { SealStep N.spent N.is_closed (B.may_refuse in_out.old) (B.may_grant in_out.old)
             self.old self.new (aad_bytes aad.entry) (B.bytes in_out.old) (B.bytes in_out.new)
             (is_ok result) }
+        ensures sealed { OnOk result (UnderNext (N.is_next self.old.sequence) (λ nonce. B.bytes in_out.new
+            ≡ aes_sealed self.old.key.bytes nonce (aad_bytes aad.entry) (B.bytes in_out.old))) }
+        ensures length { OnOk result (length (B.bytes in_out.new) ≡ length (B.bytes in_out.old) + 16) }
+        ensures refused { OnErr result (B.bytes in_out.new ≡ B.bytes in_out.old) }
+        ensures granted { IsOk result → B.may_grant in_out.old }
+        ensures fits { IsOk result → Fits (length (aad_bytes aad.entry)) (length (B.bytes in_out.old)) }
+        ensures gives { OnOk result (N.gives self.old.sequence self.new.sequence) }
+        ensures refuses { Fits (length (aad_bytes aad.entry)) (length (B.bytes in_out.old))
+            → ¬ B.may_refuse in_out.old → OnErr result (N.refuses self.old.sequence self.new.sequence) }
+        ensures stands { OnErr result ((self.new ≡ self.old)
+            ⊎ N.refuses self.old.sequence self.new.sequence ⊎ N.gives self.old.sequence self.new.sequence) }
     {
         in_out.grow_by_tag()?;
         match self.nonce_sequence.advance() {
@@ -95,6 +109,17 @@ impl<N: NonceSequence> SealingKey<N> {
         ensures kept { Keeps N.origin self.old self.new }
         ensures step { SealStep N.spent N.is_closed ⊥ ⊤ self.old self.new (aad_bytes aad.entry)
             in_out.old (with_tag in_out.new result) (is_ok result) }
+        ensures ciphertext { OnOk result (UnderNext (N.is_next self.old.sequence) (λ nonce. in_out.new
+            ≡ aes_encrypted self.old.key.bytes nonce in_out.old)) }
+        ensures tag { IfOk result (λ tag. UnderNext (N.is_next self.old.sequence) (λ nonce. tag
+            ≡ aes_tag self.old.key.bytes nonce (aad_bytes aad.entry) in_out.new)) }
+        ensures refused { OnErr result (in_out.new ≡ in_out.old) }
+        ensures fits { IsOk result → Fits (length (aad_bytes aad.entry)) (length in_out.old) }
+        ensures gives { OnOk result (N.gives self.old.sequence self.new.sequence) }
+        ensures refuses { Fits (length (aad_bytes aad.entry)) (length in_out.old)
+            → OnErr result (N.refuses self.old.sequence self.new.sequence) }
+        ensures stands { OnErr result
+            (N.refuses self.old.sequence self.new.sequence ⊎ N.gives self.old.sequence self.new.sequence) }
     {
         let nonce = self.nonce_sequence.advance()?;
         self.key.seal_in_place_separate_tag(nonce, aad, in_out)

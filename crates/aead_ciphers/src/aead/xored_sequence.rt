@@ -61,13 +61,20 @@ pub fn nonce_of(iv: &[u8; NONCE_LEN], number: u64) -> Nonce
 }
 
 impl NonceSequence for XoredSequence {
-    ghost use Rattle.aead_ciphers.specs.XoredSequence.{spent_nonces, is_used_up, origin_of};
+    ghost use Rattle.std.specs.Prelude.{◌≡◌, ◌+◌, ◌<◌, ◌≤◌};
+    ghost use Rattle.aead_ciphers.specs.XoredSequence.{nonce_at, spent_nonces, is_used_up, origin_of};
 
     ghost spent = { spent_nonces };
 
     ghost is_closed = { is_used_up };
 
     ghost origin = { origin_of };
+
+    ghost gives = { λ s t. (s.used < s.count) × (t ≡ record s { used = s.used + 1 }) };
+
+    ghost refuses = { λ s t. (s.count ≤ s.used) × (t ≡ s) };
+
+    ghost is_next = { λ s nonce. nonce ≡ nonce_at s s.used };
 
     fn advance(&mut self) -> Result<Nonce, Unspecified>
         ensures ok { IfOk result (λ nonce.

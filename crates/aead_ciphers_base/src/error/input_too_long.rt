@@ -2,6 +2,8 @@
 
 ghost use Rattle.std.specs.Prelude.{◌≡◌};
 
+use std::error::Error;
+use std::fmt;
 use std::marker::Model;
 
 /// An input that is longer than what takes it allows.
@@ -31,3 +33,16 @@ impl<T> InputTooLongError<T> {
         value
     }
 }
+
+/// `input too long`.
+impl<T> fmt::Display for InputTooLongError<T> {
+    ghost use Rattle.std.specs.Prelude.{Some, codes};
+
+    ghost output = { λ _. Some (codes "input too long") };
+
+    fn fmt<W: fmt::Write>(&self, f: &mut fmt::Formatter<W>) -> fmt::Result {
+        f.write_str("input too long")
+    }
+}
+
+impl<T: fmt::Debug + Drop> Error for InputTooLongError<T> {}

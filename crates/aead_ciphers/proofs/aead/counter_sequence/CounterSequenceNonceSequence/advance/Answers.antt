@@ -1,4 +1,4 @@
-use Rattle.std.proofs.Common.{rules, arith, ◌+◌, ◌<◌, ◌^◌}
+use Rattle.std.proofs.Common.{rules, arith, ◌+◌, ◌<◌, ◌^◌, ◌∙◌}
 use Rattle.aead_ciphers.specs.CounterSequence.{Counting}
 use Rattle.aead_ciphers.proofs.CounterSequenceLemmas.{spent_nonces-next, fresh_nonce, nonce_at-is}
 use Rattle.aead_ciphers.proofs.aead.counter_sequence.CounterSequenceNonceSequence.advance.Goals as goal
@@ -13,3 +13,9 @@ returns-clause-ok c =
       fresh = rw (c.nonce_of-nonce.ensures, nonce_at-is now) (fresh_nonce now small);
       appended = rw (c.nonce_of-nonce.ensures, nonce_at-is now) (spent_nonces-next now);
     })
+
+pub returns-clause-nonce : goal.returns-clause-nonce
+returns-clause-nonce c =
+    let s = c.self.inside in
+    let now : Counting = record { prefix = s.prefix; first = s.first; count = s.count; used = s.used } in
+    rw (← c.self.view_is) (c.nonce_of-nonce.ensures ∙ nonce_at-is now)

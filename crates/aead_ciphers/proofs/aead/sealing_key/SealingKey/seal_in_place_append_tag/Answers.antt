@@ -1,7 +1,7 @@
 use Rattle.std.proofs.Common.{◌≡◌, ◌++◌, ◌-◌, ◌∙◌, length, take, replicate}
 use Rattle.std.proofs.Math.Seq.{take-append_seam}
 use Rattle.aead_ciphers.specs.Steps.{no_nonce}
-use Rattle.aead_ciphers.proofs.SealLemmas.{no_room_step, grown_less, grown_front, spent_step}
+use Rattle.aead_ciphers.proofs.SealLemmas.{no_room_step, grown_less, grown_more, grown_front, spent_step}
 use Rattle.aead_ciphers.proofs.aead.sealing_key.SealingKey.seal_in_place_append_tag.Goals as goal
 use Rattle.aead_ciphers.proofs.aead.sealing_key.SealingKey.seal_in_place_append_tag.Goals.{in-Ok, in-Err}
 
@@ -20,7 +20,17 @@ returns-clause-step g c =
     elim c.match-advance.branch [
       | in-Ok w ↦
           let made = rw (few, front) at w.seal_with_room.ensures in
-          rw (← c.self.view_is, w.in_out-is, w.result-is) (spent_step _ _ _ _ _ _ _ _ _ _ w.seal_with_room.result c.in_ok-grow_by_tag.ensures.granted w.in-Ok.ensures.ok made.accepted made.sealed made.kept)
+          rw (← c.self.view_is, w.in_out-is, w.result-is) (spent_step _ _ _ _ _ _ _ _ _ _ w.seal_with_room.result
+          c.in_ok-grow_by_tag.ensures.granted w.in-Ok.ensures.ok made.accepted made.sealed made.kept)
       | in-Err w ↦
-          rw (← c.self.view_is, w.in_out-is, w.result-is) (no_nonce c.in_ok-grow_by_tag.ensures.granted w.in-Err.ensures.err (w.cut_tag.ensures ∙ rw grown (grown_front old)))
+          rw (← c.self.view_is, w.in_out-is, w.result-is) (no_nonce c.in_ok-grow_by_tag.ensures.granted w.in-Err.ensures.err
+          (w.cut_tag.ensures ∙ rw grown (grown_front old)))
+    ]
+
+pub returns-clause-length : goal.returns-clause-length
+returns-clause-length g c =
+    let more = grown_more (g.B.InOut.bytes c.args.in_out.now) in
+    elim c.match-advance.branch [
+      | in-Ok w ↦ rw (w.in_out-is, w.result-is) (rw (c.in_ok-grow_by_tag.ensures.grown, more) at w.seal_with_room.ensures.length)
+      | in-Err w ↦ rw w.result-is tt
     ]

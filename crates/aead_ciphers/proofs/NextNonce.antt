@@ -1,0 +1,38 @@
+-- What an opening call says of the next nonce.
+use Rattle.std.proofs.Common.{◌≡◌, ℕ, ◌-◌, List, true, false, length, drop, take, is_ok, IfOk, OnOk, OnErr, Ok, Err, Result, refl, subst, ◌∙◌}
+use Rattle.std.specs.Borrow.{MutBor}
+use Rattle.aead_ciphers_base.specs.Aes.{aes}
+use Rattle.aead_ciphers.specs.AesGcm.{aes_decrypted, AesOpenedAttached}
+use Rattle.aead_ciphers.specs.NonceSequence.{UnderNext}
+use Rattle.aead_ciphers.proofs.FrontLemmas.{attached_plaintext}
+
+-- the plaintext under the nonce that was given is that under the next one
+pub plaintext_next : {E : Type 0} (is_next : List ℕ → Type 0) (key nonce aad : List ℕ) (start : ℕ) (old new : List ℕ) (answer : Result ℕ E)
+    → UnderNext is_next (λ next. nonce ≡ next) → AesOpenedAttached key nonce aad start old (is_ok answer) new
+    → OnOk answer (UnderNext is_next (λ next. take (length old - 16 - start) new ≡ aes_decrypted key next (drop start (take (length old - 16) old))))
+plaintext_next {E} is_next key nonce aad start old new (Ok n) is opened = λ next given.
+    let here : take (length old - 16 - start) new ≡ aes_decrypted key nonce (drop start (take (length old - 16) old)) =
+    attached_plaintext (aes key) nonce aad start old new (length old - 16 - start) refl {E = E} (Ok n) opened in
+    subst (λ (x : List ℕ). take (length old - 16 - start) new ≡ aes_decrypted key x (drop start (take (length old - 16) old))) (is next given) here
+plaintext_next is_next key nonce aad start old new (Err e) is opened = tt
+
+-- what holds where the core accepts holds where the call accepts
+pub on_ok : {X Y E F : Type 0} (P : Type 0) (answer : Result X E) (result : Result Y F) → is_ok answer ≡ is_ok result → OnOk answer P → OnOk result P
+on_ok P (Ok x) (Ok y) same h = h
+on_ok P answer (Err f) same h = tt
+on_ok P (Err e) (Ok y) same h = let no : false ≡ true = same in absurd (cc)
+
+-- what holds where the core refuses holds where the call refuses
+pub on_err : {X Y E F : Type 0} (P : Type 0) (answer : Result X E) (result : Result Y F) → is_ok answer ≡ is_ok result → OnErr answer P → OnErr result P
+on_err P (Err e) (Err f) same h = h
+on_err P answer (Ok y) same h = tt
+on_err P (Ok x) (Err f) same h = let no : true ≡ false = same in absurd (cc)
+
+-- what is lent is the plaintext under the next nonce
+pub lent_next : {X E F : Type 0} (is_next : List ℕ → Type 0) (plaintext : List ℕ → List ℕ) (front : List ℕ) (answer : Result X E)
+    (result : Result (MutBor (List ℕ)) F) → is_ok answer ≡ is_ok result → IfOk result (λ lent. lent.now ≡ front)
+    → OnOk answer (UnderNext is_next (λ next. front ≡ plaintext next))
+    → IfOk result (λ lent. UnderNext is_next (λ next. lent.now ≡ plaintext next))
+lent_next is_next plaintext front (Ok x) (Ok lent) same value h = λ next given. value ∙ h next given
+lent_next is_next plaintext front answer (Err f) same value h = tt
+lent_next is_next plaintext front (Err e) (Ok lent) same value h = let no : false ≡ true = same in absurd (cc)
