@@ -1,7 +1,7 @@
-use Rattle.std.proofs.Common.{◌≡◌, ℕ, List, ◌++◌, length, refl, ap, ◌∙◌}
+use Rattle.std.proofs.Common.{◌≡◌, ◌++◌, refl, ap, ◌∙◌}
 use Rattle.aead_ciphers.specs.XoredSequence.{xored_nonce}
 use Rattle.quic_packets.specs.Keys.{Receiving}
-use Rattle.quic_packets.specs.Packet.{HasPayload, IsGenuine, opened_packet}
+use Rattle.quic_packets.specs.Packet.{IsGenuine, opened_packet}
 use Rattle.quic_packets.proofs.OpenLemmas.{accepted, refused}
 use Rattle.quic_packets.proofs.receive.ReceiveKey.open.Goals as goal
 
