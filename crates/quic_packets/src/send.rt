@@ -42,8 +42,8 @@ impl Model for SendKey {
 }
 
 impl SendKey {
-    /// The key of these bytes, for the packets from number `first` on. `iv` is the IV of the packet protection keys (RFC
-    /// 9001 section 5.1).
+    /// The key of these bytes, for the packets from number `first` on. `iv` is the IV of the packet protection keys
+    /// (RFC 9001 section 5.1).
     pub fn new(
         algorithm: &'static Algorithm,
         key: &[u8],
@@ -76,8 +76,8 @@ impl SendKey {
         self.next
     }
 
-    /// Encrypts the payload in place, writes the tag over the last 16 bytes, and answers the packet's number. The header
-    /// stays, to be masked by a `HeaderKey`.
+    /// Encrypts the payload in place, writes the tag over the last 16 bytes, and answers the packet's number. The
+    /// header stays, to be masked by a `HeaderKey`.
     ///
     /// `number` is where the header holds the packet number: it ends the header.
     pub fn seal(&mut self, packet: &mut [u8], number: Range<usize>) -> Result<u64, PacketError>
