@@ -1,0 +1,4 @@
+-- What the contracts cite.
+pub mod Header
+pub mod Keys
+pub mod Packet

@@ -1,0 +1,36 @@
+//! Why a call refuses.
+
+use thiserror::Error;
+
+/// Why a call refuses. Each refusal leaves the packet and the key as they came.
+#[derive(Clone, Copy, PartialEq, Eq, Debug, Drop, Error)]
+pub enum PacketError {
+    /// The algorithm's keys have another length.
+    #[error("the key hasn't the length of the algorithm's keys")]
+    KeyLength,
+    /// The packet number begins at byte 0, which is the first byte of every header.
+    #[error("a packet number can't begin at the header's first byte")]
+    NumberAtFirstByte,
+    /// The packet number hasn't the length that the header's first byte gives it (RFC 9000 sections 17.2 and 17.3.1).
+    #[error("the header's first byte gives the packet number another length")]
+    NumberLength,
+    /// The header holds another packet number than the next one.
+    #[error("the header holds another packet number than the next one")]
+    OtherNumber,
+    /// The packet ends before the 16 bytes that stand 4 bytes behind the packet number's first byte (RFC 9001
+    /// section 5.4.2).
+    #[error("the packet is too short for a sample of header protection")]
+    NoSample,
+    /// The packet has fewer bytes than its header and a tag.
+    #[error("the packet is shorter than its header and a tag")]
+    TooShort,
+    /// The payload has more than 2^36 - 32 bytes, or the header 2^61 or more (SP 800-38D section 5.2.1.1).
+    #[error("the packet is longer than AES-GCM takes")]
+    TooLong,
+    /// The packet numbers end at 2^62 (RFC 9000 section 12.3).
+    #[error("no packet has this number: packet numbers end at 2^62")]
+    NumbersEnded,
+    /// The tag is another than that of the header, the payload and the number under this key.
+    #[error("the packet's tag isn't the one of its header, its payload and its number")]
+    Refused,
+}

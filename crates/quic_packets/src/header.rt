@@ -1,0 +1,131 @@
+//! Header protection (RFC 9001 section 5.4).
+
+ghost use Rattle.std.specs.Prelude.{◌≡◌, ℕ, ◌+◌, ◌<◌, ◌≤◌, ◌↔◌, ◌⊎◌, length, IsOk, IfOk, OnOk, OnErr, IsErrOf, IsOkUnless, bit_xor, slice_index};
+ghost use Rattle.aead_ciphers.specs.HeaderProtection.{key_len};
+ghost use Rattle.quic_packets.specs.Header.{HasSample, Protected, Unprotected, first_mask, mask_of, number_len};
+
+use crate::error::PacketError;
+use aead_ciphers::aead::quic::{Algorithm, HeaderProtectionKey};
+use std::marker::Model;
+
+/// A sample begins this many bytes behind the first byte of the packet number, as if that had four bytes.
+const MAX_NUMBER_LEN: usize = 4;
+
+const SAMPLE_LEN: usize = 16;
+
+/// A key that masks and unmasks headers. One serves both ways, and a packet's number isn't needed.
+#[derive(Drop)]
+pub struct HeaderKey {
+    key: HeaderProtectionKey,
+}
+
+impl Model for HeaderKey {
+    ghost Value = { Rattle.aead_ciphers.specs.HeaderProtection.HeaderKey };
+
+    ghost view = { λ key. key.key };
+}
+
+impl HeaderKey {
+    /// The key of these bytes.
+    pub fn new(algorithm: &Algorithm, key: &[u8]) -> Result<Self, PacketError>
+        ensures accepted { IsOk result ↔ (length key.now ≡ key_len algorithm.now) }
+        ensures refused { IsOkUnless result PacketError.KeyLength }
+        ensures algorithm { IfOk result (λ made. made.algorithm ≡ algorithm.now) }
+        ensures bytes { IfOk result (λ made. made.bytes ≡ key.now) }
+    {
+        match HeaderProtectionKey::new(algorithm, key) {
+            Ok(key) => Ok(HeaderKey { key }),
+            Err(_) => Err(PacketError::KeyLength),
+        }
+    }
+
+    /// Masks the header of a sealed packet, whose number begins at byte `number_at`: four bits of the first byte of a
+    /// long header, five of a short one, and the bytes of the packet number.
+    pub fn protect(&self, packet: &mut [u8], number_at: usize) -> Result<(), PacketError>
+        ensures accepted { IsOk result ↔ HasSample number_at (length packet.old) }
+        ensures first_byte { IsErrOf result PacketError.NumberAtFirstByte ↔ (number_at ≡ 0) }
+        ensures no_sample { IsErrOf result PacketError.NoSample
+            ↔ ((0 < number_at) × (length packet.old < number_at + 20)) }
+        ensures protected { OnOk result (Protected self.now number_at packet.old packet.new) }
+        ensures kept { OnErr result (packet.new ≡ packet.old) }
+    {
+        let mask = self.mask(packet, number_at)?;
+        let first = packet[0];
+        packet[0] = first ^ first_mask(first, mask[0]);
+        mask_number(packet, number_at, number_len(first), &mask);
+        Ok(())
+    }
+
+    /// Unmasks the header of a packet that was received, whose number begins at byte `number_at`, and answers how many
+    /// bytes the packet number has. Whether the packet is genuine is only known once it is opened.
+    pub fn unprotect(&self, packet: &mut [u8], number_at: usize) -> Result<usize, PacketError>
+        ensures accepted { IsOk result ↔ HasSample number_at (length packet.old) }
+        ensures first_byte { IsErrOf result PacketError.NumberAtFirstByte ↔ (number_at ≡ 0) }
+        ensures no_sample { IsErrOf result PacketError.NoSample
+            ↔ ((0 < number_at) × (length packet.old < number_at + 20)) }
+        ensures unprotected { OnOk result (Unprotected self.now number_at packet.old packet.new) }
+        ensures number_len { IfOk result (λ n. n ≡ number_len (slice_index packet.new 0)) }
+        ensures kept { OnErr result (packet.new ≡ packet.old) }
+    {
+        let mask = self.mask(packet, number_at)?;
+        let first = packet[0] ^ first_mask(packet[0], mask[0]);
+        packet[0] = first;
+        let number_len = number_len(first);
+        mask_number(packet, number_at, number_len, &mask);
+        Ok(number_len)
+    }
+
+    // The mask of the packet's sample.
+    fn mask(&self, packet: &[u8], number_at: usize) -> Result<[u8; 5], PacketError>
+        ensures accepted { IsOk result ↔ HasSample number_at (length packet.now) }
+        ensures first_byte { IsErrOf result PacketError.NumberAtFirstByte ↔ (number_at ≡ 0) }
+        ensures no_sample { IsErrOf result PacketError.NoSample
+            ↔ ((0 < number_at) × (length packet.now < number_at + 20)) }
+        ensures mask { IfOk result (λ mask. mask ≡ mask_of self.now number_at packet.now) }
+    {
+        if number_at == 0 {
+            return Err(PacketError::NumberAtFirstByte);
+        }
+        let needed = MAX_NUMBER_LEN + SAMPLE_LEN;
+        if packet.len() < needed || packet.len() - needed < number_at {
+            return Err(PacketError::NoSample);
+        }
+        let sample_at = number_at + MAX_NUMBER_LEN;
+        self.key
+            .new_mask(&packet[sample_at..sample_at + SAMPLE_LEN])
+            .map_err(|_| PacketError::NoSample)
+    }
+}
+
+/// The bytes in the packet number, by the unmasked first byte.
+pub(crate) fn number_len(first: u8) -> usize
+    ensures is { result ≡ number_len first }
+    ensures few { (0 < result) × (result ≤ 4) }
+{
+    (first & 0x03) as usize + 1
+}
+
+// What the first byte is XORed with, by its highest bit and the mask's first byte.
+fn first_mask(first: u8, mask: u8) -> u8
+    ensures { result ≡ first_mask first mask }
+{
+    if first & 0x80 == 0x80 {
+        mask & 0x0f
+    } else {
+        mask & 0x1f
+    }
+}
+
+// XORs the packet number with the mask's bytes from the second on.
+fn mask_number(packet: &mut [u8], number_at: usize, number_len: usize, mask: &[u8; 5])
+    requires within { number_at + number_len ≤ length packet.old }
+    requires few { number_len ≤ 4 }
+    ensures number { (i : ℕ) → i < number_len → slice_index packet.new (number_at + i)
+        ≡ bit_xor (slice_index packet.old (number_at + i)) (slice_index mask.now (i + 1)) }
+    ensures others { (i : ℕ) → (i < number_at) ⊎ (number_at + number_len ≤ i)
+        → slice_index packet.new i ≡ slice_index packet.old i }
+{
+    for i in 0..number_len {
+        packet[number_at + i] ^= mask[i + 1];
+    }
+}

@@ -1,0 +1,19 @@
+//! Packet protection of QUIC version 1 (RFC 9001 section 5) under keys that are given: nothing is derived here.
+//!
+//! A packet is one slice: the header, which ends with the packet number, the payload, and 16 bytes for the tag.
+#![tactic(auto)]
+
+mod error;
+mod header;
+pub mod laws;
+mod packet;
+mod receive;
+mod send;
+
+pub use error::PacketError;
+pub use header::HeaderKey;
+pub use receive::ReceiveKey;
+pub use send::SendKey;
+
+#[cfg(test)]
+mod tests;

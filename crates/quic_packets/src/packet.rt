@@ -1,0 +1,35 @@
+//! What sealing and opening share.
+
+ghost use Rattle.std.specs.Prelude.{◌≡◌, ◌+◌, ◌-◌, ◌<◌, ◌≤◌, ◌↔◌, length, IsOk, IfOk, IsErrOf};
+ghost use Rattle.aead_ciphers.specs.Gcm.{Fits};
+ghost use Rattle.quic_packets.specs.Packet.{HasPayload};
+
+use crate::error::PacketError;
+use aead_ciphers::aead::MAX_TAG_LEN;
+
+/// The first number that no packet has (RFC 9000 section 12.3).
+pub(crate) const NUMBERS_END: u64 = 1 << 62;
+
+/// The longest payload in bytes (SP 800-38D section 5.2.1.1).
+const MAX_PAYLOAD_LEN: usize = (1 << 36) - 32;
+
+/// The longest header in bytes (SP 800-38D section 5.2.1.1).
+const MAX_HEADER_LEN: usize = (1 << 61) - 1;
+
+/// The bytes between the header and the tag.
+pub(crate) fn payload_len(packet: &[u8], header_len: usize) -> Result<usize, PacketError>
+    ensures accepted { IsOk result ↔ HasPayload header_len (length packet.now) }
+    ensures too_short { IsErrOf result PacketError.TooShort ↔ (length packet.now < header_len + 16) }
+    ensures too_long { IsErrOf result PacketError.TooLong
+        ↔ ((header_len + 16 ≤ length packet.now) × ¬ Fits header_len (length packet.now - 16 - header_len)) }
+    ensures len { IfOk result (λ n. n ≡ length packet.now - 16 - header_len) }
+{
+    if packet.len() < MAX_TAG_LEN || packet.len() - MAX_TAG_LEN < header_len {
+        return Err(PacketError::TooShort);
+    }
+    let payload_len = packet.len() - MAX_TAG_LEN - header_len;
+    if payload_len > MAX_PAYLOAD_LEN || header_len > MAX_HEADER_LEN {
+        return Err(PacketError::TooLong);
+    }
+    Ok(payload_len)
+}

@@ -1,0 +1,90 @@
+//! Opening packets (RFC 9001 section 5.3).
+
+ghost use Rattle.std.specs.Prelude.{◌≡◌, ◌≢◌, ◌+◌, ◌-◌, ◌^◌, ◌<◌, ◌≤◌, ◌↔◌, length, IsOk, IfOk, IsOkUnless, IsErrOf, OnOk, OnErr};
+ghost use Rattle.aead_ciphers.specs.Algorithm.{key_len};
+ghost use Rattle.aead_ciphers.specs.Gcm.{Fits};
+ghost use Rattle.quic_packets.specs.Packet.{HasPayload, IsGenuine, IsNumber, opened_packet};
+
+use crate::error::PacketError;
+use crate::packet::{NUMBERS_END, payload_len};
+use aead_ciphers::aead::{Aad, Algorithm, LessSafeKey, NONCE_LEN, UnboundKey, nonce_of};
+use std::marker::Model;
+
+/// A key that opens packets, in any order and each as often as it comes.
+///
+/// It draws no nonces from a sequence: packets come in any order, and a forged packet must not spend the nonce of the
+/// true one. So it stands on a `LessSafeKey`, and the number of each packet is the caller's to say.
+#[derive(Drop)]
+pub struct ReceiveKey {
+    key: LessSafeKey,
+    iv: [u8; NONCE_LEN],
+}
+
+impl Model for ReceiveKey {
+    ghost use Rattle.quic_packets.specs.Keys.{Receiving};
+
+    ghost Value = { Receiving };
+
+    ghost view = { λ key. record { algorithm = key.key.algorithm; bytes = key.key.bytes; iv = key.iv } };
+}
+
+impl ReceiveKey {
+    /// The key of these bytes. `iv` is the IV of the packet protection keys (RFC 9001 section 5.1).
+    pub fn new(
+        algorithm: &'static Algorithm,
+        key: &[u8],
+        iv: [u8; NONCE_LEN],
+    ) -> Result<Self, PacketError>
+        ensures accepted { IsOk result ↔ (length key.now ≡ key_len algorithm.now) }
+        ensures refused { IsOkUnless result PacketError.KeyLength }
+        ensures made { IfOk result (λ made. made
+            ≡ record { algorithm = algorithm.now; bytes = key.now; iv = iv }) }
+    {
+        match UnboundKey::new(algorithm, key) {
+            Ok(key) => Ok(ReceiveKey {
+                key: LessSafeKey::new(key),
+                iv,
+            }),
+            Err(_) => Err(PacketError::KeyLength),
+        }
+    }
+
+    /// Opens the packet with this number, whose header, unmasked, has `header_len` bytes, and answers the length of the
+    /// payload: it stands behind the header, in plain, and the tag stays behind it.
+    pub fn open(
+        &self,
+        packet: &mut [u8],
+        header_len: usize,
+        number: u64,
+    ) -> Result<usize, PacketError>
+        ensures accepted { IsOk result ↔ (HasPayload header_len (length packet.old) × IsNumber number
+            × IsGenuine self.now.bytes self.now.iv number header_len packet.old) }
+        ensures too_short { IsErrOf result PacketError.TooShort ↔ (length packet.old < header_len + 16) }
+        ensures too_long { IsErrOf result PacketError.TooLong
+            ↔ ((header_len + 16 ≤ length packet.old)
+            × ¬ Fits header_len (length packet.old - 16 - header_len)) }
+        ensures ended { IsErrOf result PacketError.NumbersEnded
+            ↔ (HasPayload header_len (length packet.old) × (2 ^ 62 ≤ number)) }
+        ensures forged { IsErrOf result PacketError.Refused
+            ↔ (HasPayload header_len (length packet.old) × IsNumber number
+            × ¬ IsGenuine self.now.bytes self.now.iv number header_len packet.old) }
+        ensures opened { OnOk result (packet.new
+            ≡ opened_packet self.now.bytes self.now.iv number header_len packet.old) }
+        ensures payload_len { IfOk result (λ n. n ≡ length packet.old - 16 - header_len) }
+        ensures kept { OnErr result (packet.new ≡ packet.old) }
+    {
+        let payload_len = payload_len(packet, header_len)?;
+        if number >= NUMBERS_END {
+            return Err(PacketError::NumbersEnded);
+        }
+        let (header, sealed) = packet.split_at_mut(header_len);
+        let nonce = nonce_of(&self.iv, number);
+        match self
+            .key
+            .open_in_place_len(nonce, Aad::from(&*header), sealed)
+        {
+            Ok(_) => Ok(payload_len),
+            Err(_) => Err(PacketError::Refused),
+        }
+    }
+}

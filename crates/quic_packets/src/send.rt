@@ -1,0 +1,166 @@
+//! Sealing packets (RFC 9001 section 5.3).
+
+ghost use Rattle.std.specs.Prelude.{◌≡◌, ◌≢◌, ◌+◌, ◌-◌, ◌^◌, ◌<◌, ◌≤◌, ◌↔◌, length, slice_index, IsOk, IfOk, IsErrOf, IsTrue, OnOk, OnErr};
+ghost use Rattle.aead_ciphers.specs.Algorithm.{key_len};
+ghost use Rattle.aead_ciphers.specs.Gcm.{Fits};
+ghost use Rattle.quic_packets.specs.Header.{number_len};
+ghost use Rattle.quic_packets.specs.Packet.{CarriesNumber, HasNumber, HasPayload, IsNumber, low_bytes, sealed_packet};
+
+use crate::error::PacketError;
+use crate::header::number_len;
+use crate::packet::{NUMBERS_END, payload_len};
+use aead_ciphers::aead::{
+    Aad, Algorithm, BoundKey, NONCE_LEN, SealingKey, UnboundKey, XoredSequence,
+};
+use std::marker::Model;
+use std::ops::Range;
+
+/// A key that seals packets, each with the next packet number.
+///
+/// It counts the numbers itself, so no nonce comes twice under it.
+#[derive(Drop)]
+pub struct SendKey {
+    key: SealingKey<XoredSequence>,
+    next: u64,
+}
+
+impl Model for SendKey {
+    ghost use Rattle.std.specs.Prelude.{◌≡◌, ◌+◌, ◌^◌, ◌≤◌};
+    ghost use Rattle.quic_packets.specs.Keys.{Sending};
+
+    ghost Value = { Sending };
+
+    ghost view = { λ key. record {
+      algorithm = key.key.key.algorithm;
+      bytes = key.key.key.bytes;
+      iv = key.key.sequence.iv;
+      next = key.next;
+    } };
+
+    ghost invariant = { λ key. (key.next ≡ key.key.sequence.first + key.key.sequence.used)
+        × (key.key.sequence.first + key.key.sequence.count ≡ 2 ^ 62) × (key.next ≤ 2 ^ 62) };
+}
+
+impl SendKey {
+    /// The key of these bytes, for the packets from number `first` on. `iv` is the IV of the packet protection keys
+    /// (RFC 9001 section 5.1).
+    pub fn new(
+        algorithm: &'static Algorithm,
+        key: &[u8],
+        iv: [u8; NONCE_LEN],
+        first: u64,
+    ) -> Result<Self, PacketError>
+        ensures accepted { IsOk result ↔ ((length key.now ≡ key_len algorithm.now) × (first ≤ 2 ^ 62)) }
+        ensures key_len { IsErrOf result PacketError.KeyLength ↔ (length key.now ≢ key_len algorithm.now) }
+        ensures ended { IsErrOf result PacketError.NumbersEnded
+            ↔ ((length key.now ≡ key_len algorithm.now) × (2 ^ 62 < first)) }
+        ensures made { IfOk result (λ made. made
+            ≡ record { algorithm = algorithm.now; bytes = key.now; iv = iv; next = first }) }
+    {
+        let Ok(key) = UnboundKey::new(algorithm, key) else {
+            return Err(PacketError::KeyLength);
+        };
+        let Ok(sequence) = XoredSequence::new(iv, first, NUMBERS_END) else {
+            return Err(PacketError::NumbersEnded);
+        };
+        Ok(SendKey {
+            key: SealingKey::new(key, sequence),
+            next: first,
+        })
+    }
+
+    /// The number of the next packet, whose low bytes its header has to hold; 2^62 where no number is left.
+    pub fn next_number(&self) -> u64
+        ensures { result ≡ self.now.next }
+    {
+        self.next
+    }
+
+    /// Encrypts the payload in place, writes the tag over the last 16 bytes, and answers the packet's number. The
+    /// header stays, to be masked by a `HeaderKey`.
+    ///
+    /// `number` is where the header holds the packet number: it ends the header.
+    pub fn seal(&mut self, packet: &mut [u8], number: Range<usize>) -> Result<u64, PacketError>
+        ensures accepted { IsOk result ↔ (HasPayload number.end (length packet.old)
+            × HasNumber number.start number.end packet.old × IsNumber self.old.next
+            × CarriesNumber self.old.next number.start number.end packet.old) }
+        ensures too_short { IsErrOf result PacketError.TooShort ↔ (length packet.old < number.end + 16) }
+        ensures too_long { IsErrOf result PacketError.TooLong ↔ ((number.end + 16 ≤ length packet.old)
+            × ¬ Fits number.end (length packet.old - 16 - number.end)) }
+        ensures first_byte { IsErrOf result PacketError.NumberAtFirstByte
+            ↔ (HasPayload number.end (length packet.old) × (number.start ≡ 0)) }
+        ensures number_length { IsErrOf result PacketError.NumberLength
+            ↔ (HasPayload number.end (length packet.old) × (0 < number.start)
+            × (number.end ≢ number.start + number_len (slice_index packet.old 0))) }
+        ensures ended { IsErrOf result PacketError.NumbersEnded ↔ (HasPayload number.end (length packet.old)
+            × HasNumber number.start number.end packet.old × (self.old.next ≡ 2 ^ 62)) }
+        ensures other_number { IsErrOf result PacketError.OtherNumber
+            ↔ (HasPayload number.end (length packet.old) × HasNumber number.start number.end packet.old
+            × IsNumber self.old.next × ¬ CarriesNumber self.old.next number.start number.end packet.old) }
+        ensures sealed { OnOk result (packet.new
+            ≡ sealed_packet self.old.bytes self.old.iv self.old.next number.end packet.old) }
+        ensures number { IfOk result (λ n. n ≡ self.old.next) }
+        ensures counted { OnOk result (self.new ≡ record self.old { next = self.old.next + 1 }) }
+        ensures kept { OnErr result (packet.new ≡ packet.old) }
+        ensures key_kept { OnErr result (self.new ≡ self.old) }
+    {
+        let header_len = number.end;
+        let payload_len = payload_len(packet, header_len)?;
+        check_number(packet, number, self.next)?;
+        let (header, rest) = packet.split_at_mut(header_len);
+        let (payload, room) = rest.split_at_mut(payload_len);
+        match self
+            .key
+            .seal_in_place_separate_tag(Aad::from(&*header), payload)
+        {
+            Ok(tag) => {
+                room.copy_from_slice(tag.as_ref());
+                let number = self.next;
+                self.next += 1;
+                Ok(number)
+            }
+            Err(_) => Err(PacketError::NumbersEnded),
+        }
+    }
+}
+
+// That the header ends with the packet number `next`, and that a packet may have it.
+fn check_number(packet: &[u8], number: Range<usize>, next: u64) -> Result<(), PacketError>
+    requires len { number.end + 16 ≤ length packet.now }
+    requires next { next ≤ 2 ^ 62 }
+    ensures accepted { IsOk result ↔ (HasNumber number.start number.end packet.now
+        × IsNumber next × CarriesNumber next number.start number.end packet.now) }
+    ensures first_byte { IsErrOf result PacketError.NumberAtFirstByte ↔ (number.start ≡ 0) }
+    ensures number_length { IsErrOf result PacketError.NumberLength ↔ ((0 < number.start)
+        × (number.end ≢ number.start + number_len (slice_index packet.now 0))) }
+    ensures ended { IsErrOf result PacketError.NumbersEnded
+        ↔ (HasNumber number.start number.end packet.now × (next ≡ 2 ^ 62)) }
+    ensures other_number { IsErrOf result PacketError.OtherNumber
+        ↔ (HasNumber number.start number.end packet.now × IsNumber next
+        × ¬ CarriesNumber next number.start number.end packet.now) }
+    ensures others { ¬ IsErrOf result PacketError.TooShort × ¬ IsErrOf result PacketError.TooLong }
+{
+    if number.start == 0 {
+        return Err(PacketError::NumberAtFirstByte);
+    }
+    let len = number_len(packet[0]);
+    if number.end < number.start || number.end - number.start != len {
+        return Err(PacketError::NumberLength);
+    }
+    if next >= NUMBERS_END {
+        return Err(PacketError::NumbersEnded);
+    }
+    if !are_low_bytes(&packet[number.start..number.end], next) {
+        return Err(PacketError::OtherNumber);
+    }
+    Ok(())
+}
+
+// Whether the bytes are the low ones of a number, the highest first.
+fn are_low_bytes(bytes: &[u8], number: u64) -> bool
+    requires { length bytes.now ≤ 8 }
+    ensures { IsTrue result ↔ (bytes.now ≡ low_bytes (length bytes.now) number) }
+{
+    let all = number.to_be_bytes();
+    bytes == &all[all.len() - bytes.len()..]
+}
