@@ -1,0 +1,7 @@
+pub mod ChunkLemmas
+pub mod FileLemmas
+pub mod OpenLemmas
+pub mod PieceLemmas
+pub mod SealLemmas
+pub mod StreamLemmas
+pub mod TagLemmas
