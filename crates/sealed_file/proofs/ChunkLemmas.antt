@@ -1,19 +1,28 @@
 -- What the calls for one chunk say.
-use Rattle.std.proofs.Common.{◌≡◌, ℕ, Bool, true, false, inl, inr, ◌+◌, ◌-◌, ◌<◌, ◌≤◌, List, [], ◌++◌, length, take, drop, map, get_or, refl, sym, ap, subst, ◌∙◌, arith, append-nil}
+use Rattle.std.proofs.Common.{◌≡◌, ℕ, Bool, true, false, inl, inr, ◌+◌, ◌-◌, ◌<◌, ◌≤◌, List, [], ◌++◌, length, take, drop, map, get_or, refl, sym, ap, ap₂, subst, ◌∙◌, arith, append-nil}
 use Rattle.std.specs.List.{range_with_len}
 use Rattle.std.proofs.lemmas.Bool.{cases_lt}
 use Rattle.std.proofs.lemmas.List.{drop_all, length-take-le, take_at}
 use Rattle.std.proofs.lemmas.List.FromFn.{fill_by_all}
 use Rattle.aead_ciphers_base.specs.Aes.{aes}
 use Rattle.aead_ciphers_base.proofs.CounterModeLemmas.{length-counter_mode}
-use Rattle.aead_ciphers.specs.AesGcm.{aes_decrypted, aes_tag, AesOpenedAttached}
+use Rattle.aead_ciphers.specs.AesGcm.{aes_encrypted, aes_decrypted, aes_sealed, aes_tag, AesOpenedAttached}
 use Rattle.aead_ciphers.proofs.OpenedLemmas.{Accepted, opened_accepted}
-use Rattle.sealed_file.specs.Format.{chunk_nonce, header}
+use Rattle.sealed_file.specs.Format.{chunk_nonce, header, sealed_chunk}
 use Rattle.sealed_file.specs.Opening.{HasTag, ciphertext_of, opened_chunk}
 
 -- a list by its items
 pub items : (n : ℕ) (xs : List ℕ) → length xs ≡ n → xs ≡ map (λ i. get_or xs i 0) (range_with_len 0 n)
 items n xs h = fill_by_all (λ i. get_or xs i 0) xs n 0 h (λ k _. refl)
+
+-- a ciphertext and its tag are a sealed chunk
+pub sealed_is : (key prefix : List ℕ) (number : ℕ) (is_last : Bool) (inner nonce aad old new tag : List ℕ) → inner ≡ key → nonce ≡ chunk_nonce prefix number is_last
+    → aad ≡ header prefix → new ≡ aes_encrypted inner nonce old → tag ≡ aes_tag inner nonce aad new → new ++ tag ≡ sealed_chunk key prefix number is_last old
+unfolding sealed_chunk
+sealed_is key prefix number is_last inner nonce aad old new tag k_is n_is a_is e f =
+    ap₂ (λ (xs ys : List ℕ). xs ++ ys) e (f ∙ ap (aes_tag inner nonce aad) e)
+    ∙ ap (λ (k : List ℕ). aes_sealed k nonce aad old) k_is ∙ ap (λ (n : List ℕ). aes_sealed key n aad old) n_is
+    ∙ ap (λ (a : List ℕ). aes_sealed key (chunk_nonce prefix number is_last) a old) a_is
 
 module _ (key prefix : List ℕ) (number : ℕ) (is_last : Bool) (inner nonce aad old new : List ℕ) (k_is : inner ≡ key) (n_is : nonce ≡ chunk_nonce prefix number is_last) (a_is : aad ≡ header prefix)
     (opened : AesOpenedAttached inner nonce aad 0 old true new) where
@@ -31,8 +40,8 @@ module _ (key prefix : List ℕ) (number : ℕ) (is_last : Bool) (inner nonce aa
   opened_has_tag = record {
     size = size;
     tag = subst (λ (a : List ℕ). drop (length old - 16) old ≡ aes_tag key (chunk_nonce prefix number is_last) a (ciphertext_of old)) a_is
-    (subst (λ (x : List ℕ). drop (length old - 16) old ≡ aes_tag key x aad (ciphertext_of old)) n_is
-    (subst (λ (k : List ℕ). drop (length old - 16) old ≡ aes_tag k nonce aad (ciphertext_of old)) k_is accepted.right_tag));
+        (subst (λ (x : List ℕ). drop (length old - 16) old ≡ aes_tag key x aad (ciphertext_of old)) n_is
+        (subst (λ (k : List ℕ). drop (length old - 16) old ≡ aes_tag k nonce aad (ciphertext_of old)) k_is accepted.right_tag));
   }
 
   -- and stands decrypted at the front

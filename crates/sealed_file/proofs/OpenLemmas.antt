@@ -35,31 +35,38 @@ unfolding opened_chunks
 chunks_more key file n = joined_more (λ i. opened_chunk key (prefix_of file) i (i == last_chunk file) (piece 65552 (body_of file) i)) n
 
 -- the header was read, and then the first chunk
-pub open_start : (key prefix file bytes chunk : List ℕ) (between rest old : Option (List ℕ)) → TakesFront 16 file bytes between → HasHeader bytes → prefix ≡ drop 9 bytes
+pub open_start : (key prefix file bytes read_bytes chunk : List ℕ) (between rest old : Option (List ℕ)) → bytes ≡ read_bytes → TakesFront 16 file read_bytes between
+    → HasHeader bytes → prefix ≡ drop 9 bytes
     → IfSome between (λ left. TakesFront 65552 left chunk rest) → Opening key prefix file 0 chunk rest old old
-open_start key prefix file bytes chunk between rest old first has prefix_is read =
+open_start key prefix file bytes read_bytes chunk between rest old same first has prefix_is read =
+    let taken : bytes ≡ take 16 file = same ∙ first.piece_is in
     let P : Option (List ℕ) → Type 0 = λ o. IfSome o (λ left. TakesFront 65552 left chunk rest) in
     record {
       front = record {
-        size = let h = has.size in let e = ap length first.piece_is in let k = length-take 16 file in omega (arith, h, e, k);
-        right = sym (take-take 9 16 file (omega arith)) ∙ ap (take 9) (sym first.piece_is) ∙ has.right;
+        size = let h = has.size in let e = ap length taken in let k = length-take 16 file in omega (arith, h, e, k);
+        right = sym (take-take 9 16 file (omega arith)) ∙ ap (take 9) (sym taken) ∙ has.right;
       };
-      prefix_is = prefix_is ∙ ap (drop 9) first.piece_is;
+      prefix_is = prefix_is ∙ ap (drop 9) taken;
       right = none_right key file;
       at = first_read 65552 (body_of file) chunk rest (subst P first.left read);
       written = subst (Appends old old) (sym (none_opened key file)) (Appends-nil old);
     }
 
 -- the header is wrong
-pub header_refused : (key file bytes : List ℕ) (rest : Option (List ℕ)) (error : FileError) → TakesFront 16 file bytes rest → HeaderRefuses bytes error → OpenRefuses key file error
-header_refused key file bytes rest KeyLength read h = absurd h
-header_refused key file bytes rest AnotherMagic read h = inl (subst (λ (l : List ℕ). HeaderRefuses l AnotherMagic) read.piece_is h)
-header_refused key file bytes rest (AnotherVersion v) read h = inl (subst (λ (l : List ℕ). HeaderRefuses l (AnotherVersion v)) read.piece_is h)
-header_refused key file bytes rest EndsEarly read h = inl (subst (λ (l : List ℕ). HeaderRefuses l EndsEarly) read.piece_is h)
-header_refused key file bytes rest BytesBehind read h = absurd h
-header_refused key file bytes rest (Refused n) read h = absurd h
-header_refused key file bytes rest TooLong read h = absurd h
-header_refused key file bytes rest (Io e) read h = absurd h
+header_wrong : (key file bytes : List ℕ) (rest : Option (List ℕ)) (error : FileError) → TakesFront 16 file bytes rest → HeaderRefuses bytes error → OpenRefuses key file error
+header_wrong key file bytes rest KeyLength read h = absurd h
+header_wrong key file bytes rest AnotherMagic read h = inl (subst (λ (l : List ℕ). HeaderRefuses l AnotherMagic) read.piece_is h)
+header_wrong key file bytes rest (AnotherVersion v) read h = inl (subst (λ (l : List ℕ). HeaderRefuses l (AnotherVersion v)) read.piece_is h)
+header_wrong key file bytes rest EndsEarly read h = inl (subst (λ (l : List ℕ). HeaderRefuses l EndsEarly) read.piece_is h)
+header_wrong key file bytes rest BytesBehind read h = absurd h
+header_wrong key file bytes rest (Refused n) read h = absurd h
+header_wrong key file bytes rest TooLong read h = absurd h
+header_wrong key file bytes rest (Io e) read h = absurd h
+
+pub header_refused : (key file bytes read_bytes : List ℕ) (rest : Option (List ℕ)) (error : FileError) → bytes ≡ read_bytes → TakesFront 16 file read_bytes rest
+    → HeaderRefuses bytes error → OpenRefuses key file error
+header_refused key file bytes read_bytes rest error same read h =
+    header_wrong key file read_bytes rest error read (subst (λ (l : List ℕ). HeaderRefuses l error) same h)
 
 refused_at : (key file : List ℕ) (n : ℕ) (error : FileError) → RefusesAt key file error n → OpenRefuses key file error
 refused_at key file n KeyLength h = absurd h.wrong.1
@@ -88,9 +95,9 @@ open_long key prefix file n chunk rest old now s e =
 
 module _ (key prefix file : List ℕ) (n : ℕ) (chunk next : List ℕ) (rest rest' old now now' : Option (List ℕ)) (flag : Bool)
     (s : Opening key prefix file n chunk rest old now) (read : IfSome rest (λ left. TakesFront 65552 left next rest'))
-    (empty : flag ≡ true → length next ≡ 0) (full : length next ≡ 0 → flag ≡ true) where
+    (m : ℕ) (counted : flag ≡ (m == 0)) (m_is : m ≡ length next) where
   flag_right : flag ≡ (n == last_chunk file)
-  flag_right = flag_is 65552 (body_of file) n chunk next rest rest' (omega arith) s.at read flag empty full
+  flag_right = flag_is 65552 (body_of file) n chunk next rest rest' (omega arith) s.at read flag m counted m_is
 
   -- what is said of the chunk that was read is said of the file's chunk
   of_chunk : (P : List ℕ → Bool → List ℕ → Type 0) → P prefix flag chunk → P (prefix_of file) (n == last_chunk file) (piece 65552 (body_of file) n)
@@ -117,8 +124,12 @@ module _ (key prefix file : List ℕ) (n : ℕ) (chunk next : List ℕ) (rest re
 
     -- stopped within a chunk's message
     pub open_stop_in : AppendsBeginning now now' opened → (k : ℕ) × AreRight key file k × AppendsBeginning old now' (opened_chunks key file k)
-    open_stop_in part = (n + 1, right_more, begins_more old now now' _ opened [] _ s.written part
-      (opened_more ∙ ap (λ (l : List ℕ). opened_chunks key file n ++ l) (sym (append-nil opened))))
+    open_stop_in part = (
+      n + 1,
+      right_more,
+      begins_more old now now' _ opened [] _ s.written part
+          (opened_more ∙ ap (λ (l : List ℕ). opened_chunks key file n ++ l) (sym (append-nil opened))),
+    )
 
     written_more : Appends now now' opened → Appends old now' (opened_chunks key file (n + 1))
     written_more more = subst (Appends old now') (sym opened_more) (Appends-trans old now now' _ _ s.written more)
@@ -138,11 +149,11 @@ module _ (key prefix file : List ℕ) (n : ℕ) (chunk next : List ℕ) (rest re
     open_end last more = subst (λ (k : ℕ). Appends old now' (opened_chunks key file (k + 1))) (last_here last) (written_more more)
 
     -- another chunk was opened
-    pub open_next : flag ≡ false → Appends now now' opened → Opening key prefix file (n + 1) next rest' old now'
-    open_next more written = record {
+    pub open_next : (next' : List ℕ) → next' ≡ next → flag ≡ false → Appends now now' opened → Opening key prefix file (n + 1) next' rest' old now'
+    open_next next' same more written = record {
       front = s.front;
       prefix_is = s.prefix_is;
       right = right_more;
-      at = next_stands 65552 (body_of file) n chunk next rest rest' (omega arith) s.at read (sym flag_right ∙ more);
+      at = next_stands 65552 (body_of file) n chunk next rest rest' (omega arith) s.at read next' same (sym flag_right ∙ more);
       written = written_more written;
     }

@@ -57,14 +57,14 @@ is_last size bytes n true some within empty full =
     sym (eq-eqb n (last_piece size (length bytes)) (omega arith))
 is_last size bytes n false some within empty full =
     sym (ne_eqb n (last_piece size (length bytes)) (λ same.
-        let near : (length bytes - 1) / size < n + 1 = omega arith in
-        elim (cases_lt (size * (n + 1)) (length bytes)) [
-          | inl past ↦ let h = last_piece-above size (length bytes) (n + 1) some past in omega arith
-          | inr short ↦
-              let nothing : length (piece size bytes (n + 1)) ≡ 0 =
-              ap (λ (l : List ℕ). length (take size l)) (drop_all (size * (n + 1)) bytes short) ∙ ap length (take_all {A = ℕ} size [] (omega arith)) in
-              let e : false ≡ true = full nothing in cc
-        ]))
+    let near : (length bytes - 1) / size < n + 1 = omega arith in
+    elim (cases_lt (size * (n + 1)) (length bytes)) [
+      | inl past ↦ let h = last_piece-above size (length bytes) (n + 1) some past in omega arith
+      | inr short ↦
+          let nothing : length (piece size bytes (n + 1)) ≡ 0 =
+          ap (λ (l : List ℕ). length (take size l)) (drop_all (size * (n + 1)) bytes short) ∙ ap length (take_all {A = ℕ} size [] (omega arith)) in
+          let e : false ≡ true = full nothing in cc
+    ]))
 
 -- a piece that isn't the last is whole
 pub length-piece : (size : ℕ) (bytes : List ℕ) (n : ℕ) → 0 < size → n < last_piece size (length bytes) → length (piece size bytes n) ≡ size
@@ -103,9 +103,11 @@ joined_parts f n m h =
     let k = m - (n + 1) in
     let e : m ≡ n + suc k = omega arith in
     let later = concat (map (λ j. f (n + j)) (range_with_len 1 k)) in
-    let behind : concat (each_below (suc k) (λ j. f (n + j))) ≡ f n ++ later = ap (λ (i : ℕ). f i ++ later) (let z : n + 0 ≡ n = omega arith in z) in
-    (later, ap (λ (i : ℕ). concat (each_below i f)) e ∙ ap concat (each-append n (suc k) f)
-      ∙ concat-append (each_below n f) (each_below (suc k) (λ j. f (n + j))) ∙ ap (λ (l : List ℕ). concat (each_below n f) ++ l) behind)
+    let behind : concat (each_below (suc k) (λ j. f (n + j))) ≡ f n ++ later = ap (λ (i : ℕ). f i ++ later) (let z : n + 0 ≡ n = omega arith in z) in (
+      later,
+      ap (λ (i : ℕ). concat (each_below i f)) e ∙ ap concat (each-append n (suc k) f)
+          ∙ concat-append (each_below n f) (each_below (suc k) (λ j. f (n + j))) ∙ ap (λ (l : List ℕ). concat (each_below n f) ++ l) behind,
+    )
 
 -- lists that are joined, all but the last of one length, are the pieces
 pub piece_of_joined : (size : ℕ) (f : ℕ → List ℕ) (last i : ℕ) → ((j : ℕ) → j < last → length (f j) ≡ size) → length (f last) ≤ size → i ≤ last

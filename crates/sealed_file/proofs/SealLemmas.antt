@@ -7,7 +7,7 @@ use Rattle.std.proofs.lemmas.Bool.{eqb-true}
 use Rattle.sealed_file.specs.Format.{piece, last_piece, header, sealed_chunk, sealed_chunks, sealed_file}
 use Rattle.sealed_file.specs.Streams.{AppendsBeginning, TakesFront}
 use Rattle.sealed_file.proofs.PieceLemmas.{joined_more, joined_parts}
-use Rattle.sealed_file.proofs.StreamLemmas.{StandsAt, first_read, flag_is, next_stands, begins_more, begins_whole}
+use Rattle.sealed_file.proofs.StreamLemmas.{StandsAt, first_read, flag_is, next_stands, begins_front, begins_more, begins_whole}
 
 -- before chunk n is sealed: the header and the chunks before it were written
 pub record Sealing (key prefix file : List ℕ) (n : ℕ) (chunk : List ℕ) (rest old now : Option (List ℕ)) : Type 0 where
@@ -18,11 +18,23 @@ no_chunks : (key prefix file : List ℕ) → sealed_chunks key prefix file 0 ≡
 unfolding sealed_chunks
 no_chunks key prefix file = refl
 
-pub seal_start : (key prefix file chunk : List ℕ) (rest old now : Option (List ℕ)) → Appends old now (header prefix) → TakesFront 65536 file chunk rest
-    → Sealing key prefix file 0 chunk rest old now
-seal_start key prefix file chunk rest old now first read = record {
+-- the header was written in part, or all of it
+pub stop_in_header : (key prefix file bytes : List ℕ) (old now : Option (List ℕ)) → bytes ≡ header prefix → AppendsBeginning old now bytes
+    → AppendsBeginning old now (sealed_file key prefix file)
+stop_in_header key prefix file bytes old now e part =
+    begins_front old now (header prefix) (sealed_chunks key prefix file (last_piece 65536 (length file) + 1)) _ (subst (AppendsBeginning old now) e part) refl
+
+pub stop_behind_header : (key prefix file bytes : List ℕ) (old now : Option (List ℕ)) → bytes ≡ header prefix → Appends old now bytes
+    → AppendsBeginning old now (sealed_file key prefix file)
+stop_behind_header key prefix file bytes old now e done =
+    begins_whole old now (header prefix) (sealed_chunks key prefix file (last_piece 65536 (length file) + 1)) _ (subst (Appends old now) e done) refl
+
+-- the first chunk was read
+pub seal_start : (key prefix file bytes chunk : List ℕ) (rest old now : Option (List ℕ)) → bytes ≡ header prefix → Appends old now bytes
+    → TakesFront 65536 file chunk rest → Sealing key prefix file 0 chunk rest old now
+seal_start key prefix file bytes chunk rest old now e done read = record {
   at = first_read 65536 file chunk rest read;
-  written = subst (Appends old now) (sym (ap (λ (l : List ℕ). header prefix ++ l) (no_chunks key prefix file) ∙ append-nil (header prefix))) first;
+  written = subst (Appends old now) (e ∙ sym (ap (λ (l : List ℕ). header prefix ++ l) (no_chunks key prefix file) ∙ append-nil (header prefix))) done;
 }
 
 chunk_parts : (key prefix file : List ℕ) (n : ℕ) → n ≤ last_piece 65536 (length file) → (later : List ℕ)
@@ -39,9 +51,11 @@ file_parts : (key prefix file : List ℕ) (n : ℕ) → n ≤ last_piece 65536 (
     ≡ (header prefix ++ sealed_chunks key prefix file n) ++ (sealed_chunk key prefix n (n == last_piece 65536 (length file)) (piece 65536 file n) ++ later))
 file_parts key prefix file n within =
     let (later, parts) = chunk_parts key prefix file n within in
-    let last = last_piece 65536 (length file) in
-    (later, ap (λ (l : List ℕ). header prefix ++ l) parts
-      ∙ sym (append_assoc (header prefix) (sealed_chunks key prefix file n) (sealed_chunk key prefix n (n == last) (piece 65536 file n) ++ later)))
+    let last = last_piece 65536 (length file) in (
+      later,
+      ap (λ (l : List ℕ). header prefix ++ l) parts
+          ∙ sym (append_assoc (header prefix) (sealed_chunks key prefix file n) (sealed_chunk key prefix n (n == last) (piece 65536 file n) ++ later)),
+    )
 
 chunks_more : (key prefix file : List ℕ) (n : ℕ) → sealed_chunks key prefix file (n + 1)
     ≡ sealed_chunks key prefix file n ++ sealed_chunk key prefix n (n == last_piece 65536 (length file)) (piece 65536 file n)
@@ -54,11 +68,16 @@ pub seal_stop : (key prefix file : List ℕ) (n : ℕ) (chunk : List ℕ) (rest 
 seal_stop key prefix file n chunk rest old now s =
     let (later, parts) = file_parts key prefix file n s.at.in_range in begins_whole old now _ _ _ s.written parts
 
+-- too many chunks
+pub seal_long : (key prefix file : List ℕ) (n : ℕ) (chunk : List ℕ) (rest old now : Option (List ℕ)) → Sealing key prefix file n chunk rest old now
+    → 2 ^ 32 - 1 ≤ n → 2 ^ 32 - 1 ≤ last_piece 65536 (length file)
+seal_long key prefix file n chunk rest old now s long = let h = s.at.in_range in omega (arith, h, long)
+
 module _ (key prefix file : List ℕ) (n : ℕ) (chunk next sealed : List ℕ) (rest rest' old now now' : Option (List ℕ)) (flag : Bool)
     (s : Sealing key prefix file n chunk rest old now) (read : IfSome rest (λ left. TakesFront 65536 left next rest'))
-    (empty : flag ≡ true → length next ≡ 0) (full : length next ≡ 0 → flag ≡ true) (is_sealed : sealed ≡ sealed_chunk key prefix n flag chunk) where
+    (m : ℕ) (counted : flag ≡ (m == 0)) (m_is : m ≡ length next) (is_sealed : sealed ≡ sealed_chunk key prefix n flag chunk) where
   flag_right : flag ≡ (n == last_piece 65536 (length file))
-  flag_right = flag_is 65536 file n chunk next rest rest' (omega arith) s.at read flag empty full
+  flag_right = flag_is 65536 file n chunk next rest rest' (omega arith) s.at read flag m counted m_is
 
   sealed_is : sealed ≡ sealed_chunk key prefix n (n == last_piece 65536 (length file)) (piece 65536 file n)
   sealed_is = is_sealed ∙ ap (λ (b : Bool). sealed_chunk key prefix n b chunk) flag_right
@@ -88,8 +107,8 @@ module _ (key prefix file : List ℕ) (n : ℕ) (chunk next sealed : List ℕ) (
   seal_few last within = subst (λ (k : ℕ). k < 2 ^ 32 - 1) (last_here last) within
 
   -- another chunk was written
-  pub seal_next : flag ≡ false → Appends now now' sealed → Sealing key prefix file (n + 1) next rest' old now'
-  seal_next more written = record {
-    at = next_stands 65536 file n chunk next rest rest' (omega arith) s.at read (sym flag_right ∙ more);
+  pub seal_next : (next' : List ℕ) → next' ≡ next → flag ≡ false → Appends now now' sealed → Sealing key prefix file (n + 1) next' rest' old now'
+  seal_next next' same more written = record {
+    at = next_stands 65536 file n chunk next rest rest' (omega arith) s.at read next' same (sym flag_right ∙ more);
     written = written_more written;
   }

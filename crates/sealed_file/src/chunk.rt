@@ -56,7 +56,24 @@ pub(crate) fn prefix_in(bytes: &[u8]) -> Result<Prefix, FileError>
     let Some(header) = bytes.as_array::<HEADER_LEN>() else {
         return Err(FileError::EndsEarly);
     };
-    let [m0, m1, m2, m3, m4, m5, m6, m7, version, p0, p1, p2, p3, p4, p5, p6] = *header;
+    let [
+        m0,
+        m1,
+        m2,
+        m3,
+        m4,
+        m5,
+        m6,
+        m7,
+        version,
+        p0,
+        p1,
+        p2,
+        p3,
+        p4,
+        p5,
+        p6,
+    ] = *header;
     if [m0, m1, m2, m3, m4, m5, m6, m7] != MAGIC {
         return Err(FileError::AnotherMagic);
     }
@@ -77,13 +94,7 @@ fn nonce_of(prefix: &Prefix, number: u32, is_last: bool) -> Nonce
 }
 
 /// Encrypts a chunk of at most 64 KiB, and gives its tag.
-fn seal_slice(
-    key: &FileKey,
-    prefix: &Prefix,
-    number: u32,
-    is_last: bool,
-    chunk: &mut [u8],
-) -> Tag
+fn seal_slice(key: &FileKey, prefix: &Prefix, number: u32, is_last: bool, chunk: &mut [u8]) -> Tag
     requires { length chunk.old ≤ 65536 }
     ensures { chunk.new ++ result ≡ sealed_chunk key.now prefix.now number is_last chunk.old }
 {
@@ -130,7 +141,10 @@ fn open_slice(
     let header = header_of(prefix);
     let nonce = nonce_of(prefix, number, is_last);
     let aad = Aad::from(header.as_slice());
-    key.key.open_in_place_len(nonce, aad, chunk).ok()
+    match key.key.open_in_place_len(nonce, aad, chunk) {
+        Ok(len) => Some(len),
+        Err(_) => None,
+    }
 }
 
 /// Opens a sealed chunk of at most 64 KiB and its tag, and says whether it had that tag: then its message is left.

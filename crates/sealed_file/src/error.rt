@@ -29,10 +29,16 @@ impl fmt::Display for FileError {
         match self {
             FileError::KeyLength => write!(f, "the key hasn't 32 bytes"),
             FileError::AnotherMagic => write!(f, "not a sealed file"),
-            FileError::AnotherVersion(version) => write!(f, "a sealed file of version {version}, which isn't 1"),
+            FileError::AnotherVersion(version) => write!(
+                f,
+                "a sealed file of version {version}, which isn't 1"
+            ),
             FileError::EndsEarly => write!(f, "the sealed file ends early"),
             FileError::BytesBehind => write!(f, "bytes stand behind the last chunk"),
-            FileError::Refused(number) => write!(f, "another key, or chunk {number} was changed or cut"),
+            FileError::Refused(number) => write!(
+                f,
+                "another key, or chunk {number} was changed or cut"
+            ),
             FileError::TooLong => write!(f, "the file is too long: it has 2^32 chunks or more"),
             FileError::Io(error) => write!(f, "{error}"),
         }

@@ -10,9 +10,6 @@ mod opening;
 mod sealing;
 mod stream;
 
-#[cfg(test)]
-mod tests;
-
 pub use self::chunk::{CHUNK_LEN, HEADER_LEN, MAGIC, MAX_CHUNKS, PREFIX_LEN, VERSION};
 pub use self::error::FileError;
 pub use self::key::FileKey;

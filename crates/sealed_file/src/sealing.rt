@@ -35,7 +35,8 @@ pub fn seal<R: Read, W: Write>(
         AppendsBeginning (W.contents output.old) (W.contents output.new) (sealed_file key.now prefix file))) }
 {
     let (mut chunk, mut next) = buffers(alloc)?;
-    write_bytes(output, &header_of(&prefix))?;
+    let header = header_of(&prefix);
+    write_bytes(output, header.as_slice())?;
     read_piece(input, CHUNK_LEN, &mut chunk)?;
     for number in 0..MAX_CHUNKS {
         read_piece(input, CHUNK_LEN, &mut next)?;

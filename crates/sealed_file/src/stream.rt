@@ -56,11 +56,7 @@ pub(crate) fn fill<R: Read>(input: &mut R, buf: &mut [u8]) -> io::Result<usize>
 }
 
 /// Reads the next `len` bytes into `piece`, or all that are left where those are fewer.
-pub(crate) fn read_piece<R: Read>(
-    input: &mut R,
-    len: usize,
-    piece: &mut Vec<u8>,
-) -> io::Result<()>
+pub(crate) fn read_piece<R: Read>(input: &mut R, len: usize, piece: &mut Vec<u8>) -> io::Result<()>
     ensures size { OnOk result (vec_len piece.new ≤ len) }
     ensures bytes { OnOk result (IfSome (R.remaining input.old) (λ bytes.
         TakesFront len bytes piece.new.items (R.remaining input.new))) }
