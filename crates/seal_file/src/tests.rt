@@ -141,9 +141,7 @@ fn cut_files(rt: HostRuntime) -> Result<(), Fail> {
         ),
         (behind_first + 21, CHUNK_LEN + 5, "opened"),
     ] {
-        let Some(cut) = sealed.get(..len) else {
-            return Err(Fail);
-        };
+        let cut = sealed.get(..len).ok_or(FileError::EndsEarly)?;
         opens(&rt, cut, opened, text)?;
     }
     Ok(())
@@ -153,12 +151,14 @@ fn cut_files(rt: HostRuntime) -> Result<(), Fail> {
 fn changed_files(rt: HostRuntime) -> Result<(), Fail> {
     let alloc = rt.alloc();
     let sealed = sealed_of(alloc, 2 * CHUNK_LEN)?;
-    let Some((header, body)) = sealed.split_at_checked(HEADER_LEN) else {
-        return Err(Fail);
-    };
-    let Some((first, last)) = body.split_at_checked(SEALED_LEN) else {
-        return Err(Fail);
-    };
+    let (header, body) = sealed
+        .split_at_checked(HEADER_LEN)
+        .ok_or(FileError::EndsEarly)?;
+    let (first, last) = body
+        .split_at_checked(SEALED_LEN)
+        .ok_or(FileError::EndsEarly)?;
+    let header_rest = header.get(8..).ok_or(FileError::EndsEarly)?;
+    let prefix = header.get(9..).ok_or(FileError::EndsEarly)?;
     let refused_first = "another key, or chunk 0 was changed or cut";
     opens(
         &rt,
@@ -187,13 +187,13 @@ fn changed_files(rt: HostRuntime) -> Result<(), Fail> {
     )?;
     opens(
         &rt,
-        &joined(alloc, &[b"SEALFILF", &header[8..], body])?,
+        &joined(alloc, &[b"SEALFILF", header_rest, body])?,
         0,
         "not a sealed file",
     )?;
     opens(
         &rt,
-        &joined(alloc, &[b"SEALFILE\x02", &header[9..], body])?,
+        &joined(alloc, &[b"SEALFILE\x02", prefix, body])?,
         0,
         "a sealed file of version 2, which isn't 1",
     )?;
@@ -219,17 +219,17 @@ fn another_key(rt: HostRuntime) -> Result<(), Fail> {
     );
     assert!(rt; matches!(outcome, Err(FileError::Refused(0))));
     assert!(rt; opened.is_empty());
-    let Err(error) = FileKey::new(&[7; 31]) else {
-        return Err(Fail);
-    };
-    assert_eq!(rt;
-        format!(in alloc; "{error}")?.as_str(),
-        "the key hasn't 32 bytes"
-    );
-    assert_eq!(rt;
-        format!(in alloc; "{}", FileError::TooLong)?.as_str(),
-        "the file is too long: it has 2^32 chunks or more"
-    );
+    for (error, text) in [
+        (FileKey::new(&[7; 31]).err(), "the key hasn't 32 bytes"),
+        (FileKey::new(&[7; 33]).err(), "the key hasn't 32 bytes"),
+        (
+            Some(FileError::TooLong),
+            "the file is too long: it has 2^32 chunks or more",
+        ),
+    ] {
+        let error = error.ok_or(FileError::EndsEarly)?;
+        assert_eq!(rt; format!(in alloc; "{error}")?.as_str(), text);
+    }
     Ok(())
 }
 

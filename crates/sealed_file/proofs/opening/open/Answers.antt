@@ -16,7 +16,7 @@ returns-in_err-prefix-clause-refused g c =
     let known = g.R.Read.remaining c.args.input.now in
     let Says : FileError → Type 0 = λ error. IfSome known (λ file. OpenRefuses c.args.key.now file error) in
     err_from {T = Unit {0}} {E = FileError} c.from_residual-in_err-prefix.result _ Says c.from_residual-in_err-prefix.ensures.1 (λ e same.
-    subst {y = e} Says (sym same)
+    subst Says (sym same)
     (if_some_map _ _ _ c.in_ok-read_piece.ensures.bytes (λ file read.
     header_refused _ _ _ _ _ _ c.deref.ensures.value read c.in_err-prefix.ensures.refused)))
 
@@ -42,7 +42,7 @@ returns-in_err-open_chunk-clause-refused g c =
     let next = c.read_piece-in-loop-number.new.piece in
     let Says : FileError → Type 0 = λ error. IfSome known (λ file. OpenRefuses c.args.key.now file error) in
     err_from {T = Unit {0}} {E = FileError} c.from_residual-in_err-open_chunk.result _ Says c.from_residual-in_err-open_chunk.ensures.1 (λ e same.
-    subst {y = e} Says (sym same)
+    subst Says (sym same)
     (if_some_map _ _ _ c.loop-number.invariant.1 (λ file s.
     open_refused _ _ _ _ _ _ _ _ _ _ (g.W.Write.contents c.loop-number.output) _ s c.in_ok-read_piece-3.ensures.bytes _ c.is_empty-is_last.ensures next.ok.0
     _ (λ had. let opened : false ≡ true = c.in_err-open_chunk.ensures.accepted.1 had in cc) c.in_err-open_chunk.ensures.refused)))
