@@ -9,7 +9,7 @@ use Rattle.aead_ciphers_base.proofs.EachLemmas.{each-same}
 use Rattle.aead_ciphers.specs.AesGcm.{aes_encrypted, aes_decrypted, aes_tag}
 use Rattle.sealed_file.specs.Format.{piece, last_piece, magic_and_version, header, chunk_nonce, sealed_chunk, sealed_chunks, sealed_file}
 use Rattle.sealed_file.specs.Opening.{HasTag, HasRightTag, AreRight, HasHeader, IsSealed, opened_chunk, opened_chunks, opened_file, ciphertext_of, prefix_of, body_of, last_chunk}
-use Rattle.sealed_file.proofs.PieceLemmas.{all_pieces, last_of_joined, length-piece, length-piece-le, piece_of_joined}
+use Rattle.sealed_file.proofs.PieceLemmas.{all_pieces, joined_more, last_of_joined, length-joined, length-piece, length-piece-le, piece_of_joined}
 use Rattle.sealed_file.proofs.TagLemmas.{length-tag, length-encrypted, decrypted-encrypted}
 
 module _ (key prefix : List ℕ) (number : ℕ) (flag : Bool) (chunk : List ℕ) where
@@ -20,7 +20,7 @@ module _ (key prefix : List ℕ) (number : ℕ) (flag : Bool) (chunk : List ℕ)
       length-append ct (aes_tag key (chunk_nonce prefix number flag) (header prefix) ct)
       ∙ ap₂ (λ (a b : ℕ). a + b) (length-encrypted key (chunk_nonce prefix number flag) chunk) (length-tag key (chunk_nonce prefix number flag) (header prefix) ct)
 
-  front_of_sealed : ciphertext_of (sealed_chunk key prefix number flag chunk) ≡ aes_encrypted key (chunk_nonce prefix number flag) chunk
+  pub front_of_sealed : ciphertext_of (sealed_chunk key prefix number flag chunk) ≡ aes_encrypted key (chunk_nonce prefix number flag) chunk
   unfolding sealed_chunk
   front_of_sealed =
       let nonce = chunk_nonce prefix number flag in
@@ -29,7 +29,7 @@ module _ (key prefix : List ℕ) (number : ℕ) (flag : Bool) (chunk : List ℕ)
       take_at ct (aes_tag key nonce (header prefix) ct) (length (sealed_chunk key prefix number flag chunk) - 16)
       (length-encrypted key nonce chunk ∙ (let e : length chunk ≡ length (sealed_chunk key prefix number flag chunk) - 16 = omega (arith, whole) in e))
 
-  back_of_sealed : drop (length (sealed_chunk key prefix number flag chunk) - 16) (sealed_chunk key prefix number flag chunk)
+  pub back_of_sealed : drop (length (sealed_chunk key prefix number flag chunk) - 16) (sealed_chunk key prefix number flag chunk)
       ≡ aes_tag key (chunk_nonce prefix number flag) (header prefix) (aes_encrypted key (chunk_nonce prefix number flag) chunk)
   unfolding sealed_chunk
   back_of_sealed =
@@ -52,10 +52,10 @@ module _ (key prefix : List ℕ) (number : ℕ) (flag : Bool) (chunk : List ℕ)
   opened_sealed_chunk = ap (aes_decrypted key (chunk_nonce prefix number flag)) front_of_sealed ∙ decrypted-encrypted key (chunk_nonce prefix number flag) chunk
 
 module _ (key prefix file : List ℕ) (seven : length prefix ≡ 7) where
-  abbrev last : ℕ
+  abbrev pub last : ℕ
   last = last_piece 65536 (length file)
 
-  abbrev chunk_at : ℕ → List ℕ
+  abbrev pub chunk_at : ℕ → List ℕ
   chunk_at i = sealed_chunk key prefix i (i == last) (piece 65536 file i)
 
   chunks_are : sealed_chunks key prefix file (last + 1) ≡ concat (each_below (last + 1) chunk_at)
@@ -77,7 +77,7 @@ module _ (key prefix file : List ℕ) (seven : length prefix ≡ 7) where
   length-header : length (header prefix) ≡ 16
   length-header = length-append magic_and_version prefix ∙ ap (λ (n : ℕ). 9 + n) seven
 
-  abbrev whole : List ℕ
+  abbrev pub whole : List ℕ
   whole = sealed_file key prefix file
 
   body_is : body_of whole ≡ concat (each_below (last + 1) chunk_at)
@@ -86,14 +86,22 @@ module _ (key prefix file : List ℕ) (seven : length prefix ≡ 7) where
   front_is : take 16 whole ≡ header prefix
   front_is = take_at (header prefix) (sealed_chunks key prefix file (last + 1)) 16 length-header
 
-  prefix_is : prefix_of whole ≡ prefix
+  pub prefix_is : prefix_of whole ≡ prefix
   prefix_is = ap (drop 9) front_is ∙ drop_at magic_and_version prefix 9 refl
 
   last_is : last_chunk whole ≡ last
   last_is = ap (λ (l : List ℕ). last_piece 65552 (length l)) body_is ∙ last_of_joined 65552 chunk_at last whole_before last_is_short last_is_some
 
-  piece_is : (i : ℕ) → i ≤ last → piece 65552 (body_of whole) i ≡ chunk_at i
+  pub piece_is : (i : ℕ) → i ≤ last → piece 65552 (body_of whole) i ≡ chunk_at i
   piece_is i within = ap (λ (l : List ℕ). piece 65552 l i) body_is ∙ piece_of_joined 65552 chunk_at last i whole_before last_is_short within
+
+  -- the body is longer than the chunks before the last
+  pub whole_length : 65552 * last < length (body_of whole)
+  whole_length =
+      let e = ap length body_is ∙ ap length (joined_more chunk_at last) ∙ length-append (concat (each_below last chunk_at)) (chunk_at last) in
+      let k = length-joined 65552 chunk_at last whole_before in
+      let h = last_is_some in
+      omega (arith, e, k, h)
 
   right_tag : (i : ℕ) → i < last_chunk whole + 1 → HasRightTag key whole i
   right_tag i within =

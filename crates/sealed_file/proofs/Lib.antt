@@ -1,4 +1,5 @@
 pub mod ChunkLemmas
+pub mod CutLemmas
 pub mod FileLemmas
 pub mod OpenLemmas
 pub mod PieceLemmas
