@@ -1,5 +1,6 @@
 -- What the calls for one chunk say.
-use Rattle.std.proofs.Common.{◌≡◌, ℕ, Bool, true, false, inl, inr, ◌+◌, ◌-◌, ◌<◌, ◌≤◌, List, [], ◌++◌, length, take, drop, map, get_or, refl, sym, ap, ap₂, subst, ◌∙◌, arith, append-nil}
+use Rattle.std.proofs.Common.{◌≡◌, ℕ, Bool, true, false, inl, inr, ◌+◌, ◌-◌, ◌≤◌, List, []}
+use Rattle.std.proofs.Common.{◌++◌, length, take, drop, map, get_or, refl, ap, ap₂, subst, ◌∙◌, arith, append-nil}
 use Rattle.std.specs.List.{range_with_len}
 use Rattle.std.proofs.lemmas.Bool.{cases_lt}
 use Rattle.std.proofs.lemmas.List.{drop_all, length-take-le, take_at}
@@ -16,7 +17,8 @@ pub items : (n : ℕ) (xs : List ℕ) → length xs ≡ n → xs ≡ map (λ i. 
 items n xs h = fill_by_all (λ i. get_or xs i 0) xs n 0 h (λ k _. refl)
 
 -- a ciphertext and its tag are a sealed chunk
-pub sealed_is : (key prefix : List ℕ) (number : ℕ) (is_last : Bool) (inner nonce aad old new tag : List ℕ) → inner ≡ key → nonce ≡ chunk_nonce prefix number is_last
+pub sealed_is : (key prefix : List ℕ) (number : ℕ) (is_last : Bool) (inner nonce aad old new tag : List ℕ) → inner ≡ key
+    → nonce ≡ chunk_nonce prefix number is_last
     → aad ≡ header prefix → new ≡ aes_encrypted inner nonce old → tag ≡ aes_tag inner nonce aad new → new ++ tag ≡ sealed_chunk key prefix number is_last old
 unfolding sealed_chunk
 sealed_is key prefix number is_last inner nonce aad old new tag k_is n_is a_is e f =
@@ -24,7 +26,8 @@ sealed_is key prefix number is_last inner nonce aad old new tag k_is n_is a_is e
     ∙ ap (λ (k : List ℕ). aes_sealed k nonce aad old) k_is ∙ ap (λ (n : List ℕ). aes_sealed key n aad old) n_is
     ∙ ap (λ (a : List ℕ). aes_sealed key (chunk_nonce prefix number is_last) a old) a_is
 
-module _ (key prefix : List ℕ) (number : ℕ) (is_last : Bool) (inner nonce aad old new : List ℕ) (k_is : inner ≡ key) (n_is : nonce ≡ chunk_nonce prefix number is_last) (a_is : aad ≡ header prefix)
+module _ (key prefix : List ℕ) (number : ℕ) (is_last : Bool) (inner nonce aad old new : List ℕ)
+    (k_is : inner ≡ key) (n_is : nonce ≡ chunk_nonce prefix number is_last) (a_is : aad ≡ header prefix)
     (opened : AesOpenedAttached inner nonce aad 0 old true new) where
   size : 16 ≤ length old
   size = elim (cases_lt (length old) 16) [

@@ -1,15 +1,16 @@
 -- A sealed file that is cut behind a chunk.
-use Rattle.std.proofs.Common.{◌≡◌, ℕ, Bool, true, false, ◌+◌, ◌-◌, ◌*◌, ◌<◌, ◌≤◌, List, ◌++◌, length, take, drop, refl, sym, ap, subst, ◌∙◌, arith}
+use Rattle.std.proofs.Common.{◌≡◌, ℕ, Bool, true, false, ◌+◌, ◌-◌, ◌*◌, ◌<◌, ◌≤◌, List, length, take, drop, sym, ap, subst, ◌∙◌, arith}
 use Rattle.std.specs.Prelude.{◌==◌}
 use Rattle.std.proofs.lemmas.Bool.{eq-eqb, ne_eqb}
 use Rattle.std.proofs.lemmas.List.{drop-take, length-take-le, take-take}
-use Rattle.aead_ciphers.specs.AesGcm.{aes_encrypted, aes_tag}
+use Rattle.aead_ciphers.specs.AesGcm.{aes_tag}
 use Rattle.sealed_file.specs.Format.{piece, last_piece, header, chunk_nonce, sealed_chunk, sealed_file}
 use Rattle.sealed_file.specs.Opening.{HasTag, IsSealed, HasBothTags, last_chunk, prefix_of, body_of}
 use Rattle.sealed_file.proofs.PieceLemmas.{last_piece-above, last_piece-le}
 use Rattle.sealed_file.proofs.FileLemmas.{back_of_sealed, front_of_sealed, piece_is, prefix_is, whole_length}
 
-both_tags : (key prefix : List ℕ) (number : ℕ) (chunk : List ℕ) → HasTag key prefix number true (sealed_chunk key prefix number false chunk) → HasBothTags key prefix number chunk
+both_tags : (key prefix : List ℕ) (number : ℕ) (chunk : List ℕ) → HasTag key prefix number true (sealed_chunk key prefix number false chunk)
+    → HasBothTags key prefix number chunk
 both_tags key prefix number chunk had =
     sym (back_of_sealed key prefix number false chunk) ∙ had.tag
     ∙ ap (aes_tag key (chunk_nonce prefix number true) (header prefix)) (front_of_sealed key prefix number false chunk)

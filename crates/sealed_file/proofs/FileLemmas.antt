@@ -1,14 +1,13 @@
 -- A sealed file is one, and opening it gives the file.
-use Rattle.std.proofs.Common.{◌≡◌, ℕ, Bool, inl, inr, ◌+◌, ◌-◌, ◌*◌, ◌^◌, ◌<◌, ◌≤◌, List, ◌++◌, length, take, drop, refl, sym, ap, ap₂, subst, ◌∙◌, arith}
+use Rattle.std.proofs.Common.{◌≡◌, ℕ, Bool, ◌+◌, ◌-◌, ◌*◌, ◌^◌, ◌<◌, ◌≤◌, List, length, take, drop, refl, sym, ap, ap₂, subst, ◌∙◌, arith}
 use Rattle.std.specs.Prelude.{◌==◌}
 use Rattle.std.specs.List.{concat}
-use Rattle.std.proofs.lemmas.Bool.{cases_lt}
 use Rattle.std.proofs.lemmas.List.{drop_at, length-append, take_at, take-take}
 use Rattle.aead_ciphers_base.specs.Bytes.{each_below}
 use Rattle.aead_ciphers_base.proofs.EachLemmas.{each-same}
 use Rattle.aead_ciphers.specs.AesGcm.{aes_encrypted, aes_decrypted, aes_tag}
 use Rattle.sealed_file.specs.Format.{piece, last_piece, magic_and_version, header, chunk_nonce, sealed_chunk, sealed_chunks, sealed_file}
-use Rattle.sealed_file.specs.Opening.{HasTag, HasRightTag, AreRight, HasHeader, IsSealed, opened_chunk, opened_chunks, opened_file, ciphertext_of, prefix_of, body_of, last_chunk}
+use Rattle.sealed_file.specs.Opening.{HasTag, HasRightTag, IsSealed, opened_chunk, opened_chunks, opened_file, ciphertext_of, prefix_of, body_of, last_chunk}
 use Rattle.sealed_file.proofs.PieceLemmas.{all_pieces, joined_more, last_of_joined, length-joined, length-piece, length-piece-le, piece_of_joined}
 use Rattle.sealed_file.proofs.TagLemmas.{length-tag, length-encrypted, decrypted-encrypted}
 
@@ -18,7 +17,8 @@ module _ (key prefix : List ℕ) (number : ℕ) (flag : Bool) (chunk : List ℕ)
   length-sealed_chunk =
       let ct = aes_encrypted key (chunk_nonce prefix number flag) chunk in
       length-append ct (aes_tag key (chunk_nonce prefix number flag) (header prefix) ct)
-      ∙ ap₂ (λ (a b : ℕ). a + b) (length-encrypted key (chunk_nonce prefix number flag) chunk) (length-tag key (chunk_nonce prefix number flag) (header prefix) ct)
+      ∙ ap₂ (λ (a b : ℕ). a + b) (length-encrypted key (chunk_nonce prefix number flag) chunk)
+      (length-tag key (chunk_nonce prefix number flag) (header prefix) ct)
 
   pub front_of_sealed : ciphertext_of (sealed_chunk key prefix number flag chunk) ≡ aes_encrypted key (chunk_nonce prefix number flag) chunk
   unfolding sealed_chunk
@@ -132,5 +132,6 @@ module _ (key prefix file : List ℕ) (seven : length prefix ≡ 7) where
   unfolding opened_chunks
   opened_sealed_file =
       ap (λ (n : ℕ). concat (each_below (n + 1) (λ i. opened_chunk key (prefix_of whole) i (i == last_chunk whole) (piece 65552 (body_of whole) i)))) last_is
-      ∙ ap concat (each-same (last + 1) (λ i. opened_chunk key (prefix_of whole) i (i == last_chunk whole) (piece 65552 (body_of whole) i)) (piece 65536 file) (λ i h. message_at i (omega arith)))
+      ∙ ap concat (each-same (last + 1) (λ i. opened_chunk key (prefix_of whole) i (i == last_chunk whole) (piece 65552 (body_of whole) i))
+      (piece 65536 file) (λ i h. message_at i (omega arith)))
       ∙ all_pieces 65536 file (omega arith)

@@ -1,5 +1,6 @@
 -- The steps of opening.
-use Rattle.std.proofs.Common.{◌≡◌, ℕ, Bool, true, false, inl, inr, IfSome, ◌+◌, ◌-◌, ◌^◌, ◌<◌, ◌≤◌, List, [], ◌++◌, length, take, drop, refl, sym, ap, subst, ◌∙◌, arith, below_more}
+use Rattle.std.proofs.Common.{◌≡◌, ℕ, Bool, true, false, inl, inr, IfSome, ◌+◌, ◌-◌, ◌^◌, ◌<◌, ◌≤◌}
+use Rattle.std.proofs.Common.{List, [], ◌++◌, length, take, drop, refl, sym, ap, subst, ◌∙◌, arith, below_more}
 use Rattle.std.specs.Prelude.{◌==◌, Option}
 use Rattle.std.specs.Io.KnownBytes.{Appends}
 use Rattle.std.proofs.KnownBytes.{Appends-nil, Appends-trans}
@@ -7,8 +8,9 @@ use Rattle.std.proofs.lemmas.Bool.{eqb-true}
 use Rattle.std.proofs.lemmas.List.{length-take, take-take, append-nil}
 use Rattle.sealed_file.specs.declared.error.FileError.{FileError}
 use Rattle.sealed_file.specs.declared.error.FileError.TheVariants.{KeyLength, AnotherMagic, AnotherVersion, EndsEarly, BytesBehind, Refused, TooLong, Io}
-use Rattle.sealed_file.specs.Format.{piece, last_piece}
-use Rattle.sealed_file.specs.Opening.{HasTag, HasRightTag, HasHeader, AreRight, IsSealed, opened_chunk, opened_chunks, opened_file, last_chunk, prefix_of, body_of}
+use Rattle.sealed_file.specs.Format.{piece}
+use Rattle.sealed_file.specs.Opening.{HasTag, HasRightTag, HasHeader, AreRight, IsSealed}
+use Rattle.sealed_file.specs.Opening.{opened_chunk, opened_chunks, opened_file, last_chunk, prefix_of, body_of}
 use Rattle.sealed_file.specs.Refusals.{HeaderRefuses, ChunkRefuses, RefusesAt, OpenRefuses}
 use Rattle.sealed_file.specs.Streams.{AppendsBeginning, TakesFront}
 use Rattle.sealed_file.proofs.PieceLemmas.{joined_more}
@@ -35,7 +37,8 @@ unfolding opened_chunks
 chunks_more key file n = joined_more (λ i. opened_chunk key (prefix_of file) i (i == last_chunk file) (piece 65552 (body_of file) i)) n
 
 -- the header was read, and then the first chunk
-pub open_start : (key prefix file bytes read_bytes chunk : List ℕ) (between rest old : Option (List ℕ)) → bytes ≡ read_bytes → TakesFront 16 file read_bytes between
+pub open_start : (key prefix file bytes read_bytes chunk : List ℕ) (between rest old : Option (List ℕ)) → bytes ≡ read_bytes
+    → TakesFront 16 file read_bytes between
     → HasHeader bytes → prefix ≡ drop 9 bytes
     → IfSome between (λ left. TakesFront 65552 left chunk rest) → Opening key prefix file 0 chunk rest old old
 open_start key prefix file bytes read_bytes chunk between rest old same first has prefix_is read =
@@ -53,7 +56,8 @@ open_start key prefix file bytes read_bytes chunk between rest old same first ha
     }
 
 -- the header is wrong
-header_wrong : (key file bytes : List ℕ) (rest : Option (List ℕ)) (error : FileError) → TakesFront 16 file bytes rest → HeaderRefuses bytes error → OpenRefuses key file error
+header_wrong : (key file bytes : List ℕ) (rest : Option (List ℕ)) (error : FileError) → TakesFront 16 file bytes rest
+    → HeaderRefuses bytes error → OpenRefuses key file error
 header_wrong key file bytes rest KeyLength read h = absurd h
 header_wrong key file bytes rest AnotherMagic read h = inl (subst (λ (l : List ℕ). HeaderRefuses l AnotherMagic) read.piece_is h)
 header_wrong key file bytes rest (AnotherVersion v) read h = inl (subst (λ (l : List ℕ). HeaderRefuses l (AnotherVersion v)) read.piece_is h)

@@ -1,9 +1,10 @@
 -- Pieces of bytes, and lists joined from pieces.
-use Rattle.std.proofs.Common.{◌≡◌, ◌≢◌, ◌⊎◌, ℕ, zero, suc, Bool, true, false, inl, inr, ◌+◌, ◌-◌, ◌*◌, ◌/◌, ◌<◌, ◌≤◌, List, [], ◌∷◌, ◌++◌, length, take, drop, map, refl, sym, ap, ap₂, subst, ◌∙◌, arith, append_assoc, append-nil}
+use Rattle.std.proofs.Common.{◌≡◌, ℕ, zero, suc, Bool, true, false, inl, inr, ◌+◌, ◌-◌, ◌*◌, ◌/◌, ◌<◌, ◌≤◌, List}
+use Rattle.std.proofs.Common.{[], ◌∷◌, ◌++◌, length, take, drop, map, refl, sym, ap, ap₂, subst, ◌∙◌, arith, append_assoc, append-nil}
 use Rattle.std.specs.Prelude.{◌==◌}
 use Rattle.std.specs.List.{concat, range_with_len}
 use Rattle.std.proofs.lemmas.Bool.{cases_lt, eq-eqb, ne_eqb}
-use Rattle.std.proofs.lemmas.List.{append_cancel_left, drop-drop, drop_all, drop_at, length-append, length-drop, length-take-le, nil_from_length, take-take, take_all, take_at, drop-take, length-take}
+use Rattle.std.proofs.lemmas.List.{append_cancel_left, drop-drop, drop_all, drop_at, length-append, length-drop, length-take-le, take_all, take_at, length-take}
 use Rattle.std.proofs.lemmas.List.FromFn.{map-range_with_len_more}
 use Rattle.std.proofs.lemmas.Nat.{div-mul-add, div_below, le-div}
 use Rattle.std.proofs.Math.Seq.{take-add}
@@ -130,7 +131,8 @@ pub last_of_joined : (size : ℕ) (f : ℕ → List ℕ) (last : ℕ) → ((j : 
     → last_piece size (length (concat (each_below (last + 1) f))) ≡ last
 last_of_joined size f last whole short some =
     let len : length (concat (each_below (last + 1) f)) ≡ size * last + length (f last) =
-    ap length (joined_more f last) ∙ length-append (concat (each_below last f)) (f last) ∙ ap (λ (n : ℕ). n + length (f last)) (length-joined size f last whole) in
+    ap length (joined_more f last) ∙ length-append (concat (each_below last f)) (f last)
+    ∙ ap (λ (n : ℕ). n + length (f last)) (length-joined size f last whole) in
     ap (λ (n : ℕ). (n - 1) / size) len
     ∙ ap (λ (n : ℕ). n / size) (let e : size * last + length (f last) - 1 ≡ last * size + (length (f last) - 1) = omega arith in e)
     ∙ div-mul-add last size (length (f last) - 1) (omega arith)

@@ -1,17 +1,15 @@
 -- Steps of the loops over a reader and a writer.
-use Rattle.std.proofs.Common.{◌≡◌, ℕ, Bool, true, false, ◌⊎◌, inl, inr, None, Some, IfSome, Result, Ok, Err, IfErr, OnErr, ◌+◌, ◌-◌, ◌*◌, ◌^◌, ◌<◌, ◌≤◌, List, [], ◌++◌, length, take, drop, refl, sym, ap, subst, ◌∙◌, arith, append_assoc, append-nil, below_more}
+use Rattle.std.proofs.Common.{◌≡◌, ℕ, Bool, false, inl, inr, None, Some, IfSome, Result, Ok, Err, IfErr, OnErr, ◌+◌, ◌-◌}
+use Rattle.std.proofs.Common.{◌*◌, ◌<◌, ◌≤◌, List, [], ◌++◌, length, take, drop, refl, sym, ap, subst, ◌∙◌, arith, append_assoc, append-nil}
 use Rattle.std.specs.Prelude.{◌==◌, IsErrAnd, Option}
-use Rattle.std.specs.List.{concat}
 use Rattle.std.specs.Io.KnownBytes.{Appends, Consumes, IsAtEnd, Keeps}
 use Rattle.std.proofs.KnownBytes.{Appends-nil, Appends-trans, Consumes-kept, Consumes-trans}
 use Rattle.std.proofs.Math.Seq.{take-add}
 use Rattle.std.proofs.lemmas.Bool.{cases_lt, eq-eqb, eqb-false, eqb-true}
 use Rattle.std.proofs.lemmas.List.{drop_all, drop_at, take-append-drop, take_at, take_all, take_rest}
-use Rattle.aead_ciphers_base.specs.Bytes.{each_below}
-use Rattle.sealed_file.specs.Format.{piece, last_piece, header, sealed_chunk, sealed_chunks, sealed_file}
-use Rattle.sealed_file.specs.Opening.{HasTag, HasHeader, AreRight, IsSealed, opened_chunk, opened_chunks, opened_file, last_chunk, prefix_of, body_of}
+use Rattle.sealed_file.specs.Format.{piece, last_piece}
 use Rattle.sealed_file.specs.Streams.{AppendsBeginning, TakesFront}
-use Rattle.sealed_file.proofs.PieceLemmas.{is_last, joined_more, joined_parts, rest_behind}
+use Rattle.sealed_file.proofs.PieceLemmas.{is_last, rest_behind}
 
 -- ---- reading
 
@@ -87,12 +85,14 @@ pub begins_none : (old : Option (List ℕ)) (all : List ℕ) → AppendsBeginnin
 begins_none old all = ([], all, refl, Appends-nil old)
 
 -- bytes of which all were appended, and then a beginning of some more
-pub begins_more : (old mid new : Option (List ℕ)) (done more later all : List ℕ) → Appends old mid done → AppendsBeginning mid new more → all ≡ done ++ (more ++ later)
+pub begins_more : (old mid new : Option (List ℕ)) (done more later all : List ℕ) → Appends old mid done
+    → AppendsBeginning mid new more → all ≡ done ++ (more ++ later)
     → AppendsBeginning old new all
 begins_more old mid new done more later all first (front, rest, e, second) all_is = (
   done ++ front,
   rest ++ later,
-  all_is ∙ ap (λ (l : List ℕ). done ++ (l ++ later)) e ∙ ap (λ (l : List ℕ). done ++ l) (append_assoc front rest later) ∙ sym (append_assoc done front (rest ++ later)),
+  all_is ∙ ap (λ (l : List ℕ). done ++ (l ++ later)) e ∙ ap (λ (l : List ℕ). done ++ l) (append_assoc front rest later)
+      ∙ sym (append_assoc done front (rest ++ later)),
   Appends-trans old mid new done front first second,
 )
 

@@ -1,11 +1,11 @@
 -- The length of a tag, and that decrypting undoes encrypting.
-use Rattle.std.proofs.Common.{◌≡◌, ℕ, suc, List, [], ◌∷◌, ◌++◌, length, refl, sym, ap, ap₂, ◌∙◌, arith}
+use Rattle.std.proofs.Common.{◌≡◌, ℕ, suc, List, [], ◌∷◌, length, refl, ap, ◌∙◌, arith}
 use Rattle.aead_ciphers_base.specs.Aes.{aes, cipher, add_round_key}
 use Rattle.aead_ciphers_base.specs.Bytes.{◌⊕◌}
 use Rattle.aead_ciphers_base.proofs.CounterModeLemmas.{length-counter_mode}
 use Rattle.aead_ciphers_base.proofs.CounterModeTwice.{counter_mode-twice}
 use Rattle.aead_ciphers.specs.AesGcm.{aes_encrypted, aes_decrypted, aes_tag}
-use Rattle.aead_ciphers.specs.Gcm.{tag, hashed}
+use Rattle.aead_ciphers.specs.Gcm.{tag}
 use Rattle.aead_ciphers.specs.Ghash.{ghash, ◌•◌, block_of}
 
 length-xor : (xs ys : List ℕ) (n : ℕ) → length xs ≡ n → length ys ≡ n → length (xs ⊕ ys) ≡ n

@@ -16,7 +16,9 @@ use std::mem;
 
 /// Opens the sealed file that `input` gives. A chunk's message is written once its tag was found right.
 ///
-/// It keeps two chunks in memory.
+/// It keeps two chunks in memory. Each error but `Io` says what is wrong with the file: `AnotherMagic`,
+/// `AnotherVersion`, `EndsEarly` (within the header or a tag, or behind a chunk that isn't the last), `BytesBehind` (behind
+/// a last chunk of 64 KiB), `Refused` (any other chunk with a false tag), `TooLong` (more than `MAX_CHUNKS` chunks).
 pub fn open<R: Read, W: Write>(
     alloc: Global,
     key: &FileKey,

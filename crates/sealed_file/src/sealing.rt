@@ -16,8 +16,8 @@ use std::mem;
 
 /// Seals what `input` gives. A prefix is for one file under a key.
 ///
-/// It keeps two chunks in memory. `TooLong` comes where the file has more than `MAX_CHUNKS` chunks, and any other error is
-/// one of reading, writing or memory. What was written by then is a beginning of the sealed file.
+/// It keeps two chunks in memory. `TooLong` comes where the file has more than `MAX_CHUNKS` chunks, and any other
+/// error is one of reading, writing or memory. What was written by then is a beginning of the sealed file.
 pub fn seal<R: Read, W: Write>(
     alloc: Global,
     key: &FileKey,

@@ -1,7 +1,8 @@
-use Rattle.std.proofs.Common.{◌≡◌, ℕ, List, IfSome, ◌^◌, ◌-◌, ◌<◌, ◌≤◌, length, vec_len, arith, rules, ap, refl, subst, sym, true, false, ◌∙◌}
+use Rattle.std.proofs.Common.{◌≡◌, IfSome, ◌-◌, vec_len, arith, refl, subst, sym, true, false, ◌∙◌}
 use Rattle.sealed_file.specs.Refusals.{OpenRefuses}
 use Rattle.sealed_file.specs.declared.error.FileError.{FileError}
-use Rattle.sealed_file.proofs.OpenLemmas.{header_refused, open_accepted, open_end, open_long, open_next, open_refused, open_start, open_stop, open_stop_in, stop_at_start}
+use Rattle.sealed_file.proofs.OpenLemmas.{header_refused, open_accepted, open_end, open_long, open_next}
+use Rattle.sealed_file.proofs.OpenLemmas.{open_refused, open_start, open_stop, open_stop_in, stop_at_start}
 use Rattle.sealed_file.proofs.StreamLemmas.{err_from, if_some_all, if_some_map, on_err}
 use Rattle.sealed_file.proofs.opening.open.Goals as goal
 
@@ -44,7 +45,8 @@ returns-in_err-open_chunk-clause-refused g c =
     err_from {T = Unit {0}} {E = FileError} c.from_residual-in_err-open_chunk.result _ Says c.from_residual-in_err-open_chunk.ensures.1 (λ e same.
     subst Says (sym same)
     (if_some_map _ _ _ c.loop-number.invariant.1 (λ file s.
-    open_refused _ _ _ _ _ _ _ _ _ _ (g.W.Write.contents c.loop-number.output) _ s c.in_ok-read_piece-3.ensures.bytes _ c.is_empty-is_last.ensures next.ok.0
+    open_refused _ _ _ _ _ _ _ _ _ _ (g.W.Write.contents c.loop-number.output) _ s c.in_ok-read_piece-3.ensures.bytes
+    _ c.is_empty-is_last.ensures next.ok.0
     _ (λ had. let opened : false ≡ true = c.in_err-open_chunk.ensures.accepted.1 had in cc) c.in_err-open_chunk.ensures.refused)))
 
 pub returns-in_err-open_chunk-clause-nothing_past : goal.returns-in_err-open_chunk-clause-nothing_past
@@ -55,7 +57,8 @@ returns-in_err-write_bytes-clause-nothing_past g c =
     let next = c.read_piece-in-loop-number.new.piece in
     let had = c.in_ok-open_chunk.ensures.accepted.0 refl in
     on_err _ _ (if_some_map _ _ _ c.loop-number.invariant.1 (λ file s.
-    open_stop_in _ _ _ _ _ _ _ _ _ _ _ _ s c.in_ok-read_piece-3.ensures.bytes _ c.is_empty-is_last.ensures next.ok.0
+    open_stop_in _ _ _ _ _ _ _ _ _ _ _ _ s c.in_ok-read_piece-3.ensures.bytes
+    _ c.is_empty-is_last.ensures next.ok.0
     _ had (c.deref-in-loop-number.ensures.value ∙ c.in_ok-open_chunk.ensures.opened) c.in_err-write_bytes.ensures.err))
 
 pub returns-then-is_last-clause-accepted : goal.returns-then-is_last-clause-accepted
@@ -63,7 +66,8 @@ returns-then-is_last-clause-accepted g c =
     let next = c.read_piece-in-loop-number.new.piece in
     let had = c.in_ok-open_chunk.ensures.accepted.0 refl in
     if_some_map _ _ _ c.loop-number.invariant.1 (λ file s.
-    open_accepted _ _ _ _ _ _ _ _ _ _ (g.W.Write.contents c.write_bytes.new.output) _ s c.in_ok-read_piece-3.ensures.bytes _ c.is_empty-is_last.ensures next.ok.0
+    open_accepted _ _ _ _ _ _ _ _ _ _ (g.W.Write.contents c.write_bytes.new.output) _ s c.in_ok-read_piece-3.ensures.bytes
+    _ c.is_empty-is_last.ensures next.ok.0
     _ had (c.deref-in-loop-number.ensures.value ∙ c.in_ok-open_chunk.ensures.opened) c.if-is_last.true c.loop-number-test.true)
 
 pub returns-then-is_last-clause-opened : goal.returns-then-is_last-clause-opened
@@ -71,7 +75,8 @@ returns-then-is_last-clause-opened g c =
     let next = c.read_piece-in-loop-number.new.piece in
     let had = c.in_ok-open_chunk.ensures.accepted.0 refl in
     if_some_map _ _ _ c.loop-number.invariant.1 (λ file s.
-    open_end _ _ _ _ _ _ _ _ _ _ _ _ s c.in_ok-read_piece-3.ensures.bytes _ c.is_empty-is_last.ensures next.ok.0
+    open_end _ _ _ _ _ _ _ _ _ _ _ _ s c.in_ok-read_piece-3.ensures.bytes
+    _ c.is_empty-is_last.ensures next.ok.0
     _ had (c.deref-in-loop-number.ensures.value ∙ c.in_ok-open_chunk.ensures.opened) c.if-is_last.true c.in_ok-write_bytes.ensures.ok)
 
 pub loop-number-preserved : goal.loop-number-preserved
@@ -83,8 +88,10 @@ loop-number-preserved g c =
     let same : c.swap.new.x.items ≡ next.items = cc in (
       omega (arith, size, swapped),
       if_some_map _ _ _ c.loop-number.invariant.1 (λ file s.
-          open_next _ _ _ _ _ _ _ _ _ _ _ _ s c.in_ok-read_piece-3.ensures.bytes _ c.is_empty-is_last.ensures next.ok.0
-          _ had (c.deref-in-loop-number.ensures.value ∙ c.in_ok-open_chunk.ensures.opened) c.swap.new.x.items same c.if-is_last.false c.in_ok-write_bytes.ensures.ok),
+          open_next _ _ _ _ _ _ _ _ _ _ _ _ s c.in_ok-read_piece-3.ensures.bytes
+          _ c.is_empty-is_last.ensures next.ok.0
+          _ had (c.deref-in-loop-number.ensures.value ∙ c.in_ok-open_chunk.ensures.opened)
+          c.swap.new.x.items same c.if-is_last.false c.in_ok-write_bytes.ensures.ok),
     )
 
 pub returns-clause-refused : goal.returns-clause-refused

@@ -1,4 +1,4 @@
-use Rattle.std.proofs.Common.{◌≡◌, ℕ, List, ◌^◌, ◌-◌, ◌<◌, ◌≤◌, length, vec_len, arith, rules, ap, sym, ◌∙◌}
+use Rattle.std.proofs.Common.{◌≡◌, ◌-◌, vec_len, arith, ◌∙◌}
 use Rattle.sealed_file.proofs.SealLemmas.{seal_end, seal_few, seal_long, seal_next, seal_start, seal_stop, seal_stop_in, stop_behind_header, stop_in_header}
 use Rattle.sealed_file.proofs.StreamLemmas.{begins_none, if_some_all, if_some_map, on_err}
 use Rattle.sealed_file.proofs.sealing.seal.Goals as goal
@@ -31,21 +31,24 @@ pub returns-in_err-write_bytes-2-clause-beginning : goal.returns-in_err-write_by
 returns-in_err-write_bytes-2-clause-beginning g c =
     let next = c.read_piece-in-loop-number.new.piece in
     on_err _ _ (if_some_map _ _ _ c.loop-number.invariant.1 (λ file s.
-    seal_stop_in _ _ _ _ _ _ _ _ _ _ _ _ _ s c.in_ok-read_piece-2.ensures.bytes _ c.is_empty-is_last.ensures next.ok.0 (c.deref.ensures.value ∙ c.in_ok-seal_chunk.ensures)
+    seal_stop_in _ _ _ _ _ _ _ _ _ _ _ _ _ s c.in_ok-read_piece-2.ensures.bytes
+    _ c.is_empty-is_last.ensures next.ok.0 (c.deref.ensures.value ∙ c.in_ok-seal_chunk.ensures)
     c.in_err-write_bytes-2.ensures.err))
 
 pub returns-then-is_last-clause-few : goal.returns-then-is_last-clause-few
 returns-then-is_last-clause-few g c =
     let next = c.read_piece-in-loop-number.new.piece in
     if_some_map _ _ _ c.loop-number.invariant.1 (λ file s.
-    seal_few _ _ _ _ _ _ _ _ _ _ _ (g.W.Write.contents c.write_bytes-in-loop-number.new.output) _ s c.in_ok-read_piece-2.ensures.bytes _ c.is_empty-is_last.ensures next.ok.0 (c.deref.ensures.value ∙ c.in_ok-seal_chunk.ensures)
+    seal_few _ _ _ _ _ _ _ _ _ _ _ (g.W.Write.contents c.write_bytes-in-loop-number.new.output) _ s c.in_ok-read_piece-2.ensures.bytes
+    _ c.is_empty-is_last.ensures next.ok.0 (c.deref.ensures.value ∙ c.in_ok-seal_chunk.ensures)
     c.if-is_last.true c.loop-number-test.true)
 
 pub returns-then-is_last-clause-sealed : goal.returns-then-is_last-clause-sealed
 returns-then-is_last-clause-sealed g c =
     let next = c.read_piece-in-loop-number.new.piece in
     if_some_map _ _ _ c.loop-number.invariant.1 (λ file s.
-    seal_end _ _ _ _ _ _ _ _ _ _ _ _ _ s c.in_ok-read_piece-2.ensures.bytes _ c.is_empty-is_last.ensures next.ok.0 (c.deref.ensures.value ∙ c.in_ok-seal_chunk.ensures)
+    seal_end _ _ _ _ _ _ _ _ _ _ _ _ _ s c.in_ok-read_piece-2.ensures.bytes
+    _ c.is_empty-is_last.ensures next.ok.0 (c.deref.ensures.value ∙ c.in_ok-seal_chunk.ensures)
     c.if-is_last.true c.in_ok-write_bytes-2.ensures.ok)
 
 pub loop-number-preserved : goal.loop-number-preserved
