@@ -1,0 +1,373 @@
+//! Sealed files as `tools/open-sealed-file` makes them, files that are refused, and streams that fail.
+
+use md5::{Digest, Md5};
+use sealed_file::{CHUNK_LEN, FileError, FileKey, HEADER_LEN, open, seal};
+use std::alloc::Global;
+use std::io::{self, ErrorKind, Read, Write};
+use std::process::Abort;
+use std::test::Fail;
+
+/// The bytes of a sealed chunk that isn't the last.
+const SEALED_LEN: usize = CHUNK_LEN + 16;
+
+/// The key: the bytes 0 to 31.
+const KEY: [u8; 32] = [
+    0, 1, 2, 3, 4, 5, 6, 7, 8, 9, 10, 11, 12, 13, 14, 15, 16, 17, 18, 19, 20, 21, 22, 23, 24, 25,
+    26, 27, 28, 29, 30, 31,
+];
+
+const PREFIX: [u8; 7] = [1, 2, 3, 4, 5, 6, 7];
+
+/// Lengths of files, and the MD5 of each when sealed: python's `cryptography` made them.
+const SEALED: [(usize, [u8; 16]); 6] = [
+    (
+        0,
+        *b"\xbb\x96\x76\x50\x1a\xb9\xaf\xd7\x19\xac\x72\xe4\xa3\xbd\xbc\xfb",
+    ),
+    (
+        1,
+        *b"\x34\xe3\x58\xe1\x09\x89\xc2\x54\x3e\xa3\x97\x77\xf9\xb2\x16\xec",
+    ),
+    (
+        65535,
+        *b"\xd9\xe3\x84\x5d\x0e\x64\x1a\xfc\x8a\x4d\xca\x56\x6b\xd8\x8d\x25",
+    ),
+    (
+        65536,
+        *b"\xd9\x2d\xbc\xb6\x97\x89\xd4\x49\xfc\x2f\x32\xfe\xa7\xa4\x61\x4f",
+    ),
+    (
+        65537,
+        *b"\x24\x94\x21\xe3\xfe\x67\xa3\x70\x9c\x48\x2f\x6f\x8a\x0f\x54\x70",
+    ),
+    (
+        131072,
+        *b"\xf5\x0c\xcb\x69\x08\xf0\xd6\x2d\x6c\x70\x9b\x9b\x1e\x16\xc1\x33",
+    ),
+];
+
+/// Two lists of bytes are equal.
+fn same(rt: &impl Abort, found: &[u8], wanted: &[u8], what: &str) {
+    assert_eq!(rt; found, wanted, "{what}");
+}
+
+/// The test file of a length: byte i is i modulo 251.
+fn file_of(alloc: Global, len: usize) -> Result<Vec<u8>, Fail> {
+    let mut file = Vec::with_capacity(alloc, len)?;
+    for i in 0..len {
+        file.push((i % 251) as u8)?;
+    }
+    Ok(file)
+}
+
+/// The test file of a length, sealed.
+fn sealed_of(alloc: Global, len: usize) -> Result<Vec<u8>, Fail> {
+    let file = file_of(alloc, len)?;
+    let mut sealed = Vec::new(alloc);
+    seal(
+        alloc,
+        &FileKey::new(&KEY)?,
+        PREFIX,
+        &mut file.as_slice(),
+        &mut sealed,
+    )?;
+    Ok(sealed)
+}
+
+/// The pieces, one behind the other.
+fn joined(alloc: Global, pieces: &[&[u8]]) -> Result<Vec<u8>, Fail> {
+    let mut all = Vec::new(alloc);
+    for piece in pieces {
+        all.extend_from_slice(piece)?;
+    }
+    Ok(all)
+}
+
+/// Opening these bytes ends in this text, and gives the first `len` bytes of the test file.
+fn opens(
+    rt: &(impl Abort + AllocGlobal),
+    sealed: &[u8],
+    len: usize,
+    text: &str,
+) -> Result<(), Fail> {
+    let alloc = rt.alloc();
+    let mut opened = Vec::new(alloc);
+    let mut input = sealed;
+    let found = match open(alloc, &FileKey::new(&KEY)?, &mut input, &mut opened) {
+        Ok(()) => String::from_str(alloc, "opened")?,
+        Err(error) => format!(in alloc; "{error}")?,
+    };
+    assert_eq!(rt; found.as_str(), text);
+    same(rt, &opened, &file_of(alloc, len)?, text);
+    Ok(())
+}
+
+#[test]
+fn sealed_by_another_program(rt: HostRuntime) -> Result<(), Fail> {
+    for (len, digest) in &SEALED {
+        let sealed = sealed_of(rt.alloc(), *len)?;
+        same(&rt, &Md5::digest(&sealed), digest, "sealed");
+        opens(&rt, &sealed, *len, "opened")?;
+    }
+    Ok(())
+}
+
+#[test]
+fn cut_files(rt: HostRuntime) -> Result<(), Fail> {
+    let sealed = sealed_of(rt.alloc(), CHUNK_LEN + 5)?;
+    let behind_first = HEADER_LEN + SEALED_LEN;
+    for (len, opened, text) in [
+        (0, 0, "the sealed file ends early"),
+        (15, 0, "the sealed file ends early"),
+        (16, 0, "the sealed file ends early"),
+        (31, 0, "the sealed file ends early"),
+        (32, 0, "another key, or chunk 0 was changed or cut"),
+        (
+            behind_first - 1,
+            0,
+            "another key, or chunk 0 was changed or cut",
+        ),
+        (behind_first, 0, "the sealed file ends early"),
+        (behind_first + 15, CHUNK_LEN, "the sealed file ends early"),
+        (
+            behind_first + 16,
+            CHUNK_LEN,
+            "another key, or chunk 1 was changed or cut",
+        ),
+        (
+            behind_first + 20,
+            CHUNK_LEN,
+            "another key, or chunk 1 was changed or cut",
+        ),
+        (behind_first + 21, CHUNK_LEN + 5, "opened"),
+    ] {
+        let cut = sealed.get(..len).ok_or(FileError::EndsEarly)?;
+        opens(&rt, cut, opened, text)?;
+    }
+    Ok(())
+}
+
+#[test]
+fn changed_files(rt: HostRuntime) -> Result<(), Fail> {
+    let alloc = rt.alloc();
+    let sealed = sealed_of(alloc, 2 * CHUNK_LEN)?;
+    let (header, body) = sealed
+        .split_at_checked(HEADER_LEN)
+        .ok_or(FileError::EndsEarly)?;
+    let (first, last) = body
+        .split_at_checked(SEALED_LEN)
+        .ok_or(FileError::EndsEarly)?;
+    let header_rest = header.get(8..).ok_or(FileError::EndsEarly)?;
+    let prefix = header.get(9..).ok_or(FileError::EndsEarly)?;
+    let refused_first = "another key, or chunk 0 was changed or cut";
+    opens(
+        &rt,
+        &joined(alloc, &[header, last, first])?,
+        0,
+        refused_first,
+    )?;
+    opens(
+        &rt,
+        &joined(alloc, &[header, first, first, last])?,
+        CHUNK_LEN,
+        "another key, or chunk 1 was changed or cut",
+    )?;
+    opens(&rt, &joined(alloc, &[header, last])?, 0, refused_first)?;
+    opens(
+        &rt,
+        &joined(alloc, &[header, first, last, last])?,
+        CHUNK_LEN,
+        "bytes stand behind the last chunk",
+    )?;
+    opens(
+        &rt,
+        &joined(alloc, &[header, first, last, b"x"])?,
+        CHUNK_LEN,
+        "bytes stand behind the last chunk",
+    )?;
+    opens(
+        &rt,
+        &joined(alloc, &[b"SEALFILF", header_rest, body])?,
+        0,
+        "not a sealed file",
+    )?;
+    opens(
+        &rt,
+        &joined(alloc, &[b"SEALFILE\x02", prefix, body])?,
+        0,
+        "a sealed file of version 2, which isn't 1",
+    )?;
+    opens(
+        &rt,
+        &joined(alloc, &[b"SEALFILE\x01prefix!", body])?,
+        0,
+        refused_first,
+    )?;
+    Ok(())
+}
+
+#[test]
+fn another_key(rt: HostRuntime) -> Result<(), Fail> {
+    let alloc = rt.alloc();
+    let sealed = sealed_of(alloc, 5)?;
+    let mut opened = Vec::new(alloc);
+    let outcome = open(
+        alloc,
+        &FileKey::new(&[7; 32])?,
+        &mut sealed.as_slice(),
+        &mut opened,
+    );
+    assert!(rt; matches!(outcome, Err(FileError::Refused(0))));
+    assert!(rt; opened.is_empty());
+    for (error, text) in [
+        (FileKey::new(&[7; 31]).err(), "the key hasn't 32 bytes"),
+        (FileKey::new(&[7; 33]).err(), "the key hasn't 32 bytes"),
+        (
+            Some(FileError::TooLong),
+            "the file is too long: it has 2^32 chunks or more",
+        ),
+    ] {
+        let error = error.ok_or(FileError::EndsEarly)?;
+        assert_eq!(rt; format!(in alloc; "{error}")?.as_str(), text);
+    }
+    Ok(())
+}
+
+/// The calls that a stream gets until one fails.
+#[derive(Drop)]
+struct Calls {
+    left: u32,
+    has_failed: bool,
+}
+
+impl Calls {
+    fn new(left: u32) -> Calls {
+        Calls {
+            left,
+            has_failed: false,
+        }
+    }
+
+    /// Fails once there is none left, and says it was interrupted each time but one.
+    fn count(&mut self) -> io::Result<()> {
+        if self.left == 0 {
+            self.has_failed = true;
+            return Err(io::Error::from(ErrorKind::BrokenPipe));
+        }
+        self.left -= 1;
+        if self.left % 4 == 3 {
+            return Err(io::Error::from(ErrorKind::Interrupted));
+        }
+        Ok(())
+    }
+}
+
+/// Gives its bytes, at most 50000 a call.
+#[derive(Drop)]
+struct Reader<'a> {
+    rest: &'a [u8],
+    calls: Calls,
+}
+
+impl Read for Reader<'_> {
+    fn read(&mut self, buf: &mut [u8]) -> io::Result<usize> {
+        self.calls.count()?;
+        let most = buf.len().min(50000);
+        self.rest.read(&mut buf[..most])
+    }
+}
+
+/// Keeps what is written, at most 50000 bytes a call.
+#[derive(Drop)]
+struct Writer {
+    written: Vec<u8>,
+    calls: Calls,
+}
+
+impl Write for Writer {
+    fn write(&mut self, buf: &[u8]) -> io::Result<usize> {
+        self.calls.count()?;
+        let count = buf.len().min(50000);
+        self.written.extend_from_slice(&buf[..count])?;
+        Ok(count)
+    }
+
+    fn flush(&mut self) -> io::Result<()> {
+        self.calls.count()
+    }
+}
+
+/// What opening gives over streams of which the read and the write of these numbers fail, and whether one did.
+fn opened_over(
+    alloc: Global,
+    sealed: &[u8],
+    reads: u32,
+    writes: u32,
+) -> Result<(Result<(), FileError>, Vec<u8>, bool), Fail> {
+    let mut input = Reader {
+        rest: sealed,
+        calls: Calls::new(reads),
+    };
+    let mut output = Writer {
+        written: Vec::new(alloc),
+        calls: Calls::new(writes),
+    };
+    let outcome = open(alloc, &FileKey::new(&KEY)?, &mut input, &mut output);
+    let has_failed = input.calls.has_failed || output.calls.has_failed;
+    Ok((outcome, output.written, has_failed))
+}
+
+/// What sealing gives, likewise.
+fn sealed_over(
+    alloc: Global,
+    file: &[u8],
+    reads: u32,
+    writes: u32,
+) -> Result<(Result<(), FileError>, Vec<u8>, bool), Fail> {
+    let mut input = Reader {
+        rest: file,
+        calls: Calls::new(reads),
+    };
+    let mut output = Writer {
+        written: Vec::new(alloc),
+        calls: Calls::new(writes),
+    };
+    let outcome = seal(alloc, &FileKey::new(&KEY)?, PREFIX, &mut input, &mut output);
+    let has_failed = input.calls.has_failed || output.calls.has_failed;
+    Ok((outcome, output.written, has_failed))
+}
+
+/// Where a call failed, its error came and a beginning was written; else all was.
+fn stopped(rt: &impl Abort, ended: (Result<(), FileError>, Vec<u8>, bool), all: &[u8]) -> bool {
+    let (outcome, written, has_failed) = ended;
+    assert!(rt; all.starts_with(&written));
+    if has_failed {
+        assert!(rt;
+            matches!(outcome, Err(FileError::Io(error)) if error.kind() == ErrorKind::BrokenPipe)
+        );
+    } else {
+        assert!(rt; outcome.is_ok());
+        assert!(rt; written.len() == all.len());
+    }
+    has_failed
+}
+
+#[test]
+fn failing_streams(rt: HostRuntime) -> Result<(), Fail> {
+    let alloc = rt.alloc();
+    let file = file_of(alloc, CHUNK_LEN + 5)?;
+    let sealed = sealed_of(alloc, CHUNK_LEN + 5)?;
+    let mut failures = 0u32;
+    for calls in 0..7 {
+        for (reads, writes) in [(calls, u32::MAX), (u32::MAX, calls)] {
+            if stopped(&rt, sealed_over(alloc, &file, reads, writes)?, &sealed) {
+                failures = failures.saturating_add(1);
+            }
+            if stopped(&rt, opened_over(alloc, &sealed, reads, writes)?, &file) {
+                failures = failures.saturating_add(1);
+            }
+        }
+    }
+    assert!(rt; failures > 15);
+    Ok(())
+}

@@ -1,0 +1,63 @@
+-- What the calls for one chunk say.
+use Rattle.std.proofs.Common.{◌≡◌, ℕ, Bool, true, false, inl, inr, ◌+◌, ◌-◌, ◌≤◌, List, []}
+use Rattle.std.proofs.Common.{◌++◌, length, take, drop, map, get_or, refl, ap, ap₂, subst, ◌∙◌, arith, append-nil}
+use Rattle.std.specs.List.{range_with_len}
+use Rattle.std.proofs.lemmas.Bool.{cases_lt}
+use Rattle.std.proofs.lemmas.List.{drop_all, length-take-le, take_at}
+use Rattle.std.proofs.lemmas.List.FromFn.{fill_by_all}
+use Rattle.aead_ciphers_base.specs.Aes.{aes}
+use Rattle.aead_ciphers_base.proofs.CounterModeLemmas.{length-counter_mode}
+use Rattle.aead_ciphers.specs.AesGcm.{aes_encrypted, aes_decrypted, aes_sealed, aes_tag, AesOpenedAttached}
+use Rattle.aead_ciphers.proofs.OpenedLemmas.{Accepted, opened_accepted}
+use Rattle.sealed_file.specs.Format.{chunk_nonce, header, sealed_chunk}
+use Rattle.sealed_file.specs.Opening.{HasTag, ciphertext_of, opened_chunk}
+
+-- a list by its items
+pub items : (n : ℕ) (xs : List ℕ) → length xs ≡ n → xs ≡ map (λ i. get_or xs i 0) (range_with_len 0 n)
+items n xs h = fill_by_all (λ i. get_or xs i 0) xs n 0 h (λ k _. refl)
+
+-- a ciphertext and its tag are a sealed chunk
+pub sealed_is : (key prefix : List ℕ) (number : ℕ) (is_last : Bool) (inner nonce aad old new tag : List ℕ) → inner ≡ key
+    → nonce ≡ chunk_nonce prefix number is_last
+    → aad ≡ header prefix → new ≡ aes_encrypted inner nonce old → tag ≡ aes_tag inner nonce aad new → new ++ tag ≡ sealed_chunk key prefix number is_last old
+unfolding sealed_chunk
+sealed_is key prefix number is_last inner nonce aad old new tag k_is n_is a_is e f =
+    ap₂ (λ (xs ys : List ℕ). xs ++ ys) e (f ∙ ap (aes_tag inner nonce aad) e)
+    ∙ ap (λ (k : List ℕ). aes_sealed k nonce aad old) k_is ∙ ap (λ (n : List ℕ). aes_sealed key n aad old) n_is
+    ∙ ap (λ (a : List ℕ). aes_sealed key (chunk_nonce prefix number is_last) a old) a_is
+
+module _ (key prefix : List ℕ) (number : ℕ) (is_last : Bool) (inner nonce aad old new : List ℕ)
+    (k_is : inner ≡ key) (n_is : nonce ≡ chunk_nonce prefix number is_last) (a_is : aad ≡ header prefix)
+    (opened : AesOpenedAttached inner nonce aad 0 old true new) where
+  size : 16 ≤ length old
+  size = elim (cases_lt (length old) 16) [
+    | inl short ↦ let e : true ≡ false = (opened.no_tag short).0 in absurd (cc)
+    | inr long ↦ long
+  ]
+
+  accepted : Accepted (aes inner) nonce aad (drop (length old - 16) old) 0 (take (length old - 16) old) (opened.tagged size).0
+  accepted = opened_accepted (aes inner) nonce aad (drop (length old - 16) old) 0 (take (length old - 16) old) _ (opened.tagged size).1
+
+  -- what was accepted had its tag
+  pub opened_has_tag : HasTag key prefix number is_last old
+  opened_has_tag = record {
+    size = size;
+    tag = subst (λ (a : List ℕ). drop (length old - 16) old ≡ aes_tag key (chunk_nonce prefix number is_last) a (ciphertext_of old)) a_is
+        (subst (λ (x : List ℕ). drop (length old - 16) old ≡ aes_tag key x aad (ciphertext_of old)) n_is
+        (subst (λ (k : List ℕ). drop (length old - 16) old ≡ aes_tag k nonce aad (ciphertext_of old)) k_is accepted.right_tag));
+  }
+
+  -- and stands decrypted at the front
+  pub opened_message : take (length old - 16) new ≡ opened_chunk key prefix number is_last old
+  unfolding opened_chunk
+  opened_message =
+      let n = length old - 16 in
+      let front = take n old in
+      let body = (opened.tagged size).0 in
+      let plain = aes_decrypted inner nonce front in
+      let none : drop (length front - 0) front ≡ [] = drop_all (length front - 0) front (omega arith) in
+      let body_is : body ≡ plain = accepted.buffer ∙ ap (λ (l : List ℕ). plain ++ l) none ∙ append-nil plain in
+      let short : length front ≡ n = length-take-le n old (omega arith) in
+      let len : length body ≡ n = ap length body_is ∙ length-counter_mode (aes inner) nonce 2 front ∙ short in
+      ap (take n) (opened.tagged size).2 ∙ take_at body (drop n old) n len ∙ body_is
+      ∙ ap (λ (k : List ℕ). aes_decrypted k nonce front) k_is ∙ ap (λ (x : List ℕ). aes_decrypted key x front) n_is

@@ -1,0 +1,8 @@
+pub mod ChunkLemmas
+pub mod CutLemmas
+pub mod FileLemmas
+pub mod OpenLemmas
+pub mod PieceLemmas
+pub mod SealLemmas
+pub mod StreamLemmas
+pub mod TagLemmas

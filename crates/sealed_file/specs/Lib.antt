@@ -1,0 +1,4 @@
+pub mod Format
+pub mod Opening
+pub mod Refusals
+pub mod Streams

@@ -1,0 +1,203 @@
+//! The header, and one chunk at a time.
+
+ghost use Rattle.std.specs.Prelude.{◌≡◌, ◌≤◌, ◌↔◌, ◌++◌, length, vec_len, take, drop, IsTrue, IsOk, IsSome, IfSome, IfNone, IfOk, IfErr, OnOk};
+ghost use Rattle.std.specs.Bool.{OnTrue, OnFalse};
+ghost use Rattle.sealed_file.specs.Format.{header, chunk_nonce, sealed_chunk};
+ghost use Rattle.sealed_file.specs.Opening.{HasTag, HasHeader, opened_chunk};
+ghost use Rattle.sealed_file.specs.Refusals.{HeaderRefuses, ChunkRefuses};
+
+use crate::error::FileError;
+use crate::key::FileKey;
+use aead_ciphers::aead::{Aad, MAX_TAG_LEN, Nonce, Tag};
+use std::io;
+
+/// The bytes of a file in a chunk that isn't the last.
+pub const CHUNK_LEN: usize = 65536;
+
+/// The bytes of a sealed chunk that isn't the last.
+pub(crate) const SEALED_CHUNK_LEN: usize = CHUNK_LEN + MAX_TAG_LEN;
+
+/// The most chunks of a file.
+pub const MAX_CHUNKS: u32 = u32::MAX;
+
+/// What a sealed file begins with.
+pub const MAGIC: [u8; 8] = *b"SEALFILE";
+
+/// The version of the format, behind the magic.
+pub const VERSION: u8 = 1;
+
+/// The length of the prefix of a file's nonces, behind the version.
+pub const PREFIX_LEN: usize = 7;
+
+/// The length of the magic, the version and the prefix.
+pub const HEADER_LEN: usize = 16;
+
+/// The prefix of a file's nonces.
+pub(crate) type Prefix = [u8; PREFIX_LEN];
+
+/// What stands in front of a file of this prefix.
+pub(crate) fn header_of(prefix: &Prefix) -> [u8; HEADER_LEN]
+    ensures { result ≡ header prefix.now }
+{
+    let [m0, m1, m2, m3, m4, m5, m6, m7] = MAGIC;
+    let [p0, p1, p2, p3, p4, p5, p6] = *prefix;
+    [
+        m0, m1, m2, m3, m4, m5, m6, m7, VERSION, p0, p1, p2, p3, p4, p5, p6,
+    ]
+}
+
+/// The prefix of a header: of the first bytes of a file, 16 unless it has fewer.
+pub(crate) fn prefix_in(bytes: &[u8]) -> Result<Prefix, FileError>
+    requires { length bytes.now ≤ 16 }
+    ensures accepted { OnOk result (HasHeader bytes.now) }
+    ensures prefix { IfOk result (λ prefix. prefix ≡ drop 9 bytes.now) }
+    ensures refused { IfErr result (λ error. HeaderRefuses bytes.now error) }
+{
+    let Some(header) = bytes.as_array::<HEADER_LEN>() else {
+        return Err(FileError::EndsEarly);
+    };
+    let [
+        m0,
+        m1,
+        m2,
+        m3,
+        m4,
+        m5,
+        m6,
+        m7,
+        version,
+        p0,
+        p1,
+        p2,
+        p3,
+        p4,
+        p5,
+        p6,
+    ] = *header;
+    if [m0, m1, m2, m3, m4, m5, m6, m7] != MAGIC {
+        return Err(FileError::AnotherMagic);
+    }
+    if version != VERSION {
+        return Err(FileError::AnotherVersion(version));
+    }
+    Ok([p0, p1, p2, p3, p4, p5, p6])
+}
+
+/// The nonce of a chunk.
+fn nonce_of(prefix: &Prefix, number: u32, is_last: bool) -> Nonce
+    ensures { result ≡ chunk_nonce prefix.now number is_last }
+{
+    let [p0, p1, p2, p3, p4, p5, p6] = *prefix;
+    let [n0, n1, n2, n3] = number.to_be_bytes();
+    let last = if is_last { 1 } else { 0 };
+    Nonce::assume_unique_for_key([p0, p1, p2, p3, p4, p5, p6, n0, n1, n2, n3, last])
+}
+
+/// Encrypts a chunk of at most 64 KiB, and gives its tag.
+fn seal_slice(key: &FileKey, prefix: &Prefix, number: u32, is_last: bool, chunk: &mut [u8]) -> Tag
+    requires { length chunk.old ≤ 65536 }
+    ensures { chunk.new ++ result ≡ sealed_chunk key.now prefix.now number is_last chunk.old }
+{
+    let header = header_of(prefix);
+    let nonce = nonce_of(prefix, number, is_last);
+    let aad = Aad::from(header.as_slice());
+    match key.key.seal_in_place_separate_tag(nonce, aad, chunk) {
+        Ok(tag) => tag,
+        Err(_) => unreachable!(),
+    }
+}
+
+/// Seals a chunk of at most 64 KiB, and appends its tag.
+pub(crate) fn seal_chunk(
+    key: &FileKey,
+    prefix: &Prefix,
+    number: u32,
+    is_last: bool,
+    chunk: &mut Vec<u8>,
+) -> io::Result<()>
+    requires { vec_len chunk.old ≤ 65536 }
+    ensures { OnOk result (chunk.new.items
+        ≡ sealed_chunk key.now prefix.now number is_last chunk.old.items) }
+{
+    let tag = seal_slice(key, prefix, number, is_last, chunk);
+    chunk.extend_from_slice(tag.as_ref())?;
+    Ok(())
+}
+
+/// Opens a sealed chunk of at most 64 KiB and its tag, and answers how long the message at its front is.
+fn open_slice(
+    key: &FileKey,
+    prefix: &Prefix,
+    number: u32,
+    is_last: bool,
+    chunk: &mut [u8],
+) -> Option<usize>
+    requires { length chunk.old ≤ 65552 }
+    ensures accepted { IsSome result ↔ HasTag key.now prefix.now number is_last chunk.old }
+    ensures opened { IfSome result (λ n. take n chunk.new
+        ≡ opened_chunk key.now prefix.now number is_last chunk.old) }
+    ensures kept { IfNone result (chunk.new ≡ chunk.old) }
+{
+    let header = header_of(prefix);
+    let nonce = nonce_of(prefix, number, is_last);
+    let aad = Aad::from(header.as_slice());
+    match key.key.open_in_place_len(nonce, aad, chunk) {
+        Ok(len) => Some(len),
+        Err(_) => None,
+    }
+}
+
+/// Opens a sealed chunk of at most 64 KiB and its tag, and says whether it had that tag: then its message is left.
+fn has_opened(
+    key: &FileKey,
+    prefix: &Prefix,
+    number: u32,
+    is_last: bool,
+    chunk: &mut Vec<u8>,
+) -> bool
+    requires { vec_len chunk.old ≤ 65552 }
+    ensures accepted { IsTrue result ↔ HasTag key.now prefix.now number is_last chunk.old.items }
+    ensures opened { OnTrue result (chunk.new.items
+        ≡ opened_chunk key.now prefix.now number is_last chunk.old.items) }
+    ensures kept { OnFalse result (chunk.new.items ≡ chunk.old.items) }
+{
+    match open_slice(key, prefix, number, is_last, chunk) {
+        Some(len) => {
+            chunk.truncate(len);
+            true
+        }
+        None => false,
+    }
+}
+
+/// Opens a sealed chunk of at most 64 KiB and its tag, so that its message is left.
+pub(crate) fn open_chunk(
+    key: &FileKey,
+    prefix: &Prefix,
+    number: u32,
+    is_last: bool,
+    chunk: &mut Vec<u8>,
+) -> Result<(), FileError>
+    requires { vec_len chunk.old ≤ 65552 }
+    ensures accepted { IsOk result ↔ HasTag key.now prefix.now number is_last chunk.old.items }
+    ensures opened { OnOk result (chunk.new.items
+        ≡ opened_chunk key.now prefix.now number is_last chunk.old.items) }
+    ensures refused { IfErr result (λ error.
+        ChunkRefuses key.now prefix.now number is_last chunk.old.items error) }
+{
+    if has_opened(key, prefix, number, is_last, chunk) {
+        return Ok(());
+    }
+    if chunk.len() < MAX_TAG_LEN {
+        return Err(FileError::EndsEarly);
+    }
+    // Which of the two it is, the other kind's tag tells. What that opens is dropped.
+    if has_opened(key, prefix, number, !is_last, chunk) {
+        return Err(if is_last {
+            FileError::EndsEarly
+        } else {
+            FileError::BytesBehind
+        });
+    }
+    Err(FileError::Refused(number))
+}

@@ -1,0 +1,59 @@
+//! Why a file was not sealed or not opened.
+
+use std::error::Error;
+use std::{fmt, io};
+
+/// Why a file was not sealed or not opened.
+#[derive(Debug, Drop)]
+pub enum FileError {
+    /// The key hasn't 32 bytes.
+    KeyLength,
+    /// The file doesn't begin with the magic of a sealed file.
+    AnotherMagic,
+    /// The file is of another version of the format, this one.
+    AnotherVersion(u8),
+    /// The file ends within its header, within a tag, or behind a chunk that isn't the last.
+    EndsEarly,
+    /// Bytes stand behind the last chunk.
+    BytesBehind,
+    /// The chunk of this number, from 0 on, has another tag: the key is another one, or the chunk changed.
+    Refused(u32),
+    /// The file has more than `MAX_CHUNKS` chunks.
+    TooLong,
+    /// Reading or writing failed, or memory was refused.
+    Io(io::Error),
+}
+
+impl fmt::Display for FileError {
+    fn fmt<W: fmt::Write>(&self, f: &mut fmt::Formatter<W>) -> fmt::Result {
+        match self {
+            FileError::KeyLength => write!(f, "the key hasn't 32 bytes"),
+            FileError::AnotherMagic => write!(f, "not a sealed file"),
+            FileError::AnotherVersion(version) => write!(
+                f,
+                "a sealed file of version {version}, which isn't 1"
+            ),
+            FileError::EndsEarly => write!(f, "the sealed file ends early"),
+            FileError::BytesBehind => write!(f, "bytes stand behind the last chunk"),
+            FileError::Refused(number) => write!(
+                f,
+                "another key, or chunk {number} was changed or cut"
+            ),
+            FileError::TooLong => write!(f, "the file is too long: it has 2^32 chunks or more"),
+            FileError::Io(error) => write!(f, "{error}"),
+        }
+    }
+}
+
+impl Error for FileError {}
+
+impl From<io::Error> for FileError {
+    ghost use Rattle.std.specs.Prelude.{◌≡◌};
+    ghost use Rattle.sealed_file.specs.declared.error.FileError.TheVariants.{Io};
+
+    ghost from_gives = { λ error file_error. file_error ≡ Io error };
+
+    fn from(error: io::Error) -> Self {
+        FileError::Io(error)
+    }
+}

@@ -1,0 +1,51 @@
+//! Opening a sealed file.
+
+ghost use Rattle.std.specs.Prelude.{ℕ, IfErr, IfSome, OnOk, OnErr};
+ghost use Rattle.std.specs.Io.KnownBytes.{Appends};
+ghost use Rattle.sealed_file.specs.Opening.{AreRight, IsSealed, opened_chunks, opened_file};
+ghost use Rattle.sealed_file.specs.Refusals.{OpenRefuses};
+ghost use Rattle.sealed_file.specs.Streams.{AppendsBeginning};
+
+use crate::chunk::{HEADER_LEN, MAX_CHUNKS, Prefix, SEALED_CHUNK_LEN, open_chunk, prefix_in};
+use crate::error::FileError;
+use crate::key::FileKey;
+use crate::stream::{buffers, read_piece, write_bytes};
+use std::alloc::Global;
+use std::io::{Read, Write};
+use std::mem;
+
+/// Opens the sealed file that `input` gives. A chunk's message is written once its tag was found right.
+///
+/// It keeps two chunks in memory. Each error but `Io` says what is wrong with the file: `AnotherMagic`,
+/// `AnotherVersion`, `EndsEarly` (within the header or a tag, or behind a chunk that isn't the last), `BytesBehind` (behind
+/// a last chunk of 64 KiB), `Refused` (any other chunk with a false tag), `TooLong` (more than `MAX_CHUNKS` chunks).
+pub fn open<R: Read, W: Write>(
+    alloc: Global,
+    key: &FileKey,
+    input: &mut R,
+    output: &mut W,
+) -> Result<(), FileError>
+    ensures accepted { OnOk result (IfSome (R.remaining input.old) (λ file. IsSealed key.now file)) }
+    ensures opened { OnOk result (IfSome (R.remaining input.old) (λ file.
+        Appends (W.contents output.old) (W.contents output.new) (opened_file key.now file))) }
+    ensures refused { IfErr result (λ error. IfSome (R.remaining input.old) (λ file.
+        OpenRefuses key.now file error)) }
+    ensures nothing_past { OnErr result (IfSome (R.remaining input.old) (λ file. (n : ℕ) × AreRight key.now file n
+        × AppendsBeginning (W.contents output.old) (W.contents output.new) (opened_chunks key.now file n))) }
+{
+    let (mut chunk, mut next) = buffers(alloc)?;
+    read_piece(input, HEADER_LEN, &mut chunk)?;
+    let prefix = prefix_in(&chunk)?;
+    read_piece(input, SEALED_CHUNK_LEN, &mut chunk)?;
+    for number in 0..MAX_CHUNKS {
+        read_piece(input, SEALED_CHUNK_LEN, &mut next)?;
+        let is_last = next.is_empty();
+        open_chunk(key, &prefix, number, is_last, &mut chunk)?;
+        write_bytes(output, &chunk)?;
+        if is_last {
+            return Ok(());
+        }
+        mem::swap(&mut chunk, &mut next);
+    }
+    Err(FileError::TooLong)
+}
