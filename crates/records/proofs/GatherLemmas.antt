@@ -84,10 +84,12 @@ module _ (old : List ℕ) (filled at end : ℕ) (order : (filled ≤ at) × (at 
 
     module _ (w : IsWhole bytes) (message buffer : List ℕ) (s : Stands message buffer) where
       -- the content that was found in the message stands in the buffer
-      pub found_there : (content_type n padding : ℕ) (inner : List ℕ) → inner ≡ message → n < length inner
+      pub found_there : (content_type n padding len : ℕ) → len ≡ length message → let inner = take len (drop filled buffer) in n < length inner
           → inner ≡ inner_plaintext (record { content_type = content_type; content = take n inner; padding = padding })
           → message ≡ inner_plaintext (record { content_type = content_type; content = take n (drop filled buffer); padding = padding })
-      found_there content_type n padding inner e h found =
+      found_there content_type n padding len is_len h found =
+          let inner : List ℕ = take len (drop filled buffer) in
+          let e : inner ≡ message = ap (λ (k : ℕ). take k (drop filled buffer)) is_len ∙ s.there in
           let l : length inner ≡ length message = ap length e in
           let same : take n inner ≡ take n (drop filled buffer) =
           ap (take n) (e ∙ sym s.there) ∙ take-take n (length message) (drop filled buffer) (omega arith) in
@@ -103,9 +105,11 @@ module _ (old : List ℕ) (filled at end : ℕ) (order : (filled ≤ at) × (at 
         refused = tt;
       }
 
-      pub reads_zeros : (now : State) (inner : List ℕ) → inner ≡ message → inner ≡ replicate (length inner) 0
+      pub reads_zeros : (now : State) (len : ℕ) → len ≡ length message → let inner = take len (drop filled buffer) in inner ≡ replicate (length inner) 0
           → (message ≡ replicate (end - at - 21) 0) × Reads was now bytes (Err NoContentType)
-      reads_zeros now inner e zeros =
+      reads_zeros now len is_len zeros =
+          let inner : List ℕ = take len (drop filled buffer) in
+          let e : inner ≡ message = ap (λ (k : ℕ). take k (drop filled buffer)) is_len ∙ s.there in
           let size = s.size in
           let n : length inner ≡ end - at - 21 = ap length e ∙ (let l : length message ≡ end - at - 21 = omega arith in l) in
           let none : message ≡ replicate (end - at - 21) 0 = sym e ∙ zeros ∙ ap (λ (k : ℕ). replicate k 0) n in

@@ -57,6 +57,11 @@ abbrev pub content_at : ℕ → List ℕ → Result (ℕ × ℕ) RecordError →
 content_at at buffer (Ok (content_type, len)) = Ok (content_type, take len (drop at buffer))
 content_at at buffer (Err error) = Err error
 
+-- the content, where it is lent
+abbrev pub lent_content : Result (ℕ × Bor (List ℕ)) RecordError → Result (ℕ × List ℕ) RecordError
+lent_content (Ok (content_type, content)) = Ok (content_type, content.now)
+lent_content (Err error) = Err error
+
 -- the buffer with these bytes from `at` on
 abbrev pub overwritten : List ℕ → ℕ → List ℕ → List ℕ
 overwritten buffer at bytes = take at buffer ++ bytes ++ drop (at + length bytes) buffer

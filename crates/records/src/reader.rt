@@ -4,7 +4,7 @@ ghost use Rattle.std.specs.Prelude.{◌≡◌, ℕ, List, ◌+◌, ◌-◌, ◌^
 ghost use Rattle.aead_ciphers.specs.AesGcm.{aes_sealed};
 ghost use Rattle.aead_ciphers.specs.Algorithm.{key_len};
 ghost use Rattle.records.specs.State.{first_state, next_nonce, advanced, IsEnded};
-ghost use Rattle.records.specs.Steps.{Reads, LeavesInner, LeavesRefused, content_at};
+ghost use Rattle.records.specs.Steps.{Reads, LeavesInner, LeavesRefused, content_at, lent_content};
 
 use crate::TAG_LEN;
 use crate::header::{HEADER_LEN, header_in};
@@ -101,6 +101,16 @@ impl Reader {
             Some(read) => Ok(read),
             None => Err(RecordError::NoContentType),
         }
+    }
+
+    /// Opens the next record, which is the whole of `bytes`, and lends the content, which then stands at the front of `bytes`,
+    /// with its type. It is `gather` with one record.
+    pub fn read<'a>(&mut self, bytes: &'a mut [u8]) -> Result<(u8, &'a [u8]), RecordError>
+        ensures reads { Reads self.old self.new bytes.old (lent_content result) }
+    {
+        let end = bytes.len();
+        let (content_type, len) = self.gather(bytes, 0, 0, end)?;
+        Ok((content_type, &bytes[..len]))
     }
 
     /// Opens the bytes from `start` on into the front of the buffer, and answers the length of the inner plaintext.

@@ -28,7 +28,7 @@ returns-in-Some-clause-reads c =
     let s = stands bytes filled at end c.requires c.args.self.now open_before w c.in_ok-header.header opened.0 c.open.new.from c.in-Ok.len c.in_ok-header.ensures.header opened.1 opened.2 opened.3 in
     let all : filled + c.in-Ok.len - filled ≡ length opened.0 = omega (arith, opened.1) in
     let found = c.in-Some.ensures.found in
-    let content = found_there bytes filled at end c.requires c.args.self.now open_before w opened.0 _ s c.in-Some.read.0 c.in-Some.read.1 found.2 _ (ap (λ (n : ℕ). take n (drop filled _)) all ∙ s.there) found.1 found.3 in
+    let content = found_there bytes filled at end c.requires c.args.self.now open_before w opened.0 _ s c.in-Some.read.0 c.in-Some.read.1 found.2 _ all found.1 found.3 in
     reads_found bytes filled at end c.requires c.args.self.now open_before w opened.0 _ s c.open.new.self c.in-Some.read.0 c.in-Some.read.1 found.2 c.open.ensures.counted found.0 content
 
 pub returns-in-Some-clause-put : goal.returns-in-Some-clause-put
@@ -40,7 +40,7 @@ returns-in-Some-clause-put c =
     let s = stands bytes filled at end c.requires c.args.self.now open_before w c.in_ok-header.header opened.0 c.open.new.from c.in-Ok.len c.in_ok-header.ensures.header opened.1 opened.2 opened.3 in
     let all : filled + c.in-Ok.len - filled ≡ length opened.0 = omega (arith, opened.1) in
     let found = c.in-Some.ensures.found in
-    let content = found_there bytes filled at end c.requires c.args.self.now open_before w opened.0 _ s c.in-Some.read.0 c.in-Some.read.1 found.2 _ (ap (λ (n : ℕ). take n (drop filled _)) all ∙ s.there) found.1 found.3 in
+    let content = found_there bytes filled at end c.requires c.args.self.now open_before w opened.0 _ s c.in-Some.read.0 c.in-Some.read.1 found.2 _ all found.1 found.3 in
     (found.2, s.put ∙ ap (overwritten bytes filled) content)
 
 pub returns-in-None-clause-reads : goal.returns-in-None-clause-reads
@@ -51,7 +51,7 @@ returns-in-None-clause-reads c =
     let opened = c.in-Ok.ensures.opened in
     let s = stands bytes filled at end c.requires c.args.self.now open_before w c.in_ok-header.header opened.0 c.open.new.from c.in-Ok.len c.in_ok-header.ensures.header opened.1 opened.2 opened.3 in
     let all : filled + c.in-Ok.len - filled ≡ length opened.0 = omega (arith, opened.1) in
-    (reads_zeros bytes filled at end c.requires c.args.self.now open_before w opened.0 _ s c.open.new.self _ (ap (λ (n : ℕ). take n (drop filled _)) all ∙ s.there) c.in-None.ensures.zeros).1
+    (reads_zeros bytes filled at end c.requires c.args.self.now open_before w opened.0 _ s c.open.new.self _ all c.in-None.ensures.zeros).1
 
 pub returns-in-None-clause-kept : goal.returns-in-None-clause-kept
 returns-in-None-clause-kept c =
@@ -61,5 +61,5 @@ returns-in-None-clause-kept c =
     let opened = c.in-Ok.ensures.opened in
     let s = stands bytes filled at end c.requires c.args.self.now open_before w c.in_ok-header.header opened.0 c.open.new.from c.in-Ok.len c.in_ok-header.ensures.header opened.1 opened.2 opened.3 in
     let all : filled + c.in-Ok.len - filled ≡ length opened.0 = omega (arith, opened.1) in
-    let none = (reads_zeros bytes filled at end c.requires c.args.self.now open_before w opened.0 _ s c.open.new.self _ (ap (λ (n : ℕ). take n (drop filled _)) all ∙ s.there) c.in-None.ensures.zeros).0 in
+    let none = (reads_zeros bytes filled at end c.requires c.args.self.now open_before w opened.0 _ s c.open.new.self _ all c.in-None.ensures.zeros).0 in
     (c.open.ensures.counted, s.put ∙ ap (overwritten bytes filled) none)
