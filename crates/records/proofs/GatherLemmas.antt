@@ -132,8 +132,8 @@ module _ (old : List ℕ) (filled at end : ℕ) (order : (filled ≤ at) × (at 
     reads_false_tag w now head h none =
         let not_sealed : (message : List ℕ) → ¬ Seals was bytes message =
         λ message s. none message (
-          behind_header ∙ sealed_behind was bytes message s
-          ∙ ap (λ (aad : List ℕ). aes_sealed was.key.bytes (next_nonce was) aad message) (sym h)
+        behind_header ∙ sealed_behind was bytes message s
+        ∙ ap (λ (aad : List ℕ). aes_sealed was.key.bytes (next_nonce was) aad message) (sym h)
         ) in
         record {
           accepted = λ inner c. absurd (not_sealed (inner_plaintext inner) (carried_seals was bytes inner c));

@@ -57,8 +57,8 @@ same_inner i j typed typed' e =
     let size : length i.content ≡ length j.content = omega arith in (
       sym (type_at i) ∙ ap₂ (λ (xs : List ℕ) (n : ℕ). get_or xs n 0) e size ∙ type_at j,
       sym (take_at i.content (i.content_type ∷ replicate i.padding 0) (length i.content) refl)
-      ∙ ap (take (length i.content)) e
-      ∙ take_at j.content (j.content_type ∷ replicate j.padding 0) (length i.content) (sym size),
+          ∙ ap (take (length i.content)) e
+          ∙ take_at j.content (j.content_type ∷ replicate j.padding 0) (length i.content) (sym size),
     )
 
 pub not_zeros : (i : Inner) (n : ℕ) → i.content_type ≢ 0 → inner_plaintext i ≡ replicate n 0 → ⊥

@@ -54,9 +54,9 @@ module _ (key nonce aad : List ℕ) (start : ℕ) (old : List ℕ) where
           put = done.2 ∙ ap (λ (f : List ℕ). f ++ drop (length old - 16) old) a.buffer
               ∙ append_assoc message (drop (length body - start) body) (drop (length old - 16) old)
               ∙ ap (λ (r : List ℕ). message ++ r) (
-                sym (drop-append-le (length body - start) body (drop (length old - 16) old) le)
-                ∙ ap (drop (length body - start)) (take-append-drop (length old - 16) old)
-                ∙ ap (λ (k : ℕ). drop k old) (sym size)
+              sym (drop-append-le (length body - start) body (drop (length old - 16) old) le)
+              ∙ ap (drop (length body - start)) (take-append-drop (length old - 16) old)
+              ∙ ap (λ (k : ℕ). drop k old) (sym size)
               );
         }
 

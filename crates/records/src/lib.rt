@@ -9,6 +9,8 @@ mod inner;
 pub mod laws;
 mod reader;
 mod record_error;
+#[cfg(test)]
+mod tests;
 mod writer;
 
 use aead_ciphers::aead::MAX_TAG_LEN;

@@ -40,8 +40,10 @@ impl fmt::Display for RecordError {
             RecordError::ContentTypeZero => "the content type is zero",
             RecordError::WrongLength => "the record's length isn't the one that its header gives",
             RecordError::NotApplicationData => "the header isn't that of application data",
-            RecordError::EncryptedRecordTooLong => "the encrypted record has more than 2^14 + 256 bytes",
-            RecordError::InnerPlaintextTooLong => "the inner plaintext has more than 2^14 + 1 bytes",
+            RecordError::EncryptedRecordTooLong =>
+                "the encrypted record has more than 2^14 + 256 bytes",
+            RecordError::InnerPlaintextTooLong =>
+                "the inner plaintext has more than 2^14 + 1 bytes",
             RecordError::EncryptedRecordTooShort => "the encrypted record has fewer than 17 bytes",
             RecordError::Refused => "the record's tag is another",
             RecordError::NoContentType => "the inner plaintext has no content type",

@@ -7,10 +7,10 @@ ghost use Rattle.records.specs.Record.{IsAllowed, record_of};
 ghost use Rattle.records.specs.State.{first_state, next_nonce, advanced, IsEnded};
 ghost use Rattle.records.specs.Steps.{RefusesToWrite};
 
+use crate::TAG_LEN;
 use crate::header::{HEADER_LEN, header_of};
 use crate::inner::{append_unsealed, inner_len};
 use crate::record_error::RecordError;
-use crate::TAG_LEN;
 use aead_ciphers::aead::{
     Aad, Algorithm, BoundKey, NONCE_LEN, SealingKey, UnboundKey, Unspecified, XoredSequence,
 };

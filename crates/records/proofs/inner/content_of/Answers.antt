@@ -7,11 +7,10 @@ returns-else-content_type-eq0-clause-found c =
     let inner = c.args.inner.now in
     let len = c.loop-i.len in
     let short : len < length inner = search rules in
-    let read : c.in_ok-content_type.field-0.now ≡ get_or inner len 0 = search rules in
-    (
+    let read : c.in_ok-content_type.field-0.now ≡ get_or inner len 0 = search rules in (
       c.if-content_type-eq0.false,
       short,
       length inner - (len + 1),
       zeros_behind inner len short (λ k l h. c.loop-i.invariant.zeros k l (omega arith))
-      ∙ ap (λ (t : ℕ). take len inner ++ t ∷ replicate (length inner - (len + 1)) 0) (sym read),
+          ∙ ap (λ (t : ℕ). take len inner ++ t ∷ replicate (length inner - (len + 1)) 0) (sym read),
     )
