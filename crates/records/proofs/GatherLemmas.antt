@@ -1,12 +1,13 @@
 -- A record that stands in a buffer, and its inner plaintext, which stands before it.
 use Rattle.std.proofs.Common.{◌≡◌, ◌≢◌, ℕ, ◌+◌, ◌-◌, ◌<◌, ◌≤◌, List, ◌++◌, length, take, drop, replicate, refl, sym, ap, subst, ◌∙◌, arith}
-use Rattle.std.proofs.lemmas.List.{append_assoc, drop-append-le, drop-drop, drop_at, length-append, length-drop, length-take-le, take-append-drop, take-take, take_at}
+use Rattle.std.proofs.lemmas.List.{append_assoc, drop-append-le, drop-drop, drop_at, length-drop, length-take-le}
+use Rattle.std.proofs.lemmas.List.{take-append-drop, take-take, take_at}
 use Rattle.std.proofs.lemmas.Slice.{between_is}
-use Rattle.std.specs.Prelude.{Result, Ok, Err}
+use Rattle.std.specs.Prelude.{Ok, Err}
 use Rattle.aead_ciphers.specs.AesGcm.{aes_sealed}
-use Rattle.records.specs.Record.{Inner, IsWhole, inner_plaintext}
+use Rattle.records.specs.Record.{IsWhole, inner_plaintext}
 use Rattle.records.specs.State.{State, next_nonce, advanced, IsEnded}
-use Rattle.records.specs.Steps.{Carries, Reads, Seals, overwritten}
+use Rattle.records.specs.Steps.{Reads, Seals, overwritten}
 use Rattle.records.specs.declared.record_error.RecordError.TheVariants.{NoContentType, Refused}
 use Rattle.records.proofs.RecordLemmas.{carried_seals, carries_from, sealed_behind, sealed_len, seals_from, zeros_carry_nothing}
 use borrow.Rule.Slice.PartMut.{put_mid}

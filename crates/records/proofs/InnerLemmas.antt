@@ -1,11 +1,15 @@
 -- Inner plaintexts (RFC 8446 section 5.4).
-use Rattle.std.proofs.Common.{◌≡◌, ◌≢◌, ℕ, zero, suc, ◌+◌, ◌-◌, ◌<◌, List, ◌∷◌, ◌++◌, length, get_or, take, drop, replicate, refl, sym, ap, ap₂, ◌∙◌, inl, inr, arith}
+use Rattle.std.proofs.Common.{◌≡◌, ◌≢◌, ℕ, zero, suc, ◌+◌, ◌-◌, ◌<◌, List, ◌∷◌, ◌++◌, length, get_or, take, drop, replicate, refl, sym, ap}
+use Rattle.std.proofs.Common.{ap₂, ◌∙◌, inl, inr, arith}
 use Rattle.std.proofs.lemmas.Bool.{cases_lt}
-use Rattle.std.proofs.lemmas.List.{drop_more, ext_get_or, get_or-append_right, get_or-drop, get_or-replicate, get_or_at, get_or_past, length-append, length-drop, length-replicate, take-append-drop, take_at}
+use Rattle.std.proofs.lemmas.List.{drop_more, ext_get_or, get_or-append_right, get_or-drop, get_or-replicate, get_or_at, get_or_past}
+use Rattle.std.proofs.lemmas.List.{length-append, length-drop, length-replicate, take-append-drop, take_at}
 use Rattle.records.specs.Record.{Inner, inner_plaintext}
 
 pub all_zeros : (xs : List ℕ) → ((k : ℕ) → k < length xs → get_or xs k 0 ≡ 0) → xs ≡ replicate (length xs) 0
-all_zeros xs zeros = ext_get_or 0 xs (replicate (length xs) 0) (sym (length-replicate (length xs) 0)) (λ k h. zeros k h ∙ sym (get_or-replicate (length xs) k 0 0 h))
+all_zeros xs zeros =
+    ext_get_or 0 xs (replicate (length xs) 0) (sym (length-replicate (length xs) 0))
+    (λ k h. zeros k h ∙ sym (get_or-replicate (length xs) k 0 0 h))
 
 -- a list that is zero behind a place
 pub zeros_behind : (xs : List ℕ) (n : ℕ) → n < length xs → ((k : ℕ) → n < k → k < length xs → get_or xs k 0 ≡ 0)
@@ -21,7 +25,8 @@ pub length-inner_plaintext : (i : Inner) → length (inner_plaintext i) ≡ leng
 length-inner_plaintext i =
     let zeros : List ℕ = replicate i.padding 0 in
     let tail : length (i.content_type ∷ zeros) ≡ 1 + i.padding = let z : length zeros ≡ i.padding = length-replicate i.padding (zero) in omega arith in
-    length-append i.content (i.content_type ∷ replicate i.padding 0) ∙ (let e : length i.content + length (i.content_type ∷ replicate i.padding 0) ≡ length i.content + 1 + i.padding = omega arith in e)
+    length-append i.content (i.content_type ∷ replicate i.padding 0)
+    ∙ (let e : length i.content + length (i.content_type ∷ replicate i.padding 0) ≡ length i.content + 1 + i.padding = omega arith in e)
 
 get_or-zeros : (n k : ℕ) → get_or {A = ℕ} (replicate n 0) k 0 ≡ 0
 get_or-zeros n k = elim (cases_lt k n) [

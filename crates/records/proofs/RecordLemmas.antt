@@ -1,7 +1,9 @@
 -- Records and their headers.
-use Rattle.std.proofs.Common.{◌≡◌, ◌≢◌, ℕ, zero, suc, ◌+◌, ◌-◌, ◌^◌, ◌<◌, ◌≤◌, List, [], ◌∷◌, ◌++◌, length, get_or, take, drop, replicate, refl, sym, ap, ap₂, subst, ◌∙◌, inl, inr, arith}
+use Rattle.std.proofs.Common.{◌≡◌, ◌≢◌, ℕ, ◌+◌, ◌-◌, ◌<◌, ◌≤◌, List, ◌++◌, length, get_or, take, drop, replicate}
+use Rattle.std.proofs.Common.{refl, sym, ap, ap₂, subst, ◌∙◌, inl, inr, arith}
 use Rattle.std.proofs.lemmas.Bool.{cases_lt}
-use Rattle.std.proofs.lemmas.List.{append_cancel_left, get_or-drop, get_or-take, get_or_past, length-append, length-drop, length-take-le, take-append-drop, take_at}
+use Rattle.std.proofs.lemmas.List.{append_cancel_left, get_or-drop, get_or-take, get_or_past, length-append, length-drop, length-take-le}
+use Rattle.std.proofs.lemmas.List.{take-append-drop, take_at}
 use Rattle.std.proofs.lemmas.Nat.{be_bytes_2, from_be_bytes-to_be_bytes_2}
 use Rattle.std.specs.Int.{to_be_bytes, w16}
 use Rattle.std.specs.Prelude.{Err}
@@ -9,11 +11,14 @@ use Rattle.aead_ciphers_base.specs.Aes.{aes}
 use Rattle.aead_ciphers_base.proofs.CounterModeLemmas.{length-counter_mode}
 use Rattle.aead_ciphers_base.proofs.CounterModeTwice.{counter_mode-twice}
 use Rattle.aead_ciphers.specs.AesGcm.{aes_decrypted, aes_encrypted, aes_sealed, aes_tag}
-use Rattle.records.specs.Record.{Inner, IsAllowed, IsHeader, IsWhole, RefusesHeader, encrypted_len, header, inner_plaintext, record_of, record_start}
+use Rattle.records.specs.Record.{Inner, IsHeader, IsWhole, encrypted_len, header, inner_plaintext}
 use Rattle.records.specs.State.{State, next_nonce, IsEnded}
 use Rattle.records.specs.Steps.{Carries, Reads, RefusesBytes, RefusesToRead, Seals}
 use Rattle.records.specs.declared.record_error.RecordError.{RecordError}
-use Rattle.records.specs.declared.record_error.RecordError.TheVariants.{ContentTooLong, ContentTypeZero, WrongLength, NotApplicationData, EncryptedRecordTooLong, InnerPlaintextTooLong, EncryptedRecordTooShort, Refused, NoContentType, SequenceEnded, OutOfMemory}
+use Rattle.records.specs.declared.record_error.RecordError.TheVariants.{ContentTooLong, ContentTypeZero, WrongLength, NotApplicationData}
+use Rattle.records.specs.declared.record_error.RecordError.TheVariants.{EncryptedRecordTooLong, InnerPlaintextTooLong}
+use Rattle.records.specs.declared.record_error.RecordError.TheVariants.{EncryptedRecordTooShort, Refused, NoContentType, SequenceEnded}
+use Rattle.records.specs.declared.record_error.RecordError.TheVariants.{OutOfMemory}
 use Rattle.records.proofs.OpenedLemmas.{length-aes_sealed}
 use Rattle.records.proofs.InnerLemmas.{length-inner_plaintext, not_zeros, same_inner}
 
@@ -64,8 +69,10 @@ same_sealed key nonce aad m m' e =
     let c : List ℕ = aes_encrypted key nonce m in
     let c' : List ℕ = aes_encrypted key nonce m' in
     let lengths : length m + 16 ≡ length m' + 16 = sym (length-aes_sealed key nonce aad m) ∙ ap length e ∙ length-aes_sealed key nonce aad m' in
-    let size : length c ≡ length c' = length-counter_mode (aes key) nonce 2 m ∙ (let s : length m ≡ length m' = omega arith in s) ∙ sym (length-counter_mode (aes key) nonce 2 m') in
-    let same : c ≡ c' = sym (take_at c (aes_tag key nonce aad c) (length c) refl) ∙ ap (take (length c)) e ∙ take_at c' (aes_tag key nonce aad c') (length c) (sym size) in
+    let size : length c ≡ length c' =
+    length-counter_mode (aes key) nonce 2 m ∙ (let s : length m ≡ length m' = omega arith in s) ∙ sym (length-counter_mode (aes key) nonce 2 m') in
+    let same : c ≡ c' =
+    sym (take_at c (aes_tag key nonce aad c) (length c) refl) ∙ ap (take (length c)) e ∙ take_at c' (aes_tag key nonce aad c') (length c) (sym size) in
     sym (counter_mode-twice (aes key) nonce 2 m) ∙ ap (aes_decrypted key nonce) same ∙ counter_mode-twice (aes key) nonce 2 m'
 
 module _ (was : State) (bytes : List ℕ) where
@@ -79,7 +86,10 @@ module _ (was : State) (bytes : List ℕ) where
     carried_len : length bytes ≡ 5 + (length inner.content + 1 + inner.padding + 16)
     carried_len =
         ap length c.made ∙ length-append aad body
-        ∙ ap (λ (n : ℕ). 5 + n) (length-aes_sealed was.key.bytes (next_nonce was) aad (inner_plaintext inner) ∙ ap (λ (n : ℕ). n + 16) (length-inner_plaintext inner))
+        ∙ ap (λ (n : ℕ). 5 + n) (
+        length-aes_sealed was.key.bytes (next_nonce was) aad (inner_plaintext inner)
+        ∙ ap (λ (n : ℕ). n + 16) (length-inner_plaintext inner)
+        )
 
     carried_header : take 5 bytes ≡ aad
     carried_header = ap (take 5) c.made ∙ take_at aad body 5 refl
@@ -96,7 +106,9 @@ module _ (was : State) (bytes : List ℕ) where
 
   -- what is sealed in the bytes
   pub sealed_behind : (message : List ℕ) → Seals was bytes message → drop 5 bytes ≡ aes_sealed was.key.bytes (next_nonce was) (take 5 bytes) message
-  sealed_behind message s = append_cancel_left (take 5 bytes) (drop 5 bytes) (aes_sealed was.key.bytes (next_nonce was) (take 5 bytes) message) (take-append-drop 5 bytes ∙ s)
+  sealed_behind message s =
+      append_cancel_left (take 5 bytes) (drop 5 bytes) (aes_sealed was.key.bytes (next_nonce was) (take 5 bytes) message)
+      (take-append-drop 5 bytes ∙ s)
 
   pub seals_from : (message : List ℕ) → drop 5 bytes ≡ aes_sealed was.key.bytes (next_nonce was) (take 5 bytes) message → Seals was bytes message
   seals_from message e = sym (take-append-drop 5 bytes) ∙ ap (λ (ys : List ℕ). take 5 bytes ++ ys) e
@@ -116,7 +128,8 @@ module _ (was : State) (bytes : List ℕ) where
   pub sealed_len : (message : List ℕ) → IsWhole bytes → Seals was bytes message → length message + 21 ≡ length bytes
   sealed_len message w s =
       let shortest = w.shortest in
-      let l : length (drop 5 bytes) ≡ length message + 16 = ap length (sealed_behind message s) ∙ length-aes_sealed was.key.bytes (next_nonce was) (take 5 bytes) message in
+      let l : length (drop 5 bytes) ≡ length message + 16 =
+      ap length (sealed_behind message s) ∙ length-aes_sealed was.key.bytes (next_nonce was) (take 5 bytes) message in
       omega (arith, l, length-drop 5 bytes)
 
   pub carries_from : (message : List ℕ) (inner : Inner) → IsWhole bytes → ¬ IsEnded was → Seals was bytes message

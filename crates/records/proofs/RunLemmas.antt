@@ -1,10 +1,11 @@
 -- Reading undoes writing.
-use Rattle.std.proofs.Common.{◌≡◌, ℕ, List, [], ◌∷◌, false, true, map, refl, sym, ap, ap₂, subst, ◌∙◌}
-use Rattle.std.specs.Prelude.{Result, Ok, Err, is_ok}
+use Rattle.std.proofs.Common.{◌≡◌, ℕ, List, [], ◌∷◌, false, true, map, refl, sym, ap₂, subst, ◌∙◌}
+use Rattle.std.proofs.lemmas.Bool.{false≢true}
+use Rattle.std.specs.Prelude.{Result, Ok, Err}
 use Rattle.aead_ciphers.specs.Runs.{Runs}
 use Rattle.records.specs.Record.{Inner}
-use Rattle.records.specs.State.{State, advanced}
-use Rattle.records.specs.Steps.{Carries, Reads, Writes, content_of_inner}
+use Rattle.records.specs.State.{State}
+use Rattle.records.specs.Steps.{Reads, Writes, content_of_inner}
 use Rattle.records.specs.declared.record_error.RecordError.{RecordError}
 use Rattle.records.proofs.RecordLemmas.{same_content}
 
@@ -19,9 +20,11 @@ one_record was w r inner bytes (Ok read) s t =
       ap₂ (λ (content_type : ℕ) (content : List ℕ). Ok (content_type, content)) same.0 same.1,
       t.counted ∙ sym s.counted,
     )
-one_record was w r inner bytes (Err error) s t = let wrong : is_ok {T = ℕ × List ℕ} (Err error) ≡ true = t.accepted inner s.carries in absurd (let e : false ≡ true = wrong in cc)
+one_record was w r inner bytes (Err error) s t =
+    let wrong : false ≡ true = t.accepted inner s.carries in absurd (false≢true wrong)
 
-pub reading_undoes_writing : (writer reader : State) → reader ≡ writer → (inners : List Inner) (records : List (List ℕ)) (answers : List Answer) (written read : State)
+pub reading_undoes_writing : (writer reader : State) → reader ≡ writer → (inners : List Inner)
+    (records : List (List ℕ)) (answers : List Answer) (written read : State)
     → Runs Writes writer written inners records → Runs Reads reader read records answers → (answers ≡ map content_of_inner inners) × (read ≡ written)
 reading_undoes_writing writer reader same [] [] [] written read w r = (refl, r ∙ same ∙ sym w)
 reading_undoes_writing writer reader same (inner ∷ inners) (bytes ∷ records) (answer ∷ answers) written read w r =

@@ -1,5 +1,6 @@
 -- A call of a key that has a further nonce spends the next one.
-use Rattle.std.proofs.Common.{◌≡◌, ◌≢◌, ℕ, ◌+◌, ◌-◌, ◌∷◌, [], ◌++◌, List, Bool, true, false, length, drop, get_or, length-append, nat_eq, sym, ap, ap₂, subst, refl, ◌∙◌, arith}
+use Rattle.std.proofs.Common.{◌≡◌, ◌≢◌, ℕ, ◌+◌, ◌-◌, ◌∷◌, [], ◌++◌, List, Bool, true, length, drop, get_or, length-append}
+use Rattle.std.proofs.Common.{sym, ap, ap₂, subst, refl, ◌∙◌, arith}
 use Rattle.std.specs.Prelude.{⊤}
 use Rattle.std.proofs.lemmas.Bool.{eqb-true}
 use Rattle.std.proofs.lemmas.List.{append_cancel_left}
@@ -8,7 +9,6 @@ use Rattle.aead_ciphers.specs.AeadKey.{AeadKey}
 use Rattle.aead_ciphers.specs.AesGcm.{aes_sealed, AesOpenedAttached}
 use Rattle.aead_ciphers.specs.BoundState.{Keeps}
 use Rattle.aead_ciphers.specs.Gcm.{Fits}
-use Rattle.aead_ciphers.specs.NonceSequence.{Appends, Closes}
 use Rattle.aead_ciphers.specs.Steps.{SealStep, OpenStep, Spends, Refuses, no_room, no_nonce, too_long, sealed, opened}
 use Rattle.aead_ciphers.specs.XoredSequence.{Numbering, nonce_at, spent_nonces, is_used_up, origin_of}
 use Rattle.aead_ciphers.proofs.XoredSequenceLemmas.{spent_nonces-next}
@@ -33,7 +33,8 @@ spends_next : (was now : State) (nonce : List ℕ) → Spends spent_nonces is_us
 spends_next was now nonce a keeps =
     let s = was.sequence in
     let t = now.sequence in
-    let n : t.used ≡ s.used + 1 = sym (length-spent t) ∙ ap length a.appended ∙ length-append (spent_nonces s) (nonce ∷ []) ∙ ap (λ (k : ℕ). k + 1) (length-spent s) in
+    let n : t.used ≡ s.used + 1 =
+    sym (length-spent t) ∙ ap length a.appended ∙ length-append (spent_nonces s) (nonce ∷ []) ∙ ap (λ (k : ℕ). k + 1) (length-spent s) in
     let same : t ≡ record s { used = s.used + 1 } = same_sequence s t (s.used + 1) keeps.origin_kept n in
     let one : spent_nonces s ++ nonce ∷ [] ≡ spent_nonces s ++ nonce_at s s.used ∷ [] = sym a.appended ∙ ap spent_nonces same ∙ spent_nonces-next s in (
       ap (λ (l : List (List ℕ)). get_or l 0 []) (append_cancel_left (spent_nonces s) (nonce ∷ []) (nonce_at s s.used ∷ []) one),
@@ -54,7 +55,8 @@ pub record SealsNext (was now : State) (aad old new : List ℕ) (accepts : Bool)
   pub bytes : new ≡ aes_sealed was.key.bytes (next_nonce was) aad old
   pub counted : now ≡ advanced was
 
-pub seals_next : (was now : State) (aad old new : List ℕ) (accepts : Bool) → SealStep spent_nonces is_used_up ⊥ ⊤ was now aad old new accepts → Keeps origin_of was now
+pub seals_next : (was now : State) (aad old new : List ℕ) (accepts : Bool)
+    → SealStep spent_nonces is_used_up ⊥ ⊤ was now aad old new accepts → Keeps origin_of was now
     → ¬ IsEnded was → Fits (length aad) (length old) → SealsNext was now aad old new accepts
 seals_next was now aad old new accepts (no_room h a b) k open_before fits = absurd h
 seals_next was now aad old new accepts (no_nonce g c b) k open_before fits = absurd (open_before (refuses_ended was now c k))
@@ -68,7 +70,8 @@ pub record OpensNext (was now : State) (aad : List ℕ) (start : ℕ) (old new :
   pub opened : AesOpenedAttached was.key.bytes (next_nonce was) aad start old accepts new
   pub counted : now ≡ advanced was
 
-pub opens_next : (was now : State) (aad : List ℕ) (start : ℕ) (old new : List ℕ) (accepts : Bool) → OpenStep spent_nonces is_used_up was now aad start old new accepts
+pub opens_next : (was now : State) (aad : List ℕ) (start : ℕ) (old new : List ℕ) (accepts : Bool)
+    → OpenStep spent_nonces is_used_up was now aad start old new accepts
     → Keeps origin_of was now → ¬ IsEnded was → OpensNext was now aad start old new accepts
 opens_next was now aad start old new accepts (no_nonce c b) k open_before = absurd (open_before (refuses_ended was now c k))
 opens_next was now aad start old new accepts (opened nonce a s o) k open_before =

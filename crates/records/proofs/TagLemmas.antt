@@ -24,4 +24,5 @@ pub length-aes_tag : (key nonce aad ciphertext : List ℕ) → length (aes_tag k
 unfolding tag
 length-aes_tag key nonce aad ciphertext =
     let hash : length (ghash (aes key zero_block) (hashed aad ciphertext)) ≡ 16 = length-ghash (aes key zero_block) (hashed aad ciphertext) in
-    length-xor (ghash (aes key zero_block) (hashed aad ciphertext)) (aes key (counter_block nonce 1)) (hash ∙ sym (length-aes key (counter_block nonce 1))) ∙ hash
+    length-xor (ghash (aes key zero_block) (hashed aad ciphertext)) (aes key (counter_block nonce 1))
+    (hash ∙ sym (length-aes key (counter_block nonce 1))) ∙ hash

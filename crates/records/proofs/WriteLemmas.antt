@@ -1,5 +1,6 @@
 -- A record is appended, and then sealed where it stands.
-use Rattle.std.proofs.Common.{◌≡◌, ℕ, cond, ◌+◌, ◌-◌, ◌≤◌, List, [], ◌∷◌, ◌++◌, Result, Ok, length, take, drop, replicate, refl, sym, ap, ap₂, ◌∙◌, arith}
+use Rattle.std.proofs.Common.{◌≡◌, ℕ, cond, ◌+◌, ◌-◌, List, [], ◌∷◌, ◌++◌, Result, Ok, length, take, drop, replicate, sym, ap}
+use Rattle.std.proofs.Common.{ap₂, ◌∙◌, arith}
 use Rattle.std.specs.Prelude.{is_ok}
 use Rattle.std.proofs.lemmas.List.{append-nil, append_assoc, drop_all, drop_at, length-append, replicate-append-replicate, take_all, take_at}
 use Rattle.aead_ciphers.specs.AesGcm.{aes_sealed}

@@ -3,7 +3,8 @@ use Rattle.std.specs.Prelude.{◌≡◌, ◌≢◌, ℕ, ◌+◌, ◌-◌, ◌^�
 use Rattle.std.specs.Int.{from_be_bytes, to_be_bytes, w16}
 use Rattle.aead_ciphers.specs.AesGcm.{aes_sealed}
 use Rattle.records.specs.declared.record_error.RecordError.{RecordError}
-use Rattle.records.specs.declared.record_error.RecordError.TheVariants.{NotApplicationData, EncryptedRecordTooLong, InnerPlaintextTooLong, EncryptedRecordTooShort}
+use Rattle.records.specs.declared.record_error.RecordError.TheVariants.{NotApplicationData, EncryptedRecordTooLong, InnerPlaintextTooLong}
+use Rattle.records.specs.declared.record_error.RecordError.TheVariants.{EncryptedRecordTooShort}
 
 -- what a record carries: a content, its type, and how many zeros pad it
 pub record Inner : Type 0 where

@@ -1,11 +1,14 @@
 -- What writing and reading do with a record.
-use Rattle.std.specs.Prelude.{◌≡◌, ◌≢◌, ◌⊎◌, ℕ, ◌+◌, ◌-◌, ◌^◌, ◌<◌, ◌≤◌, List, ◌++◌, length, take, drop, replicate, Result, Ok, Err, IfOk, IfErr, IsOk, OnOk}
+use Rattle.std.specs.Prelude.{◌≡◌, ◌≢◌, ◌⊎◌, ℕ, ◌+◌, ◌-◌, ◌^◌, ◌<◌, ◌≤◌, List, ◌++◌, length, take, drop, replicate, Result, Ok, Err, IfOk}
+use Rattle.std.specs.Prelude.{IfErr, IsOk, OnOk}
 use Rattle.std.specs.Borrow.{Bor}
 use Rattle.aead_ciphers.specs.AesGcm.{aes_sealed}
 use Rattle.records.specs.Record.{Inner, IsAllowed, IsHeader, IsWhole, RefusesHeader, encrypted_len, inner_plaintext, record_of}
 use Rattle.records.specs.State.{State, next_nonce, advanced, IsEnded}
 use Rattle.records.specs.declared.record_error.RecordError.{RecordError}
-use Rattle.records.specs.declared.record_error.RecordError.TheVariants.{ContentTooLong, ContentTypeZero, WrongLength, NotApplicationData, EncryptedRecordTooLong, InnerPlaintextTooLong, EncryptedRecordTooShort, Refused, NoContentType, SequenceEnded, OutOfMemory}
+use Rattle.records.specs.declared.record_error.RecordError.TheVariants.{ContentTooLong, ContentTypeZero, WrongLength}
+use Rattle.records.specs.declared.record_error.RecordError.TheVariants.{Refused, NoContentType, SequenceEnded}
+use Rattle.records.specs.declared.record_error.RecordError.TheVariants.{OutOfMemory}
 
 -- these bytes are the next record, and this is what it carries
 pub record Carries (was : State) (bytes : List ℕ) (inner : Inner) : Type 0 where
@@ -71,12 +74,17 @@ abbrev pub LeavesInner : ℕ → List ℕ → List ℕ → ℕ × ℕ → Type 0
 LeavesInner at old new (content_type, len) = (padding : ℕ)
     × (new ≡ overwritten old at (inner_plaintext (record { content_type = content_type; content = take len (drop at new); padding = padding })))
 
--- what a refusal leaves: the reader and the buffer as they were. A false tag has spent the record's number; zeros alone have
--- too, and these n bytes of inner plaintext stand in the buffer from `at` on.
-abbrev pub LeavesRefused : State → State → ℕ → ℕ → List ℕ → List ℕ → RecordError → Type 0
-LeavesRefused was now at n old new Refused = (now ≡ advanced was) × (new ≡ old)
-LeavesRefused was now at n old new NoContentType = (now ≡ advanced was) × (new ≡ overwritten old at (replicate n 0))
-LeavesRefused was now at n old new error = (now ≡ was) × (new ≡ old)
+-- where a refusal leaves the reader: a false tag, and zeros under a good one, have spent the record's number
+abbrev pub StandsRefused : State → State → RecordError → Type 0
+StandsRefused was now Refused = now ≡ advanced was
+StandsRefused was now NoContentType = now ≡ advanced was
+StandsRefused was now error = now ≡ was
+
+-- what a refusal leaves in the buffer: every byte as it was, but that zeros under a good tag, an inner plaintext of n bytes,
+-- stand from `at` on
+abbrev pub LeavesRefused : ℕ → ℕ → List ℕ → List ℕ → RecordError → Type 0
+LeavesRefused at n old new NoContentType = new ≡ overwritten old at (replicate n 0)
+LeavesRefused at n old new error = new ≡ old
 
 -- what reading the record of a content answers
 abbrev pub content_of_inner : Inner → Result (ℕ × List ℕ) RecordError

@@ -24,7 +24,8 @@ pub(crate) fn header_of(len: usize) -> [u8; HEADER_LEN]
     [APPLICATION_DATA, 3, 3, high, low]
 }
 
-/// The length of the record that begins with this header, the header included: so many bytes of a stream are the record.
+/// The length of the record that begins with this header, the header included: so many bytes of a stream are
+/// the record.
 pub fn record_len(header: &[u8; HEADER_LEN]) -> Result<usize, RecordError>
     ensures accepted { IsOk result ↔ IsHeader header.now }
     ensures len { IfOk result (λ n. n ≡ HEADER_LEN + encrypted_len header.now) }

@@ -16,7 +16,8 @@ pub(crate) fn inner_len(
     ensures accepted { IsOk result ↔ (content_type ≢ 0) × (content_len + padding ≤ 2 ^ 14) }
     ensures len { IfOk result (λ n. n ≡ content_len + padding + 1) }
     ensures typed { IsErrOf result RecordError.ContentTypeZero ↔ (content_type ≡ 0) }
-    ensures refused { IfErr result (λ error. (error ≡ RecordError.ContentTypeZero) ⊎ (error ≡ RecordError.ContentTooLong)) }
+    ensures refused { IfErr result (λ error. (error ≡ RecordError.ContentTypeZero)
+        ⊎ (error ≡ RecordError.ContentTooLong)) }
 {
     if content_type == 0 {
         return Err(RecordError::ContentTypeZero);
@@ -27,7 +28,8 @@ pub(crate) fn inner_len(
     Ok(content_len + padding + 1)
 }
 
-/// Appends a header, an inner plaintext, and zeros in the place of a tag. Refused where there is no memory for all of them.
+/// Appends a header, an inner plaintext, and zeros in the place of a tag. Refused where there is no memory for
+/// all of them.
 pub(crate) fn append_unsealed(
     out: &mut Vec<u8>,
     header: &[u8; HEADER_LEN],
@@ -53,8 +55,9 @@ pub(crate) fn append_unsealed(
     Ok(())
 }
 
-/// The type and the length of the content of an inner plaintext: the type is the last byte that isn't zero, and the content
-/// stands before it. `None` where all bytes are zero. It looks at every byte, however many are padding.
+/// The type and the length of the content of an inner plaintext: the type is the last byte that isn't zero, and
+/// the content stands before it. `None` where all bytes are zero. It looks at every byte, however many are
+/// padding.
 pub(crate) fn content_of(inner: &[u8]) -> Option<(u8, usize)>
     ensures found { IfSome result (λ found. (found.0 ≢ 0) × (found.1 < length inner.now)
         × (padding : ℕ) × (inner.now ≡ inner_plaintext (record {

@@ -1,10 +1,10 @@
 //! A record layer in the form of TLS 1.3 (RFC 8446 section 5.2), under given keys and by AES-GCM.
 //!
-//! A record is a header of 5 bytes and the encrypted record: the content, its type and zeros as padding, sealed under the
-//! number of the record with the header as AAD. `docs/RECORDS.md` has the format byte by byte.
+//! A record is a header of 5 bytes and the encrypted record: the content, its type and zeros as padding, sealed
+//! under the number of the record with the header as AAD. `docs/RECORDS.md` has the format byte by byte.
 #![tactic(auto)]
 
-pub mod header;
+mod header;
 mod inner;
 pub mod laws;
 mod reader;

@@ -4,7 +4,7 @@ ghost use Rattle.std.specs.Prelude.{◌≡◌, ℕ, List, ◌+◌, ◌-◌, ◌^
 ghost use Rattle.aead_ciphers.specs.AesGcm.{aes_sealed};
 ghost use Rattle.aead_ciphers.specs.Algorithm.{key_len};
 ghost use Rattle.records.specs.State.{first_state, next_nonce, advanced, IsEnded};
-ghost use Rattle.records.specs.Steps.{Reads, LeavesInner, LeavesRefused, content_at, lent_content};
+ghost use Rattle.records.specs.Steps.{Reads, LeavesInner, LeavesRefused, StandsRefused, content_at, lent_content};
 
 use crate::TAG_LEN;
 use crate::header::{HEADER_LEN, header_in};
@@ -48,7 +48,8 @@ impl Reader {
         Reader::with_limit(algorithm, key, iv, u64::MAX)
     }
 
-    /// A reader from record 0 on, for at most `limit` records. Refused where the key isn't as long as the algorithm's.
+    /// A reader from record 0 on, for at most `limit` records. Refused where the key isn't as long as the
+    /// algorithm's.
     pub fn with_limit(
         algorithm: &'static Algorithm,
         key: &[u8],
@@ -67,13 +68,13 @@ impl Reader {
         })
     }
 
-    /// Opens the next record, which is `bytes[at..end]`, into the bytes from `filled` on, and answers the type and the length
-    /// of its content: the content then is `bytes[filled..filled + length]`. So what records carry that stand in one buffer
-    /// can be gathered at its front, where `filled` is the sum of the lengths so far.
+    /// Opens the next record, which is `bytes[at..end]`, into the bytes from `filled` on, and answers the type
+    /// and the length of its content: the content then is `bytes[filled..filled + length]`. So the contents of
+    /// all records in a buffer can be gathered at its front, with `filled` the sum of their lengths so far.
     ///
-    /// Every byte before `filled` and from `end` on stays. A refusal changes no byte, but for `NoContentType`: then the inner
-    /// plaintext, which is zeros, stands from `filled` on. `Refused` and `NoContentType` spend the record's number, as a
-    /// record that was read does; TLS ends a connection there (RFC 8446 section 5.2).
+    /// Every byte before `filled` and from `end` on stays. A refusal changes no byte, but for `NoContentType`:
+    /// then the inner plaintext, which is zeros, stands from `filled` on. `Refused` and `NoContentType` spend
+    /// the record's number, as a record that was read does; TLS ends a connection there (RFC 8446 section 5.2).
     pub fn gather(
         &mut self,
         bytes: &mut [u8],
@@ -86,8 +87,8 @@ impl Reader {
             (content_at filled bytes.new result) }
         ensures within { IfOk result (λ read. filled + read.1 ≤ end) }
         ensures put { IfOk result (LeavesInner filled bytes.old bytes.new) }
-        ensures kept { IfErr result
-            (LeavesRefused self.old self.new filled (end - at - 21) bytes.old bytes.new) }
+        ensures stands { IfErr result (StandsRefused self.old self.new) }
+        ensures kept { IfErr result (LeavesRefused filled (end - at - 21) bytes.old bytes.new) }
     {
         let header = header_in(&bytes[at..end])?;
         if self.left == 0 {
@@ -103,17 +104,20 @@ impl Reader {
         }
     }
 
-    /// Opens the next record, which is the whole of `bytes`, and lends the content, which then stands at the front of `bytes`,
-    /// with its type. It is `gather` with one record.
+    /// Opens the next record, which is the whole of `bytes`, and lends its content, which then stands at the
+    /// front of `bytes`, with its type. It is `gather` of one record, whose clauses say what the buffer then
+    /// holds.
     pub fn read<'a>(&mut self, bytes: &'a mut [u8]) -> Result<(u8, &'a [u8]), RecordError>
         ensures reads { Reads self.old self.new bytes.old (lent_content result) }
+        ensures stands { IfErr result (StandsRefused self.old self.new) }
     {
         let end = bytes.len();
         let (content_type, len) = self.gather(bytes, 0, 0, end)?;
         Ok((content_type, &bytes[..len]))
     }
 
-    /// Opens the bytes from `start` on into the front of the buffer, and answers the length of the inner plaintext.
+    /// Opens the bytes from `start` on into the front of the buffer, and answers the length of the inner
+    /// plaintext.
     fn open(
         &mut self,
         header: &[u8; HEADER_LEN],

@@ -7,8 +7,8 @@ use std::fmt;
 /// Why a record isn't written, or isn't read.
 #[derive(Clone, Copy, Debug, PartialEq, Eq)]
 pub enum RecordError {
-    /// The content and its padding have more than 2^14 bytes, so that their inner plaintext has more than 2^14 + 1 (RFC
-    /// 8446 section 5.4).
+    /// The content and its padding have more than 2^14 bytes (RFC 8446 section 5.4: the inner plaintext has at
+    /// most one more).
     ContentTooLong,
     /// The content type to be written is 0, which is padding (RFC 8446 section 5.4).
     ContentTypeZero,
@@ -18,8 +18,8 @@ pub enum RecordError {
     NotApplicationData,
     /// The header gives more than 2^14 + 256 bytes (RFC 8446 section 5.2).
     EncryptedRecordTooLong,
-    /// The header gives at most 2^14 + 256 bytes, but more than the 2^14 + 17 of the longest inner plaintext (RFC 8446
-    /// section 5.4) and its tag.
+    /// The header gives at most 2^14 + 256 bytes, but more than the 2^14 + 17 of the longest inner plaintext
+    /// (RFC 8446 section 5.4) and its tag.
     InnerPlaintextTooLong,
     /// The header gives fewer than the 17 bytes of a content type and a tag.
     EncryptedRecordTooShort,

@@ -213,7 +213,8 @@ fn no_content_type(rt: HostRuntime) -> Result<(), Fail> {
     Ok(())
 }
 
-/// The longest content goes through; one byte more of content or of padding is refused, as is a content type of 0.
+/// The longest content goes through; one byte more of content or of padding is refused, as is a content type of
+/// 0.
 #[test]
 fn limits_of_writing(rt: HostRuntime) -> Result<(), Fail> {
     let alloc = rt.alloc();

@@ -49,8 +49,8 @@ impl Writer {
         Writer::with_limit(algorithm, key, iv, u64::MAX)
     }
 
-    /// A writer from record 0 on, for at most `limit` records, since a key shouldn't be used without end (RFC 8446 section
-    /// 5.5). Refused where the key isn't as long as the algorithm's.
+    /// A writer from record 0 on, for at most `limit` records, since a key shouldn't be used without end (RFC
+    /// 8446 section 5.5). Refused where the key isn't as long as the algorithm's.
     pub fn with_limit(
         algorithm: &'static Algorithm,
         key: &[u8],
@@ -69,8 +69,8 @@ impl Writer {
         })
     }
 
-    /// Appends the next record to `out`: the content, its type and `padding` zeros, which only the length of the record
-    /// shows. The record is 22 bytes longer than content and padding.
+    /// Appends the next record to `out`: the content, its type and `padding` zeros, which only the length of
+    /// the record shows. The record is 22 bytes longer than content and padding.
     ///
     /// A refused write appends nothing and spends no number.
     pub fn write(
@@ -80,8 +80,8 @@ impl Writer {
         padding: usize,
         out: &mut Vec<u8>,
     ) -> Result<(), RecordError>
-        ensures accepted { OnOk result (IsAllowed (record { content_type = content_type; content = content.now; padding = padding })
-            × ¬ IsEnded self.old) }
+        ensures accepted { OnOk result (¬ IsEnded self.old × IsAllowed
+            (record { content_type = content_type; content = content.now; padding = padding })) }
         ensures written { OnOk result (out.new.items ≡ out.old.items
             ++ record_of self.old.key.bytes (next_nonce self.old)
             (record { content_type = content_type; content = content.now; padding = padding })) }

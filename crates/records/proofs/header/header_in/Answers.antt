@@ -1,4 +1,4 @@
-use Rattle.std.proofs.Common.{◌≡◌, ◌+◌, ◌<◌, ◌≤◌, ℕ, get_or, length, take, rules, arith, subst, sym, ◌∙◌}
+use Rattle.std.proofs.Common.{◌≡◌, ◌+◌, length, take, rules, arith}
 use Rattle.records.specs.Record.{IsHeader, encrypted_len}
 use Rattle.records.proofs.RecordLemmas.{header_whole}
 use Rattle.records.proofs.header.header_in.Goals as goal

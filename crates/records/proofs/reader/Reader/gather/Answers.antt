@@ -1,6 +1,5 @@
-use Rattle.std.proofs.Common.{◌≡◌, ◌+◌, ◌-◌, ◌∙◌, List, ℕ, length, take, drop, ap, arith}
+use Rattle.std.proofs.Common.{◌≡◌, ◌+◌, ◌-◌, ◌∙◌, length, ap, arith}
 use Rattle.std.proofs.lemmas.Result.{err_from_is_err_and}
-use Rattle.records.specs.Record.{inner_plaintext}
 use Rattle.records.specs.State.{IsEnded}
 use Rattle.records.specs.Steps.{overwritten}
 use Rattle.records.proofs.GatherLemmas.{found_there, reads_false_tag, reads_found, reads_zeros, stands}
@@ -21,45 +20,70 @@ returns-in_default-clause-reads c =
 
 pub returns-in-Some-clause-reads : goal.returns-in-Some-clause-reads
 returns-in-Some-clause-reads c =
-    let bytes = c.args.bytes.now in let filled = c.args.filled in let at = c.args.at in let end = c.args.end in
+    let bytes = c.args.bytes.now in
+    let filled = c.args.filled in
+    let at = c.args.at in
+    let end = c.args.end in
+    let was = c.args.self.now in
     let open_before : ¬ IsEnded c.args.self.now = not_ended _ _ _ c.self.invariant c.if-self-eq0.false c.self.view_is in
     let w = c.in_ok-header.ensures.ok in
     let opened = c.in-Ok.ensures.opened in
-    let s = stands bytes filled at end c.requires c.args.self.now open_before w c.in_ok-header.header opened.0 c.open.new.from c.in-Ok.len c.in_ok-header.ensures.header opened.1 opened.2 opened.3 in
+    let s = stands bytes filled at end c.requires was open_before w c.in_ok-header.header opened.0 c.open.new.from c.in-Ok.len
+    c.in_ok-header.ensures.header opened.1 opened.2 opened.3 in
     let all : filled + c.in-Ok.len - filled ≡ length opened.0 = omega (arith, opened.1) in
     let found = c.in-Some.ensures.found in
-    let content = found_there bytes filled at end c.requires c.args.self.now open_before w opened.0 _ s c.in-Some.read.0 c.in-Some.read.1 found.2 _ all found.1 found.3 in
-    reads_found bytes filled at end c.requires c.args.self.now open_before w opened.0 _ s c.open.new.self c.in-Some.read.0 c.in-Some.read.1 found.2 c.open.ensures.counted found.0 content
+    let content = found_there bytes filled at end c.requires was open_before w opened.0 _ s
+    c.in-Some.read.0 c.in-Some.read.1 found.2 _ all found.1 found.3 in
+    reads_found bytes filled at end c.requires was open_before w opened.0 _ s
+    c.open.new.self c.in-Some.read.0 c.in-Some.read.1 found.2 c.open.ensures.counted found.0 content
 
 pub returns-in-Some-clause-put : goal.returns-in-Some-clause-put
 returns-in-Some-clause-put c =
-    let bytes = c.args.bytes.now in let filled = c.args.filled in let at = c.args.at in let end = c.args.end in
+    let bytes = c.args.bytes.now in
+    let filled = c.args.filled in
+    let at = c.args.at in
+    let end = c.args.end in
+    let was = c.args.self.now in
     let open_before : ¬ IsEnded c.args.self.now = not_ended _ _ _ c.self.invariant c.if-self-eq0.false c.self.view_is in
     let w = c.in_ok-header.ensures.ok in
     let opened = c.in-Ok.ensures.opened in
-    let s = stands bytes filled at end c.requires c.args.self.now open_before w c.in_ok-header.header opened.0 c.open.new.from c.in-Ok.len c.in_ok-header.ensures.header opened.1 opened.2 opened.3 in
+    let s = stands bytes filled at end c.requires was open_before w c.in_ok-header.header opened.0 c.open.new.from c.in-Ok.len
+    c.in_ok-header.ensures.header opened.1 opened.2 opened.3 in
     let all : filled + c.in-Ok.len - filled ≡ length opened.0 = omega (arith, opened.1) in
     let found = c.in-Some.ensures.found in
-    let content = found_there bytes filled at end c.requires c.args.self.now open_before w opened.0 _ s c.in-Some.read.0 c.in-Some.read.1 found.2 _ all found.1 found.3 in
+    let content = found_there bytes filled at end c.requires was open_before w opened.0 _ s
+    c.in-Some.read.0 c.in-Some.read.1 found.2 _ all found.1 found.3 in
     (found.2, s.put ∙ ap (overwritten bytes filled) content)
 
 pub returns-in-None-clause-reads : goal.returns-in-None-clause-reads
 returns-in-None-clause-reads c =
-    let bytes = c.args.bytes.now in let filled = c.args.filled in let at = c.args.at in let end = c.args.end in
+    let bytes = c.args.bytes.now in
+    let filled = c.args.filled in
+    let at = c.args.at in
+    let end = c.args.end in
+    let was = c.args.self.now in
     let open_before : ¬ IsEnded c.args.self.now = not_ended _ _ _ c.self.invariant c.if-self-eq0.false c.self.view_is in
     let w = c.in_ok-header.ensures.ok in
     let opened = c.in-Ok.ensures.opened in
-    let s = stands bytes filled at end c.requires c.args.self.now open_before w c.in_ok-header.header opened.0 c.open.new.from c.in-Ok.len c.in_ok-header.ensures.header opened.1 opened.2 opened.3 in
+    let s = stands bytes filled at end c.requires was open_before w c.in_ok-header.header opened.0 c.open.new.from c.in-Ok.len
+    c.in_ok-header.ensures.header opened.1 opened.2 opened.3 in
     let all : filled + c.in-Ok.len - filled ≡ length opened.0 = omega (arith, opened.1) in
-    (reads_zeros bytes filled at end c.requires c.args.self.now open_before w opened.0 _ s c.open.new.self _ all c.in-None.ensures.zeros).1
+    (reads_zeros bytes filled at end c.requires was open_before w opened.0 _ s
+    c.open.new.self _ all c.in-None.ensures.zeros).1
 
 pub returns-in-None-clause-kept : goal.returns-in-None-clause-kept
 returns-in-None-clause-kept c =
-    let bytes = c.args.bytes.now in let filled = c.args.filled in let at = c.args.at in let end = c.args.end in
+    let bytes = c.args.bytes.now in
+    let filled = c.args.filled in
+    let at = c.args.at in
+    let end = c.args.end in
+    let was = c.args.self.now in
     let open_before : ¬ IsEnded c.args.self.now = not_ended _ _ _ c.self.invariant c.if-self-eq0.false c.self.view_is in
     let w = c.in_ok-header.ensures.ok in
     let opened = c.in-Ok.ensures.opened in
-    let s = stands bytes filled at end c.requires c.args.self.now open_before w c.in_ok-header.header opened.0 c.open.new.from c.in-Ok.len c.in_ok-header.ensures.header opened.1 opened.2 opened.3 in
+    let s = stands bytes filled at end c.requires was open_before w c.in_ok-header.header opened.0 c.open.new.from c.in-Ok.len
+    c.in_ok-header.ensures.header opened.1 opened.2 opened.3 in
     let all : filled + c.in-Ok.len - filled ≡ length opened.0 = omega (arith, opened.1) in
-    let none = (reads_zeros bytes filled at end c.requires c.args.self.now open_before w opened.0 _ s c.open.new.self _ all c.in-None.ensures.zeros).0 in
-    (c.open.ensures.counted, s.put ∙ ap (overwritten bytes filled) none)
+    let none = (reads_zeros bytes filled at end c.requires was open_before w opened.0 _ s
+    c.open.new.self _ all c.in-None.ensures.zeros).0 in
+    s.put ∙ ap (overwritten bytes filled) none

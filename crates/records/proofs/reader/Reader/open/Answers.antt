@@ -1,4 +1,4 @@
-use Rattle.std.proofs.Common.{◌≡◌, ◌+◌, ◌-◌, ◌∙◌, ℕ, ap, arith, length}
+use Rattle.std.proofs.Common.{◌-◌, ◌∙◌, ap, arith, length}
 use Rattle.aead_ciphers.specs.Gcm.{Fits}
 use Rattle.records.specs.State.{advanced, IsEnded}
 use Rattle.records.proofs.OpenedLemmas.{answers_message, refuses_message}
