@@ -1,0 +1,8 @@
+mod GatherLemmas
+mod InnerLemmas
+mod OpenedLemmas
+mod RecordLemmas
+pub mod RunLemmas
+mod StepLemmas
+mod TagLemmas
+mod WriteLemmas

@@ -1,0 +1,103 @@
+-- What an opening made of a sealed message that stands at the end of a buffer.
+use Rattle.std.proofs.Common.{◌≡◌, ℕ, Bool, true, false, ◌+◌, ◌-◌, ◌≤◌, List, ◌++◌, length, take, drop, refl, sym, ap, ap₂, subst, ◌∙◌}
+use Rattle.std.proofs.Common.{arith}
+use Rattle.std.specs.Prelude.{Result, Ok, Err, IfOk, OnErr, is_ok}
+use Rattle.std.proofs.lemmas.List.{append_assoc, drop-append-le, drop_at, length-append, length-drop, length-take-le, take-append-drop, take_at}
+use Rattle.aead_ciphers_base.specs.Aes.{aes}
+use Rattle.aead_ciphers_base.proofs.CounterModeLemmas.{length-counter_mode}
+use Rattle.aead_ciphers_base.proofs.CounterModeTwice.{counter_mode-twice}
+use Rattle.aead_ciphers.specs.AesGcm.{aes_decrypted, aes_encrypted, aes_sealed, aes_tag, AesOpenedAttached}
+use Rattle.aead_ciphers.specs.Gcm.{Fits}
+use Rattle.aead_ciphers.proofs.OpenedLemmas.{opened_accepted, opened_refused}
+use Rattle.records.proofs.TagLemmas.{length-aes_tag}
+
+pub length-aes_sealed : (key nonce aad message : List ℕ) → length (aes_sealed key nonce aad message) ≡ length message + 16
+length-aes_sealed key nonce aad message =
+    length-append (aes_encrypted key nonce message) (aes_tag key nonce aad (aes_encrypted key nonce message))
+    ∙ ap₂ (λ (m n : ℕ). m + n) (length-counter_mode (aes key) nonce 2 message) (length-aes_tag key nonce aad (aes_encrypted key nonce message))
+
+module _ (key nonce aad : List ℕ) (start : ℕ) (old : List ℕ) where
+  -- the message that was opened: the buffer ended with it sealed, and now begins with it
+  pub record Message (new : List ℕ) : Type 0 where
+    pub message : List ℕ
+    pub size : start + length message + 16 ≡ length old
+    pub sealed : drop start old ≡ aes_sealed key nonce aad message
+    pub put : new ≡ message ++ drop (length message) old
+
+  module _ (room : start + 16 ≤ length old) (fits : Fits (length aad) (length old - 16 - start)) where
+    abbrev body : List ℕ
+    body = take (length old - 16) old
+
+    length-body : length body ≡ length old - 16
+    length-body = length-take-le (length old - 16) old (omega arith)
+
+    -- the ciphertext and the tag
+    parts : drop start old ≡ drop start body ++ drop (length old - 16) old
+    parts =
+        ap (drop start) (sym (take-append-drop (length old - 16) old))
+        ∙ drop-append-le start body (drop (length old - 16) old) (omega (arith, length-body))
+
+    pub opened_message : (new : List ℕ) → AesOpenedAttached key nonce aad start old true new → Message new
+    opened_message new o =
+        let done = o.tagged (omega arith) in
+        let front = done.0 in
+        let a = opened_accepted (aes key) nonce aad (drop (length old - 16) old) start body front done.1 in
+        let ciphertext : List ℕ = drop start body in
+        let message : List ℕ = aes_decrypted key nonce ciphertext in
+        let size : length message ≡ length body - start = length-counter_mode (aes key) nonce 2 ciphertext ∙ length-drop start body in
+        let again : aes_encrypted key nonce message ≡ ciphertext = counter_mode-twice (aes key) nonce 2 ciphertext in
+        let le : length body - start ≤ length body = omega arith in
+        record {
+          message = message;
+          size = omega (arith, size, length-body);
+          sealed = parts ∙ ap (λ (t : List ℕ). ciphertext ++ t) a.right_tag
+              ∙ ap (λ (c : List ℕ). c ++ aes_tag key nonce aad c) (sym again);
+          put = done.2 ∙ ap (λ (f : List ℕ). f ++ drop (length old - 16) old) a.buffer
+              ∙ append_assoc message (drop (length body - start) body) (drop (length old - 16) old)
+              ∙ ap (λ (r : List ℕ). message ++ r) (
+              sym (drop-append-le (length body - start) body (drop (length old - 16) old) le)
+              ∙ ap (drop (length body - start)) (take-append-drop (length old - 16) old)
+              ∙ ap (λ (k : ℕ). drop k old) (sym size)
+              );
+        }
+
+    pub opened_kept : (new : List ℕ) → AesOpenedAttached key nonce aad start old false new → new ≡ old
+    opened_kept new o =
+        let done = o.tagged (omega arith) in
+        done.2 ∙ ap (λ (f : List ℕ). f ++ drop (length old - 16) old) (opened_refused (aes key) nonce aad (drop (length old - 16) old) start body done.0 done.1)
+        ∙ take-append-drop (length old - 16) old
+
+    -- a sealed message is accepted
+    pub sealed_accepted : (message new : List ℕ) (accepts : Bool) → drop start old ≡ aes_sealed key nonce aad message
+        → AesOpenedAttached key nonce aad start old accepts new → accepts ≡ true
+    sealed_accepted message new accepts e o =
+        let done = o.tagged (omega arith) in
+        let ciphertext : List ℕ = aes_encrypted key nonce message in
+        let whole : length (drop start old) ≡ length message + 16 = ap length e ∙ length-aes_sealed key nonce aad message in
+        let size : length ciphertext ≡ length (drop start body) =
+        omega (arith, length-counter_mode (aes key) nonce 2 message, length-drop start old, length-drop start body, length-body, whole) in
+        let same : drop start body ++ drop (length old - 16) old ≡ ciphertext ++ aes_tag key nonce aad ciphertext = sym parts ∙ e in
+        let here : drop start body ≡ ciphertext =
+        sym (take_at (drop start body) (drop (length old - 16) old) (length ciphertext) (sym size))
+        ∙ ap (take (length ciphertext)) same ∙ take_at ciphertext (aes_tag key nonce aad ciphertext) (length ciphertext) refl in
+        let there : drop (length old - 16) old ≡ aes_tag key nonce aad ciphertext =
+        sym (drop_at (drop start body) (drop (length old - 16) old) (length ciphertext) (sym size))
+        ∙ ap (drop (length ciphertext)) same ∙ drop_at ciphertext (aes_tag key nonce aad ciphertext) (length ciphertext) refl in
+        let fitting : Fits (length aad) (length body - start) = subst (λ (n : ℕ). Fits (length aad) (n - start)) (sym length-body) fits in
+        (done.1.right_tag (omega (arith, length-body)) fitting (there ∙ ap (aes_tag key nonce aad) (sym here))).0
+
+    -- what an answer of an opening says
+    pub answers_message : {E : Type 0} (new : List ℕ) (r : Result ℕ E) → AesOpenedAttached key nonce aad start old (is_ok r) new
+        → IfOk r (λ n. n ≡ length old - 16 - start)
+        → IfOk r (λ n. (message : List ℕ) × (length message ≡ n) × (drop start old ≡ aes_sealed key nonce aad message) × (new ≡ message ++ drop n old))
+    answers_message new (Ok n) o e =
+        let m = opened_message new o in
+        let s = m.size in
+        let size : length m.message ≡ n = omega arith in
+        (m.message, size, m.sealed, m.put ∙ ap (λ (k : ℕ). m.message ++ drop k old) size)
+    answers_message new (Err e) o _ = tt
+
+    pub refuses_message : {E : Type 0} (new : List ℕ) (r : Result ℕ E) → AesOpenedAttached key nonce aad start old (is_ok r) new
+        → OnErr r ((message : List ℕ) → ¬ (drop start old ≡ aes_sealed key nonce aad message))
+    refuses_message new (Ok n) o = tt
+    refuses_message new (Err e) o = λ message s. let wrong : false ≡ true = sealed_accepted message new false s o in cc

@@ -1,0 +1,16 @@
+use Rattle.std.proofs.Common.{◌≡◌, ◌<◌, ◌++◌, ◌∷◌, ℕ, length, get_or, replicate, take, ap, ◌∙◌, sym, rules, ◌-◌, ◌+◌, arith}
+use Rattle.records.proofs.InnerLemmas.{zeros_behind}
+use Rattle.records.proofs.inner.content_of.Goals as goal
+
+pub returns-else-content_type-eq0-clause-found : goal.returns-else-content_type-eq0-clause-found
+returns-else-content_type-eq0-clause-found c =
+    let inner = c.args.inner.now in
+    let len = c.loop-i.len in
+    let short : len < length inner = search rules in
+    let read : c.in_ok-content_type.field-0.now ≡ get_or inner len 0 = search rules in (
+      c.if-content_type-eq0.false,
+      short,
+      length inner - (len + 1),
+      zeros_behind inner len short (λ k l h. c.loop-i.invariant.zeros k l (omega arith))
+          ∙ ap (λ (t : ℕ). take len inner ++ t ∷ replicate (length inner - (len + 1)) 0) (sym read),
+    )

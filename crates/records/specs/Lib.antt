@@ -1,0 +1,4 @@
+-- What the contracts cite.
+pub mod Record
+pub mod State
+pub mod Steps

@@ -1,0 +1,142 @@
+//! Reading records.
+
+ghost use Rattle.std.specs.Prelude.{◌≡◌, ℕ, List, ◌+◌, ◌-◌, ◌^◌, ◌≤◌, ◌↔◌, ◌++◌, length, take, drop, slice_range, IsOk, IfOk, OnOk, IfErr, OnErr};
+ghost use Rattle.aead_ciphers.specs.AesGcm.{aes_sealed};
+ghost use Rattle.aead_ciphers.specs.Algorithm.{key_len};
+ghost use Rattle.records.specs.State.{first_state, next_nonce, advanced, IsEnded};
+ghost use Rattle.records.specs.Steps.{Reads, LeavesInner, LeavesRefused, StandsRefused, content_at, lent_content};
+
+use crate::TAG_LEN;
+use crate::header::{HEADER_LEN, header_in};
+use crate::inner::content_of;
+use crate::record_error::RecordError;
+use aead_ciphers::aead::{
+    Aad, Algorithm, BoundKey, NONCE_LEN, OpeningKey, UnboundKey, Unspecified, XoredSequence,
+};
+use std::marker::Model;
+
+/// Reads records, each under the next number. It can't be cloned.
+#[derive(Drop)]
+pub struct Reader {
+    key: OpeningKey<XoredSequence>,
+    // how many numbers are left
+    left: u64,
+}
+
+impl Model for Reader {
+    ghost use Rattle.std.specs.Prelude.{◌≡◌, ◌+◌};
+    ghost use Rattle.records.specs.State.{State};
+
+    ghost Value = { State };
+
+    ghost view = { λ reader. reader.key };
+
+    ghost invariant = { λ reader. reader.key.sequence.used + reader.left ≡ reader.key.sequence.count };
+}
+
+impl Reader {
+    /// A reader from record 0 on, for 2^64 - 1 records. Refused where the key isn't as long as the algorithm's.
+    pub fn new(
+        algorithm: &'static Algorithm,
+        key: &[u8],
+        iv: [u8; NONCE_LEN],
+    ) -> Result<Self, Unspecified>
+        ensures accepted { IsOk result ↔ (length key.now ≡ key_len algorithm.now) }
+        ensures made { IfOk result (λ reader. reader
+            ≡ first_state (record { algorithm = algorithm.now; bytes = key.now }) iv (2 ^ 64 - 1)) }
+    {
+        Reader::with_limit(algorithm, key, iv, u64::MAX)
+    }
+
+    /// A reader from record 0 on, for at most `limit` records. Refused where the key isn't as long as the
+    /// algorithm's.
+    pub fn with_limit(
+        algorithm: &'static Algorithm,
+        key: &[u8],
+        iv: [u8; NONCE_LEN],
+        limit: u64,
+    ) -> Result<Self, Unspecified>
+        ensures accepted { IsOk result ↔ (length key.now ≡ key_len algorithm.now) }
+        ensures made { IfOk result (λ reader. reader
+            ≡ first_state (record { algorithm = algorithm.now; bytes = key.now }) iv limit) }
+    {
+        let key = UnboundKey::new(algorithm, key)?;
+        let sequence = XoredSequence::new(iv, 0, limit)?;
+        Ok(Reader {
+            key: OpeningKey::new(key, sequence),
+            left: limit,
+        })
+    }
+
+    /// Opens the next record, which is `bytes[at..end]`, into the bytes from `filled` on, and answers the type
+    /// and the length of its content: the content then is `bytes[filled..filled + length]`. So the contents of
+    /// all records in a buffer can be gathered at its front, with `filled` the sum of their lengths so far.
+    ///
+    /// Every byte before `filled` and from `end` on stays. A refusal changes no byte, but for `NoContentType`:
+    /// then the inner plaintext, which is zeros, stands from `filled` on. `Refused` and `NoContentType` spend
+    /// the record's number, as a record that was read does; TLS ends a connection there (RFC 8446 section 5.2).
+    pub fn gather(
+        &mut self,
+        bytes: &mut [u8],
+        filled: usize,
+        at: usize,
+        end: usize,
+    ) -> Result<(u8, usize), RecordError>
+        requires { (filled ≤ at) × (at ≤ end) × (end ≤ length bytes.old) }
+        ensures reads { Reads self.old self.new (slice_range bytes.old at end)
+            (content_at filled bytes.new result) }
+        ensures within { IfOk result (λ read. filled + read.1 ≤ end) }
+        ensures put { IfOk result (LeavesInner filled bytes.old bytes.new) }
+        ensures stands { IfErr result (StandsRefused self.old self.new) }
+        ensures kept { IfErr result (LeavesRefused filled (end - at - 21) bytes.old bytes.new) }
+    {
+        let header = header_in(&bytes[at..end])?;
+        if self.left == 0 {
+            return Err(RecordError::SequenceEnded);
+        }
+        let start = at + HEADER_LEN - filled;
+        let Ok(len) = self.open(&header, &mut bytes[filled..end], start) else {
+            return Err(RecordError::Refused);
+        };
+        match content_of(&bytes[filled..filled + len]) {
+            Some(read) => Ok(read),
+            None => Err(RecordError::NoContentType),
+        }
+    }
+
+    /// Opens the next record, which is the whole of `bytes`, and lends its content, which then stands at the
+    /// front of `bytes`, with its type. It is `gather` of one record, whose clauses say what the buffer then
+    /// holds.
+    pub fn read<'a>(&mut self, bytes: &'a mut [u8]) -> Result<(u8, &'a [u8]), RecordError>
+        ensures reads { Reads self.old self.new bytes.old (lent_content result) }
+        ensures stands { IfErr result (StandsRefused self.old self.new) }
+    {
+        let end = bytes.len();
+        let (content_type, len) = self.gather(bytes, 0, 0, end)?;
+        Ok((content_type, &bytes[..len]))
+    }
+
+    /// Opens the bytes from `start` on into the front of the buffer, and answers the length of the inner
+    /// plaintext.
+    fn open(
+        &mut self,
+        header: &[u8; HEADER_LEN],
+        from: &mut [u8],
+        start: usize,
+    ) -> Result<usize, Unspecified>
+        requires open_before { ¬ IsEnded self.old }
+        requires room { start + 16 ≤ length from.old }
+        requires fits { length from.old ≤ start + 2 ^ 15 }
+        ensures opened { IfOk result (λ len. (message : List ℕ) × (length message ≡ len)
+            × (drop start from.old ≡ aes_sealed self.old.key.bytes (next_nonce self.old) header.now message)
+            × (from.new ≡ message ++ drop len from.old)) }
+        ensures refused { OnErr result ((message : List ℕ)
+            → ¬ (drop start from.old ≡ aes_sealed self.old.key.bytes (next_nonce self.old) header.now message)) }
+        ensures kept { OnErr result (from.new ≡ from.old) }
+        ensures counted { self.new ≡ advanced self.old }
+    {
+        self.left -= 1;
+        self.key
+            .open_within_len(Aad::from(header.as_slice()), from, start..)
+    }
+}
