@@ -22,6 +22,7 @@ pub mod LendingFacts
 pub mod LendingWalk
 pub mod LentPlaintext
 pub mod LinearMaps
+pub mod MessageLaws
 pub mod NextNonce
 pub mod OpeningCases
 pub mod PaddedBlocks

@@ -1,0 +1,51 @@
+-- Laws of a sealed message under a key, which speak of public definitions alone: what proofs of crates above cite.
+use Rattle.std.proofs.Common.{◌≡◌, ◌≤◌, ℕ, ◌+◌, List, [], ◌∷◌, length, refl, sym, subst, ap₂, ◌∙◌, arith, length-append}
+use Rattle.aead_ciphers_base.specs.Aes.{aes, cipher, add_round_key}
+use Rattle.aead_ciphers_base.specs.Bytes.{◌⊕◌, zero_block}
+use Rattle.aead_ciphers_base.specs.CounterMode.{counter_block}
+use Rattle.aead_ciphers_base.proofs.CounterModeLemmas.{length-counter_mode}
+use Rattle.aead_ciphers_base.proofs.CounterModeTwice.{counter_mode-twice}
+use Rattle.aead_ciphers_base.proofs.XorLemmas.{length-xor}
+use Rattle.aead_ciphers.specs.AesGcm.{aes_encrypted, aes_decrypted, aes_tag, aes_sealed}
+use Rattle.aead_ciphers.specs.Gcm.{hashed, tag}
+use Rattle.aead_ciphers.specs.Ghash.{◌•◌, block_of, ghash, power}
+
+pub use Rattle.aead_ciphers.proofs.OpeningCases.{Accepted, opened_accepted, opened_refused}
+
+length-aes : (key block : List ℕ) → length (aes key block) ≡ 16
+unfolding aes cipher add_round_key
+length-aes key block = refl
+
+length-product : (x y : List ℕ) → length (x • y) ≡ 16
+unfolding ◌•◌ block_of
+length-product x y = refl
+
+length-xor_16 : (xs ys : List ℕ) → length xs ≡ 16 → length ys ≡ 16 → length (xs ⊕ ys) ≡ 16
+length-xor_16 xs ys m n = length-xor xs ys (omega (arith, m, n)) ∙ m
+
+length-ghash : (h : List ℕ) (blocks : List (List ℕ)) → length (ghash h blocks) ≡ 16
+unfolding ghash
+length-ghash h [] = refl
+length-ghash h (x ∷ xs) = length-xor_16 (x • _) (ghash h xs) (length-product x _) (length-ghash h xs)
+
+pub length-aes_tag : (key nonce aad ciphertext : List ℕ) → length (aes_tag key nonce aad ciphertext) ≡ 16
+unfolding tag
+length-aes_tag key nonce aad ciphertext = length-xor_16 (ghash _ _) (aes key _) (length-ghash _ _) (length-aes key _)
+
+pub length-aes_encrypted : (key nonce message : List ℕ) → length (aes_encrypted key nonce message) ≡ length message
+length-aes_encrypted key nonce message = length-counter_mode (aes key) nonce 2 message
+
+pub length-aes_decrypted : (key nonce ciphertext : List ℕ) → length (aes_decrypted key nonce ciphertext) ≡ length ciphertext
+length-aes_decrypted key nonce ciphertext = length-counter_mode (aes key) nonce 2 ciphertext
+
+pub length-aes_sealed : (key nonce aad message : List ℕ) → length (aes_sealed key nonce aad message) ≡ length message + 16
+length-aes_sealed key nonce aad message =
+    length-append (aes_encrypted key nonce message) (aes_tag key nonce aad (aes_encrypted key nonce message))
+    ∙ ap₂ (λ (m n : ℕ). m + n) (length-aes_encrypted key nonce message) (length-aes_tag key nonce aad _)
+
+-- decrypting undoes encrypting, and encrypting decrypting
+pub decrypted-encrypted : (key nonce message : List ℕ) → aes_decrypted key nonce (aes_encrypted key nonce message) ≡ message
+decrypted-encrypted key nonce message = counter_mode-twice (aes key) nonce 2 message
+
+pub encrypted-decrypted : (key nonce ciphertext : List ℕ) → aes_encrypted key nonce (aes_decrypted key nonce ciphertext) ≡ ciphertext
+encrypted-decrypted key nonce ciphertext = counter_mode-twice (aes key) nonce 2 ciphertext
