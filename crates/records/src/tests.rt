@@ -1,6 +1,6 @@
 //! Records of python's `cryptography`, both ways, and what is refused.
 
-use super::{HEADER_LEN, MAX_CONTENT_LEN, Reader, RecordError, Writer, record_len};
+use super::{MAX_CONTENT_LEN, Reader, RecordError, Writer, record_len};
 use aead_ciphers::aead::{AES_128_GCM, AES_256_GCM, Algorithm};
 use hex::FromHex;
 use std::alloc::Global;
@@ -106,22 +106,17 @@ fn gathered_in_one_buffer(rt: HostRuntime) -> Result<(), Fail> {
     ] {
         writer.write(23, content, padding, &mut bytes)?;
     }
-    let end_of_records = bytes.len();
     bytes.extend_from_slice(b"later")?;
-    let (mut filled, mut at) = (0, 0);
-    while at < end_of_records {
-        let mut header = [0; HEADER_LEN];
-        assert!(rt; at + HEADER_LEN <= bytes.len());
-        header.copy_from_slice(&bytes[at..at + HEADER_LEN]);
-        let end = at + record_len(&header)?;
-        assert!(rt; filled <= at && at < end && end <= bytes.len());
+    assert!(rt; bytes.len() == 85);
+    assert!(rt; record_len(&[23, 3, 3, 0, 19]) == Ok(24));
+    for (filled, at, end) in [(0, 0, 24), (2, 24, 54), (5, 54, 80)] {
+        assert!(rt; filled <= at && at <= end && end <= bytes.len());
         let (content_type, len) = reader.gather(bytes.as_mut_slice(), filled, at, end)?;
         assert_eq!(rt; content_type, 23);
-        filled += len;
-        at = end;
+        assert_eq!(rt; len, if at == 0 { 2 } else { 3 });
     }
-    assert_eq!(rt; bytes.get(..filled), Some(b"together".as_slice()));
-    assert_eq!(rt; bytes.get(end_of_records..), Some(b"later".as_slice()));
+    assert_eq!(rt; bytes.get(..8), Some(b"together".as_slice()));
+    assert_eq!(rt; bytes.get(80..), Some(b"later".as_slice()));
     Ok(())
 }
 
