@@ -4,5 +4,4 @@ mod OpenedLemmas
 mod RecordLemmas
 pub mod RunLemmas
 mod StepLemmas
-mod TagLemmas
 mod WriteLemmas

@@ -1,20 +1,12 @@
 -- What an opening made of a sealed message that stands at the end of a buffer.
-use Rattle.std.proofs.Common.{◌≡◌, ℕ, Bool, true, false, ◌+◌, ◌-◌, ◌≤◌, List, ◌++◌, length, take, drop, refl, sym, ap, ap₂, subst, ◌∙◌}
+use Rattle.std.proofs.Common.{◌≡◌, ℕ, Bool, true, false, ◌+◌, ◌-◌, ◌≤◌, List, ◌++◌, length, take, drop, refl, sym, ap, subst, ◌∙◌}
 use Rattle.std.proofs.Common.{arith}
 use Rattle.std.specs.Prelude.{Result, Ok, Err, IfOk, OnErr, is_ok}
-use Rattle.std.proofs.lemmas.List.{append_assoc, drop-append-le, drop_at, length-append, length-drop, length-take-le, take-append-drop, take_at}
+use Rattle.std.proofs.lemmas.List.{append_assoc, drop-append-le, drop_at, length-drop, length-take-le, take-append-drop, take_at}
 use Rattle.aead_ciphers_base.specs.Aes.{aes}
-use Rattle.aead_ciphers_base.proofs.CounterModeLemmas.{length-counter_mode}
-use Rattle.aead_ciphers_base.proofs.CounterModeTwice.{counter_mode-twice}
 use Rattle.aead_ciphers.specs.AesGcm.{aes_decrypted, aes_encrypted, aes_sealed, aes_tag, AesOpenedAttached}
 use Rattle.aead_ciphers.specs.Gcm.{Fits}
-use Rattle.aead_ciphers.proofs.OpenedLemmas.{opened_accepted, opened_refused}
-use Rattle.records.proofs.TagLemmas.{length-aes_tag}
-
-pub length-aes_sealed : (key nonce aad message : List ℕ) → length (aes_sealed key nonce aad message) ≡ length message + 16
-length-aes_sealed key nonce aad message =
-    length-append (aes_encrypted key nonce message) (aes_tag key nonce aad (aes_encrypted key nonce message))
-    ∙ ap₂ (λ (m n : ℕ). m + n) (length-counter_mode (aes key) nonce 2 message) (length-aes_tag key nonce aad (aes_encrypted key nonce message))
+use Rattle.aead_ciphers.proofs.MessageLaws.{encrypted-decrypted, length-aes_decrypted, length-aes_encrypted, length-aes_sealed, opened_accepted, opened_refused}
 
 module _ (key nonce aad : List ℕ) (start : ℕ) (old : List ℕ) where
   -- the message that was opened: the buffer ended with it sealed, and now begins with it
@@ -44,8 +36,8 @@ module _ (key nonce aad : List ℕ) (start : ℕ) (old : List ℕ) where
         let a = opened_accepted (aes key) nonce aad (drop (length old - 16) old) start body front done.1 in
         let ciphertext : List ℕ = drop start body in
         let message : List ℕ = aes_decrypted key nonce ciphertext in
-        let size : length message ≡ length body - start = length-counter_mode (aes key) nonce 2 ciphertext ∙ length-drop start body in
-        let again : aes_encrypted key nonce message ≡ ciphertext = counter_mode-twice (aes key) nonce 2 ciphertext in
+        let size : length message ≡ length body - start = length-aes_decrypted key nonce ciphertext ∙ length-drop start body in
+        let again : aes_encrypted key nonce message ≡ ciphertext = encrypted-decrypted key nonce ciphertext in
         let le : length body - start ≤ length body = omega arith in
         record {
           message = message;
@@ -75,7 +67,7 @@ module _ (key nonce aad : List ℕ) (start : ℕ) (old : List ℕ) where
         let ciphertext : List ℕ = aes_encrypted key nonce message in
         let whole : length (drop start old) ≡ length message + 16 = ap length e ∙ length-aes_sealed key nonce aad message in
         let size : length ciphertext ≡ length (drop start body) =
-        omega (arith, length-counter_mode (aes key) nonce 2 message, length-drop start old, length-drop start body, length-body, whole) in
+        omega (arith, length-aes_encrypted key nonce message, length-drop start old, length-drop start body, length-body, whole) in
         let same : drop start body ++ drop (length old - 16) old ≡ ciphertext ++ aes_tag key nonce aad ciphertext = sym parts ∙ e in
         let here : drop start body ≡ ciphertext =
         sym (take_at (drop start body) (drop (length old - 16) old) (length ciphertext) (sym size))

@@ -8,8 +8,6 @@ use Rattle.std.proofs.lemmas.Nat.{be_bytes_2, from_be_bytes-to_be_bytes_2}
 use Rattle.std.specs.Int.{to_be_bytes, w16}
 use Rattle.std.specs.Prelude.{Err}
 use Rattle.aead_ciphers_base.specs.Aes.{aes}
-use Rattle.aead_ciphers_base.proofs.CounterModeLemmas.{length-counter_mode}
-use Rattle.aead_ciphers_base.proofs.CounterModeTwice.{counter_mode-twice}
 use Rattle.aead_ciphers.specs.AesGcm.{aes_decrypted, aes_encrypted, aes_sealed, aes_tag}
 use Rattle.records.specs.Record.{Inner, IsHeader, IsWhole, encrypted_len, header, inner_plaintext}
 use Rattle.records.specs.State.{State, next_nonce, IsEnded}
@@ -19,7 +17,7 @@ use Rattle.records.specs.declared.record_error.RecordError.TheVariants.{ContentT
 use Rattle.records.specs.declared.record_error.RecordError.TheVariants.{EncryptedRecordTooLong, InnerPlaintextTooLong}
 use Rattle.records.specs.declared.record_error.RecordError.TheVariants.{EncryptedRecordTooShort, Refused, NoContentType, SequenceEnded}
 use Rattle.records.specs.declared.record_error.RecordError.TheVariants.{OutOfMemory}
-use Rattle.records.proofs.OpenedLemmas.{length-aes_sealed}
+use Rattle.aead_ciphers.proofs.MessageLaws.{decrypted-encrypted, length-aes_encrypted, length-aes_sealed}
 use Rattle.records.proofs.InnerLemmas.{length-inner_plaintext, not_zeros, same_inner}
 
 -- the bytes of a header, where it gives the length of what stands behind it
@@ -70,10 +68,10 @@ same_sealed key nonce aad m m' e =
     let c' : List ℕ = aes_encrypted key nonce m' in
     let lengths : length m + 16 ≡ length m' + 16 = sym (length-aes_sealed key nonce aad m) ∙ ap length e ∙ length-aes_sealed key nonce aad m' in
     let size : length c ≡ length c' =
-    length-counter_mode (aes key) nonce 2 m ∙ (let s : length m ≡ length m' = omega arith in s) ∙ sym (length-counter_mode (aes key) nonce 2 m') in
+    length-aes_encrypted key nonce m ∙ (let s : length m ≡ length m' = omega arith in s) ∙ sym (length-aes_encrypted key nonce m') in
     let same : c ≡ c' =
     sym (take_at c (aes_tag key nonce aad c) (length c) refl) ∙ ap (take (length c)) e ∙ take_at c' (aes_tag key nonce aad c') (length c) (sym size) in
-    sym (counter_mode-twice (aes key) nonce 2 m) ∙ ap (aes_decrypted key nonce) same ∙ counter_mode-twice (aes key) nonce 2 m'
+    sym (decrypted-encrypted key nonce m) ∙ ap (aes_decrypted key nonce) same ∙ decrypted-encrypted key nonce m'
 
 module _ (was : State) (bytes : List ℕ) where
   module _ (inner : Inner) (c : Carries was bytes inner) where

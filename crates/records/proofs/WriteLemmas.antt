@@ -4,7 +4,7 @@ use Rattle.std.proofs.Common.{ap₂, ◌∙◌, arith}
 use Rattle.std.specs.Prelude.{is_ok}
 use Rattle.std.proofs.lemmas.List.{append-nil, append_assoc, drop_all, drop_at, length-append, replicate-append-replicate, take_all, take_at}
 use Rattle.aead_ciphers.specs.AesGcm.{aes_sealed}
-use Rattle.records.proofs.OpenedLemmas.{length-aes_sealed}
+use Rattle.aead_ciphers.proofs.MessageLaws.{length-aes_sealed}
 use borrow.Rule.Slice.PartMut.{put_mid}
 
 -- after `resize` of a `Vec` of `len` bytes to k more

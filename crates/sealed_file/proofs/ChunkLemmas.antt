@@ -6,9 +6,8 @@ use Rattle.std.proofs.lemmas.Bool.{cases_lt}
 use Rattle.std.proofs.lemmas.List.{drop_all, length-take-le, take_at}
 use Rattle.std.proofs.lemmas.List.FromFn.{fill_by_all}
 use Rattle.aead_ciphers_base.specs.Aes.{aes}
-use Rattle.aead_ciphers_base.proofs.CounterModeLemmas.{length-counter_mode}
 use Rattle.aead_ciphers.specs.AesGcm.{aes_encrypted, aes_decrypted, aes_sealed, aes_tag, AesOpenedAttached}
-use Rattle.aead_ciphers.proofs.OpenedLemmas.{Accepted, opened_accepted}
+use Rattle.aead_ciphers.proofs.MessageLaws.{Accepted, length-aes_decrypted, opened_accepted}
 use Rattle.sealed_file.specs.Format.{chunk_nonce, header, sealed_chunk}
 use Rattle.sealed_file.specs.Opening.{HasTag, ciphertext_of, opened_chunk}
 
@@ -58,6 +57,6 @@ module _ (key prefix : List ℕ) (number : ℕ) (is_last : Bool) (inner nonce aa
       let none : drop (length front - 0) front ≡ [] = drop_all (length front - 0) front (omega arith) in
       let body_is : body ≡ plain = accepted.buffer ∙ ap (λ (l : List ℕ). plain ++ l) none ∙ append-nil plain in
       let short : length front ≡ n = length-take-le n old (omega arith) in
-      let len : length body ≡ n = ap length body_is ∙ length-counter_mode (aes inner) nonce 2 front ∙ short in
+      let len : length body ≡ n = ap length body_is ∙ length-aes_decrypted inner nonce front ∙ short in
       ap (take n) (opened.tagged size).2 ∙ take_at body (drop n old) n len ∙ body_is
       ∙ ap (λ (k : List ℕ). aes_decrypted k nonce front) k_is ∙ ap (λ (x : List ℕ). aes_decrypted key x front) n_is

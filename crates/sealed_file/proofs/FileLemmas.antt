@@ -9,7 +9,7 @@ use Rattle.aead_ciphers.specs.AesGcm.{aes_encrypted, aes_decrypted, aes_tag}
 use Rattle.sealed_file.specs.Format.{piece, last_piece, magic_and_version, header, chunk_nonce, sealed_chunk, sealed_chunks, sealed_file}
 use Rattle.sealed_file.specs.Opening.{HasTag, HasRightTag, IsSealed, opened_chunk, opened_chunks, opened_file, ciphertext_of, prefix_of, body_of, last_chunk}
 use Rattle.sealed_file.proofs.PieceLemmas.{all_pieces, joined_more, last_of_joined, length-joined, length-piece, length-piece-le, piece_of_joined}
-use Rattle.sealed_file.proofs.TagLemmas.{length-tag, length-encrypted, decrypted-encrypted}
+use Rattle.aead_ciphers.proofs.MessageLaws.{length-aes_tag, length-aes_encrypted, decrypted-encrypted}
 
 module _ (key prefix : List ℕ) (number : ℕ) (flag : Bool) (chunk : List ℕ) where
   pub length-sealed_chunk : length (sealed_chunk key prefix number flag chunk) ≡ length chunk + 16
@@ -17,8 +17,8 @@ module _ (key prefix : List ℕ) (number : ℕ) (flag : Bool) (chunk : List ℕ)
   length-sealed_chunk =
       let ct = aes_encrypted key (chunk_nonce prefix number flag) chunk in
       length-append ct (aes_tag key (chunk_nonce prefix number flag) (header prefix) ct)
-      ∙ ap₂ (λ (a b : ℕ). a + b) (length-encrypted key (chunk_nonce prefix number flag) chunk)
-      (length-tag key (chunk_nonce prefix number flag) (header prefix) ct)
+      ∙ ap₂ (λ (a b : ℕ). a + b) (length-aes_encrypted key (chunk_nonce prefix number flag) chunk)
+      (length-aes_tag key (chunk_nonce prefix number flag) (header prefix) ct)
 
   pub front_of_sealed : ciphertext_of (sealed_chunk key prefix number flag chunk) ≡ aes_encrypted key (chunk_nonce prefix number flag) chunk
   unfolding sealed_chunk
@@ -27,7 +27,7 @@ module _ (key prefix : List ℕ) (number : ℕ) (flag : Bool) (chunk : List ℕ)
       let ct = aes_encrypted key nonce chunk in
       let whole = length-sealed_chunk in
       take_at ct (aes_tag key nonce (header prefix) ct) (length (sealed_chunk key prefix number flag chunk) - 16)
-      (length-encrypted key nonce chunk ∙ (let e : length chunk ≡ length (sealed_chunk key prefix number flag chunk) - 16 = omega (arith, whole) in e))
+      (length-aes_encrypted key nonce chunk ∙ (let e : length chunk ≡ length (sealed_chunk key prefix number flag chunk) - 16 = omega (arith, whole) in e))
 
   pub back_of_sealed : drop (length (sealed_chunk key prefix number flag chunk) - 16) (sealed_chunk key prefix number flag chunk)
       ≡ aes_tag key (chunk_nonce prefix number flag) (header prefix) (aes_encrypted key (chunk_nonce prefix number flag) chunk)
@@ -37,7 +37,7 @@ module _ (key prefix : List ℕ) (number : ℕ) (flag : Bool) (chunk : List ℕ)
       let ct = aes_encrypted key nonce chunk in
       let whole = length-sealed_chunk in
       drop_at ct (aes_tag key nonce (header prefix) ct) (length (sealed_chunk key prefix number flag chunk) - 16)
-      (length-encrypted key nonce chunk ∙ (let e : length chunk ≡ length (sealed_chunk key prefix number flag chunk) - 16 = omega (arith, whole) in e))
+      (length-aes_encrypted key nonce chunk ∙ (let e : length chunk ≡ length (sealed_chunk key prefix number flag chunk) - 16 = omega (arith, whole) in e))
 
   -- a sealed chunk has its tag
   pub sealed_has_tag : HasTag key prefix number flag (sealed_chunk key prefix number flag chunk)

@@ -5,4 +5,3 @@ pub mod OpenLemmas
 pub mod PieceLemmas
 pub mod SealLemmas
 pub mod StreamLemmas
-pub mod TagLemmas
