@@ -24,6 +24,7 @@ pub mod LentPlaintext
 pub mod LinearMaps
 pub mod NextNonce
 pub mod OpeningCases
+pub mod PacketLemmas
 pub mod PaddedBlocks
 pub mod ProductLoop
 pub mod RootsOfBlocks
