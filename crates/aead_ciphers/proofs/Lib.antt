@@ -25,6 +25,7 @@ pub mod LinearMaps
 pub mod MessageLaws
 pub mod NextNonce
 pub mod OpeningCases
+pub mod PacketLemmas
 pub mod PaddedBlocks
 pub mod ProductLoop
 pub mod RootsOfBlocks

@@ -1,5 +1,5 @@
 -- A packet that is sealed in place: a header, then a message, then 16 bytes of room for the tag.
-use Rattle.std.specs.Prelude.{ℕ, ◌+◌, ◌-◌, ◌≤◌, List, ◌++◌, length, take, drop}
+use Rattle.std.specs.Prelude.{ℕ, ◌+◌, ◌-◌, ◌≤◌, List, ◌++◌, length, take, drop, Result, Ok, Err}
 use Rattle.aead_ciphers.specs.AesGcm.{aes_sealed}
 use Rattle.aead_ciphers.specs.Gcm.{Fits}
 
@@ -15,3 +15,8 @@ packet_message h packet = take (length packet - 16 - h) (drop h packet)
 -- the packet sealed: its header, which is the AAD, then the ciphertext and the tag (SP 800-38D section 7.1)
 abbrev pub sealed_packet : (key nonce : List ℕ) → ℕ → List ℕ → List ℕ
 sealed_packet key nonce h packet = take h packet ++ aes_sealed key nonce (take h packet) (packet_message h packet)
+
+-- what stands behind the header: the ciphertext and the tag, and after a refusal the message
+abbrev pub packet_body : {X E : Type 0} → ℕ → List ℕ → Result X E → List ℕ
+packet_body h packet (Ok x) = drop h packet
+packet_body h packet (Err e) = packet_message h packet

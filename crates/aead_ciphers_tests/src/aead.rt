@@ -1,6 +1,6 @@
 //! `aead`: keys that use the nonce handed in.
 
-use crate::cases::{aad, false_tag, key, key_bytes, nonce, opened_at_4, sealed};
+use crate::cases::{aad, false_tag, key, key_bytes, nonce, opened_at_4, packet, sealed};
 use crate::checks::{holds, reads, same};
 use crate::reference;
 use aead_ciphers::aead::{AES_128_GCM, AES_256_GCM, Aad, LessSafeKey, Nonce, Tag, UnboundKey};
@@ -212,5 +212,14 @@ fn every_length_seals_as_reference(rt: HostRuntime) -> Result<(), Fail> {
     for case in [&CASE_4, &CASE_16] {
         seals_each_front(&rt, rt.alloc(), case)?;
     }
+    Ok(())
+}
+
+#[test]
+fn gcm_spec_case_4_as_a_packet(rt: HostRuntime) -> Result<(), Fail> {
+    let mut packet = packet(rt.alloc(), &CASE_4)?;
+    key(&CASE_4)?.seal_packet_in_place(nonce(&CASE_4), &mut packet, CASE_4.aad.len())?;
+    let wanted = sealed(rt.alloc(), &CASE_4, CASE_4.aad)?;
+    same(&rt, &packet, &wanted, "header, ciphertext and tag");
     Ok(())
 }

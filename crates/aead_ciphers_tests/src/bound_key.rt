@@ -1,6 +1,6 @@
 //! Keys over a counter and over a sequence that isn't one.
 
-use crate::cases::{aad, key, opened_at_4, sealed, unbound_key};
+use crate::cases::{aad, key, opened_at_4, packet, sealed, unbound_key};
 use crate::checks::{holds, reads, same};
 use aead_ciphers::aead::{
     AES_128_GCM, Aad, BoundKey, CounterSequence, NONCE_LEN, Nonce, NonceSequence, OpeningKey,
@@ -131,6 +131,21 @@ fn gcm_spec_case_4_sealed(rt: HostRuntime) -> Result<(), Fail> {
     let sealed = sealed(rt.alloc(), &CASE_4, &[])?;
     appends(&rt, &mut key, &mut ArrayVec::<u8, 76>::new(), Some(&sealed))?;
     seals(&rt, &mut key, aad(&CASE_4), None);
+    Ok(())
+}
+
+/// A header that reaches into the room is refused, and spends no nonce.
+#[test]
+fn gcm_spec_case_4_as_a_packet(rt: HostRuntime) -> Result<(), Fail> {
+    let mut key = sealing_once(&CASE_4)?;
+    let mut packet = packet(rt.alloc(), &CASE_4)?;
+    let refused = key.seal_packet_in_place(&mut packet, 81);
+    holds(&rt, refused.is_err(), "no room");
+    key.seal_packet_in_place(&mut packet, CASE_4.aad.len())?;
+    let wanted = sealed(rt.alloc(), &CASE_4, CASE_4.aad)?;
+    same(&rt, &packet, &wanted, "header, ciphertext and tag");
+    let refused = key.seal_packet_in_place(&mut packet, 0);
+    holds(&rt, refused.is_err(), "the nonce is spent");
     Ok(())
 }
 

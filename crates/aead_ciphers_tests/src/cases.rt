@@ -1,7 +1,7 @@
 //! What the calls take of a test case of the GCM specification.
 
 use aead_ciphers::aead::{
-    AES_128_GCM, AES_256_GCM, Aad, Algorithm, LessSafeKey, Nonce, Tag, UnboundKey,
+    AES_128_GCM, AES_256_GCM, Aad, Algorithm, LessSafeKey, MAX_TAG_LEN, Nonce, Tag, UnboundKey,
 };
 use aead_ciphers_base::aes::{self, KeyBytes};
 use aead_vectors::gcm_spec::Case;
@@ -63,6 +63,14 @@ pub(crate) fn sealed(alloc: Global, case: &Case, front: &[u8]) -> Result<Vec<u8>
     bytes.extend_from_slice(case.ciphertext)?;
     bytes.extend_from_slice(&case.tag)?;
     Ok(bytes)
+}
+
+/// The AAD as a header, the message, and room for the tag.
+pub(crate) fn packet(alloc: Global, case: &Case) -> Result<Vec<u8>, Fail> {
+    let mut packet = case.aad.to_vec(alloc)?;
+    packet.extend_from_slice(case.message)?;
+    packet.extend_from_slice(&[0; MAX_TAG_LEN])?;
+    Ok(packet)
 }
 
 /// What a buffer of four bytes, the ciphertext and the tag holds once it is opened from byte 4 on: the message, and each

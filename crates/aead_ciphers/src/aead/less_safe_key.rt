@@ -1,6 +1,6 @@
 //! Keys that take the nonce of each call.
 
-ghost use Rattle.std.specs.Prelude.{◌≡◌, ◌+◌, ◌-◌, ◌≤◌, ◌↔◌, length, drop, take, is_ok, IsOk, IfOk, OnOk, OnErr};
+ghost use Rattle.std.specs.Prelude.{◌≡◌, ◌+◌, ◌-◌, ◌≤◌, ◌↔◌, length, drop, take, is_ok, IsTrue, IsOk, IfOk, OnOk, OnErr};
 ghost use Rattle.std.specs.Borrow.{sem};
 ghost use Rattle.aead_ciphers_base.specs.Values.{aad_bytes};
 ghost use Rattle.aead_ciphers.specs.AesGcm.{aes_encrypted, aes_decrypted, aes_tag, aes_sealed, AesOpened, AesOpenedAttached};
@@ -138,7 +138,7 @@ impl LessSafeKey {
         ensures sealed { OnOk result (packet.new ≡ sealed_packet self.now.bytes nonce header_len packet.old) }
         ensures refused { OnErr result (packet.new ≡ packet.old) }
     {
-        if packet.len() < MAX_TAG_LEN || packet.len() - MAX_TAG_LEN < header_len {
+        if !has_room(packet, header_len) {
             return Err(Unspecified);
         }
         let (header, body) = packet.split_at_mut(header_len);
@@ -297,6 +297,13 @@ impl LessSafeKey {
     {
         self.open_within_len(nonce, aad, in_out, 0..)
     }
+}
+
+/// The packet holds a header of this length and a tag.
+pub(crate) fn has_room(packet: &[u8], header_len: usize) -> bool
+    ensures { IsTrue result ↔ (header_len + 16 ≤ length packet.now) }
+{
+    packet.len() >= MAX_TAG_LEN && packet.len() - MAX_TAG_LEN >= header_len
 }
 
 impl fmt::Debug for LessSafeKey {
