@@ -9,7 +9,6 @@ use Rattle.aead_ciphers_base.proofs.XorLemmas.{length-xor}
 use Rattle.aead_ciphers.specs.AesGcm.{aes_encrypted, aes_decrypted, aes_tag, aes_sealed}
 use Rattle.aead_ciphers.specs.Gcm.{hashed, tag}
 use Rattle.aead_ciphers.specs.Ghash.{◌•◌, block_of, ghash, power}
-
 pub use Rattle.aead_ciphers.proofs.OpeningCases.{Accepted, opened_accepted, opened_refused}
 
 length-aes : (key block : List ℕ) → length (aes key block) ≡ 16
