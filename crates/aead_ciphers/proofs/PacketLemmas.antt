@@ -1,6 +1,6 @@
 -- A packet that is sealed in place.
-use Rattle.std.proofs.Common.{◌≡◌, ℕ, ◌+◌, ◌-◌, ◌<◌, ◌≤◌, ◌↔◌, ◌++◌, List, Bool, true, false, length, drop, take, is_ok, IsOk, IsErr, OnOk, OnErr}
-use Rattle.std.proofs.Common.{Ok, Err, Result, refl, sym, ap, subst, ◌∙◌, arith, length-drop}
+use Rattle.std.proofs.Common.{◌≡◌, ℕ, ◌+◌, ◌-◌, ◌<◌, ◌≤◌, ◌↔◌, List, Bool, true, false, length, drop, take, is_ok, IsOk, IsErr, OnOk, OnErr}
+use Rattle.std.proofs.Common.{Ok, Err, Result, refl, ap, ◌∙◌, arith, length-drop}
 use Rattle.std.proofs.lemmas.List.{drop_at, length-take-le}
 use Rattle.aead_ciphers.specs.AesGcm.{aes_sealed}
 use Rattle.aead_ciphers.specs.BoundState.{BoundState}

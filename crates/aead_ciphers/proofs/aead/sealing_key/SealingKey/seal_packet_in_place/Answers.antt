@@ -1,4 +1,4 @@
-use Rattle.std.proofs.Common.{refl, rules, arith, ◌+◌, ◌<◌, ◌≤◌, length}
+use Rattle.std.proofs.Common.{rules}
 use Rattle.aead_ciphers.proofs.PacketLemmas.{packet_no_room, packet_no_nonce, packet_step}
 use Rattle.aead_ciphers.proofs.aead.sealing_key.SealingKey.seal_packet_in_place.Goals as goal
 
