@@ -1,7 +1,7 @@
 //! Two ends of a connection, each with a key that counts its own nonces.
 
-ghost use Rattle.std.specs.Prelude.{◌≡◌, ◌+◌, ◌-◌, ◌^◌, ◌<◌, ◌≤◌, ◌↔◌, length, take, vec_capacity, vec_len, IsOk, IfOk, OnOk, OnErr};
-ghost use Rattle.aead_ciphers.specs.AesGcm.{aes_decrypted, aes_encrypted, aes_sealed};
+ghost use Rattle.std.specs.Prelude.{◌≡◌, ◌+◌, ◌-◌, ◌^◌, ◌<◌, ◌≤◌, ◌↔◌, [], length, take, vec_capacity, vec_len, is_ok, IsOk, IfOk, OnOk, OnErr};
+ghost use Rattle.aead_ciphers.specs.AesGcm.{aes_decrypted, aes_encrypted, aes_sealed, aes_tag, AesOpenedAttached};
 ghost use Rattle.aead_ciphers.specs.Algorithm.{key_len};
 ghost use Rattle.aead_ciphers.specs.CounterSequence.{nonce_at};
 ghost use Rattle.aead_ciphers.specs.Gcm.{Fits};
@@ -69,6 +69,8 @@ pub fn send_apart(
     ensures counted { OnOk result (key.new.sequence.used ≡ key.old.sequence.used + 1) }
     ensures ciphertext { OnOk result (message.new ≡ aes_encrypted key.old.key.bytes
         (nonce_at key.old.sequence key.old.sequence.used) message.old) }
+    ensures tag { IfOk result (λ tag. tag ≡ aes_tag key.old.key.bytes
+        (nonce_at key.old.sequence key.old.sequence.used) [] message.new) }
     ensures refused { OnErr result (message.new ≡ message.old) }
 {
     key.seal_in_place_separate_tag(Aad::empty(), message)
@@ -81,9 +83,15 @@ pub fn receive(
     aad: &[u8],
     message: &mut [u8],
 ) -> Result<usize, Unspecified>
+    ensures nonces_left { IsOk result → key.old.sequence.used < key.old.sequence.count }
+    ensures opened { key.old.sequence.used < key.old.sequence.count → AesOpenedAttached key.old.key.bytes
+        (nonce_at key.old.sequence key.old.sequence.used) aad.now 0 message.old (is_ok result) message.new }
+    ensures count { IfOk result (λ n. n ≡ length message.old - 16) }
     ensures plaintext { OnOk result (take (length message.old - 16) message.new ≡ aes_decrypted key.old.key.bytes
         (nonce_at key.old.sequence key.old.sequence.used) (take (length message.old - 16) message.old)) }
-    ensures counted { OnOk result (key.new.sequence.used ≡ key.old.sequence.used + 1) }
+    ensures counted { key.old.sequence.used < key.old.sequence.count
+        → key.new.sequence.used ≡ key.old.sequence.used + 1 }
+    ensures used_up { key.old.sequence.count ≤ key.old.sequence.used → key.new ≡ key.old }
     ensures refused { OnErr result (message.new ≡ message.old) }
 {
     key.open_in_place_len(Aad::from(aad), message)

@@ -1,6 +1,6 @@
 //! Single messages, each under a nonce of the caller's.
 
-ghost use Rattle.std.specs.Prelude.{◌≡◌, ◌+◌, ◌-◌, ◌<◌, ◌≤◌, ◌↔◌, ◌++◌, [], length, take, slice_set, is_ok, IsOk, IfOk, OnOk, OnErr};
+ghost use Rattle.std.specs.Prelude.{◌≡◌, ◌+◌, ◌-◌, ◌<◌, ◌≤◌, ◌↔◌, ◌++◌, [], length, take, slice_set, vec_capacity, vec_len, false, is_ok, IsOk, IfOk, OnOk, OnErr};
 ghost use Rattle.arrayvec.specs.ArrayVec.{array_vec_len};
 ghost use Rattle.aead_ciphers.specs.AesGcm.{aes_decrypted, aes_encrypted, aes_sealed, aes_tag, AesOpened, AesOpenedAttached};
 ghost use Rattle.aead_ciphers.specs.Gcm.{Fits};
@@ -19,6 +19,7 @@ pub fn seal(
     aad: &[u8],
     in_out: &mut [u8],
 ) -> Result<Tag, Unspecified>
+    ensures accepted { IsOk result ↔ ((length key_bytes.now ≡ 16) × Fits (length aad.now) (length in_out.old)) }
     ensures ciphertext { OnOk result (in_out.new ≡ aes_encrypted key_bytes.now nonce in_out.old) }
     ensures tag { IfOk result (λ tag. tag ≡ aes_tag key_bytes.now nonce aad.now in_out.new) }
     ensures refused { OnErr result (in_out.new ≡ in_out.old) }
@@ -36,6 +37,7 @@ pub fn open(
     tag: Tag,
     in_out: &mut [u8],
 ) -> Result<(), Unspecified>
+    ensures key { IsOk result → length key_bytes.now ≡ 16 }
     ensures opened { length key_bytes.now ≡ 16 → AesOpened key_bytes.now nonce aad.now tag 0 in_out.old (is_ok result) in_out.new }
     ensures refused { OnErr result (in_out.new ≡ in_out.old) }
 {
@@ -52,6 +54,7 @@ pub fn open_behind_nonce(
     aad: &[u8],
     message: &mut [u8],
 ) -> Result<usize, Unspecified>
+    ensures no_nonce { length message.old < 12 → (is_ok result ≡ false) × (message.new ≡ message.old) }
     ensures opened { 12 ≤ length message.old → AesOpenedAttached key.now.bytes (take 12 message.old) aad.now 12
         message.old (is_ok result) message.new }
     ensures count { IfOk result (λ n. n ≡ length message.old - 28) }
@@ -72,6 +75,8 @@ pub fn open_and_mark(
     in_out: &mut [u8],
 ) -> Result<(), Unspecified>
     requires { 0 < length in_out.old }
+    ensures accepted { IsOk result ↔ (Fits (length (aad_bytes aad.entry)) (length in_out.old)
+        × (tag ≡ aes_tag key.now.bytes nonce (aad_bytes aad.entry) in_out.old)) }
     ensures marked { OnOk result (in_out.new
         ≡ slice_set (aes_decrypted key.now.bytes nonce in_out.old) 0 7) }
     ensures kept { OnErr result (in_out.new ≡ in_out.old) }
@@ -93,6 +98,9 @@ pub fn append(
     aad: &[u8],
     in_out: &mut Vec<u8>,
 ) -> Result<(), Unspecified>
+    ensures fits { IsOk result → Fits (length aad.now) (vec_len in_out.old) }
+    ensures accepted { Fits (length aad.now) (vec_len in_out.old)
+        → vec_len in_out.old + 16 ≤ vec_capacity in_out.old → IsOk result }
     ensures sealed { OnOk result (in_out.new.items ≡ aes_sealed key.now.bytes nonce aad.now in_out.old.items) }
     ensures grown { OnOk result (length in_out.new.items ≡ length in_out.old.items + 16) }
     ensures refused { OnErr result (in_out.new.items ≡ in_out.old.items) }

@@ -1,4 +1,4 @@
-use Rattle.std.proofs.Common.{rules, ◌≡◌, ◌∙◌, ap, ap₂, ◌++◌, refl, arith, ℕ, List, [], ◌-◌, length}
+use Rattle.std.proofs.Common.{rules, ◌≡◌, ◌∙◌, ap₂, ◌++◌, refl, arith, ℕ, List, [], ◌-◌, length}
 use Rattle.std.proofs.Common.{slice_set, Result, Ok, Err, IsOk, drop, take, append-nil, drop_of_length-le}
 use Rattle.aead_ciphers.specs.Aes.{aes}
 use Rattle.aead_ciphers.specs.Gcm.{decrypted}
