@@ -39,7 +39,7 @@ extern "C" {
 /* Encrypts in place by AES-128-GCM or AES-256-GCM, and writes the tag.
  *
  *   key      key_len bytes: 16 for AES-128-GCM, 32 for AES-256-GCM
- *   nonce    12 bytes, never twice under one key
+ *   nonce    12 bytes, never twice under one key: a counter is safe, and a sealer (below) keeps one
  *   aad      aad_len bytes, which the tag covers and which aren't encrypted
  *   in_out   in_out_len bytes: the message, and then the ciphertext
  *   tag      16 bytes, which are written
@@ -55,7 +55,7 @@ bool deerlapse_seal(const uint8_t *key, size_t key_len, const uint8_t nonce[DEER
  *
  *   key, nonce, aad   as they were handed to deerlapse_seal
  *   in_out            in_out_len bytes, `start` bytes of anything, the ciphertext and the tag
- *   plaintext_len     is written: in_out_len - 16 - start
+ *   plaintext_len     is written where the answer is true: in_out_len - 16 - start
  *
  * False: a false tag, start above in_out_len - 16, or lengths that deerlapse_seal refuses. aad mustn't lie in in_out,
  * also not before `start`: for a header in front of its ciphertext, hand in the pointer behind it, and start 0. */
@@ -66,8 +66,8 @@ bool deerlapse_open(const uint8_t *key, size_t key_len, const uint8_t nonce[DEER
 
 /* A key that seals each message under a nonce of its own: an IV XOR the message's number, in eight big-endian bytes
  * behind four zeros (RFC 8446 section 5.3, RFC 9001 section 5.3). It lies in the caller's memory and is filled by
- * deerlapse_sealer_init. Never copy it, since the copy spends the same nonces again, and write to no field of it. One
- * thread uses it at a time. */
+ * deerlapse_sealer_init. Never copy it, since the copy spends the same nonces again. Its fields may be read, as `next`
+ * for a number that is sent along; write to none of them. One thread uses it at a time. */
 typedef struct deerlapse_sealer {
     uint64_t next;   /* the number of the next message */
     uint64_t limit;  /* the first number that no message gets */
@@ -82,8 +82,11 @@ typedef struct deerlapse_sealer {
  *   iv             12 bytes
  *   first, limit   the numbers of the messages are first, first + 1, .. up to limit, which is left out
  *
- * Two sealers with the same key and IV must have no number in common. False: key_len is neither 16 nor 32, or first
- * is above limit. */
+ * None of its nonces may come from another sealer, or go to a deerlapse_seal, under the same key: a key for one sealer
+ * alone is the simplest way. How many messages a key may seal is the protocol's matter (TLS 1.3: about
+ * 24 million of full length, RFC 8446 section 5.5).
+ *
+ * False: key_len is neither 16 nor 32, or first is above limit. */
 DEERLAPSE_ANSWERS
 bool deerlapse_sealer_init(deerlapse_sealer *sealer, const uint8_t *key, size_t key_len,
                            const uint8_t iv[DEERLAPSE_NONCE_LEN], uint64_t first, uint64_t limit);

@@ -20,7 +20,8 @@ impl Sealer {
     /// The sealer whose messages have these numbers, in order. Refused where the key hasn't 16 or 32 bytes, and where
     /// the range starts above its end.
     ///
-    /// Two sealers with the same key and IV must have no number in common.
+    /// None of its nonces may come from another sealer, or be handed to a `LessSafeKey` that seals, under the same key: a
+    /// key for one sealer alone is the simplest way.
     pub fn new(
         key_bytes: &[u8],
         iv: &[u8; NONCE_LEN],

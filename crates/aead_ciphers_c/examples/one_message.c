@@ -1,0 +1,18 @@
+/* Seals one message under a nonce of the caller's, and opens it. */
+#include "deerlapse.h"
+#include <stdio.h>
+
+int main(void) {
+    static const uint8_t key[32] = {0}; /* 32 bytes: AES-256-GCM; 16 bytes: AES-128-GCM */
+    static const uint8_t nonce[DEERLAPSE_NONCE_LEN] = {0}; /* never twice under one key */
+    static const uint8_t header[] = {'v', '1'};
+    uint8_t buffer[5 + DEERLAPSE_TAG_LEN] = {'h', 'e', 'l', 'l', 'o'};
+    size_t len;
+
+    if (!deerlapse_seal(key, sizeof key, nonce, header, sizeof header, buffer, 5, buffer + 5) ||
+        !deerlapse_open(key, sizeof key, nonce, header, sizeof header, buffer, sizeof buffer, 0, &len)) {
+        return 1;
+    }
+    printf("opened: %.*s\n", (int)len, (const char *)buffer);
+    return 0;
+}
