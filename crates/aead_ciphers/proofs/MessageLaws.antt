@@ -1,14 +1,14 @@
 -- Laws of a sealed message under a key, which speak of public definitions alone: what proofs of crates above cite.
-use Rattle.std.proofs.Common.{◌≡◌, ◌≤◌, ℕ, ◌+◌, List, [], ◌∷◌, length, refl, sym, subst, ap₂, ◌∙◌, arith, length-append}
+use Rattle.std.proofs.Common.{◌≡◌, ℕ, true, ◌+◌, List, [], ◌∷◌, ◌++◌, length, refl, ap, ap₂, ◌∙◌, arith, length-append}
+use Rattle.std.proofs.Common.{append-nil, drop_of_length-le}
 use Rattle.aead_ciphers_base.specs.Aes.{aes, cipher, add_round_key}
-use Rattle.aead_ciphers_base.specs.Bytes.{◌⊕◌, zero_block}
-use Rattle.aead_ciphers_base.specs.CounterMode.{counter_block}
+use Rattle.aead_ciphers_base.specs.Bytes.{◌⊕◌}
 use Rattle.aead_ciphers_base.proofs.CounterModeLemmas.{length-counter_mode}
 use Rattle.aead_ciphers_base.proofs.CounterModeTwice.{counter_mode-twice}
 use Rattle.aead_ciphers_base.proofs.XorLemmas.{length-xor}
-use Rattle.aead_ciphers.specs.AesGcm.{aes_encrypted, aes_decrypted, aes_tag, aes_sealed}
-use Rattle.aead_ciphers.specs.Gcm.{hashed, tag}
-use Rattle.aead_ciphers.specs.Ghash.{◌•◌, block_of, ghash, power}
+use Rattle.aead_ciphers.specs.AesGcm.{aes_encrypted, aes_decrypted, aes_tag, aes_sealed, AesOpened}
+use Rattle.aead_ciphers.specs.Gcm.{tag}
+use Rattle.aead_ciphers.specs.Ghash.{◌•◌, block_of, ghash}
 pub use Rattle.aead_ciphers.proofs.OpeningCases.{Accepted, opened_accepted, opened_refused}
 
 length-aes : (key block : List ℕ) → length (aes key block) ≡ 16
@@ -48,3 +48,9 @@ decrypted-encrypted key nonce message = counter_mode-twice (aes key) nonce 2 mes
 
 pub encrypted-decrypted : (key nonce ciphertext : List ℕ) → aes_encrypted key nonce (aes_decrypted key nonce ciphertext) ≡ ciphertext
 encrypted-decrypted key nonce ciphertext = counter_mode-twice (aes key) nonce 2 ciphertext
+
+-- what opening a whole buffer makes of it, where it accepts
+pub opened_whole : (key nonce aad received old new : List ℕ) → AesOpened key nonce aad received 0 old true new → new ≡ aes_decrypted key nonce old
+opened_whole key nonce aad received old new opened =
+    let accepted = opened_accepted (aes key) nonce aad received 0 old new opened in
+    accepted.buffer ∙ ap (λ (u : List ℕ). aes_decrypted key nonce old ++ u) (drop_of_length-le old (omega arith)) ∙ append-nil _

@@ -3,6 +3,7 @@
 
 pub mod connection;
 pub mod messages;
+pub mod one_message;
 pub mod one_nonce;
 pub mod streams;
 #[cfg(test)]

@@ -2,50 +2,13 @@
 
 ghost use Rattle.std.specs.Prelude.{◌≡◌, ◌+◌, ◌-◌, ◌<◌, ◌≤◌, ◌↔◌, ◌++◌, [], length, take, slice_set, vec_capacity, vec_len, false, is_ok, IsOk, IfOk, OnOk, OnErr};
 ghost use Rattle.arrayvec.specs.ArrayVec.{array_vec_len};
-ghost use Rattle.aead_ciphers.specs.AesGcm.{aes_decrypted, aes_encrypted, aes_sealed, aes_tag, AesOpened, AesOpenedAttached};
+ghost use Rattle.aead_ciphers.specs.AesGcm.{aes_decrypted, aes_sealed, aes_tag, AesOpenedAttached};
 ghost use Rattle.aead_ciphers.specs.Gcm.{Fits};
 ghost use Rattle.aead_ciphers.specs.Values.{aad_bytes};
 
 use aead_ciphers::aead::lend::lend_plaintext_and_rest;
-use aead_ciphers::aead::{
-    AES_128_GCM, Aad, LessSafeKey, NONCE_LEN, Nonce, Tag, UnboundKey, Unspecified,
-};
+use aead_ciphers::aead::{Aad, LessSafeKey, NONCE_LEN, Nonce, Tag, Unspecified};
 use arrayvec::ArrayVec;
-
-/// Encrypts a message in place under AES-128-GCM, and answers its tag.
-pub fn seal(
-    key_bytes: &[u8],
-    nonce: [u8; NONCE_LEN],
-    aad: &[u8],
-    in_out: &mut [u8],
-) -> Result<Tag, Unspecified>
-    ensures accepted { IsOk result ↔ ((length key_bytes.now ≡ 16) × Fits (length aad.now) (length in_out.old)) }
-    ensures ciphertext { OnOk result (in_out.new ≡ aes_encrypted key_bytes.now nonce in_out.old) }
-    ensures tag { IfOk result (λ tag. tag ≡ aes_tag key_bytes.now nonce aad.now in_out.new) }
-    ensures refused { OnErr result (in_out.new ≡ in_out.old) }
-{
-    let key = LessSafeKey::new(UnboundKey::new(&AES_128_GCM, key_bytes)?);
-    let nonce = Nonce::assume_unique_for_key(nonce);
-    key.seal_in_place_separate_tag(nonce, Aad::from(aad), in_out)
-}
-
-/// Decrypts a ciphertext in place that `seal` made, if the tag is its own.
-pub fn open(
-    key_bytes: &[u8],
-    nonce: [u8; NONCE_LEN],
-    aad: &[u8],
-    tag: Tag,
-    in_out: &mut [u8],
-) -> Result<(), Unspecified>
-    ensures key { IsOk result → length key_bytes.now ≡ 16 }
-    ensures opened { length key_bytes.now ≡ 16 → AesOpened key_bytes.now nonce aad.now tag 0 in_out.old (is_ok result) in_out.new }
-    ensures refused { OnErr result (in_out.new ≡ in_out.old) }
-{
-    let key = LessSafeKey::new(UnboundKey::new(&AES_128_GCM, key_bytes)?);
-    let nonce = Nonce::assume_unique_for_key(nonce);
-    key.open_in_place_separate_tag_len(nonce, Aad::from(aad), tag, in_out, 0..)?;
-    Ok(())
-}
 
 /// Opens a message that has its nonce in front and its tag behind, and answers the length of the plaintext, which then
 /// stands at the front of the buffer.

@@ -1,0 +1,46 @@
+//! One message, sealed under a nonce of the caller's and opened again.
+
+ghost use Rattle.std.specs.Prelude.{◌≡◌, ◌↔◌, length, IsOk, IfOk, OnOk, OnErr};
+ghost use Rattle.aead_ciphers.specs.AesGcm.{aes_decrypted, aes_encrypted, aes_tag};
+ghost use Rattle.aead_ciphers.specs.Gcm.{Fits};
+
+use aead_ciphers::aead::{
+    AES_256_GCM, Aad, LessSafeKey, NONCE_LEN, Nonce, Tag, UnboundKey, Unspecified,
+};
+
+/// Encrypts a message in place under AES-256-GCM, and answers its tag.
+pub fn seal(
+    key_bytes: &[u8; 32],
+    nonce: [u8; NONCE_LEN],
+    aad: &[u8],
+    in_out: &mut [u8],
+) -> Result<Tag, Unspecified>
+    ensures accepted { IsOk result ↔ Fits (length aad.now) (length in_out.old) }
+    ensures ciphertext { OnOk result (in_out.new ≡ aes_encrypted key_bytes.now nonce in_out.old) }
+    ensures tag { IfOk result (λ tag. tag ≡ aes_tag key_bytes.now nonce aad.now in_out.new) }
+    ensures refused { OnErr result (in_out.new ≡ in_out.old) }
+{
+    let key = LessSafeKey::new(UnboundKey::new(&AES_256_GCM, key_bytes)?);
+    let nonce = Nonce::assume_unique_for_key(nonce);
+    key.seal_in_place_separate_tag(nonce, Aad::from(aad), in_out)
+}
+
+/// Decrypts a ciphertext in place that `seal` made, if the tag is its own.
+#[tactic(auto, using(aead_ciphers::proofs::MessageLaws::opened_accepted, aead_ciphers::proofs::MessageLaws::opened_whole))]
+pub fn open(
+    key_bytes: &[u8; 32],
+    nonce: [u8; NONCE_LEN],
+    aad: &[u8],
+    tag: Tag,
+    in_out: &mut [u8],
+) -> Result<(), Unspecified>
+    ensures accepted { IsOk result ↔ (Fits (length aad.now) (length in_out.old)
+        × (tag ≡ aes_tag key_bytes.now nonce aad.now in_out.old)) }
+    ensures plaintext { OnOk result (in_out.new ≡ aes_decrypted key_bytes.now nonce in_out.old) }
+    ensures refused { OnErr result (in_out.new ≡ in_out.old) }
+{
+    let key = LessSafeKey::new(UnboundKey::new(&AES_256_GCM, key_bytes)?);
+    let nonce = Nonce::assume_unique_for_key(nonce);
+    key.open_in_place_separate_tag_len(nonce, Aad::from(aad), tag, in_out, 0..)?;
+    Ok(())
+}
