@@ -51,4 +51,6 @@ mod session;
 #[cfg(test)]
 mod streams;
 #[cfg(test)]
+mod uses;
+#[cfg(test)]
 mod values;

@@ -6,5 +6,3 @@ pub mod messages;
 pub mod one_message;
 pub mod one_nonce;
 pub mod streams;
-#[cfg(test)]
-mod tests;

@@ -1,6 +1,6 @@
-//! The uses, on the standards' vectors.
+//! The callers of the crate `uses`, on the standards' vectors.
 
-use crate::{connection, messages, one_message, streams};
+use crate::checks::same;
 use aead_ciphers::aead::{
     AES_128_GCM, AES_256_GCM, Aad, LessSafeKey, NONCE_LEN, Nonce, Tag, UnboundKey,
 };
@@ -10,10 +10,7 @@ use arrayvec::ArrayVec;
 use std::alloc::Global;
 use std::process::Abort;
 use std::test::Fail;
-
-fn same(rt: &impl Abort, left: &[u8], right: &[u8], what: &str) {
-    assert!(rt; left == right, "{what}");
-}
+use uses::{connection, messages, one_message, streams};
 
 fn key(case: &Case) -> Result<LessSafeKey, Fail> {
     Ok(LessSafeKey::new(UnboundKey::new(&AES_128_GCM, case.key)?))
