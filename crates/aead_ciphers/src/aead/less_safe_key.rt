@@ -215,6 +215,7 @@ impl LessSafeKey {
         ensures opened { AesOpened self.now.bytes nonce (aad_bytes aad.entry) tag ciphertext.start
             in_out.old (is_ok result) in_out.new }
         ensures count { IfOk result (λ n. n ≡ length in_out.old - ciphertext.start) }
+        ensures refused { OnErr result (in_out.new ≡ in_out.old) }
     {
         let len = in_out.len();
         let start = ciphertext.start;
@@ -256,6 +257,7 @@ impl LessSafeKey {
         ensures opened { AesOpenedAttached self.now.bytes nonce (aad_bytes aad.entry) ciphertext_and_tag.start
             in_out.old (is_ok result) in_out.new }
         ensures count { IfOk result (λ n. n ≡ length in_out.old - 16 - ciphertext_and_tag.start) }
+        ensures refused { OnErr result (in_out.new ≡ in_out.old) }
     {
         match in_out.split_last_chunk_mut::<MAX_TAG_LEN>() {
             Some((before_tag, tag)) => {
@@ -294,6 +296,7 @@ impl LessSafeKey {
         ensures opened { AesOpenedAttached self.now.bytes nonce (aad_bytes aad.entry) 0
             in_out.old (is_ok result) in_out.new }
         ensures count { IfOk result (λ n. n ≡ length in_out.old - 16) }
+        ensures refused { OnErr result (in_out.new ≡ in_out.old) }
     {
         self.open_within_len(nonce, aad, in_out, 0..)
     }

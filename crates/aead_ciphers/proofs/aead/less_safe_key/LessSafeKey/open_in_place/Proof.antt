@@ -26,7 +26,7 @@ open_in_place_spec 𝓤 𝓛 𝓜 𝓡 wired =
     move ! (3 ∷ 4 ∷ 1 ∷ 5 ∷ 6 ∷ 7 ∷ 0 ∷ 8 ∷ []) $ consults 𝓛 C.ended (C.clauses 𝓛 𝓜.mem 𝓡.returns) !
     (table_of 𝓛 𝓜 𝓡) (met 𝓤 𝓛 𝓜 𝓡 (P.Code.calls-aead_ciphers::aead::less_safe_key::LessSafeKey::open_in_place_len 𝓡.env wired))
     ((with_third 3 (α ∷ []) κs, with_third_share 3 full_share qs, tt, (self, (nonce, (aad, (record in_out { ghost_name = δ }, tt)))), vals), tt)
-    (gets ! tt refl) (λ v u ws. let new = ws.1.1.1.0 in hears ! (λ opened. heard ! _ (λ counted.
+    (gets ! tt refl) (λ v u ws. let new = ws.1.1.1.0 in hears ! (λ opened. hears ! (λ counted. heard ! _ (λ refused.
     let fronts = attached_fronts (length old - 16) (omega arith) u opened counted in
     -- [the answer; three tokens; nothing of self, nonce, aad; what in_out ends as; what is kept]
     move ! (3 ∷ 0 ∷ 7 ∷ 8 ∷ []) $ regains 𝓛 κ q in_out room 𝓜 𝓡 v u new ! tt α δ fronts (λ same typed.
@@ -36,4 +36,4 @@ open_in_place_spec 𝓤 𝓛 𝓜 𝓡 wired =
     lands_as ! refl refl is-r.0 $ returns ! (look_at ! 0 refl) $ free_all ! refl $ move ! (2 ∷ []) $ tells 𝓛 !
     (says 𝓛 (as_lent (AesOpenedAttached self.now.bytes nonce (aad_bytes aad) 0 old) end opened)
     (last 𝓛 end.value)) $ nothing ! $ keep ! (4 ∷ 5 ∷ 2 ∷ 0 ∷ 6 ∷ 7 ∷ 8 ∷ 3 ∷ 1 ∷ []) $
-    ends 𝓛 T stayed c ((κs, qs, bounds, a, vals), tt) w r (tt, (tt, (tt, (tt, tt)))) ! (tt, (tt, (tt, (tt, tt)))))))))))))
+    ends 𝓛 T stayed c ((κs, qs, bounds, a, vals), tt) w r (tt, (tt, (tt, (tt, tt)))) ! (tt, (tt, (tt, (tt, tt))))))))))))))
