@@ -1,6 +1,6 @@
 //! Single messages, each under a nonce of the caller's.
 
-ghost use Rattle.std.specs.Prelude.{◌≡◌, ◌+◌, ◌-◌, ◌<◌, ◌≤◌, ◌↔◌, ◌++◌, [], length, take, slice_set, vec_capacity, vec_len, false, is_ok, IsOk, IfOk, OnOk, OnErr};
+ghost use Rattle.std.specs.Prelude.{◌≡◌, ◌+◌, ◌-◌, ◌<◌, ◌≤◌, ◌↔◌, ◌++◌, [], length, take, slice_set, vec_capacity, vec_len, is_ok, IsOk, IfOk, OnOk, OnErr};
 ghost use Rattle.arrayvec.specs.ArrayVec.{array_vec_len};
 ghost use Rattle.aead_ciphers.specs.AesGcm.{aes_decrypted, aes_sealed, aes_tag, AesOpenedAttached};
 ghost use Rattle.aead_ciphers.specs.Gcm.{Fits};
@@ -17,10 +17,11 @@ pub fn open_behind_nonce(
     aad: &[u8],
     message: &mut [u8],
 ) -> Result<usize, Unspecified>
-    ensures no_nonce { length message.old < 12 → (is_ok result ≡ false) × (message.new ≡ message.old) }
+    ensures nonce { IsOk result → 12 ≤ length message.old }
     ensures opened { 12 ≤ length message.old → AesOpenedAttached key.now.bytes (take 12 message.old) aad.now 12
         message.old (is_ok result) message.new }
     ensures count { IfOk result (λ n. n ≡ length message.old - 28) }
+    ensures refused { OnErr result (message.new ≡ message.old) }
 {
     let Some(nonce) = message.first_chunk::<NONCE_LEN>() else {
         return Err(Unspecified);
