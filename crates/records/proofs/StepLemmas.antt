@@ -1,5 +1,5 @@
 -- A call of a key that has a further nonce spends the next one.
-use Rattle.std.proofs.Common.{◌≡◌, ◌≢◌, ℕ, ◌+◌, ◌-◌, ◌∷◌, [], ◌++◌, List, Bool, true, length, drop, get_or, length-append}
+use Rattle.std.proofs.Common.{◌≡◌, ℕ, ◌+◌, ◌-◌, ◌∷◌, [], ◌++◌, List, Bool, true, length, drop, get_or, length-append}
 use Rattle.std.proofs.Common.{sym, ap, ap₂, subst, refl, ◌∙◌, arith}
 use Rattle.std.specs.Prelude.{⊤}
 use Rattle.std.proofs.lemmas.Bool.{eqb-true}
@@ -100,8 +100,3 @@ left_over was now left e open_before counted =
     let count : now.sequence.count ≡ was.sequence.count = ap (λ (s : State). s.sequence.count) counted in
     let differ : was.sequence.used ≡ was.sequence.count → ⊥ = open_before in
     omega arith
-
-pub not_ended : (was now : State) (left : ℕ) → was.sequence.used + left ≡ was.sequence.count → left ≢ 0 → was ≡ now → ¬ IsEnded now
-not_ended was now left e some same ended =
-    let was_ended : was.sequence.used ≡ was.sequence.count = subst IsEnded (sym same) ended in
-    some (omega arith)

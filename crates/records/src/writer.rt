@@ -2,73 +2,21 @@
 
 ghost use Rattle.std.specs.Prelude.{◌≡◌, ℕ, ◌-◌, ◌^◌, ◌≤◌, ◌↔◌, ◌++◌, length, take, IsOk, IfOk, OnOk, IfErr, OnErr};
 ghost use Rattle.aead_ciphers.specs.AesGcm.{aes_sealed};
-ghost use Rattle.aead_ciphers.specs.Algorithm.{key_len};
 ghost use Rattle.records.specs.Record.{IsAllowed, record_of};
-ghost use Rattle.records.specs.State.{first_state, next_nonce, advanced, IsEnded};
+ghost use Rattle.records.specs.State.{next_nonce, advanced, IsEnded};
 ghost use Rattle.records.specs.Steps.{RefusesToWrite};
 
 use crate::TAG_LEN;
 use crate::header::{HEADER_LEN, header_of};
 use crate::inner::{append_unsealed, inner_len};
+use crate::numbered::Numbered;
 use crate::record_error::RecordError;
-use aead_ciphers::aead::{
-    Aad, Algorithm, BoundKey, NONCE_LEN, SealingKey, UnboundKey, Unspecified, XoredSequence,
-};
-use std::marker::Model;
+use aead_ciphers::aead::{Aad, SealingKey, XoredSequence};
 
 /// Writes records, each under the next number. It can't be cloned.
-#[derive(Drop)]
-pub struct Writer {
-    key: SealingKey<XoredSequence>,
-    // how many numbers are left
-    left: u64,
-}
-
-impl Model for Writer {
-    ghost use Rattle.std.specs.Prelude.{◌≡◌, ◌+◌};
-    ghost use Rattle.records.specs.State.{State};
-
-    ghost Value = { State };
-
-    ghost view = { λ writer. writer.key };
-
-    ghost invariant = { λ writer. writer.key.sequence.used + writer.left ≡ writer.key.sequence.count };
-}
+pub type Writer = Numbered<SealingKey<XoredSequence>>;
 
 impl Writer {
-    /// A writer from record 0 on, for 2^64 - 1 records. Refused where the key isn't as long as the algorithm's.
-    pub fn new(
-        algorithm: &'static Algorithm,
-        key: &[u8],
-        iv: [u8; NONCE_LEN],
-    ) -> Result<Self, Unspecified>
-        ensures accepted { IsOk result ↔ (length key.now ≡ key_len algorithm.now) }
-        ensures made { IfOk result (λ writer. writer
-            ≡ first_state (record { algorithm = algorithm.now; bytes = key.now }) iv (2 ^ 64 - 1)) }
-    {
-        Writer::with_limit(algorithm, key, iv, u64::MAX)
-    }
-
-    /// A writer from record 0 on, for at most `limit` records, since a key shouldn't be used without end (RFC
-    /// 8446 section 5.5). Refused where the key isn't as long as the algorithm's.
-    pub fn with_limit(
-        algorithm: &'static Algorithm,
-        key: &[u8],
-        iv: [u8; NONCE_LEN],
-        limit: u64,
-    ) -> Result<Self, Unspecified>
-        ensures accepted { IsOk result ↔ (length key.now ≡ key_len algorithm.now) }
-        ensures made { IfOk result (λ writer. writer
-            ≡ first_state (record { algorithm = algorithm.now; bytes = key.now }) iv limit) }
-    {
-        let key = UnboundKey::new(algorithm, key)?;
-        let sequence = XoredSequence::new(iv, 0, limit)?;
-        Ok(Writer {
-            key: SealingKey::new(key, sequence),
-            left: limit,
-        })
-    }
-
     /// Appends the next record to `out`: the content, its type and `padding` zeros, which only the length of
     /// the record shows. The record is 22 bytes longer than content and padding.
     ///
@@ -91,7 +39,7 @@ impl Writer {
         ensures kept { OnErr result ((self.new ≡ self.old) × (out.new.items ≡ out.old.items)) }
     {
         let inner_len = inner_len(content_type, content.len(), padding)?;
-        if self.left == 0 {
+        if self.is_ended() {
             return Err(RecordError::SequenceEnded);
         }
         let header = header_of(inner_len + TAG_LEN);

@@ -1,7 +1,7 @@
+use Rattle.std.proofs.lemmas.Bool.{iff_false}
 use Rattle.std.proofs.lemmas.Result.{err_from_is_err_and}
 use Rattle.records.proofs.GatherLemmas.{false_tag_read, found_read, zeros_read}
 use Rattle.records.proofs.RecordLemmas.{reads_no_record}
-use Rattle.records.proofs.StepLemmas.{not_ended}
 use Rattle.records.proofs.reader.Reader.gather.Goals as goal
 
 pub returns-in_err-header-clause-reads : goal.returns-in_err-header-clause-reads
@@ -11,25 +11,25 @@ returns-in_err-header-clause-reads c =
 
 pub returns-in_default-clause-reads : goal.returns-in_default-clause-reads
 returns-in_default-clause-reads c =
-    false_tag_read _ _ _ _ c.requires _ (not_ended _ _ _ c.self.invariant c.if-self-eq0.false c.self.view_is) c.in_ok-header.ensures.ok
+    false_tag_read _ _ _ _ c.requires _ (iff_false c.is_ended.ensures c.if-is_ended.false) c.in_ok-header.ensures.ok
     _ _ c.in_ok-header.ensures.header c.in_default.ensures.refused
 
 pub returns-in-Some-clause-reads : goal.returns-in-Some-clause-reads
 returns-in-Some-clause-reads c =
-    (found_read _ _ _ _ c.requires _ (not_ended _ _ _ c.self.invariant c.if-self-eq0.false c.self.view_is) c.in_ok-header.ensures.ok
+    (found_read _ _ _ _ c.requires _ (iff_false c.is_ended.ensures c.if-is_ended.false) c.in_ok-header.ensures.ok
     _ _ _ c.in_ok-header.ensures.header c.in-Ok.ensures.opened _ _ _ c.open.ensures.counted c.in-Some.ensures.found).0
 
 pub returns-in-Some-clause-put : goal.returns-in-Some-clause-put
 returns-in-Some-clause-put c =
-    (found_read _ _ _ _ c.requires _ (not_ended _ _ _ c.self.invariant c.if-self-eq0.false c.self.view_is) c.in_ok-header.ensures.ok
+    (found_read _ _ _ _ c.requires _ (iff_false c.is_ended.ensures c.if-is_ended.false) c.in_ok-header.ensures.ok
     _ _ _ c.in_ok-header.ensures.header c.in-Ok.ensures.opened _ _ _ c.open.ensures.counted c.in-Some.ensures.found).1
 
 pub returns-in-None-clause-reads : goal.returns-in-None-clause-reads
 returns-in-None-clause-reads c =
-    (zeros_read _ _ _ _ c.requires _ (not_ended _ _ _ c.self.invariant c.if-self-eq0.false c.self.view_is) c.in_ok-header.ensures.ok
+    (zeros_read _ _ _ _ c.requires _ (iff_false c.is_ended.ensures c.if-is_ended.false) c.in_ok-header.ensures.ok
     _ _ _ c.in_ok-header.ensures.header c.in-Ok.ensures.opened c.open.new.self c.in-None.ensures.zeros).0
 
 pub returns-in-None-clause-kept : goal.returns-in-None-clause-kept
 returns-in-None-clause-kept c =
-    (zeros_read _ _ _ _ c.requires c.args.self.now (not_ended _ _ _ c.self.invariant c.if-self-eq0.false c.self.view_is) c.in_ok-header.ensures.ok
+    (zeros_read _ _ _ _ c.requires c.args.self.now (iff_false c.is_ended.ensures c.if-is_ended.false) c.in_ok-header.ensures.ok
     _ _ _ c.in_ok-header.ensures.header c.in-Ok.ensures.opened c.open.new.self c.in-None.ensures.zeros).1
