@@ -1,11 +1,10 @@
 //! Reading records.
 
-ghost use Rattle.std.specs.Prelude.{◌≡◌, ℕ, List, ◌+◌, ◌-◌, ◌^◌, ◌≤◌, ◌↔◌, ◌++◌, length, take, drop, slice_range, IsOk, IfOk, OnOk, IfErr, OnErr};
+ghost use Rattle.std.specs.Prelude.{◌≡◌, ℕ, List, ◌+◌, ◌-◌, ◌^◌, ◌≤◌, ◌++◌, length, drop, slice_range, IfOk, IfErr, OnErr};
 ghost use Rattle.aead_ciphers.specs.AesGcm.{aes_sealed};
 ghost use Rattle.records.specs.State.{next_nonce, advanced, IsEnded};
 ghost use Rattle.records.specs.Steps.{Reads, LeavesInner, LeavesRefused, StandsRefused, content_at, lent_content};
 
-use crate::TAG_LEN;
 use crate::header::{HEADER_LEN, header_in};
 use crate::inner::content_of;
 use crate::numbered::Numbered;

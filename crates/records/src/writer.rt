@@ -1,7 +1,7 @@
 //! Writing records.
 
-ghost use Rattle.std.specs.Prelude.{◌≡◌, ℕ, ◌-◌, ◌^◌, ◌≤◌, ◌↔◌, ◌++◌, length, take, IsOk, IfOk, OnOk, IfErr, OnErr};
-ghost use Rattle.aead_ciphers.specs.AesGcm.{aes_sealed};
+ghost use Rattle.std.specs.Prelude.{◌≡◌, ◌+◌, ◌^◌, ◌≤◌, ◌++◌, length, OnOk, IfErr, OnErr};
+ghost use Rattle.aead_ciphers.specs.Packet.{sealed_packet};
 ghost use Rattle.records.specs.Record.{IsAllowed, record_of};
 ghost use Rattle.records.specs.State.{next_nonce, advanced, IsEnded};
 ghost use Rattle.records.specs.Steps.{RefusesToWrite};
@@ -11,7 +11,7 @@ use crate::header::{HEADER_LEN, header_of};
 use crate::inner::{append_unsealed, inner_len};
 use crate::numbered::Numbered;
 use crate::record_error::RecordError;
-use aead_ciphers::aead::{Aad, SealingKey, XoredSequence};
+use aead_ciphers::aead::{SealingKey, XoredSequence};
 
 /// Writes records, each under the next number. It can't be cloned.
 pub type Writer = Numbered<SealingKey<XoredSequence>>;
@@ -45,26 +45,19 @@ impl Writer {
         let header = header_of(inner_len + TAG_LEN);
         let start = out.len();
         append_unsealed(out, &header, content_type, content, padding)?;
-        self.seal(&header, &mut out.as_mut_slice()[start + HEADER_LEN..]);
+        self.seal(&mut out.as_mut_slice()[start..]);
         Ok(())
     }
 
-    /// Seals all but the last 16 bytes, and writes the tag over those.
-    fn seal(&mut self, header: &[u8; HEADER_LEN], body: &mut [u8])
+    /// Seals a record where it stands: its header, its inner plaintext, and 16 bytes of room for the tag.
+    fn seal(&mut self, bytes: &mut [u8])
         requires open_before { ¬ IsEnded self.old }
-        requires room { 16 ≤ length body.old }
-        requires fits { length body.old ≤ 2 ^ 15 }
-        ensures sealed { body.new ≡ aes_sealed self.old.key.bytes (next_nonce self.old) header.now
-            (take (length body.old - 16) body.old) }
+        requires room { HEADER_LEN + 16 ≤ length bytes.old }
+        requires fits { length bytes.old ≤ 2 ^ 15 }
+        ensures sealed { bytes.new ≡ sealed_packet self.old.key.bytes (next_nonce self.old) HEADER_LEN bytes.old }
         ensures counted { self.new ≡ advanced self.old }
     {
-        let inner_len = body.len() - TAG_LEN;
-        let (inner, tag_room) = body.split_at_mut(inner_len);
-        let tag = self
-            .key
-            .seal_in_place_separate_tag(Aad::from(header.as_slice()), inner)
-            .unwrap();
-        tag_room.copy_from_slice(tag.as_ref());
+        self.key.seal_packet_in_place(bytes, HEADER_LEN).unwrap();
         self.left -= 1;
     }
 }
