@@ -3,5 +3,4 @@ mod InnerLemmas
 mod OpenedLemmas
 mod RecordLemmas
 pub mod RunLemmas
-mod StepLemmas
 mod WriteLemmas

@@ -6,7 +6,7 @@ use Rattle.std.proofs.lemmas.List.{append_assoc, drop-append-le, drop_at, length
 use Rattle.aead_ciphers_base.specs.Aes.{aes}
 use Rattle.aead_ciphers.specs.AesGcm.{aes_decrypted, aes_encrypted, aes_sealed, aes_tag, AesOpenedAttached}
 use Rattle.aead_ciphers.specs.Gcm.{Fits}
-use Rattle.aead_ciphers.proofs.MessageLaws.{encrypted-decrypted, length-aes_decrypted, length-aes_encrypted, length-aes_sealed, opened_accepted, opened_refused}
+use Rattle.aead_ciphers.proofs.MessageLaws.{encrypted-decrypted, length-aes_decrypted, length-aes_encrypted, length-aes_sealed, opened_accepted}
 
 module _ (key nonce aad : List ℕ) (start : ℕ) (old : List ℕ) where
   -- the message that was opened: the buffer ended with it sealed, and now begins with it
@@ -52,12 +52,6 @@ module _ (key nonce aad : List ℕ) (start : ℕ) (old : List ℕ) where
               ∙ ap (λ (k : ℕ). drop k old) (sym size)
               );
         }
-
-    pub opened_kept : (new : List ℕ) → AesOpenedAttached key nonce aad start old false new → new ≡ old
-    opened_kept new o =
-        let done = o.tagged (omega arith) in
-        done.2 ∙ ap (λ (f : List ℕ). f ++ drop (length old - 16) old) (opened_refused (aes key) nonce aad (drop (length old - 16) old) start body done.0 done.1)
-        ∙ take-append-drop (length old - 16) old
 
     -- a sealed message is accepted
     pub sealed_accepted : (message new : List ℕ) (accepts : Bool) → drop start old ≡ aes_sealed key nonce aad message

@@ -7,7 +7,6 @@ use Rattle.std.proofs.lemmas.List.{take-append-drop, take_at}
 use Rattle.std.proofs.lemmas.Nat.{be_bytes_2, from_be_bytes-to_be_bytes_2}
 use Rattle.std.specs.Int.{to_be_bytes, w16}
 use Rattle.std.specs.Prelude.{Err}
-use Rattle.aead_ciphers_base.specs.Aes.{aes}
 use Rattle.aead_ciphers.specs.AesGcm.{aes_decrypted, aes_encrypted, aes_sealed, aes_tag}
 use Rattle.records.specs.Record.{Inner, IsHeader, IsWhole, encrypted_len, header, inner_plaintext}
 use Rattle.records.specs.State.{State, next_nonce, IsEnded}

@@ -4,6 +4,7 @@ use Rattle.std.proofs.Common.{ap₂, ◌∙◌, arith}
 use Rattle.std.specs.Prelude.{is_ok}
 use Rattle.std.proofs.lemmas.List.{append-nil, append_assoc, drop_all, drop_at, length-append, replicate-append-replicate, take_all, take_at}
 use Rattle.aead_ciphers.specs.AesGcm.{aes_sealed}
+use Rattle.aead_ciphers.specs.Packet.{packet_message, sealed_packet}
 use Rattle.aead_ciphers.proofs.MessageLaws.{length-aes_sealed}
 use borrow.Rule.Slice.PartMut.{put_mid}
 
@@ -32,27 +33,27 @@ put_end front end now a xs e l =
     (ap (drop (length xs - a)) behind ∙ drop_all (length xs - a) end (omega (arith, all)))
     ∙ ap (λ (ys : List ℕ). front ++ ys) (append-nil now)
 
--- what stands behind the header is sealed
-pub put_sealed : (key nonce out head message : List ℕ) (a : ℕ) (xs now : List ℕ) → length head ≡ 5 → a ≡ length out + 5
-    → xs ≡ out ++ (head ++ (message ++ replicate 16 0))
-    → let behind = take (length xs - a) (drop a xs) in now ≡ aes_sealed key nonce head (take (length behind - 16) behind)
+-- a record is sealed where it stands
+pub put_sealed : (key nonce out head message : List ℕ) (a : ℕ) (xs now : List ℕ) → length head ≡ 5 → a ≡ length out
+    → xs ≡ out ++ (head ++ (message ++ replicate 16 0)) → now ≡ sealed_packet key nonce 5 (take (length xs - a) (drop a xs))
     → (put_mid a (length xs - a) xs now ≡ out ++ (head ++ aes_sealed key nonce head message)) × (length (put_mid a (length xs - a) xs now) ≡ length xs)
 put_sealed key nonce out head message a xs now five here e n =
     let zeros : List ℕ = replicate 16 0 in
-    let front : List ℕ = out ++ head in
-    let end : List ℕ = message ++ zeros in
-    let parts : xs ≡ front ++ end = e ∙ sym (append_assoc out head end) in
-    let size : length front ≡ a = length-append out head ∙ (let s : length out + length head ≡ a = omega arith in s) in
-    let all : length xs ≡ length front + length end = ap length parts ∙ length-append front end in
-    let rest : drop a xs ≡ end = ap (drop a) parts ∙ drop_at front end a size in
-    let behind : take (length xs - a) (drop a xs) ≡ end = ap (take (length xs - a)) rest ∙ take_all (length xs - a) end (omega arith) in
-    let long : length end ≡ length message + 16 = length-append message zeros in
-    let less : length end - 16 ≡ length message = omega arith in
-    let inner : now ≡ aes_sealed key nonce head message =
-    n ∙ ap (λ (ys : List ℕ). aes_sealed key nonce head (take (length ys - 16) ys)) behind
-    ∙ ap (aes_sealed key nonce head) (take_at message zeros (length end - 16) (sym less)) in
-    let put : put_mid a (length xs - a) xs now ≡ front ++ now = put_end front end now a xs parts size in
-    let there : length now ≡ length message + 16 = ap length inner ∙ length-aes_sealed key nonce head message in (
-      put ∙ ap (λ (ys : List ℕ). front ++ ys) inner ∙ append_assoc out head (aes_sealed key nonce head message),
-      ap length put ∙ length-append front now ∙ (let s : length front + length now ≡ length xs = omega arith in s),
+    let end : List ℕ = head ++ (message ++ zeros) in
+    let all : length xs ≡ length out + length end = ap length e ∙ length-append out end in
+    let long : length end ≡ length head + (length message + 16) =
+    length-append head (message ++ zeros) ∙ ap (λ (m : ℕ). length head + m) (length-append message zeros) in
+    let behind : take (length xs - a) (drop a xs) ≡ end =
+    ap (take (length xs - a)) (ap (drop a) e ∙ drop_at out end a (sym here)) ∙ take_all (length xs - a) end (omega arith) in
+    let body : packet_message 5 end ≡ message =
+    ap (take (length end - 16 - 5)) (drop_at head (message ++ zeros) 5 five) ∙ take_at message zeros (length end - 16 - 5) (omega arith) in
+    let inner : now ≡ head ++ aes_sealed key nonce head message =
+    n ∙ ap (sealed_packet key nonce 5) behind
+    ∙ ap₂ (λ (aad m : List ℕ). aad ++ aes_sealed key nonce aad m) (take_at head (message ++ zeros) 5 five) body in
+    let there : length now ≡ length end =
+    ap length inner ∙ length-append head (aes_sealed key nonce head message)
+    ∙ ap (λ (m : ℕ). length head + m) (length-aes_sealed key nonce head message) ∙ sym long in
+    let put : put_mid a (length xs - a) xs now ≡ out ++ now = put_end out end now a xs e (sym here) in (
+      put ∙ ap (λ (ys : List ℕ). out ++ ys) inner,
+      ap length put ∙ length-append out now ∙ (let s : length out + length now ≡ length xs = omega arith in s),
     )

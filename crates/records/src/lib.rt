@@ -7,6 +7,7 @@
 mod header;
 mod inner;
 pub mod laws;
+mod numbered;
 mod reader;
 mod record_error;
 #[cfg(test)]

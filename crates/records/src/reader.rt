@@ -1,73 +1,20 @@
 //! Reading records.
 
-ghost use Rattle.std.specs.Prelude.{◌≡◌, ℕ, List, ◌+◌, ◌-◌, ◌^◌, ◌≤◌, ◌↔◌, ◌++◌, length, take, drop, slice_range, IsOk, IfOk, OnOk, IfErr, OnErr};
+ghost use Rattle.std.specs.Prelude.{◌≡◌, ℕ, List, ◌+◌, ◌-◌, ◌^◌, ◌≤◌, ◌++◌, length, drop, slice_range, IfOk, IfErr, OnErr};
 ghost use Rattle.aead_ciphers.specs.AesGcm.{aes_sealed};
-ghost use Rattle.aead_ciphers.specs.Algorithm.{key_len};
-ghost use Rattle.records.specs.State.{first_state, next_nonce, advanced, IsEnded};
+ghost use Rattle.records.specs.State.{next_nonce, advanced, IsEnded};
 ghost use Rattle.records.specs.Steps.{Reads, LeavesInner, LeavesRefused, StandsRefused, content_at, lent_content};
 
-use crate::TAG_LEN;
 use crate::header::{HEADER_LEN, header_in};
 use crate::inner::content_of;
+use crate::numbered::Numbered;
 use crate::record_error::RecordError;
-use aead_ciphers::aead::{
-    Aad, Algorithm, BoundKey, NONCE_LEN, OpeningKey, UnboundKey, Unspecified, XoredSequence,
-};
-use std::marker::Model;
+use aead_ciphers::aead::{Aad, OpeningKey, Unspecified, XoredSequence};
 
 /// Reads records, each under the next number. It can't be cloned.
-#[derive(Drop)]
-pub struct Reader {
-    key: OpeningKey<XoredSequence>,
-    // how many numbers are left
-    left: u64,
-}
-
-impl Model for Reader {
-    ghost use Rattle.std.specs.Prelude.{◌≡◌, ◌+◌};
-    ghost use Rattle.records.specs.State.{State};
-
-    ghost Value = { State };
-
-    ghost view = { λ reader. reader.key };
-
-    ghost invariant = { λ reader. reader.key.sequence.used + reader.left ≡ reader.key.sequence.count };
-}
+pub type Reader = Numbered<OpeningKey<XoredSequence>>;
 
 impl Reader {
-    /// A reader from record 0 on, for 2^64 - 1 records. Refused where the key isn't as long as the algorithm's.
-    pub fn new(
-        algorithm: &'static Algorithm,
-        key: &[u8],
-        iv: [u8; NONCE_LEN],
-    ) -> Result<Self, Unspecified>
-        ensures accepted { IsOk result ↔ (length key.now ≡ key_len algorithm.now) }
-        ensures made { IfOk result (λ reader. reader
-            ≡ first_state (record { algorithm = algorithm.now; bytes = key.now }) iv (2 ^ 64 - 1)) }
-    {
-        Reader::with_limit(algorithm, key, iv, u64::MAX)
-    }
-
-    /// A reader from record 0 on, for at most `limit` records. Refused where the key isn't as long as the
-    /// algorithm's.
-    pub fn with_limit(
-        algorithm: &'static Algorithm,
-        key: &[u8],
-        iv: [u8; NONCE_LEN],
-        limit: u64,
-    ) -> Result<Self, Unspecified>
-        ensures accepted { IsOk result ↔ (length key.now ≡ key_len algorithm.now) }
-        ensures made { IfOk result (λ reader. reader
-            ≡ first_state (record { algorithm = algorithm.now; bytes = key.now }) iv limit) }
-    {
-        let key = UnboundKey::new(algorithm, key)?;
-        let sequence = XoredSequence::new(iv, 0, limit)?;
-        Ok(Reader {
-            key: OpeningKey::new(key, sequence),
-            left: limit,
-        })
-    }
-
     /// Opens the next record, which is `bytes[at..end]`, into the bytes from `filled` on, and answers the type
     /// and the length of its content: the content then is `bytes[filled..filled + length]`. So the contents of
     /// all records in a buffer can be gathered at its front, with `filled` the sum of their lengths so far.
@@ -91,7 +38,7 @@ impl Reader {
         ensures kept { IfErr result (LeavesRefused filled (end - at - 21) bytes.old bytes.new) }
     {
         let header = header_in(&bytes[at..end])?;
-        if self.left == 0 {
+        if self.is_ended() {
             return Err(RecordError::SequenceEnded);
         }
         let start = at + HEADER_LEN - filled;

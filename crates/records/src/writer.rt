@@ -1,74 +1,22 @@
 //! Writing records.
 
-ghost use Rattle.std.specs.Prelude.{◌≡◌, ℕ, ◌-◌, ◌^◌, ◌≤◌, ◌↔◌, ◌++◌, length, take, IsOk, IfOk, OnOk, IfErr, OnErr};
-ghost use Rattle.aead_ciphers.specs.AesGcm.{aes_sealed};
-ghost use Rattle.aead_ciphers.specs.Algorithm.{key_len};
+ghost use Rattle.std.specs.Prelude.{◌≡◌, ◌+◌, ◌^◌, ◌≤◌, ◌++◌, length, OnOk, IfErr, OnErr};
+ghost use Rattle.aead_ciphers.specs.Packet.{sealed_packet};
 ghost use Rattle.records.specs.Record.{IsAllowed, record_of};
-ghost use Rattle.records.specs.State.{first_state, next_nonce, advanced, IsEnded};
+ghost use Rattle.records.specs.State.{next_nonce, advanced, IsEnded};
 ghost use Rattle.records.specs.Steps.{RefusesToWrite};
 
 use crate::TAG_LEN;
 use crate::header::{HEADER_LEN, header_of};
 use crate::inner::{append_unsealed, inner_len};
+use crate::numbered::Numbered;
 use crate::record_error::RecordError;
-use aead_ciphers::aead::{
-    Aad, Algorithm, BoundKey, NONCE_LEN, SealingKey, UnboundKey, Unspecified, XoredSequence,
-};
-use std::marker::Model;
+use aead_ciphers::aead::{SealingKey, XoredSequence};
 
 /// Writes records, each under the next number. It can't be cloned.
-#[derive(Drop)]
-pub struct Writer {
-    key: SealingKey<XoredSequence>,
-    // how many numbers are left
-    left: u64,
-}
-
-impl Model for Writer {
-    ghost use Rattle.std.specs.Prelude.{◌≡◌, ◌+◌};
-    ghost use Rattle.records.specs.State.{State};
-
-    ghost Value = { State };
-
-    ghost view = { λ writer. writer.key };
-
-    ghost invariant = { λ writer. writer.key.sequence.used + writer.left ≡ writer.key.sequence.count };
-}
+pub type Writer = Numbered<SealingKey<XoredSequence>>;
 
 impl Writer {
-    /// A writer from record 0 on, for 2^64 - 1 records. Refused where the key isn't as long as the algorithm's.
-    pub fn new(
-        algorithm: &'static Algorithm,
-        key: &[u8],
-        iv: [u8; NONCE_LEN],
-    ) -> Result<Self, Unspecified>
-        ensures accepted { IsOk result ↔ (length key.now ≡ key_len algorithm.now) }
-        ensures made { IfOk result (λ writer. writer
-            ≡ first_state (record { algorithm = algorithm.now; bytes = key.now }) iv (2 ^ 64 - 1)) }
-    {
-        Writer::with_limit(algorithm, key, iv, u64::MAX)
-    }
-
-    /// A writer from record 0 on, for at most `limit` records, since a key shouldn't be used without end (RFC
-    /// 8446 section 5.5). Refused where the key isn't as long as the algorithm's.
-    pub fn with_limit(
-        algorithm: &'static Algorithm,
-        key: &[u8],
-        iv: [u8; NONCE_LEN],
-        limit: u64,
-    ) -> Result<Self, Unspecified>
-        ensures accepted { IsOk result ↔ (length key.now ≡ key_len algorithm.now) }
-        ensures made { IfOk result (λ writer. writer
-            ≡ first_state (record { algorithm = algorithm.now; bytes = key.now }) iv limit) }
-    {
-        let key = UnboundKey::new(algorithm, key)?;
-        let sequence = XoredSequence::new(iv, 0, limit)?;
-        Ok(Writer {
-            key: SealingKey::new(key, sequence),
-            left: limit,
-        })
-    }
-
     /// Appends the next record to `out`: the content, its type and `padding` zeros, which only the length of
     /// the record shows. The record is 22 bytes longer than content and padding.
     ///
@@ -91,32 +39,25 @@ impl Writer {
         ensures kept { OnErr result ((self.new ≡ self.old) × (out.new.items ≡ out.old.items)) }
     {
         let inner_len = inner_len(content_type, content.len(), padding)?;
-        if self.left == 0 {
+        if self.is_ended() {
             return Err(RecordError::SequenceEnded);
         }
         let header = header_of(inner_len + TAG_LEN);
         let start = out.len();
         append_unsealed(out, &header, content_type, content, padding)?;
-        self.seal(&header, &mut out.as_mut_slice()[start + HEADER_LEN..]);
+        self.seal(&mut out.as_mut_slice()[start..]);
         Ok(())
     }
 
-    /// Seals all but the last 16 bytes, and writes the tag over those.
-    fn seal(&mut self, header: &[u8; HEADER_LEN], body: &mut [u8])
+    /// Seals a record where it stands: its header, its inner plaintext, and 16 bytes of room for the tag.
+    fn seal(&mut self, bytes: &mut [u8])
         requires open_before { ¬ IsEnded self.old }
-        requires room { 16 ≤ length body.old }
-        requires fits { length body.old ≤ 2 ^ 15 }
-        ensures sealed { body.new ≡ aes_sealed self.old.key.bytes (next_nonce self.old) header.now
-            (take (length body.old - 16) body.old) }
+        requires room { HEADER_LEN + 16 ≤ length bytes.old }
+        requires fits { length bytes.old ≤ 2 ^ 15 }
+        ensures sealed { bytes.new ≡ sealed_packet self.old.key.bytes (next_nonce self.old) HEADER_LEN bytes.old }
         ensures counted { self.new ≡ advanced self.old }
     {
-        let inner_len = body.len() - TAG_LEN;
-        let (inner, tag_room) = body.split_at_mut(inner_len);
-        let tag = self
-            .key
-            .seal_in_place_separate_tag(Aad::from(header.as_slice()), inner)
-            .unwrap();
-        tag_room.copy_from_slice(tag.as_ref());
+        self.key.seal_packet_in_place(bytes, HEADER_LEN).unwrap();
         self.left -= 1;
     }
 }

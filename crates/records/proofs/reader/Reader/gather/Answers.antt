@@ -1,10 +1,7 @@
-use Rattle.std.proofs.Common.{◌≡◌, ◌+◌, ◌-◌, ◌∙◌, length, ap, arith}
+use Rattle.std.proofs.lemmas.Bool.{iff_false}
 use Rattle.std.proofs.lemmas.Result.{err_from_is_err_and}
-use Rattle.records.specs.State.{IsEnded}
-use Rattle.records.specs.Steps.{overwritten}
-use Rattle.records.proofs.GatherLemmas.{found_there, reads_false_tag, reads_found, reads_zeros, stands}
+use Rattle.records.proofs.GatherLemmas.{false_tag_read, found_read, zeros_read}
 use Rattle.records.proofs.RecordLemmas.{reads_no_record}
-use Rattle.records.proofs.StepLemmas.{not_ended}
 use Rattle.records.proofs.reader.Reader.gather.Goals as goal
 
 pub returns-in_err-header-clause-reads : goal.returns-in_err-header-clause-reads
@@ -14,76 +11,25 @@ returns-in_err-header-clause-reads c =
 
 pub returns-in_default-clause-reads : goal.returns-in_default-clause-reads
 returns-in_default-clause-reads c =
-    let open_before : ¬ IsEnded c.args.self.now = not_ended _ _ _ c.self.invariant c.if-self-eq0.false c.self.view_is in
-    reads_false_tag c.args.bytes.now c.args.filled c.args.at c.args.end c.requires c.args.self.now open_before c.in_ok-header.ensures.ok
-    c.open.new.self c.in_ok-header.header c.in_ok-header.ensures.header c.in_default.ensures.refused
+    false_tag_read _ _ _ _ c.requires _ (iff_false c.is_ended.ensures c.if-is_ended.false) c.in_ok-header.ensures.ok
+    _ _ c.in_ok-header.ensures.header c.in_default.ensures.refused
 
 pub returns-in-Some-clause-reads : goal.returns-in-Some-clause-reads
 returns-in-Some-clause-reads c =
-    let bytes = c.args.bytes.now in
-    let filled = c.args.filled in
-    let at = c.args.at in
-    let end = c.args.end in
-    let was = c.args.self.now in
-    let open_before : ¬ IsEnded c.args.self.now = not_ended _ _ _ c.self.invariant c.if-self-eq0.false c.self.view_is in
-    let w = c.in_ok-header.ensures.ok in
-    let opened = c.in-Ok.ensures.opened in
-    let s = stands bytes filled at end c.requires was open_before w c.in_ok-header.header opened.0 c.open.new.from c.in-Ok.len
-    c.in_ok-header.ensures.header opened.1 opened.2 opened.3 in
-    let all : filled + c.in-Ok.len - filled ≡ length opened.0 = omega (arith, opened.1) in
-    let found = c.in-Some.ensures.found in
-    let content = found_there bytes filled at end c.requires was open_before w opened.0 _ s
-    c.in-Some.read.0 c.in-Some.read.1 found.2 _ all found.1 found.3 in
-    reads_found bytes filled at end c.requires was open_before w opened.0 _ s
-    c.open.new.self c.in-Some.read.0 c.in-Some.read.1 found.2 c.open.ensures.counted found.0 content
+    (found_read _ _ _ _ c.requires _ (iff_false c.is_ended.ensures c.if-is_ended.false) c.in_ok-header.ensures.ok
+    _ _ _ c.in_ok-header.ensures.header c.in-Ok.ensures.opened _ _ _ c.open.ensures.counted c.in-Some.ensures.found).0
 
 pub returns-in-Some-clause-put : goal.returns-in-Some-clause-put
 returns-in-Some-clause-put c =
-    let bytes = c.args.bytes.now in
-    let filled = c.args.filled in
-    let at = c.args.at in
-    let end = c.args.end in
-    let was = c.args.self.now in
-    let open_before : ¬ IsEnded c.args.self.now = not_ended _ _ _ c.self.invariant c.if-self-eq0.false c.self.view_is in
-    let w = c.in_ok-header.ensures.ok in
-    let opened = c.in-Ok.ensures.opened in
-    let s = stands bytes filled at end c.requires was open_before w c.in_ok-header.header opened.0 c.open.new.from c.in-Ok.len
-    c.in_ok-header.ensures.header opened.1 opened.2 opened.3 in
-    let all : filled + c.in-Ok.len - filled ≡ length opened.0 = omega (arith, opened.1) in
-    let found = c.in-Some.ensures.found in
-    let content = found_there bytes filled at end c.requires was open_before w opened.0 _ s
-    c.in-Some.read.0 c.in-Some.read.1 found.2 _ all found.1 found.3 in
-    (found.2, s.put ∙ ap (overwritten bytes filled) content)
+    (found_read _ _ _ _ c.requires _ (iff_false c.is_ended.ensures c.if-is_ended.false) c.in_ok-header.ensures.ok
+    _ _ _ c.in_ok-header.ensures.header c.in-Ok.ensures.opened _ _ _ c.open.ensures.counted c.in-Some.ensures.found).1
 
 pub returns-in-None-clause-reads : goal.returns-in-None-clause-reads
 returns-in-None-clause-reads c =
-    let bytes = c.args.bytes.now in
-    let filled = c.args.filled in
-    let at = c.args.at in
-    let end = c.args.end in
-    let was = c.args.self.now in
-    let open_before : ¬ IsEnded c.args.self.now = not_ended _ _ _ c.self.invariant c.if-self-eq0.false c.self.view_is in
-    let w = c.in_ok-header.ensures.ok in
-    let opened = c.in-Ok.ensures.opened in
-    let s = stands bytes filled at end c.requires was open_before w c.in_ok-header.header opened.0 c.open.new.from c.in-Ok.len
-    c.in_ok-header.ensures.header opened.1 opened.2 opened.3 in
-    let all : filled + c.in-Ok.len - filled ≡ length opened.0 = omega (arith, opened.1) in
-    (reads_zeros bytes filled at end c.requires was open_before w opened.0 _ s
-    c.open.new.self _ all c.in-None.ensures.zeros).1
+    (zeros_read _ _ _ _ c.requires _ (iff_false c.is_ended.ensures c.if-is_ended.false) c.in_ok-header.ensures.ok
+    _ _ _ c.in_ok-header.ensures.header c.in-Ok.ensures.opened c.open.new.self c.in-None.ensures.zeros).0
 
 pub returns-in-None-clause-kept : goal.returns-in-None-clause-kept
 returns-in-None-clause-kept c =
-    let bytes = c.args.bytes.now in
-    let filled = c.args.filled in
-    let at = c.args.at in
-    let end = c.args.end in
-    let was = c.args.self.now in
-    let open_before : ¬ IsEnded c.args.self.now = not_ended _ _ _ c.self.invariant c.if-self-eq0.false c.self.view_is in
-    let w = c.in_ok-header.ensures.ok in
-    let opened = c.in-Ok.ensures.opened in
-    let s = stands bytes filled at end c.requires was open_before w c.in_ok-header.header opened.0 c.open.new.from c.in-Ok.len
-    c.in_ok-header.ensures.header opened.1 opened.2 opened.3 in
-    let all : filled + c.in-Ok.len - filled ≡ length opened.0 = omega (arith, opened.1) in
-    let none = (reads_zeros bytes filled at end c.requires was open_before w opened.0 _ s
-    c.open.new.self _ all c.in-None.ensures.zeros).0 in
-    s.put ∙ ap (overwritten bytes filled) none
+    (zeros_read _ _ _ _ c.requires c.args.self.now (iff_false c.is_ended.ensures c.if-is_ended.false) c.in_ok-header.ensures.ok
+    _ _ _ c.in_ok-header.ensures.header c.in-Ok.ensures.opened c.open.new.self c.in-None.ensures.zeros).1

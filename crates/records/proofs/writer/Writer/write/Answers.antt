@@ -15,9 +15,8 @@ returns-clause-written c =
     let out = c.args.out.now.items in
     let head = c.header_of-header.result in
     let five : length head ≡ 5 = ap length c.header_of-header.ensures in
-    let start : c.len-start.result + 5 ≡ length out + 5 = ap (λ (n : ℕ). n + 5) (c.len-start.ensures ∙ c.args.out.now.ok.0) in
-    let put = put_sealed key nonce out head (inner_plaintext inner) (c.len-start.result + 5) c.as_mut_slice.result.now c.seal.new.body five start
-    (c.as_mut_slice.ensures.value ∙ c.in_ok-append_unsealed.ensures.ok) c.seal.ensures.sealed in
+    let put = put_sealed key nonce out head (inner_plaintext inner) c.len-start.result c.as_mut_slice.result.now c.seal.new.bytes five
+    (c.len-start.ensures ∙ c.args.out.now.ok.0) (c.as_mut_slice.ensures.value ∙ c.in_ok-append_unsealed.ensures.ok) c.seal.ensures.sealed in
     let len = c.in_ok-inner_len.ensures.len in
     let size = length-inner_plaintext inner in
     let encrypted : c.in_ok-inner_len.inner_len + 16 ≡ length (inner_plaintext inner) + 16 = omega arith in
