@@ -1,5 +1,5 @@
-//! Tests of `aead_ciphers` and `aead_ciphers_base` by what they offer to every caller: outside vectors, printed text, and
-//! what no clause says.
+//! Tests of the libraries, and of the crates that stand on them, by what they offer to every caller: outside vectors,
+//! printed text, and what no clause says.
 #![tactic(auto)]
 
 #[cfg(test)]
@@ -40,6 +40,8 @@ mod memory;
 mod overlapping;
 #[cfg(test)]
 mod quic;
+#[cfg(test)]
+mod records;
 #[cfg(test)]
 mod reference;
 #[cfg(test)]

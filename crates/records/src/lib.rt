@@ -10,8 +10,6 @@ pub mod laws;
 mod numbered;
 mod reader;
 mod record_error;
-#[cfg(test)]
-mod tests;
 mod writer;
 
 use aead_ciphers::aead::MAX_TAG_LEN;

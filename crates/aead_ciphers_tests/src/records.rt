@@ -1,8 +1,8 @@
-//! Records of python's `cryptography`, both ways, and what is refused.
+//! `records`: records of python's `cryptography`, both ways, and what is refused.
 
-use super::{MAX_CONTENT_LEN, Reader, RecordError, Writer, record_len};
 use aead_ciphers::aead::{AES_128_GCM, AES_256_GCM, Algorithm};
 use hex::FromHex;
+use records::{MAX_CONTENT_LEN, Reader, RecordError, Writer, record_len};
 use std::alloc::Global;
 use std::process::Abort;
 use std::test::Fail;
