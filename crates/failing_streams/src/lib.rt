@@ -1,7 +1,7 @@
 //! A reader or a writer for tests, which moves few bytes a call and fails at one.
 #![tactic(auto)]
 
-ghost use Rattle.std.specs.Prelude.{◌≡◌, ◌≤◌, IfOk};
+ghost use Rattle.std.specs.Prelude.{◌≡◌, ◌<◌, ◌≤◌, IfOk};
 
 use std::io::{self, ErrorKind, Read, Write};
 
@@ -20,12 +20,17 @@ pub struct FailingStream<T> {
     pub failing: Option<u32>,
     /// How many calls there were: reads, writes and flushes.
     pub made: u32,
+    ghost some: { 0 < most },
 }
 
 impl<T> FailingStream<T> {
     /// The stream before its first call.
     pub fn new(inner: T, most: usize, failing: Option<u32>) -> Self
-        ensures { result ≡ record { inner = inner; most = most; failing = failing; made = 0 } }
+        requires { 0 < most }
+        ensures inner { result.inner ≡ inner }
+        ensures most { result.most ≡ most }
+        ensures failing { result.failing ≡ failing }
+        ensures made { result.made ≡ 0 }
     {
         FailingStream {
             inner,
@@ -36,7 +41,9 @@ impl<T> FailingStream<T> {
     }
 
     /// Counts a call, which fails if it is the one to.
-    fn count(&mut self) -> io::Result<()> {
+    fn count(&mut self) -> io::Result<()>
+        ensures { self.new.inner ≡ self.old.inner }
+    {
         let number = self.made;
         self.made = number.wrapping_add(1);
         if self.failing == Some(number) {
@@ -47,7 +54,9 @@ impl<T> FailingStream<T> {
 
     /// Counts a read or a write of so many bytes, and answers how many it moves.
     fn count_bytes(&mut self, len: usize) -> io::Result<usize>
-        ensures { IfOk result (λ n. n ≤ len) }
+        ensures within { IfOk result (λ n. n ≤ len) }
+        ensures some { IfOk result (λ n. n ≡ 0 → len ≡ 0) }
+        ensures inner { self.new.inner ≡ self.old.inner }
     {
         self.count()?;
         if self.made % INTERRUPTED_EVERY == 0 {
@@ -58,6 +67,8 @@ impl<T> FailingStream<T> {
 }
 
 impl<T: Read> Read for FailingStream<T> {
+    ghost remaining = { λ stream. T.remaining stream.inner };
+
     fn read(&mut self, buf: &mut [u8]) -> io::Result<usize> {
         let len = self.count_bytes(buf.len())?;
         self.inner.read(&mut buf[..len])
@@ -65,6 +76,8 @@ impl<T: Read> Read for FailingStream<T> {
 }
 
 impl<T: Write> Write for FailingStream<T> {
+    ghost contents = { λ stream. T.contents stream.inner };
+
     fn write(&mut self, buf: &[u8]) -> io::Result<usize> {
         let len = self.count_bytes(buf.len())?;
         self.inner.write(&buf[..len])
