@@ -2,8 +2,9 @@
 
 use crate::checks::{holds, same};
 use aead_ciphers::aeadrun::{FAULT, lines};
+use failing_streams::FailingStream;
 use std::alloc::Global;
-use std::io::{self, BufReader, BufWriter, Read, Write};
+use std::io::{BufReader, BufWriter};
 use std::process::Abort;
 use std::test::Fail;
 
@@ -27,63 +28,8 @@ const ANSWERS: &[u8] = b"ok\n\
     bad line\n\
     refused\n";
 
-/// The calls that a stream got, and how many are left before one fails, if one does.
-#[derive(Drop)]
-struct Calls {
-    made: u32,
-    left: Option<u32>,
-}
-
-impl Calls {
-    fn count(&mut self) -> io::Result<()> {
-        self.made = self.made.wrapping_add(1);
-        match self.left {
-            Some(0) => {
-                self.left = None;
-                Err(io::Error::from(io::ErrorKind::BrokenPipe))
-            }
-            Some(count) => {
-                self.left = Some(count - 1);
-                Ok(())
-            }
-            None => Ok(()),
-        }
-    }
-}
-
-/// Gives its bytes.
-#[derive(Drop)]
-struct Reader<'a> {
-    rest: &'a [u8],
-    calls: Calls,
-}
-
-impl Read for Reader<'_> {
-    fn read(&mut self, buf: &mut [u8]) -> io::Result<usize> {
-        self.calls.count()?;
-        self.rest.read(buf)
-    }
-}
-
-/// Keeps what is written, at most three bytes a call.
-#[derive(Drop)]
-struct Writer {
-    written: Vec<u8>,
-    calls: Calls,
-}
-
-impl Write for Writer {
-    fn write(&mut self, buf: &[u8]) -> io::Result<usize> {
-        self.calls.count()?;
-        let count = buf.len().min(3);
-        self.written.extend_from_slice(&buf[..count])?;
-        Ok(count)
-    }
-
-    fn flush(&mut self) -> io::Result<()> {
-        self.calls.count()
-    }
-}
+/// The most bytes that a stream moves a call.
+const MOST: usize = 3;
 
 /// How a run over a stream ended.
 #[derive(Drop)]
@@ -91,6 +37,16 @@ struct Ended {
     status: u8,
     printed: Vec<u8>,
     calls: u32,
+}
+
+impl Ended {
+    fn of_writer(status: u8, writer: FailingStream<Vec<u8>>) -> Ended {
+        Ended {
+            status,
+            printed: writer.inner,
+            calls: writer.made,
+        }
+    }
 }
 
 /// Which of a run's streams may fail.
@@ -101,8 +57,8 @@ enum Failing {
     WritesOfABuffer,
 }
 
-fn reads(alloc: Global, calls: Calls) -> Result<Ended, Fail> {
-    let mut reader = Reader { rest: LINES, calls };
+fn reads(alloc: Global, failing: Option<u32>) -> Result<Ended, Fail> {
+    let mut reader = FailingStream::new(LINES, MOST, failing);
     let mut printed = Vec::new(alloc);
     let mut input = BufReader::with_capacity(alloc, 4, &mut reader)?;
     let status = lines(alloc, &mut input, &mut printed);
@@ -110,45 +66,33 @@ fn reads(alloc: Global, calls: Calls) -> Result<Ended, Fail> {
     Ok(Ended {
         status,
         printed,
-        calls: reader.calls.made,
+        calls: reader.made,
     })
 }
 
-fn writes(alloc: Global, calls: Calls) -> Result<Ended, Fail> {
-    let written = Vec::new(alloc);
-    let mut writer = Writer { written, calls };
+fn writes(alloc: Global, failing: Option<u32>) -> Result<Ended, Fail> {
+    let mut writer = FailingStream::new(Vec::new(alloc), MOST, failing);
     let mut input = LINES;
     let status = lines(alloc, &mut input, &mut writer);
-    let Writer { written, calls } = writer;
-    Ok(Ended {
-        status,
-        printed: written,
-        calls: calls.made,
-    })
+    Ok(Ended::of_writer(status, writer))
 }
 
-fn writes_of_a_buffer(alloc: Global, calls: Calls) -> Result<Ended, Fail> {
-    let written = Vec::new(alloc);
-    let mut writer = Writer { written, calls };
+fn writes_of_a_buffer(alloc: Global, failing: Option<u32>) -> Result<Ended, Fail> {
+    let mut writer = FailingStream::new(Vec::new(alloc), MOST, failing);
     let mut input = LINES;
     let mut output = BufWriter::with_capacity(alloc, 16, &mut writer)?;
     let status = lines(alloc, &mut input, &mut output);
     drop(output);
-    let Writer { written, calls } = writer;
-    Ok(Ended {
-        status,
-        printed: written,
-        calls: calls.made,
-    })
+    Ok(Ended::of_writer(status, writer))
 }
 
 impl Failing {
-    fn run(self, alloc: Global, left: Option<u32>) -> Result<Ended, Fail> {
-        let calls = Calls { made: 0, left };
+    /// A run of which the call of this number fails, if one is to.
+    fn run(self, alloc: Global, failing: Option<u32>) -> Result<Ended, Fail> {
         match self {
-            Failing::Reads => reads(alloc, calls),
-            Failing::Writes => writes(alloc, calls),
-            Failing::WritesOfABuffer => writes_of_a_buffer(alloc, calls),
+            Failing::Reads => reads(alloc, failing),
+            Failing::Writes => writes(alloc, failing),
+            Failing::WritesOfABuffer => writes_of_a_buffer(alloc, failing),
         }
     }
 
@@ -157,8 +101,8 @@ impl Failing {
         let whole = self.run(alloc, None)?;
         holds(rt, whole.status == 1, "the whole run");
         same(rt, &whole.printed, ANSWERS, "the answers");
-        for calls in 0..whole.calls {
-            let ended = self.run(alloc, Some(calls))?;
+        for call in 0..whole.calls {
+            let ended = self.run(alloc, Some(call))?;
             holds(rt, ended.status == FAULT, "a fault");
             holds(rt, ANSWERS.starts_with(&ended.printed), "a beginning");
         }

@@ -115,47 +115,49 @@ fn each_bit_flipped(rt: HostRuntime) -> Result<(), Fail> {
     Ok(())
 }
 
+/// What each error says.
+const ERROR_TEXTS: [(PacketError, &str); 9] = [
+    (
+        PacketError::KeyLength,
+        "the key hasn't the length of the algorithm's keys",
+    ),
+    (
+        PacketError::NumberAtFirstByte,
+        "a packet number can't begin at the header's first byte",
+    ),
+    (
+        PacketError::NumberLength,
+        "the header's first byte gives the packet number another length",
+    ),
+    (
+        PacketError::OtherNumber,
+        "the header holds another packet number than the next one",
+    ),
+    (
+        PacketError::NoSample,
+        "the packet is too short for a sample of header protection",
+    ),
+    (
+        PacketError::TooShort,
+        "the packet is shorter than its header and a tag",
+    ),
+    (
+        PacketError::TooLong,
+        "the packet is longer than AES-GCM takes",
+    ),
+    (
+        PacketError::NumbersEnded,
+        "no packet has this number: packet numbers end at 2^62",
+    ),
+    (
+        PacketError::Refused,
+        "the packet's tag isn't the one of its header, its payload and its number",
+    ),
+];
+
 #[test]
 fn printed_errors(rt: HostRuntime) -> Result<(), Fail> {
-    let texts = [
-        (
-            PacketError::KeyLength,
-            "the key hasn't the length of the algorithm's keys",
-        ),
-        (
-            PacketError::NumberAtFirstByte,
-            "a packet number can't begin at the header's first byte",
-        ),
-        (
-            PacketError::NumberLength,
-            "the header's first byte gives the packet number another length",
-        ),
-        (
-            PacketError::OtherNumber,
-            "the header holds another packet number than the next one",
-        ),
-        (
-            PacketError::NoSample,
-            "the packet is too short for a sample of header protection",
-        ),
-        (
-            PacketError::TooShort,
-            "the packet is shorter than its header and a tag",
-        ),
-        (
-            PacketError::TooLong,
-            "the packet is longer than AES-GCM takes",
-        ),
-        (
-            PacketError::NumbersEnded,
-            "no packet has this number: packet numbers end at 2^62",
-        ),
-        (
-            PacketError::Refused,
-            "the packet's tag isn't the one of its header, its payload and its number",
-        ),
-    ];
-    for (error, text) in texts {
+    for (error, text) in ERROR_TEXTS {
         let printed = format!(in rt.alloc(); "{error}")?;
         assert_eq!(rt; printed.as_str(), text);
     }

@@ -1,5 +1,7 @@
 //! A reader that says how much was read.
 
+ghost use Rattle.std.specs.Prelude.{◌≡◌};
+
 use std::io::{self, Read};
 
 /// After how many bytes the line is written again.
@@ -19,7 +21,11 @@ pub struct Progress<'a, R: Read + Drop> {
 
 impl<'a, R: Read + Drop> Progress<'a, R> {
     /// A reader over `input`, of which nothing was read.
-    pub fn new(rt: &'a HostRuntime, input: R, is_shown: bool) -> Self {
+    pub fn new(rt: &'a HostRuntime, input: R, is_shown: bool) -> Self
+        ensures input { result.input ≡ input }
+        ensures is_shown { result.is_shown ≡ is_shown }
+        ensures read { result.read ≡ 0 }
+    {
         Progress {
             rt,
             input,
@@ -46,6 +52,8 @@ impl<'a, R: Read + Drop> Progress<'a, R> {
 }
 
 impl<R: Read + Drop> Read for Progress<'_, R> {
+    ghost remaining = { λ progress. R.remaining progress.input };
+
     fn read(&mut self, buf: &mut [u8]) -> io::Result<usize> {
         let count = self.input.read(buf)?;
         let before = self.read / STEP;

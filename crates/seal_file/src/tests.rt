@@ -1,9 +1,11 @@
 //! Sealed files as `tools/open-sealed-file` makes them, files that are refused, and streams that fail.
 
+use crate::options::Action;
+use failing_streams::FailingStream;
 use md5::{Digest, Md5};
 use sealed_file::{CHUNK_LEN, FileError, FileKey, HEADER_LEN, open, seal};
 use std::alloc::Global;
-use std::io::{self, ErrorKind, Read, Write};
+use std::io::ErrorKind;
 use std::process::Abort;
 use std::test::Fail;
 
@@ -45,6 +47,17 @@ const SEALED: [(usize, [u8; 16]); 6] = [
         *b"\xf5\x0c\xcb\x69\x08\xf0\xd6\x2d\x6c\x70\x9b\x9b\x1e\x16\xc1\x33",
     ),
 ];
+
+/// What is wrong with a file, as opening says it.
+const FIRST_REFUSED: &str = "another key, or chunk 0 was changed or cut";
+
+const SECOND_REFUSED: &str = "another key, or chunk 1 was changed or cut";
+
+const ENDS_EARLY: &str = "the sealed file ends early";
+
+const BYTES_BEHIND: &str = "bytes stand behind the last chunk";
+
+const VERSION_TWO: &str = "a sealed file of version 2, which isn't 1";
 
 /// Two lists of bytes are equal.
 fn same(rt: &impl Abort, found: &[u8], wanted: &[u8], what: &str) {
@@ -117,28 +130,16 @@ fn cut_files(rt: HostRuntime) -> Result<(), Fail> {
     let sealed = sealed_of(rt.alloc(), CHUNK_LEN + 5)?;
     let behind_first = HEADER_LEN + SEALED_LEN;
     for (len, opened, text) in [
-        (0, 0, "the sealed file ends early"),
-        (15, 0, "the sealed file ends early"),
-        (16, 0, "the sealed file ends early"),
-        (31, 0, "the sealed file ends early"),
-        (32, 0, "another key, or chunk 0 was changed or cut"),
-        (
-            behind_first - 1,
-            0,
-            "another key, or chunk 0 was changed or cut",
-        ),
-        (behind_first, 0, "the sealed file ends early"),
-        (behind_first + 15, CHUNK_LEN, "the sealed file ends early"),
-        (
-            behind_first + 16,
-            CHUNK_LEN,
-            "another key, or chunk 1 was changed or cut",
-        ),
-        (
-            behind_first + 20,
-            CHUNK_LEN,
-            "another key, or chunk 1 was changed or cut",
-        ),
+        (0, 0, ENDS_EARLY),
+        (15, 0, ENDS_EARLY),
+        (16, 0, ENDS_EARLY),
+        (31, 0, ENDS_EARLY),
+        (32, 0, FIRST_REFUSED),
+        (behind_first - 1, 0, FIRST_REFUSED),
+        (behind_first, 0, ENDS_EARLY),
+        (behind_first + 15, CHUNK_LEN, ENDS_EARLY),
+        (behind_first + 16, CHUNK_LEN, SECOND_REFUSED),
+        (behind_first + 20, CHUNK_LEN, SECOND_REFUSED),
         (behind_first + 21, CHUNK_LEN + 5, "opened"),
     ] {
         let cut = sealed.get(..len).ok_or(FileError::EndsEarly)?;
@@ -159,50 +160,19 @@ fn changed_files(rt: HostRuntime) -> Result<(), Fail> {
         .ok_or(FileError::EndsEarly)?;
     let header_rest = header.get(8..).ok_or(FileError::EndsEarly)?;
     let prefix = header.get(9..).ok_or(FileError::EndsEarly)?;
-    let refused_first = "another key, or chunk 0 was changed or cut";
-    opens(
-        &rt,
-        &joined(alloc, &[header, last, first])?,
-        0,
-        refused_first,
-    )?;
-    opens(
-        &rt,
-        &joined(alloc, &[header, first, first, last])?,
-        CHUNK_LEN,
-        "another key, or chunk 1 was changed or cut",
-    )?;
-    opens(&rt, &joined(alloc, &[header, last])?, 0, refused_first)?;
-    opens(
-        &rt,
-        &joined(alloc, &[header, first, last, last])?,
-        CHUNK_LEN,
-        "bytes stand behind the last chunk",
-    )?;
-    opens(
-        &rt,
-        &joined(alloc, &[header, first, last, b"x"])?,
-        CHUNK_LEN,
-        "bytes stand behind the last chunk",
-    )?;
-    opens(
-        &rt,
-        &joined(alloc, &[b"SEALFILF", header_rest, body])?,
-        0,
-        "not a sealed file",
-    )?;
-    opens(
-        &rt,
-        &joined(alloc, &[b"SEALFILE\x02", prefix, body])?,
-        0,
-        "a sealed file of version 2, which isn't 1",
-    )?;
-    opens(
-        &rt,
-        &joined(alloc, &[b"SEALFILE\x01prefix!", body])?,
-        0,
-        refused_first,
-    )?;
+    let changed: [(&[&[u8]], usize, &str); 8] = [
+        (&[header, last, first], 0, FIRST_REFUSED),
+        (&[header, first, first, last], CHUNK_LEN, SECOND_REFUSED),
+        (&[header, last], 0, FIRST_REFUSED),
+        (&[header, first, last, last], CHUNK_LEN, BYTES_BEHIND),
+        (&[header, first, last, b"x"], CHUNK_LEN, BYTES_BEHIND),
+        (&[b"SEALFILF", header_rest, body], 0, "not a sealed file"),
+        (&[b"SEALFILE\x02", prefix, body], 0, VERSION_TWO),
+        (&[b"SEALFILE\x01prefix!", body], 0, FIRST_REFUSED),
+    ];
+    for (pieces, opened, text) in changed {
+        opens(&rt, &joined(alloc, pieces)?, opened, text)?;
+    }
     Ok(())
 }
 
@@ -233,141 +203,67 @@ fn another_key(rt: HostRuntime) -> Result<(), Fail> {
     Ok(())
 }
 
-/// The calls that a stream gets until one fails.
+/// The most bytes that a failing stream moves a call.
+const MOST: usize = 50000;
+
+/// How a call over failing streams ended.
 #[derive(Drop)]
-struct Calls {
-    left: u32,
-    has_failed: bool,
-}
-
-impl Calls {
-    fn new(left: u32) -> Calls {
-        Calls {
-            left,
-            has_failed: false,
-        }
-    }
-
-    /// Fails once there is none left, and says it was interrupted each time but one.
-    fn count(&mut self) -> io::Result<()> {
-        if self.left == 0 {
-            self.has_failed = true;
-            return Err(io::Error::from(ErrorKind::BrokenPipe));
-        }
-        self.left -= 1;
-        if self.left % 4 == 3 {
-            return Err(io::Error::from(ErrorKind::Interrupted));
-        }
-        Ok(())
-    }
-}
-
-/// Gives its bytes, at most 50000 a call.
-#[derive(Drop)]
-struct Reader<'a> {
-    rest: &'a [u8],
-    calls: Calls,
-}
-
-impl Read for Reader<'_> {
-    fn read(&mut self, buf: &mut [u8]) -> io::Result<usize> {
-        self.calls.count()?;
-        let most = buf.len().min(50000);
-        self.rest.read(&mut buf[..most])
-    }
-}
-
-/// Keeps what is written, at most 50000 bytes a call.
-#[derive(Drop)]
-struct Writer {
+struct Ended {
+    outcome: Result<(), FileError>,
     written: Vec<u8>,
-    calls: Calls,
-}
-
-impl Write for Writer {
-    fn write(&mut self, buf: &[u8]) -> io::Result<usize> {
-        self.calls.count()?;
-        let count = buf.len().min(50000);
-        self.written.extend_from_slice(&buf[..count])?;
-        Ok(count)
-    }
-
-    fn flush(&mut self) -> io::Result<()> {
-        self.calls.count()
-    }
-}
-
-/// What opening gives over streams of which the read and the write of these numbers fail, and whether one did.
-fn opened_over(
-    alloc: Global,
-    sealed: &[u8],
     reads: u32,
     writes: u32,
-) -> Result<(Result<(), FileError>, Vec<u8>, bool), Fail> {
-    let mut input = Reader {
-        rest: sealed,
-        calls: Calls::new(reads),
-    };
-    let mut output = Writer {
-        written: Vec::new(alloc),
-        calls: Calls::new(writes),
-    };
-    let outcome = open(alloc, &FileKey::new(&KEY)?, &mut input, &mut output);
-    let has_failed = input.calls.has_failed || output.calls.has_failed;
-    Ok((outcome, output.written, has_failed))
 }
 
-/// What sealing gives, likewise.
-fn sealed_over(
+/// Seals or opens bytes over streams of which the read or the write of these numbers fails.
+fn ended_over(
     alloc: Global,
-    file: &[u8],
-    reads: u32,
-    writes: u32,
-) -> Result<(Result<(), FileError>, Vec<u8>, bool), Fail> {
-    let mut input = Reader {
-        rest: file,
-        calls: Calls::new(reads),
+    action: Action,
+    bytes: &[u8],
+    failing_read: Option<u32>,
+    failing_write: Option<u32>,
+) -> Result<Ended, Fail> {
+    let key = FileKey::new(&KEY)?;
+    let mut input = FailingStream::new(bytes, MOST, failing_read);
+    let mut output = FailingStream::new(Vec::new(alloc), MOST, failing_write);
+    let outcome = match action {
+        Action::Seal => seal(alloc, &key, PREFIX, &mut input, &mut output),
+        Action::Open => open(alloc, &key, &mut input, &mut output),
     };
-    let mut output = Writer {
-        written: Vec::new(alloc),
-        calls: Calls::new(writes),
-    };
-    let outcome = seal(alloc, &FileKey::new(&KEY)?, PREFIX, &mut input, &mut output);
-    let has_failed = input.calls.has_failed || output.calls.has_failed;
-    Ok((outcome, output.written, has_failed))
+    Ok(Ended {
+        outcome,
+        written: output.inner,
+        reads: input.made,
+        writes: output.made,
+    })
 }
 
-/// Where a call failed, its error came and a beginning was written; else all was.
-fn stopped(rt: &impl Abort, ended: (Result<(), FileError>, Vec<u8>, bool), all: &[u8]) -> bool {
-    let (outcome, written, has_failed) = ended;
-    assert!(rt; all.starts_with(&written));
-    if has_failed {
+/// With no call failing all is written, and with any one failing a beginning, and that call's error comes.
+fn fails_in_turn(
+    rt: &(impl Abort + AllocGlobal),
+    action: Action,
+    bytes: &[u8],
+    all: &[u8],
+) -> Result<(), Fail> {
+    let whole = ended_over(rt.alloc(), action, bytes, None, None)?;
+    assert!(rt; whole.outcome.is_ok());
+    same(rt, &whole.written, all, "all");
+    let reads = (0..whole.reads).map(|call| (Some(call), None));
+    let writes = (0..whole.writes).map(|call| (None, Some(call)));
+    for (read, write) in reads.chain(writes) {
+        let ended = ended_over(rt.alloc(), action, bytes, read, write)?;
+        assert!(rt; all.starts_with(&ended.written));
         assert!(rt;
-            matches!(outcome, Err(FileError::Io(error)) if error.kind() == ErrorKind::BrokenPipe)
+            matches!(ended.outcome, Err(FileError::Io(error)) if error.kind() == ErrorKind::BrokenPipe)
         );
-    } else {
-        assert!(rt; outcome.is_ok());
-        assert!(rt; written.len() == all.len());
     }
-    has_failed
+    Ok(())
 }
 
 #[test]
-fn failing_streams(rt: HostRuntime) -> Result<(), Fail> {
-    let alloc = rt.alloc();
-    let file = file_of(alloc, CHUNK_LEN + 5)?;
-    let sealed = sealed_of(alloc, CHUNK_LEN + 5)?;
-    let mut failures = 0u32;
-    for calls in 0..7 {
-        for (reads, writes) in [(calls, u32::MAX), (u32::MAX, calls)] {
-            if stopped(&rt, sealed_over(alloc, &file, reads, writes)?, &sealed) {
-                failures = failures.saturating_add(1);
-            }
-            if stopped(&rt, opened_over(alloc, &sealed, reads, writes)?, &file) {
-                failures = failures.saturating_add(1);
-            }
-        }
-    }
-    assert!(rt; failures > 15);
-    Ok(())
+fn each_failed_call_ends_it(rt: HostRuntime) -> Result<(), Fail> {
+    let file = file_of(rt.alloc(), CHUNK_LEN + 5)?;
+    let sealed = sealed_of(rt.alloc(), CHUNK_LEN + 5)?;
+    fails_in_turn(&rt, Action::Seal, &file, &sealed)?;
+    fails_in_turn(&rt, Action::Open, &sealed, &file)
 }

@@ -1,5 +1,5 @@
 -- What the calls for one chunk say.
-use Rattle.std.proofs.Common.{◌≡◌, ℕ, Bool, true, false, inl, inr, ◌+◌, ◌-◌, ◌≤◌, List, []}
+use Rattle.std.proofs.Common.{◌≡◌, ℕ, Bool, true, false, inl, inr, ◌-◌, ◌≤◌, List, []}
 use Rattle.std.proofs.Common.{◌++◌, length, take, drop, map, get_or, refl, ap, ap₂, subst, ◌∙◌, arith, append-nil}
 use Rattle.std.specs.List.{range_with_len}
 use Rattle.std.proofs.lemmas.Bool.{cases_lt}

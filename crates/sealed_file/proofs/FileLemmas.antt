@@ -20,24 +20,27 @@ module _ (key prefix : List ℕ) (number : ℕ) (flag : Bool) (chunk : List ℕ)
       ∙ ap₂ (λ (a b : ℕ). a + b) (length-aes_encrypted key (chunk_nonce prefix number flag) chunk)
       (length-aes_tag key (chunk_nonce prefix number flag) (header prefix) ct)
 
+  -- the tag begins behind a ciphertext as long as the chunk
+  tag_at : length (aes_encrypted key (chunk_nonce prefix number flag) chunk) ≡ length (sealed_chunk key prefix number flag chunk) - 16
+  tag_at =
+      let whole = length-sealed_chunk in
+      let k = length-aes_encrypted key (chunk_nonce prefix number flag) chunk in
+      omega (arith, whole, k)
+
   pub front_of_sealed : ciphertext_of (sealed_chunk key prefix number flag chunk) ≡ aes_encrypted key (chunk_nonce prefix number flag) chunk
   unfolding sealed_chunk
   front_of_sealed =
-      let nonce = chunk_nonce prefix number flag in
-      let ct = aes_encrypted key nonce chunk in
-      let whole = length-sealed_chunk in
-      take_at ct (aes_tag key nonce (header prefix) ct) (length (sealed_chunk key prefix number flag chunk) - 16)
-      (length-aes_encrypted key nonce chunk ∙ (let e : length chunk ≡ length (sealed_chunk key prefix number flag chunk) - 16 = omega (arith, whole) in e))
+      let ct = aes_encrypted key (chunk_nonce prefix number flag) chunk in
+      take_at ct (aes_tag key (chunk_nonce prefix number flag) (header prefix) ct)
+      (length (sealed_chunk key prefix number flag chunk) - 16) tag_at
 
   pub back_of_sealed : drop (length (sealed_chunk key prefix number flag chunk) - 16) (sealed_chunk key prefix number flag chunk)
       ≡ aes_tag key (chunk_nonce prefix number flag) (header prefix) (aes_encrypted key (chunk_nonce prefix number flag) chunk)
   unfolding sealed_chunk
   back_of_sealed =
-      let nonce = chunk_nonce prefix number flag in
-      let ct = aes_encrypted key nonce chunk in
-      let whole = length-sealed_chunk in
-      drop_at ct (aes_tag key nonce (header prefix) ct) (length (sealed_chunk key prefix number flag chunk) - 16)
-      (length-aes_encrypted key nonce chunk ∙ (let e : length chunk ≡ length (sealed_chunk key prefix number flag chunk) - 16 = omega (arith, whole) in e))
+      let ct = aes_encrypted key (chunk_nonce prefix number flag) chunk in
+      drop_at ct (aes_tag key (chunk_nonce prefix number flag) (header prefix) ct)
+      (length (sealed_chunk key prefix number flag chunk) - 16) tag_at
 
   -- a sealed chunk has its tag
   pub sealed_has_tag : HasTag key prefix number flag (sealed_chunk key prefix number flag chunk)

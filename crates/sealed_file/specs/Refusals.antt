@@ -1,7 +1,7 @@
 -- When each error comes.
 use Rattle.std.specs.Prelude.{◌≡◌, ◌≢◌, ℕ, Bool, true, false, ◌-◌, ◌^◌, ◌<◌, ◌≤◌, ◌⊎◌, ⊤, List, length, take, codes, slice_index, ◌==◌}
 use Rattle.sealed_file.specs.declared.error.FileError.{FileError}
-use Rattle.sealed_file.specs.declared.error.FileError.TheVariants.{KeyLength, AnotherMagic, AnotherVersion, EndsEarly, BytesBehind, Refused, TooLong, Io}
+use Rattle.sealed_file.specs.declared.error.FileError.TheVariants.{AnotherMagic, AnotherVersion, EndsEarly, BytesBehind, Refused, TooLong, Io}
 use Rattle.sealed_file.specs.Format.{piece, last_piece}
 use Rattle.sealed_file.specs.Opening.{HasTag, HasHeader, AreRight, last_chunk, prefix_of, body_of}
 

@@ -1,4 +1,4 @@
-use Rattle.std.proofs.Common.{◌≡◌, IfSome, ◌-◌, vec_len, arith, refl, subst, sym, true, false, ◌∙◌}
+use Rattle.std.proofs.Common.{◌≡◌, IfSome, vec_len, arith, refl, subst, sym, true, false, ◌∙◌}
 use Rattle.sealed_file.specs.Refusals.{OpenRefuses}
 use Rattle.sealed_file.specs.declared.error.FileError.{FileError}
 use Rattle.sealed_file.proofs.OpenLemmas.{header_refused, open_accepted, open_end, open_long, open_next}

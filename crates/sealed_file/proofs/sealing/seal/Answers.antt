@@ -1,4 +1,4 @@
-use Rattle.std.proofs.Common.{◌≡◌, ◌-◌, vec_len, arith, ◌∙◌}
+use Rattle.std.proofs.Common.{◌≡◌, vec_len, arith, ◌∙◌}
 use Rattle.sealed_file.proofs.SealLemmas.{seal_end, seal_few, seal_long, seal_next, seal_start, seal_stop, seal_stop_in, stop_behind_header, stop_in_header}
 use Rattle.sealed_file.proofs.StreamLemmas.{begins_none, if_some_all, if_some_map, on_err}
 use Rattle.sealed_file.proofs.sealing.seal.Goals as goal
