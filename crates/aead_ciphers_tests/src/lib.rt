@@ -41,6 +41,8 @@ mod overlapping;
 #[cfg(test)]
 mod quic;
 #[cfg(test)]
+mod quic_packets;
+#[cfg(test)]
 mod records;
 #[cfg(test)]
 mod reference;

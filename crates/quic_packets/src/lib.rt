@@ -14,6 +14,3 @@ pub use error::PacketError;
 pub use header::HeaderKey;
 pub use receive::ReceiveKey;
 pub use send::SendKey;
-
-#[cfg(test)]
-mod tests;

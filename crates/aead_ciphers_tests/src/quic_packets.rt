@@ -1,15 +1,12 @@
-//! The packets of RFC 9001 appendix A, both ways, and what no clause says.
+//! `quic_packets`: the packets of RFC 9001 appendix A, both ways, and what no clause says.
 
-use crate::{HeaderKey, PacketError, ReceiveKey, SendKey};
+use crate::checks::same;
 use aead_ciphers::aead::{AES_128_GCM, quic};
 use aead_vectors::rfc_9001::{A_2_PACKET, A_3_PACKET, A_5_KEY, A_5_PROTECTED, A_5_SEALED, Packet};
+use quic_packets::{HeaderKey, PacketError, ReceiveKey, SendKey};
 use std::alloc::{AllocError, Global};
 use std::process::Abort;
 use std::test::Fail;
-
-fn same(rt: &impl Abort, found: &[u8], wanted: &[u8], what: &str) {
-    assert_eq!(rt; found, wanted, "{what}");
-}
 
 /// The header and the payload.
 fn plain(alloc: Global, row: &Packet) -> Result<Vec<u8>, AllocError> {
