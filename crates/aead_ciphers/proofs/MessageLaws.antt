@@ -1,14 +1,13 @@
 -- Laws of a sealed message under a key, which speak of public definitions alone: what proofs of crates above cite.
-use Rattle.std.proofs.Common.{◌≡◌, ◌≤◌, ℕ, ◌+◌, List, [], ◌∷◌, length, refl, sym, subst, ap₂, ◌∙◌, arith, length-append}
+use Rattle.std.proofs.Common.{◌≡◌, ℕ, ◌+◌, List, [], ◌∷◌, length, refl, ap₂, ◌∙◌, arith, length-append}
 use Rattle.aead_ciphers_base.specs.Aes.{aes, cipher, add_round_key}
-use Rattle.aead_ciphers_base.specs.Bytes.{◌⊕◌, zero_block}
-use Rattle.aead_ciphers_base.specs.CounterMode.{counter_block}
+use Rattle.aead_ciphers_base.specs.Bytes.{◌⊕◌}
 use Rattle.aead_ciphers_base.proofs.CounterModeLemmas.{length-counter_mode}
 use Rattle.aead_ciphers_base.proofs.CounterModeTwice.{counter_mode-twice}
 use Rattle.aead_ciphers_base.proofs.XorLemmas.{length-xor}
 use Rattle.aead_ciphers.specs.AesGcm.{aes_encrypted, aes_decrypted, aes_tag, aes_sealed}
-use Rattle.aead_ciphers.specs.Gcm.{hashed, tag}
-use Rattle.aead_ciphers.specs.Ghash.{◌•◌, block_of, ghash, power}
+use Rattle.aead_ciphers.specs.Gcm.{tag}
+use Rattle.aead_ciphers.specs.Ghash.{◌•◌, block_of, ghash}
 pub use Rattle.aead_ciphers.proofs.OpeningCases.{Accepted, opened_accepted, opened_refused}
 
 length-aes : (key block : List ℕ) → length (aes key block) ≡ 16
