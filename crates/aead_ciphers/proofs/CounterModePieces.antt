@@ -3,7 +3,7 @@ use Rattle.std.proofs.Common.{◌≡◌, ℕ, ◌+◌, ◌-◌, ◌*◌, ◌<◌
 use Rattle.std.proofs.lemmas.List.{append_assoc, drop-take, length-append, length-take-le, length-drop, take_all, take_at, drop-drop}
 use Rattle.aead_ciphers_base.specs.Bytes.{◌⊕◌}
 use Rattle.aead_ciphers_base.specs.CounterMode.{counter_block, counter_mode}
-use Rattle.aead_ciphers_base.proofs.CounterModeLemmas.{advance, counter_mode-short, length-counter_mode, take-counter_mode, xor-reads}
+use Rattle.aead_ciphers_base.proofs.CounterModeLemmas.{advance, all_from, counter_mode-short, length-counter_mode, take-counter_mode, xor-reads}
 use Rattle.aead_ciphers.specs.Gcm.{padded_block}
 use Rattle.aead_ciphers.proofs.PaddedBlocks.{padded_is}
 
@@ -30,8 +30,7 @@ finish_text cipher nonce k q w s was now whole room len e =
     ap₂ (λ u z. take w now ++ counter_mode cipher nonce (k + q) u ++ drop z now)
     (sym (take_all n (drop (s + w) now) (omega (arith, length-drop (s + w) now)))) all'
     ∙ advance cipher nonce k q w n s was now whole (omega arith) e
-    ∙ ap (λ z. counter_mode cipher nonce k (take z (drop s was)) ++ drop z was) all
-    ∙ ap (λ u. counter_mode cipher nonce k u ++ drop (length was - s) was) (take_all (length was - s) (drop s was) (omega (arith, length-drop s was)))
+    ∙ all_from cipher nonce k s (w + n) was all
 
 -- the last bytes, padded, encrypted and cut to their length
 rest_piece : (cipher : List ℕ → List ℕ) (nonce : List ℕ) (k : ℕ) (text input iv output : List ℕ) → length text ≤ 16 →

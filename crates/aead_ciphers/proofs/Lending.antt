@@ -9,7 +9,6 @@ use Prim.Native.Nat.{ℕ}
 use seplogic.Ra.Ura.{Ura}
 use mir.Syntax.{Lifetime, erased}
 use mir.Val.{Val}
-use lib.Dec.{T}
 use base.Logic.{ent, id⊢}
 use base.Fml.{Fml, Lft, GName}
 use types.Logic.{Logic, sem}

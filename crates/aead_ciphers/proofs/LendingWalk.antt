@@ -18,7 +18,7 @@ use base.Logic.{ent, sep, emp, id⊢}
 use base.Fml.{Lft, GName, Share, flft}
 use types.Logic.{Logic}
 use types.Tokens.{lft_new, lft_end}
-use types.Kit.{Item, ‵, ◌⊛◌, raw, given, some, later, drop, split, split3, learn, fsplit, use0, use1, use2, use3, await, pick, now}
+use types.Kit.{Item, ‵, ◌⊛◌, raw, given, some, later, drop, split, split3, learn, fsplit, use0, use1, use2, use3, await, pick}
 use types.Kit.{Seq, Goal, Post, Soaks, runs, lands}
 pub use types.Kit.{◌$◌, !, move, keep}
 use types.Run.{Opds}

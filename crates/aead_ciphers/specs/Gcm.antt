@@ -4,7 +4,7 @@ use Rattle.std.specs.Prelude.{◌≡◌, ◌≢◌, ℕ, Bool, true, false, ◌+
 use Rattle.std.specs.Int.{to_be_bytes, w64}
 use Rattle.aead_ciphers_base.specs.Bytes.{each_below, ◌⊕◌, zero_block}
 use Rattle.aead_ciphers_base.specs.CounterMode.{counter_block, counter_mode}
-use Rattle.aead_ciphers_base.specs.Work.{Adds, Tallies}
+use Rattle.aead_ciphers_base.specs.Work.{Adds, CanAdd, Tallies}
 use Rattle.aead_ciphers.specs.Ghash.{ghash}
 
 -- 16 bytes from byte 16 i on, zeros past the end (section 7.1 step 4)
@@ -73,6 +73,14 @@ sealing_blocks n = (n + 15) / 16 + 1
 -- (sections 6.4 and 7.1 step 5)
 abbrev pub sealing_products : ℕ → ℕ → ℕ
 sealing_products a n = (a + 15) / 16 + (n + 15) / 16 + 1
+
+-- the tallies have room for a seal of n bytes of message under a bytes of AAD, unless the lengths are refused
+abbrev pub CanSeal : Tallies → ℕ → ℕ → Type 0
+CanSeal work a n = Fits a n → CanAdd work (sealing_blocks n) (sealing_products a n)
+
+-- and for an open of the bytes from `start` on of a buffer of len bytes, unless the start or the lengths are refused
+abbrev pub CanOpen : Tallies → ℕ → ℕ → ℕ → Type 0
+CanOpen work a start len = start ≤ len → CanSeal work a (len - start)
 
 -- the tallies of a seal of n bytes of message under a bytes of AAD; a refused seal counts nothing
 pub record SealWork {T E : Type 0} (a n : ℕ) (result : Result T E) (was now : Tallies) : Type 0 where

@@ -1,11 +1,11 @@
 //! AES-GCM with 12-byte nonces and 16-byte tags (SP 800-38D section 7), in place.
 
-ghost use Rattle.std.specs.Prelude.{◌≡◌, ◌≤◌, ◌-◌, ◌↔◌, length, IsOk, IfOk, OnOk, OnErr, is_ok};
+ghost use Rattle.std.specs.Prelude.{◌≡◌, ◌↔◌, length, IsOk, IfOk, OnOk, OnErr, is_ok};
 ghost use Rattle.aead_ciphers_base.specs.KeyBytes.{key_bytes};
 ghost use Rattle.aead_ciphers_base.specs.Values.{aad_bytes};
 ghost use Rattle.aead_ciphers_base.specs.Work.{Adds, CanAdd};
 ghost use Rattle.aead_ciphers.specs.AesGcm.{AesOpened, aes_encrypted, aes_tag};
-ghost use Rattle.aead_ciphers.specs.Gcm.{Fits, OpenWork, SealWork, sealing_blocks, sealing_products};
+ghost use Rattle.aead_ciphers.specs.Gcm.{CanOpen, CanSeal, Fits, OpenWork, SealWork};
 
 mod counter_mode;
 mod hash;
@@ -66,8 +66,7 @@ pub fn seal(
     in_out: &mut [u8],
     work: &mut Work,
 ) -> Result<Tag, Unspecified>
-    requires { let n = length in_out.old in let a = length (aad_bytes aad) in
-        Fits a n → CanAdd work.old (sealing_blocks n) (sealing_products a n) }
+    requires { CanSeal work.old (length (aad_bytes aad)) (length in_out.old) }
     ensures accepted { IsOk result ↔ Fits (length (aad_bytes aad.entry)) (length in_out.old) }
     ensures ciphertext { OnOk result (in_out.new ≡ aes_encrypted key.now nonce in_out.old) }
     ensures tag { IfOk result (λ t. t ≡ aes_tag key.now nonce (aad_bytes aad.entry) in_out.new) }
@@ -91,9 +90,7 @@ pub fn open(
     src: RangeFrom<usize>,
     work: &mut Work,
 ) -> Result<(), Unspecified>
-    requires { src.start ≤ length in_out.old →
-        let n = length in_out.old - src.start in let a = length (aad_bytes aad) in
-        Fits a n → CanAdd work.old (sealing_blocks n) (sealing_products a n) }
+    requires { CanOpen work.old (length (aad_bytes aad)) src.start (length in_out.old) }
     ensures opened { AesOpened key.now nonce (aad_bytes aad.entry) received_tag src.start in_out.old
         (is_ok result) in_out.new }
     ensures worked { OpenWork (length (aad_bytes aad.entry)) src.start (length in_out.old) result

@@ -4,7 +4,7 @@ use Rattle.std.specs.Int.{from_be_bytes, to_be_bytes, w32}
 use Rattle.std.proofs.lemmas.Nat.{be_bytes_4, from_be_bytes-to_be_bytes_4}
 use Rattle.std.proofs.lemmas.List.{take-append-drop, length-take-le, length-drop, get_or-drop, take_at, drop_at, get_or-append-add, append-nil}
 use Rattle.std.proofs.lemmas.List.{set-append_right}
-use Rattle.aead_ciphers_base.specs.CounterMode.{counter_block, IsCounter}
+use Rattle.aead_ciphers_base.specs.CounterMode.{counter_block, IsCounter, Advances}
 
 -- its last four bytes
 pub last_byte : (old nonce : List ℕ) (k j : ℕ) → IsCounter old nonce k → get_or old (12 + j) 0 ≡ get_or (to_be_bytes w32 (k % 2 ^ 32)) j 0
@@ -45,11 +45,17 @@ counter_one nonce copied size e = record {
   value = ap (λ (u : List ℕ). set (u ++ 0 ∷ 0 ∷ 0 ∷ 0 ∷ []) 15 1) e ∙ set-append_right nonce (0 ∷ 0 ∷ 0 ∷ 0 ∷ []) 12 15 1 size (omega arith);
 }
 
-pub counter_still : (c nonce : List ℕ) (k : ℕ) → IsCounter c nonce k → IsCounter c nonce (k + 0)
-counter_still c nonce k at = subst (λ (n : ℕ). IsCounter c nonce n) (let e : k ≡ k + 0 = omega arith in e) at
-
 pub counter_at : (c nonce : List ℕ) (j k : ℕ) → IsCounter c nonce j → j ≡ k → IsCounter c nonce k
 counter_at c nonce j k at e = subst (λ (n : ℕ). IsCounter c nonce n) e at
+
+-- a counter block that no call changed
+pub advances_none : (c : List ℕ) → Advances c c 0
+advances_none c = λ nonce k at. counter_at c nonce k (k + 0) at (omega arith)
+
+-- two advances make one
+pub advances_more : (a b c : List ℕ) (m n sum : ℕ) → Advances a b m → Advances b c n → m + n ≡ sum → Advances a c sum
+advances_more a b c m n sum first second e = λ nonce k at.
+    counter_at c nonce (k + m + n) (k + sum) (second nonce (k + m) (first nonce k at)) (omega (arith, e))
 
 -- every block of bytes is a counter block
 pub counter_exists : (block : List ℕ) → length block ≡ 16 → ((i : ℕ) → get_or block i 0 < 256)

@@ -1,11 +1,11 @@
 -- Counter mode of a text in pieces.
 use Rattle.std.proofs.Common.{◌≡◌, ℕ, zero, suc, ◌+◌, ◌-◌, ◌*◌, ◌/◌, ◌%◌, ◌<◌, ◌≤◌, List, [], ◌∷◌, ◌++◌, length, take, drop, get_or, bit_xor, refl, sym, ap}
 use Rattle.std.proofs.Common.{ap₂, ◌∙◌, arith}
-use Rattle.std.proofs.lemmas.List.{append-nil, append_assoc, length-append, length-take-le, length-drop, nil_from_length, take_at, drop-drop}
+use Rattle.std.proofs.lemmas.List.{append-nil, append_assoc, length-append, length-take-le, length-drop, nil_from_length, take_all, take_at, drop-drop}
 use Rattle.std.proofs.lemmas.List.{get_or_append_left, get_or-append-add, ext_get_or, get_or-take}
 use Rattle.std.proofs.Math.Seq.{take-add}
 use Rattle.aead_ciphers_base.specs.Bytes.{each_below, ◌⊕◌}
-use Rattle.aead_ciphers_base.specs.CounterMode.{counter_block, counter_mode}
+use Rattle.aead_ciphers_base.specs.CounterMode.{counter_block, counter_mode, Advances, EncryptsFirst, EncryptsToFront, EncryptsWindow}
 use Rattle.std.proofs.lemmas.Slice.{drop-append-drop}
 use Rattle.aead_ciphers_base.proofs.EachLemmas.{length-each, get_or-each, each-same, each-append}
 
@@ -74,6 +74,30 @@ advance cipher nonce k q d n s was now whole room e =
     ∙ ap (λ (u : List ℕ). u ++ drop (d + n) was)
     (sym (counter_mode-append cipher nonce k (take d text) (take n (drop d text)) q (front ∙ whole))
     ∙ ap (counter_mode cipher nonce k) (sym (take-add d n text)))
+
+-- a buffer of which nothing is encrypted
+pub encrypts_none : (cipher : List ℕ → List ℕ) (counter : List ℕ) (s : ℕ) (was : List ℕ) → EncryptsFirst cipher counter s 0 was was
+encrypts_none cipher counter s was = λ nonce k at. ap (λ (u : List ℕ). u ++ was) (sym (counter_mode-nil cipher nonce k [] refl))
+
+-- the d bytes that were encrypted, and the n bytes behind them
+pub encrypts_more : (cipher : List ℕ → List ℕ) (counter then : List ℕ) (s d n : ℕ) (was now new : List ℕ) → d % 16 ≡ 0 → s + d + n ≤ length was →
+    EncryptsFirst cipher counter s d was now → Advances counter then (d / 16) → EncryptsWindow cipher then s d n now new →
+    EncryptsFirst cipher counter s (d + n) was new
+encrypts_more cipher counter then s d n was now new whole room done moved window = λ nonce k at.
+    window nonce (k + d / 16) (moved nonce k at)
+    ∙ advance cipher nonce k (d / 16) d n s was now (omega (arith, whole)) room (done nonce k at)
+
+-- the first d bytes from s on are all of them
+pub all_from : (cipher : List ℕ → List ℕ) (nonce : List ℕ) (k s d : ℕ) (was : List ℕ) → d ≡ length was - s →
+    counter_mode cipher nonce k (take d (drop s was)) ++ drop d was ≡ counter_mode cipher nonce k (drop s was) ++ drop (length was - s) was
+all_from cipher nonce k s d was all =
+    ap (λ (n : ℕ). counter_mode cipher nonce k (take n (drop s was)) ++ drop n was) all
+    ∙ ap (λ (u : List ℕ). counter_mode cipher nonce k u ++ drop (length was - s) was)
+    (take_all (length was - s) (drop s was) (omega (arith, length-drop s was)))
+
+pub encrypts_all : (cipher : List ℕ → List ℕ) (counter : List ℕ) (s d : ℕ) (was new : List ℕ) →
+    EncryptsFirst cipher counter s d was new → d ≡ length was - s → EncryptsToFront cipher counter s was new
+encrypts_all cipher counter s d was new done all = λ nonce k at. done nonce k at ∙ all_from cipher nonce k s d was all
 
 length-xor : (xs ys : List ℕ) → length xs ≤ length ys → length (xs ⊕ ys) ≡ length xs
 length-xor [] ys le = refl

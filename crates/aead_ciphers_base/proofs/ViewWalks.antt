@@ -15,7 +15,6 @@ use Rattle.aead_ciphers_base.proofs.WalkNames.{use2, rewrite, done, updating, no
 use Rattle.aead_ciphers_base.proofs.WalkNames.{RattleType, Valss, owns, NamedLft, MutBor, MutSlice, Room, slice_val, nothing, peeks, within, shape, Ok, Err}
 use Rattle.aead_ciphers_base.proofs.WalkNames.{IsOk, IfOk, IfErr, ◌↔◌}
 use Rattle.aead_ciphers_base.proofs.Walks.{tells, tell, says}
-use Rattle.aead_ciphers_base.proofs.LentParts.{back}
 use base.Stored.{Gv}
 use base.Logic.{wand, all_e, apply∗}
 use base.Fml.{fex, fauth}

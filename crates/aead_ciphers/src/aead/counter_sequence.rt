@@ -1,8 +1,6 @@
 //! Nonces of a prefix and a number that counts up.
-ghost use Rattle.std.specs.Prelude.{◌≡◌, ◌+◌, ◌^◌, ◌<◌, ◌≤◌, ◌↔◌, ◌++◌, IsOk, IfOk, OnOk, OnErr};
+ghost use Rattle.std.specs.Prelude.{◌≡◌, ◌+◌, ◌^◌, ◌≤◌, ◌↔◌, ◌++◌, IsOk, IfOk};
 ghost use Rattle.std.specs.Int.{to_be_bytes, w64};
-ghost use Rattle.aead_ciphers.specs.CounterSequence.{nonce_at, spent_nonces, is_used_up, origin_of};
-ghost use Rattle.aead_ciphers.specs.NonceSequence.{Appends, Closes};
 
 use crate::aead::{NONCE_LEN, Nonce, NonceSequence, Unspecified};
 use std::marker::Model;
@@ -74,17 +72,7 @@ impl NonceSequence for CounterSequence {
 
     ghost is_next = { λ s nonce. nonce ≡ nonce_at s s.used };
 
-    fn advance(&mut self) -> Result<Nonce, Unspecified>
-        ensures ok { IfOk result (λ nonce.
-            Appends (spent_nonces self.old) (spent_nonces self.new) (is_used_up self.old) nonce) }
-        ensures err { OnErr result
-            (Closes (spent_nonces self.old) (spent_nonces self.new) (is_used_up self.new)) }
-        ensures origin_kept { origin_of self.new ≡ origin_of self.old }
-        ensures accepted { IsOk result ↔ (self.old.used < self.old.count) }
-        ensures nonce { IfOk result (λ nonce. nonce ≡ nonce_at self.old self.old.used) }
-        ensures counted { OnOk result (self.new ≡ record self.old { used = self.old.used + 1 }) }
-        ensures refused { OnErr result (self.new ≡ self.old) }
-    {
+    fn advance(&mut self) -> Result<Nonce, Unspecified> {
         if self.used >= self.count {
             return Err(Unspecified);
         }

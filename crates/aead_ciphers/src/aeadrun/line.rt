@@ -9,6 +9,21 @@ use std::str::Split;
 /// What a line asks for.
 #[derive(Drop)]
 pub(super) enum Command {
+    Call(Call),
+    /// `keys 128|256 KEY PREFIX FIRST COUNT`
+    Keys {
+        algorithm: &'static Algorithm,
+        key: Vec<u8>,
+        prefix: [u8; 4],
+        first: u64,
+        count: u64,
+    },
+    Next(Next),
+}
+
+/// A call with the key that stands in the line.
+#[derive(Drop)]
+pub(super) enum Call {
     /// `seal 128|256 KEY NONCE AAD MESSAGE`
     Seal {
         algorithm: &'static Algorithm,
@@ -32,21 +47,18 @@ pub(super) enum Command {
         key: Vec<u8>,
         sample: Vec<u8>,
     },
-    /// `keys 128|256 KEY PREFIX FIRST COUNT`
-    Keys {
-        algorithm: &'static Algorithm,
-        key: Vec<u8>,
-        prefix: [u8; 4],
-        first: u64,
-        count: u64,
-    },
+}
+
+/// A call with the keys of the last `keys` line, and their next nonce.
+#[derive(Drop)]
+pub(super) enum Next {
     /// `next-seal AAD MESSAGE`
-    NextSeal {
+    Seal {
         aad: Vec<u8>,
         message: Vec<u8>,
     },
     /// `next-open AAD START BUFFER`
-    NextOpen {
+    Open {
         aad: Vec<u8>,
         start: usize,
         buffer: Vec<u8>,
@@ -79,45 +91,16 @@ impl Command {
             rest: line.split(' '),
         };
         let command = match words.next()? {
-            "seal" => Command::seal(&mut words)?,
-            "open" => Command::open(&mut words)?,
-            "mask" => Command::mask(&mut words)?,
+            "seal" => Command::Call(Call::seal(&mut words)?),
+            "open" => Command::Call(Call::open(&mut words)?),
+            "mask" => Command::Call(Call::mask(&mut words)?),
             "keys" => Command::keys(&mut words)?,
-            "next-seal" => Command::next_seal(&mut words)?,
-            "next-open" => Command::next_open(&mut words)?,
+            "next-seal" => Command::Next(Next::seal(&mut words)?),
+            "next-open" => Command::Next(Next::open(&mut words)?),
             _ => return Err(LineError::BadLine),
         };
         words.end()?;
         Ok(command)
-    }
-
-    fn seal(words: &mut Words<'_>) -> Result<Command, LineError> {
-        Ok(Command::Seal {
-            algorithm: words.algorithm()?,
-            key: words.bytes()?,
-            nonce: words.bytes()?,
-            aad: words.bytes()?,
-            message: words.bytes()?,
-        })
-    }
-
-    fn open(words: &mut Words<'_>) -> Result<Command, LineError> {
-        Ok(Command::Open {
-            algorithm: words.algorithm()?,
-            key: words.bytes()?,
-            nonce: words.bytes()?,
-            aad: words.bytes()?,
-            start: words.number()? as usize,
-            buffer: words.bytes()?,
-        })
-    }
-
-    fn mask(words: &mut Words<'_>) -> Result<Command, LineError> {
-        Ok(Command::Mask {
-            algorithm: words.mask_algorithm()?,
-            key: words.bytes()?,
-            sample: words.bytes()?,
-        })
     }
 
     fn keys(words: &mut Words<'_>) -> Result<Command, LineError> {
@@ -129,16 +112,49 @@ impl Command {
             count: words.number()?,
         })
     }
+}
 
-    fn next_seal(words: &mut Words<'_>) -> Result<Command, LineError> {
-        Ok(Command::NextSeal {
+impl Call {
+    fn seal(words: &mut Words<'_>) -> Result<Call, LineError> {
+        Ok(Call::Seal {
+            algorithm: words.algorithm()?,
+            key: words.bytes()?,
+            nonce: words.bytes()?,
             aad: words.bytes()?,
             message: words.bytes()?,
         })
     }
 
-    fn next_open(words: &mut Words<'_>) -> Result<Command, LineError> {
-        Ok(Command::NextOpen {
+    fn open(words: &mut Words<'_>) -> Result<Call, LineError> {
+        Ok(Call::Open {
+            algorithm: words.algorithm()?,
+            key: words.bytes()?,
+            nonce: words.bytes()?,
+            aad: words.bytes()?,
+            start: words.number()? as usize,
+            buffer: words.bytes()?,
+        })
+    }
+
+    fn mask(words: &mut Words<'_>) -> Result<Call, LineError> {
+        Ok(Call::Mask {
+            algorithm: words.mask_algorithm()?,
+            key: words.bytes()?,
+            sample: words.bytes()?,
+        })
+    }
+}
+
+impl Next {
+    fn seal(words: &mut Words<'_>) -> Result<Next, LineError> {
+        Ok(Next::Seal {
+            aad: words.bytes()?,
+            message: words.bytes()?,
+        })
+    }
+
+    fn open(words: &mut Words<'_>) -> Result<Next, LineError> {
+        Ok(Next::Open {
             aad: words.bytes()?,
             start: words.number()? as usize,
             buffer: words.bytes()?,

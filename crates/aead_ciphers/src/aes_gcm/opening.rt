@@ -1,10 +1,9 @@
 //! Opening over any cipher and hash (SP 800-38D section 7.2).
 
-ghost use Rattle.std.specs.Prelude.{◌≡◌, ◌≤◌, ◌-◌, length, is_ok};
+ghost use Rattle.std.specs.Prelude.{◌≡◌, length, is_ok};
 ghost use Rattle.aead_ciphers_base.specs.Bytes.{zero_block};
 ghost use Rattle.aead_ciphers_base.specs.Values.{aad_bytes};
-ghost use Rattle.aead_ciphers_base.specs.Work.{CanAdd};
-ghost use Rattle.aead_ciphers.specs.Gcm.{Fits, OpenWork, Opened, sealing_blocks, sealing_products};
+ghost use Rattle.aead_ciphers.specs.Gcm.{CanOpen, OpenWork, Opened};
 
 use super::counter_mode::encrypt_within;
 use super::hash::{absorb, finish};
@@ -27,9 +26,7 @@ pub(super) fn open_with<A: EncryptCtr32, G: UpdateBlocks>(
     src: RangeFrom<usize>,
     work: &mut Work,
 ) -> Result<(), Unspecified>
-    requires sums { src.start ≤ length in_out.old →
-        let n = length in_out.old - src.start in let a = length (aad_bytes aad) in
-        Fits a n → CanAdd work.old (sealing_blocks n) (sealing_products a n) }
+    requires sums { CanOpen work.old (length (aad_bytes aad)) src.start (length in_out.old) }
     requires subkey { G.hash_key gcm.now ≡ A.cipher aes.now zero_block }
     ensures opened { Opened (A.cipher aes.now) nonce (aad_bytes aad.entry) received_tag src.start
         in_out.old (is_ok result) in_out.new }

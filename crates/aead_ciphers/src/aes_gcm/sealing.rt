@@ -5,7 +5,7 @@ ghost use Rattle.aead_ciphers_base.specs.Bytes.{zero_block};
 ghost use Rattle.aead_ciphers_base.specs.CounterMode.{Advances, EncryptsFirst, InCounterMode};
 ghost use Rattle.aead_ciphers_base.specs.Values.{aad_bytes};
 ghost use Rattle.aead_ciphers_base.specs.Work.{Adds, CanAdd};
-ghost use Rattle.aead_ciphers.specs.Gcm.{Fits, SealWork, encrypted, padded_blocks, sealing_blocks, sealing_products, tag};
+ghost use Rattle.aead_ciphers.specs.Gcm.{CanSeal, Fits, SealWork, encrypted, padded_blocks, tag};
 ghost use Rattle.aead_ciphers.specs.HashOf.{IsHashOf};
 
 use super::counter_mode::{CHUNK_LEN, encrypt_chunk, encrypt_rest};
@@ -24,8 +24,7 @@ pub(super) fn seal_with<A: EncryptCtr32, G: UpdateBlocks>(
     in_out: &mut [u8],
     work: &mut Work,
 ) -> Result<Tag, Unspecified>
-    requires sums { let n = length in_out.old in let a = length (aad_bytes aad) in
-        Fits a n → CanAdd work.old (sealing_blocks n) (sealing_products a n) }
+    requires sums { CanSeal work.old (length (aad_bytes aad)) (length in_out.old) }
     requires subkey { G.hash_key gcm.now ≡ A.cipher aes.now zero_block }
     ensures accepted { IsOk result ↔ Fits (length (aad_bytes aad.entry)) (length in_out.old) }
     ensures ciphertext { OnOk result (in_out.new ≡ encrypted (A.cipher aes.now) nonce in_out.old) }

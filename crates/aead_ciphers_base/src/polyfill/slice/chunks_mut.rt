@@ -33,7 +33,6 @@ pub fn split_whole<T, const N: usize>(items: &mut [T]) -> (&mut [T], &mut [T])
 }
 
 /// As many whole blocks of `N` as fit, and the rest.
-#[tactic(auto, using(crate::proofs::BlocksLemmas::blocks_take, crate::proofs::BlocksLemmas::whole_blocks))]
 pub fn as_chunks_mut<T, const N: usize>(items: &mut [T]) -> (AsChunksMut<'_, T, N>, &mut [T])
     requires { 0 < N }
     ensures* writes_back { sem 𝓛 (LendsInTwo T.row items.entry (result.0.items, result.1)) }
@@ -84,7 +83,6 @@ impl<'a, T, const N: usize> AsChunksMut<'a, T, N> {
     }
 
     /// The items of all blocks, for writing.
-    #[tactic(auto, using(crate::proofs::BlocksLemmas::joined_blocks))]
     pub fn as_flattened_mut(&mut self) -> &mut [T]
         ensures* writes_back { sem 𝓛 (LendsItems T.row N.row self.entry result) }
         ensures items { result.now ≡ self.old.items.now }
@@ -127,7 +125,6 @@ impl<'a, T, const N: usize> AsChunksMut<'a, T, N> {
     }
 
     /// The first `mid` blocks, and the blocks behind them.
-    #[tactic(auto, using(crate::proofs::BlocksLemmas::blocks_fit, crate::proofs::BlocksLemmas::whole_front, crate::proofs::BlocksLemmas::whole_back, crate::proofs::BlocksLemmas::blocks_front, crate::proofs::BlocksLemmas::blocks_back))]
     pub fn split_at_mut(&mut self, mid: usize) -> (AsChunksMut<'_, T, N>, AsChunksMut<'_, T, N>)
         requires { mid ≤ length (blocks N self.old.items.now) }
         ensures* writes_back { sem 𝓛 (LendsParts T.row N.row self.entry result.0.items result.1.items) }

@@ -1,6 +1,6 @@
-use Rattle.std.proofs.Common.{◌≡◌, ◌+◌, ◌*◌, ◌/◌, [], ◌++◌, arith, ap, ◌∙◌, refl, sym}
-use Rattle.aead_ciphers_base.proofs.CounterLemmas.{counter_still, counter_at}
-use Rattle.aead_ciphers_base.proofs.CounterModeLemmas.{advance, counter_mode-nil}
+use Rattle.std.proofs.Common.{arith, refl}
+use Rattle.aead_ciphers_base.proofs.CounterLemmas.{advances_none, advances_more}
+use Rattle.aead_ciphers_base.proofs.CounterModeLemmas.{encrypts_none, encrypts_more}
 use Rattle.aead_ciphers.proofs.aes_gcm.counter_mode.encrypt_whole.Goals as goal
 
 pub loop-done-init : goal.loop-done-init
@@ -9,27 +9,18 @@ loop-done-init g c = record {
   aligned = refl;
   within = omega arith;
   size = refl;
-  output = λ nonce k at. ap (λ u. u ++ c.args.in_out.now) (sym (counter_mode-nil (g.A.EncryptBlock.cipher c.args.aes.now) nonce k [] refl));
-  counter = λ nonce k at. counter_still _ nonce k at;
+  output = encrypts_none _ _ c.args.start _;
+  counter = advances_none _;
 }
 
 pub loop-done-preserved : goal.loop-done-preserved
 loop-done-preserved g c =
-    let d = c.loop-done.done in
-    let n = c.min-count.result in
-    let s = c.args.start in
-    let was = c.args.in_out.now in
     let inv = c.loop-done.invariant in
-    let whole : d ≡ 16 * (d / 16) = omega (arith, inv.aligned) in
     record {
       worked = (omega arith, omega arith);
       aligned = omega arith;
       within = omega arith;
       size = omega arith;
-      output = λ nonce k at.
-          c.encrypt_chunk.ensures.output nonce (k + d / 16) (inv.counter nonce k at)
-          ∙ advance (g.A.EncryptBlock.cipher c.args.aes.now) nonce k (d / 16) d n s was c.loop-done.in_out whole (omega arith) (inv.output nonce k at);
-      counter = λ nonce k at.
-          let then = c.encrypt_chunk.ensures.counter nonce (k + d / 16) (inv.counter nonce k at) in
-          counter_at _ nonce (k + d / 16 + n / 16) (k + (d + n) / 16) then (omega arith);
+      output = encrypts_more _ _ _ _ _ _ _ _ _ inv.aligned (omega arith) inv.output inv.counter c.encrypt_chunk.ensures.output;
+      counter = advances_more _ _ _ _ _ _ inv.counter c.encrypt_chunk.ensures.counter (omega (arith, inv.aligned));
     }

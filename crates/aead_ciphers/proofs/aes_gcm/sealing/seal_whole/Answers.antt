@@ -1,8 +1,8 @@
-use Rattle.std.proofs.Common.{◌≡◌, ◌+◌, ◌-◌, ◌*◌, ◌/◌, ◌≤◌, [], ◌++◌, length, drop, take, arith, ap, ◌∙◌, sym, refl, subst}
+use Rattle.std.proofs.Common.{◌≡◌, ◌+◌, ◌-◌, ◌*◌, ◌/◌, [], ◌++◌, drop, take, arith, ap, ◌∙◌, sym, refl, subst}
 use Rattle.std.proofs.lemmas.List.{append-nil, length-drop, length-take-le}
 use Rattle.aead_ciphers_base.specs.CounterMode.{EncryptsFirst, counter_mode}
-use Rattle.aead_ciphers_base.proofs.CounterLemmas.{counter_still, counter_at}
-use Rattle.aead_ciphers_base.proofs.CounterModeLemmas.{advance, counter_mode-nil, length-counter_mode}
+use Rattle.aead_ciphers_base.proofs.CounterLemmas.{advances_none, advances_more}
+use Rattle.aead_ciphers_base.proofs.CounterModeLemmas.{encrypts_none, encrypts_more, length-counter_mode}
 use Rattle.aead_ciphers.specs.HashOf.{IsHashOf, HashState}
 use Rattle.aead_ciphers.proofs.RunningHash.{hash_chunk}
 use Rattle.aead_ciphers.proofs.CounterModePieces.{encrypted_piece}
@@ -15,8 +15,8 @@ loop-done-init g c = record {
   aligned = refl;
   within = omega arith;
   size = refl;
-  output = λ nonce k at. ap (λ u. u ++ c.args.in_out.now) (sym (counter_mode-nil (g.A.EncryptBlock.cipher c.args.aes.now) nonce k [] refl));
-  counter = λ nonce k at. counter_still _ nonce k at;
+  output = encrypts_none _ _ 0 _;
+  counter = advances_none _;
   kept = refl;
   hashed = λ nonce k at bs h.
       subst (λ x. IsHashOf c.args.auth.now.hash_key x c.args.auth.now.xi) (sym (ap (λ x. bs ++ x) (padded_blocks_none [] refl) ∙ append-nil bs)) h;
@@ -27,16 +27,13 @@ loop-done-preserved g c =
     let d = c.loop-done.done in
     let n = c.min-count.result in
     let was = c.args.in_out.now in
-    let now = c.loop-done.in_out in
     let inv = c.loop-done.invariant in
     let cipher = g.A.EncryptBlock.cipher c.args.aes.now in
     let aligned : d ≡ 16 * (d / 16) = omega (arith, inv.aligned) in
-    let room : 0 + d + n ≤ length was = omega arith in
     let size : d + n - d ≡ n = omega arith in
     let new = c.encrypt_chunk.new.in_out in
     let output : EncryptsFirst cipher c.args.counter.now 0 (d + n) was new =
-    λ nonce k at. c.encrypt_chunk.ensures.output nonce (k + d / 16) (inv.counter nonce k at)
-    ∙ advance cipher nonce k (d / 16) d n 0 was now aligned room (inv.output nonce k at) in
+    encrypts_more _ _ _ 0 d n _ _ _ inv.aligned (omega arith) inv.output inv.counter c.encrypt_chunk.ensures.output in
     let part = length-take-le (d + n - d) (drop d new) (omega (arith, length-drop d new)) ∙ size in
     record {
       worked = (omega arith, omega arith);
@@ -44,9 +41,7 @@ loop-done-preserved g c =
       within = omega arith;
       size = omega arith;
       output = output;
-      counter = λ nonce k at.
-          let then = c.encrypt_chunk.ensures.counter nonce (k + d / 16) (inv.counter nonce k at) in
-          counter_at _ nonce (k + d / 16 + n / 16) (k + (d + n) / 16) then (omega arith);
+      counter = advances_more _ _ _ _ _ _ inv.counter c.encrypt_chunk.ensures.counter (omega (arith, inv.aligned));
       kept = c.absorb.ensures.kept ∙ ap (λ (s : HashState). record s { xi = c.absorb.new.auth.xi }) inv.kept;
       hashed = λ nonce k at bs h.
           let piece = encrypted_piece cipher nonce k d n was new (omega arith) (output nonce k at) in

@@ -1,14 +1,14 @@
-use Rattle.std.proofs.Common.{◌≡◌, ℕ, ◌-◌, ◌*◌, ◌<◌, List, [], ◌++◌, length, drop, take, get_or, arith, rules, ap, sym, ◌∙◌, refl}
+use Rattle.std.proofs.Common.{◌≡◌, ℕ, ◌-◌, ◌*◌, ◌<◌, List, [], ◌++◌, length, drop, take, get_or, arith, rules, ap, sym, ◌∙◌}
 use Rattle.std.proofs.lemmas.List.{take_all, length-append, length-take-le, length-drop}
 use Rattle.aead_ciphers_base.specs.Aes.{aes}
 use Rattle.aead_ciphers_base.specs.Bytes.{◌⊕◌}
-use Rattle.aead_ciphers_base.proofs.CounterModeLemmas.{block_step, counter_mode-nil}
+use Rattle.aead_ciphers_base.proofs.CounterModeLemmas.{block_step, encrypts_none}
 use Rattle.aead_ciphers_base.proofs.aes.ctr32.xor_keystream.Goals as goal
 
 pub loop-i-init : goal.loop-i-init
 loop-i-init c = record {
   size = search rules;
-  output = λ nonce k at. ap (λ (u : List ℕ). u ++ c.args.batch.now) (sym (counter_mode-nil (aes c.args.key.now) nonce k [] refl));
+  output = encrypts_none _ _ 0 _;
 }
 
 pub loop-i-preserved : goal.loop-i-preserved

@@ -1,5 +1,5 @@
-use Rattle.std.proofs.Common.{rules, arith, ◌+◌, ◌<◌, ◌^◌, ◌∙◌}
-use Rattle.aead_ciphers.specs.CounterSequence.{Counting}
+use Rattle.std.proofs.Common.{◌≡◌, rules, arith, ◌+◌, ◌<◌, ◌^◌, ◌∙◌, sym}
+use Rattle.aead_ciphers.specs.CounterSequence.{Counting, nonce_at}
 use Rattle.aead_ciphers.proofs.CounterSequenceLemmas.{spent_nonces-next, fresh_nonce, nonce_at-is}
 use Rattle.aead_ciphers.proofs.aead.counter_sequence.CounterSequenceNonceSequence.advance.Goals as goal
 
@@ -14,8 +14,9 @@ returns-clause-ok c =
       appended = rw (c.nonce_of-nonce.ensures, nonce_at-is now) (spent_nonces-next now);
     })
 
-pub returns-clause-nonce : goal.returns-clause-nonce
-returns-clause-nonce c =
+pub returns-clause-next : goal.returns-clause-next
+returns-clause-next c = λ nonce next.
     let s = c.self.inside in
     let now : Counting = record { prefix = s.prefix; first = s.first; count = s.count; used = s.used } in
-    rw (← c.self.view_is) (c.nonce_of-nonce.ensures ∙ nonce_at-is now)
+    let given : c.nonce_of-nonce.result ≡ nonce_at now s.used = c.nonce_of-nonce.ensures ∙ nonce_at-is now in
+    (rw (← c.self.view_is) given) ∙ sym next

@@ -1,9 +1,9 @@
 -- The slice is handed on, or let go as it came. This walks the code by hand.
 use Rattle.aead_ciphers_base.proofs.WalkNames.{◌≡◌, refl, subst, ap, ◌∙◌, List, [], ◌∷◌, ℕ, ◌-◌, ◌^◌, ◌<◌, arith, length, w64, a_type, a_number, inst_fn, Val}
-use Rattle.aead_ciphers_base.proofs.WalkNames.{vint, of_list, Fits, ‵, some, ◌$◌, !, move, keep, drop, use1, rewrite, whole, sub, agg, stop, fld, from, load}
+use Rattle.aead_ciphers_base.proofs.WalkNames.{vint, of_list, Fits, ‵, ◌$◌, !, move, keep, drop, use1, rewrite, whole, sub, agg, stop, fld, from, load}
 use Rattle.aead_ciphers_base.proofs.WalkNames.{lit, num_lit, of_opd, bin, and_then, no_more, first, branches, skips, exec, returns, returns_within, alloc_all}
 use Rattle.aead_ciphers_base.proofs.WalkNames.{pass_all, free_all, look_at, look_in_at, get, sets, lands_as, env, usize, Is, shows, param, number, layouts}
-use Rattle.aead_ciphers_base.proofs.WalkNames.{types_at, named_lft, slice_val, nothing, heard, peeks, only, within, Ok, Err}
+use Rattle.aead_ciphers_base.proofs.WalkNames.{types_at, named_lft, slice_val, nothing, heard, peeks, only, Ok, Err}
 use Rattle.aead_ciphers_base.proofs.WalkLocals.{alone, both, reborrows}
 use Rattle.aead_ciphers_base.proofs.Walks.{Words, words_vals, words_typed, slice_typed, dropped, consults, ends, walked, table_of, premise}
 use Rattle.aead_ciphers_base.proofs.ViewWalks.{boxed, held, gone, begun, buffer_word, in_buffer, making, accepts, refuses}

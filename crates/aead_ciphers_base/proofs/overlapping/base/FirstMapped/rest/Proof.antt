@@ -2,10 +2,10 @@
 -- the code by hand.
 use Rattle.aead_ciphers_base.proofs.WalkNames.{◌≡◌, refl, sym, ap, ◌∙◌, List, [], ◌∷◌, ◌++◌, ℕ, ◌+◌, ◌-◌, ◌*◌, ◌^◌, ◌<◌, ◌≤◌, arith, length, take, drop_list}
 use Rattle.aead_ciphers_base.proofs.WalkNames.{length-drop, w64, a_type, inst_fn, Val, vint, vstruct, vcons, vnil, of_list, Fits, size, ‵, some, later, ◌$◌}
-use Rattle.aead_ciphers_base.proofs.WalkNames.{ !, move, keep, drop, split3, fsplit, fpick, feq_l, use1, use2, await, pick, rewrite, now, whole, sub, agg}
+use Rattle.aead_ciphers_base.proofs.WalkNames.{ !, move, keep, drop, split3, fsplit, fpick, feq_l, use1, use2, await, pick, rewrite, whole, sub, agg}
 use Rattle.aead_ciphers_base.proofs.WalkNames.{stop, fld, from, load, lit, size_word, of_opd, bin, addr, and_then, first, branches, skips, exec, returns}
 use Rattle.aead_ciphers_base.proofs.WalkNames.{returns_within, alloc_all, pass_all, free_all, look_at, look_in_at, get, sets, lands_as, through, env, usize}
-use Rattle.aead_ciphers_base.proofs.WalkNames.{Is, shows, param, layout, layouts, types_at, named_lft, Room, slice_val, nothing, heard, peeks, only, within}
+use Rattle.aead_ciphers_base.proofs.WalkNames.{Is, shows, param, layout, layouts, types_at, named_lft, Room, slice_val, nothing, heard, peeks, only}
 use Rattle.aead_ciphers_base.proofs.WalkNames.{Ok, Err, IsOk, ◌↔◌}
 use Rattle.aead_ciphers_base.proofs.WalkLocals.{alone, both, gets}
 use Rattle.aead_ciphers_base.proofs.Walks.{Words, words_vals, words_typed, slice_typed, dropped, consults, ends, walked, table_of, tells, tell, premise, says}

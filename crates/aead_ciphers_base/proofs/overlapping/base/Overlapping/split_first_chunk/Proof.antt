@@ -4,8 +4,8 @@ use Rattle.aead_ciphers_base.proofs.WalkNames.{length-append, Ura, a_type, dcons
 use Rattle.aead_ciphers_base.proofs.WalkNames.{keep, fpack, use1, rewrite, done, of_opd, returns, alloc_all, pass_all, free_all, look_at, get, sets, lands_as}
 use Rattle.aead_ciphers_base.proofs.WalkNames.{Items, no, follows, Is, shows, param, layout, bounded, RattleType, Bor, types_at, plain, named_lft, nothing}
 use Rattle.aead_ciphers_base.proofs.WalkNames.{heard, peeks, Goes-dropped, Result, Ok, Err, IsOk, IfOk, IfErr, ◌↔◌}
-use Rattle.aead_ciphers_base.proofs.WalkLocals.{both, gets}
-use Rattle.aead_ciphers_base.proofs.Walks.{one, Words, words_vals, words_typed, dropped, answers, consults, ends, walked, table_of, learns, tells, tell}
+use Rattle.aead_ciphers_base.proofs.WalkLocals.{gets}
+use Rattle.aead_ciphers_base.proofs.Walks.{one, Words, words_vals, words_typed, dropped, consults, ends, walked, table_of, learns, tells, tell}
 use Rattle.aead_ciphers_base.proofs.Walks.{premise, takes, says}
 use Rattle.aead_ciphers_base.proofs.ViewWalks.{gone}
 use native.Mathlib.Nat.{lt_of_not-le}

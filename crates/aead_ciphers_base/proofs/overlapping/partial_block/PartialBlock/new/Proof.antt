@@ -3,7 +3,7 @@ use Rattle.aead_ciphers_base.proofs.WalkNames.{◌≡◌, refl, ap, ◌∙◌, L
 use Rattle.aead_ciphers_base.proofs.WalkNames.{of_list, Fits, ‵, ◌$◌, !, move, keep, drop, use1, rewrite, whole, sub, agg, stop, fld, from, load, lit}
 use Rattle.aead_ciphers_base.proofs.WalkNames.{num_lit, of_opd, bin, and_then, first, branches, skips, exec, returns, returns_within, alloc_all, pass_all}
 use Rattle.aead_ciphers_base.proofs.WalkNames.{free_all, look_at, look_in_at, get, sets, lands_as, env, usize, Is, shows, param, number, layouts, RattleType}
-use Rattle.aead_ciphers_base.proofs.WalkNames.{types_at, named_lft, slice_val, nothing, heard, peeks, only, within, Ok, Err}
+use Rattle.aead_ciphers_base.proofs.WalkNames.{types_at, named_lft, slice_val, nothing, heard, peeks, only, Ok, Err}
 use Rattle.aead_ciphers_base.proofs.WalkLocals.{alone, both, gets, reborrows}
 use Rattle.aead_ciphers_base.proofs.Walks.{Words, words_vals, words_typed, slice_typed, dropped, consults, ends, walked, table_of, premise}
 use Rattle.aead_ciphers_base.proofs.ViewWalks.{usize_laws, usize_told, boxed, held, gone, begun, buffer_word, in_buffer, making, accepts, refuses}

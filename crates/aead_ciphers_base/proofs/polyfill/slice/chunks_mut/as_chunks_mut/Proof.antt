@@ -1,6 +1,6 @@
 -- The slice is lent in two parts, the first of them in a view. This walks the code by hand.
 use Rattle.aead_ciphers_base.proofs.WalkNames.{◌≡◌, refl, ap, ◌∙◌, List, [], ◌∷◌, ◌++◌, ℕ, ◌+◌, ◌*◌, ◌/◌, ◌%◌, ◌<◌, arith, length, drop_list, length-drop}
-use Rattle.aead_ciphers_base.proofs.WalkNames.{named, a_type, a_number, inst_fn, vstruct, vcons, vnil, ‵, some, ◌$◌, !, move, keep, use1, use2, whole, sub}
+use Rattle.aead_ciphers_base.proofs.WalkNames.{named, a_type, a_number, inst_fn, vstruct, vcons, vnil, ‵, ◌$◌, !, move, keep, use1, use2, whole, sub}
 use Rattle.aead_ciphers_base.proofs.WalkNames.{agg, stop, fld, of_opd, returns, alloc_all, pass_all, free_all, look_at, get_in, sets, lands_as, Items}
 use Rattle.aead_ciphers_base.proofs.WalkNames.{follows_both, param, number, layouts, types_at, plain, named_lft, MutSlice, slice_val, nothing, heard, only}
 use Rattle.aead_ciphers_base.proofs.WalkNames.{Goes-spent_slice}

@@ -1,6 +1,6 @@
 -- The items that `as_flattened_mut` lends are handed on in a view. This walks the code by hand.
 use Rattle.aead_ciphers_base.proofs.WalkNames.{refl, ap, ◌∙◌, List, [], ◌∷◌, ◌%◌, length, named, a_type, a_number, inst_fn, Val, vstruct, vcons, vnil, ‵, ◌$◌}
-use Rattle.aead_ciphers_base.proofs.WalkNames.{ !, move, keep, use1, rewrite, whole, agg, stop, addr, returns, alloc_all, pass_all, free_all, look_at, sets}
+use Rattle.aead_ciphers_base.proofs.WalkNames.{ !, move, keep, use1, rewrite, agg, stop, addr, returns, alloc_all, pass_all, free_all, look_at, sets}
 use Rattle.aead_ciphers_base.proofs.WalkNames.{lands_as, through, Items, follows, Is, shows, param, number, layouts, types_at, plain, named_lft, MutSlice}
 use Rattle.aead_ciphers_base.proofs.WalkNames.{slice_val, nothing, heard, peeks, only, Goes-spent_ref}
 use Rattle.aead_ciphers_base.proofs.WalkLocals.{alone, gets}

@@ -1,5 +1,5 @@
 -- The items that `as_flattened_mut` lends are walked in chunks. This walks the two calls by hand.
-use Rattle.aead_ciphers_base.proofs.WalkNames.{refl, ap, ◌∙◌, [], ◌∷◌, ◌%◌, length, named, a_type, a_number, inst_fn, GName, some, ◌$◌, !, move, keep, fpack}
+use Rattle.aead_ciphers_base.proofs.WalkNames.{refl, ap, ◌∙◌, [], ◌∷◌, ◌%◌, length, named, a_type, a_number, inst_fn, GName, ◌$◌, !, move, keep, fpack}
 use Rattle.aead_ciphers_base.proofs.WalkNames.{stop, addr, returns, alloc_all, pass_all, free_all, look_at, sets, lands_as, through, Items, follows, Is}
 use Rattle.aead_ciphers_base.proofs.WalkNames.{shows, param, number, layouts, types_at, plain, named_lft, MutSlice, mut_slice_Lawful, nothing, heard, peeks}
 use Rattle.aead_ciphers_base.proofs.WalkNames.{Goes-spent_ref}
