@@ -71,7 +71,7 @@ impl Job {
                 Err(_) => Outcome::Refused,
             },
             Operation::Open(start) => {
-                match opening.open_within_len(aad, self.buffer.as_mut_slice(), start..) {
+                match opening.open_within_to_front(aad, self.buffer.as_mut_slice(), start..) {
                     Ok(count) => Outcome::Opened(count),
                     Err(_) => Outcome::Refused,
                 }

@@ -93,7 +93,7 @@ pub extern "C" fn deerlapse_open(
         return false
     };
     let nonce = Nonce::assume_unique_for_key(*nonce);
-    match key.open_within_len(nonce, Aad::from(aad), in_out, start..) {
+    match key.open_within_to_front(nonce, Aad::from(aad), in_out, start..) {
         Ok(len) => {
             *plaintext_len = len;
             true

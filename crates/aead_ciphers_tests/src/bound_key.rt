@@ -81,13 +81,13 @@ fn seals_while_there_are_nonces(rt: HostRuntime) -> Result<(), Fail> {
 #[test]
 fn a_refused_opening_spends_its_nonce(rt: HostRuntime) -> Result<(), Fail> {
     let mut tag = CASE_1.tag;
-    let opened = opening(&CASE_1, 2)?.open_in_place_len(Aad::empty(), &mut tag);
+    let opened = opening(&CASE_1, 2)?.open_in_place_to_front(Aad::empty(), &mut tag);
     holds(&rt, opened == Ok(0), "no message");
     let mut opening = opening(&CASE_1, 2)?;
     let mut short = [0; 15];
     let opened = opening.open_in_place(Aad::empty(), &mut short);
     holds(&rt, opened.is_err(), "no tag");
-    let opened = opening.open_in_place_len(Aad::empty(), &mut tag);
+    let opened = opening.open_in_place_to_front(Aad::empty(), &mut tag);
     holds(&rt, opened.is_err(), "the second nonce");
     same(&rt, &tag, &CASE_1.tag, "the tag stays");
     Ok(())
@@ -182,7 +182,7 @@ fn gcm_spec_case_4_opened_once(rt: HostRuntime) -> Result<(), Fail> {
 #[test]
 fn gcm_spec_case_4_opened_len(rt: HostRuntime) -> Result<(), Fail> {
     let mut packet = sealed(rt.alloc(), &CASE_4, &[])?;
-    let opened = opening_once(&CASE_4)?.open_within_len(aad(&CASE_4), &mut packet, 0..);
+    let opened = opening_once(&CASE_4)?.open_within_to_front(aad(&CASE_4), &mut packet, 0..);
     holds(&rt, opened == Ok(60), "the message's length");
     holds(
         &rt,

@@ -52,7 +52,7 @@ fn open_changed(sealed: &Sealed<'_>, aad: &[u8], in_out: &mut [u8]) -> Result<us
     let key = LessSafeKey::new(UnboundKey::new(&AES_128_GCM, key_bytes)?);
     let nonce = Nonce::assume_unique_for_key(sealed.nonce);
     let tag = Tag::from(sealed.tag);
-    key.open_in_place_separate_tag_len(nonce, Aad::from(aad), tag, in_out, 0..)
+    key.open_in_place_separate_tag_to_front(nonce, Aad::from(aad), tag, in_out, 0..)
 }
 
 /// A message other than the sealed one is refused, and the buffer stays.

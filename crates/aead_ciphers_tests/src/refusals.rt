@@ -98,10 +98,10 @@ fn spends_one_nonce(rt: &impl Abort, alloc: Global, len: usize) -> Result<(), Fa
     let mut whole = packet(alloc)?;
     let mut cut = packet(alloc)?;
     cut.truncate(len);
-    let opened = key.open_within_len(aad(&CASE_4), &mut cut, START..);
+    let opened = key.open_within_to_front(aad(&CASE_4), &mut cut, START..);
     holds(rt, opened.is_err(), "a refusal");
     holds(rt, whole.as_slice().starts_with(&cut), "the cut packet");
-    let opened = key.open_within_len(aad(&CASE_4), &mut whole, START..);
+    let opened = key.open_within_to_front(aad(&CASE_4), &mut whole, START..);
     holds(rt, opened == Ok(60), "the next nonce");
     Ok(())
 }

@@ -81,7 +81,7 @@ impl ReceiveKey {
         let nonce = nonce_of(&self.iv, number);
         match self
             .key
-            .open_in_place_len(nonce, Aad::from(&*header), sealed)
+            .open_in_place_to_front(nonce, Aad::from(&*header), sealed)
         {
             Ok(_) => Ok(payload_len),
             Err(_) => Err(PacketError::Refused),

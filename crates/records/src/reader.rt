@@ -84,6 +84,6 @@ impl Reader {
     {
         self.left -= 1;
         self.key
-            .open_within_len(Aad::from(header.as_slice()), from, start..)
+            .open_within_to_front(Aad::from(header.as_slice()), from, start..)
     }
 }

@@ -141,7 +141,7 @@ fn open_slice(
     let header = header_of(prefix);
     let nonce = nonce_of(prefix, number, is_last);
     let aad = Aad::from(header.as_slice());
-    match key.key.open_in_place_len(nonce, aad, chunk) {
+    match key.key.open_in_place_to_front(nonce, aad, chunk) {
         Ok(len) => Some(len),
         Err(_) => None,
     }

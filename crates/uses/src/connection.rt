@@ -94,5 +94,5 @@ pub fn receive(
     ensures used_up { key.old.sequence.count ≤ key.old.sequence.used → key.new ≡ key.old }
     ensures refused { OnErr result (message.new ≡ message.old) }
 {
-    key.open_in_place_len(Aad::from(aad), message)
+    key.open_in_place_to_front(Aad::from(aad), message)
 }

@@ -27,7 +27,7 @@ pub fn open_behind_nonce(
         return Err(Unspecified);
     };
     let nonce = Nonce::assume_unique_for_key(*nonce);
-    key.open_within_len(nonce, Aad::from(aad), message, NONCE_LEN..)
+    key.open_within_to_front(nonce, Aad::from(aad), message, NONCE_LEN..)
 }
 
 /// Opens, and writes 7 over the first byte of the plaintext: the whole buffer is known.
@@ -45,7 +45,7 @@ pub fn open_and_mark(
         ≡ slice_set (aes_decrypted key.now.bytes nonce in_out.old) 0 7) }
     ensures kept { OnErr result (in_out.new ≡ in_out.old) }
 {
-    let opened = key.open_in_place_separate_tag_len(nonce, aad, tag, in_out, 0..);
+    let opened = key.open_in_place_separate_tag_to_front(nonce, aad, tag, in_out, 0..);
     match lend_plaintext_and_rest(in_out, opened) {
         Some((plaintext, _rest)) => {
             plaintext[0] = 7;

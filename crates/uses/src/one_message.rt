@@ -41,6 +41,6 @@ pub fn open(
 {
     let key = LessSafeKey::new(UnboundKey::new(&AES_256_GCM, key_bytes)?);
     let nonce = Nonce::assume_unique_for_key(nonce);
-    key.open_in_place_separate_tag_len(nonce, Aad::from(aad), tag, in_out, 0..)?;
+    key.open_in_place_separate_tag_to_front(nonce, Aad::from(aad), tag, in_out, 0..)?;
     Ok(())
 }

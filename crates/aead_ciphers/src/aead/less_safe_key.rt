@@ -198,13 +198,13 @@ impl LessSafeKey {
         ensures plaintext { IfOk result (λ plaintext. plaintext.now
             ≡ aes_decrypted self.now.bytes nonce (drop ciphertext.start in_out.old)) }
     {
-        let opened = self.open_in_place_separate_tag_len(nonce, aad, tag, in_out, ciphertext);
+        let opened = self.open_in_place_separate_tag_to_front(nonce, aad, tag, in_out, ciphertext);
         lend_plaintext(in_out, opened)
     }
 
-    /// `open_in_place_separate_tag` that answers the length of the plaintext, which stands at the front of the buffer.
-    /// This call is this library's own.
-    pub fn open_in_place_separate_tag_len(
+    /// `open_in_place_separate_tag` that lends nothing: it leaves the plaintext at the front of the buffer, and answers
+    /// its length. This call is this library's own.
+    pub fn open_in_place_separate_tag_to_front(
         &self,
         nonce: Nonce,
         aad: Aad<'_>,
@@ -241,13 +241,13 @@ impl LessSafeKey {
             ≡ aes_decrypted self.now.bytes nonce
             (drop ciphertext_and_tag.start (take (length in_out.old - 16) in_out.old))) }
     {
-        let opened = self.open_within_len(nonce, aad, in_out, ciphertext_and_tag);
+        let opened = self.open_within_to_front(nonce, aad, in_out, ciphertext_and_tag);
         lend_plaintext(in_out, opened)
     }
 
-    /// `open_within` that answers the length of the plaintext, which stands at the front of the buffer. This call is
-    /// this library's own.
-    pub fn open_within_len(
+    /// `open_within` that lends nothing: it leaves the plaintext at the front of the buffer, and answers its length.
+    /// This call is this library's own.
+    pub fn open_within_to_front(
         &self,
         nonce: Nonce,
         aad: Aad<'_>,
@@ -262,7 +262,13 @@ impl LessSafeKey {
         match in_out.split_last_chunk_mut::<MAX_TAG_LEN>() {
             Some((before_tag, tag)) => {
                 let tag = Tag::from(*tag);
-                self.open_in_place_separate_tag_len(nonce, aad, tag, before_tag, ciphertext_and_tag)
+                self.open_in_place_separate_tag_to_front(
+                    nonce,
+                    aad,
+                    tag,
+                    before_tag,
+                    ciphertext_and_tag,
+                )
             }
             None => Err(Unspecified),
         }
@@ -281,13 +287,13 @@ impl LessSafeKey {
         ensures plaintext { IfOk result (λ plaintext. plaintext.now
             ≡ aes_decrypted self.now.bytes nonce (take (length in_out.old - 16) in_out.old)) }
     {
-        let opened = self.open_in_place_len(nonce, aad, in_out);
+        let opened = self.open_in_place_to_front(nonce, aad, in_out);
         lend_plaintext(in_out, opened)
     }
 
-    /// `open_in_place` that answers the length of the plaintext, which stands at the front of the buffer. This call is
-    /// this library's own.
-    pub fn open_in_place_len(
+    /// `open_in_place` that lends nothing: it leaves the plaintext at the front of the buffer, and answers its length.
+    /// This call is this library's own.
+    pub fn open_in_place_to_front(
         &self,
         nonce: Nonce,
         aad: Aad<'_>,
@@ -298,7 +304,7 @@ impl LessSafeKey {
         ensures count { IfOk result (λ n. n ≡ length in_out.old - 16) }
         ensures refused { OnErr result (in_out.new ≡ in_out.old) }
     {
-        self.open_within_len(nonce, aad, in_out, 0..)
+        self.open_within_to_front(nonce, aad, in_out, 0..)
     }
 }
 

@@ -59,9 +59,9 @@ impl<N: NonceSequence> BoundKey<N> for OpeningKey<N> {
 }
 
 impl<N: NonceSequence> OpeningKey<N> {
-    /// `open_within` that answers the length of the plaintext, which stands at the front of the buffer. This call is
-    /// this library's own.
-    pub fn open_within_len(
+    /// `open_within` that lends nothing: it leaves the plaintext at the front of the buffer, and answers its length.
+    /// This call is this library's own.
+    pub fn open_within_to_front(
         &mut self,
         aad: Aad<'_>,
         in_out: &mut [u8],
@@ -84,12 +84,12 @@ impl<N: NonceSequence> OpeningKey<N> {
     {
         let nonce = self.nonce_sequence.advance()?;
         self.key
-            .open_within_len(nonce, aad, in_out, ciphertext_and_tag)
+            .open_within_to_front(nonce, aad, in_out, ciphertext_and_tag)
     }
 
-    /// `open_in_place` that answers the length of the plaintext, which stands at the front of the buffer. This call is
-    /// this library's own.
-    pub fn open_in_place_len(
+    /// `open_in_place` that lends nothing: it leaves the plaintext at the front of the buffer, and answers its length.
+    /// This call is this library's own.
+    pub fn open_in_place_to_front(
         &mut self,
         aad: Aad<'_>,
         in_out: &mut [u8],
@@ -109,7 +109,7 @@ impl<N: NonceSequence> OpeningKey<N> {
         ensures stands { OnErr result
             (N.refuses self.old.sequence self.new.sequence ⊎ N.gives self.old.sequence self.new.sequence) }
     {
-        self.open_within_len(aad, in_out, 0..)
+        self.open_within_to_front(aad, in_out, 0..)
     }
 
     /// Opens the buffer from byte `ciphertext_and_tag.start` on under the next nonce, and lends the plaintext, which
@@ -139,7 +139,7 @@ impl<N: NonceSequence> OpeningKey<N> {
         ensures stands { OnErr result
             (N.refuses self.old.sequence self.new.sequence ⊎ N.gives self.old.sequence self.new.sequence) }
     {
-        let opened = self.open_within_len(aad, in_out, ciphertext_and_tag);
+        let opened = self.open_within_to_front(aad, in_out, ciphertext_and_tag);
         lend_plaintext(in_out, opened)
     }
 
@@ -163,7 +163,7 @@ impl<N: NonceSequence> OpeningKey<N> {
         ensures stands { OnErr result
             (N.refuses self.old.sequence self.new.sequence ⊎ N.gives self.old.sequence self.new.sequence) }
     {
-        let opened = self.open_in_place_len(aad, in_out);
+        let opened = self.open_in_place_to_front(aad, in_out);
         lend_plaintext(in_out, opened)
     }
 }

@@ -64,7 +64,7 @@ pub(super) fn open(
         → IsErr result × (in_out.new ≡ in_out.old) }
 {
     let (key, nonce) = key_and_nonce(algorithm, key, nonce)?;
-    key.open_within_len(nonce, Aad::from(aad), in_out, start..)
+    key.open_within_to_front(nonce, Aad::from(aad), in_out, start..)
 }
 
 /// The mask of a sample.

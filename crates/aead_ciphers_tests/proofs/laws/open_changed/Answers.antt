@@ -29,5 +29,5 @@ returns c tag_is some same_aad same_text one =
     let fits : Fits (length (aad_bytes c.from.result)) (length old - 0) =
     record { aad = omega (arith, ap length aad_is); message = omega arith } in
     let refused =
-    c.open_in_place_separate_tag_len.ensures.opened.false_tag (omega arith) fits (λ e. differ (sym tag_is ∙ sym tag_was ∙ e ∙ tag_now)) in
-    (is_refusal c.open_in_place_separate_tag_len.result refused.0, refused.1)
+    c.open_in_place_separate_tag_to_front.ensures.opened.false_tag (omega arith) fits (λ e. differ (sym tag_is ∙ sym tag_was ∙ e ∙ tag_now)) in
+    (is_refusal c.open_in_place_separate_tag_to_front.result refused.0, refused.1)

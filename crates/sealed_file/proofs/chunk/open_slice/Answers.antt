@@ -10,6 +10,6 @@ returns-in-Ok-clause-accepted c =
 
 pub returns-in-Ok-clause-opened : goal.returns-in-Ok-clause-opened
 returns-in-Ok-clause-opened c =
-    ap (λ (n : ℕ). take n c.open_in_place_len.new.in_out) c.in-Ok.ensures.count
+    ap (λ (n : ℕ). take n c.open_in_place_to_front.new.in_out) c.in-Ok.ensures.count
     ∙ opened_message _ _ _ _ _ _ _ _ _ c.key.view_is c.nonce_of-nonce.ensures
     (c.from-aad.ensures ∙ c.as_slice.ensures ∙ c.header_of-header.ensures) c.in-Ok.ensures.opened

@@ -16,7 +16,7 @@ whole (Err e) is fronts = absurd (let h = is in cc)
 
 pub returns-in-Some-clause-marked : goal.returns-in-Some-clause-marked
 returns-in-Some-clause-marked c =
-    let o = c.open_in_place_separate_tag_len-opened in
+    let o = c.open_in_place_separate_tag_to_front-opened in
     let cipher = aes c.args.key.now.bytes in
     let parts = whole o.result (c.in-Some.ensures.accepted.0 refl) (opened_fronts o.result o.ensures.opened o.ensures.count) in
     let plain : c.in-Some.plaintext.now ≡ decrypted cipher c.args.nonce c.args.in_out.now = c.in-Some.ensures.value.0 ∙ parts.0 in

@@ -6,7 +6,7 @@ use Rattle.quic_packets.proofs.OpenLemmas.{accepted, refused}
 use Rattle.quic_packets.proofs.receive.ReceiveKey.open.Goals as goal
 
 ok : (c : goal.In-Ok) → IsGenuine c.args.self.now.bytes c.args.self.now.iv c.args.number c.args.header_len c.args.packet.now
-    × (c.split_at_mut-header.result.0.now ++ c.open_in_place_len.new.in_out
+    × (c.split_at_mut-header.result.0.now ++ c.open_in_place_to_front.new.in_out
     ≡ opened_packet c.args.self.now.bytes c.args.self.now.iv c.args.number c.args.header_len c.args.packet.now)
 ok c =
     let key = ap (λ (k : Receiving). k.bytes) c.self.view_is in
@@ -16,7 +16,7 @@ ok c =
     _ _ _ _ _ key nonce (c.from.ensures ∙ parts.front) parts.back parts.front (c.in_ok-payload_len.ensures.accepted.0 refl) _ c.in-Ok.ensures.opened
 
 err : (c : goal.In-Err) → ¬ IsGenuine c.args.self.now.bytes c.args.self.now.iv c.args.number c.args.header_len c.args.packet.now
-    × (c.split_at_mut-header.result.0.now ++ c.open_in_place_len.new.in_out ≡ c.args.packet.now)
+    × (c.split_at_mut-header.result.0.now ++ c.open_in_place_to_front.new.in_out ≡ c.args.packet.now)
 err c =
     let key = ap (λ (k : Receiving). k.bytes) c.self.view_is in
     let nonce = c.nonce_of-nonce.ensures ∙ ap (λ (k : Receiving). xored_nonce k.iv c.args.number) c.self.view_is in

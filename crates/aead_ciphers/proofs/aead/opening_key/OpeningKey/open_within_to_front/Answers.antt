@@ -2,7 +2,7 @@ use Rattle.std.proofs.Common.{refl}
 use Rattle.aead_ciphers.specs.Steps.{opened}
 use Rattle.aead_ciphers.proofs.NextNonce.{plaintext_next}
 use Rattle.aead_ciphers.proofs.OpeningCases.{no_nonce_open}
-use Rattle.aead_ciphers.proofs.aead.opening_key.OpeningKey.open_within_len.Goals as goal
+use Rattle.aead_ciphers.proofs.aead.opening_key.OpeningKey.open_within_to_front.Goals as goal
 
 pub returns-in_err-nonce-clause-step : goal.returns-in_err-nonce-clause-step
 returns-in_err-nonce-clause-step g c =
@@ -10,9 +10,9 @@ returns-in_err-nonce-clause-step g c =
 
 pub returns-clause-step : goal.returns-clause-step
 returns-clause-step g c =
-    rw (← c.self.view_is) (opened c.in_ok-nonce.nonce _ c.in_ok-nonce.ensures.ok c.open_within_len.ensures.opened)
+    rw (← c.self.view_is) (opened c.in_ok-nonce.nonce _ c.in_ok-nonce.ensures.ok c.open_within_to_front.ensures.opened)
 
 pub returns-clause-plaintext : goal.returns-clause-plaintext
 returns-clause-plaintext g c =
-    rw (← c.self.view_is) (plaintext_next _ _ _ _ _ _ _ c.open_within_len.result c.in_ok-nonce.ensures.next c.open_within_len.ensures.opened
-    c.open_within_len.ensures.count)
+    rw (← c.self.view_is) (plaintext_next _ _ _ _ _ _ _ c.open_within_to_front.result c.in_ok-nonce.ensures.next c.open_within_to_front.ensures.opened
+    c.open_within_to_front.ensures.count)
