@@ -27,6 +27,8 @@ mod chunks;
 #[cfg(test)]
 mod errors;
 #[cfg(test)]
+mod examples;
+#[cfg(test)]
 mod gcm;
 #[cfg(test)]
 mod items;
@@ -39,11 +41,11 @@ mod memory;
 #[cfg(test)]
 mod overlapping;
 #[cfg(test)]
+mod packets;
+#[cfg(test)]
 mod quic;
 #[cfg(test)]
-mod quic_packets;
-#[cfg(test)]
-mod records;
+mod record_layer;
 #[cfg(test)]
 mod reference;
 #[cfg(test)]
@@ -54,7 +56,5 @@ mod sequences;
 mod session;
 #[cfg(test)]
 mod streams;
-#[cfg(test)]
-mod uses;
 #[cfg(test)]
 mod values;
