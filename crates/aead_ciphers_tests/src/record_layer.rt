@@ -152,40 +152,48 @@ fn refusal(
     }
 }
 
+/// Bytes in hex, and why they are refused: none is one record, but for the last two, which aren't the next one.
+const REFUSED: [(&str, RecordError); 11] = [
+    ("17030300", RecordError::WrongLength),
+    (
+        "1603030016fb09cba2090d58e73c31563352433d33c8bfd9f986eb",
+        RecordError::NotApplicationData,
+    ),
+    (
+        "1703010016fb09cba2090d58e73c31563352433d33c8bfd9f986eb",
+        RecordError::NotApplicationData,
+    ),
+    (
+        "1703030016fb09cba2090d58e73c31563352433d33c8bfd9f986",
+        RecordError::WrongLength,
+    ),
+    (
+        "1703030016fb09cba2090d58e73c31563352433d33c8bfd9f986eb00",
+        RecordError::WrongLength,
+    ),
+    (
+        "1703030010fb09cba2090d58e73c31563352433d33",
+        RecordError::EncryptedRecordTooShort,
+    ),
+    ("1703034012", RecordError::InnerPlaintextTooLong),
+    ("1703034100", RecordError::InnerPlaintextTooLong),
+    ("1703034101", RecordError::EncryptedRecordTooLong),
+    (
+        "1703030011d67694b177740aedfba37ae58563153ae0",
+        RecordError::Refused,
+    ),
+    (
+        "1703030016fb09cba2090d58e73c31563352433d33c8bfd9f986eb",
+        RecordError::Refused,
+    ),
+];
+
 /// Bytes that aren't one record, and a record that isn't the next one, behind which the number is spent.
 #[test]
 fn no_record(rt: HostRuntime) -> Result<(), Fail> {
     let alloc = rt.alloc();
     let mut reader = Reader::new(&AES_128_GCM, &KEY[..16], IV)?;
-    let cases = [
-        ("17030300", RecordError::WrongLength),
-        (
-            "1603030016fb09cba2090d58e73c31563352433d33c8bfd9f986eb",
-            RecordError::NotApplicationData,
-        ),
-        (
-            "1703010016fb09cba2090d58e73c31563352433d33c8bfd9f986eb",
-            RecordError::NotApplicationData,
-        ),
-        (
-            "1703030016fb09cba2090d58e73c31563352433d33c8bfd9f986",
-            RecordError::WrongLength,
-        ),
-        (
-            "1703030016fb09cba2090d58e73c31563352433d33c8bfd9f986eb00",
-            RecordError::WrongLength,
-        ),
-        (
-            "1703030010fb09cba2090d58e73c31563352433d33",
-            RecordError::EncryptedRecordTooShort,
-        ),
-        ("1703034012", RecordError::InnerPlaintextTooLong),
-        ("1703034100", RecordError::InnerPlaintextTooLong),
-        ("1703034101", RecordError::EncryptedRecordTooLong),
-        (OF_AES_128[1].record, RecordError::Refused),
-        (OF_AES_128[0].record, RecordError::Refused),
-    ];
-    for (text, expected) in cases {
+    for (text, expected) in REFUSED {
         let mut bytes = hex::decode(alloc, text)?;
         assert_eq!(rt;
             refusal(&rt, rt.alloc(), &mut reader, bytes.as_mut_slice())?,
@@ -262,46 +270,47 @@ fn a_key_of_another_length(rt: HostRuntime) {
     assert!(rt; Reader::new(&AES_128_GCM, &KEY, IV).is_err());
 }
 
+const TEXTS: [(RecordError, &str); 11] = [
+    (
+        RecordError::ContentTooLong,
+        "the content and its padding have more than 2^14 bytes",
+    ),
+    (RecordError::ContentTypeZero, "the content type is zero"),
+    (
+        RecordError::WrongLength,
+        "the record's length isn't the one that its header gives",
+    ),
+    (
+        RecordError::NotApplicationData,
+        "the header isn't that of application data",
+    ),
+    (
+        RecordError::EncryptedRecordTooLong,
+        "the encrypted record has more than 2^14 + 256 bytes",
+    ),
+    (
+        RecordError::InnerPlaintextTooLong,
+        "the inner plaintext has more than 2^14 + 1 bytes",
+    ),
+    (
+        RecordError::EncryptedRecordTooShort,
+        "the encrypted record has fewer than 17 bytes",
+    ),
+    (RecordError::Refused, "the record's tag is another"),
+    (
+        RecordError::NoContentType,
+        "the inner plaintext has no content type",
+    ),
+    (
+        RecordError::SequenceEnded,
+        "the sequence of record numbers has ended",
+    ),
+    (RecordError::OutOfMemory, "no memory for the record"),
+];
+
 #[test]
 fn texts(rt: HostRuntime) -> Result<(), Fail> {
-    let texts = [
-        (
-            RecordError::ContentTooLong,
-            "the content and its padding have more than 2^14 bytes",
-        ),
-        (RecordError::ContentTypeZero, "the content type is zero"),
-        (
-            RecordError::WrongLength,
-            "the record's length isn't the one that its header gives",
-        ),
-        (
-            RecordError::NotApplicationData,
-            "the header isn't that of application data",
-        ),
-        (
-            RecordError::EncryptedRecordTooLong,
-            "the encrypted record has more than 2^14 + 256 bytes",
-        ),
-        (
-            RecordError::InnerPlaintextTooLong,
-            "the inner plaintext has more than 2^14 + 1 bytes",
-        ),
-        (
-            RecordError::EncryptedRecordTooShort,
-            "the encrypted record has fewer than 17 bytes",
-        ),
-        (RecordError::Refused, "the record's tag is another"),
-        (
-            RecordError::NoContentType,
-            "the inner plaintext has no content type",
-        ),
-        (
-            RecordError::SequenceEnded,
-            "the sequence of record numbers has ended",
-        ),
-        (RecordError::OutOfMemory, "no memory for the record"),
-    ];
-    for (error, text) in texts {
+    for (error, text) in TEXTS {
         assert_eq!(rt; format!(in rt.alloc(); "{error}")?.as_str(), text);
     }
     Ok(())
