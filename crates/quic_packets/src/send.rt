@@ -9,9 +9,7 @@ ghost use Rattle.quic_packets.specs.Packet.{CarriesNumber, HasNumber, HasPayload
 use crate::error::PacketError;
 use crate::header::number_len;
 use crate::packet::{NUMBERS_END, payload_len};
-use aead_ciphers::aead::{
-    Aad, Algorithm, BoundKey, NONCE_LEN, SealingKey, UnboundKey, XoredSequence,
-};
+use aead_ciphers::aead::{Algorithm, BoundKey, NONCE_LEN, SealingKey, UnboundKey, XoredSequence};
 use std::marker::Model;
 use std::ops::Range;
 
@@ -105,16 +103,10 @@ impl SendKey {
         ensures key_kept { OnErr result (self.new ≡ self.old) }
     {
         let header_len = number.end;
-        let payload_len = payload_len(packet, header_len)?;
+        payload_len(packet, header_len)?;
         check_number(packet, number, self.next)?;
-        let (header, rest) = packet.split_at_mut(header_len);
-        let (payload, room) = rest.split_at_mut(payload_len);
-        match self
-            .key
-            .seal_in_place_separate_tag(Aad::from(&*header), payload)
-        {
-            Ok(tag) => {
-                room.copy_from_slice(tag.as_ref());
+        match self.key.seal_packet_in_place(packet, header_len) {
+            Ok(()) => {
                 let number = self.next;
                 self.next += 1;
                 Ok(number)
