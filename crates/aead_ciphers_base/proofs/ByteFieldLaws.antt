@@ -1,12 +1,15 @@
 -- The laws of the bytes as a field.
 use Rattle.std.proofs.Common.{◌≡◌, ℕ, zero, suc, ◌*◌, ◌/◌, ◌%◌, ◌^◌, ◌<◌, true, List, [], ◌∷◌, length, refl, sym, ap, ◌∙◌, arith, bit_xor}
+use Rattle.std.proofs.Common.{unwrap_or}
 use Rattle.std.specs.Prelude.{◌==◌}
 use Rattle.std.proofs.Math.Pow.{pow-lt}
+use Rattle.std.proofs.lemmas.Bool.{eqb-true, eq-eqb, false_from_ne_true}
 use Rattle.aead_ciphers_base.specs.Polynomial.{field_product, polynomial_product, reduced, without_highests, without_highest}
 use Rattle.aead_ciphers_base.specs.ByteField.{bits_of, value_of, mul8, inv, affine, sbox}
 use Rattle.aead_ciphers_base.proofs.PolynomialSums.{polynomial_product-add_left, polynomial_product-add_right, reduced-add, length-polynomial_product}
 use Rattle.aead_ciphers_base.proofs.PolynomialSums.{length-reduced}
-use Rattle.aead_ciphers_base.proofs.NumberBits.{bits_of-xor, value_of-add, value_of-lt, IsAdditive, same_additive, all_below, all_below_at, same_below}
+use Rattle.aead_ciphers_base.proofs.NumberBits.{bits_of-xor, value_of-add, value_of-lt, IsAdditive, same_additive}
+use Rattle.aead_ciphers_base.proofs.NumberBits.{all_below, all_below_at, same_below, find_first}
 
 -- `unfolding field` lets `refl` compute in the field
 unfoldable pub field : Unit {0}
@@ -113,6 +116,22 @@ mul8_assoc x y z hx hy hz =
     same_additive (λ a. mul8 (mul8 a y) z) (λ a. mul8 a (mul8 y z))
     (after (λ t. mul8 t z) (λ a. mul8 a y) (mul8-xor_left z) (mul8-xor_left y)) (mul8-xor_left (mul8 y z)) 8
     (λ i lt. power_assoc i y z lt hy hz) x hx
+
+-- ---- the inverse
+
+-- whatever has product 1 with x is the least that has
+pub inv_is : (x y : ℕ) → x < 256 → y < 256 → mul8 x y ≡ 1 → inv x ≡ y
+unfolding inv
+inv_is x y hx hy one =
+    ap (λ o. unwrap_or o 0) (find_first (λ z. mul8 x z == 1) 0 256 y (omega arith) hy (eq-eqb (mul8 x y) 1 one)
+    (λ z lt.
+    false_from_ne_true (mul8 x z == 1)
+    (λ h.
+    let hz : z < 256 = omega arith in
+    let same : z ≡ y =
+    sym (one-mul8 z hz) ∙ ap (λ t. mul8 t z) (sym one ∙ mul8_comm x y hx hy) ∙ mul8_assoc y x z hy hx hz
+    ∙ ap (mul8 y) (eqb-true (mul8 x z) 1 h) ∙ mul8_comm y 1 hy (omega arith) ∙ one-mul8 y hy in
+    omega arith)))
 
 -- ---- the products by {02} and {03}
 
