@@ -1,11 +1,15 @@
 -- The laws of the bytes as a field.
-use Rattle.std.proofs.Common.{◌≡◌, ℕ, ◌*◌, ◌/◌, ◌%◌, ◌^◌, ◌<◌, Bool, true, List, [], ◌∷◌, length, refl, sym, ap, ◌∙◌, arith, bit_xor}
+use Rattle.std.proofs.Common.{◌≡◌, ℕ, zero, suc, ◌*◌, ◌/◌, ◌%◌, ◌^◌, ◌<◌, true, List, [], ◌∷◌, length, refl, sym, ap, ◌∙◌, arith, bit_xor}
+use Rattle.std.proofs.Common.{unwrap_or}
 use Rattle.std.specs.Prelude.{◌==◌}
+use Rattle.std.proofs.Math.Pow.{pow-lt}
+use Rattle.std.proofs.lemmas.Bool.{eqb-true, eq-eqb, false_from_ne_true}
 use Rattle.aead_ciphers_base.specs.Polynomial.{field_product, polynomial_product, reduced, without_highests, without_highest}
 use Rattle.aead_ciphers_base.specs.ByteField.{bits_of, value_of, mul8, inv, affine, sbox}
 use Rattle.aead_ciphers_base.proofs.PolynomialSums.{polynomial_product-add_left, polynomial_product-add_right, reduced-add, length-polynomial_product}
 use Rattle.aead_ciphers_base.proofs.PolynomialSums.{length-reduced}
-use Rattle.aead_ciphers_base.proofs.NumberBits.{bits_of-xor, value_of-add, value_of-lt, IsAdditive, same_additive, all_below, all_below_at, same_below}
+use Rattle.aead_ciphers_base.proofs.NumberBits.{bits_of-xor, value_of-add, value_of-lt, IsAdditive, same_additive}
+use Rattle.aead_ciphers_base.proofs.NumberBits.{all_below, all_below_at, same_below, find_first}
 
 -- `unfolding field` lets `refl` compute in the field
 unfoldable pub field : Unit {0}
@@ -48,20 +52,26 @@ mul8-xor_left y x z =
 
 -- ---- laws by the 8 powers of two
 
+-- functions that keep the sums of both arguments are the same if they are at powers of two
+same_products : (f g : ℕ → ℕ → ℕ) → ((y : ℕ) → IsAdditive (λ x. f x y)) → ((y : ℕ) → IsAdditive (λ x. g x y))
+    → ((x : ℕ) → IsAdditive (f x)) → ((x : ℕ) → IsAdditive (g x))
+    → all_below (λ i. all_below (λ j. f (2 ^ i) (2 ^ j) == g (2 ^ i) (2 ^ j)) 8) 8 ≡ true → (x y : ℕ) → x < 256 → y < 256 → f x y ≡ g x y
+same_products f g f_left g_left f_right g_right test x y hx hy =
+    same_additive (λ a. f a y) (λ a. g a y) (f_left y) (g_left y) 8
+    (λ i lt.
+    same_additive (f (2 ^ i)) (g (2 ^ i)) (f_right (2 ^ i)) (g_right (2 ^ i)) 8
+    (λ j below.
+    same_below (λ b. f (2 ^ i) (2 ^ b)) (λ b. g (2 ^ i) (2 ^ b)) 8 j
+    (all_below_at (λ a. all_below (λ b. f (2 ^ a) (2 ^ b) == g (2 ^ a) (2 ^ b)) 8) 8 i test lt) below)
+    y hy)
+    x hx
+
 comm_test : all_below (λ i. all_below (λ j. mul8 (2 ^ i) (2 ^ j) == mul8 (2 ^ j) (2 ^ i)) 8) 8 ≡ true
 unfolding field
 comm_test = refl
 
 pub mul8_comm : (x y : ℕ) → x < 256 → y < 256 → mul8 x y ≡ mul8 y x
-mul8_comm x y hx hy =
-    same_additive (λ a. mul8 a y) (λ a. mul8 y a) (mul8-xor_left y) (mul8-xor_right y) 8
-    (λ i lt.
-    same_additive (λ b. mul8 (2 ^ i) b) (λ b. mul8 b (2 ^ i)) (mul8-xor_right (2 ^ i)) (mul8-xor_left (2 ^ i)) 8
-    (λ j below.
-    same_below (λ b. mul8 (2 ^ i) (2 ^ b)) (λ b. mul8 (2 ^ b) (2 ^ i)) 8 j
-    (all_below_at (λ a. all_below (λ b. mul8 (2 ^ a) (2 ^ b) == mul8 (2 ^ b) (2 ^ a)) 8) 8 i comm_test lt) below)
-    y hy)
-    x hx
+mul8_comm x y hx hy = same_products mul8 (λ a b. mul8 b a) mul8-xor_left mul8-xor_right mul8-xor_right mul8-xor_left comm_test x y hx hy
 
 one_test : all_below (λ i. mul8 1 (2 ^ i) == 2 ^ i) 8 ≡ true
 unfolding field
@@ -70,35 +80,58 @@ one_test = refl
 pub one-mul8 : (x : ℕ) → x < 256 → mul8 1 x ≡ x
 one-mul8 x h = same_additive (mul8 1) (λ a. a) (mul8-xor_right 1) (λ a b. refl) 8 (λ i lt. same_below (λ a. mul8 1 (2 ^ a)) (λ a. 2 ^ a) 8 i one_test lt) x h
 
-abbrev associates : ℕ → ℕ → ℕ → Bool
-associates i j k = mul8 (mul8 (2 ^ i) (2 ^ j)) (2 ^ k) == mul8 (2 ^ i) (mul8 (2 ^ j) (2 ^ k))
-
-assoc_test : all_below (λ i. all_below (λ j. all_below (λ k. associates i j k) 8) 8) 8 ≡ true
-unfolding field
-assoc_test = refl
-
 -- a function that keeps sums, after another
 after : (f g : ℕ → ℕ) → IsAdditive f → IsAdditive g → IsAdditive (λ x. f (g x))
 after f g hf hg a b = ap f (hg a b) ∙ hf (g a) (g b)
+
+-- ---- associativity: with {02} as the first factor, with its powers, and with their sums
+
+twice_test : all_below (λ i. all_below (λ j. mul8 (mul8 2 (2 ^ i)) (2 ^ j) == mul8 2 (mul8 (2 ^ i) (2 ^ j))) 8) 8 ≡ true
+unfolding field
+twice_test = refl
+
+twice_assoc : (y z : ℕ) → y < 256 → z < 256 → mul8 (mul8 2 y) z ≡ mul8 2 (mul8 y z)
+twice_assoc y z hy hz =
+    same_products (λ a b. mul8 (mul8 2 a) b) (λ a b. mul8 2 (mul8 a b))
+    (λ b. after (λ t. mul8 t b) (mul8 2) (mul8-xor_left b) (mul8-xor_right 2)) (λ b. after (mul8 2) (λ a. mul8 a b) (mul8-xor_right 2) (mul8-xor_left b))
+    (λ a. mul8-xor_right (mul8 2 a)) (λ a. after (mul8 2) (mul8 a) (mul8-xor_right 2) (mul8-xor_right a)) twice_test y z hy hz
+
+double_test : all_below (λ i. 2 ^ suc i == mul8 2 (2 ^ i)) 7 ≡ true
+unfolding field
+double_test = refl
+
+power_assoc : (i y z : ℕ) → i < 8 → y < 256 → z < 256 → mul8 (mul8 (2 ^ i) y) z ≡ mul8 (2 ^ i) (mul8 y z)
+power_assoc zero y z h hy hz = ap (λ t. mul8 t z) (one-mul8 y hy) ∙ sym (one-mul8 (mul8 y z) (mul8_lt y z))
+power_assoc (suc i) y z h hy hz =
+    let lt : i < 8 = omega arith in
+    let double = same_below (λ a. 2 ^ suc a) (λ a. mul8 2 (2 ^ a)) 7 i double_test (omega arith) in
+    ap (λ t. mul8 (mul8 t y) z) double
+    ∙ ap (λ t. mul8 t z) (twice_assoc (2 ^ i) y (pow-lt lt) hy)
+    ∙ twice_assoc (mul8 (2 ^ i) y) z (mul8_lt (2 ^ i) y) hz
+    ∙ ap (mul8 2) (power_assoc i y z lt hy hz)
+    ∙ sym (ap (λ t. mul8 t (mul8 y z)) double ∙ twice_assoc (2 ^ i) (mul8 y z) (pow-lt lt) (mul8_lt y z))
 
 pub mul8_assoc : (x y z : ℕ) → x < 256 → y < 256 → z < 256 → mul8 (mul8 x y) z ≡ mul8 x (mul8 y z)
 mul8_assoc x y z hx hy hz =
     same_additive (λ a. mul8 (mul8 a y) z) (λ a. mul8 a (mul8 y z))
     (after (λ t. mul8 t z) (λ a. mul8 a y) (mul8-xor_left z) (mul8-xor_left y)) (mul8-xor_left (mul8 y z)) 8
-    (λ i lt_i.
-    same_additive (λ b. mul8 (mul8 (2 ^ i) b) z) (λ b. mul8 (2 ^ i) (mul8 b z))
-    (after (λ t. mul8 t z) (mul8 (2 ^ i)) (mul8-xor_left z) (mul8-xor_right (2 ^ i)))
-    (after (mul8 (2 ^ i)) (λ b. mul8 b z) (mul8-xor_right (2 ^ i)) (mul8-xor_left z)) 8
-    (λ j lt_j.
-    same_additive (λ c. mul8 (mul8 (2 ^ i) (2 ^ j)) c) (λ c. mul8 (2 ^ i) (mul8 (2 ^ j) c))
-    (mul8-xor_right (mul8 (2 ^ i) (2 ^ j))) (after (mul8 (2 ^ i)) (mul8 (2 ^ j)) (mul8-xor_right (2 ^ i)) (mul8-xor_right (2 ^ j))) 8
-    (λ k lt_k.
-    same_below (λ c. mul8 (mul8 (2 ^ i) (2 ^ j)) (2 ^ c)) (λ c. mul8 (2 ^ i) (mul8 (2 ^ j) (2 ^ c))) 8 k
-    (all_below_at (λ b. all_below (λ c. associates i b c) 8) 8 j
-    (all_below_at (λ a. all_below (λ b. all_below (λ c. associates a b c) 8) 8) 8 i assoc_test lt_i) lt_j) lt_k)
-    z hz)
-    y hy)
-    x hx
+    (λ i lt. power_assoc i y z lt hy hz) x hx
+
+-- ---- the inverse
+
+-- whatever has product 1 with x is the least that has
+pub inv_is : (x y : ℕ) → x < 256 → y < 256 → mul8 x y ≡ 1 → inv x ≡ y
+unfolding inv
+inv_is x y hx hy one =
+    ap (λ o. unwrap_or o 0) (find_first (λ z. mul8 x z == 1) 0 256 y (omega arith) hy (eq-eqb (mul8 x y) 1 one)
+    (λ z lt.
+    false_from_ne_true (mul8 x z == 1)
+    (λ h.
+    let hz : z < 256 = omega arith in
+    let same : z ≡ y =
+    sym (one-mul8 z hz) ∙ ap (λ t. mul8 t z) (sym one ∙ mul8_comm x y hx hy) ∙ mul8_assoc y x z hy hx hz
+    ∙ ap (mul8 y) (eqb-true (mul8 x z) 1 h) ∙ mul8_comm y 1 hy (omega arith) ∙ one-mul8 y hy in
+    omega arith)))
 
 -- ---- the products by {02} and {03}
 
@@ -106,12 +139,8 @@ two_test : all_below (λ b. bit_xor (b * 2 ^ 1 % 2 ^ 8) (b / 2 ^ 7 * 0x1b) == mu
 unfolding field
 two_test = refl
 
-three_test : all_below (λ b. bit_xor (mul8 2 b) b == mul8 3 b) 256 ≡ true
-unfolding field
-three_test = refl
-
 pub two_is : (b : ℕ) → b < 256 → bit_xor (b * 2 ^ 1 % 2 ^ 8) (b / 2 ^ 7 * 0x1b) ≡ mul8 2 b
 two_is b h = same_below (λ t. bit_xor (t * 2 ^ 1 % 2 ^ 8) (t / 2 ^ 7 * 0x1b)) (mul8 2) 256 b two_test h
 
 pub three_is : (b : ℕ) → b < 256 → bit_xor (mul8 2 b) b ≡ mul8 3 b
-three_is b h = same_below (λ t. bit_xor (mul8 2 t) t) (mul8 3) 256 b three_test h
+three_is b h = sym (mul8-xor_left b 2 1 ∙ ap (bit_xor (mul8 2 b)) (one-mul8 b h))

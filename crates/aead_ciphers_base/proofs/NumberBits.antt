@@ -1,10 +1,11 @@
 -- Numbers and their bits: both ways between them keep sums.
 use Rattle.std.proofs.Common.{◌≡◌, ℕ, zero, suc, ◌+◌, ◌-◌, ◌*◌, ◌/◌, ◌%◌, ◌^◌, ◌<◌, ◌≤◌, Bool, true, false, ◌&&◌, List, [], ◌∷◌, length, refl, sym, ap, ap₂}
-use Rattle.std.proofs.Common.{◌∙◌, arith, inl, inr, bit_xor, if◌then◌else◌, pow-suc}
+use Rattle.std.proofs.Common.{◌∙◌, arith, inl, inr, bit_xor, if◌then◌else◌, pow-suc, find, Some}
 use Rattle.std.specs.Prelude.{◌==◌}
+use Rattle.std.specs.List.{range_with_len}
 use Rattle.std.specs.Int.Bits.{xor_shr, xor_mod, xor_block, xor_shifted, xor_self as bit_xor_self}
 use Rattle.std.proofs.lemmas.Nat.{field_of, mod-pow-add}
-use Rattle.std.proofs.lemmas.Bool.{cases_lt, and_parts, eqb-true}
+use Rattle.std.proofs.lemmas.Bool.{cases_eq, cases_lt, and_parts, cond-true, cond-false, eqb-true}
 use Rattle.aead_ciphers_base.specs.Polynomial.{◌xor◌}
 use Rattle.aead_ciphers_base.specs.ByteField.{bits_of, value_of}
 use Rattle.aead_ciphers_base.proofs.PolynomialSums.{polynomial_sum}
@@ -136,6 +137,16 @@ all_below_at p (suc n) k h lt =
 
 pub same_below : (f g : ℕ → ℕ) (n k : ℕ) → all_below (λ i. f i == g i) n ≡ true → k < n → f k ≡ g k
 same_below f g n k h lt = eqb-true (f k) (g k) (all_below_at (λ i. f i == g i) n k h lt)
+
+-- the least number that passes is found
+pub find_first : (p : ℕ → Bool) (a n v : ℕ) → a ≤ v → v < a + n → p v ≡ true → ((y : ℕ) → y < v → p y ≡ false) → find p (range_with_len a n) ≡ Some v
+find_first p a zero v lo hi passes fails = absurd (omega arith)
+find_first p a (suc n) v lo hi passes fails = elim (cases_eq a v) [
+  | inl same ↦ cond-true (p a) (Some a) (find p (range_with_len (a + 1) n)) (ap p same ∙ passes) ∙ ap (λ x. Some x) same
+  | inr other ↦
+      cond-false (p a) (Some a) (find p (range_with_len (a + 1) n)) (fails a (omega arith))
+      ∙ find_first p (a + 1) n v (omega arith) (omega arith) passes fails
+]
 
 -- the bits from k on do not matter
 pub bits_of-mod : (k n : ℕ) → bits_of k (n % 2 ^ k) ≡ bits_of k n

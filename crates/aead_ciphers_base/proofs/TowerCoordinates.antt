@@ -1,24 +1,27 @@
 -- The operations of `aes::tower` on the coordinates at one place.
-use Rattle.std.proofs.Common.{◌≡◌, ℕ, ◌^◌, Bool, true, ◌&&◌, List, [], ◌∷◌, ◌++◌, length, take, drop, refl, sym, ap, ◌∙◌, find, unwrap_or, slice_index}
+use Rattle.std.proofs.Common.{◌≡◌, ℕ, ◌/◌, ◌^◌, Bool, true, ◌&&◌, ◌||◌, inl, inr, List, [], ◌∷◌, ◌++◌, length, take, drop, refl, sym, ap, ◌∙◌}
+use Rattle.std.proofs.Common.{arith, find, unwrap_or, slice_index}
 use Rattle.std.specs.Prelude.{◌==◌}
 use Rattle.std.specs.Int.{bit_at}
 use Rattle.std.specs.List.{range_with_len}
+use Rattle.std.proofs.lemmas.Bool.{and_parts, or_cases, eqb-true}
 use Rattle.aead_ciphers_base.specs.Polynomial.{◌xor◌, coefficient}
 use Rattle.aead_ciphers_base.specs.ByteField.{bits_of, value_of, mul8, inv, affine}
 use Rattle.aead_ciphers_base.specs.Planes.{plane_byte, plane_polynomial}
 use Rattle.aead_ciphers_base.specs.Tower.{element, basis_4, basis_16, basis_256, plane_element}
-use Rattle.aead_ciphers_base.proofs.NumberBits.{all_below, same_below, bits_of-value_of, value_of-lt}
-use Rattle.aead_ciphers_base.proofs.ByteFieldLaws.{field}
+use Rattle.aead_ciphers_base.proofs.NumberBits.{all_below, all_below_at, bits_of-value_of, value_of-lt}
+use Rattle.aead_ciphers_base.proofs.ByteFieldLaws.{field, inv_is}
 use Rattle.aead_ciphers_base.proofs.FastProduct.{by_fast_mul8}
+
+-- a test passes at k bits if it does at those of each number below 2^k
+all_at_bits : (p : List Bool → Bool) (q : List Bool) → all_below (λ n. p (bits_of (length q) n)) (2 ^ length q) ≡ true → p q ≡ true
+all_at_bits p q test =
+    ap p (sym (bits_of-value_of q)) ∙ all_below_at (λ n. p (bits_of (length q) n)) (2 ^ length q) (value_of q) test (value_of-lt q)
 
 -- two functions agree at k bits if they do at those of each number below 2^k
 same_at_bits : (f g : List Bool → ℕ) (q : List Bool)
     → all_below (λ n. f (bits_of (length q) n) == g (bits_of (length q) n)) (2 ^ length q) ≡ true → f q ≡ g q
-same_at_bits f g q test =
-    let back = bits_of-value_of q in
-    ap f (sym back)
-    ∙ same_below (λ n. f (bits_of (length q) n)) (λ n. g (bits_of (length q) n)) (2 ^ length q) (value_of q) test (value_of-lt q)
-    ∙ ap g back
+same_at_bits f g q test = eqb-true (f q) (g q) (all_at_bits (λ r. f r == g r) q test)
 
 -- ---- coordinates
 
@@ -125,6 +128,22 @@ product_16_is a b p =
 abbrev inv_by : (ℕ → ℕ → ℕ) → ℕ → ℕ
 inv_by mul x = unwrap_or (find (λ y. mul x y == 1) (range_with_len 0 256)) 0
 
+-- y is a byte with product 1, or else the least y with product 1
+abbrev inverts : (ℕ → ℕ → ℕ) → ℕ → ℕ → Bool
+inverts mul x y = x / 256 == 0 && y / 256 == 0 && (mul x y == 1 || y == inv_by mul x)
+
+inverts_is : (x y : ℕ) → inverts mul8 x y ≡ true → y ≡ inv x
+unfolding inv
+inverts_is x y h =
+    let parts = and_parts (x / 256 == 0 && y / 256 == 0) (mul8 x y == 1 || y == inv x) h in
+    let bytes = and_parts (x / 256 == 0) (y / 256 == 0) parts.0 in
+    let x_byte = eqb-true (x / 256) 0 bytes.0 in
+    let y_byte = eqb-true (y / 256) 0 bytes.1 in
+    elim (or_cases (mul8 x y == 1) (y == inv x) parts.1) [
+      | inl one ↦ sym (inv_is x y (omega (arith, x_byte)) (omega (arith, y_byte)) (eqb-true (mul8 x y) 1 one))
+      | inr least ↦ eqb-true y (inv x) least
+    ]
+
 abbrev pub inverse_16_by : (ℕ → ℕ → ℕ) → List Bool → List Bool
 inverse_16_by mul n =
     let c = product_4_by mul (high_2 n) (low_2 n) in
@@ -134,17 +153,18 @@ inverse_16_by mul n =
     let high = product_4_by mul n10 (low_2 n) in
     coefficient low 0 ∷ coefficient low 1 ∷ coefficient high 0 ∷ coefficient high 1 ∷ []
 
-abbrev inverse_16_holds : (ℕ → ℕ → ℕ) → ℕ → Bool
-inverse_16_holds mul n = element basis_16 (inverse_16_by mul (bits_of 4 n)) == inv_by mul (element basis_16 (bits_of 4 n))
+abbrev inverse_16_holds : (ℕ → ℕ → ℕ) → List Bool → Bool
+inverse_16_holds mul n = inverts mul (element basis_16 n) (element basis_16 (inverse_16_by mul n))
 
-inverse_16_test : all_below (inverse_16_holds mul8) 16 ≡ true
+inverse_16_test : all_below (λ n. inverse_16_holds mul8 (bits_of 4 n)) 16 ≡ true
 unfolding coordinates number_of element basis_4 basis_16
-inverse_16_test = by_fast_mul8 (λ mul. all_below (inverse_16_holds mul) 16) refl
+inverse_16_test = by_fast_mul8 (λ mul. all_below (λ n. inverse_16_holds mul (bits_of 4 n)) 16) refl
 
 pub inverse_16_is : (n : List ℕ) (p : ℕ) → element basis_16 (inverse_16_by mul8 (plane_polynomial 4 n p)) ≡ inv (plane_element basis_16 n p)
-unfolding inv plane_element plane_polynomial basis_16
+unfolding plane_element plane_polynomial basis_16
 inverse_16_is n p =
-    same_at_bits (λ q. element basis_16 (inverse_16_by mul8 q)) (λ q. inv (element basis_16 q)) (plane_polynomial 4 n p) inverse_16_test
+    let q = plane_polynomial 4 n p in
+    inverts_is (element basis_16 q) (element basis_16 (inverse_16_by mul8 q)) (all_at_bits (inverse_16_holds mul8) q inverse_16_test)
 
 abbrev low_4 : List Bool → List Bool
 low_4 a = coefficient a 0 ∷ coefficient a 1 ∷ coefficient a 2 ∷ coefficient a 3 ∷ []
@@ -152,32 +172,46 @@ low_4 a = coefficient a 0 ∷ coefficient a 1 ∷ coefficient a 2 ∷ coefficien
 abbrev high_4 : List Bool → List Bool
 high_4 a = coefficient a 4 ∷ coefficient a 5 ∷ coefficient a 6 ∷ coefficient a 7 ∷ []
 
--- the inverse in the tower, for any product and any inverse in the field of 16
-abbrev pub inverse_by : (ℕ → ℕ → ℕ) → (ℕ → ℕ) → List Bool → List Bool
-inverse_by mul inv a =
+-- the power 17, which lies in the field of 16
+abbrev power_17_by : (ℕ → ℕ → ℕ) → List Bool → List Bool
+power_17_by mul a =
     let c = coordinates basis_16 (mul (element basis_16 (low_4 a)) (element basis_16 (high_4 a))) in
     let s0 = coefficient a 0 xor coefficient a 4 in
     let s1 = coefficient a 1 xor coefficient a 5 in
     let s2 = coefficient a 2 xor coefficient a 6 in
     let s3 = coefficient a 3 xor coefficient a 7 in
-    let a17 = (coefficient c 0 xor s1 xor s3) ∷ (coefficient c 1 xor s0 xor s2) ∷ (coefficient c 2 xor s2) ∷ (coefficient c 3 xor s2 xor s3) ∷ [] in
-    let a238 = inv (element basis_16 a17) in
+    (coefficient c 0 xor s1 xor s3) ∷ (coefficient c 1 xor s0 xor s2) ∷ (coefficient c 2 xor s2) ∷ (coefficient c 3 xor s2 xor s3) ∷ []
+
+-- the inverse, by that of the power 17
+abbrev inverse_from : (ℕ → ℕ → ℕ) → ℕ → List Bool → List Bool
+inverse_from mul a238 a =
     let low = coordinates basis_16 (mul (element basis_16 (high_4 a)) a238) in
     let high = coordinates basis_16 (mul (element basis_16 (low_4 a)) a238) in
     coefficient low 0 ∷ coefficient low 1 ∷ coefficient low 2 ∷ coefficient low 3
     ∷ coefficient high 0 ∷ coefficient high 1 ∷ coefficient high 2 ∷ coefficient high 3 ∷ []
 
-abbrev inverse_holds : (ℕ → ℕ → ℕ) → ℕ → Bool
-inverse_holds mul n = element basis_256 (inverse_by mul (inv_by mul) (bits_of 8 n)) == inv_by mul (element basis_256 (bits_of 8 n))
+-- the inverse in the tower, for any product and any inverse in the field of 16
+abbrev pub inverse_by : (ℕ → ℕ → ℕ) → (ℕ → ℕ) → List Bool → List Bool
+inverse_by mul inv a = inverse_from mul (inv (element basis_16 (power_17_by mul a))) a
 
-inverse_test : all_below (inverse_holds mul8) 256 ≡ true
-unfolding coordinates number_of element basis_16 basis_256
-inverse_test = by_fast_mul8 (λ mul. all_below (inverse_holds mul) 256) refl
+abbrev inverse_holds : (ℕ → ℕ → ℕ) → List Bool → Bool
+inverse_holds mul a =
+    let a238 = element basis_16 (inverse_16_by mul (power_17_by mul a)) in
+    inverts mul (element basis_256 a) (element basis_256 (inverse_from mul a238 a))
+
+inverse_test : all_below (λ n. inverse_holds mul8 (bits_of 8 n)) 256 ≡ true
+unfolding coordinates number_of element basis_4 basis_16 basis_256
+inverse_test = by_fast_mul8 (λ mul. all_below (λ n. inverse_holds mul (bits_of 8 n)) 256) refl
 
 pub inverse_is : (a : List ℕ) (p : ℕ) → element basis_256 (inverse_by mul8 inv (plane_polynomial 8 a p)) ≡ inv (plane_element basis_256 a p)
-unfolding inv plane_element plane_polynomial basis_256
+unfolding plane_element plane_polynomial basis_256
 inverse_is a p =
-    same_at_bits (λ q. element basis_256 (inverse_by mul8 inv q)) (λ q. inv (element basis_256 q)) (plane_polynomial 8 a p) inverse_test
+    let q = plane_polynomial 8 a p in
+    let r = power_17_by mul8 q in
+    let a238 = element basis_16 (inverse_16_by mul8 r) in
+    let inner : a238 ≡ inv (element basis_16 r) = inverts_is (element basis_16 r) a238 (all_at_bits (inverse_16_holds mul8) r inverse_16_test) in
+    ap (λ t. element basis_256 (inverse_from mul8 t q)) (sym inner)
+    ∙ inverts_is (element basis_256 q) (element basis_256 (inverse_from mul8 a238 q)) (all_at_bits (inverse_holds mul8) q inverse_test)
 
 -- ---- the changes of basis
 

@@ -11,6 +11,19 @@ block_fits i n len start h w =
     let e : suc i * n ≡ i * n + n = suc-mul i n in
     omega arith
 
+-- the products are of two variables, and `search` alone is slow to bound them
+pub overflow_mul-from : goal.overflow_mul-from
+overflow_mul-from g c = search (rules, block_fits c.loop-i.i c.chunk_len-size.result _ c.args.in_out.start c.loop-i-test.true c.args.in_out.within)
+
+pub chunk_at-requires : goal.chunk_at-requires
+chunk_at-requires g c = search (rules, block_fits c.loop-i.i c.chunk_len-size.result _ c.args.in_out.start c.loop-i-test.true c.args.in_out.within)
+
+pub overflow_add-place : goal.overflow_add-place
+overflow_add-place g c = search (rules, block_fits c.loop-i.i c.chunk_len-size.result _ c.args.in_out.start c.loop-i-test.true c.args.in_out.within)
+
+pub slice_bounds-place-end : goal.slice_bounds-place-end
+slice_bounds-place-end g c = search (rules, block_fits c.loop-i.i c.chunk_len-size.result _ c.args.in_out.start c.loop-i-test.true c.args.in_out.within)
+
 pub transform-output-requires : goal.transform-output-requires
 transform-output-requires g c =
     let n = g.C.Chunk.chunk_len in let start = c.args.in_out.start in let old = c.args.in_out.in_out.now in let i = c.loop-i.i in

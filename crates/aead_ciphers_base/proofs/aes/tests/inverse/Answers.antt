@@ -1,18 +1,10 @@
-use Rattle.std.proofs.Common.{◌≡◌, ℕ, zero, suc, ◌+◌, ◌<◌, ◌≤◌, Bool, true, false, refl, sym, ap, ◌∙◌, arith, inl, inr, find, Some, None, unwrap_or}
+use Rattle.std.proofs.Common.{◌≡◌, ℕ, zero, suc, ◌+◌, ◌<◌, Bool, false, refl, sym, ap, ◌∙◌, arith, find, Some, None, unwrap_or}
 use Rattle.std.specs.Prelude.{◌==◌}
 use Rattle.std.specs.List.{range_with_len}
-use Rattle.std.proofs.lemmas.Bool.{cases_eq, cond-true, cond-false, eq-eqb}
+use Rattle.std.proofs.lemmas.Bool.{cond-false, eq-eqb}
 use Rattle.aead_ciphers_base.specs.ByteField.{inv, mul8}
+use Rattle.aead_ciphers_base.proofs.NumberBits.{find_first}
 use Rattle.aead_ciphers_base.proofs.aes.tests.inverse.Goals as goal
-
-find_first : (p : ℕ → Bool) (a n v : ℕ) → a ≤ v → v < a + n → p v ≡ true → ((y : ℕ) → y < v → p y ≡ false) → find p (range_with_len a n) ≡ Some v
-find_first p a zero v lo hi passes fails = absurd (omega arith)
-find_first p a (suc n) v lo hi passes fails = elim (cases_eq a v) [
-  | inl same ↦ cond-true (p a) (Some a) (find p (range_with_len (a + 1) n)) (ap p same ∙ passes) ∙ ap (λ x. Some x) same
-  | inr other ↦
-      cond-false (p a) (Some a) (find p (range_with_len (a + 1) n)) (fails a (omega arith))
-      ∙ find_first p (a + 1) n v (omega arith) (omega arith) passes fails
-]
 
 find_none : (p : ℕ → Bool) (a n : ℕ) → ((y : ℕ) → y < a + n → p y ≡ false) → find p (range_with_len a n) ≡ None
 find_none p a zero fails = refl
