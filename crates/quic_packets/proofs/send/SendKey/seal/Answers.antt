@@ -6,6 +6,7 @@ use Rattle.quic_packets.proofs.send.SendKey.seal.Goals as goal
 pub returns-in-Ok-clause-sealed : goal.returns-in-Ok-clause-sealed
 returns-in-Ok-clause-sealed c =
     let key = c.self.inside.key in
-    let nonce : nonce_at key.sequence key.sequence.used ≡ xored_nonce key.sequence.iv c.self.inside.next = ap (xored_nonce key.sequence.iv) (sym c.self.invariant.0) in
+    let nonce : nonce_at key.sequence key.sequence.used ≡ xored_nonce key.sequence.iv c.self.inside.next =
+    ap (xored_nonce key.sequence.iv) (sym c.self.invariant.0) in
     rw (← c.self.view_is)
     (c.in-Ok.ensures.sealed _ refl ∙ ap (λ (n : List ℕ). sealed_packet key.key.bytes n c.args.number.end c.args.packet.now) nonce)
