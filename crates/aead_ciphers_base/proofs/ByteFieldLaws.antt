@@ -78,7 +78,8 @@ unfolding field
 one_test = refl
 
 pub one-mul8 : (x : ℕ) → x < 256 → mul8 1 x ≡ x
-one-mul8 x h = same_additive (mul8 1) (λ a. a) (mul8-xor_right 1) (λ a b. refl) 8 (λ i lt. same_below (λ a. mul8 1 (2 ^ a)) (λ a. 2 ^ a) 8 i one_test lt) x h
+one-mul8 x h =
+    same_additive (mul8 1) (λ a. a) (mul8-xor_right 1) (λ a b. refl) 8 (λ i lt. same_below (λ a. mul8 1 (2 ^ a)) (λ a. 2 ^ a) 8 i one_test lt) x h
 
 -- a function that keeps sums, after another
 after : (f g : ℕ → ℕ) → IsAdditive f → IsAdditive g → IsAdditive (λ x. f (g x))

@@ -139,7 +139,8 @@ pub same_below : (f g : ℕ → ℕ) (n k : ℕ) → all_below (λ i. f i == g i
 same_below f g n k h lt = eqb-true (f k) (g k) (all_below_at (λ i. f i == g i) n k h lt)
 
 -- the least number that passes is found
-pub find_first : (p : ℕ → Bool) (a n v : ℕ) → a ≤ v → v < a + n → p v ≡ true → ((y : ℕ) → y < v → p y ≡ false) → find p (range_with_len a n) ≡ Some v
+pub find_first : (p : ℕ → Bool) (a n v : ℕ) → a ≤ v → v < a + n → p v ≡ true → ((y : ℕ) → y < v → p y ≡ false)
+    → find p (range_with_len a n) ≡ Some v
 find_first p a zero v lo hi passes fails = absurd (omega arith)
 find_first p a (suc n) v lo hi passes fails = elim (cases_eq a v) [
   | inl same ↦ cond-true (p a) (Some a) (find p (range_with_len (a + 1) n)) (ap p same ∙ passes) ∙ ap (λ x. Some x) same

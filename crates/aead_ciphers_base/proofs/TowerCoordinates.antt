@@ -116,7 +116,8 @@ unfolding coordinates number_of element basis_4 basis_16
 product_16_test = by_fast_mul8 (λ mul. all_below (product_16_holds mul) 256) refl
 
 pub product_16_is : (a b : List ℕ) (p : ℕ)
-    → element basis_16 (product_16_by mul8 (plane_polynomial 4 a p) (plane_polynomial 4 b p)) ≡ mul8 (plane_element basis_16 a p) (plane_element basis_16 b p)
+    → element basis_16 (product_16_by mul8 (plane_polynomial 4 a p) (plane_polynomial 4 b p))
+    ≡ mul8 (plane_element basis_16 a p) (plane_element basis_16 b p)
 unfolding plane_element plane_polynomial basis_16
 product_16_is a b p =
     same_at_bits (λ q. element basis_16 (product_16_by mul8 (take 4 q) (drop 4 q))) (λ q. mul8 (element basis_16 (take 4 q)) (element basis_16 (drop 4 q)))
