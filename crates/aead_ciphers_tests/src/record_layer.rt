@@ -93,12 +93,10 @@ fn records_of_another_implementation(rt: HostRuntime) -> Result<(), Fail> {
     there_and_back(&rt, rt.alloc(), &AES_256_GCM, &KEY, [255; 12], &OF_AES_256)
 }
 
-/// What three records carry becomes one text in their buffer, and what follows them stays.
-#[test]
-fn gathered_in_one_buffer(rt: HostRuntime) -> Result<(), Fail> {
+/// Three records, and five bytes behind them.
+fn three_records(alloc: Global) -> Result<Vec<u8>, Fail> {
     let mut writer = Writer::new(&AES_128_GCM, &KEY[..16], IV)?;
-    let mut reader = Reader::new(&AES_128_GCM, &KEY[..16], IV)?;
-    let mut bytes = Vec::new(rt.alloc());
+    let mut bytes = Vec::new(alloc);
     for (content, padding) in [
         (b"to".as_slice(), 0),
         (b"get".as_slice(), 5),
@@ -107,17 +105,28 @@ fn gathered_in_one_buffer(rt: HostRuntime) -> Result<(), Fail> {
         writer.write(23, content, padding, &mut bytes)?;
     }
     bytes.extend_from_slice(b"later")?;
+    Ok(bytes)
+}
+
+/// What three records carry becomes one text in their buffer, and what follows them stays.
+#[test]
+fn gathered_in_one_buffer(rt: HostRuntime) -> Result<(), Fail> {
+    let mut reader = Reader::new(&AES_128_GCM, &KEY[..16], IV)?;
+    let mut bytes = three_records(rt.alloc())?;
     assert!(rt; bytes.len() == 85);
-    assert!(rt; record_len(&[23, 3, 3, 0, 19]) == Ok(24));
     for (filled, at, end) in [(0, 0, 24), (2, 24, 54), (5, 54, 80)] {
         assert!(rt; filled <= at && at <= end && end <= bytes.len());
         let (content_type, len) = reader.gather(bytes.as_mut_slice(), filled, at, end)?;
-        assert_eq!(rt; content_type, 23);
-        assert_eq!(rt; len, if at == 0 { 2 } else { 3 });
+        assert_eq!(rt; (content_type, len), (23, if at == 0 { 2 } else { 3 }));
     }
     assert_eq!(rt; bytes.get(..8), Some(b"together".as_slice()));
     assert_eq!(rt; bytes.get(80..), Some(b"later".as_slice()));
     Ok(())
+}
+
+#[test]
+fn length_in_a_header(rt: HostRuntime) {
+    assert!(rt; record_len(&[23, 3, 3, 0, 19]) == Ok(24));
 }
 
 /// Each bit of a record, flipped.
@@ -216,30 +225,40 @@ fn no_content_type(rt: HostRuntime) -> Result<(), Fail> {
     Ok(())
 }
 
-/// The longest content goes through; one byte more of content or of padding is refused, as is a content type of
-/// 0.
+/// Content types, lengths of contents and of paddings that no record has, and why.
+const UNWRITTEN: [(u8, usize, usize, RecordError); 4] = [
+    (23, MAX_CONTENT_LEN + 1, 0, RecordError::ContentTooLong),
+    (23, MAX_CONTENT_LEN, 1, RecordError::ContentTooLong),
+    (23, 0, usize::MAX, RecordError::ContentTooLong),
+    (0, 0, 0, RecordError::ContentTypeZero),
+];
+
 #[test]
-fn limits_of_writing(rt: HostRuntime) -> Result<(), Fail> {
-    let alloc = rt.alloc();
-    let content = Vec::from_elem(alloc, 7, MAX_CONTENT_LEN + 1)?;
-    let longest = content.get(..MAX_CONTENT_LEN).ok_or("longest")?;
+fn no_such_content(rt: HostRuntime) -> Result<(), Fail> {
+    let mut writer = Writer::new(&AES_128_GCM, &KEY[..16], IV)?;
+    let mut record = Vec::new(rt.alloc());
+    for (content_type, len, padding, expected) in UNWRITTEN {
+        let content = Vec::from_elem(rt.alloc(), 7, len)?;
+        let refused = writer.write(content_type, &content, padding, &mut record);
+        assert!(rt; refused == Err(expected));
+        assert!(rt; record.is_empty());
+    }
+    Ok(())
+}
+
+/// The longest content, and the longest padding.
+#[test]
+fn longest_records(rt: HostRuntime) -> Result<(), Fail> {
     let mut writer = Writer::new(&AES_128_GCM, &KEY[..16], IV)?;
     let mut reader = Reader::new(&AES_128_GCM, &KEY[..16], IV)?;
-    let mut record = Vec::new(alloc);
-    assert!(rt; writer.write(23, &content, 0, &mut record) == Err(RecordError::ContentTooLong));
-    assert!(rt; writer.write(23, longest, 1, &mut record) == Err(RecordError::ContentTooLong));
-    assert!(rt; writer.write(23, b"", usize::MAX, &mut record) == Err(RecordError::ContentTooLong));
-    assert!(rt; writer.write(0, b"", 0, &mut record) == Err(RecordError::ContentTypeZero));
-    assert!(rt; record.is_empty());
-    writer.write(23, longest, 0, &mut record)?;
-    assert_eq!(rt; record.len(), MAX_CONTENT_LEN + 22);
-    let (content_type, read) = reader.read(record.as_mut_slice())?;
-    assert_eq!(rt; content_type, 23);
-    assert_eq!(rt; read, longest);
-    let mut padded = Vec::new(alloc);
-    writer.write(23, b"", MAX_CONTENT_LEN, &mut padded)?;
-    let (_, nothing) = reader.read(padded.as_mut_slice())?;
-    assert!(rt; nothing.is_empty());
+    for len in [MAX_CONTENT_LEN, 0] {
+        let content = Vec::from_elem(rt.alloc(), 7, len)?;
+        let mut record = Vec::new(rt.alloc());
+        writer.write(23, &content, MAX_CONTENT_LEN - len, &mut record)?;
+        assert_eq!(rt; record.len(), MAX_CONTENT_LEN + 22);
+        let (_, read) = reader.read(record.as_mut_slice())?;
+        assert_eq!(rt; read, content.as_slice());
+    }
     Ok(())
 }
 
