@@ -87,15 +87,6 @@ fn sealed_of(alloc: Global, len: usize) -> Result<Vec<u8>, Fail> {
     Ok(sealed)
 }
 
-/// The pieces, one behind the other.
-fn joined(alloc: Global, pieces: &[&[u8]]) -> Result<Vec<u8>, Fail> {
-    let mut all = Vec::new(alloc);
-    for piece in pieces {
-        all.extend_from_slice(piece)?;
-    }
-    Ok(all)
-}
-
 /// Opening these bytes ends in this text, and gives the first `len` bytes of the test file.
 fn opens(
     rt: &(impl Abort + AllocGlobal),
@@ -148,30 +139,95 @@ fn cut_files(rt: HostRuntime) -> Result<(), Fail> {
     Ok(())
 }
 
+/// The header of the test files.
+const HEADER: &[u8] = b"SEALFILE\x01\x01\x02\x03\x04\x05\x06\x07";
+
+/// A sealed file of two chunks, changed: what stands in front, which of the two follow, and what stands behind.
+struct Changed {
+    front: &'static [u8],
+    chunks: &'static [usize],
+    behind: &'static [u8],
+    opened: usize,
+    text: &'static str,
+}
+
+const CHANGED: [Changed; 8] = [
+    Changed {
+        front: HEADER,
+        chunks: &[1, 0],
+        behind: b"",
+        opened: 0,
+        text: FIRST_REFUSED,
+    },
+    Changed {
+        front: HEADER,
+        chunks: &[0, 0, 1],
+        behind: b"",
+        opened: CHUNK_LEN,
+        text: SECOND_REFUSED,
+    },
+    Changed {
+        front: HEADER,
+        chunks: &[1],
+        behind: b"",
+        opened: 0,
+        text: FIRST_REFUSED,
+    },
+    Changed {
+        front: HEADER,
+        chunks: &[0, 1, 1],
+        behind: b"",
+        opened: CHUNK_LEN,
+        text: BYTES_BEHIND,
+    },
+    Changed {
+        front: HEADER,
+        chunks: &[0, 1],
+        behind: b"x",
+        opened: CHUNK_LEN,
+        text: BYTES_BEHIND,
+    },
+    Changed {
+        front: b"SEALFILF\x01\x01\x02\x03\x04\x05\x06\x07",
+        chunks: &[0, 1],
+        behind: b"",
+        opened: 0,
+        text: "not a sealed file",
+    },
+    Changed {
+        front: b"SEALFILE\x02\x01\x02\x03\x04\x05\x06\x07",
+        chunks: &[0, 1],
+        behind: b"",
+        opened: 0,
+        text: VERSION_TWO,
+    },
+    Changed {
+        front: b"SEALFILE\x01prefix!",
+        chunks: &[0, 1],
+        behind: b"",
+        opened: 0,
+        text: FIRST_REFUSED,
+    },
+];
+
+/// A changed file, from what stands behind the header of one that was sealed.
+fn changed_file(alloc: Global, body: &[u8], row: &Changed) -> Result<Vec<u8>, Fail> {
+    let mut file = row.front.to_vec(alloc)?;
+    for number in row.chunks {
+        let chunk = body.chunks(SEALED_LEN).nth(*number).ok_or("a chunk")?;
+        file.extend_from_slice(chunk)?;
+    }
+    file.extend_from_slice(row.behind)?;
+    Ok(file)
+}
+
 #[test]
 fn changed_files(rt: HostRuntime) -> Result<(), Fail> {
-    let alloc = rt.alloc();
-    let sealed = sealed_of(alloc, 2 * CHUNK_LEN)?;
-    let (header, body) = sealed
-        .split_at_checked(HEADER_LEN)
-        .ok_or(FileError::EndsEarly)?;
-    let (first, last) = body
-        .split_at_checked(SEALED_LEN)
-        .ok_or(FileError::EndsEarly)?;
-    let header_rest = header.get(8..).ok_or(FileError::EndsEarly)?;
-    let prefix = header.get(9..).ok_or(FileError::EndsEarly)?;
-    let changed: [(&[&[u8]], usize, &str); 8] = [
-        (&[header, last, first], 0, FIRST_REFUSED),
-        (&[header, first, first, last], CHUNK_LEN, SECOND_REFUSED),
-        (&[header, last], 0, FIRST_REFUSED),
-        (&[header, first, last, last], CHUNK_LEN, BYTES_BEHIND),
-        (&[header, first, last, b"x"], CHUNK_LEN, BYTES_BEHIND),
-        (&[b"SEALFILF", header_rest, body], 0, "not a sealed file"),
-        (&[b"SEALFILE\x02", prefix, body], 0, VERSION_TWO),
-        (&[b"SEALFILE\x01prefix!", body], 0, FIRST_REFUSED),
-    ];
-    for (pieces, opened, text) in changed {
-        opens(&rt, &joined(alloc, pieces)?, opened, text)?;
+    let sealed = sealed_of(rt.alloc(), 2 * CHUNK_LEN)?;
+    let body = sealed.get(HEADER_LEN..).ok_or("a body")?;
+    for row in &CHANGED {
+        let file = changed_file(rt.alloc(), body, row)?;
+        opens(&rt, &file, row.opened, row.text)?;
     }
     Ok(())
 }
@@ -189,6 +245,11 @@ fn another_key(rt: HostRuntime) -> Result<(), Fail> {
     );
     assert!(rt; matches!(outcome, Err(FileError::Refused(0))));
     assert!(rt; opened.is_empty());
+    Ok(())
+}
+
+#[test]
+fn texts(rt: HostRuntime) -> Result<(), Fail> {
     for (error, text) in [
         (FileKey::new(&[7; 31]).err(), "the key hasn't 32 bytes"),
         (FileKey::new(&[7; 33]).err(), "the key hasn't 32 bytes"),
@@ -197,8 +258,8 @@ fn another_key(rt: HostRuntime) -> Result<(), Fail> {
             "the file is too long: it has 2^32 chunks or more",
         ),
     ] {
-        let error = error.ok_or(FileError::EndsEarly)?;
-        assert_eq!(rt; format!(in alloc; "{error}")?.as_str(), text);
+        let error = error.ok_or("an error")?;
+        assert_eq!(rt; format!(in rt.alloc(); "{error}")?.as_str(), text);
     }
     Ok(())
 }
