@@ -91,9 +91,13 @@ impl HeaderKey {
             return Err(PacketError::NoSample);
         }
         let sample_at = number_at + MAX_NUMBER_LEN;
-        self.key
+        match self
+            .key
             .new_mask(&packet[sample_at..sample_at + SAMPLE_LEN])
-            .map_err(|_| PacketError::NoSample)
+        {
+            Ok(mask) => Ok(mask),
+            Err(_) => unreachable!(),
+        }
     }
 }
 
