@@ -1,10 +1,15 @@
 //! `quic_packets`: the packets of RFC 9001 appendix A, both ways, and what no clause says.
 
+ghost use Rattle.std.specs.Prelude.{◌≡◌, ◌-◌, ◌↔◌, length, take, IsOk, OnOk};
+ghost use Rattle.quic_packets.specs.Header.{HasSample};
+ghost use Rattle.quic_packets.specs.Packet.{CarriesNumber, HasNumber, HasPayload, IsNumber};
+
 use crate::checks::same;
-use aead_ciphers::aead::{AES_128_GCM, quic};
+use aead_ciphers::aead::{AES_128_GCM, AES_256_GCM, quic};
 use aead_vectors::rfc_9001::{A_2_PACKET, A_3_PACKET, A_5_KEY, A_5_PROTECTED, A_5_SEALED, Packet};
-use quic_packets::{HeaderKey, PacketError, ReceiveKey, SendKey};
+use quic_packets::{HeaderKey, PacketError, ReceiveKey, SendKey, laws};
 use std::alloc::{AllocError, Global};
+use std::ops::Range;
 use std::process::Abort;
 use std::test::Fail;
 
@@ -54,6 +59,61 @@ fn packets(rt: HostRuntime) -> Result<(), Fail> {
     for row in [A_2_PACKET, A_3_PACKET] {
         sends(&rt, rt.alloc(), &row)?;
         receives(&rt, rt.alloc(), &row)?;
+    }
+    Ok(())
+}
+
+/// Seals and protects a packet, and then unprotects and opens it: header and payload come back. Refused where sealing is,
+/// and where the sealed packet is too short for a sample.
+fn there_and_back(
+    sender: &mut SendKey,
+    receiver: &ReceiveKey,
+    header_key: &HeaderKey,
+    packet: &mut [u8],
+    number: Range<usize>,
+) -> Result<usize, PacketError>
+    requires key { receiver.now.bytes ≡ sender.old.bytes }
+    requires iv { receiver.now.iv ≡ sender.old.iv }
+    ensures accepted { IsOk result ↔ (HasPayload number.end (length packet.old)
+        × HasNumber number.start number.end packet.old × IsNumber sender.old.next
+        × CarriesNumber sender.old.next number.start number.end packet.old
+        × HasSample number.start (length packet.old)) }
+    ensures comes_back { OnOk result (take (length packet.old - 16) packet.new
+        ≡ take (length packet.old - 16) packet.old) }
+{
+    let number_at = number.start;
+    laws::packet_comes_back(sender, receiver, header_key, packet, number_at, number.end);
+    let number = sender.seal(packet, number)?;
+    header_key.protect(packet, number_at)?;
+    let number_len = header_key.unprotect(packet, number_at)?;
+    receiver.open(packet, number_at + number_len, number)
+}
+
+/// A packet with this first byte and a header of this length goes there and back, under AES-256-GCM.
+fn comes_back(rt: &impl Abort, first: u8, header_len: usize) -> Result<(), Fail> {
+    let mut sender = SendKey::new(&AES_256_GCM, &[1; 32], [2; 12], 0x0707_0707)?;
+    let receiver = ReceiveKey::new(&AES_256_GCM, &[1; 32], [2; 12])?;
+    let header_key = HeaderKey::new(&quic::AES_256, &[3; 32])?;
+    let mut packet = [7; 40];
+    packet[0] = first;
+    let payload_len = there_and_back(
+        &mut sender,
+        &receiver,
+        &header_key,
+        &mut packet,
+        9..header_len,
+    )?;
+    assert_eq!(rt; payload_len.checked_add(header_len), Some(24));
+    assert_eq!(rt; packet[0], first);
+    same(rt, &packet[1..24], &[7; 23], "came back");
+    Ok(())
+}
+
+// Packet numbers of each length, under keys of which RFC 9001 has no packet.
+#[test]
+fn each_number_length(rt: HostRuntime) -> Result<(), Fail> {
+    for (first, header_len) in [(0x40, 10), (0x41, 11), (0x42, 12), (0x43, 13)] {
+        comes_back(&rt, first, header_len)?;
     }
     Ok(())
 }
