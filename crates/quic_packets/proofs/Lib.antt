@@ -1,2 +1,3 @@
 pub mod HeaderLemmas
 pub mod OpenLemmas
+pub mod PacketLemmas

@@ -91,9 +91,13 @@ impl HeaderKey {
             return Err(PacketError::NoSample);
         }
         let sample_at = number_at + MAX_NUMBER_LEN;
-        self.key
+        match self
+            .key
             .new_mask(&packet[sample_at..sample_at + SAMPLE_LEN])
-            .map_err(|_| PacketError::NoSample)
+        {
+            Ok(mask) => Ok(mask),
+            Err(_) => unreachable!(),
+        }
     }
 }
 
@@ -117,15 +121,29 @@ fn first_mask(first: u8, mask: u8) -> u8
 }
 
 // XORs the packet number with the mask's bytes from the second on.
+//
+// It reads and writes four bytes, whatever the length: the length that a received header gives isn't authenticated before
+// the packet is opened (RFC 9001 section 9.5).
 fn mask_number(packet: &mut [u8], number_at: usize, number_len: usize, mask: &[u8; 5])
-    requires within { number_at + number_len ≤ length packet.old }
+    requires within { number_at + 4 ≤ length packet.old }
     requires few { number_len ≤ 4 }
     ensures number { (i : ℕ) → i < number_len → slice_index packet.new (number_at + i)
         ≡ bit_xor (slice_index packet.old (number_at + i)) (slice_index mask.now (i + 1)) }
     ensures others { (i : ℕ) → (i < number_at) ⊎ (number_at + number_len ≤ i)
         → slice_index packet.new i ≡ slice_index packet.old i }
 {
-    for i in 0..number_len {
-        packet[number_at + i] ^= mask[i + 1];
+    for i in 0..MAX_NUMBER_LEN {
+        packet[number_at + i] ^= kept_below(mask[i + 1], i, number_len);
     }
+}
+
+// The byte where `i` is below `number_len`, and zero elsewhere, without a branch.
+fn kept_below(byte: u8, i: usize, number_len: usize) -> u8
+    requires index { i < 4 }
+    requires few { number_len ≤ 4 }
+    ensures below { i < number_len → result ≡ byte }
+    ensures above { number_len ≤ i → result ≡ 0 }
+{
+    let is_below = i.wrapping_sub(number_len) >> (usize::BITS - 1);
+    byte & (is_below as u8).wrapping_neg()
 }

@@ -2,8 +2,12 @@
 
 ghost use Rattle.std.specs.Prelude.{◌≡◌, ℕ, List, length};
 ghost use Rattle.quic_packets.specs.Header.{HasSample, Protected, Unprotected};
+ghost use Rattle.quic_packets.specs.Laws.{OpensTo};
+ghost use Rattle.quic_packets.specs.Packet.{HasNumber, HasPayload, sealed_packet};
 
 use crate::header::HeaderKey;
+use crate::receive::ReceiveKey;
+use crate::send::SendKey;
 
 /// Unprotecting undoes protecting, for every packet and key (RFC 9001 section 5.4).
 #[tactic(auto, using(crate::proofs::HeaderLemmas::unprotected_back))]
@@ -11,4 +15,33 @@ pub fn unprotect_undoes_protect(key: &HeaderKey, packet: &[u8], number_at: usize
     requires { HasSample number_at (length packet.now) }
     ensures { (wire back : List ℕ) → Protected key.now number_at packet.now wire
         → Unprotected key.now number_at wire back → back ≡ packet.now }
+{}
+
+/// Opening undoes sealing, for every packet and number and under every key and IV (RFC 9001 section 5.3).
+pub fn open_undoes_seal(sender: &SendKey, receiver: &ReceiveKey, packet: &[u8], header_len: usize)
+    requires key { receiver.now.bytes ≡ sender.now.bytes }
+    requires iv { receiver.now.iv ≡ sender.now.iv }
+    ensures { HasPayload header_len (length packet.now)
+        → OpensTo receiver.now sender.now.next header_len (sealed_packet sender.now.bytes
+        sender.now.iv sender.now.next header_len packet.now) packet.now }
+{}
+
+/// A packet that is sealed, protected, unprotected and opened comes back, for every packet and number and under every
+/// key and IV: the unprotected header says where it ends, and the packet then opens (RFC 9001 sections 5.3 and 5.4).
+pub fn packet_comes_back(
+    sender: &SendKey,
+    receiver: &ReceiveKey,
+    header_key: &HeaderKey,
+    packet: &[u8],
+    number_at: usize,
+    header_len: usize,
+)
+    requires key { receiver.now.bytes ≡ sender.now.bytes }
+    requires iv { receiver.now.iv ≡ sender.now.iv }
+    ensures { HasPayload header_len (length packet.now)
+        → HasNumber number_at header_len packet.now → HasSample number_at (length packet.now)
+        → (wire back : List ℕ) → Protected header_key.now number_at (sealed_packet
+        sender.now.bytes sender.now.iv sender.now.next header_len packet.now) wire
+        → Unprotected header_key.now number_at wire back → HasNumber number_at header_len back
+        × OpensTo receiver.now sender.now.next header_len back packet.now }
 {}

@@ -111,7 +111,7 @@ impl SendKey {
                 self.next += 1;
                 Ok(number)
             }
-            Err(_) => Err(PacketError::NumbersEnded),
+            Err(_) => unreachable!(),
         }
     }
 }

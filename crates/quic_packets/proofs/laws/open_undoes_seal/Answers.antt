@@ -1,0 +1,7 @@
+use Rattle.quic_packets.proofs.PacketLemmas.{sealed_opens}
+use Rattle.quic_packets.proofs.laws.open_undoes_seal.Goals as goal
+
+pub returns : goal.returns
+returns c has =
+    let a = c.args in
+    rw (← c.requires.key, ← c.requires.iv) (sealed_opens a.receiver.now a.sender.now.next a.header_len a.packet.now has)
