@@ -37,8 +37,6 @@ mod laws;
 #[cfg(test)]
 mod masks;
 #[cfg(test)]
-mod memory;
-#[cfg(test)]
 mod overlapping;
 #[cfg(test)]
 mod packets;
