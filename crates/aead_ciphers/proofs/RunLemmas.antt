@@ -1,8 +1,9 @@
--- A run grows by one step at its end.
+-- A run grows by one step at its end, and comes apart.
 use Rattle.std.proofs.Common.{◌≡◌, ℕ, ◌+◌, ◌<◌, List, [], ◌∷◌, ◌++◌, length, take, drop, get_or, set, refl, sym, ap, ◌∙◌, subst, arith, add-zero}
 use Rattle.std.proofs.lemmas.List.{take_more, take_more_set, drop-set-lt, get_or-drop}
 use Rattle.std.proofs.Math.Seq.{drop-cons}
 use Rattle.std.proofs.Math.Numerals.{add-one}
+use Rattle.std.specs.List.{AllZip}
 use Rattle.aead_ciphers.specs.Runs.{Runs}
 
 module _ {K J : Type 0} (Step : K → K → J → J → Type 0) where
@@ -25,3 +26,13 @@ module _ {K J : Type 0} (Step : K → K → J → J → Type 0) where
         rw (front, take_more_set news i y ln) (Runs-more k m n (take i olds) (take i news) x y r s),
         drop-set-lt (i + 1) news i y (omega arith) ∙ cut news ln ∙ ap (drop 1) rest ∙ sym (cut olds lo),
       )
+
+-- what holds of the items of each step holds place by place
+pub Runs-apart : {K J : Type 0} (Step : K → K → J → J → Type 0) (R : J → J → Type 0) (first last : K) (olds news : List J)
+    → Runs (λ k m x y. Step k m x y × R x y) first last olds news → Runs Step first last olds news × AllZip R olds news
+Runs-apart Step R first last [] [] r = (r, tt)
+Runs-apart Step R first last (old ∷ olds) (new ∷ news) r =
+    let rest = Runs-apart Step R r.0 last olds news r.2 in
+    ((r.0, r.1.0, rest.0), (r.1.1, rest.1))
+Runs-apart Step R first last [] (new ∷ news) r = absurd r
+Runs-apart Step R first last (old ∷ olds) [] r = absurd r
