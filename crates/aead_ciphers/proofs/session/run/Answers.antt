@@ -1,24 +1,14 @@
-use Rattle.std.proofs.Common.{arith, ◌<◌, length, take_all}
+use Rattle.std.proofs.Common.{arith, ◌<◌, length}
 use Rattle.aead_ciphers.proofs.FreshLemmas.{fresh_run}
-use Rattle.aead_ciphers.proofs.RunLemmas.{Runs-apart, Runs-next}
+use Rattle.aead_ciphers.proofs.RunLemmas.{Runs-next}
 use Rattle.aead_ciphers.proofs.session.run.Goals as goal
 
 pub loop-job-preserved : goal.loop-job-preserved
 loop-job-preserved g c =
     let long : c.loop-job.job-index < length c.args.jobs.now = omega arith in
     let performed = rw (← c.job-item.is) at c.perform.ensures in
-    Runs-next _ _ _ _ c.args.jobs.now c.loop-job.jobs c.loop-job.job-index c.job-item.result _ long (omega arith)
-    c.loop-job.invariant.0 c.loop-job.invariant.1 c.job-item.is (performed.performed, performed.capacity_kept)
-
-pub returns-clause-ran : goal.returns-clause-ran
-returns-clause-ran g c =
-    let jobs = take_all c.loop-job.job-index c.loop-job.jobs (omega arith) in
-    rw (take_all _ _ c.loop-job-test.false, jobs) at (Runs-apart _ _ _ _ _ _ c.loop-job.invariant.0).0
-
-pub returns-clause-capacity_kept : goal.returns-clause-capacity_kept
-returns-clause-capacity_kept g c =
-    let jobs = take_all c.loop-job.job-index c.loop-job.jobs (omega arith) in
-    rw (take_all _ _ c.loop-job-test.false, jobs) at (Runs-apart _ _ _ _ _ _ c.loop-job.invariant.0).1
+    Runs-next _ _ _ _ _ c.args.jobs.now c.loop-job.jobs c.loop-job.job-index c.job-item.result _ long (omega arith)
+    c.loop-job.invariant.0 c.loop-job.invariant.1 c.loop-job.invariant.2 c.job-item.is performed.performed performed.capacity_kept
 
 pub returns-clause-no_nonce_twice : goal.returns-clause-no_nonce_twice
-returns-clause-no_nonce_twice g c = fresh_run _ _ _ _ _ _ _ _ _ _ (Runs-apart _ _ _ _ _ _ c.loop-job.invariant.0).0
+returns-clause-no_nonce_twice g c = fresh_run _ _ _ _ _ _ _ _ _ _ c.loop-job.invariant.0
