@@ -1,15 +1,15 @@
 -- What the outcome of a job says of its buffer.
 use Rattle.std.proofs.Common.{◌≡◌, ℕ, ◌-◌, ◌≤◌, Bool, true, false, List, length, length-drop, Ok, refl, ap, arith}
 use Rattle.aead_ciphers.specs.BoundState.{BoundState}
-use Rattle.aead_ciphers.specs.Runs.{open_outcome}
+use Rattle.std.specs.Prelude.{if◌then◌else◌}
 use Rattle.aead_ciphers.specs.Steps.{OpenStep}
-use Rattle.aead_ciphers.specs.declared.session.Outcome.TheVariants.{Opened}
+use Rattle.aead_ciphers.specs.declared.session.Outcome.TheVariants.{Opened, Refused}
 use Rattle.aead_ciphers.proofs.LentPlaintext.{step_fronts}
 
 -- the plaintext of a job that opened is within the buffer
 pub opened_within : {N : Type 0} (spent : N → List (List ℕ)) (is_closed : N → Bool) (was now : BoundState N) (aad : List ℕ) (start : ℕ)
     (old new : List ℕ) (accepts : Bool) (n : ℕ)
-    → OpenStep spent is_closed was now aad start old new accepts → open_outcome (length old - 16 - start) accepts ≡ Opened n → n ≤ length new
+    → OpenStep spent is_closed was now aad start old new accepts → (if accepts then Opened (length old - 16 - start) else Refused) ≡ Opened n → n ≤ length new
 opened_within spent is_closed was now aad start old new true n step is =
     let m : ℕ = length old - 16 - start in
     let count : m ≡ n = cc in

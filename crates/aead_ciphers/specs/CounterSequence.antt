@@ -1,5 +1,5 @@
 -- What a contract sees of a `CounterSequence`.
-use Rattle.std.specs.Prelude.{ℕ, ◌+◌, Bool, nat_eq, List, ◌∷◌, ◌++◌}
+use Rattle.std.specs.Prelude.{ℕ, ◌+◌, Bool, nat_eq, List, [], ◌∷◌, ◌++◌}
 use Rattle.std.specs.Int.{to_be_bytes, w64}
 use Rattle.aead_ciphers_base.specs.Bytes.{each_below}
 
@@ -22,6 +22,6 @@ spent_nonces s = each_below s.used (nonce_at s)
 abbrev pub is_used_up : Counting → Bool
 is_used_up s = nat_eq s.used s.count
 
--- the numbers that it started from: the first number, the count and the prefix's bytes
+-- the numbers that it started from: the prefix's bytes, the first number and the count
 abbrev pub origin_of : Counting → List ℕ
-origin_of s = s.first ∷ s.count ∷ s.prefix
+origin_of s = s.prefix ++ s.first ∷ s.count ∷ []

@@ -1,11 +1,10 @@
 -- Runs: a step for each item of a list, in order.
-use Rattle.std.specs.Prelude.{◌≡◌, ℕ, Bool, true, false, ◌+◌, ◌-◌, ◌<◌, List, [], ◌∷◌, length, vec_len, vec_capacity, ⊤}
+use Rattle.std.specs.Prelude.{◌≡◌, ℕ, Bool, if◌then◌else◌, ◌+◌, ◌-◌, ◌<◌, List, [], ◌∷◌, length, vec_len, vec_capacity, ⊤}
 use Rattle.aead_ciphers.specs.BoundState.{BoundState, Keeps}
 use Rattle.aead_ciphers.specs.Steps.{SealStep, OpenStep}
 use Rattle.aead_ciphers.specs.declared.session.Job.{Job}
 use Rattle.aead_ciphers.specs.declared.session.Operation.{Operation}
 use Rattle.aead_ciphers.specs.declared.session.Operation.TheVariants.{Seal, Open}
-use Rattle.aead_ciphers.specs.declared.session.Outcome.{Outcome}
 use Rattle.aead_ciphers.specs.declared.session.Outcome.TheVariants.{Sealed, Opened, Refused}
 
 -- each old item became the new one, while what is shared went from its first state to its last
@@ -16,16 +15,6 @@ Runs {K} Step first last (old ∷ olds) (new ∷ news) =
 Runs Step first last [] (new ∷ news) = ⊥
 Runs Step first last (old ∷ olds) [] = ⊥
 
--- how a job that seals ends
-abbrev pub seal_outcome : Bool → Outcome
-seal_outcome true = Sealed
-seal_outcome false = Refused
-
--- how a job that opens n bytes of plaintext ends
-abbrev pub open_outcome : ℕ → Bool → Outcome
-open_outcome n true = Opened n
-open_outcome n false = Refused
-
 module _ {S O : Type 0} (s_spent : S → List (List ℕ)) (s_closed : S → Bool) (s_origin : S → List ℕ)
     (o_spent : O → List (List ℕ)) (o_closed : O → Bool) (o_origin : O → List ℕ) where
   -- a job that seals: the tag is appended to its buffer
@@ -34,15 +23,14 @@ module _ {S O : Type 0} (s_spent : S → List (List ℕ)) (s_closed : S → Bool
     pub accepts : Bool
     pub step : SealStep s_spent s_closed (vec_capacity old.buffer < vec_len old.buffer + 16) ⊤ was now
         old.aad.items old.buffer.items new.buffer.items accepts
-    pub outcome : new.outcome ≡ seal_outcome accepts
+    pub outcome : new.outcome ≡ (if accepts then Sealed else Refused)
 
   -- a job that opens its buffer from `start` on
   pub record Opens (start : ℕ) (was now : BoundState O) (old new : Job) : Type 0 where
     pub kept : Keeps o_origin was now
     pub accepts : Bool
     pub step : OpenStep o_spent o_closed was now old.aad.items start old.buffer.items new.buffer.items accepts
-    pub outcome : new.outcome ≡ open_outcome (length old.buffer.items - 16 - start) accepts
-    pub capacity_kept : vec_capacity new.buffer ≡ vec_capacity old.buffer
+    pub outcome : new.outcome ≡ (if accepts then Opened (length old.buffer.items - 16 - start) else Refused)
 
   -- what a job does, by its operation; the other key stays as it is
   abbrev pub Performs : Operation → (was now : BoundState S × BoundState O) (old new : Job) → Type 0

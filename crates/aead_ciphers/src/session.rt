@@ -1,5 +1,6 @@
 //! Runs of jobs on a sealing and an opening key.
-ghost use Rattle.std.specs.Prelude.{◌≡◌};
+ghost use Rattle.std.specs.Prelude.{◌≡◌, ◌≢◌, vec_capacity};
+ghost use Rattle.std.specs.List.{AllZip};
 ghost use Rattle.aead_ciphers.specs.FreshNonces.{GrewFresh};
 ghost use Rattle.aead_ciphers.specs.Runs.{JobStep, Run};
 
@@ -61,8 +62,10 @@ impl Job {
         sealing: &mut SealingKey<S>,
         opening: &mut OpeningKey<O>,
     )
-        ensures { JobStep S.spent S.is_closed S.origin O.spent O.is_closed O.origin
+        ensures performed { JobStep S.spent S.is_closed S.origin O.spent O.is_closed O.origin
             (sealing.old, opening.old) (sealing.new, opening.new) self.old self.new }
+        ensures capacity_kept { self.old.operation ≢ Operation.Seal
+            → vec_capacity self.new.buffer ≡ vec_capacity self.old.buffer }
     {
         let aad = Aad::from(self.aad.as_slice());
         self.outcome = match self.operation {
@@ -89,6 +92,8 @@ pub fn run<S: NonceSequence, O: NonceSequence>(
 )
     ensures ran { Run S.spent S.is_closed S.origin O.spent O.is_closed O.origin
         (sealing.old, opening.old) (sealing.new, opening.new) jobs.old jobs.new }
+    ensures capacity_kept { AllZip (λ old new. old.operation ≢ Operation.Seal
+        → vec_capacity new.buffer ≡ vec_capacity old.buffer) jobs.old jobs.new }
     ensures no_nonce_twice { GrewFresh (S.spent sealing.old.sequence) (S.spent sealing.new.sequence) }
 {
     for job in jobs.iter_mut() {

@@ -3,8 +3,8 @@
 use crate::cases::{aad, key, opened_at_4, packet, sealed, unbound_key};
 use crate::checks::{holds, reads, same};
 use aead_ciphers::aead::{
-    AES_128_GCM, Aad, BoundKey, CounterSequence, NONCE_LEN, Nonce, NonceSequence, OpeningKey,
-    SealingKey, Unspecified,
+    AES_128_GCM, Aad, BoundKey, CounterSequence, Nonce, NonceSequence, OpeningKey, SealingKey,
+    Unspecified,
 };
 use aead_vectors::gcm_spec::{CASE_1, CASE_4, Case};
 use arrayvec::ArrayVec;

@@ -2,7 +2,7 @@
 
 use crate::checks::{holds, same};
 use aead_ciphers::aead::{
-    CounterSequence, NONCE_LEN, Nonce, NonceSequence, Unspecified, XoredSequence, nonce_of,
+    CounterSequence, NONCE_LEN, NonceSequence, Unspecified, XoredSequence, nonce_of,
 };
 use std::process::Abort;
 use std::test::Fail;

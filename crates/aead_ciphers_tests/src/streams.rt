@@ -1,5 +1,7 @@
 //! `aeadrun` over streams of which each call fails in turn.
 
+ghost use Rattle.std.specs.Prelude.{◌<◌};
+
 use crate::checks::{holds, same};
 use aead_ciphers::aeadrun::{FAULT, lines};
 use failing_streams::FailingStream;
@@ -77,10 +79,18 @@ fn writes(alloc: Global, failing: Option<u32>) -> Result<Ended, Fail> {
     Ok(Ended::of_writer(status, writer))
 }
 
-fn writes_of_a_buffer(alloc: Global, failing: Option<u32>) -> Result<Ended, Fail> {
-    let mut writer = FailingStream::new(Vec::new(alloc), MOST, failing);
+/// A run over a buffer of this capacity before a writer of up to `most` bytes a call.
+fn writes_of_a_buffer(
+    alloc: Global,
+    capacity: usize,
+    most: usize,
+    failing: Option<u32>,
+) -> Result<Ended, Fail>
+    requires { 0 < most }
+{
+    let mut writer = FailingStream::new(Vec::new(alloc), most, failing);
     let mut input = LINES;
-    let mut output = BufWriter::with_capacity(alloc, 16, &mut writer)?;
+    let mut output = BufWriter::with_capacity(alloc, capacity, &mut writer)?;
     let status = lines(alloc, &mut input, &mut output);
     drop(output);
     Ok(Ended::of_writer(status, writer))
@@ -92,7 +102,7 @@ impl Failing {
         match self {
             Failing::Reads => reads(alloc, failing),
             Failing::Writes => writes(alloc, failing),
-            Failing::WritesOfABuffer => writes_of_a_buffer(alloc, failing),
+            Failing::WritesOfABuffer => writes_of_a_buffer(alloc, 16, MOST, failing),
         }
     }
 
@@ -115,4 +125,18 @@ fn each_failed_call_ends_the_run(rt: HostRuntime) -> Result<(), Fail> {
     Failing::Reads.fails_in_turn(&rt, rt.alloc())?;
     Failing::Writes.fails_in_turn(&rt, rt.alloc())?;
     Failing::WritesOfABuffer.fails_in_turn(&rt, rt.alloc())
+}
+
+/// Each answer is written before the next line is read. The buffer would hold them all, so the writer's calls are a write
+/// and a flush for each answer: where one of these flushes fails, the answers up to it were written.
+#[test]
+fn each_answer_is_flushed(rt: HostRuntime) -> Result<(), Fail> {
+    for i in 0..8u32 {
+        let ended = writes_of_a_buffer(rt.alloc(), 1024, 1024, Some(2 * i + 1))?;
+        holds(&rt, ended.status == FAULT, "a fault");
+        holds(&rt, ANSWERS.starts_with(&ended.printed), "a beginning");
+        let answers = ended.printed.iter().filter(|byte| **byte == b'\n').count();
+        holds(&rt, answers == i as usize + 1, "the answers so far");
+    }
+    Ok(())
 }

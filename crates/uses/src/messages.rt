@@ -1,6 +1,6 @@
 //! Single messages, each under a nonce of the caller's.
 
-ghost use Rattle.std.specs.Prelude.{◌≡◌, ◌+◌, ◌-◌, ◌<◌, ◌≤◌, ◌↔◌, ◌++◌, [], length, take, slice_set, vec_capacity, vec_len, is_ok, IsOk, IfOk, OnOk, OnErr};
+ghost use Rattle.std.specs.Prelude.{◌≡◌, ◌+◌, ◌-◌, ◌<◌, ◌≤◌, ◌↔◌, length, take, slice_set, vec_capacity, vec_len, is_ok, IsOk, IfOk, OnOk, OnErr};
 ghost use Rattle.arrayvec.specs.ArrayVec.{array_vec_len};
 ghost use Rattle.aead_ciphers.specs.AesGcm.{aes_decrypted, aes_sealed, aes_tag, AesOpenedAttached};
 ghost use Rattle.aead_ciphers.specs.Gcm.{Fits};

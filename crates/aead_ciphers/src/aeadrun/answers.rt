@@ -1,5 +1,5 @@
 //! The text of answers.
-ghost use Rattle.std.specs.Prelude.{◌≡◌, ◌≤◌, ◌++◌, length, take, codes, IsTrue, IfOk, OnErr, if◌then◌else◌};
+ghost use Rattle.std.specs.Prelude.{◌≡◌, ◌≤◌, ◌++◌, length, take, codes, IfOk, OnErr, if◌then◌else◌};
 ghost use Rattle.std.specs.Result.{ForOk};
 ghost use Rattle.std.specs.String.{string_bytes};
 ghost use Rattle.aead_ciphers.specs.Words.{ok_line, word_of_bytes};

@@ -1,5 +1,5 @@
 //! The words of a line that stand for bytes and for numbers.
-ghost use Rattle.std.specs.Prelude.{◌≡◌, ◌↔◌, option_map, Some, IsSome, IfSome, IfOk};
+ghost use Rattle.std.specs.Prelude.{◌≡◌, ◌↔◌, ◌<◌, ◌%◌, length, option_map, Some, IsSome, IfSome, IfOk, OnErr};
 ghost use Rattle.std.specs.Result.{result_ok};
 ghost use Rattle.std.specs.String.{string_bytes};
 ghost use Rattle.std.specs.Str.Parse.{digits_value};
@@ -20,6 +20,7 @@ const MAX_DIGITS: usize = 20;
 pub fn bytes(alloc: Global, word: &str) -> Result<Option<Vec<u8>>, AllocError>
     ensures accepted { IfOk result (λ read. IsSome read ↔ IsBytesWord word.now) }
     ensures value { IfOk result (λ read. option_map (λ v. v.items) read ≡ bytes_of_word word.now) }
+    ensures wants_memory { OnErr result ((0 < length word.now) × (length word.now % 2 ≡ 0)) }
 {
     if word.is_empty() {
         return Ok(None);

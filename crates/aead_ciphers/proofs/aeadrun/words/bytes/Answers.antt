@@ -11,6 +11,7 @@ returns-in-Ok c =
     record {
       accepted = (λ _. IsBytesWord-decoded c.args.word.now _ some c.in-Ok.ensures.ok, λ _. refl);
       value = sym (bytes_of_word-decoded c.args.word.now _ some c.in-Ok.ensures.ok);
+      wants_memory = tt;
     }
 
 pub returns-in_default : goal.returns-in_default
@@ -21,4 +22,5 @@ returns-in_default c =
     record {
       accepted = (λ some. cc some, λ word. absurd (IsBytesWord-undecoded c.args.word.now _ other undecoded word));
       value = sym (bytes_of_word-undecoded c.args.word.now _ other undecoded);
+      wants_memory = tt;
     }
