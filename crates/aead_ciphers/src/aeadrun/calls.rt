@@ -6,8 +6,8 @@ ghost use Rattle.aead_ciphers.specs.Gcm.{Fits};
 ghost use Rattle.aead_ciphers.specs.HeaderProtection.{key_len as mask_key_len, header_protection};
 
 use crate::aead::{
-    Aad, Algorithm, BoundKey, CounterSequence, LessSafeKey, NONCE_LEN, Nonce,
-    OpeningKey, SealingKey, Tag, UnboundKey, Unspecified, quic,
+    Aad, Algorithm, BoundKey, CounterSequence, LessSafeKey, NONCE_LEN, Nonce, OpeningKey,
+    SealingKey, Tag, UnboundKey, Unspecified, quic,
 };
 use crate::session::{self, Job, Operation, Outcome};
 use std::slice;
