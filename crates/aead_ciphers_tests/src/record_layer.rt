@@ -64,7 +64,18 @@ const KEY: [u8; 32] = [
 
 const IV: [u8; 12] = [0, 1, 2, 3, 4, 5, 6, 7, 8, 9, 10, 11];
 
-/// Writes the records of a run, and reads them again.
+/// The content, its type and the padding.
+fn inner_plaintext(alloc: Global, case: &Case) -> Result<Vec<u8>, Fail> {
+    let mut inner = case.content.to_vec(alloc)?;
+    inner.push(case.content_type)?;
+    for _ in 0..case.padding {
+        inner.push(0)?;
+    }
+    Ok(inner)
+}
+
+/// Writes the records of a run, and reads them again. Once the loan of a content has ended, the inner plaintext
+/// is at the front of the buffer, and every byte after it is the record's.
 fn there_and_back(
     rt: &impl Abort,
     alloc: Global,
@@ -83,6 +94,9 @@ fn there_and_back(
         let (content_type, content) = reader.read(record.as_mut_slice())?;
         assert_eq!(rt; content_type, case.content_type);
         assert_eq!(rt; content, case.content);
+        let inner = inner_plaintext(alloc, case)?;
+        assert_eq!(rt; record.get(..inner.len()), Some(inner.as_slice()));
+        assert_eq!(rt; record.get(inner.len()..), expected.get(inner.len()..));
     }
     Ok(())
 }
@@ -138,7 +152,7 @@ fn every_flipped_bit_is_refused(rt: HostRuntime) -> Result<(), Fail> {
         changed[bit / 8] ^= 1 << (bit % 8);
         let before = changed;
         let mut reader = Reader::new(&AES_128_GCM, &KEY[..16], IV)?;
-        assert!(rt; reader.gather(&mut changed, 0, 0, 27).is_err(), "bit {bit}");
+        assert!(rt; reader.read(&mut changed).is_err(), "bit {bit}");
         assert_eq!(rt; changed, before);
     }
     Ok(())
@@ -152,12 +166,11 @@ fn refusal(
     bytes: &mut [u8],
 ) -> Result<RecordError, Fail> {
     let before = bytes.to_vec(alloc)?;
-    let end = bytes.len();
-    let refused = reader.gather(bytes, 0, 0, end);
+    let refused = reader.read(bytes).err();
     assert_eq!(rt; &*bytes, before.as_slice());
     match refused {
-        Ok(_) => Err(Fail::from("read")),
-        Err(error) => Ok(error),
+        Some(error) => Ok(error),
+        None => Err(Fail::from("read")),
     }
 }
 
@@ -213,13 +226,13 @@ fn no_record(rt: HostRuntime) -> Result<(), Fail> {
     Ok(())
 }
 
-/// A good tag over zeros alone: the zeros stand at the front of the buffer.
+/// A good tag over zeros alone: the zeros are at the front of the buffer, and every byte after them is the record's.
 #[test]
 fn no_content_type(rt: HostRuntime) -> Result<(), Fail> {
     let mut reader = Reader::new(&AES_128_GCM, &KEY[..16], IV)?;
     let record = <[u8; 25]>::from_hex("1703030014936ca7ce192ea8e21527108e19c356659790e9ef")?;
     let mut bytes = record;
-    assert!(rt; reader.gather(&mut bytes, 0, 0, 25) == Err(RecordError::NoContentType));
+    assert!(rt; reader.read(&mut bytes).err() == Some(RecordError::NoContentType));
     assert_eq!(rt; &bytes[..4], [0; 4].as_slice());
     assert_eq!(rt; &bytes[4..], &record[4..]);
     Ok(())
@@ -243,6 +256,24 @@ fn no_such_content(rt: HostRuntime) -> Result<(), Fail> {
         assert!(rt; refused == Err(expected));
         assert!(rt; record.is_empty());
     }
+    Ok(())
+}
+
+/// Growing the buffer is the second allocation: where it is refused, nothing is appended, and the next record is
+/// still record 0.
+#[test]
+fn a_write_without_memory_spends_no_number(rt: HostRuntime) -> Result<(), Fail> {
+    let case = &OF_AES_128[0];
+    let mut writer = Writer::new(&AES_128_GCM, &KEY[..16], IV)?;
+    let mut bytes = b"before".to_vec(rt.alloc())?;
+    if let Err(error) = writer.write(case.content_type, case.content, 0, &mut bytes) {
+        assert!(rt; error == RecordError::OutOfMemory);
+        assert_eq!(rt; bytes.as_slice(), b"before".as_slice());
+        println!(rt; "1 refused")?;
+        writer.write(case.content_type, case.content, 0, &mut bytes)?;
+    }
+    let expected = hex::decode(rt.alloc(), case.record)?;
+    assert_eq!(rt; bytes.get(6..), Some(expected.as_slice()));
     Ok(())
 }
 

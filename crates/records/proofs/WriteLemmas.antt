@@ -1,37 +1,68 @@
 -- A record is appended, and then sealed where it stands.
-use Rattle.std.proofs.Common.{◌≡◌, ℕ, cond, ◌+◌, ◌-◌, List, [], ◌∷◌, ◌++◌, Result, Ok, length, take, drop, replicate, sym, ap}
+use Rattle.std.proofs.Common.{◌≡◌, ℕ, ◌+◌, ◌-◌, List, [], ◌∷◌, ◌++◌, length, take, drop, replicate, slice_set, sym, ap}
 use Rattle.std.proofs.Common.{ap₂, ◌∙◌, arith}
-use Rattle.std.specs.Prelude.{is_ok}
-use Rattle.std.proofs.lemmas.List.{append-nil, append_assoc, drop_all, drop_at, length-append, replicate-append-replicate, take_all, take_at}
+use Rattle.std.proofs.Math.Seq.{set-append_seam}
+use Rattle.std.proofs.lemmas.List.{append-nil, append_assoc, drop-replicate, drop_at, length-append, length-replicate}
+use Rattle.std.proofs.lemmas.List.{replicate-append-replicate, take_all, take_at}
 use Rattle.aead_ciphers.specs.AesGcm.{aes_sealed}
 use Rattle.aead_ciphers.specs.Packet.{packet_message, sealed_packet}
 use Rattle.aead_ciphers.proofs.MessageLaws.{length-aes_sealed}
 use borrow.Rule.Slice.PartMut.{put_mid}
 
--- after `resize` of a `Vec` of `len` bytes to k more
-pub resized : {T E : Type 0} (was now xs : List ℕ) (len k : ℕ) (r : Result T E) (x : T) → was ≡ xs → len ≡ length xs → r ≡ Ok x
-    → now ≡ cond (is_ok r) (take (len + k) was ++ replicate (len + k - len) 0) was → now ≡ xs ++ replicate k 0
-resized was now xs len k r x w e ok h =
-    h ∙ ap (λ (s : Result _ _). cond (is_ok s) (take (len + k) was ++ replicate (len + k - len) 0) was) ok
-    ∙ ap (λ (ys : List ℕ). take (len + k) ys ++ replicate (len + k - len) 0) w
-    ∙ ap₂ (λ (ys : List ℕ) (m : ℕ). ys ++ replicate m 0) (take_all (len + k) xs (omega arith)) (let m : len + k - len ≡ k = omega arith in m)
-
--- the parts that were appended one by one
-pub appended : (out head content : List ℕ) (content_type padding : ℕ)
-    → (((out ++ head) ++ content) ++ content_type ∷ []) ++ replicate (padding + 16) 0
-    ≡ out ++ (head ++ ((content ++ content_type ∷ replicate padding 0) ++ replicate 16 0))
-appended out head content content_type padding =
-    ap (λ (zeros : List ℕ). (((out ++ head) ++ content) ++ content_type ∷ []) ++ zeros) (sym (replicate-append-replicate padding 16 0))
-    ∙ simp append_assoc
+-- a write between two parts of a list
+put_between : (front old behind now : List ℕ) (a k : ℕ) (xs : List ℕ) → xs ≡ front ++ (old ++ behind) → length front ≡ a → length old ≡ k
+    → put_mid a k xs now ≡ front ++ (now ++ behind)
+put_between front old behind now a k xs e l m =
+    ap₂ (λ (ys zs : List ℕ). ys ++ (now ++ zs)) (ap (take a) e ∙ take_at front (old ++ behind) a l)
+    (ap (drop k) (ap (drop a) e ∙ drop_at front (old ++ behind) a l) ∙ drop_at old behind k m)
 
 -- a write to the end of a list
 pub put_end : (front end now : List ℕ) (a : ℕ) (xs : List ℕ) → xs ≡ front ++ end → length front ≡ a → put_mid a (length xs - a) xs now ≡ front ++ now
 put_end front end now a xs e l =
     let all : length xs ≡ length front + length end = ap length e ∙ length-append front end in
-    let behind : drop a xs ≡ end = ap (drop a) e ∙ drop_at front end a l in
-    ap₂ (λ (ys zs : List ℕ). ys ++ (now ++ zs)) (ap (take a) e ∙ take_at front end a l)
-    (ap (drop (length xs - a)) behind ∙ drop_all (length xs - a) end (omega (arith, all)))
+    let size : length end ≡ length xs - a = omega arith in
+    put_between front end [] now a (length xs - a) xs (e ∙ ap (λ (ys : List ℕ). front ++ ys) (sym (append-nil end))) l size
     ∙ ap (λ (ys : List ℕ). front ++ ys) (append-nil now)
+
+-- a header, a content and its type are written over zeros
+over_zeros : (head content : List ℕ) (content_type padding : ℕ) (zeros : List ℕ) → length head ≡ 5
+    → zeros ≡ replicate (5 + length content + 1 + padding + 16) 0
+    → slice_set (put_mid 5 (5 + length content - 5) (head ++ drop 5 zeros) content) (5 + length content) content_type
+    ≡ head ++ ((content ++ content_type ∷ replicate padding 0) ++ replicate 16 0)
+over_zeros head content content_type padding zeros five e =
+    let rest : List ℕ = replicate (padding + 16) 0 in
+    let room : List ℕ = replicate (length content) 0 in
+    let size : 5 + length content - 5 ≡ length content = omega arith in
+    let long : 5 + length content + 1 + padding + 16 - 5 ≡ length content + (1 + (padding + 16)) = omega arith in
+    let behind : drop 5 zeros ≡ room ++ 0 ∷ rest =
+    ap (drop 5) e ∙ drop-replicate 5 (5 + length content + 1 + padding + 16) 0 ∙ ap (λ (k : ℕ). replicate k 0) long
+    ∙ sym (replicate-append-replicate (length content) (1 + (padding + 16)) 0)
+    ∙ ap (λ (ys : List ℕ). room ++ ys) (sym (replicate-append-replicate 1 (padding + 16) 0)) in
+    let filled : put_mid 5 (5 + length content - 5) (head ++ drop 5 zeros) content ≡ (head ++ content) ++ 0 ∷ rest =
+    put_between head room (0 ∷ rest) content 5 (5 + length content - 5) _ (ap (λ (ys : List ℕ). head ++ ys) behind) five
+    (length-replicate {A = ℕ} (length content) 0 ∙ sym size)
+    ∙ sym (append_assoc head content (0 ∷ rest)) in
+    let seam : length (head ++ content) ≡ 5 + length content = length-append head content ∙ ap (λ (k : ℕ). k + length content) five in
+    ap₂ (λ (ys : List ℕ) (k : ℕ). slice_set ys k content_type) filled (sym seam)
+    ∙ set-append_seam (head ++ content) 0 rest content_type ∙ append_assoc head content (content_type ∷ rest)
+    ∙ ap (λ (zs : List ℕ). head ++ (content ++ content_type ∷ zs)) (sym (replicate-append-replicate padding 16 0))
+    ∙ ap (λ (ys : List ℕ). head ++ ys) (sym (append_assoc content (content_type ∷ replicate padding 0) (replicate 16 0)))
+
+-- the same at the end of a list
+pub laid_out : (out head content head' content' : List ℕ) (content_type padding a : ℕ) (xs : List ℕ) → length head ≡ 5 → a ≡ length out
+    → xs ≡ out ++ replicate (5 + length content + 1 + padding + 16) 0 → head' ≡ head → content' ≡ content
+    → put_mid a (length xs - a) xs (slice_set (put_mid 5 (5 + length content - 5) (head' ++ drop 5 (take (length xs - a) (drop a xs))) content')
+    (5 + length content) content_type) ≡ out ++ (head ++ ((content ++ content_type ∷ replicate padding 0) ++ replicate 16 0))
+laid_out out head content head' content' content_type padding a xs five here e same-head same-content =
+    let zeros : List ℕ = replicate (5 + length content + 1 + padding + 16) 0 in
+    let all : length xs ≡ length out + length zeros = ap length e ∙ length-append out zeros in
+    let end : List ℕ = take (length xs - a) (drop a xs) in
+    let is-zeros : end ≡ zeros =
+    ap (take (length xs - a)) (ap (drop a) e ∙ drop_at out zeros a (sym here)) ∙ take_all (length xs - a) zeros (omega (arith, all)) in
+    put_end out zeros _ a xs e (sym here)
+    ∙ ap₂ (λ (hs cs : List ℕ). out ++ slice_set (put_mid 5 (5 + length content - 5) (hs ++ drop 5 end) cs) (5 + length content) content_type)
+    same-head same-content
+    ∙ ap (λ (ys : List ℕ). out ++ ys) (over_zeros head content content_type padding end five is-zeros)
 
 -- a record is sealed where it stands
 pub put_sealed : (key nonce out head message : List ℕ) (a : ℕ) (xs now : List ℕ) → length head ≡ 5 → a ≡ length out

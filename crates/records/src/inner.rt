@@ -1,6 +1,6 @@
 //! The inner plaintext of a record.
 
-ghost use Rattle.std.specs.Prelude.{◌≡◌, ◌≢◌, ◌+◌, ◌<◌, ◌≤◌, ◌^◌, ◌↔◌, ℕ, ◌++◌, length, take, replicate, IfSome, IfNone, IsOk, IfOk, IsErrOf, IfErr, OnOk, OnErr, ◌⊎◌};
+ghost use Rattle.std.specs.Prelude.{◌≡◌, ◌≢◌, ◌+◌, ◌<◌, ◌≤◌, ◌^◌, ◌↔◌, ℕ, ◌++◌, length, take, replicate, vec_len, vec_capacity, IfSome, IfNone, IsOk, IfOk, IsErrOf, IfErr, OnOk, OnErr, ◌⊎◌};
 ghost use Rattle.records.specs.Record.{inner_plaintext};
 
 use crate::record_error::RecordError;
@@ -28,8 +28,8 @@ pub(crate) fn inner_len(
     Ok(content_len + padding + 1)
 }
 
-/// Appends a header, an inner plaintext, and zeros in the place of a tag. Refused where there is no memory for
-/// all of them.
+/// Appends a header, an inner plaintext, and zeros in the place of a tag, or nothing where the `Vec` can't
+/// grow.
 pub(crate) fn append_unsealed(
     out: &mut Vec<u8>,
     header: &[u8; HEADER_LEN],
@@ -44,14 +44,16 @@ pub(crate) fn append_unsealed(
       padding = padding;
     }) ++ replicate 16 0))) }
     ensures err { OnErr result (out.new.items ≡ out.old.items) }
+    ensures full { OnErr result
+        (vec_capacity out.old < vec_len out.old + length content.now + padding + 22) }
 {
-    let zeros = padding + TAG_LEN;
-    out.reserve(HEADER_LEN + content.len() + 1 + zeros)?;
-    out.extend_from_slice(header).unwrap();
-    out.extend_from_slice(content).unwrap();
-    out.push(content_type).unwrap();
-    let len = out.len() + zeros;
-    out.resize(len, 0).unwrap();
+    let start = out.len();
+    let len = HEADER_LEN + content.len() + 1 + padding + TAG_LEN;
+    out.resize(start + len, 0)?;
+    let record = &mut out.as_mut_slice()[start..];
+    record[..HEADER_LEN].copy_from_slice(header);
+    record[HEADER_LEN..HEADER_LEN + content.len()].copy_from_slice(content);
+    record[HEADER_LEN + content.len()] = content_type;
     Ok(())
 }
 

@@ -1,6 +1,6 @@
 //! Writing records.
 
-ghost use Rattle.std.specs.Prelude.{◌≡◌, ◌+◌, ◌^◌, ◌≤◌, ◌++◌, length, OnOk, IfErr, OnErr};
+ghost use Rattle.std.specs.Prelude.{◌≡◌, ◌+◌, ◌^◌, ◌<◌, ◌≤◌, ◌++◌, length, vec_len, vec_capacity, OnOk, IfErr, OnErr, IsErrOf};
 ghost use Rattle.aead_ciphers.specs.Packet.{sealed_packet};
 ghost use Rattle.records.specs.Record.{IsAllowed, record_of};
 ghost use Rattle.records.specs.State.{next_nonce, advanced, IsEnded};
@@ -20,7 +20,8 @@ impl Writer {
     /// Appends the next record to `out`: the content, its type and `padding` zeros, which only the length of
     /// the record shows. The record is 22 bytes longer than content and padding.
     ///
-    /// A refused write appends nothing and spends no number.
+    /// A refused write appends nothing and spends no number. It fails with `OutOfMemory` only where the capacity
+    /// of `out` is too small for the record.
     pub fn write(
         &mut self,
         content_type: u8,
@@ -36,6 +37,8 @@ impl Writer {
         ensures counted { OnOk result (self.new ≡ advanced self.old) }
         ensures refused { IfErr result (RefusesToWrite self.old
             (record { content_type = content_type; content = content.now; padding = padding })) }
+        ensures room { IsErrOf result RecordError.OutOfMemory
+            → vec_capacity out.old < vec_len out.old + length content.now + padding + 22 }
         ensures kept { OnErr result ((self.new ≡ self.old) × (out.new.items ≡ out.old.items)) }
     {
         let inner_len = inner_len(content_type, content.len(), padding)?;
@@ -57,7 +60,9 @@ impl Writer {
         ensures sealed { bytes.new ≡ sealed_packet self.old.key.bytes (next_nonce self.old) HEADER_LEN bytes.old }
         ensures counted { self.new ≡ advanced self.old }
     {
-        self.key.seal_packet_in_place(bytes, HEADER_LEN).unwrap();
+        let Ok(()) = self.key.seal_packet_in_place(bytes, HEADER_LEN) else {
+            unreachable!();
+        };
         self.left -= 1;
     }
 }

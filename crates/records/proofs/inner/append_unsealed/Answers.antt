@@ -1,23 +1,20 @@
-use Rattle.std.proofs.Common.{◌≡◌, ◌+◌, ◌∷◌, [], ◌++◌, ◌∙◌, length, vec_len, ap, cond, take, replicate, ◌-◌, ℕ}
-use Rattle.std.specs.Prelude.{is_ok}
-use Rattle.std.proofs.lemmas.Slice.{pushed}
-use Rattle.records.proofs.WriteLemmas.{appended, resized}
+use Rattle.std.proofs.Common.{◌≡◌, ◌∙◌, ◌++◌, ℕ, List, length, replicate, vec_len, ◌+◌, ◌-◌, ap, ap₂, rules, arith}
+use Rattle.std.proofs.lemmas.List.{places, take_all, with_items_is}
+use Rattle.records.proofs.WriteLemmas.{laid_out}
 use Rattle.records.proofs.inner.append_unsealed.Goals as goal
 
 pub returns-clause-ok : goal.returns-clause-ok
 returns-clause-ok c =
-    let out = c.args.out.now.items in
-    let head = c.args.header.now in
-    let content = c.args.content.now in
-    let e1 = pushed head c.reserve.ensures.items c.unwrap.ensures c.extend_from_slice.ensures.items in
-    let e2 = pushed content e1 c.unwrap-2.ensures c.extend_from_slice-2.ensures.items in
-    let e3 : c.push.new.self.items ≡ ((out ++ head) ++ content) ++ c.args.content_type ∷ [] =
-    pushed (c.args.content_type ∷ []) e2 c.unwrap-3.ensures c.push.ensures.items in
-    let zeros = c.args.padding + 16 in
-    let was = c.push.new.self.items in
-    resized was c.resize.new.self.items (((out ++ head) ++ content) ++ c.args.content_type ∷ []) (vec_len c.push.new.self) zeros
-    c.resize.result c.unwrap-4.result
-    e3 (c.push.new.self.ok.0 ∙ ap length e3) c.unwrap-4.ensures
-    (c.resize.ensures.items
-    ∙ ap (λ (n : ℕ). cond (is_ok c.resize.result) (take (n + zeros) was ++ replicate (n + zeros - vec_len c.push.new.self) 0) was) c.len.ensures)
-    ∙ appended out head content c.args.content_type c.args.padding
+    let out : List ℕ = c.args.out.now.items in
+    let content : List ℕ = c.args.content.now in
+    let head : List ℕ = c.args.header.now in
+    let start = c.len-start.result in
+    let n : ℕ = 5 + length content + 1 + c.args.padding + 16 in
+    let here : start ≡ length out = c.len-start.ensures ∙ c.args.out.now.ok.0 in
+    let more : start + n - vec_len c.args.out.now ≡ n = omega (arith, c.len-start.ensures) in
+    let grown : c.as_mut_slice.result.now ≡ out ++ replicate n 0 =
+    c.as_mut_slice.ensures.value ∙ c.in_ok-resize.ensures.items
+    ∙ ap₂ (λ (ys : List ℕ) (k : ℕ). ys ++ replicate k 0) (take_all (start + n) out (omega (arith, here))) more in
+    let put = laid_out out head content c.copy_from_slice.new.self c.copy_from_slice-2.new.self c.args.content_type c.args.padding start
+    c.as_mut_slice.result.now (search rules) here grown (search rules) (search rules) in
+    with_items_is c.resize.new.self _ (ap length put ∙ search (rules, places)) ∙ put
