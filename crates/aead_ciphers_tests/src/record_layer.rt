@@ -259,24 +259,6 @@ fn no_such_content(rt: HostRuntime) -> Result<(), Fail> {
     Ok(())
 }
 
-/// Growing the buffer is the second allocation: where it is refused, nothing is appended, and the next record is
-/// still record 0.
-#[test]
-fn a_write_without_memory_spends_no_number(rt: HostRuntime) -> Result<(), Fail> {
-    let case = &OF_AES_128[0];
-    let mut writer = Writer::new(&AES_128_GCM, &KEY[..16], IV)?;
-    let mut bytes = b"before".to_vec(rt.alloc())?;
-    if let Err(error) = writer.write(case.content_type, case.content, 0, &mut bytes) {
-        assert!(rt; error == RecordError::OutOfMemory);
-        assert_eq!(rt; bytes.as_slice(), b"before".as_slice());
-        println!(rt; "1 refused")?;
-        writer.write(case.content_type, case.content, 0, &mut bytes)?;
-    }
-    let expected = hex::decode(rt.alloc(), case.record)?;
-    assert_eq!(rt; bytes.get(6..), Some(expected.as_slice()));
-    Ok(())
-}
-
 /// The longest content, and the longest padding.
 #[test]
 fn longest_records(rt: HostRuntime) -> Result<(), Fail> {
