@@ -1,1 +1,2 @@
+mod LoanOver
 mod TwoBlocks

@@ -35,6 +35,8 @@ mod items;
 #[cfg(test)]
 mod laws;
 #[cfg(test)]
+mod loans;
+#[cfg(test)]
 mod masks;
 #[cfg(test)]
 mod overlapping;

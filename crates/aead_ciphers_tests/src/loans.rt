@@ -1,0 +1,212 @@
+//! The five calls that lend a plaintext: what the buffer holds once the loan is over. The three callers with clauses show
+//! what a caller's proof gets from the calls' own.
+
+ghost use Rattle.std.specs.Prelude.{◌≡◌, IsFalse};
+ghost use Rattle.aead_ciphers.specs.AesGcm.{AesOpenedAttached};
+ghost use Rattle.aead_ciphers.specs.Steps.{OpenStep};
+ghost use Rattle.aead_ciphers.specs.Values.{aad_bytes};
+
+use crate::cases::{aad, key, nonce, sealed, unbound_key};
+use crate::checks::{holds, same};
+use aead_ciphers::aead::{
+    Aad, BoundKey, LessSafeKey, Nonce, NonceSequence, OpeningKey, Tag, Unspecified,
+};
+use aead_vectors::gcm_spec::CASE_4;
+use std::alloc::Global;
+use std::ops::RangeFrom;
+use std::process::Abort;
+use std::test::Fail;
+use uses::one_nonce::OneNonce;
+
+/// Opens, and lets the plaintext go that was lent: every byte of the buffer is known.
+fn opens(
+    key: &LessSafeKey,
+    nonce: Nonce,
+    aad: Aad<'_>,
+    in_out: &mut [u8],
+    ciphertext_and_tag: RangeFrom<usize>,
+) -> bool
+    ensures opened { AesOpenedAttached key.now.bytes nonce (aad_bytes aad.entry)
+        ciphertext_and_tag.start in_out.old result in_out.new }
+    ensures refused { IsFalse result → in_out.new ≡ in_out.old }
+{
+    match key.open_within(nonce, aad, in_out, ciphertext_and_tag) {
+        Ok(_) => true,
+        Err(_) => false,
+    }
+}
+
+/// `opens` over the call that answers the plaintext's length.
+fn opens_to_front(
+    key: &LessSafeKey,
+    nonce: Nonce,
+    aad: Aad<'_>,
+    in_out: &mut [u8],
+    ciphertext_and_tag: RangeFrom<usize>,
+) -> bool
+    ensures opened { AesOpenedAttached key.now.bytes nonce (aad_bytes aad.entry)
+        ciphertext_and_tag.start in_out.old result in_out.new }
+    ensures refused { IsFalse result → in_out.new ≡ in_out.old }
+{
+    key.open_within_to_front(nonce, aad, in_out, ciphertext_and_tag)
+        .is_ok()
+}
+
+/// `opens` under the next nonce of a sequence.
+fn opens_next<N: NonceSequence>(
+    key: &mut OpeningKey<N>,
+    aad: Aad<'_>,
+    in_out: &mut [u8],
+    ciphertext_and_tag: RangeFrom<usize>,
+) -> bool
+    ensures step { OpenStep N.spent N.is_closed key.old key.new (aad_bytes aad.entry)
+        ciphertext_and_tag.start in_out.old in_out.new result }
+    ensures refused { IsFalse result → in_out.new ≡ in_out.old }
+{
+    match key.open_within(aad, in_out, ciphertext_and_tag) {
+        Ok(_) => true,
+        Err(_) => false,
+    }
+}
+
+fn opening_once() -> Result<OpeningKey<OneNonce>, Fail> {
+    Ok(OpeningKey::new(unbound_key(&CASE_4)?, OneNonce::new(CASE_4.nonce)))
+}
+
+#[test]
+fn callers_with_clauses(rt: HostRuntime) -> Result<(), Fail> {
+    let key = key(&CASE_4)?;
+    let packet = sealed(rt.alloc(), &CASE_4, &[])?;
+    let opened = opens(
+        &key,
+        nonce(&CASE_4),
+        aad(&CASE_4),
+        &mut packet.clone()?,
+        0..,
+    );
+    holds(&rt, opened, "the call that lends");
+    let opened = opens_to_front(
+        &key,
+        nonce(&CASE_4),
+        aad(&CASE_4),
+        &mut packet.clone()?,
+        0..,
+    );
+    holds(&rt, opened, "the call that answers a length");
+    let opened = opens_next(
+        &mut opening_once()?,
+        aad(&CASE_4),
+        &mut packet.clone()?,
+        0..,
+    );
+    holds(&rt, opened, "the opening key's");
+    Ok(())
+}
+
+/// A call that lends the plaintext.
+#[derive(Clone, Copy)]
+enum Call {
+    SeparateTag,
+    Within,
+    InPlace,
+    NextWithin,
+    NextInPlace,
+}
+
+/// Each call, and the start from which it opens.
+const CALLS: [(Call, usize); 5] = [
+    (Call::SeparateTag, 4),
+    (Call::Within, 4),
+    (Call::InPlace, 0),
+    (Call::NextWithin, 4),
+    (Call::NextInPlace, 0),
+];
+
+/// Writes over the plaintext, if there is one.
+fn fills(opened: Result<&mut [u8], Unspecified>) -> bool {
+    match opened {
+        Ok(plaintext) => {
+            plaintext.fill(0x11);
+            true
+        }
+        Err(_) => false,
+    }
+}
+
+/// Opens test case 4, and writes over the plaintext.
+fn opens_and_fills(call: Call, in_out: &mut [u8], start: usize) -> Result<bool, Fail> {
+    let key = key(&CASE_4)?;
+    let mut opening = opening_once()?;
+    let (nonce, aad, tag) = (nonce(&CASE_4), aad(&CASE_4), Tag::from(CASE_4.tag));
+    Ok(match call {
+        Call::SeparateTag => {
+            fills(key.open_in_place_separate_tag(nonce, aad, tag, in_out, start..))
+        }
+        Call::Within => fills(key.open_within(nonce, aad, in_out, start..)),
+        Call::InPlace => fills(key.open_in_place(nonce, aad, in_out)),
+        Call::NextWithin => fills(opening.open_within(aad, in_out, start..)),
+        Call::NextInPlace => fills(opening.open_in_place(aad, in_out)),
+    })
+}
+
+/// What a call opens: bytes up to the start, and the ciphertext, with the tag behind it unless that is separate.
+fn buffer(alloc: Global, call: Call, start: usize) -> Result<Vec<u8>, Fail> {
+    let front = [0xee; 4];
+    let mut bytes = sealed(alloc, &CASE_4, front.get(..start).ok_or("a start")?)?;
+    if let Call::SeparateTag = call {
+        bytes.truncate(64);
+    }
+    Ok(bytes)
+}
+
+/// A call accepts the buffer, which ends as what was written over the plaintext and each later byte as it was.
+fn ends_filled(rt: &impl Abort, alloc: Global, call: Call, start: usize) -> Result<(), Fail> {
+    let mut wanted = buffer(alloc, call, start)?;
+    let mut in_out = wanted.clone()?;
+    holds(rt, opens_and_fills(call, &mut in_out, start)?, "accepted");
+    for byte in wanted.iter_mut().take(60) {
+        *byte = 0x11;
+    }
+    same(rt, &in_out, &wanted, "the buffer after the loan");
+    Ok(())
+}
+
+#[test]
+fn a_loan_ends_with_what_was_written(rt: HostRuntime) -> Result<(), Fail> {
+    for (call, start) in CALLS {
+        ends_filled(&rt, rt.alloc(), call, start)?;
+    }
+    Ok(())
+}
+
+/// A call refuses a buffer, and leaves each byte.
+fn stays(
+    rt: &impl Abort,
+    alloc: Global,
+    call: Call,
+    before: &[u8],
+    start: usize,
+) -> Result<(), Fail> {
+    let mut in_out = before.to_vec(alloc)?;
+    let opened = opens_and_fills(call, &mut in_out, start)?;
+    holds(rt, !opened, "refused");
+    same(rt, &in_out, before, "the buffer after the refusal");
+    Ok(())
+}
+
+/// No bytes for a tag, a start past the last one where the call takes one, and a false tag.
+#[test]
+fn a_refused_call_leaves_the_buffer(rt: HostRuntime) -> Result<(), Fail> {
+    for (call, start) in CALLS {
+        let mut bytes = buffer(rt.alloc(), call, start)?;
+        stays(&rt, rt.alloc(), call, &[7; 15], 0)?;
+        if start != 0 {
+            stays(&rt, rt.alloc(), call, &bytes, 65)?;
+        }
+        if let Some(last) = bytes.last_mut() {
+            *last ^= 1;
+        }
+        stays(&rt, rt.alloc(), call, &bytes, start)?;
+    }
+    Ok(())
+}
