@@ -1,10 +1,10 @@
 -- What the outcome of a job says of its buffer.
-use Rattle.std.proofs.Common.{◌≡◌, ℕ, ◌-◌, ◌≤◌, Bool, true, false, List, length, length-drop, Ok, refl, ap, arith}
+use Rattle.std.proofs.Common.{◌≡◌, ℕ, ◌-◌, ◌≤◌, Bool, true, false, List, length, Ok, refl}
 use Rattle.aead_ciphers.specs.BoundState.{BoundState}
 use Rattle.std.specs.Prelude.{if◌then◌else◌}
 use Rattle.aead_ciphers.specs.Steps.{OpenStep}
 use Rattle.aead_ciphers.specs.declared.session.Outcome.TheVariants.{Opened, Refused}
-use Rattle.aead_ciphers.proofs.LentPlaintext.{step_fronts}
+use Rattle.aead_ciphers.proofs.LentPlaintext.{step_fronts, within}
 
 -- the plaintext of a job that opened is within the buffer
 pub opened_within : {N : Type 0} (spent : N → List (List ℕ)) (is_closed : N → Bool) (was now : BoundState N) (aad : List ℕ) (start : ℕ)
@@ -12,8 +12,6 @@ pub opened_within : {N : Type 0} (spent : N → List (List ℕ)) (is_closed : N 
     → OpenStep spent is_closed was now aad start old new accepts → (if accepts then Opened (length old - 16 - start) else Refused) ≡ Opened n → n ≤ length new
 opened_within spent is_closed was now aad start old new true n step is =
     let m : ℕ = length old - 16 - start in
-    let count : m ≡ n = cc in
-    let fronts = step_fronts spent is_closed was now aad start old new {E = Unit {0}} m refl (Ok m) step refl in
-    let rest = ap length fronts.ok.rest in
-    omega (arith, rest, length-drop m old, length-drop m new)
+    let count : n ≡ m = cc in
+    within (Ok n) (step_fronts spent is_closed was now aad start old new {E = Unit {0}} m refl (Ok n) step count)
 opened_within spent is_closed was now aad start old new false n step is = cc

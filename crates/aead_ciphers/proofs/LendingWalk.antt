@@ -62,11 +62,11 @@ use Rattle.aead_ciphers.proofs.NextNonce.{lent_next, on_ok, on_err}
 use Rattle.aead_ciphers.specs.BoundState.{BoundState}
 use Rattle.aead_ciphers.specs.NonceSequence.{UnderNext}
 use Rattle.aead_ciphers.proofs.LentPlaintext.{Fronts, Concluded, concluded, within}
-pub use Rattle.aead_ciphers.proofs.LentPlaintext.{as_lent, attached_fronts, opened_fronts, step_fronts}
+pub use Rattle.aead_ciphers.proofs.LentPlaintext.{as_lent, length-before_tag, opened_fronts, step_fronts}
 use Rattle.aead_ciphers.specs.Steps.{OpenStep}
 pub use Rattle.aead_ciphers_base.specs.Values.{aad_bytes}
 pub use Rattle.aead_ciphers.specs.AesGcm.{AesOpened, AesOpenedAttached}
-pub use Rattle.std.proofs.Common.{arith}
+pub use Rattle.std.proofs.Common.{arith, length-drop}
 use Rattle.aead_ciphers.specs.contracts.aead.lend.lend_plaintext as L
 pub use Rattle.aead_ciphers.proofs.aead.lend.lend_plaintext.Met.{met as front_met}
 
@@ -161,7 +161,7 @@ module _ {M : Type 1} {𝓤 : Ura M} (𝓛 : Logic 𝓤) where
       module _ (v : Val) (u : Answer.Denot) (ys : List ℕ) where
         pub regains : {K : Type 0} {Γ : List (Item 𝓤)} {G : Goal 𝓤 𝓛.H} → K → Soaks G → (α : ℕ) (δ : GName)
             → {plaintext : List ℕ} {count : ℕ} → Fronts plaintext count arg.now ys u
-            → (length ys ≡ length arg.now → Typed Answer.mir (v ∷ []) → Seq K 𝓛 (raw (Lend.pre (lend v u ys)) ∷ Γ) G)
+            → (Typed Answer.mir (v ∷ []) → Seq K 𝓛 (raw (Lend.pre (lend v u ys)) ∷ Γ) G)
             → Seq K 𝓛 (‵ (flft (α ∷ []) full_share) ∷ ‵ (Answer.own_val u (v ∷ []))
             ∷ ‵ (left ((MutSlice (named 2) (α ∷ []) u8).exit yes) (record arg { ghost_name = δ }) ys) ∷ kept α δ ∷ Γ) G
         regains t soaks α δ fronts k =
@@ -173,21 +173,21 @@ module _ {M : Type 1} {𝓤 : Ura M} (𝓛 : Logic 𝓤) where
             use1 𝓛 (‵ ((MutSlice (named 0) κ u8).own_val (in_hand ys) (slice_val arg.ref_ptr (length xs) ∷ [])))
             (as_slice 𝓛 (named 0) κ b o γ ys (length xs) same rm) $
             move t (2 ∷ 3 ∷ []) $ drop t $ drop t $
-            use0 𝓛 (raw (fact 𝓤 (IfOk u (λ n. n ≤ length ys)))) (fact_i 𝓤 (IfOk u (λ n. n ≤ length ys)) (emp 𝓤) (within u fronts same)) $
+            use0 𝓛 (raw (fact 𝓤 (IfOk u (λ n. n ≤ length ys)))) (fact_i 𝓤 (IfOk u (λ n. n ≤ length ys)) (emp 𝓤) (within u fronts)) $
             move t (2 ∷ 1 ∷ 3 ∷ 0 ∷ []) $ readies 𝓛 t L.signature (L.spec 𝓛 𝓜.mem 𝓡.returns) (lend v u ys) $
-            k same ((answer_Lawful 𝓛).typed u (v ∷ []) is-u)))
+            k ((answer_Lawful 𝓛).typed u (v ∷ []) is-u)))
 
         -- `lend_plaintext` is called, and gives the front, which is the plaintext
         pub lends : {K : Type 0} {Γ : List (Item 𝓤)} {E : Env 𝓤 𝓛.H} {Λ : Loops 𝓤 𝓛.H} {q' : Post 𝓤 𝓛.H}
             {f : Callee} {xs : List Opd} {d : Place} {rest : Body} → K → Triple 𝓤 (calls_of 𝓜 𝓡 f) Lend
-            → {plaintext : List ℕ} {count : ℕ} → Fronts plaintext count arg.now ys u → length ys ≡ length arg.now
+            → {plaintext : List ℕ} {count : ℕ} → Fronts plaintext count arg.now ys u
             → Opds K 𝓛 (raw (Lend.pre (lend v u ys)) ∷ Γ) E xs (Lend.args (lend v u ys))
             → ((w : Val) (r : (Out (MutSlice (named 2) κ u8)).Denot) → Typed (Out (MutSlice (named 2) κ u8)).mir (w ∷ [])
             → Concluded plaintext arg.now ys count u r
             → Seq K 𝓛 (‵ (flft κ q) ∷ ‵ ((Out (MutSlice (named 2) κ u8)).own_val r (w ∷ [])) ∷ ‵ (LendsFront arg r count) ∷ Γ)
             (lands (calls_of 𝓜 𝓡) Λ E d w rest q'))
             → Seq K 𝓛 (raw (Lend.pre (lend v u ys)) ∷ Γ) (runs (calls_of 𝓜 𝓡) Λ E (seq (call f xs d) rest) q')
-        lends t met {plaintext} {count} fronts long operands k =
+        lends t met {plaintext} {count} fronts operands k =
             let X = Out (MutSlice (named 2) κ u8) in
             calls_at t (table_of 𝓛 𝓜 𝓡) Lend met (lend v u ys) operands (λ w. answers 𝓛 L.ended (L.clauses 𝓛 𝓜.mem 𝓡.returns) (lend v u ys) w t tt (λ r ws.
             -- [what it says; the front; the token; nothing of the buffer and the answer]
@@ -195,7 +195,7 @@ module _ {M : Type 1} {𝓤 : Ura M} (𝓛 : Logic 𝓤) where
             use1 𝓛 (‵ (LendsFront (in_hand ys) r (count_of u)) ⊛ raw (fact 𝓤 (IsOk r ↔ IsOk u)) ⊛ raw (fact 𝓤 (IfOk r (λ x. x.now ≡ take (count_of u) ys))))
             (id⊢ 𝓤 _) $ split3 t $
             move t (1 ∷ []) $ heard t _ (λ same. move t (1 ∷ []) $ heard t _ (λ value.
-            let end : Concluded plaintext arg.now ys count u r = concluded u r fronts long same value in
+            let end : Concluded plaintext arg.now ys count u r = concluded u r fronts same value in
             use1 𝓛 (‵ (LendsFront arg r count)) (turned 𝓛 arg r (count_of u) count ys end.rest end.kept) $ move t (1 ∷ []) $
             use1 𝓛 (‵ (X.own_val r (w ∷ []))) (id⊢ 𝓤 _) $ peeks t X (Is X) (shows 𝓛 X) r (w ∷ []) (λ is-r. move t (2 ∷ 0 ∷ 1 ∷ []) $
             k w r ((out_Lawful 𝓛 (MutSlice (named 2) κ u8) (mut_slice_Lawful 𝓛 (named 2) κ u8)).typed r (w ∷ []) is-r) end)))))

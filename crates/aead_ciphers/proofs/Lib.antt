@@ -24,7 +24,6 @@ pub mod LentPlaintext
 pub mod LinearMaps
 pub mod MessageLaws
 pub mod NextNonce
-pub mod OpeningCases
 pub mod PacketLemmas
 pub mod PaddedBlocks
 pub mod ProductLoop

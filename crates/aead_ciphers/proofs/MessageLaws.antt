@@ -9,7 +9,6 @@ use Rattle.aead_ciphers_base.proofs.XorLemmas.{length-xor}
 use Rattle.aead_ciphers.specs.AesGcm.{aes_encrypted, aes_decrypted, aes_tag, aes_sealed, AesOpened}
 use Rattle.aead_ciphers.specs.Gcm.{tag}
 use Rattle.aead_ciphers.specs.Ghash.{◌•◌, block_of, ghash}
-pub use Rattle.aead_ciphers.proofs.OpeningCases.{Accepted, opened_accepted, opened_refused}
 
 length-aes : (key block : List ℕ) → length (aes key block) ≡ 16
 unfolding aes cipher add_round_key
@@ -52,5 +51,4 @@ encrypted-decrypted key nonce ciphertext = counter_mode-twice (aes key) nonce 2 
 -- what opening a whole buffer makes of it, where it accepts
 pub opened_whole : (key nonce aad received old new : List ℕ) → AesOpened key nonce aad received 0 old true new → new ≡ aes_decrypted key nonce old
 opened_whole key nonce aad received old new opened =
-    let accepted = opened_accepted (aes key) nonce aad received 0 old new opened in
-    accepted.buffer ∙ ap (λ (u : List ℕ). aes_decrypted key nonce old ++ u) (drop_of_length-le old (omega arith)) ∙ append-nil _
+    opened.buffer ∙ ap (λ (u : List ℕ). aes_decrypted key nonce old ++ u) (drop_of_length-le old (omega arith)) ∙ append-nil _

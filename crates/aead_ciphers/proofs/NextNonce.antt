@@ -1,9 +1,11 @@
 -- What an opening call says of the next nonce.
-use Rattle.std.proofs.Common.{◌≡◌, ℕ, ◌-◌, List, true, false, length, drop, take, is_ok, IfOk, OnOk, OnErr, Ok, Err, Result, refl, subst, ◌∙◌}
+use Rattle.std.proofs.Common.{◌≡◌, ℕ, ◌-◌, Bool, IsErr, List, true, false, length, drop, take, is_ok, IfOk, OnOk, OnErr, Ok, Err, Result, refl, subst, ◌∙◌}
 use Rattle.std.specs.Borrow.{MutBor}
 use Rattle.aead_ciphers.specs.AesGcm.{aes_decrypted, AesOpenedAttached}
+use Rattle.aead_ciphers.specs.BoundState.{BoundState}
 use Rattle.aead_ciphers.specs.NonceSequence.{UnderNext}
-use Rattle.aead_ciphers.proofs.LentPlaintext.{attached_fronts}
+use Rattle.aead_ciphers.specs.Steps.{OpenStep, Refuses, no_nonce}
+use Rattle.aead_ciphers.proofs.LentPlaintext.{length-before_tag, opened_fronts, stands}
 
 -- the plaintext under the nonce that was given is that under the next one
 pub plaintext_next : {E : Type 0} (is_next : List ℕ → Type 0) (key nonce aad : List ℕ) (start : ℕ) (old new : List ℕ) (answer : Result ℕ E)
@@ -11,9 +13,15 @@ pub plaintext_next : {E : Type 0} (is_next : List ℕ → Type 0) (key nonce aad
     → IfOk answer (λ n. n ≡ length old - 16 - start)
     → OnOk answer (UnderNext is_next (λ next. take (length old - 16 - start) new ≡ aes_decrypted key next (drop start (take (length old - 16) old))))
 plaintext_next {E} is_next key nonce aad start old new (Ok n) is opened count = λ next given.
-    let front = (attached_fronts {E = E} (length old - 16 - start) refl (Ok n) opened count).ok.front in
+    let front = stands n (opened_fronts {E = E} _ (length-before_tag start old _ refl) (Ok n) opened count) in
     subst (λ x. take (length old - 16 - start) new ≡ aes_decrypted key x (drop start (take (length old - 16) old))) (is next given) front
 plaintext_next is_next key nonce aad start old new (Err e) is opened count = tt
+
+-- an opening whose sequence refused
+pub no_nonce_open : {N X E : Type 0} (spent : N → List (List ℕ)) (is_closed : N → Bool) (was now : BoundState N) (aad : List ℕ) (start : ℕ)
+    (old new : List ℕ) (r : Result X E) → IsErr r → Refuses spent is_closed was now → new ≡ old → OpenStep spent is_closed was now aad start old new (is_ok r)
+no_nonce_open _ _ _ _ _ _ _ _ (Ok x) is closes e = absurd (let no = is in cc)
+no_nonce_open _ _ _ _ _ _ _ _ (Err x) is closes e = no_nonce closes e
 
 -- what holds where the core accepts holds where the call accepts
 pub on_ok : {X Y E F : Type 0} (P : Type 0) (answer : Result X E) (result : Result Y F) → is_ok answer ≡ is_ok result → OnOk answer P → OnOk result P

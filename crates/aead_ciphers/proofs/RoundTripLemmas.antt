@@ -1,5 +1,5 @@
 -- Opening undoes sealing.
-use Rattle.std.proofs.Common.{◌≡◌, ◌∙◌, refl, sym, ap₂, subst, arith, ℕ, List, ◌-◌, ◌++◌, length, append-nil, drop_of_length-le, All, Some, slice_get}
+use Rattle.std.proofs.Common.{◌≡◌, ◌∙◌, refl, sym, ap₂, subst, arith, ℕ, List, ◌++◌, length, append-nil, drop_of_length-le, All, Some, slice_get}
 use Rattle.std.proofs.lemmas.List.Elements.{All-get_or}
 use Rattle.std.proofs.lemmas.Option.{get_or_from_slice_get, slice_get_within}
 use Rattle.aead_ciphers_base.specs.Aes.{aes}
@@ -17,16 +17,11 @@ pub opens_again : (key nonce aad message : List ℕ) → Fits (length aad) (leng
 opens_again key nonce aad message fits =
     let ciphertext = aes_encrypted key nonce message in
     let size = length-counter_mode (aes key) nonce 2 message in
-    let fitting : Fits (length aad) (length ciphertext - 0) = record { aad = fits.aad; message = let m = fits.message in omega arith } in
+    let fitting : Fits (length aad) (length ciphertext) = record { aad = fits.aad; message = let m = fits.message in omega arith } in
     let none = drop_of_length-le ciphertext (omega arith) in
     let back =
     sym (ap₂ (λ xs ys. xs ++ ys) (counter_mode-twice (aes key) nonce 2 message) none ∙ append-nil message) in
     record {
-      comes_back = record {
-        out_of_range = λ past. absurd (omega arith);
-        too_long = λ _ long. absurd (long fitting);
-        right_tag = λ _ _ _. (refl, back);
-        false_tag = λ _ _ wrong. absurd (wrong refl);
-      };
-      nothing_else = λ accepts new opened. let done = opened.right_tag (omega arith) fitting refl in (done.0, done.1 ∙ sym back);
+      comes_back = record { accepted = ((λ _. (omega arith, fitting, refl)), λ _. refl); buffer = back };
+      nothing_else = λ accepts new opened. let yes = opened.accepted.1 (omega arith, fitting, refl) in (yes, (rw yes at opened.buffer) ∙ sym back);
     }

@@ -1,6 +1,6 @@
 -- Authenticated encryption over a block cipher of 16-byte blocks, with 12-byte nonces and 16-byte tags
 -- (SP 800-38D section 7). A cipher is a function on blocks; bytes are taken by index, and 0 past the end.
-use Rattle.std.specs.Prelude.{◌≡◌, ◌≢◌, ℕ, Bool, true, false, ◌+◌, ◌-◌, ◌*◌, ◌/◌, ◌^◌, ◌<◌, ◌≤◌, List, [], ◌∷◌, ◌++◌, length, take, drop, slice_index, Result, OnOk, OnErr}
+use Rattle.std.specs.Prelude.{◌≡◌, ◌↔◌, ℕ, Bool, IsTrue, if◌then◌else◌, ◌+◌, ◌-◌, ◌*◌, ◌/◌, ◌^◌, ◌<◌, ◌≤◌, List, [], ◌∷◌, ◌++◌, length, take, drop, slice_index, Result, OnOk, OnErr}
 use Rattle.std.specs.Int.{to_be_bytes, w64}
 use Rattle.aead_ciphers_base.specs.Bytes.{each_below, ◌⊕◌, zero_block}
 use Rattle.aead_ciphers_base.specs.CounterMode.{counter_block, counter_mode}
@@ -47,22 +47,24 @@ abbrev pub sealed : (List ℕ → List ℕ) → List ℕ → List ℕ → List �
 sealed cipher nonce aad message =
     let ciphertext = encrypted cipher nonce message in ciphertext ++ tag cipher nonce aad ciphertext
 
--- What opening the bytes of a buffer from `start` on, under a received tag, makes of the buffer, and whether it accepts
--- (section 7.2): the message stands at the front, and a refusal changes no byte.
-pub record Opened (cipher : List ℕ → List ℕ) (nonce aad received : List ℕ) (start : ℕ) (old : List ℕ) (accepts : Bool) (new : List ℕ) : Type 0 where
-  pub out_of_range : length old < start → (accepts ≡ false) × (new ≡ old)
-  pub too_long : start ≤ length old → ¬ Fits (length aad) (length old - start) → (accepts ≡ false) × (new ≡ old)
-  pub right_tag : start ≤ length old → Fits (length aad) (length old - start)
-      → received ≡ tag cipher nonce aad (drop start old)
-      → (accepts ≡ true) × (new ≡ decrypted cipher nonce (drop start old) ++ drop (length old - start) old)
-  pub false_tag : start ≤ length old → Fits (length aad) (length old - start)
-      → received ≢ tag cipher nonce aad (drop start old) → (accepts ≡ false) × (new ≡ old)
+-- What opening a ciphertext, where it is in range, under a received tag makes of the buffer that it stands in, and whether
+-- it accepts (section 7.2): exactly a ciphertext that is there and fits, under its own tag. The message then stands at
+-- the front, and the later bytes stay; a refusal changes no byte.
+pub record Opens (cipher : List ℕ → List ℕ) (nonce aad received ciphertext : List ℕ) (in_range : Type 0) (old : List ℕ) (accepts : Bool) (new : List ℕ) : Type 0 where
+  pub accepted : IsTrue accepts
+      ↔ (in_range × Fits (length aad) (length ciphertext) × (received ≡ tag cipher nonce aad ciphertext))
+  pub buffer : new ≡ (if accepts then decrypted cipher nonce ciphertext ++ drop (length ciphertext) old else old)
 
--- The same with the tag attached: it is the buffer's last 16 bytes, and stays.
-pub record OpenedAttached (cipher : List ℕ → List ℕ) (nonce aad : List ℕ) (start : ℕ) (old : List ℕ) (accepts : Bool) (new : List ℕ) : Type 0 where
-  pub no_tag : length old < 16 → (accepts ≡ false) × (new ≡ old)
-  pub tagged : 16 ≤ length old → let n = length old - 16 in (body : List ℕ)
-      × Opened cipher nonce aad (drop n old) start (take n old) accepts body × (new ≡ body ++ drop n old)
+-- the ciphertext is the buffer from `start` on
+abbrev pub Opened : (cipher : List ℕ → List ℕ) (nonce aad received : List ℕ) (start : ℕ) (old : List ℕ) (accepts : Bool) (new : List ℕ) → Type 0
+Opened cipher nonce aad received start old accepts new =
+    Opens cipher nonce aad received (drop start old) (start ≤ length old) old accepts new
+
+-- the same with the tag attached: it is the buffer's last 16 bytes, and stays
+abbrev pub OpenedAttached : (cipher : List ℕ → List ℕ) (nonce aad : List ℕ) (start : ℕ) (old : List ℕ) (accepts : Bool) (new : List ℕ) → Type 0
+OpenedAttached cipher nonce aad start old accepts new =
+    let n = length old - 16 in
+    Opens cipher nonce aad (drop n old) (drop start (take n old)) (start + 16 ≤ length old) old accepts new
 
 -- the cipher blocks of a seal, or of an open that accepts, of n bytes of message: one for each block of the message, and
 -- one for the tag (section 7.1 steps 3 and 6)

@@ -1,7 +1,7 @@
-use Rattle.std.specs.Prelude.{true, false, is_ok}
-use Rattle.std.proofs.Common.{◌≡◌, arith, rules, ◌∙◌, sym, refl}
+use Rattle.std.specs.Prelude.{false, is_ok}
+use Rattle.std.proofs.Common.{◌≡◌, arith, rules, ◌∙◌, sym, refl, ap, ◌++◌, drop, length-drop}
 use Rattle.aead_ciphers_base.specs.Values.{aad_bytes}
-use Rattle.aead_ciphers.specs.Gcm.{padded_blocks}
+use Rattle.aead_ciphers.specs.Gcm.{decrypted, padded_blocks}
 use Rattle.aead_ciphers.proofs.RunningHash.{tag_behind}
 use Rattle.aead_ciphers.proofs.aes_gcm.opening.open_with.Goals as goal
 
@@ -13,14 +13,10 @@ returns-in_err-verify_slices_are_equal-clause-opened g c =
     (c.increment-tag_iv.ensures.iv ∙ c.one-counter.ensures.value) c.absorb.ensures.kept
     (c.absorb.ensures.hashed (padded_blocks (aad_bytes c.args.aad)) made.hashed) c.finish-tag.ensures.tag in
     let failed : is_ok c.from_residual-in_err-verify_slices_are_equal.result ≡ false = search rules in
-    record {
-      out_of_range = λ h. absurd (omega arith);
-      too_long = λ h no. absurd (no (made.accepted.0 refl));
-      right_tag = λ h f right.
-          let same = c.as_ref.ensures ∙ found ∙ sym right ∙ sym c.as_ref-2.ensures in
-          let never : false ≡ true = c.in_err-verify_slices_are_equal.ensures.1 same in cc;
-      false_tag = λ h f wrong. (failed, refl);
-    }
+    rw failed (record {
+      accepted = ((λ no. absurd cc), λ h. let e = c.in_err-verify_slices_are_equal.ensures.1 (c.as_ref.ensures ∙ found ∙ sym h.2 ∙ sym c.as_ref-2.ensures) in cc);
+      buffer = refl;
+    })
 
 pub returns-clause-opened : goal.returns-clause-opened
 returns-clause-opened g c =
@@ -30,10 +26,9 @@ returns-clause-opened g c =
     (c.increment-tag_iv.ensures.iv ∙ c.one-counter.ensures.value) c.absorb.ensures.kept
     (c.absorb.ensures.hashed (padded_blocks (aad_bytes c.args.aad)) made.hashed) c.finish-tag.ensures.tag in
     let at = c.increment-tag_iv.ensures.counter c.args.nonce 1 c.one-counter.ensures in
+    let size = length-drop c.args.src.start c.args.in_out.now in
+    let right = sym c.as_ref-2.ensures ∙ sym (c.in_ok-verify_slices_are_equal.ensures.0 refl) ∙ c.as_ref.ensures ∙ found in
     record {
-      out_of_range = λ h. absurd (omega arith);
-      too_long = λ h no. absurd (no (made.accepted.0 refl));
-      right_tag = λ h f right. (refl, c.encrypt_within.ensures.output c.args.nonce 2 at);
-      false_tag = λ h f wrong.
-          absurd (wrong (sym c.as_ref-2.ensures ∙ sym (c.in_ok-verify_slices_are_equal.ensures.0 refl) ∙ c.as_ref.ensures ∙ found));
+      accepted = ((λ _. (omega arith, rw size (made.accepted.0 refl), right)), λ _. refl);
+      buffer = c.encrypt_within.ensures.output c.args.nonce 2 at ∙ ap (λ n. decrypted (g.A.EncryptBlock.cipher c.args.aes.now) c.args.nonce (drop c.args.src.start c.args.in_out.now) ++ drop n c.args.in_out.now) (sym size);
     }

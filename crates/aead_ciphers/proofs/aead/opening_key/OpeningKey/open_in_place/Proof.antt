@@ -29,9 +29,9 @@ open_in_place_spec 𝓤 𝓛 𝓜 𝓡 wired N LN g d met =
     hears ! (λ opened. hears ! (λ plaintext. hears ! (λ refused. hears ! (λ gave. heard ! _ (λ stands.
     let fronts = step_fronts g.spent g.is_closed was after (aad_bytes aad) 0 old new (length old - 16) (omega arith) u step counted in
     -- [the answer; four tokens; self; nothing of aad; what in_out ends as; what is kept]
-    move ! (3 ∷ 0 ∷ 7 ∷ 8 ∷ []) $ regains 𝓛 κ q in_out room 𝓜 𝓡 v u new ! tt α δ fronts (λ same typed.
+    move ! (3 ∷ 0 ∷ 7 ∷ 8 ∷ []) $ regains 𝓛 κ q in_out room 𝓜 𝓡 v u new ! tt α δ fronts (λ typed.
     lands_as ! refl refl typed.0 $ reborrows ! in_out.ref_ptr (length old) refl refl (tt, tt) slice $ lends 𝓛 κ q in_out room 𝓜 𝓡 v u new !
-    (front_met 𝓤 𝓛 𝓜 𝓡 (P.Code.calls-aead_ciphers::aead::lend::lend_plaintext 𝓡.env wired)) fronts same (gets ! tt refl) (λ w r is-r end.
+    (front_met 𝓤 𝓛 𝓜 𝓡 (P.Code.calls-aead_ciphers::aead::lend::lend_plaintext 𝓡.env wired)) fronts (gets ! tt refl) (λ w r is-r end.
     -- [in_out's token; the front; what is owed of in_out; three tokens; self; once nothing]
     lands_as ! refl refl is-r.0 $ returns ! (look_at ! 0 refl) $ free_all ! refl $ move ! (2 ∷ []) $ tells 𝓛 !
     (says_next 𝓛 _ _ _ end stays step opened plaintext gave stands) $ nothing ! $ keep ! (4 ∷ 5 ∷ 2 ∷ 6 ∷ 7 ∷ 8 ∷ 0 ∷ 3 ∷ 1 ∷ []) $
