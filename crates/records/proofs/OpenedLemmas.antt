@@ -1,12 +1,11 @@
 -- What an opening made of a sealed message that stands at the end of a buffer.
-use Rattle.std.proofs.Common.{◌≡◌, ℕ, Bool, true, false, ◌+◌, ◌-◌, ◌≤◌, List, ◌++◌, length, take, drop, refl, sym, ap, subst, ◌∙◌}
+use Rattle.std.proofs.Common.{◌≡◌, ℕ, Bool, true, false, ◌+◌, ◌-◌, ◌≤◌, List, ◌++◌, length, take, drop, refl, sym, ap, ◌∙◌}
 use Rattle.std.proofs.Common.{arith}
 use Rattle.std.specs.Prelude.{Result, Ok, Err, IfOk, OnErr, is_ok}
-use Rattle.std.proofs.lemmas.List.{append_assoc, drop-append-le, drop_at, length-drop, length-take-le, take-append-drop, take_at}
-use Rattle.aead_ciphers_base.specs.Aes.{aes}
+use Rattle.std.proofs.lemmas.List.{drop-append-le, drop_at, length-drop, length-take-le, take-append-drop, take_at}
 use Rattle.aead_ciphers.specs.AesGcm.{aes_decrypted, aes_encrypted, aes_sealed, aes_tag, AesOpenedAttached}
 use Rattle.aead_ciphers.specs.Gcm.{Fits}
-use Rattle.aead_ciphers.proofs.MessageLaws.{encrypted-decrypted, length-aes_decrypted, length-aes_encrypted, length-aes_sealed, opened_accepted}
+use Rattle.aead_ciphers.proofs.MessageLaws.{encrypted-decrypted, length-aes_decrypted, length-aes_encrypted, length-aes_sealed}
 
 module _ (key nonce aad : List ℕ) (start : ℕ) (old : List ℕ) where
   -- the message that was opened: the buffer ended with it sealed, and now begins with it
@@ -31,33 +30,22 @@ module _ (key nonce aad : List ℕ) (start : ℕ) (old : List ℕ) where
 
     pub opened_message : (new : List ℕ) → AesOpenedAttached key nonce aad start old true new → Message new
     opened_message new o =
-        let done = o.tagged (omega arith) in
-        let front = done.0 in
-        let a = opened_accepted (aes key) nonce aad (drop (length old - 16) old) start body front done.1 in
         let ciphertext : List ℕ = drop start body in
         let message : List ℕ = aes_decrypted key nonce ciphertext in
-        let size : length message ≡ length body - start = length-aes_decrypted key nonce ciphertext ∙ length-drop start body in
+        let size : length message ≡ length ciphertext = length-aes_decrypted key nonce ciphertext in
         let again : aes_encrypted key nonce message ≡ ciphertext = encrypted-decrypted key nonce ciphertext in
-        let le : length body - start ≤ length body = omega arith in
         record {
           message = message;
-          size = omega (arith, size, length-body);
-          sealed = parts ∙ ap (λ (t : List ℕ). ciphertext ++ t) a.right_tag
+          size = omega (arith, size, length-drop start body, length-body);
+          sealed = parts ∙ ap (λ (t : List ℕ). ciphertext ++ t) (o.accepted.0 refl).2
               ∙ ap (λ (c : List ℕ). c ++ aes_tag key nonce aad c) (sym again);
-          put = done.2 ∙ ap (λ (f : List ℕ). f ++ drop (length old - 16) old) a.buffer
-              ∙ append_assoc message (drop (length body - start) body) (drop (length old - 16) old)
-              ∙ ap (λ (r : List ℕ). message ++ r) (
-              sym (drop-append-le (length body - start) body (drop (length old - 16) old) le)
-              ∙ ap (drop (length body - start)) (take-append-drop (length old - 16) old)
-              ∙ ap (λ (k : ℕ). drop k old) (sym size)
-              );
+          put = o.buffer ∙ ap (λ (k : ℕ). message ++ drop k old) (sym size);
         }
 
     -- a sealed message is accepted
     pub sealed_accepted : (message new : List ℕ) (accepts : Bool) → drop start old ≡ aes_sealed key nonce aad message
         → AesOpenedAttached key nonce aad start old accepts new → accepts ≡ true
     sealed_accepted message new accepts e o =
-        let done = o.tagged (omega arith) in
         let ciphertext : List ℕ = aes_encrypted key nonce message in
         let whole : length (drop start old) ≡ length message + 16 = ap length e ∙ length-aes_sealed key nonce aad message in
         let size : length ciphertext ≡ length (drop start body) =
@@ -69,8 +57,9 @@ module _ (key nonce aad : List ℕ) (start : ℕ) (old : List ℕ) where
         let there : drop (length old - 16) old ≡ aes_tag key nonce aad ciphertext =
         sym (drop_at (drop start body) (drop (length old - 16) old) (length ciphertext) (sym size))
         ∙ ap (drop (length ciphertext)) same ∙ drop_at ciphertext (aes_tag key nonce aad ciphertext) (length ciphertext) refl in
-        let fitting : Fits (length aad) (length body - start) = subst (λ (n : ℕ). Fits (length aad) (n - start)) (sym length-body) fits in
-        (done.1.right_tag (omega (arith, length-body)) fitting (there ∙ ap (aes_tag key nonce aad) (sym here))).0
+        let fitting : Fits (length aad) (length (drop start body)) =
+        record { aad = fits.aad; message = omega (arith, fits.message, length-drop start body, length-body) } in
+        o.accepted.1 (room, fitting, there ∙ ap (aes_tag key nonce aad) (sym here))
 
     -- what an answer of an opening says
     pub answers_message : {E : Type 0} (new : List ℕ) (r : Result ℕ E) → AesOpenedAttached key nonce aad start old (is_ok r) new

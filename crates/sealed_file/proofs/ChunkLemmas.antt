@@ -1,13 +1,11 @@
 -- What the calls for one chunk say.
-use Rattle.std.proofs.Common.{◌≡◌, ℕ, Bool, true, false, inl, inr, ◌-◌, ◌≤◌, List, []}
-use Rattle.std.proofs.Common.{◌++◌, length, take, drop, map, get_or, refl, ap, ap₂, subst, ◌∙◌, arith, append-nil}
+use Rattle.std.proofs.Common.{◌≡◌, ℕ, Bool, true, ◌-◌, List}
+use Rattle.std.proofs.Common.{◌++◌, length, take, drop, map, get_or, refl, ap, ap₂, subst, ◌∙◌, arith}
 use Rattle.std.specs.List.{range_with_len}
-use Rattle.std.proofs.lemmas.Bool.{cases_lt}
-use Rattle.std.proofs.lemmas.List.{drop_all, length-take-le, take_at}
+use Rattle.std.proofs.lemmas.List.{length-take-le, take_at}
 use Rattle.std.proofs.lemmas.List.FromFn.{fill_by_all}
-use Rattle.aead_ciphers_base.specs.Aes.{aes}
 use Rattle.aead_ciphers.specs.AesGcm.{aes_encrypted, aes_decrypted, aes_sealed, aes_tag, AesOpenedAttached}
-use Rattle.aead_ciphers.proofs.MessageLaws.{Accepted, length-aes_decrypted, opened_accepted}
+use Rattle.aead_ciphers.proofs.MessageLaws.{length-aes_decrypted}
 use Rattle.sealed_file.specs.Format.{chunk_nonce, header, sealed_chunk}
 use Rattle.sealed_file.specs.Opening.{HasTag, ciphertext_of, opened_chunk}
 
@@ -28,22 +26,13 @@ sealed_is key prefix number is_last inner nonce aad old new tag k_is n_is a_is e
 module _ (key prefix : List ℕ) (number : ℕ) (is_last : Bool) (inner nonce aad old new : List ℕ)
     (k_is : inner ≡ key) (n_is : nonce ≡ chunk_nonce prefix number is_last) (a_is : aad ≡ header prefix)
     (opened : AesOpenedAttached inner nonce aad 0 old true new) where
-  size : 16 ≤ length old
-  size = elim (cases_lt (length old) 16) [
-    | inl short ↦ let e : true ≡ false = (opened.no_tag short).0 in absurd (cc)
-    | inr long ↦ long
-  ]
-
-  accepted : Accepted (aes inner) nonce aad (drop (length old - 16) old) 0 (take (length old - 16) old) (opened.tagged size).0
-  accepted = opened_accepted (aes inner) nonce aad (drop (length old - 16) old) 0 (take (length old - 16) old) _ (opened.tagged size).1
-
   -- what was accepted had its tag
   pub opened_has_tag : HasTag key prefix number is_last old
   opened_has_tag = record {
-    size = size;
+    size = let is = (opened.accepted.0 refl).0 in omega arith;
     tag = subst (λ (a : List ℕ). drop (length old - 16) old ≡ aes_tag key (chunk_nonce prefix number is_last) a (ciphertext_of old)) a_is
         (subst (λ (x : List ℕ). drop (length old - 16) old ≡ aes_tag key x aad (ciphertext_of old)) n_is
-        (subst (λ (k : List ℕ). drop (length old - 16) old ≡ aes_tag k nonce aad (ciphertext_of old)) k_is accepted.right_tag));
+        (subst (λ (k : List ℕ). drop (length old - 16) old ≡ aes_tag k nonce aad (ciphertext_of old)) k_is (opened.accepted.0 refl).2));
   }
 
   -- and stands decrypted at the front
@@ -52,11 +41,7 @@ module _ (key prefix : List ℕ) (number : ℕ) (is_last : Bool) (inner nonce aa
   opened_message =
       let n = length old - 16 in
       let front = take n old in
-      let body = (opened.tagged size).0 in
       let plain = aes_decrypted inner nonce front in
-      let none : drop (length front - 0) front ≡ [] = drop_all (length front - 0) front (omega arith) in
-      let body_is : body ≡ plain = accepted.buffer ∙ ap (λ (l : List ℕ). plain ++ l) none ∙ append-nil plain in
-      let short : length front ≡ n = length-take-le n old (omega arith) in
-      let len : length body ≡ n = ap length body_is ∙ length-aes_decrypted inner nonce front ∙ short in
-      ap (take n) (opened.tagged size).2 ∙ take_at body (drop n old) n len ∙ body_is
+      let len : length plain ≡ n = length-aes_decrypted inner nonce front ∙ length-take-le n old (omega arith) in
+      ap (take n) opened.buffer ∙ take_at plain (drop (length front) old) n len
       ∙ ap (λ (k : List ℕ). aes_decrypted k nonce front) k_is ∙ ap (λ (x : List ℕ). aes_decrypted key x front) n_is

@@ -7,9 +7,9 @@ use Rattle.aead_ciphers.specs.Different.{HasInverse}
 use Rattle.aead_ciphers.specs.Gcm.{Fits}
 use Rattle.aead_ciphers_tests.proofs.laws.open_changed.Goals as goal
 
-is_refusal : {E : Type 0} (r : Result ℕ E) → is_ok r ≡ false → IsErr r
-is_refusal (Ok n) e = absurd cc
-is_refusal (Err x) e = refl
+is_refusal : {E : Type 0} (r : Result ℕ E) → ¬ IsOk r → IsErr r
+is_refusal (Ok n) no = absurd (no refl)
+is_refusal (Err x) no = refl
 
 pub returns : goal.returns
 returns c tag_is some same_aad same_text one =
@@ -26,8 +26,6 @@ returns c tag_is some same_aad same_text one =
     let tag_was : c.from-tag.result ≡ c.args.sealed.now.tag = search rules in
     let tag_now : aes_tag c.new-key.result.bytes c.assume_unique_for_key-nonce.result (aad_bytes c.from.result) old
     ≡ aes_tag key c.args.sealed.now.nonce c.args.aad.now old = cc in
-    let fits : Fits (length (aad_bytes c.from.result)) (length old - 0) =
-    record { aad = omega (arith, ap length aad_is); message = omega arith } in
-    let refused =
-    c.open_in_place_separate_tag_to_front.ensures.opened.false_tag (omega arith) fits (λ e. differ (sym tag_is ∙ sym tag_was ∙ e ∙ tag_now)) in
-    (is_refusal c.open_in_place_separate_tag_to_front.result refused.0, refused.1)
+    let refused = is_refusal c.open_in_place_separate_tag_to_front.result (λ yes.
+    differ (sym tag_is ∙ sym tag_was ∙ (c.open_in_place_separate_tag_to_front.ensures.opened.accepted.0 yes).2 ∙ tag_now)) in
+    (refused, rw refused at c.open_in_place_separate_tag_to_front.ensures.opened.buffer)
