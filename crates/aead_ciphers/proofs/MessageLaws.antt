@@ -6,7 +6,7 @@ use Rattle.aead_ciphers_base.specs.Bytes.{◌⊕◌}
 use Rattle.aead_ciphers_base.proofs.CounterModeLemmas.{length-counter_mode}
 use Rattle.aead_ciphers_base.proofs.CounterModeTwice.{counter_mode-twice}
 use Rattle.aead_ciphers_base.proofs.XorLemmas.{length-xor}
-use Rattle.aead_ciphers.specs.AesGcm.{aes_encrypted, aes_decrypted, aes_tag, aes_sealed, AesOpened}
+use Rattle.aead_ciphers.specs.AesGcm.{aes_encrypted, aes_decrypted, aes_tag, aes_sealed}
 use Rattle.aead_ciphers.specs.Gcm.{tag}
 use Rattle.aead_ciphers.specs.Ghash.{◌•◌, block_of, ghash}
 
@@ -47,8 +47,3 @@ decrypted-encrypted key nonce message = counter_mode-twice (aes key) nonce 2 mes
 
 pub encrypted-decrypted : (key nonce ciphertext : List ℕ) → aes_encrypted key nonce (aes_decrypted key nonce ciphertext) ≡ ciphertext
 encrypted-decrypted key nonce ciphertext = counter_mode-twice (aes key) nonce 2 ciphertext
-
--- what opening a whole buffer makes of it, where it accepts
-pub opened_whole : (key nonce aad received old new : List ℕ) → AesOpened key nonce aad received 0 old true new → new ≡ aes_decrypted key nonce old
-opened_whole key nonce aad received old new opened =
-    opened.buffer ∙ ap (λ (u : List ℕ). aes_decrypted key nonce old ++ u) (drop_of_length-le old (omega arith)) ∙ append-nil _

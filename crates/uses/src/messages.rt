@@ -31,7 +31,6 @@ pub fn open_behind_nonce(
 }
 
 /// Opens, and writes 7 over the first byte of the plaintext: the whole buffer is known.
-#[tactic(auto, using(aead_ciphers::proofs::MessageLaws::opened_whole))]
 pub fn open_and_mark(
     key: &LessSafeKey,
     nonce: Nonce,

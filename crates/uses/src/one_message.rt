@@ -26,7 +26,6 @@ pub fn seal(
 }
 
 /// Decrypts a ciphertext in place that `seal` made, if the tag is its own.
-#[tactic(auto, using(aead_ciphers::proofs::MessageLaws::opened_whole))]
 pub fn open(
     key_bytes: &[u8; 32],
     nonce: [u8; NONCE_LEN],
