@@ -4,9 +4,8 @@ use Rattle.std.proofs.lemmas.List.{reverse-append}
 use Rattle.aead_ciphers_base.specs.Aes.{add_round_key, aes, cipher}
 use Rattle.aead_ciphers_base.specs.Bytes.{◌⊕◌, zero_block}
 use Rattle.aead_ciphers_base.specs.CounterMode.{counter_block}
-use Rattle.aead_ciphers.specs.AesGcm.{aes_tag}
 use Rattle.aead_ciphers.specs.Different.{DifferInOneBlock, HasInverse}
-use Rattle.aead_ciphers.specs.Gcm.{hashed, tag}
+use Rattle.aead_ciphers.specs.Gcm.{hashed, gcm_tag}
 use Rattle.aead_ciphers.specs.Ghash.{IsBlock, ◌•◌, ghash}
 use Rattle.aead_ciphers.proofs.BlockCancellation.{IsBlock-zero, cancel_factor, cancel_left, cancel_right}
 use Rattle.aead_ciphers.proofs.BlockLists.{AllSized-blocks, Blocks, Each-append, Each-parts, Each-reverse}
@@ -51,8 +50,8 @@ unfolding aes cipher add_round_key
 Sized-aes key block = refl
 
 pub changed_tag : (key nonce a c a' c' : List ℕ) → Bytes a → Bytes c → Bytes a' → Bytes c' →
-    HasInverse (aes key zero_block) → DifferInOneBlock (hashed a c) (hashed a' c') → aes_tag key nonce a c ≢ aes_tag key nonce a' c'
-unfolding tag
+    HasInverse (aes key zero_block) → DifferInOneBlock (hashed a c) (hashed a' c') → gcm_tag (aes key) nonce a c ≢ gcm_tag (aes key) nonce a' c'
+unfolding gcm_tag
 changed_tag key nonce a c a' c' ha hc ha' hc' inverse d e =
     let h = aes key zero_block in
     let size = Sized-aes key zero_block in

@@ -51,6 +51,7 @@ use Rattle.std.specs.Prelude.{Bool, Result, is_ok, IsOk, IfOk, OnOk, OnErr, ◌�
 pub use mir.MapTy.{inst_fn}
 pub use denote.Param.{param, bounded}
 use denote.Triple.End.{Kepts}
+pub use Rattle.aead_ciphers_base.specs.Aes.{aes}
 use Rattle.aead_ciphers.specs.Lending.{LendsFront, count_of, lent_buffer}
 use Rattle.aead_ciphers.proofs.Lending.{Answer, answer_Lawful, Out, out_Lawful, Own, as_own, as_slice, turned}
 pub use Rattle.aead_ciphers.proofs.Lending.{nonce_word, aad_word, tag_word, range_word}
@@ -65,7 +66,7 @@ use Rattle.aead_ciphers.proofs.LentPlaintext.{Fronts, Concluded, concluded, with
 pub use Rattle.aead_ciphers.proofs.LentPlaintext.{as_lent, length-before_tag, opened_fronts, step_fronts}
 use Rattle.aead_ciphers.specs.Steps.{OpenStep}
 pub use Rattle.aead_ciphers_base.specs.Values.{aad_bytes}
-pub use Rattle.aead_ciphers.specs.AesGcm.{AesOpened, AesOpenedAttached}
+pub use Rattle.aead_ciphers.specs.Gcm.{Opened, OpenedAttached}
 pub use Rattle.std.proofs.Common.{arith, length-drop}
 use Rattle.aead_ciphers.specs.contracts.aead.lend.lend_plaintext as L
 pub use Rattle.aead_ciphers.proofs.aead.lend.lend_plaintext.Met.{met as front_met}
@@ -111,12 +112,12 @@ module _ {M : Type 1} {𝓤 : Ura M} (𝓛 : Logic 𝓤) where
       {was after : BoundState N} {aad : List ℕ} {start m : ℕ}
       {old new front : List ℕ} {u : Result ℕ E} {r : Result (MutBor (List ℕ)) E} {next : List ℕ → Type 0}
       → Concluded front old new m u r → φ → OpenStep spent is_closed was after aad start old new (is_ok u)
-      → (¬ R → UnderNext next (λ nonce. AesOpenedAttached was.key.bytes nonce aad start old (is_ok u) new))
+      → (¬ R → UnderNext next (λ nonce. OpenedAttached (aes was.key.bytes) nonce aad start old (is_ok u) new))
       → OnOk u (UnderNext next (λ nonce. front ≡ plain nonce)) → OnOk u A → OnErr u B
       → (let buffer = lent_buffer r old in ent 𝓤 (emp 𝓤) (sep 𝓤 (fact 𝓤 φ)
       (sep 𝓤 (fact 𝓤 (OpenStep spent is_closed was after aad start old buffer (is_ok r)))
       (sep 𝓤 (fact 𝓤 (IfOk r (λ lent. length lent.now ≡ m)))
-      (sep 𝓤 (fact 𝓤 (¬ R → UnderNext next (λ nonce. AesOpenedAttached was.key.bytes nonce aad start old (is_ok r) buffer)))
+      (sep 𝓤 (fact 𝓤 (¬ R → UnderNext next (λ nonce. OpenedAttached (aes was.key.bytes) nonce aad start old (is_ok r) buffer)))
       (sep 𝓤 (fact 𝓤 (IfOk r (λ lent. UnderNext next (λ nonce. lent.now ≡ plain nonce))))
       (sep 𝓤 (fact 𝓤 (OnOk r A)) (fact 𝓤 (OnErr r B)))))))))
   says_next A B plain {R = R} {spent = spent} {is_closed} {was} {after} {aad} {start} {old = old} {u = u} {r} {next}
@@ -124,7 +125,7 @@ module _ {M : Type 1} {𝓤 : Ura M} (𝓛 : Logic 𝓤) where
       says 𝓛 stays
       (says 𝓛 (as_lent (λ accepts buffer. OpenStep spent is_closed was after aad start old buffer accepts) end step)
       (says 𝓛 end.count
-      (says 𝓛 (as_lent (λ accepts buffer. ¬ R → UnderNext next (λ nonce. AesOpenedAttached was.key.bytes nonce aad start old accepts buffer)) end opened)
+      (says 𝓛 (as_lent (λ accepts buffer. ¬ R → UnderNext next (λ nonce. OpenedAttached (aes was.key.bytes) nonce aad start old accepts buffer)) end opened)
       (says 𝓛 (lent_next next plain _ u r end.accepts end.value plaintext)
       (says 𝓛 (on_ok _ u r end.accepts gives) (last 𝓛 (on_err _ u r end.accepts stands)))))))
 

@@ -6,7 +6,7 @@ use Rattle.std.specs.Prelude.{if◌then◌else◌}
 use Rattle.std.proofs.lemmas.List.{append_assoc, take-append-drop, take_at, drop_at, drop-append-le, length-take-le}
 use Rattle.aead_ciphers_base.proofs.CounterModeLemmas.{length-counter_mode}
 use Rattle.aead_ciphers.specs.BoundState.{BoundState}
-use Rattle.aead_ciphers.specs.Gcm.{decrypted, Opened, OpenedAttached, Opens}
+use Rattle.aead_ciphers.specs.Gcm.{gcm_decrypted, Opened, OpenedAttached, Opens}
 use Rattle.aead_ciphers.specs.Lending.{count_of, lent_buffer}
 use Rattle.aead_ciphers.specs.Steps.{OpenStep, no_nonce, opened}
 
@@ -62,11 +62,11 @@ module _ {cipher : List ℕ → List ℕ} {nonce aad received ciphertext : List 
   -- the length m of the plaintext, as it may be written
   pub opened_fronts : {E : Type 0} (m : ℕ) → length ciphertext ≡ m → (answer : Result ℕ E)
       → Opens cipher nonce aad received ciphertext in_range old (is_ok answer) new → IfOk answer (λ n. n ≡ m)
-      → Fronts (decrypted cipher nonce ciphertext) m old new answer
+      → Fronts (gcm_decrypted cipher nonce ciphertext) m old new answer
   opened_fronts m size answer step count = record {
     size = length-counter_mode cipher nonce 2 ciphertext ∙ size;
     count = count;
-    buffer = subst (λ k. new ≡ (if is_ok answer then decrypted cipher nonce ciphertext ++ drop k old else old)) size step.buffer;
+    buffer = subst (λ k. new ≡ (if is_ok answer then gcm_decrypted cipher nonce ciphertext ++ drop k old else old)) size step.buffer;
   }
 
 -- opening what stands before an attached tag opens the buffer
@@ -88,7 +88,7 @@ attached cipher nonce aad start old accepts body long step =
     text = drop start (take (length old - 16) old)
 
     plain : List ℕ
-    plain = decrypted cipher nonce text
+    plain = gcm_decrypted cipher nonce text
 
     kept_behind : (accepts : Bool) (body : List ℕ)
         → body ≡ (if accepts then plain ++ drop (length text) (take (length old - 16) old) else take (length old - 16) old)

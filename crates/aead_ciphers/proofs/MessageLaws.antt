@@ -6,8 +6,7 @@ use Rattle.aead_ciphers_base.specs.Bytes.{◌⊕◌}
 use Rattle.aead_ciphers_base.proofs.CounterModeLemmas.{length-counter_mode}
 use Rattle.aead_ciphers_base.proofs.CounterModeTwice.{counter_mode-twice}
 use Rattle.aead_ciphers_base.proofs.XorLemmas.{length-xor}
-use Rattle.aead_ciphers.specs.AesGcm.{aes_encrypted, aes_decrypted, aes_tag, aes_sealed}
-use Rattle.aead_ciphers.specs.Gcm.{tag}
+use Rattle.aead_ciphers.specs.Gcm.{gcm_tag, gcm_encrypted, gcm_decrypted, gcm_sealed}
 use Rattle.aead_ciphers.specs.Ghash.{◌•◌, block_of, ghash}
 
 length-aes : (key block : List ℕ) → length (aes key block) ≡ 16
@@ -26,24 +25,24 @@ unfolding ghash
 length-ghash h [] = refl
 length-ghash h (x ∷ xs) = length-xor_16 (x • _) (ghash h xs) (length-product x _) (length-ghash h xs)
 
-pub length-aes_tag : (key nonce aad ciphertext : List ℕ) → length (aes_tag key nonce aad ciphertext) ≡ 16
-unfolding tag
+pub length-aes_tag : (key nonce aad ciphertext : List ℕ) → length (gcm_tag (aes key) nonce aad ciphertext) ≡ 16
+unfolding gcm_tag
 length-aes_tag key nonce aad ciphertext = length-xor_16 (ghash _ _) (aes key _) (length-ghash _ _) (length-aes key _)
 
-pub length-aes_encrypted : (key nonce message : List ℕ) → length (aes_encrypted key nonce message) ≡ length message
+pub length-aes_encrypted : (key nonce message : List ℕ) → length (gcm_encrypted (aes key) nonce message) ≡ length message
 length-aes_encrypted key nonce message = length-counter_mode (aes key) nonce 2 message
 
-pub length-aes_decrypted : (key nonce ciphertext : List ℕ) → length (aes_decrypted key nonce ciphertext) ≡ length ciphertext
+pub length-aes_decrypted : (key nonce ciphertext : List ℕ) → length (gcm_decrypted (aes key) nonce ciphertext) ≡ length ciphertext
 length-aes_decrypted key nonce ciphertext = length-counter_mode (aes key) nonce 2 ciphertext
 
-pub length-aes_sealed : (key nonce aad message : List ℕ) → length (aes_sealed key nonce aad message) ≡ length message + 16
+pub length-aes_sealed : (key nonce aad message : List ℕ) → length (gcm_sealed (aes key) nonce aad message) ≡ length message + 16
 length-aes_sealed key nonce aad message =
-    length-append (aes_encrypted key nonce message) (aes_tag key nonce aad (aes_encrypted key nonce message))
+    length-append (gcm_encrypted (aes key) nonce message) (gcm_tag (aes key) nonce aad (gcm_encrypted (aes key) nonce message))
     ∙ ap₂ (λ (m n : ℕ). m + n) (length-aes_encrypted key nonce message) (length-aes_tag key nonce aad _)
 
 -- decrypting undoes encrypting, and encrypting decrypting
-pub decrypted-encrypted : (key nonce message : List ℕ) → aes_decrypted key nonce (aes_encrypted key nonce message) ≡ message
+pub decrypted-encrypted : (key nonce message : List ℕ) → gcm_decrypted (aes key) nonce (gcm_encrypted (aes key) nonce message) ≡ message
 decrypted-encrypted key nonce message = counter_mode-twice (aes key) nonce 2 message
 
-pub encrypted-decrypted : (key nonce ciphertext : List ℕ) → aes_encrypted key nonce (aes_decrypted key nonce ciphertext) ≡ ciphertext
+pub encrypted-decrypted : (key nonce ciphertext : List ℕ) → gcm_encrypted (aes key) nonce (gcm_decrypted (aes key) nonce ciphertext) ≡ ciphertext
 encrypted-decrypted key nonce ciphertext = counter_mode-twice (aes key) nonce 2 ciphertext

@@ -1,7 +1,8 @@
 -- What an opening call says of the next nonce.
 use Rattle.std.proofs.Common.{◌≡◌, ℕ, ◌-◌, Bool, IsErr, List, true, false, length, drop, take, is_ok, IfOk, OnOk, OnErr, Ok, Err, Result, refl, subst, ◌∙◌}
 use Rattle.std.specs.Borrow.{MutBor}
-use Rattle.aead_ciphers.specs.AesGcm.{aes_decrypted, AesOpenedAttached}
+use Rattle.aead_ciphers_base.specs.Aes.{aes}
+use Rattle.aead_ciphers.specs.Gcm.{gcm_decrypted, OpenedAttached}
 use Rattle.aead_ciphers.specs.BoundState.{BoundState}
 use Rattle.aead_ciphers.specs.NonceSequence.{UnderNext}
 use Rattle.aead_ciphers.specs.Steps.{OpenStep, Refuses, no_nonce}
@@ -9,12 +10,12 @@ use Rattle.aead_ciphers.proofs.LentPlaintext.{length-before_tag, opened_fronts, 
 
 -- the plaintext under the nonce that was given is that under the next one
 pub plaintext_next : {E : Type 0} (is_next : List ℕ → Type 0) (key nonce aad : List ℕ) (start : ℕ) (old new : List ℕ) (answer : Result ℕ E)
-    → UnderNext is_next (λ next. nonce ≡ next) → AesOpenedAttached key nonce aad start old (is_ok answer) new
+    → UnderNext is_next (λ next. nonce ≡ next) → OpenedAttached (aes key) nonce aad start old (is_ok answer) new
     → IfOk answer (λ n. n ≡ length old - 16 - start)
-    → OnOk answer (UnderNext is_next (λ next. take (length old - 16 - start) new ≡ aes_decrypted key next (drop start (take (length old - 16) old))))
+    → OnOk answer (UnderNext is_next (λ next. take (length old - 16 - start) new ≡ gcm_decrypted (aes key) next (drop start (take (length old - 16) old))))
 plaintext_next {E} is_next key nonce aad start old new (Ok n) is opened count = λ next given.
     let front = stands n (opened_fronts {E = E} _ (length-before_tag start old _ refl) (Ok n) opened count) in
-    subst (λ x. take (length old - 16 - start) new ≡ aes_decrypted key x (drop start (take (length old - 16) old))) (is next given) front
+    subst (λ x. take (length old - 16 - start) new ≡ gcm_decrypted (aes key) x (drop start (take (length old - 16) old))) (is next given) front
 plaintext_next is_next key nonce aad start old new (Err e) is opened count = tt
 
 -- an opening whose sequence refused

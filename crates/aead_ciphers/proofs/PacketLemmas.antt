@@ -2,9 +2,9 @@
 use Rattle.std.proofs.Common.{◌≡◌, ℕ, ◌+◌, ◌-◌, ◌<◌, ◌≤◌, ◌↔◌, List, Bool, true, false, length, drop, take, is_ok, IsOk, IsErr, OnOk, OnErr}
 use Rattle.std.proofs.Common.{Ok, Err, Result, refl, ap, ◌∙◌, arith, length-drop}
 use Rattle.std.proofs.lemmas.List.{drop_at, length-take-le}
-use Rattle.aead_ciphers.specs.AesGcm.{aes_sealed}
+use Rattle.aead_ciphers_base.specs.Aes.{aes}
 use Rattle.aead_ciphers.specs.BoundState.{BoundState}
-use Rattle.aead_ciphers.specs.Gcm.{Fits}
+use Rattle.aead_ciphers.specs.Gcm.{Fits, gcm_sealed}
 use Rattle.aead_ciphers.specs.NonceSequence.{Closes}
 use Rattle.aead_ciphers.specs.Packet.{PacketFits, packet_message, packet_body, sealed_packet}
 use Rattle.aead_ciphers.specs.Steps.{SealStep, no_room, no_nonce, too_long, sealed, Spends}
@@ -45,7 +45,7 @@ module _ (h : ℕ) (old : List ℕ) (room : h + 16 ≤ length old) where
     packet_step nonce new (Ok x) spends accepted ok err =
         let all : PacketFits h (length old) = accepted.0 refl in
         sealed room nonce spends (fits all.lengths)
-        (ap (drop h) ok ∙ drop_at (take h old) (aes_sealed was.key.bytes nonce (take h old) (packet_message h old)) h header_size)
+        (ap (drop h) ok ∙ drop_at (take h old) (gcm_sealed (aes was.key.bytes) nonce (take h old) (packet_message h old)) h header_size)
     packet_step nonce new (Err e) spends accepted ok err =
         too_long room nonce spends (λ it. let no : false ≡ true = accepted.1 (record { room = room; lengths = fits_back it }) in cc)
         (ap (packet_message h) err)

@@ -5,8 +5,7 @@ use Rattle.std.proofs.lemmas.Option.{get_or_from_slice_get, slice_get_within}
 use Rattle.aead_ciphers_base.specs.Aes.{aes}
 use Rattle.aead_ciphers_base.proofs.CounterModeLemmas.{length-counter_mode}
 use Rattle.aead_ciphers_base.proofs.CounterModeTwice.{counter_mode-twice}
-use Rattle.aead_ciphers.specs.AesGcm.{aes_encrypted}
-use Rattle.aead_ciphers.specs.Gcm.{Fits}
+use Rattle.aead_ciphers.specs.Gcm.{Fits, gcm_encrypted}
 use Rattle.aead_ciphers.specs.Laws.{OpensAgain}
 
 -- what holds of each item holds of the one at a place
@@ -15,7 +14,7 @@ All-slice_get P xs i x all here = subst P (get_or_from_slice_get xs i x x here) 
 
 pub opens_again : (key nonce aad message : List ℕ) → Fits (length aad) (length message) → OpensAgain key nonce aad message
 opens_again key nonce aad message fits =
-    let ciphertext = aes_encrypted key nonce message in
+    let ciphertext = gcm_encrypted (aes key) nonce message in
     let size = length-counter_mode (aes key) nonce 2 message in
     let fitting : Fits (length aad) (length ciphertext) = record { aad = fits.aad; message = let m = fits.message in omega arith } in
     let none = drop_of_length-le ciphertext (omega arith) in

@@ -8,7 +8,7 @@ use Rattle.aead_ciphers_base.proofs.BufferLemmas.{to_end}
 use Rattle.aead_ciphers_base.specs.Blocks.{blocks}
 use Rattle.aead_ciphers_base.specs.Bytes.{◌⊕◌, zero_block}
 use Rattle.aead_ciphers_base.specs.CounterMode.{counter_block}
-use Rattle.aead_ciphers.specs.Gcm.{hashed, length_block, padded_blocks, tag}
+use Rattle.aead_ciphers.specs.Gcm.{hashed, length_block, padded_blocks, gcm_tag}
 use Rattle.aead_ciphers.specs.Ghash.{◌•◌, ghash}
 use Rattle.aead_ciphers.specs.HashOf.{HashState, IsHashOf}
 use Rattle.aead_ciphers.proofs.GhashBytes.{to_be_bytes-xor}
@@ -89,8 +89,8 @@ pub tag_found : (cipher : List ℕ → List ℕ) (nonce aad text iv result : Lis
     → ended ≡ record started { xi = ended.xi } → IsHashOf started.hash_key (padded_blocks aad ++ padded_blocks text) ended.xi
     → ((done : List (List ℕ)) → IsHashOf ended.hash_key done ended.xi
     → result ≡ ghash ended.hash_key (done ++ length_block ended.aad_len ended.in_out_len ∷ []) ⊕ cipher iv)
-    → result ≡ tag cipher nonce aad text
-unfolding tag hashed
+    → result ≡ gcm_tag cipher nonce aad text
+unfolding gcm_tag hashed
 tag_found cipher nonce aad text iv result started ended eh ea en ei kept all finish =
     let bs = padded_blocks aad ++ padded_blocks text in
     let same_key = ap (λ (s : HashState). s.hash_key) kept in
@@ -106,7 +106,7 @@ pub tag_behind : (cipher : List ℕ → List ℕ) (nonce aad : List ℕ) (start 
     → IsHashOf started.hash_key (padded_blocks aad ++ padded_blocks (take (length old - start) (drop start old))) ended.xi
     → ((done : List (List ℕ)) → IsHashOf ended.hash_key done ended.xi
     → result ≡ ghash ended.hash_key (done ++ length_block ended.aad_len ended.in_out_len ∷ []) ⊕ cipher iv)
-    → result ≡ tag cipher nonce aad (drop start old)
+    → result ≡ gcm_tag cipher nonce aad (drop start old)
 tag_behind cipher nonce aad start old {iv} {result} started ended eh ea en ei kept all finish =
     tag_found cipher nonce aad (drop start old) iv result started ended eh ea (en ∙ sym (length-drop start old)) ei kept
     (subst (λ t. IsHashOf started.hash_key (padded_blocks aad ++ padded_blocks t) ended.xi) (to_end start old) all) finish

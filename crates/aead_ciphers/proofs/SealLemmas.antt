@@ -2,9 +2,9 @@
 use Rattle.std.proofs.Common.{◌≡◌, ℕ, ◌+◌, ◌-◌, ◌↔◌, ◌++◌, List, Bool, true, false, length, take, replicate, is_ok, IsOk}
 use Rattle.std.proofs.Common.{IsErr, IfOk, OnOk, OnErr, Ok, Err, Result, refl, arith, length-append}
 use Rattle.std.proofs.Math.Seq.{take-append_seam}
-use Rattle.aead_ciphers.specs.AesGcm.{aes_encrypted, aes_tag, aes_sealed}
+use Rattle.aead_ciphers_base.specs.Aes.{aes}
 use Rattle.aead_ciphers.specs.BoundState.{BoundState}
-use Rattle.aead_ciphers.specs.Gcm.{Fits}
+use Rattle.aead_ciphers.specs.Gcm.{Fits, gcm_encrypted, gcm_tag, gcm_sealed}
 use Rattle.aead_ciphers.specs.NonceSequence.{Closes}
 use Rattle.aead_ciphers.specs.Steps.{SealStep, no_room, no_nonce, too_long, sealed, Spends, with_tag}
 
@@ -33,7 +33,7 @@ module _ {N : Type 0} (spent : N → List (List ℕ)) (is_closed : N → Bool) (
 
   -- a sealing that spent its nonce
   pub spent_step : {X E : Type 0} (now : BoundState N) (nonce new : List ℕ) (r : Result X E) → grant → Spends spent is_closed was now nonce
-      → (IsOk r ↔ Fits (length aad) (length old)) → OnOk r (new ≡ aes_sealed was.key.bytes nonce aad old) → OnErr r (new ≡ old)
+      → (IsOk r ↔ Fits (length aad) (length old)) → OnOk r (new ≡ gcm_sealed (aes was.key.bytes) nonce aad old) → OnErr r (new ≡ old)
       → SealStep spent is_closed refuse grant was now aad old new (is_ok r)
   spent_step now nonce new (Ok x) g spends accepted ok err = sealed g nonce spends (accepted.0 refl) ok
   spent_step now nonce new (Err e) g spends accepted ok err =
@@ -41,8 +41,8 @@ module _ {N : Type 0} (spent : N → List (List ℕ)) (is_closed : N → Bool) (
 
   -- the same where the tag stands apart
   pub separate_step : {E : Type 0} (now : BoundState N) (nonce new : List ℕ) (r : Result (List ℕ) E) → grant → Spends spent is_closed was now nonce
-      → (IsOk r ↔ Fits (length aad) (length old)) → OnOk r (new ≡ aes_encrypted was.key.bytes nonce old)
-      → IfOk r (λ tag. tag ≡ aes_tag was.key.bytes nonce aad new) → OnErr r (new ≡ old)
+      → (IsOk r ↔ Fits (length aad) (length old)) → OnOk r (new ≡ gcm_encrypted (aes was.key.bytes) nonce old)
+      → IfOk r (λ tag. tag ≡ gcm_tag (aes was.key.bytes) nonce aad new) → OnErr r (new ≡ old)
       → SealStep spent is_closed refuse grant was now aad old (with_tag new r) (is_ok r)
   separate_step now nonce new (Ok tag) g spends accepted ok tagged err =
       sealed g nonce spends (accepted.0 refl) (rw (tagged, ok) refl)

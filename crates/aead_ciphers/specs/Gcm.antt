@@ -30,30 +30,30 @@ pub record Fits (a n : ℕ) : Type 0 where
   pub message : n ≤ 2 ^ 36 - 32
 
 -- the ciphertext of a message: counter mode from counter block 2 on (section 7.1 step 3)
-abbrev pub encrypted : (List ℕ → List ℕ) → List ℕ → List ℕ → List ℕ
-encrypted cipher nonce message = counter_mode cipher nonce 2 message
+abbrev pub gcm_encrypted : (List ℕ → List ℕ) → List ℕ → List ℕ → List ℕ
+gcm_encrypted cipher nonce message = counter_mode cipher nonce 2 message
 
 -- the message of a ciphertext: the same (section 7.2 step 4)
-abbrev pub decrypted : (List ℕ → List ℕ) → List ℕ → List ℕ → List ℕ
-decrypted cipher nonce ciphertext = counter_mode cipher nonce 2 ciphertext
+abbrev pub gcm_decrypted : (List ℕ → List ℕ) → List ℕ → List ℕ → List ℕ
+gcm_decrypted cipher nonce ciphertext = counter_mode cipher nonce 2 ciphertext
 
 -- the tag of a ciphertext, its hash subkey being the cipher of the zero block (section 7.1 steps 1 and 6)
-unfoldable pub tag : (List ℕ → List ℕ) → List ℕ → List ℕ → List ℕ → List ℕ
-tag cipher nonce aad ciphertext =
+unfoldable pub gcm_tag : (List ℕ → List ℕ) → List ℕ → List ℕ → List ℕ → List ℕ
+gcm_tag cipher nonce aad ciphertext =
     ghash (cipher zero_block) (hashed aad ciphertext) ⊕ cipher (counter_block nonce 1)
 
 -- the ciphertext of a message, followed by its tag (section 7.1 step 7)
-abbrev pub sealed : (List ℕ → List ℕ) → List ℕ → List ℕ → List ℕ → List ℕ
-sealed cipher nonce aad message =
-    let ciphertext = encrypted cipher nonce message in ciphertext ++ tag cipher nonce aad ciphertext
+abbrev pub gcm_sealed : (List ℕ → List ℕ) → List ℕ → List ℕ → List ℕ → List ℕ
+gcm_sealed cipher nonce aad message =
+    let ciphertext = gcm_encrypted cipher nonce message in ciphertext ++ gcm_tag cipher nonce aad ciphertext
 
 -- What opening a ciphertext, where it is in range, under a received tag makes of the buffer that it stands in, and whether
 -- it accepts (section 7.2): exactly a ciphertext that is there and fits, under its own tag. The message then stands at
 -- the front, and the later bytes stay; a refusal changes no byte.
 pub record Opens (cipher : List ℕ → List ℕ) (nonce aad received ciphertext : List ℕ) (in_range : Type 0) (old : List ℕ) (accepts : Bool) (new : List ℕ) : Type 0 where
   pub accepted : IsTrue accepts
-      ↔ (in_range × Fits (length aad) (length ciphertext) × (received ≡ tag cipher nonce aad ciphertext))
-  pub buffer : new ≡ (if accepts then decrypted cipher nonce ciphertext ++ drop (length ciphertext) old else old)
+      ↔ (in_range × Fits (length aad) (length ciphertext) × (received ≡ gcm_tag cipher nonce aad ciphertext))
+  pub buffer : new ≡ (if accepts then gcm_decrypted cipher nonce ciphertext ++ drop (length ciphertext) old else old)
 
 -- the ciphertext is the buffer from `start` on
 abbrev pub Opened : (cipher : List ℕ → List ℕ) (nonce aad received : List ℕ) (start : ℕ) (old : List ℕ) (accepts : Bool) (new : List ℕ) → Type 0

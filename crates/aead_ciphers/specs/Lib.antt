@@ -7,7 +7,6 @@ pub use Rattle.aead_ciphers_base.specs.Mask
 pub use Rattle.aead_ciphers_base.specs.Values
 pub use Rattle.aead_ciphers_base.specs.Work
 pub mod AeadKey
-pub mod AesGcm
 pub mod Algorithm
 pub mod BoundState
 pub mod CounterSequence

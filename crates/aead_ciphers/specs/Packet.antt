@@ -1,7 +1,7 @@
 -- A packet that is sealed in place: a header, then a message, then 16 bytes of room for the tag.
 use Rattle.std.specs.Prelude.{ℕ, ◌+◌, ◌-◌, ◌≤◌, List, ◌++◌, length, take, drop, Result, Ok, Err}
-use Rattle.aead_ciphers.specs.AesGcm.{aes_sealed}
-use Rattle.aead_ciphers.specs.Gcm.{Fits}
+use Rattle.aead_ciphers_base.specs.Aes.{aes}
+use Rattle.aead_ciphers.specs.Gcm.{Fits, gcm_sealed}
 
 -- n bytes hold a header of h bytes and the room, and the lengths of header and message have a ciphertext
 pub record PacketFits (h n : ℕ) : Type 0 where
@@ -14,7 +14,7 @@ packet_message h packet = take (length packet - 16 - h) (drop h packet)
 
 -- the packet sealed: its header, which is the AAD, then the ciphertext and the tag (SP 800-38D section 7.1)
 abbrev pub sealed_packet : (key nonce : List ℕ) → ℕ → List ℕ → List ℕ
-sealed_packet key nonce h packet = take h packet ++ aes_sealed key nonce (take h packet) (packet_message h packet)
+sealed_packet key nonce h packet = take h packet ++ gcm_sealed (aes key) nonce (take h packet) (packet_message h packet)
 
 -- what stands behind the header: the ciphertext and the tag, and after a refusal the message
 abbrev pub packet_body : {X E : Type 0} → ℕ → List ℕ → Result X E → List ℕ

@@ -1,8 +1,8 @@
 -- What one call of a bound key does, by cases: the key and its sequence, and the buffer, before and after.
 use Rattle.std.specs.Prelude.{◌≡◌, ℕ, Bool, true, false, List, ◌++◌, length, Result, Ok, Err}
-use Rattle.aead_ciphers.specs.AesGcm.{aes_sealed, AesOpenedAttached}
+use Rattle.aead_ciphers_base.specs.Aes.{aes}
 use Rattle.aead_ciphers.specs.BoundState.{BoundState}
-use Rattle.aead_ciphers.specs.Gcm.{Fits}
+use Rattle.aead_ciphers.specs.Gcm.{Fits, gcm_sealed, OpenedAttached}
 use Rattle.aead_ciphers.specs.NonceSequence.{Appends, Closes}
 
 module _ {N : Type 0} (spent : N → List (List ℕ)) (is_closed : N → Bool) where
@@ -21,13 +21,13 @@ module _ {N : Type 0} (spent : N → List (List ℕ)) (is_closed : N → Bool) w
     too_long : may_grant → (nonce : List ℕ) → Spends was now nonce → ¬ Fits (length aad) (length old) → new ≡ old
         → SealStep may_refuse may_grant was now aad old new false
     sealed : may_grant → (nonce : List ℕ) → Spends was now nonce → Fits (length aad) (length old)
-        → new ≡ aes_sealed was.key.bytes nonce aad old → SealStep may_refuse may_grant was now aad old new true
+        → new ≡ gcm_sealed (aes was.key.bytes) nonce aad old → SealStep may_refuse may_grant was now aad old new true
 
   -- Opening with the tag attached, and whether it succeeds.
   pub data OpenStep (was now : BoundState N) (aad : List ℕ) (start : ℕ) (old new : List ℕ) : Bool → Type 0 where
     no_nonce : Refuses was now → new ≡ old → OpenStep was now aad start old new false
     opened : (nonce : List ℕ) (accepts : Bool) → Spends was now nonce
-        → AesOpenedAttached was.key.bytes nonce aad start old accepts new → OpenStep was now aad start old new accepts
+        → OpenedAttached (aes was.key.bytes) nonce aad start old accepts new → OpenStep was now aad start old new accepts
 
 -- the bytes, followed by the tag where there is one
 abbrev pub with_tag : {E : Type 0} → List ℕ → Result (List ℕ) E → List ℕ

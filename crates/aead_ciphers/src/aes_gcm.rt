@@ -1,11 +1,11 @@
 //! AES-GCM with 12-byte nonces and 16-byte tags (SP 800-38D section 7), in place.
 
 ghost use Rattle.std.specs.Prelude.{◌≡◌, ◌↔◌, length, IsOk, IfOk, OnOk, OnErr, is_ok};
+ghost use Rattle.aead_ciphers_base.specs.Aes.{aes as aes_cipher};
 ghost use Rattle.aead_ciphers_base.specs.KeyBytes.{key_bytes};
 ghost use Rattle.aead_ciphers_base.specs.Values.{aad_bytes};
 ghost use Rattle.aead_ciphers_base.specs.Work.{Adds, CanAdd};
-ghost use Rattle.aead_ciphers.specs.AesGcm.{AesOpened, aes_encrypted, aes_tag};
-ghost use Rattle.aead_ciphers.specs.Gcm.{CanOpen, CanSeal, Fits, OpenWork, SealWork};
+ghost use Rattle.aead_ciphers.specs.Gcm.{CanOpen, CanSeal, Fits, OpenWork, SealWork, Opened, gcm_encrypted, gcm_tag};
 
 mod counter_mode;
 mod hash;
@@ -68,8 +68,8 @@ pub fn seal(
 ) -> Result<Tag, Unspecified>
     requires { CanSeal work.old (length (aad_bytes aad)) (length in_out.old) }
     ensures accepted { IsOk result ↔ Fits (length (aad_bytes aad.entry)) (length in_out.old) }
-    ensures ciphertext { OnOk result (in_out.new ≡ aes_encrypted key.now nonce in_out.old) }
-    ensures tag { IfOk result (λ t. t ≡ aes_tag key.now nonce (aad_bytes aad.entry) in_out.new) }
+    ensures ciphertext { OnOk result (in_out.new ≡ gcm_encrypted (aes_cipher key.now) nonce in_out.old) }
+    ensures tag { IfOk result (λ t. t ≡ gcm_tag (aes_cipher key.now) nonce (aad_bytes aad.entry) in_out.new) }
     ensures refused { OnErr result (in_out.new ≡ in_out.old) }
     ensures worked { SealWork (length (aad_bytes aad.entry)) (length in_out.old) result
         work.old work.new }
@@ -91,7 +91,7 @@ pub fn open(
     work: &mut Work,
 ) -> Result<(), Unspecified>
     requires { CanOpen work.old (length (aad_bytes aad)) src.start (length in_out.old) }
-    ensures opened { AesOpened key.now nonce (aad_bytes aad.entry) received_tag src.start in_out.old
+    ensures opened { Opened (aes_cipher key.now) nonce (aad_bytes aad.entry) received_tag src.start in_out.old
         (is_ok result) in_out.new }
     ensures worked { OpenWork (length (aad_bytes aad.entry)) src.start (length in_out.old) result
         work.old work.new }

@@ -4,10 +4,9 @@ ghost use Rattle.std.specs.Prelude.{◌≡◌, ◌≢◌, ℕ, ◌^◌, ◌-◌,
 ghost use Rattle.aead_ciphers_base.specs.Aes.{aes};
 ghost use Rattle.aead_ciphers_base.specs.Bytes.{◌⊕◌, zero_block};
 ghost use Rattle.aead_ciphers_base.specs.ChaCha20.{chacha20_encrypted};
-ghost use Rattle.aead_ciphers.specs.AesGcm.{aes_tag};
 ghost use Rattle.aead_ciphers.specs.Different.{DifferInOneBlock, DifferWhenPadded, HasInverse, masked_tag};
 ghost use Rattle.aead_ciphers.specs.FreshNonces.{GrewFresh, SealCalls};
-ghost use Rattle.aead_ciphers.specs.Gcm.{Fits, hashed, sealing_products};
+ghost use Rattle.aead_ciphers.specs.Gcm.{Fits, hashed, sealing_products, gcm_tag};
 ghost use Rattle.aead_ciphers.specs.Ghash.{IsBlock, ghash, xor_blocks};
 ghost use Rattle.aead_ciphers.specs.Laws.{EachPlace, OpensAgain};
 
@@ -52,7 +51,7 @@ pub fn encrypt_twice(key: &[u8; 32], counter: u32, nonce: &[u8; NONCE_LEN], mess
 /// If the hash subkey of the key has an inverse, a message that is changed in exactly one of the
 /// blocks that its tag hashes has another tag (SP 800-38D section 7.1).
 ///
-/// By `AesOpened` the changed message is then refused under the old tag and nonce, and the buffer
+/// By `Opened` the changed message is then refused under the old tag and nonce, and the buffer
 /// is left as it was. By `has_inverse` every hash subkey but zero has an inverse.
 pub fn one_changed_block(
     key: &[u8],
@@ -70,8 +69,8 @@ pub fn one_changed_block(
         → length ciphertext.now ≡ length other_ciphertext.now
         → DifferInOneBlock (hashed aad.now ciphertext.now)
         (hashed other_aad.now other_ciphertext.now)
-        → aes_tag key.now nonce aad.now ciphertext.now
-        ≢ aes_tag key.now nonce other_aad.now other_ciphertext.now }
+        → gcm_tag (aes key.now) nonce aad.now ciphertext.now
+        ≢ gcm_tag (aes key.now) nonce other_aad.now other_ciphertext.now }
 {}
 
 /// If two lists of blocks differ when padded, the XOR of the keys at any two places has an inverse,

@@ -1,8 +1,8 @@
 //! AES-GCM (SP 800-38D) under a nonce of the caller's choice.
 
 ghost use Rattle.std.specs.Prelude.{◌≡◌, ◌-◌, ◌↔◌, length, IsTrue, IsFalse, IsOk, IfOk, OnOk, OnErr};
-ghost use Rattle.aead_ciphers.specs.AesGcm.{aes_encrypted, aes_tag, AesOpenedAttached};
-ghost use Rattle.aead_ciphers.specs.Gcm.{Fits};
+ghost use Rattle.aead_ciphers_base.specs.Aes.{aes};
+ghost use Rattle.aead_ciphers.specs.Gcm.{Fits, gcm_encrypted, gcm_tag, OpenedAttached};
 ghost use Rattle.aead_ciphers_c.specs.AesKey.{IsAesKeyLen};
 
 use aead_ciphers::aead::{
@@ -32,8 +32,8 @@ pub(crate) fn seal(
 ) -> Result<Tag, Unspecified>
     ensures accepted { IsOk result
         ↔ (IsAesKeyLen (length key.now) × Fits (length aad.now) (length in_out.old)) }
-    ensures ciphertext { OnOk result (in_out.new ≡ aes_encrypted key.now nonce in_out.old) }
-    ensures tag { IfOk result (λ tag. tag ≡ aes_tag key.now nonce aad.now in_out.new) }
+    ensures ciphertext { OnOk result (in_out.new ≡ gcm_encrypted (aes key.now) nonce in_out.old) }
+    ensures tag { IfOk result (λ tag. tag ≡ gcm_tag (aes key.now) nonce aad.now in_out.new) }
     ensures refused { OnErr result (in_out.new ≡ in_out.old) }
 {
     aes_gcm_key(key)?.seal_in_place_separate_tag(nonce, Aad::from(aad), in_out)
@@ -53,8 +53,8 @@ pub extern "C" fn deerlapse_seal(
 ) -> bool
     ensures accepted { IsTrue result
         ↔ (IsAesKeyLen (length key.now) × Fits (length aad.now) (length in_out.old)) }
-    ensures ciphertext { IsTrue result → in_out.new ≡ aes_encrypted key.now nonce.now in_out.old }
-    ensures tag { IsTrue result → tag.new ≡ aes_tag key.now nonce.now aad.now in_out.new }
+    ensures ciphertext { IsTrue result → in_out.new ≡ gcm_encrypted (aes key.now) nonce.now in_out.old }
+    ensures tag { IsTrue result → tag.new ≡ gcm_tag (aes key.now) nonce.now aad.now in_out.new }
     ensures refused { IsFalse result → (in_out.new ≡ in_out.old) × (tag.new ≡ tag.old) }
 {
     let nonce = Nonce::assume_unique_for_key(*nonce);
@@ -84,7 +84,7 @@ pub extern "C" fn deerlapse_open(
 ) -> bool
     ensures key_len { IsTrue result → IsAesKeyLen (length key.now) }
     ensures opened { IsAesKeyLen (length key.now)
-        → AesOpenedAttached key.now nonce.now aad.now start in_out.old result in_out.new }
+        → OpenedAttached (aes key.now) nonce.now aad.now start in_out.old result in_out.new }
     ensures count { IsTrue result → plaintext_len.new ≡ length in_out.old - 16 - start }
     ensures refused { IsFalse result
         → (in_out.new ≡ in_out.old) × (plaintext_len.new ≡ plaintext_len.old) }

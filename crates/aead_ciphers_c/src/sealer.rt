@@ -1,8 +1,8 @@
 //! A key with an IV and the numbers of its messages, which seals each message under a nonce of its own.
 
 ghost use Rattle.std.specs.Prelude.{◌≡◌, ◌+◌, ◌<◌, ◌≤◌, ◌↔◌, length, drop, All, IsTrue, IsFalse};
-ghost use Rattle.aead_ciphers.specs.AesGcm.{aes_encrypted, aes_tag};
-ghost use Rattle.aead_ciphers.specs.Gcm.{Fits};
+ghost use Rattle.aead_ciphers_base.specs.Aes.{aes};
+ghost use Rattle.aead_ciphers.specs.Gcm.{Fits, gcm_encrypted, gcm_tag};
 ghost use Rattle.aead_ciphers.specs.XoredSequence.{xored_nonce};
 ghost use Rattle.aead_ciphers_c.specs.AesKey.{IsAesKeyLen};
 ghost use Rattle.aead_ciphers_c.specs.Sealer.{key_of, next_nonce};
@@ -75,9 +75,9 @@ pub extern "C" fn deerlapse_sealer_seal(
     ensures accepted { IsTrue result ↔ ((sealer.old.next < sealer.old.limit)
         × IsAesKeyLen sealer.old.key_len × Fits (length aad.now) (length in_out.old)) }
     ensures ciphertext { IsTrue result → in_out.new
-        ≡ aes_encrypted (key_of sealer.old) (next_nonce sealer.old) in_out.old }
+        ≡ gcm_encrypted (aes (key_of sealer.old)) (next_nonce sealer.old) in_out.old }
     ensures tag { IsTrue result → tag.new
-        ≡ aes_tag (key_of sealer.old) (next_nonce sealer.old) aad.now in_out.new }
+        ≡ gcm_tag (aes (key_of sealer.old)) (next_nonce sealer.old) aad.now in_out.new }
     ensures counted { IsTrue result
         → sealer.new ≡ record sealer.old { next = sealer.old.next + 1 } }
     ensures refused { IsFalse result

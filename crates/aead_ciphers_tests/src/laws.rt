@@ -3,9 +3,8 @@
 ghost use Rattle.std.specs.Prelude.{◌≡◌, ◌≢◌, ℕ, ◌<◌, List, [], ◌∷◌, ◌++◌, length, replicate, IsErr};
 ghost use Rattle.aead_ciphers_base.specs.Aes.{aes};
 ghost use Rattle.aead_ciphers_base.specs.Bytes.{◌⊕◌, zero_block};
-ghost use Rattle.aead_ciphers.specs.AesGcm.{aes_tag};
 ghost use Rattle.aead_ciphers.specs.Different.{DifferInOneBlock, DifferWhenPadded, HasInverse};
-ghost use Rattle.aead_ciphers.specs.Gcm.{Fits, hashed};
+ghost use Rattle.aead_ciphers.specs.Gcm.{Fits, hashed, gcm_tag};
 ghost use Rattle.aead_ciphers.specs.Ghash.{IsBlock, ghash, unit_block};
 
 use crate::checks::{holds, same};
@@ -37,7 +36,7 @@ fn open_changed(sealed: &Sealed<'_>, aad: &[u8], in_out: &mut [u8]) -> Result<us
     requires fits { Fits (length sealed.now.aad.now) (length sealed.now.ciphertext.now) }
     requires other_fits { Fits (length aad.now) (length in_out.old) }
     ensures { let before = sealed.now in let key = before.key.now
-        in before.tag ≡ aes_tag key before.nonce before.aad.now before.ciphertext.now
+        in before.tag ≡ gcm_tag (aes key) before.nonce before.aad.now before.ciphertext.now
         → aes key zero_block ≢ zero_block
         → length before.aad.now ≡ length aad.now → length before.ciphertext.now ≡ length in_out.old
         → DifferInOneBlock (hashed before.aad.now before.ciphertext.now) (hashed aad.now in_out.old)

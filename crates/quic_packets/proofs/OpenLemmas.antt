@@ -1,9 +1,9 @@
 -- What opening makes of a packet.
-use Rattle.std.proofs.Common.{◌≡◌, ℕ, ◌+◌, ◌-◌, ◌≤◌, true, false, List, ◌++◌, length, take, drop}
+use Rattle.std.proofs.Common.{◌≡◌, ℕ, ◌-◌, true, false, List, ◌++◌, length, take, drop}
 use Rattle.std.proofs.Common.{refl, sym, ap, ap₂, ◌∙◌, append_assoc, take-append-drop, length-drop, arith}
 use Rattle.std.proofs.lemmas.List.{drop-drop, length-take-le}
-use Rattle.aead_ciphers.specs.AesGcm.{aes_decrypted, aes_tag, AesOpenedAttached}
-use Rattle.aead_ciphers.specs.Gcm.{Fits}
+use Rattle.aead_ciphers_base.specs.Aes.{aes}
+use Rattle.aead_ciphers.specs.Gcm.{Fits, gcm_decrypted, gcm_tag, OpenedAttached}
 use Rattle.aead_ciphers.specs.XoredSequence.{xored_nonce}
 use Rattle.quic_packets.specs.Packet.{HasPayload, IsGenuine, header, opened_packet, payload, tag}
 
@@ -18,7 +18,7 @@ module _ (key iv : List ℕ) (number header_len : ℕ) (old k nonce aad sealed f
   n = length rest - 16
 
   abbrev its_tag : List ℕ → List ℕ
-  its_tag text = aes_tag key (xored_nonce iv number) (header header_len old) text
+  its_tag text = gcm_tag (aes key) (xored_nonce iv number) (header header_len old) text
 
   rest_size : length rest ≡ length old - header_len
   rest_size = length-drop header_len old
@@ -37,18 +37,18 @@ module _ (key iv : List ℕ) (number header_len : ℕ) (old k nonce aad sealed f
       let size : length (header header_len old) ≡ header_len = length-take-le header_len old (omega (arith, has.tag)) in
       record { aad = omega (arith, size, has.fits.aad); message = omega (arith, text_size, rest_size, has.fits.message) }
 
-  pub accepted : (new : List ℕ) → AesOpenedAttached k nonce aad 0 sealed true new
+  pub accepted : (new : List ℕ) → OpenedAttached (aes k) nonce aad 0 sealed true new
       → IsGenuine key iv number header_len old × (front ++ new ≡ opened_packet key iv number header_len old)
   accepted new it =
       let call = rw (k_is, nonce_is, aad_is, sealed_is) at it in
-      let message = aes_decrypted key (xored_nonce iv number) in (
+      let message = gcm_decrypted (aes key) (xored_nonce iv number) in (
         sym tag_is ∙ (call.accepted.0 refl).2 ∙ ap its_tag text_is,
         ap₂ (λ (xs ys : List ℕ). xs ++ ys) front_is (call.buffer ∙ ap (λ (m : ℕ). message (take n rest) ++ drop m rest) text_size
             ∙ ap₂ (λ (xs ys : List ℕ). message xs ++ ys) text_is tag_is)
             ∙ sym (append_assoc (header header_len old) (message (payload header_len old)) (tag old)),
       )
 
-  pub refused : (new : List ℕ) → AesOpenedAttached k nonce aad 0 sealed false new
+  pub refused : (new : List ℕ) → OpenedAttached (aes k) nonce aad 0 sealed false new
       → ¬ IsGenuine key iv number header_len old × (front ++ new ≡ old)
   refused new it =
       let call = rw (k_is, nonce_is, aad_is, sealed_is) at it in (

@@ -2,8 +2,8 @@
 -- for the tag.
 use Rattle.std.specs.Prelude.{◌≡◌, ℕ, ◌+◌, ◌-◌, ◌^◌, ◌<◌, ◌≤◌, List, ◌++◌, length, take, drop, slice_index, slice_range}
 use Rattle.std.specs.Int.{to_be_bytes, w64}
-use Rattle.aead_ciphers.specs.AesGcm.{aes_decrypted, aes_sealed, aes_tag}
-use Rattle.aead_ciphers.specs.Gcm.{Fits}
+use Rattle.aead_ciphers_base.specs.Aes.{aes}
+use Rattle.aead_ciphers.specs.Gcm.{Fits, gcm_decrypted, gcm_sealed, gcm_tag}
 use Rattle.aead_ciphers.specs.XoredSequence.{xored_nonce}
 use Rattle.quic_packets.specs.Header.{number_len}
 
@@ -31,17 +31,17 @@ tag packet = drop (length packet - 16) packet
 -- the packet sealed under a key, an IV and a number: the header, the payload's ciphertext and its tag
 abbrev pub sealed_packet : (key iv : List ℕ) (number header_len : ℕ) → List ℕ → List ℕ
 sealed_packet key iv number header_len packet =
-    header header_len packet ++ aes_sealed key (xored_nonce iv number) (header header_len packet) (payload header_len packet)
+    header header_len packet ++ gcm_sealed (aes key) (xored_nonce iv number) (header header_len packet) (payload header_len packet)
 
 -- the packet ends with the tag of its header and its ciphertext, for a key, an IV and a number
 abbrev pub IsGenuine : (key iv : List ℕ) (number header_len : ℕ) → List ℕ → Type 0
 IsGenuine key iv number header_len packet =
-    tag packet ≡ aes_tag key (xored_nonce iv number) (header header_len packet) (payload header_len packet)
+    tag packet ≡ gcm_tag (aes key) (xored_nonce iv number) (header header_len packet) (payload header_len packet)
 
 -- the packet opened: the header, the plain payload, and the tag, which stays
 abbrev pub opened_packet : (key iv : List ℕ) (number header_len : ℕ) → List ℕ → List ℕ
 opened_packet key iv number header_len packet =
-    header header_len packet ++ aes_decrypted key (xored_nonce iv number) (payload header_len packet) ++ tag packet
+    header header_len packet ++ gcm_decrypted (aes key) (xored_nonce iv number) (payload header_len packet) ++ tag packet
 
 -- the packet number stands at the end of the header, from byte `start` to below `end`: behind the first byte, and as long as that
 -- byte says (RFC 9000 sections 17.2 and 17.3.1)

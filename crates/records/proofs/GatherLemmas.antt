@@ -4,7 +4,8 @@ use Rattle.std.proofs.lemmas.List.{append_assoc, drop-append-le, drop-drop, drop
 use Rattle.std.proofs.lemmas.List.{take-append-drop, take-take, take_at}
 use Rattle.std.proofs.lemmas.Slice.{between_is}
 use Rattle.std.specs.Prelude.{Ok, Err}
-use Rattle.aead_ciphers.specs.AesGcm.{aes_sealed}
+use Rattle.aead_ciphers_base.specs.Aes.{aes}
+use Rattle.aead_ciphers.specs.Gcm.{gcm_sealed}
 use Rattle.records.specs.Record.{IsWhole, inner_plaintext}
 use Rattle.records.specs.State.{State, next_nonce, advanced, IsEnded}
 use Rattle.records.specs.Steps.{LeavesInner, Reads, Seals, overwritten}
@@ -62,7 +63,7 @@ module _ (old : List ℕ) (filled at end : ℕ) (order : (filled ≤ at) × (at 
     -- what opening answers and leaves
     abbrev Opened : List ℕ → List ℕ → ℕ → Type 0
     Opened head new len = (message : List ℕ) × (length message ≡ len)
-        × (drop (at + 5 - filled) part ≡ aes_sealed was.key.bytes (next_nonce was) head message) × (new ≡ message ++ drop len part)
+        × (drop (at + 5 - filled) part ≡ gcm_sealed (aes was.key.bytes) (next_nonce was) head message) × (new ≡ message ++ drop len part)
 
     module _ (head new : List ℕ) (len : ℕ) (is_head : head ≡ take 5 bytes) (opened : Opened head new len) where
       abbrev message : List ℕ
@@ -77,7 +78,7 @@ module _ (old : List ℕ) (filled at end : ℕ) (order : (filled ≤ at) × (at 
       seals : Seals was bytes message
       seals =
           seals_from was bytes message
-          (sym behind_header ∙ opened.2 ∙ ap (λ (aad : List ℕ). aes_sealed was.key.bytes (next_nonce was) aad message) is_head)
+          (sym behind_header ∙ opened.2 ∙ ap (λ (aad : List ℕ). gcm_sealed (aes was.key.bytes) (next_nonce was) aad message) is_head)
 
       size : length message + 21 ≡ end - at
       size = sealed_len was bytes message w seals ∙ length-bytes
@@ -132,13 +133,13 @@ module _ (old : List ℕ) (filled at end : ℕ) (order : (filled ≤ at) × (at 
 
     -- a false tag
     pub false_tag_read : (now : State) (head : List ℕ) → head ≡ take 5 bytes
-        → ((message : List ℕ) → ¬ (drop (at + 5 - filled) part ≡ aes_sealed was.key.bytes (next_nonce was) head message))
+        → ((message : List ℕ) → ¬ (drop (at + 5 - filled) part ≡ gcm_sealed (aes was.key.bytes) (next_nonce was) head message))
         → Reads was now bytes (Err Refused)
     false_tag_read now head h none =
         let not_sealed : (message : List ℕ) → ¬ Seals was bytes message =
         λ message s. none message (
         behind_header ∙ sealed_behind was bytes message s
-        ∙ ap (λ (aad : List ℕ). aes_sealed was.key.bytes (next_nonce was) aad message) (sym h)
+        ∙ ap (λ (aad : List ℕ). gcm_sealed (aes was.key.bytes) (next_nonce was) aad message) (sym h)
         ) in
         record {
           accepted = λ inner c. absurd (not_sealed (inner_plaintext inner) (carried_seals was bytes inner c));

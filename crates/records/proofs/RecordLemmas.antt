@@ -7,7 +7,8 @@ use Rattle.std.proofs.lemmas.List.{take-append-drop, take_at}
 use Rattle.std.proofs.lemmas.Nat.{be_bytes_2, from_be_bytes-to_be_bytes_2}
 use Rattle.std.specs.Int.{to_be_bytes, w16}
 use Rattle.std.specs.Prelude.{Err}
-use Rattle.aead_ciphers.specs.AesGcm.{aes_decrypted, aes_encrypted, aes_sealed, aes_tag}
+use Rattle.aead_ciphers_base.specs.Aes.{aes}
+use Rattle.aead_ciphers.specs.Gcm.{gcm_decrypted, gcm_encrypted, gcm_sealed, gcm_tag}
 use Rattle.records.specs.Record.{Inner, IsHeader, IsWhole, encrypted_len, header, inner_plaintext}
 use Rattle.records.specs.State.{State, next_nonce, IsEnded}
 use Rattle.records.specs.Steps.{Carries, Reads, RefusesBytes, RefusesToRead, Seals}
@@ -61,16 +62,16 @@ whole_not_refused bytes SequenceEnded w r = absurd r.1
 whole_not_refused bytes OutOfMemory w r = absurd r.1
 
 -- a sealed message is one message's
-pub same_sealed : (key nonce aad m m' : List ℕ) → aes_sealed key nonce aad m ≡ aes_sealed key nonce aad m' → m ≡ m'
+pub same_sealed : (key nonce aad m m' : List ℕ) → gcm_sealed (aes key) nonce aad m ≡ gcm_sealed (aes key) nonce aad m' → m ≡ m'
 same_sealed key nonce aad m m' e =
-    let c : List ℕ = aes_encrypted key nonce m in
-    let c' : List ℕ = aes_encrypted key nonce m' in
+    let c : List ℕ = gcm_encrypted (aes key) nonce m in
+    let c' : List ℕ = gcm_encrypted (aes key) nonce m' in
     let lengths : length m + 16 ≡ length m' + 16 = sym (length-aes_sealed key nonce aad m) ∙ ap length e ∙ length-aes_sealed key nonce aad m' in
     let size : length c ≡ length c' =
     length-aes_encrypted key nonce m ∙ (let s : length m ≡ length m' = omega arith in s) ∙ sym (length-aes_encrypted key nonce m') in
     let same : c ≡ c' =
-    sym (take_at c (aes_tag key nonce aad c) (length c) refl) ∙ ap (take (length c)) e ∙ take_at c' (aes_tag key nonce aad c') (length c) (sym size) in
-    sym (decrypted-encrypted key nonce m) ∙ ap (aes_decrypted key nonce) same ∙ decrypted-encrypted key nonce m'
+    sym (take_at c (gcm_tag (aes key) nonce aad c) (length c) refl) ∙ ap (take (length c)) e ∙ take_at c' (gcm_tag (aes key) nonce aad c') (length c) (sym size) in
+    sym (decrypted-encrypted key nonce m) ∙ ap (gcm_decrypted (aes key) nonce) same ∙ decrypted-encrypted key nonce m'
 
 module _ (was : State) (bytes : List ℕ) where
   module _ (inner : Inner) (c : Carries was bytes inner) where
@@ -78,7 +79,7 @@ module _ (was : State) (bytes : List ℕ) where
     aad = header (length (inner_plaintext inner) + 16)
 
     abbrev body : List ℕ
-    body = aes_sealed was.key.bytes (next_nonce was) aad (inner_plaintext inner)
+    body = gcm_sealed (aes was.key.bytes) (next_nonce was) aad (inner_plaintext inner)
 
     carried_len : length bytes ≡ 5 + (length inner.content + 1 + inner.padding + 16)
     carried_len =
@@ -99,15 +100,15 @@ module _ (was : State) (bytes : List ℕ) where
 
     pub carried_seals : Seals was bytes (inner_plaintext inner)
     carried_seals =
-        c.made ∙ ap (λ (head : List ℕ). head ++ aes_sealed was.key.bytes (next_nonce was) head (inner_plaintext inner)) (sym carried_header)
+        c.made ∙ ap (λ (head : List ℕ). head ++ gcm_sealed (aes was.key.bytes) (next_nonce was) head (inner_plaintext inner)) (sym carried_header)
 
   -- what is sealed in the bytes
-  pub sealed_behind : (message : List ℕ) → Seals was bytes message → drop 5 bytes ≡ aes_sealed was.key.bytes (next_nonce was) (take 5 bytes) message
+  pub sealed_behind : (message : List ℕ) → Seals was bytes message → drop 5 bytes ≡ gcm_sealed (aes was.key.bytes) (next_nonce was) (take 5 bytes) message
   sealed_behind message s =
-      append_cancel_left (take 5 bytes) (drop 5 bytes) (aes_sealed was.key.bytes (next_nonce was) (take 5 bytes) message)
+      append_cancel_left (take 5 bytes) (drop 5 bytes) (gcm_sealed (aes was.key.bytes) (next_nonce was) (take 5 bytes) message)
       (take-append-drop 5 bytes ∙ s)
 
-  pub seals_from : (message : List ℕ) → drop 5 bytes ≡ aes_sealed was.key.bytes (next_nonce was) (take 5 bytes) message → Seals was bytes message
+  pub seals_from : (message : List ℕ) → drop 5 bytes ≡ gcm_sealed (aes was.key.bytes) (next_nonce was) (take 5 bytes) message → Seals was bytes message
   seals_from message e = sym (take-append-drop 5 bytes) ∙ ap (λ (ys : List ℕ). take 5 bytes ++ ys) e
 
   pub same_message : (m m' : List ℕ) → Seals was bytes m → Seals was bytes m' → m ≡ m'
@@ -139,7 +140,7 @@ module _ (was : State) (bytes : List ℕ) where
       record {
         allowed = record { typed = typed; fits = omega arith };
         open_before = open_before;
-        made = s ∙ ap₂ (λ (head m : List ℕ). head ++ aes_sealed was.key.bytes (next_nonce was) head m) (w.start ∙ ap header n) e;
+        made = s ∙ ap₂ (λ (head m : List ℕ). head ++ gcm_sealed (aes was.key.bytes) (next_nonce was) head m) (w.start ∙ ap header n) e;
       }
 
   pub refuses_to_read : (error : RecordError) → RefusesBytes bytes error → RefusesToRead was bytes error

@@ -4,7 +4,8 @@ use Rattle.std.proofs.Common.{ap₂, ◌∙◌, arith}
 use Rattle.std.proofs.Math.Seq.{set-append_seam}
 use Rattle.std.proofs.lemmas.List.{append-nil, append_assoc, drop-replicate, drop_at, length-append, length-replicate}
 use Rattle.std.proofs.lemmas.List.{replicate-append-replicate, take_all, take_at}
-use Rattle.aead_ciphers.specs.AesGcm.{aes_sealed}
+use Rattle.aead_ciphers_base.specs.Aes.{aes}
+use Rattle.aead_ciphers.specs.Gcm.{gcm_sealed}
 use Rattle.aead_ciphers.specs.Packet.{packet_message, sealed_packet}
 use Rattle.aead_ciphers.proofs.MessageLaws.{length-aes_sealed}
 use borrow.Rule.Slice.PartMut.{put_mid}
@@ -67,7 +68,7 @@ laid_out out head content head' content' content_type padding a xs five here e s
 -- a record is sealed where it stands
 pub put_sealed : (key nonce out head message : List ℕ) (a : ℕ) (xs now : List ℕ) → length head ≡ 5 → a ≡ length out
     → xs ≡ out ++ (head ++ (message ++ replicate 16 0)) → now ≡ sealed_packet key nonce 5 (take (length xs - a) (drop a xs))
-    → (put_mid a (length xs - a) xs now ≡ out ++ (head ++ aes_sealed key nonce head message)) × (length (put_mid a (length xs - a) xs now) ≡ length xs)
+    → (put_mid a (length xs - a) xs now ≡ out ++ (head ++ gcm_sealed (aes key) nonce head message)) × (length (put_mid a (length xs - a) xs now) ≡ length xs)
 put_sealed key nonce out head message a xs now five here e n =
     let zeros : List ℕ = replicate 16 0 in
     let end : List ℕ = head ++ (message ++ zeros) in
@@ -78,11 +79,11 @@ put_sealed key nonce out head message a xs now five here e n =
     ap (take (length xs - a)) (ap (drop a) e ∙ drop_at out end a (sym here)) ∙ take_all (length xs - a) end (omega arith) in
     let body : packet_message 5 end ≡ message =
     ap (take (length end - 16 - 5)) (drop_at head (message ++ zeros) 5 five) ∙ take_at message zeros (length end - 16 - 5) (omega arith) in
-    let inner : now ≡ head ++ aes_sealed key nonce head message =
+    let inner : now ≡ head ++ gcm_sealed (aes key) nonce head message =
     n ∙ ap (sealed_packet key nonce 5) behind
-    ∙ ap₂ (λ (aad m : List ℕ). aad ++ aes_sealed key nonce aad m) (take_at head (message ++ zeros) 5 five) body in
+    ∙ ap₂ (λ (aad m : List ℕ). aad ++ gcm_sealed (aes key) nonce aad m) (take_at head (message ++ zeros) 5 five) body in
     let there : length now ≡ length end =
-    ap length inner ∙ length-append head (aes_sealed key nonce head message)
+    ap length inner ∙ length-append head (gcm_sealed (aes key) nonce head message)
     ∙ ap (λ (m : ℕ). length head + m) (length-aes_sealed key nonce head message) ∙ sym long in
     let put : put_mid a (length xs - a) xs now ≡ out ++ now = put_end out end now a xs e (sym here) in (
       put ∙ ap (λ (ys : List ℕ). out ++ ys) inner,

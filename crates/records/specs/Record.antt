@@ -1,7 +1,8 @@
 -- Records (RFC 8446 section 5.2).
 use Rattle.std.specs.Prelude.{◌≡◌, ◌≢◌, ℕ, ◌+◌, ◌-◌, ◌^◌, ◌<◌, ◌≤◌, List, [], ◌∷◌, ◌++◌, length, take, drop, replicate}
 use Rattle.std.specs.Int.{from_be_bytes, to_be_bytes, w16}
-use Rattle.aead_ciphers.specs.AesGcm.{aes_sealed}
+use Rattle.aead_ciphers_base.specs.Aes.{aes}
+use Rattle.aead_ciphers.specs.Gcm.{gcm_sealed}
 use Rattle.records.specs.declared.record_error.RecordError.{RecordError}
 use Rattle.records.specs.declared.record_error.RecordError.TheVariants.{NotApplicationData, EncryptedRecordTooLong, InnerPlaintextTooLong}
 use Rattle.records.specs.declared.record_error.RecordError.TheVariants.{EncryptedRecordTooShort}
@@ -38,7 +39,7 @@ encrypted_len bytes = from_be_bytes w16 (drop 3 bytes)
 -- (section 5.2)
 abbrev pub record_of : List ℕ → List ℕ → Inner → List ℕ
 record_of key nonce i =
-    let aad = header (length (inner_plaintext i) + 16) in aad ++ aes_sealed key nonce aad (inner_plaintext i)
+    let aad = header (length (inner_plaintext i) + 16) in aad ++ gcm_sealed (aes key) nonce aad (inner_plaintext i)
 
 -- one whole record: its header gives the length of what stands behind it
 pub record IsWhole (bytes : List ℕ) : Type 0 where

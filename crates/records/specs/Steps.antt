@@ -2,7 +2,8 @@
 use Rattle.std.specs.Prelude.{◌≡◌, ◌≢◌, ◌⊎◌, ℕ, ◌+◌, ◌-◌, ◌^◌, ◌<◌, ◌≤◌, List, ◌++◌, length, take, drop, replicate, Result, Ok, Err, IfOk}
 use Rattle.std.specs.Prelude.{IfErr, IsOk, OnOk}
 use Rattle.std.specs.Borrow.{Bor}
-use Rattle.aead_ciphers.specs.AesGcm.{aes_sealed}
+use Rattle.aead_ciphers_base.specs.Aes.{aes}
+use Rattle.aead_ciphers.specs.Gcm.{gcm_sealed}
 use Rattle.records.specs.Record.{Inner, IsAllowed, IsHeader, IsWhole, RefusesHeader, encrypted_len, inner_plaintext, record_of}
 use Rattle.records.specs.State.{State, next_nonce, advanced, IsEnded}
 use Rattle.records.specs.declared.record_error.RecordError.{RecordError}
@@ -31,7 +32,7 @@ RefusesToWrite was inner _ = ⊥
 
 -- the bytes are a header, and a message that is sealed with it as AAD under the nonce of the next record
 abbrev pub Seals : State → List ℕ → List ℕ → Type 0
-Seals was bytes message = bytes ≡ take 5 bytes ++ aes_sealed was.key.bytes (next_nonce was) (take 5 bytes) message
+Seals was bytes message = bytes ≡ take 5 bytes ++ gcm_sealed (aes was.key.bytes) (next_nonce was) (take 5 bytes) message
 
 -- why bytes aren't one whole record
 abbrev pub RefusesBytes : List ℕ → RecordError → Type 0

@@ -3,7 +3,8 @@ use Rattle.std.proofs.Common.{◌≡◌, ℕ, Bool, true, false, ◌+◌, ◌-�
 use Rattle.std.specs.Prelude.{◌==◌}
 use Rattle.std.proofs.lemmas.Bool.{eq-eqb, ne_eqb}
 use Rattle.std.proofs.lemmas.List.{drop-take, length-take-le, take-take}
-use Rattle.aead_ciphers.specs.AesGcm.{aes_tag}
+use Rattle.aead_ciphers_base.specs.Aes.{aes}
+use Rattle.aead_ciphers.specs.Gcm.{gcm_tag}
 use Rattle.sealed_file.specs.Format.{piece, last_piece, header, chunk_nonce, sealed_chunk, sealed_file}
 use Rattle.sealed_file.specs.Opening.{HasTag, IsSealed, HasBothTags, last_chunk, prefix_of, body_of}
 use Rattle.sealed_file.proofs.PieceLemmas.{last_piece-above, last_piece-le}
@@ -13,7 +14,7 @@ both_tags : (key prefix : List ℕ) (number : ℕ) (chunk : List ℕ) → HasTag
     → HasBothTags key prefix number chunk
 both_tags key prefix number chunk had =
     sym (back_of_sealed key prefix number false chunk) ∙ had.tag
-    ∙ ap (aes_tag key (chunk_nonce prefix number true) (header prefix)) (front_of_sealed key prefix number false chunk)
+    ∙ ap (gcm_tag (aes key) (chunk_nonce prefix number true) (header prefix)) (front_of_sealed key prefix number false chunk)
 
 module _ (key prefix file : List ℕ) (n : ℕ) (seven : length prefix ≡ 7) (some : 0 < n) (inside : n ≤ last_piece 65536 (length file)) where
   abbrev whole : List ℕ

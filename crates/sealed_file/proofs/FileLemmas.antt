@@ -5,7 +5,8 @@ use Rattle.std.specs.List.{concat}
 use Rattle.std.proofs.lemmas.List.{drop_at, length-append, take_at, take-take}
 use Rattle.aead_ciphers_base.specs.Bytes.{each_below}
 use Rattle.aead_ciphers_base.proofs.EachLemmas.{each-same}
-use Rattle.aead_ciphers.specs.AesGcm.{aes_encrypted, aes_decrypted, aes_tag}
+use Rattle.aead_ciphers_base.specs.Aes.{aes}
+use Rattle.aead_ciphers.specs.Gcm.{gcm_encrypted, gcm_decrypted, gcm_tag}
 use Rattle.sealed_file.specs.Format.{piece, last_piece, magic_and_version, header, chunk_nonce, sealed_chunk, sealed_chunks, sealed_file}
 use Rattle.sealed_file.specs.Opening.{HasTag, HasRightTag, IsSealed, opened_chunk, opened_chunks, opened_file, ciphertext_of, prefix_of, body_of, last_chunk}
 use Rattle.sealed_file.proofs.PieceLemmas.{all_pieces, joined_more, last_of_joined, length-joined, length-piece, length-piece-le, piece_of_joined}
@@ -15,44 +16,44 @@ module _ (key prefix : List ℕ) (number : ℕ) (flag : Bool) (chunk : List ℕ)
   pub length-sealed_chunk : length (sealed_chunk key prefix number flag chunk) ≡ length chunk + 16
   unfolding sealed_chunk
   length-sealed_chunk =
-      let ct = aes_encrypted key (chunk_nonce prefix number flag) chunk in
-      length-append ct (aes_tag key (chunk_nonce prefix number flag) (header prefix) ct)
+      let ct = gcm_encrypted (aes key) (chunk_nonce prefix number flag) chunk in
+      length-append ct (gcm_tag (aes key) (chunk_nonce prefix number flag) (header prefix) ct)
       ∙ ap₂ (λ (a b : ℕ). a + b) (length-aes_encrypted key (chunk_nonce prefix number flag) chunk)
       (length-aes_tag key (chunk_nonce prefix number flag) (header prefix) ct)
 
   -- the tag begins behind a ciphertext as long as the chunk
-  tag_at : length (aes_encrypted key (chunk_nonce prefix number flag) chunk) ≡ length (sealed_chunk key prefix number flag chunk) - 16
+  tag_at : length (gcm_encrypted (aes key) (chunk_nonce prefix number flag) chunk) ≡ length (sealed_chunk key prefix number flag chunk) - 16
   tag_at =
       let whole = length-sealed_chunk in
       let k = length-aes_encrypted key (chunk_nonce prefix number flag) chunk in
       omega (arith, whole, k)
 
-  pub front_of_sealed : ciphertext_of (sealed_chunk key prefix number flag chunk) ≡ aes_encrypted key (chunk_nonce prefix number flag) chunk
+  pub front_of_sealed : ciphertext_of (sealed_chunk key prefix number flag chunk) ≡ gcm_encrypted (aes key) (chunk_nonce prefix number flag) chunk
   unfolding sealed_chunk
   front_of_sealed =
-      let ct = aes_encrypted key (chunk_nonce prefix number flag) chunk in
-      take_at ct (aes_tag key (chunk_nonce prefix number flag) (header prefix) ct)
+      let ct = gcm_encrypted (aes key) (chunk_nonce prefix number flag) chunk in
+      take_at ct (gcm_tag (aes key) (chunk_nonce prefix number flag) (header prefix) ct)
       (length (sealed_chunk key prefix number flag chunk) - 16) tag_at
 
   pub back_of_sealed : drop (length (sealed_chunk key prefix number flag chunk) - 16) (sealed_chunk key prefix number flag chunk)
-      ≡ aes_tag key (chunk_nonce prefix number flag) (header prefix) (aes_encrypted key (chunk_nonce prefix number flag) chunk)
+      ≡ gcm_tag (aes key) (chunk_nonce prefix number flag) (header prefix) (gcm_encrypted (aes key) (chunk_nonce prefix number flag) chunk)
   unfolding sealed_chunk
   back_of_sealed =
-      let ct = aes_encrypted key (chunk_nonce prefix number flag) chunk in
-      drop_at ct (aes_tag key (chunk_nonce prefix number flag) (header prefix) ct)
+      let ct = gcm_encrypted (aes key) (chunk_nonce prefix number flag) chunk in
+      drop_at ct (gcm_tag (aes key) (chunk_nonce prefix number flag) (header prefix) ct)
       (length (sealed_chunk key prefix number flag chunk) - 16) tag_at
 
   -- a sealed chunk has its tag
   pub sealed_has_tag : HasTag key prefix number flag (sealed_chunk key prefix number flag chunk)
   sealed_has_tag = record {
     size = let whole = length-sealed_chunk in omega (arith, whole);
-    tag = back_of_sealed ∙ ap (aes_tag key (chunk_nonce prefix number flag) (header prefix)) (sym front_of_sealed);
+    tag = back_of_sealed ∙ ap (gcm_tag (aes key) (chunk_nonce prefix number flag) (header prefix)) (sym front_of_sealed);
   }
 
   -- and opens to the chunk
   pub opened_sealed_chunk : opened_chunk key prefix number flag (sealed_chunk key prefix number flag chunk) ≡ chunk
   unfolding opened_chunk
-  opened_sealed_chunk = ap (aes_decrypted key (chunk_nonce prefix number flag)) front_of_sealed ∙ decrypted-encrypted key (chunk_nonce prefix number flag) chunk
+  opened_sealed_chunk = ap (gcm_decrypted (aes key) (chunk_nonce prefix number flag)) front_of_sealed ∙ decrypted-encrypted key (chunk_nonce prefix number flag) chunk
 
 module _ (key prefix file : List ℕ) (seven : length prefix ≡ 7) where
   abbrev pub last : ℕ

@@ -3,7 +3,8 @@ use Rattle.std.specs.Prelude.{ℕ, Bool, ◌+◌, ◌-◌, ◌*◌, ◌/◌, Lis
 use Rattle.std.specs.List.{concat}
 use Rattle.std.specs.Int.{to_be_bytes, w32}
 use Rattle.aead_ciphers_base.specs.Bytes.{each_below}
-use Rattle.aead_ciphers.specs.AesGcm.{aes_sealed}
+use Rattle.aead_ciphers_base.specs.Aes.{aes}
+use Rattle.aead_ciphers.specs.Gcm.{gcm_sealed}
 
 -- piece i of bytes that are cut into pieces of `size` bytes, of which the last may be shorter
 abbrev pub piece : ℕ → List ℕ → ℕ → List ℕ
@@ -28,7 +29,7 @@ chunk_nonce prefix number is_last = prefix ++ to_be_bytes w32 number ++ (if is_l
 -- a chunk, sealed with the header as AAD
 unfoldable pub sealed_chunk : (key prefix : List ℕ) (number : ℕ) (is_last : Bool) (chunk : List ℕ) → List ℕ
 sealed_chunk key prefix number is_last chunk =
-    aes_sealed key (chunk_nonce prefix number is_last) (header prefix) chunk
+    gcm_sealed (aes key) (chunk_nonce prefix number is_last) (header prefix) chunk
 
 -- the first n chunks of a file, sealed
 unfoldable pub sealed_chunks : (key prefix file : List ℕ) (n : ℕ) → List ℕ

@@ -2,7 +2,8 @@
 use Rattle.std.specs.Prelude.{◌≡◌, ℕ, Bool, true, false, ◌+◌, ◌-◌, ◌^◌, ◌<◌, ◌≤◌, List, length, take, drop, ◌==◌}
 use Rattle.std.specs.List.{concat}
 use Rattle.aead_ciphers_base.specs.Bytes.{each_below}
-use Rattle.aead_ciphers.specs.AesGcm.{aes_encrypted, aes_decrypted, aes_tag}
+use Rattle.aead_ciphers_base.specs.Aes.{aes}
+use Rattle.aead_ciphers.specs.Gcm.{gcm_encrypted, gcm_decrypted, gcm_tag}
 use Rattle.sealed_file.specs.Format.{piece, last_piece, magic_and_version, header, chunk_nonce}
 
 -- what stands in front of the last 16 bytes, the tag
@@ -13,19 +14,19 @@ ciphertext_of sealed = take (length sealed - 16) sealed
 pub record HasTag (key prefix : List ℕ) (number : ℕ) (is_last : Bool) (sealed : List ℕ) : Type 0 where
   pub size : 16 ≤ length sealed
   pub tag : drop (length sealed - 16) sealed
-      ≡ aes_tag key (chunk_nonce prefix number is_last) (header prefix) (ciphertext_of sealed)
+      ≡ gcm_tag (aes key) (chunk_nonce prefix number is_last) (header prefix) (ciphertext_of sealed)
 
 -- a chunk's ciphertext as one that isn't the last has the same tag as the last one
 abbrev pub HasBothTags : (key prefix : List ℕ) (number : ℕ) (chunk : List ℕ) → Type 0
 HasBothTags key prefix number chunk =
-    let ciphertext = aes_encrypted key (chunk_nonce prefix number false) chunk in
-    aes_tag key (chunk_nonce prefix number false) (header prefix) ciphertext
-    ≡ aes_tag key (chunk_nonce prefix number true) (header prefix) ciphertext
+    let ciphertext = gcm_encrypted (aes key) (chunk_nonce prefix number false) chunk in
+    gcm_tag (aes key) (chunk_nonce prefix number false) (header prefix) ciphertext
+    ≡ gcm_tag (aes key) (chunk_nonce prefix number true) (header prefix) ciphertext
 
 -- the message of a sealed chunk
 unfoldable pub opened_chunk : (key prefix : List ℕ) (number : ℕ) (is_last : Bool) (sealed : List ℕ) → List ℕ
 opened_chunk key prefix number is_last sealed =
-    aes_decrypted key (chunk_nonce prefix number is_last) (ciphertext_of sealed)
+    gcm_decrypted (aes key) (chunk_nonce prefix number is_last) (ciphertext_of sealed)
 
 -- the prefix in a sealed file's header
 abbrev pub prefix_of : List ℕ → List ℕ

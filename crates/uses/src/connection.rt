@@ -1,10 +1,10 @@
 //! Two ends of a connection, each with a key that counts its own nonces.
 
 ghost use Rattle.std.specs.Prelude.{◌≡◌, ◌+◌, ◌-◌, ◌^◌, ◌<◌, ◌≤◌, ◌↔◌, [], length, take, vec_capacity, vec_len, is_ok, IsOk, IfOk, OnOk, OnErr};
-ghost use Rattle.aead_ciphers.specs.AesGcm.{aes_decrypted, aes_encrypted, aes_sealed, aes_tag, AesOpenedAttached};
+ghost use Rattle.aead_ciphers_base.specs.Aes.{aes};
 ghost use Rattle.aead_ciphers.specs.Algorithm.{key_len};
 ghost use Rattle.aead_ciphers.specs.CounterSequence.{nonce_at};
-ghost use Rattle.aead_ciphers.specs.Gcm.{Fits};
+ghost use Rattle.aead_ciphers.specs.Gcm.{Fits, gcm_decrypted, gcm_encrypted, gcm_sealed, gcm_tag, OpenedAttached};
 
 use aead_ciphers::aead::{
     Aad, Algorithm, BoundKey, CounterSequence, OpeningKey, SealingKey, Tag, UnboundKey, Unspecified,
@@ -47,7 +47,7 @@ pub fn send(
     aad: &[u8],
     message: &mut Vec<u8>,
 ) -> Result<(), Unspecified>
-    ensures sealed { OnOk result (message.new.items ≡ aes_sealed key.old.key.bytes
+    ensures sealed { OnOk result (message.new.items ≡ gcm_sealed (aes key.old.key.bytes)
         (nonce_at key.old.sequence key.old.sequence.used) aad.now message.old.items) }
     ensures grown { OnOk result (length message.new.items ≡ length message.old.items + 16) }
     ensures counted { OnOk result (key.new.sequence.used ≡ key.old.sequence.used + 1) }
@@ -67,9 +67,9 @@ pub fn send_apart(
     requires { length message.old ≤ 1000000 }
     ensures accepted { IsOk result ↔ (key.old.sequence.used < key.old.sequence.count) }
     ensures counted { OnOk result (key.new.sequence.used ≡ key.old.sequence.used + 1) }
-    ensures ciphertext { OnOk result (message.new ≡ aes_encrypted key.old.key.bytes
+    ensures ciphertext { OnOk result (message.new ≡ gcm_encrypted (aes key.old.key.bytes)
         (nonce_at key.old.sequence key.old.sequence.used) message.old) }
-    ensures tag { IfOk result (λ tag. tag ≡ aes_tag key.old.key.bytes
+    ensures tag { IfOk result (λ tag. tag ≡ gcm_tag (aes key.old.key.bytes)
         (nonce_at key.old.sequence key.old.sequence.used) [] message.new) }
     ensures refused { OnErr result (message.new ≡ message.old) }
 {
@@ -84,10 +84,10 @@ pub fn receive(
     message: &mut [u8],
 ) -> Result<usize, Unspecified>
     ensures nonces_left { IsOk result → key.old.sequence.used < key.old.sequence.count }
-    ensures opened { key.old.sequence.used < key.old.sequence.count → AesOpenedAttached key.old.key.bytes
+    ensures opened { key.old.sequence.used < key.old.sequence.count → OpenedAttached (aes key.old.key.bytes)
         (nonce_at key.old.sequence key.old.sequence.used) aad.now 0 message.old (is_ok result) message.new }
     ensures count { IfOk result (λ n. n ≡ length message.old - 16) }
-    ensures plaintext { OnOk result (take (length message.old - 16) message.new ≡ aes_decrypted key.old.key.bytes
+    ensures plaintext { OnOk result (take (length message.old - 16) message.new ≡ gcm_decrypted (aes key.old.key.bytes)
         (nonce_at key.old.sequence key.old.sequence.used) (take (length message.old - 16) message.old)) }
     ensures counted { key.old.sequence.used < key.old.sequence.count
         → key.new.sequence.used ≡ key.old.sequence.used + 1 }

@@ -2,8 +2,8 @@
 
 ghost use Rattle.std.specs.Prelude.{◌≡◌, ◌+◌, ◌-◌, ◌<◌, ◌≤◌, ◌↔◌, length, take, slice_set, vec_capacity, vec_len, is_ok, IsOk, IfOk, OnOk, OnErr};
 ghost use Rattle.arrayvec.specs.ArrayVec.{array_vec_len};
-ghost use Rattle.aead_ciphers.specs.AesGcm.{aes_decrypted, aes_sealed, aes_tag, AesOpenedAttached};
-ghost use Rattle.aead_ciphers.specs.Gcm.{Fits};
+ghost use Rattle.aead_ciphers_base.specs.Aes.{aes};
+ghost use Rattle.aead_ciphers.specs.Gcm.{Fits, gcm_decrypted, gcm_sealed, gcm_tag, OpenedAttached};
 ghost use Rattle.aead_ciphers.specs.Values.{aad_bytes};
 
 use aead_ciphers::aead::lend::lend_plaintext_and_rest;
@@ -18,7 +18,7 @@ pub fn open_behind_nonce(
     message: &mut [u8],
 ) -> Result<usize, Unspecified>
     ensures nonce { IsOk result → 12 ≤ length message.old }
-    ensures opened { 12 ≤ length message.old → AesOpenedAttached key.now.bytes (take 12 message.old) aad.now 12
+    ensures opened { 12 ≤ length message.old → OpenedAttached (aes key.now.bytes) (take 12 message.old) aad.now 12
         message.old (is_ok result) message.new }
     ensures count { IfOk result (λ n. n ≡ length message.old - 28) }
     ensures refused { OnErr result (message.new ≡ message.old) }
@@ -40,9 +40,9 @@ pub fn open_and_mark(
 ) -> Result<(), Unspecified>
     requires { 0 < length in_out.old }
     ensures accepted { IsOk result ↔ (Fits (length (aad_bytes aad.entry)) (length in_out.old)
-        × (tag ≡ aes_tag key.now.bytes nonce (aad_bytes aad.entry) in_out.old)) }
+        × (tag ≡ gcm_tag (aes key.now.bytes) nonce (aad_bytes aad.entry) in_out.old)) }
     ensures marked { OnOk result (in_out.new
-        ≡ slice_set (aes_decrypted key.now.bytes nonce in_out.old) 0 7) }
+        ≡ slice_set (gcm_decrypted (aes key.now.bytes) nonce in_out.old) 0 7) }
     ensures kept { OnErr result (in_out.new ≡ in_out.old) }
 {
     let opened = key.open_in_place_separate_tag_to_front(nonce, aad, tag, in_out, 0..);
@@ -65,7 +65,7 @@ pub fn append(
     ensures fits { IsOk result → Fits (length aad.now) (vec_len in_out.old) }
     ensures accepted { Fits (length aad.now) (vec_len in_out.old)
         → vec_len in_out.old + 16 ≤ vec_capacity in_out.old → IsOk result }
-    ensures sealed { OnOk result (in_out.new.items ≡ aes_sealed key.now.bytes nonce aad.now in_out.old.items) }
+    ensures sealed { OnOk result (in_out.new.items ≡ gcm_sealed (aes key.now.bytes) nonce aad.now in_out.old.items) }
     ensures grown { OnOk result (length in_out.new.items ≡ length in_out.old.items + 16) }
     ensures refused { OnErr result (in_out.new.items ≡ in_out.old.items) }
 {

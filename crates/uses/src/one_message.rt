@@ -1,8 +1,8 @@
 //! One message, sealed under a nonce of the caller's and opened again.
 
 ghost use Rattle.std.specs.Prelude.{◌≡◌, ◌↔◌, length, IsOk, IfOk, OnOk, OnErr};
-ghost use Rattle.aead_ciphers.specs.AesGcm.{aes_decrypted, aes_encrypted, aes_tag};
-ghost use Rattle.aead_ciphers.specs.Gcm.{Fits};
+ghost use Rattle.aead_ciphers_base.specs.Aes.{aes};
+ghost use Rattle.aead_ciphers.specs.Gcm.{Fits, gcm_decrypted, gcm_encrypted, gcm_tag};
 
 use aead_ciphers::aead::{
     AES_256_GCM, Aad, LessSafeKey, NONCE_LEN, Nonce, Tag, UnboundKey, Unspecified,
@@ -16,8 +16,8 @@ pub fn seal(
     in_out: &mut [u8],
 ) -> Result<Tag, Unspecified>
     ensures accepted { IsOk result ↔ Fits (length aad.now) (length in_out.old) }
-    ensures ciphertext { OnOk result (in_out.new ≡ aes_encrypted key_bytes.now nonce in_out.old) }
-    ensures tag { IfOk result (λ tag. tag ≡ aes_tag key_bytes.now nonce aad.now in_out.new) }
+    ensures ciphertext { OnOk result (in_out.new ≡ gcm_encrypted (aes key_bytes.now) nonce in_out.old) }
+    ensures tag { IfOk result (λ tag. tag ≡ gcm_tag (aes key_bytes.now) nonce aad.now in_out.new) }
     ensures refused { OnErr result (in_out.new ≡ in_out.old) }
 {
     let key = LessSafeKey::new(UnboundKey::new(&AES_256_GCM, key_bytes)?);
@@ -34,8 +34,8 @@ pub fn open(
     in_out: &mut [u8],
 ) -> Result<(), Unspecified>
     ensures accepted { IsOk result ↔ (Fits (length aad.now) (length in_out.old)
-        × (tag ≡ aes_tag key_bytes.now nonce aad.now in_out.old)) }
-    ensures plaintext { OnOk result (in_out.new ≡ aes_decrypted key_bytes.now nonce in_out.old) }
+        × (tag ≡ gcm_tag (aes key_bytes.now) nonce aad.now in_out.old)) }
+    ensures plaintext { OnOk result (in_out.new ≡ gcm_decrypted (aes key_bytes.now) nonce in_out.old) }
     ensures refused { OnErr result (in_out.new ≡ in_out.old) }
 {
     let key = LessSafeKey::new(UnboundKey::new(&AES_256_GCM, key_bytes)?);

@@ -3,9 +3,9 @@
 ghost use Rattle.std.specs.Prelude.{◌≡◌, ◌+◌, ◌-◌, ◌≤◌, ◌↔◌, length, drop, take, is_ok, IsTrue, IsOk, IfOk, OnOk, OnErr};
 ghost use Rattle.std.specs.Borrow.{sem};
 ghost use Rattle.aead_ciphers_base.specs.Values.{aad_bytes};
-ghost use Rattle.aead_ciphers.specs.AesGcm.{aes_encrypted, aes_decrypted, aes_tag, aes_sealed, AesOpened, AesOpenedAttached};
+ghost use Rattle.aead_ciphers_base.specs.Aes.{aes};
 ghost use Rattle.aead_ciphers.specs.Algorithm.{key_len};
-ghost use Rattle.aead_ciphers.specs.Gcm.{Fits};
+ghost use Rattle.aead_ciphers.specs.Gcm.{Fits, gcm_encrypted, gcm_decrypted, gcm_tag, gcm_sealed, Opened, OpenedAttached};
 ghost use Rattle.aead_ciphers.specs.Lending.{LendsFront, lent_buffer};
 ghost use Rattle.aead_ciphers.specs.Packet.{PacketFits, sealed_packet};
 
@@ -90,8 +90,8 @@ impl LessSafeKey {
         in_out: &mut [u8],
     ) -> Result<Tag, Unspecified>
         ensures accepted { IsOk result ↔ Fits (length (aad_bytes aad.entry)) (length in_out.old) }
-        ensures ciphertext { OnOk result (in_out.new ≡ aes_encrypted self.now.bytes nonce in_out.old) }
-        ensures tag { IfOk result (λ tag. tag ≡ aes_tag self.now.bytes nonce (aad_bytes aad.entry) in_out.new) }
+        ensures ciphertext { OnOk result (in_out.new ≡ gcm_encrypted (aes self.now.bytes) nonce in_out.old) }
+        ensures tag { IfOk result (λ tag. tag ≡ gcm_tag (aes self.now.bytes) nonce (aad_bytes aad.entry) in_out.new) }
         ensures refused { OnErr result (in_out.new ≡ in_out.old) }
     {
         let mut work = Work::new();
@@ -112,7 +112,7 @@ impl LessSafeKey {
         ensures granted { IsOk result → B.may_grant in_out.old }
         ensures fits { IsOk result → Fits (length (aad_bytes aad.entry)) (length (B.bytes in_out.old)) }
         ensures sealed { OnOk result (B.bytes in_out.new
-            ≡ aes_sealed self.now.bytes nonce (aad_bytes aad.entry) (B.bytes in_out.old)) }
+            ≡ gcm_sealed (aes self.now.bytes) nonce (aad_bytes aad.entry) (B.bytes in_out.old)) }
         ensures length { OnOk result (length (B.bytes in_out.new) ≡ length (B.bytes in_out.old) + 16) }
         ensures refused { OnErr result (Fits (length (aad_bytes aad.entry)) (length (B.bytes in_out.old))
             → B.may_refuse in_out.old) }
@@ -159,7 +159,7 @@ impl LessSafeKey {
         requires { 16 ≤ length (B.bytes in_out.old) }
         ensures accepted { IsOk result ↔ Fits (length (aad_bytes aad.entry)) (length (B.bytes in_out.old) - 16) }
         ensures sealed { let message = take (length (B.bytes in_out.old) - 16) (B.bytes in_out.old) in
-            OnOk result (B.bytes in_out.new ≡ aes_sealed self.now.bytes nonce (aad_bytes aad.entry) message) }
+            OnOk result (B.bytes in_out.new ≡ gcm_sealed (aes self.now.bytes) nonce (aad_bytes aad.entry) message) }
         ensures length { OnOk result (length (B.bytes in_out.new) ≡ length (B.bytes in_out.old)) }
         ensures kept { let message = take (length (B.bytes in_out.old) - 16) (B.bytes in_out.old) in
             OnErr result (B.bytes in_out.new ≡ message) }
@@ -193,10 +193,10 @@ impl LessSafeKey {
         ciphertext: RangeFrom<usize>,
     ) -> Result<&'a mut [u8], Unspecified>
         ensures* writes_back { sem 𝓛 (LendsFront in_out.entry result (length in_out.old - ciphertext.start)) }
-        ensures opened { AesOpened self.now.bytes nonce (aad_bytes aad.entry) tag ciphertext.start
+        ensures opened { Opened (aes self.now.bytes) nonce (aad_bytes aad.entry) tag ciphertext.start
             in_out.old (is_ok result) (lent_buffer result in_out.old) }
         ensures plaintext { IfOk result (λ plaintext. plaintext.now
-            ≡ aes_decrypted self.now.bytes nonce (drop ciphertext.start in_out.old)) }
+            ≡ gcm_decrypted (aes self.now.bytes) nonce (drop ciphertext.start in_out.old)) }
     {
         let opened = self.open_in_place_separate_tag_to_front(nonce, aad, tag, in_out, ciphertext);
         lend_plaintext(in_out, opened)
@@ -212,7 +212,7 @@ impl LessSafeKey {
         in_out: &mut [u8],
         ciphertext: RangeFrom<usize>,
     ) -> Result<usize, Unspecified>
-        ensures opened { AesOpened self.now.bytes nonce (aad_bytes aad.entry) tag ciphertext.start
+        ensures opened { Opened (aes self.now.bytes) nonce (aad_bytes aad.entry) tag ciphertext.start
             in_out.old (is_ok result) in_out.new }
         ensures count { IfOk result (λ n. n ≡ length in_out.old - ciphertext.start) }
         ensures refused { OnErr result (in_out.new ≡ in_out.old) }
@@ -235,10 +235,10 @@ impl LessSafeKey {
         ciphertext_and_tag: RangeFrom<usize>,
     ) -> Result<&'a mut [u8], Unspecified>
         ensures* writes_back { sem 𝓛 (LendsFront in_out.entry result (length in_out.old - 16 - ciphertext_and_tag.start)) }
-        ensures opened { AesOpenedAttached self.now.bytes nonce (aad_bytes aad.entry) ciphertext_and_tag.start
+        ensures opened { OpenedAttached (aes self.now.bytes) nonce (aad_bytes aad.entry) ciphertext_and_tag.start
             in_out.old (is_ok result) (lent_buffer result in_out.old) }
         ensures plaintext { IfOk result (λ plaintext. plaintext.now
-            ≡ aes_decrypted self.now.bytes nonce
+            ≡ gcm_decrypted (aes self.now.bytes) nonce
             (drop ciphertext_and_tag.start (take (length in_out.old - 16) in_out.old))) }
     {
         let opened = self.open_within_to_front(nonce, aad, in_out, ciphertext_and_tag);
@@ -254,7 +254,7 @@ impl LessSafeKey {
         in_out: &mut [u8],
         ciphertext_and_tag: RangeFrom<usize>,
     ) -> Result<usize, Unspecified>
-        ensures opened { AesOpenedAttached self.now.bytes nonce (aad_bytes aad.entry) ciphertext_and_tag.start
+        ensures opened { OpenedAttached (aes self.now.bytes) nonce (aad_bytes aad.entry) ciphertext_and_tag.start
             in_out.old (is_ok result) in_out.new }
         ensures count { IfOk result (λ n. n ≡ length in_out.old - 16 - ciphertext_and_tag.start) }
         ensures refused { OnErr result (in_out.new ≡ in_out.old) }
@@ -282,10 +282,10 @@ impl LessSafeKey {
         in_out: &'a mut [u8],
     ) -> Result<&'a mut [u8], Unspecified>
         ensures* writes_back { sem 𝓛 (LendsFront in_out.entry result (length in_out.old - 16)) }
-        ensures opened { AesOpenedAttached self.now.bytes nonce (aad_bytes aad.entry) 0
+        ensures opened { OpenedAttached (aes self.now.bytes) nonce (aad_bytes aad.entry) 0
             in_out.old (is_ok result) (lent_buffer result in_out.old) }
         ensures plaintext { IfOk result (λ plaintext. plaintext.now
-            ≡ aes_decrypted self.now.bytes nonce (take (length in_out.old - 16) in_out.old)) }
+            ≡ gcm_decrypted (aes self.now.bytes) nonce (take (length in_out.old - 16) in_out.old)) }
     {
         let opened = self.open_in_place_to_front(nonce, aad, in_out);
         lend_plaintext(in_out, opened)
@@ -299,7 +299,7 @@ impl LessSafeKey {
         aad: Aad<'_>,
         in_out: &mut [u8],
     ) -> Result<usize, Unspecified>
-        ensures opened { AesOpenedAttached self.now.bytes nonce (aad_bytes aad.entry) 0
+        ensures opened { OpenedAttached (aes self.now.bytes) nonce (aad_bytes aad.entry) 0
             in_out.old (is_ok result) in_out.new }
         ensures count { IfOk result (λ n. n ≡ length in_out.old - 16) }
         ensures refused { OnErr result (in_out.new ≡ in_out.old) }

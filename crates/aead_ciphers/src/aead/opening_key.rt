@@ -2,7 +2,8 @@
 ghost use Rattle.std.specs.Prelude.{◌≡◌, ◌-◌, ◌⊎◌, length, drop, take, is_ok, IfOk, OnOk, OnErr};
 ghost use Rattle.std.specs.Borrow.{sem};
 ghost use Rattle.aead_ciphers_base.specs.Values.{aad_bytes};
-ghost use Rattle.aead_ciphers.specs.AesGcm.{aes_decrypted, AesOpenedAttached};
+ghost use Rattle.aead_ciphers_base.specs.Aes.{aes};
+ghost use Rattle.aead_ciphers.specs.Gcm.{gcm_decrypted, OpenedAttached};
 ghost use Rattle.aead_ciphers.specs.BoundState.{Keeps};
 ghost use Rattle.aead_ciphers.specs.Lending.{LendsFront, lent_buffer};
 ghost use Rattle.aead_ciphers.specs.NonceSequence.{UnderNext};
@@ -72,11 +73,11 @@ impl<N: NonceSequence> OpeningKey<N> {
             ciphertext_and_tag.start in_out.old in_out.new (is_ok result) }
         ensures count { IfOk result (λ n. n ≡ length in_out.old - 16 - ciphertext_and_tag.start) }
         ensures opened { ¬ N.refuses self.old.sequence self.new.sequence
-            → UnderNext (N.is_next self.old.sequence) (λ nonce. AesOpenedAttached self.old.key.bytes nonce
+            → UnderNext (N.is_next self.old.sequence) (λ nonce. OpenedAttached (aes self.old.key.bytes) nonce
             (aad_bytes aad.entry) ciphertext_and_tag.start in_out.old (is_ok result) in_out.new) }
         ensures plaintext { OnOk result (UnderNext (N.is_next self.old.sequence) (λ nonce.
             take (length in_out.old - 16 - ciphertext_and_tag.start) in_out.new
-            ≡ aes_decrypted self.old.key.bytes nonce (drop ciphertext_and_tag.start (take (length in_out.old - 16) in_out.old)))) }
+            ≡ gcm_decrypted (aes self.old.key.bytes) nonce (drop ciphertext_and_tag.start (take (length in_out.old - 16) in_out.old)))) }
         ensures refused { OnErr result (in_out.new ≡ in_out.old) }
         ensures gives { OnOk result (N.gives self.old.sequence self.new.sequence) }
         ensures stands { OnErr result
@@ -99,11 +100,11 @@ impl<N: NonceSequence> OpeningKey<N> {
             0 in_out.old in_out.new (is_ok result) }
         ensures count { IfOk result (λ n. n ≡ length in_out.old - 16) }
         ensures opened { ¬ N.refuses self.old.sequence self.new.sequence
-            → UnderNext (N.is_next self.old.sequence) (λ nonce. AesOpenedAttached self.old.key.bytes nonce
+            → UnderNext (N.is_next self.old.sequence) (λ nonce. OpenedAttached (aes self.old.key.bytes) nonce
             (aad_bytes aad.entry) 0 in_out.old (is_ok result) in_out.new) }
         ensures plaintext { OnOk result (UnderNext (N.is_next self.old.sequence) (λ nonce.
             take (length in_out.old - 16) in_out.new
-            ≡ aes_decrypted self.old.key.bytes nonce (take (length in_out.old - 16) in_out.old))) }
+            ≡ gcm_decrypted (aes self.old.key.bytes) nonce (take (length in_out.old - 16) in_out.old))) }
         ensures refused { OnErr result (in_out.new ≡ in_out.old) }
         ensures gives { OnOk result (N.gives self.old.sequence self.new.sequence) }
         ensures stands { OnErr result
@@ -131,10 +132,10 @@ impl<N: NonceSequence> OpeningKey<N> {
         ensures count { IfOk result (λ plaintext.
             length plaintext.now ≡ length in_out.old - 16 - ciphertext_and_tag.start) }
         ensures opened { ¬ N.refuses self.old.sequence self.new.sequence
-            → UnderNext (N.is_next self.old.sequence) (λ nonce. AesOpenedAttached self.old.key.bytes nonce
+            → UnderNext (N.is_next self.old.sequence) (λ nonce. OpenedAttached (aes self.old.key.bytes) nonce
             (aad_bytes aad.entry) ciphertext_and_tag.start in_out.old (is_ok result) (lent_buffer result in_out.old)) }
         ensures plaintext { IfOk result (λ plaintext. UnderNext (N.is_next self.old.sequence) (λ nonce.
-            plaintext.now ≡ aes_decrypted self.old.key.bytes nonce (drop ciphertext_and_tag.start (take (length in_out.old - 16) in_out.old)))) }
+            plaintext.now ≡ gcm_decrypted (aes self.old.key.bytes) nonce (drop ciphertext_and_tag.start (take (length in_out.old - 16) in_out.old)))) }
         ensures gives { OnOk result (N.gives self.old.sequence self.new.sequence) }
         ensures stands { OnErr result
             (N.refuses self.old.sequence self.new.sequence ⊎ N.gives self.old.sequence self.new.sequence) }
@@ -155,10 +156,10 @@ impl<N: NonceSequence> OpeningKey<N> {
             0 in_out.old (lent_buffer result in_out.old) (is_ok result) }
         ensures count { IfOk result (λ plaintext. length plaintext.now ≡ length in_out.old - 16) }
         ensures opened { ¬ N.refuses self.old.sequence self.new.sequence
-            → UnderNext (N.is_next self.old.sequence) (λ nonce. AesOpenedAttached self.old.key.bytes nonce
+            → UnderNext (N.is_next self.old.sequence) (λ nonce. OpenedAttached (aes self.old.key.bytes) nonce
             (aad_bytes aad.entry) 0 in_out.old (is_ok result) (lent_buffer result in_out.old)) }
         ensures plaintext { IfOk result (λ plaintext. UnderNext (N.is_next self.old.sequence) (λ nonce.
-            plaintext.now ≡ aes_decrypted self.old.key.bytes nonce (take (length in_out.old - 16) in_out.old))) }
+            plaintext.now ≡ gcm_decrypted (aes self.old.key.bytes) nonce (take (length in_out.old - 16) in_out.old))) }
         ensures gives { OnOk result (N.gives self.old.sequence self.new.sequence) }
         ensures stands { OnErr result
             (N.refuses self.old.sequence self.new.sequence ⊎ N.gives self.old.sequence self.new.sequence) }

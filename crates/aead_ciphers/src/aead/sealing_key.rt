@@ -1,9 +1,9 @@
 //! A key that seals with the nonces of a sequence.
 ghost use Rattle.std.specs.Prelude.{◌≡◌, ◌+◌, ◌<◌, ◌≤◌, ◌⊎◌, ⊤, length, take, is_ok, IsOk, IfOk, OnOk, OnErr};
 ghost use Rattle.aead_ciphers_base.specs.Values.{aad_bytes};
-ghost use Rattle.aead_ciphers.specs.AesGcm.{aes_encrypted, aes_tag, aes_sealed};
+ghost use Rattle.aead_ciphers_base.specs.Aes.{aes};
 ghost use Rattle.aead_ciphers.specs.BoundState.{Keeps};
-ghost use Rattle.aead_ciphers.specs.Gcm.{Fits};
+ghost use Rattle.aead_ciphers.specs.Gcm.{Fits, gcm_encrypted, gcm_tag, gcm_sealed};
 ghost use Rattle.aead_ciphers.specs.NonceSequence.{UnderNext};
 ghost use Rattle.aead_ciphers.specs.Packet.{PacketFits, packet_message, packet_body, sealed_packet};
 ghost use Rattle.aead_ciphers.specs.Steps.{SealStep, with_tag};
@@ -77,7 +77,7 @@ impl<N: NonceSequence> SealingKey<N> {
             self.old self.new (aad_bytes aad.entry) (B.bytes in_out.old) (B.bytes in_out.new)
             (is_ok result) }
         ensures sealed { OnOk result (UnderNext (N.is_next self.old.sequence) (λ nonce. B.bytes in_out.new
-            ≡ aes_sealed self.old.key.bytes nonce (aad_bytes aad.entry) (B.bytes in_out.old))) }
+            ≡ gcm_sealed (aes self.old.key.bytes) nonce (aad_bytes aad.entry) (B.bytes in_out.old))) }
         ensures length { OnOk result (length (B.bytes in_out.new) ≡ length (B.bytes in_out.old) + 16) }
         ensures refused { OnErr result (B.bytes in_out.new ≡ B.bytes in_out.old) }
         ensures granted { IsOk result → B.may_grant in_out.old }
@@ -112,9 +112,9 @@ impl<N: NonceSequence> SealingKey<N> {
         ensures step { SealStep N.spent N.is_closed ⊥ ⊤ self.old self.new (aad_bytes aad.entry)
             in_out.old (with_tag in_out.new result) (is_ok result) }
         ensures ciphertext { OnOk result (UnderNext (N.is_next self.old.sequence) (λ nonce. in_out.new
-            ≡ aes_encrypted self.old.key.bytes nonce in_out.old)) }
+            ≡ gcm_encrypted (aes self.old.key.bytes) nonce in_out.old)) }
         ensures tag { IfOk result (λ tag. UnderNext (N.is_next self.old.sequence) (λ nonce. tag
-            ≡ aes_tag self.old.key.bytes nonce (aad_bytes aad.entry) in_out.new)) }
+            ≡ gcm_tag (aes self.old.key.bytes) nonce (aad_bytes aad.entry) in_out.new)) }
         ensures refused { OnErr result (in_out.new ≡ in_out.old) }
         ensures fits { IsOk result → Fits (length (aad_bytes aad.entry)) (length in_out.old) }
         ensures gives { OnOk result (N.gives self.old.sequence self.new.sequence) }

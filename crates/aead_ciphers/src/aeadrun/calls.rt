@@ -1,8 +1,8 @@
 //! The calls of the library that commands ask for.
 ghost use Rattle.std.specs.Prelude.{◌≡◌, ◌-◌, ◌+◌, ◌^◌, ◌<◌, ◌≤◌, ◌↔◌, ⊤, true, false, length, vec_len, vec_capacity, is_ok, IsOk, IsErr, IfOk, OnOk, OnErr};
-ghost use Rattle.aead_ciphers.specs.AesGcm.{aes_encrypted, aes_tag, AesOpenedAttached};
+ghost use Rattle.aead_ciphers_base.specs.Aes.{aes};
 ghost use Rattle.aead_ciphers.specs.Algorithm.{key_len};
-ghost use Rattle.aead_ciphers.specs.Gcm.{Fits};
+ghost use Rattle.aead_ciphers.specs.Gcm.{Fits, gcm_encrypted, gcm_tag, OpenedAttached};
 ghost use Rattle.aead_ciphers.specs.HeaderProtection.{key_len as mask_key_len, header_protection};
 
 use crate::aead::{
@@ -36,8 +36,8 @@ pub(super) fn seal(
 ) -> Result<Tag, Unspecified>
     ensures accepted { IsOk result ↔ ((length key.now ≡ key_len algorithm.now)
         × (length nonce.now ≡ NONCE_LEN) × Fits (length aad.now) (length in_out.old)) }
-    ensures ciphertext { OnOk result (in_out.new ≡ aes_encrypted key.now nonce.now in_out.old) }
-    ensures tag { IfOk result (λ tag. tag ≡ aes_tag key.now nonce.now aad.now in_out.new) }
+    ensures ciphertext { OnOk result (in_out.new ≡ gcm_encrypted (aes key.now) nonce.now in_out.old) }
+    ensures tag { IfOk result (λ tag. tag ≡ gcm_tag (aes key.now) nonce.now aad.now in_out.new) }
     ensures refused { OnErr result (in_out.new ≡ in_out.old) }
 {
     let (key, nonce) = key_and_nonce(algorithm, key, nonce)?;
@@ -57,7 +57,7 @@ pub(super) fn open(
     ensures within { IfOk result (λ count. count ≤ length in_out.new) }
     ensures count { IfOk result (λ count. count ≡ length in_out.old - 16 - start) }
     ensures opened { length key.now ≡ key_len algorithm.now → length nonce.now ≡ NONCE_LEN
-        → AesOpenedAttached key.now nonce.now aad.now start in_out.old (is_ok result) in_out.new }
+        → OpenedAttached (aes key.now) nonce.now aad.now start in_out.old (is_ok result) in_out.new }
     ensures key_length { (length key.now ≡ key_len algorithm.now → ⊥)
         → IsErr result × (in_out.new ≡ in_out.old) }
     ensures nonce_length { (length nonce.now ≡ NONCE_LEN → ⊥)

@@ -5,7 +5,7 @@ ghost use Rattle.aead_ciphers_base.specs.Bytes.{zero_block};
 ghost use Rattle.aead_ciphers_base.specs.CounterMode.{Advances, EncryptsFirst, InCounterMode};
 ghost use Rattle.aead_ciphers_base.specs.Values.{aad_bytes};
 ghost use Rattle.aead_ciphers_base.specs.Work.{Adds, CanAdd};
-ghost use Rattle.aead_ciphers.specs.Gcm.{CanSeal, Fits, SealWork, encrypted, padded_blocks, tag};
+ghost use Rattle.aead_ciphers.specs.Gcm.{CanSeal, Fits, SealWork, gcm_encrypted, padded_blocks, gcm_tag};
 ghost use Rattle.aead_ciphers.specs.HashOf.{IsHashOf};
 
 use super::counter_mode::{CHUNK_LEN, encrypt_chunk, encrypt_rest};
@@ -27,9 +27,9 @@ pub(super) fn seal_with<A: EncryptCtr32, G: UpdateBlocks>(
     requires sums { CanSeal work.old (length (aad_bytes aad)) (length in_out.old) }
     requires subkey { G.hash_key gcm.now ≡ A.cipher aes.now zero_block }
     ensures accepted { IsOk result ↔ Fits (length (aad_bytes aad.entry)) (length in_out.old) }
-    ensures ciphertext { OnOk result (in_out.new ≡ encrypted (A.cipher aes.now) nonce in_out.old) }
+    ensures ciphertext { OnOk result (in_out.new ≡ gcm_encrypted (A.cipher aes.now) nonce in_out.old) }
     ensures tag { IfOk result
-        (λ t. t ≡ tag (A.cipher aes.now) nonce (aad_bytes aad.entry) in_out.new) }
+        (λ t. t ≡ gcm_tag (A.cipher aes.now) nonce (aad_bytes aad.entry) in_out.new) }
     ensures refused { OnErr result (in_out.new ≡ in_out.old) }
     ensures worked { SealWork (length (aad_bytes aad.entry)) (length in_out.old) result
         work.old work.new }

@@ -1,11 +1,12 @@
 use Rattle.std.specs.Prelude.{is_ok}
 use Rattle.std.proofs.Common.{subst}
 use Rattle.aead_ciphers_base.specs.Values.{aad_bytes}
-use Rattle.aead_ciphers.specs.AesGcm.{AesOpened}
+use Rattle.aead_ciphers_base.specs.Aes.{aes}
+use Rattle.aead_ciphers.specs.Gcm.{Opened}
 use Rattle.aead_ciphers.proofs.aes_gcm.open.Goals as goal
 
 pub returns-clause-opened : goal.returns-clause-opened
 returns-clause-opened c =
     let a = c.args in
-    subst (λ key. AesOpened key a.nonce (aad_bytes a.aad) a.received_tag a.src.start a.in_out.now (is_ok c.open_with.result) c.open_with.new.in_out)
+    subst (λ key. Opened (aes key) a.nonce (aad_bytes a.aad) a.received_tag a.src.start a.in_out.now (is_ok c.open_with.result) c.open_with.new.in_out)
     c.key.view_is c.open_with.ensures.opened

@@ -2,9 +2,8 @@ use Rattle.std.proofs.Common.{◌≡◌, ℕ, ◌-◌, Result, Ok, Err, false, i
 use Rattle.aead_ciphers_base.specs.Aes.{aes}
 use Rattle.aead_ciphers_base.specs.Bytes.{zero_block}
 use Rattle.aead_ciphers_base.specs.Values.{aad_bytes}
-use Rattle.aead_ciphers.specs.AesGcm.{aes_tag}
 use Rattle.aead_ciphers.specs.Different.{HasInverse}
-use Rattle.aead_ciphers.specs.Gcm.{Fits}
+use Rattle.aead_ciphers.specs.Gcm.{Fits, gcm_tag}
 use Rattle.aead_ciphers_tests.proofs.laws.open_changed.Goals as goal
 
 is_refusal : {E : Type 0} (r : Result ℕ E) → ¬ IsOk r → IsErr r
@@ -24,8 +23,8 @@ returns c tag_is some same_aad same_text one =
     let nonce_is : c.assume_unique_for_key-nonce.result ≡ c.args.sealed.now.nonce = search rules in
     let aad_is : aad_bytes c.from.result ≡ c.args.aad.now = search rules in
     let tag_was : c.from-tag.result ≡ c.args.sealed.now.tag = search rules in
-    let tag_now : aes_tag c.new-key.result.bytes c.assume_unique_for_key-nonce.result (aad_bytes c.from.result) old
-    ≡ aes_tag key c.args.sealed.now.nonce c.args.aad.now old = cc in
+    let tag_now : gcm_tag (aes c.new-key.result.bytes) c.assume_unique_for_key-nonce.result (aad_bytes c.from.result) old
+    ≡ gcm_tag (aes key) c.args.sealed.now.nonce c.args.aad.now old = cc in
     let refused = is_refusal c.open_in_place_separate_tag_to_front.result (λ yes.
     differ (sym tag_is ∙ sym tag_was ∙ (c.open_in_place_separate_tag_to_front.ensures.opened.accepted.0 yes).2 ∙ tag_now)) in
     (refused, rw refused at c.open_in_place_separate_tag_to_front.ensures.opened.buffer)

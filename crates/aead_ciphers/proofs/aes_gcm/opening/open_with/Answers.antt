@@ -1,7 +1,7 @@
 use Rattle.std.specs.Prelude.{false, is_ok}
 use Rattle.std.proofs.Common.{◌≡◌, arith, rules, ◌∙◌, sym, refl, ap, ◌++◌, drop, length-drop}
 use Rattle.aead_ciphers_base.specs.Values.{aad_bytes}
-use Rattle.aead_ciphers.specs.Gcm.{decrypted, padded_blocks}
+use Rattle.aead_ciphers.specs.Gcm.{gcm_decrypted, padded_blocks}
 use Rattle.aead_ciphers.proofs.RunningHash.{tag_behind}
 use Rattle.aead_ciphers.proofs.aes_gcm.opening.open_with.Goals as goal
 
@@ -30,5 +30,5 @@ returns-clause-opened g c =
     let right = sym c.as_ref-2.ensures ∙ sym (c.in_ok-verify_slices_are_equal.ensures.0 refl) ∙ c.as_ref.ensures ∙ found in
     record {
       accepted = ((λ _. (omega arith, rw size (made.accepted.0 refl), right)), λ _. refl);
-      buffer = c.encrypt_within.ensures.output c.args.nonce 2 at ∙ ap (λ n. decrypted (g.A.EncryptBlock.cipher c.args.aes.now) c.args.nonce (drop c.args.src.start c.args.in_out.now) ++ drop n c.args.in_out.now) (sym size);
+      buffer = c.encrypt_within.ensures.output c.args.nonce 2 at ∙ ap (λ n. gcm_decrypted (g.A.EncryptBlock.cipher c.args.aes.now) c.args.nonce (drop c.args.src.start c.args.in_out.now) ++ drop n c.args.in_out.now) (sym size);
     }

@@ -1,12 +1,13 @@
 use Rattle.std.proofs.Common.{◌∙◌, refl, arith}
 use Rattle.std.specs.Prelude.{is_ok}
-use Rattle.aead_ciphers.specs.AesGcm.{AesOpenedAttached}
+use Rattle.aead_ciphers_base.specs.Aes.{aes}
+use Rattle.aead_ciphers.specs.Gcm.{OpenedAttached}
 use Rattle.records.specs.State.{next_nonce, IsEnded}
 use Rattle.records.proofs.OpenedLemmas.{answers_message, refuses_message}
 use Rattle.records.proofs.reader.Reader.open.Goals.{After-open_within_to_front}
 use Rattle.records.proofs.reader.Reader.open.Goals as goal
 
-opened : (c : After-open_within_to_front) → AesOpenedAttached c.args.self.now.key.bytes (next_nonce c.args.self.now) c.args.header.now c.args.start
+opened : (c : After-open_within_to_front) → OpenedAttached (aes c.args.self.now.key.bytes) (next_nonce c.args.self.now) c.args.header.now c.args.start
     c.args.from.now (is_ok c.open_within_to_front.result) c.open_within_to_front.new.in_out
 opened c =
     let left = c.self.invariant in

@@ -1,6 +1,7 @@
 use Rattle.std.proofs.Common.{◌≡◌, ◌+◌, ◌∙◌, ◌++◌, List, ℕ, length, ap, arith}
 use Rattle.std.proofs.lemmas.List.{with_items_is}
-use Rattle.aead_ciphers.specs.AesGcm.{aes_sealed}
+use Rattle.aead_ciphers_base.specs.Aes.{aes}
+use Rattle.aead_ciphers.specs.Gcm.{gcm_sealed}
 use Rattle.records.specs.Record.{Inner, inner_plaintext, header}
 use Rattle.records.specs.State.{next_nonce}
 use Rattle.records.proofs.InnerLemmas.{length-inner_plaintext}
@@ -21,4 +22,4 @@ returns-clause-written c =
     let size = length-inner_plaintext inner in
     let encrypted : c.in_ok-inner_len.inner_len + 16 ≡ length (inner_plaintext inner) + 16 = omega arith in
     with_items_is c.append_unsealed.new.out _ (put.1 ∙ c.as_mut_slice.ensures.len) ∙ put.0
-    ∙ ap (λ (aad : List ℕ). out ++ (aad ++ aes_sealed key nonce aad (inner_plaintext inner))) (c.header_of-header.ensures ∙ ap header encrypted)
+    ∙ ap (λ (aad : List ℕ). out ++ (aad ++ gcm_sealed (aes key) nonce aad (inner_plaintext inner))) (c.header_of-header.ensures ∙ ap header encrypted)

@@ -1,7 +1,7 @@
 -- `open_in_place` lends what `lend_plaintext` lends of what `open_in_place_to_front` wrote.
 use Rattle.aead_ciphers.proofs.LendingWalk.{refl, ◌-◌, [], ◌∷◌, full_share, ◌$◌, !, move, keep, of_opd, returns, alloc_all, pass_all, free_all, look_at, get}
 use Rattle.aead_ciphers.proofs.LendingWalk.{sets, lands_as, named_lft, types_at, mut_slice_vals, nothing, heard, length, Words, words_vals, words_typed}
-use Rattle.aead_ciphers.proofs.LendingWalk.{slice_typed, nonce_word, aad_word, gets, reborrows, hears, as_lent, length-before_tag, opened_fronts, aad_bytes, AesOpenedAttached}
+use Rattle.aead_ciphers.proofs.LendingWalk.{slice_typed, nonce_word, aad_word, gets, reborrows, hears, as_lent, length-before_tag, opened_fronts, aad_bytes, aes, OpenedAttached}
 use Rattle.aead_ciphers.proofs.LendingWalk.{arith, front_met, dropped, goes, walked, consults, at_words, with_third, with_third_share, relends, regains, lends}
 use Rattle.aead_ciphers.proofs.LendingWalk.{tells, says, last, ends, table_of}
 use Rattle.aead_ciphers.specs.contracts.aead.less_safe_key.LessSafeKey.open_in_place as F
@@ -34,6 +34,6 @@ open_in_place_spec 𝓤 𝓛 𝓜 𝓡 wired =
     (front_met 𝓤 𝓛 𝓜 𝓡 (P.Code.calls-aead_ciphers::aead::lend::lend_plaintext 𝓡.env wired)) fronts (gets ! tt refl) (λ w r is-r end.
     -- [in_out's token; the front; what is owed of in_out; two tokens; three times nothing]
     lands_as ! refl refl is-r.0 $ returns ! (look_at ! 0 refl) $ free_all ! refl $ move ! (2 ∷ []) $ tells 𝓛 !
-    (says 𝓛 (as_lent (AesOpenedAttached self.now.bytes nonce (aad_bytes aad) 0 old) end opened)
+    (says 𝓛 (as_lent (OpenedAttached (aes self.now.bytes) nonce (aad_bytes aad) 0 old) end opened)
     (last 𝓛 end.value)) $ nothing ! $ keep ! (4 ∷ 5 ∷ 2 ∷ 0 ∷ 6 ∷ 7 ∷ 8 ∷ 3 ∷ 1 ∷ []) $
     ends 𝓛 T stayed c ((κs, qs, bounds, a, vals), tt) w r (tt, (tt, (tt, (tt, tt)))) ! (tt, (tt, (tt, (tt, tt))))))))))))))
