@@ -1,5 +1,5 @@
 -- Blocks as four words of 32 bits, and the lanes of vectors of them.
-use Rattle.std.proofs.Common.{◌≡◌, ℕ, zero, suc, ◌+◌, ◌-◌, ◌*◌, ◌/◌, ◌%◌, ◌^◌, ◌<◌, Bool, true, false, List, [], ◌∷◌, length, replicate, slice_index, set}
+use Rattle.std.proofs.Common.{◌≡◌, ℕ, ◌+◌, ◌-◌, ◌*◌, ◌/◌, ◌%◌, ◌^◌, ◌<◌, Bool, true, false, List, [], ◌∷◌, length, replicate, slice_index, set}
 use Rattle.std.proofs.Common.{length-set, get_or-set_same, get_or-set_other, ◌≢◌, fold, Fits, w32, bit_and, bit_or, bit_xor, refl, sym, ap, ap₂, ◌∙◌, arith}
 use Rattle.std.proofs.Common.{if◌then◌else◌, ◌==◌}
 use Rattle.std.specs.Simd.Lanes.{Each1, fold_l, zip2}
@@ -7,16 +7,9 @@ use Rattle.std.specs.Int.Bits.{xor_zero_r}
 use Rattle.std.proofs.Math.Dec.{lit<}
 use Rattle.std.proofs.lemmas.Nat.{or_shifted, xor_block, xor_lt}
 use Rattle.std.proofs.lemmas.Simd.{Each1-get_or, get_or-zip2, get_or-replicate, length-zip2}
+pub use Rattle.aead_ciphers_base.proofs.PlaneBlocks.{by_four}
 use Rattle.aead_ciphers.specs.Multiples.{entry, number_of_words}
 use Rattle.aead_ciphers.proofs.GhashBits.{mask, masked}
-
--- what holds of each of four
-pub below_four : (P : ℕ → Type 0) → P 0 → P 1 → P 2 → P 3 → (j : ℕ) → j < 4 → P j
-below_four P p0 p1 p2 p3 zero h = p0
-below_four P p0 p1 p2 p3 (suc zero) h = p1
-below_four P p0 p1 p2 p3 (suc (suc zero)) h = p2
-below_four P p0 p1 p2 p3 (suc (suc (suc zero))) h = p3
-below_four P p0 p1 p2 p3 (suc (suc (suc (suc n)))) h = absurd (omega arith)
 
 -- ---- a word added under a mask
 

@@ -1,5 +1,5 @@
 -- Four lists side by side in the lanes of vectors.
-use Rattle.std.proofs.Common.{◌≡◌, ℕ, zero, suc, ◌+◌, ◌-◌, ◌*◌, ◌/◌, ◌%◌, ◌^◌, ◌<◌, List, [], ◌∷◌, ◌++◌, ◌≤◌, length, take, drop, slice_index}
+use Rattle.std.proofs.Common.{◌≡◌, ℕ, ◌+◌, ◌-◌, ◌*◌, ◌/◌, ◌%◌, ◌^◌, ◌<◌, List, [], ◌∷◌, ◌++◌, ◌≤◌, length, take, drop, slice_index}
 use Rattle.std.proofs.Common.{slice_index_or, slice_set, bit_or, bit_xor, sym, ap, ap₂, ◌∙◌, arith}
 use Rattle.std.specs.Simd.Lanes.{zip2}
 use Rattle.std.proofs.lemmas.List.{map-set, get_or-map, get_or-replicate, length-map, take_all, take_more, take_more_set, drop_at, drop-take, length-take}
@@ -8,14 +8,6 @@ use Rattle.std.proofs.lemmas.Slice.{take-put_mid, take-put_mid_below}
 use borrow.Rule.Slice.PartMut.{put_mid}
 use Rattle.aead_ciphers_base.specs.ChaCha20.{xor_rotate, quarter_round, quarter_round_at}
 use Rattle.aead_ciphers_base.specs.Lanes.{lane}
-
--- what holds of each of the four lanes
-pub below_four : (P : ℕ → Type 0) → P 0 → P 1 → P 2 → P 3 → (j : ℕ) → j < 4 → P j
-below_four P p0 p1 p2 p3 zero h = p0
-below_four P p0 p1 p2 p3 (suc zero) h = p1
-below_four P p0 p1 p2 p3 (suc (suc zero)) h = p2
-below_four P p0 p1 p2 p3 (suc (suc (suc zero))) h = p3
-below_four P p0 p1 p2 p3 (suc (suc (suc (suc j)))) h = absurd (omega arith)
 
 pub length-lane : (j : ℕ) (vectors : List (List ℕ)) → length (lane j vectors) ≡ length vectors
 length-lane j vectors = length-map vectors (λ vector. slice_index vector j)

@@ -1,9 +1,9 @@
 use Rattle.std.proofs.Common.{◌/◌, ◌^◌, arith}
 use Rattle.std.proofs.lemmas.Nat.{and_mask}
-use Rattle.aead_ciphers.proofs.BlockLanes.{below_four}
+use Rattle.aead_ciphers.proofs.BlockLanes.{by_four}
 use Rattle.aead_ciphers.proofs.gcm.product.words.Goals as goal
 
 pub returns : goal.returns
 returns c =
     let n = c.args.block in
-    below_four _ (omega arith) (and_mask (n / 2 ^ 64) 32) (and_mask (n / 2 ^ 32) 32) (omega (arith, and_mask n 32))
+    by_four _ (omega arith) (and_mask (n / 2 ^ 64) 32) (and_mask (n / 2 ^ 32) 32) (omega (arith, and_mask n 32))

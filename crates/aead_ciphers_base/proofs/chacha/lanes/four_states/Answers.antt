@@ -2,7 +2,8 @@ use Rattle.std.proofs.Common.{◌≡◌, ℕ, ◌+◌, List, [], ◌∷◌, leng
 use Rattle.std.proofs.lemmas.List.{get_or-replicate}
 use Rattle.aead_ciphers_base.specs.ChaCha20.{add32}
 use Rattle.aead_ciphers_base.specs.Lanes.{lane}
-use Rattle.aead_ciphers_base.proofs.VectorLanes.{below_four, lane_more, lane-set, length-lane, same_of_takes, slice_index-lane}
+use Rattle.aead_ciphers_base.proofs.PlaneBlocks.{by_four}
+use Rattle.aead_ciphers_base.proofs.VectorLanes.{lane_more, lane-set, length-lane, same_of_takes, slice_index-lane}
 use Rattle.aead_ciphers_base.proofs.chacha.lanes.four_states.Goals as goal
 
 pub loop-k-preserved : goal.loop-k-preserved
@@ -22,7 +23,7 @@ returns c j h =
     let copy : lane j c.loop-k.states ≡ c.args.state.now =
     same_of_takes c.loop-k.k (lane j c.loop-k.states) c.args.state.now
     (omega (arith, length-lane j c.loop-k.states, c.loop-k.invariant.size)) (omega arith) (c.loop-k.invariant.copied j h) in
-    let count : slice_index (0 ∷ 1 ∷ 2 ∷ 3 ∷ []) j ≡ j = below_four (λ i. slice_index (0 ∷ 1 ∷ 2 ∷ 3 ∷ []) i ≡ i) refl refl refl refl j h in
+    let count : slice_index (0 ∷ 1 ∷ 2 ∷ 3 ∷ []) j ≡ j = by_four (λ i. slice_index (0 ∷ 1 ∷ 2 ∷ 3 ∷ []) i ≡ i) refl refl refl refl j h in
     let counter = sym (slice_index-lane j 12 c.loop-k.states [] (omega (arith, c.loop-k.invariant.size))) in
     let sum : add32 (slice_index c.args.state.now 12) j ≡ slice_index c.args.state.now 12 + j = omega (arith, c.requires) in
     lane-set j 12 c.loop-k.states c.add.result

@@ -3,7 +3,7 @@ use Rattle.std.specs.Int.{to_be_bytes, w128}
 use Rattle.std.proofs.lemmas.Simd.{get_or-zip2}
 use Rattle.aead_ciphers.specs.Ghash.{◌•◌}
 use Rattle.aead_ciphers.specs.Multiples.{entry, number_of_words}
-use Rattle.aead_ciphers.proofs.BlockLanes.{AllSmall, below_four, entry_is, lane, small-lane, number-lanes, words_chosen}
+use Rattle.aead_ciphers.proofs.BlockLanes.{AllSmall, by_four, entry_is, lane, small-lane, number-lanes, words_chosen}
 use Rattle.aead_ciphers.proofs.SubkeyMultiples.{IsStretch, stretch_start, stretch_next, bits_next, product_end, raised_of-block}
 use Rattle.aead_ciphers.proofs.gcm.product.Multiples.product.Goals as goal
 
@@ -12,7 +12,7 @@ loop-i-init c =
     let h = entry c.self.inside.table 0 in
     record {
       bits = λ j within. c.words-bits.ensures j within ∙ omega arith;
-      sums = below_four _ (stretch_start c.args.block h 0) (stretch_start c.args.block h 32)
+      sums = by_four _ (stretch_start c.args.block h 0) (stretch_start c.args.block h 32)
           (stretch_start c.args.block h 64) (stretch_start c.args.block h 96);
     }
 
