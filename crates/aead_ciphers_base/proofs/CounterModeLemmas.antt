@@ -8,6 +8,7 @@ use Rattle.aead_ciphers_base.specs.Bytes.{each_below, ◌⊕◌}
 use Rattle.aead_ciphers_base.specs.CounterMode.{counter_block, counter_mode, Advances, EncryptsFirst, EncryptsToFront, EncryptsWindow}
 use Rattle.std.proofs.lemmas.Slice.{drop-append-drop}
 use Rattle.aead_ciphers_base.proofs.EachLemmas.{length-each, get_or-each, each-same, each-append}
+use Rattle.aead_ciphers_base.proofs.XorLemmas.{length-xor}
 
 pub length-counter_mode : (cipher : List ℕ → List ℕ) (nonce : List ℕ) (k : ℕ) (text : List ℕ) → length (counter_mode cipher nonce k text) ≡ length text
 unfolding counter_mode
@@ -98,11 +99,6 @@ all_from cipher nonce k s d was all =
 pub encrypts_all : (cipher : List ℕ → List ℕ) (counter : List ℕ) (s d : ℕ) (was new : List ℕ) →
     EncryptsFirst cipher counter s d was new → d ≡ length was - s → EncryptsToFront cipher counter s was new
 encrypts_all cipher counter s d was new done all = λ nonce k at. done nonce k at ∙ all_from cipher nonce k s d was all
-
-length-xor : (xs ys : List ℕ) → length xs ≤ length ys → length (xs ⊕ ys) ≡ length xs
-length-xor [] ys le = refl
-length-xor (x ∷ xs) [] le = absurd (omega arith)
-length-xor (x ∷ xs) (y ∷ ys) le = ap suc (length-xor xs ys (omega arith))
 
 get_or-xor : (xs ys : List ℕ) (i : ℕ) → i < length xs → length xs ≤ length ys → get_or (xs ⊕ ys) i 0 ≡ bit_xor (get_or xs i 0) (get_or ys i 0)
 get_or-xor [] ys i h le = absurd (omega arith)
