@@ -8,6 +8,7 @@ use Rattle.aead_ciphers_base.specs.Polynomial.{field_product, polynomial_product
 use Rattle.aead_ciphers_base.specs.ByteField.{bits_of, value_of, mul8, inv, affine, sbox}
 use Rattle.aead_ciphers_base.proofs.PolynomialSums.{polynomial_product-add_left, polynomial_product-add_right, reduced-add, length-polynomial_product}
 use Rattle.aead_ciphers_base.proofs.PolynomialSums.{length-reduced}
+use Rattle.aead_ciphers_base.proofs.AdditiveLemmas.{additive_after}
 use Rattle.aead_ciphers_base.proofs.NumberBits.{bits_of-xor, value_of-add, value_of-lt, IsAdditive, same_additive}
 use Rattle.aead_ciphers_base.proofs.NumberBits.{all_below, all_below_at, same_below, find_first}
 
@@ -81,10 +82,6 @@ pub one-mul8 : (x : ℕ) → x < 256 → mul8 1 x ≡ x
 one-mul8 x h =
     same_additive (mul8 1) (λ a. a) (mul8-xor_right 1) (λ a b. refl) 8 (λ i lt. same_below (λ a. mul8 1 (2 ^ a)) (λ a. 2 ^ a) 8 i one_test lt) x h
 
--- a function that keeps sums, after another
-after : (f g : ℕ → ℕ) → IsAdditive f → IsAdditive g → IsAdditive (λ x. f (g x))
-after f g hf hg a b = ap f (hg a b) ∙ hf (g a) (g b)
-
 -- ---- associativity: with {02} as the first factor, with its powers, and with their sums
 
 twice_test : all_below (λ i. all_below (λ j. mul8 (mul8 2 (2 ^ i)) (2 ^ j) == mul8 2 (mul8 (2 ^ i) (2 ^ j))) 8) 8 ≡ true
@@ -94,8 +91,8 @@ twice_test = refl
 twice_assoc : (y z : ℕ) → y < 256 → z < 256 → mul8 (mul8 2 y) z ≡ mul8 2 (mul8 y z)
 twice_assoc y z hy hz =
     same_products (λ a b. mul8 (mul8 2 a) b) (λ a b. mul8 2 (mul8 a b))
-    (λ b. after (λ t. mul8 t b) (mul8 2) (mul8-xor_left b) (mul8-xor_right 2)) (λ b. after (mul8 2) (λ a. mul8 a b) (mul8-xor_right 2) (mul8-xor_left b))
-    (λ a. mul8-xor_right (mul8 2 a)) (λ a. after (mul8 2) (mul8 a) (mul8-xor_right 2) (mul8-xor_right a)) twice_test y z hy hz
+    (λ b. additive_after (λ t. mul8 t b) (mul8 2) (mul8-xor_left b) (mul8-xor_right 2)) (λ b. additive_after (mul8 2) (λ a. mul8 a b) (mul8-xor_right 2) (mul8-xor_left b))
+    (λ a. mul8-xor_right (mul8 2 a)) (λ a. additive_after (mul8 2) (mul8 a) (mul8-xor_right 2) (mul8-xor_right a)) twice_test y z hy hz
 
 double_test : all_below (λ i. 2 ^ suc i == mul8 2 (2 ^ i)) 7 ≡ true
 unfolding field
@@ -115,7 +112,7 @@ power_assoc (suc i) y z h hy hz =
 pub mul8_assoc : (x y z : ℕ) → x < 256 → y < 256 → z < 256 → mul8 (mul8 x y) z ≡ mul8 x (mul8 y z)
 mul8_assoc x y z hx hy hz =
     same_additive (λ a. mul8 (mul8 a y) z) (λ a. mul8 a (mul8 y z))
-    (after (λ t. mul8 t z) (λ a. mul8 a y) (mul8-xor_left z) (mul8-xor_left y)) (mul8-xor_left (mul8 y z)) 8
+    (additive_after (λ t. mul8 t z) (λ a. mul8 a y) (mul8-xor_left z) (mul8-xor_left y)) (mul8-xor_left (mul8 y z)) 8
     (λ i lt. power_assoc i y z lt hy hz) x hx
 
 -- ---- the inverse
