@@ -23,10 +23,7 @@ use denote.Shadow.{pure_i}
 use denote.Slice.{MutSlice, Room, room, slice_val, shr_slice_at}
 use denote.Enum.Declared.{shape}
 use denote.Enum.Enum.{Enum, Enum-Lawful}
-use denote.Param.Laws as PL
-use denote.Param.Shared as PS
-use denote.Struct.Field.{u64-field}
-use denote.Struct.Laws.{u64-laws, u64-copy}
+pub use Rattle.aead_ciphers_base.proofs.ViewWalks.{usize_laws}
 use denote.Struct.Recorded.{recorded_lawful}
 use borrow.Table.Owned as owned-types
 use lib.ListN.{length, drop as drop_list}
@@ -45,9 +42,6 @@ use Rattle.aead_ciphers_base.specs.contracts.values.Tag as G
 use Rattle.aead_ciphers_base.proofs.values.Tag.TheLaws as GL
 use Rattle.aead_ciphers_base.proofs.Walks.{Word, lone, one}
 use Rattle.aead_ciphers.specs.Lending.{LendsFront}
-
-abbrev pub usize_laws : PL.Laws usize
-usize_laws = PL.of_field u64-field u64-laws refl (PS.copy_shared u64-field u64-copy)
 
 abbrev pub Answer : RattleType
 Answer = RS.the_row usize US.the_row
