@@ -1,20 +1,11 @@
--- Facts that an opening call hears from its core and tells of what it lends. Assumes `Logic`.
---     hears         a fact is learned from the head (the last one by `heard`)
+-- Facts that an opening call tells of what it lends. Assumes `Logic`.
 --     tells         facts are told beside the head: `says` one and further ones, `last` the last
 use seplogic.Ra.Ura.{Ura}
-use base.Logic.{SProp, ent, via, emp∗, comm∗, mono_l, id⊢, sep, emp}
+use base.Logic.{SProp, ent, via, emp∗, comm∗, mono_l, sep, emp}
 use contract.Monad.{fact, fact_i}
 use mathlib.Core.List.{List, ◌∷◌}
 use types.Logic.{Logic}
-use types.Kit.{Item, ◌⊛◌, raw, mean, Goal, Seq, Step, ◌$◌, split, use1}
-use denote.Steps.{heard}
-
-module _ {M : Type 1} {𝓤 : Ura M} {𝓛 : Logic 𝓤} {K : Type 0} {Γ : List (Item 𝓤)} where
-  open 𝓛 use {H}
-
-  -- a fact is learned from the head
-  pub hears : {G : Goal 𝓤 H} {φ : Type 0} {P : SProp 𝓤} → K → (φ → Seq K 𝓛 (raw P ∷ Γ) G) → Seq K 𝓛 (raw (sep 𝓤 (fact 𝓤 φ) P) ∷ Γ) G
-  hears {φ = φ} {P} t k = use1 𝓛 (raw (fact 𝓤 φ) ⊛ raw P) (id⊢ 𝓤 _) $ split t $ heard t φ k
+use types.Kit.{Item, raw, mean, Goal, Step, use1}
 
 module _ {M : Type 1} {𝓤 : Ura M} (𝓛 : Logic 𝓤) where
   -- facts beside the head

@@ -55,9 +55,9 @@ pub use Rattle.aead_ciphers_base.specs.Aes.{aes}
 use Rattle.aead_ciphers.specs.Lending.{LendsFront, count_of, lent_buffer}
 use Rattle.aead_ciphers.proofs.Lending.{Answer, answer_Lawful, Out, out_Lawful, Own, as_own, as_slice, turned}
 pub use Rattle.aead_ciphers.proofs.Lending.{nonce_word, aad_word, tag_word, range_word}
-pub use Rattle.aead_ciphers.proofs.LendingFacts.{hears, tells, says, last}
+pub use Rattle.aead_ciphers.proofs.LendingFacts.{tells, says, last}
 pub use Rattle.aead_ciphers_base.proofs.WalkLocals.{gets, reborrows}
-pub use Rattle.aead_ciphers_base.proofs.Walks.{dropped, goes, Words, words_vals, words_typed, slice_typed, table_of, walked, consults, ends}
+pub use Rattle.aead_ciphers_base.proofs.Walks.{dropped, goes, learns, Words, words_vals, words_typed, slice_typed, table_of, walked, consults, ends}
 use Rattle.aead_ciphers_base.proofs.Walks.{Silents, answers, readies}
 use Rattle.aead_ciphers.proofs.NextNonce.{lent_next, on_ok, on_err}
 use Rattle.aead_ciphers.specs.BoundState.{BoundState}

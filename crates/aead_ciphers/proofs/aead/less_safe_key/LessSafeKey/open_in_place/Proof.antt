@@ -1,7 +1,7 @@
 -- `open_in_place` lends what `lend_plaintext` lends of what `open_in_place_to_front` wrote.
 use Rattle.aead_ciphers.proofs.LendingWalk.{refl, ◌-◌, [], ◌∷◌, full_share, ◌$◌, !, move, keep, of_opd, returns, alloc_all, pass_all, free_all, look_at, get}
 use Rattle.aead_ciphers.proofs.LendingWalk.{sets, lands_as, named_lft, types_at, mut_slice_vals, nothing, heard, length, Words, words_vals, words_typed}
-use Rattle.aead_ciphers.proofs.LendingWalk.{slice_typed, nonce_word, aad_word, gets, reborrows, hears, as_lent, length-before_tag, opened_fronts, aad_bytes, aes, OpenedAttached}
+use Rattle.aead_ciphers.proofs.LendingWalk.{slice_typed, nonce_word, aad_word, gets, reborrows, learns, as_lent, length-before_tag, opened_fronts, aad_bytes, aes, OpenedAttached}
 use Rattle.aead_ciphers.proofs.LendingWalk.{arith, front_met, dropped, goes, walked, consults, at_words, with_third, with_third_share, relends, regains, lends}
 use Rattle.aead_ciphers.proofs.LendingWalk.{tells, says, last, ends, table_of}
 use Rattle.aead_ciphers.specs.contracts.aead.less_safe_key.LessSafeKey.open_in_place as F
@@ -26,7 +26,7 @@ open_in_place_spec 𝓤 𝓛 𝓜 𝓡 wired =
     move ! (3 ∷ 4 ∷ 1 ∷ 5 ∷ 6 ∷ 7 ∷ 0 ∷ 8 ∷ []) $ consults 𝓛 C.ended (C.clauses 𝓛 𝓜.mem 𝓡.returns) !
     (table_of 𝓛 𝓜 𝓡) (met 𝓤 𝓛 𝓜 𝓡 (P.Code.calls-aead_ciphers::aead::less_safe_key::LessSafeKey::open_in_place_to_front 𝓡.env wired))
     ((with_third 3 (α ∷ []) κs, with_third_share 3 full_share qs, tt, (self, (nonce, (aad, (record in_out { ghost_name = δ }, tt)))), vals), tt)
-    (gets ! tt refl) (λ v u ws. let new = ws.1.1.1.0 in hears ! (λ opened. hears ! (λ counted. heard ! _ (λ refused.
+    (gets ! tt refl) (λ v u ws. let new = ws.1.1.1.0 in learns ! (λ opened. learns ! (λ counted. heard ! _ (λ refused.
     let fronts = opened_fronts (length old - 16) (length-before_tag 0 old _ (omega arith)) u opened counted in
     -- [the answer; three tokens; nothing of self, nonce, aad; what in_out ends as; what is kept]
     move ! (3 ∷ 0 ∷ 7 ∷ 8 ∷ []) $ regains 𝓛 κ q in_out room 𝓜 𝓡 v u new ! tt α δ fronts (λ typed.

@@ -1,7 +1,7 @@
 -- `open_in_place_separate_tag` lends what `lend_plaintext` lends of what `open_in_place_separate_tag_to_front` wrote.
 use Rattle.aead_ciphers.proofs.LendingWalk.{refl, ◌-◌, [], ◌∷◌, full_share, ◌$◌, !, move, keep, of_opd, returns, alloc_all, pass_all, free_all, look_at, get, sets}
 use Rattle.aead_ciphers.proofs.LendingWalk.{lands_as, named_lft, types_at, mut_slice_vals, nothing, heard, length, Words, words_vals, words_typed, slice_typed}
-use Rattle.aead_ciphers.proofs.LendingWalk.{nonce_word, aad_word, tag_word, range_word, gets, reborrows, hears, as_lent, length-drop, opened_fronts, aad_bytes, aes, Opened}
+use Rattle.aead_ciphers.proofs.LendingWalk.{nonce_word, aad_word, tag_word, range_word, gets, reborrows, learns, as_lent, length-drop, opened_fronts, aad_bytes, aes, Opened}
 use Rattle.aead_ciphers.proofs.LendingWalk.{table_of, front_met, dropped, goes, walked, consults, at_words, with_third, with_third_share, relends, regains}
 use Rattle.aead_ciphers.proofs.LendingWalk.{lends, tells, says, last, ends}
 use Rattle.aead_ciphers.specs.contracts.aead.less_safe_key.LessSafeKey.open_in_place_separate_tag as F
@@ -27,7 +27,7 @@ open_in_place_separate_tag_spec 𝓤 𝓛 𝓜 𝓡 wired =
     move ! (3 ∷ 4 ∷ 1 ∷ 5 ∷ 6 ∷ 7 ∷ 8 ∷ 0 ∷ 9 ∷ 10 ∷ []) $ consults 𝓛 C.ended (C.clauses 𝓛 𝓜.mem 𝓡.returns) !
     (table_of 𝓛 𝓜 𝓡) (met 𝓤 𝓛 𝓜 𝓡 (P.Code.calls-aead_ciphers::aead::less_safe_key::LessSafeKey::open_in_place_separate_tag_to_front 𝓡.env wired))
     ((with_third 3 (α ∷ []) κs, with_third_share 3 full_share qs, tt, (self, (nonce, (aad, (tag, (record in_out { ghost_name = δ }, (range, tt)))))), vals), tt)
-    (gets ! tt refl) (λ v u ws. let new = ws.1.1.1.1.0 in hears ! (λ opened. hears ! (λ counted. heard ! _ (λ refused.
+    (gets ! tt refl) (λ v u ws. let new = ws.1.1.1.1.0 in learns ! (λ opened. learns ! (λ counted. heard ! _ (λ refused.
     let fronts = opened_fronts (length old - range.start) (length-drop range.start old) u opened counted in
     -- [the answer; three tokens; nothing of self, nonce, aad, tag; what in_out ends as; nothing of range; what is kept]
     move ! (3 ∷ 0 ∷ 8 ∷ 10 ∷ []) $ regains 𝓛 κ q in_out room 𝓜 𝓡 v u new ! tt α δ fronts (λ typed.

@@ -2,7 +2,7 @@
 use Rattle.aead_ciphers.proofs.LendingWalk.{refl, ◌-◌, [], ◌∷◌, a_type, dcons, dnil, full_share, ◌$◌, !, move, keep, stop, addr, of_opd, returns, alloc_all}
 use Rattle.aead_ciphers.proofs.LendingWalk.{pass_all, free_all, look_at, get, sets, lands_as, through, plain, named_lft, types_at, mut_slice_vals, nothing}
 use Rattle.aead_ciphers.proofs.LendingWalk.{table_of, heard, gave_ref, Goes-gave_ref, length, inst_fn, param, bounded, Words, words_vals, words_typed}
-use Rattle.aead_ciphers.proofs.LendingWalk.{slice_typed, aad_word, gets, reborrows, hears, step_fronts, aad_bytes, arith, front_met, first_stays, first_goes}
+use Rattle.aead_ciphers.proofs.LendingWalk.{slice_typed, aad_word, gets, reborrows, learns, step_fronts, aad_bytes, arith, front_met, first_stays, first_goes}
 use Rattle.aead_ciphers.proofs.LendingWalk.{walked, consults, at_words, with_third, with_third_share, relends, regains, lends, tells, ends, says_next}
 use Rattle.aead_ciphers.specs.contracts.aead.opening_key.OpeningKey as K
 use Rattle.aead_ciphers.proofs.aead.opening_key.OpeningKey.open_in_place as P
@@ -25,8 +25,8 @@ open_in_place_spec 𝓤 𝓛 𝓜 𝓡 wired N LN g d met =
     move ! (3 ∷ 4 ∷ 1 ∷ 5 ∷ 6 ∷ 7 ∷ 0 ∷ 8 ∷ []) $ consults 𝓛 (K.open_in_place_to_front.ended N g d) (K.open_in_place_to_front.clauses N g d 𝓛 𝓜.mem 𝓡.returns) !
     (table_of 𝓛 𝓜 𝓡) (core_met 𝓤 𝓛 𝓜 𝓡 (P.Code.calls-aead_ciphers::aead::opening_key::OpeningKey::open_in_place_to_front 𝓡.env wired) N LN g d met)
     ((with_third 4 (α ∷ []) κs, with_third_share 4 full_share qs, bounds, (self, (aad, (record in_out { ghost_name = δ }, tt))), vals), tt)
-    (gets ! tt refl) (λ v u ws. let was = self.now in let after = ws.0 in let new = ws.1.1.0 in hears ! (λ stays. hears ! (λ step. hears ! (λ counted.
-    hears ! (λ opened. hears ! (λ plaintext. hears ! (λ refused. hears ! (λ gave. heard ! _ (λ stands.
+    (gets ! tt refl) (λ v u ws. let was = self.now in let after = ws.0 in let new = ws.1.1.0 in learns ! (λ stays. learns ! (λ step. learns ! (λ counted.
+    learns ! (λ opened. learns ! (λ plaintext. learns ! (λ refused. learns ! (λ gave. heard ! _ (λ stands.
     let fronts = step_fronts g.spent g.is_closed was after (aad_bytes aad) 0 old new (length old - 16) (omega arith) u step counted in
     -- [the answer; four tokens; self; nothing of aad; what in_out ends as; what is kept]
     move ! (3 ∷ 0 ∷ 7 ∷ 8 ∷ []) $ regains 𝓛 κ q in_out room 𝓜 𝓡 v u new ! tt α δ fronts (λ typed.
