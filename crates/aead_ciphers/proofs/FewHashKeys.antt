@@ -25,8 +25,8 @@ ghash-zeros : (h : List ℕ) (n : ℕ) (xs : List (List ℕ)) → Sized h → Bl
 unfolding ghash
 ghash-zeros h zero xs sh all = refl
 ghash-zeros h (suc n) xs sh all =
-    let p = power h (suc (length (replicate n zero_block ++ xs))) in
-    let sp = Sized-power h (suc (length (replicate n zero_block ++ xs))) sh in
+    let p = power h (length (replicate n zero_block ++ xs)) in
+    let sp = Sized-power h (length (replicate n zero_block ++ xs)) sh in
     ap₂ ◌⊕◌ (product_comm zero_block p refl sp ∙ product_zero p sp) (ghash-zeros h n xs sh all)
     ∙ xor_comm zero_block (ghash h xs) ∙ xor_zero (ghash h xs) (Sized-ghash h xs sh (AllSized-blocks xs all))
 

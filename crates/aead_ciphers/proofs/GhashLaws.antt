@@ -142,15 +142,14 @@ AllSized-append [] ys h j = j
 AllSized-append (x ∷ xs) ys h j = (h.0, AllSized-append xs ys h.1 j)
 
 pub Sized-power : (h : List ℕ) (k : ℕ) → Sized h → Sized (power h k)
-Sized-power h zero is_h = refl
-Sized-power h (suc zero) is_h = is_h
-Sized-power h (suc (suc k)) is_h = Sized-product (power h (suc k)) h
+Sized-power h zero is_h = is_h
+Sized-power h (suc k) is_h = Sized-product (power h k) h
 
 pub Sized-ghash : (h : List ℕ) (xs : List (List ℕ)) → Sized h → AllSized xs → Sized (ghash h xs)
 unfolding ghash
 Sized-ghash h [] is_h all = refl
 Sized-ghash h (x ∷ xs) is_h all =
-    Sized-xor (x • power h (length (x ∷ xs))) (ghash h xs) (Sized-product x (power h (length (x ∷ xs)))) (Sized-ghash h xs is_h all.1)
+    Sized-xor (x • power h (length xs)) (ghash h xs) (Sized-product x (power h (length xs))) (Sized-ghash h xs is_h all.1)
 
 -- one block more
 pub ghash_more : (h : List ℕ) (xs : List (List ℕ)) (x : List ℕ) → Sized h → AllSized xs → Sized x → ghash h (xs ++ (x ∷ [])) ≡ (ghash h xs ⊕ x) • h
@@ -160,13 +159,13 @@ ghash_more h [] x is_h all is_x =
     ∙ ap (λ y. y • h) (sym (xor_comm zero_block x ∙ xor_zero x is_x))
 ghash_more h (y ∷ ys) x is_h all is_x =
     let n = length ys in
-    let p = power h (suc n) in
-    let is_p = Sized-power h (suc n) is_h in
+    let p = power h n in
+    let is_p = Sized-power h n is_h in
     let g = ghash h ys in
     let is_g = Sized-ghash h ys is_h all.1 in
     let is_yp = Sized-product y p in
     let count = length-append ys (x ∷ []) ∙ add-one n in
-    ap₂ (λ k r. (y • power h (suc k)) ⊕ r) count (ghash_more h ys x is_h all.1 is_x)
+    ap₂ (λ k r. (y • power h k) ⊕ r) count (ghash_more h ys x is_h all.1 is_x)
     ∙ ap (λ r. r ⊕ ((g ⊕ x) • h)) (sym (product_assoc y p h all.0 is_p is_h))
     ∙ sym (product_xor_left (y • p) (g ⊕ x) h is_yp (Sized-xor g x is_g is_x) is_h)
     ∙ ap (λ r. r • h) (sym (xor_assoc (y • p) g x))
@@ -185,12 +184,12 @@ ghash_xor h [] (y ∷ ys) is_h all_x all_y e = absurd (omega arith)
 ghash_xor h (x ∷ xs) [] is_h all_x all_y e = absurd (omega arith)
 ghash_xor h (x ∷ xs) (y ∷ ys) is_h all_x all_y e =
     let same : length xs ≡ length ys = omega arith in
-    let p = power h (suc (length xs)) in
-    let is_p = Sized-power h (suc (length xs)) is_h in
-    ap₂ (λ k r. ((x ⊕ y) • power h (suc k)) ⊕ r) (length-xor_blocks xs ys same) (ghash_xor h xs ys is_h all_x.1 all_y.1 same)
+    let p = power h (length xs) in
+    let is_p = Sized-power h (length xs) is_h in
+    ap₂ (λ k r. ((x ⊕ y) • power h k) ⊕ r) (length-xor_blocks xs ys same) (ghash_xor h xs ys is_h all_x.1 all_y.1 same)
     ∙ ap (λ r. r ⊕ (ghash h xs ⊕ ghash h ys)) (product_xor_left x y p all_x.0 all_y.0 is_p)
     ∙ xor_exchange (x • p) (y • p) (ghash h xs) (ghash h ys)
-    ∙ ap (λ k. ((x • p) ⊕ ghash h xs) ⊕ ((y • power h (suc k)) ⊕ ghash h ys)) same
+    ∙ ap (λ k. ((x • p) ⊕ ghash h xs) ⊕ ((y • power h k) ⊕ ghash h ys)) same
 
 pub AllSized-from : (xs : List (List ℕ)) → ((i : ℕ) → i < length xs → length (get_or xs i []) ≡ 16) → AllSized xs
 AllSized-from [] h = tt

@@ -44,16 +44,15 @@ x • y = block_of (field_product block_taps 128 (block_bits x) (block_bits y))
 abbrev pub unit_block : List ℕ
 unit_block = 0x80 ∷ replicate 15 0
 
--- section 6.3: the power h^k, as h^2 = h • h
+-- section 6.3: the power h^(k + 1), as h^2 = h • h
 abbrev pub power : List ℕ → ℕ → List ℕ
-power h zero = unit_block
-power h (suc zero) = h
-power h (suc (suc k)) = power h (suc k) • h
+power h zero = h
+power h (suc k) = power h k • h
 
 -- section 6.4: GHASH of the blocks X_1, .., X_m is X_1 • H^m ⊕ X_2 • H^(m - 1) ⊕ .. ⊕ X_m • H
 unfoldable pub ghash : List ℕ → List (List ℕ) → List ℕ
 ghash h [] = zero_block
-ghash h (x ∷ xs) = x • power h (length (x ∷ xs)) ⊕ ghash h xs
+ghash h (x ∷ xs) = x • power h (length xs) ⊕ ghash h xs
 
 -- the XOR of two lists of blocks, block by block (section 4.2.2)
 abbrev pub xor_blocks : List (List ℕ) → List (List ℕ) → List (List ℕ)
