@@ -2,8 +2,9 @@
 use Rattle.std.proofs.Common.{◌≡◌, ℕ, ◌+◌, ◌-◌, ◌*◌, ◌<◌, ◌≤◌, List, ◌++◌, length, take, drop, replicate, refl, sym, ap, ap₂, ◌∙◌, arith}
 use Rattle.std.proofs.lemmas.List.{append_assoc, drop-take, length-append, length-take-le, length-drop, take_all, take_at, drop-drop}
 use Rattle.aead_ciphers_base.specs.Bytes.{◌⊕◌}
-use Rattle.aead_ciphers_base.specs.CounterMode.{counter_block, counter_mode}
-use Rattle.aead_ciphers_base.proofs.CounterModeLemmas.{advance, all_from, counter_mode-short, length-counter_mode, take-counter_mode, xor-reads}
+use Rattle.aead_ciphers_base.specs.CounterMode.{counter_block, counter_byte, counter_mode}
+use Rattle.aead_ciphers_base.proofs.CounterModeLemmas.{counter_byte-later, counter_mode-short, length-counter_mode, take-counter_mode, xor-reads}
+use Rattle.aead_ciphers_base.proofs.StreamLemmas.{finish}
 use Rattle.aead_ciphers.specs.Gcm.{padded_block}
 use Rattle.aead_ciphers.proofs.PaddedBlocks.{padded_is}
 
@@ -23,14 +24,9 @@ pub finish_text : (cipher : List ℕ → List ℕ) (nonce : List ℕ) (k q w s :
     now ≡ counter_mode cipher nonce k (take w (drop s was)) ++ drop w was →
     take w now ++ counter_mode cipher nonce (k + q) (drop (s + w) now) ++ drop (length now - s) now
     ≡ counter_mode cipher nonce k (drop s was) ++ drop (length was - s) was
+unfolding counter_mode
 finish_text cipher nonce k q w s was now whole room len e =
-    let n = length was - s - w in
-    let all : w + n ≡ length was - s = omega arith in
-    let all' : length now - s ≡ w + n = omega arith in
-    ap₂ (λ u z. take w now ++ counter_mode cipher nonce (k + q) u ++ drop z now)
-    (sym (take_all n (drop (s + w) now) (omega (arith, length-drop (s + w) now)))) all'
-    ∙ advance cipher nonce k q w n s was now whole (omega arith) e
-    ∙ all_from cipher nonce k s (w + n) was all
+    finish (counter_byte cipher nonce k) (counter_byte cipher nonce (k + q)) w s was now (counter_byte-later cipher nonce k q w whole) room len e
 
 -- the last bytes, padded, encrypted and cut to their length
 rest_piece : (cipher : List ℕ → List ℕ) (nonce : List ℕ) (k : ℕ) (text input iv output : List ℕ) → length text ≤ 16 →

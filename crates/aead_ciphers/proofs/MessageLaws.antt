@@ -3,8 +3,7 @@ use Rattle.std.proofs.Common.{◌≡◌, ℕ, true, ◌+◌, List, [], ◌∷◌
 use Rattle.std.proofs.Common.{append-nil, drop_of_length-le}
 use Rattle.aead_ciphers_base.specs.Aes.{aes, cipher, add_round_key}
 use Rattle.aead_ciphers_base.specs.Bytes.{◌⊕◌}
-use Rattle.aead_ciphers_base.proofs.CounterModeLemmas.{length-counter_mode}
-use Rattle.aead_ciphers_base.proofs.CounterModeTwice.{counter_mode-twice}
+use Rattle.aead_ciphers_base.proofs.CounterModeLemmas.{counter_mode-twice, length-counter_mode}
 use Rattle.aead_ciphers_base.proofs.XorLemmas.{length-xor}
 use Rattle.aead_ciphers.specs.Gcm.{gcm_tag, gcm_encrypted, gcm_decrypted, gcm_sealed}
 use Rattle.aead_ciphers.specs.Ghash.{◌•◌, block_of, ghash}

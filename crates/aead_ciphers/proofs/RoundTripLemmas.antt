@@ -3,8 +3,7 @@ use Rattle.std.proofs.Common.{◌≡◌, ◌∙◌, refl, sym, ap₂, subst, ari
 use Rattle.std.proofs.lemmas.List.Elements.{All-get_or}
 use Rattle.std.proofs.lemmas.Option.{get_or_from_slice_get, slice_get_within}
 use Rattle.aead_ciphers_base.specs.Aes.{aes}
-use Rattle.aead_ciphers_base.proofs.CounterModeLemmas.{length-counter_mode}
-use Rattle.aead_ciphers_base.proofs.CounterModeTwice.{counter_mode-twice}
+use Rattle.aead_ciphers_base.proofs.CounterModeLemmas.{counter_mode-twice, length-counter_mode}
 use Rattle.aead_ciphers.specs.Gcm.{Fits, gcm_encrypted}
 use Rattle.aead_ciphers.specs.Laws.{OpensAgain}
 

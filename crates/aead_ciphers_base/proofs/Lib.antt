@@ -7,7 +7,6 @@ pub mod ChaChaRounds
 pub mod CipherRounds
 pub mod CounterLemmas
 pub mod CounterModeLemmas
-pub mod CounterModeTwice
 pub mod EachLemmas
 pub mod FastProduct
 pub mod KeySchedule
@@ -25,6 +24,7 @@ pub mod PolynomialLaws
 pub mod PolynomialSums
 pub mod RoundKeys
 pub mod ShiftedBlocks
+pub mod StreamLemmas
 pub mod TowerCoordinates
 pub mod VectorLanes
 pub mod ViewWalks

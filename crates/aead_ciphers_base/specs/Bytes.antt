@@ -1,5 +1,5 @@
 -- Lists of bytes.
-use Rattle.std.specs.Prelude.{ℕ, List, [], ◌∷◌, map, replicate, bit_xor}
+use Rattle.std.specs.Prelude.{ℕ, List, [], ◌∷◌, length, map, replicate, bit_xor}
 use Rattle.std.specs.List.{range_with_len}
 
 -- the list f 0, f 1, .., f (n - 1)
@@ -12,6 +12,10 @@ abbrev pub ◌⊕◌ : List ℕ → List ℕ → List ℕ
 [] ⊕ ys = []
 (x ∷ xs) ⊕ [] = []
 (x ∷ xs) ⊕ (y ∷ ys) = bit_xor x y ∷ (xs ⊕ ys)
+
+-- the text XOR as many bytes of a stream (SP 800-38D section 6.5, RFC 8439 section 2.4)
+unfoldable pub xored : (ℕ → ℕ) → List ℕ → List ℕ
+xored stream text = text ⊕ each_below (length text) stream
 
 -- the block of 128 zero bits (SP 800-38D section 4.2.2)
 abbrev pub zero_block : List ℕ

@@ -1,11 +1,11 @@
 -- ChaCha20 (RFC 8439). A word is a number below 2 ^ 32, a state a list of 16 words; a key, a nonce,
 -- a block, a key stream and a message are lists of bytes.
-use Rattle.std.specs.Prelude.{ℕ, ◌+◌, ◌/◌, ◌%◌, ◌^◌, List, [], ◌∷◌, ◌++◌, bit_xor, slice_index, slice_set, fold, length}
+use Rattle.std.specs.Prelude.{ℕ, ◌+◌, ◌/◌, ◌%◌, ◌^◌, List, [], ◌∷◌, ◌++◌, bit_xor, slice_index, slice_set, fold}
 use Rattle.std.specs.Fn.{iterate}
 use Rattle.std.specs.Int.{w32, rotate_left, to_le_bytes, from_le_bytes}
 use Rattle.std.specs.List.{flat_map}
 use Rattle.std.specs.Simd.Lanes.{zip2}
-use Rattle.aead_ciphers_base.specs.Bytes.{each_below, ◌⊕◌}
+use Rattle.aead_ciphers_base.specs.Bytes.{xored}
 
 -- the sum of two words modulo 2 ^ 32 (section 2.1)
 abbrev pub add32 : ℕ → ℕ → ℕ
@@ -67,14 +67,9 @@ chacha20_block key counter nonce = state_block (initial_state key counter nonce)
 unfoldable pub stream_byte : List ℕ → ℕ → List ℕ → ℕ → ℕ
 stream_byte key counter nonce i = slice_index (chacha20_block key (counter + i / 64) nonce) (i % 64)
 
--- the first n bytes of the key stream (section 2.4)
-unfoldable pub key_stream : List ℕ → ℕ → List ℕ → ℕ → List ℕ
-key_stream key counter nonce n = each_below n (stream_byte key counter nonce)
-
 -- the message XOR the key stream (section 2.4)
 unfoldable pub chacha20_encrypted : List ℕ → ℕ → List ℕ → List ℕ → List ℕ
-chacha20_encrypted key counter nonce message =
-    message ⊕ key_stream key counter nonce (length message)
+chacha20_encrypted key counter nonce message = xored (stream_byte key counter nonce) message
 
 -- what a contract sees of a `Counter`: the block counter, and the bytes of the nonce
 pub record Position : Type 0 where

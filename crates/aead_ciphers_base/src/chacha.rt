@@ -3,8 +3,8 @@
 ghost use Rattle.std.specs.Prelude.{◌≡◌, ℕ, ◌+◌, ◌-◌, ◌*◌, ◌^◌, ◌<◌, ◌≤◌, List, ◌∷◌, ◌++◌, length, take, drop, slice_index, slice_set};
 ghost use Rattle.std.specs.Int.{div_ceil};
 ghost use Rattle.std.specs.Simd.Lanes.{zip2};
-ghost use Rattle.aead_ciphers_base.specs.Bytes.{◌⊕◌};
-ghost use Rattle.aead_ciphers_base.specs.ChaCha20.{add32, quarter_round, quarter_round_at, double_round, state_block, le_words, le_bytes, initial_state, key_stream, chacha20_encrypted, Position};
+ghost use Rattle.aead_ciphers_base.specs.Bytes.{each_below, ◌⊕◌};
+ghost use Rattle.aead_ciphers_base.specs.ChaCha20.{add32, quarter_round, quarter_round_at, double_round, state_block, le_words, le_bytes, initial_state, stream_byte, chacha20_encrypted, Position};
 ghost use Rattle.aead_ciphers_base.specs.Mask.{chacha_mask};
 ghost use Rattle.aead_ciphers_base.specs.Overlapping.{input_len, input_of};
 
@@ -315,7 +315,7 @@ impl Key {
     // The four blocks of the key stream from block `j` after the counter on.
     fn four_blocks(&self, counter: &Counter, j: u32) -> [u8; BATCH_LEN]
         requires { counter.now.number + j + 4 ≤ 2 ^ 32 }
-        ensures { result ≡ key_stream self.now (counter.now.number + j) counter.now.nonce 256 }
+        ensures { result ≡ each_below 256 (stream_byte self.now (counter.now.number + j) counter.now.nonce) }
     {
         lanes::state_blocks(&lanes::four_states(&self.initial_state(counter, j)))
     }

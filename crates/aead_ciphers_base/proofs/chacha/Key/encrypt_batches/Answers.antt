@@ -1,10 +1,12 @@
-use Rattle.std.proofs.Common.{◌≡◌, ℕ, ◌+◌, ◌*◌, refl, ap, ◌∙◌, arith, take}
+use Rattle.std.proofs.Common.{◌≡◌, ℕ, ◌+◌, ◌*◌, refl, ◌∙◌, arith, length, rules}
+use Rattle.std.proofs.lemmas.List.{take_all}
+use Rattle.aead_ciphers_base.specs.Bytes.{xored}
 use Rattle.aead_ciphers_base.specs.ChaCha20.{chacha20_encrypted}
-use Rattle.aead_ciphers_base.proofs.KeyStreamLemmas.{take-key_stream, written_more}
+use Rattle.aead_ciphers_base.proofs.KeyStreamLemmas.{written_more}
 use Rattle.aead_ciphers_base.proofs.chacha.Key.encrypt_batches.Goals as goal
 
 pub loop-j-init : goal.loop-j-init
-unfolding chacha20_encrypted
+unfolding chacha20_encrypted xored
 loop-j-init c = refl
 
 pub loop-j-preserved : goal.loop-j-preserved
@@ -16,5 +18,5 @@ loop-j-preserved c =
     rw next (c.xor_stream.ensures
     ∙ written_more key c.args.counter.now.number nonce c.args.start (256 * j) (4 * j) 256 256
     c.args.in_out.now c.loop-j.in_out c.four_blocks-stream.result c.loop-j.invariant
-    (ap (take 256) c.four_blocks-stream.ensures ∙ take-key_stream key (c.args.counter.now.number + 4 * j) nonce 256 256 (omega arith))
+    (take_all 256 c.four_blocks-stream.result (let size : length c.four_blocks-stream.result ≡ 256 = search rules in omega arith) ∙ c.four_blocks-stream.ensures)
     (omega arith) (omega arith) (omega arith))

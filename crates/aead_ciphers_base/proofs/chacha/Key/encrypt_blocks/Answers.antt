@@ -1,11 +1,12 @@
 use Rattle.std.proofs.Common.{◌≡◌, ℕ, ◌+◌, ◌*◌, refl, rules, ap, ◌∙◌, arith, List, take, drop, length-drop}
 use Rattle.std.proofs.lemmas.List.{take_all}
+use Rattle.aead_ciphers_base.specs.Bytes.{xored}
 use Rattle.aead_ciphers_base.specs.ChaCha20.{chacha20_block, chacha20_encrypted, state_block}
-use Rattle.aead_ciphers_base.proofs.KeyStreamLemmas.{block-key_stream, take-key_stream, written_more}
+use Rattle.aead_ciphers_base.proofs.KeyStreamLemmas.{block-stream, written_more}
 use Rattle.aead_ciphers_base.proofs.chacha.Key.encrypt_blocks.Goals as goal
 
 pub loop-j-init : goal.loop-j-init
-unfolding chacha20_encrypted
+unfolding chacha20_encrypted xored
 loop-j-init c = refl
 
 pub loop-j-preserved : goal.loop-j-preserved
@@ -19,11 +20,10 @@ loop-j-preserved c =
     let number : c.args.counter.now.number + (c.args.first + j) ≡ first + j = omega arith in
     let block : c.state_block-block.result ≡ chacha20_block key (first + j) nonce =
     c.state_block-block.ensures ∙ ap state_block c.initial_state.ensures.state ∙ ap (λ (n : ℕ). chacha20_block key n nonce) number in
-    let stream = block-key_stream key (first + j) nonce c.state_block-block.result block (search rules) in
     rw next (c.xor_stream.ensures
     ∙ written_more key first nonce c.args.start (64 * j) j 64 c.min-n.result
     c.args.in_out.now c.loop-j.in_out c.state_block-block.result c.loop-j.invariant
-    (ap (take c.min-n.result) stream ∙ take-key_stream key (first + j) nonce 64 c.min-n.result (omega (arith, c.min-n.ensures)))
+    (block-stream key (first + j) nonce c.state_block-block.result c.min-n.result block (search rules) (omega (arith, c.min-n.ensures)))
     refl (omega arith) c.min-n.ensures)
 
 pub returns : goal.returns

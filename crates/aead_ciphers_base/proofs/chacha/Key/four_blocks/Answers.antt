@@ -2,7 +2,7 @@ use Rattle.std.proofs.Common.{◌≡◌, ◌<◌, ℕ, ◌+◌, List, length, sl
 use Rattle.std.proofs.lemmas.List.{get_or-set_same}
 use Rattle.aead_ciphers_base.specs.ChaCha20.{chacha20_block, state_block}
 use Rattle.aead_ciphers_base.specs.Lanes.{lane}
-use Rattle.aead_ciphers_base.proofs.KeyStreamLemmas.{blocks-key_stream}
+use Rattle.aead_ciphers_base.proofs.KeyStreamLemmas.{blocks-stream}
 use Rattle.aead_ciphers_base.proofs.chacha.Key.four_blocks.Goals as goal
 
 -- word 12 of the initial state
@@ -29,4 +29,4 @@ returns c =
     let word : slice_index state 12 ≡ first = first_word state _ first (search rules) (numbered first) c.initial_state.ensures.state in
     let block : (i : ℕ) → i < 4 → state_block (lane i c.four_states.result) ≡ chacha20_block key (first + i) nonce = λ i h.
     ap state_block (c.four_states.ensures i h ∙ ap (λ (n : ℕ). slice_set state 12 (n + i)) word ∙ numbered (first + i)) in
-    blocks-key_stream key first nonce c.state_blocks.result 4 (search rules) (λ i h. c.state_blocks.ensures i h ∙ block i h)
+    blocks-stream key first nonce c.state_blocks.result 4 (search rules) (λ i h. c.state_blocks.ensures i h ∙ block i h)
