@@ -5,7 +5,6 @@ pub mod BlockLists
 pub mod BlockSquares
 pub mod ChangedBlock
 pub mod CounterModePieces
-pub mod CounterSequenceLemmas
 pub mod DifferentMessages
 pub mod FewHashKeys
 pub mod FewSubkeys
@@ -36,4 +35,3 @@ pub mod SequenceLemmas
 pub mod SquareTables
 pub mod SubkeyMultiples
 pub mod TagInput
-pub mod XoredSequenceLemmas

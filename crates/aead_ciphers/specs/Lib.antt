@@ -9,7 +9,7 @@ pub use Rattle.aead_ciphers_base.specs.Work
 pub mod AeadKey
 pub mod Algorithm
 pub mod BoundState
-pub mod CounterSequence
+pub mod Counting
 pub mod Different
 pub mod FreshNonces
 pub mod Gcm
@@ -25,4 +25,3 @@ pub mod Program
 pub mod Runs
 pub mod Steps
 pub mod Words
-pub mod XoredSequence

@@ -1,12 +1,12 @@
 -- What the program keeps from line to line.
 use Rattle.std.specs.Prelude.{ℕ, List}
 use Rattle.aead_ciphers.specs.BoundState.{BoundState}
-use Rattle.aead_ciphers.specs.CounterSequence.{Counting}
+use Rattle.aead_ciphers.specs.Counting.{Counting}
 use Rattle.aead_ciphers.specs.declared.aead.algorithm.Algorithm.{Algorithm}
 
 -- a key of these bytes, with a sequence that has spent nothing
 abbrev pub first_state : Algorithm → (key prefix : List ℕ) (first count : ℕ) → BoundState Counting
 first_state algorithm key prefix first count = record {
   key = record { algorithm = algorithm; bytes = key };
-  sequence = record { prefix = prefix; first = first; count = count; used = 0 };
+  sequence = record { fixed = prefix; first = first; count = count; used = 0 };
 }

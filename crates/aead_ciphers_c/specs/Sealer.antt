@@ -1,6 +1,6 @@
 -- What the contracts see of a `DeerlapseSealer`.
 use Rattle.std.specs.Prelude.{ℕ, List, take}
-use Rattle.aead_ciphers.specs.XoredSequence.{xored_nonce}
+use Rattle.aead_ciphers.specs.Counting.{xored_nonce}
 use Rattle.aead_ciphers_c.specs.declared.sealer.DeerlapseSealer.{DeerlapseSealer}
 
 -- the bytes of its key: as many as its length says

@@ -3,7 +3,7 @@
 ghost use Rattle.std.specs.Prelude.{◌≡◌, ◌+◌, ◌<◌, ◌≤◌, ◌↔◌, length, drop, All, IsTrue, IsFalse};
 ghost use Rattle.aead_ciphers_base.specs.Aes.{aes};
 ghost use Rattle.aead_ciphers.specs.Gcm.{Fits, gcm_encrypted, gcm_tag};
-ghost use Rattle.aead_ciphers.specs.XoredSequence.{xored_nonce};
+ghost use Rattle.aead_ciphers.specs.Counting.{xored_nonce};
 ghost use Rattle.aead_ciphers_c.specs.AesKey.{IsAesKeyLen};
 ghost use Rattle.aead_ciphers_c.specs.Sealer.{key_of, next_nonce};
 

@@ -4,7 +4,7 @@ use Rattle.std.proofs.Common.{refl, sym, ap, ap₂, ◌∙◌, append_assoc, tak
 use Rattle.std.proofs.lemmas.List.{drop-drop, length-take-le}
 use Rattle.aead_ciphers_base.specs.Aes.{aes}
 use Rattle.aead_ciphers.specs.Gcm.{Fits, gcm_decrypted, gcm_tag, OpenedAttached}
-use Rattle.aead_ciphers.specs.XoredSequence.{xored_nonce}
+use Rattle.aead_ciphers.specs.Counting.{xored_nonce}
 use Rattle.quic_packets.specs.Packet.{HasPayload, IsGenuine, header, opened_packet, payload, tag}
 
 -- what is known of a call that opens the packet from its parts: what is behind the header, with the header as AAD

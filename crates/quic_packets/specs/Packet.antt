@@ -4,7 +4,7 @@ use Rattle.std.specs.Prelude.{◌≡◌, ℕ, ◌+◌, ◌-◌, ◌^◌, ◌<◌
 use Rattle.std.specs.Int.{to_be_bytes, w64}
 use Rattle.aead_ciphers_base.specs.Aes.{aes}
 use Rattle.aead_ciphers.specs.Gcm.{Fits, gcm_decrypted, gcm_sealed, gcm_tag}
-use Rattle.aead_ciphers.specs.XoredSequence.{xored_nonce}
+use Rattle.aead_ciphers.specs.Counting.{xored_nonce}
 use Rattle.quic_packets.specs.Header.{number_len}
 
 -- a packet number lies below 2^62 (RFC 9000 section 12.3)

@@ -31,7 +31,7 @@ impl Model for SendKey {
     ghost view = { λ key. record {
       algorithm = key.key.key.algorithm;
       bytes = key.key.key.bytes;
-      iv = key.key.sequence.iv;
+      iv = key.key.sequence.fixed;
       next = key.next;
     } };
 

@@ -3,7 +3,7 @@
 ghost use Rattle.std.specs.Prelude.{◌≡◌, ◌+◌, ◌-◌, ◌^◌, ◌<◌, ◌≤◌, ◌↔◌, [], length, take, vec_capacity, vec_len, is_ok, IsOk, IfOk, OnOk, OnErr};
 ghost use Rattle.aead_ciphers_base.specs.Aes.{aes};
 ghost use Rattle.aead_ciphers.specs.Algorithm.{key_len};
-ghost use Rattle.aead_ciphers.specs.CounterSequence.{nonce_at};
+ghost use Rattle.aead_ciphers.specs.Counting.{next_nonce, prefixed_nonce};
 ghost use Rattle.aead_ciphers.specs.Gcm.{Fits, gcm_decrypted, gcm_encrypted, gcm_sealed, gcm_tag, OpenedAttached};
 
 use aead_ciphers::aead::{
@@ -21,7 +21,7 @@ pub fn sender(
 ) -> Result<SealingKey<CounterSequence>, Unspecified>
     ensures accepted { IsOk result ↔ (length key_bytes.now ≡ key_len algorithm.now) }
     ensures key { IfOk result (λ key. key.key ≡ record { algorithm = algorithm.now; bytes = key_bytes.now }) }
-    ensures sequence { IfOk result (λ key. key.sequence ≡ record { prefix = prefix; first = 0; count = 2 ^ 32; used = 0 }) }
+    ensures sequence { IfOk result (λ key. key.sequence ≡ record { fixed = prefix; first = 0; count = 2 ^ 32; used = 0 }) }
 {
     let sequence = CounterSequence::new(prefix, 0, NONCES)?;
     Ok(SealingKey::new(UnboundKey::new(algorithm, key_bytes)?, sequence))
@@ -35,7 +35,7 @@ pub fn receiver(
 ) -> Result<OpeningKey<CounterSequence>, Unspecified>
     ensures accepted { IsOk result ↔ (length key_bytes.now ≡ key_len algorithm.now) }
     ensures key { IfOk result (λ key. key.key ≡ record { algorithm = algorithm.now; bytes = key_bytes.now }) }
-    ensures sequence { IfOk result (λ key. key.sequence ≡ record { prefix = prefix; first = 0; count = 2 ^ 32; used = 0 }) }
+    ensures sequence { IfOk result (λ key. key.sequence ≡ record { fixed = prefix; first = 0; count = 2 ^ 32; used = 0 }) }
 {
     let sequence = CounterSequence::new(prefix, 0, NONCES)?;
     Ok(OpeningKey::new(UnboundKey::new(algorithm, key_bytes)?, sequence))
@@ -48,7 +48,7 @@ pub fn send(
     message: &mut Vec<u8>,
 ) -> Result<(), Unspecified>
     ensures sealed { OnOk result (message.new.items ≡ gcm_sealed (aes key.old.key.bytes)
-        (nonce_at key.old.sequence key.old.sequence.used) aad.now message.old.items) }
+        (next_nonce prefixed_nonce key.old.sequence) aad.now message.old.items) }
     ensures grown { OnOk result (length message.new.items ≡ length message.old.items + 16) }
     ensures counted { OnOk result (key.new.sequence.used ≡ key.old.sequence.used + 1) }
     ensures refused { OnErr result (message.new.items ≡ message.old.items) }
@@ -68,9 +68,9 @@ pub fn send_apart(
     ensures accepted { IsOk result ↔ (key.old.sequence.used < key.old.sequence.count) }
     ensures counted { OnOk result (key.new.sequence.used ≡ key.old.sequence.used + 1) }
     ensures ciphertext { OnOk result (message.new ≡ gcm_encrypted (aes key.old.key.bytes)
-        (nonce_at key.old.sequence key.old.sequence.used) message.old) }
+        (next_nonce prefixed_nonce key.old.sequence) message.old) }
     ensures tag { IfOk result (λ tag. tag ≡ gcm_tag (aes key.old.key.bytes)
-        (nonce_at key.old.sequence key.old.sequence.used) [] message.new) }
+        (next_nonce prefixed_nonce key.old.sequence) [] message.new) }
     ensures refused { OnErr result (message.new ≡ message.old) }
 {
     key.seal_in_place_separate_tag(Aad::empty(), message)
@@ -85,10 +85,10 @@ pub fn receive(
 ) -> Result<usize, Unspecified>
     ensures nonces_left { IsOk result → key.old.sequence.used < key.old.sequence.count }
     ensures opened { key.old.sequence.used < key.old.sequence.count → OpenedAttached (aes key.old.key.bytes)
-        (nonce_at key.old.sequence key.old.sequence.used) aad.now 0 message.old (is_ok result) message.new }
+        (next_nonce prefixed_nonce key.old.sequence) aad.now 0 message.old (is_ok result) message.new }
     ensures count { IfOk result (λ n. n ≡ length message.old - 16) }
     ensures plaintext { OnOk result (take (length message.old - 16) message.new ≡ gcm_decrypted (aes key.old.key.bytes)
-        (nonce_at key.old.sequence key.old.sequence.used) (take (length message.old - 16) message.old)) }
+        (next_nonce prefixed_nonce key.old.sequence) (take (length message.old - 16) message.old)) }
     ensures counted { key.old.sequence.used < key.old.sequence.count
         → key.new.sequence.used ≡ key.old.sequence.used + 1 }
     ensures used_up { key.old.sequence.count ≤ key.old.sequence.used → key.new ≡ key.old }

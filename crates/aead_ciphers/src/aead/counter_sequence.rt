@@ -1,6 +1,6 @@
 //! Nonces of a prefix and a number that counts up.
-ghost use Rattle.std.specs.Prelude.{◌≡◌, ◌+◌, ◌^◌, ◌≤◌, ◌↔◌, ◌++◌, IsOk, IfOk};
-ghost use Rattle.std.specs.Int.{to_be_bytes, w64};
+ghost use Rattle.std.specs.Prelude.{◌≡◌, ◌+◌, ◌^◌, ◌≤◌, ◌↔◌, IsOk, IfOk};
+ghost use Rattle.aead_ciphers.specs.Counting.{prefixed_nonce};
 
 use crate::aead::{NONCE_LEN, Nonce, NonceSequence, Unspecified};
 use std::marker::Model;
@@ -17,11 +17,11 @@ pub struct CounterSequence {
 
 impl Model for CounterSequence {
     ghost use Rattle.std.specs.Prelude.{◌+◌, ◌^◌, ◌≤◌};
-    ghost use Rattle.aead_ciphers.specs.CounterSequence.{Counting};
+    ghost use Rattle.aead_ciphers.specs.Counting.{Counting};
 
     ghost Value = { Counting };
 
-    ghost view = { λ s. record { prefix = s.prefix; first = s.first; count = s.count; used = s.used } };
+    ghost view = { λ s. record { fixed = s.prefix; first = s.first; count = s.count; used = s.used } };
 
     ghost invariant = { λ s. (s.used ≤ s.count) × (s.first + s.count ≤ 2 ^ 64) };
 }
@@ -32,7 +32,7 @@ impl CounterSequence {
     pub fn new(prefix: [u8; 4], first: u64, count: u64) -> Result<Self, Unspecified>
         ensures accepted { IsOk result ↔ (first + count ≤ 2 ^ 64) }
         ensures made { IfOk result (λ sequence. sequence
-            ≡ record { prefix = prefix; first = first; count = count; used = 0 }) }
+            ≡ record { fixed = prefix; first = first; count = count; used = 0 }) }
     {
         if count > 0 && first > u64::MAX - (count - 1) {
             return Err(Unspecified);
@@ -48,7 +48,7 @@ impl CounterSequence {
 
 // The nonce of a prefix and a number.
 fn nonce_of(prefix: &[u8; 4], number: u64) -> Nonce
-    ensures { result ≡ prefix.now ++ to_be_bytes w64 number }
+    ensures { result ≡ prefixed_nonce prefix.now number }
 {
     let mut bytes = [0; NONCE_LEN];
     bytes[..4].copy_from_slice(prefix);
@@ -58,9 +58,9 @@ fn nonce_of(prefix: &[u8; 4], number: u64) -> Nonce
 
 impl NonceSequence for CounterSequence {
     ghost use Rattle.std.specs.Prelude.{◌≡◌, ◌+◌, ◌<◌, ◌≤◌};
-    ghost use Rattle.aead_ciphers.specs.CounterSequence.{nonce_at, spent_nonces, is_used_up, origin_of};
+    ghost use Rattle.aead_ciphers.specs.Counting.{next_nonce, spent_nonces, is_used_up, origin_of};
 
-    ghost spent = { spent_nonces };
+    ghost spent = { spent_nonces prefixed_nonce };
 
     ghost is_closed = { is_used_up };
 
@@ -70,7 +70,7 @@ impl NonceSequence for CounterSequence {
 
     ghost refuses = { λ s t. (s.count ≤ s.used) × (t ≡ s) };
 
-    ghost is_next = { λ s nonce. nonce ≡ nonce_at s s.used };
+    ghost is_next = { λ s nonce. nonce ≡ next_nonce prefixed_nonce s };
 
     fn advance(&mut self) -> Result<Nonce, Unspecified> {
         if self.used >= self.count {

@@ -1,6 +1,6 @@
 //! Nonces of an IV, XORed with a number that counts up.
 ghost use Rattle.std.specs.Prelude.{◌≡◌, ◌-◌, ◌≤◌, ◌↔◌, IsOk, IfOk};
-ghost use Rattle.aead_ciphers.specs.XoredSequence.{xored_nonce};
+ghost use Rattle.aead_ciphers.specs.Counting.{xored_nonce};
 
 use crate::aead::{NONCE_LEN, Nonce, NonceSequence, Unspecified};
 use aead_ciphers_base::bb;
@@ -19,11 +19,11 @@ pub struct XoredSequence {
 
 impl Model for XoredSequence {
     ghost use Rattle.std.specs.Prelude.{◌≡◌, ◌+◌, ◌^◌, ◌≤◌, length};
-    ghost use Rattle.aead_ciphers.specs.XoredSequence.{Numbering};
+    ghost use Rattle.aead_ciphers.specs.Counting.{Counting};
 
-    ghost Value = { Numbering };
+    ghost Value = { Counting };
 
-    ghost view = { λ s. record { iv = s.iv; first = s.first; count = s.count; used = s.used } };
+    ghost view = { λ s. record { fixed = s.iv; first = s.first; count = s.count; used = s.used } };
 
     ghost invariant = { λ s. (s.used ≤ s.count) × (s.first + s.count ≤ 2 ^ 64) × (length s.iv ≡ 12) };
 }
@@ -34,7 +34,7 @@ impl XoredSequence {
     pub fn new(iv: [u8; NONCE_LEN], first: u64, limit: u64) -> Result<Self, Unspecified>
         ensures accepted { IsOk result ↔ (first ≤ limit) }
         ensures made { IfOk result (λ sequence. sequence
-            ≡ record { iv = iv; first = first; count = limit - first; used = 0 }) }
+            ≡ record { fixed = iv; first = first; count = limit - first; used = 0 }) }
     {
         if first > limit {
             return Err(Unspecified);
@@ -61,9 +61,9 @@ pub fn nonce_of(iv: &[u8; NONCE_LEN], number: u64) -> Nonce
 
 impl NonceSequence for XoredSequence {
     ghost use Rattle.std.specs.Prelude.{◌≡◌, ◌+◌, ◌<◌, ◌≤◌};
-    ghost use Rattle.aead_ciphers.specs.XoredSequence.{nonce_at, spent_nonces, is_used_up, origin_of};
+    ghost use Rattle.aead_ciphers.specs.Counting.{next_nonce, spent_nonces, is_used_up, origin_of};
 
-    ghost spent = { spent_nonces };
+    ghost spent = { spent_nonces xored_nonce };
 
     ghost is_closed = { is_used_up };
 
@@ -73,7 +73,7 @@ impl NonceSequence for XoredSequence {
 
     ghost refuses = { λ s t. (s.count ≤ s.used) × (t ≡ s) };
 
-    ghost is_next = { λ s nonce. nonce ≡ nonce_at s s.used };
+    ghost is_next = { λ s nonce. nonce ≡ next_nonce xored_nonce s };
 
     fn advance(&mut self) -> Result<Nonce, Unspecified> {
         if self.used >= self.count {

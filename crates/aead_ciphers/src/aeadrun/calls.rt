@@ -88,7 +88,7 @@ pub(super) struct Keys {
 }
 
 impl Keys {
-    ghost use Rattle.aead_ciphers.specs.CounterSequence.{spent_nonces, is_used_up, origin_of};
+    ghost use Rattle.aead_ciphers.specs.Counting.{prefixed_nonce, spent_nonces, is_used_up, origin_of};
     ghost use Rattle.aead_ciphers.specs.Program.{first_state};
     ghost use Rattle.aead_ciphers.specs.Runs.{JobStep};
     ghost use Rattle.aead_ciphers.specs.Steps.{OpenStep, SealStep};
@@ -123,10 +123,10 @@ impl Keys {
         aad: Vec<u8>,
         message: Vec<u8>,
     ) -> Result<Vec<u8>, Unspecified>
-        ensures sealed { IfOk result (λ buffer. SealStep spent_nonces is_used_up
+        ensures sealed { IfOk result (λ buffer. SealStep (spent_nonces prefixed_nonce) is_used_up
             (vec_capacity message < vec_len message + 16) ⊤ self.old.sealing self.new.sealing
             aad.items message.items buffer.items true) }
-        ensures refused { OnErr result (SealStep spent_nonces is_used_up
+        ensures refused { OnErr result (SealStep (spent_nonces prefixed_nonce) is_used_up
             (vec_capacity message < vec_len message + 16) ⊤ self.old.sealing self.new.sealing
             aad.items message.items message.items false) }
         ensures kept { self.new.opening ≡ self.old.opening }
@@ -148,7 +148,7 @@ impl Keys {
     ) -> (Vec<u8>, Result<usize, Unspecified>)
         ensures within { IfOk result.1 (λ count. count ≤ vec_len result.0) }
         ensures count { IfOk result.1 (λ count. count ≡ vec_len buffer - 16 - start) }
-        ensures opened { OpenStep spent_nonces is_used_up self.old.opening self.new.opening aad.items start
+        ensures opened { OpenStep (spent_nonces prefixed_nonce) is_used_up self.old.opening self.new.opening aad.items start
             buffer.items result.0.items (is_ok result.1) }
         ensures kept { self.new.sealing ≡ self.old.sealing }
     {
@@ -162,7 +162,7 @@ impl Keys {
 
     /// Runs one job.
     fn run(&mut self, mut job: Job) -> Job
-        ensures { JobStep spent_nonces is_used_up origin_of spent_nonces is_used_up origin_of
+        ensures { JobStep (spent_nonces prefixed_nonce) is_used_up origin_of (spent_nonces prefixed_nonce) is_used_up origin_of
             (self.old.sealing, self.old.opening) (self.new.sealing, self.new.opening) job result }
     {
         session::run(

@@ -1,5 +1,5 @@
 use Rattle.std.proofs.Common.{◌∙◌}
-use Rattle.aead_ciphers.proofs.XoredSequenceLemmas.{over_padded}
+use Rattle.aead_ciphers.proofs.SequenceLemmas.{over_padded}
 use Rattle.aead_ciphers.proofs.aead.xored_sequence.nonce_of.Goals as goal
 
 pub returns : goal.returns

@@ -1,5 +1,5 @@
 use Rattle.std.proofs.Common.{◌≡◌, ◌++◌, refl, ap, ◌∙◌}
-use Rattle.aead_ciphers.specs.XoredSequence.{xored_nonce}
+use Rattle.aead_ciphers.specs.Counting.{xored_nonce}
 use Rattle.quic_packets.specs.Keys.{Receiving}
 use Rattle.quic_packets.specs.Packet.{IsGenuine, opened_packet}
 use Rattle.quic_packets.proofs.OpenLemmas.{accepted, refused}
