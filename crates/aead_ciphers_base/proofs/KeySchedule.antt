@@ -1,13 +1,13 @@
 -- The key schedule, word by word.
 use Rattle.std.proofs.Common.{◌≡◌, ℕ, suc, ◌+◌, ◌-◌, ◌*◌, ◌/◌, ◌%◌, ◌<◌, ◌≤◌, true, false, ◌&&◌, List, [], ◌∷◌, ◌++◌, length, take, set, refl, sym, ◌∙◌, ap}
-use Rattle.std.proofs.Common.{ap₂, arith, slice_index, get_or-take, map, eq-eqb, ne_eqb}
+use Rattle.std.proofs.Common.{ap₂, arith, slice_index, get_or-take, eq-eqb, ne_eqb}
 use Rattle.std.specs.Prelude.{◌==◌, nat_lt}
 use Rattle.std.proofs.lemmas.List.{take_more_set}
 use Rattle.std.proofs.lemmas.List.FromFn.{map-range_with_len_more}
-use Rattle.std.specs.List.{range_with_len}
+use Rattle.aead_ciphers_base.specs.Bytes.{each_below}
 use Rattle.std.proofs.lemmas.Bool.{cond-true, cond-false, and_from, lt-ltb}
 use Rattle.aead_ciphers_base.specs.declared.aes.key_schedule.TheConstants.{ROUND_CONSTANTS}
-use Rattle.aead_ciphers_base.specs.Aes.{word, word_at, add_words, rot_word, sub_word, power_of_x, next_word, key_words}
+use Rattle.aead_ciphers_base.specs.Aes.{word_at, add_words, rot_word, sub_word, power_of_x, next_word, key_words}
 use Rattle.aead_ciphers_base.proofs.NumberBits.{all_below, same_below}
 use Rattle.aead_ciphers_base.proofs.ByteFieldLaws.{field}
 
@@ -52,7 +52,7 @@ next_word_front nk w i hk hi =
 -- ---- the loops of `expand`
 
 abbrev pub key_word : List ℕ → ℕ → List ℕ
-key_word key i = word (λ k. slice_index key (4 * i + k))
+key_word key i = each_below 4 (λ k. slice_index key (4 * i + k))
 
 key_word_is : (key : List ℕ) (i : ℕ) → (slice_index key (4 * i) ∷ slice_index key (4 * i + 1) ∷ slice_index key (4 * i + 2) ∷ slice_index key (4 * i + 3)
     ∷ []) ≡ key_word key i
@@ -60,20 +60,20 @@ key_word_is key i =
     let e : 4 * i ≡ 4 * i + 0 = omega arith in
     ap (λ t. slice_index key t ∷ slice_index key (4 * i + 1) ∷ slice_index key (4 * i + 2) ∷ slice_index key (4 * i + 3) ∷ []) e
 
-pub first_word_step : (key : List ℕ) (words : List (List ℕ)) (i : ℕ) → i < length words → take i words ≡ map (key_word key) (range_with_len 0 i)
+pub first_word_step : (key : List ℕ) (words : List (List ℕ)) (i : ℕ) → i < length words → take i words ≡ each_below i (key_word key)
     → take (i + 1) (set words i (slice_index key (4 * i) ∷ slice_index key (4 * i + 1) ∷ slice_index key (4 * i + 2) ∷ slice_index key (4 * i + 3) ∷ []))
-    ≡ map (key_word key) (range_with_len 0 (i + 1))
+    ≡ each_below (i + 1) (key_word key)
 first_word_step key words i lt e =
     take_more_set words i _ lt ∙ ap₂ (λ t v. t ++ v ∷ []) e (key_word_is key i) ∙ sym (map-range_with_len_more (key_word key) 0 i i (omega arith))
 
-key_words_none : (nk : ℕ) (key : List ℕ) → key_words nk key (nk - nk) ≡ map (key_word key) (range_with_len 0 nk)
+key_words_none : (nk : ℕ) (key : List ℕ) → key_words nk key (nk - nk) ≡ each_below nk (key_word key)
 unfolding key_words
 key_words_none nk key = let e : nk - nk ≡ 0 = omega arith in ap (key_words nk key) e
 
-pub first_words_end : (nk : ℕ) (key : List ℕ) (words : List (List ℕ)) (i : ℕ) → i ≡ nk → take i words ≡ map (key_word key) (range_with_len 0 i)
+pub first_words_end : (nk : ℕ) (key : List ℕ) (words : List (List ℕ)) (i : ℕ) → i ≡ nk → take i words ≡ each_below i (key_word key)
     → take nk words ≡ key_words nk key (nk - nk)
 first_words_end nk key words i e h =
-    ap (λ n. take n words) (sym e) ∙ h ∙ ap (λ n. map (key_word key) (range_with_len 0 n)) e ∙ sym (key_words_none nk key)
+    ap (λ n. take n words) (sym e) ∙ h ∙ ap (λ n. each_below n (key_word key)) e ∙ sym (key_words_none nk key)
 
 key_words_more : (nk : ℕ) (key : List ℕ) (n : ℕ) → nk ≤ n
     → key_words nk key (n + 1 - nk) ≡ key_words nk key (n - nk) ++ next_word nk (key_words nk key (n - nk)) n ∷ []

@@ -5,11 +5,12 @@ use Rattle.std.specs.Prelude.{◌==◌}
 use Rattle.std.specs.Int.{bit_at}
 use Rattle.std.proofs.lemmas.Nat.{shr-shr}
 use Rattle.std.proofs.lemmas.Nat.Bits.{bit_at_xor, bit_at_and, bit_at-lt, bit_at_ones}
-use Rattle.aead_ciphers_base.specs.Polynomial.{◌xor◌, coefficient, polynomial}
+use Rattle.aead_ciphers_base.specs.Polynomial.{◌xor◌, coefficient}
 use Rattle.aead_ciphers_base.specs.ByteField.{bits_of, value_of, mul8}
 use Rattle.aead_ciphers_base.specs.Planes.{plane_byte}
 use Rattle.aead_ciphers_base.proofs.NumberBits.{by_digits, bits_of-value_of, value_of-lt, all_below, same_below}
 use Rattle.aead_ciphers_base.proofs.ByteFieldLaws.{field}
+use Rattle.aead_ciphers_base.specs.Bytes.{each_below}
 
 -- ---- one bit
 
@@ -29,7 +30,7 @@ set-and a b p = ap (λ t. t == 1) (bit_at_and a b p) ∙ min_digit (bit_at a p) 
 -- ---- one byte
 
 abbrev pub plane_bits : List ℕ → ℕ → List Bool
-plane_bits a p = polynomial 8 (λ b. bit_at (slice_index a b) p == 1)
+plane_bits a p = each_below 8 (λ b. bit_at (slice_index a b) p == 1)
 
 pub plane_byte_lt : (a : List ℕ) (p : ℕ) → plane_byte a p < 256
 unfolding plane_byte

@@ -1,10 +1,11 @@
 -- Blocks byte by byte, and what the steps on planes do to each of the four.
 use Rattle.std.proofs.Common.{◌≡◌, ℕ, zero, suc, ◌+◌, ◌*◌, ◌/◌, ◌%◌, ◌<◌, List, length, refl, sym, ap, ap₂, ◌∙◌, arith, bit_xor, slice_index}
 use Rattle.std.proofs.Common.{slice_index_or, []}
-use Rattle.std.proofs.lemmas.List.FromFn.{fill_by_all, get_or-map-range_with_len}
+use Rattle.std.proofs.lemmas.List.FromFn.{fill_by_all}
 use Rattle.aead_ciphers_base.specs.ByteField.{sbox, mul8}
 use Rattle.aead_ciphers_base.specs.Aes.{at, state, sub_bytes, shift_rows, mixed, mix_columns, add_round_key, word_at}
 use Rattle.aead_ciphers_base.specs.Planes.{plane_byte, plane_block, below, shifted_from}
+use Rattle.aead_ciphers_base.proofs.EachLemmas.{get_or-each}
 use Rattle.aead_ciphers_base.specs.KeySchedule.{HoldsWords}
 
 -- a block is a state if its byte k stands in row k % 4 and column k / 4
@@ -12,7 +13,7 @@ pub state_is : (f : ℕ → ℕ → ℕ) (s : List ℕ) → length s ≡ 16 → 
 state_is f s e h = fill_by_all (λ k. f (k % 4) (k / 4)) s 16 0 e h
 
 pub byte_of_state : (f : ℕ → ℕ → ℕ) (k : ℕ) → k < 16 → slice_index (state f) k ≡ f (k % 4) (k / 4)
-byte_of_state f k h = get_or-map-range_with_len (λ j. f (j % 4) (j / 4)) 0 16 k k 0 h (omega arith)
+byte_of_state f k h = get_or-each 16 (λ j. f (j % 4) (j / 4)) k 0 h
 
 pub state_same : (f g : ℕ → ℕ → ℕ) → ((r c : ℕ) → r < 4 → c < 4 → f r c ≡ g r c) → state f ≡ state g
 state_same f g h = state_is g (state f) refl (λ k lt. byte_of_state f k lt ∙ h (k % 4) (k / 4) (omega arith) (omega arith))

@@ -10,15 +10,17 @@ use Rattle.std.proofs.lemmas.List.{take_all, take-append-drop}
 use Rattle.std.proofs.lemmas.Nat.Bits.{bit_at_xor, bit_at_and, bit_at-lt, bit_at_cat_low, bit_at_cat_high, bit_at-zero}
 use Rattle.std.proofs.lemmas.Bool.{cases_lt, cond-true, cond-false, eq-eqb, ltb-true, lt-ltb, le-ltb}
 use Rattle.std.proofs.Math.Bool.{and-false}
-use Rattle.aead_ciphers_base.specs.Polynomial.{◌xor◌, polynomial}
+use Rattle.aead_ciphers_base.specs.Polynomial.{◌xor◌}
 use Rattle.aead_ciphers_base.specs.ByteField.{bits_of, value_of}
 use Rattle.aead_ciphers_base.specs.Planes.{plane_byte, plane_block, word_bit, exchanged_from}
 use Rattle.aead_ciphers_base.specs.declared.aes.pack.TheConstants.{LOW, EIGHTHS}
 use Rattle.aead_ciphers_base.proofs.PolynomialBits.{xor_comm}
 use Rattle.aead_ciphers_base.proofs.NumberBits.{by_digit, by_digits, all_below, all_below_at, same_below, value_of-bits_of, length-bits_of}
-use Rattle.aead_ciphers_base.proofs.PolynomialSums.{same_polynomials, coefficient-polynomial}
+use Rattle.aead_ciphers_base.proofs.PolynomialSums.{same_polynomials}
 use Rattle.aead_ciphers_base.proofs.PlaneBits.{set-xor, set-and, bits_of_at}
 use Rattle.aead_ciphers_base.proofs.PlaneBlocks.{state_is, by_four}
+use Rattle.aead_ciphers_base.specs.Bytes.{each_below}
+use Rattle.aead_ciphers_base.proofs.EachLemmas.{get_or-each}
 
 bit_at-shr : (x s q : ℕ) → bit_at (x / 2 ^ s) q ≡ bit_at x (q + s)
 bit_at-shr x s q = let e : s + q ≡ q + s = omega arith in ap (λ t. t % 2) (shr-shr x s q) ∙ ap (bit_at x) e
@@ -257,10 +259,10 @@ plane_byte_from : (planes : List ℕ) (p n : ℕ) → n < 256 → ((q : ℕ) →
 unfolding plane_byte
 plane_byte_from planes p n hn h =
     sym (value_of-bits_of 8 n hn)
-    ∙ ap value_of (same_polynomials (bits_of 8 n) (polynomial 8 (λ b. bit_at (slice_index planes b) p == 1)) refl
+    ∙ ap value_of (same_polynomials (bits_of 8 n) (each_below 8 (λ b. bit_at (slice_index planes b) p == 1)) refl
     (λ i lt.
     let small : i < 8 = omega (arith, length-bits_of 8 n) in
-    bits_of_at 8 n i small ∙ ap (λ t. t == 1) (h i small) ∙ sym (coefficient-polynomial 8 (λ b. bit_at (slice_index planes b) p == 1) i small)))
+    bits_of_at 8 n i small ∙ ap (λ t. t == 1) (h i small) ∙ sym (get_or-each 8 (λ b. bit_at (slice_index planes b) p == 1) i false small)))
 
 byte_of_planes : (words planes : List ℕ) → IsPacked words planes → (p : ℕ) → p < 64 → slice_index (to_le_bytes w64 (slice_index words (p / 8))) (p % 8)
     ≡ plane_byte planes p

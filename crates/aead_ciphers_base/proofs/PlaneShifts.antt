@@ -7,12 +7,14 @@ use Rattle.std.specs.Int.Bits.{xor_assoc}
 use Rattle.aead_ciphers_base.specs.ByteField.{mul8, value_of}
 use Rattle.aead_ciphers_base.specs.Aes.{mixed}
 use Rattle.aead_ciphers_base.specs.Planes.{plane_byte, below, shifted_from}
-use Rattle.aead_ciphers_base.proofs.PolynomialSums.{same-polynomial, polynomial-add}
+use Rattle.aead_ciphers_base.proofs.PolynomialSums.{polynomial-add}
 use Rattle.aead_ciphers_base.proofs.PlaneBits.{set-xor}
 use Rattle.aead_ciphers_base.proofs.ByteFieldLaws.{mul8-xor_right, three_is}
-use Rattle.aead_ciphers_base.specs.Polynomial.{◌xor◌, polynomial}
+use Rattle.aead_ciphers_base.specs.Polynomial.{◌xor◌}
 use Rattle.aead_ciphers_base.proofs.NumberBits.{value_of-add, IsAdditive, same_additive, all_below, all_below_at, same_below}
 use Rattle.aead_ciphers_base.proofs.AdditiveLemmas.{additive_and, additive_shr, additive_shl, additive_xor, additive_after, additive_bit}
+use Rattle.aead_ciphers_base.specs.Bytes.{each_below}
+use Rattle.aead_ciphers_base.proofs.EachLemmas.{each-same}
 
 abbrev moves : (ℕ → ℕ) → (ℕ → ℕ) → Bool
 moves f source = all_below (λ p. all_below (λ i. bit_at (f (2 ^ i)) p == bit_at (2 ^ i) (source p)) 64) 64
@@ -96,7 +98,7 @@ rows_shifted_moves x h p hp =
 pub planes_moved : (a s : List ℕ) (p q : ℕ) → ((k : ℕ) → k < 8 → bit_at (slice_index s k) p ≡ bit_at (slice_index a k) q) → plane_byte s p ≡ plane_byte a q
 unfolding plane_byte
 planes_moved a s p q h =
-    ap value_of (same-polynomial 8 (λ k. bit_at (slice_index s k) p == 1) (λ k. bit_at (slice_index a k) q == 1) (λ k lt. ap (λ t. t == 1) (h k lt)))
+    ap value_of (each-same 8 (λ k. bit_at (slice_index s k) p == 1) (λ k. bit_at (slice_index a k) q == 1) (λ k lt. ap (λ t. t == 1) (h k lt)))
 
 pub add_plane : (a b s : List ℕ) → ((k : ℕ) → k < 8 → slice_index s k ≡ bit_xor (slice_index a k) (slice_index b k))
     → (p : ℕ) → plane_byte s p ≡ bit_xor (plane_byte a p) (plane_byte b p)
@@ -104,10 +106,10 @@ unfolding plane_byte
 add_plane a b s h p =
     let f = λ (k : ℕ). bit_at (slice_index a k) p == 1 in
     let g = λ (k : ℕ). bit_at (slice_index b k) p == 1 in
-    ap value_of (same-polynomial 8 (λ k. bit_at (slice_index s k) p == 1) (λ k. ◌xor◌ (f k) (g k))
+    ap value_of (each-same 8 (λ k. bit_at (slice_index s k) p == 1) (λ k. ◌xor◌ (f k) (g k))
     (λ k lt. ap (λ t. bit_at t p == 1) (h k lt) ∙ set-xor (slice_index a k) (slice_index b k) p))
     ∙ ap value_of (polynomial-add 8 f g)
-    ∙ value_of-add (polynomial 8 f) (polynomial 8 g) refl
+    ∙ value_of-add (each_below 8 f) (each_below 8 g) refl
 
 -- (2 (x + y) + y) + (z + w) = 2 x + 3 y + z + w
 pub mixed_is : (x y z w : ℕ) → y < 256 → bit_xor (bit_xor (mul8 2 (bit_xor x y)) y) (bit_xor z w) ≡ mixed x y z w

@@ -4,9 +4,10 @@ use Rattle.std.proofs.Common.{zero-add, add-zero}
 use Rattle.std.proofs.Math.ListN.{get_or-eq_default}
 use Rattle.std.proofs.Math.Nat.{suc-sub-suc, sub-zero}
 use Rattle.std.specs.List.{range_with_len}
-use Rattle.aead_ciphers_base.specs.Polynomial.{◌xor◌, xor_sum, coefficient, polynomial, polynomial_product}
+use Rattle.aead_ciphers_base.specs.Polynomial.{◌xor◌, xor_sum, coefficient, polynomial_product}
 use Rattle.aead_ciphers_base.proofs.PolynomialBits.{xor_comm, xor_assoc, xor_zero, xor_exchange, and_xor, xor_and, and_assoc, Series, same_series, none}
 use Rattle.aead_ciphers_base.proofs.PolynomialBits.{add, scale, shift, add_comm, add_assoc, add_exchange, scale_add, scale_xor, scale_none, scale_swap}
+use Rattle.aead_ciphers_base.specs.Bytes.{each_below}
 
 -- ---- the coefficients of a product, by the first factor's first coefficient
 
@@ -160,7 +161,7 @@ module _ (top : ℕ) (m : Series) where
       ap₂ (λ (b : Bool) (s : Series). add (scale b f) (mul_x s)) (ap c (sym (add-zero a)))
       (map_times n (a + 1) c f ∙ ap (λ (e : Series). horner n e f) (same_series (λ k. let e : a + 1 + k ≡ a + suc k = omega arith in ap c e)))
 
-  pub polynomial_times : (n : ℕ) (c f : Series) → times (polynomial n c) f ≡ horner n c f
+  pub polynomial_times : (n : ℕ) (c f : Series) → times (each_below n c) f ≡ horner n c f
   polynomial_times n c f = map_times n 0 c f ∙ ap (λ (e : Series). horner n e f) (same_series (λ k. ap c (zero-add k)))
 
   horner-product : (a b : List Bool) (n : ℕ) (f : Series) → 0 < length b → length a + length b ≤ suc n

@@ -7,8 +7,9 @@ use Rattle.std.proofs.Math.Dec.{eqb-suc-suc, eqb-suc-zero}
 use Rattle.std.proofs.lemmas.Bool.{ne_eqb}
 use Rattle.aead_ciphers_base.specs.Polynomial.{◌xor◌, coefficient, polynomial_product, without_highest, without_highests, reduced, field_product}
 use Rattle.aead_ciphers_base.proofs.PolynomialBits.{xor_zero, and_zero, and_one, Series, same_series, add, scale, shift, add_assoc, add_self}
-use Rattle.aead_ciphers_base.proofs.PolynomialSums.{length-polynomial, length-polynomial_product, length-reduced, same_polynomials}
+use Rattle.aead_ciphers_base.proofs.PolynomialSums.{length-polynomial_product, length-reduced, same_polynomials}
 use Rattle.aead_ciphers_base.proofs.PolynomialAction.{mul_x, horner, times, raise, horner_add, horner_scale, horner_push, polynomial_times, product_times}
+use Rattle.aead_ciphers_base.proofs.EachLemmas.{length-each}
 
 abbrev pub one : Series
 one zero = true
@@ -154,7 +155,7 @@ module _ (taps : List ℕ) (top : ℕ) (low : AllBelow (suc top) taps) where
   unfolding without_highest without_highests
   times_without_highests zero p e = refl
   times_without_highests (suc n) p e =
-      times_without_highests n (without_highest taps (suc top) n p) (length-polynomial (suc top + n) _) ∙ times_without_highest n p (omega arith)
+      times_without_highests n (without_highest taps (suc top) n p) (length-each (suc top + n) _) ∙ times_without_highest n p (omega arith)
 
   pub coefficient-reduced : (p : List Bool) → suc top ≤ length p → coefficient (reduced taps (suc top) p) ≡ times top m p one
   unfolding reduced

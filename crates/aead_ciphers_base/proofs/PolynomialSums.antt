@@ -4,7 +4,8 @@ use Rattle.std.specs.List.{list_any}
 use Rattle.std.specs.Prelude.{◌==◌}
 use Rattle.aead_ciphers_base.proofs.EachLemmas.{each-same, get_or-each, length-each}
 use Rattle.aead_ciphers_base.proofs.PolynomialBits.{xor_zero, xor_exchange, and_xor, xor_and}
-use Rattle.aead_ciphers_base.specs.Polynomial.{◌xor◌, xor_sum, coefficient, polynomial, polynomial_product, without_highest, without_highests, reduced}
+use Rattle.aead_ciphers_base.specs.Polynomial.{◌xor◌, xor_sum, coefficient, polynomial_product, without_highest, without_highests, reduced}
+use Rattle.aead_ciphers_base.specs.Bytes.{each_below}
 
 pub xor_sum-add : (n : ℕ) (f g : ℕ → Bool) → xor_sum n (λ i. ◌xor◌ (f i) (g i)) ≡ ◌xor◌ (xor_sum n f) (xor_sum n g)
 xor_sum-add zero f g = refl
@@ -17,17 +18,8 @@ xor_sum-same (suc n) f g h = ap₂ ◌xor◌ (xor_sum-same n f g (λ i lt. h i (
 
 -- ---- coefficients
 
-pub coefficient-polynomial : (n : ℕ) (f : ℕ → Bool) (i : ℕ) → i < n → coefficient (polynomial n f) i ≡ f i
-coefficient-polynomial n f i h = get_or-each n f i false h
-
-pub length-polynomial : (n : ℕ) (f : ℕ → Bool) → length (polynomial n f) ≡ n
-length-polynomial n f = length-each n f
-
 pub same_polynomials : (p q : List Bool) → length p ≡ length q → ((i : ℕ) → i < length p → coefficient p i ≡ coefficient q i) → p ≡ q
 same_polynomials p q e h = ext_get_or false p q e h
-
-pub same-polynomial : (n : ℕ) (f g : ℕ → Bool) → ((i : ℕ) → i < n → f i ≡ g i) → polynomial n f ≡ polynomial n g
-same-polynomial n f g h = each-same n f g h
 
 -- ---- sums of polynomials
 
@@ -49,23 +41,23 @@ length-polynomial_sum (a ∷ p) (b ∷ q) e =
     let tail : length p ≡ length q = omega arith in
     ap suc (length-polynomial_sum p q tail)
 
-pub polynomial-add : (n : ℕ) (f g : ℕ → Bool) → polynomial n (λ i. ◌xor◌ (f i) (g i)) ≡ polynomial_sum (polynomial n f) (polynomial n g)
+pub polynomial-add : (n : ℕ) (f g : ℕ → Bool) → each_below n (λ i. ◌xor◌ (f i) (g i)) ≡ polynomial_sum (each_below n f) (each_below n g)
 polynomial-add n f g =
-    let lf = length-polynomial n f in
-    let lg = length-polynomial n g in
-    let lh = length-polynomial n (λ i. ◌xor◌ (f i) (g i)) in
-    let ls = length-polynomial_sum (polynomial n f) (polynomial n g) (lf ∙ sym lg) in
-    same_polynomials (polynomial n (λ i. ◌xor◌ (f i) (g i))) (polynomial_sum (polynomial n f) (polynomial n g)) (lh ∙ sym (ls ∙ lg))
+    let lf = length-each n f in
+    let lg = length-each n g in
+    let lh = length-each n (λ i. ◌xor◌ (f i) (g i)) in
+    let ls = length-polynomial_sum (each_below n f) (each_below n g) (lf ∙ sym lg) in
+    same_polynomials (each_below n (λ i. ◌xor◌ (f i) (g i))) (polynomial_sum (each_below n f) (each_below n g)) (lh ∙ sym (ls ∙ lg))
     (λ i lt.
     let le : i < n = omega arith in
-    coefficient-polynomial n (λ j. ◌xor◌ (f j) (g j)) i le
-    ∙ sym (coefficient-polynomial_sum (polynomial n f) (polynomial n g) i ∙ ap₂ ◌xor◌ (coefficient-polynomial n f i le) (coefficient-polynomial n g i le)))
+    get_or-each n (λ j. ◌xor◌ (f j) (g j)) i false le
+    ∙ sym (coefficient-polynomial_sum (each_below n f) (each_below n g) i ∙ ap₂ ◌xor◌ (get_or-each n f i false le) (get_or-each n g i false le)))
 
 -- ---- the product
 
 pub length-polynomial_product : (a b : List Bool) → length (polynomial_product a b) ≡ length a + length b - 1
 unfolding polynomial_product
-length-polynomial_product a b = length-polynomial _ _
+length-polynomial_product a b = length-each _ _
 
 pub polynomial_product-add_right : (a b c : List Bool) → length b ≡ length c → polynomial_product a (polynomial_sum b c)
     ≡ polynomial_sum (polynomial_product a b) (polynomial_product a c)
@@ -73,15 +65,15 @@ unfolding polynomial_product
 polynomial_product-add_right a b c e =
     let ls = length-polynomial_sum b c e in
     let term = λ (p : List Bool) (k i : ℕ). coefficient a i && coefficient p (k - i) in
-    ap (λ n. polynomial (length a + n - 1) (λ k. xor_sum (suc k) (term (polynomial_sum b c) k))) ls
-    ∙ same-polynomial (length a + length c - 1) (λ k. xor_sum (suc k) (term (polynomial_sum b c) k))
+    ap (λ n. each_below (length a + n - 1) (λ k. xor_sum (suc k) (term (polynomial_sum b c) k))) ls
+    ∙ each-same (length a + length c - 1) (λ k. xor_sum (suc k) (term (polynomial_sum b c) k))
     (λ k. ◌xor◌ (xor_sum (suc k) (term b k)) (xor_sum (suc k) (term c k)))
     (λ k _.
     xor_sum-same (suc k) (term (polynomial_sum b c) k) (λ i. ◌xor◌ (term b k i) (term c k i))
     (λ i _. ap (λ t. coefficient a i && t) (coefficient-polynomial_sum b c (k - i)) ∙ and_xor (coefficient a i) (coefficient b (k - i)) (coefficient c (k - i)))
     ∙ xor_sum-add (suc k) (term b k) (term c k))
     ∙ polynomial-add (length a + length c - 1) (λ k. xor_sum (suc k) (term b k)) (λ k. xor_sum (suc k) (term c k))
-    ∙ ap (λ n. polynomial_sum (polynomial (length a + n - 1) (λ k. xor_sum (suc k) (term b k))) (polynomial (length a + length c - 1)
+    ∙ ap (λ n. polynomial_sum (each_below (length a + n - 1) (λ k. xor_sum (suc k) (term b k))) (each_below (length a + length c - 1)
     (λ k. xor_sum (suc k) (term c k)))) (sym e)
 
 pub polynomial_product-add_left : (a b c : List Bool) → length a ≡ length b → polynomial_product (polynomial_sum a b) c
@@ -90,15 +82,15 @@ unfolding polynomial_product
 polynomial_product-add_left a b c e =
     let ls = length-polynomial_sum a b e in
     let term = λ (p : List Bool) (k i : ℕ). coefficient p i && coefficient c (k - i) in
-    ap (λ n. polynomial (n + length c - 1) (λ k. xor_sum (suc k) (term (polynomial_sum a b) k))) ls
-    ∙ same-polynomial (length b + length c - 1) (λ k. xor_sum (suc k) (term (polynomial_sum a b) k))
+    ap (λ n. each_below (n + length c - 1) (λ k. xor_sum (suc k) (term (polynomial_sum a b) k))) ls
+    ∙ each-same (length b + length c - 1) (λ k. xor_sum (suc k) (term (polynomial_sum a b) k))
     (λ k. ◌xor◌ (xor_sum (suc k) (term a k)) (xor_sum (suc k) (term b k)))
     (λ k _.
     xor_sum-same (suc k) (term (polynomial_sum a b) k) (λ i. ◌xor◌ (term a k i) (term b k i))
     (λ i _. ap (λ t. t && coefficient c (k - i)) (coefficient-polynomial_sum a b i) ∙ xor_and (coefficient a i) (coefficient b i) (coefficient c (k - i)))
     ∙ xor_sum-add (suc k) (term a k) (term b k))
     ∙ polynomial-add (length b + length c - 1) (λ k. xor_sum (suc k) (term a k)) (λ k. xor_sum (suc k) (term b k))
-    ∙ ap (λ n. polynomial_sum (polynomial (n + length c - 1) (λ k. xor_sum (suc k) (term a k))) (polynomial (length b + length c - 1)
+    ∙ ap (λ n. polynomial_sum (each_below (n + length c - 1) (λ k. xor_sum (suc k) (term a k))) (each_below (length b + length c - 1)
     (λ k. xor_sum (suc k) (term b k)))) (sym e)
 
 -- ---- the reduction
@@ -109,7 +101,7 @@ unfolding without_highest
 without_highest-add taps d n p q =
     let hit = λ (j : ℕ). list_any (λ t. n + t == j) taps in
     let bit = λ (r : List Bool) (j : ℕ). ◌xor◌ (coefficient r j) (coefficient r (d + n) && hit j) in
-    same-polynomial (d + n) (bit (polynomial_sum p q)) (λ j. ◌xor◌ (bit p j) (bit q j))
+    each-same (d + n) (bit (polynomial_sum p q)) (λ j. ◌xor◌ (bit p j) (bit q j))
     (λ j _.
     ap₂ (λ s t. ◌xor◌ s (t && hit j)) (coefficient-polynomial_sum p q j) (coefficient-polynomial_sum p q (d + n))
     ∙ ap (◌xor◌ (◌xor◌ (coefficient p j) (coefficient q j))) (xor_and (coefficient p (d + n)) (coefficient q (d + n)) (hit j))
@@ -134,7 +126,7 @@ reduced-add taps d p q e =
 pub length-without_highests : (taps : List ℕ) (d n : ℕ) (p : List Bool) → length p ≡ d + n → length (without_highests taps d n p) ≡ d
 unfolding without_highests without_highest
 length-without_highests taps d zero p e = omega arith
-length-without_highests taps d (suc n) p e = length-without_highests taps d n (without_highest taps d n p) (length-polynomial (d + n) _)
+length-without_highests taps d (suc n) p e = length-without_highests taps d n (without_highest taps d n p) (length-each (d + n) _)
 
 pub length-reduced : (taps : List ℕ) (d : ℕ) (p : List Bool) → d ≤ length p → length (reduced taps d p) ≡ d
 unfolding reduced

@@ -2,15 +2,16 @@
 use Rattle.std.proofs.Common.{◌≡◌, ℕ, zero, suc, ◌+◌, ◌-◌, ◌*◌, ◌/◌, ◌%◌, ◌<◌, ◌≤◌, List, [], ◌∷◌, length, take, sym, ◌∙◌, ap, ap₂, arith, slice_index}
 use Rattle.std.proofs.Common.{slice_index_or, length-append}
 use Rattle.std.proofs.lemmas.List.{get_or_append_left}
-use Rattle.std.proofs.lemmas.List.FromFn.{fill_by_all, get_or-map-range_with_len, length-map-range_with_len}
+use Rattle.std.proofs.lemmas.List.FromFn.{fill_by_all}
 use Rattle.aead_ciphers_base.specs.Aes.{word_at, key_words, cipher, aes, next_word}
 use Rattle.aead_ciphers_base.specs.Planes.{plane_byte}
 use Rattle.aead_ciphers_base.specs.KeySchedule.{HoldsWords, key_of, IsSchedule}
+use Rattle.aead_ciphers_base.proofs.EachLemmas.{get_or-each, length-each}
 use Rattle.aead_ciphers_base.proofs.KeySchedule.{key_word}
 
 length-key_words : (nk : ℕ) (key : List ℕ) (n : ℕ) → length (key_words nk key n) ≡ nk + n
 unfolding key_words
-length-key_words nk key zero = length-map-range_with_len (key_word key) 0 nk ∙ omega arith
+length-key_words nk key zero = length-each nk (key_word key) ∙ omega arith
 length-key_words nk key (suc n) =
     let before = length-key_words nk key n in
     let both = length-append (key_words nk key n) (next_word nk (key_words nk key n) (nk + n) ∷ []) in
@@ -18,7 +19,7 @@ length-key_words nk key (suc n) =
 
 key_words_front : (nk : ℕ) (key : List ℕ) (n i : ℕ) → i < nk → word_at (key_words nk key n) i ≡ key_word key i
 unfolding key_words
-key_words_front nk key zero i h = get_or-map-range_with_len (key_word key) 0 nk i i [] h (omega arith)
+key_words_front nk key zero i h = get_or-each nk (key_word key) i [] h
 key_words_front nk key (suc n) i h =
     get_or_append_left (key_words nk key n) _ [] i (omega (arith, length-key_words nk key n)) ∙ key_words_front nk key n i h
 
@@ -36,7 +37,7 @@ key_of_schedule key round_keys nk m n len hk hn holds =
     sym (holds (j / 16) (j % 16) (omega arith) (omega arith)
     ∙ ap₂ (λ i t. slice_index (word_at (key_words nk key m) i) t) row column
     ∙ ap (λ w. slice_index w (j % 4)) (key_words_front nk key m (j / 4) (omega arith))
-    ∙ get_or-map-range_with_len (λ k. slice_index key (4 * (j / 4) + k)) 0 4 (j % 4) (j % 4) 0 (omega arith) (omega arith)
+    ∙ get_or-each 4 (λ k. slice_index key (4 * (j / 4) + k)) (j % 4) 0 (omega arith)
     ∙ ap (slice_index key) place)))
 
 module _ (key : List ℕ) (w round_keys : List (List ℕ)) (nk : ℕ) (len : length key ≡ 4 * nk) (least : 4 ≤ nk) (most : nk ≤ 8)
@@ -71,7 +72,7 @@ pub aes_of_schedule : (round_keys : List (List ℕ)) (rounds : ℕ) (b : List �
     → cipher (key_words (rounds - 6) (key_of round_keys rounds) (4 * (rounds + 1) - (rounds - 6))) rounds b ≡ aes (key_of round_keys rounds) b
 unfolding aes key_of
 aes_of_schedule round_keys rounds b h =
-    let size = length-map-range_with_len (λ j. plane_byte (slice_index_or round_keys (j / 16) []) (j % 16)) 0 (4 * (rounds - 6)) in
+    let size = length-each (4 * (rounds - 6)) (λ j. plane_byte (slice_index_or round_keys (j / 16) []) (j % 16)) in
     let nk : rounds - 6 ≡ length (key_of round_keys rounds) / 4 = omega (arith, size) in
     let last : 4 * (rounds + 1) ≡ 4 * (length (key_of round_keys rounds) / 4 + 7) = omega (arith, nk) in
     let count : rounds ≡ length (key_of round_keys rounds) / 4 + 6 = omega (arith, nk) in

@@ -1,6 +1,6 @@
 -- The cipher AES and its key schedule (FIPS 197).
-use Rattle.std.specs.Prelude.{ℕ, zero, suc, ◌+◌, ◌-◌, ◌*◌, ◌/◌, ◌%◌, ◌==◌, ◌&&◌, nat_lt, List, [], ◌∷◌, ◌++◌, length, map, bit_xor, slice_index, slice_index_or, if◌then◌else◌}
-use Rattle.std.specs.List.{range_with_len}
+use Rattle.std.specs.Prelude.{ℕ, zero, suc, ◌+◌, ◌-◌, ◌*◌, ◌/◌, ◌%◌, ◌==◌, ◌&&◌, nat_lt, List, [], ◌∷◌, ◌++◌, length, bit_xor, slice_index, slice_index_or, if◌then◌else◌}
+use Rattle.aead_ciphers_base.specs.Bytes.{each_below}
 use Rattle.aead_ciphers_base.specs.ByteField.{mul8, sbox}
 
 -- the sum of two bytes: the XOR of their bits (section 4.1)
@@ -14,7 +14,7 @@ at s r c = slice_index s (r + 4 * c)
 
 -- the state with the byte f r c in row r and column c (section 3.4)
 abbrev pub state : (ℕ → ℕ → ℕ) → List ℕ
-state f = map (λ k. f (k % 4) (k / 4)) (range_with_len 0 16)
+state f = each_below 16 (λ k. f (k % 4) (k / 4))
 
 -- SubBytes: the S-box of each byte (section 5.1.1)
 unfoldable pub sub_bytes : List ℕ → List ℕ
@@ -36,21 +36,17 @@ mix_columns s = state (λ r c. mixed (at s r c) (at s ((r + 1) % 4) c) (at s ((r
 abbrev pub word_at : List (List ℕ) → ℕ → List ℕ
 word_at w i = slice_index_or w i []
 
--- the word with the bytes f 0, .., f 3
-abbrev pub word : (ℕ → ℕ) → List ℕ
-word f = map f (range_with_len 0 4)
-
 -- the sum of two words, byte by byte (section 4.1)
 unfoldable pub add_words : List ℕ → List ℕ → List ℕ
-add_words a b = word (λ k. slice_index a k ⊻ slice_index b k)
+add_words a b = each_below 4 (λ k. slice_index a k ⊻ slice_index b k)
 
 -- RotWord: [a0, a1, a2, a3] becomes [a1, a2, a3, a0] (section 5.2)
 unfoldable pub rot_word : List ℕ → List ℕ
-rot_word a = word (λ k. slice_index a ((k + 1) % 4))
+rot_word a = each_below 4 (λ k. slice_index a ((k + 1) % 4))
 
 -- SubWord: the S-box of each byte of a word (section 5.2)
 unfoldable pub sub_word : List ℕ → List ℕ
-sub_word a = word (λ k. sbox (slice_index a k))
+sub_word a = each_below 4 (λ k. sbox (slice_index a k))
 
 -- x^n as a byte, the first byte of the round constant Rcon[n + 1] (section 5.2)
 unfoldable pub power_of_x : ℕ → ℕ
@@ -67,7 +63,7 @@ next_word nk w i =
 
 -- KeyExpansion: the nk words of the key, and n more (section 5.2)
 unfoldable pub key_words : ℕ → List ℕ → ℕ → List (List ℕ)
-key_words nk key zero = map (λ i. word (λ k. slice_index key (4 * i + k))) (range_with_len 0 nk)
+key_words nk key zero = each_below nk (λ i. each_below 4 (λ k. slice_index key (4 * i + k)))
 key_words nk key (suc n) = let w = key_words nk key n in w ++ next_word nk w (nk + n) ∷ []
 
 -- AddRoundKey: word 4j + c of the schedule is added to column c (section 5.1.4)

@@ -1,7 +1,8 @@
 -- The bytes as the elements of GF(2^8), and the S-box (FIPS 197 sections 4 and 5.1.1).
 use Rattle.std.specs.Prelude.{ℕ, zero, suc, ◌+◌, ◌*◌, ◌/◌, ◌%◌, ◌==◌, Bool, List, [], ◌∷◌, find, unwrap_or, if◌then◌else◌}
 use Rattle.std.specs.List.{range_with_len}
-use Rattle.aead_ciphers_base.specs.Polynomial.{◌xor◌, coefficient, polynomial, field_product}
+use Rattle.aead_ciphers_base.specs.Polynomial.{◌xor◌, coefficient, field_product}
+use Rattle.aead_ciphers_base.specs.Bytes.{each_below}
 
 -- the k lowest bits of n as coefficients, the bit of value 1 first (section 3.2: the byte {b7 .. b0} is the
 -- polynomial b7 x^7 + .. + b0)
@@ -30,7 +31,7 @@ affine_bit b c i =
 
 -- the affine map, with c = {63} (section 5.1.1)
 unfoldable pub affine : ℕ → ℕ
-affine x = value_of (polynomial 8 (affine_bit (bits_of 8 x) (bits_of 8 0x63)))
+affine x = value_of (each_below 8 (affine_bit (bits_of 8 x) (bits_of 8 0x63)))
 
 -- the S-box: the affine map of the multiplicative inverse (section 5.1.1)
 unfoldable pub sbox : ℕ → ℕ

@@ -1,6 +1,6 @@
 -- The round keys as planes.
-use Rattle.std.specs.Prelude.{ℕ, ◌+◌, ◌-◌, ◌*◌, ◌/◌, ◌%◌, ◌≡◌, ◌<◌, ◌≤◌, List, [], map, slice_index, slice_index_or}
-use Rattle.std.specs.List.{range_with_len}
+use Rattle.std.specs.Prelude.{ℕ, ◌+◌, ◌-◌, ◌*◌, ◌/◌, ◌%◌, ◌≡◌, ◌<◌, ◌≤◌, List, [], slice_index, slice_index_or}
+use Rattle.aead_ciphers_base.specs.Bytes.{each_below}
 use Rattle.aead_ciphers_base.specs.Aes.{word_at, key_words}
 use Rattle.aead_ciphers_base.specs.Planes.{plane_byte}
 
@@ -12,7 +12,7 @@ HoldsWords round_keys words n = (j p : ℕ) → j < n → p < 64
 -- the key of 4 (rounds - 6) bytes with which the round keys begin
 unfoldable pub key_of : List (List ℕ) → ℕ → List ℕ
 key_of round_keys rounds =
-    map (λ j. plane_byte (slice_index_or round_keys (j / 16) []) (j % 16)) (range_with_len 0 (4 * (rounds - 6)))
+    each_below (4 * (rounds - 6)) (λ j. plane_byte (slice_index_or round_keys (j / 16) []) (j % 16))
 
 -- the round keys are those of the key with which they begin
 pub record IsSchedule (round_keys : List (List ℕ)) (rounds : ℕ) : Type 0 where

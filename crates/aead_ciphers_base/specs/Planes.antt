@@ -1,17 +1,17 @@
 -- Four blocks in eight planes of 64 bits: bit 16 block + byte of plane b is bit b of that byte.
 use Rattle.std.specs.Prelude.{ℕ, ◌+◌, ◌-◌, ◌*◌, ◌/◌, ◌%◌, ◌^◌, ◌==◌, Bool, List, slice_index}
 use Rattle.std.specs.Int.{bit_at}
-use Rattle.aead_ciphers_base.specs.Polynomial.{polynomial}
 use Rattle.aead_ciphers_base.specs.ByteField.{value_of}
 use Rattle.aead_ciphers_base.specs.Aes.{state}
+use Rattle.aead_ciphers_base.specs.Bytes.{each_below}
 
 -- byte p: the one whose bit b is bit p of plane b
 unfoldable pub plane_byte : List ℕ → ℕ → ℕ
-plane_byte planes p = value_of (polynomial 8 (λ b. bit_at (slice_index planes b) p == 1))
+plane_byte planes p = value_of (each_below 8 (λ b. bit_at (slice_index planes b) p == 1))
 
 -- the polynomial whose coefficient of x^b is bit p of plane b, for n planes
 unfoldable pub plane_polynomial : ℕ → List ℕ → ℕ → List Bool
-plane_polynomial n planes p = polynomial n (λ b. bit_at (slice_index planes b) p == 1)
+plane_polynomial n planes p = each_below n (λ b. bit_at (slice_index planes b) p == 1)
 
 -- block k: its byte j is byte 16 k + j
 unfoldable pub plane_block : List ℕ → ℕ → List ℕ

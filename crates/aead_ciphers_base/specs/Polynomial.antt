@@ -1,7 +1,8 @@
 -- Polynomials over the field of two elements, and their products modulo one of them (FIPS 197 section 4.2,
 -- SP 800-38D section 6.3). A polynomial is the list of its coefficients, each a bit, that of x^0 first.
-use Rattle.std.specs.Prelude.{ℕ, zero, suc, ◌+◌, ◌-◌, ◌==◌, Bool, true, false, not, ◌&&◌, List, length, map, slice_index_or}
-use Rattle.std.specs.List.{range_with_len, list_any}
+use Rattle.std.specs.Prelude.{ℕ, zero, suc, ◌+◌, ◌-◌, ◌==◌, Bool, true, false, not, ◌&&◌, List, length, slice_index_or}
+use Rattle.std.specs.List.{list_any}
+use Rattle.aead_ciphers_base.specs.Bytes.{each_below}
 
 -- the sum of two bits (FIPS 197 section 4.1)
 infixl 40 ◌xor◌
@@ -18,19 +19,15 @@ xor_sum (suc n) f = xor_sum n f xor f n
 abbrev pub coefficient : List Bool → ℕ → Bool
 coefficient p i = slice_index_or p i false
 
--- the polynomial with the n coefficients f 0, .., f (n - 1) (FIPS 197 section 4)
-abbrev pub polynomial : ℕ → (ℕ → Bool) → List Bool
-polynomial n f = map f (range_with_len 0 n)
-
 -- the product: coefficient k is the sum of `a_i and b_j` over all i + j = k (FIPS 197 section 4.2)
 unfoldable pub polynomial_product : List Bool → List Bool → List Bool
-polynomial_product a b = polynomial (length a + length b - 1)
+polynomial_product a b = each_below (length a + length b - 1)
     (λ k. xor_sum (suc k) (λ i. coefficient a i && coefficient b (k - i)))
 
 -- p, whose highest coefficient is that of x^(d + n), without it: if it was one, the coefficients of x^(n + t) are
 -- flipped for each of the taps t, since x^d is the sum of the x^t (FIPS 197 section 4.2, SP 800-38D section 6.3)
 unfoldable pub without_highest : List ℕ → ℕ → ℕ → List Bool → List Bool
-without_highest taps d n p = polynomial (d + n)
+without_highest taps d n p = each_below (d + n)
     (λ j. coefficient p j xor (coefficient p (d + n) && list_any (λ t. n + t == j) taps))
 
 -- p, which has d + n coefficients, without its n highest, one after the other
