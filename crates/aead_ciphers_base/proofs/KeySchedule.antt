@@ -4,10 +4,10 @@ use Rattle.std.proofs.Common.{ap₂, arith, slice_index, get_or-take, eq-eqb, ne
 use Rattle.std.specs.Prelude.{◌==◌, nat_lt}
 use Rattle.std.proofs.lemmas.List.{take_more_set}
 use Rattle.std.proofs.lemmas.List.FromFn.{map-range_with_len_more}
-use Rattle.aead_ciphers_base.specs.Bytes.{each_below}
+use Rattle.aead_ciphers_base.specs.Bytes.{each_below, ◌⊕◌}
 use Rattle.std.proofs.lemmas.Bool.{cond-true, cond-false, and_from, lt-ltb}
 use Rattle.aead_ciphers_base.specs.declared.aes.key_schedule.TheConstants.{ROUND_CONSTANTS}
-use Rattle.aead_ciphers_base.specs.Aes.{word_at, add_words, rot_word, sub_word, power_of_x, next_word, key_words}
+use Rattle.aead_ciphers_base.specs.Aes.{word_at, rot_word, sub_word, power_of_x, next_word, key_words}
 use Rattle.aead_ciphers_base.proofs.NumberBits.{all_below, same_below}
 use Rattle.aead_ciphers_base.proofs.ByteFieldLaws.{field}
 
@@ -25,21 +25,21 @@ module _ (nk : ℕ) (w : List (List ℕ)) (i : ℕ) where
   abbrev back : List ℕ
   back = word_at w (i - nk)
 
-  pub next_word_turned : i % nk ≡ 0 → next_word nk w i ≡ add_words back (add_words (sub_word (rot_word before)) (power_of_x (i / nk - 1) ∷ 0 ∷ 0 ∷ 0 ∷ []))
+  pub next_word_turned : i % nk ≡ 0 → next_word nk w i ≡ back ⊕ (sub_word (rot_word before) ⊕ (power_of_x (i / nk - 1) ∷ 0 ∷ 0 ∷ 0 ∷ []))
   unfolding next_word
-  next_word_turned e = ap (add_words back) (cond-true (i % nk == 0) _ _ (eq-eqb (i % nk) 0 e))
+  next_word_turned e = ap (λ u. back ⊕ u) (cond-true (i % nk == 0) _ _ (eq-eqb (i % nk) 0 e))
 
-  pub next_word_middle : (i % nk ≡ 0 → ⊥) → 6 < nk → i % nk ≡ 4 → next_word nk w i ≡ add_words back (sub_word before)
+  pub next_word_middle : (i % nk ≡ 0 → ⊥) → 6 < nk → i % nk ≡ 4 → next_word nk w i ≡ back ⊕ sub_word before
   unfolding next_word
   next_word_middle ne e f =
-      ap (add_words back)
+      ap (λ u. back ⊕ u)
       (cond-false (i % nk == 0) _ _ (ne_eqb (i % nk) 0 ne)
       ∙ cond-true (nat_lt 6 nk && (i % nk == 4)) _ _ (and_from (nat_lt 6 nk) (i % nk == 4) (lt-ltb 6 nk e) (eq-eqb (i % nk) 4 f)))
 
-  pub next_word_plain : (i % nk ≡ 0 → ⊥) → ((nat_lt 6 nk && (i % nk == 4)) ≡ false) → next_word nk w i ≡ add_words back before
+  pub next_word_plain : (i % nk ≡ 0 → ⊥) → ((nat_lt 6 nk && (i % nk == 4)) ≡ false) → next_word nk w i ≡ back ⊕ before
   unfolding next_word
   next_word_plain ne f =
-      ap (add_words back) (cond-false (i % nk == 0) _ _ (ne_eqb (i % nk) 0 ne) ∙ cond-false (nat_lt 6 nk && (i % nk == 4)) _ _ f)
+      ap (λ u. back ⊕ u) (cond-false (i % nk == 0) _ _ (ne_eqb (i % nk) 0 ne) ∙ cond-false (nat_lt 6 nk && (i % nk == 4)) _ _ f)
 
 -- the next word looks at the words before it alone
 next_word_front : (nk : ℕ) (w : List (List ℕ)) (i : ℕ) → 0 < nk → nk ≤ i → next_word nk (take i w) i ≡ next_word nk w i

@@ -1,13 +1,25 @@
 -- The XOR of two lists of bytes.
-use Rattle.std.proofs.Common.{◌≡◌, ℕ, zero, suc, ◌<◌, ◌≤◌, List, [], ◌∷◌, ◌++◌, length, take, replicate, All, bit_xor, refl, sym, ap, ap₂, ◌∙◌, arith}
+use Rattle.std.proofs.Common.{◌≡◌, ℕ, zero, suc, ◌<◌, ◌≤◌, List, [], ◌∷◌, ◌++◌, length, get_or, take, replicate, All, bit_xor, refl, sym, ap, ap₂, ◌∙◌, arith}
+use Rattle.std.proofs.lemmas.List.FromFn.{fill_by_all}
 use Rattle.std.proofs.lemmas.Nat.{xor_lt, xor_comm as number_comm}
 use Rattle.std.specs.Int.Bits.{xor_assoc as number_assoc, xor_self, xor_zero_r}
-use Rattle.aead_ciphers_base.specs.Bytes.{◌⊕◌}
+use Rattle.aead_ciphers_base.specs.Bytes.{each_below, ◌⊕◌}
 
 pub length-xor : (xs ys : List ℕ) → length xs ≤ length ys → length (xs ⊕ ys) ≡ length xs
 length-xor [] ys h = refl
 length-xor (x ∷ xs) [] h = absurd (omega arith)
 length-xor (x ∷ xs) (y ∷ ys) h = ap suc (length-xor xs ys (omega arith))
+
+get_or-xor : (xs ys : List ℕ) (i : ℕ) → i < length xs → i < length ys → get_or (xs ⊕ ys) i 0 ≡ bit_xor (get_or xs i 0) (get_or ys i 0)
+get_or-xor [] ys i h j = absurd (omega arith)
+get_or-xor (x ∷ xs) [] i h j = absurd (omega arith)
+get_or-xor (x ∷ xs) (y ∷ ys) zero h j = refl
+get_or-xor (x ∷ xs) (y ∷ ys) (suc i) h j = get_or-xor xs ys i (omega arith) (omega arith)
+
+pub xor_by_index : (xs ys : List ℕ) (n : ℕ) → length xs ≡ n → length ys ≡ n → xs ⊕ ys ≡ each_below n (λ i. bit_xor (get_or xs i 0) (get_or ys i 0))
+xor_by_index xs ys n h j =
+    fill_by_all (λ i. bit_xor (get_or xs i 0) (get_or ys i 0)) (xs ⊕ ys) n 0 (length-xor xs ys (omega arith) ∙ h)
+    (λ i lt. get_or-xor xs ys i (omega arith) (omega arith))
 
 pub xor_comm : (xs ys : List ℕ) → xs ⊕ ys ≡ ys ⊕ xs
 xor_comm [] [] = refl

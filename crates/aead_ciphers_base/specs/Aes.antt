@@ -1,6 +1,6 @@
 -- The cipher AES and its key schedule (FIPS 197).
 use Rattle.std.specs.Prelude.{ℕ, zero, suc, ◌+◌, ◌-◌, ◌*◌, ◌/◌, ◌%◌, ◌==◌, ◌&&◌, nat_lt, List, [], ◌∷◌, ◌++◌, length, bit_xor, slice_index, slice_index_or, if◌then◌else◌}
-use Rattle.aead_ciphers_base.specs.Bytes.{each_below}
+use Rattle.aead_ciphers_base.specs.Bytes.{each_below, ◌⊕◌}
 use Rattle.aead_ciphers_base.specs.ByteField.{mul8, sbox}
 
 -- the sum of two bytes: the XOR of their bits (section 4.1)
@@ -36,10 +36,6 @@ mix_columns s = state (λ r c. mixed (at s r c) (at s ((r + 1) % 4) c) (at s ((r
 abbrev pub word_at : List (List ℕ) → ℕ → List ℕ
 word_at w i = slice_index_or w i []
 
--- the sum of two words, byte by byte (section 4.1)
-unfoldable pub add_words : List ℕ → List ℕ → List ℕ
-add_words a b = each_below 4 (λ k. slice_index a k ⊻ slice_index b k)
-
 -- RotWord: [a0, a1, a2, a3] becomes [a1, a2, a3, a0] (section 5.2)
 unfoldable pub rot_word : List ℕ → List ℕ
 rot_word a = each_below 4 (λ k. slice_index a ((k + 1) % 4))
@@ -57,8 +53,8 @@ power_of_x (suc n) = mul8 2 (power_of_x n)
 unfoldable pub next_word : ℕ → List (List ℕ) → ℕ → List ℕ
 next_word nk w i =
     let t = word_at w (i - 1) in
-    add_words (word_at w (i - nk))
-    (if i % nk == 0 then add_words (sub_word (rot_word t)) (power_of_x (i / nk - 1) ∷ 0 ∷ 0 ∷ 0 ∷ [])
+    word_at w (i - nk)
+    ⊕ (if i % nk == 0 then sub_word (rot_word t) ⊕ (power_of_x (i / nk - 1) ∷ 0 ∷ 0 ∷ 0 ∷ [])
     else (if nat_lt 6 nk && (i % nk == 4) then sub_word t else t))
 
 -- KeyExpansion: the nk words of the key, and n more (section 5.2)

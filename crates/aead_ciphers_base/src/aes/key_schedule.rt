@@ -1,7 +1,8 @@
 //! The key schedule (FIPS 197 section 5.2), with SubWord on planes.
 
 ghost use Rattle.std.specs.Prelude.{◌≡◌, ◌+◌, ◌-◌, ◌*◌, ◌/◌, ◌%◌, ◌<◌, ◌≤◌, ◌⊎◌, ℕ, length, take, slice_index};
-ghost use Rattle.aead_ciphers_base.specs.Aes.{add_words, rot_word, sub_word, word_at, next_word, key_words, power_of_x};
+ghost use Rattle.aead_ciphers_base.specs.Bytes.{◌⊕◌};
+ghost use Rattle.aead_ciphers_base.specs.Aes.{rot_word, sub_word, word_at, next_word, key_words, power_of_x};
 ghost use Rattle.aead_ciphers_base.specs.Planes.{plane_byte};
 ghost use Rattle.aead_ciphers_base.specs.KeySchedule.{HoldsWords};
 
@@ -13,7 +14,7 @@ use super::planes::{Planes, sub_planes};
 const ROUND_CONSTANTS: [u8; 10] = [0x01, 0x02, 0x04, 0x08, 0x10, 0x20, 0x40, 0x80, 0x1b, 0x36];
 
 fn add_words(a: [u8; 4], b: [u8; 4]) -> [u8; 4]
-    ensures { result ≡ add_words a b }
+    ensures { result ≡ a ⊕ b }
 {
     [a[0] ^ b[0], a[1] ^ b[1], a[2] ^ b[2], a[3] ^ b[3]]
 }
