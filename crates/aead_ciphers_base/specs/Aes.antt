@@ -1,5 +1,6 @@
 -- The cipher AES and its key schedule (FIPS 197).
 use Rattle.std.specs.Prelude.{ℕ, zero, suc, ◌+◌, ◌-◌, ◌*◌, ◌/◌, ◌%◌, ◌==◌, ◌&&◌, nat_lt, List, [], ◌∷◌, ◌++◌, length, bit_xor, slice_index, slice_index_or, if◌then◌else◌}
+use Rattle.std.specs.Fn.{iterate}
 use Rattle.aead_ciphers_base.specs.Bytes.{each_below, ◌⊕◌}
 use Rattle.aead_ciphers_base.specs.ByteField.{mul8, sbox}
 
@@ -46,8 +47,7 @@ sub_word a = each_below 4 (λ k. sbox (slice_index a k))
 
 -- x^n as a byte, the first byte of the round constant Rcon[n + 1] (section 5.2)
 unfoldable pub power_of_x : ℕ → ℕ
-power_of_x zero = 1
-power_of_x (suc n) = mul8 2 (power_of_x n)
+power_of_x n = iterate (mul8 2) n 1
 
 -- word i from the words w before it, under a key of nk words (section 5.2)
 unfoldable pub next_word : ℕ → List (List ℕ) → ℕ → List ℕ
