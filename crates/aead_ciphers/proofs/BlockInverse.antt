@@ -8,11 +8,11 @@ use Rattle.aead_ciphers_base.proofs.PolynomialAction.{mul_x-none}
 use Rattle.aead_ciphers_base.proofs.PolynomialBits.{Series, add, add_none, none, scale}
 use Rattle.aead_ciphers_base.proofs.PolynomialLaws.{modulus, one, same_coefficients}
 use Rattle.aead_ciphers.specs.Different.{HasInverse}
-use Rattle.aead_ciphers.specs.Ghash.{IsBlock, bits_high_first, block_bits, block_taps, ◌•◌, unit_block}
+use Rattle.aead_ciphers.specs.Ghash.{IsBlock, block_bits, block_taps, ◌•◌, unit_block}
 use Rattle.aead_ciphers.proofs.BlockCancellation.{IsBlock-unit, IsBlock-zero, product_zero, xor_self}
 use Rattle.aead_ciphers.proofs.BlockLists.{Blocks}
 use Rattle.aead_ciphers.proofs.BlockSquares.{X, multiple, own_square_bits, square_number}
-use Rattle.aead_ciphers.proofs.GhashBits.{length-bits}
+use Rattle.aead_ciphers.proofs.GhashBits.{length-bits, bits_high_first}
 use Rattle.aead_ciphers.proofs.GhashBlocks.{IsBlock-number, IsBlock-product, block_times, length-block_bits, same_blocks}
 use Rattle.aead_ciphers.proofs.GhashBlocks.{same_from_series, series, series-product}
 use Rattle.aead_ciphers.proofs.GhashLaws.{Sized, Sized-product, Sized-xor, multiple_of_one, series-unit, series-xor, unit_bits, xor_zero}
@@ -23,7 +23,7 @@ use Rattle.aead_ciphers.proofs.ProductLoop.{zeros_end}
 use Rattle.aead_ciphers.proofs.SquareTables.{even_powers, squared_bits, x_bits, x_squared}
 
 zero_bits : block_bits zero_block ≡ replicate 128 false
-unfolding block_bits bits_high_first
+unfolding block_bits
 zero_bits = refl
 
 series-zero : series zero_block ≡ none

@@ -8,8 +8,8 @@ use Rattle.aead_ciphers_base.specs.Polynomial.{coefficient}
 use Rattle.aead_ciphers_base.proofs.PolynomialAction.{horner-add, horner-mul_x, horner-none, horner-scale, mul_x, mul_x-add, mul_x-none, mul_x-scale, times}
 use Rattle.aead_ciphers_base.proofs.PolynomialBits.{Series, add, add_assoc, add_exchange, add_none, add_self, none, same_series, scale, scale_add}
 use Rattle.aead_ciphers_base.proofs.PolynomialLaws.{modulus, one, same_coefficients}
-use Rattle.aead_ciphers.specs.Ghash.{bits_high_first, block_taps}
-use Rattle.aead_ciphers.proofs.GhashBits.{coefficients, coefficients-xor, coefficients-zero, length-bits, mask}
+use Rattle.aead_ciphers.specs.Ghash.{block_taps}
+use Rattle.aead_ciphers.proofs.GhashBits.{coefficients, coefficients-xor, coefficients-zero, length-bits, mask, bits_high_first}
 use Rattle.aead_ciphers.proofs.LinearMaps.{combined, image-combined, image-zero, none_combined, twos}
 use Rattle.aead_ciphers.proofs.ProductLoop.{multiple_is, next_multiple, reduction, zeros_end}
 use Rattle.aead_ciphers.proofs.SquareTables.{differences, even_powers, given_back, given_back_is, squares_and_powers, unit}

@@ -1,18 +1,25 @@
 -- The bits of a number, as coefficients, under XOR, masks and a shift by one; and its bytes.
 use Rattle.std.proofs.Common.{◌≡◌, ℕ, zero, suc, ◌+◌, ◌-◌, ◌/◌, ◌%◌, ◌^◌, ◌<◌, Bool, true, false, List, [], ◌∷◌, ◌++◌, length, refl, sym, ap, ap₂, ◌∙◌, arith}
-use Rattle.std.proofs.Common.{if◌then◌else◌, ◌==◌, bit_and, bit_xor, mod-eq_of_lt, pow-suc}
+use Rattle.std.proofs.Common.{if◌then◌else◌, ◌==◌, bit_and, bit_xor, mod-eq_of_lt, pow-suc, div-one}
 use Rattle.std.proofs.Math.Nat.{mod_self}
 use Rattle.std.specs.Int.{bit_at}
 use Rattle.std.specs.Int.Bits.{and_zero_r}
 use Rattle.std.proofs.Math.ListN.{get_or-eq_default}
 use Rattle.std.proofs.lemmas.Nat.{and_mask, pow_pos}
 use Rattle.std.proofs.lemmas.Nat.Bits.{bit_at_xor, bit_at-zero, bit_at-suc, bit_at-lt, bit_at_above}
+use Rattle.std.specs.Prelude.{reverse}
+use Rattle.std.proofs.lemmas.List.{reverse-append}
+use Rattle.aead_ciphers_base.specs.ByteField.{bits_of}
 use Rattle.aead_ciphers_base.specs.Polynomial.{◌xor◌, coefficient}
-use Rattle.aead_ciphers.specs.Ghash.{bits_high_first}
 use Rattle.aead_ciphers_base.proofs.PolynomialBits.{Series, add, add_assoc, add_none, add_self, and_one, and_zero, none, same_series, scale, shift, shift-add}
 use Rattle.aead_ciphers_base.proofs.PolynomialBits.{xor_zero}
 use Rattle.aead_ciphers_base.proofs.PolynomialAction.{mul_x}
 use Rattle.aead_ciphers_base.proofs.PolynomialLaws.{AllBelow, modulus, monomial, monomial_same, mul_x-high, mul_x-low, tap_bits}
+
+-- the lowest k bits of n, the highest of them first
+unfoldable pub bits_high_first : ℕ → ℕ → List Bool
+bits_high_first zero n = []
+bits_high_first (suc k) n = (bit_at n k == 1) ∷ bits_high_first k n
 
 -- the coefficients of the k bits of n
 abbrev pub coefficients : ℕ → ℕ → Series
@@ -79,6 +86,13 @@ pub bits-push : (k n : ℕ) → bits_high_first (suc k) n ≡ bits_high_first k 
 unfolding bits_high_first
 bits-push zero n = refl
 bits-push (suc k) n = ap₂ (λ x p. (x == 1) ∷ p) (bit_at-suc n k) (bits-push k n)
+
+pub reverse-bits_of : (k n : ℕ) → reverse (bits_of k n) ≡ bits_high_first k n
+unfolding bits_high_first
+reverse-bits_of zero n = refl
+reverse-bits_of (suc k) n =
+    reverse-append ((n % 2 == 1) ∷ []) (bits_of k (n / 2))
+    ∙ ap₂ (λ p x. p ++ ((x % 2 == 1) ∷ [])) (reverse-bits_of k (n / 2)) (sym (div-one n)) ∙ sym (bits-push k n)
 
 pub bits-half : (k n : ℕ) → n < 2 ^ (suc k) → bits_high_first (suc k) (n / 2) ≡ false ∷ bits_high_first k (n / 2)
 unfolding bits_high_first

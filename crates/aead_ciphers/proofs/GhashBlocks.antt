@@ -9,13 +9,13 @@ use Rattle.std.specs.List.{range_with_len}
 use Rattle.std.proofs.lemmas.List.FromFn.{fill_by_all}
 use Rattle.std.proofs.lemmas.List.{get_or_default}
 use Rattle.aead_ciphers_base.specs.Polynomial.{coefficient, field_product}
-use Rattle.aead_ciphers.specs.Ghash.{IsBlock, bits_high_first, number, block_bits, block_of, ◌•◌, block_taps}
+use Rattle.aead_ciphers.specs.Ghash.{IsBlock, block_bits, block_of, ◌•◌, block_taps}
 use Rattle.aead_ciphers_base.proofs.PolynomialBits.{Series}
 use Rattle.aead_ciphers_base.proofs.PolynomialAction.{times}
 use Rattle.aead_ciphers_base.proofs.PolynomialLaws.{field_product_is, length-field_product, modulus, same_coefficients}
-use Rattle.aead_ciphers.proofs.GhashBits.{length-bits}
+use Rattle.aead_ciphers.proofs.GhashBits.{length-bits, bits_high_first}
 use Rattle.std.proofs.lemmas.List.Elements.{All-cons, All-head, All-tail}
-use Rattle.aead_ciphers.proofs.GhashBytes.{digits, digit_up, block_bits_of_number, number_after, power_256, byte_at_is}
+use Rattle.aead_ciphers.proofs.GhashBytes.{digits, digit_up, block_bits_of_number, number_after, power_256, byte_at_is, number, block_bits-is, block_of-is}
 use Rattle.aead_ciphers.proofs.ProductLoop.{block_low}
 
 -- ---- bytes back from bits
@@ -63,9 +63,9 @@ bytes_of-value (x ∷ xs) a h =
     (bytes_of-value xs (a * 256 + x) (All-tail Byte x xs h))
 
 pub block_of-bits : (b : List ℕ) → IsBlock b → block_of (block_bits b) ≡ b
-unfolding block_of block_bits
 block_of-bits b is =
-    ap (to_be_bytes w128) (number-bytes b 0 is.bytes)
+    block_of-is (block_bits b) ∙ ap (λ p. to_be_bytes w128 (number p)) (block_bits-is b)
+    ∙ ap (to_be_bytes w128) (number-bytes b 0 is.bytes)
     ∙ ap (λ k. bytes_high_first k (value 0 b)) (sym is.size)
     ∙ bytes_of-value b 0 is.bytes
 
@@ -114,9 +114,8 @@ bits_of-number (b ∷ p) a =
     (bits_of-number p (2 * a + (if b then 1 else 0)))
 
 pub block_bits_of-block : (p : List Bool) → length p ≡ 128 → block_bits (block_of p) ≡ p
-unfolding block_of
 block_bits_of-block p e =
-    block_bits_of_number (number p) ∙ ap (λ k. bits_high_first k (number p)) (sym e) ∙ bits_of-number p 0
+    ap block_bits (block_of-is p) ∙ block_bits_of_number (number p) ∙ ap (λ k. bits_high_first k (number p)) (sym e) ∙ bits_of-number p 0
 
 pub bytes-below : (k n : ℕ) → All Byte (bytes_high_first k n)
 bytes-below zero n = λ k d below. absurd (omega arith)
@@ -140,8 +139,7 @@ length-flat (x ∷ xs) =
     length-append (bits_high_first 8 x) (flat_map (bits_high_first 8) xs) ∙ ap₂ (λ m n. m + n) (length-bits 8 x) (length-flat xs) ∙ omega arith
 
 pub length-block_bits : (b : List ℕ) → length b ≡ 16 → length (block_bits b) ≡ 128
-unfolding block_bits
-length-block_bits b size = length-flat b ∙ ap (λ k. 8 * k) size
+length-block_bits b size = ap length (block_bits-is b) ∙ length-flat b ∙ ap (λ k. 8 * k) size
 
 -- ---- blocks as coefficients
 

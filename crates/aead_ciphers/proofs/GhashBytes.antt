@@ -1,12 +1,42 @@
 -- The bits of a number's big-endian bytes are the number's bits.
-use Rattle.std.proofs.Common.{◌≡◌, ℕ, List, zero, suc, ◌+◌, ◌*◌, ◌/◌, ◌%◌, ◌^◌, ◌<◌, ◌≤◌, Bool, ◌∷◌, ◌++◌, fold, flat_map, refl, sym, ap, ap₂, ◌∙◌, arith}
-use Rattle.std.proofs.Common.{if◌then◌else◌, ◌==◌, zero-add, mod-eq_of_lt, pow-suc, div-one, bit_xor, mul_comm}
+use Rattle.std.proofs.Common.{◌≡◌, ℕ, List, [], zero, suc, ◌+◌, ◌*◌, ◌/◌, ◌%◌, ◌^◌, ◌<◌, ◌≤◌, Bool, ◌∷◌, ◌++◌, fold, flat_map, refl, sym, ap, ap₂, ◌∙◌, arith}
+use Rattle.std.proofs.Common.{if◌then◌else◌, ◌==◌, zero-add, mod-eq_of_lt, pow-suc, div-one, bit_xor, mul_comm, add_comm}
 use Rattle.std.specs.Int.{bit_at, bytes_high_first, byte_at, to_be_bytes, w128}
 use Rattle.std.proofs.lemmas.Nat.{mod-pow-add, shr-shr, div-add-mod', pow-add, xor_shr, xor_mod}
 use Rattle.std.proofs.lemmas.Nat.Bits.{bit_at-lt, bit_at_cat_low}
+use Rattle.std.specs.Prelude.{reverse}
+use Rattle.std.proofs.lemmas.List.{reverse-append, reverse-reverse}
+use Rattle.std.proofs.lemmas.List.Sums.{fold-append}
+use Rattle.aead_ciphers_base.specs.ByteField.{value_of}
 use Rattle.aead_ciphers_base.specs.Polynomial.{field_product}
 use Rattle.aead_ciphers_base.specs.Bytes.{◌⊕◌}
-use Rattle.aead_ciphers.specs.Ghash.{bits_high_first, number, block_bits, block_of, ◌•◌, block_taps}
+use Rattle.aead_ciphers.proofs.GhashBits.{bits_high_first, reverse-bits_of}
+use Rattle.aead_ciphers.specs.Ghash.{block_bits, block_of, ◌•◌, block_taps}
+
+-- the number of bits, the highest first, after the number a
+abbrev pub digits : ℕ → List Bool → ℕ
+digits a bits = fold (λ n b. 2 * n + (if b then 1 else 0)) a bits
+
+abbrev pub number : List Bool → ℕ
+number bits = digits 0 bits
+
+-- ---- the definitions, by bits the highest first
+
+pub block_bits-is : (b : List ℕ) → block_bits b ≡ flat_map (bits_high_first 8) b
+unfolding block_bits
+block_bits-is [] = refl
+block_bits-is (x ∷ xs) = ap₂ (λ p q. p ++ q) (reverse-bits_of 8 x) (block_bits-is xs)
+
+number-reverse : (p : List Bool) → number (reverse p) ≡ value_of p
+number-reverse [] = refl
+number-reverse (b ∷ p) =
+    ap number (reverse-append (b ∷ []) p)
+    ∙ fold-append (λ (n : ℕ) (c : Bool). 2 * n + (if c then 1 else 0)) 0 (reverse p) (b ∷ [])
+    ∙ ap (λ n. 2 * n + (if b then 1 else 0)) (number-reverse p) ∙ add_comm (2 * value_of p) (if b then 1 else 0)
+
+pub block_of-is : (p : List Bool) → block_of p ≡ to_be_bytes w128 (number p)
+unfolding block_of
+block_of-is p = ap (to_be_bytes w128) (sym (number-reverse (reverse p)) ∙ ap number (reverse-reverse p))
 
 -- a byte's bits are the number's bits there
 bit_at_byte : (n s j : ℕ) → j < 8 → bit_at (n / 2 ^ s % 2 ^ 8) j ≡ bit_at n (s + j)
@@ -39,8 +69,7 @@ bytes_bits (suc k) n =
     ∙ ap (λ j. bits_high_first j n) (omega arith)
 
 pub block_bits_of_number : (n : ℕ) → block_bits (to_be_bytes w128 n) ≡ bits_high_first 128 n
-unfolding block_bits
-block_bits_of_number n = bytes_bits 16 n
+block_bits_of_number n = block_bits-is (to_be_bytes w128 n) ∙ bytes_bits 16 n
 
 bit_value : (x : ℕ) → x < 2 → (if x == 1 then 1 else 0) ≡ x
 bit_value zero h = refl
@@ -50,10 +79,6 @@ bit_value (suc (suc x)) h = absurd (omega arith)
 -- a digit x below the number a, above the rest r
 pub digit_up : (a c x p q r : ℕ) → q ≡ p * c → (a * c + x) * p + r ≡ a * q + (x * p + r)
 digit_up a c x p q r e = (let h : (a * c + x) * p + r ≡ a * (p * c) + (x * p + r) = omega arith in h) ∙ ap (λ y. a * y + (x * p + r)) (sym e)
-
--- the number of bits, the highest first, after the number a
-abbrev pub digits : ℕ → List Bool → ℕ
-digits a bits = fold (λ n b. 2 * n + (if b then 1 else 0)) a bits
 
 pub number_after : (k n a : ℕ) → digits a (bits_high_first k n) ≡ a * 2 ^ k + n % 2 ^ k
 unfolding bits_high_first
@@ -71,10 +96,10 @@ number_of_bits n h = number_after 128 n 0 ∙ omega (arith, mod-eq_of_lt h)
 
 pub product_of_numbers : (a b c : ℕ) → c < 2 ^ 128 → bits_high_first 128 c ≡ field_product block_taps 128 (bits_high_first 128 a) (bits_high_first 128 b) →
     to_be_bytes w128 c ≡ to_be_bytes w128 a • to_be_bytes w128 b
-unfolding ◌•◌ block_of
+unfolding ◌•◌
 product_of_numbers a b c below h =
     let bits = ap₂ (field_product block_taps 128) (sym (block_bits_of_number a)) (sym (block_bits_of_number b)) in
-    ap (to_be_bytes w128) (sym (number_of_bits c below) ∙ ap number (h ∙ bits))
+    ap (to_be_bytes w128) (sym (number_of_bits c below) ∙ ap number (h ∙ bits)) ∙ sym (block_of-is _)
 
 -- the bytes of an XOR
 byte-xor : (k a b : ℕ) → byte_at k (bit_xor a b) ≡ bit_xor (byte_at k a) (byte_at k b)

@@ -6,11 +6,12 @@ use Rattle.std.proofs.lemmas.Nat.Bits.{bit_at_xor, bit_at-lt}
 use Rattle.aead_ciphers_base.proofs.XorLemmas.{bytes-xor, length-xor, xor_assoc, xor_comm, xor_exchange, xor_zeros}
 use Rattle.aead_ciphers_base.specs.Polynomial.{◌xor◌, coefficient}
 use Rattle.aead_ciphers_base.specs.Bytes.{◌⊕◌, zero_block}
-use Rattle.aead_ciphers.specs.Ghash.{IsBlock, bits_high_first, block_bits, ◌•◌, unit_block, power, ghash, AllSized, xor_blocks, block_taps}
+use Rattle.aead_ciphers.specs.Ghash.{IsBlock, block_bits, ◌•◌, unit_block, power, ghash, AllSized, xor_blocks, block_taps}
 use Rattle.aead_ciphers_base.proofs.PolynomialBits.{add, same_series}
 use Rattle.aead_ciphers_base.proofs.PolynomialAction.{horner-add, times_swap}
 use Rattle.aead_ciphers_base.proofs.PolynomialLaws.{modulus, one, times_one}
-use Rattle.aead_ciphers.proofs.GhashBits.{xor-parity, length-bits}
+use Rattle.aead_ciphers.proofs.GhashBytes.{block_bits-is}
+use Rattle.aead_ciphers.proofs.GhashBits.{xor-parity, length-bits, bits_high_first}
 use Rattle.aead_ciphers.proofs.GhashBlocks.{series, block_times, same_from_series, series-product, IsBlock-product, length-block_bits}
 use Rattle.aead_ciphers.proofs.ProductLoop.{block_low, zeros_end}
 
@@ -70,16 +71,15 @@ IsBlock-xor a b is_a is_b = record {
 }
 
 pub series-xor : (a b : List ℕ) → Sized a → Sized b → series (a ⊕ b) ≡ add (series a) (series b)
-unfolding block_bits
 series-xor a b is_a is_b =
     let e = is_a ∙ sym is_b in
-    ap coefficient (flat-xor a b e)
+    ap coefficient (block_bits-is (a ⊕ b) ∙ flat-xor a b e ∙ ap₂ xor_bits (sym (block_bits-is a)) (sym (block_bits-is b)))
     ∙ coefficient-xor_bits (block_bits a) (block_bits b) (length-block_bits a is_a ∙ sym (length-block_bits b is_b))
 
 -- ---- the unit
 
 pub unit_bits : block_bits unit_block ≡ true ∷ replicate 127 false
-unfolding block_bits bits_high_first
+unfolding block_bits
 unit_bits = refl
 
 pub series-unit : series unit_block ≡ one

@@ -7,8 +7,7 @@ use Rattle.std.proofs.lemmas.Nat.{pow_pos, xor_lt}
 use Rattle.aead_ciphers_base.specs.Polynomial.{◌xor◌}
 use Rattle.aead_ciphers_base.proofs.AdditiveLemmas.{xor_four}
 use Rattle.aead_ciphers_base.proofs.BytesLemmas.{same_of_xor}
-use Rattle.aead_ciphers.specs.Ghash.{bits_high_first}
-use Rattle.aead_ciphers.proofs.GhashBits.{length-bits}
+use Rattle.aead_ciphers.proofs.GhashBits.{length-bits, bits_high_first}
 use Rattle.aead_ciphers.proofs.GhashLaws.{bits-xor, xor_bits}
 
 -- the XOR of those of the numbers whose bit is true

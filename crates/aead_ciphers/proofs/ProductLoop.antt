@@ -9,8 +9,8 @@ use Rattle.aead_ciphers_base.specs.Polynomial.{coefficient}
 use Rattle.aead_ciphers_base.proofs.PolynomialBits.{add, same_series, scale, shift}
 use Rattle.aead_ciphers_base.proofs.PolynomialAction.{mul_x}
 use Rattle.aead_ciphers_base.proofs.PolynomialLaws.{AllBelow, modulus, tap_bits, taps_above}
-use Rattle.aead_ciphers.specs.Ghash.{bits_high_first, block_taps}
-use Rattle.aead_ciphers.proofs.GhashBits.{coefficients, length-bits, coefficients-xor, mask, coefficients-masked, bits-push, bits-half, mul_x-push}
+use Rattle.aead_ciphers.specs.Ghash.{block_taps}
+use Rattle.aead_ciphers.proofs.GhashBits.{coefficients, length-bits, coefficients-xor, mask, coefficients-masked, bits-push, bits-half, mul_x-push, bits_high_first}
 
 pub block_low : AllBelow 128 block_taps
 block_low = (lit< tt, (lit< tt, (lit< tt, (lit< tt, tt))))

@@ -5,15 +5,17 @@ use Rattle.std.specs.Int.{bit_at, to_be_bytes, w128}
 use Rattle.std.proofs.lemmas.List.{length-replicate}
 use Rattle.std.proofs.lemmas.Nat.{div-add-mod', div-mul-add, mod-pow-add, mod_below, mul-mod_first, pow_pos, shr-shr}
 use Rattle.std.proofs.lemmas.Nat.Bits.{bit_at_cat_high, bit_at_cat_low}
+use Rattle.std.specs.Prelude.{reverse}
+use Rattle.aead_ciphers_base.specs.ByteField.{value_of}
 use Rattle.aead_ciphers_base.specs.Polynomial.{coefficient}
 use Rattle.aead_ciphers_base.proofs.PolynomialBits.{Series, add, add_assoc, add_none, none, scale}
 use Rattle.aead_ciphers_base.proofs.PolynomialAction.{horner, horner_none, horner_push, mul_x, mul_x-none, raise, times}
 use Rattle.aead_ciphers_base.proofs.PolynomialLaws.{field_product_is, length-field_product, modulus, same_coefficients}
-use Rattle.aead_ciphers.specs.Ghash.{bits_high_first, block_of, block_taps, number, ◌•◌}
+use Rattle.aead_ciphers.specs.Ghash.{block_of, block_taps, ◌•◌}
 use Rattle.aead_ciphers.specs.Multiples.{monomial_block}
-use Rattle.aead_ciphers.proofs.GhashBits.{coefficients, coefficients-xor, coefficients-zero, length-bits}
+use Rattle.aead_ciphers.proofs.GhashBits.{coefficients, coefficients-xor, coefficients-zero, length-bits, bits_high_first}
 use Rattle.aead_ciphers.proofs.GhashBlocks.{series, same_from_series, series-product, IsBlock-number, IsBlock-product, block_bits_of-block}
-use Rattle.aead_ciphers.proofs.GhashBytes.{block_bits_of_number, number_of_bits, product_of_numbers}
+use Rattle.aead_ciphers.proofs.GhashBytes.{block_bits_of_number, number_of_bits, product_of_numbers, number}
 use Rattle.aead_ciphers.proofs.ProductLoop.{block_low, multiple_is, next_multiple, zeros_end}
 
 -- ---- the multiples
@@ -38,7 +40,7 @@ series-monomial : (k : ℕ) (h : List ℕ) → k < 128 → length h ≡ 16 → s
 unfolding block_of
 series-monomial k h within size =
     let bits = replicate k false ++ true ∷ replicate (127 - k) false in
-    series-product (monomial_block k) h (IsBlock-number (number bits)).size size
+    series-product (monomial_block k) h (IsBlock-number (value_of (reverse bits))).size size
     ∙ ap (λ p. times 127 (modulus block_taps 128) p (series h)) (block_bits_of-block bits (length-monomial k within))
     ∙ times_monomial 127 (modulus block_taps 128) k (127 - k) (series h)
 

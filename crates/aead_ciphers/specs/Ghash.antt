@@ -1,7 +1,8 @@
 -- The product of blocks, and GHASH (SP 800-38D section 6).
-use Rattle.std.specs.Prelude.{◌≡◌, ℕ, zero, suc, ◌+◌, ◌*◌, ◌<◌, Bool, List, [], ◌∷◌, length, replicate, fold, flat_map, All, if◌then◌else◌, ◌==◌}
-use Rattle.std.specs.Int.{bit_at, to_be_bytes, w128}
+use Rattle.std.specs.Prelude.{◌≡◌, ℕ, zero, suc, ◌<◌, Bool, List, [], ◌∷◌, length, replicate, reverse, flat_map, All}
+use Rattle.std.specs.Int.{to_be_bytes, w128}
 use Rattle.aead_ciphers_base.specs.Polynomial.{field_product}
+use Rattle.aead_ciphers_base.specs.ByteField.{bits_of, value_of}
 use Rattle.aead_ciphers_base.specs.Bytes.{◌⊕◌, zero_block}
 
 -- a block: 16 bytes, each below 256 (section 6.3)
@@ -14,22 +15,13 @@ abbrev pub AllSized : List (List ℕ) → Type 0
 AllSized [] = Unit {0}
 AllSized (x ∷ xs) = (length x ≡ 16) × AllSized xs
 
--- the lowest k bits of n, the highest of them first (section 4.2.2)
-unfoldable pub bits_high_first : ℕ → ℕ → List Bool
-bits_high_first zero n = []
-bits_high_first (suc k) n = (bit_at n k == 1) ∷ bits_high_first k n
-
 -- section 6.3: the block x_0 x_1 .. x_127, leftmost bit first, is the polynomial x_0 + x_1 u + .. + x_127 u^127
 unfoldable pub block_bits : List ℕ → List Bool
-block_bits block = flat_map (bits_high_first 8) block
-
--- the number with these bits, the highest first (section 4.2.2)
-abbrev pub number : List Bool → ℕ
-number bits = fold (λ n b. 2 * n + (if b then 1 else 0)) 0 bits
+block_bits block = flat_map (λ byte. reverse (bits_of 8 byte)) block
 
 -- the block with these bits, the leftmost first (section 4.2.2)
 unfoldable pub block_of : List Bool → List ℕ
-block_of bits = to_be_bytes w128 (number bits)
+block_of bits = to_be_bytes w128 (value_of (reverse bits))
 
 -- section 6.3: the modulus is 1 + u + u^2 + u^7 + u^128, and these are its powers below 128
 abbrev pub block_taps : List ℕ
