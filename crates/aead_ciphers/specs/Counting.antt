@@ -1,5 +1,5 @@
 -- What a contract sees of a `CounterSequence` and of an `XoredSequence`.
-use Rattle.std.specs.Prelude.{ℕ, ◌+◌, Bool, nat_eq, List, ◌∷◌, ◌++◌}
+use Rattle.std.specs.Prelude.{ℕ, ◌+◌, Bool, nat_eq, List, [], ◌∷◌, ◌++◌}
 use Rattle.std.specs.Int.{to_be_bytes, w64}
 use Rattle.aead_ciphers_base.specs.Bytes.{each_below, ◌⊕◌}
 
@@ -32,6 +32,6 @@ next_nonce nonce s = nonce s.fixed (s.first + s.used)
 abbrev pub is_used_up : Counting → Bool
 is_used_up s = nat_eq s.used s.count
 
--- the numbers that it started from: the first number, the count and the fixed bytes
+-- the numbers that it started from: the fixed bytes, the first number and the count
 abbrev pub origin_of : Counting → List ℕ
-origin_of s = s.first ∷ s.count ∷ s.fixed
+origin_of s = s.fixed ++ s.first ∷ s.count ∷ []

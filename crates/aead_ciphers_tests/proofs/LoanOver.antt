@@ -37,7 +37,7 @@ use Rattle.std.proofs.Common.{arith, length-drop}
 use Rattle.std.proofs.lemmas.List.{length-take-le}
 use Rattle.std.specs.Prelude.{Bool, true, false, Result, Ok, Err, is_ok, IfOk}
 use Rattle.aead_ciphers_base.proofs.CounterModeLemmas.{length-counter_mode}
-use Rattle.aead_ciphers.specs.Gcm.{decrypted}
+use Rattle.aead_ciphers.specs.Gcm.{gcm_decrypted}
 use Rattle.aead_ciphers.specs.Lending.{LendsFront, lent_buffer}
 use Rattle.aead_ciphers.proofs.Lending.{Out, Own, out_Lawful, as_slice}
 use Rattle.aead_ciphers.proofs.LendingWalk.{kept}
@@ -66,7 +66,7 @@ lent_after old n (Ok front) long = ap (λ k. front.now ++ drop_list k old) long
 lent_after old n (Err e) long = refl
 
 pub sized : {E : Type 0} (cipher : List ℕ → List ℕ) (nonce : List ℕ) (start : ℕ) (old : List ℕ) (r : Result (MutBor (List ℕ)) E)
-    → IfOk r (λ front. front.now ≡ decrypted cipher nonce (drop_list start (take (length old - 16) old)))
+    → IfOk r (λ front. front.now ≡ gcm_decrypted cipher nonce (drop_list start (take (length old - 16) old)))
     → IfOk r (λ front. length front.now ≡ length old - 16 - start)
 sized cipher nonce start old (Ok front) is =
     let before = take (length old - 16) old in

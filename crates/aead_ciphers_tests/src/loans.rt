@@ -2,7 +2,8 @@
 //! what a caller's proof gets from the calls' own.
 
 ghost use Rattle.std.specs.Prelude.{◌≡◌, IsFalse};
-ghost use Rattle.aead_ciphers.specs.AesGcm.{AesOpenedAttached};
+ghost use Rattle.aead_ciphers_base.specs.Aes.{aes};
+ghost use Rattle.aead_ciphers.specs.Gcm.{OpenedAttached};
 ghost use Rattle.aead_ciphers.specs.Steps.{OpenStep};
 ghost use Rattle.aead_ciphers.specs.Values.{aad_bytes};
 
@@ -26,7 +27,7 @@ fn opens(
     in_out: &mut [u8],
     ciphertext_and_tag: RangeFrom<usize>,
 ) -> bool
-    ensures opened { AesOpenedAttached key.now.bytes nonce (aad_bytes aad.entry)
+    ensures opened { OpenedAttached (aes key.now.bytes) nonce (aad_bytes aad.entry)
         ciphertext_and_tag.start in_out.old result in_out.new }
     ensures refused { IsFalse result → in_out.new ≡ in_out.old }
 {
@@ -44,7 +45,7 @@ fn opens_to_front(
     in_out: &mut [u8],
     ciphertext_and_tag: RangeFrom<usize>,
 ) -> bool
-    ensures opened { AesOpenedAttached key.now.bytes nonce (aad_bytes aad.entry)
+    ensures opened { OpenedAttached (aes key.now.bytes) nonce (aad_bytes aad.entry)
         ciphertext_and_tag.start in_out.old result in_out.new }
     ensures refused { IsFalse result → in_out.new ≡ in_out.old }
 {

@@ -2,9 +2,10 @@
 use Rattle.std.proofs.Common.{◌≡◌, ℕ, ◌+◌, ◌-◌, ◌<◌, List, ◌++◌, length, get_or, take, drop, sym, ap, ap₂, subst, ◌∙◌, append_assoc, length-append, length-drop, arith}
 use Rattle.std.proofs.Math.Seq.{take-add}
 use Rattle.std.proofs.lemmas.List.{drop_at, get_or-take, length-take-le, take_at}
-use Rattle.aead_ciphers.specs.AesGcm.{aes_decrypted, aes_encrypted, aes_tag}
+use Rattle.aead_ciphers_base.specs.Aes.{aes}
+use Rattle.aead_ciphers.specs.Gcm.{gcm_decrypted, gcm_encrypted, gcm_tag}
 use Rattle.aead_ciphers.specs.HeaderProtection.{HeaderKey}
-use Rattle.aead_ciphers.specs.XoredSequence.{xored_nonce}
+use Rattle.aead_ciphers.specs.Counting.{xored_nonce}
 use Rattle.aead_ciphers.proofs.MessageLaws.{decrypted-encrypted, length-aes_encrypted, length-aes_tag}
 use Rattle.quic_packets.specs.Header.{HasSample, Protected, Unprotected, number_len}
 use Rattle.quic_packets.specs.Keys.{Receiving}
@@ -23,10 +24,10 @@ module _ (receiver : Receiving) (number h : ℕ) (packet : List ℕ) (has : HasP
   text = payload h packet
 
   abbrev body : List ℕ
-  body = aes_encrypted key nonce text
+  body = gcm_encrypted (aes key) nonce text
 
   abbrev its_tag : List ℕ
-  its_tag = aes_tag key nonce (header h packet) body
+  its_tag = gcm_tag (aes key) nonce (header h packet) body
 
   abbrev whole : List ℕ
   whole = sealed_packet key receiver.iv number h packet
@@ -70,10 +71,10 @@ module _ (receiver : Receiving) (number h : ℕ) (packet : List ℕ) (has : HasP
   pub sealed_opens : OpensTo receiver number h whole packet
   sealed_opens = record {
     payload = subst (HasPayload h) (sym length-whole) has;
-    genuine = end ∙ sym (ap₂ (aes_tag key nonce) front middle);
+    genuine = end ∙ sym (ap₂ (gcm_tag (aes key) nonce) front middle);
     comes_back =
         ap (take (length packet - 16))
-        (ap₂ (λ (a b : List ℕ). a ++ b ++ tag whole) front (ap (aes_decrypted key nonce) middle ∙ decrypted-encrypted key nonce text)
+        (ap₂ (λ (a b : List ℕ). a ++ b ++ tag whole) front (ap (gcm_decrypted (aes key) nonce) middle ∙ decrypted-encrypted key nonce text)
         ∙ ap (λ (xs : List ℕ). xs ++ tag whole) plain)
         ∙ take_at (take (length packet - 16) packet) (tag whole) (length packet - 16) (length-take-le (length packet - 16) packet (omega arith));
   }

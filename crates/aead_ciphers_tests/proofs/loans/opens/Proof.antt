@@ -1,8 +1,8 @@
 -- The plaintext that `open_within` lends is let go, and the buffer is back.
 use Rattle.aead_ciphers.proofs.LendingWalk.{refl, ◌-◌, [], ◌∷◌, full_share, ◌$◌, !, move, keep, of_opd, returns, alloc_all, pass_all, free_all, look_at, get, stop}
 use Rattle.aead_ciphers.proofs.LendingWalk.{sets, lands_as, named_lft, types_at, mut_slice_vals, heard, length, Words, words_vals, words_typed, plain}
-use Rattle.aead_ciphers.proofs.LendingWalk.{slice_typed, nonce_word, aad_word, range_word, gets, reborrows, hears, aad_bytes, says, last}
-use Rattle.aead_ciphers.proofs.LendingWalk.{AesOpenedAttached, walked, consults, at_words, with_third, with_third_share, relends, ends, table_of}
+use Rattle.aead_ciphers.proofs.LendingWalk.{slice_typed, nonce_word, aad_word, range_word, gets, reborrows, learns, aad_bytes, says, last}
+use Rattle.aead_ciphers.proofs.LendingWalk.{OpenedAttached, walked, consults, at_words, with_third, with_third_share, relends, ends, table_of}
 use Rattle.aead_ciphers.proofs.Lending.{Range}
 use Rattle.aead_ciphers.specs.Lending.{LendsFront}
 use Rattle.aead_ciphers_base.proofs.Walks.{takes}
@@ -69,8 +69,8 @@ opens_spec 𝓤 𝓛 𝓜 𝓡 wired =
     (table_of 𝓛 𝓜 𝓡) (met 𝓤 𝓛 𝓜 𝓡 (P.Code.calls-aead_ciphers::aead::less_safe_key::LessSafeKey::open_within 𝓡.env wired))
     ((with_third 3 (α ∷ []) κs, with_third_share 3 full_share qs, tt, (self, (nonce, (aad, (record in_out { ghost_name = δ }, (range, tt))))), vals), tt)
     (gets ! tt refl) (λ v r ws. let ys = after old n r in
-    takes ! (LendsFront (record in_out { ghost_name = δ }) r n) $ move ! (1 ∷ []) $ hears ! (λ opened. heard ! _ (λ plaintext.
-    let Said : Bool → List ℕ → Type 0 = λ accepts new. AesOpenedAttached self.now.bytes nonce (aad_bytes aad) range.start old accepts new in
+    takes ! (LendsFront (record in_out { ghost_name = δ }) r n) $ move ! (1 ∷ []) $ learns ! (λ opened. heard ! _ (λ plaintext.
+    let Said : Bool → List ℕ → Type 0 = λ accepts new. OpenedAttached (aes self.now.bytes) nonce (aad_bytes aad) range.start old accepts new in
     let long = sized (aes self.now.bytes) nonce range.start old r plaintext in
     -- [what is owed of in_out; the answer; three tokens; five times nothing; what is kept]
     move ! (0 ∷ 1 ∷ 4 ∷ 10 ∷ []) $ loan_ends 𝓛 κ q in_out room n ! tt α δ v r (λ us told typed same.

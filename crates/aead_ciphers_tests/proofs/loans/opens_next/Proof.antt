@@ -2,7 +2,7 @@
 use Rattle.aead_ciphers.proofs.LendingWalk.{refl, ◌-◌, [], ◌∷◌, full_share, ◌$◌, !, move, keep, of_opd, returns, alloc_all, pass_all, free_all, look_at, get, stop}
 use Rattle.aead_ciphers.proofs.LendingWalk.{a_type, dcons, dnil, addr, through, inst_fn, param, bounded, gave_ref, Goes-gave_ref}
 use Rattle.aead_ciphers.proofs.LendingWalk.{sets, lands_as, named_lft, types_at, mut_slice_vals, heard, length, Words, words_vals, words_typed, plain}
-use Rattle.aead_ciphers.proofs.LendingWalk.{slice_typed, aad_word, range_word, gets, reborrows, hears, aad_bytes, says, last}
+use Rattle.aead_ciphers.proofs.LendingWalk.{slice_typed, aad_word, range_word, gets, reborrows, learns, aad_bytes, says, last}
 use Rattle.aead_ciphers.proofs.LendingWalk.{walked, consults, at_words, with_third, with_third_share, relends, ends, table_of}
 use Rattle.aead_ciphers.proofs.Lending.{Range}
 use Rattle.aead_ciphers.specs.Lending.{LendsFront}
@@ -63,8 +63,8 @@ opens_next_spec 𝓤 𝓛 𝓜 𝓡 wired N LN g d met =
     (table_of 𝓛 𝓜 𝓡) (open_met 𝓤 𝓛 𝓜 𝓡 (P.Code.calls-aead_ciphers::aead::opening_key::OpeningKey::open_within 𝓡.env wired) N LN g d met)
     ((with_third 4 (α ∷ []) κs, with_third_share 4 full_share qs, bounds, (self, (aad, (record in_out { ghost_name = δ }, (range, tt)))), vals), tt)
     (gets ! tt refl) (λ v r ws. let ys = after old n r in
-    takes ! (LendsFront (record in_out { ghost_name = δ }) r n) $ move ! (1 ∷ []) $ hears ! (λ stays. hears ! (λ step. hears ! (λ long. hears ! (λ opened.
-    hears ! (λ plaintext. hears ! (λ gave. heard ! _ (λ stands.
+    takes ! (LendsFront (record in_out { ghost_name = δ }) r n) $ move ! (1 ∷ []) $ learns ! (λ stays. learns ! (λ step. learns ! (λ long. learns ! (λ opened.
+    learns ! (λ plaintext. learns ! (λ gave. heard ! _ (λ stands.
     let Said : Bool → List ℕ → Type 0 = λ accepts new. OpenStep g.spent g.is_closed self.now ws.0 (aad_bytes aad) range.start old new accepts in
     -- [what is owed of in_out; the answer; four tokens; the key; three times nothing; what is kept]
     move ! (0 ∷ 1 ∷ 4 ∷ 10 ∷ []) $ loan_ends 𝓛 κ q in_out room n ! tt α δ v r (λ us told typed same.
