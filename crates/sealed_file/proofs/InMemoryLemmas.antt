@@ -1,10 +1,10 @@
 -- The steps of sealing and opening in memory.
-use Rattle.std.proofs.Common.{◌≡◌, ◌⊎◌, ◌↔◌, ℕ, Bool, true, false, inl, inr, Result, Ok, Err, IsOk, IfErr, ◌+◌, ◌-◌, ◌*◌, ◌^◌, ◌<◌, ◌≤◌}
-use Rattle.std.proofs.Common.{List, ◌++◌, length, take, drop, get_or, refl, sym, ap, subst, ◌∙◌, arith, below_more, append_assoc, append-nil}
+use Rattle.std.proofs.Common.{◌≡◌, ℕ, Bool, true, false, inl, ◌+◌, ◌-◌, ◌*◌, ◌^◌, ◌<◌, ◌≤◌}
+use Rattle.std.proofs.Common.{List, ◌++◌, length, take, drop, refl, sym, ap, subst, ◌∙◌, arith, below_more, append_assoc, append-nil}
 use Rattle.std.specs.Prelude.{◌==◌}
 use Rattle.std.specs.List.{concat}
 use Rattle.std.proofs.lemmas.Bool.{eqb-false, eqb-true}
-use Rattle.std.proofs.lemmas.List.{drop_at, get_or-take, length-append, length-drop, length-take, take-append-drop, take_at, take-take}
+use Rattle.std.proofs.lemmas.List.{drop_at, length-append, length-drop, length-take, take-append-drop, take_at, take-take}
 use Rattle.aead_ciphers_base.specs.Bytes.{each_below}
 use Rattle.aead_ciphers.proofs.MessageLaws.{length-aes_decrypted}
 use Rattle.sealed_file.specs.declared.error.FileError.{FileError}
@@ -240,40 +240,3 @@ pub chunk_fails : (lacks_room : Type 0) (key file : List ℕ) (n : ℕ) (error :
     → FailsInMemory lacks_room (OpenRefuses key file) error
 chunk_fails lacks_room key file n =
     fails_as lacks_room (OpenRefuses key file) (λ error. RefusesAt key file error n) (refused_at key file n) (λ x. x.wrong.1) (λ e x. x.wrong.1)
-
--- a header that is refused isn't one
-not_header : (file : List ℕ) (error : FileError) → HeaderRefuses (take 16 file) error → HasHeader file → ⊥
-not_header file KeyLength h has = h
-not_header file AnotherMagic h has = h.1 (take-take 8 16 file (omega arith) ∙ sym (take-take 8 9 file (omega arith)) ∙ ap (take 8) has.right)
-not_header file (AnotherVersion v) h has =
-    h.3 (sym h.2 ∙ get_or-take 16 file 8 0 (omega arith) ∙ sym (get_or-take 9 file 8 0 (omega arith)) ∙ ap (λ (l : List ℕ). get_or l 8 0) has.right)
-not_header file EndsEarly h has = let t = length-take 16 file in let s = has.size in let e : length (take 16 file) < 16 = h in omega (arith, t, s, e)
-not_header file BytesBehind h has = h
-not_header file (Refused n) h has = h
-not_header file TooLong h has = h
-not_header file OutOfMemory h has = h
-not_header file (Io e) h has = h
-
-file_not_sealed : (key file : List ℕ) (error : FileError) → HeaderRefuses (take 16 file) error ⊎ ((n : ℕ) × RefusesAt key file error n)
-    → ¬ IsSealed key file
-file_not_sealed key file error (inl header) has = not_header file error header has.front
-file_not_sealed key file error (inr (n, at)) has = at.wrong.0 (has.tags.each n (let within = at.in_range in omega (arith, within)))
-
--- a file that is refused, and not for memory, isn't sealed
-not_sealed : (lacks_room : Type 0) (key file : List ℕ) (error : FileError) → FailsInMemory lacks_room (OpenRefuses key file) error
-    → ¬ lacks_room → ¬ IsSealed key file
-not_sealed lacks_room key file KeyLength h room has = file_not_sealed key file KeyLength h has
-not_sealed lacks_room key file AnotherMagic h room has = file_not_sealed key file AnotherMagic h has
-not_sealed lacks_room key file (AnotherVersion v) h room has = file_not_sealed key file (AnotherVersion v) h has
-not_sealed lacks_room key file EndsEarly h room has = file_not_sealed key file EndsEarly h has
-not_sealed lacks_room key file BytesBehind h room has = file_not_sealed key file BytesBehind h has
-not_sealed lacks_room key file (Refused n) h room has = file_not_sealed key file (Refused n) h has
-not_sealed lacks_room key file TooLong h room has = let few = has.few in let many = h.2 in omega (arith, few, many)
-not_sealed lacks_room key file OutOfMemory h room has = room h
-not_sealed lacks_room key file (Io e) h room has = h
-
--- with room, opening succeeds exactly for a sealed file
-pub accepts_sealed : (lacks_room : Type 0) (key file : List ℕ) (r : Result (Unit {0}) FileError) → (IsOk r → IsSealed key file)
-    → IfErr r (λ error. FailsInMemory lacks_room (OpenRefuses key file) error) → ¬ lacks_room → IsOk r ↔ IsSealed key file
-accepts_sealed lacks_room key file (Ok u) authentic refused room = (authentic, λ _. refl)
-accepts_sealed lacks_room key file (Err e) authentic refused room = (authentic, λ has. absurd (not_sealed lacks_room key file e refused room has))

@@ -94,7 +94,13 @@ fn nonce_of(prefix: &Prefix, number: u32, is_last: bool) -> Nonce
 }
 
 /// Encrypts a chunk of at most 64 KiB, and gives its tag.
-pub(crate) fn seal_slice(key: &FileKey, prefix: &Prefix, number: u32, is_last: bool, chunk: &mut [u8]) -> Tag
+pub(crate) fn seal_slice(
+    key: &FileKey,
+    prefix: &Prefix,
+    number: u32,
+    is_last: bool,
+    chunk: &mut [u8],
+) -> Tag
     requires { length chunk.old ≤ 65536 }
     ensures { chunk.new ++ result ≡ sealed_chunk key.now prefix.now number is_last chunk.old }
 {

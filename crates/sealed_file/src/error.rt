@@ -21,9 +21,9 @@ pub enum FileError {
     Refused(u32),
     /// The file has more than `MAX_CHUNKS` chunks.
     TooLong,
-    /// Memory for what is appended was refused. Only the calls that append to a `Vec` fail with it.
+    /// Memory was refused to `seal_bytes` or `open_bytes`.
     OutOfMemory,
-    /// Reading or writing failed, or memory for the buffers was refused.
+    /// Reading or writing failed, or memory was refused to `seal` or `open`.
     Io(io::Error),
 }
 

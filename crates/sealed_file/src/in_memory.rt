@@ -99,13 +99,11 @@ pub fn seal_bytes(
     ensures few { IsOk result → last_piece 65536 (length file.now) < 2 ^ 32 - 1 }
     ensures sealed { OnOk result (out.new.items
         ≡ out.old.items ++ sealed_file key.now prefix file.now) }
-    ensures accepted {
-        vec_len out.old + length (sealed_file key.now prefix file.now) ≤ vec_capacity out.old
+    ensures accepted { vec_len out.old + length (sealed_file key.now prefix file.now) ≤ vec_capacity out.old
         → (IsOk result ↔ (last_piece 65536 (length file.now) < 2 ^ 32 - 1)) }
-    ensures refused {
-        let grown = vec_len out.old + length (sealed_file key.now prefix file.now) in
+    ensures refused { let grown = vec_len out.old + length (sealed_file key.now prefix file.now) in
         IfErr result (λ error.
-            FailsInMemory (vec_capacity out.old < grown) (SealRefuses file.now) error) }
+        FailsInMemory (vec_capacity out.old < grown) (SealRefuses file.now) error) }
     ensures kept { OnErr result (out.new.items ≡ out.old.items) }
 {
     let header = header_of(&prefix);
@@ -189,10 +187,9 @@ fn append_file(key: &FileKey, sealed: &[u8], out: &mut Vec<u8>) -> Result<(), Fi
     ensures accepted { IsOk result → IsSealed key.now sealed.now }
     ensures opened { OnOk result (out.new.items
         ≡ out.old.items ++ opened_file key.now sealed.now) }
-    ensures refused {
-        let grown = vec_len out.old + length (opened_file key.now sealed.now) in
+    ensures refused { let grown = vec_len out.old + length (opened_file key.now sealed.now) in
         IfErr result (λ error.
-            FailsInMemory (vec_capacity out.old < grown) (OpenRefuses key.now sealed.now) error) }
+        FailsInMemory (vec_capacity out.old < grown) (OpenRefuses key.now sealed.now) error) }
 {
     let Some((header, body)) = sealed.split_first_chunk::<HEADER_LEN>() else {
         return Err(FileError::EndsEarly);
@@ -219,13 +216,11 @@ pub fn open_bytes(key: &FileKey, sealed: &[u8], out: &mut Vec<u8>) -> Result<(),
     ensures authentic { IsOk result → IsSealed key.now sealed.now }
     ensures opened { OnOk result (out.new.items
         ≡ out.old.items ++ opened_file key.now sealed.now) }
-    ensures accepted {
-        vec_len out.old + length (opened_file key.now sealed.now) ≤ vec_capacity out.old
+    ensures accepted { vec_len out.old + length (opened_file key.now sealed.now) ≤ vec_capacity out.old
         → (IsOk result ↔ IsSealed key.now sealed.now) }
-    ensures refused {
-        let grown = vec_len out.old + length (opened_file key.now sealed.now) in
+    ensures refused { let grown = vec_len out.old + length (opened_file key.now sealed.now) in
         IfErr result (λ error.
-            FailsInMemory (vec_capacity out.old < grown) (OpenRefuses key.now sealed.now) error) }
+        FailsInMemory (vec_capacity out.old < grown) (OpenRefuses key.now sealed.now) error) }
     ensures kept { OnErr result (out.new.items ≡ out.old.items) }
 {
     let len = out.len();
