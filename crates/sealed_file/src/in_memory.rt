@@ -1,7 +1,6 @@
 //! Sealing and opening files that stand in memory.
 
-ghost use Rattle.std.specs.Prelude.{◌≡◌, ◌+◌, ◌-◌, ◌*◌, ◌^◌, ◌<◌, ◌≤◌, ◌↔◌, ◌++◌, length, vec_capacity, vec_len, take, drop, IsTrue, IsOk, IfErr, OnOk, OnErr};
-ghost use Rattle.std.specs.Bool.{OnTrue};
+ghost use Rattle.std.specs.Prelude.{◌≡◌, ◌+◌, ◌-◌, ◌*◌, ◌^◌, ◌<◌, ◌≤◌, ◌↔◌, ◌++◌, length, vec_capacity, vec_len, take, drop, IsOk, IfErr, OnOk, OnErr};
 ghost use Rattle.sealed_file.specs.Format.{last_piece, piece, sealed_chunk, sealed_file};
 ghost use Rattle.sealed_file.specs.Opening.{HasTag, IsSealed, opened_chunk, opened_file};
 ghost use Rattle.sealed_file.specs.Refusals.{ChunkRefuses, FailsInMemory, OpenRefuses, SealRefuses};
@@ -99,7 +98,8 @@ pub fn seal_bytes(
     ensures few { IsOk result → last_piece 65536 (length file.now) < 2 ^ 32 - 1 }
     ensures sealed { OnOk result (out.new.items
         ≡ out.old.items ++ sealed_file key.now prefix file.now) }
-    ensures accepted { vec_len out.old + length (sealed_file key.now prefix file.now) ≤ vec_capacity out.old
+    ensures accepted { let grown = vec_len out.old + length (sealed_file key.now prefix file.now) in
+        grown ≤ vec_capacity out.old
         → (IsOk result ↔ (last_piece 65536 (length file.now) < 2 ^ 32 - 1)) }
     ensures refused { let grown = vec_len out.old + length (sealed_file key.now prefix file.now) in
         IfErr result (λ error.
@@ -216,8 +216,8 @@ pub fn open_bytes(key: &FileKey, sealed: &[u8], out: &mut Vec<u8>) -> Result<(),
     ensures authentic { IsOk result → IsSealed key.now sealed.now }
     ensures opened { OnOk result (out.new.items
         ≡ out.old.items ++ opened_file key.now sealed.now) }
-    ensures accepted { vec_len out.old + length (opened_file key.now sealed.now) ≤ vec_capacity out.old
-        → (IsOk result ↔ IsSealed key.now sealed.now) }
+    ensures accepted { let grown = vec_len out.old + length (opened_file key.now sealed.now) in
+        grown ≤ vec_capacity out.old → (IsOk result ↔ IsSealed key.now sealed.now) }
     ensures refused { let grown = vec_len out.old + length (opened_file key.now sealed.now) in
         IfErr result (λ error.
         FailsInMemory (vec_capacity out.old < grown) (OpenRefuses key.now sealed.now) error) }

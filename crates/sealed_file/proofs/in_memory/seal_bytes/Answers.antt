@@ -1,8 +1,7 @@
 use Rattle.std.proofs.Common.{rules, ◌≡◌, ℕ, List, ◌+◌, ◌<◌, ◌++◌, length, vec_capacity, vec_len, arith, ap, sym, subst, ◌∙◌}
 use Rattle.std.specs.Prelude.{◌==◌}
-use Rattle.std.proofs.lemmas.List.{length-append}
 use Rattle.sealed_file.specs.declared.error.FileError.{FileError}
-use Rattle.sealed_file.specs.Format.{magic_and_version, sealed_file}
+use Rattle.sealed_file.specs.Format.{sealed_file}
 use Rattle.sealed_file.specs.Refusals.{FailsInMemory, SealRefuses}
 use Rattle.sealed_file.proofs.FileLemmas.{length-sealed_file}
 use Rattle.sealed_file.proofs.InMemoryLemmas.{seal_first, seal_fits, seal_more}
@@ -21,7 +20,7 @@ pub returns-in_err-reserve-clause-refused : goal.returns-in_err-reserve-clause-r
 returns-in_err-reserve-clause-refused c =
     let full = c.in_err-reserve.ensures.full in
     let last = c.last_piece_of-last.ensures in
-    let e = length-sealed_file c.args.key.now c.args.prefix c.args.file.now (let h : length c.header_of-header.result ≡ 16 = search rules in let k = ap length c.header_of-header.ensures ∙ length-append magic_and_version c.args.prefix in omega (arith, h, k)) in
+    let e = length-sealed_file c.args.key.now c.args.prefix c.args.file.now (let e : length c.args.prefix ≡ 7 = search rules in e) in
     let lacks : vec_capacity c.args.out.now < vec_len c.args.out.now + length (sealed_file c.args.key.now c.args.prefix c.args.file.now) =
     omega (arith, full, last, e) in
     let Says : FileError → Type 0 = λ error. FailsInMemory
@@ -34,7 +33,7 @@ loop-number-init c = record {
   appended = seal_first c.args.key.now c.args.prefix c.args.file.now c.args.out.now.items _ _ (c.as_slice.ensures ∙ c.header_of-header.ensures)
       (c.append.ensures.appended ∙ ap (λ (l : List ℕ). l ++ c.as_slice.result.now) c.in_ok-reserve.ensures.items);
   room =
-      let e = length-sealed_file c.args.key.now c.args.prefix c.args.file.now (let h : length c.as_slice.result.now ≡ 16 = grind arith in let k = ap length (c.as_slice.ensures ∙ c.header_of-header.ensures) ∙ length-append magic_and_version c.args.prefix in omega (arith, h, k)) in
+      let e = length-sealed_file c.args.key.now c.args.prefix c.args.file.now (let e : length c.args.prefix ≡ 7 = search rules in e) in
       let last = c.last_piece_of-last.ensures in
       let ok = c.in_ok-reserve.ensures.ok in
       let len = c.in_ok-reserve.ensures.len in
