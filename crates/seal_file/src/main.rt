@@ -6,10 +6,13 @@ mod progress;
 #[cfg(test)]
 mod tests;
 
+ghost use Rattle.std.specs.Prelude.{IfOk};
+ghost use Rattle.std.specs.Io.KnownBytes.{Consumes};
+
 use anyhow::anyhow;
 use options::{Action, Options};
 use progress::Progress;
-use sealed_file::{FileKey, PREFIX_LEN};
+use sealed_file::{FileError, FileKey, PREFIX_LEN};
 use std::fs::File;
 use std::io::{self, Read, Write};
 use std::process::ExitCode;
@@ -35,13 +38,7 @@ fn run(rt: &HostRuntime) -> Result<(), anyhow::Error> {
     let key = read_key(rt, options.key_file.as_str())?;
     let mut input = Progress::new(rt, rt.reader(), options.has_progress);
     let mut output = io::writer(rt);
-    match options.action {
-        Action::Seal => {
-            let prefix = random_prefix(rt)?;
-            sealed_file::seal(rt.alloc(), &key, prefix, &mut input, &mut output)?;
-        }
-        Action::Open => sealed_file::open(rt.alloc(), &key, &mut input, &mut output)?,
-    }
+    act(rt, options.action, &key, &mut input, &mut output)?;
     output.flush()?;
     input.end();
     Ok(())
@@ -60,9 +57,29 @@ fn read_key(rt: &HostRuntime, path: &str) -> Result<FileKey, anyhow::Error> {
     }
 }
 
-/// A prefix that the system drew.
-fn random_prefix(rt: &HostRuntime) -> io::Result<[u8; PREFIX_LEN]> {
+/// Seals what `input` gives, under a prefix that the system drew, or opens it.
+fn act<R: Read, W: Write>(
+    rt: &HostRuntime,
+    action: Action,
+    key: &FileKey,
+    input: &mut R,
+    output: &mut W,
+) -> Result<(), FileError> {
+    match action {
+        Action::Seal => {
+            let prefix = prefix_from(&mut File::open(rt, "/dev/urandom")?)?;
+            sealed_file::seal(rt.alloc(), key, prefix, input, output)
+        }
+        Action::Open => sealed_file::open(rt.alloc(), key, input, output),
+    }
+}
+
+/// The prefix that is the first bytes of `source`.
+fn prefix_from<R: Read>(source: &mut R) -> io::Result<[u8; PREFIX_LEN]>
+    ensures { IfOk result (λ prefix.
+        Consumes (R.remaining source.old) (R.remaining source.new) prefix) }
+{
     let mut prefix = [0; PREFIX_LEN];
-    File::open(rt, "/dev/urandom")?.read_exact(&mut prefix)?;
+    source.read_exact(&mut prefix)?;
     Ok(prefix)
 }

@@ -1,9 +1,10 @@
 //! Sealed files as `tools/open-sealed-file` makes them, files that are refused, and streams that fail.
 
+use crate::act;
 use crate::options::Action;
 use failing_streams::FailingStream;
 use md5::{Digest, Md5};
-use sealed_file::{CHUNK_LEN, FileError, FileKey, HEADER_LEN, open, seal};
+use sealed_file::{CHUNK_LEN, FileError, FileKey, HEADER_LEN, open, open_bytes, seal, seal_bytes};
 use std::alloc::Global;
 use std::io::ErrorKind;
 use std::process::Abort;
@@ -106,12 +107,50 @@ fn opens(
     Ok(())
 }
 
+// Sealing and opening succeed over streams that don't fail, which no clause says of the calls over streams.
 #[test]
 fn sealed_by_another_program(rt: HostRuntime) -> Result<(), Fail> {
     for (len, digest) in &SEALED {
         let sealed = sealed_of(rt.alloc(), *len)?;
         same(&rt, &Md5::digest(&sealed), digest, "sealed");
         opens(&rt, &sealed, *len, "opened")?;
+    }
+    Ok(())
+}
+
+// No clause says that a `Vec` which has to grow can.
+#[test]
+fn in_memory(rt: HostRuntime) -> Result<(), Fail> {
+    let key = FileKey::new(&KEY)?;
+    for (len, digest) in &SEALED {
+        let file = file_of(rt.alloc(), *len)?;
+        let mut sealed = Vec::new(rt.alloc());
+        seal_bytes(&key, PREFIX, &file, &mut sealed)?;
+        same(&rt, &Md5::digest(&sealed), digest, "sealed in memory");
+        let mut opened = Vec::new(rt.alloc());
+        open_bytes(&key, &sealed, &mut opened)?;
+        same(&rt, &opened, &file, "opened in memory");
+    }
+    Ok(())
+}
+
+/// What the program writes for this input.
+fn written_by(rt: &HostRuntime, action: Action, bytes: &[u8]) -> Result<Vec<u8>, Fail> {
+    let mut input = bytes;
+    let mut written = Vec::new(rt.alloc());
+    act(rt, action, &FileKey::new(&KEY)?, &mut input, &mut written)?;
+    Ok(written)
+}
+
+#[test]
+fn two_seals_of_one_file(rt: HostRuntime) -> Result<(), Fail> {
+    let file = file_of(rt.alloc(), 2 * CHUNK_LEN + 5)?;
+    let first = written_by(&rt, Action::Seal, &file)?;
+    let second = written_by(&rt, Action::Seal, &file)?;
+    assert!(rt; first.get(9..HEADER_LEN) != second.get(9..HEADER_LEN));
+    for sealed in [&first, &second] {
+        let opened = written_by(&rt, Action::Open, sealed)?;
+        same(&rt, &opened, &file, "opened");
     }
     Ok(())
 }
@@ -257,6 +296,7 @@ fn texts(rt: HostRuntime) -> Result<(), Fail> {
             Some(FileError::TooLong),
             "the file is too long: it has 2^32 chunks or more",
         ),
+        (Some(FileError::OutOfMemory), "out of memory"),
     ] {
         let error = error.ok_or("an error")?;
         assert_eq!(rt; format!(in rt.alloc(); "{error}")?.as_str(), text);

@@ -2,7 +2,7 @@
 use Rattle.std.proofs.Common.{◌≡◌, ℕ, Bool, ◌+◌, ◌-◌, ◌*◌, ◌^◌, ◌<◌, ◌≤◌, List, length, take, drop, refl, sym, ap, ap₂, subst, ◌∙◌, arith}
 use Rattle.std.specs.Prelude.{◌==◌}
 use Rattle.std.specs.List.{concat}
-use Rattle.std.proofs.lemmas.List.{drop_at, length-append, take_at, take-take}
+use Rattle.std.proofs.lemmas.List.{drop_at, length-append, length-drop, length-take, take_at, take-take}
 use Rattle.aead_ciphers_base.specs.Bytes.{each_below}
 use Rattle.aead_ciphers_base.proofs.EachLemmas.{each-same}
 use Rattle.aead_ciphers_base.specs.Aes.{aes}
@@ -106,6 +106,18 @@ module _ (key prefix file : List ℕ) (seven : length prefix ≡ 7) where
       let k = length-joined 65552 chunk_at last whole_before in
       let h = last_is_some in
       omega (arith, e, k, h)
+
+  -- the file's bytes, and 16 more for the header and for each chunk
+  pub length-sealed_file : length whole ≡ 16 + length file + (last + 1) * 16
+  length-sealed_file =
+      let all = length-append (header prefix) (sealed_chunks key prefix file (last + 1)) in
+      let front = length-header in
+      let e = ap length chunks_are ∙ ap length (joined_more chunk_at last) ∙ length-append (concat (each_below last chunk_at)) (chunk_at last) in
+      let k = length-joined 65552 chunk_at last whole_before in
+      let c = length-chunk_at last in
+      let t = length-take 65536 (drop (65536 * last) file) in
+      let d = length-drop (65536 * last) file in
+      omega (arith, all, front, e, k, c, t, d)
 
   right_tag : (i : ℕ) → i < last_chunk whole + 1 → HasRightTag key whole i
   right_tag i within =

@@ -7,7 +7,7 @@ use Rattle.std.proofs.KnownBytes.{Appends-nil, Appends-trans}
 use Rattle.std.proofs.lemmas.Bool.{eqb-true}
 use Rattle.std.proofs.lemmas.List.{length-take, take-take, append-nil}
 use Rattle.sealed_file.specs.declared.error.FileError.{FileError}
-use Rattle.sealed_file.specs.declared.error.FileError.TheVariants.{KeyLength, AnotherMagic, AnotherVersion, EndsEarly, BytesBehind, Refused, TooLong, Io}
+use Rattle.sealed_file.specs.declared.error.FileError.TheVariants.{KeyLength, AnotherMagic, AnotherVersion, EndsEarly, BytesBehind, Refused, TooLong, OutOfMemory, Io}
 use Rattle.sealed_file.specs.Format.{piece}
 use Rattle.sealed_file.specs.Opening.{HasTag, HasRightTag, HasHeader, AreRight, IsSealed}
 use Rattle.sealed_file.specs.Opening.{opened_chunk, opened_chunks, opened_file, last_chunk, prefix_of, body_of}
@@ -31,7 +31,7 @@ pub none_opened : (key file : List ℕ) → opened_chunks key file 0 ≡ []
 unfolding opened_chunks
 none_opened key file = refl
 
-chunks_more : (key file : List ℕ) (n : ℕ) → opened_chunks key file (n + 1)
+pub chunks_more : (key file : List ℕ) (n : ℕ) → opened_chunks key file (n + 1)
     ≡ opened_chunks key file n ++ opened_chunk key (prefix_of file) n (n == last_chunk file) (piece 65552 (body_of file) n)
 unfolding opened_chunks
 chunks_more key file n = joined_more (λ i. opened_chunk key (prefix_of file) i (i == last_chunk file) (piece 65552 (body_of file) i)) n
@@ -65,6 +65,7 @@ header_wrong key file bytes rest EndsEarly read h = inl (subst (λ (l : List ℕ
 header_wrong key file bytes rest BytesBehind read h = absurd h
 header_wrong key file bytes rest (Refused n) read h = absurd h
 header_wrong key file bytes rest TooLong read h = absurd h
+header_wrong key file bytes rest OutOfMemory read h = absurd h
 header_wrong key file bytes rest (Io e) read h = absurd h
 
 pub header_refused : (key file bytes read_bytes : List ℕ) (rest : Option (List ℕ)) (error : FileError) → bytes ≡ read_bytes → TakesFront 16 file read_bytes rest
@@ -72,7 +73,7 @@ pub header_refused : (key file bytes read_bytes : List ℕ) (rest : Option (List
 header_refused key file bytes read_bytes rest error same read h =
     header_wrong key file read_bytes rest error read (subst (λ (l : List ℕ). HeaderRefuses l error) same h)
 
-refused_at : (key file : List ℕ) (n : ℕ) (error : FileError) → RefusesAt key file error n → OpenRefuses key file error
+pub refused_at : (key file : List ℕ) (n : ℕ) (error : FileError) → RefusesAt key file error n → OpenRefuses key file error
 refused_at key file n KeyLength h = absurd h.wrong.1
 refused_at key file n AnotherMagic h = absurd h.wrong.1
 refused_at key file n (AnotherVersion v) h = absurd h.wrong.1
@@ -80,6 +81,7 @@ refused_at key file n EndsEarly h = inr (n, h)
 refused_at key file n BytesBehind h = inr (n, h)
 refused_at key file n (Refused k) h = inr (n, h)
 refused_at key file n TooLong h = absurd h.wrong.1
+refused_at key file n OutOfMemory h = absurd h.wrong.1
 refused_at key file n (Io e) h = absurd h.wrong.1
 
 -- stopped with nothing written

@@ -15,7 +15,7 @@ pub record Sealing (key prefix file : List ℕ) (n : ℕ) (chunk : List ℕ) (re
   pub at : StandsAt 65536 file n chunk rest
   pub written : Appends old now (header prefix ++ sealed_chunks key prefix file n)
 
-no_chunks : (key prefix file : List ℕ) → sealed_chunks key prefix file 0 ≡ []
+pub no_chunks : (key prefix file : List ℕ) → sealed_chunks key prefix file 0 ≡ []
 unfolding sealed_chunks
 no_chunks key prefix file = refl
 
@@ -47,7 +47,7 @@ chunk_parts key prefix file n within =
     joined_parts (λ i. sealed_chunk key prefix i (i == last) (piece 65536 file i)) n (last + 1) (omega arith)
 
 -- what stands behind the first n chunks of a sealed file
-file_parts : (key prefix file : List ℕ) (n : ℕ) → n ≤ last_piece 65536 (length file) → (later : List ℕ)
+pub file_parts : (key prefix file : List ℕ) (n : ℕ) → n ≤ last_piece 65536 (length file) → (later : List ℕ)
     × (sealed_file key prefix file
     ≡ (header prefix ++ sealed_chunks key prefix file n) ++ (sealed_chunk key prefix n (n == last_piece 65536 (length file)) (piece 65536 file n) ++ later))
 file_parts key prefix file n within =
@@ -58,7 +58,7 @@ file_parts key prefix file n within =
           ∙ sym (append_assoc (header prefix) (sealed_chunks key prefix file n) (sealed_chunk key prefix n (n == last) (piece 65536 file n) ++ later)),
     )
 
-chunks_more : (key prefix file : List ℕ) (n : ℕ) → sealed_chunks key prefix file (n + 1)
+pub chunks_more : (key prefix file : List ℕ) (n : ℕ) → sealed_chunks key prefix file (n + 1)
     ≡ sealed_chunks key prefix file n ++ sealed_chunk key prefix n (n == last_piece 65536 (length file)) (piece 65536 file n)
 unfolding sealed_chunks
 chunks_more key prefix file n = joined_more (λ i. sealed_chunk key prefix i (i == last_piece 65536 (length file)) (piece 65536 file i)) n

@@ -1,7 +1,7 @@
 -- When each error comes.
 use Rattle.std.specs.Prelude.{◌≡◌, ◌≢◌, ℕ, Bool, true, false, ◌-◌, ◌^◌, ◌<◌, ◌≤◌, ◌⊎◌, ⊤, List, length, take, codes, slice_index, ◌==◌}
 use Rattle.sealed_file.specs.declared.error.FileError.{FileError}
-use Rattle.sealed_file.specs.declared.error.FileError.TheVariants.{AnotherMagic, AnotherVersion, EndsEarly, BytesBehind, Refused, TooLong, Io}
+use Rattle.sealed_file.specs.declared.error.FileError.TheVariants.{AnotherMagic, AnotherVersion, EndsEarly, BytesBehind, Refused, TooLong, OutOfMemory, Io}
 use Rattle.sealed_file.specs.Format.{piece, last_piece}
 use Rattle.sealed_file.specs.Opening.{HasTag, HasHeader, AreRight, last_chunk, prefix_of, body_of}
 
@@ -44,3 +44,9 @@ abbrev pub OpenRefuses : (key file : List ℕ) → FileError → Type 0
 OpenRefuses key file TooLong = HasHeader file × AreRight key file (2 ^ 32 - 1) × (2 ^ 32 - 1 ≤ last_chunk file)
 OpenRefuses key file (Io error) = ⊤
 OpenRefuses key file error = HeaderRefuses (take 16 file) error ⊎ ((n : ℕ) × RefusesAt key file error n)
+
+-- why a call over slices fails: memory was wanted, or it refuses what it was given, and never by `Io`
+abbrev pub FailsInMemory : (lacks_room : Type 0) (Refuses : FileError → Type 0) → FileError → Type 0
+FailsInMemory lacks_room Refuses OutOfMemory = lacks_room
+FailsInMemory lacks_room Refuses (Io error) = ⊥
+FailsInMemory lacks_room Refuses error = Refuses error

@@ -1,6 +1,6 @@
 //! The header, and one chunk at a time.
 
-ghost use Rattle.std.specs.Prelude.{◌≡◌, ◌≤◌, ◌↔◌, ◌++◌, length, vec_len, take, drop, IsTrue, IsOk, IsSome, IfSome, IfNone, IfOk, IfErr, OnOk};
+ghost use Rattle.std.specs.Prelude.{◌≡◌, ◌≤◌, ◌↔◌, ◌++◌, length, vec_len, drop, IsTrue, IsOk, IfOk, IfErr, OnOk};
 ghost use Rattle.std.specs.Bool.{OnTrue, OnFalse};
 ghost use Rattle.sealed_file.specs.Format.{header, chunk_nonce, sealed_chunk};
 ghost use Rattle.sealed_file.specs.Opening.{HasTag, HasHeader, opened_chunk};
@@ -94,7 +94,13 @@ fn nonce_of(prefix: &Prefix, number: u32, is_last: bool) -> Nonce
 }
 
 /// Encrypts a chunk of at most 64 KiB, and gives its tag.
-fn seal_slice(key: &FileKey, prefix: &Prefix, number: u32, is_last: bool, chunk: &mut [u8]) -> Tag
+pub(crate) fn seal_slice(
+    key: &FileKey,
+    prefix: &Prefix,
+    number: u32,
+    is_last: bool,
+    chunk: &mut [u8],
+) -> Tag
     requires { length chunk.old ≤ 65536 }
     ensures { chunk.new ++ result ≡ sealed_chunk key.now prefix.now number is_last chunk.old }
 {
@@ -124,50 +130,60 @@ pub(crate) fn seal_chunk(
     Ok(())
 }
 
-/// Opens a sealed chunk of at most 64 KiB and its tag, and answers how long the message at its front is.
-fn open_slice(
-    key: &FileKey,
-    prefix: &Prefix,
-    number: u32,
-    is_last: bool,
-    chunk: &mut [u8],
-) -> Option<usize>
-    requires { length chunk.old ≤ 65552 }
-    ensures accepted { IsSome result ↔ HasTag key.now prefix.now number is_last chunk.old }
-    ensures opened { IfSome result (λ n. take n chunk.new
-        ≡ opened_chunk key.now prefix.now number is_last chunk.old) }
-    ensures kept { IfNone result (chunk.new ≡ chunk.old) }
-{
-    let header = header_of(prefix);
-    let nonce = nonce_of(prefix, number, is_last);
-    let aad = Aad::from(header.as_slice());
-    match key.key.open_in_place_to_front(nonce, aad, chunk) {
-        Ok(len) => Some(len),
-        Err(_) => None,
-    }
-}
-
-/// Opens a sealed chunk of at most 64 KiB and its tag, and says whether it had that tag: then its message is left.
+/// Opens a ciphertext of at most 64 KiB in place, and says whether it has this tag.
 fn has_opened(
     key: &FileKey,
     prefix: &Prefix,
     number: u32,
     is_last: bool,
-    chunk: &mut Vec<u8>,
+    tag: &[u8; MAX_TAG_LEN],
+    ciphertext: &mut [u8],
 ) -> bool
-    requires { vec_len chunk.old ≤ 65552 }
-    ensures accepted { IsTrue result ↔ HasTag key.now prefix.now number is_last chunk.old.items }
-    ensures opened { OnTrue result (chunk.new.items
-        ≡ opened_chunk key.now prefix.now number is_last chunk.old.items) }
-    ensures kept { OnFalse result (chunk.new.items ≡ chunk.old.items) }
+    requires { length ciphertext.old ≤ 65536 }
+    ensures accepted { IsTrue result
+        ↔ HasTag key.now prefix.now number is_last (ciphertext.old ++ tag.now) }
+    ensures opened { OnTrue result (ciphertext.new
+        ≡ opened_chunk key.now prefix.now number is_last (ciphertext.old ++ tag.now)) }
+    ensures kept { OnFalse result (ciphertext.new ≡ ciphertext.old) }
 {
-    match open_slice(key, prefix, number, is_last, chunk) {
-        Some(len) => {
-            chunk.truncate(len);
-            true
-        }
-        None => false,
+    let header = header_of(prefix);
+    let nonce = nonce_of(prefix, number, is_last);
+    let aad = Aad::from(header.as_slice());
+    key.key
+        .open_in_place_separate_tag_to_front(nonce, aad, Tag::from(*tag), ciphertext, 0..)
+        .is_ok()
+}
+
+/// Opens the ciphertext of a chunk in place, at most 64 KiB that have this tag. On an error the ciphertext is as it was,
+/// or opened as a chunk of the other kind.
+pub(crate) fn open_ciphertext(
+    key: &FileKey,
+    prefix: &Prefix,
+    number: u32,
+    is_last: bool,
+    tag: &[u8; MAX_TAG_LEN],
+    ciphertext: &mut [u8],
+) -> Result<(), FileError>
+    requires { length ciphertext.old ≤ 65536 }
+    ensures accepted { IsOk result
+        ↔ HasTag key.now prefix.now number is_last (ciphertext.old ++ tag.now) }
+    ensures opened { OnOk result (ciphertext.new
+        ≡ opened_chunk key.now prefix.now number is_last (ciphertext.old ++ tag.now)) }
+    ensures refused { IfErr result (λ error.
+        ChunkRefuses key.now prefix.now number is_last (ciphertext.old ++ tag.now) error) }
+{
+    if has_opened(key, prefix, number, is_last, tag, ciphertext) {
+        return Ok(());
     }
+    // Whether the file was cut or goes on, the other kind's tag tells. What that opens is dropped.
+    if has_opened(key, prefix, number, !is_last, tag, ciphertext) {
+        return Err(if is_last {
+            FileError::EndsEarly
+        } else {
+            FileError::BytesBehind
+        });
+    }
+    Err(FileError::Refused(number))
 }
 
 /// Opens a sealed chunk of at most 64 KiB and its tag, so that its message is left.
@@ -185,19 +201,10 @@ pub(crate) fn open_chunk(
     ensures refused { IfErr result (λ error.
         ChunkRefuses key.now prefix.now number is_last chunk.old.items error) }
 {
-    if has_opened(key, prefix, number, is_last, chunk) {
-        return Ok(());
-    }
-    if chunk.len() < MAX_TAG_LEN {
+    let Some(tag) = chunk.last_chunk::<MAX_TAG_LEN>() else {
         return Err(FileError::EndsEarly);
-    }
-    // Which of the two it is, the other kind's tag tells. What that opens is dropped.
-    if has_opened(key, prefix, number, !is_last, chunk) {
-        return Err(if is_last {
-            FileError::EndsEarly
-        } else {
-            FileError::BytesBehind
-        });
-    }
-    Err(FileError::Refused(number))
+    };
+    let tag = *tag;
+    chunk.truncate(chunk.len() - MAX_TAG_LEN);
+    open_ciphertext(key, prefix, number, is_last, &tag, chunk)
 }

@@ -1,5 +1,6 @@
 //! Why a file was not sealed or not opened.
 
+use std::alloc::AllocError;
 use std::error::Error;
 use std::{fmt, io};
 
@@ -20,7 +21,9 @@ pub enum FileError {
     Refused(u32),
     /// The file has more than `MAX_CHUNKS` chunks.
     TooLong,
-    /// Reading or writing failed, or memory was refused.
+    /// Memory was refused to `seal_bytes` or `open_bytes`.
+    OutOfMemory,
+    /// Reading or writing failed, or memory was refused to `seal` or `open`.
     Io(io::Error),
 }
 
@@ -40,12 +43,24 @@ impl fmt::Display for FileError {
                 "another key, or chunk {number} was changed or cut"
             ),
             FileError::TooLong => write!(f, "the file is too long: it has 2^32 chunks or more"),
+            FileError::OutOfMemory => write!(f, "out of memory"),
             FileError::Io(error) => write!(f, "{error}"),
         }
     }
 }
 
 impl Error for FileError {}
+
+impl From<AllocError> for FileError {
+    ghost use Rattle.std.specs.Prelude.{◌≡◌};
+    ghost use Rattle.sealed_file.specs.declared.error.FileError.TheVariants.{OutOfMemory};
+
+    ghost from_gives = { λ _ file_error. file_error ≡ OutOfMemory };
+
+    fn from(_error: AllocError) -> Self {
+        FileError::OutOfMemory
+    }
+}
 
 impl From<io::Error> for FileError {
     ghost use Rattle.std.specs.Prelude.{◌≡◌};

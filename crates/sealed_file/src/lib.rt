@@ -4,6 +4,7 @@
 
 mod chunk;
 mod error;
+mod in_memory;
 mod key;
 pub mod laws;
 mod opening;
@@ -12,6 +13,7 @@ mod stream;
 
 pub use self::chunk::{CHUNK_LEN, HEADER_LEN, MAGIC, MAX_CHUNKS, PREFIX_LEN, VERSION};
 pub use self::error::FileError;
+pub use self::in_memory::{open_bytes, seal_bytes};
 pub use self::key::FileKey;
 pub use self::opening::open;
 pub use self::sealing::seal;

@@ -1,0 +1,232 @@
+//! Sealing and opening files that stand in memory.
+
+ghost use Rattle.std.specs.Prelude.{◌≡◌, ◌+◌, ◌-◌, ◌*◌, ◌^◌, ◌<◌, ◌≤◌, ◌↔◌, ◌++◌, length, vec_capacity, vec_len, take, drop, IsOk, IfErr, OnOk, OnErr};
+ghost use Rattle.sealed_file.specs.Format.{last_piece, piece, sealed_chunk, sealed_file};
+ghost use Rattle.sealed_file.specs.Opening.{HasTag, IsSealed, opened_chunk, opened_file};
+ghost use Rattle.sealed_file.specs.Refusals.{ChunkRefuses, FailsInMemory, OpenRefuses, SealRefuses};
+
+use crate::chunk::{
+    CHUNK_LEN, HEADER_LEN, MAX_CHUNKS, PREFIX_LEN, Prefix, SEALED_CHUNK_LEN, header_of,
+    open_ciphertext, prefix_in, seal_slice,
+};
+use crate::error::FileError;
+use crate::key::FileKey;
+use aead_ciphers::aead::{MAX_TAG_LEN, Tag};
+
+/// The number of the last piece of `len` bytes that are cut into pieces of `size` bytes.
+fn last_piece_of(len: usize, size: usize) -> usize
+    requires { 0 < size }
+    ensures { result ≡ last_piece size len }
+{
+    len.saturating_sub(1) / size
+}
+
+/// The piece of this number of bytes that are cut into pieces of `size` bytes.
+fn piece_of(bytes: &[u8], size: usize, number: u32) -> &[u8]
+    requires { size * number ≤ length bytes.now }
+    ensures { result.now ≡ piece size bytes.now number }
+{
+    let rest = &bytes[size * number as usize..];
+    if rest.len() < size {
+        rest
+    } else {
+        &rest[..size]
+    }
+}
+
+/// Appends bytes that there is room for.
+fn append(bytes: &[u8], out: &mut Vec<u8>)
+    requires { vec_len out.old + length bytes.now ≤ vec_capacity out.old }
+    ensures appended { out.new.items ≡ out.old.items ++ bytes.now }
+    ensures capacity { vec_capacity out.old ≤ vec_capacity out.new }
+{
+    match out.extend_from_slice(bytes) {
+        Ok(()) => {}
+        Err(_) => unreachable!(),
+    }
+}
+
+/// Seals the chunk that `bytes` is from `start` on, at most 64 KiB, and returns its tag.
+fn seal_from(
+    key: &FileKey,
+    prefix: &Prefix,
+    number: u32,
+    is_last: bool,
+    bytes: &mut [u8],
+    start: usize,
+) -> Tag
+    requires start { start ≤ length bytes.old }
+    requires chunk { length bytes.old ≤ start + 65536 }
+    ensures front { take start bytes.new ≡ take start bytes.old }
+    ensures sealed { drop start bytes.new ++ result
+        ≡ sealed_chunk key.now prefix.now number is_last (drop start bytes.old) }
+{
+    seal_slice(key, prefix, number, is_last, &mut bytes[start..])
+}
+
+/// Seals a chunk of at most 64 KiB onto `out`, which has room for it and its tag.
+fn append_sealed(
+    key: &FileKey,
+    prefix: &Prefix,
+    number: u32,
+    is_last: bool,
+    chunk: &[u8],
+    out: &mut Vec<u8>,
+)
+    requires chunk { length chunk.now ≤ 65536 }
+    requires room { vec_len out.old + length chunk.now + 16 ≤ vec_capacity out.old }
+    ensures sealed { out.new.items
+        ≡ out.old.items ++ sealed_chunk key.now prefix.now number is_last chunk.now }
+    ensures capacity { vec_capacity out.old ≤ vec_capacity out.new }
+{
+    let start = out.len();
+    append(chunk, out);
+    let tag = seal_from(key, prefix, number, is_last, out, start);
+    append(tag.as_ref(), out);
+}
+
+/// Seals `file`, and appends the sealed file to `out`. A prefix is for one file under a key.
+///
+/// Fails with `TooLong` where the file has more than `MAX_CHUNKS` chunks, and else with `OutOfMemory` where `out` has
+/// no room for the sealed file and memory is refused. `out` then holds what it did.
+pub fn seal_bytes(
+    key: &FileKey,
+    prefix: [u8; PREFIX_LEN],
+    file: &[u8],
+    out: &mut Vec<u8>,
+) -> Result<(), FileError>
+    ensures few { IsOk result → last_piece 65536 (length file.now) < 2 ^ 32 - 1 }
+    ensures sealed { OnOk result (out.new.items
+        ≡ out.old.items ++ sealed_file key.now prefix file.now) }
+    ensures accepted { let grown = vec_len out.old + length (sealed_file key.now prefix file.now) in
+        grown ≤ vec_capacity out.old
+        → (IsOk result ↔ (last_piece 65536 (length file.now) < 2 ^ 32 - 1)) }
+    ensures refused { let grown = vec_len out.old + length (sealed_file key.now prefix file.now) in
+        IfErr result (λ error.
+        FailsInMemory (vec_capacity out.old < grown) (SealRefuses file.now) error) }
+    ensures kept { OnErr result (out.new.items ≡ out.old.items) }
+{
+    let header = header_of(&prefix);
+    let last = last_piece_of(file.len(), CHUNK_LEN);
+    if last >= MAX_CHUNKS as usize {
+        return Err(FileError::TooLong);
+    }
+    let count = last as u32 + 1;
+    out.reserve(HEADER_LEN + file.len() + count as usize * MAX_TAG_LEN)?;
+    append(header.as_slice(), out);
+    for number in 0..count {
+        let chunk = piece_of(file, CHUNK_LEN, number);
+        append_sealed(key, &prefix, number, number as usize == last, chunk, out);
+    }
+    Ok(())
+}
+
+/// Opens the ciphertext that `bytes` is from `start` on, at most 64 KiB.
+fn open_from(
+    key: &FileKey,
+    prefix: &Prefix,
+    number: u32,
+    is_last: bool,
+    tag: &[u8; MAX_TAG_LEN],
+    bytes: &mut [u8],
+    start: usize,
+) -> Result<(), FileError>
+    requires start { start ≤ length bytes.old }
+    requires chunk { length bytes.old ≤ start + 65536 }
+    ensures front { take start bytes.new ≡ take start bytes.old }
+    ensures accepted { IsOk result
+        ↔ HasTag key.now prefix.now number is_last (drop start bytes.old ++ tag.now) }
+    ensures opened { OnOk result (drop start bytes.new
+        ≡ opened_chunk key.now prefix.now number is_last (drop start bytes.old ++ tag.now)) }
+    ensures refused { IfErr result (λ error.
+        ChunkRefuses key.now prefix.now number is_last (drop start bytes.old ++ tag.now) error) }
+{
+    open_ciphertext(key, prefix, number, is_last, tag, &mut bytes[start..])
+}
+
+/// Opens a sealed chunk of at most 64 KiB and its tag onto `out`, which has room for the message. On an error bytes
+/// that aren't authentic may stand behind what `out` held.
+fn append_opened(
+    key: &FileKey,
+    prefix: &Prefix,
+    number: u32,
+    is_last: bool,
+    sealed: &[u8],
+    out: &mut Vec<u8>,
+) -> Result<(), FileError>
+    requires chunk { length sealed.now ≤ 65552 }
+    requires room { vec_len out.old + (length sealed.now - 16) ≤ vec_capacity out.old }
+    ensures front { take (vec_len out.old) out.new.items ≡ out.old.items }
+    ensures accepted { IsOk result ↔ HasTag key.now prefix.now number is_last sealed.now }
+    ensures opened { OnOk result (out.new.items
+        ≡ out.old.items ++ opened_chunk key.now prefix.now number is_last sealed.now) }
+    ensures refused { IfErr result (λ error.
+        ChunkRefuses key.now prefix.now number is_last sealed.now error) }
+    ensures capacity { vec_capacity out.old ≤ vec_capacity out.new }
+{
+    let Some((ciphertext, tag)) = sealed.split_last_chunk::<MAX_TAG_LEN>() else {
+        return Err(FileError::EndsEarly);
+    };
+    let start = out.len();
+    append(ciphertext, out);
+    open_from(key, prefix, number, is_last, tag, out, start)
+}
+
+/// The length of the messages in the chunks of a sealed file, of which `len` bytes stand behind the header.
+fn opened_len(len: usize) -> usize
+    ensures { let last = last_piece 65552 len in
+        result ≡ 65536 * last + (len - 65552 * last - 16) }
+{
+    let last = last_piece_of(len, SEALED_CHUNK_LEN);
+    last * CHUNK_LEN + (len - last * SEALED_CHUNK_LEN).saturating_sub(MAX_TAG_LEN)
+}
+
+/// `open_bytes` that on an error may leave bytes behind what `out` held.
+fn append_file(key: &FileKey, sealed: &[u8], out: &mut Vec<u8>) -> Result<(), FileError>
+    ensures front { take (vec_len out.old) out.new.items ≡ out.old.items }
+    ensures accepted { IsOk result → IsSealed key.now sealed.now }
+    ensures opened { OnOk result (out.new.items
+        ≡ out.old.items ++ opened_file key.now sealed.now) }
+    ensures refused { let grown = vec_len out.old + length (opened_file key.now sealed.now) in
+        IfErr result (λ error.
+        FailsInMemory (vec_capacity out.old < grown) (OpenRefuses key.now sealed.now) error) }
+{
+    let Some((header, body)) = sealed.split_first_chunk::<HEADER_LEN>() else {
+        return Err(FileError::EndsEarly);
+    };
+    let prefix = prefix_in(header)?;
+    let last = last_piece_of(body.len(), SEALED_CHUNK_LEN);
+    out.reserve(opened_len(body.len()))?;
+    for number in 0..MAX_CHUNKS {
+        let chunk = piece_of(body, SEALED_CHUNK_LEN, number);
+        let is_last = number as usize == last;
+        append_opened(key, &prefix, number, is_last, chunk, out)?;
+        if is_last {
+            return Ok(());
+        }
+    }
+    Err(FileError::TooLong)
+}
+
+/// Opens a sealed file, and appends what was sealed to `out`.
+///
+/// Fails with the errors of `open`, but never with `Io`, and with `OutOfMemory` where `out` has no room for what was
+/// sealed and memory is refused. `out` then holds what it did.
+pub fn open_bytes(key: &FileKey, sealed: &[u8], out: &mut Vec<u8>) -> Result<(), FileError>
+    ensures authentic { IsOk result → IsSealed key.now sealed.now }
+    ensures opened { OnOk result (out.new.items
+        ≡ out.old.items ++ opened_file key.now sealed.now) }
+    ensures accepted { let grown = vec_len out.old + length (opened_file key.now sealed.now) in
+        grown ≤ vec_capacity out.old → (IsOk result ↔ IsSealed key.now sealed.now) }
+    ensures refused { let grown = vec_len out.old + length (opened_file key.now sealed.now) in
+        IfErr result (λ error.
+        FailsInMemory (vec_capacity out.old < grown) (OpenRefuses key.now sealed.now) error) }
+    ensures kept { OnErr result (out.new.items ≡ out.old.items) }
+{
+    let len = out.len();
+    let opened = append_file(key, sealed, out);
+    if opened.is_err() {
+        out.truncate(len);
+    }
+    opened
+}
