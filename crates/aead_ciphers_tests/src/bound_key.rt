@@ -180,7 +180,7 @@ fn gcm_spec_case_4_opened_once(rt: HostRuntime) -> Result<(), Fail> {
 }
 
 #[test]
-fn gcm_spec_case_4_opened_len(rt: HostRuntime) -> Result<(), Fail> {
+fn gcm_spec_case_4_opened_to_front(rt: HostRuntime) -> Result<(), Fail> {
     let mut packet = sealed(rt.alloc(), &CASE_4, &[])?;
     let opened = opening_once(&CASE_4)?.open_within_to_front(aad(&CASE_4), &mut packet, 0..);
     holds(&rt, opened == Ok(60), "the message's length");
