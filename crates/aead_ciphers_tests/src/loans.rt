@@ -2,7 +2,7 @@
 //! what a caller's proof gets from the calls' own.
 
 ghost use Rattle.std.specs.Prelude.{◌≡◌, IsFalse};
-ghost use Rattle.aead_ciphers_base.specs.Aes.{aes};
+ghost use Rattle.aead_ciphers.specs.Aes.{aes};
 ghost use Rattle.aead_ciphers.specs.Gcm.{OpenedAttached};
 ghost use Rattle.aead_ciphers.specs.Steps.{OpenStep};
 ghost use Rattle.aead_ciphers.specs.Values.{aad_bytes};
