@@ -1,4 +1,4 @@
-use Rattle.std.proofs.Common.{◌≡◌, ℕ, ◌-◌, Result, Ok, Err, false, is_ok, IsErr, List, length, refl, sym, ap, subst, ◌∙◌, arith, rules}
+use Rattle.std.proofs.Common.{◌≡◌, ℕ, ◌-◌, Result, Ok, Err, false, is_ok, IsOk, IsErr, List, length, refl, sym, ap, subst, ◌∙◌, arith, rules}
 use Rattle.aead_ciphers_base.specs.Aes.{aes}
 use Rattle.aead_ciphers_base.specs.Bytes.{zero_block}
 use Rattle.aead_ciphers_base.specs.Values.{aad_bytes}
@@ -6,9 +6,9 @@ use Rattle.aead_ciphers.specs.Different.{HasInverse}
 use Rattle.aead_ciphers.specs.Gcm.{Fits, gcm_tag}
 use Rattle.aead_ciphers_tests.proofs.laws.open_changed.Goals as goal
 
-is_refusal : {E : Type 0} (r : Result ℕ E) → ¬ IsOk r → IsErr r
-is_refusal (Ok n) no = absurd (no refl)
-is_refusal (Err x) no = refl
+is_refusal : {E : Type 0} (r : Result ℕ E) → ¬ IsOk r → IsErr r × (is_ok r ≡ false)
+is_refusal (Ok n) not_ok = absurd (not_ok refl)
+is_refusal (Err x) not_ok = (refl, refl)
 
 pub returns : goal.returns
 returns c tag_is some same_aad same_text one =
@@ -27,4 +27,4 @@ returns c tag_is some same_aad same_text one =
     ≡ gcm_tag (aes key) c.args.sealed.now.nonce c.args.aad.now old = cc in
     let refused = is_refusal c.open_in_place_separate_tag_to_front.result (λ yes.
     differ (sym tag_is ∙ sym tag_was ∙ (c.open_in_place_separate_tag_to_front.ensures.opened.accepted.0 yes).2 ∙ tag_now)) in
-    (refused, rw refused at c.open_in_place_separate_tag_to_front.ensures.opened.buffer)
+    (refused.0, rw (refused.1) at c.open_in_place_separate_tag_to_front.ensures.opened.buffer)
