@@ -20,11 +20,11 @@ prefixed_nonce prefix number = prefix ++ to_be_bytes w64 number
 unfoldable pub xored_nonce : List ℕ → ℕ → List ℕ
 xored_nonce iv number = (0 ∷ 0 ∷ 0 ∷ 0 ∷ to_be_bytes w64 number) ⊕ iv
 
--- the nonces that are spent, of the first number and those behind it, as many as were used
+-- the nonces that are spent: as many as were used, from the first number on
 unfoldable pub spent_nonces : (List ℕ → ℕ → List ℕ) → Counting → List (List ℕ)
 spent_nonces nonce s = each_below s.used (λ k. nonce s.fixed (s.first + k))
 
--- the nonce behind those that are spent
+-- the nonce after those that are spent
 abbrev pub next_nonce : (List ℕ → ℕ → List ℕ) → Counting → List ℕ
 next_nonce nonce s = nonce s.fixed (s.first + s.used)
 

@@ -46,7 +46,7 @@ impl From<io::Error> for Fault {
 /// Answers each line of `input` by a line of `output`, and gives the exit status.
 ///
 /// A line ends at LF, and the last one may lack it. `output` is flushed after each answer, before the next line is read, so
-/// a caller may wait for an answer before it sends the next line. The answers stop at the first failure, and what was
+/// a caller may wait for an answer before it sends the next line. Output stops at the first failure, and what was
 /// written by then is a beginning of what would have been written. `output` is flushed in every case.
 pub fn lines<R: BufRead, W: Write>(alloc: Global, input: &mut R, output: &mut W) -> u8
     ensures status { result ≤ 2 }

@@ -23,7 +23,7 @@ pub counter_mode-twice : (cipher : List ℕ → List ℕ) (nonce : List ℕ) (k 
 unfolding counter_mode
 counter_mode-twice cipher nonce k text = xored-xored (counter_byte cipher nonce k) text
 
--- the key stream behind q whole blocks
+-- the key stream after q whole blocks
 pub counter_byte-later : (cipher : List ℕ → List ℕ) (nonce : List ℕ) (k q d : ℕ) → d ≡ 16 * q →
     (i : ℕ) → counter_byte cipher nonce k (d + i) ≡ counter_byte cipher nonce (k + q) i
 unfolding counter_byte

@@ -37,7 +37,7 @@ fn opens(
     }
 }
 
-/// `opens` over the call that answers the plaintext's length.
+/// `opens` over the call that returns the plaintext's length.
 fn opens_to_front(
     key: &LessSafeKey,
     nonce: Nonce,
@@ -150,7 +150,7 @@ fn opens_and_fills(call: Call, in_out: &mut [u8], start: usize) -> Result<bool, 
     })
 }
 
-/// What a call opens: bytes up to the start, and the ciphertext, with the tag behind it unless that is separate.
+/// What a call opens: bytes up to the start, and the ciphertext, with the tag after it unless that is separate.
 fn buffer(alloc: Global, call: Call, start: usize) -> Result<Vec<u8>, Fail> {
     let front = [0xee; 4];
     let mut bytes = sealed(alloc, &CASE_4, front.get(..start).ok_or("a start")?)?;

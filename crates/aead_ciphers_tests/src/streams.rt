@@ -128,7 +128,7 @@ fn each_failed_call_ends_the_run(rt: HostRuntime) -> Result<(), Fail> {
 }
 
 /// Each answer is written before the next line is read. The buffer would hold them all, so the writer's calls are a write
-/// and a flush for each answer: where one of these flushes fails, the answers up to it were written.
+/// and a flush for each answer: where one of these flushes fails, the answers before it and its own were written.
 #[test]
 fn each_answer_is_flushed(rt: HostRuntime) -> Result<(), Fail> {
     for i in 0..8u32 {

@@ -7,7 +7,7 @@ use Rattle.aead_ciphers.specs.Gcm.{Fits, gcm_decrypted, gcm_tag, OpenedAttached}
 use Rattle.aead_ciphers.specs.Counting.{xored_nonce}
 use Rattle.quic_packets.specs.Packet.{HasPayload, IsGenuine, header, opened_packet, payload, tag}
 
--- what is known of a call that opens the packet from its parts: what is behind the header, with the header as AAD
+-- what is known of a call that opens the packet from its parts: what comes after the header, with the header as AAD
 module _ (key iv : List ℕ) (number header_len : ℕ) (old k nonce aad sealed front : List ℕ) (k_is : k ≡ key) (nonce_is : nonce ≡ xored_nonce iv number)
     (aad_is : aad ≡ header header_len old) (sealed_is : sealed ≡ drop header_len old) (front_is : front ≡ header header_len old)
     (has : HasPayload header_len (length old)) where
