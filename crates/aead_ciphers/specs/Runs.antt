@@ -5,6 +5,7 @@ use Rattle.aead_ciphers.specs.Steps.{SealStep, OpenStep}
 use Rattle.aead_ciphers.specs.declared.session.Job.{Job}
 use Rattle.aead_ciphers.specs.declared.session.Operation.{Operation}
 use Rattle.aead_ciphers.specs.declared.session.Operation.TheVariants.{Seal, Open}
+use Rattle.aead_ciphers.specs.declared.session.Outcome.{Outcome}
 use Rattle.aead_ciphers.specs.declared.session.Outcome.TheVariants.{Sealed, Opened, Refused}
 
 -- each old item became the new one, while what is shared went from its first state to its last
@@ -12,30 +13,26 @@ abbrev pub Runs : {K X Y : Type 0} → (K → K → X → Y → Type 0) → K �
 Runs Step first last [] [] = last ≡ first
 Runs {K} Step first last (old ∷ olds) (new ∷ news) =
     (middle : K) × Step first middle old new × Runs Step middle last olds news
-Runs Step first last [] (new ∷ news) = ⊥
-Runs Step first last (old ∷ olds) [] = ⊥
+Runs Step first last olds news = ⊥
+
+-- A call of a bound key: what the key keeps, what the call does, and its outcome, which is `done` or a refusal.
+pub record Calls {N : Type 0} (origin : N → List ℕ) (was now : BoundState N) (done outcome : Outcome) (Step : Bool → Type 0) : Type 0 where
+  pub kept : Keeps origin was now
+  pub accepts : Bool
+  pub step : Step accepts
+  pub outcome_is : outcome ≡ (if accepts then done else Refused)
 
 module _ {S O : Type 0} (s_spent : S → List (List ℕ)) (s_closed : S → Bool) (s_origin : S → List ℕ)
     (o_spent : O → List (List ℕ)) (o_closed : O → Bool) (o_origin : O → List ℕ) where
-  -- a job that seals: the tag is appended to its buffer
-  pub record Seals (was now : BoundState S) (old new : Job) : Type 0 where
-    pub kept : Keeps s_origin was now
-    pub accepts : Bool
-    pub step : SealStep s_spent s_closed (vec_capacity old.buffer < vec_len old.buffer + 16) ⊤ was now
-        old.aad.items old.buffer.items new.buffer.items accepts
-    pub outcome : new.outcome ≡ (if accepts then Sealed else Refused)
-
-  -- a job that opens its buffer from `start` on
-  pub record Opens (start : ℕ) (was now : BoundState O) (old new : Job) : Type 0 where
-    pub kept : Keeps o_origin was now
-    pub accepts : Bool
-    pub step : OpenStep o_spent o_closed was now old.aad.items start old.buffer.items new.buffer.items accepts
-    pub outcome : new.outcome ≡ (if accepts then Opened (length old.buffer.items - 16 - start) else Refused)
-
-  -- what a job does, by its operation; the other key stays as it is
+  -- What a job does, by its operation, and its outcome. A seal appends the tag to the job's buffer, an open is of the
+  -- buffer from `start` on, and the other key stays as it is.
   abbrev pub Performs : Operation → (was now : BoundState S × BoundState O) (old new : Job) → Type 0
-  Performs Seal was now old new = Seals was.0 now.0 old new × (now.1 ≡ was.1)
-  Performs (Open start) was now old new = (now.0 ≡ was.0) × Opens start was.1 now.1 old new
+  Performs Seal was now old new = (now.1 ≡ was.1) × Calls s_origin was.0 now.0 Sealed new.outcome
+      (SealStep s_spent s_closed (vec_capacity old.buffer < vec_len old.buffer + 16) ⊤ was.0 now.0 old.aad.items
+      old.buffer.items new.buffer.items)
+  Performs (Open start) was now old new = (now.0 ≡ was.0) × Calls o_origin was.1 now.1
+      (Opened (length old.buffer.items - 16 - start)) new.outcome
+      (OpenStep o_spent o_closed was.1 now.1 old.aad.items start old.buffer.items new.buffer.items)
 
   -- one job; its operation and its AAD stay
   pub record JobStep (was now : BoundState S × BoundState O) (old new : Job) : Type 0 where
