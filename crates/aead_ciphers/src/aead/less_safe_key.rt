@@ -307,8 +307,12 @@ impl LessSafeKey {
         self.open_within_to_front(nonce, aad, in_out, 0..)
     }
 
-    /// `open_packet_in_place` that lends nothing: it leaves the plaintext after the header, and answers its length. This
-    /// call is this library's own.
+    /// Opens a packet in place, which is a header of `header_len` bytes, then the ciphertext, then the tag of 16 bytes (SP
+    /// 800-38D algorithm 5), and answers the plaintext's length. The header is the AAD and stays, the plaintext takes the
+    /// ciphertext's place, and the tag stays. This call is this library's own.
+    ///
+    /// Refused, with the packet as it came, where it has fewer than `header_len` + 16 bytes, where the lengths don't fit
+    /// (as in `seal_in_place_separate_tag`), and where the tag isn't that of the ciphertext and the header.
     pub fn open_packet_in_place_after_header(
         &self,
         nonce: Nonce,

@@ -114,8 +114,12 @@ impl<N: NonceSequence> OpeningKey<N> {
         self.open_within_to_front(aad, in_out, 0..)
     }
 
-    /// `open_packet_in_place` that lends nothing: it leaves the plaintext after the header, and answers its length. This
-    /// call is this library's own.
+    /// Opens a packet in place under the next nonce, which is a header of `header_len` bytes, then the ciphertext, then the
+    /// tag of 16 bytes (SP 800-38D algorithm 5), and answers the plaintext's length. The header is the AAD and stays, the
+    /// plaintext takes the ciphertext's place, and the tag stays. This call is this library's own.
+    ///
+    /// The sequence is asked first. Refused where it refuses; then, with the nonce spent, where the packet has fewer
+    /// than `header_len` + 16 bytes, where the lengths don't fit, and where the tag is another.
     pub fn open_packet_in_place_after_header(
         &mut self,
         packet: &mut [u8],
