@@ -1,7 +1,7 @@
--- A packet that is sealed in place: a header, then a message, then 16 bytes of room for the tag.
-use Rattle.std.specs.Prelude.{ℕ, ◌+◌, ◌-◌, ◌≤◌, List, ◌++◌, length, take, drop, Result, Ok, Err}
+-- A packet that is sealed or opened in place: a header, then a message, then 16 bytes for the tag.
+use Rattle.std.specs.Prelude.{◌≡◌, ℕ, Bool, ◌+◌, ◌-◌, ◌≤◌, List, ◌++◌, length, take, drop, Result, Ok, Err}
 use Rattle.aead_ciphers_base.specs.Aes.{aes}
-use Rattle.aead_ciphers.specs.Gcm.{Fits, gcm_sealed}
+use Rattle.aead_ciphers.specs.Gcm.{Fits, gcm_sealed, OpenedAttached}
 
 -- n bytes hold a header of h bytes and the room, and the lengths of header and message have a ciphertext
 pub record PacketFits (h n : ℕ) : Type 0 where
@@ -20,3 +20,9 @@ sealed_packet key nonce h packet = take h packet ++ gcm_sealed (aes key) nonce (
 abbrev pub packet_body : {X E : Type 0} → ℕ → List ℕ → Result X E → List ℕ
 packet_body h packet (Ok x) = drop h packet
 packet_body h packet (Err e) = packet_message h packet
+
+-- What opening a packet makes of it, and whether it accepts: the header, which is the AAD, stays, and what stands after
+-- it opens with the tag attached.
+pub record OpenedPacket (key nonce : List ℕ) (h : ℕ) (old : List ℕ) (accepts : Bool) (new : List ℕ) : Type 0 where
+  pub header : take h new ≡ take h old
+  pub body : OpenedAttached (aes key) nonce (take h old) 0 (drop h old) accepts (drop h new)

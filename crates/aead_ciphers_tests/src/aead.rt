@@ -216,9 +216,14 @@ fn every_length_seals_as_reference(rt: HostRuntime) -> Result<(), Fail> {
 
 #[test]
 fn gcm_spec_case_4_as_a_packet(rt: HostRuntime) -> Result<(), Fail> {
-    let mut packet = packet(rt.alloc(), &CASE_4)?;
-    key(&CASE_4)?.seal_packet_in_place(nonce(&CASE_4), &mut packet, CASE_4.aad.len())?;
+    let (key, header_len) = (key(&CASE_4)?, CASE_4.aad.len());
+    let mut in_out = packet(rt.alloc(), &CASE_4, [0; 16])?;
+    key.seal_packet_in_place(nonce(&CASE_4), &mut in_out, header_len)?;
     let wanted = sealed(rt.alloc(), &CASE_4, CASE_4.aad)?;
-    same(&rt, &packet, &wanted, "header, ciphertext and tag");
+    same(&rt, &in_out, &wanted, "header, ciphertext and tag");
+    let opened = key.open_packet_in_place_after_header(nonce(&CASE_4), &mut in_out, header_len);
+    holds(&rt, opened == Ok(60), "the message's length");
+    let wanted = packet(rt.alloc(), &CASE_4, CASE_4.tag)?;
+    same(&rt, &in_out, &wanted, "header, message and tag");
     Ok(())
 }

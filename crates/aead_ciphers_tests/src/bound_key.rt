@@ -138,7 +138,7 @@ fn gcm_spec_case_4_sealed(rt: HostRuntime) -> Result<(), Fail> {
 #[test]
 fn gcm_spec_case_4_as_a_packet(rt: HostRuntime) -> Result<(), Fail> {
     let mut key = sealing_once(&CASE_4)?;
-    let mut packet = packet(rt.alloc(), &CASE_4)?;
+    let mut packet = packet(rt.alloc(), &CASE_4, [0; 16])?;
     let refused = key.seal_packet_in_place(&mut packet, 81);
     holds(&rt, refused.is_err(), "no room");
     key.seal_packet_in_place(&mut packet, CASE_4.aad.len())?;
@@ -176,6 +176,24 @@ fn gcm_spec_case_4_opened_once(rt: HostRuntime) -> Result<(), Fail> {
     let opened = key.open_within(aad(&CASE_4), &mut packet, 0..);
     holds(&rt, opened.is_err(), "the nonce is spent");
     same(&rt, &packet, &sealed, "the buffer stays");
+    Ok(())
+}
+
+/// A header that is longer than the packet is refused, with the nonce spent.
+#[test]
+fn gcm_spec_case_4_opened_as_a_packet(rt: HostRuntime) -> Result<(), Fail> {
+    let mut in_out = sealed(rt.alloc(), &CASE_4, CASE_4.aad)?;
+    let mut key = opening_once(&CASE_4)?;
+    let opened = key.open_packet_in_place_after_header(&mut in_out, CASE_4.aad.len());
+    holds(&rt, opened == Ok(60), "the message's length");
+    let wanted = packet(rt.alloc(), &CASE_4, CASE_4.tag)?;
+    same(&rt, &in_out, &wanted, "header, message and tag");
+    let mut key = opening_once(&CASE_4)?;
+    let opened = key.open_packet_in_place_after_header(&mut in_out, 97);
+    holds(&rt, opened.is_err(), "too long a header");
+    let mut in_out = sealed(rt.alloc(), &CASE_4, CASE_4.aad)?;
+    let opened = key.open_packet_in_place_after_header(&mut in_out, CASE_4.aad.len());
+    holds(&rt, opened.is_err(), "the nonce is spent");
     Ok(())
 }
 

@@ -65,11 +65,11 @@ pub(crate) fn sealed(alloc: Global, case: &Case, front: &[u8]) -> Result<Vec<u8>
     Ok(bytes)
 }
 
-/// The AAD as a header, the message, and room for the tag.
-pub(crate) fn packet(alloc: Global, case: &Case) -> Result<Vec<u8>, Fail> {
+/// The AAD as a header, the message, and then the room for the tag, or the tag.
+pub(crate) fn packet(alloc: Global, case: &Case, tag: [u8; MAX_TAG_LEN]) -> Result<Vec<u8>, Fail> {
     let mut packet = case.aad.to_vec(alloc)?;
     packet.extend_from_slice(case.message)?;
-    packet.extend_from_slice(&[0; MAX_TAG_LEN])?;
+    packet.extend_from_slice(&tag)?;
     Ok(packet)
 }
 

@@ -1,8 +1,9 @@
 //! `quic_packets`: the packets of RFC 9001 appendix A, both ways, and what no clause says.
 
 ghost use Rattle.std.specs.Prelude.{◌≡◌, ◌-◌, ◌↔◌, length, take, IsOk, OnOk};
+ghost use Rattle.aead_ciphers.specs.Packet.{PacketFits};
 ghost use Rattle.quic_packets.specs.Header.{HasSample};
-ghost use Rattle.quic_packets.specs.Packet.{CarriesNumber, HasNumber, HasPayload, IsNumber};
+ghost use Rattle.quic_packets.specs.Packet.{CarriesNumber, HasNumber, IsNumber};
 
 use crate::checks::same;
 use aead_ciphers::aead::{AES_128_GCM, AES_256_GCM, quic};
@@ -74,7 +75,7 @@ fn there_and_back(
 ) -> Result<usize, PacketError>
     requires key { receiver.now.bytes ≡ sender.old.bytes }
     requires iv { receiver.now.iv ≡ sender.old.iv }
-    ensures accepted { IsOk result ↔ (HasPayload number.end (length packet.old)
+    ensures accepted { IsOk result ↔ (PacketFits number.end (length packet.old)
         × HasNumber number.start number.end packet.old × IsNumber sender.old.next
         × CarriesNumber sender.old.next number.start number.end packet.old
         × HasSample number.start (length packet.old)) }

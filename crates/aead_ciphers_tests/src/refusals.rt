@@ -52,6 +52,21 @@ fn each_flipped_bit_of_a_packet_is_refused(rt: HostRuntime) -> Result<(), Fail> 
 }
 
 #[test]
+fn each_flipped_bit_of_a_packet_with_a_header_is_refused(rt: HostRuntime) -> Result<(), Fail> {
+    let key = key(&CASE_4)?;
+    let header_len = CASE_4.aad.len();
+    for bit in 0..8 * 96 {
+        let mut packet = sealed(rt.alloc(), &CASE_4, CASE_4.aad)?;
+        flip(&mut packet, bit);
+        let before = packet.clone()?;
+        let opened = key.open_packet_in_place_after_header(nonce(&CASE_4), &mut packet, header_len);
+        holds(&rt, opened.is_err(), "a refusal");
+        same(&rt, &packet, &before, "the buffer");
+    }
+    Ok(())
+}
+
+#[test]
 fn each_flipped_bit_of_the_aad_is_refused(rt: HostRuntime) -> Result<(), Fail> {
     let key = key(&CASE_4)?;
     let mut packet = packet(rt.alloc())?;

@@ -1,3 +1,2 @@
 pub mod HeaderLemmas
-pub mod OpenLemmas
 pub mod PacketLemmas

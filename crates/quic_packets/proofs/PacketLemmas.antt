@@ -1,19 +1,20 @@
 -- Opening undoes sealing, also of a packet whose header was masked and unmasked in between.
-use Rattle.std.proofs.Common.{◌≡◌, ℕ, ◌+◌, ◌-◌, ◌<◌, List, ◌++◌, length, get_or, take, drop, sym, ap, ap₂, subst, ◌∙◌, append_assoc, length-append, length-drop, arith}
+use Rattle.std.proofs.Common.{◌≡◌, ℕ, ◌+◌, ◌-◌, ◌<◌, List, ◌++◌, length, get_or, take, drop, sym, ap, ap₂, subst, ◌∙◌, length-append, length-drop, arith}
 use Rattle.std.proofs.Math.Seq.{take-add}
 use Rattle.std.proofs.lemmas.List.{drop_at, get_or-take, length-take-le, take_at}
 use Rattle.aead_ciphers_base.specs.Aes.{aes}
 use Rattle.aead_ciphers.specs.Gcm.{gcm_decrypted, gcm_encrypted, gcm_tag}
 use Rattle.aead_ciphers.specs.HeaderProtection.{HeaderKey}
 use Rattle.aead_ciphers.specs.Counting.{xored_nonce}
+use Rattle.aead_ciphers.specs.Packet.{PacketFits, packet_message, sealed_packet}
 use Rattle.aead_ciphers.proofs.MessageLaws.{decrypted-encrypted, length-aes_encrypted, length-aes_tag}
 use Rattle.quic_packets.specs.Header.{HasSample, Protected, Unprotected, number_len}
 use Rattle.quic_packets.specs.Keys.{Receiving}
 use Rattle.quic_packets.specs.Laws.{OpensTo}
-use Rattle.quic_packets.specs.Packet.{HasNumber, HasPayload, header, payload, sealed_packet, tag}
+use Rattle.quic_packets.specs.Packet.{HasNumber}
 use Rattle.quic_packets.proofs.HeaderLemmas.{unprotected_back}
 
-module _ (receiver : Receiving) (number h : ℕ) (packet : List ℕ) (has : HasPayload h (length packet)) where
+module _ (receiver : Receiving) (number h : ℕ) (packet : List ℕ) (has : PacketFits h (length packet)) where
   abbrev key : List ℕ
   key = receiver.bytes
 
@@ -21,62 +22,56 @@ module _ (receiver : Receiving) (number h : ℕ) (packet : List ℕ) (has : HasP
   nonce = xored_nonce receiver.iv number
 
   abbrev text : List ℕ
-  text = payload h packet
+  text = packet_message h packet
 
   abbrev body : List ℕ
   body = gcm_encrypted (aes key) nonce text
 
   abbrev its_tag : List ℕ
-  its_tag = gcm_tag (aes key) nonce (header h packet) body
+  its_tag = gcm_tag (aes key) nonce (take h packet) body
 
   abbrev whole : List ℕ
-  whole = sealed_packet key receiver.iv number h packet
+  whole = sealed_packet key nonce h packet
 
-  length-header : length (header h packet) ≡ h
-  length-header = length-take-le h packet (omega (arith, has.tag))
+  length-header : length (take h packet) ≡ h
+  length-header = length-take-le h packet (omega (arith, has.room))
 
-  length-body : length body ≡ length packet - 16 - h
-  length-body =
-      length-aes_encrypted key nonce text
-      ∙ length-take-le (length packet - 16 - h) (drop h packet) (omega (arith, length-drop h packet))
+  length-text : length text ≡ length packet - 16 - h
+  length-text = length-take-le (length packet - 16 - h) (drop h packet) (omega (arith, length-drop h packet))
 
-  length-front : length (header h packet ++ body) ≡ length packet - 16
-  length-front = omega (arith, length-append (header h packet) body, length-header, length-body, has.tag)
+  front : take h whole ≡ take h packet
+  front = take_at (take h packet) (body ++ its_tag) h length-header
 
-  assembled : header h packet ++ body ++ its_tag ≡ whole
-  assembled = append_assoc (header h packet) body its_tag
+  behind : drop h whole ≡ body ++ its_tag
+  behind = drop_at (take h packet) (body ++ its_tag) h length-header
+
+  length-behind : length (drop h whole) ≡ length body + 16
+  length-behind = ap length behind ∙ length-append body its_tag ∙ ap (λ (n : ℕ). length body + n) (length-aes_tag key nonce (take h packet) body)
+
+  middle : take (length (drop h whole) - 16) (drop h whole) ≡ body
+  middle = ap (take (length (drop h whole) - 16)) behind ∙ take_at body its_tag (length (drop h whole) - 16) (omega (arith, length-behind))
+
+  end : drop (length (drop h whole) - 16) (drop h whole) ≡ its_tag
+  end = ap (drop (length (drop h whole) - 16)) behind ∙ drop_at body its_tag (length (drop h whole) - 16) (omega (arith, length-behind))
 
   length-whole : length whole ≡ length packet
   length-whole =
-      sym (ap length assembled) ∙ length-append (header h packet ++ body) its_tag
-      ∙ omega (arith, length-front, length-aes_tag key nonce (header h packet) body, has.tag)
+      length-append (take h packet) (body ++ its_tag)
+      ∙ omega (arith, length-header, ap length behind, length-behind, length-aes_encrypted key nonce text, length-text, has.room)
 
-  front : header h whole ≡ header h packet
-  front = take_at (header h packet) (body ++ its_tag) h length-header
-
-  middle : payload h whole ≡ body
-  middle =
-      ap (λ (n : ℕ). take (n - 16 - h) (drop h whole)) length-whole
-      ∙ ap (take (length packet - 16 - h)) (drop_at (header h packet) (body ++ its_tag) h length-header)
-      ∙ take_at body its_tag (length packet - 16 - h) length-body
-
-  end : tag whole ≡ its_tag
-  end =
-      ap (λ (n : ℕ). drop (n - 16) whole) length-whole ∙ ap (drop (length packet - 16)) (sym assembled)
-      ∙ drop_at (header h packet ++ body) its_tag (length packet - 16) length-front
-
-  plain : header h packet ++ text ≡ take (length packet - 16) packet
-  plain = sym (take-add h (length packet - 16 - h) packet) ∙ ap (λ (n : ℕ). take n packet) (omega (arith, has.tag))
+  -- what stands before the last 16 bytes: a header, and what stands after it
+  before_tag : (xs : List ℕ) → take (length packet - 16) xs ≡ take h xs ++ take (length packet - 16 - h) (drop h xs)
+  before_tag xs = ap (λ (n : ℕ). take n xs) (omega (arith, has.room)) ∙ take-add h (length packet - 16 - h) xs
 
   pub sealed_opens : OpensTo receiver number h whole packet
   sealed_opens = record {
-    payload = subst (HasPayload h) (sym length-whole) has;
+    fits = subst (PacketFits h) (sym length-whole) has;
     genuine = end ∙ sym (ap₂ (gcm_tag (aes key) nonce) front middle);
-    comes_back =
-        ap (take (length packet - 16))
-        (ap₂ (λ (a b : List ℕ). a ++ b ++ tag whole) front (ap (gcm_decrypted (aes key) nonce) middle ∙ decrypted-encrypted key nonce text)
-        ∙ ap (λ (xs : List ℕ). xs ++ tag whole) plain)
-        ∙ take_at (take (length packet - 16) packet) (tag whole) (length packet - 16) (length-take-le (length packet - 16) packet (omega arith));
+    comes_back = λ opened it.
+        let plain = ap (gcm_decrypted (aes key) nonce) middle ∙ decrypted-encrypted key nonce text in
+        before_tag opened ∙ ap₂ (λ (xs ys : List ℕ). xs ++ ys) (it.header ∙ front)
+        (ap (take (length packet - 16 - h)) it.body.buffer ∙ take_at _ _ (length packet - 16 - h) (ap length plain ∙ length-text) ∙ plain)
+        ∙ sym (before_tag packet);
   }
 
   -- the first byte of a sealed packet gives its number the same length

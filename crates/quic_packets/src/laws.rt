@@ -1,9 +1,11 @@
 //! Laws of the definitions: functions that answer nothing, whose contracts state a law for their arguments.
 
 ghost use Rattle.std.specs.Prelude.{◌≡◌, ℕ, List, length};
+ghost use Rattle.aead_ciphers.specs.Counting.{xored_nonce};
+ghost use Rattle.aead_ciphers.specs.Packet.{PacketFits, sealed_packet};
 ghost use Rattle.quic_packets.specs.Header.{HasSample, Protected, Unprotected};
 ghost use Rattle.quic_packets.specs.Laws.{OpensTo};
-ghost use Rattle.quic_packets.specs.Packet.{HasNumber, HasPayload, sealed_packet};
+ghost use Rattle.quic_packets.specs.Packet.{HasNumber};
 
 use crate::header::HeaderKey;
 use crate::receive::ReceiveKey;
@@ -21,9 +23,9 @@ pub fn unprotect_undoes_protect(key: &HeaderKey, packet: &[u8], number_at: usize
 pub fn open_undoes_seal(sender: &SendKey, receiver: &ReceiveKey, packet: &[u8], header_len: usize)
     requires key { receiver.now.bytes ≡ sender.now.bytes }
     requires iv { receiver.now.iv ≡ sender.now.iv }
-    ensures { HasPayload header_len (length packet.now)
+    ensures { PacketFits header_len (length packet.now)
         → OpensTo receiver.now sender.now.next header_len (sealed_packet sender.now.bytes
-        sender.now.iv sender.now.next header_len packet.now) packet.now }
+        (xored_nonce sender.now.iv sender.now.next) header_len packet.now) packet.now }
 {}
 
 /// A packet that is sealed, protected, unprotected and opened comes back, for every packet and number and under every
@@ -38,10 +40,10 @@ pub fn packet_comes_back(
 )
     requires key { receiver.now.bytes ≡ sender.now.bytes }
     requires iv { receiver.now.iv ≡ sender.now.iv }
-    ensures { HasPayload header_len (length packet.now)
+    ensures { PacketFits header_len (length packet.now)
         → HasNumber number_at header_len packet.now → HasSample number_at (length packet.now)
         → (wire back : List ℕ) → Protected header_key.now number_at (sealed_packet
-        sender.now.bytes sender.now.iv sender.now.next header_len packet.now) wire
+        sender.now.bytes (xored_nonce sender.now.iv sender.now.next) header_len packet.now) wire
         → Unprotected header_key.now number_at wire back → HasNumber number_at header_len back
         × OpensTo receiver.now sender.now.next header_len back packet.now }
 {}

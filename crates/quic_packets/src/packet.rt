@@ -2,7 +2,7 @@
 
 ghost use Rattle.std.specs.Prelude.{◌≡◌, ◌+◌, ◌-◌, ◌<◌, ◌≤◌, ◌↔◌, length, IsOk, IfOk, IsErrOf};
 ghost use Rattle.aead_ciphers.specs.Gcm.{Fits};
-ghost use Rattle.quic_packets.specs.Packet.{HasPayload};
+ghost use Rattle.aead_ciphers.specs.Packet.{PacketFits};
 
 use crate::error::PacketError;
 use aead_ciphers::aead::MAX_TAG_LEN;
@@ -18,7 +18,7 @@ const MAX_HEADER_LEN: usize = (1 << 61) - 1;
 
 /// The bytes between the header and the tag.
 pub(crate) fn payload_len(packet: &[u8], header_len: usize) -> Result<usize, PacketError>
-    ensures accepted { IsOk result ↔ HasPayload header_len (length packet.now) }
+    ensures accepted { IsOk result ↔ PacketFits header_len (length packet.now) }
     ensures too_short { IsErrOf result PacketError.TooShort ↔ (length packet.now < header_len + 16) }
     ensures too_long { IsErrOf result PacketError.TooLong
         ↔ ((header_len + 16 ≤ length packet.now) × ¬ Fits header_len (length packet.now - 16 - header_len)) }

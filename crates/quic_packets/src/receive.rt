@@ -1,13 +1,15 @@
 //! Opening packets (RFC 9001 section 5.3).
 
-ghost use Rattle.std.specs.Prelude.{◌≡◌, ◌≢◌, ◌+◌, ◌-◌, ◌^◌, ◌<◌, ◌≤◌, ◌↔◌, length, IsOk, IfOk, IsOkUnless, IsErrOf, OnOk, OnErr};
+ghost use Rattle.std.specs.Prelude.{◌≡◌, ◌≢◌, ◌+◌, ◌-◌, ◌^◌, ◌<◌, ◌≤◌, ◌↔◌, true, length, IsOk, IfOk, IsOkUnless, IsErrOf, OnOk, OnErr};
 ghost use Rattle.aead_ciphers.specs.Algorithm.{key_len};
+ghost use Rattle.aead_ciphers.specs.Counting.{xored_nonce};
 ghost use Rattle.aead_ciphers.specs.Gcm.{Fits};
-ghost use Rattle.quic_packets.specs.Packet.{HasPayload, IsGenuine, IsNumber, opened_packet};
+ghost use Rattle.aead_ciphers.specs.Packet.{PacketFits, OpenedPacket};
+ghost use Rattle.quic_packets.specs.Packet.{IsGenuine, IsNumber};
 
 use crate::error::PacketError;
 use crate::packet::{NUMBERS_END, payload_len};
-use aead_ciphers::aead::{Aad, Algorithm, LessSafeKey, NONCE_LEN, UnboundKey, nonce_of};
+use aead_ciphers::aead::{Algorithm, LessSafeKey, NONCE_LEN, UnboundKey, nonce_of};
 use std::marker::Model;
 
 /// A key that opens packets, in any order and each as often as it comes.
@@ -57,19 +59,19 @@ impl ReceiveKey {
         header_len: usize,
         number: u64,
     ) -> Result<usize, PacketError>
-        ensures accepted { IsOk result ↔ (HasPayload header_len (length packet.old) × IsNumber number
-            × IsGenuine self.now.bytes self.now.iv number header_len packet.old) }
+        ensures accepted { IsOk result ↔ (PacketFits header_len (length packet.old) × IsNumber number
+            × IsGenuine self.now.bytes (xored_nonce self.now.iv number) header_len packet.old) }
         ensures too_short { IsErrOf result PacketError.TooShort ↔ (length packet.old < header_len + 16) }
         ensures too_long { IsErrOf result PacketError.TooLong
             ↔ ((header_len + 16 ≤ length packet.old)
             × ¬ Fits header_len (length packet.old - 16 - header_len)) }
         ensures ended { IsErrOf result PacketError.NumbersEnded
-            ↔ (HasPayload header_len (length packet.old) × (2 ^ 62 ≤ number)) }
+            ↔ (PacketFits header_len (length packet.old) × (2 ^ 62 ≤ number)) }
         ensures forged { IsErrOf result PacketError.Refused
-            ↔ (HasPayload header_len (length packet.old) × IsNumber number
-            × ¬ IsGenuine self.now.bytes self.now.iv number header_len packet.old) }
-        ensures opened { OnOk result (packet.new
-            ≡ opened_packet self.now.bytes self.now.iv number header_len packet.old) }
+            ↔ (PacketFits header_len (length packet.old) × IsNumber number
+            × ¬ IsGenuine self.now.bytes (xored_nonce self.now.iv number) header_len packet.old) }
+        ensures opened { OnOk result (OpenedPacket self.now.bytes (xored_nonce self.now.iv number)
+            header_len packet.old true packet.new) }
         ensures payload_len { IfOk result (λ n. n ≡ length packet.old - 16 - header_len) }
         ensures kept { OnErr result (packet.new ≡ packet.old) }
     {
@@ -77,11 +79,10 @@ impl ReceiveKey {
         if number >= NUMBERS_END {
             return Err(PacketError::NumbersEnded);
         }
-        let (header, sealed) = packet.split_at_mut(header_len);
         let nonce = nonce_of(&self.iv, number);
         match self
             .key
-            .open_in_place_to_front(nonce, Aad::from(&*header), sealed)
+            .open_packet_in_place_after_header(nonce, packet, header_len)
         {
             Ok(_) => Ok(payload_len),
             Err(_) => Err(PacketError::Refused),

@@ -2,9 +2,11 @@
 
 ghost use Rattle.std.specs.Prelude.{◌≡◌, ◌≢◌, ◌+◌, ◌-◌, ◌^◌, ◌<◌, ◌≤◌, ◌↔◌, length, slice_index, IsOk, IfOk, IsErrOf, IsTrue, OnOk, OnErr};
 ghost use Rattle.aead_ciphers.specs.Algorithm.{key_len};
+ghost use Rattle.aead_ciphers.specs.Counting.{xored_nonce};
 ghost use Rattle.aead_ciphers.specs.Gcm.{Fits};
+ghost use Rattle.aead_ciphers.specs.Packet.{PacketFits, sealed_packet};
 ghost use Rattle.quic_packets.specs.Header.{number_len};
-ghost use Rattle.quic_packets.specs.Packet.{CarriesNumber, HasNumber, HasPayload, IsNumber, low_bytes, sealed_packet};
+ghost use Rattle.quic_packets.specs.Packet.{CarriesNumber, HasNumber, IsNumber, low_bytes};
 
 use crate::error::PacketError;
 use crate::header::number_len;
@@ -79,24 +81,24 @@ impl SendKey {
     ///
     /// `number` is where the header holds the packet number: it ends the header.
     pub fn seal(&mut self, packet: &mut [u8], number: Range<usize>) -> Result<u64, PacketError>
-        ensures accepted { IsOk result ↔ (HasPayload number.end (length packet.old)
+        ensures accepted { IsOk result ↔ (PacketFits number.end (length packet.old)
             × HasNumber number.start number.end packet.old × IsNumber self.old.next
             × CarriesNumber self.old.next number.start number.end packet.old) }
         ensures too_short { IsErrOf result PacketError.TooShort ↔ (length packet.old < number.end + 16) }
         ensures too_long { IsErrOf result PacketError.TooLong ↔ ((number.end + 16 ≤ length packet.old)
             × ¬ Fits number.end (length packet.old - 16 - number.end)) }
         ensures first_byte { IsErrOf result PacketError.NumberAtFirstByte
-            ↔ (HasPayload number.end (length packet.old) × (number.start ≡ 0)) }
+            ↔ (PacketFits number.end (length packet.old) × (number.start ≡ 0)) }
         ensures number_length { IsErrOf result PacketError.NumberLength
-            ↔ (HasPayload number.end (length packet.old) × (0 < number.start)
+            ↔ (PacketFits number.end (length packet.old) × (0 < number.start)
             × (number.end ≢ number.start + number_len (slice_index packet.old 0))) }
-        ensures ended { IsErrOf result PacketError.NumbersEnded ↔ (HasPayload number.end (length packet.old)
+        ensures ended { IsErrOf result PacketError.NumbersEnded ↔ (PacketFits number.end (length packet.old)
             × HasNumber number.start number.end packet.old × (self.old.next ≡ 2 ^ 62)) }
         ensures other_number { IsErrOf result PacketError.OtherNumber
-            ↔ (HasPayload number.end (length packet.old) × HasNumber number.start number.end packet.old
+            ↔ (PacketFits number.end (length packet.old) × HasNumber number.start number.end packet.old
             × IsNumber self.old.next × ¬ CarriesNumber self.old.next number.start number.end packet.old) }
         ensures sealed { OnOk result (packet.new
-            ≡ sealed_packet self.old.bytes self.old.iv self.old.next number.end packet.old) }
+            ≡ sealed_packet self.old.bytes (xored_nonce self.old.iv self.old.next) number.end packet.old) }
         ensures number { IfOk result (λ n. n ≡ self.old.next) }
         ensures counted { OnOk result (self.new ≡ record self.old { next = self.old.next + 1 }) }
         ensures kept { OnErr result (packet.new ≡ packet.old) }

@@ -7,7 +7,7 @@ ghost use Rattle.aead_ciphers_base.specs.Aes.{aes};
 ghost use Rattle.aead_ciphers.specs.Algorithm.{key_len};
 ghost use Rattle.aead_ciphers.specs.Gcm.{Fits, gcm_encrypted, gcm_decrypted, gcm_tag, gcm_sealed, Opened, OpenedAttached};
 ghost use Rattle.aead_ciphers.specs.Lending.{LendsFront, lent_buffer};
-ghost use Rattle.aead_ciphers.specs.Packet.{PacketFits, sealed_packet};
+ghost use Rattle.aead_ciphers.specs.Packet.{PacketFits, sealed_packet, OpenedPacket};
 
 use crate::aead::algorithm::Algorithm;
 use crate::aead::in_out::InOut;
@@ -305,6 +305,28 @@ impl LessSafeKey {
         ensures refused { OnErr result (in_out.new ≡ in_out.old) }
     {
         self.open_within_to_front(nonce, aad, in_out, 0..)
+    }
+
+    /// Opens a packet in place, which is a header of `header_len` bytes, then the ciphertext, then the tag of 16 bytes (SP
+    /// 800-38D algorithm 5), and answers the plaintext's length. The header is the AAD and stays, the plaintext takes the
+    /// ciphertext's place, and the tag stays. This call is this library's own.
+    ///
+    /// Refused, with the packet as it came, where it has fewer than `header_len` + 16 bytes, where the lengths don't fit
+    /// (as in `seal_in_place_separate_tag`), and where the tag isn't that of the ciphertext and the header.
+    pub fn open_packet_in_place_after_header(
+        &self,
+        nonce: Nonce,
+        packet: &mut [u8],
+        header_len: usize,
+    ) -> Result<usize, Unspecified>
+        ensures opened { OpenedPacket self.now.bytes nonce header_len packet.old (is_ok result) packet.new }
+        ensures count { IfOk result (λ n. n ≡ length packet.old - 16 - header_len) }
+        ensures refused { OnErr result (packet.new ≡ packet.old) }
+    {
+        let Some((header, body)) = packet.split_at_mut_checked(header_len) else {
+            return Err(Unspecified);
+        };
+        self.open_in_place_to_front(nonce, Aad::from(&*header), body)
     }
 }
 

@@ -7,6 +7,7 @@ ghost use Rattle.aead_ciphers.specs.Gcm.{gcm_decrypted, OpenedAttached};
 ghost use Rattle.aead_ciphers.specs.BoundState.{Keeps};
 ghost use Rattle.aead_ciphers.specs.Lending.{LendsFront, lent_buffer};
 ghost use Rattle.aead_ciphers.specs.NonceSequence.{UnderNext};
+ghost use Rattle.aead_ciphers.specs.Packet.{packet_message, OpenedPacket};
 ghost use Rattle.aead_ciphers.specs.Steps.{OpenStep};
 
 use crate::aead::lend::lend_plaintext;
@@ -111,6 +112,35 @@ impl<N: NonceSequence> OpeningKey<N> {
             (N.refuses self.old.sequence self.new.sequence ⊎ N.gives self.old.sequence self.new.sequence) }
     {
         self.open_within_to_front(aad, in_out, 0..)
+    }
+
+    /// Opens a packet in place under the next nonce, which is a header of `header_len` bytes, then the ciphertext, then the
+    /// tag of 16 bytes (SP 800-38D algorithm 5), and answers the plaintext's length. The header is the AAD and stays, the
+    /// plaintext takes the ciphertext's place, and the tag stays. This call is this library's own.
+    ///
+    /// The sequence is asked first. Refused where it refuses; then, with the nonce spent, where the packet has fewer
+    /// than `header_len` + 16 bytes, where the lengths don't fit, and where the tag is another.
+    pub fn open_packet_in_place_after_header(
+        &mut self,
+        packet: &mut [u8],
+        header_len: usize,
+    ) -> Result<usize, Unspecified>
+        ensures kept { Keeps N.origin self.old self.new }
+        ensures step { OpenStep N.spent N.is_closed self.old self.new (take header_len packet.old)
+            0 (drop header_len packet.old) (drop header_len packet.new) (is_ok result) }
+        ensures header { take header_len packet.new ≡ take header_len packet.old }
+        ensures count { IfOk result (λ n. n ≡ length packet.old - 16 - header_len) }
+        ensures opened { ¬ N.refuses self.old.sequence self.new.sequence → UnderNext (N.is_next self.old.sequence) (λ nonce.
+            OpenedPacket self.old.key.bytes nonce header_len packet.old (is_ok result) packet.new) }
+        ensures plaintext { OnOk result (UnderNext (N.is_next self.old.sequence) (λ nonce. packet_message header_len packet.new
+            ≡ gcm_decrypted (aes self.old.key.bytes) nonce (packet_message header_len packet.old))) }
+        ensures refused { OnErr result (packet.new ≡ packet.old) }
+        ensures gives { OnOk result (N.gives self.old.sequence self.new.sequence) }
+        ensures stands { OnErr result
+            (N.refuses self.old.sequence self.new.sequence ⊎ N.gives self.old.sequence self.new.sequence) }
+    {
+        self.key
+            .open_packet_in_place_after_header(self.nonce_sequence.advance()?, packet, header_len)
     }
 
     /// Opens the buffer from byte `ciphertext_and_tag.start` on under the next nonce, and lends the plaintext, which
