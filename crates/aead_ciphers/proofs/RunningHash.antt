@@ -1,19 +1,18 @@
 -- The running hash: block by block, in chunks of a text, and the tag at its end.
-use Rattle.std.proofs.Common.{◌≡◌, ℕ, ◌+◌, ◌-◌, ◌*◌, ◌/◌, ◌≤◌, List, [], ◌∷◌, ◌++◌, length, take, drop, bit_xor, sym, ap, ap₂, subst, ◌∙◌, arith, append_assoc}
+use Rattle.std.proofs.Common.{◌≡◌, ℕ, ◌+◌, ◌*◌, ◌/◌, ◌%◌, ◌≤◌, List, Bool, true, false, [], ◌∷◌, ◌++◌, length, take, drop, bit_xor, refl, sym, ap, ap₂, subst, ◌∙◌, arith, append_assoc}
 use Rattle.std.proofs.Common.{append-nil}
 use Rattle.std.specs.Int.{to_be_bytes, w128}
 use Rattle.std.proofs.Math.Seq.{take-add}
-use Rattle.std.proofs.lemmas.List.{length-drop, length-take-le, take-append-drop}
-use Rattle.aead_ciphers_base.proofs.BufferLemmas.{to_end}
+use Rattle.std.proofs.lemmas.List.{length-take-le, take-append-drop}
 use Rattle.aead_ciphers_base.specs.Blocks.{blocks}
 use Rattle.aead_ciphers_base.specs.Bytes.{◌⊕◌, zero_block}
 use Rattle.aead_ciphers_base.specs.CounterMode.{counter_block}
 use Rattle.aead_ciphers.specs.Gcm.{hashed, length_block, padded_blocks, gcm_tag}
 use Rattle.aead_ciphers.specs.Ghash.{◌•◌, ghash}
-use Rattle.aead_ciphers.specs.HashOf.{HashState, IsHashOf}
+use Rattle.aead_ciphers.specs.HashOf.{Absorbs, HashState, IsHashOf, products_of}
 use Rattle.aead_ciphers.proofs.GhashBytes.{to_be_bytes-xor}
 use Rattle.aead_ciphers.proofs.GhashLaws.{AllSized-append, ghash_more}
-use Rattle.aead_ciphers.proofs.PaddedBlocks.{blocks-append, padded_blocks-append}
+use Rattle.aead_ciphers.proofs.PaddedBlocks.{blocks-append, padded_blocks-append, padded_blocks_none}
 
 -- one block more, as the code takes it in: h, xi and the block are the bytes of the numbers
 pub hash_one : (h xi block : List ℕ) (key sum number next : ℕ) (done : List (List ℕ))
@@ -45,31 +44,33 @@ front_more h block left rest all xi xi' e step at = (
 pub front_end : (h : List ℕ) (left all : List (List ℕ)) (xi : List ℕ) → left ≡ [] → HashedFront h left all xi → IsHashOf h all xi
 front_end h left all xi e at = subst (λ bs. IsHashOf h bs xi) (sym (append-nil at.0) ∙ ap (λ bs. at.0 ++ bs) (sym e) ∙ at.1) at.2
 
--- what a step takes in under one name of the subkey and of the blocks it does under another
-pub hash_with : {h h' : List ℕ} {bs bs' more more' : List (List ℕ)} {xi xi' : List ℕ} → h' ≡ h → more' ≡ more → bs ++ more ≡ bs'
-    → ((done : List (List ℕ)) → IsHashOf h' done xi → IsHashOf h' (done ++ more') xi') → IsHashOf h bs xi → IsHashOf h bs' xi'
-hash_with {bs = bs} {more' = more'} {xi} {xi'} e em eb step start =
-    rw (← eb, ← em) (subst (λ h. IsHashOf h (bs ++ more') xi') e (step bs (subst (λ h. IsHashOf h bs xi) (sym e) start)))
+-- what a step takes in under one name of the subkey it does under another
+pub hash_with : {h h' : List ℕ} {bs bs' more : List (List ℕ)} {xi xi' : List ℕ} → h' ≡ h → bs ++ more ≡ bs'
+    → ((done : List (List ℕ)) → IsHashOf h' done xi → IsHashOf h' (done ++ more) xi') → IsHashOf h bs xi → IsHashOf h bs' xi'
+hash_with {bs = bs} {more = more} {xi} {xi'} e eb step start =
+    rw (← eb) (subst (λ h. IsHashOf h (bs ++ more) xi') e (step bs (subst (λ h. IsHashOf h bs xi) (sym e) start)))
 
--- the blocks of a text, those of its whole blocks first
-pub all_blocks : (bs : List (List ℕ)) (text : List ℕ) (w q : ℕ) → w ≡ 16 * q → w ≤ length text
-    → bs ++ padded_blocks (take w text) ++ padded_blocks (drop w text) ≡ bs ++ padded_blocks text
-all_blocks bs text w q whole le =
-    let parts = padded_blocks-append q (take w text) (drop w text) (length-take-le w text le ∙ whole) in
-    append_assoc bs (padded_blocks (take w text)) (padded_blocks (drop w text))
-    ∙ ap (λ x. bs ++ x) (sym parts ∙ ap padded_blocks (take-append-drop w text))
+-- a hash that took in nothing
+pub absorbs_none : (s : HashState) → Absorbs s [] s
+absorbs_none s = record {
+  kept = refl;
+  hashed = λ done at. subst (λ bs. IsHashOf s.hash_key bs s.xi) (sym (ap (λ bs. done ++ bs) (padded_blocks_none [] refl) ∙ append-nil done)) at;
+}
 
--- one more chunk of a text was hashed
-pub hash_chunk : {h h' xi xi' part : List ℕ} (bs : List (List ℕ)) (text : List ℕ) (d n q : ℕ)
-    → h' ≡ h → d ≡ 16 * q → d + n ≤ length text → part ≡ take n (drop d text)
-    → ((done : List (List ℕ)) → IsHashOf h' done xi → IsHashOf h' (done ++ padded_blocks part) xi')
-    → IsHashOf h (bs ++ padded_blocks (take d text)) xi → IsHashOf h (bs ++ padded_blocks (take (d + n) text)) xi'
-hash_chunk bs text d n q e whole room ep step start =
+-- the first d bytes of a text were taken in, which are whole blocks, and n more
+pub absorbs_more : {s t u : HashState} (text : List ℕ) (d n : ℕ) → d % 16 ≡ 0 → d + n ≤ length text
+    → Absorbs s (take d text) t → Absorbs t (take n (drop d text)) u → Absorbs s (take (d + n) text) u
+absorbs_more {u = u} text d n whole room first then =
     let front = take d text in
     let more = take n (drop d text) in
-    let parts = padded_blocks-append q front more (length-take-le d text (omega arith) ∙ whole) in
-    let all = append_assoc bs (padded_blocks front) (padded_blocks more) ∙ ap (λ x. bs ++ x) (sym parts ∙ ap padded_blocks (sym (take-add d n text))) in
-    hash_with e (ap padded_blocks ep) all step start
+    let parts = padded_blocks-append (d / 16) front more (length-take-le d text (omega arith) ∙ omega (arith, whole)) in
+    record {
+      kept = then.kept ∙ ap (λ (s : HashState). record s { xi = u.xi }) first.kept;
+      hashed = λ done at.
+          hash_with (ap (λ (s : HashState). s.hash_key) first.kept)
+          (append_assoc done (padded_blocks front) (padded_blocks more) ∙ ap (λ bs. done ++ bs) (sym parts ∙ ap padded_blocks (sym (take-add d n text))))
+          then.hashed (first.hashed done at);
+    }
 
 -- the whole blocks of bytes, and the rest
 pub whole_and_rest : (bs : List (List ℕ)) (input whole rest : List ℕ)
@@ -84,29 +85,27 @@ whole_and_rest bs input whole rest we re =
     ∙ ap (λ u. bs ++ u) (sym (blocks-append q (take w input) (drop w input) size) ∙ ap padded_blocks (take-append-drop w input))
 
 -- what ends a hash of an AAD and a ciphertext answers the tag
-pub tag_found : (cipher : List ℕ → List ℕ) (nonce aad text iv result : List ℕ) (started ended : HashState)
+pub tag_found : (cipher : List ℕ → List ℕ) (nonce aad text : List ℕ) {iv result : List ℕ} {started ended : HashState}
     → started.hash_key ≡ cipher zero_block → started.aad_len ≡ length aad → started.in_out_len ≡ length text → iv ≡ counter_block nonce 1
-    → ended ≡ record started { xi = ended.xi } → IsHashOf started.hash_key (padded_blocks aad ++ padded_blocks text) ended.xi
+    → IsHashOf started.hash_key (padded_blocks aad) started.xi → Absorbs started text ended
     → ((done : List (List ℕ)) → IsHashOf ended.hash_key done ended.xi
     → result ≡ ghash ended.hash_key (done ++ length_block ended.aad_len ended.in_out_len ∷ []) ⊕ cipher iv)
     → result ≡ gcm_tag cipher nonce aad text
 unfolding gcm_tag hashed
-tag_found cipher nonce aad text iv result started ended eh ea en ei kept all finish =
+tag_found cipher nonce aad text {iv} {ended = ended} eh ea en ei start absorbed finish =
     let bs = padded_blocks aad ++ padded_blocks text in
+    let kept = absorbed.kept in
     let same_key = ap (λ (s : HashState). s.hash_key) kept in
     let lengths = ap₂ length_block (ap (λ (s : HashState). s.aad_len) kept ∙ ea) (ap (λ (s : HashState). s.in_out_len) kept ∙ en) in
-    finish bs (subst (λ x. IsHashOf x bs ended.xi) (sym same_key) all)
+    finish bs (subst (λ h. IsHashOf h bs ended.xi) (sym same_key) (absorbed.hashed (padded_blocks aad) start))
     ∙ ap₂ (λ k b. ghash k (bs ++ b ∷ []) ⊕ cipher iv) (same_key ∙ eh) lengths
     ∙ ap (λ i. ghash (cipher zero_block) (bs ++ length_block (length aad) (length text) ∷ []) ⊕ cipher i) ei
 
--- the same of the ciphertext that a buffer has from `start` on
-pub tag_behind : (cipher : List ℕ → List ℕ) (nonce aad : List ℕ) (start : ℕ) (old : List ℕ) {iv result : List ℕ} (started ended : HashState)
-    → started.hash_key ≡ cipher zero_block → started.aad_len ≡ length aad → started.in_out_len ≡ length old - start → iv ≡ counter_block nonce 1
-    → ended ≡ record started { xi = ended.xi }
-    → IsHashOf started.hash_key (padded_blocks aad ++ padded_blocks (take (length old - start) (drop start old))) ended.xi
-    → ((done : List (List ℕ)) → IsHashOf ended.hash_key done ended.xi
-    → result ≡ ghash ended.hash_key (done ++ length_block ended.aad_len ended.in_out_len ∷ []) ⊕ cipher iv)
-    → result ≡ gcm_tag cipher nonce aad (drop start old)
-tag_behind cipher nonce aad start old {iv} {result} started ended eh ea en ei kept all finish =
-    tag_found cipher nonce aad (drop start old) iv result started ended eh ea (en ∙ sym (length-drop start old)) ei kept
-    (subst (λ t. IsHashOf started.hash_key (padded_blocks aad ++ padded_blocks t) ended.xi) (to_end start old) all) finish
+-- the products of no blocks, and of blocks in two parts
+pub products_of-none : (hashes : Bool) → products_of hashes 0 ≡ 0
+products_of-none true = refl
+products_of-none false = refl
+
+pub products_of-sum : (hashes : Bool) (m n sum : ℕ) → m + n ≡ sum → products_of hashes m + products_of hashes n ≡ products_of hashes sum
+products_of-sum true m n sum e = e
+products_of-sum false m n sum e = refl

@@ -1,5 +1,6 @@
 -- What contracts say of a hash that runs over a list of blocks.
-use Rattle.std.specs.Prelude.{◌≡◌, ℕ, List}
+use Rattle.std.specs.Prelude.{◌≡◌, ℕ, Bool, if◌then◌else◌, List, ◌++◌}
+use Rattle.aead_ciphers.specs.Gcm.{padded_blocks}
 use Rattle.aead_ciphers.specs.Ghash.{AllSized, ghash}
 
 -- xi is the GHASH of the blocks, of 16 bytes each, under the hash subkey h
@@ -13,3 +14,13 @@ pub record HashState : Type 0 where
   pub aad_len : ℕ
   pub in_out_len : ℕ
   pub xi : List ℕ
+
+-- the hash took in bytes, in blocks, the last padded with zeros, and nothing else of it changed
+pub record Absorbs (was : HashState) (input : List ℕ) (now : HashState) : Type 0 where
+  pub kept : now ≡ record was { xi = now.xi }
+  pub hashed : (done : List (List ℕ)) → IsHashOf was.hash_key done was.xi
+      → IsHashOf was.hash_key (done ++ padded_blocks input) now.xi
+
+-- the field products of so many blocks, where they are hashed
+abbrev pub products_of : Bool → ℕ → ℕ
+products_of hashes blocks = if hashes then blocks else 0

@@ -4,6 +4,7 @@ use Rattle.std.proofs.Common.{ap₂, ◌∙◌, arith}
 use Rattle.std.proofs.lemmas.List.{append-nil, append_assoc, length-append, length-take-le, length-drop, nil_from_length, take_at, drop-drop}
 use Rattle.aead_ciphers_base.specs.Bytes.{xored, ◌⊕◌}
 use Rattle.aead_ciphers_base.specs.CounterMode.{counter_block, counter_byte, counter_mode, Advances, EncryptsFirst, EncryptsToFront, EncryptsWindow}
+use Rattle.aead_ciphers_base.proofs.BufferLemmas.{window_step, window_input}
 use Rattle.aead_ciphers_base.proofs.StreamLemmas.{all_from, length-xored, stream_front, take-xored, xored-is, xored-xored, advance as xored_advance}
 use Rattle.aead_ciphers_base.proofs.XorLemmas.{xor_comm, xor-take}
 
@@ -62,6 +63,14 @@ pub encrypts_all : (cipher : List ℕ → List ℕ) (counter : List ℕ) (s d : 
     EncryptsFirst cipher counter s d was new → d ≡ length was - s → EncryptsToFront cipher counter s was new
 unfolding counter_mode
 encrypts_all cipher counter s d was new done all = λ nonce k at. done nonce k at ∙ all_from (counter_byte cipher nonce k) s d was all
+
+-- a window from d on, of n bytes and s more, was encrypted to its front
+pub encrypts_window : (cipher : List ℕ → List ℕ) (counter : List ℕ) (s d n size : ℕ) (xs win w : List ℕ) → s + d + n ≤ length xs → size ≡ n + s →
+    win ≡ take size (drop d xs) → EncryptsToFront cipher counter s win w →
+    EncryptsWindow cipher counter s d n xs (take d xs ++ (w ++ drop size (drop d xs)))
+encrypts_window cipher counter s d n size xs win w room sz wine front = λ nonce k at.
+    window_step d n s size xs win w (counter_mode cipher nonce k (take n (drop (s + d) xs))) room sz wine
+    (front nonce k at ∙ ap (λ (x : List ℕ). counter_mode cipher nonce k x ++ drop (length win - s) win) (window_input d n s size xs win sz wine))
 
 -- one block, or less, under the cipher of its counter block
 pub counter_mode-short : (cipher : List ℕ → List ℕ) (nonce : List ℕ) (k : ℕ) (text pad : List ℕ) → length text ≤ 16 → length text ≤ length pad →

@@ -67,9 +67,13 @@ module _ (key : List ℕ) (w round_keys : List (List ℕ)) (nk : ℕ) (len : len
         ∙ ap₂ (λ t k. slice_index (word_at (key_words t k (4 * (nk + 6 + 1) - t)) (4 * j + p % 16 / 4)) (p % 4)) n (sym key_of_is);
   }
 
+-- the words that the round keys of a schedule hold
+abbrev pub schedule_words : List (List ℕ) → ℕ → List (List ℕ)
+schedule_words round_keys rounds = key_words (rounds - 6) (key_of round_keys rounds) (4 * (rounds + 1) - (rounds - 6))
+
 -- the cipher under the words of a schedule is AES under its key
 pub aes_of_schedule : (round_keys : List (List ℕ)) (rounds : ℕ) (b : List ℕ) → 10 ≤ rounds
-    → cipher (key_words (rounds - 6) (key_of round_keys rounds) (4 * (rounds + 1) - (rounds - 6))) rounds b ≡ aes (key_of round_keys rounds) b
+    → cipher (schedule_words round_keys rounds) rounds b ≡ aes (key_of round_keys rounds) b
 unfolding aes key_of
 aes_of_schedule round_keys rounds b h =
     let size = length-each (4 * (rounds - 6)) (λ j. plane_byte (slice_index_or round_keys (j / 16) []) (j % 16)) in

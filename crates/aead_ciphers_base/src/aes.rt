@@ -57,6 +57,19 @@ pub enum KeyBytes<'a> {
     AES_256(&'a [u8; AES_256_KEY_LEN]),
 }
 
+impl<'a> KeyBytes<'a> {
+    /// Its 16 or 32 bytes.
+    fn as_slice(self) -> &'a [u8]
+        ensures bytes { result.now ≡ key_bytes self.entry }
+        ensures len { (length result.now ≡ 16) ⊎ (length result.now ≡ 32) }
+    {
+        match self {
+            KeyBytes::AES_128(bytes) => bytes,
+            KeyBytes::AES_256(bytes) => bytes,
+        }
+    }
+}
+
 /// A block cipher under a key.
 pub trait EncryptBlock {
     // The cipher of a block under this key.
@@ -119,31 +132,13 @@ impl Key {
         ensures accepted { IsOk result }
         ensures made { IfOk result (λ key. key ≡ key_bytes bytes.entry) }
     {
-        match bytes {
-            KeyBytes::AES_128(key) => Ok(Key::expanded(key)),
-            KeyBytes::AES_256(key) => Ok(Key::expanded(key)),
-        }
-    }
-
-    fn expanded(key: &[u8]) -> Key
-        requires { (length key.now ≡ 16) ⊎ (length key.now ≡ 32) }
-        ensures { result ≡ key.now }
-    {
+        let key = bytes.as_slice();
         let rounds = key.len() / 4 + 6;
         let words = key_schedule::expand(key);
-        Key {
+        Ok(Key {
             round_keys: key_schedule::round_keys(&words[..4 * (rounds + 1)]),
             rounds,
-        }
-    }
-
-    /// The cipher of each of four blocks (FIPS 197 section 5.1), in one pass of the planes. It is in no
-    /// tally.
-    pub fn encrypt_four(&self, blocks: [Block; 4]) -> [Block; 4]
-        ensures { (k : ℕ) → k < 4
-            → slice_index_or result k [] ≡ aes self.now (slice_index_or blocks k []) }
-    {
-        bit_sliced::encrypt_four(&self.round_keys, self.rounds, blocks)
+        })
     }
 
     // The cipher of one block, in the first of the four places.

@@ -65,14 +65,12 @@ impl Algorithm {
         ensures bytes { IfOk result (λ key. key_bytes key ≡ bytes.now) }
     {
         match self.id {
-            AlgorithmId::AES_128_GCM => match bytes.as_array::<AES_128_KEY_LEN>() {
-                Some(bytes) => Ok(KeyBytes::AES_128(bytes)),
-                None => Err(Unspecified),
-            },
-            AlgorithmId::AES_256_GCM => match bytes.as_array::<AES_256_KEY_LEN>() {
-                Some(bytes) => Ok(KeyBytes::AES_256(bytes)),
-                None => Err(Unspecified),
-            },
+            AlgorithmId::AES_128_GCM => {
+                Ok(KeyBytes::AES_128(bytes.as_array().ok_or(Unspecified)?))
+            }
+            AlgorithmId::AES_256_GCM => {
+                Ok(KeyBytes::AES_256(bytes.as_array().ok_or(Unspecified)?))
+            }
         }
     }
 }

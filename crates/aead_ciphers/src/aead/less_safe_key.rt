@@ -167,7 +167,8 @@ impl LessSafeKey {
         let bytes = in_out.as_mut_bytes();
         let message_len = bytes.len() - MAX_TAG_LEN;
         let (message, room) = bytes.split_at_mut(message_len);
-        match self.seal_in_place_separate_tag(nonce, aad, message) {
+        let mut work = Work::new();
+        match aes_gcm::seal(&self.key, nonce, aad, message, &mut work) {
             Ok(tag) => {
                 room.copy_from_slice(tag.as_ref());
                 Ok(())

@@ -110,18 +110,18 @@ impl HeaderProtectionKey {
         ensures bytes { IfOk result (λ key. key.bytes ≡ key_bytes.now) }
     {
         let inner = match algorithm.id {
-            AlgorithmId::AES_128 => match key_bytes.as_array::<AES_128_KEY_LEN>() {
-                Some(bytes) => KeyInner::Aes128(aes::Key::new(KeyBytes::AES_128(bytes))?),
-                None => return Err(Unspecified),
-            },
-            AlgorithmId::AES_256 => match key_bytes.as_array::<AES_256_KEY_LEN>() {
-                Some(bytes) => KeyInner::Aes256(aes::Key::new(KeyBytes::AES_256(bytes))?),
-                None => return Err(Unspecified),
-            },
-            AlgorithmId::CHACHA20 => match key_bytes.as_array::<{ chacha::KEY_LEN }>() {
-                Some(bytes) => KeyInner::ChaCha20(chacha::Key::new(*bytes)),
-                None => return Err(Unspecified),
-            },
+            AlgorithmId::AES_128 => {
+                let bytes = key_bytes.as_array().ok_or(Unspecified)?;
+                KeyInner::Aes128(aes::Key::new(KeyBytes::AES_128(bytes))?)
+            }
+            AlgorithmId::AES_256 => {
+                let bytes = key_bytes.as_array().ok_or(Unspecified)?;
+                KeyInner::Aes256(aes::Key::new(KeyBytes::AES_256(bytes))?)
+            }
+            AlgorithmId::CHACHA20 => {
+                let bytes = key_bytes.as_array().ok_or(Unspecified)?;
+                KeyInner::ChaCha20(chacha::Key::new(*bytes))
+            }
         };
         Ok(HeaderProtectionKey { inner })
     }

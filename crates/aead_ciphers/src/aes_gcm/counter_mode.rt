@@ -1,85 +1,65 @@
 //! Counter mode in place, in chunks (SP 800-38D section 6.5).
 
-ghost use Rattle.std.specs.Prelude.{◌≡◌, ◌≤◌, ◌<◌, ◌+◌, ◌-◌, ◌/◌, ◌%◌, ◌++◌, length, take, drop};
-ghost use Rattle.aead_ciphers_base.specs.CounterMode.{Advances, EncryptsFirst, EncryptsToFront, EncryptsWindow, InCounterMode};
+ghost use Rattle.std.specs.Prelude.{◌≡◌, ◌≤◌, ◌<◌, ◌+◌, ◌-◌, ◌/◌, ◌%◌, IsTrue, length, drop};
+ghost use Rattle.aead_ciphers_base.specs.CounterMode.{Advances, EncryptsToFront, InCounterMode};
 ghost use Rattle.aead_ciphers_base.specs.Work.{Adds, CanAdd};
+ghost use Rattle.aead_ciphers.specs.HashOf.{Absorbs, products_of};
 
+use super::hash::Absorb;
 use crate::gcm::padded;
 use aead_ciphers_base::aes::{
     BLOCK_LEN, Counter, EncryptBlock, EncryptCtr32, Iv, Overlapping, Work,
 };
 
 /// The length of a chunk, in bytes: 192 blocks.
-pub(super) const CHUNK_LEN: usize = 192 * BLOCK_LEN;
+const CHUNK_LEN: usize = 192 * BLOCK_LEN;
 
-/// Encrypts or decrypts the bytes from `start` on, to the front.
-pub(super) fn encrypt_within<A: EncryptCtr32>(
-    aes: &A,
-    mut counter: Counter,
-    in_out: &mut [u8],
-    start: usize,
-    work: &mut Work,
-)
-    requires within { start ≤ length in_out.old }
-    requires sums { CanAdd work.old ((length in_out.old - start + 15) / 16) 0 }
-    ensures output { EncryptsToFront (A.cipher aes.now) counter start in_out.old in_out.new }
-    ensures worked { Adds work.old work.new ((length in_out.old - start + 15) / 16) 0 }
-{
-    let whole = (in_out.len() - start) / BLOCK_LEN * BLOCK_LEN;
-    encrypt_whole(aes, &mut counter, in_out, start, whole, work);
-    encrypt_rest(aes, counter, in_out, start, whole, work);
+/// Counter mode from a counter block on, and what takes in its output.
+pub(super) struct CounterMode<'key, A, H> {
+    pub(super) aes: &'key A,
+    pub(super) counter: Counter,
+    pub(super) auth: H,
 }
 
-/// Encrypts the `whole` bytes from `start` on, which are whole blocks, to the front, chunk by chunk.
-fn encrypt_whole<A: EncryptCtr32>(
-    aes: &A,
-    counter: &mut Counter,
-    in_out: &mut [u8],
-    start: usize,
-    whole: usize,
-    work: &mut Work,
-)
-    requires within { start + whole ≤ length in_out.old }
-    requires whole { whole % 16 ≡ 0 }
-    requires sums { CanAdd work.old (whole / 16) 0 }
-    ensures output { EncryptsFirst (A.cipher aes.now) counter.old start whole
-        in_out.old in_out.new }
-    ensures counter { Advances counter.old counter.new (whole / 16) }
-    ensures worked { Adds work.old work.new (whole / 16) 0 }
-{
-    let mut done = 0;
-    while done < whole {
-        let count = (whole - done).min(CHUNK_LEN);
-        encrypt_chunk(aes, counter, in_out, start, done, count, work);
-        done += count;
+impl<A: EncryptCtr32, H: Absorb> CounterMode<'_, A, H> {
+    /// Encrypts or decrypts the bytes from `start` on, to the front, and takes in what then stands
+    /// there, chunk by chunk.
+    pub(super) fn encrypt_within(self, in_out: &mut [u8], start: usize, work: &mut Work) -> H
+        requires within { start ≤ length in_out.old }
+        requires sums { let n = (length in_out.old - start + 15) / 16 in
+            CanAdd work.old n (products_of H.hashes n) }
+        ensures output { EncryptsToFront (A.cipher self.entry.aes.now) self.entry.counter start
+            in_out.old in_out.new }
+        ensures hashed { IsTrue H.hashes
+            → InCounterMode (A.cipher self.entry.aes.now) self.entry.counter (drop start in_out.old)
+            (λ text. Absorbs (H.state self.entry.auth) text (H.state result)) }
+        ensures worked { let n = (length in_out.old - start + 15) / 16 in
+            Adds work.old work.new n (products_of H.hashes n) }
+    {
+        let CounterMode {
+            aes,
+            mut counter,
+            mut auth,
+        } = self;
+        let len = in_out.len() - start;
+        let whole = len / BLOCK_LEN * BLOCK_LEN;
+        let mut done = 0;
+        while done < whole {
+            let count = (whole - done).min(CHUNK_LEN);
+            let window = &mut in_out[done..done + count + start];
+            encrypt_blocks(aes, &mut counter, window, start, work);
+            auth.absorb(&in_out[done..done + count], work);
+            done += count;
+        }
+        encrypt_rest(aes, counter, &mut in_out[whole..], start, work);
+        auth.absorb(&in_out[whole..len], work);
+        auth
     }
-}
-
-/// Encrypts the `count` bytes from `start + done` on, which are whole blocks, to `done`.
-pub(super) fn encrypt_chunk<A: EncryptCtr32>(
-    aes: &A,
-    counter: &mut Counter,
-    in_out: &mut [u8],
-    start: usize,
-    done: usize,
-    count: usize,
-    work: &mut Work,
-)
-    requires within { start + done + count ≤ length in_out.old }
-    requires whole { count % 16 ≡ 0 }
-    requires sums { CanAdd work.old (count / 16) 0 }
-    ensures output { EncryptsWindow (A.cipher aes.now) counter.old start done count
-        in_out.old in_out.new }
-    ensures counter { Advances counter.old counter.new (count / 16) }
-    ensures worked { Adds work.old work.new (count / 16) 0 }
-{
-    let window = &mut in_out[done..done + count + start];
-    encrypt_as_overlapping(aes, counter, window, start, work);
 }
 
 /// Encrypts the bytes from `start` on, which are whole blocks, to the front. A cipher takes an `Overlapping`, as
 /// ring's do, and takes it apart.
-fn encrypt_as_overlapping<A: EncryptCtr32>(
+fn encrypt_blocks<A: EncryptCtr32>(
     aes: &A,
     counter: &mut Counter,
     in_out: &mut [u8],
@@ -96,27 +76,24 @@ fn encrypt_as_overlapping<A: EncryptCtr32>(
     aes.ctr32_encrypt_within(Overlapping::within(in_out, start), counter, work);
 }
 
-/// Encrypts the last bytes, fewer than a block: those from `start + done` on, to `done`.
-pub(super) fn encrypt_rest<A: EncryptBlock>(
+/// Encrypts the bytes from `start` on, fewer than a block, to the front.
+fn encrypt_rest<A: EncryptBlock>(
     aes: &A,
     counter: Counter,
     in_out: &mut [u8],
     start: usize,
-    done: usize,
     work: &mut Work,
 )
-    requires within { start + done ≤ length in_out.old }
-    requires short { length in_out.old < start + done + 16 }
-    requires sums { CanAdd work.old ((length in_out.old - start - done + 15) / 16) 0 }
-    ensures output { InCounterMode (A.cipher aes.now) counter (drop (start + done) in_out.old)
-        (λ text. in_out.new ≡ take done in_out.old ++ text
-        ++ drop (length in_out.old - start) in_out.old) }
-    ensures worked { Adds work.old work.new ((length in_out.old - start - done + 15) / 16) 0 }
+    requires within { start ≤ length in_out.old }
+    requires short { length in_out.old < start + 16 }
+    requires sums { CanAdd work.old ((length in_out.old - start + 15) / 16) 0 }
+    ensures output { EncryptsToFront (A.cipher aes.now) counter start in_out.old in_out.new }
+    ensures worked { Adds work.old work.new ((length in_out.old - start + 15) / 16) 0 }
 {
-    let rest = in_out.len() - start - done;
+    let rest = in_out.len() - start;
     if rest > 0 {
-        let input = padded(&in_out[start + done..]);
+        let input = padded(&in_out[start..]);
         let output = aes.encrypt_iv_xor_block(Iv::from(counter), input, work);
-        in_out[done..done + rest].copy_from_slice(&output[..rest]);
+        in_out[..rest].copy_from_slice(&output[..rest]);
     }
 }

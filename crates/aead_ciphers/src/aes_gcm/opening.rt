@@ -5,8 +5,8 @@ ghost use Rattle.aead_ciphers_base.specs.Bytes.{zero_block};
 ghost use Rattle.aead_ciphers_base.specs.Values.{aad_bytes};
 ghost use Rattle.aead_ciphers.specs.Gcm.{CanOpen, OpenWork, Opened};
 
-use super::counter_mode::encrypt_within;
-use super::hash::{absorb, finish};
+use super::counter_mode::CounterMode;
+use super::hash::{Absorb, Unhashed, finish};
 use crate::gcm::{Context, UpdateBlocks};
 use aead_ciphers_base::aes::{Counter, EncryptCtr32, Work};
 use aead_ciphers_base::bb;
@@ -40,9 +40,10 @@ pub(super) fn open_with<A: EncryptCtr32, G: UpdateBlocks>(
     let mut auth = Context::new(gcm, aad, in_out.len() - start, work)?;
     let mut counter = Counter::one(nonce);
     let tag_iv = counter.increment();
-    absorb(&mut auth, &in_out[start..], work);
+    auth.absorb(&in_out[start..], work);
     let tag = finish(aes, auth, tag_iv, work);
     bb::verify_slices_are_equal(tag.as_ref(), received_tag.as_ref())?;
-    encrypt_within(aes, counter, in_out, start, work);
+    let auth = Unhashed;
+    CounterMode { aes, counter, auth }.encrypt_within(in_out, start, work);
     Ok(())
 }
