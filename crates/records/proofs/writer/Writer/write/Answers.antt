@@ -16,7 +16,7 @@ returns-clause-written c =
     let out = c.args.out.now.items in
     let head = c.header_of-header.result in
     let five : length head ≡ 5 = ap length c.header_of-header.ensures in
-    let put = put_sealed key nonce out head (inner_plaintext inner) c.len-start.result c.as_mut_slice.result.now c.seal.new.bytes five
+    let put = put_sealed key nonce out head (inner_plaintext inner) five c.len-start.result c.as_mut_slice.result.now c.seal.new.bytes
     (c.len-start.ensures ∙ c.args.out.now.ok.0) (c.as_mut_slice.ensures.value ∙ c.in_ok-append_unsealed.ensures.ok) c.seal.ensures.sealed in
     let len = c.in_ok-inner_len.ensures.len in
     let size = length-inner_plaintext inner in
