@@ -24,8 +24,8 @@ whole_from head bytes is five small h e =
     let behind = be_bytes_2 (drop 3 head) (length bytes - 5) two (λ i. rw (get_or-drop 3 head i 0) (head_small (3 + i))) (omega arith) in
     record {
       start = sym is ∙ sym (take-append-drop 3 head) ∙ ap₂ (λ xs ys. xs ++ ys) h.start (sym behind);
-      shortest = omega (arith, h.shortest);
-      longest = omega (arith, h.longest);
+      shortest = omega arith;
+      longest = omega arith;
     }
 
 -- a ciphertext and a tag are one message sealed
@@ -53,7 +53,7 @@ module _ (was : State) (bytes : List ℕ) where
         record {
           start = carried_header ∙ ap header (omega (arith, n, length-inner_plaintext inner));
           shortest = omega (arith, n);
-          longest = omega (arith, n, c.allowed.fits);
+          longest = omega (arith, n);
         }
 
     pub carried_seals : Seals was bytes (inner_plaintext inner)
@@ -79,7 +79,7 @@ module _ (was : State) (bytes : List ℕ) where
   carries_from inner w open_before typed s size =
       let n : length bytes - 5 ≡ length (inner_plaintext inner) + 16 = omega arith in
       record {
-        allowed = record { typed = typed; fits = omega (arith, w.longest, length-inner_plaintext inner) };
+        allowed = record { typed = typed; fits = omega (arith, length-inner_plaintext inner) };
         open_before = open_before;
         made = rw (w.start ∙ ap header n) at s;
       }
