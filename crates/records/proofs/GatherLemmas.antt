@@ -118,7 +118,7 @@ module _ (old : List ℕ) (filled at end : ℕ) (order : (filled ≤ at) × (at 
         → Reads was now bytes (Ok (content_type, take n (drop filled buffer))) × LeavesInner filled old buffer (content_type, n)
     found_read now content_type n counted found =
         let size = ap length there ∙ length-message in
-        let same = take-take n (filled + len - filled) (drop filled buffer) (omega (arith, found.1, length-part, count)) in
+        let same = take-take n (filled + len - filled) (drop filled buffer) (omega (arith, length-part, length-bytes)) in
         let e = sym there ∙ (rw same at found.3) in (
           record {
             accepted = λ inner c. refl;
