@@ -1,6 +1,6 @@
 //! The header of a record.
 
-ghost use Rattle.std.specs.Prelude.{◌≡◌, ◌≢◌, ◌⊎◌, ℕ, ◌+◌, ◌-◌, ◌<◌, ◌↔◌, length, take, IsOk, IfOk, OnOk, IfErr};
+ghost use Rattle.std.specs.Prelude.{◌≡◌, ◌≢◌, ◌⊎◌, ℕ, ◌+◌, ◌-◌, ◌<◌, ◌↔◌, length, take, IsOk, IfOk, IfErr};
 ghost use Rattle.records.specs.Record.{header, encrypted_len, IsHeader, IsWhole, RefusesHeader};
 ghost use Rattle.records.specs.Steps.{RefusesBytes};
 
@@ -50,7 +50,7 @@ pub fn record_len(header: &[u8; HEADER_LEN]) -> Result<usize, RecordError>
 
 /// The header of these bytes, where they are one whole record.
 pub(crate) fn header_in(bytes: &[u8]) -> Result<[u8; HEADER_LEN], RecordError>
-    ensures ok { OnOk result (IsWhole bytes.now) }
+    ensures accepted { IsOk result ↔ IsWhole bytes.now }
     ensures header { IfOk result (λ header. header ≡ take HEADER_LEN bytes.now) }
     ensures refused { IfErr result (RefusesBytes bytes.now) }
 {

@@ -47,14 +47,12 @@ pub(crate) fn append_unsealed(
     ensures full { OnErr result
         (vec_capacity out.old < vec_len out.old + length content.now + padding + 22) }
 {
-    let start = out.len();
-    let len = HEADER_LEN + content.len() + 1 + padding + TAG_LEN;
-    out.resize(start + len, 0)?;
-    let record = &mut out.as_mut_slice()[start..];
-    record[..HEADER_LEN].copy_from_slice(header);
-    record[HEADER_LEN..HEADER_LEN + content.len()].copy_from_slice(content);
-    record[HEADER_LEN + content.len()] = content_type;
-    Ok(())
+    out.reserve(HEADER_LEN + content.len() + 1 + padding + TAG_LEN)?;
+    out.extend_from_slice(header)?;
+    out.extend_from_slice(content)?;
+    out.push(content_type)?;
+    out.resize(out.len() + padding, 0)?;
+    out.extend_from_slice(&[0; TAG_LEN])
 }
 
 /// The type and the length of the content of an inner plaintext: the type is the last byte that isn't zero, and

@@ -1,8 +1,8 @@
 //! Reading records.
 
-ghost use Rattle.std.specs.Prelude.{◌≡◌, ℕ, List, ◌+◌, ◌-◌, ◌^◌, ◌≤◌, ◌++◌, length, drop, slice_range, IfOk, IfErr, OnErr};
+ghost use Rattle.std.specs.Prelude.{◌≡◌, ◌+◌, ◌-◌, ◌≤◌, length, slice_range, is_ok, IfOk, IfErr, OnErr};
 ghost use Rattle.aead_ciphers_base.specs.Aes.{aes};
-ghost use Rattle.aead_ciphers.specs.Gcm.{gcm_sealed};
+ghost use Rattle.aead_ciphers.specs.Gcm.{OpenedAttached};
 ghost use Rattle.records.specs.State.{next_nonce, advanced, IsEnded};
 ghost use Rattle.records.specs.Steps.{Reads, LeavesInner, LeavesRefused, StandsRefused, content_at, lent_content};
 
@@ -72,14 +72,10 @@ impl Reader {
         from: &mut [u8],
         start: usize,
     ) -> Result<usize, Unspecified>
-        requires open_before { ¬ IsEnded self.old }
-        requires room { start + 16 ≤ length from.old }
-        requires fits { length from.old ≤ start + 2 ^ 15 }
-        ensures opened { IfOk result (λ len. (message : List ℕ) × (length message ≡ len)
-            × (drop start from.old ≡ gcm_sealed (aes self.old.key.bytes) (next_nonce self.old) header.now message)
-            × (from.new ≡ message ++ drop len from.old)) }
-        ensures refused { OnErr result ((message : List ℕ)
-            → ¬ (drop start from.old ≡ gcm_sealed (aes self.old.key.bytes) (next_nonce self.old) header.now message)) }
+        requires { ¬ IsEnded self.old }
+        ensures opened { OpenedAttached (aes self.old.key.bytes) (next_nonce self.old) header.now start
+            from.old (is_ok result) from.new }
+        ensures count { IfOk result (λ len. len ≡ length from.old - 16 - start) }
         ensures kept { OnErr result (from.new ≡ from.old) }
         ensures counted { self.new ≡ advanced self.old }
     {
