@@ -1,153 +1,134 @@
 -- A sealed file is one, and opening it gives the file.
-use Rattle.std.proofs.Common.{◌≡◌, ℕ, Bool, ◌+◌, ◌-◌, ◌*◌, ◌^◌, ◌<◌, ◌≤◌, List, length, take, drop, refl, sym, ap, ap₂, subst, ◌∙◌, arith}
+use Rattle.std.proofs.Common.{◌≡◌, ℕ, Bool, true, false, ◌+◌, ◌-◌, ◌*◌, ◌^◌, ◌<◌, ◌≤◌, List, ◌++◌, length, take, drop, refl, sym, ap, subst, ◌∙◌, arith}
 use Rattle.std.specs.Prelude.{◌==◌}
 use Rattle.std.specs.List.{concat}
 use Rattle.std.proofs.lemmas.List.{drop_at, length-append, length-drop, length-take, take_at, take-take}
 use Rattle.aead_ciphers_base.specs.Bytes.{each_below}
 use Rattle.aead_ciphers_base.proofs.EachLemmas.{each-same}
 use Rattle.aead_ciphers_base.specs.Aes.{aes}
-use Rattle.aead_ciphers.specs.Gcm.{gcm_encrypted, gcm_decrypted, gcm_tag}
-use Rattle.sealed_file.specs.Format.{piece, last_piece, magic_and_version, header, chunk_nonce, sealed_chunk, sealed_chunks, sealed_file}
-use Rattle.sealed_file.specs.Opening.{HasTag, HasRightTag, IsSealed, opened_chunk, opened_chunks, opened_file, ciphertext_of, prefix_of, body_of, last_chunk}
-use Rattle.sealed_file.proofs.PieceLemmas.{all_pieces, joined_more, last_of_joined, length-joined, length-piece, length-piece-le, piece_of_joined}
-use Rattle.aead_ciphers.proofs.MessageLaws.{length-aes_tag, length-aes_encrypted, decrypted-encrypted}
+use Rattle.aead_ciphers.specs.Gcm.{gcm_encrypted, gcm_decrypted}
+use Rattle.sealed_file.specs.Format.{chunk_len, sealed_chunk_len, piece, last_piece, magic_and_version, header, chunk_nonce, sealed_chunk, sealed_chunks, sealed_file}
+use Rattle.sealed_file.specs.Opening.{HasTag, HasBothTags, IsSealed, chunk_tag, opened_chunk, opened_chunks, opened_file, prefix_of, body_of, last_chunk}
+use Rattle.sealed_file.proofs.ChunkLemmas.{front_is, has_tag, of_same, tag_is}
+use Rattle.sealed_file.proofs.PieceLemmas.{all_pieces, last_of_joined, length-all, length-piece, length-piece-le, piece_of_joined}
+use Rattle.aead_ciphers.proofs.MessageLaws.{length-aes_sealed, length-aes_tag, decrypted-encrypted}
 
 module _ (key prefix : List ℕ) (number : ℕ) (flag : Bool) (chunk : List ℕ) where
+  abbrev ciphertext : List ℕ
+  ciphertext = gcm_encrypted (aes key) (chunk_nonce prefix number flag) chunk
+
+  sixteen : length (chunk_tag key prefix number flag ciphertext) ≡ 16
+  sixteen = length-aes_tag key (chunk_nonce prefix number flag) (header prefix) ciphertext
+
   pub length-sealed_chunk : length (sealed_chunk key prefix number flag chunk) ≡ length chunk + 16
   unfolding sealed_chunk
-  length-sealed_chunk =
-      let ct = gcm_encrypted (aes key) (chunk_nonce prefix number flag) chunk in
-      length-append ct (gcm_tag (aes key) (chunk_nonce prefix number flag) (header prefix) ct)
-      ∙ ap₂ (λ (a b : ℕ). a + b) (length-aes_encrypted key (chunk_nonce prefix number flag) chunk)
-      (length-aes_tag key (chunk_nonce prefix number flag) (header prefix) ct)
-
-  -- the tag begins behind a ciphertext as long as the chunk
-  tag_at : length (gcm_encrypted (aes key) (chunk_nonce prefix number flag) chunk) ≡ length (sealed_chunk key prefix number flag chunk) - 16
-  tag_at =
-      let whole = length-sealed_chunk in
-      let k = length-aes_encrypted key (chunk_nonce prefix number flag) chunk in
-      omega (arith, whole, k)
-
-  pub front_of_sealed : ciphertext_of (sealed_chunk key prefix number flag chunk) ≡ gcm_encrypted (aes key) (chunk_nonce prefix number flag) chunk
-  unfolding sealed_chunk
-  front_of_sealed =
-      let ct = gcm_encrypted (aes key) (chunk_nonce prefix number flag) chunk in
-      take_at ct (gcm_tag (aes key) (chunk_nonce prefix number flag) (header prefix) ct)
-      (length (sealed_chunk key prefix number flag chunk) - 16) tag_at
-
-  pub back_of_sealed : drop (length (sealed_chunk key prefix number flag chunk) - 16) (sealed_chunk key prefix number flag chunk)
-      ≡ gcm_tag (aes key) (chunk_nonce prefix number flag) (header prefix) (gcm_encrypted (aes key) (chunk_nonce prefix number flag) chunk)
-  unfolding sealed_chunk
-  back_of_sealed =
-      let ct = gcm_encrypted (aes key) (chunk_nonce prefix number flag) chunk in
-      drop_at ct (gcm_tag (aes key) (chunk_nonce prefix number flag) (header prefix) ct)
-      (length (sealed_chunk key prefix number flag chunk) - 16) tag_at
+  length-sealed_chunk = length-aes_sealed key (chunk_nonce prefix number flag) (header prefix) chunk
 
   -- a sealed chunk has its tag
   pub sealed_has_tag : HasTag key prefix number flag (sealed_chunk key prefix number flag chunk)
-  sealed_has_tag = record {
-    size = let whole = length-sealed_chunk in omega (arith, whole);
-    tag = back_of_sealed ∙ ap (gcm_tag (aes key) (chunk_nonce prefix number flag) (header prefix)) (sym front_of_sealed);
-  }
+  unfolding sealed_chunk
+  sealed_has_tag = has_tag ciphertext (chunk_tag key prefix number flag ciphertext) sixteen key prefix number flag refl
 
   -- and opens to the chunk
   pub opened_sealed_chunk : opened_chunk key prefix number flag (sealed_chunk key prefix number flag chunk) ≡ chunk
-  unfolding opened_chunk
-  opened_sealed_chunk = ap (gcm_decrypted (aes key) (chunk_nonce prefix number flag)) front_of_sealed ∙ decrypted-encrypted key (chunk_nonce prefix number flag) chunk
+  unfolding sealed_chunk opened_chunk
+  opened_sealed_chunk =
+      ap (gcm_decrypted (aes key) (chunk_nonce prefix number flag)) (front_is ciphertext (chunk_tag key prefix number flag ciphertext) sixteen)
+      ∙ decrypted-encrypted key (chunk_nonce prefix number flag) chunk
 
-module _ (key prefix file : List ℕ) (seven : length prefix ≡ 7) where
-  abbrev pub last : ℕ
-  last = last_piece 65536 (length file)
+pub both_tags : (key prefix : List ℕ) (number : ℕ) (chunk : List ℕ) → HasTag key prefix number true (sealed_chunk key prefix number false chunk)
+    → HasBothTags key prefix number chunk
+unfolding sealed_chunk
+both_tags key prefix number chunk = tag_is _ _ (sixteen key prefix number false chunk) key prefix number true
 
-  abbrev pub chunk_at : ℕ → List ℕ
-  chunk_at i = sealed_chunk key prefix i (i == last) (piece 65536 file i)
+-- the number of a file's last chunk, and the chunk of a number, sealed
+abbrev pub last_of : List ℕ → ℕ
+last_of file = last_piece chunk_len (length file)
 
-  chunks_are : sealed_chunks key prefix file (last + 1) ≡ concat (each_below (last + 1) chunk_at)
-  unfolding sealed_chunks
-  chunks_are = refl
+abbrev pub chunk_at : (key prefix file : List ℕ) → ℕ → List ℕ
+chunk_at key prefix file i = sealed_chunk key prefix i (i == last_of file) (piece chunk_len file i)
 
-  length-chunk_at : (i : ℕ) → length (chunk_at i) ≡ length (piece 65536 file i) + 16
-  length-chunk_at i = length-sealed_chunk key prefix i (i == last) (piece 65536 file i)
+module _ (key prefix file : List ℕ) where
+  pub length-chunk_at : (i : ℕ) → length (chunk_at key prefix file i) ≡ length (piece chunk_len file i) + 16
+  length-chunk_at i = length-sealed_chunk key prefix i (i == last_of file) (piece chunk_len file i)
 
-  whole_before : (i : ℕ) → i < last → length (chunk_at i) ≡ 65552
-  whole_before i before = length-chunk_at i ∙ (let h = length-piece 65536 file i (omega arith) before in omega (arith, h))
+  module _ (seven : length prefix ≡ 7) where
+    abbrev whole : List ℕ
+    whole = sealed_file key prefix file
 
-  last_is_short : length (chunk_at last) ≤ 65552
-  last_is_short = let h = length-piece-le 65536 file last in let k = length-chunk_at last in omega (arith, h, k)
+    abbrev last : ℕ
+    last = last_of file
 
-  last_is_some : 0 < length (chunk_at last)
-  last_is_some = let k = length-chunk_at last in omega (arith, k)
+    abbrev chunks : List ℕ
+    chunks = concat (each_below (last + 1) (chunk_at key prefix file))
 
-  length-header : length (header prefix) ≡ 16
-  length-header = length-append magic_and_version prefix ∙ ap (λ (n : ℕ). 9 + n) seven
+    whole_before : (i : ℕ) → i < last → length (chunk_at key prefix file i) ≡ sealed_chunk_len
+    whole_before i before = length-chunk_at i ∙ (let h = length-piece chunk_len file i (omega arith) before in omega (arith, h))
 
-  abbrev pub whole : List ℕ
-  whole = sealed_file key prefix file
+    last_is_short : length (chunk_at key prefix file last) ≤ sealed_chunk_len
+    last_is_short = let h = length-piece-le chunk_len file last in let k = length-chunk_at last in omega (arith, h, k)
 
-  body_is : body_of whole ≡ concat (each_below (last + 1) chunk_at)
-  body_is = drop_at (header prefix) (sealed_chunks key prefix file (last + 1)) 16 length-header ∙ chunks_are
+    length-header : length (header prefix) ≡ 16
+    length-header = length-append magic_and_version prefix ∙ ap (λ (n : ℕ). 9 + n) seven
 
-  front_is : take 16 whole ≡ header prefix
-  front_is = take_at (header prefix) (sealed_chunks key prefix file (last + 1)) 16 length-header
+    whole_is : whole ≡ header prefix ++ chunks
+    unfolding sealed_chunks
+    whole_is = refl
 
-  pub prefix_is : prefix_of whole ≡ prefix
-  prefix_is = ap (drop 9) front_is ∙ drop_at magic_and_version prefix 9 refl
+    body_is : body_of whole ≡ chunks
+    body_is = ap body_of whole_is ∙ drop_at (header prefix) chunks 16 length-header
 
-  last_is : last_chunk whole ≡ last
-  last_is = ap (λ (l : List ℕ). last_piece 65552 (length l)) body_is ∙ last_of_joined 65552 chunk_at last whole_before last_is_short last_is_some
+    front : take 16 whole ≡ header prefix
+    front = take_at (header prefix) (sealed_chunks key prefix file (last + 1)) 16 length-header
 
-  pub piece_is : (i : ℕ) → i ≤ last → piece 65552 (body_of whole) i ≡ chunk_at i
-  piece_is i within = ap (λ (l : List ℕ). piece 65552 l i) body_is ∙ piece_of_joined 65552 chunk_at last i whole_before last_is_short within
+    pub prefix_is : prefix_of whole ≡ prefix
+    prefix_is = ap (drop 9) front ∙ drop_at magic_and_version prefix 9 refl
 
-  -- the body is longer than the chunks before the last
-  pub whole_length : 65552 * last < length (body_of whole)
-  whole_length =
-      let e = ap length body_is ∙ ap length (joined_more chunk_at last) ∙ length-append (concat (each_below last chunk_at)) (chunk_at last) in
-      let k = length-joined 65552 chunk_at last whole_before in
-      let h = last_is_some in
-      omega (arith, e, k, h)
+    last_is : last_chunk whole ≡ last
+    last_is = ap (λ (l : List ℕ). last_piece sealed_chunk_len (length l)) body_is
+        ∙ last_of_joined sealed_chunk_len (chunk_at key prefix file) last whole_before last_is_short (let k = length-chunk_at last in omega (arith, k))
 
-  -- the file's bytes, and 16 more for the header and for each chunk
-  pub length-sealed_file : length whole ≡ 16 + length file + (last + 1) * 16
-  length-sealed_file =
-      let all = length-append (header prefix) (sealed_chunks key prefix file (last + 1)) in
-      let front = length-header in
-      let e = ap length chunks_are ∙ ap length (joined_more chunk_at last) ∙ length-append (concat (each_below last chunk_at)) (chunk_at last) in
-      let k = length-joined 65552 chunk_at last whole_before in
-      let c = length-chunk_at last in
-      let t = length-take 65536 (drop (65536 * last) file) in
-      let d = length-drop (65536 * last) file in
-      omega (arith, all, front, e, k, c, t, d)
+    pub piece_is : (i : ℕ) → i ≤ last → piece sealed_chunk_len (body_of whole) i ≡ chunk_at key prefix file i
+    piece_is i within = ap (λ (l : List ℕ). piece sealed_chunk_len l i) body_is
+        ∙ piece_of_joined sealed_chunk_len (chunk_at key prefix file) last whole_before i last_is_short within
 
-  right_tag : (i : ℕ) → i < last_chunk whole + 1 → HasRightTag key whole i
-  right_tag i within =
-      let near : i ≤ last = (let e = last_is in omega (arith, e)) in
-      subst (λ (p : List ℕ). HasTag key p i (i == last_chunk whole) (piece 65552 (body_of whole) i)) (sym prefix_is)
-      (subst (λ (n : ℕ). HasTag key prefix i (i == n) (piece 65552 (body_of whole) i)) (sym last_is)
-      (subst (λ (l : List ℕ). HasTag key prefix i (i == last) l) (sym (piece_is i near)) (sealed_has_tag key prefix i (i == last) (piece 65536 file i))))
+    pub length-body : length (body_of whole) ≡ sealed_chunk_len * last + length (piece chunk_len file last) + 16
+    length-body =
+        let e = ap length body_is in
+        let k = length-all sealed_chunk_len (chunk_at key prefix file) last whole_before in
+        let c = length-chunk_at last in
+        omega (arith, e, k, c)
 
-  pub sealed_is_sealed : last < 2 ^ 32 - 1 → IsSealed key whole
-  sealed_is_sealed few = record {
-    front = record {
-      size = let k = length-append (header prefix) (sealed_chunks key prefix file (last + 1)) in let h = length-header in omega (arith, k, h);
-      right = sym (take-take 9 16 whole (omega arith)) ∙ ap (take 9) front_is ∙ take_at magic_and_version prefix 9 refl;
-    };
-    few = subst (λ (n : ℕ). n < 2 ^ 32 - 1) (sym last_is) few;
-    tags = record { each = right_tag };
-  }
+    -- the file's bytes, and 16 more for the header and for each chunk
+    pub length-sealed_file : length whole ≡ 16 + length file + (last + 1) * 16
+    length-sealed_file =
+        let d = length-drop 16 whole in
+        let b = length-body in
+        let t = length-take chunk_len (drop (chunk_len * last) file) in
+        let e = length-drop (chunk_len * last) file in
+        omega (arith, d, b, t, e)
 
-  message_at : (i : ℕ) → i ≤ last
-      → opened_chunk key (prefix_of whole) i (i == last_chunk whole) (piece 65552 (body_of whole) i) ≡ piece 65536 file i
-  message_at i within =
-      ap (λ (p : List ℕ). opened_chunk key p i (i == last_chunk whole) (piece 65552 (body_of whole) i)) prefix_is
-      ∙ ap (λ (n : ℕ). opened_chunk key prefix i (i == n) (piece 65552 (body_of whole) i)) last_is
-      ∙ ap (opened_chunk key prefix i (i == last)) (piece_is i within)
-      ∙ opened_sealed_chunk key prefix i (i == last) (piece 65536 file i)
+    -- what is said of a chunk, sealed, is said of the sealed file's
+    of_sealed : (P : List ℕ → Bool → List ℕ → Type 0) (i : ℕ) → i < last_chunk whole + 1 → P prefix (i == last) (chunk_at key prefix file i)
+        → P (prefix_of whole) (i == last_chunk whole) (piece sealed_chunk_len (body_of whole) i)
+    of_sealed P i within = of_same P (sym prefix_is) (ap (λ (n : ℕ). i == n) (sym last_is)) (sym (piece_is i (let e = last_is in omega (arith, e))))
 
-  pub opened_sealed_file : opened_file key whole ≡ file
-  unfolding opened_chunks
-  opened_sealed_file =
-      ap (λ (n : ℕ). concat (each_below (n + 1) (λ i. opened_chunk key (prefix_of whole) i (i == last_chunk whole) (piece 65552 (body_of whole) i)))) last_is
-      ∙ ap concat (each-same (last + 1) (λ i. opened_chunk key (prefix_of whole) i (i == last_chunk whole) (piece 65552 (body_of whole) i))
-      (piece 65536 file) (λ i h. message_at i (omega arith)))
-      ∙ all_pieces 65536 file (omega arith)
+    pub sealed_is_sealed : last < 2 ^ 32 - 1 → IsSealed key whole
+    sealed_is_sealed few = record {
+      front = record {
+        size = let b = length-body in let d = length-drop 16 whole in omega (arith, b, d);
+        right = sym (take-take 9 16 whole (omega arith)) ∙ ap (take 9) front ∙ take_at magic_and_version prefix 9 refl;
+      };
+      few = subst (λ (n : ℕ). n < 2 ^ 32 - 1) (sym last_is) few;
+      tags = record {
+        each = λ i within. of_sealed (λ p b l. HasTag key p i b l) i within (sealed_has_tag key prefix i (i == last) (piece chunk_len file i));
+      };
+    }
+
+    pub opened_sealed_file : opened_file key whole ≡ file
+    unfolding opened_chunks
+    opened_sealed_file =
+        ap concat (each-same (last_chunk whole + 1) (λ i. opened_chunk key (prefix_of whole) i (i == last_chunk whole) (piece sealed_chunk_len (body_of whole) i))
+        (piece chunk_len file) (λ i within. of_sealed (λ p b l. opened_chunk key p i b l ≡ piece chunk_len file i) i within
+        (opened_sealed_chunk key prefix i (i == last) (piece chunk_len file i))))
+        ∙ ap (λ (n : ℕ). concat (each_below (n + 1) (piece chunk_len file))) last_is ∙ all_pieces chunk_len file (omega arith)

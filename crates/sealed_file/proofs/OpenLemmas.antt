@@ -1,165 +1,190 @@
 -- The steps of opening.
-use Rattle.std.proofs.Common.{◌≡◌, ℕ, Bool, true, false, inl, inr, IfSome, ◌+◌, ◌-◌, ◌^◌, ◌<◌, ◌≤◌}
-use Rattle.std.proofs.Common.{List, [], ◌++◌, length, take, drop, refl, sym, ap, subst, ◌∙◌, arith, below_more}
+use Rattle.std.proofs.Common.{◌≡◌, ℕ, Bool, true, false, inl, inr, IfSome, ◌+◌, ◌-◌, ◌*◌, ◌^◌, ◌<◌, ◌≤◌}
+use Rattle.std.proofs.Common.{List, [], ◌++◌, length, take, drop, sym, ap, subst, ◌∙◌, arith, below_more}
 use Rattle.std.specs.Prelude.{◌==◌, Option}
-use Rattle.std.specs.Io.KnownBytes.{Appends}
-use Rattle.std.proofs.KnownBytes.{Appends-nil, Appends-trans}
-use Rattle.std.proofs.lemmas.Bool.{eqb-true}
+use Rattle.std.specs.Io.KnownBytes.{Appends, Keeps}
+use Rattle.std.proofs.KnownBytes.{Appends-kept, Appends-nil, Appends-trans, Keeps-refl}
+use Rattle.std.proofs.lemmas.Bool.{eqb-false, eqb-true}
 use Rattle.std.proofs.lemmas.List.{length-take, take-take, append-nil}
 use Rattle.sealed_file.specs.declared.error.FileError.{FileError}
-use Rattle.sealed_file.specs.declared.error.FileError.TheVariants.{KeyLength, AnotherMagic, AnotherVersion, EndsEarly, BytesBehind, Refused, TooLong, OutOfMemory, Io}
-use Rattle.sealed_file.specs.Format.{piece}
+use Rattle.sealed_file.specs.declared.error.FileError.TheVariants.{TooLong, Io}
+use Rattle.sealed_file.specs.Format.{sealed_chunk_len, piece}
 use Rattle.sealed_file.specs.Opening.{HasTag, HasRightTag, HasHeader, AreRight, IsSealed}
 use Rattle.sealed_file.specs.Opening.{opened_chunk, opened_chunks, opened_file, last_chunk, prefix_of, body_of}
 use Rattle.sealed_file.specs.Refusals.{HeaderRefuses, ChunkRefuses, RefusesAt, OpenRefuses}
 use Rattle.sealed_file.specs.Streams.{AppendsBeginning, TakesFront}
+use Rattle.sealed_file.proofs.ChunkLemmas.{of_same}
 use Rattle.sealed_file.proofs.PieceLemmas.{joined_more}
-use Rattle.sealed_file.proofs.StreamLemmas.{StandsAt, first_read, flag_is, next_stands, begins_whole, begins_more}
+use Rattle.sealed_file.proofs.StreamLemmas.{flag_is, next_read, begins_more, begins_none}
 
--- before chunk n is opened: the header and the chunks before it are right, and their messages were written
-pub record Opening (key prefix file : List ℕ) (n : ℕ) (chunk : List ℕ) (rest old now : Option (List ℕ)) : Type 0 where
-  pub front : HasHeader file
-  pub prefix_is : prefix ≡ prefix_of file
-  pub right : AreRight key file n
-  pub at : StandsAt 65552 (body_of file) n chunk rest
-  pub written : Appends old now (opened_chunks key file n)
+-- chunk i of a sealed file, opened
+abbrev pub message_at : (key file : List ℕ) → ℕ → List ℕ
+message_at key file i = opened_chunk key (prefix_of file) i (i == last_chunk file) (piece sealed_chunk_len (body_of file) i)
 
-pub none_right : (key file : List ℕ) → AreRight key file 0
+pub messages_more : (key file : List ℕ) (n : ℕ) → opened_chunks key file (n + 1) ≡ opened_chunks key file n ++ message_at key file n
+unfolding opened_chunks
+messages_more key file n = joined_more (message_at key file) n
+
+none_right : (key file : List ℕ) → AreRight key file 0
 none_right key file = record { each = λ i h. absurd (omega arith) }
 
-pub none_opened : (key file : List ℕ) → opened_chunks key file 0 ≡ []
-unfolding opened_chunks
-none_opened key file = refl
+-- ---- refusals
 
-pub chunks_more : (key file : List ℕ) (n : ℕ) → opened_chunks key file (n + 1)
-    ≡ opened_chunks key file n ++ opened_chunk key (prefix_of file) n (n == last_chunk file) (piece 65552 (body_of file) n)
-unfolding opened_chunks
-chunks_more key file n = joined_more (λ i. opened_chunk key (prefix_of file) i (i == last_chunk file) (piece 65552 (body_of file) i)) n
-
--- the header was read, and then the first chunk
-pub open_start : (key prefix file bytes read_bytes chunk : List ℕ) (between rest old : Option (List ℕ)) → bytes ≡ read_bytes
-    → TakesFront 16 file read_bytes between
-    → HasHeader bytes → prefix ≡ drop 9 bytes
-    → IfSome between (λ left. TakesFront 65552 left chunk rest) → Opening key prefix file 0 chunk rest old old
-open_start key prefix file bytes read_bytes chunk between rest old same first has prefix_is read =
-    let taken : bytes ≡ take 16 file = same ∙ first.piece_is in
-    let P : Option (List ℕ) → Type 0 = λ o. IfSome o (λ left. TakesFront 65552 left chunk rest) in
-    record {
-      front = record {
-        size = let h = has.size in let e = ap length taken in let k = length-take 16 file in omega (arith, h, e, k);
-        right = sym (take-take 9 16 file (omega arith)) ∙ ap (take 9) (sym taken) ∙ has.right;
-      };
-      prefix_is = prefix_is ∙ ap (drop 9) taken;
-      right = none_right key file;
-      at = first_read 65552 (body_of file) chunk rest (subst P first.left read);
-      written = subst (Appends old old) (sym (none_opened key file)) (Appends-nil old);
-    }
-
--- the header is wrong
-header_wrong : (key file bytes : List ℕ) (rest : Option (List ℕ)) (error : FileError) → TakesFront 16 file bytes rest
-    → HeaderRefuses bytes error → OpenRefuses key file error
-header_wrong key file bytes rest KeyLength read h = absurd h
-header_wrong key file bytes rest AnotherMagic read h = inl (subst (λ (l : List ℕ). HeaderRefuses l AnotherMagic) read.piece_is h)
-header_wrong key file bytes rest (AnotherVersion v) read h = inl (subst (λ (l : List ℕ). HeaderRefuses l (AnotherVersion v)) read.piece_is h)
-header_wrong key file bytes rest EndsEarly read h = inl (subst (λ (l : List ℕ). HeaderRefuses l EndsEarly) read.piece_is h)
-header_wrong key file bytes rest BytesBehind read h = absurd h
-header_wrong key file bytes rest (Refused n) read h = absurd h
-header_wrong key file bytes rest TooLong read h = absurd h
-header_wrong key file bytes rest OutOfMemory read h = absurd h
-header_wrong key file bytes rest (Io e) read h = absurd h
-
-pub header_refused : (key file bytes read_bytes : List ℕ) (rest : Option (List ℕ)) (error : FileError) → bytes ≡ read_bytes → TakesFront 16 file read_bytes rest
-    → HeaderRefuses bytes error → OpenRefuses key file error
-header_refused key file bytes read_bytes rest error same read h =
-    header_wrong key file read_bytes rest error read (subst (λ (l : List ℕ). HeaderRefuses l error) same h)
+-- a header that is refused, and then a chunk
+pub header_refused : (key file bytes read_bytes : List ℕ) (rest : Option (List ℕ)) (error : FileError) → bytes ≡ read_bytes
+    → TakesFront 16 file read_bytes rest → HeaderRefuses bytes error → OpenRefuses key file error
+header_refused key file bytes read_bytes rest TooLong same read h = absurd h
+header_refused key file bytes read_bytes rest (Io e) same read h = absurd h
+header_refused key file bytes read_bytes rest error same read h = inl (subst (λ (l : List ℕ). HeaderRefuses l error) (same ∙ read.piece_is) h)
 
 pub refused_at : (key file : List ℕ) (n : ℕ) (error : FileError) → RefusesAt key file error n → OpenRefuses key file error
-refused_at key file n KeyLength h = absurd h.wrong.1
-refused_at key file n AnotherMagic h = absurd h.wrong.1
-refused_at key file n (AnotherVersion v) h = absurd h.wrong.1
-refused_at key file n EndsEarly h = inr (n, h)
-refused_at key file n BytesBehind h = inr (n, h)
-refused_at key file n (Refused k) h = inr (n, h)
 refused_at key file n TooLong h = absurd h.wrong.1
-refused_at key file n OutOfMemory h = absurd h.wrong.1
 refused_at key file n (Io e) h = absurd h.wrong.1
+refused_at key file n error h = inr (n, h)
 
--- stopped with nothing written
-pub stop_at_start : (key file : List ℕ) (old : Option (List ℕ)) → (n : ℕ) × AreRight key file n × AppendsBeginning old old (opened_chunks key file n)
-stop_at_start key file old = (0, none_right key file, begins_whole old old [] (opened_chunks key file 0) (opened_chunks key file 0) (Appends-nil old) refl)
+-- ---- steps
 
--- stopped before a chunk
-pub open_stop : (key prefix file : List ℕ) (n : ℕ) (chunk : List ℕ) (rest old now : Option (List ℕ)) → Opening key prefix file n chunk rest old now
-    → (k : ℕ) × AreRight key file k × AppendsBeginning old now (opened_chunks key file k)
-open_stop key prefix file n chunk rest old now s = (n, s.right, begins_whole old now _ [] _ s.written (sym (append-nil (opened_chunks key file n))))
+-- before chunk n is opened: the header and the chunks before it are right, and their messages were appended
+pub record Opening (key prefix file : List ℕ) (n : ℕ) (old now : Option (List ℕ)) : Type 0 where
+  pub front : HasHeader file
+  pub prefix_is : prefix ≡ prefix_of file
+  pub in_range : n ≤ last_chunk file
+  pub right : AreRight key file n
+  pub written : Appends old now (opened_chunks key file n)
 
--- too many chunks
-pub open_long : (key prefix file : List ℕ) (n : ℕ) (chunk : List ℕ) (rest old now : Option (List ℕ)) → Opening key prefix file n chunk rest old now
-    → n ≡ 2 ^ 32 - 1 → OpenRefuses key file TooLong
-open_long key prefix file n chunk rest old now s e =
-    (s.front, subst (AreRight key file) e s.right, subst (λ (k : ℕ). k ≤ last_chunk file) e s.at.in_range)
+-- the header was right
+pub open_start : (key prefix file bytes : List ℕ) (old now : Option (List ℕ)) → Keeps old now → bytes ≡ take 16 file → HasHeader bytes → prefix ≡ drop 9 bytes
+    → Opening key prefix file 0 old now
+unfolding opened_chunks
+open_start key prefix file bytes old now kept taken has prefix_is = record {
+  front = record {
+    size = let h = has.size in let e = ap length taken in let k = length-take 16 file in omega (arith, h, e, k);
+    right = sym (take-take 9 16 file (omega arith)) ∙ ap (take 9) (sym taken) ∙ has.right;
+  };
+  prefix_is = prefix_is ∙ ap (drop 9) taken;
+  in_range = omega arith;
+  right = none_right key file;
+  written = Appends-kept old old now [] (Appends-nil old) kept;
+}
 
-module _ (key prefix file : List ℕ) (n : ℕ) (chunk next : List ℕ) (rest rest' old now now' : Option (List ℕ)) (flag : Bool)
-    (s : Opening key prefix file n chunk rest old now) (read : IfSome rest (λ left. TakesFront 65552 left next rest'))
-    (m : ℕ) (counted : flag ≡ (m == 0)) (m_is : m ≡ length next) where
-  flag_right : flag ≡ (n == last_chunk file)
-  flag_right = flag_is 65552 (body_of file) n chunk next rest rest' (omega arith) s.at read flag m counted m_is
+-- what was written until a call failed
+abbrev Stopped : (key file : List ℕ) (old now : Option (List ℕ)) → Type 0
+Stopped key file old now = (n : ℕ) × AreRight key file n × AppendsBeginning old now (opened_chunks key file n)
 
-  -- what is said of the chunk that was read is said of the file's chunk
-  of_chunk : (P : List ℕ → Bool → List ℕ → Type 0) → P prefix flag chunk → P (prefix_of file) (n == last_chunk file) (piece 65552 (body_of file) n)
-  of_chunk P h =
-      subst (λ (l : List ℕ). P (prefix_of file) (n == last_chunk file) l) s.at.here_is
-      (subst (λ (b : Bool). P (prefix_of file) b chunk) flag_right (subst (λ (p : List ℕ). P p flag chunk) s.prefix_is h))
+pub stop_at_start : (key file : List ℕ) (old : Option (List ℕ)) → Stopped key file old old
+stop_at_start key file old = (0, none_right key file, begins_none old (opened_chunks key file 0))
 
-  -- a chunk that has no right tag
-  pub open_refused : (error : FileError) → ¬ HasTag key prefix n flag chunk → ChunkRefuses key prefix n flag chunk error → OpenRefuses key file error
-  open_refused error wrong why = refused_at key file n error (record {
-    front = s.front;
-    right = s.right;
-    in_range = s.at.in_range;
-    wrong = (of_chunk (λ p b l. ¬ HasTag key p n b l) wrong, of_chunk (λ p b l. ChunkRefuses key p n b l error) why);
-  })
+module _ {key prefix file : List ℕ} {n : ℕ} {old now : Option (List ℕ)} (s : Opening key prefix file n old now) where
+  -- stopped before a chunk
+  pub open_stop : Stopped key file old now
+  open_stop = (n, s.right, (_, [], sym (append-nil (opened_chunks key file n)), s.written))
 
-  module _ (opened : List ℕ) (had : HasTag key prefix n flag chunk) (message : opened ≡ opened_chunk key prefix n flag chunk) where
-    right_more : AreRight key file (n + 1)
-    right_more = record { each = below_more (HasRightTag key file) n s.right.each (of_chunk (λ p b l. HasTag key p n b l) had) }
+  -- too many chunks
+  pub open_long : n ≡ 2 ^ 32 - 1 → OpenRefuses key file TooLong
+  open_long e = (s.front, subst (AreRight key file) e s.right, subst (λ (k : ℕ). k ≤ last_chunk file) e s.in_range)
 
-    opened_more : opened_chunks key file (n + 1) ≡ opened_chunks key file n ++ opened
-    opened_more = chunks_more key file n
-        ∙ ap (λ (l : List ℕ). opened_chunks key file n ++ l) (sym (of_chunk (λ p b l. opened ≡ opened_chunk key p n b l) message))
-
-    -- stopped within a chunk's message
-    pub open_stop_in : AppendsBeginning now now' opened → (k : ℕ) × AreRight key file k × AppendsBeginning old now' (opened_chunks key file k)
-    open_stop_in part = (
-      n + 1,
-      right_more,
-      begins_more old now now' _ opened [] _ s.written part
-          (opened_more ∙ ap (λ (l : List ℕ). opened_chunks key file n ++ l) (sym (append-nil opened))),
-    )
-
-    written_more : Appends now now' opened → Appends old now' (opened_chunks key file (n + 1))
-    written_more more = subst (Appends old now') (sym opened_more) (Appends-trans old now now' _ _ s.written more)
-
-    last_here : flag ≡ true → n ≡ last_chunk file
-    last_here last = eqb-true n (last_chunk file) (sym flag_right ∙ last)
-
-    -- the last chunk was opened
-    pub open_accepted : flag ≡ true → n < 2 ^ 32 - 1 → IsSealed key file
-    open_accepted last within = record {
+  module _ {flag : Bool} {chunk : List ℕ} (flag_right : flag ≡ (n == last_chunk file)) (chunk_is : chunk ≡ piece sealed_chunk_len (body_of file) n) where
+    -- a chunk that has no right tag
+    pub chunk_refused : (error : FileError) → ¬ HasTag key prefix n flag chunk → ChunkRefuses key prefix n flag chunk error → RefusesAt key file error n
+    chunk_refused error wrong why = record {
       front = s.front;
-      few = subst (λ (k : ℕ). k < 2 ^ 32 - 1) (last_here last) within;
-      tags = subst (λ (k : ℕ). AreRight key file (k + 1)) (last_here last) right_more;
+      right = s.right;
+      in_range = s.in_range;
+      wrong = of_same (λ p b l. (¬ HasTag key p n b l) × ChunkRefuses key p n b l error) s.prefix_is flag_right chunk_is (wrong, why);
     }
 
-    pub open_end : flag ≡ true → Appends now now' opened → Appends old now' (opened_file key file)
-    open_end last more = subst (λ (k : ℕ). Appends old now' (opened_chunks key file (k + 1))) (last_here last) (written_more more)
+    module _ (had : HasTag key prefix n flag chunk) where
+      right_more : AreRight key file (n + 1)
+      right_more = record {
+        each = below_more (HasRightTag key file) n s.right.each (of_same (λ p b l. HasTag key p n b l) s.prefix_is flag_right chunk_is had);
+      }
 
-    -- another chunk was opened
-    pub open_next : (next' : List ℕ) → next' ≡ next → flag ≡ false → Appends now now' opened → Opening key prefix file (n + 1) next' rest' old now'
-    open_next next' same more written = record {
-      front = s.front;
-      prefix_is = s.prefix_is;
-      right = right_more;
-      at = next_stands 65552 (body_of file) n chunk next rest rest' (omega arith) s.at read next' same (sym flag_right ∙ more);
-      written = written_more written;
-    }
+      last_here : flag ≡ true → n ≡ last_chunk file
+      last_here last = eqb-true n (last_chunk file) (sym flag_right ∙ last)
+
+      -- the last chunk was right
+      pub open_accepted : flag ≡ true → n < 2 ^ 32 - 1 → IsSealed key file
+      open_accepted last within = record {
+        front = s.front;
+        few = subst (λ (k : ℕ). k < 2 ^ 32 - 1) (last_here last) within;
+        tags = subst (λ (k : ℕ). AreRight key file (k + 1)) (last_here last) right_more;
+      }
+
+      module _ {message : List ℕ} (message_is : message ≡ opened_chunk key prefix n flag chunk) (now' : Option (List ℕ)) where
+        more_is : opened_chunks key file (n + 1) ≡ opened_chunks key file n ++ message
+        more_is = messages_more key file n ∙ ap (λ (l : List ℕ). opened_chunks key file n ++ l)
+            (sym (of_same (λ p b l. message ≡ opened_chunk key p n b l) s.prefix_is flag_right chunk_is message_is))
+
+        -- stopped within its message
+        pub open_stop_in : AppendsBeginning now now' message → Stopped key file old now'
+        open_stop_in part = (
+          n + 1,
+          right_more,
+          begins_more old now now' _ message [] _ s.written part
+              (more_is ∙ ap (λ (l : List ℕ). opened_chunks key file n ++ l) (sym (append-nil message))),
+        )
+
+        written_more : Appends now now' message → Appends old now' (opened_chunks key file (n + 1))
+        written_more more = subst (Appends old now') (sym more_is) (Appends-trans old now now' _ _ s.written more)
+
+        pub open_end : flag ≡ true → Appends now now' message → Appends old now' (opened_file key file)
+        open_end last more = subst (λ (k : ℕ). Appends old now' (opened_chunks key file (k + 1))) (last_here last) (written_more more)
+
+        -- another chunk was opened
+        pub open_next : flag ≡ false → Appends now now' message → Opening key prefix file (n + 1) old now'
+        open_next more written = record {
+          front = s.front;
+          prefix_is = s.prefix_is;
+          in_range = let h = eqb-false n (last_chunk file) (sym flag_right ∙ more) in let within = s.in_range in omega (arith, h, within);
+          right = right_more;
+          written = written_more written;
+        }
+
+-- ---- steps over a reader
+
+-- before chunk n is opened, which was read
+pub record Reading (key prefix file : List ℕ) (n : ℕ) (chunk : List ℕ) (rest old now : Option (List ℕ)) : Type 0 where
+  pub so_far : Opening key prefix file n old now
+  pub at : TakesFront sealed_chunk_len (drop (sealed_chunk_len * n) (body_of file)) chunk rest
+
+-- the header was read, and then the first chunk
+pub read_start : (key prefix file bytes read_bytes chunk : List ℕ) (between rest old : Option (List ℕ)) → bytes ≡ read_bytes
+    → TakesFront 16 file read_bytes between → HasHeader bytes → prefix ≡ drop 9 bytes
+    → IfSome between (λ left. TakesFront sealed_chunk_len left chunk rest) → Reading key prefix file 0 chunk rest old old
+read_start key prefix file bytes read_bytes chunk between rest old same first has prefix_is read = record {
+  so_far = open_start key prefix file bytes old old (Keeps-refl old) (same ∙ first.piece_is) has prefix_is;
+  at = rw first.left at read;
+}
+
+module _ {key prefix file chunk : List ℕ} {n : ℕ} {rest old now : Option (List ℕ)} (s : Reading key prefix file n chunk rest old now) where
+  pub read_stop : Stopped key file old now
+  read_stop = open_stop s.so_far
+
+  pub read_long : n ≡ 2 ^ 32 - 1 → OpenRefuses key file TooLong
+  read_long = open_long s.so_far
+
+  module _ (next : List ℕ) (rest' : Option (List ℕ)) (read : IfSome rest (λ left. TakesFront sealed_chunk_len left next rest'))
+      {m : ℕ} {flag : Bool} (counted : flag ≡ (m == 0)) (m_is : m ≡ length next) where
+    -- the chunk is the last if nothing was read behind it
+    flag_right : flag ≡ (n == last_chunk file)
+    flag_right = counted ∙ flag_is sealed_chunk_len (body_of file) n s.at next rest' read (omega arith) s.so_far.in_range m_is
+
+    pub read_refused : (error : FileError) → ¬ HasTag key prefix n flag chunk → ChunkRefuses key prefix n flag chunk error → OpenRefuses key file error
+    read_refused error wrong why = refused_at key file n error (chunk_refused s.so_far flag_right s.at.piece_is error wrong why)
+
+    module _ (had : HasTag key prefix n flag chunk) where
+      pub read_accepted : flag ≡ true → n < 2 ^ 32 - 1 → IsSealed key file
+      read_accepted = open_accepted s.so_far flag_right s.at.piece_is had
+
+      module _ {message : List ℕ} (message_is : message ≡ opened_chunk key prefix n flag chunk) (now' : Option (List ℕ)) where
+        pub read_stop_in : AppendsBeginning now now' message → Stopped key file old now'
+        read_stop_in = open_stop_in s.so_far flag_right s.at.piece_is had message_is now'
+
+        pub read_end : flag ≡ true → Appends now now' message → Appends old now' (opened_file key file)
+        read_end = open_end s.so_far flag_right s.at.piece_is had message_is now'
+
+        pub read_next : {next' : List ℕ} → next' ≡ next → flag ≡ false → Appends now now' message → Reading key prefix file (n + 1) next' rest' old now'
+        read_next same more written = record {
+          so_far = open_next s.so_far flag_right s.at.piece_is had message_is now' more written;
+          at = rw same (next_read sealed_chunk_len (body_of file) n s.at next rest' read);
+        }

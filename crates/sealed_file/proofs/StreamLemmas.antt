@@ -1,13 +1,13 @@
 -- Steps of the loops over a reader and a writer.
-use Rattle.std.proofs.Common.{◌≡◌, ℕ, Bool, false, inl, inr, None, Some, IfSome, Result, Ok, Err, IfErr, OnErr, ◌+◌, ◌-◌}
+use Rattle.std.proofs.Common.{◌≡◌, ℕ, inl, inr, None, Some, IfSome, Result, Ok, Err, OnErr, ◌+◌, ◌-◌}
 use Rattle.std.proofs.Common.{◌*◌, ◌<◌, ◌≤◌, List, [], ◌++◌, length, take, drop, refl, sym, ap, subst, ◌∙◌, arith, append_assoc, append-nil}
-use Rattle.std.specs.Prelude.{◌==◌, IsErrAnd, Option}
+use Rattle.std.specs.Prelude.{◌==◌, Option}
 use Rattle.std.specs.Io.KnownBytes.{Appends, Consumes, IsAtEnd, Keeps}
 use Rattle.std.proofs.KnownBytes.{Appends-nil, Appends-trans, Consumes-kept, Consumes-trans}
 use Rattle.std.proofs.Math.Seq.{take-add}
-use Rattle.std.proofs.lemmas.Bool.{cases_lt, eq-eqb, eqb-false, eqb-true}
+use Rattle.std.proofs.lemmas.Bool.{cases_lt}
 use Rattle.std.proofs.lemmas.List.{drop_all, drop_at, take-append-drop, take_at, take_all, take_rest}
-use Rattle.sealed_file.specs.Format.{piece, last_piece}
+use Rattle.sealed_file.specs.Format.{last_piece}
 use Rattle.sealed_file.specs.Streams.{AppendsBeginning, TakesFront}
 use Rattle.sealed_file.proofs.PieceLemmas.{is_last, rest_behind}
 
@@ -36,48 +36,21 @@ taken len (Some bytes) (Some rest) got short took end = elim (cases_lt (length g
 pub filled_more : (a b c : Option (List ℕ)) (xs ys : List ℕ) (f n f' : ℕ) → f' ≡ f + n → take f ys ≡ take f xs → f + n ≤ length ys
     → Consumes a b (take f xs) → Consumes b c (take n (drop f ys)) → (f' ≤ length ys) × Consumes a c (take f' ys)
 filled_more a b c xs ys f n f' e front fits before read =
-    let joined : take f xs ++ take n (drop f ys) ≡ take f' ys =
-    ap (λ (l : List ℕ). l ++ take n (drop f ys)) (sym front) ∙ sym (take-add f n ys) ∙ ap (λ (k : ℕ). take k ys) (sym e) in
-    (omega arith, subst (Consumes a c) joined (Consumes-trans a b c _ _ before read))
+    (omega arith, rw (e, take-add f n ys, front) (Consumes-trans a b c _ _ before read))
 
 pub filled_same : (a b c : Option (List ℕ)) (xs ys : List ℕ) (f f' : ℕ) → f' ≡ f → take f ys ≡ take f xs → f ≤ length ys
     → Consumes a b (take f xs) → Keeps b c → (f' ≤ length ys) × Consumes a c (take f' ys)
-filled_same a b c xs ys f f' e front fits before kept =
-    (omega arith, subst (Consumes a c) (sym front ∙ ap (λ (k : ℕ). take k ys) (sym e)) (Consumes-kept a b c _ before kept))
+filled_same a b c xs ys f f' e front fits before kept = (omega arith, rw (e, front) (Consumes-kept a b c _ before kept))
 
--- where the loops stand: the n-th piece was read, and what is behind it is left
-pub record StandsAt (size : ℕ) (bytes : List ℕ) (n : ℕ) (here : List ℕ) (rest : Option (List ℕ)) : Type 0 where
-  pub in_range : n ≤ last_piece size (length bytes)
-  pub here_is : here ≡ piece size bytes n
-  pub left : rest ≡ Some (drop (size * (n + 1)) bytes)
-
--- the first piece was read
-pub first_read : (size : ℕ) (bytes here : List ℕ) (rest : Option (List ℕ)) → TakesFront size bytes here rest → StandsAt size bytes 0 here rest
-first_read size bytes here rest read = record {
-  in_range = omega arith;
-  here_is = read.piece_is ∙ ap (λ (k : ℕ). take size (drop k bytes)) (let e : 0 ≡ size * 0 = omega arith in e);
-  left = read.left ∙ ap (λ (k : ℕ). Some (drop k bytes)) (let e : size ≡ size * (0 + 1) = omega arith in e);
-}
-
-module _ (size : ℕ) (bytes : List ℕ) (n : ℕ) (here next : List ℕ) (rest rest' : Option (List ℕ)) (some : 0 < size) (at : StandsAt size bytes n here rest)
-    (read : IfSome rest (λ left. TakesFront size left next rest')) where
-  read_here : TakesFront size (drop (size * (n + 1)) bytes) next rest'
-  read_here = let P : Option (List ℕ) → Type 0 = λ o. IfSome o (λ left. TakesFront size left next rest') in subst P at.left read
+-- the loops stand at piece n of the bytes where it was read, and what is behind it is left; the next one is read
+module _ (size : ℕ) (bytes : List ℕ) (n : ℕ) {here : List ℕ} {rest : Option (List ℕ)} (at : TakesFront size (drop (size * n) bytes) here rest)
+    (next : List ℕ) (rest' : Option (List ℕ)) (read : IfSome rest (λ left. TakesFront size left next rest')) where
+  pub next_read : TakesFront size (drop (size * (n + 1)) bytes) next rest'
+  next_read = subst (λ (l : List ℕ). TakesFront size l next rest') (rest_behind size bytes n) (rw at.left at read)
 
   -- a piece is the last if nothing was read behind it
-  pub flag_is : (flag : Bool) (m : ℕ) → flag ≡ (m == 0) → m ≡ length next → flag ≡ (n == last_piece size (length bytes))
-  flag_is flag m counted m_is =
-      let e = ap length read_here.piece_is in
-      is_last size bytes n flag some at.in_range
-      (λ h. sym e ∙ sym m_is ∙ eqb-true m 0 (sym counted ∙ h)) (λ h. counted ∙ eq-eqb m 0 (m_is ∙ e ∙ h))
-
-  -- and else the loop goes on with what was read
-  pub next_stands : (next' : List ℕ) → next' ≡ next → n == last_piece size (length bytes) ≡ false → StandsAt size bytes (n + 1) next' rest'
-  next_stands next' same more = record {
-    in_range = let h = eqb-false n (last_piece size (length bytes)) more in let within = at.in_range in omega (arith, h, within);
-    here_is = same ∙ read_here.piece_is;
-    left = read_here.left ∙ ap (λ (l : List ℕ). Some l) (rest_behind size bytes (n + 1));
-  }
+  pub flag_is : {m : ℕ} → 0 < size → n ≤ last_piece size (length bytes) → m ≡ length next → m == 0 ≡ (n == last_piece size (length bytes))
+  flag_is some within m_is = is_last size bytes next n _ some within next_read.piece_is m_is
 
 -- ---- writing
 
@@ -91,35 +64,22 @@ pub begins_more : (old mid new : Option (List ℕ)) (done more later all : List 
 begins_more old mid new done more later all first (front, rest, e, second) all_is = (
   done ++ front,
   rest ++ later,
-  all_is ∙ ap (λ (l : List ℕ). done ++ (l ++ later)) e ∙ ap (λ (l : List ℕ). done ++ l) (append_assoc front rest later)
-      ∙ sym (append_assoc done front (rest ++ later)),
+  all_is ∙ ap (λ (l : List ℕ). done ++ (l ++ later)) e ∙ simp append_assoc,
   Appends-trans old mid new done front first second,
 )
 
-pub begins_front : (old new : Option (List ℕ)) (more later all : List ℕ) → AppendsBeginning old new more → all ≡ more ++ later → AppendsBeginning old new all
-begins_front old new more later all first all_is = begins_more old old new [] more later all (Appends-nil old) first all_is
+-- where a call fails, what is said of all bytes, and what follows from what was said before, is said of the known ones
+pub stop : {X T E : Type 0} (r : Result T E) (known : Option X) {P : X → Type 0} → ((x : X) → P x) → OnErr r (IfSome known P)
+stop (Ok v) known all = tt
+stop (Err e) None all = tt
+stop (Err e) (Some x) all = all x
 
-pub begins_whole : (old new : Option (List ℕ)) (done later all : List ℕ) → Appends old new done → all ≡ done ++ later → AppendsBeginning old new all
-begins_whole old new done later all first all_is = (done, later, all_is, first)
-
-pub if_some_all : {X : Type 0} (known : Option X) (P : X → Type 0) → ((x : X) → P x) → IfSome known P
-if_some_all None P all = tt
-if_some_all (Some x) P all = all x
-
-pub if_some_map : {X : Type 0} (known : Option X) (P Q : X → Type 0) → IfSome known P → ((x : X) → P x → Q x) → IfSome known Q
-if_some_map None P Q h step = tt
-if_some_map (Some x) P Q h step = step x h
-
-pub on_err : {T E : Type 0} (r : Result T E) (P : Type 0) → P → OnErr r P
-on_err (Ok v) P h = tt
-on_err (Err e) P h = h
-
-pub err_from : {T E : Type 0} (r : Result T E) (Q P : E → Type 0) → IsErrAnd r Q → ((e : E) → Q e → P e) → IfErr r P
-err_from (Ok v) Q P h step = tt
-err_from (Err e) Q P h step = step e h
+pub stop_then : {X T E : Type 0} (r : Result T E) (known : Option X) {P Q : X → Type 0} → IfSome known P → ((x : X) → P x → Q x) → OnErr r (IfSome known Q)
+stop_then (Ok v) known h step = tt
+stop_then (Err e) None h step = tt
+stop_then (Err e) (Some x) h step = step x h
 
 -- what is left of the bytes, once n more were written
 pub moves_front : (all done rest left : List ℕ) (n : ℕ) → all ≡ done ++ rest → left ≡ take (length rest - n) (drop n rest) → all ≡ (done ++ take n rest) ++ left
 moves_front all done rest left n e left_is =
-    e ∙ ap (λ (l : List ℕ). done ++ l) (sym (take-append-drop n rest)) ∙ sym (append_assoc done (take n rest) (drop n rest))
-    ∙ ap (λ (l : List ℕ). (done ++ take n rest) ++ l) (sym (left_is ∙ take_rest rest n))
+    rw (left_is, take_rest rest n, append_assoc, take-append-drop) e

@@ -6,6 +6,13 @@ use Rattle.aead_ciphers_base.specs.Bytes.{each_below}
 use Rattle.aead_ciphers_base.specs.Aes.{aes}
 use Rattle.aead_ciphers.specs.Gcm.{gcm_sealed}
 
+-- the bytes of a chunk that isn't the last, and of one that is sealed
+abbrev pub chunk_len : ℕ
+chunk_len = 65536
+
+abbrev pub sealed_chunk_len : ℕ
+sealed_chunk_len = chunk_len + 16
+
 -- piece i of bytes that are cut into pieces of `size` bytes, of which the last may be shorter
 abbrev pub piece : ℕ → List ℕ → ℕ → List ℕ
 piece size bytes i = take size (drop (size * i) bytes)
@@ -33,9 +40,9 @@ sealed_chunk key prefix number is_last chunk =
 
 -- the first n chunks of a file, sealed
 unfoldable pub sealed_chunks : (key prefix file : List ℕ) (n : ℕ) → List ℕ
-sealed_chunks key prefix file n = let last = last_piece 65536 (length file) in
-    concat (each_below n (λ i. sealed_chunk key prefix i (i == last) (piece 65536 file i)))
+sealed_chunks key prefix file n = let last = last_piece chunk_len (length file) in
+    concat (each_below n (λ i. sealed_chunk key prefix i (i == last) (piece chunk_len file i)))
 
 -- a file, sealed
 abbrev pub sealed_file : (key prefix file : List ℕ) → List ℕ
-sealed_file key prefix file = header prefix ++ sealed_chunks key prefix file (last_piece 65536 (length file) + 1)
+sealed_file key prefix file = header prefix ++ sealed_chunks key prefix file (last_piece chunk_len (length file) + 1)

@@ -2,12 +2,12 @@
 use Rattle.std.specs.Prelude.{◌≡◌, ◌≢◌, ℕ, Bool, true, false, ◌-◌, ◌^◌, ◌<◌, ◌≤◌, ◌⊎◌, ⊤, List, length, take, codes, slice_index, ◌==◌}
 use Rattle.sealed_file.specs.declared.error.FileError.{FileError}
 use Rattle.sealed_file.specs.declared.error.FileError.TheVariants.{AnotherMagic, AnotherVersion, EndsEarly, BytesBehind, Refused, TooLong, OutOfMemory, Io}
-use Rattle.sealed_file.specs.Format.{piece, last_piece}
+use Rattle.sealed_file.specs.Format.{chunk_len, sealed_chunk_len, piece, last_piece}
 use Rattle.sealed_file.specs.Opening.{HasTag, HasHeader, AreRight, last_chunk, prefix_of, body_of}
 
 -- why a file isn't sealed
 abbrev pub SealRefuses : List ℕ → FileError → Type 0
-SealRefuses file TooLong = 2 ^ 32 - 1 ≤ last_piece 65536 (length file)
+SealRefuses file TooLong = 2 ^ 32 - 1 ≤ last_piece chunk_len (length file)
 SealRefuses file (Io error) = ⊤
 SealRefuses file error = ⊥
 
@@ -36,7 +36,7 @@ pub record RefusesAt (key file : List ℕ) (error : FileError) (n : ℕ) : Type 
   pub front : HasHeader file
   pub right : AreRight key file n
   pub in_range : n ≤ last_chunk file
-  pub wrong : let is_last = n == last_chunk file in let sealed = piece 65552 (body_of file) n in
+  pub wrong : let is_last = n == last_chunk file in let sealed = piece sealed_chunk_len (body_of file) n in
       (¬ HasTag key (prefix_of file) n is_last sealed) × ChunkRefuses key (prefix_of file) n is_last sealed error
 
 -- why a file isn't opened

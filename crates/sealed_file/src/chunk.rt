@@ -2,7 +2,7 @@
 
 ghost use Rattle.std.specs.Prelude.{◌≡◌, ◌≤◌, ◌↔◌, ◌++◌, length, vec_len, drop, IsTrue, IsOk, IfOk, IfErr, OnOk};
 ghost use Rattle.std.specs.Bool.{OnTrue, OnFalse};
-ghost use Rattle.sealed_file.specs.Format.{header, chunk_nonce, sealed_chunk};
+ghost use Rattle.sealed_file.specs.Format.{chunk_len, sealed_chunk_len, header, chunk_nonce, sealed_chunk};
 ghost use Rattle.sealed_file.specs.Opening.{HasTag, HasHeader, opened_chunk};
 ghost use Rattle.sealed_file.specs.Refusals.{HeaderRefuses, ChunkRefuses};
 
@@ -93,7 +93,7 @@ fn nonce_of(prefix: &Prefix, number: u32, is_last: bool) -> Nonce
     Nonce::assume_unique_for_key([p0, p1, p2, p3, p4, p5, p6, n0, n1, n2, n3, last])
 }
 
-/// Encrypts a chunk of at most 64 KiB, and gives its tag.
+/// Encrypts a chunk of at most `CHUNK_LEN` bytes, and gives its tag.
 pub(crate) fn seal_slice(
     key: &FileKey,
     prefix: &Prefix,
@@ -101,7 +101,7 @@ pub(crate) fn seal_slice(
     is_last: bool,
     chunk: &mut [u8],
 ) -> Tag
-    requires { length chunk.old ≤ 65536 }
+    requires { length chunk.old ≤ chunk_len }
     ensures { chunk.new ++ result ≡ sealed_chunk key.now prefix.now number is_last chunk.old }
 {
     let header = header_of(prefix);
@@ -113,7 +113,7 @@ pub(crate) fn seal_slice(
     }
 }
 
-/// Seals a chunk of at most 64 KiB, and appends its tag.
+/// Seals a chunk of at most `CHUNK_LEN` bytes, and appends its tag.
 pub(crate) fn seal_chunk(
     key: &FileKey,
     prefix: &Prefix,
@@ -121,7 +121,7 @@ pub(crate) fn seal_chunk(
     is_last: bool,
     chunk: &mut Vec<u8>,
 ) -> io::Result<()>
-    requires { vec_len chunk.old ≤ 65536 }
+    requires { vec_len chunk.old ≤ chunk_len }
     ensures { OnOk result (chunk.new.items
         ≡ sealed_chunk key.now prefix.now number is_last chunk.old.items) }
 {
@@ -130,7 +130,7 @@ pub(crate) fn seal_chunk(
     Ok(())
 }
 
-/// Opens a ciphertext of at most 64 KiB in place, and says whether it has this tag.
+/// Opens a ciphertext of at most `CHUNK_LEN` bytes in place, and says whether it has this tag.
 fn has_opened(
     key: &FileKey,
     prefix: &Prefix,
@@ -139,7 +139,7 @@ fn has_opened(
     tag: &[u8; MAX_TAG_LEN],
     ciphertext: &mut [u8],
 ) -> bool
-    requires { length ciphertext.old ≤ 65536 }
+    requires { length ciphertext.old ≤ chunk_len }
     ensures accepted { IsTrue result
         ↔ HasTag key.now prefix.now number is_last (ciphertext.old ++ tag.now) }
     ensures opened { OnTrue result (ciphertext.new
@@ -154,8 +154,8 @@ fn has_opened(
         .is_ok()
 }
 
-/// Opens the ciphertext of a chunk in place, at most 64 KiB that have this tag. On an error the ciphertext is as it was,
-/// or opened as a chunk of the other kind.
+/// Opens the ciphertext of a chunk in place, at most `CHUNK_LEN` bytes that have this tag. On an error the ciphertext is as
+/// it was, or opened as a chunk of the other kind.
 pub(crate) fn open_ciphertext(
     key: &FileKey,
     prefix: &Prefix,
@@ -164,7 +164,7 @@ pub(crate) fn open_ciphertext(
     tag: &[u8; MAX_TAG_LEN],
     ciphertext: &mut [u8],
 ) -> Result<(), FileError>
-    requires { length ciphertext.old ≤ 65536 }
+    requires { length ciphertext.old ≤ chunk_len }
     ensures accepted { IsOk result
         ↔ HasTag key.now prefix.now number is_last (ciphertext.old ++ tag.now) }
     ensures opened { OnOk result (ciphertext.new
@@ -186,7 +186,7 @@ pub(crate) fn open_ciphertext(
     Err(FileError::Refused(number))
 }
 
-/// Opens a sealed chunk of at most 64 KiB and its tag, so that its message is left.
+/// Opens a sealed chunk of at most `CHUNK_LEN` bytes and its tag, so that its message is left.
 pub(crate) fn open_chunk(
     key: &FileKey,
     prefix: &Prefix,
@@ -194,7 +194,7 @@ pub(crate) fn open_chunk(
     is_last: bool,
     chunk: &mut Vec<u8>,
 ) -> Result<(), FileError>
-    requires { vec_len chunk.old ≤ 65552 }
+    requires { vec_len chunk.old ≤ sealed_chunk_len }
     ensures accepted { IsOk result ↔ HasTag key.now prefix.now number is_last chunk.old.items }
     ensures opened { OnOk result (chunk.new.items
         ≡ opened_chunk key.now prefix.now number is_last chunk.old.items) }

@@ -1,8 +1,8 @@
 //! Sealing and opening files that stand in memory.
 
-ghost use Rattle.std.specs.Prelude.{◌≡◌, ◌+◌, ◌-◌, ◌*◌, ◌^◌, ◌<◌, ◌≤◌, ◌↔◌, ◌++◌, length, vec_capacity, vec_len, take, drop, IsOk, IfErr, OnOk, OnErr};
-ghost use Rattle.sealed_file.specs.Format.{last_piece, piece, sealed_chunk, sealed_file};
-ghost use Rattle.sealed_file.specs.Opening.{HasTag, IsSealed, opened_chunk, opened_file};
+ghost use Rattle.std.specs.Prelude.{ℕ, List, ◌≡◌, ◌+◌, ◌-◌, ◌*◌, ◌^◌, ◌<◌, ◌≤◌, ◌↔◌, ◌++◌, length, vec_capacity, vec_len, take, drop, IsOk, IfErr, OnOk, OnErr};
+ghost use Rattle.sealed_file.specs.Format.{chunk_len, sealed_chunk_len, last_piece, piece, sealed_chunk, sealed_file};
+ghost use Rattle.sealed_file.specs.Opening.{HasTag, IsSealed, body_of, last_chunk, opened_chunk, opened_file};
 ghost use Rattle.sealed_file.specs.Refusals.{ChunkRefuses, FailsInMemory, OpenRefuses, SealRefuses};
 
 use crate::chunk::{
@@ -46,7 +46,7 @@ fn append(bytes: &[u8], out: &mut Vec<u8>)
     }
 }
 
-/// Seals the chunk that `bytes` is from `start` on, at most 64 KiB, and returns its tag.
+/// Seals the chunk that `bytes` is from `start` on, at most `CHUNK_LEN` bytes, and returns its tag.
 fn seal_from(
     key: &FileKey,
     prefix: &Prefix,
@@ -56,7 +56,7 @@ fn seal_from(
     start: usize,
 ) -> Tag
     requires start { start ≤ length bytes.old }
-    requires chunk { length bytes.old ≤ start + 65536 }
+    requires chunk { length bytes.old ≤ start + chunk_len }
     ensures front { take start bytes.new ≡ take start bytes.old }
     ensures sealed { drop start bytes.new ++ result
         ≡ sealed_chunk key.now prefix.now number is_last (drop start bytes.old) }
@@ -64,7 +64,7 @@ fn seal_from(
     seal_slice(key, prefix, number, is_last, &mut bytes[start..])
 }
 
-/// Seals a chunk of at most 64 KiB onto `out`, which has room for it and its tag.
+/// Seals a chunk of at most `CHUNK_LEN` bytes onto `out`, which has room for it and its tag.
 fn append_sealed(
     key: &FileKey,
     prefix: &Prefix,
@@ -73,7 +73,7 @@ fn append_sealed(
     chunk: &[u8],
     out: &mut Vec<u8>,
 )
-    requires chunk { length chunk.now ≤ 65536 }
+    requires chunk { length chunk.now ≤ chunk_len }
     requires room { vec_len out.old + length chunk.now + 16 ≤ vec_capacity out.old }
     ensures sealed { out.new.items
         ≡ out.old.items ++ sealed_chunk key.now prefix.now number is_last chunk.now }
@@ -95,12 +95,12 @@ pub fn seal_bytes(
     file: &[u8],
     out: &mut Vec<u8>,
 ) -> Result<(), FileError>
-    ensures few { IsOk result → last_piece 65536 (length file.now) < 2 ^ 32 - 1 }
+    ensures few { IsOk result → last_piece chunk_len (length file.now) < 2 ^ 32 - 1 }
     ensures sealed { OnOk result (out.new.items
         ≡ out.old.items ++ sealed_file key.now prefix file.now) }
     ensures accepted { let grown = vec_len out.old + length (sealed_file key.now prefix file.now) in
         grown ≤ vec_capacity out.old
-        → (IsOk result ↔ (last_piece 65536 (length file.now) < 2 ^ 32 - 1)) }
+        → (IsOk result ↔ (last_piece chunk_len (length file.now) < 2 ^ 32 - 1)) }
     ensures refused { let grown = vec_len out.old + length (sealed_file key.now prefix file.now) in
         IfErr result (λ error.
         FailsInMemory (vec_capacity out.old < grown) (SealRefuses file.now) error) }
@@ -121,7 +121,7 @@ pub fn seal_bytes(
     Ok(())
 }
 
-/// Opens the ciphertext that `bytes` is from `start` on, at most 64 KiB.
+/// Opens the ciphertext that `bytes` is from `start` on, at most `CHUNK_LEN` bytes.
 fn open_from(
     key: &FileKey,
     prefix: &Prefix,
@@ -132,7 +132,7 @@ fn open_from(
     start: usize,
 ) -> Result<(), FileError>
     requires start { start ≤ length bytes.old }
-    requires chunk { length bytes.old ≤ start + 65536 }
+    requires chunk { length bytes.old ≤ start + chunk_len }
     ensures front { take start bytes.new ≡ take start bytes.old }
     ensures accepted { IsOk result
         ↔ HasTag key.now prefix.now number is_last (drop start bytes.old ++ tag.now) }
@@ -144,8 +144,8 @@ fn open_from(
     open_ciphertext(key, prefix, number, is_last, tag, &mut bytes[start..])
 }
 
-/// Opens a sealed chunk of at most 64 KiB and its tag onto `out`, which has room for the message. On an error bytes
-/// that aren't authentic may stand behind what `out` held.
+/// Opens a sealed chunk onto `out`, which has room for the message. On an error bytes that aren't authentic may stand
+/// behind what `out` held.
 fn append_opened(
     key: &FileKey,
     prefix: &Prefix,
@@ -154,7 +154,7 @@ fn append_opened(
     sealed: &[u8],
     out: &mut Vec<u8>,
 ) -> Result<(), FileError>
-    requires chunk { length sealed.now ≤ 65552 }
+    requires chunk { length sealed.now ≤ sealed_chunk_len }
     requires room { vec_len out.old + (length sealed.now - 16) ≤ vec_capacity out.old }
     ensures front { take (vec_len out.old) out.new.items ≡ out.old.items }
     ensures accepted { IsOk result ↔ HasTag key.now prefix.now number is_last sealed.now }
@@ -172,13 +172,29 @@ fn append_opened(
     open_from(key, prefix, number, is_last, tag, out, start)
 }
 
-/// The length of the messages in the chunks of a sealed file, of which `len` bytes stand behind the header.
-fn opened_len(len: usize) -> usize
-    ensures { let last = last_piece 65552 len in
-        result ≡ 65536 * last + (len - 65552 * last - 16) }
+/// The number of the last chunk of a sealed file.
+fn last_chunk_of(sealed: &[u8]) -> usize
+    ensures { result ≡ last_chunk sealed.now }
 {
-    let last = last_piece_of(len, SEALED_CHUNK_LEN);
-    last * CHUNK_LEN + (len - last * SEALED_CHUNK_LEN).saturating_sub(MAX_TAG_LEN)
+    last_piece_of(sealed.len().saturating_sub(HEADER_LEN), SEALED_CHUNK_LEN)
+}
+
+/// The chunk of this number of a sealed file.
+fn chunk_of(sealed: &[u8], number: u32) -> &[u8]
+    requires header { 16 ≤ length sealed.now }
+    requires in_range { number ≤ last_chunk sealed.now }
+    ensures { result.now ≡ piece sealed_chunk_len (body_of sealed.now) number }
+{
+    piece_of(&sealed[HEADER_LEN..], SEALED_CHUNK_LEN, number)
+}
+
+/// The length of what a sealed file gives.
+fn opened_len(sealed: &[u8]) -> usize
+    ensures { (key : List ℕ) → result ≡ length (opened_file key sealed.now) }
+{
+    let last = last_chunk_of(sealed);
+    let body = sealed.len().saturating_sub(HEADER_LEN);
+    last * CHUNK_LEN + (body - last * SEALED_CHUNK_LEN).saturating_sub(MAX_TAG_LEN)
 }
 
 /// `open_bytes` that on an error may leave bytes behind what `out` held.
@@ -191,14 +207,14 @@ fn append_file(key: &FileKey, sealed: &[u8], out: &mut Vec<u8>) -> Result<(), Fi
         IfErr result (λ error.
         FailsInMemory (vec_capacity out.old < grown) (OpenRefuses key.now sealed.now) error) }
 {
-    let Some((header, body)) = sealed.split_first_chunk::<HEADER_LEN>() else {
+    let Some(header) = sealed.first_chunk::<HEADER_LEN>() else {
         return Err(FileError::EndsEarly);
     };
     let prefix = prefix_in(header)?;
-    let last = last_piece_of(body.len(), SEALED_CHUNK_LEN);
-    out.reserve(opened_len(body.len()))?;
+    let last = last_chunk_of(sealed);
+    out.reserve(opened_len(sealed))?;
     for number in 0..MAX_CHUNKS {
-        let chunk = piece_of(body, SEALED_CHUNK_LEN, number);
+        let chunk = chunk_of(sealed, number);
         let is_last = number as usize == last;
         append_opened(key, &prefix, number, is_last, chunk, out)?;
         if is_last {

@@ -18,7 +18,7 @@ use std::mem;
 ///
 /// It keeps two chunks in memory. Each error but `Io` says what is wrong with the file: `AnotherMagic`,
 /// `AnotherVersion`, `EndsEarly` (within the header or a tag, or behind a chunk that isn't the last), `BytesBehind` (behind
-/// a last chunk of 64 KiB), `Refused` (any other chunk with a false tag), `TooLong` (more than `MAX_CHUNKS` chunks).
+/// a last chunk of `CHUNK_LEN` bytes), `Refused` (any other chunk with a false tag), `TooLong` (more than `MAX_CHUNKS` chunks).
 pub fn open<R: Read, W: Write>(
     alloc: Global,
     key: &FileKey,

@@ -2,7 +2,7 @@
 
 ghost use Rattle.std.specs.Prelude.{◌-◌, ◌^◌, ◌<◌, length, IfErr, IfSome, OnOk, OnErr};
 ghost use Rattle.std.specs.Io.KnownBytes.{Appends};
-ghost use Rattle.sealed_file.specs.Format.{last_piece, sealed_file};
+ghost use Rattle.sealed_file.specs.Format.{chunk_len, last_piece, sealed_file};
 ghost use Rattle.sealed_file.specs.Refusals.{SealRefuses};
 ghost use Rattle.sealed_file.specs.Streams.{AppendsBeginning};
 
@@ -26,7 +26,7 @@ pub fn seal<R: Read, W: Write>(
     output: &mut W,
 ) -> Result<(), FileError>
     ensures few { OnOk result (IfSome (R.remaining input.old) (λ file.
-        last_piece 65536 (length file) < 2 ^ 32 - 1)) }
+        last_piece chunk_len (length file) < 2 ^ 32 - 1)) }
     ensures sealed { OnOk result (IfSome (R.remaining input.old) (λ file.
         Appends (W.contents output.old) (W.contents output.new) (sealed_file key.now prefix file))) }
     ensures refused { IfErr result (λ error. IfSome (R.remaining input.old) (λ file.

@@ -3,6 +3,7 @@
 ghost use Rattle.std.specs.Prelude.{◌≡◌, ◌+◌, ◌<◌, ◌≤◌, length, vec_len, take, drop, IfOk, IfSome, OnOk, OnErr};
 ghost use Rattle.std.specs.Io.KnownBytes.{Appends, Consumes, IsAtEnd, Keeps};
 ghost use Rattle.std.specs.Vec.{vec_capacity};
+ghost use Rattle.sealed_file.specs.Format.{sealed_chunk_len};
 ghost use Rattle.sealed_file.specs.Streams.{AppendsBeginning, TakesFront};
 
 use crate::chunk::SEALED_CHUNK_LEN;
@@ -14,8 +15,8 @@ const ALWAYS_INTERRUPTED: &str = "interrupted too often";
 
 /// Two buffers with room for a sealed chunk each.
 pub(crate) fn buffers(alloc: Global) -> io::Result<(Vec<u8>, Vec<u8>)>
-    ensures first { IfOk result (λ buffers. 65552 ≤ vec_capacity buffers.0) }
-    ensures second { IfOk result (λ buffers. 65552 ≤ vec_capacity buffers.1) }
+    ensures first { IfOk result (λ buffers. sealed_chunk_len ≤ vec_capacity buffers.0) }
+    ensures second { IfOk result (λ buffers. sealed_chunk_len ≤ vec_capacity buffers.1) }
 {
     let first = Vec::with_capacity(alloc, SEALED_CHUNK_LEN)?;
     let second = Vec::with_capacity(alloc, SEALED_CHUNK_LEN)?;

@@ -1,8 +1,9 @@
 -- The chunk is the next, and those before it were right and were written.
 use Rattle.std.proofs.Common.{◌≤◌, IfSome, vec_len}
-use Rattle.sealed_file.proofs.OpenLemmas.{Opening}
+use Rattle.sealed_file.specs.Format.{sealed_chunk_len}
+use Rattle.sealed_file.proofs.OpenLemmas.{Reading}
 use Rattle.sealed_file.proofs.opening.open.Given as goal
 
 abbrev pub invariant-loop-number : goal.invariant-loop-number
-invariant-loop-number g l = (vec_len l.chunk ≤ 65552) × IfSome (g.R.Read.remaining l.fn.input)
-    (λ file. Opening l.key l.prefix file l.number l.chunk.items (g.R.Read.remaining l.input) (g.W.Write.contents l.fn.output) (g.W.Write.contents l.output))
+invariant-loop-number g l = (vec_len l.chunk ≤ sealed_chunk_len) × IfSome (g.R.Read.remaining l.fn.input)
+    (λ file. Reading l.key l.prefix file l.number l.chunk.items (g.R.Read.remaining l.input) (g.W.Write.contents l.fn.output) (g.W.Write.contents l.output))

@@ -1,55 +1,46 @@
 use Rattle.std.proofs.Common.{◌≡◌, vec_len, arith, ◌∙◌}
-use Rattle.sealed_file.proofs.SealLemmas.{seal_end, seal_few, seal_long, seal_next, seal_start, seal_stop, seal_stop_in, stop_behind_header, stop_in_header}
-use Rattle.sealed_file.proofs.StreamLemmas.{begins_none, if_some_all, if_some_map, on_err}
+use Rattle.std.proofs.lemmas.Option.{IfSome_then}
+use Rattle.sealed_file.proofs.SealLemmas.{header_written, seal_end, seal_few, seal_long, seal_next, seal_start, seal_stop, sealing_stop, sealing_stop_in, stop_in_header}
+use Rattle.sealed_file.proofs.StreamLemmas.{begins_none, stop, stop_then}
 use Rattle.sealed_file.proofs.sealing.seal.Goals as goal
 
 pub returns-in_err-chunk-clause-beginning : goal.returns-in_err-chunk-clause-beginning
-returns-in_err-chunk-clause-beginning g c = on_err _ _ (if_some_all _ _ (λ file. begins_none _ _))
+returns-in_err-chunk-clause-beginning g c = stop _ _ (λ file. begins_none _ _)
 
 pub returns-in_err-write_bytes-clause-beginning : goal.returns-in_err-write_bytes-clause-beginning
 returns-in_err-write_bytes-clause-beginning g c =
-    on_err _ _ (if_some_all _ _ (λ file. stop_in_header _ _ _ _ _ _ (c.as_slice.ensures ∙ c.header_of-header.ensures) c.in_err-write_bytes.ensures.err))
+    stop _ _ (λ file. stop_in_header _ _ _ _ _ _ (c.as_slice.ensures ∙ c.header_of-header.ensures) c.in_err-write_bytes.ensures.err)
 
 pub returns-in_err-read_piece-clause-beginning : goal.returns-in_err-read_piece-clause-beginning
-returns-in_err-read_piece-clause-beginning g c =
-    on_err _ _ (if_some_all _ _ (λ file. stop_behind_header _ _ _ _ _ _ (c.as_slice.ensures ∙ c.header_of-header.ensures) c.in_ok-write_bytes.ensures.ok))
+returns-in_err-read_piece-clause-beginning g c = stop _ _ (λ file.
+    seal_stop _ _ _ 0 (omega arith) _ _ (header_written _ _ file _ _ _ (c.as_slice.ensures ∙ c.header_of-header.ensures) c.in_ok-write_bytes.ensures.ok))
 
 pub loop-number-init : goal.loop-number-init
 loop-number-init g c = (
   c.in_ok-read_piece.ensures.size,
-  if_some_map _ _ _ c.in_ok-read_piece.ensures.bytes (λ file read.
+  IfSome_then _ c.in_ok-read_piece.ensures.bytes (λ file read.
       seal_start _ _ _ _ _ _ _ _ (c.as_slice.ensures ∙ c.header_of-header.ensures) c.in_ok-write_bytes.ensures.ok read),
 )
 
 pub returns-in_err-read_piece-2-clause-beginning : goal.returns-in_err-read_piece-2-clause-beginning
-returns-in_err-read_piece-2-clause-beginning g c = on_err _ _ (if_some_map _ _ _ c.loop-number.invariant.1 (λ file s. seal_stop _ _ _ _ _ _ _ _ s))
+returns-in_err-read_piece-2-clause-beginning g c = stop_then _ _ c.loop-number.invariant.1 (λ file s. sealing_stop s)
 
 pub returns-in_err-seal_chunk-clause-beginning : goal.returns-in_err-seal_chunk-clause-beginning
-returns-in_err-seal_chunk-clause-beginning g c = on_err _ _ (if_some_map _ _ _ c.loop-number.invariant.1 (λ file s. seal_stop _ _ _ _ _ _ _ _ s))
+returns-in_err-seal_chunk-clause-beginning g c = stop_then _ _ c.loop-number.invariant.1 (λ file s. sealing_stop s)
 
 pub returns-in_err-write_bytes-2-clause-beginning : goal.returns-in_err-write_bytes-2-clause-beginning
-returns-in_err-write_bytes-2-clause-beginning g c =
-    let next = c.read_piece-in-loop-number.new.piece in
-    on_err _ _ (if_some_map _ _ _ c.loop-number.invariant.1 (λ file s.
-    seal_stop_in _ _ _ _ _ _ _ _ _ _ _ _ _ s c.in_ok-read_piece-2.ensures.bytes
-    _ c.is_empty-is_last.ensures next.ok.0 (c.deref.ensures.value ∙ c.in_ok-seal_chunk.ensures)
-    c.in_err-write_bytes-2.ensures.err))
+returns-in_err-write_bytes-2-clause-beginning g c = stop_then _ _ c.loop-number.invariant.1 (λ file s.
+    sealing_stop_in s _ _ c.in_ok-read_piece-2.ensures.bytes c.is_empty-is_last.ensures c.read_piece-in-loop-number.new.piece.ok.0
+    (c.deref.ensures.value ∙ c.in_ok-seal_chunk.ensures) _ c.in_err-write_bytes-2.ensures.err)
 
 pub returns-then-is_last-clause-few : goal.returns-then-is_last-clause-few
-returns-then-is_last-clause-few g c =
-    let next = c.read_piece-in-loop-number.new.piece in
-    if_some_map _ _ _ c.loop-number.invariant.1 (λ file s.
-    seal_few _ _ _ _ _ _ _ _ _ _ _ (g.W.Write.contents c.write_bytes-in-loop-number.new.output) _ s c.in_ok-read_piece-2.ensures.bytes
-    _ c.is_empty-is_last.ensures next.ok.0 (c.deref.ensures.value ∙ c.in_ok-seal_chunk.ensures)
-    c.if-is_last.true c.loop-number-test.true)
+returns-then-is_last-clause-few g c = IfSome_then _ c.loop-number.invariant.1 (λ file s.
+    seal_few s _ _ c.in_ok-read_piece-2.ensures.bytes c.is_empty-is_last.ensures c.read_piece-in-loop-number.new.piece.ok.0 c.if-is_last.true c.loop-number-test.true)
 
 pub returns-then-is_last-clause-sealed : goal.returns-then-is_last-clause-sealed
-returns-then-is_last-clause-sealed g c =
-    let next = c.read_piece-in-loop-number.new.piece in
-    if_some_map _ _ _ c.loop-number.invariant.1 (λ file s.
-    seal_end _ _ _ _ _ _ _ _ _ _ _ _ _ s c.in_ok-read_piece-2.ensures.bytes
-    _ c.is_empty-is_last.ensures next.ok.0 (c.deref.ensures.value ∙ c.in_ok-seal_chunk.ensures)
-    c.if-is_last.true c.in_ok-write_bytes-2.ensures.ok)
+returns-then-is_last-clause-sealed g c = IfSome_then _ c.loop-number.invariant.1 (λ file s.
+    seal_end s _ _ c.in_ok-read_piece-2.ensures.bytes c.is_empty-is_last.ensures c.read_piece-in-loop-number.new.piece.ok.0
+    (c.deref.ensures.value ∙ c.in_ok-seal_chunk.ensures) _ c.if-is_last.true c.in_ok-write_bytes-2.ensures.ok)
 
 pub loop-number-preserved : goal.loop-number-preserved
 loop-number-preserved g c =
@@ -58,13 +49,13 @@ loop-number-preserved g c =
     let swapped : vec_len c.swap.new.x ≡ vec_len next = cc in
     let same : c.swap.new.x.items ≡ next.items = cc in (
       omega (arith, size, swapped),
-      if_some_map _ _ _ c.loop-number.invariant.1 (λ file s.
-          seal_next _ _ _ _ _ _ _ _ _ _ _ _ _ s c.in_ok-read_piece-2.ensures.bytes _ c.is_empty-is_last.ensures next.ok.0
-          (c.deref.ensures.value ∙ c.in_ok-seal_chunk.ensures) c.swap.new.x.items same c.if-is_last.false c.in_ok-write_bytes-2.ensures.ok),
+      IfSome_then _ c.loop-number.invariant.1 (λ file s.
+          seal_next s _ _ c.in_ok-read_piece-2.ensures.bytes c.is_empty-is_last.ensures next.ok.0
+          (c.deref.ensures.value ∙ c.in_ok-seal_chunk.ensures) _ same c.if-is_last.false c.in_ok-write_bytes-2.ensures.ok),
     )
 
 pub returns-clause-refused : goal.returns-clause-refused
-returns-clause-refused g c = if_some_map _ _ _ c.loop-number.invariant.1 (λ file s. seal_long _ _ _ _ _ _ _ _ s c.loop-number-test.false)
+returns-clause-refused g c = IfSome_then _ c.loop-number.invariant.1 (λ file s. seal_long s c.loop-number-test.false)
 
 pub returns-clause-beginning : goal.returns-clause-beginning
-returns-clause-beginning g c = if_some_map _ _ _ c.loop-number.invariant.1 (λ file s. seal_stop _ _ _ _ _ _ _ _ s)
+returns-clause-beginning g c = IfSome_then _ c.loop-number.invariant.1 (λ file s. sealing_stop s)

@@ -1,8 +1,9 @@
 -- The chunk is the next, and those before it were written.
 use Rattle.std.proofs.Common.{◌≤◌, IfSome, vec_len}
+use Rattle.sealed_file.specs.Format.{chunk_len}
 use Rattle.sealed_file.proofs.SealLemmas.{Sealing}
 use Rattle.sealed_file.proofs.sealing.seal.Given as goal
 
 abbrev pub invariant-loop-number : goal.invariant-loop-number
-invariant-loop-number g l = (vec_len l.chunk ≤ 65536) × IfSome (g.R.Read.remaining l.fn.input)
+invariant-loop-number g l = (vec_len l.chunk ≤ chunk_len) × IfSome (g.R.Read.remaining l.fn.input)
     (λ file. Sealing l.key l.prefix file l.number l.chunk.items (g.R.Read.remaining l.input) (g.W.Write.contents l.fn.output) (g.W.Write.contents l.output))

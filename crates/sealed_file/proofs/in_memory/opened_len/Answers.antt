@@ -1,0 +1,11 @@
+use Rattle.std.proofs.Common.{arith}
+use Rattle.std.proofs.lemmas.List.{length-drop}
+use Rattle.sealed_file.proofs.InMemoryLemmas.{length-opened_file}
+use Rattle.sealed_file.proofs.in_memory.opened_len.Goals as goal
+
+pub returns : goal.returns
+returns c = λ key.
+    let e = length-opened_file key c.args.sealed.now in
+    let d = length-drop 16 c.args.sealed.now in
+    let last = c.last_chunk_of-last.ensures in
+    omega (arith, e, d, last)
