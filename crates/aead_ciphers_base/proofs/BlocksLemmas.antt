@@ -20,7 +20,7 @@ blocks_short n xs short = ap (λ k. first_chunks n k xs) (div-eq_of_lt short)
 one_less : (n k : ℕ) → 0 < n → n ≤ k → k / n ≡ suc ((k - n) / n)
 one_less n k some fits =
     let e : k ≡ k - n + n = omega arith in
-    let d : (k - n + n) / n ≡ (k - n) / n + 1 = add-div_right (k - n) some in
+    let d = add-div_right (k - n) some in
     ap (λ m. m / n) e ∙ d ∙ add-one ((k - n) / n)
 
 pub blocks_cons : {T : Type 0} (n : ℕ) (xs : List T) → 0 < n → n ≤ length xs → blocks n xs ≡ take n xs ∷ blocks n (drop n xs)
@@ -39,11 +39,11 @@ length_blocks n xs = length-first_chunks n (length xs / n) xs
 first_chunks-take : {T : Type 0} (n k m : ℕ) (xs : List T) → k * n ≤ m → first_chunks n k (take m xs) ≡ first_chunks n k xs
 first_chunks-take n zero m xs h = refl
 first_chunks-take n (suc k) m xs h =
-    let more : k * n + n ≤ m = subst (λ (x : ℕ). x ≤ m) (suc-mul k n) h in
+    let more = subst (λ (x : ℕ). x ≤ m) (suc-mul k n) h in
     let e : n + (m - n) ≡ m = omega arith in
-    let front : take n (take m xs) ≡ take n xs = take-take n m xs (omega arith) in
-    let back : drop n (take m xs) ≡ take (m - n) (drop n xs) = ap (λ (x : ℕ). drop n (take x xs)) (sym e) ∙ drop-take n (m - n) xs in
-    let tail : first_chunks n k (take (m - n) (drop n xs)) ≡ first_chunks n k (drop n xs) = first_chunks-take n k (m - n) (drop n xs) (omega arith) in
+    let front = take-take n m xs (omega arith) in
+    let back = ap (λ (x : ℕ). drop n (take x xs)) (sym e) ∙ drop-take n (m - n) xs in
+    let tail = first_chunks-take n k (m - n) (drop n xs) (omega arith) in
     rw (front, back, tail)
 
 count_kept : (n k m : ℕ) → m ≡ k / n * n → m / n ≡ k / n
@@ -53,15 +53,15 @@ count_kept (suc n) k m e = ap (λ x. x / suc n) e ∙ mul-div_cancel (k / suc n)
 pub blocks_take : {T : Type 0} (n : ℕ) (xs : List T) → blocks n (take (length xs / n * n) xs) ≡ blocks n xs
 unfolding blocks
 blocks_take n xs =
-    let within : length xs / n * n ≤ length xs = div-mul-le_self (length xs) n in
-    let count : length (take (length xs / n * n) xs) / n ≡ length xs / n = count_kept n (length xs) (length (take (length xs / n * n) xs))
+    let within = div-mul-le_self (length xs) n in
+    let count = count_kept n (length xs) (length (take (length xs / n * n) xs))
     (length-take-le (length xs / n * n) xs within) in
     ap (λ k. first_chunks n k (take (length xs / n * n) xs)) count ∙ first_chunks-take n (length xs / n) (length xs / n * n) xs (omega arith)
 
 pub blocks_one : {T : Type 0} (n : ℕ) (xs : List T) → 0 < n → length xs ≡ n → blocks n xs ≡ xs ∷ []
 blocks_one n xs some e =
-    let rest : blocks n (drop n xs) ≡ [] = blocks_short n (drop n xs) (omega (arith, length-drop n xs)) in
-    let whole : take n xs ≡ xs = ap (λ k. take k xs) (sym e) ∙ take-length xs in
+    let rest = blocks_short n (drop n xs) (omega (arith, length-drop n xs)) in
+    let whole = ap (λ k. take k xs) (sym e) ∙ take-length xs in
     blocks_cons n xs some (omega arith) ∙ rw (rest, whole)
 
 first_chunks-at : {T : Type 0} (n k : ℕ) (xs : List T) (i : ℕ) (d : List T) → i < k → get_or (first_chunks n k xs) i d ≡ take n (drop (i * n) xs)
@@ -69,7 +69,7 @@ first_chunks-at n zero xs i d h = absurd (omega arith)
 first_chunks-at n (suc k) xs zero d h = let e : 0 * n ≡ 0 = omega arith in rw e
 first_chunks-at n (suc k) xs (suc i) d h =
     let less : i < k = omega arith in
-    let at : drop (i * n) (drop n xs) ≡ drop (suc i * n) xs = drop-drop (i * n) n xs ∙ ap (λ x. drop x xs) (add_comm n (i * n) ∙ sym (suc-mul i n)) in
+    let at = drop-drop (i * n) n xs ∙ ap (λ x. drop x xs) (add_comm n (i * n) ∙ sym (suc-mul i n)) in
     first_chunks-at n k (drop n xs) i d less ∙ ap (take n) at
 
 pub blocks_at : {T : Type 0} (n : ℕ) (xs : List T) (i : ℕ) (d : List T) → i < length xs / n → get_or (blocks n xs) i d ≡ take n (drop (i * n) xs)
@@ -79,17 +79,17 @@ blocks_at n xs i d h = first_chunks-at n (length xs / n) xs i d h
 -- block i lies within the list
 pub block_within : {T : Type 0} (n : ℕ) (xs : List T) (i : ℕ) → i < length xs / n → i * n + n ≤ length xs
 block_within n xs i h =
-    let up : suc i * n ≤ length xs / n * n = mul-le-mul_right n h in
-    let all : length xs / n * n ≤ length xs = div-mul-le_self (length xs) n in
-    let e : suc i * n ≡ i * n + n = suc-mul i n in
+    let up = mul-le-mul_right n h in
+    let all = div-mul-le_self (length xs) n in
+    let e = suc-mul i n in
     omega arith
 
 joined_first : {T : Type 0} (n k : ℕ) (xs : List T) → k * n ≡ length xs → joined (first_chunks n k xs) ≡ xs
 joined_first n zero [] e = refl
 joined_first n zero (x ∷ xs) e = let z : 0 * n ≡ 0 = omega arith in absurd (omega arith)
 joined_first n (suc k) xs e =
-    let up : suc k * n ≡ k * n + n = suc-mul k n in
-    let rest : joined (first_chunks n k (drop n xs)) ≡ drop n xs = joined_first n k (drop n xs) (omega (arith, length-drop n xs)) in
+    let up = suc-mul k n in
+    let rest = joined_first n k (drop n xs) (omega (arith, length-drop n xs)) in
     rw (rest, take-append-drop) refl
 
 pub joined_blocks : {T : Type 0} (n : ℕ) (xs : List T) → length xs % n ≡ 0 → xs ≡ joined (blocks n xs)
@@ -106,8 +106,8 @@ whole_one n xs e = ap (λ k. k % n) e ∙ mod_self n
 pub blocks_fit : {T : Type 0} (n mid : ℕ) (xs : List T) → mid ≤ length (blocks n xs) → mid * n ≤ length xs
 blocks_fit n mid xs within =
     let few : mid ≤ length xs / n = omega (arith, length_blocks n xs) in
-    let up : mid * n ≤ length xs / n * n = mul-le-mul_right n few in
-    let all : length xs / n * n ≤ length xs = div-mul-le_self (length xs) n in
+    let up = mul-le-mul_right n few in
+    let all = div-mul-le_self (length xs) n in
     omega arith
 
 pub whole_front : {T : Type 0} (n mid : ℕ) (xs : List T) → mid * n ≤ length xs → length (take (mid * n) xs) % n ≡ 0
@@ -120,11 +120,11 @@ whole_back n mid xs fits whole =
 
 -- where there is a block, it has items, and the list has them
 one_block : (n k len : ℕ) → suc k ≤ len / n → (0 < n) × (n ≤ len)
-one_block zero k len some = let none : len / 0 ≡ 0 = div-zero len in absurd (omega arith)
+one_block zero k len some = let none = div-zero len in absurd (omega arith)
 one_block (suc n) k len some =
-    let up : suc k * suc n ≤ len / suc n * suc n = mul-le-mul_right (suc n) some in
-    let all : len / suc n * suc n ≤ len = div-mul-le_self len (suc n) in
-    let one : suc k * suc n ≡ k * suc n + suc n = suc-mul k (suc n) in
+    let up = mul-le-mul_right (suc n) some in
+    let all = div-mul-le_self len (suc n) in
+    let one = suc-mul k (suc n) in
     (omega arith, omega arith)
 
 -- the first `mid` blocks
@@ -134,16 +134,16 @@ blocks_front n zero xs within = let none : 0 * n ≡ 0 = omega arith in rw (none
 blocks_front n (suc mid) xs within =
     let some : suc mid ≤ length xs / n = omega (arith, length_blocks n xs) in
     let one = one_block n mid (length xs) some in
-    let cons : blocks n xs ≡ take n xs ∷ blocks n (drop n xs) = blocks_cons n xs one.0 one.1 in
+    let cons = blocks_cons n xs one.0 one.1 in
     let less : mid ≤ length (blocks n (drop n xs)) = omega (arith, ap length cons) in
-    let up : suc mid * n ≡ n + mid * n = suc-mul mid n ∙ add_comm (mid * n) n in
-    let long : length (take (suc mid * n) xs) ≡ suc mid * n = length-take-le (suc mid * n) xs (blocks_fit n (suc mid) xs within) in
-    let first : take n (take (suc mid * n) xs) ≡ take n xs = take-take n (suc mid * n) xs (omega arith) in
-    let rest : drop n (take (suc mid * n) xs) ≡ take (mid * n) (drop n xs) = ap (λ x. drop n (take x xs)) up ∙ drop-take n (mid * n) xs in
-    let front : blocks n (take (suc mid * n) xs) ≡ take n xs ∷ blocks n (take (mid * n) (drop n xs)) =
+    let up = suc-mul mid n ∙ add_comm (mid * n) n in
+    let long = length-take-le (suc mid * n) xs (blocks_fit n (suc mid) xs within) in
+    let first = take-take n (suc mid * n) xs (omega arith) in
+    let rest = ap (λ x. drop n (take x xs)) up ∙ drop-take n (mid * n) xs in
+    let front =
     blocks_cons n (take (suc mid * n) xs) one.0 (omega arith) ∙ ap (λ x. x ∷ blocks n (drop n (take (suc mid * n) xs))) first
     ∙ ap (λ x. take n xs ∷ blocks n x) rest in
-    let tail : blocks n (take (mid * n) (drop n xs)) ≡ take mid (blocks n (drop n xs)) = blocks_front n mid (drop n xs) less in
+    let tail = blocks_front n mid (drop n xs) less in
     front ∙ ap (λ x. take n xs ∷ x) tail ∙ ap (take (suc mid)) (sym cons)
 
 -- and those behind them
@@ -152,9 +152,9 @@ blocks_back n zero xs within = let none : 0 * n ≡ 0 = omega arith in rw none r
 blocks_back n (suc mid) xs within =
     let some : suc mid ≤ length xs / n = omega (arith, length_blocks n xs) in
     let one = one_block n mid (length xs) some in
-    let cons : blocks n xs ≡ take n xs ∷ blocks n (drop n xs) = blocks_cons n xs one.0 one.1 in
+    let cons = blocks_cons n xs one.0 one.1 in
     let less : mid ≤ length (blocks n (drop n xs)) = omega (arith, ap length cons) in
-    let at : drop (suc mid * n) xs ≡ drop (mid * n) (drop n xs) = ap (λ x. drop x xs) (suc-mul mid n ∙ add_comm (mid * n) n) ∙ sym (drop-drop (mid * n) n xs) in
+    let at = ap (λ x. drop x xs) (suc-mul mid n ∙ add_comm (mid * n) n) ∙ sym (drop-drop (mid * n) n xs) in
     rw (at, cons) (blocks_back n mid (drop n xs) less)
 
 -- the next part of at most `size` items is whole blocks, where `size` is and the items are
@@ -168,9 +168,9 @@ whole_part (suc n) size len whole all =
 -- and so is what it leaves
 pub whole_rest : (n size len : ℕ) → (0 < n → size % n ≡ 0) → len % n ≡ 0 → (len - min size len) % n ≡ 0
 whole_rest n size len whole all =
-    let part : min size len % n ≡ 0 = whole_part n size len whole all in
+    let part = whole_part n size len whole all in
     let both : len - min size len + min size len ≡ len = omega arith in
-    let back : (len - min size len + min size len) % n ≡ (len - min size len) % n =
+    let back =
     ap (λ k. (len - min size len + k) % n) (sym (mod-add-div' (min size len) n) ∙ ap (λ k. k + min size len / n * n) part
     ∙ zero-add (min size len / n * n)) ∙ add-mul-mod_self_right (len - min size len) (min size len / n) n in
     sym back ∙ ap (λ k. k % n) both ∙ all
@@ -187,6 +187,6 @@ whole_left n size xs rest (Some x) h whole all =
 -- k blocks of n items are whole blocks, and at least one item
 pub whole_size : (k n : ℕ) → 0 < k → 0 < n → max (k * n) 1 % n ≡ 0
 whole_size k n some items =
-    let up : 1 * n ≤ k * n = mul-le-mul_right n some in
+    let up = mul-le-mul_right n some in
     let e : max (k * n) 1 ≡ k * n = omega arith in
     ap (λ m. m % n) e ∙ mul-mod_left k n

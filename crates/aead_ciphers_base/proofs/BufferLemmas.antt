@@ -10,7 +10,7 @@ pub window_step : (a n s size : ℕ) (xs win w ys : List ℕ) → s + a + n ≤ 
 window_step a n s size xs win w ys room sz wine we =
     let rest = drop a xs in
     let len : length win - s ≡ n = omega (arith, ap length wine, length-take-le size rest (omega (arith, length-drop a xs)), length-drop a xs) in
-    let tail : drop (length win - s) win ++ drop size rest ≡ drop (a + n) xs =
+    let tail =
     ap₂ (λ (k : ℕ) (l : List ℕ). drop k l ++ drop size rest) len wine
     ∙ ap (λ (z : ℕ). drop n (take z rest) ++ drop z rest) sz
     ∙ ap (λ (l : List ℕ). l ++ drop (n + s) rest) (drop-take n s rest)

@@ -126,7 +126,7 @@ inv_is x y hx hy one =
     false_from_ne_true (mul8 x z == 1)
     (λ h.
     let hz : z < 256 = omega arith in
-    let same : z ≡ y =
+    let same =
     sym (one-mul8 z hz) ∙ ap (λ t. mul8 t z) (sym one ∙ mul8_comm x y hx hy) ∙ mul8_assoc y x z hy hx hz
     ∙ ap (mul8 y) (eqb-true (mul8 x z) 1 h) ∙ mul8_comm y 1 hy (omega arith) ∙ one-mul8 y hy in
     omega arith)))

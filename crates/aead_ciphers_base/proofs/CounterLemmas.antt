@@ -62,11 +62,11 @@ pub counter_exists : (block : List ℕ) → length block ≡ 16 → ((i : ℕ) �
     → IsCounter block (take 12 block) (from_be_bytes w32 (drop 12 block))
 unfolding counter_block
 counter_exists block size bytes =
-    let last : List ℕ = drop 12 block in
+    let last = drop 12 block in
     let below : (i : ℕ) → get_or last i 0 < 256 = λ i. subst (λ (x : ℕ). x < 256) (sym (get_or-drop 12 block i 0)) (bytes (12 + i)) in
-    let four : length last ≡ 4 = length-drop 12 block ∙ omega arith in
-    let number : ℕ = from_be_bytes w32 last in
-    let again : to_be_bytes w32 number ≡ last = be_bytes_4 last number four below refl in
+    let four = length-drop 12 block ∙ omega arith in
+    let number = from_be_bytes w32 last in
+    let again = be_bytes_4 last number four below refl in
     let small : number % 2 ^ 32 ≡ number = omega (arith, below 0, below 1, below 2, below 3) in
     record {
       size = length-take-le 12 block (omega arith);

@@ -84,14 +84,14 @@ block_step cipher nonce k i m was now pad written room same me e pe size we =
     let d = 16 * i in
     let rest = drop d now in
     let block = take 16 rest in
-    let long : length rest ≡ length now - d = length-drop d now in
-    let len : length block ≡ 16 = length-take-le 16 rest (omega arith) in
+    let long = length-drop d now in
+    let len = length-take-le 16 rest (omega arith) in
     let here : 0 + d ≡ d = omega arith in
     let next : d + 16 ≡ 16 * (i + 1) = omega arith in
-    let front : rest ⊕ pad ≡ counter_mode cipher nonce (k + i) block =
+    let front =
     xor_comm rest pad ∙ sym (xor-take pad rest) ∙ xor_comm pad (take (length pad) rest)
     ∙ ap (λ (n : ℕ). take n rest ⊕ pad) size ∙ counter_mode-short cipher nonce (k + i) block pad (omega arith) (omega arith) pe in
-    let none : drop m rest ≡ [] = nil_from_length (drop m rest) (omega (arith, length-drop m rest)) in
+    let none = nil_from_length (drop m rest) (omega (arith, length-drop m rest)) in
     ap₂ (λ (u v : List ℕ). take d now ++ (u ++ v)) (we ∙ ap₂ (λ (u : List ℕ) (n : ℕ). u ++ drop n rest) front size) none
     ∙ ap (λ (u : List ℕ). take d now ++ u) (append-nil (counter_mode cipher nonce (k + i) block ++ drop 16 rest))
     ∙ sym (append_assoc (take d now) (counter_mode cipher nonce (k + i) block) (drop 16 rest))
@@ -106,8 +106,8 @@ pub batch_put : (cipher : List ℕ → List ℕ) (nonce : List ℕ) (k s d n m :
     take d xs ++ (written ++ drop m (drop d xs)) ≡ take d xs ++ counter_mode cipher nonce k (take n (drop (s + d) xs)) ++ drop (d + n) xs
 batch_put cipher nonce k s d n m xs zeros input batch written room me ie be we =
     let text = take n (drop (s + d) xs) in
-    let size : length input ≡ n = ap length ie ∙ length-take-le n (drop (s + d) xs) (omega (arith, length-drop (s + d) xs)) in
-    let piece : written ≡ counter_mode cipher nonce k text =
+    let size = ap length ie ∙ length-take-le n (drop (s + d) xs) (omega (arith, length-drop (s + d) xs)) in
+    let piece =
     we ∙ ap (take n) be ∙ take-counter_mode cipher nonce k n (input ++ zeros) (omega (arith, length-append input zeros))
     ∙ ap (counter_mode cipher nonce k) (take_at input zeros n size ∙ ie) in
     ap₂ (λ (u v : List ℕ). take d xs ++ (u ++ v)) piece (ap (λ (z : ℕ). drop z (drop d xs)) me ∙ drop-drop n d xs)
@@ -117,4 +117,4 @@ batch_put cipher nonce k s d n m xs zeros input batch written room me ie be we =
 pub xor-reads : (xs ys : List ℕ) → length xs ≤ length (xs ⊕ ys) → length xs ≤ length ys
 xor-reads [] ys le = omega arith
 xor-reads (x ∷ xs) [] le = le
-xor-reads (x ∷ xs) (y ∷ ys) le = let rest : length xs ≤ length ys = xor-reads xs ys (omega arith) in omega arith
+xor-reads (x ∷ xs) (y ∷ ys) le = let rest = xor-reads xs ys (omega arith) in omega arith

@@ -45,8 +45,8 @@ module _ (nk : ℕ) (w : List (List ℕ)) (i : ℕ) where
 next_word_front : (nk : ℕ) (w : List (List ℕ)) (i : ℕ) → 0 < nk → nk ≤ i → next_word nk (take i w) i ≡ next_word nk w i
 unfolding next_word
 next_word_front nk w i hk hi =
-    let last : word_at (take i w) (i - 1) ≡ word_at w (i - 1) = get_or-take i w (i - 1) [] (omega arith) in
-    let back : word_at (take i w) (i - nk) ≡ word_at w (i - nk) = get_or-take i w (i - nk) [] (omega arith) in
+    let last = get_or-take i w (i - 1) [] (omega arith) in
+    let back = get_or-take i w (i - nk) [] (omega arith) in
     rw (last, back) refl
 
 -- ---- the loops of `expand`

@@ -75,15 +75,15 @@ unfolding chacha20_encrypted
 written_rest key counter nonce start at j old was rest held whole within e =
     let f = stream_byte key counter nonce in
     let g = stream_byte key (counter + j) nonce in
-    let input : List ℕ = drop start old in
-    let li : length input ≡ length old - start = length-drop start old in
-    let ld : length (take at input) ≡ at = length-take-le at input (omega arith) in
+    let input = drop start old in
+    let li = length-drop start old in
+    let ld = length-take-le at input (omega arith) in
     let held' = held ∙ ap (λ (k : ℕ). xored f (take at input) ++ drop k old) ld in
     let lw : length was ≡ length old = ap length held' ∙ simp (length-append, length-xored, length-drop) (omega arith) in
-    let none : drop (length was - at) (drop at was) ≡ [] = drop_all (length was - at) (drop at was) (simp length-drop (omega arith)) in
-    let part : take (length was - at) (drop at was) ≡ drop at was = take_all (length was - at) (drop at was) (simp length-drop (omega arith)) in
+    let none = drop_all (length was - at) (drop at was) (simp length-drop (omega arith)) in
+    let part = take_all (length was - at) (drop at was) (simp length-drop (omega arith)) in
     let piece : drop start (drop at was) ≡ drop (start + at) was = drop-drop start at was ∙ ap (λ (k : ℕ). drop k was) (omega arith) in
-    let behind : drop (length (drop (start + at) was)) (drop at was) ≡ drop (length was - start) was =
+    let behind =
     drop-drop (length (drop (start + at) was)) at was ∙ ap (λ (k : ℕ). drop k was) (omega (arith, length-drop (start + at) was)) in
     rw (none, append-nil rest, rw (part, piece) at e, behind)
     (sym (append_assoc (take at was) (xored g (drop (start + at) was)) (drop (length was - start) was))

@@ -93,7 +93,7 @@ pub take-le_bytes : (out words bytes : List ℕ) (i k : ℕ) → length out ≡ 
 unfolding le_bytes
 take-le_bytes out words bytes i k h within held e =
     let four : length bytes ≡ 4 = rw e refl in
-    let front : take (4 * (i + 1)) (put_mid (4 * i) k out bytes) ≡ take (4 * i) out ++ bytes =
+    let front =
     take-put_mid (4 * i) k out bytes (4 * (i + 1)) (omega arith) (omega arith) in
     rw (front, held, e, take_more words i 0 within) (sym (flat_map-append (to_le_bytes w32) (take i words) (get_or words i 0 ∷ [])))
 

@@ -154,7 +154,7 @@ pub bits_of-mod : (k n : ℕ) → bits_of k (n % 2 ^ k) ≡ bits_of k n
 bits_of-mod zero n = refl
 bits_of-mod (suc k) n =
     let s : suc k ≡ k + 1 = omega arith in
-    let whole : n % 2 ^ (k + 1) ≡ (n / 2 ^ 1 % 2 ^ k) * 2 ^ 1 + n % 2 ^ 1 = mod-pow-add n k 1 in
+    let whole = mod-pow-add n k 1 in
     let low : n % 2 ^ (k + 1) % 2 ≡ n % 2 = omega arith in
     ap (λ j. bits_of (suc k) (n % 2 ^ j)) s
     ∙ ap₂ (λ (b : Bool) (q : List Bool). b ∷ q) (ap (λ t. t == 1) low) (ap (bits_of k) (field_of n k 1) ∙ bits_of-mod k (n / 2))

@@ -112,11 +112,11 @@ module _ (a b k q : ℕ) (hk : k < 6) (hq : q < 64) where
   shifted_bit : (bit_at shifted q == 1) ≡ (((bit_at a q == 1) xor (bit_at b (q - 2 ^ k) == 1)) && (bit_at q k == 1))
   shifted_bit = elim (cases_lt q (2 ^ k)) [
     | inl less ↦
-        let digit : bit_at q k ≡ 0 = sym (lower_is k q hk hq) ∙ cond-true (nat_lt q (2 ^ k)) 0 _ (lt-ltb q (2 ^ k) less) in
+        let digit = sym (lower_is k q hk hq) ∙ cond-true (nat_lt q (2 ^ k)) 0 _ (lt-ltb q (2 ^ k) less) in
         ap (λ t. t == 1) (bit_at-shl_low moved (2 ^ k) 64 q hq less)
         ∙ sym (ap (λ t. ((bit_at a q == 1) xor (bit_at b (q - 2 ^ k) == 1)) && (t == 1)) digit ∙ and-false ((bit_at a q == 1) xor (bit_at b (q - 2 ^ k) == 1)))
     | inr more ↦
-        let digit : 1 - bit_at (q - 2 ^ k) k ≡ bit_at q k = sym (cond-false (nat_lt q (2 ^ k)) 0 _ (le-ltb q (2 ^ k) more)) ∙ lower_is k q hk hq in
+        let digit = sym (cond-false (nat_lt q (2 ^ k)) 0 _ (le-ltb q (2 ^ k) more)) ∙ lower_is k q hk hq in
         let place : q - 2 ^ k + 2 ^ k ≡ q = omega arith in
         ap (λ t. t == 1) (bit_at-shl_high moved (2 ^ k) 64 q hq more) ∙ moved_bit (q - 2 ^ k) (omega arith)
         ∙ ap₂ (λ i d. ((bit_at a i == 1) xor (bit_at b (q - 2 ^ k) == 1)) && (d == 1)) place digit
@@ -140,7 +140,7 @@ upper_lt k q hk hq e =
     let h = ltb-true (if bit_at q k == 0 then q + 2 ^ k else q) 64
     (all_below_at (λ t. nat_lt (if bit_at t k == 0 then t + 2 ^ k else t) 64) 64 q
     (all_below_at (λ j. all_below (λ t. nat_lt (if bit_at t j == 0 then t + 2 ^ j else t) 64) 64) 6 k upper_test hk) hq) in
-    let same : (if bit_at q k == 0 then q + 2 ^ k else q) ≡ q + 2 ^ k = ap (λ d. if d == 0 then q + 2 ^ k else q) e in
+    let same = ap (λ d. if d == 0 then q + 2 ^ k else q) e in
     rw same at h
 
 word_bit-at : (w : List ℕ) (i q : ℕ) → q < 64 → word_bit w (64 * i + q) ≡ bit_at (slice_index w i) q
@@ -179,7 +179,7 @@ module _ (w r : List ℕ) (k : ℕ) (hk : k < 6) (first0 : FirstOf w r k 0) (sec
 
   pub exchange_digits_is : (n : ℕ) → n < 512 → word_bit r n ≡ word_bit w (exchanged_from k n)
   exchange_digits_is n hn =
-      let digit : bit_at n k ≡ bit_at (n % 64) k = sym (bit_at-mod n 6 k hk) in
+      let digit = sym (bit_at-mod n 6 k hk) in
       by_digit (λ h. n / 64 % 2 ≡ h → word_bit r n ≡ word_bit w (exchanged_from k n)) (n / 64 % 2) (omega arith)
       (λ _ eh.
       word_bit_is r n (2 * (n / 128)) (n % 64) (omega arith) refl ∙ firsts (n / 128) (omega arith) (n % 64) (omega arith)
@@ -370,7 +370,7 @@ placed_here : (plane b i : ℕ) → b < 8 → i < 64 → i % 8 ≡ b → bit_at 
 placed_here plane b i hb hi e =
     let place : i - b ≡ i - i % 8 = omega arith in
     let whole : (i - b) % 8 ≡ 0 = omega arith in
-    let one : bit_at EIGHTHS (i - b) ≡ 1 = eighths_at (i - b) (omega arith) ∙ cond-true ((i - b) % 8 == 0) 1 0 (eq-eqb ((i - b) % 8) 0 whole) in
+    let one = eighths_at (i - b) (omega arith) ∙ cond-true ((i - b) % 8 == 0) 1 0 (eq-eqb ((i - b) % 8) 0 whole) in
     bit_at-shl_high (bit_and plane EIGHTHS) b 64 i hi (omega arith) ∙ bit_at_and plane EIGHTHS (i - b) ∙ ap (min (bit_at plane (i - b))) one
     ∙ by_digit (λ d. min d 1 ≡ d) (bit_at plane (i - b)) (bit_at-lt plane (i - b)) (λ _. refl) (λ _. refl) ∙ ap (bit_at plane) place
 

@@ -179,5 +179,5 @@ module _ (top : ℕ) (m : Series) where
   pub product_times : (a b : List Bool) (f : Series) → 0 < length b → times (polynomial_product a b) f ≡ times a (times b f)
   unfolding polynomial_product
   product_times a b f some =
-      let n : ℕ = length a + length b - 1 in
+      let n = length a + length b - 1 in
       polynomial_times n (product_coefficient a b) f ∙ horner-product a b n f some (omega arith)

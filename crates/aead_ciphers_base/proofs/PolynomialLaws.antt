@@ -54,7 +54,7 @@ never (x ∷ xs) = never xs
 
 pub taps_above : (d : ℕ) (taps : List ℕ) (k : ℕ) → AllBelow d taps → d ≤ k → tap_bits taps k ≡ false
 taps_above d [] k low h = refl
-taps_above d (t ∷ taps) k low h = let small : t < d = low.0 in ap₂ ◌||◌ (ne_eqb t k (λ e. omega arith)) (taps_above d taps k low.1 h)
+taps_above d (t ∷ taps) k low h = let small = low.0 in ap₂ ◌||◌ (ne_eqb t k (λ e. omega arith)) (taps_above d taps k low.1 h)
 
 -- x^n times f, with nothing reduced
 abbrev shifts : ℕ → Series → Series

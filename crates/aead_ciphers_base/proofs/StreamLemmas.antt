@@ -51,11 +51,11 @@ pub advance : (f g : ℕ → ℕ) (d n s : ℕ) (was now : List ℕ) → ((i : �
 advance f g d n s was now later room e =
     let text = drop s was in
     let done = xored f (take d text) in
-    let front : length (take d text) ≡ d = length-take-le d text (omega (arith, length-drop s was)) in
-    let len : length done ≡ d = length-xored f (take d text) ∙ front in
-    let more : take d now ≡ done = ap (take d) e ∙ take_at done (drop d was) d len in
-    let input : drop (s + d) now ≡ drop d text = ap (drop (s + d)) e ∙ drop-append-drop d was done (s + d) (omega arith) len ∙ sym (drop-drop d s was) in
-    let rest : drop (d + n) now ≡ drop (d + n) was = ap (drop (d + n)) e ∙ drop-append-drop d was done (d + n) (omega arith) len in
+    let front = length-take-le d text (omega (arith, length-drop s was)) in
+    let len = length-xored f (take d text) ∙ front in
+    let more = ap (take d) e ∙ take_at done (drop d was) d len in
+    let input = ap (drop (s + d)) e ∙ drop-append-drop d was done (s + d) (omega arith) len ∙ sym (drop-drop d s was) in
+    let rest = ap (drop (d + n)) e ∙ drop-append-drop d was done (d + n) (omega arith) len in
     ap₂ (λ (u v : List ℕ). u ++ xored g (take n (drop (s + d) now)) ++ v) more rest
     ∙ ap (λ (u : List ℕ). done ++ xored g (take n u) ++ drop (d + n) was) input
     ∙ ap (λ (u : List ℕ). u ++ drop (d + n) was)

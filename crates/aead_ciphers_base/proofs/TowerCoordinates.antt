@@ -49,7 +49,7 @@ pub two_bits : (x : List ℕ) (p e : ℕ) → plane_element basis_4 x p ≡ e
 unfolding coordinates plane_element plane_polynomial basis_4
 two_bits x p e h =
     let q = plane_polynomial 2 x p in
-    let s : q ≡ coordinates basis_4 e =
+    let s =
     sym (bits_of-value_of q) ∙ ap (bits_of 2) (sym (same_at_bits (λ r. number_of basis_4 (element basis_4 r)) value_of q coordinates_4_test)
     ∙ ap (number_of basis_4) h) in
     (ap (λ t. coefficient t 0) s, ap (λ t. coefficient t 1) s)
@@ -60,7 +60,7 @@ pub four_bits : (x : List ℕ) (p e : ℕ) → plane_element basis_16 x p ≡ e
 unfolding coordinates plane_element plane_polynomial basis_16
 four_bits x p e h =
     let q = plane_polynomial 4 x p in
-    let s : q ≡ coordinates basis_16 e =
+    let s =
     sym (bits_of-value_of q) ∙ ap (bits_of 4) (sym (same_at_bits (λ r. number_of basis_16 (element basis_16 r)) value_of q coordinates_16_test)
     ∙ ap (number_of basis_16) h) in
     (ap (λ t. coefficient t 0) s, ap (λ t. coefficient t 1) s, ap (λ t. coefficient t 2) s, ap (λ t. coefficient t 3) s)
@@ -210,7 +210,7 @@ inverse_is a p =
     let q = plane_polynomial 8 a p in
     let r = power_17_by mul8 q in
     let a238 = element basis_16 (inverse_16_by mul8 r) in
-    let inner : a238 ≡ inv (element basis_16 r) = inverts_is (element basis_16 r) a238 (all_at_bits (inverse_16_holds mul8) r inverse_16_test) in
+    let inner = inverts_is (element basis_16 r) a238 (all_at_bits (inverse_16_holds mul8) r inverse_16_test) in
     ap (λ t. element basis_256 (inverse_from mul8 t q)) (sym inner)
     ∙ inverts_is (element basis_256 q) (element basis_256 (inverse_from mul8 a238 q)) (all_at_bits (inverse_holds mul8) q inverse_test)
 

@@ -39,15 +39,15 @@ pub shifts_rotate : (n j : ℕ) (a b : List ℕ) → 0 < n → n < 32 → length
 shifts_rotate n j a b low high la lb h =
     let left = λ (x s : ℕ). x * 2 ^ s % 2 ^ 32 in
     let right = λ (x s : ℕ). x / 2 ^ s in
-    let m : ℕ = 32 - n in
-    let ns : List ℕ = n ∷ n ∷ n ∷ n ∷ [] in
-    let ms : List ℕ = m ∷ m ∷ m ∷ m ∷ [] in
-    let x : List ℕ = zip2 bit_xor a b in
-    let lx : length x ≡ 4 = length-zip2 bit_xor a b (omega arith) ∙ la in
+    let m = 32 - n in
+    let ns = n ∷ n ∷ n ∷ n ∷ [] in
+    let ms = m ∷ m ∷ m ∷ m ∷ [] in
+    let x = zip2 bit_xor a b in
+    let lx = length-zip2 bit_xor a b (omega arith) ∙ la in
     let word = get_or-zip2 bit_xor a b j 0 0 0 (omega arith) (omega arith) in
-    let up : slice_index (zip2 left x ns) j ≡ left (bit_xor (slice_index a j) (slice_index b j)) (n % 32) =
+    let up =
     get_or-zip2 left x ns j 0 0 0 (omega arith) h ∙ ap₂ left word (get_or-replicate 4 j n 0 h ∙ (let e : n ≡ n % 32 = omega arith in e)) in
-    let down : slice_index (zip2 right x ms) j ≡ right (bit_xor (slice_index a j) (slice_index b j)) ((32 - n % 32) % 32) =
+    let down =
     get_or-zip2 right x ms j 0 0 0 (omega arith) h ∙ ap₂ right word (get_or-replicate 4 j m 0 h ∙ (let e : m ≡ (32 - n % 32) % 32 = omega arith in e)) in
     get_or-zip2 bit_or (zip2 left x ns) (zip2 right x ms) j 0 0 0
     (omega (arith, length-zip2 left x ns lx)) (omega (arith, length-zip2 right x ms lx)) ∙ ap₂ bit_or up down
