@@ -10,7 +10,7 @@ use Rattle.aead_ciphers_base.proofs.PolynomialSums.{polynomial_product-add_left,
 use Rattle.aead_ciphers_base.proofs.PolynomialSums.{length-reduced}
 use Rattle.aead_ciphers_base.proofs.AdditiveLemmas.{additive_after}
 use Rattle.aead_ciphers_base.proofs.NumberBits.{bits_of-xor, value_of-add, value_of-lt, IsAdditive, same_additive}
-use Rattle.aead_ciphers_base.proofs.NumberBits.{all_below, all_below_at, same_below, find_first}
+use Rattle.aead_ciphers_base.proofs.NumberBits.{all_below, same_below, same_in_table, find_first}
 
 -- `unfolding field` lets `refl` compute in the field
 unfoldable pub field : Unit {0}
@@ -61,9 +61,7 @@ same_products f g f_left g_left f_right g_right test x y hx hy =
     same_additive (λ a. f a y) (λ a. g a y) (f_left y) (g_left y) 8
     (λ i lt.
     same_additive (f (2 ^ i)) (g (2 ^ i)) (f_right (2 ^ i)) (g_right (2 ^ i)) 8
-    (λ j below.
-    same_below (λ b. f (2 ^ i) (2 ^ b)) (λ b. g (2 ^ i) (2 ^ b)) 8 j
-    (all_below_at (λ a. all_below (λ b. f (2 ^ a) (2 ^ b) == g (2 ^ a) (2 ^ b)) 8) 8 i test lt) below)
+    (λ j below. same_in_table (λ a b. f (2 ^ a) (2 ^ b)) (λ a b. g (2 ^ a) (2 ^ b)) 8 8 i j test lt below)
     y hy)
     x hx
 

@@ -138,6 +138,10 @@ all_below_at p _ k h lt = absurd (omega arith)
 pub same_below : (f g : ℕ → ℕ) (n k : ℕ) → all_below (λ i. f i == g i) n ≡ true → k < n → f k ≡ g k
 same_below f g n k h lt = eqb-true (f k) (g k) (all_below_at (λ i. f i == g i) n k h lt)
 
+-- the same of two numbers
+pub same_in_table : (f g : ℕ → ℕ → ℕ) (m n i j : ℕ) → all_below (λ a. all_below (λ b. f a b == g a b) n) m ≡ true → i < m → j < n → f i j ≡ g i j
+same_in_table f g m n i j h hi hj = same_below (f i) (g i) n j (all_below_at (λ a. all_below (λ b. f a b == g a b) n) m i h hi) hj
+
 -- the least number that passes is found
 pub find_first : (p : ℕ → Bool) (a n v : ℕ) → a ≤ v → v < a + n → p v ≡ true → ((y : ℕ) → y < v → p y ≡ false)
     → find p (range_with_len a n) ≡ Some v

@@ -15,17 +15,17 @@ use Rattle.aead_ciphers_base.specs.ByteField.{bits_of, value_of}
 use Rattle.aead_ciphers_base.specs.Planes.{plane_byte, plane_block, word_bit, exchanged_from}
 use Rattle.aead_ciphers_base.specs.declared.aes.pack.TheConstants.{LOW, EIGHTHS}
 use Rattle.aead_ciphers_base.proofs.PolynomialBits.{xor_comm}
-use Rattle.aead_ciphers_base.proofs.NumberBits.{by_digit, by_digits, all_below, all_below_at, same_below, value_of-bits_of, length-bits_of}
+use Rattle.aead_ciphers_base.proofs.NumberBits.{by_digit, by_digits, all_below, all_below_at, same_below, same_in_table, value_of-bits_of, length-bits_of}
 use Rattle.aead_ciphers_base.proofs.PolynomialSums.{same_polynomials}
 use Rattle.aead_ciphers_base.proofs.PlaneBits.{set-xor, set-and, bits_of_at}
 use Rattle.aead_ciphers_base.proofs.PlaneBlocks.{state_is, by_four}
 use Rattle.aead_ciphers_base.specs.Bytes.{each_below}
 use Rattle.aead_ciphers_base.proofs.EachLemmas.{get_or-each}
 
-bit_at-shr : (x s q : ℕ) → bit_at (x / 2 ^ s) q ≡ bit_at x (q + s)
+pub bit_at-shr : (x s q : ℕ) → bit_at (x / 2 ^ s) q ≡ bit_at x (q + s)
 bit_at-shr x s q = let e : s + q ≡ q + s = omega arith in ap (λ t. t % 2) (shr-shr x s q) ∙ ap (bit_at x) e
 
-bit_at-mod : (x w q : ℕ) → q < w → bit_at (x % 2 ^ w) q ≡ bit_at x q
+pub bit_at-mod : (x w q : ℕ) → q < w → bit_at (x % 2 ^ w) q ≡ bit_at x q
 bit_at-mod x w q h =
     let whole : x / 2 ^ w * 2 ^ w + x % 2 ^ w ≡ x = omega (arith, pow_pos w) in
     sym (bit_at_cat_low (x / 2 ^ w) w _ q h) ∙ ap (λ t. bit_at t q) whole
@@ -48,22 +48,12 @@ shift_is k h = same_below (λ t. 1 * 2 ^ t % 2 ^ 32) (λ t. 2 ^ t) 6 k refl h
 pub shift_lt : (k : ℕ) → k < 6 → 1 * 2 ^ k % 2 ^ 32 < 64
 shift_lt k h = ltb-true _ 64 (all_below_at (λ t. nat_lt (1 * 2 ^ t % 2 ^ 32) 64) 6 k refl h)
 
-low_test : all_below (λ k. all_below (λ q. bit_at (slice_index LOW k) q == 1 - bit_at q k) 64) 6 ≡ true
-low_test = refl
-
 low_is : (k q : ℕ) → k < 6 → q < 64 → bit_at (slice_index LOW k) q ≡ 1 - bit_at q k
-low_is k q hk hq =
-    same_below (bit_at (slice_index LOW k)) (λ t. 1 - bit_at t k) 64 q
-    (all_below_at (λ j. all_below (λ t. bit_at (slice_index LOW j) t == 1 - bit_at t j) 64) 6 k low_test hk) hq
+low_is k q = same_in_table (λ j. bit_at (slice_index LOW j)) (λ j t. 1 - bit_at t j) 6 64 k q refl
 
 -- digit k of q, from the digit 2^k places below
-lower_test : all_below (λ k. all_below (λ q. (if nat_lt q (2 ^ k) then 0 else 1 - bit_at (q - 2 ^ k) k) == bit_at q k) 64) 6 ≡ true
-lower_test = refl
-
 lower_is : (k q : ℕ) → k < 6 → q < 64 → (if nat_lt q (2 ^ k) then 0 else 1 - bit_at (q - 2 ^ k) k) ≡ bit_at q k
-lower_is k q hk hq =
-    same_below (λ t. if nat_lt t (2 ^ k) then 0 else 1 - bit_at (t - 2 ^ k) k) (λ t. bit_at t k) 64 q
-    (all_below_at (λ j. all_below (λ t. (if nat_lt t (2 ^ j) then 0 else 1 - bit_at (t - 2 ^ j) j) == bit_at t j) 64) 6 k lower_test hk) hq
+lower_is k q = same_in_table (λ j t. if nat_lt t (2 ^ j) then 0 else 1 - bit_at (t - 2 ^ j) j) (λ j t. bit_at t j) 6 64 k q refl
 
 -- a digit is known by whether it is one
 digit_from : (x y : ℕ) → x < 2 → y < 2 → (x == 1) ≡ (y == 1) → x ≡ y
@@ -74,19 +64,13 @@ chosen_digit true x y z hx hy hz e = digit_from z x hz hx e
 chosen_digit false x y z hx hy hz e = digit_from z y hz hy e
 
 first_choice : (a b : Bool) (d : ℕ) → d < 2 → (a xor ((a xor b) && (d == 1))) ≡ (if d == 0 then a else b)
-first_choice true true zero h = refl
-first_choice true false zero h = refl
-first_choice false true zero h = refl
-first_choice false false zero h = refl
-first_choice true true (suc zero) h = refl
-first_choice true false (suc zero) h = refl
-first_choice false true (suc zero) h = refl
-first_choice false false (suc zero) h = refl
+first_choice a b zero h = grind arith
+first_choice a b (suc zero) h = grind arith
 first_choice a b _ h = absurd (omega arith)
 
 second_choice : (a b : Bool) (d : ℕ) → d < 2 → (b xor ((a xor b) && (1 - d == 1))) ≡ (if d == 0 then a else b)
-second_choice a b zero h = ap (λ t. b xor (t && true)) (xor_comm a b) ∙ first_choice b a 1 (omega arith)
-second_choice a b (suc zero) h = ap (λ t. b xor (t && false)) (xor_comm a b) ∙ first_choice b a 0 (omega arith)
+second_choice a b zero h = grind arith
+second_choice a b (suc zero) h = grind arith
 second_choice a b _ h = absurd (omega arith)
 
 module _ (a b k q : ℕ) (hk : k < 6) (hq : q < 64) where
@@ -132,16 +116,10 @@ module _ (a b k q : ℕ) (hk : k < 6) (hq : q < 64) where
 -- ---- the exchange of digits in eight words
 
 -- q + 2^k is a place if digit k of q is zero
-upper_test : all_below (λ k. all_below (λ q. nat_lt (if bit_at q k == 0 then q + 2 ^ k else q) 64) 64) 6 ≡ true
-upper_test = refl
-
 upper_lt : (k q : ℕ) → k < 6 → q < 64 → bit_at q k ≡ 0 → q + 2 ^ k < 64
 upper_lt k q hk hq e =
-    let h = ltb-true _ 64
-    (all_below_at (λ t. nat_lt (if bit_at t k == 0 then t + 2 ^ k else t) 64) 64 q
-    (all_below_at (λ j. all_below (λ t. nat_lt (if bit_at t j == 0 then t + 2 ^ j else t) 64) 64) 6 k upper_test hk) hq) in
-    let same = ap (λ d. if d == 0 then q + 2 ^ k else q) e in
-    rw same at h
+    let place = same_in_table (λ j t. (if bit_at t j == 0 then t + 2 ^ j else t) / 64) (λ j t. 0) 6 64 k q refl hk hq in
+    omega (arith, sym (ap (λ d. (if d == 0 then q + 2 ^ k else q) / 64) e) ∙ place)
 
 word_bit-at : (w : List ℕ) (i q : ℕ) → q < 64 → word_bit w (64 * i + q) ≡ bit_at (slice_index w i) q
 unfolding word_bit
@@ -337,11 +315,8 @@ unpacked_block planes turned words blocks bits bytes held0 held1 held2 held3 k h
 
 -- ---- every eighth place
 
-eighths_test : all_below (λ q. bit_at EIGHTHS q == (if q % 8 == 0 then 1 else 0)) 64 ≡ true
-eighths_test = refl
-
 eighths_at : (q : ℕ) → q < 64 → bit_at EIGHTHS q ≡ (if q % 8 == 0 then 1 else 0)
-eighths_at q h = same_below (bit_at EIGHTHS) (λ t. if t % 8 == 0 then 1 else 0) 64 q eighths_test h
+eighths_at q h = same_below (bit_at EIGHTHS) (λ t. if t % 8 == 0 then 1 else 0) 64 q refl h
 
 -- plane q is the word from bit q on, below b
 abbrev pub IsSpread : ℕ → List ℕ → ℕ → Type 0

@@ -11,7 +11,7 @@ use Rattle.aead_ciphers_base.proofs.PolynomialSums.{polynomial-add}
 use Rattle.aead_ciphers_base.proofs.PlaneBits.{set-xor}
 use Rattle.aead_ciphers_base.proofs.ByteFieldLaws.{mul8-xor_right, three_is}
 use Rattle.aead_ciphers_base.specs.Polynomial.{◌xor◌}
-use Rattle.aead_ciphers_base.proofs.NumberBits.{value_of-add, IsAdditive, same_additive, all_below, all_below_at, same_below}
+use Rattle.aead_ciphers_base.proofs.NumberBits.{value_of-add, IsAdditive, same_additive, all_below, same_in_table}
 use Rattle.aead_ciphers_base.proofs.AdditiveLemmas.{additive_and, additive_shr, additive_shl, additive_xor, additive_after, additive_bit}
 use Rattle.aead_ciphers_base.specs.Bytes.{each_below}
 use Rattle.aead_ciphers_base.proofs.EachLemmas.{each-same}
@@ -23,9 +23,7 @@ moves f source = all_below (λ p. all_below (λ i. bit_at (f (2 ^ i)) p == bit_a
 moved : (f source : ℕ → ℕ) → IsAdditive f → moves f source ≡ true → (x : ℕ) → x < 2 ^ 64 → (p : ℕ) → p < 64 → bit_at (f x) p ≡ bit_at x (source p)
 moved f source hf test x hx p hp =
     same_additive (λ t. bit_at (f t) p) (λ t. bit_at t (source p)) (additive_after (λ t. bit_at t p) f (additive_bit p) hf) (additive_bit (source p)) 64
-    (λ i lt.
-    same_below (λ j. bit_at (f (2 ^ j)) p) (λ j. bit_at (2 ^ j) (source p)) 64 i
-    (all_below_at (λ q. all_below (λ j. bit_at (f (2 ^ j)) q == bit_at (2 ^ j) (source q)) 64) 64 p test hp) lt)
+    (λ i lt. same_in_table (λ q j. bit_at (f (2 ^ j)) q) (λ q j. bit_at (2 ^ j) (source q)) 64 64 p i test hp lt)
     x hx
 
 -- `(x >> k) & m`, `(x << k) & m`
@@ -44,21 +42,15 @@ pair_additive r m l n = additive_xor (λ x. bit_and _ m) (λ x. bit_and _ n) (ri
 abbrev pub one_below_of : ℕ → ℕ
 one_below_of x = pair 1 0x7777777777777777 3 0x8888888888888888 x
 
-one_below_test : moves one_below_of (λ p. below p 1) ≡ true
-one_below_test = refl
-
 pub one_below_moves : (x : ℕ) → x < 2 ^ 64 → (p : ℕ) → p < 64 → bit_at (one_below_of x) p ≡ bit_at x (below p 1)
 one_below_moves x h p hp =
-    moved one_below_of (λ t. below t 1) (pair_additive 1 0x7777777777777777 3 0x8888888888888888) one_below_test x h p hp
+    moved one_below_of (λ t. below t 1) (pair_additive 1 0x7777777777777777 3 0x8888888888888888) refl x h p hp
 
 abbrev pub two_below_of : ℕ → ℕ
 two_below_of x = pair 2 0x3333333333333333 2 0xcccccccccccccccc x
 
-two_below_test : moves two_below_of (λ p. below p 2) ≡ true
-two_below_test = refl
-
 pub two_below_moves : (x : ℕ) → x < 2 ^ 64 → (p : ℕ) → p < 64 → bit_at (two_below_of x) p ≡ bit_at x (below p 2)
-two_below_moves x h p hp = moved two_below_of (λ t. below t 2) (pair_additive 2 0x3333333333333333 2 0xcccccccccccccccc) two_below_test x h p hp
+two_below_moves x h p hp = moved two_below_of (λ t. below t 2) (pair_additive 2 0x3333333333333333 2 0xcccccccccccccccc) refl x h p hp
 
 -- the bits of rows 2 and 3 that differ two columns on
 abbrev delta : ℕ → ℕ
@@ -69,9 +61,6 @@ by_two x = bit_xor (bit_xor x (delta x)) (delta x * 2 ^ 8 % 2 ^ 64)
 
 abbrev by_one : ℕ → ℕ
 by_one x = bit_xor (bit_and x 0x5555555555555555) (pair 4 0x0aaa0aaa0aaa0aaa 12 0xa000a000a000a000 x)
-
-rows_shifted_test : moves (λ x. by_one (by_two x)) shifted_from ≡ true
-rows_shifted_test = refl
 
 delta_additive : IsAdditive delta
 delta_additive =
@@ -91,7 +80,7 @@ by_one_additive =
 
 pub rows_shifted_moves : (x : ℕ) → x < 2 ^ 64 → (p : ℕ) → p < 64 → bit_at (by_one (by_two x)) p ≡ bit_at x (shifted_from p)
 rows_shifted_moves x h p hp =
-    moved (λ t. by_one (by_two t)) shifted_from (additive_after by_one by_two by_one_additive by_two_additive) rows_shifted_test x h p hp
+    moved (λ t. by_one (by_two t)) shifted_from (additive_after by_one by_two by_one_additive by_two_additive) refl x h p hp
 
 -- ---- all eight planes
 
