@@ -1,10 +1,10 @@
 -- Lemmas on the blocks of a list.
 use Rattle.std.proofs.Common.{arith, refl, sym, subst, ap, ◌∙◌, ◌≡◌, ℕ, zero, suc, ◌+◌, ◌-◌, ◌*◌, ◌/◌, ◌%◌, ◌<◌, ◌≤◌, List, [], ◌∷◌, length, take, drop}
 use Rattle.std.proofs.Common.{get_or, add-one, length-drop, min, max, zero-add, inl, inr, Option, None, Some, MatchOption, MutBor, ◌++◌, length-append}
-use Rattle.std.proofs.lemmas.List.{take-append-drop, drop-drop, drop-take, length-take-le, take-take}
+use Rattle.std.proofs.lemmas.List.{take-append-drop, drop-drop, drop-take, length-take-le, take-take, take_all}
 use Rattle.std.proofs.lemmas.Bool.{cases_lt}
 use Rattle.std.proofs.Math.Nat.{mod_self, mod-add-div', mul-mod_left, add-div_right, div-eq_of_lt, div-zero, div-mul-le_self, suc-mul, mul-div_cancel}
-use Rattle.std.proofs.Math.Nat.{mul-le-mul_right, add_comm, add-mul-mod_self_right, zero-div, mod-zero, zero-mod}
+use Rattle.std.proofs.Math.Nat.{mul-le-mul_right, add_comm, add-mul-mod_self_right, mod-zero, zero-mod}
 use Rattle.std.proofs.Math.Seq.{take-length}
 use Rattle.std.specs.Simd.{first_chunks}
 use Rattle.aead_ciphers_base.specs.Blocks.{blocks, joined}
@@ -46,18 +46,6 @@ first_chunks-take n (suc k) m xs h =
     let tail = first_chunks-take n k (m - n) (drop n xs) (omega arith) in
     rw (front, back, tail)
 
-count_kept : (n k m : ℕ) → m ≡ k / n * n → m / n ≡ k / n
-count_kept zero k m e = div-zero m ∙ sym (div-zero k)
-count_kept (suc n) k m e = ap (λ x. x / suc n) e ∙ mul-div_cancel _ (omega arith)
-
-pub blocks_take : {T : Type 0} (n : ℕ) (xs : List T) → blocks n (take (length xs / n * n) xs) ≡ blocks n xs
-unfolding blocks
-blocks_take n xs =
-    let within = div-mul-le_self (length xs) n in
-    let count = count_kept n _ _
-    (length-take-le (length xs / n * n) xs within) in
-    ap (λ k. first_chunks n k (take (length xs / n * n) xs)) count ∙ first_chunks-take n _ (length xs / n * n) xs (omega arith)
-
 pub blocks_one : {T : Type 0} (n : ℕ) (xs : List T) → 0 < n → length xs ≡ n → blocks n xs ≡ xs ∷ []
 blocks_one n xs some e =
     let rest = blocks_short n (drop n xs) (omega (arith, length-drop n xs)) in
@@ -78,15 +66,11 @@ blocks_at n xs i d h = first_chunks-at n _ xs i d h
 
 -- block i lies within the list
 pub block_within : {T : Type 0} (n : ℕ) (xs : List T) (i : ℕ) → i < length xs / n → i * n + n ≤ length xs
-block_within n xs i h =
-    let up = mul-le-mul_right n h in
-    let all = div-mul-le_self (length xs) n in
-    let e = suc-mul i n in
-    omega arith
+block_within n xs i h = omega (arith, mul-le-mul_right n h, div-mul-le_self (length xs) n, suc-mul i n)
 
 joined_first : {T : Type 0} (n k : ℕ) (xs : List T) → k * n ≡ length xs → joined (first_chunks n k xs) ≡ xs
 joined_first n zero [] e = refl
-joined_first n zero (x ∷ xs) e = let z : 0 * n ≡ 0 = omega arith in absurd (omega arith)
+joined_first n zero (x ∷ xs) e = absurd (omega arith)
 joined_first n (suc k) xs e =
     let up = suc-mul k n in
     let rest = joined_first n k (drop n xs) (omega (arith, length-drop n xs)) in
@@ -106,9 +90,7 @@ whole_one n xs e = ap (λ k. k % n) e ∙ mod_self n
 pub blocks_fit : {T : Type 0} (n mid : ℕ) (xs : List T) → mid ≤ length (blocks n xs) → mid * n ≤ length xs
 blocks_fit n mid xs within =
     let few : mid ≤ length xs / n = omega (arith, length_blocks n xs) in
-    let up = mul-le-mul_right n few in
-    let all = div-mul-le_self (length xs) n in
-    omega arith
+    omega (arith, mul-le-mul_right n few, div-mul-le_self (length xs) n)
 
 pub whole_front : {T : Type 0} (n mid : ℕ) (xs : List T) → mid * n ≤ length xs → length (take (mid * n) xs) % n ≡ 0
 whole_front n mid xs fits = ap (λ k. k % n) (length-take-le (mid * n) xs fits) ∙ mul-mod_left mid n
@@ -118,33 +100,33 @@ whole_back n mid xs fits whole =
     let all : length (drop (mid * n) xs) + mid * n ≡ length xs = omega (arith, length-drop (mid * n) xs) in
     sym (add-mul-mod_self_right (length (drop (mid * n) xs)) mid n) ∙ ap (λ k. k % n) all ∙ whole
 
--- where there is a block, it has items, and the list has them
-one_block : (n k len : ℕ) → suc k ≤ len / n → (0 < n) × (n ≤ len)
-one_block zero k len some = let none = div-zero len in absurd (omega arith)
-one_block (suc n) k len some =
-    let up = mul-le-mul_right (suc n) some in
-    let all = div-mul-le_self len (suc n) in
-    let one = suc-mul k (suc n) in
-    (omega arith, omega arith)
+take-first_chunks : {T : Type 0} (n m k : ℕ) (xs : List T) → m ≤ k → take m (first_chunks n k xs) ≡ first_chunks n m xs
+take-first_chunks n zero k xs h = refl
+take-first_chunks n (suc m) (suc k) xs h = ap (λ cs. take n xs ∷ cs) (take-first_chunks n m k _ (omega arith))
+take-first_chunks n _ _ xs h = absurd (omega arith)
+
+count_of : (n mid len : ℕ) → mid ≤ len / n → mid * n / n ≡ mid
+count_of zero mid len h = div-zero _ ∙ omega (arith, div-zero len)
+count_of (suc n) mid len h = mul-div_cancel mid (omega arith)
 
 -- the first `mid` blocks
 pub blocks_front : {T : Type 0} (n mid : ℕ) (xs : List T) → mid ≤ length (blocks n xs) → blocks n (take (mid * n) xs) ≡ take mid (blocks n xs)
 unfolding blocks
-blocks_front n zero xs within = let none : 0 * n ≡ 0 = omega arith in rw (none, zero-div) refl
-blocks_front n (suc mid) xs within =
-    let some : suc mid ≤ length xs / n = omega (arith, length_blocks n xs) in
-    let one = one_block n mid (length xs) some in
-    let cons = blocks_cons n xs one.0 one.1 in
-    let less : mid ≤ length (blocks n (drop n xs)) = omega (arith, ap length cons) in
-    let up = suc-mul mid n ∙ add_comm (mid * n) n in
-    let long = length-take-le (suc mid * n) xs (blocks_fit n _ xs within) in
-    let first = take-take n _ xs (omega arith) in
-    let rest = ap (λ x. drop n (take x xs)) up ∙ drop-take n _ xs in
-    let front =
-    blocks_cons n (take (suc mid * n) xs) one.0 (omega arith) ∙ ap (λ x. x ∷ blocks n (drop n (take (suc mid * n) xs))) first
-    ∙ ap (λ x. take n xs ∷ blocks n x) rest in
-    let tail = blocks_front n mid _ less in
-    front ∙ ap (λ x. take n xs ∷ x) tail ∙ ap (take (suc mid)) (sym cons)
+blocks_front n mid xs within =
+    let few : mid ≤ length xs / n = omega (arith, length_blocks n xs) in
+    let count = ap (λ k. k / n) (length-take-le _ xs (blocks_fit n mid xs within)) ∙ count_of n mid _ few in
+    ap (λ k. first_chunks n k (take (mid * n) xs)) count ∙ first_chunks-take n mid _ xs (omega arith) ∙ sym (take-first_chunks n mid _ xs few)
+
+pub blocks_take : {T : Type 0} (n : ℕ) (xs : List T) → blocks n (take (length xs / n * n) xs) ≡ blocks n xs
+blocks_take n xs =
+    let size = length_blocks n xs in
+    blocks_front n _ xs (omega arith) ∙ take_all _ (blocks n xs) (omega arith)
+
+-- where there is a block, it has items, and the list has them
+one_block : (n k len : ℕ) → suc k ≤ len / n → (0 < n) × (n ≤ len)
+one_block zero k len some = absurd (omega (arith, div-zero len))
+one_block (suc n) k len some =
+    (omega arith, omega (arith, mul-le-mul_right (suc n) some, div-mul-le_self len (suc n), suc-mul k (suc n)))
 
 -- and those behind them
 pub blocks_back : {T : Type 0} (n mid : ℕ) (xs : List T) → mid ≤ length (blocks n xs) → blocks n (drop (mid * n) xs) ≡ drop mid (blocks n xs)
@@ -161,9 +143,10 @@ blocks_back n (suc mid) xs within =
 pub whole_part : (n size len : ℕ) → (0 < n → size % n ≡ 0) → len % n ≡ 0 → min size len % n ≡ 0
 whole_part zero size len whole all = let none : min size len ≡ 0 = omega (arith, sym (mod-zero len) ∙ all) in ap (λ k. k % 0) none ∙ zero-mod 0
 whole_part (suc n) size len whole all =
-    let cut : size < len → min size len % suc n ≡ 0 = λ less. let e : min size len ≡ size = omega arith in ap (λ k. k % suc n) e ∙ whole (omega arith) in
-    let end : len ≤ size → min size len % suc n ≡ 0 = λ more. let e : min size len ≡ len = omega arith in ap (λ k. k % suc n) e ∙ all in
-    elim (cases_lt size len) [ inl less ↦ cut less | inr more ↦ end more ]
+    elim (cases_lt size len) [
+      | inl less ↦ let e : min size len ≡ size = omega arith in ap (λ k. k % suc n) e ∙ whole (omega arith)
+      | inr more ↦ let e : min size len ≡ len = omega arith in ap (λ k. k % suc n) e ∙ all
+    ]
 
 -- and so is what it leaves
 pub whole_rest : (n size len : ℕ) → (0 < n → size % n ≡ 0) → len % n ≡ 0 → (len - min size len) % n ≡ 0
