@@ -30,9 +30,9 @@ product_of_none b k = xor_sum-none (suc k) _ (λ i. refl)
 product_coefficient-cons : (x : Bool) (a b : List Bool) → product_coefficient (x ∷ a) b ≡ add (scale x (coefficient b)) (shift (product_coefficient a b))
 product_coefficient-cons x a b =
     same_steps _ _ (sym (xor_zero (x && coefficient b zero))) (λ k. xor_sum-first (suc k) (λ i. coefficient (x ∷ a) i && coefficient b _)
-        ∙ ap (λ (j : ℕ). (x && coefficient b j) xor xor_sum (suc k) (λ i. coefficient a i && coefficient b (suc k - suc i))) (sub-zero (suc k))
-        ∙ ap (λ (g : Series). (x && coefficient b (suc k)) xor xor_sum (suc k) g) (same_series (λ i. ap (λ (j : ℕ). coefficient a i && coefficient b j)
-        (suc-sub-suc k i))))
+    ∙ ap (λ (j : ℕ). (x && coefficient b j) xor xor_sum (suc k) (λ i. coefficient a i && coefficient b (suc k - suc i))) (sub-zero (suc k))
+    ∙ ap (λ (g : Series). (x && coefficient b (suc k)) xor xor_sum (suc k) g) (same_series (λ i. ap (λ (j : ℕ). coefficient a i && coefficient b j)
+    (suc-sub-suc k i))))
 
 -- ---- one step of x, and Horner's rule. `top` is the degree less one, `m` the modulus with its highest coefficient
 
@@ -45,7 +45,7 @@ module _ (top : ℕ) (m : Series) where
   pub mul_x-add : (f g : Series) → mul_x (add f g) ≡ add (mul_x f) (mul_x g)
   mul_x-add f g =
       same_steps _ _ (xor_and (f top) _ _) (λ k. ap (λ (b : Bool). (f k xor g k) xor b) (xor_and (f top) _ _)
-          ∙ xor_exchange (f k) (g k) _ _)
+      ∙ xor_exchange (f k) (g k) _ _)
 
   pub mul_x-scale : (b : Bool) (f : Series) → mul_x (scale b f) ≡ scale b (mul_x f)
   mul_x-scale b f =
