@@ -76,7 +76,7 @@ few_keys left right sum keys is_left is_right is_sum sized differ apart each =
     (λ (many : n < length keys).
     let count = length-reverse ds ∙ length-xor_blocks us vs same ∙ long in
     let zeros = all_zero keys (sum ∷ reverse ds) (omega arith) sized (is_sum, Each-reverse IsBlock ds all_d) apart root in
-    let none : Zeros ds = subst Zeros (reverse-reverse ds) (Each-reverse (λ c. c ≡ zero_block) (reverse ds) zeros.1) in
+    let none = subst Zeros (reverse-reverse ds) (Each-reverse (λ c. c ≡ zero_block) (reverse ds) zeros.1) in
     absurd (differ (same_lists us vs same all_u all_v none)))
     (λ (few : length keys ≤ n). few)
     (cases_lt n (length keys))

@@ -34,11 +34,11 @@ pub fresh_one : (was now : List (List ℕ)) (closed : Bool) (nonce : List ℕ) �
 fresh_one was now closed nonce a = subst (λ (l : List (List ℕ)). GrewFresh was l) (sym a.appended) (record {
   kept = take-append_seam was (nonce ∷ []);
   fresh = λ i j lt from to same.
-      let all : List (List ℕ) = was ++ nonce ∷ [] in
-      let more : length all ≡ length was + 1 = length-append was (nonce ∷ []) in
+      let all = was ++ nonce ∷ [] in
+      let more = length-append was (nonce ∷ []) in
       let last : j ≡ length was = omega arith in
       let within : i < length was = omega arith in
-      let e : get_or was i [] ≡ nonce =
+      let e =
       sym (get_or-append was (nonce ∷ []) [] i within) ∙ read_same all i j to same
       ∙ ap (λ (k : ℕ). get_or all k []) last ∙ get_or-append_seam was nonce [] [] in
       a.fresh (subst (λ (x : List ℕ). Contains was x) e (Contains-get_or was i [] within));
