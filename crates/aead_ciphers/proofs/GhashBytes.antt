@@ -32,7 +32,7 @@ number-reverse [] = refl
 number-reverse (b ∷ p) =
     ap number (reverse-append (b ∷ []) p)
     ∙ fold-append (λ (n : ℕ) (c : Bool). 2 * n + (if c then 1 else 0)) 0 (reverse p) (b ∷ [])
-    ∙ ap (λ n. 2 * n + (if b then 1 else 0)) (number-reverse p) ∙ add_comm (2 * value_of p) (if b then 1 else 0)
+    ∙ ap (λ n. 2 * n + (if b then 1 else 0)) (number-reverse p) ∙ add_comm _ _
 
 pub block_of-is : (p : List Bool) → block_of p ≡ to_be_bytes w128 (number p)
 unfolding block_of
@@ -41,8 +41,8 @@ block_of-is p = ap (to_be_bytes w128) (sym (number-reverse (reverse p)) ∙ ap n
 -- a byte's bits are the number's bits there
 bit_at_byte : (n s j : ℕ) → j < 8 → bit_at (n / 2 ^ s % 2 ^ 8) j ≡ bit_at n (s + j)
 bit_at_byte n s j h =
-    sym (bit_at_cat_low (n / 2 ^ s / 2 ^ 8) 8 (n / 2 ^ s % 2 ^ 8) j h)
-    ∙ ap (λ x. bit_at x j) (div-add-mod' (n / 2 ^ s) (2 ^ 8))
+    sym (bit_at_cat_low (n / 2 ^ s / 2 ^ 8) 8 _ j h)
+    ∙ ap (λ x. bit_at x j) (div-add-mod' (n / 2 ^ s) _)
     ∙ ap (λ x. x % 2) (shr-shr n s j)
 
 bits_split : (n s j : ℕ) → j ≤ 8 → bits_high_first j (n / 2 ^ s % 2 ^ 8) ++ bits_high_first s n ≡ bits_high_first (j + s) n
@@ -69,7 +69,7 @@ bytes_bits (suc k) n =
     ∙ ap (λ j. bits_high_first j n) (omega arith)
 
 pub block_bits_of_number : (n : ℕ) → block_bits (to_be_bytes w128 n) ≡ bits_high_first 128 n
-block_bits_of_number n = block_bits-is (to_be_bytes w128 n) ∙ bytes_bits 16 n
+block_bits_of_number n = block_bits-is _ ∙ bytes_bits 16 n
 
 bit_value : (x : ℕ) → x < 2 → (if x == 1 then 1 else 0) ≡ x
 bit_value zero h = refl
@@ -84,7 +84,7 @@ pub number_after : (k n a : ℕ) → digits a (bits_high_first k n) ≡ a * 2 ^ 
 unfolding bits_high_first
 number_after zero n a = omega arith
 number_after (suc k) n a =
-    number_after k n (2 * a + (if bit_at n k == 1 then 1 else 0))
+    number_after k n _
     ∙ ap (λ x. (2 * a + x) * 2 ^ k + n % 2 ^ k) (bit_value (bit_at n k) (bit_at-lt n k))
     ∙ (let one_more : suc k ≡ 1 + k = omega arith in
     let e = ap (λ j. n % 2 ^ j) one_more ∙ mod-pow-add n 1 k in
@@ -104,9 +104,9 @@ product_of_numbers a b c below h =
 -- the bytes of an XOR
 byte-xor : (k a b : ℕ) → byte_at k (bit_xor a b) ≡ bit_xor (byte_at k a) (byte_at k b)
 byte-xor k a b =
-    byte_at_is k (bit_xor a b)
-    ∙ ap (λ x. x % 2 ^ 8) (xor_shr a b (8 * k))
-    ∙ xor_mod (a / 2 ^ (8 * k)) (b / 2 ^ (8 * k)) 8
+    byte_at_is k _
+    ∙ ap (λ x. x % 2 ^ 8) (xor_shr a b _)
+    ∙ xor_mod _ _ 8
     ∙ ap₂ bit_xor (sym (byte_at_is k a)) (sym (byte_at_is k b))
 
 bytes-xor : (k a b : ℕ) → bytes_high_first k (bit_xor a b) ≡ bytes_high_first k a ⊕ bytes_high_first k b

@@ -45,4 +45,4 @@ IsBytesWord-undecoded word e other h (inr digits) =
 pub bytes_of_word-encode_lower : (bytes : List ℕ) → 0 < length bytes → IsBytes bytes → bytes_of_word (encode_lower bytes) ≡ Some bytes
 bytes_of_word-encode_lower bytes some h =
     let twice = length-encode_with lower_digits bytes in
-    bytes_of_word-decoded (encode_lower bytes) bytes (omega (arith, twice)) (decode_of-encode_lower bytes h)
+    bytes_of_word-decoded _ bytes (omega (arith, twice)) (decode_of-encode_lower bytes h)

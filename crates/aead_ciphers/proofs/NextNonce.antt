@@ -14,7 +14,7 @@ pub plaintext_next : {E : Type 0} (is_next : List ℕ → Type 0) (key nonce aad
     → IfOk answer (λ n. n ≡ length old - 16 - start)
     → OnOk answer (UnderNext is_next (λ next. take (length old - 16 - start) new ≡ gcm_decrypted (aes key) next (drop start (take (length old - 16) old))))
 plaintext_next {E} is_next key nonce aad start old new (Ok n) is opened count = λ next given.
-    let front = stands n (opened_fronts {E = E} _ (length-before_tag start old _ refl) (Ok n) opened count) in
+    let front = stands n (opened_fronts {E = E} _ (length-before_tag start old _ refl) _ opened count) in
     subst (λ x. take (length old - 16 - start) new ≡ gcm_decrypted (aes key) x (drop start (take (length old - 16) old))) (is next given) front
 plaintext_next is_next key nonce aad start old new (Err e) is opened count = tt
 

@@ -20,7 +20,7 @@ module _ (h : ℕ) (old : List ℕ) (room : h + 16 ≤ length old) where
   header_size = length-take-le h old (omega arith)
 
   message_size : length (packet_message h old) ≡ length old - 16 - h
-  message_size = length-take-le (length old - 16 - h) (drop h old) (omega (arith, length-drop h old))
+  message_size = length-take-le _ _ (omega (arith, length-drop h old))
 
   fits : Fits h (length old - 16 - h) → Fits (length (take h old)) (length (packet_message h old))
   fits it = rw (header_size, message_size) it
@@ -45,7 +45,7 @@ module _ (h : ℕ) (old : List ℕ) (room : h + 16 ≤ length old) where
     packet_step nonce new (Ok x) spends accepted ok err =
         let all = accepted.0 refl in
         sealed room nonce spends (fits all.lengths)
-        (ap (drop h) ok ∙ drop_at (take h old) (gcm_sealed (aes was.key.bytes) nonce (take h old) (packet_message h old)) h header_size)
+        (ap (drop h) ok ∙ drop_at _ _ h header_size)
     packet_step nonce new (Err e) spends accepted ok err =
         too_long room nonce spends (λ it. let no = accepted.1 (record { room = room; lengths = fits_back it }) in cc)
         (ap (packet_message h) err)

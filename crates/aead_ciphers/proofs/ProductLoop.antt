@@ -60,10 +60,10 @@ pub multiple_is : (v : ℕ) → v < 2 ^ 128 → coefficients 128 (next_multiple 
 multiple_is v below =
     let lowest = and_mask v 1 ∙ sym (bit_at_lowest v) in
     let q = bits_high_first 127 (v / 2) in
-    coefficients-xor 128 (v / 2) _
+    coefficients-xor 128 _ _
     ∙ ap₂ add
     (ap coefficient (bits-half 127 v below) ∙ shifted q)
-    (coefficients-masked 128 128 reduction (bit_and v 1) (subst (λ x. x < 2) (sym lowest) (bit_at-lt v 0)) (lit< tt)
+    (coefficients-masked 128 128 reduction _ (subst (λ x. x < 2) (sym lowest) (bit_at-lt v 0)) (lit< tt)
     ∙ ap₂ (λ x s. scale (x == 1) s) lowest reduction_is)
-    ∙ sym (mul_x-push 127 block_taps block_low q (bit_at v 0 == 1) (length-bits 127 (v / 2)))
+    ∙ sym (mul_x-push 127 block_taps block_low q (bit_at v 0 == 1) (length-bits 127 _))
     ∙ ap (λ p. mul_x 127 (modulus block_taps 128) (coefficient p)) (sym (bits-push 127 v))

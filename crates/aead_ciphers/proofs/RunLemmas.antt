@@ -26,7 +26,7 @@ module _ {K J : Type 0} (Step : K → K → J → J → Type 0) where
       let front = take_more olds i x lo ∙ ap (λ z. take i olds ++ z ∷ []) there in
       let cut : (l : List J) → i < length l → drop (i + 1) l ≡ drop 1 (drop i l) =
       λ l h. ap (λ j. drop j l) (add-one i) ∙ sym (ap (drop 1) (drop-cons l i x h)) in (
-        rw (front, take_more_set news i y ln) (Runs-more k m n (take i olds) (take i news) x y r s),
-        rw (front, take_more_set news i y ln) (AllZip-push R (take i olds) (take i news) x y each related),
-        drop-set-lt (i + 1) news i y (omega arith) ∙ cut news ln ∙ ap (drop 1) rest ∙ sym (cut olds lo),
+        rw (front, take_more_set news i y ln) (Runs-more k m n _ _ x y r s),
+        rw (front, take_more_set news i y ln) (AllZip-push R _ _ x y each related),
+        drop-set-lt _ news i y (omega arith) ∙ cut news ln ∙ ap (drop 1) rest ∙ sym (cut olds lo),
       )

@@ -12,10 +12,10 @@ pub grown_less : (xs : List ℕ) → length (xs ++ replicate 16 0) - 16 ≡ leng
 grown_less xs = omega (arith, length-append xs (replicate 16 0))
 
 pub grown_more : (xs : List ℕ) → length (xs ++ replicate 16 0) ≡ length xs + 16
-grown_more xs = length-append xs (replicate 16 0)
+grown_more xs = length-append xs _
 
 pub grown_front : (xs : List ℕ) → take (length (xs ++ replicate 16 0) - 16) (xs ++ replicate 16 0) ≡ xs
-grown_front xs = rw (grown_less xs) (take-append_seam xs (replicate 16 0))
+grown_front xs = rw (grown_less xs) (take-append_seam xs _)
 
 module _ {N : Type 0} (spent : N → List (List ℕ)) (is_closed : N → Bool) (refuse grant : Type 0) (was : BoundState N) (aad old : List ℕ) where
   -- a sealing that found no room
