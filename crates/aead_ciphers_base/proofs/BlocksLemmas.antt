@@ -20,21 +20,21 @@ blocks_short n xs short = ap (λ k. first_chunks n k xs) (div-eq_of_lt short)
 one_less : (n k : ℕ) → 0 < n → n ≤ k → k / n ≡ suc ((k - n) / n)
 one_less n k some fits =
     let e : k ≡ k - n + n = omega arith in
-    let d = add-div_right (k - n) some in
-    ap (λ m. m / n) e ∙ d ∙ add-one ((k - n) / n)
+    let d = add-div_right _ some in
+    ap (λ m. m / n) e ∙ d ∙ add-one _
 
 pub blocks_cons : {T : Type 0} (n : ℕ) (xs : List T) → 0 < n → n ≤ length xs → blocks n xs ≡ take n xs ∷ blocks n (drop n xs)
 unfolding blocks
 blocks_cons n xs some fits =
-    ap (λ k. first_chunks n k xs) (one_less n (length xs) some fits ∙ ap (λ k. suc (k / n)) (sym (length-drop n xs)))
+    ap (λ k. first_chunks n k xs) (one_less n _ some fits ∙ ap (λ k. suc (k / n)) (sym (length-drop n xs)))
 
 length-first_chunks : {T : Type 0} (n k : ℕ) (xs : List T) → length (first_chunks n k xs) ≡ k
 length-first_chunks n zero xs = refl
-length-first_chunks n (suc k) xs = ap suc (length-first_chunks n k (drop n xs))
+length-first_chunks n (suc k) xs = ap suc (length-first_chunks n k _)
 
 pub length_blocks : {T : Type 0} (n : ℕ) (xs : List T) → length (blocks n xs) ≡ length xs / n
 unfolding blocks
-length_blocks n xs = length-first_chunks n (length xs / n) xs
+length_blocks n xs = length-first_chunks n _ xs
 
 first_chunks-take : {T : Type 0} (n k m : ℕ) (xs : List T) → k * n ≤ m → first_chunks n k (take m xs) ≡ first_chunks n k xs
 first_chunks-take n zero m xs h = refl
@@ -48,15 +48,15 @@ first_chunks-take n (suc k) m xs h =
 
 count_kept : (n k m : ℕ) → m ≡ k / n * n → m / n ≡ k / n
 count_kept zero k m e = div-zero m ∙ sym (div-zero k)
-count_kept (suc n) k m e = ap (λ x. x / suc n) e ∙ mul-div_cancel (k / suc n) (omega arith)
+count_kept (suc n) k m e = ap (λ x. x / suc n) e ∙ mul-div_cancel _ (omega arith)
 
 pub blocks_take : {T : Type 0} (n : ℕ) (xs : List T) → blocks n (take (length xs / n * n) xs) ≡ blocks n xs
 unfolding blocks
 blocks_take n xs =
     let within = div-mul-le_self (length xs) n in
-    let count = count_kept n (length xs) (length (take (length xs / n * n) xs))
+    let count = count_kept n _ _
     (length-take-le (length xs / n * n) xs within) in
-    ap (λ k. first_chunks n k (take (length xs / n * n) xs)) count ∙ first_chunks-take n (length xs / n) (length xs / n * n) xs (omega arith)
+    ap (λ k. first_chunks n k (take (length xs / n * n) xs)) count ∙ first_chunks-take n _ (length xs / n * n) xs (omega arith)
 
 pub blocks_one : {T : Type 0} (n : ℕ) (xs : List T) → 0 < n → length xs ≡ n → blocks n xs ≡ xs ∷ []
 blocks_one n xs some e =
@@ -65,16 +65,16 @@ blocks_one n xs some e =
     blocks_cons n xs some (omega arith) ∙ rw (rest, whole)
 
 first_chunks-at : {T : Type 0} (n k : ℕ) (xs : List T) (i : ℕ) (d : List T) → i < k → get_or (first_chunks n k xs) i d ≡ take n (drop (i * n) xs)
-first_chunks-at n zero xs i d h = absurd (omega arith)
 first_chunks-at n (suc k) xs zero d h = let e : 0 * n ≡ 0 = omega arith in rw e
 first_chunks-at n (suc k) xs (suc i) d h =
     let less : i < k = omega arith in
-    let at = drop-drop (i * n) n xs ∙ ap (λ x. drop x xs) (add_comm n (i * n) ∙ sym (suc-mul i n)) in
-    first_chunks-at n k (drop n xs) i d less ∙ ap (take n) at
+    let at = drop-drop _ n xs ∙ ap (λ x. drop x xs) (add_comm n _ ∙ sym (suc-mul i n)) in
+    first_chunks-at n k _ i d less ∙ ap (take n) at
+first_chunks-at n _ xs i d h = absurd (omega arith)
 
 pub blocks_at : {T : Type 0} (n : ℕ) (xs : List T) (i : ℕ) (d : List T) → i < length xs / n → get_or (blocks n xs) i d ≡ take n (drop (i * n) xs)
 unfolding blocks
-blocks_at n xs i d h = first_chunks-at n (length xs / n) xs i d h
+blocks_at n xs i d h = first_chunks-at n _ xs i d h
 
 -- block i lies within the list
 pub block_within : {T : Type 0} (n : ℕ) (xs : List T) (i : ℕ) → i < length xs / n → i * n + n ≤ length xs
@@ -94,7 +94,7 @@ joined_first n (suc k) xs e =
 
 pub joined_blocks : {T : Type 0} (n : ℕ) (xs : List T) → length xs % n ≡ 0 → xs ≡ joined (blocks n xs)
 unfolding blocks
-joined_blocks n xs e = sym (joined_first n (length xs / n) xs (omega (arith, mod-add-div' (length xs) n)))
+joined_blocks n xs e = sym (joined_first n _ xs (omega (arith, mod-add-div' (length xs) n)))
 
 pub whole_blocks : {T : Type 0} (n : ℕ) (xs : List T) → length (take (length xs / n * n) xs) % n ≡ 0
 whole_blocks n xs = ap (λ k. k % n) (length-take-le (length xs / n * n) xs (div-mul-le_self (length xs) n)) ∙ mul-mod_left (length xs / n) n
@@ -137,13 +137,13 @@ blocks_front n (suc mid) xs within =
     let cons = blocks_cons n xs one.0 one.1 in
     let less : mid ≤ length (blocks n (drop n xs)) = omega (arith, ap length cons) in
     let up = suc-mul mid n ∙ add_comm (mid * n) n in
-    let long = length-take-le (suc mid * n) xs (blocks_fit n (suc mid) xs within) in
-    let first = take-take n (suc mid * n) xs (omega arith) in
-    let rest = ap (λ x. drop n (take x xs)) up ∙ drop-take n (mid * n) xs in
+    let long = length-take-le (suc mid * n) xs (blocks_fit n _ xs within) in
+    let first = take-take n _ xs (omega arith) in
+    let rest = ap (λ x. drop n (take x xs)) up ∙ drop-take n _ xs in
     let front =
     blocks_cons n (take (suc mid * n) xs) one.0 (omega arith) ∙ ap (λ x. x ∷ blocks n (drop n (take (suc mid * n) xs))) first
     ∙ ap (λ x. take n xs ∷ blocks n x) rest in
-    let tail = blocks_front n mid (drop n xs) less in
+    let tail = blocks_front n mid _ less in
     front ∙ ap (λ x. take n xs ∷ x) tail ∙ ap (take (suc mid)) (sym cons)
 
 -- and those behind them
@@ -151,11 +151,11 @@ pub blocks_back : {T : Type 0} (n mid : ℕ) (xs : List T) → mid ≤ length (b
 blocks_back n zero xs within = let none : 0 * n ≡ 0 = omega arith in rw none refl
 blocks_back n (suc mid) xs within =
     let some : suc mid ≤ length xs / n = omega (arith, length_blocks n xs) in
-    let one = one_block n mid (length xs) some in
+    let one = one_block n mid _ some in
     let cons = blocks_cons n xs one.0 one.1 in
     let less : mid ≤ length (blocks n (drop n xs)) = omega (arith, ap length cons) in
-    let at = ap (λ x. drop x xs) (suc-mul mid n ∙ add_comm (mid * n) n) ∙ sym (drop-drop (mid * n) n xs) in
-    rw (at, cons) (blocks_back n mid (drop n xs) less)
+    let at = ap (λ x. drop x xs) (suc-mul mid n ∙ add_comm _ n) ∙ sym (drop-drop (mid * n) n xs) in
+    rw (at, cons) (blocks_back n mid _ less)
 
 -- the next part of at most `size` items is whole blocks, where `size` is and the items are
 pub whole_part : (n size len : ℕ) → (0 < n → size % n ≡ 0) → len % n ≡ 0 → min size len % n ≡ 0
@@ -172,7 +172,7 @@ whole_rest n size len whole all =
     let both : len - min size len + min size len ≡ len = omega arith in
     let back =
     ap (λ k. (len - min size len + k) % n) (sym (mod-add-div' (min size len) n) ∙ ap (λ k. k + min size len / n * n) part
-    ∙ zero-add (min size len / n * n)) ∙ add-mul-mod_self_right (len - min size len) (min size len / n) n in
+    ∙ zero-add _) ∙ add-mul-mod_self_right _ (min size len / n) n in
     sym back ∙ ap (λ k. k % n) both ∙ all
 
 -- what an iterator over such parts has left is whole blocks
@@ -182,7 +182,7 @@ pub whole_left : {T : Type 0} (n size : ℕ) (xs rest : List T) (r : Option (Mut
 whole_left n size xs rest None h whole all = ap (λ k. k % n) h.1 ∙ zero-mod n
 whole_left n size xs rest (Some x) h whole all =
     let left : length rest ≡ length xs - min size (length xs) = omega (arith, ap length h.0, length-append x.now rest) in
-    ap (λ k. k % n) left ∙ whole_rest n size (length xs) whole all
+    ap (λ k. k % n) left ∙ whole_rest n size _ whole all
 
 -- k blocks of n items are whole blocks, and at least one item
 pub whole_size : (k n : ℕ) → 0 < k → 0 < n → max (k * n) 1 % n ≡ 0

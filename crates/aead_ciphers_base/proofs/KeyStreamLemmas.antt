@@ -22,7 +22,7 @@ pub blocks-stream : (key : List ℕ) (counter : ℕ) (nonce bytes : List ℕ) (n
     → bytes ≡ each_below (64 * n) (stream_byte key counter nonce)
 unfolding stream_byte
 blocks-stream key counter nonce bytes n size blocks =
-    fill_by_all (stream_byte key counter nonce) bytes (64 * n) 0 size (λ k h.
+    fill_by_all _ bytes _ 0 size (λ k h.
     let place : 64 * (k / 64) + k % 64 ≡ k = omega arith in
     sym (ap (λ (i : ℕ). get_or bytes i 0) place)
     ∙ sym (get_or-take 64 (drop (64 * (k / 64)) bytes) (k % 64) 0 (omega arith) ∙ get_or-drop (64 * (k / 64)) bytes (k % 64) 0)
@@ -33,7 +33,7 @@ pub block-stream : (key : List ℕ) (counter : ℕ) (nonce block : List ℕ) (n 
     → n ≤ 64 → take n block ≡ each_below n (stream_byte key counter nonce)
 unfolding stream_byte
 block-stream key counter nonce block n e size le =
-    stream_front (stream_byte key counter nonce) block n (omega arith) (λ k h.
+    stream_front _ block n (omega arith) (λ k h.
     let row : counter + k / 64 ≡ counter = omega arith in
     let column : k % 64 ≡ k = omega arith in
     rw (row, column, e) refl)
@@ -55,9 +55,9 @@ written_more key counter nonce start at j size n old was stream held e whole wit
     let ld : length (take at input) ≡ at = length-take-le at input (omega arith) in
     let held' = held ∙ ap (λ (k : ℕ). xored f (take at input) ++ drop k old) ld in
     let lw : length was ≡ length old = ap length held' ∙ simp (length-append, length-xored, length-drop) (omega arith) in
-    let lp : length piece ≡ n = length-take-le n (drop (start + at) was) (omega (arith, length-drop (start + at) was)) in
+    let lp : length piece ≡ n = length-take-le n _ (omega (arith, length-drop (start + at) was)) in
     let cut : at + n ≡ min (at + size) (length input) = omega arith in
-    let all : take (at + n) input ≡ take (at + size) input = ap (λ (k : ℕ). take k input) cut ∙ take_min (at + size) input in
+    let all : take (at + n) input ≡ take (at + size) input = ap (λ (k : ℕ). take k input) cut ∙ take_min _ input in
     let la : at + n ≡ length (take (at + size) input) = sym (length-take-le (at + n) input (omega arith)) ∙ ap length all in
     ap (λ (u : List ℕ). take at was ++ u ++ drop (at + n) was) (xored-is g piece stream (rw lp e))
     ∙ advance f g at n start old was (stream_byte-later key counter nonce j at whole) (omega arith) held'
@@ -86,7 +86,7 @@ written_rest key counter nonce start at j old was rest held whole within e =
     let behind =
     drop-drop (length (drop (start + at) was)) at was ∙ ap (λ (k : ℕ). drop k was) (omega (arith, length-drop (start + at) was)) in
     rw (none, append-nil rest, rw (part, piece) at e, behind)
-    (sym (append_assoc (take at was) (xored g (drop (start + at) was)) (drop (length was - start) was))
+    (sym (append_assoc (take at was) _ _)
     ∙ finish f g at start old was (stream_byte-later key counter nonce j at whole) within lw held'
     ∙ ap (λ (k : ℕ). xored f input ++ drop k old) (sym li))
 
@@ -94,4 +94,4 @@ written_rest key counter nonce start at j old was rest held whole within e =
 pub chacha20_encrypted-chacha20_encrypted : (key : List ℕ) (counter : ℕ) (nonce m : List ℕ)
     → chacha20_encrypted key counter nonce (chacha20_encrypted key counter nonce m) ≡ m
 unfolding chacha20_encrypted
-chacha20_encrypted-chacha20_encrypted key counter nonce m = xored-xored (stream_byte key counter nonce) m
+chacha20_encrypted-chacha20_encrypted key counter nonce m = xored-xored _ m

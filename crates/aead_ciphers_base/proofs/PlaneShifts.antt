@@ -39,7 +39,7 @@ abbrev pub pair : ℕ → ℕ → ℕ → ℕ → ℕ → ℕ
 pair r m l n x = bit_xor (bit_and (x / 2 ^ r) m) (bit_and (x * 2 ^ l % 2 ^ 64) n)
 
 pair_additive : (r m l n : ℕ) → IsAdditive (pair r m l n)
-pair_additive r m l n = additive_xor (λ x. bit_and (x / 2 ^ r) m) (λ x. bit_and (x * 2 ^ l % 2 ^ 64) n) (right_under r m) (left_under l n)
+pair_additive r m l n = additive_xor (λ x. bit_and _ m) (λ x. bit_and _ n) (right_under r m) (left_under l n)
 
 abbrev pub one_below_of : ℕ → ℕ
 one_below_of x = pair 1 0x7777777777777777 3 0x8888888888888888 x
@@ -75,18 +75,18 @@ rows_shifted_test = refl
 
 delta_additive : IsAdditive delta
 delta_additive =
-    additive_after (λ t. bit_and t 0x00cc00cc00cc00cc) (λ x. bit_xor (x / 2 ^ 8) x) (additive_and 0x00cc00cc00cc00cc)
+    additive_after (λ t. bit_and t 0x00cc00cc00cc00cc) (λ x. bit_xor _ x) (additive_and 0x00cc00cc00cc00cc)
     (additive_xor (λ x. x / 2 ^ 8) (λ x. x) (additive_shr 8) (λ a b. refl))
 
 by_two_additive : IsAdditive by_two
 by_two_additive =
-    additive_xor (λ x. bit_xor x (delta x)) (λ x. delta x * 2 ^ 8 % 2 ^ 64)
+    additive_xor (λ x. bit_xor x _) (λ x. delta x * 2 ^ 8 % 2 ^ 64)
     (additive_xor (λ x. x) delta (λ a b. refl) delta_additive)
     (additive_after (λ t. t * 2 ^ 8 % 2 ^ 64) delta (additive_shl 8 64) delta_additive)
 
 by_one_additive : IsAdditive by_one
 by_one_additive =
-    additive_xor (λ x. bit_and x 0x5555555555555555) (pair 4 0x0aaa0aaa0aaa0aaa 12 0xa000a000a000a000)
+    additive_xor (λ x. bit_and x 0x5555555555555555) _
     (additive_and 0x5555555555555555) (pair_additive 4 0x0aaa0aaa0aaa0aaa 12 0xa000a000a000a000)
 
 pub rows_shifted_moves : (x : ℕ) → x < 2 ^ 64 → (p : ℕ) → p < 64 → bit_at (by_one (by_two x)) p ≡ bit_at x (shifted_from p)
@@ -107,7 +107,7 @@ add_plane a b s h p =
     let f = λ (k : ℕ). bit_at (slice_index a k) p == 1 in
     let g = λ (k : ℕ). bit_at (slice_index b k) p == 1 in
     ap value_of (each-same 8 (λ k. bit_at (slice_index s k) p == 1) (λ k. ◌xor◌ (f k) (g k))
-    (λ k lt. ap (λ t. bit_at t p == 1) (h k lt) ∙ set-xor (slice_index a k) (slice_index b k) p))
+    (λ k lt. ap (λ t. bit_at t p == 1) (h k lt) ∙ set-xor _ _ p))
     ∙ ap value_of (polynomial-add 8 f g)
     ∙ value_of-add (each_below 8 f) (each_below 8 g) refl
 
@@ -116,7 +116,7 @@ pub mixed_is : (x y z w : ℕ) → y < 256 → bit_xor (bit_xor (mul8 2 (bit_xor
 mixed_is x y z w hy =
     ap (λ t. bit_xor t (bit_xor z w))
     (ap (λ t. bit_xor t y) (mul8-xor_right 2 x y) ∙ xor_assoc (mul8 2 x) (mul8 2 y) y ∙ ap (bit_xor (mul8 2 x)) (three_is y hy))
-    ∙ sym (xor_assoc (bit_xor (mul8 2 x) (mul8 3 y)) z w)
+    ∙ sym (xor_assoc (bit_xor (mul8 2 x) _) z w)
 
 pub below_lt : (p i : ℕ) → p < 64 → below p i < 64
 below_lt p i h = omega arith
@@ -130,6 +130,6 @@ pub moves_more : (a out : List ℕ) (source : ℕ → ℕ) (k v : ℕ) → k < l
     → ((p : ℕ) → p < 64 → bit_at v p ≡ bit_at (slice_index a k) (source p))
     → (j : ℕ) → j < k + 1 → (p : ℕ) → p < 64 → bit_at (slice_index (set out k v) j) p ≡ bit_at (slice_index a j) (source p)
 moves_more a out source k v fits before here =
-    below_more (λ j. (p : ℕ) → p < 64 → bit_at (slice_index (set out k v) j) p ≡ bit_at (slice_index a j) (source p)) k
+    below_more (λ j. (p : ℕ) → p < 64 → bit_at _ p ≡ bit_at _ _) k
     (λ j h p lt. ap (λ t. bit_at t p) (get_or-set_other out k j v 0 (λ e. absurd (omega arith))) ∙ before j h p lt)
     (λ p lt. ap (λ t. bit_at t p) (get_or-set_same out k v 0 fits) ∙ here p lt)

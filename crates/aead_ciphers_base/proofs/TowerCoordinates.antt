@@ -16,7 +16,7 @@ use Rattle.aead_ciphers_base.proofs.FastProduct.{by_fast_mul8}
 -- a test passes at k bits if it does at those of each number below 2^k
 all_at_bits : (p : List Bool → Bool) (q : List Bool) → all_below (λ n. p (bits_of (length q) n)) (2 ^ length q) ≡ true → p q ≡ true
 all_at_bits p q test =
-    ap p (sym (bits_of-value_of q)) ∙ all_below_at (λ n. p (bits_of (length q) n)) (2 ^ length q) (value_of q) test (value_of-lt q)
+    ap p (sym (bits_of-value_of q)) ∙ all_below_at (λ n. p _) _ _ test (value_of-lt q)
 
 -- two functions agree at k bits if they do at those of each number below 2^k
 same_at_bits : (f g : List Bool → ℕ) (q : List Bool)
@@ -136,8 +136,8 @@ inverts mul x y = x / 256 == 0 && y / 256 == 0 && (mul x y == 1 || y == inv_by m
 inverts_is : (x y : ℕ) → inverts mul8 x y ≡ true → y ≡ inv x
 unfolding inv
 inverts_is x y h =
-    let parts = and_parts (x / 256 == 0 && y / 256 == 0) (mul8 x y == 1 || y == inv x) h in
-    let bytes = and_parts (x / 256 == 0) (y / 256 == 0) parts.0 in
+    let parts = and_parts _ _ h in
+    let bytes = and_parts _ _ parts.0 in
     let x_byte = eqb-true (x / 256) 0 bytes.0 in
     let y_byte = eqb-true (y / 256) 0 bytes.1 in
     elim (or_cases (mul8 x y == 1) (y == inv x) parts.1) [
@@ -165,7 +165,7 @@ pub inverse_16_is : (n : List ℕ) (p : ℕ) → element basis_16 (inverse_16_by
 unfolding plane_element plane_polynomial basis_16
 inverse_16_is n p =
     let q = plane_polynomial 4 n p in
-    inverts_is (element basis_16 q) (element basis_16 (inverse_16_by mul8 q)) (all_at_bits (inverse_16_holds mul8) q inverse_16_test)
+    inverts_is _ _ (all_at_bits (inverse_16_holds mul8) q inverse_16_test)
 
 abbrev low_4 : List Bool → List Bool
 low_4 a = coefficient a 0 ∷ coefficient a 1 ∷ coefficient a 2 ∷ coefficient a 3 ∷ []
@@ -212,7 +212,7 @@ inverse_is a p =
     let a238 = element basis_16 (inverse_16_by mul8 r) in
     let inner = inverts_is (element basis_16 r) a238 (all_at_bits (inverse_16_holds mul8) r inverse_16_test) in
     ap (λ t. element basis_256 (inverse_from mul8 t q)) (sym inner)
-    ∙ inverts_is (element basis_256 q) (element basis_256 (inverse_from mul8 a238 q)) (all_at_bits (inverse_holds mul8) q inverse_test)
+    ∙ inverts_is _ _ (all_at_bits (inverse_holds mul8) q inverse_test)
 
 -- ---- the changes of basis
 
