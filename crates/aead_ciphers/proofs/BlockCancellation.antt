@@ -16,9 +16,8 @@ IsBlock-unit = IsBlock-number 0x80000000000000000000000000000000
 
 zeros_of_xor : (n : ℕ) (a : List ℕ) → length a ≡ n → a ⊕ a ≡ replicate n 0
 zeros_of_xor zero [] e = refl
-zeros_of_xor (suc n) [] e = absurd (omega arith)
-zeros_of_xor zero (x ∷ xs) e = absurd (omega arith)
 zeros_of_xor (suc n) (x ∷ xs) e = ap₂ (λ z zs. z ∷ zs) (number_self x) (zeros_of_xor n xs (omega arith))
+zeros_of_xor _ _ e = absurd (omega arith)
 
 pub xor_self : (a : List ℕ) → Sized a → a ⊕ a ≡ zero_block
 xor_self a size = zeros_of_xor 16 a size

@@ -77,11 +77,10 @@ AllSmall (x ∷ xs) = (x < 2 ^ 32) × AllSmall xs
 number-xor-from : (n m : ℕ) (xs ys : List ℕ) → length xs ≡ length ys → AllSmall xs → AllSmall ys →
     fold join (bit_xor n m) (zip2 bit_xor xs ys) ≡ bit_xor (fold join n xs) (fold join m ys)
 number-xor-from n m [] [] e small_x small_y = refl
-number-xor-from n m [] (y ∷ ys) e small_x small_y = absurd (omega arith)
-number-xor-from n m (x ∷ xs) [] e small_x small_y = absurd (omega arith)
 number-xor-from n m (x ∷ xs) (y ∷ ys) e small_x small_y =
     ap (λ k. fold join k (zip2 bit_xor xs ys)) (sym (xor_block 32 n m x y small_x.0 small_y.0))
     ∙ number-xor-from (join n x) _ xs ys (omega arith) small_x.1 small_y.1
+number-xor-from n m _ _ e small_x small_y = absurd (omega arith)
 
 pub number-xor : (xs ys : List ℕ) → length xs ≡ length ys → AllSmall xs → AllSmall ys →
     number_of_words (zip2 bit_xor xs ys) ≡ bit_xor (number_of_words xs) (number_of_words ys)
@@ -127,11 +126,7 @@ small-xor (x ∷ xs) (y ∷ ys) small_x small_y = (xor_lt 32 x y small_x.0 small
 fold-lanes : (xs : List ℕ) → length xs ≡ 4 →
     fold_l bit_xor 0 xs ≡ bit_xor (bit_xor (bit_xor (bit_xor 0 (slice_index xs 0)) (slice_index xs 1)) (slice_index xs 2)) (slice_index xs 3)
 fold-lanes (a ∷ b ∷ c ∷ d ∷ []) e = refl
-fold-lanes [] e = absurd (omega arith)
-fold-lanes (a ∷ []) e = absurd (omega arith)
-fold-lanes (a ∷ b ∷ []) e = absurd (omega arith)
-fold-lanes (a ∷ b ∷ c ∷ []) e = absurd (omega arith)
-fold-lanes (a ∷ b ∷ c ∷ d ∷ x ∷ xs) e = absurd (omega arith)
+fold-lanes _ e = absurd (omega arith)
 
 -- the sums of each vector's lanes are the words of the sum of the lanes
 pub number-lanes : (a b c d : List ℕ) → IsVector a → IsVector b → IsVector c → IsVector d →

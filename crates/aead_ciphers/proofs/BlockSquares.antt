@@ -6,7 +6,7 @@ use Rattle.std.specs.Int.Bits.{xor_zero_l}
 use Rattle.std.proofs.lemmas.Nat.{and_le_l, xor_lt}
 use Rattle.aead_ciphers_base.specs.Polynomial.{coefficient}
 use Rattle.aead_ciphers_base.proofs.PolynomialAction.{horner-add, horner-mul_x, horner-none, horner-scale, mul_x, mul_x-add, mul_x-none, mul_x-scale, times}
-use Rattle.aead_ciphers_base.proofs.PolynomialBits.{Series, add, add_assoc, add_exchange, add_none, add_self, none, same_series, scale, scale_add}
+use Rattle.aead_ciphers_base.proofs.PolynomialBits.{Series, add, add_assoc, add_exchange, add_none, add_self, none, same_steps, scale, scale_add}
 use Rattle.aead_ciphers_base.proofs.PolynomialLaws.{modulus, one, same_coefficients}
 use Rattle.aead_ciphers.specs.Ghash.{block_taps}
 use Rattle.aead_ciphers.proofs.GhashBits.{coefficients, coefficients-xor, coefficients-zero, length-bits, mask, bits_high_first}
@@ -70,7 +70,6 @@ chosen_is true n = refl
 combined_is : (p : List Bool) (n v w : ℕ) → length p ≤ n → v < 2 ^ 128 → w < 2 ^ 128 →
     add (squares p (coefficients 128 v)) (multiple p (coefficients 128 w)) ≡ coefficients 128 (combined p (squares_and_powers n v w))
 combined_is [] n v w fits below_v below_w = sym (coefficients-zero 128)
-combined_is (b ∷ p) zero v w fits below_v below_w = absurd (omega arith)
 combined_is (b ∷ p) (suc n) v w fits below_v below_w =
     let m = modulus block_taps 128 in
     let cv = coefficients 128 v in
@@ -89,17 +88,14 @@ combined_is (b ∷ p) (suc n) v w fits below_v below_w =
     (sym (scale_add b cv cw) ∙ ap (scale b) (sym (coefficients-xor 128 v w)) ∙ sym (chosen_is b _))
     (ap₂ add even each ∙ rest)
     ∙ sym (coefficients-xor 128 _ _)
+combined_is _ _ v w fits below_v below_w = absurd (omega arith)
 
 unit_number_bits : bits_high_first 128 unit ≡ true ∷ replicate 127 false
 unfolding bits_high_first
 unit_number_bits = refl
 
 unit_number : coefficients 128 unit ≡ one
-unit_number = ap coefficient unit_number_bits ∙ same_series go
-  where
-    go : (k : ℕ) → coefficient (true ∷ replicate 127 false) k ≡ one k
-    go zero = refl
-    go (suc k) = zeros_end 127 k
+unit_number = ap coefficient unit_number_bits ∙ same_steps _ _ refl (λ k. zeros_end 127 k)
 
 pub square_number : (p : List Bool) → length p ≡ 128 → multiple p (multiple p one) ≡ coefficients 128 (combined p even_powers)
 unfolding even_powers
@@ -112,11 +108,11 @@ square_number p size =
 -- ---- what is its own square
 
 zero_or_unit : (p : List Bool) → length p ≡ 128 → combined p (0 ∷ twos 127) ≡ 0 → (p ≡ replicate 128 false) ⊎ (p ≡ true ∷ replicate 127 false)
-zero_or_unit [] size e = absurd (omega arith)
 zero_or_unit (false ∷ p) size e =
     inl (ap (λ q. false ∷ q) (none_combined 127 p (omega arith) (sym (xor_zero_l (combined p _)) ∙ e)))
 zero_or_unit (true ∷ p) size e =
     inr (ap (λ q. true ∷ q) (none_combined 127 p (omega arith) (sym (xor_zero_l (combined p _)) ∙ e)))
+zero_or_unit _ size e = absurd (omega arith)
 
 pub own_square_bits : (p : List Bool) → length p ≡ 128 → multiple p (multiple p one) ≡ multiple p one →
     (p ≡ replicate 128 false) ⊎ (p ≡ true ∷ replicate 127 false)

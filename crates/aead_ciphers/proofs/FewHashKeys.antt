@@ -43,10 +43,9 @@ Blocks-xor (x ∷ xs) (y ∷ ys) h j = (IsBlock-xor x y h.0 j.0, Blocks-xor xs y
 
 same_lists : (xs ys : List (List ℕ)) → length xs ≡ length ys → Blocks xs → Blocks ys → Zeros (xor_blocks xs ys) → xs ≡ ys
 same_lists [] [] e h j z = refl
-same_lists [] (y ∷ ys) e h j z = absurd (omega arith)
-same_lists (x ∷ xs) [] e h j z = absurd (omega arith)
 same_lists (x ∷ xs) (y ∷ ys) e h j z =
     ap₂ (λ u us. u ∷ us) (same_of_xor x y h.0.size j.0.size z.0) (same_lists xs ys (omega arith) h.1 j.1 z.1)
+same_lists _ _ e h j z = absurd (omega arith)
 
 -- ---- the law
 

@@ -6,7 +6,7 @@ use Rattle.std.proofs.Math.Dec.{lit<}
 use Rattle.std.proofs.lemmas.Nat.{and_mask}
 use Rattle.std.proofs.lemmas.Nat.Bits.{bit_at_lowest, bit_at-lt}
 use Rattle.aead_ciphers_base.specs.Polynomial.{coefficient}
-use Rattle.aead_ciphers_base.proofs.PolynomialBits.{add, same_series, scale, shift}
+use Rattle.aead_ciphers_base.proofs.PolynomialBits.{add, same_series, same_steps, scale, shift}
 use Rattle.aead_ciphers_base.proofs.PolynomialAction.{mul_x}
 use Rattle.aead_ciphers_base.proofs.PolynomialLaws.{AllBelow, modulus, tap_bits, taps_above}
 use Rattle.aead_ciphers.specs.Ghash.{block_taps}
@@ -18,6 +18,38 @@ block_low = (lit< tt, (lit< tt, (lit< tt, (lit< tt, tt))))
 -- the code's R
 abbrev pub reduction : ℕ
 reduction = 0xe1000000000000000000000000000000
+
+-- the code's next multiple
+abbrev pub next_multiple : ℕ → ℕ
+next_multiple v = bit_xor (v / 2) (bit_and reduction (mask 128 (bit_and v 1)))
+
+pub zeros_end : (n k : ℕ) → coefficient (replicate n false) k ≡ false
+zeros_end zero k = refl
+zeros_end (suc n) zero = refl
+zeros_end (suc n) (suc k) = zeros_end n k
+
+reduction_bits : bits_high_first 128 reduction ≡ true ∷ true ∷ true ∷ false ∷ false ∷ false ∷ false ∷ true ∷ replicate 120 false
+unfolding bits_high_first
+reduction_bits = refl
+
+reduction_is : coefficients 128 reduction ≡ tap_bits block_taps
+reduction_is = ap coefficient reduction_bits ∙ same_series go
+  where
+    go : (k : ℕ) → coefficient (true ∷ true ∷ true ∷ false ∷ false ∷ false ∷ false ∷ true ∷ replicate 120 false) k ≡ tap_bits block_taps k
+    go zero = refl
+    go (suc zero) = refl
+    go (suc (suc zero)) = refl
+    go (suc (suc (suc zero))) = refl
+    go (suc (suc (suc (suc zero)))) = refl
+    go (suc (suc (suc (suc (suc zero))))) = refl
+    go (suc (suc (suc (suc (suc (suc zero)))))) = refl
+    go (suc (suc (suc (suc (suc (suc (suc zero))))))) = refl
+    go (suc (suc (suc (suc (suc (suc (suc (suc k)))))))) =
+        let past = suc (suc (suc (suc (suc (suc (suc (suc k))))))) in
+        zeros_end 120 k ∙ sym (taps_above 8 block_taps past (lit< tt, (lit< tt, (lit< tt, (lit< tt, tt)))) (omega arith))
+
+shifted : (q : List Bool) → coefficient (false ∷ q) ≡ shift (coefficient q)
+shifted q = same_steps _ _ refl (λ k. refl)
 
 -- the code's next multiple
 abbrev pub next_multiple : ℕ → ℕ

@@ -81,7 +81,6 @@ EachAt P hs = (i : ℕ) → i < length hs → P (get_or hs i [])
 pub all_zero : (hs cs : List (List ℕ)) → length cs ≤ length hs → EachAt Sized hs → Blocks cs →
     AllPairs (λ h k. HasInverse (h ⊕ k)) hs → EachAt (λ h. value_at h cs ≡ zero_block) hs → Zeros cs
 all_zero hs [] fits sized all apart roots = tt
-all_zero [] (c ∷ cs) fits sized all apart roots = absurd (omega arith)
 all_zero (r ∷ rs) (c ∷ cs) fits sized all apart roots =
     let sr = sized 0 (omega arith) in
     let root = roots 0 (omega arith) in
@@ -95,3 +94,4 @@ all_zero (r ∷ rs) (c ∷ cs) fits sized all apart roots =
       all_zero rs _ (omega arith) (λ i below. sized (suc i) (omega arith)) (Blocks-without_root r cs all.1)
           (λ i j d before below. apart (suc i) (suc j) d (omega arith) (omega arith)) stays,
     )
+all_zero _ _ fits sized all apart roots = absurd (omega arith)

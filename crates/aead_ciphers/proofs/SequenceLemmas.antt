@@ -58,11 +58,7 @@ pub over_zeros : (prefix number : List ℕ) (n : ℕ) → length prefix ≡ 4 �
     → put_mid 4 8 (prefix ++ (0 ∷ 0 ∷ 0 ∷ 0 ∷ 0 ∷ 0 ∷ 0 ∷ 0 ∷ [])) number ≡ prefixed_nonce prefix n
 unfolding prefixed_nonce
 over_zeros (a ∷ b ∷ c ∷ d ∷ []) number n l e = ap (λ t. a ∷ b ∷ c ∷ d ∷ t) (append-nil number ∙ e)
-over_zeros [] number n l e = absurd (omega arith)
-over_zeros (a ∷ []) number n l e = absurd (omega arith)
-over_zeros (a ∷ b ∷ []) number n l e = absurd (omega arith)
-over_zeros (a ∷ b ∷ c ∷ []) number n l e = absurd (omega arith)
-over_zeros (a ∷ b ∷ c ∷ d ∷ x ∷ xs) number n l e = absurd (omega arith)
+over_zeros _ number n l e = absurd (omega arith)
 
 -- four zeros and eight bytes, XORed with the IV in place
 pub over_padded : (number iv : List ℕ) (n : ℕ) → number ≡ to_be_bytes w64 n → length number ≡ 8 → length iv ≡ 12

@@ -109,11 +109,11 @@ shifted_next a width turn =
 
 coefficient-bits : (n a k : ℕ) → k < n → coefficient (bits_high_first n a) k ≡ (bit_at a (n - 1 - k) == 1)
 unfolding bits_high_first
-coefficient-bits zero a k within = absurd (omega arith)
 coefficient-bits (suc n) a zero within = let e : n ≡ suc n - 1 - 0 = omega arith in ap (λ i. bit_at a i == 1) e
 coefficient-bits (suc n) a (suc k) within =
     let e : n - 1 - k ≡ suc n - 1 - suc k = omega arith in
     coefficient-bits n a k (omega arith) ∙ ap (λ i. bit_at a i == 1) e
+coefficient-bits _ a k within = absurd (omega arith)
 
 -- bit 31 - i of word j
 word_bit : (a j i : ℕ) → j < 4 → i < 32 → bit_at (a / 2 ^ (96 - 32 * j) % 2 ^ 32) (31 - i) ≡ bit_at a (127 - (32 * j + i))
