@@ -43,7 +43,7 @@ bits-xor (suc k) x y =
     ap₂ (λ b p. b ∷ p) (ap (λ n. n == 1) (bit_at_xor x y k) ∙ xor-parity _ _ (bit_at-lt x k) (bit_at-lt y k)) (bits-xor k x y)
 
 pub coefficients-xor : (k a b : ℕ) → coefficients k (bit_xor a b) ≡ add (coefficients k a) (coefficients k b)
-coefficients-xor k a b = ap coefficient (bits-xor k a b) ∙ same_series (coefficient-polynomial_sum (bits_high_first k a) (bits_high_first k b))
+coefficients-xor k a b = ap coefficient (bits-xor k a b) ∙ same_series (coefficient-polynomial_sum (bits_high_first k a) _)
 
 pub coefficients-zero : (k : ℕ) → coefficients k 0 ≡ none
 unfolding bits_high_first
@@ -57,7 +57,7 @@ mask w bit = (0 + (2 ^ w - bit)) % 2 ^ w
 pub masked : (w v x : ℕ) → x < 2 → v < 2 ^ w → bit_and v (mask w x) ≡ (if x == 1 then v else 0)
 masked w v zero h below =
     let e : 0 + (2 ^ w - 0) ≡ 2 ^ w = omega arith in
-    ap (bit_and v) (ap (λ n. n % 2 ^ w) e ∙ mod_self (2 ^ w)) ∙ and_zero_r v
+    ap (bit_and v) (ap (λ n. n % 2 ^ w) e ∙ mod_self _) ∙ and_zero_r v
 masked w v (suc zero) h below =
     let e : 0 + (2 ^ w - 1) ≡ 2 ^ w - 1 = omega arith in
     let p = pow_pos w in
@@ -83,8 +83,8 @@ pub reverse-bits_of : (k n : ℕ) → reverse (bits_of k n) ≡ bits_high_first 
 unfolding bits_high_first
 reverse-bits_of zero n = refl
 reverse-bits_of (suc k) n =
-    reverse-append ((n % 2 == 1) ∷ []) (bits_of k (n / 2))
-    ∙ ap₂ (λ p x. p ++ ((x % 2 == 1) ∷ [])) (reverse-bits_of k (n / 2)) (sym (div-one n)) ∙ sym (bits-push k n)
+    reverse-append ((n % 2 == 1) ∷ []) (bits_of k _)
+    ∙ ap₂ (λ p x. p ++ ((x % 2 == 1) ∷ [])) (reverse-bits_of k _) (sym (div-one n)) ∙ sym (bits-push k n)
 
 pub bits-half : (k n : ℕ) → n < 2 ^ (suc k) → bits_high_first (suc k) (n / 2) ≡ false ∷ bits_high_first k (n / 2)
 unfolding bits_high_first
@@ -99,14 +99,14 @@ pub mul_x-push : (top : ℕ) (taps : List ℕ) (low : AllBelow (suc top) taps) (
     mul_x top (modulus taps (suc top)) (coefficient (q ++ (b ∷ []))) ≡ add (shift (coefficient q)) (scale b (tap_bits taps))
 mul_x-push top taps low q false e =
     let m = modulus taps (suc top) in
-    ap (mul_x top m) (coefficient-push q false ∙ add_none (coefficient q))
-    ∙ mul_x-low taps top low (coefficient q) (get_or-eq_default q false (omega arith))
+    ap (mul_x top m) (coefficient-push q false ∙ add_none _)
+    ∙ mul_x-low taps top low _ (get_or-eq_default q false (omega arith))
     ∙ sym (add_none (shift (coefficient q)))
 mul_x-push top taps low q true e =
     let m = modulus taps (suc top) in
     let one = monomial (suc top) in
     ap (mul_x top m) (coefficient-push q true ∙ ap (λ n. add (coefficient q) (monomial n)) e)
     ∙ mul_x-high taps top low (add (coefficient q) (monomial top)) (ap₂ ◌xor◌ (get_or-eq_default q false (omega arith)) (monomial_same top))
-    ∙ ap (λ s. add s m) (shift-add (coefficient q) (monomial top))
+    ∙ ap (λ s. add s m) (shift-add (coefficient q) _)
     ∙ add_assoc (shift (coefficient q)) one m
     ∙ ap (add (shift (coefficient q))) (sym (add_assoc one one (tap_bits taps)) ∙ ap (λ s. add s (tap_bits taps)) (add_self one))

@@ -42,25 +42,25 @@ digit_up a c x p q r e = (let h : (a * c + x) * p + r ≡ a * (p * c) + (x * p +
 value-split : (xs : List ℕ) (a : ℕ) → All Byte xs → (r : ℕ) × (value a xs ≡ a * 256 ^ length xs + r) × (r < 256 ^ length xs)
 value-split [] a h = (0, omega arith, lit< tt)
 value-split (x ∷ xs) a h =
-    let w = value-split xs (a * 256 + x) (All-tail Byte x xs h) in
+    let w = value-split xs _ (All-tail Byte x xs h) in
     let small = All-head Byte x xs h in (
       x * 256 ^ length xs + w.0,
-      w.1 ∙ digit_up a 256 x (256 ^ length xs) (256 ^ suc (length xs)) w.0 (pow-suc 256 (length xs)),
-      digit_below 256 x (256 ^ length xs) (256 ^ suc (length xs)) w.0 (pow-suc 256 (length xs)) small w.2,
+      w.1 ∙ digit_up a 256 x _ _ w.0 (pow-suc 256 _),
+      digit_below 256 x _ _ w.0 (pow-suc 256 _) small w.2,
     )
 
 byte_of-value : (a x k n r : ℕ) → x < 256 → n ≡ (a * 256 + x) * 256 ^ k + r → r < 256 ^ k → byte_at k n ≡ x
 byte_of-value a x k n r small e below =
     byte_at_is k n ∙ ap (λ p. n / p % 256) (sym (power_256 k))
-    ∙ ap (λ m. m / 256 ^ k % 256) e ∙ ap (λ m. m % 256) (div-mul-add (a * 256 + x) (256 ^ k) r below) ∙ mod-mul-add a 256 x small
+    ∙ ap (λ m. m / 256 ^ k % 256) e ∙ ap (λ m. m % 256) (div-mul-add (a * 256 + x) _ r below) ∙ mod-mul-add a 256 x small
 
 bytes_of-value : (xs : List ℕ) (a : ℕ) → All Byte xs → bytes_high_first (length xs) (value a xs) ≡ xs
 bytes_of-value [] a h = refl
 bytes_of-value (x ∷ xs) a h =
     let w = value-split xs (a * 256 + x) (All-tail Byte x xs h) in
     ap₂ (λ y ys. y ∷ ys)
-    (byte_of-value a x (length xs) (value (a * 256 + x) xs) w.0 (All-head Byte x xs h) w.1 w.2)
-    (bytes_of-value xs (a * 256 + x) (All-tail Byte x xs h))
+    (byte_of-value a x _ _ w.0 (All-head Byte x xs h) w.1 w.2)
+    (bytes_of-value xs _ (All-tail Byte x xs h))
 
 pub block_of-bits : (b : List ℕ) → IsBlock b → block_of (block_bits b) ≡ b
 unfolding block_of
@@ -85,13 +85,13 @@ from_be_bytes_is b size =
 pub block_bits_of-block : (p : List Bool) → length p ≡ 128 → block_bits (block_of p) ≡ p
 unfolding block_of
 block_bits_of-block p e =
-    block_bits_of_number (number p) ∙ sym (reverse-bits_of 128 (number p))
+    block_bits_of_number _ ∙ sym (reverse-bits_of 128 _)
     ∙ ap (λ k. reverse (bits_of k (number p))) (sym (length-reverse p ∙ e)) ∙ ap reverse (bits_of-value_of (reverse p)) ∙ reverse-reverse p
 
 pub bytes-below : (k n : ℕ) → All Byte (bytes_high_first k n)
 bytes-below zero n = λ k d below. absurd (omega arith)
 bytes-below (suc k) n =
-    All-cons Byte (byte_at k n) (bytes_high_first k n) (rw (byte_at_is k n) (mod_below (n / 2 ^ (8 * k)) 256 (lit< tt))) (bytes-below k n)
+    All-cons Byte _ _ (rw (byte_at_is k n) (mod_below (n / 2 ^ (8 * k)) 256 (lit< tt))) (bytes-below k n)
 
 length-bytes : (k n : ℕ) → length (bytes_high_first k n) ≡ k
 length-bytes zero n = refl
@@ -107,7 +107,7 @@ IsBlock-product a b = IsBlock-number _
 pub length-flat : (xs : List ℕ) → length (flat_map (bits_high_first 8) xs) ≡ 8 * length xs
 length-flat [] = refl
 length-flat (x ∷ xs) =
-    length-append (bits_high_first 8 x) (flat_map (bits_high_first 8) xs) ∙ ap₂ (λ m n. m + n) (length-bits 8 x) (length-flat xs) ∙ omega arith
+    length-append _ _ ∙ ap₂ (λ m n. m + n) (length-bits 8 x) (length-flat xs) ∙ omega arith
 
 pub length-block_bits : (b : List ℕ) → length b ≡ 16 → length (block_bits b) ≡ 128
 length-block_bits b size = ap length (block_bits-is b) ∙ length-flat b ∙ ap (λ k. 8 * k) size
@@ -122,7 +122,7 @@ block_times a f = times 127 (modulus block_taps 128) (block_bits a) f
 
 pub same_from_series : (a b : List ℕ) → IsBlock a → IsBlock b → series a ≡ series b → a ≡ b
 same_from_series a b is_a is_b e =
-    same_blocks a b is_a is_b (same_coefficients (block_bits a) (block_bits b) (length-block_bits a is_a.size ∙ sym (length-block_bits b is_b.size)) e)
+    same_blocks a b is_a is_b (same_coefficients (block_bits a) _ (length-block_bits a is_a.size ∙ sym (length-block_bits b is_b.size)) e)
 
 pub series-product : (a b : List ℕ) → length a ≡ 16 → length b ≡ 16 → series (a • b) ≡ block_times a (series b)
 unfolding ◌•◌

@@ -28,8 +28,8 @@ block_bits-is (x ∷ xs) = ap₂ (λ p q. p ++ q) (reverse-bits_of 8 x) (block_b
 -- a byte's bits are the number's bits there
 bit_at_byte : (n s j : ℕ) → j < 8 → bit_at (n / 2 ^ s % 2 ^ 8) j ≡ bit_at n (s + j)
 bit_at_byte n s j h =
-    sym (bit_at_cat_low (n / 2 ^ s / 2 ^ 8) 8 (n / 2 ^ s % 2 ^ 8) j h)
-    ∙ ap (λ x. bit_at x j) (div-add-mod' (n / 2 ^ s) (2 ^ 8))
+    sym (bit_at_cat_low (n / 2 ^ s / 2 ^ 8) 8 _ j h)
+    ∙ ap (λ x. bit_at x j) (div-add-mod' (n / 2 ^ s) _)
     ∙ ap (λ x. x % 2) (shr-shr n s j)
 
 bits_split : (n s j : ℕ) → j ≤ 8 → bits_high_first j (n / 2 ^ s % 2 ^ 8) ++ bits_high_first s n ≡ bits_high_first (j + s) n
@@ -56,7 +56,7 @@ bytes_bits (suc k) n =
     ∙ ap (λ j. bits_high_first j n) (omega arith)
 
 pub block_bits_of_number : (n : ℕ) → block_bits (to_be_bytes w128 n) ≡ bits_high_first 128 n
-block_bits_of_number n = block_bits-is (to_be_bytes w128 n) ∙ bytes_bits 16 n
+block_bits_of_number n = block_bits-is _ ∙ bytes_bits 16 n
 
 pub number_of_bits : (n : ℕ) → n < 2 ^ 128 → number (bits_high_first 128 n) ≡ n
 number_of_bits n h = ap number (sym (reverse-bits_of 128 n)) ∙ ap value_of (reverse-reverse (bits_of 128 n)) ∙ value_of-bits_of 128 n h
@@ -71,9 +71,9 @@ product_of_numbers a b c below h =
 -- the bytes of an XOR
 byte-xor : (k a b : ℕ) → byte_at k (bit_xor a b) ≡ bit_xor (byte_at k a) (byte_at k b)
 byte-xor k a b =
-    byte_at_is k (bit_xor a b)
-    ∙ ap (λ x. x % 2 ^ 8) (xor_shr a b (8 * k))
-    ∙ xor_mod (a / 2 ^ (8 * k)) (b / 2 ^ (8 * k)) 8
+    byte_at_is k _
+    ∙ ap (λ x. x % 2 ^ 8) (xor_shr a b _)
+    ∙ xor_mod _ _ 8
     ∙ ap₂ bit_xor (sym (byte_at_is k a)) (sym (byte_at_is k b))
 
 bytes-xor : (k a b : ℕ) → bytes_high_first k (bit_xor a b) ≡ bytes_high_first k a ⊕ bytes_high_first k b

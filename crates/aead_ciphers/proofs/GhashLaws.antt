@@ -28,7 +28,7 @@ flat-xor : (a b : List ℕ) → length a ≡ length b
 flat-xor [] [] e = refl
 flat-xor (x ∷ xs) (y ∷ ys) e =
     ap₂ (λ p q. p ++ q) (bits-xor 8 x y) (flat-xor xs ys (omega arith))
-    ∙ sym (sum-append (bits_high_first 8 x) (bits_high_first 8 y) (flat_map (bits_high_first 8) xs) (flat_map (bits_high_first 8) ys)
+    ∙ sym (sum-append (bits_high_first 8 x) _ _ _
     (length-bits 8 x ∙ sym (length-bits 8 y)))
 flat-xor _ _ e = absurd (omega arith)
 
@@ -49,7 +49,7 @@ pub series-xor : (a b : List ℕ) → Sized a → Sized b → series (a ⊕ b) �
 series-xor a b is_a is_b =
     let e = is_a ∙ sym is_b in
     ap coefficient (block_bits-is (a ⊕ b) ∙ flat-xor a b e ∙ ap₂ polynomial_sum (sym (block_bits-is a)) (sym (block_bits-is b)))
-    ∙ same_series (coefficient-polynomial_sum (block_bits a) (block_bits b))
+    ∙ same_series (coefficient-polynomial_sum (block_bits a) _)
 
 -- ---- the unit
 
@@ -66,44 +66,44 @@ xor_zero a size = xor_zeros a 16 size
 -- ---- the product, of lists of 16
 
 pub multiple_of_one : (a : List ℕ) → Sized a → block_times a one ≡ series a
-multiple_of_one a size = times_one block_taps 127 block_low (block_bits a) (let e = length-block_bits a size in omega arith)
+multiple_of_one a size = times_one block_taps 127 block_low _ (let e = length-block_bits a size in omega arith)
 
 pub Sized-product : (a b : List ℕ) → Sized (a • b)
 Sized-product a b = (IsBlock-product a b).size
 
 pub product_unit : (a : List ℕ) → IsBlock a → a • unit_block ≡ a
 product_unit a is_a =
-    same_from_series (a • unit_block) a (IsBlock-product a unit_block) is_a
+    same_from_series _ a (IsBlock-product a unit_block) is_a
     (series-product a unit_block is_a.size refl ∙ ap (block_times a) series-unit ∙ multiple_of_one a is_a.size)
 
 pub product_comm : (a b : List ℕ) → Sized a → Sized b → a • b ≡ b • a
 product_comm a b is_a is_b =
-    same_from_series (a • b) (b • a) (IsBlock-product a b) (IsBlock-product b a)
+    same_from_series _ _ (IsBlock-product a b) (IsBlock-product b a)
     (series-product a b is_a is_b ∙ ap (block_times a) (sym (multiple_of_one b is_b))
-    ∙ times_swap 127 (modulus block_taps 128) (block_bits a) (block_bits b) one
+    ∙ times_swap 127 (modulus block_taps 128) _ _ one
     ∙ ap (block_times b) (multiple_of_one a is_a) ∙ sym (series-product b a is_b is_a))
 
 pub product_left_swap : (a b c : List ℕ) → Sized a → Sized b → Sized c → a • (b • c) ≡ b • (a • c)
 product_left_swap a b c is_a is_b is_c =
-    same_from_series (a • (b • c)) (b • (a • c)) (IsBlock-product a (b • c)) (IsBlock-product b (a • c))
-    (series-product a (b • c) is_a (Sized-product b c) ∙ ap (block_times a) (series-product b c is_b is_c)
-    ∙ times_swap 127 (modulus block_taps 128) (block_bits a) (block_bits b) (series c)
-    ∙ sym (series-product b (a • c) is_b (Sized-product a c) ∙ ap (block_times b) (series-product a c is_a is_c)))
+    same_from_series _ _ (IsBlock-product a _) (IsBlock-product b _)
+    (series-product a _ is_a (Sized-product b c) ∙ ap (block_times a) (series-product b c is_b is_c)
+    ∙ times_swap 127 (modulus block_taps 128) _ _ (series c)
+    ∙ sym (series-product b _ is_b (Sized-product a c) ∙ ap (block_times b) (series-product a c is_a is_c)))
 
 pub product_assoc : (a b c : List ℕ) → Sized a → Sized b → Sized c → (a • b) • c ≡ a • (b • c)
 product_assoc a b c is_a is_b is_c =
-    product_comm (a • b) c (Sized-product a b) is_c ∙ product_left_swap c a b is_c is_a is_b ∙ ap (λ x. a • x) (product_comm c b is_c is_b)
+    product_comm _ c (Sized-product a b) is_c ∙ product_left_swap c a b is_c is_a is_b ∙ ap (λ x. a • x) (product_comm c b is_c is_b)
 
 pub product_xor_right : (a b c : List ℕ) → Sized a → Sized b → Sized c → a • (b ⊕ c) ≡ (a • b) ⊕ (a • c)
 product_xor_right a b c is_a is_b is_c =
-    same_from_series (a • (b ⊕ c)) ((a • b) ⊕ (a • c)) (IsBlock-product a (b ⊕ c)) (IsBlock-xor (a • b) (a • c) (IsBlock-product a b) (IsBlock-product a c))
-    (series-product a (b ⊕ c) is_a (Sized-xor b c is_b is_c) ∙ ap (block_times a) (series-xor b c is_b is_c)
+    same_from_series _ _ (IsBlock-product a _) (IsBlock-xor (a • b) _ (IsBlock-product a b) (IsBlock-product a c))
+    (series-product a _ is_a (Sized-xor b c is_b is_c) ∙ ap (block_times a) (series-xor b c is_b is_c)
     ∙ horner-add 127 (modulus block_taps 128) (length (block_bits a)) (series a) (series b) (series c)
-    ∙ sym (series-xor (a • b) (a • c) (Sized-product a b) (Sized-product a c) ∙ ap₂ add (series-product a b is_a is_b) (series-product a c is_a is_c)))
+    ∙ sym (series-xor (a • b) _ (Sized-product a b) (Sized-product a c) ∙ ap₂ add (series-product a b is_a is_b) (series-product a c is_a is_c)))
 
 pub product_xor_left : (a b c : List ℕ) → Sized a → Sized b → Sized c → (a ⊕ b) • c ≡ (a • c) ⊕ (b • c)
 product_xor_left a b c is_a is_b is_c =
-    product_comm (a ⊕ b) c (Sized-xor a b is_a is_b) is_c ∙ product_xor_right c a b is_c is_a is_b
+    product_comm _ c (Sized-xor a b is_a is_b) is_c ∙ product_xor_right c a b is_c is_a is_b
     ∙ ap₂ (λ x y. x ⊕ y) (product_comm c a is_c is_a) (product_comm c b is_c is_b)
 
 -- ---- GHASH
@@ -114,19 +114,19 @@ AllSized-append (x ∷ xs) ys h j = (h.0, AllSized-append xs ys h.1 j)
 
 pub Sized-power : (h : List ℕ) (k : ℕ) → Sized h → Sized (power h k)
 Sized-power h zero is_h = is_h
-Sized-power h (suc k) is_h = Sized-product (power h k) h
+Sized-power h (suc k) is_h = Sized-product _ h
 
 pub Sized-ghash : (h : List ℕ) (xs : List (List ℕ)) → Sized h → AllSized xs → Sized (ghash h xs)
 unfolding ghash
 Sized-ghash h [] is_h all = refl
 Sized-ghash h (x ∷ xs) is_h all =
-    Sized-xor (x • power h (length xs)) (ghash h xs) (Sized-product x (power h (length xs))) (Sized-ghash h xs is_h all.1)
+    Sized-xor _ _ (Sized-product x _) (Sized-ghash h xs is_h all.1)
 
 -- one block more
 pub ghash_more : (h : List ℕ) (xs : List (List ℕ)) (x : List ℕ) → Sized h → AllSized xs → Sized x → ghash h (xs ++ (x ∷ [])) ≡ (ghash h xs ⊕ x) • h
 unfolding ghash ◌•◌
 ghash_more h [] x is_h all is_x =
-    xor_zero (x • h) (Sized-product x h)
+    xor_zero _ (Sized-product x h)
     ∙ ap (λ y. y • h) (sym (xor_comm zero_block x ∙ xor_zero x is_x))
 ghash_more h (y ∷ ys) x is_h all is_x =
     let n = length ys in
@@ -138,7 +138,7 @@ ghash_more h (y ∷ ys) x is_h all is_x =
     let count = length-append ys (x ∷ []) ∙ add-one n in
     ap₂ (λ k r. (y • power h k) ⊕ r) count (ghash_more h ys x is_h all.1 is_x)
     ∙ ap (λ r. r ⊕ ((g ⊕ x) • h)) (sym (product_assoc y p h all.0 is_p is_h))
-    ∙ sym (product_xor_left (y • p) (g ⊕ x) h is_yp (Sized-xor g x is_g is_x) is_h)
+    ∙ sym (product_xor_left (y • p) _ h is_yp (Sized-xor g x is_g is_x) is_h)
     ∙ ap (λ r. r • h) (sym (xor_assoc (y • p) g x))
 
 pub length-xor_blocks : (xs ys : List (List ℕ)) → length xs ≡ length ys → length (xor_blocks xs ys) ≡ length xs

@@ -51,42 +51,6 @@ reduction_is = ap coefficient reduction_bits ∙ same_series go
 shifted : (q : List Bool) → coefficient (false ∷ q) ≡ shift (coefficient q)
 shifted q = same_steps _ _ refl (λ k. refl)
 
--- the code's next multiple
-abbrev pub next_multiple : ℕ → ℕ
-next_multiple v = bit_xor (v / 2) (bit_and reduction (mask 128 (bit_and v 1)))
-
-pub zeros_end : (n k : ℕ) → coefficient (replicate n false) k ≡ false
-zeros_end zero k = refl
-zeros_end (suc n) zero = refl
-zeros_end (suc n) (suc k) = zeros_end n k
-
-reduction_bits : bits_high_first 128 reduction ≡ true ∷ true ∷ true ∷ false ∷ false ∷ false ∷ false ∷ true ∷ replicate 120 false
-unfolding bits_high_first
-reduction_bits = refl
-
-reduction_is : coefficients 128 reduction ≡ tap_bits block_taps
-reduction_is = ap coefficient reduction_bits ∙ same_series go
-  where
-    go : (k : ℕ) → coefficient (true ∷ true ∷ true ∷ false ∷ false ∷ false ∷ false ∷ true ∷ replicate 120 false) k ≡ tap_bits block_taps k
-    go zero = refl
-    go (suc zero) = refl
-    go (suc (suc zero)) = refl
-    go (suc (suc (suc zero))) = refl
-    go (suc (suc (suc (suc zero)))) = refl
-    go (suc (suc (suc (suc (suc zero))))) = refl
-    go (suc (suc (suc (suc (suc (suc zero)))))) = refl
-    go (suc (suc (suc (suc (suc (suc (suc zero))))))) = refl
-    go (suc (suc (suc (suc (suc (suc (suc (suc k)))))))) =
-        let past = suc (suc (suc (suc (suc (suc (suc (suc k))))))) in
-        zeros_end 120 k ∙ sym (taps_above 8 block_taps past (lit< tt, (lit< tt, (lit< tt, (lit< tt, tt)))) (omega arith))
-
-shifted : (q : List Bool) → coefficient (false ∷ q) ≡ shift (coefficient q)
-shifted q = same_series go
-  where
-    go : (k : ℕ) → coefficient (false ∷ q) k ≡ shift (coefficient q) k
-    go zero = refl
-    go (suc k) = refl
-
 -- the code's next multiple is x times the multiple
 pub multiple_is : (v : ℕ) → v < 2 ^ 128 → coefficients 128 (next_multiple v) ≡ mul_x 127 (modulus block_taps 128) (coefficients 128 v)
 multiple_is v below =
