@@ -16,9 +16,8 @@ IsBlock-unit = IsBlock-number 0x80000000000000000000000000000000
 
 zeros_of_xor : (n : ℕ) (a : List ℕ) → length a ≡ n → a ⊕ a ≡ replicate n 0
 zeros_of_xor zero [] e = refl
-zeros_of_xor (suc n) [] e = absurd (omega arith)
-zeros_of_xor zero (x ∷ xs) e = absurd (omega arith)
 zeros_of_xor (suc n) (x ∷ xs) e = ap₂ (λ z zs. z ∷ zs) (number_self x) (zeros_of_xor n xs (omega arith))
+zeros_of_xor _ _ e = absurd (omega arith)
 
 pub xor_self : (a : List ℕ) → Sized a → a ⊕ a ≡ zero_block
 xor_self a size = zeros_of_xor 16 a size
@@ -33,7 +32,7 @@ pub same_of_xor : (a b : List ℕ) → Sized a → Sized b → a ⊕ b ≡ zero_
 same_of_xor a b sa sb e = cancel_right a b b sa sb sb (e ∙ sym (xor_self b sb))
 
 pub product_zero : (a : List ℕ) → Sized a → a • zero_block ≡ zero_block
-product_zero a size = product_xor_right a zero_block zero_block size refl refl ∙ xor_self (a • zero_block) (Sized-product a zero_block)
+product_zero a size = product_xor_right a zero_block zero_block size refl refl ∙ xor_self _ (Sized-product a zero_block)
 
 pub cancel_factor : (a x y : List ℕ) → Sized a → HasInverse a → IsBlock x → IsBlock y → a • x ≡ a • y → x ≡ y
 cancel_factor a x y size inverse is_x is_y e =
@@ -42,7 +41,7 @@ cancel_factor a x y size inverse is_x is_y e =
     let back : (z : List ℕ) → IsBlock z → b • (a • z) ≡ z =
     λ z is_z.
     sym (product_assoc b a z sb size is_z.size)
-    ∙ product_comm (b • a) z (Sized-product b a) is_z.size
+    ∙ product_comm _ z (Sized-product b a) is_z.size
     ∙ ap (λ u. z • u) (product_comm b a sb size ∙ inverse.2)
     ∙ product_unit z is_z in
     sym (back x is_x) ∙ ap (λ u. b • u) e ∙ back y is_y

@@ -46,18 +46,18 @@ own_square t is_t e =
 
 product_four : (a b c d : List ℕ) → Sized a → Sized b → Sized c → Sized d → (a • b) • (c • d) ≡ (a • c) • (b • d)
 product_four a b c d sa sb sc sd =
-    product_assoc a b (c • d) sa sb (Sized-product c d)
+    product_assoc a b _ sa sb (Sized-product c d)
     ∙ ap (λ x. a • x) (product_left_swap b c d sb sc sd)
-    ∙ sym (product_assoc a c (b • d) sa sc (Sized-product b d))
+    ∙ sym (product_assoc a c _ sa sc (Sized-product b d))
 
 square-xor : (a b : List ℕ) → Sized a → Sized b → (a ⊕ b) • (a ⊕ b) ≡ (a • a) ⊕ (b • b)
 square-xor a b sa sb =
     let ab = Sized-product a b in
-    product_xor_left a b (a ⊕ b) sa sb (Sized-xor a b sa sb)
-    ∙ ap₂ ◌⊕◌ (product_xor_right a a b sa sa sb) (product_xor_right b a b sb sa sb ∙ xor_comm (b • a) (b • b))
+    product_xor_left a b _ sa sb (Sized-xor a b sa sb)
+    ∙ ap₂ ◌⊕◌ (product_xor_right a a b sa sa sb) (product_xor_right b a b sb sa sb ∙ xor_comm _ _)
     ∙ xor_exchange (a • a) (a • b) (b • b) (b • a)
-    ∙ ap (λ x. ((a • a) ⊕ (b • b)) ⊕ x) (ap (λ x. (a • b) ⊕ x) (product_comm b a sb sa) ∙ xor_self (a • b) ab)
-    ∙ xor_zero ((a • a) ⊕ (b • b)) (Sized-xor (a • a) (b • b) (Sized-product a a) (Sized-product b b))
+    ∙ ap (λ x. ((a • a) ⊕ (b • b)) ⊕ x) (ap (λ x. (a • b) ⊕ x) (product_comm b a sb sa) ∙ xor_self _ ab)
+    ∙ xor_zero _ (Sized-xor (a • a) _ (Sized-product a a) (Sized-product b b))
 
 unit_or_zero : Bool → List ℕ
 unit_or_zero false = zero_block
@@ -87,14 +87,14 @@ Blocks-units [] = tt
 Blocks-units (b ∷ p) = (IsBlock-unit_or_zero b, Blocks-units p)
 
 IsBlock-bits_at : (y : List ℕ) (p : List Bool) → IsBlock (bits_at y p)
-IsBlock-bits_at y p = IsBlock-value y (map unit_or_zero p) (Blocks-units p)
+IsBlock-bits_at y p = IsBlock-value y _ (Blocks-units p)
 
 square-bits_at : (y : List ℕ) (p : List Bool) → Sized y → bits_at y p • bits_at y p ≡ bits_at (y • y) p
 square-bits_at y [] sy = product_zero zero_block refl
 square-bits_at y (b ∷ p) sy =
     let s = bits_at y p in
     let ss = (IsBlock-bits_at y p).size in
-    square-xor (unit_or_zero b) (y • s) (IsBlock-unit_or_zero b).size (Sized-product y s)
+    square-xor _ _ (IsBlock-unit_or_zero b).size (Sized-product y s)
     ∙ ap₂ ◌⊕◌ (square-unit_or_zero b) (product_four y s y s sy ss sy ss ∙ ap (λ x. (y • y) • x) (square-bits_at y p sy))
 
 -- ---- 128 squarings give each block back, since they give x back
@@ -106,23 +106,23 @@ squared (suc n) a = squared n a • squared n a
 
 IsBlock-squared : (n : ℕ) (a : List ℕ) → IsBlock a → IsBlock (squared n a)
 IsBlock-squared zero a is_a = is_a
-IsBlock-squared (suc n) a is_a = IsBlock-product (squared n a) (squared n a)
+IsBlock-squared (suc n) a is_a = IsBlock-product _ _
 
 squared-bits_at : (n : ℕ) (y : List ℕ) (p : List Bool) → IsBlock y → squared n (bits_at y p) ≡ bits_at (squared n y) p
 squared-bits_at zero y p is_y = refl
 squared-bits_at (suc n) y p is_y =
-    ap (λ x. x • x) (squared-bits_at n y p is_y) ∙ square-bits_at (squared n y) p (IsBlock-squared n y is_y).size
+    ap (λ x. x • x) (squared-bits_at n y p is_y) ∙ square-bits_at _ p (IsBlock-squared n y is_y).size
 
 square_bits : (a : List ℕ) → Sized a → block_bits (a • a) ≡ bits_high_first 128 (combined (block_bits a) even_powers)
 square_bits a size =
-    let n = combined (block_bits a) even_powers in
-    same_coefficients (block_bits (a • a)) (bits_high_first 128 n) (length-block_bits (a • a) (Sized-product a a) ∙ sym (length-bits 128 n))
-    (series-square a size ∙ square_number (block_bits a) (length-block_bits a size))
+    let n = combined _ even_powers in
+    same_coefficients _ _ (length-block_bits (a • a) (Sized-product a a) ∙ sym (length-bits 128 n))
+    (series-square a size ∙ square_number _ (length-block_bits a size))
 
 squared_is : (n : ℕ) (a : List ℕ) → IsBlock a → block_bits (squared n a) ≡ squared_bits even_powers n (block_bits a)
 squared_is zero a is_a = refl
 squared_is (suc n) a is_a =
-    square_bits (squared n a) (IsBlock-squared n a is_a).size
+    square_bits _ (IsBlock-squared n a is_a).size
     ∙ ap (λ p. bits_high_first 128 (combined p even_powers)) (squared_is n a is_a)
 
 unfoldable x_block : List ℕ
@@ -138,7 +138,7 @@ x_block_bits = refl
 
 x_back : squared 128 x_block ≡ x_block
 x_back =
-    same_blocks (squared 128 x_block) x_block (IsBlock-squared 128 x_block IsBlock-x) IsBlock-x
+    same_blocks _ x_block (IsBlock-squared 128 x_block IsBlock-x) IsBlock-x
     (squared_is 128 x_block IsBlock-x ∙ ap (squared_bits even_powers 128) x_block_bits ∙ x_squared ∙ sym x_block_bits)
 
 multiple-zeros : (n : ℕ) (f : Series) → multiple (replicate n false) f ≡ none
@@ -157,14 +157,14 @@ series-at_x : (p : List Bool) → series (bits_at x_block p) ≡ multiple p one
 series-at_x [] = series-zero
 series-at_x (b ∷ p) =
     let s = bits_at x_block p in
-    series-xor (unit_or_zero b) (x_block • s) (IsBlock-unit_or_zero b).size (Sized-product x_block s)
+    series-xor _ _ (IsBlock-unit_or_zero b).size (Sized-product x_block s)
     ∙ ap₂ add
     (series-unit_or_zero b)
-    (series-product x_block s IsBlock-x.size (IsBlock-bits_at x_block p).size ∙ times-x (series s) ∙ ap X (series-at_x p))
+    (series-product x_block s IsBlock-x.size (IsBlock-bits_at x_block p).size ∙ times-x _ ∙ ap X (series-at_x p))
 
 at_x : (a : List ℕ) → IsBlock a → bits_at x_block (block_bits a) ≡ a
 at_x a is_a =
-    same_from_series (bits_at x_block (block_bits a)) a (IsBlock-bits_at x_block (block_bits a)) is_a
+    same_from_series _ a (IsBlock-bits_at x_block _) is_a
     (series-at_x (block_bits a) ∙ multiple_of_one a is_a.size)
 
 squared_back : (a : List ℕ) → IsBlock a → squared 128 a ≡ a
@@ -181,7 +181,7 @@ lower_power (suc n) a = (lower_power n a • lower_power n a) • a
 Sized-lower : (n : ℕ) (a : List ℕ) → Sized (lower_power n a)
 unfolding lower_power
 Sized-lower zero a = refl
-Sized-lower (suc n) a = Sized-product (lower_power n a • lower_power n a) a
+Sized-lower (suc n) a = Sized-product _ a
 
 lower_times : (n : ℕ) (a : List ℕ) → IsBlock a → lower_power n a • a ≡ squared n a
 unfolding lower_power
@@ -189,7 +189,7 @@ lower_times zero a is_a = product_comm unit_block a refl is_a.size ∙ product_u
 lower_times (suc n) a is_a =
     let t = lower_power n a in
     let st = Sized-lower n a in
-    product_assoc (t • t) a a (Sized-product t t) is_a.size is_a.size
+    product_assoc _ a a (Sized-product t t) is_a.size is_a.size
     ∙ product_four t t a a st st is_a.size is_a.size
     ∙ ap₂ ◌•◌ (lower_times n a is_a) (lower_times n a is_a)
 

@@ -14,7 +14,7 @@ use Rattle.aead_ciphers.proofs.GhashBits.{mask, masked}
 -- ---- a word added under a mask
 
 added_under_mask : (s w x : ℕ) → x < 2 → w < 2 ^ 32 → bit_xor s (bit_and w (mask 32 x)) ≡ (if x == 1 then bit_xor s w else s)
-added_under_mask s w x small below = ap (bit_xor s) (masked 32 w x small below) ∙ go (x == 1)
+added_under_mask s w x small below = ap (bit_xor s) (masked 32 w x small below) ∙ go _
   where
     go : (b : Bool) → bit_xor s (if b then w else 0) ≡ (if b then bit_xor s w else s)
     go false = xor_zero_r s
@@ -41,8 +41,8 @@ lane-chosen sum bits words j size_sum size_bits size_words within small below =
     ∙ ap₂ (λ a b. (a + (2 ^ 32 - b)) % 2 ^ 32) (get_or-replicate 4 j 0 0 within) highest_is in
     get_or-zip2 bit_xor sum (zip2 bit_and words (masks bits)) j 0 0 0 (omega arith) (omega arith)
     ∙ ap (bit_xor (slice_index sum j))
-    (get_or-zip2 bit_and words (masks bits) j 0 0 0 (omega arith) (omega arith) ∙ ap (bit_and (slice_index words j)) mask_is)
-    ∙ added_under_mask (slice_index sum j) (slice_index words j) (slice_index bits j / 2 ^ 31) (omega arith) below
+    (get_or-zip2 bit_and words _ j 0 0 0 (omega arith) (omega arith) ∙ ap (bit_and (slice_index words j)) mask_is)
+    ∙ added_under_mask _ _ _ (omega arith) below
 
 -- ---- the number of four words
 
@@ -58,9 +58,9 @@ joined_is a b c d small_a small_b small_c small_d =
     let two : a * 2 ^ 96 + b * 2 ^ 64 ≡ (a * 2 ^ 32 + b) * 2 ^ 64 = omega arith in
     let three : (a * 2 ^ 32 + b) * 2 ^ 64 + c * 2 ^ 32 ≡ ((a * 2 ^ 32 + b) * 2 ^ 32 + c) * 2 ^ 32 = omega arith in
     ap (λ n. bit_or n d)
-    (ap₂ bit_or (ap₂ bit_or first second ∙ or_shifted a 96 (b * 2 ^ 64) (omega arith) ∙ two) third
-    ∙ or_shifted (a * 2 ^ 32 + b) 64 (c * 2 ^ 32) (omega arith) ∙ three)
-    ∙ or_shifted ((a * 2 ^ 32 + b) * 2 ^ 32 + c) 32 d small_d
+    (ap₂ bit_or (ap₂ bit_or first second ∙ or_shifted a 96 _ (omega arith) ∙ two) third
+    ∙ or_shifted _ 64 _ (omega arith) ∙ three)
+    ∙ or_shifted _ 32 d small_d
     ∙ ap (λ n. ((n * 2 ^ 32 + b) * 2 ^ 32 + c) * 2 ^ 32 + d) (let e : a ≡ 0 + a = omega arith in e)
 
 -- a number by its four words
@@ -77,11 +77,10 @@ AllSmall (x ∷ xs) = (x < 2 ^ 32) × AllSmall xs
 number-xor-from : (n m : ℕ) (xs ys : List ℕ) → length xs ≡ length ys → AllSmall xs → AllSmall ys →
     fold join (bit_xor n m) (zip2 bit_xor xs ys) ≡ bit_xor (fold join n xs) (fold join m ys)
 number-xor-from n m [] [] e small_x small_y = refl
-number-xor-from n m [] (y ∷ ys) e small_x small_y = absurd (omega arith)
-number-xor-from n m (x ∷ xs) [] e small_x small_y = absurd (omega arith)
 number-xor-from n m (x ∷ xs) (y ∷ ys) e small_x small_y =
     ap (λ k. fold join k (zip2 bit_xor xs ys)) (sym (xor_block 32 n m x y small_x.0 small_y.0))
-    ∙ number-xor-from (join n x) (join m y) xs ys (omega arith) small_x.1 small_y.1
+    ∙ number-xor-from (join n x) _ xs ys (omega arith) small_x.1 small_y.1
+number-xor-from n m _ _ e small_x small_y = absurd (omega arith)
 
 pub number-xor : (xs ys : List ℕ) → length xs ≡ length ys → AllSmall xs → AllSmall ys →
     number_of_words (zip2 bit_xor xs ys) ≡ bit_xor (number_of_words xs) (number_of_words ys)
@@ -127,11 +126,7 @@ small-xor (x ∷ xs) (y ∷ ys) small_x small_y = (xor_lt 32 x y small_x.0 small
 fold-lanes : (xs : List ℕ) → length xs ≡ 4 →
     fold_l bit_xor 0 xs ≡ bit_xor (bit_xor (bit_xor (bit_xor 0 (slice_index xs 0)) (slice_index xs 1)) (slice_index xs 2)) (slice_index xs 3)
 fold-lanes (a ∷ b ∷ c ∷ d ∷ []) e = refl
-fold-lanes [] e = absurd (omega arith)
-fold-lanes (a ∷ []) e = absurd (omega arith)
-fold-lanes (a ∷ b ∷ []) e = absurd (omega arith)
-fold-lanes (a ∷ b ∷ c ∷ []) e = absurd (omega arith)
-fold-lanes (a ∷ b ∷ c ∷ d ∷ x ∷ xs) e = absurd (omega arith)
+fold-lanes _ e = absurd (omega arith)
 
 -- the sums of each vector's lanes are the words of the sum of the lanes
 pub number-lanes : (a b c d : List ℕ) → IsVector a → IsVector b → IsVector c → IsVector d →
@@ -188,12 +183,12 @@ module _ (table : List ℕ) (p a b c d : ℕ) where
   written = set three (384 + p) d
 
   pub length-written : length written ≡ length table
-  length-written = length-set three (384 + p) d ∙ length-set two (256 + p) c ∙ length-set one (128 + p) b ∙ length-set table p a
+  length-written = length-set three _ d ∙ length-set two _ c ∙ length-set one _ b ∙ length-set table p a
 
   written_other : (q : ℕ) → q ≢ p → q ≢ 128 + p → q ≢ 256 + p → q ≢ 384 + p → slice_index written q ≡ slice_index table q
   written_other q n0 n1 n2 n3 =
-      get_or-set_other three (384 + p) q d 0 n3 ∙ get_or-set_other two (256 + p) q c 0 n2
-      ∙ get_or-set_other one (128 + p) q b 0 n1 ∙ get_or-set_other table p q a 0 n0
+      get_or-set_other three _ q d 0 n3 ∙ get_or-set_other two _ q c 0 n2
+      ∙ get_or-set_other one _ q b 0 n1 ∙ get_or-set_other table p q a 0 n0
 
   number-written : length table ≡ 512 → p < 128 →
       number_of_words (slice_index written p ∷ slice_index written (128 + p) ∷ slice_index written (256 + p) ∷ slice_index written (384 + p) ∷ [])
@@ -204,9 +199,9 @@ module _ (table : List ℕ) (p a b c d : ℕ) where
       let size_3 = length-set two (256 + p) c in
       rw (
         get_or-set_other three (384 + p) p d 0 (omega arith) ∙ get_or-set_other two (256 + p) p c 0 (omega arith)
-            ∙ get_or-set_other one (128 + p) p b 0 (omega arith) ∙ get_or-set_same table p a 0 (omega arith),
+            ∙ get_or-set_other one _ p b 0 (omega arith) ∙ get_or-set_same table p a 0 (omega arith),
         get_or-set_other three (384 + p) (128 + p) d 0 (omega arith) ∙ get_or-set_other two (256 + p) (128 + p) c 0 (omega arith)
-            ∙ get_or-set_same one (128 + p) b 0 (omega (arith, size_1)),
+            ∙ get_or-set_same one _ b 0 (omega (arith, size_1)),
         get_or-set_other three (384 + p) (256 + p) d 0 (omega arith) ∙ get_or-set_same two (256 + p) c 0 (omega (arith, size_1, size_2)),
         get_or-set_same three (384 + p) d 0 (omega (arith, size_1, size_2, size_3)),
       ) refl
@@ -226,7 +221,7 @@ entry_at table k =
 pub entry-written : (table : List ℕ) (k a b c d : ℕ) → length table ≡ 512 → k < 128 →
     entry (written table (place k) a b c d) k ≡ number_of_words (a ∷ b ∷ c ∷ d ∷ [])
 entry-written table k a b c d size within =
-    entry_at (written table (place k) a b c d) k ∙ number-written table (place k) a b c d size (omega arith)
+    entry_at _ k ∙ number-written table _ a b c d size (omega arith)
 
 pub entry-written_other : (table : List ℕ) (k a b c d j : ℕ) → k < 128 → j < k → entry (written table (place k) a b c d) j ≡ entry table j
 entry-written_other table k a b c d j within below =

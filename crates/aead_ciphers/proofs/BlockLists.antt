@@ -15,7 +15,7 @@ Each-parts P (x ∷ xs) ys h = let rest = Each-parts P xs ys h.1 in ((h.0, rest.
 pub Each-reverse : {X : Type 0} (P : X → Type 0) (xs : List X) → AllByRecursion P xs → AllByRecursion P (reverse xs)
 Each-reverse P [] h = tt
 Each-reverse P (x ∷ xs) h =
-    subst (AllByRecursion P) (sym (reverse-append (x ∷ []) xs)) (Each-append P (reverse xs) (x ∷ []) (Each-reverse P xs h.1) (h.0, tt))
+    subst (AllByRecursion P) (sym (reverse-append (x ∷ []) xs)) (Each-append P _ _ (Each-reverse P xs h.1) (h.0, tt))
 
 -- each of the list is a block
 abbrev pub Blocks : List (List ℕ) → Type 0

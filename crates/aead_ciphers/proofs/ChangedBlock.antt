@@ -18,20 +18,20 @@ module _ (h : List ℕ) (size : Sized h) (inverse : HasInverse h) where
   same_coefficient : (front back : List (List ℕ)) (x y : List ℕ) → Blocks front → Blocks back → IsBlock x → IsBlock y →
       value_at h (front ++ x ∷ back) ≡ value_at h (front ++ y ∷ back) → x ≡ y
   same_coefficient [] back x y all_f all_b is_x is_y e =
-      let product = Sized-product h (value_at h back) in
-      cancel_right x y (h • value_at h back) is_x.size is_y.size product e
+      let product = Sized-product h _ in
+      cancel_right x y _ is_x.size is_y.size product e
   same_coefficient (z ∷ front) back x y all_f all_b is_x is_y e =
       let v : List ℕ → List ℕ = λ u. value_at h (front ++ u ∷ back) in
       let is_v : (u : List ℕ) → IsBlock u → IsBlock (v u) =
-      λ u is_u. IsBlock-value h (front ++ u ∷ back) (Each-append IsBlock front (u ∷ back) all_f.1 (is_u, all_b)) in
+      λ u is_u. IsBlock-value h (front ++ u ∷ back) (Each-append IsBlock front _ all_f.1 (is_u, all_b)) in
       same_coefficient front back x y all_f.1 all_b is_x is_y
       (cancel_factor h (v x) (v y) size inverse (is_v x is_x) (is_v y is_y)
-      (cancel_left (h • v x) (h • v y) z (Sized-product h (v x)) (Sized-product h (v y)) all_f.0.size e))
+      (cancel_left (h • v x) _ z (Sized-product h (v x)) (Sized-product h (v y)) all_f.0.size e))
 
   changed_ghash : (xs ys : List (List ℕ)) → Blocks xs → Blocks ys → DifferInOneBlock xs ys → ghash h xs ≢ ghash h ys
   changed_ghash xs ys all_x all_y d e =
       let left = Each-parts IsBlock d.before (d.left_block ∷ d.after) (subst Blocks d.left_is all_x) in
-      let right = Each-parts IsBlock d.before (d.right_block ∷ d.after) (subst Blocks d.right_is all_y) in
+      let right = Each-parts IsBlock d.before _ (subst Blocks d.right_is all_y) in
       let front = reverse d.after in
       let back = reverse d.before in
       let turned : (u : List ℕ) → reverse (d.before ++ u ∷ d.after) ≡ front ++ u ∷ back =
@@ -60,5 +60,5 @@ changed_tag key nonce a c a' c' ha hc ha' hc' inverse d e =
     let all_x = Blocks-hashed a c ha hc in
     let all_y = Blocks-hashed a' c' ha' hc' in
     changed_ghash h size inverse xs ys all_x all_y d
-    (cancel_right (ghash h xs) (ghash h ys) (aes key (counter_block nonce 1))
-    (Sized-ghash h xs size (AllSized-blocks xs all_x)) (Sized-ghash h ys size (AllSized-blocks ys all_y)) (Sized-aes key (counter_block nonce 1)) e)
+    (cancel_right (ghash h xs) _ _
+    (Sized-ghash h xs size (AllSized-blocks xs all_x)) (Sized-ghash h ys size (AllSized-blocks ys all_y)) (Sized-aes key _) e)

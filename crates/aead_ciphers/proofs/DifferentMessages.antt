@@ -20,14 +20,14 @@ same_parts xs ys us vs e h =
 
 same_last : (xs ys : List (List ℕ)) (x y : List ℕ) → xs ++ x ∷ [] ≡ ys ++ y ∷ [] → x ≡ y
 same_last xs ys x y e =
-    let lengths = sym (length-append xs (x ∷ [])) ∙ ap length e ∙ length-append ys (y ∷ []) in
-    ap (λ bs. get_or bs 0 []) (same_parts xs (x ∷ []) ys (y ∷ []) (omega arith) e).1
+    let lengths = sym (length-append xs _) ∙ ap length e ∙ length-append ys _ in
+    ap (λ bs. get_or bs 0 []) (same_parts xs _ ys _ (omega arith) e).1
 
 -- bytes from their padded blocks
 byte_back : (xs : List ℕ) (k : ℕ) → k < length xs → get_or (get_or (padded_blocks xs) (k / 16) []) (k % 16) 0 ≡ get_or xs k 0
 unfolding padded_blocks padded_block
 byte_back xs k below =
-    ap (λ b. get_or b (k % 16) 0) (get_or-each ((length xs + 15) / 16) (padded_block xs) (k / 16) [] (omega arith))
+    ap (λ b. get_or b (k % 16) 0) (get_or-each ((length xs + 15) / 16) (padded_block xs) _ [] (omega arith))
     ∙ get_or-each 16 (λ (j : ℕ). get_or xs (16 * (k / 16) + j) 0) (k % 16) 0 (omega arith)
     ∙ ap (λ j. get_or xs j 0) (omega arith)
 
@@ -41,13 +41,13 @@ same_bytes xs ys e h =
 same_number : (m n : ℕ) → m < 2 ^ 61 → n < 2 ^ 61 → to_be_bytes w64 (8 * m) ≡ to_be_bytes w64 (8 * n) → m ≡ n
 same_number m n hm hn e =
     let eight =
-    sym (from_be_bytes-to_be_bytes_8 (8 * m) (omega arith)) ∙ ap (from_be_bytes w64) e ∙ from_be_bytes-to_be_bytes_8 (8 * n) (omega arith) in
+    sym (from_be_bytes-to_be_bytes_8 (8 * m) (omega arith)) ∙ ap (from_be_bytes w64) e ∙ from_be_bytes-to_be_bytes_8 _ (omega arith) in
     omega arith
 
 same_lengths : (a n a' n' : ℕ) → Fits a n → Fits a' n' → length_block a n ≡ length_block a' n' → (a ≡ a') × (n ≡ n')
 unfolding length_block
 same_lengths a n a' n' fits fits' e =
-    let halves = same_parts (to_be_bytes w64 (8 * a)) (to_be_bytes w64 (8 * n)) (to_be_bytes w64 (8 * a')) (to_be_bytes w64 (8 * n')) refl e in
+    let halves = same_parts _ _ _ _ refl e in
     (same_number a a' fits.aad fits'.aad halves.0, same_number n n' (omega (arith, fits.message)) (omega (arith, fits'.message)) halves.1)
 
 same_messages : (a c a' c' : List ℕ) → Fits (length a) (length c) → Fits (length a') (length c') → (n : ℕ) →
@@ -58,23 +58,23 @@ same_messages a c a' c' fits fits' n e =
     let ys = padded_blocks c in
     let xs' = padded_blocks a' in
     let ys' = padded_blocks c' in
-    let last = length_block (length a) (length c) in
-    let last' = length_block (length a') (length c') in
-    let zeros = replicate (n - length (hashed a c)) zero_block in
-    let zeros' = replicate (n - length (hashed a' c')) zero_block in
-    let ends = same_last (zeros ++ (xs ++ ys)) (zeros' ++ (xs' ++ ys')) last last'
-    (append_assoc zeros (xs ++ ys) (last ∷ []) ∙ e ∙ sym (append_assoc zeros' (xs' ++ ys') (last' ∷ []))) in
-    let lengths = same_lengths (length a) (length c) (length a') (length c') fits fits' ends in
+    let last = length_block _ _ in
+    let last' = length_block _ _ in
+    let zeros = replicate _ zero_block in
+    let zeros' = replicate _ zero_block in
+    let ends = same_last _ _ last last'
+    (append_assoc zeros _ _ ∙ e ∙ sym (append_assoc zeros' _ _)) in
+    let lengths = same_lengths _ _ _ _ fits fits' ends in
     let all =
     count_hashed a c ∙ ap₂ sealing_products lengths.0 lengths.1 ∙ sym (count_hashed a' c') in
     let count : length (xs ++ ys) ≡ length (xs' ++ ys') =
     omega (arith, all, length-append (xs ++ ys) (last ∷ []), length-append (xs' ++ ys') (last' ∷ [])) in
-    let lists = same_parts zeros (hashed a c) zeros' (hashed a' c') (ap (λ k. length (replicate (n - k) zero_block)) all) e in
-    let bodies = same_parts (xs ++ ys) (last ∷ []) (xs' ++ ys') (last' ∷ []) count lists.1 in
+    let lists = same_parts zeros _ zeros' _ (ap (λ k. length (replicate (n - k) zero_block)) all) e in
+    let bodies = same_parts _ _ _ _ count lists.1 in
     let both = same_parts xs ys xs' ys' (length-padded_blocks a ∙ ap (λ k. (k + 15) / 16) lengths.0 ∙ sym (length-padded_blocks a')) bodies.0 in
     (same_bytes a a' lengths.0 both.0, same_bytes c c' lengths.1 both.1)
 
 pub different_messages : (a c a' c' : List ℕ) → Fits (length a) (length c) → Fits (length a') (length c') →
     ¬ ((a ≡ a') × (c ≡ c')) → DifferWhenPadded (hashed a c) (hashed a' c')
 different_messages a c a' c' fits fits' differ e =
-    differ (same_messages a c a' c' fits fits' (max (length (hashed a c)) (length (hashed a' c'))) e)
+    differ (same_messages a c a' c' fits fits' _ e)

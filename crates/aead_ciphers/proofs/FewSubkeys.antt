@@ -16,7 +16,7 @@ use Rattle.aead_ciphers.proofs.TagInput.{Blocks-hashed, Bytes, count_hashed}
 -- one mask falls out of the XOR of two tags
 unmasked : (x y mask : List ℕ) → Sized x → Sized y → Sized mask → x ⊕ y ≡ (x ⊕ mask) ⊕ (y ⊕ mask)
 unmasked x y mask sx sy sm =
-    sym (xor_exchange x mask y mask ∙ ap (λ z. (x ⊕ y) ⊕ z) (xor_self mask sm) ∙ xor_zero (x ⊕ y) (Sized-xor x y sx sy))
+    sym (xor_exchange x mask y mask ∙ ap (λ z. (x ⊕ y) ⊕ z) (xor_self mask sm) ∙ xor_zero _ (Sized-xor x y sx sy))
 
 pub few_subkeys : (a c tag a' c' tag' : List ℕ) (keys : List (List ℕ)) → Bytes a → Bytes c → Bytes a' → Bytes c' →
     Fits (length a) (length c) → Fits (length a') (length c') → IsBlock tag → IsBlock tag' → All IsBlock keys →
@@ -34,7 +34,7 @@ few_subkeys a c tag a' c' tag' keys ha hc ha' hc' fits fits' is_tag is_tag' is_k
     let k = get_or keys j d in
     let is_h = is_keys i d (omega arith) in
     let is_k = is_keys j d below in
-    has_inverse (h ⊕ k) (IsBlock-xor h k is_h is_k) (λ e. distinct i j d before below (same_of_xor h k is_h.size is_k.size e)) in
+    has_inverse _ (IsBlock-xor h k is_h is_k) (λ e. distinct i j d before below (same_of_xor h k is_h.size is_k.size e)) in
     let same : All (λ h. ghash h xs ⊕ ghash h ys ≡ tag ⊕ tag') keys =
     λ i d below.
     let h = get_or keys i d in
@@ -42,7 +42,7 @@ few_subkeys a c tag a' c' tag' keys ha hc ha' hc' fits fits' is_tag is_tag' is_k
     let m = each i d below in
     let sx = Sized-ghash h xs sh (AllSized-blocks xs all_x) in
     let sy = Sized-ghash h ys sh (AllSized-blocks ys all_y) in
-    unmasked (ghash h xs) (ghash h ys) m.0 sx sy m.1.size ∙ sym (ap₂ ◌⊕◌ m.2 m.3) in
+    unmasked _ _ m.0 sx sy m.1.size ∙ sym (ap₂ ◌⊕◌ m.2 m.3) in
     subst (λ n. length keys ≤ n) (ap₂ max (count_hashed a c) (count_hashed a' c'))
-    (few_keys xs ys (tag ⊕ tag') keys all_x all_y (IsBlock-xor tag tag' is_tag is_tag') (λ i below. (is_keys i [] below).size)
+    (few_keys xs ys _ keys all_x all_y (IsBlock-xor tag tag' is_tag is_tag') (λ i below. (is_keys i [] below).size)
     (different_messages a c a' c' fits fits' differ) apart same)

@@ -19,7 +19,7 @@ use Rattle.aead_ciphers.specs.Steps.{SealStep, no_room, no_nonce, too_long, seal
 
 -- two places of a list hold the same exactly where reading them gives the same
 read_same : (xs : List (List ℕ)) (i j : ℕ) → j < length xs → slice_get xs i ≡ slice_get xs j → get_or xs i [] ≡ get_or xs j []
-read_same xs i j h e = get_or_from_slice_get xs i (get_or xs j []) [] (e ∙ slice_get-get_or xs j [] h)
+read_same xs i j h e = get_or_from_slice_get xs i _ [] (e ∙ slice_get-get_or xs j [] h)
 
 got_same : (xs : List (List ℕ)) (i j : ℕ) → i < length xs → j < length xs → get_or xs i [] ≡ get_or xs j [] → slice_get xs i ≡ slice_get xs j
 got_same xs i j hi hj e = slice_get-get_or xs i [] hi ∙ ap Some e ∙ sym (slice_get-get_or xs j [] hj)
@@ -34,11 +34,11 @@ pub fresh_one : (was now : List (List ℕ)) (closed : Bool) (nonce : List ℕ) �
 fresh_one was now closed nonce a = subst (λ (l : List (List ℕ)). GrewFresh was l) (sym a.appended) (record {
   kept = take-append_seam was (nonce ∷ []);
   fresh = λ i j lt from to same.
-      let all : List (List ℕ) = was ++ nonce ∷ [] in
-      let more : length all ≡ length was + 1 = length-append was (nonce ∷ []) in
+      let all = was ++ nonce ∷ [] in
+      let more = length-append was (nonce ∷ []) in
       let last : j ≡ length was = omega arith in
       let within : i < length was = omega arith in
-      let e : get_or was i [] ≡ nonce =
+      let e =
       sym (get_or-append was (nonce ∷ []) [] i within) ∙ read_same all i j to same
       ∙ ap (λ (k : ℕ). get_or all k []) last ∙ get_or-append_seam was nonce [] [] in
       a.fresh (subst (λ (x : List ℕ). Contains was x) e (Contains-get_or was i [] within));
@@ -49,11 +49,11 @@ fresh_more was mid now a b =
     let shorter : length was ≤ length mid = omega (arith, ap length a.kept, length-take (length was) mid) in
     let longer : length mid ≤ length now = omega (arith, ap length b.kept, length-take (length mid) now) in
     let at : (i : ℕ) → i < length mid → get_or mid i [] ≡ get_or now i [] =
-    λ i h. ap (λ (l : List (List ℕ)). get_or l i []) (sym b.kept) ∙ get_or-take (length mid) now i [] h in
+    λ i h. ap (λ (l : List (List ℕ)). get_or l i []) (sym b.kept) ∙ get_or-take _ now i [] h in
     record {
-      kept = sym (take-take (length was) (length mid) now shorter) ∙ ap (take (length was)) b.kept ∙ a.kept;
+      kept = sym (take-take (length was) _ now shorter) ∙ ap (take (length was)) b.kept ∙ a.kept;
       fresh = λ i j lt from to same.
-          elim (cases_lt j (length mid)) [
+          elim (cases_lt j _) [
             | inl early ↦ a.fresh i j lt from early (got_same mid i j (omega arith) early
                 (at i (omega arith) ∙ read_same now i j to same ∙ sym (at j early)))
             | inr late ↦ b.fresh i j lt late to same

@@ -13,9 +13,13 @@ use Rattle.aead_ciphers.specs.Ghash.{IsBlock, block_bits, block_of, ◌•◌, b
 use Rattle.aead_ciphers_base.proofs.PolynomialBits.{Series}
 use Rattle.aead_ciphers_base.proofs.PolynomialAction.{times}
 use Rattle.aead_ciphers_base.proofs.PolynomialLaws.{field_product_is, length-field_product, modulus, same_coefficients}
-use Rattle.aead_ciphers.proofs.GhashBits.{length-bits, bits_high_first}
+use Rattle.aead_ciphers.proofs.GhashBits.{length-bits, bits_high_first, reverse-bits_of}
 use Rattle.std.proofs.lemmas.List.Elements.{All-cons, All-head, All-tail}
-use Rattle.aead_ciphers.proofs.GhashBytes.{digits, digit_up, block_bits_of_number, number_after, power_256, byte_at_is, number, block_bits-is, block_of-is}
+use Rattle.aead_ciphers.proofs.GhashBytes.{block_bits_of_number, number, number_of_bits, power_256, byte_at_is, block_bits-is}
+use Rattle.aead_ciphers_base.proofs.NumberBits.{bits_of-value_of}
+use Rattle.aead_ciphers_base.specs.ByteField.{bits_of}
+use Rattle.std.specs.Prelude.{reverse}
+use Rattle.std.proofs.lemmas.List.{length-reverse, reverse-reverse}
 use Rattle.aead_ciphers.proofs.ProductLoop.{block_low}
 
 -- ---- bytes back from bits
@@ -31,43 +35,41 @@ abbrev value : ℕ → List ℕ → ℕ
 value a [] = a
 value a (x ∷ xs) = value (a * 256 + x) xs
 
-number-bytes : (xs : List ℕ) (a : ℕ) → All Byte xs → digits a (flat_map (bits_high_first 8) xs) ≡ value a xs
-number-bytes [] a h = refl
-number-bytes (x ∷ xs) a h =
-    fold-append (λ (m : ℕ) (b : Bool). 2 * m + (if b then 1 else 0)) a (bits_high_first 8 x) (flat_map (bits_high_first 8) xs)
-    ∙ ap (λ n. digits n (flat_map (bits_high_first 8) xs))
-    (number_after 8 x a ∙ ap (λ y. a * 256 + y) (mod-eq_of_lt (All-head Byte x xs h)))
-    ∙ number-bytes xs (a * 256 + x) (All-tail Byte x xs h)
+-- a digit x below the number a, above the rest r
+digit_up : (a c x p q r : ℕ) → q ≡ p * c → (a * c + x) * p + r ≡ a * q + (x * p + r)
+digit_up a c x p q r e = (let h : (a * c + x) * p + r ≡ a * (p * c) + (x * p + r) = omega arith in h) ∙ ap (λ y. a * y + (x * p + r)) (sym e)
 
 value-split : (xs : List ℕ) (a : ℕ) → All Byte xs → (r : ℕ) × (value a xs ≡ a * 256 ^ length xs + r) × (r < 256 ^ length xs)
 value-split [] a h = (0, omega arith, lit< tt)
 value-split (x ∷ xs) a h =
-    let w = value-split xs (a * 256 + x) (All-tail Byte x xs h) in
+    let w = value-split xs _ (All-tail Byte x xs h) in
     let small = All-head Byte x xs h in (
       x * 256 ^ length xs + w.0,
-      w.1 ∙ digit_up a 256 x (256 ^ length xs) (256 ^ suc (length xs)) w.0 (pow-suc 256 (length xs)),
-      digit_below 256 x (256 ^ length xs) (256 ^ suc (length xs)) w.0 (pow-suc 256 (length xs)) small w.2,
+      w.1 ∙ digit_up a 256 x _ _ w.0 (pow-suc 256 _),
+      digit_below 256 x _ _ w.0 (pow-suc 256 _) small w.2,
     )
 
 byte_of-value : (a x k n r : ℕ) → x < 256 → n ≡ (a * 256 + x) * 256 ^ k + r → r < 256 ^ k → byte_at k n ≡ x
 byte_of-value a x k n r small e below =
     byte_at_is k n ∙ ap (λ p. n / p % 256) (sym (power_256 k))
-    ∙ ap (λ m. m / 256 ^ k % 256) e ∙ ap (λ m. m % 256) (div-mul-add (a * 256 + x) (256 ^ k) r below) ∙ mod-mul-add a 256 x small
+    ∙ ap (λ m. m / 256 ^ k % 256) e ∙ ap (λ m. m % 256) (div-mul-add (a * 256 + x) _ r below) ∙ mod-mul-add a 256 x small
 
 bytes_of-value : (xs : List ℕ) (a : ℕ) → All Byte xs → bytes_high_first (length xs) (value a xs) ≡ xs
 bytes_of-value [] a h = refl
 bytes_of-value (x ∷ xs) a h =
     let w = value-split xs (a * 256 + x) (All-tail Byte x xs h) in
     ap₂ (λ y ys. y ∷ ys)
-    (byte_of-value a x (length xs) (value (a * 256 + x) xs) w.0 (All-head Byte x xs h) w.1 w.2)
-    (bytes_of-value xs (a * 256 + x) (All-tail Byte x xs h))
+    (byte_of-value a x _ _ w.0 (All-head Byte x xs h) w.1 w.2)
+    (bytes_of-value xs _ (All-tail Byte x xs h))
 
 pub block_of-bits : (b : List ℕ) → IsBlock b → block_of (block_bits b) ≡ b
+unfolding block_of
 block_of-bits b is =
-    block_of-is (block_bits b) ∙ ap (λ p. to_be_bytes w128 (number p)) (block_bits-is b)
-    ∙ ap (to_be_bytes w128) (number-bytes b 0 is.bytes)
-    ∙ ap (λ k. bytes_high_first k (value 0 b)) (sym is.size)
-    ∙ bytes_of-value b 0 is.bytes
+    let n = value 0 b in
+    let w = value-split b 0 is.bytes in
+    let back = ap (λ k. bytes_high_first k n) (sym is.size) ∙ bytes_of-value b 0 is.bytes in
+    ap (λ bs. block_of (block_bits bs)) (sym back) ∙ ap block_of (block_bits_of_number n)
+    ∙ ap (to_be_bytes w128) (number_of_bits n (omega (arith, w.1, w.2, ap (λ k. 256 ^ k) is.size))) ∙ back
 
 pub same_blocks : (a b : List ℕ) → IsBlock a → IsBlock b → block_bits a ≡ block_bits b → a ≡ b
 same_blocks a b is_a is_b e = sym (block_of-bits a is_a) ∙ ap block_of e ∙ block_of-bits b is_b
@@ -80,47 +82,16 @@ from_be_bytes_is b size =
 
 -- ---- bits back from bytes
 
-bit-below : (b : Bool) → (if b then 1 else 0) < 2
-bit-below false = lit< tt
-bit-below true = lit< tt
-
-parity : (a : ℕ) (b : Bool) → ((2 * a + (if b then 1 else 0)) % 2 == 1) ≡ b
-parity a false = ap (λ m. m == 1) (let h : (2 * a + 0) % 2 ≡ 0 = omega arith in h)
-parity a true = ap (λ m. m == 1) (let h : (2 * a + 1) % 2 ≡ 1 = omega arith in h)
-
-number-split : (p : List Bool) (a : ℕ) → (r : ℕ) × (digits a p ≡ a * 2 ^ length p + r) × (r < 2 ^ length p)
-number-split [] a = (0, omega arith, lit< tt)
-number-split (b ∷ p) a =
-    let v = if b then 1 else 0 in
-    let w = number-split p (2 * a + v) in (
-      v * 2 ^ length p + w.0,
-      w.1 ∙ ap (λ y. (y + v) * 2 ^ length p + w.0) (mul_comm 2 a) ∙ digit_up a 2 v (2 ^ length p) (2 ^ suc (length p)) w.0 (pow-suc 2 (length p)),
-      digit_below 2 v (2 ^ length p) (2 ^ suc (length p)) w.0 (pow-suc 2 (length p)) (bit-below b) w.2,
-    )
-
-bit_of-number : (a : ℕ) (b : Bool) (k n r : ℕ) → n ≡ (2 * a + (if b then 1 else 0)) * 2 ^ k + r → r < 2 ^ k → (bit_at n k == 1) ≡ b
-bit_of-number a b k n r e below =
-    ap (λ m. m / 2 ^ k % 2 == 1) e
-    ∙ ap (λ m. m % 2 == 1) (div-mul-add (2 * a + (if b then 1 else 0)) (2 ^ k) r below)
-    ∙ parity a b
-
-bits_of-number : (p : List Bool) (a : ℕ) → bits_high_first (length p) (digits a p) ≡ p
-unfolding bits_high_first
-bits_of-number [] a = refl
-bits_of-number (b ∷ p) a =
-    let w = number-split p (2 * a + (if b then 1 else 0)) in
-    ap₂ (λ y q. y ∷ q)
-    (bit_of-number a b (length p) (fold (λ (m : ℕ) (c : Bool). 2 * m + (if c then 1 else 0)) (2 * a + (if b then 1 else 0)) p) w.0 w.1 w.2)
-    (bits_of-number p (2 * a + (if b then 1 else 0)))
-
 pub block_bits_of-block : (p : List Bool) → length p ≡ 128 → block_bits (block_of p) ≡ p
+unfolding block_of
 block_bits_of-block p e =
-    ap block_bits (block_of-is p) ∙ block_bits_of_number (number p) ∙ ap (λ k. bits_high_first k (number p)) (sym e) ∙ bits_of-number p 0
+    block_bits_of_number _ ∙ sym (reverse-bits_of 128 _)
+    ∙ ap (λ k. reverse (bits_of k (number p))) (sym (length-reverse p ∙ e)) ∙ ap reverse (bits_of-value_of (reverse p)) ∙ reverse-reverse p
 
 pub bytes-below : (k n : ℕ) → All Byte (bytes_high_first k n)
 bytes-below zero n = λ k d below. absurd (omega arith)
 bytes-below (suc k) n =
-    All-cons Byte (byte_at k n) (bytes_high_first k n) (rw (byte_at_is k n) (mod_below (n / 2 ^ (8 * k)) 256 (lit< tt))) (bytes-below k n)
+    All-cons Byte _ _ (rw (byte_at_is k n) (mod_below (n / 2 ^ (8 * k)) 256 (lit< tt))) (bytes-below k n)
 
 length-bytes : (k n : ℕ) → length (bytes_high_first k n) ≡ k
 length-bytes zero n = refl
@@ -136,7 +107,7 @@ IsBlock-product a b = IsBlock-number _
 pub length-flat : (xs : List ℕ) → length (flat_map (bits_high_first 8) xs) ≡ 8 * length xs
 length-flat [] = refl
 length-flat (x ∷ xs) =
-    length-append (bits_high_first 8 x) (flat_map (bits_high_first 8) xs) ∙ ap₂ (λ m n. m + n) (length-bits 8 x) (length-flat xs) ∙ omega arith
+    length-append _ _ ∙ ap₂ (λ m n. m + n) (length-bits 8 x) (length-flat xs) ∙ omega arith
 
 pub length-block_bits : (b : List ℕ) → length b ≡ 16 → length (block_bits b) ≡ 128
 length-block_bits b size = ap length (block_bits-is b) ∙ length-flat b ∙ ap (λ k. 8 * k) size
@@ -151,7 +122,7 @@ block_times a f = times 127 (modulus block_taps 128) (block_bits a) f
 
 pub same_from_series : (a b : List ℕ) → IsBlock a → IsBlock b → series a ≡ series b → a ≡ b
 same_from_series a b is_a is_b e =
-    same_blocks a b is_a is_b (same_coefficients (block_bits a) (block_bits b) (length-block_bits a is_a.size ∙ sym (length-block_bits b is_b.size)) e)
+    same_blocks a b is_a is_b (same_coefficients (block_bits a) _ (length-block_bits a is_a.size ∙ sym (length-block_bits b is_b.size)) e)
 
 pub series-product : (a b : List ℕ) → length a ≡ 16 → length b ≡ 16 → series (a • b) ≡ block_times a (series b)
 unfolding ◌•◌

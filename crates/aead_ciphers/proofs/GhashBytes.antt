@@ -7,18 +7,16 @@ use Rattle.std.proofs.lemmas.Nat.Bits.{bit_at-lt, bit_at_cat_low}
 use Rattle.std.specs.Prelude.{reverse}
 use Rattle.std.proofs.lemmas.List.{reverse-append, reverse-reverse}
 use Rattle.std.proofs.lemmas.List.Sums.{fold-append}
-use Rattle.aead_ciphers_base.specs.ByteField.{value_of}
+use Rattle.aead_ciphers_base.specs.ByteField.{bits_of, value_of}
+use Rattle.aead_ciphers_base.proofs.NumberBits.{value_of-bits_of}
 use Rattle.aead_ciphers_base.specs.Polynomial.{field_product}
 use Rattle.aead_ciphers_base.specs.Bytes.{◌⊕◌}
 use Rattle.aead_ciphers.proofs.GhashBits.{bits_high_first, reverse-bits_of}
 use Rattle.aead_ciphers.specs.Ghash.{block_bits, block_of, ◌•◌, block_taps}
 
--- the number of bits, the highest first, after the number a
-abbrev pub digits : ℕ → List Bool → ℕ
-digits a bits = fold (λ n b. 2 * n + (if b then 1 else 0)) a bits
-
+-- the number of bits, the highest first
 abbrev pub number : List Bool → ℕ
-number bits = digits 0 bits
+number bits = value_of (reverse bits)
 
 -- ---- the definitions, by bits the highest first
 
@@ -27,22 +25,11 @@ unfolding block_bits
 block_bits-is [] = refl
 block_bits-is (x ∷ xs) = ap₂ (λ p q. p ++ q) (reverse-bits_of 8 x) (block_bits-is xs)
 
-number-reverse : (p : List Bool) → number (reverse p) ≡ value_of p
-number-reverse [] = refl
-number-reverse (b ∷ p) =
-    ap number (reverse-append (b ∷ []) p)
-    ∙ fold-append (λ (n : ℕ) (c : Bool). 2 * n + (if c then 1 else 0)) 0 (reverse p) (b ∷ [])
-    ∙ ap (λ n. 2 * n + (if b then 1 else 0)) (number-reverse p) ∙ add_comm (2 * value_of p) (if b then 1 else 0)
-
-pub block_of-is : (p : List Bool) → block_of p ≡ to_be_bytes w128 (number p)
-unfolding block_of
-block_of-is p = ap (to_be_bytes w128) (sym (number-reverse (reverse p)) ∙ ap number (reverse-reverse p))
-
 -- a byte's bits are the number's bits there
 bit_at_byte : (n s j : ℕ) → j < 8 → bit_at (n / 2 ^ s % 2 ^ 8) j ≡ bit_at n (s + j)
 bit_at_byte n s j h =
-    sym (bit_at_cat_low (n / 2 ^ s / 2 ^ 8) 8 (n / 2 ^ s % 2 ^ 8) j h)
-    ∙ ap (λ x. bit_at x j) (div-add-mod' (n / 2 ^ s) (2 ^ 8))
+    sym (bit_at_cat_low (n / 2 ^ s / 2 ^ 8) 8 _ j h)
+    ∙ ap (λ x. bit_at x j) (div-add-mod' (n / 2 ^ s) _)
     ∙ ap (λ x. x % 2) (shr-shr n s j)
 
 bits_split : (n s j : ℕ) → j ≤ 8 → bits_high_first j (n / 2 ^ s % 2 ^ 8) ++ bits_high_first s n ≡ bits_high_first (j + s) n
@@ -69,44 +56,24 @@ bytes_bits (suc k) n =
     ∙ ap (λ j. bits_high_first j n) (omega arith)
 
 pub block_bits_of_number : (n : ℕ) → block_bits (to_be_bytes w128 n) ≡ bits_high_first 128 n
-block_bits_of_number n = block_bits-is (to_be_bytes w128 n) ∙ bytes_bits 16 n
-
-bit_value : (x : ℕ) → x < 2 → (if x == 1 then 1 else 0) ≡ x
-bit_value zero h = refl
-bit_value (suc zero) h = refl
-bit_value (suc (suc x)) h = absurd (omega arith)
-
--- a digit x below the number a, above the rest r
-pub digit_up : (a c x p q r : ℕ) → q ≡ p * c → (a * c + x) * p + r ≡ a * q + (x * p + r)
-digit_up a c x p q r e = (let h : (a * c + x) * p + r ≡ a * (p * c) + (x * p + r) = omega arith in h) ∙ ap (λ y. a * y + (x * p + r)) (sym e)
-
-pub number_after : (k n a : ℕ) → digits a (bits_high_first k n) ≡ a * 2 ^ k + n % 2 ^ k
-unfolding bits_high_first
-number_after zero n a = omega arith
-number_after (suc k) n a =
-    number_after k n (2 * a + (if bit_at n k == 1 then 1 else 0))
-    ∙ ap (λ x. (2 * a + x) * 2 ^ k + n % 2 ^ k) (bit_value (bit_at n k) (bit_at-lt n k))
-    ∙ (let one_more : suc k ≡ 1 + k = omega arith in
-    let e = ap (λ j. n % 2 ^ j) one_more ∙ mod-pow-add n 1 k in
-    ap (λ y. (y + bit_at n k) * 2 ^ k + n % 2 ^ k) (mul_comm 2 a)
-    ∙ digit_up a 2 (bit_at n k) (2 ^ k) (2 ^ suc k) (n % 2 ^ k) (pow-suc 2 k) ∙ ap (λ x. a * 2 ^ suc k + x) (sym e))
+block_bits_of_number n = block_bits-is _ ∙ bytes_bits 16 n
 
 pub number_of_bits : (n : ℕ) → n < 2 ^ 128 → number (bits_high_first 128 n) ≡ n
-number_of_bits n h = number_after 128 n 0 ∙ omega (arith, mod-eq_of_lt h)
+number_of_bits n h = ap number (sym (reverse-bits_of 128 n)) ∙ ap value_of (reverse-reverse (bits_of 128 n)) ∙ value_of-bits_of 128 n h
 
 pub product_of_numbers : (a b c : ℕ) → c < 2 ^ 128 → bits_high_first 128 c ≡ field_product block_taps 128 (bits_high_first 128 a) (bits_high_first 128 b) →
     to_be_bytes w128 c ≡ to_be_bytes w128 a • to_be_bytes w128 b
-unfolding ◌•◌
+unfolding ◌•◌ block_of
 product_of_numbers a b c below h =
     let bits = ap₂ (field_product block_taps 128) (sym (block_bits_of_number a)) (sym (block_bits_of_number b)) in
-    ap (to_be_bytes w128) (sym (number_of_bits c below) ∙ ap number (h ∙ bits)) ∙ sym (block_of-is _)
+    ap (to_be_bytes w128) (sym (number_of_bits c below) ∙ ap number (h ∙ bits))
 
 -- the bytes of an XOR
 byte-xor : (k a b : ℕ) → byte_at k (bit_xor a b) ≡ bit_xor (byte_at k a) (byte_at k b)
 byte-xor k a b =
-    byte_at_is k (bit_xor a b)
-    ∙ ap (λ x. x % 2 ^ 8) (xor_shr a b (8 * k))
-    ∙ xor_mod (a / 2 ^ (8 * k)) (b / 2 ^ (8 * k)) 8
+    byte_at_is k _
+    ∙ ap (λ x. x % 2 ^ 8) (xor_shr a b _)
+    ∙ xor_mod _ _ 8
     ∙ ap₂ bit_xor (sym (byte_at_is k a)) (sym (byte_at_is k b))
 
 bytes-xor : (k a b : ℕ) → bytes_high_first k (bit_xor a b) ≡ bytes_high_first k a ⊕ bytes_high_first k b

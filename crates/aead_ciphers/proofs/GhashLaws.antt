@@ -7,55 +7,30 @@ use Rattle.aead_ciphers_base.proofs.XorLemmas.{bytes-xor, length-xor, xor_assoc,
 use Rattle.aead_ciphers_base.specs.Polynomial.{◌xor◌, coefficient}
 use Rattle.aead_ciphers_base.specs.Bytes.{◌⊕◌, zero_block}
 use Rattle.aead_ciphers.specs.Ghash.{IsBlock, block_bits, ◌•◌, unit_block, power, ghash, AllSized, xor_blocks, block_taps}
-use Rattle.aead_ciphers_base.proofs.PolynomialBits.{add, same_series}
+use Rattle.aead_ciphers_base.proofs.PolynomialBits.{add, same_series, same_steps}
 use Rattle.aead_ciphers_base.proofs.PolynomialAction.{horner-add, times_swap}
 use Rattle.aead_ciphers_base.proofs.PolynomialLaws.{modulus, one, times_one}
 use Rattle.aead_ciphers.proofs.GhashBytes.{block_bits-is}
-use Rattle.aead_ciphers.proofs.GhashBits.{xor-parity, length-bits, bits_high_first}
+use Rattle.aead_ciphers.proofs.GhashBits.{bits-xor, length-bits, bits_high_first}
+use Rattle.aead_ciphers_base.proofs.PolynomialSums.{polynomial_sum, coefficient-polynomial_sum}
 use Rattle.aead_ciphers.proofs.GhashBlocks.{series, block_times, same_from_series, series-product, IsBlock-product, length-block_bits}
 use Rattle.aead_ciphers.proofs.ProductLoop.{block_low, zeros_end}
 
 -- ---- XOR of blocks is XOR of coefficients
 
-abbrev pub xor_bits : List Bool → List Bool → List Bool
-xor_bits [] q = []
-xor_bits (a ∷ p) [] = []
-xor_bits (a ∷ p) (b ∷ q) = (a xor b) ∷ xor_bits p q
-
-pub bits-xor : (k x y : ℕ) → bits_high_first k (bit_xor x y) ≡ xor_bits (bits_high_first k x) (bits_high_first k y)
-unfolding bits_high_first
-bits-xor zero x y = refl
-bits-xor (suc k) x y =
-    ap₂ (λ b p. b ∷ p)
-    (ap (λ n. n == 1) (bit_at_xor x y k) ∙ xor-parity (bit_at x k) (bit_at y k) (bit_at-lt x k) (bit_at-lt y k))
-    (bits-xor k x y)
-
-xor_bits-append : (p q r s : List Bool) → length p ≡ length q → xor_bits (p ++ r) (q ++ s) ≡ xor_bits p q ++ xor_bits r s
-xor_bits-append [] [] r s e = refl
-xor_bits-append [] (b ∷ q) r s e = absurd (omega arith)
-xor_bits-append (a ∷ p) [] r s e = absurd (omega arith)
-xor_bits-append (a ∷ p) (b ∷ q) r s e = ap (λ t. (a xor b) ∷ t) (xor_bits-append p q r s (omega arith))
-
-coefficient-xor_bits : (p q : List Bool) → length p ≡ length q → coefficient (xor_bits p q) ≡ add (coefficient p) (coefficient q)
-coefficient-xor_bits [] [] e = refl
-coefficient-xor_bits [] (b ∷ q) e = absurd (omega arith)
-coefficient-xor_bits (a ∷ p) [] e = absurd (omega arith)
-coefficient-xor_bits (a ∷ p) (b ∷ q) e = same_series (go (coefficient-xor_bits p q (omega arith)))
-  where
-    go : coefficient (xor_bits p q) ≡ add (coefficient p) (coefficient q)
-        → (k : ℕ) → coefficient (xor_bits (a ∷ p) (b ∷ q)) k ≡ add (coefficient (a ∷ p)) (coefficient (b ∷ q)) k
-    go ih zero = refl
-    go ih (suc k) = ap (λ f. f k) ih
+sum-append : (p q r s : List Bool) → length p ≡ length q → polynomial_sum (p ++ r) (q ++ s) ≡ polynomial_sum p q ++ polynomial_sum r s
+sum-append [] [] r s e = refl
+sum-append (a ∷ p) (b ∷ q) r s e = ap (λ t. (a xor b) ∷ t) (sum-append p q r s (omega arith))
+sum-append _ _ r s e = absurd (omega arith)
 
 flat-xor : (a b : List ℕ) → length a ≡ length b
-    → flat_map (bits_high_first 8) (a ⊕ b) ≡ xor_bits (flat_map (bits_high_first 8) a) (flat_map (bits_high_first 8) b)
+    → flat_map (bits_high_first 8) (a ⊕ b) ≡ polynomial_sum (flat_map (bits_high_first 8) a) (flat_map (bits_high_first 8) b)
 flat-xor [] [] e = refl
-flat-xor [] (y ∷ ys) e = absurd (omega arith)
-flat-xor (x ∷ xs) [] e = absurd (omega arith)
 flat-xor (x ∷ xs) (y ∷ ys) e =
     ap₂ (λ p q. p ++ q) (bits-xor 8 x y) (flat-xor xs ys (omega arith))
-    ∙ sym (xor_bits-append (bits_high_first 8 x) (bits_high_first 8 y) (flat_map (bits_high_first 8) xs) (flat_map (bits_high_first 8) ys)
+    ∙ sym (sum-append (bits_high_first 8 x) _ _ _
     (length-bits 8 x ∙ sym (length-bits 8 y)))
+flat-xor _ _ e = absurd (omega arith)
 
 -- 16 numbers
 abbrev pub Sized : List ℕ → Type 0
@@ -73,8 +48,8 @@ IsBlock-xor a b is_a is_b = record {
 pub series-xor : (a b : List ℕ) → Sized a → Sized b → series (a ⊕ b) ≡ add (series a) (series b)
 series-xor a b is_a is_b =
     let e = is_a ∙ sym is_b in
-    ap coefficient (block_bits-is (a ⊕ b) ∙ flat-xor a b e ∙ ap₂ xor_bits (sym (block_bits-is a)) (sym (block_bits-is b)))
-    ∙ coefficient-xor_bits (block_bits a) (block_bits b) (length-block_bits a is_a ∙ sym (length-block_bits b is_b))
+    ap coefficient (block_bits-is (a ⊕ b) ∙ flat-xor a b e ∙ ap₂ polynomial_sum (sym (block_bits-is a)) (sym (block_bits-is b)))
+    ∙ same_series (coefficient-polynomial_sum (block_bits a) _)
 
 -- ---- the unit
 
@@ -83,11 +58,7 @@ unfolding block_bits
 unit_bits = refl
 
 pub series-unit : series unit_block ≡ one
-series-unit = ap coefficient unit_bits ∙ same_series go
-  where
-    go : (k : ℕ) → coefficient (true ∷ replicate 127 false) k ≡ one k
-    go zero = refl
-    go (suc k) = zeros_end 127 k
+series-unit = ap coefficient unit_bits ∙ same_steps _ _ refl (λ k. zeros_end 127 k)
 
 pub xor_zero : (a : List ℕ) → Sized a → a ⊕ zero_block ≡ a
 xor_zero a size = xor_zeros a 16 size
@@ -95,44 +66,44 @@ xor_zero a size = xor_zeros a 16 size
 -- ---- the product, of lists of 16
 
 pub multiple_of_one : (a : List ℕ) → Sized a → block_times a one ≡ series a
-multiple_of_one a size = times_one block_taps 127 block_low (block_bits a) (let e = length-block_bits a size in omega arith)
+multiple_of_one a size = times_one block_taps 127 block_low _ (let e = length-block_bits a size in omega arith)
 
 pub Sized-product : (a b : List ℕ) → Sized (a • b)
 Sized-product a b = (IsBlock-product a b).size
 
 pub product_unit : (a : List ℕ) → IsBlock a → a • unit_block ≡ a
 product_unit a is_a =
-    same_from_series (a • unit_block) a (IsBlock-product a unit_block) is_a
+    same_from_series _ a (IsBlock-product a unit_block) is_a
     (series-product a unit_block is_a.size refl ∙ ap (block_times a) series-unit ∙ multiple_of_one a is_a.size)
 
 pub product_comm : (a b : List ℕ) → Sized a → Sized b → a • b ≡ b • a
 product_comm a b is_a is_b =
-    same_from_series (a • b) (b • a) (IsBlock-product a b) (IsBlock-product b a)
+    same_from_series _ _ (IsBlock-product a b) (IsBlock-product b a)
     (series-product a b is_a is_b ∙ ap (block_times a) (sym (multiple_of_one b is_b))
-    ∙ times_swap 127 (modulus block_taps 128) (block_bits a) (block_bits b) one
+    ∙ times_swap 127 (modulus block_taps 128) _ _ one
     ∙ ap (block_times b) (multiple_of_one a is_a) ∙ sym (series-product b a is_b is_a))
 
 pub product_left_swap : (a b c : List ℕ) → Sized a → Sized b → Sized c → a • (b • c) ≡ b • (a • c)
 product_left_swap a b c is_a is_b is_c =
-    same_from_series (a • (b • c)) (b • (a • c)) (IsBlock-product a (b • c)) (IsBlock-product b (a • c))
-    (series-product a (b • c) is_a (Sized-product b c) ∙ ap (block_times a) (series-product b c is_b is_c)
-    ∙ times_swap 127 (modulus block_taps 128) (block_bits a) (block_bits b) (series c)
-    ∙ sym (series-product b (a • c) is_b (Sized-product a c) ∙ ap (block_times b) (series-product a c is_a is_c)))
+    same_from_series _ _ (IsBlock-product a _) (IsBlock-product b _)
+    (series-product a _ is_a (Sized-product b c) ∙ ap (block_times a) (series-product b c is_b is_c)
+    ∙ times_swap 127 (modulus block_taps 128) _ _ (series c)
+    ∙ sym (series-product b _ is_b (Sized-product a c) ∙ ap (block_times b) (series-product a c is_a is_c)))
 
 pub product_assoc : (a b c : List ℕ) → Sized a → Sized b → Sized c → (a • b) • c ≡ a • (b • c)
 product_assoc a b c is_a is_b is_c =
-    product_comm (a • b) c (Sized-product a b) is_c ∙ product_left_swap c a b is_c is_a is_b ∙ ap (λ x. a • x) (product_comm c b is_c is_b)
+    product_comm _ c (Sized-product a b) is_c ∙ product_left_swap c a b is_c is_a is_b ∙ ap (λ x. a • x) (product_comm c b is_c is_b)
 
 pub product_xor_right : (a b c : List ℕ) → Sized a → Sized b → Sized c → a • (b ⊕ c) ≡ (a • b) ⊕ (a • c)
 product_xor_right a b c is_a is_b is_c =
-    same_from_series (a • (b ⊕ c)) ((a • b) ⊕ (a • c)) (IsBlock-product a (b ⊕ c)) (IsBlock-xor (a • b) (a • c) (IsBlock-product a b) (IsBlock-product a c))
-    (series-product a (b ⊕ c) is_a (Sized-xor b c is_b is_c) ∙ ap (block_times a) (series-xor b c is_b is_c)
+    same_from_series _ _ (IsBlock-product a _) (IsBlock-xor (a • b) _ (IsBlock-product a b) (IsBlock-product a c))
+    (series-product a _ is_a (Sized-xor b c is_b is_c) ∙ ap (block_times a) (series-xor b c is_b is_c)
     ∙ horner-add 127 (modulus block_taps 128) (length (block_bits a)) (series a) (series b) (series c)
-    ∙ sym (series-xor (a • b) (a • c) (Sized-product a b) (Sized-product a c) ∙ ap₂ add (series-product a b is_a is_b) (series-product a c is_a is_c)))
+    ∙ sym (series-xor (a • b) _ (Sized-product a b) (Sized-product a c) ∙ ap₂ add (series-product a b is_a is_b) (series-product a c is_a is_c)))
 
 pub product_xor_left : (a b c : List ℕ) → Sized a → Sized b → Sized c → (a ⊕ b) • c ≡ (a • c) ⊕ (b • c)
 product_xor_left a b c is_a is_b is_c =
-    product_comm (a ⊕ b) c (Sized-xor a b is_a is_b) is_c ∙ product_xor_right c a b is_c is_a is_b
+    product_comm _ c (Sized-xor a b is_a is_b) is_c ∙ product_xor_right c a b is_c is_a is_b
     ∙ ap₂ (λ x y. x ⊕ y) (product_comm c a is_c is_a) (product_comm c b is_c is_b)
 
 -- ---- GHASH
@@ -143,19 +114,19 @@ AllSized-append (x ∷ xs) ys h j = (h.0, AllSized-append xs ys h.1 j)
 
 pub Sized-power : (h : List ℕ) (k : ℕ) → Sized h → Sized (power h k)
 Sized-power h zero is_h = is_h
-Sized-power h (suc k) is_h = Sized-product (power h k) h
+Sized-power h (suc k) is_h = Sized-product _ h
 
 pub Sized-ghash : (h : List ℕ) (xs : List (List ℕ)) → Sized h → AllSized xs → Sized (ghash h xs)
 unfolding ghash
 Sized-ghash h [] is_h all = refl
 Sized-ghash h (x ∷ xs) is_h all =
-    Sized-xor (x • power h (length xs)) (ghash h xs) (Sized-product x (power h (length xs))) (Sized-ghash h xs is_h all.1)
+    Sized-xor _ _ (Sized-product x _) (Sized-ghash h xs is_h all.1)
 
 -- one block more
 pub ghash_more : (h : List ℕ) (xs : List (List ℕ)) (x : List ℕ) → Sized h → AllSized xs → Sized x → ghash h (xs ++ (x ∷ [])) ≡ (ghash h xs ⊕ x) • h
 unfolding ghash ◌•◌
 ghash_more h [] x is_h all is_x =
-    xor_zero (x • h) (Sized-product x h)
+    xor_zero _ (Sized-product x h)
     ∙ ap (λ y. y • h) (sym (xor_comm zero_block x ∙ xor_zero x is_x))
 ghash_more h (y ∷ ys) x is_h all is_x =
     let n = length ys in
@@ -167,21 +138,18 @@ ghash_more h (y ∷ ys) x is_h all is_x =
     let count = length-append ys (x ∷ []) ∙ add-one n in
     ap₂ (λ k r. (y • power h k) ⊕ r) count (ghash_more h ys x is_h all.1 is_x)
     ∙ ap (λ r. r ⊕ ((g ⊕ x) • h)) (sym (product_assoc y p h all.0 is_p is_h))
-    ∙ sym (product_xor_left (y • p) (g ⊕ x) h is_yp (Sized-xor g x is_g is_x) is_h)
+    ∙ sym (product_xor_left (y • p) _ h is_yp (Sized-xor g x is_g is_x) is_h)
     ∙ ap (λ r. r • h) (sym (xor_assoc (y • p) g x))
 
 pub length-xor_blocks : (xs ys : List (List ℕ)) → length xs ≡ length ys → length (xor_blocks xs ys) ≡ length xs
 length-xor_blocks [] [] e = refl
-length-xor_blocks [] (y ∷ ys) e = absurd (omega arith)
-length-xor_blocks (x ∷ xs) [] e = absurd (omega arith)
 length-xor_blocks (x ∷ xs) (y ∷ ys) e = ap suc (length-xor_blocks xs ys (omega arith))
+length-xor_blocks _ _ e = absurd (omega arith)
 
 pub ghash_xor : (h : List ℕ) (xs ys : List (List ℕ)) → Sized h → AllSized xs → AllSized ys → length xs ≡ length ys
     → ghash h (xor_blocks xs ys) ≡ ghash h xs ⊕ ghash h ys
 unfolding ghash
 ghash_xor h [] [] is_h all_x all_y e = sym (xor_zero zero_block refl)
-ghash_xor h [] (y ∷ ys) is_h all_x all_y e = absurd (omega arith)
-ghash_xor h (x ∷ xs) [] is_h all_x all_y e = absurd (omega arith)
 ghash_xor h (x ∷ xs) (y ∷ ys) is_h all_x all_y e =
     let same : length xs ≡ length ys = omega arith in
     let p = power h (length xs) in
@@ -190,6 +158,7 @@ ghash_xor h (x ∷ xs) (y ∷ ys) is_h all_x all_y e =
     ∙ ap (λ r. r ⊕ (ghash h xs ⊕ ghash h ys)) (product_xor_left x y p all_x.0 all_y.0 is_p)
     ∙ xor_exchange (x • p) (y • p) (ghash h xs) (ghash h ys)
     ∙ ap (λ k. ((x • p) ⊕ ghash h xs) ⊕ ((y • power h k) ⊕ ghash h ys)) same
+ghash_xor h _ _ is_h all_x all_y e = absurd (omega arith)
 
 pub AllSized-from : (xs : List (List ℕ)) → ((i : ℕ) → i < length xs → length (get_or xs i []) ≡ 16) → AllSized xs
 AllSized-from [] h = tt

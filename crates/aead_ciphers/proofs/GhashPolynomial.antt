@@ -16,7 +16,7 @@ value_at h (c ∷ cs) = c ⊕ h • value_at h cs
 
 pub IsBlock-value : (h : List ℕ) (cs : List (List ℕ)) → Blocks cs → IsBlock (value_at h cs)
 IsBlock-value h [] all = IsBlock-zero
-IsBlock-value h (c ∷ cs) all = IsBlock-xor c (h • value_at h cs) all.0 (IsBlock-product h (value_at h cs))
+IsBlock-value h (c ∷ cs) all = IsBlock-xor c _ all.0 (IsBlock-product h _)
 
 ghash-reverse : (h : List ℕ) (cs : List (List ℕ)) → Sized h → Blocks cs → ghash h (reverse cs) ≡ h • value_at h cs
 unfolding ghash
@@ -26,8 +26,8 @@ ghash-reverse h (c ∷ cs) sh all =
     ap (ghash h) (reverse-append (c ∷ []) cs)
     ∙ ghash_more h (reverse cs) c sh (AllSized-blocks (reverse cs) (Each-reverse IsBlock cs all.1)) all.0.size
     ∙ ap (λ x. (x ⊕ c) • h) (ghash-reverse h cs sh all.1)
-    ∙ product_comm (v ⊕ c) h (Sized-xor v c (Sized-product h (value_at h cs)) all.0.size) sh
+    ∙ product_comm _ h (Sized-xor v c (Sized-product h _) all.0.size) sh
     ∙ ap (λ x. h • x) (xor_comm v c)
 
 pub ghash_value : (h : List ℕ) (xs : List (List ℕ)) → Sized h → Blocks xs → ghash h xs ≡ h • value_at h (reverse xs)
-ghash_value h xs sh all = ap (ghash h) (sym (reverse-reverse xs)) ∙ ghash-reverse h (reverse xs) sh (Each-reverse IsBlock xs all)
+ghash_value h xs sh all = ap (ghash h) (sym (reverse-reverse xs)) ∙ ghash-reverse h _ sh (Each-reverse IsBlock xs all)

@@ -10,9 +10,8 @@ use Rattle.aead_ciphers.specs.Words.{IsBytesWord, bytes_of_word}
 
 -- a word of two characters or more stands for what its digits decode to
 bytes_of_word-long : (word : List ℕ) → 2 ≤ length word → bytes_of_word word ≡ result_ok (decode_of word)
-bytes_of_word-long [] h = absurd (omega arith)
-bytes_of_word-long (c ∷ []) h = absurd (omega arith)
 bytes_of_word-long (c ∷ d ∷ rest) h = refl
+bytes_of_word-long _ h = absurd (omega arith)
 
 -- a word that decodes stands for its bytes
 pub bytes_of_word-decoded : (word bytes : List ℕ) → 0 < length word → decode_of word ≡ Ok bytes → bytes_of_word word ≡ Some bytes
@@ -45,4 +44,4 @@ IsBytesWord-undecoded word e other h (inr digits) =
 pub bytes_of_word-encode_lower : (bytes : List ℕ) → 0 < length bytes → IsBytes bytes → bytes_of_word (encode_lower bytes) ≡ Some bytes
 bytes_of_word-encode_lower bytes some h =
     let twice = length-encode_with lower_digits bytes in
-    bytes_of_word-decoded (encode_lower bytes) bytes (omega (arith, twice)) (decode_of-encode_lower bytes h)
+    bytes_of_word-decoded _ bytes (omega (arith, twice)) (decode_of-encode_lower bytes h)

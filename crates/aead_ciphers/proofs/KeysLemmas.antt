@@ -11,7 +11,7 @@ pub opened_within : {N : Type 0} (spent : N → List (List ℕ)) (is_closed : N 
     (old new : List ℕ) (accepts : Bool) (n : ℕ)
     → OpenStep spent is_closed was now aad start old new accepts → (if accepts then Opened (length old - 16 - start) else Refused) ≡ Opened n → n ≤ length new
 opened_within spent is_closed was now aad start old new true n step is =
-    let m : ℕ = length old - 16 - start in
+    let m = length old - 16 - start in
     let count : n ≡ m = cc in
-    within (Ok n) (step_fronts spent is_closed was now aad start old new {E = Unit {0}} m refl (Ok n) step count)
+    within (Ok n) (step_fronts spent is_closed was now aad start old new {E = Unit {0}} m refl _ step count)
 opened_within spent is_closed was now aad start old new false n step is = cc

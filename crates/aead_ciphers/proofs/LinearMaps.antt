@@ -7,8 +7,8 @@ use Rattle.std.proofs.lemmas.Nat.{pow_pos, xor_lt}
 use Rattle.aead_ciphers_base.specs.Polynomial.{◌xor◌}
 use Rattle.aead_ciphers_base.proofs.AdditiveLemmas.{xor_four}
 use Rattle.aead_ciphers_base.proofs.BytesLemmas.{same_of_xor}
-use Rattle.aead_ciphers.proofs.GhashBits.{length-bits, bits_high_first}
-use Rattle.aead_ciphers.proofs.GhashLaws.{bits-xor, xor_bits}
+use Rattle.aead_ciphers.proofs.GhashBits.{bits-xor, length-bits, bits_high_first}
+use Rattle.aead_ciphers_base.proofs.PolynomialSums.{polynomial_sum}
 
 -- the XOR of those of the numbers whose bit is true
 abbrev pub combined : List Bool → List ℕ → ℕ
@@ -25,19 +25,18 @@ chosen-xor false b n = sym (xor_zero_l (if b then n else 0))
 chosen-xor true false n = sym (xor_zero_r n)
 chosen-xor true true n = sym (xor_self n)
 
-combined-xor : (p q : List Bool) (ns : List ℕ) → length p ≡ length q → combined (xor_bits p q) ns ≡ bit_xor (combined p ns) (combined q ns)
+combined-xor : (p q : List Bool) (ns : List ℕ) → length p ≡ length q → combined (polynomial_sum p q) ns ≡ bit_xor (combined p ns) (combined q ns)
 combined-xor [] [] ns e = refl
-combined-xor [] (b ∷ q) ns e = absurd (omega arith)
-combined-xor (a ∷ p) [] ns e = absurd (omega arith)
 combined-xor (a ∷ p) (b ∷ q) [] e = refl
 combined-xor (a ∷ p) (b ∷ q) (n ∷ ns) e =
     ap₂ bit_xor (chosen-xor a b n) (combined-xor p q ns (omega arith))
     ∙ xor_four (if a then n else 0) (if b then n else 0) (combined p ns) (combined q ns)
+combined-xor _ _ ns e = absurd (omega arith)
 
 image-xor : (ns : List ℕ) (m n : ℕ) → image ns (bit_xor m n) ≡ bit_xor (image ns m) (image ns n)
 image-xor ns m n =
     ap (λ p. combined p ns) (bits-xor 128 m n)
-    ∙ combined-xor (bits_high_first 128 m) (bits_high_first 128 n) ns (length-bits 128 m ∙ sym (length-bits 128 n))
+    ∙ combined-xor _ _ ns (length-bits 128 m ∙ sym (length-bits 128 n))
 
 pub image-zero : (ns : List ℕ) → image ns 0 ≡ 0
 image-zero ns = image-xor ns 0 0 ∙ xor_self (image ns 0)
@@ -65,18 +64,17 @@ combined-below n [] = pow_pos n
 combined-below zero (b ∷ p) = lit< tt
 combined-below (suc n) (false ∷ p) =
     let h = combined-below n p in
-    xor_lt (suc n) 0 (combined p (twos n)) (pow_pos (suc n)) (omega (arith, pow-suc 2 n))
+    xor_lt _ 0 _ (pow_pos (suc n)) (omega (arith, pow-suc 2 n))
 combined-below (suc n) (true ∷ p) =
     let h = combined-below n p in
-    xor_lt (suc n) (2 ^ n) (combined p (twos n)) (omega (arith, pow_pos n, pow-suc 2 n)) (omega (arith, pow-suc 2 n))
+    xor_lt _ _ (combined p _) (omega (arith, pow_pos n, pow-suc 2 n)) (omega (arith, pow-suc 2 n))
 
 pub none_combined : (n : ℕ) (p : List Bool) → length p ≡ n → combined p (twos n) ≡ 0 → p ≡ replicate n false
 none_combined zero [] size e = refl
-none_combined zero (b ∷ p) size e = absurd (omega arith)
-none_combined (suc n) [] size e = absurd (omega arith)
 none_combined (suc n) (false ∷ p) size e =
-    ap (λ q. false ∷ q) (none_combined n p (omega arith) (sym (xor_zero_l (combined p (twos n))) ∙ e))
+    ap (λ q. false ∷ q) (none_combined n p (omega arith) (sym (xor_zero_l (combined p _)) ∙ e))
 none_combined (suc n) (true ∷ p) size e =
-    let same = same_of_xor (2 ^ n) (combined p (twos n)) e in
+    let same = same_of_xor _ (combined p _) e in
     let below = combined-below n p in
     absurd (omega arith)
+none_combined _ _ size e = absurd (omega arith)

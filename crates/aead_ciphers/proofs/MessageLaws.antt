@@ -22,26 +22,26 @@ length-xor_16 xs ys m n = length-xor xs ys (omega (arith, m, n)) ∙ m
 length-ghash : (h : List ℕ) (blocks : List (List ℕ)) → length (ghash h blocks) ≡ 16
 unfolding ghash
 length-ghash h [] = refl
-length-ghash h (x ∷ xs) = length-xor_16 (x • _) (ghash h xs) (length-product x _) (length-ghash h xs)
+length-ghash h (x ∷ xs) = length-xor_16 _ _ (length-product x _) (length-ghash h xs)
 
 pub length-aes_tag : (key nonce aad ciphertext : List ℕ) → length (gcm_tag (aes key) nonce aad ciphertext) ≡ 16
 unfolding gcm_tag
-length-aes_tag key nonce aad ciphertext = length-xor_16 (ghash _ _) (aes key _) (length-ghash _ _) (length-aes key _)
+length-aes_tag key nonce aad ciphertext = length-xor_16 _ _ (length-ghash _ _) (length-aes key _)
 
 pub length-aes_encrypted : (key nonce message : List ℕ) → length (gcm_encrypted (aes key) nonce message) ≡ length message
-length-aes_encrypted key nonce message = length-counter_mode (aes key) nonce 2 message
+length-aes_encrypted key nonce message = length-counter_mode _ nonce 2 message
 
 pub length-aes_decrypted : (key nonce ciphertext : List ℕ) → length (gcm_decrypted (aes key) nonce ciphertext) ≡ length ciphertext
-length-aes_decrypted key nonce ciphertext = length-counter_mode (aes key) nonce 2 ciphertext
+length-aes_decrypted key nonce ciphertext = length-counter_mode _ nonce 2 ciphertext
 
 pub length-aes_sealed : (key nonce aad message : List ℕ) → length (gcm_sealed (aes key) nonce aad message) ≡ length message + 16
 length-aes_sealed key nonce aad message =
-    length-append (gcm_encrypted (aes key) nonce message) (gcm_tag (aes key) nonce aad (gcm_encrypted (aes key) nonce message))
+    length-append (gcm_encrypted (aes key) nonce message) (gcm_tag (aes key) nonce aad _)
     ∙ ap₂ (λ (m n : ℕ). m + n) (length-aes_encrypted key nonce message) (length-aes_tag key nonce aad _)
 
 -- decrypting undoes encrypting, and encrypting decrypting
 pub decrypted-encrypted : (key nonce message : List ℕ) → gcm_decrypted (aes key) nonce (gcm_encrypted (aes key) nonce message) ≡ message
-decrypted-encrypted key nonce message = counter_mode-twice (aes key) nonce 2 message
+decrypted-encrypted key nonce message = counter_mode-twice _ nonce 2 message
 
 pub encrypted-decrypted : (key nonce ciphertext : List ℕ) → gcm_encrypted (aes key) nonce (gcm_decrypted (aes key) nonce ciphertext) ≡ ciphertext
-encrypted-decrypted key nonce ciphertext = counter_mode-twice (aes key) nonce 2 ciphertext
+encrypted-decrypted key nonce ciphertext = counter_mode-twice _ nonce 2 ciphertext

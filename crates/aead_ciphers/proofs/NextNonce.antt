@@ -14,7 +14,7 @@ pub plaintext_next : {E : Type 0} (is_next : List ℕ → Type 0) (key nonce aad
     → IfOk answer (λ n. n ≡ length old - 16 - start)
     → OnOk answer (UnderNext is_next (λ next. take (length old - 16 - start) new ≡ gcm_decrypted (aes key) next (drop start (take (length old - 16) old))))
 plaintext_next {E} is_next key nonce aad start old new (Ok n) is opened count = λ next given.
-    let front = stands n (opened_fronts {E = E} _ (length-before_tag start old _ refl) (Ok n) opened count) in
+    let front = stands n (opened_fronts {E = E} _ (length-before_tag start old _ refl) _ opened count) in
     subst (λ x. take (length old - 16 - start) new ≡ gcm_decrypted (aes key) x (drop start (take (length old - 16) old))) (is next given) front
 plaintext_next is_next key nonce aad start old new (Err e) is opened count = tt
 
@@ -28,13 +28,13 @@ no_nonce_open _ _ _ _ _ _ _ _ (Err x) is closes e = no_nonce closes e
 pub on_ok : {X Y E F : Type 0} (P : Type 0) (answer : Result X E) (result : Result Y F) → is_ok answer ≡ is_ok result → OnOk answer P → OnOk result P
 on_ok P (Ok x) (Ok y) same h = h
 on_ok P answer (Err f) same h = tt
-on_ok P (Err e) (Ok y) same h = let no : false ≡ true = same in absurd (cc)
+on_ok P (Err e) (Ok y) same h = let no = same in absurd (cc)
 
 -- what holds where the core refuses holds where the call refuses
 pub on_err : {X Y E F : Type 0} (P : Type 0) (answer : Result X E) (result : Result Y F) → is_ok answer ≡ is_ok result → OnErr answer P → OnErr result P
 on_err P (Err e) (Err f) same h = h
 on_err P answer (Ok y) same h = tt
-on_err P (Ok x) (Err f) same h = let no : true ≡ false = same in absurd (cc)
+on_err P (Ok x) (Err f) same h = let no = same in absurd (cc)
 
 -- what is lent is the plaintext under the next nonce
 pub lent_next : {X E F : Type 0} (is_next : List ℕ → Type 0) (plaintext : List ℕ → List ℕ) (front : List ℕ) (answer : Result X E)
@@ -43,4 +43,4 @@ pub lent_next : {X E F : Type 0} (is_next : List ℕ → Type 0) (plaintext : Li
     → IfOk result (λ lent. UnderNext is_next (λ next. lent.now ≡ plaintext next))
 lent_next is_next plaintext front (Ok x) (Ok lent) same value h = λ next given. value ∙ h next given
 lent_next is_next plaintext front answer (Err f) same value h = tt
-lent_next is_next plaintext front (Err e) (Ok lent) same value h = let no : false ≡ true = same in absurd (cc)
+lent_next is_next plaintext front (Err e) (Ok lent) same value h = let no = same in absurd (cc)

@@ -20,7 +20,7 @@ module _ (h : ℕ) (old : List ℕ) (room : h + 16 ≤ length old) where
   header_size = length-take-le h old (omega arith)
 
   message_size : length (packet_message h old) ≡ length old - 16 - h
-  message_size = length-take-le (length old - 16 - h) (drop h old) (omega (arith, length-drop h old))
+  message_size = length-take-le _ _ (omega (arith, length-drop h old))
 
   fits : Fits h (length old - 16 - h) → Fits (length (take h old)) (length (packet_message h old))
   fits it = rw (header_size, message_size) it
@@ -35,7 +35,7 @@ module _ (h : ℕ) (old : List ℕ) (room : h + 16 ≤ length old) where
     -- a sealing whose sequence refused
     pub packet_no_nonce : {X E : Type 0} (r : Result X E) → IsErr r → Closes (spent was.sequence) (spent now.sequence) (is_closed now.sequence)
         → Step (packet_body h old r) (is_ok r)
-    packet_no_nonce (Ok x) is closes = let no : false ≡ true = is in absurd (cc)
+    packet_no_nonce (Ok x) is closes = let no = is in absurd (cc)
     packet_no_nonce (Err x) is closes = no_nonce room closes refl
 
     -- a sealing that spent its nonce
@@ -43,9 +43,9 @@ module _ (h : ℕ) (old : List ℕ) (room : h + 16 ≤ length old) where
         → (IsOk r ↔ PacketFits h (length old)) → OnOk r (new ≡ sealed_packet was.key.bytes nonce h old) → OnErr r (new ≡ old)
         → Step (packet_body h new r) (is_ok r)
     packet_step nonce new (Ok x) spends accepted ok err =
-        let all : PacketFits h (length old) = accepted.0 refl in
+        let all = accepted.0 refl in
         sealed room nonce spends (fits all.lengths)
-        (ap (drop h) ok ∙ drop_at (take h old) (gcm_sealed (aes was.key.bytes) nonce (take h old) (packet_message h old)) h header_size)
+        (ap (drop h) ok ∙ drop_at _ _ h header_size)
     packet_step nonce new (Err e) spends accepted ok err =
-        too_long room nonce spends (λ it. let no : false ≡ true = accepted.1 (record { room = room; lengths = fits_back it }) in cc)
+        too_long room nonce spends (λ it. let no = accepted.1 (record { room = room; lengths = fits_back it }) in cc)
         (ap (packet_message h) err)

@@ -17,9 +17,9 @@ pub padded_is : (part : List ℕ) → length part ≤ 16 → part ++ drop (lengt
 unfolding padded_block
 padded_is part le =
     let n = length part in
-    let zeros : List ℕ = drop n (replicate 16 0) in
-    let many : length zeros ≡ 16 - n = length-drop n (replicate 16 0) in
-    fill_by_all (λ (j : ℕ). get_or part (16 * 0 + j) 0) (part ++ zeros) 16 0 (omega (arith, length-append part zeros))
+    let zeros : List ℕ = drop n _ in
+    let many : length zeros ≡ 16 - n = length-drop n _ in
+    fill_by_all (λ (j : ℕ). get_or part _ 0) _ 16 0 (omega (arith, length-append part zeros))
     (λ j lt.
     elim (cases_lt j n) [
       | inl below ↦ get_or_append_left part zeros 0 j below ∙ ap (λ (m : ℕ). get_or part m 0) (let r : j ≡ 16 * 0 + j = omega arith in r)
@@ -27,7 +27,7 @@ padded_is part le =
           get_or-append_right part zeros n j 0 refl past
           ∙ ap (λ (zs : List ℕ). get_or zs (j - n) 0) (drop-replicate n 16 0)
           ∙ get_or-replicate (16 - n) (j - n) 0 0 (omega arith)
-          ∙ sym (get_or_past part (16 * 0 + j) 0 (omega arith))
+          ∙ sym (get_or_past part _ 0 (omega arith))
     ])
 
 module _ (xs part rest : List ℕ) (cut : xs ≡ part ++ rest) (size : length part ≡ min 16 (length xs)) where
@@ -37,16 +37,16 @@ module _ (xs part rest : List ℕ) (cut : xs ≡ part ++ rest) (size : length pa
   first_block : padded_block xs 0 ≡ padded_block part 0
   unfolding padded_block
   first_block =
-      each-same 16 (λ j. get_or xs (16 * 0 + j) 0) (λ j. get_or part (16 * 0 + j) 0) (λ j lt.
-      elim (cases_lt (16 * 0 + j) (length part)) [
-        | inl below ↦ ap (λ ys. get_or ys (16 * 0 + j) 0) cut ∙ get_or_append_left part rest 0 (16 * 0 + j) below
+      each-same 16 (λ j. get_or xs _ 0) (λ j. get_or part _ 0) (λ j lt.
+      elim (cases_lt (16 * 0 + j) _) [
+        | inl below ↦ ap (λ ys. get_or ys (16 * 0 + j) 0) cut ∙ get_or_append_left part rest 0 _ below
         | inr past ↦ get_or_past xs (16 * 0 + j) 0 (omega (arith, all)) ∙ sym (get_or_past part (16 * 0 + j) 0 past)
       ])
 
   later_block : (i : ℕ) → i < (length rest + 15) / 16 → padded_block xs (1 + i) ≡ padded_block rest i
   unfolding padded_block
   later_block i within =
-      each-same 16 (λ j. get_or xs (16 * (1 + i) + j) 0) (λ j. get_or rest (16 * i + j) 0) (λ j lt.
+      each-same 16 (λ j. get_or xs _ 0) (λ j. get_or rest _ 0) (λ j lt.
       let here : 16 * (1 + i) + j ≡ length part + (16 * i + j) = omega (arith, all) in
       ap₂ (λ ys k. get_or ys k 0) cut here ∙ get_or-append-add part rest (16 * i + j) 0)
 
@@ -57,8 +57,8 @@ module _ (xs part rest : List ℕ) (cut : xs ≡ part ++ rest) (size : length pa
       let n = (length rest + 15) / 16 in
       let count : (length xs + 15) / 16 ≡ 1 + n = omega (arith, all) in
       ap (λ k. each_below k (padded_block xs)) count
-      ∙ each-append 1 n (padded_block xs)
-      ∙ ap₂ (λ b bs. b ∷ bs) first_block (each-same n (λ i. padded_block xs (1 + i)) (padded_block rest) later_block)
+      ∙ each-append 1 n _
+      ∙ ap₂ (λ b bs. b ∷ bs) first_block (each-same n (λ i. padded_block xs _) _ later_block)
 
 pub padded_blocks_none : (xs : List ℕ) → length xs ≡ 0 → padded_blocks xs ≡ []
 unfolding padded_blocks
@@ -73,12 +73,12 @@ two_halves xs ys zs lx lz =
 pub lengths_are : (a n : ℕ) (xs ys : List ℕ) → xs ≡ to_be_bytes w64 (8 * a) → ys ≡ to_be_bytes w64 (8 * n) →
     take 8 (xs ++ replicate 8 0) ++ (ys ++ drop 8 (drop 8 (xs ++ replicate 8 0))) ≡ length_block a n
 unfolding length_block
-lengths_are a n xs ys ex ey = two_halves xs ys (replicate 8 0) (ap length ex) refl ∙ ap₂ (λ u v. u ++ v) ex ey
+lengths_are a n xs ys ex ey = two_halves xs ys _ (ap length ex) refl ∙ ap₂ (λ u v. u ++ v) ex ey
 
 -- a whole block needs no padding
 whole_block : (xs : List ℕ) → length xs ≡ 16 → padded_block xs 0 ≡ xs
 whole_block xs e =
-    sym (padded_is xs (omega arith)) ∙ ap (λ u. xs ++ u) (drop_all (length xs) (replicate 16 0) (omega arith)) ∙ append-nil xs
+    sym (padded_is xs (omega arith)) ∙ ap (λ u. xs ++ u) (drop_all (length xs) _ (omega arith)) ∙ append-nil xs
 
 -- at most a block
 pub padded_blocks_short : (xs : List ℕ) → 0 < length xs → length xs ≤ 16 → padded_blocks xs ≡ padded_block xs 0 ∷ []
@@ -98,7 +98,7 @@ blocks-append (suc q) xs ys e =
     let size = length-take-le 16 xs le in
     let many = length-append xs ys in
     let cut = ap (λ u. u ++ ys) (sym (take-append-drop 16 xs)) ∙ append_assoc first rest ys in
-    padded_blocks-cons (xs ++ ys) first (rest ++ ys) cut (omega arith) (omega arith)
+    padded_blocks-cons _ first _ cut (omega arith) (omega arith)
     ∙ ap₂ (λ b bs. b ∷ bs) (whole_block first size) (blocks-append q rest ys (omega (arith, length-drop 16 xs)))
     ∙ ap (λ u. u ++ padded_blocks ys) (sym (blocks_cons 16 xs (omega arith) le))
 
@@ -108,4 +108,4 @@ padded_blocks-append q xs ys e =
     blocks-append q xs ys e
     ∙ ap (λ u. u ++ padded_blocks ys)
     (sym (ap padded_blocks (sym (append-nil xs)) ∙ blocks-append q xs [] e
-    ∙ ap (λ u. blocks 16 xs ++ u) (padded_blocks_none [] refl) ∙ append-nil (blocks 16 xs)))
+    ∙ ap (λ u. blocks 16 xs ++ u) (padded_blocks_none [] refl) ∙ append-nil _))

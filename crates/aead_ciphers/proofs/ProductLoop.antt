@@ -6,7 +6,7 @@ use Rattle.std.proofs.Math.Dec.{lit<}
 use Rattle.std.proofs.lemmas.Nat.{and_mask}
 use Rattle.std.proofs.lemmas.Nat.Bits.{bit_at_lowest, bit_at-lt}
 use Rattle.aead_ciphers_base.specs.Polynomial.{coefficient}
-use Rattle.aead_ciphers_base.proofs.PolynomialBits.{add, same_series, scale, shift}
+use Rattle.aead_ciphers_base.proofs.PolynomialBits.{add, same_series, same_steps, scale, shift}
 use Rattle.aead_ciphers_base.proofs.PolynomialAction.{mul_x}
 use Rattle.aead_ciphers_base.proofs.PolynomialLaws.{AllBelow, modulus, tap_bits, taps_above}
 use Rattle.aead_ciphers.specs.Ghash.{block_taps}
@@ -49,21 +49,17 @@ reduction_is = ap coefficient reduction_bits ∙ same_series go
         zeros_end 120 k ∙ sym (taps_above 8 block_taps past (lit< tt, (lit< tt, (lit< tt, (lit< tt, tt)))) (omega arith))
 
 shifted : (q : List Bool) → coefficient (false ∷ q) ≡ shift (coefficient q)
-shifted q = same_series go
-  where
-    go : (k : ℕ) → coefficient (false ∷ q) k ≡ shift (coefficient q) k
-    go zero = refl
-    go (suc k) = refl
+shifted q = same_steps _ _ refl (λ k. refl)
 
 -- the code's next multiple is x times the multiple
 pub multiple_is : (v : ℕ) → v < 2 ^ 128 → coefficients 128 (next_multiple v) ≡ mul_x 127 (modulus block_taps 128) (coefficients 128 v)
 multiple_is v below =
     let lowest = and_mask v 1 ∙ sym (bit_at_lowest v) in
     let q = bits_high_first 127 (v / 2) in
-    coefficients-xor 128 (v / 2) _
+    coefficients-xor 128 _ _
     ∙ ap₂ add
     (ap coefficient (bits-half 127 v below) ∙ shifted q)
-    (coefficients-masked 128 128 reduction (bit_and v 1) (subst (λ x. x < 2) (sym lowest) (bit_at-lt v 0)) (lit< tt)
+    (coefficients-masked 128 128 reduction _ (subst (λ x. x < 2) (sym lowest) (bit_at-lt v 0)) (lit< tt)
     ∙ ap₂ (λ x s. scale (x == 1) s) lowest reduction_is)
-    ∙ sym (mul_x-push 127 block_taps block_low q (bit_at v 0 == 1) (length-bits 127 (v / 2)))
+    ∙ sym (mul_x-push 127 block_taps block_low q (bit_at v 0 == 1) (length-bits 127 _))
     ∙ ap (λ p. mul_x 127 (modulus block_taps 128) (coefficient p)) (sym (bits-push 127 v))

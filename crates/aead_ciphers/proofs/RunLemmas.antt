@@ -20,13 +20,13 @@ module _ {K J : Type 0} (Step : K → K → J → J → Type 0) where
       → Runs Step k n (take (i + 1) olds) (take (i + 1) (set news i y)) × AllZip R (take (i + 1) olds) (take (i + 1) (set news i y))
       × (drop (i + 1) (set news i y) ≡ drop (i + 1) olds)
   Runs-next R k m n olds news i x y lo ln r each rest here s related =
-      let there : get_or olds i x ≡ x =
+      let there =
       ap (λ j. get_or olds j x) (sym (add-zero i)) ∙ sym (get_or-drop i olds 0 x) ∙ ap (λ l. get_or l 0 x) (sym rest)
       ∙ get_or-drop i news 0 x ∙ ap (λ j. get_or news j x) (add-zero i) ∙ sym here in
-      let front : take (i + 1) olds ≡ take i olds ++ x ∷ [] = take_more olds i x lo ∙ ap (λ z. take i olds ++ z ∷ []) there in
+      let front = take_more olds i x lo ∙ ap (λ z. take i olds ++ z ∷ []) there in
       let cut : (l : List J) → i < length l → drop (i + 1) l ≡ drop 1 (drop i l) =
       λ l h. ap (λ j. drop j l) (add-one i) ∙ sym (ap (drop 1) (drop-cons l i x h)) in (
-        rw (front, take_more_set news i y ln) (Runs-more k m n (take i olds) (take i news) x y r s),
-        rw (front, take_more_set news i y ln) (AllZip-push R (take i olds) (take i news) x y each related),
-        drop-set-lt (i + 1) news i y (omega arith) ∙ cut news ln ∙ ap (drop 1) rest ∙ sym (cut olds lo),
+        rw (front, take_more_set news i y ln) (Runs-more k m n _ _ x y r s),
+        rw (front, take_more_set news i y ln) (AllZip-push R _ _ x y each related),
+        drop-set-lt _ news i y (omega arith) ∙ cut news ln ∙ ap (drop 1) rest ∙ sym (cut olds lo),
       )

@@ -12,23 +12,23 @@ pub grown_less : (xs : List ℕ) → length (xs ++ replicate 16 0) - 16 ≡ leng
 grown_less xs = omega (arith, length-append xs (replicate 16 0))
 
 pub grown_more : (xs : List ℕ) → length (xs ++ replicate 16 0) ≡ length xs + 16
-grown_more xs = length-append xs (replicate 16 0)
+grown_more xs = length-append xs _
 
 pub grown_front : (xs : List ℕ) → take (length (xs ++ replicate 16 0) - 16) (xs ++ replicate 16 0) ≡ xs
-grown_front xs = rw (grown_less xs) (take-append_seam xs (replicate 16 0))
+grown_front xs = rw (grown_less xs) (take-append_seam xs _)
 
 module _ {N : Type 0} (spent : N → List (List ℕ)) (is_closed : N → Bool) (refuse grant : Type 0) (was : BoundState N) (aad old : List ℕ) where
   -- a sealing that found no room
   pub no_room_step : {X E : Type 0} (new : List ℕ) (r : Result X E) → IsErr r → refuse → new ≡ old
       → SealStep spent is_closed refuse grant was was aad old new (is_ok r)
-  no_room_step new (Ok x) is h e = let no : false ≡ true = is in absurd (cc)
+  no_room_step new (Ok x) is h e = let no = is in absurd (cc)
   no_room_step new (Err x) is h e = no_room h refl e
 
   -- a sealing whose sequence refused, where the tag stands apart
   pub no_nonce_separate : {E : Type 0} (now : BoundState N) (new : List ℕ) (r : Result (List ℕ) E) → IsErr r → grant
       → Closes (spent was.sequence) (spent now.sequence) (is_closed now.sequence) → new ≡ old
       → SealStep spent is_closed refuse grant was now aad old (with_tag new r) (is_ok r)
-  no_nonce_separate now new (Ok x) is g closes e = let no : false ≡ true = is in absurd (cc)
+  no_nonce_separate now new (Ok x) is g closes e = let no = is in absurd (cc)
   no_nonce_separate now new (Err x) is g closes e = no_nonce g closes e
 
   -- a sealing that spent its nonce
@@ -37,7 +37,7 @@ module _ {N : Type 0} (spent : N → List (List ℕ)) (is_closed : N → Bool) (
       → SealStep spent is_closed refuse grant was now aad old new (is_ok r)
   spent_step now nonce new (Ok x) g spends accepted ok err = sealed g nonce spends (accepted.0 refl) ok
   spent_step now nonce new (Err e) g spends accepted ok err =
-      too_long g nonce spends (λ fits. let no : false ≡ true = accepted.1 fits in cc) err
+      too_long g nonce spends (λ fits. let no = accepted.1 fits in cc) err
 
   -- the same where the tag stands apart
   pub separate_step : {E : Type 0} (now : BoundState N) (nonce new : List ℕ) (r : Result (List ℕ) E) → grant → Spends spent is_closed was now nonce
@@ -47,4 +47,4 @@ module _ {N : Type 0} (spent : N → List (List ℕ)) (is_closed : N → Bool) (
   separate_step now nonce new (Ok tag) g spends accepted ok tagged err =
       sealed g nonce spends (accepted.0 refl) (rw (tagged, ok) refl)
   separate_step now nonce new (Err e) g spends accepted ok tagged err =
-      too_long g nonce spends (λ fits. let no : false ≡ true = accepted.1 fits in cc) err
+      too_long g nonce spends (λ fits. let no = accepted.1 fits in cc) err

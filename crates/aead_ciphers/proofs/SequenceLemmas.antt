@@ -22,8 +22,8 @@ not_among : (f : ℕ → List ℕ) (x : List ℕ) (m : ℕ) → ((k : ℕ) → k
 not_among f x zero h (i, lt, e) = absurd (omega arith)
 not_among f x (suc m) h c =
     let step : suc m ≡ m + 1 = omega arith in
-    let split : each_below (suc m) f ≡ each_below m f ++ f m ∷ [] = ap (λ (n : ℕ). each_below n f) step ∙ each_more m f in
-    elim (Contains-append_cases (each_below m f) (f m ∷ []) x (subst (λ (l : List (List ℕ)). Contains l x) split c)) [
+    let split = ap (λ (n : ℕ). each_below n f) step ∙ each_more m f in
+    elim (Contains-append_cases (each_below m f) _ x (subst (λ (l : List (List ℕ)). Contains l x) split c)) [
       | inl was ↦ not_among f x m (λ k lt. h k (omega arith)) was
       | inr now ↦ h m (omega arith) (in_one _ _ now)
     ]
@@ -31,22 +31,22 @@ not_among f x (suc m) h c =
 pub spent_nonces-next : (nonce : List ℕ → ℕ → List ℕ) (s : Counting)
     → spent_nonces nonce (record s { used = s.used + 1 }) ≡ spent_nonces nonce s ++ next_nonce nonce s ∷ []
 unfolding spent_nonces
-spent_nonces-next nonce s = each_more s.used (λ k. nonce s.fixed (s.first + k))
+spent_nonces-next nonce s = each_more s.used (λ k. nonce s.fixed _)
 
 -- the next nonce isn't spent, where a nonce gives its number back
 fresh_nonce : (nonce : List ℕ → ℕ → List ℕ) (number : List ℕ → List ℕ) (s : Counting) → ((n : ℕ) → number (nonce s.fixed n) ≡ to_be_bytes w64 n)
     → s.first + s.used < 2 ^ 64 → ¬ Contains (spent_nonces nonce s) (next_nonce nonce s)
 unfolding spent_nonces
 fresh_nonce nonce number s reads h = not_among (λ k. nonce s.fixed (s.first + k)) (next_nonce nonce s) s.used (λ k lt e.
-    let same : s.first + k ≡ s.first + s.used =
-    sym (ap (from_be_bytes w64) (reads (s.first + k)) ∙ from_be_bytes-to_be_bytes_8 (s.first + k) (omega arith))
+    let same =
+    sym (ap (from_be_bytes w64) (reads (s.first + k)) ∙ from_be_bytes-to_be_bytes_8 _ (omega arith))
     ∙ ap (λ (x : List ℕ). from_be_bytes w64 (number x)) e
-    ∙ ap (from_be_bytes w64) (reads (s.first + s.used)) ∙ from_be_bytes-to_be_bytes_8 (s.first + s.used) h in
+    ∙ ap (from_be_bytes w64) (reads (s.first + s.used)) ∙ from_be_bytes-to_be_bytes_8 _ h in
     absurd (omega arith))
 
 pub fresh_prefixed : (s : Counting) → s.first + s.used < 2 ^ 64 → ¬ Contains (spent_nonces prefixed_nonce s) (next_nonce prefixed_nonce s)
 unfolding prefixed_nonce
-fresh_prefixed s = fresh_nonce prefixed_nonce (drop (length s.fixed)) s (λ n. drop_at s.fixed (to_be_bytes w64 n) (length s.fixed) refl)
+fresh_prefixed s = fresh_nonce prefixed_nonce (drop (length s.fixed)) s (λ n. drop_at s.fixed _ _ refl)
 
 pub fresh_xored : (s : Counting) → length s.fixed ≡ 12 → s.first + s.used < 2 ^ 64 → ¬ Contains (spent_nonces xored_nonce s) (next_nonce xored_nonce s)
 unfolding xored_nonce
@@ -58,11 +58,7 @@ pub over_zeros : (prefix number : List ℕ) (n : ℕ) → length prefix ≡ 4 �
     → put_mid 4 8 (prefix ++ (0 ∷ 0 ∷ 0 ∷ 0 ∷ 0 ∷ 0 ∷ 0 ∷ 0 ∷ [])) number ≡ prefixed_nonce prefix n
 unfolding prefixed_nonce
 over_zeros (a ∷ b ∷ c ∷ d ∷ []) number n l e = ap (λ t. a ∷ b ∷ c ∷ d ∷ t) (append-nil number ∙ e)
-over_zeros [] number n l e = absurd (omega arith)
-over_zeros (a ∷ []) number n l e = absurd (omega arith)
-over_zeros (a ∷ b ∷ []) number n l e = absurd (omega arith)
-over_zeros (a ∷ b ∷ c ∷ []) number n l e = absurd (omega arith)
-over_zeros (a ∷ b ∷ c ∷ d ∷ x ∷ xs) number n l e = absurd (omega arith)
+over_zeros _ number n l e = absurd (omega arith)
 
 -- four zeros and eight bytes, XORed with the IV in place
 pub over_padded : (number iv : List ℕ) (n : ℕ) → number ≡ to_be_bytes w64 n → length number ≡ 8 → length iv ≡ 12
@@ -70,4 +66,4 @@ pub over_padded : (number iv : List ℕ) (n : ℕ) → number ≡ to_be_bytes w6
 unfolding xored_nonce
 over_padded number iv n e l m =
     let long : length (0 ∷ 0 ∷ 0 ∷ 0 ∷ number) ≤ length iv = omega (arith, l, m) in
-    rw (append-nil number, drop_all (length iv) (0 ∷ 0 ∷ 0 ∷ 0 ∷ number) long, append-nil ((0 ∷ 0 ∷ 0 ∷ 0 ∷ number) ⊕ iv), e) refl
+    rw (append-nil number, drop_all _ _ long, append-nil _, e) refl

@@ -32,7 +32,7 @@ times_monomial top m (suc k) n f = ap (mul_x top m) (times_monomial top m k n f)
 
 length-monomial : (k : ℕ) → k < 128 → length (replicate k false ++ true ∷ replicate (127 - k) false) ≡ 128
 length-monomial k within =
-    length-append (replicate k false) (true ∷ replicate (127 - k) false)
+    length-append _ _
     ∙ ap₂ (λ m n. m + suc n) (length-replicate k false) (length-replicate (127 - k) false)
     ∙ omega arith
 
@@ -40,7 +40,7 @@ series-monomial : (k : ℕ) (h : List ℕ) → k < 128 → length h ≡ 16 → s
 unfolding block_of
 series-monomial k h within size =
     let bits = replicate k false ++ true ∷ replicate (127 - k) false in
-    series-product (monomial_block k) h (IsBlock-number (value_of (reverse bits))).size size
+    series-product _ h (IsBlock-number (value_of (reverse bits))).size size
     ∙ ap (λ p. times 127 (modulus block_taps 128) p (series h)) (block_bits_of-block bits (length-monomial k within))
     ∙ times_monomial 127 (modulus block_taps 128) k (127 - k) (series h)
 
@@ -66,25 +66,25 @@ pub multiples_more : (h k v : ℕ) (old new : ℕ → ℕ) → IsMultiple h k v 
     ((j : ℕ) → j < k → IsMultiple h j (old j)) →
     (j : ℕ) → j < k + 1 → IsMultiple h j (new j)
 multiples_more h k v old new here is kept before =
-    below_more (λ (j : ℕ). IsMultiple h j (new j)) k
+    below_more (λ (j : ℕ). IsMultiple h j _) k
     (λ j below. subst (IsMultiple h j) (sym (kept j below)) (before j below))
     (subst (IsMultiple h k) (sym is) here)
 
 pub first_multiple : (h v : ℕ) → h < 2 ^ 128 → IsMultiple h 0 v → v ≡ h
 first_multiple h v below at =
     sym (number_of_bits v at.fits)
-    ∙ ap number (same_coefficients (bits_high_first 128 v) (bits_high_first 128 h) (length-bits 128 v ∙ sym (length-bits 128 h)) at.raised)
+    ∙ ap number (same_coefficients (bits_high_first 128 v) _ (length-bits 128 v ∙ sym (length-bits 128 h)) at.raised)
     ∙ number_of_bits h below
 
 pub block_of-multiple : (h k v : ℕ) → k < 128 → IsMultiple h k v → to_be_bytes w128 v ≡ monomial_block k • to_be_bytes w128 h
 block_of-multiple h k v within at =
     let is_h = IsBlock-number h in
-    same_from_series (to_be_bytes w128 v) (monomial_block k • to_be_bytes w128 h) (IsBlock-number v) (IsBlock-product (monomial_block k) (to_be_bytes w128 h))
-    (series-number v ∙ at.raised ∙ ap (raised k) (sym (series-number h)) ∙ sym (series-monomial k (to_be_bytes w128 h) within is_h.size))
+    same_from_series _ _ (IsBlock-number v) (IsBlock-product (monomial_block k) _)
+    (series-number v ∙ at.raised ∙ ap (raised k) (sym (series-number h)) ∙ sym (series-monomial k _ within is_h.size))
 
 pub raised_of-block : (h k v : ℕ) → k < 128 → to_be_bytes w128 v ≡ monomial_block k • to_be_bytes w128 h → IsRaised h k v
 raised_of-block h k v within e =
-    sym (series-number v) ∙ ap series e ∙ series-monomial k (to_be_bytes w128 h) within (IsBlock-number h).size ∙ ap (raised k) (series-number h)
+    sym (series-number v) ∙ ap series e ∙ series-monomial k _ within (IsBlock-number h).size ∙ ap (raised k) (series-number h)
 
 -- ---- the bits of a, shifted to the left
 
@@ -93,36 +93,36 @@ bit_of-modulo n top =
     let e : suc top ≡ 1 + top = omega arith in
     ap (λ w. n % 2 ^ w / 2 ^ top) e
     ∙ ap (λ m. m / 2 ^ top) (mod-pow-add n 1 top)
-    ∙ div-mul-add (bit_at n top) (2 ^ top) (n % 2 ^ top) (mod_below n (2 ^ top) (pow_pos top))
+    ∙ div-mul-add _ _ (n % 2 ^ top) (mod_below n _ (pow_pos top))
 
 top_bit : (a top turn : ℕ) → turn ≤ top → a * 2 ^ turn % 2 ^ suc top / 2 ^ top ≡ bit_at a (top - turn)
 top_bit a top turn within =
     let e : a * 2 ^ turn ≡ a * 2 ^ turn + 0 = omega arith in
-    bit_of-modulo (a * 2 ^ turn) top ∙ ap (λ n. bit_at n top) e ∙ bit_at_cat_high a turn 0 top (pow_pos turn) within
+    bit_of-modulo _ top ∙ ap (λ n. bit_at n top) e ∙ bit_at_cat_high a turn 0 top (pow_pos turn) within
 
 shifted_next : (a width turn : ℕ) → a * 2 ^ turn % 2 ^ width * 2 % 2 ^ width ≡ a * 2 ^ (turn + 1) % 2 ^ width
 shifted_next a width turn =
     let e : a * 2 ^ turn * 2 ≡ a * (2 ^ turn * 2) = omega arith in
     let s : suc turn ≡ turn + 1 = omega arith in
-    mul-mod_first (a * 2 ^ turn) 2 (2 ^ width)
+    mul-mod_first _ 2 _
     ∙ ap (λ n. n % 2 ^ width) (e ∙ ap (λ n. a * n) (sym (pow-suc 2 turn) ∙ ap (λ n. 2 ^ n) s))
 
 coefficient-bits : (n a k : ℕ) → k < n → coefficient (bits_high_first n a) k ≡ (bit_at a (n - 1 - k) == 1)
 unfolding bits_high_first
-coefficient-bits zero a k within = absurd (omega arith)
 coefficient-bits (suc n) a zero within = let e : n ≡ suc n - 1 - 0 = omega arith in ap (λ i. bit_at a i == 1) e
 coefficient-bits (suc n) a (suc k) within =
     let e : n - 1 - k ≡ suc n - 1 - suc k = omega arith in
     coefficient-bits n a k (omega arith) ∙ ap (λ i. bit_at a i == 1) e
+coefficient-bits _ a k within = absurd (omega arith)
 
 -- bit 31 - i of word j
 word_bit : (a j i : ℕ) → j < 4 → i < 32 → bit_at (a / 2 ^ (96 - 32 * j) % 2 ^ 32) (31 - i) ≡ bit_at a (127 - (32 * j + i))
 word_bit a j i within inner =
     let n = a / 2 ^ (96 - 32 * j) in
     let e : 96 - 32 * j + (31 - i) ≡ 127 - (32 * j + i) = omega arith in
-    sym (bit_at_cat_low (n / 2 ^ 32) 32 (n % 2 ^ 32) (31 - i) (omega arith))
-    ∙ ap (λ x. bit_at x (31 - i)) (div-add-mod' n (2 ^ 32))
-    ∙ ap (λ x. x % 2) (shr-shr a (96 - 32 * j) (31 - i))
+    sym (bit_at_cat_low (n / 2 ^ 32) 32 _ _ (omega arith))
+    ∙ ap (λ x. bit_at x (31 - i)) (div-add-mod' n _)
+    ∙ ap (λ x. x % 2) (shr-shr a _ _)
     ∙ ap (bit_at a) e
 
 -- ---- the loop of `product`
@@ -144,11 +144,11 @@ part-stretch : (a h from count : ℕ) → part a h (from + count) ≡ add (part 
 part-stretch a h from zero = let e : from + 0 ≡ from = omega arith in ap (part a h) e ∙ sym (add_none (part a h from))
 part-stretch a h from (suc count) =
     let e : from + suc count ≡ suc (from + count) = omega arith in
-    let more = scale (coefficients 128 a (from + count)) (raised (from + count) (coefficients 128 h)) in
+    let more = scale (coefficients 128 a _) (raised (from + count) _) in
     ap (part a h) e
     ∙ horner_push 127 (modulus block_taps 128) (from + count) (coefficients 128 a) (coefficients 128 h)
     ∙ ap (λ s. add s more) (part-stretch a h from count)
-    ∙ add_assoc (part a h from) (stretch (coefficients 128 a) (coefficients 128 h) from count) more
+    ∙ add_assoc (part a h from) (stretch (coefficients 128 a) _ from count) more
 
 coefficients-chosen : (b : Bool) (s v : ℕ) → coefficients 128 (if b then bit_xor s v else s) ≡ add (coefficients 128 s) (scale b (coefficients 128 v))
 coefficients-chosen false s v = sym (add_none (coefficients 128 s))
@@ -162,13 +162,13 @@ pub stretch_next : (a h j i bits sum v : ℕ) → j < 4 → i < 32 → bits ≡ 
     IsStretch a h (32 * j) i sum → IsStretch a h (32 * j) (i + 1) (if bits / 2 ^ 31 == 1 then bit_xor sum v else sum)
 stretch_next a h j i bits sum v within inner left is_v at =
     let bit =
-    ap (λ n. n / 2 ^ 31) left ∙ top_bit (a / 2 ^ (96 - 32 * j) % 2 ^ 32) 31 i (omega arith) ∙ word_bit a j i within inner in
+    ap (λ n. n / 2 ^ 31) left ∙ top_bit _ 31 i (omega arith) ∙ word_bit a j i within inner in
     let chosen =
-    ap (λ x. x == 1) bit ∙ sym (coefficient-bits 128 a (32 * j + i) (omega arith)) in
+    ap (λ x. x == 1) bit ∙ sym (coefficient-bits 128 a _ (omega arith)) in
     let s : suc i ≡ i + 1 = omega arith in
-    coefficients-chosen (bits / 2 ^ 31 == 1) sum v
+    coefficients-chosen _ sum v
     ∙ ap₂ add at (ap₂ (λ b f. scale b f) chosen is_v)
-    ∙ ap (stretch (coefficients 128 a) (coefficients 128 h) (32 * j)) s
+    ∙ ap (stretch (coefficients 128 a) _ _) s
 
 -- a word moved to the left by one more
 pub bits_next : (word i bits next : ℕ) → bits ≡ word * 2 ^ i % 2 ^ 32 → next ≡ (bits + bits) % 2 ^ 32 → next ≡ word * 2 ^ (i + 1) % 2 ^ 32
@@ -191,6 +191,6 @@ product_end a h first second third fourth n below is one two three four =
     let whole = word_more a h 96 _ fourth (word_more a h 64 _ third (word_more a h 32 _ second (word_more a h 0 0 first none_yet one) two) three) four in
     product_of_numbers a h n below
     (same_coefficients _ _
-    (length-bits 128 n ∙ sym (length-field_product block_taps 127 block_low (bits_high_first 128 a) (bits_high_first 128 h) la lh))
+    (length-bits 128 n ∙ sym (length-field_product block_taps 127 block_low _ _ la lh))
     (ap (coefficients 128) is ∙ whole ∙ ap (part a h) (sym la)
-    ∙ sym (field_product_is block_taps 127 block_low (bits_high_first 128 a) (bits_high_first 128 h) la lh)))
+    ∙ sym (field_product_is block_taps 127 block_low _ _ la lh)))

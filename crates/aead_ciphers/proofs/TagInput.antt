@@ -24,21 +24,21 @@ IsBlock-padded xs i h =
 
 pub length-padded_blocks : (xs : List ℕ) → length (padded_blocks xs) ≡ (length xs + 15) / 16
 unfolding padded_blocks
-length-padded_blocks xs = length-each ((length xs + 15) / 16) (padded_block xs)
+length-padded_blocks xs = length-each _ _
 
 Blocks-padded : (xs : List ℕ) → Bytes xs → Blocks (padded_blocks xs)
 unfolding padded_blocks
 Blocks-padded xs h =
     let n = (length xs + 15) / 16 in
-    let blocks = each_below n (padded_block xs) in
+    let blocks = each_below n _ in
     recursion_from_All IsBlock blocks (All-from_get_or IsBlock blocks [] (λ i below.
-    subst IsBlock (sym (get_or-each n (padded_block xs) i [] (omega (arith, length-padded_blocks xs)))) (IsBlock-padded xs i h)))
+    subst IsBlock (sym (get_or-each n _ i [] (omega (arith, length-padded_blocks xs)))) (IsBlock-padded xs i h)))
 
 IsBlock-lengths : (a n : ℕ) → IsBlock (length_block a n)
 unfolding length_block
 IsBlock-lengths a n = record {
   size = refl;
-  bytes = All-append (λ x. x < 256) (to_be_bytes w64 (8 * a)) (to_be_bytes w64 (8 * n)) (bytes-below 8 (8 * a)) (bytes-below 8 (8 * n));
+  bytes = All-append (λ x. x < 256) (to_be_bytes w64 _) (to_be_bytes w64 _) (bytes-below 8 _) (bytes-below 8 _);
 }
 
 pub Blocks-hashed : (a c : List ℕ) → Bytes a → Bytes c → Blocks (hashed a c)
@@ -46,7 +46,7 @@ unfolding hashed
 Blocks-hashed a c ha hc =
     let xs = padded_blocks a in
     let ys = padded_blocks c in
-    Each-append IsBlock (xs ++ ys) (length_block (length a) (length c) ∷ [])
+    Each-append IsBlock _ _
     (Each-append IsBlock xs ys (Blocks-padded a ha) (Blocks-padded c hc)) (IsBlock-lengths (length a) (length c), tt)
 
 pub count_hashed : (a c : List ℕ) → length (hashed a c) ≡ sealing_products (length a) (length c)
@@ -54,5 +54,5 @@ unfolding hashed
 count_hashed a c =
     let xs = padded_blocks a in
     let ys = padded_blocks c in
-    length-append (xs ++ ys) (length_block (length a) (length c) ∷ [])
+    length-append _ _
     ∙ ap (λ n. n + 1) (length-append xs ys ∙ ap₂ ◌+◌ (length-padded_blocks a) (length-padded_blocks c))

@@ -1,10 +1,10 @@
 -- Lemmas on the blocks of a list.
 use Rattle.std.proofs.Common.{arith, refl, sym, subst, ap, ◌∙◌, ◌≡◌, ℕ, zero, suc, ◌+◌, ◌-◌, ◌*◌, ◌/◌, ◌%◌, ◌<◌, ◌≤◌, List, [], ◌∷◌, length, take, drop}
 use Rattle.std.proofs.Common.{get_or, add-one, length-drop, min, max, zero-add, inl, inr, Option, None, Some, MatchOption, MutBor, ◌++◌, length-append}
-use Rattle.std.proofs.lemmas.List.{take-append-drop, drop-drop, drop-take, length-take-le, take-take}
+use Rattle.std.proofs.lemmas.List.{take-append-drop, drop-drop, drop-take, length-take-le, take-take, take_all}
 use Rattle.std.proofs.lemmas.Bool.{cases_lt}
 use Rattle.std.proofs.Math.Nat.{mod_self, mod-add-div', mul-mod_left, add-div_right, div-eq_of_lt, div-zero, div-mul-le_self, suc-mul, mul-div_cancel}
-use Rattle.std.proofs.Math.Nat.{mul-le-mul_right, add_comm, add-mul-mod_self_right, zero-div, mod-zero, zero-mod}
+use Rattle.std.proofs.Math.Nat.{mul-le-mul_right, add_comm, add-mul-mod_self_right, mod-zero, zero-mod}
 use Rattle.std.proofs.Math.Seq.{take-length}
 use Rattle.std.specs.Simd.{first_chunks}
 use Rattle.aead_ciphers_base.specs.Blocks.{blocks, joined}
@@ -20,81 +20,65 @@ blocks_short n xs short = ap (λ k. first_chunks n k xs) (div-eq_of_lt short)
 one_less : (n k : ℕ) → 0 < n → n ≤ k → k / n ≡ suc ((k - n) / n)
 one_less n k some fits =
     let e : k ≡ k - n + n = omega arith in
-    let d : (k - n + n) / n ≡ (k - n) / n + 1 = add-div_right (k - n) some in
-    ap (λ m. m / n) e ∙ d ∙ add-one ((k - n) / n)
+    let d = add-div_right _ some in
+    ap (λ m. m / n) e ∙ d ∙ add-one _
 
 pub blocks_cons : {T : Type 0} (n : ℕ) (xs : List T) → 0 < n → n ≤ length xs → blocks n xs ≡ take n xs ∷ blocks n (drop n xs)
 unfolding blocks
 blocks_cons n xs some fits =
-    ap (λ k. first_chunks n k xs) (one_less n (length xs) some fits ∙ ap (λ k. suc (k / n)) (sym (length-drop n xs)))
+    ap (λ k. first_chunks n k xs) (one_less n _ some fits ∙ ap (λ k. suc (k / n)) (sym (length-drop n xs)))
 
 length-first_chunks : {T : Type 0} (n k : ℕ) (xs : List T) → length (first_chunks n k xs) ≡ k
 length-first_chunks n zero xs = refl
-length-first_chunks n (suc k) xs = ap suc (length-first_chunks n k (drop n xs))
+length-first_chunks n (suc k) xs = ap suc (length-first_chunks n k _)
 
 pub length_blocks : {T : Type 0} (n : ℕ) (xs : List T) → length (blocks n xs) ≡ length xs / n
 unfolding blocks
-length_blocks n xs = length-first_chunks n (length xs / n) xs
+length_blocks n xs = length-first_chunks n _ xs
 
 first_chunks-take : {T : Type 0} (n k m : ℕ) (xs : List T) → k * n ≤ m → first_chunks n k (take m xs) ≡ first_chunks n k xs
 first_chunks-take n zero m xs h = refl
 first_chunks-take n (suc k) m xs h =
-    let more : k * n + n ≤ m = subst (λ (x : ℕ). x ≤ m) (suc-mul k n) h in
+    let more = subst (λ (x : ℕ). x ≤ m) (suc-mul k n) h in
     let e : n + (m - n) ≡ m = omega arith in
-    let front : take n (take m xs) ≡ take n xs = take-take n m xs (omega arith) in
-    let back : drop n (take m xs) ≡ take (m - n) (drop n xs) = ap (λ (x : ℕ). drop n (take x xs)) (sym e) ∙ drop-take n (m - n) xs in
-    let tail : first_chunks n k (take (m - n) (drop n xs)) ≡ first_chunks n k (drop n xs) = first_chunks-take n k (m - n) (drop n xs) (omega arith) in
+    let front = take-take n m xs (omega arith) in
+    let back = ap (λ (x : ℕ). drop n (take x xs)) (sym e) ∙ drop-take n (m - n) xs in
+    let tail = first_chunks-take n k (m - n) (drop n xs) (omega arith) in
     rw (front, back, tail)
-
-count_kept : (n k m : ℕ) → m ≡ k / n * n → m / n ≡ k / n
-count_kept zero k m e = div-zero m ∙ sym (div-zero k)
-count_kept (suc n) k m e = ap (λ x. x / suc n) e ∙ mul-div_cancel (k / suc n) (omega arith)
-
-pub blocks_take : {T : Type 0} (n : ℕ) (xs : List T) → blocks n (take (length xs / n * n) xs) ≡ blocks n xs
-unfolding blocks
-blocks_take n xs =
-    let within : length xs / n * n ≤ length xs = div-mul-le_self (length xs) n in
-    let count : length (take (length xs / n * n) xs) / n ≡ length xs / n = count_kept n (length xs) (length (take (length xs / n * n) xs))
-    (length-take-le (length xs / n * n) xs within) in
-    ap (λ k. first_chunks n k (take (length xs / n * n) xs)) count ∙ first_chunks-take n (length xs / n) (length xs / n * n) xs (omega arith)
 
 pub blocks_one : {T : Type 0} (n : ℕ) (xs : List T) → 0 < n → length xs ≡ n → blocks n xs ≡ xs ∷ []
 blocks_one n xs some e =
-    let rest : blocks n (drop n xs) ≡ [] = blocks_short n (drop n xs) (omega (arith, length-drop n xs)) in
-    let whole : take n xs ≡ xs = ap (λ k. take k xs) (sym e) ∙ take-length xs in
+    let rest = blocks_short n (drop n xs) (omega (arith, length-drop n xs)) in
+    let whole = ap (λ k. take k xs) (sym e) ∙ take-length xs in
     blocks_cons n xs some (omega arith) ∙ rw (rest, whole)
 
 first_chunks-at : {T : Type 0} (n k : ℕ) (xs : List T) (i : ℕ) (d : List T) → i < k → get_or (first_chunks n k xs) i d ≡ take n (drop (i * n) xs)
-first_chunks-at n zero xs i d h = absurd (omega arith)
 first_chunks-at n (suc k) xs zero d h = let e : 0 * n ≡ 0 = omega arith in rw e
 first_chunks-at n (suc k) xs (suc i) d h =
     let less : i < k = omega arith in
-    let at : drop (i * n) (drop n xs) ≡ drop (suc i * n) xs = drop-drop (i * n) n xs ∙ ap (λ x. drop x xs) (add_comm n (i * n) ∙ sym (suc-mul i n)) in
-    first_chunks-at n k (drop n xs) i d less ∙ ap (take n) at
+    let at = drop-drop _ n xs ∙ ap (λ x. drop x xs) (add_comm n _ ∙ sym (suc-mul i n)) in
+    first_chunks-at n k _ i d less ∙ ap (take n) at
+first_chunks-at n _ xs i d h = absurd (omega arith)
 
 pub blocks_at : {T : Type 0} (n : ℕ) (xs : List T) (i : ℕ) (d : List T) → i < length xs / n → get_or (blocks n xs) i d ≡ take n (drop (i * n) xs)
 unfolding blocks
-blocks_at n xs i d h = first_chunks-at n (length xs / n) xs i d h
+blocks_at n xs i d h = first_chunks-at n _ xs i d h
 
 -- block i lies within the list
 pub block_within : {T : Type 0} (n : ℕ) (xs : List T) (i : ℕ) → i < length xs / n → i * n + n ≤ length xs
-block_within n xs i h =
-    let up : suc i * n ≤ length xs / n * n = mul-le-mul_right n h in
-    let all : length xs / n * n ≤ length xs = div-mul-le_self (length xs) n in
-    let e : suc i * n ≡ i * n + n = suc-mul i n in
-    omega arith
+block_within n xs i h = omega (arith, mul-le-mul_right n h, div-mul-le_self (length xs) n, suc-mul i n)
 
 joined_first : {T : Type 0} (n k : ℕ) (xs : List T) → k * n ≡ length xs → joined (first_chunks n k xs) ≡ xs
 joined_first n zero [] e = refl
-joined_first n zero (x ∷ xs) e = let z : 0 * n ≡ 0 = omega arith in absurd (omega arith)
+joined_first n zero (x ∷ xs) e = absurd (omega arith)
 joined_first n (suc k) xs e =
-    let up : suc k * n ≡ k * n + n = suc-mul k n in
-    let rest : joined (first_chunks n k (drop n xs)) ≡ drop n xs = joined_first n k (drop n xs) (omega (arith, length-drop n xs)) in
+    let up = suc-mul k n in
+    let rest = joined_first n k (drop n xs) (omega (arith, length-drop n xs)) in
     rw (rest, take-append-drop) refl
 
 pub joined_blocks : {T : Type 0} (n : ℕ) (xs : List T) → length xs % n ≡ 0 → xs ≡ joined (blocks n xs)
 unfolding blocks
-joined_blocks n xs e = sym (joined_first n (length xs / n) xs (omega (arith, mod-add-div' (length xs) n)))
+joined_blocks n xs e = sym (joined_first n _ xs (omega (arith, mod-add-div' (length xs) n)))
 
 pub whole_blocks : {T : Type 0} (n : ℕ) (xs : List T) → length (take (length xs / n * n) xs) % n ≡ 0
 whole_blocks n xs = ap (λ k. k % n) (length-take-le (length xs / n * n) xs (div-mul-le_self (length xs) n)) ∙ mul-mod_left (length xs / n) n
@@ -106,9 +90,7 @@ whole_one n xs e = ap (λ k. k % n) e ∙ mod_self n
 pub blocks_fit : {T : Type 0} (n mid : ℕ) (xs : List T) → mid ≤ length (blocks n xs) → mid * n ≤ length xs
 blocks_fit n mid xs within =
     let few : mid ≤ length xs / n = omega (arith, length_blocks n xs) in
-    let up : mid * n ≤ length xs / n * n = mul-le-mul_right n few in
-    let all : length xs / n * n ≤ length xs = div-mul-le_self (length xs) n in
-    omega arith
+    omega (arith, mul-le-mul_right n few, div-mul-le_self (length xs) n)
 
 pub whole_front : {T : Type 0} (n mid : ℕ) (xs : List T) → mid * n ≤ length xs → length (take (mid * n) xs) % n ≡ 0
 whole_front n mid xs fits = ap (λ k. k % n) (length-take-le (mid * n) xs fits) ∙ mul-mod_left mid n
@@ -118,61 +100,62 @@ whole_back n mid xs fits whole =
     let all : length (drop (mid * n) xs) + mid * n ≡ length xs = omega (arith, length-drop (mid * n) xs) in
     sym (add-mul-mod_self_right (length (drop (mid * n) xs)) mid n) ∙ ap (λ k. k % n) all ∙ whole
 
--- where there is a block, it has items, and the list has them
-one_block : (n k len : ℕ) → suc k ≤ len / n → (0 < n) × (n ≤ len)
-one_block zero k len some = let none : len / 0 ≡ 0 = div-zero len in absurd (omega arith)
-one_block (suc n) k len some =
-    let up : suc k * suc n ≤ len / suc n * suc n = mul-le-mul_right (suc n) some in
-    let all : len / suc n * suc n ≤ len = div-mul-le_self len (suc n) in
-    let one : suc k * suc n ≡ k * suc n + suc n = suc-mul k (suc n) in
-    (omega arith, omega arith)
+take-first_chunks : {T : Type 0} (n m k : ℕ) (xs : List T) → m ≤ k → take m (first_chunks n k xs) ≡ first_chunks n m xs
+take-first_chunks n zero k xs h = refl
+take-first_chunks n (suc m) (suc k) xs h = ap (λ cs. take n xs ∷ cs) (take-first_chunks n m k _ (omega arith))
+take-first_chunks n _ _ xs h = absurd (omega arith)
+
+count_of : (n mid len : ℕ) → mid ≤ len / n → mid * n / n ≡ mid
+count_of zero mid len h = div-zero _ ∙ omega (arith, div-zero len)
+count_of (suc n) mid len h = mul-div_cancel mid (omega arith)
 
 -- the first `mid` blocks
 pub blocks_front : {T : Type 0} (n mid : ℕ) (xs : List T) → mid ≤ length (blocks n xs) → blocks n (take (mid * n) xs) ≡ take mid (blocks n xs)
 unfolding blocks
-blocks_front n zero xs within = let none : 0 * n ≡ 0 = omega arith in rw (none, zero-div) refl
-blocks_front n (suc mid) xs within =
-    let some : suc mid ≤ length xs / n = omega (arith, length_blocks n xs) in
-    let one = one_block n mid (length xs) some in
-    let cons : blocks n xs ≡ take n xs ∷ blocks n (drop n xs) = blocks_cons n xs one.0 one.1 in
-    let less : mid ≤ length (blocks n (drop n xs)) = omega (arith, ap length cons) in
-    let up : suc mid * n ≡ n + mid * n = suc-mul mid n ∙ add_comm (mid * n) n in
-    let long : length (take (suc mid * n) xs) ≡ suc mid * n = length-take-le (suc mid * n) xs (blocks_fit n (suc mid) xs within) in
-    let first : take n (take (suc mid * n) xs) ≡ take n xs = take-take n (suc mid * n) xs (omega arith) in
-    let rest : drop n (take (suc mid * n) xs) ≡ take (mid * n) (drop n xs) = ap (λ x. drop n (take x xs)) up ∙ drop-take n (mid * n) xs in
-    let front : blocks n (take (suc mid * n) xs) ≡ take n xs ∷ blocks n (take (mid * n) (drop n xs)) =
-    blocks_cons n (take (suc mid * n) xs) one.0 (omega arith) ∙ ap (λ x. x ∷ blocks n (drop n (take (suc mid * n) xs))) first
-    ∙ ap (λ x. take n xs ∷ blocks n x) rest in
-    let tail : blocks n (take (mid * n) (drop n xs)) ≡ take mid (blocks n (drop n xs)) = blocks_front n mid (drop n xs) less in
-    front ∙ ap (λ x. take n xs ∷ x) tail ∙ ap (take (suc mid)) (sym cons)
+blocks_front n mid xs within =
+    let few : mid ≤ length xs / n = omega (arith, length_blocks n xs) in
+    let count = ap (λ k. k / n) (length-take-le _ xs (blocks_fit n mid xs within)) ∙ count_of n mid _ few in
+    ap (λ k. first_chunks n k (take (mid * n) xs)) count ∙ first_chunks-take n mid _ xs (omega arith) ∙ sym (take-first_chunks n mid _ xs few)
+
+pub blocks_take : {T : Type 0} (n : ℕ) (xs : List T) → blocks n (take (length xs / n * n) xs) ≡ blocks n xs
+blocks_take n xs =
+    let size = length_blocks n xs in
+    blocks_front n _ xs (omega arith) ∙ take_all _ (blocks n xs) (omega arith)
+
+-- where there is a block, it has items, and the list has them
+one_block : (n k len : ℕ) → suc k ≤ len / n → (0 < n) × (n ≤ len)
+one_block zero k len some = absurd (omega (arith, div-zero len))
+one_block (suc n) k len some =
+    (omega arith, omega (arith, mul-le-mul_right (suc n) some, div-mul-le_self len (suc n), suc-mul k (suc n)))
 
 -- and those behind them
 pub blocks_back : {T : Type 0} (n mid : ℕ) (xs : List T) → mid ≤ length (blocks n xs) → blocks n (drop (mid * n) xs) ≡ drop mid (blocks n xs)
 blocks_back n zero xs within = let none : 0 * n ≡ 0 = omega arith in rw none refl
 blocks_back n (suc mid) xs within =
     let some : suc mid ≤ length xs / n = omega (arith, length_blocks n xs) in
-    let one = one_block n mid (length xs) some in
-    let cons : blocks n xs ≡ take n xs ∷ blocks n (drop n xs) = blocks_cons n xs one.0 one.1 in
+    let one = one_block n mid _ some in
+    let cons = blocks_cons n xs one.0 one.1 in
     let less : mid ≤ length (blocks n (drop n xs)) = omega (arith, ap length cons) in
-    let at : drop (suc mid * n) xs ≡ drop (mid * n) (drop n xs) = ap (λ x. drop x xs) (suc-mul mid n ∙ add_comm (mid * n) n) ∙ sym (drop-drop (mid * n) n xs) in
-    rw (at, cons) (blocks_back n mid (drop n xs) less)
+    let at = ap (λ x. drop x xs) (suc-mul mid n ∙ add_comm _ n) ∙ sym (drop-drop (mid * n) n xs) in
+    rw (at, cons) (blocks_back n mid _ less)
 
 -- the next part of at most `size` items is whole blocks, where `size` is and the items are
 pub whole_part : (n size len : ℕ) → (0 < n → size % n ≡ 0) → len % n ≡ 0 → min size len % n ≡ 0
 whole_part zero size len whole all = let none : min size len ≡ 0 = omega (arith, sym (mod-zero len) ∙ all) in ap (λ k. k % 0) none ∙ zero-mod 0
 whole_part (suc n) size len whole all =
-    let cut : size < len → min size len % suc n ≡ 0 = λ less. let e : min size len ≡ size = omega arith in ap (λ k. k % suc n) e ∙ whole (omega arith) in
-    let end : len ≤ size → min size len % suc n ≡ 0 = λ more. let e : min size len ≡ len = omega arith in ap (λ k. k % suc n) e ∙ all in
-    elim (cases_lt size len) [ inl less ↦ cut less | inr more ↦ end more ]
+    elim (cases_lt size len) [
+      | inl less ↦ let e : min size len ≡ size = omega arith in ap (λ k. k % suc n) e ∙ whole (omega arith)
+      | inr more ↦ let e : min size len ≡ len = omega arith in ap (λ k. k % suc n) e ∙ all
+    ]
 
 -- and so is what it leaves
 pub whole_rest : (n size len : ℕ) → (0 < n → size % n ≡ 0) → len % n ≡ 0 → (len - min size len) % n ≡ 0
 whole_rest n size len whole all =
-    let part : min size len % n ≡ 0 = whole_part n size len whole all in
+    let part = whole_part n size len whole all in
     let both : len - min size len + min size len ≡ len = omega arith in
-    let back : (len - min size len + min size len) % n ≡ (len - min size len) % n =
+    let back =
     ap (λ k. (len - min size len + k) % n) (sym (mod-add-div' (min size len) n) ∙ ap (λ k. k + min size len / n * n) part
-    ∙ zero-add (min size len / n * n)) ∙ add-mul-mod_self_right (len - min size len) (min size len / n) n in
+    ∙ zero-add _) ∙ add-mul-mod_self_right _ (min size len / n) n in
     sym back ∙ ap (λ k. k % n) both ∙ all
 
 -- what an iterator over such parts has left is whole blocks
@@ -182,11 +165,11 @@ pub whole_left : {T : Type 0} (n size : ℕ) (xs rest : List T) (r : Option (Mut
 whole_left n size xs rest None h whole all = ap (λ k. k % n) h.1 ∙ zero-mod n
 whole_left n size xs rest (Some x) h whole all =
     let left : length rest ≡ length xs - min size (length xs) = omega (arith, ap length h.0, length-append x.now rest) in
-    ap (λ k. k % n) left ∙ whole_rest n size (length xs) whole all
+    ap (λ k. k % n) left ∙ whole_rest n size _ whole all
 
 -- k blocks of n items are whole blocks, and at least one item
 pub whole_size : (k n : ℕ) → 0 < k → 0 < n → max (k * n) 1 % n ≡ 0
 whole_size k n some items =
-    let up : 1 * n ≤ k * n = mul-le-mul_right n some in
+    let up = mul-le-mul_right n some in
     let e : max (k * n) 1 ≡ k * n = omega arith in
     ap (λ m. m % n) e ∙ mul-mod_left k n

@@ -10,7 +10,7 @@ use Rattle.aead_ciphers_base.proofs.PolynomialSums.{polynomial_product-add_left,
 use Rattle.aead_ciphers_base.proofs.PolynomialSums.{length-reduced}
 use Rattle.aead_ciphers_base.proofs.AdditiveLemmas.{additive_after}
 use Rattle.aead_ciphers_base.proofs.NumberBits.{bits_of-xor, value_of-add, value_of-lt, IsAdditive, same_additive}
-use Rattle.aead_ciphers_base.proofs.NumberBits.{all_below, all_below_at, same_below, find_first}
+use Rattle.aead_ciphers_base.proofs.NumberBits.{all_below, same_below, same_in_table, find_first}
 
 -- `unfolding field` lets `refl` compute in the field
 unfoldable pub field : Unit {0}
@@ -21,10 +21,10 @@ abbrev taps : List ℕ
 taps = 0 ∷ 1 ∷ 3 ∷ 4 ∷ []
 
 length_long : (x y : ℕ) → length (polynomial_product (bits_of 8 x) (bits_of 8 y)) ≡ 15
-length_long x y = length-polynomial_product (bits_of 8 x) (bits_of 8 y)
+length_long x y = length-polynomial_product _ _
 
 length_short : (x y : ℕ) → length (reduced taps 8 (polynomial_product (bits_of 8 x) (bits_of 8 y))) ≡ 8
-length_short x y = length-reduced taps 8 (polynomial_product (bits_of 8 x) (bits_of 8 y)) (omega (arith, length_long x y))
+length_short x y = length-reduced taps 8 _ (omega (arith, length_long x y))
 
 pub mul8_lt : (x y : ℕ) → mul8 x y < 256
 unfolding mul8 field_product
@@ -39,8 +39,8 @@ mul8-xor_right x y z =
     let long = λ (t : ℕ). polynomial_product (bits_of 8 x) (bits_of 8 t) in
     ap (λ b. value_of (reduced taps 8 (polynomial_product (bits_of 8 x) b))) (bits_of-xor 8 y z)
     ∙ ap (λ p. value_of (reduced taps 8 p)) (polynomial_product-add_right (bits_of 8 x) (bits_of 8 y) (bits_of 8 z) refl)
-    ∙ ap value_of (reduced-add taps 8 (long y) (long z) (length_long x y ∙ sym (length_long x z)))
-    ∙ value_of-add (reduced taps 8 (long y)) (reduced taps 8 (long z)) (length_short x y ∙ sym (length_short x z))
+    ∙ ap value_of (reduced-add taps 8 _ _ (length_long x y ∙ sym (length_long x z)))
+    ∙ value_of-add _ _ (length_short x y ∙ sym (length_short x z))
 
 mul8-xor_left : (y : ℕ) → IsAdditive (λ x. mul8 x y)
 unfolding mul8 field_product
@@ -48,8 +48,8 @@ mul8-xor_left y x z =
     let long = λ (t : ℕ). polynomial_product (bits_of 8 t) (bits_of 8 y) in
     ap (λ b. value_of (reduced taps 8 (polynomial_product b (bits_of 8 y)))) (bits_of-xor 8 x z)
     ∙ ap (λ p. value_of (reduced taps 8 p)) (polynomial_product-add_left (bits_of 8 x) (bits_of 8 z) (bits_of 8 y) refl)
-    ∙ ap value_of (reduced-add taps 8 (long x) (long z) (length_long x y ∙ sym (length_long z y)))
-    ∙ value_of-add (reduced taps 8 (long x)) (reduced taps 8 (long z)) (length_short x y ∙ sym (length_short z y))
+    ∙ ap value_of (reduced-add taps 8 _ _ (length_long x y ∙ sym (length_long z y)))
+    ∙ value_of-add _ _ (length_short x y ∙ sym (length_short z y))
 
 -- ---- laws by the 8 powers of two
 
@@ -61,9 +61,7 @@ same_products f g f_left g_left f_right g_right test x y hx hy =
     same_additive (λ a. f a y) (λ a. g a y) (f_left y) (g_left y) 8
     (λ i lt.
     same_additive (f (2 ^ i)) (g (2 ^ i)) (f_right (2 ^ i)) (g_right (2 ^ i)) 8
-    (λ j below.
-    same_below (λ b. f (2 ^ i) (2 ^ b)) (λ b. g (2 ^ i) (2 ^ b)) 8 j
-    (all_below_at (λ a. all_below (λ b. f (2 ^ a) (2 ^ b) == g (2 ^ a) (2 ^ b)) 8) 8 i test lt) below)
+    (λ j below. same_in_table (λ a b. f (2 ^ a) (2 ^ b)) (λ a b. g (2 ^ a) (2 ^ b)) 8 8 i j test lt below)
     y hy)
     x hx
 
@@ -90,8 +88,8 @@ twice_test = refl
 
 twice_assoc : (y z : ℕ) → y < 256 → z < 256 → mul8 (mul8 2 y) z ≡ mul8 2 (mul8 y z)
 twice_assoc y z hy hz =
-    same_products (λ a b. mul8 (mul8 2 a) b) (λ a b. mul8 2 (mul8 a b))
-    (λ b. additive_after (λ t. mul8 t b) (mul8 2) (mul8-xor_left b) (mul8-xor_right 2)) (λ b. additive_after (mul8 2) (λ a. mul8 a b) (mul8-xor_right 2) (mul8-xor_left b))
+    same_products (λ a b. mul8 _ b) (λ a b. mul8 2 (mul8 a b))
+    (λ b. additive_after (λ t. mul8 t b) _ (mul8-xor_left b) (mul8-xor_right 2)) (λ b. additive_after (mul8 2) (λ a. mul8 a b) (mul8-xor_right 2) (mul8-xor_left b))
     (λ a. mul8-xor_right (mul8 2 a)) (λ a. additive_after (mul8 2) (mul8 a) (mul8-xor_right 2) (mul8-xor_right a)) twice_test y z hy hz
 
 double_test : all_below (λ i. 2 ^ suc i == mul8 2 (2 ^ i)) 7 ≡ true
@@ -107,11 +105,11 @@ power_assoc (suc i) y z h hy hz =
     ∙ ap (λ t. mul8 t z) (twice_assoc (2 ^ i) y (pow-lt lt) hy)
     ∙ twice_assoc (mul8 (2 ^ i) y) z (mul8_lt (2 ^ i) y) hz
     ∙ ap (mul8 2) (power_assoc i y z lt hy hz)
-    ∙ sym (ap (λ t. mul8 t (mul8 y z)) double ∙ twice_assoc (2 ^ i) (mul8 y z) (pow-lt lt) (mul8_lt y z))
+    ∙ sym (ap (λ t. mul8 t (mul8 y z)) double ∙ twice_assoc _ _ (pow-lt lt) (mul8_lt y z))
 
 pub mul8_assoc : (x y z : ℕ) → x < 256 → y < 256 → z < 256 → mul8 (mul8 x y) z ≡ mul8 x (mul8 y z)
 mul8_assoc x y z hx hy hz =
-    same_additive (λ a. mul8 (mul8 a y) z) (λ a. mul8 a (mul8 y z))
+    same_additive (λ a. mul8 _ z) (λ a. mul8 a (mul8 y z))
     (additive_after (λ t. mul8 t z) (λ a. mul8 a y) (mul8-xor_left z) (mul8-xor_left y)) (mul8-xor_left (mul8 y z)) 8
     (λ i lt. power_assoc i y z lt hy hz) x hx
 
@@ -123,10 +121,10 @@ unfolding inv
 inv_is x y hx hy one =
     ap (λ o. unwrap_or o 0) (find_first (λ z. mul8 x z == 1) 0 256 y (omega arith) hy (eq-eqb (mul8 x y) 1 one)
     (λ z lt.
-    false_from_ne_true (mul8 x z == 1)
+    false_from_ne_true _
     (λ h.
     let hz : z < 256 = omega arith in
-    let same : z ≡ y =
+    let same =
     sym (one-mul8 z hz) ∙ ap (λ t. mul8 t z) (sym one ∙ mul8_comm x y hx hy) ∙ mul8_assoc y x z hy hx hz
     ∙ ap (mul8 y) (eqb-true (mul8 x z) 1 h) ∙ mul8_comm y 1 hy (omega arith) ∙ one-mul8 y hy in
     omega arith)))

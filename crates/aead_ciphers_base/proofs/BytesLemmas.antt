@@ -25,7 +25,7 @@ same_more a b difference i s =
       same = λ e.
           let first : difference ≡ 0 = omega (arith, le_or_l difference (bit_xor (get_or a i 0) (get_or b i 0))) in
           let here : bit_xor (get_or a i 0) (get_or b i 0) ≡ 0 = omega (arith, le_or_r difference (bit_xor (get_or a i 0) (get_or b i 0))) in
-          below_more (λ (k : ℕ). get_or a k 0 ≡ get_or b k 0) i (s.same first) (same_of_xor (get_or a i 0) (get_or b i 0) here);
+          below_more (λ (k : ℕ). get_or a k 0 ≡ get_or b k 0) i (s.same first) (same_of_xor (get_or a i 0) _ here);
       zero_where_same = λ e. rw (e, xor_self, s.zero_where_same e) refl;
     }
 
@@ -45,16 +45,16 @@ module _ (a a' : List ℕ) (i v : ℕ) (here : i < length a) (is : a' ≡ slice_
   pub xor_at_start_more : (b : List ℕ) → i < length b → v ≡ bit_xor (get_or a i 0) (get_or b i 0)
       → take (i + 1) a' ++ (drop (i + 1) a' ⊕ drop (i + 1) b) ++ drop (length b) a' ≡ take i a ++ (drop i a ⊕ drop i b) ++ drop (length b) a
   xor_at_start_more b within e =
-      let past : drop (length b) a' ≡ drop (length b) a = rest_set (length b) within in
+      let past = rest_set _ within in
       rw (front_set, past, rest_set (i + 1) (omega arith), drop_more a i 0 here, drop_more b i 0 within, e) (simp append_assoc)
 
 xor_none : (xs ys : List ℕ) → min (length xs) (length ys) ≡ 0 → xs ⊕ ys ≡ []
 xor_none [] ys e = refl
 xor_none (x ∷ xs) [] e = refl
-xor_none (x ∷ xs) (y ∷ ys) e = absurd (omega arith)
+xor_none _ _ e = absurd (omega arith)
 
 -- behind the shorter list nothing is left to XOR
 pub xor_at_start_end : (a b : List ℕ) (i : ℕ) → i ≡ min (length a) (length b) → take i a ++ (drop i a ⊕ drop i b) ++ drop (length b) a ≡ a
 xor_at_start_end a b i e =
-    let none : drop i a ⊕ drop i b ≡ [] = xor_none (drop i a) (drop i b) (omega (arith, length-drop i a, length-drop i b)) in
+    let none = xor_none (drop i a) (drop i b) (omega (arith, length-drop i a, length-drop i b)) in
     rw none (grind (arith, common_steps, take-append-drop))

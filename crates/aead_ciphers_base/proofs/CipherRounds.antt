@@ -9,11 +9,11 @@ rounds_none w b = refl
 pub rounds_more : (w : List (List ℕ)) (b : List ℕ) (r : ℕ) → 0 < r
     → rounds w b (r + 1 - 1) ≡ add_round_key w r (mix_columns (shift_rows (sub_bytes (rounds w b (r - 1)))))
 unfolding rounds
-rounds_more w b zero h = absurd (omega arith)
 rounds_more w b (suc n) h =
     let same : suc n + 1 - 1 ≡ suc n = omega arith in
     let before : n ≡ suc n - 1 = omega arith in
     ap (rounds w b) same ∙ ap (λ i. add_round_key w (suc n) (mix_columns (shift_rows (sub_bytes (rounds w b i))))) before
+rounds_more w b _ h = absurd (omega arith)
 
 pub cipher_is : (w : List (List ℕ)) (n : ℕ) (b : List ℕ) → cipher w n b ≡ add_round_key w n (shift_rows (sub_bytes (rounds w b (n - 1))))
 unfolding cipher

@@ -12,7 +12,7 @@ unfolding counter_block
 last_byte old nonce k j at =
     ap (λ (xs : List ℕ). get_or xs (12 + j) 0) at.value
     ∙ ap (λ (n : ℕ). get_or (nonce ++ to_be_bytes w32 (k % 2 ^ 32)) (n + j) 0) (sym at.size)
-    ∙ get_or-append-add nonce (to_be_bytes w32 (k % 2 ^ 32)) j 0
+    ∙ get_or-append-add nonce (to_be_bytes w32 _) j 0
 
 pub number_is : (old nonce : List ℕ) (k : ℕ) → IsCounter old nonce k →
     from_be_bytes w32 (get_or old 12 0 ∷ get_or old 13 0 ∷ get_or old 14 0 ∷ get_or old 15 0 ∷ []) ≡ k % 2 ^ 32
@@ -20,7 +20,7 @@ number_is old nonce k at =
     let bs = to_be_bytes w32 (k % 2 ^ 32) in
     ap₂ (λ (a b : ℕ). from_be_bytes w32 (a ∷ b ∷ get_or old 14 0 ∷ get_or old 15 0 ∷ [])) (last_byte old nonce k 0 at) (last_byte old nonce k 1 at)
     ∙ ap₂ (λ (a b : ℕ). from_be_bytes w32 (get_or bs 0 0 ∷ get_or bs 1 0 ∷ a ∷ b ∷ [])) (last_byte old nonce k 2 at) (last_byte old nonce k 3 at)
-    ∙ from_be_bytes-to_be_bytes_4 (k % 2 ^ 32) (omega arith)
+    ∙ from_be_bytes-to_be_bytes_4 _ (omega arith)
 
 sum_later : (k by : ℕ) → (k % 2 ^ 32 + by) % 2 ^ 32 ≡ (k + by) % 2 ^ 32
 sum_later k by = omega arith
@@ -29,7 +29,7 @@ pub counter_more : (old nonce bytes : List ℕ) (k by number : ℕ) → IsCounte
     bytes ≡ to_be_bytes w32 ((number + by) % 2 ^ 32) → IsCounter (take 12 old ++ (bytes ++ drop 4 (drop 12 old))) nonce (k + by)
 unfolding counter_block
 counter_more old nonce bytes k by number at ne be =
-    let bs = to_be_bytes w32 (k % 2 ^ 32) in
+    let bs = to_be_bytes w32 _ in
     record {
       size = at.size;
       value =
@@ -50,23 +50,23 @@ counter_at c nonce j k at e = subst (λ (n : ℕ). IsCounter c nonce n) e at
 
 -- a counter block that no call changed
 pub advances_none : (c : List ℕ) → Advances c c 0
-advances_none c = λ nonce k at. counter_at c nonce k (k + 0) at (omega arith)
+advances_none c = λ nonce k at. counter_at c nonce k _ at (omega arith)
 
 -- two advances make one
 pub advances_more : (a b c : List ℕ) (m n sum : ℕ) → Advances a b m → Advances b c n → m + n ≡ sum → Advances a c sum
 advances_more a b c m n sum first second e = λ nonce k at.
-    counter_at c nonce (k + m + n) (k + sum) (second nonce (k + m) (first nonce k at)) (omega (arith, e))
+    counter_at c nonce _ _ (second nonce _ (first nonce k at)) (omega (arith, e))
 
 -- every block of bytes is a counter block
 pub counter_exists : (block : List ℕ) → length block ≡ 16 → ((i : ℕ) → get_or block i 0 < 256)
     → IsCounter block (take 12 block) (from_be_bytes w32 (drop 12 block))
 unfolding counter_block
 counter_exists block size bytes =
-    let last : List ℕ = drop 12 block in
+    let last = drop 12 block in
     let below : (i : ℕ) → get_or last i 0 < 256 = λ i. subst (λ (x : ℕ). x < 256) (sym (get_or-drop 12 block i 0)) (bytes (12 + i)) in
-    let four : length last ≡ 4 = length-drop 12 block ∙ omega arith in
-    let number : ℕ = from_be_bytes w32 last in
-    let again : to_be_bytes w32 number ≡ last = be_bytes_4 last number four below refl in
+    let four = length-drop 12 block ∙ omega arith in
+    let number = from_be_bytes w32 last in
+    let again = be_bytes_4 last number four below refl in
     let small : number % 2 ^ 32 ≡ number = omega (arith, below 0, below 1, below 2, below 3) in
     record {
       size = length-take-le 12 block (omega arith);

@@ -27,8 +27,8 @@ each-append m (suc n) f =
     let e : m + suc n ≡ m + n + 1 = omega arith in
     let e' : n + 1 ≡ suc n = omega arith in
     ap (λ (k : ℕ). each_below k f) e
-    ∙ map-range_with_len_more f 0 (m + n) (m + n) (omega arith)
+    ∙ map-range_with_len_more f 0 _ (m + n) (omega arith)
     ∙ ap (λ (xs : List _). xs ++ f (m + n) ∷ []) (each-append m n f)
-    ∙ append_assoc (each_below m f) (each_below n (λ i. f (m + i))) (f (m + n) ∷ [])
+    ∙ append_assoc _ (each_below n (λ i. f _)) _
     ∙ ap (λ (xs : List _). each_below m f ++ xs)
-    (sym (map-range_with_len_more (λ (i : ℕ). f (m + i)) 0 n n (omega arith)) ∙ ap (λ (k : ℕ). each_below k (λ i. f (m + i))) e')
+    (sym (map-range_with_len_more (λ (i : ℕ). f _) 0 n n (omega arith)) ∙ ap (λ (k : ℕ). each_below k (λ i. f (m + i))) e')

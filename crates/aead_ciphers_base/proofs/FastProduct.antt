@@ -13,7 +13,7 @@ halves_test = refl
 by_digit : (x d : ℕ) → x < 256 → d < 2 → mul8 x d ≡ (if d == 1 then x else 0)
 by_digit x zero hx hd = IsAdditive_zero (mul8 x) (mul8-xor_right x)
 by_digit x (suc zero) hx hd = mul8_comm x 1 hx (omega arith) ∙ one-mul8 x hx
-by_digit x (suc (suc d)) hx hd = absurd (omega arith)
+by_digit x _ hx hd = absurd (omega arith)
 
 twice_inside : (x h : ℕ) → x < 256 → h < 256 → mul8 x (mul8 2 h) ≡ mul8 2 (mul8 x h)
 twice_inside x h hx hh =
@@ -22,7 +22,7 @@ twice_inside x h hx hh =
 pub step_of_product : (x z : ℕ) → x < 256 → z < 256 → mul8 x z ≡ bit_xor (mul8 2 (mul8 x (z / 2))) (if z % 2 == 1 then x else 0)
 step_of_product x z hx hz =
     ap (mul8 x) (sym (same_below (λ t. bit_xor (mul8 2 (t / 2)) (t % 2)) (λ t. t) 256 z halves_test hz))
-    ∙ mul8-xor_right x (mul8 2 (z / 2)) (z % 2)
+    ∙ mul8-xor_right x _ _
     ∙ ap₂ bit_xor (twice_inside x (z / 2) hx (omega arith)) (by_digit x (z % 2) hx (omega arith))
 
 abbrev fast_mul : ℕ → ℕ → ℕ → ℕ
@@ -37,8 +37,8 @@ fast_mul_is zero x z hx hz h =
     sym (ap (mul8 x) none ∙ IsAdditive_zero (mul8 x) (mul8-xor_right x))
 fast_mul_is (suc k) x z hx hz h =
     let half : z / 2 < 2 ^ k = omega (arith, pow-suc 2 k) in
-    ap (λ t. bit_xor (bit_xor (t * 2 ^ 1 % 2 ^ 8) (t / 2 ^ 7 * 0x1b)) (if z % 2 == 1 then x else 0)) (fast_mul_is k x (z / 2) hx (omega arith) half)
-    ∙ ap (λ t. bit_xor t (if z % 2 == 1 then x else 0)) (two_is (mul8 x (z / 2)) (mul8_lt x (z / 2)))
+    ap (λ t. bit_xor (bit_xor (t * 2 ^ 1 % 2 ^ 8) (t / 2 ^ 7 * 0x1b)) (if z % 2 == 1 then x else 0)) (fast_mul_is k x _ hx (omega arith) half)
+    ∙ ap (λ t. bit_xor t (if z % 2 == 1 then x else 0)) (two_is (mul8 x _) (mul8_lt x _))
     ∙ sym (step_of_product x z hx hz)
 
 abbrev fast_mul8 : ℕ → ℕ → ℕ
@@ -49,7 +49,7 @@ unfolding mul8
 mul8-mod x z = ap₂ (λ p q. value_of (field_product (0 ∷ 1 ∷ 3 ∷ 4 ∷ []) 8 p q)) (bits_of-mod 8 x) (bits_of-mod 8 z)
 
 fast_mul8_is : (x z : ℕ) → fast_mul8 x z ≡ mul8 x z
-fast_mul8_is x z = fast_mul_is 8 (x % 256) (z % 256) (omega arith) (omega arith) (omega arith) ∙ mul8-mod x z
+fast_mul8_is x z = fast_mul_is 8 _ _ (omega arith) (omega arith) (omega arith) ∙ mul8-mod x z
 
 -- a test of the product passes if it passes with the fast one
 pub by_fast_mul8 : (test : (ℕ → ℕ → ℕ) → Bool) → test fast_mul8 ≡ true → test mul8 ≡ true

@@ -34,19 +34,19 @@ module _ (nk : ℕ) (w : List (List ℕ)) (i : ℕ) where
   next_word_middle ne e f =
       ap (λ u. back ⊕ u)
       (cond-false (i % nk == 0) _ _ (ne_eqb (i % nk) 0 ne)
-      ∙ cond-true (nat_lt 6 nk && (i % nk == 4)) _ _ (and_from (nat_lt 6 nk) (i % nk == 4) (lt-ltb 6 nk e) (eq-eqb (i % nk) 4 f)))
+      ∙ cond-true (nat_lt 6 nk && (i % nk == 4)) _ _ (and_from (nat_lt 6 nk) _ (lt-ltb 6 nk e) (eq-eqb (i % nk) 4 f)))
 
   pub next_word_plain : (i % nk ≡ 0 → ⊥) → ((nat_lt 6 nk && (i % nk == 4)) ≡ false) → next_word nk w i ≡ back ⊕ before
   unfolding next_word
   next_word_plain ne f =
-      ap (λ u. back ⊕ u) (cond-false (i % nk == 0) _ _ (ne_eqb (i % nk) 0 ne) ∙ cond-false (nat_lt 6 nk && (i % nk == 4)) _ _ f)
+      ap (λ u. back ⊕ u) (cond-false (i % nk == 0) _ _ (ne_eqb (i % nk) 0 ne) ∙ cond-false _ _ _ f)
 
 -- the next word looks at the words before it alone
 next_word_front : (nk : ℕ) (w : List (List ℕ)) (i : ℕ) → 0 < nk → nk ≤ i → next_word nk (take i w) i ≡ next_word nk w i
 unfolding next_word
 next_word_front nk w i hk hi =
-    let last : word_at (take i w) (i - 1) ≡ word_at w (i - 1) = get_or-take i w (i - 1) [] (omega arith) in
-    let back : word_at (take i w) (i - nk) ≡ word_at w (i - nk) = get_or-take i w (i - nk) [] (omega arith) in
+    let last = get_or-take i w (i - 1) [] (omega arith) in
+    let back = get_or-take i w (i - nk) [] (omega arith) in
     rw (last, back) refl
 
 -- ---- the loops of `expand`

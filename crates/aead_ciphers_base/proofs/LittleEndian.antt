@@ -20,43 +20,33 @@ elements_from (suc n) k xs = slice_index xs k ∷ elements_from n (suc k) xs
 pub drop-elements : (n k : ℕ) (xs : List ℕ) → length xs ≡ k + n → drop k xs ≡ elements_from n k xs
 drop-elements zero k xs e = drop_all k xs (omega arith)
 drop-elements (suc n) k xs e =
-    drop-cons xs k 0 (omega arith) ∙ ap (λ ys. slice_index xs k ∷ ys) (drop-elements n (suc k) xs (omega arith))
+    drop-cons xs k 0 (omega arith) ∙ ap (λ ys. slice_index xs k ∷ ys) (drop-elements n _ xs (omega arith))
 
 pub length-le_words : (n : ℕ) (bytes : List ℕ) → length bytes ≡ 4 * n → length (le_words bytes) ≡ n
 unfolding le_words
 length-le_words zero [] h = refl
-length-le_words zero (a ∷ bytes) h = absurd (omega arith)
-length-le_words (suc n) [] h = absurd (omega arith)
-length-le_words (suc n) (a ∷ []) h = absurd (omega arith)
-length-le_words (suc n) (a ∷ b ∷ []) h = absurd (omega arith)
-length-le_words (suc n) (a ∷ b ∷ c ∷ []) h = absurd (omega arith)
 length-le_words (suc n) (a ∷ b ∷ c ∷ d ∷ bytes) h = ap suc (length-le_words n bytes (omega arith))
+length-le_words _ _ h = absurd (omega arith)
 
 -- word k
 pub get_or-le_words : (k at : ℕ) (bytes : List ℕ) → at ≡ 4 * k → at + 4 ≤ length bytes
     → get_or (le_words bytes) k 0
     ≡ from_le_bytes w32 (get_or bytes at 0 ∷ get_or bytes (at + 1) 0 ∷ get_or bytes (at + 2) 0 ∷ get_or bytes (at + 3) 0 ∷ [])
 unfolding le_words
-get_or-le_words k at [] e h = absurd (omega arith)
-get_or-le_words k at (a ∷ []) e h = absurd (omega arith)
-get_or-le_words k at (a ∷ b ∷ []) e h = absurd (omega arith)
-get_or-le_words k at (a ∷ b ∷ c ∷ []) e h = absurd (omega arith)
 get_or-le_words zero at (a ∷ b ∷ c ∷ d ∷ bytes) e h = rw e refl
 get_or-le_words (suc k) at (a ∷ b ∷ c ∷ d ∷ bytes) e h =
     let next : at ≡ suc (suc (suc (suc (4 * k)))) = omega arith in
     let e1 : at + 1 ≡ suc (suc (suc (suc (4 * k + 1)))) = omega arith in
     let e2 : at + 2 ≡ suc (suc (suc (suc (4 * k + 2)))) = omega arith in
     let e3 : at + 3 ≡ suc (suc (suc (suc (4 * k + 3)))) = omega arith in
-    rw (e1, e2, e3, next) (get_or-le_words k (4 * k) bytes refl (omega arith))
+    rw (e1, e2, e3, next) (get_or-le_words k _ bytes refl (omega arith))
+get_or-le_words k at _ e h = absurd (omega arith)
 
 -- the first word, and the words behind it
 pub le_words-first : (bytes : List ℕ) → 4 ≤ length bytes → le_words bytes ≡ from_le_bytes w32 (take 4 bytes) ∷ le_words (drop 4 bytes)
 unfolding le_words
-le_words-first [] h = absurd (omega arith)
-le_words-first (a ∷ []) h = absurd (omega arith)
-le_words-first (a ∷ b ∷ []) h = absurd (omega arith)
-le_words-first (a ∷ b ∷ c ∷ []) h = absurd (omega arith)
 le_words-first (a ∷ b ∷ c ∷ d ∷ bytes) h = refl
+le_words-first _ h = absurd (omega arith)
 
 -- the words of the bytes of words
 pub le_words-le_bytes : (words : List ℕ) → ((i : ℕ) → get_or words i 0 < 2 ^ 32) → le_words (le_bytes words) ≡ words
@@ -76,15 +66,11 @@ four_fit a b c d ha hb hc hd (suc (suc (suc (suc i)))) = omega arith
 pub le_bytes-le_words : (n : ℕ) (bytes : List ℕ) → length bytes ≡ 4 * n → ((i : ℕ) → get_or bytes i 0 < 256) → le_bytes (le_words bytes) ≡ bytes
 unfolding le_words le_bytes
 le_bytes-le_words zero [] h fits = refl
-le_bytes-le_words zero (a ∷ bytes) h fits = absurd (omega arith)
-le_bytes-le_words (suc n) [] h fits = absurd (omega arith)
-le_bytes-le_words (suc n) (a ∷ []) h fits = absurd (omega arith)
-le_bytes-le_words (suc n) (a ∷ b ∷ []) h fits = absurd (omega arith)
-le_bytes-le_words (suc n) (a ∷ b ∷ c ∷ []) h fits = absurd (omega arith)
 le_bytes-le_words (suc n) (a ∷ b ∷ c ∷ d ∷ bytes) h fits =
     ap₂ (λ (x : List ℕ) (y : List ℕ). x ++ y)
     (le_bytes_4 (a ∷ b ∷ c ∷ d ∷ []) _ refl (four_fit a b c d (fits 0) (fits 1) (fits 2) (fits 3)) refl)
     (le_bytes-le_words n bytes (omega arith) (λ i. fits (suc (suc (suc (suc i))))))
+le_bytes-le_words _ _ h fits = absurd (omega arith)
 
 -- the bytes of one more word, written behind those of i words
 pub take-le_bytes : (out words bytes : List ℕ) (i k : ℕ) → length out ≡ 4 * length words → i < length words
@@ -93,9 +79,9 @@ pub take-le_bytes : (out words bytes : List ℕ) (i k : ℕ) → length out ≡ 
 unfolding le_bytes
 take-le_bytes out words bytes i k h within held e =
     let four : length bytes ≡ 4 = rw e refl in
-    let front : take (4 * (i + 1)) (put_mid (4 * i) k out bytes) ≡ take (4 * i) out ++ bytes =
+    let front =
     take-put_mid (4 * i) k out bytes (4 * (i + 1)) (omega arith) (omega arith) in
-    rw (front, held, e, take_more words i 0 within) (sym (flat_map-append (to_le_bytes w32) (take i words) (get_or words i 0 ∷ [])))
+    rw (front, held, e, take_more words i 0 within) (sym (flat_map-append (to_le_bytes w32) _ _))
 
 -- the constants of the initial state are the words of "expand 32-byte k"
 pub constants_are : le_words CONSTANTS.now ≡ 0x61707865 ∷ 0x3320646e ∷ 0x79622d32 ∷ 0x6b206574 ∷ []
@@ -120,4 +106,4 @@ pub counter-initial_state : (key nonce : List ℕ) (m n : ℕ) → length (le_wo
     → slice_set (initial_state key m nonce) 12 n ≡ initial_state key n nonce
 unfolding initial_state
 counter-initial_state key nonce m n size =
-    ap (λ (ws : List ℕ). 0x61707865 ∷ 0x3320646e ∷ 0x79622d32 ∷ 0x6b206574 ∷ ws) (set_at (le_words key) m (le_words nonce) n 8 size)
+    ap (λ (ws : List ℕ). 0x61707865 ∷ 0x3320646e ∷ 0x79622d32 ∷ 0x6b206574 ∷ ws) (set_at (le_words key) m _ n 8 size)

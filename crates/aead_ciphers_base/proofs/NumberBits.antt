@@ -14,7 +14,7 @@ use Rattle.aead_ciphers_base.proofs.PolynomialSums.{polynomial_sum}
 pub by_digit : (P : ℕ → Type 0) (d : ℕ) → d < 2 → (d ≡ 0 → P 0) → (d ≡ 1 → P 1) → P d
 by_digit P zero h zero_case one_case = zero_case refl
 by_digit P (suc zero) h zero_case one_case = one_case refl
-by_digit P (suc (suc d)) h zero_case one_case = absurd (omega arith)
+by_digit P _ h zero_case one_case = absurd (omega arith)
 
 pub by_digits : (P : ℕ → ℕ → Type 0) (x y : ℕ) → x < 2 → y < 2 → P 0 0 → P 0 1 → P 1 0 → P 1 1 → P x y
 by_digits P x y hx hy p₀₀ p₀₁ p₁₀ p₁₁ = by_digit (λ d. P d y) x hx
@@ -25,14 +25,14 @@ digit-xor x y hx hy = by_digits (λ x y. (bit_xor x y == 1) ≡ ◌xor◌ (x == 
 
 pub length-bits_of : (k n : ℕ) → length (bits_of k n) ≡ k
 length-bits_of zero n = refl
-length-bits_of (suc k) n = ap suc (length-bits_of k (n / 2))
+length-bits_of (suc k) n = ap suc (length-bits_of k _)
 
 pub bits_of-xor : (k a b : ℕ) → bits_of k (bit_xor a b) ≡ polynomial_sum (bits_of k a) (bits_of k b)
 bits_of-xor zero a b = refl
 bits_of-xor (suc k) a b =
     ap₂ (λ (x : Bool) (xs : List Bool). x ∷ xs)
-    (ap (λ x. x == 1) (xor_mod a b 1) ∙ digit-xor (a % 2) (b % 2) (omega arith) (omega arith))
-    (ap (bits_of k) (xor_shr a b 1) ∙ bits_of-xor k (a / 2) (b / 2))
+    (ap (λ x. x == 1) (xor_mod a b 1) ∙ digit-xor _ (b % 2) (omega arith) (omega arith))
+    (ap (bits_of k) (xor_shr a b 1) ∙ bits_of-xor k _ _)
 
 abbrev bit_value : Bool → ℕ
 bit_value b = if b then 1 else 0
@@ -48,20 +48,20 @@ bit_value-lt false = omega arith
 
 pub value_of-add : (p q : List Bool) → length p ≡ length q → value_of (polynomial_sum p q) ≡ bit_xor (value_of p) (value_of q)
 value_of-add [] q e = refl
-value_of-add (a ∷ p) [] e = absurd (omega arith)
 value_of-add (a ∷ p) (b ∷ q) e =
     let tails : length p ≡ length q = omega arith in
-    let block = xor_block 1 (value_of p) (value_of q) (bit_value a) (bit_value b) (bit_value-lt a) (bit_value-lt b) in
+    let block = xor_block 1 _ _ _ _ (bit_value-lt a) (bit_value-lt b) in
     let turn : (r v : ℕ) → r + 2 * v ≡ v * 2 + r = λ r v. omega arith in
     ap₂ (λ x y. x + 2 * y) (bit_value-xor a b) (value_of-add p q tails)
-    ∙ turn (bit_xor (bit_value a) (bit_value b)) (bit_xor (value_of p) (value_of q))
+    ∙ turn _ _
     ∙ sym block
-    ∙ ap₂ bit_xor (sym (turn (bit_value a) (value_of p))) (sym (turn (bit_value b) (value_of q)))
+    ∙ ap₂ bit_xor (sym (turn (bit_value a) _)) (sym (turn (bit_value b) _))
+value_of-add _ _ e = absurd (omega arith)
 
 digit_back : (x : ℕ) → x < 2 → bit_value (x == 1) ≡ x
 digit_back zero h = refl
 digit_back (suc zero) h = refl
-digit_back (suc (suc x)) h = absurd (omega arith)
+digit_back _ h = absurd (omega arith)
 
 pub value_of-bits_of : (k n : ℕ) → n < 2 ^ k → value_of (bits_of k n) ≡ n
 value_of-bits_of zero n h = omega arith
@@ -82,7 +82,7 @@ digit_of_value false v =
 pub bits_of-value_of : (p : List Bool) → bits_of (length p) (value_of p) ≡ p
 bits_of-value_of [] = refl
 bits_of-value_of (b ∷ p) =
-    let both = digit_of_value b (value_of p) in
+    let both = digit_of_value b _ in
     ap₂ (λ (x : Bool) (xs : List Bool). x ∷ xs) both.0 (ap (bits_of (length p)) both.1 ∙ bits_of-value_of p)
 
 pub value_of-lt : (p : List Bool) → value_of p < 2 ^ length p
@@ -101,7 +101,7 @@ IsAdditive_zero f h = h 0 0 ∙ bit_xor_self (f 0)
 top_bit : (k n : ℕ) → 2 ^ k ≤ n → n < 2 ^ suc k → (n - 2 ^ k < 2 ^ k) × (n ≡ bit_xor (2 ^ k) (n - 2 ^ k))
 top_bit k n lo hi =
     let small : n - 2 ^ k < 2 ^ k = omega (arith, pow-suc 2 k) in
-    let e = xor_shifted 1 k (n - 2 ^ k) small in
+    let e = xor_shifted 1 k _ small in
     let one : 1 * 2 ^ k ≡ 2 ^ k = omega arith in
     let sum : 1 * 2 ^ k + (n - 2 ^ k) ≡ n = omega arith in
     (small, sym (sym (ap (λ x. bit_xor x (n - 2 ^ k)) one) ∙ e ∙ sum))
@@ -112,12 +112,12 @@ pub same_additive : (f g : ℕ → ℕ) → IsAdditive f → IsAdditive g → (k
 same_additive f g hf hg zero h n lt =
     let e : n ≡ 0 = omega arith in
     ap f e ∙ IsAdditive_zero f hf ∙ sym (ap g e ∙ IsAdditive_zero g hg)
-same_additive f g hf hg (suc k) h n lt = elim (cases_lt n (2 ^ k)) [
+same_additive f g hf hg (suc k) h n lt = elim (cases_lt n _) [
   | inl less ↦ same_additive f g hf hg k (λ i below. h i (omega arith)) n less
   | inr more ↦
       let top = top_bit k n more lt in
-      let rest = same_additive f g hf hg k (λ i below. h i (omega arith)) (n - 2 ^ k) top.0 in
-      ap f top.1 ∙ hf (2 ^ k) (n - 2 ^ k) ∙ ap₂ bit_xor (h k (omega arith)) rest ∙ sym (hg (2 ^ k) (n - 2 ^ k)) ∙ sym (ap g top.1)
+      let rest = same_additive f g hf hg k (λ i below. h i (omega arith)) _ top.0 in
+      ap f top.1 ∙ hf _ _ ∙ ap₂ bit_xor (h k (omega arith)) rest ∙ sym (hg (2 ^ k) _) ∙ sym (ap g top.1)
 ]
 
 -- ---- tests of each number below a bound
@@ -127,34 +127,38 @@ all_below p zero = true
 all_below p (suc n) = p n && all_below p n
 
 pub all_below_at : (p : ℕ → Bool) (n k : ℕ) → all_below p n ≡ true → k < n → p k ≡ true
-all_below_at p zero k h lt = absurd (omega arith)
 all_below_at p (suc n) k h lt =
-    let parts = and_parts (p n) (all_below p n) h in
+    let parts = and_parts (p n) _ h in
     elim (cases_lt k n) [
       | inl below ↦ all_below_at p n k parts.1 below
       | inr top ↦ let e : k ≡ n = omega arith in rw e parts.0
     ]
+all_below_at p _ k h lt = absurd (omega arith)
 
 pub same_below : (f g : ℕ → ℕ) (n k : ℕ) → all_below (λ i. f i == g i) n ≡ true → k < n → f k ≡ g k
 same_below f g n k h lt = eqb-true (f k) (g k) (all_below_at (λ i. f i == g i) n k h lt)
 
+-- the same of two numbers
+pub same_in_table : (f g : ℕ → ℕ → ℕ) (m n i j : ℕ) → all_below (λ a. all_below (λ b. f a b == g a b) n) m ≡ true → i < m → j < n → f i j ≡ g i j
+same_in_table f g m n i j h hi hj = same_below (f i) (g i) n j (all_below_at (λ a. all_below (λ b. f a b == g a b) n) m i h hi) hj
+
 -- the least number that passes is found
 pub find_first : (p : ℕ → Bool) (a n v : ℕ) → a ≤ v → v < a + n → p v ≡ true → ((y : ℕ) → y < v → p y ≡ false)
     → find p (range_with_len a n) ≡ Some v
-find_first p a zero v lo hi passes fails = absurd (omega arith)
 find_first p a (suc n) v lo hi passes fails = elim (cases_eq a v) [
-  | inl same ↦ cond-true (p a) (Some a) (find p (range_with_len (a + 1) n)) (ap p same ∙ passes) ∙ ap (λ x. Some x) same
+  | inl same ↦ cond-true (p a) _ _ (ap p same ∙ passes) ∙ ap (λ x. Some x) same
   | inr other ↦
-      cond-false (p a) (Some a) (find p (range_with_len (a + 1) n)) (fails a (omega arith))
+      cond-false (p a) _ _ (fails a (omega arith))
       ∙ find_first p (a + 1) n v (omega arith) (omega arith) passes fails
 ]
+find_first p a _ v lo hi passes fails = absurd (omega arith)
 
 -- the bits from k on do not matter
 pub bits_of-mod : (k n : ℕ) → bits_of k (n % 2 ^ k) ≡ bits_of k n
 bits_of-mod zero n = refl
 bits_of-mod (suc k) n =
     let s : suc k ≡ k + 1 = omega arith in
-    let whole : n % 2 ^ (k + 1) ≡ (n / 2 ^ 1 % 2 ^ k) * 2 ^ 1 + n % 2 ^ 1 = mod-pow-add n k 1 in
+    let whole = mod-pow-add n k 1 in
     let low : n % 2 ^ (k + 1) % 2 ≡ n % 2 = omega arith in
     ap (λ j. bits_of (suc k) (n % 2 ^ j)) s
-    ∙ ap₂ (λ (b : Bool) (q : List Bool). b ∷ q) (ap (λ t. t == 1) low) (ap (bits_of k) (field_of n k 1) ∙ bits_of-mod k (n / 2))
+    ∙ ap₂ (λ (b : Bool) (q : List Bool). b ∷ q) (ap (λ t. t == 1) low) (ap (bits_of k) (field_of n k 1) ∙ bits_of-mod k _)

@@ -38,16 +38,16 @@ plane_byte_lt a p = value_of-lt (plane_bits a p)
 
 plane_byte_bits : (a : List ℕ) (p : ℕ) → bits_of 8 (plane_byte a p) ≡ plane_bits a p
 unfolding plane_byte
-plane_byte_bits a p = bits_of-value_of (plane_bits a p)
+plane_byte_bits a p = bits_of-value_of _
 
 -- bit i of a number
 pub bits_of_at : (k n i : ℕ) → i < k → coefficient (bits_of k n) i ≡ (n / 2 ^ i % 2 == 1)
-bits_of_at zero n i h = absurd (omega arith)
 bits_of_at (suc k) n zero h = ap (λ t. t % 2 == 1) (sym (div-one n))
 bits_of_at (suc k) n (suc i) h =
-    let e : n / 2 ^ 1 / 2 ^ i ≡ n / 2 ^ (1 + i) = shr-shr n 1 i in
+    let e = shr-shr n 1 i in
     let s : 1 + i ≡ suc i = omega arith in
-    bits_of_at k (n / 2) i (omega arith) ∙ ap (λ t. t % 2 == 1) (e ∙ ap (λ t. n / 2 ^ t) s)
+    bits_of_at k _ i (omega arith) ∙ ap (λ t. t % 2 == 1) (e ∙ ap (λ t. n / 2 ^ t) s)
+bits_of_at _ n i h = absurd (omega arith)
 
 -- ---- times x
 

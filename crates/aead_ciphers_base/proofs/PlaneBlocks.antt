@@ -10,19 +10,19 @@ use Rattle.aead_ciphers_base.specs.KeySchedule.{HoldsWords}
 
 -- a block is a state if its byte k stands in row k % 4 and column k / 4
 pub state_is : (f : ℕ → ℕ → ℕ) (s : List ℕ) → length s ≡ 16 → ((k : ℕ) → k < 16 → slice_index s k ≡ f (k % 4) (k / 4)) → s ≡ state f
-state_is f s e h = fill_by_all (λ k. f (k % 4) (k / 4)) s 16 0 e h
+state_is f s e h = fill_by_all (λ k. f _ _) s 16 0 e h
 
 pub byte_of_state : (f : ℕ → ℕ → ℕ) (k : ℕ) → k < 16 → slice_index (state f) k ≡ f (k % 4) (k / 4)
 byte_of_state f k h = get_or-each 16 (λ j. f (j % 4) (j / 4)) k 0 h
 
 pub state_same : (f g : ℕ → ℕ → ℕ) → ((r c : ℕ) → r < 4 → c < 4 → f r c ≡ g r c) → state f ≡ state g
-state_same f g h = state_is g (state f) refl (λ k lt. byte_of_state f k lt ∙ h (k % 4) (k / 4) (omega arith) (omega arith))
+state_same f g h = state_is g _ refl (λ k lt. byte_of_state f k lt ∙ h _ _ (omega arith) (omega arith))
 
 at_state : (f : ℕ → ℕ → ℕ) (r c : ℕ) → r < 4 → c < 4 → at (state f) r c ≡ f r c
 at_state f r c hr hc =
     let row : (r + 4 * c) % 4 ≡ r = omega arith in
     let column : (r + 4 * c) / 4 ≡ c = omega arith in
-    byte_of_state f (r + 4 * c) (omega arith) ∙ ap₂ f row column
+    byte_of_state f _ (omega arith) ∙ ap₂ f row column
 
 module _ (old new : List ℕ) (k : ℕ) (hk : k < 4) where
   at_old : (r c : ℕ) → r < 4 → c < 4 → at (plane_block old k) r c ≡ plane_byte old (16 * k + (r + 4 * c))
@@ -32,26 +32,25 @@ module _ (old new : List ℕ) (k : ℕ) (hk : k < 4) where
   pub sub_block : ((p : ℕ) → p < 64 → plane_byte new p ≡ sbox (plane_byte old p)) → plane_block new k ≡ sub_bytes (plane_block old k)
   unfolding sub_bytes plane_block
   sub_block h =
-      state_same (λ r c. plane_byte new (16 * k + (r + 4 * c))) (λ r c. sbox (at (plane_block old k) r c))
-      (λ r c hr hc. h (16 * k + (r + 4 * c)) (omega arith) ∙ ap sbox (sym (at_old r c hr hc)))
+      state_same (λ r c. plane_byte new _) (λ r c. sbox _)
+      (λ r c hr hc. h _ (omega arith) ∙ ap sbox (sym (at_old r c hr hc)))
 
   pub shift_block : ((p : ℕ) → p < 64 → plane_byte new p ≡ plane_byte old (shifted_from p)) → plane_block new k ≡ shift_rows (plane_block old k)
   unfolding shift_rows plane_block
   shift_block h =
-      state_same (λ r c. plane_byte new (16 * k + (r + 4 * c))) (λ r c. at (plane_block old k) r ((c + r) % 4))
+      state_same (λ r c. plane_byte new _) (λ r c. at (plane_block old k) r _)
       (λ r c hr hc.
       let p = 16 * k + (r + 4 * c) in
       let e : shifted_from (16 * k + (r + 4 * c)) ≡ 16 * k + (r + 4 * ((c + r) % 4)) = omega arith in
-      h p (omega arith) ∙ ap (plane_byte old) e ∙ sym (at_old r ((c + r) % 4) hr (omega arith)))
+      h p (omega arith) ∙ ap (plane_byte old) e ∙ sym (at_old r _ hr (omega arith)))
 
   pub mix_block : ((p : ℕ) → p < 64 → plane_byte new p ≡ mixed (plane_byte old p) (plane_byte old (below p 1)) (plane_byte old (below p 2))
       (plane_byte old (below p 3)))
       → plane_block new k ≡ mix_columns (plane_block old k)
   unfolding mix_columns plane_block
   mix_block h =
-      state_same (λ r c. plane_byte new (16 * k + (r + 4 * c)))
-      (λ r c. mixed (at (plane_block old k) r c) (at (plane_block old k) ((r + 1) % 4) c) (at (plane_block old k) ((r + 2) % 4) c) (at (plane_block old k)
-      ((r + 3) % 4) c))
+      state_same (λ r c. plane_byte new _)
+      (λ r c. mixed _ _ _ _)
       (λ r c hr hc.
       let place : (i : ℕ) → below (16 * k + (r + 4 * c)) i ≡ 16 * k + ((r + i) % 4 + 4 * c) = λ i. omega arith in
       let there : (i : ℕ) → plane_byte old (below (16 * k + (r + 4 * c)) i) ≡ at (plane_block old k) ((r + i) % 4) c =
@@ -64,8 +63,8 @@ module _ (old new : List ℕ) (k : ℕ) (hk : k < 4) where
       → plane_block new k ≡ add_round_key w j (plane_block old k)
   unfolding add_round_key plane_block
   add_block keys w j n holds hj h =
-      state_same (λ r c. plane_byte new (16 * k + (r + 4 * c))) (λ r c. bit_xor (at (plane_block old k) r c) (slice_index (word_at w (4 * j + c)) r))
-      (λ r c hr hc. h (16 * k + (r + 4 * c)) ∙ ap₂ bit_xor (sym (at_old r c hr hc))
+      state_same (λ r c. plane_byte new _) (λ r c. bit_xor (at (plane_block old k) r c) (slice_index (word_at w _) r))
+      (λ r c hr hc. h _ ∙ ap₂ bit_xor (sym (at_old r c hr hc))
       (let column : 4 * j + (16 * k + (r + 4 * c)) % 16 / 4 ≡ 4 * j + c = omega arith in
       let row : (16 * k + (r + 4 * c)) % 4 ≡ r = omega arith in
       holds j (16 * k + (r + 4 * c)) hj (omega arith) ∙ ap₂ (λ i t. slice_index (word_at w i) t) column row))
@@ -77,8 +76,8 @@ pub packed_block : (planes : List ℕ) (blocks : List (List ℕ)) (w : List (Lis
 unfolding plane_block add_round_key
 packed_block planes blocks w k hk h =
     let b = slice_index_or blocks k [] in
-    state_same (λ r c. bit_xor (at (plane_block planes k) r c) (slice_index (word_at w (4 * 0 + c)) r)) (λ r c. bit_xor (at b r c)
-    (slice_index (word_at w (4 * 0 + c)) r))
+    state_same (λ r c. bit_xor (at (plane_block planes k) r c) (slice_index (word_at w _) r)) (λ r c. bit_xor (at b r c)
+    (slice_index (word_at w _) r))
     (λ r c hr hc.
     let block : (16 * k + (r + 4 * c)) / 16 ≡ k = omega arith in
     let place : (16 * k + (r + 4 * c)) % 16 ≡ r + 4 * c = omega arith in
@@ -91,4 +90,4 @@ by_four P a b c d zero h = a
 by_four P a b c d (suc zero) h = b
 by_four P a b c d (suc (suc zero)) h = c
 by_four P a b c d (suc (suc (suc zero))) h = d
-by_four P a b c d (suc (suc (suc (suc k)))) h = absurd (omega arith)
+by_four P a b c d _ h = absurd (omega arith)

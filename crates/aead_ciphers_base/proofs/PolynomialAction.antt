@@ -1,11 +1,12 @@
 -- Multiplication of coefficients by a polynomial, modulo another: Horner's rule, one step of x at a time.
 use Rattle.std.proofs.Common.{◌≡◌, ℕ, zero, suc, ◌+◌, ◌-◌, ◌<◌, ◌≤◌, Bool, true, false, ◌&&◌, List, [], ◌∷◌, length, map, refl, sym, ap, ap₂, ◌∙◌, arith}
 use Rattle.std.proofs.Common.{zero-add, add-zero}
+use Rattle.std.proofs.Math.Bool.{and_assoc}
 use Rattle.std.proofs.Math.ListN.{get_or-eq_default}
 use Rattle.std.proofs.Math.Nat.{suc-sub-suc, sub-zero}
 use Rattle.std.specs.List.{range_with_len}
 use Rattle.aead_ciphers_base.specs.Polynomial.{◌xor◌, xor_sum, coefficient, polynomial_product}
-use Rattle.aead_ciphers_base.proofs.PolynomialBits.{xor_comm, xor_assoc, xor_zero, xor_exchange, and_xor, xor_and, and_assoc, Series, same_series, none}
+use Rattle.aead_ciphers_base.proofs.PolynomialBits.{xor_comm, xor_assoc, xor_zero, xor_exchange, and_xor, xor_and, Series, same_series, same_steps, none}
 use Rattle.aead_ciphers_base.proofs.PolynomialBits.{add, scale, shift, add_comm, add_assoc, add_exchange, scale_add, scale_xor, scale_none, scale_swap}
 use Rattle.aead_ciphers_base.specs.Bytes.{each_below}
 
@@ -16,8 +17,8 @@ abbrev pub product_coefficient : List Bool → List Bool → Series
 product_coefficient a b k = xor_sum (suc k) (λ i. coefficient a i && coefficient b (k - i))
 
 xor_sum-first : (n : ℕ) (f : Series) → xor_sum (suc n) f ≡ (f zero xor xor_sum n (λ k. f (suc k)))
-xor_sum-first zero f = xor_comm false (f zero)
-xor_sum-first (suc n) f = ap (λ (b : Bool). b xor f (suc n)) (xor_sum-first n f) ∙ xor_assoc (f zero) (xor_sum n (λ k. f (suc k))) (f (suc n))
+xor_sum-first zero f = xor_comm false _
+xor_sum-first (suc n) f = ap (λ (b : Bool). b xor f (suc n)) (xor_sum-first n f) ∙ xor_assoc _ (xor_sum n (λ k. f _)) _
 
 xor_sum-none : (n : ℕ) (f : Series) → ((k : ℕ) → f k ≡ false) → xor_sum n f ≡ false
 xor_sum-none zero f h = refl
@@ -27,15 +28,11 @@ product_of_none : (b : List Bool) (k : ℕ) → product_coefficient [] b k ≡ f
 product_of_none b k = xor_sum-none (suc k) _ (λ i. refl)
 
 product_coefficient-cons : (x : Bool) (a b : List Bool) → product_coefficient (x ∷ a) b ≡ add (scale x (coefficient b)) (shift (product_coefficient a b))
-product_coefficient-cons x a b = same_series go
-  where
-    go : (k : ℕ) → product_coefficient (x ∷ a) b k ≡ add (scale x (coefficient b)) (shift (product_coefficient a b)) k
-    go zero = sym (xor_zero (x && coefficient b zero))
-    go (suc k) =
-        xor_sum-first (suc k) (λ i. coefficient (x ∷ a) i && coefficient b (suc k - i))
-        ∙ ap (λ (j : ℕ). (x && coefficient b j) xor xor_sum (suc k) (λ i. coefficient a i && coefficient b (suc k - suc i))) (sub-zero (suc k))
-        ∙ ap (λ (g : Series). (x && coefficient b (suc k)) xor xor_sum (suc k) g) (same_series (λ i. ap (λ (j : ℕ). coefficient a i && coefficient b j)
-        (suc-sub-suc k i)))
+product_coefficient-cons x a b =
+    same_steps _ _ (sym (xor_zero (x && coefficient b zero))) (λ k. xor_sum-first (suc k) (λ i. coefficient (x ∷ a) i && coefficient b _)
+    ∙ ap (λ (j : ℕ). (x && coefficient b j) xor xor_sum (suc k) (λ i. coefficient a i && coefficient b (suc k - suc i))) (sub-zero (suc k))
+    ∙ ap (λ (g : Series). (x && coefficient b (suc k)) xor xor_sum (suc k) g) (same_series (λ i. ap (λ (j : ℕ). coefficient a i && coefficient b j)
+    (suc-sub-suc k i))))
 
 -- ---- one step of x, and Horner's rule. `top` is the degree less one, `m` the modulus with its highest coefficient
 
@@ -46,26 +43,16 @@ module _ (top : ℕ) (m : Series) where
   mul_x f (suc k) = f k xor (f top && m (suc k))
 
   pub mul_x-add : (f g : Series) → mul_x (add f g) ≡ add (mul_x f) (mul_x g)
-  mul_x-add f g = same_series go
-    where
-      go : (k : ℕ) → mul_x (add f g) k ≡ add (mul_x f) (mul_x g) k
-      go zero = xor_and (f top) (g top) (m zero)
-      go (suc k) = ap (λ (b : Bool). (f k xor g k) xor b) (xor_and (f top) (g top) (m (suc k)))
-          ∙ xor_exchange (f k) (g k) (f top && m (suc k)) (g top && m (suc k))
+  mul_x-add f g =
+      same_steps _ _ (xor_and (f top) _ _) (λ k. ap (λ (b : Bool). (f k xor g k) xor b) (xor_and (f top) _ _)
+      ∙ xor_exchange (f k) (g k) _ _)
 
   pub mul_x-scale : (b : Bool) (f : Series) → mul_x (scale b f) ≡ scale b (mul_x f)
-  mul_x-scale b f = same_series go
-    where
-      go : (k : ℕ) → mul_x (scale b f) k ≡ scale b (mul_x f) k
-      go zero = and_assoc b (f top) (m zero)
-      go (suc k) = ap (λ (c : Bool). (b && f k) xor c) (and_assoc b (f top) (m (suc k))) ∙ sym (and_xor b (f k) (f top && m (suc k)))
+  mul_x-scale b f =
+      same_steps _ _ (and_assoc b _ _) (λ k. ap (λ (c : Bool). (b && f k) xor c) (and_assoc b _ _) ∙ sym (and_xor b (f k) _))
 
   pub mul_x-none : mul_x none ≡ none
-  mul_x-none = same_series go
-    where
-      go : (k : ℕ) → mul_x none k ≡ none k
-      go zero = refl
-      go (suc k) = refl
+  mul_x-none = same_steps _ _ refl (λ k. refl)
 
   -- the polynomial with the n coefficients c 0, .., c (n - 1), times f
   abbrev pub horner : ℕ → Series → Series → Series
@@ -95,11 +82,11 @@ module _ (top : ℕ) (m : Series) where
   horner-scale (suc n) c b f =
       let d : Series = λ k. c (suc k) in
       ap₂ add (scale_swap (c zero) b f) (ap mul_x (horner-scale n d b f) ∙ mul_x-scale b (horner n d f))
-      ∙ sym (scale_add b (scale (c zero) f) (mul_x (horner n d f)))
+      ∙ sym (scale_add b _ _)
 
   pub horner-none : (n : ℕ) (c : Series) → horner n c none ≡ none
   horner-none zero c = refl
-  horner-none (suc n) c = ap₂ add (scale_none (c zero)) (ap mul_x (horner-none n (λ k. c (suc k))) ∙ mul_x-none)
+  horner-none (suc n) c = ap₂ add (scale_none (c zero)) (ap mul_x (horner-none n (λ k. c _)) ∙ mul_x-none)
 
   pub horner-mul_x : (n : ℕ) (c f : Series) → horner n c (mul_x f) ≡ mul_x (horner n c f)
   horner-mul_x zero c f = sym mul_x-none
@@ -112,8 +99,8 @@ module _ (top : ℕ) (m : Series) where
   horner-swap zero k c e f = sym (horner-none k e)
   horner-swap (suc n) k c e f =
       let d : Series = λ j. c (suc j) in
-      ap₂ add (sym (horner-scale k e (c zero) f)) (ap mul_x (horner-swap n k d e f) ∙ sym (horner-mul_x k e (horner n d f)))
-      ∙ sym (horner-add k e (scale (c zero) f) (mul_x (horner n d f)))
+      ap₂ add (sym (horner-scale k e _ f)) (ap mul_x (horner-swap n k d e f) ∙ sym (horner-mul_x k e (horner n d f)))
+      ∙ sym (horner-add k e _ _)
 
   pub times_swap : (p q : List Bool) (f : Series) → times p (times q f) ≡ times q (times p f)
   times_swap p q f = horner-swap (length p) (length q) (coefficient p) (coefficient q) f
@@ -123,14 +110,14 @@ module _ (top : ℕ) (m : Series) where
   pub horner_none : (n : ℕ) (c f : Series) → ((k : ℕ) → c k ≡ false) → horner n c f ≡ none
   horner_none zero c f h = refl
   horner_none (suc n) c f h =
-      ap₂ (λ (b : Bool) (s : Series). add (scale b f) (mul_x s)) (h zero) (horner_none n (λ k. c (suc k)) f (λ k. h (suc k))) ∙ mul_x-none
+      ap₂ (λ (b : Bool) (s : Series). add (scale b f) (mul_x s)) (h zero) (horner_none n (λ k. c (suc k)) f (λ k. h _)) ∙ mul_x-none
 
   pub horner_add : (n : ℕ) (c e f : Series) → horner n (add c e) f ≡ add (horner n c f) (horner n e f)
   horner_add zero c e f = refl
   horner_add (suc n) c e f =
       let c' : Series = λ k. c (suc k) in
       let e' : Series = λ k. e (suc k) in
-      ap₂ add (scale_xor (c zero) (e zero) f) (ap mul_x (horner_add n c' e' f) ∙ mul_x-add (horner n c' f) (horner n e' f))
+      ap₂ add (scale_xor (c zero) _ f) (ap mul_x (horner_add n c' e' f) ∙ mul_x-add (horner n c' f) (horner n e' f))
       ∙ add_exchange (scale (c zero) f) (scale (e zero) f) (mul_x (horner n c' f)) (mul_x (horner n e' f))
 
   pub horner_scale : (n : ℕ) (b : Bool) (c f : Series) → horner n (scale b c) f ≡ scale b (horner n c f)
@@ -140,18 +127,18 @@ module _ (top : ℕ) (m : Series) where
   -- coefficients of zero make no difference
   pub horner_more : (n k : ℕ) (c f : Series) → k ≤ n → ((j : ℕ) → k ≤ j → c j ≡ false) → horner n c f ≡ horner k c f
   horner_more n zero c f below above = horner_none n c f (λ j. above j (omega arith))
-  horner_more zero (suc k) c f below above = absurd (omega arith)
   horner_more (suc n) (suc k) c f below above =
-      ap (λ (s : Series). add (scale (c zero) f) (mul_x s)) (horner_more n k (λ j. c (suc j)) f (omega arith) (λ j h. above (suc j) (omega arith)))
+      ap (λ (s : Series). add (scale (c zero) f) (mul_x s)) (horner_more n k (λ j. c _) f (omega arith) (λ j h. above (suc j) (omega arith)))
+  horner_more _ _ c f below above = absurd (omega arith)
 
   -- one higher coefficient
   pub horner_push : (n : ℕ) (c f : Series) → horner (suc n) c f ≡ add (horner n c f) (scale (c n) (raise n f))
-  horner_push zero c f = ap (add (scale (c zero) f)) mul_x-none ∙ add_comm (scale (c zero) f) none
+  horner_push zero c f = ap (add (scale (c zero) f)) mul_x-none ∙ add_comm _ none
   horner_push (suc n) c f =
-      let d : Series = λ k. c (suc k) in
+      let d : Series = λ k. c _ in
       ap (add (scale (c zero) f)) (ap mul_x (horner_push n d f) ∙ mul_x-add (horner n d f) (scale (c (suc n)) (raise n f))
       ∙ ap (add (mul_x (horner n d f))) (mul_x-scale (c (suc n)) (raise n f)))
-      ∙ sym (add_assoc (scale (c zero) f) (mul_x (horner n d f)) (scale (c (suc n)) (raise (suc n) f)))
+      ∙ sym (add_assoc (scale (c zero) f) _ _)
 
   -- ---- of a list given by its coefficients, and of a product
 
@@ -159,25 +146,25 @@ module _ (top : ℕ) (m : Series) where
   map_times zero a c f = refl
   map_times (suc n) a c f =
       ap₂ (λ (b : Bool) (s : Series). add (scale b f) (mul_x s)) (ap c (sym (add-zero a)))
-      (map_times n (a + 1) c f ∙ ap (λ (e : Series). horner n e f) (same_series (λ k. let e : a + 1 + k ≡ a + suc k = omega arith in ap c e)))
+      (map_times n _ c f ∙ ap (λ (e : Series). horner n e f) (same_series (λ k. let e : a + 1 + k ≡ a + suc k = omega arith in ap c e)))
 
   pub polynomial_times : (n : ℕ) (c f : Series) → times (each_below n c) f ≡ horner n c f
   polynomial_times n c f = map_times n 0 c f ∙ ap (λ (e : Series). horner n e f) (same_series (λ k. ap c (zero-add k)))
 
   horner-product : (a b : List Bool) (n : ℕ) (f : Series) → 0 < length b → length a + length b ≤ suc n
       → horner n (product_coefficient a b) f ≡ times a (times b f)
-  horner-product [] b n f some fits = horner_none n (product_coefficient [] b) f (product_of_none b)
-  horner-product (x ∷ a) b zero f some fits = absurd (omega arith)
+  horner-product [] b n f some fits = horner_none n _ f (product_of_none b)
   horner-product (x ∷ a) b (suc n) f some fits =
       ap (λ (c : Series). horner (suc n) c f) (product_coefficient-cons x a b)
       ∙ horner_add (suc n) (scale x (coefficient b)) (shift (product_coefficient a b)) f
       ∙ ap₂ add
-      (horner_scale (suc n) x (coefficient b) f ∙ ap (scale x) (horner_more (suc n) (length b) (coefficient b) f (omega arith)
+      (horner_scale (suc n) x (coefficient b) f ∙ ap (scale x) (horner_more (suc n) _ _ f (omega arith)
       (λ k h. get_or-eq_default b false h)))
       (ap mul_x (horner-product a b n f some (omega arith)))
+  horner-product _ b _ f some fits = absurd (omega arith)
 
   pub product_times : (a b : List Bool) (f : Series) → 0 < length b → times (polynomial_product a b) f ≡ times a (times b f)
   unfolding polynomial_product
   product_times a b f some =
-      let n : ℕ = length a + length b - 1 in
-      polynomial_times n (product_coefficient a b) f ∙ horner-product a b n f some (omega arith)
+      let n = length a + length b - 1 in
+      polynomial_times n _ f ∙ horner-product a b n f some (omega arith)

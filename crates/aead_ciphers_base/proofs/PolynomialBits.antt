@@ -1,69 +1,33 @@
 -- Sums and products of bits, and of coefficients of every power.
-use Rattle.std.proofs.Common.{◌≡◌, ℕ, zero, suc, Bool, true, false, ◌&&◌, refl, sym}
+use Rattle.std.proofs.Common.{◌≡◌, ℕ, zero, suc, Bool, false, ◌&&◌, refl, arith}
+use Rattle.std.proofs.Math.Bool.{and-false}
 use Rattle.aead_ciphers_base.specs.Polynomial.{◌xor◌}
 
 -- ---- bits
 
 pub xor_comm : (a b : Bool) → (a xor b) ≡ (b xor a)
-xor_comm false false = refl
-xor_comm false true = refl
-xor_comm true false = refl
-xor_comm true true = refl
+xor_comm a b = grind arith
 
 pub xor_assoc : (a b c : Bool) → ((a xor b) xor c) ≡ (a xor (b xor c))
-xor_assoc false b c = refl
-xor_assoc true false c = refl
-xor_assoc true true false = refl
-xor_assoc true true true = refl
+xor_assoc a b c = grind arith
 
 pub xor_zero : (a : Bool) → (a xor false) ≡ a
-xor_zero false = refl
-xor_zero true = refl
+xor_zero a = grind arith
 
 pub xor_self : (a : Bool) → (a xor a) ≡ false
-xor_self false = refl
-xor_self true = refl
+xor_self a = grind arith
 
 pub xor_exchange : (a b c d : Bool) → ((a xor b) xor (c xor d)) ≡ ((a xor c) xor (b xor d))
-xor_exchange false false c d = refl
-xor_exchange false true false d = refl
-xor_exchange false true true false = refl
-xor_exchange false true true true = refl
-xor_exchange true false false d = refl
-xor_exchange true false true false = refl
-xor_exchange true false true true = refl
-xor_exchange true true false false = refl
-xor_exchange true true false true = refl
-xor_exchange true true true false = refl
-xor_exchange true true true true = refl
+xor_exchange a b c d = grind arith
 
 pub and_xor : (a b c : Bool) → (a && (b xor c)) ≡ ((a && b) xor (a && c))
-and_xor false b c = refl
-and_xor true b c = refl
+and_xor a b c = grind arith
 
 pub xor_and : (a b c : Bool) → ((a xor b) && c) ≡ ((a && c) xor (b && c))
-xor_and false b c = refl
-xor_and true false c = sym (xor_zero c)
-xor_and true true false = refl
-xor_and true true true = refl
+xor_and a b c = grind arith
 
 pub and_swap : (a b c : Bool) → (a && (b && c)) ≡ (b && (a && c))
-and_swap false false c = refl
-and_swap false true c = refl
-and_swap true false c = refl
-and_swap true true c = refl
-
-pub and_assoc : (a b c : Bool) → ((a && b) && c) ≡ (a && (b && c))
-and_assoc false b c = refl
-and_assoc true b c = refl
-
-pub and_zero : (a : Bool) → (a && false) ≡ false
-and_zero false = refl
-and_zero true = refl
-
-pub and_one : (a : Bool) → (a && true) ≡ a
-and_one false = refl
-and_one true = refl
+and_swap a b c = grind arith
 
 -- ---- coefficients
 
@@ -73,6 +37,9 @@ Series = ℕ → Bool
 
 pub same_series : {f g : Series} → ((k : ℕ) → f k ≡ g k) → f ≡ g
 same_series h = λ i k. h k i
+
+pub same_steps : (f g : Series) → f zero ≡ g zero → ((k : ℕ) → f (suc k) ≡ g (suc k)) → f ≡ g
+same_steps f g first rest = same_series (λ k. elim k as (λ j. f j ≡ g j) [ zero ↦ first | suc j ↦ rest j ])
 
 abbrev pub none : Series
 none k = false
@@ -110,14 +77,10 @@ pub scale_xor : (a b : Bool) (f : Series) → scale (a xor b) f ≡ add (scale a
 scale_xor a b f = same_series (λ k. xor_and a b (f k))
 
 pub scale_none : (b : Bool) → scale b none ≡ none
-scale_none b = same_series (λ k. and_zero b)
+scale_none b = same_series (λ k. and-false b)
 
 pub scale_swap : (a b : Bool) (f : Series) → scale a (scale b f) ≡ scale b (scale a f)
 scale_swap a b f = same_series (λ k. and_swap a b (f k))
 
 pub shift-add : (f g : Series) → shift (add f g) ≡ add (shift f) (shift g)
-shift-add f g = same_series go
-  where
-    go : (j : ℕ) → shift (add f g) j ≡ add (shift f) (shift g) j
-    go zero = refl
-    go (suc j) = refl
+shift-add f g = same_steps _ _ refl (λ k. refl)

@@ -11,7 +11,7 @@ use Rattle.aead_ciphers_base.proofs.KeySchedule.{key_word}
 
 length-key_words : (nk : ℕ) (key : List ℕ) (n : ℕ) → length (key_words nk key n) ≡ nk + n
 unfolding key_words
-length-key_words nk key zero = length-each nk (key_word key) ∙ omega arith
+length-key_words nk key zero = length-each nk _ ∙ omega arith
 length-key_words nk key (suc n) =
     let before = length-key_words nk key n in
     let both = length-append (key_words nk key n) (next_word nk (key_words nk key n) (nk + n) ∷ []) in
@@ -19,9 +19,9 @@ length-key_words nk key (suc n) =
 
 key_words_front : (nk : ℕ) (key : List ℕ) (n i : ℕ) → i < nk → word_at (key_words nk key n) i ≡ key_word key i
 unfolding key_words
-key_words_front nk key zero i h = get_or-each nk (key_word key) i [] h
+key_words_front nk key zero i h = get_or-each nk _ i [] h
 key_words_front nk key (suc n) i h =
-    get_or_append_left (key_words nk key n) _ [] i (omega (arith, length-key_words nk key n)) ∙ key_words_front nk key n i h
+    get_or_append_left _ _ [] i (omega (arith, length-key_words nk key n)) ∙ key_words_front nk key n i h
 
 -- the round keys of a key begin with it
 key_of_schedule : (key : List ℕ) (round_keys : List (List ℕ)) (nk m n : ℕ) → length key ≡ 4 * nk → nk ≤ 8 → 2 ≤ n
@@ -29,7 +29,7 @@ key_of_schedule : (key : List ℕ) (round_keys : List (List ℕ)) (nk m n : ℕ)
 unfolding key_of
 key_of_schedule key round_keys nk m n len hk hn holds =
     let size : length key ≡ 4 * (nk + 6 - 6) = omega arith in
-    sym (fill_by_all (λ j. plane_byte (slice_index_or round_keys (j / 16) []) (j % 16)) key (4 * (nk + 6 - 6)) 0 size
+    sym (fill_by_all (λ j. plane_byte _ _) key _ 0 size
     (λ j lt.
     let row : 4 * (j / 16) + j % 16 % 16 / 4 ≡ j / 4 = omega arith in
     let column : j % 16 % 4 ≡ j % 4 = omega arith in
@@ -51,11 +51,11 @@ module _ (key : List ℕ) (w round_keys : List (List ℕ)) (nk : ℕ) (len : len
 
   holds_key : HoldsWords round_keys words (nk + 6 + 1)
   holds_key j p hj hp =
-      let size = ap length words_is ∙ length-key_words nk key (4 * (nk + 6 + 1) - nk) in
+      let size = ap length words_is ∙ length-key_words nk key _ in
       holds j p (omega arith) hp ∙ ap (λ t. slice_index (word_at t (4 * j + p % 16 / 4)) (p % 4)) words_is
 
   pub key_of_is : key_of round_keys (nk + 6) ≡ key
-  key_of_is = key_of_schedule key round_keys nk (4 * (nk + 6 + 1) - nk) (nk + 6 + 1) len most (omega arith) holds_key
+  key_of_is = key_of_schedule key round_keys nk _ _ len most (omega arith) holds_key
 
   pub is_schedule : IsSchedule round_keys (nk + 6)
   is_schedule = record {

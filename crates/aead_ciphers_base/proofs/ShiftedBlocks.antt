@@ -25,8 +25,8 @@ first_chunks_split n zero m xs =
     rw (count, none, one) refl
 first_chunks_split n (suc i) m xs =
     let count : suc i + suc m ≡ suc (i + suc m) = omega arith in
-    let at : drop (i * n) (drop n xs) ≡ drop (suc i * n) xs = drop-drop (i * n) n xs ∙ ap (λ x. drop x xs) (add_comm n (i * n) ∙ sym (suc-mul i n)) in
-    let past : drop (suc i * n) (drop n xs) ≡ drop (suc (suc i) * n) xs = drop-drop (suc i * n) n xs ∙ ap (λ x. drop x xs) (add_comm n (suc i * n)
+    let at = drop-drop _ n xs ∙ ap (λ x. drop x xs) (add_comm n _ ∙ sym (suc-mul i n)) in
+    let past = drop-drop _ n xs ∙ ap (λ x. drop x xs) (add_comm n _
     ∙ sym (suc-mul (suc i) n)) in
     rw (count, first_chunks_split n i m (drop n xs), at, past) refl
 
@@ -49,7 +49,7 @@ module _ {T C F : Type 0} (items : C → List T) (g : Mut F (Bor C × Unit {0}) 
     count : length outs ≡ i * n
     unfolding outs
     count =
-        let inner : length cur ≡ length outs + (length old - i * n) = ap length s.written ∙ length-append outs (drop (i * n) old)
+        let inner = ap length s.written ∙ length-append outs _
         ∙ ap (λ (x : ℕ). length outs + x) (length-drop (i * n) old) in
         omega arith
 
@@ -59,10 +59,10 @@ module _ {T C F : Type 0} (items : C → List T) (g : Mut F (Bor C × Unit {0}) 
 
     rest : drop (i * n) cur ≡ drop (i * n) old
     unfolding outs
-    rest = ap (drop (i * n)) s.written ∙ ap (λ (x : ℕ). drop x (outs ++ drop (i * n) old)) (sym count) ∙ drop-append_seam outs (drop (i * n) old)
+    rest = ap (drop (i * n)) s.written ∙ ap (λ (x : ℕ). drop x (outs ++ drop (i * n) old)) (sym count) ∙ drop-append_seam outs _
 
     block : drop (start + i * n) cur ≡ drop (i * n) (drop start old)
-    block = ap (λ (x : ℕ). drop x cur) (add_comm start (i * n)) ∙ sym (drop-drop start (i * n) cur) ∙ ap (drop start) rest ∙ drop-drop start (i * n) old
+    block = ap (λ (x : ℕ). drop x cur) (add_comm start _) ∙ sym (drop-drop start _ cur) ∙ ap (drop start) rest ∙ drop-drop start _ old
         ∙ ap (λ (x : ℕ). drop x old) (add_comm (i * n) start) ∙ sym (drop-drop (i * n) start old)
 
     -- so f may be called at it
@@ -71,9 +71,9 @@ module _ {T C F : Type 0} (items : C → List T) (g : Mut F (Bor C × Unit {0}) 
     unfolding blocks
     may_take c got turn takes =
         let xs = drop start old in
-        let k : ℕ = length xs / n - suc i in
+        let k = length xs / n - suc i in
         let all : i + suc k ≡ length xs / n = omega arith in
-        takes s.calls mid c (first_chunks n k (drop (suc i * n) xs)) s.ran
+        takes s.calls mid c _ s.ran
         (ap (λ (x : ℕ). first_chunks n x xs) (sym all) ∙ first_chunks_split n i k xs
         ∙ ap (λ (t : List T). first_chunks n i xs ++ (t ∷ first_chunks n k (drop (suc i * n) xs))) (sym (got ∙ ap (take n) block))
         ∙ ap (λ (t : List (List T)). t ++ (items c ∷ first_chunks n k (drop (suc i * n) xs))) (sym s.taken))
@@ -84,9 +84,9 @@ module _ {T C F : Type 0} (items : C → List T) (g : Mut F (Bor C × Unit {0}) 
         → ShiftsFirst (i + 1) (take a cur ++ (to ++ drop k (drop a cur))) last
     unfolding outs
     shift_more c o last to a k got put called at size =
-        let up : (i + 1) * n ≡ i * n + n = ap (λ (x : ℕ). x * n) (add-one i) ∙ suc-mul i n in
-        let tail : drop n (drop (i * n) old) ≡ drop ((i + 1) * n) old = drop-drop n (i * n) old ∙ ap (λ (x : ℕ). drop x old) (sym up) in
-        let all : joined (map (λ (x : C × C). items x.1) (s.calls ++ ((c, o) ∷ []))) ≡ outs ++ items o =
+        let up = ap (λ (x : ℕ). x * n) (add-one i) ∙ suc-mul i n in
+        let tail = drop-drop n _ old ∙ ap (λ (x : ℕ). drop x old) (sym up) in
+        let all =
         ap joined (map-append (λ (x : C × C). items x.1) s.calls ((c, o) ∷ [])) ∙ joined_more (map (λ (x : C × C). items x.1) s.calls) (items o) in
         record {
           calls = s.calls ++ ((c, o) ∷ []);
@@ -94,7 +94,7 @@ module _ {T C F : Type 0} (items : C → List T) (g : Mut F (Bor C × Unit {0}) 
           taken = map-append (λ (x : C × C). items x.0) s.calls ((c, o) ∷ [])
               ∙ ap (λ (t : List (List T)). t ++ (items c ∷ [])) s.taken
               ∙ ap (λ (b : List T). first_chunks n i (drop start old) ++ (b ∷ [])) (got ∙ ap (take n) block)
-              ∙ sym (first_chunks_more n i (drop start old));
+              ∙ sym (first_chunks_more n i _);
           written = rw (at, size, front, rest, tail, put, all, append_assoc) refl;
         }
 
@@ -103,7 +103,7 @@ module _ {T C F : Type 0} (items : C → List T) (g : Mut F (Bor C × Unit {0}) 
       → ShiftsBlocks items g n f old start new
   unfolding blocks
   shifts_all i new last done whole s =
-      let all : i * n ≡ length old - start = ap (λ (x : ℕ). x * n) done ∙ omega (arith, mod-add-div' (length old - start) n) in
+      let all = ap (λ (x : ℕ). x * n) done ∙ omega (arith, mod-add-div' (length old - start) n) in
       record {
         calls = s.calls;
         last = last;

@@ -11,14 +11,14 @@ use Rattle.aead_ciphers_base.proofs.XorLemmas.{length-xor, xor-take, xor-append,
 
 pub length-xored : (f : ℕ → ℕ) (text : List ℕ) → length (xored f text) ≡ length text
 unfolding xored
-length-xored f text = length-xor text (each_below (length text) f) (omega (arith, length-each (length text) f))
+length-xored f text = length-xor text _ (omega (arith, length-each (length text) f))
 
 -- the stream of the second piece goes on where that of the first ends
 pub xored-append : (f g : ℕ → ℕ) (xs ys : List ℕ) → ((i : ℕ) → f (length xs + i) ≡ g i) → xored f (xs ++ ys) ≡ xored f xs ++ xored g ys
 unfolding xored
 xored-append f g xs ys later =
     ap (λ (n : ℕ). (xs ++ ys) ⊕ each_below n f) (length-append xs ys)
-    ∙ ap (λ (us : List ℕ). (xs ++ ys) ⊕ us) (each-append (length xs) (length ys) f)
+    ∙ ap (λ (us : List ℕ). (xs ++ ys) ⊕ us) (each-append (length xs) _ f)
     ∙ xor-append xs ys (each_below (length xs) f) _ (sym (length-each (length xs) f))
     ∙ ap (λ (us : List ℕ). (xs ⊕ each_below (length xs) f) ++ (ys ⊕ us)) (each-same (length ys) _ g (λ i h. later i))
 
@@ -26,18 +26,18 @@ xored-append f g xs ys later =
 pub take-xored : (f : ℕ → ℕ) (n : ℕ) (text : List ℕ) → n ≤ length text → take n (xored f text) ≡ xored f (take n text)
 take-xored f n text le =
     ap (λ (u : List ℕ). take n (xored f u)) (sym (take-append-drop n text))
-    ∙ ap (take n) (xored-append f (λ i. f (length (take n text) + i)) (take n text) (drop n text) (λ i. refl))
-    ∙ take_at (xored f (take n text)) _ n (length-xored f (take n text) ∙ length-take-le n text le)
+    ∙ ap (take n) (xored-append f (λ i. f _) _ (drop n text) (λ i. refl))
+    ∙ take_at _ _ n (length-xored f _ ∙ length-take-le n text le)
 
 -- encrypting twice
 pub xored-xored : (f : ℕ → ℕ) (text : List ℕ) → xored f (xored f text) ≡ text
 unfolding xored
 xored-xored f text =
-    rw (length-xored f text) (xor-xor text (each_below (length text) f) (omega (arith, length-each (length text) f)))
+    rw (length-xored f text) (xor-xor text _ (omega (arith, length-each (length text) f)))
 
 -- the first n bytes of a list that holds the stream's
 pub stream_front : (f : ℕ → ℕ) (bytes : List ℕ) (n : ℕ) → n ≤ length bytes → ((i : ℕ) → i < n → get_or bytes i 0 ≡ f i) → take n bytes ≡ each_below n f
-stream_front f bytes n le same = fill_by_all f (take n bytes) n 0 (length-take-le n bytes le) (λ i h. get_or-take n bytes i 0 h ∙ same i h)
+stream_front f bytes n le same = fill_by_all f _ n 0 (length-take-le n bytes le) (λ i h. get_or-take n bytes i 0 h ∙ same i h)
 
 -- a text XOR a list that starts with the stream's bytes
 pub xored-is : (f : ℕ → ℕ) (text bytes : List ℕ) → take (length text) bytes ≡ each_below (length text) f → text ⊕ bytes ≡ xored f text
@@ -50,16 +50,16 @@ pub advance : (f g : ℕ → ℕ) (d n s : ℕ) (was now : List ℕ) → ((i : �
     take d now ++ xored g (take n (drop (s + d) now)) ++ drop (d + n) now ≡ xored f (take (d + n) (drop s was)) ++ drop (d + n) was
 advance f g d n s was now later room e =
     let text = drop s was in
-    let done = xored f (take d text) in
-    let front : length (take d text) ≡ d = length-take-le d text (omega (arith, length-drop s was)) in
-    let len : length done ≡ d = length-xored f (take d text) ∙ front in
-    let more : take d now ≡ done = ap (take d) e ∙ take_at done (drop d was) d len in
-    let input : drop (s + d) now ≡ drop d text = ap (drop (s + d)) e ∙ drop-append-drop d was done (s + d) (omega arith) len ∙ sym (drop-drop d s was) in
-    let rest : drop (d + n) now ≡ drop (d + n) was = ap (drop (d + n)) e ∙ drop-append-drop d was done (d + n) (omega arith) len in
+    let done = xored f _ in
+    let front = length-take-le d text (omega (arith, length-drop s was)) in
+    let len = length-xored f _ ∙ front in
+    let more = ap (take d) e ∙ take_at done _ d len in
+    let input = ap (drop (s + d)) e ∙ drop-append-drop d was done _ (omega arith) len ∙ sym (drop-drop d s was) in
+    let rest = ap (drop (d + n)) e ∙ drop-append-drop d was done _ (omega arith) len in
     ap₂ (λ (u v : List ℕ). u ++ xored g (take n (drop (s + d) now)) ++ v) more rest
     ∙ ap (λ (u : List ℕ). done ++ xored g (take n u) ++ drop (d + n) was) input
     ∙ ap (λ (u : List ℕ). u ++ drop (d + n) was)
-    (sym (xored-append f g (take d text) (take n (drop d text)) (λ i. ap (λ (m : ℕ). f (m + i)) front ∙ later i))
+    (sym (xored-append f g _ _ (λ i. ap (λ (m : ℕ). f (m + i)) front ∙ later i))
     ∙ ap (xored f) (sym (take-add d n text)))
 
 -- the first d bytes from s on are all of them
@@ -78,6 +78,6 @@ finish f g d s was now later room len e =
     let all : d + n ≡ length was - s = omega arith in
     let all' : length now - s ≡ d + n = omega arith in
     ap₂ (λ (u : List ℕ) (z : ℕ). take d now ++ xored g u ++ drop z now)
-    (sym (take_all n (drop (s + d) now) (omega (arith, length-drop (s + d) now)))) all'
+    (sym (take_all n _ (omega (arith, length-drop (s + d) now)))) all'
     ∙ advance f g d n s was now later (omega arith) e
-    ∙ all_from f s (d + n) was all
+    ∙ all_from f s _ was all

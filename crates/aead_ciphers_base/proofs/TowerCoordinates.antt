@@ -1,5 +1,5 @@
 -- The operations of `aes::tower` on the coordinates at one place.
-use Rattle.std.proofs.Common.{◌≡◌, ℕ, ◌/◌, ◌^◌, Bool, true, ◌&&◌, ◌||◌, inl, inr, List, [], ◌∷◌, ◌++◌, length, take, drop, refl, sym, ap, ◌∙◌}
+use Rattle.std.proofs.Common.{◌≡◌, ℕ, ◌/◌, ◌^◌, Bool, true, ◌&&◌, ◌||◌, inl, inr, List, [], ◌∷◌, ◌++◌, length, take, drop, refl, sym, ap, ap₂, ◌∙◌}
 use Rattle.std.proofs.Common.{arith, find, unwrap_or, slice_index}
 use Rattle.std.specs.Prelude.{◌==◌}
 use Rattle.std.specs.Int.{bit_at}
@@ -16,7 +16,7 @@ use Rattle.aead_ciphers_base.proofs.FastProduct.{by_fast_mul8}
 -- a test passes at k bits if it does at those of each number below 2^k
 all_at_bits : (p : List Bool → Bool) (q : List Bool) → all_below (λ n. p (bits_of (length q) n)) (2 ^ length q) ≡ true → p q ≡ true
 all_at_bits p q test =
-    ap p (sym (bits_of-value_of q)) ∙ all_below_at (λ n. p (bits_of (length q) n)) (2 ^ length q) (value_of q) test (value_of-lt q)
+    ap p (sym (bits_of-value_of q)) ∙ all_below_at (λ n. p _) _ _ test (value_of-lt q)
 
 -- two functions agree at k bits if they do at those of each number below 2^k
 same_at_bits : (f g : List Bool → ℕ) (q : List Bool)
@@ -32,13 +32,13 @@ number_of basis e = unwrap_or (find (λ n. element basis (bits_of (length basis)
 pub coordinates : List ℕ → ℕ → List Bool
 coordinates basis e = bits_of (length basis) (number_of basis e)
 
-coordinates_4_test : all_below (λ n. number_of basis_4 (element basis_4 (bits_of 2 n)) == value_of (bits_of 2 n)) 4 ≡ true
-unfolding number_of element basis_4
-coordinates_4_test = refl
-
-coordinates_16_test : all_below (λ n. number_of basis_16 (element basis_16 (bits_of 4 n)) == value_of (bits_of 4 n)) 16 ≡ true
-unfolding number_of element basis_16
-coordinates_16_test = refl
+known : (basis : List ℕ) (q : List Bool) (e : ℕ) → length q ≡ length basis
+    → all_below (λ n. number_of basis (element basis (bits_of (length q) n)) == value_of (bits_of (length q) n)) (2 ^ length q) ≡ true
+    → element basis q ≡ e → q ≡ coordinates basis e
+unfolding coordinates
+known basis q e size test h =
+    sym (bits_of-value_of q)
+    ∙ ap₂ bits_of size (sym (same_at_bits (λ r. number_of basis (element basis r)) value_of q test) ∙ ap (number_of basis) h)
 
 -- bit p of plane k
 abbrev bit : List ℕ → ℕ → ℕ → Bool
@@ -46,23 +46,17 @@ bit x k p = bit_at (slice_index x k) p == 1
 
 pub two_bits : (x : List ℕ) (p e : ℕ) → plane_element basis_4 x p ≡ e
     → let q = coordinates basis_4 e in (bit x 0 p ≡ coefficient q 0) × (bit x 1 p ≡ coefficient q 1)
-unfolding coordinates plane_element plane_polynomial basis_4
+unfolding number_of element plane_element plane_polynomial basis_4
 two_bits x p e h =
-    let q = plane_polynomial 2 x p in
-    let s : q ≡ coordinates basis_4 e =
-    sym (bits_of-value_of q) ∙ ap (bits_of 2) (sym (same_at_bits (λ r. number_of basis_4 (element basis_4 r)) value_of q coordinates_4_test)
-    ∙ ap (number_of basis_4) h) in
+    let s = known basis_4 (plane_polynomial 2 x p) e refl refl h in
     (ap (λ t. coefficient t 0) s, ap (λ t. coefficient t 1) s)
 
 pub four_bits : (x : List ℕ) (p e : ℕ) → plane_element basis_16 x p ≡ e
     → let q = coordinates basis_16 e in
     (bit x 0 p ≡ coefficient q 0) × (bit x 1 p ≡ coefficient q 1) × (bit x 2 p ≡ coefficient q 2) × (bit x 3 p ≡ coefficient q 3)
-unfolding coordinates plane_element plane_polynomial basis_16
+unfolding number_of element plane_element plane_polynomial basis_16
 four_bits x p e h =
-    let q = plane_polynomial 4 x p in
-    let s : q ≡ coordinates basis_16 e =
-    sym (bits_of-value_of q) ∙ ap (bits_of 4) (sym (same_at_bits (λ r. number_of basis_16 (element basis_16 r)) value_of q coordinates_16_test)
-    ∙ ap (number_of basis_16) h) in
+    let s = known basis_16 (plane_polynomial 4 x p) e refl refl h in
     (ap (λ t. coefficient t 0) s, ap (λ t. coefficient t 1) s, ap (λ t. coefficient t 2) s, ap (λ t. coefficient t 3) s)
 
 -- ---- the products
@@ -72,17 +66,12 @@ product_4 a b =
     let both = (coefficient a 0 xor coefficient a 1) && (coefficient b 0 xor coefficient b 1) in
     ((coefficient a 0 && coefficient b 0) xor both) ∷ ((coefficient a 1 && coefficient b 1) xor both) ∷ []
 
-product_4_test : all_below (λ n. let q = bits_of 4 n in element basis_4 (product_4 (take 2 q) (drop 2 q))
-    == mul8 (element basis_4 (take 2 q)) (element basis_4 (drop 2 q))) 16 ≡ true
-unfolding field element basis_4
-product_4_test = refl
-
 pub product_4_is : (a b : List ℕ) (p : ℕ)
     → element basis_4 (product_4 (plane_polynomial 2 a p) (plane_polynomial 2 b p)) ≡ mul8 (plane_element basis_4 a p) (plane_element basis_4 b p)
-unfolding plane_element plane_polynomial basis_4
+unfolding field element plane_element plane_polynomial basis_4
 product_4_is a b p =
     same_at_bits (λ q. element basis_4 (product_4 (take 2 q) (drop 2 q))) (λ q. mul8 (element basis_4 (take 2 q)) (element basis_4 (drop 2 q)))
-    (plane_polynomial 2 a p ++ plane_polynomial 2 b p) product_4_test
+    (plane_polynomial 2 a p ++ plane_polynomial 2 b p) refl
 
 abbrev low_2 : List Bool → List Bool
 low_2 a = coefficient a 0 ∷ coefficient a 1 ∷ []
@@ -136,8 +125,8 @@ inverts mul x y = x / 256 == 0 && y / 256 == 0 && (mul x y == 1 || y == inv_by m
 inverts_is : (x y : ℕ) → inverts mul8 x y ≡ true → y ≡ inv x
 unfolding inv
 inverts_is x y h =
-    let parts = and_parts (x / 256 == 0 && y / 256 == 0) (mul8 x y == 1 || y == inv x) h in
-    let bytes = and_parts (x / 256 == 0) (y / 256 == 0) parts.0 in
+    let parts = and_parts _ _ h in
+    let bytes = and_parts _ _ parts.0 in
     let x_byte = eqb-true (x / 256) 0 bytes.0 in
     let y_byte = eqb-true (y / 256) 0 bytes.1 in
     elim (or_cases (mul8 x y == 1) (y == inv x) parts.1) [
@@ -165,7 +154,7 @@ pub inverse_16_is : (n : List ℕ) (p : ℕ) → element basis_16 (inverse_16_by
 unfolding plane_element plane_polynomial basis_16
 inverse_16_is n p =
     let q = plane_polynomial 4 n p in
-    inverts_is (element basis_16 q) (element basis_16 (inverse_16_by mul8 q)) (all_at_bits (inverse_16_holds mul8) q inverse_16_test)
+    inverts_is _ _ (all_at_bits (inverse_16_holds mul8) q inverse_16_test)
 
 abbrev low_4 : List Bool → List Bool
 low_4 a = coefficient a 0 ∷ coefficient a 1 ∷ coefficient a 2 ∷ coefficient a 3 ∷ []
@@ -210,9 +199,9 @@ inverse_is a p =
     let q = plane_polynomial 8 a p in
     let r = power_17_by mul8 q in
     let a238 = element basis_16 (inverse_16_by mul8 r) in
-    let inner : a238 ≡ inv (element basis_16 r) = inverts_is (element basis_16 r) a238 (all_at_bits (inverse_16_holds mul8) r inverse_16_test) in
+    let inner = inverts_is (element basis_16 r) a238 (all_at_bits (inverse_16_holds mul8) r inverse_16_test) in
     ap (λ t. element basis_256 (inverse_from mul8 t q)) (sym inner)
-    ∙ inverts_is (element basis_256 q) (element basis_256 (inverse_from mul8 a238 q)) (all_at_bits (inverse_holds mul8) q inverse_test)
+    ∙ inverts_is _ _ (all_at_bits (inverse_holds mul8) q inverse_test)
 
 -- ---- the changes of basis
 
@@ -225,13 +214,9 @@ to_tower a =
     coefficient a 0 ∷ (coefficient a 0 xor coefficient a 4 xor (coefficient a 7 xor a13)) ∷ (coefficient a 2 xor (a06 xor a13)) ∷ a056
     ∷ (coefficient a 4 xor a056) ∷ (a0156 xor (coefficient a 2 xor coefficient a 7)) ∷ (coefficient a 7 xor a056) ∷ a0156 ∷ []
 
-to_tower_test : all_below (λ n. element basis_256 (to_tower (bits_of 8 n)) == value_of (bits_of 8 n)) 256 ≡ true
-unfolding element basis_256
-to_tower_test = refl
-
 pub to_tower_is : (a : List ℕ) (p : ℕ) → element basis_256 (to_tower (plane_polynomial 8 a p)) ≡ plane_byte a p
-unfolding plane_byte plane_polynomial
-to_tower_is a p = same_at_bits (λ q. element basis_256 (to_tower q)) value_of (plane_polynomial 8 a p) to_tower_test
+unfolding element plane_byte plane_polynomial basis_256
+to_tower_is a p = same_at_bits (λ q. element basis_256 (to_tower q)) value_of (plane_polynomial 8 a p) refl
 
 abbrev pub affine_of : List Bool → List Bool
 affine_of a =
@@ -242,10 +227,6 @@ affine_of a =
     (coefficient a 4 xor a36 xor true) ∷ (coefficient a 7 xor a36 xor true) ∷ (coefficient a 0 xor (a17 xor a24))
     ∷ (coefficient a 6 xor (coefficient a 4 xor a157)) ∷ a157 ∷ (a24 xor true) ∷ (coefficient a 1 xor coefficient a 5 xor true) ∷ a17 ∷ []
 
-affine_test : all_below (λ n. value_of (affine_of (bits_of 8 n)) == affine (element basis_256 (bits_of 8 n))) 256 ≡ true
-unfolding affine element basis_256
-affine_test = refl
-
 pub affine_is : (a : List ℕ) (p : ℕ) → value_of (affine_of (plane_polynomial 8 a p)) ≡ affine (plane_element basis_256 a p)
-unfolding plane_element plane_polynomial basis_256
-affine_is a p = same_at_bits (λ q. value_of (affine_of q)) (λ q. affine (element basis_256 q)) (plane_polynomial 8 a p) affine_test
+unfolding affine element plane_element plane_polynomial basis_256
+affine_is a p = same_at_bits (λ q. value_of (affine_of q)) (λ q. affine (element basis_256 q)) (plane_polynomial 8 a p) refl

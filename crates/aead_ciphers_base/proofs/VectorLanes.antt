@@ -26,7 +26,7 @@ pub lane_more : (j k : ℕ) (vectors : List (List ℕ)) (v xs : List ℕ) → k 
     → take (k + 1) (lane j (slice_set vectors k v)) ≡ take (k + 1) xs
 lane_more j k vectors v xs inside within e held =
     ap (take (k + 1)) (lane-set j k vectors v)
-    ∙ take_more_set (lane j vectors) k (slice_index v j) (omega (arith, length-lane j vectors))
+    ∙ take_more_set _ k _ (omega (arith, length-lane j vectors))
     ∙ ap₂ (λ (front : List ℕ) (x : ℕ). front ++ x ∷ []) held e
     ∙ sym (take_more xs k 0 within)
 
@@ -39,17 +39,17 @@ pub shifts_rotate : (n j : ℕ) (a b : List ℕ) → 0 < n → n < 32 → length
 shifts_rotate n j a b low high la lb h =
     let left = λ (x s : ℕ). x * 2 ^ s % 2 ^ 32 in
     let right = λ (x s : ℕ). x / 2 ^ s in
-    let m : ℕ = 32 - n in
-    let ns : List ℕ = n ∷ n ∷ n ∷ n ∷ [] in
-    let ms : List ℕ = m ∷ m ∷ m ∷ m ∷ [] in
-    let x : List ℕ = zip2 bit_xor a b in
-    let lx : length x ≡ 4 = length-zip2 bit_xor a b (omega arith) ∙ la in
+    let m = 32 - n in
+    let ns = n ∷ n ∷ n ∷ n ∷ [] in
+    let ms = m ∷ m ∷ m ∷ m ∷ [] in
+    let x = zip2 bit_xor a b in
+    let lx = length-zip2 bit_xor a b (omega arith) ∙ la in
     let word = get_or-zip2 bit_xor a b j 0 0 0 (omega arith) (omega arith) in
-    let up : slice_index (zip2 left x ns) j ≡ left (bit_xor (slice_index a j) (slice_index b j)) (n % 32) =
+    let up =
     get_or-zip2 left x ns j 0 0 0 (omega arith) h ∙ ap₂ left word (get_or-replicate 4 j n 0 h ∙ (let e : n ≡ n % 32 = omega arith in e)) in
-    let down : slice_index (zip2 right x ms) j ≡ right (bit_xor (slice_index a j) (slice_index b j)) ((32 - n % 32) % 32) =
+    let down =
     get_or-zip2 right x ms j 0 0 0 (omega arith) h ∙ ap₂ right word (get_or-replicate 4 j m 0 h ∙ (let e : m ≡ (32 - n % 32) % 32 = omega arith in e)) in
-    get_or-zip2 bit_or (zip2 left x ns) (zip2 right x ms) j 0 0 0
+    get_or-zip2 bit_or _ _ j 0 0 0
     (omega (arith, length-zip2 left x ns lx)) (omega (arith, length-zip2 right x ms lx)) ∙ ap₂ bit_or up down
 
 -- the quarter round at four vectors
@@ -74,14 +74,14 @@ same_of_takes n xs ys short short' e = sym (take_all n xs short) ∙ e ∙ take_
 pub block_written : (bytes block : List ℕ) (j k : ℕ) → length block ≡ 64 → 64 * j ≤ length bytes
     → take 64 (drop (64 * j) (put_mid (64 * j) k bytes block)) ≡ block
 block_written bytes block j k size within =
-    sym (drop-take (64 * j) 64 (put_mid (64 * j) k bytes block))
-    ∙ ap (drop (64 * j)) (take-put_mid (64 * j) k bytes block (64 * j + 64) (omega arith) within)
-    ∙ drop_at (take (64 * j) bytes) block (64 * j) (simp length-take (omega arith))
+    sym (drop-take (64 * j) 64 _)
+    ∙ ap (drop (64 * j)) (take-put_mid (64 * j) k bytes block _ (omega arith) within)
+    ∙ drop_at _ block (64 * j) (simp length-take (omega arith))
 
 -- and a block before it stays
 pub block_kept : (bytes block : List ℕ) (i j k : ℕ) → i < j → 64 * j ≤ length bytes
     → take 64 (drop (64 * i) (put_mid (64 * j) k bytes block)) ≡ take 64 (drop (64 * i) bytes)
 block_kept bytes block i j k before within =
-    sym (drop-take (64 * i) 64 (put_mid (64 * j) k bytes block))
-    ∙ ap (drop (64 * i)) (take-put_mid_below (64 * j) k bytes block (64 * i + 64) (omega arith) within)
-    ∙ drop-take (64 * i) 64 bytes
+    sym (drop-take (64 * i) 64 _)
+    ∙ ap (drop (64 * i)) (take-put_mid_below (64 * j) k bytes block _ (omega arith) within)
+    ∙ drop-take _ 64 bytes

@@ -7,18 +7,17 @@ use Rattle.aead_ciphers_base.specs.Bytes.{each_below, ◌⊕◌}
 
 pub length-xor : (xs ys : List ℕ) → length xs ≤ length ys → length (xs ⊕ ys) ≡ length xs
 length-xor [] ys h = refl
-length-xor (x ∷ xs) [] h = absurd (omega arith)
 length-xor (x ∷ xs) (y ∷ ys) h = ap suc (length-xor xs ys (omega arith))
+length-xor _ _ h = absurd (omega arith)
 
 get_or-xor : (xs ys : List ℕ) (i : ℕ) → i < length xs → i < length ys → get_or (xs ⊕ ys) i 0 ≡ bit_xor (get_or xs i 0) (get_or ys i 0)
-get_or-xor [] ys i h j = absurd (omega arith)
-get_or-xor (x ∷ xs) [] i h j = absurd (omega arith)
 get_or-xor (x ∷ xs) (y ∷ ys) zero h j = refl
 get_or-xor (x ∷ xs) (y ∷ ys) (suc i) h j = get_or-xor xs ys i (omega arith) (omega arith)
+get_or-xor _ ys i h j = absurd (omega arith)
 
 pub xor_by_index : (xs ys : List ℕ) (n : ℕ) → length xs ≡ n → length ys ≡ n → xs ⊕ ys ≡ each_below n (λ i. bit_xor (get_or xs i 0) (get_or ys i 0))
 xor_by_index xs ys n h j =
-    fill_by_all (λ i. bit_xor (get_or xs i 0) (get_or ys i 0)) (xs ⊕ ys) n 0 (length-xor xs ys (omega arith) ∙ h)
+    fill_by_all (λ i. bit_xor (get_or xs i 0) (get_or ys i 0)) _ n 0 (length-xor xs ys (omega arith) ∙ h)
     (λ i lt. get_or-xor xs ys i (omega arith) (omega arith))
 
 pub xor_comm : (xs ys : List ℕ) → xs ⊕ ys ≡ ys ⊕ xs
@@ -36,21 +35,20 @@ xor_assoc (x ∷ xs) (y ∷ ys) (z ∷ zs) = ap₂ (λ (n : ℕ) (ns : List ℕ)
 -- two sums of two, by the first and by the second of each
 pub xor_exchange : (a b c d : List ℕ) → (a ⊕ b) ⊕ (c ⊕ d) ≡ (a ⊕ c) ⊕ (b ⊕ d)
 xor_exchange a b c d =
-    xor_assoc a b (c ⊕ d)
+    xor_assoc a b _
     ∙ ap (λ (x : List ℕ). a ⊕ x) (sym (xor_assoc b c d) ∙ ap (λ (x : List ℕ). x ⊕ d) (xor_comm b c) ∙ xor_assoc c b d)
-    ∙ sym (xor_assoc a c (b ⊕ d))
+    ∙ sym (xor_assoc a c _)
 
 pub xor_zeros : (a : List ℕ) (n : ℕ) → length a ≡ n → a ⊕ replicate n 0 ≡ a
 xor_zeros [] n e = refl
-xor_zeros (x ∷ xs) zero e = absurd (omega arith)
 xor_zeros (x ∷ xs) (suc n) e = ap₂ (λ (z : ℕ) (zs : List ℕ). z ∷ zs) (xor_zero_r x) (xor_zeros xs n (omega arith))
+xor_zeros _ _ e = absurd (omega arith)
 
 pub bytes-xor : (a b : List ℕ) → All (λ x. x < 256) a → All (λ x. x < 256) b → All (λ x. x < 256) (a ⊕ b)
-bytes-xor [] b h j k d below = absurd (omega arith)
-bytes-xor (x ∷ xs) [] h j k d below = absurd (omega arith)
 bytes-xor (x ∷ xs) (y ∷ ys) h j zero d below = xor_lt 8 x y (h 0 x (omega arith)) (j 0 y (omega arith))
 bytes-xor (x ∷ xs) (y ∷ ys) h j (suc k) d below =
     bytes-xor xs ys (λ i e l. h (suc i) e (omega arith)) (λ i e l. j (suc i) e (omega arith)) k d (omega arith)
+bytes-xor _ b h j k d below = absurd (omega arith)
 
 -- what is longer in the second list counts for nothing
 pub xor-take : (xs ys : List ℕ) → xs ⊕ take (length xs) ys ≡ xs ⊕ ys
@@ -60,14 +58,13 @@ xor-take (x ∷ xs) (y ∷ ys) = ap (λ (zs : List ℕ). bit_xor x y ∷ zs) (xo
 
 pub xor-append : (xs ys us vs : List ℕ) → length xs ≡ length us → (xs ++ ys) ⊕ (us ++ vs) ≡ (xs ⊕ us) ++ (ys ⊕ vs)
 xor-append [] ys [] vs h = refl
-xor-append [] ys (u ∷ us) vs h = absurd (omega arith)
-xor-append (x ∷ xs) ys [] vs h = absurd (omega arith)
 xor-append (x ∷ xs) ys (u ∷ us) vs h = ap (λ (zs : List ℕ). bit_xor x u ∷ zs) (xor-append xs ys us vs (omega arith))
+xor-append _ ys _ vs h = absurd (omega arith)
 
 -- XOR twice
 pub xor-xor : (xs ys : List ℕ) → length xs ≤ length ys → (xs ⊕ ys) ⊕ ys ≡ xs
 xor-xor [] ys h = refl
-xor-xor (x ∷ xs) [] h = absurd (omega arith)
 xor-xor (x ∷ xs) (y ∷ ys) h =
     ap₂ (λ (z : ℕ) (zs : List ℕ). z ∷ zs)
     (number_assoc x y y ∙ ap (λ (v : ℕ). bit_xor x v) (xor_self y) ∙ xor_zero_r x) (xor-xor xs ys (omega arith))
+xor-xor _ _ h = absurd (omega arith)
