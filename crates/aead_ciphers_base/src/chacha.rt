@@ -224,6 +224,7 @@ impl Key {
 
     /// XORs the input with the key stream from the counter on (RFC 8439 section 2.4). The output
     /// is as long as the input.
+    #[tactic(auto, using(crate::proofs::KeyStreamLemmas::written_rest))]
     pub fn encrypt(&self, counter: Counter, in_out: Overlapping<'_>)
         requires { counter.number + div_ceil (input_len in_out) 64 ≤ 2 ^ 32 }
         ensures { let input = input_of in_out.entry in

@@ -39,6 +39,7 @@ pub(crate) fn encrypt_to_front(
 
 /// Encrypts one to four blocks: the `count` bytes from `start + done` on, to `done`. All of them are
 /// read before one is written.
+#[tactic(auto, using(crate::proofs::CounterModeLemmas::batch_put))]
 #[inline(always)]
 fn encrypt_batch(
     key: &Key,
