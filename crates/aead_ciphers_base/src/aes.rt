@@ -125,6 +125,7 @@ impl Key {
         }
     }
 
+    #[tactic(auto, using(crate::proofs::RoundKeys::key_of_is))]
     fn expanded(key: &[u8]) -> Key
         requires { (length key.now ≡ 16) ⊎ (length key.now ≡ 32) }
         ensures { result ≡ key.now }

@@ -12,6 +12,7 @@ use crate::bb;
 const BATCH_LEN: usize = 4 * BLOCK_LEN;
 
 /// Encrypts the whole blocks from `start` on, to the front, batch by batch.
+#[tactic(auto, using(crate::proofs::CounterModeLemmas::encrypts_all, crate::proofs::CounterModeLemmas::encrypts_more, crate::proofs::CounterLemmas::advances_none, crate::proofs::CounterLemmas::advances_more))]
 pub(crate) fn encrypt_to_front(
     key: &Key,
     in_out: &mut [u8],

@@ -68,6 +68,7 @@ fn next_word(words: &[[u8; 4]], i: usize, nk: usize) -> [u8; 4]
 }
 
 /// The words of the schedule of a key of 16 or 32 bytes.
+#[tactic(auto, using(crate::proofs::KeySchedule::first_word_step, crate::proofs::KeySchedule::first_words_end))]
 pub fn expand(key: &[u8]) -> [[u8; 4]; 60]
     requires { (length key.now ≡ 16) ⊎ (length key.now ≡ 32) }
     ensures { let nk = length key.now / 4 in

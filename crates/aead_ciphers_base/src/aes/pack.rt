@@ -122,6 +122,7 @@ pub fn unpack(planes: Planes) -> [Block; 4]
 const EIGHTHS: u64 = 0x0101_0101_0101_0101;
 
 /// Planes that hold the bytes of a word in every eighth place.
+#[tactic(auto, using(crate::proofs::PlanePacking::spread_more))]
 #[inline(always)]
 pub fn spread(word: u64) -> Planes
     ensures { (j : ℕ) → j < 8 → plane_byte result (8 * j) ≡ slice_index (to_le_bytes w64 word) j }
@@ -134,6 +135,7 @@ pub fn spread(word: u64) -> Planes
 }
 
 /// The word of the bytes that planes hold in every eighth place.
+#[tactic(auto, using(crate::proofs::PlanePacking::gathered_more))]
 #[inline(always)]
 pub fn gather(planes: Planes) -> u64
     ensures { (j : ℕ) → j < 8 → slice_index (to_le_bytes w64 result) j ≡ plane_byte planes (8 * j) }

@@ -49,6 +49,7 @@ fn planes_one_below(a: Planes) -> Planes
     out
 }
 
+#[tactic(auto, using(crate::proofs::PlaneShifts::planes_moved, crate::proofs::PlaneShifts::moves_more))]
 #[inline(always)]
 fn planes_two_below(a: Planes) -> Planes
     ensures { (p : ℕ) → p < 64 → plane_byte result p ≡ plane_byte a (below p 2) }
@@ -74,6 +75,7 @@ fn add_planes(a: Planes, b: Planes) -> Planes
 }
 
 /// ShiftRows (FIPS 197 section 5.1.2) in each block.
+#[tactic(auto, using(crate::proofs::PlaneShifts::planes_moved))]
 #[inline(always)]
 pub fn shift_rows(a: Planes) -> Planes
     ensures { (p : ℕ) → p < 64 → plane_byte result p ≡ plane_byte a (shifted_from p) }

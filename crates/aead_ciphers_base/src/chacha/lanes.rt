@@ -132,6 +132,7 @@ pub(super) fn four_states(state: &State) -> States
 }
 
 /// The blocks of four initial states, one after another.
+#[tactic(auto, using(crate::proofs::ChaChaRounds::iterate_more), unfolding(crate::specs::ChaCha20::state_block))]
 pub(super) fn state_blocks(states: &States) -> [u8; BATCH_LEN]
     ensures { (j : ℕ) → j < 4
         → take 64 (drop (64 * j) result) ≡ state_block (lane j states.now) }
