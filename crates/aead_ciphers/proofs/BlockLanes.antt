@@ -238,3 +238,6 @@ entry-written_other table k a b c d j within below =
       written_other table p a b c d (256 + q) (omega arith) (omega arith) (omega arith) (omega arith),
       written_other table p a b c d (384 + q) (omega arith) (omega arith) (omega arith) (omega arith),
     ) (sym (entry_at table j))
+
+-- a chosen lane, for the search of a function
+pub ruleset chosen_lanes = (lane-chosen, lane-small)

@@ -163,3 +163,6 @@ ghash_xor h _ _ is_h all_x all_y e = absurd (omega arith)
 pub AllSized-from : (xs : List (List ℕ)) → ((i : ℕ) → i < length xs → length (get_or xs i []) ≡ 16) → AllSized xs
 AllSized-from [] h = tt
 AllSized-from (x ∷ xs) h = (h 0 (omega arith), AllSized-from xs (λ i below. h (suc i) (omega arith)))
+
+-- the lemma, for the search of a function
+pub ruleset sized_from = (AllSized-from)

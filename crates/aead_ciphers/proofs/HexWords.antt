@@ -45,3 +45,6 @@ pub bytes_of_word-encode_lower : (bytes : List ℕ) → 0 < length bytes → IsB
 bytes_of_word-encode_lower bytes some h =
     let twice = length-encode_with lower_digits bytes in
     bytes_of_word-decoded _ bytes (omega (arith, twice)) (decode_of-encode_lower bytes h)
+
+-- a word that is decoded
+pub ruleset decoded = (bytes_of_word-decoded, IsBytesWord-decoded)

@@ -55,6 +55,7 @@ impl Model for Xi {
 
 impl Xi {
     /// The GHASH of no block.
+    #[tactic(auto, unfolding(crate::specs::Ghash::ghash))]
     pub fn zero() -> Self
         ensures { (h : List ℕ) → IsHashOf h [] result }
     {

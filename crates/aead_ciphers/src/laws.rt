@@ -15,6 +15,7 @@ use aead_ciphers_base::aes::Block;
 use aead_ciphers_base::values::NONCE_LEN;
 
 /// GHASH under a hash subkey keeps XOR: of two lists of one length (SP 800-38D section 6.4).
+#[tactic(auto, using(crate::proofs::GhashLaws::ghash_xor, crate::proofs::GhashLaws::sized_from))]
 pub fn ghash_sum(h: Block, left: &[Block], right: &[Block])
     requires { length left.now ≡ length right.now }
     ensures { ghash h (xor_blocks left.now right.now) ≡ ghash h left.now ⊕ ghash h right.now }

@@ -85,6 +85,7 @@ impl Job {
 
 /// Takes the jobs in order: `Seal` with the sealing key, `Open` with the opening key. It fills in every
 /// outcome, whatever stood there. A sealing job may ask for memory for its tag.
+#[tactic(auto, using(crate::proofs::FreshLemmas::fresh_run))]
 pub fn run<S: NonceSequence, O: NonceSequence>(
     sealing: &mut SealingKey<S>,
     opening: &mut OpeningKey<O>,

@@ -107,3 +107,6 @@ pub counter-initial_state : (key nonce : List ℕ) (m n : ℕ) → length (le_wo
 unfolding initial_state
 counter-initial_state key nonce m n size =
     ap (λ (ws : List ℕ). 0x61707865 ∷ 0x3320646e ∷ 0x79622d32 ∷ 0x6b206574 ∷ ws) (set_at (le_words key) m _ n 8 size)
+
+-- words as bytes, and back
+pub ruleset read_and_written = (le_words-le_bytes, take-le_bytes)

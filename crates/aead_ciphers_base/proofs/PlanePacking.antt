@@ -178,9 +178,9 @@ module _ (w r : List ℕ) (k : ℕ) (hk : k < 6) (first0 : FirstOf w r k 0) (sec
 -- ---- words and bytes
 
 -- the words that are read from the halves of a block give its bytes back
-pub words_of_block : (b x y : List ℕ) (low high : ℕ) → length b ≡ 16 → ((i : ℕ) → slice_index b i < 256) → x ≡ take 8 b → y ≡ take 8 (drop 8 b)
-    → low ≡ from_le_bytes w64 x → high ≡ from_le_bytes w64 y → to_le_bytes w64 low ++ to_le_bytes w64 high ≡ b
-words_of_block b x y low high len fits e_x e_y e_low e_high =
+pub words_of_block : (b : List ℕ) (low high : ℕ) → length b ≡ 16 → ((i : ℕ) → slice_index b i < 256)
+    → low ≡ from_le_bytes w64 (take 8 b) → high ≡ from_le_bytes w64 (take 8 (drop 8 b)) → to_le_bytes w64 low ++ to_le_bytes w64 high ≡ b
+words_of_block b low high len fits e_low e_high =
     let first : (i : ℕ) → slice_index (take 8 b) i < 256 = λ i. elim (cases_lt i 8) [
       | inl less ↦ rw (get_or-take 8 b i 0 less) (fits i)
       | inr more ↦ rw (get_or_past (take 8 b) i 0 (omega (arith, length-take 8 b))) (omega arith)
@@ -188,8 +188,8 @@ words_of_block b x y low high len fits e_x e_y e_low e_high =
     let size : length (drop 8 b) ≡ 8 = omega (arith, length-drop 8 b) in
     let second : (i : ℕ) → slice_index (drop 8 b) i < 256 = λ i. rw (get_or-drop 8 b i 0) (fits (8 + i)) in
     ap₂ ◌++◌
-    (le_bytes_8 (take 8 b) low (length-take-le 8 b (omega arith)) first (e_low ∙ ap (from_le_bytes w64) e_x))
-    (le_bytes_8 (drop 8 b) high size second (e_high ∙ ap (from_le_bytes w64) (e_y ∙ take_all 8 _ (omega arith))))
+    (le_bytes_8 (take 8 b) low (length-take-le 8 b (omega arith)) first e_low)
+    (le_bytes_8 (drop 8 b) high size second (e_high ∙ ap (from_le_bytes w64) (take_all 8 _ (omega arith))))
     ∙ take-append-drop 8 b
 
 byte_is : (n j : ℕ) → j < 8 → slice_index (to_le_bytes w64 n) j ≡ n / 2 ^ (8 * j) % 2 ^ 8

@@ -6,6 +6,7 @@ ghost use Rattle.aead_ciphers_base.specs.Bytes.{◌⊕◌};
 use crate::error::Unspecified;
 
 /// Whether two slices are equal. Of slices of one length every byte is read, whatever they hold.
+#[tactic(auto, using(crate::proofs::BytesLemmas::same_more))]
 pub fn verify_slices_are_equal(a: &[u8], b: &[u8]) -> Result<(), Unspecified>
     ensures { IsOk result ↔ (a.now ≡ b.now) }
 {
@@ -42,6 +43,7 @@ pub fn xor_assign(a: &mut [u8], b: u8)
 }
 
 /// XORs the bytes of `b` into those of `a`, as far as the shorter goes.
+#[tactic(auto, using(crate::proofs::BytesLemmas::xor_at_start_more, crate::proofs::BytesLemmas::xor_at_start_end))]
 pub fn xor_assign_at_start(a: &mut [u8], b: &[u8])
     ensures { a.new ≡ (a.old ⊕ b.now) ++ drop (length b.now) a.old }
 {

@@ -86,6 +86,7 @@ fn add_words(words: &mut State, addend: &State)
 }
 
 // Writes words in little-endian order.
+#[tactic(auto, using(crate::proofs::LittleEndian::read_and_written), unfolding(crate::specs::ChaCha20::le_bytes))]
 fn le_bytes(words: &State) -> [u8; BLOCK_LEN]
     ensures { result ≡ le_bytes words.now }
 {
@@ -110,6 +111,7 @@ fn le_words<const N: usize>(bytes: &[u8]) -> [u32; N]
 }
 
 // The block of an initial state.
+#[tactic(auto, using(crate::proofs::ChaChaRounds::iterate_more), unfolding(crate::specs::ChaCha20::state_block))]
 fn state_block(state: &State) -> [u8; BLOCK_LEN]
     ensures { result ≡ state_block state.now }
 {
@@ -216,6 +218,7 @@ impl Key {
     }
 
     /// The key as eight little-endian words.
+    #[tactic(auto, using(crate::proofs::LittleEndian::read_and_written))]
     pub fn words_less_safe(&self) -> &[u32; 8]
         ensures { result.now ≡ le_words self.now }
     {
@@ -224,6 +227,7 @@ impl Key {
 
     /// XORs the input with the key stream from the counter on (RFC 8439 section 2.4). The output
     /// is as long as the input.
+    #[tactic(auto, using(crate::proofs::KeyStreamLemmas::written_rest))]
     pub fn encrypt(&self, counter: Counter, in_out: Overlapping<'_>)
         requires { counter.number + div_ceil (input_len in_out) 64 ≤ 2 ^ 32 }
         ensures { let input = input_of in_out.entry in
@@ -278,6 +282,7 @@ impl Key {
     }
 
     // Encrypts the first batches of four blocks, side by side.
+    #[tactic(auto, unfolding(crate::specs::ChaCha20::chacha20_encrypted, crate::specs::Bytes::xored))]
     fn encrypt_batches(&self, counter: &Counter, in_out: &mut [u8], start: usize, batches: usize)
         requires within { start + 256 * batches ≤ length in_out.old }
         requires counted { counter.now.number + 4 * batches ≤ 2 ^ 32 }

@@ -47,6 +47,7 @@ impl CounterSequence {
 }
 
 // The nonce of a prefix and a number.
+#[tactic(auto, using(crate::proofs::SequenceLemmas::over_zeros))]
 fn nonce_of(prefix: &[u8; 4], number: u64) -> Nonce
     ensures { result ≡ prefixed_nonce prefix.now number }
 {

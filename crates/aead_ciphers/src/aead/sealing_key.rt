@@ -103,6 +103,7 @@ impl<N: NonceSequence> SealingKey<N> {
     ///
     /// `in_out` is the message, and then the ciphertext, of as many bytes. The sequence is asked first, and then the
     /// lengths are looked at. Refused as in `seal_in_place_append_tag`, which alone needs room.
+    #[tactic(auto, using(crate::proofs::SealLemmas::no_nonce_separate, crate::proofs::SealLemmas::separate_step))]
     pub fn seal_in_place_separate_tag(
         &mut self,
         aad: Aad<'_>,
@@ -134,6 +135,7 @@ impl<N: NonceSequence> SealingKey<N> {
     /// Room is looked for first, then the sequence is asked, and then the lengths are looked at. Refused where the packet
     /// has fewer than `header_len` + 16 bytes or the sequence refuses; and, with the nonce spent, where the lengths
     /// don't fit, as in `seal_in_place_append_tag`.
+    #[tactic(auto, using(crate::proofs::PacketLemmas::packet_no_room, crate::proofs::PacketLemmas::packet_no_nonce))]
     pub fn seal_packet_in_place(
         &mut self,
         packet: &mut [u8],

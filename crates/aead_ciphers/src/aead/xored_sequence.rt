@@ -50,6 +50,7 @@ impl XoredSequence {
 
 /// The nonce of a number under an IV, as a receiver needs it that reads the number from a packet (RFC 9001 section 5.3).
 /// This call is this library's own.
+#[tactic(auto, using(crate::proofs::SequenceLemmas::over_padded))]
 pub fn nonce_of(iv: &[u8; NONCE_LEN], number: u64) -> Nonce
     ensures { result ≡ xored_nonce iv.now number }
 {

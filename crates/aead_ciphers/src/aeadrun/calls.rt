@@ -140,6 +140,7 @@ impl Keys {
 
     /// Opens a buffer with the next nonce from `start` on, with the tag attached. It gives the buffer back
     /// and, where it was opened, the length of the plaintext, which then stands in front.
+    #[tactic(auto, using(crate::proofs::KeysLemmas::opened_within))]
     pub(super) fn next_open(
         &mut self,
         aad: Vec<u8>,

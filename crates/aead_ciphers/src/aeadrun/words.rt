@@ -17,6 +17,7 @@ const MAX_DIGITS: usize = 20;
 
 /// The bytes that a word stands for, or `None` where it stands for none: `-` is no bytes, else each byte
 /// is two hex digits of either case.
+#[tactic(auto, using(crate::proofs::HexWords::decoded))]
 pub fn bytes(alloc: Global, word: &str) -> Result<Option<Vec<u8>>, AllocError>
     ensures accepted { IfOk result (λ read. IsSome read ↔ IsBytesWord word.now) }
     ensures value { IfOk result (λ read. option_map (λ v. v.items) read ≡ bytes_of_word word.now) }

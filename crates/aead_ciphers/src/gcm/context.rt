@@ -131,6 +131,7 @@ impl<'key, K: UpdateBlocks> Context<'key, K> {
 }
 
 /// A block with these bytes in front, and zeros behind them.
+#[tactic(auto, using(crate::proofs::PaddedBlocks::padded_is))]
 pub(crate) fn padded(bytes: &[u8]) -> Block
     requires { length bytes.now ≤ 16 }
     ensures { result ≡ padded_block bytes.now 0 }
@@ -141,6 +142,7 @@ pub(crate) fn padded(bytes: &[u8]) -> Block
 }
 
 /// The block of two lengths in bytes, which it holds in bits.
+#[tactic(auto, using(crate::proofs::PaddedBlocks::lengths_are))]
 fn lengths(aad_len: u64, in_out_len: u64) -> Block
     requires { Fits aad_len in_out_len }
     ensures { result ≡ length_block aad_len in_out_len }

@@ -90,6 +90,7 @@ fn words(block: u128) -> u32x4
 }
 
 /// The block of four words, the highest first.
+#[tactic(auto, using(crate::proofs::BlockLanes::joined_is))]
 #[inline(always)]
 fn joined(first: u32, second: u32, third: u32, fourth: u32) -> u128
     ensures { result ≡ number_of_words (first ∷ second ∷ third ∷ fourth ∷ []) }
@@ -111,6 +112,7 @@ fn lanes(table: &[u32; 512], at: usize) -> u32x4
 }
 
 /// Adds each word whose lane of `bits` has its highest bit.
+#[tactic(auto, using(crate::proofs::BlockLanes::chosen_lanes))]
 #[inline(always)]
 fn add_chosen(sum: u32x4, bits: u32x4, words: u32x4) -> u32x4
     ensures { (j : ℕ) → j < 4

@@ -23,6 +23,7 @@ impl Model for Counter {
 
 impl Counter {
     /// Counter block 1 of the nonce, J0 of SP 800-38D section 7.1.
+    #[tactic(auto, using(crate::proofs::CounterLemmas::counter_one))]
     pub fn one(nonce: Nonce) -> Self
         ensures { IsCounter result nonce 1 }
     {
@@ -83,6 +84,7 @@ impl Counter {
 }
 
 /// States that every block is the counter block of some nonce and number.
+#[tactic(auto, using(crate::proofs::CounterLemmas::counter_exists))]
 fn is_some_counter(block: &[u8])
     requires { length block.now ≡ 16 }
     ensures { (nonce : List ℕ) × (k : ℕ) × IsCounter block.now nonce k }

@@ -12,6 +12,7 @@ use crate::bb;
 const BATCH_LEN: usize = 4 * BLOCK_LEN;
 
 /// Encrypts the whole blocks from `start` on, to the front, batch by batch.
+#[tactic(auto, using(crate::proofs::CounterModeLemmas::encrypts_all, crate::proofs::CounterModeLemmas::encrypts_more, crate::proofs::CounterLemmas::advances_none, crate::proofs::CounterLemmas::advances_more))]
 pub(crate) fn encrypt_to_front(
     key: &Key,
     in_out: &mut [u8],
@@ -39,6 +40,7 @@ pub(crate) fn encrypt_to_front(
 
 /// Encrypts one to four blocks: the `count` bytes from `start + done` on, to `done`. All of them are
 /// read before one is written.
+#[tactic(auto, using(crate::proofs::CounterModeLemmas::batch_put))]
 #[inline(always)]
 fn encrypt_batch(
     key: &Key,

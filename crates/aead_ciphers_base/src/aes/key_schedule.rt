@@ -13,12 +13,14 @@ use super::planes::{Planes, sub_planes};
 // The first byte of each Rcon word.
 const ROUND_CONSTANTS: [u8; 10] = [0x01, 0x02, 0x04, 0x08, 0x10, 0x20, 0x40, 0x80, 0x1b, 0x36];
 
+#[tactic(auto, using(crate::proofs::XorLemmas::xor_by_index))]
 fn add_words(a: [u8; 4], b: [u8; 4]) -> [u8; 4]
     ensures { result ≡ a ⊕ b }
 {
     [a[0] ^ b[0], a[1] ^ b[1], a[2] ^ b[2], a[3] ^ b[3]]
 }
 
+#[tactic(auto, unfolding(crate::specs::Aes::rot_word))]
 fn rot_word(a: [u8; 4]) -> [u8; 4]
     ensures { result ≡ rot_word a }
 {
@@ -35,6 +37,7 @@ fn sub_word(a: [u8; 4]) -> [u8; 4]
     [b0, b1, b2, b3]
 }
 
+#[tactic(auto, using(crate::proofs::KeySchedule::round_constant_is))]
 fn round_constant(n: usize) -> u8
     requires { n < 10 }
     ensures { result ≡ power_of_x n }
@@ -42,6 +45,7 @@ fn round_constant(n: usize) -> u8
     ROUND_CONSTANTS[n]
 }
 
+#[tactic(auto, using(crate::proofs::KeySchedule::next_word_turned, crate::proofs::KeySchedule::next_word_middle, crate::proofs::KeySchedule::next_word_plain))]
 fn next_word(words: &[[u8; 4]], i: usize, nk: usize) -> [u8; 4]
     requires positive { 0 < nk }
     requires from { nk ≤ i }
@@ -64,6 +68,7 @@ fn next_word(words: &[[u8; 4]], i: usize, nk: usize) -> [u8; 4]
 }
 
 /// The words of the schedule of a key of 16 or 32 bytes.
+#[tactic(auto, using(crate::proofs::KeySchedule::first_word_step, crate::proofs::KeySchedule::first_words_end))]
 pub fn expand(key: &[u8]) -> [[u8; 4]; 60]
     requires { (length key.now ≡ 16) ⊎ (length key.now ≡ 32) }
     ensures { let nk = length key.now / 4 in

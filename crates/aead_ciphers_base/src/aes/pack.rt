@@ -21,6 +21,7 @@ const LOW: [u64; 6] = [
 ];
 
 // A delta swap: exchanges the bits of `a` at places with digit `k` one and those of `b` with digit `k` zero.
+#[tactic(auto, using(crate::proofs::PlanePacking::shift_is, crate::proofs::PlanePacking::shift_lt, crate::proofs::PlanePacking::delta_swap_first, crate::proofs::PlanePacking::delta_swap_second))]
 #[inline(always)]
 fn delta_swap(a: u64, b: u64, k: usize) -> (u64, u64)
     requires { k < 6 }
@@ -36,6 +37,7 @@ fn delta_swap(a: u64, b: u64, k: usize) -> (u64, u64)
 
 // Exchanges digit `k` of each place and the highest digit of the word's number, and turns the
 // number's digits: the highest becomes the lowest.
+#[tactic(auto, using(crate::proofs::PlanePacking::exchange_digits_is))]
 #[inline(always)]
 fn exchange_digits(words: [u64; 8], k: usize) -> [u64; 8]
     requires { k < 6 }
@@ -120,6 +122,7 @@ pub fn unpack(planes: Planes) -> [Block; 4]
 const EIGHTHS: u64 = 0x0101_0101_0101_0101;
 
 /// Planes that hold the bytes of a word in every eighth place.
+#[tactic(auto, using(crate::proofs::PlanePacking::spread_more))]
 #[inline(always)]
 pub fn spread(word: u64) -> Planes
     ensures { (j : ℕ) → j < 8 → plane_byte result (8 * j) ≡ slice_index (to_le_bytes w64 word) j }
@@ -132,6 +135,7 @@ pub fn spread(word: u64) -> Planes
 }
 
 /// The word of the bytes that planes hold in every eighth place.
+#[tactic(auto, using(crate::proofs::PlanePacking::gathered_more))]
 #[inline(always)]
 pub fn gather(planes: Planes) -> u64
     ensures { (j : ℕ) → j < 8 → slice_index (to_le_bytes w64 result) j ≡ plane_byte planes (8 * j) }

@@ -10,6 +10,7 @@ use super::tower::{invert, map_affine, to_tower};
 pub type Planes = [u64; 8];
 
 /// The product of each byte and {02}, that is x (FIPS 197 section 4.2).
+#[tactic(auto, using(crate::proofs::PlaneBits::times_x_plane))]
 #[inline(always)]
 pub fn times_x(a: Planes) -> Planes
     ensures { (p : ℕ) → plane_byte result p ≡ mul8 2 (plane_byte a p) }
@@ -20,6 +21,7 @@ pub fn times_x(a: Planes) -> Planes
 
 /// The S-box (FIPS 197 section 5.1.1) of each of the 64 bytes that the planes hold: byte `p` is the
 /// one whose bit `b` is bit `p` of plane `b`.
+#[tactic(auto, unfolding(crate::specs::ByteField::sbox))]
 #[inline(always)]
 pub fn sub_planes(planes: &mut [u64; 8])
     ensures { (p : ℕ) → p < 64 → plane_byte planes.new p ≡ sbox (plane_byte planes.old p) }

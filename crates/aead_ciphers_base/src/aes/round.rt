@@ -8,6 +8,7 @@ ghost use Rattle.aead_ciphers_base.specs.Planes.{plane_byte, below, shifted_from
 use super::planes::{Planes, times_x};
 
 // Moves the bit of each row into the row above it.
+#[tactic(auto, using(crate::proofs::PlaneShifts::one_below_moves))]
 #[inline(always)]
 fn one_below(x: u64) -> u64
     ensures { (p : ℕ) → p < 64 → bit_at result p ≡ bit_at x (below p 1) }
@@ -16,6 +17,7 @@ fn one_below(x: u64) -> u64
 }
 
 // Moves the bit of each row two rows up.
+#[tactic(auto, using(crate::proofs::PlaneShifts::two_below_moves))]
 #[inline(always)]
 fn two_below(x: u64) -> u64
     ensures { (p : ℕ) → p < 64 → bit_at result p ≡ bit_at x (below p 2) }
@@ -24,6 +26,7 @@ fn two_below(x: u64) -> u64
 }
 
 // Rows 2 and 3 move by two columns of four bits, by a delta swap, and then rows 1 and 3 by one.
+#[tactic(auto, using(crate::proofs::PlaneShifts::rows_shifted_moves))]
 #[inline(always)]
 fn rows_shifted(x: u64) -> u64
     ensures { (p : ℕ) → p < 64 → bit_at result p ≡ bit_at x (shifted_from p) }
@@ -34,6 +37,7 @@ fn rows_shifted(x: u64) -> u64
         ^ (((by_two >> 4) & 0x0aaa_0aaa_0aaa_0aaa) ^ ((by_two << 12) & 0xa000_a000_a000_a000))
 }
 
+#[tactic(auto, using(crate::proofs::PlaneShifts::planes_moved, crate::proofs::PlaneShifts::moves_more))]
 #[inline(always)]
 fn planes_one_below(a: Planes) -> Planes
     ensures { (p : ℕ) → p < 64 → plane_byte result p ≡ plane_byte a (below p 1) }
@@ -45,6 +49,7 @@ fn planes_one_below(a: Planes) -> Planes
     out
 }
 
+#[tactic(auto, using(crate::proofs::PlaneShifts::planes_moved, crate::proofs::PlaneShifts::moves_more))]
 #[inline(always)]
 fn planes_two_below(a: Planes) -> Planes
     ensures { (p : ℕ) → p < 64 → plane_byte result p ≡ plane_byte a (below p 2) }
@@ -57,6 +62,7 @@ fn planes_two_below(a: Planes) -> Planes
 }
 
 // The sum of the bytes of `a` and `b`.
+#[tactic(auto, using(crate::proofs::PlaneShifts::add_plane))]
 #[inline(always)]
 fn add_planes(a: Planes, b: Planes) -> Planes
     ensures { (p : ℕ) → plane_byte result p ≡ bit_xor (plane_byte a p) (plane_byte b p) }
@@ -69,6 +75,7 @@ fn add_planes(a: Planes, b: Planes) -> Planes
 }
 
 /// ShiftRows (FIPS 197 section 5.1.2) in each block.
+#[tactic(auto, using(crate::proofs::PlaneShifts::planes_moved))]
 #[inline(always)]
 pub fn shift_rows(a: Planes) -> Planes
     ensures { (p : ℕ) → p < 64 → plane_byte result p ≡ plane_byte a (shifted_from p) }

@@ -10,6 +10,7 @@ use std::process::Abort;
 use std::test::Fail;
 
 // Values that FIPS 197 gives for its field (section 4) and its S-box (section 5.1.1), by the definitions.
+#[tactic(auto, unfolding(crate::proofs::ByteFieldLaws::field))]
 fn field_values()
     ensures product { mul8 0x57 0x83 ≡ 0xc1 }
     ensures inverse { inv 0x53 ≡ 0xca }

@@ -21,6 +21,7 @@ fn add(a: u32x4, b: u32x4) -> u32x4
     a + b
 }
 
+#[tactic(auto, using(crate::proofs::VectorLanes::shifts_rotate))]
 #[inline(always)]
 fn xor_rotate(a: u32x4, b: u32x4, n: u32) -> u32x4
     requires above_zero { 0 < n }
@@ -32,6 +33,7 @@ fn xor_rotate(a: u32x4, b: u32x4, n: u32) -> u32x4
     (x << u32x4::splat(n)) | (x >> u32x4::splat(32 - n))
 }
 
+#[tactic(auto, unfolding(crate::specs::ChaCha20::quarter_round))]
 #[inline(always)]
 fn quarter_round(a: u32x4, b: u32x4, c: u32x4, d: u32x4) -> (u32x4, u32x4, u32x4, u32x4)
     ensures { (j : ℕ) → j < 4 →
@@ -66,6 +68,7 @@ fn quarter_round_at(states: &mut States, a: usize, b: usize, c: usize, d: usize)
     states[d] = w;
 }
 
+#[tactic(auto, using(crate::proofs::ChaChaRounds::double_round_steps))]
 #[inline(always)]
 fn double_round(states: &mut States)
     ensures { (j : ℕ) → j < 4 → lane j states.new ≡ double_round (lane j states.old) }
@@ -129,6 +132,7 @@ pub(super) fn four_states(state: &State) -> States
 }
 
 /// The blocks of four initial states, one after another.
+#[tactic(auto, using(crate::proofs::ChaChaRounds::iterate_more), unfolding(crate::specs::ChaCha20::state_block))]
 pub(super) fn state_blocks(states: &States) -> [u8; BATCH_LEN]
     ensures { (j : ℕ) → j < 4
         → take 64 (drop (64 * j) result) ≡ state_block (lane j states.now) }

@@ -1,5 +1,4 @@
 use Rattle.std.proofs.Common.{arith, ◌<◌, length}
-use Rattle.aead_ciphers.proofs.FreshLemmas.{fresh_run}
 use Rattle.aead_ciphers.proofs.RunLemmas.{Runs-next}
 use Rattle.aead_ciphers.proofs.session.run.Goals as goal
 
@@ -9,6 +8,3 @@ loop-job-preserved g c =
     let performed = rw (← c.job-item.is) at c.perform.ensures in
     Runs-next _ _ _ _ _ c.args.jobs.now c.loop-job.jobs c.loop-job.job-index c.job-item.result _ long (omega arith)
     c.loop-job.invariant.0 c.loop-job.invariant.1 c.loop-job.invariant.2 c.job-item.is performed.performed performed.capacity_kept
-
-pub returns-clause-no_nonce_twice : goal.returns-clause-no_nonce_twice
-returns-clause-no_nonce_twice g c = fresh_run _ _ _ _ _ _ _ _ _ _ c.loop-job.invariant.0

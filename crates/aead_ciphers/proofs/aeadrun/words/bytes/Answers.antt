@@ -1,18 +1,8 @@
-use Rattle.std.proofs.Common.{◌≡◌, ◌≢◌, ◌<◌, Err, inl, inr, length, sym, arith, refl}
+use Rattle.std.proofs.Common.{◌≡◌, ◌≢◌, Err, inl, inr, sym}
 use Rattle.std.specs.Prelude.{codes}
-use Rattle.std.proofs.lemmas.Bool.Decides.{nat_tests}
 use Rattle.hex.specs.Hex.{decode_of}
-use Rattle.aead_ciphers.proofs.HexWords.{IsBytesWord-decoded, IsBytesWord-undecoded, bytes_of_word-decoded, bytes_of_word-undecoded}
+use Rattle.aead_ciphers.proofs.HexWords.{IsBytesWord-undecoded, bytes_of_word-undecoded}
 use Rattle.aead_ciphers.proofs.aeadrun.words.bytes.Goals as goal
-
-pub returns-in-Ok : goal.returns-in-Ok
-returns-in-Ok c =
-    let some : 0 < length c.args.word.now = grind (arith, nat_tests, c.if-is_empty.ensures) in
-    record {
-      accepted = (λ _. IsBytesWord-decoded c.args.word.now _ some c.in-Ok.ensures.ok, λ _. refl);
-      value = sym (bytes_of_word-decoded c.args.word.now _ some c.in-Ok.ensures.ok);
-      wants_memory = tt;
-    }
 
 pub returns-in_default : goal.returns-in_default
 returns-in_default c =

@@ -33,14 +33,3 @@ returns-then-done-len-clause-output c =
     let inv = c.loop-done.invariant in
     encrypts_all _ _ s (d + n) _ _
     (encrypts_more _ _ _ s d n _ _ _ inv.aligned (omega arith) inv.output inv.counter c.encrypt_batch-then-done-len.ensures.output) (omega arith)
-
-pub returns-else-done-len-clause-output : goal.returns-else-done-len-clause-output
-returns-else-done-len-clause-output c = encrypts_all _ _ c.args.start c.loop-done.done _ _ c.loop-done.invariant.output (omega arith)
-
-pub returns-then-done-len-clause-counter : goal.returns-then-done-len-clause-counter
-returns-then-done-len-clause-counter c =
-    let inv = c.loop-done.invariant in
-    advances_more _ _ _ _ _ _ inv.counter c.encrypt_batch-then-done-len.ensures.counter (omega (arith, inv.aligned))
-
-pub returns-else-done-len-clause-counter : goal.returns-else-done-len-clause-counter
-returns-else-done-len-clause-counter c = advances_more _ _ _ _ _ _ c.loop-done.invariant.counter (advances_none _) (omega arith)

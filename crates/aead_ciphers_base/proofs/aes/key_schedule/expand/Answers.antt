@@ -1,5 +1,5 @@
-use Rattle.std.proofs.Common.{◌≡◌, ◌∙◌, ◌/◌, length, arith, length-set}
-use Rattle.aead_ciphers_base.proofs.KeySchedule.{first_word_step, first_words_end, next_word_step}
+use Rattle.std.proofs.Common.{◌∙◌, ◌/◌, length, arith, length-set}
+use Rattle.aead_ciphers_base.proofs.KeySchedule.{first_word_step, next_word_step}
 use Rattle.aead_ciphers_base.proofs.aes.key_schedule.expand.Goals as goal
 
 pub loop-i-preserved : goal.loop-i-preserved
@@ -7,12 +7,6 @@ loop-i-preserved c = (
   length-set _ _ _ ∙ c.loop-i.invariant.0,
   first_word_step c.args.key.now c.loop-i.words c.loop-i.i (omega arith) c.loop-i.invariant.1,
 )
-
-pub loop-n-init : goal.loop-n-init
-loop-n-init c =
-    let nk = length c.args.key.now / 4 in
-    let whole : c.loop-i.i ≡ nk = omega arith in
-    (c.loop-i.invariant.0, first_words_end nk c.args.key.now c.loop-i.words c.loop-i.i whole c.loop-i.invariant.1)
 
 pub loop-n-preserved : goal.loop-n-preserved
 loop-n-preserved c = (

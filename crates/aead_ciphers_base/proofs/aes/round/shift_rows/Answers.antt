@@ -1,10 +1,7 @@
 use Rattle.std.proofs.Common.{arith, length-set, ◌∙◌}
 use Rattle.aead_ciphers_base.specs.Planes.{shifted_from}
-use Rattle.aead_ciphers_base.proofs.PlaneShifts.{planes_moved, moves_more}
+use Rattle.aead_ciphers_base.proofs.PlaneShifts.{moves_more}
 use Rattle.aead_ciphers_base.proofs.aes.round.shift_rows.Goals as goal
-
-pub returns : goal.returns
-returns c = λ p lt. planes_moved c.args.a c.loop-k.out p (shifted_from p) (λ j h. c.loop-k.invariant.1 j (omega arith) p lt)
 
 pub loop-k-preserved : goal.loop-k-preserved
 loop-k-preserved c = (

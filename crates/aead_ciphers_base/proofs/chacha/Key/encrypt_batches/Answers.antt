@@ -1,13 +1,7 @@
-use Rattle.std.proofs.Common.{◌≡◌, ℕ, ◌+◌, ◌*◌, refl, ◌∙◌, arith, length, rules}
+use Rattle.std.proofs.Common.{◌≡◌, ℕ, ◌+◌, ◌*◌, ◌∙◌, arith, length, rules}
 use Rattle.std.proofs.lemmas.List.{take_all}
-use Rattle.aead_ciphers_base.specs.Bytes.{xored}
-use Rattle.aead_ciphers_base.specs.ChaCha20.{chacha20_encrypted}
 use Rattle.aead_ciphers_base.proofs.KeyStreamLemmas.{written_more}
 use Rattle.aead_ciphers_base.proofs.chacha.Key.encrypt_batches.Goals as goal
-
-pub loop-j-init : goal.loop-j-init
-unfolding chacha20_encrypted xored
-loop-j-init c = refl
 
 pub loop-j-preserved : goal.loop-j-preserved
 loop-j-preserved c =

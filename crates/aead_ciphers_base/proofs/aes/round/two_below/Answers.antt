@@ -1,6 +1,0 @@
-use Rattle.std.proofs.Common.{arith}
-use Rattle.aead_ciphers_base.proofs.PlaneShifts.{two_below_moves}
-use Rattle.aead_ciphers_base.proofs.aes.round.two_below.Goals as goal
-
-pub returns : goal.returns
-returns c = λ p lt. two_below_moves c.args.x (omega arith) p lt
