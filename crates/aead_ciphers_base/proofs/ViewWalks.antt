@@ -1,14 +1,16 @@
 -- What the walks of views share. Assumes `Logic`.
---     gone                  nothing is left of a value that is given up
---     in_two, paired        a pair of slices is taken apart, two values make a pair
+--     gone, gone_within     nothing is left of a value that is given up
+--     in_two                a pair of slices is taken apart
+--     struct_of, paired     a struct is made of its fields, a pair of two values
 --     viewed, begun         a view, or a buffer with a start, is made of the slice that it holds
 --     buffer_word, range_word      the word of a buffer, of a range
 --     in_buffer             the slice that a buffer holds
 --     follows_parts         what follows a part that is lent on in two parts
+--     at_seam               a list is taken apart where two were joined
 --     ok_of, err_of         what an `Ok` and an `Err` own
 --     let_go, kept_in_ok, kept_at_err      a slice that an answer holds, or that is let go
 --     accepts, refuses      the answer of a call that makes a buffer of a slice, and its clauses
-use Rattle.aead_ciphers_base.proofs.WalkNames.{◌≡◌, refl, sym, ◌∙◌, List, [], ◌∷◌, ◌++◌, ℕ, ◌^◌, ◌<◌, length, Ura, named, w64, Val, vint, vstruct, vcons}
+use Rattle.aead_ciphers_base.proofs.WalkNames.{◌≡◌, refl, sym, ◌∙◌, List, [], ◌∷◌, ◌++◌, ℕ, ◌^◌, ◌<◌, length, take, drop_list, Ura, named, w64, Val, vint, vstruct, vcons}
 use Rattle.aead_ciphers_base.proofs.WalkNames.{vnil, of_list, SProp, ent, sep, Fml, Lft, GName, ftrue, fsep, feq, fres, fobs, Logic, sem, Item, Seq, Step}
 use Rattle.aead_ciphers_base.proofs.WalkNames.{Goal, ‵, raw, ◌$◌, ◌∵◌, !, qed, by, move, keep, drop, fsplit, fsplit3, fjoin, fpick, fpack, feq_l, feq_i, use1}
 use Rattle.aead_ciphers_base.proofs.WalkNames.{use2, rewrite, done, updating, now, each, assume, fact, usize, follows, follows_both, Is, shows, param, number}
@@ -32,7 +34,10 @@ use denote.Plain.{uint_Makes}
 use denote.Steps.{owned}
 use denote.Struct.Field.{u64-field}
 use denote.Struct.Laws.{u64-laws, u64-copy}
+use denote.RattleType.{Denots, flat}
+use denote.Struct.Struct.{Shape, Struct}
 use denote.Struct.Tuple.{Tuple, tuple_type}
+use Rattle.std.proofs.Math.Seq.{take-append_seam, drop-append_seam}
 use Rattle.std.specs.contracts.result.Result as RS
 use Rattle.std.specs.declared.ops.RangeFrom.{RangeFrom}
 use Rattle.std.specs.contracts.ops.RangeFrom as RF
@@ -60,6 +65,10 @@ held u n = vstruct (vcons u (vcons (vint w64 n) vnil))
 pub gone : {M : Type 1} {𝓤 : Ura M} (𝓛 : Logic 𝓤) → ent 𝓤 (sem 𝓛 ftrue) (𝓛.H.⇛ (sem 𝓛 (fsep ftrue ftrue)))
 gone 𝓛 = qed 𝓛 (‵ ftrue ∷ []) ∵ updating ! $ now ! $ nothing ! $ fjoin ! $ done !
 
+-- the same of a value whose field is such a value
+pub gone_within : {M : Type 1} {𝓤 : Ura M} (𝓛 : Logic 𝓤) → ent 𝓤 (sem 𝓛 ftrue) (𝓛.H.⇛ (sem 𝓛 (fsep (fsep ftrue ftrue) ftrue)))
+gone_within 𝓛 = qed 𝓛 (‵ ftrue ∷ []) ∵ updating ! $ now ! $ nothing ! $ fjoin ! $ nothing ! $ move ! (1 ∷ 0 ∷ []) $ fjoin ! $ done !
+
 -- a pair of slices is taken apart
 module _ (κ : Lft) (R : RattleType) where
   abbrev S : RattleType
@@ -79,15 +88,18 @@ module _ (κ : Lft) (R : RattleType) where
         rewrite t 0 (λ (ws : List Val). ‵ (S.own_val r.1 ws)) is₁.0.0 refl $ move t (2 ∷ []) $ drop t $ move t (1 ∷ []) $
         k (ev ∙ (λ i. vstruct (of_list (is₀.0.0 i ++ (is₁.0.0 i ++ []))) ∷ [])) is₀.0.1.0 is₁.0.1.0))))
 
--- two values make a pair
-pub paired : {M : Type 1} {𝓤 : Ura M} (𝓛 : Logic 𝓤) (P Q : RattleType) (x : P.Denot) (y : Q.Denot) (p q : Val)
-    → ent 𝓤 (sep 𝓤 (sem 𝓛 (P.own_val x (p ∷ []))) (sem 𝓛 (Q.own_val y (q ∷ []))))
-    (sem 𝓛 ((Tuple (P ∷ Q ∷ [])).own_val (x, y) (vstruct (vcons p (vcons q vnil)) ∷ [])))
-paired 𝓛 P Q x y p q =
-    let w : Val = vstruct (vcons p (vcons q vnil)) in
-    qed 𝓛 (‵ (P.own_val x (p ∷ [])) ∷ ‵ (Q.own_val y (q ∷ [])) ∷ []) ∵ nothing ! $ move ! (2 ∷ 0 ∷ []) $ fjoin ! $ move ! (1 ∷ 0 ∷ []) $ fjoin ! $
-    feq_i ! (List Val) (w ∷ []) (w ∷ []) refl $ fjoin ! $
-    fpack ! (Valss (P ∷ Q ∷ [])) (within (shape (tuple_type (P ∷ Q ∷ []))) (x, (y, tt)) (w ∷ [])) (p ∷ [], (q ∷ [], tt)) $ done !
+-- a struct's fields make the struct, and two values make a pair
+module _ {M : Type 1} {𝓤 : Ura M} (𝓛 : Logic 𝓤) where
+  pub struct_of : (S : Shape) (d : Denots S.fields) (vss : Valss S.fields)
+      → ent 𝓤 (sem 𝓛 (owns S.fields d vss)) (sem 𝓛 ((Struct S).own_val d (vstruct (of_list (flat S.fields vss)) ∷ [])))
+  struct_of S d vss =
+      let w : Val = vstruct (of_list (flat S.fields vss)) in qed 𝓛 (‵ (owns S.fields d vss) ∷ []) ∵ feq_i ! (List Val) (w ∷ []) (w ∷ []) refl $ fjoin ! $
+      fpack ! (Valss S.fields) (within S d (w ∷ [])) vss $ done !
+
+  pub paired : (P Q : RattleType) (x : P.Denot) (y : Q.Denot) (p q : Val) → ent 𝓤 (sep 𝓤 (sem 𝓛 (P.own_val x (p ∷ []))) (sem 𝓛 (Q.own_val y (q ∷ []))))
+      (sem 𝓛 ((Tuple (P ∷ Q ∷ [])).own_val (x, y) (vstruct (vcons p (vcons q vnil)) ∷ [])))
+  paired P Q x y p q = qed 𝓛 (‵ (P.own_val x (p ∷ [])) ∷ ‵ (Q.own_val y (q ∷ [])) ∷ []) ∵ nothing ! $ move ! (2 ∷ 0 ∷ []) $ fjoin ! $ move ! (1 ∷ 0 ∷ []) $
+      fjoin ! $ by ! (struct_of (shape (tuple_type (P ∷ Q ∷ []))) (x, (y, tt)) (p ∷ [], (q ∷ [], tt)))
 
 module _ {M : Type 1} {𝓤 : Ura M} (𝓛 : Logic 𝓤) (ℓ : NamedLft) (R : RattleType) where
   abbrev Slice : RattleType
@@ -96,19 +108,16 @@ module _ {M : Type 1} {𝓤 : Ura M} (𝓛 : Logic 𝓤) (ℓ : NamedLft) (R : R
   -- a view of chunks holds a slice
   pub viewed : (n : ℕ) (d : AsChunksMut R.Denot n) (p : Val)
       → ent 𝓤 (sem 𝓛 (Slice.own_val d.items (p ∷ []))) (sem 𝓛 ((A.the_row ℓ R (param 1 (number n))).own_val d (vstruct (vcons p vnil) ∷ [])))
-  viewed n d p =
-      let w : Val = vstruct (vcons p vnil) in
-      qed 𝓛 (‵ (Slice.own_val d.items (p ∷ [])) ∷ []) ∵ nothing ! $ move ! (1 ∷ 0 ∷ []) $ fjoin ! $ feq_i ! (List Val) (w ∷ []) (w ∷ []) refl $ fjoin ! $
-      fpack ! (Valss (Slice ∷ [])) (within (shape (A.the_type ℓ R (param 1 (number n)))) (d.items, tt) (w ∷ [])) (p ∷ [], tt) $ done !
+  viewed n d p = qed 𝓛 (‵ (Slice.own_val d.items (p ∷ [])) ∷ []) ∵ nothing ! $ move ! (1 ∷ 0 ∷ []) $ fjoin ! $
+      by ! (struct_of 𝓛 (shape (A.the_type ℓ R (param 1 (number n)))) (d.items, tt) (p ∷ [], tt))
 
   -- a buffer holds a slice and where its input begins
   pub begun : (d : Overlapping R.Denot) (u : Val) → d.start < 2 ^ 64
       → ent 𝓤 (sem 𝓛 (Slice.own_val d.in_out (u ∷ []))) (sem 𝓛 ((O.the_row ℓ R).own_val d (held u d.start ∷ [])))
   begun d u fits =
-      let w = held u d.start in let n = vint w64 d.start in
+      let n = vint w64 d.start in
       qed 𝓛 (‵ (Slice.own_val d.in_out (u ∷ [])) ∷ []) ∵ nothing ! $ owned ! usize (Is usize) (uint_Makes 𝓛 w64) d.start (n ∷ []) (refl, fits) $ fjoin ! $
-      move ! (1 ∷ 0 ∷ []) $ fjoin ! $ feq_i ! (List Val) (w ∷ []) (w ∷ []) refl $ fjoin ! $
-      fpack ! (Valss (Slice ∷ usize ∷ [])) (within (shape (O.the_type ℓ R)) (d.in_out, (d.start, tt)) (w ∷ [])) (u ∷ [], (n ∷ [], tt)) $ done !
+      move ! (1 ∷ 0 ∷ []) $ fjoin ! $ by ! (struct_of 𝓛 (shape (O.the_type ℓ R)) (d.in_out, (d.start, tt)) (u ∷ [], (n ∷ [], tt)))
 
   -- the word of a buffer
   pub buffer_word : (d : Overlapping R.Denot) (vs : List Val) → Is (O.the_row ℓ R) d vs
@@ -142,6 +151,11 @@ module _ {M : Type 1} {𝓤 : Ura M} (𝓛 : Logic 𝓤) (R T U V : RattleType) 
       (all_e 𝓤 (λ (z : U.Denot × V.Denot). wand 𝓤 (sem 𝓛 (Both z)) (A.res γ' (T.coded.code (G z.0 z.1)))) w) $
       move ! (1 ∷ 0 ∷ []) $ use2 𝓛 (‵ (fres γ' (T.coded.code (G w.0 w.1)))) (apply∗ 𝓤 (sem 𝓛 (Both w)) (A.res γ' (T.coded.code (G w.0 w.1)))) $
       move ! (1 ∷ 0 ∷ []) $ by ! (followed 𝓛 R T F γ γ' (G w.0 w.1)))
+
+-- a list is taken apart where two were joined
+pub at_seam : {A : Type 0} (k : ℕ) (ys front back : List A) → ys ≡ front ++ back → k ≡ length front → (take k ys ≡ front) × (drop_list k ys ≡ back)
+at_seam k ys front back e is =
+    ((λ i. take (is i) (e i)) ∙ take-append_seam front back, (λ i. drop_list (is i) (e i)) ∙ drop-append_seam front back)
 
 -- what an `Ok` and an `Err` own
 module _ {M : Type 1} {𝓤 : Ura M} (𝓛 : Logic 𝓤) (X E : RattleType) where

@@ -2,7 +2,7 @@
 
 ghost use Rattle.std.specs.Prelude.{◌≡◌, ◌↔◌, ◌-◌, ◌<◌, ◌≤◌, IsOk, IfOk, IfErr, drop, length, take};
 ghost use Rattle.std.specs.Borrow.{sem};
-ghost use Rattle.aead_ciphers_base.specs.Overlapping.{KeptIfErr, LendsOutput, input_len};
+ghost use Rattle.aead_ciphers_base.specs.Overlapping.{KeptIfErr, LendsOutput, input_len, input_of};
 
 use super::Overlapping;
 use crate::error::LenMismatchError;
@@ -10,41 +10,36 @@ use crate::error::LenMismatchError;
 /// An overlapping buffer whose input has exactly `N` items, and `N` is not zero.
 #[derive(Drop)]
 pub struct Array<'o, T, const N: usize> {
-    /// The whole slice.
-    pub in_out: &'o mut [T],
-    /// Where the input starts, in items.
-    pub start: usize,
+    /// The whole buffer.
+    pub in_out: Overlapping<'o, T>,
     pub ghost some: { 0 < N },
-    pub ghost within: { start ≤ length in_out.now },
-    pub ghost exact: { length in_out.now - start ≡ N },
+    pub ghost exact: { input_len in_out ≡ N },
 }
 
 impl<'o, T, const N: usize> Array<'o, T, N> {
     /// Refused with `N` where `N` is zero or the input has another length.
     pub fn new(in_out: Overlapping<'o, T>) -> Result<Self, LenMismatchError>
         ensures* kept { sem 𝓛 (KeptIfErr T.row in_out.entry.in_out
-            (λ a. a.in_out.ghost_name) result) }
+            (λ a. a.in_out.in_out.ghost_name) result) }
         ensures accepted { IsOk result ↔ ((0 < N) × (input_len in_out.entry ≡ N)) }
         ensures same_reference { IfOk result
-            (λ a. a.in_out.ghost_name ≡ in_out.entry.in_out.ghost_name) }
-        ensures items { IfOk result (λ a. a.in_out.now ≡ in_out.entry.in_out.now) }
-        ensures start { IfOk result (λ a. a.start ≡ in_out.entry.start) }
+            (λ a. a.in_out.in_out.ghost_name ≡ in_out.entry.in_out.ghost_name) }
+        ensures items { IfOk result (λ a. a.in_out.in_out.now ≡ in_out.entry.in_out.now) }
+        ensures start { IfOk result (λ a. a.in_out.start ≡ in_out.entry.start) }
         ensures refused { IfErr result (λ e. e ≡ N) }
     {
-        let Overlapping { in_out, start } = in_out;
-        let len = in_out.len() - start;
+        let len = in_out.in_out.len() - in_out.start;
         if (N == 0) | (len != N) {
             return Err(LenMismatchError::new(N));
         }
-        Ok(Array { in_out, start })
+        Ok(Array { in_out })
     }
 
     /// The slice from the start on.
     pub fn input(&self) -> &[T; N]
-        ensures { result.now ≡ drop self.now.start self.now.in_out.now }
+        ensures { result.now ≡ input_of self.now.in_out }
     {
-        let input = &self.in_out[self.start..];
-        match input.as_array::<N>() {
+        match self.in_out.input().as_array::<N>() {
             Some(input) => input,
             None => unreachable!(),
         }
@@ -52,18 +47,19 @@ impl<'o, T, const N: usize> Array<'o, T, N> {
 
     /// The first `N` items of the slice, for writing.
     pub fn into_unwritten_output(self) -> &'o mut [T; N]
-        ensures* writes_back { sem 𝓛 (LendsOutput T.row self.entry.in_out result N) }
-        ensures items { result.now ≡ take N self.entry.in_out.now }
+        ensures* writes_back { sem 𝓛 (LendsOutput T.row self.entry.in_out.in_out result N) }
+        ensures items { result.now ≡ take N self.entry.in_out.in_out.now }
     {
         first_array::<T, N>(self.into_slice())
     }
 
     /// The whole slice.
     fn into_slice(self) -> &'o mut [T]
-        ensures same_reference { result.ghost_name ≡ self.entry.in_out.ghost_name }
-        ensures items { result.now ≡ self.entry.in_out.now }
+        ensures same_reference { result.ghost_name ≡ self.entry.in_out.in_out.ghost_name }
+        ensures items { result.now ≡ self.entry.in_out.in_out.now }
     {
-        self.in_out
+        let Overlapping { in_out, .. } = self.in_out;
+        in_out
     }
 }
 

@@ -170,36 +170,11 @@ impl<'o, T> Overlapping<'o, T> {
         ensures start { IfOk result (λ o. o.start ≡ self.entry.start) }
         ensures refused { IfErr result (λ e. e ≡ C.chunk_len) }
     {
-        self.first_chunk_mapped(f).rest()
-    }
-}
-
-/// A buffer, and how many items are split off.
-struct FirstMapped<'o, T> {
-    in_out: &'o mut [T],
-    start: usize,
-    count: usize,
-    ghost within: { start ≤ length in_out.now },
-}
-
-impl<'o, T> FirstMapped<'o, T> {
-    ghost use Rattle.aead_ciphers_base.specs.Overlapping.{LendsTail};
-
-    /// The buffer behind the first `count` items, where the input has as many.
-    fn rest(self) -> Result<Overlapping<'o, T>, IndexError>
-        ensures* writes_back { sem 𝓛 (LendsTail T.row self.entry.in_out self.entry.count result) }
-        ensures accepted { IsOk result
-            ↔ (self.entry.count ≤ length self.entry.in_out.now - self.entry.start) }
-        ensures rest { IfOk result
-            (λ o. o.in_out.now ≡ drop self.entry.count self.entry.in_out.now) }
-        ensures start { IfOk result (λ o. o.start ≡ self.entry.start) }
-        ensures refused { IfErr result (λ e. e ≡ self.entry.count) }
-    {
         let FirstMapped {
             in_out,
             start,
             count,
-        } = self;
+        } = self.first_chunk_mapped(f);
         if in_out.len() - start < count {
             return Err(IndexError::new(count));
         }
@@ -208,4 +183,12 @@ impl<'o, T> FirstMapped<'o, T> {
             start,
         })
     }
+}
+
+/// A buffer, and how many items a chunk has.
+struct FirstMapped<'o, T> {
+    in_out: &'o mut [T],
+    start: usize,
+    count: usize,
+    ghost within: { start ≤ length in_out.now },
 }

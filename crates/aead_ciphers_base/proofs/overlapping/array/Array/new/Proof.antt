@@ -1,12 +1,12 @@
--- The slice is handed on, or let go as it came. This walks the code by hand.
+-- The buffer is handed on, or its slice is let go as it came. This walks the code by hand.
 use Rattle.aead_ciphers_base.proofs.WalkNames.{◌≡◌, refl, subst, ap, ◌∙◌, List, [], ◌∷◌, ℕ, ◌-◌, ◌^◌, ◌<◌, arith, length, w64, a_type, a_number, inst_fn, Val}
-use Rattle.aead_ciphers_base.proofs.WalkNames.{vint, of_list, Fits, ‵, ◌$◌, !, move, keep, drop, use1, rewrite, whole, sub, agg, stop, fld, from, load}
+use Rattle.aead_ciphers_base.proofs.WalkNames.{fjoin, vint, vstruct, vcons, vnil, shape, of_list, Fits, ‵, ◌$◌, !, move, keep, drop, use1, rewrite, whole, sub, agg, stop, fld, from, load}
 use Rattle.aead_ciphers_base.proofs.WalkNames.{lit, num_lit, of_opd, bin, and_then, no_more, first, branches, skips, exec, returns, returns_within, alloc_all}
 use Rattle.aead_ciphers_base.proofs.WalkNames.{pass_all, free_all, look_at, look_in_at, get, sets, lands_as, env, usize, Is, shows, param, number, layouts}
 use Rattle.aead_ciphers_base.proofs.WalkNames.{types_at, named_lft, slice_val, nothing, heard, peeks, only, Ok, Err}
-use Rattle.aead_ciphers_base.proofs.WalkLocals.{alone, both, reborrows}
+use Rattle.aead_ciphers_base.proofs.WalkLocals.{alone}
 use Rattle.aead_ciphers_base.proofs.Walks.{Words, words_vals, words_typed, slice_typed, dropped, consults, ends, walked, table_of, premise}
-use Rattle.aead_ciphers_base.proofs.ViewWalks.{boxed, held, gone, begun, buffer_word, in_buffer, making, accepts, refuses}
+use Rattle.aead_ciphers_base.proofs.ViewWalks.{boxed, held, gone, buffer_word, struct_of, in_buffer, making, accepts, refuses}
 use Prim.Native.Nat.{zero, suc}
 use lib.Dec.{T, T_not, eqb, eqb→eq, eqb_refl, lit<}
 use mathlib.Core.Bool.{Bool, true, false, not, ◌||◌}
@@ -54,14 +54,15 @@ new_spec 𝓤 𝓛 𝓜 𝓡 wired X n L fits =
     let u = slice_val x.ref_ptr (length xs) in let typed = slice_typed x.ref_ptr (length xs) is.1.0 in let number : Fits w64 s = record { fits = is.2 } in
     let words : Words Ts passed = ((held u s, is.0, (tt, (typed.1, (number, tt)))), tt) in let vals = words_vals Ts passed words in
     let m-fits : m < 2 ^ 64 = let long : length xs < 2 ^ 64 = is.1.0 in omega arith in let Row = V.the_row ℓ R K in
-    let made = making R Row LE.the_row κs.0 x s ((0 < n) × (m ≡ n)) n (λ o. o.in_out.ghost_name) (λ o. o.in_out.now) (λ o. o.start) in
+    let made = making R Row LE.the_row κs.0 x s ((0 < n) × (m ≡ n)) n (λ o. o.in_out.in_out.ghost_name) (λ o. o.in_out.in_out.now)
+    (λ o. o.in_out.start) in
     let Walk = walk_of 𝓛 T hs c in let at_end : Walk.Ghost = ((κs, qs, bounds, a, vals), tt) in let Post = Walk.post at_end in (
       words,
       -- [three tokens; the buffer; the premise]
-      move ! (4 ∷ []) $ drop ! $ move ! (3 ∷ []) $ in_buffer 𝓛 ℓ R ! b _ $ alloc_all ! (λ l. pass_all ! refl (words_typed Ts passed words) $
-          sets ! (of_opd ! (load ! (from ! (fld ! refl (stop !))) (look_in_at ! 1 (sub ! 0 refl (whole !))))) refl typed $
+      move ! (4 ∷ []) $ drop ! $ move ! (3 ∷ []) $ alloc_all ! (λ l. pass_all ! refl (words_typed Ts passed words) $
+          sets ! (of_opd ! (load ! (from ! (fld ! refl (fld ! refl (stop !)))) (look_in_at ! 1 (sub ! 1 refl (sub ! 0 refl (whole !)))))) refl
+          (tt, record { fits = is.1.0 }) $
           sets ! (of_opd ! (load ! (from ! (fld ! refl (stop !))) (look_in_at ! 1 (sub ! 1 refl (whole !))))) refl (tt, number) $
-          sets ! (of_opd ! (load ! (from ! (fld ! refl (stop !))) (look_in_at ! 2 (sub ! 1 refl (whole !))))) refl (tt, record { fits = is.1.0 }) $
           sets ! (bin ! (get ! refl) (get ! refl) b.within) refl (tt, record { fits = m-fits }) $
           sets ! (bin ! (num_lit ! fits) (lit ! tt) tt) refl (tt, tt) $ sets ! (bin ! (get ! refl) (num_lit ! fits) tt) refl (tt, tt) $
           sets ! (bin ! (get ! refl) (get ! refl) tt) refl (tt, tt) $ first ! $ branches ! (get ! refl)
@@ -69,24 +70,25 @@ new_spec 𝓤 𝓛 𝓜 𝓡 wired X n L fits =
           consults 𝓛 LE.new.ended (LE.new.clauses 𝓛 𝓜.mem 𝓡.returns) ! (table_of 𝓛 𝓜 𝓡)
           (LEP.new.Met.met 𝓤 𝓛 𝓜 𝓡 (P.new.Code.calls-aead_ciphers_base::error::LenMismatchError::new 𝓡.env wired))
           ((tt, tt, tt, (n, tt), (vint w64 n ∷ [], tt)), tt) (and_then ! (num_lit ! fits) (no_more !)) (λ v e ws. heard ! _ (λ same.
-          -- [the error; nothing; the slice; three tokens]
+          -- [the error; nothing; the buffer; three tokens]
           peeks ! LE.the_row (Is LE.the_row) (shows 𝓛 LE.the_row) e (v ∷ []) (λ is-e.
           let told : v ∷ [] ≡ boxed n ∷ [] = LEP.TheLaws.lowers.val_is e (v ∷ []) is-e ∙ ap (λ j. boxed j ∷ []) same in
           rewrite ! 0 (λ (ws : List Val). ‵ (LE.the_row.own_val e ws)) told refl $ lands_as ! (ap only told) refl (tt, (fits, tt)) $
           sets ! (agg ! (and_then ! (lit ! tt) (alone ! refl))) refl (tt, (record { fits = lit< tt }, ((fits, tt), tt))) $
-          move ! (0 ∷ 2 ∷ []) $ refuses made ! e (boxed n) (u ∷ []) same (not_exact m n other) $
+          move ! (2 ∷ []) $ in_buffer 𝓛 ℓ R ! b _ $ move ! (1 ∷ []) $ refuses made ! e (boxed n) (u ∷ []) same (not_exact m n other) $
           returns_within ! Post refl (look_at ! 0 refl) $ free_all ! refl $ nothing ! $
           -- [nothing; the clauses; the answer; nothing; three tokens]
           keep ! (4 ∷ 5 ∷ 6 ∷ 0 ∷ 2 ∷ 1 ∷ []) $ ends 𝓛 T hs c at_end (live 1 (of_list (boxed n ∷ []))) (Err e) ((tt, tt), tt) ! (tt, tt)))))
           (λ equal.
           let sizes = exact m n equal in
-          let d : Array X.Denot n = record { in_out = x; start = s; some = sizes.0; within = b.within; exact = sizes.1 } in
-          skips ! $ exec ! 𝓣.C 𝓣.Λ (env fn.locals l) (after 8 fn.body) (at_ret (env fn.locals l) Post) $
-          reborrows ! x.ref_ptr (length xs) refl refl (tt, tt) typed $
-          sets ! (agg ! (both ! refl refl)) refl (tt, (typed.1, (number, tt))) $
-          sets ! (agg ! (and_then ! (lit ! tt) (alone ! refl))) refl (tt, (record { fits = lit< tt }, ((typed.1, (number, tt)), tt))) $
-          use1 𝓛 (‵ (Row.own_val d (held u s ∷ []))) (begun 𝓛 ℓ R b u is.2) $
-          accepts made ! d (held u s) sizes refl refl refl $ returns ! (look_at ! 0 refl) $ free_all ! refl $ nothing ! $
+          let d : Array X.Denot n = record { in_out = b; some = sizes.0; exact = sizes.1 } in
+          let w : Val = vstruct (vcons (held u s) vnil) in
+          skips ! $ exec ! 𝓣.C 𝓣.Λ (env fn.locals l) (after 7 fn.body) (at_ret (env fn.locals l) Post) $
+          sets ! (of_opd ! (get ! refl)) refl words.0.2 $ sets ! (agg ! (alone ! refl)) refl (tt, (words.0.2.1, tt)) $
+          sets ! (agg ! (and_then ! (lit ! tt) (alone ! refl))) refl (tt, (record { fits = lit< tt }, ((words.0.2.1, tt), tt))) $
+          nothing ! $ move ! (1 ∷ 0 ∷ []) $ fjoin ! $
+          use1 𝓛 (‵ (Row.own_val d (w ∷ []))) (struct_of 𝓛 (shape (V.the_type ℓ R K)) ((x, (s, tt)), tt) (held u s ∷ [], tt)) $
+          accepts made ! d w sizes refl refl refl $ returns ! (look_at ! 0 refl) $ free_all ! refl $ nothing ! $
           -- [nothing; the clauses; the answer; three tokens]
-          keep ! (3 ∷ 4 ∷ 5 ∷ 0 ∷ 2 ∷ 1 ∷ []) $ ends 𝓛 T hs c at_end (live 0 (of_list (held u s ∷ []))) (Ok d) ((tt, tt), tt) ! (tt, tt))),
+          keep ! (3 ∷ 4 ∷ 5 ∷ 0 ∷ 2 ∷ 1 ∷ []) $ ends 𝓛 T hs c at_end (live 0 (of_list (w ∷ []))) (Ok d) ((tt, tt), tt) ! (tt, tt))),
     ))

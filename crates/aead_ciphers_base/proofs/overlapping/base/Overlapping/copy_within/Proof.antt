@@ -6,10 +6,9 @@ use Rattle.aead_ciphers_base.proofs.WalkNames.{bounded, types_at, named_lft, Mut
 use Rattle.aead_ciphers_base.proofs.WalkLocals.{gets}
 use Rattle.aead_ciphers_base.proofs.Walks.{one, Words, words_vals, words_typed, dropped, consults, ends, walked, table_of, learns, learns_last, tells, tell}
 use Rattle.aead_ciphers_base.proofs.Walks.{premise, takes, says}
-use Rattle.aead_ciphers_base.proofs.ViewWalks.{gone}
+use Rattle.aead_ciphers_base.proofs.ViewWalks.{gone, at_seam}
 use denote.Param.{copied}
 use denote.Param.Laws.{copied_laws}
-use Rattle.std.proofs.Math.Seq.{take-append_seam, drop-append_seam}
 use Rattle.aead_ciphers_base.specs.contracts.overlapping.base.Overlapping as O
 use Rattle.aead_ciphers_base.proofs.overlapping.base.Overlapping as P
 
@@ -17,12 +16,8 @@ use Rattle.aead_ciphers_base.proofs.overlapping.base.Overlapping as P
 copied_parts : {A : Type 0} (xs ys : List A) (start from : ℕ) → start ≤ length xs → ys ≡ drop_list start xs ++ drop_list (length xs - start) xs → from ≡ start
     → (take (length ys - from) ys ≡ drop_list start xs) × (drop_list (length ys - from) ys ≡ drop_list (length xs - start) xs)
 copied_parts xs ys start from within moved kept =
-    let input = drop_list start xs in let rest = drop_list (length xs - start) xs in
-    let long : length ys ≡ length input + length rest = ap length moved ∙ length-append input rest in
-    let count : length ys - from ≡ length input = omega (arith, length-drop start xs, length-drop (length xs - start) xs) in (
-      (λ i. take (count i) (moved i)) ∙ take-append_seam input rest,
-      (λ i. drop_list (count i) (moved i)) ∙ drop-append_seam input rest,
-    )
+    let long = ap length moved ∙ length-append (drop_list start xs) (drop_list (length xs - start) xs) in
+    at_seam _ ys _ _ moved (omega (arith, length-drop start xs, length-drop (length xs - start) xs))
 
 pub copy_within_spec : {M : Type 1} → P.copy_within.Statement.statement M
 copy_within_spec 𝓤 𝓛 𝓜 𝓡 wired X L copy clone dict bound =

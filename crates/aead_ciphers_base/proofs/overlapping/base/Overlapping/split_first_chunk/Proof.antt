@@ -1,106 +1,59 @@
--- The slice behind the first chunk is handed on after the chunk was mapped. This walks the two calls by hand.
-use Rattle.aead_ciphers_base.proofs.WalkNames.{◌≡◌, refl, ap, ◌∙◌, List, [], ◌∷◌, ◌++◌, ℕ, ◌+◌, ◌-◌, ◌<◌, ◌≤◌, arith, length, take, drop_list, length-drop}
-use Rattle.aead_ciphers_base.proofs.WalkNames.{length-append, Ura, a_type, dcons, dnil, inst_fn, ent, GName, fres, Logic, sem, ‵, ◌$◌, ◌∵◌, !, qed, move}
-use Rattle.aead_ciphers_base.proofs.WalkNames.{keep, fpack, use1, rewrite, done, of_opd, returns, alloc_all, pass_all, free_all, look_at, get, sets, lands_as}
-use Rattle.aead_ciphers_base.proofs.WalkNames.{Items, no, follows, Is, shows, param, layout, bounded, RattleType, Bor, types_at, plain, named_lft, nothing}
-use Rattle.aead_ciphers_base.proofs.WalkNames.{heard, peeks, Goes-dropped, Result, Ok, Err, IsOk, IfOk, IfErr, ◌↔◌}
-use Rattle.aead_ciphers_base.proofs.WalkLocals.{gets}
-use Rattle.aead_ciphers_base.proofs.Walks.{one, Words, words_vals, words_typed, dropped, consults, ends, walked, table_of, learns, tells, tell}
-use Rattle.aead_ciphers_base.proofs.Walks.{premise, takes, says}
-use Rattle.aead_ciphers_base.proofs.ViewWalks.{gone}
-use native.Mathlib.Nat.{lt_of_not-le}
+-- The slice behind the first chunk is handed on after the chunk was mapped, or the slice is let go. This walks the code by hand.
+use Rattle.aead_ciphers_base.proofs.WalkNames.{◌≡◌, refl, sym, ap, ◌∙◌, List, [], ◌∷◌, ◌++◌, ℕ, ◌+◌, ◌-◌, ◌*◌, ◌^◌, ◌<◌, ◌≤◌, arith, length, take, drop_list}
+use Rattle.aead_ciphers_base.proofs.WalkNames.{length-drop, length-append, w64, a_type, dcons, dnil, inst_fn, Val, vint, vstruct, vcons, vnil, of_list, Fits}
+use Rattle.aead_ciphers_base.proofs.WalkNames.{size, GName, fres, ‵, some, later, ◌$◌, !, move, keep, drop, split3, fsplit, fpick, fpack, feq_l, use1, use2}
+use Rattle.aead_ciphers_base.proofs.WalkNames.{await, pick, rewrite, whole, sub, agg, stop, fld, from, load, lit, size_word, of_opd, bin, addr, and_then, first}
+use Rattle.aead_ciphers_base.proofs.WalkNames.{branches, skips, exec, returns, returns_within, alloc_all, pass_all, free_all, look_at, look_in_at, get, sets}
+use Rattle.aead_ciphers_base.proofs.WalkNames.{lands_as, through, env, Items, usize, no, follows, Is, shows, param, layout, bounded, types_at, plain, named_lft}
+use Rattle.aead_ciphers_base.proofs.WalkNames.{Room, slice_val, nothing, heard, peeks, only, Goes-dropped, Ok, Err, IsOk, ◌↔◌}
+use Rattle.aead_ciphers_base.proofs.WalkLocals.{alone, both, gets}
+use Rattle.aead_ciphers_base.proofs.Walks.{one, Words, words_vals, words_typed, slice_typed, dropped, consults, ends, walked, table_of, learns, tells, tell}
+use Rattle.aead_ciphers_base.proofs.Walks.{premise, says}
+use Rattle.aead_ciphers_base.proofs.ViewWalks.{boxed, held, gone, begun, at_seam, ok_of, err_of, let_go}
+use Rattle.aead_ciphers_base.proofs.LentParts.{Part, lent, lends_back}
+use native.Mathlib.Nat.{mul-le-mul_right, suc-mul, zero-mul}
+use Prim.Native.Nat.{zero, suc}
+use lib.Dec.{ltb→lt, nltb→le, lit<}
+use prog.Capped.{capped_is}
+use prog.Memory.{capped}
+use types.Kit.{at_ret}
+use types.Match.{live}
+use contract.Running.{tables}
 use denote.Param.Laws.{param_laws}
-use Rattle.std.proofs.Math.Seq.{take-append_seam, drop-append_seam}
-use Rattle.std.specs.Fn.{Once}
+use denote.Plain.{uint_Makes}
+use denote.Steps.{owned}
+use denote.Triple.Walked.{walk_of}
+use Rattle.std.proofs.VecSteps.Shapes.{after}
 use Rattle.std.specs.contracts.result.Result as RS
-use Rattle.std.proofs.result.Result.TheLaws as RL
-use Rattle.aead_ciphers_base.specs.Overlapping.{AnswersChunk, MapsChunk, EndsAs, LendsBehind, LendsTail, LendsRest}
+use Rattle.aead_ciphers_base.specs.Overlapping.{AnswersChunk, EndsAs, LendsBehind, LendsRest}
 use Rattle.aead_ciphers_base.specs.contracts.error.IndexError as IE
-use Rattle.aead_ciphers_base.proofs.error.IndexError.TheLaws as IE-laws
+use Rattle.aead_ciphers_base.proofs.error.IndexError as IEP
 use Rattle.aead_ciphers_base.specs.declared.overlapping.base.Overlapping.{Overlapping}
-use Rattle.aead_ciphers_base.specs.declared.overlapping.base.FirstMapped.{FirstMapped}
 use Rattle.aead_ciphers_base.specs.contracts.overlapping.base as C
 use Rattle.aead_ciphers_base.proofs.overlapping.base as P
 
--- what the first call says: b is the buffer, and m is it once its first chunk is mapped
-record Told {T C F : Type 0} (items : C → List T) (g : Once F (Bor C × Unit {0}) C) (n : ℕ) (f : F) (b : Overlapping T) (m : FirstMapped T) : Type 0 where
-  pub same : m.in_out.ghost_name ≡ b.in_out.ghost_name
-  pub mapped : n ≤ length b.in_out.now - b.start → MapsChunk items g n f b.in_out.now b.start m.in_out.now
-  pub kept : length b.in_out.now - b.start < n → m.in_out.now ≡ b.in_out.now
-  pub long : length m.in_out.now ≡ length b.in_out.now
-  pub start : m.start ≡ b.start
-  pub count : m.count ≡ n
-
--- the plain clauses of both functions
-record Clauses {T : Type 0} (xs : List T) (start count : ℕ) (out : Result (Overlapping T) ℕ) : Type 0 where
-  pub accepted : IsOk out ↔ (count ≤ length xs - start)
-  pub rest : IfOk out (λ p. p.in_out.now ≡ drop_list count xs)
-  pub begun : IfOk out (λ p. p.start ≡ start)
-  pub refused : IfErr out (λ e. e ≡ count)
-
--- what the two calls say together
-module _ (R : RattleType) {C F : Type 0} (items : C → List R.Denot) (g : Once F (Bor C × Unit {0}) C) (n : ℕ) (f : F) (b : Overlapping R.Denot)
-    (m : FirstMapped R.Denot) (told : Told items g n f b m) where
-  abbrev xs : List R.Denot
-  xs = b.in_out.now
-
-  abbrev ys : List R.Denot
-  ys = m.in_out.now
-
-  abbrev Answer : Type 0
-  Answer = Result (Overlapping R.Denot) ℕ
-
-  abbrev Second : Answer → Type 0
-  Second = Clauses ys m.start m.count
-
-  accepts : (out : Answer) → Second out → IsOk out ↔ (n ≤ length xs - b.start)
-  accepts out c = (
-    (λ ok. let h = c.accepted.0 ok in omega (arith, told.long, told.start, told.count)),
-    λ h. c.accepted.1 (omega (arith, told.long, told.start, told.count)),
-  )
-
-  parts : (h : n ≤ length xs - b.start) → (take m.count ys ≡ items (told.mapped h).answers.answer) × (drop_list m.count ys ≡ drop_list n xs)
-  parts h =
-      let w = (told.mapped h).written in let answer = items (told.mapped h).answers.answer in let rest = drop_list n xs in
-      let sum : length ys ≡ length answer + length rest = ap length w ∙ length-append answer rest in
-      let is : m.count ≡ length answer = omega (arith, length-drop n xs, told.long, told.count) in
-      ((λ i. take (is i) (w i)) ∙ take-append_seam answer rest, (λ i. drop_list (is i) (w i)) ∙ drop-append_seam answer rest)
-
-  unchanged : (e : ℕ) → Second (Err e) → ys ≡ xs
-  unchanged e c = told.kept (lt_of_not-le (λ h. let is = (accepts (Err e) c).1 h in cc))
-
-  clauses_of : (out : Answer) → Second out → Clauses xs b.start n out
-  clauses_of (Ok p) c =
-      let is = accepts (Ok p) c in record { accepted = is; rest = c.rest ∙ (parts (is.0 refl)).1; begun = c.begun ∙ told.start; refused = tt }
-  clauses_of (Err e) c = record { accepted = accepts (Err e) c; rest = tt; begun = tt; refused = c.refused ∙ told.count }
-
-  lends : {M : Type 1} {𝓤 : Ura M} (𝓛 : Logic 𝓤) (out : Answer) → Second out
-      → ent 𝓤 (sem 𝓛 (LendsTail R m.in_out m.count out)) (sem 𝓛 (LendsRest R items g n f b out))
-  lends 𝓛 (Ok p) c =
-      let h = (accepts (Ok p) c).0 refl in
-      qed 𝓛 (‵ (LendsBehind R m.in_out (take m.count ys) p.in_out) ∷ []) ∵
-      rewrite ! 0 (λ (e : GName × List R.Denot). ‵ (follows (Items R 0) (Items R 0) e.0 p.in_out.ghost_name (λ w. e.1 ++ w)))
-      (λ i. (told.same i, (parts h).0 i)) refl $
-      fpack ! (AnswersChunk items g n f (drop_list b.start xs)) (λ a. LendsBehind R b.in_out (items a.answer) p.in_out) (told.mapped h).answers $ done !
-  lends 𝓛 (Err e) c = qed 𝓛 (‵ (EndsAs R m.in_out ys) ∷ []) ∵
-      rewrite ! 0 (λ (e : GName × List R.Denot). ‵ (fres e.0 ((Items R 0).coded.code e.1))) (λ i. (told.same i, unchanged e c i)) refl $ done !
+-- a size too large for a word is that of no item
+scaled : (n s : ℕ) → n * s < 2 ^ 63 → n * capped s ≡ n * s
+scaled zero s fit = zero-mul (capped s) ∙ sym (zero-mul s)
+scaled (suc n) s fit = ap (λ (k : ℕ). suc n * k) (capped_is s (omega (arith, suc-mul n s)))
 
 pub split_first_chunk_spec : {M : Type 1} → P.Overlapping.split_first_chunk.Statement.statement M
 split_first_chunk_spec 𝓤 𝓛 𝓜 𝓡 wired X Y Z LX LY LZ chunk d₁ once d₂ d₃ d₄ chunk-met once-met drops-x drops-z =
     let R = param 0 X in let inst = bounded (a_type ∷ a_type ∷ a_type ∷ []) (X, (Y, (Z, tt))) (dcons d₁ (dcons d₂ (dcons d₃ (dcons d₄ dnil)))) in
+    let fn = inst_fn inst P.Overlapping.split_first_chunk.Code.function in let 𝓣 = tables 𝓤 𝓛.H 𝓜 𝓡 𝓡.env in
     let T = C.Overlapping.split_first_chunk.ended X Y Z chunk d₁ once d₂ d₃ d₄ in let hs = dropped T.signature.params T.kept in
     let c = C.Overlapping.split_first_chunk.clauses X Y Z chunk d₁ once d₂ d₃ d₄ 𝓛 𝓜.mem 𝓡.returns in
     walked 𝓛 T hs c 𝓜 𝓡 ((λ κs x f vs fits. gone 𝓛), (Goes-dropped 𝓛 4 (plain (λ _. param 2 Z)) no (λ κs x f. refl), tt))
-    (C.Overlapping.split_first_chunk.Key.name inst) (inst_fn inst P.Overlapping.split_first_chunk.Code.function)
+    (C.Overlapping.split_first_chunk.Key.name inst) fn
     (P.Overlapping.split_first_chunk.Code.unfolded 𝓤 𝓛.H 𝓜 𝓡 wired (X, (Y, (Z, tt))) d₁ d₂ d₃ d₄) (λ y are.
-    let (κs, qs, bounds, a, passed) = y.0 in let Ts = types_at T.signature.params κs in let x = a.0 in let f = a.1.0 in let ℓ = named_lft 4 0 tt κs in
-    let Row = C.Overlapping.the_row ℓ R in let Mid = C.FirstMapped.the_row ℓ R in let Out = RS.the_row Row IE.the_row in
-    let row-laws = P.Overlapping.TheLaws.the_row_laws ℓ R (param_laws 0 X LX) in let mid-laws = P.FirstMapped.TheLaws.the_row_laws ℓ R (param_laws 0 X LX) in
-    let out-laws = RL.the_row_laws Row IE.the_row row-laws IE-laws.the_row_laws in
+    let (κs, qs, bounds, a, passed) = y.0 in let Ts = types_at T.signature.params κs in let b = a.0 in let f = a.1.0 in let xs = b.in_out.now in
+    let n = chunk.chunk_len in let ℓ = named_lft 4 0 tt κs in let Row = C.Overlapping.the_row ℓ R in let Mid = C.FirstMapped.the_row ℓ R in
     let words : Words Ts passed = (
-      one (layout Row) passed.0 ((row-laws.lawful 𝓛).typed x passed.0 are.0),
+      one (layout Row) passed.0 (((P.Overlapping.TheLaws.the_row_laws ℓ R (param_laws 0 X LX)).lawful 𝓛).typed b passed.0 are.0),
       (one (layout Z) passed.1.0 (((param_laws 2 Z LZ).lawful 𝓛).typed f passed.1.0 are.1.0), tt),
-    ) in let vals = words_vals Ts passed words in (
+    ) in let vals = words_vals Ts passed words in
+    let Walk = walk_of 𝓛 T hs c in let at_end : Walk.Ghost = ((κs, qs, bounds, a, vals), tt) in let Post = Walk.post at_end in
+    let Out = RS.the_row Row IE.the_row in (
       words,
       -- [four tokens; self; the closure; the premise]
       move ! (6 ∷ []) $ learns ! (λ lives. learns ! (λ chunk-lives. learns ! (λ closure-lives. heard ! _ (λ answers.
@@ -111,26 +64,81 @@ split_first_chunk_spec 𝓤 𝓛 𝓜 𝓡 wired X Y Z LX LY LZ chunk d₁ once 
           (C.Overlapping.first_chunk_mapped.clauses X Y Z chunk d₁ once d₂ d₃ d₄ 𝓛 𝓜.mem 𝓡.returns) ! (table_of 𝓛 𝓜 𝓡)
           (P.Overlapping.first_chunk_mapped.Met.met 𝓤 𝓛 𝓜 𝓡
           (P.Overlapping.split_first_chunk.Code.calls-aead_ciphers_base::overlapping::base::Overlapping::first_chunk_mapped 𝓡.env wired)
-          X Y Z LX LY LZ chunk d₁ once d₂ d₃ d₄ chunk-met once-met drops-x drops-z) ((κs, qs, bounds, a, vals), tt) (gets ! tt refl) (λ v r ws.
-          learns ! (λ same. learns ! (λ mapped. learns ! (λ kept. learns ! (λ long. learns ! (λ start. heard ! _ (λ count.
-          peeks ! Mid (Is Mid) (shows 𝓛 Mid) r (v ∷ []) (λ is-r. lands_as ! refl refl (((mid-laws.lawful 𝓛).typed r (v ∷ []) is-r).0) $
-          -- [what the first call answered; four tokens; twice nothing]
-          premise ! $ tells ! lives $ move ! (2 ∷ 3 ∷ 1 ∷ []) $
-          consults 𝓛 (C.FirstMapped.rest.ended X) (C.FirstMapped.rest.clauses X 𝓛 𝓜.mem 𝓡.returns) ! (table_of 𝓛 𝓜 𝓡) (P.FirstMapped.rest.Met.met 𝓤 𝓛 𝓜 𝓡
-          (P.Overlapping.split_first_chunk.Code.calls-aead_ciphers_base::overlapping::base::FirstMapped::rest 𝓡.env wired) X LX)
-          (((κs.0, (κs.1.0, tt)), (qs.0, (qs.1.0, tt)), bounds, (r, tt), (v ∷ [], tt)), tt) (gets ! tt refl) (λ w out ws'.
-          takes ! (LendsTail R r.in_out r.count out) $ move ! (1 ∷ []) $
-          learns ! (λ accepted. learns ! (λ rest. learns ! (λ begun. heard ! _ (λ refused.
-          -- [what the slice follows; the answer; two tokens; nothing; two tokens; twice nothing]
-          let told : Told chunk.chunk_items once chunk.chunk_len f x r =
-          record { same = same; mapped = mapped; kept = kept; long = long; start = start; count = count } in
-          let tail : Clauses r.in_out.now r.start r.count out = record { accepted = accepted; rest = rest; begun = begun; refused = refused } in
-          let both = clauses_of R chunk.chunk_items once chunk.chunk_len f x r told out tail in
-          use1 𝓛 (‵ (LendsRest R chunk.chunk_items once chunk.chunk_len f x out)) (lends R chunk.chunk_items once chunk.chunk_len f x r told 𝓛 out tail) $
-          tell ! both.refused $ tells ! both.begun $ tells ! both.rest $ tells ! both.accepted $ move ! (1 ∷ 0 ∷ []) $ says ! $ move ! (1 ∷ []) $
-          peeks ! Out (Is Out) (shows 𝓛 Out) out (w ∷ []) (λ is-out. lands_as ! refl refl (((out-laws.lawful 𝓛).typed out (w ∷ []) is-out).0) $
-          returns ! (look_at ! 0 refl) $ free_all ! refl $ nothing ! $ nothing ! $
-          -- [twice nothing; the answer; the clauses; two tokens; nothing; two tokens]
-          keep ! (4 ∷ 5 ∷ 7 ∷ 8 ∷ 0 ∷ 1 ∷ 2 ∷ 3 ∷ []) $
-          ends 𝓛 T hs c ((κs, qs, bounds, a, vals), tt) w out ((tt, tt), (tt, tt)) ! (tt, (tt, tt))))))))))))))))))))),
+          X Y Z LX LY LZ chunk d₁ once d₂ d₃ d₄ chunk-met once-met drops-x drops-z) at_end (gets ! tt refl) (λ v r ws.
+          learns ! (λ same. learns ! (λ mapped. learns ! (λ kept. learns ! (λ alike. learns ! (λ start-same. heard ! _ (λ count-same.
+          peeks ! Mid (Is Mid) (shows 𝓛 Mid) r (v ∷ []) (λ is-r.
+          let s = r.in_out in let ys = s.now in let k = r.count in let m : ℕ = length ys - r.start in
+          let slice-is = is-r.1.1.0 in let start-is = is-r.1.1.1.0 in let count-is = is-r.1.1.1.1.0 in let rm : Room R (length ys) = slice-is.0.1 in
+          let long : length ys < 2 ^ 64 = rm.0 in let m-fits : m < 2 ^ 64 = omega arith in
+          let u = slice_val s.ref_ptr (length ys) in let typed = slice_typed s.ref_ptr (length ys) long in
+          let start : Fits w64 r.start = record { fits = start-is.1 } in let count : Fits w64 k = record { fits = count-is.1 } in
+          let is : v ∷ [] ≡ vstruct (vcons u (vcons (vint w64 r.start) (vcons (vint w64 k) vnil))) ∷ [] =
+          is-r.1.0 ∙ (λ i. vstruct (of_list (slice-is.0.0 i ++ (start-is.0 i ++ (count-is.0 i ++ [])))) ∷ []) in
+          lands_as ! (ap only is) refl (tt, (typed.1, (start, (count, tt)))) $
+          -- [what the call answered; four tokens; twice nothing]
+          fpick ! (λ vss. fsplit ! $ feq_l ! (λ ev. fsplit ! $ move ! (1 ∷ []) $ drop ! $
+          sets ! (of_opd ! (load ! (from ! (fld ! refl (stop !))) (look_in_at ! 6 (sub ! 0 refl (whole !))))) refl typed $
+          sets ! (of_opd ! (load ! (from ! (fld ! refl (stop !))) (look_in_at ! 6 (sub ! 1 refl (whole !))))) refl (tt, start) $
+          sets ! (of_opd ! (load ! (from ! (fld ! refl (stop !))) (look_in_at ! 6 (sub ! 2 refl (whole !))))) refl (tt, count) $
+          sets ! (of_opd ! (load ! (from ! (fld ! refl (stop !))) (look_in_at ! 3 (sub ! 1 refl (whole !))))) refl (tt, record { fits = long }) $
+          sets ! (bin ! (get ! refl) (get ! refl) r.within) refl (tt, record { fits = m-fits }) $
+          sets ! (bin ! (get ! refl) (get ! refl) tt) refl (tt, tt) $ first ! $ branches ! (get ! refl)
+          (λ short. premise ! $ owned ! usize (Is usize) (uint_Makes 𝓛 w64) k (vint w64 k ∷ []) (refl, count-is.1) $
+          consults 𝓛 IE.new.ended (IE.new.clauses 𝓛 𝓜.mem 𝓡.returns) ! (table_of 𝓛 𝓜 𝓡)
+          (IEP.new.Met.met 𝓤 𝓛 𝓜 𝓡 (P.Overlapping.split_first_chunk.Code.calls-aead_ciphers_base::error::IndexError::new 𝓡.env wired))
+          ((tt, tt, tt, (k, tt), (vint w64 k ∷ [], tt)), tt) (gets ! tt refl) (λ v e ws. heard ! _ (λ refused.
+          -- [the error; nothing; the slice; four tokens; twice nothing]
+          peeks ! IE.the_row (Is IE.the_row) (shows 𝓛 IE.the_row) e (v ∷ []) (λ is-e.
+          let told : v ∷ [] ≡ boxed k ∷ [] = IEP.TheLaws.lowers.val_is e (v ∷ []) is-e ∙ ap (λ j. boxed j ∷ []) refused in
+          rewrite ! 0 (λ (ws : List Val). ‵ (IE.the_row.own_val e ws)) told refl $ lands_as ! (ap only told) refl (tt, (count, tt)) $
+          sets ! (agg ! (and_then ! (lit ! tt) (alone ! refl))) refl (tt, (record { fits = lit< tt }, ((count, tt), tt))) $
+          let o : Out.Denot = Err e in let w = live 1 (of_list (boxed k ∷ [])) in
+          let below : length xs - b.start < n = omega (arith, ltb→lt m k short, alike, start-same, count-same) in
+          let accepted : IsOk o ↔ (n ≤ length xs - b.start) = ((λ h. cc), λ h. absurd (omega (arith, below, h))) in
+          use1 𝓛 (‵ (Out.own_val o (w ∷ []))) (err_of 𝓛 Row IE.the_row e (boxed k)) $
+          move ! (2 ∷ []) $ use1 𝓛 (‵ (EndsAs R s ys)) (let_go 𝓛 R κs.0 s vss.0) $
+          rewrite ! 0 (λ (e : GName × List X.Denot). ‵ (fres e.0 ((Items R 0).coded.code e.1))) (λ i. (same i, kept below i)) refl $
+          returns_within ! Post refl (look_at ! 0 refl) $ free_all ! refl $ tell ! (refused ∙ count-same) $
+          tells {φ = Unit {0}} ! tt $ tells {φ = Unit {0}} ! tt $ tells ! accepted $ move ! (1 ∷ 0 ∷ []) $ says ! $ nothing ! $ nothing ! $
+          -- [twice nothing; the clauses; the answer; nothing; four tokens; twice nothing]
+          keep ! (5 ∷ 6 ∷ 7 ∷ 8 ∷ 0 ∷ 1 ∷ 3 ∷ 2 ∷ []) $ ends 𝓛 T hs c at_end w o ((tt, tt), (tt, tt)) ! (tt, (tt, tt))))))
+          (λ long-enough.
+          let in-input : k ≤ m = nltb→le m k long-enough in let within-slice : k ≤ length ys = omega arith in
+          let left-fits : length ys - k < 2 ^ 64 = omega arith in let z = size (layout X) in
+          let bytes : k * z ≤ length ys * z = mul-le-mul_right z within-slice in let fit : length ys * z < 2 ^ 63 = rm.1 in
+          let far : k * capped z ≡ k * z = scaled k z (omega arith) in let bytes-fit : Fits w64 (k * capped z) = record { fits = omega arith } in
+          let p : ℕ = k * capped z + s.ref_ptr.1 in let t = slice_typed (s.ref_ptr.0, p) (length ys - k) left-fits in
+          skips ! $ exec ! 𝓣.C 𝓣.Λ (env fn.locals l) (after 10 fn.body) (at_ret (env fn.locals l) Post) $
+          sets ! (bin ! (get ! refl) (size_word !) bytes-fit) refl (tt, bytes-fit) $
+          sets ! (bin ! (load ! (from ! (fld ! refl (stop !))) (look_in_at ! 3 (sub ! 0 refl (whole !)))) (get ! refl) tt) refl (tt, tt) $
+          sets ! (bin ! (load ! (from ! (fld ! refl (stop !))) (look_in_at ! 3 (sub ! 1 refl (whole !)))) (get ! refl) within-slice) refl
+          (tt, record { fits = left-fits }) $
+          sets ! (addr ! (through ! refl (stop !))) refl (tt, tt) $ sets ! (agg ! (both ! refl refl)) refl t $
+          sets ! (agg ! (both ! refl refl)) refl (tt, (t.1, (start, tt))) $
+          sets ! (agg ! (and_then ! (lit ! tt) (alone ! refl))) refl (tt, (record { fits = lit< tt }, ((t.1, (start, tt)), tt))) $
+          use2 𝓛 (later (some (lent X 𝓛 κs.0 qs.0 s (drop_list k ys) (λ ws. take k ys ++ ws) (k * z + s.ref_ptr.1) (length ys - k))))
+          (lends_back X 𝓛 κs.0 qs.0 s k within-slice rm vss.0) $ await ! tt $ pick ! (λ δ.
+          let d : Overlapping X.Denot = record {
+            in_out = record { ref_ptr = (s.ref_ptr.0, p); ghost_name = δ; now = drop_list k ys };
+            start = r.start;
+            within = omega (arith, length-drop k ys, r.within);
+          } in
+          let v = slice_val (s.ref_ptr.0, p) (length ys - k) in let w = live 0 (of_list (held v r.start ∷ [])) in let o : Out.Denot = Ok d in
+          let h : n ≤ length xs - b.start = omega (arith, in-input, alike, start-same, count-same) in
+          let accepted : IsOk o ↔ (n ≤ length xs - b.start) = ((λ _. h), λ _. refl) in
+          let maps = mapped h in let answer = chunk.chunk_items maps.answers.answer in
+          let sum = ap length maps.written ∙ length-append answer (drop_list n xs) in
+          let parts = at_seam k ys answer (drop_list n xs) maps.written (omega (arith, sum, length-drop n xs, alike, count-same)) in
+          split3 ! $ rewrite ! 0 (λ (k' : ℕ). ‵ (Part X 𝓛 κs.0 qs.0 s (drop_list k ys) (λ ws. take k ys ++ ws) k' (length ys - k) δ))
+          (λ i. sym far i + s.ref_ptr.1) refl $
+          use1 𝓛 (‵ (Row.own_val d (held v r.start ∷ []))) (begun 𝓛 ℓ R d v start-is.1) $
+          use1 𝓛 (‵ (Out.own_val o (w ∷ []))) (ok_of 𝓛 Row IE.the_row d (held v r.start)) $ returns ! (look_at ! 0 refl) $ free_all ! refl $
+          -- [the answer; the slice's token; what the slice follows; three tokens; twice nothing]
+          move ! (2 ∷ []) $
+          rewrite ! 0 (λ (e : GName × List X.Denot). ‵ (follows (Items R 0) (Items R 0) e.0 δ (λ w. e.1 ++ w))) (λ i. (same i, parts.0 i)) refl $
+          fpack ! (AnswersChunk chunk.chunk_items once n f (drop_list b.start xs)) (λ a. LendsBehind R b.in_out (chunk.chunk_items a.answer) d.in_out)
+          maps.answers $
+          tell {φ = Unit {0}} ! tt $ tells {φ = d.start ≡ b.start} ! start-same $ tells {φ = d.in_out.now ≡ drop_list n xs} ! parts.1 $
+          tells ! accepted $ move ! (1 ∷ 0 ∷ []) $ says {i = ‵ (LendsRest R chunk.chunk_items once n f b o)} ! $ nothing ! $ nothing ! $
+          keep ! (4 ∷ 5 ∷ 6 ∷ 7 ∷ 0 ∷ 1 ∷ 3 ∷ 2 ∷ []) $ ends 𝓛 T hs c at_end w o ((tt, tt), (tt, tt)) ! (tt, (tt, tt))))))))))))))))))),
     ))
