@@ -189,7 +189,7 @@ words_of_block b low high len fits e_low e_high =
     let second : (i : ℕ) → slice_index (drop 8 b) i < 256 = λ i. rw (get_or-drop 8 b i 0) (fits (8 + i)) in
     ap₂ ◌++◌
     (le_bytes_8 (take 8 b) low (length-take-le 8 b (omega arith)) first e_low)
-    (le_bytes_8 (drop 8 b) high size second (e_high ∙ ap (from_le_bytes w64) (take_all 8 _ (omega arith))))
+    (le_bytes_8 (drop 8 b) high size second (e_high ∙ ap (from_le_bytes w64) (take_all 8 (drop 8 b) (omega arith))))
     ∙ take-append-drop 8 b
 
 byte_is : (n j : ℕ) → j < 8 → slice_index (to_le_bytes w64 n) j ≡ n / 2 ^ (8 * j) % 2 ^ 8
