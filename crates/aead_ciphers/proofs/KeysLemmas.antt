@@ -4,7 +4,7 @@ use Rattle.aead_ciphers.specs.BoundState.{BoundState}
 use Rattle.std.specs.Prelude.{if◌then◌else◌}
 use Rattle.aead_ciphers.specs.Steps.{OpenStep}
 use Rattle.aead_ciphers.specs.declared.session.Outcome.TheVariants.{Opened, Refused}
-use Rattle.aead_ciphers.proofs.LentPlaintext.{step_fronts, within}
+use Rattle.aead_ciphers.proofs.LentPlaintext.{step_fronts}
 
 -- the plaintext of a job that opened is within the buffer
 pub opened_within : {N : Type 0} (spent : N → List (List ℕ)) (is_closed : N → Bool) (was now : BoundState N) (aad : List ℕ) (start : ℕ)
@@ -13,5 +13,5 @@ pub opened_within : {N : Type 0} (spent : N → List (List ℕ)) (is_closed : N 
 opened_within spent is_closed was now aad start old new true n step is =
     let m = length old - 16 - start in
     let count : n ≡ m = cc in
-    within (Ok n) (step_fronts spent is_closed was now aad start old new {E = Unit {0}} m refl _ step count)
+    (step_fronts spent is_closed was now aad start old new {E = Unit {0}} m refl (Ok n) step count).1
 opened_within spent is_closed was now aad start old new false n step is = cc

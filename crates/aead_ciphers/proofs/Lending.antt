@@ -2,23 +2,20 @@
 --     Answer, answer_Lawful      the type of an answer, and its law
 --     Out, out_Lawful      the type of a lent result, and its law
 --     Own, as_own, as_slice      what a `&mut [u8]` owns, as `sl_relend` has it;  to it and back
---     turned      what the second call leaves owed of the buffer is what the contract says
 use mathlib.Core.Path.{◌≡◌, refl, sym, subst}
-use mathlib.Core.List.{List, [], ◌∷◌, ◌++◌}
+use mathlib.Core.List.{List, [], ◌∷◌}
 use Prim.Native.Nat.{ℕ}
 use seplogic.Ra.Ura.{Ura}
 use mir.Syntax.{Lifetime, erased}
 use mir.Val.{Val}
-use base.Logic.{ent, id⊢}
+use base.Logic.{ent}
 use base.Fml.{Fml, Lft, GName}
 use types.Logic.{Logic, sem}
 use types.Kit.{‵, ◌$◌, ◌∵◌, !, qed, drop, fsplit, fsplit3, fjoin, done, rewrite}
-use denote.Array.{Array}
 use denote.Builtin.{u8, usize}
-use denote.Follow.{follows, follows_by}
 use denote.Laws.{Lawful, Is}
 use denote.RattleType.{RattleType}
-use denote.Ref.{MutBor, NamedLft}
+use denote.Ref.{NamedLft}
 use denote.Shadow.{pure_i}
 use denote.Slice.{MutSlice, Room, room, slice_val, shr_slice_at}
 use denote.Enum.Declared.{shape}
@@ -26,8 +23,7 @@ use denote.Enum.Enum.{Enum, Enum-Lawful}
 pub use Rattle.aead_ciphers_base.proofs.ViewWalks.{usize_laws}
 use denote.Struct.Recorded.{recorded_lawful}
 use borrow.Table.Owned as owned-types
-use lib.ListN.{length, drop as drop_list}
-use Rattle.std.specs.Prelude.{Result, Ok, Err, IsOk, OnErr}
+use lib.ListN.{length}
 use Rattle.std.specs.contracts.result.Result as RS
 use Rattle.std.proofs.result.Result.TheLaws as RL
 use Rattle.std.specs.contracts.ops.RangeFrom as RF
@@ -41,7 +37,6 @@ use Rattle.aead_ciphers_base.proofs.values.Nonce.TheLaws as NL
 use Rattle.aead_ciphers_base.specs.contracts.values.Tag as G
 use Rattle.aead_ciphers_base.proofs.values.Tag.TheLaws as GL
 use Rattle.aead_ciphers_base.proofs.Walks.{Word, lone, one}
-use Rattle.aead_ciphers.specs.Lending.{LendsFront}
 
 abbrev pub Answer : RattleType
 Answer = RS.the_row usize US.the_row
@@ -88,12 +83,3 @@ module _ {M : Type 1} {𝓤 : Ura M} (𝓛 : Logic 𝓤) where
         qed 𝓛 (‵ (Own b o κ γ ys) ∷ []) ∵ fsplit ! $ drop ! $
         pure_i ! (shr_slice_at u8 (record { ref_ptr = (b, o); now = ys }) (slice_val (b, o) (length ys) ∷ [])) (tt, (tt, tt)) (refl, rm') $ fjoin ! $
         rewrite ! 0 (λ (k : ℕ). ‵ ((MutSlice ℓ κ u8).own_val (record { ref_ptr = (b, o); ghost_name = γ; now = ys }) (slice_val (b, o) k ∷ []))) e refl $ done !
-
-  pub turned : {E : Type 0} (s : MutBor (List ℕ)) (r : Result (MutBor (List ℕ)) E) (n m : ℕ) (ys : List ℕ) → (IsOk r → drop_list n ys ≡ drop_list m s.now)
-      → OnErr r (ys ≡ s.now)
-      → ent 𝓤 (sem 𝓛 (LendsFront (record s { now = ys }) r n)) (sem 𝓛 (LendsFront s r m))
-  unfolding follows_by
-  turned s (Ok p) n m ys e f = subst (λ (l : List ℕ). ent 𝓤 (sem 𝓛 (follows (Array u8 0) (Array u8 0) s.ghost_name p.ghost_name (λ w. w ++ drop_list n ys)))
-      (sem 𝓛 (follows (Array u8 0) (Array u8 0) s.ghost_name p.ghost_name (λ w. w ++ l)))) (e refl) (id⊢ 𝓤 _)
-  turned s (Err x) n m ys e f = subst
-      (λ (l : List ℕ). ent 𝓤 (sem 𝓛 (LendsFront (record s { now = ys }) (Err x) n)) (sem 𝓛 (LendsFront (record s { now = l }) (Err x) m))) f (id⊢ 𝓤 _)

@@ -5,7 +5,7 @@
 --     says_next             what an opening key's call says beside what it lends
 use mathlib.Core.Path.{◌≡◌}
 pub use mathlib.Core.Path.{refl}
-use Prim.Native.Nat.{ℕ, ◌≤◌, suc}
+use Prim.Native.Nat.{ℕ, suc}
 pub use Prim.Native.Nat.{◌-◌}
 use mathlib.Core.List.{List}
 pub use mathlib.Core.List.{[], ◌∷◌}
@@ -14,18 +14,18 @@ use mir.Syntax.{named, Body, Callee, Opd, Place, seq, call}
 pub use mir.Syntax.{a_type, dcons, dnil}
 use mir.Val.{Val}
 pub use base.Fraction.{full_share}
-use base.Logic.{ent, sep, emp, id⊢}
+use base.Logic.{sep, id⊢}
 use base.Fml.{Lft, GName, Share, flft}
 use types.Logic.{Logic}
 use types.Tokens.{lft_new, lft_end}
-use types.Kit.{Item, ‵, ◌⊛◌, raw, given, some, later, drop, split, split3, learn, fsplit, use0, use1, use2, use3, await, pick}
+use types.Kit.{Item, ‵, ◌⊛◌, raw, given, some, later, drop, split, learn, fsplit, use1, use2, use3, await, pick, Step, step}
 use types.Kit.{Seq, Goal, Post, Soaks, runs, lands}
 pub use types.Kit.{◌$◌, !, move, keep}
 use types.Run.{Opds}
 pub use types.Run.{stop, addr, of_opd, returns}
 pub use types.ByLocal.{alloc_all, pass_all, free_all, look_at, get, sets, lands_as, through}
 use contract.Lifetimes.{Lfts, Shares}
-use contract.Monad.{fact, fact_i}
+use contract.Monad.{fact}
 use contract.Running.{Running, tables}
 use prog.Model.{Model}
 use prog.Wp.{Env, Calls, Loops}
@@ -42,28 +42,25 @@ pub use denote.Steps.{nothing, heard}
 use denote.Triple.Call.{calls_at}
 use denote.Triple.Spec.{triple_of}
 use denote.Triple.Statement.{Contract, Triple}
-use denote.Triple.Walked.{Stays, Stay, AllGo, Goes}
-pub use denote.Triple.Walked.{gave_ref, Goes-gave_ref}
+pub use denote.Triple.Walked.{Stays, AllGo, gave_ref, Goes-gave_ref}
 use lib.ListN.{take}
 pub use lib.ListN.{length}
 use borrow.Rule.Slice.Lend.{sl_relend, sl_relent_backˡ, kept_f}
-use Rattle.std.specs.Prelude.{Bool, Result, is_ok, IsOk, IfOk, OnOk, OnErr, ◌↔◌}
+use Rattle.std.specs.Prelude.{Bool, Result, is_ok, IfOk, OnOk, OnErr}
 pub use mir.MapTy.{inst_fn}
 pub use denote.Param.{param, bounded}
-use denote.Triple.End.{Kepts}
 pub use Rattle.aead_ciphers_base.specs.Aes.{aes}
-use Rattle.aead_ciphers.specs.Lending.{LendsFront, count_of, lent_buffer}
-use Rattle.aead_ciphers.proofs.Lending.{Answer, answer_Lawful, Out, out_Lawful, Own, as_own, as_slice, turned}
+use Rattle.aead_ciphers.specs.Lending.{LendsFront, Fronts, lent_buffer}
+use Rattle.aead_ciphers.proofs.Lending.{Answer, answer_Lawful, Out, out_Lawful, Own, as_own, as_slice}
 pub use Rattle.aead_ciphers.proofs.Lending.{nonce_word, aad_word, tag_word, range_word}
-pub use Rattle.aead_ciphers.proofs.LendingFacts.{tells, says, last}
 pub use Rattle.aead_ciphers_base.proofs.WalkLocals.{gets, reborrows}
-pub use Rattle.aead_ciphers_base.proofs.Walks.{dropped, goes, learns, Words, words_vals, words_typed, slice_typed, table_of, walked, consults, ends}
-use Rattle.aead_ciphers_base.proofs.Walks.{Silents, answers, readies}
+pub use Rattle.aead_ciphers_base.proofs.Walks.{dropped, goes, learns, tell, tells, says, Words, words_vals, words_typed, slice_typed, table_of, walked, consults, ends}
+use Rattle.aead_ciphers_base.proofs.Walks.{answers, readies, takes}
 use Rattle.aead_ciphers.proofs.NextNonce.{lent_next, on_ok, on_err}
 use Rattle.aead_ciphers.specs.BoundState.{BoundState}
 use Rattle.aead_ciphers.specs.NonceSequence.{UnderNext}
-use Rattle.aead_ciphers.proofs.LentPlaintext.{Fronts, Concluded, concluded, within}
-pub use Rattle.aead_ciphers.proofs.LentPlaintext.{as_lent, length-before_tag, opened_fronts, step_fronts}
+use Rattle.aead_ciphers.proofs.LentPlaintext.{Lent}
+pub use Rattle.aead_ciphers.proofs.LentPlaintext.{as_lent, lent_plain, length-before_tag, opened_fronts, step_fronts}
 use Rattle.aead_ciphers.specs.Steps.{OpenStep}
 pub use Rattle.aead_ciphers_base.specs.Values.{aad_bytes}
 pub use Rattle.aead_ciphers.specs.Gcm.{Opened, OpenedAttached}
@@ -80,27 +77,14 @@ abbrev pub with_third_share : (n : ℕ) → Share → Shares n → Shares n
 with_third_share (suc (suc (suc n))) q qs = (qs.0, (qs.1.0, (q, qs.1.1.1)))
 with_third_share n q qs = qs
 
+-- the parameters but the first
+abbrev pub others : {n : ℕ} → List (Slot n) → List (Slot n)
+others [] = []
+others (s ∷ ss) = ss
+
 -- the words that store the parameters, and the walk with them
 pub at_words {ℓ} : {A : Type 0} {B : A → Type ℓ} (words : A) → B words → (ws : A) × B ws
 at_words words walk = (words, walk)
-
--- ---- parameters of which nothing is had at the end, but for the first, of which h is had
-abbrev pub First : {n : ℕ} (ss : List (Slot n)) → Kepts ss → Type 1
-First [] ks = Unit {1}
-First (s ∷ ss) ks = Stay s ks.0
-
-abbrev pub first_stays : {n : ℕ} (ss : List (Slot n)) (ks : Kepts ss) → First ss ks → Stays ss ks
-first_stays [] ks h = tt
-first_stays (s ∷ ss) ks h = (h, dropped ss ks.1)
-
-module _ {M : Type 1} {𝓤 : Ura M} (𝓛 : Logic 𝓤) (n : ℕ) where
-  abbrev pub FirstGoes : (ss : List (Slot n)) (ks : Kepts ss) → First ss ks → Type 1
-  FirstGoes [] ks h = Unit {1}
-  FirstGoes (s ∷ ss) ks h = Goes 𝓛 n s ks.0 h × Silents 𝓛 n ss ks.1
-
-  pub first_goes : (ss : List (Slot n)) (ks : Kepts ss) (h : First ss ks) → FirstGoes ss ks h → AllGo 𝓛 n ss ks (first_stays ss ks h)
-  first_goes [] ks h go = tt
-  first_goes (s ∷ ss) ks h go = (go.0, goes 𝓛 n ss ks.1 go.1)
 
 module _ {M : Type 1} {𝓤 : Ura M} (𝓛 : Logic 𝓤) where
   -- the machine's table of calls
@@ -108,26 +92,24 @@ module _ {M : Type 1} {𝓤 : Ura M} (𝓛 : Logic 𝓤) where
   calls_of 𝓜 𝓡 = (tables 𝓤 𝓛.H 𝓜 𝓡 𝓡.env).C
 
   -- what an opening key's call says beside what it lends, from what its core said
-  pub says_next : (A B : Type 0) (plain : List ℕ → List ℕ) {φ R N E : Type 0} {spent : N → List (List ℕ)} {is_closed : N → Bool}
-      {was after : BoundState N} {aad : List ℕ} {start m : ℕ}
-      {old new front : List ℕ} {u : Result ℕ E} {r : Result (MutBor (List ℕ)) E} {next : List ℕ → Type 0}
-      → Concluded front old new m u r → φ → OpenStep spent is_closed was after aad start old new (is_ok u)
+  pub says_next : {K : Type 0} {Γ : List (Item 𝓤)} {G : Goal 𝓤 𝓛.H} → K → (A B : Type 0) (plain : List ℕ → List ℕ) {φ R N E : Type 0}
+      {spent : N → List (List ℕ)} {is_closed : N → Bool} {was after : BoundState N} {aad : List ℕ} {start m : ℕ} {old new : List ℕ} {u : Result ℕ E}
+      {r : Result (MutBor (List ℕ)) E} {next : List ℕ → Type 0}
+      → Lent m old new u r → φ → OpenStep spent is_closed was after aad start old new (is_ok u)
       → (¬ R → UnderNext next (λ nonce. OpenedAttached (aes was.key.bytes) nonce aad start old (is_ok u) new))
-      → OnOk u (UnderNext next (λ nonce. front ≡ plain nonce)) → OnOk u A → OnErr u B
-      → (let buffer = lent_buffer r old in ent 𝓤 (emp 𝓤) (sep 𝓤 (fact 𝓤 φ)
+      → OnOk u (UnderNext next (λ nonce. take m new ≡ plain nonce)) → OnOk u A → OnErr u B
+      → (let buffer = lent_buffer r old in Step K 𝓛 (raw (sep 𝓤 (fact 𝓤 φ)
       (sep 𝓤 (fact 𝓤 (OpenStep spent is_closed was after aad start old buffer (is_ok r)))
       (sep 𝓤 (fact 𝓤 (IfOk r (λ lent. length lent.now ≡ m)))
       (sep 𝓤 (fact 𝓤 (¬ R → UnderNext next (λ nonce. OpenedAttached (aes was.key.bytes) nonce aad start old (is_ok r) buffer)))
       (sep 𝓤 (fact 𝓤 (IfOk r (λ lent. UnderNext next (λ nonce. lent.now ≡ plain nonce))))
-      (sep 𝓤 (fact 𝓤 (OnOk r A)) (fact 𝓤 (OnErr r B)))))))))
-  says_next A B plain {R = R} {spent = spent} {is_closed} {was} {after} {aad} {start} {old = old} {u = u} {r} {next}
-      end stays step opened plaintext gives stands =
-      says 𝓛 stays
-      (says 𝓛 (as_lent (λ accepts buffer. OpenStep spent is_closed was after aad start old buffer accepts) end step)
-      (says 𝓛 end.count
-      (says 𝓛 (as_lent (λ accepts buffer. ¬ R → UnderNext next (λ nonce. OpenedAttached (aes was.key.bytes) nonce aad start old accepts buffer)) end opened)
-      (says 𝓛 (lent_next next plain _ u r end.accepts end.value plaintext)
-      (says 𝓛 (on_ok _ u r end.accepts gives) (last 𝓛 (on_err _ u r end.accepts stands)))))))
+      (sep 𝓤 (fact 𝓤 (OnOk r A)) (fact 𝓤 (OnErr r B)))))))) ∷ Γ) G Γ G)
+  says_next t A B plain {R = R} {spent = spent} {is_closed} {was} {after} {aad} {start} {old = old} {u = u} {r} {next}
+      end stays step-done opened plaintext gives stands = step (λ k.
+      tell t (on_err B u r end.accepts stands) $ tells t (on_ok A u r end.accepts gives) $ tells t (lent_next next plain u r end plaintext) $
+      tells t (as_lent (λ accepts buffer. ¬ R → UnderNext next (λ nonce. OpenedAttached (aes was.key.bytes) nonce aad start old accepts buffer)) end opened) $
+      tells t end.count $ tells t (as_lent (λ accepts buffer. OpenStep spent is_closed was after aad start old buffer accepts) end step-done) $
+      tells t stays $ k)
 
   -- ---- the buffer
   module _ (κ : Lft) (q : Share) (arg : MutBor (List ℕ)) (rm : Room u8 (length arg.now)) where
@@ -156,13 +138,12 @@ module _ {M : Type 1} {𝓤 : Ura M} (𝓛 : Logic 𝓤) where
       abbrev pub Lend : Contract 𝓤
       Lend = triple_of 𝓛 L.signature (L.spec 𝓛 𝓜.mem 𝓡.returns)
 
-      abbrev pub lend : Val → Answer.Denot → List ℕ → Lend.Ghost
-      lend v u ys = (((κ, tt), (q, tt), tt, (in_hand ys, (u, tt)), (slice_val arg.ref_ptr (length arg.now) ∷ [], (v ∷ [], tt))), tt)
+      module _ (m : ℕ) (v : Val) (u : Answer.Denot) (ys : List ℕ) where
+        abbrev pub lend : Lend.Ghost
+        lend = (((κ, tt), (q, tt), tt, (in_hand ys, (u, tt)), (slice_val arg.ref_ptr (length arg.now) ∷ [], (v ∷ [], tt))), (arg.now, m))
 
-      module _ (v : Val) (u : Answer.Denot) (ys : List ℕ) where
-        pub regains : {K : Type 0} {Γ : List (Item 𝓤)} {G : Goal 𝓤 𝓛.H} → K → Soaks G → (α : ℕ) (δ : GName)
-            → {plaintext : List ℕ} {count : ℕ} → Fronts plaintext count arg.now ys u
-            → (Typed Answer.mir (v ∷ []) → Seq K 𝓛 (raw (Lend.pre (lend v u ys)) ∷ Γ) G)
+        pub regains : {K : Type 0} {Γ : List (Item 𝓤)} {G : Goal 𝓤 𝓛.H} → K → Soaks G → (α : ℕ) (δ : GName) → Fronts m arg.now ys u
+            → (Typed Answer.mir (v ∷ []) → Seq K 𝓛 (raw (Lend.pre lend) ∷ Γ) G)
             → Seq K 𝓛 (‵ (flft (α ∷ []) full_share) ∷ ‵ (Answer.own_val u (v ∷ []))
             ∷ ‵ (left ((MutSlice (named 2) (α ∷ []) u8).exit yes) (record arg { ghost_name = δ }) ys) ∷ kept α δ ∷ Γ) G
         regains t soaks α δ fronts k =
@@ -173,30 +154,21 @@ module _ {M : Type 1} {𝓤 : Ura M} (𝓛 : Logic 𝓤) where
             (sl_relent_backˡ 𝓛 u8 κ q (α ∷ []) b o γ δ xs ys) $ await t soaks $ learn t (λ same. split t $
             use1 𝓛 (‵ ((MutSlice (named 0) κ u8).own_val (in_hand ys) (slice_val arg.ref_ptr (length xs) ∷ [])))
             (as_slice 𝓛 (named 0) κ b o γ ys (length xs) same rm) $
-            move t (2 ∷ 3 ∷ []) $ drop t $ drop t $
-            use0 𝓛 (raw (fact 𝓤 (IfOk u (λ n. n ≤ length ys)))) (fact_i 𝓤 (IfOk u (λ n. n ≤ length ys)) (emp 𝓤) (within u fronts)) $
-            move t (2 ∷ 1 ∷ 3 ∷ 0 ∷ []) $ readies 𝓛 t L.signature (L.spec 𝓛 𝓜.mem 𝓡.returns) (lend v u ys) $
-            k ((answer_Lawful 𝓛).typed u (v ∷ []) is-u)))
+            move t (2 ∷ 3 ∷ []) $ drop t $ drop t $ tell t fronts $ move t (2 ∷ 1 ∷ 3 ∷ 0 ∷ []) $
+            readies 𝓛 t L.signature (L.spec 𝓛 𝓜.mem 𝓡.returns) lend $ k ((answer_Lawful 𝓛).typed u (v ∷ []) is-u)))
 
-        -- `lend_plaintext` is called, and gives the front, which is the plaintext
+        -- `lend_plaintext` is called, and gives the front
         pub lends : {K : Type 0} {Γ : List (Item 𝓤)} {E : Env 𝓤 𝓛.H} {Λ : Loops 𝓤 𝓛.H} {q' : Post 𝓤 𝓛.H}
-            {f : Callee} {xs : List Opd} {d : Place} {rest : Body} → K → Triple 𝓤 (calls_of 𝓜 𝓡 f) Lend
-            → {plaintext : List ℕ} {count : ℕ} → Fronts plaintext count arg.now ys u
-            → Opds K 𝓛 (raw (Lend.pre (lend v u ys)) ∷ Γ) E xs (Lend.args (lend v u ys))
-            → ((w : Val) (r : (Out (MutSlice (named 2) κ u8)).Denot) → Typed (Out (MutSlice (named 2) κ u8)).mir (w ∷ [])
-            → Concluded plaintext arg.now ys count u r
-            → Seq K 𝓛 (‵ (flft κ q) ∷ ‵ ((Out (MutSlice (named 2) κ u8)).own_val r (w ∷ [])) ∷ ‵ (LendsFront arg r count) ∷ Γ)
+            {f : Callee} {xs : List Opd} {d : Place} {rest : Body} → K → Triple 𝓤 (calls_of 𝓜 𝓡 f) Lend → Opds K 𝓛 (raw (Lend.pre lend) ∷ Γ) E xs (Lend.args lend)
+            → ((w : Val) (r : (Out (MutSlice (named 2) κ u8)).Denot) → Typed (Out (MutSlice (named 2) κ u8)).mir (w ∷ []) → Lent m arg.now ys u r
+            → Seq K 𝓛 (‵ (flft κ q) ∷ ‵ ((Out (MutSlice (named 2) κ u8)).own_val r (w ∷ [])) ∷ ‵ (LendsFront arg r m) ∷ Γ)
             (lands (calls_of 𝓜 𝓡) Λ E d w rest q'))
-            → Seq K 𝓛 (raw (Lend.pre (lend v u ys)) ∷ Γ) (runs (calls_of 𝓜 𝓡) Λ E (seq (call f xs d) rest) q')
-        lends t met {plaintext} {count} fronts operands k =
+            → Seq K 𝓛 (raw (Lend.pre lend) ∷ Γ) (runs (calls_of 𝓜 𝓡) Λ E (seq (call f xs d) rest) q')
+        lends t met operands k =
             let X = Out (MutSlice (named 2) κ u8) in
-            calls_at t (table_of 𝓛 𝓜 𝓡) Lend met (lend v u ys) operands (λ w. answers 𝓛 L.ended (L.clauses 𝓛 𝓜.mem 𝓡.returns) (lend v u ys) w t tt (λ r ws.
+            calls_at t (table_of 𝓛 𝓜 𝓡) Lend met lend operands (λ w. answers 𝓛 L.ended (L.clauses 𝓛 𝓜.mem 𝓡.returns) lend w t tt (λ r ws.
             -- [what it says; the front; the token; nothing of the buffer and the answer]
-            move t (3 ∷ 4 ∷ []) $ drop t $ drop t $
-            use1 𝓛 (‵ (LendsFront (in_hand ys) r (count_of u)) ⊛ raw (fact 𝓤 (IsOk r ↔ IsOk u)) ⊛ raw (fact 𝓤 (IfOk r (λ x. x.now ≡ take (count_of u) ys))))
-            (id⊢ 𝓤 _) $ split3 t $
-            move t (1 ∷ []) $ heard t _ (λ same. move t (1 ∷ []) $ heard t _ (λ value.
-            let end : Concluded plaintext arg.now ys count u r = concluded u r fronts same value in
-            use1 𝓛 (‵ (LendsFront arg r count)) (turned 𝓛 arg r (count_of u) count ys end.rest end.kept) $ move t (1 ∷ []) $
+            move t (3 ∷ 4 ∷ []) $ drop t $ drop t $ takes t (LendsFront arg r m) $
+            move t (1 ∷ []) $ learns t (λ same. learns t (λ buffer. heard t _ (λ size. move t (1 ∷ []) $
             use1 𝓛 (‵ (X.own_val r (w ∷ []))) (id⊢ 𝓤 _) $ peeks t X (Is X) (shows 𝓛 X) r (w ∷ []) (λ is-r. move t (2 ∷ 0 ∷ 1 ∷ []) $
-            k w r ((out_Lawful 𝓛 (MutSlice (named 2) κ u8) (mut_slice_Lawful 𝓛 (named 2) κ u8)).typed r (w ∷ []) is-r) end)))))
+            k w r ((out_Lawful 𝓛 (MutSlice (named 2) κ u8) (mut_slice_Lawful 𝓛 (named 2) κ u8)).typed r (w ∷ []) is-r) (record { accepts = same; buffer = buffer; count = size })))))))

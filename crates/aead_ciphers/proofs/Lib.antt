@@ -17,7 +17,6 @@ pub mod GhashPolynomial
 pub mod HexWords
 pub mod KeysLemmas
 pub mod Lending
-pub mod LendingFacts
 pub mod LendingWalk
 pub mod LentPlaintext
 pub mod LinearMaps

@@ -6,16 +6,16 @@ use Rattle.aead_ciphers.specs.Gcm.{gcm_decrypted, OpenedAttached}
 use Rattle.aead_ciphers.specs.BoundState.{BoundState}
 use Rattle.aead_ciphers.specs.NonceSequence.{UnderNext}
 use Rattle.aead_ciphers.specs.Steps.{OpenStep, Refuses, no_nonce}
-use Rattle.aead_ciphers.proofs.LentPlaintext.{length-before_tag, opened_fronts, stands}
+use Rattle.aead_ciphers.proofs.LentPlaintext.{length-before_tag, stands, front_of, Lent}
 
 -- the plaintext under the nonce that was given is that under the next one
 pub plaintext_next : {E : Type 0} (is_next : List ℕ → Type 0) (key nonce aad : List ℕ) (start : ℕ) (old new : List ℕ) (answer : Result ℕ E)
     → UnderNext is_next (λ next. nonce ≡ next) → OpenedAttached (aes key) nonce aad start old (is_ok answer) new
     → IfOk answer (λ n. n ≡ length old - 16 - start)
     → OnOk answer (UnderNext is_next (λ next. take (length old - 16 - start) new ≡ gcm_decrypted (aes key) next (drop start (take (length old - 16) old))))
-plaintext_next {E} is_next key nonce aad start old new (Ok n) is opened count = λ next given.
-    let front = stands n (opened_fronts {E = E} _ (length-before_tag start old _ refl) _ opened count) in
-    subst (λ x. take (length old - 16 - start) new ≡ gcm_decrypted (aes key) x (drop start (take (length old - 16) old))) (is next given) front
+plaintext_next is_next key nonce aad start old new (Ok n) is opened count = λ next given.
+    subst (λ x. take (length old - 16 - start) new ≡ gcm_decrypted (aes key) x (drop start (take (length old - 16) old))) (is next given)
+    (stands (length-before_tag start old _ refl) opened)
 plaintext_next is_next key nonce aad start old new (Err e) is opened count = tt
 
 -- an opening whose sequence refused
@@ -37,10 +37,9 @@ on_err P answer (Ok y) same h = tt
 on_err P (Ok x) (Err f) same h = let no = same in absurd (cc)
 
 -- what is lent is the plaintext under the next nonce
-pub lent_next : {X E F : Type 0} (is_next : List ℕ → Type 0) (plaintext : List ℕ → List ℕ) (front : List ℕ) (answer : Result X E)
-    (result : Result (MutBor (List ℕ)) F) → is_ok answer ≡ is_ok result → IfOk result (λ lent. lent.now ≡ front)
-    → OnOk answer (UnderNext is_next (λ next. front ≡ plaintext next))
+pub lent_next : {E : Type 0} (is_next : List ℕ → Type 0) (plaintext : List ℕ → List ℕ) {m : ℕ} {old new : List ℕ} (answer : Result ℕ E)
+    (result : Result (MutBor (List ℕ)) E) → Lent m old new answer result → OnOk answer (UnderNext is_next (λ next. take m new ≡ plaintext next))
     → IfOk result (λ lent. UnderNext is_next (λ next. lent.now ≡ plaintext next))
-lent_next is_next plaintext front (Ok x) (Ok lent) same value h = λ next given. value ∙ h next given
-lent_next is_next plaintext front answer (Err f) same value h = tt
-lent_next is_next plaintext front (Err e) (Ok lent) same value h = let no = same in absurd (cc)
+lent_next is_next plaintext (Ok n) (Ok lent) end h = λ next given. front_of lent end ∙ h next given
+lent_next is_next plaintext answer (Err f) end h = tt
+lent_next is_next plaintext (Err e) (Ok lent) end h = let no : false ≡ true = end.accepts in absurd (cc)

@@ -1,5 +1,5 @@
 -- What a call lends that opens a buffer: the plaintext at its front.
-use Rattle.std.specs.Prelude.{ℕ, List, ◌++◌, length, drop, Result, Ok, Err}
+use Rattle.std.specs.Prelude.{◌≡◌, ℕ, ◌≤◌, List, ◌++◌, length, drop, Result, Ok, Err}
 use Rattle.std.specs.Borrow.{LendsIfOk, MutBor, Fml, Array, u8}
 
 -- the number that an answer has, and 0 where it is a refusal
@@ -16,3 +16,8 @@ LendsFront s r n = LendsIfOk (Array u8 0) (Array u8 0) s r (λ w. w ++ drop n s.
 abbrev pub lent_buffer : {E : Type 0} → Result (MutBor (List ℕ)) E → List ℕ → List ℕ
 lent_buffer (Ok front) old = front.now ++ drop (length front.now) old
 lent_buffer (Err e) old = old
+
+-- the answer is the length of a plaintext that stands at the front, and the later bytes are kept; after a refusal all are
+abbrev pub Fronts : {E : Type 0} → ℕ → List ℕ → List ℕ → Result ℕ E → Type 0
+Fronts m old new (Ok n) = (n ≡ m) × (n ≤ length new) × (drop n new ≡ drop m old)
+Fronts m old new (Err e) = new ≡ old

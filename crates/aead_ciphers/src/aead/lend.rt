@@ -1,20 +1,23 @@
 //! Lending the front of a buffer.
 
-ghost use Rattle.std.specs.Prelude.{◌≡◌, ◌≤◌, ◌++◌, ◌↔◌, length, drop, take, IsOk, IfOk, IsSome, IfSome};
-ghost use Rattle.std.specs.Borrow.{sem, Array, LendsBothIf, u8 as byte};
-ghost use Rattle.aead_ciphers.specs.Lending.{count_of, LendsFront};
+ghost use Rattle.std.specs.Prelude.{◌≡◌, ◌≤◌, ◌++◌, ◌↔◌, ℕ, List, length, drop, take, is_ok, IsOk, IfOk, IsSome, IfSome};
+ghost use Rattle.std.specs.Borrow.{sem, Array, LendsBothIf, LendsIfOk, u8 as byte};
+ghost use Rattle.aead_ciphers.specs.Lending.{count_of, lent_buffer, Fronts};
 
 use aead_ciphers_base::error::Unspecified;
 
-/// The first bytes of the buffer for writing, as many as the answer says, where it isn't a refusal.
+/// The plaintext at the front of the buffer for writing, where `opened` isn't a refusal. `loan` is what the
+/// buffer held before the call that opened it, and the plaintext's length.
 pub(crate) fn lend_plaintext(
     in_out: &mut [u8],
     opened: Result<usize, Unspecified>,
 ) -> Result<&mut [u8], Unspecified>
-    requires { IfOk opened (λ n. n ≤ length in_out.old) }
-    ensures* writes_back { sem 𝓛 (LendsFront in_out.entry result (count_of opened)) }
-    ensures accepted { IsOk result ↔ IsOk opened }
-    ensures value { IfOk result (λ front. front.now ≡ take (count_of opened) in_out.old) }
+    ghost loan: { List ℕ × ℕ }
+    requires { Fronts loan.1 loan.0 in_out.old opened }
+    ensures* writes_back { sem 𝓛 (LendsIfOk (Array byte 0) (Array byte 0) in_out.entry result (λ w. w ++ drop loan.1 loan.0) loan.0) }
+    ensures accepted { is_ok opened ≡ is_ok result }
+    ensures buffer { in_out.old ≡ lent_buffer result loan.0 }
+    ensures length { IfOk result (λ front. length front.now ≡ loan.1) }
 {
     match opened {
         Ok(count) => Ok(&mut in_out[..count]),

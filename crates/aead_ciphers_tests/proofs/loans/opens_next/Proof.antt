@@ -2,20 +2,18 @@
 use Rattle.aead_ciphers.proofs.LendingWalk.{refl, ◌-◌, [], ◌∷◌, full_share, ◌$◌, !, move, keep, of_opd, returns, alloc_all, pass_all, free_all, look_at, get, stop}
 use Rattle.aead_ciphers.proofs.LendingWalk.{a_type, dcons, dnil, addr, through, inst_fn, param, bounded, gave_ref, Goes-gave_ref}
 use Rattle.aead_ciphers.proofs.LendingWalk.{sets, lands_as, named_lft, types_at, mut_slice_vals, heard, length, Words, words_vals, words_typed, plain}
-use Rattle.aead_ciphers.proofs.LendingWalk.{slice_typed, aad_word, range_word, gets, reborrows, learns, aad_bytes, says, last}
+use Rattle.aead_ciphers.proofs.LendingWalk.{slice_typed, aad_word, range_word, gets, reborrows, learns, aad_bytes}
 use Rattle.aead_ciphers.proofs.LendingWalk.{walked, consults, at_words, with_third, with_third_share, relends, ends, table_of}
 use Rattle.aead_ciphers.proofs.Lending.{Range}
 use Rattle.aead_ciphers.specs.Lending.{LendsFront}
 use Rattle.aead_ciphers.specs.Steps.{OpenStep}
 use Rattle.std.proofs.VecSteps.Shapes.{after as after_statements}
-use Rattle.aead_ciphers_base.proofs.Walks.{takes}
+use Rattle.aead_ciphers_base.proofs.Walks.{takes, tell, tells}
 use Rattle.std.specs.Prelude.{Bool, ◌≡◌, true, false, IsFalse}
 use Rattle.std.proofs.Common.{ap, List, ℕ}
-use base.Logic.{sep}
-use contract.Monad.{fact}
 use contract.Running.{tables}
 use mir.Val.{vbool}
-use types.Kit.{raw, use0, at_ret}
+use types.Kit.{at_ret}
 use types.Match.{vrt, by_variants}
 use types.Part.{whole}
 use types.Run.{fld, first, exec, true_lit, false_lit}
@@ -72,16 +70,14 @@ opens_next_spec 𝓤 𝓛 𝓜 𝓡 wired N LN g d met =
     lands_as ! (ap only told) refl typed.0 $ first ! $ by_variants ! 19 (whole !) (get_tag ! (vrt ! refl (fld ! refl (stop !))) (whole !)) tt (
       (λ is-ok. sets_last ! (of_opd ! (true_lit !)) refl (tt, tt) $ exec ! 𝓣.C 𝓣.Λ (env fn.locals l) (after_statements 6 fn.body) (at_ret (env fn.locals l) (W.post at_end)) $
           sets ! (of_opd ! (get ! refl)) refl (tt, tt) $ returns ! (look_at ! 0 refl) $ free_all ! refl $
-          use0 𝓛 (raw (sep 𝓤 (fact 𝓤 (Said true ys)) (fact 𝓤 (IsFalse true → ys ≡ old))))
-          (says 𝓛 (concludes Said old n r true (ok_at r is-ok) long step) (last 𝓛 (λ h. absurd (let g = h in cc)))) $
+          tell {φ = IsFalse true → ys ≡ old} ! (λ h. absurd (let g = h in cc)) $ tells ! (concludes Said old n r true (ok_at r is-ok) long step) $
           owned ! bool (Is bool) (bool_Makes 𝓛) true (vbool true ∷ []) refl $
           keep ! (4 ∷ 5 ∷ 3 ∷ 6 ∷ 7 ∷ 8 ∷ 2 ∷ 10 ∷ 0 ∷ 1 ∷ []) $
           ends 𝓛 T stayed c at_end (vbool true) true (ws.0, (tt, (ys, (tt, tt)))) ! (tt, (tt, (same, (tt, tt))))),
       (
         (λ is-err. sets_last ! (of_opd ! (false_lit !)) refl (tt, tt) $ exec ! 𝓣.C 𝓣.Λ (env fn.locals l) (after_statements 6 fn.body) (at_ret (env fn.locals l) (W.post at_end)) $
             sets ! (of_opd ! (get ! refl)) refl (tt, tt) $ returns ! (look_at ! 0 refl) $ free_all ! refl $
-            use0 𝓛 (raw (sep 𝓤 (fact 𝓤 (Said false ys)) (fact 𝓤 (IsFalse false → ys ≡ old))))
-            (says 𝓛 (concludes Said old n r false (err_at r is-err) long step) (last 𝓛 (λ _. unchanged old n r (err_at r is-err)))) $
+            tell {φ = IsFalse false → ys ≡ old} ! (λ _. unchanged old n r (err_at r is-err)) $ tells ! (concludes Said old n r false (err_at r is-err) long step) $
             owned ! bool (Is bool) (bool_Makes 𝓛) false (vbool false ∷ []) refl $
             keep ! (4 ∷ 5 ∷ 3 ∷ 6 ∷ 7 ∷ 8 ∷ 2 ∷ 10 ∷ 0 ∷ 1 ∷ []) $
             ends 𝓛 T stayed c at_end (vbool false) false (ws.0, (tt, (ys, (tt, tt)))) ! (tt, (tt, (same, (tt, tt))))),

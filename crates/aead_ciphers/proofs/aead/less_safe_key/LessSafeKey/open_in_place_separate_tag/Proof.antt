@@ -1,9 +1,9 @@
 -- `open_in_place_separate_tag` lends what `lend_plaintext` lends of what `open_in_place_separate_tag_to_front` wrote.
 use Rattle.aead_ciphers.proofs.LendingWalk.{refl, ◌-◌, [], ◌∷◌, full_share, ◌$◌, !, move, keep, of_opd, returns, alloc_all, pass_all, free_all, look_at, get, sets}
 use Rattle.aead_ciphers.proofs.LendingWalk.{lands_as, named_lft, types_at, mut_slice_vals, nothing, heard, length, Words, words_vals, words_typed, slice_typed}
-use Rattle.aead_ciphers.proofs.LendingWalk.{nonce_word, aad_word, tag_word, range_word, gets, reborrows, learns, as_lent, length-drop, opened_fronts, aad_bytes, aes, Opened}
+use Rattle.aead_ciphers.proofs.LendingWalk.{nonce_word, aad_word, tag_word, range_word, gets, reborrows, learns, as_lent, lent_plain, length-drop, opened_fronts, aad_bytes, aes, Opened}
 use Rattle.aead_ciphers.proofs.LendingWalk.{table_of, front_met, dropped, goes, walked, consults, at_words, with_third, with_third_share, relends, regains}
-use Rattle.aead_ciphers.proofs.LendingWalk.{lends, tells, says, last, ends}
+use Rattle.aead_ciphers.proofs.LendingWalk.{lends, tell, tells, says, ends}
 use Rattle.aead_ciphers.specs.contracts.aead.less_safe_key.LessSafeKey.open_in_place_separate_tag as F
 use Rattle.aead_ciphers.specs.contracts.aead.less_safe_key.LessSafeKey.open_in_place_separate_tag_to_front as C
 use Rattle.aead_ciphers.proofs.aead.less_safe_key.LessSafeKey.open_in_place_separate_tag as P
@@ -28,13 +28,12 @@ open_in_place_separate_tag_spec 𝓤 𝓛 𝓜 𝓡 wired =
     (table_of 𝓛 𝓜 𝓡) (met 𝓤 𝓛 𝓜 𝓡 (P.Code.calls-aead_ciphers::aead::less_safe_key::LessSafeKey::open_in_place_separate_tag_to_front 𝓡.env wired))
     ((with_third 3 (α ∷ []) κs, with_third_share 3 full_share qs, tt, (self, (nonce, (aad, (tag, (record in_out { ghost_name = δ }, (range, tt)))))), vals), tt)
     (gets ! tt refl) (λ v u ws. let new = ws.1.1.1.1.0 in learns ! (λ opened. learns ! (λ counted. heard ! _ (λ refused.
-    let fronts = opened_fronts (length old - range.start) (length-drop range.start old) u opened counted in
+    let m = length old - range.start in let size = length-drop range.start old in
     -- [the answer; three tokens; nothing of self, nonce, aad, tag; what in_out ends as; nothing of range; what is kept]
-    move ! (3 ∷ 0 ∷ 8 ∷ 10 ∷ []) $ regains 𝓛 κ q in_out room 𝓜 𝓡 v u new ! tt α δ fronts (λ typed.
-    lands_as ! refl refl typed.0 $ reborrows ! in_out.ref_ptr (length old) refl refl (tt, tt) slice $ lends 𝓛 κ q in_out room 𝓜 𝓡 v u new !
-    (front_met 𝓤 𝓛 𝓜 𝓡 (P.Code.calls-aead_ciphers::aead::lend::lend_plaintext 𝓡.env wired)) fronts (gets ! tt refl) (λ w r is-r end.
+    move ! (3 ∷ 0 ∷ 8 ∷ 10 ∷ []) $ regains 𝓛 κ q in_out room 𝓜 𝓡 m v u new ! tt α δ (opened_fronts size u opened counted) (λ typed.
+    lands_as ! refl refl typed.0 $ reborrows ! in_out.ref_ptr (length old) refl refl (tt, tt) slice $ lends 𝓛 κ q in_out room 𝓜 𝓡 m v u new !
+    (front_met 𝓤 𝓛 𝓜 𝓡 (P.Code.calls-aead_ciphers::aead::lend::lend_plaintext 𝓡.env wired)) (gets ! tt refl) (λ w r is-r end.
     -- [in_out's token; the front; what is owed of in_out; two tokens; five times nothing]
-    lands_as ! refl refl is-r.0 $ returns ! (look_at ! 0 refl) $ free_all ! refl $ move ! (2 ∷ []) $ tells 𝓛 !
-    (says 𝓛 (as_lent (Opened (aes self.now.bytes) nonce (aad_bytes aad) tag range.start old) end opened)
-    (last 𝓛 end.value)) $ nothing ! $ keep ! (4 ∷ 5 ∷ 2 ∷ 0 ∷ 6 ∷ 7 ∷ 8 ∷ 9 ∷ 10 ∷ 3 ∷ 1 ∷ []) $
+    lands_as ! refl refl is-r.0 $ returns ! (look_at ! 0 refl) $ free_all ! refl $ move ! (2 ∷ []) $ tell ! (lent_plain size u r end opened) $
+    tells ! (as_lent (Opened (aes self.now.bytes) nonce (aad_bytes aad) tag range.start old) end opened) $ move ! (1 ∷ 0 ∷ []) $ says ! $ nothing ! $ keep ! (4 ∷ 5 ∷ 2 ∷ 0 ∷ 6 ∷ 7 ∷ 8 ∷ 9 ∷ 10 ∷ 3 ∷ 1 ∷ []) $
     ends 𝓛 T stayed c ((κs, qs, bounds, a, vals), tt) w r (tt, (tt, (tt, (tt, (tt, (tt, tt)))))) ! (tt, (tt, (tt, (tt, (tt, (tt, tt))))))))))))))))

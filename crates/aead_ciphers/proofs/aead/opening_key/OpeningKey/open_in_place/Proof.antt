@@ -1,9 +1,9 @@
 -- `open_in_place` lends what `lend_plaintext` lends of what `open_in_place_to_front` wrote.
-use Rattle.aead_ciphers.proofs.LendingWalk.{refl, ◌-◌, [], ◌∷◌, a_type, dcons, dnil, full_share, ◌$◌, !, move, keep, stop, addr, of_opd, returns, alloc_all}
+use Rattle.aead_ciphers.proofs.LendingWalk.{AllGo, others, refl, ◌-◌, [], ◌∷◌, a_type, dcons, dnil, full_share, ◌$◌, !, move, keep, stop, addr, of_opd, returns, alloc_all}
 use Rattle.aead_ciphers.proofs.LendingWalk.{pass_all, free_all, look_at, get, sets, lands_as, through, plain, named_lft, types_at, mut_slice_vals, nothing}
 use Rattle.aead_ciphers.proofs.LendingWalk.{table_of, heard, gave_ref, Goes-gave_ref, length, inst_fn, param, bounded, Words, words_vals, words_typed}
-use Rattle.aead_ciphers.proofs.LendingWalk.{slice_typed, aad_word, gets, reborrows, learns, step_fronts, aad_bytes, arith, front_met, first_stays, first_goes}
-use Rattle.aead_ciphers.proofs.LendingWalk.{walked, consults, at_words, with_third, with_third_share, relends, regains, lends, tells, ends, says_next}
+use Rattle.aead_ciphers.proofs.LendingWalk.{slice_typed, aad_word, gets, reborrows, learns, step_fronts, aad_bytes, arith, front_met, Stays, dropped, goes}
+use Rattle.aead_ciphers.proofs.LendingWalk.{walked, consults, at_words, with_third, with_third_share, relends, regains, lends, says, ends, says_next}
 use Rattle.aead_ciphers.specs.contracts.aead.opening_key.OpeningKey as K
 use Rattle.aead_ciphers.proofs.aead.opening_key.OpeningKey.open_in_place as P
 use Rattle.aead_ciphers.proofs.aead.opening_key.OpeningKey.open_in_place_to_front.Met.{met as core_met}
@@ -11,8 +11,8 @@ use Rattle.aead_ciphers.proofs.aead.opening_key.OpeningKey.open_in_place_to_fron
 pub open_in_place_spec : {M : Type 1} → P.Statement.statement M
 open_in_place_spec 𝓤 𝓛 𝓜 𝓡 wired N LN g d met =
     let inst = bounded (a_type ∷ []) (N, tt) (dcons d dnil) in let T = K.open_in_place.ended N g d in let c = K.open_in_place.clauses N g d 𝓛 𝓜.mem 𝓡.returns in
-    let key = plain (λ _. K.the_row (param 0 N)) in let own = gave_ref (0 ∷ []) tt key in let stayed = first_stays T.signature.params T.kept own in
-    let silent = first_goes 𝓛 4 T.signature.params T.kept own (Goes-gave_ref 𝓛 4 0 tt key, (λ _ _ _. refl, (λ _ _ _. refl, tt))) in
+    let key = plain (λ _. K.the_row (param 0 N)) in let own = gave_ref (0 ∷ []) tt key in let stayed : Stays T.signature.params T.kept = (own, dropped (others T.signature.params) T.kept.1) in
+    let silent : AllGo 𝓛 4 T.signature.params T.kept stayed = (Goes-gave_ref 𝓛 4 0 tt key, goes 𝓛 4 (others T.signature.params) T.kept.1 (λ _ _ _. refl, (λ _ _ _. refl, tt))) in
     walked 𝓛 T stayed c 𝓜 𝓡 silent (K.open_in_place.Key.name inst) (inst_fn inst P.Code.function) (P.Code.unfolded 𝓤 𝓛.H 𝓜 𝓡 wired (N, tt) d) (λ y are.
     let (κs, qs, bounds, a, vs) = y.0 in let κ = κs.1.1.0 in let q = qs.1.1.0 in let Ts = types_at T.signature.params κs in
     let (self, (aad, (in_out, _))) = a in let (is-self, (is-aad, (is-in_out, _))) = are in let old = in_out.now in
@@ -27,12 +27,12 @@ open_in_place_spec 𝓤 𝓛 𝓜 𝓡 wired N LN g d met =
     ((with_third 4 (α ∷ []) κs, with_third_share 4 full_share qs, bounds, (self, (aad, (record in_out { ghost_name = δ }, tt))), vals), tt)
     (gets ! tt refl) (λ v u ws. let was = self.now in let after = ws.0 in let new = ws.1.1.0 in learns ! (λ stays. learns ! (λ step. learns ! (λ counted.
     learns ! (λ opened. learns ! (λ plaintext. learns ! (λ refused. learns ! (λ gave. heard ! _ (λ stands.
-    let fronts = step_fronts g.spent g.is_closed was after (aad_bytes aad) 0 old new (length old - 16) (omega arith) u step counted in
+    let m = length old - 16 in let fronts = step_fronts g.spent g.is_closed was after (aad_bytes aad) 0 old new m (omega arith) u step counted in
     -- [the answer; four tokens; self; nothing of aad; what in_out ends as; what is kept]
-    move ! (3 ∷ 0 ∷ 7 ∷ 8 ∷ []) $ regains 𝓛 κ q in_out room 𝓜 𝓡 v u new ! tt α δ fronts (λ typed.
-    lands_as ! refl refl typed.0 $ reborrows ! in_out.ref_ptr (length old) refl refl (tt, tt) slice $ lends 𝓛 κ q in_out room 𝓜 𝓡 v u new !
-    (front_met 𝓤 𝓛 𝓜 𝓡 (P.Code.calls-aead_ciphers::aead::lend::lend_plaintext 𝓡.env wired)) fronts (gets ! tt refl) (λ w r is-r end.
+    move ! (3 ∷ 0 ∷ 7 ∷ 8 ∷ []) $ regains 𝓛 κ q in_out room 𝓜 𝓡 m v u new ! tt α δ fronts (λ typed.
+    lands_as ! refl refl typed.0 $ reborrows ! in_out.ref_ptr (length old) refl refl (tt, tt) slice $ lends 𝓛 κ q in_out room 𝓜 𝓡 m v u new !
+    (front_met 𝓤 𝓛 𝓜 𝓡 (P.Code.calls-aead_ciphers::aead::lend::lend_plaintext 𝓡.env wired)) (gets ! tt refl) (λ w r is-r end.
     -- [in_out's token; the front; what is owed of in_out; three tokens; self; once nothing]
-    lands_as ! refl refl is-r.0 $ returns ! (look_at ! 0 refl) $ free_all ! refl $ move ! (2 ∷ []) $ tells 𝓛 !
-    (says_next 𝓛 _ _ _ end stays step opened plaintext gave stands) $ nothing ! $ keep ! (4 ∷ 5 ∷ 2 ∷ 6 ∷ 7 ∷ 8 ∷ 0 ∷ 3 ∷ 1 ∷ []) $
+    lands_as ! refl refl is-r.0 $ returns ! (look_at ! 0 refl) $ free_all ! refl $ move ! (2 ∷ []) $
+    says_next 𝓛 ! _ _ _ end stays step opened plaintext gave stands $ move ! (1 ∷ 0 ∷ []) $ says ! $ nothing ! $ keep ! (4 ∷ 5 ∷ 2 ∷ 6 ∷ 7 ∷ 8 ∷ 0 ∷ 3 ∷ 1 ∷ []) $
     ends 𝓛 T stayed c ((κs, qs, bounds, a, vals), tt) w r (after, (tt, (tt, tt))) ! (tt, (tt, (tt, tt))))))))))))))))))
