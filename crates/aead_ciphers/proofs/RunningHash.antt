@@ -1,15 +1,15 @@
 -- The running hash: block by block, in chunks of a text, and the tag at its end.
-use Rattle.std.proofs.Common.{◌≡◌, ℕ, ◌+◌, ◌*◌, ◌/◌, ◌%◌, ◌≤◌, List, Bool, true, false, [], ◌∷◌, ◌++◌, length, take, drop, bit_xor, refl, sym, ap, ap₂, subst, ◌∙◌, arith, append_assoc}
+use Rattle.std.proofs.Common.{◌≡◌, ℕ, ◌+◌, ◌-◌, ◌*◌, ◌/◌, ◌%◌, ◌≤◌, List, [], ◌∷◌, ◌++◌, length, take, drop, bit_xor, refl, sym, ap, ap₂, subst, ◌∙◌, arith, append_assoc}
 use Rattle.std.proofs.Common.{append-nil}
 use Rattle.std.specs.Int.{to_be_bytes, w128}
 use Rattle.std.proofs.Math.Seq.{take-add}
-use Rattle.std.proofs.lemmas.List.{length-take-le, take-append-drop}
+use Rattle.std.proofs.lemmas.List.{length-drop, length-take-le, take_all, take-append-drop}
 use Rattle.aead_ciphers_base.specs.Blocks.{blocks}
 use Rattle.aead_ciphers_base.specs.Bytes.{◌⊕◌, zero_block}
 use Rattle.aead_ciphers_base.specs.CounterMode.{counter_block}
 use Rattle.aead_ciphers.specs.Gcm.{hashed, length_block, padded_blocks, gcm_tag}
 use Rattle.aead_ciphers.specs.Ghash.{◌•◌, ghash}
-use Rattle.aead_ciphers.specs.HashOf.{Absorbs, HashState, IsHashOf, products_of}
+use Rattle.aead_ciphers.specs.HashOf.{Absorbs, HashState, IsHashOf}
 use Rattle.aead_ciphers.proofs.GhashBytes.{to_be_bytes-xor}
 use Rattle.aead_ciphers.proofs.GhashLaws.{AllSized-append, ghash_more}
 use Rattle.aead_ciphers.proofs.PaddedBlocks.{blocks-append, padded_blocks-append, padded_blocks_none}
@@ -58,17 +58,17 @@ absorbs_none s = record {
 }
 
 -- the first d bytes of a text were taken in, which are whole blocks, and n more
-pub absorbs_more : {s t u : HashState} (text : List ℕ) (d n : ℕ) → d % 16 ≡ 0 → d + n ≤ length text
-    → Absorbs s (take d text) t → Absorbs t (take n (drop d text)) u → Absorbs s (take (d + n) text) u
-absorbs_more {u = u} text d n whole room first then =
+pub absorbs_more : {s t u : HashState} {part : List ℕ} (text : List ℕ) (d n : ℕ) → d % 16 ≡ 0 → d + n ≤ length text → part ≡ take n (drop d text)
+    → Absorbs s (take d text) t → Absorbs t part u → Absorbs s (take (d + n) text) u
+absorbs_more {u = u} {part} text d n whole room is first then =
     let front = take d text in
-    let more = take n (drop d text) in
-    let parts = padded_blocks-append (d / 16) front more (length-take-le d text (omega arith) ∙ omega (arith, whole)) in
+    let parts = padded_blocks-append (d / 16) front part (length-take-le d text (omega arith) ∙ omega (arith, whole)) in
     record {
       kept = then.kept ∙ ap (λ (s : HashState). record s { xi = u.xi }) first.kept;
       hashed = λ done at.
           hash_with (ap (λ (s : HashState). s.hash_key) first.kept)
-          (append_assoc done (padded_blocks front) (padded_blocks more) ∙ ap (λ bs. done ++ bs) (sym parts ∙ ap padded_blocks (sym (take-add d n text))))
+          (append_assoc done (padded_blocks front) (padded_blocks part)
+          ∙ ap (λ bs. done ++ bs) (sym parts ∙ ap padded_blocks (ap (λ xs. front ++ xs) is ∙ sym (take-add d n text))))
           then.hashed (first.hashed done at);
     }
 
@@ -101,11 +101,6 @@ tag_found cipher nonce aad text {iv} {ended = ended} eh ea en ei start absorbed 
     ∙ ap₂ (λ k b. ghash k (bs ++ b ∷ []) ⊕ cipher iv) (same_key ∙ eh) lengths
     ∙ ap (λ i. ghash (cipher zero_block) (bs ++ length_block (length aad) (length text) ∷ []) ⊕ cipher i) ei
 
--- the products of no blocks, and of blocks in two parts
-pub products_of-none : (hashes : Bool) → products_of hashes 0 ≡ 0
-products_of-none true = refl
-products_of-none false = refl
-
-pub products_of-sum : (hashes : Bool) (m n sum : ℕ) → m + n ≡ sum → products_of hashes m + products_of hashes n ≡ products_of hashes sum
-products_of-sum true m n sum e = e
-products_of-sum false m n sum e = refl
+-- a part that ends where the buffer does
+pub to_end : (a : ℕ) (xs : List ℕ) → take (length xs - a) (drop a xs) ≡ drop a xs
+to_end a xs = take_all (length xs - a) (drop a xs) (omega (arith, length-drop a xs))

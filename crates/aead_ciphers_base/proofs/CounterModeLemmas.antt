@@ -1,10 +1,9 @@
 -- Counter mode of a text in pieces.
 use Rattle.std.proofs.Common.{◌≡◌, ℕ, ◌+◌, ◌-◌, ◌*◌, ◌/◌, ◌%◌, ◌≤◌, List, [], ◌∷◌, ◌++◌, length, take, drop, refl, sym, ap}
 use Rattle.std.proofs.Common.{ap₂, ◌∙◌, arith}
-use Rattle.std.proofs.lemmas.List.{append-nil, append_assoc, length-append, length-take-le, length-drop, nil_from_length, take_at, drop-drop}
+use Rattle.std.proofs.lemmas.List.{append-nil, append_assoc, length-append, length-take-le, length-drop, nil_from_length, take_at, drop-append-le, drop-drop, drop-take, take-append-drop}
 use Rattle.aead_ciphers_base.specs.Bytes.{xored, ◌⊕◌}
 use Rattle.aead_ciphers_base.specs.CounterMode.{counter_block, counter_byte, counter_mode, Advances, EncryptsFirst, EncryptsToFront, EncryptsWindow}
-use Rattle.aead_ciphers_base.proofs.BufferLemmas.{window_step, window_input}
 use Rattle.aead_ciphers_base.proofs.StreamLemmas.{all_from, length-xored, stream_front, take-xored, xored-is, xored-xored, advance as xored_advance}
 use Rattle.aead_ciphers_base.proofs.XorLemmas.{xor_comm, xor-take}
 
@@ -116,12 +115,24 @@ unfolding counter_mode
 encrypts_all cipher counter s d was new done all = λ nonce k at. done nonce k at ∙ all_from _ s d was all
 
 -- a window from d on, of n bytes and s more, was encrypted to its front
-pub encrypts_window : (cipher : List ℕ → List ℕ) (counter : List ℕ) (s d n size : ℕ) (xs win w : List ℕ) → s + d + n ≤ length xs → size ≡ n + s →
-    win ≡ take size (drop d xs) → EncryptsToFront cipher counter s win w →
-    EncryptsWindow cipher counter s d n xs (take d xs ++ (w ++ drop size (drop d xs)))
-encrypts_window cipher counter s d n size xs win w room sz wine front = λ nonce k at.
-    window_step d n s size xs win w _ room sz wine
-    (front nonce k at ∙ ap (λ (x : List ℕ). counter_mode cipher nonce k x ++ drop (length win - s) win) (window_input d n s size xs win sz wine))
+pub encrypts_window : (cipher : List ℕ → List ℕ) (counter : List ℕ) (s d n size : ℕ) (xs w : List ℕ) → s + d + n ≤ length xs → size ≡ n + s →
+    EncryptsToFront cipher counter s (take size (drop d xs)) w → EncryptsWindow cipher counter s d n xs (take d xs ++ (w ++ drop size (drop d xs)))
+encrypts_window cipher counter s d n size xs w room e front = λ nonce k at.
+    let rest = drop d xs in
+    let win = take size rest in
+    let long : length win ≡ size = length-take-le size rest (omega (arith, length-drop d xs)) in
+    let part : size ≡ s + n = omega arith in
+    let len : length win - s ≡ n = omega arith in
+    let place : d + s ≡ s + d = omega arith in
+    let text : drop s win ≡ take n (drop (s + d) xs) =
+    ap (λ (z : ℕ). drop s (take z rest)) part ∙ drop-take s n rest ∙ ap (take n) (drop-drop s d xs ∙ ap (λ (z : ℕ). drop z xs) place) in
+    let tail : drop (length win - s) win ++ drop size rest ≡ drop (d + n) xs =
+    ap (λ (z : ℕ). drop z win ++ drop size rest) len ∙ sym (drop-append-le n win (drop size rest) (omega arith))
+    ∙ ap (drop n) (take-append-drop size rest) ∙ drop-drop n d xs in
+    ap (λ (u : List ℕ). take d xs ++ (u ++ drop size rest)) (front nonce k at)
+    ∙ ap (λ (u : List ℕ). take d xs ++ u) (append_assoc (counter_mode cipher nonce k (drop s win)) (drop (length win - s) win) (drop size rest))
+    ∙ ap₂ (λ (u v : List ℕ). take d xs ++ (counter_mode cipher nonce k u ++ v)) text tail
+    ∙ sym (append_assoc (take d xs) (counter_mode cipher nonce k (take n (drop (s + d) xs))) (drop (d + n) xs))
 
 -- a XOR as long as the first list has read all of the second that it needs
 pub xor-reads : (xs ys : List ℕ) → length xs ≤ length (xs ⊕ ys) → length xs ≤ length ys

@@ -1,6 +1,5 @@
 pub mod AdditiveLemmas
 pub mod BlocksLemmas
-pub mod BufferLemmas
 pub mod ByteFieldLaws
 pub mod BytesLemmas
 pub mod ChaChaRounds

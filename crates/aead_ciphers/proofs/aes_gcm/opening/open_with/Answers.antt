@@ -1,10 +1,9 @@
 use Rattle.std.specs.Prelude.{false, is_ok}
 use Rattle.std.proofs.Common.{arith, rules, ◌∙◌, ◌≡◌, sym, refl, ap, ◌++◌, drop, length-drop, subst}
 use Rattle.aead_ciphers_base.specs.Values.{aad_bytes}
-use Rattle.aead_ciphers_base.proofs.BufferLemmas.{to_end}
 use Rattle.aead_ciphers.specs.Gcm.{gcm_decrypted}
 use Rattle.aead_ciphers.specs.HashOf.{Absorbs}
-use Rattle.aead_ciphers.proofs.RunningHash.{tag_found}
+use Rattle.aead_ciphers.proofs.RunningHash.{tag_found, to_end}
 use Rattle.aead_ciphers.proofs.aes_gcm.opening.open_with.Goals as goal
 
 pub returns-in_err-verify_slices_are_equal-clause-opened : goal.returns-in_err-verify_slices_are_equal-clause-opened
