@@ -75,14 +75,6 @@ pub stop_at_start : (key file : List ℕ) (old : Option (List ℕ)) → Stopped 
 stop_at_start key file old = (0, none_right key file, begins_none old (opened_chunks key file 0))
 
 module _ {key prefix file : List ℕ} {n : ℕ} {old now : Option (List ℕ)} (s : Opening key prefix file n old now) where
-  -- stopped before a chunk
-  pub open_stop : Stopped key file old now
-  open_stop = (n, s.right, (_, [], sym (append-nil (opened_chunks key file n)), s.written))
-
-  -- too many chunks
-  pub open_long : n ≡ 2 ^ 32 - 1 → OpenRefuses key file TooLong
-  open_long e = (s.front, subst (AreRight key file) e s.right, subst (λ (k : ℕ). k ≤ last_chunk file) e s.in_range)
-
   module _ {flag : Bool} {chunk : List ℕ} (flag_right : flag ≡ (n == last_chunk file)) (chunk_is : chunk ≡ piece sealed_chunk_len (body_of file) n) where
     -- a chunk that has no right tag
     pub chunk_refused : (error : FileError) → ¬ HasTag key prefix n flag chunk → ChunkRefuses key prefix n flag chunk error → RefusesAt key file error n
@@ -117,12 +109,7 @@ module _ {key prefix file : List ℕ} {n : ℕ} {old now : Option (List ℕ)} (s
 
         -- stopped within its message
         pub open_stop_in : AppendsBeginning now now' message → Stopped key file old now'
-        open_stop_in part = (
-          n + 1,
-          right_more,
-          begins_more old now now' _ message [] _ s.written part
-              (more_is ∙ ap (λ (l : List ℕ). opened_chunks key file n ++ l) (sym (append-nil message))),
-        )
+        open_stop_in part = (n + 1, right_more, begins_more old now now' _ message [] _ s.written part (more_is ∙ simp append-nil))
 
         written_more : Appends now now' message → Appends old now' (opened_chunks key file (n + 1))
         written_more more = subst (Appends old now') (sym more_is) (Appends-trans old now now' _ _ s.written more)
@@ -157,11 +144,13 @@ read_start key prefix file bytes read_bytes chunk between rest old same first ha
 }
 
 module _ {key prefix file chunk : List ℕ} {n : ℕ} {rest old now : Option (List ℕ)} (s : Reading key prefix file n chunk rest old now) where
+  -- stopped before a chunk
   pub read_stop : Stopped key file old now
-  read_stop = open_stop s.so_far
+  read_stop = (n, s.so_far.right, (_, [], sym (append-nil (opened_chunks key file n)), s.so_far.written))
 
+  -- too many chunks
   pub read_long : n ≡ 2 ^ 32 - 1 → OpenRefuses key file TooLong
-  read_long = open_long s.so_far
+  read_long e = (s.so_far.front, subst (AreRight key file) e s.so_far.right, subst (λ (k : ℕ). k ≤ last_chunk file) e s.so_far.in_range)
 
   module _ (next : List ℕ) (rest' : Option (List ℕ)) (read : IfSome rest (λ left. TakesFront sealed_chunk_len left next rest'))
       {m : ℕ} {flag : Bool} (counted : flag ≡ (m == 0)) (m_is : m ≡ length next) where

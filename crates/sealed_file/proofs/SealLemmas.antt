@@ -22,6 +22,11 @@ pub header_written : (key prefix file bytes : List ℕ) (old now : Option (List 
 unfolding sealed_chunks
 header_written key prefix file bytes old now e done = subst (Appends old now) (e ∙ sym (append-nil (header prefix))) done
 
+pub stop_behind_header : (key prefix file bytes : List ℕ) (old now : Option (List ℕ)) → bytes ≡ header prefix → Appends old now bytes
+    → AppendsBeginning old now (sealed_file key prefix file)
+stop_behind_header key prefix file bytes old now e done =
+    (bytes, _, ap (λ (l : List ℕ). l ++ sealed_chunks key prefix file (last_of file + 1)) (sym e), done)
+
 pub stop_in_header : (key prefix file bytes : List ℕ) (old now : Option (List ℕ)) → bytes ≡ header prefix → AppendsBeginning old now bytes
     → AppendsBeginning old now (sealed_file key prefix file)
 stop_in_header key prefix file bytes old now e part =
@@ -34,8 +39,18 @@ module _ (key prefix file : List ℕ) (n : ℕ) where
   before_more = ap (λ (l : List ℕ). header prefix ++ l) (joined_more (chunk_at key prefix file) n)
       ∙ sym (append_assoc (header prefix) (sealed_chunks key prefix file n) (chunk_at key prefix file n))
 
+  pub sealed_is : {flag : Bool} {chunk : List ℕ} → flag ≡ (n == last_of file) → chunk ≡ piece chunk_len file n
+      → sealed_chunk key prefix n flag chunk ≡ chunk_at key prefix file n
+  sealed_is e f = rw (e, f)
+
+  -- the chunk was written
+  pub seal_more : (old now now' : Option (List ℕ)) {sealed : List ℕ} → sealed ≡ chunk_at key prefix file n → Appends old now (sealed_before key prefix file n)
+      → Appends now now' sealed → Appends old now' (sealed_before key prefix file (n + 1))
+  seal_more old now now' e written more =
+      subst (Appends old now') (ap (λ (l : List ℕ). sealed_before key prefix file n ++ l) e ∙ sym before_more) (Appends-trans old now now' _ _ written more)
+
   module _ (within : n ≤ last_of file) where
-    parts : (later : List ℕ) × (sealed_file key prefix file ≡ sealed_before key prefix file n ++ (chunk_at key prefix file n ++ later))
+    pub parts : (later : List ℕ) × (sealed_file key prefix file ≡ sealed_before key prefix file n ++ (chunk_at key prefix file n ++ later))
     unfolding sealed_chunks
     parts =
         let (later, e) = joined_parts (chunk_at key prefix file) n (last_of file + 1) (omega arith) in (
@@ -51,24 +66,6 @@ module _ (key prefix file : List ℕ) (n : ℕ) where
         let p = length-parts-le (chunk_at key prefix file) n (last_of file + 1) (omega arith) in
         let c = length-chunk_at key prefix file n in
         simp length-append (omega (arith, p, c))
-
-    -- stopped before the chunk
-    pub seal_stop : (old now : Option (List ℕ)) → Appends old now (sealed_before key prefix file n) → AppendsBeginning old now (sealed_file key prefix file)
-    seal_stop old now written = (_, _, parts.1, written)
-
-    module _ {flag : Bool} {chunk : List ℕ} (flag_right : flag ≡ (n == last_of file)) (chunk_is : chunk ≡ piece chunk_len file n) where
-      sealed_is : sealed_chunk key prefix n flag chunk ≡ chunk_at key prefix file n
-      sealed_is = ap (λ (b : Bool). sealed_chunk key prefix n b chunk) flag_right ∙ ap (sealed_chunk key prefix n (n == last_of file)) chunk_is
-
-      module _ (old now now' : Option (List ℕ)) (written : Appends old now (sealed_before key prefix file n)) where
-        -- and within it
-        pub seal_stop_in : AppendsBeginning now now' (sealed_chunk key prefix n flag chunk) → AppendsBeginning old now' (sealed_file key prefix file)
-        seal_stop_in part = begins_more old now now' _ _ _ _ written (subst (AppendsBeginning now now') sealed_is part) parts.1
-
-        -- the chunk was written
-        pub seal_more : Appends now now' (sealed_chunk key prefix n flag chunk) → Appends old now' (sealed_before key prefix file (n + 1))
-        seal_more more = subst (Appends old now') (ap (λ (l : List ℕ). sealed_before key prefix file n ++ l) sealed_is ∙ sym before_more)
-            (Appends-trans old now now' _ _ written more)
 
 -- before chunk n is sealed, which was read: the header and the chunks before it were written
 pub record Sealing (key prefix file : List ℕ) (n : ℕ) (chunk : List ℕ) (rest old now : Option (List ℕ)) : Type 0 where
@@ -90,7 +87,7 @@ seal_long s long = let within = s.in_range in omega (arith, within, long)
 -- stopped before a chunk
 pub sealing_stop : {key prefix file chunk : List ℕ} {n : ℕ} {rest old now : Option (List ℕ)} → Sealing key prefix file n chunk rest old now
     → AppendsBeginning old now (sealed_file key prefix file)
-sealing_stop s = seal_stop _ _ _ _ s.in_range _ _ s.written
+sealing_stop s = (_, _, (parts _ _ _ _ s.in_range).1, s.written)
 
 module _ {key prefix file chunk : List ℕ} {n : ℕ} {rest old now : Option (List ℕ)} (s : Sealing key prefix file n chunk rest old now)
     (next : List ℕ) (rest' : Option (List ℕ)) (read : IfSome rest (λ left. TakesFront chunk_len left next rest')) {m : ℕ} {flag : Bool} (counted : flag ≡ (m == 0))
@@ -105,11 +102,16 @@ module _ {key prefix file chunk : List ℕ} {n : ℕ} {rest old now : Option (Li
   seal_few last within = subst (λ (k : ℕ). k < 2 ^ 32 - 1) (last_here last) within
 
   module _ {sealed : List ℕ} (is_sealed : sealed ≡ sealed_chunk key prefix n flag chunk) (now' : Option (List ℕ)) where
+    sealed_here : sealed ≡ chunk_at key prefix file n
+    sealed_here = is_sealed ∙ sealed_is key prefix file n flag_right s.at.piece_is
+
+    -- stopped within the chunk
     pub sealing_stop_in : AppendsBeginning now now' sealed → AppendsBeginning old now' (sealed_file key prefix file)
-    sealing_stop_in part = seal_stop_in key prefix file n s.in_range flag_right s.at.piece_is old now now' s.written (subst (AppendsBeginning now now') is_sealed part)
+    sealing_stop_in part =
+        begins_more old now now' _ _ _ _ s.written (subst (AppendsBeginning now now') sealed_here part) (parts key prefix file n s.in_range).1
 
     written_more : Appends now now' sealed → Appends old now' (sealed_before key prefix file (n + 1))
-    written_more more = seal_more key prefix file n s.in_range flag_right s.at.piece_is old now now' s.written (subst (Appends now now') is_sealed more)
+    written_more more = seal_more key prefix file n old now now' sealed_here s.written more
 
     -- the last chunk was written
     pub seal_end : flag ≡ true → Appends now now' sealed → Appends old now' (sealed_file key prefix file)

@@ -4,7 +4,7 @@ use Rattle.std.proofs.lemmas.List.{length-append}
 use Rattle.std.proofs.lemmas.Result.{err_from_is_err_and}
 use Rattle.sealed_file.proofs.FileLemmas.{length-sealed_file}
 use Rattle.sealed_file.proofs.PieceLemmas.{length-piece-le}
-use Rattle.sealed_file.proofs.SealLemmas.{header_written, seal_fits, seal_more, sealed_before}
+use Rattle.sealed_file.proofs.SealLemmas.{header_written, seal_fits, seal_more, sealed_before, sealed_is}
 use Rattle.sealed_file.proofs.in_memory.seal_bytes.Goals as goal
 
 pub returns-in_err-reserve-clause-accepted : goal.returns-in_err-reserve-clause-accepted
@@ -53,12 +53,9 @@ append_sealed-requires-clause-room c =
 
 pub loop-number-preserved : goal.loop-number-preserved
 loop-number-preserved c = record {
-  appended =
-      let last = c.last_piece_of-last.ensures in
-      let below = c.loop-number-test.true in
-      seal_more c.args.key.now c.args.prefix c.args.file.now c.loop-number.number (omega (arith, last, below))
-      (ap (λ (k : ℕ). c.loop-number.number == k) last) c.piece_of-chunk.ensures
+  appended = seal_more c.args.key.now c.args.prefix c.args.file.now c.loop-number.number
       (Some c.args.out.now.items) (Some c.loop-number.out.items) (Some c.append_sealed.new.out.items)
+      (sealed_is _ _ _ _ (ap (λ (k : ℕ). c.loop-number.number == k) c.last_piece_of-last.ensures) c.piece_of-chunk.ensures)
       c.loop-number.invariant.appended c.append_sealed.ensures.sealed;
   room = let room = c.loop-number.invariant.room in let kept = c.append_sealed.ensures.capacity in omega (arith, room, kept);
 }

@@ -1,6 +1,6 @@
 use Rattle.std.proofs.Common.{◌≡◌, vec_len, arith, ◌∙◌}
 use Rattle.std.proofs.lemmas.Option.{IfSome_then}
-use Rattle.sealed_file.proofs.SealLemmas.{header_written, seal_end, seal_few, seal_long, seal_next, seal_start, seal_stop, sealing_stop, sealing_stop_in, stop_in_header}
+use Rattle.sealed_file.proofs.SealLemmas.{seal_end, seal_few, seal_long, seal_next, seal_start, sealing_stop, sealing_stop_in, stop_behind_header, stop_in_header}
 use Rattle.sealed_file.proofs.StreamLemmas.{begins_none, stop, stop_then}
 use Rattle.sealed_file.proofs.sealing.seal.Goals as goal
 
@@ -13,7 +13,7 @@ returns-in_err-write_bytes-clause-beginning g c =
 
 pub returns-in_err-read_piece-clause-beginning : goal.returns-in_err-read_piece-clause-beginning
 returns-in_err-read_piece-clause-beginning g c = stop _ _ (λ file.
-    seal_stop _ _ _ 0 (omega arith) _ _ (header_written _ _ file _ _ _ (c.as_slice.ensures ∙ c.header_of-header.ensures) c.in_ok-write_bytes.ensures.ok))
+    stop_behind_header _ _ _ _ _ _ (c.as_slice.ensures ∙ c.header_of-header.ensures) c.in_ok-write_bytes.ensures.ok)
 
 pub loop-number-init : goal.loop-number-init
 loop-number-init g c = (
