@@ -1,7 +1,7 @@
 use Rattle.std.proofs.Common.{◌≡◌, ◌∙◌, ap, length}
 use Rattle.aead_ciphers.specs.Counting.{prefixed_nonce}
 use Rattle.aead_ciphers.proofs.SequenceLemmas.{over_zeros}
-use Rattle.aead_ciphers.proofs.aead.counter_sequence.nonce_of.Goals as goal
+use Rattle.aead_ciphers.proofs.aead.counter_sequence.prefixed.Goals as goal
 
 pub returns : goal.returns
 returns c =
