@@ -1,6 +1,6 @@
 -- The square of a polynomial, by Horner's rule in x^2, and as a linear map; what is its own square is zero or the unit.
-use Rattle.std.proofs.Common.{◌≡◌, ℕ, zero, suc, ◌/◌, ◌^◌, ◌<◌, ◌≤◌, ◌⊎◌, inl, inr, Bool, true, false, List, [], ◌∷◌, length, replicate}
-use Rattle.std.proofs.Common.{refl, sym, ap, ap₂, ◌∙◌, arith, if◌then◌else◌, bit_and, bit_xor}
+use Rattle.std.proofs.Common.{◌≡◌, ℕ, suc, ◌^◌, ◌<◌, ◌≤◌, ◌⊎◌, inl, inr, Bool, true, false, List, [], ◌∷◌, length, replicate}
+use Rattle.std.proofs.Common.{refl, sym, ap, ap₂, ◌∙◌, arith, if◌then◌else◌, bit_and}
 use Rattle.std.proofs.Math.Dec.{lit<}
 use Rattle.std.specs.Int.Bits.{xor_zero_l}
 use Rattle.std.proofs.lemmas.Nat.{and_le_l, xor_lt}

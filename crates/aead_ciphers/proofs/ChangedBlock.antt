@@ -3,7 +3,6 @@ use Rattle.std.proofs.Common.{◌≡◌, ◌≢◌, ℕ, List, [], ◌∷◌, �
 use Rattle.std.proofs.lemmas.List.{reverse-append}
 use Rattle.aead_ciphers_base.specs.Aes.{add_round_key, aes, cipher}
 use Rattle.aead_ciphers_base.specs.Bytes.{◌⊕◌, zero_block}
-use Rattle.aead_ciphers_base.specs.CounterMode.{counter_block}
 use Rattle.aead_ciphers.specs.Different.{DifferInOneBlock, HasInverse}
 use Rattle.aead_ciphers.specs.Gcm.{hashed, gcm_tag}
 use Rattle.aead_ciphers.specs.Ghash.{IsBlock, ◌•◌, ghash}

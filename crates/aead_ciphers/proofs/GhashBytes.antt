@@ -1,14 +1,12 @@
 -- The bits of a number's big-endian bytes are the number's bits.
-use Rattle.std.proofs.Common.{◌≡◌, ℕ, List, [], zero, suc, ◌+◌, ◌*◌, ◌/◌, ◌%◌, ◌^◌, ◌<◌, ◌≤◌, Bool, ◌∷◌, ◌++◌, fold, flat_map, refl, sym, ap, ap₂, ◌∙◌, arith}
-use Rattle.std.proofs.Common.{if◌then◌else◌, ◌==◌, zero-add, mod-eq_of_lt, pow-suc, div-one, bit_xor, mul_comm, add_comm}
-use Rattle.std.specs.Int.{bit_at, bytes_high_first, byte_at, to_be_bytes, w128}
-use Rattle.std.proofs.lemmas.Nat.{mod-pow-add, shr-shr, div-add-mod', pow-add, xor_shr, xor_mod}
-use Rattle.std.proofs.lemmas.Nat.Bits.{bit_at-lt, bit_at_cat_low}
+use Rattle.std.proofs.Common.{◌≡◌, ℕ, List, [], zero, suc, ◌+◌, ◌*◌, ◌/◌, ◌%◌, ◌^◌, ◌<◌, ◌≤◌, Bool, ◌∷◌, ◌++◌, flat_map, refl, sym, ap, ap₂, ◌∙◌, arith}
+use Rattle.std.proofs.Common.{◌==◌, zero-add, pow-suc, div-one, bit_xor}
+use Rattle.std.specs.Int.{bytes_high_first, byte_at, to_be_bytes, w128}
+use Rattle.std.proofs.lemmas.Nat.{pow-add, xor_shr, xor_mod}
 use Rattle.std.specs.Prelude.{reverse}
-use Rattle.std.proofs.lemmas.List.{reverse-append, reverse-reverse}
-use Rattle.std.proofs.lemmas.List.Sums.{fold-append}
+use Rattle.std.proofs.lemmas.List.{reverse-reverse}
 use Rattle.aead_ciphers_base.specs.ByteField.{bits_of, value_of}
-use Rattle.aead_ciphers_base.proofs.NumberBits.{value_of-bits_of}
+use Rattle.aead_ciphers_base.proofs.NumberBits.{bit_at-mod, bit_at-shr, value_of-bits_of}
 use Rattle.aead_ciphers_base.specs.Polynomial.{field_product}
 use Rattle.aead_ciphers_base.specs.Bytes.{◌⊕◌}
 use Rattle.aead_ciphers.proofs.GhashBits.{bits_high_first, reverse-bits_of}
@@ -25,18 +23,11 @@ unfolding block_bits
 block_bits-is [] = refl
 block_bits-is (x ∷ xs) = ap₂ (λ p q. p ++ q) (reverse-bits_of 8 x) (block_bits-is xs)
 
--- a byte's bits are the number's bits there
-bit_at_byte : (n s j : ℕ) → j < 8 → bit_at (n / 2 ^ s % 2 ^ 8) j ≡ bit_at n (s + j)
-bit_at_byte n s j h =
-    sym (bit_at_cat_low (n / 2 ^ s / 2 ^ 8) 8 _ j h)
-    ∙ ap (λ x. bit_at x j) (div-add-mod' (n / 2 ^ s) _)
-    ∙ ap (λ x. x % 2) (shr-shr n s j)
-
 bits_split : (n s j : ℕ) → j ≤ 8 → bits_high_first j (n / 2 ^ s % 2 ^ 8) ++ bits_high_first s n ≡ bits_high_first (j + s) n
 unfolding bits_high_first
 bits_split n s zero h = ap (λ k. bits_high_first k n) (sym (zero-add s))
 bits_split n s (suc j) h =
-    ap₂ (λ x p. (x == 1) ∷ p) (bit_at_byte n s j h ∙ ap (bit_at n) (omega arith)) (bits_split n s j (omega arith))
+    ap₂ (λ x p. (x == 1) ∷ p) (bit_at-mod _ 8 j h ∙ bit_at-shr n s j) (bits_split n s j (omega arith))
     ∙ ap (λ k. bits_high_first k n) (let e : suc (j + s) ≡ suc j + s = omega arith in e)
 
 pub power_256 : (k : ℕ) → 256 ^ k ≡ 2 ^ (8 * k)

@@ -1,8 +1,6 @@
 -- The ring of blocks, and GHASH of one block more.
 use Rattle.std.proofs.Common.{◌≡◌, ℕ, zero, suc, ◌<◌, Bool, true, false, List, [], ◌∷◌, ◌++◌, length, get_or, replicate, flat_map, refl, sym, ap, ap₂, ◌∙◌}
-use Rattle.std.proofs.Common.{arith, ◌==◌, bit_xor, length-append, add-one}
-use Rattle.std.specs.Int.{bit_at}
-use Rattle.std.proofs.lemmas.Nat.Bits.{bit_at_xor, bit_at-lt}
+use Rattle.std.proofs.Common.{arith, length-append, add-one}
 use Rattle.aead_ciphers_base.proofs.XorLemmas.{bytes-xor, length-xor, xor_assoc, xor_comm, xor_exchange, xor_zeros}
 use Rattle.aead_ciphers_base.specs.Polynomial.{◌xor◌, coefficient}
 use Rattle.aead_ciphers_base.specs.Bytes.{◌⊕◌, zero_block}

@@ -1,5 +1,5 @@
 -- What an opening call says of the next nonce.
-use Rattle.std.proofs.Common.{◌≡◌, ℕ, ◌-◌, Bool, IsErr, List, true, false, length, drop, take, is_ok, IfOk, OnOk, OnErr, Ok, Err, Result, refl, subst, ◌∙◌}
+use Rattle.std.proofs.Common.{◌≡◌, ℕ, ◌-◌, Bool, IsErr, List, length, drop, take, is_ok, IfOk, OnOk, OnErr, Ok, Err, Result, refl, subst, ◌∙◌}
 use Rattle.std.specs.Borrow.{MutBor}
 use Rattle.aead_ciphers_base.specs.Aes.{aes}
 use Rattle.aead_ciphers.specs.Gcm.{gcm_decrypted, OpenedAttached}

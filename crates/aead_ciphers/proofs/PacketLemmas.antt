@@ -1,10 +1,9 @@
 -- A packet that is sealed in place.
-use Rattle.std.proofs.Common.{◌≡◌, ℕ, ◌+◌, ◌-◌, ◌<◌, ◌≤◌, ◌↔◌, List, Bool, true, false, length, drop, take, is_ok, IsOk, IsErr, OnOk, OnErr}
+use Rattle.std.proofs.Common.{◌≡◌, ℕ, ◌+◌, ◌-◌, ◌<◌, ◌≤◌, ◌↔◌, List, Bool, false, length, drop, take, is_ok, IsOk, IsErr, OnOk, OnErr}
 use Rattle.std.proofs.Common.{Ok, Err, Result, refl, ap, ◌∙◌, arith, length-drop}
 use Rattle.std.proofs.lemmas.List.{drop_at, length-take-le}
-use Rattle.aead_ciphers_base.specs.Aes.{aes}
 use Rattle.aead_ciphers.specs.BoundState.{BoundState}
-use Rattle.aead_ciphers.specs.Gcm.{Fits, gcm_sealed}
+use Rattle.aead_ciphers.specs.Gcm.{Fits}
 use Rattle.aead_ciphers.specs.NonceSequence.{Closes}
 use Rattle.aead_ciphers.specs.Packet.{PacketFits, packet_message, packet_body, sealed_packet}
 use Rattle.aead_ciphers.specs.Steps.{SealStep, no_room, no_nonce, too_long, sealed, Spends}

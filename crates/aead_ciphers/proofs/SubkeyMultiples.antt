@@ -3,11 +3,12 @@ use Rattle.std.proofs.Common.{◌≡◌, ℕ, zero, suc, ◌+◌, ◌-◌, ◌/�
 use Rattle.std.proofs.Common.{subst, ◌∙◌, arith, ◌==◌, pow-suc, length-append, bit_xor, if◌then◌else◌, below_more}
 use Rattle.std.specs.Int.{bit_at, to_be_bytes, w128}
 use Rattle.std.proofs.lemmas.List.{length-replicate}
-use Rattle.std.proofs.lemmas.Nat.{div-add-mod', div-mul-add, mod-pow-add, mod_below, mul-mod_first, pow_pos, shr-shr}
-use Rattle.std.proofs.lemmas.Nat.Bits.{bit_at_cat_high, bit_at_cat_low}
+use Rattle.std.proofs.lemmas.Nat.{div-mul-add, mod-pow-add, mod_below, mul-mod_first, pow_pos}
+use Rattle.std.proofs.lemmas.Nat.Bits.{bit_at_cat_high}
 use Rattle.std.specs.Prelude.{reverse}
 use Rattle.aead_ciphers_base.specs.ByteField.{value_of}
 use Rattle.aead_ciphers_base.specs.Polynomial.{coefficient}
+use Rattle.aead_ciphers_base.proofs.NumberBits.{bit_at-mod, bit_at-shr}
 use Rattle.aead_ciphers_base.proofs.PolynomialBits.{Series, add, add_assoc, add_none, none, scale}
 use Rattle.aead_ciphers_base.proofs.PolynomialAction.{horner, horner_none, horner_push, mul_x, mul_x-none, raise, times}
 use Rattle.aead_ciphers_base.proofs.PolynomialLaws.{field_product_is, length-field_product, modulus, same_coefficients}
@@ -118,12 +119,8 @@ coefficient-bits _ a k within = absurd (omega arith)
 -- bit 31 - i of word j
 word_bit : (a j i : ℕ) → j < 4 → i < 32 → bit_at (a / 2 ^ (96 - 32 * j) % 2 ^ 32) (31 - i) ≡ bit_at a (127 - (32 * j + i))
 word_bit a j i within inner =
-    let n = a / 2 ^ (96 - 32 * j) in
-    let e : 96 - 32 * j + (31 - i) ≡ 127 - (32 * j + i) = omega arith in
-    sym (bit_at_cat_low (n / 2 ^ 32) 32 _ _ (omega arith))
-    ∙ ap (λ x. bit_at x (31 - i)) (div-add-mod' n _)
-    ∙ ap (λ x. x % 2) (shr-shr a _ _)
-    ∙ ap (bit_at a) e
+    let e : 31 - i + (96 - 32 * j) ≡ 127 - (32 * j + i) = omega arith in
+    bit_at-mod _ 32 (31 - i) (omega arith) ∙ bit_at-shr a _ _ ∙ ap (bit_at a) e
 
 -- ---- the loop of `product`
 

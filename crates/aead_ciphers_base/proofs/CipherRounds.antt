@@ -1,5 +1,5 @@
 -- One more round.
-use Rattle.std.proofs.Common.{◌≡◌, ℕ, zero, suc, ◌+◌, ◌-◌, ◌<◌, List, refl, ◌∙◌, ap, arith}
+use Rattle.std.proofs.Common.{◌≡◌, ℕ, suc, ◌+◌, ◌-◌, ◌<◌, List, refl, ◌∙◌, ap, arith}
 use Rattle.aead_ciphers_base.specs.Aes.{add_round_key, mix_columns, shift_rows, sub_bytes, rounds, cipher}
 
 pub rounds_none : (w : List (List ℕ)) (b : List ℕ) → rounds w b 0 ≡ add_round_key w 0 b

@@ -4,7 +4,9 @@ use Rattle.std.proofs.Common.{◌∙◌, arith, inl, inr, bit_xor, if◌then◌e
 use Rattle.std.specs.Prelude.{◌==◌}
 use Rattle.std.specs.List.{range_with_len}
 use Rattle.std.specs.Int.Bits.{xor_shr, xor_mod, xor_block, xor_shifted, xor_self as bit_xor_self}
-use Rattle.std.proofs.lemmas.Nat.{field_of, mod-pow-add}
+use Rattle.std.proofs.lemmas.Nat.{field_of, mod-pow-add, pow_pos, shr-shr}
+use Rattle.std.proofs.lemmas.Nat.Bits.{bit_at_cat_low}
+use Rattle.std.specs.Int.{bit_at}
 use Rattle.std.proofs.lemmas.Bool.{cases_eq, cases_lt, and_parts, cond-true, cond-false, eqb-true}
 use Rattle.aead_ciphers_base.specs.Polynomial.{◌xor◌}
 use Rattle.aead_ciphers_base.specs.ByteField.{bits_of, value_of}
@@ -162,3 +164,12 @@ bits_of-mod (suc k) n =
     let low : n % 2 ^ (k + 1) % 2 ≡ n % 2 = omega arith in
     ap (λ j. bits_of (suc k) (n % 2 ^ j)) s
     ∙ ap₂ (λ (b : Bool) (q : List Bool). b ∷ q) (ap (λ t. t == 1) low) (ap (bits_of k) (field_of n k 1) ∙ bits_of-mod k _)
+
+-- a bit of a number that is shifted, and of one that is cut
+pub bit_at-shr : (x s q : ℕ) → bit_at (x / 2 ^ s) q ≡ bit_at x (q + s)
+bit_at-shr x s q = let e : s + q ≡ q + s = omega arith in ap (λ t. t % 2) (shr-shr x s q) ∙ ap (bit_at x) e
+
+pub bit_at-mod : (x w q : ℕ) → q < w → bit_at (x % 2 ^ w) q ≡ bit_at x q
+bit_at-mod x w q h =
+    let whole : x / 2 ^ w * 2 ^ w + x % 2 ^ w ≡ x = omega (arith, pow_pos w) in
+    sym (bit_at_cat_low (x / 2 ^ w) w _ q h) ∙ ap (λ t. bit_at t q) whole

@@ -4,7 +4,7 @@ use Rattle.std.proofs.Common.{Bool, true, false, ◌&&◌, List, [], ◌++◌, l
 use Rattle.std.proofs.Common.{slice_index, slice_index_or, nat_lt, if◌then◌else◌, div-one}
 use Rattle.std.specs.Prelude.{◌==◌}
 use Rattle.std.specs.Int.{bit_at, w64, to_le_bytes, from_le_bytes}
-use Rattle.std.proofs.lemmas.Nat.{shr-shr, pow_pos, le_bytes_8}
+use Rattle.std.proofs.lemmas.Nat.{pow_pos, le_bytes_8}
 use Rattle.std.proofs.lemmas.List.{get_or_append_left, get_or-append_right, get_or-take, get_or-drop, get_or_past, length-take, length-take-le, length-drop}
 use Rattle.std.proofs.lemmas.List.{take_all, take-append-drop}
 use Rattle.std.proofs.lemmas.Nat.Bits.{bit_at_xor, bit_at_and, bit_at-lt, bit_at_cat_low, bit_at_cat_high, bit_at-zero}
@@ -14,21 +14,12 @@ use Rattle.aead_ciphers_base.specs.Polynomial.{◌xor◌}
 use Rattle.aead_ciphers_base.specs.ByteField.{bits_of, value_of}
 use Rattle.aead_ciphers_base.specs.Planes.{plane_byte, plane_block, word_bit, exchanged_from}
 use Rattle.aead_ciphers_base.specs.declared.aes.pack.TheConstants.{LOW, EIGHTHS}
-use Rattle.aead_ciphers_base.proofs.PolynomialBits.{xor_comm}
-use Rattle.aead_ciphers_base.proofs.NumberBits.{by_digit, by_digits, all_below, all_below_at, same_below, same_in_table, value_of-bits_of, length-bits_of}
+use Rattle.aead_ciphers_base.proofs.NumberBits.{bit_at-mod, bit_at-shr, by_digit, by_digits, all_below, all_below_at, same_below, same_in_table, value_of-bits_of, length-bits_of}
 use Rattle.aead_ciphers_base.proofs.PolynomialSums.{same_polynomials}
 use Rattle.aead_ciphers_base.proofs.PlaneBits.{set-xor, set-and, bits_of_at}
 use Rattle.aead_ciphers_base.proofs.PlaneBlocks.{state_is, by_four}
 use Rattle.aead_ciphers_base.specs.Bytes.{each_below}
 use Rattle.aead_ciphers_base.proofs.EachLemmas.{get_or-each}
-
-pub bit_at-shr : (x s q : ℕ) → bit_at (x / 2 ^ s) q ≡ bit_at x (q + s)
-bit_at-shr x s q = let e : s + q ≡ q + s = omega arith in ap (λ t. t % 2) (shr-shr x s q) ∙ ap (bit_at x) e
-
-pub bit_at-mod : (x w q : ℕ) → q < w → bit_at (x % 2 ^ w) q ≡ bit_at x q
-bit_at-mod x w q h =
-    let whole : x / 2 ^ w * 2 ^ w + x % 2 ^ w ≡ x = omega (arith, pow_pos w) in
-    sym (bit_at_cat_low (x / 2 ^ w) w _ q h) ∙ ap (λ t. bit_at t q) whole
 
 bit_at-shl_low : (x s w q : ℕ) → q < w → q < s → bit_at (x * 2 ^ s % 2 ^ w) q ≡ 0
 bit_at-shl_low x s w q hw hs =

@@ -48,7 +48,7 @@ impl CounterSequence {
 
 // The nonce of a prefix and a number.
 #[tactic(auto, using(crate::proofs::SequenceLemmas::over_zeros))]
-fn nonce_of(prefix: &[u8; 4], number: u64) -> Nonce
+fn prefixed(prefix: &[u8; 4], number: u64) -> Nonce
     ensures { result ≡ prefixed_nonce prefix.now number }
 {
     let mut bytes = [0; NONCE_LEN];
@@ -77,7 +77,7 @@ impl NonceSequence for CounterSequence {
         if self.used >= self.count {
             return Err(Unspecified);
         }
-        let nonce = nonce_of(&self.prefix, self.first + self.used);
+        let nonce = prefixed(&self.prefix, self.first + self.used);
         self.used += 1;
         Ok(nonce)
     }

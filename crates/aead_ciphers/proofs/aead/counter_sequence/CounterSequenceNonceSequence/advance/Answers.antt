@@ -10,6 +10,6 @@ returns-clause-ok c =
     let small : s.first + s.used < 2 ^ 64 = omega (arith, c.self.invariant.1, c.if-self.false) in
     rw (← c.self.view_is) (record {
       open_before = search rules;
-      fresh = rw c.nonce_of-nonce.ensures (fresh_prefixed now small);
-      appended = rw c.nonce_of-nonce.ensures (spent_nonces-next prefixed_nonce now);
+      fresh = rw c.prefixed-nonce.ensures (fresh_prefixed now small);
+      appended = rw c.prefixed-nonce.ensures (spent_nonces-next prefixed_nonce now);
     })
