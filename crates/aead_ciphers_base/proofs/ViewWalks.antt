@@ -227,51 +227,50 @@ pub record Making (T Row E : RattleType) : Type 1 where
   pub start : ℕ
   pub asked : Type 0
   pub refusal : E.Denot
-  pub name_of : Row.Denot → GName
-  pub items_of : Row.Denot → List T.Denot
-  pub start_of : Row.Denot → ℕ
+  pub buffer_of : Row.Denot → Overlapping T.Denot
 
-abbrev pub making : (T Row E : RattleType) → Lft → MutBor (List T.Denot) → ℕ → Type 0 → E.Denot → (Row.Denot → GName) → (Row.Denot → List T.Denot)
-    → (Row.Denot → ℕ) → Making T Row E
-making T Row E κ s n φ e name items start =
-    record { lifetime = κ; slice = s; start = n; asked = φ; refusal = e; name_of = name; items_of = items; start_of = start }
+abbrev pub making : (T Row E : RattleType) → Lft → MutBor (List T.Denot) → ℕ → Type 0 → E.Denot → (Row.Denot → Overlapping T.Denot) → Making T Row E
+making T Row E κ s n φ e buffer = record { lifetime = κ; slice = s; start = n; asked = φ; refusal = e; buffer_of = buffer }
 
 module _ {T Row E : RattleType} (m : Making T Row E) where
   abbrev Out : RattleType
   Out = RS.the_row Row E
 
+  abbrev name : Row.Denot → GName
+  name o = (m.buffer_of o).in_out.ghost_name
+
   abbrev Same : Out.Denot → Type 0
-  Same r = IfOk r (λ o. m.name_of o ≡ m.slice.ghost_name)
+  Same r = IfOk r (λ o. name o ≡ m.slice.ghost_name)
 
   abbrev Kept : Out.Denot → Type 0
-  Kept r = IfOk r (λ o. m.items_of o ≡ m.slice.now)
+  Kept r = IfOk r (λ o. (m.buffer_of o).in_out.now ≡ m.slice.now)
 
   abbrev Begun : Out.Denot → Type 0
-  Begun r = IfOk r (λ o. m.start_of o ≡ m.start)
+  Begun r = IfOk r (λ o. (m.buffer_of o).start ≡ m.start)
 
   abbrev Refused : Out.Denot → Type 0
   Refused r = IfErr r (λ e. e ≡ m.refusal)
 
   abbrev Says : {M : Type 1} {𝓤 : Ura M} → Logic 𝓤 → Out.Denot → SProp 𝓤
-  Says {𝓤 = 𝓤} 𝓛 r = sep 𝓤 (sem 𝓛 (KeptIfErr T m.slice m.name_of r)) (sep 𝓤 (fact 𝓤 (IsOk r ↔ m.asked))
+  Says {𝓤 = 𝓤} 𝓛 r = sep 𝓤 (sem 𝓛 (KeptIfErr T m.slice name r)) (sep 𝓤 (fact 𝓤 (IsOk r ↔ m.asked))
       (sep 𝓤 (fact 𝓤 (Same r)) (sep 𝓤 (fact 𝓤 (Kept r)) (sep 𝓤 (fact 𝓤 (Begun r)) (fact 𝓤 (Refused r))))))
 
   module _ {M : Type 1} {𝓤 : Ura M} {𝓛 : Logic 𝓤} {K : Type 0} {Γ : List (Item 𝓤)} {G : Goal 𝓤 𝓛.H} where
     concludes : K → (r : Out.Denot) → (IsOk r ↔ m.asked) → Same r → Kept r → Begun r → Refused r
-        → Step K 𝓛 (raw (Says 𝓛 r) ∷ Γ) G (‵ (KeptIfErr T m.slice m.name_of r) ∷ Γ) G
+        → Step K 𝓛 (raw (Says 𝓛 r) ∷ Γ) G (‵ (KeptIfErr T m.slice name r) ∷ Γ) G
     concludes t r accepted same kept begun refused = step (λ k. tell {φ = Refused r} t refused $ tells {φ = Begun r} t begun $
         tells {φ = Kept r} t kept $ tells {φ = Same r} t same $ tells {φ = IsOk r ↔ m.asked} t accepted $ move t (1 ∷ 0 ∷ []) $ says t $ k)
 
   module _ {M : Type 1} {𝓤 : Ura M} {𝓛 : Logic 𝓤} {K : Type 0} {Γ : List (Item 𝓤)} {G : Goal 𝓤 𝓛.H} where
-    pub accepts : K → (o : Row.Denot) (v : Val) → m.asked → m.name_of o ≡ m.slice.ghost_name → m.items_of o ≡ m.slice.now → m.start_of o ≡ m.start
+    pub accepts : K → (o : Row.Denot) (v : Val) → m.asked → name o ≡ m.slice.ghost_name → (m.buffer_of o).in_out.now ≡ m.slice.now → (m.buffer_of o).start ≡ m.start
         → Step K 𝓛 (raw (Says 𝓛 (Ok o)) ∷ ‵ (Out.own_val (Ok o) (live 0 (of_list (v ∷ [])) ∷ [])) ∷ Γ) G (‵ (Row.own_val o (v ∷ [])) ∷ Γ) G
     accepts t o v h same kept begun = step (λ k. use1 𝓛 (‵ (Out.own_val (Ok o) (live 0 (of_list (v ∷ [])) ∷ []))) (ok_of 𝓛 Row E o v) $
-        nothing t $ use1 𝓛 (‵ (KeptIfErr T {E = E.Denot} m.slice m.name_of (Ok o))) (kept_in_ok 𝓛 T E.Denot m.slice m.name_of o same) $
+        nothing t $ use1 𝓛 (‵ (KeptIfErr T {E = E.Denot} m.slice name (Ok o))) (kept_in_ok 𝓛 T E.Denot m.slice name o same) $
         concludes t (Ok o) ((λ _. h), λ _. refl) same kept begun tt $ k)
 
     pub refuses : K → (e : E.Denot) (w : Val) (us : List Val) → e ≡ m.refusal → (m.asked → ⊥)
         → Step K 𝓛 (raw (Says 𝓛 (Err e)) ∷ ‵ (Out.own_val (Err e) (live 1 (of_list (w ∷ [])) ∷ [])) ∷ Γ) G
         (‵ (E.own_val e (w ∷ [])) ∷ ‵ ((MutSlice (named 0) m.lifetime T).own_val m.slice us) ∷ Γ) G
     refuses t e w us refused h = step (λ k. use1 𝓛 (‵ (Out.own_val (Err e) (live 1 (of_list (w ∷ [])) ∷ []))) (err_of 𝓛 Row E e w) $ move t (1 ∷ []) $
-        use1 𝓛 (‵ (KeptIfErr T m.slice m.name_of (Err e))) (kept_at_err 𝓛 T E.Denot m.slice m.name_of e m.lifetime us) $
+        use1 𝓛 (‵ (KeptIfErr T m.slice name (Err e))) (kept_at_err 𝓛 T E.Denot m.slice name e m.lifetime us) $
         concludes t (Err e) ((λ ok. cc), λ p. absurd (h p)) tt tt tt refused $ k)

@@ -29,11 +29,6 @@ EndsAs T s xs = fres s.ghost_name ((Array T 0).coded.code xs)
 abbrev pub LendsBehind : (T : RattleType) → MutBor (List T.Denot) → List T.Denot → MutBor (List T.Denot) → Fml
 LendsBehind T s front r = follows (Array T 0) (Array T 0) s.ghost_name r.ghost_name (λ w. front ++ w)
 
--- s ends with its own first n items, and then the last value behind the answer. After a refusal it ends as it was
-abbrev pub LendsTail : (T : RattleType) {E : Type 0} → MutBor (List T.Denot) → ℕ → Result (Overlapping T.Denot) E → Fml
-LendsTail T s n (Ok rest) = LendsBehind T s (take n s.now) rest.in_out
-LendsTail T s n (Err e) = EndsAs T s s.now
-
 -- the answer holds s itself, under `name` of its value. After a refusal s ends as it was
 abbrev pub KeptIfErr : (T : RattleType) {A E : Type 0} → MutBor (List T.Denot) → (A → GName) → Result A E → Fml
 KeptIfErr T s name r = RestsIfErr (Array T 0) s name r (λ xs. xs ≡ s.now)

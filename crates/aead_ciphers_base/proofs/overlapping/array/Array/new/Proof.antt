@@ -9,9 +9,9 @@ use Rattle.aead_ciphers_base.proofs.Walks.{Words, words_vals, words_typed, slice
 use Rattle.aead_ciphers_base.proofs.ViewWalks.{boxed, held, gone, buffer_word, struct_of, in_buffer, making, accepts, refuses}
 use Prim.Native.Nat.{zero, suc}
 use lib.Dec.{T, T_not, eqb, eqb→eq, eqb_refl, lit<}
-use mathlib.Core.Bool.{Bool, true, false, not, ◌||◌}
+use mathlib.Core.Bool.{not, ◌||◌}
 use mathlib.Core.Logic.{inl, inr}
-use mir.Facts.{or_yes, or_no}
+use mir.Facts.{T_not-not, or_yes, or_no}
 use types.Kit.{at_ret}
 use types.Match.{live}
 use contract.Running.{tables}
@@ -25,10 +25,6 @@ use Rattle.aead_ciphers_base.specs.declared.overlapping.array.Array.{Array}
 use Rattle.aead_ciphers_base.specs.contracts.overlapping.array.Array as V
 use Rattle.aead_ciphers_base.proofs.overlapping.array.Array as P
 
-not_not : (b : Bool) → T (not (not b)) → T b
-not_not true h = tt
-not_not false h = h
-
 above : (n : ℕ) → T (not (eqb n 0)) → 0 < n
 above zero h = absurd (T_not (eqb 0 0) h (eqb_refl 0))
 above (suc n) h = omega arith
@@ -41,7 +37,7 @@ not_exact m n h sizes = elim (or_yes (eqb n 0) (not (eqb m n)) h) [
 
 exact : (m n : ℕ) → T (not (eqb n 0 || not (eqb m n))) → (0 < n) × (m ≡ n)
 exact m n h =
-    let parts = or_no (eqb n 0) (not (eqb m n)) h in (above n parts.0, eqb→eq m n (not_not (eqb m n) parts.1))
+    let parts = or_no (eqb n 0) (not (eqb m n)) h in (above n parts.0, eqb→eq m n (T_not-not (eqb m n) parts.1))
 
 pub new_spec : {M : Type 1} → P.new.Statement.statement M
 new_spec 𝓤 𝓛 𝓜 𝓡 wired X n L fits =
@@ -54,8 +50,7 @@ new_spec 𝓤 𝓛 𝓜 𝓡 wired X n L fits =
     let u = slice_val x.ref_ptr (length xs) in let typed = slice_typed x.ref_ptr (length xs) is.1.0 in let number : Fits w64 s = record { fits = is.2 } in
     let words : Words Ts passed = ((held u s, is.0, (tt, (typed.1, (number, tt)))), tt) in let vals = words_vals Ts passed words in
     let m-fits : m < 2 ^ 64 = let long : length xs < 2 ^ 64 = is.1.0 in omega arith in let Row = V.the_row ℓ R K in
-    let made = making R Row LE.the_row κs.0 x s ((0 < n) × (m ≡ n)) n (λ o. o.in_out.in_out.ghost_name) (λ o. o.in_out.in_out.now)
-    (λ o. o.in_out.start) in
+    let made = making R Row LE.the_row κs.0 x s ((0 < n) × (m ≡ n)) n (λ o. o.in_out) in
     let Walk = walk_of 𝓛 T hs c in let at_end : Walk.Ghost = ((κs, qs, bounds, a, vals), tt) in let Post = Walk.post at_end in (
       words,
       -- [three tokens; the buffer; the premise]

@@ -1,6 +1,6 @@
 -- The front of the slice is lent after the input was copied to it. This walks the two calls by hand.
-use Rattle.aead_ciphers_base.proofs.WalkNames.{◌≡◌, refl, ap, ◌∙◌, List, [], ◌∷◌, ◌++◌, ℕ, ◌+◌, ◌-◌, ◌≤◌, arith, length, take, drop_list, length-drop}
-use Rattle.aead_ciphers_base.proofs.WalkNames.{length-append, named, a_type, dcons, dnil, inst_fn, GName, ‵, ◌$◌, !, move, keep, rewrite, from, of_opd}
+use Rattle.aead_ciphers_base.proofs.WalkNames.{refl, ap, ◌∙◌, List, [], ◌∷◌, ◌++◌, ℕ, ◌+◌, ◌-◌, arith, length, drop_list, length-drop}
+use Rattle.aead_ciphers_base.proofs.WalkNames.{length-append, named, a_type, dcons, dnil, inst_fn, GName, ‵, ◌$◌, !, move, keep, rewrite, of_opd}
 use Rattle.aead_ciphers_base.proofs.WalkNames.{returns, alloc_all, pass_all, free_all, look_at, get, sets, lands_as, Items, follows, Is, shows, layout}
 use Rattle.aead_ciphers_base.proofs.WalkNames.{bounded, types_at, named_lft, MutSlice, mut_slice_Lawful, nothing, heard, peeks, within}
 use Rattle.aead_ciphers_base.proofs.WalkLocals.{gets}
@@ -11,13 +11,6 @@ use denote.Param.{copied}
 use denote.Param.Laws.{copied_laws}
 use Rattle.aead_ciphers_base.specs.contracts.overlapping.base.Overlapping as O
 use Rattle.aead_ciphers_base.proofs.overlapping.base.Overlapping as P
-
--- what stands before and behind the input's length, where the input was copied to the front
-copied_parts : {A : Type 0} (xs ys : List A) (start from : ℕ) → start ≤ length xs → ys ≡ drop_list start xs ++ drop_list (length xs - start) xs → from ≡ start
-    → (take (length ys - from) ys ≡ drop_list start xs) × (drop_list (length ys - from) ys ≡ drop_list (length xs - start) xs)
-copied_parts xs ys start from within moved kept =
-    let long = ap length moved ∙ length-append (drop_list start xs) (drop_list (length xs - start) xs) in
-    at_seam _ ys _ _ moved (omega (arith, length-drop start xs, length-drop (length xs - start) xs))
 
 pub copy_within_spec : {M : Type 1} → P.copy_within.Statement.statement M
 copy_within_spec 𝓤 𝓛 𝓜 𝓡 wired X L copy clone dict bound =
@@ -39,8 +32,10 @@ copy_within_spec 𝓤 𝓛 𝓜 𝓡 wired X L copy clone dict bound =
           learns ! (λ same. learns ! (λ moved. heard ! _ (λ kept.
           peeks ! Row (Is Row) (shows 𝓛 Row) r (v ∷ []) (λ is-r. lands_as ! refl refl (typed r (v ∷ []) is-r).0 $
           -- [the buffer; two tokens; nothing of self]
-          let parts = copied_parts x.in_out.now r.in_out.now x.start r.start x.within moved kept in
-          let rest : List X.Denot = drop_list (length r.in_out.now - r.start) r.in_out.now in
+          let xs = x.in_out.now in let ys = r.in_out.now in let m : ℕ = length xs - x.start in let k : ℕ = length ys - r.start in
+          let long = ap length moved ∙ length-append (drop_list x.start xs) (drop_list m xs) in let rest = drop_list k ys in
+          let parts = at_seam k ys (drop_list x.start xs) (drop_list m xs) moved
+          (omega (arith, long, kept, x.within, length-drop x.start xs, length-drop m xs)) in
           premise ! $ tells ! lives $ move ! (2 ∷ 3 ∷ 1 ∷ []) $
           consults 𝓛 (O.into_unwritten_output.ended X) (O.into_unwritten_output.clauses X 𝓛 𝓜.mem 𝓡.returns) ! (table_of 𝓛 𝓜 𝓡)
           (P.into_unwritten_output.Met.met 𝓤 𝓛 𝓜 𝓡

@@ -34,7 +34,7 @@ new_spec 𝓤 𝓛 𝓜 𝓡 wired X L =
     let typed = slice_typed x.ref_ptr (length xs) long-fits in
     let words : Words Ts passed = ((_, are.0.0.0, typed), ((boxed n, range-is.0, (tt, (number, tt))), tt)) in let vals = words_vals Ts passed words in
     let u = slice_val x.ref_ptr (length xs) in let Row = O.the_row (named_lft 2 0 tt κs) R in
-    let made = making R Row IE.the_row κs.0 x n (n ≤ length xs) n (λ o. o.in_out.ghost_name) (λ o. o.in_out.now) (λ o. o.start) in
+    let made = making R Row IE.the_row κs.0 x n (n ≤ length xs) n (λ o. o) in
     let Walk = walk_of 𝓛 T hs c in let at_end : Walk.Ghost = ((κs, qs, bounds, a, vals), tt) in let Post = Walk.post at_end in (
       words,
       -- [two tokens; the slice; the range; the premise]

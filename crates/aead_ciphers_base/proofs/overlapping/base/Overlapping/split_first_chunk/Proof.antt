@@ -11,10 +11,8 @@ use Rattle.aead_ciphers_base.proofs.Walks.{one, Words, words_vals, words_typed, 
 use Rattle.aead_ciphers_base.proofs.Walks.{premise, says}
 use Rattle.aead_ciphers_base.proofs.ViewWalks.{boxed, held, gone, begun, at_seam, ok_of, err_of, let_go}
 use Rattle.aead_ciphers_base.proofs.LentParts.{Part, lent, lends_back}
-use native.Mathlib.Nat.{mul-le-mul_right, suc-mul, zero-mul}
-use Prim.Native.Nat.{zero, suc}
+use native.Mathlib.Nat.{mul-le-mul_right}
 use lib.Dec.{ltb→lt, nltb→le, lit<}
-use prog.Capped.{capped_is}
 use prog.Memory.{capped}
 use types.Kit.{at_ret}
 use types.Match.{live}
@@ -23,6 +21,7 @@ use denote.Param.Laws.{param_laws}
 use denote.Plain.{uint_Makes}
 use denote.Steps.{owned}
 use denote.Triple.Walked.{walk_of}
+use Rattle.std.proofs.slice.Relends.{uncapped}
 use Rattle.std.proofs.VecSteps.Shapes.{after}
 use Rattle.std.specs.contracts.result.Result as RS
 use Rattle.aead_ciphers_base.specs.Overlapping.{AnswersChunk, EndsAs, LendsBehind, LendsRest}
@@ -31,11 +30,6 @@ use Rattle.aead_ciphers_base.proofs.error.IndexError as IEP
 use Rattle.aead_ciphers_base.specs.declared.overlapping.base.Overlapping.{Overlapping}
 use Rattle.aead_ciphers_base.specs.contracts.overlapping.base as C
 use Rattle.aead_ciphers_base.proofs.overlapping.base as P
-
--- a size too large for a word is that of no item
-scaled : (n s : ℕ) → n * s < 2 ^ 63 → n * capped s ≡ n * s
-scaled zero s fit = zero-mul (capped s) ∙ sym (zero-mul s)
-scaled (suc n) s fit = ap (λ (k : ℕ). suc n * k) (capped_is s (omega (arith, suc-mul n s)))
 
 pub split_first_chunk_spec : {M : Type 1} → P.Overlapping.split_first_chunk.Statement.statement M
 split_first_chunk_spec 𝓤 𝓛 𝓜 𝓡 wired X Y Z LX LY LZ chunk d₁ once d₂ d₃ d₄ chunk-met once-met drops-x drops-z =
@@ -106,7 +100,7 @@ split_first_chunk_spec 𝓤 𝓛 𝓜 𝓡 wired X Y Z LX LY LZ chunk d₁ once 
           let in-input : k ≤ m = nltb→le m k long-enough in let within-slice : k ≤ length ys = omega arith in
           let left-fits : length ys - k < 2 ^ 64 = omega arith in let z = size (layout X) in
           let bytes : k * z ≤ length ys * z = mul-le-mul_right z within-slice in let fit : length ys * z < 2 ^ 63 = rm.1 in
-          let far : k * capped z ≡ k * z = scaled k z (omega arith) in let bytes-fit : Fits w64 (k * capped z) = record { fits = omega arith } in
+          let far : k * capped z ≡ k * z = uncapped k z (omega arith) in let bytes-fit : Fits w64 (k * capped z) = record { fits = omega arith } in
           let p : ℕ = k * capped z + s.ref_ptr.1 in let t = slice_typed (s.ref_ptr.0, p) (length ys - k) left-fits in
           skips ! $ exec ! 𝓣.C 𝓣.Λ (env fn.locals l) (after 10 fn.body) (at_ret (env fn.locals l) Post) $
           sets ! (bin ! (get ! refl) (size_word !) bytes-fit) refl (tt, bytes-fit) $

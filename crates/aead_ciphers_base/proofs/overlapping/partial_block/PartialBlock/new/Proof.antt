@@ -36,7 +36,7 @@ new_spec 𝓤 𝓛 𝓜 𝓡 wired X n L fits =
     let u = slice_val x.ref_ptr (length xs) in let typed = slice_typed x.ref_ptr (length xs) is.1.0 in let number : Fits w64 s = record { fits = is.2 } in
     let words : Words Ts passed = ((held u s, is.0, (tt, (typed.1, (number, tt)))), tt) in let vals = words_vals Ts passed words in
     let m-fits : m < 2 ^ 64 = let long : length xs < 2 ^ 64 = is.1.0 in omega arith in let Row = C.PartialBlock.the_row ℓ R K in
-    let made = making R Row Refusal κs.0 x s (m < n) m (λ o. o.in_out.ghost_name) (λ o. o.in_out.now) (λ o. o.start) in
+    let made = making R Row Refusal κs.0 x s (m < n) m (λ o. record { in_out = o.in_out; start = o.start; within = o.within }) in
     let Walk = walk_of 𝓛 T hs c in let at_end : Walk.Ghost = ((κs, qs, bounds, a, vals), tt) in let Post = Walk.post at_end in (
       words,
       -- [three tokens; the buffer; the premise]

@@ -1,18 +1,19 @@
 -- The items of a view are lent through the `&mut` to the view, which follows them. This walks the code by hand.
 use Rattle.aead_ciphers_base.proofs.WalkNames.{◌≡◌, refl, sym, subst, ap, ◌∙◌, List, [], ◌∷◌, ◌++◌, ℕ, length, take, drop_list, Ura, named, a_type, a_number}
-use Rattle.aead_ciphers_base.proofs.WalkNames.{inst_fn, Val, vstruct, vcons, vnil, of_list, SProp, ent, sep, ex, coded_list, Fml, Lft, GName, Share, flft}
+use Rattle.aead_ciphers_base.proofs.WalkNames.{inst_fn, Val, vstruct, vcons, vnil, of_list, SProp, ent, sep, coded_list, Fml, GName, flft}
 use Rattle.aead_ciphers_base.proofs.WalkNames.{fsep, fobs, fbor, Logic, sem, open_ref, ‵, ◌⊛◌, some, later, ◌$◌, ◌∵◌, !, qed, move, keep, drop, split, split3}
 use Rattle.aead_ciphers_base.proofs.WalkNames.{fsplit, fsplit3, fjoin, fjoin3, fpick, fpack, feq_l, feq_i, use1, use2, use3, await, pick, rewrite, done}
 use Rattle.aead_ciphers_base.proofs.WalkNames.{check, whole, sub, agg, look_in, stop, fld, hop, load, of_opd, addr, returns, alloc_all, pass_all, free_all}
 use Rattle.aead_ciphers_base.proofs.WalkNames.{look_at, sets, through, Arr, Body, follows, Is, shows, mem, param, number, layout, layouts, RattleType, Valss}
 use Rattle.aead_ciphers_base.proofs.WalkNames.{NamedLft, MutBor, types_at, plain, named_lft, MutSlice, Room, slice_val, mut_slice_vals, nothing, peeks}
-use Rattle.aead_ciphers_base.proofs.WalkNames.{within, shape, Goes-spent_ref}
+use Rattle.aead_ciphers_base.proofs.WalkNames.{Goes-spent_ref}
 use Rattle.aead_ciphers_base.proofs.WalkLocals.{both}
 use Rattle.aead_ciphers_base.proofs.Walks.{Words, words_vals, words_typed, slice_typed, dropped, ends, walked, tell, says}
+use Rattle.aead_ciphers_base.proofs.ViewWalks.{viewed}
 use mir.Syntax.{Ty, erased}
 use base.Logic.{guard}
 use base.Fraction.{full_share}
-use base.Fml.{Incl, fat}
+use base.Fml.{fat}
 use types.Mut.{close_ref}
 use types.Through.{hands_through}
 use denote.Array.{Array}
@@ -95,20 +96,9 @@ module _ (X : RattleType) (N : ℕ) {M : Type 1} {𝓤 : Ura M} (𝓛 : Logic �
       rewrite ! 2 (λ (k : ℕ). ‵ (fsep (Cell k) (room R k))) kept refl $
       move ! (2 ∷ []) $ fsplit ! $ move ! (1 ∷ []) $ feq_i ! (List Val) (mut_slice_vals x) (mut_slice_vals x) refl $ fjoin ! $ move ! (0 ∷ 2 ∷ 3 ∷ []) $
       fjoin3 ! $
-      nothing ! $ move ! (1 ∷ 0 ∷ []) $ fjoin ! $ feq_i ! (List Val) (word (length x.now) ∷ []) (word (length x.now) ∷ []) refl $ fjoin ! $
-      fpack ! (Valss (S ∷ [])) (within (shape (V.the_type a R (param 1 (number N)))) (x, tt) (word (length x.now) ∷ [])) (mut_slice_vals x, tt) $
+      use1 𝓛 (‵ (G.own_val (with_items d ws) (word (length x.now) ∷ []))) (viewed 𝓛 a R N (with_items d ws) (slice_val (c, e) (length x.now))) $
       move ! (1 ∷ 0 ∷ []) $ fjoin ! $
       fpack ! (List Val) (λ us. fsep (cell_at full_share G.mir us b o) (G.own_val (with_items d ws) us)) (word (length x.now) ∷ []) $ done !
-
-  abbrev After : List X.Denot → AsChunksMut X.Denot N
-  After = with_items d
-
-  abbrev Handed : Lft → Share → GName → GName → SProp 𝓤
-  Handed κ q γ γ' = sep 𝓤 (A.obs γ' ((coded_list R.coded).code xs)) (sep 𝓤 (A.bor κ (Lies n γ')) (sep 𝓤 (A.lft κ q) (sem 𝓛 (follows G (Array R 0) γ γ' After))))
-
-  hands : (κ : Lft) → Incl κ a.lft → (q : Share) (γ : GName)
-      → ent 𝓤 (sep 𝓤 (A.obs γ (G.coded.code d)) (sep 𝓤 (A.bor κ (Body (mem G) b o γ)) (A.lft κ q))) (H.⇛ (ex 𝓤 (Handed κ q γ)))
-  hands κ inc q γ = hands_through 𝓛 (mem G) (Arr (mem R) n) After κ a.lft inc b o c e γ δ Rest (λ ws. length ws ≡ n) counts back q d xs cut
 
 pub as_flattened_mut_spec : {M : Type 1} → P.as_flattened_mut.Statement.statement M
 unfolding part_of
@@ -139,7 +129,9 @@ as_flattened_mut_spec 𝓤 𝓛 𝓜 𝓡 wired X N L fits =
           fpack ! (List Val) (λ us. fsep (cell_at full_share Row.mir us b o) (Row.own_val d us)) vs $ close_ref ! tt (mem Row) d $
           use3 𝓛 (later (some (λ (δ : GName). ‵ (fobs δ ((coded_list R.coded).code d.items.now)) ⊛ ‵ (fbor κ (Lies X N 𝓛 ℓ d b o count δ))
           ⊛ ‵ (flft κ qs.0) ⊛ ‵ (follows Row (Array R 0) x.ghost_name δ (with_items d)))))
-          (hands X N 𝓛 ℓ d b o κ bounds.0 qs.0 x.ghost_name) $ await ! tt $ pick ! (λ δ. split3 ! $
+          (hands_through 𝓛 (mem Row) (Arr (mem R) count) (with_items d) κ ℓ.lft bounds.0 b o d.items.ref_ptr.0 d.items.ref_ptr.1 x.ghost_name
+          d.items.ghost_name (Rest X N 𝓛 ℓ d b o) (λ ws. length ws ≡ count) (counts X N 𝓛 ℓ d b o) (back X N 𝓛 ℓ d b o) qs.0 d d.items.now
+          (cut X N 𝓛 ℓ d b o)) $ await ! tt $ pick ! (λ δ. split3 ! $
           let r : MutBor (List X.Denot) = record { ref_ptr = d.items.ref_ptr; ghost_name = δ; now = d.items.now } in let v = slice_val d.items.ref_ptr count in
           use2 𝓛 (‵ (S.own_val r (v ∷ []))) (slice_of 𝓛 R (named 0) κ d.items.ref_ptr.0 d.items.ref_ptr.1 δ d.items.now rm) $
           move ! (1 ∷ []) $ split ! $ returns ! (look_at ! 0 refl) $ free_all ! refl $
