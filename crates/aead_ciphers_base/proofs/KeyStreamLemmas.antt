@@ -95,3 +95,5 @@ pub chacha20_encrypted-chacha20_encrypted : (key : List ℕ) (counter : ℕ) (no
     → chacha20_encrypted key counter nonce (chacha20_encrypted key counter nonce m) ≡ m
 unfolding chacha20_encrypted
 chacha20_encrypted-chacha20_encrypted key counter nonce m = xored-xored (stream_byte key counter nonce) m
+
+pub ruleset encrypted_twice = (chacha20_encrypted-chacha20_encrypted)
