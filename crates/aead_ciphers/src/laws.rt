@@ -44,6 +44,7 @@ pub fn no_nonce_twice<N: NonceSequence>(first: &SealingKey<N>, last: &SealingKey
 
 /// Encrypting twice by ChaCha20, under one key, counter and nonce, gives the message back (RFC 8439
 /// section 2.4).
+#[tactic(auto, using(aead_ciphers_base::proofs::KeyStreamLemmas::encrypted_twice))]
 pub fn encrypt_twice(key: &[u8; 32], counter: u32, nonce: &[u8; NONCE_LEN], message: &[u8])
     ensures { let ciphertext = chacha20_encrypted key.now counter nonce.now message.now
         in chacha20_encrypted key.now counter nonce.now ciphertext ≡ message.now }

@@ -96,3 +96,5 @@ module _ (key : List ℕ) (counter : ℕ) (nonce : List ℕ) where
       → chacha20_encrypted key counter nonce (chacha20_encrypted key counter nonce m) ≡ m
   unfolding chacha20_encrypted
   chacha20_encrypted-chacha20_encrypted m = xored-xored _ m
+
+pub ruleset encrypted_twice = (chacha20_encrypted-chacha20_encrypted)

@@ -67,6 +67,7 @@ impl<N: NonceSequence> SealingKey<N> {
     /// asked for first, then the sequence, and then the lengths are looked at. Refused where there is no room or the
     /// sequence refuses; and, with the nonce spent, where the message is longer than 2^36 - 32 bytes or the AAD has
     /// 2^61 bytes or more.
+    #[tactic(auto, using(crate::proofs::SealLemmas::no_room_step))]
     pub fn seal_in_place_append_tag<B: InOut>(
         &mut self,
         aad: Aad<'_>,

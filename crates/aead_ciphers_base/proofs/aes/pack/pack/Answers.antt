@@ -3,5 +3,5 @@ use Rattle.aead_ciphers_base.proofs.aes.pack.pack.Goals as goal
 
 pub returns : goal.returns
 returns c =
-    packed_byte _ c.transpose_bytes.result c.transpose_bits.result c.args.blocks c.transpose_bytes.ensures c.transpose_bits.ensures
+    packed_byte _ _ _ c.args.blocks c.transpose_bytes.ensures c.transpose_bits.ensures
     c.words_of-w0.ensures c.words_of-w2.ensures c.words_of-w4.ensures c.words_of-w6.ensures

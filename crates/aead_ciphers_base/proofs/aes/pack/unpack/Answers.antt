@@ -4,6 +4,6 @@ use Rattle.aead_ciphers_base.proofs.aes.pack.unpack.Goals as goal
 
 pub returns : goal.returns
 returns c =
-    unpacked_block c.args.planes c.transpose_bits.result c.transpose_bytes.result
+    unpacked_block _ _ _
     (c.block_of.result ∷ c.block_of-2.result ∷ c.block_of-3.result ∷ c.block_of-4.result ∷ []) c.transpose_bits.ensures c.transpose_bytes.ensures
     (sym c.block_of.ensures) (sym c.block_of-2.ensures) (sym c.block_of-3.ensures) (sym c.block_of-4.ensures)

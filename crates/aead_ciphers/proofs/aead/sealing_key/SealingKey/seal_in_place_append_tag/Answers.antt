@@ -1,14 +1,9 @@
 use Rattle.std.proofs.Common.{◌≡◌, ◌++◌, ◌-◌, ◌∙◌, length, take, replicate}
 use Rattle.std.proofs.Math.Seq.{take-append_seam}
 use Rattle.aead_ciphers.specs.Steps.{no_nonce}
-use Rattle.aead_ciphers.proofs.SealLemmas.{no_room_step, grown_less, grown_more, grown_front, spent_step}
+use Rattle.aead_ciphers.proofs.SealLemmas.{grown_less, grown_more, grown_front, spent_step}
 use Rattle.aead_ciphers.proofs.aead.sealing_key.SealingKey.seal_in_place_append_tag.Goals as goal
 use Rattle.aead_ciphers.proofs.aead.sealing_key.SealingKey.seal_in_place_append_tag.Goals.{in-Ok, in-Err}
-
-pub returns-in_err-grow_by_tag-clause-step : goal.returns-in_err-grow_by_tag-clause-step
-returns-in_err-grow_by_tag-clause-step g c =
-    let e = c.in_err-grow_by_tag.ensures in
-    no_room_step _ _ _ _ _ _ _ _ c.from_residual.result c.from_residual.ensures.0 e.refused e.kept
 
 pub returns-clause-step : goal.returns-clause-step
 returns-clause-step g c =
