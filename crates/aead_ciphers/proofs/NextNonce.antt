@@ -42,4 +42,4 @@ pub lent_next : {E : Type 0} (is_next : List ℕ → Type 0) (plaintext : List �
     → IfOk result (λ lent. UnderNext is_next (λ next. lent.now ≡ plaintext next))
 lent_next is_next plaintext (Ok n) (Ok lent) end h = λ next given. front_of lent end ∙ h next given
 lent_next is_next plaintext answer (Err f) end h = tt
-lent_next is_next plaintext (Err e) (Ok lent) end h = let no : false ≡ true = end.accepts in absurd (cc)
+lent_next is_next plaintext (Err e) (Ok lent) end h = let no = end.accepts in absurd (cc)

@@ -3,7 +3,7 @@ use Rattle.std.proofs.Common.{arith, refl, sym, ap, ◌∙◌, ◌≡◌, ℕ, z
 use Rattle.std.proofs.Common.{add-one, length-drop, length-append, append_assoc, append-nil}
 use Rattle.std.proofs.lemmas.List.{drop-drop, map-append}
 use Rattle.std.proofs.lemmas.Fn.{FoldsTo-push}
-use Rattle.std.proofs.Math.Nat.{suc-mul, add_comm, mod-add-div', div-mul-le_self, mul-le-mul_right}
+use Rattle.std.proofs.Math.Nat.{suc-mul, add_comm, mod-add-div'}
 use Rattle.std.proofs.Math.Seq.{take-append_seam, drop-append_seam}
 use Rattle.std.specs.Borrow.{Bor}
 use Rattle.std.specs.Fn.{Mut, CalledAt, TakesAt}
@@ -32,14 +32,6 @@ first_chunks_split n (suc i) m xs =
 
 first_chunks_more : {T : Type 0} (n i : ℕ) (xs : List T) → first_chunks n (i + 1) xs ≡ first_chunks n i xs ++ (take n (drop (i * n) xs) ∷ [])
 first_chunks_more n i xs = first_chunks_split n i 0 xs
-
--- block i ends within the list
-pub block_fits : (i n len start : ℕ) → i < (len - start) / n → start ≤ len → start + (i * n + n) ≤ len
-block_fits i n len start h w =
-    let up : suc i * n ≤ (len - start) / n * n = mul-le-mul_right n h in
-    let all : (len - start) / n * n ≤ len - start = div-mul-le_self (len - start) n in
-    let e : suc i * n ≡ i * n + n = suc-mul i n in
-    omega arith
 
 module _ {T C F : Type 0} (items : C → List T) (g : Mut F (Bor C × Unit {0}) C) (n : ℕ) (f : F) (old : List T) (start : ℕ) where
   -- the first i blocks are done

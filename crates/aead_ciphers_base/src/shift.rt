@@ -7,7 +7,6 @@ ghost use Rattle.aead_ciphers_base.specs.Shift.{ShiftsBlocks, TakesBlocks};
 use crate::overlapping::{Chunk, Overlapping, chunk_at};
 
 /// Each block of the input goes through `transform` to the front of the slice, in order.
-#[tactic(auto, using(crate::proofs::ShiftedBlocks::block_fits))]
 pub fn shift_full_blocks<C: Chunk<u8>, F: FnMut(&C) -> C>(
     in_out: Overlapping<'_, u8>,
     mut transform: F,

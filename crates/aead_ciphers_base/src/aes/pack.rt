@@ -21,7 +21,6 @@ const LOW: [u64; 6] = [
 ];
 
 // A delta swap: exchanges the bits of `a` at places with digit `k` one and those of `b` with digit `k` zero.
-#[tactic(auto, using(crate::proofs::PlanePacking::shift_is, crate::proofs::PlanePacking::shift_lt, crate::proofs::PlanePacking::delta_swap_first, crate::proofs::PlanePacking::delta_swap_second))]
 #[inline(always)]
 fn delta_swap(a: u64, b: u64, k: usize) -> (u64, u64)
     requires { k < 6 }
@@ -37,7 +36,6 @@ fn delta_swap(a: u64, b: u64, k: usize) -> (u64, u64)
 
 // Exchanges digit `k` of each place and the highest digit of the word's number, and turns the
 // number's digits: the highest becomes the lowest.
-#[tactic(auto, using(crate::proofs::PlanePacking::exchange_digits_is))]
 #[inline(always)]
 fn exchange_digits(words: [u64; 8], k: usize) -> [u64; 8]
     requires { k < 6 }

@@ -1,6 +1,28 @@
-use Rattle.std.proofs.Common.{arith, rules, refl, sym, ◌∙◌, ◌≡◌, ap, subst, ℕ, ◌-◌, ◌*◌, ◌/◌, ◌<◌, drop, length, length-drop}
-use Rattle.aead_ciphers_base.proofs.ShiftedBlocks.{block_fits, may_take, shift_more, shifts_all}
+use Rattle.std.proofs.Common.{arith, rules, refl, sym, ◌∙◌, ◌≡◌, ap, subst, ℕ, suc, ◌+◌, ◌-◌, ◌*◌, ◌/◌, ◌<◌, ◌≤◌, drop, length, length-drop}
+use Rattle.std.proofs.Math.Nat.{suc-mul, div-mul-le_self, mul-le-mul_right}
+use Rattle.aead_ciphers_base.proofs.ShiftedBlocks.{may_take, shift_more, shifts_all}
 use Rattle.aead_ciphers_base.proofs.shift.shift_full_blocks.Goals as goal
+
+-- block i ends within the list
+block_fits : (i n len start : ℕ) → i < (len - start) / n → start ≤ len → start + (i * n + n) ≤ len
+block_fits i n len start h w =
+    let up : suc i * n ≤ (len - start) / n * n = mul-le-mul_right n h in
+    let all : (len - start) / n * n ≤ len - start = div-mul-le_self (len - start) n in
+    let e : suc i * n ≡ i * n + n = suc-mul i n in
+    omega arith
+
+-- the products are of two variables, and `search` alone is slow to bound them
+pub overflow_mul-from : goal.overflow_mul-from
+overflow_mul-from g c = search (rules, block_fits c.loop-i.i c.chunk_len-size.result _ c.args.in_out.start c.loop-i-test.true c.args.in_out.within)
+
+pub chunk_at-requires : goal.chunk_at-requires
+chunk_at-requires g c = search (rules, block_fits c.loop-i.i c.chunk_len-size.result _ c.args.in_out.start c.loop-i-test.true c.args.in_out.within)
+
+pub overflow_add-place : goal.overflow_add-place
+overflow_add-place g c = search (rules, block_fits c.loop-i.i c.chunk_len-size.result _ c.args.in_out.start c.loop-i-test.true c.args.in_out.within)
+
+pub slice_bounds-place-end : goal.slice_bounds-place-end
+slice_bounds-place-end g c = search (rules, block_fits c.loop-i.i c.chunk_len-size.result _ c.args.in_out.start c.loop-i-test.true c.args.in_out.within)
 
 pub transform-output-requires : goal.transform-output-requires
 transform-output-requires g c =
