@@ -54,7 +54,7 @@ hash_with {bs = bs} {more = more} {xi} {xi'} e eb step start =
 pub absorbs_none : (s : HashState) → Absorbs s [] s
 absorbs_none s = record {
   kept = refl;
-  hashed = λ done at. subst (λ bs. IsHashOf s.hash_key bs s.xi) (sym (ap (λ bs. done ++ bs) (padded_blocks_none [] refl) ∙ append-nil done)) at;
+  hashed = λ done at. subst (λ bs. IsHashOf s.hash_subkey bs s.xi) (sym (ap (λ bs. done ++ bs) (padded_blocks_none [] refl) ∙ append-nil done)) at;
 }
 
 -- the first d bytes of a text were taken in, which are whole blocks, and n more
@@ -66,7 +66,7 @@ absorbs_more {u = u} {part} text d n whole room is first then =
     record {
       kept = then.kept ∙ ap (λ (s : HashState). record s { xi = u.xi }) first.kept;
       hashed = λ done at.
-          hash_with (ap (λ (s : HashState). s.hash_key) first.kept)
+          hash_with (ap (λ (s : HashState). s.hash_subkey) first.kept)
           (append_assoc done (padded_blocks front) (padded_blocks part)
           ∙ ap (λ bs. done ++ bs) (sym parts ∙ ap padded_blocks (ap (λ xs. front ++ xs) is ∙ sym (take-add d n text))))
           then.hashed (first.hashed done at);
@@ -86,16 +86,16 @@ whole_and_rest bs input whole rest we re =
 
 -- what ends a hash of an AAD and a ciphertext answers the tag
 pub tag_found : (cipher : List ℕ → List ℕ) (nonce aad text : List ℕ) {iv result : List ℕ} {started ended : HashState}
-    → started.hash_key ≡ cipher zero_block → started.aad_len ≡ length aad → started.in_out_len ≡ length text → iv ≡ counter_block nonce 1
-    → IsHashOf started.hash_key (padded_blocks aad) started.xi → Absorbs started text ended
-    → ((done : List (List ℕ)) → IsHashOf ended.hash_key done ended.xi
-    → result ≡ ghash ended.hash_key (done ++ length_block ended.aad_len ended.in_out_len ∷ []) ⊕ cipher iv)
+    → started.hash_subkey ≡ cipher zero_block → started.aad_len ≡ length aad → started.in_out_len ≡ length text → iv ≡ counter_block nonce 1
+    → IsHashOf started.hash_subkey (padded_blocks aad) started.xi → Absorbs started text ended
+    → ((done : List (List ℕ)) → IsHashOf ended.hash_subkey done ended.xi
+    → result ≡ ghash ended.hash_subkey (done ++ length_block ended.aad_len ended.in_out_len ∷ []) ⊕ cipher iv)
     → result ≡ gcm_tag cipher nonce aad text
 unfolding gcm_tag hashed
 tag_found cipher nonce aad text {iv} {ended = ended} eh ea en ei start absorbed finish =
     let bs = padded_blocks aad ++ padded_blocks text in
     let kept = absorbed.kept in
-    let same_key = ap (λ (s : HashState). s.hash_key) kept in
+    let same_key = ap (λ (s : HashState). s.hash_subkey) kept in
     let lengths = ap₂ length_block (ap (λ (s : HashState). s.aad_len) kept ∙ ea) (ap (λ (s : HashState). s.in_out_len) kept ∙ en) in
     finish bs (subst (λ h. IsHashOf h bs ended.xi) (sym same_key) (absorbed.hashed (padded_blocks aad) start))
     ∙ ap₂ (λ k b. ghash k (bs ++ b ∷ []) ⊕ cipher iv) (same_key ∙ eh) lengths

@@ -10,7 +10,7 @@ pub record IsHashOf (h : List ℕ) (blocks : List (List ℕ)) (xi : List ℕ) : 
 
 -- what a contract sees of a `Context`: its hash subkey, the lengths in bytes that its last block has, and its running block
 pub record HashState : Type 0 where
-  pub hash_key : List ℕ
+  pub hash_subkey : List ℕ
   pub aad_len : ℕ
   pub in_out_len : ℕ
   pub xi : List ℕ
@@ -18,8 +18,8 @@ pub record HashState : Type 0 where
 -- the hash took in bytes, in blocks, the last padded with zeros, and nothing else of it changed
 pub record Absorbs (was : HashState) (input : List ℕ) (now : HashState) : Type 0 where
   pub kept : now ≡ record was { xi = now.xi }
-  pub hashed : (done : List (List ℕ)) → IsHashOf was.hash_key done was.xi
-      → IsHashOf was.hash_key (done ++ padded_blocks input) now.xi
+  pub hashed : (done : List (List ℕ)) → IsHashOf was.hash_subkey done was.xi
+      → IsHashOf was.hash_subkey (done ++ padded_blocks input) now.xi
 
 -- the field products of so many blocks, where they are hashed
 abbrev pub products_of : Bool → ℕ → ℕ

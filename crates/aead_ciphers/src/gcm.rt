@@ -73,13 +73,13 @@ impl Xi {
 /// A hash that takes one block.
 pub trait UpdateBlock {
     // The hash subkey.
-    ghost hash_key: { Self → List ℕ };
+    ghost hash_subkey: { Self → List ℕ };
 
     /// Takes in one block, by one field product.
     fn update_block(&self, xi: &mut Xi, block: Block, work: &mut Work)
         requires { CanAdd work.old 0 1 }
-        ensures hashed { (done : List (List ℕ)) → IsHashOf (hash_key self.now) done xi.old
-            → IsHashOf (hash_key self.now) (done ++ block ∷ []) xi.new }
+        ensures hashed { (done : List (List ℕ)) → IsHashOf (hash_subkey self.now) done xi.old
+            → IsHashOf (hash_subkey self.now) (done ++ block ∷ []) xi.new }
         ensures worked { Adds work.old work.new 0 1 };
 }
 
@@ -88,8 +88,8 @@ pub trait UpdateBlocks: UpdateBlock {
     /// Takes in the blocks in order, by one field product each.
     fn update_blocks(&self, xi: &mut Xi, input: AsChunks<'_, u8, BLOCK_LEN>, work: &mut Work)
         requires { CanAdd work.old 0 (length input.items.now / 16) }
-        ensures hashed { (done : List (List ℕ)) → IsHashOf (Self.hash_key self.now) done xi.old
-            → IsHashOf (Self.hash_key self.now) (done ++ blocks 16 input.entry.items.now) xi.new }
+        ensures hashed { (done : List (List ℕ)) → IsHashOf (Self.hash_subkey self.now) done xi.old
+            → IsHashOf (Self.hash_subkey self.now) (done ++ blocks 16 input.entry.items.now) xi.new }
         ensures worked { Adds work.old work.new 0 (length input.entry.items.now / 16) };
 }
 
@@ -127,7 +127,7 @@ fn number(block: Block) -> u128
 }
 
 impl UpdateBlock for Key {
-    ghost hash_key = { λ key. key };
+    ghost hash_subkey = { λ key. key };
 
     fn update_block(&self, xi: &mut Xi, block: Block, work: &mut Work) {
         let sum = number(xi.block) ^ number(block);

@@ -52,7 +52,7 @@ impl Absorb for Unhashed {
 
     ghost hashes = { false };
 
-    ghost state = { λ _. record { hash_key = []; aad_len = 0; in_out_len = 0; xi = [] } };
+    ghost state = { λ _. record { hash_subkey = []; aad_len = 0; in_out_len = 0; xi = [] } };
 
     fn absorb(&mut self, _input: &[u8], _work: &mut Work) {}
 }
@@ -65,9 +65,9 @@ pub(super) fn finish<A: EncryptBlock, G: UpdateBlock>(
     work: &mut Work,
 ) -> Tag
     requires { CanAdd work.old 1 1 }
-    ensures tag { (done : List (List ℕ)) → IsHashOf auth.entry.hash_key done auth.entry.xi →
+    ensures tag { (done : List (List ℕ)) → IsHashOf auth.entry.hash_subkey done auth.entry.xi →
         let last = length_block auth.entry.aad_len auth.entry.in_out_len in
-        result ≡ ghash auth.entry.hash_key (done ++ last ∷ []) ⊕ A.cipher aes.now tag_iv }
+        result ≡ ghash auth.entry.hash_subkey (done ++ last ∷ []) ⊕ A.cipher aes.now tag_iv }
     ensures worked { Adds work.old work.new 1 1 }
 {
     let mask = aes.encrypt_block(tag_iv.into_block_less_safe(), work);

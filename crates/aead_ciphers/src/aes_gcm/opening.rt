@@ -27,7 +27,7 @@ pub(super) fn open_with<A: EncryptCtr32, G: UpdateBlocks>(
     work: &mut Work,
 ) -> Result<(), Unspecified>
     requires sums { CanOpen work.old (length (aad_bytes aad)) src.start (length in_out.old) }
-    requires subkey { G.hash_key gcm.now ≡ A.cipher aes.now zero_block }
+    requires subkey { G.hash_subkey gcm.now ≡ A.cipher aes.now zero_block }
     ensures opened { Opened (A.cipher aes.now) nonce (aad_bytes aad.entry) received_tag src.start
         in_out.old (is_ok result) in_out.new }
     ensures worked { OpenWork (length (aad_bytes aad.entry)) src.start (length in_out.old) result

@@ -22,7 +22,7 @@ pub(super) fn seal_with<A: EncryptCtr32, G: UpdateBlocks>(
     work: &mut Work,
 ) -> Result<Tag, Unspecified>
     requires sums { CanSeal work.old (length (aad_bytes aad)) (length in_out.old) }
-    requires subkey { G.hash_key gcm.now ≡ A.cipher aes.now zero_block }
+    requires subkey { G.hash_subkey gcm.now ≡ A.cipher aes.now zero_block }
     ensures accepted { IsOk result ↔ Fits (length (aad_bytes aad.entry)) (length in_out.old) }
     ensures ciphertext { OnOk result (in_out.new ≡ gcm_encrypted (A.cipher aes.now) nonce in_out.old) }
     ensures tag { IfOk result

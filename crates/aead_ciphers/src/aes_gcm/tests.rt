@@ -112,11 +112,11 @@ fn work_at(
     rt: &impl Abort,
     alloc: Global,
     key: &aes::Key,
-    hash_key: &gcm::Key,
+    gcm_key: &gcm::Key,
     lens: (usize, usize),
     tallies: (u64, u64),
 ) -> Result<(), Fail>
-    requires { hash_key.now ≡ aes_cipher key.now zero_block }
+    requires { gcm_key.now ≡ aes_cipher key.now zero_block }
 {
     let (blocks, products) = (Cell::new(0), Cell::new(0));
     let cipher = CountingCipher {
@@ -124,7 +124,7 @@ fn work_at(
         blocks: &blocks,
     };
     let hash = CountingHash {
-        key: hash_key,
+        key: gcm_key,
         products: &products,
     };
     let (len, aad_len) = lens;
@@ -145,7 +145,7 @@ fn work_at(
 fn work_that_is_asked_for(rt: HostRuntime) -> Result<(), Fail> {
     let key = aes::Key::new(KeyBytes::AES_128(&[7; 16]))?;
     let subkey = key.encrypt_block(ZERO_BLOCK, &mut Work::new());
-    let hash_key = gcm::Key::new(gcm::KeyValue::new(subkey));
+    let gcm_key = gcm::Key::new(gcm::KeyValue::new(subkey));
     for (lens, tallies) in [
         ((0, 0), (1, 1)),
         ((1, 1), (2, 3)),
@@ -154,7 +154,7 @@ fn work_that_is_asked_for(rt: HostRuntime) -> Result<(), Fail> {
         ((64, 0), (5, 5)),
         ((3073, 20), (194, 196)),
     ] {
-        work_at(&rt, rt.alloc(), &key, &hash_key, lens, tallies)?;
+        work_at(&rt, rt.alloc(), &key, &gcm_key, lens, tallies)?;
     }
     Ok(())
 }

@@ -33,7 +33,7 @@ impl<'key, K: UpdateBlock> Model for Context<'key, K> {
     ghost Value = { HashState };
 
     ghost view = { λ context. record {
-      hash_key = K.hash_key context.key.now;
+      hash_subkey = K.hash_subkey context.key.now;
       aad_len = context.aad_len;
       in_out_len = context.in_out_len;
       xi = context.xi;
@@ -55,11 +55,11 @@ impl<'key, K: UpdateBlock> Context<'key, K> {
         requires { Fits (length (aad_bytes aad)) in_out_len
             → CanAdd work.old 0 ((length (aad_bytes aad) + 15) / 16) }
         ensures accepted { IsOk result ↔ Fits (length (aad_bytes aad.entry)) in_out_len }
-        ensures hash_key { IfOk result (λ context. context.hash_key ≡ K.hash_key key.now) }
+        ensures hash_subkey { IfOk result (λ context. context.hash_subkey ≡ K.hash_subkey key.now) }
         ensures aad_len { IfOk result (λ context. context.aad_len ≡ length (aad_bytes aad.entry)) }
         ensures in_out_len { IfOk result (λ context. context.in_out_len ≡ in_out_len) }
         ensures hashed { IfOk result
-            (λ context. IsHashOf context.hash_key (padded_blocks (aad_bytes aad.entry)) context.xi) }
+            (λ context. IsHashOf context.hash_subkey (padded_blocks (aad_bytes aad.entry)) context.xi) }
         ensures worked { OnOk result
             (Adds work.old work.new 0 ((length (aad_bytes aad.entry) + 15) / 16)) }
         ensures idle { OnErr result (work.new ≡ work.old) }
@@ -83,8 +83,8 @@ impl<'key, K: UpdateBlock> Context<'key, K> {
     /// Takes in one block, by one field product.
     pub fn update_block(&mut self, block: Block, work: &mut Work)
         requires { CanAdd work.old 0 1 }
-        ensures hashed { (done : List (List ℕ)) → IsHashOf self.old.hash_key done self.old.xi
-            → IsHashOf self.old.hash_key (done ++ block ∷ []) self.new.xi }
+        ensures hashed { (done : List (List ℕ)) → IsHashOf self.old.hash_subkey done self.old.xi
+            → IsHashOf self.old.hash_subkey (done ++ block ∷ []) self.new.xi }
         ensures kept { self.new ≡ record self.old { xi = self.new.xi } }
         ensures worked { Adds work.old work.new 0 1 }
     {
@@ -96,12 +96,12 @@ impl<'key, K: UpdateBlock> Context<'key, K> {
     pub fn pre_finish<F: FnOnce(Block) -> Tag>(self, work: &mut Work, f: F) -> Tag
         requires sums { CanAdd work.old 0 1 }
         requires callable { (xi : List ℕ)
-            → ((done : List (List ℕ)) → IsHashOf self.hash_key done self.xi
-            → IsHashOf self.hash_key (done ++ length_block self.aad_len self.in_out_len ∷ []) xi)
+            → ((done : List (List ℕ)) → IsHashOf self.hash_subkey done self.xi
+            → IsHashOf self.hash_subkey (done ++ length_block self.aad_len self.in_out_len ∷ []) xi)
             → F.pre f xi }
         ensures hashed { (xi : List ℕ) × F.post f xi result
-            × ((done : List (List ℕ)) → IsHashOf self.entry.hash_key done self.entry.xi
-            → IsHashOf self.entry.hash_key
+            × ((done : List (List ℕ)) → IsHashOf self.entry.hash_subkey done self.entry.xi
+            → IsHashOf self.entry.hash_subkey
             (done ++ length_block self.entry.aad_len self.entry.in_out_len ∷ []) xi) }
         ensures worked { Adds work.old work.new 0 1 }
     {
@@ -121,8 +121,8 @@ impl<'key, K: UpdateBlocks> Context<'key, K> {
     /// Takes in the blocks in order, by one field product each.
     pub fn update_blocks(&mut self, input: AsChunks<'_, u8, BLOCK_LEN>, work: &mut Work)
         requires { CanAdd work.old 0 (length input.items.now / 16) }
-        ensures hashed { (done : List (List ℕ)) → IsHashOf self.old.hash_key done self.old.xi
-            → IsHashOf self.old.hash_key (done ++ blocks 16 input.entry.items.now) self.new.xi }
+        ensures hashed { (done : List (List ℕ)) → IsHashOf self.old.hash_subkey done self.old.xi
+            → IsHashOf self.old.hash_subkey (done ++ blocks 16 input.entry.items.now) self.new.xi }
         ensures kept { self.new ≡ record self.old { xi = self.new.xi } }
         ensures worked { Adds work.old work.new 0 (length input.entry.items.now / 16) }
     {

@@ -57,7 +57,7 @@ pub(super) struct CountingHash<'a> {
 }
 
 impl UpdateBlock for CountingHash<'_> {
-    ghost hash_key = { λ h. h.key.now };
+    ghost hash_subkey = { λ h. h.key.now };
 
     fn update_block(&self, xi: &mut Xi, block: Block, work: &mut Work) {
         add(self.products, 1);

@@ -12,7 +12,7 @@ returns-in_err-verify_slices_are_equal-clause-opened g c =
     let start = c.args.src.start in
     let was = c.args.in_out.now in
     let found = tag_found (g.A.EncryptBlock.cipher c.args.aes.now) c.args.nonce (aad_bytes c.args.aad) (drop start was)
-    (made.hash_key ∙ c.requires.subkey) made.aad_len (made.in_out_len ∙ sym (length-drop start was)) (c.increment-tag_iv.ensures.iv ∙ c.one-counter.ensures.value)
+    (made.hash_subkey ∙ c.requires.subkey) made.aad_len (made.in_out_len ∙ sym (length-drop start was)) (c.increment-tag_iv.ensures.iv ∙ c.one-counter.ensures.value)
     made.hashed (subst (λ x. Absorbs c.in_ok-auth.auth x c.absorb.new.self) (to_end start was) (c.absorb.ensures.hashed refl)) c.finish-tag.ensures.tag in
     let failed : is_ok c.from_residual-in_err-verify_slices_are_equal.result ≡ false = search rules in
     rw failed (record {
@@ -27,7 +27,7 @@ returns-clause-opened g c =
     let was = c.args.in_out.now in
     let cipher = g.A.EncryptBlock.cipher c.args.aes.now in
     let found = tag_found cipher c.args.nonce (aad_bytes c.args.aad) (drop start was)
-    (made.hash_key ∙ c.requires.subkey) made.aad_len (made.in_out_len ∙ sym (length-drop start was)) (c.increment-tag_iv.ensures.iv ∙ c.one-counter.ensures.value)
+    (made.hash_subkey ∙ c.requires.subkey) made.aad_len (made.in_out_len ∙ sym (length-drop start was)) (c.increment-tag_iv.ensures.iv ∙ c.one-counter.ensures.value)
     made.hashed (subst (λ x. Absorbs c.in_ok-auth.auth x c.absorb.new.self) (to_end start was) (c.absorb.ensures.hashed refl)) c.finish-tag.ensures.tag in
     let at = c.increment-tag_iv.ensures.counter c.args.nonce 1 c.one-counter.ensures in
     let size = length-drop start was in

@@ -25,7 +25,7 @@ returns-clause-tag g c =
     let started = c.in_ok-auth.auth in
     let made = c.in_ok-auth.ensures in
     let absorbed = c.encrypt_within-auth.ensures.hashed refl nonce 2 (c.increment-tag_iv.ensures.counter nonce 1 c.one-counter.ensures) in
-    tag_found cipher nonce (aad_bytes c.args.aad) text (made.hash_key ∙ c.requires.subkey) made.aad_len
+    tag_found cipher nonce (aad_bytes c.args.aad) text (made.hash_subkey ∙ c.requires.subkey) made.aad_len
     (made.in_out_len ∙ sym (ap length is ∙ length-counter_mode cipher nonce 2 c.args.in_out.now))
     (c.increment-tag_iv.ensures.iv ∙ c.one-counter.ensures.value) made.hashed
     (subst (λ x. Absorbs started x c.encrypt_within-auth.result) (sym is) absorbed) c.finish.ensures.tag

@@ -20,12 +20,12 @@ loop-bytes-preserved g c =
       no_block = omega arith;
       products = omega arith;
       hashed =
-          front_more (g.K.UpdateBlock.hash_key c.args.key.now) c.padded.result _ _ _ _ _
+          front_more (g.K.UpdateBlock.hash_subkey c.args.key.now) c.padded.result _ _ _ _ _
           (padded_blocks-cons rest part behind step.0 size step.2 ∙ ap (λ b. b ∷ padded_blocks behind) e)
           c.update_block.ensures.hashed c.loop-bytes.invariant.hashed;
     }
 
 pub returns-clause-hashed : goal.returns-clause-hashed
 returns-clause-hashed g c =
-    subst (λ xs. IsHashOf (g.K.UpdateBlock.hash_key c.args.key.now) (padded_blocks xs) c.loop-bytes.xi) c.as_ref-aad.ensures
+    subst (λ xs. IsHashOf (g.K.UpdateBlock.hash_subkey c.args.key.now) (padded_blocks xs) c.loop-bytes.xi) c.as_ref-aad.ensures
     (front_end _ _ _ _ (padded_blocks_none (chunks_rest c.loop-bytes.bytes-iterator) c.in-None.ensures.steps.1.0) c.loop-bytes.invariant.hashed)

@@ -9,5 +9,5 @@ invariant-loop-bytes g l = record {
   size : chunks_size l.bytes-iterator ≡ 16;
   no_block : l.work.blocks ≡ l.initial.work.blocks;
   products : l.work.products + (length (chunks_rest l.bytes-iterator) + 15) / 16 ≡ l.initial.work.products + (length l.aad + 15) / 16;
-  hashed : HashedFront (g.K.UpdateBlock.hash_key l.key) (padded_blocks (chunks_rest l.bytes-iterator)) (padded_blocks l.aad) l.xi;
+  hashed : HashedFront (g.K.UpdateBlock.hash_subkey l.key) (padded_blocks (chunks_rest l.bytes-iterator)) (padded_blocks l.aad) l.xi;
 }
