@@ -13,10 +13,8 @@ use Rattle.aead_ciphers.proofs.BlockCancellation.{IsBlock-unit, IsBlock-zero, pr
 use Rattle.aead_ciphers.proofs.BlockLists.{Blocks}
 use Rattle.aead_ciphers.proofs.BlockSquares.{X, multiple, own_square_bits, square_number}
 use Rattle.aead_ciphers.proofs.GhashBits.{length-bits, bits_high_first}
-use Rattle.aead_ciphers.proofs.GhashBlocks.{IsBlock-number, IsBlock-product, block_times, length-block_bits, same_blocks}
-use Rattle.aead_ciphers.proofs.GhashBlocks.{same_from_series, series, series-product}
-use Rattle.aead_ciphers.proofs.GhashLaws.{Sized, Sized-product, Sized-xor, multiple_of_one, series-unit, series-xor, unit_bits, xor_zero}
-use Rattle.aead_ciphers.proofs.GhashLaws.{product_assoc, product_comm, product_left_swap, product_unit, product_xor_left, product_xor_right}
+use Rattle.aead_ciphers.proofs.GhashBlocks.{IsBlock-number, IsBlock-product, block_times, length-block_bits, same_blocks, same_from_series, series, series-product}
+use Rattle.aead_ciphers.proofs.GhashLaws.{Sized, Sized-product, Sized-xor, multiple_of_one, series-unit, series-xor, unit_bits, xor_zero, product_assoc, product_comm, product_left_swap, product_unit, product_xor_left, product_xor_right}
 use Rattle.aead_ciphers.proofs.GhashPolynomial.{IsBlock-value, value_at}
 use Rattle.aead_ciphers.proofs.LinearMaps.{combined}
 use Rattle.aead_ciphers.proofs.ProductLoop.{zeros_end}

@@ -1,6 +1,5 @@
 -- The square of a polynomial, by Horner's rule in x^2, and as a linear map; what is its own square is zero or the unit.
-use Rattle.std.proofs.Common.{◌≡◌, ℕ, suc, ◌^◌, ◌<◌, ◌≤◌, ◌⊎◌, inl, inr, Bool, true, false, List, [], ◌∷◌, length, replicate}
-use Rattle.std.proofs.Common.{refl, sym, ap, ap₂, ◌∙◌, arith, if◌then◌else◌, bit_and}
+use Rattle.std.proofs.Common.{◌≡◌, ℕ, suc, ◌^◌, ◌<◌, ◌≤◌, ◌⊎◌, inl, inr, Bool, true, false, List, [], ◌∷◌, length, replicate, refl, sym, ap, ap₂, ◌∙◌, arith, if◌then◌else◌, bit_and}
 use Rattle.std.proofs.Math.Dec.{lit<}
 use Rattle.std.specs.Int.Bits.{xor_zero_l}
 use Rattle.std.proofs.lemmas.Nat.{and_le_l, xor_lt}
@@ -59,7 +58,7 @@ squares-X (b ∷ p) f =
 
 next-below : (v : ℕ) → v < 2 ^ 128 → next_multiple v < 2 ^ 128
 next-below v below =
-    let m = mask 128 _ in
+    let m = mask 128 (bit_and v 1) in
     let high = and_le_l reduction m in
     xor_lt 128 _ (bit_and reduction m) (omega arith) (omega (arith, high))
 
@@ -74,7 +73,7 @@ combined_is (b ∷ p) (suc n) v w fits below_v below_w =
     let m = modulus block_taps 128 in
     let cv = coefficients 128 v in
     let cw = coefficients 128 w in
-    let v' = next_multiple _ in
+    let v' = next_multiple (next_multiple v) in
     let w' = next_multiple w in
     let below_next = next-below v below_v in
     let even =

@@ -1,8 +1,6 @@
 -- Messages that differ have hashed lists that differ when padded.
-use Rattle.std.proofs.Common.{◌≡◌, ℕ, ◌+◌, ◌-◌, ◌*◌, ◌/◌, ◌%◌, ◌^◌, ◌<◌, List, [], ◌∷◌, ◌++◌, length, take, drop, get_or}
-use Rattle.std.proofs.Common.{replicate, refl, sym, ap, ap₂, ◌∙◌, arith, length-append, append_assoc}
+use Rattle.std.proofs.Common.{◌≡◌, ℕ, ◌+◌, ◌-◌, ◌*◌, ◌/◌, ◌%◌, ◌^◌, ◌<◌, List, [], ◌∷◌, ◌++◌, length, take, drop, get_or, replicate, refl, sym, ap, ap₂, ◌∙◌, arith, length-append, append_assoc, drop_at, ext_get_or, take_at}
 use Rattle.std.specs.Int.{from_be_bytes, to_be_bytes, w64}
-use Rattle.std.proofs.lemmas.List.{drop_at, ext_get_or, take_at}
 use Rattle.std.proofs.lemmas.Nat.{from_be_bytes-to_be_bytes_8}
 use Rattle.aead_ciphers_base.specs.Bytes.{zero_block}
 use Rattle.aead_ciphers_base.proofs.EachLemmas.{get_or-each}
@@ -58,10 +56,10 @@ same_messages a c a' c' fits fits' n e =
     let ys = padded_blocks c in
     let xs' = padded_blocks a' in
     let ys' = padded_blocks c' in
-    let last = length_block _ _ in
-    let last' = length_block _ _ in
-    let zeros = replicate _ zero_block in
-    let zeros' = replicate _ zero_block in
+    let last = length_block (length a) (length c) in
+    let last' = length_block (length a') (length c') in
+    let zeros = replicate (n - length (hashed a c)) zero_block in
+    let zeros' = replicate (n - length (hashed a' c')) zero_block in
     let ends = same_last _ _ last last'
     (append_assoc zeros _ _ ∙ e ∙ sym (append_assoc zeros' _ _)) in
     let lengths = same_lengths _ _ _ _ fits fits' ends in

@@ -1,7 +1,6 @@
 -- Two lists of blocks that differ when padded have GHASHes with a given XOR under few hash subkeys: under each, a polynomial
 -- that isn't zero has a root.
-use Rattle.std.proofs.Common.{◌≡◌, ℕ, zero, suc, ◌-◌, ◌<◌, ◌≤◌, ⊎_elim, max, List, [], ◌∷◌, ◌++◌, length, replicate, reverse}
-use Rattle.std.proofs.Common.{All, AllPairs, get_or, refl, sym, ap, ap₂, subst, ◌∙◌, arith, length-append}
+use Rattle.std.proofs.Common.{◌≡◌, ℕ, zero, suc, ◌-◌, ◌<◌, ◌≤◌, ⊎_elim, max, List, [], ◌∷◌, ◌++◌, length, replicate, reverse, All, AllPairs, get_or, refl, sym, ap, ap₂, subst, ◌∙◌, arith, length-append}
 use Rattle.std.proofs.lemmas.Bool.{cases_lt}
 use Rattle.std.proofs.lemmas.List.{length-replicate, length-reverse, reverse-reverse}
 use Rattle.aead_ciphers_base.proofs.XorLemmas.{xor_comm}
@@ -25,7 +24,7 @@ ghash-zeros : (h : List ℕ) (n : ℕ) (xs : List (List ℕ)) → Sized h → Bl
 unfolding ghash
 ghash-zeros h zero xs sh all = refl
 ghash-zeros h (suc n) xs sh all =
-    let p = power h _ in
+    let p = power h (length (replicate n zero_block ++ xs)) in
     let sp = Sized-power h _ sh in
     ap₂ ◌⊕◌ (product_comm zero_block p refl sp ∙ product_zero p sp) (ghash-zeros h n xs sh all)
     ∙ xor_comm zero_block _ ∙ xor_zero _ (Sized-ghash h xs sh (AllSized-blocks xs all))
@@ -53,7 +52,7 @@ pub few_keys : (left right : List (List ℕ)) (sum : List ℕ) (keys : List (Lis
     DifferWhenPadded left right → AllPairs (λ h k. HasInverse (h ⊕ k)) keys → All (λ h. ghash h left ⊕ ghash h right ≡ sum) keys →
     length keys ≤ max (length left) (length right)
 few_keys left right sum keys is_left is_right is_sum sized differ apart each =
-    let n = max _ _ in
+    let n = max (length left) (length right) in
     let us = zeros_before n left in
     let vs = zeros_before n right in
     let all_u = Blocks-zeros _ left is_left in
@@ -75,7 +74,7 @@ few_keys left right sum keys is_left is_right is_sum sized differ apart each =
     (λ (many : n < length keys).
     let count = length-reverse ds ∙ length-xor_blocks us vs same ∙ long in
     let zeros = all_zero keys (sum ∷ reverse ds) (omega arith) sized (is_sum, Each-reverse IsBlock ds all_d) apart root in
-    let none = subst Zeros (reverse-reverse ds) (Each-reverse (λ c. c ≡ zero_block) _ zeros.1) in
+    let none : Zeros ds = subst Zeros (reverse-reverse ds) (Each-reverse (λ c. c ≡ zero_block) _ zeros.1) in
     absurd (differ (same_lists us vs same all_u all_v none)))
     (λ (few : length keys ≤ n). few)
     (cases_lt n _)

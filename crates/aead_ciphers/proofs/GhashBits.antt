@@ -1,19 +1,16 @@
 -- The bits of a number, as coefficients, under XOR, masks and a shift by one; and its bytes.
-use Rattle.std.proofs.Common.{◌≡◌, ℕ, zero, suc, ◌+◌, ◌-◌, ◌/◌, ◌%◌, ◌^◌, ◌<◌, Bool, true, false, List, [], ◌∷◌, ◌++◌, length, refl, sym, ap, ap₂, ◌∙◌, arith}
-use Rattle.std.proofs.Common.{if◌then◌else◌, ◌==◌, bit_and, bit_xor, mod-eq_of_lt, pow-suc, div-one}
+use Rattle.std.proofs.Common.{◌≡◌, ℕ, zero, suc, ◌+◌, ◌-◌, ◌/◌, ◌%◌, ◌^◌, ◌<◌, Bool, true, false, List, [], ◌∷◌, ◌++◌, length, refl, sym, ap, ap₂, ◌∙◌, arith, if◌then◌else◌, ◌==◌, bit_and, bit_xor, mod-eq_of_lt, pow-suc, div-one, pow_pos, reverse}
 use Rattle.std.proofs.Math.Bool.{and-false, and-true}
 use Rattle.std.proofs.Math.Nat.{mod_self}
 use Rattle.std.specs.Int.{bit_at}
 use Rattle.std.specs.Int.Bits.{and_zero_r}
 use Rattle.std.proofs.Math.ListN.{get_or-eq_default}
-use Rattle.std.proofs.lemmas.Nat.{and_mask, pow_pos}
+use Rattle.std.proofs.lemmas.Nat.{and_mask}
 use Rattle.std.proofs.lemmas.Nat.Bits.{bit_at_xor, bit_at-zero, bit_at-suc, bit_at-lt, bit_at_above}
-use Rattle.std.specs.Prelude.{reverse}
 use Rattle.std.proofs.lemmas.List.{reverse-append}
 use Rattle.aead_ciphers_base.specs.ByteField.{bits_of}
 use Rattle.aead_ciphers_base.specs.Polynomial.{◌xor◌, coefficient}
-use Rattle.aead_ciphers_base.proofs.PolynomialBits.{Series, add, add_assoc, add_none, add_self, none, same_series, same_steps, scale, shift, shift-add}
-use Rattle.aead_ciphers_base.proofs.PolynomialBits.{xor_zero}
+use Rattle.aead_ciphers_base.proofs.PolynomialBits.{Series, add, add_assoc, add_none, add_self, none, same_series, same_steps, scale, shift, shift-add, xor_zero}
 use Rattle.aead_ciphers_base.proofs.PolynomialSums.{polynomial_sum, coefficient-polynomial_sum}
 use Rattle.aead_ciphers_base.proofs.NumberBits.{by_digits}
 use Rattle.aead_ciphers_base.proofs.PolynomialAction.{mul_x}

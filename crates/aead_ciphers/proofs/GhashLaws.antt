@@ -1,6 +1,5 @@
 -- The ring of blocks, and GHASH of one block more.
-use Rattle.std.proofs.Common.{◌≡◌, ℕ, zero, suc, ◌<◌, Bool, true, false, List, [], ◌∷◌, ◌++◌, length, get_or, replicate, flat_map, refl, sym, ap, ap₂, ◌∙◌}
-use Rattle.std.proofs.Common.{arith, length-append, add-one}
+use Rattle.std.proofs.Common.{◌≡◌, ℕ, zero, suc, ◌<◌, Bool, true, false, List, [], ◌∷◌, ◌++◌, length, get_or, replicate, flat_map, refl, sym, ap, ap₂, ◌∙◌, arith, length-append, add-one}
 use Rattle.aead_ciphers_base.proofs.XorLemmas.{bytes-xor, length-xor, xor_assoc, xor_comm, xor_exchange, xor_zeros}
 use Rattle.aead_ciphers_base.specs.Polynomial.{◌xor◌, coefficient}
 use Rattle.aead_ciphers_base.specs.Bytes.{◌⊕◌, zero_block}

@@ -2,9 +2,7 @@
 --     Answer, answer_Lawful      the type of an answer, and its law
 --     Out, out_Lawful      the type of a lent result, and its law
 --     Own, as_own, as_slice      what a `&mut [u8]` owns, as `sl_relend` has it;  to it and back
-use mathlib.Core.Path.{◌≡◌, refl, sym, subst}
-use mathlib.Core.List.{List, [], ◌∷◌}
-use Prim.Native.Nat.{ℕ}
+use Rattle.std.proofs.Common.{◌≡◌, refl, sym, subst, List, [], ◌∷◌, ℕ, length}
 use seplogic.Ra.Ura.{Ura}
 use mir.Syntax.{Lifetime, erased}
 use mir.Val.{Val}
@@ -20,10 +18,10 @@ use denote.Shadow.{pure_i}
 use denote.Slice.{MutSlice, Room, room, slice_val, shr_slice_at}
 use denote.Enum.Declared.{shape}
 use denote.Enum.Enum.{Enum, Enum-Lawful}
-pub use Rattle.aead_ciphers_base.proofs.ViewWalks.{usize_laws}
 use denote.Struct.Recorded.{recorded_lawful}
+use Rattle.aead_ciphers_base.proofs.Walks.{Word, lone, one}
+pub use Rattle.aead_ciphers_base.proofs.ViewWalks.{usize_laws}
 use borrow.Table.Owned as owned-types
-use lib.ListN.{length}
 use Rattle.std.specs.contracts.result.Result as RS
 use Rattle.std.proofs.result.Result.TheLaws as RL
 use Rattle.std.specs.contracts.ops.RangeFrom as RF
@@ -36,7 +34,6 @@ use Rattle.aead_ciphers_base.specs.contracts.values.Nonce as N
 use Rattle.aead_ciphers_base.proofs.values.Nonce.TheLaws as NL
 use Rattle.aead_ciphers_base.specs.contracts.values.Tag as G
 use Rattle.aead_ciphers_base.proofs.values.Tag.TheLaws as GL
-use Rattle.aead_ciphers_base.proofs.Walks.{Word, lone, one}
 
 abbrev pub Answer : RattleType
 Answer = RS.the_row usize US.the_row

@@ -3,27 +3,16 @@
 --     relends, regains      the buffer is lent to the core for a new lifetime, and is back as `lend_plaintext` wants it
 --     lends                 `lend_plaintext` gave the front of the buffer
 --     says_next             what an opening key's call says beside what it lends
-use mathlib.Core.Path.{◌≡◌}
-pub use mathlib.Core.Path.{refl}
-use Prim.Native.Nat.{ℕ, suc}
-pub use Prim.Native.Nat.{◌-◌}
-use mathlib.Core.List.{List}
-pub use mathlib.Core.List.{[], ◌∷◌}
+use Rattle.std.specs.Prelude.{◌≡◌, ℕ, suc, List, take, Bool, Result, is_ok, IfOk, OnOk, OnErr}
 use seplogic.Ra.Ura.{Ura}
 use mir.Syntax.{named, Body, Callee, Opd, Place, seq, call}
-pub use mir.Syntax.{a_type, dcons, dnil}
 use mir.Val.{Val}
-pub use base.Fraction.{full_share}
 use base.Logic.{sep, id⊢}
 use base.Fml.{Lft, GName, Share, flft}
 use types.Logic.{Logic}
 use types.Tokens.{lft_new, lft_end}
-use types.Kit.{Item, ‵, ◌⊛◌, raw, given, some, later, drop, split, learn, fsplit, use1, use2, use3, await, pick, Step, step}
-use types.Kit.{Seq, Goal, Post, Soaks, runs, lands}
-pub use types.Kit.{◌$◌, !, move, keep}
+use types.Kit.{Item, ‵, ◌⊛◌, raw, given, some, later, drop, split, learn, fsplit, use1, use2, use3, await, pick, Step, step, Seq, Goal, Post, Soaks, runs, lands}
 use types.Run.{Opds}
-pub use types.Run.{stop, addr, of_opd, returns}
-pub use types.ByLocal.{alloc_all, pass_all, free_all, look_at, get, sets, lands_as, through}
 use contract.Lifetimes.{Lfts, Shares}
 use contract.Monad.{fact}
 use contract.Running.{Running, tables}
@@ -34,34 +23,40 @@ use denote.Exit.{yes, left}
 use denote.Laws.{Is, Typed, shows}
 use denote.Ref.{MutBor}
 use denote.Signature.{Slot}
-pub use denote.Signature.{plain, named_lft, types_at}
 use denote.Slice.{MutSlice, Room, slice_val, mut_slice_Lawful}
-pub use denote.Slice.{mut_slice_vals}
 use denote.Steps.{peeks}
-pub use denote.Steps.{nothing, heard}
 use denote.Triple.Call.{calls_at}
 use denote.Triple.Spec.{triple_of}
 use denote.Triple.Statement.{Contract, Triple}
-pub use denote.Triple.Walked.{Stays, AllGo, gave_ref, Goes-gave_ref}
-use lib.ListN.{take}
-pub use lib.ListN.{length}
 use borrow.Rule.Slice.Lend.{sl_relend, sl_relent_backˡ, kept_f}
-use Rattle.std.specs.Prelude.{Bool, Result, is_ok, IfOk, OnOk, OnErr}
-pub use mir.MapTy.{inst_fn}
-pub use denote.Param.{param, bounded}
-pub use Rattle.aead_ciphers_base.specs.Aes.{aes}
 use Rattle.aead_ciphers.specs.Lending.{LendsFront, Fronts, lent_buffer}
 use Rattle.aead_ciphers.proofs.Lending.{Answer, answer_Lawful, Out, out_Lawful, Own, as_own, as_slice}
-pub use Rattle.aead_ciphers.proofs.Lending.{nonce_word, aad_word, tag_word, range_word}
-pub use Rattle.aead_ciphers_base.proofs.WalkLocals.{gets, reborrows}
-pub use Rattle.aead_ciphers_base.proofs.Walks.{dropped, goes, learns, tell, tells, says, Words, words_vals, words_typed, slice_typed, table_of, walked, consults, ends}
 use Rattle.aead_ciphers_base.proofs.Walks.{answers, readies, takes}
 use Rattle.aead_ciphers.proofs.NextNonce.{lent_next, on_ok, on_err}
 use Rattle.aead_ciphers.specs.BoundState.{BoundState}
 use Rattle.aead_ciphers.specs.NonceSequence.{UnderNext}
 use Rattle.aead_ciphers.proofs.LentPlaintext.{Lent}
-pub use Rattle.aead_ciphers.proofs.LentPlaintext.{as_lent, lent_plain, length-before_tag, opened_fronts, step_fronts}
 use Rattle.aead_ciphers.specs.Steps.{OpenStep}
+pub use mathlib.Core.Path.{refl}
+pub use Prim.Native.Nat.{◌-◌}
+pub use mathlib.Core.List.{[], ◌∷◌}
+pub use mir.Syntax.{a_type, dcons, dnil}
+pub use base.Fraction.{full_share}
+pub use types.Kit.{◌$◌, !, move, keep}
+pub use types.Run.{stop, addr, of_opd, returns}
+pub use types.ByLocal.{alloc_all, pass_all, free_all, look_at, get, sets, lands_as, through}
+pub use denote.Signature.{plain, named_lft, types_at}
+pub use denote.Slice.{mut_slice_vals}
+pub use denote.Steps.{nothing, heard}
+pub use denote.Triple.Walked.{Stays, AllGo, gave_ref, Goes-gave_ref}
+pub use lib.ListN.{length}
+pub use mir.MapTy.{inst_fn}
+pub use denote.Param.{param, bounded}
+pub use Rattle.aead_ciphers_base.specs.Aes.{aes}
+pub use Rattle.aead_ciphers.proofs.Lending.{nonce_word, aad_word, tag_word, range_word}
+pub use Rattle.aead_ciphers_base.proofs.WalkLocals.{gets, reborrows}
+pub use Rattle.aead_ciphers_base.proofs.Walks.{dropped, goes, learns, tell, tells, says, Words, words_vals, words_typed, slice_typed, table_of, walked, consults, ends}
+pub use Rattle.aead_ciphers.proofs.LentPlaintext.{as_lent, lent_plain, length-before_tag, opened_fronts, step_fronts}
 pub use Rattle.aead_ciphers_base.specs.Values.{aad_bytes}
 pub use Rattle.aead_ciphers.specs.Gcm.{Opened, OpenedAttached}
 pub use Rattle.std.proofs.Common.{arith, length-drop}

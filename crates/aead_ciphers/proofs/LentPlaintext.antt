@@ -1,9 +1,7 @@
 -- What a call that opens answers, and what is then lent: the plaintext at the front of the buffer.
-use Rattle.std.proofs.Common.{◌≡◌, ◌∙◌, sym, ap, subst, arith, ℕ, List, Bool, true, false, ◌-◌, ◌≤◌, ◌++◌, length, drop, take, length-append}
-use Rattle.std.proofs.Common.{length-drop, Result, Ok, Err, is_ok, IfOk}
+use Rattle.std.proofs.Common.{◌≡◌, ◌∙◌, sym, ap, subst, arith, ℕ, List, Bool, true, false, ◌-◌, ◌≤◌, ◌++◌, length, drop, take, length-append, length-drop, Result, Ok, Err, is_ok, IfOk, if◌then◌else◌, append_assoc, take-append-drop, take_at, drop_at, length-take-le}
 use Rattle.std.specs.Borrow.{MutBor}
-use Rattle.std.specs.Prelude.{if◌then◌else◌}
-use Rattle.std.proofs.lemmas.List.{append_assoc, take-append-drop, take_at, drop_at, drop-append-le, length-take-le}
+use Rattle.std.proofs.lemmas.List.{drop-append-le}
 use Rattle.aead_ciphers_base.proofs.CounterModeLemmas.{length-counter_mode}
 use Rattle.aead_ciphers.specs.BoundState.{BoundState}
 use Rattle.aead_ciphers.specs.Gcm.{gcm_decrypted, Opened, OpenedAttached, Opens}

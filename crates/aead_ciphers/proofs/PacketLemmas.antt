@@ -1,7 +1,5 @@
 -- A packet that is sealed in place.
-use Rattle.std.proofs.Common.{◌≡◌, ℕ, ◌+◌, ◌-◌, ◌<◌, ◌≤◌, ◌↔◌, List, Bool, false, length, drop, take, is_ok, IsOk, IsErr, OnOk, OnErr}
-use Rattle.std.proofs.Common.{Ok, Err, Result, refl, ap, ◌∙◌, arith, length-drop}
-use Rattle.std.proofs.lemmas.List.{drop_at, length-take-le}
+use Rattle.std.proofs.Common.{◌≡◌, ℕ, ◌+◌, ◌-◌, ◌<◌, ◌≤◌, ◌↔◌, List, Bool, false, length, drop, take, is_ok, IsOk, IsErr, OnOk, OnErr, Ok, Err, Result, refl, ap, ◌∙◌, arith, length-drop, drop_at, length-take-le}
 use Rattle.aead_ciphers.specs.BoundState.{BoundState}
 use Rattle.aead_ciphers.specs.Gcm.{Fits}
 use Rattle.aead_ciphers.specs.NonceSequence.{Closes}

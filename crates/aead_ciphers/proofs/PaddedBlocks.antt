@@ -1,9 +1,7 @@
 -- Blocks padded with zeros, those of lists joined, and the length block.
-use Rattle.std.proofs.Common.{◌≡◌, ℕ, zero, suc, ◌+◌, ◌-◌, ◌*◌, ◌/◌, ◌<◌, ◌≤◌, min, List, [], ◌∷◌, ◌++◌, length, take, drop, get_or, replicate, refl, sym, ap}
-use Rattle.std.proofs.Common.{ap₂, ◌∙◌, arith, inl, inr}
+use Rattle.std.proofs.Common.{◌≡◌, ℕ, zero, suc, ◌+◌, ◌-◌, ◌*◌, ◌/◌, ◌<◌, ◌≤◌, min, List, [], ◌∷◌, ◌++◌, length, take, drop, get_or, replicate, refl, sym, ap, ap₂, ◌∙◌, arith, inl, inr, append_assoc, length-take-le, take-append-drop, take_at, drop_at, append-nil, length-append, length-drop, get_or-append-add}
 use Rattle.std.specs.Int.{to_be_bytes, w64}
-use Rattle.std.proofs.lemmas.List.{append_assoc, nil_from_length, length-take-le, take-append-drop, take_at, drop_at, append-nil, length-append, length-drop}
-use Rattle.std.proofs.lemmas.List.{drop_all, get_or_append_left, get_or-append_right, get_or-append-add, get_or-replicate, drop-replicate, get_or_past}
+use Rattle.std.proofs.lemmas.List.{nil_from_length, drop_all, get_or_append_left, get_or-append_right, get_or-replicate, drop-replicate, get_or_past}
 use Rattle.std.proofs.lemmas.List.FromFn.{fill_by_all}
 use Rattle.std.proofs.lemmas.Bool.{cases_lt}
 use Rattle.aead_ciphers_base.specs.Blocks.{blocks}

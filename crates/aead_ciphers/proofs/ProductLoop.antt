@@ -1,6 +1,5 @@
 -- The next multiple of a block, as the code shifts it.
-use Rattle.std.proofs.Common.{◌≡◌, ℕ, zero, suc, ◌/◌, ◌^◌, ◌<◌, Bool, true, false, List, ◌∷◌, replicate, refl, sym, ap, ap₂, subst, ◌∙◌, arith, ◌==◌, bit_and}
-use Rattle.std.proofs.Common.{bit_xor}
+use Rattle.std.proofs.Common.{◌≡◌, ℕ, zero, suc, ◌/◌, ◌^◌, ◌<◌, Bool, true, false, List, ◌∷◌, replicate, refl, sym, ap, ap₂, subst, ◌∙◌, arith, ◌==◌, bit_and, bit_xor}
 use Rattle.std.specs.Int.{bit_at}
 use Rattle.std.proofs.Math.Dec.{lit<}
 use Rattle.std.proofs.lemmas.Nat.{and_mask}

@@ -35,7 +35,7 @@ module _ (r h : List ℕ) (sr : Sized r) (sh : Sized h) where
       let v = h • value_at h cs in
       let w = r • value_at r cs in
       let t = c ⊕ w in
-      let q = value_at h _ in
+      let q = value_at h (without_root r cs) in
       let sd = Sized-xor r h sr sh in
       let sv = Sized-product h (value_at h cs) in
       let sw = Sized-product r _ in

@@ -13,7 +13,7 @@ All-slice_get P xs i x all here = subst P (get_or_from_slice_get xs i x x here) 
 
 pub opens_again : (key nonce aad message : List ℕ) → Fits (length aad) (length message) → OpensAgain key nonce aad message
 opens_again key nonce aad message fits =
-    let ciphertext = gcm_encrypted _ nonce message in
+    let ciphertext = gcm_encrypted (aes key) nonce message in
     let size = length-counter_mode (aes key) nonce 2 message in
     let fitting : Fits (length aad) (length ciphertext) = record { aad = fits.aad; message = let m = fits.message in omega arith } in
     let none = drop_of_length-le ciphertext (omega arith) in

@@ -1,6 +1,5 @@
 -- The cases of a sealing call.
-use Rattle.std.proofs.Common.{◌≡◌, ℕ, ◌+◌, ◌-◌, ◌↔◌, ◌++◌, List, Bool, length, take, replicate, is_ok, IsOk}
-use Rattle.std.proofs.Common.{IsErr, IfOk, OnOk, OnErr, Ok, Err, Result, refl, arith, length-append}
+use Rattle.std.proofs.Common.{◌≡◌, ℕ, ◌+◌, ◌-◌, ◌↔◌, ◌++◌, List, Bool, length, take, replicate, is_ok, IsOk, IsErr, IfOk, OnOk, OnErr, Ok, Err, Result, refl, arith, length-append}
 use Rattle.std.proofs.Math.Seq.{take-append_seam}
 use Rattle.aead_ciphers_base.specs.Aes.{aes}
 use Rattle.aead_ciphers.specs.BoundState.{BoundState}

@@ -1,6 +1,6 @@
 -- Nonces that are counted, each different from those before it, and how they are written.
-use Rattle.std.proofs.Common.{◌≡◌, ℕ, zero, suc, ◌+◌, ◌<◌, ◌≤◌, ◌^◌, List, [], ◌∷◌, ◌++◌, length, drop, Contains, inl, inr, ap, subst, sym, refl, ◌∙◌, arith}
-use Rattle.std.proofs.lemmas.List.{append-nil, drop_all, drop_at}
+use Rattle.std.proofs.Common.{◌≡◌, ℕ, zero, suc, ◌+◌, ◌<◌, ◌≤◌, ◌^◌, List, [], ◌∷◌, ◌++◌, length, drop, Contains, inl, inr, ap, subst, sym, refl, ◌∙◌, arith, append-nil, drop_at}
+use Rattle.std.proofs.lemmas.List.{drop_all}
 use Rattle.std.proofs.lemmas.List.Elements.{Contains-append_cases}
 use Rattle.std.proofs.lemmas.List.FromFn.{map-range_with_len_more}
 use Rattle.std.proofs.lemmas.Nat.{from_be_bytes-to_be_bytes_8}

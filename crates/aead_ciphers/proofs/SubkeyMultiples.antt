@@ -1,11 +1,9 @@
 -- The multiples of a block by the powers of u, and the loop of `product` over them.
-use Rattle.std.proofs.Common.{◌≡◌, ℕ, zero, suc, ◌+◌, ◌-◌, ◌/◌, ◌*◌, ◌%◌, ◌^◌, ◌<◌, ◌≤◌, Bool, true, false, List, ◌∷◌, ◌++◌, length, replicate, sym, ap, ap₂}
-use Rattle.std.proofs.Common.{subst, ◌∙◌, arith, ◌==◌, pow-suc, length-append, bit_xor, if◌then◌else◌, below_more}
+use Rattle.std.proofs.Common.{◌≡◌, ℕ, zero, suc, ◌+◌, ◌-◌, ◌/◌, ◌*◌, ◌%◌, ◌^◌, ◌<◌, ◌≤◌, Bool, true, false, List, ◌∷◌, ◌++◌, length, replicate, sym, ap, ap₂, subst, ◌∙◌, arith, ◌==◌, pow-suc, length-append, bit_xor, if◌then◌else◌, below_more, pow_pos, reverse}
 use Rattle.std.specs.Int.{bit_at, to_be_bytes, w128}
 use Rattle.std.proofs.lemmas.List.{length-replicate}
-use Rattle.std.proofs.lemmas.Nat.{div-mul-add, mod-pow-add, mod_below, mul-mod_first, pow_pos}
+use Rattle.std.proofs.lemmas.Nat.{div-mul-add, mod-pow-add, mod_below, mul-mod_first}
 use Rattle.std.proofs.lemmas.Nat.Bits.{bit_at_cat_high}
-use Rattle.std.specs.Prelude.{reverse}
 use Rattle.aead_ciphers_base.specs.ByteField.{value_of}
 use Rattle.aead_ciphers_base.specs.Polynomial.{coefficient}
 use Rattle.aead_ciphers_base.proofs.NumberBits.{bit_at-mod, bit_at-shr}

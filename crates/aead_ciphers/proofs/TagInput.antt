@@ -30,7 +30,7 @@ Blocks-padded : (xs : List ℕ) → Bytes xs → Blocks (padded_blocks xs)
 unfolding padded_blocks
 Blocks-padded xs h =
     let n = (length xs + 15) / 16 in
-    let blocks = each_below n _ in
+    let blocks = each_below n (padded_block xs) in
     recursion_from_All IsBlock blocks (All-from_get_or IsBlock blocks [] (λ i below.
     subst IsBlock (sym (get_or-each n _ i [] (omega (arith, length-padded_blocks xs)))) (IsBlock-padded xs i h)))
 

@@ -1,7 +1,6 @@
 -- Lemmas on lists of bytes, and the steps of the loops over them.
-use Rattle.std.proofs.Common.{arith, refl, sym, ap, ◌∙◌, ◌≡◌, ℕ, ◌+◌, ◌<◌, min, length-drop, List, [], ◌∷◌, ◌++◌, length, take, drop, get_or, map}
-use Rattle.std.proofs.Common.{bit_xor, bit_or, slice_set, add-one, append_assoc}
-use Rattle.std.proofs.lemmas.List.{drop_more, drop-set-lt, take-append-drop}
+use Rattle.std.proofs.Common.{arith, refl, sym, ap, ◌∙◌, ◌≡◌, ℕ, ◌+◌, ◌<◌, min, length-drop, List, [], ◌∷◌, ◌++◌, length, take, drop, get_or, map, bit_xor, bit_or, slice_set, add-one, append_assoc, drop-set-lt, take-append-drop}
+use Rattle.std.proofs.lemmas.List.{drop_more}
 use Rattle.std.proofs.lemmas.Nat.{le_or_l, le_or_r}
 use Rattle.std.proofs.Math.Seq.{take-suc-set}
 use Rattle.std.specs.Int.Bits.{xor_assoc, xor_self, xor_zero_l, xor_zero_r}

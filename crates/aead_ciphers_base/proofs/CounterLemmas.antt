@@ -1,8 +1,7 @@
 -- Counter blocks.
-use Rattle.std.proofs.Common.{◌≡◌, ℕ, ◌+◌, ◌%◌, ◌^◌, ◌<◌, List, [], ◌∷◌, ◌++◌, length, take, drop, set, get_or, refl, sym, ap, ap₂, subst, ◌∙◌, arith}
+use Rattle.std.proofs.Common.{◌≡◌, ℕ, ◌+◌, ◌%◌, ◌^◌, ◌<◌, List, [], ◌∷◌, ◌++◌, length, take, drop, set, get_or, refl, sym, ap, ap₂, subst, ◌∙◌, arith, take-append-drop, length-take-le, length-drop, get_or-drop, take_at, drop_at, get_or-append-add, append-nil}
 use Rattle.std.specs.Int.{from_be_bytes, to_be_bytes, w32}
 use Rattle.std.proofs.lemmas.Nat.{be_bytes_4, from_be_bytes-to_be_bytes_4}
-use Rattle.std.proofs.lemmas.List.{take-append-drop, length-take-le, length-drop, get_or-drop, take_at, drop_at, get_or-append-add, append-nil}
 use Rattle.std.proofs.lemmas.List.{set-append_right}
 use Rattle.aead_ciphers_base.specs.CounterMode.{counter_block, IsCounter, Advances}
 
@@ -29,7 +28,7 @@ pub counter_more : (old nonce bytes : List ℕ) (k by number : ℕ) → IsCounte
     bytes ≡ to_be_bytes w32 ((number + by) % 2 ^ 32) → IsCounter (take 12 old ++ (bytes ++ drop 4 (drop 12 old))) nonce (k + by)
 unfolding counter_block
 counter_more old nonce bytes k by number at ne be =
-    let bs = to_be_bytes w32 _ in
+    let bs = to_be_bytes w32 (k % 2 ^ 32) in
     record {
       size = at.size;
       value =
@@ -64,7 +63,7 @@ unfolding counter_block
 counter_exists block size bytes =
     let last = drop 12 block in
     let below : (i : ℕ) → get_or last i 0 < 256 = λ i. subst (λ (x : ℕ). x < 256) (sym (get_or-drop 12 block i 0)) (bytes (12 + i)) in
-    let four = length-drop 12 block ∙ omega arith in
+    let four : length last ≡ 4 = length-drop 12 block ∙ omega arith in
     let number = from_be_bytes w32 last in
     let again = be_bytes_4 last number four below refl in
     let small : number % 2 ^ 32 ≡ number = omega (arith, below 0, below 1, below 2, below 3) in

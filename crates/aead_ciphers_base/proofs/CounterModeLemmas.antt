@@ -1,7 +1,6 @@
 -- Counter mode of a text in pieces.
-use Rattle.std.proofs.Common.{◌≡◌, ℕ, ◌+◌, ◌-◌, ◌*◌, ◌/◌, ◌%◌, ◌≤◌, List, [], ◌∷◌, ◌++◌, length, take, drop, refl, sym, ap}
-use Rattle.std.proofs.Common.{ap₂, ◌∙◌, arith}
-use Rattle.std.proofs.lemmas.List.{append-nil, append_assoc, length-append, length-take-le, length-drop, nil_from_length, take_at, drop-append-le, drop-drop, drop-take, take-append-drop}
+use Rattle.std.proofs.Common.{◌≡◌, ℕ, ◌+◌, ◌-◌, ◌*◌, ◌/◌, ◌%◌, ◌≤◌, List, [], ◌∷◌, ◌++◌, length, take, drop, refl, sym, ap, ap₂, ◌∙◌, arith, append-nil, append_assoc, length-append, length-take-le, length-drop, take_at, drop-drop, take-append-drop}
+use Rattle.std.proofs.lemmas.List.{nil_from_length, drop-append-le, drop-take}
 use Rattle.aead_ciphers_base.specs.Bytes.{xored, ◌⊕◌}
 use Rattle.aead_ciphers_base.specs.CounterMode.{counter_block, counter_byte, counter_mode, Advances, EncryptsFirst, EncryptsToFront, EncryptsWindow}
 use Rattle.aead_ciphers_base.proofs.StreamLemmas.{all_from, length-xored, stream_front, take-xored, xored-is, xored-xored, advance as xored_advance}
@@ -75,7 +74,7 @@ module _ (cipher : List ℕ → List ℕ) (nonce : List ℕ) where
       let front =
       xor_comm rest pad ∙ sym (xor-take pad rest) ∙ xor_comm pad _
       ∙ ap (λ (n : ℕ). take n rest ⊕ pad) size ∙ counter_mode-short _ block pad (omega arith) (omega arith) pe in
-      let none = nil_from_length _ (omega (arith, length-drop m rest)) in
+      let none = nil_from_length (drop m rest) (omega (arith, length-drop m rest)) in
       ap₂ (λ (u v : List ℕ). take d now ++ (u ++ v)) (we ∙ ap₂ (λ (u : List ℕ) (n : ℕ). u ++ drop n rest) front size) none
       ∙ ap (λ (u : List ℕ). take d now ++ u) (append-nil (counter_mode cipher nonce _ block ++ drop 16 rest))
       ∙ sym (append_assoc (take d now) _ (drop 16 rest))

@@ -1,6 +1,5 @@
 -- The product by eight doublings of numbers, which computes some thirty times faster, and the way to use it in a computed test.
-use Rattle.std.proofs.Common.{◌≡◌, ℕ, [], ◌∷◌, zero, suc, ◌*◌, ◌/◌, ◌%◌, ◌^◌, ◌<◌, Bool, true, refl, sym, ap, ap₂, ◌∙◌, arith, bit_xor, if◌then◌else◌, pow-suc}
-use Rattle.std.specs.Prelude.{◌==◌}
+use Rattle.std.proofs.Common.{◌≡◌, ℕ, [], ◌∷◌, zero, suc, ◌*◌, ◌/◌, ◌%◌, ◌^◌, ◌<◌, Bool, true, refl, sym, ap, ap₂, ◌∙◌, arith, bit_xor, if◌then◌else◌, pow-suc, ◌==◌}
 use Rattle.aead_ciphers_base.specs.Polynomial.{field_product}
 use Rattle.aead_ciphers_base.specs.ByteField.{value_of, mul8}
 use Rattle.aead_ciphers_base.proofs.NumberBits.{all_below, same_below, IsAdditive_zero, bits_of-mod}

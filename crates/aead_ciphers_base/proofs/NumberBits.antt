@@ -1,13 +1,11 @@
 -- Numbers and their bits: both ways between them keep sums.
-use Rattle.std.proofs.Common.{◌≡◌, ℕ, zero, suc, ◌+◌, ◌-◌, ◌*◌, ◌/◌, ◌%◌, ◌^◌, ◌<◌, ◌≤◌, Bool, true, false, ◌&&◌, List, [], ◌∷◌, length, refl, sym, ap, ap₂}
-use Rattle.std.proofs.Common.{◌∙◌, arith, inl, inr, bit_xor, if◌then◌else◌, pow-suc, find, Some}
-use Rattle.std.specs.Prelude.{◌==◌}
+use Rattle.std.proofs.Common.{◌≡◌, ℕ, zero, suc, ◌+◌, ◌-◌, ◌*◌, ◌/◌, ◌%◌, ◌^◌, ◌<◌, ◌≤◌, Bool, true, false, ◌&&◌, List, [], ◌∷◌, length, refl, sym, ap, ap₂, ◌∙◌, arith, inl, inr, bit_xor, if◌then◌else◌, pow-suc, find, Some, ◌==◌, pow_pos, shr-shr, eqb-true}
 use Rattle.std.specs.List.{range_with_len}
 use Rattle.std.specs.Int.Bits.{xor_shr, xor_mod, xor_block, xor_shifted, xor_self as bit_xor_self}
-use Rattle.std.proofs.lemmas.Nat.{field_of, mod-pow-add, pow_pos, shr-shr}
+use Rattle.std.proofs.lemmas.Nat.{field_of, mod-pow-add}
 use Rattle.std.proofs.lemmas.Nat.Bits.{bit_at_cat_low}
 use Rattle.std.specs.Int.{bit_at}
-use Rattle.std.proofs.lemmas.Bool.{cases_eq, cases_lt, and_parts, cond-true, cond-false, eqb-true}
+use Rattle.std.proofs.lemmas.Bool.{cases_eq, cases_lt, and_parts, cond-true, cond-false}
 use Rattle.aead_ciphers_base.specs.Polynomial.{◌xor◌}
 use Rattle.aead_ciphers_base.specs.ByteField.{bits_of, value_of}
 use Rattle.aead_ciphers_base.proofs.PolynomialSums.{polynomial_sum}
@@ -52,7 +50,7 @@ pub value_of-add : (p q : List Bool) → length p ≡ length q → value_of (pol
 value_of-add [] q e = refl
 value_of-add (a ∷ p) (b ∷ q) e =
     let tails : length p ≡ length q = omega arith in
-    let block = xor_block 1 _ _ _ _ (bit_value-lt a) (bit_value-lt b) in
+    let block = xor_block 1 (value_of p) (value_of q) _ _ (bit_value-lt a) (bit_value-lt b) in
     let turn : (r v : ℕ) → r + 2 * v ≡ v * 2 + r = λ r v. omega arith in
     ap₂ (λ x y. x + 2 * y) (bit_value-xor a b) (value_of-add p q tails)
     ∙ turn _ _

@@ -1,9 +1,6 @@
 -- Operations on planes, seen at one byte.
-use Rattle.std.proofs.Common.{◌≡◌, ℕ, zero, suc, ◌+◌, ◌/◌, ◌%◌, ◌^◌, ◌<◌, min, Bool, true, ◌&&◌, List, [], ◌∷◌, refl, sym, ap, ◌∙◌, arith, bit_xor, bit_and}
-use Rattle.std.proofs.Common.{slice_index, div-one}
-use Rattle.std.specs.Prelude.{◌==◌}
+use Rattle.std.proofs.Common.{◌≡◌, ℕ, zero, suc, ◌+◌, ◌/◌, ◌%◌, ◌^◌, ◌<◌, min, Bool, true, ◌&&◌, List, [], ◌∷◌, refl, sym, ap, ◌∙◌, arith, bit_xor, bit_and, slice_index, div-one, ◌==◌, shr-shr}
 use Rattle.std.specs.Int.{bit_at}
-use Rattle.std.proofs.lemmas.Nat.{shr-shr}
 use Rattle.std.proofs.lemmas.Nat.Bits.{bit_at_xor, bit_at_and, bit_at-lt, bit_at_ones}
 use Rattle.aead_ciphers_base.specs.Polynomial.{◌xor◌, coefficient}
 use Rattle.aead_ciphers_base.specs.ByteField.{bits_of, value_of, mul8}

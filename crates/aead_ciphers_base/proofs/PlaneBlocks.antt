@@ -1,6 +1,5 @@
 -- Blocks byte by byte, and what the steps on planes do to each of the four.
-use Rattle.std.proofs.Common.{◌≡◌, ℕ, zero, suc, ◌+◌, ◌*◌, ◌/◌, ◌%◌, ◌<◌, List, length, refl, sym, ap, ap₂, ◌∙◌, arith, bit_xor, slice_index}
-use Rattle.std.proofs.Common.{slice_index_or, []}
+use Rattle.std.proofs.Common.{◌≡◌, ℕ, zero, suc, ◌+◌, ◌*◌, ◌/◌, ◌%◌, ◌<◌, List, length, refl, sym, ap, ap₂, ◌∙◌, arith, bit_xor, slice_index, slice_index_or, []}
 use Rattle.std.proofs.lemmas.List.FromFn.{fill_by_all}
 use Rattle.aead_ciphers_base.specs.ByteField.{sbox, mul8}
 use Rattle.aead_ciphers_base.specs.Aes.{at, state, sub_bytes, shift_rows, mixed, mix_columns, add_round_key, word_at}

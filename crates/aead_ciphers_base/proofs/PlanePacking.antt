@@ -1,14 +1,10 @@
 -- The transpositions by which four blocks become eight planes.
-use Rattle.std.proofs.Common.{min, set, below_more, get_or-set_other, get_or-set_same, ne_eqb, ◌≡◌, ℕ, zero, suc, ◌+◌, ◌-◌, ◌*◌, ◌/◌, ◌%◌, ◌^◌, ◌<◌, ◌≤◌}
-use Rattle.std.proofs.Common.{Bool, true, false, ◌&&◌, List, [], ◌++◌, length, take, drop, refl, sym, ap, ap₂, ◌∙◌, arith, inl, inr, bit_xor, bit_and}
-use Rattle.std.proofs.Common.{slice_index, slice_index_or, nat_lt, if◌then◌else◌, div-one}
-use Rattle.std.specs.Prelude.{◌==◌}
+use Rattle.std.proofs.Common.{min, set, below_more, get_or-set_other, get_or-set_same, ne_eqb, ◌≡◌, ℕ, zero, suc, ◌+◌, ◌-◌, ◌*◌, ◌/◌, ◌%◌, ◌^◌, ◌<◌, ◌≤◌, Bool, true, false, ◌&&◌, List, [], ◌++◌, length, take, drop, refl, sym, ap, ap₂, ◌∙◌, arith, inl, inr, bit_xor, bit_and, slice_index, slice_index_or, nat_lt, if◌then◌else◌, div-one, ◌==◌, pow_pos, get_or-take, get_or-drop, length-take, length-take-le, length-drop, take_all, take-append-drop, eq-eqb, ltb-true, lt-ltb, le-ltb}
 use Rattle.std.specs.Int.{bit_at, w64, to_le_bytes, from_le_bytes}
-use Rattle.std.proofs.lemmas.Nat.{pow_pos, le_bytes_8}
-use Rattle.std.proofs.lemmas.List.{get_or_append_left, get_or-append_right, get_or-take, get_or-drop, get_or_past, length-take, length-take-le, length-drop}
-use Rattle.std.proofs.lemmas.List.{take_all, take-append-drop}
+use Rattle.std.proofs.lemmas.Nat.{le_bytes_8}
+use Rattle.std.proofs.lemmas.List.{get_or_append_left, get_or-append_right, get_or_past}
 use Rattle.std.proofs.lemmas.Nat.Bits.{bit_at_xor, bit_at_and, bit_at-lt, bit_at_cat_low, bit_at_cat_high, bit_at-zero}
-use Rattle.std.proofs.lemmas.Bool.{cases_lt, cond-true, cond-false, eq-eqb, ltb-true, lt-ltb, le-ltb}
+use Rattle.std.proofs.lemmas.Bool.{cases_lt, cond-true, cond-false}
 use Rattle.std.proofs.Math.Bool.{and-false}
 use Rattle.aead_ciphers_base.specs.Polynomial.{◌xor◌}
 use Rattle.aead_ciphers_base.specs.ByteField.{bits_of, value_of}
@@ -236,7 +232,7 @@ plane_byte_from planes p n hn h =
 byte_of_planes : (words planes : List ℕ) → IsPacked words planes → (p : ℕ) → p < 64 → slice_index (to_le_bytes w64 (slice_index words (p / 8))) (p % 8)
     ≡ plane_byte planes p
 byte_of_planes words planes packed p hp =
-    let n = slice_index (to_le_bytes w64 _) (p % 8) in
+    let n = slice_index (to_le_bytes w64 (slice_index words (p / 8))) (p % 8) in
     let size = byte_is (slice_index words (p / 8)) (p % 8) (omega arith) in
     plane_byte_from planes p n (omega arith)
     (λ b hb.
@@ -249,10 +245,10 @@ byte_of_planes words planes packed p hp =
 byte_of_block : (words planes : List ℕ) → IsPacked words planes → (k j : ℕ) → k < 4 → j < 16
     → slice_index (to_le_bytes w64 (slice_index words (2 * k)) ++ to_le_bytes w64 (slice_index words (2 * k + 1))) j ≡ plane_byte planes (16 * k + j)
 byte_of_block words planes packed k j hk hj =
-    let low = to_le_bytes w64 _ in
-    let high = to_le_bytes w64 _ in
+    let low = to_le_bytes w64 (slice_index words (2 * k)) in
+    let high = to_le_bytes w64 (slice_index words (2 * k + 1)) in
     let byte = λ (w i : ℕ). slice_index (to_le_bytes w64 (slice_index words w)) i in
-    let here = byte_of_planes words planes packed _ (omega arith) in
+    let here = byte_of_planes words planes packed (16 * k + j) (omega arith) in
     elim (cases_lt j 8) [
       | inl less ↦
           let word : 2 * k ≡ (16 * k + j) / 8 = omega arith in
@@ -335,9 +331,9 @@ placed_here : (plane b i : ℕ) → b < 8 → i < 64 → i % 8 ≡ b → bit_at 
 placed_here plane b i hb hi e =
     let place : i - b ≡ i - i % 8 = omega arith in
     let whole : (i - b) % 8 ≡ 0 = omega arith in
-    let one = eighths_at _ (omega arith) ∙ cond-true _ 1 0 (eq-eqb ((i - b) % 8) 0 whole) in
-    bit_at-shl_high _ b 64 i hi (omega arith) ∙ bit_at_and plane EIGHTHS _ ∙ ap (min (bit_at plane _)) one
-    ∙ by_digit (λ d. min d 1 ≡ d) _ (bit_at-lt plane _) (λ _. refl) (λ _. refl) ∙ ap (bit_at plane) place
+    let one = eighths_at (i - b) (omega arith) ∙ cond-true ((i - b) % 8 == 0) 1 0 (eq-eqb ((i - b) % 8) 0 whole) in
+    bit_at-shl_high (bit_and plane EIGHTHS) b 64 i hi (omega arith) ∙ bit_at_and plane EIGHTHS (i - b) ∙ ap (min (bit_at plane (i - b))) one
+    ∙ by_digit (λ d. min d 1 ≡ d) (bit_at plane (i - b)) (bit_at-lt plane (i - b)) (λ _. refl) (λ _. refl) ∙ ap (bit_at plane) place
 
 placed_elsewhere : (plane b i : ℕ) → b < 8 → i < 64 → (i % 8 ≡ b → ⊥) → bit_at (placed plane b) i ≡ 0
 placed_elsewhere plane b i hb hi differs = elim (cases_lt i b) [

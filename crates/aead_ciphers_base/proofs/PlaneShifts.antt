@@ -1,7 +1,5 @@
 -- Where shifts and masks move each bit of a plane.
-use Rattle.std.proofs.Common.{length, set, below_more, get_or-set_other, get_or-set_same, ◌≡◌, ℕ, ◌+◌, ◌*◌, ◌/◌, ◌%◌, ◌^◌, ◌<◌, Bool, true, refl, sym, ap}
-use Rattle.std.proofs.Common.{◌∙◌, arith, bit_xor, bit_and, List, slice_index}
-use Rattle.std.specs.Prelude.{◌==◌}
+use Rattle.std.proofs.Common.{length, set, below_more, get_or-set_other, get_or-set_same, ◌≡◌, ℕ, ◌+◌, ◌*◌, ◌/◌, ◌%◌, ◌^◌, ◌<◌, Bool, true, refl, sym, ap, ◌∙◌, arith, bit_xor, bit_and, List, slice_index, ◌==◌}
 use Rattle.std.specs.Int.{bit_at}
 use Rattle.std.specs.Int.Bits.{xor_assoc}
 use Rattle.aead_ciphers_base.specs.ByteField.{mul8, value_of}

@@ -1,11 +1,9 @@
 -- What reduction leaves: the same multiple of one, and as many coefficients as the degree.
-use Rattle.std.proofs.Common.{◌≡◌, ◌==◌, ℕ, zero, suc, ◌+◌, ◌<◌, ◌≤◌, Bool, true, false, ◌&&◌, ◌||◌, List, [], ◌∷◌, length, refl, sym, ap, ap₂, ◌∙◌}
-use Rattle.std.proofs.Common.{arith, zero-add, suc-add}
+use Rattle.std.proofs.Common.{◌≡◌, ◌==◌, ℕ, zero, suc, ◌+◌, ◌<◌, ◌≤◌, Bool, true, false, ◌&&◌, ◌||◌, List, [], ◌∷◌, length, refl, sym, ap, ap₂, ◌∙◌, arith, zero-add, suc-add, ne_eqb}
 use Rattle.std.specs.List.{list_any}
 use Rattle.std.proofs.Math.Bool.{and-false, and-true}
 use Rattle.std.proofs.Math.ListN.{get_or-eq_default}
 use Rattle.std.proofs.Math.Dec.{eqb-suc-suc, eqb-suc-zero}
-use Rattle.std.proofs.lemmas.Bool.{ne_eqb}
 use Rattle.aead_ciphers_base.specs.Polynomial.{◌xor◌, coefficient, without_highest, without_highests, reduced, field_product}
 use Rattle.aead_ciphers_base.proofs.PolynomialBits.{xor_zero, Series, same_series, same_steps, add, scale, shift, add_assoc, add_self}
 use Rattle.aead_ciphers_base.proofs.PolynomialSums.{length-polynomial_product, length-reduced, same_polynomials}

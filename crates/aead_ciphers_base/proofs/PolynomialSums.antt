@@ -1,7 +1,6 @@
 -- The product and the reduction keep sums.
-use Rattle.std.proofs.Common.{◌≡◌, ℕ, zero, suc, ◌+◌, ◌-◌, ◌<◌, ◌≤◌, Bool, false, ◌&&◌, List, [], ◌∷◌, length, refl, sym, ap, ap₂, ◌∙◌, arith, ext_get_or}
+use Rattle.std.proofs.Common.{◌≡◌, ℕ, zero, suc, ◌+◌, ◌-◌, ◌<◌, ◌≤◌, Bool, false, ◌&&◌, List, [], ◌∷◌, length, refl, sym, ap, ap₂, ◌∙◌, arith, ext_get_or, ◌==◌}
 use Rattle.std.specs.List.{list_any}
-use Rattle.std.specs.Prelude.{◌==◌}
 use Rattle.aead_ciphers_base.proofs.EachLemmas.{each-same, get_or-each, length-each}
 use Rattle.aead_ciphers_base.proofs.PolynomialBits.{xor_zero, xor_exchange, and_xor, xor_and}
 use Rattle.aead_ciphers_base.specs.Polynomial.{◌xor◌, xor_sum, coefficient, polynomial_product, without_highest, without_highests, reduced}

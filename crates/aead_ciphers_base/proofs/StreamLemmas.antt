@@ -1,7 +1,5 @@
 -- A text XOR a stream: in pieces, in a buffer from some place on to its front, and twice.
-use Rattle.std.proofs.Common.{◌≡◌, ℕ, ◌+◌, ◌-◌, ◌<◌, ◌≤◌, List, ◌++◌, length, take, drop, get_or, refl, sym, ap, ap₂, ◌∙◌, arith}
-use Rattle.std.proofs.Common.{length-append, length-drop}
-use Rattle.std.proofs.lemmas.List.{take_all, take-append-drop, take_at, drop-drop, get_or-take, length-take-le}
+use Rattle.std.proofs.Common.{◌≡◌, ℕ, ◌+◌, ◌-◌, ◌<◌, ◌≤◌, List, ◌++◌, length, take, drop, get_or, refl, sym, ap, ap₂, ◌∙◌, arith, length-append, length-drop, take_all, take-append-drop, take_at, drop-drop, get_or-take, length-take-le}
 use Rattle.std.proofs.lemmas.List.FromFn.{fill_by_all}
 use Rattle.std.proofs.lemmas.Slice.{drop-append-drop}
 use Rattle.std.proofs.Math.Seq.{take-add}
@@ -50,7 +48,7 @@ pub advance : (f g : ℕ → ℕ) (d n s : ℕ) (was now : List ℕ) → ((i : �
     take d now ++ xored g (take n (drop (s + d) now)) ++ drop (d + n) now ≡ xored f (take (d + n) (drop s was)) ++ drop (d + n) was
 advance f g d n s was now later room e =
     let text = drop s was in
-    let done = xored f _ in
+    let done = xored f (take d text) in
     let front = length-take-le d text (omega (arith, length-drop s was)) in
     let len = length-xored f _ ∙ front in
     let more = ap (take d) e ∙ take_at done _ d len in

@@ -1,10 +1,8 @@
 -- The operations of `aes::tower` on the coordinates at one place.
-use Rattle.std.proofs.Common.{◌≡◌, ℕ, ◌/◌, ◌^◌, Bool, true, ◌&&◌, ◌||◌, inl, inr, List, [], ◌∷◌, ◌++◌, length, take, drop, refl, sym, ap, ap₂, ◌∙◌}
-use Rattle.std.proofs.Common.{arith, find, unwrap_or, slice_index}
-use Rattle.std.specs.Prelude.{◌==◌}
+use Rattle.std.proofs.Common.{◌≡◌, ℕ, ◌/◌, ◌^◌, Bool, true, ◌&&◌, ◌||◌, inl, inr, List, [], ◌∷◌, ◌++◌, length, take, drop, refl, sym, ap, ap₂, ◌∙◌, arith, find, unwrap_or, slice_index, ◌==◌, eqb-true}
 use Rattle.std.specs.Int.{bit_at}
 use Rattle.std.specs.List.{range_with_len}
-use Rattle.std.proofs.lemmas.Bool.{and_parts, or_cases, eqb-true}
+use Rattle.std.proofs.lemmas.Bool.{and_parts, or_cases}
 use Rattle.aead_ciphers_base.specs.Polynomial.{◌xor◌, coefficient}
 use Rattle.aead_ciphers_base.specs.ByteField.{bits_of, value_of, mul8, inv, affine}
 use Rattle.aead_ciphers_base.specs.Planes.{plane_byte, plane_polynomial}

@@ -1,8 +1,7 @@
 -- Four lists side by side in the lanes of vectors.
-use Rattle.std.proofs.Common.{◌≡◌, ℕ, ◌+◌, ◌-◌, ◌*◌, ◌/◌, ◌%◌, ◌^◌, ◌<◌, List, [], ◌∷◌, ◌++◌, ◌≤◌, length, take, drop, slice_index}
-use Rattle.std.proofs.Common.{slice_index_or, slice_set, bit_or, bit_xor, sym, ap, ap₂, ◌∙◌, arith}
+use Rattle.std.proofs.Common.{◌≡◌, ℕ, ◌+◌, ◌-◌, ◌*◌, ◌/◌, ◌%◌, ◌^◌, ◌<◌, List, [], ◌∷◌, ◌++◌, ◌≤◌, length, take, drop, slice_index, slice_index_or, slice_set, bit_or, bit_xor, sym, ap, ap₂, ◌∙◌, arith, take_all, drop_at, length-take}
 use Rattle.std.specs.Simd.Lanes.{zip2}
-use Rattle.std.proofs.lemmas.List.{map-set, get_or-map, get_or-replicate, length-map, take_all, take_more, take_more_set, drop_at, drop-take, length-take}
+use Rattle.std.proofs.lemmas.List.{map-set, get_or-map, get_or-replicate, length-map, take_more, take_more_set, drop-take}
 use Rattle.std.proofs.lemmas.Simd.{get_or-zip2, length-zip2}
 use Rattle.std.proofs.lemmas.Slice.{take-put_mid, take-put_mid_below}
 use borrow.Rule.Slice.PartMut.{put_mid}

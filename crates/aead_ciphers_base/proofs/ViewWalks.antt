@@ -10,12 +10,7 @@
 --     ok_of, err_of         what an `Ok` and an `Err` own
 --     let_go, kept_in_ok, kept_at_err      a slice that an answer holds, or that is let go
 --     accepts, refuses      the answer of a call that makes a buffer of a slice, and its clauses
-use Rattle.aead_ciphers_base.proofs.WalkNames.{◌≡◌, refl, sym, ◌∙◌, List, [], ◌∷◌, ◌++◌, ℕ, ◌^◌, ◌<◌, length, take, drop_list, Ura, named, w64, Val, vint, vstruct, vcons}
-use Rattle.aead_ciphers_base.proofs.WalkNames.{vnil, of_list, SProp, ent, sep, Fml, Lft, GName, ftrue, fsep, feq, fres, fobs, Logic, sem, Item, Seq, Step}
-use Rattle.aead_ciphers_base.proofs.WalkNames.{Goal, ‵, raw, ◌$◌, ◌∵◌, !, qed, by, move, keep, drop, fsplit, fsplit3, fjoin, fpick, fpack, feq_l, feq_i, use1}
-use Rattle.aead_ciphers_base.proofs.WalkNames.{use2, rewrite, done, updating, now, each, assume, fact, usize, follows, follows_both, Is, shows, param, number}
-use Rattle.aead_ciphers_base.proofs.WalkNames.{RattleType, Valss, owns, NamedLft, MutBor, MutSlice, Room, slice_val, nothing, peeks, within, shape, Ok, Err}
-use Rattle.aead_ciphers_base.proofs.WalkNames.{IsOk, IfOk, IfErr, ◌↔◌}
+use Rattle.aead_ciphers_base.proofs.WalkNames.{◌≡◌, refl, sym, ◌∙◌, List, [], ◌∷◌, ◌++◌, ℕ, ◌^◌, ◌<◌, length, take, drop_list, Ura, named, w64, Val, vint, vstruct, vcons, vnil, of_list, SProp, ent, sep, Fml, Lft, GName, ftrue, fsep, feq, fres, fobs, Logic, sem, Item, Seq, Step, Goal, ‵, raw, ◌$◌, ◌∵◌, !, qed, by, move, keep, drop, fsplit, fsplit3, fjoin, fpick, fpack, feq_l, feq_i, use1, use2, rewrite, done, updating, now, each, assume, fact, usize, follows, follows_both, Is, shows, param, number, RattleType, Valss, owns, NamedLft, MutBor, MutSlice, Room, slice_val, nothing, peeks, within, shape, Ok, Err, IsOk, IfOk, IfErr, ◌↔◌}
 use Rattle.aead_ciphers_base.proofs.Walks.{tells, tell, says}
 use base.Stored.{Gv}
 use base.Logic.{wand, all_e, apply∗}
@@ -38,13 +33,13 @@ use denote.RattleType.{Denots, flat}
 use denote.Struct.Struct.{Shape, Struct}
 use denote.Struct.Tuple.{Tuple, tuple_type}
 use Rattle.std.proofs.Math.Seq.{take-append_seam, drop-append_seam}
-use Rattle.std.specs.contracts.result.Result as RS
 use Rattle.std.specs.declared.ops.RangeFrom.{RangeFrom}
-use Rattle.std.specs.contracts.ops.RangeFrom as RF
 use Rattle.aead_ciphers_base.specs.Overlapping.{KeptIfErr}
 use Rattle.aead_ciphers_base.specs.declared.overlapping.base.Overlapping.{Overlapping}
-use Rattle.aead_ciphers_base.specs.contracts.overlapping.base.Overlapping as O
 use Rattle.aead_ciphers_base.specs.declared.polyfill.slice.chunks_mut.AsChunksMut.{AsChunksMut}
+use Rattle.std.specs.contracts.result.Result as RS
+use Rattle.std.specs.contracts.ops.RangeFrom as RF
+use Rattle.aead_ciphers_base.specs.contracts.overlapping.base.Overlapping as O
 use Rattle.aead_ciphers_base.specs.contracts.polyfill.slice.chunks_mut.AsChunksMut as A
 
 -- the laws of numbers, as a row's laws take them

@@ -1,13 +1,10 @@
 -- Steps of the machine over locals. Assumes `Logic`.
 --     gets, alone, both      operands that are locals read whole
 --     reborrows              `&mut *s` of a slice s: its pointer, and then the pointer with the length
-use mathlib.Core.Path.{◌≡◌, sym, ap, subst, ◌∙◌, refl}
-use mathlib.Core.List.{List, [], ◌∷◌}
-use Prim.Native.Nat.{ℕ, zero}
+use Rattle.std.proofs.Common.{◌≡◌, sym, ap, subst, ◌∙◌, refl, List, [], ◌∷◌, ℕ, zero, T}
 use seplogic.Ra.Ura.{Ura}
 use base.Fraction.{full_share}
 use base.Fml.{fat, froom}
-use lib.Dec.{T}
 use mir.Syntax.{Lifetime, Ty, ty_int, w64, ty_ref, mut, Body, Opd, copy, place, field, deref, seq, assign, addr_of, aggregate}
 use mir.Val.{Val, vptr, vint, WT, has_ty}
 use prog.Wp.{Env, Calls, Loops, spot_of}

@@ -6,16 +6,12 @@
 --     ends                  the walk's end
 --     learns, takes         a fact, or a formula, is taken from what the head says
 --     tell, tells, says     a fact is told, alone or before what the head says; what the head means is said
-use Rattle.aead_ciphers_base.proofs.WalkNames.{◌≡◌, refl, sym, subst, List, [], ◌∷◌, ◌++◌, ℕ, ◌^◌, ◌<◌, Ura, Fn, Val, SProp, ent, sep, emp, id⊢, Fml, flft}
-use Rattle.aead_ciphers_base.proofs.WalkNames.{Logic, sem, Item, Sq, Seq, Step, Goal, prop, mean, ‵, ◌⊛◌, raw, some, later, ◌$◌, ◌∵◌, !, qed, move, drop}
-use Rattle.aead_ciphers_base.proofs.WalkNames.{split, use0, use1, use2, await, pick, fact, fact_i, RattleType, Valss, owns, types_at, slice_val, heard, Stays}
-use Rattle.aead_ciphers_base.proofs.WalkNames.{stay_dropped}
+use Rattle.aead_ciphers_base.proofs.WalkNames.{◌≡◌, refl, sym, subst, List, [], ◌∷◌, ◌++◌, ℕ, ◌^◌, ◌<◌, Ura, Fn, Val, SProp, ent, sep, emp, id⊢, Fml, flft, Logic, sem, Item, Sq, Seq, Step, Goal, prop, mean, ‵, ◌⊛◌, raw, some, later, ◌$◌, ◌∵◌, !, qed, move, drop, split, use0, use1, use2, await, pick, fact, fact_i, RattleType, Valss, owns, types_at, slice_val, heard, Stays, stay_dropped}
 use mir.Syntax.{Ty, ty_int, w8, Callee, Opd, Place, Body, seq, call}
 use prog.Wp.{Env, Calls, Loops, Closed, WpFn}
 use sound.WpLaws.{FmC}
-use Prim.Native.Nat.{zero, suc}
+use Rattle.std.proofs.Common.{zero, suc, T}
 use mir.Val.{has_ty, WT}
-use lib.Dec.{T}
 use base.Logic.{mono_l, mono_r, via, emp∗}
 use contract.Lifetimes.{Lfts, Shares, toks}
 use contract.Running.{Running, tables}

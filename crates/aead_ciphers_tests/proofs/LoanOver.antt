@@ -6,9 +6,7 @@
 --     concludes, unchanged     what is said of the buffer at the return is said of it once the loan is over
 --     let_go                   the result is let go: the buffer's last value
 --     loan_ends                the same, and the buffer is back
-use mathlib.Core.Path.{◌≡◌, refl, sym, ap, subst, ◌∙◌}
-use mathlib.Core.List.{List, [], ◌∷◌, ◌++◌}
-use Prim.Native.Nat.{ℕ, ◌-◌}
+use Rattle.std.proofs.Common.{◌≡◌, refl, sym, ap, subst, ◌∙◌, List, [], ◌∷◌, ◌++◌, ℕ, ◌-◌, length, take, arith, length-drop, length-take-le, Bool, true, false, Result, Ok, Err, is_ok, IfOk}
 use seplogic.Ra.Ura.{Ura}
 use mir.Syntax.{erased, named}
 use mir.Val.{Val, of_list}
@@ -18,8 +16,7 @@ use base.Fml.{Fml, Lft, GName, Share, flft, fres}
 use base.Fraction.{full_share}
 use types.Logic.{Logic, sem}
 use types.Match.{live}
-use types.Kit.{Item, Seq, Goal, Soaks, ‵, ◌⊛◌, some, given, later, pick, split, use3, ◌$◌, ◌∵◌, !, qed}
-use types.Kit.{move, keep, drop, use1, use2, await, learn, fsplit, fpick, feq_l, rewrite, updating, now, show, check, done}
+use types.Kit.{Item, Seq, Goal, Soaks, ‵, ◌⊛◌, some, given, later, pick, split, use3, ◌$◌, ◌∵◌, !, qed, move, keep, drop, use1, use2, await, learn, fsplit, fpick, feq_l, rewrite, updating, now, show, check, done}
 use denote.Array.{Array}
 use denote.Builtin.{u8}
 use denote.Follow.{follows_by}
@@ -31,11 +28,8 @@ use denote.Slice.{MutSlice, Room, slice_val, finally, res-finally, mut_slice_val
 use denote.Steps.{peeks}
 use types.Tokens.{lft_end}
 use borrow.Rule.Slice.Lend.{sl_relent_backˡ}
-use lib.ListN.{length, take, drop as drop_list}
+use lib.ListN.{drop as drop_list}
 use native.Mathlib.Nat.{suc-ne-zero}
-use Rattle.std.proofs.Common.{arith, length-drop}
-use Rattle.std.proofs.lemmas.List.{length-take-le}
-use Rattle.std.specs.Prelude.{Bool, true, false, Result, Ok, Err, is_ok, IfOk}
 use Rattle.aead_ciphers_base.proofs.CounterModeLemmas.{length-counter_mode}
 use Rattle.aead_ciphers.specs.Gcm.{gcm_decrypted}
 use Rattle.aead_ciphers.specs.Lending.{LendsFront, lent_buffer}

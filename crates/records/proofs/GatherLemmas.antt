@@ -1,9 +1,7 @@
 -- A record that stands in a buffer, and its inner plaintext, which stands before it.
-use Rattle.std.proofs.Common.{◌≡◌, ◌≢◌, ℕ, Bool, ◌+◌, ◌-◌, ◌<◌, ◌≤◌, List, ◌++◌, length, take, drop, replicate, true, false, refl, sym, ap, ◌∙◌, arith}
-use Rattle.std.proofs.lemmas.List.{append_assoc, append_cancel_left, drop-append-le, drop-drop, drop_at, length-drop, length-take-le}
-use Rattle.std.proofs.lemmas.List.{take-append-drop, take-take, take_at}
+use Rattle.std.proofs.Common.{◌≡◌, ◌≢◌, ℕ, Bool, ◌+◌, ◌-◌, ◌<◌, ◌≤◌, List, ◌++◌, length, take, drop, replicate, true, false, refl, sym, ap, ◌∙◌, arith, append_assoc, drop-drop, drop_at, length-drop, length-take-le, take-append-drop, take-take, take_at, Ok, Err}
+use Rattle.std.proofs.lemmas.List.{append_cancel_left, drop-append-le}
 use Rattle.std.proofs.lemmas.Slice.{between_is}
-use Rattle.std.specs.Prelude.{Ok, Err}
 use Rattle.aead_ciphers_base.specs.Aes.{aes}
 use Rattle.aead_ciphers.specs.Gcm.{gcm_decrypted, OpenedAttached}
 use Rattle.aead_ciphers.proofs.MessageLaws.{encrypted-decrypted, length-aes_decrypted}

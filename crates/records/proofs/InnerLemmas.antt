@@ -1,7 +1,6 @@
 -- Inner plaintexts (RFC 8446 section 5.4).
-use Rattle.std.proofs.Common.{◌≡◌, ◌≢◌, ℕ, suc, ◌+◌, ◌-◌, ◌<◌, List, [], ◌∷◌, ◌++◌, length, get_or, take, drop, replicate, refl, sym}
-use Rattle.std.proofs.Common.{◌∙◌, arith}
-use Rattle.std.proofs.lemmas.List.{drop_more, ext_get_or, get_or-drop, get_or-replicate, length-append, length-drop, length-replicate, take-append-drop}
+use Rattle.std.proofs.Common.{◌≡◌, ◌≢◌, ℕ, suc, ◌+◌, ◌-◌, ◌<◌, List, [], ◌∷◌, ◌++◌, length, get_or, take, drop, replicate, refl, sym, ◌∙◌, arith, ext_get_or, get_or-drop, length-append, length-drop, take-append-drop}
+use Rattle.std.proofs.lemmas.List.{drop_more, get_or-replicate, length-replicate}
 use Rattle.records.specs.Record.{Inner, inner_plaintext}
 
 -- a list that is zero behind a place

@@ -1,10 +1,7 @@
 -- Records and their headers.
-use Rattle.std.proofs.Common.{◌≡◌, ◌≢◌, ℕ, ◌+◌, ◌-◌, ◌<◌, List, ◌++◌, length, get_or, take, drop, replicate}
-use Rattle.std.proofs.Common.{refl, sym, ap, ap₂, ◌∙◌, rules, arith}
-use Rattle.std.proofs.lemmas.List.{append_cancel_left, drop_at, get_or-drop, get_or-take, get_or_past, length-append, length-drop}
-use Rattle.std.proofs.lemmas.List.{take-append-drop, take_at}
+use Rattle.std.proofs.Common.{◌≡◌, ◌≢◌, ℕ, ◌+◌, ◌-◌, ◌<◌, List, ◌++◌, length, get_or, take, drop, replicate, refl, sym, ap, ap₂, ◌∙◌, rules, arith, drop_at, get_or-drop, get_or-take, length-append, length-drop, take-append-drop, take_at, Err}
+use Rattle.std.proofs.lemmas.List.{append_cancel_left, get_or_past}
 use Rattle.std.proofs.lemmas.Nat.{be_bytes_2}
-use Rattle.std.specs.Prelude.{Err}
 use Rattle.aead_ciphers_base.specs.Aes.{aes}
 use Rattle.aead_ciphers.specs.Gcm.{gcm_decrypted, gcm_encrypted, gcm_sealed, gcm_tag}
 use Rattle.records.specs.Record.{Inner, IsHeader, IsWhole, encrypted_len, header, inner_plaintext}

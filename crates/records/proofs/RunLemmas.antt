@@ -1,6 +1,5 @@
 -- Reading undoes writing.
-use Rattle.std.proofs.Common.{◌≡◌, ℕ, List, [], ◌∷◌, false, true, map, refl, sym, ap₂, subst, ◌∙◌, rules}
-use Rattle.std.specs.Prelude.{Result, Ok, Err}
+use Rattle.std.proofs.Common.{◌≡◌, ℕ, List, [], ◌∷◌, false, true, map, refl, sym, ap₂, subst, ◌∙◌, rules, Result, Ok, Err}
 use Rattle.aead_ciphers.specs.Runs.{Runs}
 use Rattle.records.specs.Record.{Inner}
 use Rattle.records.specs.State.{State}

@@ -1,6 +1,6 @@
 -- A record is sealed where it stands.
-use Rattle.std.proofs.Common.{◌≡◌, ℕ, ◌-◌, List, ◌++◌, length, take, drop, replicate, refl, ap, ◌∙◌, arith}
-use Rattle.std.proofs.lemmas.List.{append-nil, drop_at, drop_all, length-append, take_all, take_at}
+use Rattle.std.proofs.Common.{◌≡◌, ℕ, ◌-◌, List, ◌++◌, length, take, drop, replicate, refl, ap, ◌∙◌, arith, append-nil, drop_at, length-append, take_all, take_at}
+use Rattle.std.proofs.lemmas.List.{drop_all}
 use Rattle.aead_ciphers_base.specs.Aes.{aes}
 use Rattle.aead_ciphers.specs.Gcm.{gcm_sealed}
 use Rattle.aead_ciphers.specs.Packet.{sealed_packet}

@@ -1,8 +1,7 @@
 -- What the calls for one chunk say.
-use Rattle.std.proofs.Common.{◌≡◌, ◌↔◌, ℕ, Bool, true, ◌-◌, ◌≤◌, List}
-use Rattle.std.proofs.Common.{◌++◌, length, drop, map, get_or, refl, sym, ap, ◌∙◌, arith, append-nil}
+use Rattle.std.proofs.Common.{◌≡◌, ◌↔◌, ℕ, Bool, true, ◌-◌, ◌≤◌, List, ◌++◌, length, drop, map, get_or, refl, sym, ap, ◌∙◌, arith, append-nil, drop_at, length-append, take_at}
 use Rattle.std.specs.List.{range_with_len}
-use Rattle.std.proofs.lemmas.List.{drop_all, drop_at, length-append, take_at}
+use Rattle.std.proofs.lemmas.List.{drop_all}
 use Rattle.std.proofs.lemmas.List.FromFn.{fill_by_all}
 use Rattle.aead_ciphers_base.specs.Aes.{aes}
 use Rattle.aead_ciphers.specs.Gcm.{gcm_decrypted, Opened}

@@ -1,7 +1,6 @@
 -- A sealed file that is cut behind a chunk.
-use Rattle.std.proofs.Common.{◌≡◌, ℕ, Bool, false, ◌+◌, ◌-◌, ◌*◌, ◌<◌, ◌≤◌, List, length, take, drop, ap, ◌∙◌, arith}
-use Rattle.std.proofs.lemmas.Bool.{eq-eqb, ne_eqb}
-use Rattle.std.proofs.lemmas.List.{drop-take, length-take-le, take-take}
+use Rattle.std.proofs.Common.{◌≡◌, ℕ, Bool, false, ◌+◌, ◌-◌, ◌*◌, ◌<◌, ◌≤◌, List, length, take, drop, ap, ◌∙◌, arith, eq-eqb, ne_eqb, length-take-le, take-take}
+use Rattle.std.proofs.lemmas.List.{drop-take}
 use Rattle.sealed_file.specs.Format.{chunk_len, sealed_chunk_len, piece, sealed_chunk, sealed_file}
 use Rattle.sealed_file.specs.Opening.{HasTag, IsSealed, HasBothTags, last_chunk, prefix_of, body_of}
 use Rattle.sealed_file.proofs.ChunkLemmas.{of_same}

@@ -1,16 +1,12 @@
 -- The steps of opening.
-use Rattle.std.proofs.Common.{◌≡◌, ℕ, Bool, true, false, inl, inr, IfSome, ◌+◌, ◌-◌, ◌*◌, ◌^◌, ◌<◌, ◌≤◌}
-use Rattle.std.proofs.Common.{List, [], ◌++◌, length, take, drop, sym, ap, subst, ◌∙◌, arith, below_more}
-use Rattle.std.specs.Prelude.{◌==◌, Option}
+use Rattle.std.proofs.Common.{◌≡◌, ℕ, Bool, true, false, inl, inr, IfSome, ◌+◌, ◌-◌, ◌*◌, ◌^◌, ◌<◌, ◌≤◌, List, [], ◌++◌, length, take, drop, sym, ap, subst, ◌∙◌, arith, below_more, ◌==◌, Option, eqb-true, length-take, take-take, append-nil}
 use Rattle.std.specs.Io.KnownBytes.{Appends, Keeps}
 use Rattle.std.proofs.KnownBytes.{Appends-kept, Appends-nil, Appends-trans, Keeps-refl}
-use Rattle.std.proofs.lemmas.Bool.{eqb-false, eqb-true}
-use Rattle.std.proofs.lemmas.List.{length-take, take-take, append-nil}
+use Rattle.std.proofs.lemmas.Bool.{eqb-false}
 use Rattle.sealed_file.specs.declared.error.FileError.{FileError}
 use Rattle.sealed_file.specs.declared.error.FileError.TheVariants.{TooLong, Io}
 use Rattle.sealed_file.specs.Format.{sealed_chunk_len, piece}
-use Rattle.sealed_file.specs.Opening.{HasTag, HasRightTag, HasHeader, AreRight, IsSealed}
-use Rattle.sealed_file.specs.Opening.{opened_chunk, opened_chunks, opened_file, last_chunk, prefix_of, body_of}
+use Rattle.sealed_file.specs.Opening.{HasTag, HasRightTag, HasHeader, AreRight, IsSealed, opened_chunk, opened_chunks, opened_file, last_chunk, prefix_of, body_of}
 use Rattle.sealed_file.specs.Refusals.{HeaderRefuses, ChunkRefuses, RefusesAt, OpenRefuses}
 use Rattle.sealed_file.specs.Streams.{AppendsBeginning, TakesFront}
 use Rattle.sealed_file.proofs.ChunkLemmas.{of_same}

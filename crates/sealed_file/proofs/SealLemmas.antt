@@ -1,11 +1,8 @@
 -- The steps of sealing.
-use Rattle.std.proofs.Common.{◌≡◌, ℕ, Bool, true, false, IfSome, ◌+◌, ◌-◌, ◌*◌, ◌^◌, ◌<◌, ◌≤◌}
-use Rattle.std.proofs.Common.{List, [], ◌++◌, length, drop, sym, ap, subst, ◌∙◌, arith, append_assoc, append-nil}
-use Rattle.std.specs.Prelude.{◌==◌, Option}
+use Rattle.std.proofs.Common.{◌≡◌, ℕ, Bool, true, false, IfSome, ◌+◌, ◌-◌, ◌*◌, ◌^◌, ◌<◌, ◌≤◌, List, [], ◌++◌, length, drop, sym, ap, subst, ◌∙◌, arith, append_assoc, append-nil, ◌==◌, Option, eqb-true, length-append}
 use Rattle.std.specs.Io.KnownBytes.{Appends}
 use Rattle.std.proofs.KnownBytes.{Appends-nil, Appends-trans}
-use Rattle.std.proofs.lemmas.Bool.{eqb-false, eqb-true}
-use Rattle.std.proofs.lemmas.List.{length-append}
+use Rattle.std.proofs.lemmas.Bool.{eqb-false}
 use Rattle.sealed_file.specs.Format.{chunk_len, piece, header, sealed_chunk, sealed_chunks, sealed_file}
 use Rattle.sealed_file.specs.Streams.{AppendsBeginning, TakesFront}
 use Rattle.sealed_file.proofs.FileLemmas.{chunk_at, last_of, length-chunk_at}

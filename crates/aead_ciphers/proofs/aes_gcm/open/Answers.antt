@@ -1,5 +1,4 @@
-use Rattle.std.specs.Prelude.{is_ok}
-use Rattle.std.proofs.Common.{subst}
+use Rattle.std.proofs.Common.{is_ok, subst}
 use Rattle.aead_ciphers_base.specs.Values.{aad_bytes}
 use Rattle.aead_ciphers_base.specs.Aes.{aes}
 use Rattle.aead_ciphers.specs.Gcm.{Opened}

@@ -1,6 +1,5 @@
-use Rattle.std.proofs.Common.{◌≡◌, take, drop}
+use Rattle.std.proofs.Common.{◌≡◌, take, drop, ◌≢◌, vec_capacity}
 use Rattle.std.specs.List.{AllZip}
-use Rattle.std.specs.Prelude.{◌≢◌, vec_capacity}
 use Rattle.aead_ciphers.specs.Runs.{JobStep, Runs}
 use Rattle.aead_ciphers.specs.declared.session.Operation.TheVariants.{Seal}
 use Rattle.aead_ciphers.proofs.session.run.Given as goal

@@ -1,8 +1,7 @@
-use Rattle.std.proofs.Common.{◌≡◌, length, sym, ◌∙◌, arith}
+use Rattle.std.proofs.Common.{◌≡◌, length, sym, ◌∙◌, arith, ext_get_or}
 use Rattle.std.specs.Simd.Lanes.{zip2}
 use Rattle.std.proofs.lemmas.Simd.{get_or-zip2, length-zip2}
 use Rattle.aead_ciphers_base.specs.ChaCha20.{add32}
-use Rattle.std.proofs.lemmas.List.{ext_get_or}
 use Rattle.aead_ciphers_base.proofs.chacha.add_words.Goals as goal
 
 pub returns : goal.returns

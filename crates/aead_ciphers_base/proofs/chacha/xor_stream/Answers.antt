@@ -1,5 +1,4 @@
-use Rattle.std.proofs.Common.{◌≡◌, ℕ, List, ◌+◌, ◌-◌, ◌≤◌, ◌++◌, length, take, drop, rules, ap, sym, ◌∙◌, arith, append_assoc, length-take, length-drop}
-use Rattle.std.proofs.lemmas.List.{take_at, drop-drop}
+use Rattle.std.proofs.Common.{◌≡◌, ℕ, List, ◌+◌, ◌-◌, ◌≤◌, ◌++◌, length, take, drop, rules, ap, sym, ◌∙◌, arith, append_assoc, length-take, length-drop, take_at, drop-drop}
 use Rattle.aead_ciphers_base.specs.Bytes.{◌⊕◌}
 use Rattle.aead_ciphers_base.proofs.XorLemmas.{length-xor, xor_comm}
 use Rattle.aead_ciphers_base.proofs.chacha.xor_stream.Goals as goal

@@ -1,14 +1,10 @@
 -- The plaintext that `open_within` lends is let go, and the buffer is back.
-use Rattle.aead_ciphers.proofs.LendingWalk.{refl, ◌-◌, [], ◌∷◌, full_share, ◌$◌, !, move, keep, of_opd, returns, alloc_all, pass_all, free_all, look_at, get, stop}
-use Rattle.aead_ciphers.proofs.LendingWalk.{sets, lands_as, named_lft, types_at, mut_slice_vals, heard, length, Words, words_vals, words_typed, plain}
-use Rattle.aead_ciphers.proofs.LendingWalk.{slice_typed, nonce_word, aad_word, range_word, gets, reborrows, learns, aad_bytes}
-use Rattle.aead_ciphers.proofs.LendingWalk.{OpenedAttached, walked, consults, at_words, with_third, with_third_share, relends, ends, table_of}
+use Rattle.aead_ciphers.proofs.LendingWalk.{refl, ◌-◌, [], ◌∷◌, full_share, ◌$◌, !, move, keep, of_opd, returns, alloc_all, pass_all, free_all, look_at, get, stop, sets, lands_as, named_lft, types_at, mut_slice_vals, heard, length, Words, words_vals, words_typed, plain, slice_typed, nonce_word, aad_word, range_word, gets, reborrows, learns, aad_bytes, OpenedAttached, walked, consults, at_words, with_third, with_third_share, relends, ends, table_of}
 use Rattle.aead_ciphers.proofs.Lending.{Range}
 use Rattle.aead_ciphers.specs.Lending.{LendsFront}
 use Rattle.aead_ciphers_base.proofs.Walks.{takes, tell, tells}
 use Rattle.aead_ciphers_base.specs.Aes.{aes}
-use Rattle.std.specs.Prelude.{Bool, ◌≡◌, true, false, IsFalse}
-use Rattle.std.proofs.Common.{ap, List, ℕ}
+use Rattle.std.proofs.Common.{Bool, ◌≡◌, true, false, IsFalse, ap, List, ℕ}
 use contract.Running.{tables}
 use mir.Val.{vbool}
 use types.Kit.{at_ret}
@@ -24,13 +20,13 @@ use denote.Plain.{bool_Makes}
 use denote.Steps.{owned, only}
 use denote.Triple.Walked.{Stays, walk_of, stay_dropped, stay_slice, Goes-dropped, Goes-slice}
 use Rattle.aead_ciphers_tests.proofs.LoanOver.{ok_at, err_at, after, loan_ends, sized, concludes, unchanged}
+use Rattle.aead_ciphers.proofs.aead.less_safe_key.LessSafeKey.open_within.Met.{met}
 use Rattle.aead_ciphers.specs.contracts.aead.less_safe_key.LessSafeKey as K
 use Rattle.aead_ciphers_base.specs.contracts.values.Aad as A
 use Rattle.aead_ciphers_base.specs.contracts.values.Nonce as N
 use Rattle.aead_ciphers_tests.specs.contracts.loans.opens as F
 use Rattle.aead_ciphers.specs.contracts.aead.less_safe_key.LessSafeKey.open_within as C
 use Rattle.aead_ciphers_tests.proofs.loans.opens as P
-use Rattle.aead_ciphers.proofs.aead.less_safe_key.LessSafeKey.open_within.Met.{met}
 
 abbrev stayed : Stays F.ended.signature.params F.ended.kept
 stayed = (stay_dropped _ _, (stay_dropped _ _, (stay_dropped _ _, (stay_slice (2 ∷ []) tt (plain (λ _. u8)), (stay_dropped _ _, tt)))))

@@ -1,16 +1,11 @@
 -- The plaintext that an opening key's `open_within` lends is let go, and the buffer is back.
-use Rattle.aead_ciphers.proofs.LendingWalk.{refl, ◌-◌, [], ◌∷◌, full_share, ◌$◌, !, move, keep, of_opd, returns, alloc_all, pass_all, free_all, look_at, get, stop}
-use Rattle.aead_ciphers.proofs.LendingWalk.{a_type, dcons, dnil, addr, through, inst_fn, param, bounded, gave_ref, Goes-gave_ref}
-use Rattle.aead_ciphers.proofs.LendingWalk.{sets, lands_as, named_lft, types_at, mut_slice_vals, heard, length, Words, words_vals, words_typed, plain}
-use Rattle.aead_ciphers.proofs.LendingWalk.{slice_typed, aad_word, range_word, gets, reborrows, learns, aad_bytes}
-use Rattle.aead_ciphers.proofs.LendingWalk.{walked, consults, at_words, with_third, with_third_share, relends, ends, table_of}
+use Rattle.aead_ciphers.proofs.LendingWalk.{refl, ◌-◌, [], ◌∷◌, full_share, ◌$◌, !, move, keep, of_opd, returns, alloc_all, pass_all, free_all, look_at, get, stop, a_type, dcons, dnil, addr, through, inst_fn, param, bounded, gave_ref, Goes-gave_ref, sets, lands_as, named_lft, types_at, mut_slice_vals, heard, length, Words, words_vals, words_typed, plain, slice_typed, aad_word, range_word, gets, reborrows, learns, aad_bytes, walked, consults, at_words, with_third, with_third_share, relends, ends, table_of}
 use Rattle.aead_ciphers.proofs.Lending.{Range}
 use Rattle.aead_ciphers.specs.Lending.{LendsFront}
 use Rattle.aead_ciphers.specs.Steps.{OpenStep}
 use Rattle.std.proofs.VecSteps.Shapes.{after as after_statements}
 use Rattle.aead_ciphers_base.proofs.Walks.{takes, tell, tells}
-use Rattle.std.specs.Prelude.{Bool, ◌≡◌, true, false, IsFalse}
-use Rattle.std.proofs.Common.{ap, List, ℕ}
+use Rattle.std.proofs.Common.{Bool, ◌≡◌, true, false, IsFalse, ap, List, ℕ}
 use contract.Running.{tables}
 use mir.Val.{vbool}
 use types.Kit.{at_ret}
@@ -26,11 +21,11 @@ use denote.Plain.{bool_Makes}
 use denote.Steps.{owned, only}
 use denote.Triple.Walked.{Stays, walk_of, stay_dropped, stay_slice, Goes-dropped, Goes-slice}
 use Rattle.aead_ciphers_tests.proofs.LoanOver.{ok_at, err_at, after, loan_ends, concludes, unchanged}
+use Rattle.aead_ciphers.proofs.aead.opening_key.OpeningKey.open_within.Met.{met as open_met}
 use Rattle.aead_ciphers.specs.contracts.aead.opening_key.OpeningKey as K
 use Rattle.aead_ciphers_base.specs.contracts.values.Aad as A
 use Rattle.aead_ciphers_tests.specs.contracts.loans.opens_next as F
 use Rattle.aead_ciphers_tests.proofs.loans.opens_next as P
-use Rattle.aead_ciphers.proofs.aead.opening_key.OpeningKey.open_within.Met.{met as open_met}
 
 pub opens_next_spec : {M : Type 1} → P.Statement.statement M
 opens_next_spec 𝓤 𝓛 𝓜 𝓡 wired N LN g d met =

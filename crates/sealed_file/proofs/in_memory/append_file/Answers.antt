@@ -1,7 +1,4 @@
-use Rattle.std.proofs.Common.{◌≡◌, ℕ, true, false, Some, length, arith, ap, refl}
-use Rattle.std.specs.Prelude.{◌==◌}
-use Rattle.std.proofs.lemmas.Bool.{eq-eqb, ne_eqb}
-use Rattle.std.proofs.lemmas.List.{length-append}
+use Rattle.std.proofs.Common.{◌≡◌, ℕ, true, false, Some, length, arith, ap, refl, ◌==◌, eq-eqb, ne_eqb, length-append}
 use Rattle.std.proofs.lemmas.Result.{err_from_is_err_and}
 use Rattle.sealed_file.specs.Opening.{opened_chunks}
 use Rattle.sealed_file.proofs.InMemoryLemmas.{chunk_fails, front_through, open_fits}

@@ -1,5 +1,4 @@
-use Rattle.std.proofs.Common.{arith}
-use Rattle.std.proofs.lemmas.List.{length-drop}
+use Rattle.std.proofs.Common.{arith, length-drop}
 use Rattle.sealed_file.proofs.InMemoryLemmas.{length-opened_file}
 use Rattle.sealed_file.proofs.in_memory.opened_len.Goals as goal
 

@@ -1,6 +1,4 @@
-use Rattle.std.proofs.Common.{rules, ℕ, List, Some, ◌++◌, length, arith, ap, ◌∙◌}
-use Rattle.std.specs.Prelude.{◌==◌}
-use Rattle.std.proofs.lemmas.List.{length-append}
+use Rattle.std.proofs.Common.{rules, ℕ, List, Some, ◌++◌, length, arith, ap, ◌∙◌, ◌==◌, length-append}
 use Rattle.std.proofs.lemmas.Result.{err_from_is_err_and}
 use Rattle.sealed_file.proofs.FileLemmas.{length-sealed_file}
 use Rattle.sealed_file.proofs.PieceLemmas.{length-piece-le}

@@ -1,10 +1,6 @@
 -- `lend_plaintext` lends the first bytes of a slice, or lets it go. The borrow checker shows no write-back clause for a
 -- slice that lends a slice, so this proof walks the code by hand.
-use Rattle.aead_ciphers_base.proofs.WalkNames.{◌≡◌, refl, sym, ap, ◌∙◌, List, [], ◌∷◌, ◌++◌, ℕ, length, take, drop_list, take-append-drop, Ura, named, Val, vstruct, vnil, of_list, flft}
-use Rattle.aead_ciphers_base.proofs.WalkNames.{Logic, Sq, prop, ‵, raw, some, later, ◌$◌, ◌∵◌, !, qed, move, keep, split3, use1, use2, await, pick}
-use Rattle.aead_ciphers_base.proofs.WalkNames.{whole, sub, agg, stop, fld, hop, from, lit, of_opd, addr, and_then, first, exec, returns, alloc_all, pass_all}
-use Rattle.aead_ciphers_base.proofs.WalkNames.{free_all, look_at, look_in_at, get, get_in, sets, env, fact, usize, Is, MutBor, MutSlice, Room, slice_val}
-use Rattle.aead_ciphers_base.proofs.WalkNames.{mut_slice_vals, nothing, heard, rewrite, follows, Items, RattleType, Stays, Ok, Err}
+use Rattle.aead_ciphers_base.proofs.WalkNames.{◌≡◌, refl, sym, ap, ◌∙◌, List, [], ◌∷◌, ◌++◌, ℕ, length, take, drop_list, take-append-drop, Ura, named, Val, vstruct, vnil, of_list, flft, Logic, Sq, prop, ‵, raw, some, later, ◌$◌, ◌∵◌, !, qed, move, keep, split3, use1, use2, await, pick, whole, sub, agg, stop, fld, hop, from, lit, of_opd, addr, and_then, first, exec, returns, alloc_all, pass_all, free_all, look_at, look_in_at, get, get_in, sets, env, fact, usize, Is, MutBor, MutSlice, Room, slice_val, mut_slice_vals, nothing, heard, rewrite, follows, Items, RattleType, Stays, Ok, Err}
 use Rattle.aead_ciphers_base.proofs.Walks.{dropped, goes, spreads, slice_typed, tell, tells, says, ends}
 use Rattle.aead_ciphers_base.proofs.WalkLocals.{alone, both}
 use Rattle.aead_ciphers_base.proofs.ViewWalks.{usize_laws, usize_told, ok_of, err_of, let_go}
@@ -13,7 +9,7 @@ use native.Mathlib.Nat.{suc-ne-zero}
 use borrow.Table.Elements.{length-take-le}
 use contract.Lifetimes.{Lfts, Shares}
 use contract.Running.{Running, tables}
-use lib.Dec.{lit<}
+use Rattle.std.proofs.Common.{lit<, is_ok, true, false}
 use prog.Model.{Model}
 use prog.Wp.{WpFn}
 use types.ByLocal.{get_tag, sets_last}
@@ -21,25 +17,24 @@ use types.Kit.{at_ret}
 use types.Match.{live, vrt, by_variants, in_variant}
 use types.Run.{enter}
 use denote.Builtin.{u8}
-use denote.Enum.Laws as EL
 use denote.Follow.{follows_by}
 use denote.Laws.{Typed}
 use denote.Slice.{mut_slice_Tells}
 use denote.Steps.{owned}
-use denote.Struct.Declared as Declared
 use denote.Struct.Struct.{Struct, Struct-Makes}
 use denote.Triple.Entry.{Vals, on_entry}
 use denote.Triple.Statement.{Contract}
 use denote.Triple.Walked.{walk_of}
-use Rattle.std.specs.Prelude.{is_ok, true, false}
 use Rattle.std.proofs.raw_atomic.Walks.{proved}
+use Rattle.aead_ciphers.proofs.Lending.{Answer, answer_Lawful, Out}
+use Rattle.aead_ciphers.specs.Lending.{LendsFront, Fronts}
+use denote.Enum.Laws as EL
+use denote.Struct.Declared as Declared
 use Rattle.std.proofs.result.Result.TheLaws as RL
 use Rattle.std.specs.contracts.result.Result as RS
 use Rattle.aead_ciphers_base.proofs.error.Unspecified.TheLaws as UL
 use Rattle.aead_ciphers_base.specs.contracts.error.Unspecified as US
-use Rattle.aead_ciphers.proofs.Lending.{Answer, answer_Lawful, Out}
 use Rattle.aead_ciphers.proofs.aead.lend.lend_plaintext as P
-use Rattle.aead_ciphers.specs.Lending.{LendsFront, Fronts}
 use Rattle.aead_ciphers.specs.contracts.aead.lend.lend_plaintext as F
 
 abbrev laws : EL.Laws (RS.the_type usize US.the_row)

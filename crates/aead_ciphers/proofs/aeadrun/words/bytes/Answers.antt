@@ -1,5 +1,4 @@
-use Rattle.std.proofs.Common.{◌≡◌, ◌≢◌, Err, inl, inr, sym}
-use Rattle.std.specs.Prelude.{codes}
+use Rattle.std.proofs.Common.{◌≡◌, ◌≢◌, Err, inl, inr, sym, codes}
 use Rattle.hex.specs.Hex.{decode_of}
 use Rattle.aead_ciphers.proofs.HexWords.{IsBytesWord-undecoded, bytes_of_word-undecoded}
 use Rattle.aead_ciphers.proofs.aeadrun.words.bytes.Goals as goal

@@ -1,5 +1,5 @@
-use Rattle.std.proofs.Common.{◌≡◌, ◌-◌, length, drop, arith, rules, ap₂, ◌∙◌, sym, ◌++◌}
-use Rattle.std.proofs.lemmas.List.{length-drop, nil_from_length}
+use Rattle.std.proofs.Common.{◌≡◌, ◌-◌, length, drop, arith, rules, ap₂, ◌∙◌, sym, ◌++◌, length-drop}
+use Rattle.std.proofs.lemmas.List.{nil_from_length}
 use Rattle.aead_ciphers_base.proofs.CounterModeLemmas.{counter_mode-nil}
 use Rattle.aead_ciphers.proofs.CounterModePieces.{put_rest}
 use Rattle.aead_ciphers.proofs.aes_gcm.counter_mode.encrypt_rest.Goals as goal

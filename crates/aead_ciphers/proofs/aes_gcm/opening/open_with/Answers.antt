@@ -1,5 +1,4 @@
-use Rattle.std.specs.Prelude.{false, is_ok}
-use Rattle.std.proofs.Common.{arith, rules, ◌∙◌, ◌≡◌, sym, refl, ap, ◌++◌, drop, length-drop, subst}
+use Rattle.std.proofs.Common.{false, is_ok, arith, rules, ◌∙◌, ◌≡◌, sym, refl, ap, ◌++◌, drop, length-drop, subst}
 use Rattle.aead_ciphers_base.specs.Values.{aad_bytes}
 use Rattle.aead_ciphers.specs.Gcm.{gcm_decrypted}
 use Rattle.aead_ciphers.specs.HashOf.{Absorbs}

@@ -1,5 +1,5 @@
-use Rattle.std.proofs.Common.{◌++◌, ap, length, arith, ◌∙◌, refl, subst, sym}
-use Rattle.std.proofs.lemmas.List.{append-nil, drop_all}
+use Rattle.std.proofs.Common.{◌++◌, ap, length, arith, ◌∙◌, refl, subst, sym, append-nil}
+use Rattle.std.proofs.lemmas.List.{drop_all}
 use Rattle.aead_ciphers_base.specs.CounterMode.{counter_mode}
 use Rattle.aead_ciphers_base.specs.Values.{aad_bytes}
 use Rattle.aead_ciphers_base.proofs.CounterModeLemmas.{length-counter_mode}

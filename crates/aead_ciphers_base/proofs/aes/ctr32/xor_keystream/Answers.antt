@@ -1,5 +1,4 @@
-use Rattle.std.proofs.Common.{◌≡◌, ℕ, ◌-◌, ◌*◌, ◌<◌, List, [], ◌++◌, length, drop, take, get_or, arith, rules, ap, sym, ◌∙◌}
-use Rattle.std.proofs.lemmas.List.{take_all, length-append, length-take-le, length-drop}
+use Rattle.std.proofs.Common.{◌≡◌, ℕ, ◌-◌, ◌*◌, ◌<◌, List, [], ◌++◌, length, drop, take, get_or, arith, rules, ap, sym, ◌∙◌, take_all, length-append, length-take-le, length-drop}
 use Rattle.aead_ciphers_base.specs.Aes.{aes}
 use Rattle.aead_ciphers_base.specs.Bytes.{◌⊕◌}
 use Rattle.aead_ciphers_base.proofs.CounterModeLemmas.{block_step, encrypts_none}

@@ -1,6 +1,5 @@
-use Rattle.std.proofs.Common.{◌≡◌, ℕ, zero, suc, ◌+◌, ◌-◌, ◌*◌, ◌/◌, ◌%◌, ◌^◌, ◌<◌, ◌≤◌, sym, ap, ap₂, ◌∙◌, arith, bit_xor, if◌then◌else◌}
-use Rattle.std.specs.Prelude.{◌==◌}
-use Rattle.std.proofs.lemmas.Nat.{shr-shr, shr_le}
+use Rattle.std.proofs.Common.{◌≡◌, ℕ, zero, suc, ◌+◌, ◌-◌, ◌*◌, ◌/◌, ◌%◌, ◌^◌, ◌<◌, ◌≤◌, sym, ap, ap₂, ◌∙◌, arith, bit_xor, if◌then◌else◌, ◌==◌, shr-shr}
+use Rattle.std.proofs.lemmas.Nat.{shr_le}
 use Rattle.std.proofs.lemmas.Nat.Bits.{shr_and_one}
 use Rattle.aead_ciphers_base.specs.ByteField.{mul8}
 use Rattle.aead_ciphers_base.proofs.NumberBits.{IsAdditive_zero}

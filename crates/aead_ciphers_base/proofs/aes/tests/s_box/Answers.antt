@@ -1,5 +1,4 @@
-use Rattle.std.proofs.Common.{◌≡◌, ℕ, true, refl, ap, ap₂, ◌∙◌, arith, bit_xor}
-use Rattle.std.specs.Prelude.{◌==◌}
+use Rattle.std.proofs.Common.{◌≡◌, ℕ, true, refl, ap, ap₂, ◌∙◌, arith, bit_xor, ◌==◌}
 use Rattle.std.specs.Int.{w8, rotate_left}
 use Rattle.aead_ciphers_base.specs.ByteField.{affine, sbox}
 use Rattle.aead_ciphers_base.proofs.NumberBits.{all_below, same_below}

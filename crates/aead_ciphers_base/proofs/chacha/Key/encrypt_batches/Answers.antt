@@ -1,5 +1,4 @@
-use Rattle.std.proofs.Common.{◌≡◌, ℕ, ◌+◌, ◌*◌, ◌∙◌, arith, length, rules}
-use Rattle.std.proofs.lemmas.List.{take_all}
+use Rattle.std.proofs.Common.{◌≡◌, ℕ, ◌+◌, ◌*◌, ◌∙◌, arith, length, rules, take_all}
 use Rattle.aead_ciphers_base.proofs.KeyStreamLemmas.{written_more}
 use Rattle.aead_ciphers_base.proofs.chacha.Key.encrypt_batches.Goals as goal
 

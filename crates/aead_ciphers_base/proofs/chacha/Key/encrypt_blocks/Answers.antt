@@ -1,5 +1,4 @@
-use Rattle.std.proofs.Common.{◌≡◌, ℕ, ◌+◌, ◌*◌, refl, rules, ap, ◌∙◌, arith, List, take, drop, length-drop}
-use Rattle.std.proofs.lemmas.List.{take_all}
+use Rattle.std.proofs.Common.{◌≡◌, ℕ, ◌+◌, ◌*◌, refl, rules, ap, ◌∙◌, arith, List, take, drop, length-drop, take_all}
 use Rattle.aead_ciphers_base.specs.Bytes.{xored}
 use Rattle.aead_ciphers_base.specs.ChaCha20.{chacha20_block, chacha20_encrypted, state_block}
 use Rattle.aead_ciphers_base.proofs.KeyStreamLemmas.{block-stream, written_more}

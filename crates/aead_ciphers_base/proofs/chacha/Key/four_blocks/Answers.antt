@@ -1,5 +1,4 @@
-use Rattle.std.proofs.Common.{◌≡◌, ◌<◌, ℕ, ◌+◌, List, length, slice_index, slice_set, rules, ap, sym, ◌∙◌, arith}
-use Rattle.std.proofs.lemmas.List.{get_or-set_same}
+use Rattle.std.proofs.Common.{◌≡◌, ◌<◌, ℕ, ◌+◌, List, length, slice_index, slice_set, rules, ap, sym, ◌∙◌, arith, get_or-set_same}
 use Rattle.aead_ciphers_base.specs.ChaCha20.{chacha20_block, state_block}
 use Rattle.aead_ciphers_base.specs.Lanes.{lane}
 use Rattle.aead_ciphers_base.proofs.KeyStreamLemmas.{blocks-stream}

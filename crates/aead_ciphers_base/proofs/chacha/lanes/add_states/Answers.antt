@@ -1,6 +1,5 @@
-use Rattle.std.proofs.Common.{◌≡◌, ℕ, ◌<◌, List, [], length, length-set, slice_index, slice_index_or, ap, ap₂, sym, ◌∙◌, arith}
+use Rattle.std.proofs.Common.{◌≡◌, ℕ, ◌<◌, List, [], length, length-set, slice_index, slice_index_or, ap, ap₂, sym, ◌∙◌, arith, get_or-set_other}
 use Rattle.std.specs.Simd.Lanes.{zip2}
-use Rattle.std.proofs.lemmas.List.{get_or-set_other}
 use Rattle.std.proofs.lemmas.Simd.{get_or-zip2, length-zip2}
 use Rattle.aead_ciphers_base.specs.ChaCha20.{add32}
 use Rattle.aead_ciphers_base.specs.Lanes.{lane}

@@ -1,13 +1,9 @@
 -- `open_in_place_separate_tag` lends what `lend_plaintext` lends of what `open_in_place_separate_tag_to_front` wrote.
-use Rattle.aead_ciphers.proofs.LendingWalk.{refl, ◌-◌, [], ◌∷◌, full_share, ◌$◌, !, move, keep, of_opd, returns, alloc_all, pass_all, free_all, look_at, get, sets}
-use Rattle.aead_ciphers.proofs.LendingWalk.{lands_as, named_lft, types_at, mut_slice_vals, nothing, heard, length, Words, words_vals, words_typed, slice_typed}
-use Rattle.aead_ciphers.proofs.LendingWalk.{nonce_word, aad_word, tag_word, range_word, gets, reborrows, learns, as_lent, lent_plain, length-drop, opened_fronts, aad_bytes, aes, Opened}
-use Rattle.aead_ciphers.proofs.LendingWalk.{table_of, front_met, dropped, goes, walked, consults, at_words, with_third, with_third_share, relends, regains}
-use Rattle.aead_ciphers.proofs.LendingWalk.{lends, tell, tells, says, ends}
+use Rattle.aead_ciphers.proofs.LendingWalk.{refl, ◌-◌, [], ◌∷◌, full_share, ◌$◌, !, move, keep, of_opd, returns, alloc_all, pass_all, free_all, look_at, get, sets, lands_as, named_lft, types_at, mut_slice_vals, nothing, heard, length, Words, words_vals, words_typed, slice_typed, nonce_word, aad_word, tag_word, range_word, gets, reborrows, learns, as_lent, lent_plain, length-drop, opened_fronts, aad_bytes, aes, Opened, table_of, front_met, dropped, goes, walked, consults, at_words, with_third, with_third_share, relends, regains, lends, tell, tells, says, ends}
+use Rattle.aead_ciphers.proofs.aead.less_safe_key.LessSafeKey.open_in_place_separate_tag_to_front.Met.{met}
 use Rattle.aead_ciphers.specs.contracts.aead.less_safe_key.LessSafeKey.open_in_place_separate_tag as F
 use Rattle.aead_ciphers.specs.contracts.aead.less_safe_key.LessSafeKey.open_in_place_separate_tag_to_front as C
 use Rattle.aead_ciphers.proofs.aead.less_safe_key.LessSafeKey.open_in_place_separate_tag as P
-use Rattle.aead_ciphers.proofs.aead.less_safe_key.LessSafeKey.open_in_place_separate_tag_to_front.Met.{met}
 
 pub open_in_place_separate_tag_spec : {M : Type 1} → P.Statement.statement M
 open_in_place_separate_tag_spec 𝓤 𝓛 𝓜 𝓡 wired =

@@ -1,13 +1,9 @@
 -- `open_within` lends what `lend_plaintext` lends of what `open_within_to_front` wrote.
-use Rattle.aead_ciphers.proofs.LendingWalk.{refl, ◌-◌, [], ◌∷◌, full_share, ◌$◌, !, move, keep, of_opd, returns, alloc_all, pass_all, free_all, look_at, get}
-use Rattle.aead_ciphers.proofs.LendingWalk.{sets, lands_as, named_lft, types_at, mut_slice_vals, nothing, heard, length, Words, words_vals, words_typed}
-use Rattle.aead_ciphers.proofs.LendingWalk.{slice_typed, nonce_word, aad_word, range_word, gets, reborrows, learns, as_lent, lent_plain, length-before_tag, opened_fronts, aad_bytes}
-use Rattle.aead_ciphers.proofs.LendingWalk.{aes, OpenedAttached, front_met, dropped, goes, walked, consults, at_words, with_third, with_third_share, relends}
-use Rattle.aead_ciphers.proofs.LendingWalk.{regains, lends, tell, tells, says, ends, table_of}
+use Rattle.aead_ciphers.proofs.LendingWalk.{refl, ◌-◌, [], ◌∷◌, full_share, ◌$◌, !, move, keep, of_opd, returns, alloc_all, pass_all, free_all, look_at, get, sets, lands_as, named_lft, types_at, mut_slice_vals, nothing, heard, length, Words, words_vals, words_typed, slice_typed, nonce_word, aad_word, range_word, gets, reborrows, learns, as_lent, lent_plain, length-before_tag, opened_fronts, aad_bytes, aes, OpenedAttached, front_met, dropped, goes, walked, consults, at_words, with_third, with_third_share, relends, regains, lends, tell, tells, says, ends, table_of}
+use Rattle.aead_ciphers.proofs.aead.less_safe_key.LessSafeKey.open_within_to_front.Met.{met}
 use Rattle.aead_ciphers.specs.contracts.aead.less_safe_key.LessSafeKey.open_within as F
 use Rattle.aead_ciphers.specs.contracts.aead.less_safe_key.LessSafeKey.open_within_to_front as C
 use Rattle.aead_ciphers.proofs.aead.less_safe_key.LessSafeKey.open_within as P
-use Rattle.aead_ciphers.proofs.aead.less_safe_key.LessSafeKey.open_within_to_front.Met.{met}
 
 pub open_within_spec : {M : Type 1} → P.Statement.statement M
 open_within_spec 𝓤 𝓛 𝓜 𝓡 wired =

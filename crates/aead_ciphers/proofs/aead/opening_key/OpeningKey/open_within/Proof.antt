@@ -1,13 +1,8 @@
 -- `open_within` lends what `lend_plaintext` lends of what `open_within_to_front` wrote.
-use Rattle.aead_ciphers.proofs.LendingWalk.{AllGo, others, refl, ◌-◌, [], ◌∷◌, a_type, dcons, dnil, full_share, ◌$◌, !, move, keep, stop, addr, of_opd, returns, alloc_all}
-use Rattle.aead_ciphers.proofs.LendingWalk.{pass_all, free_all, look_at, get, sets, lands_as, through, plain, named_lft, types_at, mut_slice_vals, nothing}
-use Rattle.aead_ciphers.proofs.LendingWalk.{table_of, heard, gave_ref, Goes-gave_ref, length, inst_fn, param, bounded, Words, words_vals, words_typed}
-use Rattle.aead_ciphers.proofs.LendingWalk.{slice_typed, aad_word, range_word, gets, reborrows, learns, step_fronts, aad_bytes, front_met, Stays, dropped}
-use Rattle.aead_ciphers.proofs.LendingWalk.{goes, walked, consults, at_words, with_third, with_third_share, relends, regains, lends, says, ends}
-use Rattle.aead_ciphers.proofs.LendingWalk.{says_next}
+use Rattle.aead_ciphers.proofs.LendingWalk.{AllGo, others, refl, ◌-◌, [], ◌∷◌, a_type, dcons, dnil, full_share, ◌$◌, !, move, keep, stop, addr, of_opd, returns, alloc_all, pass_all, free_all, look_at, get, sets, lands_as, through, plain, named_lft, types_at, mut_slice_vals, nothing, table_of, heard, gave_ref, Goes-gave_ref, length, inst_fn, param, bounded, Words, words_vals, words_typed, slice_typed, aad_word, range_word, gets, reborrows, learns, step_fronts, aad_bytes, front_met, Stays, dropped, goes, walked, consults, at_words, with_third, with_third_share, relends, regains, lends, says, ends, says_next}
+use Rattle.aead_ciphers.proofs.aead.opening_key.OpeningKey.open_within_to_front.Met.{met as core_met}
 use Rattle.aead_ciphers.specs.contracts.aead.opening_key.OpeningKey as K
 use Rattle.aead_ciphers.proofs.aead.opening_key.OpeningKey.open_within as P
-use Rattle.aead_ciphers.proofs.aead.opening_key.OpeningKey.open_within_to_front.Met.{met as core_met}
 
 pub open_within_spec : {M : Type 1} → P.Statement.statement M
 open_within_spec 𝓤 𝓛 𝓜 𝓡 wired N LN g d met =

@@ -1,6 +1,5 @@
-use Rattle.std.proofs.Common.{◌≡◌, ◌+◌, ◌-◌, ◌*◌, ◌/◌, ◌++◌, length, drop, take, arith, ap, sym, ◌∙◌, refl, subst}
+use Rattle.std.proofs.Common.{◌≡◌, ◌+◌, ◌-◌, ◌*◌, ◌/◌, ◌++◌, length, drop, take, arith, ap, sym, ◌∙◌, refl, subst, length-drop, take_all}
 use Rattle.std.proofs.lemmas.Grind.{common_steps}
-use Rattle.std.proofs.lemmas.List.{length-drop, take_all}
 use Rattle.aead_ciphers_base.specs.CounterMode.{Advances, EncryptsFirst, counter_mode}
 use Rattle.aead_ciphers_base.proofs.CounterLemmas.{advances_none, advances_more}
 use Rattle.aead_ciphers_base.proofs.CounterModeLemmas.{encrypts_none, encrypts_more, encrypts_all, encrypts_window, length-counter_mode}

@@ -1,8 +1,5 @@
 -- The front of the slice that the struct holds is handed on. This walks the code by hand.
-use Rattle.aead_ciphers_base.proofs.WalkNames.{◌≡◌, refl, List, [], ◌∷◌, ◌++◌, ℕ, ◌-◌, ◌^◌, ◌<◌, arith, length, take, drop_list, w64, a_type, inst_fn, Fits}
-use Rattle.aead_ciphers_base.proofs.WalkNames.{some, later, ◌$◌, !, move, keep, drop, split3, use2, await, pick, whole, sub, agg, stop, fld, hop, from}
-use Rattle.aead_ciphers_base.proofs.WalkNames.{load, of_opd, bin, addr, returns, alloc_all, pass_all, free_all, look_at, look_in_at, get, sets, param}
-use Rattle.aead_ciphers_base.proofs.WalkNames.{layouts, MutBor, types_at, named_lft, slice_val, nothing}
+use Rattle.aead_ciphers_base.proofs.WalkNames.{◌≡◌, refl, List, [], ◌∷◌, ◌++◌, ℕ, ◌-◌, ◌^◌, ◌<◌, arith, length, take, drop_list, w64, a_type, inst_fn, Fits, some, later, ◌$◌, !, move, keep, drop, split3, use2, await, pick, whole, sub, agg, stop, fld, hop, from, load, of_opd, bin, addr, returns, alloc_all, pass_all, free_all, look_at, look_in_at, get, sets, param, layouts, MutBor, types_at, named_lft, slice_val, nothing}
 use Rattle.aead_ciphers_base.proofs.WalkLocals.{both}
 use Rattle.aead_ciphers_base.proofs.Walks.{Words, words_vals, words_typed, slice_typed, dropped, ends, walked, tell, says}
 use Rattle.aead_ciphers_base.proofs.ViewWalks.{held, gone, buffer_word, in_buffer}

@@ -1,14 +1,7 @@
 -- The slice behind the first chunk is handed on after the chunk was mapped, or the slice is let go. This walks the code by hand.
-use Rattle.aead_ciphers_base.proofs.WalkNames.{◌≡◌, refl, sym, ap, ◌∙◌, List, [], ◌∷◌, ◌++◌, ℕ, ◌+◌, ◌-◌, ◌*◌, ◌^◌, ◌<◌, ◌≤◌, arith, length, take, drop_list}
-use Rattle.aead_ciphers_base.proofs.WalkNames.{length-drop, length-append, w64, a_type, dcons, dnil, inst_fn, Val, vint, vstruct, vcons, vnil, of_list, Fits}
-use Rattle.aead_ciphers_base.proofs.WalkNames.{size, GName, fres, ‵, some, later, ◌$◌, !, move, keep, drop, split3, fsplit, fpick, fpack, feq_l, use1, use2}
-use Rattle.aead_ciphers_base.proofs.WalkNames.{await, pick, rewrite, whole, sub, agg, stop, fld, from, load, lit, size_word, of_opd, bin, addr, and_then, first}
-use Rattle.aead_ciphers_base.proofs.WalkNames.{branches, skips, exec, returns, returns_within, alloc_all, pass_all, free_all, look_at, look_in_at, get, sets}
-use Rattle.aead_ciphers_base.proofs.WalkNames.{lands_as, through, env, Items, usize, no, follows, Is, shows, param, layout, bounded, types_at, plain, named_lft}
-use Rattle.aead_ciphers_base.proofs.WalkNames.{Room, slice_val, nothing, heard, peeks, only, Goes-dropped, Ok, Err, IsOk, ◌↔◌}
+use Rattle.aead_ciphers_base.proofs.WalkNames.{◌≡◌, refl, sym, ap, ◌∙◌, List, [], ◌∷◌, ◌++◌, ℕ, ◌+◌, ◌-◌, ◌*◌, ◌^◌, ◌<◌, ◌≤◌, arith, length, take, drop_list, length-drop, length-append, w64, a_type, dcons, dnil, inst_fn, Val, vint, vstruct, vcons, vnil, of_list, Fits, size, GName, fres, ‵, some, later, ◌$◌, !, move, keep, drop, split3, fsplit, fpick, fpack, feq_l, use1, use2, await, pick, rewrite, whole, sub, agg, stop, fld, from, load, lit, size_word, of_opd, bin, addr, and_then, first, branches, skips, exec, returns, returns_within, alloc_all, pass_all, free_all, look_at, look_in_at, get, sets, lands_as, through, env, Items, usize, no, follows, Is, shows, param, layout, bounded, types_at, plain, named_lft, Room, slice_val, nothing, heard, peeks, only, Goes-dropped, Ok, Err, IsOk, ◌↔◌}
 use Rattle.aead_ciphers_base.proofs.WalkLocals.{alone, both, gets}
-use Rattle.aead_ciphers_base.proofs.Walks.{one, Words, words_vals, words_typed, slice_typed, dropped, consults, ends, walked, table_of, learns, tells, tell}
-use Rattle.aead_ciphers_base.proofs.Walks.{premise, says}
+use Rattle.aead_ciphers_base.proofs.Walks.{one, Words, words_vals, words_typed, slice_typed, dropped, consults, ends, walked, table_of, learns, tells, tell, premise, says}
 use Rattle.aead_ciphers_base.proofs.ViewWalks.{boxed, held, gone, begun, at_seam, ok_of, err_of, let_go}
 use Rattle.aead_ciphers_base.proofs.LentParts.{Part, lent, lends_back}
 use native.Mathlib.Nat.{mul-le-mul_right}
@@ -23,11 +16,11 @@ use denote.Steps.{owned}
 use denote.Triple.Walked.{walk_of}
 use Rattle.std.proofs.slice.Relends.{uncapped}
 use Rattle.std.proofs.VecSteps.Shapes.{after}
-use Rattle.std.specs.contracts.result.Result as RS
 use Rattle.aead_ciphers_base.specs.Overlapping.{AnswersChunk, EndsAs, LendsBehind, LendsRest}
+use Rattle.aead_ciphers_base.specs.declared.overlapping.base.Overlapping.{Overlapping}
+use Rattle.std.specs.contracts.result.Result as RS
 use Rattle.aead_ciphers_base.specs.contracts.error.IndexError as IE
 use Rattle.aead_ciphers_base.proofs.error.IndexError as IEP
-use Rattle.aead_ciphers_base.specs.declared.overlapping.base.Overlapping.{Overlapping}
 use Rattle.aead_ciphers_base.specs.contracts.overlapping.base as C
 use Rattle.aead_ciphers_base.proofs.overlapping.base as P
 

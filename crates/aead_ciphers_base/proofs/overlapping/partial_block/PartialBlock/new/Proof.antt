@@ -1,9 +1,5 @@
 -- The slice is handed on, or let go as it came. This walks the code by hand.
-use Rattle.aead_ciphers_base.proofs.WalkNames.{◌≡◌, refl, ap, ◌∙◌, List, [], ◌∷◌, ℕ, ◌-◌, ◌^◌, ◌<◌, arith, length, w64, a_type, a_number, inst_fn, Val, vint}
-use Rattle.aead_ciphers_base.proofs.WalkNames.{of_list, Fits, ‵, ◌$◌, !, move, keep, drop, use1, rewrite, whole, sub, agg, stop, fld, from, load, lit}
-use Rattle.aead_ciphers_base.proofs.WalkNames.{num_lit, of_opd, bin, and_then, first, branches, skips, exec, returns, returns_within, alloc_all, pass_all}
-use Rattle.aead_ciphers_base.proofs.WalkNames.{free_all, look_at, look_in_at, get, sets, lands_as, env, usize, Is, shows, param, number, layouts, RattleType}
-use Rattle.aead_ciphers_base.proofs.WalkNames.{types_at, named_lft, slice_val, nothing, heard, peeks, only, Ok, Err}
+use Rattle.aead_ciphers_base.proofs.WalkNames.{◌≡◌, refl, ap, ◌∙◌, List, [], ◌∷◌, ℕ, ◌-◌, ◌^◌, ◌<◌, arith, length, w64, a_type, a_number, inst_fn, Val, vint, of_list, Fits, ‵, ◌$◌, !, move, keep, drop, use1, rewrite, whole, sub, agg, stop, fld, from, load, lit, num_lit, of_opd, bin, and_then, first, branches, skips, exec, returns, returns_within, alloc_all, pass_all, free_all, look_at, look_in_at, get, sets, lands_as, env, usize, Is, shows, param, number, layouts, RattleType, types_at, named_lft, slice_val, nothing, heard, peeks, only, Ok, Err}
 use Rattle.aead_ciphers_base.proofs.WalkLocals.{alone, both, gets, reborrows}
 use Rattle.aead_ciphers_base.proofs.Walks.{Words, words_vals, words_typed, slice_typed, dropped, consults, ends, walked, table_of, premise}
 use Rattle.aead_ciphers_base.proofs.ViewWalks.{usize_laws, usize_told, boxed, held, gone, begun, buffer_word, in_buffer, making, accepts, refuses}
@@ -15,9 +11,9 @@ use denote.Plain.{uint_Makes}
 use denote.Steps.{owned}
 use denote.Triple.Walked.{walk_of}
 use Rattle.std.proofs.VecSteps.Shapes.{after}
+use Rattle.aead_ciphers_base.specs.declared.overlapping.partial_block.PartialBlock.{PartialBlock}
 use Rattle.aead_ciphers_base.specs.contracts.error.input_too_long.InputTooLongError as ITL
 use Rattle.aead_ciphers_base.proofs.error.input_too_long.InputTooLongError.TheLaws as ITL-laws
-use Rattle.aead_ciphers_base.specs.declared.overlapping.partial_block.PartialBlock.{PartialBlock}
 use Rattle.aead_ciphers_base.specs.contracts.overlapping.partial_block as C
 use Rattle.aead_ciphers_base.proofs.overlapping.partial_block as P
 

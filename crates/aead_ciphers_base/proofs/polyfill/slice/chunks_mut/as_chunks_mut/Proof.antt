@@ -1,12 +1,7 @@
 -- The slice is lent in two parts, the first of them in a view. This walks the code by hand.
-use Rattle.aead_ciphers_base.proofs.WalkNames.{◌≡◌, refl, ap, ◌∙◌, List, [], ◌∷◌, ◌++◌, ℕ, ◌+◌, ◌*◌, ◌/◌, ◌%◌, ◌<◌, arith, length, drop_list, length-drop}
-use Rattle.aead_ciphers_base.proofs.WalkNames.{named, a_type, a_number, inst_fn, vstruct, vcons, vnil, ‵, ◌$◌, !, move, keep, use1, use2, whole, sub}
-use Rattle.aead_ciphers_base.proofs.WalkNames.{agg, stop, fld, of_opd, returns, alloc_all, pass_all, free_all, look_at, get_in, sets, lands_as, Items}
-use Rattle.aead_ciphers_base.proofs.WalkNames.{follows_both, param, number, layouts, types_at, plain, named_lft, MutSlice, slice_val, nothing, heard, only}
-use Rattle.aead_ciphers_base.proofs.WalkNames.{Goes-spent_slice}
+use Rattle.aead_ciphers_base.proofs.WalkNames.{◌≡◌, refl, ap, ◌∙◌, List, [], ◌∷◌, ◌++◌, ℕ, ◌+◌, ◌*◌, ◌/◌, ◌%◌, ◌<◌, arith, length, drop_list, length-drop, named, a_type, a_number, inst_fn, vstruct, vcons, vnil, ‵, ◌$◌, !, move, keep, use1, use2, whole, sub, agg, stop, fld, of_opd, returns, alloc_all, pass_all, free_all, look_at, get_in, sets, lands_as, Items, follows_both, param, number, layouts, types_at, plain, named_lft, MutSlice, slice_val, nothing, heard, only, Goes-spent_slice}
 use Rattle.aead_ciphers_base.proofs.WalkLocals.{alone, both, gets, reborrows}
-use Rattle.aead_ciphers_base.proofs.Walks.{Words, words_vals, words_typed, slice_typed, dropped, consults, ends, walked, table_of, learns, tells, tell, takes}
-use Rattle.aead_ciphers_base.proofs.Walks.{says}
+use Rattle.aead_ciphers_base.proofs.Walks.{Words, words_vals, words_typed, slice_typed, dropped, consults, ends, walked, table_of, learns, tells, tell, takes, says}
 use Rattle.aead_ciphers_base.proofs.ViewWalks.{in_two, paired, viewed}
 use denote.Struct.Tuple.{Tuple}
 use Rattle.std.proofs.Math.Nat.{mod-add-div'}

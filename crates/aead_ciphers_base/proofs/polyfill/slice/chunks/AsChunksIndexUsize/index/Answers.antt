@@ -1,5 +1,4 @@
-use Rattle.std.proofs.Common.{arith, ◌-◌, ◌<◌, ◌≤◌, ◌/◌, ◌*◌, length, sym, ◌∙◌, drop}
-use Rattle.std.proofs.lemmas.List.{take-take}
+use Rattle.std.proofs.Common.{arith, ◌-◌, ◌<◌, ◌≤◌, ◌/◌, ◌*◌, length, sym, ◌∙◌, drop, take-take}
 use Rattle.aead_ciphers_base.proofs.BlocksLemmas.{blocks_at, length_blocks, block_within}
 use Rattle.aead_ciphers_base.proofs.polyfill.slice.chunks.AsChunksIndexUsize.index.Goals as goal
 

@@ -1,12 +1,5 @@
 -- The items of a view are lent through the `&mut` to the view, which follows them. This walks the code by hand.
-use Rattle.aead_ciphers_base.proofs.WalkNames.{◌≡◌, refl, sym, subst, ap, ◌∙◌, List, [], ◌∷◌, ◌++◌, ℕ, length, take, drop_list, Ura, named, a_type, a_number}
-use Rattle.aead_ciphers_base.proofs.WalkNames.{inst_fn, Val, vstruct, vcons, vnil, of_list, SProp, ent, sep, coded_list, Fml, GName, flft}
-use Rattle.aead_ciphers_base.proofs.WalkNames.{fsep, fobs, fbor, Logic, sem, open_ref, ‵, ◌⊛◌, some, later, ◌$◌, ◌∵◌, !, qed, move, keep, drop, split, split3}
-use Rattle.aead_ciphers_base.proofs.WalkNames.{fsplit, fsplit3, fjoin, fjoin3, fpick, fpack, feq_l, feq_i, use1, use2, use3, await, pick, rewrite, done}
-use Rattle.aead_ciphers_base.proofs.WalkNames.{check, whole, sub, agg, look_in, stop, fld, hop, load, of_opd, addr, returns, alloc_all, pass_all, free_all}
-use Rattle.aead_ciphers_base.proofs.WalkNames.{look_at, sets, through, Arr, Body, follows, Is, shows, mem, param, number, layout, layouts, RattleType, Valss}
-use Rattle.aead_ciphers_base.proofs.WalkNames.{NamedLft, MutBor, types_at, plain, named_lft, MutSlice, Room, slice_val, mut_slice_vals, nothing, peeks}
-use Rattle.aead_ciphers_base.proofs.WalkNames.{Goes-spent_ref}
+use Rattle.aead_ciphers_base.proofs.WalkNames.{◌≡◌, refl, sym, subst, ap, ◌∙◌, List, [], ◌∷◌, ◌++◌, ℕ, length, take, drop_list, Ura, named, a_type, a_number, inst_fn, Val, vstruct, vcons, vnil, of_list, SProp, ent, sep, coded_list, Fml, GName, flft, fsep, fobs, fbor, Logic, sem, open_ref, ‵, ◌⊛◌, some, later, ◌$◌, ◌∵◌, !, qed, move, keep, drop, split, split3, fsplit, fsplit3, fjoin, fjoin3, fpick, fpack, feq_l, feq_i, use1, use2, use3, await, pick, rewrite, done, check, whole, sub, agg, look_in, stop, fld, hop, load, of_opd, addr, returns, alloc_all, pass_all, free_all, look_at, sets, through, Arr, Body, follows, Is, shows, mem, param, number, layout, layouts, RattleType, Valss, NamedLft, MutBor, types_at, plain, named_lft, MutSlice, Room, slice_val, mut_slice_vals, nothing, peeks, Goes-spent_ref}
 use Rattle.aead_ciphers_base.proofs.WalkLocals.{both}
 use Rattle.aead_ciphers_base.proofs.Walks.{Words, words_vals, words_typed, slice_typed, dropped, ends, walked, tell, says}
 use Rattle.aead_ciphers_base.proofs.ViewWalks.{viewed}

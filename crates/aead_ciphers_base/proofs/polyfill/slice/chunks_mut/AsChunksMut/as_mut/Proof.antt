@@ -1,11 +1,7 @@
 -- The items that `as_flattened_mut` lends are handed on in a view. This walks the code by hand.
-use Rattle.aead_ciphers_base.proofs.WalkNames.{refl, ap, ◌∙◌, List, [], ◌∷◌, ◌%◌, length, named, a_type, a_number, inst_fn, Val, vstruct, vcons, vnil, ‵, ◌$◌}
-use Rattle.aead_ciphers_base.proofs.WalkNames.{ !, move, keep, use1, rewrite, agg, stop, addr, returns, alloc_all, pass_all, free_all, look_at, sets}
-use Rattle.aead_ciphers_base.proofs.WalkNames.{lands_as, through, Items, follows, Is, shows, param, number, layouts, types_at, plain, named_lft, MutSlice}
-use Rattle.aead_ciphers_base.proofs.WalkNames.{slice_val, nothing, heard, peeks, only, Goes-spent_ref}
+use Rattle.aead_ciphers_base.proofs.WalkNames.{refl, ap, ◌∙◌, List, [], ◌∷◌, ◌%◌, length, named, a_type, a_number, inst_fn, Val, vstruct, vcons, vnil, ‵, ◌$◌, !, move, keep, use1, rewrite, agg, stop, addr, returns, alloc_all, pass_all, free_all, look_at, sets, lands_as, through, Items, follows, Is, shows, param, number, layouts, types_at, plain, named_lft, MutSlice, slice_val, nothing, heard, peeks, only, Goes-spent_ref}
 use Rattle.aead_ciphers_base.proofs.WalkLocals.{alone, gets}
-use Rattle.aead_ciphers_base.proofs.Walks.{Words, words_vals, words_typed, slice_typed, dropped, consults, ends, walked, table_of, learns, learns_last, tells}
-use Rattle.aead_ciphers_base.proofs.Walks.{tell, premise, takes, says}
+use Rattle.aead_ciphers_base.proofs.Walks.{Words, words_vals, words_typed, slice_typed, dropped, consults, ends, walked, table_of, learns, learns_last, tells, tell, premise, takes, says}
 use Rattle.aead_ciphers_base.proofs.ViewWalks.{viewed}
 use Rattle.aead_ciphers_base.specs.AsChunksMut.{with_items}
 use Rattle.aead_ciphers_base.specs.declared.polyfill.slice.chunks_mut.AsChunksMut.{AsChunksMut}
