@@ -60,8 +60,8 @@ same_messages a c a' c' fits fits' n e =
     let last' = length_block (length a') (length c') in
     let zeros = replicate (n - length (hashed a c)) zero_block in
     let zeros' = replicate (n - length (hashed a' c')) zero_block in
-    let ends = same_last _ _ last last'
-    (append_assoc zeros _ _ ∙ e ∙ sym (append_assoc zeros' _ _)) in
+    let ends = same_last (zeros ++ (xs ++ ys)) (zeros' ++ (xs' ++ ys')) last last'
+    (append_assoc zeros (xs ++ ys) (last ∷ []) ∙ e ∙ sym (append_assoc zeros' (xs' ++ ys') (last' ∷ []))) in
     let lengths = same_lengths _ _ _ _ fits fits' ends in
     let all =
     count_hashed a c ∙ ap₂ sealing_products lengths.0 lengths.1 ∙ sym (count_hashed a' c') in

@@ -1,5 +1,5 @@
 -- Laws of a sealed message under a key, which speak of public definitions alone: what proofs of crates above cite.
-use Rattle.std.proofs.Common.{◌≡◌, ℕ, true, ◌+◌, List, [], ◌∷◌, ◌++◌, length, refl, ap, ap₂, ◌∙◌, arith, length-append, append-nil, drop_of_length-le}
+use Rattle.std.proofs.Common.{◌≡◌, ℕ, ◌+◌, List, [], ◌∷◌, length, refl, ap₂, ◌∙◌, arith, length-append}
 use Rattle.aead_ciphers_base.specs.Aes.{aes, cipher, add_round_key}
 use Rattle.aead_ciphers_base.specs.Bytes.{◌⊕◌}
 use Rattle.aead_ciphers_base.proofs.CounterModeLemmas.{counter_mode-twice, length-counter_mode}
