@@ -346,7 +346,7 @@ static void chacha(const u32 key[8], u32 counter, const u32 nonce[3], u8 *data, 
   }
 }
 
-/* The loops. Each works on the buffer in place where the call does, and answers eight bytes of what
+/* The loops. Each works on the buffer in place where the call does, and returns eight bytes of what
  * it made. The key's length tells the cipher, as in crates/aead_bench. */
 
 typedef u64 loop(u64 times, const u8 *key, size_t key_len, u8 *buffer, size_t len);

@@ -94,7 +94,7 @@ static void seals(const sealing *s) {
     uint8_t *aad = copy_of(s->aad, s->aad_len);
     memcpy(buffer, s->message, s->len);
     memset(buffer + s->len, 0, TAG);
-    /* the tag right behind the message */
+    /* the tag right after the message */
     CHECK(CALL(deerlapse_seal(s->key, s->key_len, s->nonce, aad, s->aad_len, buffer, s->len, buffer + s->len)));
     CHECK(memcmp(buffer, s->sealed, s->len + TAG) == 0);
     static const size_t others[] = {0, 1, 15, 17, 24, 31};

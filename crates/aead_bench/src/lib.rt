@@ -1,7 +1,7 @@
 //! Loops over the library's calls, which `bench/bench.c` times beside plain C.
 //!
 //! Each takes a number of turns, a key and a buffer, works on the buffer in place where the call does, and
-//! answers eight bytes of what it made. So the two sides can be compared. Where the key or the buffer hasn't a
+//! returns eight bytes of what it made. So the two sides can be compared. Where the key or the buffer hasn't a
 //! length that the call takes, the loop makes no turn.
 #![tactic(auto)]
 

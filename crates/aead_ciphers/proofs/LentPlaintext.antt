@@ -1,4 +1,4 @@
--- What a call that opens answers, and what is then lent: the plaintext at the front of the buffer.
+-- What a call that opens returns, and what is then lent: the plaintext at the front of the buffer.
 use Rattle.std.proofs.Common.{◌≡◌, ◌∙◌, sym, ap, subst, arith, ℕ, List, Bool, true, false, ◌-◌, ◌≤◌, ◌++◌, length, drop, take, length-append, length-drop, Result, Ok, Err, is_ok, IfOk, if◌then◌else◌, append_assoc, take-append-drop, take_at, drop_at, length-take-le}
 use Rattle.std.specs.Borrow.{MutBor}
 use Rattle.std.proofs.lemmas.List.{drop-append-le}

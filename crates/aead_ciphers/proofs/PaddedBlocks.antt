@@ -10,7 +10,7 @@ use Rattle.aead_ciphers_base.proofs.BlocksLemmas.{blocks_cons, blocks_short}
 use Rattle.aead_ciphers_base.proofs.EachLemmas.{each-same, each-append}
 use Rattle.aead_ciphers.specs.Gcm.{padded_block, padded_blocks, length_block}
 
--- a part and the zeros behind it
+-- a part and the zeros after it
 pub padded_is : (part : List ℕ) → length part ≤ 16 → part ++ drop (length part) (replicate 16 0) ≡ padded_block part 0
 unfolding padded_block
 padded_is part le =

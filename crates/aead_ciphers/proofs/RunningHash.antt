@@ -82,7 +82,7 @@ whole_and_rest bs input whole rest we re =
     ∙ append_assoc bs (blocks 16 (take w input)) (padded_blocks (drop w input))
     ∙ ap (λ u. bs ++ u) (sym (blocks-append q (take w input) (drop w input) size) ∙ ap padded_blocks (take-append-drop w input))
 
--- what ends a hash of an AAD and a ciphertext answers the tag
+-- what ends a hash of an AAD and a ciphertext returns the tag
 pub tag_found : (cipher : List ℕ → List ℕ) (nonce aad text : List ℕ) {iv result : List ℕ} {started ended : HashState}
     → started.hash_subkey ≡ cipher zero_block → started.aad_len ≡ length aad → started.in_out_len ≡ length text → iv ≡ counter_block nonce 1
     → IsHashOf started.hash_subkey (padded_blocks aad) started.xi → Absorbs started text ended

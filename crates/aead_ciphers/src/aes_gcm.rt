@@ -56,7 +56,7 @@ impl Key {
     }
 }
 
-/// Encrypts the buffer in place, and answers the tag of 16 bytes (SP 800-38D section 7.1). Refused
+/// Encrypts the buffer in place, and returns the tag of 16 bytes (SP 800-38D section 7.1). Refused
 /// where the buffer is above 2^36 - 32 bytes or the AAD has 2^61 bytes or more: then no byte of the
 /// buffer is changed.
 pub fn seal(

@@ -126,7 +126,7 @@ one_block zero k len some = absurd (omega (arith, div-zero len))
 one_block (suc n) k len some =
     (omega arith, omega (arith, mul-le-mul_right (suc n) some, div-mul-le_self len (suc n), suc-mul k (suc n)))
 
--- and those behind them
+-- and those after them
 pub blocks_back : {T : Type 0} (n mid : ℕ) (xs : List T) → mid ≤ length (blocks n xs) → blocks n (drop (mid * n) xs) ≡ drop mid (blocks n xs)
 blocks_back n zero xs within = let none : 0 * n ≡ 0 = omega arith in rw none refl
 blocks_back n (suc mid) xs within =

@@ -52,7 +52,7 @@ xor_none [] ys e = refl
 xor_none (x ∷ xs) [] e = refl
 xor_none _ _ e = absurd (omega arith)
 
--- behind the shorter list nothing is left to XOR
+-- after the shorter list nothing is left to XOR
 pub xor_at_start_end : (a b : List ℕ) (i : ℕ) → i ≡ min (length a) (length b) → take i a ++ (drop i a ⊕ drop i b) ++ drop (length b) a ≡ a
 xor_at_start_end a b i e =
     let none = xor_none (drop i a) (drop i b) (omega (arith, length-drop i a, length-drop i b)) in

@@ -100,7 +100,7 @@ module _ (cipher : List ℕ → List ℕ) (nonce : List ℕ) where
 pub encrypts_none : (cipher : List ℕ → List ℕ) (counter : List ℕ) (s : ℕ) (was : List ℕ) → EncryptsFirst cipher counter s 0 was was
 encrypts_none cipher counter s was = λ nonce k at. ap (λ (u : List ℕ). u ++ was) (sym (counter_mode-nil cipher nonce k [] refl))
 
--- the d bytes that were encrypted, and the n bytes behind them
+-- the d bytes that were encrypted, and the n bytes after them
 pub encrypts_more : (cipher : List ℕ → List ℕ) (counter then : List ℕ) (s d n : ℕ) (was now new : List ℕ) → d % 16 ≡ 0 → s + d + n ≤ length was →
     EncryptsFirst cipher counter s d was now → Advances counter then (d / 16) → EncryptsWindow cipher then s d n now new →
     EncryptsFirst cipher counter s (d + n) was new

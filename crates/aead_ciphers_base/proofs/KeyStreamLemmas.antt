@@ -7,7 +7,7 @@ use Rattle.aead_ciphers_base.specs.ChaCha20.{chacha20_block, stream_byte, chacha
 use Rattle.aead_ciphers_base.proofs.StreamLemmas.{advance, finish, length-xored, stream_front, xored-is, xored-xored}
 
 module _ (key : List ℕ) (counter : ℕ) (nonce : List ℕ) where
-  -- the key stream behind j whole blocks
+  -- the key stream after j whole blocks
   stream_byte-later : (j d : ℕ) → d ≡ 64 * j →
       (i : ℕ) → stream_byte key counter nonce (d + i) ≡ stream_byte key (counter + j) nonce i
   unfolding stream_byte
@@ -63,7 +63,7 @@ module _ (key : List ℕ) (counter : ℕ) (nonce : List ℕ) where
       ∙ advance f g at n start old was (stream_byte-later j at whole) (omega arith) held'
       ∙ ap₂ (λ (u : List ℕ) (k : ℕ). xored f u ++ drop k old) all la
 
-  -- what stands behind j whole blocks of a slice is written, after them
+  -- what comes after j whole blocks of a slice is written, after them
   pub written_rest : (start at j : ℕ) (old was rest : List ℕ)
       → was ≡ chacha20_encrypted key counter nonce (take at (drop start old)) ++ drop (length (take at (drop start old))) old
       → at ≡ 64 * j → start + at ≤ length old

@@ -1,4 +1,4 @@
--- A part of a slice is lent: its front, or what lies behind an item. Assumes `Logic`.
+-- A part of a slice is lent: its front, or what lies after an item. Assumes `Logic`.
 --     lends_front, lends_back      the slice becomes the part and what the slice follows
 use Rattle.aead_ciphers_base.proofs.WalkNames.{◌≡◌, refl, sym, ap, ◌∙◌, List, [], ◌∷◌, ◌++◌, ℕ, ◌+◌, ◌-◌, ◌*◌, ◌^◌, ◌<◌, ◌≤◌, arith, length, take, drop_list, length-drop, length-append, take-append-drop, Ura, named, Val, SProp, ent, sep, ex, coded_list, Fml, Lft, GName, Share, flft, fobs, fbor, size, Logic, sem, open_ref, Item, ‵, ◌⊛◌, some, later, ◌$◌, ◌∵◌, !, qed, move, drop, split, split3, group, fsplit, fsplit3, fjoin, feq_l, feq_i, use1, use2, await, pick, rewrite, done, updating, now, show, cells, Arr, Body, Items, follows, mem, param, layout, RattleType, MutBor, MutSlice, Room, slice_val}
 use native.Mathlib.Nat.{mul-le-mul_right}

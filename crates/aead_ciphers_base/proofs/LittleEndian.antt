@@ -41,7 +41,7 @@ get_or-le_words (suc k) at (a ∷ b ∷ c ∷ d ∷ bytes) e h =
     rw (e1, e2, e3, next) (get_or-le_words k _ bytes refl (omega arith))
 get_or-le_words k at _ e h = absurd (omega arith)
 
--- the first word, and the words behind it
+-- the first word, and the words after it
 pub le_words-first : (bytes : List ℕ) → 4 ≤ length bytes → le_words bytes ≡ from_le_bytes w32 (take 4 bytes) ∷ le_words (drop 4 bytes)
 unfolding le_words
 le_words-first (a ∷ b ∷ c ∷ d ∷ bytes) h = refl
@@ -71,7 +71,7 @@ le_bytes-le_words (suc n) (a ∷ b ∷ c ∷ d ∷ bytes) h fits =
     (le_bytes-le_words n bytes (omega arith) (λ i. fits (suc (suc (suc (suc i))))))
 le_bytes-le_words _ _ h fits = absurd (omega arith)
 
--- the bytes of one more word, written behind those of i words
+-- the bytes of one more word, written after those of i words
 pub take-le_bytes : (out words bytes : List ℕ) (i k : ℕ) → length out ≡ 4 * length words → i < length words
     → take (4 * i) out ≡ le_bytes (take i words) → bytes ≡ to_le_bytes w32 (get_or words i 0)
     → take (4 * (i + 1)) (put_mid (4 * i) k out bytes) ≡ le_bytes (take (i + 1) words)

@@ -14,7 +14,7 @@ joined_more : {T : Type 0} (xs : List (List T)) (y : List T) → joined (xs ++ (
 joined_more [] y = simp append-nil
 joined_more (x ∷ xs) y = rw (joined_more xs y, append_assoc)
 
--- i blocks, the next one, and the m behind it
+-- i blocks, the next one, and the m after it
 first_chunks_split : {T : Type 0} (n i m : ℕ) (xs : List T) → first_chunks n (i + suc m) xs
     ≡ first_chunks n i xs ++ (take n (drop (i * n) xs) ∷ first_chunks n m (drop (suc i * n) xs))
 first_chunks_split n zero m xs =

@@ -30,7 +30,7 @@ abbrev pub InCounterMode : (List ℕ → List ℕ) → List ℕ → List ℕ →
 InCounterMode cipher counter text Says =
     (nonce : List ℕ) (k : ℕ) → IsCounter counter nonce k → Says (counter_mode cipher nonce k text)
 
--- the bytes of a buffer from `start` on, in counter mode, stand at its front; the bytes behind those stay
+-- the bytes of a buffer from `start` on, in counter mode, stand at its front; the bytes after those stay
 abbrev pub EncryptsToFront : (List ℕ → List ℕ) → List ℕ → ℕ → List ℕ → List ℕ → Type 0
 EncryptsToFront cipher counter start old new =
     InCounterMode cipher counter (drop start old) (λ text. new ≡ text ++ drop (length old - start) old)

@@ -13,7 +13,7 @@ input_of o = drop o.start o.in_out.now
 abbrev pub input_len : {T : Type 0} → Overlapping T → ℕ
 input_len o = length o.in_out.now - o.start
 
--- the items behind the output, which is as long as the input
+-- the items after the output, which is as long as the input
 abbrev pub after_output : {T : Type 0} → Overlapping T → List T
 after_output o = drop (input_len o) o.in_out.now
 
@@ -44,7 +44,7 @@ pub record AnswersChunk {T C F : Type 0} (items : C → List T) (g : Once F (Bor
   pub taken : items chunk ≡ take n xs
   pub called : FnOnceReturnsAt g f chunk answer
 
--- f answered to the n items of old from start on, as old has them; new begins with its answer, and behind it is as old
+-- f answered to the n items of old from start on, as old has them; new begins with its answer, and after it is as old
 pub record MapsChunk {T C F : Type 0} (items : C → List T) (g : Once F (Bor C × Unit {0}) C) (n : ℕ) (f : F) (old : List T) (start : ℕ) (new : List T) : Type 0 where
   pub answers : AnswersChunk items g n f (drop start old)
   pub written : new ≡ items answers.answer ++ drop n old

@@ -97,7 +97,7 @@ pub type OverlappingPartialBlock<'o> = overlapping::PartialBlock<'o, u8, BLOCK_L
 /// Counter mode over a block cipher under a key (SP 800-38D section 6.5, GCTR).
 pub trait EncryptCtr32: EncryptBlock {
     /// Encrypts or decrypts whole blocks: output block j is input block j, as it stood at entry, XOR
-    /// the cipher of the counter block plus j. The bytes behind the output stay, and the counter
+    /// the cipher of the counter block plus j. The bytes after the output stay, and the counter
     /// grows by the number of blocks.
     fn ctr32_encrypt_within(&self, in_out: Overlapping<'_>, counter: &mut Counter, work: &mut Work)
         requires whole { input_len in_out % 16 ≡ 0 }

@@ -297,7 +297,7 @@ impl Key {
         }
     }
 
-    // Encrypts one block at a time, from block `first` after the counter on. No counter behind the
+    // Encrypts one block at a time, from block `first` after the counter on. No counter after the
     // last block is summed.
     fn encrypt_blocks(&self, counter: &Counter, first: usize, in_out: &mut [u8], start: usize)
         requires within { start ≤ length in_out.old }

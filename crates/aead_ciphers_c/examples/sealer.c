@@ -9,7 +9,7 @@ int main(void) {
     uint8_t first[5 + DEERLAPSE_TAG_LEN] = {'h', 'e', 'l', 'l', 'o'};
     uint8_t second[3 + DEERLAPSE_TAG_LEN] = {'b', 'y', 'e'};
 
-    /* Numbers 0, 1, 2, .. and at most 2^24 messages. The tag goes behind the message. */
+    /* Numbers 0, 1, 2, .. and at most 2^24 messages. The tag goes after the message. */
     deerlapse_sealer sealer;
     if (!deerlapse_sealer_init(&sealer, key, sizeof key, iv, 0, 1 << 24) ||
         !deerlapse_sealer_seal(&sealer, header, sizeof header, first, 5, first + 5) ||

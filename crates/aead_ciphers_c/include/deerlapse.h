@@ -2,11 +2,11 @@
  * crates/aead_ciphers_c: out/libaead_ciphers_c.a.
  *
  * Of every call:
- *  - It answers true, or false with every byte as it came. Where it can't be refused it answers nothing.
+ *  - It returns true, or false with every byte as it came. Where it can't be refused it returns nothing.
  *  - No pointer is null, also where its length is 0.
  *  - A pointer with a length has that many bytes. A parameter like nonce[12] has the bytes that it says.
  *  - What a call writes overlaps nothing else that the call is given. What it only reads may overlap. A tag may
- *    stand right behind its message: `tag` is then `in_out + in_out_len`.
+ *    stand right after its message: `tag` is then `in_out + in_out_len`.
  *  - It takes no memory, has no state and starts no thread. Calls in several threads at once are fine where none of
  *    them writes what another is given.
  */
@@ -51,21 +51,21 @@ bool deerlapse_seal(const uint8_t *key, size_t key_len, const uint8_t nonce[DEER
                     uint8_t tag[DEERLAPSE_TAG_LEN]);
 
 /* Opens in place what deerlapse_seal made: the ciphertext from in_out + start on, and its tag, the last 16 of the
- * in_out_len bytes. The plaintext then stands at the front, at in_out, and each byte behind it is as it was.
+ * in_out_len bytes. The plaintext then stands at the front, at in_out, and each byte after it is as it was.
  *
  *   key, nonce, aad   as they were handed to deerlapse_seal
  *   in_out            in_out_len bytes, `start` bytes of anything, the ciphertext and the tag
- *   plaintext_len     is written where the answer is true: in_out_len - 16 - start
+ *   plaintext_len     is written where the call returns true: in_out_len - 16 - start
  *
  * False: a false tag, start above in_out_len - 16, or lengths that deerlapse_seal refuses. aad mustn't lie in in_out,
- * also not before `start`: for a header in front of its ciphertext, hand in the pointer behind it, and start 0. */
+ * also not before `start`: for a header in front of its ciphertext, hand in the pointer after it, and start 0. */
 DEERLAPSE_ANSWERS
 bool deerlapse_open(const uint8_t *key, size_t key_len, const uint8_t nonce[DEERLAPSE_NONCE_LEN],
                     const uint8_t *aad, size_t aad_len, uint8_t *in_out, size_t in_out_len, size_t start,
                     size_t *plaintext_len);
 
 /* A key that seals each message under a nonce of its own: an IV XOR the message's number, in eight big-endian bytes
- * behind four zeros (RFC 8446 section 5.3, RFC 9001 section 5.3). It lies in the caller's memory and is filled by
+ * after four zeros (RFC 8446 section 5.3, RFC 9001 section 5.3). It lies in the caller's memory and is filled by
  * deerlapse_sealer_init. Never copy it, since the copy spends the same nonces again. Its fields may be read, as `next`
  * for a number that is sent along; write to none of them. One thread uses it at a time. */
 typedef struct deerlapse_sealer {

@@ -23,7 +23,7 @@ fn aes_gcm_key(key: &[u8]) -> Result<LessSafeKey, Unspecified>
     Ok(LessSafeKey::new(UnboundKey::new(algorithm, key)?))
 }
 
-/// Encrypts `in_out` in place, and answers its tag.
+/// Encrypts `in_out` in place, and returns its tag.
 pub(crate) fn seal(
     key: &[u8],
     nonce: Nonce,
@@ -68,10 +68,10 @@ pub extern "C" fn deerlapse_seal(
 }
 
 /// Opens the ciphertext and tag that are `in_out` from `start` on, the tag its last 16 bytes (SP 800-38D algorithm 5),
-/// and writes the length of the plaintext. The plaintext then stands at the front of `in_out`, and each byte behind it
+/// and writes the length of the plaintext. The plaintext then stands at the front of `in_out`, and each byte after it
 /// is as it was.
 ///
-/// Refused where the key hasn't 16 or 32 bytes, where the buffer has no room for a tag behind `start`, where the
+/// Refused where the key hasn't 16 or 32 bytes, where the buffer has no room for a tag after `start`, where the
 /// lengths don't fit, as in `deerlapse_seal`, and where the tag isn't that of the ciphertext and the AAD.
 #[unsafe(no_mangle)]
 pub extern "C" fn deerlapse_open(

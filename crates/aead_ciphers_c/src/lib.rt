@@ -1,7 +1,7 @@
 //! The library's calls for C, C++ and plain Rust: a static library, whose header is `include/deerlapse.h`.
 //!
 //! A slice is a pointer and then a length in C. Each call takes the bytes of its key, asks for no memory and keeps
-//! nothing. It answers true, or false with every byte as it came.
+//! nothing. It returns true, or false with every byte as it came.
 #![tactic(auto)]
 
 mod aes_gcm;

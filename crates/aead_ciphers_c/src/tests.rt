@@ -22,7 +22,7 @@ fn accepted(rt: &impl Abort, answer: bool, what: &str) {
     assert!(rt; answer, "{what}");
 }
 
-/// Seals a case's message, and opens it behind three other bytes.
+/// Seals a case's message, and opens it after three other bytes.
 fn seals_and_opens(rt: &impl Abort, alloc: Global, case: &Case) -> Result<(), Fail> {
     let mut bytes = case.message.to_vec(alloc)?;
     let mut tag = [0; 16];

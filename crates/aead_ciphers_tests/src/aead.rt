@@ -108,7 +108,7 @@ fn gcm_spec_case_4_within(rt: HostRuntime) -> Result<(), Fail> {
     holds(
         &rt,
         in_out.get(60..) == opened.get(60..),
-        "what is behind it",
+        "what comes after it",
     );
     Ok(())
 }

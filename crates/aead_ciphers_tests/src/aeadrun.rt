@@ -33,7 +33,7 @@ const RUNS: [Run; 12] = [
         status: 0,
     },
     Run {
-        name: "opening test case 4 behind four bytes",
+        name: "opening test case 4 after four bytes",
         input: "open 128 <key> <nonce> <aad> 4 00000000<ciphertext><tag>\n\
                 open 128 <key> <nonce> <aad> 4 00000000<ciphertext><false_tag>\n\
                 open 128 <key> <nonce> <aad> 3 00000000<ciphertext><tag>\n",

@@ -17,7 +17,7 @@ fn key(case: &Case) -> Result<Key, Fail> {
     Ok(Key::new(key_bytes(case)?, &mut Work::new())?)
 }
 
-/// Seals under the key and the nonce of a test case, and answers the tag and the work.
+/// Seals under the key and the nonce of a test case, and returns the tag and the work.
 fn sealed(case: &Case, aad: &[u8], buffer: &mut [u8]) -> Result<(Tag, Work), Fail> {
     let mut work = Work::new();
     let nonce = Nonce::assume_unique_for_key(case.nonce);
@@ -25,7 +25,7 @@ fn sealed(case: &Case, aad: &[u8], buffer: &mut [u8]) -> Result<(Tag, Work), Fai
     Ok((tag, work))
 }
 
-/// Opens from a start on under the same, and answers whether that succeeded, and the work.
+/// Opens from a start on under the same, and returns whether that succeeded, and the work.
 fn opened(
     case: &Case,
     aad: &[u8],
@@ -126,9 +126,9 @@ fn counting(alloc: Global, len: usize) -> Result<Vec<u8>, Fail> {
     Ok(bytes)
 }
 
-/// Opening a ciphertext behind a start refuses a false tag and leaves the buffer; under the right one the message stands
+/// Opening a ciphertext after a start refuses a false tag and leaves the buffer; under the right one the message stands
 /// in front, and each later byte is as it was.
-fn opened_behind(
+fn opened_from(
     rt: &impl Abort,
     alloc: Global,
     case: &Case,
@@ -145,10 +145,10 @@ fn opened_behind(
     same(rt, &buffer, &whole, "the buffer stays");
     let (is_opened, _) = opened(case, case.aad, Tag::from(tag), &mut buffer, start)?;
     holds(rt, is_opened, "opened");
-    let (front, behind) = parts(&buffer, message.len());
+    let (front, after) = parts(&buffer, message.len());
     same(rt, front, message, "the message");
-    let (_, behind_before) = parts(&whole, message.len());
-    same(rt, behind, behind_before, "what is behind it");
+    let (_, after_before) = parts(&whole, message.len());
+    same(rt, after, after_before, "what comes after it");
     Ok(())
 }
 
@@ -173,7 +173,7 @@ fn every_start(rt: &impl Abort, alloc: Global, case: &Case, len: usize) -> Resul
     same(rt, &buffer, &ciphertext, "the ciphertext");
     same(rt, tag.as_ref(), &expected, "the tag");
     for start in [0, 1, 4, 15, 16, 17, 3071, 3072, 3073] {
-        opened_behind(rt, alloc, case, expected, (&message, &ciphertext), start)?;
+        opened_from(rt, alloc, case, expected, (&message, &ciphertext), start)?;
     }
     Ok(())
 }

@@ -74,7 +74,7 @@ pub(crate) fn packet(alloc: Global, case: &Case, tag: [u8; MAX_TAG_LEN]) -> Resu
 }
 
 /// What a buffer of four bytes, the ciphertext and the tag holds once it is opened from byte 4 on: the message, and each
-/// byte behind it as it was.
+/// byte after it as it was.
 pub(crate) fn opened_at_4(alloc: Global, case: &Case) -> Result<Vec<u8>, Fail> {
     let before = sealed(alloc, case, &[0; 4])?;
     let mut bytes = case.message.to_vec(alloc)?;

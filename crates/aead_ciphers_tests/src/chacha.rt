@@ -1,4 +1,4 @@
-//! `chacha`: the words of keys and counters, the first and the last block, and an input far behind the output.
+//! `chacha`: the words of keys and counters, the first and the last block, and an input far after the output.
 
 use crate::checks::{holds, same};
 use aead_ciphers_base::chacha::{BLOCK_LEN, Counter, KEY_LEN, Key, Overlapping};

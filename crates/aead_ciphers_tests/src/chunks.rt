@@ -8,14 +8,14 @@ use aead_ciphers_base::polyfill::slice::{AsChunks, AsChunksMut, as_chunks, as_ch
 use std::process::Abort;
 use std::test::Fail;
 
-/// A slice of zeros has so many blocks of `N`, and so many items behind them.
+/// A slice of zeros has so many blocks of `N`, and so many items after them.
 fn splits<const N: usize>(rt: &impl Abort, items: &[u8], blocks: usize, rest: usize)
     requires { 0 < N }
 {
-    let (whole, behind) = as_chunks::<_, N>(items);
+    let (whole, after) = as_chunks::<_, N>(items);
     holds(rt, whole.len() == blocks, "the number of blocks");
     holds(rt, whole.is_empty() == (blocks == 0), "no block");
-    holds(rt, behind.len() == rest, "the number of items behind them");
+    holds(rt, after.len() == rest, "the number of items after them");
 }
 
 #[test]
@@ -64,7 +64,7 @@ fn blocks_of_items_that_are_not_copied(rt: HostRuntime) {
 fn blocks_are_split(rt: HostRuntime) {
     let mut items = [1, 2, 3, 4, 5, 6].map(Item);
     let (mut view, rest) = as_chunks_mut::<_, 2>(&mut items);
-    holds(&rt, rest.is_empty(), "nothing behind them");
+    holds(&rt, rest.is_empty(), "nothing after them");
     assert_eq!(rt; view.as_ref().len(), 3);
     let (before, after) = view.split_at_mut(2);
     hold(&rt, before.as_flattened(), &[1, 2, 3, 4]);

@@ -36,7 +36,7 @@ fn gcm_spec_case_16(rt: HostRuntime) -> Result<(), Fail> {
     seals_and_opens(&rt, rt.alloc(), &CASE_16)
 }
 
-/// Opens a case that stands behind its nonce.
+/// Opens a case that stands after its nonce.
 fn opens_behind_nonce(rt: &impl Abort, alloc: Global, case: &Case) -> Result<(), Fail> {
     let mut message = case.nonce.to_vec(alloc)?;
     message.extend_from_slice(case.ciphertext)?;

@@ -107,7 +107,7 @@ fn records_of_another_implementation(rt: HostRuntime) -> Result<(), Fail> {
     there_and_back(&rt, rt.alloc(), &AES_256_GCM, &KEY, [255; 12], &OF_AES_256)
 }
 
-/// Three records, and five bytes behind them.
+/// Three records, and five bytes after them.
 fn three_records(alloc: Global) -> Result<Vec<u8>, Fail> {
     let mut writer = Writer::new(&AES_128_GCM, &KEY[..16], IV)?;
     let mut bytes = Vec::new(alloc);
@@ -210,7 +210,7 @@ const REFUSED: [(&str, RecordError); 11] = [
     ),
 ];
 
-/// Bytes that aren't one record, and a record that isn't the next one, behind which the number is spent.
+/// Bytes that aren't one record, and a record that isn't the next one, after which the number is spent.
 #[test]
 fn no_record(rt: HostRuntime) -> Result<(), Fail> {
     let alloc = rt.alloc();

@@ -30,7 +30,7 @@ pub(crate) fn ciphertext<A: Allocator>(
     Ok(bytes)
 }
 
-/// At most 16 bytes, the first the highest, with zeros behind them.
+/// At most 16 bytes, the first the highest, with zeros after them.
 fn padded(piece: &[u8]) -> u128 {
     let mut block = [0; 16];
     for (to, from) in block.iter_mut().zip(piece) {

@@ -35,7 +35,7 @@ fn ended(rt: &impl Abort, job: Option<&Job>, outcome: Outcome, buffer: &[u8]) {
     same(rt, &job.buffer, buffer, "the buffer");
 }
 
-/// What an opened buffer holds: the message, and the tag behind it.
+/// What an opened buffer holds: the message, and the tag after it.
 fn opened(alloc: Global) -> Result<Vec<u8>, Fail> {
     let mut bytes = CASE_2.message.to_vec(alloc)?;
     bytes.extend_from_slice(&CASE_2.tag)?;
@@ -64,7 +64,7 @@ fn seals_and_opens_once(rt: HostRuntime) -> Result<(), Fail> {
     Ok(())
 }
 
-/// The first `count` jobs sealed 20 bytes; those behind them were refused, and each buffer stays.
+/// The first `count` jobs sealed 20 bytes; those after them were refused, and each buffer stays.
 fn sealed_so_many(rt: &impl Abort, jobs: &[Job], count: u8) {
     for (i, job) in (0..5u8).zip(jobs.iter()) {
         if i < count {

@@ -8,7 +8,7 @@ use std::io::{self, ErrorKind, Read, Write};
 /// Each call whose count is a multiple of this is interrupted.
 const INTERRUPTED_EVERY: u32 = 4;
 
-/// A stream over `inner` of which one call fails, by `BrokenPipe`; the calls behind it don't.
+/// A stream over `inner` of which one call fails, by `BrokenPipe`; the calls after it don't.
 ///
 /// Each fourth call is interrupted, by `Interrupted`, unless it is a flush or fails.
 #[derive(Drop)]
@@ -52,7 +52,7 @@ impl<T> FailingStream<T> {
         Ok(())
     }
 
-    /// Counts a read or a write of so many bytes, and answers how many it moves.
+    /// Counts a read or a write of so many bytes, and returns how many it moves.
     fn count_bytes(&mut self, len: usize) -> io::Result<usize>
         ensures within { IfOk result (λ n. n ≤ len) }
         ensures some { IfOk result (λ n. n ≡ 0 → len ≡ 0) }

@@ -15,7 +15,7 @@ pub record HasSample (number_at len : ℕ) : Type 0 where
   pub first_byte : 0 < number_at
   pub sampled : number_at + 20 ≤ len
 
--- the mask: that of the sample of 16 bytes, which begins 4 bytes behind the first byte of the packet number (sections 5.4.1
+-- the mask: that of the sample of 16 bytes, which begins 4 bytes after the first byte of the packet number (sections 5.4.1
 -- and 5.4.2)
 abbrev pub mask_of : HeaderKey → ℕ → List ℕ → List ℕ
 mask_of key number_at packet = header_protection key.algorithm key.bytes (slice_range packet (number_at + 4) (number_at + 20))

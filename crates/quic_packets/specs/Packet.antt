@@ -16,7 +16,7 @@ IsGenuine key nonce header_len packet =
     let body = drop header_len packet in let n = length body - 16 in
     drop n body ≡ gcm_tag (aes key) nonce (take header_len packet) (take n body)
 
--- the packet number stands at the end of the header, from byte `start` to below `end`: behind the first byte, and as long as that
+-- the packet number stands at the end of the header, from byte `start` to below `end`: after the first byte, and as long as that
 -- byte says (RFC 9000 sections 17.2 and 17.3.1)
 pub record HasNumber (start end : ℕ) (packet : List ℕ) : Type 0 where
   pub first_byte : 0 < start

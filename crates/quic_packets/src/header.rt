@@ -8,7 +8,7 @@ use crate::error::PacketError;
 use aead_ciphers::aead::quic::{Algorithm, HeaderProtectionKey};
 use std::marker::Model;
 
-/// A sample begins this many bytes behind the first byte of the packet number, as if that had four bytes.
+/// A sample begins this many bytes after the first byte of the packet number, as if that had four bytes.
 const MAX_NUMBER_LEN: usize = 4;
 
 const SAMPLE_LEN: usize = 16;
@@ -56,7 +56,7 @@ impl HeaderKey {
         Ok(())
     }
 
-    /// Unmasks the header of a packet that was received, whose number begins at byte `number_at`, and answers how many
+    /// Unmasks the header of a packet that was received, whose number begins at byte `number_at`, and returns how many
     /// bytes the packet number has. Whether the packet is genuine is only known once it is opened.
     pub fn unprotect(&self, packet: &mut [u8], number_at: usize) -> Result<usize, PacketError>
         ensures accepted { IsOk result ↔ HasSample number_at (length packet.old) }

@@ -51,8 +51,8 @@ impl ReceiveKey {
         }
     }
 
-    /// Opens the packet with this number, whose header, unmasked, has `header_len` bytes, and answers the length of the
-    /// payload: it stands behind the header, in plain, and the tag stays behind it.
+    /// Opens the packet with this number, whose header, unmasked, has `header_len` bytes, and returns the length of the
+    /// payload: it stands after the header, in plain, and the tag stays after it.
     pub fn open(
         &self,
         packet: &mut [u8],

@@ -76,7 +76,7 @@ impl SendKey {
         self.next
     }
 
-    /// Encrypts the payload in place, writes the tag over the last 16 bytes, and answers the packet's number. The
+    /// Encrypts the payload in place, writes the tag over the last 16 bytes, and returns the packet's number. The
     /// header stays, to be masked by a `HeaderKey`.
     ///
     /// `number` is where the header holds the packet number: it ends the header.

@@ -3,7 +3,7 @@ use Rattle.std.proofs.Common.{◌≡◌, ◌≢◌, ℕ, suc, ◌+◌, ◌-◌, 
 use Rattle.std.proofs.lemmas.List.{drop_more, get_or-replicate, length-replicate}
 use Rattle.records.specs.Record.{Inner, inner_plaintext}
 
--- a list that is zero behind a place
+-- a list that is zero after a place
 pub zeros_behind : (xs : List ℕ) (n : ℕ) → n < length xs → ((k : ℕ) → n < k → k < length xs → get_or xs k 0 ≡ 0)
     → xs ≡ take n xs ++ get_or xs n 0 ∷ replicate (length xs - (n + 1)) 0
 zeros_behind xs n h zeros =

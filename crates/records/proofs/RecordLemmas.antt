@@ -12,7 +12,7 @@ use Rattle.records.specs.declared.record_error.RecordError.TheVariants.{WrongLen
 use Rattle.aead_ciphers.proofs.MessageLaws.{decrypted-encrypted, length-aes_encrypted, length-aes_sealed, length-aes_tag}
 use Rattle.records.proofs.InnerLemmas.{length-inner_plaintext, not_zeros, same_inner}
 
--- bytes are one whole record where their header gives the length of what stands behind it
+-- bytes are one whole record where their header gives the length of what stands after it
 pub whole_from : (head bytes : List ℕ) → head ≡ take 5 bytes → length head ≡ 5 → ((i : ℕ) → get_or bytes i 0 < 256) → IsHeader head
     → 5 + encrypted_len head ≡ length bytes → IsWhole bytes
 whole_from head bytes is five small h e =

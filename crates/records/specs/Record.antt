@@ -17,7 +17,7 @@ pub record Inner : Type 0 where
 abbrev pub inner_plaintext : Inner → List ℕ
 inner_plaintext i = i.content ++ i.content_type ∷ replicate i.padding 0
 
--- what may be sent: no content type is zero, since the zeros behind it are padding, and the inner plaintext has at most
+-- what may be sent: no content type is zero, since the zeros after it are padding, and the inner plaintext has at most
 -- 2^14 + 1 bytes (section 5.4)
 pub record IsAllowed (i : Inner) : Type 0 where
   pub typed : i.content_type ≢ 0
@@ -41,13 +41,13 @@ abbrev pub record_of : List ℕ → List ℕ → Inner → List ℕ
 record_of key nonce i =
     let aad = header (length (inner_plaintext i) + 16) in aad ++ gcm_sealed (aes key) nonce aad (inner_plaintext i)
 
--- one whole record: its header gives the length of what stands behind it
+-- one whole record: its header gives the length of what stands after it
 pub record IsWhole (bytes : List ℕ) : Type 0 where
   pub start : take 5 bytes ≡ header (length bytes - 5)
   pub shortest : 5 + 17 ≤ length bytes
   pub longest : length bytes ≤ 5 + 2 ^ 14 + 17
 
--- the header of a record that may be received: at least a content type and a tag stand behind it, and at most an inner
+-- the header of a record that may be received: at least a content type and a tag stand after it, and at most an inner
 -- plaintext of 2^14 + 1 bytes and a tag (sections 5.2 and 5.4)
 pub record IsHeader (bytes : List ℕ) : Type 0 where
   pub start : take 3 bytes ≡ record_start

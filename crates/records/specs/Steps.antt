@@ -48,7 +48,7 @@ RefusesToRead was bytes NoContentType =
     IsWhole bytes × ¬ IsEnded was × Seals was bytes (replicate (length bytes - (5 + 16)) 0)
 RefusesToRead was bytes error = RefusesBytes bytes error
 
--- what reading answers: the type and the content of the next record, or why there is none
+-- what reading returns: the type and the content of the next record, or why there is none
 pub record Reads (was now : State) (bytes : List ℕ) (answer : Result (ℕ × List ℕ) RecordError) : Type 0 where
   pub accepted : (inner : Inner) → Carries was bytes inner → IsOk answer
   pub content : IfOk answer (λ read. (padding : ℕ)
@@ -87,6 +87,6 @@ abbrev pub LeavesRefused : ℕ → ℕ → List ℕ → List ℕ → RecordError
 LeavesRefused at n old new NoContentType = new ≡ overwritten old at (replicate n 0)
 LeavesRefused at n old new error = new ≡ old
 
--- what reading the record of a content answers
+-- what reading the record of a content returns
 abbrev pub content_of_inner : Inner → Result (ℕ × List ℕ) RecordError
 content_of_inner inner = Ok (inner.content_type, inner.content)

@@ -15,7 +15,7 @@ const MAX_ENCRYPTED_LEN: usize = MAX_CONTENT_LEN + 256;
 
 const APPLICATION_DATA: u8 = 23;
 
-/// The header of a record with `len` bytes behind it.
+/// The header of a record with `len` bytes after it.
 pub(crate) fn header_of(len: usize) -> [u8; HEADER_LEN]
     requires { len < 65536 }
     ensures { result ≡ header len }

@@ -10,7 +10,7 @@ ghost use Rattle.records.specs.declared.record_error.RecordError.{RecordError};
 use crate::{Reader, Writer};
 
 /// Reading undoes writing, for every list of contents: whatever calls of `write` made records of them, and
-/// whatever calls of `gather` or `read` then read those records, each answers its content's type and its
+/// whatever calls of `gather` or `read` then read those records, each returns its content's type and its
 /// content, and the reader stands where the writer does.
 #[tactic(auto, using(crate::proofs::RunLemmas::reading_undoes_writing))]
 pub fn reading_undoes_writing(writer: &Writer, reader: &Reader)

@@ -16,7 +16,7 @@ use aead_ciphers::aead::{Aad, OpeningKey, Unspecified, XoredSequence};
 pub type Reader = Numbered<OpeningKey<XoredSequence>>;
 
 impl Reader {
-    /// Opens the next record, which is `bytes[at..end]`, into the bytes from `filled` on, and answers the type
+    /// Opens the next record, which is `bytes[at..end]`, into the bytes from `filled` on, and returns the type
     /// and the length of its content: the content then is `bytes[filled..filled + length]`. So the contents of
     /// all records in a buffer can be gathered at its front, with `filled` the sum of their lengths so far.
     ///
@@ -64,7 +64,7 @@ impl Reader {
         Ok((content_type, &bytes[..len]))
     }
 
-    /// Opens the bytes from `start` on into the front of the buffer, and answers the length of the inner
+    /// Opens the bytes from `start` on into the front of the buffer, and returns the length of the inner
     /// plaintext.
     fn open(
         &mut self,

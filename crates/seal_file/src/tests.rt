@@ -56,7 +56,7 @@ const SECOND_REFUSED: &str = "another key, or chunk 1 was changed or cut";
 
 const ENDS_EARLY: &str = "the sealed file ends early";
 
-const BYTES_BEHIND: &str = "bytes stand behind the last chunk";
+const TRAILING_BYTES: &str = "bytes after the last chunk";
 
 const VERSION_TWO: &str = "a sealed file of version 2, which isn't 1";
 
@@ -181,11 +181,11 @@ fn cut_files(rt: HostRuntime) -> Result<(), Fail> {
 /// The header of the test files.
 const HEADER: &[u8] = b"SEALFILE\x01\x01\x02\x03\x04\x05\x06\x07";
 
-/// A sealed file of two chunks, changed: what stands in front, which of the two follow, and what stands behind.
+/// A sealed file of two chunks, changed: what stands in front, which of the two follow, and what comes after.
 struct Changed {
     front: &'static [u8],
     chunks: &'static [usize],
-    behind: &'static [u8],
+    after: &'static [u8],
     opened: usize,
     text: &'static str,
 }
@@ -194,69 +194,69 @@ const CHANGED: [Changed; 8] = [
     Changed {
         front: HEADER,
         chunks: &[1, 0],
-        behind: b"",
+        after: b"",
         opened: 0,
         text: FIRST_REFUSED,
     },
     Changed {
         front: HEADER,
         chunks: &[0, 0, 1],
-        behind: b"",
+        after: b"",
         opened: CHUNK_LEN,
         text: SECOND_REFUSED,
     },
     Changed {
         front: HEADER,
         chunks: &[1],
-        behind: b"",
+        after: b"",
         opened: 0,
         text: FIRST_REFUSED,
     },
     Changed {
         front: HEADER,
         chunks: &[0, 1, 1],
-        behind: b"",
+        after: b"",
         opened: CHUNK_LEN,
-        text: BYTES_BEHIND,
+        text: TRAILING_BYTES,
     },
     Changed {
         front: HEADER,
         chunks: &[0, 1],
-        behind: b"x",
+        after: b"x",
         opened: CHUNK_LEN,
-        text: BYTES_BEHIND,
+        text: TRAILING_BYTES,
     },
     Changed {
         front: b"SEALFILF\x01\x01\x02\x03\x04\x05\x06\x07",
         chunks: &[0, 1],
-        behind: b"",
+        after: b"",
         opened: 0,
         text: "not a sealed file",
     },
     Changed {
         front: b"SEALFILE\x02\x01\x02\x03\x04\x05\x06\x07",
         chunks: &[0, 1],
-        behind: b"",
+        after: b"",
         opened: 0,
         text: VERSION_TWO,
     },
     Changed {
         front: b"SEALFILE\x01prefix!",
         chunks: &[0, 1],
-        behind: b"",
+        after: b"",
         opened: 0,
         text: FIRST_REFUSED,
     },
 ];
 
-/// A changed file, from what stands behind the header of one that was sealed.
+/// A changed file, from what comes after the header of one that was sealed.
 fn changed_file(alloc: Global, body: &[u8], row: &Changed) -> Result<Vec<u8>, Fail> {
     let mut file = row.front.to_vec(alloc)?;
     for number in row.chunks {
         let chunk = body.chunks(SEALED_LEN).nth(*number).ok_or("a chunk")?;
         file.extend_from_slice(chunk)?;
     }
-    file.extend_from_slice(row.behind)?;
+    file.extend_from_slice(row.after)?;
     Ok(file)
 }
 

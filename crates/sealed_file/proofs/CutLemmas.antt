@@ -1,4 +1,4 @@
--- A sealed file that is cut behind a chunk.
+-- A sealed file that is cut after a chunk.
 use Rattle.std.proofs.Common.{◌≡◌, ℕ, Bool, false, ◌+◌, ◌-◌, ◌*◌, ◌<◌, ◌≤◌, List, length, take, drop, ap, ◌∙◌, arith, eq-eqb, ne_eqb, length-take-le, take-take}
 use Rattle.std.proofs.lemmas.List.{drop-take}
 use Rattle.sealed_file.specs.Format.{chunk_len, sealed_chunk_len, piece, sealed_chunk, sealed_file}

@@ -17,7 +17,7 @@ written_behind f old chunk all new tag start len all_is front back =
     ∙ ap (λ (l : List ℕ). l ++ (drop start new ++ tag)) (front ∙ ap (take start) all_is ∙ take_at old chunk start len)
     ∙ ap (λ (l : List ℕ). old ++ l) (back ∙ ap f (ap (drop start) all_is ∙ drop_at old chunk start len))
 
--- what a list held stands in front, where more was appended and more was then written behind that
+-- what a list held stands in front, where more was appended and more was then written after that
 pub front_through : (old more mid new : List ℕ) (n m : ℕ) → n ≡ length old → m ≡ length mid → mid ≡ old ++ more → take m new ≡ mid → take n new ≡ old
 front_through old more mid new n m n_is m_is appended kept =
     let t = take_at old more n (sym n_is) in

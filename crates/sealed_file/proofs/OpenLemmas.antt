@@ -150,7 +150,7 @@ module _ {key prefix file chunk : List ℕ} {n : ℕ} {rest old now : Option (Li
 
   module _ (next : List ℕ) (rest' : Option (List ℕ)) (read : IfSome rest (λ left. TakesFront sealed_chunk_len left next rest'))
       {m : ℕ} {flag : Bool} (counted : flag ≡ (m == 0)) (m_is : m ≡ length next) where
-    -- the chunk is the last if nothing was read behind it
+    -- the chunk is the last if nothing was read after it
     flag_right : flag ≡ (n == last_chunk file)
     flag_right = counted ∙ flag_is sealed_chunk_len (body_of file) n s.at next rest' read (omega arith) s.so_far.in_range m_is
 

@@ -59,7 +59,7 @@ length-piece size bytes n some before = elim (cases_lt (size * (n + 1)) (length 
 pub length-piece-le : (size : ℕ) (bytes : List ℕ) (n : ℕ) → length (piece size bytes n) ≤ size
 length-piece-le size bytes n = omega (arith, length-take size (drop (size * n) bytes))
 
--- what is behind a piece
+-- what comes after a piece
 pub rest_behind : (size : ℕ) (bytes : List ℕ) (n : ℕ) → drop size (drop (size * n) bytes) ≡ drop (size * (n + 1)) bytes
 rest_behind size bytes n = drop-drop size (size * n) bytes ∙ ap (λ (k : ℕ). drop k bytes) (let e : size * n + size ≡ size * (n + 1) = omega arith in e)
 
@@ -81,7 +81,7 @@ all_pieces size bytes some =
       | inr within ↦ within
     ])
 
--- the first of some lists, and then the next and those behind it
+-- the first of some lists, and then the next and those after it
 pub joined_parts : (f : ℕ → List ℕ) (n m : ℕ) → n < m → (later : List ℕ) × (concat (each_below m f) ≡ concat (each_below n f) ++ (f n ++ later))
 joined_parts f n m h =
     let k = m - (n + 1) in

@@ -40,13 +40,13 @@ pub filled_same : (a b c : Option (List ℕ)) (xs ys : List ℕ) (f f' : ℕ) �
     → Consumes a b (take f xs) → Keeps b c → (f' ≤ length ys) × Consumes a c (take f' ys)
 filled_same a b c xs ys f f' e front fits before kept = (omega arith, rw (e, front) (Consumes-kept a b c _ before kept))
 
--- the loops stand at piece n of the bytes where it was read, and what is behind it is left; the next one is read
+-- the loops stand at piece n of the bytes where it was read, and what is after it is left; the next one is read
 module _ (size : ℕ) (bytes : List ℕ) (n : ℕ) {here : List ℕ} {rest : Option (List ℕ)} (at : TakesFront size (drop (size * n) bytes) here rest)
     (next : List ℕ) (rest' : Option (List ℕ)) (read : IfSome rest (λ left. TakesFront size left next rest')) where
   pub next_read : TakesFront size (drop (size * (n + 1)) bytes) next rest'
   next_read = subst (λ (l : List ℕ). TakesFront size l next rest') (rest_behind size bytes n) (rw at.left at read)
 
-  -- a piece is the last if nothing was read behind it
+  -- a piece is the last if nothing was read after it
   pub flag_is : {m : ℕ} → 0 < size → n ≤ last_piece size (length bytes) → m ≡ length next → m == 0 ≡ (n == last_piece size (length bytes))
   flag_is some within m_is = is_last size bytes next n _ some within next_read.piece_is m_is
 

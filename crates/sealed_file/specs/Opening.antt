@@ -35,7 +35,7 @@ opened_chunk key prefix number is_last sealed =
 abbrev pub prefix_of : List ℕ → List ℕ
 prefix_of file = drop 9 (take 16 file)
 
--- what stands behind the header
+-- what comes after the header
 abbrev pub body_of : List ℕ → List ℕ
 body_of file = drop 16 file
 

@@ -1,7 +1,7 @@
 -- When each error comes.
 use Rattle.std.specs.Prelude.{◌≡◌, ◌≢◌, ℕ, Bool, true, false, ◌-◌, ◌^◌, ◌<◌, ◌≤◌, ◌⊎◌, ⊤, List, length, take, codes, slice_index, ◌==◌}
 use Rattle.sealed_file.specs.declared.error.FileError.{FileError}
-use Rattle.sealed_file.specs.declared.error.FileError.TheVariants.{AnotherMagic, AnotherVersion, EndsEarly, BytesBehind, Refused, TooLong, OutOfMemory, Io}
+use Rattle.sealed_file.specs.declared.error.FileError.TheVariants.{AnotherMagic, AnotherVersion, EndsEarly, TrailingBytes, Refused, TooLong, OutOfMemory, Io}
 use Rattle.sealed_file.specs.Format.{chunk_len, sealed_chunk_len, piece, last_piece}
 use Rattle.sealed_file.specs.Opening.{HasTag, HasHeader, AreRight, last_chunk, prefix_of, body_of}
 
@@ -19,12 +19,12 @@ HeaderRefuses bytes (AnotherVersion version) = (16 ≤ length bytes) × (take 8 
     × (slice_index bytes 8 ≡ version) × (version ≢ 1)
 HeaderRefuses bytes error = ⊥
 
--- why a sealed chunk isn't opened: a tag that is right for the other kind of chunk tells a file that was cut behind the
--- chunk, or that goes on behind it
+-- why a sealed chunk isn't opened: a tag that is right for the other kind of chunk tells a file that was cut after the
+-- chunk, or that goes on after it
 abbrev pub ChunkRefuses : (key prefix : List ℕ) (number : ℕ) (is_last : Bool) (sealed : List ℕ) → FileError → Type 0
 ChunkRefuses key prefix number is_last sealed EndsEarly =
     (length sealed < 16) ⊎ ((is_last ≡ true) × HasTag key prefix number false sealed)
-ChunkRefuses key prefix number is_last sealed BytesBehind =
+ChunkRefuses key prefix number is_last sealed TrailingBytes =
     (is_last ≡ false) × HasTag key prefix number true sealed
 ChunkRefuses key prefix number is_last sealed (Refused at) =
     (at ≡ number) × (16 ≤ length sealed)

@@ -23,10 +23,10 @@ pub const MAX_CHUNKS: u32 = u32::MAX;
 /// What a sealed file begins with.
 pub const MAGIC: [u8; 8] = *b"SEALFILE";
 
-/// The version of the format, behind the magic.
+/// The version of the format, after the magic.
 pub const VERSION: u8 = 1;
 
-/// The length of the prefix of a file's nonces, behind the version.
+/// The length of the prefix of a file's nonces, after the version.
 pub const PREFIX_LEN: usize = 7;
 
 /// The length of the magic, the version and the prefix.
@@ -180,7 +180,7 @@ pub(crate) fn open_ciphertext(
         return Err(if is_last {
             FileError::EndsEarly
         } else {
-            FileError::BytesBehind
+            FileError::TrailingBytes
         });
     }
     Err(FileError::Refused(number))

@@ -13,10 +13,10 @@ pub enum FileError {
     AnotherMagic,
     /// The file is of another version of the format, this one.
     AnotherVersion(u8),
-    /// The file ends within its header, within a tag, or behind a chunk that isn't the last.
+    /// The file ends within its header, within a tag, or after a chunk that isn't the last.
     EndsEarly,
-    /// Bytes stand behind the last chunk.
-    BytesBehind,
+    /// Bytes come after the last chunk.
+    TrailingBytes,
     /// The chunk of this number, from 0 on, has another tag: the key is another one, or the chunk changed.
     Refused(u32),
     /// The file has more than `MAX_CHUNKS` chunks.
@@ -37,7 +37,7 @@ impl fmt::Display for FileError {
                 "a sealed file of version {version}, which isn't 1"
             ),
             FileError::EndsEarly => write!(f, "the sealed file ends early"),
-            FileError::BytesBehind => write!(f, "bytes stand behind the last chunk"),
+            FileError::TrailingBytes => write!(f, "bytes after the last chunk"),
             FileError::Refused(number) => write!(
                 f,
                 "another key, or chunk {number} was changed or cut"

@@ -145,7 +145,7 @@ fn open_from(
 }
 
 /// Opens a sealed chunk onto `out`, which has room for the message. On an error bytes that aren't authentic may stand
-/// behind what `out` held.
+/// after what `out` held.
 fn append_opened(
     key: &FileKey,
     prefix: &Prefix,
@@ -197,7 +197,7 @@ fn opened_len(sealed: &[u8]) -> usize
     last * CHUNK_LEN + (body - last * SEALED_CHUNK_LEN).saturating_sub(MAX_TAG_LEN)
 }
 
-/// `open_bytes` that on an error may leave bytes behind what `out` held.
+/// `open_bytes` that on an error may leave bytes after what `out` held.
 fn append_file(key: &FileKey, sealed: &[u8], out: &mut Vec<u8>) -> Result<(), FileError>
     ensures front { take (vec_len out.old) out.new.items ≡ out.old.items }
     ensures accepted { IsOk result → IsSealed key.now sealed.now }

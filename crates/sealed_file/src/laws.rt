@@ -14,7 +14,7 @@ pub fn opens_again(key: &[u8], prefix: &[u8; PREFIX_LEN], file: &[u8])
     ensures comes_back { opened_file key.now (sealed_file key.now prefix.now file.now) ≡ file.now }
 {}
 
-/// A sealed file that is cut behind its first `n` chunks is accepted only if the tag of the last of them, which was
+/// A sealed file that is cut after its first `n` chunks is accepted only if the tag of the last of them, which was
 /// made for a chunk that isn't the last, is also its tag as the last.
 pub fn cut_file(key: &[u8], prefix: &[u8; PREFIX_LEN], file: &[u8], n: usize)
     requires some { 0 < n }

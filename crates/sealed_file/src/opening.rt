@@ -17,8 +17,9 @@ use std::mem;
 /// Opens the sealed file that `input` gives. A chunk's message is written once its tag was found right.
 ///
 /// It keeps two chunks in memory. Each error but `Io` says what is wrong with the file: `AnotherMagic`,
-/// `AnotherVersion`, `EndsEarly` (within the header or a tag, or behind a chunk that isn't the last), `BytesBehind` (behind
-/// a last chunk of `CHUNK_LEN` bytes), `Refused` (any other chunk with a false tag), `TooLong` (more than `MAX_CHUNKS` chunks).
+/// `AnotherVersion`, `EndsEarly` (within the header or a tag, or after a chunk that isn't the last),
+/// `TrailingBytes` (after a last chunk of `CHUNK_LEN` bytes), `Refused` (any other chunk with a false tag),
+/// `TooLong` (more than `MAX_CHUNKS` chunks).
 pub fn open<R: Read, W: Write>(
     alloc: Global,
     key: &FileKey,

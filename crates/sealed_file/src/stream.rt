@@ -36,7 +36,7 @@ fn read_at<R: Read>(input: &mut R, buf: &mut [u8], at: usize) -> io::Result<usiz
     input.read(&mut buf[at..])
 }
 
-/// Fills `buf` from its front, and answers how many bytes there were: fewer than it has only at the end.
+/// Fills `buf` from its front, and returns how many bytes there were: fewer than it has only at the end.
 pub(crate) fn fill<R: Read>(input: &mut R, buf: &mut [u8]) -> io::Result<usize>
     ensures within { IfOk result (λ n. n ≤ length buf.new) }
     ensures bytes { IfOk result (λ n. Consumes (R.remaining input.old) (R.remaining input.new) (take n buf.new)) }

@@ -59,7 +59,7 @@ pub fn send(
     key.seal_in_place_append_tag(Aad::from(aad), message)
 }
 
-/// Seals the next message, and answers its tag: it succeeds exactly while nonces are left.
+/// Seals the next message, and returns its tag: it succeeds exactly while nonces are left.
 pub fn send_apart(
     key: &mut SealingKey<CounterSequence>,
     message: &mut [u8],
@@ -76,7 +76,7 @@ pub fn send_apart(
     key.seal_in_place_separate_tag(Aad::empty(), message)
 }
 
-/// Opens the next message, and answers the length of the plaintext, which then stands in front. A message that isn't
+/// Opens the next message, and returns the length of the plaintext, which then stands in front. A message that isn't
 /// the next one spends its nonce too.
 pub fn receive(
     key: &mut OpeningKey<CounterSequence>,

@@ -10,7 +10,7 @@ use aead_ciphers::aead::lend::lend_plaintext_and_rest;
 use aead_ciphers::aead::{Aad, LessSafeKey, NONCE_LEN, Nonce, Tag, Unspecified};
 use arrayvec::ArrayVec;
 
-/// Opens a message that has its nonce in front and its tag behind, and answers the length of the plaintext, which then
+/// Opens a message that has its nonce before it and its tag after it, and returns the length of the plaintext, which then
 /// stands at the front of the buffer.
 pub fn open_behind_nonce(
     key: &LessSafeKey,

@@ -8,7 +8,7 @@ use aead_ciphers::aead::{
     AES_256_GCM, Aad, LessSafeKey, NONCE_LEN, Nonce, Tag, UnboundKey, Unspecified,
 };
 
-/// Encrypts a message in place under AES-256-GCM, and answers its tag.
+/// Encrypts a message in place under AES-256-GCM, and returns its tag.
 pub fn seal(
     key_bytes: &[u8; 32],
     nonce: [u8; NONCE_LEN],

@@ -25,8 +25,8 @@ pub(crate) fn lend_plaintext(
     }
 }
 
-/// The plaintext at the front of the buffer and the bytes behind it, both for writing, where `opened` isn't a
-/// refusal. It is for a proved caller of a call that answers the plaintext's length: its proof knows the whole
+/// The plaintext at the front of the buffer and the bytes after it, both for writing, where `opened` isn't a
+/// refusal. It is for a proved caller of a call that returns the plaintext's length: its proof knows the whole
 /// buffer when the loan ends.
 pub fn lend_plaintext_and_rest(
     in_out: &mut [u8],

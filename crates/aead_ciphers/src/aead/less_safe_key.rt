@@ -78,7 +78,7 @@ impl LessSafeKey {
         self.algorithm
     }
 
-    /// Encrypts the buffer in place, and answers the tag of what it then holds and the AAD (SP 800-38D
+    /// Encrypts the buffer in place, and returns the tag of what it then holds and the AAD (SP 800-38D
     /// algorithm 4).
     ///
     /// `in_out` is the message, and then the ciphertext, of as many bytes. Refused where the message is longer
@@ -181,7 +181,7 @@ impl LessSafeKey {
     }
 
     /// Opens the ciphertext that is the buffer from `ciphertext.start` on (SP 800-38D algorithm 5), and gives the
-    /// plaintext at the front of the buffer for writing. Bytes behind the plaintext stay.
+    /// plaintext at the front of the buffer for writing. Bytes after the plaintext stay.
     ///
     /// Refused, in this order and with the buffer as it came, where the start is out of range, where the lengths
     /// don't fit (as in `seal_in_place_separate_tag`), and where the tag isn't that of the ciphertext and the AAD.
@@ -246,7 +246,7 @@ impl LessSafeKey {
         lend_plaintext(in_out, opened)
     }
 
-    /// `open_within` that lends nothing: it leaves the plaintext at the front of the buffer, and answers its length.
+    /// `open_within` that lends nothing: it leaves the plaintext at the front of the buffer, and returns its length.
     /// This call is this library's own.
     pub fn open_within_to_front(
         &self,
@@ -292,7 +292,7 @@ impl LessSafeKey {
         lend_plaintext(in_out, opened)
     }
 
-    /// `open_in_place` that lends nothing: it leaves the plaintext at the front of the buffer, and answers its length.
+    /// `open_in_place` that lends nothing: it leaves the plaintext at the front of the buffer, and returns its length.
     /// This call is this library's own.
     pub fn open_in_place_to_front(
         &self,
@@ -309,7 +309,7 @@ impl LessSafeKey {
     }
 
     /// Opens a packet in place, which is a header of `header_len` bytes, then the ciphertext, then the tag of 16 bytes (SP
-    /// 800-38D algorithm 5), and answers the plaintext's length. The header is the AAD and stays, the plaintext takes the
+    /// 800-38D algorithm 5), and returns the plaintext's length. The header is the AAD and stays, the plaintext takes the
     /// ciphertext's place, and the tag stays. This call is this library's own.
     ///
     /// Refused, with the packet as it came, where it has fewer than `header_len` + 16 bytes, where the lengths don't fit

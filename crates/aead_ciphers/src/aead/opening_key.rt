@@ -61,7 +61,7 @@ impl<N: NonceSequence> BoundKey<N> for OpeningKey<N> {
 }
 
 impl<N: NonceSequence> OpeningKey<N> {
-    /// `open_within` that lends nothing: it leaves the plaintext at the front of the buffer, and answers its length.
+    /// `open_within` that lends nothing: it leaves the plaintext at the front of the buffer, and returns its length.
     /// This call is this library's own.
     pub fn open_within_to_front(
         &mut self,
@@ -89,7 +89,7 @@ impl<N: NonceSequence> OpeningKey<N> {
             .open_within_to_front(nonce, aad, in_out, ciphertext_and_tag)
     }
 
-    /// `open_in_place` that lends nothing: it leaves the plaintext at the front of the buffer, and answers its length.
+    /// `open_in_place` that lends nothing: it leaves the plaintext at the front of the buffer, and returns its length.
     /// This call is this library's own.
     pub fn open_in_place_to_front(
         &mut self,
@@ -115,7 +115,7 @@ impl<N: NonceSequence> OpeningKey<N> {
     }
 
     /// Opens a packet in place under the next nonce, which is a header of `header_len` bytes, then the ciphertext, then the
-    /// tag of 16 bytes (SP 800-38D algorithm 5), and answers the plaintext's length. The header is the AAD and stays, the
+    /// tag of 16 bytes (SP 800-38D algorithm 5), and returns the plaintext's length. The header is the AAD and stays, the
     /// plaintext takes the ciphertext's place, and the tag stays. This call is this library's own.
     ///
     /// The sequence is asked first. Refused where it refuses; then, with the nonce spent, where the packet has fewer

@@ -99,7 +99,7 @@ impl<N: NonceSequence> SealingKey<N> {
         }
     }
 
-    /// Encrypts the buffer in place under the next nonce, and answers the tag of what it then holds and the AAD
+    /// Encrypts the buffer in place under the next nonce, and returns the tag of what it then holds and the AAD
     /// (SP 800-38D algorithm 4).
     ///
     /// `in_out` is the message, and then the ciphertext, of as many bytes. The sequence is asked first, and then the

@@ -6,7 +6,7 @@ use crate::aead::{NONCE_LEN, Nonce, NonceSequence, Unspecified};
 use aead_ciphers_base::bb;
 use std::marker::Model;
 
-/// Nonces of 12 bytes: an IV, XORed with a number in 8 big-endian bytes behind four zeros, which counts up from a first
+/// Nonces of 12 bytes: an IV, XORed with a number in 8 big-endian bytes after four zeros, which counts up from a first
 /// one (RFC 8446 section 5.3: the number of a record; RFC 9001 section 5.3: the number of a packet). It can't be
 /// cloned. This type is this library's own.
 #[derive(Drop)]

@@ -12,7 +12,7 @@ use aead_ciphers_base::aes::{Counter, EncryptCtr32, Work};
 use aead_ciphers_base::error::Unspecified;
 use aead_ciphers_base::values::{Aad, Nonce, Tag};
 
-/// Encrypts the buffer in place, and answers the tag. Refused where the lengths don't fit.
+/// Encrypts the buffer in place, and returns the tag. Refused where the lengths don't fit.
 pub(super) fn seal_with<A: EncryptCtr32, G: UpdateBlocks>(
     aes: &A,
     gcm: &G,

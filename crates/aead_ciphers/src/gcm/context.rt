@@ -92,7 +92,7 @@ impl<'key, K: UpdateBlock> Context<'key, K> {
     }
 
     /// Takes in the block of the lengths of the AAD and of `in_out_len`, by one field product, and
-    /// answers what `f` makes of the hash: 16 bytes.
+    /// returns what `f` makes of the hash: 16 bytes.
     pub fn pre_finish<F: FnOnce(Block) -> Tag>(self, work: &mut Work, f: F) -> Tag
         requires sums { CanAdd work.old 0 1 }
         requires callable { (xi : List ℕ)
@@ -130,7 +130,7 @@ impl<'key, K: UpdateBlocks> Context<'key, K> {
     }
 }
 
-/// A block with these bytes in front, and zeros behind them.
+/// A block with these bytes in front, and zeros after them.
 #[tactic(auto, using(crate::proofs::PaddedBlocks::padded_is))]
 pub(crate) fn padded(bytes: &[u8]) -> Block
     requires { length bytes.now ≤ 16 }

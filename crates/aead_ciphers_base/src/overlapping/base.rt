@@ -153,7 +153,7 @@ impl<'o, T> Overlapping<'o, T> {
     }
 
     /// `f` maps the first chunk of the input, its answer is written to the front of the slice, and
-    /// the slice behind it comes back with the same start. Where the input is shorter than a chunk,
+    /// the slice after it comes back with the same start. Where the input is shorter than a chunk,
     /// it is refused with the length of a chunk, and `f` isn't called.
     pub fn split_first_chunk<C: Chunk<T>, F: FnOnce(&C) -> C>(
         self,

@@ -124,7 +124,7 @@ impl<'a, T, const N: usize> AsChunksMut<'a, T, N> {
         AsChunks::from(self)
     }
 
-    /// The first `mid` blocks, and the blocks behind them.
+    /// The first `mid` blocks, and the blocks after them.
     pub fn split_at_mut(&mut self, mid: usize) -> (AsChunksMut<'_, T, N>, AsChunksMut<'_, T, N>)
         requires { mid ≤ length (blocks N self.old.items.now) }
         ensures* writes_back { sem 𝓛 (LendsParts T.row N.row self.entry result.0.items result.1.items) }

@@ -42,7 +42,7 @@ impl fmt::Display for Unspecified {
 
 impl Error for Unspecified {}
 
-/// Ok where the library answers true.
+/// Ok where the library returns true.
 fn accepted(answer: bool) -> Result<(), Unspecified> {
     if answer {
         Ok(())
@@ -71,7 +71,7 @@ impl LessSafeKey {
         Ok(LessSafeKey { bytes, len })
     }
 
-    /// Encrypts `in_out` in place, and answers the tag of the ciphertext and the AAD.
+    /// Encrypts `in_out` in place, and returns the tag of the ciphertext and the AAD.
     ///
     /// Refused where the message is longer than 2^36 - 32 bytes.
     pub fn seal_in_place_separate_tag(
@@ -113,9 +113,9 @@ impl LessSafeKey {
     }
 
     /// Opens the ciphertext and tag that are `in_out` from `ciphertext_and_tag.start` on, and gives the plaintext,
-    /// which is then at the front of `in_out`. Bytes behind it stay.
+    /// which is then at the front of `in_out`. Bytes after it stay.
     ///
-    /// Refused where the tag isn't that of the ciphertext and the AAD, where no 16 bytes stand behind the start, and
+    /// Refused where the tag isn't that of the ciphertext and the AAD, where no 16 bytes stand after the start, and
     /// where the lengths don't fit, as in `seal_in_place_separate_tag`.
     pub fn open_within<'a>(
         &self,

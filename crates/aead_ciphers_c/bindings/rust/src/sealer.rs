@@ -53,7 +53,7 @@ impl Sealer {
         self.0.next..self.0.limit
     }
 
-    /// Encrypts `in_out` in place under the nonce of the next number, and answers the tag of the ciphertext and the
+    /// Encrypts `in_out` in place under the nonce of the next number, and returns the tag of the ciphertext and the
     /// AAD.
     ///
     /// Refused where no number is left and where the message is longer than 2^36 - 32 bytes. A refusal spends no number

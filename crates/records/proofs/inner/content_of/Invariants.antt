@@ -1,7 +1,7 @@
 use Rattle.std.proofs.Common.{◌≡◌, ◌≢◌, ◌⊎◌, ◌<◌, ◌≤◌, ℕ, get_or}
 use Rattle.records.proofs.inner.content_of.Given as goal
 
--- what is behind `len` so far is zero, and what is at `len`, unless it is the first byte, isn't
+-- what comes after `len` so far is zero, and what is at `len`, unless it is the first byte, isn't
 abbrev pub invariant-loop-i : goal.invariant-loop-i
 invariant-loop-i l = record {
   in_range : l.len ≤ l.i;

@@ -1,4 +1,4 @@
--- The slice behind the first chunk is handed on after the chunk was mapped, or the slice is let go. This walks the code by hand.
+-- The slice after the first chunk is handed on after the chunk was mapped, or the slice is let go. This walks the code by hand.
 use Rattle.aead_ciphers_base.proofs.WalkNames.{◌≡◌, refl, sym, ap, ◌∙◌, List, [], ◌∷◌, ◌++◌, ℕ, ◌+◌, ◌-◌, ◌*◌, ◌^◌, ◌<◌, ◌≤◌, arith, length, take, drop_list, length-drop, length-append, w64, a_type, dcons, dnil, inst_fn, Val, vint, vstruct, vcons, vnil, of_list, Fits, size, GName, fres, ‵, some, later, ◌$◌, !, move, keep, drop, split3, fsplit, fpick, fpack, feq_l, use1, use2, await, pick, rewrite, whole, sub, agg, stop, fld, from, load, lit, size_word, of_opd, bin, addr, and_then, first, branches, skips, exec, returns, returns_within, alloc_all, pass_all, free_all, look_at, look_in_at, get, sets, lands_as, through, env, Items, usize, no, follows, Is, shows, param, layout, bounded, types_at, plain, named_lft, Room, slice_val, nothing, heard, peeks, only, Goes-dropped, Ok, Err, IsOk, ◌↔◌}
 use Rattle.aead_ciphers_base.proofs.WalkLocals.{alone, both, gets}
 use Rattle.aead_ciphers_base.proofs.Walks.{one, Words, words_vals, words_typed, slice_typed, dropped, consults, ends, walked, table_of, learns, tells, tell, premise, says}
