@@ -4,8 +4,8 @@ ghost use Rattle.std.specs.Prelude.{◌≡◌, ◌+◌, ◌<◌, ◌≤◌, ◌�
 ghost use Rattle.aead_ciphers_base.specs.Aes.{aes};
 ghost use Rattle.aead_ciphers.specs.Gcm.{Fits, gcm_encrypted, gcm_tag};
 ghost use Rattle.aead_ciphers.specs.Counting.{xored_nonce};
-ghost use Rattle.aead_ciphers_c.specs.AesKey.{IsAesKeyLen};
-ghost use Rattle.aead_ciphers_c.specs.Sealer.{key_of, next_nonce};
+ghost use Rattle.deerlapse.specs.AesKey.{IsAesKeyLen};
+ghost use Rattle.deerlapse.specs.Sealer.{key_of, next_nonce};
 
 use crate::aes_gcm::seal;
 use aead_ciphers::aead::{MAX_TAG_LEN, NONCE_LEN, Unspecified, nonce_of};

@@ -2,7 +2,7 @@
 
 ghost use Rattle.std.specs.Prelude.{◌≡◌, ◌↔◌, length, IsTrue, IsFalse};
 ghost use Rattle.aead_ciphers_base.specs.Mask.{aes_mask, chacha_mask};
-ghost use Rattle.aead_ciphers_c.specs.AesKey.{IsAesKeyLen};
+ghost use Rattle.deerlapse.specs.AesKey.{IsAesKeyLen};
 
 use aead_ciphers::aead::Unspecified;
 use aead_ciphers::aead::quic::{AES_128, AES_256, HeaderProtectionKey, Sample};

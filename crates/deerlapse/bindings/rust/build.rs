@@ -3,7 +3,7 @@
 use std::env;
 use std::path::PathBuf;
 
-const NAME: &str = "libaead_ciphers_c.a";
+const NAME: &str = "libdeerlapse.a";
 
 fn main() {
     println!("cargo:rerun-if-env-changed=DEERLAPSE_LIB");
@@ -14,10 +14,10 @@ fn main() {
     println!("cargo:rerun-if-changed={}", library.display());
     if !library.is_file() {
         panic!(
-            "no {}: run `rt lib` in crates/aead_ciphers_c, or name its folder by DEERLAPSE_LIB",
+            "no {}: run `rt lib` in crates/deerlapse, or name its folder by DEERLAPSE_LIB",
             library.display()
         );
     }
     println!("cargo:rustc-link-search=native={}", folder.display());
-    println!("cargo:rustc-link-lib=static=aead_ciphers_c");
+    println!("cargo:rustc-link-lib=static=deerlapse");
 }

@@ -1,5 +1,5 @@
 /* AES-GCM, the ChaCha20 stream and QUIC's header masks, for C and C++. The library is built by `rt lib` in
- * crates/aead_ciphers_c: out/libaead_ciphers_c.a.
+ * crates/deerlapse: out/libdeerlapse.a.
  *
  * Of every call:
  *  - It returns true, or false with every byte as it came. Where it can't be refused it returns nothing.

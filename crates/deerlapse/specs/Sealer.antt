@@ -1,7 +1,7 @@
 -- What the contracts see of a `DeerlapseSealer`.
 use Rattle.std.specs.Prelude.{ℕ, List, take}
 use Rattle.aead_ciphers.specs.Counting.{xored_nonce}
-use Rattle.aead_ciphers_c.specs.declared.sealer.DeerlapseSealer.{DeerlapseSealer}
+use Rattle.deerlapse.specs.declared.sealer.DeerlapseSealer.{DeerlapseSealer}
 
 -- the bytes of its key: as many as its length says
 abbrev pub key_of : DeerlapseSealer → List ℕ

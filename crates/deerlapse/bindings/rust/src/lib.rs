@@ -1,4 +1,4 @@
-//! AES-GCM, the ChaCha20 stream and QUIC's header masks: safe functions over the static library `aead_ciphers_c`, which
+//! AES-GCM, the ChaCha20 stream and QUIC's header masks: safe functions over the static library `deerlapse`, which
 //! `rt lib` builds.
 //!
 //! What is proved of the library ends at its calls. That these functions hand over the right pointers and lengths is
