@@ -1,14 +1,18 @@
-/* AES-GCM, the ChaCha20 stream and QUIC's header masks, for C and C++. The library is built by `rt lib` in
- * crates/deerlapse: out/libdeerlapse.a.
+/* AES-GCM, the ChaCha20 stream and QUIC's header masks, for C and C++. The library is libdeerlapse.a: `rt lib` makes it
+ * in crates/deerlapse/out, and `tools/install PREFIX` installs it with this header.
  *
  * Of every call:
  *  - It returns true, or false with every byte as it came. Where it can't be refused it returns nothing.
- *  - No pointer is null, also where its length is 0.
- *  - A pointer with a length has that many bytes. A parameter like nonce[12] has the bytes that it says.
+ *  - A pointer with a length has that many bytes, and may be null where the length is 0. No other pointer is null. A
+ *    parameter like nonce[12] has the bytes that it says.
  *  - What a call writes overlaps nothing else that the call is given. What it only reads may overlap. A tag may
  *    stand right after its message: `tag` is then `in_out + in_out_len`.
  *  - It takes no memory, has no state and starts no thread. Calls in several threads at once are fine where none of
  *    them writes what another is given.
+ *  - It takes at most DEERLAPSE_MAX_STACK bytes of stack, whatever the lengths.
+ *
+ * The library needs Linux on an x86-64 processor of level x86-64-v2 (SSSE3, SSE4.2, POPCNT). No call looks whether the
+ * processor is one.
  */
 #ifndef DEERLAPSE_H
 #define DEERLAPSE_H
@@ -22,10 +26,21 @@
 #define DEERLAPSE_CALL __attribute__((nonnull))
 /* And where nobody looks at the answer. */
 #define DEERLAPSE_ANSWERS __attribute__((nonnull, warn_unused_result))
+/* The same, where the parameters with these numbers alone can't be null. */
+#define DEERLAPSE_WRAPS(...) static inline __attribute__((nonnull(__VA_ARGS__), warn_unused_result))
 #else
 #define DEERLAPSE_CALL
 #define DEERLAPSE_ANSWERS
+#define DEERLAPSE_WRAPS(...) static inline
 #endif
+
+#define DEERLAPSE_VERSION_MAJOR 0
+#define DEERLAPSE_VERSION_MINOR 1
+#define DEERLAPSE_VERSION_PATCH 0
+
+/* The bytes of stack that a call takes at most, as tools/stack measured them: the dynamic linker's among them, which may
+ * bind memcpy and memset in a first call. */
+#define DEERLAPSE_MAX_STACK 28672
 
 #define DEERLAPSE_NONCE_LEN 12
 #define DEERLAPSE_TAG_LEN 16
@@ -126,11 +141,72 @@ DEERLAPSE_ANSWERS
 bool deerlapse_chacha20(const uint8_t key[32], const uint8_t nonce[DEERLAPSE_NONCE_LEN], uint32_t counter,
                         uint8_t *in_out, size_t in_out_len);
 
+/* The functions of the library take no null pointer. So from here on the name of each that has a pointer with a length is
+ * that of a wrapper, which hands in another address where the length is 0. */
+
+static inline const uint8_t *deerlapse_to_read(const uint8_t *bytes, size_t len) {
+    static const uint8_t none = 0;
+    return len == 0 ? &none : bytes;
+}
+
+static inline uint8_t *deerlapse_to_write(uint8_t *bytes, size_t len) {
+    static uint8_t none = 0;
+    return len == 0 ? &none : bytes;
+}
+
+DEERLAPSE_WRAPS(3, 8)
+bool deerlapse_seal_nullable(const uint8_t *key, size_t key_len, const uint8_t nonce[DEERLAPSE_NONCE_LEN],
+                             const uint8_t *aad, size_t aad_len, uint8_t *in_out, size_t in_out_len,
+                             uint8_t tag[DEERLAPSE_TAG_LEN]) {
+    return deerlapse_seal(deerlapse_to_read(key, key_len), key_len, nonce, deerlapse_to_read(aad, aad_len), aad_len,
+                          deerlapse_to_write(in_out, in_out_len), in_out_len, tag);
+}
+#define deerlapse_seal deerlapse_seal_nullable
+
+DEERLAPSE_WRAPS(3, 9)
+bool deerlapse_open_nullable(const uint8_t *key, size_t key_len, const uint8_t nonce[DEERLAPSE_NONCE_LEN],
+                             const uint8_t *aad, size_t aad_len, uint8_t *in_out, size_t in_out_len, size_t start,
+                             size_t *plaintext_len) {
+    return deerlapse_open(deerlapse_to_read(key, key_len), key_len, nonce, deerlapse_to_read(aad, aad_len), aad_len,
+                          deerlapse_to_write(in_out, in_out_len), in_out_len, start, plaintext_len);
+}
+#define deerlapse_open deerlapse_open_nullable
+
+DEERLAPSE_WRAPS(1, 4)
+bool deerlapse_sealer_init_nullable(deerlapse_sealer *sealer, const uint8_t *key, size_t key_len,
+                                    const uint8_t iv[DEERLAPSE_NONCE_LEN], uint64_t first, uint64_t limit) {
+    return deerlapse_sealer_init(sealer, deerlapse_to_read(key, key_len), key_len, iv, first, limit);
+}
+#define deerlapse_sealer_init deerlapse_sealer_init_nullable
+
+DEERLAPSE_WRAPS(1, 6)
+bool deerlapse_sealer_seal_nullable(deerlapse_sealer *sealer, const uint8_t *aad, size_t aad_len, uint8_t *in_out,
+                                    size_t in_out_len, uint8_t tag[DEERLAPSE_TAG_LEN]) {
+    return deerlapse_sealer_seal(sealer, deerlapse_to_read(aad, aad_len), aad_len,
+                                 deerlapse_to_write(in_out, in_out_len), in_out_len, tag);
+}
+#define deerlapse_sealer_seal deerlapse_sealer_seal_nullable
+
+DEERLAPSE_WRAPS(3, 4)
+bool deerlapse_mask_aes_nullable(const uint8_t *key, size_t key_len, const uint8_t sample[DEERLAPSE_SAMPLE_LEN],
+                                 uint8_t mask[DEERLAPSE_MASK_LEN]) {
+    return deerlapse_mask_aes(deerlapse_to_read(key, key_len), key_len, sample, mask);
+}
+#define deerlapse_mask_aes deerlapse_mask_aes_nullable
+
+DEERLAPSE_WRAPS(1, 2)
+bool deerlapse_chacha20_nullable(const uint8_t key[32], const uint8_t nonce[DEERLAPSE_NONCE_LEN], uint32_t counter,
+                                 uint8_t *in_out, size_t in_out_len) {
+    return deerlapse_chacha20(key, nonce, counter, deerlapse_to_write(in_out, in_out_len), in_out_len);
+}
+#define deerlapse_chacha20 deerlapse_chacha20_nullable
+
 #ifdef __cplusplus
 }
 #endif
 
 #undef DEERLAPSE_CALL
 #undef DEERLAPSE_ANSWERS
+#undef DEERLAPSE_WRAPS
 
 #endif
