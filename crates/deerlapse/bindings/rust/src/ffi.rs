@@ -1,4 +1,5 @@
-//! The calls of `include/deerlapse.h`. Nothing compares these declarations with that header, so they stand here alone.
+//! The calls of `include/deerlapse.h`. `tools/package` of the repository compares these declarations with that header, by
+//! a C compiler, and reads them by their layout: a struct `Sealer` for `deerlapse_sealer`.
 
 /// `deerlapse_sealer`.
 #[repr(C)]

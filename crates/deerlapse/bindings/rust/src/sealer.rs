@@ -1,11 +1,27 @@
 //! A key that counts its nonces.
 
 use crate::{accepted, ffi, Unspecified, NONCE_LEN, TAG_LEN};
-use std::fmt;
-use std::ops::Range;
+#[cfg(feature = "alloc")]
+use alloc::vec::Vec;
+use core::fmt;
+use core::ops::Range;
 
 /// A key of AES-GCM that seals each message under a nonce of its own: an IV XOR the message's number (RFC 8446 section
 /// 5.3, RFC 9001 section 5.3).
+///
+/// ```
+/// use deerlapse::{nonce_of, LessSafeKey, Sealer};
+///
+/// let (key, iv) = ([0; 16], [0; 12]);
+/// let mut sealer = Sealer::new(&key, &iv, 0..1 << 24)?;
+/// let mut buffer = b"hello".to_vec();
+/// sealer.seal_in_place_append_tag(b"v1", &mut buffer)?;
+///
+/// // The receiver knows that this is message 0.
+/// let key = LessSafeKey::new(&key)?;
+/// assert_eq!(key.open_in_place(nonce_of(&iv, 0), b"v1", &mut buffer)?, b"hello");
+/// # Ok::<(), deerlapse::Unspecified>(())
+/// ```
 ///
 /// It can't be cloned, since the clone would spend the same nonces again:
 ///
@@ -17,11 +33,19 @@ use std::ops::Range;
 pub struct Sealer(ffi::Sealer);
 
 impl Sealer {
-    /// The sealer whose messages have these numbers, in order. Refused where the key hasn't 16 or 32 bytes, and where
+    /// Returns the sealer whose messages have these numbers, in order. Refused where the key hasn't 16 or 32 bytes, and where
     /// the range starts above its end.
     ///
     /// None of its nonces may come from another sealer, or be handed to a `LessSafeKey` that seals, under the same key: a
     /// key for one sealer alone is the simplest way.
+    ///
+    /// ```
+    /// use deerlapse::Sealer;
+    ///
+    /// assert!(Sealer::new(&[0; 16], &[0; 12], 7..9).is_ok());
+    /// assert!(Sealer::new(&[0; 16], &[0; 12], 9..7).is_err());
+    /// assert!(Sealer::new(&[0; 24], &[0; 12], 7..9).is_err());
+    /// ```
     pub fn new(
         key_bytes: &[u8],
         iv: &[u8; NONCE_LEN],
@@ -48,7 +72,14 @@ impl Sealer {
         Ok(Sealer(sealer))
     }
 
-    /// The numbers that are left: the first of them is that of the next message.
+    /// Returns the numbers that are left: the first of them is that of the next message.
+    ///
+    /// ```
+    /// let mut sealer = deerlapse::Sealer::new(&[0; 16], &[0; 12], 7..9)?;
+    /// sealer.seal_in_place_separate_tag(b"", &mut [])?;
+    /// assert_eq!(sealer.numbers_left(), 8..9);
+    /// # Ok::<(), deerlapse::Unspecified>(())
+    /// ```
     pub fn numbers_left(&self) -> Range<u64> {
         self.0.next..self.0.limit
     }
@@ -58,6 +89,16 @@ impl Sealer {
     ///
     /// Refused where no number is left and where the message is longer than 2^36 - 32 bytes. A refusal spends no number
     /// and leaves the buffer as it came.
+    ///
+    /// ```
+    /// use deerlapse::{Sealer, Unspecified};
+    ///
+    /// let mut sealer = Sealer::new(&[0; 16], &[0; 12], 0..1)?;
+    /// let mut message = *b"hello";
+    /// assert!(sealer.seal_in_place_separate_tag(b"v1", &mut message).is_ok());
+    /// assert_eq!(sealer.seal_in_place_separate_tag(b"v1", &mut message), Err(Unspecified));
+    /// # Ok::<(), deerlapse::Unspecified>(())
+    /// ```
     pub fn seal_in_place_separate_tag(
         &mut self,
         aad: &[u8],
@@ -79,7 +120,16 @@ impl Sealer {
         Ok(tag)
     }
 
-    /// `seal_in_place_separate_tag` that appends the tag: n bytes become n + 16.
+    /// [`seal_in_place_separate_tag`](Self::seal_in_place_separate_tag) that appends the tag: n bytes become n + 16.
+    ///
+    /// ```
+    /// let mut sealer = deerlapse::Sealer::new(&[0; 16], &[0; 12], 0..1)?;
+    /// let mut buffer = b"hello".to_vec();
+    /// sealer.seal_in_place_append_tag(b"v1", &mut buffer)?;
+    /// assert_eq!(buffer.len(), 21);
+    /// # Ok::<(), deerlapse::Unspecified>(())
+    /// ```
+    #[cfg(feature = "alloc")]
     pub fn seal_in_place_append_tag(
         &mut self,
         aad: &[u8],
@@ -100,7 +150,14 @@ impl fmt::Debug for Sealer {
     }
 }
 
-/// The nonce of a number under an IV, for opening what a `Sealer` sealed.
+/// Returns the nonce of a number under an IV, for opening what a [`Sealer`] sealed.
+///
+/// ```
+/// // RFC 9001 appendix A.5
+/// let iv = [0xe0, 0x45, 0x9b, 0x34, 0x74, 0xbd, 0xd0, 0xe4, 0x4a, 0x41, 0xc1, 0x44];
+/// let nonce = [0xe0, 0x45, 0x9b, 0x34, 0x74, 0xbd, 0xd0, 0xe4, 0x6d, 0x41, 0x7e, 0xb0];
+/// assert_eq!(deerlapse::nonce_of(&iv, 654_360_564), nonce);
+/// ```
 pub fn nonce_of(iv: &[u8; NONCE_LEN], number: u64) -> [u8; NONCE_LEN] {
     let mut nonce = [0; NONCE_LEN];
     // SAFETY: the parameters are references.

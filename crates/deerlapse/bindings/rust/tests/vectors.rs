@@ -39,6 +39,41 @@ fn seals_and_opens() -> Result<(), Unspecified> {
         message
     );
     assert_eq!(buffer[message.len()..], sealed[message.len() - 3..]);
+
+    let (ciphertext, tag) = sealed.split_at(message.len());
+    let mut buffer = [b"123".as_slice(), ciphertext].concat();
+    let tag = tag.try_into().expect("a tag");
+    assert_eq!(
+        key.open_in_place_separate_tag(array(NONCE), &aad, tag, &mut buffer, 3..)?,
+        message
+    );
+    assert_eq!(buffer[message.len()..], ciphertext[message.len() - 3..]);
+    Ok(())
+}
+
+// Test case 4 by eight threads that share a key, and by clones of it.
+#[test]
+fn threads_share_a_key() -> Result<(), Unspecified> {
+    let key = LessSafeKey::new(&hex(KEY))?;
+    let (aad, message, sealed) = (hex(AAD), hex(MESSAGE), hex(SEALED));
+    let work = |key: &LessSafeKey| {
+        for _ in 0..100 {
+            let mut buffer = message.clone();
+            assert_eq!(
+                key.seal_in_place_append_tag(array(NONCE), &aad, &mut buffer),
+                Ok(())
+            );
+            assert_eq!(buffer, sealed);
+            let opened = key.open_in_place(array(NONCE), &aad, &mut buffer);
+            assert_eq!(opened.as_deref(), Ok(&*message));
+        }
+    };
+    std::thread::scope(|scope| {
+        for _ in 0..8 {
+            scope.spawn(|| work(&key));
+            scope.spawn(|| work(&key.clone()));
+        }
+    });
     Ok(())
 }
 
@@ -49,6 +84,9 @@ fn a_refusal_leaves_the_buffer() -> Result<(), Unspecified> {
     for start in [1, sealed.len(), sealed.len() + 1, usize::MAX] {
         let mut buffer = sealed.clone();
         let opened = key.open_within(array(NONCE), &hex(AAD), &mut buffer, start..);
+        assert_eq!(opened, Err(Unspecified));
+        let opened =
+            key.open_in_place_separate_tag(array(NONCE), b"", [0; 16], &mut buffer, start..);
         assert_eq!(opened, Err(Unspecified));
         assert_eq!(buffer, sealed);
     }

@@ -1,0 +1,215 @@
+//! A key whose calls take the nonce.
+
+use crate::{accepted, ffi, Unspecified, NONCE_LEN, TAG_LEN};
+#[cfg(feature = "alloc")]
+use alloc::vec::Vec;
+use core::fmt;
+use core::ops::RangeFrom;
+
+/// A key of AES-128-GCM or AES-256-GCM whose calls take the nonce. That no nonce comes twice under it is the caller's
+/// matter; [`Sealer`](crate::Sealer) counts its own.
+///
+/// Every call that is refused leaves its buffer as it came. Threads may share a key. It isn't wiped from memory when it is
+/// dropped.
+///
+/// ```
+/// use deerlapse::LessSafeKey;
+///
+/// let key = LessSafeKey::new(&[0; 32])?; // 32 bytes: AES-256-GCM; 16 bytes: AES-128-GCM
+/// let mut buffer = b"hello".to_vec();
+/// key.seal_in_place_append_tag([0; 12], b"v1", &mut buffer)?;
+/// std::thread::scope(|scope| {
+///     scope.spawn(|| assert!(key.open_in_place([0; 12], b"v1", &mut buffer).is_ok()));
+/// });
+/// # Ok::<(), deerlapse::Unspecified>(())
+/// ```
+#[derive(Clone)]
+pub struct LessSafeKey {
+    bytes: [u8; 32],
+    len: usize,
+}
+
+impl LessSafeKey {
+    /// Returns the key of these bytes: 16 for AES-128-GCM, 32 for AES-256-GCM. Refused where there are neither.
+    ///
+    /// ```
+    /// use deerlapse::LessSafeKey;
+    ///
+    /// assert!(LessSafeKey::new(&[0; 16]).is_ok());
+    /// assert!(LessSafeKey::new(&[0; 32]).is_ok());
+    /// assert!(LessSafeKey::new(&[0; 24]).is_err());
+    /// ```
+    pub fn new(key_bytes: &[u8]) -> Result<Self, Unspecified> {
+        let len = key_bytes.len();
+        accepted(len == 16 || len == 32)?;
+        let mut bytes = [0; 32];
+        bytes[..len].copy_from_slice(key_bytes);
+        Ok(LessSafeKey { bytes, len })
+    }
+
+    /// Encrypts `in_out` in place, and returns the tag of the ciphertext and the AAD.
+    ///
+    /// Refused where the message is longer than 2^36 - 32 bytes.
+    ///
+    /// ```
+    /// use deerlapse::LessSafeKey;
+    ///
+    /// // McGrew and Viega, "The Galois/Counter Mode of Operation (GCM)", appendix B, test case 1
+    /// let tag = LessSafeKey::new(&[0; 16])?.seal_in_place_separate_tag([0; 12], b"", &mut [])?;
+    /// assert_eq!(u128::from_be_bytes(tag), 0x58e2fccefa7e3061367f1d57a4e7455a);
+    /// # Ok::<(), deerlapse::Unspecified>(())
+    /// ```
+    pub fn seal_in_place_separate_tag(
+        &self,
+        nonce: [u8; NONCE_LEN],
+        aad: &[u8],
+        in_out: &mut [u8],
+    ) -> Result<[u8; TAG_LEN], Unspecified> {
+        let mut tag = [0; TAG_LEN];
+        // SAFETY: each pointer and its length are those of one slice, which is borrowed for the call. No pointer of a
+        // slice is null. `in_out` and `tag` are borrowed for writing, so they overlap nothing.
+        let sealed = unsafe {
+            ffi::deerlapse_seal(
+                self.bytes.as_ptr(),
+                self.len,
+                &nonce,
+                aad.as_ptr(),
+                aad.len(),
+                in_out.as_mut_ptr(),
+                in_out.len(),
+                &mut tag,
+            )
+        };
+        accepted(sealed)?;
+        Ok(tag)
+    }
+
+    /// Encrypts `in_out` in place, and appends the tag: n bytes become n + 16. Refused as in
+    /// [`seal_in_place_separate_tag`](Self::seal_in_place_separate_tag).
+    ///
+    /// ```
+    /// use deerlapse::LessSafeKey;
+    ///
+    /// let mut buffer = b"hello".to_vec();
+    /// LessSafeKey::new(&[0; 16])?.seal_in_place_append_tag([0; 12], b"v1", &mut buffer)?;
+    /// assert_eq!(buffer.len(), 21);
+    /// # Ok::<(), deerlapse::Unspecified>(())
+    /// ```
+    #[cfg(feature = "alloc")]
+    pub fn seal_in_place_append_tag(
+        &self,
+        nonce: [u8; NONCE_LEN],
+        aad: &[u8],
+        in_out: &mut Vec<u8>,
+    ) -> Result<(), Unspecified> {
+        let tag = self.seal_in_place_separate_tag(nonce, aad, in_out)?;
+        in_out.extend_from_slice(&tag);
+        Ok(())
+    }
+
+    /// Opens the ciphertext and tag that are `in_out` from `ciphertext_and_tag.start` on, and returns the plaintext,
+    /// which is then at the front of `in_out`. Bytes after it stay.
+    ///
+    /// Refused where the tag isn't that of the ciphertext and the AAD, where no 16 bytes stand after the start, and
+    /// where the lengths don't fit, as in [`seal_in_place_separate_tag`](Self::seal_in_place_separate_tag).
+    ///
+    /// ```
+    /// use deerlapse::LessSafeKey;
+    ///
+    /// let key = LessSafeKey::new(&[0; 16])?;
+    /// let mut message = b"hello".to_vec();
+    /// key.seal_in_place_append_tag([0; 12], b"v1", &mut message)?;
+    /// let mut packet = [b"header".as_slice(), &message].concat();
+    /// assert_eq!(key.open_within([0; 12], b"v1", &mut packet, 6..)?, b"hello");
+    /// # Ok::<(), deerlapse::Unspecified>(())
+    /// ```
+    pub fn open_within<'a>(
+        &self,
+        nonce: [u8; NONCE_LEN],
+        aad: &[u8],
+        in_out: &'a mut [u8],
+        ciphertext_and_tag: RangeFrom<usize>,
+    ) -> Result<&'a mut [u8], Unspecified> {
+        let mut len = 0;
+        // SAFETY: as in `seal_in_place_separate_tag`, with `len` in the place of the tag.
+        let opened = unsafe {
+            ffi::deerlapse_open(
+                self.bytes.as_ptr(),
+                self.len,
+                &nonce,
+                aad.as_ptr(),
+                aad.len(),
+                in_out.as_mut_ptr(),
+                in_out.len(),
+                ciphertext_and_tag.start,
+                &mut len,
+            )
+        };
+        accepted(opened)?;
+        Ok(&mut in_out[..len])
+    }
+
+    /// [`open_within`](Self::open_within) of the whole buffer.
+    ///
+    /// ```
+    /// use deerlapse::{LessSafeKey, Unspecified};
+    ///
+    /// let key = LessSafeKey::new(&[0; 16])?;
+    /// let mut buffer = b"hello".to_vec();
+    /// key.seal_in_place_append_tag([0; 12], b"v1", &mut buffer)?;
+    /// assert_eq!(key.open_in_place([1; 12], b"v1", &mut buffer), Err(Unspecified)); // another nonce
+    /// assert_eq!(key.open_in_place([0; 12], b"v1", &mut buffer)?, b"hello");
+    /// # Ok::<(), deerlapse::Unspecified>(())
+    /// ```
+    pub fn open_in_place<'a>(
+        &self,
+        nonce: [u8; NONCE_LEN],
+        aad: &[u8],
+        in_out: &'a mut [u8],
+    ) -> Result<&'a mut [u8], Unspecified> {
+        self.open_within(nonce, aad, in_out, 0..)
+    }
+    /// Opens the ciphertext that is `in_out` from `ciphertext.start` on, whose tag is `tag`, and returns the plaintext,
+    /// which is then at the front of `in_out`. Bytes after it stay.
+    ///
+    /// Refused where the tag isn't that of the ciphertext and the AAD, where the start is after the end, and where the
+    /// lengths don't fit, as in [`seal_in_place_separate_tag`](Self::seal_in_place_separate_tag).
+    ///
+    /// ```
+    /// use deerlapse::LessSafeKey;
+    ///
+    /// let key = LessSafeKey::new(&[0; 16])?;
+    /// let mut buffer = *b"hello";
+    /// let tag = key.seal_in_place_separate_tag([0; 12], b"v1", &mut buffer)?;
+    /// let opened = key.open_in_place_separate_tag([0; 12], b"v1", tag, &mut buffer, 0..)?;
+    /// assert_eq!(opened, b"hello");
+    /// # Ok::<(), deerlapse::Unspecified>(())
+    /// ```
+    #[cfg(feature = "alloc")]
+    pub fn open_in_place_separate_tag<'a>(
+        &self,
+        nonce: [u8; NONCE_LEN],
+        aad: &[u8],
+        tag: [u8; TAG_LEN],
+        in_out: &'a mut [u8],
+        ciphertext: RangeFrom<usize>,
+    ) -> Result<&'a mut [u8], Unspecified> {
+        let ciphertext = in_out.get(ciphertext).ok_or(Unspecified)?;
+        let mut sealed = Vec::with_capacity(ciphertext.len() + TAG_LEN);
+        sealed.extend_from_slice(ciphertext);
+        sealed.extend_from_slice(&tag);
+        let message = self.open_in_place(nonce, aad, &mut sealed)?;
+        let front = &mut in_out[..message.len()];
+        front.copy_from_slice(message);
+        Ok(front)
+    }
+}
+
+/// Prints nothing of the bytes.
+impl fmt::Debug for LessSafeKey {
+    fn fmt(&self, f: &mut fmt::Formatter<'_>) -> fmt::Result {
+        f.debug_struct("LessSafeKey")
+            .field("len", &self.len)
+            .finish_non_exhaustive()
+    }
+}
