@@ -11,6 +11,7 @@ pub mod Algorithm
 pub mod BoundState
 pub mod Counting
 pub mod Different
+pub mod ExpandedKey
 pub mod FreshNonces
 pub mod Gcm
 pub mod Ghash
@@ -24,4 +25,5 @@ pub mod Packet
 pub mod Program
 pub mod Runs
 pub mod Steps
+pub mod UnboundBytes
 pub mod Words

@@ -8,36 +8,35 @@ ghost use Rattle.aead_ciphers_base.specs.Work.{Adds, CanAdd};
 ghost use Rattle.aead_ciphers.specs.Gcm.{CanOpen, CanSeal, Fits, OpenWork, SealWork, Opened, gcm_encrypted, gcm_tag};
 
 mod counter_mode;
+mod expanded;
 mod hash;
 mod opening;
 mod sealing;
 #[cfg(test)]
 mod tests;
 
-use crate::gcm;
-use aead_ciphers_base::aes::{self, EncryptBlock, KeyBytes, Work, ZERO_BLOCK};
+use aead_ciphers_base::aes::{KeyBytes, Work};
 use aead_ciphers_base::error::Unspecified;
 use aead_ciphers_base::values::{Aad, Nonce, Tag};
+pub use expanded::ExpandedKey;
 use std::marker::Model;
 use std::ops::RangeFrom;
 
 /// A key of AES-GCM: the expanded AES key, and the hash subkey that it makes.
 #[derive(Clone, Drop)]
 pub struct Key {
-    aes: aes::Key,
-    gcm: gcm::Key,
+    expanded: ExpandedKey,
 }
 
 impl Model for Key {
-    ghost use Rattle.std.specs.Prelude.{◌≡◌, ℕ, List};
-    ghost use Rattle.aead_ciphers_base.specs.Aes.{aes as aes_cipher};
-    ghost use Rattle.aead_ciphers_base.specs.Bytes.{zero_block};
+    ghost use Rattle.std.specs.Prelude.{ℕ, List};
+    ghost use Rattle.aead_ciphers.specs.ExpandedKey.{bytes_of, IsExpanded};
 
     ghost Value = { List ℕ };
 
-    ghost view = { λ key. key.aes };
+    ghost view = { λ key. bytes_of key.expanded };
 
-    ghost invariant = { λ key. key.gcm ≡ aes_cipher key.aes zero_block };
+    ghost invariant = { λ key. IsExpanded key.expanded };
 }
 
 impl Key {
@@ -49,10 +48,9 @@ impl Key {
         ensures made { IfOk result (λ key. key ≡ key_bytes bytes.entry) }
         ensures worked { Adds work.old work.new 1 0 }
     {
-        let aes = aes::Key::new(bytes)?;
-        let subkey = aes.encrypt_block(ZERO_BLOCK, work);
-        let gcm = gcm::Key::new(gcm::KeyValue::new(subkey));
-        Ok(Key { aes, gcm })
+        let mut expanded = ExpandedKey::zeros();
+        expanded.expand(bytes, work);
+        Ok(Key { expanded })
     }
 }
 
@@ -74,7 +72,7 @@ pub fn seal(
     ensures worked { SealWork (length (aad_bytes aad.entry)) (length in_out.old) result
         work.old work.new }
 {
-    sealing::seal_with(&key.aes, &key.gcm, nonce, aad, in_out, work)
+    key.expanded.seal(nonce, aad, in_out, work)
 }
 
 /// Opens the bytes from `src.start` on (SP 800-38D section 7.2): compares their tag with the received
@@ -96,14 +94,6 @@ pub fn open(
     ensures worked { OpenWork (length (aad_bytes aad.entry)) src.start (length in_out.old) result
         work.old work.new }
 {
-    opening::open_with(
-        &key.aes,
-        &key.gcm,
-        nonce,
-        aad,
-        received_tag,
-        in_out,
-        src,
-        work,
-    )
+    key.expanded
+        .open(nonce, aad, received_tag, in_out, src, work)
 }

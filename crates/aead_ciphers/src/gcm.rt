@@ -5,6 +5,7 @@ ghost use Rattle.std.specs.Int.{to_be_bytes, w128};
 ghost use Rattle.aead_ciphers_base.specs.Blocks.{blocks};
 ghost use Rattle.aead_ciphers_base.specs.Work.{Adds, CanAdd};
 ghost use Rattle.aead_ciphers.specs.HashOf.{IsHashOf};
+ghost use Rattle.aead_ciphers.specs.Multiples.{AreMultiples, entry};
 
 mod context;
 mod product;
@@ -13,7 +14,6 @@ use aead_ciphers_base::aes::{BLOCK_LEN, Block, Work, ZERO_BLOCK};
 use aead_ciphers_base::polyfill::slice::AsChunks;
 pub(crate) use context::padded;
 pub use context::{Context, MAX_IN_OUT_LEN};
-use product::Multiples;
 use std::marker::Model;
 
 /// A hash subkey, H of SP 800-38D: 16 bytes.
@@ -96,16 +96,20 @@ pub trait UpdateBlocks: UpdateBlock {
 /// GHASH under a hash subkey.
 #[derive(Clone, Drop)]
 pub struct Key {
-    multiples: Multiples,
+    /// The multiples of the subkey.
+    multiples: [u32; 512],
 }
 
 impl Model for Key {
     ghost use Rattle.std.specs.Prelude.{ℕ, List};
     ghost use Rattle.std.specs.Int.{to_be_bytes, w128};
+    ghost use Rattle.aead_ciphers.specs.Multiples.{AreMultiples, entry};
 
     ghost Value = { List ℕ };
 
-    ghost view = { λ key. to_be_bytes w128 key.multiples };
+    ghost view = { λ key. to_be_bytes w128 (entry key.multiples 0) };
+
+    ghost invariant = { λ key. AreMultiples (to_be_bytes w128 (entry key.multiples 0)) key.multiples };
 }
 
 impl Key {
@@ -113,9 +117,55 @@ impl Key {
     pub fn new(value: KeyValue) -> Self
         ensures { result ≡ value }
     {
-        Key {
-            multiples: Multiples::new(number(value.block)),
+        let mut multiples = [0; 512];
+        expand(&mut multiples, value);
+        Key { multiples }
+    }
+
+    /// The same by reference.
+    pub(crate) fn by_ref(&self) -> KeyRef<'_>
+        ensures { result ≡ self.now }
+    {
+        KeyRef {
+            multiples: &self.multiples,
         }
+    }
+}
+
+/// Writes the multiples of a hash subkey.
+pub(crate) fn expand(multiples: &mut [u32; 512], value: KeyValue)
+    ensures multiples { AreMultiples (to_be_bytes w128 (entry multiples.new 0)) multiples.new }
+    ensures subkey { to_be_bytes w128 (entry multiples.new 0) ≡ value }
+{
+    product::write_multiples(multiples, number(value.block));
+}
+
+/// GHASH under a hash subkey whose multiples lie elsewhere.
+#[derive(Drop)]
+pub(crate) struct KeyRef<'k> {
+    multiples: &'k [u32; 512],
+}
+
+impl<'k> Model for KeyRef<'k> {
+    ghost use Rattle.std.specs.Prelude.{ℕ, List};
+    ghost use Rattle.std.specs.Int.{to_be_bytes, w128};
+    ghost use Rattle.aead_ciphers.specs.Multiples.{AreMultiples, entry};
+
+    ghost Value = { List ℕ };
+
+    ghost view = { λ key. to_be_bytes w128 (entry key.multiples.now 0) };
+
+    ghost invariant = { λ key.
+        AreMultiples (to_be_bytes w128 (entry key.multiples.now 0)) key.multiples.now };
+}
+
+impl<'k> KeyRef<'k> {
+    /// GHASH under the subkey with these multiples.
+    pub(crate) fn new(multiples: &'k [u32; 512]) -> Self
+        requires { AreMultiples (to_be_bytes w128 (entry multiples.now 0)) multiples.now }
+        ensures { result ≡ to_be_bytes w128 (entry multiples.now 0) }
+    {
+        KeyRef { multiples }
     }
 }
 
@@ -126,23 +176,37 @@ fn number(block: Block) -> u128
     u128::from_be_bytes(block)
 }
 
-impl UpdateBlock for Key {
+impl<'k> UpdateBlock for KeyRef<'k> {
     ghost hash_subkey = { λ key. key };
 
     fn update_block(&self, xi: &mut Xi, block: Block, work: &mut Work) {
         let sum = number(xi.block) ^ number(block);
-        xi.block = self.multiples.product(sum).to_be_bytes();
+        xi.block = product::product(self.multiples, sum).to_be_bytes();
         work.add_product();
+    }
+}
+
+impl<'k> UpdateBlocks for KeyRef<'k> {
+    fn update_blocks(&self, xi: &mut Xi, input: AsChunks<'_, u8, BLOCK_LEN>, work: &mut Work) {
+        let mut sum = number(xi.block);
+        for block in input {
+            sum = product::product(self.multiples, sum ^ number(*block));
+            work.add_product();
+        }
+        xi.block = sum.to_be_bytes();
+    }
+}
+
+impl UpdateBlock for Key {
+    ghost hash_subkey = { λ key. key };
+
+    fn update_block(&self, xi: &mut Xi, block: Block, work: &mut Work) {
+        self.by_ref().update_block(xi, block, work);
     }
 }
 
 impl UpdateBlocks for Key {
     fn update_blocks(&self, xi: &mut Xi, input: AsChunks<'_, u8, BLOCK_LEN>, work: &mut Work) {
-        let mut sum = number(xi.block);
-        for block in input {
-            sum = self.multiples.product(sum ^ number(*block));
-            work.add_product();
-        }
-        xi.block = sum.to_be_bytes();
+        self.by_ref().update_blocks(xi, input, work);
     }
 }

@@ -8,6 +8,7 @@ ghost use Rattle.aead_ciphers_base.specs.Aes.{aes};
 ghost use Rattle.aead_ciphers_base.specs.Bytes.{◌⊕◌};
 ghost use Rattle.aead_ciphers_base.specs.CounterMode.{Advances, EncryptsToFront};
 ghost use Rattle.aead_ciphers_base.specs.KeyBytes.{key_bytes};
+ghost use Rattle.aead_ciphers_base.specs.KeySchedule.{IsSchedule, key_of};
 ghost use Rattle.aead_ciphers_base.specs.Mask.{aes_mask};
 ghost use Rattle.aead_ciphers_base.specs.Overlapping.{input_len};
 ghost use Rattle.aead_ciphers_base.specs.Work.{Adds, CanAdd};
@@ -132,21 +133,28 @@ impl Key {
         ensures accepted { IsOk result }
         ensures made { IfOk result (λ key. key ≡ key_bytes bytes.entry) }
     {
-        let key = bytes.as_slice();
-        let rounds = key.len() / 4 + 6;
-        let words = key_schedule::expand(key);
-        Ok(Key {
-            round_keys: key_schedule::round_keys(&words[..4 * (rounds + 1)]),
-            rounds,
-        })
+        let mut round_keys = [[0; 8]; 15];
+        let rounds = expand(&mut round_keys, bytes);
+        Ok(Key { round_keys, rounds })
     }
 
-    // The cipher of one block, in the first of the four places.
-    fn cipher_block(&self, block: Block) -> Block
-        ensures { result ≡ aes self.now block }
+    /// The key by reference.
+    pub fn by_ref(&self) -> KeyRef<'_>
+        ensures { result ≡ self.now }
     {
-        let [first, _, _, _] = self.encrypt_four([block, ZERO_BLOCK, ZERO_BLOCK, ZERO_BLOCK]);
-        first
+        KeyRef {
+            round_keys: &self.round_keys,
+            rounds: self.rounds,
+        }
+    }
+
+    /// The cipher of each of four blocks (FIPS 197 section 5.1), in one pass of the planes. It is in no
+    /// tally.
+    pub fn encrypt_four(&self, blocks: [Block; 4]) -> [Block; 4]
+        ensures { (k : ℕ) → k < 4
+            → slice_index_or result k [] ≡ aes self.now (slice_index_or blocks k []) }
+    {
+        self.by_ref().encrypt_four(blocks)
     }
 
     /// The header protection mask of a sample, under this key (RFC 9001 section 5.4.3): 16 bytes in, 5 bytes out.
@@ -161,7 +169,55 @@ impl Key {
     }
 }
 
-impl EncryptBlock for Key {
+/// Writes the round keys of a key of 16 or 32 bytes (FIPS 197 section 5.2), and answers the number of its rounds.
+pub fn expand(round_keys: &mut [[u64; 8]; 15], bytes: KeyBytes<'_>) -> usize
+    ensures schedule { IsSchedule round_keys.new result }
+    ensures bytes { key_of round_keys.new result ≡ key_bytes bytes.entry }
+{
+    let key = bytes.as_slice();
+    let rounds = key.len() / 4 + 6;
+    let words = key_schedule::expand(key);
+    key_schedule::write_round_keys(round_keys, &words[..4 * (rounds + 1)]);
+    rounds
+}
+
+/// An expanded key whose round keys lie elsewhere, as in memory that isn't this library's.
+#[derive(Drop)]
+pub struct KeyRef<'k> {
+    round_keys: &'k [[u64; 8]; 15],
+    rounds: usize,
+}
+
+impl<'k> Model for KeyRef<'k> {
+    ghost use Rattle.std.specs.Prelude.{ℕ, List};
+    ghost use Rattle.aead_ciphers_base.specs.KeySchedule.{key_of, IsSchedule};
+
+    ghost Value = { List ℕ };
+
+    ghost view = { λ key. key_of key.round_keys.now key.rounds };
+
+    ghost invariant = { λ key. IsSchedule key.round_keys.now key.rounds };
+}
+
+impl<'k> KeyRef<'k> {
+    /// The key with these round keys.
+    pub fn new(round_keys: &'k [[u64; 8]; 15], rounds: usize) -> Self
+        requires { IsSchedule round_keys.now rounds }
+        ensures { result ≡ key_of round_keys.now rounds }
+    {
+        KeyRef { round_keys, rounds }
+    }
+
+    // The cipher of one block, in the first of the four places.
+    fn cipher_block(&self, block: Block) -> Block
+        ensures { result ≡ aes self.now block }
+    {
+        let [first, _, _, _] = self.encrypt_four([block, ZERO_BLOCK, ZERO_BLOCK, ZERO_BLOCK]);
+        first
+    }
+}
+
+impl<'k> EncryptBlock for KeyRef<'k> {
     ghost cipher = { λ key block. aes key block };
 
     fn encrypt_block(&self, block: Block, work: &mut Work) -> Block {
@@ -174,7 +230,7 @@ impl EncryptBlock for Key {
     }
 }
 
-impl EncryptCtr32 for Key {
+impl<'k> EncryptCtr32 for KeyRef<'k> {
     fn ctr32_encrypt_within(
         &self,
         in_out: Overlapping<'_>,
@@ -183,5 +239,29 @@ impl EncryptCtr32 for Key {
     ) {
         let Overlapping { in_out, start } = in_out;
         ctr32::encrypt_to_front(self, in_out, start, counter, work);
+    }
+}
+
+impl EncryptBlock for Key {
+    ghost cipher = { λ key block. aes key block };
+
+    fn encrypt_block(&self, block: Block, work: &mut Work) -> Block {
+        self.by_ref().encrypt_block(block, work)
+    }
+
+    fn encrypt_iv_xor_block(&self, iv: Iv, block: Block, work: &mut Work) -> Block {
+        self.by_ref().encrypt_iv_xor_block(iv, block, work)
+    }
+}
+
+impl EncryptCtr32 for Key {
+    fn ctr32_encrypt_within(
+        &self,
+        in_out: Overlapping<'_>,
+        counter: &mut Counter,
+        work: &mut Work,
+    ) {
+        let Overlapping { in_out, start } = in_out;
+        ctr32::encrypt_to_front(&self.by_ref(), in_out, start, counter, work);
     }
 }

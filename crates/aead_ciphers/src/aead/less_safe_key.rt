@@ -4,7 +4,6 @@ ghost use Rattle.std.specs.Prelude.{◌≡◌, ◌+◌, ◌-◌, ◌≤◌, ◌�
 ghost use Rattle.std.specs.Borrow.{sem};
 ghost use Rattle.aead_ciphers_base.specs.Values.{aad_bytes};
 ghost use Rattle.aead_ciphers_base.specs.Aes.{aes};
-ghost use Rattle.aead_ciphers.specs.Algorithm.{key_len};
 ghost use Rattle.aead_ciphers.specs.Gcm.{Fits, gcm_encrypted, gcm_decrypted, gcm_tag, gcm_sealed, Opened, OpenedAttached};
 ghost use Rattle.aead_ciphers.specs.Lending.{LendsFront, lent_buffer};
 ghost use Rattle.aead_ciphers.specs.Packet.{PacketFits, sealed_packet, OpenedPacket};
@@ -13,7 +12,7 @@ use crate::aead::algorithm::Algorithm;
 use crate::aead::in_out::InOut;
 use crate::aead::lend::lend_plaintext;
 use crate::aead::unbound_key::UnboundKey;
-use crate::aes_gcm;
+use crate::aes_gcm::ExpandedKey;
 use aead_ciphers_base::aes::Work;
 use aead_ciphers_base::error::Unspecified;
 use aead_ciphers_base::values::{Aad, MAX_TAG_LEN, Nonce, Tag};
@@ -25,16 +24,19 @@ use std::ops::RangeFrom;
 /// A key whose calls take the nonce. That no nonce comes twice under it is the caller's matter.
 #[derive(Drop)]
 pub struct LessSafeKey {
-    key: aes_gcm::Key,
+    key: ExpandedKey,
     algorithm: &'static Algorithm,
 }
 
 impl Model for LessSafeKey {
     ghost use Rattle.aead_ciphers.specs.AeadKey.{AeadKey};
+    ghost use Rattle.aead_ciphers.specs.ExpandedKey.{bytes_of, IsExpanded};
 
     ghost Value = { AeadKey };
 
-    ghost view = { λ key. record { algorithm = key.algorithm.now; bytes = key.key } };
+    ghost view = { λ key. record { algorithm = key.algorithm.now; bytes = bytes_of key.key } };
+
+    ghost invariant = { λ key. IsExpanded key.key };
 }
 
 /// The same key with the same algorithm. Cloning takes no memory, and always succeeds.
@@ -54,21 +56,16 @@ impl Clone for LessSafeKey {
 }
 
 impl LessSafeKey {
-    /// The key as it was made, for use with nonces of the caller's choice.
+    /// The key as it was made, for use with nonces of the caller's choice. It is expanded here.
     pub fn new(key: UnboundKey) -> Self
         ensures { result ≡ key }
     {
-        key.into_inner()
-    }
-
-    pub(crate) fn new_(algorithm: &'static Algorithm, key_bytes: &[u8]) -> Result<Self, Unspecified>
-        ensures accepted { IsOk result ↔ (length key_bytes.now ≡ key_len algorithm.now) }
-        ensures made { IfOk result (λ key. key ≡ record { algorithm = algorithm.now; bytes = key_bytes.now }) }
-    {
-        let key_bytes = algorithm.key_bytes(key_bytes)?;
-        let mut work = Work::new();
-        let key = aes_gcm::Key::new(key_bytes, &mut work)?;
-        Ok(LessSafeKey { key, algorithm })
+        let mut made = LessSafeKey {
+            key: ExpandedKey::zeros(),
+            algorithm: key.algorithm(),
+        };
+        made.key.expand(key.key_bytes(), &mut Work::new());
+        made
     }
 
     /// The algorithm that it was made with.
@@ -94,8 +91,7 @@ impl LessSafeKey {
         ensures tag { IfOk result (λ tag. tag ≡ gcm_tag (aes self.now.bytes) nonce (aad_bytes aad.entry) in_out.new) }
         ensures refused { OnErr result (in_out.new ≡ in_out.old) }
     {
-        let mut work = Work::new();
-        aes_gcm::seal(&self.key, nonce, aad, in_out, &mut work)
+        self.key.seal(nonce, aad, in_out, &mut Work::new())
     }
 
     /// Encrypts the buffer in place, and appends the tag of the ciphertext and the AAD (SP 800-38D algorithm 4).
@@ -167,8 +163,7 @@ impl LessSafeKey {
         let bytes = in_out.as_mut_bytes();
         let message_len = bytes.len() - MAX_TAG_LEN;
         let (message, room) = bytes.split_at_mut(message_len);
-        let mut work = Work::new();
-        match aes_gcm::seal(&self.key, nonce, aad, message, &mut work) {
+        match self.key.seal(nonce, aad, message, &mut Work::new()) {
             Ok(tag) => {
                 room.copy_from_slice(tag.as_ref());
                 Ok(())
@@ -218,11 +213,7 @@ impl LessSafeKey {
         ensures count { IfOk result (λ n. n ≡ length in_out.old - ciphertext.start) }
         ensures refused { OnErr result (in_out.new ≡ in_out.old) }
     {
-        let len = in_out.len();
-        let start = ciphertext.start;
-        let mut work = Work::new();
-        aes_gcm::open(&self.key, nonce, aad, tag, in_out, ciphertext, &mut work)?;
-        Ok(len - start)
+        self.key.open_to_front(nonce, aad, tag, in_out, ciphertext)
     }
 
     /// The same with the tag attached: it is the last 16 bytes of the buffer, and stays.
@@ -260,19 +251,8 @@ impl LessSafeKey {
         ensures count { IfOk result (λ n. n ≡ length in_out.old - 16 - ciphertext_and_tag.start) }
         ensures refused { OnErr result (in_out.new ≡ in_out.old) }
     {
-        match in_out.split_last_chunk_mut::<MAX_TAG_LEN>() {
-            Some((before_tag, tag)) => {
-                let tag = Tag::from(*tag);
-                self.open_in_place_separate_tag_to_front(
-                    nonce,
-                    aad,
-                    tag,
-                    before_tag,
-                    ciphertext_and_tag,
-                )
-            }
-            None => Err(Unspecified),
-        }
+        self.key
+            .open_within_to_front(nonce, aad, in_out, ciphertext_and_tag)
     }
 
     /// `open_within` of the whole buffer.

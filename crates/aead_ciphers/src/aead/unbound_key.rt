@@ -1,26 +1,36 @@
 //! Keys that aren't bound to a use yet.
 
 ghost use Rattle.std.specs.Prelude.{◌≡◌, ◌↔◌, length, IsOk, IfOk};
+ghost use Rattle.aead_ciphers_base.specs.KeyBytes.{key_bytes};
 ghost use Rattle.aead_ciphers.specs.Algorithm.{key_len};
 
 use crate::aead::algorithm::Algorithm;
-use crate::aead::less_safe_key::LessSafeKey;
+use aead_ciphers_base::aes::{AES_128_KEY_LEN, AES_256_KEY_LEN, KeyBytes};
 use aead_ciphers_base::error::Unspecified;
 use std::fmt;
 use std::marker::Model;
 
-/// A key with its algorithm, and no role yet.
+/// A key with its algorithm, and no role yet. It keeps its bytes, which are expanded once it has one.
 #[derive(Drop)]
 pub struct UnboundKey {
-    inner: LessSafeKey,
+    algorithm: &'static Algorithm,
+    bytes: UnboundBytes,
+}
+
+/// The bytes of a key, by the length of the key.
+#[derive(Drop)]
+enum UnboundBytes {
+    AES_128([u8; AES_128_KEY_LEN]),
+    AES_256([u8; AES_256_KEY_LEN]),
 }
 
 impl Model for UnboundKey {
     ghost use Rattle.aead_ciphers.specs.AeadKey.{AeadKey};
+    ghost use Rattle.aead_ciphers.specs.UnboundBytes.{unbound_bytes};
 
     ghost Value = { AeadKey };
 
-    ghost view = { λ key. key.inner };
+    ghost view = { λ key. record { algorithm = key.algorithm.now; bytes = unbound_bytes key.bytes } };
 }
 
 impl UnboundKey {
@@ -29,22 +39,28 @@ impl UnboundKey {
         ensures accepted { IsOk result ↔ (length key_bytes.now ≡ key_len algorithm.now) }
         ensures made { IfOk result (λ key. key ≡ record { algorithm = algorithm.now; bytes = key_bytes.now }) }
     {
-        let inner = LessSafeKey::new_(algorithm, key_bytes)?;
-        Ok(UnboundKey { inner })
+        let bytes = match algorithm.key_bytes(key_bytes)? {
+            KeyBytes::AES_128(bytes) => UnboundBytes::AES_128(*bytes),
+            KeyBytes::AES_256(bytes) => UnboundBytes::AES_256(*bytes),
+        };
+        Ok(UnboundKey { algorithm, bytes })
     }
 
     /// The algorithm that it was made with.
     pub fn algorithm(&self) -> &'static Algorithm
         ensures { result.now ≡ self.now.algorithm }
     {
-        self.inner.algorithm()
+        self.algorithm
     }
 
-    pub(crate) fn into_inner(self) -> LessSafeKey
-        ensures { result ≡ self }
+    /// Its bytes.
+    pub(crate) fn key_bytes(&self) -> KeyBytes<'_>
+        ensures { key_bytes result ≡ self.now.bytes }
     {
-        let UnboundKey { inner } = self;
-        inner
+        match &self.bytes {
+            UnboundBytes::AES_128(bytes) => KeyBytes::AES_128(bytes),
+            UnboundBytes::AES_256(bytes) => KeyBytes::AES_256(bytes),
+        }
     }
 }
 

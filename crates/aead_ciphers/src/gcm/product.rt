@@ -3,77 +3,55 @@
 ghost use Rattle.std.specs.Prelude.{◌≡◌, ℕ, ◌+◌, ◌-◌, ◌*◌, ◌/◌, ◌%◌, ◌^◌, ◌<◌, ◌≤◌, ◌==◌, if◌then◌else◌, List, [], ◌∷◌, bit_xor, slice_index};
 ghost use Rattle.std.specs.Int.{to_be_bytes, w128};
 ghost use Rattle.aead_ciphers.specs.Ghash.{◌•◌};
-ghost use Rattle.aead_ciphers.specs.Multiples.{number_of_words};
+ghost use Rattle.aead_ciphers.specs.Multiples.{AreMultiples, entry, number_of_words};
 
-use std::marker::Model;
 use std::simd::u32x4;
 
 /// R of section 6.3: 11100001 and 120 zero bits.
 const R: u128 = 0xe1 << 120;
 
-/// The products of a block and u^0, .., u^127 (section 6.3).
-#[derive(Clone, Drop)]
-pub(crate) struct Multiples {
-    /// The four words of each: those of multiples i, 32 + i, 64 + i and 96 + i are neighbours.
-    table: [u32; 512],
+/// Writes the products of a block and u^0, .., u^127 (section 6.3), each by a shift of the one before. The words of
+/// multiples i, 32 + i, 64 + i and 96 + i are neighbours.
+pub(crate) fn write_multiples(table: &mut [u32; 512], block: u128)
+    ensures multiples { AreMultiples (to_be_bytes w128 block) table.new }
+    ensures first { entry table.new 0 ≡ block }
+{
+    let mut multiple = block;
+    for k in 0..128 {
+        let [first, second, third, fourth] = words(multiple).to_array();
+        let place = 4 * (k % 32) + k / 32;
+        table[place] = first;
+        table[128 + place] = second;
+        table[256 + place] = third;
+        table[384 + place] = fourth;
+        multiple = (multiple >> 1) ^ (R & 0u128.wrapping_sub(multiple & 1));
+    }
 }
 
-impl Model for Multiples {
-    ghost use Rattle.std.specs.Prelude.{ℕ};
-    ghost use Rattle.std.specs.Int.{to_be_bytes, w128};
-    ghost use Rattle.aead_ciphers.specs.Multiples.{AreMultiples, entry};
-
-    ghost Value = { ℕ };
-
-    ghost view = { λ multiples. entry multiples.table 0 };
-
-    ghost invariant = { λ multiples.
-        AreMultiples (to_be_bytes w128 (entry multiples.table 0)) multiples.table };
-}
-
-impl Multiples {
-    /// The multiples of a block, each by a shift of the one before.
-    pub(crate) fn new(block: u128) -> Self
-        ensures { result ≡ block }
-    {
-        let mut table = [0; 512];
-        let mut multiple = block;
-        for k in 0..128 {
-            let [first, second, third, fourth] = words(multiple).to_array();
-            let place = 4 * (k % 32) + k / 32;
-            table[place] = first;
-            table[128 + place] = second;
-            table[256 + place] = third;
-            table[384 + place] = fourth;
-            multiple = (multiple >> 1) ^ (R & 0u128.wrapping_sub(multiple & 1));
-        }
-        Multiples { table }
+/// The product of a block and the one whose multiples a table holds: the sum of the multiples at which the block has a
+/// one, those of its four words side by side.
+pub(crate) fn product(table: &[u32; 512], block: u128) -> u128
+    requires { AreMultiples (to_be_bytes w128 (entry table.now 0)) table.now }
+    ensures { to_be_bytes w128 result ≡ to_be_bytes w128 block • to_be_bytes w128 (entry table.now 0) }
+{
+    let mut bits = words(block);
+    let mut first = u32x4::splat(0);
+    let mut second = u32x4::splat(0);
+    let mut third = u32x4::splat(0);
+    let mut fourth = u32x4::splat(0);
+    for i in 0..32 {
+        first = add_chosen(first, bits, lanes(table, 4 * i));
+        second = add_chosen(second, bits, lanes(table, 128 + 4 * i));
+        third = add_chosen(third, bits, lanes(table, 256 + 4 * i));
+        fourth = add_chosen(fourth, bits, lanes(table, 384 + 4 * i));
+        bits = bits + bits;
     }
-
-    /// The product of a block and the one whose multiples these are: the sum of the multiples at which the block has
-    /// a one, those of its four words side by side.
-    pub(crate) fn product(&self, block: u128) -> u128
-        ensures { to_be_bytes w128 result ≡ to_be_bytes w128 block • to_be_bytes w128 self.now }
-    {
-        let mut bits = words(block);
-        let mut first = u32x4::splat(0);
-        let mut second = u32x4::splat(0);
-        let mut third = u32x4::splat(0);
-        let mut fourth = u32x4::splat(0);
-        for i in 0..32 {
-            first = add_chosen(first, bits, lanes(&self.table, 4 * i));
-            second = add_chosen(second, bits, lanes(&self.table, 128 + 4 * i));
-            third = add_chosen(third, bits, lanes(&self.table, 256 + 4 * i));
-            fourth = add_chosen(fourth, bits, lanes(&self.table, 384 + 4 * i));
-            bits = bits + bits;
-        }
-        joined(
-            first.reduce_xor(),
-            second.reduce_xor(),
-            third.reduce_xor(),
-            fourth.reduce_xor(),
-        )
-    }
+    joined(
+        first.reduce_xor(),
+        second.reduce_xor(),
+        third.reduce_xor(),
+        fourth.reduce_xor(),
+    )
 }
 
 /// The four words of a block, the highest first.

@@ -6,9 +6,9 @@ ghost use Rattle.aead_ciphers_base.specs.Aes.{aes};
 use super::pack::{pack, unpack};
 use super::planes::sub_planes;
 use super::round::{add_round_key, mix_columns, shift_rows};
-use super::{Block, Key};
+use super::{Block, KeyRef};
 
-impl Key {
+impl<'k> KeyRef<'k> {
     /// The cipher of each of four blocks (FIPS 197 section 5.1), in one pass of the planes. It is in no
     /// tally.
     pub fn encrypt_four(&self, blocks: [Block; 4]) -> [Block; 4]

@@ -5,7 +5,7 @@ ghost use Rattle.aead_ciphers_base.specs.Aes.{aes};
 ghost use Rattle.aead_ciphers_base.specs.CounterMode.{IsCounter, Advances, EncryptsToFront, EncryptsWindow, counter_mode};
 ghost use Rattle.aead_ciphers_base.specs.Work.{Adds, CanAdd};
 
-use crate::aes::{BLOCK_LEN, Counter, Key, Work};
+use crate::aes::{BLOCK_LEN, Counter, KeyRef, Work};
 use crate::bb;
 
 /// The length of a batch, in bytes: the blocks that one pass of the cipher encrypts.
@@ -14,7 +14,7 @@ const BATCH_LEN: usize = 4 * BLOCK_LEN;
 /// Encrypts the whole blocks from `start` on, to the front, batch by batch.
 #[tactic(auto, using(crate::proofs::CounterModeLemmas::encrypts_all, crate::proofs::CounterModeLemmas::encrypts_more, crate::proofs::CounterLemmas::advances_none, crate::proofs::CounterLemmas::advances_more))]
 pub(crate) fn encrypt_to_front(
-    key: &Key,
+    key: &KeyRef<'_>,
     in_out: &mut [u8],
     start: usize,
     counter: &mut Counter,
@@ -43,7 +43,7 @@ pub(crate) fn encrypt_to_front(
 #[tactic(auto, using(crate::proofs::CounterModeLemmas::batch_put))]
 #[inline(always)]
 fn encrypt_batch(
-    key: &Key,
+    key: &KeyRef<'_>,
     in_out: &mut [u8],
     start: usize,
     done: usize,
@@ -70,7 +70,7 @@ fn encrypt_batch(
 }
 
 /// XORs the ciphers of the counter block and of the next three into a batch.
-fn xor_keystream(key: &Key, counter: &Counter, batch: &mut [u8; BATCH_LEN])
+fn xor_keystream(key: &KeyRef<'_>, counter: &Counter, batch: &mut [u8; BATCH_LEN])
     ensures { (nonce : List ℕ) (k : ℕ) → IsCounter counter.now nonce k →
         batch.new ≡ counter_mode (aes key.now) nonce k batch.old }
 {

@@ -98,14 +98,12 @@ fn pack_round_key(words: &[[u8; 4]], round: usize) -> Planes
     pack([block, block, block, block])
 }
 
-/// The round keys with these words, four words each.
-pub fn round_keys(words: &[[u8; 4]]) -> [Planes; 15]
+/// Writes the round keys with these words, four words each.
+pub fn write_round_keys(planes: &mut [Planes; 15], words: &[[u8; 4]])
     requires { length words.now ≤ 60 }
-    ensures { HoldsWords result words.now (length words.now / 4) }
+    ensures { HoldsWords planes.new words.now (length words.now / 4) }
 {
-    let mut planes = [[0; 8]; 15];
     for j in 0..words.len() / 4 {
         planes[j] = pack_round_key(words, j);
     }
-    planes
 }

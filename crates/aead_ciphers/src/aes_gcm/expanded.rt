@@ -1,0 +1,148 @@
+//! An expanded key as plain data, for memory that isn't this library's: a struct of C's, or a table of keys.
+
+ghost use Rattle.std.specs.Prelude.{◌≡◌, ◌-◌, ◌↔◌, length, is_ok, IsOk, IfOk, OnOk, OnErr};
+ghost use Rattle.aead_ciphers_base.specs.Aes.{aes as aes_cipher};
+ghost use Rattle.aead_ciphers_base.specs.KeyBytes.{key_bytes};
+ghost use Rattle.aead_ciphers_base.specs.Values.{aad_bytes};
+ghost use Rattle.aead_ciphers_base.specs.Work.{Adds, CanAdd};
+ghost use Rattle.aead_ciphers.specs.ExpandedKey.{IsExpanded, bytes_of, zero_key};
+ghost use Rattle.aead_ciphers.specs.Gcm.{CanOpen, CanSeal, Fits, OpenWork, SealWork, Opened, OpenedAttached, gcm_encrypted, gcm_tag};
+
+use super::{opening, sealing};
+use crate::gcm;
+use aead_ciphers_base::aes::{self, EncryptBlock, KeyBytes, Work, ZERO_BLOCK};
+use aead_ciphers_base::error::Unspecified;
+use aead_ciphers_base::values::{Aad, MAX_TAG_LEN, Nonce, Tag};
+use std::ops::RangeFrom;
+
+/// The expanded key of AES-GCM as plain data. Sealing and opening have the condition that it is as `expand` left it,
+/// and only read it, so that many threads may use it at once.
+#[repr(C)]
+#[derive(Clone, Drop)]
+pub struct ExpandedKey {
+    /// The round keys, in eight planes each (FIPS 197 section 5.2).
+    pub round_keys: [[u64; 8]; 15],
+    /// 10 for AES-128, 14 for AES-256.
+    pub rounds: usize,
+    /// The multiples of the hash subkey (SP 800-38D section 6.3).
+    pub multiples: [u32; 512],
+}
+
+impl ExpandedKey {
+    /// Zeros, which are the fields of no key.
+    #[inline(always)]
+    pub fn zeros() -> Self
+        ensures { result ≡ zero_key }
+    {
+        ExpandedKey {
+            round_keys: [[0; 8]; 15],
+            rounds: 0,
+            multiples: [0; 512],
+        }
+    }
+
+    /// Writes the expansion of a key of 16 or 32 bytes over what it was, with the hash subkey by one cipher block (SP
+    /// 800-38D section 7.1 step 1).
+    pub fn expand(&mut self, bytes: KeyBytes<'_>, work: &mut Work)
+        requires { CanAdd work.old 1 0 }
+        ensures expanded { IsExpanded self.new }
+        ensures bytes { bytes_of self.new ≡ key_bytes bytes.entry }
+        ensures worked { Adds work.old work.new 1 0 }
+    {
+        self.rounds = aes::expand(&mut self.round_keys, bytes);
+        let aes = aes::KeyRef::new(&self.round_keys, self.rounds);
+        let subkey = aes.encrypt_block(ZERO_BLOCK, work);
+        gcm::expand(&mut self.multiples, gcm::KeyValue::new(subkey));
+    }
+
+    /// `aes_gcm::seal` under the key.
+    pub fn seal(
+        &self,
+        nonce: Nonce,
+        aad: Aad<'_>,
+        in_out: &mut [u8],
+        work: &mut Work,
+    ) -> Result<Tag, Unspecified>
+        requires key { IsExpanded self.now }
+        requires sums { CanSeal work.old (length (aad_bytes aad)) (length in_out.old) }
+        ensures accepted { IsOk result ↔ Fits (length (aad_bytes aad.entry)) (length in_out.old) }
+        ensures ciphertext { OnOk result
+            (in_out.new ≡ gcm_encrypted (aes_cipher (bytes_of self.now)) nonce in_out.old) }
+        ensures tag { IfOk result
+            (λ t. t ≡ gcm_tag (aes_cipher (bytes_of self.now)) nonce (aad_bytes aad.entry) in_out.new) }
+        ensures refused { OnErr result (in_out.new ≡ in_out.old) }
+        ensures worked { SealWork (length (aad_bytes aad.entry)) (length in_out.old) result
+            work.old work.new }
+    {
+        let aes = aes::KeyRef::new(&self.round_keys, self.rounds);
+        let gcm = gcm::KeyRef::new(&self.multiples);
+        sealing::seal_with(&aes, &gcm, nonce, aad, in_out, work)
+    }
+
+    /// `aes_gcm::open` under the key.
+    pub fn open(
+        &self,
+        nonce: Nonce,
+        aad: Aad<'_>,
+        received_tag: Tag,
+        in_out: &mut [u8],
+        src: RangeFrom<usize>,
+        work: &mut Work,
+    ) -> Result<(), Unspecified>
+        requires key { IsExpanded self.now }
+        requires sums { CanOpen work.old (length (aad_bytes aad)) src.start (length in_out.old) }
+        ensures opened { Opened (aes_cipher (bytes_of self.now)) nonce (aad_bytes aad.entry)
+            received_tag src.start in_out.old (is_ok result) in_out.new }
+        ensures worked { OpenWork (length (aad_bytes aad.entry)) src.start (length in_out.old) result
+            work.old work.new }
+    {
+        let aes = aes::KeyRef::new(&self.round_keys, self.rounds);
+        let gcm = gcm::KeyRef::new(&self.multiples);
+        opening::open_with(&aes, &gcm, nonce, aad, received_tag, in_out, src, work)
+    }
+    /// `open` that answers the length of the plaintext.
+    pub fn open_to_front(
+        &self,
+        nonce: Nonce,
+        aad: Aad<'_>,
+        tag: Tag,
+        in_out: &mut [u8],
+        ciphertext: RangeFrom<usize>,
+    ) -> Result<usize, Unspecified>
+        requires { IsExpanded self.now }
+        ensures opened { Opened (aes_cipher (bytes_of self.now)) nonce (aad_bytes aad.entry) tag ciphertext.start
+            in_out.old (is_ok result) in_out.new }
+        ensures count { IfOk result (λ n. n ≡ length in_out.old - ciphertext.start) }
+        ensures refused { OnErr result (in_out.new ≡ in_out.old) }
+    {
+        let len = in_out.len();
+        let start = ciphertext.start;
+        self.open(nonce, aad, tag, in_out, ciphertext, &mut Work::new())?;
+        Ok(len - start)
+    }
+
+    /// The same with the tag attached: it is the last 16 bytes of the buffer, and stays.
+    ///
+    /// A buffer of fewer than 16 bytes is refused before all else.
+    pub fn open_within_to_front(
+        &self,
+        nonce: Nonce,
+        aad: Aad<'_>,
+        in_out: &mut [u8],
+        ciphertext_and_tag: RangeFrom<usize>,
+    ) -> Result<usize, Unspecified>
+        requires { IsExpanded self.now }
+        ensures opened { OpenedAttached (aes_cipher (bytes_of self.now)) nonce (aad_bytes aad.entry)
+            ciphertext_and_tag.start in_out.old (is_ok result) in_out.new }
+        ensures count { IfOk result (λ n. n ≡ length in_out.old - 16 - ciphertext_and_tag.start) }
+        ensures refused { OnErr result (in_out.new ≡ in_out.old) }
+    {
+        match in_out.split_last_chunk_mut::<MAX_TAG_LEN>() {
+            Some((before_tag, tag)) => {
+                let tag = Tag::from(*tag);
+                self.open_to_front(nonce, aad, tag, before_tag, ciphertext_and_tag)
+            }
+            None => Err(Unspecified),
+        }
+    }
+}

@@ -1,9 +1,0 @@
-use Rattle.std.proofs.Common.{◌≡◌, ◌<◌, ◌-◌, ℕ, slice_index_or, []}
-use Rattle.aead_ciphers_base.specs.Aes.{rounds}
-use Rattle.aead_ciphers_base.specs.Planes.{plane_block}
-use Rattle.aead_ciphers_base.proofs.RoundKeys.{schedule_words}
-use Rattle.aead_ciphers_base.proofs.aes.Key.encrypt_four.Given as goal
-
-abbrev pub invariant-loop-round : goal.invariant-loop-round
-invariant-loop-round l =
-    (k : ℕ) → k < 4 → plane_block l.state k ≡ rounds (schedule_words l.self-inside.round_keys l.self-inside.rounds) (slice_index_or l.fn.blocks k []) (l.round - 1)
