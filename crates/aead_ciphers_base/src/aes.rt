@@ -169,7 +169,7 @@ impl Key {
     }
 }
 
-/// Writes the round keys of a key of 16 or 32 bytes (FIPS 197 section 5.2), and answers the number of its rounds.
+/// Writes the round keys of a key of 16 or 32 bytes (FIPS 197 section 5.2), and returns the number of its rounds.
 pub fn expand(round_keys: &mut [[u64; 8]; 15], bytes: KeyBytes<'_>) -> usize
     ensures schedule { IsSchedule round_keys.new result }
     ensures bytes { key_of round_keys.new result ≡ key_bytes bytes.entry }

@@ -2,7 +2,8 @@
  * in crates/deerlapse/out, and `tools/install PREFIX` installs it with this header.
  *
  * Of every call:
- *  - It returns true, or false with every byte as it came. Where it can't be refused it returns nothing.
+ *  - It returns true, or false with every byte as it came. Where it can't be refused it returns nothing. One call
+ *    differs: deerlapse_key_init fills a key whose bytes it refuses with zeros.
  *  - A pointer with a length has that many bytes, and may be null where the length is 0. No other pointer is null. A
  *    parameter like nonce[12] has the bytes that it says.
  *  - What a call writes overlaps nothing else that the call is given. What it only reads may overlap. A tag may
@@ -79,16 +80,47 @@ bool deerlapse_open(const uint8_t *key, size_t key_len, const uint8_t nonce[DEER
                     const uint8_t *aad, size_t aad_len, uint8_t *in_out, size_t in_out_len, size_t start,
                     size_t *plaintext_len);
 
+/* A key that is expanded once, for many messages and many threads. It lies in the caller's memory, on the stack, in a
+ * struct or in a table, and has no pointer in it: a copy by `=` or memcpy is a key as well. deerlapse_key_init fills it.
+ * Sealing and opening only read it, so many threads may use one at once, as soon as they see it filled.
+ *
+ * A key of zeros, as `deerlapse_key key = {{0}}` makes it, is no key: each call under it is refused. So are one whose
+ * deerlapse_key_init was refused, and one that was wiped. Memory with anything else in it, as an uninitialized variable,
+ * must reach no call but deerlapse_key_init and deerlapse_key_wipe. */
+typedef struct deerlapse_key {
+    uint64_t words[377]; /* the library's own: read none, write none */
+} deerlapse_key;
+
+/* Expands a key. What was in `key` isn't read.
+ *
+ *   bytes   len bytes: 16 for AES-128-GCM, 32 for AES-256-GCM
+ *
+ * False: len is neither 16 nor 32. Every byte of `key` is then zero. */
+DEERLAPSE_ANSWERS
+bool deerlapse_key_init(deerlapse_key *key, const uint8_t *bytes, size_t len);
+
+/* Overwrites a key with zeros, so that each call under it is refused. Nothing else has to be freed. What earlier calls
+ * left on their stack stays there. */
+DEERLAPSE_CALL
+void deerlapse_key_wipe(deerlapse_key *key);
+
+/* deerlapse_seal and deerlapse_open under an expanded key, which is filled or zeros.
+ *
+ * False: where those return false, and where the key is zeros. */
+DEERLAPSE_ANSWERS
+bool deerlapse_key_seal(const deerlapse_key *key, const uint8_t nonce[DEERLAPSE_NONCE_LEN], const uint8_t *aad,
+                        size_t aad_len, uint8_t *in_out, size_t in_out_len, uint8_t tag[DEERLAPSE_TAG_LEN]);
+DEERLAPSE_ANSWERS
+bool deerlapse_key_open(const deerlapse_key *key, const uint8_t nonce[DEERLAPSE_NONCE_LEN], const uint8_t *aad,
+                        size_t aad_len, uint8_t *in_out, size_t in_out_len, size_t start, size_t *plaintext_len);
+
 /* A key that seals each message under a nonce of its own: an IV XOR the message's number, in eight big-endian bytes
  * after four zeros (RFC 8446 section 5.3, RFC 9001 section 5.3). It lies in the caller's memory and is filled by
- * deerlapse_sealer_init. Never copy it, since the copy spends the same nonces again. Its fields may be read, as `next`
- * for a number that is sent along; write to none of them. One thread uses it at a time. */
+ * deerlapse_sealer_init; zeros are no sealer, as zeros are no key, and memory with anything else in it must reach no
+ * other call. Never copy it, since the copy spends the same nonces again. One thread uses it at a time. It has room for
+ * what a later version may keep in it. */
 typedef struct deerlapse_sealer {
-    uint64_t next;   /* the number of the next message */
-    uint64_t limit;  /* the first number that no message gets */
-    size_t key_len;  /* 16 or 32 */
-    uint8_t key[32]; /* the key, and zeros */
-    uint8_t iv[DEERLAPSE_NONCE_LEN];
+    uint64_t words[400]; /* the library's own: read none, write none */
 } deerlapse_sealer;
 
 /* Fills a sealer. What was in it isn't read.
@@ -101,17 +133,51 @@ typedef struct deerlapse_sealer {
  * alone is the simplest way. How many messages a key may seal is the protocol's matter (TLS 1.3: about
  * 24 million of full length, RFC 8446 section 5.5).
  *
- * False: key_len is neither 16 nor 32, or first is above limit. */
+ * False: key_len is neither 16 nor 32, or first is above limit. The sealer is then as it was. */
 DEERLAPSE_ANSWERS
 bool deerlapse_sealer_init(deerlapse_sealer *sealer, const uint8_t *key, size_t key_len,
                            const uint8_t iv[DEERLAPSE_NONCE_LEN], uint64_t first, uint64_t limit);
 
-/* deerlapse_seal under the nonce of the number sealer->next, which then counts up by one.
+/* Returns the number of the next message, as for a number that is sent along. */
+DEERLAPSE_ANSWERS
+uint64_t deerlapse_sealer_next(const deerlapse_sealer *sealer);
+
+/* deerlapse_seal under the nonce of the next number, which then counts up by one.
  *
- * False: next is no longer below limit, or lengths that deerlapse_seal refuses. The sealer is then as it was. */
+ * False: the next number is no longer below limit, the sealer is zeros, or lengths that deerlapse_seal refuses. The
+ * sealer is then as it was. */
 DEERLAPSE_ANSWERS
 bool deerlapse_sealer_seal(deerlapse_sealer *sealer, const uint8_t *aad, size_t aad_len, uint8_t *in_out,
                            size_t in_out_len, uint8_t tag[DEERLAPSE_TAG_LEN]);
+
+/* A key that opens what a sealer of the same key and IV sealed, in order or by number. All that is said of a sealer's
+ * memory holds of an opener's. */
+typedef struct deerlapse_opener {
+    uint64_t words[400]; /* the library's own: read none, write none */
+} deerlapse_opener;
+
+/* Fills an opener, as deerlapse_sealer_init a sealer. */
+DEERLAPSE_ANSWERS
+bool deerlapse_opener_init(deerlapse_opener *opener, const uint8_t *key, size_t key_len,
+                           const uint8_t iv[DEERLAPSE_NONCE_LEN], uint64_t first, uint64_t limit);
+
+/* Returns the number of the message that is opened next in order. */
+DEERLAPSE_ANSWERS
+uint64_t deerlapse_opener_next(const deerlapse_opener *opener);
+
+/* deerlapse_open under the nonce of the next number, which then counts up by one.
+ *
+ * False: the next number is no longer below limit, the opener is zeros, or deerlapse_open is refused. The opener is then
+ * as it was: the message with that number may still come. */
+DEERLAPSE_ANSWERS
+bool deerlapse_opener_open(deerlapse_opener *opener, const uint8_t *aad, size_t aad_len, uint8_t *in_out,
+                           size_t in_out_len, size_t start, size_t *plaintext_len);
+
+/* The same under the nonce of a number that the caller knows, as from a packet. It counts nothing and has no limit, and
+ * only reads the opener. Whether a number was there before is the caller's matter: it opens a message again. */
+DEERLAPSE_ANSWERS
+bool deerlapse_opener_open_number(const deerlapse_opener *opener, uint64_t number, const uint8_t *aad, size_t aad_len,
+                                  uint8_t *in_out, size_t in_out_len, size_t start, size_t *plaintext_len);
 
 /* Writes the nonce of a number under an IV, for opening what a sealer sealed. */
 DEERLAPSE_CALL

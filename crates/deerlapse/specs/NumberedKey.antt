@@ -1,12 +1,13 @@
--- What the contracts see of a `DeerlapseSealer`.
-use Rattle.std.specs.Prelude.{ℕ, List, take}
+-- What the contracts see of a `NumberedKey`, which is a sealer or an opener.
+use Rattle.std.specs.Prelude.{ℕ, List}
 use Rattle.aead_ciphers.specs.Counting.{xored_nonce}
-use Rattle.aead_ciphers_c.specs.declared.sealer.DeerlapseSealer.{DeerlapseSealer}
+use Rattle.aead_ciphers.specs.ExpandedKey.{bytes_of}
+use Rattle.deerlapse.specs.declared.numbered_key.NumberedKey.{NumberedKey}
 
--- the bytes of its key: as many as its length says
-abbrev pub key_of : DeerlapseSealer → List ℕ
-key_of sealer = take sealer.key_len sealer.key
+-- the bytes of its key
+abbrev pub key_of : NumberedKey → List ℕ
+key_of numbered = bytes_of numbered.key
 
 -- the nonce of its next number (RFC 8446 section 5.3)
-abbrev pub next_nonce : DeerlapseSealer → List ℕ
-next_nonce sealer = xored_nonce sealer.iv sealer.next
+abbrev pub next_nonce : NumberedKey → List ℕ
+next_nonce numbered = xored_nonce numbered.iv numbered.next

@@ -1,43 +1,13 @@
 //! AES-GCM (SP 800-38D) under a nonce of the caller's choice.
 
-ghost use Rattle.std.specs.Prelude.{◌≡◌, ◌-◌, ◌↔◌, length, IsTrue, IsFalse, IsOk, IfOk, OnOk, OnErr};
+ghost use Rattle.std.specs.Prelude.{◌≡◌, ◌-◌, ◌↔◌, length, IsTrue, IsFalse};
 ghost use Rattle.aead_ciphers_base.specs.Aes.{aes};
 ghost use Rattle.aead_ciphers.specs.Gcm.{Fits, gcm_encrypted, gcm_tag, OpenedAttached};
 ghost use Rattle.deerlapse.specs.AesKey.{IsAesKeyLen};
 
-use aead_ciphers::aead::{
-    AES_128_GCM, AES_256_GCM, Aad, LessSafeKey, MAX_TAG_LEN, NONCE_LEN, Nonce, Tag, UnboundKey,
-    Unspecified,
-};
-use aead_ciphers_base::aes::AES_256_KEY_LEN;
-
-/// The key of 16 bytes for AES-128-GCM, of 32 for AES-256-GCM.
-fn aes_gcm_key(key: &[u8]) -> Result<LessSafeKey, Unspecified>
-    ensures accepted { IsOk result ↔ IsAesKeyLen (length key.now) }
-    ensures bytes { IfOk result (λ made. made.bytes ≡ key.now) }
-{
-    let algorithm = match key.len() {
-        AES_256_KEY_LEN => &AES_256_GCM,
-        _ => &AES_128_GCM,
-    };
-    Ok(LessSafeKey::new(UnboundKey::new(algorithm, key)?))
-}
-
-/// Encrypts `in_out` in place, and returns its tag.
-pub(crate) fn seal(
-    key: &[u8],
-    nonce: Nonce,
-    aad: &[u8],
-    in_out: &mut [u8],
-) -> Result<Tag, Unspecified>
-    ensures accepted { IsOk result
-        ↔ (IsAesKeyLen (length key.now) × Fits (length aad.now) (length in_out.old)) }
-    ensures ciphertext { OnOk result (in_out.new ≡ gcm_encrypted (aes key.now) nonce in_out.old) }
-    ensures tag { IfOk result (λ tag. tag ≡ gcm_tag (aes key.now) nonce aad.now in_out.new) }
-    ensures refused { OnErr result (in_out.new ≡ in_out.old) }
-{
-    aes_gcm_key(key)?.seal_in_place_separate_tag(nonce, Aad::from(aad), in_out)
-}
+use crate::key::{deerlapse_key_init, deerlapse_key_open, deerlapse_key_seal};
+use aead_ciphers::aead::{MAX_TAG_LEN, NONCE_LEN};
+use aead_ciphers::aes_gcm::ExpandedKey;
 
 /// Encrypts `in_out` in place, and writes its tag (SP 800-38D algorithm 4).
 ///
@@ -57,14 +27,8 @@ pub extern "C" fn deerlapse_seal(
     ensures tag { IsTrue result → tag.new ≡ gcm_tag (aes key.now) nonce.now aad.now in_out.new }
     ensures refused { IsFalse result → (in_out.new ≡ in_out.old) × (tag.new ≡ tag.old) }
 {
-    let nonce = Nonce::assume_unique_for_key(*nonce);
-    match seal(key, nonce, aad, in_out) {
-        Ok(made) => {
-            tag.copy_from_slice(made.as_ref());
-            true
-        }
-        Err(Unspecified) => false,
-    }
+    let mut expanded = ExpandedKey::zeros();
+    deerlapse_key_init(&mut expanded, key) && deerlapse_key_seal(&expanded, nonce, aad, in_out, tag)
 }
 
 /// Opens the ciphertext and tag that are `in_out` from `start` on, the tag its last 16 bytes (SP 800-38D algorithm 5),
@@ -89,15 +53,7 @@ pub extern "C" fn deerlapse_open(
     ensures refused { IsFalse result
         → (in_out.new ≡ in_out.old) × (plaintext_len.new ≡ plaintext_len.old) }
 {
-    let Ok(key) = aes_gcm_key(key) else {
-        return false
-    };
-    let nonce = Nonce::assume_unique_for_key(*nonce);
-    match key.open_within_to_front(nonce, Aad::from(aad), in_out, start..) {
-        Ok(len) => {
-            *plaintext_len = len;
-            true
-        }
-        Err(Unspecified) => false,
-    }
+    let mut expanded = ExpandedKey::zeros();
+    deerlapse_key_init(&mut expanded, key)
+        && deerlapse_key_open(&expanded, nonce, aad, in_out, start, plaintext_len)
 }

@@ -2,10 +2,15 @@
 
 use crate::aes_gcm::{deerlapse_open, deerlapse_seal};
 use crate::chacha20::deerlapse_chacha20;
+use crate::key::{deerlapse_key_init, deerlapse_key_open, deerlapse_key_seal, deerlapse_key_wipe};
 use crate::masks::{deerlapse_mask_aes, deerlapse_mask_chacha20};
-use crate::sealer::{
-    DeerlapseSealer, deerlapse_nonce, deerlapse_sealer_init, deerlapse_sealer_seal,
+use crate::numbered_key::{NumberedKey, deerlapse_nonce};
+use crate::opener::{
+    deerlapse_opener_init, deerlapse_opener_next, deerlapse_opener_open,
+    deerlapse_opener_open_number,
 };
+use crate::sealer::{deerlapse_sealer_init, deerlapse_sealer_next, deerlapse_sealer_seal};
+use aead_ciphers::aes_gcm::ExpandedKey;
 use aead_vectors::gcm_spec::{CASES, Case};
 use aead_vectors::{fips_197, rfc_8439, rfc_9001};
 use std::alloc::Global;
@@ -46,17 +51,51 @@ fn seals_and_opens(rt: &impl Abort, alloc: Global, case: &Case) -> Result<(), Fa
     Ok(())
 }
 
-/// A sealer with one number, 0, whose nonce is the IV: it seals a case's message, and then none.
-fn seals_once(rt: &impl Abort, alloc: Global, case: &Case) -> Result<(), Fail> {
-    let mut sealer = DeerlapseSealer {
+/// Seals a case's message under an expanded key, and opens it; and then the key is wiped, and seals nothing.
+fn seals_and_opens_by_a_key(rt: &impl Abort, alloc: Global, case: &Case) -> Result<(), Fail> {
+    let mut key = ExpandedKey::zeros();
+    if !deerlapse_key_init(&mut key, case.key) {
+        return Err("a key".into());
+    }
+    let mut bytes = case.message.to_vec(alloc)?;
+    let mut tag = [0; 16];
+    let sealed = deerlapse_key_seal(&key, &case.nonce, case.aad, &mut bytes, &mut tag);
+    accepted(rt, sealed, case.name);
+    same(rt, &bytes, case.ciphertext, case.name);
+    same(rt, &tag, &case.tag, case.name);
+
+    bytes.extend_from_slice(&tag)?;
+    let mut len = 0;
+    let opened = deerlapse_key_open(&key, &case.nonce, case.aad, &mut bytes, 0, &mut len);
+    accepted(rt, opened, case.name);
+    same(
+        rt,
+        bytes.get(..len).ok_or("a plaintext's length")?,
+        case.message,
+        case.name,
+    );
+    deerlapse_key_wipe(&mut key);
+    let again = deerlapse_key_seal(&key, &case.nonce, case.aad, &mut bytes, &mut tag);
+    accepted(rt, !again, case.name);
+    Ok(())
+}
+
+/// No sealer, and no opener.
+fn no_numbers() -> NumberedKey {
+    NumberedKey {
+        key: ExpandedKey::zeros(),
         next: 0,
         limit: 0,
-        key_len: 0,
-        key: [0; 32],
         iv: [0; 12],
-    };
-    let filled = deerlapse_sealer_init(&mut sealer, case.key, &case.nonce, 0, 1);
-    accepted(rt, filled, case.name);
+    }
+}
+
+/// A sealer with one number, 0, whose nonce is the IV: it seals a case's message, and then none.
+fn seals_once(rt: &impl Abort, alloc: Global, case: &Case) -> Result<(), Fail> {
+    let mut sealer = no_numbers();
+    if !deerlapse_sealer_init(&mut sealer, case.key, &case.nonce, 0, 1) {
+        return Err("a sealer".into());
+    }
     let mut bytes = case.message.to_vec(alloc)?;
     let mut tag = [0; 16];
     let sealed = deerlapse_sealer_seal(&mut sealer, case.aad, &mut bytes, &mut tag);
@@ -65,6 +104,46 @@ fn seals_once(rt: &impl Abort, alloc: Global, case: &Case) -> Result<(), Fail> {
     same(rt, &tag, &case.tag, case.name);
     let again = deerlapse_sealer_seal(&mut sealer, case.aad, &mut bytes, &mut tag);
     accepted(rt, !again, case.name);
+    accepted(rt, deerlapse_sealer_next(&sealer) == 1, case.name);
+    Ok(())
+}
+
+/// A case's ciphertext and its tag.
+fn sealed_bytes(alloc: Global, case: &Case) -> Result<Vec<u8, Global>, Fail> {
+    let mut bytes = case.ciphertext.to_vec(alloc)?;
+    bytes.extend_from_slice(&case.tag)?;
+    Ok(bytes)
+}
+
+/// An opener with one number, 0: it opens what is sealed under it twice by number, once in order, and then none.
+fn opens_once(rt: &impl Abort, alloc: Global, case: &Case) -> Result<(), Fail> {
+    let mut opener = no_numbers();
+    if !deerlapse_opener_init(&mut opener, case.key, &case.nonce, 0, 1) {
+        return Err("an opener".into());
+    }
+    let mut len = 0;
+    for (number, answer) in [(0, true), (1, false), (0, true)] {
+        let mut bytes = sealed_bytes(alloc, case)?;
+        let opened = deerlapse_opener_open_number(
+            &opener, number, case.aad, &mut bytes, 0, &mut len,
+        );
+        accepted(rt, opened == answer, case.name);
+    }
+    let mut bytes = sealed_bytes(alloc, case)?;
+    let early = deerlapse_opener_open(&mut opener, &[1, 2, 3], &mut bytes, 0, &mut len);
+    accepted(rt, !early, case.name);
+    let opened = deerlapse_opener_open(&mut opener, case.aad, &mut bytes, 0, &mut len);
+    accepted(rt, opened, case.name);
+    same(
+        rt,
+        bytes.get(..len).ok_or("a plaintext's length")?,
+        case.message,
+        case.name,
+    );
+    accepted(rt, deerlapse_opener_next(&opener) == 1, case.name);
+    let mut bytes = sealed_bytes(alloc, case)?;
+    let again = deerlapse_opener_open(&mut opener, case.aad, &mut bytes, 0, &mut len);
+    accepted(rt, !again, case.name);
     Ok(())
 }
 
@@ -72,7 +151,9 @@ fn seals_once(rt: &impl Abort, alloc: Global, case: &Case) -> Result<(), Fail> {
 fn gcm_spec(rt: HostRuntime) -> Result<(), Fail> {
     for case in &CASES {
         seals_and_opens(&rt, rt.alloc(), case)?;
+        seals_and_opens_by_a_key(&rt, rt.alloc(), case)?;
         seals_once(&rt, rt.alloc(), case)?;
+        opens_once(&rt, rt.alloc(), case)?;
     }
     Ok(())
 }

@@ -100,7 +100,7 @@ impl ExpandedKey {
         let gcm = gcm::KeyRef::new(&self.multiples);
         opening::open_with(&aes, &gcm, nonce, aad, received_tag, in_out, src, work)
     }
-    /// `open` that answers the length of the plaintext.
+    /// `open` that returns the length of the plaintext.
     pub fn open_to_front(
         &self,
         nonce: Nonce,

@@ -1,0 +1,125 @@
+//! A key of AES-GCM (SP 800-38D) that is expanded once, for many messages and many threads.
+
+ghost use Rattle.std.specs.Prelude.{◌≡◌, ◌-◌, ◌↔◌, length, IsTrue, IsFalse, IsSome, IfSome};
+ghost use Rattle.aead_ciphers_base.specs.Aes.{aes};
+ghost use Rattle.aead_ciphers_base.specs.KeyBytes.{key_bytes};
+ghost use Rattle.aead_ciphers.specs.ExpandedKey.{IsExpanded, bytes_of, zero_key};
+ghost use Rattle.aead_ciphers.specs.Gcm.{Fits, gcm_encrypted, gcm_tag, OpenedAttached};
+ghost use Rattle.deerlapse.specs.AesKey.{HasRounds, IsAesKeyLen, IsKeyOrNone};
+
+use aead_ciphers::aead::{Aad, MAX_TAG_LEN, NONCE_LEN, Nonce, Unspecified};
+use aead_ciphers::aes_gcm::ExpandedKey;
+use aead_ciphers_base::aes::{AES_256_KEY_LEN, KeyBytes, Work};
+use std::mem::size_of;
+
+// The header's `words` are as many bytes.
+const _: () = prove!(size_of::<ExpandedKey>() == 3016);
+
+/// The key of 16 bytes for AES-128-GCM, of 32 for AES-256-GCM.
+pub(crate) fn aes_key(bytes: &[u8]) -> Option<KeyBytes<'_>>
+    ensures accepted { IsSome result ↔ IsAesKeyLen (length bytes.now) }
+    ensures bytes { IfSome result (λ key. key_bytes key ≡ bytes.now) }
+{
+    match bytes.len() {
+        AES_256_KEY_LEN => Some(KeyBytes::AES_256(bytes.as_array()?)),
+        _ => Some(KeyBytes::AES_128(bytes.as_array()?)),
+    }
+}
+
+/// Whether it has as many rounds as a key. A key of zeros has none.
+fn has_rounds(key: &ExpandedKey) -> bool
+    ensures { IsTrue result ↔ HasRounds key.now }
+{
+    key.rounds >= 10 && key.rounds <= 14
+}
+
+/// Expands a key once, for the calls that take it from then on. What `key` held before isn't read.
+///
+/// Refused where `bytes` hasn't 16 or 32 bytes: every byte of `key` is then zero.
+#[unsafe(no_mangle)]
+pub extern "C" fn deerlapse_key_init(key: &mut ExpandedKey, bytes: &[u8]) -> bool
+    ensures accepted { IsTrue result ↔ IsAesKeyLen (length bytes.now) }
+    ensures made { IsTrue result → IsExpanded key.new × (bytes_of key.new ≡ bytes.now) }
+    ensures refused { IsFalse result → key.new ≡ zero_key }
+{
+    match aes_key(bytes) {
+        Some(bytes) => {
+            key.expand(bytes, &mut Work::new());
+            true
+        }
+        None => {
+            deerlapse_key_wipe(key);
+            false
+        }
+    }
+}
+
+/// Overwrites a key with zeros. After that every call under it is refused.
+#[unsafe(no_mangle)]
+pub extern "C" fn deerlapse_key_wipe(key: &mut ExpandedKey)
+    ensures { key.new ≡ zero_key }
+{
+    *key = ExpandedKey::zeros();
+}
+
+/// `deerlapse_seal` under an expanded key.
+#[unsafe(no_mangle)]
+pub extern "C" fn deerlapse_key_seal(
+    key: &ExpandedKey,
+    nonce: &[u8; NONCE_LEN],
+    aad: &[u8],
+    in_out: &mut [u8],
+    tag: &mut [u8; MAX_TAG_LEN],
+) -> bool
+    requires { IsKeyOrNone key.now }
+    ensures accepted { IsTrue result
+        ↔ (HasRounds key.now × Fits (length aad.now) (length in_out.old)) }
+    ensures ciphertext { IsTrue result
+        → in_out.new ≡ gcm_encrypted (aes (bytes_of key.now)) nonce.now in_out.old }
+    ensures tag { IsTrue result
+        → tag.new ≡ gcm_tag (aes (bytes_of key.now)) nonce.now aad.now in_out.new }
+    ensures refused { IsFalse result → (in_out.new ≡ in_out.old) × (tag.new ≡ tag.old) }
+{
+    if !has_rounds(key) {
+        return false;
+    }
+    let nonce = Nonce::assume_unique_for_key(*nonce);
+    match key.seal(nonce, Aad::from(aad), in_out, &mut Work::new()) {
+        Ok(made) => {
+            tag.copy_from_slice(made.as_ref());
+            true
+        }
+        Err(Unspecified) => false,
+    }
+}
+
+/// `deerlapse_open` under an expanded key.
+#[unsafe(no_mangle)]
+pub extern "C" fn deerlapse_key_open(
+    key: &ExpandedKey,
+    nonce: &[u8; NONCE_LEN],
+    aad: &[u8],
+    in_out: &mut [u8],
+    start: usize,
+    plaintext_len: &mut usize,
+) -> bool
+    requires { IsKeyOrNone key.now }
+    ensures filled { IsTrue result → HasRounds key.now }
+    ensures opened { HasRounds key.now
+        → OpenedAttached (aes (bytes_of key.now)) nonce.now aad.now start in_out.old result in_out.new }
+    ensures count { IsTrue result → plaintext_len.new ≡ length in_out.old - 16 - start }
+    ensures refused { IsFalse result
+        → (in_out.new ≡ in_out.old) × (plaintext_len.new ≡ plaintext_len.old) }
+{
+    if !has_rounds(key) {
+        return false;
+    }
+    let nonce = Nonce::assume_unique_for_key(*nonce);
+    match key.open_within_to_front(nonce, Aad::from(aad), in_out, start..) {
+        Ok(len) => {
+            *plaintext_len = len;
+            true
+        }
+        Err(Unspecified) => false,
+    }
+}

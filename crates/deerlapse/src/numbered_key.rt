@@ -1,0 +1,68 @@
+//! A key with an IV and the numbers of its messages, each of which has a nonce of its own (RFC 8446 section 5.3, RFC
+//! 9001 section 5.3).
+
+ghost use Rattle.std.specs.Prelude.{◌≡◌, ◌≤◌, ◌↔◌, length, IsTrue, IsFalse};
+ghost use Rattle.aead_ciphers.specs.ExpandedKey.{IsExpanded, bytes_of};
+ghost use Rattle.aead_ciphers.specs.Counting.{xored_nonce};
+ghost use Rattle.deerlapse.specs.AesKey.{IsAesKeyLen};
+
+use crate::key::aes_key;
+use aead_ciphers::aead::{NONCE_LEN, nonce_of};
+use aead_ciphers::aes_gcm::ExpandedKey;
+use aead_ciphers_base::aes::Work;
+use std::mem::size_of;
+
+/// A key of AES-GCM for the nonces of an IV and the numbers `next`, `next + 1`, .. up to `limit`, which is left out. It
+/// lies in the caller's memory.
+#[repr(C)]
+#[derive(Drop)]
+pub struct NumberedKey {
+    pub key: ExpandedKey,
+    /// The number of the next message.
+    pub next: u64,
+    /// The first number that no message gets.
+    pub limit: u64,
+    pub iv: [u8; NONCE_LEN],
+}
+
+// The header's `words` have room for more fields.
+const _: () = prove!(size_of::<NumberedKey>() <= 3200);
+
+/// Fills a key whose first message gets the number `first`. What it held before isn't read.
+///
+/// Refused where the key hasn't 16 or 32 bytes, and where `first` is above `limit`.
+pub(crate) fn fill(
+    numbered: &mut NumberedKey,
+    key: &[u8],
+    iv: &[u8; NONCE_LEN],
+    first: u64,
+    limit: u64,
+) -> bool
+    ensures accepted { IsTrue result ↔ (IsAesKeyLen (length key.now) × (first ≤ limit)) }
+    ensures key { IsTrue result
+        → IsExpanded numbered.new.key × (bytes_of numbered.new.key ≡ key.now) }
+    ensures iv { IsTrue result → numbered.new.iv ≡ iv.now }
+    ensures numbers { IsTrue result
+        → (numbered.new.next ≡ first) × (numbered.new.limit ≡ limit) }
+    ensures refused { IsFalse result → numbered.new ≡ numbered.old }
+{
+    let Some(key) = aes_key(key) else {
+        return false
+    };
+    if first > limit {
+        return false;
+    }
+    numbered.key.expand(key, &mut Work::new());
+    numbered.next = first;
+    numbered.limit = limit;
+    numbered.iv = *iv;
+    true
+}
+
+/// Writes the nonce of a number under an IV (RFC 8446 section 5.3), for opening what a sealer sealed.
+#[unsafe(no_mangle)]
+pub extern "C" fn deerlapse_nonce(iv: &[u8; NONCE_LEN], number: u64, nonce: &mut [u8; NONCE_LEN])
+    ensures { nonce.new ≡ xored_nonce iv.now number }
+{
+    *nonce = *nonce_of(iv, number).as_ref();
+}

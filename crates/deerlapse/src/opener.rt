@@ -1,0 +1,107 @@
+//! A key that opens what a sealer sealed, in order or by number.
+
+ghost use Rattle.std.specs.Prelude.{◌≡◌, ◌+◌, ◌-◌, ◌<◌, ◌≤◌, ◌↔◌, length, IsTrue, IsFalse};
+ghost use Rattle.aead_ciphers_base.specs.Aes.{aes};
+ghost use Rattle.aead_ciphers.specs.Counting.{xored_nonce};
+ghost use Rattle.aead_ciphers.specs.ExpandedKey.{IsExpanded};
+ghost use Rattle.aead_ciphers.specs.Gcm.{OpenedAttached};
+ghost use Rattle.deerlapse.specs.AesKey.{HasRounds, IsAesKeyLen, IsKeyOrNone};
+ghost use Rattle.deerlapse.specs.NumberedKey.{key_of, next_nonce};
+
+use crate::key::deerlapse_key_open;
+use crate::numbered_key::{NumberedKey, fill};
+use aead_ciphers::aead::{NONCE_LEN, nonce_of};
+
+/// Fills an opener whose first message has the number `first`. What it held before isn't read.
+///
+/// Refused where the key hasn't 16 or 32 bytes, and where `first` is above `limit`.
+#[unsafe(no_mangle)]
+pub extern "C" fn deerlapse_opener_init(
+    opener: &mut NumberedKey,
+    key: &[u8],
+    iv: &[u8; NONCE_LEN],
+    first: u64,
+    limit: u64,
+) -> bool
+    ensures accepted { IsTrue result ↔ (IsAesKeyLen (length key.now) × (first ≤ limit)) }
+    ensures key { IsTrue result → IsExpanded opener.new.key × (key_of opener.new ≡ key.now) }
+    ensures iv { IsTrue result → opener.new.iv ≡ iv.now }
+    ensures numbers { IsTrue result → (opener.new.next ≡ first) × (opener.new.limit ≡ limit) }
+    ensures refused { IsFalse result → opener.new ≡ opener.old }
+{
+    fill(opener, key, iv, first, limit)
+}
+
+/// The number of the next message.
+#[unsafe(no_mangle)]
+pub extern "C" fn deerlapse_opener_next(opener: &NumberedKey) -> u64
+    ensures { result ≡ opener.now.next }
+{
+    opener.next
+}
+
+/// `deerlapse_open` under the nonce of the next number, which then counts up by one.
+///
+/// Refused where no number is left, where the opener is zeros, and where `deerlapse_open` refuses. A refusal counts
+/// nothing: the message with the number is still to come.
+#[unsafe(no_mangle)]
+pub extern "C" fn deerlapse_opener_open(
+    opener: &mut NumberedKey,
+    aad: &[u8],
+    in_out: &mut [u8],
+    start: usize,
+    plaintext_len: &mut usize,
+) -> bool
+    requires { IsKeyOrNone opener.old.key }
+    ensures filled { IsTrue result
+        → HasRounds opener.old.key × (opener.old.next < opener.old.limit) }
+    ensures opened { HasRounds opener.old.key × (opener.old.next < opener.old.limit)
+        → OpenedAttached (aes (key_of opener.old)) (next_nonce opener.old) aad.now start in_out.old
+        result in_out.new }
+    ensures count { IsTrue result → plaintext_len.new ≡ length in_out.old - 16 - start }
+    ensures counted { IsTrue result
+        → opener.new ≡ record opener.old { next = opener.old.next + 1 } }
+    ensures refused { IsFalse result → (in_out.new ≡ in_out.old)
+        × (plaintext_len.new ≡ plaintext_len.old) × (opener.new ≡ opener.old) }
+{
+    if opener.next >= opener.limit
+        || !deerlapse_opener_open_number(opener, opener.next, aad, in_out, start, plaintext_len)
+    {
+        return false;
+    }
+    opener.next += 1;
+    true
+}
+
+/// `deerlapse_open` under the nonce of a number that the caller knows, as from a packet. It counts nothing, and whether
+/// the number was there before is the caller's matter.
+///
+/// Refused where the opener is zeros, and where `deerlapse_open` refuses.
+#[unsafe(no_mangle)]
+pub extern "C" fn deerlapse_opener_open_number(
+    opener: &NumberedKey,
+    number: u64,
+    aad: &[u8],
+    in_out: &mut [u8],
+    start: usize,
+    plaintext_len: &mut usize,
+) -> bool
+    requires { IsKeyOrNone opener.now.key }
+    ensures filled { IsTrue result → HasRounds opener.now.key }
+    ensures opened { HasRounds opener.now.key
+        → OpenedAttached (aes (key_of opener.now)) (xored_nonce opener.now.iv number) aad.now start
+        in_out.old result in_out.new }
+    ensures count { IsTrue result → plaintext_len.new ≡ length in_out.old - 16 - start }
+    ensures refused { IsFalse result
+        → (in_out.new ≡ in_out.old) × (plaintext_len.new ≡ plaintext_len.old) }
+{
+    let nonce = nonce_of(&opener.iv, number);
+    deerlapse_key_open(
+        &opener.key,
+        nonce.as_ref(),
+        aad,
+        in_out,
+        start,
+        plaintext_len,
+    )
+}
