@@ -154,6 +154,31 @@ static void refuses(const sealing *s) {
     refuses_to_open(s, s->sealed, below(TAG), s->key_len, 0);
 }
 
+/* A null pointer where the length is 0 is as good as any other. */
+static void nulls(sealing *s) {
+    uint8_t tag[TAG], other[TAG], iv[NONCE] = {0};
+    size_t len = 7;
+    deerlapse_sealer sealer;
+    s->aad_len = s->len = 0;
+    seal_by_openssl(s);
+    CHECK(CALL(deerlapse_seal(s->key, s->key_len, s->nonce, NULL, 0, NULL, 0, tag)));
+    CHECK(memcmp(tag, s->sealed, TAG) == 0);
+    memcpy(other, tag, TAG);
+    CHECK(CALL(deerlapse_open(s->key, s->key_len, s->nonce, NULL, 0, tag, TAG, 0, &len)));
+    CHECK(len == 0 && memcmp(tag, other, TAG) == 0);
+    len = 7;
+    CHECK(!CALL(deerlapse_open(s->key, s->key_len, s->nonce, NULL, 0, NULL, 0, 0, &len)));
+    CHECK(!CALL(deerlapse_seal(NULL, 0, s->nonce, NULL, 0, NULL, 0, tag)));
+    CHECK(!CALL(deerlapse_mask_aes(NULL, 0, other, tag)));
+    CHECK(!CALL(deerlapse_sealer_init(&sealer, NULL, 0, iv, 0, 1)));
+    CHECK(CALL(deerlapse_chacha20(s->key, s->nonce, 0, NULL, 0)));
+    CHECK(len == 7 && memcmp(tag, other, TAG) == 0);
+    memcpy(iv, s->nonce, NONCE);
+    CHECK(CALL(deerlapse_sealer_init(&sealer, s->key, s->key_len, iv, 0, 1)));
+    CHECK(CALL(deerlapse_sealer_seal(&sealer, NULL, 0, NULL, 0, tag)));
+    CHECK(memcmp(tag, s->sealed, TAG) == 0);
+}
+
 static void masks(void) {
     uint8_t key[32], sample[16], block[32], mask[5], zeros[5] = {0};
     int written;
@@ -248,6 +273,7 @@ int main(int argc, char **argv) {
         masks();
         chacha20(&s);
         sealer(&s, round);
+        nulls(&s);
     }
     printf("%lu random calls equal %s\n", calls, OpenSSL_version(OPENSSL_VERSION));
     return 0;

@@ -72,6 +72,16 @@ static void seals_by_a_sealer(size_t key_len, size_t len) {
     free(key);
 }
 
+/* No AAD and no message, by null pointers. */
+static void seals_nothing(size_t key_len) {
+    uint8_t *key = secret(key_len), *nonce = secret(NONCE), *tag = secret(TAG);
+    CHECK(deerlapse_seal(key, key_len, nonce, NULL, 0, NULL, 0, tag));
+    opens(key, key_len, nonce, NULL, 0, tag, TAG, 0, true);
+    free(tag);
+    free(nonce);
+    free(key);
+}
+
 static void encrypts(size_t len) {
     uint8_t *key = secret(32), *nonce = secret(NONCE), *message = secret(len);
     CHECK(deerlapse_chacha20(key, nonce, 1, message, len));
@@ -119,6 +129,8 @@ int main(int argc, char **argv) {
         }
         encrypts(lens[i]);
     }
+    seals_nothing(16);
+    seals_nothing(32);
     masks(16);
     masks(32);
     printf("%lu\n", openings);
