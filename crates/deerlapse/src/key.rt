@@ -4,10 +4,10 @@ ghost use Rattle.std.specs.Prelude.{◌≡◌, ◌-◌, ◌↔◌, length, IsTru
 ghost use Rattle.aead_ciphers_base.specs.Aes.{aes};
 ghost use Rattle.aead_ciphers_base.specs.KeyBytes.{key_bytes};
 ghost use Rattle.aead_ciphers.specs.ExpandedKey.{IsExpanded, bytes_of, zero_key};
-ghost use Rattle.aead_ciphers.specs.Gcm.{Fits, gcm_encrypted, gcm_tag, OpenedAttached};
+ghost use Rattle.aead_ciphers.specs.Gcm.{Fits, gcm_encrypted, gcm_tag, Opened, OpenedAttached};
 ghost use Rattle.deerlapse.specs.AesKey.{HasRounds, IsAesKeyLen, IsKeyOrNone};
 
-use aead_ciphers::aead::{Aad, MAX_TAG_LEN, NONCE_LEN, Nonce, Unspecified};
+use aead_ciphers::aead::{Aad, MAX_TAG_LEN, NONCE_LEN, Nonce, Tag, Unspecified};
 use aead_ciphers::aes_gcm::ExpandedKey;
 use aead_ciphers_base::aes::{AES_256_KEY_LEN, KeyBytes, Work};
 use std::mem::size_of;
@@ -27,7 +27,7 @@ pub(crate) fn aes_key(bytes: &[u8]) -> Option<KeyBytes<'_>>
 }
 
 /// Whether it has as many rounds as a key. A key of zeros has none.
-fn has_rounds(key: &ExpandedKey) -> bool
+pub(crate) fn has_rounds(key: &ExpandedKey) -> bool
     ensures { IsTrue result ↔ HasRounds key.now }
 {
     key.rounds >= 10 && key.rounds <= 14
@@ -122,4 +122,28 @@ pub extern "C" fn deerlapse_key_open(
         }
         Err(Unspecified) => false,
     }
+}
+
+/// The same with the tag apart, and the ciphertext the whole of `in_out`.
+#[unsafe(no_mangle)]
+pub extern "C" fn deerlapse_key_open_separate_tag(
+    key: &ExpandedKey,
+    nonce: &[u8; NONCE_LEN],
+    aad: &[u8],
+    in_out: &mut [u8],
+    tag: &[u8; MAX_TAG_LEN],
+) -> bool
+    requires { IsKeyOrNone key.now }
+    ensures filled { IsTrue result → HasRounds key.now }
+    ensures opened { HasRounds key.now
+        → Opened (aes (bytes_of key.now)) nonce.now aad.now tag.now 0 in_out.old result in_out.new }
+    ensures refused { IsFalse result → in_out.new ≡ in_out.old }
+{
+    if !has_rounds(key) {
+        return false;
+    }
+    let nonce = Nonce::assume_unique_for_key(*nonce);
+    let tag = Tag::from(*tag);
+    key.open_to_front(nonce, Aad::from(aad), tag, in_out, 0..)
+        .is_ok()
 }

@@ -10,6 +10,7 @@ mod key;
 mod masks;
 mod numbered_key;
 mod opener;
+mod out_of_place;
 mod sealer;
 #[cfg(test)]
 mod tests;

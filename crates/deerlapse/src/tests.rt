@@ -9,6 +9,7 @@ use crate::opener::{
     deerlapse_opener_init, deerlapse_opener_next, deerlapse_opener_open,
     deerlapse_opener_open_number,
 };
+use crate::out_of_place::{deerlapse_key_open_to, deerlapse_key_seal_to};
 use crate::sealer::{deerlapse_sealer_init, deerlapse_sealer_next, deerlapse_sealer_seal};
 use aead_ciphers::aes_gcm::ExpandedKey;
 use aead_vectors::gcm_spec::{CASES, Case};
@@ -77,6 +78,33 @@ fn seals_and_opens_by_a_key(rt: &impl Abort, alloc: Global, case: &Case) -> Resu
     deerlapse_key_wipe(&mut key);
     let again = deerlapse_key_seal(&key, &case.nonce, case.aad, &mut bytes, &mut tag);
     accepted(rt, !again, case.name);
+    Ok(())
+}
+
+/// Seals a case's message with its tag apart, from one buffer to another and back, and opens it in place.
+fn seals_and_opens_apart(rt: &impl Abort, alloc: Global, case: &Case) -> Result<(), Fail> {
+    let mut key = ExpandedKey::zeros();
+    if !deerlapse_key_init(&mut key, case.key) {
+        return Err("a key".into());
+    }
+    let (nonce, aad) = (&case.nonce, case.aad);
+    let mut sealed = vec![in alloc; 0; case.message.len()]?;
+    let mut tag = [0; 16];
+    let made = deerlapse_key_seal_to(&key, nonce, aad, case.message, &mut sealed, &mut tag);
+    accepted(rt, made, case.name);
+    same(rt, &sealed, case.ciphertext, case.name);
+    same(rt, &tag, &case.tag, case.name);
+
+    let mut message = vec![in alloc; 0; case.message.len()]?;
+    let false_tag = deerlapse_key_open_to(&key, nonce, aad, &sealed, &mut message, &[0; 16]);
+    accepted(rt, !false_tag, case.name);
+    let opened = deerlapse_key_open_to(&key, nonce, aad, &sealed, &mut message, &tag);
+    accepted(rt, opened, case.name);
+    same(rt, &message, case.message, case.name);
+
+    let opened = deerlapse_key_open_separate_tag(&key, nonce, aad, &mut sealed, &tag);
+    accepted(rt, opened, case.name);
+    same(rt, &sealed, case.message, case.name);
     Ok(())
 }
 
@@ -152,6 +180,7 @@ fn gcm_spec(rt: HostRuntime) -> Result<(), Fail> {
     for case in &CASES {
         seals_and_opens(&rt, rt.alloc(), case)?;
         seals_and_opens_by_a_key(&rt, rt.alloc(), case)?;
+        seals_and_opens_apart(&rt, rt.alloc(), case)?;
         seals_once(&rt, rt.alloc(), case)?;
         opens_once(&rt, rt.alloc(), case)?;
     }

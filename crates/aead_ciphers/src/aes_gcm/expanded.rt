@@ -6,7 +6,7 @@ ghost use Rattle.aead_ciphers_base.specs.KeyBytes.{key_bytes};
 ghost use Rattle.aead_ciphers_base.specs.Values.{aad_bytes};
 ghost use Rattle.aead_ciphers_base.specs.Work.{Adds, CanAdd};
 ghost use Rattle.aead_ciphers.specs.ExpandedKey.{IsExpanded, bytes_of, zero_key};
-ghost use Rattle.aead_ciphers.specs.Gcm.{CanOpen, CanSeal, Fits, OpenWork, SealWork, Opened, OpenedAttached, gcm_encrypted, gcm_tag};
+ghost use Rattle.aead_ciphers.specs.Gcm.{CanOpen, CanSeal, Fits, OpenWork, SealWork, Opened, OpenedAttached, gcm_decrypted, gcm_encrypted, gcm_tag};
 
 use super::{opening, sealing};
 use crate::gcm;
@@ -144,5 +144,36 @@ impl ExpandedKey {
             }
             None => Err(Unspecified),
         }
+    }
+    /// Opens a ciphertext to another buffer of its length. Refused where the lengths don't fit and where the tag is false:
+    /// then no byte of the buffer is changed.
+    pub fn open_to(
+        &self,
+        nonce: Nonce,
+        aad: Aad<'_>,
+        tag: Tag,
+        ciphertext: &[u8],
+        out: &mut [u8],
+    ) -> Result<(), Unspecified>
+        requires key { IsExpanded self.now }
+        requires lengths { length out.old ≡ length ciphertext.now }
+        ensures accepted { IsOk result ↔ (Fits (length (aad_bytes aad.entry)) (length ciphertext.now)
+            × (tag ≡ gcm_tag (aes_cipher (bytes_of self.now)) nonce (aad_bytes aad.entry) ciphertext.now)) }
+        ensures plaintext { OnOk result
+            (out.new ≡ gcm_decrypted (aes_cipher (bytes_of self.now)) nonce ciphertext.now) }
+        ensures refused { OnErr result (out.new ≡ out.old) }
+    {
+        let aes = aes::KeyRef::new(&self.round_keys, self.rounds);
+        let gcm = gcm::KeyRef::new(&self.multiples);
+        opening::open_to_with(
+            &aes,
+            &gcm,
+            nonce,
+            aad,
+            tag,
+            ciphertext,
+            out,
+            &mut Work::new(),
+        )
     }
 }

@@ -1,9 +1,11 @@
 //! Opening over any cipher and hash (SP 800-38D section 7.2).
 
-ghost use Rattle.std.specs.Prelude.{◌≡◌, length, is_ok};
+ghost use Rattle.std.specs.Prelude.{◌≡◌, ◌↔◌, length, is_ok, IsOk, IfOk, OnOk, OnErr};
 ghost use Rattle.aead_ciphers_base.specs.Bytes.{zero_block};
+ghost use Rattle.aead_ciphers_base.specs.CounterMode.{IsCounter};
 ghost use Rattle.aead_ciphers_base.specs.Values.{aad_bytes};
-ghost use Rattle.aead_ciphers.specs.Gcm.{CanOpen, OpenWork, Opened};
+ghost use Rattle.aead_ciphers_base.specs.Work.{Adds};
+ghost use Rattle.aead_ciphers.specs.Gcm.{CanOpen, CanSeal, Fits, OpenWork, Opened, gcm_decrypted, gcm_tag, sealing_products};
 
 use super::counter_mode::CounterMode;
 use super::hash::{Absorb, Unhashed, finish};
@@ -37,13 +39,65 @@ pub(super) fn open_with<A: EncryptCtr32, G: UpdateBlocks>(
     if start > in_out.len() {
         return Err(Unspecified);
     }
-    let mut auth = Context::new(gcm, aad, in_out.len() - start, work)?;
-    let mut counter = Counter::one(nonce);
-    let tag_iv = counter.increment();
-    auth.absorb(&in_out[start..], work);
-    let tag = finish(aes, auth, tag_iv, work);
-    bb::verify_slices_are_equal(tag.as_ref(), received_tag.as_ref())?;
+    let counter = authenticate(aes, gcm, nonce, aad, received_tag, &in_out[start..], work)?;
     let auth = Unhashed;
     CounterMode { aes, counter, auth }.encrypt_within(in_out, start, work);
     Ok(())
+}
+
+/// Compares the tag of a ciphertext, and then decrypts it to another buffer of its length. Refused where the lengths
+/// don't fit and where the tag is false.
+pub(super) fn open_to_with<A: EncryptCtr32, G: UpdateBlocks>(
+    aes: &A,
+    gcm: &G,
+    nonce: Nonce,
+    aad: Aad<'_>,
+    received_tag: Tag,
+    ciphertext: &[u8],
+    out: &mut [u8],
+    work: &mut Work,
+) -> Result<(), Unspecified>
+    requires sums { CanSeal work.old (length (aad_bytes aad)) (length ciphertext.now) }
+    requires subkey { G.hash_subkey gcm.now ≡ A.cipher aes.now zero_block }
+    requires lengths { length out.old ≡ length ciphertext.now }
+    ensures accepted { IsOk result ↔ (Fits (length (aad_bytes aad.entry)) (length ciphertext.now)
+        × (received_tag ≡ gcm_tag (A.cipher aes.now) nonce (aad_bytes aad.entry) ciphertext.now)) }
+    ensures plaintext { OnOk result (out.new ≡ gcm_decrypted (A.cipher aes.now) nonce ciphertext.now) }
+    ensures refused { OnErr result (out.new ≡ out.old) }
+{
+    let counter = authenticate(aes, gcm, nonce, aad, received_tag, ciphertext, work)?;
+    out.copy_from_slice(ciphertext);
+    let auth = Unhashed;
+    CounterMode { aes, counter, auth }.encrypt_within(out, 0, work);
+    Ok(())
+}
+
+/// Compares the tag of a ciphertext, and returns the counter block of its first block. Refused where the lengths don't
+/// fit and where the tag is false.
+fn authenticate<A: EncryptCtr32, G: UpdateBlocks>(
+    aes: &A,
+    gcm: &G,
+    nonce: Nonce,
+    aad: Aad<'_>,
+    received_tag: Tag,
+    ciphertext: &[u8],
+    work: &mut Work,
+) -> Result<Counter, Unspecified>
+    requires sums { CanSeal work.old (length (aad_bytes aad)) (length ciphertext.now) }
+    requires subkey { G.hash_subkey gcm.now ≡ A.cipher aes.now zero_block }
+    ensures accepted { IsOk result ↔ (Fits (length (aad_bytes aad.entry)) (length ciphertext.now)
+        × (received_tag ≡ gcm_tag (A.cipher aes.now) nonce (aad_bytes aad.entry) ciphertext.now)) }
+    ensures counter { IfOk result (λ counter. IsCounter counter nonce 2) }
+    ensures worked { Fits (length (aad_bytes aad.entry)) (length ciphertext.now)
+        → Adds work.old work.new 1 (sealing_products (length (aad_bytes aad.entry)) (length ciphertext.now)) }
+    ensures too_long { ¬ Fits (length (aad_bytes aad.entry)) (length ciphertext.now)
+        → Adds work.old work.new 0 0 }
+{
+    let mut auth = Context::new(gcm, aad, ciphertext.len(), work)?;
+    let mut counter = Counter::one(nonce);
+    let tag_iv = counter.increment();
+    auth.absorb(ciphertext, work);
+    let tag = finish(aes, auth, tag_iv, work);
+    bb::verify_slices_are_equal(tag.as_ref(), received_tag.as_ref())?;
+    Ok(counter)
 }
