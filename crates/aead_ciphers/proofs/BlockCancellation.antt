@@ -2,11 +2,13 @@
 use Rattle.std.proofs.Common.{◌≡◌, ℕ, zero, suc, List, [], ◌∷◌, length, replicate, refl, sym, ap, ap₂, ◌∙◌, arith}
 use Rattle.std.specs.Int.Bits.{xor_self as number_self}
 use Rattle.aead_ciphers_base.proofs.XorLemmas.{xor-xor, xor_comm}
-use Rattle.aead_ciphers_base.specs.Bytes.{◌⊕◌, zero_block}
-use Rattle.aead_ciphers.specs.Different.{HasInverse}
-use Rattle.aead_ciphers.specs.Ghash.{IsBlock, ◌•◌, unit_block}
-use Rattle.aead_ciphers.proofs.GhashBlocks.{IsBlock-number}
-use Rattle.aead_ciphers.proofs.GhashLaws.{Sized, Sized-product, product_assoc, product_comm, product_unit, product_xor_right}
+use Rattle.aead_ciphers.specs
+use specs.Bytes.{◌⊕◌, zero_block}
+use specs.Different.{HasInverse}
+use specs.Ghash.{IsBlock, ◌•◌, unit_block}
+use Rattle.aead_ciphers.proofs
+use proofs.GhashBlocks.{IsBlock-number}
+use proofs.GhashLaws.{Sized, Sized-product, product_assoc, product_comm, product_unit, product_xor_right}
 
 pub IsBlock-zero : IsBlock zero_block
 IsBlock-zero = IsBlock-number 0

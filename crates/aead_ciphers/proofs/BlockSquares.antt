@@ -8,10 +8,11 @@ use Rattle.aead_ciphers_base.proofs.PolynomialAction.{horner-add, horner-mul_x, 
 use Rattle.aead_ciphers_base.proofs.PolynomialBits.{Series, add, add_assoc, add_exchange, add_none, add_self, none, same_steps, scale, scale_add}
 use Rattle.aead_ciphers_base.proofs.PolynomialLaws.{modulus, one, same_coefficients}
 use Rattle.aead_ciphers.specs.Ghash.{block_taps}
-use Rattle.aead_ciphers.proofs.GhashBits.{coefficients, coefficients-xor, coefficients-zero, length-bits, mask, bits_high_first}
-use Rattle.aead_ciphers.proofs.LinearMaps.{combined, image-combined, image-zero, none_combined, twos}
-use Rattle.aead_ciphers.proofs.ProductLoop.{multiple_is, next_multiple, reduction, zeros_end}
-use Rattle.aead_ciphers.proofs.SquareTables.{differences, even_powers, given_back, given_back_is, squares_and_powers, unit}
+use Rattle.aead_ciphers.proofs
+use proofs.GhashBits.{coefficients, coefficients-xor, coefficients-zero, length-bits, mask, bits_high_first}
+use proofs.LinearMaps.{combined, image-combined, image-zero, none_combined, twos}
+use proofs.ProductLoop.{multiple_is, next_multiple, reduction, zeros_end}
+use proofs.SquareTables.{differences, even_powers, given_back, given_back_is, squares_and_powers, unit}
 
 -- the product with x
 abbrev pub X : Series → Series

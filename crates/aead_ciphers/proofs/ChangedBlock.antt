@@ -1,16 +1,18 @@
 -- One changed block: under a hash subkey that has an inverse the GHASHes differ, and so do the tags.
 use Rattle.std.proofs.Common.{◌≡◌, ◌≢◌, ℕ, List, [], ◌∷◌, ◌++◌, reverse, append_assoc, refl, sym, ap, subst, ◌∙◌}
 use Rattle.std.proofs.lemmas.List.{reverse-append}
-use Rattle.aead_ciphers_base.specs.Aes.{add_round_key, aes, cipher}
-use Rattle.aead_ciphers_base.specs.Bytes.{◌⊕◌, zero_block}
-use Rattle.aead_ciphers.specs.Different.{DifferInOneBlock, HasInverse}
-use Rattle.aead_ciphers.specs.Gcm.{hashed, gcm_tag}
-use Rattle.aead_ciphers.specs.Ghash.{IsBlock, ◌•◌, ghash}
-use Rattle.aead_ciphers.proofs.BlockCancellation.{IsBlock-zero, cancel_factor, cancel_left, cancel_right}
-use Rattle.aead_ciphers.proofs.BlockLists.{AllSized-blocks, Blocks, Each-append, Each-parts, Each-reverse}
-use Rattle.aead_ciphers.proofs.GhashLaws.{Sized, Sized-ghash, Sized-product}
-use Rattle.aead_ciphers.proofs.GhashPolynomial.{IsBlock-value, ghash_value, value_at}
-use Rattle.aead_ciphers.proofs.TagInput.{Blocks-hashed, Bytes}
+use Rattle.aead_ciphers.specs
+use specs.Aes.{add_round_key, aes, cipher}
+use specs.Bytes.{◌⊕◌, zero_block}
+use specs.Different.{DifferInOneBlock, HasInverse}
+use specs.Gcm.{hashed, gcm_tag}
+use specs.Ghash.{IsBlock, ◌•◌, ghash}
+use Rattle.aead_ciphers.proofs
+use proofs.BlockCancellation.{IsBlock-zero, cancel_factor, cancel_left, cancel_right}
+use proofs.BlockLists.{AllSized-blocks, Blocks, Each-append, Each-parts, Each-reverse}
+use proofs.GhashLaws.{Sized, Sized-ghash, Sized-product}
+use proofs.GhashPolynomial.{IsBlock-value, ghash_value, value_at}
+use proofs.TagInput.{Blocks-hashed, Bytes}
 
 module _ (h : List ℕ) (size : Sized h) (inverse : HasInverse h) where
   -- the coefficients before and after it being the same, a coefficient is known by the value

@@ -1,8 +1,9 @@
 -- Bytes encrypted in pieces: what a walk's chunks hold, and the rest.
 use Rattle.std.proofs.Common.{◌≡◌, ℕ, ◌+◌, ◌-◌, ◌<◌, ◌≤◌, List, ◌++◌, length, take, drop, replicate, refl, sym, ap, ◌∙◌, arith, length-append, length-take-le, length-drop, take_all, take_at}
 use Rattle.std.proofs.lemmas.List.{drop-take}
-use Rattle.aead_ciphers_base.specs.Bytes.{◌⊕◌}
-use Rattle.aead_ciphers_base.specs.CounterMode.{counter_block, counter_mode}
+use Rattle.aead_ciphers_base.specs
+use specs.Bytes.{◌⊕◌}
+use specs.CounterMode.{counter_block, counter_mode}
 use Rattle.aead_ciphers_base.proofs.CounterModeLemmas.{counter_mode-short, length-counter_mode, take-counter_mode, xor-reads}
 use Rattle.aead_ciphers.specs.Gcm.{padded_block}
 use Rattle.aead_ciphers.proofs.PaddedBlocks.{padded_is}

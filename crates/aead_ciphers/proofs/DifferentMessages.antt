@@ -2,10 +2,11 @@
 use Rattle.std.proofs.Common.{◌≡◌, ℕ, ◌+◌, ◌-◌, ◌*◌, ◌/◌, ◌%◌, ◌^◌, ◌<◌, List, [], ◌∷◌, ◌++◌, length, take, drop, get_or, replicate, refl, sym, ap, ap₂, ◌∙◌, arith, length-append, append_assoc, drop_at, ext_get_or, take_at}
 use Rattle.std.specs.Int.{from_be_bytes, to_be_bytes, w64}
 use Rattle.std.proofs.lemmas.Nat.{from_be_bytes-to_be_bytes_8}
-use Rattle.aead_ciphers_base.specs.Bytes.{zero_block}
+use Rattle.aead_ciphers.specs
+use specs.Bytes.{zero_block}
 use Rattle.aead_ciphers_base.proofs.EachLemmas.{get_or-each}
-use Rattle.aead_ciphers.specs.Different.{DifferWhenPadded, zeros_before}
-use Rattle.aead_ciphers.specs.Gcm.{Fits, hashed, length_block, padded_block, padded_blocks, sealing_products}
+use specs.Different.{DifferWhenPadded, zeros_before}
+use specs.Gcm.{Fits, hashed, length_block, padded_block, padded_blocks, sealing_products}
 use Rattle.aead_ciphers.proofs.TagInput.{count_hashed, length-padded_blocks}
 
 -- equal lists, cut at one place

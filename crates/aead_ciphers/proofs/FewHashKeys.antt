@@ -1,18 +1,21 @@
 -- Two lists of blocks that differ when padded have GHASHes with a given XOR under few hash subkeys: under each, a polynomial
 -- that isn't zero has a root.
 use Rattle.std.proofs.Common.{◌≡◌, ℕ, zero, suc, ◌-◌, ◌<◌, ◌≤◌, ⊎_elim, max, List, [], ◌∷◌, ◌++◌, length, replicate, reverse, All, AllPairs, get_or, refl, sym, ap, ap₂, subst, ◌∙◌, arith, length-append}
-use Rattle.std.proofs.lemmas.Bool.{cases_lt}
-use Rattle.std.proofs.lemmas.List.{length-replicate, length-reverse, reverse-reverse}
+use Rattle.std.proofs.lemmas
+use lemmas.Bool.{cases_lt}
+use lemmas.List.{length-replicate, length-reverse, reverse-reverse}
 use Rattle.aead_ciphers_base.proofs.XorLemmas.{xor_comm}
-use Rattle.aead_ciphers_base.specs.Bytes.{◌⊕◌, zero_block}
-use Rattle.aead_ciphers.specs.Different.{DifferWhenPadded, HasInverse, zeros_before}
-use Rattle.aead_ciphers.specs.Ghash.{IsBlock, ghash, power, xor_blocks}
-use Rattle.aead_ciphers.proofs.BlockCancellation.{IsBlock-zero, product_zero, same_of_xor, xor_self}
-use Rattle.aead_ciphers.proofs.BlockLists.{AllSized-blocks, Blocks, Each-reverse}
-use Rattle.std.proofs.lemmas.List.Elements.{recursion_from_All}
-use Rattle.aead_ciphers.proofs.GhashLaws.{IsBlock-xor, Sized, Sized-ghash, Sized-power, ghash_xor, length-xor_blocks, product_comm, xor_zero}
-use Rattle.aead_ciphers.proofs.GhashPolynomial.{ghash_value, value_at}
-use Rattle.aead_ciphers.proofs.RootsOfBlocks.{EachAt, Zeros, all_zero}
+use Rattle.aead_ciphers.specs
+use specs.Bytes.{◌⊕◌, zero_block}
+use specs.Different.{DifferWhenPadded, HasInverse, zeros_before}
+use specs.Ghash.{IsBlock, ghash, power, xor_blocks}
+use Rattle.aead_ciphers.proofs
+use proofs.BlockCancellation.{IsBlock-zero, product_zero, same_of_xor, xor_self}
+use proofs.BlockLists.{AllSized-blocks, Blocks, Each-reverse}
+use lemmas.List.Elements.{recursion_from_All}
+use proofs.GhashLaws.{IsBlock-xor, Sized, Sized-ghash, Sized-power, ghash_xor, length-xor_blocks, product_comm, xor_zero}
+use proofs.GhashPolynomial.{ghash_value, value_at}
+use proofs.RootsOfBlocks.{EachAt, Zeros, all_zero}
 
 -- ---- zero blocks in front
 

@@ -1,17 +1,19 @@
 -- Few hash subkeys accept two messages that differ.
 use Rattle.std.proofs.Common.{◌≡◌, ◌≢◌, ℕ, ◌≤◌, max, List, [], length, get_or, All, AllPairs, sym, ap, ap₂, subst, ◌∙◌, arith}
 use Rattle.aead_ciphers_base.proofs.XorLemmas.{xor_exchange}
-use Rattle.aead_ciphers_base.specs.Bytes.{◌⊕◌}
-use Rattle.aead_ciphers.specs.Different.{HasInverse, masked_tag}
-use Rattle.aead_ciphers.specs.Gcm.{Fits, hashed, sealing_products}
-use Rattle.aead_ciphers.specs.Ghash.{IsBlock, ghash}
-use Rattle.aead_ciphers.proofs.BlockCancellation.{same_of_xor, xor_self}
-use Rattle.aead_ciphers.proofs.BlockInverse.{has_inverse}
-use Rattle.aead_ciphers.proofs.BlockLists.{AllSized-blocks}
-use Rattle.aead_ciphers.proofs.DifferentMessages.{different_messages}
-use Rattle.aead_ciphers.proofs.FewHashKeys.{few_keys}
-use Rattle.aead_ciphers.proofs.GhashLaws.{IsBlock-xor, Sized, Sized-ghash, Sized-xor, xor_zero}
-use Rattle.aead_ciphers.proofs.TagInput.{Blocks-hashed, Bytes, count_hashed}
+use Rattle.aead_ciphers.specs
+use specs.Bytes.{◌⊕◌}
+use specs.Different.{HasInverse, masked_tag}
+use specs.Gcm.{Fits, hashed, sealing_products}
+use specs.Ghash.{IsBlock, ghash}
+use Rattle.aead_ciphers.proofs
+use proofs.BlockCancellation.{same_of_xor, xor_self}
+use proofs.BlockInverse.{has_inverse}
+use proofs.BlockLists.{AllSized-blocks}
+use proofs.DifferentMessages.{different_messages}
+use proofs.FewHashKeys.{few_keys}
+use proofs.GhashLaws.{IsBlock-xor, Sized, Sized-ghash, Sized-xor, xor_zero}
+use proofs.TagInput.{Blocks-hashed, Bytes, count_hashed}
 
 -- one mask falls out of the XOR of two tags
 unmasked : (x y mask : List ℕ) → Sized x → Sized y → Sized mask → x ⊕ y ≡ (x ⊕ mask) ⊕ (y ⊕ mask)

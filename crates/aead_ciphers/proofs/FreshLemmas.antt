@@ -1,19 +1,21 @@
 -- Sealing calls spend fresh nonces.
-use Rattle.std.proofs.Common.{◌≡◌, ℕ, ◌<◌, ◌≤◌, List, [], ◌∷◌, ◌++◌, Bool, length, length-append, take, get_or, Contains, inl, inr, sym, ap, ◌∙◌, subst, arith, get_or-take, length-take, take-take, Some, slice_get}
-use Rattle.std.proofs.Math.ListN.{get_or-append}
-use Rattle.std.proofs.Math.Seq.{take-length, take-append_seam, get_or-append_seam}
-use Rattle.std.proofs.lemmas.Bool.{cases_lt}
-use Rattle.std.proofs.lemmas.List.Elements.{Contains-get_or}
-use Rattle.std.proofs.lemmas.Option.{get_or_from_slice_get, slice_get-get_or}
+use Rattle.std.proofs
+use proofs.Common.{◌≡◌, ℕ, ◌<◌, ◌≤◌, List, [], ◌∷◌, ◌++◌, Bool, length, length-append, take, get_or, Contains, inl, inr, sym, ap, ◌∙◌, subst, arith, get_or-take, length-take, take-take, Some, slice_get}
+use proofs.Math.ListN.{get_or-append}
+use proofs.Math.Seq.{take-length, take-append_seam, get_or-append_seam}
+use proofs.lemmas.Bool.{cases_lt}
+use proofs.lemmas.List.Elements.{Contains-get_or}
+use proofs.lemmas.Option.{get_or_from_slice_get, slice_get-get_or}
 use Rattle.std.specs.Prelude.{⊤}
-use Rattle.aead_ciphers.specs.BoundState.{BoundState}
-use Rattle.aead_ciphers.specs.FreshNonces.{GrewFresh, SealCalls}
-use Rattle.aead_ciphers.specs.NonceSequence.{Appends}
-use Rattle.aead_ciphers.specs.Runs.{Performs, Run}
-use Rattle.aead_ciphers.specs.declared.session.Job.{Job}
-use Rattle.aead_ciphers.specs.declared.session.Operation.{Operation}
-use Rattle.aead_ciphers.specs.declared.session.Operation.TheVariants.{Seal, Open}
-use Rattle.aead_ciphers.specs.Steps.{SealStep, no_room, no_nonce, too_long, sealed}
+use Rattle.aead_ciphers.specs
+use specs.BoundState.{BoundState}
+use specs.FreshNonces.{GrewFresh, SealCalls}
+use specs.NonceSequence.{Appends}
+use specs.Runs.{Performs, Run}
+use specs.declared.session.Job.{Job}
+use specs.declared.session.Operation.{Operation}
+use specs.declared.session.Operation.TheVariants.{Seal, Open}
+use specs.Steps.{SealStep, no_room, no_nonce, too_long, sealed}
 
 -- two places of a list hold the same exactly where reading them gives the same
 read_same : (xs : List (List ℕ)) (i j : ℕ) → j < length xs → slice_get xs i ≡ slice_get xs j → get_or xs i [] ≡ get_or xs j []

@@ -5,16 +5,19 @@ use Rattle.std.proofs.Math.Nat.{mod_self}
 use Rattle.std.specs.Int.{bit_at}
 use Rattle.std.specs.Int.Bits.{and_zero_r}
 use Rattle.std.proofs.Math.ListN.{get_or-eq_default}
-use Rattle.std.proofs.lemmas.Nat.{and_mask}
-use Rattle.std.proofs.lemmas.Nat.Bits.{bit_at_xor, bit_at-zero, bit_at-suc, bit_at-lt, bit_at_above}
-use Rattle.std.proofs.lemmas.List.{reverse-append}
-use Rattle.aead_ciphers_base.specs.ByteField.{bits_of}
-use Rattle.aead_ciphers_base.specs.Polynomial.{◌xor◌, coefficient}
-use Rattle.aead_ciphers_base.proofs.PolynomialBits.{Series, add, add_assoc, add_none, add_self, none, same_series, same_steps, scale, shift, shift-add, xor_zero}
-use Rattle.aead_ciphers_base.proofs.PolynomialSums.{polynomial_sum, coefficient-polynomial_sum}
-use Rattle.aead_ciphers_base.proofs.NumberBits.{by_digits}
-use Rattle.aead_ciphers_base.proofs.PolynomialAction.{mul_x}
-use Rattle.aead_ciphers_base.proofs.PolynomialLaws.{AllBelow, modulus, monomial, monomial_same, mul_x-high, mul_x-low, tap_bits}
+use Rattle.std.proofs.lemmas
+use lemmas.Nat.{and_mask}
+use lemmas.Nat.Bits.{bit_at_xor, bit_at-zero, bit_at-suc, bit_at-lt, bit_at_above}
+use lemmas.List.{reverse-append}
+use Rattle.aead_ciphers_base.specs
+use specs.ByteField.{bits_of}
+use specs.Polynomial.{◌xor◌, coefficient}
+use Rattle.aead_ciphers_base.proofs
+use proofs.PolynomialBits.{Series, add, add_assoc, add_none, add_self, none, same_series, same_steps, scale, shift, shift-add, xor_zero}
+use proofs.PolynomialSums.{polynomial_sum, coefficient-polynomial_sum}
+use proofs.NumberBits.{by_digits}
+use proofs.PolynomialAction.{mul_x}
+use proofs.PolynomialLaws.{AllBelow, modulus, monomial, monomial_same, mul_x-high, mul_x-low, tap_bits}
 
 -- the lowest k bits of n, the highest of them first
 unfoldable pub bits_high_first : ℕ → ℕ → List Bool

@@ -2,20 +2,23 @@
 use Rattle.std.proofs.Common.{◌≡◌, ℕ, zero, suc, ◌+◌, ◌*◌, ◌/◌, ◌%◌, ◌^◌, ◌<◌, Bool, List, [], ◌∷◌, length, get_or, flat_map, map, All, refl, sym, ap, ap₂, subst, ◌∙◌, arith, pow-suc, length-append, reverse}
 use Rattle.std.specs.Int.{bytes_high_first, byte_at, to_be_bytes, from_be_bytes, w128}
 use Rattle.std.proofs.Math.Dec.{lit<}
-use Rattle.std.proofs.lemmas.Nat.{div-mul-add, mod-mul-add, mod_below, mul-add-lt}
+use Rattle.std.proofs.lemmas
+use lemmas.Nat.{div-mul-add, mod-mul-add, mod_below, mul-add-lt}
 use Rattle.std.specs.List.{range_with_len}
-use Rattle.std.proofs.lemmas.List.FromFn.{fill_by_all}
-use Rattle.std.proofs.lemmas.List.{get_or_default, length-reverse, reverse-reverse}
-use Rattle.aead_ciphers_base.specs.Polynomial.{coefficient, field_product}
+use lemmas.List.FromFn.{fill_by_all}
+use lemmas.List.{get_or_default, length-reverse, reverse-reverse}
+use Rattle.aead_ciphers_base.specs
+use specs.Polynomial.{coefficient, field_product}
 use Rattle.aead_ciphers.specs.Ghash.{IsBlock, block_bits, block_of, ◌•◌, block_taps}
-use Rattle.aead_ciphers_base.proofs.PolynomialBits.{Series}
-use Rattle.aead_ciphers_base.proofs.PolynomialAction.{times}
-use Rattle.aead_ciphers_base.proofs.PolynomialLaws.{field_product_is, length-field_product, modulus, same_coefficients}
+use Rattle.aead_ciphers_base.proofs
+use proofs.PolynomialBits.{Series}
+use proofs.PolynomialAction.{times}
+use proofs.PolynomialLaws.{field_product_is, length-field_product, modulus, same_coefficients}
 use Rattle.aead_ciphers.proofs.GhashBits.{length-bits, bits_high_first, reverse-bits_of}
-use Rattle.std.proofs.lemmas.List.Elements.{All-cons, All-head, All-tail}
+use lemmas.List.Elements.{All-cons, All-head, All-tail}
 use Rattle.aead_ciphers.proofs.GhashBytes.{block_bits_of_number, number, number_of_bits, power_256, byte_at_is, block_bits-is}
-use Rattle.aead_ciphers_base.proofs.NumberBits.{bits_of-value_of}
-use Rattle.aead_ciphers_base.specs.ByteField.{bits_of}
+use proofs.NumberBits.{bits_of-value_of}
+use specs.ByteField.{bits_of}
 use Rattle.aead_ciphers.proofs.ProductLoop.{block_low}
 
 -- ---- bytes back from bits

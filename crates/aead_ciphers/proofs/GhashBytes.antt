@@ -1,12 +1,14 @@
 -- The bits of a number's big-endian bytes are the number's bits.
-use Rattle.std.proofs.Common.{◌≡◌, ℕ, List, [], zero, suc, ◌+◌, ◌*◌, ◌/◌, ◌%◌, ◌^◌, ◌<◌, ◌≤◌, Bool, ◌∷◌, ◌++◌, flat_map, refl, sym, ap, ap₂, ◌∙◌, arith, ◌==◌, zero-add, pow-suc, div-one, bit_xor, pow-add, reverse}
+use Rattle.std.proofs
+use proofs.Common.{◌≡◌, ℕ, List, [], zero, suc, ◌+◌, ◌*◌, ◌/◌, ◌%◌, ◌^◌, ◌<◌, ◌≤◌, Bool, ◌∷◌, ◌++◌, flat_map, refl, sym, ap, ap₂, ◌∙◌, arith, ◌==◌, zero-add, pow-suc, div-one, bit_xor, pow-add, reverse}
 use Rattle.std.specs.Int.{bytes_high_first, byte_at, to_be_bytes, w128}
-use Rattle.std.proofs.lemmas.Nat.{xor_shr, xor_mod}
-use Rattle.std.proofs.lemmas.List.{reverse-reverse}
-use Rattle.aead_ciphers_base.specs.ByteField.{bits_of, value_of}
+use proofs.lemmas.Nat.{xor_shr, xor_mod}
+use proofs.lemmas.List.{reverse-reverse}
+use Rattle.aead_ciphers_base.specs
+use specs.ByteField.{bits_of, value_of}
 use Rattle.aead_ciphers_base.proofs.NumberBits.{bit_at-mod, bit_at-shr, value_of-bits_of}
-use Rattle.aead_ciphers_base.specs.Polynomial.{field_product}
-use Rattle.aead_ciphers_base.specs.Bytes.{◌⊕◌}
+use specs.Polynomial.{field_product}
+use specs.Bytes.{◌⊕◌}
 use Rattle.aead_ciphers.proofs.GhashBits.{bits_high_first, reverse-bits_of}
 use Rattle.aead_ciphers.specs.Ghash.{block_bits, block_of, ◌•◌, block_taps}
 

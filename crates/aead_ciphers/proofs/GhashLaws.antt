@@ -1,15 +1,17 @@
 -- The ring of blocks, and GHASH of one block more.
 use Rattle.std.proofs.Common.{◌≡◌, ℕ, zero, suc, ◌<◌, Bool, true, false, List, [], ◌∷◌, ◌++◌, length, get_or, replicate, flat_map, refl, sym, ap, ap₂, ◌∙◌, arith, length-append, add-one}
-use Rattle.aead_ciphers_base.proofs.XorLemmas.{bytes-xor, length-xor, xor_assoc, xor_comm, xor_exchange, xor_zeros}
-use Rattle.aead_ciphers_base.specs.Polynomial.{◌xor◌, coefficient}
-use Rattle.aead_ciphers_base.specs.Bytes.{◌⊕◌, zero_block}
+use Rattle.aead_ciphers_base.proofs
+use proofs.XorLemmas.{bytes-xor, length-xor, xor_assoc, xor_comm, xor_exchange, xor_zeros}
+use Rattle.aead_ciphers_base.specs
+use specs.Polynomial.{◌xor◌, coefficient}
+use specs.Bytes.{◌⊕◌, zero_block}
 use Rattle.aead_ciphers.specs.Ghash.{IsBlock, block_bits, ◌•◌, unit_block, power, ghash, AllSized, xor_blocks, block_taps}
-use Rattle.aead_ciphers_base.proofs.PolynomialBits.{add, same_series, same_steps}
-use Rattle.aead_ciphers_base.proofs.PolynomialAction.{horner-add, times_swap}
-use Rattle.aead_ciphers_base.proofs.PolynomialLaws.{modulus, one, times_one}
+use proofs.PolynomialBits.{add, same_series, same_steps}
+use proofs.PolynomialAction.{horner-add, times_swap}
+use proofs.PolynomialLaws.{modulus, one, times_one}
 use Rattle.aead_ciphers.proofs.GhashBytes.{block_bits-is}
 use Rattle.aead_ciphers.proofs.GhashBits.{bits-xor, length-bits, bits_high_first}
-use Rattle.aead_ciphers_base.proofs.PolynomialSums.{polynomial_sum, coefficient-polynomial_sum}
+use proofs.PolynomialSums.{polynomial_sum, coefficient-polynomial_sum}
 use Rattle.aead_ciphers.proofs.GhashBlocks.{series, block_times, same_from_series, series-product, IsBlock-product, length-block_bits}
 use Rattle.aead_ciphers.proofs.ProductLoop.{block_low, zeros_end}
 

@@ -2,12 +2,14 @@
 use Rattle.std.proofs.Common.{◌≡◌, ℕ, List, [], ◌∷◌, reverse, sym, ap, ◌∙◌}
 use Rattle.std.proofs.lemmas.List.{reverse-append, reverse-reverse}
 use Rattle.aead_ciphers_base.proofs.XorLemmas.{xor_comm}
-use Rattle.aead_ciphers_base.specs.Bytes.{◌⊕◌, zero_block}
-use Rattle.aead_ciphers.specs.Ghash.{IsBlock, ◌•◌, ghash}
-use Rattle.aead_ciphers.proofs.BlockCancellation.{IsBlock-zero, product_zero}
-use Rattle.aead_ciphers.proofs.BlockLists.{AllSized-blocks, Blocks, Each-reverse}
-use Rattle.aead_ciphers.proofs.GhashBlocks.{IsBlock-product}
-use Rattle.aead_ciphers.proofs.GhashLaws.{IsBlock-xor, Sized, Sized-product, Sized-xor, ghash_more, product_comm}
+use Rattle.aead_ciphers.specs
+use specs.Bytes.{◌⊕◌, zero_block}
+use specs.Ghash.{IsBlock, ◌•◌, ghash}
+use Rattle.aead_ciphers.proofs
+use proofs.BlockCancellation.{IsBlock-zero, product_zero}
+use proofs.BlockLists.{AllSized-blocks, Blocks, Each-reverse}
+use proofs.GhashBlocks.{IsBlock-product}
+use proofs.GhashLaws.{IsBlock-xor, Sized, Sized-product, Sized-xor, ghash_more, product_comm}
 
 -- the value at h of the polynomial with these coefficients, the constant one first
 abbrev pub value_at : List ℕ → List (List ℕ) → List ℕ

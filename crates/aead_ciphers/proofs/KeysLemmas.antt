@@ -1,8 +1,9 @@
 -- What the outcome of a job says of its buffer.
 use Rattle.std.proofs.Common.{◌≡◌, ℕ, ◌-◌, ◌≤◌, Bool, true, false, List, length, Ok, refl, if◌then◌else◌}
-use Rattle.aead_ciphers.specs.BoundState.{BoundState}
-use Rattle.aead_ciphers.specs.Steps.{OpenStep}
-use Rattle.aead_ciphers.specs.declared.session.Outcome.TheVariants.{Opened, Refused}
+use Rattle.aead_ciphers.specs
+use specs.BoundState.{BoundState}
+use specs.Steps.{OpenStep}
+use specs.declared.session.Outcome.TheVariants.{Opened, Refused}
 use Rattle.aead_ciphers.proofs.LentPlaintext.{step_fronts}
 
 -- the plaintext of a job that opened is within the buffer

@@ -4,10 +4,11 @@ use Rattle.std.proofs.Math.Dec.{lit<}
 use Rattle.std.specs.Int.Bits.{xor_self, xor_zero_l, xor_zero_r}
 use Rattle.std.proofs.lemmas.Nat.{xor_lt}
 use Rattle.aead_ciphers_base.specs.Polynomial.{◌xor◌}
-use Rattle.aead_ciphers_base.proofs.AdditiveLemmas.{xor_four}
-use Rattle.aead_ciphers_base.proofs.BytesLemmas.{same_of_xor}
+use Rattle.aead_ciphers_base.proofs
+use proofs.AdditiveLemmas.{xor_four}
+use proofs.BytesLemmas.{same_of_xor}
 use Rattle.aead_ciphers.proofs.GhashBits.{bits-xor, length-bits, bits_high_first}
-use Rattle.aead_ciphers_base.proofs.PolynomialSums.{polynomial_sum}
+use proofs.PolynomialSums.{polynomial_sum}
 
 -- the XOR of those of the numbers whose bit is true
 abbrev pub combined : List Bool → List ℕ → ℕ

@@ -1,11 +1,12 @@
 -- What an opening call says of the next nonce.
 use Rattle.std.proofs.Common.{◌≡◌, ℕ, ◌-◌, Bool, IsErr, List, length, drop, take, is_ok, IfOk, OnOk, OnErr, Ok, Err, Result, refl, subst, ◌∙◌}
 use Rattle.std.specs.Borrow.{MutBor}
-use Rattle.aead_ciphers_base.specs.Aes.{aes}
-use Rattle.aead_ciphers.specs.Gcm.{gcm_decrypted, OpenedAttached}
-use Rattle.aead_ciphers.specs.BoundState.{BoundState}
-use Rattle.aead_ciphers.specs.NonceSequence.{UnderNext}
-use Rattle.aead_ciphers.specs.Steps.{OpenStep, Refuses, no_nonce}
+use Rattle.aead_ciphers.specs
+use specs.Aes.{aes}
+use specs.Gcm.{gcm_decrypted, OpenedAttached}
+use specs.BoundState.{BoundState}
+use specs.NonceSequence.{UnderNext}
+use specs.Steps.{OpenStep, Refuses, no_nonce}
 use Rattle.aead_ciphers.proofs.LentPlaintext.{length-before_tag, stands, front_of, Lent}
 
 -- the plaintext under the nonce that was given is that under the next one

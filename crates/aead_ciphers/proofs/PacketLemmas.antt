@@ -1,10 +1,11 @@
 -- A packet that is sealed in place.
 use Rattle.std.proofs.Common.{◌≡◌, ℕ, ◌+◌, ◌-◌, ◌<◌, ◌≤◌, ◌↔◌, List, Bool, false, length, drop, take, is_ok, IsOk, IsErr, OnOk, OnErr, Ok, Err, Result, refl, ap, ◌∙◌, arith, length-drop, drop_at, length-take-le}
-use Rattle.aead_ciphers.specs.BoundState.{BoundState}
-use Rattle.aead_ciphers.specs.Gcm.{Fits}
-use Rattle.aead_ciphers.specs.NonceSequence.{Closes}
-use Rattle.aead_ciphers.specs.Packet.{PacketFits, packet_message, packet_body, sealed_packet}
-use Rattle.aead_ciphers.specs.Steps.{SealStep, no_room, no_nonce, too_long, sealed, Spends}
+use Rattle.aead_ciphers.specs
+use specs.BoundState.{BoundState}
+use specs.Gcm.{Fits}
+use specs.NonceSequence.{Closes}
+use specs.Packet.{PacketFits, packet_message, packet_body, sealed_packet}
+use specs.Steps.{SealStep, no_room, no_nonce, too_long, sealed, Spends}
 
 -- a sealing that found no room
 pub packet_no_room : {N : Type 0} (spent : N → List (List ℕ)) (is_closed : N → Bool) (was : BoundState N) (h : ℕ) (old : List ℕ)

@@ -1,14 +1,17 @@
 -- Blocks padded with zeros, those of lists joined, and the length block.
 use Rattle.std.proofs.Common.{◌≡◌, ℕ, zero, suc, ◌+◌, ◌-◌, ◌*◌, ◌/◌, ◌<◌, ◌≤◌, min, List, [], ◌∷◌, ◌++◌, length, take, drop, get_or, replicate, refl, sym, ap, ap₂, ◌∙◌, arith, inl, inr, append_assoc, length-take-le, take-append-drop, take_at, drop_at, append-nil, length-append, length-drop, get_or-append-add}
 use Rattle.std.specs.Int.{to_be_bytes, w64}
-use Rattle.std.proofs.lemmas.List.{nil_from_length, drop_all, get_or_append_left, get_or-append_right, get_or-replicate, drop-replicate, get_or_past}
-use Rattle.std.proofs.lemmas.List.FromFn.{fill_by_all}
-use Rattle.std.proofs.lemmas.Bool.{cases_lt}
-use Rattle.aead_ciphers_base.specs.Blocks.{blocks}
-use Rattle.aead_ciphers_base.specs.Bytes.{each_below}
-use Rattle.aead_ciphers_base.proofs.BlocksLemmas.{blocks_cons, blocks_short}
-use Rattle.aead_ciphers_base.proofs.EachLemmas.{each-same, each-append}
-use Rattle.aead_ciphers.specs.Gcm.{padded_block, padded_blocks, length_block}
+use Rattle.std.proofs.lemmas
+use lemmas.List.{nil_from_length, drop_all, get_or_append_left, get_or-append_right, get_or-replicate, drop-replicate, get_or_past}
+use lemmas.List.FromFn.{fill_by_all}
+use lemmas.Bool.{cases_lt}
+use Rattle.aead_ciphers.specs
+use specs.Blocks.{blocks}
+use specs.Bytes.{each_below}
+use Rattle.aead_ciphers_base.proofs
+use proofs.BlocksLemmas.{blocks_cons, blocks_short}
+use proofs.EachLemmas.{each-same, each-append}
+use specs.Gcm.{padded_block, padded_blocks, length_block}
 
 -- a part and the zeros after it
 pub padded_is : (part : List ℕ) → length part ≤ 16 → part ++ drop (length part) (replicate 16 0) ≡ padded_block part 0

@@ -2,12 +2,14 @@
 use Rattle.std.proofs.Common.{◌≡◌, ℕ, zero, suc, ◌/◌, ◌^◌, ◌<◌, Bool, true, false, List, ◌∷◌, replicate, refl, sym, ap, ap₂, subst, ◌∙◌, arith, ◌==◌, bit_and, bit_xor}
 use Rattle.std.specs.Int.{bit_at}
 use Rattle.std.proofs.Math.Dec.{lit<}
-use Rattle.std.proofs.lemmas.Nat.{and_mask}
-use Rattle.std.proofs.lemmas.Nat.Bits.{bit_at_lowest, bit_at-lt}
+use Rattle.std.proofs.lemmas
+use lemmas.Nat.{and_mask}
+use lemmas.Nat.Bits.{bit_at_lowest, bit_at-lt}
 use Rattle.aead_ciphers_base.specs.Polynomial.{coefficient}
-use Rattle.aead_ciphers_base.proofs.PolynomialBits.{add, same_series, same_steps, scale, shift}
-use Rattle.aead_ciphers_base.proofs.PolynomialAction.{mul_x}
-use Rattle.aead_ciphers_base.proofs.PolynomialLaws.{AllBelow, modulus, tap_bits, taps_above}
+use Rattle.aead_ciphers_base.proofs
+use proofs.PolynomialBits.{add, same_series, same_steps, scale, shift}
+use proofs.PolynomialAction.{mul_x}
+use proofs.PolynomialLaws.{AllBelow, modulus, tap_bits, taps_above}
 use Rattle.aead_ciphers.specs.Ghash.{block_taps}
 use Rattle.aead_ciphers.proofs.GhashBits.{coefficients, length-bits, coefficients-xor, mask, coefficients-masked, bits-push, bits-half, mul_x-push, bits_high_first}
 

@@ -2,13 +2,15 @@
 use Rattle.std.proofs.Common.{◌≡◌, ℕ, suc, ◌<◌, ◌≤◌, List, [], ◌∷◌, length, get_or, AllPairs, refl, sym, ap, ap₂, ◌∙◌, arith}
 use Rattle.std.specs.List.{AllByRecursion}
 use Rattle.aead_ciphers_base.proofs.XorLemmas.{xor_assoc, xor_comm, xor_exchange}
-use Rattle.aead_ciphers_base.specs.Bytes.{◌⊕◌, zero_block}
-use Rattle.aead_ciphers.specs.Different.{HasInverse}
-use Rattle.aead_ciphers.specs.Ghash.{◌•◌}
-use Rattle.aead_ciphers.proofs.BlockCancellation.{IsBlock-zero, cancel_factor, cancel_left, product_zero, same_of_xor, xor_self}
-use Rattle.aead_ciphers.proofs.BlockLists.{Blocks}
-use Rattle.aead_ciphers.proofs.GhashLaws.{Sized, Sized-product, Sized-xor, product_left_swap, product_xor_left, product_xor_right, xor_zero}
-use Rattle.aead_ciphers.proofs.GhashPolynomial.{IsBlock-value, value_at}
+use Rattle.aead_ciphers.specs
+use specs.Bytes.{◌⊕◌, zero_block}
+use specs.Different.{HasInverse}
+use specs.Ghash.{◌•◌}
+use Rattle.aead_ciphers.proofs
+use proofs.BlockCancellation.{IsBlock-zero, cancel_factor, cancel_left, product_zero, same_of_xor, xor_self}
+use proofs.BlockLists.{Blocks}
+use proofs.GhashLaws.{Sized, Sized-product, Sized-xor, product_left_swap, product_xor_left, product_xor_right, xor_zero}
+use proofs.GhashPolynomial.{IsBlock-value, value_at}
 
 -- each of the list is the zero block
 abbrev pub Zeros : List (List ℕ) → Type 0

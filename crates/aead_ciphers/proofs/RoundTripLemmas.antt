@@ -1,11 +1,13 @@
 -- Opening undoes sealing.
-use Rattle.std.proofs.Common.{◌≡◌, ◌∙◌, refl, sym, ap₂, subst, arith, ℕ, List, ◌++◌, length, append-nil, drop_of_length-le, All, Some, slice_get}
-use Rattle.std.proofs.lemmas.List.Elements.{All-get_or}
-use Rattle.std.proofs.lemmas.Option.{get_or_from_slice_get, slice_get_within}
-use Rattle.aead_ciphers_base.specs.Aes.{aes}
+use Rattle.std.proofs
+use proofs.Common.{◌≡◌, ◌∙◌, refl, sym, ap₂, subst, arith, ℕ, List, ◌++◌, length, append-nil, drop_of_length-le, All, Some, slice_get}
+use proofs.lemmas.List.Elements.{All-get_or}
+use proofs.lemmas.Option.{get_or_from_slice_get, slice_get_within}
+use Rattle.aead_ciphers.specs
+use specs.Aes.{aes}
 use Rattle.aead_ciphers_base.proofs.CounterModeLemmas.{counter_mode-twice, length-counter_mode}
-use Rattle.aead_ciphers.specs.Gcm.{Fits, gcm_encrypted}
-use Rattle.aead_ciphers.specs.Laws.{OpensAgain}
+use specs.Gcm.{Fits, gcm_encrypted}
+use specs.Laws.{OpensAgain}
 
 -- what holds of each item holds of the one at a place
 pub All-slice_get : {X : Type 0} (P : X → Type 0) (xs : List X) (i : ℕ) (x : X) → All P xs → slice_get xs i ≡ Some x → P x

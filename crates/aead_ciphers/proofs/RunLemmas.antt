@@ -1,9 +1,10 @@
 -- A run grows by one step at its end.
-use Rattle.std.proofs.Common.{◌≡◌, ℕ, ◌+◌, ◌<◌, List, [], ◌∷◌, ◌++◌, length, take, drop, get_or, set, refl, sym, ap, ◌∙◌, subst, arith, add-zero, drop-set-lt, get_or-drop}
-use Rattle.std.proofs.lemmas.List.{take_more, take_more_set}
-use Rattle.std.proofs.lemmas.List.Elements.{AllZip-push}
-use Rattle.std.proofs.Math.Seq.{drop-cons}
-use Rattle.std.proofs.Math.Numerals.{add-one}
+use Rattle.std.proofs
+use proofs.Common.{◌≡◌, ℕ, ◌+◌, ◌<◌, List, [], ◌∷◌, ◌++◌, length, take, drop, get_or, set, refl, sym, ap, ◌∙◌, subst, arith, add-zero, drop-set-lt, get_or-drop}
+use proofs.lemmas.List.{take_more, take_more_set}
+use proofs.lemmas.List.Elements.{AllZip-push}
+use proofs.Math.Seq.{drop-cons}
+use proofs.Math.Numerals.{add-one}
 use Rattle.std.specs.List.{AllZip}
 use Rattle.aead_ciphers.specs.Runs.{Runs}
 

@@ -2,15 +2,17 @@
 use Rattle.std.proofs.Common.{◌≡◌, ℕ, ◌+◌, ◌-◌, ◌*◌, ◌/◌, ◌%◌, ◌≤◌, List, [], ◌∷◌, ◌++◌, length, take, drop, bit_xor, refl, sym, ap, ap₂, subst, ◌∙◌, arith, append_assoc, append-nil, length-drop, length-take-le, take_all, take-append-drop}
 use Rattle.std.specs.Int.{to_be_bytes, w128}
 use Rattle.std.proofs.Math.Seq.{take-add}
-use Rattle.aead_ciphers_base.specs.Blocks.{blocks}
-use Rattle.aead_ciphers_base.specs.Bytes.{◌⊕◌, zero_block}
+use Rattle.aead_ciphers.specs
+use specs.Blocks.{blocks}
+use specs.Bytes.{◌⊕◌, zero_block}
 use Rattle.aead_ciphers_base.specs.CounterMode.{counter_block}
-use Rattle.aead_ciphers.specs.Gcm.{hashed, length_block, padded_blocks, gcm_tag}
-use Rattle.aead_ciphers.specs.Ghash.{◌•◌, ghash}
-use Rattle.aead_ciphers.specs.HashOf.{Absorbs, HashState, IsHashOf}
-use Rattle.aead_ciphers.proofs.GhashBytes.{to_be_bytes-xor}
-use Rattle.aead_ciphers.proofs.GhashLaws.{AllSized-append, ghash_more}
-use Rattle.aead_ciphers.proofs.PaddedBlocks.{blocks-append, padded_blocks-append, padded_blocks_none}
+use specs.Gcm.{hashed, length_block, padded_blocks, gcm_tag}
+use specs.Ghash.{◌•◌, ghash}
+use specs.HashOf.{Absorbs, HashState, IsHashOf}
+use Rattle.aead_ciphers.proofs
+use proofs.GhashBytes.{to_be_bytes-xor}
+use proofs.GhashLaws.{AllSized-append, ghash_more}
+use proofs.PaddedBlocks.{blocks-append, padded_blocks-append, padded_blocks_none}
 
 -- one block more, as the code takes it in: h, xi and the block are the bytes of the numbers
 pub hash_one : (h xi block : List ℕ) (key sum number next : ℕ) (done : List (List ℕ))

@@ -1,11 +1,12 @@
 -- The cases of a sealing call.
 use Rattle.std.proofs.Common.{◌≡◌, ℕ, ◌+◌, ◌-◌, ◌↔◌, ◌++◌, List, Bool, length, take, replicate, is_ok, IsOk, IsErr, IfOk, OnOk, OnErr, Ok, Err, Result, refl, arith, length-append}
 use Rattle.std.proofs.Math.Seq.{take-append_seam}
-use Rattle.aead_ciphers_base.specs.Aes.{aes}
-use Rattle.aead_ciphers.specs.BoundState.{BoundState}
-use Rattle.aead_ciphers.specs.Gcm.{Fits, gcm_encrypted, gcm_tag, gcm_sealed}
-use Rattle.aead_ciphers.specs.NonceSequence.{Closes}
-use Rattle.aead_ciphers.specs.Steps.{SealStep, no_room, no_nonce, too_long, sealed, Spends, with_tag}
+use Rattle.aead_ciphers.specs
+use specs.Aes.{aes}
+use specs.BoundState.{BoundState}
+use specs.Gcm.{Fits, gcm_encrypted, gcm_tag, gcm_sealed}
+use specs.NonceSequence.{Closes}
+use specs.Steps.{SealStep, no_room, no_nonce, too_long, sealed, Spends, with_tag}
 
 pub grown_less : (xs : List ℕ) → length (xs ++ replicate 16 0) - 16 ≡ length xs
 grown_less xs = omega (arith, length-append xs (replicate 16 0))

@@ -1,13 +1,15 @@
 -- Nonces that are counted, each different from those before it, and how they are written.
 use Rattle.std.proofs.Common.{◌≡◌, ℕ, zero, suc, ◌+◌, ◌<◌, ◌≤◌, ◌^◌, List, [], ◌∷◌, ◌++◌, length, drop, Contains, inl, inr, ap, subst, sym, refl, ◌∙◌, arith, append-nil, drop_at}
-use Rattle.std.proofs.lemmas.List.{drop_all}
-use Rattle.std.proofs.lemmas.List.Elements.{Contains-append_cases}
-use Rattle.std.proofs.lemmas.List.FromFn.{map-range_with_len_more}
-use Rattle.std.proofs.lemmas.Nat.{from_be_bytes-to_be_bytes_8}
+use Rattle.std.proofs.lemmas
+use lemmas.List.{drop_all}
+use lemmas.List.Elements.{Contains-append_cases}
+use lemmas.List.FromFn.{map-range_with_len_more}
+use lemmas.Nat.{from_be_bytes-to_be_bytes_8}
 use Rattle.std.specs.Int.{to_be_bytes, from_be_bytes, w64}
-use Rattle.aead_ciphers_base.specs.Bytes.{each_below, ◌⊕◌}
+use Rattle.aead_ciphers.specs
+use specs.Bytes.{each_below, ◌⊕◌}
 use Rattle.aead_ciphers_base.proofs.XorLemmas.{xor-xor}
-use Rattle.aead_ciphers.specs.Counting.{Counting, next_nonce, prefixed_nonce, spent_nonces, xored_nonce}
+use specs.Counting.{Counting, next_nonce, prefixed_nonce, spent_nonces, xored_nonce}
 use borrow.Rule.Slice.PartMut.{put_mid}
 
 in_one : (y x : List ℕ) → Contains (y ∷ []) x → y ≡ x

@@ -1,9 +1,10 @@
 -- Tables of squares, on numbers of 128 bits, and what is computed with them: 128 squarings give x back, and the square of a
 -- polynomial less the polynomial itself tells the polynomial, but for its constant coefficient.
 use Rattle.std.proofs.Common.{◌≡◌, ℕ, zero, suc, Bool, true, false, List, [], ◌∷◌, map, replicate, refl, bit_xor}
-use Rattle.aead_ciphers.proofs.LinearMaps.{combined, image, twos}
-use Rattle.aead_ciphers.proofs.ProductLoop.{next_multiple}
-use Rattle.aead_ciphers.proofs.GhashBits.{bits_high_first}
+use Rattle.aead_ciphers.proofs
+use proofs.LinearMaps.{combined, image, twos}
+use proofs.ProductLoop.{next_multiple}
+use proofs.GhashBits.{bits_high_first}
 
 -- x^(2j) • v + x^j • w for each j below n
 abbrev pub squares_and_powers : ℕ → ℕ → ℕ → List ℕ

@@ -1,15 +1,18 @@
 -- The multiples of a block by the powers of u, and the loop of `product` over them.
 use Rattle.std.proofs.Common.{◌≡◌, ℕ, zero, suc, ◌+◌, ◌-◌, ◌/◌, ◌*◌, ◌%◌, ◌^◌, ◌<◌, ◌≤◌, Bool, true, false, List, ◌∷◌, ◌++◌, length, replicate, sym, ap, ap₂, subst, ◌∙◌, arith, ◌==◌, pow-suc, length-append, bit_xor, if◌then◌else◌, below_more, pow_pos, reverse}
 use Rattle.std.specs.Int.{bit_at, to_be_bytes, w128}
-use Rattle.std.proofs.lemmas.List.{length-replicate}
-use Rattle.std.proofs.lemmas.Nat.{div-mul-add, mod-pow-add, mod_below, mul-mod_first}
-use Rattle.std.proofs.lemmas.Nat.Bits.{bit_at_cat_high}
-use Rattle.aead_ciphers_base.specs.ByteField.{value_of}
-use Rattle.aead_ciphers_base.specs.Polynomial.{coefficient}
-use Rattle.aead_ciphers_base.proofs.NumberBits.{bit_at-mod, bit_at-shr}
-use Rattle.aead_ciphers_base.proofs.PolynomialBits.{Series, add, add_assoc, add_none, none, scale}
-use Rattle.aead_ciphers_base.proofs.PolynomialAction.{horner, horner_none, horner_push, mul_x, mul_x-none, raise, times}
-use Rattle.aead_ciphers_base.proofs.PolynomialLaws.{field_product_is, length-field_product, modulus, same_coefficients}
+use Rattle.std.proofs.lemmas
+use lemmas.List.{length-replicate}
+use lemmas.Nat.{div-mul-add, mod-pow-add, mod_below, mul-mod_first}
+use lemmas.Nat.Bits.{bit_at_cat_high}
+use Rattle.aead_ciphers_base.specs
+use specs.ByteField.{value_of}
+use specs.Polynomial.{coefficient}
+use Rattle.aead_ciphers_base.proofs
+use proofs.NumberBits.{bit_at-mod, bit_at-shr}
+use proofs.PolynomialBits.{Series, add, add_assoc, add_none, none, scale}
+use proofs.PolynomialAction.{horner, horner_none, horner_push, mul_x, mul_x-none, raise, times}
+use proofs.PolynomialLaws.{field_product_is, length-field_product, modulus, same_coefficients}
 use Rattle.aead_ciphers.specs.Ghash.{block_of, block_taps, ◌•◌}
 use Rattle.aead_ciphers.specs.Multiples.{monomial_block}
 use Rattle.aead_ciphers.proofs.GhashBits.{coefficients, coefficients-xor, coefficients-zero, length-bits, bits_high_first}

@@ -2,12 +2,14 @@
 use Rattle.std.proofs.Common.{◌≡◌, ℕ, ◌+◌, ◌*◌, ◌/◌, ◌<◌, List, [], length, get_or, refl, sym, ap, ap₂, subst, ◌∙◌, arith, length-append}
 use Rattle.std.specs.Int.{to_be_bytes, w64}
 use Rattle.std.proofs.lemmas.List.Elements.{All-append, All-from_get_or, recursion_from_All}
-use Rattle.aead_ciphers_base.specs.Bytes.{each_below}
+use Rattle.aead_ciphers.specs
+use specs.Bytes.{each_below}
 use Rattle.aead_ciphers_base.proofs.EachLemmas.{get_or-each, length-each}
-use Rattle.aead_ciphers.specs.Gcm.{hashed, length_block, padded_block, padded_blocks, sealing_products}
-use Rattle.aead_ciphers.specs.Ghash.{IsBlock}
-use Rattle.aead_ciphers.proofs.BlockLists.{Blocks, Each-append}
-use Rattle.aead_ciphers.proofs.GhashBlocks.{bytes-below}
+use specs.Gcm.{hashed, length_block, padded_block, padded_blocks, sealing_products}
+use specs.Ghash.{IsBlock}
+use Rattle.aead_ciphers.proofs
+use proofs.BlockLists.{Blocks, Each-append}
+use proofs.GhashBlocks.{bytes-below}
 
 -- numbers that are bytes
 abbrev pub Bytes : List ℕ → Type 0

@@ -1,9 +1,10 @@
 -- Lemmas on the blocks of a list.
-use Rattle.std.proofs.Common.{arith, refl, sym, subst, ap, ◌∙◌, ◌≡◌, ℕ, zero, suc, ◌+◌, ◌-◌, ◌*◌, ◌/◌, ◌%◌, ◌<◌, ◌≤◌, List, [], ◌∷◌, length, take, drop, get_or, add-one, length-drop, min, max, zero-add, inl, inr, Option, None, Some, MatchOption, MutBor, ◌++◌, length-append, take-append-drop, drop-drop, length-take-le, take-take, take_all}
-use Rattle.std.proofs.lemmas.List.{drop-take}
-use Rattle.std.proofs.lemmas.Bool.{cases_lt}
-use Rattle.std.proofs.Math.Nat.{mod_self, mod-add-div', mul-mod_left, add-div_right, div-eq_of_lt, div-zero, div-mul-le_self, suc-mul, mul-div_cancel, mul-le-mul_right, add_comm, add-mul-mod_self_right, mod-zero, zero-mod}
-use Rattle.std.proofs.Math.Seq.{take-length}
+use Rattle.std.proofs
+use proofs.Common.{arith, refl, sym, subst, ap, ◌∙◌, ◌≡◌, ℕ, zero, suc, ◌+◌, ◌-◌, ◌*◌, ◌/◌, ◌%◌, ◌<◌, ◌≤◌, List, [], ◌∷◌, length, take, drop, get_or, add-one, length-drop, min, max, zero-add, inl, inr, Option, None, Some, MatchOption, MutBor, ◌++◌, length-append, take-append-drop, drop-drop, length-take-le, take-take, take_all}
+use proofs.lemmas.List.{drop-take}
+use proofs.lemmas.Bool.{cases_lt}
+use proofs.Math.Nat.{mod_self, mod-add-div', mul-mod_left, add-div_right, div-eq_of_lt, div-zero, div-mul-le_self, suc-mul, mul-div_cancel, mul-le-mul_right, add_comm, add-mul-mod_self_right, mod-zero, zero-mod}
+use proofs.Math.Seq.{take-length}
 use Rattle.std.specs.Simd.{first_chunks}
 use Rattle.aead_ciphers_base.specs.Blocks.{blocks, joined}
 

@@ -2,11 +2,13 @@
 use Rattle.std.proofs.Common.{◌≡◌, ℕ, zero, suc, ◌*◌, ◌/◌, ◌%◌, ◌^◌, ◌<◌, true, List, [], ◌∷◌, length, refl, sym, ap, ◌∙◌, arith, bit_xor, unwrap_or, ◌==◌, eqb-true, eq-eqb}
 use Rattle.std.proofs.Math.Pow.{pow-lt}
 use Rattle.std.proofs.lemmas.Bool.{false_from_ne_true}
-use Rattle.aead_ciphers_base.specs.Polynomial.{field_product, polynomial_product, reduced, without_highests, without_highest}
-use Rattle.aead_ciphers_base.specs.ByteField.{bits_of, value_of, mul8, inv, affine, sbox}
-use Rattle.aead_ciphers_base.proofs.PolynomialSums.{polynomial_product-add_left, polynomial_product-add_right, reduced-add, length-polynomial_product, length-reduced}
-use Rattle.aead_ciphers_base.proofs.AdditiveLemmas.{additive_after}
-use Rattle.aead_ciphers_base.proofs.NumberBits.{bits_of-xor, value_of-add, value_of-lt, IsAdditive, same_additive, all_below, same_below, same_in_table, find_first}
+use Rattle.aead_ciphers_base.specs
+use specs.Polynomial.{field_product, polynomial_product, reduced, without_highests, without_highest}
+use specs.ByteField.{bits_of, value_of, mul8, inv, affine, sbox}
+use Rattle.aead_ciphers_base.proofs
+use proofs.PolynomialSums.{polynomial_product-add_left, polynomial_product-add_right, reduced-add, length-polynomial_product, length-reduced}
+use proofs.AdditiveLemmas.{additive_after}
+use proofs.NumberBits.{bits_of-xor, value_of-add, value_of-lt, IsAdditive, same_additive, all_below, same_below, same_in_table, find_first}
 
 -- `unfolding field` lets `refl` compute in the field
 unfoldable pub field : Unit {0}

@@ -1,10 +1,11 @@
 -- Lemmas on lists of bytes, and the steps of the loops over them.
-use Rattle.std.proofs.Common.{arith, refl, sym, ap, ◌∙◌, ◌≡◌, ℕ, ◌+◌, ◌<◌, min, length-drop, List, [], ◌∷◌, ◌++◌, length, take, drop, get_or, map, bit_xor, bit_or, slice_set, add-one, append_assoc, drop-set-lt, take-append-drop}
-use Rattle.std.proofs.lemmas.List.{drop_more}
-use Rattle.std.proofs.lemmas.Nat.{le_or_l, le_or_r}
-use Rattle.std.proofs.Math.Seq.{take-suc-set}
+use Rattle.std.proofs
+use proofs.Common.{arith, refl, sym, ap, ◌∙◌, ◌≡◌, ℕ, ◌+◌, ◌<◌, min, length-drop, List, [], ◌∷◌, ◌++◌, length, take, drop, get_or, map, bit_xor, bit_or, slice_set, add-one, append_assoc, drop-set-lt, take-append-drop}
+use proofs.lemmas.List.{drop_more}
+use proofs.lemmas.Nat.{le_or_l, le_or_r}
+use proofs.Math.Seq.{take-suc-set}
 use Rattle.std.specs.Int.Bits.{xor_assoc, xor_self, xor_zero_l, xor_zero_r}
-use Rattle.std.proofs.lemmas.Grind.{common_steps}
+use proofs.lemmas.Grind.{common_steps}
 use borrow.Author.Count.{below_more}
 use Rattle.aead_ciphers_base.specs.Bytes.{◌⊕◌}
 

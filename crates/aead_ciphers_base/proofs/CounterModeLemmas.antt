@@ -1,10 +1,12 @@
 -- Counter mode of a text in pieces.
 use Rattle.std.proofs.Common.{◌≡◌, ℕ, ◌+◌, ◌-◌, ◌*◌, ◌/◌, ◌%◌, ◌≤◌, List, [], ◌∷◌, ◌++◌, length, take, drop, refl, sym, ap, ap₂, ◌∙◌, arith, append-nil, append_assoc, length-append, length-take-le, length-drop, take_at, drop-drop, take-append-drop}
 use Rattle.std.proofs.lemmas.List.{nil_from_length, drop-append-le, drop-take}
-use Rattle.aead_ciphers_base.specs.Bytes.{xored, ◌⊕◌}
-use Rattle.aead_ciphers_base.specs.CounterMode.{counter_block, counter_byte, counter_mode, Advances, EncryptsFirst, EncryptsToFront, EncryptsWindow}
-use Rattle.aead_ciphers_base.proofs.StreamLemmas.{all_from, length-xored, stream_front, take-xored, xored-is, xored-xored, advance as xored_advance}
-use Rattle.aead_ciphers_base.proofs.XorLemmas.{xor_comm, xor-take}
+use Rattle.aead_ciphers_base.specs
+use specs.Bytes.{xored, ◌⊕◌}
+use specs.CounterMode.{counter_block, counter_byte, counter_mode, Advances, EncryptsFirst, EncryptsToFront, EncryptsWindow}
+use Rattle.aead_ciphers_base.proofs
+use proofs.StreamLemmas.{all_from, length-xored, stream_front, take-xored, xored-is, xored-xored, advance as xored_advance}
+use proofs.XorLemmas.{xor_comm, xor-take}
 
 module _ (cipher : List ℕ → List ℕ) (nonce : List ℕ) where
   pub length-counter_mode : (k : ℕ) (text : List ℕ) → length (counter_mode cipher nonce k text) ≡ length text

@@ -1,9 +1,11 @@
 -- The product by eight doublings of numbers, which computes some thirty times faster, and the way to use it in a computed test.
 use Rattle.std.proofs.Common.{◌≡◌, ℕ, [], ◌∷◌, zero, suc, ◌*◌, ◌/◌, ◌%◌, ◌^◌, ◌<◌, Bool, true, refl, sym, ap, ap₂, ◌∙◌, arith, bit_xor, if◌then◌else◌, pow-suc, ◌==◌}
-use Rattle.aead_ciphers_base.specs.Polynomial.{field_product}
-use Rattle.aead_ciphers_base.specs.ByteField.{value_of, mul8}
-use Rattle.aead_ciphers_base.proofs.NumberBits.{all_below, same_below, IsAdditive_zero, bits_of-mod}
-use Rattle.aead_ciphers_base.proofs.ByteFieldLaws.{field, mul8_lt, mul8_comm, mul8_assoc, one-mul8, mul8-xor_right, two_is}
+use Rattle.aead_ciphers_base.specs
+use specs.Polynomial.{field_product}
+use specs.ByteField.{value_of, mul8}
+use Rattle.aead_ciphers_base.proofs
+use proofs.NumberBits.{all_below, same_below, IsAdditive_zero, bits_of-mod}
+use proofs.ByteFieldLaws.{field, mul8_lt, mul8_comm, mul8_assoc, one-mul8, mul8-xor_right, two_is}
 
 halves_test : all_below (λ z. bit_xor (mul8 2 (z / 2)) (z % 2) == z) 256 ≡ true
 unfolding field

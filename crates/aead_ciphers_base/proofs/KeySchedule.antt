@@ -1,13 +1,16 @@
 -- The key schedule, word by word.
 use Rattle.std.proofs.Common.{◌≡◌, ℕ, suc, ◌+◌, ◌-◌, ◌*◌, ◌/◌, ◌%◌, ◌<◌, ◌≤◌, true, false, ◌&&◌, List, [], ◌∷◌, ◌++◌, length, take, set, refl, sym, ◌∙◌, ap, ap₂, arith, slice_index, get_or-take, eq-eqb, ne_eqb, ◌==◌, nat_lt, lt-ltb}
-use Rattle.std.proofs.lemmas.List.{take_more_set}
-use Rattle.std.proofs.lemmas.List.FromFn.{map-range_with_len_more}
-use Rattle.aead_ciphers_base.specs.Bytes.{each_below, ◌⊕◌}
-use Rattle.std.proofs.lemmas.Bool.{cond-true, cond-false, and_from}
-use Rattle.aead_ciphers_base.specs.declared.aes.key_schedule.TheConstants.{ROUND_CONSTANTS}
-use Rattle.aead_ciphers_base.specs.Aes.{word_at, rot_word, sub_word, power_of_x, next_word, key_words}
-use Rattle.aead_ciphers_base.proofs.NumberBits.{all_below, same_below}
-use Rattle.aead_ciphers_base.proofs.ByteFieldLaws.{field}
+use Rattle.std.proofs.lemmas
+use lemmas.List.{take_more_set}
+use lemmas.List.FromFn.{map-range_with_len_more}
+use Rattle.aead_ciphers_base.specs
+use specs.Bytes.{each_below, ◌⊕◌}
+use lemmas.Bool.{cond-true, cond-false, and_from}
+use specs.declared.aes.key_schedule.TheConstants.{ROUND_CONSTANTS}
+use specs.Aes.{word_at, rot_word, sub_word, power_of_x, next_word, key_words}
+use Rattle.aead_ciphers_base.proofs
+use proofs.NumberBits.{all_below, same_below}
+use proofs.ByteFieldLaws.{field}
 
 constants_test : all_below (λ n. slice_index ROUND_CONSTANTS n == power_of_x n) 10 ≡ true
 unfolding field power_of_x

@@ -1,9 +1,11 @@
 -- ChaCha20's key stream, a block at a time.
-use Rattle.std.proofs.Common.{◌≡◌, ℕ, ◌+◌, ◌-◌, ◌*◌, ◌/◌, ◌%◌, ◌<◌, ◌≤◌, List, ◌++◌, length, take, drop, refl, ap, ap₂, sym, ◌∙◌, arith, append_assoc, min, get_or, get_or-drop, length-append, length-drop, append-nil, take_all, drop-drop, get_or-take, length-take-le}
-use Rattle.std.proofs.lemmas.List.{drop_all, take_min}
-use Rattle.std.proofs.lemmas.List.FromFn.{fill_by_all}
-use Rattle.aead_ciphers_base.specs.Bytes.{each_below, xored, ◌⊕◌}
-use Rattle.aead_ciphers_base.specs.ChaCha20.{chacha20_block, stream_byte, chacha20_encrypted}
+use Rattle.std.proofs
+use proofs.Common.{◌≡◌, ℕ, ◌+◌, ◌-◌, ◌*◌, ◌/◌, ◌%◌, ◌<◌, ◌≤◌, List, ◌++◌, length, take, drop, refl, ap, ap₂, sym, ◌∙◌, arith, append_assoc, min, get_or, get_or-drop, length-append, length-drop, append-nil, take_all, drop-drop, get_or-take, length-take-le}
+use proofs.lemmas.List.{drop_all, take_min}
+use proofs.lemmas.List.FromFn.{fill_by_all}
+use Rattle.aead_ciphers_base.specs
+use specs.Bytes.{each_below, xored, ◌⊕◌}
+use specs.ChaCha20.{chacha20_block, stream_byte, chacha20_encrypted}
 use Rattle.aead_ciphers_base.proofs.StreamLemmas.{advance, finish, length-xored, stream_front, xored-is, xored-xored}
 
 module _ (key : List ℕ) (counter : ℕ) (nonce : List ℕ) where

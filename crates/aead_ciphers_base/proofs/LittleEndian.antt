@@ -1,14 +1,16 @@
 -- Words and bytes in little-endian order.
-use Rattle.std.proofs.Common.{replicate, ◌≡◌, ℕ, zero, suc, ◌+◌, ◌*◌, ◌^◌, ◌<◌, ◌≤◌, List, [], ◌∷◌, ◌++◌, length, take, drop, get_or, slice_index, slice_set, refl, ap, ap₂, sym, ◌∙◌, arith, get_or-drop, take_at, drop_at}
+use Rattle.std.proofs
+use proofs.Common.{replicate, ◌≡◌, ℕ, zero, suc, ◌+◌, ◌*◌, ◌^◌, ◌<◌, ◌≤◌, List, [], ◌∷◌, ◌++◌, length, take, drop, get_or, slice_index, slice_set, refl, ap, ap₂, sym, ◌∙◌, arith, get_or-drop, take_at, drop_at}
 use Rattle.std.specs.Int.{w32, from_le_bytes, to_le_bytes}
-use Rattle.std.proofs.lemmas.List.{take_more, drop_all, set_at}
-use Rattle.std.proofs.lemmas.Grind.{flat_map-append}
-use Rattle.std.proofs.lemmas.Nat.{le_bytes_4, from_le_bytes-to_le_bytes_4}
-use Rattle.std.proofs.lemmas.Slice.{take-put_mid}
+use proofs.lemmas.List.{take_more, drop_all, set_at}
+use proofs.lemmas.Grind.{flat_map-append}
+use proofs.lemmas.Nat.{le_bytes_4, from_le_bytes-to_le_bytes_4}
+use proofs.lemmas.Slice.{take-put_mid}
 use borrow.Rule.Slice.PartMut.{put_mid}
-use Rattle.aead_ciphers_base.specs.ChaCha20.{le_words, le_bytes, initial_state}
-use Rattle.aead_ciphers_base.specs.declared.chacha.TheConstants.{CONSTANTS}
-use Rattle.std.proofs.Math.Seq.{drop-cons}
+use Rattle.aead_ciphers_base.specs
+use specs.ChaCha20.{le_words, le_bytes, initial_state}
+use specs.declared.chacha.TheConstants.{CONSTANTS}
+use proofs.Math.Seq.{drop-cons}
 
 -- the n elements from index k on
 abbrev pub elements_from : ℕ → ℕ → List ℕ → List ℕ

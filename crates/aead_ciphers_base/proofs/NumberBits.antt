@@ -2,12 +2,14 @@
 use Rattle.std.proofs.Common.{◌≡◌, ℕ, zero, suc, ◌+◌, ◌-◌, ◌*◌, ◌/◌, ◌%◌, ◌^◌, ◌<◌, ◌≤◌, Bool, true, false, ◌&&◌, List, [], ◌∷◌, length, refl, sym, ap, ap₂, ◌∙◌, arith, inl, inr, bit_xor, if◌then◌else◌, pow-suc, find, Some, ◌==◌, pow_pos, shr-shr, eqb-true}
 use Rattle.std.specs.List.{range_with_len}
 use Rattle.std.specs.Int.Bits.{xor_shr, xor_mod, xor_block, xor_shifted, xor_self as bit_xor_self}
-use Rattle.std.proofs.lemmas.Nat.{field_of, mod-pow-add}
-use Rattle.std.proofs.lemmas.Nat.Bits.{bit_at_cat_low}
+use Rattle.std.proofs.lemmas
+use lemmas.Nat.{field_of, mod-pow-add}
+use lemmas.Nat.Bits.{bit_at_cat_low}
 use Rattle.std.specs.Int.{bit_at}
-use Rattle.std.proofs.lemmas.Bool.{cases_eq, cases_lt, and_parts, cond-true, cond-false}
-use Rattle.aead_ciphers_base.specs.Polynomial.{◌xor◌}
-use Rattle.aead_ciphers_base.specs.ByteField.{bits_of, value_of}
+use lemmas.Bool.{cases_eq, cases_lt, and_parts, cond-true, cond-false}
+use Rattle.aead_ciphers_base.specs
+use specs.Polynomial.{◌xor◌}
+use specs.ByteField.{bits_of, value_of}
 use Rattle.aead_ciphers_base.proofs.PolynomialSums.{polynomial_sum}
 
 -- what holds at 0 and at 1 holds at each digit

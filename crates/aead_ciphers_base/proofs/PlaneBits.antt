@@ -2,12 +2,14 @@
 use Rattle.std.proofs.Common.{◌≡◌, ℕ, zero, suc, ◌+◌, ◌/◌, ◌%◌, ◌^◌, ◌<◌, min, Bool, true, ◌&&◌, List, [], ◌∷◌, refl, sym, ap, ◌∙◌, arith, bit_xor, bit_and, slice_index, div-one, ◌==◌, shr-shr}
 use Rattle.std.specs.Int.{bit_at}
 use Rattle.std.proofs.lemmas.Nat.Bits.{bit_at_xor, bit_at_and, bit_at-lt, bit_at_ones}
-use Rattle.aead_ciphers_base.specs.Polynomial.{◌xor◌, coefficient}
-use Rattle.aead_ciphers_base.specs.ByteField.{bits_of, value_of, mul8}
-use Rattle.aead_ciphers_base.specs.Planes.{plane_byte}
-use Rattle.aead_ciphers_base.proofs.NumberBits.{by_digits, bits_of-value_of, value_of-lt, all_below, same_below}
-use Rattle.aead_ciphers_base.proofs.ByteFieldLaws.{field}
-use Rattle.aead_ciphers_base.specs.Bytes.{each_below}
+use Rattle.aead_ciphers_base.specs
+use specs.Polynomial.{◌xor◌, coefficient}
+use specs.ByteField.{bits_of, value_of, mul8}
+use specs.Planes.{plane_byte}
+use Rattle.aead_ciphers_base.proofs
+use proofs.NumberBits.{by_digits, bits_of-value_of, value_of-lt, all_below, same_below}
+use proofs.ByteFieldLaws.{field}
+use specs.Bytes.{each_below}
 
 -- ---- one bit
 

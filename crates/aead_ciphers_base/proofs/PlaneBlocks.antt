@@ -1,11 +1,12 @@
 -- Blocks byte by byte, and what the steps on planes do to each of the four.
 use Rattle.std.proofs.Common.{◌≡◌, ℕ, zero, suc, ◌+◌, ◌*◌, ◌/◌, ◌%◌, ◌<◌, List, length, refl, sym, ap, ap₂, ◌∙◌, arith, bit_xor, slice_index, slice_index_or, []}
 use Rattle.std.proofs.lemmas.List.FromFn.{fill_by_all}
-use Rattle.aead_ciphers_base.specs.ByteField.{sbox, mul8}
-use Rattle.aead_ciphers_base.specs.Aes.{at, state, sub_bytes, shift_rows, mixed, mix_columns, add_round_key, word_at}
-use Rattle.aead_ciphers_base.specs.Planes.{plane_byte, plane_block, below, shifted_from}
+use Rattle.aead_ciphers_base.specs
+use specs.ByteField.{sbox, mul8}
+use specs.Aes.{at, state, sub_bytes, shift_rows, mixed, mix_columns, add_round_key, word_at}
+use specs.Planes.{plane_byte, plane_block, below, shifted_from}
 use Rattle.aead_ciphers_base.proofs.EachLemmas.{get_or-each}
-use Rattle.aead_ciphers_base.specs.KeySchedule.{HoldsWords}
+use specs.KeySchedule.{HoldsWords}
 
 -- a block is a state if its byte k stands in row k % 4 and column k / 4
 pub state_is : (f : ℕ → ℕ → ℕ) (s : List ℕ) → length s ≡ 16 → ((k : ℕ) → k < 16 → slice_index s k ≡ f (k % 4) (k / 4)) → s ≡ state f

@@ -1,21 +1,24 @@
 -- The transpositions by which four blocks become eight planes.
 use Rattle.std.proofs.Common.{min, set, below_more, get_or-set_other, get_or-set_same, ne_eqb, ◌≡◌, ℕ, zero, suc, ◌+◌, ◌-◌, ◌*◌, ◌/◌, ◌%◌, ◌^◌, ◌<◌, ◌≤◌, Bool, true, false, ◌&&◌, List, [], ◌++◌, length, take, drop, refl, sym, ap, ap₂, ◌∙◌, arith, inl, inr, bit_xor, bit_and, slice_index, slice_index_or, nat_lt, if◌then◌else◌, div-one, ◌==◌, pow_pos, get_or-take, get_or-drop, length-take, length-take-le, length-drop, take_all, take-append-drop, eq-eqb, ltb-true, lt-ltb, le-ltb}
 use Rattle.std.specs.Int.{bit_at, w64, to_le_bytes, from_le_bytes}
-use Rattle.std.proofs.lemmas.Nat.{le_bytes_8}
-use Rattle.std.proofs.lemmas.List.{get_or_append_left, get_or-append_right, get_or_past}
-use Rattle.std.proofs.lemmas.Nat.Bits.{bit_at_xor, bit_at_and, bit_at-lt, bit_at_cat_low, bit_at_cat_high, bit_at-zero}
-use Rattle.std.proofs.lemmas.Bool.{cases_lt, cond-true, cond-false}
+use Rattle.std.proofs.lemmas
+use lemmas.Nat.{le_bytes_8}
+use lemmas.List.{get_or_append_left, get_or-append_right, get_or_past}
+use lemmas.Nat.Bits.{bit_at_xor, bit_at_and, bit_at-lt, bit_at_cat_low, bit_at_cat_high, bit_at-zero}
+use lemmas.Bool.{cases_lt, cond-true, cond-false}
 use Rattle.std.proofs.Math.Bool.{and-false}
-use Rattle.aead_ciphers_base.specs.Polynomial.{◌xor◌}
-use Rattle.aead_ciphers_base.specs.ByteField.{bits_of, value_of}
-use Rattle.aead_ciphers_base.specs.Planes.{plane_byte, plane_block, word_bit, exchanged_from}
-use Rattle.aead_ciphers_base.specs.declared.aes.pack.TheConstants.{LOW, EIGHTHS}
-use Rattle.aead_ciphers_base.proofs.NumberBits.{bit_at-mod, bit_at-shr, by_digit, by_digits, all_below, all_below_at, same_below, same_in_table, value_of-bits_of, length-bits_of}
-use Rattle.aead_ciphers_base.proofs.PolynomialSums.{same_polynomials}
-use Rattle.aead_ciphers_base.proofs.PlaneBits.{set-xor, set-and, bits_of_at}
-use Rattle.aead_ciphers_base.proofs.PlaneBlocks.{state_is, by_four}
-use Rattle.aead_ciphers_base.specs.Bytes.{each_below}
-use Rattle.aead_ciphers_base.proofs.EachLemmas.{get_or-each}
+use Rattle.aead_ciphers_base.specs
+use specs.Polynomial.{◌xor◌}
+use specs.ByteField.{bits_of, value_of}
+use specs.Planes.{plane_byte, plane_block, word_bit, exchanged_from}
+use specs.declared.aes.pack.TheConstants.{LOW, EIGHTHS}
+use Rattle.aead_ciphers_base.proofs
+use proofs.NumberBits.{bit_at-mod, bit_at-shr, by_digit, by_digits, all_below, all_below_at, same_below, same_in_table, value_of-bits_of, length-bits_of}
+use proofs.PolynomialSums.{same_polynomials}
+use proofs.PlaneBits.{set-xor, set-and, bits_of_at}
+use proofs.PlaneBlocks.{state_is, by_four}
+use specs.Bytes.{each_below}
+use proofs.EachLemmas.{get_or-each}
 
 bit_at-shl_low : (x s w q : ℕ) → q < w → q < s → bit_at (x * 2 ^ s % 2 ^ w) q ≡ 0
 bit_at-shl_low x s w q hw hs =

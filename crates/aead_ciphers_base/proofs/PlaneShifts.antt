@@ -2,17 +2,19 @@
 use Rattle.std.proofs.Common.{length, set, below_more, get_or-set_other, get_or-set_same, ◌≡◌, ℕ, ◌+◌, ◌*◌, ◌/◌, ◌%◌, ◌^◌, ◌<◌, Bool, true, refl, sym, ap, ◌∙◌, arith, bit_xor, bit_and, List, slice_index, ◌==◌}
 use Rattle.std.specs.Int.{bit_at}
 use Rattle.std.specs.Int.Bits.{xor_assoc}
-use Rattle.aead_ciphers_base.specs.ByteField.{mul8, value_of}
-use Rattle.aead_ciphers_base.specs.Aes.{mixed}
-use Rattle.aead_ciphers_base.specs.Planes.{plane_byte, below, shifted_from}
-use Rattle.aead_ciphers_base.proofs.PolynomialSums.{polynomial-add}
-use Rattle.aead_ciphers_base.proofs.PlaneBits.{set-xor}
-use Rattle.aead_ciphers_base.proofs.ByteFieldLaws.{mul8-xor_right, three_is}
-use Rattle.aead_ciphers_base.specs.Polynomial.{◌xor◌}
-use Rattle.aead_ciphers_base.proofs.NumberBits.{value_of-add, IsAdditive, same_additive, all_below, same_in_table}
-use Rattle.aead_ciphers_base.proofs.AdditiveLemmas.{additive_and, additive_shr, additive_shl, additive_xor, additive_after, additive_bit}
-use Rattle.aead_ciphers_base.specs.Bytes.{each_below}
-use Rattle.aead_ciphers_base.proofs.EachLemmas.{each-same}
+use Rattle.aead_ciphers_base.specs
+use specs.ByteField.{mul8, value_of}
+use specs.Aes.{mixed}
+use specs.Planes.{plane_byte, below, shifted_from}
+use Rattle.aead_ciphers_base.proofs
+use proofs.PolynomialSums.{polynomial-add}
+use proofs.PlaneBits.{set-xor}
+use proofs.ByteFieldLaws.{mul8-xor_right, three_is}
+use specs.Polynomial.{◌xor◌}
+use proofs.NumberBits.{value_of-add, IsAdditive, same_additive, all_below, same_in_table}
+use proofs.AdditiveLemmas.{additive_and, additive_shr, additive_shl, additive_xor, additive_after, additive_bit}
+use specs.Bytes.{each_below}
+use proofs.EachLemmas.{each-same}
 
 abbrev moves : (ℕ → ℕ) → (ℕ → ℕ) → Bool
 moves f source = all_below (λ p. all_below (λ i. bit_at (f (2 ^ i)) p == bit_at (2 ^ i) (source p)) 64) 64

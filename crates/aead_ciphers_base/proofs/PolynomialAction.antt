@@ -1,12 +1,14 @@
 -- Multiplication of coefficients by a polynomial, modulo another: Horner's rule, one step of x at a time.
-use Rattle.std.proofs.Common.{◌≡◌, ℕ, zero, suc, ◌+◌, ◌-◌, ◌<◌, ◌≤◌, Bool, true, false, ◌&&◌, List, [], ◌∷◌, length, map, refl, sym, ap, ap₂, ◌∙◌, arith, zero-add, add-zero}
-use Rattle.std.proofs.Math.Bool.{and_assoc}
-use Rattle.std.proofs.Math.ListN.{get_or-eq_default}
-use Rattle.std.proofs.Math.Nat.{suc-sub-suc, sub-zero}
+use Rattle.std.proofs
+use proofs.Common.{◌≡◌, ℕ, zero, suc, ◌+◌, ◌-◌, ◌<◌, ◌≤◌, Bool, true, false, ◌&&◌, List, [], ◌∷◌, length, map, refl, sym, ap, ap₂, ◌∙◌, arith, zero-add, add-zero}
+use proofs.Math.Bool.{and_assoc}
+use proofs.Math.ListN.{get_or-eq_default}
+use proofs.Math.Nat.{suc-sub-suc, sub-zero}
 use Rattle.std.specs.List.{range_with_len}
-use Rattle.aead_ciphers_base.specs.Polynomial.{◌xor◌, xor_sum, coefficient, polynomial_product}
+use Rattle.aead_ciphers_base.specs
+use specs.Polynomial.{◌xor◌, xor_sum, coefficient, polynomial_product}
 use Rattle.aead_ciphers_base.proofs.PolynomialBits.{xor_comm, xor_assoc, xor_zero, xor_exchange, and_xor, xor_and, Series, same_series, same_steps, none, add, scale, shift, add_comm, add_assoc, add_exchange, scale_add, scale_xor, scale_none, scale_swap}
-use Rattle.aead_ciphers_base.specs.Bytes.{each_below}
+use specs.Bytes.{each_below}
 
 -- ---- the coefficients of a product, by the first factor's first coefficient
 

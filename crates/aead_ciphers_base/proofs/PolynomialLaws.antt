@@ -5,10 +5,11 @@ use Rattle.std.proofs.Math.Bool.{and-false, and-true}
 use Rattle.std.proofs.Math.ListN.{get_or-eq_default}
 use Rattle.std.proofs.Math.Dec.{eqb-suc-suc, eqb-suc-zero}
 use Rattle.aead_ciphers_base.specs.Polynomial.{◌xor◌, coefficient, without_highest, without_highests, reduced, field_product}
-use Rattle.aead_ciphers_base.proofs.PolynomialBits.{xor_zero, Series, same_series, same_steps, add, scale, shift, add_assoc, add_self}
-use Rattle.aead_ciphers_base.proofs.PolynomialSums.{length-polynomial_product, length-reduced, same_polynomials}
-use Rattle.aead_ciphers_base.proofs.PolynomialAction.{mul_x, horner, times, raise, horner_add, horner_scale, horner_push, polynomial_times, product_times}
-use Rattle.aead_ciphers_base.proofs.EachLemmas.{length-each}
+use Rattle.aead_ciphers_base.proofs
+use proofs.PolynomialBits.{xor_zero, Series, same_series, same_steps, add, scale, shift, add_assoc, add_self}
+use proofs.PolynomialSums.{length-polynomial_product, length-reduced, same_polynomials}
+use proofs.PolynomialAction.{mul_x, horner, times, raise, horner_add, horner_scale, horner_push, polynomial_times, product_times}
+use proofs.EachLemmas.{length-each}
 
 abbrev pub one : Series
 one zero = true

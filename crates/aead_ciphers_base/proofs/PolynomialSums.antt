@@ -1,10 +1,12 @@
 -- The product and the reduction keep sums.
 use Rattle.std.proofs.Common.{◌≡◌, ℕ, zero, suc, ◌+◌, ◌-◌, ◌<◌, ◌≤◌, Bool, false, ◌&&◌, List, [], ◌∷◌, length, refl, sym, ap, ap₂, ◌∙◌, arith, ext_get_or, ◌==◌}
 use Rattle.std.specs.List.{list_any}
-use Rattle.aead_ciphers_base.proofs.EachLemmas.{each-same, get_or-each, length-each}
-use Rattle.aead_ciphers_base.proofs.PolynomialBits.{xor_zero, xor_exchange, and_xor, xor_and}
-use Rattle.aead_ciphers_base.specs.Polynomial.{◌xor◌, xor_sum, coefficient, polynomial_product, without_highest, without_highests, reduced}
-use Rattle.aead_ciphers_base.specs.Bytes.{each_below}
+use Rattle.aead_ciphers_base.proofs
+use proofs.EachLemmas.{each-same, get_or-each, length-each}
+use proofs.PolynomialBits.{xor_zero, xor_exchange, and_xor, xor_and}
+use Rattle.aead_ciphers_base.specs
+use specs.Polynomial.{◌xor◌, xor_sum, coefficient, polynomial_product, without_highest, without_highests, reduced}
+use specs.Bytes.{each_below}
 
 pub xor_sum-add : (n : ℕ) (f g : ℕ → Bool) → xor_sum n (λ i. ◌xor◌ (f i) (g i)) ≡ ◌xor◌ (xor_sum n f) (xor_sum n g)
 xor_sum-add zero f g = refl

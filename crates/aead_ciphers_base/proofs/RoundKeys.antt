@@ -1,12 +1,15 @@
 -- The round keys of a key, and the key with which they begin.
 use Rattle.std.proofs.Common.{◌≡◌, ℕ, zero, suc, ◌+◌, ◌-◌, ◌*◌, ◌/◌, ◌%◌, ◌<◌, ◌≤◌, List, [], ◌∷◌, length, take, sym, ◌∙◌, ap, ap₂, arith, slice_index, slice_index_or, length-append}
-use Rattle.std.proofs.lemmas.List.{get_or_append_left}
-use Rattle.std.proofs.lemmas.List.FromFn.{fill_by_all}
-use Rattle.aead_ciphers_base.specs.Aes.{word_at, key_words, cipher, aes, next_word}
-use Rattle.aead_ciphers_base.specs.Planes.{plane_byte}
-use Rattle.aead_ciphers_base.specs.KeySchedule.{HoldsWords, key_of, IsSchedule}
-use Rattle.aead_ciphers_base.proofs.EachLemmas.{get_or-each, length-each}
-use Rattle.aead_ciphers_base.proofs.KeySchedule.{key_word}
+use Rattle.std.proofs.lemmas
+use lemmas.List.{get_or_append_left}
+use lemmas.List.FromFn.{fill_by_all}
+use Rattle.aead_ciphers_base.specs
+use specs.Aes.{word_at, key_words, cipher, aes, next_word}
+use specs.Planes.{plane_byte}
+use specs.KeySchedule.{HoldsWords, key_of, IsSchedule}
+use Rattle.aead_ciphers_base.proofs
+use proofs.EachLemmas.{get_or-each, length-each}
+use proofs.KeySchedule.{key_word}
 
 length-key_words : (nk : ℕ) (key : List ℕ) (n : ℕ) → length (key_words nk key n) ≡ nk + n
 unfolding key_words

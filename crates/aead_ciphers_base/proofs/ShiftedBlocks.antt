@@ -1,14 +1,16 @@
 -- The steps of a walk over the blocks of an overlapping buffer.
-use Rattle.std.proofs.Common.{arith, refl, sym, ap, ◌∙◌, ◌≡◌, ℕ, zero, suc, ◌+◌, ◌-◌, ◌*◌, ◌/◌, ◌%◌, ◌<◌, ◌≤◌, List, [], ◌∷◌, ◌++◌, length, take, drop, map, add-one, length-drop, length-append, append_assoc, append-nil, drop-drop}
-use Rattle.std.proofs.lemmas.List.{map-append}
-use Rattle.std.proofs.lemmas.Fn.{FoldsTo-push}
-use Rattle.std.proofs.Math.Nat.{suc-mul, add_comm, mod-add-div'}
-use Rattle.std.proofs.Math.Seq.{take-append_seam, drop-append_seam}
+use Rattle.std.proofs
+use proofs.Common.{arith, refl, sym, ap, ◌∙◌, ◌≡◌, ℕ, zero, suc, ◌+◌, ◌-◌, ◌*◌, ◌/◌, ◌%◌, ◌<◌, ◌≤◌, List, [], ◌∷◌, ◌++◌, length, take, drop, map, add-one, length-drop, length-append, append_assoc, append-nil, drop-drop}
+use proofs.lemmas.List.{map-append}
+use proofs.lemmas.Fn.{FoldsTo-push}
+use proofs.Math.Nat.{suc-mul, add_comm, mod-add-div'}
+use proofs.Math.Seq.{take-append_seam, drop-append_seam}
 use Rattle.std.specs.Borrow.{Bor}
 use Rattle.std.specs.Fn.{Mut, CalledAt, TakesAt}
 use Rattle.std.specs.Simd.{first_chunks}
-use Rattle.aead_ciphers_base.specs.Blocks.{blocks, joined}
-use Rattle.aead_ciphers_base.specs.Shift.{Answers, ShiftsBlocks, TakesBlocks}
+use Rattle.aead_ciphers_base.specs
+use specs.Blocks.{blocks, joined}
+use specs.Shift.{Answers, ShiftsBlocks, TakesBlocks}
 
 joined_more : {T : Type 0} (xs : List (List T)) (y : List T) → joined (xs ++ (y ∷ [])) ≡ joined xs ++ y
 joined_more [] y = simp append-nil

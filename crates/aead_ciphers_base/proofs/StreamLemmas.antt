@@ -1,8 +1,9 @@
 -- A text XOR a stream: in pieces, in a buffer from some place on to its front, and twice.
-use Rattle.std.proofs.Common.{◌≡◌, ℕ, ◌+◌, ◌-◌, ◌<◌, ◌≤◌, List, ◌++◌, length, take, drop, get_or, refl, sym, ap, ap₂, ◌∙◌, arith, length-append, length-drop, take_all, take-append-drop, take_at, drop-drop, get_or-take, length-take-le}
-use Rattle.std.proofs.lemmas.List.FromFn.{fill_by_all}
-use Rattle.std.proofs.lemmas.Slice.{drop-append-drop}
-use Rattle.std.proofs.Math.Seq.{take-add}
+use Rattle.std.proofs
+use proofs.Common.{◌≡◌, ℕ, ◌+◌, ◌-◌, ◌<◌, ◌≤◌, List, ◌++◌, length, take, drop, get_or, refl, sym, ap, ap₂, ◌∙◌, arith, length-append, length-drop, take_all, take-append-drop, take_at, drop-drop, get_or-take, length-take-le}
+use proofs.lemmas.List.FromFn.{fill_by_all}
+use proofs.lemmas.Slice.{drop-append-drop}
+use proofs.Math.Seq.{take-add}
 use Rattle.aead_ciphers_base.specs.Bytes.{each_below, xored, ◌⊕◌}
 use Rattle.aead_ciphers_base.proofs.EachLemmas.{length-each, each-append, each-same}
 use Rattle.aead_ciphers_base.proofs.XorLemmas.{length-xor, xor-take, xor-append, xor-xor}

@@ -3,13 +3,15 @@ use Rattle.std.proofs.Common.{◌≡◌, ℕ, ◌/◌, ◌^◌, Bool, true, ◌&
 use Rattle.std.specs.Int.{bit_at}
 use Rattle.std.specs.List.{range_with_len}
 use Rattle.std.proofs.lemmas.Bool.{and_parts, or_cases}
-use Rattle.aead_ciphers_base.specs.Polynomial.{◌xor◌, coefficient}
-use Rattle.aead_ciphers_base.specs.ByteField.{bits_of, value_of, mul8, inv, affine}
-use Rattle.aead_ciphers_base.specs.Planes.{plane_byte, plane_polynomial}
-use Rattle.aead_ciphers_base.specs.Tower.{element, basis_4, basis_16, basis_256, plane_element}
-use Rattle.aead_ciphers_base.proofs.NumberBits.{all_below, all_below_at, bits_of-value_of, value_of-lt}
-use Rattle.aead_ciphers_base.proofs.ByteFieldLaws.{field, inv_is}
-use Rattle.aead_ciphers_base.proofs.FastProduct.{by_fast_mul8}
+use Rattle.aead_ciphers_base.specs
+use specs.Polynomial.{◌xor◌, coefficient}
+use specs.ByteField.{bits_of, value_of, mul8, inv, affine}
+use specs.Planes.{plane_byte, plane_polynomial}
+use specs.Tower.{element, basis_4, basis_16, basis_256, plane_element}
+use Rattle.aead_ciphers_base.proofs
+use proofs.NumberBits.{all_below, all_below_at, bits_of-value_of, value_of-lt}
+use proofs.ByteFieldLaws.{field, inv_is}
+use proofs.FastProduct.{by_fast_mul8}
 
 -- a test passes at k bits if it does at those of each number below 2^k
 all_at_bits : (p : List Bool → Bool) (q : List Bool) → all_below (λ n. p (bits_of (length q) n)) (2 ^ length q) ≡ true → p q ≡ true

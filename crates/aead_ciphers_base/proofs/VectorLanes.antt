@@ -1,12 +1,14 @@
 -- Four lists side by side in the lanes of vectors.
 use Rattle.std.proofs.Common.{◌≡◌, ℕ, ◌+◌, ◌-◌, ◌*◌, ◌/◌, ◌%◌, ◌^◌, ◌<◌, List, [], ◌∷◌, ◌++◌, ◌≤◌, length, take, drop, slice_index, slice_index_or, slice_set, bit_or, bit_xor, sym, ap, ap₂, ◌∙◌, arith, take_all, drop_at, length-take}
 use Rattle.std.specs.Simd.Lanes.{zip2}
-use Rattle.std.proofs.lemmas.List.{map-set, get_or-map, get_or-replicate, length-map, take_more, take_more_set, drop-take}
-use Rattle.std.proofs.lemmas.Simd.{get_or-zip2, length-zip2}
-use Rattle.std.proofs.lemmas.Slice.{take-put_mid, take-put_mid_below}
+use Rattle.std.proofs.lemmas
+use lemmas.List.{map-set, get_or-map, get_or-replicate, length-map, take_more, take_more_set, drop-take}
+use lemmas.Simd.{get_or-zip2, length-zip2}
+use lemmas.Slice.{take-put_mid, take-put_mid_below}
 use borrow.Rule.Slice.PartMut.{put_mid}
-use Rattle.aead_ciphers_base.specs.ChaCha20.{xor_rotate, quarter_round, quarter_round_at}
-use Rattle.aead_ciphers_base.specs.Lanes.{lane}
+use Rattle.aead_ciphers_base.specs
+use specs.ChaCha20.{xor_rotate, quarter_round, quarter_round_at}
+use specs.Lanes.{lane}
 
 pub length-lane : (j : ℕ) (vectors : List (List ℕ)) → length (lane j vectors) ≡ length vectors
 length-lane j vectors = length-map vectors (λ vector. slice_index vector j)

@@ -1,7 +1,8 @@
 -- The XOR of two lists of bytes.
-use Rattle.std.proofs.Common.{◌≡◌, ℕ, zero, suc, ◌<◌, ◌≤◌, List, [], ◌∷◌, ◌++◌, length, get_or, take, replicate, All, bit_xor, refl, sym, ap, ap₂, ◌∙◌, arith}
-use Rattle.std.proofs.lemmas.List.FromFn.{fill_by_all}
-use Rattle.std.proofs.lemmas.Nat.{xor_lt, xor_comm as number_comm}
+use Rattle.std.proofs
+use proofs.Common.{◌≡◌, ℕ, zero, suc, ◌<◌, ◌≤◌, List, [], ◌∷◌, ◌++◌, length, get_or, take, replicate, All, bit_xor, refl, sym, ap, ap₂, ◌∙◌, arith}
+use proofs.lemmas.List.FromFn.{fill_by_all}
+use proofs.lemmas.Nat.{xor_lt, xor_comm as number_comm}
 use Rattle.std.specs.Int.Bits.{xor_assoc as number_assoc, xor_self, xor_zero_r}
 use Rattle.aead_ciphers_base.specs.Bytes.{each_below, ◌⊕◌}
 

@@ -1,7 +1,8 @@
 -- Unmasking undoes masking.
-use Rattle.std.proofs.Common.{◌≡◌, ℕ, zero, suc, ◌+◌, ◌-◌, ◌<◌, ◌≤◌, ◌⊎◌, inl, inr, Bool, true, false, eqb, cond, List, length, get_or, take, drop, bit_and, bit_xor, length-take-le, length-drop, sym, ap, subst, ◌∙◌, arith, ext_get_or, get_or-drop, get_or-take}
-use Rattle.std.proofs.lemmas.Bool.{cases_lt}
-use Rattle.std.proofs.lemmas.Nat.{and_assoc, and_le_r, and_xor_apart}
+use Rattle.std.proofs
+use proofs.Common.{◌≡◌, ℕ, zero, suc, ◌+◌, ◌-◌, ◌<◌, ◌≤◌, ◌⊎◌, inl, inr, Bool, true, false, eqb, cond, List, length, get_or, take, drop, bit_and, bit_xor, length-take-le, length-drop, sym, ap, subst, ◌∙◌, arith, ext_get_or, get_or-drop, get_or-take}
+use proofs.lemmas.Bool.{cases_lt}
+use proofs.lemmas.Nat.{and_assoc, and_le_r, and_xor_apart}
 use Rattle.std.specs.Int.Bits.{and_zero_r, xor_assoc, xor_self, xor_zero_r}
 use Rattle.aead_ciphers.specs.HeaderProtection.{HeaderKey, header_protection}
 use Rattle.quic_packets.specs.Header.{HasSample, Masked, Protected, Unprotected, first_mask, mask_of, number_len}

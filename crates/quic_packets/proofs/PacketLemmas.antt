@@ -2,10 +2,11 @@
 use Rattle.std.proofs.Common.{◌≡◌, ℕ, ◌+◌, ◌-◌, ◌<◌, List, ◌++◌, length, get_or, take, drop, sym, ap, ap₂, subst, ◌∙◌, length-append, length-drop, arith, drop_at, get_or-take, length-take-le, take_at}
 use Rattle.std.proofs.Math.Seq.{take-add}
 use Rattle.aead_ciphers_base.specs.Aes.{aes}
-use Rattle.aead_ciphers.specs.Gcm.{gcm_decrypted, gcm_encrypted, gcm_tag}
-use Rattle.aead_ciphers.specs.HeaderProtection.{HeaderKey}
-use Rattle.aead_ciphers.specs.Counting.{xored_nonce}
-use Rattle.aead_ciphers.specs.Packet.{PacketFits, packet_message, sealed_packet}
+use Rattle.aead_ciphers.specs
+use specs.Gcm.{gcm_decrypted, gcm_encrypted, gcm_tag}
+use specs.HeaderProtection.{HeaderKey}
+use specs.Counting.{xored_nonce}
+use specs.Packet.{PacketFits, packet_message, sealed_packet}
 use Rattle.aead_ciphers.proofs.MessageLaws.{decrypted-encrypted, length-aes_encrypted, length-aes_tag}
 use Rattle.quic_packets.specs.Header.{HasSample, Protected, Unprotected, number_len}
 use Rattle.quic_packets.specs.Keys.{Receiving}

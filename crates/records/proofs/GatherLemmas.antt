@@ -1,14 +1,16 @@
 -- A record that stands in a buffer, and its inner plaintext, which stands before it.
-use Rattle.std.proofs.Common.{◌≡◌, ◌≢◌, ℕ, Bool, ◌+◌, ◌-◌, ◌<◌, ◌≤◌, List, ◌++◌, length, take, drop, replicate, true, false, refl, sym, ap, ◌∙◌, arith, append_assoc, drop-drop, drop_at, length-drop, length-take-le, take-append-drop, take-take, take_at, Ok, Err}
-use Rattle.std.proofs.lemmas.List.{append_cancel_left, drop-append-le}
-use Rattle.std.proofs.lemmas.Slice.{between_is}
+use Rattle.std.proofs
+use proofs.Common.{◌≡◌, ◌≢◌, ℕ, Bool, ◌+◌, ◌-◌, ◌<◌, ◌≤◌, List, ◌++◌, length, take, drop, replicate, true, false, refl, sym, ap, ◌∙◌, arith, append_assoc, drop-drop, drop_at, length-drop, length-take-le, take-append-drop, take-take, take_at, Ok, Err}
+use proofs.lemmas.List.{append_cancel_left, drop-append-le}
+use proofs.lemmas.Slice.{between_is}
 use Rattle.aead_ciphers_base.specs.Aes.{aes}
 use Rattle.aead_ciphers.specs.Gcm.{gcm_decrypted, OpenedAttached}
 use Rattle.aead_ciphers.proofs.MessageLaws.{encrypted-decrypted, length-aes_decrypted}
-use Rattle.records.specs.Record.{IsWhole, inner_plaintext}
-use Rattle.records.specs.State.{State, next_nonce, advanced, IsEnded}
-use Rattle.records.specs.Steps.{LeavesInner, Reads, Seals, overwritten}
-use Rattle.records.specs.declared.record_error.RecordError.TheVariants.{NoContentType, Refused}
+use Rattle.records.specs
+use specs.Record.{IsWhole, inner_plaintext}
+use specs.State.{State, next_nonce, advanced, IsEnded}
+use specs.Steps.{LeavesInner, Reads, Seals, overwritten}
+use specs.declared.record_error.RecordError.TheVariants.{NoContentType, Refused}
 use Rattle.records.proofs.RecordLemmas.{carried_seals, carries_from, sealed_parts, zeros_carry_nothing}
 use borrow.Rule.Slice.PartMut.{put_mid}
 

@@ -1,14 +1,16 @@
 -- Records and their headers.
-use Rattle.std.proofs.Common.{◌≡◌, ◌≢◌, ℕ, ◌+◌, ◌-◌, ◌<◌, List, ◌++◌, length, get_or, take, drop, replicate, refl, sym, ap, ap₂, ◌∙◌, rules, arith, drop_at, get_or-drop, get_or-take, length-append, length-drop, take-append-drop, take_at, Err}
-use Rattle.std.proofs.lemmas.List.{append_cancel_left, get_or_past}
-use Rattle.std.proofs.lemmas.Nat.{be_bytes_2}
+use Rattle.std.proofs
+use proofs.Common.{◌≡◌, ◌≢◌, ℕ, ◌+◌, ◌-◌, ◌<◌, List, ◌++◌, length, get_or, take, drop, replicate, refl, sym, ap, ap₂, ◌∙◌, rules, arith, drop_at, get_or-drop, get_or-take, length-append, length-drop, take-append-drop, take_at, Err}
+use proofs.lemmas.List.{append_cancel_left, get_or_past}
+use proofs.lemmas.Nat.{be_bytes_2}
 use Rattle.aead_ciphers_base.specs.Aes.{aes}
 use Rattle.aead_ciphers.specs.Gcm.{gcm_decrypted, gcm_encrypted, gcm_sealed, gcm_tag}
-use Rattle.records.specs.Record.{Inner, IsHeader, IsWhole, encrypted_len, header, inner_plaintext}
-use Rattle.records.specs.State.{State, next_nonce, IsEnded}
-use Rattle.records.specs.Steps.{Carries, Reads, RefusesBytes, RefusesToRead, Seals}
-use Rattle.records.specs.declared.record_error.RecordError.{RecordError}
-use Rattle.records.specs.declared.record_error.RecordError.TheVariants.{WrongLength}
+use Rattle.records.specs
+use specs.Record.{Inner, IsHeader, IsWhole, encrypted_len, header, inner_plaintext}
+use specs.State.{State, next_nonce, IsEnded}
+use specs.Steps.{Carries, Reads, RefusesBytes, RefusesToRead, Seals}
+use specs.declared.record_error.RecordError.{RecordError}
+use specs.declared.record_error.RecordError.TheVariants.{WrongLength}
 use Rattle.aead_ciphers.proofs.MessageLaws.{decrypted-encrypted, length-aes_encrypted, length-aes_sealed, length-aes_tag}
 use Rattle.records.proofs.InnerLemmas.{length-inner_plaintext, not_zeros, same_inner}
 

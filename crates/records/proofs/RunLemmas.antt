@@ -1,10 +1,11 @@
 -- Reading undoes writing.
 use Rattle.std.proofs.Common.{◌≡◌, ℕ, List, [], ◌∷◌, false, true, map, refl, sym, ap₂, subst, ◌∙◌, rules, Result, Ok, Err}
 use Rattle.aead_ciphers.specs.Runs.{Runs}
-use Rattle.records.specs.Record.{Inner}
-use Rattle.records.specs.State.{State}
-use Rattle.records.specs.Steps.{Reads, Writes, content_of_inner}
-use Rattle.records.specs.declared.record_error.RecordError.{RecordError}
+use Rattle.records.specs
+use specs.Record.{Inner}
+use specs.State.{State}
+use specs.Steps.{Reads, Writes, content_of_inner}
+use specs.declared.record_error.RecordError.{RecordError}
 use Rattle.records.proofs.RecordLemmas.{same_content}
 
 abbrev Answer : Type 0

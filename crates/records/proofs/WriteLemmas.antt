@@ -2,8 +2,9 @@
 use Rattle.std.proofs.Common.{◌≡◌, ℕ, ◌-◌, List, ◌++◌, length, take, drop, replicate, refl, ap, ◌∙◌, arith, append-nil, drop_at, length-append, take_all, take_at}
 use Rattle.std.proofs.lemmas.List.{drop_all}
 use Rattle.aead_ciphers_base.specs.Aes.{aes}
-use Rattle.aead_ciphers.specs.Gcm.{gcm_sealed}
-use Rattle.aead_ciphers.specs.Packet.{sealed_packet}
+use Rattle.aead_ciphers.specs
+use specs.Gcm.{gcm_sealed}
+use specs.Packet.{sealed_packet}
 use Rattle.aead_ciphers.proofs.MessageLaws.{length-aes_encrypted, length-aes_tag}
 use borrow.Rule.Slice.PartMut.{put_mid}
 

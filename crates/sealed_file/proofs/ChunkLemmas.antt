@@ -1,12 +1,14 @@
 -- What the calls for one chunk say.
-use Rattle.std.proofs.Common.{◌≡◌, ◌↔◌, ℕ, Bool, true, ◌-◌, ◌≤◌, List, ◌++◌, length, drop, map, get_or, refl, sym, ap, ◌∙◌, arith, append-nil, drop_at, length-append, take_at}
+use Rattle.std.proofs
+use proofs.Common.{◌≡◌, ◌↔◌, ℕ, Bool, true, ◌-◌, ◌≤◌, List, ◌++◌, length, drop, map, get_or, refl, sym, ap, ◌∙◌, arith, append-nil, drop_at, length-append, take_at}
 use Rattle.std.specs.List.{range_with_len}
-use Rattle.std.proofs.lemmas.List.{drop_all}
-use Rattle.std.proofs.lemmas.List.FromFn.{fill_by_all}
+use proofs.lemmas.List.{drop_all}
+use proofs.lemmas.List.FromFn.{fill_by_all}
 use Rattle.aead_ciphers_base.specs.Aes.{aes}
 use Rattle.aead_ciphers.specs.Gcm.{gcm_decrypted, Opened}
-use Rattle.sealed_file.specs.Format.{chunk_len, magic_and_version, chunk_nonce, header}
-use Rattle.sealed_file.specs.Opening.{HasTag, chunk_tag, ciphertext_of, opened_chunk}
+use Rattle.sealed_file.specs
+use specs.Format.{chunk_len, magic_and_version, chunk_nonce, header}
+use specs.Opening.{HasTag, chunk_tag, ciphertext_of, opened_chunk}
 
 -- a list by its items
 pub items : (n : ℕ) (xs : List ℕ) → length xs ≡ n → xs ≡ map (λ i. get_or xs i 0) (range_with_len 0 n)

@@ -1,11 +1,13 @@
 -- A sealed file that is cut after a chunk.
 use Rattle.std.proofs.Common.{◌≡◌, ℕ, Bool, false, ◌+◌, ◌-◌, ◌*◌, ◌<◌, ◌≤◌, List, length, take, drop, ap, ◌∙◌, arith, eq-eqb, ne_eqb, length-take-le, take-take}
 use Rattle.std.proofs.lemmas.List.{drop-take}
-use Rattle.sealed_file.specs.Format.{chunk_len, sealed_chunk_len, piece, sealed_chunk, sealed_file}
-use Rattle.sealed_file.specs.Opening.{HasTag, IsSealed, HasBothTags, last_chunk, prefix_of, body_of}
-use Rattle.sealed_file.proofs.ChunkLemmas.{of_same}
-use Rattle.sealed_file.proofs.PieceLemmas.{last_piece-above, last_piece-le}
-use Rattle.sealed_file.proofs.FileLemmas.{both_tags, last_of, length-body, piece_is, prefix_is}
+use Rattle.sealed_file.specs
+use specs.Format.{chunk_len, sealed_chunk_len, piece, sealed_chunk, sealed_file}
+use specs.Opening.{HasTag, IsSealed, HasBothTags, last_chunk, prefix_of, body_of}
+use Rattle.sealed_file.proofs
+use proofs.ChunkLemmas.{of_same}
+use proofs.PieceLemmas.{last_piece-above, last_piece-le}
+use proofs.FileLemmas.{both_tags, last_of, length-body, piece_is, prefix_is}
 
 module _ (key prefix file : List ℕ) (n : ℕ) (seven : length prefix ≡ 7) (some : 0 < n) (inside : n ≤ last_of file) where
   abbrev whole : List ℕ

@@ -1,14 +1,16 @@
 -- A sealed file is one, and opening it gives the file.
 use Rattle.std.proofs.Common.{◌≡◌, ℕ, Bool, true, false, ◌+◌, ◌-◌, ◌*◌, ◌^◌, ◌<◌, ◌≤◌, List, ◌++◌, length, take, drop, refl, sym, ap, subst, ◌∙◌, arith, ◌==◌, drop_at, length-append, length-drop, length-take, take_at, take-take}
 use Rattle.std.specs.List.{concat}
-use Rattle.aead_ciphers_base.specs.Bytes.{each_below}
+use Rattle.aead_ciphers_base.specs
+use specs.Bytes.{each_below}
 use Rattle.aead_ciphers_base.proofs.EachLemmas.{each-same}
-use Rattle.aead_ciphers_base.specs.Aes.{aes}
+use specs.Aes.{aes}
 use Rattle.aead_ciphers.specs.Gcm.{gcm_encrypted, gcm_decrypted}
 use Rattle.sealed_file.specs.Format.{chunk_len, sealed_chunk_len, piece, last_piece, magic_and_version, header, chunk_nonce, sealed_chunk, sealed_chunks, sealed_file}
 use Rattle.sealed_file.specs.Opening.{HasTag, HasBothTags, IsSealed, chunk_tag, opened_chunk, opened_chunks, opened_file, prefix_of, body_of, last_chunk}
-use Rattle.sealed_file.proofs.ChunkLemmas.{front_is, has_tag, of_same, tag_is}
-use Rattle.sealed_file.proofs.PieceLemmas.{all_pieces, last_of_joined, length-all, length-piece, length-piece-le, piece_of_joined}
+use Rattle.sealed_file.proofs
+use proofs.ChunkLemmas.{front_is, has_tag, of_same, tag_is}
+use proofs.PieceLemmas.{all_pieces, last_of_joined, length-all, length-piece, length-piece-le, piece_of_joined}
 use Rattle.aead_ciphers.proofs.MessageLaws.{length-aes_sealed, length-aes_tag, decrypted-encrypted}
 
 module _ (key prefix : List ℕ) (number : ℕ) (flag : Bool) (chunk : List ℕ) where

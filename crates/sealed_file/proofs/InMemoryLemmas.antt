@@ -1,13 +1,15 @@
 -- What sealing and opening in memory ask beyond the steps.
 use Rattle.std.proofs.Common.{◌≡◌, ℕ, ◌+◌, ◌-◌, ◌*◌, ◌<◌, ◌≤◌, List, ◌++◌, length, take, drop, sym, ap, ◌∙◌, arith, append_assoc, ◌==◌, drop_at, length-drop, length-take, length-append, take-append-drop, take_at, take-take}
 use Rattle.aead_ciphers.proofs.MessageLaws.{length-aes_decrypted}
-use Rattle.sealed_file.specs.declared.error.FileError.{FileError}
-use Rattle.sealed_file.specs.declared.error.FileError.TheVariants.{OutOfMemory, Io}
-use Rattle.sealed_file.specs.Format.{chunk_len, sealed_chunk_len, piece, chunk_nonce}
-use Rattle.sealed_file.specs.Opening.{ciphertext_of, opened_chunk, opened_chunks, opened_file, last_chunk, prefix_of, body_of}
-use Rattle.sealed_file.specs.Refusals.{RefusesAt, OpenRefuses, FailsInMemory}
-use Rattle.sealed_file.proofs.OpenLemmas.{message_at, refused_at}
-use Rattle.sealed_file.proofs.PieceLemmas.{length-all, length-parts-le, length-piece}
+use Rattle.sealed_file.specs
+use specs.declared.error.FileError.{FileError}
+use specs.declared.error.FileError.TheVariants.{OutOfMemory, Io}
+use specs.Format.{chunk_len, sealed_chunk_len, piece, chunk_nonce}
+use specs.Opening.{ciphertext_of, opened_chunk, opened_chunks, opened_file, last_chunk, prefix_of, body_of}
+use specs.Refusals.{RefusesAt, OpenRefuses, FailsInMemory}
+use Rattle.sealed_file.proofs
+use proofs.OpenLemmas.{message_at, refused_at}
+use proofs.PieceLemmas.{length-all, length-parts-le, length-piece}
 
 -- what was written from the end of a list on
 pub written_behind : (f : List ℕ → List ℕ) (old chunk all new tag : List ℕ) (start : ℕ) → length old ≡ start → all ≡ old ++ chunk

@@ -3,15 +3,17 @@ use Rattle.std.proofs.Common.{◌≡◌, ℕ, Bool, true, false, inl, inr, IfSom
 use Rattle.std.specs.Io.KnownBytes.{Appends, Keeps}
 use Rattle.std.proofs.KnownBytes.{Appends-kept, Appends-nil, Appends-trans, Keeps-refl}
 use Rattle.std.proofs.lemmas.Bool.{eqb-false}
-use Rattle.sealed_file.specs.declared.error.FileError.{FileError}
-use Rattle.sealed_file.specs.declared.error.FileError.TheVariants.{TooLong, Io}
-use Rattle.sealed_file.specs.Format.{sealed_chunk_len, piece}
-use Rattle.sealed_file.specs.Opening.{HasTag, HasRightTag, HasHeader, AreRight, IsSealed, opened_chunk, opened_chunks, opened_file, last_chunk, prefix_of, body_of}
-use Rattle.sealed_file.specs.Refusals.{HeaderRefuses, ChunkRefuses, RefusesAt, OpenRefuses}
-use Rattle.sealed_file.specs.Streams.{AppendsBeginning, TakesFront}
-use Rattle.sealed_file.proofs.ChunkLemmas.{of_same}
-use Rattle.sealed_file.proofs.PieceLemmas.{joined_more}
-use Rattle.sealed_file.proofs.StreamLemmas.{flag_is, next_read, begins_more, begins_none}
+use Rattle.sealed_file.specs
+use specs.declared.error.FileError.{FileError}
+use specs.declared.error.FileError.TheVariants.{TooLong, Io}
+use specs.Format.{sealed_chunk_len, piece}
+use specs.Opening.{HasTag, HasRightTag, HasHeader, AreRight, IsSealed, opened_chunk, opened_chunks, opened_file, last_chunk, prefix_of, body_of}
+use specs.Refusals.{HeaderRefuses, ChunkRefuses, RefusesAt, OpenRefuses}
+use specs.Streams.{AppendsBeginning, TakesFront}
+use Rattle.sealed_file.proofs
+use proofs.ChunkLemmas.{of_same}
+use proofs.PieceLemmas.{joined_more}
+use proofs.StreamLemmas.{flag_is, next_read, begins_more, begins_none}
 
 -- chunk i of a sealed file, opened
 abbrev pub message_at : (key file : List ℕ) → ℕ → List ℕ

@@ -3,11 +3,13 @@ use Rattle.std.proofs.Common.{◌≡◌, ℕ, Bool, true, false, IfSome, ◌+◌
 use Rattle.std.specs.Io.KnownBytes.{Appends}
 use Rattle.std.proofs.KnownBytes.{Appends-nil, Appends-trans}
 use Rattle.std.proofs.lemmas.Bool.{eqb-false}
-use Rattle.sealed_file.specs.Format.{chunk_len, piece, header, sealed_chunk, sealed_chunks, sealed_file}
-use Rattle.sealed_file.specs.Streams.{AppendsBeginning, TakesFront}
-use Rattle.sealed_file.proofs.FileLemmas.{chunk_at, last_of, length-chunk_at}
-use Rattle.sealed_file.proofs.PieceLemmas.{joined_more, joined_parts, length-parts-le}
-use Rattle.sealed_file.proofs.StreamLemmas.{begins_more, flag_is, next_read}
+use Rattle.sealed_file.specs
+use specs.Format.{chunk_len, piece, header, sealed_chunk, sealed_chunks, sealed_file}
+use specs.Streams.{AppendsBeginning, TakesFront}
+use Rattle.sealed_file.proofs
+use proofs.FileLemmas.{chunk_at, last_of, length-chunk_at}
+use proofs.PieceLemmas.{joined_more, joined_parts, length-parts-le}
+use proofs.StreamLemmas.{begins_more, flag_is, next_read}
 
 -- what stands in front of chunk n
 abbrev pub sealed_before : (key prefix file : List ℕ) (n : ℕ) → List ℕ

@@ -1,12 +1,14 @@
 -- Steps of the loops over a reader and a writer.
-use Rattle.std.proofs.Common.{◌≡◌, ℕ, inl, inr, None, Some, IfSome, Result, Ok, Err, OnErr, ◌+◌, ◌-◌, ◌*◌, ◌<◌, ◌≤◌, List, [], ◌++◌, length, take, drop, refl, sym, ap, subst, ◌∙◌, arith, append_assoc, append-nil, ◌==◌, Option, drop_at, take-append-drop, take_at, take_all}
+use Rattle.std.proofs
+use proofs.Common.{◌≡◌, ℕ, inl, inr, None, Some, IfSome, Result, Ok, Err, OnErr, ◌+◌, ◌-◌, ◌*◌, ◌<◌, ◌≤◌, List, [], ◌++◌, length, take, drop, refl, sym, ap, subst, ◌∙◌, arith, append_assoc, append-nil, ◌==◌, Option, drop_at, take-append-drop, take_at, take_all}
 use Rattle.std.specs.Io.KnownBytes.{Appends, Consumes, IsAtEnd, Keeps}
-use Rattle.std.proofs.KnownBytes.{Appends-nil, Appends-trans, Consumes-kept, Consumes-trans}
-use Rattle.std.proofs.Math.Seq.{take-add}
-use Rattle.std.proofs.lemmas.Bool.{cases_lt}
-use Rattle.std.proofs.lemmas.List.{drop_all, take_rest}
-use Rattle.sealed_file.specs.Format.{last_piece}
-use Rattle.sealed_file.specs.Streams.{AppendsBeginning, TakesFront}
+use proofs.KnownBytes.{Appends-nil, Appends-trans, Consumes-kept, Consumes-trans}
+use proofs.Math.Seq.{take-add}
+use proofs.lemmas.Bool.{cases_lt}
+use proofs.lemmas.List.{drop_all, take_rest}
+use Rattle.sealed_file.specs
+use specs.Format.{last_piece}
+use specs.Streams.{AppendsBeginning, TakesFront}
 use Rattle.sealed_file.proofs.PieceLemmas.{is_last, rest_behind}
 
 -- ---- reading

@@ -1,6 +1,7 @@
 use Rattle.std.proofs.Common.{rules}
-use Rattle.aead_ciphers.proofs.ChangedBlock.{changed_tag}
-use Rattle.aead_ciphers.proofs.laws.one_changed_block.Goals as goal
+use Rattle.aead_ciphers.proofs
+use proofs.ChangedBlock.{changed_tag}
+use proofs.laws.one_changed_block.Goals as goal
 
 pub returns : goal.returns
 returns c inverse _ _ one =

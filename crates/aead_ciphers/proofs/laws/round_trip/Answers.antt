@@ -1,6 +1,7 @@
 use Rattle.std.proofs.Common.{◌≡◌, ◌<◌, ◌≤◌, ◌^◌, ◌-◌, arith, length, rules, vec_len}
-use Rattle.aead_ciphers.proofs.RoundTripLemmas.{All-slice_get, opens_again}
-use Rattle.aead_ciphers.proofs.laws.round_trip.Goals as goal
+use Rattle.aead_ciphers.proofs
+use proofs.RoundTripLemmas.{All-slice_get, opens_again}
+use proofs.laws.round_trip.Goals as goal
 
 pub returns : goal.returns
 returns c i nonce aad message _ here there =

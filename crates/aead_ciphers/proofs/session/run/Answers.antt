@@ -1,6 +1,7 @@
 use Rattle.std.proofs.Common.{arith, ◌<◌, length}
-use Rattle.aead_ciphers.proofs.RunLemmas.{Runs-next}
-use Rattle.aead_ciphers.proofs.session.run.Goals as goal
+use Rattle.aead_ciphers.proofs
+use proofs.RunLemmas.{Runs-next}
+use proofs.session.run.Goals as goal
 
 pub loop-job-preserved : goal.loop-job-preserved
 loop-job-preserved g c =

@@ -1,7 +1,8 @@
 use Rattle.std.proofs.Common.{◌≡◌, take, drop, ◌≢◌, vec_capacity}
 use Rattle.std.specs.List.{AllZip}
-use Rattle.aead_ciphers.specs.Runs.{JobStep, Runs}
-use Rattle.aead_ciphers.specs.declared.session.Operation.TheVariants.{Seal}
+use Rattle.aead_ciphers.specs
+use specs.Runs.{JobStep, Runs}
+use specs.declared.session.Operation.TheVariants.{Seal}
 use Rattle.aead_ciphers.proofs.session.run.Given as goal
 
 -- the jobs so far ran, those that open left their buffers' capacity, and the others are as they were

@@ -1,8 +1,9 @@
 use Rattle.std.proofs.Common.{◌≡◌, ℕ, length, length-set, refl, sym, ◌∙◌, arith, slice_index, slice_set, get_or-set_same, get_or-set_other, ext_get_or}
 use borrow.Author.Count.{below_more}
 use Rattle.aead_ciphers_base.specs.ChaCha20.{le_words}
-use Rattle.aead_ciphers_base.proofs.LittleEndian.{length-le_words, get_or-le_words}
-use Rattle.aead_ciphers_base.proofs.chacha.le_words.Goals as goal
+use Rattle.aead_ciphers_base.proofs
+use proofs.LittleEndian.{length-le_words, get_or-le_words}
+use proofs.chacha.le_words.Goals as goal
 
 pub loop-i-preserved : goal.loop-i-preserved
 loop-i-preserved g c =

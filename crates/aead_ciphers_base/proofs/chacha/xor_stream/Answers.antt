@@ -1,7 +1,8 @@
 use Rattle.std.proofs.Common.{◌≡◌, ℕ, List, ◌+◌, ◌-◌, ◌≤◌, ◌++◌, length, take, drop, rules, ap, sym, ◌∙◌, arith, append_assoc, length-take, length-drop, take_at, drop-drop}
 use Rattle.aead_ciphers_base.specs.Bytes.{◌⊕◌}
-use Rattle.aead_ciphers_base.proofs.XorLemmas.{length-xor, xor_comm}
-use Rattle.aead_ciphers_base.proofs.chacha.xor_stream.Goals as goal
+use Rattle.aead_ciphers_base.proofs
+use proofs.XorLemmas.{length-xor, xor_comm}
+use proofs.chacha.xor_stream.Goals as goal
 
 -- n bytes of a block that was XORed with n bytes
 front : (block mixed piece : List ℕ) (n : ℕ) → length piece ≡ n → n ≤ length block

@@ -1,7 +1,8 @@
 use Rattle.std.proofs.Common.{arith, rules, refl, sym, ◌∙◌, ◌≡◌, ap, subst, ℕ, suc, ◌+◌, ◌-◌, ◌*◌, ◌/◌, ◌<◌, ◌≤◌, drop, length, length-drop}
 use Rattle.std.proofs.Math.Nat.{suc-mul, div-mul-le_self, mul-le-mul_right}
-use Rattle.aead_ciphers_base.proofs.ShiftedBlocks.{may_take, shift_more, shifts_all}
-use Rattle.aead_ciphers_base.proofs.shift.shift_full_blocks.Goals as goal
+use Rattle.aead_ciphers_base.proofs
+use proofs.ShiftedBlocks.{may_take, shift_more, shifts_all}
+use proofs.shift.shift_full_blocks.Goals as goal
 
 -- block i ends within the list
 block_fits : (i n len start : ℕ) → i < (len - start) / n → start ≤ len → start + (i * n + n) ≤ len

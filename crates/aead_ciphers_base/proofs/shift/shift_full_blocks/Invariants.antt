@@ -1,5 +1,6 @@
-use Rattle.aead_ciphers_base.proofs.ShiftedBlocks.{ShiftsFirst}
-use Rattle.aead_ciphers_base.proofs.shift.shift_full_blocks.Given as goal
+use Rattle.aead_ciphers_base.proofs
+use proofs.ShiftedBlocks.{ShiftsFirst}
+use proofs.shift.shift_full_blocks.Given as goal
 
 abbrev pub invariant-loop-i : goal.invariant-loop-i
 invariant-loop-i g l =

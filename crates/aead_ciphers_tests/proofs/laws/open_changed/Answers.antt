@@ -1,7 +1,8 @@
 use Rattle.std.proofs.Common.{◌≡◌, ℕ, ◌-◌, Result, Ok, Err, false, is_ok, IsOk, IsErr, List, length, refl, sym, ap, subst, ◌∙◌, arith, rules}
-use Rattle.aead_ciphers_base.specs.Aes.{aes}
-use Rattle.aead_ciphers_base.specs.Bytes.{zero_block}
-use Rattle.aead_ciphers_base.specs.Values.{aad_bytes}
+use Rattle.aead_ciphers_base.specs
+use specs.Aes.{aes}
+use specs.Bytes.{zero_block}
+use specs.Values.{aad_bytes}
 use Rattle.aead_ciphers.specs.Different.{HasInverse}
 use Rattle.aead_ciphers.specs.Gcm.{Fits, gcm_tag}
 use Rattle.aead_ciphers_tests.proofs.laws.open_changed.Goals as goal

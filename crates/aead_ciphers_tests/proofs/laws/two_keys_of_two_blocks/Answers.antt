@@ -3,8 +3,9 @@ use Rattle.aead_ciphers_base.specs.Bytes.{◌⊕◌, zero_block}
 use Rattle.aead_ciphers.specs.Ghash.{unit_block}
 use Rattle.aead_ciphers.proofs.BlockCancellation.{IsBlock-unit, IsBlock-zero}
 use Rattle.aead_ciphers.proofs.GhashLaws.{product_unit}
-use Rattle.aead_ciphers_tests.proofs.TwoBlocks.{under_unit, under_zero}
-use Rattle.aead_ciphers_tests.proofs.laws.two_keys_of_two_blocks.Goals as goal
+use Rattle.aead_ciphers_tests.proofs
+use proofs.TwoBlocks.{under_unit, under_zero}
+use proofs.laws.two_keys_of_two_blocks.Goals as goal
 
 pub returns-clause-apart : goal.returns-clause-apart
 returns-clause-apart c = (unit_block, IsBlock-unit, product_unit unit_block IsBlock-unit)

@@ -4,8 +4,9 @@ use Rattle.aead_ciphers_base.specs.Bytes.{zero_block}
 use Rattle.aead_ciphers.specs.Gcm.{hashed, length_block, padded_block, padded_blocks}
 use Rattle.aead_ciphers.proofs.BlockCancellation.{IsBlock-zero}
 use Rattle.aead_ciphers.proofs.GhashBlocks.{IsBlock-number}
-use Rattle.aead_ciphers_tests.proofs.TwoBlocks.{under_unit, under_zero}
-use Rattle.aead_ciphers_tests.proofs.laws.two_subkeys_of_two_messages.Goals as goal
+use Rattle.aead_ciphers_tests.proofs
+use proofs.TwoBlocks.{under_unit, under_zero}
+use proofs.laws.two_subkeys_of_two_messages.Goals as goal
 
 hashed_15 : hashed [] (replicate 15 0) ≡ zero_block ∷ to_be_bytes w128 0x78 ∷ []
 unfolding hashed padded_blocks padded_block length_block

@@ -1,5 +1,6 @@
-use Rattle.quic_packets.proofs.PacketLemmas.{sealed_opens}
-use Rattle.quic_packets.proofs.laws.open_undoes_seal.Goals as goal
+use Rattle.quic_packets.proofs
+use proofs.PacketLemmas.{sealed_opens}
+use proofs.laws.open_undoes_seal.Goals as goal
 
 pub returns : goal.returns
 returns c has =

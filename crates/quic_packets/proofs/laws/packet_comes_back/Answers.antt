@@ -1,5 +1,6 @@
-use Rattle.quic_packets.proofs.PacketLemmas.{comes_back}
-use Rattle.quic_packets.proofs.laws.packet_comes_back.Goals as goal
+use Rattle.quic_packets.proofs
+use proofs.PacketLemmas.{comes_back}
+use proofs.laws.packet_comes_back.Goals as goal
 
 pub returns : goal.returns
 returns c payload number sample wire back =

@@ -1,6 +1,7 @@
-use Rattle.std.proofs.Common.{◌≡◌, ℕ, ◌-◌, List, length, take, drop, ap, subst, ◌∙◌, length-drop, arith, take_all}
-use Rattle.std.proofs.lemmas.Bool.Decides.{Decides-eqb}
-use Rattle.std.proofs.lemmas.Slice.Eq.{slice_eq-Decides}
+use Rattle.std.proofs
+use proofs.Common.{◌≡◌, ℕ, ◌-◌, List, length, take, drop, ap, subst, ◌∙◌, length-drop, arith, take_all}
+use proofs.lemmas.Bool.Decides.{Decides-eqb}
+use proofs.lemmas.Slice.Eq.{slice_eq-Decides}
 use Rattle.std.specs.Bool.{Decides}
 use Rattle.quic_packets.specs.Packet.{low_bytes}
 use Rattle.quic_packets.proofs.send.are_low_bytes.Goals as goal

@@ -1,6 +1,7 @@
 use Rattle.std.proofs.lemmas.Bool.{OnTrue_from}
-use Rattle.sealed_file.proofs.ChunkLemmas.{opens_tagged}
-use Rattle.sealed_file.proofs.chunk.has_opened.Goals as goal
+use Rattle.sealed_file.proofs
+use proofs.ChunkLemmas.{opens_tagged}
+use proofs.chunk.has_opened.Goals as goal
 
 pub returns-clause-accepted : goal.returns-clause-accepted
 returns-clause-accepted c = rw c.is_ok.ensures.value (opens_tagged _ _ c.told-tag _ _ _ _ _ _ c.told-prefix c.requires

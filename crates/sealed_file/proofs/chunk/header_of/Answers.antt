@@ -1,7 +1,8 @@
 use Rattle.std.proofs.Common.{List, ℕ, ◌++◌, sym, ap}
 use Rattle.sealed_file.specs.Format.{magic_and_version}
-use Rattle.sealed_file.proofs.ChunkLemmas.{items}
-use Rattle.sealed_file.proofs.chunk.header_of.Goals as goal
+use Rattle.sealed_file.proofs
+use proofs.ChunkLemmas.{items}
+use proofs.chunk.header_of.Goals as goal
 
 pub returns : goal.returns
 returns c = ap (λ (l : List ℕ). magic_and_version ++ l) (sym (items 7 c.args.prefix.now c.told-prefix))

@@ -1,9 +1,10 @@
 use Rattle.std.proofs.Common.{◌≡◌, rules, List, [], ◌∷◌, ℕ, ◌++◌, length, sym, ap, ap₂, ◌∙◌, if◌then◌else◌}
 use Rattle.std.specs.Int.{to_be_bytes, w32}
 use Rattle.sealed_file.specs.Format.{chunk_nonce}
-use Rattle.sealed_file.proofs.ChunkLemmas.{items}
-use Rattle.sealed_file.proofs.chunk.nonce_of.Goals.{then-is_last, else-is_last}
-use Rattle.sealed_file.proofs.chunk.nonce_of.Goals as goal
+use Rattle.sealed_file.proofs
+use proofs.ChunkLemmas.{items}
+use proofs.chunk.nonce_of.Goals.{then-is_last, else-is_last}
+use proofs.chunk.nonce_of.Goals as goal
 
 pub returns : goal.returns
 unfolding chunk_nonce

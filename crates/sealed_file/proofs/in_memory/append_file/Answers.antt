@@ -1,10 +1,11 @@
 use Rattle.std.proofs.Common.{◌≡◌, ℕ, true, false, Some, length, arith, ap, refl, ◌==◌, eq-eqb, ne_eqb, length-append}
 use Rattle.std.proofs.lemmas.Result.{err_from_is_err_and}
 use Rattle.sealed_file.specs.Opening.{opened_chunks}
-use Rattle.sealed_file.proofs.InMemoryLemmas.{chunk_fails, front_through, open_fits}
-use Rattle.sealed_file.proofs.OpenLemmas.{chunk_refused, open_accepted, open_end, open_next, open_start}
-use Rattle.sealed_file.proofs.PieceLemmas.{length-piece-le}
-use Rattle.sealed_file.proofs.in_memory.append_file.Goals as goal
+use Rattle.sealed_file.proofs
+use proofs.InMemoryLemmas.{chunk_fails, front_through, open_fits}
+use proofs.OpenLemmas.{chunk_refused, open_accepted, open_end, open_next, open_start}
+use proofs.PieceLemmas.{length-piece-le}
+use proofs.in_memory.append_file.Goals as goal
 
 pub returns-in_err-reserve-clause-refused : goal.returns-in_err-reserve-clause-refused
 returns-in_err-reserve-clause-refused c =

@@ -1,8 +1,9 @@
 -- The chunks before this one were right, their messages were appended, and the others have room.
 use Rattle.std.proofs.Common.{Some, ◌+◌, ◌≤◌, length, vec_capacity, vec_len}
 use Rattle.sealed_file.specs.Opening.{opened_file}
-use Rattle.sealed_file.proofs.OpenLemmas.{Opening}
-use Rattle.sealed_file.proofs.in_memory.append_file.Given as goal
+use Rattle.sealed_file.proofs
+use proofs.OpenLemmas.{Opening}
+use proofs.in_memory.append_file.Given as goal
 
 abbrev pub invariant-loop-number : goal.invariant-loop-number
 invariant-loop-number l = record {

@@ -1,8 +1,9 @@
 use Rattle.std.proofs.Common.{◌≡◌, ◌++◌, arith, ◌∙◌}
 use Rattle.std.proofs.lemmas.Grind.{common_steps}
 use Rattle.sealed_file.specs.Format.{sealed_chunk}
-use Rattle.sealed_file.proofs.InMemoryLemmas.{written_behind}
-use Rattle.sealed_file.proofs.in_memory.append_sealed.Goals as goal
+use Rattle.sealed_file.proofs
+use proofs.InMemoryLemmas.{written_behind}
+use proofs.in_memory.append_sealed.Goals as goal
 
 pub returns-clause-sealed : goal.returns-clause-sealed
 returns-clause-sealed c =

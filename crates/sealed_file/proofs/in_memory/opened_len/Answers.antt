@@ -1,6 +1,7 @@
 use Rattle.std.proofs.Common.{arith, length-drop}
-use Rattle.sealed_file.proofs.InMemoryLemmas.{length-opened_file}
-use Rattle.sealed_file.proofs.in_memory.opened_len.Goals as goal
+use Rattle.sealed_file.proofs
+use proofs.InMemoryLemmas.{length-opened_file}
+use proofs.in_memory.opened_len.Goals as goal
 
 pub returns : goal.returns
 returns c = λ key.

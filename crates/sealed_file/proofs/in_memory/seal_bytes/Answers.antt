@@ -1,9 +1,10 @@
 use Rattle.std.proofs.Common.{rules, ℕ, List, Some, ◌++◌, length, arith, ap, ◌∙◌, ◌==◌, length-append}
 use Rattle.std.proofs.lemmas.Result.{err_from_is_err_and}
-use Rattle.sealed_file.proofs.FileLemmas.{length-sealed_file}
-use Rattle.sealed_file.proofs.PieceLemmas.{length-piece-le}
-use Rattle.sealed_file.proofs.SealLemmas.{header_written, seal_fits, seal_more, sealed_before, sealed_is}
-use Rattle.sealed_file.proofs.in_memory.seal_bytes.Goals as goal
+use Rattle.sealed_file.proofs
+use proofs.FileLemmas.{length-sealed_file}
+use proofs.PieceLemmas.{length-piece-le}
+use proofs.SealLemmas.{header_written, seal_fits, seal_more, sealed_before, sealed_is}
+use proofs.in_memory.seal_bytes.Goals as goal
 
 pub returns-in_err-reserve-clause-accepted : goal.returns-in_err-reserve-clause-accepted
 returns-in_err-reserve-clause-accepted c = λ room.

@@ -2,8 +2,9 @@
 use Rattle.std.proofs.Common.{Some, ◌+◌, ◌≤◌, length, vec_capacity, vec_len}
 use Rattle.std.specs.Io.KnownBytes.{Appends}
 use Rattle.sealed_file.specs.Format.{sealed_file}
-use Rattle.sealed_file.proofs.SealLemmas.{sealed_before}
-use Rattle.sealed_file.proofs.in_memory.seal_bytes.Given as goal
+use Rattle.sealed_file.proofs
+use proofs.SealLemmas.{sealed_before}
+use proofs.in_memory.seal_bytes.Given as goal
 
 abbrev pub invariant-loop-number : goal.invariant-loop-number
 invariant-loop-number l = record {

@@ -1,9 +1,11 @@
 use Rattle.std.proofs.Common.{◌≡◌, vec_len, arith, refl, true, false, ◌∙◌}
-use Rattle.std.proofs.lemmas.Option.{IfSome_then}
-use Rattle.std.proofs.lemmas.Result.{err_from_is_err_and}
-use Rattle.sealed_file.proofs.OpenLemmas.{header_refused, read_accepted, read_end, read_long, read_next, read_refused, read_start, read_stop, read_stop_in, stop_at_start}
-use Rattle.sealed_file.proofs.StreamLemmas.{stop, stop_then}
-use Rattle.sealed_file.proofs.opening.open.Goals as goal
+use Rattle.std.proofs.lemmas
+use lemmas.Option.{IfSome_then}
+use lemmas.Result.{err_from_is_err_and}
+use Rattle.sealed_file.proofs
+use proofs.OpenLemmas.{header_refused, read_accepted, read_end, read_long, read_next, read_refused, read_start, read_stop, read_stop_in, stop_at_start}
+use proofs.StreamLemmas.{stop, stop_then}
+use proofs.opening.open.Goals as goal
 
 pub returns-in_err-chunk-clause-nothing_past : goal.returns-in_err-chunk-clause-nothing_past
 returns-in_err-chunk-clause-nothing_past g c = stop _ _ (λ file. stop_at_start _ _ _)

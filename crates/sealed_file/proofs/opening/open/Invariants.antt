@@ -1,8 +1,9 @@
 -- The chunk is the next, and those before it were right and were written.
 use Rattle.std.proofs.Common.{◌≤◌, IfSome, vec_len}
 use Rattle.sealed_file.specs.Format.{sealed_chunk_len}
-use Rattle.sealed_file.proofs.OpenLemmas.{Reading}
-use Rattle.sealed_file.proofs.opening.open.Given as goal
+use Rattle.sealed_file.proofs
+use proofs.OpenLemmas.{Reading}
+use proofs.opening.open.Given as goal
 
 abbrev pub invariant-loop-number : goal.invariant-loop-number
 invariant-loop-number g l = (vec_len l.chunk ≤ sealed_chunk_len) × IfSome (g.R.Read.remaining l.fn.input)

@@ -1,8 +1,9 @@
 use Rattle.std.proofs.Common.{◌≡◌, vec_len, arith, ◌∙◌}
 use Rattle.std.proofs.lemmas.Option.{IfSome_then}
-use Rattle.sealed_file.proofs.SealLemmas.{seal_end, seal_few, seal_long, seal_next, seal_start, sealing_stop, sealing_stop_in, stop_behind_header, stop_in_header}
-use Rattle.sealed_file.proofs.StreamLemmas.{begins_none, stop, stop_then}
-use Rattle.sealed_file.proofs.sealing.seal.Goals as goal
+use Rattle.sealed_file.proofs
+use proofs.SealLemmas.{seal_end, seal_few, seal_long, seal_next, seal_start, sealing_stop, sealing_stop_in, stop_behind_header, stop_in_header}
+use proofs.StreamLemmas.{begins_none, stop, stop_then}
+use proofs.sealing.seal.Goals as goal
 
 pub returns-in_err-chunk-clause-beginning : goal.returns-in_err-chunk-clause-beginning
 returns-in_err-chunk-clause-beginning g c = stop _ _ (λ file. begins_none _ _)

@@ -1,8 +1,9 @@
 -- The chunk is the next, and those before it were written.
 use Rattle.std.proofs.Common.{◌≤◌, IfSome, vec_len}
 use Rattle.sealed_file.specs.Format.{chunk_len}
-use Rattle.sealed_file.proofs.SealLemmas.{Sealing}
-use Rattle.sealed_file.proofs.sealing.seal.Given as goal
+use Rattle.sealed_file.proofs
+use proofs.SealLemmas.{Sealing}
+use proofs.sealing.seal.Given as goal
 
 abbrev pub invariant-loop-number : goal.invariant-loop-number
 invariant-loop-number g l = (vec_len l.chunk ≤ chunk_len) × IfSome (g.R.Read.remaining l.fn.input)

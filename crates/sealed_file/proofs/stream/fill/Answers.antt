@@ -1,7 +1,8 @@
 use Rattle.std.proofs.Common.{arith}
-use Rattle.sealed_file.proofs.StreamLemmas.{filled_more, filled_same}
-use Rattle.sealed_file.proofs.stream.fill.Goals.{in-Ok, in-Err+else-ne}
-use Rattle.sealed_file.proofs.stream.fill.Goals as goal
+use Rattle.sealed_file.proofs
+use proofs.StreamLemmas.{filled_more, filled_same}
+use proofs.stream.fill.Goals.{in-Ok, in-Err+else-ne}
+use proofs.stream.fill.Goals as goal
 
 pub loop-preserved : goal.loop-preserved
 loop-preserved g c =

@@ -1,8 +1,9 @@
 use Rattle.std.proofs.Common.{◌≡◌, ◌≤◌, length, take, arith, subst, ap, sym, ◌∙◌, length-take-le}
 use Rattle.std.specs.Io.KnownBytes.{Consumes}
 use Rattle.std.proofs.lemmas.Grind.{common_steps}
-use Rattle.sealed_file.proofs.StreamLemmas.{taken}
-use Rattle.sealed_file.proofs.stream.read_piece.Goals as goal
+use Rattle.sealed_file.proofs
+use proofs.StreamLemmas.{taken}
+use proofs.stream.read_piece.Goals as goal
 
 pub returns-clause-bytes : goal.returns-clause-bytes
 returns-clause-bytes g c =

@@ -1,8 +1,9 @@
 use Rattle.std.proofs.Common.{ℕ, List, ◌++◌, length, take, drop, ◌-◌, sym, ap, ◌∙◌, ◌≡◌}
 use Rattle.std.proofs.KnownBytes.{Appends-kept, Appends-trans}
-use Rattle.sealed_file.proofs.StreamLemmas.{moves_front}
-use Rattle.sealed_file.proofs.stream.write_bytes.Goals.{in-Ok, in-Err+else-ne}
-use Rattle.sealed_file.proofs.stream.write_bytes.Goals as goal
+use Rattle.sealed_file.proofs
+use proofs.StreamLemmas.{moves_front}
+use proofs.stream.write_bytes.Goals.{in-Ok, in-Err+else-ne}
+use proofs.stream.write_bytes.Goals as goal
 
 pub loop-preserved : goal.loop-preserved
 loop-preserved g c =

@@ -1,7 +1,8 @@
 use Rattle.std.proofs.Common.{◌≡◌, ◌≢◌, Err, inl, inr, sym, codes}
 use Rattle.hex.specs.Hex.{decode_of}
-use Rattle.aead_ciphers.proofs.HexWords.{IsBytesWord-undecoded, bytes_of_word-undecoded}
-use Rattle.aead_ciphers.proofs.aeadrun.words.bytes.Goals as goal
+use Rattle.aead_ciphers.proofs
+use proofs.HexWords.{IsBytesWord-undecoded, bytes_of_word-undecoded}
+use proofs.aeadrun.words.bytes.Goals as goal
 
 pub returns-in_default : goal.returns-in_default
 returns-in_default c =

@@ -1,11 +1,13 @@
 use Rattle.std.proofs.Common.{◌≡◌, ◌<◌, Some, length, arith}
-use Rattle.std.proofs.lemmas.Bool.Decides.{nat_tests}
-use Rattle.std.proofs.lemmas.Result.{IfOk-weaker}
+use Rattle.std.proofs.lemmas
+use lemmas.Bool.Decides.{nat_tests}
+use lemmas.Result.{IfOk-weaker}
 use Rattle.std.specs.String.{string_bytes}
 use Rattle.hex.specs.Hex.{IsBytes}
 use Rattle.aead_ciphers.specs.Words.{bytes_of_word}
-use Rattle.aead_ciphers.proofs.HexWords.{bytes_of_word-encode_lower}
-use Rattle.aead_ciphers.proofs.aeadrun.words.text.Goals as goal
+use Rattle.aead_ciphers.proofs
+use proofs.HexWords.{bytes_of_word-encode_lower}
+use proofs.aeadrun.words.text.Goals as goal
 
 pub returns-clause-reads_back : goal.returns-clause-reads_back
 returns-clause-reads_back c =

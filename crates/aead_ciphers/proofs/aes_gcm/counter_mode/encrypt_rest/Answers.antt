@@ -1,8 +1,9 @@
 use Rattle.std.proofs.Common.{◌≡◌, ◌-◌, length, drop, arith, rules, ap₂, ◌∙◌, sym, ◌++◌, length-drop}
 use Rattle.std.proofs.lemmas.List.{nil_from_length}
 use Rattle.aead_ciphers_base.proofs.CounterModeLemmas.{counter_mode-nil}
-use Rattle.aead_ciphers.proofs.CounterModePieces.{put_rest}
-use Rattle.aead_ciphers.proofs.aes_gcm.counter_mode.encrypt_rest.Goals as goal
+use Rattle.aead_ciphers.proofs
+use proofs.CounterModePieces.{put_rest}
+use proofs.aes_gcm.counter_mode.encrypt_rest.Goals as goal
 
 pub returns-then-rest-gt0-clause-output : goal.returns-then-rest-gt0-clause-output
 returns-then-rest-gt0-clause-output g c = λ nonce k at.

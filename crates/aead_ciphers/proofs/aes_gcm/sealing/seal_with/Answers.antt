@@ -1,11 +1,13 @@
 use Rattle.std.proofs.Common.{◌++◌, ap, length, arith, ◌∙◌, refl, subst, sym, append-nil}
 use Rattle.std.proofs.lemmas.List.{drop_all}
-use Rattle.aead_ciphers_base.specs.CounterMode.{counter_mode}
-use Rattle.aead_ciphers_base.specs.Values.{aad_bytes}
+use Rattle.aead_ciphers_base.specs
+use specs.CounterMode.{counter_mode}
+use specs.Values.{aad_bytes}
 use Rattle.aead_ciphers_base.proofs.CounterModeLemmas.{length-counter_mode}
 use Rattle.aead_ciphers.specs.HashOf.{Absorbs}
-use Rattle.aead_ciphers.proofs.RunningHash.{tag_found}
-use Rattle.aead_ciphers.proofs.aes_gcm.sealing.seal_with.Goals as goal
+use Rattle.aead_ciphers.proofs
+use proofs.RunningHash.{tag_found}
+use proofs.aes_gcm.sealing.seal_with.Goals as goal
 
 pub returns-clause-ciphertext : goal.returns-clause-ciphertext
 returns-clause-ciphertext g c =

@@ -1,7 +1,8 @@
 use Rattle.std.proofs.Common.{◌/◌, ◌^◌, arith}
 use Rattle.std.proofs.lemmas.Nat.{and_mask}
-use Rattle.aead_ciphers.proofs.BlockLanes.{by_four}
-use Rattle.aead_ciphers.proofs.gcm.product.words.Goals as goal
+use Rattle.aead_ciphers.proofs
+use proofs.BlockLanes.{by_four}
+use proofs.gcm.product.words.Goals as goal
 
 pub returns : goal.returns
 returns c =

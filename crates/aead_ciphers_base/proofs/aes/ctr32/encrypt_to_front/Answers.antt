@@ -1,7 +1,8 @@
 use Rattle.std.proofs.Common.{◌+◌, ◌-◌, length, arith, refl}
-use Rattle.aead_ciphers_base.proofs.CounterLemmas.{advances_none, advances_more}
-use Rattle.aead_ciphers_base.proofs.CounterModeLemmas.{encrypts_none, encrypts_more, encrypts_all}
-use Rattle.aead_ciphers_base.proofs.aes.ctr32.encrypt_to_front.Goals as goal
+use Rattle.aead_ciphers_base.proofs
+use proofs.CounterLemmas.{advances_none, advances_more}
+use proofs.CounterModeLemmas.{encrypts_none, encrypts_more, encrypts_all}
+use proofs.aes.ctr32.encrypt_to_front.Goals as goal
 
 pub loop-done-init : goal.loop-done-init
 loop-done-init c = record {

@@ -1,7 +1,8 @@
 use Rattle.std.proofs.Common.{◌≡◌, ◌-◌, ◌/◌, ◌%◌, ◌≤◌, length}
-use Rattle.aead_ciphers_base.specs.Aes.{aes}
-use Rattle.aead_ciphers_base.specs.CounterMode.{Advances, EncryptsFirst}
-use Rattle.aead_ciphers_base.specs.Work.{Adds}
+use Rattle.aead_ciphers_base.specs
+use specs.Aes.{aes}
+use specs.CounterMode.{Advances, EncryptsFirst}
+use specs.Work.{Adds}
 use Rattle.aead_ciphers_base.proofs.aes.ctr32.encrypt_to_front.Given as goal
 
 abbrev pub invariant-loop-done : goal.invariant-loop-done

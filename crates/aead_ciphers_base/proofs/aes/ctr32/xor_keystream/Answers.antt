@@ -1,8 +1,10 @@
 use Rattle.std.proofs.Common.{◌≡◌, ℕ, ◌-◌, ◌*◌, ◌<◌, List, [], ◌++◌, length, drop, take, get_or, arith, rules, ap, sym, ◌∙◌, take_all, length-append, length-take-le, length-drop}
-use Rattle.aead_ciphers_base.specs.Aes.{aes}
-use Rattle.aead_ciphers_base.specs.Bytes.{◌⊕◌}
-use Rattle.aead_ciphers_base.proofs.CounterModeLemmas.{block_step, encrypts_none}
-use Rattle.aead_ciphers_base.proofs.aes.ctr32.xor_keystream.Goals as goal
+use Rattle.aead_ciphers_base.specs
+use specs.Aes.{aes}
+use specs.Bytes.{◌⊕◌}
+use Rattle.aead_ciphers_base.proofs
+use proofs.CounterModeLemmas.{block_step, encrypts_none}
+use proofs.aes.ctr32.xor_keystream.Goals as goal
 
 pub loop-i-init : goal.loop-i-init
 loop-i-init c = record {

@@ -1,6 +1,7 @@
 use Rattle.std.proofs.Common.{◌≡◌, ℕ, ◌*◌, List, ◌++◌, length, drop, take}
-use Rattle.aead_ciphers_base.specs.Aes.{aes}
-use Rattle.aead_ciphers_base.specs.CounterMode.{IsCounter, counter_mode}
+use Rattle.aead_ciphers_base.specs
+use specs.Aes.{aes}
+use specs.CounterMode.{IsCounter, counter_mode}
 use Rattle.aead_ciphers_base.proofs.aes.ctr32.xor_keystream.Given as goal
 
 abbrev pub invariant-loop-i : goal.invariant-loop-i

@@ -1,6 +1,7 @@
 use Rattle.std.proofs.Common.{◌∙◌, ◌/◌, length, arith, length-set}
-use Rattle.aead_ciphers_base.proofs.KeySchedule.{first_word_step, next_word_step}
-use Rattle.aead_ciphers_base.proofs.aes.key_schedule.expand.Goals as goal
+use Rattle.aead_ciphers_base.proofs
+use proofs.KeySchedule.{first_word_step, next_word_step}
+use proofs.aes.key_schedule.expand.Goals as goal
 
 pub loop-i-preserved : goal.loop-i-preserved
 loop-i-preserved c = (

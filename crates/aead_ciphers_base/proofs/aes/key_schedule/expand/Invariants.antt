@@ -1,6 +1,7 @@
 use Rattle.std.proofs.Common.{◌≡◌, ◌+◌, ◌-◌, ◌*◌, length, take, slice_index}
-use Rattle.aead_ciphers_base.specs.Bytes.{each_below}
-use Rattle.aead_ciphers_base.specs.Aes.{key_words}
+use Rattle.aead_ciphers_base.specs
+use specs.Bytes.{each_below}
+use specs.Aes.{key_words}
 use Rattle.aead_ciphers_base.proofs.aes.key_schedule.expand.Given as goal
 
 abbrev pub invariant-loop-i : goal.invariant-loop-i

@@ -1,7 +1,8 @@
 use Rattle.std.proofs.Common.{arith, ◌∙◌, ap, ◌≡◌, ◌/◌, ◌%◌, ◌*◌, ◌+◌, refl, slice_index, slice_index_or, [], ◌∷◌}
 use Rattle.aead_ciphers_base.specs.Aes.{word_at}
-use Rattle.aead_ciphers_base.proofs.PlaneBlocks.{by_four}
-use Rattle.aead_ciphers_base.proofs.aes.key_schedule.pack_round_key.Goals as goal
+use Rattle.aead_ciphers_base.proofs
+use proofs.PlaneBlocks.{by_four}
+use proofs.aes.key_schedule.pack_round_key.Goals as goal
 
 pub returns : goal.returns
 returns c = λ p lt.

@@ -1,7 +1,8 @@
 use Rattle.std.proofs.Common.{◌*◌, ◌<◌, arith, rules, ap, ◌∙◌, ◌∷◌, [], List, ℕ, slice_index}
 use Rattle.std.proofs.lemmas.Nat.{le_bytes_4}
-use Rattle.aead_ciphers_base.specs.ByteField.{sbox}
-use Rattle.aead_ciphers_base.specs.Aes.{sub_word}
+use Rattle.aead_ciphers_base.specs
+use specs.ByteField.{sbox}
+use specs.Aes.{sub_word}
 use Rattle.aead_ciphers_base.proofs.aes.key_schedule.sub_word.Goals as goal
 
 pub returns : goal.returns

@@ -1,5 +1,6 @@
-use Rattle.aead_ciphers_base.proofs.PlanePacking.{shift_is, shift_lt, delta_swap_first, delta_swap_second}
-use Rattle.aead_ciphers_base.proofs.aes.pack.delta_swap.Goals as goal
+use Rattle.aead_ciphers_base.proofs
+use proofs.PlanePacking.{shift_is, shift_lt, delta_swap_first, delta_swap_second}
+use proofs.aes.pack.delta_swap.Goals as goal
 
 pub overflow_shr-delta : goal.overflow_shr-delta
 overflow_shr-delta c = shift_lt c.args.k c.requires

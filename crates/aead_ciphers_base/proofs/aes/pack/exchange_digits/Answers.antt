@@ -1,5 +1,6 @@
-use Rattle.aead_ciphers_base.proofs.PlanePacking.{exchange_digits_is}
-use Rattle.aead_ciphers_base.proofs.aes.pack.exchange_digits.Goals as goal
+use Rattle.aead_ciphers_base.proofs
+use proofs.PlanePacking.{exchange_digits_is}
+use proofs.aes.pack.exchange_digits.Goals as goal
 
 pub returns : goal.returns
 returns c =

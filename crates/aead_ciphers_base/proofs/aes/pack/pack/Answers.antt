@@ -1,5 +1,6 @@
-use Rattle.aead_ciphers_base.proofs.PlanePacking.{packed_byte}
-use Rattle.aead_ciphers_base.proofs.aes.pack.pack.Goals as goal
+use Rattle.aead_ciphers_base.proofs
+use proofs.PlanePacking.{packed_byte}
+use proofs.aes.pack.pack.Goals as goal
 
 pub returns : goal.returns
 returns c =

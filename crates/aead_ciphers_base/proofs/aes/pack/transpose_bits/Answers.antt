@@ -1,6 +1,7 @@
 use Rattle.std.proofs.Common.{ℕ, ◌+◌, ◌*◌, ◌/◌, ◌%◌, refl}
-use Rattle.aead_ciphers_base.proofs.PlanePacking.{three_exchanges}
-use Rattle.aead_ciphers_base.proofs.aes.pack.transpose_bits.Goals as goal
+use Rattle.aead_ciphers_base.proofs
+use proofs.PlanePacking.{three_exchanges}
+use proofs.aes.pack.transpose_bits.Goals as goal
 
 pub returns : goal.returns
 returns c =

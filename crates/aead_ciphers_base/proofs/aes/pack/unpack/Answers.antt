@@ -1,6 +1,7 @@
 use Rattle.std.proofs.Common.{sym, [], ◌∷◌}
-use Rattle.aead_ciphers_base.proofs.PlanePacking.{unpacked_block}
-use Rattle.aead_ciphers_base.proofs.aes.pack.unpack.Goals as goal
+use Rattle.aead_ciphers_base.proofs
+use proofs.PlanePacking.{unpacked_block}
+use proofs.aes.pack.unpack.Goals as goal
 
 pub returns : goal.returns
 returns c =

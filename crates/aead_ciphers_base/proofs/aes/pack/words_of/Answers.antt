@@ -1,6 +1,7 @@
 use Rattle.std.proofs.Common.{rules}
-use Rattle.aead_ciphers_base.proofs.PlanePacking.{words_of_block}
-use Rattle.aead_ciphers_base.proofs.aes.pack.words_of.Goals as goal
+use Rattle.aead_ciphers_base.proofs
+use proofs.PlanePacking.{words_of_block}
+use proofs.aes.pack.words_of.Goals as goal
 
 pub returns : goal.returns
 returns c = words_of_block c.args.block _ _ (search rules) (search rules) (search rules) (search rules)

@@ -1,9 +1,11 @@
 use Rattle.std.proofs.Common.{ap, ap₂, ◌∙◌, ◌≡◌, bit_xor}
-use Rattle.aead_ciphers_base.specs.ByteField.{mul8}
-use Rattle.aead_ciphers_base.specs.Planes.{plane_byte, below}
-use Rattle.aead_ciphers_base.proofs.PlaneShifts.{mixed_is, below_lt, below_twice}
-use Rattle.aead_ciphers_base.proofs.PlaneBits.{plane_byte_lt}
-use Rattle.aead_ciphers_base.proofs.aes.round.mix_columns.Goals as goal
+use Rattle.aead_ciphers_base.specs
+use specs.ByteField.{mul8}
+use specs.Planes.{plane_byte, below}
+use Rattle.aead_ciphers_base.proofs
+use proofs.PlaneShifts.{mixed_is, below_lt, below_twice}
+use proofs.PlaneBits.{plane_byte_lt}
+use proofs.aes.round.mix_columns.Goals as goal
 
 pub returns : goal.returns
 returns c = λ p lt.

@@ -1,7 +1,8 @@
 use Rattle.std.proofs.Common.{arith, length-set, ◌∙◌}
 use Rattle.aead_ciphers_base.specs.Planes.{shifted_from}
-use Rattle.aead_ciphers_base.proofs.PlaneShifts.{moves_more}
-use Rattle.aead_ciphers_base.proofs.aes.round.shift_rows.Goals as goal
+use Rattle.aead_ciphers_base.proofs
+use proofs.PlaneShifts.{moves_more}
+use proofs.aes.round.shift_rows.Goals as goal
 
 pub loop-k-preserved : goal.loop-k-preserved
 loop-k-preserved c = (

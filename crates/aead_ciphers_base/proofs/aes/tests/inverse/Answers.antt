@@ -2,8 +2,9 @@ use Rattle.std.proofs.Common.{◌≡◌, ℕ, zero, suc, ◌+◌, ◌<◌, Bool,
 use Rattle.std.specs.List.{range_with_len}
 use Rattle.std.proofs.lemmas.Bool.{cond-false}
 use Rattle.aead_ciphers_base.specs.ByteField.{inv, mul8}
-use Rattle.aead_ciphers_base.proofs.ByteFieldLaws.{inv_is}
-use Rattle.aead_ciphers_base.proofs.aes.tests.inverse.Goals as goal
+use Rattle.aead_ciphers_base.proofs
+use proofs.ByteFieldLaws.{inv_is}
+use proofs.aes.tests.inverse.Goals as goal
 
 find_none : (p : ℕ → Bool) (a n : ℕ) → ((y : ℕ) → y < a + n → p y ≡ false) → find p (range_with_len a n) ≡ None
 find_none p a zero fails = refl

@@ -1,11 +1,13 @@
 use Rattle.std.proofs.Common.{◌≡◌, ℕ, zero, suc, ◌+◌, ◌-◌, ◌*◌, ◌/◌, ◌%◌, ◌^◌, ◌<◌, ◌≤◌, sym, ap, ap₂, ◌∙◌, arith, bit_xor, if◌then◌else◌, ◌==◌, shr-shr}
-use Rattle.std.proofs.lemmas.Nat.{shr_le}
-use Rattle.std.proofs.lemmas.Nat.Bits.{shr_and_one}
+use Rattle.std.proofs.lemmas
+use lemmas.Nat.{shr_le}
+use lemmas.Nat.Bits.{shr_and_one}
 use Rattle.aead_ciphers_base.specs.ByteField.{mul8}
-use Rattle.aead_ciphers_base.proofs.NumberBits.{IsAdditive_zero}
-use Rattle.aead_ciphers_base.proofs.ByteFieldLaws.{mul8-xor_right, two_is}
-use Rattle.aead_ciphers_base.proofs.FastProduct.{step_of_product}
-use Rattle.aead_ciphers_base.proofs.aes.tests.product.Goals as goal
+use Rattle.aead_ciphers_base.proofs
+use proofs.NumberBits.{IsAdditive_zero}
+use proofs.ByteFieldLaws.{mul8-xor_right, two_is}
+use proofs.FastProduct.{step_of_product}
+use proofs.aes.tests.product.Goals as goal
 
 by_bit : (a d : ℕ) → d < 2 → a * d ≡ (if d == 1 then a else 0)
 by_bit a zero h = omega arith

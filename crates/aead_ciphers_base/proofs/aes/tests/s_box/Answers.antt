@@ -1,8 +1,9 @@
 use Rattle.std.proofs.Common.{◌≡◌, ℕ, true, refl, ap, ap₂, ◌∙◌, arith, bit_xor, ◌==◌}
 use Rattle.std.specs.Int.{w8, rotate_left}
 use Rattle.aead_ciphers_base.specs.ByteField.{affine, sbox}
-use Rattle.aead_ciphers_base.proofs.NumberBits.{all_below, same_below}
-use Rattle.aead_ciphers_base.proofs.aes.tests.s_box.Goals as goal
+use Rattle.aead_ciphers_base.proofs
+use proofs.NumberBits.{all_below, same_below}
+use proofs.aes.tests.s_box.Goals as goal
 
 abbrev rotated : ℕ → ℕ
 rotated b =

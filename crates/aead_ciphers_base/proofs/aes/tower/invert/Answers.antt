@@ -1,10 +1,12 @@
 use Rattle.std.proofs.Common.{ap, ◌∙◌}
-use Rattle.aead_ciphers_base.specs.ByteField.{mul8}
-use Rattle.aead_ciphers_base.specs.Planes.{plane_polynomial}
-use Rattle.aead_ciphers_base.specs.Tower.{plane_element, basis_16, basis_256}
-use Rattle.aead_ciphers_base.proofs.PlaneBits.{set-xor}
-use Rattle.aead_ciphers_base.proofs.TowerCoordinates.{four_bits, inverse_is}
-use Rattle.aead_ciphers_base.proofs.aes.tower.invert.Goals as goal
+use Rattle.aead_ciphers_base.specs
+use specs.ByteField.{mul8}
+use specs.Planes.{plane_polynomial}
+use specs.Tower.{plane_element, basis_16, basis_256}
+use Rattle.aead_ciphers_base.proofs
+use proofs.PlaneBits.{set-xor}
+use proofs.TowerCoordinates.{four_bits, inverse_is}
+use proofs.aes.tower.invert.Goals as goal
 
 pub returns : goal.returns
 unfolding plane_element plane_polynomial basis_16 basis_256

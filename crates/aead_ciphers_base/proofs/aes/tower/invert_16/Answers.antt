@@ -1,8 +1,10 @@
-use Rattle.aead_ciphers_base.specs.Planes.{plane_polynomial}
-use Rattle.aead_ciphers_base.specs.Tower.{plane_element, basis_4, basis_16}
-use Rattle.aead_ciphers_base.proofs.PlaneBits.{set-xor}
-use Rattle.aead_ciphers_base.proofs.TowerCoordinates.{two_bits, inverse_16_is}
-use Rattle.aead_ciphers_base.proofs.aes.tower.invert_16.Goals as goal
+use Rattle.aead_ciphers_base.specs
+use specs.Planes.{plane_polynomial}
+use specs.Tower.{plane_element, basis_4, basis_16}
+use Rattle.aead_ciphers_base.proofs
+use proofs.PlaneBits.{set-xor}
+use proofs.TowerCoordinates.{two_bits, inverse_16_is}
+use proofs.aes.tower.invert_16.Goals as goal
 
 pub returns : goal.returns
 unfolding plane_element plane_polynomial basis_4 basis_16

@@ -1,7 +1,8 @@
 use Rattle.aead_ciphers_base.specs.Planes.{plane_byte, plane_polynomial}
-use Rattle.aead_ciphers_base.proofs.PlaneBits.{set-xor, ones_bit}
-use Rattle.aead_ciphers_base.proofs.TowerCoordinates.{affine_is}
-use Rattle.aead_ciphers_base.proofs.aes.tower.map_affine.Goals as goal
+use Rattle.aead_ciphers_base.proofs
+use proofs.PlaneBits.{set-xor, ones_bit}
+use proofs.TowerCoordinates.{affine_is}
+use proofs.aes.tower.map_affine.Goals as goal
 
 pub returns : goal.returns
 unfolding plane_byte plane_polynomial

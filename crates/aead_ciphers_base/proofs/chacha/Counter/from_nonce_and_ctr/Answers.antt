@@ -1,7 +1,8 @@
 use Rattle.std.proofs.Common.{◌≡◌, length, rules, ap, sym, ◌∙◌}
 use Rattle.aead_ciphers_base.specs.ChaCha20.{le_bytes}
-use Rattle.aead_ciphers_base.proofs.LittleEndian.{drop-elements, le_bytes-le_words}
-use Rattle.aead_ciphers_base.proofs.chacha.Counter.from_nonce_and_ctr.Goals as goal
+use Rattle.aead_ciphers_base.proofs
+use proofs.LittleEndian.{drop-elements, le_bytes-le_words}
+use proofs.chacha.Counter.from_nonce_and_ctr.Goals as goal
 
 pub returns-clause-nonce : goal.returns-clause-nonce
 returns-clause-nonce c =

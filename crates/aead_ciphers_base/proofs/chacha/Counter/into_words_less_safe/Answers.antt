@@ -1,8 +1,9 @@
 use Rattle.std.proofs.Common.{◌≡◌, ◌<◌, ◌+◌, ◌^◌, ℕ, List, ◌∷◌, length, drop, get_or, rules, ap, ap₂, sym, ◌∙◌, arith, get_or-drop}
 use Rattle.std.proofs.Math.Seq.{drop-cons}
 use Rattle.aead_ciphers_base.specs.ChaCha20.{le_words, Position}
-use Rattle.aead_ciphers_base.proofs.LittleEndian.{le_words-le_bytes}
-use Rattle.aead_ciphers_base.proofs.chacha.Counter.into_words_less_safe.Goals as goal
+use Rattle.aead_ciphers_base.proofs
+use proofs.LittleEndian.{le_words-le_bytes}
+use proofs.chacha.Counter.into_words_less_safe.Goals as goal
 
 tail_fits : (ws : List ℕ) → ((i : ℕ) → get_or ws i 0 < 2 ^ 32) → (i : ℕ) → get_or (drop 1 ws) i 0 < 2 ^ 32
 tail_fits ws fits i = rw get_or-drop (fits (1 + i))

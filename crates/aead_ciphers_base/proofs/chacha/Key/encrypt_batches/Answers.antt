@@ -1,6 +1,7 @@
 use Rattle.std.proofs.Common.{◌≡◌, ℕ, ◌+◌, ◌*◌, ◌∙◌, arith, length, rules, take_all}
-use Rattle.aead_ciphers_base.proofs.KeyStreamLemmas.{written_more}
-use Rattle.aead_ciphers_base.proofs.chacha.Key.encrypt_batches.Goals as goal
+use Rattle.aead_ciphers_base.proofs
+use proofs.KeyStreamLemmas.{written_more}
+use proofs.chacha.Key.encrypt_batches.Goals as goal
 
 pub loop-j-preserved : goal.loop-j-preserved
 loop-j-preserved c =

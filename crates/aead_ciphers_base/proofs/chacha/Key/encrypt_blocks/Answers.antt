@@ -1,8 +1,10 @@
 use Rattle.std.proofs.Common.{◌≡◌, ℕ, ◌+◌, ◌*◌, refl, rules, ap, ◌∙◌, arith, List, take, drop, length-drop, take_all}
-use Rattle.aead_ciphers_base.specs.Bytes.{xored}
-use Rattle.aead_ciphers_base.specs.ChaCha20.{chacha20_block, chacha20_encrypted, state_block}
-use Rattle.aead_ciphers_base.proofs.KeyStreamLemmas.{block-stream, written_more}
-use Rattle.aead_ciphers_base.proofs.chacha.Key.encrypt_blocks.Goals as goal
+use Rattle.aead_ciphers_base.specs
+use specs.Bytes.{xored}
+use specs.ChaCha20.{chacha20_block, chacha20_encrypted, state_block}
+use Rattle.aead_ciphers_base.proofs
+use proofs.KeyStreamLemmas.{block-stream, written_more}
+use proofs.chacha.Key.encrypt_blocks.Goals as goal
 
 pub loop-j-init : goal.loop-j-init
 unfolding chacha20_encrypted xored

@@ -1,8 +1,10 @@
 use Rattle.std.proofs.Common.{◌≡◌, ◌<◌, ℕ, ◌+◌, List, length, slice_index, slice_set, rules, ap, sym, ◌∙◌, arith, get_or-set_same}
-use Rattle.aead_ciphers_base.specs.ChaCha20.{chacha20_block, state_block}
-use Rattle.aead_ciphers_base.specs.Lanes.{lane}
-use Rattle.aead_ciphers_base.proofs.KeyStreamLemmas.{blocks-stream}
-use Rattle.aead_ciphers_base.proofs.chacha.Key.four_blocks.Goals as goal
+use Rattle.aead_ciphers_base.specs
+use specs.ChaCha20.{chacha20_block, state_block}
+use specs.Lanes.{lane}
+use Rattle.aead_ciphers_base.proofs
+use proofs.KeyStreamLemmas.{blocks-stream}
+use proofs.chacha.Key.four_blocks.Goals as goal
 
 -- word 12 of the initial state
 first_word : (state first_state : List ℕ) (first : ℕ) → length state ≡ 16 → slice_set state 12 first ≡ first_state → state ≡ first_state

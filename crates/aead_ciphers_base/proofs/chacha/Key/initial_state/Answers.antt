@@ -1,7 +1,8 @@
 use Rattle.std.proofs.Common.{◌≡◌, ap, ap₂, sym, ◌∙◌, ◌+◌, ℕ, List, length, slice_set}
 use Rattle.aead_ciphers_base.specs.ChaCha20.{initial_state, le_words, Position}
-use Rattle.aead_ciphers_base.proofs.LittleEndian.{constants_are, elements_from, counter-initial_state, initial_state_words, le_words-le_bytes}
-use Rattle.aead_ciphers_base.proofs.chacha.Key.initial_state.Goals as goal
+use Rattle.aead_ciphers_base.proofs
+use proofs.LittleEndian.{constants_are, elements_from, counter-initial_state, initial_state_words, le_words-le_bytes}
+use proofs.chacha.Key.initial_state.Goals as goal
 
 pub returns : goal.returns
 returns c =

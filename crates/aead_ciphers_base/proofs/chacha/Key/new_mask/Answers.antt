@@ -1,9 +1,11 @@
 use Rattle.std.proofs.Common.{◌≡◌, ◌<◌, ◌+◌, ℕ, List, length, take, drop, get_or, rules, arith, ap, ap₂, ◌∙◌, add-zero, get_or-drop, length-drop}
 use Rattle.std.specs.Int.{w32, from_le_bytes}
-use Rattle.aead_ciphers_base.specs.ChaCha20.{initial_state, chacha20_block, state_block, le_bytes}
-use Rattle.aead_ciphers_base.specs.Mask.{chacha_mask}
-use Rattle.aead_ciphers_base.proofs.LittleEndian.{le_words-first, le_bytes-le_words}
-use Rattle.aead_ciphers_base.proofs.chacha.Key.new_mask.Goals as goal
+use Rattle.aead_ciphers_base.specs
+use specs.ChaCha20.{initial_state, chacha20_block, state_block, le_bytes}
+use specs.Mask.{chacha_mask}
+use Rattle.aead_ciphers_base.proofs
+use proofs.LittleEndian.{le_words-first, le_bytes-le_words}
+use proofs.chacha.Key.new_mask.Goals as goal
 
 pub returns : goal.returns
 unfolding chacha20_block chacha_mask

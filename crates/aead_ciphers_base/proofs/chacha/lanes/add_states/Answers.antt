@@ -1,10 +1,12 @@
 use Rattle.std.proofs.Common.{◌≡◌, ℕ, ◌<◌, List, [], length, length-set, slice_index, slice_index_or, ap, ap₂, sym, ◌∙◌, arith, get_or-set_other}
 use Rattle.std.specs.Simd.Lanes.{zip2}
 use Rattle.std.proofs.lemmas.Simd.{get_or-zip2, length-zip2}
-use Rattle.aead_ciphers_base.specs.ChaCha20.{add32}
-use Rattle.aead_ciphers_base.specs.Lanes.{lane}
-use Rattle.aead_ciphers_base.proofs.VectorLanes.{lane_more, length-lane, same_of_takes, slice_index-lane}
-use Rattle.aead_ciphers_base.proofs.chacha.lanes.add_states.Goals as goal
+use Rattle.aead_ciphers_base.specs
+use specs.ChaCha20.{add32}
+use specs.Lanes.{lane}
+use Rattle.aead_ciphers_base.proofs
+use proofs.VectorLanes.{lane_more, length-lane, same_of_takes, slice_index-lane}
+use proofs.chacha.lanes.add_states.Goals as goal
 
 sums : (j : ℕ) (xs ys : List (List ℕ)) → length xs ≡ 16 → length ys ≡ 16 → length (zip2 add32 (lane j xs) (lane j ys)) ≡ 16
 sums j xs ys lx ly =

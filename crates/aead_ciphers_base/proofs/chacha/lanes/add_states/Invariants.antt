@@ -1,7 +1,8 @@
 use Rattle.std.proofs.Common.{◌≡◌, ℕ, ◌<◌, ◌≤◌, [], length, slice_index_or, take}
 use Rattle.std.specs.Simd.Lanes.{zip2}
-use Rattle.aead_ciphers_base.specs.ChaCha20.{add32}
-use Rattle.aead_ciphers_base.specs.Lanes.{lane}
+use Rattle.aead_ciphers_base.specs
+use specs.ChaCha20.{add32}
+use specs.Lanes.{lane}
 use Rattle.aead_ciphers_base.proofs.chacha.lanes.add_states.Given as goal
 
 abbrev pub invariant-loop-k : goal.invariant-loop-k

@@ -1,9 +1,11 @@
 use Rattle.std.proofs.Common.{◌≡◌, ℕ, ◌*◌, length, length-append, length-take, length-drop, drop, take, rules, ap, ◌∙◌, arith}
 use borrow.Author.Count.{below_more}
-use Rattle.aead_ciphers_base.specs.ChaCha20.{le_bytes}
-use Rattle.aead_ciphers_base.specs.Lanes.{lane}
-use Rattle.aead_ciphers_base.proofs.VectorLanes.{block_kept, block_written}
-use Rattle.aead_ciphers_base.proofs.chacha.lanes.four_le_bytes.Goals as goal
+use Rattle.aead_ciphers_base.specs
+use specs.ChaCha20.{le_bytes}
+use specs.Lanes.{lane}
+use Rattle.aead_ciphers_base.proofs
+use proofs.VectorLanes.{block_kept, block_written}
+use proofs.chacha.lanes.four_le_bytes.Goals as goal
 
 pub loop-j-preserved : goal.loop-j-preserved
 loop-j-preserved c =

@@ -1,6 +1,7 @@
 use Rattle.std.proofs.Common.{◌≡◌, ℕ, ◌*◌, ◌<◌, length, drop, take}
-use Rattle.aead_ciphers_base.specs.ChaCha20.{le_bytes}
-use Rattle.aead_ciphers_base.specs.Lanes.{lane}
+use Rattle.aead_ciphers_base.specs
+use specs.ChaCha20.{le_bytes}
+use specs.Lanes.{lane}
 use Rattle.aead_ciphers_base.proofs.chacha.lanes.four_le_bytes.Given as goal
 
 abbrev pub invariant-loop-j : goal.invariant-loop-j

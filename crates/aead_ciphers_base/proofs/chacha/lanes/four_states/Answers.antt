@@ -1,10 +1,12 @@
 use Rattle.std.proofs.Common.{◌≡◌, ℕ, ◌+◌, List, [], ◌∷◌, length-set, slice_index, slice_set, refl, ap₂, sym, ◌∙◌, arith}
 use Rattle.std.proofs.lemmas.List.{get_or-replicate}
-use Rattle.aead_ciphers_base.specs.ChaCha20.{add32}
-use Rattle.aead_ciphers_base.specs.Lanes.{lane}
-use Rattle.aead_ciphers_base.proofs.PlaneBlocks.{by_four}
-use Rattle.aead_ciphers_base.proofs.VectorLanes.{lane_more, lane-set, length-lane, same_of_takes, slice_index-lane}
-use Rattle.aead_ciphers_base.proofs.chacha.lanes.four_states.Goals as goal
+use Rattle.aead_ciphers_base.specs
+use specs.ChaCha20.{add32}
+use specs.Lanes.{lane}
+use Rattle.aead_ciphers_base.proofs
+use proofs.PlaneBlocks.{by_four}
+use proofs.VectorLanes.{lane_more, lane-set, length-lane, same_of_takes, slice_index-lane}
+use proofs.chacha.lanes.four_states.Goals as goal
 
 pub loop-k-preserved : goal.loop-k-preserved
 loop-k-preserved c =

@@ -1,8 +1,9 @@
 use Rattle.std.proofs.Common.{ℕ, List, [], ◌∷◌, ◌++◌, length-set, slice_index, slice_index_or, ap₂, sym, ◌∙◌, arith}
 use Rattle.std.proofs.lemmas.List.{take_more, take_more_set}
 use Rattle.aead_ciphers_base.specs.Lanes.{lane}
-use Rattle.aead_ciphers_base.proofs.VectorLanes.{length-lane, slice_index-lane}
-use Rattle.aead_ciphers_base.proofs.chacha.lanes.lane.Goals as goal
+use Rattle.aead_ciphers_base.proofs
+use proofs.VectorLanes.{length-lane, slice_index-lane}
+use proofs.chacha.lanes.lane.Goals as goal
 
 pub loop-k-preserved : goal.loop-k-preserved
 loop-k-preserved c =

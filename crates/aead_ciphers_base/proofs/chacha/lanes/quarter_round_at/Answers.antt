@@ -1,5 +1,6 @@
-use Rattle.aead_ciphers_base.proofs.VectorLanes.{quarter_round_lane}
-use Rattle.aead_ciphers_base.proofs.chacha.lanes.quarter_round_at.Goals as goal
+use Rattle.aead_ciphers_base.proofs
+use proofs.VectorLanes.{quarter_round_lane}
+use proofs.chacha.lanes.quarter_round_at.Goals as goal
 
 pub returns : goal.returns
 returns c j h =

@@ -1,7 +1,8 @@
 use Rattle.std.proofs.Common.{◌≡◌, ℕ, ◌<◌}
 use Rattle.std.specs.Fn.{iterate}
-use Rattle.aead_ciphers_base.specs.ChaCha20.{double_round}
-use Rattle.aead_ciphers_base.specs.Lanes.{lane}
+use Rattle.aead_ciphers_base.specs
+use specs.ChaCha20.{double_round}
+use specs.Lanes.{lane}
 use Rattle.aead_ciphers_base.proofs.chacha.lanes.state_blocks.Given as goal
 
 abbrev pub invariant-loop-round : goal.invariant-loop-round

@@ -1,10 +1,12 @@
 use Rattle.std.proofs.Common.{◌≡◌, ◌+◌, ◌∙◌, length, ap, refl, arith}
 use Rattle.std.proofs.lemmas.List.{with_items_is}
-use Rattle.records.specs.Record.{Inner, inner_plaintext, header}
-use Rattle.records.specs.State.{next_nonce}
-use Rattle.records.proofs.InnerLemmas.{length-inner_plaintext}
-use Rattle.records.proofs.WriteLemmas.{put_sealed}
-use Rattle.records.proofs.writer.Writer.write.Goals as goal
+use Rattle.records.specs
+use specs.Record.{Inner, inner_plaintext, header}
+use specs.State.{next_nonce}
+use Rattle.records.proofs
+use proofs.InnerLemmas.{length-inner_plaintext}
+use proofs.WriteLemmas.{put_sealed}
+use proofs.writer.Writer.write.Goals as goal
 
 pub returns-clause-written : goal.returns-clause-written
 returns-clause-written c =

@@ -1,7 +1,8 @@
 use Rattle.std.proofs.Common.{rules, arith, ◌+◌, ◌<◌, ◌^◌}
 use Rattle.aead_ciphers.specs.Counting.{Counting, prefixed_nonce}
-use Rattle.aead_ciphers.proofs.SequenceLemmas.{spent_nonces-next, fresh_prefixed}
-use Rattle.aead_ciphers.proofs.aead.counter_sequence.CounterSequenceNonceSequence.advance.Goals as goal
+use Rattle.aead_ciphers.proofs
+use proofs.SequenceLemmas.{spent_nonces-next, fresh_prefixed}
+use proofs.aead.counter_sequence.CounterSequenceNonceSequence.advance.Goals as goal
 
 pub returns-clause-ok : goal.returns-clause-ok
 returns-clause-ok c =

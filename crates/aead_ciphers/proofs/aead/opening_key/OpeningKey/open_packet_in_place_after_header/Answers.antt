@@ -1,7 +1,8 @@
 use Rattle.std.proofs.Common.{refl}
 use Rattle.aead_ciphers.specs.Steps.{opened}
-use Rattle.aead_ciphers.proofs.NextNonce.{no_nonce_open}
-use Rattle.aead_ciphers.proofs.aead.opening_key.OpeningKey.open_packet_in_place_after_header.Goals as goal
+use Rattle.aead_ciphers.proofs
+use proofs.NextNonce.{no_nonce_open}
+use proofs.aead.opening_key.OpeningKey.open_packet_in_place_after_header.Goals as goal
 
 pub returns-in_err-advance-clause-step : goal.returns-in_err-advance-clause-step
 returns-in_err-advance-clause-step g c =

@@ -1,7 +1,8 @@
 use Rattle.std.proofs.Common.{refl}
 use Rattle.aead_ciphers.specs.Steps.{opened}
-use Rattle.aead_ciphers.proofs.NextNonce.{no_nonce_open, plaintext_next}
-use Rattle.aead_ciphers.proofs.aead.opening_key.OpeningKey.open_within_to_front.Goals as goal
+use Rattle.aead_ciphers.proofs
+use proofs.NextNonce.{no_nonce_open, plaintext_next}
+use proofs.aead.opening_key.OpeningKey.open_within_to_front.Goals as goal
 
 pub returns-in_err-nonce-clause-step : goal.returns-in_err-nonce-clause-step
 returns-in_err-nonce-clause-step g c =

@@ -1,9 +1,10 @@
 use Rattle.std.proofs.Common.{◌≡◌, ◌++◌, ◌-◌, ◌∙◌, length, take, replicate}
 use Rattle.std.proofs.Math.Seq.{take-append_seam}
 use Rattle.aead_ciphers.specs.Steps.{no_nonce}
-use Rattle.aead_ciphers.proofs.SealLemmas.{grown_less, grown_more, grown_front, spent_step}
-use Rattle.aead_ciphers.proofs.aead.sealing_key.SealingKey.seal_in_place_append_tag.Goals.{in-Ok, in-Err}
-use Rattle.aead_ciphers.proofs.aead.sealing_key.SealingKey.seal_in_place_append_tag.Goals as goal
+use Rattle.aead_ciphers.proofs
+use proofs.SealLemmas.{grown_less, grown_more, grown_front, spent_step}
+use proofs.aead.sealing_key.SealingKey.seal_in_place_append_tag.Goals.{in-Ok, in-Err}
+use proofs.aead.sealing_key.SealingKey.seal_in_place_append_tag.Goals as goal
 
 pub returns-clause-step : goal.returns-clause-step
 returns-clause-step g c =

@@ -1,6 +1,7 @@
 use Rattle.std.proofs.Common.{rules}
-use Rattle.aead_ciphers.proofs.PacketLemmas.{packet_step}
-use Rattle.aead_ciphers.proofs.aead.sealing_key.SealingKey.seal_packet_in_place.Goals as goal
+use Rattle.aead_ciphers.proofs
+use proofs.PacketLemmas.{packet_step}
+use proofs.aead.sealing_key.SealingKey.seal_packet_in_place.Goals as goal
 
 pub returns-clause-step : goal.returns-clause-step
 returns-clause-step g c =

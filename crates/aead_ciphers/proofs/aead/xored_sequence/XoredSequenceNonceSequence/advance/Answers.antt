@@ -1,7 +1,8 @@
 use Rattle.std.proofs.Common.{rules, arith, ◌+◌, ◌<◌, ◌^◌}
 use Rattle.aead_ciphers.specs.Counting.{Counting, xored_nonce}
-use Rattle.aead_ciphers.proofs.SequenceLemmas.{spent_nonces-next, fresh_xored}
-use Rattle.aead_ciphers.proofs.aead.xored_sequence.XoredSequenceNonceSequence.advance.Goals as goal
+use Rattle.aead_ciphers.proofs
+use proofs.SequenceLemmas.{spent_nonces-next, fresh_xored}
+use proofs.aead.xored_sequence.XoredSequenceNonceSequence.advance.Goals as goal
 
 pub returns-clause-ok : goal.returns-clause-ok
 returns-clause-ok c =

@@ -4,9 +4,10 @@ use Rattle.aead_ciphers_base.specs.CounterMode.{Advances, EncryptsFirst, counter
 use Rattle.aead_ciphers_base.proofs.CounterLemmas.{advances_none, advances_more}
 use Rattle.aead_ciphers_base.proofs.CounterModeLemmas.{encrypts_none, encrypts_more, encrypts_all, encrypts_window, length-counter_mode}
 use Rattle.aead_ciphers.specs.HashOf.{Absorbs}
-use Rattle.aead_ciphers.proofs.CounterModePieces.{encrypted_piece}
-use Rattle.aead_ciphers.proofs.RunningHash.{absorbs_none, absorbs_more}
-use Rattle.aead_ciphers.proofs.aes_gcm.counter_mode.CounterMode.encrypt_within.Goals as goal
+use Rattle.aead_ciphers.proofs
+use proofs.CounterModePieces.{encrypted_piece}
+use proofs.RunningHash.{absorbs_none, absorbs_more}
+use proofs.aes_gcm.counter_mode.CounterMode.encrypt_within.Goals as goal
 
 pub loop-done-init : goal.loop-done-init
 loop-done-init g c = record {

@@ -1,6 +1,7 @@
 use Rattle.std.proofs.Common.{◌≡◌, ◌-◌, ◌/◌, ◌%◌, ◌≤◌, IsTrue, length, drop, take}
-use Rattle.aead_ciphers_base.specs.CounterMode.{Advances, EncryptsFirst, InCounterMode}
-use Rattle.aead_ciphers_base.specs.Work.{Adds}
+use Rattle.aead_ciphers_base.specs
+use specs.CounterMode.{Advances, EncryptsFirst, InCounterMode}
+use specs.Work.{Adds}
 use Rattle.aead_ciphers.specs.HashOf.{Absorbs, products_of}
 use Rattle.aead_ciphers.proofs.aes_gcm.counter_mode.CounterMode.encrypt_within.Given as goal
 

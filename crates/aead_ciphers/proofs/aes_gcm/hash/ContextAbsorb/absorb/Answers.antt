@@ -1,10 +1,12 @@
 use Rattle.std.proofs.lemmas.Bool.Decides.{nat_tests}
 use Rattle.std.proofs.Common.{◌≡◌, ◌<◌, [], ◌∷◌, ◌++◌, length, arith, ap, ◌∙◌, sym, subst, append-nil}
-use Rattle.aead_ciphers_base.specs.Blocks.{blocks}
-use Rattle.aead_ciphers.specs.HashOf.{IsHashOf, HashState}
-use Rattle.aead_ciphers.proofs.PaddedBlocks.{padded_blocks_none, padded_blocks_short}
-use Rattle.aead_ciphers.proofs.RunningHash.{hash_with, whole_and_rest}
-use Rattle.aead_ciphers.proofs.aes_gcm.hash.ContextAbsorb.absorb.Goals as goal
+use Rattle.aead_ciphers.specs
+use specs.Blocks.{blocks}
+use specs.HashOf.{IsHashOf, HashState}
+use Rattle.aead_ciphers.proofs
+use proofs.PaddedBlocks.{padded_blocks_none, padded_blocks_short}
+use proofs.RunningHash.{hash_with, whole_and_rest}
+use proofs.aes_gcm.hash.ContextAbsorb.absorb.Goals as goal
 
 pub returns-then-not-is_empty-clause-hashed : goal.returns-then-not-is_empty-clause-hashed
 returns-then-not-is_empty-clause-hashed g c = λ _.

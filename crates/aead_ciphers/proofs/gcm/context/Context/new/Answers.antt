@@ -1,10 +1,12 @@
 use Rattle.std.proofs.Common.{length, length-append, ap, subst, sym, ◌∙◌, arith, min, ◌∷◌}
 use Rattle.std.specs.Slice.Iter.{chunks_rest}
-use Rattle.aead_ciphers.specs.Gcm.{padded_blocks}
-use Rattle.aead_ciphers.specs.HashOf.{IsHashOf}
-use Rattle.aead_ciphers.proofs.RunningHash.{front_more, front_end}
-use Rattle.aead_ciphers.proofs.PaddedBlocks.{padded_blocks-cons, padded_blocks_none}
-use Rattle.aead_ciphers.proofs.gcm.context.Context.new.Goals as goal
+use Rattle.aead_ciphers.specs
+use specs.Gcm.{padded_blocks}
+use specs.HashOf.{IsHashOf}
+use Rattle.aead_ciphers.proofs
+use proofs.RunningHash.{front_more, front_end}
+use proofs.PaddedBlocks.{padded_blocks-cons, padded_blocks_none}
+use proofs.gcm.context.Context.new.Goals as goal
 
 pub loop-bytes-preserved : goal.loop-bytes-preserved
 loop-bytes-preserved g c =

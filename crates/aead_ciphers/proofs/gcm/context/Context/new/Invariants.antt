@@ -1,8 +1,9 @@
 use Rattle.std.proofs.Common.{◌≡◌, ◌+◌, ◌/◌, length}
 use Rattle.std.specs.Slice.Iter.{chunks_rest, chunks_size}
 use Rattle.aead_ciphers.specs.Gcm.{padded_blocks}
-use Rattle.aead_ciphers.proofs.RunningHash.{HashedFront}
-use Rattle.aead_ciphers.proofs.gcm.context.Context.new.Given as goal
+use Rattle.aead_ciphers.proofs
+use proofs.RunningHash.{HashedFront}
+use proofs.gcm.context.Context.new.Given as goal
 
 abbrev pub invariant-loop-bytes : goal.invariant-loop-bytes
 invariant-loop-bytes g l = record {

@@ -1,7 +1,8 @@
 use Rattle.std.proofs.Common.{ℕ, List, ◌∙◌, subst, sym}
 use Rattle.aead_ciphers_base.specs.CounterMode.{IsCounter}
-use Rattle.aead_ciphers_base.proofs.CounterLemmas.{number_is, counter_more}
-use Rattle.aead_ciphers_base.proofs.aes.counter.Counter.plus.Goals as goal
+use Rattle.aead_ciphers_base.proofs
+use proofs.CounterLemmas.{number_is, counter_more}
+use proofs.aes.counter.Counter.plus.Goals as goal
 
 pub returns : goal.returns
 returns c = λ nonce k at.

@@ -1,13 +1,14 @@
 -- The front of the slice that the buffer holds is lent as an array. This walks the two calls by hand.
-use Rattle.aead_ciphers_base.proofs.WalkNames.{◌≡◌, refl, ap, ◌∙◌, List, [], ◌∷◌, ◌++◌, ◌≤◌, arith, length, take, drop_list, named, a_type, a_number, inst_fn, GName, ‵, ◌$◌, !, move, keep, rewrite, of_opd, returns, alloc_all, pass_all, free_all, look_at, get, sets, lands_as, Items, follows, Is, shows, param, number, layout, layouts, MutRef, types_at, named_lft, MutSlice, mut_slice_Lawful, nothing, heard, peeks}
-use Rattle.aead_ciphers_base.proofs.WalkLocals.{gets}
-use Rattle.aead_ciphers_base.proofs.Walks.{one, Words, words_vals, words_typed, dropped, consults, ends, walked, table_of, learns, learns_last, tells, tell, premise, takes, says}
-use Rattle.aead_ciphers_base.proofs.ViewWalks.{gone_within}
+use Rattle.aead_ciphers_base.proofs
+use proofs.WalkNames.{◌≡◌, refl, ap, ◌∙◌, List, [], ◌∷◌, ◌++◌, ◌≤◌, arith, length, take, drop_list, named, a_type, a_number, inst_fn, GName, ‵, ◌$◌, !, move, keep, rewrite, of_opd, returns, alloc_all, pass_all, free_all, look_at, get, sets, lands_as, Items, follows, Is, shows, param, number, layout, layouts, MutRef, types_at, named_lft, MutSlice, mut_slice_Lawful, nothing, heard, peeks}
+use proofs.WalkLocals.{gets}
+use proofs.Walks.{one, Words, words_vals, words_typed, dropped, consults, ends, walked, table_of, learns, learns_last, tells, tell, premise, takes, says}
+use proofs.ViewWalks.{gone_within}
 use denote.Param.{ArrayAt}
 use denote.Param.Laws.{param_laws}
 use denote.Ref.{mut_Lawful}
 use Rattle.aead_ciphers_base.specs.contracts.overlapping.array as C
-use Rattle.aead_ciphers_base.proofs.overlapping.array as P
+use proofs.overlapping.array as P
 
 pub into_unwritten_output_spec : {M : Type 1} → P.Array.into_unwritten_output.Statement.statement M
 into_unwritten_output_spec 𝓤 𝓛 𝓜 𝓡 wired X n L fits =

@@ -1,8 +1,9 @@
 -- The buffer is handed on, or its slice is let go as it came. This walks the code by hand.
-use Rattle.aead_ciphers_base.proofs.WalkNames.{◌≡◌, refl, subst, ap, ◌∙◌, List, [], ◌∷◌, ℕ, ◌-◌, ◌^◌, ◌<◌, arith, length, w64, a_type, a_number, inst_fn, Val, fjoin, vint, vstruct, vcons, vnil, shape, of_list, Fits, ‵, ◌$◌, !, move, keep, drop, use1, rewrite, whole, sub, agg, stop, fld, from, load, lit, num_lit, of_opd, bin, and_then, no_more, first, branches, skips, exec, returns, returns_within, alloc_all, pass_all, free_all, look_at, look_in_at, get, sets, lands_as, env, usize, Is, shows, param, number, layouts, types_at, named_lft, slice_val, nothing, heard, peeks, only, Ok, Err}
-use Rattle.aead_ciphers_base.proofs.WalkLocals.{alone}
-use Rattle.aead_ciphers_base.proofs.Walks.{Words, words_vals, words_typed, slice_typed, dropped, consults, ends, walked, table_of, premise}
-use Rattle.aead_ciphers_base.proofs.ViewWalks.{boxed, held, gone, buffer_word, struct_of, in_buffer, making, accepts, refuses}
+use Rattle.aead_ciphers_base.proofs
+use proofs.WalkNames.{◌≡◌, refl, subst, ap, ◌∙◌, List, [], ◌∷◌, ℕ, ◌-◌, ◌^◌, ◌<◌, arith, length, w64, a_type, a_number, inst_fn, Val, fjoin, vint, vstruct, vcons, vnil, shape, of_list, Fits, ‵, ◌$◌, !, move, keep, drop, use1, rewrite, whole, sub, agg, stop, fld, from, load, lit, num_lit, of_opd, bin, and_then, no_more, first, branches, skips, exec, returns, returns_within, alloc_all, pass_all, free_all, look_at, look_in_at, get, sets, lands_as, env, usize, Is, shows, param, number, layouts, types_at, named_lft, slice_val, nothing, heard, peeks, only, Ok, Err}
+use proofs.WalkLocals.{alone}
+use proofs.Walks.{Words, words_vals, words_typed, slice_typed, dropped, consults, ends, walked, table_of, premise}
+use proofs.ViewWalks.{boxed, held, gone, buffer_word, struct_of, in_buffer, making, accepts, refuses}
 use Rattle.std.proofs.Common.{zero, suc, T, T_not, eqb, eqb→eq, lit<, not, ◌||◌, inl, inr}
 use lib.Dec.{eqb_refl}
 use mir.Facts.{T_not-not, or_yes, or_no}
@@ -13,11 +14,12 @@ use denote.Plain.{uint_Makes}
 use denote.Steps.{owned}
 use denote.Triple.Walked.{walk_of}
 use Rattle.std.proofs.VecSteps.Shapes.{after}
-use Rattle.aead_ciphers_base.specs.declared.overlapping.array.Array.{Array}
-use Rattle.aead_ciphers_base.specs.contracts.error.LenMismatchError as LE
-use Rattle.aead_ciphers_base.proofs.error.LenMismatchError as LEP
-use Rattle.aead_ciphers_base.specs.contracts.overlapping.array.Array as V
-use Rattle.aead_ciphers_base.proofs.overlapping.array.Array as P
+use Rattle.aead_ciphers_base.specs
+use specs.declared.overlapping.array.Array.{Array}
+use specs.contracts.error.LenMismatchError as LE
+use proofs.error.LenMismatchError as LEP
+use specs.contracts.overlapping.array.Array as V
+use proofs.overlapping.array.Array as P
 
 above : (n : ℕ) → T (not (eqb n 0)) → 0 < n
 above zero h = absurd (T_not (eqb 0 0) h (eqb_refl 0))

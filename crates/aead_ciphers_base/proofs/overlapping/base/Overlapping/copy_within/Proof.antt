@@ -1,12 +1,13 @@
 -- The front of the slice is lent after the input was copied to it. This walks the two calls by hand.
-use Rattle.aead_ciphers_base.proofs.WalkNames.{refl, ap, ◌∙◌, List, [], ◌∷◌, ◌++◌, ℕ, ◌-◌, arith, length, drop_list, length-drop, length-append, named, a_type, dcons, dnil, inst_fn, GName, ‵, ◌$◌, !, move, keep, rewrite, of_opd, returns, alloc_all, pass_all, free_all, look_at, get, sets, lands_as, Items, follows, Is, shows, layout, bounded, types_at, named_lft, MutSlice, mut_slice_Lawful, nothing, heard, peeks}
-use Rattle.aead_ciphers_base.proofs.WalkLocals.{gets}
-use Rattle.aead_ciphers_base.proofs.Walks.{one, Words, words_vals, words_typed, dropped, consults, ends, walked, table_of, learns, learns_last, tells, tell, premise, takes, says}
-use Rattle.aead_ciphers_base.proofs.ViewWalks.{gone, at_seam}
+use Rattle.aead_ciphers_base.proofs
+use proofs.WalkNames.{refl, ap, ◌∙◌, List, [], ◌∷◌, ◌++◌, ℕ, ◌-◌, arith, length, drop_list, length-drop, length-append, named, a_type, dcons, dnil, inst_fn, GName, ‵, ◌$◌, !, move, keep, rewrite, of_opd, returns, alloc_all, pass_all, free_all, look_at, get, sets, lands_as, Items, follows, Is, shows, layout, bounded, types_at, named_lft, MutSlice, mut_slice_Lawful, nothing, heard, peeks}
+use proofs.WalkLocals.{gets}
+use proofs.Walks.{one, Words, words_vals, words_typed, dropped, consults, ends, walked, table_of, learns, learns_last, tells, tell, premise, takes, says}
+use proofs.ViewWalks.{gone, at_seam}
 use denote.Param.{copied}
 use denote.Param.Laws.{copied_laws}
 use Rattle.aead_ciphers_base.specs.contracts.overlapping.base.Overlapping as O
-use Rattle.aead_ciphers_base.proofs.overlapping.base.Overlapping as P
+use proofs.overlapping.base.Overlapping as P
 
 pub copy_within_spec : {M : Type 1} → P.copy_within.Statement.statement M
 copy_within_spec 𝓤 𝓛 𝓜 𝓡 wired X L copy clone dict bound =

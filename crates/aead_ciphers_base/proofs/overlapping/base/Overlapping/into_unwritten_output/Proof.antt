@@ -1,11 +1,12 @@
 -- The front of the slice that the struct holds is handed on. This walks the code by hand.
-use Rattle.aead_ciphers_base.proofs.WalkNames.{◌≡◌, refl, List, [], ◌∷◌, ◌++◌, ℕ, ◌-◌, ◌^◌, ◌<◌, arith, length, take, drop_list, w64, a_type, inst_fn, Fits, some, later, ◌$◌, !, move, keep, drop, split3, use2, await, pick, whole, sub, agg, stop, fld, hop, from, load, of_opd, bin, addr, returns, alloc_all, pass_all, free_all, look_at, look_in_at, get, sets, param, layouts, MutBor, types_at, named_lft, slice_val, nothing}
-use Rattle.aead_ciphers_base.proofs.WalkLocals.{both}
-use Rattle.aead_ciphers_base.proofs.Walks.{Words, words_vals, words_typed, slice_typed, dropped, ends, walked, tell, says}
-use Rattle.aead_ciphers_base.proofs.ViewWalks.{held, gone, buffer_word, in_buffer}
-use Rattle.aead_ciphers_base.proofs.LentParts.{lent, lends_front}
+use Rattle.aead_ciphers_base.proofs
+use proofs.WalkNames.{◌≡◌, refl, List, [], ◌∷◌, ◌++◌, ℕ, ◌-◌, ◌^◌, ◌<◌, arith, length, take, drop_list, w64, a_type, inst_fn, Fits, some, later, ◌$◌, !, move, keep, drop, split3, use2, await, pick, whole, sub, agg, stop, fld, hop, from, load, of_opd, bin, addr, returns, alloc_all, pass_all, free_all, look_at, look_in_at, get, sets, param, layouts, MutBor, types_at, named_lft, slice_val, nothing}
+use proofs.WalkLocals.{both}
+use proofs.Walks.{Words, words_vals, words_typed, slice_typed, dropped, ends, walked, tell, says}
+use proofs.ViewWalks.{held, gone, buffer_word, in_buffer}
+use proofs.LentParts.{lent, lends_front}
 use Rattle.aead_ciphers_base.specs.contracts.overlapping.base.Overlapping as O
-use Rattle.aead_ciphers_base.proofs.overlapping.base.Overlapping as P
+use proofs.overlapping.base.Overlapping as P
 
 pub into_unwritten_output_spec : {M : Type 1} → P.into_unwritten_output.Statement.statement M
 into_unwritten_output_spec 𝓤 𝓛 𝓜 𝓡 wired X L =

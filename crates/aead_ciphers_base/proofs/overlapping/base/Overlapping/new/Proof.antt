@@ -1,8 +1,9 @@
 -- The slice is handed on, or let go as it came. This walks the code by hand.
-use Rattle.aead_ciphers_base.proofs.WalkNames.{◌≡◌, refl, ap, ◌∙◌, List, [], ◌∷◌, ◌≤◌, arith, length, w64, a_type, inst_fn, Val, vint, of_list, Fits, ‵, ◌$◌, !, move, keep, drop, use1, rewrite, whole, sub, agg, stop, fld, from, load, lit, of_opd, bin, and_then, first, branches, skips, exec, returns, returns_within, alloc_all, pass_all, free_all, look_at, look_in_at, get, sets, lands_as, env, usize, yes, Is, shows, param, layouts, types_at, plain, named_lft, slice_val, nothing, heard, peeks, only, Goes-dropped, Goes-spent_slice, Ok, Err}
-use Rattle.aead_ciphers_base.proofs.WalkLocals.{alone, both, gets, reborrows}
-use Rattle.aead_ciphers_base.proofs.Walks.{Words, words_vals, words_typed, slice_typed, dropped, consults, ends, walked, table_of, premise}
-use Rattle.aead_ciphers_base.proofs.ViewWalks.{boxed, held, begun, range_word, making, accepts, refuses}
+use Rattle.aead_ciphers_base.proofs
+use proofs.WalkNames.{◌≡◌, refl, ap, ◌∙◌, List, [], ◌∷◌, ◌≤◌, arith, length, w64, a_type, inst_fn, Val, vint, of_list, Fits, ‵, ◌$◌, !, move, keep, drop, use1, rewrite, whole, sub, agg, stop, fld, from, load, lit, of_opd, bin, and_then, first, branches, skips, exec, returns, returns_within, alloc_all, pass_all, free_all, look_at, look_in_at, get, sets, lands_as, env, usize, yes, Is, shows, param, layouts, types_at, plain, named_lft, slice_val, nothing, heard, peeks, only, Goes-dropped, Goes-spent_slice, Ok, Err}
+use proofs.WalkLocals.{alone, both, gets, reborrows}
+use proofs.Walks.{Words, words_vals, words_typed, slice_typed, dropped, consults, ends, walked, table_of, premise}
+use proofs.ViewWalks.{boxed, held, begun, range_word, making, accepts, refuses}
 use lib.Dec.{ltb→lt, nltb→le, lit<}
 use types.Kit.{at_ret}
 use types.Match.{live}
@@ -11,12 +12,13 @@ use denote.Plain.{uint_Makes}
 use denote.Steps.{owned}
 use denote.Triple.Walked.{walk_of}
 use Rattle.std.proofs.VecSteps.Shapes.{after}
-use Rattle.aead_ciphers_base.specs.declared.overlapping.base.Overlapping.{Overlapping}
+use Rattle.aead_ciphers_base.specs
+use specs.declared.overlapping.base.Overlapping.{Overlapping}
 use Rattle.std.specs.contracts.ops.RangeFrom as RF
-use Rattle.aead_ciphers_base.specs.contracts.error.IndexError as IE
-use Rattle.aead_ciphers_base.proofs.error.IndexError as IEP
-use Rattle.aead_ciphers_base.specs.contracts.overlapping.base.Overlapping as O
-use Rattle.aead_ciphers_base.proofs.overlapping.base.Overlapping as P
+use specs.contracts.error.IndexError as IE
+use proofs.error.IndexError as IEP
+use specs.contracts.overlapping.base.Overlapping as O
+use proofs.overlapping.base.Overlapping as P
 
 pub new_spec : {M : Type 1} → P.new.Statement.statement M
 new_spec 𝓤 𝓛 𝓜 𝓡 wired X L =

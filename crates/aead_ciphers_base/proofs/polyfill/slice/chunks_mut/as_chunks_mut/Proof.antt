@@ -1,15 +1,17 @@
 -- The slice is lent in two parts, the first of them in a view. This walks the code by hand.
-use Rattle.aead_ciphers_base.proofs.WalkNames.{◌≡◌, refl, ap, ◌∙◌, List, [], ◌∷◌, ◌++◌, ℕ, ◌+◌, ◌*◌, ◌/◌, ◌%◌, ◌<◌, arith, length, drop_list, length-drop, named, a_type, a_number, inst_fn, vstruct, vcons, vnil, ‵, ◌$◌, !, move, keep, use1, use2, whole, sub, agg, stop, fld, of_opd, returns, alloc_all, pass_all, free_all, look_at, get_in, sets, lands_as, Items, follows_both, param, number, layouts, types_at, plain, named_lft, MutSlice, slice_val, nothing, heard, only, Goes-spent_slice}
-use Rattle.aead_ciphers_base.proofs.WalkLocals.{alone, both, gets, reborrows}
-use Rattle.aead_ciphers_base.proofs.Walks.{Words, words_vals, words_typed, slice_typed, dropped, consults, ends, walked, table_of, learns, tells, tell, takes, says}
-use Rattle.aead_ciphers_base.proofs.ViewWalks.{in_two, paired, viewed}
+use Rattle.aead_ciphers_base.proofs
+use proofs.WalkNames.{◌≡◌, refl, ap, ◌∙◌, List, [], ◌∷◌, ◌++◌, ℕ, ◌+◌, ◌*◌, ◌/◌, ◌%◌, ◌<◌, arith, length, drop_list, length-drop, named, a_type, a_number, inst_fn, vstruct, vcons, vnil, ‵, ◌$◌, !, move, keep, use1, use2, whole, sub, agg, stop, fld, of_opd, returns, alloc_all, pass_all, free_all, look_at, get_in, sets, lands_as, Items, follows_both, param, number, layouts, types_at, plain, named_lft, MutSlice, slice_val, nothing, heard, only, Goes-spent_slice}
+use proofs.WalkLocals.{alone, both, gets, reborrows}
+use proofs.Walks.{Words, words_vals, words_typed, slice_typed, dropped, consults, ends, walked, table_of, learns, tells, tell, takes, says}
+use proofs.ViewWalks.{in_two, paired, viewed}
 use denote.Struct.Tuple.{Tuple}
 use Rattle.std.proofs.Math.Nat.{mod-add-div'}
-use Rattle.aead_ciphers_base.proofs.BlocksLemmas.{blocks_take, whole_blocks}
-use Rattle.aead_ciphers_base.specs.Blocks.{blocks}
-use Rattle.aead_ciphers_base.specs.declared.polyfill.slice.chunks_mut.AsChunksMut.{AsChunksMut}
-use Rattle.aead_ciphers_base.specs.contracts.polyfill.slice.chunks_mut as C
-use Rattle.aead_ciphers_base.proofs.polyfill.slice.chunks_mut as P
+use proofs.BlocksLemmas.{blocks_take, whole_blocks}
+use Rattle.aead_ciphers_base.specs
+use specs.Blocks.{blocks}
+use specs.declared.polyfill.slice.chunks_mut.AsChunksMut.{AsChunksMut}
+use specs.contracts.polyfill.slice.chunks_mut as C
+use proofs.polyfill.slice.chunks_mut as P
 
 -- fewer items than a block has are left over
 short : {A : Type 0} (n : ℕ) (xs ys : List A) → 0 < n → ys ≡ drop_list (length xs / n * n) xs → length ys < n

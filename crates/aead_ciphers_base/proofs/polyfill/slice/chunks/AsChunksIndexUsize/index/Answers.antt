@@ -1,6 +1,7 @@
 use Rattle.std.proofs.Common.{arith, ◌-◌, ◌<◌, ◌≤◌, ◌/◌, ◌*◌, length, sym, ◌∙◌, drop, take-take}
-use Rattle.aead_ciphers_base.proofs.BlocksLemmas.{blocks_at, length_blocks, block_within}
-use Rattle.aead_ciphers_base.proofs.polyfill.slice.chunks.AsChunksIndexUsize.index.Goals as goal
+use Rattle.aead_ciphers_base.proofs
+use proofs.BlocksLemmas.{blocks_at, length_blocks, block_within}
+use proofs.polyfill.slice.chunks.AsChunksIndexUsize.index.Goals as goal
 
 pub returns : goal.returns
 returns g c =

@@ -1,8 +1,9 @@
 -- The items of a view are lent through the `&mut` to the view, which follows them. This walks the code by hand.
-use Rattle.aead_ciphers_base.proofs.WalkNames.{◌≡◌, refl, sym, subst, ap, ◌∙◌, List, [], ◌∷◌, ◌++◌, ℕ, length, take, drop_list, Ura, named, a_type, a_number, inst_fn, Val, vstruct, vcons, vnil, of_list, SProp, ent, sep, coded_list, Fml, GName, flft, fsep, fobs, fbor, Logic, sem, open_ref, ‵, ◌⊛◌, some, later, ◌$◌, ◌∵◌, !, qed, move, keep, drop, split, split3, fsplit, fsplit3, fjoin, fjoin3, fpick, fpack, feq_l, feq_i, use1, use2, use3, await, pick, rewrite, done, check, whole, sub, agg, look_in, stop, fld, hop, load, of_opd, addr, returns, alloc_all, pass_all, free_all, look_at, sets, through, Arr, Body, follows, Is, shows, mem, param, number, layout, layouts, RattleType, Valss, NamedLft, MutBor, types_at, plain, named_lft, MutSlice, Room, slice_val, mut_slice_vals, nothing, peeks, Goes-spent_ref}
-use Rattle.aead_ciphers_base.proofs.WalkLocals.{both}
-use Rattle.aead_ciphers_base.proofs.Walks.{Words, words_vals, words_typed, slice_typed, dropped, ends, walked, tell, says}
-use Rattle.aead_ciphers_base.proofs.ViewWalks.{viewed}
+use Rattle.aead_ciphers_base.proofs
+use proofs.WalkNames.{◌≡◌, refl, sym, subst, ap, ◌∙◌, List, [], ◌∷◌, ◌++◌, ℕ, length, take, drop_list, Ura, named, a_type, a_number, inst_fn, Val, vstruct, vcons, vnil, of_list, SProp, ent, sep, coded_list, Fml, GName, flft, fsep, fobs, fbor, Logic, sem, open_ref, ‵, ◌⊛◌, some, later, ◌$◌, ◌∵◌, !, qed, move, keep, drop, split, split3, fsplit, fsplit3, fjoin, fjoin3, fpick, fpack, feq_l, feq_i, use1, use2, use3, await, pick, rewrite, done, check, whole, sub, agg, look_in, stop, fld, hop, load, of_opd, addr, returns, alloc_all, pass_all, free_all, look_at, sets, through, Arr, Body, follows, Is, shows, mem, param, number, layout, layouts, RattleType, Valss, NamedLft, MutBor, types_at, plain, named_lft, MutSlice, Room, slice_val, mut_slice_vals, nothing, peeks, Goes-spent_ref}
+use proofs.WalkLocals.{both}
+use proofs.Walks.{Words, words_vals, words_typed, slice_typed, dropped, ends, walked, tell, says}
+use proofs.ViewWalks.{viewed}
 use mir.Syntax.{Ty, erased}
 use base.Logic.{guard}
 use base.Fraction.{full_share}
@@ -15,10 +16,11 @@ use denote.Memory.{cell_at, part_at, part_of}
 use denote.Slice.{room}
 use Rattle.std.specs.List.{length_refill}
 use Rattle.std.proofs.Math.Seq.{take-append_seam}
-use Rattle.aead_ciphers_base.specs.AsChunksMut.{with_items}
-use Rattle.aead_ciphers_base.specs.declared.polyfill.slice.chunks_mut.AsChunksMut.{AsChunksMut}
-use Rattle.aead_ciphers_base.specs.contracts.polyfill.slice.chunks_mut.AsChunksMut as V
-use Rattle.aead_ciphers_base.proofs.polyfill.slice.chunks_mut.AsChunksMut as P
+use Rattle.aead_ciphers_base.specs
+use specs.AsChunksMut.{with_items}
+use specs.declared.polyfill.slice.chunks_mut.AsChunksMut.{AsChunksMut}
+use specs.contracts.polyfill.slice.chunks_mut.AsChunksMut as V
+use proofs.polyfill.slice.chunks_mut.AsChunksMut as P
 
 -- the view at (b, o), whose items are at (c, e) under the name δ
 module _ (X : RattleType) (N : ℕ) {M : Type 1} {𝓤 : Ura M} (𝓛 : Logic 𝓤) (a : NamedLft) (d : AsChunksMut X.Denot N) (b o : ℕ) where

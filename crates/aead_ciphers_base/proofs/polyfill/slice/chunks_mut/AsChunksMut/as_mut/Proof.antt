@@ -1,12 +1,14 @@
 -- The items that `as_flattened_mut` lends are handed on in a view. This walks the code by hand.
-use Rattle.aead_ciphers_base.proofs.WalkNames.{refl, ap, ◌∙◌, List, [], ◌∷◌, ◌%◌, length, named, a_type, a_number, inst_fn, Val, vstruct, vcons, vnil, ‵, ◌$◌, !, move, keep, use1, rewrite, agg, stop, addr, returns, alloc_all, pass_all, free_all, look_at, sets, lands_as, through, Items, follows, Is, shows, param, number, layouts, types_at, plain, named_lft, MutSlice, slice_val, nothing, heard, peeks, only, Goes-spent_ref}
-use Rattle.aead_ciphers_base.proofs.WalkLocals.{alone, gets}
-use Rattle.aead_ciphers_base.proofs.Walks.{Words, words_vals, words_typed, slice_typed, dropped, consults, ends, walked, table_of, learns, learns_last, tells, tell, premise, takes, says}
-use Rattle.aead_ciphers_base.proofs.ViewWalks.{viewed}
-use Rattle.aead_ciphers_base.specs.AsChunksMut.{with_items}
-use Rattle.aead_ciphers_base.specs.declared.polyfill.slice.chunks_mut.AsChunksMut.{AsChunksMut}
-use Rattle.aead_ciphers_base.specs.contracts.polyfill.slice.chunks_mut.AsChunksMut as A
-use Rattle.aead_ciphers_base.proofs.polyfill.slice.chunks_mut.AsChunksMut as P
+use Rattle.aead_ciphers_base.proofs
+use proofs.WalkNames.{refl, ap, ◌∙◌, List, [], ◌∷◌, ◌%◌, length, named, a_type, a_number, inst_fn, Val, vstruct, vcons, vnil, ‵, ◌$◌, !, move, keep, use1, rewrite, agg, stop, addr, returns, alloc_all, pass_all, free_all, look_at, sets, lands_as, through, Items, follows, Is, shows, param, number, layouts, types_at, plain, named_lft, MutSlice, slice_val, nothing, heard, peeks, only, Goes-spent_ref}
+use proofs.WalkLocals.{alone, gets}
+use proofs.Walks.{Words, words_vals, words_typed, slice_typed, dropped, consults, ends, walked, table_of, learns, learns_last, tells, tell, premise, takes, says}
+use proofs.ViewWalks.{viewed}
+use Rattle.aead_ciphers_base.specs
+use specs.AsChunksMut.{with_items}
+use specs.declared.polyfill.slice.chunks_mut.AsChunksMut.{AsChunksMut}
+use specs.contracts.polyfill.slice.chunks_mut.AsChunksMut as A
+use proofs.polyfill.slice.chunks_mut.AsChunksMut as P
 
 pub as_mut_spec : {M : Type 1} → P.as_mut.Statement.statement M
 as_mut_spec 𝓤 𝓛 𝓜 𝓡 wired X n L fits =

@@ -1,11 +1,13 @@
 -- The items that `as_flattened_mut` lends are walked in chunks. This walks the two calls by hand.
-use Rattle.aead_ciphers_base.proofs.WalkNames.{refl, ap, ◌∙◌, [], ◌∷◌, ◌%◌, length, named, a_type, a_number, inst_fn, GName, ◌$◌, !, move, keep, fpack, stop, addr, returns, alloc_all, pass_all, free_all, look_at, sets, lands_as, through, Items, follows, Is, shows, param, number, layouts, types_at, plain, named_lft, MutSlice, mut_slice_Lawful, nothing, heard, peeks, Goes-spent_ref}
-use Rattle.aead_ciphers_base.proofs.WalkLocals.{gets}
-use Rattle.aead_ciphers_base.proofs.Walks.{Words, words_vals, words_typed, dropped, consults, ends, walked, table_of, learns, tells, tell, premise, takes, says}
+use Rattle.aead_ciphers_base.proofs
+use proofs.WalkNames.{refl, ap, ◌∙◌, [], ◌∷◌, ◌%◌, length, named, a_type, a_number, inst_fn, GName, ◌$◌, !, move, keep, fpack, stop, addr, returns, alloc_all, pass_all, free_all, look_at, sets, lands_as, through, Items, follows, Is, shows, param, number, layouts, types_at, plain, named_lft, MutSlice, mut_slice_Lawful, nothing, heard, peeks, Goes-spent_ref}
+use proofs.WalkLocals.{gets}
+use proofs.Walks.{Words, words_vals, words_typed, dropped, consults, ends, walked, table_of, learns, tells, tell, premise, takes, says}
 use denote.Param.Laws.{param_laws}
-use Rattle.aead_ciphers_base.specs.AsChunksMut.{with_items}
-use Rattle.aead_ciphers_base.specs.contracts.polyfill.slice.chunks_mut as C
-use Rattle.aead_ciphers_base.proofs.polyfill.slice.chunks_mut as P
+use Rattle.aead_ciphers_base.specs
+use specs.AsChunksMut.{with_items}
+use specs.contracts.polyfill.slice.chunks_mut as C
+use proofs.polyfill.slice.chunks_mut as P
 
 pub chunks_mut_spec : {M : Type 1} → P.AsChunksMut.chunks_mut.Statement.statement M
 chunks_mut_spec 𝓤 𝓛 𝓜 𝓡 wired X n t L fits fits-t =

@@ -1,15 +1,17 @@
 -- The items that `as_flattened_mut` lends are handed on in two views. This walks the code by hand.
-use Rattle.aead_ciphers_base.proofs.WalkNames.{◌≡◌, refl, sym, subst, ap, ◌∙◌, List, [], ◌∷◌, ◌++◌, ◌*◌, ◌%◌, ◌≤◌, length, take, drop_list, named, w64, a_type, a_number, inst_fn, vint, vstruct, vcons, vnil, ‵, ◌$◌, !, move, keep, use1, use2, whole, sub, agg, stop, fld, of_opd, addr, returns, alloc_all, pass_all, free_all, look_at, get_in, sets, lands_as, through, Items, usize, yes, follows, follows_both, Is, shows, param, number, layouts, types_at, plain, named_lft, MutSlice, slice_val, mut_slice_Lawful, nothing, heard, peeks, only, Goes-dropped, Goes-spent_ref}
-use Rattle.aead_ciphers_base.proofs.WalkLocals.{alone, both, gets, reborrows}
-use Rattle.aead_ciphers_base.proofs.Walks.{Words, words_vals, words_typed, slice_typed, dropped, consults, ends, walked, table_of, learns, tells, tell, premise, takes, says}
-use Rattle.aead_ciphers_base.proofs.ViewWalks.{in_two, paired, viewed, follows_parts}
+use Rattle.aead_ciphers_base.proofs
+use proofs.WalkNames.{◌≡◌, refl, sym, subst, ap, ◌∙◌, List, [], ◌∷◌, ◌++◌, ◌*◌, ◌%◌, ◌≤◌, length, take, drop_list, named, w64, a_type, a_number, inst_fn, vint, vstruct, vcons, vnil, ‵, ◌$◌, !, move, keep, use1, use2, whole, sub, agg, stop, fld, of_opd, addr, returns, alloc_all, pass_all, free_all, look_at, get_in, sets, lands_as, through, Items, usize, yes, follows, follows_both, Is, shows, param, number, layouts, types_at, plain, named_lft, MutSlice, slice_val, mut_slice_Lawful, nothing, heard, peeks, only, Goes-dropped, Goes-spent_ref}
+use proofs.WalkLocals.{alone, both, gets, reborrows}
+use proofs.Walks.{Words, words_vals, words_typed, slice_typed, dropped, consults, ends, walked, table_of, learns, tells, tell, premise, takes, says}
+use proofs.ViewWalks.{in_two, paired, viewed, follows_parts}
 use denote.Struct.Tuple.{Tuple}
-use Rattle.aead_ciphers_base.proofs.BlocksLemmas.{blocks_fit, blocks_front, blocks_back, whole_front, whole_back}
-use Rattle.aead_ciphers_base.specs.AsChunksMut.{with_items}
-use Rattle.aead_ciphers_base.specs.Blocks.{blocks}
-use Rattle.aead_ciphers_base.specs.declared.polyfill.slice.chunks_mut.AsChunksMut.{AsChunksMut}
-use Rattle.aead_ciphers_base.specs.contracts.polyfill.slice.chunks_mut as C
-use Rattle.aead_ciphers_base.proofs.polyfill.slice.chunks_mut as P
+use proofs.BlocksLemmas.{blocks_fit, blocks_front, blocks_back, whole_front, whole_back}
+use Rattle.aead_ciphers_base.specs
+use specs.AsChunksMut.{with_items}
+use specs.Blocks.{blocks}
+use specs.declared.polyfill.slice.chunks_mut.AsChunksMut.{AsChunksMut}
+use specs.contracts.polyfill.slice.chunks_mut as C
+use proofs.polyfill.slice.chunks_mut as P
 
 pub split_at_mut_spec : {M : Type 1} → P.AsChunksMut.split_at_mut.Statement.statement M
 split_at_mut_spec 𝓤 𝓛 𝓜 𝓡 wired X n L fits =
