@@ -38,10 +38,10 @@ length_blocks n xs = length-first_chunks n _ xs
 first_chunks-take : {T : Type 0} (n k m : ℕ) (xs : List T) → k * n ≤ m → first_chunks n k (take m xs) ≡ first_chunks n k xs
 first_chunks-take n zero m xs h = refl
 first_chunks-take n (suc k) m xs h =
-    let more = subst (λ (x : ℕ). x ≤ m) (suc-mul k n) h in
+    let more = subst (λ x. x ≤ m) (suc-mul k n) h in
     let e : n + (m - n) ≡ m = omega arith in
     let front = take-take n m xs (omega arith) in
-    let back = ap (λ (x : ℕ). drop n (take x xs)) (sym e) ∙ drop-take n (m - n) xs in
+    let back = ap (λ x. drop n (take x xs)) (sym e) ∙ drop-take n (m - n) xs in
     let tail = first_chunks-take n k (m - n) (drop n xs) (omega arith) in
     rw (front, back, tail)
 

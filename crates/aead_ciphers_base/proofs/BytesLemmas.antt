@@ -10,7 +10,7 @@ use borrow.Author.Count.{below_more}
 use Rattle.aead_ciphers_base.specs.Bytes.{◌⊕◌}
 
 pub same_of_xor : (x y : ℕ) → bit_xor x y ≡ 0 → x ≡ y
-same_of_xor x y e = sym (xor_zero_r x) ∙ ap (bit_xor x) (sym (xor_self y)) ∙ sym (xor_assoc x y y) ∙ ap (λ (z : ℕ). bit_xor z y) e ∙ xor_zero_l y
+same_of_xor x y e = sym (xor_zero_r x) ∙ ap (bit_xor x) (sym (xor_self y)) ∙ sym (xor_assoc x y y) ∙ ap (λ z. bit_xor z y) e ∙ xor_zero_l y
 
 -- the difference is 0 exactly where the first i bytes are the same, in two halves
 pub record SameSoFar (a b : List ℕ) (difference i : ℕ) : Type 0 where
@@ -34,7 +34,7 @@ module _ (a a' : List ℕ) (i v : ℕ) (here : i < length a) (is : a' ≡ slice_
   rest_set k after = ap (drop k) is ∙ drop-set-lt k a i v after
 
   front_set : take (i + 1) a' ≡ take i a ++ (v ∷ [])
-  front_set = ap (take (i + 1)) is ∙ ap (λ (k : ℕ). take k (slice_set a i v)) (add-one i) ∙ take-suc-set a i v here
+  front_set = ap (take (i + 1)) is ∙ ap (λ k. take k (slice_set a i v)) (add-one i) ∙ take-suc-set a i v here
 
   -- one more byte is XORed with b
   pub xor_more : (b : ℕ) → v ≡ bit_xor (get_or a i 0) b → take (i + 1) a' ++ map (λ x. bit_xor x b) (drop (i + 1) a')

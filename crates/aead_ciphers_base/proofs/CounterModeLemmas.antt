@@ -75,14 +75,14 @@ module _ (cipher : List ℕ → List ℕ) (nonce : List ℕ) where
       let next : d + 16 ≡ 16 * (i + 1) = omega arith in
       let front =
       xor_comm rest pad ∙ sym (xor-take pad rest) ∙ xor_comm pad _
-      ∙ ap (λ (n : ℕ). take n rest ⊕ pad) size ∙ counter_mode-short _ block pad (omega arith) (omega arith) pe in
+      ∙ ap (λ n. take n rest ⊕ pad) size ∙ counter_mode-short _ block pad (omega arith) (omega arith) pe in
       let none = nil_from_length (drop m rest) (omega (arith, length-drop m rest)) in
-      ap₂ (λ (u v : List ℕ). take d now ++ (u ++ v)) (we ∙ ap₂ (λ (u : List ℕ) (n : ℕ). u ++ drop n rest) front size) none
-      ∙ ap (λ (u : List ℕ). take d now ++ u) (append-nil (counter_mode cipher nonce _ block ++ drop 16 rest))
+      ap₂ (λ u v. take d now ++ (u ++ v)) (we ∙ ap₂ (λ (u : List ℕ) (n : ℕ). u ++ drop n rest) front size) none
+      ∙ ap (λ u. take d now ++ u) (append-nil (counter_mode cipher nonce _ block ++ drop 16 rest))
       ∙ sym (append_assoc (take d now) _ (drop 16 rest))
-      ∙ ap₂ (λ (u v : List ℕ). take d now ++ counter_mode cipher nonce (k + i) (take 16 u) ++ v) (ap (λ (n : ℕ). drop n now) (sym here)) (drop-drop 16 d now)
+      ∙ ap₂ (λ u v. take d now ++ counter_mode cipher nonce (k + i) (take 16 u) ++ v) (ap (λ n. drop n now) (sym here)) (drop-drop 16 d now)
       ∙ advance k i d 16 0 was now refl (omega arith) e
-      ∙ ap (λ (n : ℕ). counter_mode cipher nonce k (take n was) ++ drop n was) next
+      ∙ ap (λ n. counter_mode cipher nonce k (take n was) ++ drop n was) next
 
   -- the n bytes at s + d were encrypted in a buffer of their own, and put at d
   pub batch_put : (k s d n m : ℕ) (xs zeros input batch written : List ℕ) → s + d + n ≤ length xs → m ≡ n →
@@ -95,12 +95,12 @@ module _ (cipher : List ℕ → List ℕ) (nonce : List ℕ) where
       let piece =
       we ∙ ap (take n) be ∙ take-counter_mode k n _ (omega (arith, length-append input zeros))
       ∙ ap (counter_mode cipher nonce k) (take_at input zeros n size ∙ ie) in
-      ap₂ (λ (u v : List ℕ). take d xs ++ (u ++ v)) piece (ap (λ (z : ℕ). drop z (drop d xs)) me ∙ drop-drop n d xs)
+      ap₂ (λ u v. take d xs ++ (u ++ v)) piece (ap (λ z. drop z (drop d xs)) me ∙ drop-drop n d xs)
       ∙ sym (append_assoc (take d xs) _ _)
 
 -- a buffer of which nothing is encrypted
 pub encrypts_none : (cipher : List ℕ → List ℕ) (counter : List ℕ) (s : ℕ) (was : List ℕ) → EncryptsFirst cipher counter s 0 was was
-encrypts_none cipher counter s was = λ nonce k at. ap (λ (u : List ℕ). u ++ was) (sym (counter_mode-nil cipher nonce k [] refl))
+encrypts_none cipher counter s was = λ nonce k at. ap (λ u. u ++ was) (sym (counter_mode-nil cipher nonce k [] refl))
 
 -- the d bytes that were encrypted, and the n bytes after them
 pub encrypts_more : (cipher : List ℕ → List ℕ) (counter then : List ℕ) (s d n : ℕ) (was now new : List ℕ) → d % 16 ≡ 0 → s + d + n ≤ length was →
@@ -126,13 +126,13 @@ encrypts_window cipher counter s d n size xs w room e front = λ nonce k at.
     let len : length win - s ≡ n = omega arith in
     let place : d + s ≡ s + d = omega arith in
     let text : drop s win ≡ take n (drop (s + d) xs) =
-    ap (λ (z : ℕ). drop s (take z rest)) part ∙ drop-take s n rest ∙ ap (take n) (drop-drop s d xs ∙ ap (λ (z : ℕ). drop z xs) place) in
+    ap (λ z. drop s (take z rest)) part ∙ drop-take s n rest ∙ ap (take n) (drop-drop s d xs ∙ ap (λ z. drop z xs) place) in
     let tail : drop (length win - s) win ++ drop size rest ≡ drop (d + n) xs =
-    ap (λ (z : ℕ). drop z win ++ drop size rest) len ∙ sym (drop-append-le n win (drop size rest) (omega arith))
+    ap (λ z. drop z win ++ drop size rest) len ∙ sym (drop-append-le n win (drop size rest) (omega arith))
     ∙ ap (drop n) (take-append-drop size rest) ∙ drop-drop n d xs in
-    ap (λ (u : List ℕ). take d xs ++ (u ++ drop size rest)) (front nonce k at)
-    ∙ ap (λ (u : List ℕ). take d xs ++ u) (append_assoc (counter_mode cipher nonce k (drop s win)) (drop (length win - s) win) (drop size rest))
-    ∙ ap₂ (λ (u v : List ℕ). take d xs ++ (counter_mode cipher nonce k u ++ v)) text tail
+    ap (λ u. take d xs ++ (u ++ drop size rest)) (front nonce k at)
+    ∙ ap (λ u. take d xs ++ u) (append_assoc (counter_mode cipher nonce k (drop s win)) (drop (length win - s) win) (drop size rest))
+    ∙ ap₂ (λ u v. take d xs ++ (counter_mode cipher nonce k u ++ v)) text tail
     ∙ sym (append_assoc (take d xs) (counter_mode cipher nonce k (take n (drop (s + d) xs))) (drop (d + n) xs))
 
 -- a XOR as long as the first list has read all of the second that it needs

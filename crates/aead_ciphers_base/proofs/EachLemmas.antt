@@ -14,20 +14,20 @@ each-same zero f g h = refl
 each-same (suc n) f g h =
     let here : n < suc n = omega arith in
     let e : suc n ≡ n + 1 = omega arith in
-    ap (λ (k : ℕ). each_below k f) e
+    ap (λ k. each_below k f) e
     ∙ map-range_with_len_more f 0 n n (omega arith)
     ∙ ap₂ (λ (xs : List _) (x : _). xs ++ x ∷ []) (each-same n f g (λ i lt. h i (omega arith))) (h n here)
     ∙ sym (map-range_with_len_more g 0 n n (omega arith))
-    ∙ sym (ap (λ (k : ℕ). each_below k g) e)
+    ∙ sym (ap (λ k. each_below k g) e)
 
 pub each-append : {X : Type 0} (m n : ℕ) (f : ℕ → X) → each_below (m + n) f ≡ each_below m f ++ each_below n (λ i. f (m + i))
-each-append m zero f = ap (λ (k : ℕ). each_below k f) (let e : m + 0 ≡ m = omega arith in e) ∙ sym (append-nil (each_below m f))
+each-append m zero f = ap (λ k. each_below k f) (let e : m + 0 ≡ m = omega arith in e) ∙ sym (append-nil (each_below m f))
 each-append m (suc n) f =
     let e : m + suc n ≡ m + n + 1 = omega arith in
     let e' : n + 1 ≡ suc n = omega arith in
-    ap (λ (k : ℕ). each_below k f) e
+    ap (λ k. each_below k f) e
     ∙ map-range_with_len_more f 0 _ (m + n) (omega arith)
     ∙ ap (λ (xs : List _). xs ++ f (m + n) ∷ []) (each-append m n f)
     ∙ append_assoc _ (each_below n (λ i. f _)) _
     ∙ ap (λ (xs : List _). each_below m f ++ xs)
-    (sym (map-range_with_len_more (λ (i : ℕ). f _) 0 n n (omega arith)) ∙ ap (λ (k : ℕ). each_below k (λ i. f (m + i))) e')
+    (sym (map-range_with_len_more (λ (i : ℕ). f _) 0 n n (omega arith)) ∙ ap (λ k. each_below k (λ i. f (m + i))) e')

@@ -26,9 +26,9 @@ module _ (key : List ℕ) (counter : ℕ) (nonce : List ℕ) where
   blocks-stream bytes n size blocks =
       fill_by_all _ bytes _ 0 size (λ k h.
       let place : 64 * (k / 64) + k % 64 ≡ k = omega arith in
-      sym (ap (λ (i : ℕ). get_or bytes i 0) place)
+      sym (ap (λ i. get_or bytes i 0) place)
       ∙ sym (get_or-take 64 (drop (64 * (k / 64)) bytes) (k % 64) 0 (omega arith) ∙ get_or-drop (64 * (k / 64)) bytes (k % 64) 0)
-      ∙ ap (λ (block : List ℕ). get_or block (k % 64) 0) (blocks (k / 64) (omega arith)))
+      ∙ ap (λ block. get_or block (k % 64) 0) (blocks (k / 64) (omega arith)))
 
   -- the first n bytes of one block
   pub block-stream : (block : List ℕ) (n : ℕ) → block ≡ chacha20_block key counter nonce → length block ≡ 64
@@ -55,13 +55,13 @@ module _ (key : List ℕ) (counter : ℕ) (nonce : List ℕ) where
       let piece : List ℕ = take n (drop (start + at) was) in
       let li : length input ≡ length old - start = length-drop start old in
       let ld : length (take at input) ≡ at = length-take-le at input (omega arith) in
-      let held' = held ∙ ap (λ (k : ℕ). xored f (take at input) ++ drop k old) ld in
+      let held' = held ∙ ap (λ k. xored f (take at input) ++ drop k old) ld in
       let lw : length was ≡ length old = ap length held' ∙ simp (length-append, length-xored, length-drop) (omega arith) in
       let lp : length piece ≡ n = length-take-le n _ (omega (arith, length-drop (start + at) was)) in
       let cut : at + n ≡ min (at + size) (length input) = omega arith in
-      let all : take (at + n) input ≡ take (at + size) input = ap (λ (k : ℕ). take k input) cut ∙ take_min _ input in
+      let all : take (at + n) input ≡ take (at + size) input = ap (λ k. take k input) cut ∙ take_min _ input in
       let la : at + n ≡ length (take (at + size) input) = sym (length-take-le (at + n) input (omega arith)) ∙ ap length all in
-      ap (λ (u : List ℕ). take at was ++ u ++ drop (at + n) was) (xored-is g piece stream (rw lp e))
+      ap (λ u. take at was ++ u ++ drop (at + n) was) (xored-is g piece stream (rw lp e))
       ∙ advance f g at n start old was (stream_byte-later j at whole) (omega arith) held'
       ∙ ap₂ (λ (u : List ℕ) (k : ℕ). xored f u ++ drop k old) all la
 
@@ -80,17 +80,17 @@ module _ (key : List ℕ) (counter : ℕ) (nonce : List ℕ) where
       let input = drop start old in
       let li = length-drop start old in
       let ld = length-take-le at input (omega arith) in
-      let held' = held ∙ ap (λ (k : ℕ). xored f (take at input) ++ drop k old) ld in
+      let held' = held ∙ ap (λ k. xored f (take at input) ++ drop k old) ld in
       let lw : length was ≡ length old = ap length held' ∙ simp (length-append, length-xored, length-drop) (omega arith) in
       let none = drop_all (length was - at) (drop at was) (simp length-drop (omega arith)) in
       let part = take_all (length was - at) (drop at was) (simp length-drop (omega arith)) in
-      let piece : drop start (drop at was) ≡ drop (start + at) was = drop-drop start at was ∙ ap (λ (k : ℕ). drop k was) (omega arith) in
+      let piece : drop start (drop at was) ≡ drop (start + at) was = drop-drop start at was ∙ ap (λ k. drop k was) (omega arith) in
       let behind =
-      drop-drop (length (drop (start + at) was)) at was ∙ ap (λ (k : ℕ). drop k was) (omega (arith, length-drop (start + at) was)) in
+      drop-drop (length (drop (start + at) was)) at was ∙ ap (λ k. drop k was) (omega (arith, length-drop (start + at) was)) in
       rw (none, append-nil rest, rw (part, piece) at e, behind)
       (sym (append_assoc (take at was) _ _)
       ∙ finish f g at start old was (stream_byte-later j at whole) within lw held'
-      ∙ ap (λ (k : ℕ). xored f input ++ drop k old) (sym li))
+      ∙ ap (λ k. xored f input ++ drop k old) (sym li))
 
   -- encrypting twice
   pub chacha20_encrypted-chacha20_encrypted : (m : List ℕ)

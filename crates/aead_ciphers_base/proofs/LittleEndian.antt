@@ -99,7 +99,7 @@ initial_state_words key counter c k n number lk lc fk fc ec ek en =
     let zeros : List ℕ = replicate 4 0 in
     let fits : (i : ℕ) → get_or (drop 1 counter) i 0 < 2 ^ 32 = λ i. rw get_or-drop (fc (1 + i)) in
     rw (ec, ek, en, take_at key zeros 8 lk, drop_at key zeros 8 lk)
-    (sym (ap₂ (λ (k n : List ℕ). 0x61707865 ∷ 0x3320646e ∷ 0x79622d32 ∷ 0x6b206574 ∷ k ++ number ∷ n)
+    (sym (ap₂ (λ k n. 0x61707865 ∷ 0x3320646e ∷ 0x79622d32 ∷ 0x6b206574 ∷ k ++ number ∷ n)
     (le_words-le_bytes key fk) (le_words-le_bytes (drop 1 counter) fits ∙ drop-elements 3 1 counter lc)))
 
 -- the block counter is word 12
@@ -107,7 +107,7 @@ pub counter-initial_state : (key nonce : List ℕ) (m n : ℕ) → length (le_wo
     → slice_set (initial_state key m nonce) 12 n ≡ initial_state key n nonce
 unfolding initial_state
 counter-initial_state key nonce m n size =
-    ap (λ (ws : List ℕ). 0x61707865 ∷ 0x3320646e ∷ 0x79622d32 ∷ 0x6b206574 ∷ ws) (set_at (le_words key) m _ n 8 size)
+    ap (λ ws. 0x61707865 ∷ 0x3320646e ∷ 0x79622d32 ∷ 0x6b206574 ∷ ws) (set_at (le_words key) m _ n 8 size)
 
 -- words as bytes, and back
 pub ruleset read_and_written = (le_words-le_bytes, take-le_bytes)

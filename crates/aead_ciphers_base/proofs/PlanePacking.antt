@@ -111,16 +111,12 @@ upper_lt k q hk hq e =
     let place = same_in_table (λ j t. (if bit_at t j == 0 then t + 2 ^ j else t) / 64) (λ j t. 0) 6 64 k q refl hk hq in
     omega (arith, sym (ap (λ d. (if d == 0 then q + 2 ^ k else q) / 64) e) ∙ place)
 
-word_bit-at : (w : List ℕ) (i q : ℕ) → q < 64 → word_bit w (64 * i + q) ≡ bit_at (slice_index w i) q
-unfolding word_bit
-word_bit-at w i q h =
-    let word : (64 * i + q) / 64 ≡ i = omega arith in
-    let place : (64 * i + q) % 64 ≡ q = omega arith in
-    ap₂ (λ j t. bit_at (slice_index w j) t) word place
-
 word_bit_is : (w : List ℕ) (n i q : ℕ) → n / 64 ≡ i → n % 64 ≡ q → word_bit w n ≡ bit_at (slice_index w i) q
 unfolding word_bit
 word_bit_is w n i q word place = ap₂ (λ j t. bit_at (slice_index w j) t) word place
+
+word_bit-at : (w : List ℕ) (i q : ℕ) → q < 64 → word_bit w (64 * i + q) ≡ bit_at (slice_index w i) q
+word_bit-at w i q h = word_bit_is w (64 * i + q) i q (omega arith) (omega arith)
 
 -- words 2 i and 2 i + 1 of r are those that `delta_swap` makes of words i and i + 4 of w
 abbrev pub FirstOf : List ℕ → List ℕ → ℕ → ℕ → Type 0

@@ -18,7 +18,7 @@ product_coefficient a b k = xor_sum (suc k) (λ i. coefficient a i && coefficien
 
 xor_sum-first : (n : ℕ) (f : Series) → xor_sum (suc n) f ≡ (f zero xor xor_sum n (λ k. f (suc k)))
 xor_sum-first zero f = xor_comm false _
-xor_sum-first (suc n) f = ap (λ (b : Bool). b xor f (suc n)) (xor_sum-first n f) ∙ xor_assoc _ (xor_sum n (λ k. f _)) _
+xor_sum-first (suc n) f = ap (λ b. b xor f (suc n)) (xor_sum-first n f) ∙ xor_assoc _ (xor_sum n (λ k. f _)) _
 
 xor_sum-none : (n : ℕ) (f : Series) → ((k : ℕ) → f k ≡ false) → xor_sum n f ≡ false
 xor_sum-none zero f h = refl
@@ -30,8 +30,8 @@ product_of_none b k = xor_sum-none (suc k) _ (λ i. refl)
 product_coefficient-cons : (x : Bool) (a b : List Bool) → product_coefficient (x ∷ a) b ≡ add (scale x (coefficient b)) (shift (product_coefficient a b))
 product_coefficient-cons x a b =
     same_steps _ _ (sym (xor_zero (x && coefficient b zero))) (λ k. xor_sum-first (suc k) (λ i. coefficient (x ∷ a) i && coefficient b _)
-    ∙ ap (λ (j : ℕ). (x && coefficient b j) xor xor_sum (suc k) (λ i. coefficient a i && coefficient b (suc k - suc i))) (sub-zero (suc k))
-    ∙ ap (λ (g : Series). (x && coefficient b (suc k)) xor xor_sum (suc k) g) (same_series (λ i. ap (λ (j : ℕ). coefficient a i && coefficient b j)
+    ∙ ap (λ j. (x && coefficient b j) xor xor_sum (suc k) (λ i. coefficient a i && coefficient b (suc k - suc i))) (sub-zero (suc k))
+    ∙ ap (λ g. (x && coefficient b (suc k)) xor xor_sum (suc k) g) (same_series (λ i. ap (λ j. coefficient a i && coefficient b j)
     (suc-sub-suc k i))))
 
 -- ---- one step of x, and Horner's rule. `top` is the degree less one, `m` the modulus with its highest coefficient
@@ -44,12 +44,12 @@ module _ (top : ℕ) (m : Series) where
 
   pub mul_x-add : (f g : Series) → mul_x (add f g) ≡ add (mul_x f) (mul_x g)
   mul_x-add f g =
-      same_steps _ _ (xor_and (f top) _ _) (λ k. ap (λ (b : Bool). (f k xor g k) xor b) (xor_and (f top) _ _)
+      same_steps _ _ (xor_and (f top) _ _) (λ k. ap (λ b. (f k xor g k) xor b) (xor_and (f top) _ _)
       ∙ xor_exchange (f k) (g k) _ _)
 
   pub mul_x-scale : (b : Bool) (f : Series) → mul_x (scale b f) ≡ scale b (mul_x f)
   mul_x-scale b f =
-      same_steps _ _ (and_assoc b _ _) (λ k. ap (λ (c : Bool). (b && f k) xor c) (and_assoc b _ _) ∙ sym (and_xor b (f k) _))
+      same_steps _ _ (and_assoc b _ _) (λ k. ap (λ c. (b && f k) xor c) (and_assoc b _ _) ∙ sym (and_xor b (f k) _))
 
   pub mul_x-none : mul_x none ≡ none
   mul_x-none = same_steps _ _ refl (λ k. refl)
@@ -128,7 +128,7 @@ module _ (top : ℕ) (m : Series) where
   pub horner_more : (n k : ℕ) (c f : Series) → k ≤ n → ((j : ℕ) → k ≤ j → c j ≡ false) → horner n c f ≡ horner k c f
   horner_more n zero c f below above = horner_none n c f (λ j. above j (omega arith))
   horner_more (suc n) (suc k) c f below above =
-      ap (λ (s : Series). add (scale (c zero) f) (mul_x s)) (horner_more n k (λ j. c _) f (omega arith) (λ j h. above (suc j) (omega arith)))
+      ap (λ s. add (scale (c zero) f) (mul_x s)) (horner_more n k (λ j. c _) f (omega arith) (λ j h. above (suc j) (omega arith)))
   horner_more _ _ c f below above = absurd (omega arith)
 
   -- one higher coefficient
@@ -146,16 +146,16 @@ module _ (top : ℕ) (m : Series) where
   map_times zero a c f = refl
   map_times (suc n) a c f =
       ap₂ (λ (b : Bool) (s : Series). add (scale b f) (mul_x s)) (ap c (sym (add-zero a)))
-      (map_times n _ c f ∙ ap (λ (e : Series). horner n e f) (same_series (λ k. let e : a + 1 + k ≡ a + suc k = omega arith in ap c e)))
+      (map_times n _ c f ∙ ap (λ e. horner n e f) (same_series (λ k. let e : a + 1 + k ≡ a + suc k = omega arith in ap c e)))
 
   pub polynomial_times : (n : ℕ) (c f : Series) → times (each_below n c) f ≡ horner n c f
-  polynomial_times n c f = map_times n 0 c f ∙ ap (λ (e : Series). horner n e f) (same_series (λ k. ap c (zero-add k)))
+  polynomial_times n c f = map_times n 0 c f ∙ ap (λ e. horner n e f) (same_series (λ k. ap c (zero-add k)))
 
   horner-product : (a b : List Bool) (n : ℕ) (f : Series) → 0 < length b → length a + length b ≤ suc n
       → horner n (product_coefficient a b) f ≡ times a (times b f)
   horner-product [] b n f some fits = horner_none n _ f (product_of_none b)
   horner-product (x ∷ a) b (suc n) f some fits =
-      ap (λ (c : Series). horner (suc n) c f) (product_coefficient-cons x a b)
+      ap (λ c. horner (suc n) c f) (product_coefficient-cons x a b)
       ∙ horner_add (suc n) (scale x (coefficient b)) (shift (product_coefficient a b)) f
       ∙ ap₂ add
       (horner_scale (suc n) x (coefficient b) f ∙ ap (scale x) (horner_more (suc n) _ _ f (omega arith)

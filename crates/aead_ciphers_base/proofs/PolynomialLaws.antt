@@ -43,7 +43,7 @@ monomial_same zero = refl
 monomial_same (suc n) = monomial_same n
 
 pub same_coefficients : (p q : List Bool) → length p ≡ length q → coefficient p ≡ coefficient q → p ≡ q
-same_coefficients p q e h = same_polynomials p q e (λ k below. ap (λ (f : Series). f k) h)
+same_coefficients p q e h = same_polynomials p q e (λ k below. ap (λ f. f k) h)
 
 same_test : (f g : ℕ → Bool) (xs : List ℕ) → ((t : ℕ) → f t ≡ g t) → list_any f xs ≡ list_any g xs
 same_test f g xs h = ap (λ (test : ℕ → Bool). list_any test xs) (λ i t. h t i)
@@ -62,10 +62,10 @@ shifts zero f = f
 shifts (suc n) f = shift (shifts n f)
 
 raised_taps : (n : ℕ) (taps : List ℕ) → (λ j. list_any (λ t. n + t == j) taps) ≡ shifts n (tap_bits taps)
-raised_taps zero taps = same_series (λ j. same_test _ _ taps (λ t. ap (λ (s : ℕ). s == j) (zero-add t)))
+raised_taps zero taps = same_series (λ j. same_test _ _ taps (λ t. ap (λ s. s == j) (zero-add t)))
 raised_taps (suc n) taps = same_steps _ _
-    (same_test _ (λ t. false) taps (λ t. ap (λ (s : ℕ). s == zero) (suc-add n t) ∙ eqb-suc-zero (n + t)) ∙ never taps)
-    (λ j. same_test _ _ taps (λ t. ap (λ (s : ℕ). s == suc j) (suc-add n t) ∙ eqb-suc-suc _ j) ∙ ap (λ (f : Series). f j) (raised_taps n taps))
+    (same_test _ (λ t. false) taps (λ t. ap (λ s. s == zero) (suc-add n t) ∙ eqb-suc-zero (n + t)) ∙ never taps)
+    (λ j. same_test _ _ taps (λ t. ap (λ s. s == suc j) (suc-add n t) ∙ eqb-suc-suc _ j) ∙ ap (λ f. f j) (raised_taps n taps))
 
 -- ---- degree `suc top`
 
@@ -75,11 +75,11 @@ module _ (taps : List ℕ) (top : ℕ) (low : AllBelow (suc top) taps) where
 
   pub mul_x-low : (f : Series) → f top ≡ false → mul_x top m f ≡ shift f
   mul_x-low f h =
-      same_steps _ _ (ap (λ (b : Bool). b && m zero) h) (λ k. ap (λ (b : Bool). f k xor (b && m (suc k))) h ∙ xor_zero (f k))
+      same_steps _ _ (ap (λ b. b && m zero) h) (λ k. ap (λ b. f k xor (b && m (suc k))) h ∙ xor_zero (f k))
 
   pub mul_x-high : (f : Series) → f top ≡ true → mul_x top m f ≡ add (shift f) m
   mul_x-high f h =
-      same_steps _ _ (ap (λ (b : Bool). b && m zero) h) (λ k. ap (λ (b : Bool). f k xor (b && m (suc k))) h)
+      same_steps _ _ (ap (λ b. b && m zero) h) (λ k. ap (λ b. f k xor (b && m (suc k))) h)
 
   -- up to x^top nothing is reduced
   raise_monomial : (k : ℕ) → k ≤ top → raise top m k one ≡ monomial k
@@ -93,24 +93,24 @@ module _ (taps : List ℕ) (top : ℕ) (low : AllBelow (suc top) taps) where
       ap (mul_x top m) (raise_monomial top (omega arith))
       ∙ mul_x-high _ (monomial_same top)
       ∙ sym (add_assoc (monomial (suc top)) (monomial (suc top)) (tap_bits taps))
-      ∙ ap (λ (s : Series). add s (tap_bits taps)) (add_self (monomial (suc top)))
+      ∙ ap (λ s. add s (tap_bits taps)) (add_self (monomial (suc top)))
 
   raise-sum : (n k : ℕ) (f : Series) → raise top m (n + k) f ≡ raise top m n (raise top m k f)
-  raise-sum zero k f = ap (λ (j : ℕ). raise top m j f) (zero-add k)
-  raise-sum (suc n) k f = ap (λ (j : ℕ). raise top m j f) (suc-add n k) ∙ ap (mul_x top m) (raise-sum n k f)
+  raise-sum zero k f = ap (λ j. raise top m j f) (zero-add k)
+  raise-sum (suc n) k f = ap (λ j. raise top m j f) (suc-add n k) ∙ ap (mul_x top m) (raise-sum n k f)
 
   horner-shifts : (n k : ℕ) (c f : Series) → horner top m (n + k) (shifts n c) f ≡ raise top m n (horner top m k c f)
-  horner-shifts zero k c f = ap (λ (j : ℕ). horner top m j c f) (zero-add k)
-  horner-shifts (suc n) k c f = ap (λ (j : ℕ). horner top m j (shift (shifts n c)) f) (suc-add n k) ∙ ap (mul_x top m) (horner-shifts n k c f)
+  horner-shifts zero k c f = ap (λ j. horner top m j c f) (zero-add k)
+  horner-shifts (suc n) k c f = ap (λ j. horner top m j (shift (shifts n c)) f) (suc-add n k) ∙ ap (mul_x top m) (horner-shifts n k c f)
 
   -- coefficients below the degree are their own multiple of one
   horner_one : (n : ℕ) (c : Series) → n ≤ suc top → ((k : ℕ) → n ≤ k → c k ≡ false) → horner top m n c one ≡ c
   horner_one zero c h above = same_series (λ k. sym (above k (omega arith)))
   horner_one (suc n) c h above =
       let rest : Series = λ k. c _ in
-      ap (λ (s : Series). add (scale (c zero) one) (mul_x top m s)) (horner_one n rest (omega arith) (λ k g. above (suc k) (omega arith)))
+      ap (λ s. add (scale (c zero) one) (mul_x top m s)) (horner_one n rest (omega arith) (λ k g. above (suc k) (omega arith)))
       ∙ ap (add (scale (c zero) one)) (mul_x-low rest (above (suc top) h))
-      ∙ same_steps _ _ (xor_zero _ ∙ and-true _) (λ k. ap (λ (b : Bool). b xor c (suc k)) (and-false (c zero)))
+      ∙ same_steps _ _ (xor_zero _ ∙ and-true _) (λ k. ap (λ b. b xor c (suc k)) (and-false (c zero)))
 
   pub times_one : (p : List Bool) → length p ≤ suc top → times top m p one ≡ coefficient p
   times_one p h = horner_one _ _ h (λ k g. get_or-eq_default p false g)
@@ -123,7 +123,7 @@ module _ (taps : List ℕ) (top : ℕ) (low : AllBelow (suc top) taps) where
       ∙ horner-shifts n _ (tap_bits taps) one
       ∙ ap (raise top m n) (horner_one (suc top) _ (omega arith) (λ k h. taps_above _ taps k low h) ∙ sym raise_degree)
       ∙ sym (raise-sum n _ one)
-      ∙ ap (λ (k : ℕ). raise top m k one) (sym e)
+      ∙ ap (λ k. raise top m k one) (sym e)
 
   -- ---- reduction
 
@@ -137,7 +137,7 @@ module _ (taps : List ℕ) (top : ℕ) (low : AllBelow (suc top) taps) where
       ∙ horner_add top m k _ _ one
       ∙ ap (add (horner top m k _ one)) (horner_scale top m k h c one ∙ ap (scale h) (raise_high n))
       ∙ sym (horner_push top m k _ one)
-      ∙ ap (λ (j : ℕ). horner top m j (coefficient p) one) (sym e)
+      ∙ ap (λ j. horner top m j (coefficient p) one) (sym e)
 
   times_without_highests : (n : ℕ) (p : List Bool) → length p ≡ suc top + n → times top m (without_highests taps (suc top) n p) one ≡ times top m p one
   unfolding without_highest without_highests

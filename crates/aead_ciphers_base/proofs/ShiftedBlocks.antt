@@ -51,20 +51,20 @@ module _ {T C F : Type 0} (items : C → List T) (g : Mut F (Bor C × Unit {0}) 
     unfolding outs
     count =
         let inner = ap length s.written ∙ length-append outs _
-        ∙ ap (λ (x : ℕ). length outs + x) (length-drop (i * n) old) in
+        ∙ ap (λ x. length outs + x) (length-drop (i * n) old) in
         omega arith
 
     front : take (i * n) cur ≡ outs
     unfolding outs
-    front = ap (take (i * n)) s.written ∙ ap (λ (x : ℕ). take x (outs ++ drop (i * n) old)) (sym count) ∙ take-append_seam outs (drop (i * n) old)
+    front = ap (take (i * n)) s.written ∙ ap (λ x. take x (outs ++ drop (i * n) old)) (sym count) ∙ take-append_seam outs (drop (i * n) old)
 
     rest : drop (i * n) cur ≡ drop (i * n) old
     unfolding outs
-    rest = ap (drop (i * n)) s.written ∙ ap (λ (x : ℕ). drop x (outs ++ drop (i * n) old)) (sym count) ∙ drop-append_seam outs _
+    rest = ap (drop (i * n)) s.written ∙ ap (λ x. drop x (outs ++ drop (i * n) old)) (sym count) ∙ drop-append_seam outs _
 
     block : drop (start + i * n) cur ≡ drop (i * n) (drop start old)
-    block = ap (λ (x : ℕ). drop x cur) (add_comm start _) ∙ sym (drop-drop start _ cur) ∙ ap (drop start) rest ∙ drop-drop start _ old
-        ∙ ap (λ (x : ℕ). drop x old) (add_comm (i * n) start) ∙ sym (drop-drop (i * n) start old)
+    block = ap (λ x. drop x cur) (add_comm start _) ∙ sym (drop-drop start _ cur) ∙ ap (drop start) rest ∙ drop-drop start _ old
+        ∙ ap (λ x. drop x old) (add_comm (i * n) start) ∙ sym (drop-drop (i * n) start old)
 
     -- so f may be called at it
     pub may_take : (c : C) → items c ≡ take n (drop (start + i * n) cur) → i < length (drop start old) / n → TakesBlocks items g n f (drop start old)
@@ -75,8 +75,8 @@ module _ {T C F : Type 0} (items : C → List T) (g : Mut F (Bor C × Unit {0}) 
         let k = length xs / n - suc i in
         let all : i + suc k ≡ length xs / n = omega arith in
         takes s.calls mid c _ s.ran
-        (ap (λ (x : ℕ). first_chunks n x xs) (sym all) ∙ first_chunks_split n i k xs
-        ∙ ap (λ (t : List T). first_chunks n i xs ++ (t ∷ first_chunks n k (drop (suc i * n) xs))) (sym (got ∙ ap (take n) block))
+        (ap (λ x. first_chunks n x xs) (sym all) ∙ first_chunks_split n i k xs
+        ∙ ap (λ t. first_chunks n i xs ++ (t ∷ first_chunks n k (drop (suc i * n) xs))) (sym (got ∙ ap (take n) block))
         ∙ ap (λ (t : List (List T)). t ++ (items c ∷ first_chunks n k (drop (suc i * n) xs))) (sym s.taken))
 
     -- one more block is done
@@ -85,8 +85,8 @@ module _ {T C F : Type 0} (items : C → List T) (g : Mut F (Bor C × Unit {0}) 
         → ShiftsFirst (i + 1) (take a cur ++ (to ++ drop k (drop a cur))) last
     unfolding outs
     shift_more c o last to a k got put called at size =
-        let up = ap (λ (x : ℕ). x * n) (add-one i) ∙ suc-mul i n in
-        let tail = drop-drop n _ old ∙ ap (λ (x : ℕ). drop x old) (sym up) in
+        let up = ap (λ x. x * n) (add-one i) ∙ suc-mul i n in
+        let tail = drop-drop n _ old ∙ ap (λ x. drop x old) (sym up) in
         let all =
         ap joined (map-append (λ (x : C × C). items x.1) s.calls ((c, o) ∷ [])) ∙ joined_more (map (λ (x : C × C). items x.1) s.calls) (items o) in
         record {
@@ -94,7 +94,7 @@ module _ {T C F : Type 0} (items : C → List T) (g : Mut F (Bor C × Unit {0}) 
           ran = FoldsTo-push _ f s.calls mid (c, o) last s.ran called;
           taken = map-append (λ (x : C × C). items x.0) s.calls ((c, o) ∷ [])
               ∙ ap (λ (t : List (List T)). t ++ (items c ∷ [])) s.taken
-              ∙ ap (λ (b : List T). first_chunks n i (drop start old) ++ (b ∷ [])) (got ∙ ap (take n) block)
+              ∙ ap (λ b. first_chunks n i (drop start old) ++ (b ∷ [])) (got ∙ ap (take n) block)
               ∙ sym (first_chunks_more n i _);
           written = rw (at, size, front, rest, tail, put, all, append_assoc) refl;
         }
@@ -104,11 +104,11 @@ module _ {T C F : Type 0} (items : C → List T) (g : Mut F (Bor C × Unit {0}) 
       → ShiftsBlocks items g n f old start new
   unfolding blocks
   shifts_all i new last done whole s =
-      let all = ap (λ (x : ℕ). x * n) done ∙ omega (arith, mod-add-div' (length old - start) n) in
+      let all = ap (λ x. x * n) done ∙ omega (arith, mod-add-div' (length old - start) n) in
       record {
         calls = s.calls;
         last = last;
         ran = s.ran;
-        taken = s.taken ∙ ap (λ (x : ℕ). first_chunks n x (drop start old)) (done ∙ ap (λ (x : ℕ). x / n) (sym (length-drop start old)));
-        written = s.written ∙ ap (λ (x : ℕ). joined (map (λ (x : C × C). items x.1) s.calls) ++ drop x old) all;
+        taken = s.taken ∙ ap (λ x. first_chunks n x (drop start old)) (done ∙ ap (λ x. x / n) (sym (length-drop start old)));
+        written = s.written ∙ ap (λ x. joined (map (λ (x : C × C). items x.1) s.calls) ++ drop x old) all;
       }

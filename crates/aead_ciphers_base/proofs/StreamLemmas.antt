@@ -16,15 +16,15 @@ length-xored f text = length-xor text _ (omega (arith, length-each (length text)
 pub xored-append : (f g : ℕ → ℕ) (xs ys : List ℕ) → ((i : ℕ) → f (length xs + i) ≡ g i) → xored f (xs ++ ys) ≡ xored f xs ++ xored g ys
 unfolding xored
 xored-append f g xs ys later =
-    ap (λ (n : ℕ). (xs ++ ys) ⊕ each_below n f) (length-append xs ys)
-    ∙ ap (λ (us : List ℕ). (xs ++ ys) ⊕ us) (each-append (length xs) _ f)
+    ap (λ n. (xs ++ ys) ⊕ each_below n f) (length-append xs ys)
+    ∙ ap (λ us. (xs ++ ys) ⊕ us) (each-append (length xs) _ f)
     ∙ xor-append xs ys (each_below (length xs) f) _ (sym (length-each (length xs) f))
-    ∙ ap (λ (us : List ℕ). (xs ⊕ each_below (length xs) f) ++ (ys ⊕ us)) (each-same (length ys) _ g (λ i h. later i))
+    ∙ ap (λ us. (xs ⊕ each_below (length xs) f) ++ (ys ⊕ us)) (each-same (length ys) _ g (λ i h. later i))
 
 -- the front of what was encrypted is the front, encrypted
 pub take-xored : (f : ℕ → ℕ) (n : ℕ) (text : List ℕ) → n ≤ length text → take n (xored f text) ≡ xored f (take n text)
 take-xored f n text le =
-    ap (λ (u : List ℕ). take n (xored f u)) (sym (take-append-drop n text))
+    ap (λ u. take n (xored f u)) (sym (take-append-drop n text))
     ∙ ap (take n) (xored-append f (λ i. f _) _ (drop n text) (λ i. refl))
     ∙ take_at _ _ n (length-xored f _ ∙ length-take-le n text le)
 
@@ -41,7 +41,7 @@ stream_front f bytes n le same = fill_by_all f _ n 0 (length-take-le n bytes le)
 -- a text XOR a list that starts with the stream's bytes
 pub xored-is : (f : ℕ → ℕ) (text bytes : List ℕ) → take (length text) bytes ≡ each_below (length text) f → text ⊕ bytes ≡ xored f text
 unfolding xored
-xored-is f text bytes e = sym (xor-take text bytes) ∙ ap (λ (u : List ℕ). text ⊕ u) e
+xored-is f text bytes e = sym (xor-take text bytes) ∙ ap (λ u. text ⊕ u) e
 
 -- The front of a buffer up to d was written: n more bytes are put there, from s bytes further on.
 pub advance : (f g : ℕ → ℕ) (d n s : ℕ) (was now : List ℕ) → ((i : ℕ) → f (d + i) ≡ g i) → s + d + n ≤ length was →
@@ -55,18 +55,18 @@ advance f g d n s was now later room e =
     let more = ap (take d) e ∙ take_at done _ d len in
     let input = ap (drop (s + d)) e ∙ drop-append-drop d was done _ (omega arith) len ∙ sym (drop-drop d s was) in
     let rest = ap (drop (d + n)) e ∙ drop-append-drop d was done _ (omega arith) len in
-    ap₂ (λ (u v : List ℕ). u ++ xored g (take n (drop (s + d) now)) ++ v) more rest
-    ∙ ap (λ (u : List ℕ). done ++ xored g (take n u) ++ drop (d + n) was) input
-    ∙ ap (λ (u : List ℕ). u ++ drop (d + n) was)
-    (sym (xored-append f g _ _ (λ i. ap (λ (m : ℕ). f (m + i)) front ∙ later i))
+    ap₂ (λ u v. u ++ xored g (take n (drop (s + d) now)) ++ v) more rest
+    ∙ ap (λ u. done ++ xored g (take n u) ++ drop (d + n) was) input
+    ∙ ap (λ u. u ++ drop (d + n) was)
+    (sym (xored-append f g _ _ (λ i. ap (λ m. f (m + i)) front ∙ later i))
     ∙ ap (xored f) (sym (take-add d n text)))
 
 -- the first d bytes from s on are all of them
 pub all_from : (f : ℕ → ℕ) (s d : ℕ) (was : List ℕ) → d ≡ length was - s →
     xored f (take d (drop s was)) ++ drop d was ≡ xored f (drop s was) ++ drop (length was - s) was
 all_from f s d was all =
-    ap (λ (n : ℕ). xored f (take n (drop s was)) ++ drop n was) all
-    ∙ ap (λ (u : List ℕ). xored f u ++ drop (length was - s) was) (take_all (length was - s) (drop s was) (omega (arith, length-drop s was)))
+    ap (λ n. xored f (take n (drop s was)) ++ drop n was) all
+    ∙ ap (λ u. xored f u ++ drop (length was - s) was) (take_all (length was - s) (drop s was) (omega (arith, length-drop s was)))
 
 -- the front up to d was written, and then all that is left
 pub finish : (f g : ℕ → ℕ) (d s : ℕ) (was now : List ℕ) → ((i : ℕ) → f (d + i) ≡ g i) → s + d ≤ length was → length now ≡ length was →

@@ -62,9 +62,8 @@ four_bits x p e h =
 -- ---- the products
 
 abbrev pub product_4 : List Bool → List Bool → List Bool
-product_4 a b =
-    let both = (coefficient a 0 xor coefficient a 1) && (coefficient b 0 xor coefficient b 1) in
-    ((coefficient a 0 && coefficient b 0) xor both) ∷ ((coefficient a 1 && coefficient b 1) xor both) ∷ []
+product_4 (a0 ∷ a1 ∷ []) (b0 ∷ b1 ∷ []) = let both = (a0 xor a1) && (b0 xor b1) in ((a0 && b0) xor both) ∷ ((a1 && b1) xor both) ∷ []
+product_4 _ _ = []
 
 pub product_4_is : (a b : List ℕ) (p : ℕ)
     → element basis_4 (product_4 (plane_polynomial 2 a p) (plane_polynomial 2 b p)) ≡ mul8 (plane_element basis_4 a p) (plane_element basis_4 b p)
@@ -73,14 +72,9 @@ product_4_is a b p =
     same_at_bits (λ q. element basis_4 (product_4 (take 2 q) (drop 2 q))) (λ q. mul8 (element basis_4 (take 2 q)) (element basis_4 (drop 2 q)))
     (plane_polynomial 2 a p ++ plane_polynomial 2 b p) refl
 
-abbrev low_2 : List Bool → List Bool
-low_2 a = coefficient a 0 ∷ coefficient a 1 ∷ []
-
-abbrev high_2 : List Bool → List Bool
-high_2 a = coefficient a 2 ∷ coefficient a 3 ∷ []
-
 abbrev both_2 : List Bool → List Bool
-both_2 a = (coefficient a 0 xor coefficient a 2) ∷ (coefficient a 1 xor coefficient a 3) ∷ []
+both_2 (a0 ∷ a1 ∷ a2 ∷ a3 ∷ []) = (a0 xor a2) ∷ (a1 xor a3) ∷ []
+both_2 _ = []
 
 -- the coordinates of a product in the field of 4, for any product
 abbrev pub product_4_by : (ℕ → ℕ → ℕ) → List Bool → List Bool → List Bool
@@ -88,8 +82,8 @@ product_4_by mul a b = coordinates basis_4 (mul (element basis_4 a) (element bas
 
 abbrev pub product_16_by : (ℕ → ℕ → ℕ) → List Bool → List Bool → List Bool
 product_16_by mul a b =
-    let low = product_4_by mul (low_2 a) (low_2 b) in
-    let high = product_4_by mul (high_2 a) (high_2 b) in
+    let low = product_4_by mul (take 2 a) (take 2 b) in
+    let high = product_4_by mul (drop 2 a) (drop 2 b) in
     let both = product_4_by mul (both_2 a) (both_2 b) in
     let scaled = coefficient both 0 xor coefficient both 1 in
     (coefficient low 0 xor scaled) ∷ (coefficient low 1 xor coefficient both 0)
@@ -136,11 +130,11 @@ inverts_is x y h =
 
 abbrev pub inverse_16_by : (ℕ → ℕ → ℕ) → List Bool → List Bool
 inverse_16_by mul n =
-    let c = product_4_by mul (high_2 n) (low_2 n) in
+    let c = product_4_by mul (drop 2 n) (take 2 n) in
     let s = both_2 n in
     let n10 = (coefficient c 1 xor coefficient s 1) ∷ (coefficient c 0 xor coefficient s 0 xor coefficient s 1) ∷ [] in
-    let low = product_4_by mul n10 (high_2 n) in
-    let high = product_4_by mul n10 (low_2 n) in
+    let low = product_4_by mul n10 (drop 2 n) in
+    let high = product_4_by mul n10 (take 2 n) in
     coefficient low 0 ∷ coefficient low 1 ∷ coefficient high 0 ∷ coefficient high 1 ∷ []
 
 abbrev inverse_16_holds : (ℕ → ℕ → ℕ) → List Bool → Bool
@@ -156,27 +150,19 @@ inverse_16_is n p =
     let q = plane_polynomial 4 n p in
     inverts_is _ _ (all_at_bits (inverse_16_holds mul8) q inverse_16_test)
 
-abbrev low_4 : List Bool → List Bool
-low_4 a = coefficient a 0 ∷ coefficient a 1 ∷ coefficient a 2 ∷ coefficient a 3 ∷ []
-
-abbrev high_4 : List Bool → List Bool
-high_4 a = coefficient a 4 ∷ coefficient a 5 ∷ coefficient a 6 ∷ coefficient a 7 ∷ []
-
 -- the power 17, which lies in the field of 16
 abbrev power_17_by : (ℕ → ℕ → ℕ) → List Bool → List Bool
-power_17_by mul a =
-    let c = coordinates basis_16 (mul (element basis_16 (low_4 a)) (element basis_16 (high_4 a))) in
-    let s0 = coefficient a 0 xor coefficient a 4 in
-    let s1 = coefficient a 1 xor coefficient a 5 in
-    let s2 = coefficient a 2 xor coefficient a 6 in
-    let s3 = coefficient a 3 xor coefficient a 7 in
+power_17_by mul (a0 ∷ a1 ∷ a2 ∷ a3 ∷ a4 ∷ a5 ∷ a6 ∷ a7 ∷ []) =
+    let c = coordinates basis_16 (mul (element basis_16 (a0 ∷ a1 ∷ a2 ∷ a3 ∷ [])) (element basis_16 (a4 ∷ a5 ∷ a6 ∷ a7 ∷ []))) in
+    let s0 = a0 xor a4 in let s1 = a1 xor a5 in let s2 = a2 xor a6 in let s3 = a3 xor a7 in
     (coefficient c 0 xor s1 xor s3) ∷ (coefficient c 1 xor s0 xor s2) ∷ (coefficient c 2 xor s2) ∷ (coefficient c 3 xor s2 xor s3) ∷ []
+power_17_by mul _ = []
 
 -- the inverse, by that of the power 17
 abbrev inverse_from : (ℕ → ℕ → ℕ) → ℕ → List Bool → List Bool
 inverse_from mul a238 a =
-    let low = coordinates basis_16 (mul (element basis_16 (high_4 a)) a238) in
-    let high = coordinates basis_16 (mul (element basis_16 (low_4 a)) a238) in
+    let low = coordinates basis_16 (mul (element basis_16 (drop 4 a)) a238) in
+    let high = coordinates basis_16 (mul (element basis_16 (take 4 a)) a238) in
     coefficient low 0 ∷ coefficient low 1 ∷ coefficient low 2 ∷ coefficient low 3
     ∷ coefficient high 0 ∷ coefficient high 1 ∷ coefficient high 2 ∷ coefficient high 3 ∷ []
 
@@ -206,26 +192,28 @@ inverse_is a p =
 -- ---- the changes of basis
 
 abbrev pub to_tower : List Bool → List Bool
-to_tower a =
-    let a06 = coefficient a 0 xor coefficient a 6 in
-    let a056 = coefficient a 5 xor a06 in
-    let a13 = coefficient a 1 xor coefficient a 3 in
-    let a0156 = coefficient a 1 xor a056 in
-    coefficient a 0 ∷ (coefficient a 0 xor coefficient a 4 xor (coefficient a 7 xor a13)) ∷ (coefficient a 2 xor (a06 xor a13)) ∷ a056
-    ∷ (coefficient a 4 xor a056) ∷ (a0156 xor (coefficient a 2 xor coefficient a 7)) ∷ (coefficient a 7 xor a056) ∷ a0156 ∷ []
+to_tower (a0 ∷ a1 ∷ a2 ∷ a3 ∷ a4 ∷ a5 ∷ a6 ∷ a7 ∷ []) =
+    let a06 = a0 xor a6 in
+    let a056 = a5 xor a06 in
+    let a13 = a1 xor a3 in
+    let a0156 = a1 xor a056 in
+    a0 ∷ (a0 xor a4 xor (a7 xor a13)) ∷ (a2 xor (a06 xor a13)) ∷ a056
+    ∷ (a4 xor a056) ∷ (a0156 xor (a2 xor a7)) ∷ (a7 xor a056) ∷ a0156 ∷ []
+to_tower _ = []
 
 pub to_tower_is : (a : List ℕ) (p : ℕ) → element basis_256 (to_tower (plane_polynomial 8 a p)) ≡ plane_byte a p
 unfolding element plane_byte plane_polynomial basis_256
 to_tower_is a p = same_at_bits (λ q. element basis_256 (to_tower q)) value_of (plane_polynomial 8 a p) refl
 
 abbrev pub affine_of : List Bool → List Bool
-affine_of a =
-    let a17 = coefficient a 1 xor coefficient a 7 in
-    let a157 = coefficient a 5 xor a17 in
-    let a24 = coefficient a 2 xor coefficient a 4 in
-    let a36 = coefficient a 3 xor coefficient a 6 in
-    (coefficient a 4 xor a36 xor true) ∷ (coefficient a 7 xor a36 xor true) ∷ (coefficient a 0 xor (a17 xor a24))
-    ∷ (coefficient a 6 xor (coefficient a 4 xor a157)) ∷ a157 ∷ (a24 xor true) ∷ (coefficient a 1 xor coefficient a 5 xor true) ∷ a17 ∷ []
+affine_of (a0 ∷ a1 ∷ a2 ∷ a3 ∷ a4 ∷ a5 ∷ a6 ∷ a7 ∷ []) =
+    let a17 = a1 xor a7 in
+    let a157 = a5 xor a17 in
+    let a24 = a2 xor a4 in
+    let a36 = a3 xor a6 in
+    (a4 xor a36 xor true) ∷ (a7 xor a36 xor true) ∷ (a0 xor (a17 xor a24)) ∷ (a6 xor (a4 xor a157))
+    ∷ a157 ∷ (a24 xor true) ∷ (a1 xor a5 xor true) ∷ a17 ∷ []
+affine_of _ = []
 
 pub affine_is : (a : List ℕ) (p : ℕ) → value_of (affine_of (plane_polynomial 8 a p)) ≡ affine (plane_element basis_256 a p)
 unfolding affine element plane_element plane_polynomial basis_256

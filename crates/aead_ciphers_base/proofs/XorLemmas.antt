@@ -37,7 +37,7 @@ xor_assoc (x ∷ xs) (y ∷ ys) (z ∷ zs) = ap₂ (λ (n : ℕ) (ns : List ℕ)
 pub xor_exchange : (a b c d : List ℕ) → (a ⊕ b) ⊕ (c ⊕ d) ≡ (a ⊕ c) ⊕ (b ⊕ d)
 xor_exchange a b c d =
     xor_assoc a b _
-    ∙ ap (λ (x : List ℕ). a ⊕ x) (sym (xor_assoc b c d) ∙ ap (λ (x : List ℕ). x ⊕ d) (xor_comm b c) ∙ xor_assoc c b d)
+    ∙ ap (λ x. a ⊕ x) (sym (xor_assoc b c d) ∙ ap (λ x. x ⊕ d) (xor_comm b c) ∙ xor_assoc c b d)
     ∙ sym (xor_assoc a c _)
 
 pub xor_zeros : (a : List ℕ) (n : ℕ) → length a ≡ n → a ⊕ replicate n 0 ≡ a
@@ -55,11 +55,11 @@ bytes-xor _ b h j k d below = absurd (omega arith)
 pub xor-take : (xs ys : List ℕ) → xs ⊕ take (length xs) ys ≡ xs ⊕ ys
 xor-take [] ys = refl
 xor-take (x ∷ xs) [] = refl
-xor-take (x ∷ xs) (y ∷ ys) = ap (λ (zs : List ℕ). bit_xor x y ∷ zs) (xor-take xs ys)
+xor-take (x ∷ xs) (y ∷ ys) = ap (λ zs. bit_xor x y ∷ zs) (xor-take xs ys)
 
 pub xor-append : (xs ys us vs : List ℕ) → length xs ≡ length us → (xs ++ ys) ⊕ (us ++ vs) ≡ (xs ⊕ us) ++ (ys ⊕ vs)
 xor-append [] ys [] vs h = refl
-xor-append (x ∷ xs) ys (u ∷ us) vs h = ap (λ (zs : List ℕ). bit_xor x u ∷ zs) (xor-append xs ys us vs (omega arith))
+xor-append (x ∷ xs) ys (u ∷ us) vs h = ap (λ zs. bit_xor x u ∷ zs) (xor-append xs ys us vs (omega arith))
 xor-append _ ys _ vs h = absurd (omega arith)
 
 -- XOR twice
@@ -67,5 +67,5 @@ pub xor-xor : (xs ys : List ℕ) → length xs ≤ length ys → (xs ⊕ ys) ⊕
 xor-xor [] ys h = refl
 xor-xor (x ∷ xs) (y ∷ ys) h =
     ap₂ (λ (z : ℕ) (zs : List ℕ). z ∷ zs)
-    (number_assoc x y y ∙ ap (λ (v : ℕ). bit_xor x v) (xor_self y) ∙ xor_zero_r x) (xor-xor xs ys (omega arith))
+    (number_assoc x y y ∙ ap (λ v. bit_xor x v) (xor_self y) ∙ xor_zero_r x) (xor-xor xs ys (omega arith))
 xor-xor _ _ h = absurd (omega arith)

@@ -9,9 +9,9 @@ pub returns : goal.returns
 unfolding sub_word
 returns c =
     let bytes = le_bytes_4 c.args.a c.from.result (search rules) (search rules) (c.from.ensures ∙ c.from_le_bytes.ensures) in
-    let read = λ (j : ℕ). ap (λ (b : List ℕ). sbox (slice_index b j)) bytes in
+    let read = λ (j : ℕ). ap (λ b. sbox (slice_index b j)) bytes in
     let byte = λ (j : ℕ) (h : j < 8).
-    ap (λ (b : List ℕ). slice_index b j) c.to_le_bytes.ensures ∙ c.gather.ensures j h ∙ c.sub_planes.ensures (8 * j) (omega arith)
+    ap (λ b. slice_index b j) c.to_le_bytes.ensures ∙ c.gather.ensures j h ∙ c.sub_planes.ensures (8 * j) (omega arith)
     ∙ ap sbox (c.spread-planes.ensures j h) in
     let first = byte 0 (omega arith) ∙ read 0 in
     let second = byte 1 (omega arith) ∙ read 1 in

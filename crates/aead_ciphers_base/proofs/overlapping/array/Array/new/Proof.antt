@@ -28,7 +28,7 @@ above (suc n) h = omega arith
 not_exact : (m n : ℕ) → T (eqb n 0 || not (eqb m n)) → (0 < n) × (m ≡ n) → ⊥
 not_exact m n h sizes = elim (or_yes (eqb n 0) (not (eqb m n)) h) [
   | inl none ↦ let e : n ≡ 0 = eqb→eq n 0 none in omega (arith, sizes.0)
-  | inr other ↦ T_not (eqb m n) other (subst (λ (k : ℕ). T (eqb m k)) sizes.1 (eqb_refl m))
+  | inr other ↦ T_not (eqb m n) other (subst (λ k. T (eqb m k)) sizes.1 (eqb_refl m))
 ]
 
 exact : (m n : ℕ) → T (not (eqb n 0 || not (eqb m n))) → (0 < n) × (m ≡ n)

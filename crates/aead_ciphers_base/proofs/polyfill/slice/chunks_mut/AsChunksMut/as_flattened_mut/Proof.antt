@@ -66,7 +66,7 @@ module _ (X : RattleType) (N : ℕ) {M : Type 1} {𝓤 : Ura M} (𝓛 : Logic �
   Holds ws = sep 𝓤 (A.obs δ ((coded_list R.coded).code ws)) (sep 𝓤 (A.bor a.lft (Lies n δ)) Rest)
 
   is_word : (vs : List Val) (vss : Valss (S ∷ [])) → vs ≡ vstruct (of_list (vss.0 ++ [])) ∷ [] → vss.0 ≡ mut_slice_vals d.items → vs ≡ word n ∷ []
-  is_word vs vss ev told = subst (λ (ws : List Val). vs ≡ vstruct (of_list (ws ++ [])) ∷ []) told ev
+  is_word vs vss ev told = subst (λ ws. vs ≡ vstruct (of_list (ws ++ [])) ∷ []) told ev
 
   cut : ent 𝓤 (sem 𝓛 (part_at G full_share d b o)) (Holds xs)
   unfolding part_of
@@ -84,7 +84,7 @@ module _ (X : RattleType) (N : ℕ) {M : Type 1} {𝓤 : Ura M} (𝓛 : Logic �
   back ws same =
       let x : MutBor (List X.Denot) = (with_items d ws).items in
       let kept : n ≡ length x.now = length_refill n xs ws refl in
-      let is : x.now ≡ ws = ap (λ (k : ℕ). take k (ws ++ drop_list (length ws) xs)) (sym same) ∙ take-append_seam ws (drop_list (length ws) xs) in
+      let is : x.now ≡ ws = ap (λ k. take k (ws ++ drop_list (length ws) xs)) (sym same) ∙ take-append_seam ws (drop_list (length ws) xs) in
       qed 𝓛 (‵ (fobs δ ((coded_list R.coded).code ws)) ∷ ‵ (fbor a.lft (Lies n δ)) ∷ ‵ (fsep (Cell n) (room R n)) ∷ []) ∵
       rewrite ! 0 (λ (l : List X.Denot). ‵ (fobs δ ((coded_list R.coded).code l))) (sym is ∙ sym (heres_id R x.now)) refl $
       rewrite ! 1 (λ (k : ℕ). ‵ (fbor a.lft (Lies k δ))) kept refl $
