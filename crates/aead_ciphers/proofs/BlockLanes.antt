@@ -85,20 +85,14 @@ pub number-xor : (xs ys : List ℕ) → length xs ≡ length ys → AllSmall xs 
 number-xor xs ys e small_x small_y = number-xor-from 0 0 xs ys e small_x small_y
 
 -- words that are added where b says so
-pub number-chosen : (b : Bool) (s0 s1 s2 s3 w0 w1 w2 w3 : ℕ) → AllSmall (s0 ∷ s1 ∷ s2 ∷ s3 ∷ []) → AllSmall (w0 ∷ w1 ∷ w2 ∷ w3 ∷ []) →
-    number_of_words ((if b then bit_xor s0 w0 else s0) ∷ (if b then bit_xor s1 w1 else s1)
-    ∷ (if b then bit_xor s2 w2 else s2) ∷ (if b then bit_xor s3 w3 else s3) ∷ [])
-    ≡ (if b then bit_xor (number_of_words (s0 ∷ s1 ∷ s2 ∷ s3 ∷ [])) (number_of_words (w0 ∷ w1 ∷ w2 ∷ w3 ∷ [])) else number_of_words (s0 ∷ s1 ∷ s2 ∷ s3 ∷ []))
-number-chosen false s0 s1 s2 s3 w0 w1 w2 w3 small_s small_w = refl
-number-chosen true s0 s1 s2 s3 w0 w1 w2 w3 small_s small_w = number-xor (s0 ∷ s1 ∷ s2 ∷ s3 ∷ []) (w0 ∷ w1 ∷ w2 ∷ w3 ∷ []) refl small_s small_w
-
-pub words_chosen : (b : Bool) (s0 s1 s2 s3 w0 w1 w2 w3 t0 t1 t2 t3 : ℕ) → AllSmall (s0 ∷ s1 ∷ s2 ∷ s3 ∷ []) → AllSmall (w0 ∷ w1 ∷ w2 ∷ w3 ∷ []) →
+pub words_chosen : (b : Bool) (s0 s1 s2 s3 w0 w1 w2 w3 t0 t1 t2 t3 : ℕ) →
+    let s = s0 ∷ s1 ∷ s2 ∷ s3 ∷ [] in let w = w0 ∷ w1 ∷ w2 ∷ w3 ∷ [] in AllSmall s → AllSmall w →
     t0 ≡ (if b then bit_xor s0 w0 else s0) → t1 ≡ (if b then bit_xor s1 w1 else s1) →
     t2 ≡ (if b then bit_xor s2 w2 else s2) → t3 ≡ (if b then bit_xor s3 w3 else s3) →
-    number_of_words (t0 ∷ t1 ∷ t2 ∷ t3 ∷ [])
-    ≡ (if b then bit_xor (number_of_words (s0 ∷ s1 ∷ s2 ∷ s3 ∷ [])) (number_of_words (w0 ∷ w1 ∷ w2 ∷ w3 ∷ [])) else number_of_words (s0 ∷ s1 ∷ s2 ∷ s3 ∷ []))
-words_chosen b s0 s1 s2 s3 w0 w1 w2 w3 t0 t1 t2 t3 small_s small_w e0 e1 e2 e3 =
-    rw (e0, e1, e2, e3) (number-chosen b s0 s1 s2 s3 w0 w1 w2 w3 small_s small_w)
+    number_of_words (t0 ∷ t1 ∷ t2 ∷ t3 ∷ []) ≡ (if b then bit_xor (number_of_words s) (number_of_words w) else number_of_words s)
+words_chosen false s0 s1 s2 s3 w0 w1 w2 w3 t0 t1 t2 t3 small_s small_w e0 e1 e2 e3 = rw (e0, e1, e2, e3) refl
+words_chosen true s0 s1 s2 s3 w0 w1 w2 w3 t0 t1 t2 t3 small_s small_w e0 e1 e2 e3 =
+    rw (e0, e1, e2, e3) (number-xor (s0 ∷ s1 ∷ s2 ∷ s3 ∷ []) (w0 ∷ w1 ∷ w2 ∷ w3 ∷ []) refl small_s small_w)
 
 -- ---- the lanes of four vectors
 
@@ -126,29 +120,35 @@ fold-lanes : (xs : List ℕ) → length xs ≡ 4 →
 fold-lanes (a ∷ b ∷ c ∷ d ∷ []) e = refl
 fold-lanes _ e = absurd (omega arith)
 
+-- small words, and their number
+record Sum (xs : List ℕ) (n : ℕ) : Type 0 where
+  small : AllSmall xs
+  is : number_of_words xs ≡ n
+
+sum_more : {xs : List ℕ} {n : ℕ} → Sum xs n → (ys : List ℕ) → length xs ≡ length ys → AllSmall ys
+    → Sum (zip2 bit_xor xs ys) (bit_xor n (number_of_words ys))
+sum_more {xs = xs} s ys e small = record {
+  small = small-xor xs ys s.small small;
+  is = number-xor xs ys e s.small small ∙ ap (λ k. bit_xor k (number_of_words ys)) s.is;
+}
+
 -- the sums of each vector's lanes are the words of the sum of the lanes
 pub number-lanes : (a b c d : List ℕ) → IsVector a → IsVector b → IsVector c → IsVector d →
     number_of_words (fold_l bit_xor 0 a ∷ fold_l bit_xor 0 b ∷ fold_l bit_xor 0 c ∷ fold_l bit_xor 0 d ∷ [])
     ≡ bit_xor (bit_xor (bit_xor (bit_xor 0 (number_of_words (lane a b c d 0))) (number_of_words (lane a b c d 1))) (number_of_words (lane a b c d 2)))
     (number_of_words (lane a b c d 3))
 number-lanes a b c d is_a is_b is_c is_d =
-    let zeros : List ℕ = 0 ∷ 0 ∷ 0 ∷ 0 ∷ [] in
-    let small : (j : ℕ) → j < 4 → AllSmall (lane a b c d j) =
-    λ j within. small-lane a b c d j is_a is_b is_c is_d within in
-    let one = zip2 bit_xor zeros (lane a b c d 0) in
-    let two = zip2 bit_xor one (lane a b c d 1) in
-    let three = zip2 bit_xor two (lane a b c d 2) in
-    let small_1 = small-xor zeros (lane a b c d 0) (lit< tt, (lit< tt, (lit< tt, (lit< tt, tt)))) (small 0 (omega arith)) in
-    let small_2 = small-xor one (lane a b c d 1) small_1 (small 1 (omega arith)) in
-    let small_3 = small-xor two (lane a b c d 2) small_2 (small 2 (omega arith)) in
+    let small : (j : ℕ) → j < 4 → AllSmall (lane a b c d j) = λ j within. small-lane a b c d j is_a is_b is_c is_d within in
+    let zeros : Sum (0 ∷ 0 ∷ 0 ∷ 0 ∷ []) 0 = record { small = (lit< tt, (lit< tt, (lit< tt, (lit< tt, tt)))); is = refl } in
+    let one = sum_more zeros (lane a b c d 0) refl (small 0 (omega arith)) in
+    let two = sum_more one (lane a b c d 1) refl (small 1 (omega arith)) in
+    let three = sum_more two (lane a b c d 2) refl (small 2 (omega arith)) in
     rw (fold-lanes a is_a.0, fold-lanes b is_b.0, fold-lanes c is_c.0, fold-lanes d is_d.0)
-    (number-xor three (lane a b c d 3) refl small_3 (small 3 (omega arith))
-    ∙ ap (λ n. bit_xor n (number_of_words (lane a b c d 3)))
-    (number-xor two (lane a b c d 2) refl small_2 (small 2 (omega arith))
-    ∙ ap (λ n. bit_xor n (number_of_words (lane a b c d 2)))
-    (number-xor one (lane a b c d 1) refl small_1 (small 1 (omega arith))
-    ∙ ap (λ n. bit_xor n (number_of_words (lane a b c d 1)))
-    (number-xor zeros (lane a b c d 0) refl (lit< tt, (lit< tt, (lit< tt, (lit< tt, tt)))) (small 0 (omega arith))))))
+    (sum_more three (lane a b c d 3) refl (small 3 (omega arith))).is
+
+-- the four words of a table's entry, from the place of the first
+abbrev words_from : List ℕ → ℕ → List ℕ
+words_from table p = slice_index table p ∷ slice_index table (128 + p) ∷ slice_index table (256 + p) ∷ slice_index table (384 + p) ∷ []
 
 -- entry 32 * j + i of a table
 pub entry_is : (table : List ℕ) (j i : ℕ) → j < 4 → i < 32 →
@@ -189,8 +189,7 @@ module _ (table : List ℕ) (p a b c d : ℕ) where
       ∙ get_or-set_other one _ q b 0 n1 ∙ get_or-set_other table p q a 0 n0
 
   number-written : length table ≡ 512 → p < 128 →
-      number_of_words (slice_index written p ∷ slice_index written (128 + p) ∷ slice_index written (256 + p) ∷ slice_index written (384 + p) ∷ [])
-      ≡ number_of_words (a ∷ b ∷ c ∷ d ∷ [])
+      number_of_words (words_from written p) ≡ number_of_words (a ∷ b ∷ c ∷ d ∷ [])
   number-written size within =
       let size_1 = length-set table p a in
       let size_2 = length-set one (128 + p) b in
@@ -205,10 +204,7 @@ module _ (table : List ℕ) (p a b c d : ℕ) where
       ) refl
 
 -- entry k of a table
-entry_at : (table : List ℕ) (k : ℕ) →
-    entry table k
-    ≡ number_of_words (slice_index table (place k) ∷ slice_index table (128 + place k)
-    ∷ slice_index table (256 + place k) ∷ slice_index table (384 + place k) ∷ [])
+entry_at : (table : List ℕ) (k : ℕ) → entry table k ≡ number_of_words (words_from table (place k))
 entry_at table k =
     let e0 : 128 * 0 + 4 * (k % 32) + k / 32 ≡ place k = omega arith in
     let e1 : 128 * 1 + 4 * (k % 32) + k / 32 ≡ 128 + place k = omega arith in

@@ -40,8 +40,8 @@ fresh_one was now closed nonce a = subst (λ (l : List (List ℕ)). GrewFresh wa
       let within : i < length was = omega arith in
       let e =
       sym (get_or-append was (nonce ∷ []) [] i within) ∙ read_same all i j to same
-      ∙ ap (λ (k : ℕ). get_or all k []) last ∙ get_or-append_seam was nonce [] [] in
-      a.fresh (subst (λ (x : List ℕ). Contains was x) e (Contains-get_or was i [] within));
+      ∙ ap (λ k. get_or all k []) last ∙ get_or-append_seam was nonce [] [] in
+      a.fresh (subst (λ x. Contains was x) e (Contains-get_or was i [] within));
 })
 
 pub fresh_more : (was mid now : List (List ℕ)) → GrewFresh was mid → GrewFresh mid now → GrewFresh was now

@@ -38,7 +38,7 @@ length-aes_decrypted key nonce ciphertext = length-counter_mode _ nonce 2 cipher
 pub length-aes_sealed : (key nonce aad message : List ℕ) → length (gcm_sealed (aes key) nonce aad message) ≡ length message + 16
 length-aes_sealed key nonce aad message =
     length-append (gcm_encrypted (aes key) nonce message) (gcm_tag (aes key) nonce aad _)
-    ∙ ap₂ (λ (m n : ℕ). m + n) (length-aes_encrypted key nonce message) (length-aes_tag key nonce aad _)
+    ∙ ap₂ (λ m n. m + n) (length-aes_encrypted key nonce message) (length-aes_tag key nonce aad _)
 
 -- decrypting undoes encrypting, and encrypting decrypting
 pub decrypted-encrypted : (key nonce message : List ℕ) → gcm_decrypted (aes key) nonce (gcm_encrypted (aes key) nonce message) ≡ message

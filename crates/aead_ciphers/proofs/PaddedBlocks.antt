@@ -23,10 +23,10 @@ padded_is part le =
     fill_by_all (λ (j : ℕ). get_or part _ 0) _ 16 0 (omega (arith, length-append part zeros))
     (λ j lt.
     elim (cases_lt j n) [
-      | inl below ↦ get_or_append_left part zeros 0 j below ∙ ap (λ (m : ℕ). get_or part m 0) (let r : j ≡ 16 * 0 + j = omega arith in r)
+      | inl below ↦ get_or_append_left part zeros 0 j below ∙ ap (λ m. get_or part m 0) (let r : j ≡ 16 * 0 + j = omega arith in r)
       | inr past ↦
           get_or-append_right part zeros n j 0 refl past
-          ∙ ap (λ (zs : List ℕ). get_or zs (j - n) 0) (drop-replicate n 16 0)
+          ∙ ap (λ zs. get_or zs (j - n) 0) (drop-replicate n 16 0)
           ∙ get_or-replicate (16 - n) (j - n) 0 0 (omega arith)
           ∙ sym (get_or_past part _ 0 (omega arith))
     ])

@@ -66,7 +66,7 @@ absorbs_more {u = u} {part} text d n whole room is first then =
     record {
       kept = then.kept ∙ ap (λ (s : HashState). record s { xi = u.xi }) first.kept;
       hashed = λ done at.
-          hash_with (ap (λ (s : HashState). s.hash_subkey) first.kept)
+          hash_with (ap (λ s. s.hash_subkey) first.kept)
           (append_assoc done (padded_blocks front) (padded_blocks part)
           ∙ ap (λ bs. done ++ bs) (sym parts ∙ ap padded_blocks (ap (λ xs. front ++ xs) is ∙ sym (take-add d n text))))
           then.hashed (first.hashed done at);
@@ -95,8 +95,8 @@ unfolding gcm_tag hashed
 tag_found cipher nonce aad text {iv} {ended = ended} eh ea en ei start absorbed finish =
     let bs = padded_blocks aad ++ padded_blocks text in
     let kept = absorbed.kept in
-    let same_key = ap (λ (s : HashState). s.hash_subkey) kept in
-    let lengths = ap₂ length_block (ap (λ (s : HashState). s.aad_len) kept ∙ ea) (ap (λ (s : HashState). s.in_out_len) kept ∙ en) in
+    let same_key = ap (λ s. s.hash_subkey) kept in
+    let lengths = ap₂ length_block (ap (λ s. s.aad_len) kept ∙ ea) (ap (λ s. s.in_out_len) kept ∙ en) in
     finish bs (subst (λ h. IsHashOf h bs ended.xi) (sym same_key) (absorbed.hashed (padded_blocks aad) start))
     ∙ ap₂ (λ k b. ghash k (bs ++ b ∷ []) ⊕ cipher iv) (same_key ∙ eh) lengths
     ∙ ap (λ i. ghash (cipher zero_block) (bs ++ length_block (length aad) (length text) ∷ []) ⊕ cipher i) ei

@@ -24,7 +24,7 @@ not_among : (f : ℕ → List ℕ) (x : List ℕ) (m : ℕ) → ((k : ℕ) → k
 not_among f x zero h (i, lt, e) = absurd (omega arith)
 not_among f x (suc m) h c =
     let step : suc m ≡ m + 1 = omega arith in
-    let split = ap (λ (n : ℕ). each_below n f) step ∙ each_more m f in
+    let split = ap (λ n. each_below n f) step ∙ each_more m f in
     elim (Contains-append_cases (each_below m f) _ x (subst (λ (l : List (List ℕ)). Contains l x) split c)) [
       | inl was ↦ not_among f x m (λ k lt. h k (omega arith)) was
       | inr now ↦ h m (omega arith) (in_one _ _ now)
@@ -42,7 +42,7 @@ unfolding spent_nonces
 fresh_nonce nonce number s reads h = not_among (λ k. nonce s.fixed (s.first + k)) (next_nonce nonce s) s.used (λ k lt e.
     let same =
     sym (ap (from_be_bytes w64) (reads (s.first + k)) ∙ from_be_bytes-to_be_bytes_8 _ (omega arith))
-    ∙ ap (λ (x : List ℕ). from_be_bytes w64 (number x)) e
+    ∙ ap (λ x. from_be_bytes w64 (number x)) e
     ∙ ap (from_be_bytes w64) (reads (s.first + s.used)) ∙ from_be_bytes-to_be_bytes_8 _ h in
     absurd (omega arith))
 

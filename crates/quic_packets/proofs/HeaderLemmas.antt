@@ -8,7 +8,7 @@ use Rattle.aead_ciphers.specs.HeaderProtection.{HeaderKey, header_protection}
 use Rattle.quic_packets.specs.Header.{HasSample, Masked, Protected, Unprotected, first_mask, mask_of, number_len}
 
 xor_twice : (a b : ℕ) → bit_xor (bit_xor a b) b ≡ a
-xor_twice a b = xor_assoc a b b ∙ ap (λ (v : ℕ). bit_xor a v) (xor_self b) ∙ xor_zero_r a
+xor_twice a b = xor_assoc a b b ∙ ap (λ v. bit_xor a v) (xor_self b) ∙ xor_zero_r a
 
 no_form_bit : (long : Bool) (m : ℕ) → bit_and (cond long (bit_and m 0x0f) (bit_and m 0x1f)) 0x80 ≡ 0
 no_form_bit true m = and_assoc 0x80 m 0x0f ∙ and_zero_r m
@@ -17,15 +17,15 @@ no_form_bit false m = and_assoc 0x80 m 0x1f ∙ and_zero_r m
 -- masked, the first byte has the same form, and so the same mask
 same_first_mask : (first m : ℕ) → first_mask (bit_xor first (first_mask first m)) m ≡ first_mask first m
 same_first_mask first m =
-    ap (λ (v : ℕ). cond (eqb v 0x80) (bit_and m 0x0f) (bit_and m 0x1f))
+    ap (λ v. cond (eqb v 0x80) (bit_and m 0x0f) (bit_and m 0x1f))
     (and_xor_apart 0x80 first (first_mask first m) (no_form_bit (eqb (bit_and first 0x80) 0x80) m))
 
 first_back : (mask : List ℕ) (at n n' : ℕ) (old mid new : List ℕ) → Masked mask at n old mid → Masked mask at n' mid new
     → get_or new 0 0 ≡ get_or old 0 0
 first_back mask at n n' old mid new p u =
     let m = get_or mask 0 0 in
-    u.first ∙ ap (λ (v : ℕ). bit_xor v (first_mask v m)) p.first
-    ∙ ap (λ (v : ℕ). bit_xor (bit_xor (get_or old 0 0) (first_mask (get_or old 0 0) m)) v) (same_first_mask (get_or old 0 0) m)
+    u.first ∙ ap (λ v. bit_xor v (first_mask v m)) p.first
+    ∙ ap (λ v. bit_xor (bit_xor (get_or old 0 0) (first_mask (get_or old 0 0) m)) v) (same_first_mask (get_or old 0 0) m)
     ∙ xor_twice (get_or old 0 0) (first_mask (get_or old 0 0) m)
 
 number_back : (mask : List ℕ) (at n i j : ℕ) (old mid new : List ℕ) → at + j ≡ i → j < n → Masked mask at n old mid → Masked mask at n mid new
@@ -33,8 +33,8 @@ number_back : (mask : List ℕ) (at n i j : ℕ) (old mid new : List ℕ) → at
 number_back mask at n i j old mid new e h p u =
     let m = get_or mask (j + 1) 0 in
     let here : get_or new (at + j) 0 ≡ get_or old (at + j) 0 =
-    u.number j h ∙ ap (λ (v : ℕ). bit_xor v m) (p.number j h) ∙ xor_twice (get_or old (at + j) 0) m in
-    subst (λ (k : ℕ). get_or new k 0 ≡ get_or old k 0) e here
+    u.number j h ∙ ap (λ v. bit_xor v m) (p.number j h) ∙ xor_twice (get_or old (at + j) 0) m in
+    subst (λ k. get_or new k 0 ≡ get_or old k 0) e here
 
 other_back : (mask : List ℕ) (at n i : ℕ) (old mid new : List ℕ) → 0 < i → (i < at) ⊎ (at + n ≤ i) → Masked mask at n old mid → Masked mask at n mid new
     → get_or new i 0 ≡ get_or old i 0
@@ -78,15 +78,15 @@ same_mask key at packet wire h p =
     let same : take 16 (drop (at + 4) wire) ≡ take 16 (drop (at + 4) packet) =
     same_range (at + 4) 16 wire packet sampled p.len (λ i le. p.others i (omega arith) (inr (omega arith))) in
     ap (header_protection key.algorithm key.bytes)
-    (ap (λ (k : ℕ). take k (drop (at + 4) wire)) width ∙ same ∙ sym (ap (λ (k : ℕ). take k (drop (at + 4) packet)) width))
+    (ap (λ k. take k (drop (at + 4) wire)) width ∙ same ∙ sym (ap (λ k. take k (drop (at + 4) packet)) width))
 
 pub unprotected_back : (key : HeaderKey) (at : ℕ) (packet wire back : List ℕ) → HasSample at (length packet) → Protected key at packet wire
     → Unprotected key at wire back → back ≡ packet
 unprotected_back key at packet wire back h p u =
     let n = number_len (get_or packet 0 0) in
     let v : Masked (mask_of key at packet) at (number_len (get_or back 0 0)) wire back =
-    subst (λ (mask : List ℕ). Masked mask at (number_len (get_or back 0 0)) wire back) (same_mask key at packet wire h p) u in
+    subst (λ mask. Masked mask at (number_len (get_or back 0 0)) wire back) (same_mask key at packet wire h p) u in
     let first = first_back (mask_of key at packet) at n (number_len (get_or back 0 0)) packet wire back p v in
     let w : Masked (mask_of key at packet) at n wire back =
-    subst (λ (k : ℕ). Masked (mask_of key at packet) at k wire back) (ap number_len first) v in
+    subst (λ k. Masked (mask_of key at packet) at k wire back) (ap number_len first) v in
     masked_twice (mask_of key at packet) at n packet wire back p w

@@ -46,7 +46,7 @@ module _ (receiver : Receiving) (number h : ℕ) (packet : List ℕ) (has : Pack
   behind = drop_at (take h packet) (body ++ its_tag) h length-header
 
   length-behind : length (drop h whole) ≡ length body + 16
-  length-behind = ap length behind ∙ length-append body its_tag ∙ ap (λ (n : ℕ). length body + n) (length-aes_tag key nonce (take h packet) body)
+  length-behind = ap length behind ∙ length-append body its_tag ∙ ap (λ n. length body + n) (length-aes_tag key nonce (take h packet) body)
 
   middle : take (length (drop h whole) - 16) (drop h whole) ≡ body
   middle = ap (take (length (drop h whole) - 16)) behind ∙ take_at body its_tag (length (drop h whole) - 16) (omega (arith, length-behind))
@@ -61,7 +61,7 @@ module _ (receiver : Receiving) (number h : ℕ) (packet : List ℕ) (has : Pack
 
   -- what stands before the last 16 bytes: a header, and what stands after it
   before_tag : (xs : List ℕ) → take (length packet - 16) xs ≡ take h xs ++ take (length packet - 16 - h) (drop h xs)
-  before_tag xs = ap (λ (n : ℕ). take n xs) (omega (arith, has.room)) ∙ take-add h (length packet - 16 - h) xs
+  before_tag xs = ap (λ n. take n xs) (omega (arith, has.room)) ∙ take-add h (length packet - 16 - h) xs
 
   pub sealed_opens : OpensTo receiver number h whole packet
   sealed_opens = record {
@@ -69,7 +69,7 @@ module _ (receiver : Receiving) (number h : ℕ) (packet : List ℕ) (has : Pack
     genuine = end ∙ sym (ap₂ (gcm_tag (aes key) nonce) front middle);
     comes_back = λ opened it.
         let plain = ap (gcm_decrypted (aes key) nonce) middle ∙ decrypted-encrypted key nonce text in
-        before_tag opened ∙ ap₂ (λ (xs ys : List ℕ). xs ++ ys) (it.header ∙ front)
+        before_tag opened ∙ ap₂ (λ xs ys. xs ++ ys) (it.header ∙ front)
         (ap (take (length packet - 16 - h)) it.body.buffer ∙ take_at _ _ (length packet - 16 - h) (ap length plain ∙ length-text) ∙ plain)
         ∙ sym (before_tag packet);
   }
@@ -79,11 +79,11 @@ module _ (receiver : Receiving) (number h : ℕ) (packet : List ℕ) (has : Pack
   numbered at has_number =
       let some : 0 < h = omega (arith, has_number.len, has_number.first_byte) in
       let first : get_or whole 0 0 ≡ get_or packet 0 0 =
-      sym (get_or-take h whole 0 0 some) ∙ ap (λ (xs : List ℕ). get_or xs 0 0) front ∙ get_or-take h packet 0 0 some in
-      record { first_byte = has_number.first_byte; len = has_number.len ∙ ap (λ (b : ℕ). at + number_len b) (sym first) }
+      sym (get_or-take h whole 0 0 some) ∙ ap (λ xs. get_or xs 0 0) front ∙ get_or-take h packet 0 0 some in
+      record { first_byte = has_number.first_byte; len = has_number.len ∙ ap (λ b. at + number_len b) (sym first) }
 
   pub comes_back : (header_key : HeaderKey) (at : ℕ) (wire back : List ℕ) → HasNumber at h packet → HasSample at (length packet)
       → Protected header_key at whole wire → Unprotected header_key at wire back → HasNumber at h back × OpensTo receiver number h back packet
   comes_back header_key at wire back has_number has_sample p u =
       let same : back ≡ whole = unprotected_back header_key at whole wire back (subst (HasSample at) (sym length-whole) has_sample) p u in
-      subst (λ (xs : List ℕ). HasNumber at h xs × OpensTo receiver number h xs packet) (sym same) (numbered at has_number, sealed_opens)
+      subst (λ xs. HasNumber at h xs × OpensTo receiver number h xs packet) (sym same) (numbered at has_number, sealed_opens)

@@ -21,7 +21,7 @@ of_same P e f g h = rw (← e, ← f, ← g) h
 -- a ciphertext and its tag
 module _ (ciphertext received : List ℕ) (sixteen : length received ≡ 16) where
   tag_at : length ciphertext ≡ length (ciphertext ++ received) - 16
-  tag_at = let e = length-append ciphertext received in omega (arith, e, sixteen)
+  tag_at = omega (arith, length-append ciphertext received, sixteen)
 
   pub front_is : ciphertext_of (ciphertext ++ received) ≡ ciphertext
   front_is = take_at ciphertext received (length (ciphertext ++ received) - 16) tag_at
@@ -32,7 +32,7 @@ module _ (ciphertext received : List ℕ) (sixteen : length received ≡ 16) whe
   module _ (key prefix : List ℕ) (number : ℕ) (is_last : Bool) where
     pub has_tag : received ≡ chunk_tag key prefix number is_last ciphertext → HasTag key prefix number is_last (ciphertext ++ received)
     has_tag right = record {
-      size = let e = length-append ciphertext received in omega (arith, e, sixteen);
+      size = omega (arith, length-append ciphertext received, sixteen);
       tag = back_is ∙ right ∙ ap (chunk_tag key prefix number is_last) (sym front_is);
     }
 
@@ -50,7 +50,7 @@ module _ (ciphertext received : List ℕ) (sixteen : length received ≡ 16) whe
         λ yes. has_tag (o.accepted.0 yes).2,
         λ had. o.accepted.1 (
           omega arith,
-          record { aad = let e = length-append magic_and_version prefix in omega (arith, e, seven); message = omega (arith, short) },
+          record { aad = omega (arith, length-append magic_and_version prefix, seven); message = omega (arith, short) },
           tag_is had,
         ),
       ),

@@ -24,8 +24,7 @@ module _ (key prefix file : List ℕ) (n : ℕ) (seven : length prefix ≡ 7) (s
 
   cut_last : n - 1 ≡ last_chunk cut
   cut_last =
-      let h = length-body key prefix file seven in
-      let e = ap length cut_body ∙ length-take-le (sealed_chunk_len * n) (body_of whole) (omega (arith, h)) in
+      let e = ap length cut_body ∙ length-take-le (sealed_chunk_len * n) (body_of whole) (omega (arith, length-body key prefix file seven)) in
       let above = last_piece-above sealed_chunk_len (length (body_of cut)) (n - 1) (omega arith) (omega (arith, e)) in
       let below = last_piece-le sealed_chunk_len (length (body_of cut)) (n - 1) (omega arith) (omega (arith, e)) in
       omega (arith, above, below)
@@ -33,13 +32,13 @@ module _ (key prefix file : List ℕ) (n : ℕ) (seven : length prefix ≡ 7) (s
   cut_piece : piece sealed_chunk_len (body_of cut) (n - 1) ≡ sealed_chunk key prefix (n - 1) false (piece chunk_len file (n - 1))
   cut_piece =
       let split : sealed_chunk_len * n ≡ sealed_chunk_len * (n - 1) + sealed_chunk_len = omega arith in
-      ap (λ (l : List ℕ). piece sealed_chunk_len l (n - 1)) (cut_body ∙ ap (λ (k : ℕ). take k (body_of whole)) split)
+      ap (λ l. piece sealed_chunk_len l (n - 1)) (cut_body ∙ ap (λ k. take k (body_of whole)) split)
       ∙ ap (take sealed_chunk_len) (drop-take (sealed_chunk_len * (n - 1)) sealed_chunk_len (body_of whole))
       ∙ take-take sealed_chunk_len sealed_chunk_len (drop (sealed_chunk_len * (n - 1)) (body_of whole)) (omega arith)
       ∙ piece_is key prefix file seven (n - 1) (omega arith)
-      ∙ ap (λ (b : Bool). sealed_chunk key prefix (n - 1) b (piece chunk_len file (n - 1))) (ne_eqb (n - 1) (last_of file) (λ e. omega arith))
+      ∙ ap (λ b. sealed_chunk key prefix (n - 1) b (piece chunk_len file (n - 1))) (ne_eqb (n - 1) (last_of file) (λ e. omega arith))
 
   pub cut_needs_both : IsSealed key cut → HasBothTags key prefix (n - 1) (piece chunk_len file (n - 1))
   cut_needs_both accepted = both_tags key prefix (n - 1) (piece chunk_len file (n - 1))
       (of_same (λ p b l. HasTag key p (n - 1) b l) cut_prefix (eq-eqb (n - 1) (last_chunk cut) cut_last) cut_piece
-      (accepted.tags.each (n - 1) (let e = cut_last in omega (arith, e))))
+      (accepted.tags.each (n - 1) (omega (arith, cut_last))))

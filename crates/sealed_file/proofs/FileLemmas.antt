@@ -66,10 +66,10 @@ module _ (key prefix file : List ℕ) where
     whole_before i before = length-chunk_at i ∙ (let h = length-piece chunk_len file i (omega arith) before in omega (arith, h))
 
     last_is_short : length (chunk_at key prefix file last) ≤ sealed_chunk_len
-    last_is_short = let h = length-piece-le chunk_len file last in let k = length-chunk_at last in omega (arith, h, k)
+    last_is_short = omega (arith, length-piece-le chunk_len file last, length-chunk_at last)
 
     length-header : length (header prefix) ≡ 16
-    length-header = length-append magic_and_version prefix ∙ ap (λ (n : ℕ). 9 + n) seven
+    length-header = length-append magic_and_version prefix ∙ ap (λ n. 9 + n) seven
 
     whole_is : whole ≡ header prefix ++ chunks
     unfolding sealed_chunks
@@ -85,41 +85,34 @@ module _ (key prefix file : List ℕ) where
     prefix_is = ap (drop 9) front ∙ drop_at magic_and_version prefix 9 refl
 
     last_is : last_chunk whole ≡ last
-    last_is = ap (λ (l : List ℕ). last_piece sealed_chunk_len (length l)) body_is
-        ∙ last_of_joined sealed_chunk_len (chunk_at key prefix file) last whole_before last_is_short (let k = length-chunk_at last in omega (arith, k))
+    last_is = ap (λ l. last_piece sealed_chunk_len (length l)) body_is
+        ∙ last_of_joined sealed_chunk_len (chunk_at key prefix file) last whole_before last_is_short (omega (arith, length-chunk_at last))
 
     pub piece_is : (i : ℕ) → i ≤ last → piece sealed_chunk_len (body_of whole) i ≡ chunk_at key prefix file i
-    piece_is i within = ap (λ (l : List ℕ). piece sealed_chunk_len l i) body_is
+    piece_is i within = ap (λ l. piece sealed_chunk_len l i) body_is
         ∙ piece_of_joined sealed_chunk_len (chunk_at key prefix file) last whole_before i last_is_short within
 
     pub length-body : length (body_of whole) ≡ sealed_chunk_len * last + length (piece chunk_len file last) + 16
     length-body =
-        let e = ap length body_is in
-        let k = length-all sealed_chunk_len (chunk_at key prefix file) last whole_before in
-        let c = length-chunk_at last in
-        omega (arith, e, k, c)
+        omega (arith, ap length body_is, length-all sealed_chunk_len (chunk_at key prefix file) last whole_before, length-chunk_at last)
 
     -- the file's bytes, and 16 more for the header and for each chunk
     pub length-sealed_file : length whole ≡ 16 + length file + (last + 1) * 16
     length-sealed_file =
-        let d = length-drop 16 whole in
-        let b = length-body in
-        let t = length-take chunk_len (drop (chunk_len * last) file) in
-        let e = length-drop (chunk_len * last) file in
-        omega (arith, d, b, t, e)
+        omega (arith, length-drop 16 whole, length-body, length-take chunk_len (drop (chunk_len * last) file), length-drop (chunk_len * last) file)
 
     -- what is said of a chunk, sealed, is said of the sealed file's
     of_sealed : (P : List ℕ → Bool → List ℕ → Type 0) (i : ℕ) → i < last_chunk whole + 1 → P prefix (i == last) (chunk_at key prefix file i)
         → P (prefix_of whole) (i == last_chunk whole) (piece sealed_chunk_len (body_of whole) i)
-    of_sealed P i within = of_same P (sym prefix_is) (ap (λ (n : ℕ). i == n) (sym last_is)) (sym (piece_is i (let e = last_is in omega (arith, e))))
+    of_sealed P i within = of_same P (sym prefix_is) (ap (λ n. i == n) (sym last_is)) (sym (piece_is i (omega (arith, last_is))))
 
     pub sealed_is_sealed : last < 2 ^ 32 - 1 → IsSealed key whole
     sealed_is_sealed few = record {
       front = record {
-        size = let b = length-body in let d = length-drop 16 whole in omega (arith, b, d);
+        size = let b = length-body in omega (arith, b, length-drop 16 whole);
         right = sym (take-take 9 16 whole (omega arith)) ∙ ap (take 9) front ∙ take_at magic_and_version prefix 9 refl;
       };
-      few = subst (λ (n : ℕ). n < 2 ^ 32 - 1) (sym last_is) few;
+      few = subst (λ n. n < 2 ^ 32 - 1) (sym last_is) few;
       tags = record {
         each = λ i within. of_sealed (λ p b l. HasTag key p i b l) i within (sealed_has_tag key prefix i (i == last) (piece chunk_len file i));
       };
@@ -131,4 +124,4 @@ module _ (key prefix file : List ℕ) where
         ap concat (each-same (last_chunk whole + 1) (λ i. opened_chunk key (prefix_of whole) i (i == last_chunk whole) (piece sealed_chunk_len (body_of whole) i))
         (piece chunk_len file) (λ i within. of_sealed (λ p b l. opened_chunk key p i b l ≡ piece chunk_len file i) i within
         (opened_sealed_chunk key prefix i (i == last) (piece chunk_len file i))))
-        ∙ ap (λ (n : ℕ). concat (each_below (n + 1) (piece chunk_len file))) last_is ∙ all_pieces chunk_len file (omega arith)
+        ∙ ap (λ n. concat (each_below (n + 1) (piece chunk_len file))) last_is ∙ all_pieces chunk_len file (omega arith)

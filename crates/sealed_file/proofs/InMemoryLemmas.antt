@@ -15,9 +15,9 @@ use proofs.PieceLemmas.{length-all, length-parts-le, length-piece}
 pub written_behind : (f : List ℕ → List ℕ) (old chunk all new tag : List ℕ) (start : ℕ) → length old ≡ start → all ≡ old ++ chunk
     → take start new ≡ take start all → drop start new ++ tag ≡ f (drop start all) → new ++ tag ≡ old ++ f chunk
 written_behind f old chunk all new tag start len all_is front back =
-    ap (λ (l : List ℕ). l ++ tag) (sym (take-append-drop start new)) ∙ append_assoc (take start new) (drop start new) tag
-    ∙ ap (λ (l : List ℕ). l ++ (drop start new ++ tag)) (front ∙ ap (take start) all_is ∙ take_at old chunk start len)
-    ∙ ap (λ (l : List ℕ). old ++ l) (back ∙ ap f (ap (drop start) all_is ∙ drop_at old chunk start len))
+    ap (λ l. l ++ tag) (sym (take-append-drop start new)) ∙ append_assoc (take start new) (drop start new) tag
+    ∙ ap (λ l. l ++ (drop start new ++ tag)) (front ∙ ap (take start) all_is ∙ take_at old chunk start len)
+    ∙ ap (λ l. old ++ l) (back ∙ ap f (ap (drop start) all_is ∙ drop_at old chunk start len))
 
 -- what a list held stands in front, where more was appended and more was then written after that
 pub front_through : (old more mid new : List ℕ) (n m : ℕ) → n ≡ length old → m ≡ length mid → mid ≡ old ++ more → take m new ≡ mid → take n new ≡ old
@@ -43,7 +43,7 @@ module _ (key file : List ℕ) where
   length-message_at i =
       let sealed = piece sealed_chunk_len (body_of file) i in
       length-aes_decrypted key (chunk_nonce (prefix_of file) i (i == last)) (ciphertext_of sealed)
-      ∙ (let t = length-take (length sealed - 16) sealed in omega (arith, t))
+      ∙ (omega (arith, length-take (length sealed - 16) sealed))
 
   -- what a sealed file of this length gives
   pub length-opened_file : length (opened_file key file) ≡ chunk_len * last + (length (body_of file) - sealed_chunk_len * last - 16)
@@ -51,11 +51,7 @@ module _ (key file : List ℕ) where
   length-opened_file =
       let whole : (i : ℕ) → i < last → length (message_at key file i) ≡ chunk_len =
       λ i before. length-message_at i ∙ (let h = length-piece sealed_chunk_len (body_of file) i (omega arith) before in omega (arith, h)) in
-      let k = length-all chunk_len (message_at key file) last whole in
-      let c = length-message_at last in
-      let t = length-take sealed_chunk_len (drop (sealed_chunk_len * last) (body_of file)) in
-      let d = length-drop (sealed_chunk_len * last) (body_of file) in
-      omega (arith, k, c, t, d)
+      omega (arith, length-all chunk_len (message_at key file) last whole, length-message_at last, length-take sealed_chunk_len (drop (sealed_chunk_len * last) (body_of file)), length-drop (sealed_chunk_len * last) (body_of file))
 
   -- the next message fits in what it gives
   pub open_fits : (n : ℕ) → n ≤ last
@@ -63,5 +59,4 @@ module _ (key file : List ℕ) where
   unfolding opened_chunks
   open_fits n within =
       let p = length-parts-le (message_at key file) n (last + 1) (omega arith) in
-      let c = length-message_at n in
-      omega (arith, p, c)
+      omega (arith, p, length-message_at n)

@@ -33,7 +33,7 @@ pub header_refused : (key file bytes read_bytes : List ℕ) (rest : Option (List
     → TakesFront 16 file read_bytes rest → HeaderRefuses bytes error → OpenRefuses key file error
 header_refused key file bytes read_bytes rest TooLong same read h = absurd h
 header_refused key file bytes read_bytes rest (Io e) same read h = absurd h
-header_refused key file bytes read_bytes rest error same read h = inl (subst (λ (l : List ℕ). HeaderRefuses l error) (same ∙ read.piece_is) h)
+header_refused key file bytes read_bytes rest error same read h = inl (subst (λ l. HeaderRefuses l error) (same ∙ read.piece_is) h)
 
 pub refused_at : (key file : List ℕ) (n : ℕ) (error : FileError) → RefusesAt key file error n → OpenRefuses key file error
 refused_at key file n TooLong h = absurd h.wrong.1
@@ -56,7 +56,7 @@ pub open_start : (key prefix file bytes : List ℕ) (old now : Option (List ℕ)
 unfolding opened_chunks
 open_start key prefix file bytes old now kept taken has prefix_is = record {
   front = record {
-    size = let h = has.size in let e = ap length taken in let k = length-take 16 file in omega (arith, h, e, k);
+    size = omega (arith, has.size, ap length taken, length-take 16 file);
     right = sym (take-take 9 16 file (omega arith)) ∙ ap (take 9) (sym taken) ∙ has.right;
   };
   prefix_is = prefix_is ∙ ap (drop 9) taken;
@@ -96,13 +96,13 @@ module _ {key prefix file : List ℕ} {n : ℕ} {old now : Option (List ℕ)} (s
       pub open_accepted : flag ≡ true → n < 2 ^ 32 - 1 → IsSealed key file
       open_accepted last within = record {
         front = s.front;
-        few = subst (λ (k : ℕ). k < 2 ^ 32 - 1) (last_here last) within;
-        tags = subst (λ (k : ℕ). AreRight key file (k + 1)) (last_here last) right_more;
+        few = subst (λ k. k < 2 ^ 32 - 1) (last_here last) within;
+        tags = subst (λ k. AreRight key file (k + 1)) (last_here last) right_more;
       }
 
       module _ {message : List ℕ} (message_is : message ≡ opened_chunk key prefix n flag chunk) (now' : Option (List ℕ)) where
         more_is : opened_chunks key file (n + 1) ≡ opened_chunks key file n ++ message
-        more_is = messages_more key file n ∙ ap (λ (l : List ℕ). opened_chunks key file n ++ l)
+        more_is = messages_more key file n ∙ ap (λ l. opened_chunks key file n ++ l)
             (sym (of_same (λ p b l. message ≡ opened_chunk key p n b l) s.prefix_is flag_right chunk_is message_is))
 
         -- stopped within its message
@@ -113,14 +113,14 @@ module _ {key prefix file : List ℕ} {n : ℕ} {old now : Option (List ℕ)} (s
         written_more more = subst (Appends old now') (sym more_is) (Appends-trans old now now' _ _ s.written more)
 
         pub open_end : flag ≡ true → Appends now now' message → Appends old now' (opened_file key file)
-        open_end last more = subst (λ (k : ℕ). Appends old now' (opened_chunks key file (k + 1))) (last_here last) (written_more more)
+        open_end last more = subst (λ k. Appends old now' (opened_chunks key file (k + 1))) (last_here last) (written_more more)
 
         -- another chunk was opened
         pub open_next : flag ≡ false → Appends now now' message → Opening key prefix file (n + 1) old now'
         open_next more written = record {
           front = s.front;
           prefix_is = s.prefix_is;
-          in_range = let h = eqb-false n (last_chunk file) (sym flag_right ∙ more) in let within = s.in_range in omega (arith, h, within);
+          in_range = omega (arith, eqb-false n (last_chunk file) (sym flag_right ∙ more), s.in_range);
           right = right_more;
           written = written_more written;
         }
@@ -148,7 +148,7 @@ module _ {key prefix file chunk : List ℕ} {n : ℕ} {rest old now : Option (Li
 
   -- too many chunks
   pub read_long : n ≡ 2 ^ 32 - 1 → OpenRefuses key file TooLong
-  read_long e = (s.so_far.front, subst (AreRight key file) e s.so_far.right, subst (λ (k : ℕ). k ≤ last_chunk file) e s.so_far.in_range)
+  read_long e = (s.so_far.front, subst (AreRight key file) e s.so_far.right, subst (λ k. k ≤ last_chunk file) e s.so_far.in_range)
 
   module _ (next : List ℕ) (rest' : Option (List ℕ)) (read : IfSome rest (λ left. TakesFront sealed_chunk_len left next rest'))
       {m : ℕ} {flag : Bool} (counted : flag ≡ (m == 0)) (m_is : m ≡ length next) where

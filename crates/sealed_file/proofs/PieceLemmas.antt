@@ -15,7 +15,7 @@ use Rattle.sealed_file.specs.Format.{piece, last_piece}
 -- one more
 pub joined_more : (f : ℕ → List ℕ) (n : ℕ) → concat (each_below (n + 1) f) ≡ concat (each_below n f) ++ f n
 joined_more f n = ap concat (map-range_with_len_more f 0 n n (omega arith)) ∙ concat-append (each_below n f) (f n ∷ [])
-    ∙ ap (λ (l : List ℕ). concat (each_below n f) ++ l) (append-nil (f n))
+    ∙ ap (λ l. concat (each_below n f) ++ l) (append-nil (f n))
 
 -- the length of lists of one length
 pub length-joined : (size : ℕ) (f : ℕ → List ℕ) (n : ℕ) → ((i : ℕ) → i < n → length (f i) ≡ size) → length (concat (each_below n f)) ≡ size * n
@@ -24,8 +24,8 @@ length-joined size f (suc n) each =
     let e : suc n ≡ n + 1 = omega arith in
     let before = length-joined size f n (λ i h. each i (omega arith)) in
     let here = each n (omega arith) in
-    ap (λ (k : ℕ). length (concat (each_below k f))) e ∙ ap length (joined_more f n)
-    ∙ (let k = length-append (concat (each_below n f)) (f n) in omega (arith, k, before, here))
+    ap (λ k. length (concat (each_below k f))) e ∙ ap length (joined_more f n)
+    ∙ (omega (arith, length-append (concat (each_below n f)) (f n), before, here))
 
 -- the last piece's number is at most n, and more than n, by the length
 pub last_piece-le : (size len n : ℕ) → 0 < size → len ≤ size * (n + 1) → last_piece size len ≤ n
@@ -46,14 +46,13 @@ is_last size bytes next n m some within next_is m_is =
           let h = last_piece-above size (length bytes) (n + 1) some past in
           ne_eqb m 0 (λ z. omega (arith, t, d, e)) ∙ sym (ne_eqb n (last_piece size (length bytes)) (λ z. omega (arith, h)))
       | inr short ↦
-          let h = last_piece-le size (length bytes) n some short in
-          eq-eqb m 0 (omega (arith, t, d, e)) ∙ sym (eq-eqb n (last_piece size (length bytes)) (omega (arith, h)))
+          eq-eqb m 0 (omega (arith, t, d, e)) ∙ sym (eq-eqb n (last_piece size (length bytes)) (omega (arith, last_piece-le size (length bytes) n some short)))
     ]
 
 -- a piece that isn't the last is whole
 pub length-piece : (size : ℕ) (bytes : List ℕ) (n : ℕ) → 0 < size → n < last_piece size (length bytes) → length (piece size bytes n) ≡ size
 length-piece size bytes n some before = elim (cases_lt (size * (n + 1)) (length bytes)) [
-  | inl past ↦ length-take-le size (drop (size * n) bytes) (let k = length-drop (size * n) bytes in omega (arith, k))
+  | inl past ↦ length-take-le size (drop (size * n) bytes) (omega (arith, length-drop (size * n) bytes))
   | inr short ↦ let h = last_piece-le size (length bytes) n some short in absurd (omega arith)
 ]
 
@@ -62,17 +61,17 @@ length-piece-le size bytes n = omega (arith, length-take size (drop (size * n) b
 
 -- what comes after a piece
 pub rest_behind : (size : ℕ) (bytes : List ℕ) (n : ℕ) → drop size (drop (size * n) bytes) ≡ drop (size * (n + 1)) bytes
-rest_behind size bytes n = drop-drop size (size * n) bytes ∙ ap (λ (k : ℕ). drop k bytes) (let e : size * n + size ≡ size * (n + 1) = omega arith in e)
+rest_behind size bytes n = drop-drop size (size * n) bytes ∙ ap (λ k. drop k bytes) (let e : size * n + size ≡ size * (n + 1) = omega arith in e)
 
 -- the pieces give the bytes
 joined_pieces : (size : ℕ) (bytes : List ℕ) (n : ℕ) → concat (each_below n (piece size bytes)) ≡ take (size * n) bytes
-joined_pieces size bytes zero = ap (λ (k : ℕ). take k bytes) (let e : 0 ≡ size * 0 = omega arith in e)
+joined_pieces size bytes zero = ap (λ k. take k bytes) (let e : 0 ≡ size * 0 = omega arith in e)
 joined_pieces size bytes (suc n) =
     let e : suc n ≡ n + 1 = omega arith in
-    ap (λ (k : ℕ). concat (each_below k (piece size bytes))) e ∙ joined_more (piece size bytes) n
-    ∙ ap (λ (l : List ℕ). l ++ piece size bytes n) (joined_pieces size bytes n)
+    ap (λ k. concat (each_below k (piece size bytes))) e ∙ joined_more (piece size bytes) n
+    ∙ ap (λ l. l ++ piece size bytes n) (joined_pieces size bytes n)
     ∙ sym (take-add (size * n) size bytes)
-    ∙ ap (λ (k : ℕ). take k bytes) (let d : size * n + size ≡ size * suc n = omega arith in d)
+    ∙ ap (λ k. take k bytes) (let d : size * n + size ≡ size * suc n = omega arith in d)
 
 pub all_pieces : (size : ℕ) (bytes : List ℕ) → 0 < size → concat (each_below (last_piece size (length bytes) + 1) (piece size bytes)) ≡ bytes
 all_pieces size bytes some =
@@ -89,36 +88,36 @@ joined_parts f n m h =
     let e : m ≡ n + 1 + k = omega arith in
     let later = concat (each_below k (λ j. f (n + 1 + j))) in (
       later,
-      ap (λ (i : ℕ). concat (each_below i f)) e ∙ ap concat (each-append (n + 1) k f) ∙ concat-append (each_below (n + 1) f) (each_below k (λ j. f (n + 1 + j)))
-          ∙ ap (λ (l : List ℕ). l ++ later) (joined_more f n) ∙ append_assoc (concat (each_below n f)) (f n) later,
+      ap (λ i. concat (each_below i f)) e ∙ ap concat (each-append (n + 1) k f) ∙ concat-append (each_below (n + 1) f) (each_below k (λ j. f (n + 1 + j)))
+          ∙ ap (λ l. l ++ later) (joined_more f n) ∙ append_assoc (concat (each_below n f)) (f n) later,
     )
 
 pub length-parts-le : (f : ℕ → List ℕ) (n m : ℕ) → n < m → length (concat (each_below n f)) + length (f n) ≤ length (concat (each_below m f))
-length-parts-le f n m h = let e = simp length-append at (ap length (joined_parts f n m h).1) in omega (arith, e)
+length-parts-le f n m h = omega (arith, simp length-append at (ap length (joined_parts f n m h).1))
 
 -- lists that are joined, all but the last of one length
 module _ (size : ℕ) (f : ℕ → List ℕ) (last : ℕ) (whole : (j : ℕ) → j < last → length (f j) ≡ size) where
   pub length-all : length (concat (each_below (last + 1) f)) ≡ size * last + length (f last)
   length-all = ap length (joined_more f last) ∙ length-append (concat (each_below last f)) (f last)
-      ∙ ap (λ (n : ℕ). n + length (f last)) (length-joined size f last whole)
+      ∙ ap (λ n. n + length (f last)) (length-joined size f last whole)
 
   -- are the pieces
   pub piece_of_joined : (i : ℕ) → length (f last) ≤ size → i ≤ last → piece size (concat (each_below (last + 1) f)) i ≡ f i
   piece_of_joined i short within =
       let (later, split) = joined_parts f i (last + 1) (omega arith) in
       let front : length (concat (each_below i f)) ≡ size * i = length-joined size f i (λ j h. whole j (omega arith)) in
-      ap (λ (l : List ℕ). take size (drop (size * i) l)) split ∙ ap (take size) (drop_at (concat (each_below i f)) (f i ++ later) (size * i) front)
+      ap (λ l. take size (drop (size * i) l)) split ∙ ap (take size) (drop_at (concat (each_below i f)) (f i ++ later) (size * i) front)
       ∙ (elim (cases_lt i last) [
         | inl before ↦ take_at (f i) later size (whole i before)
         | inr at_end ↦
             let same : i ≡ last = omega arith in
             let all : f i ++ later ≡ f i = append_cancel_left (concat (each_below i f)) (f i ++ later) (f i)
-            (sym split ∙ ap (λ (n : ℕ). concat (each_below (n + 1) f)) (sym same) ∙ joined_more f i) in
-            ap (take size) all ∙ take_all size (f i) (subst (λ (n : ℕ). length (f n) ≤ size) (sym same) short)
+            (sym split ∙ ap (λ n. concat (each_below (n + 1) f)) (sym same) ∙ joined_more f i) in
+            ap (take size) all ∙ take_all size (f i) (subst (λ n. length (f n) ≤ size) (sym same) short)
       ])
 
   -- and the last piece is the last list, unless that is empty
   pub last_of_joined : length (f last) ≤ size → 0 < length (f last) → last_piece size (length (concat (each_below (last + 1) f))) ≡ last
   last_of_joined short some =
-      ap (λ (n : ℕ). n / size) (let e : length (concat (each_below (last + 1) f)) - 1 ≡ last * size + (length (f last) - 1) = omega (arith, length-all) in e)
+      ap (λ n. n / size) (let e : length (concat (each_below (last + 1) f)) - 1 ≡ last * size + (length (f last) - 1) = omega (arith, length-all) in e)
       ∙ div-mul-add last size (length (f last) - 1) (omega arith)

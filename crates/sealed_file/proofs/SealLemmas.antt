@@ -24,18 +24,18 @@ header_written key prefix file bytes old now e done = subst (Appends old now) (e
 pub stop_behind_header : (key prefix file bytes : List ℕ) (old now : Option (List ℕ)) → bytes ≡ header prefix → Appends old now bytes
     → AppendsBeginning old now (sealed_file key prefix file)
 stop_behind_header key prefix file bytes old now e done =
-    (bytes, _, ap (λ (l : List ℕ). l ++ sealed_chunks key prefix file (last_of file + 1)) (sym e), done)
+    (bytes, _, ap (λ l. l ++ sealed_chunks key prefix file (last_of file + 1)) (sym e), done)
 
 pub stop_in_header : (key prefix file bytes : List ℕ) (old now : Option (List ℕ)) → bytes ≡ header prefix → AppendsBeginning old now bytes
     → AppendsBeginning old now (sealed_file key prefix file)
 stop_in_header key prefix file bytes old now e part =
     begins_more old old now [] bytes (sealed_chunks key prefix file (last_of file + 1)) _ (Appends-nil old) part
-    (ap (λ (l : List ℕ). l ++ sealed_chunks key prefix file (last_of file + 1)) (sym e))
+    (ap (λ l. l ++ sealed_chunks key prefix file (last_of file + 1)) (sym e))
 
 module _ (key prefix file : List ℕ) (n : ℕ) where
   before_more : sealed_before key prefix file (n + 1) ≡ sealed_before key prefix file n ++ chunk_at key prefix file n
   unfolding sealed_chunks
-  before_more = ap (λ (l : List ℕ). header prefix ++ l) (joined_more (chunk_at key prefix file) n)
+  before_more = ap (λ l. header prefix ++ l) (joined_more (chunk_at key prefix file) n)
       ∙ sym (append_assoc (header prefix) (sealed_chunks key prefix file n) (chunk_at key prefix file n))
 
   pub sealed_is : {flag : Bool} {chunk : List ℕ} → flag ≡ (n == last_of file) → chunk ≡ piece chunk_len file n
@@ -46,7 +46,7 @@ module _ (key prefix file : List ℕ) (n : ℕ) where
   pub seal_more : (old now now' : Option (List ℕ)) {sealed : List ℕ} → sealed ≡ chunk_at key prefix file n → Appends old now (sealed_before key prefix file n)
       → Appends now now' sealed → Appends old now' (sealed_before key prefix file (n + 1))
   seal_more old now now' e written more =
-      subst (Appends old now') (ap (λ (l : List ℕ). sealed_before key prefix file n ++ l) e ∙ sym before_more) (Appends-trans old now now' _ _ written more)
+      subst (Appends old now') (ap (λ l. sealed_before key prefix file n ++ l) e ∙ sym before_more) (Appends-trans old now now' _ _ written more)
 
   module _ (within : n ≤ last_of file) where
     pub parts : (later : List ℕ) × (sealed_file key prefix file ≡ sealed_before key prefix file n ++ (chunk_at key prefix file n ++ later))
@@ -54,7 +54,7 @@ module _ (key prefix file : List ℕ) (n : ℕ) where
     parts =
         let (later, e) = joined_parts (chunk_at key prefix file) n (last_of file + 1) (omega arith) in (
           later,
-          ap (λ (l : List ℕ). header prefix ++ l) e
+          ap (λ l. header prefix ++ l) e
               ∙ sym (append_assoc (header prefix) (sealed_chunks key prefix file n) (chunk_at key prefix file n ++ later)),
         )
 
@@ -63,8 +63,7 @@ module _ (key prefix file : List ℕ) (n : ℕ) where
     unfolding sealed_chunks
     seal_fits =
         let p = length-parts-le (chunk_at key prefix file) n (last_of file + 1) (omega arith) in
-        let c = length-chunk_at key prefix file n in
-        simp length-append (omega (arith, p, c))
+        simp length-append (omega (arith, p, length-chunk_at key prefix file n))
 
 -- before chunk n is sealed, which was read: the header and the chunks before it were written
 pub record Sealing (key prefix file : List ℕ) (n : ℕ) (chunk : List ℕ) (rest old now : Option (List ℕ)) : Type 0 where
@@ -81,7 +80,7 @@ seal_start key prefix file bytes chunk rest old now e done read =
 -- too many chunks
 pub seal_long : {key prefix file chunk : List ℕ} {n : ℕ} {rest old now : Option (List ℕ)} → Sealing key prefix file n chunk rest old now
     → 2 ^ 32 - 1 ≤ n → 2 ^ 32 - 1 ≤ last_of file
-seal_long s long = let within = s.in_range in omega (arith, within, long)
+seal_long s long = omega (arith, s.in_range, long)
 
 -- stopped before a chunk
 pub sealing_stop : {key prefix file chunk : List ℕ} {n : ℕ} {rest old now : Option (List ℕ)} → Sealing key prefix file n chunk rest old now
@@ -98,7 +97,7 @@ module _ {key prefix file chunk : List ℕ} {n : ℕ} {rest old now : Option (Li
   last_here last = eqb-true n (last_of file) (sym flag_right ∙ last)
 
   pub seal_few : flag ≡ true → n < 2 ^ 32 - 1 → last_of file < 2 ^ 32 - 1
-  seal_few last within = subst (λ (k : ℕ). k < 2 ^ 32 - 1) (last_here last) within
+  seal_few last within = subst (λ k. k < 2 ^ 32 - 1) (last_here last) within
 
   module _ {sealed : List ℕ} (is_sealed : sealed ≡ sealed_chunk key prefix n flag chunk) (now' : Option (List ℕ)) where
     sealed_here : sealed ≡ chunk_at key prefix file n
@@ -114,12 +113,12 @@ module _ {key prefix file chunk : List ℕ} {n : ℕ} {rest old now : Option (Li
 
     -- the last chunk was written
     pub seal_end : flag ≡ true → Appends now now' sealed → Appends old now' (sealed_file key prefix file)
-    seal_end last more = subst (λ (k : ℕ). Appends old now' (sealed_before key prefix file (k + 1))) (last_here last) (written_more more)
+    seal_end last more = subst (λ k. Appends old now' (sealed_before key prefix file (k + 1))) (last_here last) (written_more more)
 
     -- another chunk was written
     pub seal_next : {next' : List ℕ} → next' ≡ next → flag ≡ false → Appends now now' sealed → Sealing key prefix file (n + 1) next' rest' old now'
     seal_next same more written = record {
-      in_range = let h = eqb-false n (last_of file) (sym flag_right ∙ more) in let within = s.in_range in omega (arith, h, within);
+      in_range = omega (arith, eqb-false n (last_of file) (sym flag_right ∙ more), s.in_range);
       at = rw same (next_read chunk_len file n s.at next rest' read);
       written = written_more written;
     }

@@ -21,14 +21,14 @@ taken len (Some bytes) None got short took end = absurd took
 taken len (Some bytes) (Some rest) got short took end = elim (cases_lt (length got) len) [
   | inl less ↦
       let none : rest ≡ [] = end less in
-      let all : bytes ≡ got = took ∙ ap (λ (l : List ℕ). got ++ l) none ∙ append-nil got in
+      let all : bytes ≡ got = took ∙ ap (λ l. got ++ l) none ∙ append-nil got in
       let fits : length bytes ≤ len = omega (arith, ap length all) in
-      record { piece_is = sym all ∙ sym (take_all len bytes fits); left = ap (λ (l : List ℕ). Some l) (none ∙ sym (drop_all len bytes fits)) }
+      record { piece_is = sym all ∙ sym (take_all len bytes fits); left = ap (λ l. Some l) (none ∙ sym (drop_all len bytes fits)) }
   | inr full ↦
       let same : length got ≡ len = omega arith in
       record {
         piece_is = sym (take_at got rest len same) ∙ ap (take len) (sym took);
-        left = ap (λ (l : List ℕ). Some l) (sym (drop_at got rest len same) ∙ ap (drop len) (sym took));
+        left = ap (λ l. Some l) (sym (drop_at got rest len same) ∙ ap (drop len) (sym took));
       }
 ]
 
@@ -46,7 +46,7 @@ filled_same a b c xs ys f f' e front fits before kept = (omega arith, rw (e, fro
 module _ (size : ℕ) (bytes : List ℕ) (n : ℕ) {here : List ℕ} {rest : Option (List ℕ)} (at : TakesFront size (drop (size * n) bytes) here rest)
     (next : List ℕ) (rest' : Option (List ℕ)) (read : IfSome rest (λ left. TakesFront size left next rest')) where
   pub next_read : TakesFront size (drop (size * (n + 1)) bytes) next rest'
-  next_read = subst (λ (l : List ℕ). TakesFront size l next rest') (rest_behind size bytes n) (rw at.left at read)
+  next_read = subst (λ l. TakesFront size l next rest') (rest_behind size bytes n) (rw at.left at read)
 
   -- a piece is the last if nothing was read after it
   pub flag_is : {m : ℕ} → 0 < size → n ≤ last_piece size (length bytes) → m ≡ length next → m == 0 ≡ (n == last_piece size (length bytes))
@@ -64,7 +64,7 @@ pub begins_more : (old mid new : Option (List ℕ)) (done more later all : List 
 begins_more old mid new done more later all first (front, rest, e, second) all_is = (
   done ++ front,
   rest ++ later,
-  all_is ∙ ap (λ (l : List ℕ). done ++ (l ++ later)) e ∙ simp append_assoc,
+  all_is ∙ ap (λ l. done ++ (l ++ later)) e ∙ simp append_assoc,
   Appends-trans old mid new done front first second,
 )
 

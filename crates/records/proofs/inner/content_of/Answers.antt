@@ -12,5 +12,5 @@ returns-else-content_type-eq0-clause-found c =
       short,
       length inner - (len + 1),
       zeros_behind inner len short (λ k l h. c.loop-i.invariant.zeros k l (omega arith))
-          ∙ ap (λ (t : ℕ). take len inner ++ t ∷ replicate (length inner - (len + 1)) 0) (sym read),
+          ∙ ap (λ t. take len inner ++ t ∷ replicate (length inner - (len + 1)) 0) (sym read),
     )

@@ -5,4 +5,4 @@ use proofs.ChunkLemmas.{items}
 use proofs.chunk.header_of.Goals as goal
 
 pub returns : goal.returns
-returns c = ap (λ (l : List ℕ). magic_and_version ++ l) (sym (items 7 c.args.prefix.now c.told-prefix))
+returns c = ap (λ l. magic_and_version ++ l) (sym (items 7 c.args.prefix.now c.told-prefix))

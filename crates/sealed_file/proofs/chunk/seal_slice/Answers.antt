@@ -9,4 +9,4 @@ returns c =
     let nonce_is = c.nonce_of-nonce.ensures in
     let ciphertext = rw (key_is, nonce_is) at c.in-Ok.ensures.ciphertext in
     let tag = rw (key_is, nonce_is, c.from-aad.ensures, c.as_slice.ensures, c.header_of-header.ensures, ciphertext) at c.in-Ok.ensures.tag in
-    ap₂ (λ (xs ys : List ℕ). xs ++ ys) ciphertext tag
+    ap₂ (λ xs ys. xs ++ ys) ciphertext tag

@@ -10,18 +10,13 @@ use proofs.in_memory.append_file.Goals as goal
 pub returns-in_err-reserve-clause-refused : goal.returns-in_err-reserve-clause-refused
 returns-in_err-reserve-clause-refused c =
     let p = err_from_is_err_and c.from_residual-in_err-reserve.result c.from_residual-in_err-reserve.ensures.1 in
-    let full = c.in_err-reserve.ensures.full in
-    let n = c.opened_len.ensures c.args.key.now in
-    rw (p.1, p.2) (omega (arith, full, n))
+    rw (p.1, p.2) (omega (arith, c.in_err-reserve.ensures.full, c.opened_len.ensures c.args.key.now))
 
 pub loop-number-init : goal.loop-number-init
 loop-number-init c = record {
   at = open_start c.args.key.now _ c.args.sealed.now _ (Some c.args.out.now.items) (Some c.reserve.new.self.items) c.in_ok-reserve.ensures.items c.in-Some.ensures.cases.same c.in_ok-prefix.ensures.accepted c.in_ok-prefix.ensures.prefix;
   room =
-      let n = c.opened_len.ensures c.args.key.now in
-      let ok = c.in_ok-reserve.ensures.ok in
-      let same = c.in_ok-reserve.ensures.len in
-      omega (arith, n, ok, same);
+      omega (arith, c.opened_len.ensures c.args.key.now, c.in_ok-reserve.ensures.ok, c.in_ok-reserve.ensures.len);
 }
 
 pub append_opened-requires-clause-chunk : goal.append_opened-requires-clause-chunk
@@ -30,14 +25,8 @@ append_opened-requires-clause-chunk c = rw c.chunk_of-chunk.ensures (length-piec
 pub append_opened-requires-clause-room : goal.append_opened-requires-clause-room
 append_opened-requires-clause-room c =
     let s = c.loop-number.invariant.at in
-    let fits = open_fits c.args.key.now c.args.sealed.now c.loop-number.number s.in_range in
-    let appended = ap length s.written in
     let more = length-append c.args.out.now.items (opened_chunks c.args.key.now c.args.sealed.now c.loop-number.number) in
-    let same = ap length c.chunk_of-chunk.ensures in
-    let room = c.loop-number.invariant.room in
-    let old = c.args.out.now.ok.0 in
-    let now = c.loop-number.out.ok.0 in
-    omega (arith, fits, appended, more, same, room, old, now)
+    omega (arith, open_fits c.args.key.now c.args.sealed.now c.loop-number.number s.in_range, ap length s.written, more, ap length c.chunk_of-chunk.ensures, c.loop-number.invariant.room, c.args.out.now.ok.0, c.loop-number.out.ok.0)
 
 pub returns-in_err-append_opened-clause-front : goal.returns-in_err-append_opened-clause-front
 returns-in_err-append_opened-clause-front c =
@@ -46,22 +35,22 @@ returns-in_err-append_opened-clause-front c =
 pub returns-in_err-append_opened-clause-refused : goal.returns-in_err-append_opened-clause-refused
 returns-in_err-append_opened-clause-refused c =
     let p = err_from_is_err_and c.from_residual-in_err-append_opened.result c.from_residual-in_err-append_opened.ensures.1 in
-    rw (p.1, p.2) (chunk_fails _ _ _ _ _ (chunk_refused c.loop-number.invariant.at (ap (λ (k : ℕ). c.loop-number.number == k) c.last_chunk_of-last.ensures)
+    rw (p.1, p.2) (chunk_fails _ _ _ _ _ (chunk_refused c.loop-number.invariant.at (ap (λ k. c.loop-number.number == k) c.last_chunk_of-last.ensures)
     c.chunk_of-chunk.ensures _ (λ had. let opened : false ≡ true = c.in_err-append_opened.ensures.accepted.1 had in cc) c.in_err-append_opened.ensures.refused))
 
 pub returns-then-is_last-clause-accepted : goal.returns-then-is_last-clause-accepted
 returns-then-is_last-clause-accepted c = λ _.
-    open_accepted c.loop-number.invariant.at (ap (λ (k : ℕ). c.loop-number.number == k) c.last_chunk_of-last.ensures) c.chunk_of-chunk.ensures
+    open_accepted c.loop-number.invariant.at (ap (λ k. c.loop-number.number == k) c.last_chunk_of-last.ensures) c.chunk_of-chunk.ensures
     (c.in_ok-append_opened.ensures.accepted.0 refl) (eq-eqb _ _ c.if-is_last.true) c.loop-number-test.true
 
 pub returns-then-is_last-clause-opened : goal.returns-then-is_last-clause-opened
 returns-then-is_last-clause-opened c =
-    open_end c.loop-number.invariant.at (ap (λ (k : ℕ). c.loop-number.number == k) c.last_chunk_of-last.ensures) c.chunk_of-chunk.ensures
+    open_end c.loop-number.invariant.at (ap (λ k. c.loop-number.number == k) c.last_chunk_of-last.ensures) c.chunk_of-chunk.ensures
     (c.in_ok-append_opened.ensures.accepted.0 refl) refl (Some c.append_opened.new.out.items) (eq-eqb _ _ c.if-is_last.true) c.in_ok-append_opened.ensures.opened
 
 pub loop-number-preserved : goal.loop-number-preserved
 loop-number-preserved c = record {
-  at = open_next c.loop-number.invariant.at (ap (λ (k : ℕ). c.loop-number.number == k) c.last_chunk_of-last.ensures) c.chunk_of-chunk.ensures
+  at = open_next c.loop-number.invariant.at (ap (λ k. c.loop-number.number == k) c.last_chunk_of-last.ensures) c.chunk_of-chunk.ensures
       (c.in_ok-append_opened.ensures.accepted.0 refl) refl _ (ne_eqb _ _ c.if-is_last.false) c.in_ok-append_opened.ensures.opened;
-  room = let room = c.loop-number.invariant.room in let kept = c.in_ok-append_opened.ensures.capacity in omega (arith, room, kept);
+  room = omega (arith, c.loop-number.invariant.room, c.in_ok-append_opened.ensures.capacity);
 }

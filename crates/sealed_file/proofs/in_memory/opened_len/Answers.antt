@@ -5,7 +5,4 @@ use proofs.in_memory.opened_len.Goals as goal
 
 pub returns : goal.returns
 returns c = λ key.
-    let e = length-opened_file key c.args.sealed.now in
-    let d = length-drop 16 c.args.sealed.now in
-    let last = c.last_chunk_of-last.ensures in
-    omega (arith, e, d, last)
+    omega (arith, length-opened_file key c.args.sealed.now, length-drop 16 c.args.sealed.now, c.last_chunk_of-last.ensures)

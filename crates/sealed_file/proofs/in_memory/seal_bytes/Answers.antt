@@ -8,30 +8,19 @@ use proofs.in_memory.seal_bytes.Goals as goal
 
 pub returns-in_err-reserve-clause-accepted : goal.returns-in_err-reserve-clause-accepted
 returns-in_err-reserve-clause-accepted c = λ room.
-    let full = c.in_err-reserve.ensures.full in
-    let last = c.last_piece_of-last.ensures in
-    let e = length-sealed_file c.args.key.now c.args.prefix c.args.file.now (search rules) in
-    absurd (omega (arith, room, full, last, e))
+    absurd (omega (arith, room, c.in_err-reserve.ensures.full, c.last_piece_of-last.ensures, length-sealed_file c.args.key.now c.args.prefix c.args.file.now (search rules)))
 
 pub returns-in_err-reserve-clause-refused : goal.returns-in_err-reserve-clause-refused
 returns-in_err-reserve-clause-refused c =
     let p = err_from_is_err_and c.from_residual.result c.from_residual.ensures.1 in
-    let full = c.in_err-reserve.ensures.full in
-    let last = c.last_piece_of-last.ensures in
-    let e = length-sealed_file c.args.key.now c.args.prefix c.args.file.now (search rules) in
-    rw (p.1, p.2) (omega (arith, full, last, e))
+    rw (p.1, p.2) (omega (arith, c.in_err-reserve.ensures.full, c.last_piece_of-last.ensures, length-sealed_file c.args.key.now c.args.prefix c.args.file.now (search rules)))
 
 pub loop-number-init : goal.loop-number-init
 loop-number-init c = record {
   appended = header_written c.args.key.now _ c.args.file.now _ (Some c.args.out.now.items) (Some c.append.new.out.items) (c.as_slice.ensures ∙ c.header_of-header.ensures)
-      (c.append.ensures.appended ∙ ap (λ (l : List ℕ). l ++ c.as_slice.result.now) c.in_ok-reserve.ensures.items);
+      (c.append.ensures.appended ∙ ap (λ l. l ++ c.as_slice.result.now) c.in_ok-reserve.ensures.items);
   room =
-      let e = length-sealed_file c.args.key.now c.args.prefix c.args.file.now (search rules) in
-      let last = c.last_piece_of-last.ensures in
-      let ok = c.in_ok-reserve.ensures.ok in
-      let len = c.in_ok-reserve.ensures.len in
-      let kept = c.append.ensures.capacity in
-      omega (arith, e, last, ok, len, kept);
+      omega (arith, length-sealed_file c.args.key.now c.args.prefix c.args.file.now (search rules), c.last_piece_of-last.ensures, c.in_ok-reserve.ensures.ok, c.in_ok-reserve.ensures.len, c.append.ensures.capacity);
 }
 
 pub append_sealed-requires-clause-chunk : goal.append_sealed-requires-clause-chunk
@@ -39,22 +28,15 @@ append_sealed-requires-clause-chunk c = rw c.piece_of-chunk.ensures (length-piec
 
 pub append_sealed-requires-clause-room : goal.append_sealed-requires-clause-room
 append_sealed-requires-clause-room c =
-    let last = c.last_piece_of-last.ensures in
-    let below = c.loop-number-test.true in
-    let fits = seal_fits c.args.key.now c.args.prefix c.args.file.now c.loop-number.number (omega (arith, last, below)) in
-    let appended = ap length c.loop-number.invariant.appended in
+    let fits = seal_fits c.args.key.now c.args.prefix c.args.file.now c.loop-number.number (omega (arith, c.last_piece_of-last.ensures, c.loop-number-test.true)) in
     let more = length-append c.args.out.now.items (sealed_before c.args.key.now c.args.prefix c.args.file.now c.loop-number.number) in
-    let same = ap length c.piece_of-chunk.ensures in
-    let room = c.loop-number.invariant.room in
-    let old = c.args.out.now.ok.0 in
-    let now = c.loop-number.out.ok.0 in
-    omega (arith, fits, appended, more, same, room, old, now)
+    omega (arith, fits, ap length c.loop-number.invariant.appended, more, ap length c.piece_of-chunk.ensures, c.loop-number.invariant.room, c.args.out.now.ok.0, c.loop-number.out.ok.0)
 
 pub loop-number-preserved : goal.loop-number-preserved
 loop-number-preserved c = record {
   appended = seal_more c.args.key.now c.args.prefix c.args.file.now c.loop-number.number
       (Some c.args.out.now.items) (Some c.loop-number.out.items) (Some c.append_sealed.new.out.items)
-      (sealed_is _ _ _ _ (ap (λ (k : ℕ). c.loop-number.number == k) c.last_piece_of-last.ensures) c.piece_of-chunk.ensures)
+      (sealed_is _ _ _ _ (ap (λ k. c.loop-number.number == k) c.last_piece_of-last.ensures) c.piece_of-chunk.ensures)
       c.loop-number.invariant.appended c.append_sealed.ensures.sealed;
-  room = let room = c.loop-number.invariant.room in let kept = c.append_sealed.ensures.capacity in omega (arith, room, kept);
+  room = omega (arith, c.loop-number.invariant.room, c.append_sealed.ensures.capacity);
 }

@@ -64,10 +64,9 @@ returns-then-is_last-clause-opened g c = IfSome_then _ c.loop-number.invariant.1
 pub loop-number-preserved : goal.loop-number-preserved
 loop-number-preserved g c =
     let next = c.read_piece-in-loop-number.new.piece in
-    let size = c.in_ok-read_piece-3.ensures.size in
     let swapped : vec_len c.swap.new.x ≡ vec_len next = cc in
     let same : c.swap.new.x.items ≡ next.items = cc in (
-      omega (arith, size, swapped),
+      omega (arith, c.in_ok-read_piece-3.ensures.size, swapped),
       IfSome_then _ c.loop-number.invariant.1 (λ file s.
           read_next s _ _ c.in_ok-read_piece-3.ensures.bytes c.is_empty-is_last.ensures next.ok.0
           (c.in_ok-open_chunk.ensures.accepted.0 refl) (c.deref-in-loop-number.ensures.value ∙ c.in_ok-open_chunk.ensures.opened) _

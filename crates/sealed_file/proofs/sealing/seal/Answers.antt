@@ -46,10 +46,9 @@ returns-then-is_last-clause-sealed g c = IfSome_then _ c.loop-number.invariant.1
 pub loop-number-preserved : goal.loop-number-preserved
 loop-number-preserved g c =
     let next = c.read_piece-in-loop-number.new.piece in
-    let size = c.in_ok-read_piece-2.ensures.size in
     let swapped : vec_len c.swap.new.x ≡ vec_len next = cc in
     let same : c.swap.new.x.items ≡ next.items = cc in (
-      omega (arith, size, swapped),
+      omega (arith, c.in_ok-read_piece-2.ensures.size, swapped),
       IfSome_then _ c.loop-number.invariant.1 (λ file s.
           seal_next s _ _ c.in_ok-read_piece-2.ensures.bytes c.is_empty-is_last.ensures next.ok.0
           (c.deref.ensures.value ∙ c.in_ok-seal_chunk.ensures) _ same c.if-is_last.false c.in_ok-write_bytes-2.ensures.ok),

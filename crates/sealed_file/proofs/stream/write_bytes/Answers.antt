@@ -14,5 +14,5 @@ loop-preserved g c =
           let rest : c.match-write.rest.now ≡ take (length c.loop.rest.now - n) (drop n c.loop.rest.now) = ap (λ r. r.now) w.rest-is in
           (done ++ take n c.loop.rest.now, moves_front _ done _ _ n split rest, Appends-trans _ _ _ _ _ appended w.in-Ok.ensures.bytes)
       | in-Err+else-ne w ↦
-          (done, split ∙ ap (λ (l : List ℕ). done ++ l) (sym (ap (λ r. r.now) w.rest-is)), Appends-kept _ _ _ _ appended w.in-Err.ensures.bytes)
+          (done, split ∙ ap (λ l. done ++ l) (sym (ap (λ r. r.now) w.rest-is)), Appends-kept _ _ _ _ appended w.in-Err.ensures.bytes)
     ]
