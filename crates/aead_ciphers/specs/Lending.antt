@@ -1,5 +1,5 @@
--- What a call lends that opens a buffer: the plaintext at its front.
-use Rattle.std.specs.Prelude.{◌≡◌, ℕ, ◌≤◌, List, ◌++◌, length, drop, Result, Ok, Err}
+-- What a call lends that opens a buffer: the plaintext, at its front or after a header.
+use Rattle.std.specs.Prelude.{◌≡◌, ℕ, ◌+◌, ◌≤◌, List, ◌++◌, length, take, drop, Result, Ok, Err}
 use Rattle.std.specs.Borrow.{LendsIfOk, MutBor, Fml, Array, u8}
 
 -- the number that an answer has, and 0 where it is a refusal
@@ -7,17 +7,24 @@ abbrev pub count_of : {E : Type 0} → Result ℕ E → ℕ
 count_of (Ok n) = n
 count_of (Err e) = 0
 
--- Once the loan ends, the buffer s is what was left behind the result, then its own bytes from n on. After a refusal
--- it is as it was.
+-- Once the loan ends, the buffer s is its own first h bytes, what was left behind the result, then its own bytes from
+-- h + n on. After a refusal it is as it was.
+abbrev pub LendsAfter : {E : Type 0} → ℕ → MutBor (List ℕ) → Result (MutBor (List ℕ)) E → ℕ → Fml
+LendsAfter h s r n = LendsIfOk (Array u8 0) (Array u8 0) s r (λ w. take h s.now ++ (w ++ drop (h + n) s.now)) s.now
+
+-- the buffer at the return: h bytes, what is lent, then the later bytes, and after a refusal the buffer as it was
+abbrev pub lent_after : {E : Type 0} → ℕ → Result (MutBor (List ℕ)) E → List ℕ → List ℕ
+lent_after h (Ok part) old = take h old ++ (part.now ++ drop (h + length part.now) old)
+lent_after h (Err e) old = old
+
+-- the same where the front is lent
 abbrev pub LendsFront : {E : Type 0} → MutBor (List ℕ) → Result (MutBor (List ℕ)) E → ℕ → Fml
-LendsFront s r n = LendsIfOk (Array u8 0) (Array u8 0) s r (λ w. w ++ drop n s.now) s.now
+LendsFront = LendsAfter 0
 
--- the buffer at the return: what is lent, then the later bytes, and after a refusal the buffer as it was
 abbrev pub lent_buffer : {E : Type 0} → Result (MutBor (List ℕ)) E → List ℕ → List ℕ
-lent_buffer (Ok front) old = front.now ++ drop (length front.now) old
-lent_buffer (Err e) old = old
+lent_buffer = lent_after 0
 
--- the answer is the length of a plaintext that stands at the front, and the later bytes are kept; after a refusal all are
-abbrev pub Fronts : {E : Type 0} → ℕ → List ℕ → List ℕ → Result ℕ E → Type 0
-Fronts m old new (Ok n) = (n ≡ m) × (n ≤ length new) × (drop n new ≡ drop m old)
-Fronts m old new (Err e) = new ≡ old
+-- the answer is the length of a plaintext that stands after h bytes, and all others are kept; after a refusal all are
+abbrev pub Stands : {E : Type 0} → ℕ → ℕ → List ℕ → List ℕ → Result ℕ E → Type 0
+Stands h m old new (Ok n) = (n ≡ m) × (h + n ≤ length new) × (take h new ≡ take h old) × (drop (h + n) new ≡ drop (h + m) old)
+Stands h m old new (Err e) = new ≡ old

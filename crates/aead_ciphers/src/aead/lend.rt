@@ -1,26 +1,28 @@
-//! Lending the front of a buffer.
+//! Lending a part of a buffer.
 
-ghost use Rattle.std.specs.Prelude.{◌≡◌, ◌≤◌, ◌++◌, ◌↔◌, ℕ, List, length, drop, take, is_ok, IsOk, IfOk, IsSome, IfSome};
+ghost use Rattle.std.specs.Prelude.{◌≡◌, ◌+◌, ◌≤◌, ◌++◌, ◌↔◌, ℕ, List, length, drop, take, is_ok, IsOk, IfOk, IsSome, IfSome};
 ghost use Rattle.std.specs.Borrow.{sem, Array, LendsBothIf, LendsIfOk, u8 as byte};
-ghost use Rattle.aead_ciphers.specs.Lending.{count_of, lent_buffer, Fronts};
+ghost use Rattle.aead_ciphers.specs.Lending.{count_of, lent_after, Stands};
 
 use aead_ciphers_base::error::Unspecified;
 
-/// The plaintext at the front of the buffer for writing, where `opened` isn't a refusal. `loan` is what the
+/// Returns the plaintext for writing, which begins at `start`, where `opened` isn't a refusal. `loan` is what the
 /// buffer held before the call that opened it, and the plaintext's length.
 pub(crate) fn lend_plaintext(
     in_out: &mut [u8],
+    start: usize,
     opened: Result<usize, Unspecified>,
 ) -> Result<&mut [u8], Unspecified>
     ghost loan: { List ℕ × ℕ }
-    requires { Fronts loan.1 loan.0 in_out.old opened }
-    ensures* writes_back { sem 𝓛 (LendsIfOk (Array byte 0) (Array byte 0) in_out.entry result (λ w. w ++ drop loan.1 loan.0) loan.0) }
+    requires { Stands start loan.1 loan.0 in_out.old opened }
+    ensures* writes_back { sem 𝓛 (LendsIfOk (Array byte 0) (Array byte 0) in_out.entry result
+        (λ w. take start loan.0 ++ (w ++ drop (start + loan.1) loan.0)) loan.0) }
     ensures accepted { is_ok opened ≡ is_ok result }
-    ensures buffer { in_out.old ≡ lent_buffer result loan.0 }
-    ensures length { IfOk result (λ front. length front.now ≡ loan.1) }
+    ensures buffer { in_out.old ≡ lent_after start result loan.0 }
+    ensures length { IfOk result (λ part. length part.now ≡ loan.1) }
 {
     match opened {
-        Ok(count) => Ok(&mut in_out[..count]),
+        Ok(count) => Ok(&mut in_out[start..start + count]),
         Err(error) => Err(error),
     }
 }

@@ -5,8 +5,8 @@ ghost use Rattle.std.specs.Borrow.{sem};
 ghost use Rattle.aead_ciphers_base.specs.Values.{aad_bytes};
 ghost use Rattle.aead_ciphers_base.specs.Aes.{aes};
 ghost use Rattle.aead_ciphers.specs.Gcm.{Fits, gcm_encrypted, gcm_decrypted, gcm_tag, gcm_sealed, Opened, OpenedAttached};
-ghost use Rattle.aead_ciphers.specs.Lending.{LendsFront, lent_buffer};
-ghost use Rattle.aead_ciphers.specs.Packet.{PacketFits, sealed_packet, OpenedPacket};
+ghost use Rattle.aead_ciphers.specs.Lending.{LendsAfter, LendsFront, lent_after, lent_buffer};
+ghost use Rattle.aead_ciphers.specs.Packet.{PacketFits, packet_message, sealed_packet, OpenedPacket};
 
 use crate::aead::algorithm::Algorithm;
 use crate::aead::in_out::InOut;
@@ -195,7 +195,7 @@ impl LessSafeKey {
             ≡ gcm_decrypted (aes self.now.bytes) nonce (drop ciphertext.start in_out.old)) }
     {
         let opened = self.open_in_place_separate_tag_to_front(nonce, aad, tag, in_out, ciphertext);
-        lend_plaintext(in_out, opened)
+        lend_plaintext(in_out, 0, opened)
     }
 
     /// `open_in_place_separate_tag` that lends nothing: it leaves the plaintext at the front of the buffer, and answers
@@ -234,7 +234,7 @@ impl LessSafeKey {
             (drop ciphertext_and_tag.start (take (length in_out.old - 16) in_out.old))) }
     {
         let opened = self.open_within_to_front(nonce, aad, in_out, ciphertext_and_tag);
-        lend_plaintext(in_out, opened)
+        lend_plaintext(in_out, 0, opened)
     }
 
     /// `open_within` that lends nothing: it leaves the plaintext at the front of the buffer, and returns its length.
@@ -269,7 +269,7 @@ impl LessSafeKey {
             ≡ gcm_decrypted (aes self.now.bytes) nonce (take (length in_out.old - 16) in_out.old)) }
     {
         let opened = self.open_in_place_to_front(nonce, aad, in_out);
-        lend_plaintext(in_out, opened)
+        lend_plaintext(in_out, 0, opened)
     }
 
     /// `open_in_place` that lends nothing: it leaves the plaintext at the front of the buffer, and returns its length.
@@ -308,6 +308,25 @@ impl LessSafeKey {
             return Err(Unspecified);
         };
         self.open_in_place_to_front(nonce, Aad::from(&*header), body)
+    }
+
+    /// Opens a packet in place as `open_packet_in_place_after_header` does, and returns the plaintext for writing, which
+    /// stands after the header. This call is this library's own.
+    pub fn open_packet_in_place<'a>(
+        &self,
+        nonce: Nonce,
+        packet: &'a mut [u8],
+        header_len: usize,
+    ) -> Result<&'a mut [u8], Unspecified>
+        ensures* writes_back { sem 𝓛 (LendsAfter header_len packet.entry result
+            (length packet.old - 16 - header_len)) }
+        ensures opened { OpenedPacket self.now.bytes nonce header_len packet.old
+            (is_ok result) (lent_after header_len result packet.old) }
+        ensures plaintext { IfOk result (λ plaintext. plaintext.now
+            ≡ gcm_decrypted (aes self.now.bytes) nonce (packet_message header_len packet.old)) }
+    {
+        let opened = self.open_packet_in_place_after_header(nonce, packet, header_len);
+        lend_plaintext(packet, header_len, opened)
     }
 }
 

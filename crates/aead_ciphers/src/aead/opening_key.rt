@@ -5,7 +5,7 @@ ghost use Rattle.aead_ciphers_base.specs.Values.{aad_bytes};
 ghost use Rattle.aead_ciphers_base.specs.Aes.{aes};
 ghost use Rattle.aead_ciphers.specs.Gcm.{gcm_decrypted, OpenedAttached};
 ghost use Rattle.aead_ciphers.specs.BoundState.{Keeps};
-ghost use Rattle.aead_ciphers.specs.Lending.{LendsFront, lent_buffer};
+ghost use Rattle.aead_ciphers.specs.Lending.{LendsAfter, LendsFront, lent_after, lent_buffer};
 ghost use Rattle.aead_ciphers.specs.NonceSequence.{UnderNext};
 ghost use Rattle.aead_ciphers.specs.Packet.{packet_message, OpenedPacket};
 ghost use Rattle.aead_ciphers.specs.Steps.{OpenStep};
@@ -171,7 +171,7 @@ impl<N: NonceSequence> OpeningKey<N> {
             (N.refuses self.old.sequence self.new.sequence ⊎ N.gives self.old.sequence self.new.sequence) }
     {
         let opened = self.open_within_to_front(aad, in_out, ciphertext_and_tag);
-        lend_plaintext(in_out, opened)
+        lend_plaintext(in_out, 0, opened)
     }
 
     /// `open_within` from the first byte on.
@@ -195,6 +195,33 @@ impl<N: NonceSequence> OpeningKey<N> {
             (N.refuses self.old.sequence self.new.sequence ⊎ N.gives self.old.sequence self.new.sequence) }
     {
         let opened = self.open_in_place_to_front(aad, in_out);
-        lend_plaintext(in_out, opened)
+        lend_plaintext(in_out, 0, opened)
+    }
+
+    /// Opens a packet in place as `open_packet_in_place_after_header` does, and lends the plaintext, which stands after the
+    /// header. This call is this library's own.
+    pub fn open_packet_in_place<'a>(
+        &mut self,
+        packet: &'a mut [u8],
+        header_len: usize,
+    ) -> Result<&'a mut [u8], Unspecified>
+        ensures* writes_back { sem 𝓛 (LendsAfter header_len packet.entry result
+            (length packet.old - 16 - header_len)) }
+        ensures header { take header_len (lent_after header_len result packet.old) ≡ take header_len packet.old }
+        ensures kept { Keeps N.origin self.old self.new }
+        ensures step { OpenStep N.spent N.is_closed self.old self.new (take header_len packet.old) 0
+            (drop header_len packet.old) (drop header_len (lent_after header_len result packet.old)) (is_ok result) }
+        ensures count { IfOk result (λ plaintext. length plaintext.now ≡ length packet.old - 16 - header_len) }
+        ensures opened { ¬ N.refuses self.old.sequence self.new.sequence → UnderNext (N.is_next self.old.sequence) (λ nonce.
+            OpenedPacket self.old.key.bytes nonce header_len packet.old
+            (is_ok result) (lent_after header_len result packet.old)) }
+        ensures plaintext { IfOk result (λ plaintext. UnderNext (N.is_next self.old.sequence) (λ nonce. plaintext.now
+            ≡ gcm_decrypted (aes self.old.key.bytes) nonce (packet_message header_len packet.old))) }
+        ensures gives { OnOk result (N.gives self.old.sequence self.new.sequence) }
+        ensures stands { OnErr result
+            (N.refuses self.old.sequence self.new.sequence ⊎ N.gives self.old.sequence self.new.sequence) }
+    {
+        let opened = self.open_packet_in_place_after_header(packet, header_len);
+        lend_plaintext(packet, header_len, opened)
     }
 }
