@@ -1,12 +1,13 @@
--- What the walks of the opening calls share. Such a call lends its buffer to a core, and then its front by `lend_plaintext`.
+-- What the walks of the opening calls share. Such a call lends its buffer to a core, and then the plaintext by
+-- `lend_plaintext`.
 -- The context has an entry for each token and for what each parameter owns, and is named in this order. Assumes `Logic`.
 --     relends, regains      the buffer is lent to the core for a new lifetime, and is back as `lend_plaintext` wants it
---     lends                 `lend_plaintext` gave the front of the buffer
+--     lends                 `lend_plaintext` gave the plaintext
 --     says_next             what an opening key's call says beside what it lends
-use Rattle.std.specs.Prelude.{◌≡◌, ℕ, suc, List, take, Bool, Result, is_ok, IfOk, OnOk, OnErr}
+use Rattle.std.specs.Prelude.{◌≡◌, ◌≤◌, ◌<◌, ◌^◌, ℕ, suc, List, take, drop as drop_list, Bool, true, Result, is_ok, IfOk, OnOk, OnErr}
 use seplogic.Ra.Ura.{Ura}
-use mir.Syntax.{named, Body, Callee, Opd, Place, seq, call}
-use mir.Val.{Val}
+use mir.Syntax.{named, w64, Body, Callee, Opd, Place, seq, call}
+use mir.Val.{Val, vint, WT}
 use base.Logic.{sep, id⊢}
 use base.Fml.{Lft, GName, Share, flft}
 use types.Logic.{Logic}
@@ -18,24 +19,25 @@ use contract.Monad.{fact}
 use contract.Running.{Running, tables}
 use prog.Model.{Model}
 use prog.Wp.{Env, Calls, Loops}
-use denote.Builtin.{u8}
+use denote.Builtin.{u8, usize}
 use denote.Exit.{yes, left}
 use denote.Laws.{Is, Typed, shows}
 use denote.Ref.{MutBor}
 use denote.Signature.{Slot}
 use denote.Slice.{MutSlice, Room, slice_val, mut_slice_Lawful}
-use denote.Steps.{peeks}
+use denote.Plain.{uint_Makes}
+use denote.Steps.{owned, peeks}
 use denote.Triple.Call.{calls_at}
 use denote.Triple.Spec.{triple_of}
 use denote.Triple.Statement.{Contract, Triple}
 use borrow.Rule.Slice.Lend.{sl_relend, sl_relent_backˡ, kept_f}
-use Rattle.aead_ciphers.specs.Lending.{LendsFront, Fronts, lent_buffer}
+use Rattle.aead_ciphers.specs.Lending.{LendsAfter, Stands, lent_after}
 use Rattle.aead_ciphers.proofs.Lending.{Answer, answer_Lawful, Out, out_Lawful, Own, as_own, as_slice}
 use Rattle.aead_ciphers_base.proofs.Walks.{answers, readies, takes}
 use Rattle.aead_ciphers.proofs.NextNonce.{lent_next, on_ok, on_err}
 use Rattle.aead_ciphers.specs.BoundState.{BoundState}
 use Rattle.aead_ciphers.specs.NonceSequence.{UnderNext}
-use Rattle.aead_ciphers.proofs.LentPlaintext.{Lent}
+use Rattle.aead_ciphers.proofs.LentPlaintext.{LentAfter, after_header}
 use Rattle.aead_ciphers.specs.Steps.{OpenStep}
 pub use mathlib.Core.Path.{refl}
 pub use Prim.Native.Nat.{◌-◌}
@@ -43,7 +45,7 @@ pub use mathlib.Core.List.{[], ◌∷◌}
 pub use mir.Syntax.{a_type, dcons, dnil}
 pub use base.Fraction.{full_share}
 pub use types.Kit.{◌$◌, !, move, keep}
-pub use types.Run.{stop, addr, of_opd, returns}
+pub use types.Run.{stop, addr, of_opd, returns, and_then, lit}
 pub use types.ByLocal.{alloc_all, pass_all, free_all, look_at, get, sets, lands_as, through}
 pub use denote.Signature.{plain, named_lft, types_at}
 pub use denote.Slice.{mut_slice_vals}
@@ -54,12 +56,12 @@ pub use mir.MapTy.{inst_fn}
 pub use denote.Param.{param, bounded}
 pub use Rattle.aead_ciphers_base.specs.Aes.{aes}
 pub use Rattle.aead_ciphers.proofs.Lending.{nonce_word, aad_word, tag_word, range_word}
-pub use Rattle.aead_ciphers_base.proofs.WalkLocals.{gets, reborrows}
+pub use Rattle.aead_ciphers_base.proofs.WalkLocals.{gets, alone, reborrows}
 pub use Rattle.aead_ciphers_base.proofs.Walks.{dropped, goes, learns, tell, tells, says, Words, words_vals, words_typed, slice_typed, table_of, walked, consults, ends}
-pub use Rattle.aead_ciphers.proofs.LentPlaintext.{as_lent, lent_plain, length-before_tag, opened_fronts, step_fronts}
+pub use Rattle.aead_ciphers.proofs.LentPlaintext.{as_lent, lent_plain, length-before_tag, opened_fronts, step_fronts, after_header, stands_after}
 pub use Rattle.aead_ciphers_base.specs.Values.{aad_bytes}
 pub use Rattle.aead_ciphers.specs.Gcm.{Opened, OpenedAttached}
-pub use Rattle.std.proofs.Common.{arith, length-drop}
+pub use Rattle.std.proofs.Common.{arith, lit<, length-drop}
 use Rattle.aead_ciphers.specs.contracts.aead.lend.lend_plaintext as L
 pub use Rattle.aead_ciphers.proofs.aead.lend.lend_plaintext.Met.{met as front_met}
 
@@ -81,89 +83,113 @@ others (s ∷ ss) = ss
 pub at_words {ℓ} : {A : Type 0} {B : A → Type ℓ} (words : A) → B words → (ws : A) × B ws
 at_words words walk = (words, walk)
 
+-- a buffer: its lifetime, the share of that, and the slice
+pub record Buffer : Type 0 where
+  pub lft : Lft
+  pub share : Share
+  pub arg : MutBor (List ℕ)
+  pub room : Room u8 (length arg.now)
+
+abbrev pub buffer : (κ : Lft) → Share → (arg : MutBor (List ℕ)) → Room u8 (length arg.now) → Buffer
+buffer κ q arg rm = record { lft = κ; share = q; arg = arg; room = rm }
+
+abbrev pub renamed : Buffer → GName → MutBor (List ℕ)
+renamed B δ = record B.arg { ghost_name = δ }
+
+abbrev pub word : Buffer → List Val
+word B = slice_val B.arg.ref_ptr (length B.arg.now) ∷ []
+
+abbrev pub typed : (B : Buffer) → Unit {0} × WT (slice_val B.arg.ref_ptr (length B.arg.now))
+typed B = slice_typed B.arg.ref_ptr (length B.arg.now) B.room.0
+
 module _ {M : Type 1} {𝓤 : Ura M} (𝓛 : Logic 𝓤) where
   -- the machine's table of calls
   abbrev pub calls_of : (𝓜 : Model 𝓤 𝓛.H) → Running 𝓤 𝓛.H 𝓜 → Calls 𝓤 𝓛.H
   calls_of 𝓜 𝓡 = (tables 𝓤 𝓛.H 𝓜 𝓡 𝓡.env).C
 
   -- what an opening key's call says beside what it lends, from what its core said
-  pub says_next : {K : Type 0} {Γ : List (Item 𝓤)} {G : Goal 𝓤 𝓛.H} → K → (A B : Type 0) (plain : List ℕ → List ℕ) {φ R N E : Type 0}
-      {spent : N → List (List ℕ)} {is_closed : N → Bool} {was after : BoundState N} {aad : List ℕ} {start m : ℕ} {old new : List ℕ} {u : Result ℕ E}
-      {r : Result (MutBor (List ℕ)) E} {next : List ℕ → Type 0}
-      → Lent m old new u r → φ → OpenStep spent is_closed was after aad start old new (is_ok u)
-      → (¬ R → UnderNext next (λ nonce. OpenedAttached (aes was.key.bytes) nonce aad start old (is_ok u) new))
-      → OnOk u (UnderNext next (λ nonce. take m new ≡ plain nonce)) → OnOk u A → OnErr u B
-      → (let buffer = lent_buffer r old in Step K 𝓛 (raw (sep 𝓤 (fact 𝓤 φ)
-      (sep 𝓤 (fact 𝓤 (OpenStep spent is_closed was after aad start old buffer (is_ok r)))
+  pub says_next : {K : Type 0} {Γ : List (Item 𝓤)} {G : Goal 𝓤 𝓛.H} → K → (A B : Type 0) (plain : List ℕ → List ℕ)
+      (Opens : List ℕ → Bool → List ℕ → Type 0) {φ R N E : Type 0} {spent : N → List (List ℕ)} {is_closed : N → Bool}
+      {was after : BoundState N} {aad : List ℕ} {start h m : ℕ} {old new : List ℕ} {u : Result ℕ E}
+      {r : Result (MutBor (List ℕ)) E} {next : List ℕ → Type 0} → LentAfter h m old new u r → (is_ok u ≡ true → h ≤ length old)
+      → φ → OpenStep spent is_closed was after aad start (drop_list h old) (drop_list h new) (is_ok u)
+      → (¬ R → UnderNext next (λ nonce. Opens nonce (is_ok u) new)) → OnOk u (UnderNext next (λ nonce. take m (drop_list h new) ≡ plain nonce))
+      → OnOk u A → OnErr u B → (let buffer = lent_after h r old in Step K 𝓛 (raw (sep 𝓤 (fact 𝓤 φ)
+      (sep 𝓤 (fact 𝓤 (OpenStep spent is_closed was after aad start (drop_list h old) (drop_list h buffer) (is_ok r)))
       (sep 𝓤 (fact 𝓤 (IfOk r (λ lent. length lent.now ≡ m)))
-      (sep 𝓤 (fact 𝓤 (¬ R → UnderNext next (λ nonce. OpenedAttached (aes was.key.bytes) nonce aad start old (is_ok r) buffer)))
+      (sep 𝓤 (fact 𝓤 (¬ R → UnderNext next (λ nonce. Opens nonce (is_ok r) buffer)))
       (sep 𝓤 (fact 𝓤 (IfOk r (λ lent. UnderNext next (λ nonce. lent.now ≡ plain nonce))))
       (sep 𝓤 (fact 𝓤 (OnOk r A)) (fact 𝓤 (OnErr r B)))))))) ∷ Γ) G Γ G)
-  says_next t A B plain {R = R} {spent = spent} {is_closed} {was} {after} {aad} {start} {old = old} {u = u} {r} {next}
-      end stays step-done opened plaintext gives stands = step (λ k.
-      tell t (on_err B u r end.accepts stands) $ tells t (on_ok A u r end.accepts gives) $ tells t (lent_next next plain u r end plaintext) $
-      tells t (as_lent (λ accepts buffer. ¬ R → UnderNext next (λ nonce. OpenedAttached (aes was.key.bytes) nonce aad start old accepts buffer)) end opened) $
-      tells t end.count $ tells t (as_lent (λ accepts buffer. OpenStep spent is_closed was after aad start old buffer accepts) end step-done) $
+  says_next t A B plain Opens {R = R} {spent = spent} {is_closed} {was} {after} {aad} {start} {h} {old = old} {u = u} {r} {next}
+      end fits stays step-done opened plaintext gives stands = step (λ k.
+      tell t (on_err B u r end.accepts stands) $ tells t (on_ok A u r end.accepts gives) $
+      tells t (lent_next next plain u r (after_header u r fits end) plaintext) $
+      tells t (as_lent (λ accepts buffer. ¬ R → UnderNext next (λ nonce. Opens nonce accepts buffer)) end opened) $ tells t end.count $
+      tells t (as_lent (λ accepts buffer. OpenStep spent is_closed was after aad start (drop_list h old) (drop_list h buffer) accepts) end step-done) $
       tells t stays $ k)
 
   -- ---- the buffer
-  module _ (κ : Lft) (q : Share) (arg : MutBor (List ℕ)) (rm : Room u8 (length arg.now)) where
+  module _ (B : Buffer) where
     abbrev pub at_loan : ℕ → GName → Item 𝓤
-    at_loan α δ = ‵ ((MutSlice (named 2) (α ∷ []) u8).own_val (record arg { ghost_name = δ }) (slice_val arg.ref_ptr (length arg.now) ∷ []))
+    at_loan α δ = ‵ ((MutSlice (named 2) (α ∷ []) u8).own_val (renamed B δ) (word B))
 
     abbrev pub kept : ℕ → GName → Item 𝓤
-    kept α δ = kept_f 𝓛 u8 κ q (α ∷ []) arg.ghost_name δ arg.now arg.ref_ptr.0 arg.ref_ptr.1
+    kept α δ = kept_f 𝓛 u8 B.lft B.share (α ∷ []) B.arg.ghost_name δ B.arg.now B.arg.ref_ptr.0 B.arg.ref_ptr.1
 
     -- the buffer is lent for a new lifetime α, under a new name δ
-    pub relends : {K : Type 0} {Γ : List (Item 𝓤)} {G : Goal 𝓤 𝓛.H} → K → Soaks G → (vs : List Val)
+    pub relends : {K : Type 0} {Γ : List (Item 𝓤)} {G : Goal 𝓤 𝓛.H} {vs : List Val} → K → Soaks G
         → ((α : ℕ) (δ : GName) → Seq K 𝓛 (at_loan α δ ∷ ‵ (flft (α ∷ []) full_share) ∷ kept α δ ∷ Γ) G)
-        → Seq K 𝓛 (‵ ((MutSlice (named 2) κ u8).own_val arg vs) ∷ ‵ (flft κ q) ∷ Γ) G
-    relends {Γ = Γ} t soaks vs k =
-        let b = arg.ref_ptr.0 in let o = arg.ref_ptr.1 in let γ = arg.ghost_name in let xs = arg.now in
+        → Seq K 𝓛 (‵ ((MutSlice (named 2) B.lft u8).own_val B.arg vs) ∷ ‵ (flft B.lft B.share) ∷ Γ) G
+    relends {Γ = Γ} {vs = vs} t soaks k =
+        let κ = B.lft in let q = B.share in let b = B.arg.ref_ptr.0 in let o = B.arg.ref_ptr.1 in let γ = B.arg.ghost_name in
+        let xs = B.arg.now in let rm = B.room in
         use1 𝓛 (‵ (Own b o κ γ xs)) (as_own 𝓛 (named 2) κ b o γ xs vs rm) $ lft_new t soaks (λ α. move t (1 ∷ 2 ∷ []) $
         use2 𝓛 (later (some (λ (δ : GName). ‵ (Own b o (α ∷ []) δ xs) ⊛ kept α δ))) (sl_relend 𝓛 u8 κ q (α ∷ []) b o γ xs) $ await t soaks $
         pick t (λ δ. split t $
         use1 𝓛 (at_loan α δ) (as_slice 𝓛 (named 2) (α ∷ []) b o δ xs (length xs) refl rm) $ move t (0 ∷ 2 ∷ []) $ k α δ))
 
     -- the core answered u, and left ys: the buffer is back, and `lend_plaintext` may be called on it
-    abbrev pub in_hand : List ℕ → MutBor (List ℕ)
-    in_hand ys = record arg { now = ys }
-
     module _ (𝓜 : Model 𝓤 𝓛.H) (𝓡 : Running 𝓤 𝓛.H 𝓜) where
       abbrev pub Lend : Contract 𝓤
       Lend = triple_of 𝓛 L.signature (L.spec 𝓛 𝓜.mem 𝓡.returns)
 
-      module _ (m : ℕ) (v : Val) (u : Answer.Denot) (ys : List ℕ) where
+      module _ (h m : ℕ) (v : Val) (u : Answer.Denot) (ys : List ℕ) where
         abbrev pub lend : Lend.Ghost
-        lend = (((κ, tt), (q, tt), tt, (in_hand ys, (u, tt)), (slice_val arg.ref_ptr (length arg.now) ∷ [], (v ∷ [], tt))), (arg.now, m))
+        lend = (
+          ((B.lft, tt), (B.share, tt), tt, (record B.arg { now = ys }, (h, (u, tt))), (word B, (vint w64 h ∷ [], (v ∷ [], tt)))),
+          (B.arg.now, m),
+        )
 
-        pub regains : {K : Type 0} {Γ : List (Item 𝓤)} {G : Goal 𝓤 𝓛.H} → K → Soaks G → (α : ℕ) (δ : GName) → Fronts m arg.now ys u
-            → (Typed Answer.mir (v ∷ []) → Seq K 𝓛 (raw (Lend.pre lend) ∷ Γ) G)
+        pub regains : {K : Type 0} {Γ : List (Item 𝓤)} {G : Goal 𝓤 𝓛.H} → K → Soaks G → (α : ℕ) (δ : GName) → h < 2 ^ 64
+            → Stands h m B.arg.now ys u → (Typed Answer.mir (v ∷ []) → Seq K 𝓛 (raw (Lend.pre lend) ∷ Γ) G)
             → Seq K 𝓛 (‵ (flft (α ∷ []) full_share) ∷ ‵ (Answer.own_val u (v ∷ []))
-            ∷ ‵ (left ((MutSlice (named 2) (α ∷ []) u8).exit yes) (record arg { ghost_name = δ }) ys) ∷ kept α δ ∷ Γ) G
-        regains t soaks α δ fronts k =
-            let b = arg.ref_ptr.0 in let o = arg.ref_ptr.1 in let γ = arg.ghost_name in let xs = arg.now in
+            ∷ ‵ (left ((MutSlice (named 2) (α ∷ []) u8).exit yes) (renamed B δ) ys) ∷ kept α δ ∷ Γ) G
+        regains t soaks α δ fits stands k =
+            let κ = B.lft in let q = B.share in let b = B.arg.ref_ptr.0 in let o = B.arg.ref_ptr.1 in let γ = B.arg.ghost_name in
+            let xs = B.arg.now in
             lft_end t soaks $ move t (1 ∷ []) $ peeks t Answer (Is Answer) (shows 𝓛 Answer) u (v ∷ []) (λ is-u. move t (2 ∷ []) $ fsplit t $ fsplit t $
             -- [its last value; its length; its borrow; the answer; α is over; what was kept]
             move t (4 ∷ 5 ∷ 0 ∷ []) $ use3 𝓛 (later (given (length ys ≡ length xs) (‵ (Own b o κ γ ys) ⊛ ‵ (flft κ q))))
             (sl_relent_backˡ 𝓛 u8 κ q (α ∷ []) b o γ δ xs ys) $ await t soaks $ learn t (λ same. split t $
-            use1 𝓛 (‵ ((MutSlice (named 0) κ u8).own_val (in_hand ys) (slice_val arg.ref_ptr (length xs) ∷ [])))
-            (as_slice 𝓛 (named 0) κ b o γ ys (length xs) same rm) $
-            move t (2 ∷ 3 ∷ []) $ drop t $ drop t $ tell t fronts $ move t (2 ∷ 1 ∷ 3 ∷ 0 ∷ []) $
-            readies 𝓛 t L.signature (L.spec 𝓛 𝓜.mem 𝓡.returns) lend $ k ((answer_Lawful 𝓛).typed u (v ∷ []) is-u)))
+            use1 𝓛 (‵ ((MutSlice (named 0) κ u8).own_val (record B.arg { now = ys }) (word B)))
+            (as_slice 𝓛 (named 0) κ b o γ ys (length xs) same B.room) $
+            move t (2 ∷ 3 ∷ []) $ drop t $ drop t $ owned t usize (Is usize) (uint_Makes 𝓛 w64) h (vint w64 h ∷ []) (refl, fits) $
+            tell t stands $ move t (3 ∷ 2 ∷ 1 ∷ 4 ∷ 0 ∷ []) $ readies 𝓛 t L.signature (L.spec 𝓛 𝓜.mem 𝓡.returns) lend $
+            k ((answer_Lawful 𝓛).typed u (v ∷ []) is-u)))
 
-        -- `lend_plaintext` is called, and gives the front
+        -- `lend_plaintext` is called, and gives the plaintext
         pub lends : {K : Type 0} {Γ : List (Item 𝓤)} {E : Env 𝓤 𝓛.H} {Λ : Loops 𝓤 𝓛.H} {q' : Post 𝓤 𝓛.H}
             {f : Callee} {xs : List Opd} {d : Place} {rest : Body} → K → Triple 𝓤 (calls_of 𝓜 𝓡 f) Lend → Opds K 𝓛 (raw (Lend.pre lend) ∷ Γ) E xs (Lend.args lend)
-            → ((w : Val) (r : (Out (MutSlice (named 2) κ u8)).Denot) → Typed (Out (MutSlice (named 2) κ u8)).mir (w ∷ []) → Lent m arg.now ys u r
-            → Seq K 𝓛 (‵ (flft κ q) ∷ ‵ ((Out (MutSlice (named 2) κ u8)).own_val r (w ∷ [])) ∷ ‵ (LendsFront arg r m) ∷ Γ)
+            → (let X = Out (MutSlice (named 2) B.lft u8) in (w : Val) (r : X.Denot) → Typed X.mir (w ∷ []) → LentAfter h m B.arg.now ys u r
+            → Seq K 𝓛 (‵ (flft B.lft B.share) ∷ ‵ (X.own_val r (w ∷ [])) ∷ ‵ (LendsAfter h B.arg r m) ∷ Γ)
             (lands (calls_of 𝓜 𝓡) Λ E d w rest q'))
             → Seq K 𝓛 (raw (Lend.pre lend) ∷ Γ) (runs (calls_of 𝓜 𝓡) Λ E (seq (call f xs d) rest) q')
         lends t met operands k =
-            let X = Out (MutSlice (named 2) κ u8) in
+            let S = MutSlice (named 2) B.lft u8 in let X = Out S in
             calls_at t (table_of 𝓛 𝓜 𝓡) Lend met lend operands (λ w. answers 𝓛 L.ended (L.clauses 𝓛 𝓜.mem 𝓡.returns) lend w t tt (λ r ws.
-            -- [what it says; the front; the token; nothing of the buffer and the answer]
-            move t (3 ∷ 4 ∷ []) $ drop t $ drop t $ takes t (LendsFront arg r m) $
+            -- [what it says; the plaintext; the token; nothing of the buffer, the start and the answer]
+            move t (3 ∷ 4 ∷ 5 ∷ []) $ drop t $ drop t $ drop t $ takes t (LendsAfter h B.arg r m) $
             move t (1 ∷ []) $ learns t (λ same. learns t (λ buffer. heard t _ (λ size. move t (1 ∷ []) $
             use1 𝓛 (‵ (X.own_val r (w ∷ []))) (id⊢ 𝓤 _) $ peeks t X (Is X) (shows 𝓛 X) r (w ∷ []) (λ is-r. move t (2 ∷ 0 ∷ 1 ∷ []) $
-            k w r ((out_Lawful 𝓛 (MutSlice (named 2) κ u8) (mut_slice_Lawful 𝓛 (named 2) κ u8)).typed r (w ∷ []) is-r) (record { accepts = same; buffer = buffer; count = size })))))))
+            k w r ((out_Lawful 𝓛 S (mut_slice_Lawful 𝓛 (named 2) B.lft u8)).typed r (w ∷ []) is-r)
+            (record { accepts = same; buffer = buffer; count = size })))))))

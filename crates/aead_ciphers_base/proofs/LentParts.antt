@@ -5,7 +5,6 @@ use native.Mathlib.Nat.{mul-le-mul_right}
 use base.Stored.{Gv}
 use types.Follow.{takes_part}
 use denote.Follow.{follows_then}
-use Rattle.std.proofs.lemmas.List.{drop-drop}
 use denote.FollowSlice.{heres_id, slice_of}
 use borrow.Table.Elements.{at, at_mul, cut_app, join_app, length-take-le}
 
@@ -125,12 +124,12 @@ module _ (X : RattleType) {M : Type 1} {𝓤 : Ura M} (𝓛 : Logic 𝓤) (κ : 
   part = take n (drop_list m s.now)
 
   abbrev pub around : List X.Denot → List X.Denot
-  around ws = take m s.now ++ (ws ++ drop_list (m + n) s.now)
+  around ws = take m s.now ++ (ws ++ drop_list n (drop_list m s.now))
 
   -- the back is lent, and its front on
-  pub lends_part : m + n ≤ length s.now → Room (param 0 X) (length s.now) → (vs : List Val)
-      → ent 𝓤 (sep 𝓤 (sem 𝓛 ((S X 𝓛 κ q s).own_val s vs)) (A.lft κ q)) (H.⇛ (ex 𝓤 (Lent X 𝓛 κ q s part around (m * size (layout X) + s.ref_ptr.1) n)))
-  lends_part fits rm vs =
+  pub lends_part : (p' k : ℕ) → m * size (layout X) + s.ref_ptr.1 ≡ p' → n ≡ k → m + n ≤ length s.now → Room (param 0 X) (length s.now)
+      → (vs : List Val) → ent 𝓤 (sep 𝓤 (sem 𝓛 ((S X 𝓛 κ q s).own_val s vs)) (A.lft κ q)) (H.⇛ (ex 𝓤 (Lent X 𝓛 κ q s part around p' k)))
+  lends_part p' k place count fits rm vs =
       let p = m * size (layout X) + s.ref_ptr.1 in let b = s.ref_ptr.0 in let ys = drop_list m s.now in let long = length-drop m s.now in
       let rest = λ (ws : List X.Denot). take m s.now ++ ws in let Xs = Items (param 0 X) 0 in
       let bytes : length ys * size (layout X) ≤ length s.now * size (layout X) = mul-le-mul_right (size (layout X)) (omega (arith, long)) in
@@ -143,7 +142,7 @@ module _ (X : RattleType) {M : Type 1} {𝓤 : Ura M} (𝓛 : Logic 𝓤) (κ : 
       (lends_front X 𝓛 κ q back n (omega (arith, long, fits)) room (slice_val (b, p) (length s.now - m) ∷ [])) $
       -- [the part; the token; what the back follows; what the slice follows]
       await ! tt $ pick ! (λ δ. split3 ! $ move ! (3 ∷ 2 ∷ []) $
-      use2 𝓛 (‵ (follows Xs Xs s.ghost_name δ (λ ws. rest (ws ++ drop_list n ys))))
+      use2 𝓛 (‵ (follows Xs Xs s.ghost_name δ around))
       (follows_then 𝓛 Xs Xs Xs rest (λ ws. ws ++ drop_list n ys) s.ghost_name γ δ) $
-      rewrite ! 0 (λ (l : List X.Denot). ‵ (follows Xs Xs s.ghost_name δ (λ ws. rest (ws ++ l)))) (drop-drop n m s.now) refl $
-      move ! (1 ∷ 2 ∷ 0 ∷ []) $ now ! $ show ! (Lent X 𝓛 κ q s part around p n) δ $ done !))
+      move ! (1 ∷ 2 ∷ 0 ∷ []) $ rewrite ! 0 (λ (e : ℕ × ℕ). ‵ (Part X 𝓛 κ q s part around e.0 e.1 δ)) (λ i. (place i, count i)) refl $
+      now ! $ show ! (Lent X 𝓛 κ q s part around p' k) δ $ done !))

@@ -1,6 +1,6 @@
 //! Lending a part of a buffer.
 
-ghost use Rattle.std.specs.Prelude.{◌≡◌, ◌+◌, ◌≤◌, ◌++◌, ◌↔◌, ℕ, List, length, drop, take, is_ok, IsOk, IfOk, IsSome, IfSome};
+ghost use Rattle.std.specs.Prelude.{◌≡◌, ◌≤◌, ◌++◌, ◌↔◌, ℕ, List, length, drop, take, is_ok, IsOk, IfOk, IsSome, IfSome};
 ghost use Rattle.std.specs.Borrow.{sem, Array, LendsBothIf, LendsIfOk, u8 as byte};
 ghost use Rattle.aead_ciphers.specs.Lending.{count_of, lent_after, Stands};
 
@@ -16,7 +16,7 @@ pub(crate) fn lend_plaintext(
     ghost loan: { List ℕ × ℕ }
     requires { Stands start loan.1 loan.0 in_out.old opened }
     ensures* writes_back { sem 𝓛 (LendsIfOk (Array byte 0) (Array byte 0) in_out.entry result
-        (λ w. take start loan.0 ++ (w ++ drop (start + loan.1) loan.0)) loan.0) }
+        (λ w. take start loan.0 ++ (w ++ drop loan.1 (drop start loan.0))) loan.0) }
     ensures accepted { is_ok opened ≡ is_ok result }
     ensures buffer { in_out.old ≡ lent_after start result loan.0 }
     ensures length { IfOk result (λ part. length part.now ≡ loan.1) }
