@@ -1,5 +1,5 @@
 -- What the outcome of a job says of its buffer.
-use Rattle.std.proofs.Common.{◌≡◌, ℕ, ◌-◌, ◌≤◌, Bool, true, false, List, length, Ok, refl, if◌then◌else◌}
+use Rattle.std.proofs.Common.{◌≡◌, ℕ, ◌-◌, ◌≤◌, Bool, true, false, List, length, Ok, refl, arith, if◌then◌else◌}
 use Rattle.aead_ciphers.specs
 use specs.BoundState.{BoundState}
 use specs.Steps.{OpenStep}
@@ -13,5 +13,6 @@ pub opened_within : {N : Type 0} (spent : N → List (List ℕ)) (is_closed : N 
 opened_within spent is_closed was now aad start old new true n step is =
     let m = length old - 16 - start in
     let count : n ≡ m = cc in
-    (step_fronts spent is_closed was now aad start old new {E = Unit {0}} m refl (Ok n) step count).1
+    let fits = (step_fronts spent is_closed was now aad start old new {E = Unit {0}} m refl (Ok n) step count).1 in
+    omega (arith, fits)
 opened_within spent is_closed was now aad start old new false n step is = cc

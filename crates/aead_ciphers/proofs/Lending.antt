@@ -51,7 +51,8 @@ module _ {M : Type 1} {𝓤 : Ura M} (𝓛 : Logic 𝓤) where
   pub nonce_word : (x : (N.the_row).Denot) (vs : List Val) → Is N.the_row x vs → Word N.the_row vs
   nonce_word x vs is = one (lone (N.the_row).mir) vs ((NL.the_row_laws.lawful 𝓛).typed x vs is)
 
-  pub aad_word : (ℓ : NamedLft) (x : (D.the_row ℓ).Denot) (vs : List Val) → Is (D.the_row ℓ) x vs → Word (D.the_row ℓ) vs
+  pub aad_word : (ℓ : NamedLft) (x : (D.the_row ℓ).Denot) (vs : List Val) → Is (D.the_row ℓ) x vs
+      → Word (D.the_row ℓ) vs
   aad_word ℓ x vs is = one (lone (D.the_row ℓ).mir) vs (((DL.the_row_laws ℓ).lawful 𝓛).typed x vs is)
 
   pub tag_word : (x : (G.the_row).Denot) (vs : List Val) → Is G.the_row x vs → Word G.the_row vs
@@ -65,18 +66,32 @@ module _ {M : Type 1} {𝓤 : Ura M} (𝓛 : Logic 𝓤) where
 
   pub out_Lawful : (X : RattleType) → Lawful 𝓛 X → Lawful 𝓛 (Out X)
   out_Lawful X L = let T = RS.the_type X US.the_row in
-      recorded_lawful (Enum (shape T)) T.D T.to T.to_one 𝓛 (Enum-Lawful 𝓛 (shape T) tt ((L, tt), (((UL.the_row_laws).lawful 𝓛, tt), tt)))
+      recorded_lawful (Enum (shape T)) T.D T.to T.to_one 𝓛 (Enum-Lawful 𝓛 (shape T) tt (
+        (L, tt),
+        (((UL.the_row_laws).lawful 𝓛, tt), tt),
+      ))
 
   module _ (ℓ : Lifetime) (κ : Lft) (b o : ℕ) (γ : GName) where
     pub as_own : (xs : List ℕ) (vs : List Val) → Room u8 (length xs)
-        → ent 𝓤 (sem 𝓛 ((MutSlice ℓ κ u8).own_val (record { ref_ptr = (b, o); ghost_name = γ; now = xs }) vs)) (sem 𝓛 (Own b o κ γ xs))
-    as_own xs vs rm = qed 𝓛 (‵ ((MutSlice ℓ κ u8).own_val (record { ref_ptr = (b, o); ghost_name = γ; now = xs }) vs) ∷ []) ∵
+        → ent 𝓤 (sem 𝓛 ((MutSlice ℓ κ u8).own_val (record { ref_ptr = (b, o); ghost_name = γ; now = xs }) vs))
+        (sem 𝓛 (Own b o κ γ xs))
+    as_own xs vs rm =
+        qed 𝓛 (‵ ((MutSlice ℓ κ u8).own_val (record { ref_ptr = (b, o); ghost_name = γ; now = xs }) vs) ∷ []) ∵
         fsplit3 ! $ drop ! $ fjoin ! $ pure_i ! (room u8 (length xs)) (tt, tt) rm $ fjoin ! $ done !
 
     pub as_slice : (ys : List ℕ) (n : ℕ) → length ys ≡ n → Room u8 n
-        → ent 𝓤 (sem 𝓛 (Own b o κ γ ys)) (sem 𝓛 ((MutSlice ℓ κ u8).own_val (record { ref_ptr = (b, o); ghost_name = γ; now = ys }) (slice_val (b, o) n ∷ [])))
+        → ent 𝓤 (sem 𝓛 (Own b o κ γ ys)) (sem 𝓛 ((MutSlice ℓ κ u8).own_val (record {
+          ref_ptr =
+              (b, o);
+          ghost_name = γ;
+          now = ys;
+        }) (slice_val (b, o) n ∷ [])))
     as_slice ys n e rm =
         let rm' : Room u8 (length ys) = subst (Room u8) (sym e) rm in
         qed 𝓛 (‵ (Own b o κ γ ys) ∷ []) ∵ fsplit ! $ drop ! $
-        pure_i ! (shr_slice_at u8 (record { ref_ptr = (b, o); now = ys }) (slice_val (b, o) (length ys) ∷ [])) (tt, (tt, tt)) (refl, rm') $ fjoin ! $
-        rewrite ! 0 (λ (k : ℕ). ‵ ((MutSlice ℓ κ u8).own_val (record { ref_ptr = (b, o); ghost_name = γ; now = ys }) (slice_val (b, o) k ∷ []))) e refl $ done !
+        pure_i ! (shr_slice_at u8 (record { ref_ptr = (b, o); now = ys }) (slice_val (b, o) (length ys) ∷ [])) (
+          tt,
+          (tt, tt),
+        ) (refl, rm') $ fjoin ! $
+        rewrite ! 0 (λ (k : ℕ). ‵ ((MutSlice ℓ κ u8).own_val (record { ref_ptr = (b, o); ghost_name = γ; now = ys })
+        (slice_val (b, o) k ∷ []))) e refl $ done !

@@ -1,10 +1,11 @@
 -- What the walks of the opening calls share. Such a call lends its buffer to a core, and then the plaintext by
 -- `lend_plaintext`.
--- The context has an entry for each token and for what each parameter owns, and is named in this order. Assumes `Logic`.
+-- The context has an entry for each token and for what each parameter owns, and is named in this order. Assumes
+-- `Logic`.
 --     relends, regains      the buffer is lent to the core for a new lifetime, and is back as `lend_plaintext` wants it
 --     lends                 `lend_plaintext` gave the plaintext
 --     says_next             what an opening key's call says beside what it lends
-use Rattle.std.specs.Prelude.{◌≡◌, ◌≤◌, ◌<◌, ◌^◌, ℕ, suc, List, take, drop as drop_list, Bool, true, Result, is_ok, IfOk, OnOk, OnErr}
+use Rattle.std.specs.Prelude.{◌≡◌, ◌≤◌, ◌<◌, ◌^◌, ℕ, zero, suc, List, take, drop as drop_list, Bool, true, Result, is_ok, IfOk, OnOk, OnErr}
 use seplogic.Ra.Ura.{Ura}
 use mir.Syntax.{named, w64, Body, Callee, Opd, Place, seq, call}
 use mir.Val.{Val, vint, WT}
@@ -58,21 +59,23 @@ pub use Rattle.aead_ciphers_base.specs.Aes.{aes}
 pub use Rattle.aead_ciphers.proofs.Lending.{nonce_word, aad_word, tag_word, range_word}
 pub use Rattle.aead_ciphers_base.proofs.WalkLocals.{gets, alone, reborrows}
 pub use Rattle.aead_ciphers_base.proofs.Walks.{dropped, goes, learns, tell, tells, says, Words, words_vals, words_typed, slice_typed, table_of, walked, consults, ends}
-pub use Rattle.aead_ciphers.proofs.LentPlaintext.{as_lent, lent_plain, length-before_tag, opened_fronts, step_fronts, after_header, stands_after}
+pub use Rattle.aead_ciphers.proofs.LentPlaintext.{as_lent, lent_plain, length-before_tag, opened_fronts, step_fronts, step_range, after_header, stands_after, same_length}
 pub use Rattle.aead_ciphers_base.specs.Values.{aad_bytes}
 pub use Rattle.aead_ciphers.specs.Gcm.{Opened, OpenedAttached}
 pub use Rattle.std.proofs.Common.{arith, lit<, length-drop}
 use Rattle.aead_ciphers.specs.contracts.aead.lend.lend_plaintext as L
 pub use Rattle.aead_ciphers.proofs.aead.lend.lend_plaintext.Met.{met as front_met}
 
--- the lifetimes, and their shares, with another third
-abbrev pub with_third : (n : ℕ) → Lft → Lfts n → Lfts n
-with_third (suc (suc (suc n))) κ κs = (κs.0, (κs.1.0, (κ, κs.1.1.1)))
-with_third n κ κs = κs
+-- the lifetimes, and their shares, with another at i
+abbrev pub with_lft : (i n : ℕ) → Lft → Lfts n → Lfts n
+with_lft i zero κ κs = κs
+with_lft zero (suc n) κ κs = (κ, κs.1)
+with_lft (suc i) (suc n) κ κs = (κs.0, with_lft i n κ κs.1)
 
-abbrev pub with_third_share : (n : ℕ) → Share → Shares n → Shares n
-with_third_share (suc (suc (suc n))) q qs = (qs.0, (qs.1.0, (q, qs.1.1.1)))
-with_third_share n q qs = qs
+abbrev pub with_share : (i n : ℕ) → Share → Shares n → Shares n
+with_share i zero q qs = qs
+with_share zero (suc n) q qs = (q, qs.1)
+with_share (suc i) (suc n) q qs = (qs.0, with_share i n q qs.1)
 
 -- the parameters but the first
 abbrev pub others : {n : ℕ} → List (Slot n) → List (Slot n)
@@ -83,15 +86,16 @@ others (s ∷ ss) = ss
 pub at_words {ℓ} : {A : Type 0} {B : A → Type ℓ} (words : A) → B words → (ws : A) × B ws
 at_words words walk = (words, walk)
 
--- a buffer: its lifetime, the share of that, and the slice
+-- a buffer: the position of its lifetime, the lifetime, the share of that, and the slice
 pub record Buffer : Type 0 where
+  pub name : ℕ
   pub lft : Lft
   pub share : Share
   pub arg : MutBor (List ℕ)
   pub room : Room u8 (length arg.now)
 
-abbrev pub buffer : (κ : Lft) → Share → (arg : MutBor (List ℕ)) → Room u8 (length arg.now) → Buffer
-buffer κ q arg rm = record { lft = κ; share = q; arg = arg; room = rm }
+abbrev pub buffer : ℕ → (κ : Lft) → Share → (arg : MutBor (List ℕ)) → Room u8 (length arg.now) → Buffer
+buffer i κ q arg rm = record { name = i; lft = κ; share = q; arg = arg; room = rm }
 
 abbrev pub renamed : Buffer → GName → MutBor (List ℕ)
 renamed B δ = record B.arg { ghost_name = δ }
@@ -111,27 +115,31 @@ module _ {M : Type 1} {𝓤 : Ura M} (𝓛 : Logic 𝓤) where
   pub says_next : {K : Type 0} {Γ : List (Item 𝓤)} {G : Goal 𝓤 𝓛.H} → K → (A B : Type 0) (plain : List ℕ → List ℕ)
       (Opens : List ℕ → Bool → List ℕ → Type 0) {φ R N E : Type 0} {spent : N → List (List ℕ)} {is_closed : N → Bool}
       {was after : BoundState N} {aad : List ℕ} {start h m : ℕ} {old new : List ℕ} {u : Result ℕ E}
-      {r : Result (MutBor (List ℕ)) E} {next : List ℕ → Type 0} → LentAfter h m old new u r → (is_ok u ≡ true → h ≤ length old)
-      → φ → OpenStep spent is_closed was after aad start (drop_list h old) (drop_list h new) (is_ok u)
-      → (¬ R → UnderNext next (λ nonce. Opens nonce (is_ok u) new)) → OnOk u (UnderNext next (λ nonce. take m (drop_list h new) ≡ plain nonce))
+      {r : Result (MutBor (List ℕ)) E} {next : List ℕ → Type 0} → LentAfter h m old new u r
+      → (is_ok u ≡ true → h ≤ length old) → φ
+      → OpenStep spent is_closed was after aad start (drop_list h old) (drop_list h new) (is_ok u)
+      → (¬ R → UnderNext next (λ nonce. Opens nonce (is_ok u) new))
+      → OnOk u (UnderNext next (λ nonce. take m (drop_list h new) ≡ plain nonce))
       → OnOk u A → OnErr u B → (let buffer = lent_after h r old in Step K 𝓛 (raw (sep 𝓤 (fact 𝓤 φ)
       (sep 𝓤 (fact 𝓤 (OpenStep spent is_closed was after aad start (drop_list h old) (drop_list h buffer) (is_ok r)))
       (sep 𝓤 (fact 𝓤 (IfOk r (λ lent. length lent.now ≡ m)))
       (sep 𝓤 (fact 𝓤 (¬ R → UnderNext next (λ nonce. Opens nonce (is_ok r) buffer)))
       (sep 𝓤 (fact 𝓤 (IfOk r (λ lent. UnderNext next (λ nonce. lent.now ≡ plain nonce))))
       (sep 𝓤 (fact 𝓤 (OnOk r A)) (fact 𝓤 (OnErr r B)))))))) ∷ Γ) G Γ G)
-  says_next t A B plain Opens {R = R} {spent = spent} {is_closed} {was} {after} {aad} {start} {h} {old = old} {u = u} {r} {next}
-      end fits stays step-done opened plaintext gives stands = step (λ k.
+  says_next t A B plain Opens {R = R} {spent = spent} {is_closed} {was} {after} {aad} {start} {h} {old = old} {u = u}
+      {r} {next} end fits stays step-done opened plaintext gives stands = step (λ k.
       tell t (on_err B u r end.accepts stands) $ tells t (on_ok A u r end.accepts gives) $
       tells t (lent_next next plain u r (after_header u r fits end) plaintext) $
-      tells t (as_lent (λ accepts buffer. ¬ R → UnderNext next (λ nonce. Opens nonce accepts buffer)) end opened) $ tells t end.count $
-      tells t (as_lent (λ accepts buffer. OpenStep spent is_closed was after aad start (drop_list h old) (drop_list h buffer) accepts) end step-done) $
+      tells t (as_lent (λ accepts buffer. ¬ R → UnderNext next (λ nonce. Opens nonce accepts buffer)) end opened) $
+      tells t end.count $
+      tells t (as_lent (λ accepts buffer. OpenStep spent is_closed was after aad start (drop_list h old)
+      (drop_list h buffer) accepts) end step-done) $
       tells t stays $ k)
 
   -- ---- the buffer
   module _ (B : Buffer) where
     abbrev pub at_loan : ℕ → GName → Item 𝓤
-    at_loan α δ = ‵ ((MutSlice (named 2) (α ∷ []) u8).own_val (renamed B δ) (word B))
+    at_loan α δ = ‵ ((MutSlice (named B.name) (α ∷ []) u8).own_val (renamed B δ) (word B))
 
     abbrev pub kept : ℕ → GName → Item 𝓤
     kept α δ = kept_f 𝓛 u8 B.lft B.share (α ∷ []) B.arg.ghost_name δ B.arg.now B.arg.ref_ptr.0 B.arg.ref_ptr.1
@@ -139,14 +147,18 @@ module _ {M : Type 1} {𝓤 : Ura M} (𝓛 : Logic 𝓤) where
     -- the buffer is lent for a new lifetime α, under a new name δ
     pub relends : {K : Type 0} {Γ : List (Item 𝓤)} {G : Goal 𝓤 𝓛.H} {vs : List Val} → K → Soaks G
         → ((α : ℕ) (δ : GName) → Seq K 𝓛 (at_loan α δ ∷ ‵ (flft (α ∷ []) full_share) ∷ kept α δ ∷ Γ) G)
-        → Seq K 𝓛 (‵ ((MutSlice (named 2) B.lft u8).own_val B.arg vs) ∷ ‵ (flft B.lft B.share) ∷ Γ) G
+        → Seq K 𝓛 (‵ ((MutSlice (named B.name) B.lft u8).own_val B.arg vs) ∷ ‵ (flft B.lft B.share) ∷ Γ) G
     relends {Γ = Γ} {vs = vs} t soaks k =
-        let κ = B.lft in let q = B.share in let b = B.arg.ref_ptr.0 in let o = B.arg.ref_ptr.1 in let γ = B.arg.ghost_name in
+        let κ = B.lft in let q = B.share in let b = B.arg.ref_ptr.0 in let o = B.arg.ref_ptr.1 in
+        let γ = B.arg.ghost_name in
         let xs = B.arg.now in let rm = B.room in
-        use1 𝓛 (‵ (Own b o κ γ xs)) (as_own 𝓛 (named 2) κ b o γ xs vs rm) $ lft_new t soaks (λ α. move t (1 ∷ 2 ∷ []) $
-        use2 𝓛 (later (some (λ (δ : GName). ‵ (Own b o (α ∷ []) δ xs) ⊛ kept α δ))) (sl_relend 𝓛 u8 κ q (α ∷ []) b o γ xs) $ await t soaks $
+        use1 𝓛 (‵ (Own b o κ γ xs)) (as_own 𝓛 (named B.name) κ b o γ xs vs rm) $
+        lft_new t soaks (λ α. move t (1 ∷ 2 ∷ []) $
+        use2 𝓛 (later (some (λ (δ : GName). ‵ (Own b o (α ∷ []) δ xs) ⊛ kept α δ))) (sl_relend 𝓛 u8 κ q
+        (α ∷ []) b o γ xs) $ await t soaks $
         pick t (λ δ. split t $
-        use1 𝓛 (at_loan α δ) (as_slice 𝓛 (named 2) (α ∷ []) b o δ xs (length xs) refl rm) $ move t (0 ∷ 2 ∷ []) $ k α δ))
+        use1 𝓛 (at_loan α δ) (as_slice 𝓛 (named B.name) (α ∷ []) b o δ xs (length xs) refl rm) $ move t (0 ∷ 2 ∷ []) $
+        k α δ))
 
     -- the core answered u, and left ys: the buffer is back, and `lend_plaintext` may be called on it
     module _ (𝓜 : Model 𝓤 𝓛.H) (𝓡 : Running 𝓤 𝓛.H 𝓜) where
@@ -156,40 +168,59 @@ module _ {M : Type 1} {𝓤 : Ura M} (𝓛 : Logic 𝓤) where
       module _ (h m : ℕ) (v : Val) (u : Answer.Denot) (ys : List ℕ) where
         abbrev pub lend : Lend.Ghost
         lend = (
-          ((B.lft, tt), (B.share, tt), tt, (record B.arg { now = ys }, (h, (u, tt))), (word B, (vint w64 h ∷ [], (v ∷ [], tt)))),
+          (
+            (B.lft, tt),
+            (B.share, tt),
+            tt,
+            (record B.arg { now = ys }, (h, (u, tt))),
+            (
+              word B,
+              (
+                vint w64 h ∷ [],
+                (v ∷ [], tt),
+              ),
+            ),
+          ),
           (B.arg.now, m),
         )
 
         pub regains : {K : Type 0} {Γ : List (Item 𝓤)} {G : Goal 𝓤 𝓛.H} → K → Soaks G → (α : ℕ) (δ : GName) → h < 2 ^ 64
             → Stands h m B.arg.now ys u → (Typed Answer.mir (v ∷ []) → Seq K 𝓛 (raw (Lend.pre lend) ∷ Γ) G)
             → Seq K 𝓛 (‵ (flft (α ∷ []) full_share) ∷ ‵ (Answer.own_val u (v ∷ []))
-            ∷ ‵ (left ((MutSlice (named 2) (α ∷ []) u8).exit yes) (renamed B δ) ys) ∷ kept α δ ∷ Γ) G
+            ∷ ‵ (left ((MutSlice (named B.name) (α ∷ []) u8).exit yes) (renamed B δ) ys) ∷ kept α δ ∷ Γ) G
         regains t soaks α δ fits stands k =
-            let κ = B.lft in let q = B.share in let b = B.arg.ref_ptr.0 in let o = B.arg.ref_ptr.1 in let γ = B.arg.ghost_name in
+            let κ = B.lft in let q = B.share in let b = B.arg.ref_ptr.0 in let o = B.arg.ref_ptr.1 in
+            let γ = B.arg.ghost_name in
             let xs = B.arg.now in
-            lft_end t soaks $ move t (1 ∷ []) $ peeks t Answer (Is Answer) (shows 𝓛 Answer) u (v ∷ []) (λ is-u. move t (2 ∷ []) $ fsplit t $ fsplit t $
+            lft_end t soaks $ move t (1 ∷ []) $ peeks t Answer (Is Answer) (shows 𝓛 Answer) u (v ∷ [])
+            (λ is-u. move t (2 ∷ []) $ fsplit t $ fsplit t $
             -- [its last value; its length; its borrow; the answer; α is over; what was kept]
             move t (4 ∷ 5 ∷ 0 ∷ []) $ use3 𝓛 (later (given (length ys ≡ length xs) (‵ (Own b o κ γ ys) ⊛ ‵ (flft κ q))))
             (sl_relent_backˡ 𝓛 u8 κ q (α ∷ []) b o γ δ xs ys) $ await t soaks $ learn t (λ same. split t $
             use1 𝓛 (‵ ((MutSlice (named 0) κ u8).own_val (record B.arg { now = ys }) (word B)))
             (as_slice 𝓛 (named 0) κ b o γ ys (length xs) same B.room) $
-            move t (2 ∷ 3 ∷ []) $ drop t $ drop t $ owned t usize (Is usize) (uint_Makes 𝓛 w64) h (vint w64 h ∷ []) (refl, fits) $
+            move t (2 ∷ 3 ∷ []) $ drop t $ drop t $ owned t usize (Is usize) (uint_Makes 𝓛 w64) h (vint w64 h ∷ [])
+            (refl, fits) $
             tell t stands $ move t (3 ∷ 2 ∷ 1 ∷ 4 ∷ 0 ∷ []) $ readies 𝓛 t L.signature (L.spec 𝓛 𝓜.mem 𝓡.returns) lend $
             k ((answer_Lawful 𝓛).typed u (v ∷ []) is-u)))
 
         -- `lend_plaintext` is called, and gives the plaintext
         pub lends : {K : Type 0} {Γ : List (Item 𝓤)} {E : Env 𝓤 𝓛.H} {Λ : Loops 𝓤 𝓛.H} {q' : Post 𝓤 𝓛.H}
-            {f : Callee} {xs : List Opd} {d : Place} {rest : Body} → K → Triple 𝓤 (calls_of 𝓜 𝓡 f) Lend → Opds K 𝓛 (raw (Lend.pre lend) ∷ Γ) E xs (Lend.args lend)
-            → (let X = Out (MutSlice (named 2) B.lft u8) in (w : Val) (r : X.Denot) → Typed X.mir (w ∷ []) → LentAfter h m B.arg.now ys u r
+            {f : Callee} {xs : List Opd} {d : Place} {rest : Body} → K → Triple 𝓤 (calls_of 𝓜 𝓡 f) Lend
+            → Opds K 𝓛 (raw (Lend.pre lend) ∷ Γ) E xs (Lend.args lend)
+            → (let X = Out (MutSlice (named B.name) B.lft u8) in
+            (w : Val) (r : X.Denot) → Typed X.mir (w ∷ []) → LentAfter h m B.arg.now ys u r
             → Seq K 𝓛 (‵ (flft B.lft B.share) ∷ ‵ (X.own_val r (w ∷ [])) ∷ ‵ (LendsAfter h B.arg r m) ∷ Γ)
             (lands (calls_of 𝓜 𝓡) Λ E d w rest q'))
             → Seq K 𝓛 (raw (Lend.pre lend) ∷ Γ) (runs (calls_of 𝓜 𝓡) Λ E (seq (call f xs d) rest) q')
         lends t met operands k =
-            let S = MutSlice (named 2) B.lft u8 in let X = Out S in
-            calls_at t (table_of 𝓛 𝓜 𝓡) Lend met lend operands (λ w. answers 𝓛 L.ended (L.clauses 𝓛 𝓜.mem 𝓡.returns) lend w t tt (λ r ws.
+            let S = MutSlice (named B.name) B.lft u8 in let X = Out S in
+            calls_at t (table_of 𝓛 𝓜 𝓡) Lend met lend operands (λ w. answers 𝓛 L.ended
+            (L.clauses 𝓛 𝓜.mem 𝓡.returns) lend w t tt (λ r ws.
             -- [what it says; the plaintext; the token; nothing of the buffer, the start and the answer]
             move t (3 ∷ 4 ∷ 5 ∷ []) $ drop t $ drop t $ drop t $ takes t (LendsAfter h B.arg r m) $
             move t (1 ∷ []) $ learns t (λ same. learns t (λ buffer. heard t _ (λ size. move t (1 ∷ []) $
-            use1 𝓛 (‵ (X.own_val r (w ∷ []))) (id⊢ 𝓤 _) $ peeks t X (Is X) (shows 𝓛 X) r (w ∷ []) (λ is-r. move t (2 ∷ 0 ∷ 1 ∷ []) $
-            k w r ((out_Lawful 𝓛 S (mut_slice_Lawful 𝓛 (named 2) B.lft u8)).typed r (w ∷ []) is-r)
+            use1 𝓛 (‵ (X.own_val r (w ∷ []))) (id⊢ 𝓤 _) $ peeks t X (Is X) (shows 𝓛 X) r (w ∷ []) (λ is-r. move t
+            (2 ∷ 0 ∷ 1 ∷ []) $
+            k w r ((out_Lawful 𝓛 S (mut_slice_Lawful 𝓛 (named B.name) B.lft u8)).typed r (w ∷ []) is-r)
             (record { accepts = same; buffer = buffer; count = size })))))))

@@ -1,5 +1,5 @@
 -- What a call that opens returns, and what is then lent: the plaintext, at the front of the buffer or after a header.
-use Rattle.std.proofs.Common.{◌≡◌, refl, ◌∙◌, sym, ap, subst, arith, ℕ, List, Bool, true, false, ◌-◌, ◌≤◌, ◌++◌, length, drop, take, length-append, length-drop, Result, Ok, Err, is_ok, IfOk, OnErr, if◌then◌else◌, append_assoc, take-append-drop, take_at, drop_at, length-take, length-take-le}
+use Rattle.std.proofs.Common.{◌≡◌, refl, ◌∙◌, sym, ap, subst, arith, ℕ, List, Bool, true, false, ◌+◌, ◌-◌, ◌≤◌, ◌++◌, length, drop, take, length-append, length-drop, Result, Ok, Err, is_ok, IfOk, OnErr, if◌then◌else◌, append_assoc, take-append-drop, take_at, drop_at, length-take, length-take-le}
 use Rattle.std.specs.Borrow.{MutBor}
 use Rattle.std.proofs.lemmas.List.{drop-append-le}
 use Rattle.aead_ciphers_base.proofs.CounterModeLemmas.{length-counter_mode}
@@ -8,9 +8,10 @@ use Rattle.aead_ciphers.specs.Gcm.{gcm_decrypted, Opened, OpenedAttached, Opens}
 use Rattle.aead_ciphers.specs.Lending.{lent_after, Stands}
 use Rattle.aead_ciphers.specs.Steps.{OpenStep, no_nonce, opened}
 
--- the result lends what stands after h bytes of the buffer new, of which the answer says the length, and all other bytes
--- are those of old
-pub record LentAfter {E : Type 0} (h m : ℕ) (old new : List ℕ) (answer : Result ℕ E) (result : Result (MutBor (List ℕ)) E) : Type 0 where
+-- the result lends what stands after h bytes of the buffer new, of which the answer says the length, and all other
+-- bytes are those of old
+pub record LentAfter {E : Type 0} (h m : ℕ) (old new : List ℕ) (answer : Result ℕ E) (result : Result (MutBor
+    (List ℕ)) E) : Type 0 where
   pub accepts : is_ok answer ≡ is_ok result
   pub buffer : new ≡ lent_after h result old
   pub count : IfOk result (λ part. length part.now ≡ m)
@@ -23,51 +24,77 @@ Lent = LentAfter 0
 pub as_lent : {E : Type 0} {h m : ℕ} {old new : List ℕ} (P : Bool → List ℕ → Type 0) {answer : Result ℕ E}
     {result : Result (MutBor (List ℕ)) E} → LentAfter h m old new answer result → P (is_ok answer) new
     → P (is_ok result) (lent_after h result old)
-as_lent {new = new} P {result = result} end said = subst (P (is_ok result)) end.buffer (subst (λ b. P b new) end.accepts said)
+as_lent {new = new} P {result = result} end said =
+    subst (P (is_ok result)) end.buffer (subst (λ b. P b new) end.accepts said)
 
 -- what stands after h bytes is lent at its front
 pub after_header : {E : Type 0} {h m : ℕ} {old new : List ℕ} (answer : Result ℕ E) (result : Result (MutBor (List ℕ)) E)
-    → (is_ok answer ≡ true → h ≤ length old) → LentAfter h m old new answer result → Lent m (drop h old) (drop h new) answer result
+    → (is_ok answer ≡ true → h ≤ length old) → LentAfter h m old new answer result
+    → Lent m (drop h old) (drop h new) answer result
 after_header {h = h} {old = old} (Ok n) (Ok part) fits end = record {
   accepts = refl;
   buffer = ap (drop h) end.buffer ∙ drop_at (take h old) _ h (length-take-le h old (fits refl));
   count = end.count;
 }
-after_header {h = h} answer (Err f) fits end = record { accepts = end.accepts; buffer = ap (drop h) end.buffer; count = tt }
+after_header {h = h} {old = old} answer (Err f) fits end = record {
+  accepts = end.accepts;
+  buffer = ap (drop h) (end.buffer ∙ take-append-drop h old);
+  count = tt;
+}
 after_header (Err e) (Ok part) fits end = let no = end.accepts in absurd (cc)
 
 -- the buffer is known where its first h bytes and what stands after them are
-pub stands_after : {E : Type 0} (h m : ℕ) (old new : List ℕ) (answer : Result ℕ E) → Stands 0 m (drop h old) (drop h new) answer
-    → take h new ≡ take h old → (is_ok answer ≡ true → h ≤ length old) → OnErr answer (new ≡ old) → Stands h m old new answer
+pub stands_after : {E : Type 0} (h m : ℕ) (old new : List ℕ) (answer : Result ℕ E)
+    → Stands 0 m (drop h old) (drop h new) answer
+    → take h new ≡ take h old → (is_ok answer ≡ true → h ≤ length old) → OnErr answer (new ≡ old)
+    → Stands h m old new answer
 stands_after h m old new (Ok n) (same, fits, _, rest) header long refused =
     let size = ap length header ∙ length-take-le h old (long refl) in
     (same, omega (arith, fits, length-drop h new, length-take h new, size), header, rest)
 stands_after h m old new (Err e) _ header long refused = refused
 
--- what is lent is what the buffer begins with
-pub front_of : {E : Type 0} {m : ℕ} {old new : List ℕ} {answer : Result ℕ E} (front : MutBor (List ℕ)) → Lent m old new answer (Ok front) → front.now ≡ take m new
-front_of {m = m} {old} front end = sym (ap (take m) end.buffer ∙ take_at front.now (drop (length front.now) old) m end.count)
+-- what stands keeps the buffer's length
+pub same_length : {E : Type 0} (h m : ℕ) (old new : List ℕ) (answer : Result ℕ E) → (is_ok answer ≡ true
+    → h + m ≤ length old)
+    → Stands h m old new answer → length new ≡ length old
+same_length h m old new (Ok n) long (same, fits, _, rest) =
+    let both = ap length rest in let room = long refl in let of-new = length-drop n (drop h new) in
+    let of-old = length-drop m (drop h old) in
+    omega (arith, same, fits, both, room, of-new, of-old, length-drop h new, length-drop h old)
+same_length h m old new (Err e) long stays = ap length stays
 
-module _ {cipher : List ℕ → List ℕ} {nonce aad received ciphertext : List ℕ} {in_range : Type 0} {old new : List ℕ} where
+-- what is lent is what the buffer begins with
+pub front_of : {E : Type 0} {m : ℕ} {old new : List ℕ} {answer : Result ℕ E} (front : MutBor (List ℕ))
+    → Lent m old new answer (Ok front) → front.now ≡ take m new
+front_of {m = m} {old} front end =
+    sym (ap (take m) end.buffer ∙ take_at front.now (drop (length front.now) old) m end.count)
+
+module _ {cipher : List ℕ → List ℕ} {nonce aad received ciphertext : List ℕ} {in_range : Type 0}
+    {old new : List ℕ} where
   -- the plaintext is what the buffer begins with
   pub stands : {m : ℕ} → length ciphertext ≡ m → Opens cipher nonce aad received ciphertext in_range old true new
       → take m new ≡ gcm_decrypted cipher nonce ciphertext
   stands {m} size opens = ap (take m) opens.buffer
-      ∙ take_at (gcm_decrypted cipher nonce ciphertext) (drop (length ciphertext) old) m (length-counter_mode cipher nonce 2 ciphertext ∙ size)
+      ∙ take_at (gcm_decrypted cipher nonce ciphertext) (drop (length ciphertext) old) m
+      (length-counter_mode cipher nonce 2 ciphertext ∙ size)
 
   pub opened_fronts : {E : Type 0} {m : ℕ} → length ciphertext ≡ m → (answer : Result ℕ E)
-      → Opens cipher nonce aad received ciphertext in_range old (is_ok answer) new → IfOk answer (λ n. n ≡ m) → Stands 0 m old new answer
+      → Opens cipher nonce aad received ciphertext in_range old (is_ok answer) new → IfOk answer (λ n. n ≡ m)
+      → Stands 0 m old new answer
   opened_fronts {m = m} size (Ok n) opens count =
-      let plain = gcm_decrypted cipher nonce ciphertext in let long = length-counter_mode cipher nonce 2 ciphertext ∙ size in (
+      let plain = gcm_decrypted cipher nonce ciphertext in
+      let long = length-counter_mode cipher nonce 2 ciphertext ∙ size in (
         count,
         omega (arith, count, long, ap length opens.buffer, length-append plain (drop (length ciphertext) old)),
         refl,
-        ap (λ k. drop k new) count ∙ ap (drop m) opens.buffer ∙ drop_at plain (drop (length ciphertext) old) m long ∙ ap (λ k. drop k old) size,
+        ap (λ k. drop k new) count ∙ ap (drop m) opens.buffer ∙ drop_at plain (drop (length ciphertext) old) m long
+            ∙ ap (λ k. drop k old) size,
       )
   opened_fronts size (Err e) opens count = opens.buffer
 
   -- what is lent is the plaintext
-  pub lent_plain : {E : Type 0} {m : ℕ} → length ciphertext ≡ m → (answer : Result ℕ E) (result : Result (MutBor (List ℕ)) E)
+  pub lent_plain : {E : Type 0} {m : ℕ} → length ciphertext ≡ m
+      → (answer : Result ℕ E) (result : Result (MutBor (List ℕ)) E)
       → Lent m old new answer result → Opens cipher nonce aad received ciphertext in_range old (is_ok answer) new
       → IfOk result (λ front. front.now ≡ gcm_decrypted cipher nonce ciphertext)
   lent_plain size (Ok n) (Ok front) end opens = front_of front end ∙ stands size opens
@@ -75,7 +102,8 @@ module _ {cipher : List ℕ → List ℕ} {nonce aad received ciphertext : List 
   lent_plain size (Err e) (Ok front) end opens = let no : false ≡ true = end.accepts in absurd (cc)
 
 -- opening what stands before an attached tag opens the buffer
-pub attached : (cipher : List ℕ → List ℕ) (nonce aad : List ℕ) (start : ℕ) (old : List ℕ) (accepts : Bool) (body : List ℕ) → 16 ≤ length old
+pub attached : (cipher : List ℕ → List ℕ) (nonce aad : List ℕ) (start : ℕ) (old : List ℕ) (accepts : Bool)
+    (body : List ℕ) → 16 ≤ length old
     → Opened cipher nonce aad (drop (length old - 16) old) start (take (length old - 16) old) accepts body
     → OpenedAttached cipher nonce aad start old accepts (body ++ drop (length old - 16) old)
 attached cipher nonce aad start old accepts body long step =
@@ -96,27 +124,47 @@ attached cipher nonce aad start old accepts body long step =
     plain = gcm_decrypted cipher nonce text
 
     kept_behind : (accepts : Bool) (body : List ℕ)
-        → body ≡ (if accepts then plain ++ drop (length text) (take (length old - 16) old) else take (length old - 16) old)
+        → body ≡ (if accepts then plain ++ drop (length text) (take (length old - 16) old) else take
+        (length old - 16) old)
         → body ++ drop (length old - 16) old ≡ (if accepts then plain ++ drop (length text) old else old)
     kept_behind true body e =
         ap (λ l. l ++ drop (length old - 16) old) e
         ∙ append_assoc plain (drop (length text) (take (length old - 16) old)) (drop (length old - 16) old)
         ∙ ap (λ l. plain ++ l) (
-        sym (drop-append-le (length text) (take (length old - 16) old) (drop (length old - 16) old) (omega (arith, length-drop start (take (length old - 16) old))))
+        sym (drop-append-le (length text) (take (length old - 16) old) (drop (length old - 16) old) (omega
+        (arith, length-drop start (take (length old - 16) old))))
         ∙ ap (drop (length text)) (take-append-drop (length old - 16) old)
         )
     kept_behind false body e = ap (λ l. l ++ drop (length old - 16) old) e ∙ take-append-drop (length old - 16) old
 
 -- the length of a ciphertext before its tag
-pub length-before_tag : (start : ℕ) (old : List ℕ) (m : ℕ) → m ≡ length old - 16 - start → length (drop start (take (length old - 16) old)) ≡ m
+pub length-before_tag : (start : ℕ) (old : List ℕ) (m : ℕ) → m ≡ length old - 16 - start
+    → length (drop start (take (length old - 16) old)) ≡ m
 length-before_tag start old m is =
-    omega (arith, is, length-drop start (take (length old - 16) old), length-take-le (length old - 16) old (omega arith))
+    omega (
+      arith,
+      is,
+      length-drop start (take (length old - 16) old),
+      length-take-le (length old - 16) old
+          (omega arith),
+    )
 
 -- the same of a step with the next nonce
-pub step_fronts : {N : Type 0} (spent : N → List (List ℕ)) (is_closed : N → Bool) (was now : BoundState N) (aad : List ℕ) (start : ℕ) (old new : List ℕ)
+pub step_fronts : {N : Type 0} (spent : N → List (List ℕ)) (is_closed : N
+    → Bool) (was now : BoundState N) (aad : List ℕ) (start : ℕ) (old new : List ℕ)
     {E : Type 0} (m : ℕ) → m ≡ length old - 16 - start → (answer : Result ℕ E)
-    → OpenStep spent is_closed was now aad start old new (is_ok answer) → IfOk answer (λ n. n ≡ m) → Stands 0 m old new answer
+    → OpenStep spent is_closed was now aad start old new (is_ok answer) → IfOk answer (λ n. n ≡ m)
+    → Stands 0 m old new answer
 step_fronts _ _ _ _ _ start old new {E = E} m is (Ok n) (opened nonce accepts spends it) count =
     opened_fronts {E = E} (length-before_tag start old m is) (Ok n) it count
 step_fronts _ _ _ _ _ start old new m is (Err e) (opened nonce accepts spends it) count = it.buffer
 step_fronts _ _ _ _ _ start old new m is (Err e) (no_nonce closes same) count = same
+
+-- a step that accepts has room for the tag
+pub step_range : {N E : Type 0} (spent : N → List (List ℕ)) (is_closed : N
+    → Bool) {was now : BoundState N} {aad : List ℕ} {start : ℕ}
+    {old new : List ℕ} (answer : Result ℕ E) → OpenStep spent is_closed was now aad start old new (is_ok answer)
+    → is_ok answer ≡ true
+    → start + 16 ≤ length old
+step_range _ _ (Ok n) (opened nonce accepts spends it) is = (it.accepted.0 is).0
+step_range _ _ (Err e) step is = let no : false ≡ true = is in absurd (cc)

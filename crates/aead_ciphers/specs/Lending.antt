@@ -7,24 +7,25 @@ abbrev pub count_of : {E : Type 0} → Result ℕ E → ℕ
 count_of (Ok n) = n
 count_of (Err e) = 0
 
--- Once the loan ends, the buffer s is its own first h bytes, what was left behind the result, then its own bytes after
--- these and n more. After a refusal it is as it was.
+-- Once the loan ends, the buffer s is what was left behind the result, then its own bytes from n on. After a refusal
+-- it is as it was.
+abbrev pub LendsFront : {E : Type 0} → MutBor (List ℕ) → Result (MutBor (List ℕ)) E → ℕ → Fml
+LendsFront s r n = LendsIfOk (Array u8 0) (Array u8 0) s r (λ w. w ++ drop n s.now) s.now
+
+-- the buffer at the return: what is lent, then the later bytes, and after a refusal the buffer as it was
+abbrev pub lent_buffer : {E : Type 0} → Result (MutBor (List ℕ)) E → List ℕ → List ℕ
+lent_buffer (Ok front) old = front.now ++ drop (length front.now) old
+lent_buffer (Err e) old = old
+
+-- the same where h bytes stand before the result, and stay
 abbrev pub LendsAfter : {E : Type 0} → ℕ → MutBor (List ℕ) → Result (MutBor (List ℕ)) E → ℕ → Fml
 LendsAfter h s r n = LendsIfOk (Array u8 0) (Array u8 0) s r (λ w. take h s.now ++ (w ++ drop n (drop h s.now))) s.now
 
--- the buffer at the return: h bytes, what is lent, then the later bytes, and after a refusal the buffer as it was
 abbrev pub lent_after : {E : Type 0} → ℕ → Result (MutBor (List ℕ)) E → List ℕ → List ℕ
-lent_after h (Ok part) old = take h old ++ (part.now ++ drop (length part.now) (drop h old))
-lent_after h (Err e) old = old
+lent_after h r old = take h old ++ lent_buffer r (drop h old)
 
--- the same where the front is lent
-abbrev pub LendsFront : {E : Type 0} → MutBor (List ℕ) → Result (MutBor (List ℕ)) E → ℕ → Fml
-LendsFront = LendsAfter 0
-
-abbrev pub lent_buffer : {E : Type 0} → Result (MutBor (List ℕ)) E → List ℕ → List ℕ
-lent_buffer = lent_after 0
-
--- the answer is the length of a plaintext that stands after h bytes, and all others are kept; after a refusal all are
+-- The answer is the length of a plaintext that stands after h bytes, and all others are kept. After a refusal all are.
 abbrev pub Stands : {E : Type 0} → ℕ → ℕ → List ℕ → List ℕ → Result ℕ E → Type 0
-Stands h m old new (Ok n) = (n ≡ m) × (h + n ≤ length new) × (take h new ≡ take h old) × (drop n (drop h new) ≡ drop m (drop h old))
+Stands h m old new (Ok n) =
+    (n ≡ m) × (h + n ≤ length new) × (take h new ≡ take h old) × (drop n (drop h new) ≡ drop m (drop h old))
 Stands h m old new (Err e) = new ≡ old

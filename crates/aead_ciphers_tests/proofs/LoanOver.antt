@@ -34,7 +34,7 @@ use Rattle.aead_ciphers_base.proofs.CounterModeLemmas.{length-counter_mode}
 use Rattle.aead_ciphers.specs.Gcm.{gcm_decrypted}
 use Rattle.aead_ciphers.specs.Lending.{LendsFront, lent_buffer}
 use Rattle.aead_ciphers.proofs.Lending.{Out, Own, out_Lawful, as_slice}
-use Rattle.aead_ciphers.proofs.LendingWalk.{kept}
+use Rattle.aead_ciphers.proofs.LendingWalk.{Buffer, kept, renamed, word}
 
 module _ {A E : Type 0} where
   abbrev pub tag : Result A E → ℕ
@@ -54,12 +54,14 @@ abbrev pub after : {E : Type 0} → List ℕ → ℕ → Result (MutBor (List �
 after old n (Ok front) = front.now ++ drop_list n old
 after old n (Err e) = old
 
-lent_after : {E : Type 0} (old : List ℕ) (n : ℕ) (r : Result (MutBor (List ℕ)) E) → IfOk r (λ front. length front.now ≡ n)
+lent_after : {E : Type 0} (old : List ℕ) (n : ℕ) (r : Result (MutBor (List ℕ)) E)
+    → IfOk r (λ front. length front.now ≡ n)
     → lent_buffer r old ≡ after old n r
 lent_after old n (Ok front) long = ap (λ k. front.now ++ drop_list k old) long
 lent_after old n (Err e) long = refl
 
-pub sized : {E : Type 0} (cipher : List ℕ → List ℕ) (nonce : List ℕ) (start : ℕ) (old : List ℕ) (r : Result (MutBor (List ℕ)) E)
+pub sized : {E : Type 0} (cipher : List ℕ → List ℕ) (nonce : List ℕ) (start : ℕ) (old : List ℕ) (r : Result (MutBor
+    (List ℕ)) E)
     → IfOk r (λ front. front.now ≡ gcm_decrypted cipher nonce (drop_list start (take (length old - 16) old)))
     → IfOk r (λ front. length front.now ≡ length old - 16 - start)
 sized cipher nonce start old (Ok front) is =
@@ -68,11 +70,14 @@ sized cipher nonce start old (Ok front) is =
     ∙ ap (λ k. k - start) (length-take-le (length old - 16) old (omega arith))
 sized cipher nonce start old (Err e) is = tt
 
-pub concludes : {E : Type 0} (P : Bool → List ℕ → Type 0) (old : List ℕ) (n : ℕ) (r : Result (MutBor (List ℕ)) E) (t : Bool) → is_ok r ≡ t
+pub concludes : {E : Type 0} (P : Bool → List ℕ → Type 0) (old : List ℕ) (n : ℕ) (r : Result (MutBor (List ℕ)) E)
+    (t : Bool) → is_ok r ≡ t
     → IfOk r (λ front. length front.now ≡ n) → P (is_ok r) (lent_buffer r old) → P t (after old n r)
-concludes P old n r t is long said = subst (P t) (lent_after old n r long) (subst (λ b. P b (lent_buffer r old)) is said)
+concludes P old n r t is long said =
+    subst (P t) (lent_after old n r long) (subst (λ b. P b (lent_buffer r old)) is said)
 
-pub unchanged : {E : Type 0} (old : List ℕ) (n : ℕ) (r : Result (MutBor (List ℕ)) E) → is_ok r ≡ false → after old n r ≡ old
+pub unchanged : {E : Type 0} (old : List ℕ) (n : ℕ) (r : Result (MutBor (List ℕ)) E) → is_ok r ≡ false
+    → after old n r ≡ old
 unchanged old n (Ok front) is = absurd (let h = is in cc)
 unchanged old n (Err e) is = refl
 
@@ -86,44 +91,56 @@ module _ {M : Type 1} {𝓤 : Ura M} (𝓛 : Logic 𝓤) (κ : Lft) (s : MutBor 
   Owed r = LendsFront s r n
 
   pub let_go : (r : (Out Slice).Denot) → ent 𝓤 (sep 𝓤 (sem 𝓛 (Owed r)) (sem 𝓛 ((Out Slice).own_val r (v ∷ []))))
-      (H.⇛ (ex 𝓤 (λ (us : List Val). guard 𝓤 (v ∷ [] ≡ live (tag r) (of_list us) ∷ []) (sem 𝓛 (finally u8 s.ghost_name (after s.now n r))))))
+      (H.⇛ (ex 𝓤 (λ (us : List Val). guard 𝓤 (v ∷ [] ≡ live (tag r) (of_list us) ∷ []) (sem 𝓛
+      (finally u8 s.ghost_name (after s.now n r))))))
   unfolding follows_by
   let_go (Ok front) =
-      let End = λ (us : List Val). guard 𝓤 (v ∷ [] ≡ live 0 (of_list us) ∷ []) (sem 𝓛 (finally u8 s.ghost_name (front.now ++ drop_list n s.now))) in
+      let End = λ (us : List Val). guard 𝓤 (v ∷ [] ≡ live 0 (of_list us) ∷ []) (sem 𝓛 (finally u8 s.ghost_name
+      (front.now ++ drop_list n s.now))) in
       qed 𝓛 (‵ (Owed (Ok front)) ∷ ‵ ((Out Slice).own_val (Ok front) (v ∷ [])) ∷ []) ∵ updating ! $ move ! (1 ∷ []) $
       fpick ! (λ us. fsplit ! $ feq_l ! (λ told. fpick ! (λ vss. fsplit ! $ drop ! $ fsplit ! $ move ! (0 ∷ 2 ∷ []) $
-      use2 𝓛 (later (given (vss.0 ≡ mut_slice_vals front) (‵ (fres s.ghost_name ((coded_list u8.coded).code (front.now ++ drop_list n s.now))))))
-      (slice_given_up 𝓛 (Array u8 0) u8 (λ w. w ++ drop_list n s.now) erased κ s.ghost_name front vss.0) $ await ! tt $ learn ! (λ _.
-      rewrite ! 0 (λ (l : List ℕ). ‵ (fres s.ghost_name ((coded_list u8.coded).code l))) (sym (heres_id u8 (front.now ++ drop_list n s.now))) refl $
-      use1 𝓛 (‵ (finally u8 s.ghost_name (front.now ++ drop_list n s.now))) (res-finally 𝓛 erased κ u8 s.ghost_name (front.now ++ drop_list n s.now)) $
+      use2 𝓛 (later (given (vss.0 ≡ mut_slice_vals front) (‵ (fres s.ghost_name ((coded_list u8.coded).code
+      (front.now ++ drop_list n s.now))))))
+      (slice_given_up 𝓛 (Array u8 0) u8 (λ w. w ++ drop_list n s.now) erased κ s.ghost_name front vss.0) $
+      await ! tt $ learn ! (λ _.
+      rewrite ! 0 (λ (l : List ℕ). ‵ (fres s.ghost_name ((coded_list u8.coded).code l))) (sym (heres_id u8
+      (front.now ++ drop_list n s.now))) refl $
+      use1 𝓛 (‵ (finally u8 s.ghost_name (front.now ++ drop_list n s.now))) (res-finally 𝓛 erased κ u8 s.ghost_name
+      (front.now ++ drop_list n s.now)) $
       keep ! (0 ∷ []) $ now ! $ show ! End us $ check ! told $ done !))))
   let_go (Err e) =
-      let End = λ (us : List Val). guard 𝓤 (v ∷ [] ≡ live 1 (of_list us) ∷ []) (sem 𝓛 (finally u8 s.ghost_name s.now)) in
+      let End = λ (us : List Val). guard 𝓤 (v ∷ [] ≡ live 1 (of_list us) ∷ []) (sem 𝓛
+      (finally u8 s.ghost_name s.now)) in
       qed 𝓛 (‵ (Owed (Err e)) ∷ ‵ ((Out Slice).own_val (Err e) (v ∷ [])) ∷ []) ∵ updating ! $ move ! (1 ∷ []) $
       fpick ! (λ us. fsplit ! $ feq_l ! (λ told. drop ! $
-      rewrite ! 0 (λ (l : List ℕ). ‵ (fres s.ghost_name ((coded_list u8.coded).code l))) (sym (heres_id u8 s.now)) refl $
+      rewrite ! 0 (λ (l : List ℕ). ‵ (fres s.ghost_name ((coded_list u8.coded).code l))) (sym
+      (heres_id u8 s.now)) refl $
       use1 𝓛 (‵ (finally u8 s.ghost_name s.now)) (res-finally 𝓛 erased κ u8 s.ghost_name s.now) $
       keep ! (0 ∷ []) $ now ! $ show ! End us $ check ! told $ done !))
 
-module _ {M : Type 1} {𝓤 : Ura M} (𝓛 : Logic 𝓤) (κ : Lft) (q : Share) (arg : MutBor (List ℕ)) (rm : Room u8 (length arg.now)) (n : ℕ) where
+module _ {M : Type 1} {𝓤 : Ura M} (𝓛 : Logic 𝓤) (B : Buffer) (n : ℕ) where
   -- the buffer was lent for the lifetime α under the name δ, and the call answered r
   pub loan_ends : {K : Type 0} {Γ : List (Item 𝓤)} {G : Goal 𝓤 𝓛.H} → K → Soaks G → (α : ℕ) (δ : GName) (v : Val)
-      → (let X = Out (MutSlice erased (α ∷ []) u8) in (r : X.Denot)
-      → ((us : List Val) → v ∷ [] ≡ live (tag r) (of_list us) ∷ [] → Typed X.mir (live (tag r) (of_list us) ∷ [])
-      → length (after arg.now n r) ≡ length arg.now
-      → Seq K 𝓛 (‵ ((MutSlice (named 2) κ u8).own_val (record arg { now = after arg.now n r }) (slice_val arg.ref_ptr (length arg.now) ∷ []))
-      ∷ ‵ (flft κ q) ∷ Γ) G)
-      → Seq K 𝓛 (‵ (LendsFront (record arg { ghost_name = δ }) r n) ∷ ‵ (X.own_val r (v ∷ [])) ∷ ‵ (flft (α ∷ []) full_share) ∷ kept 𝓛 κ q arg rm α δ ∷ Γ) G)
+      → (let X = Out (MutSlice erased (α ∷ []) u8) in (r : X.Denot) → (let ys = after B.arg.now n r in
+      ((us : List Val) → v ∷ [] ≡ live (tag r) (of_list us) ∷ [] → Typed X.mir (live (tag r) (of_list us) ∷ [])
+      → length ys ≡ length B.arg.now
+      → Seq K 𝓛 (‵ ((MutSlice (named B.name) B.lft u8).own_val (record B.arg { now = ys }) (word B))
+      ∷ ‵ (flft B.lft B.share) ∷ Γ) G)
+      → Seq K 𝓛 (‵ (LendsFront (renamed B δ) r n) ∷ ‵ (X.own_val r (v ∷ []))
+      ∷ ‵ (flft (α ∷ []) full_share) ∷ kept 𝓛 B α δ ∷ Γ) G))
   loan_ends t soaks α δ v r k =
-      let X = Out (MutSlice erased (α ∷ []) u8) in let b = arg.ref_ptr.0 in let o = arg.ref_ptr.1 in let γ = arg.ghost_name in
-      let xs = arg.now in let ys = after xs n r in
+      let X = Out (MutSlice erased (α ∷ []) u8) in let κ = B.lft in let q = B.share in let b = B.arg.ref_ptr.0 in
+      let o = B.arg.ref_ptr.1 in
+      let γ = B.arg.ghost_name in let xs = B.arg.now in let ys = after xs n r in
       move t (1 ∷ []) $ peeks t X (Is X) (shows 𝓛 X) r (v ∷ []) (λ is-r. move t (1 ∷ 0 ∷ []) $
       use2 𝓛 (later (some (λ (us : List Val). given (v ∷ [] ≡ live (tag r) (of_list us) ∷ []) (‵ (finally u8 δ ys)))))
-      (let_go 𝓛 (α ∷ []) (record arg { ghost_name = δ }) n v r) $ await t soaks $ pick t (λ us. learn t (λ told.
+      (let_go 𝓛 (α ∷ []) (renamed B δ) n v r) $ await t soaks $ pick t (λ us. learn t (λ told.
       -- [its last value; the loan's token; what is kept]
       move t (1 ∷ []) $ lft_end t soaks $ move t (0 ∷ 2 ∷ 1 ∷ []) $
-      use3 𝓛 (later (given (length ys ≡ length xs) (‵ (Own b o κ γ ys) ⊛ ‵ (flft κ q)))) (sl_relent_backˡ 𝓛 u8 κ q (α ∷ []) b o γ δ xs ys) $
+      use3 𝓛 (later (given (length ys ≡ length xs) (‵ (Own b o κ γ ys) ⊛ ‵ (flft κ q)))) (sl_relent_backˡ 𝓛 u8 κ q
+      (α ∷ []) b o γ δ xs ys) $
       await t soaks $ learn t (λ same. split t $
-      use1 𝓛 (‵ ((MutSlice (named 2) κ u8).own_val (record arg { now = ys }) (slice_val arg.ref_ptr (length xs) ∷ [])))
-      (as_slice 𝓛 (named 2) κ b o γ ys (length xs) same rm) $
-      k us told (subst (Typed X.mir) told ((out_Lawful 𝓛 (MutSlice erased (α ∷ []) u8) (mut_slice_Lawful 𝓛 erased (α ∷ []) u8)).typed r (v ∷ []) is-r)) same))))
+      use1 𝓛 (‵ ((MutSlice (named B.name) κ u8).own_val (record B.arg { now = ys }) (word B)))
+      (as_slice 𝓛 (named B.name) κ b o γ ys (length xs) same B.room) $
+      k us told (subst (Typed X.mir) told ((out_Lawful 𝓛 (MutSlice erased (α ∷ []) u8) (mut_slice_Lawful 𝓛 erased
+      (α ∷ []) u8)).typed r (v ∷ []) is-r)) same))))

@@ -1,4 +1,4 @@
-//! The five calls that lend a plaintext: what the buffer holds once the loan is over. The three callers with clauses show
+//! The seven calls that lend a plaintext: what the buffer holds once the loan is over. The three callers with clauses show
 //! what a caller's proof gets from the calls' own.
 
 ghost use Rattle.std.specs.Prelude.{◌≡◌, IsFalse};
@@ -110,17 +110,21 @@ enum Call {
     SeparateTag,
     Within,
     InPlace,
+    Packet,
     NextWithin,
     NextInPlace,
+    NextPacket,
 }
 
-/// Each call, and the start from which it opens.
-const CALLS: [(Call, usize); 5] = [
+/// Each call, and the start from which it opens, which for a packet is its header's length.
+const CALLS: [(Call, usize); 7] = [
     (Call::SeparateTag, 4),
     (Call::Within, 4),
     (Call::InPlace, 0),
+    (Call::Packet, 20),
     (Call::NextWithin, 4),
     (Call::NextInPlace, 0),
+    (Call::NextPacket, 20),
 ];
 
 /// Writes over the plaintext, if there is one.
@@ -145,14 +149,28 @@ fn opens_and_fills(call: Call, in_out: &mut [u8], start: usize) -> Result<bool, 
         }
         Call::Within => fills(key.open_within(nonce, aad, in_out, start..)),
         Call::InPlace => fills(key.open_in_place(nonce, aad, in_out)),
+        Call::Packet => fills(key.open_packet_in_place(nonce, in_out, start)),
         Call::NextWithin => fills(opening.open_within(aad, in_out, start..)),
         Call::NextInPlace => fills(opening.open_in_place(aad, in_out)),
+        Call::NextPacket => fills(opening.open_packet_in_place(in_out, start)),
     })
 }
 
-/// What a call opens: bytes up to the start, and the ciphertext, with the tag after it unless that is separate.
+fn is_packet(call: Call) -> bool {
+    match call {
+        Call::Packet | Call::NextPacket => true,
+        _ => false,
+    }
+}
+
+/// What a call opens: bytes up to the start, which are a packet's AAD, and the ciphertext, with the tag after it unless
+/// that is separate.
 fn buffer(alloc: Global, call: Call, start: usize) -> Result<Vec<u8>, Fail> {
-    let front = [0xee; 4];
+    let front: &[u8] = if is_packet(call) {
+        CASE_4.aad
+    } else {
+        &[0xee; 4]
+    };
     let mut bytes = sealed(alloc, &CASE_4, front.get(..start).ok_or("a start")?)?;
     if let Call::SeparateTag = call {
         bytes.truncate(64);
@@ -160,12 +178,13 @@ fn buffer(alloc: Global, call: Call, start: usize) -> Result<Vec<u8>, Fail> {
     Ok(bytes)
 }
 
-/// A call accepts the buffer, which ends as what was written over the plaintext and each later byte as it was.
+/// A call accepts the buffer, which ends as what was written over the plaintext and each other byte as it was.
 fn ends_filled(rt: &impl Abort, alloc: Global, call: Call, start: usize) -> Result<(), Fail> {
     let mut wanted = buffer(alloc, call, start)?;
     let mut in_out = wanted.clone()?;
     holds(rt, opens_and_fills(call, &mut in_out, start)?, "accepted");
-    for byte in wanted.iter_mut().take(60) {
+    let header_len = if is_packet(call) { start } else { 0 };
+    for byte in wanted.iter_mut().skip(header_len).take(60) {
         *byte = 0x11;
     }
     same(rt, &in_out, &wanted, "the buffer after the loan");

@@ -310,8 +310,8 @@ impl LessSafeKey {
         self.open_in_place_to_front(nonce, Aad::from(&*header), body)
     }
 
-    /// Opens a packet in place as `open_packet_in_place_after_header` does, and returns the plaintext for writing, which
-    /// stands after the header. This call is this library's own.
+    /// Opens a packet in place as `open_packet_in_place_after_header` does, and returns the
+    /// plaintext for writing, which stands after the header. This call is this library's own.
     pub fn open_packet_in_place<'a>(
         &self,
         nonce: Nonce,

@@ -198,8 +198,8 @@ impl<N: NonceSequence> OpeningKey<N> {
         lend_plaintext(in_out, 0, opened)
     }
 
-    /// Opens a packet in place as `open_packet_in_place_after_header` does, and lends the plaintext, which stands after the
-    /// header. This call is this library's own.
+    /// Opens a packet in place as `open_packet_in_place_after_header` does, and returns the
+    /// plaintext for writing, which stands after the header. This call is this library's own.
     pub fn open_packet_in_place<'a>(
         &mut self,
         packet: &'a mut [u8],
@@ -207,12 +207,15 @@ impl<N: NonceSequence> OpeningKey<N> {
     ) -> Result<&'a mut [u8], Unspecified>
         ensures* writes_back { sem 𝓛 (LendsAfter header_len packet.entry result
             (length packet.old - 16 - header_len)) }
-        ensures header { take header_len (lent_after header_len result packet.old) ≡ take header_len packet.old }
+        ensures header { take header_len (lent_after header_len result packet.old)
+            ≡ take header_len packet.old }
         ensures kept { Keeps N.origin self.old self.new }
         ensures step { OpenStep N.spent N.is_closed self.old self.new (take header_len packet.old) 0
-            (drop header_len packet.old) (drop header_len (lent_after header_len result packet.old)) (is_ok result) }
+            (drop header_len packet.old) (drop header_len (lent_after header_len result packet.old))
+            (is_ok result) }
         ensures count { IfOk result (λ plaintext. length plaintext.now ≡ length packet.old - 16 - header_len) }
-        ensures opened { ¬ N.refuses self.old.sequence self.new.sequence → UnderNext (N.is_next self.old.sequence) (λ nonce.
+        ensures opened { ¬ N.refuses self.old.sequence self.new.sequence
+            → UnderNext (N.is_next self.old.sequence) (λ nonce.
             OpenedPacket self.old.key.bytes nonce header_len packet.old
             (is_ok result) (lent_after header_len result packet.old)) }
         ensures plaintext { IfOk result (λ plaintext. UnderNext (N.is_next self.old.sequence) (λ nonce. plaintext.now

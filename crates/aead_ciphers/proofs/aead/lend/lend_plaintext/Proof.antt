@@ -55,7 +55,8 @@ whole_of old now h n m long front rest = sym (take-append-drop h now)
     ∙ (λ i. front i ++ (sym (take-append-drop n (drop_list h now))
     ∙ (λ j. take n (drop_list h now) ++ (rest ∙ ap (λ k. drop_list k (drop_list h old)) (sym long)) j)) i)
 
-module _ {M : Type 1} {𝓤 : Ura M} (𝓛 : Logic 𝓤) (𝓜 : Model 𝓤 𝓛.H) (𝓡 : Running 𝓤 𝓛.H 𝓜) (κs : Lfts 1) (qs : Shares 1) (s : MutBor (List ℕ))
+module _ {M : Type 1} {𝓤 : Ura M} (𝓛 : Logic 𝓤) (𝓜 : Model 𝓤 𝓛.H) (𝓡 : Running 𝓤 𝓛.H 𝓜) (κs : Lfts 1) (qs : Shares 1)
+    (s : MutBor (List ℕ))
     (rm : Room u8 (length s.now)) (h : ℕ) (h-fits : h < 2 ^ 64) (old : List ℕ) (m : ℕ) where
   abbrev W : Contract 𝓤
   W = walk_of 𝓛 F.ended hs (F.clauses 𝓛 𝓜.mem 𝓡.returns)
@@ -66,67 +67,94 @@ module _ {M : Type 1} {𝓤 : Ura M} (𝓛 : Logic 𝓤) (𝓜 : Model 𝓤 𝓛
   abbrev Slice : RattleType
   Slice = MutSlice (named 0) κs.0 u8
 
-  walks : (x : Answer.Denot) → Stands h m old s.now x → Typed Answer.mir (word x ∷ []) → (let 𝓣 = tables 𝓤 𝓛.H 𝓜 𝓡 𝓡.env in
+  walks : (x : Answer.Denot) → Stands h m old s.now x → Typed Answer.mir (word x ∷ []) → (let 𝓣 =
+      tables 𝓤 𝓛.H 𝓜 𝓡 𝓡.env in
       Sq 𝓛 (‵ (Slice.own_val s (mut_slice_vals s)) ∷ ‵ (flft κs.0 qs.0) ∷ [])
-      (prop (WpFn 𝓤 𝓛.H 𝓣.C 𝓣.Λ P.Code.function (slice_val s.ref_ptr (length s.now) ∷ vint w64 h ∷ word x ∷ []) (W.post (y x)))))
+      (prop (WpFn 𝓤 𝓛.H 𝓣.C 𝓣.Λ P.Code.function (slice_val s.ref_ptr (length s.now) ∷ vint w64 h ∷ word x ∷ []) (W.post
+      (y x)))))
   unfolding follows_by
   walks (Ok n) (same, le, front, rest) typed =
       let 𝓣 = tables 𝓤 𝓛.H 𝓜 𝓡 𝓡.env in let fits = typed.0.1.1.0 in let total : length s.now < 2 ^ 64 = rm.0 in
-      let p = h + s.ref_ptr.1 in let k = h + n - h in let v = slice_val (s.ref_ptr.0, p) k in let w = live 0 (of_list (v ∷ [])) in
+      let p = h + s.ref_ptr.1 in let k = h + n - h in let v = slice_val (s.ref_ptr.0, p) k in
+      let w = live 0 (of_list (v ∷ [])) in
       let k-fits : k < 2 ^ 64 = omega (arith, le, total) in let of-v = slice_typed (s.ref_ptr.0, p) k k-fits in
       let sum-fits : h + n < 2 ^ 64 = omega (arith, le, total) in
-      let long : length (part u8 𝓛 κs.0 qs.0 s h n) ≡ m = length-take-le n (drop_list h s.now) (omega (arith, le, length-drop h s.now)) ∙ same in
-      enter ! _ _ _ _ _ $ alloc_all ! (λ l. pass_all ! refl (slice_typed s.ref_ptr (length s.now) rm.0, ((tt, record { fits = h-fits }), (typed.0, tt))) $
+      let long : length (part u8 𝓛 κs.0 qs.0 s h n) ≡ m = length-take-le n (drop_list h s.now) (omega
+      (arith, le, length-drop h s.now)) ∙ same in
+      enter ! _ _ _ _ _ $ alloc_all ! (λ l. pass_all ! refl
+      (slice_typed s.ref_ptr (length s.now) rm.0, ((tt, record { fits = h-fits }), (typed.0, tt))) $
       first ! $ by_variants ! 18 (whole !) (get_tag ! (vrt ! refl (fld ! refl (stop !))) (whole !)) tt (
-        (λ _. sets ! (of_opd ! (get_in ! (vrt ! refl (fld ! refl (stop !))) (in_variant ! 0 0 refl refl (whole !)))) refl (tt, fits) $
-            sets ! (bin ! (get ! refl) (get ! refl) (record { fits = sum-fits })) refl (tt, record { fits = sum-fits }) $
-            sets ! (bin ! (load ! (from ! (fld ! refl (stop !))) (look_in_at ! 1 (sub ! 0 refl (whole !)))) (get ! refl) tt) refl (tt, tt) $
+        (λ _. sets ! (of_opd ! (get_in ! (vrt ! refl (fld ! refl (stop !))) (in_variant ! 0 0 refl refl
+            (whole !)))) refl (tt, fits) $
+            sets ! (bin ! (get ! refl) (get ! refl) (record { fits = sum-fits })) refl
+            (tt, record { fits = sum-fits }) $
+            sets ! (bin ! (load ! (from ! (fld ! refl (stop !))) (look_in_at ! 1 (sub ! 0 refl (whole !)))) (get !
+            refl) tt) refl (tt, tt) $
             sets ! (bin ! (get ! refl) (get ! refl) (omega arith)) refl (tt, record { fits = k-fits }) $
             sets ! (addr ! (through ! refl (stop !))) refl (tt, tt) $ sets ! (agg ! (both ! refl refl)) refl of-v $
-            sets_last ! (agg ! (and_then ! (lit ! tt) (alone ! refl))) refl (tt, (record { fits = lit< tt }, (of-v.1, tt))) $
-            exec ! 𝓣.C 𝓣.Λ (env P.Code.Mir.locals l) P.Code.Mir.t-2 (at_ret (env P.Code.Mir.locals l) (W.post (y (Ok n)))) $
+            sets_last ! (agg ! (and_then ! (lit ! tt) (alone ! refl))) refl
+            (tt, (record { fits = lit< tt }, (of-v.1, tt))) $
+            exec ! 𝓣.C 𝓣.Λ (env P.Code.Mir.locals l) P.Code.Mir.t-2 (at_ret (env P.Code.Mir.locals l) (W.post (y
+            (Ok n)))) $
             sets ! (of_opd ! (get ! refl)) refl (tt, (record { fits = lit< tt }, (of-v.1, tt))) $
             use2 𝓛 (later (some (lent u8 𝓛 κs.0 qs.0 s (part u8 𝓛 κs.0 qs.0 s h n) (around u8 𝓛 κs.0 qs.0 s h n) p k)))
-            (lends_part u8 𝓛 κs.0 qs.0 s h n p k (omega arith) (omega arith) le rm (mut_slice_vals s)) $ await ! tt $ pick ! (λ δ. split3 ! $
-            let lends = record s { ref_ptr = (s.ref_ptr.0, p); ghost_name = δ; now = part u8 𝓛 κs.0 qs.0 s h n } in let r : (Out Slice).Denot = Ok lends in
-            use1 𝓛 (‵ ((Out Slice).own_val r (w ∷ []))) (ok_of 𝓛 Slice US.the_row lends v) $ returns ! (look_at ! 0 refl) $ free_all ! refl $
+            (lends_part u8 𝓛 κs.0 qs.0 s h n p k (omega arith) (omega arith) le rm (mut_slice_vals s)) $ await ! tt $
+            pick ! (λ δ. split3 ! $
+            let lends = record s { ref_ptr = (s.ref_ptr.0, p); ghost_name = δ; now = part u8 𝓛 κs.0 qs.0 s h n } in
+            let r : (Out Slice).Denot = Ok lends in
+            use1 𝓛 (‵ ((Out Slice).own_val r (w ∷ []))) (ok_of 𝓛 Slice US.the_row lends v) $
+            returns ! (look_at ! 0 refl) $ free_all ! refl $
             -- [the answer; the token; what the slice follows]
-            move ! (2 ∷ []) $ rewrite ! 0 (λ (e : List ℕ × List ℕ). ‵ (follows (Items u8 0) (Items u8 0) s.ghost_name δ (λ ws. e.0 ++ (ws ++ e.1))))
+            move ! (2 ∷ []) $ rewrite ! 0 (λ (e : List ℕ × List ℕ). ‵ (follows (Items u8 0) (Items u8 0) s.ghost_name δ
+            (λ ws. e.0 ++ (ws ++ e.1))))
             (λ i. (front i, rest i)) refl $
             tell ! long $ tells ! (whole_of old s.now h n m long front rest) $
-            tells {φ = true ≡ is_ok r} ! refl $ move ! (1 ∷ 0 ∷ []) $ says ! $ nothing ! $ nothing ! $ nothing ! $ keep ! (5 ∷ 0 ∷ 1 ∷ 2 ∷ 4 ∷ 3 ∷ []) $
-            ends 𝓛 F.ended hs (F.clauses 𝓛 𝓜.mem 𝓡.returns) (y (Ok n)) w r (tt, (tt, (tt, tt))) ! (tt, (tt, (tt, tt))))),
+            tells {φ = true ≡ is_ok r} ! refl $ move ! (1 ∷ 0 ∷ []) $ says ! $ nothing ! $ nothing ! $ nothing ! $
+            keep ! (5 ∷ 0 ∷ 1 ∷ 2 ∷ 4 ∷ 3 ∷ []) $
+            ends 𝓛 F.ended hs (F.clauses 𝓛 𝓜.mem 𝓡.returns) (y (Ok n)) w r (tt, (tt, (tt, tt))) !
+            (tt, (tt, (tt, tt))))),
         ((λ e. absurd (suc-ne-zero 0 (sym e))), tt),
       ))
   walks (Err e) same typed =
       let 𝓣 = tables 𝓤 𝓛.H 𝓜 𝓡 𝓡.env in let v = vstruct vnil in let w = live 1 (of_list (v ∷ [])) in
-      enter ! _ _ _ _ _ $ alloc_all ! (λ l. pass_all ! refl (slice_typed s.ref_ptr (length s.now) rm.0, ((tt, record { fits = h-fits }), (typed.0, tt))) $
+      enter ! _ _ _ _ _ $ alloc_all ! (λ l. pass_all ! refl
+      (slice_typed s.ref_ptr (length s.now) rm.0, ((tt, record { fits = h-fits }), (typed.0, tt))) $
       first ! $ by_variants ! 18 (whole !) (get_tag ! (vrt ! refl (fld ! refl (stop !))) (whole !)) tt (
         (λ z. absurd (suc-ne-zero 0 z)),
         (
-          (λ _. sets ! (of_opd ! (get_in ! (vrt ! refl (fld ! refl (stop !))) (in_variant ! 1 0 refl refl (whole !)))) refl (tt, tt) $
-              sets_last ! (agg ! (and_then ! (lit ! tt) (alone ! refl))) refl (tt, (record { fits = lit< tt }, (tt, tt))) $
-              exec ! 𝓣.C 𝓣.Λ (env P.Code.Mir.locals l) P.Code.Mir.t-2 (at_ret (env P.Code.Mir.locals l) (W.post (y (Err e)))) $
-              sets ! (of_opd ! (get ! refl)) refl (tt, (record { fits = lit< tt }, (tt, tt))) $ returns ! (look_at ! 0 refl) $ free_all ! refl $
+          (λ _. sets ! (of_opd ! (get_in ! (vrt ! refl (fld ! refl (stop !))) (in_variant ! 1 0 refl refl
+              (whole !)))) refl (tt, tt) $
+              sets_last ! (agg ! (and_then ! (lit ! tt) (alone ! refl))) refl
+              (tt, (record { fits = lit< tt }, (tt, tt))) $
+              exec ! 𝓣.C 𝓣.Λ (env P.Code.Mir.locals l) P.Code.Mir.t-2 (at_ret (env P.Code.Mir.locals l) (W.post (y
+              (Err e)))) $
+              sets ! (of_opd ! (get ! refl)) refl (tt, (record { fits = lit< tt }, (tt, tt))) $
+              returns ! (look_at ! 0 refl) $ free_all ! refl $
               let r : (Out Slice).Denot = Err e in let S = Declared.shape US.the_type in
               use1 𝓛 (‵ (LendsAfter h (record s { now = s.now }) r m)) (let_go 𝓛 u8 κs.0 s (mut_slice_vals s)) $
               rewrite ! 0 (λ (l : List ℕ). ‵ (LendsAfter h (record s { now = l }) r m)) same refl $
               nothing ! $ owned ! (Struct S) (Is (Struct S)) (Struct-Makes 𝓛 S tt) tt (v ∷ []) (tt, (refl, tt)) $
               use1 𝓛 (‵ ((Out Slice).own_val r (w ∷ []))) (err_of 𝓛 Slice US.the_row e v) $
               -- [the answer; nothing; what the slice ends as; the token]
-              move ! (2 ∷ []) $ tell {φ = Unit {0}} ! tt $ tells ! same $ tells {φ = false ≡ is_ok r} ! refl $ move ! (1 ∷ 0 ∷ []) $ says ! $
+              move ! (2 ∷ []) $ tell {φ = Unit {0}} ! tt $ tells ! (same ∙ sym (take-append-drop h old)) $
+              tells {φ = false ≡ is_ok r} ! refl $ move ! (1 ∷ 0 ∷ []) $ says ! $
               nothing ! $ nothing ! $ keep ! (5 ∷ 0 ∷ 1 ∷ 4 ∷ 3 ∷ 2 ∷ []) $
-              ends 𝓛 F.ended hs (F.clauses 𝓛 𝓜.mem 𝓡.returns) (y (Err e)) w r (tt, (tt, (tt, tt))) ! (tt, (tt, (tt, tt)))),
+              ends 𝓛 F.ended hs (F.clauses 𝓛 𝓜.mem 𝓡.returns) (y (Err e)) w r (tt, (tt, (tt, tt))) !
+              (tt, (tt, (tt, tt)))),
           tt,
         ),
       ))
 
 pub lend_plaintext_spec : {M : Type 1} → P.Statement.statement M
 lend_plaintext_spec 𝓤 𝓛 𝓜 𝓡 wired =
-    proved 𝓛 F.ended hs (F.clauses 𝓛 𝓜.mem 𝓡.returns) 𝓜 𝓡 (goes 𝓛 1 F.signature.params F.ended.kept (λ _ _ _. refl, (λ _ _ _. refl, (λ _ _ _. refl, tt))))
-    F.Key.name P.Code.function (P.Code.unfolded 𝓤 𝓛.H 𝓜 𝓡 wired) (λ _. (mut_slice_vals, ((λ h. vint w64 h ∷ []), ((λ x. word x ∷ []), tt))))
-    (λ κs. (mut_slice_Tells (named 0) κs.0 u8, (uint_Tells w64, (EL.tells (RS.the_type usize US.the_row) laws, tt)))) (λ κs qs bounds a g are.
+    proved 𝓛 F.ended hs (F.clauses 𝓛 𝓜.mem 𝓡.returns) 𝓜 𝓡 (goes 𝓛 1 F.signature.params F.ended.kept
+    (λ _ _ _. refl, (λ _ _ _. refl, (λ _ _ _. refl, tt))))
+    F.Key.name P.Code.function (P.Code.unfolded 𝓤 𝓛.H 𝓜 𝓡 wired) (λ _.
+    (mut_slice_vals, ((λ h. vint w64 h ∷ []), ((λ x. word x ∷ []), tt))))
+    (λ κs. (mut_slice_Tells (named 0) κs.0 u8, (uint_Tells w64, (EL.tells (RS.the_type usize US.the_row) laws, tt))))
+    (λ κs qs bounds a g are.
     let vals : Vals F.signature κs = (mut_slice_vals a.0, (vint w64 a.1.0 ∷ [], (word a.1.1.0 ∷ [], tt))) in
     qed 𝓛 (raw (on_entry 𝓛 F.signature κs qs a vals) ∷ raw (fact 𝓤 (Stands a.1.0 g.1 g.0 a.0.now a.1.1.0)) ∷ []) ∵
     spreads 𝓛 ! F.signature κs qs a vals $ move ! (4 ∷ []) $ heard ! _ (λ stands. keep ! (1 ∷ 0 ∷ []) $
-    walks 𝓛 𝓜 𝓡 κs qs a.0 are.0.0.1 a.1.0 are.1.0.1 g.0 g.1 a.1.1.0 stands ((answer_Lawful 𝓛).typed a.1.1.0 _ are.1.1.0)))
+    walks 𝓛 𝓜 𝓡 κs qs a.0 are.0.0.1 a.1.0 are.1.0.1 g.0 g.1 a.1.1.0 stands
+    ((answer_Lawful 𝓛).typed a.1.1.0 _ are.1.1.0)))

@@ -1,5 +1,6 @@
 -- `open_in_place_separate_tag` lends what `lend_plaintext` lends of what `open_in_place_separate_tag_to_front` wrote.
-use Rattle.aead_ciphers.proofs.LendingWalk.{refl, ◌-◌, [], ◌∷◌, full_share, ◌$◌, !, move, keep, of_opd, returns, alloc_all, pass_all, free_all, look_at, get, sets, lands_as, named_lft, types_at, nothing, heard, length, Words, words_vals, words_typed, nonce_word, aad_word, tag_word, range_word, gets, reborrows, learns, as_lent, lent_plain, length-drop, opened_fronts, aad_bytes, aes, Opened, table_of, front_met, dropped, goes, walked, consults, at_words, with_third, with_third_share, buffer, typed, renamed, lit, lit<, and_then, alone, relends, regains, lends, tell, tells, says, ends}
+use Rattle.aead_ciphers.proofs.LendingWalk as W
+use Rattle.aead_ciphers.proofs.LendingWalk.{refl, ◌-◌, [], ◌∷◌, ◌$◌, !, move}
 use Rattle.aead_ciphers.proofs.aead.less_safe_key.LessSafeKey.open_in_place_separate_tag_to_front.Met.{met}
 use Rattle.aead_ciphers.specs.contracts.aead.less_safe_key.LessSafeKey.open_in_place_separate_tag as F
 use Rattle.aead_ciphers.specs.contracts.aead.less_safe_key.LessSafeKey.open_in_place_separate_tag_to_front as C
@@ -7,29 +8,42 @@ use Rattle.aead_ciphers.proofs.aead.less_safe_key.LessSafeKey.open_in_place_sepa
 
 pub open_in_place_separate_tag_spec : {M : Type 1} → P.Statement.statement M
 open_in_place_separate_tag_spec 𝓤 𝓛 𝓜 𝓡 wired =
-    let T = F.ended in let c = F.clauses 𝓛 𝓜.mem 𝓡.returns in let stayed = dropped T.signature.params T.kept in
-    let silent = goes 𝓛 3 T.signature.params T.kept (λ _ _ _. refl, (λ _ _ _. refl, (λ _ _ _. refl, (λ _ _ _. refl, (λ _ _ _. refl, (λ _ _ _. refl, tt)))))) in
-    walked 𝓛 T stayed c 𝓜 𝓡 silent F.Key.name P.Code.function (P.Code.unfolded 𝓤 𝓛.H 𝓜 𝓡 wired) (λ y are.
-    let (κs, qs, bounds, a, vs) = y.0 in let b = buffer κs.1.1.0 qs.1.1.0 a.1.1.1.1.0 are.1.1.1.1.0.0.1 in let Ts = types_at T.signature.params κs in
-    let (self, (nonce, (aad, (tag, (in_out, (range, _)))))) = a in let (is-self, (is-nonce, (is-aad, (is-tag, (is-in_out, (is-range, _)))))) = are in
-    let old = in_out.now in let tag-word = tag_word 𝓛 tag _ is-tag in
-    let nonce-word = nonce_word 𝓛 nonce _ is-nonce in let aad-word = aad_word 𝓛 (named_lft 3 1 tt κs) aad _ is-aad in
-    let range-word = range_word 𝓛 range _ is-range in
-    let words : Words Ts vs = ((_, is-self.0, (tt, tt)), (nonce-word, (aad-word, (tag-word, ((_, is-in_out.0.0, typed b), (range-word, tt)))))) in
-    let vals = words_vals Ts vs words in at_words words (move ! (7 ∷ 2 ∷ []) $ alloc_all ! (λ l. pass_all ! refl (words_typed Ts vs words) $
-    sets ! (of_opd ! (get ! refl)) refl words.1.1.0.2 $ reborrows ! in_out.ref_ptr (length old) refl refl (tt, tt) (typed b) $
-    relends 𝓛 b ! tt (λ α δ.
+    let T = F.ended in let c = F.clauses 𝓛 𝓜.mem 𝓡.returns in let stayed = W.dropped T.signature.params T.kept in
+    let silent = W.goes 𝓛 3 T.signature.params T.kept
+    (λ _ _ _. refl, (λ _ _ _. refl, (λ _ _ _. refl, (λ _ _ _. refl, (λ _ _ _. refl, (λ _ _ _. refl, tt)))))) in
+    W.walked 𝓛 T stayed c 𝓜 𝓡 silent F.Key.name P.Code.function (P.Code.unfolded 𝓤 𝓛.H 𝓜 𝓡 wired) (λ y are. let
+    (κs, qs, bounds, a, vs) = y.0 in let b = W.buffer 2 κs.1.1.0 qs.1.1.0 a.1.1.1.1.0 are.1.1.1.1.0.0.1 in
+    let Ts = W.types_at T.signature.params κs in let (self, (nonce, (aad, (tag, (in_out, (range, _)))))) = a in
+    let (is-self, (is-nonce, (is-aad, (is-tag, (is-in_out, (is-range, _)))))) = are in let old = in_out.now in
+    let tag-word = W.tag_word 𝓛 tag _ is-tag in let nonce-word = W.nonce_word 𝓛 nonce _ is-nonce in
+    let aad-word = W.aad_word 𝓛 (W.named_lft 3 1 tt κs) aad _ is-aad in
+    let range-word = W.range_word 𝓛 range _ is-range in
+    let held = W.typed b in let words : W.Words Ts vs =
+    ((_, is-self.0, (tt, tt)), (nonce-word, (aad-word, (tag-word, ((_, is-in_out.0.0, held), (range-word, tt)))))) in
+    let vals = W.words_vals Ts vs words in W.at_words words (move ! (7 ∷ 2 ∷ []) $
+    W.alloc_all ! (λ l. W.pass_all ! refl (W.words_typed Ts vs words) $
+    W.sets ! (W.of_opd ! (W.get ! refl)) refl words.1.1.0.2 $
+    W.reborrows ! in_out.ref_ptr (W.length old) refl refl (tt, tt) (W.typed b) $
+    W.relends 𝓛 b ! tt (λ α δ. let κs-lent = W.with_lft 2 3 (α ∷ []) κs in
+    let qs-lent = W.with_share 2 3 W.full_share qs in
     -- [in_out and its lifetime's token; what is kept; two tokens; self, nonce, aad, tag, range; the premise]
-    move ! (3 ∷ 4 ∷ 1 ∷ 5 ∷ 6 ∷ 7 ∷ 8 ∷ 0 ∷ 9 ∷ 10 ∷ []) $ consults 𝓛 C.ended (C.clauses 𝓛 𝓜.mem 𝓡.returns) !
-    (table_of 𝓛 𝓜 𝓡) (met 𝓤 𝓛 𝓜 𝓡 (P.Code.calls-aead_ciphers::aead::less_safe_key::LessSafeKey::open_in_place_separate_tag_to_front 𝓡.env wired))
-    ((with_third 3 (α ∷ []) κs, with_third_share 3 full_share qs, tt, (self, (nonce, (aad, (tag, (renamed b δ, (range, tt)))))), vals), tt)
-    (gets ! tt refl) (λ v u ws. let new = ws.1.1.1.1.0 in learns ! (λ opened. learns ! (λ counted. heard ! _ (λ refused.
-    let m = length old - range.start in let size = length-drop range.start old in
+    move ! (3 ∷ 4 ∷ 1 ∷ 5 ∷ 6 ∷ 7 ∷ 8 ∷ 0 ∷ 9 ∷ 10 ∷ []) $
+    W.consults 𝓛 C.ended (C.clauses 𝓛 𝓜.mem 𝓡.returns) ! (W.table_of 𝓛 𝓜 𝓡) (met 𝓤 𝓛 𝓜 𝓡
+    (P.Code.calls-aead_ciphers::aead::less_safe_key::LessSafeKey::open_in_place_separate_tag_to_front 𝓡.env wired))
+    ((κs-lent, qs-lent, tt, (self, (nonce, (aad, (tag, (W.renamed b δ, (range, tt)))))), vals), tt) (W.gets ! tt refl)
+    (λ v u ws. let new = ws.1.1.1.1.0 in W.learns ! (λ opened. W.learns ! (λ counted. W.heard ! _ (λ refused. let m =
+    W.length old - range.start in let size = W.length-drop range.start old in
     -- [the answer; three tokens; nothing of self, nonce, aad, tag; what in_out ends as; nothing of range; what is kept]
-    move ! (3 ∷ 0 ∷ 8 ∷ 10 ∷ []) $ regains 𝓛 b 𝓜 𝓡 0 m v u new ! tt α δ (lit< tt) (opened_fronts size u opened counted) (λ is-u.
-    lands_as ! refl refl is-u.0 $ reborrows ! in_out.ref_ptr (length old) refl refl (tt, tt) (typed b) $ lends 𝓛 b 𝓜 𝓡 0 m v u new !
-    (front_met 𝓤 𝓛 𝓜 𝓡 (P.Code.calls-aead_ciphers::aead::lend::lend_plaintext 𝓡.env wired)) (and_then ! (get ! refl) (and_then ! (lit ! tt) (alone ! refl))) (λ w r is-r end.
+    move ! (3 ∷ 0 ∷ 8 ∷ 10 ∷ []) $ W.regains 𝓛 b 𝓜 𝓡 0 m v u new ! tt α δ (W.lit< tt)
+    (W.opened_fronts size u opened counted) (λ is-u. W.lands_as ! refl refl is-u.0 $
+    W.reborrows ! in_out.ref_ptr (W.length old) refl refl (tt, tt) (W.typed b) $
+    W.lends 𝓛 b 𝓜 𝓡 0 m v u new ! (W.front_met 𝓤 𝓛 𝓜 𝓡
+    (P.Code.calls-aead_ciphers::aead::lend::lend_plaintext 𝓡.env wired)) (W.and_then ! (W.get ! refl) (W.and_then !
+    (W.lit ! tt) (W.alone ! refl))) (λ w r is-r end.
     -- [in_out's token; the plaintext; what is owed of in_out; two tokens; five times nothing]
-    lands_as ! refl refl is-r.0 $ returns ! (look_at ! 0 refl) $ free_all ! refl $ move ! (2 ∷ []) $ tell ! (lent_plain size u r end opened) $
-    tells ! (as_lent (Opened (aes self.now.bytes) nonce (aad_bytes aad) tag range.start old) end opened) $ move ! (1 ∷ 0 ∷ []) $ says ! $ nothing ! $ keep ! (4 ∷ 5 ∷ 2 ∷ 0 ∷ 6 ∷ 7 ∷ 8 ∷ 9 ∷ 10 ∷ 3 ∷ 1 ∷ []) $
-    ends 𝓛 T stayed c ((κs, qs, bounds, a, vals), tt) w r (tt, (tt, (tt, (tt, (tt, (tt, tt)))))) ! (tt, (tt, (tt, (tt, (tt, (tt, tt))))))))))))))))
+    W.lands_as ! refl refl is-r.0 $ W.returns ! (W.look_at ! 0 refl) $ W.free_all ! refl $ move ! (2 ∷ []) $
+    W.tell ! (W.lent_plain size u r end opened) $
+    W.tells ! (W.as_lent (W.Opened (W.aes self.now.bytes) nonce (W.aad_bytes aad) tag range.start old) end opened) $
+    move ! (1 ∷ 0 ∷ []) $ W.says ! $ W.nothing ! $ W.keep ! (4 ∷ 5 ∷ 2 ∷ 0 ∷ 6 ∷ 7 ∷ 8 ∷ 9 ∷ 10 ∷ 3 ∷ 1 ∷ []) $
+    W.ends 𝓛 T stayed c ((κs, qs, bounds, a, vals), tt) w r (tt, (tt, (tt, (tt, (tt, (tt, tt)))))) !
+    (tt, (tt, (tt, (tt, (tt, (tt, tt))))))))))))))))
