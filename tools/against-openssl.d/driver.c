@@ -3,6 +3,7 @@
 #include <inttypes.h>
 #include <openssl/crypto.h>
 #include <openssl/evp.h>
+#include <pthread.h>
 #include <stdio.h>
 #include <stdlib.h>
 #include <string.h>
@@ -222,42 +223,185 @@ static void chacha20(const sealing *s) {
     free(buffer);
 }
 
-static bool same_sealer(const deerlapse_sealer *a, const deerlapse_sealer *b) {
-    return a->next == b->next && a->limit == b->limit && a->key_len == b->key_len
-        && memcmp(a->key, b->key, 32) == 0 && memcmp(a->iv, b->iv, NONCE) == 0;
+static deerlapse_key made_key(const sealing *s) {
+    deerlapse_key key;
+    memset(&key, 0x5a, sizeof key);
+    CHECK(CALL(deerlapse_key_init(&key, s->key, s->key_len)));
+    return key;
 }
 
-/* Three messages of a sealer, each under the next nonce, and then none is left. */
+static bool all_zero(const void *bytes, size_t len) {
+    for (size_t i = 0; i < len; i++)
+        if (((const uint8_t *)bytes)[i]) return false;
+    return true;
+}
+
+/* Seals and opens by a key, in place at an offset, with the tag apart, and from one buffer to another. */
+static void by_a_key(const sealing *s) {
+    const deerlapse_key key = made_key(s);
+    const uint8_t *tag = s->sealed + s->len;
+    size_t start = below(40), all = start + s->len + TAG, len = SIZE_MAX;
+    uint8_t *was = malloc(all), *out = malloc(s->len + 1), made[TAG];
+    CHECK(was && out);
+    fill(was, start);
+    memcpy(was + start, s->message, s->len);
+    uint8_t *buffer = copy_of(was, all);
+    CHECK(CALL(deerlapse_key_seal(&key, s->nonce, s->aad, s->aad_len, buffer + start, s->len, buffer + all - TAG)));
+    CHECK(memcmp(buffer, was, start) == 0 && memcmp(buffer + start, s->sealed, s->len + TAG) == 0);
+    memcpy(was, buffer, all);
+    CHECK(CALL(deerlapse_key_open(&key, s->nonce, s->aad, s->aad_len, buffer, all, start, &len)));
+    CHECK(len == s->len && memcmp(buffer, s->message, len) == 0);
+    CHECK(memcmp(buffer + len, was + len, all - len) == 0);
+
+    memset(out, 0x5a, s->len + 1);
+    CHECK(CALL(deerlapse_key_seal_to(&key, s->nonce, s->aad, s->aad_len, s->message, s->len, out, s->len, made)));
+    CHECK(memcmp(out, s->sealed, s->len) == 0 && memcmp(made, tag, TAG) == 0 && out[s->len] == 0x5a);
+    CHECK(CALL(deerlapse_key_open_to(&key, s->nonce, s->aad, s->aad_len, s->sealed, s->len, out, s->len, tag)));
+    CHECK(memcmp(out, s->message, s->len) == 0 && out[s->len] == 0x5a);
+    memcpy(out, s->sealed, s->len);
+    CHECK(CALL(deerlapse_key_open_separate_tag(&key, s->nonce, s->aad, s->aad_len, out, s->len, tag)));
+    CHECK(memcmp(out, s->message, s->len) == 0 && out[s->len] == 0x5a);
+    free(buffer);
+    free(out);
+    free(was);
+}
+
+/* Each call under a key refuses, with every byte as it came. */
+static void refuses_all(const deerlapse_key *key, const sealing *s, bool seals_too, size_t out_len) {
+    size_t all = s->len + TAG, len = 7;
+    uint8_t *buffer = copy_of(s->sealed, all), *out = copy_of(s->message, s->len), tag[TAG];
+    memcpy(tag, s->sealed + s->len, TAG);
+    if (seals_too) CHECK(!CALL(deerlapse_key_seal(key, s->nonce, s->aad, s->aad_len, buffer, s->len, tag)));
+    if (seals_too || out_len != s->len)
+        CHECK(!CALL(deerlapse_key_seal_to(key, s->nonce, s->aad, s->aad_len, buffer, s->len, out, out_len, tag)));
+    CHECK(!CALL(deerlapse_key_open_to(key, s->nonce, s->aad, s->aad_len, buffer, s->len, out, out_len, tag)));
+    if (out_len == s->len) {
+        CHECK(!CALL(deerlapse_key_open(key, s->nonce, s->aad, s->aad_len, buffer, all, 0, &len)));
+        CHECK(!CALL(deerlapse_key_open_separate_tag(key, s->nonce, s->aad, s->aad_len, buffer, s->len, tag)));
+    }
+    CHECK(len == 7 && memcmp(buffer, s->sealed, all) == 0 && memcmp(out, s->message, s->len) == 0);
+    CHECK(memcmp(tag, s->sealed + s->len, TAG) == 0);
+    free(out);
+    free(buffer);
+}
+
+static void refuses_by_a_key(const sealing *s) {
+    deerlapse_key key = made_key(s), none = {{0}};
+    sealing changed = *s;
+    flip_a_bit(changed.sealed, s->len + TAG);
+    refuses_all(&key, &changed, false, s->len);
+    if (s->len) refuses_all(&key, s, false, below(s->len));
+    refuses_all(&none, s, true, s->len);
+    deerlapse_key refused = key;
+    CHECK(!CALL(deerlapse_key_init(&refused, s->key, below(2) ? 24 : below(16))));
+    CHECK(all_zero(&refused, sizeof refused));
+    refuses_all(&refused, s, true, s->len);
+    CALL(deerlapse_key_wipe(&key));
+    CHECK(all_zero(&key, sizeof key));
+    refuses_all(&key, s, true, s->len);
+}
+
+/* An opener opens a sealed message by its number, once in order, and no message that was changed. */
+static void opener(deerlapse_opener *opener, const sealing *s, uint64_t number) {
+    size_t all = s->len + TAG, len = 7;
+    uint8_t *buffer = copy_of(s->sealed, all);
+    deerlapse_opener was = *opener;
+    CHECK(deerlapse_opener_next(opener) == number);
+    flip_a_bit(buffer, all);
+    uint8_t *changed = copy_of(buffer, all);
+    CHECK(!CALL(deerlapse_opener_open(opener, s->aad, s->aad_len, buffer, all, 0, &len)));
+    CHECK(!CALL(deerlapse_opener_open_number(opener, number, s->aad, s->aad_len, buffer, all, 0, &len)));
+    CHECK(len == 7 && memcmp(buffer, changed, all) == 0);
+    memcpy(buffer, s->sealed, all);
+    CHECK(!CALL(deerlapse_opener_open_number(opener, number + 1, s->aad, s->aad_len, buffer, all, 0, &len)));
+    CHECK(len == 7 && memcmp(buffer, s->sealed, all) == 0);
+    CHECK(CALL(deerlapse_opener_open_number(opener, number, s->aad, s->aad_len, buffer, all, 0, &len)));
+    CHECK(len == s->len && memcmp(buffer, s->message, len) == 0);
+    CHECK(memcmp(opener, &was, sizeof was) == 0);
+    memcpy(buffer, s->sealed, all);
+    CHECK(CALL(deerlapse_opener_open(opener, s->aad, s->aad_len, buffer, all, 0, &len)));
+    CHECK(len == s->len && memcmp(buffer, s->message, len) == 0);
+    CHECK(deerlapse_opener_next(opener) == number + 1);
+    free(changed);
+    free(buffer);
+}
+
+/* Three messages of a sealer, each under the next nonce, and then none is left; an opener opens them. */
 static void sealer(sealing *s, size_t round) {
-    uint8_t iv[NONCE], nonce[NONCE], buffer[MAX_MESSAGE], tag[TAG];
+    uint8_t key[32], iv[NONCE], nonce[NONCE], buffer[MAX_MESSAGE + TAG], tag[TAG];
+    size_t key_len = s->key_len, len = 7;
     uint64_t first = below(4) ? next_random() : below(4), number;
     if (first > UINT64_MAX - 3 || below(8) == 0) first = UINT64_MAX - 3;
     fill(iv, NONCE);
+    memcpy(key, s->key, sizeof key);
     deerlapse_sealer sealer, was;
+    deerlapse_opener reader, reader_was;
     memset(&sealer, 0x5a, sizeof sealer);
+    memset(&reader, 0x5a, sizeof reader);
     was = sealer;
-    CHECK(!CALL(deerlapse_sealer_init(&sealer, s->key, 24, iv, first, first + 3)));
-    CHECK(!CALL(deerlapse_sealer_init(&sealer, s->key, s->key_len, iv, first + 1, first)));
-    CHECK(same_sealer(&sealer, &was));
-    CHECK(CALL(deerlapse_sealer_init(&sealer, s->key, s->key_len, iv, first, first + 3)));
+    reader_was = reader;
+    CHECK(!CALL(deerlapse_sealer_init(&sealer, key, 24, iv, first, first + 3)));
+    CHECK(!CALL(deerlapse_sealer_init(&sealer, key, key_len, iv, first + 1, first)));
+    CHECK(memcmp(&sealer, &was, sizeof was) == 0);
+    CHECK(!CALL(deerlapse_opener_init(&reader, key, 24, iv, first, first + 3)));
+    CHECK(memcmp(&reader, &reader_was, sizeof reader_was) == 0);
+    CHECK(CALL(deerlapse_sealer_init(&sealer, key, key_len, iv, first, first + 3)));
+    CHECK(CALL(deerlapse_opener_init(&reader, key, key_len, iv, first, first + 3)));
     for (number = first; number < first + 3; number++) {
         make_sealing(s, round);
-        memcpy(s->key, sealer.key, 32);
-        s->key_len = sealer.key_len;
+        memcpy(s->key, key, sizeof key);
+        s->key_len = key_len;
         memcpy(s->nonce, iv, NONCE);
         for (int i = 0; i < 8; i++) s->nonce[4 + i] ^= (uint8_t)(number >> (56 - 8 * i));
         seal_by_openssl(s);
         CALL(deerlapse_nonce(iv, number, nonce));
         CHECK(memcmp(nonce, s->nonce, NONCE) == 0);
         memcpy(buffer, s->message, s->len);
+        CHECK(deerlapse_sealer_next(&sealer) == number);
         CHECK(CALL(deerlapse_sealer_seal(&sealer, s->aad, s->aad_len, buffer, s->len, tag)));
-        CHECK(sealer.next == number + 1);
         CHECK(memcmp(buffer, s->sealed, s->len) == 0 && memcmp(tag, s->sealed + s->len, TAG) == 0);
+        opener(&reader, s, number);
     }
     was = sealer;
     CHECK(!CALL(deerlapse_sealer_seal(&sealer, s->aad, s->aad_len, buffer, s->len, tag)));
-    CHECK(same_sealer(&sealer, &was));
+    CHECK(memcmp(&sealer, &was, sizeof was) == 0);
     CHECK(memcmp(buffer, s->sealed, s->len) == 0 && memcmp(tag, s->sealed + s->len, TAG) == 0);
+    memcpy(buffer, s->sealed, s->len + TAG);
+    CHECK(!CALL(deerlapse_opener_open(&reader, s->aad, s->aad_len, buffer, s->len + TAG, 0, &len)));
+    CHECK(len == 7 && memcmp(buffer, s->sealed, s->len + TAG) == 0);
+}
+
+/* What the threads share: a sealing and its key. */
+static struct {
+    sealing s;
+    deerlapse_key key;
+} shared;
+
+static void *seals_and_opens(void *wrong) {
+    const sealing *s = &shared.s;
+    uint8_t *buffer = malloc(s->len + TAG);
+    size_t len = 0;
+    for (int turn = 0; turn < 200; turn++) {
+        memcpy(buffer, s->message, s->len);
+        if (!deerlapse_key_seal(&shared.key, s->nonce, s->aad, s->aad_len, buffer, s->len, buffer + s->len)
+            || memcmp(buffer, s->sealed, s->len + TAG) != 0
+            || !deerlapse_key_open(&shared.key, s->nonce, s->aad, s->aad_len, buffer, s->len + TAG, 0, &len)
+            || len != s->len || memcmp(buffer, s->message, len) != 0)
+            *(bool *)wrong = true;
+    }
+    free(buffer);
+    return NULL;
+}
+
+/* Eight threads on one key. */
+static void threads(void) {
+    pthread_t all[8];
+    bool wrong[8] = {false};
+    make_sealing(&shared.s, 1000);
+    shared.key = made_key(&shared.s);
+    for (int i = 0; i < 8; i++) CHECK(pthread_create(&all[i], NULL, seals_and_opens, &wrong[i]) == 0);
+    for (int i = 0; i < 8; i++) CHECK(pthread_join(all[i], NULL) == 0 && !wrong[i]);
+    calls += 8 * 200 * 2;
 }
 
 int main(int argc, char **argv) {
@@ -272,9 +416,12 @@ int main(int argc, char **argv) {
         refuses(&s);
         masks();
         chacha20(&s);
+        by_a_key(&s);
+        refuses_by_a_key(&s);
         sealer(&s, round);
         nulls(&s);
     }
+    threads();
     printf("%lu random calls equal %s\n", calls, OpenSSL_version(OPENSSL_VERSION));
     return 0;
 }

@@ -55,17 +55,50 @@ static void seals_and_opens(size_t key_len, size_t aad_len, size_t len, size_t s
     free(key);
 }
 
-static void seals_by_a_sealer(size_t key_len, size_t len) {
-    uint8_t *key = secret(key_len), *iv = secret(NONCE), *aad = secret(5), *message = secret(len), *tag = secret(TAG);
-    uint8_t *nonce = secret(NONCE);
+/* The same under a key, and with the tag apart, in place and from one buffer to another. */
+static void by_a_key(size_t key_len, size_t aad_len, size_t len) {
+    uint8_t *bytes = secret(key_len), *nonce = secret(NONCE), *aad = secret(aad_len);
+    uint8_t *buffer = secret(len + TAG), *out = secret(len), *tag = buffer + len;
+    size_t opened_len = 7;
+    deerlapse_key key;
+    CHECK(deerlapse_key_init(&key, bytes, key_len));
+    CHECK(deerlapse_key_seal(&key, nonce, aad, aad_len, buffer, len, tag));
+    for (int right = 0; right <= 1; right++) {
+        tag[len % TAG] ^= 0x10; /* false at first, and then right again */
+        CHECK(deerlapse_key_open_to(&key, nonce, aad, aad_len, buffer, len, out, len, tag) == (right == 1));
+        CHECK(deerlapse_key_open(&key, nonce, aad, aad_len, buffer, len + TAG, 0, &opened_len) == (right == 1));
+        CHECK(opened_len == (right ? len : 7));
+        if (right) CHECK(deerlapse_key_seal_to(&key, nonce, aad, aad_len, out, len, buffer, len, tag));
+        CHECK(deerlapse_key_open_separate_tag(&key, nonce, aad, aad_len, buffer, len, tag) == (right == 1));
+        openings += 3;
+    }
+    deerlapse_key_wipe(&key);
+    free(out);
+    free(buffer);
+    free(aad);
+    free(nonce);
+    free(bytes);
+}
+
+/* A sealer with two numbers, and an opener that opens by number, with a false tag and with the right one in order. */
+static void by_numbers(size_t key_len, size_t len) {
+    uint8_t *key = secret(key_len), *iv = secret(NONCE), *aad = secret(5), *message = secret(len + TAG);
+    uint8_t *nonce = secret(NONCE), *tag = message + len;
+    size_t opened_len;
     deerlapse_sealer sealer;
+    deerlapse_opener opener;
     CHECK(deerlapse_sealer_init(&sealer, key, key_len, iv, 7, 9));
+    CHECK(deerlapse_opener_init(&opener, key, key_len, iv, 7, 9));
     CHECK(deerlapse_sealer_seal(&sealer, aad, 5, message, len, tag));
+    CHECK(deerlapse_opener_open_number(&opener, 7, aad, 5, message, len + TAG, 0, &opened_len));
     CHECK(deerlapse_sealer_seal(&sealer, aad, 5, message, len, tag));
+    CHECK(!deerlapse_opener_open(&opener, aad, 5, message, len + TAG, 0, &opened_len));
+    CHECK(deerlapse_opener_open_number(&opener, 8, aad, 5, message, len + TAG, 0, &opened_len));
+    openings += 3;
     CHECK(!deerlapse_sealer_seal(&sealer, aad, 5, message, len, tag));
+    CHECK(deerlapse_sealer_next(&sealer) == 9 && deerlapse_opener_next(&opener) == 7);
     deerlapse_nonce(iv, 7, nonce);
     free(nonce);
-    free(tag);
     free(message);
     free(aad);
     free(iv);
@@ -125,7 +158,8 @@ int main(int argc, char **argv) {
         for (size_t key_len = 16; key_len <= 32; key_len += 16) {
             seals_and_opens(key_len, i, lens[i], 0);
             seals_and_opens(key_len, lens[i], 40, 1 + i);
-            seals_by_a_sealer(key_len, lens[i]);
+            by_a_key(key_len, i, lens[i]);
+            by_numbers(key_len, lens[i]);
         }
         encrypts(lens[i]);
     }

@@ -114,6 +114,30 @@ DEERLAPSE_ANSWERS
 bool deerlapse_key_open(const deerlapse_key *key, const uint8_t nonce[DEERLAPSE_NONCE_LEN], const uint8_t *aad,
                         size_t aad_len, uint8_t *in_out, size_t in_out_len, size_t start, size_t *plaintext_len);
 
+/* The same of a ciphertext without its tag: in_out is the ciphertext, and then the plaintext, of as many bytes.
+ *
+ *   tag   16 bytes, which are read */
+DEERLAPSE_ANSWERS
+bool deerlapse_key_open_separate_tag(const deerlapse_key *key, const uint8_t nonce[DEERLAPSE_NONCE_LEN],
+                                     const uint8_t *aad, size_t aad_len, uint8_t *in_out, size_t in_out_len,
+                                     const uint8_t tag[DEERLAPSE_TAG_LEN]);
+
+/* deerlapse_key_seal and deerlapse_key_open_separate_tag from one buffer to another. What is at `in` stays, and no byte
+ * of `out` is written before the tag is found to be right.
+ *
+ *   in    in_len bytes: the message, or the ciphertext
+ *   out   out_len bytes, none of which is one of `in`: use the calls above where the two are one buffer
+ *
+ * False: where those return false, and where in_len and out_len differ. */
+DEERLAPSE_ANSWERS
+bool deerlapse_key_seal_to(const deerlapse_key *key, const uint8_t nonce[DEERLAPSE_NONCE_LEN], const uint8_t *aad,
+                           size_t aad_len, const uint8_t *in, size_t in_len, uint8_t *out, size_t out_len,
+                           uint8_t tag[DEERLAPSE_TAG_LEN]);
+DEERLAPSE_ANSWERS
+bool deerlapse_key_open_to(const deerlapse_key *key, const uint8_t nonce[DEERLAPSE_NONCE_LEN], const uint8_t *aad,
+                           size_t aad_len, const uint8_t *in, size_t in_len, uint8_t *out, size_t out_len,
+                           const uint8_t tag[DEERLAPSE_TAG_LEN]);
+
 /* A key that seals each message under a nonce of its own: an IV XOR the message's number, in eight big-endian bytes
  * after four zeros (RFC 8446 section 5.3, RFC 9001 section 5.3). It lies in the caller's memory and is filled by
  * deerlapse_sealer_init; zeros are no sealer, as zeros are no key, and memory with anything else in it must reach no

@@ -74,6 +74,7 @@ pub(super) fn open_to_with<A: EncryptCtr32, G: UpdateBlocks>(
 
 /// Compares the tag of a ciphertext, and returns the counter block of its first block. Refused where the lengths don't
 /// fit and where the tag is false.
+#[inline(never)]
 fn authenticate<A: EncryptCtr32, G: UpdateBlocks>(
     aes: &A,
     gcm: &G,
