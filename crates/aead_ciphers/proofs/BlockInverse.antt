@@ -5,19 +5,16 @@ use Rattle.aead_ciphers_base.proofs.XorLemmas.{xor_comm, xor_exchange}
 use Rattle.aead_ciphers.specs
 use specs.Bytes.{◌⊕◌, zero_block}
 use Rattle.aead_ciphers_base.specs.Polynomial.{coefficient}
-use Rattle.aead_ciphers_base.proofs.PolynomialAction.{mul_x-none}
+use Rattle.aead_ciphers_base.proofs.PolynomialLaws.{mul_x-none, modulus, one, same_coefficients}
 use Rattle.aead_ciphers_base.proofs.PolynomialBits.{Series, add, add_none, none, scale}
-use Rattle.aead_ciphers_base.proofs.PolynomialLaws.{modulus, one, same_coefficients}
 use specs.Different.{HasInverse}
 use specs.Ghash.{IsBlock, block_bits, block_taps, ◌•◌, unit_block}
 use Rattle.aead_ciphers.proofs
-use proofs.BlockCancellation.{IsBlock-unit, IsBlock-zero, product_zero, xor_self}
-use proofs.BlockLists.{Blocks}
+use proofs.GhashLaws.{IsBlock-unit, IsBlock-zero, product_zero, xor_self, Sized, Sized-product, Sized-xor, multiple_of_one, series-unit, series-xor, unit_bits, xor_zero, product_assoc, product_comm, product_left_swap, product_unit, product_xor_left, product_xor_right, IsBlock-value, value_at}
+use proofs.PaddedBlocks.{Blocks}
 use proofs.BlockSquares.{X, multiple, own_square_bits, square_number}
 use proofs.GhashBits.{length-bits, bits_high_first}
 use proofs.GhashBlocks.{IsBlock-number, IsBlock-product, block_times, length-block_bits, same_blocks, same_from_series, series, series-product}
-use proofs.GhashLaws.{Sized, Sized-product, Sized-xor, multiple_of_one, series-unit, series-xor, unit_bits, xor_zero, product_assoc, product_comm, product_left_swap, product_unit, product_xor_left, product_xor_right}
-use proofs.GhashPolynomial.{IsBlock-value, value_at}
 use proofs.LinearMaps.{combined}
 use proofs.ProductLoop.{zeros_end}
 use proofs.SquareTables.{even_powers, squared_bits, x_bits, x_squared}

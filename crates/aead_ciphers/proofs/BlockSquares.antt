@@ -4,9 +4,8 @@ use Rattle.std.proofs.Math.Dec.{lit<}
 use Rattle.std.specs.Int.Bits.{xor_zero_l}
 use Rattle.std.proofs.lemmas.Nat.{and_le_l, xor_lt}
 use Rattle.aead_ciphers_base.specs.Polynomial.{coefficient}
-use Rattle.aead_ciphers_base.proofs.PolynomialAction.{horner-add, horner-mul_x, horner-none, horner-scale, mul_x, mul_x-add, mul_x-none, mul_x-scale, times}
+use Rattle.aead_ciphers_base.proofs.PolynomialLaws.{horner-add, horner-mul_x, horner-none, horner-scale, mul_x, mul_x-add, mul_x-none, mul_x-scale, times, modulus, one, same_coefficients}
 use Rattle.aead_ciphers_base.proofs.PolynomialBits.{Series, add, add_assoc, add_exchange, add_none, add_self, none, same_steps, scale, scale_add}
-use Rattle.aead_ciphers_base.proofs.PolynomialLaws.{modulus, one, same_coefficients}
 use Rattle.aead_ciphers.specs.Ghash.{block_taps}
 use Rattle.aead_ciphers.proofs
 use proofs.GhashBits.{coefficients, coefficients-xor, coefficients-zero, length-bits, mask, bits_high_first}

@@ -8,10 +8,8 @@ use specs.Different.{DifferInOneBlock, HasInverse}
 use specs.Gcm.{hashed, gcm_tag}
 use specs.Ghash.{IsBlock, ◌•◌, ghash}
 use Rattle.aead_ciphers.proofs
-use proofs.BlockCancellation.{IsBlock-zero, cancel_factor, cancel_left, cancel_right}
-use proofs.BlockLists.{AllSized-blocks, Blocks, Each-append, Each-parts, Each-reverse}
-use proofs.GhashLaws.{Sized, Sized-ghash, Sized-product}
-use proofs.GhashPolynomial.{IsBlock-value, ghash_value, value_at}
+use proofs.GhashLaws.{IsBlock-zero, cancel_factor, cancel_left, cancel_right, Sized, Sized-ghash, Sized-product, IsBlock-value, ghash_value, value_at}
+use proofs.PaddedBlocks.{AllSized-blocks, Blocks, Each-append, Each-parts, Each-reverse}
 use proofs.TagInput.{Blocks-hashed, Bytes}
 
 module _ (h : List ℕ) (size : Sized h) (inverse : HasInverse h) where

@@ -16,8 +16,7 @@ use Rattle.aead_ciphers_base.proofs
 use proofs.PolynomialBits.{Series, add, add_assoc, add_none, add_self, none, same_series, same_steps, scale, shift, shift-add, xor_zero}
 use proofs.PolynomialSums.{polynomial_sum, coefficient-polynomial_sum}
 use proofs.NumberBits.{by_digits}
-use proofs.PolynomialAction.{mul_x}
-use proofs.PolynomialLaws.{AllBelow, modulus, monomial, monomial_same, mul_x-high, mul_x-low, tap_bits}
+use proofs.PolynomialLaws.{mul_x, AllBelow, modulus, monomial, monomial_same, mul_x-high, mul_x-low, tap_bits}
 
 -- the lowest k bits of n, the highest of them first
 unfoldable pub bits_high_first : ℕ → ℕ → List Bool

@@ -1,19 +1,22 @@
--- The ring of blocks, and GHASH of one block more.
-use Rattle.std.proofs.Common.{◌≡◌, ℕ, zero, suc, ◌<◌, Bool, true, false, List, [], ◌∷◌, ◌++◌, length, get_or, replicate, flat_map, refl, sym, ap, ap₂, ◌∙◌, arith, length-append, add-one}
+-- The ring of blocks: blocks that cancel, in a sum, and in a product with a block that has an inverse; GHASH of one block more,
+-- and as a polynomial in the hash subkey: the blocks are its coefficients, the last that of the first power.
+use Rattle.std.proofs.Common.{◌≡◌, ℕ, zero, suc, ◌<◌, Bool, true, false, List, [], ◌∷◌, ◌++◌, length, get_or, replicate, flat_map, refl, sym, ap, ap₂, ◌∙◌, arith, length-append, add-one, reverse}
 use Rattle.aead_ciphers_base.proofs
-use proofs.XorLemmas.{bytes-xor, length-xor, xor_assoc, xor_comm, xor_exchange, xor_zeros}
-use Rattle.aead_ciphers_base.specs
-use specs.Polynomial.{◌xor◌, coefficient}
+use proofs.XorLemmas.{bytes-xor, length-xor, xor_assoc, xor_comm, xor_exchange, xor_zeros, xor-xor}
+use Rattle.aead_ciphers_base.specs.Polynomial.{◌xor◌, coefficient}
+use Rattle.aead_ciphers.specs
 use specs.Bytes.{◌⊕◌, zero_block}
-use Rattle.aead_ciphers.specs.Ghash.{IsBlock, block_bits, ◌•◌, unit_block, power, ghash, AllSized, xor_blocks, block_taps}
+use specs.Ghash.{IsBlock, block_bits, ◌•◌, unit_block, power, ghash, AllSized, xor_blocks, block_taps}
 use proofs.PolynomialBits.{add, same_series, same_steps}
-use proofs.PolynomialAction.{horner-add, times_swap}
-use proofs.PolynomialLaws.{modulus, one, times_one}
-use Rattle.aead_ciphers.proofs.GhashBytes.{block_bits-is}
+use proofs.PolynomialLaws.{horner-add, times_swap, modulus, one, times_one}
+use Rattle.aead_ciphers.proofs.GhashBlocks.{block_bits-is, series, block_times, same_from_series, series-product, IsBlock-product, length-block_bits, IsBlock-number}
 use Rattle.aead_ciphers.proofs.GhashBits.{bits-xor, length-bits, bits_high_first}
 use proofs.PolynomialSums.{polynomial_sum, coefficient-polynomial_sum}
-use Rattle.aead_ciphers.proofs.GhashBlocks.{series, block_times, same_from_series, series-product, IsBlock-product, length-block_bits}
 use Rattle.aead_ciphers.proofs.ProductLoop.{block_low, zeros_end}
+use Rattle.std.specs.Int.Bits.{xor_self as number_self}
+use specs.Different.{HasInverse}
+use Rattle.std.proofs.lemmas.List.{reverse-append, reverse-reverse}
+use Rattle.aead_ciphers.proofs.PaddedBlocks.{AllSized-blocks, Blocks, Each-reverse}
 
 -- ---- XOR of blocks is XOR of coefficients
 
@@ -165,3 +168,64 @@ AllSized-from (x ∷ xs) h = (h 0 (omega arith), AllSized-from xs (λ i below. h
 
 -- the lemma, for the search of a function
 pub ruleset sized_from = (AllSized-from)
+
+pub IsBlock-zero : IsBlock zero_block
+IsBlock-zero = IsBlock-number 0
+
+pub IsBlock-unit : IsBlock unit_block
+IsBlock-unit = IsBlock-number 0x80000000000000000000000000000000
+
+zeros_of_xor : (n : ℕ) (a : List ℕ) → length a ≡ n → a ⊕ a ≡ replicate n 0
+zeros_of_xor zero [] e = refl
+zeros_of_xor (suc n) (x ∷ xs) e = ap₂ (λ z zs. z ∷ zs) (number_self x) (zeros_of_xor n xs (omega arith))
+zeros_of_xor _ _ e = absurd (omega arith)
+
+pub xor_self : (a : List ℕ) → Sized a → a ⊕ a ≡ zero_block
+xor_self a size = zeros_of_xor 16 a size
+
+pub cancel_right : (a b c : List ℕ) → Sized a → Sized b → Sized c → a ⊕ c ≡ b ⊕ c → a ≡ b
+cancel_right a b c sa sb sc e = sym (xor-xor a c (omega arith)) ∙ ap (λ x. x ⊕ c) e ∙ xor-xor b c (omega arith)
+
+pub cancel_left : (a b c : List ℕ) → Sized a → Sized b → Sized c → c ⊕ a ≡ c ⊕ b → a ≡ b
+cancel_left a b c sa sb sc e = cancel_right a b c sa sb sc (xor_comm a c ∙ e ∙ xor_comm c b)
+
+pub same_of_xor : (a b : List ℕ) → Sized a → Sized b → a ⊕ b ≡ zero_block → a ≡ b
+same_of_xor a b sa sb e = cancel_right a b b sa sb sb (e ∙ sym (xor_self b sb))
+
+pub product_zero : (a : List ℕ) → Sized a → a • zero_block ≡ zero_block
+product_zero a size = product_xor_right a zero_block zero_block size refl refl ∙ xor_self _ (Sized-product a zero_block)
+
+pub cancel_factor : (a x y : List ℕ) → Sized a → HasInverse a → IsBlock x → IsBlock y → a • x ≡ a • y → x ≡ y
+cancel_factor a x y size inverse is_x is_y e =
+    let b = inverse.0 in
+    let sb = inverse.1.size in
+    let back : (z : List ℕ) → IsBlock z → b • (a • z) ≡ z =
+    λ z is_z.
+    sym (product_assoc b a z sb size is_z.size)
+    ∙ product_comm _ z (Sized-product b a) is_z.size
+    ∙ ap (λ u. z • u) (product_comm b a sb size ∙ inverse.2)
+    ∙ product_unit z is_z in
+    sym (back x is_x) ∙ ap (λ u. b • u) e ∙ back y is_y
+
+-- the value at h of the polynomial with these coefficients, the constant one first
+abbrev pub value_at : List ℕ → List (List ℕ) → List ℕ
+value_at h [] = zero_block
+value_at h (c ∷ cs) = c ⊕ h • value_at h cs
+
+pub IsBlock-value : (h : List ℕ) (cs : List (List ℕ)) → Blocks cs → IsBlock (value_at h cs)
+IsBlock-value h [] all = IsBlock-zero
+IsBlock-value h (c ∷ cs) all = IsBlock-xor c _ all.0 (IsBlock-product h _)
+
+ghash-reverse : (h : List ℕ) (cs : List (List ℕ)) → Sized h → Blocks cs → ghash h (reverse cs) ≡ h • value_at h cs
+unfolding ghash
+ghash-reverse h [] sh all = sym (product_zero h sh)
+ghash-reverse h (c ∷ cs) sh all =
+    let v = h • value_at h cs in
+    ap (ghash h) (reverse-append (c ∷ []) cs)
+    ∙ ghash_more h (reverse cs) c sh (AllSized-blocks (reverse cs) (Each-reverse IsBlock cs all.1)) all.0.size
+    ∙ ap (λ x. (x ⊕ c) • h) (ghash-reverse h cs sh all.1)
+    ∙ product_comm _ h (Sized-xor v c (Sized-product h _) all.0.size) sh
+    ∙ ap (λ x. h • x) (xor_comm v c)
+
+pub ghash_value : (h : List ℕ) (xs : List (List ℕ)) → Sized h → Blocks xs → ghash h xs ≡ h • value_at h (reverse xs)
+ghash_value h xs sh all = ap (ghash h) (sym (reverse-reverse xs)) ∙ ghash-reverse h _ sh (Each-reverse IsBlock xs all)

@@ -1,19 +1,14 @@
-pub mod BlockCancellation
 pub mod BlockInverse
 pub mod BlockLanes
-pub mod BlockLists
 pub mod BlockSquares
 pub mod ChangedBlock
 pub mod CounterModePieces
 pub mod DifferentMessages
 pub mod FewHashKeys
-pub mod FewSubkeys
 pub mod FreshLemmas
 pub mod GhashBits
 pub mod GhashBlocks
-pub mod GhashBytes
 pub mod GhashLaws
-pub mod GhashPolynomial
 pub mod HexWords
 pub mod KeysLemmas
 pub mod Lending
@@ -25,7 +20,6 @@ pub mod NextNonce
 pub mod PacketLemmas
 pub mod PaddedBlocks
 pub mod ProductLoop
-pub mod RootsOfBlocks
 pub mod RoundTripLemmas
 pub mod RunLemmas
 pub mod RunningHash

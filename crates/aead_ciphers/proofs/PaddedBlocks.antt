@@ -1,8 +1,8 @@
--- Blocks padded with zeros, those of lists joined, and the length block.
-use Rattle.std.proofs.Common.{◌≡◌, ℕ, zero, suc, ◌+◌, ◌-◌, ◌*◌, ◌/◌, ◌<◌, ◌≤◌, min, List, [], ◌∷◌, ◌++◌, length, take, drop, get_or, replicate, refl, sym, ap, ap₂, ◌∙◌, arith, inl, inr, append_assoc, length-take-le, take-append-drop, take_at, drop_at, append-nil, length-append, length-drop, get_or-append-add}
+-- Lists of blocks; blocks padded with zeros, those of lists joined, and the length block.
+use Rattle.std.proofs.Common.{◌≡◌, ℕ, zero, suc, ◌+◌, ◌-◌, ◌*◌, ◌/◌, ◌<◌, ◌≤◌, min, List, [], ◌∷◌, ◌++◌, length, take, drop, get_or, replicate, refl, sym, ap, ap₂, ◌∙◌, arith, inl, inr, append_assoc, length-take-le, take-append-drop, take_at, drop_at, append-nil, length-append, length-drop, get_or-append-add, reverse, subst}
 use Rattle.std.specs.Int.{to_be_bytes, w64}
 use Rattle.std.proofs.lemmas
-use lemmas.List.{nil_from_length, drop_all, get_or_append_left, get_or-append_right, get_or-replicate, drop-replicate, get_or_past}
+use lemmas.List.{nil_from_length, drop_all, get_or_append_left, get_or-append_right, get_or-replicate, drop-replicate, get_or_past, reverse-append}
 use lemmas.List.FromFn.{fill_by_all}
 use lemmas.Bool.{cases_lt}
 use Rattle.aead_ciphers.specs
@@ -12,6 +12,29 @@ use Rattle.aead_ciphers_base.proofs
 use proofs.BlocksLemmas.{blocks_cons, blocks_short}
 use proofs.EachLemmas.{each-same, each-append}
 use specs.Gcm.{padded_block, padded_blocks, length_block}
+use Rattle.std.specs.List.{AllByRecursion}
+use specs.Ghash.{AllSized, IsBlock}
+
+pub Each-append : {X : Type 0} (P : X → Type 0) (xs ys : List X) → AllByRecursion P xs → AllByRecursion P ys → AllByRecursion P (xs ++ ys)
+Each-append P [] ys h j = j
+Each-append P (x ∷ xs) ys h j = (h.0, Each-append P xs ys h.1 j)
+
+pub Each-parts : {X : Type 0} (P : X → Type 0) (xs ys : List X) → AllByRecursion P (xs ++ ys) → AllByRecursion P xs × AllByRecursion P ys
+Each-parts P [] ys h = (tt, h)
+Each-parts P (x ∷ xs) ys h = let rest = Each-parts P xs ys h.1 in ((h.0, rest.0), rest.1)
+
+pub Each-reverse : {X : Type 0} (P : X → Type 0) (xs : List X) → AllByRecursion P xs → AllByRecursion P (reverse xs)
+Each-reverse P [] h = tt
+Each-reverse P (x ∷ xs) h =
+    subst (AllByRecursion P) (sym (reverse-append (x ∷ []) xs)) (Each-append P _ _ (Each-reverse P xs h.1) (h.0, tt))
+
+-- each of the list is a block
+abbrev pub Blocks : List (List ℕ) → Type 0
+Blocks xs = AllByRecursion IsBlock xs
+
+pub AllSized-blocks : (xs : List (List ℕ)) → Blocks xs → AllSized xs
+AllSized-blocks [] h = tt
+AllSized-blocks (x ∷ xs) h = (h.0.size, AllSized-blocks xs h.1)
 
 -- a part and the zeros after it
 pub padded_is : (part : List ℕ) → length part ≤ 16 → part ++ drop (length part) (replicate 16 0) ≡ padded_block part 0

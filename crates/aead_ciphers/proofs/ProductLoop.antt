@@ -1,15 +1,13 @@
 -- The next multiple of a block, as the code shifts it.
-use Rattle.std.proofs.Common.{◌≡◌, ℕ, zero, suc, ◌/◌, ◌^◌, ◌<◌, Bool, true, false, List, ◌∷◌, replicate, refl, sym, ap, ap₂, subst, ◌∙◌, arith, ◌==◌, bit_and, bit_xor}
+use Rattle.std.proofs
+use proofs.Common.{◌≡◌, ℕ, zero, suc, ◌/◌, ◌^◌, ◌<◌, Bool, true, false, List, ◌∷◌, replicate, refl, sym, ap, ap₂, subst, ◌∙◌, arith, ◌==◌, bit_and, bit_xor}
 use Rattle.std.specs.Int.{bit_at}
-use Rattle.std.proofs.Math.Dec.{lit<}
-use Rattle.std.proofs.lemmas
-use lemmas.Nat.{and_mask}
-use lemmas.Nat.Bits.{bit_at_lowest, bit_at-lt}
+use proofs.Math.Dec.{lit<}
+use proofs.lemmas.Nat.{and_mask}
+use proofs.lemmas.Nat.Bits.{bit_at_lowest, bit_at-lt}
 use Rattle.aead_ciphers_base.specs.Polynomial.{coefficient}
-use Rattle.aead_ciphers_base.proofs
-use proofs.PolynomialBits.{add, same_series, same_steps, scale, shift}
-use proofs.PolynomialAction.{mul_x}
-use proofs.PolynomialLaws.{AllBelow, modulus, tap_bits, taps_above}
+use Rattle.aead_ciphers_base.proofs.PolynomialBits.{add, same_series, same_steps, scale, shift}
+use Rattle.aead_ciphers_base.proofs.PolynomialLaws.{mul_x, AllBelow, modulus, tap_bits, taps_above}
 use Rattle.aead_ciphers.specs.Ghash.{block_taps}
 use Rattle.aead_ciphers.proofs.GhashBits.{coefficients, length-bits, coefficients-xor, mask, coefficients-masked, bits-push, bits-half, mul_x-push, bits_high_first}
 

@@ -10,7 +10,7 @@ use specs.Gcm.{hashed, length_block, padded_blocks, gcm_tag}
 use specs.Ghash.{◌•◌, ghash}
 use specs.HashOf.{Absorbs, HashState, IsHashOf}
 use Rattle.aead_ciphers.proofs
-use proofs.GhashBytes.{to_be_bytes-xor}
+use proofs.GhashBlocks.{to_be_bytes-xor}
 use proofs.GhashLaws.{AllSized-append, ghash_more}
 use proofs.PaddedBlocks.{blocks-append, padded_blocks-append, padded_blocks_none}
 

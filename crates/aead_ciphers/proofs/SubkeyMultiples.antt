@@ -11,13 +11,11 @@ use specs.Polynomial.{coefficient}
 use Rattle.aead_ciphers_base.proofs
 use proofs.NumberBits.{bit_at-mod, bit_at-shr}
 use proofs.PolynomialBits.{Series, add, add_assoc, add_none, none, scale}
-use proofs.PolynomialAction.{horner, horner_none, horner_push, mul_x, mul_x-none, raise, times}
-use proofs.PolynomialLaws.{field_product_is, length-field_product, modulus, same_coefficients}
+use proofs.PolynomialLaws.{horner, horner_none, horner_push, mul_x, mul_x-none, raise, times, field_product_is, length-field_product, modulus, same_coefficients}
 use Rattle.aead_ciphers.specs.Ghash.{block_of, block_taps, ◌•◌}
 use Rattle.aead_ciphers.specs.Multiples.{monomial_block}
 use Rattle.aead_ciphers.proofs.GhashBits.{coefficients, coefficients-xor, coefficients-zero, length-bits, bits_high_first}
-use Rattle.aead_ciphers.proofs.GhashBlocks.{series, same_from_series, series-product, IsBlock-number, IsBlock-product, block_bits_of-block}
-use Rattle.aead_ciphers.proofs.GhashBytes.{block_bits_of_number, number_of_bits, product_of_numbers, number}
+use Rattle.aead_ciphers.proofs.GhashBlocks.{series, same_from_series, series-product, IsBlock-number, IsBlock-product, block_bits_of-block, block_bits_of_number, number_of_bits, product_of_numbers, number}
 use Rattle.aead_ciphers.proofs.ProductLoop.{block_low, multiple_is, next_multiple, zeros_end}
 
 -- ---- the multiples

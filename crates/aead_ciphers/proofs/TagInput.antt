@@ -8,7 +8,7 @@ use Rattle.aead_ciphers_base.proofs.EachLemmas.{get_or-each, length-each}
 use specs.Gcm.{hashed, length_block, padded_block, padded_blocks, sealing_products}
 use specs.Ghash.{IsBlock}
 use Rattle.aead_ciphers.proofs
-use proofs.BlockLists.{Blocks, Each-append}
+use proofs.PaddedBlocks.{Blocks, Each-append}
 use proofs.GhashBlocks.{bytes-below}
 
 -- numbers that are bytes

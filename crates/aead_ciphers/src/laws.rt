@@ -116,7 +116,7 @@ pub fn has_inverse(block: Block)
 /// So whatever was sent once under a nonce, another message and tag are accepted under at most
 /// ceil(a / 16) + ceil(n / 16) + 1 of the 2^128 hash subkeys that are possible with what was seen,
 /// where the longer list is that of a bytes of AAD and n bytes of ciphertext.
-#[tactic(auto, using(crate::proofs::FewSubkeys::few_subkeys))]
+#[tactic(auto, using(crate::proofs::FewHashKeys::few_subkeys))]
 pub fn few_subkeys_accept(
     aad: &[u8],
     ciphertext: &[u8],

@@ -1,5 +1,6 @@
--- The laws of the bytes as a field.
-use Rattle.std.proofs.Common.{◌≡◌, ℕ, zero, suc, ◌*◌, ◌/◌, ◌%◌, ◌^◌, ◌<◌, true, List, [], ◌∷◌, length, refl, sym, ap, ◌∙◌, arith, bit_xor, unwrap_or, ◌==◌, eqb-true, eq-eqb}
+-- The laws of the bytes as a field; and the product by eight doublings of numbers, which computes some thirty times faster, and
+-- the way to use it in a computed test.
+use Rattle.std.proofs.Common.{◌≡◌, ℕ, zero, suc, ◌*◌, ◌/◌, ◌%◌, ◌^◌, ◌<◌, true, List, [], ◌∷◌, length, refl, sym, ap, ◌∙◌, arith, bit_xor, unwrap_or, ◌==◌, eqb-true, eq-eqb, Bool, ap₂, if◌then◌else◌, pow-suc}
 use Rattle.std.proofs.Math.Pow.{pow-lt}
 use Rattle.std.proofs.lemmas.Bool.{false_from_ne_true}
 use Rattle.aead_ciphers_base.specs
@@ -8,7 +9,7 @@ use specs.ByteField.{bits_of, value_of, mul8, inv, affine, sbox}
 use Rattle.aead_ciphers_base.proofs
 use proofs.PolynomialSums.{polynomial_product-add_left, polynomial_product-add_right, reduced-add, length-polynomial_product, length-reduced}
 use proofs.AdditiveLemmas.{additive_after}
-use proofs.NumberBits.{bits_of-xor, value_of-add, value_of-lt, IsAdditive, same_additive, all_below, same_below, same_in_table, find_first}
+use proofs.NumberBits.{bits_of-xor, value_of-add, value_of-lt, IsAdditive, same_additive, all_below, same_below, same_in_table, find_first, IsAdditive_zero, bits_of-mod}
 
 -- `unfolding field` lets `refl` compute in the field
 unfoldable pub field : Unit {0}
@@ -138,3 +139,52 @@ two_is b h = same_below (λ t. bit_xor (t * 2 ^ 1 % 2 ^ 8) (t / 2 ^ 7 * 0x1b)) (
 
 pub three_is : (b : ℕ) → b < 256 → bit_xor (mul8 2 b) b ≡ mul8 3 b
 three_is b h = sym (mul8-xor_left b 2 1 ∙ ap (bit_xor (mul8 2 b)) (one-mul8 b h))
+
+halves_test : all_below (λ z. bit_xor (mul8 2 (z / 2)) (z % 2) == z) 256 ≡ true
+unfolding field
+halves_test = refl
+
+by_digit : (x d : ℕ) → x < 256 → d < 2 → mul8 x d ≡ (if d == 1 then x else 0)
+by_digit x zero hx hd = IsAdditive_zero (mul8 x) (mul8-xor_right x)
+by_digit x (suc zero) hx hd = mul8_comm x 1 hx (omega arith) ∙ one-mul8 x hx
+by_digit x _ hx hd = absurd (omega arith)
+
+twice_inside : (x h : ℕ) → x < 256 → h < 256 → mul8 x (mul8 2 h) ≡ mul8 2 (mul8 x h)
+twice_inside x h hx hh =
+    sym (mul8_assoc x 2 h hx (omega arith) hh) ∙ ap (λ t. mul8 t h) (mul8_comm x 2 hx (omega arith)) ∙ mul8_assoc 2 x h (omega arith) hx hh
+
+pub step_of_product : (x z : ℕ) → x < 256 → z < 256 → mul8 x z ≡ bit_xor (mul8 2 (mul8 x (z / 2))) (if z % 2 == 1 then x else 0)
+step_of_product x z hx hz =
+    ap (mul8 x) (sym (same_below (λ t. bit_xor (mul8 2 (t / 2)) (t % 2)) (λ t. t) 256 z halves_test hz))
+    ∙ mul8-xor_right x _ _
+    ∙ ap₂ bit_xor (twice_inside x (z / 2) hx (omega arith)) (by_digit x (z % 2) hx (omega arith))
+
+abbrev fast_mul : ℕ → ℕ → ℕ → ℕ
+fast_mul zero x z = 0
+fast_mul (suc k) x z =
+    let t = fast_mul k x (z / 2) in
+    bit_xor (bit_xor (t * 2 ^ 1 % 2 ^ 8) (t / 2 ^ 7 * 0x1b)) (if z % 2 == 1 then x else 0)
+
+fast_mul_is : (k x z : ℕ) → x < 256 → z < 256 → z < 2 ^ k → fast_mul k x z ≡ mul8 x z
+fast_mul_is zero x z hx hz h =
+    let none : z ≡ 0 = omega arith in
+    sym (ap (mul8 x) none ∙ IsAdditive_zero (mul8 x) (mul8-xor_right x))
+fast_mul_is (suc k) x z hx hz h =
+    let half : z / 2 < 2 ^ k = omega (arith, pow-suc 2 k) in
+    ap (λ t. bit_xor (bit_xor (t * 2 ^ 1 % 2 ^ 8) (t / 2 ^ 7 * 0x1b)) (if z % 2 == 1 then x else 0)) (fast_mul_is k x _ hx (omega arith) half)
+    ∙ ap (λ t. bit_xor t (if z % 2 == 1 then x else 0)) (two_is (mul8 x _) (mul8_lt x _))
+    ∙ sym (step_of_product x z hx hz)
+
+abbrev fast_mul8 : ℕ → ℕ → ℕ
+fast_mul8 x z = fast_mul 8 (x % 256) (z % 256)
+
+mul8-mod : (x z : ℕ) → mul8 (x % 256) (z % 256) ≡ mul8 x z
+unfolding mul8
+mul8-mod x z = ap₂ (λ p q. value_of (field_product (0 ∷ 1 ∷ 3 ∷ 4 ∷ []) 8 p q)) (bits_of-mod 8 x) (bits_of-mod 8 z)
+
+fast_mul8_is : (x z : ℕ) → fast_mul8 x z ≡ mul8 x z
+fast_mul8_is x z = fast_mul_is 8 _ _ (omega arith) (omega arith) (omega arith) ∙ mul8-mod x z
+
+-- a test of the product passes if it passes with the fast one
+pub by_fast_mul8 : (test : (ℕ → ℕ → ℕ) → Bool) → test fast_mul8 ≡ true → test mul8 ≡ true
+by_fast_mul8 test h = ap test (λ i x z. sym (fast_mul8_is x z) i) ∙ h

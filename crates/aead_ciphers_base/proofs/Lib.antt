@@ -3,11 +3,9 @@ pub mod BlocksLemmas
 pub mod ByteFieldLaws
 pub mod BytesLemmas
 pub mod ChaChaRounds
-pub mod CipherRounds
 pub mod CounterLemmas
 pub mod CounterModeLemmas
 pub mod EachLemmas
-pub mod FastProduct
 pub mod KeySchedule
 pub mod KeyStreamLemmas
 pub mod LentParts
@@ -17,7 +15,6 @@ pub mod PlaneBits
 pub mod PlaneBlocks
 pub mod PlanePacking
 pub mod PlaneShifts
-pub mod PolynomialAction
 pub mod PolynomialBits
 pub mod PolynomialLaws
 pub mod PolynomialSums

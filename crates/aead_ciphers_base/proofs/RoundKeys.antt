@@ -1,15 +1,32 @@
--- The round keys of a key, and the key with which they begin.
-use Rattle.std.proofs.Common.{◌≡◌, ℕ, zero, suc, ◌+◌, ◌-◌, ◌*◌, ◌/◌, ◌%◌, ◌<◌, ◌≤◌, List, [], ◌∷◌, length, take, sym, ◌∙◌, ap, ap₂, arith, slice_index, slice_index_or, length-append}
+-- The round keys of a key, the key with which they begin, and one more round.
+use Rattle.std.proofs.Common.{◌≡◌, ℕ, zero, suc, ◌+◌, ◌-◌, ◌*◌, ◌/◌, ◌%◌, ◌<◌, ◌≤◌, List, [], ◌∷◌, length, take, sym, ◌∙◌, ap, ap₂, arith, slice_index, slice_index_or, length-append, refl}
 use Rattle.std.proofs.lemmas
 use lemmas.List.{get_or_append_left}
 use lemmas.List.FromFn.{fill_by_all}
 use Rattle.aead_ciphers_base.specs
-use specs.Aes.{word_at, key_words, cipher, aes, next_word}
+use specs.Aes.{word_at, key_words, cipher, aes, next_word, add_round_key, mix_columns, shift_rows, sub_bytes, rounds}
 use specs.Planes.{plane_byte}
 use specs.KeySchedule.{HoldsWords, key_of, IsSchedule}
 use Rattle.aead_ciphers_base.proofs
 use proofs.EachLemmas.{get_or-each, length-each}
 use proofs.KeySchedule.{key_word}
+
+pub rounds_none : (w : List (List ℕ)) (b : List ℕ) → rounds w b 0 ≡ add_round_key w 0 b
+unfolding rounds
+rounds_none w b = refl
+
+pub rounds_more : (w : List (List ℕ)) (b : List ℕ) (r : ℕ) → 0 < r
+    → rounds w b (r + 1 - 1) ≡ add_round_key w r (mix_columns (shift_rows (sub_bytes (rounds w b (r - 1)))))
+unfolding rounds
+rounds_more w b (suc n) h =
+    let same : suc n + 1 - 1 ≡ suc n = omega arith in
+    let before : n ≡ suc n - 1 = omega arith in
+    ap (rounds w b) same ∙ ap (λ i. add_round_key w (suc n) (mix_columns (shift_rows (sub_bytes (rounds w b i))))) before
+rounds_more w b _ h = absurd (omega arith)
+
+pub cipher_is : (w : List (List ℕ)) (n : ℕ) (b : List ℕ) → cipher w n b ≡ add_round_key w n (shift_rows (sub_bytes (rounds w b (n - 1))))
+unfolding cipher
+cipher_is w n b = refl
 
 length-key_words : (nk : ℕ) (key : List ℕ) (n : ℕ) → length (key_words nk key n) ≡ nk + n
 unfolding key_words

@@ -10,8 +10,7 @@ use specs.Planes.{plane_byte, plane_polynomial}
 use specs.Tower.{element, basis_4, basis_16, basis_256, plane_element}
 use Rattle.aead_ciphers_base.proofs
 use proofs.NumberBits.{all_below, all_below_at, bits_of-value_of, value_of-lt}
-use proofs.ByteFieldLaws.{field, inv_is}
-use proofs.FastProduct.{by_fast_mul8}
+use proofs.ByteFieldLaws.{field, inv_is, by_fast_mul8}
 
 -- a test passes at k bits if it does at those of each number below 2^k
 all_at_bits : (p : List Bool → Bool) (q : List Bool) → all_below (λ n. p (bits_of (length q) n)) (2 ^ length q) ≡ true → p q ≡ true

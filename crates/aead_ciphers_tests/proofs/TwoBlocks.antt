@@ -2,9 +2,7 @@
 use Rattle.std.proofs.Common.{◌≡◌, List, [], ◌∷◌, ℕ, refl, ap, ap₂, ◌∙◌}
 use Rattle.aead_ciphers_base.specs.Bytes.{◌⊕◌, zero_block}
 use Rattle.aead_ciphers.specs.Ghash.{IsBlock, ◌•◌, ghash, unit_block}
-use Rattle.aead_ciphers.proofs
-use proofs.BlockCancellation.{IsBlock-unit, product_zero}
-use proofs.GhashLaws.{Sized, product_unit}
+use Rattle.aead_ciphers.proofs.GhashLaws.{IsBlock-unit, product_zero, Sized, product_unit}
 
 pub under_zero : (x y : List ℕ) → Sized x → Sized y → ghash zero_block (x ∷ y ∷ []) ≡ zero_block
 unfolding ghash

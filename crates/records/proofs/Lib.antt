@@ -1,4 +1,3 @@
-mod GatherLemmas
 mod InnerLemmas
 mod RecordLemmas
 pub mod RunLemmas

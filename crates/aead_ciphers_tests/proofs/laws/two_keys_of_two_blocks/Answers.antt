@@ -1,8 +1,7 @@
 use Rattle.std.proofs.Common.{refl, ap₂}
 use Rattle.aead_ciphers_base.specs.Bytes.{◌⊕◌, zero_block}
 use Rattle.aead_ciphers.specs.Ghash.{unit_block}
-use Rattle.aead_ciphers.proofs.BlockCancellation.{IsBlock-unit, IsBlock-zero}
-use Rattle.aead_ciphers.proofs.GhashLaws.{product_unit}
+use Rattle.aead_ciphers.proofs.GhashLaws.{IsBlock-unit, IsBlock-zero, product_unit}
 use Rattle.aead_ciphers_tests.proofs
 use proofs.TwoBlocks.{under_unit, under_zero}
 use proofs.laws.two_keys_of_two_blocks.Goals as goal

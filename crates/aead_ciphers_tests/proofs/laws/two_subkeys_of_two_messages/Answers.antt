@@ -2,7 +2,7 @@ use Rattle.std.proofs.Common.{◌≡◌, [], ◌∷◌, ◌++◌, replicate, ref
 use Rattle.std.specs.Int.{to_be_bytes, w128}
 use Rattle.aead_ciphers_base.specs.Bytes.{zero_block}
 use Rattle.aead_ciphers.specs.Gcm.{hashed, length_block, padded_block, padded_blocks}
-use Rattle.aead_ciphers.proofs.BlockCancellation.{IsBlock-zero}
+use Rattle.aead_ciphers.proofs.GhashLaws.{IsBlock-zero}
 use Rattle.aead_ciphers.proofs.GhashBlocks.{IsBlock-number}
 use Rattle.aead_ciphers_tests.proofs
 use proofs.TwoBlocks.{under_unit, under_zero}

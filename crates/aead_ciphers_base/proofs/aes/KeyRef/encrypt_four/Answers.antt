@@ -1,9 +1,9 @@
 use Rattle.std.proofs.Common.{arith, ap, sym, ◌∙◌, ◌≡◌, ◌+◌, ◌-◌, slice_index_or, []}
 use Rattle.aead_ciphers_base.specs.Aes.{add_round_key, aes, mix_columns, shift_rows, sub_bytes, rounds}
-use Rattle.aead_ciphers_base.proofs.CipherRounds.{rounds_none, rounds_more, cipher_is}
-use Rattle.aead_ciphers_base.proofs.PlaneBlocks.{sub_block, shift_block, mix_block, add_block, packed_block}
-use Rattle.aead_ciphers_base.proofs.RoundKeys.{aes_of_schedule, schedule_words}
-use Rattle.aead_ciphers_base.proofs.aes.KeyRef.encrypt_four.Goals as goal
+use Rattle.aead_ciphers_base.proofs
+use proofs.RoundKeys.{rounds_none, rounds_more, cipher_is, aes_of_schedule, schedule_words}
+use proofs.PlaneBlocks.{sub_block, shift_block, mix_block, add_block, packed_block}
+use proofs.aes.KeyRef.encrypt_four.Goals as goal
 
 pub loop-round-init : goal.loop-round-init
 loop-round-init c = λ k hk.

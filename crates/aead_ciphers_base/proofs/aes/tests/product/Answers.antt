@@ -5,8 +5,7 @@ use lemmas.Nat.Bits.{shr_and_one}
 use Rattle.aead_ciphers_base.specs.ByteField.{mul8}
 use Rattle.aead_ciphers_base.proofs
 use proofs.NumberBits.{IsAdditive_zero}
-use proofs.ByteFieldLaws.{mul8-xor_right, two_is}
-use proofs.FastProduct.{step_of_product}
+use proofs.ByteFieldLaws.{mul8-xor_right, two_is, step_of_product}
 use proofs.aes.tests.product.Goals as goal
 
 by_bit : (a d : ℕ) → d < 2 → a * d ≡ (if d == 1 then a else 0)

@@ -1,11 +1,9 @@
-use Rattle.std.proofs.Common.{refl, rules}
-use Rattle.std.proofs.lemmas
-use lemmas.Bool.{iff_false}
-use lemmas.Result.{err_from_is_err_and}
-use Rattle.records.proofs
-use proofs.GatherLemmas.{false_tag_read, found_read, zeros_read}
-use proofs.RecordLemmas.{reads_no_record}
-use proofs.reader.Reader.gather.Goals as goal
+use Rattle.std.proofs
+use proofs.Common.{refl, rules}
+use proofs.lemmas.Bool.{iff_false}
+use proofs.lemmas.Result.{err_from_is_err_and}
+use Rattle.records.proofs.RecordLemmas.{false_tag_read, found_read, zeros_read, reads_no_record}
+use Rattle.records.proofs.reader.Reader.gather.Goals as goal
 
 pub returns-in_err-header-clause-reads : goal.returns-in_err-header-clause-reads
 returns-in_err-header-clause-reads c =
