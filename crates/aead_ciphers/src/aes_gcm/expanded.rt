@@ -100,6 +100,7 @@ impl ExpandedKey {
         let gcm = gcm::KeyRef::new(&self.multiples);
         opening::open_with(&aes, &gcm, nonce, aad, received_tag, in_out, src, work)
     }
+
     /// `open` that returns the length of the plaintext.
     pub fn open_to_front(
         &self,
@@ -145,6 +146,7 @@ impl ExpandedKey {
             None => Err(Unspecified),
         }
     }
+
     /// Opens a ciphertext to another buffer of its length. Refused where the lengths don't fit and where the tag is false:
     /// then no byte of the buffer is changed.
     pub fn open_to(
