@@ -140,6 +140,8 @@ two_is b h = same_below (λ t. bit_xor (t * 2 ^ 1 % 2 ^ 8) (t / 2 ^ 7 * 0x1b)) (
 pub three_is : (b : ℕ) → b < 256 → bit_xor (mul8 2 b) b ≡ mul8 3 b
 three_is b h = sym (mul8-xor_left b 2 1 ∙ ap (bit_xor (mul8 2 b)) (one-mul8 b h))
 
+-- ---- the product by doublings
+
 halves_test : all_below (λ z. bit_xor (mul8 2 (z / 2)) (z % 2) == z) 256 ≡ true
 unfolding field
 halves_test = refl

@@ -10,7 +10,8 @@ use borrow.Author.Count.{below_more}
 use Rattle.aead_ciphers_base.specs.Bytes.{◌⊕◌}
 
 pub same_of_xor : (x y : ℕ) → bit_xor x y ≡ 0 → x ≡ y
-same_of_xor x y e = sym (xor_zero_r x) ∙ ap (bit_xor x) (sym (xor_self y)) ∙ sym (xor_assoc x y y) ∙ ap (λ z. bit_xor z y) e ∙ xor_zero_l y
+same_of_xor x y e = sym (xor_zero_r x) ∙ ap (bit_xor x) (sym (xor_self y)) ∙ sym (xor_assoc x y y)
+    ∙ ap (λ z. bit_xor z y) e ∙ xor_zero_l y
 
 -- the difference is 0 exactly where the first i bytes are the same, in two halves
 pub record SameSoFar (a b : List ℕ) (difference i : ℕ) : Type 0 where

@@ -18,8 +18,10 @@ pub number_is : (old nonce : List ℕ) (k : ℕ) → IsCounter old nonce k →
     from_be_bytes w32 (get_or old 12 0 ∷ get_or old 13 0 ∷ get_or old 14 0 ∷ get_or old 15 0 ∷ []) ≡ k % 2 ^ 32
 number_is old nonce k at =
     let bs = to_be_bytes w32 (k % 2 ^ 32) in
-    ap₂ (λ a b. from_be_bytes w32 (a ∷ b ∷ get_or old 14 0 ∷ get_or old 15 0 ∷ [])) (last_byte old nonce k 0 at) (last_byte old nonce k 1 at)
-    ∙ ap₂ (λ a b. from_be_bytes w32 (get_or bs 0 0 ∷ get_or bs 1 0 ∷ a ∷ b ∷ [])) (last_byte old nonce k 2 at) (last_byte old nonce k 3 at)
+    ap₂ (λ a b. from_be_bytes w32 (a ∷ b ∷ get_or old 14 0 ∷ get_or old 15 0 ∷ [])) (last_byte old nonce k 0 at)
+    (last_byte old nonce k 1 at)
+    ∙ ap₂ (λ a b. from_be_bytes w32 (get_or bs 0 0 ∷ get_or bs 1 0 ∷ a ∷ b ∷ [])) (last_byte old nonce k 2 at)
+    (last_byte old nonce k 3 at)
     ∙ from_be_bytes-to_be_bytes_4 _ (omega arith)
 
 sum_later : (k by : ℕ) → (k % 2 ^ 32 + by) % 2 ^ 32 ≡ (k + by) % 2 ^ 32
@@ -35,14 +37,16 @@ counter_more old nonce bytes k by number at ne be =
       value =
           ap₂ (λ u v. u ++ (bytes ++ drop 4 v))
           (ap (take 12) at.value ∙ take_at nonce bs 12 at.size) (ap (drop 12) at.value ∙ drop_at nonce bs 12 at.size)
-          ∙ ap (λ u. nonce ++ u) (append-nil bytes ∙ be ∙ ap (to_be_bytes w32) (ap (λ x. (x + by) % 2 ^ 32) ne ∙ sum_later k by));
+          ∙ ap (λ u. nonce ++ u) (append-nil bytes ∙ be ∙ ap (to_be_bytes w32) (ap (λ x. (x + by) % 2 ^ 32) ne
+          ∙ sum_later k by));
     }
 
 pub counter_one : (nonce copied : List ℕ) → length nonce ≡ 12 → copied ≡ nonce → IsCounter (set (copied ++ 0 ∷ 0 ∷ 0 ∷ 0 ∷ []) 15 1) nonce 1
 unfolding counter_block
 counter_one nonce copied size e = record {
   size = size;
-  value = ap (λ u. set (u ++ 0 ∷ 0 ∷ 0 ∷ 0 ∷ []) 15 1) e ∙ set-append_right nonce (0 ∷ 0 ∷ 0 ∷ 0 ∷ []) 12 15 1 size (omega arith);
+  value = ap (λ u. set (u ++ 0 ∷ 0 ∷ 0 ∷ 0 ∷ []) 15 1) e
+      ∙ set-append_right nonce (0 ∷ 0 ∷ 0 ∷ 0 ∷ []) 12 15 1 size (omega arith);
 }
 
 pub counter_at : (c nonce : List ℕ) (j k : ℕ) → IsCounter c nonce j → j ≡ k → IsCounter c nonce k
@@ -63,7 +67,8 @@ pub counter_exists : (block : List ℕ) → length block ≡ 16 → ((i : ℕ) �
 unfolding counter_block
 counter_exists block size bytes =
     let last = drop 12 block in
-    let below : (i : ℕ) → get_or last i 0 < 256 = λ i. subst (λ x. x < 256) (sym (get_or-drop 12 block i 0)) (bytes (12 + i)) in
+    let below : (i : ℕ) → get_or last i 0 < 256 = λ i. subst (λ x. x < 256) (sym (get_or-drop 12 block i 0))
+    (bytes (12 + i)) in
     let four : length last ≡ 4 = length-drop 12 block ∙ omega arith in
     let number = from_be_bytes w32 last in
     let again = be_bytes_4 last number four below refl in

@@ -80,7 +80,8 @@ module _ (cipher : List ℕ → List ℕ) (nonce : List ℕ) where
       ap₂ (λ u v. take d now ++ (u ++ v)) (we ∙ ap₂ (λ (u : List ℕ) (n : ℕ). u ++ drop n rest) front size) none
       ∙ ap (λ u. take d now ++ u) (append-nil (counter_mode cipher nonce _ block ++ drop 16 rest))
       ∙ sym (append_assoc (take d now) _ (drop 16 rest))
-      ∙ ap₂ (λ u v. take d now ++ counter_mode cipher nonce (k + i) (take 16 u) ++ v) (ap (λ n. drop n now) (sym here)) (drop-drop 16 d now)
+      ∙ ap₂ (λ u v. take d now ++ counter_mode cipher nonce (k + i) (take 16 u) ++ v) (ap (λ n. drop n now) (sym here))
+      (drop-drop 16 d now)
       ∙ advance k i d 16 0 was now refl (omega arith) e
       ∙ ap (λ n. counter_mode cipher nonce k (take n was) ++ drop n was) next
 
@@ -126,12 +127,14 @@ encrypts_window cipher counter s d n size xs w room e front = λ nonce k at.
     let len : length win - s ≡ n = omega arith in
     let place : d + s ≡ s + d = omega arith in
     let text : drop s win ≡ take n (drop (s + d) xs) =
-    ap (λ z. drop s (take z rest)) part ∙ drop-take s n rest ∙ ap (take n) (drop-drop s d xs ∙ ap (λ z. drop z xs) place) in
+    ap (λ z. drop s (take z rest)) part ∙ drop-take s n rest
+    ∙ ap (take n) (drop-drop s d xs ∙ ap (λ z. drop z xs) place) in
     let tail : drop (length win - s) win ++ drop size rest ≡ drop (d + n) xs =
     ap (λ z. drop z win ++ drop size rest) len ∙ sym (drop-append-le n win (drop size rest) (omega arith))
     ∙ ap (drop n) (take-append-drop size rest) ∙ drop-drop n d xs in
     ap (λ u. take d xs ++ (u ++ drop size rest)) (front nonce k at)
-    ∙ ap (λ u. take d xs ++ u) (append_assoc (counter_mode cipher nonce k (drop s win)) (drop (length win - s) win) (drop size rest))
+    ∙ ap (λ u. take d xs ++ u) (append_assoc (counter_mode cipher nonce k (drop s win)) (drop (length win - s) win)
+    (drop size rest))
     ∙ ap₂ (λ u v. take d xs ++ (counter_mode cipher nonce k u ++ v)) text tail
     ∙ sym (append_assoc (take d xs) (counter_mode cipher nonce k (take n (drop (s + d) xs))) (drop (d + n) xs))
 

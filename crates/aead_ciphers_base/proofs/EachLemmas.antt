@@ -21,7 +21,8 @@ each-same (suc n) f g h =
     ∙ sym (ap (λ k. each_below k g) e)
 
 pub each-append : {X : Type 0} (m n : ℕ) (f : ℕ → X) → each_below (m + n) f ≡ each_below m f ++ each_below n (λ i. f (m + i))
-each-append m zero f = ap (λ k. each_below k f) (let e : m + 0 ≡ m = omega arith in e) ∙ sym (append-nil (each_below m f))
+each-append m zero f = ap (λ k. each_below k f) (let e : m + 0 ≡ m = omega arith in e)
+    ∙ sym (append-nil (each_below m f))
 each-append m (suc n) f =
     let e : m + suc n ≡ m + n + 1 = omega arith in
     let e' : n + 1 ≡ suc n = omega arith in

@@ -65,7 +65,7 @@ module _ (key : List ℕ) (counter : ℕ) (nonce : List ℕ) where
       ∙ advance f g at n start old was (stream_byte-later j at whole) (omega arith) held'
       ∙ ap₂ (λ (u : List ℕ) (k : ℕ). xored f u ++ drop k old) all la
 
-  -- what comes after j whole blocks of a slice is written, after them
+  -- what stands after j whole blocks of a slice is written after them
   pub written_rest : (start at j : ℕ) (old was rest : List ℕ)
       → was ≡ chacha20_encrypted key counter nonce (take at (drop start old)) ++ drop (length (take at (drop start old))) old
       → at ≡ 64 * j → start + at ≤ length old
@@ -84,9 +84,11 @@ module _ (key : List ℕ) (counter : ℕ) (nonce : List ℕ) where
       let lw : length was ≡ length old = ap length held' ∙ simp (length-append, length-xored, length-drop) (omega arith) in
       let none = drop_all (length was - at) (drop at was) (simp length-drop (omega arith)) in
       let part = take_all (length was - at) (drop at was) (simp length-drop (omega arith)) in
-      let piece : drop start (drop at was) ≡ drop (start + at) was = drop-drop start at was ∙ ap (λ k. drop k was) (omega arith) in
+      let piece : drop start (drop at was) ≡ drop (start + at) was = drop-drop start at was
+      ∙ ap (λ k. drop k was) (omega arith) in
       let behind =
-      drop-drop (length (drop (start + at) was)) at was ∙ ap (λ k. drop k was) (omega (arith, length-drop (start + at) was)) in
+      drop-drop (length (drop (start + at) was)) at was
+      ∙ ap (λ k. drop k was) (omega (arith, length-drop (start + at) was)) in
       rw (none, append-nil rest, rw (part, piece) at e, behind)
       (sym (append_assoc (take at was) _ _)
       ∙ finish f g at start old was (stream_byte-later j at whole) within lw held'

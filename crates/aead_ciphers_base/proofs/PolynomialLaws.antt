@@ -34,8 +34,10 @@ product_of_none b k = xor_sum-none (suc k) _ (λ i. refl)
 product_coefficient-cons : (x : Bool) (a b : List Bool) → product_coefficient (x ∷ a) b ≡ add (scale x (coefficient b)) (shift (product_coefficient a b))
 product_coefficient-cons x a b =
     same_steps _ _ (sym (xor_zero (x && coefficient b zero))) (λ k. xor_sum-first (suc k) (λ i. coefficient (x ∷ a) i && coefficient b _)
-    ∙ ap (λ j. (x && coefficient b j) xor xor_sum (suc k) (λ i. coefficient a i && coefficient b (suc k - suc i))) (sub-zero (suc k))
-    ∙ ap (λ g. (x && coefficient b (suc k)) xor xor_sum (suc k) g) (same_series (λ i. ap (λ j. coefficient a i && coefficient b j)
+    ∙ ap (λ j. (x && coefficient b j) xor xor_sum (suc k) (λ i. coefficient a i && coefficient b (suc k - suc i)))
+    (sub-zero (suc k))
+    ∙ ap (λ g. (x && coefficient b (suc k)) xor xor_sum (suc k) g)
+    (same_series (λ i. ap (λ j. coefficient a i && coefficient b j)
     (suc-sub-suc k i))))
 
 -- ---- one step of x, and Horner's rule. `top` is the degree less one, `m` the modulus with its highest coefficient
@@ -132,7 +134,8 @@ module _ (top : ℕ) (m : Series) where
   pub horner_more : (n k : ℕ) (c f : Series) → k ≤ n → ((j : ℕ) → k ≤ j → c j ≡ false) → horner n c f ≡ horner k c f
   horner_more n zero c f below above = horner_none n c f (λ j. above j (omega arith))
   horner_more (suc n) (suc k) c f below above =
-      ap (λ s. add (scale (c zero) f) (mul_x s)) (horner_more n k (λ j. c _) f (omega arith) (λ j h. above (suc j) (omega arith)))
+      ap (λ s. add (scale (c zero) f) (mul_x s)) (horner_more n k (λ j. c _) f (omega arith)
+      (λ j h. above (suc j) (omega arith)))
   horner_more _ _ c f below above = absurd (omega arith)
 
   -- one higher coefficient
@@ -150,7 +153,8 @@ module _ (top : ℕ) (m : Series) where
   map_times zero a c f = refl
   map_times (suc n) a c f =
       ap₂ (λ (b : Bool) (s : Series). add (scale b f) (mul_x s)) (ap c (sym (add-zero a)))
-      (map_times n _ c f ∙ ap (λ e. horner n e f) (same_series (λ k. let e : a + 1 + k ≡ a + suc k = omega arith in ap c e)))
+      (map_times n _ c f ∙ ap (λ e. horner n e f) (same_series (λ k. let e : a + 1 + k ≡ a + suc k = omega arith in
+      ap c e)))
 
   pub polynomial_times : (n : ℕ) (c f : Series) → times (each_below n c) f ≡ horner n c f
   polynomial_times n c f = map_times n 0 c f ∙ ap (λ e. horner n e f) (same_series (λ k. ap c (zero-add k)))
@@ -172,6 +176,8 @@ module _ (top : ℕ) (m : Series) where
   product_times a b f some =
       let n = length a + length b - 1 in
       polynomial_times n _ f ∙ horner-product a b n f some (omega arith)
+
+-- ---- reduction
 
 abbrev pub one : Series
 one zero = true
@@ -227,7 +233,8 @@ raised_taps : (n : ℕ) (taps : List ℕ) → (λ j. list_any (λ t. n + t == j)
 raised_taps zero taps = same_series (λ j. same_test _ _ taps (λ t. ap (λ s. s == j) (zero-add t)))
 raised_taps (suc n) taps = same_steps _ _
     (same_test _ (λ t. false) taps (λ t. ap (λ s. s == zero) (suc-add n t) ∙ eqb-suc-zero (n + t)) ∙ never taps)
-    (λ j. same_test _ _ taps (λ t. ap (λ s. s == suc j) (suc-add n t) ∙ eqb-suc-suc _ j) ∙ ap (λ f. f j) (raised_taps n taps))
+    (λ j. same_test _ _ taps (λ t. ap (λ s. s == suc j) (suc-add n t) ∙ eqb-suc-suc _ j)
+    ∙ ap (λ f. f j) (raised_taps n taps))
 
 -- ---- degree `suc top`
 
@@ -263,14 +270,16 @@ module _ (taps : List ℕ) (top : ℕ) (low : AllBelow (suc top) taps) where
 
   horner-shifts : (n k : ℕ) (c f : Series) → horner top m (n + k) (shifts n c) f ≡ raise top m n (horner top m k c f)
   horner-shifts zero k c f = ap (λ j. horner top m j c f) (zero-add k)
-  horner-shifts (suc n) k c f = ap (λ j. horner top m j (shift (shifts n c)) f) (suc-add n k) ∙ ap (mul_x top m) (horner-shifts n k c f)
+  horner-shifts (suc n) k c f = ap (λ j. horner top m j (shift (shifts n c)) f) (suc-add n k)
+      ∙ ap (mul_x top m) (horner-shifts n k c f)
 
   -- coefficients below the degree are their own multiple of one
   horner_one : (n : ℕ) (c : Series) → n ≤ suc top → ((k : ℕ) → n ≤ k → c k ≡ false) → horner top m n c one ≡ c
   horner_one zero c h above = same_series (λ k. sym (above k (omega arith)))
   horner_one (suc n) c h above =
       let rest : Series = λ k. c _ in
-      ap (λ s. add (scale (c zero) one) (mul_x top m s)) (horner_one n rest (omega arith) (λ k g. above (suc k) (omega arith)))
+      ap (λ s. add (scale (c zero) one) (mul_x top m s))
+      (horner_one n rest (omega arith) (λ k g. above (suc k) (omega arith)))
       ∙ ap (add (scale (c zero) one)) (mul_x-low rest (above (suc top) h))
       ∙ same_steps _ _ (xor_zero _ ∙ and-true _) (λ k. ap (λ b. b xor c (suc k)) (and-false (c zero)))
 

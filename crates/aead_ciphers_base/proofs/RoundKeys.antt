@@ -11,6 +11,8 @@ use Rattle.aead_ciphers_base.proofs
 use proofs.EachLemmas.{get_or-each, length-each}
 use proofs.KeySchedule.{key_word}
 
+-- ---- one more round
+
 pub rounds_none : (w : List (List ℕ)) (b : List ℕ) → rounds w b 0 ≡ add_round_key w 0 b
 unfolding rounds
 rounds_none w b = refl

@@ -56,14 +56,17 @@ module _ {T C F : Type 0} (items : C → List T) (g : Mut F (Bor C × Unit {0}) 
 
     front : take (i * n) cur ≡ outs
     unfolding outs
-    front = ap (take (i * n)) s.written ∙ ap (λ x. take x (outs ++ drop (i * n) old)) (sym count) ∙ take-append_seam outs (drop (i * n) old)
+    front = ap (take (i * n)) s.written ∙ ap (λ x. take x (outs ++ drop (i * n) old)) (sym count)
+        ∙ take-append_seam outs (drop (i * n) old)
 
     rest : drop (i * n) cur ≡ drop (i * n) old
     unfolding outs
-    rest = ap (drop (i * n)) s.written ∙ ap (λ x. drop x (outs ++ drop (i * n) old)) (sym count) ∙ drop-append_seam outs _
+    rest = ap (drop (i * n)) s.written ∙ ap (λ x. drop x (outs ++ drop (i * n) old)) (sym count)
+        ∙ drop-append_seam outs _
 
     block : drop (start + i * n) cur ≡ drop (i * n) (drop start old)
-    block = ap (λ x. drop x cur) (add_comm start _) ∙ sym (drop-drop start _ cur) ∙ ap (drop start) rest ∙ drop-drop start _ old
+    block = ap (λ x. drop x cur) (add_comm start _) ∙ sym (drop-drop start _ cur) ∙ ap (drop start) rest
+        ∙ drop-drop start _ old
         ∙ ap (λ x. drop x old) (add_comm (i * n) start) ∙ sym (drop-drop (i * n) start old)
 
     -- so f may be called at it
@@ -109,6 +112,7 @@ module _ {T C F : Type 0} (items : C → List T) (g : Mut F (Bor C × Unit {0}) 
         calls = s.calls;
         last = last;
         ran = s.ran;
-        taken = s.taken ∙ ap (λ x. first_chunks n x (drop start old)) (done ∙ ap (λ x. x / n) (sym (length-drop start old)));
+        taken = s.taken ∙ ap (λ x. first_chunks n x (drop start old)) (done
+            ∙ ap (λ x. x / n) (sym (length-drop start old)));
         written = s.written ∙ ap (λ x. joined (map (λ (x : C × C). items x.1) s.calls) ++ drop x old) all;
       }

@@ -66,7 +66,8 @@ pub all_from : (f : ℕ → ℕ) (s d : ℕ) (was : List ℕ) → d ≡ length w
     xored f (take d (drop s was)) ++ drop d was ≡ xored f (drop s was) ++ drop (length was - s) was
 all_from f s d was all =
     ap (λ n. xored f (take n (drop s was)) ++ drop n was) all
-    ∙ ap (λ u. xored f u ++ drop (length was - s) was) (take_all (length was - s) (drop s was) (omega (arith, length-drop s was)))
+    ∙ ap (λ u. xored f u ++ drop (length was - s) was)
+    (take_all (length was - s) (drop s was) (omega (arith, length-drop s was)))
 
 -- the front up to d was written, and then all that is left
 pub finish : (f g : ℕ → ℕ) (d s : ℕ) (was now : List ℕ) → ((i : ℕ) → f (d + i) ≡ g i) → s + d ≤ length was → length now ≡ length was →

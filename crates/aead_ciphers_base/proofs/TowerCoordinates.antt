@@ -61,7 +61,8 @@ four_bits x p e h =
 -- ---- the products
 
 abbrev pub product_4 : List Bool → List Bool → List Bool
-product_4 (a0 ∷ a1 ∷ []) (b0 ∷ b1 ∷ []) = let both = (a0 xor a1) && (b0 xor b1) in ((a0 && b0) xor both) ∷ ((a1 && b1) xor both) ∷ []
+product_4 (a0 ∷ a1 ∷ []) (b0 ∷ b1 ∷ []) = let both = (a0 xor a1) && (b0 xor b1) in
+    ((a0 && b0) xor both) ∷ ((a1 && b1) xor both) ∷ []
 product_4 _ _ = []
 
 pub product_4_is : (a b : List ℕ) (p : ℕ)
@@ -152,7 +153,8 @@ inverse_16_is n p =
 -- the power 17, which lies in the field of 16
 abbrev power_17_by : (ℕ → ℕ → ℕ) → List Bool → List Bool
 power_17_by mul (a0 ∷ a1 ∷ a2 ∷ a3 ∷ a4 ∷ a5 ∷ a6 ∷ a7 ∷ []) =
-    let c = coordinates basis_16 (mul (element basis_16 (a0 ∷ a1 ∷ a2 ∷ a3 ∷ [])) (element basis_16 (a4 ∷ a5 ∷ a6 ∷ a7 ∷ []))) in
+    let c = coordinates basis_16 (mul (element basis_16 (a0 ∷ a1 ∷ a2 ∷ a3 ∷ []))
+    (element basis_16 (a4 ∷ a5 ∷ a6 ∷ a7 ∷ []))) in
     let s0 = a0 xor a4 in let s1 = a1 xor a5 in let s2 = a2 xor a6 in let s3 = a3 xor a7 in
     (coefficient c 0 xor s1 xor s3) ∷ (coefficient c 1 xor s0 xor s2) ∷ (coefficient c 2 xor s2) ∷ (coefficient c 3 xor s2 xor s3) ∷ []
 power_17_by mul _ = []

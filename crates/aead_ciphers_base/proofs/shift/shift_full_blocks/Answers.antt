@@ -56,4 +56,5 @@ returns g c =
     let size : c.chunk_len-size.result ≡ n = c.chunk_len-size.ensures in
     let done : c.loop-i.i ≡ (length old - start) / c.chunk_len-size.result = omega arith in
     shifts_all g.C.Chunk.chunk_items g.F.FnMut n c.args.transform old start
-    c.loop-i.i c.loop-i.in_out c.loop-i.transform (done ∙ ap (λ x. (length old - start) / x) size) c.requires.whole c.loop-i.invariant
+    c.loop-i.i c.loop-i.in_out c.loop-i.transform (done
+    ∙ ap (λ x. (length old - start) / x) size) c.requires.whole c.loop-i.invariant

@@ -33,7 +33,8 @@ loop-i-preserved c =
           );
       output = λ nonce k at.
           block_step (aes c.args.key.now) nonce k i (64 - 16 * i) c.args.batch.now c.loop-i.batch pad c.xor_assign_at_start.new.a
-          (omega arith) (c.loop-i.invariant.size ∙ sym all) (ap (λ n. n - 16 * i) (sym c.loop-i.invariant.size)) (c.loop-i.invariant.output nonce k at)
+          (omega arith) (c.loop-i.invariant.size ∙ sym all) (ap (λ n. n - 16 * i) (sym c.loop-i.invariant.size))
+          (c.loop-i.invariant.output nonce k at)
           (c.encrypt_four-keystream.ensures i here ∙ ap (aes c.args.key.now) (c.next_four.ensures nonce k at i here).value) pad_size
           (c.xor_assign_at_start.ensures ∙ ap (λ u. (u ⊕ pad) ++ drop (length pad) u) whole);
     }

@@ -1,4 +1,4 @@
-use Rattle.std.proofs.Common.{◌*◌, ◌<◌, arith, rules, ap, ◌∙◌, ◌∷◌, [], List, ℕ, slice_index}
+use Rattle.std.proofs.Common.{◌*◌, ◌<◌, arith, rules, ap, ◌∙◌, ◌∷◌, [], ℕ, slice_index}
 use Rattle.std.proofs.lemmas.Nat.{le_bytes_4}
 use Rattle.aead_ciphers_base.specs
 use specs.ByteField.{sbox}

@@ -20,7 +20,8 @@ loop-j-preserved c =
     let next : 64 * (j + 1) ≡ 64 * j + 64 = omega arith in
     let number : c.args.counter.now.number + (c.args.first + j) ≡ first + j = omega arith in
     let block : c.state_block-block.result ≡ chacha20_block key (first + j) nonce =
-    c.state_block-block.ensures ∙ ap state_block c.initial_state.ensures.state ∙ ap (λ n. chacha20_block key n nonce) number in
+    c.state_block-block.ensures ∙ ap state_block c.initial_state.ensures.state
+    ∙ ap (λ n. chacha20_block key n nonce) number in
     rw next (c.xor_stream.ensures
     ∙ written_more key first nonce c.args.start (64 * j) j 64 c.min-n.result
     c.args.in_out.now c.loop-j.in_out c.state_block-block.result c.loop-j.invariant

@@ -8,7 +8,8 @@ pub returns : goal.returns
 returns c =
     let words = c.self.inside.words in
     let size : length (le_words c.args.self.now) ≡ 8 =
-    ap (λ k. length (le_words k)) (sym c.self.view_is) ∙ ap length (le_words-le_bytes words c.self.invariant) ∙ c.self.told in
+    ap (λ k. length (le_words k)) (sym c.self.view_is) ∙ ap length (le_words-le_bytes words c.self.invariant)
+    ∙ c.self.told in
     let state =
     initial_state_words words c.counter.inside.words _ _ _ _ c.self.told c.counter.told c.self.invariant c.counter.invariant
     (c.copy_from_slice.ensures.after ∙ ap (elements_from 4 0) (c.le_words.ensures ∙ constants_are))

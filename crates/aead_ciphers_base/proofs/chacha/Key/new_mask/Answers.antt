@@ -12,7 +12,8 @@ unfolding chacha20_block chacha_mask
 returns c =
     let size : length c.args.sample ≡ 16 = search rules in
     let words = c.le_words.ensures ∙ le_words-first c.args.sample (omega arith) in
-    let number : get_or c.le_words.result 0 0 + 0 ≡ from_le_bytes w32 (take 4 c.args.sample) = add-zero _ ∙ ap (λ ws. get_or ws 0 0) words in
+    let number : get_or c.le_words.result 0 0 + 0 ≡ from_le_bytes w32 (take 4 c.args.sample) = add-zero _
+    ∙ ap (λ ws. get_or ws 0 0) words in
     let bytes : (i : ℕ) → get_or c.args.sample i 0 < 256 = search rules in
     let nonce : le_bytes (drop 1 c.le_words.result) ≡ drop 4 c.args.sample =
     ap (λ ws. le_bytes (drop 1 ws)) words

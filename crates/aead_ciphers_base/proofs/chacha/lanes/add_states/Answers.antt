@@ -31,7 +31,8 @@ loop-k-preserved c =
           lane_more j k c.loop-k.states c.add.result (zip2 add32 (lane j old) (lane j addend)) (omega arith)
           (omega (arith, sums j old addend c.told-states c.told-addend))
           (c.add.ensures j h
-          ∙ ap (λ v. add32 (slice_index v j) (slice_index (slice_index_or addend k []) j)) (c.loop-k.invariant.rest k (omega arith))
+          ∙ ap (λ v. add32 (slice_index v j) (slice_index (slice_index_or addend k []) j))
+          (c.loop-k.invariant.rest k (omega arith))
           ∙ sym (sum j k old addend c.told-states c.told-addend (omega arith)))
           (c.loop-k.invariant.added j h);
       rest = λ i h. get_or-set_other c.loop-k.states k i c.add.result [] (omega arith) ∙ c.loop-k.invariant.rest i (omega arith);

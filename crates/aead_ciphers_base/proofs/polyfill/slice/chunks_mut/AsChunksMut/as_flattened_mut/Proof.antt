@@ -84,7 +84,8 @@ module _ (X : RattleType) (N : ℕ) {M : Type 1} {𝓤 : Ura M} (𝓛 : Logic �
   back ws same =
       let x : MutBor (List X.Denot) = (with_items d ws).items in
       let kept : n ≡ length x.now = length_refill n xs ws refl in
-      let is : x.now ≡ ws = ap (λ k. take k (ws ++ drop_list (length ws) xs)) (sym same) ∙ take-append_seam ws (drop_list (length ws) xs) in
+      let is : x.now ≡ ws = ap (λ k. take k (ws ++ drop_list (length ws) xs)) (sym same)
+      ∙ take-append_seam ws (drop_list (length ws) xs) in
       qed 𝓛 (‵ (fobs δ ((coded_list R.coded).code ws)) ∷ ‵ (fbor a.lft (Lies n δ)) ∷ ‵ (fsep (Cell n) (room R n)) ∷ []) ∵
       rewrite ! 0 (λ (l : List X.Denot). ‵ (fobs δ ((coded_list R.coded).code l))) (sym is ∙ sym (heres_id R x.now)) refl $
       rewrite ! 1 (λ (k : ℕ). ‵ (fbor a.lft (Lies k δ))) kept refl $
