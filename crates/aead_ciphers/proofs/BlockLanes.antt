@@ -89,7 +89,8 @@ pub words_chosen : (b : Bool) (s0 s1 s2 s3 w0 w1 w2 w3 t0 t1 t2 t3 : ℕ) →
     let s = s0 ∷ s1 ∷ s2 ∷ s3 ∷ [] in let w = w0 ∷ w1 ∷ w2 ∷ w3 ∷ [] in AllSmall s → AllSmall w →
     t0 ≡ (if b then bit_xor s0 w0 else s0) → t1 ≡ (if b then bit_xor s1 w1 else s1) →
     t2 ≡ (if b then bit_xor s2 w2 else s2) → t3 ≡ (if b then bit_xor s3 w3 else s3) →
-    number_of_words (t0 ∷ t1 ∷ t2 ∷ t3 ∷ []) ≡ (if b then bit_xor (number_of_words s) (number_of_words w) else number_of_words s)
+    number_of_words (t0 ∷ t1 ∷ t2 ∷ t3 ∷ []) ≡ (if b then bit_xor (number_of_words s) (number_of_words w)
+    else number_of_words s)
 words_chosen false s0 s1 s2 s3 w0 w1 w2 w3 t0 t1 t2 t3 small_s small_w e0 e1 e2 e3 = rw (e0, e1, e2, e3) refl
 words_chosen true s0 s1 s2 s3 w0 w1 w2 w3 t0 t1 t2 t3 small_s small_w e0 e1 e2 e3 =
     rw (e0, e1, e2, e3) (number-xor (s0 ∷ s1 ∷ s2 ∷ s3 ∷ []) (w0 ∷ w1 ∷ w2 ∷ w3 ∷ []) refl small_s small_w)
@@ -138,8 +139,12 @@ pub number-lanes : (a b c d : List ℕ) → IsVector a → IsVector b → IsVect
     ≡ bit_xor (bit_xor (bit_xor (bit_xor 0 (number_of_words (lane a b c d 0))) (number_of_words (lane a b c d 1))) (number_of_words (lane a b c d 2)))
     (number_of_words (lane a b c d 3))
 number-lanes a b c d is_a is_b is_c is_d =
-    let small : (j : ℕ) → j < 4 → AllSmall (lane a b c d j) = λ j within. small-lane a b c d j is_a is_b is_c is_d within in
-    let zeros : Sum (0 ∷ 0 ∷ 0 ∷ 0 ∷ []) 0 = record { small = (lit< tt, (lit< tt, (lit< tt, (lit< tt, tt)))); is = refl } in
+    let small : (j : ℕ) → j < 4 → AllSmall (lane a b c d j) =
+    λ j within. small-lane a b c d j is_a is_b is_c is_d within in
+    let zeros : Sum (0 ∷ 0 ∷ 0 ∷ 0 ∷ []) 0 = record {
+      small = (lit< tt, (lit< tt, (lit< tt, (lit< tt, tt))));
+      is = refl;
+    } in
     let one = sum_more zeros (lane a b c d 0) refl (small 0 (omega arith)) in
     let two = sum_more one (lane a b c d 1) refl (small 1 (omega arith)) in
     let three = sum_more two (lane a b c d 2) refl (small 2 (omega arith)) in
@@ -148,7 +153,8 @@ number-lanes a b c d is_a is_b is_c is_d =
 
 -- the four words of a table's entry, from the place of the first
 abbrev words_from : List ℕ → ℕ → List ℕ
-words_from table p = slice_index table p ∷ slice_index table (128 + p) ∷ slice_index table (256 + p) ∷ slice_index table (384 + p) ∷ []
+words_from table p =
+    slice_index table p ∷ slice_index table (128 + p) ∷ slice_index table (256 + p) ∷ slice_index table (384 + p) ∷ []
 
 -- entry 32 * j + i of a table
 pub entry_is : (table : List ℕ) (j i : ℕ) → j < 4 → i < 32 →

@@ -20,6 +20,8 @@ use proofs.BlockInverse.{has_inverse}
 use proofs.DifferentMessages.{different_messages}
 use proofs.TagInput.{Blocks-hashed, Bytes, count_hashed}
 
+-- ---- roots
+
 -- each of the list is the zero block
 abbrev pub Zeros : List (List ℕ) → Type 0
 Zeros cs = AllByRecursion (λ c. c ≡ zero_block) cs
@@ -106,7 +108,7 @@ all_zero (r ∷ rs) (c ∷ cs) fits sized all apart roots =
     )
 all_zero _ _ fits sized all apart roots = absurd (omega arith)
 
--- ---- zero blocks in front
+-- ---- zero blocks at the front
 
 Blocks-zeros : (n : ℕ) (xs : List (List ℕ)) → Blocks xs → Blocks (replicate n zero_block ++ xs)
 Blocks-zeros zero xs all = all
@@ -177,6 +179,8 @@ pub few_hash_keys : (left right : List (List ℕ)) (sum : List ℕ) (keys : List
     length keys ≤ max (length left) (length right)
 few_hash_keys left right sum keys is_left is_right =
     few_keys left right sum keys (recursion_from_All IsBlock left is_left) (recursion_from_All IsBlock right is_right)
+
+-- ---- the tags of two messages
 
 -- one mask falls out of the XOR of two tags
 unmasked : (x y mask : List ℕ) → Sized x → Sized y → Sized mask → x ⊕ y ≡ (x ⊕ mask) ⊕ (y ⊕ mask)

@@ -169,6 +169,8 @@ AllSized-from (x ∷ xs) h = (h 0 (omega arith), AllSized-from xs (λ i below. h
 -- the lemma, for the search of a function
 pub ruleset sized_from = (AllSized-from)
 
+-- ---- blocks that cancel
+
 pub IsBlock-zero : IsBlock zero_block
 IsBlock-zero = IsBlock-number 0
 
@@ -206,6 +208,8 @@ cancel_factor a x y size inverse is_x is_y e =
     ∙ ap (λ u. z • u) (product_comm b a sb size ∙ inverse.2)
     ∙ product_unit z is_z in
     sym (back x is_x) ∙ ap (λ u. b • u) e ∙ back y is_y
+
+-- ---- GHASH as a polynomial
 
 -- the value at h of the polynomial with these coefficients, the constant one first
 abbrev pub value_at : List ℕ → List (List ℕ) → List ℕ

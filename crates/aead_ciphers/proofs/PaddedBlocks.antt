@@ -46,7 +46,8 @@ padded_is part le =
     fill_by_all (λ (j : ℕ). get_or part _ 0) _ 16 0 (omega (arith, length-append part zeros))
     (λ j lt.
     elim (cases_lt j n) [
-      | inl below ↦ get_or_append_left part zeros 0 j below ∙ ap (λ m. get_or part m 0) (let r : j ≡ 16 * 0 + j = omega arith in r)
+      | inl below ↦ get_or_append_left part zeros 0 j below
+          ∙ ap (λ m. get_or part m 0) (let r : j ≡ 16 * 0 + j = omega arith in r)
       | inr past ↦
           get_or-append_right part zeros n j 0 refl past
           ∙ ap (λ zs. get_or zs (j - n) 0) (drop-replicate n 16 0)
@@ -109,7 +110,7 @@ pub padded_blocks_short : (xs : List ℕ) → 0 < length xs → length xs ≤ 16
 padded_blocks_short xs some le =
     padded_blocks-cons xs xs [] (sym (append-nil xs)) (omega arith) some ∙ ap (λ u. padded_block xs 0 ∷ u) (padded_blocks_none [] refl)
 
--- whole blocks in front
+-- whole blocks at the front
 pub blocks-append : (q : ℕ) (xs ys : List ℕ) → length xs ≡ 16 * q → padded_blocks (xs ++ ys) ≡ blocks 16 xs ++ padded_blocks ys
 blocks-append zero xs ys e =
     let none = nil_from_length xs (omega arith) in

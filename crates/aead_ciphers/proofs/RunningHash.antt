@@ -29,7 +29,7 @@ hash_one h xi block key sum number next done is_h is_xi is_block is_next at =
           ∙ sym (is_next ∙ ap₂ (λ x y. x • y) (to_be_bytes-xor sum number ∙ ap₂ (λ x y. x ⊕ y) (is_xi ∙ sym at.value) is_block) is_h);
     }
 
--- some list in front has the hash, and it and the blocks that are left are all of them
+-- some list before them has the hash, and it and the blocks that are left are all of them
 abbrev pub HashedFront : List ℕ → List (List ℕ) → List (List ℕ) → List ℕ → Type 0
 HashedFront h left all xi = (front : List (List ℕ)) × (front ++ left ≡ all) × IsHashOf h front xi
 
