@@ -98,6 +98,8 @@ module _ (was : State) (bytes : List ℕ) where
     refused = refuses_to_read error r;
   }
 
+-- ---- a record in a buffer
+
 module _ (old : List ℕ) (filled at end : ℕ) (order : (filled ≤ at) × (at ≤ end) × (end ≤ length old)) (was : State)
     (open_before : ¬ IsEnded was) (w : IsWhole (take (end - at) (drop at old))) where
   -- the record

@@ -1,4 +1,4 @@
-use Rattle.std.proofs.Common.{◌≡◌, ◌<◌, ◌++◌, ◌∷◌, ℕ, length, get_or, replicate, take, ap, ◌∙◌, sym, rules, ◌-◌, ◌+◌, arith}
+use Rattle.std.proofs.Common.{◌≡◌, ◌<◌, ◌++◌, ◌∷◌, length, get_or, replicate, take, ap, ◌∙◌, sym, rules, ◌-◌, ◌+◌, arith}
 use Rattle.records.proofs.InnerLemmas.{zeros_behind}
 use Rattle.records.proofs.inner.content_of.Goals as goal
 
