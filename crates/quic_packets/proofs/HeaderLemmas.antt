@@ -25,7 +25,8 @@ first_back : (mask : List ℕ) (at n n' : ℕ) (old mid new : List ℕ) → Mask
 first_back mask at n n' old mid new p u =
     let m = get_or mask 0 0 in
     u.first ∙ ap (λ v. bit_xor v (first_mask v m)) p.first
-    ∙ ap (λ v. bit_xor (bit_xor (get_or old 0 0) (first_mask (get_or old 0 0) m)) v) (same_first_mask (get_or old 0 0) m)
+    ∙ ap (λ v. bit_xor (bit_xor (get_or old 0 0) (first_mask (get_or old 0 0) m)) v)
+    (same_first_mask (get_or old 0 0) m)
     ∙ xor_twice (get_or old 0 0) (first_mask (get_or old 0 0) m)
 
 number_back : (mask : List ℕ) (at n i j : ℕ) (old mid new : List ℕ) → at + j ≡ i → j < n → Masked mask at n old mid → Masked mask at n mid new

@@ -46,7 +46,8 @@ module _ (receiver : Receiving) (number h : ℕ) (packet : List ℕ) (has : Pack
   behind = drop_at (take h packet) (body ++ its_tag) h length-header
 
   length-behind : length (drop h whole) ≡ length body + 16
-  length-behind = ap length behind ∙ length-append body its_tag ∙ ap (λ n. length body + n) (length-aes_tag key nonce (take h packet) body)
+  length-behind = ap length behind ∙ length-append body its_tag
+      ∙ ap (λ n. length body + n) (length-aes_tag key nonce (take h packet) body)
 
   middle : take (length (drop h whole) - 16) (drop h whole) ≡ body
   middle = ap (take (length (drop h whole) - 16)) behind ∙ take_at body its_tag (length (drop h whole) - 16) (omega (arith, length-behind))
@@ -86,4 +87,7 @@ module _ (receiver : Receiving) (number h : ℕ) (packet : List ℕ) (has : Pack
       → Protected header_key at whole wire → Unprotected header_key at wire back → HasNumber at h back × OpensTo receiver number h back packet
   comes_back header_key at wire back has_number has_sample p u =
       let same : back ≡ whole = unprotected_back header_key at whole wire back (subst (HasSample at) (sym length-whole) has_sample) p u in
-      subst (λ xs. HasNumber at h xs × OpensTo receiver number h xs packet) (sym same) (numbered at has_number, sealed_opens)
+      subst (λ xs. HasNumber at h xs × OpensTo receiver number h xs packet) (sym same) (
+        numbered at has_number,
+        sealed_opens,
+      )

@@ -1,5 +1,5 @@
 -- A sealed file that is cut after a chunk.
-use Rattle.std.proofs.Common.{◌≡◌, ℕ, Bool, false, ◌+◌, ◌-◌, ◌*◌, ◌<◌, ◌≤◌, List, length, take, drop, ap, ◌∙◌, arith, eq-eqb, ne_eqb, length-take-le, take-take}
+use Rattle.std.proofs.Common.{◌≡◌, ℕ, false, ◌+◌, ◌-◌, ◌*◌, ◌<◌, ◌≤◌, List, length, take, drop, ap, ◌∙◌, arith, eq-eqb, ne_eqb, length-take-le, take-take}
 use Rattle.std.proofs.lemmas.List.{drop-take}
 use Rattle.sealed_file.specs
 use specs.Format.{chunk_len, sealed_chunk_len, piece, sealed_chunk, sealed_file}
@@ -24,7 +24,8 @@ module _ (key prefix file : List ℕ) (n : ℕ) (seven : length prefix ≡ 7) (s
 
   cut_last : n - 1 ≡ last_chunk cut
   cut_last =
-      let e = ap length cut_body ∙ length-take-le (sealed_chunk_len * n) (body_of whole) (omega (arith, length-body key prefix file seven)) in
+      let e = ap length cut_body
+      ∙ length-take-le (sealed_chunk_len * n) (body_of whole) (omega (arith, length-body key prefix file seven)) in
       let above = last_piece-above sealed_chunk_len (length (body_of cut)) (n - 1) (omega arith) (omega (arith, e)) in
       let below = last_piece-le sealed_chunk_len (length (body_of cut)) (n - 1) (omega arith) (omega (arith, e)) in
       omega (arith, above, below)
@@ -36,7 +37,8 @@ module _ (key prefix file : List ℕ) (n : ℕ) (seven : length prefix ≡ 7) (s
       ∙ ap (take sealed_chunk_len) (drop-take (sealed_chunk_len * (n - 1)) sealed_chunk_len (body_of whole))
       ∙ take-take sealed_chunk_len sealed_chunk_len (drop (sealed_chunk_len * (n - 1)) (body_of whole)) (omega arith)
       ∙ piece_is key prefix file seven (n - 1) (omega arith)
-      ∙ ap (λ b. sealed_chunk key prefix (n - 1) b (piece chunk_len file (n - 1))) (ne_eqb (n - 1) (last_of file) (λ e. omega arith))
+      ∙ ap (λ b. sealed_chunk key prefix (n - 1) b (piece chunk_len file (n - 1)))
+      (ne_eqb (n - 1) (last_of file) (λ e. omega arith))
 
   pub cut_needs_both : IsSealed key cut → HasBothTags key prefix (n - 1) (piece chunk_len file (n - 1))
   cut_needs_both accepted = both_tags key prefix (n - 1) (piece chunk_len file (n - 1))

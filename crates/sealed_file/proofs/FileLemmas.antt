@@ -86,7 +86,8 @@ module _ (key prefix file : List ℕ) where
 
     last_is : last_chunk whole ≡ last
     last_is = ap (λ l. last_piece sealed_chunk_len (length l)) body_is
-        ∙ last_of_joined sealed_chunk_len (chunk_at key prefix file) last whole_before last_is_short (omega (arith, length-chunk_at last))
+        ∙ last_of_joined sealed_chunk_len (chunk_at key prefix file) last whole_before last_is_short
+        (omega (arith, length-chunk_at last))
 
     pub piece_is : (i : ℕ) → i ≤ last → piece sealed_chunk_len (body_of whole) i ≡ chunk_at key prefix file i
     piece_is i within = ap (λ l. piece sealed_chunk_len l i) body_is
@@ -94,17 +95,29 @@ module _ (key prefix file : List ℕ) where
 
     pub length-body : length (body_of whole) ≡ sealed_chunk_len * last + length (piece chunk_len file last) + 16
     length-body =
-        omega (arith, ap length body_is, length-all sealed_chunk_len (chunk_at key prefix file) last whole_before, length-chunk_at last)
+        omega (
+          arith,
+          ap length body_is,
+          length-all sealed_chunk_len (chunk_at key prefix file) last whole_before,
+          length-chunk_at last,
+        )
 
     -- the file's bytes, and 16 more for the header and for each chunk
     pub length-sealed_file : length whole ≡ 16 + length file + (last + 1) * 16
     length-sealed_file =
-        omega (arith, length-drop 16 whole, length-body, length-take chunk_len (drop (chunk_len * last) file), length-drop (chunk_len * last) file)
+        omega (
+          arith,
+          length-drop 16 whole,
+          length-body,
+          length-take chunk_len (drop (chunk_len * last) file),
+          length-drop (chunk_len * last) file,
+        )
 
     -- what is said of a chunk, sealed, is said of the sealed file's
     of_sealed : (P : List ℕ → Bool → List ℕ → Type 0) (i : ℕ) → i < last_chunk whole + 1 → P prefix (i == last) (chunk_at key prefix file i)
         → P (prefix_of whole) (i == last_chunk whole) (piece sealed_chunk_len (body_of whole) i)
-    of_sealed P i within = of_same P (sym prefix_is) (ap (λ n. i == n) (sym last_is)) (sym (piece_is i (omega (arith, last_is))))
+    of_sealed P i within = of_same P (sym prefix_is) (ap (λ n. i == n) (sym last_is))
+        (sym (piece_is i (omega (arith, last_is))))
 
     pub sealed_is_sealed : last < 2 ^ 32 - 1 → IsSealed key whole
     sealed_is_sealed few = record {

@@ -19,7 +19,7 @@ written_behind f old chunk all new tag start len all_is front back =
     ∙ ap (λ l. l ++ (drop start new ++ tag)) (front ∙ ap (take start) all_is ∙ take_at old chunk start len)
     ∙ ap (λ l. old ++ l) (back ∙ ap f (ap (drop start) all_is ∙ drop_at old chunk start len))
 
--- what a list held stands in front, where more was appended and more was then written after that
+-- what a list held stands at the front, where more was appended and more was then written after that
 pub front_through : (old more mid new : List ℕ) (n m : ℕ) → n ≡ length old → m ≡ length mid → mid ≡ old ++ more → take m new ≡ mid → take n new ≡ old
 front_through old more mid new n m n_is m_is appended kept =
     let t = take_at old more n (sym n_is) in
@@ -51,7 +51,13 @@ module _ (key file : List ℕ) where
   length-opened_file =
       let whole : (i : ℕ) → i < last → length (message_at key file i) ≡ chunk_len =
       λ i before. length-message_at i ∙ (let h = length-piece sealed_chunk_len (body_of file) i (omega arith) before in omega (arith, h)) in
-      omega (arith, length-all chunk_len (message_at key file) last whole, length-message_at last, length-take sealed_chunk_len (drop (sealed_chunk_len * last) (body_of file)), length-drop (sealed_chunk_len * last) (body_of file))
+      omega (
+        arith,
+        length-all chunk_len (message_at key file) last whole,
+        length-message_at last,
+        length-take sealed_chunk_len (drop (sealed_chunk_len * last) (body_of file)),
+        length-drop (sealed_chunk_len * last) (body_of file),
+      )
 
   -- the next message fits in what it gives
   pub open_fits : (n : ℕ) → n ≤ last

@@ -33,7 +33,8 @@ pub header_refused : (key file bytes read_bytes : List ℕ) (rest : Option (List
     → TakesFront 16 file read_bytes rest → HeaderRefuses bytes error → OpenRefuses key file error
 header_refused key file bytes read_bytes rest TooLong same read h = absurd h
 header_refused key file bytes read_bytes rest (Io e) same read h = absurd h
-header_refused key file bytes read_bytes rest error same read h = inl (subst (λ l. HeaderRefuses l error) (same ∙ read.piece_is) h)
+header_refused key file bytes read_bytes rest error same read h =
+    inl (subst (λ l. HeaderRefuses l error) (same ∙ read.piece_is) h)
 
 pub refused_at : (key file : List ℕ) (n : ℕ) (error : FileError) → RefusesAt key file error n → OpenRefuses key file error
 refused_at key file n TooLong h = absurd h.wrong.1
@@ -113,7 +114,8 @@ module _ {key prefix file : List ℕ} {n : ℕ} {old now : Option (List ℕ)} (s
         written_more more = subst (Appends old now') (sym more_is) (Appends-trans old now now' _ _ s.written more)
 
         pub open_end : flag ≡ true → Appends now now' message → Appends old now' (opened_file key file)
-        open_end last more = subst (λ k. Appends old now' (opened_chunks key file (k + 1))) (last_here last) (written_more more)
+        open_end last more = subst (λ k. Appends old now' (opened_chunks key file (k + 1))) (last_here last)
+            (written_more more)
 
         -- another chunk was opened
         pub open_next : flag ≡ false → Appends now now' message → Opening key prefix file (n + 1) old now'
@@ -148,7 +150,11 @@ module _ {key prefix file chunk : List ℕ} {n : ℕ} {rest old now : Option (Li
 
   -- too many chunks
   pub read_long : n ≡ 2 ^ 32 - 1 → OpenRefuses key file TooLong
-  read_long e = (s.so_far.front, subst (AreRight key file) e s.so_far.right, subst (λ k. k ≤ last_chunk file) e s.so_far.in_range)
+  read_long e = (
+    s.so_far.front,
+    subst (AreRight key file) e s.so_far.right,
+    subst (λ k. k ≤ last_chunk file) e s.so_far.in_range,
+  )
 
   module _ (next : List ℕ) (rest' : Option (List ℕ)) (read : IfSome rest (λ left. TakesFront sealed_chunk_len left next rest'))
       {m : ℕ} {flag : Bool} (counted : flag ≡ (m == 0)) (m_is : m ≡ length next) where

@@ -46,7 +46,9 @@ is_last size bytes next n m some within next_is m_is =
           let h = last_piece-above size (length bytes) (n + 1) some past in
           ne_eqb m 0 (λ z. omega (arith, t, d, e)) ∙ sym (ne_eqb n (last_piece size (length bytes)) (λ z. omega (arith, h)))
       | inr short ↦
-          eq-eqb m 0 (omega (arith, t, d, e)) ∙ sym (eq-eqb n (last_piece size (length bytes)) (omega (arith, last_piece-le size (length bytes) n some short)))
+          eq-eqb m 0 (omega (arith, t, d, e))
+          ∙ sym (eq-eqb n (last_piece size (length bytes))
+          (omega (arith, last_piece-le size (length bytes) n some short)))
     ]
 
 -- a piece that isn't the last is whole
@@ -59,9 +61,10 @@ length-piece size bytes n some before = elim (cases_lt (size * (n + 1)) (length 
 pub length-piece-le : (size : ℕ) (bytes : List ℕ) (n : ℕ) → length (piece size bytes n) ≤ size
 length-piece-le size bytes n = omega (arith, length-take size (drop (size * n) bytes))
 
--- what comes after a piece
+-- what is after a piece
 pub rest_behind : (size : ℕ) (bytes : List ℕ) (n : ℕ) → drop size (drop (size * n) bytes) ≡ drop (size * (n + 1)) bytes
-rest_behind size bytes n = drop-drop size (size * n) bytes ∙ ap (λ k. drop k bytes) (let e : size * n + size ≡ size * (n + 1) = omega arith in e)
+rest_behind size bytes n = drop-drop size (size * n) bytes
+    ∙ ap (λ k. drop k bytes) (let e : size * n + size ≡ size * (n + 1) = omega arith in e)
 
 -- the pieces give the bytes
 joined_pieces : (size : ℕ) (bytes : List ℕ) (n : ℕ) → concat (each_below n (piece size bytes)) ≡ take (size * n) bytes
@@ -88,7 +91,8 @@ joined_parts f n m h =
     let e : m ≡ n + 1 + k = omega arith in
     let later = concat (each_below k (λ j. f (n + 1 + j))) in (
       later,
-      ap (λ i. concat (each_below i f)) e ∙ ap concat (each-append (n + 1) k f) ∙ concat-append (each_below (n + 1) f) (each_below k (λ j. f (n + 1 + j)))
+      ap (λ i. concat (each_below i f)) e ∙ ap concat (each-append (n + 1) k f)
+          ∙ concat-append (each_below (n + 1) f) (each_below k (λ j. f (n + 1 + j)))
           ∙ ap (λ l. l ++ later) (joined_more f n) ∙ append_assoc (concat (each_below n f)) (f n) later,
     )
 
@@ -106,7 +110,8 @@ module _ (size : ℕ) (f : ℕ → List ℕ) (last : ℕ) (whole : (j : ℕ) →
   piece_of_joined i short within =
       let (later, split) = joined_parts f i (last + 1) (omega arith) in
       let front : length (concat (each_below i f)) ≡ size * i = length-joined size f i (λ j h. whole j (omega arith)) in
-      ap (λ l. take size (drop (size * i) l)) split ∙ ap (take size) (drop_at (concat (each_below i f)) (f i ++ later) (size * i) front)
+      ap (λ l. take size (drop (size * i) l)) split
+      ∙ ap (take size) (drop_at (concat (each_below i f)) (f i ++ later) (size * i) front)
       ∙ (elim (cases_lt i last) [
         | inl before ↦ take_at (f i) later size (whole i before)
         | inr at_end ↦
@@ -119,5 +124,6 @@ module _ (size : ℕ) (f : ℕ → List ℕ) (last : ℕ) (whole : (j : ℕ) →
   -- and the last piece is the last list, unless that is empty
   pub last_of_joined : length (f last) ≤ size → 0 < length (f last) → last_piece size (length (concat (each_below (last + 1) f))) ≡ last
   last_of_joined short some =
-      ap (λ n. n / size) (let e : length (concat (each_below (last + 1) f)) - 1 ≡ last * size + (length (f last) - 1) = omega (arith, length-all) in e)
+      ap (λ n. n / size) (let e : length (concat (each_below (last + 1) f)) - 1
+      ≡ last * size + (length (f last) - 1) = omega (arith, length-all) in e)
       ∙ div-mul-add last size (length (f last) - 1) (omega arith)

@@ -11,7 +11,7 @@ use proofs.FileLemmas.{chunk_at, last_of, length-chunk_at}
 use proofs.PieceLemmas.{joined_more, joined_parts, length-parts-le}
 use proofs.StreamLemmas.{begins_more, flag_is, next_read}
 
--- what stands in front of chunk n
+-- what stands before chunk n
 abbrev pub sealed_before : (key prefix file : List ℕ) (n : ℕ) → List ℕ
 sealed_before key prefix file n = header prefix ++ sealed_chunks key prefix file n
 
@@ -46,7 +46,8 @@ module _ (key prefix file : List ℕ) (n : ℕ) where
   pub seal_more : (old now now' : Option (List ℕ)) {sealed : List ℕ} → sealed ≡ chunk_at key prefix file n → Appends old now (sealed_before key prefix file n)
       → Appends now now' sealed → Appends old now' (sealed_before key prefix file (n + 1))
   seal_more old now now' e written more =
-      subst (Appends old now') (ap (λ l. sealed_before key prefix file n ++ l) e ∙ sym before_more) (Appends-trans old now now' _ _ written more)
+      subst (Appends old now') (ap (λ l. sealed_before key prefix file n ++ l) e
+      ∙ sym before_more) (Appends-trans old now now' _ _ written more)
 
   module _ (within : n ≤ last_of file) where
     pub parts : (later : List ℕ) × (sealed_file key prefix file ≡ sealed_before key prefix file n ++ (chunk_at key prefix file n ++ later))
@@ -113,7 +114,8 @@ module _ {key prefix file chunk : List ℕ} {n : ℕ} {rest old now : Option (Li
 
     -- the last chunk was written
     pub seal_end : flag ≡ true → Appends now now' sealed → Appends old now' (sealed_file key prefix file)
-    seal_end last more = subst (λ k. Appends old now' (sealed_before key prefix file (k + 1))) (last_here last) (written_more more)
+    seal_end last more = subst (λ k. Appends old now' (sealed_before key prefix file (k + 1))) (last_here last)
+        (written_more more)
 
     -- another chunk was written
     pub seal_next : {next' : List ℕ} → next' ≡ next → flag ≡ false → Appends now now' sealed → Sealing key prefix file (n + 1) next' rest' old now'

@@ -23,7 +23,10 @@ taken len (Some bytes) (Some rest) got short took end = elim (cases_lt (length g
       let none : rest ≡ [] = end less in
       let all : bytes ≡ got = took ∙ ap (λ l. got ++ l) none ∙ append-nil got in
       let fits : length bytes ≤ len = omega (arith, ap length all) in
-      record { piece_is = sym all ∙ sym (take_all len bytes fits); left = ap (λ l. Some l) (none ∙ sym (drop_all len bytes fits)) }
+      record {
+        piece_is = sym all ∙ sym (take_all len bytes fits);
+        left = ap (λ l. Some l) (none ∙ sym (drop_all len bytes fits));
+      }
   | inr full ↦
       let same : length got ≡ len = omega arith in
       record {

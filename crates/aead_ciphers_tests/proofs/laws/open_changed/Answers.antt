@@ -1,10 +1,10 @@
-use Rattle.std.proofs.Common.{◌≡◌, ℕ, ◌-◌, Result, Ok, Err, false, is_ok, IsOk, IsErr, List, length, refl, sym, ap, subst, ◌∙◌, arith, rules}
+use Rattle.std.proofs.Common.{◌≡◌, ℕ, Result, Ok, Err, false, is_ok, IsOk, IsErr, List, refl, sym, ap, subst, ◌∙◌, rules}
 use Rattle.aead_ciphers_base.specs
 use specs.Aes.{aes}
 use specs.Bytes.{zero_block}
 use specs.Values.{aad_bytes}
 use Rattle.aead_ciphers.specs.Different.{HasInverse}
-use Rattle.aead_ciphers.specs.Gcm.{Fits, gcm_tag}
+use Rattle.aead_ciphers.specs.Gcm.{gcm_tag}
 use Rattle.aead_ciphers_tests.proofs.laws.open_changed.Goals as goal
 
 is_refusal : {E : Type 0} (r : Result ℕ E) → ¬ IsOk r → IsErr r × (is_ok r ≡ false)

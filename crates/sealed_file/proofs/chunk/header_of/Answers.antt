@@ -1,4 +1,4 @@
-use Rattle.std.proofs.Common.{List, ℕ, ◌++◌, sym, ap}
+use Rattle.std.proofs.Common.{◌++◌, sym, ap}
 use Rattle.sealed_file.specs.Format.{magic_and_version}
 use Rattle.sealed_file.proofs
 use proofs.ChunkLemmas.{items}

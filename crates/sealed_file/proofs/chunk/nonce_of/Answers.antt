@@ -1,4 +1,4 @@
-use Rattle.std.proofs.Common.{◌≡◌, rules, List, [], ◌∷◌, ℕ, ◌++◌, length, sym, ap, ap₂, ◌∙◌, if◌then◌else◌}
+use Rattle.std.proofs.Common.{◌≡◌, rules, [], ◌∷◌, ◌++◌, length, sym, ap, ap₂, ◌∙◌, if◌then◌else◌}
 use Rattle.std.specs.Int.{to_be_bytes, w32}
 use Rattle.sealed_file.specs.Format.{chunk_nonce}
 use Rattle.sealed_file.proofs

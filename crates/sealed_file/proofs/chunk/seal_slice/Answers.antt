@@ -1,4 +1,4 @@
-use Rattle.std.proofs.Common.{List, ℕ, ◌++◌, ap₂}
+use Rattle.std.proofs.Common.{◌++◌, ap₂}
 use Rattle.sealed_file.specs.Format.{sealed_chunk}
 use Rattle.sealed_file.proofs.chunk.seal_slice.Goals as goal
 

@@ -1,4 +1,4 @@
-use Rattle.std.proofs.Common.{◌≡◌, ℕ, true, false, Some, length, arith, ap, refl, ◌==◌, eq-eqb, ne_eqb, length-append}
+use Rattle.std.proofs.Common.{◌≡◌, true, false, Some, length, arith, ap, refl, ◌==◌, eq-eqb, ne_eqb, length-append}
 use Rattle.std.proofs.lemmas.Result.{err_from_is_err_and}
 use Rattle.sealed_file.specs.Opening.{opened_chunks}
 use Rattle.sealed_file.proofs
@@ -26,7 +26,16 @@ pub append_opened-requires-clause-room : goal.append_opened-requires-clause-room
 append_opened-requires-clause-room c =
     let s = c.loop-number.invariant.at in
     let more = length-append c.args.out.now.items (opened_chunks c.args.key.now c.args.sealed.now c.loop-number.number) in
-    omega (arith, open_fits c.args.key.now c.args.sealed.now c.loop-number.number s.in_range, ap length s.written, more, ap length c.chunk_of-chunk.ensures, c.loop-number.invariant.room, c.args.out.now.ok.0, c.loop-number.out.ok.0)
+    omega (
+      arith,
+      open_fits c.args.key.now c.args.sealed.now c.loop-number.number s.in_range,
+      ap length s.written,
+      more,
+      ap length c.chunk_of-chunk.ensures,
+      c.loop-number.invariant.room,
+      c.args.out.now.ok.0,
+      c.loop-number.out.ok.0,
+    )
 
 pub returns-in_err-append_opened-clause-front : goal.returns-in_err-append_opened-clause-front
 returns-in_err-append_opened-clause-front c =
@@ -35,22 +44,26 @@ returns-in_err-append_opened-clause-front c =
 pub returns-in_err-append_opened-clause-refused : goal.returns-in_err-append_opened-clause-refused
 returns-in_err-append_opened-clause-refused c =
     let p = err_from_is_err_and c.from_residual-in_err-append_opened.result c.from_residual-in_err-append_opened.ensures.1 in
-    rw (p.1, p.2) (chunk_fails _ _ _ _ _ (chunk_refused c.loop-number.invariant.at (ap (λ k. c.loop-number.number == k) c.last_chunk_of-last.ensures)
+    rw (p.1, p.2) (chunk_fails _ _ _ _ _
+    (chunk_refused c.loop-number.invariant.at (ap (λ k. c.loop-number.number == k) c.last_chunk_of-last.ensures)
     c.chunk_of-chunk.ensures _ (λ had. let opened : false ≡ true = c.in_err-append_opened.ensures.accepted.1 had in cc) c.in_err-append_opened.ensures.refused))
 
 pub returns-then-is_last-clause-accepted : goal.returns-then-is_last-clause-accepted
 returns-then-is_last-clause-accepted c = λ _.
-    open_accepted c.loop-number.invariant.at (ap (λ k. c.loop-number.number == k) c.last_chunk_of-last.ensures) c.chunk_of-chunk.ensures
+    open_accepted c.loop-number.invariant.at
+    (ap (λ k. c.loop-number.number == k) c.last_chunk_of-last.ensures) c.chunk_of-chunk.ensures
     (c.in_ok-append_opened.ensures.accepted.0 refl) (eq-eqb _ _ c.if-is_last.true) c.loop-number-test.true
 
 pub returns-then-is_last-clause-opened : goal.returns-then-is_last-clause-opened
 returns-then-is_last-clause-opened c =
-    open_end c.loop-number.invariant.at (ap (λ k. c.loop-number.number == k) c.last_chunk_of-last.ensures) c.chunk_of-chunk.ensures
+    open_end c.loop-number.invariant.at
+    (ap (λ k. c.loop-number.number == k) c.last_chunk_of-last.ensures) c.chunk_of-chunk.ensures
     (c.in_ok-append_opened.ensures.accepted.0 refl) refl (Some c.append_opened.new.out.items) (eq-eqb _ _ c.if-is_last.true) c.in_ok-append_opened.ensures.opened
 
 pub loop-number-preserved : goal.loop-number-preserved
 loop-number-preserved c = record {
-  at = open_next c.loop-number.invariant.at (ap (λ k. c.loop-number.number == k) c.last_chunk_of-last.ensures) c.chunk_of-chunk.ensures
+  at = open_next c.loop-number.invariant.at
+      (ap (λ k. c.loop-number.number == k) c.last_chunk_of-last.ensures) c.chunk_of-chunk.ensures
       (c.in_ok-append_opened.ensures.accepted.0 refl) refl _ (ne_eqb _ _ c.if-is_last.false) c.in_ok-append_opened.ensures.opened;
   room = omega (arith, c.loop-number.invariant.room, c.in_ok-append_opened.ensures.capacity);
 }

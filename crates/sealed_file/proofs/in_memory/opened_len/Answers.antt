@@ -5,4 +5,9 @@ use proofs.in_memory.opened_len.Goals as goal
 
 pub returns : goal.returns
 returns c = λ key.
-    omega (arith, length-opened_file key c.args.sealed.now, length-drop 16 c.args.sealed.now, c.last_chunk_of-last.ensures)
+    omega (
+      arith,
+      length-opened_file key c.args.sealed.now,
+      length-drop 16 c.args.sealed.now,
+      c.last_chunk_of-last.ensures,
+    )

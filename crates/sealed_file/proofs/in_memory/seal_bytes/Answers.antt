@@ -1,4 +1,4 @@
-use Rattle.std.proofs.Common.{rules, ℕ, List, Some, ◌++◌, length, arith, ap, ◌∙◌, ◌==◌, length-append}
+use Rattle.std.proofs.Common.{rules, Some, ◌++◌, length, arith, ap, ◌∙◌, ◌==◌, length-append}
 use Rattle.std.proofs.lemmas.Result.{err_from_is_err_and}
 use Rattle.sealed_file.proofs
 use proofs.FileLemmas.{length-sealed_file}
@@ -8,19 +8,37 @@ use proofs.in_memory.seal_bytes.Goals as goal
 
 pub returns-in_err-reserve-clause-accepted : goal.returns-in_err-reserve-clause-accepted
 returns-in_err-reserve-clause-accepted c = λ room.
-    absurd (omega (arith, room, c.in_err-reserve.ensures.full, c.last_piece_of-last.ensures, length-sealed_file c.args.key.now c.args.prefix c.args.file.now (search rules)))
+    absurd (omega (
+      arith,
+      room,
+      c.in_err-reserve.ensures.full,
+      c.last_piece_of-last.ensures,
+      length-sealed_file c.args.key.now c.args.prefix c.args.file.now (search rules),
+    ))
 
 pub returns-in_err-reserve-clause-refused : goal.returns-in_err-reserve-clause-refused
 returns-in_err-reserve-clause-refused c =
     let p = err_from_is_err_and c.from_residual.result c.from_residual.ensures.1 in
-    rw (p.1, p.2) (omega (arith, c.in_err-reserve.ensures.full, c.last_piece_of-last.ensures, length-sealed_file c.args.key.now c.args.prefix c.args.file.now (search rules)))
+    rw (p.1, p.2) (omega (
+      arith,
+      c.in_err-reserve.ensures.full,
+      c.last_piece_of-last.ensures,
+      length-sealed_file c.args.key.now c.args.prefix c.args.file.now (search rules),
+    ))
 
 pub loop-number-init : goal.loop-number-init
 loop-number-init c = record {
   appended = header_written c.args.key.now _ c.args.file.now _ (Some c.args.out.now.items) (Some c.append.new.out.items) (c.as_slice.ensures ∙ c.header_of-header.ensures)
       (c.append.ensures.appended ∙ ap (λ l. l ++ c.as_slice.result.now) c.in_ok-reserve.ensures.items);
   room =
-      omega (arith, length-sealed_file c.args.key.now c.args.prefix c.args.file.now (search rules), c.last_piece_of-last.ensures, c.in_ok-reserve.ensures.ok, c.in_ok-reserve.ensures.len, c.append.ensures.capacity);
+      omega (
+        arith,
+        length-sealed_file c.args.key.now c.args.prefix c.args.file.now (search rules),
+        c.last_piece_of-last.ensures,
+        c.in_ok-reserve.ensures.ok,
+        c.in_ok-reserve.ensures.len,
+        c.append.ensures.capacity,
+      );
 }
 
 pub append_sealed-requires-clause-chunk : goal.append_sealed-requires-clause-chunk
@@ -28,9 +46,19 @@ append_sealed-requires-clause-chunk c = rw c.piece_of-chunk.ensures (length-piec
 
 pub append_sealed-requires-clause-room : goal.append_sealed-requires-clause-room
 append_sealed-requires-clause-room c =
-    let fits = seal_fits c.args.key.now c.args.prefix c.args.file.now c.loop-number.number (omega (arith, c.last_piece_of-last.ensures, c.loop-number-test.true)) in
+    let fits = seal_fits c.args.key.now c.args.prefix c.args.file.now c.loop-number.number
+    (omega (arith, c.last_piece_of-last.ensures, c.loop-number-test.true)) in
     let more = length-append c.args.out.now.items (sealed_before c.args.key.now c.args.prefix c.args.file.now c.loop-number.number) in
-    omega (arith, fits, ap length c.loop-number.invariant.appended, more, ap length c.piece_of-chunk.ensures, c.loop-number.invariant.room, c.args.out.now.ok.0, c.loop-number.out.ok.0)
+    omega (
+      arith,
+      fits,
+      ap length c.loop-number.invariant.appended,
+      more,
+      ap length c.piece_of-chunk.ensures,
+      c.loop-number.invariant.room,
+      c.args.out.now.ok.0,
+      c.loop-number.out.ok.0,
+    )
 
 pub loop-number-preserved : goal.loop-number-preserved
 loop-number-preserved c = record {
