@@ -1,4 +1,5 @@
 /* Random calls of the static library beside OpenSSL's EVP: ROUNDS of each kind, from SEED on. */
+#define _GNU_SOURCE
 #include "deerlapse.h"
 #include <inttypes.h>
 #include <openssl/crypto.h>
@@ -7,6 +8,7 @@
 #include <stdio.h>
 #include <stdlib.h>
 #include <string.h>
+#include <sys/mman.h>
 
 #define MAX_MESSAGE 9000
 #define MAX_AAD 600
@@ -404,6 +406,87 @@ static void threads(void) {
     calls += 8 * 200 * 2;
 }
 
+/* A sanitizer's own frames and checks lie on the stack too. */
+#ifndef __SANITIZE_ADDRESS__
+
+enum { STACK_LEN = 64 * 1024, PATTERN = 0xa7, ONE_MESSAGE = 5 * 1024, UNDER_A_KEY = 2 * 1024 };
+
+static deerlapse_sealer a_sealer;
+static deerlapse_opener an_opener;
+static uint8_t small[64];
+static size_t small_len;
+static volatile bool called;
+
+static const uint8_t *zeros(void) {
+    static const uint8_t bytes[32];
+    return bytes;
+}
+
+static void nothing(void) { called = true; }
+static void seal_one(void) { called = deerlapse_seal(zeros(), 32, zeros(), zeros(), 20, small, 40, small + 40); }
+static void open_one(void) { called = !deerlapse_open(zeros(), 32, zeros(), zeros(), 19, small, 56, 0, &small_len); }
+static void mask_aes(void) { called = deerlapse_mask_aes(zeros(), 32, zeros(), small); }
+static void mask_chacha20(void) { called = true, deerlapse_mask_chacha20(zeros(), zeros(), small); }
+static void chacha20_one(void) { called = deerlapse_chacha20(zeros(), zeros(), 0, small, 64); }
+static void init_key(void) { called = deerlapse_key_init(&shared.key, zeros(), 32); }
+static void seal_key(void) { called = deerlapse_key_seal(&shared.key, zeros(), zeros(), 20, small, 40, small + 40); }
+static void open_key(void) { called = deerlapse_key_open(&shared.key, zeros(), zeros(), 20, small, 56, 0, &small_len); }
+static void seal_to(void) {
+    called = deerlapse_key_seal_to(&shared.key, zeros(), zeros(), 20, zeros(), 32, small, 32, small + 32);
+}
+static void open_apart(void) {
+    called = deerlapse_key_open_separate_tag(&shared.key, zeros(), zeros(), 20, small, 32, small + 32);
+}
+static void open_to(void) {
+    static uint8_t out[16];
+    called = !deerlapse_key_open_to(&shared.key, zeros(), zeros(), 20, small, 16, out, 16, zeros());
+}
+static void init_sealer(void) { called = deerlapse_sealer_init(&a_sealer, zeros(), 32, zeros(), 0, 9); }
+static void seal_next(void) { called = deerlapse_sealer_seal(&a_sealer, zeros(), 20, small, 40, small + 40); }
+static void init_opener(void) { called = deerlapse_opener_init(&an_opener, zeros(), 32, zeros(), 0, 9); }
+static void open_next(void) { called = deerlapse_opener_open(&an_opener, zeros(), 20, small, 56, 0, &small_len); }
+static void wipe_key(void) { called = true, deerlapse_key_wipe(&shared.key); }
+
+static void *make_a_call(void *call) {
+    (*(void (*const *)(void))call)();
+    return NULL;
+}
+
+/* How deep a call goes into the stack of a thread, which is filled with a pattern. */
+static size_t depth(void (*call)(void)) {
+    pthread_attr_t attributes;
+    pthread_t thread;
+    uint8_t *stack = mmap(NULL, STACK_LEN, PROT_READ | PROT_WRITE, MAP_PRIVATE | MAP_ANONYMOUS, -1, 0);
+    size_t untouched = 0;
+    CHECK(stack != MAP_FAILED);
+    memset(stack, PATTERN, STACK_LEN);
+    CHECK(pthread_attr_init(&attributes) == 0 && pthread_attr_setstack(&attributes, stack, STACK_LEN) == 0);
+    called = false;
+    CHECK(pthread_create(&thread, &attributes, make_a_call, &call) == 0 && pthread_join(thread, NULL) == 0);
+    CHECK(called);
+    while (untouched < STACK_LEN && stack[untouched] == PATTERN) untouched++;
+    CHECK(munmap(stack, STACK_LEN) == 0 && pthread_attr_destroy(&attributes) == 0);
+    return STACK_LEN - untouched;
+}
+
+/* No call takes more of the stack than the header says. */
+static void stack(void) {
+    static void (*const one_message[])(void) = {seal_one, open_one, mask_aes, mask_chacha20, chacha20_one};
+    static void (*const under_a_key[])(void) = {init_key, seal_key, open_key, seal_to, open_apart, open_to,
+                                                init_sealer, seal_next, init_opener, open_next, wipe_key};
+    const size_t empty = depth(nothing);
+    for (size_t i = 0; i < sizeof one_message / sizeof *one_message; i++)
+        CHECK(depth(one_message[i]) <= empty + ONE_MESSAGE);
+    for (size_t i = 0; i < sizeof under_a_key / sizeof *under_a_key; i++)
+        CHECK(depth(under_a_key[i]) <= empty + UNDER_A_KEY);
+}
+
+#else
+
+static void stack(void) {}
+
+#endif
+
 int main(int argc, char **argv) {
     size_t rounds = argc > 1 ? strtoul(argv[1], NULL, 10) : 2000;
     state = argc > 2 ? strtoull(argv[2], NULL, 10) : 1;
@@ -422,6 +505,7 @@ int main(int argc, char **argv) {
         nulls(&s);
     }
     threads();
+    stack();
     printf("%lu random calls equal %s\n", calls, OpenSSL_version(OPENSSL_VERSION));
     return 0;
 }

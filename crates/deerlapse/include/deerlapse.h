@@ -8,6 +8,7 @@
  *    parameter like nonce[12] has the bytes that it says.
  *  - What a call writes overlaps nothing else that the call is given. What it only reads may overlap. A tag may
  *    stand right after its message: `tag` is then `in_out + in_out_len`.
+ *  - It takes at most 5 KiB of stack, and under a key, a sealer or an opener 2 KiB.
  *  - It takes no memory, has no state and starts no thread. Calls in several threads at once are fine where none of
  *    them writes what another is given.
  *  - It takes at most DEERLAPSE_MAX_STACK bytes of stack, whatever the lengths.
