@@ -109,7 +109,8 @@ impl Model for Key {
 
     ghost view = { λ key. to_be_bytes w128 (entry key.multiples 0) };
 
-    ghost invariant = { λ key. AreMultiples (to_be_bytes w128 (entry key.multiples 0)) key.multiples };
+    ghost invariant = { λ key.
+        AreMultiples (to_be_bytes w128 (entry key.multiples 0)) key.multiples };
 }
 
 impl Key {

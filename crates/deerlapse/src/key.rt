@@ -106,7 +106,8 @@ pub extern "C" fn deerlapse_key_open(
     requires { IsKeyOrNone key.now }
     ensures filled { IsTrue result → HasRounds key.now }
     ensures opened { HasRounds key.now
-        → OpenedAttached (aes (bytes_of key.now)) nonce.now aad.now start in_out.old result in_out.new }
+        → OpenedAttached (aes (bytes_of key.now)) nonce.now aad.now start in_out.old
+        result in_out.new }
     ensures count { IsTrue result → plaintext_len.new ≡ length in_out.old - 16 - start }
     ensures refused { IsFalse result
         → (in_out.new ≡ in_out.old) × (plaintext_len.new ≡ plaintext_len.old) }

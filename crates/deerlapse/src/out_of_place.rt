@@ -40,8 +40,8 @@ pub extern "C" fn deerlapse_key_seal_to(
     deerlapse_key_seal(key, nonce, aad, out, tag)
 }
 
-/// `deerlapse_key_open_separate_tag` of a ciphertext that stays, with the plaintext in `out`, of which no byte is written
-/// before the tag is found to be right.
+/// `deerlapse_key_open_separate_tag` of a ciphertext that stays, with the plaintext in `out`, of which no byte is
+/// written before the tag is found to be right.
 ///
 /// Refused also where `out` hasn't the length of the ciphertext.
 #[unsafe(no_mangle)]

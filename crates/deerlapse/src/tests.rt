@@ -2,7 +2,10 @@
 
 use crate::aes_gcm::{deerlapse_open, deerlapse_seal};
 use crate::chacha20::deerlapse_chacha20;
-use crate::key::{deerlapse_key_init, deerlapse_key_open, deerlapse_key_seal, deerlapse_key_wipe};
+use crate::key::{
+    deerlapse_key_init, deerlapse_key_open, deerlapse_key_open_separate_tag, deerlapse_key_seal,
+    deerlapse_key_wipe,
+};
 use crate::masks::{deerlapse_mask_aes, deerlapse_mask_chacha20};
 use crate::numbered_key::{NumberedKey, deerlapse_nonce};
 use crate::opener::{

@@ -30,7 +30,8 @@ impl Model for UnboundKey {
 
     ghost Value = { AeadKey };
 
-    ghost view = { λ key. record { algorithm = key.algorithm.now; bytes = unbound_bytes key.bytes } };
+    ghost view = { λ key.
+        record { algorithm = key.algorithm.now; bytes = unbound_bytes key.bytes } };
 }
 
 impl UnboundKey {

@@ -69,7 +69,8 @@ impl ExpandedKey {
         ensures ciphertext { OnOk result
             (in_out.new ≡ gcm_encrypted (aes_cipher (bytes_of self.now)) nonce in_out.old) }
         ensures tag { IfOk result
-            (λ t. t ≡ gcm_tag (aes_cipher (bytes_of self.now)) nonce (aad_bytes aad.entry) in_out.new) }
+            (λ t. t ≡ gcm_tag (aes_cipher (bytes_of self.now)) nonce
+            (aad_bytes aad.entry) in_out.new) }
         ensures refused { OnErr result (in_out.new ≡ in_out.old) }
         ensures worked { SealWork (length (aad_bytes aad.entry)) (length in_out.old) result
             work.old work.new }
@@ -93,8 +94,8 @@ impl ExpandedKey {
         requires sums { CanOpen work.old (length (aad_bytes aad)) src.start (length in_out.old) }
         ensures opened { Opened (aes_cipher (bytes_of self.now)) nonce (aad_bytes aad.entry)
             received_tag src.start in_out.old (is_ok result) in_out.new }
-        ensures worked { OpenWork (length (aad_bytes aad.entry)) src.start (length in_out.old) result
-            work.old work.new }
+        ensures worked { OpenWork (length (aad_bytes aad.entry)) src.start (length in_out.old)
+            result work.old work.new }
     {
         let aes = aes::KeyRef::new(&self.round_keys, self.rounds);
         let gcm = gcm::KeyRef::new(&self.multiples);
@@ -111,8 +112,8 @@ impl ExpandedKey {
         ciphertext: RangeFrom<usize>,
     ) -> Result<usize, Unspecified>
         requires { IsExpanded self.now }
-        ensures opened { Opened (aes_cipher (bytes_of self.now)) nonce (aad_bytes aad.entry) tag ciphertext.start
-            in_out.old (is_ok result) in_out.new }
+        ensures opened { Opened (aes_cipher (bytes_of self.now)) nonce (aad_bytes aad.entry) tag
+            ciphertext.start in_out.old (is_ok result) in_out.new }
         ensures count { IfOk result (λ n. n ≡ length in_out.old - ciphertext.start) }
         ensures refused { OnErr result (in_out.new ≡ in_out.old) }
     {
@@ -147,8 +148,8 @@ impl ExpandedKey {
         }
     }
 
-    /// Opens a ciphertext to another buffer of its length. Refused where the lengths don't fit and where the tag is false:
-    /// then no byte of the buffer is changed.
+    /// Opens a ciphertext to another buffer of its length. Refused where the lengths don't fit and where the tag is
+    /// false: then no byte of the buffer is changed.
     pub fn open_to(
         &self,
         nonce: Nonce,
@@ -159,8 +160,10 @@ impl ExpandedKey {
     ) -> Result<(), Unspecified>
         requires key { IsExpanded self.now }
         requires lengths { length out.old ≡ length ciphertext.now }
-        ensures accepted { IsOk result ↔ (Fits (length (aad_bytes aad.entry)) (length ciphertext.now)
-            × (tag ≡ gcm_tag (aes_cipher (bytes_of self.now)) nonce (aad_bytes aad.entry) ciphertext.now)) }
+        ensures accepted { IsOk result
+            ↔ (Fits (length (aad_bytes aad.entry)) (length ciphertext.now)
+            × (tag ≡ gcm_tag (aes_cipher (bytes_of self.now)) nonce
+            (aad_bytes aad.entry) ciphertext.now)) }
         ensures plaintext { OnOk result
             (out.new ≡ gcm_decrypted (aes_cipher (bytes_of self.now)) nonce ciphertext.now) }
         ensures refused { OnErr result (out.new ≡ out.old) }

@@ -62,7 +62,8 @@ pub(super) fn open_to_with<A: EncryptCtr32, G: UpdateBlocks>(
     requires lengths { length out.old ≡ length ciphertext.now }
     ensures accepted { IsOk result ↔ (Fits (length (aad_bytes aad.entry)) (length ciphertext.now)
         × (received_tag ≡ gcm_tag (A.cipher aes.now) nonce (aad_bytes aad.entry) ciphertext.now)) }
-    ensures plaintext { OnOk result (out.new ≡ gcm_decrypted (A.cipher aes.now) nonce ciphertext.now) }
+    ensures plaintext { OnOk result
+        (out.new ≡ gcm_decrypted (A.cipher aes.now) nonce ciphertext.now) }
     ensures refused { OnErr result (out.new ≡ out.old) }
 {
     let counter = authenticate(aes, gcm, nonce, aad, received_tag, ciphertext, work)?;
@@ -90,7 +91,8 @@ fn authenticate<A: EncryptCtr32, G: UpdateBlocks>(
         × (received_tag ≡ gcm_tag (A.cipher aes.now) nonce (aad_bytes aad.entry) ciphertext.now)) }
     ensures counter { IfOk result (λ counter. IsCounter counter nonce 2) }
     ensures worked { Fits (length (aad_bytes aad.entry)) (length ciphertext.now)
-        → Adds work.old work.new 1 (sealing_products (length (aad_bytes aad.entry)) (length ciphertext.now)) }
+        → Adds work.old work.new 1
+        (sealing_products (length (aad_bytes aad.entry)) (length ciphertext.now)) }
     ensures too_long { ¬ Fits (length (aad_bytes aad.entry)) (length ciphertext.now)
         → Adds work.old work.new 0 0 }
 {

@@ -32,7 +32,8 @@ pub(crate) fn write_multiples(table: &mut [u32; 512], block: u128)
 /// one, those of its four words side by side.
 pub(crate) fn product(table: &[u32; 512], block: u128) -> u128
     requires { AreMultiples (to_be_bytes w128 (entry table.now 0)) table.now }
-    ensures { to_be_bytes w128 result ≡ to_be_bytes w128 block • to_be_bytes w128 (entry table.now 0) }
+    ensures { to_be_bytes w128 result
+        ≡ to_be_bytes w128 block • to_be_bytes w128 (entry table.now 0) }
 {
     let mut bits = words(block);
     let mut first = u32x4::splat(0);
