@@ -1,7 +1,9 @@
-/* Random calls of the static library beside OpenSSL's EVP: ROUNDS of each kind, from SEED on. */
+/* Random calls of the static library beside OpenSSL's EVP: ROUNDS of each kind, from SEED on.
+ *
+ * Each buffer that is written has canaries before and after it, in a block of its own, so that the sanitizers see what
+ * lies outside of both. */
 #define _GNU_SOURCE
 #include "deerlapse.h"
-#include <inttypes.h>
 #include <openssl/crypto.h>
 #include <openssl/evp.h>
 #include <pthread.h>
@@ -10,10 +12,15 @@
 #include <string.h>
 #include <sys/mman.h>
 
-#define MAX_MESSAGE 9000
+#define MAX_MESSAGE 70000
 #define MAX_AAD 600
+#define MAX_START 70000
 #define TAG DEERLAPSE_TAG_LEN
 #define NONCE DEERLAPSE_NONCE_LEN
+#define CANARY 32
+#define THREADS 8
+#define SHARED 40
+#define UNTOUCHED 7
 
 static uint64_t state;
 static unsigned long calls;
@@ -28,6 +35,8 @@ static unsigned long calls;
 
 /* A call of the library, counted. */
 #define CALL(call) (calls++, (call))
+
+#define SAME(a, b) (memcmp(&(a), &(b), sizeof(a)) == 0)
 
 /* Marsaglia's xorshift of 64 bits. */
 static uint64_t next_random(void) {
@@ -48,12 +57,18 @@ static void flip_a_bit(uint8_t *bytes, size_t len) {
     bytes[bit / 8] ^= (uint8_t)(1 << bit % 8);
 }
 
-/* Bytes in a block of their own, so that a sanitizer sees what lies outside. */
-static uint8_t *copy_of(const uint8_t *bytes, size_t len) {
-    uint8_t *copy = malloc(len ? len : 1);
-    CHECK(copy);
-    memcpy(copy, bytes, len);
-    return copy;
+/* A copy of bytes, between canaries. */
+static uint8_t *guarded(const uint8_t *bytes, size_t len) {
+    uint8_t *block = malloc(len + 2 * CANARY);
+    CHECK(block);
+    memset(block, 0xc3, len + 2 * CANARY);
+    if (len) memcpy(block + CANARY, bytes, len);
+    return block + CANARY;
+}
+
+static void release(uint8_t *copy, size_t len) {
+    for (size_t i = 0; i < CANARY; i++) CHECK(copy[len + i] == 0xc3 && *(copy - 1 - i) == 0xc3);
+    free(copy - CANARY);
 }
 
 static EVP_CIPHER_CTX *started(const EVP_CIPHER *cipher, const uint8_t *key, const uint8_t *iv) {
@@ -62,12 +77,18 @@ static EVP_CIPHER_CTX *started(const EVP_CIPHER *cipher, const uint8_t *key, con
     return context;
 }
 
-/* A key, a nonce, an AAD and a message, with what OpenSSL makes of them. */
+/* A key, an IV and a number, whose nonce is both of them, an AAD and a message, with what OpenSSL makes of them. */
 typedef struct {
-    uint8_t key[32], nonce[NONCE], aad[MAX_AAD], message[MAX_MESSAGE];
+    uint8_t key[32], iv[NONCE], nonce[NONCE], aad[MAX_AAD];
     size_t key_len, aad_len, len;
-    uint8_t sealed[MAX_MESSAGE + TAG];
+    uint64_t number;
+    uint8_t message[MAX_MESSAGE], sealed[MAX_MESSAGE + TAG];
 } sealing;
+
+static void set_nonce(sealing *s) {
+    memcpy(s->nonce, s->iv, NONCE);
+    for (int i = 0; i < 8; i++) s->nonce[4 + i] ^= (uint8_t)(s->number >> (56 - 8 * i));
+}
 
 static void seal_by_openssl(sealing *s) {
     const EVP_CIPHER *cipher = s->key_len == 16 ? EVP_aes_128_gcm() : EVP_aes_256_gcm();
@@ -80,110 +101,331 @@ static void seal_by_openssl(sealing *s) {
     EVP_CIPHER_CTX_free(context);
 }
 
-/* Each length up to 299 first, and then random ones. */
+/* Each length up to 299 first, then the greatest, and then random ones. */
 static void make_sealing(sealing *s, size_t round) {
     s->key_len = below(2) ? 16 : 32;
     s->aad_len = below(4) ? below(MAX_AAD) : 0;
-    s->len = round < 300 ? round : below(MAX_MESSAGE);
+    s->len = below(4) ? below(2000) : below(MAX_MESSAGE + 1);
+    if (round < 300) s->len = round;
+    if (round == 300) s->len = MAX_MESSAGE;
+    s->number = below(4) ? next_random() : below(4);
+    if (s->number > UINT64_MAX - 3 || below(8) == 0) s->number = UINT64_MAX - 3;
     fill(s->key, sizeof s->key);
-    fill(s->nonce, NONCE);
+    fill(s->iv, NONCE);
     fill(s->aad, s->aad_len);
     fill(s->message, s->len);
+    set_nonce(s);
     seal_by_openssl(s);
 }
 
-static void seals(const sealing *s) {
-    uint8_t *buffer = copy_of(s->sealed, s->len + TAG);
-    uint8_t *aad = copy_of(s->aad, s->aad_len);
-    memcpy(buffer, s->message, s->len);
-    memset(buffer + s->len, 0, TAG);
-    /* the tag right after the message */
-    CHECK(CALL(deerlapse_seal(s->key, s->key_len, s->nonce, aad, s->aad_len, buffer, s->len, buffer + s->len)));
-    CHECK(memcmp(buffer, s->sealed, s->len + TAG) == 0);
-    static const size_t others[] = {0, 1, 15, 17, 24, 31};
-    size_t other = others[below(6)];
-    CHECK(!CALL(deerlapse_seal(s->key, other, s->nonce, aad, s->aad_len, buffer, s->len, buffer + s->len)));
-    CHECK(memcmp(buffer, s->sealed, s->len + TAG) == 0);
-    free(aad);
-    free(buffer);
+/* The calls that seal, by what they are given of `s`. What they only read stays. */
+typedef bool seal_way(const sealing *s, const uint8_t *aad, uint8_t *in_out, uint8_t *tag);
+
+static bool seal_once(const sealing *s, const uint8_t *aad, uint8_t *in_out, uint8_t *tag) {
+    return CALL(deerlapse_seal(s->key, s->key_len, s->nonce, aad, s->aad_len, in_out, s->len, tag));
 }
 
+static bool seal_by_key(const sealing *s, const uint8_t *aad, uint8_t *in_out, uint8_t *tag) {
+    deerlapse_key key, was;
+    memset(&key, 0x5a, sizeof key);
+    CHECK(CALL(deerlapse_key_init(&key, s->key, s->key_len)));
+    was = key;
+    bool answer = CALL(deerlapse_key_seal(&key, s->nonce, aad, s->aad_len, in_out, s->len, tag));
+    CHECK(SAME(key, was));
+    return answer;
+}
+
+/* Nothing is sealed after the only number. */
+static bool seal_by_sealer(const sealing *s, const uint8_t *aad, uint8_t *in_out, uint8_t *tag) {
+    deerlapse_sealer sealer, was;
+    memset(&sealer, 0x5a, sizeof sealer);
+    CHECK(CALL(deerlapse_sealer_init(&sealer, s->key, s->key_len, s->iv, s->number, s->number + 1)));
+    CHECK(CALL(deerlapse_sealer_next(&sealer)) == s->number);
+    CHECK(CALL(deerlapse_sealer_seal(&sealer, aad, s->aad_len, in_out, s->len, tag)));
+    CHECK(CALL(deerlapse_sealer_next(&sealer)) == s->number + 1);
+    was = sealer;
+    CHECK(!CALL(deerlapse_sealer_seal(&sealer, aad, s->aad_len, in_out, s->len, tag)));
+    CHECK(SAME(sealer, was));
+    return true;
+}
+
+static seal_way *const seal_ways[] = {seal_once, seal_by_key, seal_by_sealer};
+enum { SEAL_WAYS = sizeof seal_ways / sizeof seal_ways[0] };
+
+/* The tag right after the message, and apart. */
+static void seals(const sealing *s, seal_way *way) {
+    uint8_t *aad = guarded(s->aad, s->aad_len), *buffer = guarded(s->sealed, s->len + TAG);
+    uint8_t *apart = guarded(s->message, s->len), *tag = guarded(s->sealed, TAG);
+    memcpy(buffer, s->message, s->len);
+    memset(buffer + s->len, 0, TAG);
+    CHECK(way(s, aad, buffer, buffer + s->len) && memcmp(buffer, s->sealed, s->len + TAG) == 0);
+    CHECK(way(s, aad, apart, tag) && memcmp(apart, s->sealed, s->len) == 0);
+    CHECK(memcmp(tag, s->sealed + s->len, TAG) == 0 && memcmp(aad, s->aad, s->aad_len) == 0);
+    release(tag, TAG);
+    release(apart, s->len);
+    release(buffer, s->len + TAG);
+    release(aad, s->aad_len);
+}
+
+/* The calls that open the `all` bytes of in_out from `at` on. */
+typedef bool open_way(const sealing *s, const uint8_t *aad, uint8_t *in_out, size_t all, size_t at, size_t *len);
+
+static bool open_once(const sealing *s, const uint8_t *aad, uint8_t *in_out, size_t all, size_t at, size_t *len) {
+    return CALL(deerlapse_open(s->key, s->key_len, s->nonce, aad, s->aad_len, in_out, all, at, len));
+}
+
+static bool open_by_key(const sealing *s, const uint8_t *aad, uint8_t *in_out, size_t all, size_t at, size_t *len) {
+    deerlapse_key key, was;
+    CHECK(CALL(deerlapse_key_init(&key, s->key, s->key_len)));
+    was = key;
+    bool answer = CALL(deerlapse_key_open(&key, s->nonce, aad, s->aad_len, in_out, all, at, len));
+    CHECK(SAME(key, was));
+    return answer;
+}
+
+/* It counts on true alone. */
+static bool open_in_order(const sealing *s, const uint8_t *aad, uint8_t *in_out, size_t all, size_t at, size_t *len) {
+    deerlapse_opener opener, was;
+    memset(&opener, 0x5a, sizeof opener);
+    CHECK(CALL(deerlapse_opener_init(&opener, s->key, s->key_len, s->iv, s->number, s->number + 1)));
+    was = opener;
+    bool answer = CALL(deerlapse_opener_open(&opener, aad, s->aad_len, in_out, all, at, len));
+    CHECK(CALL(deerlapse_opener_next(&opener)) == s->number + answer);
+    CHECK(answer || SAME(opener, was));
+    return answer;
+}
+
+/* Whatever number is next. */
+static bool open_by_number(const sealing *s, const uint8_t *aad, uint8_t *in_out, size_t all, size_t at, size_t *len) {
+    deerlapse_opener opener, was;
+    uint64_t first = next_random();
+    CHECK(CALL(deerlapse_opener_init(&opener, s->key, s->key_len, s->iv, first, first)));
+    was = opener;
+    bool answer = CALL(deerlapse_opener_open_number(&opener, s->number, aad, s->aad_len, in_out, all, at, len));
+    CHECK(SAME(opener, was));
+    return answer;
+}
+
+static open_way *const open_ways[] = {open_once, open_by_key, open_in_order, open_by_number};
+enum { OPEN_WAYS = sizeof open_ways / sizeof open_ways[0] };
+
 /* Opens `start` bytes, ciphertext and tag. */
-static void opens(const sealing *s) {
-    size_t start = below(40), all = start + s->len + TAG, len = SIZE_MAX;
-    uint8_t *was = malloc(all);
+static void opens(const sealing *s, open_way *way, size_t start) {
+    size_t all = start + s->len + TAG, lens[] = {UNTOUCHED, UNTOUCHED, UNTOUCHED};
+    uint8_t *was = malloc(all), *aad = guarded(s->aad, s->aad_len);
     CHECK(was);
-    fill(was, start);
+    memset(was, 0x3c, start);
     memcpy(was + start, s->sealed, s->len + TAG);
-    uint8_t *buffer = copy_of(was, all);
-    CHECK(CALL(deerlapse_open(s->key, s->key_len, s->nonce, s->aad, s->aad_len, buffer, all, start, &len)));
-    CHECK(len == s->len && memcmp(buffer, s->message, len) == 0);
-    CHECK(memcmp(buffer + len, was + len, all - len) == 0);
-    free(buffer);
+    uint8_t *buffer = guarded(was, all);
+    CHECK(way(s, aad, buffer, all, start, &lens[1]));
+    CHECK(lens[0] == UNTOUCHED && lens[1] == s->len && lens[2] == UNTOUCHED);
+    CHECK(memcmp(buffer, s->message, s->len) == 0 && memcmp(buffer + s->len, was + s->len, all - s->len) == 0);
+    CHECK(memcmp(aad, s->aad, s->aad_len) == 0);
+    release(buffer, all);
+    release(aad, s->aad_len);
     free(was);
 }
 
-static void refuses_to_open(const sealing *s, const uint8_t *bytes, size_t all, size_t key_len, size_t start) {
-    uint8_t *buffer = copy_of(bytes, all);
-    size_t len = 7;
-    CHECK(!CALL(deerlapse_open(s->key, key_len, s->nonce, s->aad, s->aad_len, buffer, all, start, &len)));
-    CHECK(len == 7 && memcmp(buffer, bytes, all) == 0);
-    free(buffer);
+static void refuses_to_open(const sealing *s, open_way *way, const uint8_t *bytes, size_t all, size_t start) {
+    uint8_t *buffer = guarded(bytes, all);
+    size_t lens[] = {UNTOUCHED, UNTOUCHED, UNTOUCHED};
+    CHECK(!way(s, s->aad, buffer, all, start, &lens[1]));
+    CHECK(lens[0] == UNTOUCHED && lens[1] == UNTOUCHED && lens[2] == UNTOUCHED);
+    CHECK(memcmp(buffer, bytes, all) == 0);
+    release(buffer, all);
 }
 
 /* One bit flipped in each place that the tag covers, and lengths that don't fit. */
-static void refuses(const sealing *s) {
+static void refuses(const sealing *s, open_way *way) {
+    static sealing changed;
     size_t all = s->len + TAG;
-    sealing changed = *s;
+    changed = *s;
     flip_a_bit(changed.sealed, all);
-    refuses_to_open(&changed, changed.sealed, all, s->key_len, 0);
-    changed = *s;
+    refuses_to_open(s, way, changed.sealed, all, 0);
+    memcpy(changed.sealed, s->sealed, all);
     flip_a_bit(changed.sealed + s->len, TAG);
-    refuses_to_open(&changed, changed.sealed, all, s->key_len, 0);
-    changed = *s;
-    flip_a_bit(changed.nonce, NONCE);
-    refuses_to_open(&changed, s->sealed, all, s->key_len, 0);
-    changed = *s;
+    refuses_to_open(s, way, changed.sealed, all, 0);
+    flip_a_bit(changed.iv, NONCE);
+    set_nonce(&changed);
+    refuses_to_open(&changed, way, s->sealed, all, 0);
+    memcpy(changed.iv, s->iv, NONCE);
+    changed.number++;
+    set_nonce(&changed);
+    refuses_to_open(&changed, way, s->sealed, all, 0);
+    changed.number--;
+    set_nonce(&changed);
     flip_a_bit(changed.key, s->key_len);
-    refuses_to_open(&changed, s->sealed, all, s->key_len, 0);
-    changed = *s;
+    refuses_to_open(&changed, way, s->sealed, all, 0);
+    memcpy(changed.key, s->key, sizeof s->key);
+    changed.key_len = 48 - s->key_len;
+    refuses_to_open(&changed, way, s->sealed, all, 0);
+    changed.key_len = s->key_len;
     if (s->aad_len) flip_a_bit(changed.aad, s->aad_len);
     else changed.aad_len = 1;
-    refuses_to_open(&changed, s->sealed, all, s->key_len, 0);
-    refuses_to_open(s, s->sealed, all, 48 - s->key_len, 0);
-    refuses_to_open(s, s->sealed, all, 24, 0);
-    refuses_to_open(s, s->sealed, all, s->key_len, s->len + 1 + below(40));
-    refuses_to_open(s, s->sealed, all, s->key_len, SIZE_MAX - below(40));
-    refuses_to_open(s, s->sealed, below(TAG), s->key_len, 0);
+    refuses_to_open(&changed, way, s->sealed, all, 0);
+    refuses_to_open(s, way, s->sealed, all, s->len + 1 + below(40));
+    refuses_to_open(s, way, s->sealed, all, SIZE_MAX - below(40));
+    refuses_to_open(s, way, s->sealed, below(TAG), 0);
+    if (s->len) refuses_to_open(s, way, s->sealed, all, 1 + below(s->len));
+}
+
+/* Opens with the tag apart, in place and from one buffer to another. `bytes` stay where they are only read. */
+static void opens_apart(const deerlapse_key *key, const sealing *s, const uint8_t *bytes, size_t len, bool right) {
+    uint8_t *in = guarded(bytes, len), *out = guarded(s->message, len), *tag = guarded(bytes + len, TAG);
+    memset(out, 0x3c, len);
+    CHECK(CALL(deerlapse_key_open_to(key, s->nonce, s->aad, s->aad_len, in, len, out, len, tag)) == right);
+    CHECK(memcmp(in, bytes, len) == 0);
+    for (size_t i = 0; i < len; i++) CHECK(out[i] == (right ? s->message[i] : 0x3c));
+    CHECK(CALL(deerlapse_key_open_separate_tag(key, s->nonce, s->aad, s->aad_len, in, len, tag)) == right);
+    CHECK(memcmp(in, right ? s->message : bytes, len) == 0);
+    memcpy(in, bytes, len);
+    CHECK(CALL(deerlapse_key_open_to(key, s->nonce, s->aad, s->aad_len, in, len, in, len, tag)) == right);
+    CHECK(memcmp(in, right ? s->message : bytes, len) == 0 && memcmp(tag, bytes + len, TAG) == 0);
+    release(tag, TAG);
+    release(out, len);
+    release(in, len);
+}
+
+/* Two lengths that differ, and a key of zeros. */
+static void refuses_apart(const deerlapse_key *key, const sealing *s, size_t out_len) {
+    uint8_t *in = guarded(s->sealed, s->len), *out = guarded(s->message, out_len), tag[TAG];
+    memcpy(tag, s->sealed + s->len, TAG);
+    CHECK(!CALL(deerlapse_key_seal_to(key, s->nonce, s->aad, s->aad_len, in, s->len, out, out_len, tag)));
+    CHECK(!CALL(deerlapse_key_open_to(key, s->nonce, s->aad, s->aad_len, in, s->len, out, out_len, tag)));
+    CHECK(memcmp(in, s->sealed, s->len) == 0 && memcmp(out, s->message, out_len) == 0);
+    CHECK(memcmp(tag, s->sealed + s->len, TAG) == 0);
+    release(out, out_len);
+    release(in, s->len);
+}
+
+static void apart(const sealing *s) {
+    static const deerlapse_key no_key;
+    static uint8_t changed[MAX_MESSAGE + TAG];
+    size_t all = s->len + TAG;
+    deerlapse_key key;
+    uint8_t *in = guarded(s->message, s->len), *out = guarded(s->sealed, s->len), *tag = guarded(s->message, TAG);
+    CHECK(CALL(deerlapse_key_init(&key, s->key, s->key_len)));
+    memset(out, 0x3c, s->len);
+    CHECK(CALL(deerlapse_key_seal_to(&key, s->nonce, s->aad, s->aad_len, in, s->len, out, s->len, tag)));
+    CHECK(memcmp(out, s->sealed, s->len) == 0 && memcmp(tag, s->sealed + s->len, TAG) == 0);
+    CHECK(memcmp(in, s->message, s->len) == 0);
+    memset(tag, 0, TAG);
+    CHECK(CALL(deerlapse_key_seal_to(&key, s->nonce, s->aad, s->aad_len, in, s->len, in, s->len, tag)));
+    CHECK(memcmp(in, s->sealed, s->len) == 0 && memcmp(tag, s->sealed + s->len, TAG) == 0);
+    release(tag, TAG);
+    release(out, s->len);
+    release(in, s->len);
+
+    opens_apart(&key, s, s->sealed, s->len, true);
+    memcpy(changed, s->sealed, all);
+    flip_a_bit(changed, all);
+    opens_apart(&key, s, changed, s->len, false);
+    memcpy(changed, s->sealed, all);
+    flip_a_bit(changed + s->len, TAG);
+    opens_apart(&key, s, changed, s->len, false);
+    opens_apart(&no_key, s, s->sealed, s->len, false);
+    refuses_apart(&no_key, s, s->len);
+    if (s->len) refuses_apart(&key, s, below(s->len));
+    if (s->len < MAX_MESSAGE) refuses_apart(&key, s, s->len + 1);
+}
+
+/* Keys of other lengths: each call that takes bytes is refused, and leaves what it has. A key is then zeros. */
+static void refuses_keys(const sealing *s) {
+    static const size_t others[] = {0, 1, 15, 17, 24, 31};
+    static const deerlapse_key zeros;
+    size_t other = others[below(6)], len = UNTOUCHED;
+    uint8_t *buffer = guarded(s->sealed, s->len + TAG), *tag = buffer + s->len;
+    deerlapse_key key;
+    deerlapse_sealer sealer, sealer_was;
+    deerlapse_opener opener, opener_was;
+    memset(&key, 0x5a, sizeof key);
+    memset(&sealer, 0x5a, sizeof sealer);
+    memset(&opener, 0x5a, sizeof opener);
+    sealer_was = sealer;
+    opener_was = opener;
+    CHECK(!CALL(deerlapse_seal(s->key, other, s->nonce, s->aad, s->aad_len, buffer, s->len, tag)));
+    CHECK(!CALL(deerlapse_open(s->key, other, s->nonce, s->aad, s->aad_len, buffer, s->len + TAG, 0, &len)));
+    CHECK(!CALL(deerlapse_key_init(&key, s->key, other)) && SAME(key, zeros));
+    CHECK(!CALL(deerlapse_sealer_init(&sealer, s->key, other, s->iv, 0, 3)) && SAME(sealer, sealer_was));
+    CHECK(!CALL(deerlapse_opener_init(&opener, s->key, other, s->iv, 0, 3)) && SAME(opener, opener_was));
+    CHECK(!CALL(deerlapse_sealer_init(&sealer, s->key, s->key_len, s->iv, 4, 3)) && SAME(sealer, sealer_was));
+    CHECK(!CALL(deerlapse_opener_init(&opener, s->key, s->key_len, s->iv, 4, 3)) && SAME(opener, opener_was));
+    CHECK(len == UNTOUCHED && memcmp(buffer, s->sealed, s->len + TAG) == 0);
+    release(buffer, s->len + TAG);
+}
+
+static void refused_under(const deerlapse_key *key, const sealing *s) {
+    uint8_t *buffer = guarded(s->sealed, s->len + TAG);
+    size_t all = s->len + TAG, len = UNTOUCHED;
+    CHECK(!CALL(deerlapse_key_seal(key, s->nonce, s->aad, s->aad_len, buffer, s->len, buffer + s->len)));
+    CHECK(!CALL(deerlapse_key_open(key, s->nonce, s->aad, s->aad_len, buffer, all, 0, &len)));
+    CHECK(len == UNTOUCHED && memcmp(buffer, s->sealed, all) == 0);
+    release(buffer, all);
+}
+
+/* Under a key of zeros, a wiped one, one whose bytes were refused, and by a sealer and an opener of zeros nothing is
+ * sealed or opened. A copy of a key is one. */
+static void zeros(const sealing *s) {
+    static const deerlapse_key no_key;
+    deerlapse_key key = {{0}}, copy, refused;
+    deerlapse_sealer sealer = {{0}}, no_sealer = {{0}};
+    deerlapse_opener opener = {{0}}, no_opener = {{0}};
+    uint8_t *buffer = guarded(s->sealed, s->len + TAG);
+    size_t all = s->len + TAG, len = UNTOUCHED;
+    refused_under(&key, s);
+    CHECK(CALL(deerlapse_key_init(&key, s->key, s->key_len)));
+    refused = copy = key;
+    CHECK(!CALL(deerlapse_key_init(&refused, s->key, 24)));
+    refused_under(&refused, s);
+    CALL(deerlapse_key_wipe(&key));
+    CHECK(SAME(key, no_key));
+    refused_under(&key, s);
+    CHECK(!CALL(deerlapse_sealer_seal(&sealer, s->aad, s->aad_len, buffer, s->len, buffer + s->len)));
+    CHECK(!CALL(deerlapse_opener_open(&opener, s->aad, s->aad_len, buffer, all, 0, &len)));
+    CHECK(!CALL(deerlapse_opener_open_number(&opener, s->number, s->aad, s->aad_len, buffer, all, 0, &len)));
+    CHECK(SAME(sealer, no_sealer) && SAME(opener, no_opener) && memcmp(buffer, s->sealed, all) == 0);
+    CHECK(CALL(deerlapse_key_open(&copy, s->nonce, s->aad, s->aad_len, buffer, all, 0, &len)) && len == s->len);
+    CHECK(memcmp(buffer, s->message, s->len) == 0);
+    release(buffer, all);
 }
 
 /* A null pointer where the length is 0 is as good as any other. */
 static void nulls(sealing *s) {
-    uint8_t tag[TAG], other[TAG], iv[NONCE] = {0};
-    size_t len = 7;
+    uint8_t tag[TAG], other[TAG];
+    size_t len = UNTOUCHED;
+    deerlapse_key key;
     deerlapse_sealer sealer;
+    deerlapse_opener opener;
     s->aad_len = s->len = 0;
     seal_by_openssl(s);
-    CHECK(CALL(deerlapse_seal(s->key, s->key_len, s->nonce, NULL, 0, NULL, 0, tag)));
-    CHECK(memcmp(tag, s->sealed, TAG) == 0);
+    for (int i = 0; i < SEAL_WAYS; i++) {
+        CHECK(seal_ways[i](s, NULL, NULL, tag) && memcmp(tag, s->sealed, TAG) == 0);
+    }
     memcpy(other, tag, TAG);
-    CHECK(CALL(deerlapse_open(s->key, s->key_len, s->nonce, NULL, 0, tag, TAG, 0, &len)));
-    CHECK(len == 0 && memcmp(tag, other, TAG) == 0);
-    len = 7;
-    CHECK(!CALL(deerlapse_open(s->key, s->key_len, s->nonce, NULL, 0, NULL, 0, 0, &len)));
+    for (int i = 0; i < OPEN_WAYS; i++) {
+        CHECK(open_ways[i](s, NULL, tag, TAG, 0, &len) && len == 0 && memcmp(tag, other, TAG) == 0);
+        len = UNTOUCHED;
+        CHECK(!open_ways[i](s, NULL, NULL, 0, 0, &len) && len == UNTOUCHED);
+    }
+    CHECK(CALL(deerlapse_key_init(&key, s->key, s->key_len)));
+    CHECK(CALL(deerlapse_key_seal_to(&key, s->nonce, NULL, 0, NULL, 0, NULL, 0, tag)));
+    CHECK(CALL(deerlapse_key_seal_to(&key, s->nonce, NULL, 0, s->key, 0, NULL, 0, tag)));
+    CHECK(memcmp(tag, other, TAG) == 0);
+    CHECK(CALL(deerlapse_key_open_to(&key, s->nonce, NULL, 0, NULL, 0, other, 0, tag)));
+    CHECK(CALL(deerlapse_key_open_to(&key, s->nonce, NULL, 0, NULL, 0, NULL, 0, tag)));
+    CHECK(CALL(deerlapse_key_open_separate_tag(&key, s->nonce, NULL, 0, NULL, 0, tag)));
     CHECK(!CALL(deerlapse_seal(NULL, 0, s->nonce, NULL, 0, NULL, 0, tag)));
+    CHECK(!CALL(deerlapse_open(NULL, 0, s->nonce, NULL, 0, NULL, 0, 0, &len)));
+    CHECK(!CALL(deerlapse_key_init(&key, NULL, 0)));
     CHECK(!CALL(deerlapse_mask_aes(NULL, 0, other, tag)));
-    CHECK(!CALL(deerlapse_sealer_init(&sealer, NULL, 0, iv, 0, 1)));
+    CHECK(!CALL(deerlapse_sealer_init(&sealer, NULL, 0, s->iv, 0, 1)));
+    CHECK(!CALL(deerlapse_opener_init(&opener, NULL, 0, s->iv, 0, 1)));
     CHECK(CALL(deerlapse_chacha20(s->key, s->nonce, 0, NULL, 0)));
-    CHECK(len == 7 && memcmp(tag, other, TAG) == 0);
-    memcpy(iv, s->nonce, NONCE);
-    CHECK(CALL(deerlapse_sealer_init(&sealer, s->key, s->key_len, iv, 0, 1)));
-    CHECK(CALL(deerlapse_sealer_seal(&sealer, NULL, 0, NULL, 0, tag)));
-    CHECK(memcmp(tag, s->sealed, TAG) == 0);
+    CHECK(len == UNTOUCHED && memcmp(tag, other, TAG) == 0);
 }
 
 static void masks(void) {
-    uint8_t key[32], sample[16], block[32], mask[5], zeros[5] = {0};
+    uint8_t key[32], sample[16], block[32], *mask, zeros[5] = {0};
     int written;
     size_t key_len = below(2) ? 16 : 32;
     fill(key, 32);
@@ -191,6 +433,7 @@ static void masks(void) {
     EVP_CIPHER_CTX *context = started(key_len == 16 ? EVP_aes_128_ecb() : EVP_aes_256_ecb(), key, NULL);
     CHECK(EVP_EncryptUpdate(context, block, &written, sample, 16) == 1);
     EVP_CIPHER_CTX_free(context);
+    mask = guarded(zeros, 5);
     CHECK(CALL(deerlapse_mask_aes(key, key_len, sample, mask)));
     CHECK(memcmp(mask, block, 5) == 0);
     CHECK(!CALL(deerlapse_mask_aes(key, 24, sample, mask)));
@@ -201,17 +444,19 @@ static void masks(void) {
     EVP_CIPHER_CTX_free(context);
     CALL(deerlapse_mask_chacha20(key, sample, mask));
     CHECK(memcmp(mask, block, 5) == 0);
+    release(mask, 5);
 }
 
 /* Every fourth time next to the last block, on both sides of it. */
 static void chacha20(const sealing *s) {
+    static uint8_t stream[MAX_MESSAGE];
     uint64_t blocks = (s->len + 63) / 64;
     uint64_t counter = next_random() >> 32;
     if (below(4) == 0) counter = UINT32_MAX - below(150);
-    uint8_t iv[16], stream[MAX_MESSAGE];
+    uint8_t iv[16];
     for (int i = 0; i < 4; i++) iv[i] = (uint8_t)(counter >> (8 * i));
     memcpy(iv + 4, s->nonce, NONCE);
-    uint8_t *buffer = copy_of(s->message, s->len);
+    uint8_t *buffer = guarded(s->message, s->len);
     bool answer = CALL(deerlapse_chacha20(s->key, s->nonce, (uint32_t)counter, buffer, s->len));
     CHECK(answer == (counter + blocks <= (uint64_t)1 << 32));
     memcpy(stream, s->message, s->len);
@@ -222,290 +467,167 @@ static void chacha20(const sealing *s) {
         EVP_CIPHER_CTX_free(context);
     }
     CHECK(memcmp(buffer, stream, s->len) == 0);
-    free(buffer);
+    release(buffer, s->len);
 }
 
-static deerlapse_key made_key(const sealing *s) {
+/* Three messages of a sealer, each under the next nonce; an opener of the same numbers opens them in order, and takes
+ * none of them before or after its turn. */
+static void sequence(sealing *s, size_t round) {
+    static uint8_t sealed[3][MAX_MESSAGE + TAG];
+    static sealing made[3];
+    size_t len = UNTOUCHED;
+    uint64_t first;
+    uint8_t nonce[NONCE];
+    deerlapse_sealer sealer;
+    deerlapse_opener opener;
+    make_sealing(s, round);
+    first = s->number;
+    CHECK(CALL(deerlapse_sealer_init(&sealer, s->key, s->key_len, s->iv, first, first + 3)));
+    CHECK(CALL(deerlapse_opener_init(&opener, s->key, s->key_len, s->iv, first, first + 3)));
+    for (size_t i = 0; i < 3; i++) {
+        sealing *it = &made[i];
+        *it = *s;
+        it->number = first + i;
+        it->len = below(300);
+        fill(it->message, it->len);
+        set_nonce(it);
+        seal_by_openssl(it);
+        CALL(deerlapse_nonce(it->iv, it->number, nonce));
+        CHECK(memcmp(nonce, it->nonce, NONCE) == 0);
+        memcpy(sealed[i], it->message, it->len);
+        CHECK(CALL(deerlapse_sealer_seal(&sealer, it->aad, it->aad_len, sealed[i], it->len, sealed[i] + it->len)));
+        CHECK(CALL(deerlapse_sealer_next(&sealer)) == it->number + 1);
+        CHECK(memcmp(sealed[i], it->sealed, it->len + TAG) == 0);
+    }
+    for (size_t turn = 0; turn < 3; turn++) {
+        for (size_t i = 0; i < 3; i++) {
+            size_t which = (turn + 1 + i) % 3; /* the one whose turn it is comes last */
+            const sealing *it = &made[which];
+            bool is = CALL(deerlapse_opener_open(&opener, it->aad, it->aad_len, sealed[which], it->len + TAG, 0, &len));
+            CHECK(is == (which == turn));
+            CHECK(memcmp(sealed[which], is ? it->message : it->sealed, it->len) == 0);
+            memcpy(sealed[which], it->sealed, it->len + TAG);
+        }
+        CHECK(CALL(deerlapse_opener_next(&opener)) == first + turn + 1 && len == made[turn].len);
+    }
+    CHECK(!CALL(deerlapse_opener_open(&opener, s->aad, s->aad_len, sealed[2], made[2].len + TAG, 0, &len)));
+    CHECK(!CALL(deerlapse_sealer_seal(&sealer, s->aad, s->aad_len, sealed[0], 5, sealed[1])));
+    CHECK(memcmp(sealed[0], made[0].sealed, made[0].len + TAG) == 0);
+    CHECK(memcmp(sealed[1], made[1].sealed, made[1].len + TAG) == 0);
+}
+
+/* Each start up to 299, at messages of a few lengths, and some far ones. */
+static void starts(sealing *s) {
+    static const size_t lens[] = {0, 1, 16, 47, 299};
+    for (size_t i = 0; i < sizeof lens / sizeof lens[0]; i++) {
+        for (size_t start = 0; start < 300; start++) {
+            make_sealing(s, lens[i]);
+            for (int way = 0; way < OPEN_WAYS; way++) {
+                opens(s, open_ways[way], start);
+                if (start % 30 == 0) opens(s, open_ways[way], below(MAX_START));
+            }
+        }
+    }
+}
+
+/* A message that is one byte too long, in memory that is never touched. */
+static void too_long(sealing *s) {
+    size_t len = ((size_t)1 << 36) - 31, opened = UNTOUCHED;
+    uint8_t tag[TAG] = {0}, was[TAG] = {0};
+    uint8_t *bytes = mmap(NULL, len + TAG, PROT_READ | PROT_WRITE, MAP_PRIVATE | MAP_ANONYMOUS | MAP_NORESERVE, -1, 0);
     deerlapse_key key;
-    memset(&key, 0x5a, sizeof key);
+    deerlapse_sealer sealer;
+    deerlapse_opener opener;
+    if (bytes == MAP_FAILED) return;
+    make_sealing(s, 0);
     CHECK(CALL(deerlapse_key_init(&key, s->key, s->key_len)));
-    return key;
+    CHECK(CALL(deerlapse_sealer_init(&sealer, s->key, s->key_len, s->iv, 5, 9)));
+    CHECK(CALL(deerlapse_opener_init(&opener, s->key, s->key_len, s->iv, 5, 9)));
+    CHECK(!CALL(deerlapse_seal(s->key, s->key_len, s->nonce, NULL, 0, bytes, len, tag)));
+    CHECK(!CALL(deerlapse_key_seal(&key, s->nonce, NULL, 0, bytes, len, tag)));
+    CHECK(!CALL(deerlapse_sealer_seal(&sealer, NULL, 0, bytes, len, tag)));
+    CHECK(!CALL(deerlapse_open(s->key, s->key_len, s->nonce, NULL, 0, bytes, len + TAG, 0, &opened)));
+    CHECK(!CALL(deerlapse_key_open(&key, s->nonce, NULL, 0, bytes, len + TAG, 0, &opened)));
+    CHECK(!CALL(deerlapse_opener_open(&opener, NULL, 0, bytes, len + TAG, 0, &opened)));
+    CHECK(!CALL(deerlapse_opener_open_number(&opener, 5, NULL, 0, bytes, len + TAG, 0, &opened)));
+    CHECK(CALL(deerlapse_sealer_next(&sealer)) == 5 && CALL(deerlapse_opener_next(&opener)) == 5);
+    CHECK(opened == UNTOUCHED && SAME(tag, was));
+    CHECK(munmap(bytes, len + TAG) == 0);
 }
 
-static bool all_zero(const void *bytes, size_t len) {
-    for (size_t i = 0; i < len; i++)
-        if (((const uint8_t *)bytes)[i]) return false;
-    return true;
-}
-
-/* Seals and opens by a key, in place at an offset, with the tag apart, and from one buffer to another. */
-static void by_a_key(const sealing *s) {
-    const deerlapse_key key = made_key(s);
-    const uint8_t *tag = s->sealed + s->len;
-    size_t start = below(40), all = start + s->len + TAG, len = SIZE_MAX;
-    uint8_t *was = malloc(all), *out = malloc(s->len + 1), made[TAG];
-    CHECK(was && out);
-    fill(was, start);
-    memcpy(was + start, s->message, s->len);
-    uint8_t *buffer = copy_of(was, all);
-    CHECK(CALL(deerlapse_key_seal(&key, s->nonce, s->aad, s->aad_len, buffer + start, s->len, buffer + all - TAG)));
-    CHECK(memcmp(buffer, was, start) == 0 && memcmp(buffer + start, s->sealed, s->len + TAG) == 0);
-    memcpy(was, buffer, all);
-    CHECK(CALL(deerlapse_key_open(&key, s->nonce, s->aad, s->aad_len, buffer, all, start, &len)));
-    CHECK(len == s->len && memcmp(buffer, s->message, len) == 0);
-    CHECK(memcmp(buffer + len, was + len, all - len) == 0);
-
-    memset(out, 0x5a, s->len + 1);
-    CHECK(CALL(deerlapse_key_seal_to(&key, s->nonce, s->aad, s->aad_len, s->message, s->len, out, s->len, made)));
-    CHECK(memcmp(out, s->sealed, s->len) == 0 && memcmp(made, tag, TAG) == 0 && out[s->len] == 0x5a);
-    CHECK(CALL(deerlapse_key_open_to(&key, s->nonce, s->aad, s->aad_len, s->sealed, s->len, out, s->len, tag)));
-    CHECK(memcmp(out, s->message, s->len) == 0 && out[s->len] == 0x5a);
-    memcpy(out, s->sealed, s->len);
-    CHECK(CALL(deerlapse_key_open_separate_tag(&key, s->nonce, s->aad, s->aad_len, out, s->len, tag)));
-    CHECK(memcmp(out, s->message, s->len) == 0 && out[s->len] == 0x5a);
-    free(buffer);
-    free(out);
-    free(was);
-}
-
-/* Each call under a key refuses, with every byte as it came. */
-static void refuses_all(const deerlapse_key *key, const sealing *s, bool seals_too, size_t out_len) {
-    size_t all = s->len + TAG, len = 7;
-    uint8_t *buffer = copy_of(s->sealed, all), *out = copy_of(s->message, s->len), tag[TAG];
-    memcpy(tag, s->sealed + s->len, TAG);
-    if (seals_too) CHECK(!CALL(deerlapse_key_seal(key, s->nonce, s->aad, s->aad_len, buffer, s->len, tag)));
-    if (seals_too || out_len != s->len)
-        CHECK(!CALL(deerlapse_key_seal_to(key, s->nonce, s->aad, s->aad_len, buffer, s->len, out, out_len, tag)));
-    CHECK(!CALL(deerlapse_key_open_to(key, s->nonce, s->aad, s->aad_len, buffer, s->len, out, out_len, tag)));
-    if (out_len == s->len) {
-        CHECK(!CALL(deerlapse_key_open(key, s->nonce, s->aad, s->aad_len, buffer, all, 0, &len)));
-        CHECK(!CALL(deerlapse_key_open_separate_tag(key, s->nonce, s->aad, s->aad_len, buffer, s->len, tag)));
-    }
-    CHECK(len == 7 && memcmp(buffer, s->sealed, all) == 0 && memcmp(out, s->message, s->len) == 0);
-    CHECK(memcmp(tag, s->sealed + s->len, TAG) == 0);
-    free(out);
-    free(buffer);
-}
-
-static void refuses_by_a_key(const sealing *s) {
-    deerlapse_key key = made_key(s), none = {{0}};
-    sealing changed = *s;
-    flip_a_bit(changed.sealed, s->len + TAG);
-    refuses_all(&key, &changed, false, s->len);
-    if (s->len) refuses_all(&key, s, false, below(s->len));
-    refuses_all(&none, s, true, s->len);
-    deerlapse_key refused = key;
-    CHECK(!CALL(deerlapse_key_init(&refused, s->key, below(2) ? 24 : below(16))));
-    CHECK(all_zero(&refused, sizeof refused));
-    refuses_all(&refused, s, true, s->len);
-    CALL(deerlapse_key_wipe(&key));
-    CHECK(all_zero(&key, sizeof key));
-    refuses_all(&key, s, true, s->len);
-}
-
-/* An opener opens a sealed message by its number, once in order, and no message that was changed. */
-static void opener(deerlapse_opener *opener, const sealing *s, uint64_t number) {
-    size_t all = s->len + TAG, len = 7;
-    uint8_t *buffer = copy_of(s->sealed, all);
-    deerlapse_opener was = *opener;
-    CHECK(deerlapse_opener_next(opener) == number);
-    flip_a_bit(buffer, all);
-    uint8_t *changed = copy_of(buffer, all);
-    CHECK(!CALL(deerlapse_opener_open(opener, s->aad, s->aad_len, buffer, all, 0, &len)));
-    CHECK(!CALL(deerlapse_opener_open_number(opener, number, s->aad, s->aad_len, buffer, all, 0, &len)));
-    CHECK(len == 7 && memcmp(buffer, changed, all) == 0);
-    memcpy(buffer, s->sealed, all);
-    CHECK(!CALL(deerlapse_opener_open_number(opener, number + 1, s->aad, s->aad_len, buffer, all, 0, &len)));
-    CHECK(len == 7 && memcmp(buffer, s->sealed, all) == 0);
-    CHECK(CALL(deerlapse_opener_open_number(opener, number, s->aad, s->aad_len, buffer, all, 0, &len)));
-    CHECK(len == s->len && memcmp(buffer, s->message, len) == 0);
-    CHECK(memcmp(opener, &was, sizeof was) == 0);
-    memcpy(buffer, s->sealed, all);
-    CHECK(CALL(deerlapse_opener_open(opener, s->aad, s->aad_len, buffer, all, 0, &len)));
-    CHECK(len == s->len && memcmp(buffer, s->message, len) == 0);
-    CHECK(deerlapse_opener_next(opener) == number + 1);
-    free(changed);
-    free(buffer);
-}
-
-/* Three messages of a sealer, each under the next nonce, and then none is left; an opener opens them. */
-static void sealer(sealing *s, size_t round) {
-    uint8_t key[32], iv[NONCE], nonce[NONCE], buffer[MAX_MESSAGE + TAG], tag[TAG];
-    size_t key_len = s->key_len, len = 7;
-    uint64_t first = below(4) ? next_random() : below(4), number;
-    if (first > UINT64_MAX - 3 || below(8) == 0) first = UINT64_MAX - 3;
-    fill(iv, NONCE);
-    memcpy(key, s->key, sizeof key);
-    deerlapse_sealer sealer, was;
-    deerlapse_opener reader, reader_was;
-    memset(&sealer, 0x5a, sizeof sealer);
-    memset(&reader, 0x5a, sizeof reader);
-    was = sealer;
-    reader_was = reader;
-    CHECK(!CALL(deerlapse_sealer_init(&sealer, key, 24, iv, first, first + 3)));
-    CHECK(!CALL(deerlapse_sealer_init(&sealer, key, key_len, iv, first + 1, first)));
-    CHECK(memcmp(&sealer, &was, sizeof was) == 0);
-    CHECK(!CALL(deerlapse_opener_init(&reader, key, 24, iv, first, first + 3)));
-    CHECK(memcmp(&reader, &reader_was, sizeof reader_was) == 0);
-    CHECK(CALL(deerlapse_sealer_init(&sealer, key, key_len, iv, first, first + 3)));
-    CHECK(CALL(deerlapse_opener_init(&reader, key, key_len, iv, first, first + 3)));
-    for (number = first; number < first + 3; number++) {
-        make_sealing(s, round);
-        memcpy(s->key, key, sizeof key);
-        s->key_len = key_len;
-        memcpy(s->nonce, iv, NONCE);
-        for (int i = 0; i < 8; i++) s->nonce[4 + i] ^= (uint8_t)(number >> (56 - 8 * i));
-        seal_by_openssl(s);
-        CALL(deerlapse_nonce(iv, number, nonce));
-        CHECK(memcmp(nonce, s->nonce, NONCE) == 0);
-        memcpy(buffer, s->message, s->len);
-        CHECK(deerlapse_sealer_next(&sealer) == number);
-        CHECK(CALL(deerlapse_sealer_seal(&sealer, s->aad, s->aad_len, buffer, s->len, tag)));
-        CHECK(memcmp(buffer, s->sealed, s->len) == 0 && memcmp(tag, s->sealed + s->len, TAG) == 0);
-        opener(&reader, s, number);
-    }
-    was = sealer;
-    CHECK(!CALL(deerlapse_sealer_seal(&sealer, s->aad, s->aad_len, buffer, s->len, tag)));
-    CHECK(memcmp(&sealer, &was, sizeof was) == 0);
-    CHECK(memcmp(buffer, s->sealed, s->len) == 0 && memcmp(tag, s->sealed + s->len, TAG) == 0);
-    memcpy(buffer, s->sealed, s->len + TAG);
-    CHECK(!CALL(deerlapse_opener_open(&reader, s->aad, s->aad_len, buffer, s->len + TAG, 0, &len)));
-    CHECK(len == 7 && memcmp(buffer, s->sealed, s->len + TAG) == 0);
-}
-
-/* What the threads share: a sealing and its key. */
+/* What threads share: a key and an opener, and messages under them. */
 static struct {
-    sealing s;
     deerlapse_key key;
+    deerlapse_opener opener;
+    sealing made[SHARED];
 } shared;
 
-static void *seals_and_opens(void *wrong) {
-    const sealing *s = &shared.s;
-    uint8_t *buffer = malloc(s->len + TAG);
-    size_t len = 0;
-    for (int turn = 0; turn < 200; turn++) {
+/* Seals and opens each message, beginning with another one in each thread. */
+static void *works(void *from) {
+    uint8_t *buffer = malloc(MAX_MESSAGE + TAG);
+    CHECK(buffer);
+    for (size_t i = 0; i < SHARED; i++) {
+        const sealing *s = &shared.made[(i + *(const size_t *)from) % SHARED];
+        size_t all = s->len + TAG, len = 0;
         memcpy(buffer, s->message, s->len);
-        if (!deerlapse_key_seal(&shared.key, s->nonce, s->aad, s->aad_len, buffer, s->len, buffer + s->len)
-            || memcmp(buffer, s->sealed, s->len + TAG) != 0
-            || !deerlapse_key_open(&shared.key, s->nonce, s->aad, s->aad_len, buffer, s->len + TAG, 0, &len)
-            || len != s->len || memcmp(buffer, s->message, len) != 0)
-            *(bool *)wrong = true;
+        CHECK(deerlapse_key_seal(&shared.key, s->nonce, s->aad, s->aad_len, buffer, s->len, buffer + s->len));
+        CHECK(memcmp(buffer, s->sealed, all) == 0);
+        CHECK(deerlapse_key_open(&shared.key, s->nonce, s->aad, s->aad_len, buffer, all, 0, &len) && len == s->len);
+        CHECK(memcmp(buffer, s->message, s->len) == 0);
+        memcpy(buffer, s->sealed, all);
+        CHECK(deerlapse_opener_open_number(&shared.opener, s->number, s->aad, s->aad_len, buffer, all, 0, &len));
+        CHECK(len == s->len && memcmp(buffer, s->message, s->len) == 0);
     }
     free(buffer);
     return NULL;
 }
 
-/* Eight threads on one key. */
-static void threads(void) {
-    pthread_t all[8];
-    bool wrong[8] = {false};
-    make_sealing(&shared.s, 1000);
-    shared.key = made_key(&shared.s);
-    for (int i = 0; i < 8; i++) CHECK(pthread_create(&all[i], NULL, seals_and_opens, &wrong[i]) == 0);
-    for (int i = 0; i < 8; i++) CHECK(pthread_join(all[i], NULL) == 0 && !wrong[i]);
-    calls += 8 * 200 * 2;
+static void threads(size_t round) {
+    pthread_t started_as[THREADS];
+    size_t from[THREADS];
+    for (size_t i = 0; i < SHARED; i++) {
+        sealing *s = &shared.made[i];
+        make_sealing(s, 301 + round);
+        memcpy(s->key, shared.made[0].key, sizeof s->key);
+        memcpy(s->iv, shared.made[0].iv, NONCE);
+        s->key_len = shared.made[0].key_len;
+        set_nonce(s);
+        seal_by_openssl(s);
+    }
+    const sealing *s = &shared.made[0];
+    CHECK(CALL(deerlapse_key_init(&shared.key, s->key, s->key_len)));
+    CHECK(CALL(deerlapse_opener_init(&shared.opener, s->key, s->key_len, s->iv, 0, 0)));
+    for (size_t i = 0; i < THREADS; i++) {
+        from[i] = i * SHARED / THREADS;
+        CHECK(pthread_create(&started_as[i], NULL, works, &from[i]) == 0);
+    }
+    for (size_t i = 0; i < THREADS; i++) CHECK(pthread_join(started_as[i], NULL) == 0);
+    calls += 3 * THREADS * SHARED;
 }
-
-/* A sanitizer's own frames and checks lie on the stack too. */
-#ifndef __SANITIZE_ADDRESS__
-
-enum { STACK_LEN = 64 * 1024, PATTERN = 0xa7, ONE_MESSAGE = 5 * 1024, UNDER_A_KEY = 2 * 1024 };
-
-static deerlapse_sealer a_sealer;
-static deerlapse_opener an_opener;
-static uint8_t small[64];
-static size_t small_len;
-static volatile bool called;
-
-static const uint8_t *zeros(void) {
-    static const uint8_t bytes[32];
-    return bytes;
-}
-
-static void nothing(void) { called = true; }
-static void seal_one(void) { called = deerlapse_seal(zeros(), 32, zeros(), zeros(), 20, small, 40, small + 40); }
-static void open_one(void) { called = !deerlapse_open(zeros(), 32, zeros(), zeros(), 19, small, 56, 0, &small_len); }
-static void mask_aes(void) { called = deerlapse_mask_aes(zeros(), 32, zeros(), small); }
-static void mask_chacha20(void) { called = true, deerlapse_mask_chacha20(zeros(), zeros(), small); }
-static void chacha20_one(void) { called = deerlapse_chacha20(zeros(), zeros(), 0, small, 64); }
-static void init_key(void) { called = deerlapse_key_init(&shared.key, zeros(), 32); }
-static void seal_key(void) { called = deerlapse_key_seal(&shared.key, zeros(), zeros(), 20, small, 40, small + 40); }
-static void open_key(void) { called = deerlapse_key_open(&shared.key, zeros(), zeros(), 20, small, 56, 0, &small_len); }
-static void seal_to(void) {
-    called = deerlapse_key_seal_to(&shared.key, zeros(), zeros(), 20, zeros(), 32, small, 32, small + 32);
-}
-static void open_apart(void) {
-    called = deerlapse_key_open_separate_tag(&shared.key, zeros(), zeros(), 20, small, 32, small + 32);
-}
-static void open_to(void) {
-    static uint8_t out[16];
-    called = !deerlapse_key_open_to(&shared.key, zeros(), zeros(), 20, small, 16, out, 16, zeros());
-}
-static void init_sealer(void) { called = deerlapse_sealer_init(&a_sealer, zeros(), 32, zeros(), 0, 9); }
-static void seal_next(void) { called = deerlapse_sealer_seal(&a_sealer, zeros(), 20, small, 40, small + 40); }
-static void init_opener(void) { called = deerlapse_opener_init(&an_opener, zeros(), 32, zeros(), 0, 9); }
-static void open_next(void) { called = deerlapse_opener_open(&an_opener, zeros(), 20, small, 56, 0, &small_len); }
-static void wipe_key(void) { called = true, deerlapse_key_wipe(&shared.key); }
-
-static void *make_a_call(void *call) {
-    (*(void (*const *)(void))call)();
-    return NULL;
-}
-
-/* How deep a call goes into the stack of a thread, which is filled with a pattern. */
-static size_t depth(void (*call)(void)) {
-    pthread_attr_t attributes;
-    pthread_t thread;
-    uint8_t *stack = mmap(NULL, STACK_LEN, PROT_READ | PROT_WRITE, MAP_PRIVATE | MAP_ANONYMOUS, -1, 0);
-    size_t untouched = 0;
-    CHECK(stack != MAP_FAILED);
-    memset(stack, PATTERN, STACK_LEN);
-    CHECK(pthread_attr_init(&attributes) == 0 && pthread_attr_setstack(&attributes, stack, STACK_LEN) == 0);
-    called = false;
-    CHECK(pthread_create(&thread, &attributes, make_a_call, &call) == 0 && pthread_join(thread, NULL) == 0);
-    CHECK(called);
-    while (untouched < STACK_LEN && stack[untouched] == PATTERN) untouched++;
-    CHECK(munmap(stack, STACK_LEN) == 0 && pthread_attr_destroy(&attributes) == 0);
-    return STACK_LEN - untouched;
-}
-
-/* No call takes more of the stack than the header says. */
-static void stack(void) {
-    static void (*const one_message[])(void) = {seal_one, open_one, mask_aes, mask_chacha20, chacha20_one};
-    static void (*const under_a_key[])(void) = {init_key, seal_key, open_key, seal_to, open_apart, open_to,
-                                                init_sealer, seal_next, init_opener, open_next, wipe_key};
-    const size_t empty = depth(nothing);
-    for (size_t i = 0; i < sizeof one_message / sizeof *one_message; i++)
-        CHECK(depth(one_message[i]) <= empty + ONE_MESSAGE);
-    for (size_t i = 0; i < sizeof under_a_key / sizeof *under_a_key; i++)
-        CHECK(depth(under_a_key[i]) <= empty + UNDER_A_KEY);
-}
-
-#else
-
-static void stack(void) {}
-
-#endif
 
 int main(int argc, char **argv) {
     size_t rounds = argc > 1 ? strtoul(argv[1], NULL, 10) : 2000;
     state = argc > 2 ? strtoull(argv[2], NULL, 10) : 1;
     CHECK(rounds > 0 && state != 0);
     static sealing s;
+    starts(&s);
+    too_long(&s);
     for (size_t round = 0; round < rounds; round++) {
         make_sealing(&s, round);
-        seals(&s);
-        opens(&s);
-        refuses(&s);
-        masks();
+        for (int i = 0; i < SEAL_WAYS; i++) seals(&s, seal_ways[i]);
+        for (int i = 0; i < OPEN_WAYS; i++) {
+            opens(&s, open_ways[i], below(40));
+            refuses(&s, open_ways[i]);
+        }
+        apart(&s);
+        refuses_keys(&s);
+        zeros(&s);
         chacha20(&s);
-        by_a_key(&s);
-        refuses_by_a_key(&s);
-        sealer(&s, round);
+        masks();
+        sequence(&s, round);
         nulls(&s);
+        if (round % 100 == 0) threads(round);
     }
-    threads();
-    stack();
     printf("%lu random calls equal %s\n", calls, OpenSSL_version(OPENSSL_VERSION));
     return 0;
 }

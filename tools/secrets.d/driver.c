@@ -30,76 +30,82 @@ static uint8_t *secret(size_t len) {
     return bytes;
 }
 
-/* The length of a plaintext, which is no secret where the tag was right. */
-static void opens(const uint8_t *key, size_t key_len, const uint8_t *nonce, const uint8_t *aad, size_t aad_len,
-                  uint8_t *buffer, size_t all, size_t start, bool right) {
-    size_t len = 7;
-    bool answer = deerlapse_open(key, key_len, nonce, aad, aad_len, buffer, all, start, &len);
+/* What an opening returned and wrote. The length of a plaintext is no secret where the tag was right. */
+static void opened(bool answer, bool right, const size_t *len, size_t wanted) {
     openings++;
     CHECK(answer == right);
-    CHECK(len == (right ? all - start - TAG : 7));
+    CHECK(*len == (right ? wanted : 7));
 }
 
-/* Seals, and opens with a false tag and with the right one, at an offset. */
+/* The tag apart, in place and from one buffer to another, with a false tag first. */
+static void opens_apart(const deerlapse_key *key, const uint8_t *nonce, const uint8_t *aad, size_t aad_len, size_t len) {
+    uint8_t *message = secret(len), *out = secret(len), *tag = secret(TAG);
+    const size_t none = 7;
+    CHECK(deerlapse_key_seal_to(key, nonce, aad, aad_len, message, len, out, len, tag));
+    for (int right = 0; right < 2; right++) {
+        if (!right) tag[len % TAG] ^= 0x10;
+        opened(deerlapse_key_open_to(key, nonce, aad, aad_len, out, len, message, len, tag), right, &none, 7);
+        opened(deerlapse_key_open_separate_tag(key, nonce, aad, aad_len, out, len, tag), right, &none, 7);
+        if (!right) tag[len % TAG] ^= 0x10;
+    }
+    free(tag);
+    free(out);
+    free(message);
+}
+
+/* Seals by the bytes of a key and by an expanded one, and opens with a false tag and with the right one, from a start. */
 static void seals_and_opens(size_t key_len, size_t aad_len, size_t len, size_t start) {
-    uint8_t *key = secret(key_len), *nonce = secret(NONCE), *aad = secret(aad_len);
-    uint8_t *buffer = secret(start + len + TAG), *message = buffer + start;
-    CHECK(deerlapse_seal(key, key_len, nonce, aad, aad_len, message, len, message + len));
-    message[len + len % TAG] ^= 0x10;
-    opens(key, key_len, nonce, aad, aad_len, buffer, start + len + TAG, start, false);
-    message[len + len % TAG] ^= 0x10;
-    opens(key, key_len, nonce, aad, aad_len, buffer, start + len + TAG, start, true);
-    free(buffer);
-    free(aad);
-    free(nonce);
-    free(key);
-}
-
-/* The same under a key, and with the tag apart, in place and from one buffer to another. */
-static void by_a_key(size_t key_len, size_t aad_len, size_t len) {
     uint8_t *bytes = secret(key_len), *nonce = secret(NONCE), *aad = secret(aad_len);
-    uint8_t *buffer = secret(len + TAG), *out = secret(len), *tag = buffer + len;
-    size_t opened_len = 7;
+    size_t all = start + len + TAG;
     deerlapse_key key;
     CHECK(deerlapse_key_init(&key, bytes, key_len));
-    CHECK(deerlapse_key_seal(&key, nonce, aad, aad_len, buffer, len, tag));
-    for (int right = 0; right <= 1; right++) {
-        tag[len % TAG] ^= 0x10; /* false at first, and then right again */
-        CHECK(deerlapse_key_open_to(&key, nonce, aad, aad_len, buffer, len, out, len, tag) == (right == 1));
-        CHECK(deerlapse_key_open(&key, nonce, aad, aad_len, buffer, len + TAG, 0, &opened_len) == (right == 1));
-        CHECK(opened_len == (right ? len : 7));
-        if (right) CHECK(deerlapse_key_seal_to(&key, nonce, aad, aad_len, out, len, buffer, len, tag));
-        CHECK(deerlapse_key_open_separate_tag(&key, nonce, aad, aad_len, buffer, len, tag) == (right == 1));
-        openings += 3;
+    for (int right = 0; right < 2; right++) {
+        uint8_t *buffer = secret(all), *message = buffer + start;
+        size_t found = 7;
+        CHECK(deerlapse_seal(bytes, key_len, nonce, aad, aad_len, message, len, message + len));
+        if (!right) message[len + len % TAG] ^= 0x10;
+        opened(deerlapse_open(bytes, key_len, nonce, aad, aad_len, buffer, all, start, &found), right, &found, len);
+        free(buffer);
+        buffer = secret(all);
+        message = buffer + start;
+        found = 7;
+        CHECK(deerlapse_key_seal(&key, nonce, aad, aad_len, message, len, message + len));
+        if (!right) message[len + len % TAG] ^= 0x10;
+        opened(deerlapse_key_open(&key, nonce, aad, aad_len, buffer, all, start, &found), right, &found, len);
+        free(buffer);
     }
+    opens_apart(&key, nonce, aad, aad_len, len);
     deerlapse_key_wipe(&key);
-    free(out);
-    free(buffer);
+    CHECK(!deerlapse_key_seal(&key, nonce, aad, aad_len, bytes, key_len, nonce));
     free(aad);
     free(nonce);
     free(bytes);
 }
 
-/* A sealer with two numbers, and an opener that opens by number, with a false tag and with the right one in order. */
-static void by_numbers(size_t key_len, size_t len) {
-    uint8_t *key = secret(key_len), *iv = secret(NONCE), *aad = secret(5), *message = secret(len + TAG);
-    uint8_t *nonce = secret(NONCE), *tag = message + len;
-    size_t opened_len;
+/* Two messages of a sealer. The first is opened in order after a false one, and the second by its number. */
+static void seals_by_a_sealer(size_t key_len, size_t len) {
+    uint8_t *key = secret(key_len), *iv = secret(NONCE), *aad = secret(5), *nonce = secret(NONCE);
+    uint8_t *first = secret(len + TAG), *second = secret(len + TAG);
+    size_t found = 7, all = len + TAG;
     deerlapse_sealer sealer;
     deerlapse_opener opener;
     CHECK(deerlapse_sealer_init(&sealer, key, key_len, iv, 7, 9));
+    CHECK(deerlapse_sealer_seal(&sealer, aad, 5, first, len, first + len));
+    CHECK(deerlapse_sealer_seal(&sealer, aad, 5, second, len, second + len));
+    CHECK(!deerlapse_sealer_seal(&sealer, aad, 5, second, len, second + len));
+    CHECK(deerlapse_sealer_next(&sealer) == 9);
+
     CHECK(deerlapse_opener_init(&opener, key, key_len, iv, 7, 9));
-    CHECK(deerlapse_sealer_seal(&sealer, aad, 5, message, len, tag));
-    CHECK(deerlapse_opener_open_number(&opener, 7, aad, 5, message, len + TAG, 0, &opened_len));
-    CHECK(deerlapse_sealer_seal(&sealer, aad, 5, message, len, tag));
-    CHECK(!deerlapse_opener_open(&opener, aad, 5, message, len + TAG, 0, &opened_len));
-    CHECK(deerlapse_opener_open_number(&opener, 8, aad, 5, message, len + TAG, 0, &opened_len));
-    openings += 3;
-    CHECK(!deerlapse_sealer_seal(&sealer, aad, 5, message, len, tag));
-    CHECK(deerlapse_sealer_next(&sealer) == 9 && deerlapse_opener_next(&opener) == 7);
+    opened(deerlapse_opener_open(&opener, aad, 5, second, all, 0, &found), false, &found, len);
+    opened(deerlapse_opener_open(&opener, aad, 5, first, all, 0, &found), true, &found, len);
+    CHECK(deerlapse_opener_next(&opener) == 8);
+    found = 7;
+    opened(deerlapse_opener_open_number(&opener, 7, aad, 5, second, all, 0, &found), false, &found, len);
+    opened(deerlapse_opener_open_number(&opener, 8, aad, 5, second, all, 0, &found), true, &found, len);
     deerlapse_nonce(iv, 7, nonce);
+    free(second);
+    free(first);
     free(nonce);
-    free(message);
     free(aad);
     free(iv);
     free(key);
@@ -107,12 +113,17 @@ static void by_numbers(size_t key_len, size_t len) {
 
 /* No AAD and no message, by null pointers. */
 static void seals_nothing(size_t key_len) {
-    uint8_t *key = secret(key_len), *nonce = secret(NONCE), *tag = secret(TAG);
-    CHECK(deerlapse_seal(key, key_len, nonce, NULL, 0, NULL, 0, tag));
-    opens(key, key_len, nonce, NULL, 0, tag, TAG, 0, true);
+    uint8_t *bytes = secret(key_len), *nonce = secret(NONCE), *tag = secret(TAG);
+    size_t found = 7;
+    deerlapse_key key;
+    CHECK(deerlapse_seal(bytes, key_len, nonce, NULL, 0, NULL, 0, tag));
+    opened(deerlapse_open(bytes, key_len, nonce, NULL, 0, tag, TAG, 0, &found), true, &found, 0);
+    CHECK(deerlapse_key_init(&key, bytes, key_len));
+    CHECK(deerlapse_key_seal(&key, nonce, NULL, 0, NULL, 0, tag));
+    opened(deerlapse_key_open(&key, nonce, NULL, 0, tag, TAG, 0, &found), true, &found, 0);
     free(tag);
     free(nonce);
-    free(key);
+    free(bytes);
 }
 
 static void encrypts(size_t len) {
@@ -158,8 +169,7 @@ int main(int argc, char **argv) {
         for (size_t key_len = 16; key_len <= 32; key_len += 16) {
             seals_and_opens(key_len, i, lens[i], 0);
             seals_and_opens(key_len, lens[i], 40, 1 + i);
-            by_a_key(key_len, i, lens[i]);
-            by_numbers(key_len, lens[i]);
+            seals_by_a_sealer(key_len, lens[i]);
         }
         encrypts(lens[i]);
     }

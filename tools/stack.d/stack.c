@@ -1,5 +1,5 @@
 /* How deep each call goes into the stack: a thread whose 64 KiB are filled with a pattern makes it, and then looks for
- * the lowest byte that changed. Each is made in a process of its own, where only what must come before it was called, since the
+ * the lowest byte that changed. Each is made in a process of its own, and what must come before it in another one, since the
  * dynamic linker may bind memcpy and memset at their first use, on the stack of the call. So this file calls neither. */
 #define _DEFAULT_SOURCE
 #include "deerlapse.h"
@@ -10,22 +10,7 @@
 #include <sys/wait.h>
 #include <unistd.h>
 
-enum { SIZE = 64 * 1024, PATTERN = 0xa7, MAX_LEN = 5000, SPARE = 2048 };
-
-static uint8_t key[32], nonce[12], aad[40], buffer[MAX_LEN + DEERLAPSE_TAG_LEN], tag[16], sample[16], mask[5];
-static size_t key_len, len, opened_len;
-static deerlapse_sealer sealer;
-
-static bool seal(void) { return deerlapse_seal(key, key_len, nonce, aad, sizeof aad, buffer, len, buffer + len); }
-static bool open_(void) {
-    return deerlapse_open(key, key_len, nonce, aad, sizeof aad, buffer, len + DEERLAPSE_TAG_LEN, 0, &opened_len);
-}
-static bool sealer_init(void) { return deerlapse_sealer_init(&sealer, key, key_len, nonce, 0, 9); }
-static bool sealer_seal(void) { return deerlapse_sealer_seal(&sealer, aad, sizeof aad, buffer, len, tag); }
-static bool nonce_of(void) { return deerlapse_nonce(nonce, 7, tag), true; }
-static bool mask_aes(void) { return deerlapse_mask_aes(key, key_len, sample, mask); }
-static bool mask_chacha20(void) { return deerlapse_mask_chacha20(key, sample, mask), true; }
-static bool chacha20(void) { return deerlapse_chacha20(key, nonce, 1, buffer, len); }
+enum { SIZE = 64 * 1024, PATTERN = 0xa7, MAX_LEN = 5000, AAD = 40, TAG = DEERLAPSE_TAG_LEN };
 
 typedef struct {
     const char *name;
@@ -33,77 +18,145 @@ typedef struct {
     bool (*before)(void); /* what must be called first, if anything */
 } named;
 
-static const named calls[] = {{"deerlapse_seal", seal, NULL},
+/* What the processes share: the arguments of the calls, and what one of them took. */
+static struct {
+    uint8_t bytes[32], nonce[DEERLAPSE_NONCE_LEN], aad[AAD], buffer[MAX_LEN + TAG], out[MAX_LEN], tag[TAG];
+    uint8_t sample[DEERLAPSE_SAMPLE_LEN], mask[DEERLAPSE_MASK_LEN];
+    size_t key_len, len, opened_len;
+    deerlapse_key key;
+    deerlapse_sealer sealer;
+    deerlapse_opener opener;
+    bool is_true;
+    long used;
+} *at;
+
+static bool key_init(void) { return deerlapse_key_init(&at->key, at->bytes, at->key_len); }
+static bool key_wipe(void) { return deerlapse_key_wipe(&at->key), true; }
+static bool key_seal(void) {
+    return deerlapse_key_seal(&at->key, at->nonce, at->aad, AAD, at->buffer, at->len, at->buffer + at->len);
+}
+static bool key_open(void) {
+    return deerlapse_key_open(&at->key, at->nonce, at->aad, AAD, at->buffer, at->len + TAG, 0, &at->opened_len);
+}
+static bool key_open_separate_tag(void) {
+    uint8_t *tag = at->buffer + at->len;
+    return deerlapse_key_open_separate_tag(&at->key, at->nonce, at->aad, AAD, at->buffer, at->len, tag);
+}
+static bool key_seal_to(void) {
+    return deerlapse_key_seal_to(&at->key, at->nonce, at->aad, AAD, at->buffer, at->len, at->out, at->len, at->tag);
+}
+static bool key_open_to(void) {
+    uint8_t *tag = at->buffer + at->len;
+    return deerlapse_key_open_to(&at->key, at->nonce, at->aad, AAD, at->buffer, at->len, at->out, at->len, tag);
+}
+static bool seal(void) {
+    uint8_t *tag = at->buffer + at->len;
+    return deerlapse_seal(at->bytes, at->key_len, at->nonce, at->aad, AAD, at->buffer, at->len, tag);
+}
+static bool open_(void) {
+    size_t all = at->len + TAG;
+    return deerlapse_open(at->bytes, at->key_len, at->nonce, at->aad, AAD, at->buffer, all, 0, &at->opened_len);
+}
+static bool sealer_init(void) {
+    return deerlapse_sealer_init(&at->sealer, at->bytes, at->key_len, at->nonce, 0, 9);
+}
+static bool sealer_next(void) { return deerlapse_sealer_next(&at->sealer) == 0; }
+static bool sealer_seal(void) {
+    return deerlapse_sealer_seal(&at->sealer, at->aad, AAD, at->buffer, at->len, at->buffer + at->len);
+}
+static bool opener_init(void) {
+    return deerlapse_opener_init(&at->opener, at->bytes, at->key_len, at->nonce, 0, 9);
+}
+static bool opener_next(void) { return deerlapse_opener_next(&at->opener) == 0; }
+static bool opener_open(void) {
+    return deerlapse_opener_open(&at->opener, at->aad, AAD, at->buffer, at->len + TAG, 0, &at->opened_len);
+}
+static bool opener_open_number(void) {
+    size_t all = at->len + TAG;
+    return deerlapse_opener_open_number(&at->opener, 0, at->aad, AAD, at->buffer, all, 0, &at->opened_len);
+}
+static bool nonce_of(void) { return deerlapse_nonce(at->nonce, 7, at->tag), true; }
+static bool mask_aes(void) { return deerlapse_mask_aes(at->bytes, at->key_len, at->sample, at->mask); }
+static bool mask_chacha20(void) { return deerlapse_mask_chacha20(at->bytes, at->sample, at->mask), true; }
+static bool chacha20(void) { return deerlapse_chacha20(at->bytes, at->nonce, 1, at->buffer, at->len); }
+
+static bool key_sealed(void) { return key_init() && key_seal(); }
+static bool opener_sealed(void) { return opener_init() && seal(); }
+
+static const named calls[] = {{"deerlapse_key_init", key_init, NULL},
+                              {"deerlapse_key_seal", key_seal, key_init},
+                              {"deerlapse_key_open", key_open, key_sealed},
+                              {"deerlapse_key_open_separate_tag", key_open_separate_tag, key_sealed},
+                              {"deerlapse_key_seal_to", key_seal_to, key_init},
+                              {"deerlapse_key_open_to", key_open_to, key_sealed},
+                              {"deerlapse_key_wipe", key_wipe, key_init},
+                              {"deerlapse_seal", seal, NULL},
                               {"deerlapse_open", open_, seal},
                               {"deerlapse_sealer_init", sealer_init, NULL},
+                              {"deerlapse_sealer_next", sealer_next, sealer_init},
                               {"deerlapse_sealer_seal", sealer_seal, sealer_init},
+                              {"deerlapse_opener_init", opener_init, NULL},
+                              {"deerlapse_opener_next", opener_next, opener_init},
+                              {"deerlapse_opener_open", opener_open, opener_sealed},
+                              {"deerlapse_opener_open_number", opener_open_number, opener_sealed},
                               {"deerlapse_nonce", nonce_of, NULL},
                               {"deerlapse_mask_aes", mask_aes, NULL},
                               {"deerlapse_mask_chacha20", mask_chacha20, NULL},
                               {"deerlapse_chacha20", chacha20, NULL}};
 enum { CALLS = sizeof calls / sizeof calls[0] };
 
-/* What a call took, and whether it returned true. */
-typedef struct {
-    const named *call;
-    unsigned char *stack;
-    bool is_true;
-    long used;
-} measured;
+static unsigned char stack[SIZE] __attribute__((aligned(4096)));
 
 static void *run(void *given) {
-    measured *it = given;
-    const unsigned char *lowest = it->stack;
-    it->is_true = it->call->call();
+    const named *it = given;
+    const unsigned char *lowest = stack;
+    at->is_true = it->call();
     while (*lowest == PATTERN) lowest++;
-    it->used = (const unsigned char *)__builtin_frame_address(0) - lowest;
+    at->used = (const unsigned char *)__builtin_frame_address(0) - lowest;
     return NULL;
 }
 
-static void make(measured *it) {
-    static unsigned char stack[SIZE] __attribute__((aligned(4096)));
+/* Makes a call in a thread of this process. */
+static bool make(const named *it) {
     pthread_attr_t attr;
     pthread_t thread;
-    if (it->call->before && !it->call->before()) _exit(2);
-    it->stack = stack;
-    for (volatile unsigned char *at = stack; at < stack + SIZE; at++) *at = PATTERN;
-    if (pthread_attr_init(&attr) || pthread_attr_setstack(&attr, stack, SIZE) ||
-        pthread_create(&thread, &attr, run, it) || pthread_join(thread, NULL)) {
-        _exit(2);
-    }
-    _exit(0);
+    for (volatile unsigned char *byte = stack; byte < stack + SIZE; byte++) *byte = PATTERN;
+    return pthread_attr_init(&attr) == 0 && pthread_attr_setstack(&attr, stack, SIZE) == 0 &&
+           pthread_create(&thread, &attr, run, (void *)it) == 0 && pthread_join(thread, NULL) == 0 && at->is_true;
+}
+
+static bool prepare(const named *it) { return !it->before || it->before(); }
+
+/* Whether it returns true, in a process of its own. */
+static bool in_a_process(bool (*is)(const named *), const named *it) {
+    int status = 0;
+    pid_t child = fork();
+    if (child == 0) _exit(is(it) ? 0 : 1);
+    return child > 0 && waitpid(child, &status, 0) == child && status == 0;
 }
 
 /* The most that a call takes, of some lengths. */
-static long most_of(const named *call, measured *shared) {
+static long most_of(const named *it) {
     static const size_t lens[] = {0, 16, 17, 64, 255, 1350, MAX_LEN};
     long most = 0;
-    for (key_len = 16; key_len <= 32; key_len += 16) {
+    for (at->key_len = 16; at->key_len <= 32; at->key_len += 16) {
         for (size_t i = 0; i < sizeof lens / sizeof lens[0]; i++) {
-            int status = 0;
-            len = lens[i];
-            *shared = (measured){call, NULL, false, 0};
-            pid_t child = fork();
-            if (child == 0) make(shared);
-            if (child < 0 || waitpid(child, &status, 0) != child || status || !shared->is_true) {
-                fprintf(stderr, "stack: %s wasn't made, or was refused\n", call->name);
+            at->len = lens[i];
+            if (!in_a_process(prepare, it) || !in_a_process(make, it)) {
+                fprintf(stderr, "stack: %s wasn't made, or was refused\n", it->name);
                 exit(2);
             }
-            most = shared->used > most ? shared->used : most;
+            most = at->used > most ? at->used : most;
         }
     }
     return most;
 }
 
+/* Prints what each call takes, and last what the header says. */
 int main(void) {
-    long most = 0;
-    measured *shared = mmap(NULL, sizeof *shared, PROT_READ | PROT_WRITE, MAP_SHARED | MAP_ANONYMOUS, -1, 0);
-    if (shared == MAP_FAILED) return 2;
-    for (int i = 0; i < CALLS; i++) {
-        long used = most_of(&calls[i], shared);
-        printf("%6ld bytes of stack: %s\n", used, calls[i].name);
-        most = used > most ? used : most;
-    }
-    printf("%6d bytes of stack: DEERLAPSE_MAX_STACK\n", DEERLAPSE_MAX_STACK);
-    return most <= DEERLAPSE_MAX_STACK && DEERLAPSE_MAX_STACK <= most + SPARE ? 0 : 1;
+    at = mmap(NULL, sizeof *at, PROT_READ | PROT_WRITE, MAP_SHARED | MAP_ANONYMOUS, -1, 0);
+    if (at == MAP_FAILED) return 2;
+    for (int i = 0; i < CALLS; i++) printf("%s %ld\n", calls[i].name, most_of(&calls[i]));
+    printf("DEERLAPSE_MAX_STACK %d\n", DEERLAPSE_MAX_STACK);
+    return 0;
 }

@@ -1,11 +1,19 @@
-/* Seals two messages, and opens the second. */
+/* Seals two messages under nonces that a sealer counts, and opens them in order. */
 #include "deerlapse.h"
 #include <stdio.h>
 
+static const uint8_t key[16] = {0}; /* a real key comes from a key exchange or a random generator */
+static const uint8_t iv[DEERLAPSE_NONCE_LEN] = {0};
+static const uint8_t header[] = {'v', '1'};
+
+static bool opens(deerlapse_opener *opener, uint8_t *message, size_t message_len) {
+    size_t len;
+    if (!deerlapse_opener_open(opener, header, sizeof header, message, message_len, 0, &len)) return false;
+    printf("opened: %.*s\n", (int)len, (const char *)message);
+    return true;
+}
+
 int main(void) {
-    static const uint8_t key[16] = {0}; /* a real key comes from a key exchange or a random generator */
-    static const uint8_t iv[DEERLAPSE_NONCE_LEN] = {0};
-    static const uint8_t header[] = {'v', '1'};
     uint8_t first[5 + DEERLAPSE_TAG_LEN] = {'h', 'e', 'l', 'l', 'o'};
     uint8_t second[3 + DEERLAPSE_TAG_LEN] = {'b', 'y', 'e'};
 
@@ -17,19 +25,9 @@ int main(void) {
         return 1;
     }
 
-    /* A receiver knows the number of the message. */
-    uint8_t nonce[DEERLAPSE_NONCE_LEN];
-    deerlapse_nonce(iv, 1, nonce);
-    size_t len;
-    if (!deerlapse_open(key, sizeof key, nonce, header, sizeof header, second, sizeof second, 0, &len)) {
-        return 1;
-    }
-    printf("opened: %.*s\n", (int)len, (const char *)second);
-
-    /* The first message under the second one's number: the tag is false, and no byte changes. */
-    if (deerlapse_open(key, sizeof key, nonce, header, sizeof header, first, sizeof first, 0, &len)) {
-        return 1;
-    }
-    puts("refused: a message under another number");
-    return 0;
+    deerlapse_opener opener;
+    if (!deerlapse_opener_init(&opener, key, sizeof key, iv, 0, 1 << 24)) return 1;
+    /* The second message isn't message 0: its tag is false there, no byte changes, and nothing is counted. */
+    if (opens(&opener, second, sizeof second)) return 1;
+    return opens(&opener, first, sizeof first) && opens(&opener, second, sizeof second) ? 0 : 1;
 }

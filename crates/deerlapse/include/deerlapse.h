@@ -2,13 +2,12 @@
  * in crates/deerlapse/out, and `tools/install PREFIX` installs it with this header.
  *
  * Of every call:
- *  - It returns true, or false with every byte as it came. Where it can't be refused it returns nothing. One call
- *    differs: deerlapse_key_init fills a key whose bytes it refuses with zeros.
+ *  - It returns true, or false with every byte as it came. One call differs: deerlapse_key_init fills a key whose bytes it
+ *    refuses with zeros. Where a call can't be refused it returns nothing, or a number that it is asked for.
  *  - A pointer with a length has that many bytes, and may be null where the length is 0. No other pointer is null. A
  *    parameter like nonce[12] has the bytes that it says.
  *  - What a call writes overlaps nothing else that the call is given. What it only reads may overlap. A tag may
  *    stand right after its message: `tag` is then `in_out + in_out_len`.
- *  - It takes at most 5 KiB of stack, and under a key, a sealer or an opener 2 KiB.
  *  - It takes no memory, has no state and starts no thread. Calls in several threads at once are fine where none of
  *    them writes what another is given.
  *  - It takes at most DEERLAPSE_MAX_STACK bytes of stack, whatever the lengths.
@@ -42,7 +41,7 @@
 
 /* The bytes of stack that a call takes at most, as tools/stack measured them: the dynamic linker's among them, which may
  * bind memcpy and memset in a first call. */
-#define DEERLAPSE_MAX_STACK 28672
+#define DEERLAPSE_MAX_STACK 8192
 
 #define DEERLAPSE_NONCE_LEN 12
 #define DEERLAPSE_TAG_LEN 16
@@ -52,34 +51,6 @@
 #ifdef __cplusplus
 extern "C" {
 #endif
-
-/* Encrypts in place by AES-128-GCM or AES-256-GCM, and writes the tag.
- *
- *   key      key_len bytes: 16 for AES-128-GCM, 32 for AES-256-GCM
- *   nonce    12 bytes, never twice under one key: a counter is safe, and a sealer (below) keeps one
- *   aad      aad_len bytes, which the tag covers and which aren't encrypted
- *   in_out   in_out_len bytes: the message, and then the ciphertext
- *   tag      16 bytes, which are written
- *
- * False: key_len is neither 16 nor 32, in_out_len is above 2^36 - 32, or aad_len is 2^61 or more. */
-DEERLAPSE_ANSWERS
-bool deerlapse_seal(const uint8_t *key, size_t key_len, const uint8_t nonce[DEERLAPSE_NONCE_LEN],
-                    const uint8_t *aad, size_t aad_len, uint8_t *in_out, size_t in_out_len,
-                    uint8_t tag[DEERLAPSE_TAG_LEN]);
-
-/* Opens in place what deerlapse_seal made: the ciphertext from in_out + start on, and its tag, the last 16 of the
- * in_out_len bytes. The plaintext then stands at the front, at in_out, and each byte after it is as it was.
- *
- *   key, nonce, aad   as they were handed to deerlapse_seal
- *   in_out            in_out_len bytes, `start` bytes of anything, the ciphertext and the tag
- *   plaintext_len     is written where the call returns true: in_out_len - 16 - start
- *
- * False: a false tag, start above in_out_len - 16, or lengths that deerlapse_seal refuses. aad mustn't lie in in_out,
- * also not before `start`: for a header in front of its ciphertext, hand in the pointer after it, and start 0. */
-DEERLAPSE_ANSWERS
-bool deerlapse_open(const uint8_t *key, size_t key_len, const uint8_t nonce[DEERLAPSE_NONCE_LEN],
-                    const uint8_t *aad, size_t aad_len, uint8_t *in_out, size_t in_out_len, size_t start,
-                    size_t *plaintext_len);
 
 /* A key that is expanded once, for many messages and many threads. It lies in the caller's memory, on the stack, in a
  * struct or in a table, and has no pointer in it: a copy by `=` or memcpy is a key as well. deerlapse_key_init fills it.
@@ -100,24 +71,38 @@ typedef struct deerlapse_key {
 DEERLAPSE_ANSWERS
 bool deerlapse_key_init(deerlapse_key *key, const uint8_t *bytes, size_t len);
 
-/* Overwrites a key with zeros, so that each call under it is refused. Nothing else has to be freed. What earlier calls
- * left on their stack stays there. */
-DEERLAPSE_CALL
-void deerlapse_key_wipe(deerlapse_key *key);
-
-/* deerlapse_seal and deerlapse_open under an expanded key, which is filled or zeros.
+/* Encrypts in place by AES-128-GCM or AES-256-GCM, and writes the tag.
  *
- * False: where those return false, and where the key is zeros. */
+ *   key      what deerlapse_key_init filled, or zeros
+ *   nonce    12 bytes, never twice under one key: a counter is safe, and a sealer (below) keeps one
+ *   aad      aad_len bytes, which the tag covers and which aren't encrypted
+ *   in_out   in_out_len bytes: the message, and then the ciphertext
+ *   tag      16 bytes, which are written
+ *
+ * False: the key is zeros, in_out_len is above 2^36 - 32, or aad_len is 2^61 or more. */
 DEERLAPSE_ANSWERS
 bool deerlapse_key_seal(const deerlapse_key *key, const uint8_t nonce[DEERLAPSE_NONCE_LEN], const uint8_t *aad,
                         size_t aad_len, uint8_t *in_out, size_t in_out_len, uint8_t tag[DEERLAPSE_TAG_LEN]);
+
+/* Opens in place what deerlapse_key_seal made: the ciphertext from in_out + start on, and its tag, the last 16 of the
+ * in_out_len bytes. The plaintext then stands at the front, at in_out, and each byte after it is as it was.
+ *
+ *   key, nonce, aad   as they were handed to deerlapse_key_seal
+ *   in_out            in_out_len bytes, `start` bytes of anything, the ciphertext and the tag
+ *   plaintext_len     is written where the call returns true: in_out_len - 16 - start
+ *
+ * False: a false tag, start above in_out_len - 16, a key of zeros, or lengths that deerlapse_key_seal refuses. aad
+ * mustn't lie in in_out, also not before `start`: for a header in front of its ciphertext, hand in the pointer after it,
+ * and start 0. */
 DEERLAPSE_ANSWERS
 bool deerlapse_key_open(const deerlapse_key *key, const uint8_t nonce[DEERLAPSE_NONCE_LEN], const uint8_t *aad,
                         size_t aad_len, uint8_t *in_out, size_t in_out_len, size_t start, size_t *plaintext_len);
 
 /* The same of a ciphertext without its tag: in_out is the ciphertext, and then the plaintext, of as many bytes.
  *
- *   tag   16 bytes, which are read */
+ *   tag   16 bytes, which are read
+ *
+ * False: a false tag, a key of zeros, or lengths that deerlapse_key_seal refuses. */
 DEERLAPSE_ANSWERS
 bool deerlapse_key_open_separate_tag(const deerlapse_key *key, const uint8_t nonce[DEERLAPSE_NONCE_LEN],
                                      const uint8_t *aad, size_t aad_len, uint8_t *in_out, size_t in_out_len,
@@ -127,7 +112,7 @@ bool deerlapse_key_open_separate_tag(const deerlapse_key *key, const uint8_t non
  * of `out` is written before the tag is found to be right.
  *
  *   in    in_len bytes: the message, or the ciphertext
- *   out   out_len bytes, none of which is one of `in`: use the calls above where the two are one buffer
+ *   out   out_len bytes: the same ones as `in`, and then it is the call in place, or none of them
  *
  * False: where those return false, and where in_len and out_len differ. */
 DEERLAPSE_ANSWERS
@@ -139,22 +124,40 @@ bool deerlapse_key_open_to(const deerlapse_key *key, const uint8_t nonce[DEERLAP
                            size_t aad_len, const uint8_t *in, size_t in_len, uint8_t *out, size_t out_len,
                            const uint8_t tag[DEERLAPSE_TAG_LEN]);
 
+/* Overwrites a key with zeros, so that each call under it is refused. Nothing else has to be freed. What earlier calls
+ * left on their stack stays there. */
+DEERLAPSE_CALL
+void deerlapse_key_wipe(deerlapse_key *key);
+
+/* deerlapse_key_seal and deerlapse_key_open under the key of these key_len bytes, 16 or 32, which is expanded for this
+ * one message alone.
+ *
+ * False: key_len is neither 16 nor 32, or what those refuse. */
+DEERLAPSE_ANSWERS
+bool deerlapse_seal(const uint8_t *key, size_t key_len, const uint8_t nonce[DEERLAPSE_NONCE_LEN],
+                    const uint8_t *aad, size_t aad_len, uint8_t *in_out, size_t in_out_len,
+                    uint8_t tag[DEERLAPSE_TAG_LEN]);
+DEERLAPSE_ANSWERS
+bool deerlapse_open(const uint8_t *key, size_t key_len, const uint8_t nonce[DEERLAPSE_NONCE_LEN],
+                    const uint8_t *aad, size_t aad_len, uint8_t *in_out, size_t in_out_len, size_t start,
+                    size_t *plaintext_len);
+
 /* A key that seals each message under a nonce of its own: an IV XOR the message's number, in eight big-endian bytes
  * after four zeros (RFC 8446 section 5.3, RFC 9001 section 5.3). It lies in the caller's memory and is filled by
  * deerlapse_sealer_init; zeros are no sealer, as zeros are no key, and memory with anything else in it must reach no
  * other call. Never copy it, since the copy spends the same nonces again. One thread uses it at a time. It has room for
- * what a later version may keep in it. */
+ * what a later version may keep in it. Nothing has to be freed; to wipe it, overwrite its bytes with zeros. */
 typedef struct deerlapse_sealer {
     uint64_t words[400]; /* the library's own: read none, write none */
 } deerlapse_sealer;
 
 /* Fills a sealer. What was in it isn't read.
  *
- *   key            key_len bytes, as in deerlapse_seal
+ *   key            key_len bytes: 16 for AES-128-GCM, 32 for AES-256-GCM
  *   iv             12 bytes
  *   first, limit   the numbers of the messages are first, first + 1, .. up to limit, which is left out
  *
- * None of its nonces may come from another sealer, or go to a deerlapse_seal, under the same key: a key for one sealer
+ * None of its nonces may come from another sealer, or go to a deerlapse_key_seal, under the same key: a key for one sealer
  * alone is the simplest way. How many messages a key may seal is the protocol's matter (TLS 1.3: about
  * 24 million of full length, RFC 8446 section 5.5).
  *
@@ -167,9 +170,9 @@ bool deerlapse_sealer_init(deerlapse_sealer *sealer, const uint8_t *key, size_t 
 DEERLAPSE_ANSWERS
 uint64_t deerlapse_sealer_next(const deerlapse_sealer *sealer);
 
-/* deerlapse_seal under the nonce of the next number, which then counts up by one.
+/* deerlapse_key_seal under the nonce of the next number, which then counts up by one.
  *
- * False: the next number is no longer below limit, the sealer is zeros, or lengths that deerlapse_seal refuses. The
+ * False: the next number is no longer below limit, the sealer is zeros, or lengths that deerlapse_key_seal refuses. The
  * sealer is then as it was. */
 DEERLAPSE_ANSWERS
 bool deerlapse_sealer_seal(deerlapse_sealer *sealer, const uint8_t *aad, size_t aad_len, uint8_t *in_out,
@@ -190,10 +193,10 @@ bool deerlapse_opener_init(deerlapse_opener *opener, const uint8_t *key, size_t 
 DEERLAPSE_ANSWERS
 uint64_t deerlapse_opener_next(const deerlapse_opener *opener);
 
-/* deerlapse_open under the nonce of the next number, which then counts up by one.
+/* deerlapse_key_open under the nonce of the next number, which then counts up by one.
  *
- * False: the next number is no longer below limit, the opener is zeros, or deerlapse_open is refused. The opener is then
- * as it was: the message with that number may still come. */
+ * False: the next number is no longer below limit, the opener is zeros, or deerlapse_key_open is refused. The opener is
+ * then as it was: the message with that number may still come. */
 DEERLAPSE_ANSWERS
 bool deerlapse_opener_open(deerlapse_opener *opener, const uint8_t *aad, size_t aad_len, uint8_t *in_out,
                            size_t in_out_len, size_t start, size_t *plaintext_len);
@@ -204,7 +207,7 @@ DEERLAPSE_ANSWERS
 bool deerlapse_opener_open_number(const deerlapse_opener *opener, uint64_t number, const uint8_t *aad, size_t aad_len,
                                   uint8_t *in_out, size_t in_out_len, size_t start, size_t *plaintext_len);
 
-/* Writes the nonce of a number under an IV, for opening what a sealer sealed. */
+/* Writes the nonce of a number under an IV, for opening what a sealer sealed by deerlapse_key_open. */
 DEERLAPSE_CALL
 void deerlapse_nonce(const uint8_t iv[DEERLAPSE_NONCE_LEN], uint64_t number, uint8_t nonce[DEERLAPSE_NONCE_LEN]);
 
@@ -245,6 +248,65 @@ static inline uint8_t *deerlapse_to_write(uint8_t *bytes, size_t len) {
     return len == 0 ? &none : bytes;
 }
 
+DEERLAPSE_WRAPS(1)
+bool deerlapse_key_init_nullable(deerlapse_key *key, const uint8_t *bytes, size_t len) {
+    return deerlapse_key_init(key, deerlapse_to_read(bytes, len), len);
+}
+#define deerlapse_key_init deerlapse_key_init_nullable
+
+DEERLAPSE_WRAPS(1, 2, 7)
+bool deerlapse_key_seal_nullable(const deerlapse_key *key, const uint8_t nonce[DEERLAPSE_NONCE_LEN],
+                                 const uint8_t *aad, size_t aad_len, uint8_t *in_out, size_t in_out_len,
+                                 uint8_t tag[DEERLAPSE_TAG_LEN]) {
+    return deerlapse_key_seal(key, nonce, deerlapse_to_read(aad, aad_len), aad_len,
+                              deerlapse_to_write(in_out, in_out_len), in_out_len, tag);
+}
+#define deerlapse_key_seal deerlapse_key_seal_nullable
+
+DEERLAPSE_WRAPS(1, 2, 8)
+bool deerlapse_key_open_nullable(const deerlapse_key *key, const uint8_t nonce[DEERLAPSE_NONCE_LEN],
+                                 const uint8_t *aad, size_t aad_len, uint8_t *in_out, size_t in_out_len,
+                                 size_t start, size_t *plaintext_len) {
+    return deerlapse_key_open(key, nonce, deerlapse_to_read(aad, aad_len), aad_len,
+                              deerlapse_to_write(in_out, in_out_len), in_out_len, start, plaintext_len);
+}
+#define deerlapse_key_open deerlapse_key_open_nullable
+
+DEERLAPSE_WRAPS(1, 2, 7)
+bool deerlapse_key_open_separate_tag_nullable(const deerlapse_key *key, const uint8_t nonce[DEERLAPSE_NONCE_LEN],
+                                              const uint8_t *aad, size_t aad_len, uint8_t *in_out,
+                                              size_t in_out_len, const uint8_t tag[DEERLAPSE_TAG_LEN]) {
+    return deerlapse_key_open_separate_tag(key, nonce, deerlapse_to_read(aad, aad_len), aad_len,
+                                           deerlapse_to_write(in_out, in_out_len), in_out_len, tag);
+}
+#define deerlapse_key_open_separate_tag deerlapse_key_open_separate_tag_nullable
+
+/* These two take no buffer as both `in` and `out`. */
+
+DEERLAPSE_WRAPS(1, 2, 9)
+bool deerlapse_key_seal_to_nullable(const deerlapse_key *key, const uint8_t nonce[DEERLAPSE_NONCE_LEN],
+                                    const uint8_t *aad, size_t aad_len, const uint8_t *in, size_t in_len,
+                                    uint8_t *out, size_t out_len, uint8_t tag[DEERLAPSE_TAG_LEN]) {
+    if (in == out) return in_len == out_len && deerlapse_key_seal(key, nonce, aad, aad_len, out, out_len, tag);
+    return deerlapse_key_seal_to(key, nonce, deerlapse_to_read(aad, aad_len), aad_len,
+                                 deerlapse_to_read(in, in_len), in_len, deerlapse_to_write(out, out_len), out_len,
+                                 tag);
+}
+#define deerlapse_key_seal_to deerlapse_key_seal_to_nullable
+
+DEERLAPSE_WRAPS(1, 2, 9)
+bool deerlapse_key_open_to_nullable(const deerlapse_key *key, const uint8_t nonce[DEERLAPSE_NONCE_LEN],
+                                    const uint8_t *aad, size_t aad_len, const uint8_t *in, size_t in_len,
+                                    uint8_t *out, size_t out_len, const uint8_t tag[DEERLAPSE_TAG_LEN]) {
+    if (in == out) {
+        return in_len == out_len && deerlapse_key_open_separate_tag(key, nonce, aad, aad_len, out, out_len, tag);
+    }
+    return deerlapse_key_open_to(key, nonce, deerlapse_to_read(aad, aad_len), aad_len,
+                                 deerlapse_to_read(in, in_len), in_len, deerlapse_to_write(out, out_len), out_len,
+                                 tag);
+}
+#define deerlapse_key_open_to deerlapse_key_open_to_nullable
+
 DEERLAPSE_WRAPS(3, 8)
 bool deerlapse_seal_nullable(const uint8_t *key, size_t key_len, const uint8_t nonce[DEERLAPSE_NONCE_LEN],
                              const uint8_t *aad, size_t aad_len, uint8_t *in_out, size_t in_out_len,
@@ -277,6 +339,30 @@ bool deerlapse_sealer_seal_nullable(deerlapse_sealer *sealer, const uint8_t *aad
                                  deerlapse_to_write(in_out, in_out_len), in_out_len, tag);
 }
 #define deerlapse_sealer_seal deerlapse_sealer_seal_nullable
+
+DEERLAPSE_WRAPS(1, 4)
+bool deerlapse_opener_init_nullable(deerlapse_opener *opener, const uint8_t *key, size_t key_len,
+                                    const uint8_t iv[DEERLAPSE_NONCE_LEN], uint64_t first, uint64_t limit) {
+    return deerlapse_opener_init(opener, deerlapse_to_read(key, key_len), key_len, iv, first, limit);
+}
+#define deerlapse_opener_init deerlapse_opener_init_nullable
+
+DEERLAPSE_WRAPS(1, 7)
+bool deerlapse_opener_open_nullable(deerlapse_opener *opener, const uint8_t *aad, size_t aad_len, uint8_t *in_out,
+                                    size_t in_out_len, size_t start, size_t *plaintext_len) {
+    return deerlapse_opener_open(opener, deerlapse_to_read(aad, aad_len), aad_len,
+                                 deerlapse_to_write(in_out, in_out_len), in_out_len, start, plaintext_len);
+}
+#define deerlapse_opener_open deerlapse_opener_open_nullable
+
+DEERLAPSE_WRAPS(1, 8)
+bool deerlapse_opener_open_number_nullable(const deerlapse_opener *opener, uint64_t number, const uint8_t *aad,
+                                           size_t aad_len, uint8_t *in_out, size_t in_out_len, size_t start,
+                                           size_t *plaintext_len) {
+    return deerlapse_opener_open_number(opener, number, deerlapse_to_read(aad, aad_len), aad_len,
+                                        deerlapse_to_write(in_out, in_out_len), in_out_len, start, plaintext_len);
+}
+#define deerlapse_opener_open_number deerlapse_opener_open_number_nullable
 
 DEERLAPSE_WRAPS(3, 4)
 bool deerlapse_mask_aes_nullable(const uint8_t *key, size_t key_len, const uint8_t sample[DEERLAPSE_SAMPLE_LEN],

@@ -1,20 +1,30 @@
 //! The calls of `include/deerlapse.h`. `tools/package` of the repository compares these declarations with that header, by
 //! a C compiler, and reads them by their layout: a struct `Sealer` for `deerlapse_sealer`.
 
+/// `deerlapse_key`.
+#[repr(C)]
+#[derive(Clone)]
+pub(crate) struct Key {
+    pub(crate) words: [u64; 377],
+}
+
 /// `deerlapse_sealer`.
 #[repr(C)]
 pub(crate) struct Sealer {
-    pub(crate) next: u64,
-    pub(crate) limit: u64,
-    pub(crate) key_len: usize,
-    pub(crate) key: [u8; 32],
-    pub(crate) iv: [u8; 12],
+    pub(crate) words: [u64; 400],
+}
+
+/// `deerlapse_opener`.
+#[repr(C)]
+pub(crate) struct Opener {
+    pub(crate) words: [u64; 400],
 }
 
 extern "C" {
-    pub(crate) fn deerlapse_seal(
-        key: *const u8,
-        key_len: usize,
+    pub(crate) fn deerlapse_key_init(key: &mut Key, bytes: *const u8, len: usize) -> bool;
+
+    pub(crate) fn deerlapse_key_seal(
+        key: &Key,
         nonce: &[u8; 12],
         aad: *const u8,
         aad_len: usize,
@@ -23,9 +33,8 @@ extern "C" {
         tag: &mut [u8; 16],
     ) -> bool;
 
-    pub(crate) fn deerlapse_open(
-        key: *const u8,
-        key_len: usize,
+    pub(crate) fn deerlapse_key_open(
+        key: &Key,
         nonce: &[u8; 12],
         aad: *const u8,
         aad_len: usize,
@@ -34,6 +43,42 @@ extern "C" {
         start: usize,
         plaintext_len: &mut usize,
     ) -> bool;
+
+    pub(crate) fn deerlapse_key_open_separate_tag(
+        key: &Key,
+        nonce: &[u8; 12],
+        aad: *const u8,
+        aad_len: usize,
+        in_out: *mut u8,
+        in_out_len: usize,
+        tag: &[u8; 16],
+    ) -> bool;
+
+    pub(crate) fn deerlapse_key_seal_to(
+        key: &Key,
+        nonce: &[u8; 12],
+        aad: *const u8,
+        aad_len: usize,
+        message: *const u8,
+        message_len: usize,
+        out: *mut u8,
+        out_len: usize,
+        tag: &mut [u8; 16],
+    ) -> bool;
+
+    pub(crate) fn deerlapse_key_open_to(
+        key: &Key,
+        nonce: &[u8; 12],
+        aad: *const u8,
+        aad_len: usize,
+        ciphertext: *const u8,
+        ciphertext_len: usize,
+        out: *mut u8,
+        out_len: usize,
+        tag: &[u8; 16],
+    ) -> bool;
+
+    pub(crate) fn deerlapse_key_wipe(key: &mut Key);
 
     pub(crate) fn deerlapse_sealer_init(
         sealer: &mut Sealer,
@@ -44,6 +89,8 @@ extern "C" {
         limit: u64,
     ) -> bool;
 
+    pub(crate) fn deerlapse_sealer_next(sealer: &Sealer) -> u64;
+
     pub(crate) fn deerlapse_sealer_seal(
         sealer: &mut Sealer,
         aad: *const u8,
@@ -51,6 +98,38 @@ extern "C" {
         in_out: *mut u8,
         in_out_len: usize,
         tag: &mut [u8; 16],
+    ) -> bool;
+
+    pub(crate) fn deerlapse_opener_init(
+        opener: &mut Opener,
+        key: *const u8,
+        key_len: usize,
+        iv: &[u8; 12],
+        first: u64,
+        limit: u64,
+    ) -> bool;
+
+    pub(crate) fn deerlapse_opener_next(opener: &Opener) -> u64;
+
+    pub(crate) fn deerlapse_opener_open(
+        opener: &mut Opener,
+        aad: *const u8,
+        aad_len: usize,
+        in_out: *mut u8,
+        in_out_len: usize,
+        start: usize,
+        plaintext_len: &mut usize,
+    ) -> bool;
+
+    pub(crate) fn deerlapse_opener_open_number(
+        opener: &Opener,
+        number: u64,
+        aad: *const u8,
+        aad_len: usize,
+        in_out: *mut u8,
+        in_out_len: usize,
+        start: usize,
+        plaintext_len: &mut usize,
     ) -> bool;
 
     pub(crate) fn deerlapse_nonce(iv: &[u8; 12], number: u64, nonce: &mut [u8; 12]);

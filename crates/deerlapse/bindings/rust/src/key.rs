@@ -1,4 +1,4 @@
-//! A key whose calls take the nonce.
+//! A key that is expanded once, and whose calls take the nonce.
 
 use crate::{accepted, ffi, Unspecified, NONCE_LEN, TAG_LEN};
 #[cfg(feature = "alloc")]
@@ -9,8 +9,9 @@ use core::ops::RangeFrom;
 /// A key of AES-128-GCM or AES-256-GCM whose calls take the nonce. That no nonce comes twice under it is the caller's
 /// matter; [`Sealer`](crate::Sealer) counts its own.
 ///
-/// Every call that is refused leaves its buffer as it came. Threads may share a key. It isn't wiped from memory when it is
-/// dropped.
+/// The key is expanded once, in [`new`](Self::new), and is about 3 kilobytes of plain data: no call allocates for it, and
+/// threads may share it. Every call that is refused leaves its buffer as it came. A key that is dropped is wiped; where it
+/// was moved from, its bytes may stay.
 ///
 /// ```
 /// use deerlapse::LessSafeKey;
@@ -24,10 +25,7 @@ use core::ops::RangeFrom;
 /// # Ok::<(), deerlapse::Unspecified>(())
 /// ```
 #[derive(Clone)]
-pub struct LessSafeKey {
-    bytes: [u8; 32],
-    len: usize,
-}
+pub struct LessSafeKey(ffi::Key);
 
 impl LessSafeKey {
     /// Returns the key of these bytes: 16 for AES-128-GCM, 32 for AES-256-GCM. Refused where there are neither.
@@ -40,11 +38,12 @@ impl LessSafeKey {
     /// assert!(LessSafeKey::new(&[0; 24]).is_err());
     /// ```
     pub fn new(key_bytes: &[u8]) -> Result<Self, Unspecified> {
-        let len = key_bytes.len();
-        accepted(len == 16 || len == 32)?;
-        let mut bytes = [0; 32];
-        bytes[..len].copy_from_slice(key_bytes);
-        Ok(LessSafeKey { bytes, len })
+        let mut key = LessSafeKey(ffi::Key { words: [0; 377] });
+        // SAFETY: the pointer and its length are those of one slice, and the key is borrowed for writing.
+        accepted(unsafe {
+            ffi::deerlapse_key_init(&mut key.0, key_bytes.as_ptr(), key_bytes.len())
+        })?;
+        Ok(key)
     }
 
     /// Encrypts `in_out` in place, and returns the tag of the ciphertext and the AAD.
@@ -67,11 +66,10 @@ impl LessSafeKey {
     ) -> Result<[u8; TAG_LEN], Unspecified> {
         let mut tag = [0; TAG_LEN];
         // SAFETY: each pointer and its length are those of one slice, which is borrowed for the call. No pointer of a
-        // slice is null. `in_out` and `tag` are borrowed for writing, so they overlap nothing.
+        // slice is null. `in_out` and `tag` are borrowed for writing, so they overlap nothing. `new` filled the key.
         let sealed = unsafe {
-            ffi::deerlapse_seal(
-                self.bytes.as_ptr(),
-                self.len,
+            ffi::deerlapse_key_seal(
+                &self.0,
                 &nonce,
                 aad.as_ptr(),
                 aad.len(),
@@ -133,9 +131,8 @@ impl LessSafeKey {
         let mut len = 0;
         // SAFETY: as in `seal_in_place_separate_tag`, with `len` in the place of the tag.
         let opened = unsafe {
-            ffi::deerlapse_open(
-                self.bytes.as_ptr(),
-                self.len,
+            ffi::deerlapse_key_open(
+                &self.0,
                 &nonce,
                 aad.as_ptr(),
                 aad.len(),
@@ -169,6 +166,7 @@ impl LessSafeKey {
     ) -> Result<&'a mut [u8], Unspecified> {
         self.open_within(nonce, aad, in_out, 0..)
     }
+
     /// Opens the ciphertext that is `in_out` from `ciphertext.start` on, whose tag is `tag`, and returns the plaintext,
     /// which is then at the front of `in_out`. Bytes after it stay.
     ///
@@ -194,22 +192,120 @@ impl LessSafeKey {
         in_out: &'a mut [u8],
         ciphertext: RangeFrom<usize>,
     ) -> Result<&'a mut [u8], Unspecified> {
-        let ciphertext = in_out.get(ciphertext).ok_or(Unspecified)?;
-        let mut sealed = Vec::with_capacity(ciphertext.len() + TAG_LEN);
-        sealed.extend_from_slice(ciphertext);
-        sealed.extend_from_slice(&tag);
-        let message = self.open_in_place(nonce, aad, &mut sealed)?;
-        let front = &mut in_out[..message.len()];
-        front.copy_from_slice(message);
+        if ciphertext.start == 0 {
+            // SAFETY: as in `seal_in_place_separate_tag`, and the tag is only read.
+            let opened = unsafe {
+                ffi::deerlapse_key_open_separate_tag(
+                    &self.0,
+                    &nonce,
+                    aad.as_ptr(),
+                    aad.len(),
+                    in_out.as_mut_ptr(),
+                    in_out.len(),
+                    &tag,
+                )
+            };
+            accepted(opened)?;
+            return Ok(in_out);
+        }
+        let ciphertext = in_out.get(ciphertext).ok_or(Unspecified)?.to_vec();
+        let front = &mut in_out[..ciphertext.len()];
+        self.open_to(nonce, aad, tag, &ciphertext, front)?;
         Ok(front)
+    }
+
+    /// Encrypts `message` to `out`, and returns the tag of the ciphertext and the AAD.
+    ///
+    /// Refused where the two have different lengths, and where the message is longer than 2^36 - 32 bytes. `out` is then
+    /// as it was.
+    ///
+    /// ```
+    /// use deerlapse::LessSafeKey;
+    ///
+    /// let key = LessSafeKey::new(&[0; 16])?;
+    /// let (mut sealed, mut opened) = ([0; 5], [0; 5]);
+    /// let tag = key.seal_to([0; 12], b"v1", b"hello", &mut sealed)?;
+    /// key.open_to([0; 12], b"v1", tag, &sealed, &mut opened)?;
+    /// assert_eq!(opened, *b"hello");
+    /// # Ok::<(), deerlapse::Unspecified>(())
+    /// ```
+    pub fn seal_to(
+        &self,
+        nonce: [u8; NONCE_LEN],
+        aad: &[u8],
+        message: &[u8],
+        out: &mut [u8],
+    ) -> Result<[u8; TAG_LEN], Unspecified> {
+        let mut tag = [0; TAG_LEN];
+        // SAFETY: each pointer and its length are those of one slice, which is borrowed for the call; `out` and `tag`
+        // are borrowed for writing, so they overlap nothing. `new` filled the key.
+        let sealed = unsafe {
+            ffi::deerlapse_key_seal_to(
+                &self.0,
+                &nonce,
+                aad.as_ptr(),
+                aad.len(),
+                message.as_ptr(),
+                message.len(),
+                out.as_mut_ptr(),
+                out.len(),
+                &mut tag,
+            )
+        };
+        accepted(sealed)?;
+        Ok(tag)
+    }
+
+    /// Opens `ciphertext`, whose tag is `tag`, to `out`.
+    ///
+    /// Refused where the tag isn't that of the ciphertext and the AAD, where `out` has another length than the
+    /// ciphertext, and where the lengths don't fit, as in [`seal_to`](Self::seal_to). `out` is then as it was.
+    ///
+    /// ```
+    /// use deerlapse::{LessSafeKey, Unspecified};
+    ///
+    /// let key = LessSafeKey::new(&[0; 16])?;
+    /// let mut out = *b"12345";
+    /// assert_eq!(key.open_to([0; 12], b"v1", [0; 16], b"hello", &mut out), Err(Unspecified));
+    /// assert_eq!(out, *b"12345");
+    /// # Ok::<(), deerlapse::Unspecified>(())
+    /// ```
+    pub fn open_to(
+        &self,
+        nonce: [u8; NONCE_LEN],
+        aad: &[u8],
+        tag: [u8; TAG_LEN],
+        ciphertext: &[u8],
+        out: &mut [u8],
+    ) -> Result<(), Unspecified> {
+        // SAFETY: as in `seal_to`, and the tag is only read.
+        accepted(unsafe {
+            ffi::deerlapse_key_open_to(
+                &self.0,
+                &nonce,
+                aad.as_ptr(),
+                aad.len(),
+                ciphertext.as_ptr(),
+                ciphertext.len(),
+                out.as_mut_ptr(),
+                out.len(),
+                &tag,
+            )
+        })
     }
 }
 
-/// Prints nothing of the bytes.
+/// Wipes the key.
+impl Drop for LessSafeKey {
+    fn drop(&mut self) {
+        // SAFETY: the parameter is a reference.
+        unsafe { ffi::deerlapse_key_wipe(&mut self.0) };
+    }
+}
+
+/// Prints nothing of the key.
 impl fmt::Debug for LessSafeKey {
     fn fmt(&self, f: &mut fmt::Formatter<'_>) -> fmt::Result {
-        f.debug_struct("LessSafeKey")
-            .field("len", &self.len)
-            .finish_non_exhaustive()
+        f.debug_struct("LessSafeKey").finish_non_exhaustive()
     }
 }

@@ -7,15 +7,19 @@ extern crate alloc;
 
 mod ffi;
 mod key;
+mod opener;
 mod sealer;
 mod streams;
 
 pub use key::LessSafeKey;
+pub use opener::Opener;
 pub use sealer::{nonce_of, Sealer};
 pub use streams::{chacha20, mask_aes, mask_chacha20};
 
 use core::error::Error;
 use core::fmt;
+use core::ptr;
+use core::sync::atomic::{compiler_fence, Ordering};
 
 /// The length of a nonce, in bytes.
 ///
@@ -62,4 +66,13 @@ fn accepted(answer: bool) -> Result<(), Unspecified> {
     } else {
         Err(Unspecified)
     }
+}
+
+/// Overwrites words with zeros, which the compiler keeps although nobody reads them.
+fn wipe(words: &mut [u64]) {
+    for word in words {
+        // SAFETY: it is a reference.
+        unsafe { ptr::write_volatile(word, 0) };
+    }
+    compiler_fence(Ordering::SeqCst);
 }

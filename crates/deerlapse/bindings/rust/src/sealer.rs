@@ -1,6 +1,6 @@
 //! A key that counts its nonces.
 
-use crate::{accepted, ffi, Unspecified, NONCE_LEN, TAG_LEN};
+use crate::{accepted, ffi, wipe, Unspecified, NONCE_LEN, TAG_LEN};
 #[cfg(feature = "alloc")]
 use alloc::vec::Vec;
 use core::fmt;
@@ -9,17 +9,18 @@ use core::ops::Range;
 /// A key of AES-GCM that seals each message under a nonce of its own: an IV XOR the message's number (RFC 8446 section
 /// 5.3, RFC 9001 section 5.3).
 ///
-/// ```
-/// use deerlapse::{nonce_of, LessSafeKey, Sealer};
+/// It holds the expanded key, as [`LessSafeKey`](crate::LessSafeKey) does, and is wiped when it is dropped.
+/// [`Opener`](crate::Opener) opens what it seals.
 ///
-/// let (key, iv) = ([0; 16], [0; 12]);
-/// let mut sealer = Sealer::new(&key, &iv, 0..1 << 24)?;
+/// ```
+/// use deerlapse::{Opener, Sealer};
+///
+/// let mut sealer = Sealer::new(&[0; 16], &[0; 12], 0..1 << 24)?;
 /// let mut buffer = b"hello".to_vec();
 /// sealer.seal_in_place_append_tag(b"v1", &mut buffer)?;
 ///
-/// // The receiver knows that this is message 0.
-/// let key = LessSafeKey::new(&key)?;
-/// assert_eq!(key.open_in_place(nonce_of(&iv, 0), b"v1", &mut buffer)?, b"hello");
+/// let mut opener = Opener::new(&[0; 16], &[0; 12], 0..1 << 24)?;
+/// assert_eq!(opener.open_in_place(b"v1", &mut buffer)?, b"hello");
 /// # Ok::<(), deerlapse::Unspecified>(())
 /// ```
 ///
@@ -30,11 +31,14 @@ use core::ops::Range;
 /// let again = sealer.clone();
 /// # Ok::<(), deerlapse::Unspecified>(())
 /// ```
-pub struct Sealer(ffi::Sealer);
+pub struct Sealer {
+    state: ffi::Sealer,
+    limit: u64,
+}
 
 impl Sealer {
-    /// Returns the sealer whose messages have these numbers, in order. Refused where the key hasn't 16 or 32 bytes, and where
-    /// the range starts above its end.
+    /// Returns the sealer whose messages have these numbers, in order. Refused where the key hasn't 16 or 32 bytes, and
+    /// where the range starts above its end.
     ///
     /// None of its nonces may come from another sealer, or be handed to a `LessSafeKey` that seals, under the same key: a
     /// key for one sealer alone is the simplest way.
@@ -51,17 +55,14 @@ impl Sealer {
         iv: &[u8; NONCE_LEN],
         numbers: Range<u64>,
     ) -> Result<Self, Unspecified> {
-        let mut sealer = ffi::Sealer {
-            next: 0,
-            limit: 0,
-            key_len: 0,
-            key: [0; 32],
-            iv: [0; 12],
+        let mut sealer = Sealer {
+            state: ffi::Sealer { words: [0; 400] },
+            limit: numbers.end,
         };
         // SAFETY: the pointer and its length are those of one slice, and the others are references.
         accepted(unsafe {
             ffi::deerlapse_sealer_init(
-                &mut sealer,
+                &mut sealer.state,
                 key_bytes.as_ptr(),
                 key_bytes.len(),
                 iv,
@@ -69,7 +70,7 @@ impl Sealer {
                 numbers.end,
             )
         })?;
-        Ok(Sealer(sealer))
+        Ok(sealer)
     }
 
     /// Returns the numbers that are left: the first of them is that of the next message.
@@ -81,7 +82,9 @@ impl Sealer {
     /// # Ok::<(), deerlapse::Unspecified>(())
     /// ```
     pub fn numbers_left(&self) -> Range<u64> {
-        self.0.next..self.0.limit
+        // SAFETY: the parameter is a reference.
+        let next = unsafe { ffi::deerlapse_sealer_next(&self.state) };
+        next..self.limit
     }
 
     /// Encrypts `in_out` in place under the nonce of the next number, and returns the tag of the ciphertext and the
@@ -106,10 +109,10 @@ impl Sealer {
     ) -> Result<[u8; TAG_LEN], Unspecified> {
         let mut tag = [0; TAG_LEN];
         // SAFETY: each pointer and its length are those of one slice, which is borrowed for the call; the sealer,
-        // `in_out` and `tag` are borrowed for writing.
+        // `in_out` and `tag` are borrowed for writing. `new` filled the sealer.
         accepted(unsafe {
             ffi::deerlapse_sealer_seal(
-                &mut self.0,
+                &mut self.state,
                 aad.as_ptr(),
                 aad.len(),
                 in_out.as_mut_ptr(),
@@ -141,6 +144,13 @@ impl Sealer {
     }
 }
 
+/// Wipes the key and the IV.
+impl Drop for Sealer {
+    fn drop(&mut self) {
+        wipe(&mut self.state.words);
+    }
+}
+
 /// Prints the numbers that are left, and nothing of the key or the IV.
 impl fmt::Debug for Sealer {
     fn fmt(&self, f: &mut fmt::Formatter<'_>) -> fmt::Result {
@@ -150,7 +160,8 @@ impl fmt::Debug for Sealer {
     }
 }
 
-/// Returns the nonce of a number under an IV, for opening what a [`Sealer`] sealed.
+/// Returns the nonce of a number under an IV, for opening what a [`Sealer`] sealed by a
+/// [`LessSafeKey`](crate::LessSafeKey).
 ///
 /// ```
 /// // RFC 9001 appendix A.5

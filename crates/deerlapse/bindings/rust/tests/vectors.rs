@@ -1,7 +1,10 @@
 //! The functions on standard vectors, and what they refuse.
 
-use deerlapse::{chacha20, mask_aes, mask_chacha20, nonce_of, LessSafeKey, Sealer, Unspecified};
+use deerlapse::{
+    chacha20, mask_aes, mask_chacha20, nonce_of, LessSafeKey, Opener, Sealer, Unspecified,
+};
 use std::error::Error;
+use std::mem::{size_of, MaybeUninit};
 
 /// The bytes of hexadecimal digits.
 fn hex(digits: &str) -> Vec<u8> {
@@ -48,6 +51,37 @@ fn seals_and_opens() -> Result<(), Unspecified> {
         message
     );
     assert_eq!(buffer[message.len()..], ciphertext[message.len() - 3..]);
+    let mut buffer = ciphertext.to_vec();
+    assert_eq!(
+        key.open_in_place_separate_tag(array(NONCE), &aad, tag, &mut buffer, 0..)?,
+        message
+    );
+    Ok(())
+}
+
+#[test]
+fn seals_and_opens_from_one_buffer_to_another() -> Result<(), Unspecified> {
+    let key = LessSafeKey::new(&hex(KEY))?;
+    let (aad, message, sealed) = (hex(AAD), hex(MESSAGE), hex(SEALED));
+    let (ciphertext, tag) = sealed.split_at(message.len());
+    let mut out = vec![7; message.len()];
+    let made = key.seal_to(array(NONCE), &aad, &message, &mut out)?;
+    assert_eq!((&*out, &made[..]), (ciphertext, tag));
+    key.open_to(array(NONCE), &aad, made, ciphertext, &mut out)?;
+    assert_eq!(out, message);
+
+    let refused = key.open_to(array(NONCE), b"another", made, ciphertext, &mut out);
+    assert_eq!(refused, Err(Unspecified));
+    let shorter = &mut out[1..];
+    assert_eq!(
+        key.open_to(array(NONCE), &aad, made, ciphertext, shorter),
+        Err(Unspecified)
+    );
+    assert_eq!(
+        key.seal_to(array(NONCE), &aad, &message, shorter),
+        Err(Unspecified)
+    );
+    assert_eq!(out, message);
     Ok(())
 }
 
@@ -101,6 +135,10 @@ fn a_refusal_leaves_the_buffer() -> Result<(), Unspecified> {
             Sealer::new(&vec![0; len], &[0; 12], 0..1).err(),
             Some(Unspecified)
         );
+        assert_eq!(
+            Opener::new(&vec![0; len], &[0; 12], 0..1).err(),
+            Some(Unspecified)
+        );
     }
     assert_eq!(
         chacha20(&[0; 32], &[0; 12], u32::MAX, &mut [0; 65]),
@@ -110,15 +148,18 @@ fn a_refusal_leaves_the_buffer() -> Result<(), Unspecified> {
 }
 
 // RFC 9001 appendix A.3: the server's packet, whose number is 1.
+const IV: &str = "0ac1493ca1905853b0bba03e";
+const PACKET_KEY: &str = "cf3a5331653c364c88f0f379b6067e37";
+const HEADER: &str = "c1000000010008f067a5502a4262b50040750001";
+const PAYLOAD: &str =
+    "02000000000600405a020000560303eefce7f7b37ba1d1632e96677825ddf73988cfc79825df566dc5430b9a045a1200\
+    130100002e00330024001d00209d3c940d89690b84d08a60993c144eca684d1081287c834d5311bcf32bb9da1a002b00\
+    020304";
+
 #[test]
 fn a_sealer_counts() -> Result<(), Unspecified> {
-    let key = hex("cf3a5331653c364c88f0f379b6067e37");
-    let iv = array("0ac1493ca1905853b0bba03e");
-    let header = hex("c1000000010008f067a5502a4262b50040750001");
-    let payload = hex("02000000000600405a020000560303eefce7f7b37ba1d1632e96677825ddf73988cfc79825df\
-        566dc5430b9a045a1200130100002e00330024001d00209d3c940d89690b84d08a60993c144eca684d1081287c834d\
-        5311bcf32bb9da1a002b00020304");
-    let mut sealer = Sealer::new(&key, &iv, 1..2)?;
+    let (header, payload, iv) = (hex(HEADER), hex(PAYLOAD), array(IV));
+    let mut sealer = Sealer::new(&hex(PACKET_KEY), &iv, 1..2)?;
     let mut buffer = payload.clone();
     sealer.seal_in_place_append_tag(&header, &mut buffer)?;
     assert_eq!(buffer[..14], hex("5a482cd0991cd25b0aac406a5816"));
@@ -132,11 +173,87 @@ fn a_sealer_counts() -> Result<(), Unspecified> {
         Err(Unspecified)
     );
 
-    let opened = LessSafeKey::new(&key)?
+    let opened = LessSafeKey::new(&hex(PACKET_KEY))?
         .open_in_place(nonce_of(&iv, 1), &header, &mut buffer)?
         .to_vec();
     assert_eq!(opened, payload);
     Ok(())
+}
+
+#[test]
+fn an_opener_counts_what_it_opens() -> Result<(), Unspecified> {
+    let (header, payload, key, iv) = (hex(HEADER), hex(PAYLOAD), hex(PACKET_KEY), array(IV));
+    let mut sealed = payload.clone();
+    Sealer::new(&key, &iv, 1..2)?.seal_in_place_append_tag(&header, &mut sealed)?;
+
+    let mut opener = Opener::new(&key, &iv, 0..2)?;
+    let mut buffer = sealed.clone();
+    assert_eq!(
+        opener.open_in_place(&header, &mut buffer),
+        Err(Unspecified),
+        "message 1 isn't message 0"
+    );
+    assert_eq!(opener.numbers_left(), 0..2);
+    for _ in 0..2 {
+        let mut packet = [b"123".as_slice(), &sealed].concat();
+        let opened = opener.open_number_within(1, &header, &mut packet, 3..)?;
+        assert_eq!(opened, payload);
+    }
+    assert_eq!(
+        opener.open_number_in_place(0, &header, &mut buffer),
+        Err(Unspecified)
+    );
+    assert_eq!(buffer, sealed);
+
+    let mut opener = Opener::new(&key, &iv, 1..2)?;
+    assert_eq!(
+        opener.open_within(&header, &mut buffer, 1..),
+        Err(Unspecified)
+    );
+    assert_eq!(opener.open_in_place(&header, &mut buffer)?, payload);
+    assert_eq!(opener.numbers_left(), 2..2);
+    let mut buffer = sealed.clone();
+    assert_eq!(
+        opener.open_in_place(&header, &mut buffer),
+        Err(Unspecified),
+        "no number is left"
+    );
+    assert_eq!(buffer, sealed);
+    Ok(())
+}
+
+/// The bytes of a value after it was dropped where it lies.
+fn dropped<T>(value: T) -> Vec<u8> {
+    let mut place = MaybeUninit::new(value);
+    // SAFETY: the value is there, and nobody uses it again. Its bytes stay, and it has no padding.
+    unsafe {
+        place.assume_init_drop();
+        std::slice::from_raw_parts(place.as_ptr().cast::<u8>(), size_of::<T>()).to_vec()
+    }
+}
+
+#[test]
+fn a_dropped_key_is_wiped() -> Result<(), Unspecified> {
+    let key = LessSafeKey::new(&[7; 32])?;
+    assert!(dropped(key.clone()).iter().all(|&byte| byte == 0));
+    let mut buffer = *b"hello";
+    assert!(key
+        .seal_in_place_separate_tag([0; 12], b"", &mut buffer)
+        .is_ok());
+    // The numbers end at 0, so that the limit is zeros too.
+    let sealer = Sealer::new(&[7; 32], &[7; 12], 0..0)?;
+    assert!(dropped(sealer).iter().all(|&byte| byte == 0));
+    let opener = Opener::new(&[7; 32], &[7; 12], 0..0)?;
+    assert!(dropped(opener).iter().all(|&byte| byte == 0));
+    Ok(())
+}
+
+#[test]
+fn threads_may_have_each_type() {
+    fn may<T: Send + Sync>() {}
+    may::<LessSafeKey>();
+    may::<Sealer>();
+    may::<Opener>();
 }
 
 #[test]
@@ -169,9 +286,11 @@ fn masks_and_streams() -> Result<(), Unspecified> {
 #[test]
 fn prints_no_secret() -> Result<(), Box<dyn Error>> {
     let key = LessSafeKey::new(&[7; 16])?;
-    assert_eq!(format!("{key:?}"), "LessSafeKey { len: 16, .. }");
+    assert_eq!(format!("{key:?}"), "LessSafeKey { .. }");
     let sealer = Sealer::new(&[7; 32], &[7; 12], 3..9)?;
     assert_eq!(format!("{sealer:?}"), "Sealer { numbers_left: 3..9, .. }");
+    let opener = Opener::new(&[7; 32], &[7; 12], 3..9)?;
+    assert_eq!(format!("{opener:?}"), "Opener { numbers_left: 3..9, .. }");
     assert_eq!(Unspecified.to_string(), "unspecified");
     Ok(())
 }

@@ -1,0 +1,15 @@
+//! Expands a key once, and seals and opens under nonces of the caller's.
+
+use deerlapse::LessSafeKey;
+use std::error::Error;
+
+fn main() -> Result<(), Box<dyn Error>> {
+    let key = LessSafeKey::new(&[0; 32])?; // 32 bytes: AES-256-GCM; 16 bytes: AES-128-GCM
+    let nonce = [0; 12]; // never twice under one key
+    let mut buffer = b"hello".to_vec();
+
+    key.seal_in_place_append_tag(nonce, b"v1", &mut buffer)?;
+    let message = key.open_in_place(nonce, b"v1", &mut buffer)?;
+    println!("opened: {}", String::from_utf8_lossy(message));
+    Ok(())
+}

@@ -1,0 +1,21 @@
+/* Expands a key once, and seals and opens under nonces of the caller's. */
+#include "deerlapse.h"
+#include <stdio.h>
+
+int main(void) {
+    static const uint8_t bytes[32] = {0}; /* 32 bytes: AES-256-GCM; 16 bytes: AES-128-GCM */
+    static const uint8_t nonce[DEERLAPSE_NONCE_LEN] = {0}; /* never twice under one key */
+    static const uint8_t header[] = {'v', '1'};
+    uint8_t buffer[5 + DEERLAPSE_TAG_LEN] = {'h', 'e', 'l', 'l', 'o'};
+    size_t len;
+
+    deerlapse_key key; /* many threads may use it at once */
+    if (!deerlapse_key_init(&key, bytes, sizeof bytes) ||
+        !deerlapse_key_seal(&key, nonce, header, sizeof header, buffer, 5, buffer + 5) ||
+        !deerlapse_key_open(&key, nonce, header, sizeof header, buffer, sizeof buffer, 0, &len)) {
+        return 1;
+    }
+    printf("opened: %.*s\n", (int)len, (const char *)buffer);
+    deerlapse_key_wipe(&key);
+    return 0;
+}
