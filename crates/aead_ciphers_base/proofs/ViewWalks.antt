@@ -10,8 +10,9 @@
 --     ok_of, err_of         what an `Ok` and an `Err` own
 --     let_go, kept_in_ok, kept_at_err      a slice that an answer holds, or that is let go
 --     accepts, refuses      the answer of a call that makes a buffer of a slice, and its clauses
-use Rattle.aead_ciphers_base.proofs.WalkNames.{◌≡◌, refl, sym, ◌∙◌, List, [], ◌∷◌, ◌++◌, ℕ, ◌^◌, ◌<◌, length, take, drop_list, Ura, named, w64, Val, vint, vstruct, vcons, vnil, of_list, SProp, ent, sep, Fml, Lft, GName, ftrue, fsep, feq, fres, fobs, Logic, sem, Item, Seq, Step, Goal, ‵, raw, ◌$◌, ◌∵◌, !, qed, by, move, keep, drop, fsplit, fsplit3, fjoin, fpick, fpack, feq_l, feq_i, use1, use2, rewrite, done, updating, now, each, assume, fact, usize, follows, follows_both, Is, shows, param, number, RattleType, Valss, owns, NamedLft, MutBor, MutSlice, Room, slice_val, nothing, peeks, within, shape, Ok, Err, IsOk, IfOk, IfErr, ◌↔◌}
-use Rattle.aead_ciphers_base.proofs.Walks.{tells, tell, says}
+use Rattle.aead_ciphers_base.proofs.WalkNames.{◌≡◌, refl, sym, ap, ◌∙◌, List, [], ◌∷◌, ◌++◌, ℕ, ◌^◌, ◌<◌, length, take, drop_list, Ura, named, w64, Val, vint, vstruct, vcons, vnil, of_list, SProp, ent, sep, Fml, Lft, GName, ftrue, fsep, feq, fres, fobs, Logic, sem, Item, Seq, Step, Goal, ‵, raw, ◌$◌, ◌∵◌, !, qed, by, move, keep, drop, fsplit, fsplit3, fjoin, fpick, fpack, feq_l, feq_i, use1, use2, rewrite, done, updating, now, each, assume, fact, usize, follows, follows_both, Is, shows, param, number, RattleType, Valss, owns, NamedLft, MutBor, MutSlice, Room, slice_val, nothing, peeks, only, within, shape, Ok, Err, IsOk, IfOk, IfErr, ◌↔◌}
+use Rattle.aead_ciphers_base.proofs.Walks.{slice_typed, tells, tell, says}
+use mir.Val.{WT}
 use base.Stored.{Gv}
 use base.Logic.{wand, all_e, apply∗}
 use base.Fml.{fex, fauth}
@@ -31,12 +32,12 @@ use denote.Struct.Field.{u64-field}
 use denote.Struct.Laws.{u64-laws, u64-copy}
 use denote.RattleType.{Denots, flat}
 use denote.Struct.Struct.{Shape, Struct}
-use denote.Struct.Tuple.{Tuple, tuple_type}
+pub use denote.Struct.Tuple.{Tuple, tuple_type}
 use Rattle.std.proofs.Math.Seq.{take-append_seam, drop-append_seam}
 use Rattle.std.specs.declared.ops.RangeFrom.{RangeFrom}
 use Rattle.aead_ciphers_base.specs.Overlapping.{KeptIfErr}
 use Rattle.aead_ciphers_base.specs.declared.overlapping.base.Overlapping.{Overlapping}
-use Rattle.aead_ciphers_base.specs.declared.polyfill.slice.chunks_mut.AsChunksMut.{AsChunksMut}
+pub use Rattle.aead_ciphers_base.specs.declared.polyfill.slice.chunks_mut.AsChunksMut.{AsChunksMut}
 use Rattle.std.specs.contracts.result.Result as RS
 use Rattle.std.specs.contracts.ops.RangeFrom as RF
 use Rattle.aead_ciphers_base.specs.contracts.overlapping.base.Overlapping as O
@@ -74,14 +75,15 @@ module _ (κ : Lft) (R : RattleType) where
 
   module _ {M : Type 1} {𝓤 : Ura M} {𝓛 : Logic 𝓤} {K : Type 0} {Γ : List (Item 𝓤)} {G : Goal 𝓤 𝓛.H} where
     pub in_two : K → (r : MutBor (List R.Denot) × MutBor (List R.Denot)) (v : Val)
-        → (v ∷ [] ≡ vstruct (vcons (word r.0) (vcons (word r.1) vnil)) ∷ [] → length r.0.now < 2 ^ 64 → length r.1.now < 2 ^ 64
+        → (v ≡ vstruct (vcons (word r.0) (vcons (word r.1) vnil)) → (Unit {0} × WT (word r.0)) → (Unit {0} × WT (word r.1))
         → Seq K 𝓛 (‵ (S.own_val r.0 (word r.0 ∷ [])) ∷ ‵ (S.own_val r.1 (word r.1 ∷ [])) ∷ Γ) G)
         → Seq K 𝓛 (‵ ((Tuple (S ∷ S ∷ [])).own_val r (v ∷ [])) ∷ Γ) G
     in_two t r v k = fpick t (λ vss. fsplit t $ feq_l t (λ ev. fsplit t $ move t (1 ∷ []) $ fsplit t $
         peeks t S (Is S) (shows 𝓛 S) r.1 vss.1.0 (λ is₁. move t (2 ∷ []) $ peeks t S (Is S) (shows 𝓛 S) r.0 vss.0 (λ is₀.
         rewrite t 0 (λ (ws : List Val). ‵ (S.own_val r.0 ws)) is₀.0.0 refl $ move t (1 ∷ []) $
         rewrite t 0 (λ (ws : List Val). ‵ (S.own_val r.1 ws)) is₁.0.0 refl $ move t (2 ∷ []) $ drop t $ move t (1 ∷ []) $
-        k (ev ∙ (λ i. vstruct (of_list (is₀.0.0 i ++ (is₁.0.0 i ++ []))) ∷ [])) is₀.0.1.0 is₁.0.1.0))))
+        k (ap only (ev ∙ (λ i. vstruct (of_list (is₀.0.0 i ++ (is₁.0.0 i ++ []))) ∷ [])))
+        (slice_typed r.0.ref_ptr (length r.0.now) is₀.0.1.0) (slice_typed r.1.ref_ptr (length r.1.now) is₁.0.1.0)))))
 
 -- a struct's fields make the struct, and two values make a pair
 module _ {M : Type 1} {𝓤 : Ura M} (𝓛 : Logic 𝓤) where

@@ -85,6 +85,10 @@ module _ {M : Type 1} {𝓤 : Ura M} (𝓛 : Logic 𝓤) (n : ℕ) where
   goes [] ks silents = tt
   goes (s ∷ ss) ks silents = (Goes-dropped 𝓛 n s ks.0 silents.0, goes ss ks.1 silents.1)
 
+-- the words that store the parameters, and the walk with them
+pub at_words {ℓ} : {A : Type 0} {B : A → Type ℓ} (words : A) → B words → (ws : A) × B ws
+at_words words walk = (words, walk)
+
 -- ---- entries
 module _ {M : Type 1} (𝓤 : Ura M) where
   abbrev pub tokens : (n : ℕ) → Lfts n → Shares n → List (Item 𝓤)
