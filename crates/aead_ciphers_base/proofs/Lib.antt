@@ -1,5 +1,6 @@
 pub mod AdditiveLemmas
 pub mod BlocksLemmas
+pub mod BufferWalk
 pub mod ByteFieldLaws
 pub mod BytesLemmas
 pub mod ChaChaRounds
