@@ -30,7 +30,7 @@ as_chunks_mut_spec 𝓤 𝓛 𝓜 𝓡 wired X n L fits =
     let (κs, qs, bounds, a, passed) = y.0 in let Ts = N.types_at T.signature.params κs in let x = a.0 in
     let xs = x.now in
     let typed = W.slice_typed x.ref_ptr (length xs) are.0.0.1.0 in let words : W.Words Ts passed =
-      ((_, are.0.0.0, typed), tt) in
+    ((_, are.0.0.0, typed), tt) in
     let vals = W.words_vals Ts passed words in let S = N.MutSlice (N.named 0) κs.0 R in let ℓ = N.named_lft 3 0 tt κs in
     let View = C.AsChunksMut.the_row ℓ R K in
     -- [three tokens; the slice; the premise]
@@ -40,23 +40,27 @@ as_chunks_mut_spec 𝓤 𝓛 𝓜 𝓡 wired X n L fits =
     reborrows ! x.ref_ptr (length xs) refl refl (tt, tt) typed $
     W.tell ! some $ tells ! number-lives $ tells ! lives $ move ! (1 ∷ 2 ∷ 3 ∷ 4 ∷ []) $
     W.consults 𝓛 (C.split_whole.ended X J) (C.split_whole.clauses X J 𝓛 𝓜.mem 𝓡.returns) ! (W.table_of 𝓛 𝓜 𝓡)
-      (P.split_whole.Met.met 𝓤 𝓛 𝓜 𝓡
+    (P.split_whole.Met.met 𝓤 𝓛 𝓜 𝓡
     (P.as_chunks_mut.Code.calls-aead_ciphers_base::polyfill::slice::chunks_mut::split_whole 𝓡.env wired) X n L fits)
     ((κs, qs, bounds, a, vals), tt) (gets ! tt refl) (λ v r ws.
     W.takes ! (N.follows_both (N.Items R 0) (N.Items R 0) (N.Items R 0) x.ghost_name r.0.ghost_name r.1.ghost_name ◌++◌)
-      $ move ! (1 ∷ []) $
+    $ move ! (1 ∷ []) $
     learns ! (λ front. N.heard ! _ (λ back. move ! (1 ∷ []) $
     -- [the pair; what the slice follows; three tokens; nothing of the slice]
     in_two κs.0 R ! r v (λ is t₀ t₁. N.lands_as ! is refl (tt, (t₀.1, (t₁.1, tt))) $
     sets ! (N.of_opd ! (N.get_in ! (N.fld ! refl (N.stop !)) (N.sub ! 0 refl (N.whole !)))) refl t₀ $
     sets ! (N.of_opd ! (N.get_in ! (N.fld ! refl (N.stop !)) (N.sub ! 1 refl (N.whole !)))) refl t₁ $
-    reborrows ! r.0.ref_ptr (length r.0.now) refl refl (tt, tt) t₀ $ sets ! (N.agg ! (alone ! refl)) refl (tt,
-      (t₀.1, tt)) $
-    reborrows ! r.1.ref_ptr (length r.1.now) refl refl (tt, tt) t₁ $ sets ! (N.agg ! (both ! refl refl)) refl (tt,
-      ((t₀.1, tt), (t₁.1, tt))) $
+    reborrows ! r.0.ref_ptr (length r.0.now) refl refl (tt, tt) t₀ $ sets ! (N.agg ! (alone ! refl)) refl (
+      tt,
+      (t₀.1, tt),
+    ) $
+    reborrows ! r.1.ref_ptr (length r.1.now) refl refl (tt, tt) t₁ $ sets ! (N.agg ! (both ! refl refl)) refl (
+      tt,
+      ((t₀.1, tt), (t₁.1, tt)),
+    ) $
     let d : AsChunksMut X.Denot n = record { items = r.0; whole = ap (λ l. length l % n) front ∙ whole_blocks n xs } in
     let p = N.slice_val r.1.ref_ptr (length r.1.now) in let w = N.vstruct (N.vcons (N.slice_val r.0.ref_ptr
-      (length r.0.now)) N.vnil) in
+    (length r.0.now)) N.vnil) in
     let out = N.vstruct (N.vcons w (N.vcons p N.vnil)) in
     N.use1 𝓛 (‵ (View.own_val d (w ∷ []))) (viewed 𝓛 ℓ R n d _) $
     N.use2 𝓛 (‵ ((Tuple (View ∷ S ∷ [])).own_val (d, r.1) (out ∷ []))) (paired 𝓛 View S d r.1 w p) $
@@ -66,4 +70,4 @@ as_chunks_mut_spec 𝓤 𝓛 𝓜 𝓡 wired X n L fits =
     move ! (2 ∷ 0 ∷ []) $ W.says ! $ N.nothing ! $
     -- [nothing; the clauses; the answer; three tokens]
     N.keep ! (3 ∷ 4 ∷ 5 ∷ 0 ∷ 2 ∷ 1 ∷ []) $ W.ends 𝓛 T hs c ((κs, qs, bounds, a, vals), tt) out (d, r.1) (tt, tt) !
-      (tt, tt))))))))))))
+    (tt, tt))))))))))))

@@ -23,7 +23,7 @@ use proofs.polyfill.slice.chunks_mut.AsChunksMut as P
 
 -- the view at (b, o), whose items are under the name δ
 module _ (X : N.RattleType) (J : ℕ) {M : Type 1} {𝓤 : N.Ura M} (𝓛 : N.Logic 𝓤) (a : N.NamedLft)
-  (d : AsChunksMut X.Denot J) (b o : ℕ) where
+    (d : AsChunksMut X.Denot J) (b o : ℕ) where
   open 𝓛 use {A}
 
   abbrev R : N.RattleType
@@ -69,7 +69,7 @@ module _ (X : N.RattleType) (J : ℕ) {M : Type 1} {𝓤 : N.Ura M} (𝓛 : N.Lo
       fsplit ! $ N.feq_l ! (λ ev. fsplit ! $
       N.fsplit3 ! $ fsplit ! $ N.feq_l ! (λ told.
       rewrite ! 4 (λ (us : List Val). ‵ (cell_at full_share G.mir us b o))
-        (ev ∙ (λ i. N.vstruct (N.of_list (told i ++ [])) ∷ [])) refl $
+      (ev ∙ (λ i. N.vstruct (N.of_list (told i ++ [])) ∷ [])) refl $
       rewrite ! 1 (λ (l : List X.Denot). ‵ (Seen l)) (heres_id R xs) refl $ N.keep ! (1 ∷ 2 ∷ 4 ∷ 0 ∷ []) $ done !))))
 
   counts : (ws : List X.Denot) → ent 𝓤 (sem 𝓛 (Own ws)) (guard 𝓤 (length ws ≡ n) (sem 𝓛 (Own ws)))
@@ -81,29 +81,32 @@ module _ (X : N.RattleType) (J : ℕ) {M : Type 1} {𝓤 : N.Ura M} (𝓛 : N.Lo
   back ws same =
       let x = (with_items d ws).items in let kept : n ≡ length x.now = length_refill n xs ws refl in
       let is : x.now ≡ ws = N.ap (λ k. N.take k (ws ++ N.drop_list (length ws) xs)) (sym same) ∙ take-append_seam ws
-        (N.drop_list (length ws) xs) in
+      (N.drop_list (length ws) xs) in
       qed 𝓛 (‵ (Seen ws) ∷ ‵ (fbor a.lft (Lies n δ)) ∷ ‵ (fsep (Cell n) (room R n)) ∷ []) ∵
       rewrite ! 0 (λ (l : List X.Denot). ‵ (Seen l)) (sym is ∙ sym (heres_id R x.now)) refl $
       rewrite ! 1 (λ (k : ℕ). ‵ (fbor a.lft (Lies k δ))) kept refl $
       rewrite ! 2 (λ (k : ℕ). ‵ (fsep (Cell k) (room R k))) kept refl $
       move ! (2 ∷ []) $ fsplit ! $ move ! (1 ∷ []) $ N.feq_i ! (List Val) (N.mut_slice_vals x)
-        (N.mut_slice_vals x) refl $ N.fjoin ! $ move ! (0 ∷ 2 ∷ 3 ∷ []) $
+      (N.mut_slice_vals x) refl $ N.fjoin ! $ move ! (0 ∷ 2 ∷ 3 ∷ []) $
       N.fjoin3 ! $
       use1 𝓛 (‵ (G.own_val (with_items d ws) (word (length x.now) ∷ []))) (viewed 𝓛 a R J (with_items d ws)
-        (N.slice_val d.items.ref_ptr (length x.now))) $
+      (N.slice_val d.items.ref_ptr (length x.now))) $
       move ! (1 ∷ 0 ∷ []) $ N.fjoin ! $
       N.fpack ! (List Val) (λ us. fsep (cell_at full_share G.mir us b o) (G.own_val (with_items d ws) us)) (word
-        (length x.now) ∷ []) $ done !
+      (length x.now) ∷ []) $ done !
 
 pub as_flattened_mut_spec : {M : Type 1} → P.as_flattened_mut.Statement.statement M
 unfolding part_of
 as_flattened_mut_spec 𝓤 𝓛 𝓜 𝓡 wired X J L fits =
     let R = param 0 X in let K = param 1 (number J) in
     let T = V.as_flattened_mut.ended X (number J) in let c = V.as_flattened_mut.clauses X
-      (number J) 𝓛 𝓜.mem 𝓡.returns in
+    (number J) 𝓛 𝓜.mem 𝓡.returns in
     let hs = W.dropped T.signature.params T.kept in
-    W.walked 𝓛 T hs c 𝓜 𝓡 (N.Goes-spent_ref 𝓛 4 (0 ∷ []) tt (N.plain (λ κs.
-    V.the_row (N.named_lft 4 1 tt κs) R K)), tt) _ _
+    W.walked 𝓛 T hs c 𝓜 𝓡 (
+      N.Goes-spent_ref 𝓛 4 (0 ∷ []) tt (N.plain (λ κs.
+          V.the_row (N.named_lft 4 1 tt κs) R K)),
+      tt,
+    ) _ _
     (P.as_flattened_mut.Code.unfolded 𝓤 𝓛.H 𝓜 𝓡 wired (X, (number J, tt))) (λ y are.
     let (κs, qs, bounds, a, passed) = y.0 in let Ts = N.types_at T.signature.params κs in let x = a.0 in
     let d = x.now in
@@ -123,27 +126,27 @@ as_flattened_mut_spec 𝓤 𝓛 𝓜 𝓡 wired X J L fits =
     rewrite ! 1 (λ (us : List Val). ‵ (cell_at full_share Row.mir us b o)) ev refl $
     move ! (1 ∷ []) $ use1 𝓛 (‵ (fat full_share τ b o w)) (𝓛.laws.raw_at full_share τ b o w) $
     sets ! (N.of_opd ! (N.load ! (N.through ! refl (fld ! refl (fld ! refl (N.stop !)))) (N.look_in ! 0 (sub ! 1 refl
-      (sub ! 0 refl (N.whole !)))))) refl
+    (sub ! 0 refl (N.whole !)))))) refl
     (tt, record { fits = rm.0 }) $
     sets ! (N.addr ! (N.through ! refl (fld ! refl (fld ! refl (N.hop ! (N.look_in ! 0 (sub ! 0 refl (sub ! 0 refl
-      (N.whole !)))) (N.stop !)))))) refl (tt, tt) $
+    (N.whole !)))) (N.stop !)))))) refl (tt, tt) $
     sets ! (N.agg ! (both ! refl refl)) refl (W.slice_typed d.items.ref_ptr count rm.0) $
     use1 𝓛 (‵ (cell_at full_share Row.mir (w ∷ []) b o)) (𝓛.laws.at_raw full_share τ b o w) $
     rewrite ! 0 (λ (us : List Val). ‵ (cell_at full_share Row.mir us b o)) (sym ev) refl $ N.fjoin ! $
     N.fpack ! (List Val) (λ us. fsep (cell_at full_share Row.mir us b o) (Row.own_val d us)) vs $
     close_ref ! tt (mem Row) d $
     N.use3 𝓛 (N.later (N.some (λ (δ : N.GName). ‵ (N.fobs δ ((N.coded_list R.coded).code d.items.now)) ⊛ ‵ (fbor κ
-      (Lies X J 𝓛 ℓ d b o count δ))
+    (Lies X J 𝓛 ℓ d b o count δ))
     ⊛ ‵ (N.flft κ qs.0) ⊛ ‵ (N.follows Row (N.Items R 0) x.ghost_name δ (with_items d)))))
     (hands_through 𝓛 (mem Row) (Arr (mem R) count) (with_items d) κ ℓ.lft bounds.0 b o d.items.ref_ptr.0
-      d.items.ref_ptr.1 x.ghost_name
+    d.items.ref_ptr.1 x.ghost_name
     d.items.ghost_name (Rest X J 𝓛 ℓ d b o) (λ ws. length ws ≡ count) (counts X J 𝓛 ℓ d b o)
-      (back X J 𝓛 ℓ d b o) qs.0 d d.items.now
+    (back X J 𝓛 ℓ d b o) qs.0 d d.items.now
     (cut X J 𝓛 ℓ d b o)) $ N.await ! tt $ N.pick ! (λ δ. N.split3 ! $
     let r : N.MutBor (List X.Denot) = record { ref_ptr = d.items.ref_ptr; ghost_name = δ; now = d.items.now } in
     let v = N.slice_val d.items.ref_ptr count in
     N.use2 𝓛 (‵ ((N.MutSlice (N.named 0) κ R).own_val r (v ∷ []))) (slice_of 𝓛 R
-      (N.named 0) κ d.items.ref_ptr.0 d.items.ref_ptr.1 δ d.items.now rm) $
+    (N.named 0) κ d.items.ref_ptr.0 d.items.ref_ptr.1 δ d.items.now rm) $
     move ! (1 ∷ []) $ N.split ! $ N.returns ! (N.look_at ! 0 refl) $ N.free_all ! refl $
     -- [the items' token; what the view follows; the items; three tokens]
     move ! (1 ∷ []) $ W.tell {φ = r.now ≡ d.items.now} ! refl $ move ! (1 ∷ 0 ∷ []) $ W.says ! $ N.nothing ! $

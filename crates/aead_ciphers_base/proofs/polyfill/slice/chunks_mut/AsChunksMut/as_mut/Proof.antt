@@ -15,8 +15,11 @@ as_mut_spec 𝓤 𝓛 𝓜 𝓡 wired X n L fits =
     let J = N.number n in let R = N.param 0 X in let K = N.param 1 J in
     let T = A.as_mut.ended X J in let c = A.as_mut.clauses X J 𝓛 𝓜.mem 𝓡.returns in
     let hs = W.dropped T.signature.params T.kept in
-    W.walked 𝓛 T hs c 𝓜 𝓡 (N.Goes-spent_ref 𝓛 4 (0 ∷ []) tt (N.plain (λ κs.
-    A.the_row (N.named_lft 4 1 tt κs) R K)), tt) _ _
+    W.walked 𝓛 T hs c 𝓜 𝓡 (
+      N.Goes-spent_ref 𝓛 4 (0 ∷ []) tt (N.plain (λ κs.
+          A.the_row (N.named_lft 4 1 tt κs) R K)),
+      tt,
+    ) _ _
     (P.as_mut.Code.unfolded 𝓤 𝓛.H 𝓜 𝓡 wired (X, (J, tt))) (λ y are.
     let (κs, qs, bounds, a, passed) = y.0 in let Ts = N.types_at T.signature.params κs in let x = a.0 in
     let words : W.Words Ts passed = ((_, are.0.0, (tt, tt)), tt) in let vals = W.words_vals Ts passed words in
@@ -31,13 +34,13 @@ as_mut_spec 𝓤 𝓛 𝓜 𝓡 wired X n L fits =
     move ! (1 ∷ 2 ∷ 3 ∷ 4 ∷ 5 ∷ []) $
     W.consults 𝓛 (A.as_flattened_mut.ended X J) (A.as_flattened_mut.clauses X J 𝓛 𝓜.mem 𝓡.returns) ! (W.table_of 𝓛 𝓜 𝓡)
     (P.as_flattened_mut.Met.met 𝓤 𝓛 𝓜 𝓡
-      (P.as_mut.Code.calls-aead_ciphers_base::polyfill::slice::chunks_mut::AsChunksMut::as_flattened_mut
+    (P.as_mut.Code.calls-aead_ciphers_base::polyfill::slice::chunks_mut::AsChunksMut::as_flattened_mut
     𝓡.env wired) X n L fits) ((κs, qs, bounds, a, vals), tt) (gets ! tt refl) (λ v r ws.
     W.takes ! (N.follows lender (N.Items R 0) x.ghost_name r.ghost_name (with_items x.now)) $ move ! (1 ∷ []) $
     N.heard ! _ (λ same. move ! (1 ∷ []) $
     -- [the items; what the view follows; four tokens; nothing of the reference]
     N.peeks ! S (N.Is S) (N.shows 𝓛 S) r (v ∷ []) (λ is-r. N.rewrite ! 0 (λ (vs : N.List N.Val). ‵
-      (S.own_val r vs)) is-r.0.0 refl $
+    (S.own_val r vs)) is-r.0.0 refl $
     let d : AsChunksMut X.Denot n = record { items = r; whole = ap (λ l. N.length l % n) same ∙ x.now.whole } in
     let p = N.slice_val r.ref_ptr (N.length r.now) in let w = N.vstruct (N.vcons p N.vnil) in
     let typed = W.slice_typed r.ref_ptr (N.length r.now) is-r.0.1.0 in
@@ -47,4 +50,4 @@ as_mut_spec 𝓤 𝓛 𝓜 𝓡 wired X n L fits =
     W.tell ! same $ move ! (2 ∷ 0 ∷ []) $ W.says ! $ N.nothing ! $
     -- [nothing; the clauses; the view; four tokens]
     N.keep ! (3 ∷ 4 ∷ 5 ∷ 6 ∷ 0 ∷ 2 ∷ 1 ∷ []) $ W.ends 𝓛 T hs c ((κs, qs, bounds, a, vals), tt) w d (tt, tt) !
-      (tt, tt)))))))))))
+    (tt, tt)))))))))))

@@ -24,8 +24,17 @@ split_at_mut_spec 𝓤 𝓛 𝓜 𝓡 wired X n L fits =
     ) _ _ (P.AsChunksMut.split_at_mut.Code.unfolded 𝓤 𝓛.H 𝓜 𝓡 wired (X, (J, tt))) (λ y are.
     let (κs, qs, bounds, a, passed) = y.0 in let Ts = N.types_at T.signature.params κs in let x = a.0 in
     let mid = a.1.0 in let xs = x.now.items.now in
-    let words : W.Words Ts passed = ((_, are.0.0, (tt, tt)), ((N.vint N.w64 mid, are.1.0.0,
-      (tt, record { fits = are.1.0.1 })), tt)) in
+    let words : W.Words Ts passed = (
+      (_, are.0.0, (tt, tt)),
+      (
+        (
+          N.vint N.w64 mid,
+          are.1.0.0,
+          (tt, record { fits = are.1.0.1 }),
+        ),
+        tt,
+      ),
+    ) in
     let vals = W.words_vals Ts passed words in let S = N.MutSlice (N.named 0) κs.0 R in let ℓ = N.named_lft 4 0 tt κs in
     let lender = C.AsChunksMut.the_row (N.named_lft 4 1 tt κs) R K in let View = C.AsChunksMut.the_row ℓ R K in
     -- [four tokens; the view's reference; the number; the premise]
@@ -35,25 +44,25 @@ split_at_mut_spec 𝓤 𝓛 𝓜 𝓡 wired X n L fits =
     sets ! (N.addr ! (N.through ! refl (stop !))) refl (tt, tt) $
     W.premise ! $ tells ! size-of-lender $ tells ! number-lives $ tells ! lives $ move ! (1 ∷ 2 ∷ 3 ∷ 4 ∷ 5 ∷ []) $
     W.consults 𝓛 (C.AsChunksMut.as_flattened_mut.ended X J) (C.AsChunksMut.as_flattened_mut.clauses X J 𝓛 𝓜.mem
-      𝓡.returns) ! (W.table_of 𝓛 𝓜 𝓡)
+    𝓡.returns) ! (W.table_of 𝓛 𝓜 𝓡)
     (P.AsChunksMut.as_flattened_mut.Met.met 𝓤 𝓛 𝓜 𝓡
     (P.AsChunksMut.split_at_mut.Code.calls-aead_ciphers_base::polyfill::slice::chunks_mut::AsChunksMut::as_flattened_mut
-      𝓡.env wired) X n L fits)
+    𝓡.env wired) X n L fits)
     ((κs, qs, bounds, (x, tt), (vals.0, tt)), tt) (gets ! tt refl) (λ v r ws.
     W.takes ! (N.follows lender (Items R 0) x.ghost_name r.ghost_name (with_items x.now)) $ move ! (1 ∷ []) $
     N.heard ! _ (λ same. move ! (1 ∷ []) $
     N.peeks ! S (N.Is S) (N.shows 𝓛 S) r (v ∷ []) (λ is-r. N.lands_as ! refl refl (((N.mut_slice_Lawful 𝓛
-      (N.named 0) κs.0 R).typed r (v ∷ []) is-r).0) $
+    (N.named 0) κs.0 R).typed r (v ∷ []) is-r).0) $
     -- [the items; what the view follows; four tokens; nothing of the reference; the number]
     let fit = blocks_fit n mid xs inside in let there : mid * n ≤ length r.now = N.subst (λ
-      (l : N.List X.Denot). mid * n ≤ length l) (N.sym same) fit in
+    (l : N.List X.Denot). mid * n ≤ length l) (N.sym same) fit in
     W.tell ! there $ tells ! number-lives $ tells ! lives $ move ! (3 ∷ 5 ∷ 6 ∷ 1 ∷ 8 ∷ []) $
     W.consults 𝓛 (C.split_blocks.ended X J) (C.split_blocks.clauses X J 𝓛 𝓜.mem 𝓡.returns) ! (W.table_of 𝓛 𝓜 𝓡)
-      (P.split_blocks.Met.met 𝓤 𝓛 𝓜 𝓡
+    (P.split_blocks.Met.met 𝓤 𝓛 𝓜 𝓡
     (P.AsChunksMut.split_at_mut.Code.calls-aead_ciphers_base::polyfill::slice::chunks_mut::split_blocks 𝓡.env wired) X n
-      L fits)
+    L fits)
     (((κs.0, κs.1.1), (qs.0, qs.1.1), (bounds.1.0, tt), (r, (mid, tt)), (v ∷ [], vals.1)), tt) (gets ! tt refl)
-      (λ w t ws'.
+    (λ w t ws'.
     W.takes ! (N.follows_both (Items R 0) (Items R 0) (Items R 0) r.ghost_name t.0.ghost_name t.1.ghost_name ◌++◌) $
     move ! (1 ∷ []) $
     learns ! (λ first-part. N.heard ! _ (λ second-part.
@@ -62,21 +71,31 @@ split_at_mut_spec 𝓤 𝓛 𝓜 𝓡 wired X n L fits =
     N.use2 𝓛 (‵ (N.follows_both lender (Items R 0) (Items R 0) x.ghost_name t.0.ghost_name t.1.ghost_name (λ f b.
     with_items x.now (f ++ b))))
     (follows_parts 𝓛 lender (Items R 0) (Items R 0) (Items R 0) (with_items x.now) ◌++◌ x.ghost_name r.ghost_name
-      t.0.ghost_name t.1.ghost_name) $
+    t.0.ghost_name t.1.ghost_name) $
     move ! (1 ∷ []) $ in_two κs.0 R ! t w (λ is t₀ t₁. N.lands_as ! is refl (tt, (t₀.1, (t₁.1, tt))) $
     sets ! (N.of_opd ! (N.get_in ! (N.fld ! refl (stop !)) (N.sub ! 0 refl (whole !)))) refl t₀ $
     sets ! (N.of_opd ! (N.get_in ! (N.fld ! refl (stop !)) (N.sub ! 1 refl (whole !)))) refl t₁ $
-    reborrows ! t.0.ref_ptr (length t.0.now) refl refl (tt, tt) t₀ $ sets ! (agg ! (alone ! refl)) refl (tt,
-      (t₀.1, tt)) $
-    reborrows ! t.1.ref_ptr (length t.1.now) refl refl (tt, tt) t₁ $ sets ! (agg ! (alone ! refl)) refl (tt,
-      (t₁.1, tt)) $
+    reborrows ! t.0.ref_ptr (length t.0.now) refl refl (tt, tt) t₀ $ sets ! (agg ! (alone ! refl)) refl (
+      tt,
+      (t₀.1, tt),
+    ) $
+    reborrows ! t.1.ref_ptr (length t.1.now) refl refl (tt, tt) t₁ $ sets ! (agg ! (alone ! refl)) refl (
+      tt,
+      (t₁.1, tt),
+    ) $
     sets ! (agg ! (both ! refl refl)) refl (tt, ((t₀.1, tt), ((t₁.1, tt), tt))) $
     let front : t.0.now ≡ N.take (mid * n) xs = first-part ∙ ap (N.take (mid * n)) same in
     let back : t.1.now ≡ N.drop_list (mid * n) xs = second-part ∙ ap (N.drop_list (mid * n)) same in
-    let d₀ : AsChunksMut X.Denot n = record { items = t.0; whole = ap (λ l.
-    length l % n) front ∙ whole_front n mid xs fit } in
-    let d₁ : AsChunksMut X.Denot n = record { items = t.1; whole = ap (λ l.
-    length l % n) back ∙ whole_back n mid xs fit x.now.whole } in
+    let d₀ : AsChunksMut X.Denot n = record {
+      items = t.0;
+      whole = ap (λ l.
+          length l % n) front ∙ whole_front n mid xs fit;
+    } in
+    let d₁ : AsChunksMut X.Denot n = record {
+      items = t.1;
+      whole = ap (λ l.
+          length l % n) back ∙ whole_back n mid xs fit x.now.whole;
+    } in
     let w₀ = N.vstruct (vcons (N.slice_val t.0.ref_ptr (length t.0.now)) vnil) in
     let w₁ = N.vstruct (vcons (N.slice_val t.1.ref_ptr (length t.1.now)) vnil) in
     let out = N.vstruct (vcons w₀ (vcons w₁ vnil)) in
