@@ -79,7 +79,8 @@ module _ {N : Type 0} (spent : N → List (List ℕ)) (is_closed : N → Bool) w
 module _ {S O : Type 0} (s_spent : S → List (List ℕ)) (s_closed : S → Bool) (s_origin : S → List ℕ)
     (o_spent : O → List (List ℕ)) (o_closed : O → Bool) (o_origin : O → List ℕ) where
   fresh_job : (operation : Operation) (was now : BoundState S × BoundState O) (old new : Job)
-      → Performs s_spent s_closed s_origin o_spent o_closed o_origin operation was now old new → GrewFresh (s_spent was.0.sequence) (s_spent now.0.sequence)
+      → Performs s_spent s_closed s_origin o_spent o_closed o_origin operation was now old new
+      → GrewFresh (s_spent was.0.sequence) (s_spent now.0.sequence)
   fresh_job Seal was now old new p = fresh_step s_spent s_closed _ _ was.0 now.0 _ _ _ _ p.1.step
   fresh_job (Open start) was now old new p = fresh_none _ _ (ap (λ (k : BoundState S). s_spent k.sequence) p.0)
 

@@ -61,7 +61,8 @@ block_bits_of_number n = block_bits-is _ ∙ bytes_bits 16 n
 pub number_of_bits : (n : ℕ) → n < 2 ^ 128 → number (bits_high_first 128 n) ≡ n
 number_of_bits n h = ap number (sym (reverse-bits_of 128 n)) ∙ ap value_of (reverse-reverse (bits_of 128 n)) ∙ value_of-bits_of 128 n h
 
-pub product_of_numbers : (a b c : ℕ) → c < 2 ^ 128 → bits_high_first 128 c ≡ field_product block_taps 128 (bits_high_first 128 a) (bits_high_first 128 b) →
+pub product_of_numbers : (a b c : ℕ) → c < 2 ^ 128
+    → bits_high_first 128 c ≡ field_product block_taps 128 (bits_high_first 128 a) (bits_high_first 128 b) →
     to_be_bytes w128 c ≡ to_be_bytes w128 a • to_be_bytes w128 b
 unfolding ◌•◌ block_of
 product_of_numbers a b c below h =

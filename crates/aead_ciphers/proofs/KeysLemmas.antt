@@ -9,7 +9,8 @@ use Rattle.aead_ciphers.proofs.LentPlaintext.{step_fronts}
 -- the plaintext of a job that opened is within the buffer
 pub opened_within : {N : Type 0} (spent : N → List (List ℕ)) (is_closed : N → Bool) (was now : BoundState N) (aad : List ℕ) (start : ℕ)
     (old new : List ℕ) (accepts : Bool) (n : ℕ)
-    → OpenStep spent is_closed was now aad start old new accepts → (if accepts then Opened (length old - 16 - start) else Refused) ≡ Opened n → n ≤ length new
+    → OpenStep spent is_closed was now aad start old new accepts
+    → (if accepts then Opened (length old - 16 - start) else Refused) ≡ Opened n → n ≤ length new
 opened_within spent is_closed was now aad start old new true n step is =
     let m = length old - 16 - start in
     let count : n ≡ m = cc in

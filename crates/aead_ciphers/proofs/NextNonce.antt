@@ -13,7 +13,8 @@ use Rattle.aead_ciphers.proofs.LentPlaintext.{length-before_tag, stands, front_o
 pub plaintext_next : {E : Type 0} (is_next : List ℕ → Type 0) (key nonce aad : List ℕ) (start : ℕ) (old new : List ℕ) (answer : Result ℕ E)
     → UnderNext is_next (λ next. nonce ≡ next) → OpenedAttached (aes key) nonce aad start old (is_ok answer) new
     → IfOk answer (λ n. n ≡ length old - 16 - start)
-    → OnOk answer (UnderNext is_next (λ next. take (length old - 16 - start) new ≡ gcm_decrypted (aes key) next (drop start (take (length old - 16) old))))
+    → OnOk answer (UnderNext is_next
+    (λ next. take (length old - 16 - start) new ≡ gcm_decrypted (aes key) next (drop start (take (length old - 16) old))))
 plaintext_next is_next key nonce aad start old new (Ok n) is opened count = λ next given.
     subst (λ x. take (length old - 16 - start) new ≡ gcm_decrypted (aes key) x (drop start (take (length old - 16) old))) (is next given)
     (stands (length-before_tag start old _ refl) opened)
@@ -21,7 +22,8 @@ plaintext_next is_next key nonce aad start old new (Err e) is opened count = tt
 
 -- an opening whose sequence refused
 pub no_nonce_open : {N X E : Type 0} (spent : N → List (List ℕ)) (is_closed : N → Bool) (was now : BoundState N) (aad : List ℕ) (start : ℕ)
-    (old new : List ℕ) (r : Result X E) → IsErr r → Refuses spent is_closed was now → new ≡ old → OpenStep spent is_closed was now aad start old new (is_ok r)
+    (old new : List ℕ) (r : Result X E) → IsErr r → Refuses spent is_closed was now → new ≡ old
+    → OpenStep spent is_closed was now aad start old new (is_ok r)
 no_nonce_open _ _ _ _ _ _ _ _ (Ok x) is closes e = absurd (let no = is in cc)
 no_nonce_open _ _ _ _ _ _ _ _ (Err x) is closes e = no_nonce closes e
 
@@ -32,7 +34,8 @@ on_ok P answer (Err f) same h = tt
 on_ok P (Err e) (Ok y) same h = let no = same in absurd (cc)
 
 -- what holds where the core refuses holds where the call refuses
-pub on_err : {X Y E F : Type 0} (P : Type 0) (answer : Result X E) (result : Result Y F) → is_ok answer ≡ is_ok result → OnErr answer P → OnErr result P
+pub on_err : {X Y E F : Type 0} (P : Type 0) (answer : Result X E) (result : Result Y F)
+    → is_ok answer ≡ is_ok result → OnErr answer P → OnErr result P
 on_err P (Err e) (Err f) same h = h
 on_err P answer (Ok y) same h = tt
 on_err P (Ok x) (Err f) same h = let no = same in absurd (cc)

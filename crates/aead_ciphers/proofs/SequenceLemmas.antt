@@ -50,7 +50,8 @@ pub fresh_prefixed : (s : Counting) → s.first + s.used < 2 ^ 64 → ¬ Contain
 unfolding prefixed_nonce
 fresh_prefixed s = fresh_nonce prefixed_nonce (drop (length s.fixed)) s (λ n. drop_at s.fixed _ _ refl)
 
-pub fresh_xored : (s : Counting) → length s.fixed ≡ 12 → s.first + s.used < 2 ^ 64 → ¬ Contains (spent_nonces xored_nonce s) (next_nonce xored_nonce s)
+pub fresh_xored : (s : Counting) → length s.fixed ≡ 12 → s.first + s.used < 2 ^ 64
+    → ¬ Contains (spent_nonces xored_nonce s) (next_nonce xored_nonce s)
 unfolding xored_nonce
 fresh_xored s l = fresh_nonce xored_nonce (λ x. drop 4 (x ⊕ s.fixed)) s (λ n.
     ap (drop 4) (xor-xor (0 ∷ 0 ∷ 0 ∷ 0 ∷ to_be_bytes w64 n) s.fixed (omega (arith, l))))

@@ -184,7 +184,8 @@ product_end a h first second third fourth n below is one two three four =
     let la = length-bits 128 a in
     let lh = length-bits 128 h in
     let none_yet = coefficients-zero 128 in
-    let whole = word_more a h 96 _ fourth (word_more a h 64 _ third (word_more a h 32 _ second (word_more a h 0 0 first none_yet one) two) three) four in
+    let whole = word_more a h 96 _ fourth
+    (word_more a h 64 _ third (word_more a h 32 _ second (word_more a h 0 0 first none_yet one) two) three) four in
     product_of_numbers a h n below
     (same_coefficients _ _
     (length-bits 128 n ∙ sym (length-field_product block_taps 127 block_low _ _ la lh))

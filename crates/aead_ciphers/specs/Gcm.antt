@@ -50,7 +50,8 @@ gcm_sealed cipher nonce aad message =
 -- What opening a ciphertext, where it is in range, under a received tag makes of the buffer that it stands in, and whether
 -- it accepts (section 7.2): exactly a ciphertext that is there and fits, under its own tag. The message then stands at
 -- the front, and the later bytes stay; a refusal changes no byte.
-pub record Opens (cipher : List ℕ → List ℕ) (nonce aad received ciphertext : List ℕ) (in_range : Type 0) (old : List ℕ) (accepts : Bool) (new : List ℕ) : Type 0 where
+pub record Opens (cipher : List ℕ → List ℕ) (nonce aad received ciphertext : List ℕ) (in_range : Type 0)
+    (old : List ℕ) (accepts : Bool) (new : List ℕ) : Type 0 where
   pub accepted : IsTrue accepts
       ↔ (in_range × Fits (length aad) (length ciphertext) × (received ≡ gcm_tag cipher nonce aad ciphertext))
   pub buffer : new ≡ (if accepts then gcm_decrypted cipher nonce ciphertext ++ drop (length ciphertext) old else old)

@@ -88,7 +88,8 @@ twice_test = refl
 twice_assoc : (y z : ℕ) → y < 256 → z < 256 → mul8 (mul8 2 y) z ≡ mul8 2 (mul8 y z)
 twice_assoc y z hy hz =
     same_products (λ a b. mul8 _ b) (λ a b. mul8 2 (mul8 a b))
-    (λ b. additive_after (λ t. mul8 t b) _ (mul8-xor_left b) (mul8-xor_right 2)) (λ b. additive_after (mul8 2) (λ a. mul8 a b) (mul8-xor_right 2) (mul8-xor_left b))
+    (λ b. additive_after (λ t. mul8 t b) _ (mul8-xor_left b) (mul8-xor_right 2))
+    (λ b. additive_after (mul8 2) (λ a. mul8 a b) (mul8-xor_right 2) (mul8-xor_left b))
     (λ a. mul8-xor_right (mul8 2 a)) (λ a. additive_after (mul8 2) (mul8 a) (mul8-xor_right 2) (mul8-xor_right a)) twice_test y z hy hz
 
 double_test : all_below (λ i. 2 ^ suc i == mul8 2 (2 ^ i)) 7 ≡ true

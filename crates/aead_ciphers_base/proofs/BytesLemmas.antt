@@ -19,7 +19,8 @@ pub record SameSoFar (a b : List ℕ) (difference i : ℕ) : Type 0 where
   pub zero_where_same : a ≡ b → difference ≡ 0
 
 -- one more byte is compared
-pub same_more : (a b : List ℕ) (difference i : ℕ) → SameSoFar a b difference i → SameSoFar a b (bit_or difference (bit_xor (get_or a i 0) (get_or b i 0)))
+pub same_more : (a b : List ℕ) (difference i : ℕ) → SameSoFar a b difference i
+    → SameSoFar a b (bit_or difference (bit_xor (get_or a i 0) (get_or b i 0)))
     (i + 1)
 same_more a b difference i s =
     record {

@@ -55,14 +55,16 @@ next_word_front nk w i hk hi =
 abbrev pub key_word : List ℕ → ℕ → List ℕ
 key_word key i = each_below 4 (λ k. slice_index key (4 * i + k))
 
-key_word_is : (key : List ℕ) (i : ℕ) → (slice_index key (4 * i) ∷ slice_index key (4 * i + 1) ∷ slice_index key (4 * i + 2) ∷ slice_index key (4 * i + 3)
+key_word_is : (key : List ℕ) (i : ℕ)
+    → (slice_index key (4 * i) ∷ slice_index key (4 * i + 1) ∷ slice_index key (4 * i + 2) ∷ slice_index key (4 * i + 3)
     ∷ []) ≡ key_word key i
 key_word_is key i =
     let e : 4 * i ≡ 4 * i + 0 = omega arith in
     ap (λ t. slice_index key t ∷ slice_index key (4 * i + 1) ∷ slice_index key (4 * i + 2) ∷ slice_index key (4 * i + 3) ∷ []) e
 
 pub first_word_step : (key : List ℕ) (words : List (List ℕ)) (i : ℕ) → i < length words → take i words ≡ each_below i (key_word key)
-    → take (i + 1) (set words i (slice_index key (4 * i) ∷ slice_index key (4 * i + 1) ∷ slice_index key (4 * i + 2) ∷ slice_index key (4 * i + 3) ∷ []))
+    → take (i + 1) (set words i (slice_index key (4 * i) ∷ slice_index key (4 * i + 1) ∷ slice_index key (4 * i + 2)
+    ∷ slice_index key (4 * i + 3) ∷ []))
     ≡ each_below (i + 1) (key_word key)
 first_word_step key words i lt e =
     take_more_set words i _ lt ∙ ap₂ (λ t v. t ++ v ∷ []) e (key_word_is key i) ∙ sym (map-range_with_len_more (key_word key) 0 i i (omega arith))

@@ -55,12 +55,14 @@ module _ (X : RattleType) {M : Type 1} {𝓤 : Ura M} (𝓛 : Logic 𝓤) (κ : 
         let fit : length xs * size (layout X) < 2 ^ 63 = rm.1 in let long : length xs < 2 ^ 64 = rm.0 in
         let room : Room R (length part) = (omega arith, omega arith) in
         qed 𝓛 (‵ (S.own_val s vs) ∷ ‵ (flft κ q) ∷ []) ∵ updating ! $ fsplit3 ! $ drop ! $
-        rewrite ! 0 (λ (l : List X.Denot). ‵ (fobs s.ghost_name (code l))) (heres_id R xs) refl $ open_ref ! tt (Arr (mem R) (length xs)) {b = b} {o = o} $
+        rewrite ! 0 (λ (l : List X.Denot). ‵ (fobs s.ghost_name (code l))) (heres_id R xs) refl $
+        open_ref ! tt (Arr (mem R) (length xs)) {b = b} {o = o} $
         fsplit ! $ drop ! $ use1 𝓛 (‵ (elements part p) ⊛ ‵ Rest) cut $ split ! $ feq_i ! ℕ (length part) (length part) refl $ fjoin ! $
         move ! (2 ∷ 3 ∷ 4 ∷ 0 ∷ 1 ∷ []) $ group ! 5 $
         use1 𝓛 (later (some (λ (δ : GName). ‵ (fobs δ (code part)) ⊛ ‵ (fbor κ (Body (Arr (mem R) (length part)) b p δ)) ⊛ ‵ (flft κ q)
         ⊛ ‵ (follows (Items R 0) (Items R 0) s.ghost_name δ after))))
-        (takes_part 𝓛 (Arr (mem R) (length xs)) (Arr (mem R) (length part)) after κ q b o b p s.ghost_name (sem 𝓛 Rest) put (code xs) (code xs) part) $
+        (takes_part 𝓛 (Arr (mem R) (length xs)) (Arr (mem R) (length part)) after κ q b o b p s.ghost_name
+        (sem 𝓛 Rest) put (code xs) (code xs) part) $
         await ! tt $ pick ! (λ δ. split3 ! $ use2 𝓛 (‵ (Part p (length part) δ)) (slice_of 𝓛 R (named 0) κ b p δ part room) $
         rewrite ! 0 (λ (e : ℕ × ℕ). ‵ (Part e.0 e.1 δ)) (λ i. (place i, count i)) refl $ now ! $ show ! (Lent p' k) δ $ done !)
 
@@ -114,7 +116,8 @@ module _ (X : RattleType) {M : Type 1} {𝓤 : Ura M} (𝓛 : Logic 𝓤) (κ : 
         let count : length back ≡ length xs - m = length-drop m xs in
         let place : past (length front) ≡ m * size (layout X) + o = at_mul o (mem R).size (length front)
         ∙ ap (λ (k : ℕ). k * size (layout X) + o) (length-take-le m xs fits) in
-        lends back (λ ws. front ++ ws) (past (length front)) (m * size (layout X) + o) (length xs - m) (elements front o) put_back cut_back place count
+        lends back (λ ws. front ++ ws) (past (length front)) (m * size (layout X) + o) (length xs - m)
+        (elements front o) put_back cut_back place count
         (omega arith) rm vs
 
 module _ (X : RattleType) {M : Type 1} {𝓤 : Ura M} (𝓛 : Logic 𝓤) (κ : Lft) (q : Share) (s : MutBor (List X.Denot)) (m n : ℕ) where

@@ -88,7 +88,8 @@ module _ (a b k q : ℕ) (hk : k < 6) (hq : q < 64) where
     | inl less ↦
         let digit = sym (lower_is k q hk hq) ∙ cond-true (nat_lt q _) 0 _ (lt-ltb q _ less) in
         ap (λ t. t == 1) (bit_at-shl_low moved _ 64 q hq less)
-        ∙ sym (ap (λ t. ((bit_at a q == 1) xor (bit_at b (q - 2 ^ k) == 1)) && (t == 1)) digit ∙ and-false ((bit_at a q == 1) xor (bit_at b (q - 2 ^ k) == 1)))
+        ∙ sym (ap (λ t. ((bit_at a q == 1) xor (bit_at b (q - 2 ^ k) == 1)) && (t == 1)) digit
+        ∙ and-false ((bit_at a q == 1) xor (bit_at b (q - 2 ^ k) == 1)))
     | inr more ↦
         let digit = sym (cond-false (nat_lt q (2 ^ k)) 0 _ (le-ltb q _ more)) ∙ lower_is k q hk hq in
         let place : q - 2 ^ k + 2 ^ k ≡ q = omega arith in
@@ -127,7 +128,8 @@ abbrev pub SecondOf : List ℕ → List ℕ → ℕ → ℕ → Type 0
 SecondOf w r k i = (q : ℕ) → q < 64
     → bit_at (slice_index r (2 * i + 1)) q ≡ (if bit_at q k == 0 then bit_at (slice_index w i) (q + 2 ^ k) else bit_at (slice_index w (i + 4)) q)
 
-module _ (w r : List ℕ) (k : ℕ) (hk : k < 6) (first0 : FirstOf w r k 0) (second0 : SecondOf w r k 0) (first1 : FirstOf w r k 1) (second1 : SecondOf w r k 1)
+module _ (w r : List ℕ) (k : ℕ) (hk : k < 6) (first0 : FirstOf w r k 0) (second0 : SecondOf w r k 0)
+    (first1 : FirstOf w r k 1) (second1 : SecondOf w r k 1)
     (first2 : FirstOf w r k 2) (second2 : SecondOf w r k 2) (first3 : FirstOf w r k 3) (second3 : SecondOf w r k 3) where
   firsts : (i : ℕ) → i < 4 → FirstOf w r k i
   firsts = by_four _ first0 first1 first2 first3
@@ -228,7 +230,8 @@ plane_byte_from planes p n hn h =
     let small : i < 8 = omega (arith, length-bits_of 8 n) in
     bits_of_at 8 n i small ∙ ap (λ t. t == 1) (h i small) ∙ sym (get_or-each 8 (λ b. bit_at (slice_index planes b) p == 1) i false small)))
 
-byte_of_planes : (words planes : List ℕ) → IsPacked words planes → (p : ℕ) → p < 64 → slice_index (to_le_bytes w64 (slice_index words (p / 8))) (p % 8)
+byte_of_planes : (words planes : List ℕ) → IsPacked words planes → (p : ℕ) → p < 64
+    → slice_index (to_le_bytes w64 (slice_index words (p / 8))) (p % 8)
     ≡ plane_byte planes p
 byte_of_planes words planes packed p hp =
     let n = slice_index (to_le_bytes w64 (slice_index words (p / 8))) (p % 8) in
@@ -261,7 +264,8 @@ byte_of_block words planes packed k j hk hj =
 
 -- words 2 k and 2 k + 1 are block k
 abbrev pub HoldsBlock : List ℕ → List (List ℕ) → ℕ → Type 0
-HoldsBlock words blocks k = to_le_bytes w64 (slice_index words (2 * k)) ++ to_le_bytes w64 (slice_index words (2 * k + 1)) ≡ slice_index_or blocks k []
+HoldsBlock words blocks k = to_le_bytes w64 (slice_index words (2 * k))
+    ++ to_le_bytes w64 (slice_index words (2 * k + 1)) ≡ slice_index_or blocks k []
 
 -- what `transpose_bytes` and `transpose_bits` make of words
 abbrev pub BytesTransposed : List ℕ → List ℕ → Type 0
@@ -308,7 +312,8 @@ eighths_at q h = same_below (bit_at EIGHTHS) (λ t. if t % 8 == 0 then 1 else 0)
 abbrev pub IsSpread : ℕ → List ℕ → ℕ → Type 0
 IsSpread word planes b = (q : ℕ) → q < b → slice_index planes q ≡ word / 2 ^ q
 
-pub spread_more : (word : ℕ) (planes : List ℕ) (b : ℕ) → b < length planes → IsSpread word planes b → IsSpread word (set planes b (word / 2 ^ b)) (b + 1)
+pub spread_more : (word : ℕ) (planes : List ℕ) (b : ℕ) → b < length planes → IsSpread word planes b
+    → IsSpread word (set planes b (word / 2 ^ b)) (b + 1)
 spread_more word planes b fits before =
     below_more (λ q. slice_index _ q ≡ word / 2 ^ q) b
     (λ q h. get_or-set_other planes b q _ 0 (λ e. absurd (omega arith)) ∙ before q h)
@@ -349,7 +354,8 @@ abbrev pub IsGathered : List ℕ → ℕ → ℕ → Type 0
 IsGathered planes word b = (i : ℕ) → i < 64
     → (i % 8 < b → bit_at word i ≡ bit_at (slice_index planes (i % 8)) (i - i % 8)) × (b ≤ i % 8 → bit_at word i ≡ 0)
 
-pub gathered_more : (planes : List ℕ) (word b : ℕ) → b < 8 → IsGathered planes word b → IsGathered planes (bit_xor word (placed (slice_index planes b) b))
+pub gathered_more : (planes : List ℕ) (word b : ℕ) → b < 8 → IsGathered planes word b
+    → IsGathered planes (bit_xor word (placed (slice_index planes b) b))
     (b + 1)
 gathered_more planes word b hb before = λ i hi.
     let plane = slice_index planes b in

@@ -22,7 +22,8 @@ moves f source = all_below (λ p. all_below (λ i. bit_at (f (2 ^ i)) p == bit_a
 -- a function that keeps sums moves bits as it moves those of the powers of two
 moved : (f source : ℕ → ℕ) → IsAdditive f → moves f source ≡ true → (x : ℕ) → x < 2 ^ 64 → (p : ℕ) → p < 64 → bit_at (f x) p ≡ bit_at x (source p)
 moved f source hf test x hx p hp =
-    same_additive (λ t. bit_at (f t) p) (λ t. bit_at t (source p)) (additive_after (λ t. bit_at t p) f (additive_bit p) hf) (additive_bit (source p)) 64
+    same_additive (λ t. bit_at (f t) p) (λ t. bit_at t (source p))
+    (additive_after (λ t. bit_at t p) f (additive_bit p) hf) (additive_bit (source p)) 64
     (λ i lt. same_in_table (λ q j. bit_at (f (2 ^ j)) q) (λ q j. bit_at (2 ^ j) (source q)) 64 64 p i test hp lt)
     x hx
 
@@ -84,7 +85,8 @@ rows_shifted_moves x h p hp =
 
 -- ---- all eight planes
 
-pub planes_moved : (a s : List ℕ) (p q : ℕ) → ((k : ℕ) → k < 8 → bit_at (slice_index s k) p ≡ bit_at (slice_index a k) q) → plane_byte s p ≡ plane_byte a q
+pub planes_moved : (a s : List ℕ) (p q : ℕ)
+    → ((k : ℕ) → k < 8 → bit_at (slice_index s k) p ≡ bit_at (slice_index a k) q) → plane_byte s p ≡ plane_byte a q
 unfolding plane_byte
 planes_moved a s p q h =
     ap value_of (each-same 8 (λ k. bit_at (slice_index s k) p == 1) (λ k. bit_at (slice_index a k) q == 1) (λ k lt. ap (λ t. t == 1) (h k lt)))

@@ -31,7 +31,8 @@ xor_sum-none (suc n) f h = ap₂ ◌xor◌ (xor_sum-none n f h) (h n)
 product_of_none : (b : List Bool) (k : ℕ) → product_coefficient [] b k ≡ false
 product_of_none b k = xor_sum-none (suc k) _ (λ i. refl)
 
-product_coefficient-cons : (x : Bool) (a b : List Bool) → product_coefficient (x ∷ a) b ≡ add (scale x (coefficient b)) (shift (product_coefficient a b))
+product_coefficient-cons : (x : Bool) (a b : List Bool)
+    → product_coefficient (x ∷ a) b ≡ add (scale x (coefficient b)) (shift (product_coefficient a b))
 product_coefficient-cons x a b =
     same_steps _ _ (sym (xor_zero (x && coefficient b zero))) (λ k. xor_sum-first (suc k) (λ i. coefficient (x ∷ a) i && coefficient b _)
     ∙ ap (λ j. (x && coefficient b j) xor xor_sum (suc k) (λ i. coefficient a i && coefficient b (suc k - suc i)))
@@ -298,7 +299,8 @@ module _ (taps : List ℕ) (top : ℕ) (low : AllBelow (suc top) taps) where
 
   -- ---- reduction
 
-  times_without_highest : (n : ℕ) (p : List Bool) → length p ≡ suc (suc top + n) → times top m (without_highest taps (suc top) n p) one ≡ times top m p one
+  times_without_highest : (n : ℕ) (p : List Bool) → length p ≡ suc (suc top + n)
+      → times top m (without_highest taps (suc top) n p) one ≡ times top m p one
   unfolding without_highest
   times_without_highest n p e =
       let k = suc top + n in
@@ -310,7 +312,8 @@ module _ (taps : List ℕ) (top : ℕ) (low : AllBelow (suc top) taps) where
       ∙ sym (horner_push top m k _ one)
       ∙ ap (λ j. horner top m j (coefficient p) one) (sym e)
 
-  times_without_highests : (n : ℕ) (p : List Bool) → length p ≡ suc top + n → times top m (without_highests taps (suc top) n p) one ≡ times top m p one
+  times_without_highests : (n : ℕ) (p : List Bool) → length p ≡ suc top + n
+      → times top m (without_highests taps (suc top) n p) one ≡ times top m p one
   unfolding without_highest without_highests
   times_without_highests zero p e = refl
   times_without_highests (suc n) p e =

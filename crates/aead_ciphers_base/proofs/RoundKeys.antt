@@ -102,6 +102,7 @@ aes_of_schedule round_keys rounds b h =
     let last : 4 * (rounds + 1) ≡ 4 * (length (key_of round_keys rounds) / 4 + 7) = omega (arith, nk) in
     let count : rounds ≡ length (key_of round_keys rounds) / 4 + 6 = omega (arith, nk) in
     ap (λ n. cipher (key_words n (key_of round_keys rounds) (4 * (rounds + 1) - n)) rounds b) nk
-    ∙ ap (λ m. cipher (key_words (length (key_of round_keys rounds) / 4) (key_of round_keys rounds) (m - length (key_of round_keys rounds) / 4)) rounds b) last
+    ∙ ap (λ m. cipher (key_words (length (key_of round_keys rounds) / 4) (key_of round_keys rounds)
+    (m - length (key_of round_keys rounds) / 4)) rounds b) last
     ∙ ap (λ m. cipher (key_words (length (key_of round_keys rounds) / 4) (key_of round_keys rounds)
     (4 * (length (key_of round_keys rounds) / 4 + 7) - length (key_of round_keys rounds) / 4)) m b) count

@@ -43,7 +43,8 @@ module _ {T C F : Type 0} (items : C → List T) (g : Mut F (Bor C × Unit {0}) 
     pub written : new ≡ joined (map (λ x. items x.1) calls) ++ drop (i * n) old
 
   -- block i stands in the slice as it stood at entry
-  module _ (i : ℕ) (cur : List T) (mid : F) (s : ShiftsFirst i cur mid) (same : length cur ≡ length old) (fits : start + (i * n + n) ≤ length old) where
+  module _ (i : ℕ) (cur : List T) (mid : F) (s : ShiftsFirst i cur mid) (same : length cur ≡ length old)
+      (fits : start + (i * n + n) ≤ length old) where
     outs : List T
     outs = joined (map (λ (x : C × C). items x.1) s.calls)
 

@@ -35,7 +35,8 @@ xored-xored f text =
     rw (length-xored f text) (xor-xor text _ (omega (arith, length-each (length text) f)))
 
 -- the first n bytes of a list that holds the stream's
-pub stream_front : (f : ℕ → ℕ) (bytes : List ℕ) (n : ℕ) → n ≤ length bytes → ((i : ℕ) → i < n → get_or bytes i 0 ≡ f i) → take n bytes ≡ each_below n f
+pub stream_front : (f : ℕ → ℕ) (bytes : List ℕ) (n : ℕ) → n ≤ length bytes
+    → ((i : ℕ) → i < n → get_or bytes i 0 ≡ f i) → take n bytes ≡ each_below n f
 stream_front f bytes n le same = fill_by_all f _ n 0 (length-take-le n bytes le) (λ i h. get_or-take n bytes i 0 h ∙ same i h)
 
 -- a text XOR a list that starts with the stream's bytes

@@ -103,7 +103,8 @@ pub product_16_is : (a b : List ℕ) (p : ℕ)
     ≡ mul8 (plane_element basis_16 a p) (plane_element basis_16 b p)
 unfolding plane_element plane_polynomial basis_16
 product_16_is a b p =
-    same_at_bits (λ q. element basis_16 (product_16_by mul8 (take 4 q) (drop 4 q))) (λ q. mul8 (element basis_16 (take 4 q)) (element basis_16 (drop 4 q)))
+    same_at_bits (λ q. element basis_16 (product_16_by mul8 (take 4 q) (drop 4 q)))
+    (λ q. mul8 (element basis_16 (take 4 q)) (element basis_16 (drop 4 q)))
     (plane_polynomial 4 a p ++ plane_polynomial 4 b p) product_16_test
 
 -- ---- the inverses

@@ -49,7 +49,8 @@ shifts_rotate n j a b low high la lb h =
     let up =
     get_or-zip2 left x ns j 0 0 0 (omega arith) h ∙ ap₂ left word (get_or-replicate 4 j n 0 h ∙ (let e : n ≡ n % 32 = omega arith in e)) in
     let down =
-    get_or-zip2 right x ms j 0 0 0 (omega arith) h ∙ ap₂ right word (get_or-replicate 4 j m 0 h ∙ (let e : m ≡ (32 - n % 32) % 32 = omega arith in e)) in
+    get_or-zip2 right x ms j 0 0 0 (omega arith) h
+    ∙ ap₂ right word (get_or-replicate 4 j m 0 h ∙ (let e : m ≡ (32 - n % 32) % 32 = omega arith in e)) in
     get_or-zip2 bit_or _ _ j 0 0 0
     (omega (arith, length-zip2 left x ns lx)) (omega (arith, length-zip2 right x ms lx)) ∙ ap₂ bit_or up down
 

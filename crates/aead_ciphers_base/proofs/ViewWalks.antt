@@ -90,12 +90,15 @@ module _ {M : Type 1} {𝓤 : Ura M} (𝓛 : Logic 𝓤) where
   pub struct_of : (S : Shape) (d : Denots S.fields) (vss : Valss S.fields)
       → ent 𝓤 (sem 𝓛 (owns S.fields d vss)) (sem 𝓛 ((Struct S).own_val d (vstruct (of_list (flat S.fields vss)) ∷ [])))
   struct_of S d vss =
-      let w : Val = vstruct (of_list (flat S.fields vss)) in qed 𝓛 (‵ (owns S.fields d vss) ∷ []) ∵ feq_i ! (List Val) (w ∷ []) (w ∷ []) refl $ fjoin ! $
+      let w : Val = vstruct (of_list (flat S.fields vss)) in
+      qed 𝓛 (‵ (owns S.fields d vss) ∷ []) ∵ feq_i ! (List Val) (w ∷ []) (w ∷ []) refl $ fjoin ! $
       fpack ! (Valss S.fields) (within S d (w ∷ [])) vss $ done !
 
-  pub paired : (P Q : RattleType) (x : P.Denot) (y : Q.Denot) (p q : Val) → ent 𝓤 (sep 𝓤 (sem 𝓛 (P.own_val x (p ∷ []))) (sem 𝓛 (Q.own_val y (q ∷ []))))
+  pub paired : (P Q : RattleType) (x : P.Denot) (y : Q.Denot) (p q : Val)
+      → ent 𝓤 (sep 𝓤 (sem 𝓛 (P.own_val x (p ∷ []))) (sem 𝓛 (Q.own_val y (q ∷ []))))
       (sem 𝓛 ((Tuple (P ∷ Q ∷ [])).own_val (x, y) (vstruct (vcons p (vcons q vnil)) ∷ [])))
-  paired P Q x y p q = qed 𝓛 (‵ (P.own_val x (p ∷ [])) ∷ ‵ (Q.own_val y (q ∷ [])) ∷ []) ∵ nothing ! $ move ! (2 ∷ 0 ∷ []) $ fjoin ! $ move ! (1 ∷ 0 ∷ []) $
+  paired P Q x y p q = qed 𝓛 (‵ (P.own_val x (p ∷ [])) ∷ ‵ (Q.own_val y (q ∷ [])) ∷ []) ∵ nothing ! $
+      move ! (2 ∷ 0 ∷ []) $ fjoin ! $ move ! (1 ∷ 0 ∷ []) $
       fjoin ! $ by ! (struct_of (shape (tuple_type (P ∷ Q ∷ []))) (x, (y, tt)) (p ∷ [], (q ∷ [], tt)))
 
 module _ {M : Type 1} {𝓤 : Ura M} (𝓛 : Logic 𝓤) (ℓ : NamedLft) (R : RattleType) where
@@ -113,7 +116,8 @@ module _ {M : Type 1} {𝓤 : Ura M} (𝓛 : Logic 𝓤) (ℓ : NamedLft) (R : R
       → ent 𝓤 (sem 𝓛 (Slice.own_val d.in_out (u ∷ []))) (sem 𝓛 ((O.the_row ℓ R).own_val d (held u d.start ∷ [])))
   begun d u fits =
       let n = vint w64 d.start in
-      qed 𝓛 (‵ (Slice.own_val d.in_out (u ∷ [])) ∷ []) ∵ nothing ! $ owned ! usize (Is usize) (uint_Makes 𝓛 w64) d.start (n ∷ []) (refl, fits) $ fjoin ! $
+      qed 𝓛 (‵ (Slice.own_val d.in_out (u ∷ [])) ∷ []) ∵ nothing ! $
+      owned ! usize (Is usize) (uint_Makes 𝓛 w64) d.start (n ∷ []) (refl, fits) $ fjoin ! $
       move ! (1 ∷ 0 ∷ []) $ fjoin ! $ by ! (struct_of 𝓛 (shape (O.the_type ℓ R)) (d.in_out, (d.start, tt)) (u ∷ [], (n ∷ [], tt)))
 
   -- the word of a buffer
@@ -127,20 +131,23 @@ module _ {M : Type 1} {𝓤 : Ura M} (𝓛 : Logic 𝓤) (ℓ : NamedLft) (R : R
   pub in_buffer : {K : Type 0} {Γ : List (Item 𝓤)} {G : Goal 𝓤 𝓛.H} → K → (d : Overlapping R.Denot) (vs : List Val)
       → Step K 𝓛 (‵ (Slice.own_val d.in_out (slice_val d.in_out.ref_ptr (length d.in_out.now) ∷ [])) ∷ Γ) G (‵ ((O.the_row ℓ R).own_val d vs) ∷ Γ) G
   in_buffer t d vs = step (λ s. fpick t (λ vss. fsplit t $ feq_l t (λ ev. fsplit t $ move t (1 ∷ []) $ drop t $
-      peeks t Slice (Is Slice) (shows 𝓛 Slice) d.in_out vss.0 (λ is. rewrite t 0 (λ (ws : List Val). ‵ (Slice.own_val d.in_out ws)) is.0.0 refl $ s))))
+      peeks t Slice (Is Slice) (shows 𝓛 Slice) d.in_out vss.0
+      (λ is. rewrite t 0 (λ (ws : List Val). ‵ (Slice.own_val d.in_out ws)) is.0.0 refl $ s))))
 
 -- the word of a range from a number on
 pub range_word : (range : RangeFrom ℕ) (vs : List Val) → Is (RF.the_row usize) range vs → (vs ≡ boxed range.start ∷ []) × (range.start < 2 ^ 64)
 range_word range vs is = let is-start = is.1.1.0 in (is.1.0 ∙ (λ i. vstruct (of_list (is-start.0 i ++ [])) ∷ []), is-start.1)
 
 -- what follows a part that is lent on in two parts follows the two
-module _ {M : Type 1} {𝓤 : Ura M} (𝓛 : Logic 𝓤) (R T U V : RattleType) (F : T.Denot → R.Denot) (G : U.Denot → V.Denot → T.Denot) (γ γ' γ₁ γ₂ : GName) where
+module _ {M : Type 1} {𝓤 : Ura M} (𝓛 : Logic 𝓤) (R T U V : RattleType) (F : T.Denot → R.Denot)
+    (G : U.Denot → V.Denot → T.Denot) (γ γ' γ₁ γ₂ : GName) where
   open 𝓛 use {A}
 
   abbrev Both : U.Denot × V.Denot → Fml
   Both w = fsep (fres γ₁ (U.coded.code w.0)) (fres γ₂ (V.coded.code w.1))
 
-  pub follows_parts : ent 𝓤 (sep 𝓤 (sem 𝓛 (follows R T γ γ' F)) (sem 𝓛 (follows_both T U V γ' γ₁ γ₂ G))) (sem 𝓛 (follows_both R U V γ γ₁ γ₂ (λ u v. F (G u v))))
+  pub follows_parts : ent 𝓤 (sep 𝓤 (sem 𝓛 (follows R T γ γ' F)) (sem 𝓛 (follows_both T U V γ' γ₁ γ₂ G)))
+      (sem 𝓛 (follows_both R U V γ γ₁ γ₂ (λ u v. F (G u v))))
   unfolding both_by
   follows_parts = qed 𝓛 (‵ (follows R T γ γ' F) ∷ ‵ (follows_both T U V γ' γ₁ γ₂ G) ∷ []) ∵
       each ! (λ (w : U.Denot × V.Denot). wand 𝓤 (sem 𝓛 (Both w)) (A.res γ (R.coded.code (F (G w.0 w.1))))) (λ w. assume ! (‵ (Both w)) $
@@ -156,19 +163,24 @@ at_seam k ys front back e is =
 
 -- what an `Ok` and an `Err` own
 module _ {M : Type 1} {𝓤 : Ura M} (𝓛 : Logic 𝓤) (X E : RattleType) where
-  pub ok_of : (x : X.Denot) (v : Val) → ent 𝓤 (sem 𝓛 (X.own_val x (v ∷ []))) (sem 𝓛 ((RS.the_row X E).own_val (Ok x) (live 0 (of_list (v ∷ [])) ∷ [])))
+  pub ok_of : (x : X.Denot) (v : Val)
+      → ent 𝓤 (sem 𝓛 (X.own_val x (v ∷ []))) (sem 𝓛 ((RS.the_row X E).own_val (Ok x) (live 0 (of_list (v ∷ [])) ∷ [])))
   ok_of x v =
       let w : Val = live 0 (of_list (v ∷ [])) in
       qed 𝓛 (‵ (X.own_val x (v ∷ [])) ∷ []) ∵ nothing ! $ move ! (1 ∷ 0 ∷ []) $ fjoin ! $ feq_i ! (List Val) (v ∷ []) (v ∷ []) refl $ fjoin ! $
-      fpack ! (Valss (X ∷ [])) (in_a_row (X ∷ []) (owns (X ∷ []) (x, tt)) (v ∷ [])) (v ∷ [], tt) $ feq_i ! (List Val) (w ∷ []) (w ∷ []) refl $ fjoin ! $
-      fpack ! (List Val) (tagged_with (form_of (enum_shape (RS.the_type X E))) (form_of (enum_shape (RS.the_type X E))).payload ((RS.the_type X E).to (Ok
+      fpack ! (Valss (X ∷ [])) (in_a_row (X ∷ []) (owns (X ∷ []) (x, tt)) (v ∷ [])) (v ∷ [], tt) $
+      feq_i ! (List Val) (w ∷ []) (w ∷ []) refl $ fjoin ! $
+      fpack ! (List Val) (tagged_with (form_of (enum_shape (RS.the_type X E)))
+      (form_of (enum_shape (RS.the_type X E))).payload ((RS.the_type X E).to (Ok
       x)) (w ∷ [])) (v ∷ []) $ done !
 
-  pub err_of : (e : E.Denot) (v : Val) → ent 𝓤 (sem 𝓛 (E.own_val e (v ∷ []))) (sem 𝓛 ((RS.the_row X E).own_val (Err e) (live 1 (of_list (v ∷ [])) ∷ [])))
+  pub err_of : (e : E.Denot) (v : Val)
+      → ent 𝓤 (sem 𝓛 (E.own_val e (v ∷ []))) (sem 𝓛 ((RS.the_row X E).own_val (Err e) (live 1 (of_list (v ∷ [])) ∷ [])))
   err_of e v =
       let w : Val = live 1 (of_list (v ∷ [])) in
       qed 𝓛 (‵ (E.own_val e (v ∷ [])) ∷ []) ∵ nothing ! $ move ! (1 ∷ 0 ∷ []) $ fjoin ! $ feq_i ! (List Val) (v ∷ []) (v ∷ []) refl $ fjoin ! $
-      fpack ! (Valss (E ∷ [])) (in_a_row (E ∷ []) (owns (E ∷ []) (e, tt)) (v ∷ [])) (v ∷ [], tt) $ feq_i ! (List Val) (w ∷ []) (w ∷ []) refl $ fjoin ! $
+      fpack ! (Valss (E ∷ [])) (in_a_row (E ∷ []) (owns (E ∷ []) (e, tt)) (v ∷ [])) (v ∷ [], tt) $
+      feq_i ! (List Val) (w ∷ []) (w ∷ []) refl $ fjoin ! $
       fpack ! (List Val) (tagged_with (form_of (enum_shape (RS.the_type X E))) (form_of (enum_shape (RS.the_type X E))).payload ((RS.the_type X E).to
       (Err e)) (w ∷ [])) (v ∷ []) $ done !
 
@@ -183,7 +195,8 @@ module _ {M : Type 1} {𝓤 : Ura M} (𝓛 : Logic 𝓤) (T : RattleType) where
   code = Items.coded.code
 
   -- what is let go ends as it is
-  pub let_go : (κ : Lft) (s : MutBor (List T.Denot)) (vs : List Val) → ent 𝓤 (sem 𝓛 ((MutSlice (named 0) κ T).own_val s vs)) (A.res s.ghost_name (code s.now))
+  pub let_go : (κ : Lft) (s : MutBor (List T.Denot)) (vs : List Val)
+      → ent 𝓤 (sem 𝓛 ((MutSlice (named 0) κ T).own_val s vs)) (A.res s.ghost_name (code s.now))
   let_go κ s vs = qed 𝓛 (‵ ((MutSlice (named 0) κ T).own_val s vs) ∷ []) ∵ fsplit3 ! $ drop ! $
       rewrite ! 0 (λ (l : List T.Denot). ‵ (fobs s.ghost_name (code l))) (heres_id T s.now) refl $
       use1 𝓛 (‵ (fres s.ghost_name (code s.now))) (𝓛.names.obs-res s.ghost_name (code s.now)) $ keep ! (0 ∷ []) $ done !
@@ -192,7 +205,8 @@ module _ {M : Type 1} {𝓤 : Ura M} (𝓛 : Logic 𝓤) (T : RattleType) where
   follows_itself : (γ : GName) → ent 𝓤 (sem 𝓛 ftrue) (sem 𝓛 (follows Items Items γ γ (λ w. w)))
   follows_itself γ =
       let From : List T.Denot → List T.Denot → Fml = λ z w. fsep (feq (List T.Denot) z w) (fauth γ (code w)) in
-      let said = qed 𝓛 (‵ ftrue ∷ []) ∵ each ! (λ (w : List T.Denot). wand 𝓤 (A.res γ (code w)) (A.res γ (code w))) (λ w. assume ! (‵ (fres γ (code w))) $
+      let said = qed 𝓛 (‵ ftrue ∷ []) ∵ each ! (λ (w : List T.Denot). wand 𝓤 (A.res γ (code w)) (A.res γ (code w)))
+      (λ w. assume ! (‵ (fres γ (code w))) $
       keep ! (0 ∷ []) $ done !) in
       let back = qed 𝓛 (‵ ftrue ∷ []) ∵ each ! (λ (z : List T.Denot). wand 𝓤 (A.auth γ (code z)) (sem 𝓛 (fex (List T.Denot) (From z)))) (λ z.
       assume ! (‵ (fauth γ (code z))) $ keep ! (0 ∷ []) $ feq_i ! (List T.Denot) z z refl $ fjoin ! $ fpack ! (List T.Denot) (From z) z $ done !) in
@@ -214,7 +228,8 @@ module _ {M : Type 1} {𝓤 : Ura M} (𝓛 : Logic 𝓤) (T : RattleType) where
     unfolding such_by follows_by
     kept_at_err e κ vs =
         qed 𝓛 (‵ ((MutSlice (named 0) κ T).own_val s vs) ∷ []) ∵ use1 𝓛 (‵ (fres s.ghost_name (code s.now))) (let_go κ s vs) $
-        fpack ! ((f : Ends) × ((w : List T.Denot) → Unit {0}) × (f.1 ≡ s.now)) (λ f. fres s.ghost_name (code f.0.1)) (((λ w. w), s.now), (λ w. tt), refl) $
+        fpack ! ((f : Ends) × ((w : List T.Denot) → Unit {0}) × (f.1 ≡ s.now)) (λ f. fres s.ghost_name (code f.0.1))
+        (((λ w. w), s.now), (λ w. tt), refl) $
         done !
 
 -- a call makes a buffer of a slice, with its start, or refuses it
@@ -259,7 +274,8 @@ module _ {T Row E : RattleType} (m : Making T Row E) where
         tells {φ = Kept r} t kept $ tells {φ = Same r} t same $ tells {φ = IsOk r ↔ m.asked} t accepted $ move t (1 ∷ 0 ∷ []) $ says t $ k)
 
   module _ {M : Type 1} {𝓤 : Ura M} {𝓛 : Logic 𝓤} {K : Type 0} {Γ : List (Item 𝓤)} {G : Goal 𝓤 𝓛.H} where
-    pub accepts : K → (o : Row.Denot) (v : Val) → m.asked → name o ≡ m.slice.ghost_name → (m.buffer_of o).in_out.now ≡ m.slice.now → (m.buffer_of o).start ≡ m.start
+    pub accepts : K → (o : Row.Denot) (v : Val) → m.asked → name o ≡ m.slice.ghost_name
+        → (m.buffer_of o).in_out.now ≡ m.slice.now → (m.buffer_of o).start ≡ m.start
         → Step K 𝓛 (raw (Says 𝓛 (Ok o)) ∷ ‵ (Out.own_val (Ok o) (live 0 (of_list (v ∷ [])) ∷ [])) ∷ Γ) G (‵ (Row.own_val o (v ∷ [])) ∷ Γ) G
     accepts t o v h same kept begun = step (λ k. use1 𝓛 (‵ (Out.own_val (Ok o) (live 0 (of_list (v ∷ [])) ∷ []))) (ok_of 𝓛 Row E o v) $
         nothing t $ use1 𝓛 (‵ (KeptIfErr T {E = E.Denot} m.slice name (Ok o))) (kept_in_ok 𝓛 T E.Denot m.slice name o same) $

@@ -46,7 +46,8 @@ module _ {M : Type 1} {𝓤 : Ura M} (𝓛 : Logic 𝓤) where
   wants E (x ∷ xs) (v ∷ vs) = holds E (local_of x) v ∷ wants E xs vs
 
 -- local i is a slice
-module _ {M : Type 1} {𝓤 : Ura M} (𝓛 : Logic 𝓤) (K : Type 0) (Γ : List (Item 𝓤)) (E : Env 𝓤 𝓛.H) (i : ℕ) (p : ℕ × ℕ) (n : ℕ) (ℓ : Lifetime) (ξ : Ty) where
+module _ {M : Type 1} {𝓤 : Ura M} (𝓛 : Logic 𝓤) (K : Type 0) (Γ : List (Item 𝓤)) (E : Env 𝓤 𝓛.H) (i : ℕ) (p : ℕ × ℕ)
+    (n : ℕ) (ℓ : Lifetime) (ξ : Ty) where
   open 𝓛 use {H}
 
   abbrev block : ℕ
@@ -105,7 +106,8 @@ module _ {M : Type 1} {𝓤 : Ura M} {𝓛 : Logic 𝓤} {K : Type 0} {Γ : List
         (runs C Λ E (seq (assign (place j []) (addr_of (place i (field 0 ∷ deref τ ∷ []))))
         (seq (assign (place k []) (aggregate (copy (place j []) ∷ copy (place i (field 1 ∷ [])) ∷ []))) rest)) q)
     reborrows t p n {i} {j} {k} {τ} {ξ} {ℓ} is met of-pointer of-slice = step (λ s.
-        assigns t (addr t (pointee_of 𝓛 K Γ E i p n ℓ ξ t τ is (ap (nth 𝓛 1) met))) (from t (stop t)) (init t (cell j Γ) (ap (nth 𝓛 0) met) of-pointer) $
+        assigns t (addr t (pointee_of 𝓛 K Γ E i p n ℓ ξ t τ is (ap (nth 𝓛 1) met))) (from t (stop t))
+        (init t (cell j Γ) (ap (nth 𝓛 0) met) of-pointer) $
         assigns t (agg t (and_then t (get t (ap (nth 𝓛 3) met))
         (and_then t (length_of 𝓛 K (set 𝓛 j (holds 𝓛 E j (vptr p.0 p.1)) Γ) E i p n ℓ ξ t is (ap (nth 𝓛 2) met)) (no_more t)))) (from t (stop t))
         (init t (cell k (set 𝓛 j (holds 𝓛 E j (vptr p.0 p.1)) Γ)) (ap (nth 𝓛 4) met) of-slice) $ s)

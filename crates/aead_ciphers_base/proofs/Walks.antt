@@ -178,7 +178,8 @@ module _ {M : Type 1} {𝓤 : Ura M} (𝓛 : Logic 𝓤) where
 
   -- what a callee gave
   module _ (T : Ended) (c : Clauses 𝓤 T) where
-    abbrev pub gave : (y : (triple_of 𝓛 T.signature (closing 𝓛 T c)).Ghost) (v : Val) (r : Res T.signature y.0.0) (ws : Lasts T y.0.0 y.0.3) → List (Item 𝓤)
+    abbrev pub gave : (y : (triple_of 𝓛 T.signature (closing 𝓛 T c)).Ghost) (v : Val) (r : Res T.signature y.0.0)
+        (ws : Lasts T y.0.0 y.0.3) → List (Item 𝓤)
     gave y v r ws =
         raw ((c y.0.0 y.0.3).ensures y.1 r (at_exit T y.0.0 y.0.3 ws)) ∷ ‵ ((type_at T.signature.result y.0.0).own_val r (v ∷ []))
         ∷ (tokens 𝓤 T.signature.lifetimes y.0.0 y.0.1 ++ lasted 𝓤 y.0.0 T.signature.params T.kept y.0.3 ws)
@@ -204,7 +205,8 @@ module _ {M : Type 1} {𝓤 : Ura M} (𝓛 : Logic 𝓤) where
           → Seq K 𝓛 (raw ((triple_of 𝓛 T.signature (closing 𝓛 T c)).post y v) ∷ Γ) G
       answers {Γ = Γ} t soaks k =
           let A = raw (alive 𝓛 T.signature y.0.0 y.0.1) in
-          use1 𝓛 (later (some (λ (r : Res T.signature y.0.0). (A ⊛ answer r) ⊛ some (λ (ws : Lasts T y.0.0 y.0.3). ‵ (lasts T y.0.0 y.0.3 ws) ⊛ said r ws))))
+          use1 𝓛 (later (some (λ (r : Res T.signature y.0.0).
+          (A ⊛ answer r) ⊛ some (λ (ws : Lasts T y.0.0 y.0.3). ‵ (lasts T y.0.0 y.0.3 ws) ⊛ said r ws))))
           (id⊢ 𝓤 _) $
           await t soaks $ pick t (λ r. split t $ split t $ move t (2 ∷ []) $ pick t (λ ws. split t $ move t (1 ∷ 3 ∷ 2 ∷ 0 ∷ []) $
           cut (said r ws ∷ answer r ∷ A ∷ ‵ (lasts T y.0.0 y.0.3 ws) ∷ []) (gave y v r ws) Γ (gave⊢ r ws) $ k r ws))
@@ -215,9 +217,11 @@ module _ {M : Type 1} {𝓤 : Ura M} (𝓛 : Logic 𝓤) where
         → K → FmC 𝓤 𝓛.H 𝓛.laws C → Triple 𝓤 (C f) (triple_of 𝓛 T.signature (closing 𝓛 T c)) → (y : (triple_of 𝓛 T.signature (closing 𝓛 T c)).Ghost)
         → Opds K 𝓛 (raw ((triple_of 𝓛 T.signature (closing 𝓛 T c)).pre y) ∷ Γ) E xs ((triple_of 𝓛 T.signature (closing 𝓛 T c)).args y)
         → ((v : Val) (r : Res T.signature y.0.0) (ws : Lasts T y.0.0 y.0.3) → Seq K 𝓛 (gave y v r ws ++ Γ) (lands C Λ E d v rest q))
-        → Seq K 𝓛 ((entered 𝓤 T.signature y.0.0 y.0.1 y.0.3 y.0.4 ++ (raw ((c y.0.0 y.0.3).requires y.1) ∷ [])) ++ Γ) (runs C Λ E (seq (call f xs d) rest) q)
+        → Seq K 𝓛 ((entered 𝓤 T.signature y.0.0 y.0.1 y.0.3 y.0.4 ++ (raw ((c y.0.0 y.0.3).requires y.1) ∷ []))
+        ++ Γ) (runs C Λ E (seq (call f xs d) rest) q)
     consults t table met y operands k =
-        readies t T.signature (closing 𝓛 T c) y $ calls_at t table (triple_of 𝓛 T.signature (closing 𝓛 T c)) met y operands (λ v. answers y v t tt (k v))
+        readies t T.signature (closing 𝓛 T c) y $
+        calls_at t table (triple_of 𝓛 T.signature (closing 𝓛 T c)) met y operands (λ v. answers y v t tt (k v))
 
   -- the walk's end
   module _ (T : Ended) (hs : Stays T.signature.params T.kept) (c : Clauses 𝓤 T) (y : (walk_of 𝓛 T hs c).Ghost) (v : Val) (r : Res T.signature y.0.0)
@@ -230,7 +234,8 @@ module _ {M : Type 1} {𝓤 : Ura M} (𝓛 : Logic 𝓤) where
     pub ends : {K : Type 0} → K → Fit T hs y.0.0 y.0.3 ws → Seq K 𝓛 ending (prop ((walk_of 𝓛 T hs c).post y v))
     ends t fits =
         let Ts = tokens 𝓤 T.signature.lifetimes y.0.0 y.0.1 in let Hs = had 𝓤 y.0.0 T.signature.params T.kept hs y.0.3 ws y.0.4 in
-        let R : List (Item 𝓤) = ‵ ((type_at T.signature.result y.0.0).own_val r (v ∷ [])) ∷ raw ((c y.0.0 y.0.3).ensures y.1 r (at_exit T y.0.0 y.0.3 ws))
+        let R : List (Item 𝓤) = ‵ ((type_at T.signature.result y.0.0).own_val r (v ∷ [])) ∷ raw
+        ((c y.0.0 y.0.3).ensures y.1 r (at_exit T y.0.0 y.0.3 ws))
         ∷ [] in
         let O = sem 𝓛 ((type_at T.signature.result y.0.0).own_val r (v ∷ [])) in let P = (c y.0.0 y.0.3).ensures y.1 r (at_exit T y.0.0 y.0.3 ws) in
         let A = alive 𝓛 T.signature y.0.0 y.0.1 in let H = sem 𝓛 (has_of y.0.0 T.signature.params T.kept hs y.0.3 ws y.0.4) in
@@ -254,7 +259,8 @@ module _ {M : Type 1} {𝓤 : Ura M} (𝓛 : Logic 𝓤) where
 
   -- a walk from the entries to the end of the body, with the parameters' machine values written out
   pub walked : (T : Ended) (hs : Stays T.signature.params T.kept) (c : Clauses 𝓤 T) (𝓜 : Model 𝓤 𝓛.H) (𝓡 : Running 𝓤 𝓛.H 𝓜)
-      → AllGo 𝓛 T.signature.lifetimes T.signature.params T.kept hs → (k : Callee) (e : Fn) → (let 𝓣 = tables 𝓤 𝓛.H 𝓜 𝓡 𝓡.env in Closed 𝓤 𝓛.H 𝓣.C 𝓣.Λ k e)
+      → AllGo 𝓛 T.signature.lifetimes T.signature.params T.kept hs → (k : Callee) (e : Fn)
+      → (let 𝓣 = tables 𝓤 𝓛.H 𝓜 𝓡 𝓡.env in Closed 𝓤 𝓛.H 𝓣.C 𝓣.Λ k e)
       → ((y : (walk_of 𝓛 T hs c).Ghost) → Are (types_at T.signature.params y.0.0) (Ises (types_at T.signature.params y.0.0)) y.0.3 y.0.4
       → (words : Words (types_at T.signature.params y.0.0) y.0.4) × (let 𝓣 = tables 𝓤 𝓛.H 𝓜 𝓡 𝓡.env in let W = walk_of 𝓛 T hs c in
       let vss = words_vals (types_at T.signature.params y.0.0) y.0.4 words in let y' : W.Ghost = ((y.0.0, y.0.1, y.0.2, y.0.3, vss), y.1) in

@@ -22,7 +22,8 @@ LendsItems T N v r = Lends (the_row (record { mir = named 1; lft = [] }) T N) (A
 
 -- v ends with the last values behind r and q as its items, one after the other
 abbrev pub LendsParts : (T N : RattleType) → MutBor (AsChunksMut T.Denot (value_of N)) → MutBor (List T.Denot) → MutBor (List T.Denot) → Fml
-LendsParts T N v r q = LendsBoth (the_row (record { mir = named 1; lft = [] }) T N) (Array T 0) (Array T 0) v (r, q) (λ front back. with_items v.now (front ++ back))
+LendsParts T N v r q = LendsBoth (the_row (record { mir = named 1; lft = [] }) T N) (Array T 0) (Array T 0) v (r, q)
+    (λ front back. with_items v.now (front ++ back))
 
 -- v ends with as many items as it has: with what some loan of them leaves
 abbrev pub KeepsCount : (T N : RattleType) → MutBor (AsChunksMut T.Denot (value_of N)) → Fml

@@ -45,12 +45,15 @@ pub record AnswersChunk {T C F : Type 0} (items : C → List T) (g : Once F (Bor
   pub called : FnOnceReturnsAt g f chunk answer
 
 -- f answered to the n items of old from start on, as old has them; new begins with its answer, and after it is as old
-pub record MapsChunk {T C F : Type 0} (items : C → List T) (g : Once F (Bor C × Unit {0}) C) (n : ℕ) (f : F) (old : List T) (start : ℕ) (new : List T) : Type 0 where
+pub record MapsChunk {T C F : Type 0} (items : C → List T) (g : Once F (Bor C × Unit {0}) C) (n : ℕ) (f : F)
+    (old : List T) (start : ℕ) (new : List T) : Type 0 where
   pub answers : AnswersChunk items g n f (drop start old)
   pub written : new ≡ items answers.answer ++ drop n old
 
 -- The slice of b ends with what f answered to the first n items of the input, and then the last value behind the rest.
 -- After a refusal it ends as it was
-abbrev pub LendsRest : (T : RattleType) {C F E : Type 0} → (C → List T.Denot) → Once F (Bor C × Unit {0}) C → ℕ → F → Overlapping T.Denot → Result (Overlapping T.Denot) E → Fml
-LendsRest T items g n f b (Ok rest) = fex (AnswersChunk items g n f (drop b.start b.in_out.now)) (λ a. LendsBehind T b.in_out (items a.answer) rest.in_out)
+abbrev pub LendsRest : (T : RattleType) {C F E : Type 0} → (C → List T.Denot) → Once F (Bor C × Unit {0}) C → ℕ → F
+    → Overlapping T.Denot → Result (Overlapping T.Denot) E → Fml
+LendsRest T items g n f b (Ok rest) =
+    fex (AnswersChunk items g n f (drop b.start b.in_out.now)) (λ a. LendsBehind T b.in_out (items a.answer) rest.in_out)
 LendsRest T items g n f b (Err e) = EndsAs T b.in_out b.in_out.now

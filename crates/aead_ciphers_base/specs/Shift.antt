@@ -14,8 +14,10 @@ abbrev pub TakesBlocks : {T C F : Type 0} → (C → List T) → Mut F (Bor C ×
 TakesBlocks {T} {C} {F} items g n f xs = (calls : List (C × C)) (p : F) (c : C) (rest : List (List T))
     → Answers g f calls p → blocks n xs ≡ map (λ x. items x.0) calls ++ (items c ∷ rest) → TakesAt g p c
 
--- f answered to each block of n items of old from start on, as old has them, in order; new begins with the answers in that order, and after them is as old
-pub record ShiftsBlocks {T C F : Type 0} (items : C → List T) (g : Mut F (Bor C × Unit {0}) C) (n : ℕ) (f : F) (old : List T) (start : ℕ) (new : List T) : Type 0 where
+-- f answered to each block of n items of old from start on, as old has them, in order; new begins with the answers
+-- in that order, and after them is as old
+pub record ShiftsBlocks {T C F : Type 0} (items : C → List T) (g : Mut F (Bor C × Unit {0}) C) (n : ℕ) (f : F)
+    (old : List T) (start : ℕ) (new : List T) : Type 0 where
   pub calls : List (C × C)
   pub last : F
   pub ran : Answers g f calls last

@@ -37,7 +37,8 @@ number_back mask at n i j old mid new e h p u =
     u.number j h ∙ ap (λ v. bit_xor v m) (p.number j h) ∙ xor_twice (get_or old (at + j) 0) m in
     subst (λ k. get_or new k 0 ≡ get_or old k 0) e here
 
-other_back : (mask : List ℕ) (at n i : ℕ) (old mid new : List ℕ) → 0 < i → (i < at) ⊎ (at + n ≤ i) → Masked mask at n old mid → Masked mask at n mid new
+other_back : (mask : List ℕ) (at n i : ℕ) (old mid new : List ℕ) → 0 < i → (i < at) ⊎ (at + n ≤ i)
+    → Masked mask at n old mid → Masked mask at n mid new
     → get_or new i 0 ≡ get_or old i 0
 other_back mask at n i old mid new h o p u = u.others i h o ∙ p.others i h o
 

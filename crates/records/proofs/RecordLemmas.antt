@@ -50,7 +50,8 @@ module _ (was : State) (bytes : List ℕ) where
     pub carried_whole : IsWhole bytes
     carried_whole =
         let n : length bytes ≡ 5 + (length inner.content + 1 + inner.padding + 16) =
-        ap length c.made ∙ length-append aad _ ∙ ap (λ n. 5 + n) (length-aes_sealed _ _ _ (inner_plaintext inner) ∙ ap (λ n. n + 16) (length-inner_plaintext inner)) in
+        ap length c.made ∙ length-append aad _
+        ∙ ap (λ n. 5 + n) (length-aes_sealed _ _ _ (inner_plaintext inner) ∙ ap (λ n. n + 16) (length-inner_plaintext inner)) in
         record {
           start = carried_header ∙ ap header (omega (arith, n, length-inner_plaintext inner));
           shortest = omega (arith, n);
@@ -65,7 +66,8 @@ module _ (was : State) (bytes : List ℕ) where
       let key = was.key.bytes in
       let nonce = next_nonce was in
       let c = gcm_encrypted (aes key) nonce m in
-      let parts = sealed_parts key nonce (take 5 bytes) c _ m' (length-aes_tag key nonce (take 5 bytes) c) (append_cancel_left (take 5 bytes) _ _ (sym s ∙ s')) in
+      let parts = sealed_parts key nonce (take 5 bytes) c _ m' (length-aes_tag key nonce (take 5 bytes) c)
+      (append_cancel_left (take 5 bytes) _ _ (sym s ∙ s')) in
       sym (decrypted-encrypted key nonce m) ∙ sym parts.0
 
   -- one record carries one content
@@ -149,11 +151,16 @@ module _ (old : List ℕ) (filled at end : ℕ) (order : (filled ≤ at) × (at 
   pub false_tag_read : (now : State) (new : List ℕ) → OpensRecord false new → Reads was now bytes (Err Refused)
   false_tag_read now new o =
       let not_sealed : (message : List ℕ) → ¬ Seals was bytes message = λ message s.
-      let right = sealed_parts was.key.bytes (next_nonce was) (take 5 bytes) text tag message (length-drop _ part ∙ omega (arith, length-part, length-bytes))
+      let right = sealed_parts was.key.bytes (next_nonce was) (take 5 bytes) text tag message
+      (length-drop _ part ∙ omega (arith, length-part, length-bytes))
       (append_cancel_left (take 5 bytes) _ _ (sym parts ∙ s)) in
       let head = length-take-le 5 bytes (omega arith) in
       let wrong : false ≡ true =
-      o.accepted.1 (omega (arith, length-part, length-bytes), record { aad = omega arith; message = omega (arith, length-text, length-bytes) }, right.1) in
+      o.accepted.1 (
+        omega (arith, length-part, length-bytes),
+        record { aad = omega arith; message = omega (arith, length-text, length-bytes) },
+        right.1,
+      ) in
       cc in
       record {
         accepted = λ inner c. absurd (not_sealed _ (carried_seals was bytes inner c));
@@ -195,7 +202,12 @@ module _ (old : List ℕ) (filled at end : ℕ) (order : (filled ≤ at) × (at 
     there =
         let tail : List ℕ = drop (filled + length message) old in
         let n : filled + len - filled ≡ length message = omega (arith, length-message, length-part, length-bytes) in
-        rw (n, put, append_assoc (take filled old) message tail, drop_at (take filled old) (message ++ tail) filled (length-take-le filled old (omega arith)))
+        rw (
+          n,
+          put,
+          append_assoc (take filled old) message tail,
+          drop_at (take filled old) (message ++ tail) filled (length-take-le filled old (omega arith)),
+        )
         (take_at message tail _ refl)
 
     -- a content was found in the message
@@ -208,7 +220,11 @@ module _ (old : List ℕ) (filled at end : ℕ) (order : (filled ≤ at) × (at 
         let e = sym there ∙ (rw same at found.3) in (
           record {
             accepted = λ inner c. refl;
-            content = (found.2, carries_from was bytes _ w open_before found.0 (rw e at seals) (omega (arith, ap length e, length-message, length-bytes)));
+            content = (
+              found.2,
+              carries_from was bytes _ w open_before found.0 (rw e at seals)
+                  (omega (arith, ap length e, length-message, length-bytes)),
+            );
             counted = counted;
             refused = tt;
           },

@@ -35,7 +35,9 @@ module _ (key nonce out head message : List ℕ) (five : length head ≡ 5) wher
         take_at message (replicate 16 0) _ refl,
       )
 
-  pub put_sealed : (a : ℕ) (xs now : List ℕ) → a ≡ length out → xs ≡ out ++ packet → now ≡ sealed_packet key nonce 5 (take (length xs - a) (drop a xs))
-      → (put_mid a (length xs - a) xs now ≡ out ++ (head ++ gcm_sealed (aes key) nonce head message)) × (length (put_mid a (length xs - a) xs now) ≡ length xs)
+  pub put_sealed : (a : ℕ) (xs now : List ℕ) → a ≡ length out → xs ≡ out ++ packet
+      → now ≡ sealed_packet key nonce 5 (take (length xs - a) (drop a xs))
+      → (put_mid a (length xs - a) xs now ≡ out ++ (head ++ gcm_sealed (aes key) nonce head message))
+      × (length (put_mid a (length xs - a) xs now) ≡ length xs)
   put_sealed a xs now here e n =
       rw (here, e) (let put = put_behind now (rw (here, e) at n) in (put, ap length put ∙ simp (length-append, length-aes_encrypted, length-aes_tag)))

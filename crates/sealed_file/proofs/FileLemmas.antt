@@ -134,7 +134,8 @@ module _ (key prefix file : List ℕ) where
     pub opened_sealed_file : opened_file key whole ≡ file
     unfolding opened_chunks
     opened_sealed_file =
-        ap concat (each-same (last_chunk whole + 1) (λ i. opened_chunk key (prefix_of whole) i (i == last_chunk whole) (piece sealed_chunk_len (body_of whole) i))
+        ap concat (each-same (last_chunk whole + 1)
+        (λ i. opened_chunk key (prefix_of whole) i (i == last_chunk whole) (piece sealed_chunk_len (body_of whole) i))
         (piece chunk_len file) (λ i within. of_sealed (λ p b l. opened_chunk key p i b l ≡ piece chunk_len file i) i within
         (opened_sealed_chunk key prefix i (i == last) (piece chunk_len file i))))
         ∙ ap (λ n. concat (each_below (n + 1) (piece chunk_len file))) last_is ∙ all_pieces chunk_len file (omega arith)

@@ -52,7 +52,8 @@ pub record Opening (key prefix file : List ℕ) (n : ℕ) (old now : Option (Lis
   pub written : Appends old now (opened_chunks key file n)
 
 -- the header was right
-pub open_start : (key prefix file bytes : List ℕ) (old now : Option (List ℕ)) → Keeps old now → bytes ≡ take 16 file → HasHeader bytes → prefix ≡ drop 9 bytes
+pub open_start : (key prefix file bytes : List ℕ) (old now : Option (List ℕ)) → Keeps old now → bytes ≡ take 16 file
+    → HasHeader bytes → prefix ≡ drop 9 bytes
     → Opening key prefix file 0 old now
 unfolding opened_chunks
 open_start key prefix file bytes old now kept taken has prefix_is = record {
@@ -74,9 +75,11 @@ pub stop_at_start : (key file : List ℕ) (old : Option (List ℕ)) → Stopped 
 stop_at_start key file old = (0, none_right key file, begins_none old (opened_chunks key file 0))
 
 module _ {key prefix file : List ℕ} {n : ℕ} {old now : Option (List ℕ)} (s : Opening key prefix file n old now) where
-  module _ {flag : Bool} {chunk : List ℕ} (flag_right : flag ≡ (n == last_chunk file)) (chunk_is : chunk ≡ piece sealed_chunk_len (body_of file) n) where
+  module _ {flag : Bool} {chunk : List ℕ} (flag_right : flag ≡ (n == last_chunk file))
+      (chunk_is : chunk ≡ piece sealed_chunk_len (body_of file) n) where
     -- a chunk that has no right tag
-    pub chunk_refused : (error : FileError) → ¬ HasTag key prefix n flag chunk → ChunkRefuses key prefix n flag chunk error → RefusesAt key file error n
+    pub chunk_refused : (error : FileError) → ¬ HasTag key prefix n flag chunk
+        → ChunkRefuses key prefix n flag chunk error → RefusesAt key file error n
     chunk_refused error wrong why = record {
       front = s.front;
       right = s.right;
@@ -162,7 +165,8 @@ module _ {key prefix file chunk : List ℕ} {n : ℕ} {rest old now : Option (Li
     flag_right : flag ≡ (n == last_chunk file)
     flag_right = counted ∙ flag_is sealed_chunk_len (body_of file) n s.at next rest' read (omega arith) s.so_far.in_range m_is
 
-    pub read_refused : (error : FileError) → ¬ HasTag key prefix n flag chunk → ChunkRefuses key prefix n flag chunk error → OpenRefuses key file error
+    pub read_refused : (error : FileError) → ¬ HasTag key prefix n flag chunk
+        → ChunkRefuses key prefix n flag chunk error → OpenRefuses key file error
     read_refused error wrong why = refused_at key file n error (chunk_refused s.so_far flag_right s.at.piece_is error wrong why)
 
     module _ (had : HasTag key prefix n flag chunk) where
@@ -176,7 +180,8 @@ module _ {key prefix file chunk : List ℕ} {n : ℕ} {rest old now : Option (Li
         pub read_end : flag ≡ true → Appends now now' message → Appends old now' (opened_file key file)
         read_end = open_end s.so_far flag_right s.at.piece_is had message_is now'
 
-        pub read_next : {next' : List ℕ} → next' ≡ next → flag ≡ false → Appends now now' message → Reading key prefix file (n + 1) next' rest' old now'
+        pub read_next : {next' : List ℕ} → next' ≡ next → flag ≡ false → Appends now now' message
+            → Reading key prefix file (n + 1) next' rest' old now'
         read_next same more written = record {
           so_far = open_next s.so_far flag_right s.at.piece_is had message_is now' more written;
           at = rw same (next_read sealed_chunk_len (body_of file) n s.at next rest' read);

@@ -43,7 +43,8 @@ module _ (key prefix file : List ℕ) (n : ℕ) where
   sealed_is e f = rw (e, f)
 
   -- the chunk was written
-  pub seal_more : (old now now' : Option (List ℕ)) {sealed : List ℕ} → sealed ≡ chunk_at key prefix file n → Appends old now (sealed_before key prefix file n)
+  pub seal_more : (old now now' : Option (List ℕ)) {sealed : List ℕ} → sealed ≡ chunk_at key prefix file n
+      → Appends old now (sealed_before key prefix file n)
       → Appends now now' sealed → Appends old now' (sealed_before key prefix file (n + 1))
   seal_more old now now' e written more =
       subst (Appends old now') (ap (λ l. sealed_before key prefix file n ++ l) e
@@ -89,7 +90,8 @@ pub sealing_stop : {key prefix file chunk : List ℕ} {n : ℕ} {rest old now : 
 sealing_stop s = (_, _, (parts _ _ _ _ s.in_range).1, s.written)
 
 module _ {key prefix file chunk : List ℕ} {n : ℕ} {rest old now : Option (List ℕ)} (s : Sealing key prefix file n chunk rest old now)
-    (next : List ℕ) (rest' : Option (List ℕ)) (read : IfSome rest (λ left. TakesFront chunk_len left next rest')) {m : ℕ} {flag : Bool} (counted : flag ≡ (m == 0))
+    (next : List ℕ) (rest' : Option (List ℕ)) (read : IfSome rest (λ left. TakesFront chunk_len left next rest'))
+    {m : ℕ} {flag : Bool} (counted : flag ≡ (m == 0))
     (m_is : m ≡ length next) where
   flag_right : flag ≡ (n == last_of file)
   flag_right = counted ∙ flag_is chunk_len file n s.at next rest' read (omega arith) s.in_range m_is

@@ -77,12 +77,14 @@ stop (Ok v) known all = tt
 stop (Err e) None all = tt
 stop (Err e) (Some x) all = all x
 
-pub stop_then : {X T E : Type 0} (r : Result T E) (known : Option X) {P Q : X → Type 0} → IfSome known P → ((x : X) → P x → Q x) → OnErr r (IfSome known Q)
+pub stop_then : {X T E : Type 0} (r : Result T E) (known : Option X) {P Q : X → Type 0} → IfSome known P
+    → ((x : X) → P x → Q x) → OnErr r (IfSome known Q)
 stop_then (Ok v) known h step = tt
 stop_then (Err e) None h step = tt
 stop_then (Err e) (Some x) h step = step x h
 
 -- what is left of the bytes, once n more were written
-pub moves_front : (all done rest left : List ℕ) (n : ℕ) → all ≡ done ++ rest → left ≡ take (length rest - n) (drop n rest) → all ≡ (done ++ take n rest) ++ left
+pub moves_front : (all done rest left : List ℕ) (n : ℕ) → all ≡ done ++ rest
+    → left ≡ take (length rest - n) (drop n rest) → all ≡ (done ++ take n rest) ++ left
 moves_front all done rest left n e left_is =
     rw (left_is, take_rest rest n, append_assoc, take-append-drop) e

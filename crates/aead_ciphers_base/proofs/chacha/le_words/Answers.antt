@@ -11,7 +11,8 @@ loop-i-preserved g c =
     record {
       size = length-set c.loop-i.words c.loop-i.i c.from_le_bytes.result ∙ c.loop-i.invariant.size;
       done =
-          below_more (λ (k : ℕ). slice_index (slice_set c.loop-i.words c.loop-i.i c.from_le_bytes.result) k ≡ slice_index (le_words c.args.bytes.now) k)
+          below_more (λ (k : ℕ). slice_index (slice_set c.loop-i.words c.loop-i.i c.from_le_bytes.result) k ≡
+          slice_index (le_words c.args.bytes.now) k)
           c.loop-i.i (λ k h. get_or-set_other c.loop-i.words c.loop-i.i k c.from_le_bytes.result 0 (omega arith) ∙ c.loop-i.invariant.done k h)
           (get_or-set_same c.loop-i.words c.loop-i.i c.from_le_bytes.result 0 (omega arith) ∙ word
           ∙ sym (get_or-le_words c.loop-i.i _ c.args.bytes.now refl (omega arith)));

@@ -23,7 +23,8 @@ pub overflow_add-place : goal.overflow_add-place
 overflow_add-place g c = search (rules, block_fits c.loop-i.i c.chunk_len-size.result _ c.args.in_out.start c.loop-i-test.true c.args.in_out.within)
 
 pub slice_bounds-place-end : goal.slice_bounds-place-end
-slice_bounds-place-end g c = search (rules, block_fits c.loop-i.i c.chunk_len-size.result _ c.args.in_out.start c.loop-i-test.true c.args.in_out.within)
+slice_bounds-place-end g c = search
+    (rules, block_fits c.loop-i.i c.chunk_len-size.result _ c.args.in_out.start c.loop-i-test.true c.args.in_out.within)
 
 pub transform-output-requires : goal.transform-output-requires
 transform-output-requires g c =

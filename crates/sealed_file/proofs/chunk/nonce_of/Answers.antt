@@ -11,7 +11,8 @@ unfolding chunk_nonce
 returns c =
     let last = c.if-is_last.last in
     let number : c.to_be_bytes.result ≡ to_be_bytes w32 c.args.number = c.to_be_bytes.ensures in
-    let flag : last ≡ (if c.args.is_last then 1 else 0) = elim c.if-is_last.branch [ then-is_last w ↦ search rules | else-is_last w ↦ search rules ] in
+    let flag : last ≡ (if c.args.is_last then 1 else 0) =
+    elim c.if-is_last.branch [ then-is_last w ↦ search rules | else-is_last w ↦ search rules ] in
     c.assume_unique_for_key.ensures
     ∙ ap₂ (λ xs ys. xs ++ ys ++ last ∷ []) (sym (items 7 c.args.prefix.now c.told-prefix))
     (sym (items 4 c.to_be_bytes.result (ap length number)) ∙ number)

@@ -14,7 +14,8 @@ returns-in_err-reserve-clause-refused c =
 
 pub loop-number-init : goal.loop-number-init
 loop-number-init c = record {
-  at = open_start c.args.key.now _ c.args.sealed.now _ (Some c.args.out.now.items) (Some c.reserve.new.self.items) c.in_ok-reserve.ensures.items c.in-Some.ensures.cases.same c.in_ok-prefix.ensures.accepted c.in_ok-prefix.ensures.prefix;
+  at = open_start c.args.key.now _ c.args.sealed.now _ (Some c.args.out.now.items) (Some c.reserve.new.self.items)
+      c.in_ok-reserve.ensures.items c.in-Some.ensures.cases.same c.in_ok-prefix.ensures.accepted c.in_ok-prefix.ensures.prefix;
   room =
       omega (arith, c.opened_len.ensures c.args.key.now, c.in_ok-reserve.ensures.ok, c.in_ok-reserve.ensures.len);
 }
@@ -46,7 +47,8 @@ returns-in_err-append_opened-clause-refused c =
     let p = err_from_is_err_and c.from_residual-in_err-append_opened.result c.from_residual-in_err-append_opened.ensures.1 in
     rw (p.1, p.2) (chunk_fails _ _ _ _ _
     (chunk_refused c.loop-number.invariant.at (ap (λ k. c.loop-number.number == k) c.last_chunk_of-last.ensures)
-    c.chunk_of-chunk.ensures _ (λ had. let opened : false ≡ true = c.in_err-append_opened.ensures.accepted.1 had in cc) c.in_err-append_opened.ensures.refused))
+    c.chunk_of-chunk.ensures _ (λ had. let opened : false ≡ true = c.in_err-append_opened.ensures.accepted.1 had in
+    cc) c.in_err-append_opened.ensures.refused))
 
 pub returns-then-is_last-clause-accepted : goal.returns-then-is_last-clause-accepted
 returns-then-is_last-clause-accepted c = λ _.
@@ -58,7 +60,8 @@ pub returns-then-is_last-clause-opened : goal.returns-then-is_last-clause-opened
 returns-then-is_last-clause-opened c =
     open_end c.loop-number.invariant.at
     (ap (λ k. c.loop-number.number == k) c.last_chunk_of-last.ensures) c.chunk_of-chunk.ensures
-    (c.in_ok-append_opened.ensures.accepted.0 refl) refl (Some c.append_opened.new.out.items) (eq-eqb _ _ c.if-is_last.true) c.in_ok-append_opened.ensures.opened
+    (c.in_ok-append_opened.ensures.accepted.0 refl) refl (Some c.append_opened.new.out.items)
+    (eq-eqb _ _ c.if-is_last.true) c.in_ok-append_opened.ensures.opened
 
 pub loop-number-preserved : goal.loop-number-preserved
 loop-number-preserved c = record {

@@ -28,7 +28,8 @@ returns-in_err-reserve-clause-refused c =
 
 pub loop-number-init : goal.loop-number-init
 loop-number-init c = record {
-  appended = header_written c.args.key.now _ c.args.file.now _ (Some c.args.out.now.items) (Some c.append.new.out.items) (c.as_slice.ensures ∙ c.header_of-header.ensures)
+  appended = header_written c.args.key.now _ c.args.file.now _ (Some c.args.out.now.items)
+      (Some c.append.new.out.items) (c.as_slice.ensures ∙ c.header_of-header.ensures)
       (c.append.ensures.appended ∙ ap (λ l. l ++ c.as_slice.result.now) c.in_ok-reserve.ensures.items);
   room =
       omega (

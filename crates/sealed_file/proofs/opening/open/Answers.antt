@@ -29,7 +29,8 @@ pub loop-number-init : goal.loop-number-init
 loop-number-init g c = (
   c.in_ok-read_piece-2.ensures.size,
   IfSome_then _ c.in_ok-read_piece.ensures.bytes (λ file read.
-      read_start _ _ _ _ _ _ _ _ _ c.deref.ensures.value read c.in_ok-prefix.ensures.accepted c.in_ok-prefix.ensures.prefix c.in_ok-read_piece-2.ensures.bytes),
+      read_start _ _ _ _ _ _ _ _ _ c.deref.ensures.value read c.in_ok-prefix.ensures.accepted
+      c.in_ok-prefix.ensures.prefix c.in_ok-read_piece-2.ensures.bytes),
 )
 
 pub returns-in_err-read_piece-3-clause-nothing_past : goal.returns-in_err-read_piece-3-clause-nothing_past
@@ -48,7 +49,8 @@ returns-in_err-open_chunk-clause-nothing_past g c = stop_then _ _ c.loop-number.
 pub returns-in_err-write_bytes-clause-nothing_past : goal.returns-in_err-write_bytes-clause-nothing_past
 returns-in_err-write_bytes-clause-nothing_past g c = stop_then _ _ c.loop-number.invariant.1 (λ file s.
     read_stop_in s _ _ c.in_ok-read_piece-3.ensures.bytes c.is_empty-is_last.ensures c.read_piece-in-loop-number.new.piece.ok.0
-    (c.in_ok-open_chunk.ensures.accepted.0 refl) (c.deref-in-loop-number.ensures.value ∙ c.in_ok-open_chunk.ensures.opened) _ c.in_err-write_bytes.ensures.err)
+    (c.in_ok-open_chunk.ensures.accepted.0 refl)
+    (c.deref-in-loop-number.ensures.value ∙ c.in_ok-open_chunk.ensures.opened) _ c.in_err-write_bytes.ensures.err)
 
 pub returns-then-is_last-clause-accepted : goal.returns-then-is_last-clause-accepted
 returns-then-is_last-clause-accepted g c = IfSome_then _ c.loop-number.invariant.1 (λ file s.

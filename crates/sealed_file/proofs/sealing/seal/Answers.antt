@@ -36,7 +36,8 @@ returns-in_err-write_bytes-2-clause-beginning g c = stop_then _ _ c.loop-number.
 
 pub returns-then-is_last-clause-few : goal.returns-then-is_last-clause-few
 returns-then-is_last-clause-few g c = IfSome_then _ c.loop-number.invariant.1 (λ file s.
-    seal_few s _ _ c.in_ok-read_piece-2.ensures.bytes c.is_empty-is_last.ensures c.read_piece-in-loop-number.new.piece.ok.0 c.if-is_last.true c.loop-number-test.true)
+    seal_few s _ _ c.in_ok-read_piece-2.ensures.bytes c.is_empty-is_last.ensures
+    c.read_piece-in-loop-number.new.piece.ok.0 c.if-is_last.true c.loop-number-test.true)
 
 pub returns-then-is_last-clause-sealed : goal.returns-then-is_last-clause-sealed
 returns-then-is_last-clause-sealed g c = IfSome_then _ c.loop-number.invariant.1 (λ file s.

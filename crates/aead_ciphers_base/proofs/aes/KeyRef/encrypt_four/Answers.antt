@@ -35,7 +35,8 @@ returns c = λ k hk.
     let block = slice_index_or c.args.blocks k [] in
     let whole : c.loop-round.round - 1 ≡ nr - 1 = omega arith in
     c.unpack.ensures k hk
-    ∙ add_block c.shift_rows-2.result c.add_round_key.result k hk key.round_keys.now words nr (nr + 1) c.self.invariant.expanded (omega arith) c.add_round_key.ensures
+    ∙ add_block c.shift_rows-2.result c.add_round_key.result k hk key.round_keys.now words nr (nr + 1)
+    c.self.invariant.expanded (omega arith) c.add_round_key.ensures
     ∙ ap (add_round_key words nr)
     (shift_block c.sub_planes-2.new.planes c.shift_rows-2.result k hk c.shift_rows-2.ensures
     ∙ ap shift_rows (sub_block c.loop-round.state c.sub_planes-2.new.planes k hk c.sub_planes-2.ensures

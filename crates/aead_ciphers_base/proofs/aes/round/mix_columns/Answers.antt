@@ -13,7 +13,8 @@ returns c = λ p lt.
     let byte = plane_byte c.args.a in
     let b_at = c.planes_one_below-b.ensures in
     let sum_at = c.add_planes-sum.ensures in
-    let doubled = c.add_planes-doubled.ensures p ∙ ap₂ bit_xor (c.times_x.ensures p ∙ ap (mul8 2) (sum_at p ∙ ap (bit_xor (byte p)) (b_at p lt))) (b_at p lt) in
+    let doubled = c.add_planes-doubled.ensures p
+    ∙ ap₂ bit_xor (c.times_x.ensures p ∙ ap (mul8 2) (sum_at p ∙ ap (bit_xor (byte p)) (b_at p lt))) (b_at p lt) in
     let third : plane_byte c.planes_one_below-b.result (below p 2) ≡ byte (below p 3) =
     b_at (below p 2) (below_lt p 2 lt) ∙ ap byte (below_twice p 2 1) in
     c.add_planes.ensures p

@@ -18,5 +18,6 @@ unfolding sbox
 returns c =
     let b = c.inverse-b.result in
     ap (λ t. bit_xor t 0x63)
-    (ap₂ bit_xor (ap₂ bit_xor (ap₂ bit_xor (ap (bit_xor b) c.rotate_left.ensures) c.rotate_left-2.ensures) c.rotate_left-3.ensures) c.rotate_left-4.ensures)
+    (ap₂ bit_xor (ap₂ bit_xor (ap₂ bit_xor (ap (bit_xor b) c.rotate_left.ensures) c.rotate_left-2.ensures)
+    c.rotate_left-3.ensures) c.rotate_left-4.ensures)
     ∙ same_below rotated affine 256 b rotated_test (omega arith) ∙ ap affine c.inverse-b.ensures

@@ -12,5 +12,6 @@ loop-j-preserved c =
     rw next (c.xor_stream.ensures
     ∙ written_more key c.args.counter.now.number nonce c.args.start (256 * j) (4 * j) 256 256
     c.args.in_out.now c.loop-j.in_out c.four_blocks-stream.result c.loop-j.invariant
-    (take_all 256 c.four_blocks-stream.result (let size : length c.four_blocks-stream.result ≡ 256 = search rules in omega arith) ∙ c.four_blocks-stream.ensures)
+    (take_all 256 c.four_blocks-stream.result
+    (let size : length c.four_blocks-stream.result ≡ 256 = search rules in omega arith) ∙ c.four_blocks-stream.ensures)
     (omega arith) (omega arith) (omega arith))

@@ -19,7 +19,8 @@ returns-then-not-is_empty-clause-hashed g c = λ _.
       kept = c.update_block.ensures.kept ∙ ap (λ (s : HashState). record s { xi = c.update_block.new.self.xi }) kept;
       hashed = λ done at.
           hash_with (ap (λ s. s.hash_subkey) kept)
-          (ap (λ b. (done ++ blocks 16 whole) ++ b ∷ []) c.padded.ensures ∙ ap (λ bs. (done ++ blocks 16 whole) ++ bs) (sym (padded_blocks_short rest some (omega arith)))
+          (ap (λ b. (done ++ blocks 16 whole) ++ b ∷ []) c.padded.ensures
+          ∙ ap (λ bs. (done ++ blocks 16 whole) ++ bs) (sym (padded_blocks_short rest some (omega arith)))
           ∙ whole_and_rest done c.args.input.now whole rest c.as_chunks.ensures.whole c.as_chunks.ensures.rest)
           c.update_block.ensures.hashed (c.update_blocks.ensures.hashed done at);
     }
