@@ -2,20 +2,13 @@
 --     Answer, answer_Lawful      the type of an answer, and its law
 --     Out, out_Lawful      the type of a lent result, and its law
 --     Own, as_own, as_slice      what a `&mut [u8]` owns, as `sl_relend` has it;  to it and back
+use Rattle.aead_ciphers_base.proofs.WalkNames.{Ura, Val, ent, Fml, Lft, GName, Logic, sem, ‵, ◌$◌, ◌∵◌, !, qed, drop, fsplit, fsplit3, fjoin, done, rewrite, usize, Is, RattleType, NamedLft, MutSlice, Room, slice_val}
 use Rattle.std.proofs.Common.{◌≡◌, refl, sym, subst, List, [], ◌∷◌, ℕ, length}
-use seplogic.Ra.Ura.{Ura}
 use mir.Syntax.{Lifetime, erased}
-use mir.Val.{Val}
-use base.Logic.{ent}
-use base.Fml.{Fml, Lft, GName}
-use types.Logic.{Logic, sem}
-use types.Kit.{‵, ◌$◌, ◌∵◌, !, qed, drop, fsplit, fsplit3, fjoin, done, rewrite}
-use denote.Builtin.{u8, usize}
-use denote.Laws.{Lawful, Is}
-use denote.RattleType.{RattleType}
-use denote.Ref.{NamedLft}
+use denote.Builtin.{u8}
+use denote.Laws.{Lawful}
 use denote.Shadow.{pure_i}
-use denote.Slice.{MutSlice, Room, room, slice_val, shr_slice_at}
+use denote.Slice.{room, shr_slice_at}
 use denote.Enum.Declared.{shape}
 use denote.Enum.Enum.{Enum, Enum-Lawful}
 use denote.Struct.Recorded.{recorded_lawful}

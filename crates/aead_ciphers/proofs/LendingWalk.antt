@@ -5,41 +5,37 @@
 --     relends, regains      the buffer is lent to the core for a new lifetime, and is back as `lend_plaintext` wants it
 --     lends                 `lend_plaintext` gave the plaintext
 --     says_next             what an opening key's call says beside what it lends
-use Rattle.std.specs.Prelude.{◌≡◌, ◌≤◌, ◌<◌, ◌^◌, ℕ, zero, suc, List, take, drop as drop_list, Bool, true, Result, is_ok, IfOk, OnOk, OnErr}
-use seplogic.Ra.Ura.{Ura}
-use mir.Syntax.{named, w64, Body, Callee, Opd, Place, seq, call}
-use mir.Val.{Val, vint, WT}
-use base.Logic.{sep, id⊢}
-use base.Fml.{Lft, GName, Share, flft}
-use types.Logic.{Logic}
+use Rattle.aead_ciphers_base.proofs.WalkNames.{Result, IfOk, Ura, named, w64, Val, vint, sep, id⊢, Lft, GName, Share, flft, Logic, Item, ‵, ◌⊛◌, raw, some, later, drop, split, fsplit, use1, use2, use3, await, pick, Step, Seq, Goal, fact, usize, yes, Is, shows, MutBor, MutSlice, Room, slice_val, mut_slice_Lawful, peeks}
+use Rattle.std.specs.Prelude.{◌≡◌, ◌≤◌, ◌<◌, ◌^◌, ℕ, zero, suc, List, take, drop as drop_list, Bool, true, is_ok, OnOk, OnErr}
+use mir.Syntax.{Body, Callee, Opd, Place, seq, call}
+use mir.Val.{WT}
 use types.Tokens.{lft_new, lft_end}
-use types.Kit.{Item, ‵, ◌⊛◌, raw, given, some, later, drop, split, learn, fsplit, use1, use2, use3, await, pick, Step, step, Seq, Goal, Post, Soaks, runs, lands}
+use types.Kit.{given, learn, step, Post, Soaks, runs, lands}
 use types.Run.{Opds}
 use contract.Lifetimes.{Lfts, Shares}
-use contract.Monad.{fact}
 use contract.Running.{Running, tables}
 use prog.Model.{Model}
 use prog.Wp.{Env, Calls, Loops}
-use denote.Builtin.{u8, usize}
-use denote.Exit.{yes, left}
-use denote.Laws.{Is, Typed, shows}
-use denote.Ref.{MutBor}
+use denote.Builtin.{u8}
+use denote.Exit.{left}
+use denote.Laws.{Typed}
 use denote.Signature.{Slot}
-use denote.Slice.{MutSlice, Room, slice_val, mut_slice_Lawful}
 use denote.Plain.{uint_Makes}
-use denote.Steps.{owned, peeks}
+use denote.Steps.{owned}
 use denote.Triple.Call.{calls_at}
 use denote.Triple.Spec.{triple_of}
 use denote.Triple.Statement.{Contract, Triple}
 use borrow.Rule.Slice.Lend.{sl_relend, sl_relent_backˡ, kept_f}
-use Rattle.aead_ciphers.specs.Lending.{LendsAfter, Stands, lent_after}
-use Rattle.aead_ciphers.proofs.Lending.{Answer, answer_Lawful, Out, out_Lawful, Own, as_own, as_slice}
+use Rattle.aead_ciphers.specs
+use specs.Lending.{LendsAfter, Stands, lent_after}
+use Rattle.aead_ciphers.proofs
+use proofs.Lending.{Answer, answer_Lawful, Out, out_Lawful, Own, as_own, as_slice}
 use Rattle.aead_ciphers_base.proofs.Walks.{answers, readies, takes}
-use Rattle.aead_ciphers.proofs.NextNonce.{lent_next, on_ok, on_err}
-use Rattle.aead_ciphers.specs.BoundState.{BoundState}
-use Rattle.aead_ciphers.specs.NonceSequence.{UnderNext}
-use Rattle.aead_ciphers.proofs.LentPlaintext.{LentAfter, after_header}
-use Rattle.aead_ciphers.specs.Steps.{OpenStep}
+use proofs.NextNonce.{lent_next, on_ok, on_err}
+use specs.BoundState.{BoundState}
+use specs.NonceSequence.{UnderNext}
+use proofs.LentPlaintext.{LentAfter, after_header}
+use specs.Steps.{OpenStep}
 pub use mathlib.Core.Path.{refl}
 pub use Prim.Native.Nat.{◌-◌}
 pub use mathlib.Core.List.{[], ◌∷◌}

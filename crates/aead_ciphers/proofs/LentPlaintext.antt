@@ -3,10 +3,11 @@ use Rattle.std.proofs.Common.{◌≡◌, refl, ◌∙◌, sym, ap, subst, arith,
 use Rattle.std.specs.Borrow.{MutBor}
 use Rattle.std.proofs.lemmas.List.{drop-append-le}
 use Rattle.aead_ciphers_base.proofs.CounterModeLemmas.{length-counter_mode}
-use Rattle.aead_ciphers.specs.BoundState.{BoundState}
-use Rattle.aead_ciphers.specs.Gcm.{gcm_decrypted, Opened, OpenedAttached, Opens}
-use Rattle.aead_ciphers.specs.Lending.{lent_after, Stands}
-use Rattle.aead_ciphers.specs.Steps.{OpenStep, no_nonce, opened}
+use Rattle.aead_ciphers.specs
+use specs.BoundState.{BoundState}
+use specs.Gcm.{gcm_decrypted, Opened, OpenedAttached, Opens}
+use specs.Lending.{lent_after, Stands}
+use specs.Steps.{OpenStep, no_nonce, opened}
 
 -- the result lends what stands after h bytes of the buffer new, of which the answer says the length, and all other
 -- bytes are those of old

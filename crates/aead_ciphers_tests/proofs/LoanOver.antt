@@ -6,35 +6,29 @@
 --     concludes, unchanged     what is said of the buffer at the return is said of it once the loan is over
 --     let_go                   the result is let go: the buffer's last value
 --     loan_ends                the same, and the buffer is back
+use Rattle.aead_ciphers_base.proofs.WalkNames.{Ura, named, Val, of_list, ent, sep, ex, coded_list, Fml, Lft, GName, Share, flft, fres, Logic, sem, Item, Seq, Goal, ‵, ◌⊛◌, some, later, pick, split, use3, ◌$◌, ◌∵◌, !, qed, move, keep, drop, use1, use2, await, fsplit, fpick, feq_l, rewrite, updating, now, show, check, done, RattleType, MutBor, Is, shows, MutSlice, Room, slice_val, mut_slice_vals, mut_slice_Lawful, peeks, drop_list}
 use Rattle.std.proofs.Common.{◌≡◌, refl, sym, ap, subst, ◌∙◌, List, [], ◌∷◌, ◌++◌, ℕ, ◌-◌, length, take, arith, length-drop, length-take-le, Bool, true, false, Result, Ok, Err, is_ok, IfOk}
-use seplogic.Ra.Ura.{Ura}
-use mir.Syntax.{erased, named}
-use mir.Val.{Val, of_list}
-use base.Logic.{ent, sep, ex, guard}
-use base.Stored.{coded_list}
-use base.Fml.{Fml, Lft, GName, Share, flft, fres}
+use mir.Syntax.{erased}
+use base.Logic.{guard}
 use base.Fraction.{full_share}
-use types.Logic.{Logic, sem}
 use types.Match.{live}
-use types.Kit.{Item, Seq, Goal, Soaks, ‵, ◌⊛◌, some, given, later, pick, split, use3, ◌$◌, ◌∵◌, !, qed, move, keep, drop, use1, use2, await, learn, fsplit, fpick, feq_l, rewrite, updating, now, show, check, done}
+use types.Kit.{Soaks, given, learn}
 use denote.Array.{Array}
 use denote.Builtin.{u8}
 use denote.Follow.{follows_by}
 use denote.FollowSlice.{heres_id, slice_given_up}
-use denote.RattleType.{RattleType}
-use denote.Ref.{MutBor}
-use denote.Laws.{Is, Typed, shows}
-use denote.Slice.{MutSlice, Room, slice_val, finally, res-finally, mut_slice_vals, mut_slice_Lawful}
-use denote.Steps.{peeks}
+use denote.Laws.{Typed}
+use denote.Slice.{finally, res-finally}
 use types.Tokens.{lft_end}
 use borrow.Rule.Slice.Lend.{sl_relent_backˡ}
-use lib.ListN.{drop as drop_list}
 use native.Mathlib.Nat.{suc-ne-zero}
 use Rattle.aead_ciphers_base.proofs.CounterModeLemmas.{length-counter_mode}
-use Rattle.aead_ciphers.specs.Gcm.{gcm_decrypted}
-use Rattle.aead_ciphers.specs.Lending.{LendsFront, lent_buffer}
-use Rattle.aead_ciphers.proofs.Lending.{Out, Own, out_Lawful, as_slice}
-use Rattle.aead_ciphers.proofs.LendingWalk.{Buffer, kept, renamed, word}
+use Rattle.aead_ciphers.specs
+use specs.Gcm.{gcm_decrypted}
+use specs.Lending.{LendsFront, lent_buffer}
+use Rattle.aead_ciphers.proofs
+use proofs.Lending.{Out, Own, out_Lawful, as_slice}
+use proofs.LendingWalk.{Buffer, kept, renamed, word}
 
 module _ {A E : Type 0} where
   abbrev pub tag : Result A E → ℕ

@@ -1,9 +1,10 @@
 -- The plaintext that `open_within` lends is let go, and the buffer is back.
-use Rattle.aead_ciphers.proofs.LendingWalk.{refl, ◌-◌, [], ◌∷◌, full_share, ◌$◌, !, move, keep, of_opd, returns, alloc_all, pass_all, free_all, look_at, get, stop, sets, lands_as, named_lft, types_at, heard, length, Words, words_vals, words_typed, plain, nonce_word, aad_word, range_word, gets, reborrows, learns, aad_bytes, OpenedAttached, walked, consults, at_words, with_lft, with_share, buffer, typed, renamed, relends, ends, table_of}
-use Rattle.aead_ciphers.proofs.Lending.{Range}
+use Rattle.aead_ciphers.proofs
+use proofs.LendingWalk as W
+use proofs.LendingWalk.{refl, ◌-◌, [], ◌∷◌, ◌$◌, !, move}
+use proofs.Lending.{Range}
 use Rattle.aead_ciphers.specs.Lending.{LendsFront}
-use Rattle.aead_ciphers_base.proofs.Walks.{takes, tell, tells}
-use Rattle.aead_ciphers_base.specs.Aes.{aes}
+use Rattle.aead_ciphers_base.proofs.Walks.{takes}
 use Rattle.std.proofs.Common.{Bool, ◌≡◌, true, false, IsFalse, ap, List, ℕ}
 use contract.Running.{tables}
 use mir.Val.{vbool}
@@ -29,73 +30,73 @@ use Rattle.aead_ciphers.specs.contracts.aead.less_safe_key.LessSafeKey.open_with
 use Rattle.aead_ciphers_tests.proofs.loans.opens as P
 
 abbrev stayed : Stays F.ended.signature.params F.ended.kept
-stayed = (stay_dropped _ _, (stay_dropped _ _, (stay_dropped _ _, (stay_slice (2 ∷ []) tt (plain (λ _. u8)), (stay_dropped _ _, tt)))))
+stayed = (stay_dropped _ _, (stay_dropped _ _, (stay_dropped _ _, (stay_slice (2 ∷ []) tt (W.plain (λ _. u8)), (stay_dropped _ _, tt)))))
 
 pub opens_spec : {M : Type 1} → P.Statement.statement M
 opens_spec 𝓤 𝓛 𝓜 𝓡 wired =
     let T = F.ended in let c = F.clauses 𝓛 𝓜.mem 𝓡.returns in let 𝓣 = tables 𝓤 𝓛.H 𝓜 𝓡 𝓡.env in
-    let W = walk_of 𝓛 T stayed c in
+    let V = walk_of 𝓛 T stayed c in
     let none = λ (s : Slot 3). Goes-dropped 𝓛 3 s yes in
-    walked 𝓛 T stayed c 𝓜 𝓡 (
-      none (RefOf (0 ∷ []) tt (plain (λ _. K.the_row)) (λ _. tt)) (λ _ _ _. refl),
+    W.walked 𝓛 T stayed c 𝓜 𝓡 (
+      none (RefOf (0 ∷ []) tt (W.plain (λ _. K.the_row)) (λ _. tt)) (λ _ _ _. refl),
       (
-        none (plain (λ _. N.the_row)) (λ _ _ _. refl),
+        none (W.plain (λ _. N.the_row)) (λ _ _ _. refl),
         (
-          none (plain (λ κs. A.the_row (named_lft 3 1 tt κs))) (λ _ _ _. refl),
+          none (W.plain (λ κs. A.the_row (W.named_lft 3 1 tt κs))) (λ _ _ _. refl),
           (
-            Goes-slice 𝓛 3 2 tt (plain (λ _. u8)),
-            (none (plain (λ _. Range)) (λ _ _ _. refl), tt),
+            Goes-slice 𝓛 3 2 tt (W.plain (λ _. u8)),
+            (none (W.plain (λ _. Range)) (λ _ _ _. refl), tt),
           ),
         ),
       ),
     ) F.Key.name P.Code.function (P.Code.unfolded 𝓤 𝓛.H 𝓜 𝓡 wired) (λ y are.
-    let (κs, qs, bounds, a, vs) = y.0 in let b = buffer 2 κs.1.1.0 qs.1.1.0 a.1.1.1.0 are.1.1.1.0.0.1 in
-    let Ts = types_at T.signature.params κs in
+    let (κs, qs, bounds, a, vs) = y.0 in let b = W.buffer 2 κs.1.1.0 qs.1.1.0 a.1.1.1.0 are.1.1.1.0.0.1 in
+    let Ts = W.types_at T.signature.params κs in
     let (self, (nonce, (aad, (in_out, (range, _))))) = a in
     let (is-self, (is-nonce, (is-aad, (is-in_out, (is-range, _))))) = are in
-    let old = in_out.now in let n = length old - 16 - range.start in
-    let nonce-word = nonce_word 𝓛 nonce _ is-nonce in let aad-word = aad_word 𝓛 (named_lft 3 1 tt κs) aad _ is-aad in
-    let words : Words Ts vs =
-    ((_, is-self.0, (tt, tt)), (nonce-word, (aad-word, ((_, is-in_out.0.0, typed b), (range_word 𝓛 range _ is-range, tt)))))
+    let old = in_out.now in let n = W.length old - 16 - range.start in
+    let nonce-word = W.nonce_word 𝓛 nonce _ is-nonce in let aad-word = W.aad_word 𝓛 (W.named_lft 3 1 tt κs) aad _ is-aad in
+    let words : W.Words Ts vs =
+    ((_, is-self.0, (tt, tt)), (nonce-word, (aad-word, ((_, is-in_out.0.0, W.typed b), (W.range_word 𝓛 range _ is-range, tt)))))
     in
-    let vals = words_vals Ts vs words in let at_end : W.Ghost = ((κs, qs, bounds, a, vals), tt) in
-    at_words words (move ! (6 ∷ 2 ∷ []) $ alloc_all ! (λ l. pass_all ! refl (words_typed Ts vs words) $
-    sets ! (of_opd ! (get ! refl)) refl words.1.1.0.2 $
-    reborrows ! in_out.ref_ptr (length old) refl refl (tt, tt) (typed b) $
-    relends 𝓛 b ! tt (λ α δ.
+    let vals = W.words_vals Ts vs words in let at_end : V.Ghost = ((κs, qs, bounds, a, vals), tt) in
+    W.at_words words (move ! (6 ∷ 2 ∷ []) $ W.alloc_all ! (λ l. W.pass_all ! refl (W.words_typed Ts vs words) $
+    W.sets ! (W.of_opd ! (W.get ! refl)) refl words.1.1.0.2 $
+    W.reborrows ! in_out.ref_ptr (W.length old) refl refl (tt, tt) (W.typed b) $
+    W.relends 𝓛 b ! tt (λ α δ.
     -- [in_out and its lifetime's token; what is kept; two tokens; self, nonce, aad, range; the premise]
-    move ! (3 ∷ 4 ∷ 1 ∷ 5 ∷ 6 ∷ 7 ∷ 0 ∷ 8 ∷ 9 ∷ []) $ consults 𝓛 C.ended (C.clauses 𝓛 𝓜.mem 𝓡.returns) !
-    (table_of 𝓛 𝓜 𝓡) (met 𝓤 𝓛 𝓜 𝓡
+    move ! (3 ∷ 4 ∷ 1 ∷ 5 ∷ 6 ∷ 7 ∷ 0 ∷ 8 ∷ 9 ∷ []) $ W.consults 𝓛 C.ended (C.clauses 𝓛 𝓜.mem 𝓡.returns) !
+    (W.table_of 𝓛 𝓜 𝓡) (met 𝓤 𝓛 𝓜 𝓡
     (P.Code.calls-aead_ciphers::aead::less_safe_key::LessSafeKey::open_within 𝓡.env wired))
-    ((with_lft 2 3 (α ∷ []) κs, with_share 2 3 full_share qs, tt, (self, (nonce, (aad, (renamed b δ, (range, tt))))), vals), tt)
-    (gets ! tt refl) (λ v r ws. let ys = after old n r in
-    takes ! (LendsFront (renamed b δ) r n) $ move ! (1 ∷ []) $ learns ! (λ opened. heard ! _ (λ plaintext.
-    let Said : Bool → List ℕ → Type 0 = λ accepts new. OpenedAttached (aes self.now.bytes) nonce
-    (aad_bytes aad) range.start old accepts new in
-    let long = sized (aes self.now.bytes) nonce range.start old r plaintext in
+    ((W.with_lft 2 3 (α ∷ []) κs, W.with_share 2 3 W.full_share qs, tt, (self, (nonce, (aad, (W.renamed b δ, (range, tt))))), vals), tt)
+    (W.gets ! tt refl) (λ v r ws. let ys = after old n r in
+    takes ! (LendsFront (W.renamed b δ) r n) $ move ! (1 ∷ []) $ W.learns ! (λ opened. W.heard ! _ (λ plaintext.
+    let Said : Bool → List ℕ → Type 0 = λ accepts new. W.OpenedAttached (W.aes self.now.bytes) nonce
+    (W.aad_bytes aad) range.start old accepts new in
+    let long = sized (W.aes self.now.bytes) nonce range.start old r plaintext in
     -- [what is owed of in_out; the answer; three tokens; five times nothing; what is kept]
     move ! (0 ∷ 1 ∷ 4 ∷ 10 ∷ []) $ loan_ends 𝓛 b n ! tt α δ v r (λ us told is-r same.
     -- [in_out; three tokens; five times nothing]
-    lands_as ! (ap only told) refl is-r.0 $ first ! $
-    by_variants ! 17 (whole !) (get_tag ! (vrt ! refl (fld ! refl (stop !))) (whole !)) tt (
-      (λ is-ok. sets_last ! (of_opd ! (true_lit !)) refl (tt, tt) $
-          exec ! 𝓣.C 𝓣.Λ (env P.Code.Mir.locals l) P.Code.Mir.t-6 (at_ret (env P.Code.Mir.locals l) (W.post at_end)) $
-          sets ! (of_opd ! (get ! refl)) refl (tt, tt) $ returns ! (look_at ! 0 refl) $ free_all ! refl $
-          tell {φ = IsFalse true → ys ≡ old} ! (λ h. absurd (let g = h in cc)) $
-          tells ! (concludes Said old n r true (ok_at r is-ok) long opened) $
+    W.lands_as ! (ap only told) refl is-r.0 $ first ! $
+    by_variants ! 17 (whole !) (get_tag ! (vrt ! refl (fld ! refl (W.stop !))) (whole !)) tt (
+      (λ is-ok. sets_last ! (W.of_opd ! (true_lit !)) refl (tt, tt) $
+          exec ! 𝓣.C 𝓣.Λ (env P.Code.Mir.locals l) P.Code.Mir.t-6 (at_ret (env P.Code.Mir.locals l) (V.post at_end)) $
+          W.sets ! (W.of_opd ! (W.get ! refl)) refl (tt, tt) $ W.returns ! (W.look_at ! 0 refl) $ W.free_all ! refl $
+          W.tell {φ = IsFalse true → ys ≡ old} ! (λ h. absurd (let g = h in cc)) $
+          W.tells ! (concludes Said old n r true (ok_at r is-ok) long opened) $
           owned ! bool (Is bool) (bool_Makes 𝓛) true (vbool true ∷ []) refl $
-          keep ! (4 ∷ 5 ∷ 3 ∷ 6 ∷ 7 ∷ 8 ∷ 2 ∷ 10 ∷ 0 ∷ 1 ∷ []) $
-          ends 𝓛 T stayed c at_end (vbool true) true (tt, (tt, (tt, (ys, (tt, tt))))) !
+          W.keep ! (4 ∷ 5 ∷ 3 ∷ 6 ∷ 7 ∷ 8 ∷ 2 ∷ 10 ∷ 0 ∷ 1 ∷ []) $
+          W.ends 𝓛 T stayed c at_end (vbool true) true (tt, (tt, (tt, (ys, (tt, tt))))) !
           (tt, (tt, (tt, (same, (tt, tt)))))),
       (
-        (λ is-err. sets_last ! (of_opd ! (false_lit !)) refl (tt, tt) $
-            exec ! 𝓣.C 𝓣.Λ (env P.Code.Mir.locals l) P.Code.Mir.t-6 (at_ret (env P.Code.Mir.locals l) (W.post at_end)) $
-            sets ! (of_opd ! (get ! refl)) refl (tt, tt) $ returns ! (look_at ! 0 refl) $ free_all ! refl $
-            tell {φ = IsFalse false → ys ≡ old} ! (λ _. unchanged old n r (err_at r is-err)) $
-            tells ! (concludes Said old n r false (err_at r is-err) long opened) $
+        (λ is-err. sets_last ! (W.of_opd ! (false_lit !)) refl (tt, tt) $
+            exec ! 𝓣.C 𝓣.Λ (env P.Code.Mir.locals l) P.Code.Mir.t-6 (at_ret (env P.Code.Mir.locals l) (V.post at_end)) $
+            W.sets ! (W.of_opd ! (W.get ! refl)) refl (tt, tt) $ W.returns ! (W.look_at ! 0 refl) $ W.free_all ! refl $
+            W.tell {φ = IsFalse false → ys ≡ old} ! (λ _. unchanged old n r (err_at r is-err)) $
+            W.tells ! (concludes Said old n r false (err_at r is-err) long opened) $
             owned ! bool (Is bool) (bool_Makes 𝓛) false (vbool false ∷ []) refl $
-            keep ! (4 ∷ 5 ∷ 3 ∷ 6 ∷ 7 ∷ 8 ∷ 2 ∷ 10 ∷ 0 ∷ 1 ∷ []) $
-            ends 𝓛 T stayed c at_end (vbool false) false (tt, (tt, (tt, (ys, (tt, tt))))) !
+            W.keep ! (4 ∷ 5 ∷ 3 ∷ 6 ∷ 7 ∷ 8 ∷ 2 ∷ 10 ∷ 0 ∷ 1 ∷ []) $
+            W.ends 𝓛 T stayed c at_end (vbool false) false (tt, (tt, (tt, (ys, (tt, tt))))) !
             (tt, (tt, (tt, (same, (tt, tt)))))),
         tt,
       ),

@@ -1,10 +1,11 @@
 -- `lend_plaintext` lends bytes of a slice, or lets it go. The borrow checker shows no write-back clause for a
 -- slice that lends a slice, so this proof walks the code by hand.
-use Rattle.aead_ciphers_base.proofs.WalkNames.{◌≡◌, refl, sym, ap, ◌∙◌, List, [], ◌∷◌, ◌++◌, ℕ, ◌+◌, ◌-◌, ◌^◌, ◌<◌, arith, length, length-drop, take, drop_list, take-append-drop, Ura, named, Val, vint, w64, vstruct, vnil, of_list, flft, Logic, Sq, prop, ‵, raw, some, later, ◌$◌, ◌∵◌, !, qed, move, keep, split3, use1, use2, await, pick, whole, sub, agg, stop, fld, from, load, bin, through, lit, of_opd, addr, and_then, first, exec, returns, alloc_all, pass_all, free_all, look_at, look_in_at, get, get_in, sets, env, fact, usize, Is, MutBor, MutSlice, Room, slice_val, mut_slice_vals, nothing, heard, rewrite, follows, Items, RattleType, Stays, Ok, Err}
-use Rattle.aead_ciphers_base.proofs.Walks.{dropped, goes, spreads, slice_typed, tell, tells, says, ends}
-use Rattle.aead_ciphers_base.proofs.WalkLocals.{alone, both}
-use Rattle.aead_ciphers_base.proofs.ViewWalks.{usize_laws, usize_told, ok_of, err_of, let_go}
-use Rattle.aead_ciphers_base.proofs.LentParts.{lent, part, around, lends_part}
+use Rattle.aead_ciphers_base.proofs
+use proofs.WalkNames.{◌≡◌, refl, sym, ap, ◌∙◌, List, [], ◌∷◌, ◌++◌, ℕ, ◌+◌, ◌-◌, ◌^◌, ◌<◌, arith, length, length-drop, take, drop_list, take-append-drop, Ura, named, Val, vint, w64, vstruct, vnil, of_list, flft, Logic, Sq, prop, ‵, raw, some, later, ◌$◌, ◌∵◌, !, qed, move, keep, split3, use1, use2, await, pick, whole, sub, agg, stop, fld, from, load, bin, through, lit, of_opd, addr, and_then, first, exec, returns, alloc_all, pass_all, free_all, look_at, look_in_at, get, get_in, sets, env, fact, usize, Is, MutBor, MutSlice, Room, slice_val, mut_slice_vals, nothing, heard, rewrite, follows, Items, RattleType, Stays, Ok, Err}
+use proofs.Walks.{dropped, goes, spreads, slice_typed, tell, tells, says, ends}
+use proofs.WalkLocals.{alone, both}
+use proofs.ViewWalks.{usize_laws, usize_told, ok_of, err_of, let_go}
+use proofs.LentParts.{lent, part, around, lends_part}
 use native.Mathlib.Nat.{suc-ne-zero}
 use borrow.Table.Elements.{length-take-le}
 use contract.Lifetimes.{Lfts, Shares}

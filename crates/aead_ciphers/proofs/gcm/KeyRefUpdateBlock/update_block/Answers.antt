@@ -1,6 +1,7 @@
 use Rattle.std.proofs.Common.{◌∙◌, sym, subst, ◌++◌, ◌∷◌, []}
-use Rattle.aead_ciphers.specs.HashOf.{IsHashOf}
-use Rattle.aead_ciphers.specs.Multiples.{entry}
+use Rattle.aead_ciphers.specs
+use specs.HashOf.{IsHashOf}
+use specs.Multiples.{entry}
 use Rattle.aead_ciphers.proofs.RunningHash.{hash_one}
 use Rattle.aead_ciphers.proofs.gcm.KeyRefUpdateBlock.update_block.Goals as goal
 

@@ -1,7 +1,8 @@
 use Rattle.std.proofs.Common.{◌≡◌, ℕ, ◌-◌, ◌*◌, ◌/◌, ◌%◌, ◌^◌, ◌<◌, slice_index}
 use Rattle.aead_ciphers.specs.Multiples.{entry, number_of_words}
-use Rattle.aead_ciphers.proofs.BlockLanes.{lane}
-use Rattle.aead_ciphers.proofs.SubkeyMultiples.{IsStretch}
+use Rattle.aead_ciphers.proofs
+use proofs.BlockLanes.{lane}
+use proofs.SubkeyMultiples.{IsStretch}
 use Rattle.aead_ciphers.proofs.gcm.product.product.Given as goal
 
 abbrev pub invariant-loop-i : goal.invariant-loop-i

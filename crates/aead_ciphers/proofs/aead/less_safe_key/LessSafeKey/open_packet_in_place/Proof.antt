@@ -1,9 +1,11 @@
 -- `open_packet_in_place` lends what `lend_plaintext` lends of what `open_packet_in_place_after_header` wrote.
 use Rattle.std.proofs.Common.{◌≡◌, ◌≤◌, subst, true, is_ok, IfOk, take, drop}
-use Rattle.aead_ciphers.specs.Gcm.{gcm_decrypted}
-use Rattle.aead_ciphers.specs.Packet.{OpenedPacket}
-use Rattle.aead_ciphers.proofs.LendingWalk as W
-use Rattle.aead_ciphers.proofs.LendingWalk.{refl, ◌-◌, [], ◌∷◌, ◌$◌, !, move, length}
+use Rattle.aead_ciphers.specs
+use specs.Gcm.{gcm_decrypted}
+use specs.Packet.{OpenedPacket}
+use Rattle.aead_ciphers.proofs
+use proofs.LendingWalk as W
+use proofs.LendingWalk.{refl, ◌-◌, [], ◌∷◌, ◌$◌, !, move, length}
 use Rattle.aead_ciphers.proofs.aead.less_safe_key.LessSafeKey.open_packet_in_place_after_header.Met.{met}
 use Rattle.aead_ciphers.specs.contracts.aead.less_safe_key.LessSafeKey.open_packet_in_place as F
 use Rattle.aead_ciphers.specs.contracts.aead.less_safe_key.LessSafeKey.open_packet_in_place_after_header as C

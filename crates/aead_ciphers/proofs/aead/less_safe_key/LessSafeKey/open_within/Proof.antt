@@ -1,6 +1,7 @@
 -- `open_within` lends what `lend_plaintext` lends of what `open_within_to_front` wrote.
-use Rattle.aead_ciphers.proofs.LendingWalk as W
-use Rattle.aead_ciphers.proofs.LendingWalk.{refl, ◌-◌, [], ◌∷◌, ◌$◌, !, move}
+use Rattle.aead_ciphers.proofs
+use proofs.LendingWalk as W
+use proofs.LendingWalk.{refl, ◌-◌, [], ◌∷◌, ◌$◌, !, move}
 use Rattle.aead_ciphers.proofs.aead.less_safe_key.LessSafeKey.open_within_to_front.Met.{met}
 use Rattle.aead_ciphers.specs.contracts.aead.less_safe_key.LessSafeKey.open_within as F
 use Rattle.aead_ciphers.specs.contracts.aead.less_safe_key.LessSafeKey.open_within_to_front as C

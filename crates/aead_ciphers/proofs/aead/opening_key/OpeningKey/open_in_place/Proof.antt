@@ -1,6 +1,7 @@
 -- `open_in_place` lends what `lend_plaintext` lends of what `open_in_place_to_front` wrote.
-use Rattle.aead_ciphers.proofs.LendingWalk as W
-use Rattle.aead_ciphers.proofs.LendingWalk.{refl, ◌-◌, [], ◌∷◌, ◌$◌, !, move, learns}
+use Rattle.aead_ciphers.proofs
+use proofs.LendingWalk as W
+use proofs.LendingWalk.{refl, ◌-◌, [], ◌∷◌, ◌$◌, !, move, learns}
 use Rattle.aead_ciphers.proofs.aead.opening_key.OpeningKey.open_in_place_to_front.Met.{met as core_met}
 use Rattle.aead_ciphers.specs.contracts.aead.opening_key.OpeningKey as K
 use Rattle.aead_ciphers.proofs.aead.opening_key.OpeningKey.open_in_place as P

@@ -1,10 +1,12 @@
 -- `open_packet_in_place` lends what `lend_plaintext` lends of what `open_packet_in_place_after_header` wrote.
 use Rattle.std.proofs.Common.{◌≡◌, ◌≤◌, subst, true, is_ok, OnOk, take, drop}
-use Rattle.aead_ciphers.specs.Gcm.{gcm_decrypted}
-use Rattle.aead_ciphers.specs.NonceSequence.{UnderNext}
-use Rattle.aead_ciphers.specs.Packet.{packet_message, OpenedPacket}
-use Rattle.aead_ciphers.proofs.LendingWalk as W
-use Rattle.aead_ciphers.proofs.LendingWalk.{refl, ◌-◌, [], ◌∷◌, ◌$◌, !, move, length, learns, buffer}
+use Rattle.aead_ciphers.specs
+use specs.Gcm.{gcm_decrypted}
+use specs.NonceSequence.{UnderNext}
+use specs.Packet.{packet_message, OpenedPacket}
+use Rattle.aead_ciphers.proofs
+use proofs.LendingWalk as W
+use proofs.LendingWalk.{refl, ◌-◌, [], ◌∷◌, ◌$◌, !, move, length, learns, buffer}
 use Rattle.aead_ciphers.proofs.aead.opening_key.OpeningKey.open_packet_in_place_after_header.Met.{met as core_met}
 use Rattle.aead_ciphers.specs.contracts.aead.opening_key.OpeningKey as K
 use Rattle.aead_ciphers.proofs.aead.opening_key.OpeningKey.open_packet_in_place as P

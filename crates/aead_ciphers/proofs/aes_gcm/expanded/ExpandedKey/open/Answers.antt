@@ -1,6 +1,7 @@
 use Rattle.std.proofs.Common.{is_ok, subst}
-use Rattle.aead_ciphers_base.specs.Values.{aad_bytes}
-use Rattle.aead_ciphers_base.specs.Aes.{aes}
+use Rattle.aead_ciphers_base.specs
+use specs.Values.{aad_bytes}
+use specs.Aes.{aes}
 use Rattle.aead_ciphers.specs.Gcm.{Opened}
 use Rattle.aead_ciphers.proofs.aes_gcm.expanded.ExpandedKey.open.Goals as goal
 
