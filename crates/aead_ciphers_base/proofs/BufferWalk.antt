@@ -1,6 +1,6 @@
--- The names that the walks of buffers cite, beside those of `WalkNames`, and the walk itself beside its words.
+-- The names that the walks of buffers cite, beside those of `WalkNames`.
 pub use Rattle.aead_ciphers_base.proofs.WalkLocals.{alone, gets, both, reborrows}
-pub use Rattle.aead_ciphers_base.proofs.Walks.{Words, words_vals, words_typed, slice_typed, dropped, consults, ends, walked, table_of, premise, one, learns, learns_last, tells, tell, takes, says}
+pub use Rattle.aead_ciphers_base.proofs.Walks.{at_words, Words, words_vals, words_typed, slice_typed, dropped, consults, ends, walked, table_of, premise, one, learns, learns_last, tells, tell, takes, says}
 pub use Rattle.aead_ciphers_base.proofs.ViewWalks.{boxed, held, gone, buffer_word, struct_of, in_buffer, making, accepts, refuses, gone_within, usize_laws, usize_told, begun, range_word, at_seam, ok_of, err_of, let_go}
 pub use types.Kit.{at_ret}
 pub use types.Match.{live}
@@ -13,7 +13,3 @@ pub use denote.Param.Laws.{param_laws}
 pub use lib.Dec.{lit<, ltb→lt, nltb→le}
 pub use Rattle.aead_ciphers_base.specs.declared.overlapping.base.Overlapping.{Overlapping}
 pub use Rattle.aead_ciphers_base.proofs.LentParts.{lent}
-
--- the words that store the parameters, and the walk with them
-abbrev pub at_words {ℓ} : {A : Type 0} {B : A → Type ℓ} (words : A) → B words → (ws : A) × B ws
-at_words words walk = (words, walk)

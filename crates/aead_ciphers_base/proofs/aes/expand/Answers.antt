@@ -1,6 +1,7 @@
 use Rattle.std.proofs.Common.{arith, ◌∙◌, ◌≡◌, ◌*◌, ◌/◌, length}
-use Rattle.aead_ciphers_base.proofs.RoundKeys.{key_of_is, is_schedule}
-use Rattle.aead_ciphers_base.proofs.aes.expand.Goals as goal
+use Rattle.aead_ciphers_base.proofs
+use proofs.RoundKeys.{key_of_is, is_schedule}
+use proofs.aes.expand.Goals as goal
 
 pub returns-clause-schedule : goal.returns-clause-schedule
 returns-clause-schedule c =

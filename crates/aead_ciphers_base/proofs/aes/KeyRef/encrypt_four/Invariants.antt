@@ -1,8 +1,10 @@
 use Rattle.std.proofs.Common.{◌≡◌, ◌<◌, ◌-◌, ℕ, slice_index_or, []}
-use Rattle.aead_ciphers_base.specs.Aes.{rounds}
-use Rattle.aead_ciphers_base.specs.Planes.{plane_block}
-use Rattle.aead_ciphers_base.proofs.RoundKeys.{schedule_words}
-use Rattle.aead_ciphers_base.proofs.aes.KeyRef.encrypt_four.Given as goal
+use Rattle.aead_ciphers_base.specs
+use specs.Aes.{rounds}
+use specs.Planes.{plane_block}
+use Rattle.aead_ciphers_base.proofs
+use proofs.RoundKeys.{schedule_words}
+use proofs.aes.KeyRef.encrypt_four.Given as goal
 
 abbrev pub invariant-loop-round : goal.invariant-loop-round
 invariant-loop-round l =

@@ -12,12 +12,10 @@ use proofs.overlapping.array as P
 pub into_unwritten_output_spec : {M : Type 1} → P.Array.into_unwritten_output.Statement.statement M
 into_unwritten_output_spec 𝓤 𝓛 𝓜 𝓡 wired X n L fits =
     let N = W.number n in let R = W.param 0 X in let K = W.param 1 N in
-    let inst = W.layouts (W.a_type ∷ W.a_number ∷ []) (X, (N, tt)) in
     let T = C.Array.into_unwritten_output.ended X N in
     let c = C.Array.into_unwritten_output.clauses X N 𝓛 𝓜.mem 𝓡.returns in
     let hs = B.dropped T.signature.params T.kept in
-    B.walked 𝓛 T hs c 𝓜 𝓡 ((λ κs x f vs fits. B.gone_within 𝓛), tt) (C.Array.into_unwritten_output.Key.name inst)
-    (W.inst_fn inst P.Array.into_unwritten_output.Code.function)
+    B.walked 𝓛 T hs c 𝓜 𝓡 ((λ κs x f vs fits. B.gone_within 𝓛), tt) _ _
     (P.Array.into_unwritten_output.Code.unfolded 𝓤 𝓛.H 𝓜 𝓡 wired (X, (N, tt))) (λ y are.
     let (κs, qs, bounds, a, passed) = y.0 in let Ts = W.types_at T.signature.params κs in let x = a.0 in
     let ℓ = W.named_lft 3 0 tt κs in

@@ -35,7 +35,7 @@ new_spec 𝓤 𝓛 𝓜 𝓡 wired X n L fits =
     let fn = W.inst_fn inst P.new.Code.function in let 𝓣 = B.tables 𝓤 𝓛.H 𝓜 𝓡 𝓡.env in
     let T = V.new.ended X N in let c = V.new.clauses X N 𝓛 𝓜.mem 𝓡.returns in
     let hs = B.dropped T.signature.params T.kept in
-    B.walked 𝓛 T hs c 𝓜 𝓡 ((λ κs x f vs fits. B.gone 𝓛), tt) (V.new.Key.name inst) fn
+    B.walked 𝓛 T hs c 𝓜 𝓡 ((λ κs x f vs fits. B.gone 𝓛), tt) _ _
     (P.new.Code.unfolded 𝓤 𝓛.H 𝓜 𝓡 wired (X, (N, tt))) (λ y are.
     let (κs, qs, bounds, a, passed) = y.0 in let Ts = W.types_at T.signature.params κs in let b = a.0 in
     let x = b.in_out in let xs = x.now in

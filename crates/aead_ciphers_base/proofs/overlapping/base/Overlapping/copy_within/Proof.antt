@@ -10,11 +10,9 @@ use proofs.overlapping.base.Overlapping as P
 
 pub copy_within_spec : {M : Type 1} → P.copy_within.Statement.statement M
 copy_within_spec 𝓤 𝓛 𝓜 𝓡 wired X L copy clone dict bound =
-    let R = copied 0 X in let inst = W.bounded (W.a_type ∷ []) (X, tt) (W.dcons dict W.dnil) in
-    let T = O.copy_within.ended X clone dict in let c = O.copy_within.clauses X clone dict 𝓛 𝓜.mem 𝓡.returns in
+    let R = copied 0 X in let T = O.copy_within.ended X clone dict in let c = O.copy_within.clauses X clone dict 𝓛 𝓜.mem 𝓡.returns in
     let hs = B.dropped T.signature.params T.kept in
-    B.walked 𝓛 T hs c 𝓜 𝓡 ((λ κs x f vs fits. B.gone 𝓛), tt) (O.copy_within.Key.name inst)
-    (W.inst_fn inst P.copy_within.Code.function)
+    B.walked 𝓛 T hs c 𝓜 𝓡 ((λ κs x f vs fits. B.gone 𝓛), tt) _ _
     (P.copy_within.Code.unfolded 𝓤 𝓛.H 𝓜 𝓡 wired (X, tt) dict) (λ y are.
     let (κs, qs, bounds, a, passed) = y.0 in let Ts = W.types_at T.signature.params κs in let x = a.0 in
     let Row = O.the_row (W.named_lft 2 0 tt κs) R in

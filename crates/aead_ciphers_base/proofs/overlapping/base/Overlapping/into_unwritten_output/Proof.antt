@@ -9,10 +9,9 @@ use proofs.overlapping.base.Overlapping as P
 
 pub into_unwritten_output_spec : {M : Type 1} → P.into_unwritten_output.Statement.statement M
 into_unwritten_output_spec 𝓤 𝓛 𝓜 𝓡 wired X L =
-    let R = W.param 0 X in let inst = W.layouts (W.a_type ∷ []) (X, tt) in let T = O.into_unwritten_output.ended X in
+    let R = W.param 0 X in let T = O.into_unwritten_output.ended X in
     let c = O.into_unwritten_output.clauses X 𝓛 𝓜.mem 𝓡.returns in let hs = B.dropped T.signature.params T.kept in
-    B.walked 𝓛 T hs c 𝓜 𝓡 ((λ κs x f vs fits. B.gone 𝓛), tt) (O.into_unwritten_output.Key.name inst)
-    (W.inst_fn inst P.into_unwritten_output.Code.function)
+    B.walked 𝓛 T hs c 𝓜 𝓡 ((λ κs x f vs fits. B.gone 𝓛), tt) _ _
     (P.into_unwritten_output.Code.unfolded 𝓤 𝓛.H 𝓜 𝓡 wired (X, tt)) (λ y are.
     let (κs, qs, bounds, a, passed) = y.0 in let Ts = W.types_at T.signature.params κs in let x = a.0 in
     let s = x.in_out in let xs = s.now in

@@ -21,7 +21,7 @@ new_spec 𝓤 𝓛 𝓜 𝓡 wired X L =
       W.Goes-spent_slice 𝓛 2 (0 ∷ []) tt (W.plain (λ _. R)),
       (W.Goes-dropped 𝓛 2 (W.plain (λ _. RF.the_row W.usize)) W.yes (λ κs x f. refl), tt),
     )
-    (O.new.Key.name inst) fn (P.new.Code.unfolded 𝓤 𝓛.H 𝓜 𝓡 wired (X, tt)) (λ y are.
+    _ _ (P.new.Code.unfolded 𝓤 𝓛.H 𝓜 𝓡 wired (X, tt)) (λ y are.
     let (κs, qs, bounds, a, passed) = y.0 in let Ts = W.types_at T.signature.params κs in let x = a.0 in
     let xs = x.now in let n = a.1.0.start in
     let range-is = B.range_word a.1.0 passed.1.0 are.1.0 in let long-fits = are.0.0.1.0 in

@@ -27,8 +27,7 @@ split_first_chunk_spec 𝓤 𝓛 𝓜 𝓡 wired X Y Z LX LY LZ chunk d₁ once 
     let c = C.Overlapping.split_first_chunk.clauses X Y Z chunk d₁ once d₂ d₃ d₄ 𝓛 𝓜.mem 𝓡.returns in
     B.walked 𝓛 T hs c 𝓜 𝓡
     ((λ κs x f vs fits. B.gone 𝓛), (W.Goes-dropped 𝓛 4 (W.plain (λ _. W.param 2 Z)) W.no (λ κs x f. refl), tt))
-    (C.Overlapping.split_first_chunk.Key.name inst) fn
-    (P.split_first_chunk.Code.unfolded 𝓤 𝓛.H 𝓜 𝓡 wired (X, (Y, (Z, tt))) d₁ d₂ d₃ d₄) (λ y are.
+    _ _ (P.split_first_chunk.Code.unfolded 𝓤 𝓛.H 𝓜 𝓡 wired (X, (Y, (Z, tt))) d₁ d₂ d₃ d₄) (λ y are.
     let (κs, qs, bounds, a, passed) = y.0 in let Ts = W.types_at T.signature.params κs in let b = a.0 in
     let f = a.1.0 in let xs = b.in_out.now in
     let n = chunk.chunk_len in let ℓ = W.named_lft 4 0 tt κs in let Row = C.Overlapping.the_row ℓ R in
