@@ -54,7 +54,7 @@ pub use denote.Param.{param, bounded}
 pub use Rattle.aead_ciphers_base.specs.Aes.{aes}
 pub use Rattle.aead_ciphers.proofs.Lending.{nonce_word, aad_word, tag_word, range_word}
 pub use Rattle.aead_ciphers_base.proofs.WalkLocals.{gets, alone, reborrows}
-pub use Rattle.aead_ciphers_base.proofs.Walks.{dropped, goes, learns, tell, tells, says, Words, words_vals, words_typed, slice_typed, table_of, walked, consults, ends}
+pub use Rattle.aead_ciphers_base.proofs.Walks.{at_words, dropped, goes, learns, tell, tells, says, Words, words_vals, words_typed, slice_typed, table_of, walked, consults, ends}
 pub use Rattle.aead_ciphers.proofs.LentPlaintext.{as_lent, lent_plain, length-before_tag, opened_fronts, step_fronts, step_range, after_header, stands_after, same_length}
 pub use Rattle.aead_ciphers_base.specs.Values.{aad_bytes}
 pub use Rattle.aead_ciphers.specs.Gcm.{Opened, OpenedAttached}
@@ -77,10 +77,6 @@ with_share (suc i) (suc n) q qs = (qs.0, with_share i n q qs.1)
 abbrev pub others : {n : ℕ} → List (Slot n) → List (Slot n)
 others [] = []
 others (s ∷ ss) = ss
-
--- the words that store the parameters, and the walk with them
-pub at_words {ℓ} : {A : Type 0} {B : A → Type ℓ} (words : A) → B words → (ws : A) × B ws
-at_words words walk = (words, walk)
 
 -- a buffer: the position of its lifetime, the lifetime, the share of that, and the slice
 pub record Buffer : Type 0 where

@@ -25,7 +25,7 @@ use denote.Triple.Clauses.{Clauses, Ended, Lasts, lasts, at_exit, closing}
 use denote.Triple.End.{Kepts, Fins, lasts_of}
 use denote.Triple.Entry.{alive, on_entry, Args, Vals, Res}
 use denote.Triple.Spec.{Spec, Meets, triple_of}
-use denote.Triple.Statement.{Triple}
+use denote.Triple.Statement.{Contract, Triple}
 use denote.Triple.Table.{framed}
 use denote.Triple.Walked.{Fit, has_of, Silent, AllGo, Goes-dropped, walk_of}
 use types.Kit.{step, Post, Soaks, ⋆, push, pop, ++⊢, ⊢++, cut, runs, lands, allocs, params', at_ret}
@@ -178,13 +178,16 @@ module _ {M : Type 1} {𝓤 : Ura M} (𝓛 : Logic 𝓤) where
 
   -- what a callee gave
   module _ (T : Ended) (c : Clauses 𝓤 T) where
-    abbrev pub gave : (y : (triple_of 𝓛 T.signature (closing 𝓛 T c)).Ghost) (v : Val) (r : Res T.signature y.0.0)
+    abbrev Called : Contract 𝓤
+    Called = triple_of 𝓛 T.signature (closing 𝓛 T c)
+
+    abbrev pub gave : (y : Called.Ghost) (v : Val) (r : Res T.signature y.0.0)
         (ws : Lasts T y.0.0 y.0.3) → List (Item 𝓤)
     gave y v r ws =
         raw ((c y.0.0 y.0.3).ensures y.1 r (at_exit T y.0.0 y.0.3 ws)) ∷ ‵ ((type_at T.signature.result y.0.0).own_val r (v ∷ []))
         ∷ (tokens 𝓤 T.signature.lifetimes y.0.0 y.0.1 ++ lasted 𝓤 y.0.0 T.signature.params T.kept y.0.3 ws)
 
-    module _ (y : (triple_of 𝓛 T.signature (closing 𝓛 T c)).Ghost) (v : Val) where
+    module _ (y : Called.Ghost) (v : Val) where
       abbrev answer : Res T.signature y.0.0 → Item 𝓤
       answer r = ‵ ((type_at T.signature.result y.0.0).own_val r (v ∷ []))
 
@@ -202,7 +205,7 @@ module _ {M : Type 1} {𝓤 : Ura M} (𝓛 : Logic 𝓤) where
 
       pub answers : {K : Type 0} {Γ : List (Item 𝓤)} {G : Goal 𝓤 𝓛.H} → K → Soaks G
           → ((r : Res T.signature y.0.0) (ws : Lasts T y.0.0 y.0.3) → Seq K 𝓛 (gave y v r ws ++ Γ) G)
-          → Seq K 𝓛 (raw ((triple_of 𝓛 T.signature (closing 𝓛 T c)).post y v) ∷ Γ) G
+          → Seq K 𝓛 (raw (Called.post y v) ∷ Γ) G
       answers {Γ = Γ} t soaks k =
           let A = raw (alive 𝓛 T.signature y.0.0 y.0.1) in
           use1 𝓛 (later (some (λ (r : Res T.signature y.0.0).
@@ -214,14 +217,14 @@ module _ {M : Type 1} {𝓤 : Ura M} (𝓛 : Logic 𝓤) where
     -- a call, from what the callee wants to what it gave
     pub consults : {K : Type 0} {Γ : List
         (Item 𝓤)} {E : Env 𝓤 𝓛.H} {C : Calls 𝓤 𝓛.H} {Λ : Loops 𝓤 𝓛.H} {q : Post 𝓤 𝓛.H} {f : Callee} {xs : List Opd} {d : Place} {rest : Body}
-        → K → FmC 𝓤 𝓛.H 𝓛.laws C → Triple 𝓤 (C f) (triple_of 𝓛 T.signature (closing 𝓛 T c)) → (y : (triple_of 𝓛 T.signature (closing 𝓛 T c)).Ghost)
-        → Opds K 𝓛 (raw ((triple_of 𝓛 T.signature (closing 𝓛 T c)).pre y) ∷ Γ) E xs ((triple_of 𝓛 T.signature (closing 𝓛 T c)).args y)
+        → K → FmC 𝓤 𝓛.H 𝓛.laws C → Triple 𝓤 (C f) Called → (y : Called.Ghost)
+        → Opds K 𝓛 (raw (Called.pre y) ∷ Γ) E xs (Called.args y)
         → ((v : Val) (r : Res T.signature y.0.0) (ws : Lasts T y.0.0 y.0.3) → Seq K 𝓛 (gave y v r ws ++ Γ) (lands C Λ E d v rest q))
         → Seq K 𝓛 ((entered 𝓤 T.signature y.0.0 y.0.1 y.0.3 y.0.4 ++ (raw ((c y.0.0 y.0.3).requires y.1) ∷ []))
         ++ Γ) (runs C Λ E (seq (call f xs d) rest) q)
     consults t table met y operands k =
         readies t T.signature (closing 𝓛 T c) y $
-        calls_at t table (triple_of 𝓛 T.signature (closing 𝓛 T c)) met y operands (λ v. answers y v t tt (k v))
+        calls_at t table Called met y operands (λ v. answers y v t tt (k v))
 
   -- the walk's end
   module _ (T : Ended) (hs : Stays T.signature.params T.kept) (c : Clauses 𝓤 T) (y : (walk_of 𝓛 T hs c).Ghost) (v : Val) (r : Res T.signature y.0.0)
