@@ -1,11 +1,12 @@
 -- Blocks as four words of 32 bits, and the lanes of vectors of them.
-use Rattle.std.proofs.Common.{◌≡◌, ℕ, ◌+◌, ◌-◌, ◌*◌, ◌/◌, ◌%◌, ◌^◌, ◌<◌, Bool, true, false, List, [], ◌∷◌, length, replicate, slice_index, set, length-set, get_or-set_same, get_or-set_other, ◌≢◌, fold, Fits, w32, bit_and, bit_or, bit_xor, refl, sym, ap, ap₂, ◌∙◌, arith, if◌then◌else◌, ◌==◌}
+use Rattle.std.proofs
+use proofs.Common.{◌≡◌, ℕ, ◌+◌, ◌-◌, ◌*◌, ◌/◌, ◌%◌, ◌^◌, ◌<◌, Bool, true, false, List, [], ◌∷◌, length, replicate, slice_index, set, length-set, get_or-set_same, get_or-set_other, ◌≢◌, fold, Fits, w32, bit_and, bit_or, bit_xor, refl, sym, ap, ap₂, ◌∙◌, arith, if◌then◌else◌, ◌==◌}
 use Rattle.std.specs
 use specs.Simd.Lanes.{Each1, fold_l, zip2}
 use specs.Int.Bits.{xor_zero_r}
-use Rattle.std.proofs.Math.Dec.{lit<}
-use Rattle.std.proofs.lemmas.Nat.{or_shifted, xor_block, xor_lt}
-use Rattle.std.proofs.lemmas.Simd.{Each1-get_or, get_or-zip2, get_or-replicate, length-zip2}
+use proofs.Math.Dec.{lit<}
+use proofs.lemmas.Nat.{or_shifted, xor_block, xor_lt}
+use proofs.lemmas.Simd.{Each1-get_or, get_or-zip2, get_or-replicate, length-zip2}
 use Rattle.aead_ciphers.specs.Multiples.{entry, number_of_words}
 use Rattle.aead_ciphers.proofs.GhashBits.{mask, masked}
 pub use Rattle.aead_ciphers_base.proofs.PlaneBlocks.{by_four}

@@ -2,7 +2,8 @@
 --     Answer, answer_Lawful      the type of an answer, and its law
 --     Out, out_Lawful      the type of a lent result, and its law
 --     Own, as_own, as_slice      what a `&mut [u8]` owns, as `sl_relend` has it;  to it and back
-use Rattle.aead_ciphers_base.proofs.WalkNames.{Ura, Val, ent, Fml, Lft, GName, Logic, sem, ‵, ◌$◌, ◌∵◌, !, qed, drop, fsplit, fsplit3, fjoin, done, rewrite, usize, Is, RattleType, NamedLft, MutSlice, Room, slice_val}
+use Rattle.aead_ciphers_base.proofs
+use proofs.WalkNames.{Ura, Val, ent, Fml, Lft, GName, Logic, sem, ‵, ◌$◌, ◌∵◌, !, qed, drop, fsplit, fsplit3, fjoin, done, rewrite, usize, Is, RattleType, NamedLft, MutSlice, Room, slice_val}
 use Rattle.std.proofs.Common.{◌≡◌, refl, sym, subst, List, [], ◌∷◌, ℕ, length}
 use mir.Syntax.{Lifetime, erased}
 use denote.Builtin.{u8}
@@ -12,21 +13,22 @@ use denote.Slice.{room, shr_slice_at}
 use denote.Enum.Declared.{shape}
 use denote.Enum.Enum.{Enum, Enum-Lawful}
 use denote.Struct.Recorded.{recorded_lawful}
-use Rattle.aead_ciphers_base.proofs.Walks.{Word, lone, one}
+use proofs.Walks.{Word, lone, one}
 pub use Rattle.aead_ciphers_base.proofs.ViewWalks.{usize_laws}
 use borrow.Table.Owned as owned-types
 use Rattle.std.specs.contracts.result.Result as RS
 use Rattle.std.proofs.result.Result.TheLaws as RL
 use Rattle.std.specs.contracts.ops.RangeFrom as RF
-use Rattle.aead_ciphers_base.specs.contracts.error.Unspecified as US
-use Rattle.aead_ciphers_base.proofs.error.Unspecified.TheLaws as UL
+use Rattle.aead_ciphers_base.specs
+use specs.contracts.error.Unspecified as US
+use proofs.error.Unspecified.TheLaws as UL
 use Rattle.std.proofs.ops.RangeFrom.TheLaws as RFL
-use Rattle.aead_ciphers_base.specs.contracts.values.Aad as D
-use Rattle.aead_ciphers_base.proofs.values.Aad.TheLaws as DL
-use Rattle.aead_ciphers_base.specs.contracts.values.Nonce as N
-use Rattle.aead_ciphers_base.proofs.values.Nonce.TheLaws as NL
-use Rattle.aead_ciphers_base.specs.contracts.values.Tag as G
-use Rattle.aead_ciphers_base.proofs.values.Tag.TheLaws as GL
+use specs.contracts.values.Aad as D
+use proofs.values.Aad.TheLaws as DL
+use specs.contracts.values.Nonce as N
+use proofs.values.Nonce.TheLaws as NL
+use specs.contracts.values.Tag as G
+use proofs.values.Tag.TheLaws as GL
 
 abbrev pub Answer : RattleType
 Answer = RS.the_row usize US.the_row

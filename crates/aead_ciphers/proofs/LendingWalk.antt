@@ -59,19 +59,14 @@ pub use Rattle.aead_ciphers.proofs.LentPlaintext.{as_lent, lent_plain, length-be
 pub use Rattle.aead_ciphers_base.specs.Values.{aad_bytes}
 pub use Rattle.aead_ciphers.specs.Gcm.{Opened, OpenedAttached}
 pub use Rattle.std.proofs.Common.{arith, lit<, length-drop}
-use Rattle.aead_ciphers.specs.contracts.aead.lend.lend_plaintext as L
+use specs.contracts.aead.lend.lend_plaintext as L
 pub use Rattle.aead_ciphers.proofs.aead.lend.lend_plaintext.Met.{met as front_met}
 
--- the lifetimes, and their shares, with another at i
-abbrev pub with_lft : (i n : ℕ) → Lft → Lfts n → Lfts n
-with_lft i zero κ κs = κs
-with_lft zero (suc n) κ κs = (κ, κs.1)
-with_lft (suc i) (suc n) κ κs = (κs.0, with_lft i n κ κs.1)
-
-abbrev pub with_share : (i n : ℕ) → Share → Shares n → Shares n
-with_share i zero q qs = qs
-with_share zero (suc n) q qs = (q, qs.1)
-with_share (suc i) (suc n) q qs = (qs.0, with_share i n q qs.1)
+-- the lifetimes and their shares, with another at i, wholly owned
+abbrev pub lent_for : (i n : ℕ) → Lft → Lfts n → Shares n → Lfts n × Shares n
+lent_for i zero κ κs qs = (κs, qs)
+lent_for zero (suc n) κ κs qs = ((κ, κs.1), (full_share, qs.1))
+lent_for (suc i) (suc n) κ κs qs = let rest = lent_for i n κ κs.1 qs.1 in ((κs.0, rest.0), (qs.0, rest.1))
 
 -- the parameters but the first
 abbrev pub others : {n : ℕ} → List (Slot n) → List (Slot n)
@@ -159,22 +154,7 @@ module _ {M : Type 1} {𝓤 : Ura M} (𝓛 : Logic 𝓤) where
 
       module _ (h m : ℕ) (v : Val) (u : Answer.Denot) (ys : List ℕ) where
         abbrev pub lend : Lend.Ghost
-        lend = (
-          (
-            (B.lft, tt),
-            (B.share, tt),
-            tt,
-            (record B.arg { now = ys }, (h, (u, tt))),
-            (
-              word B,
-              (
-                vint w64 h ∷ [],
-                (v ∷ [], tt),
-              ),
-            ),
-          ),
-          (B.arg.now, m),
-        )
+        lend = (((B.lft, tt), (B.share, tt), tt, (record B.arg { now = ys }, (h, (u, tt))), (word B, (vint w64 h ∷ [], (v ∷ [], tt)))), (B.arg.now, m))
 
         pub regains : {K : Type 0} {Γ : List (Item 𝓤)} {G : Goal 𝓤 𝓛.H} → K → Soaks G → (α : ℕ) (δ : GName) → h < 2 ^ 64
             → Stands h m B.arg.now ys u → (Typed Answer.mir (v ∷ []) → Seq K 𝓛 (raw (Lend.pre lend) ∷ Γ) G)

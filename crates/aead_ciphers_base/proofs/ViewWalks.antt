@@ -10,8 +10,9 @@
 --     ok_of, err_of         what an `Ok` and an `Err` own
 --     let_go, kept_in_ok, kept_at_err      a slice that an answer holds, or that is let go
 --     accepts, refuses      the answer of a call that makes a buffer of a slice, and its clauses
-use Rattle.aead_ciphers_base.proofs.WalkNames.{◌≡◌, refl, sym, ap, ◌∙◌, List, [], ◌∷◌, ◌++◌, ℕ, ◌^◌, ◌<◌, length, take, drop_list, Ura, named, w64, Val, vint, vstruct, vcons, vnil, of_list, SProp, ent, sep, Fml, Lft, GName, ftrue, fsep, feq, fres, fobs, Logic, sem, Item, Seq, Step, Goal, ‵, raw, ◌$◌, ◌∵◌, !, qed, by, move, keep, drop, fsplit, fsplit3, fjoin, fpick, fpack, feq_l, feq_i, use1, use2, rewrite, done, updating, now, each, assume, fact, usize, follows, follows_both, Is, shows, param, number, RattleType, Valss, owns, NamedLft, MutBor, MutSlice, Room, slice_val, nothing, peeks, only, within, shape, Ok, Err, IsOk, IfOk, IfErr, ◌↔◌}
-use Rattle.aead_ciphers_base.proofs.Walks.{slice_typed, tells, tell, says}
+use Rattle.aead_ciphers_base.proofs
+use proofs.WalkNames.{◌≡◌, refl, sym, ap, ◌∙◌, List, [], ◌∷◌, ◌++◌, ℕ, ◌^◌, ◌<◌, length, take, drop_list, Ura, named, w64, Val, vint, vstruct, vcons, vnil, of_list, SProp, ent, sep, Fml, Lft, GName, ftrue, fsep, feq, fres, fobs, Logic, sem, Item, Seq, Step, Goal, ‵, raw, ◌$◌, ◌∵◌, !, qed, by, move, keep, drop, fsplit, fsplit3, fjoin, fpick, fpack, feq_l, feq_i, use1, use2, rewrite, done, updating, now, each, assume, fact, usize, follows, follows_both, Is, shows, param, number, RattleType, Valss, owns, NamedLft, MutBor, MutSlice, Room, slice_val, nothing, peeks, only, within, shape, Ok, Err, IsOk, IfOk, IfErr, ◌↔◌}
+use proofs.Walks.{slice_typed, tells, tell, says}
 use mir.Val.{WT}
 use base.Stored.{Gv}
 use base.Logic.{wand, all_e, apply∗}
@@ -35,13 +36,14 @@ use denote.Struct.Struct.{Shape, Struct}
 pub use denote.Struct.Tuple.{Tuple, tuple_type}
 use Rattle.std.proofs.Math.Seq.{take-append_seam, drop-append_seam}
 use Rattle.std.specs.declared.ops.RangeFrom.{RangeFrom}
-use Rattle.aead_ciphers_base.specs.Overlapping.{KeptIfErr}
-use Rattle.aead_ciphers_base.specs.declared.overlapping.base.Overlapping.{Overlapping}
+use Rattle.aead_ciphers_base.specs
+use specs.Overlapping.{KeptIfErr}
+use specs.declared.overlapping.base.Overlapping.{Overlapping}
 pub use Rattle.aead_ciphers_base.specs.declared.polyfill.slice.chunks_mut.AsChunksMut.{AsChunksMut}
 use Rattle.std.specs.contracts.result.Result as RS
 use Rattle.std.specs.contracts.ops.RangeFrom as RF
-use Rattle.aead_ciphers_base.specs.contracts.overlapping.base.Overlapping as O
-use Rattle.aead_ciphers_base.specs.contracts.polyfill.slice.chunks_mut.AsChunksMut as A
+use specs.contracts.overlapping.base.Overlapping as O
+use specs.contracts.polyfill.slice.chunks_mut.AsChunksMut as A
 
 -- the laws of numbers, as a row's laws take them
 abbrev pub usize_laws : Laws usize

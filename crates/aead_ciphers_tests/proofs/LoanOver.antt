@@ -6,7 +6,7 @@
 --     concludes, unchanged     what is said of the buffer at the return is said of it once the loan is over
 --     let_go                   the result is let go: the buffer's last value
 --     loan_ends                the same, and the buffer is back
-use Rattle.aead_ciphers_base.proofs.WalkNames.{Ura, named, Val, of_list, ent, sep, ex, coded_list, Fml, Lft, GName, Share, flft, fres, Logic, sem, Item, Seq, Goal, ‵, ◌⊛◌, some, later, pick, split, use3, ◌$◌, ◌∵◌, !, qed, move, keep, drop, use1, use2, await, fsplit, fpick, feq_l, rewrite, updating, now, show, check, done, RattleType, MutBor, Is, shows, MutSlice, Room, slice_val, mut_slice_vals, mut_slice_Lawful, peeks, drop_list}
+use Rattle.aead_ciphers_base.proofs.WalkNames.{SProp, Ura, named, Val, of_list, ent, sep, ex, coded_list, Fml, Lft, GName, Share, flft, fres, Logic, sem, Item, Seq, Goal, ‵, ◌⊛◌, some, later, pick, split, use3, ◌$◌, ◌∵◌, !, qed, move, keep, drop, use1, use2, await, fsplit, fpick, feq_l, rewrite, updating, now, show, check, done, RattleType, MutBor, Is, shows, MutSlice, Room, slice_val, mut_slice_vals, mut_slice_Lawful, peeks, drop_list}
 use Rattle.std.proofs.Common.{◌≡◌, refl, sym, ap, subst, ◌∙◌, List, [], ◌∷◌, ◌++◌, ℕ, ◌-◌, length, take, arith, length-drop, length-take-le, Bool, true, false, Result, Ok, Err, is_ok, IfOk}
 use mir.Syntax.{erased}
 use base.Logic.{guard}
@@ -84,33 +84,31 @@ module _ {M : Type 1} {𝓤 : Ura M} (𝓛 : Logic 𝓤) (κ : Lft) (s : MutBor 
   abbrev Owed : (Out Slice).Denot → Fml
   Owed r = LendsFront s r n
 
+  abbrev Last : List ℕ → Fml
+  Last xs = fres s.ghost_name ((coded_list u8.coded).code xs)
+
+  abbrev End : (Out Slice).Denot → List Val → SProp 𝓤
+  End r us = guard 𝓤 (v ∷ [] ≡ live (tag r) (of_list us) ∷ []) (sem 𝓛 (finally u8 s.ghost_name (after s.now n r)))
+
   pub let_go : (r : (Out Slice).Denot) → ent 𝓤 (sep 𝓤 (sem 𝓛 (Owed r)) (sem 𝓛 ((Out Slice).own_val r (v ∷ []))))
-      (H.⇛ (ex 𝓤 (λ (us : List Val). guard 𝓤 (v ∷ [] ≡ live (tag r) (of_list us) ∷ []) (sem 𝓛
-      (finally u8 s.ghost_name (after s.now n r))))))
+      (H.⇛ (ex 𝓤 (End r)))
   unfolding follows_by
   let_go (Ok front) =
-      let End = λ (us : List Val). guard 𝓤 (v ∷ [] ≡ live 0 (of_list us) ∷ []) (sem 𝓛 (finally u8 s.ghost_name
-      (front.now ++ drop_list n s.now))) in
+      let last = front.now ++ drop_list n s.now in
       qed 𝓛 (‵ (Owed (Ok front)) ∷ ‵ ((Out Slice).own_val (Ok front) (v ∷ [])) ∷ []) ∵ updating ! $ move ! (1 ∷ []) $
       fpick ! (λ us. fsplit ! $ feq_l ! (λ told. fpick ! (λ vss. fsplit ! $ drop ! $ fsplit ! $ move ! (0 ∷ 2 ∷ []) $
-      use2 𝓛 (later (given (vss.0 ≡ mut_slice_vals front) (‵ (fres s.ghost_name ((coded_list u8.coded).code
-      (front.now ++ drop_list n s.now))))))
+      use2 𝓛 (later (given (vss.0 ≡ mut_slice_vals front) (‵ (Last last))))
       (slice_given_up 𝓛 (Array u8 0) u8 (λ w. w ++ drop_list n s.now) erased κ s.ghost_name front vss.0) $
       await ! tt $ learn ! (λ _.
-      rewrite ! 0 (λ (l : List ℕ). ‵ (fres s.ghost_name ((coded_list u8.coded).code l))) (sym (heres_id u8
-      (front.now ++ drop_list n s.now))) refl $
-      use1 𝓛 (‵ (finally u8 s.ghost_name (front.now ++ drop_list n s.now))) (res-finally 𝓛 erased κ u8 s.ghost_name
-      (front.now ++ drop_list n s.now)) $
-      keep ! (0 ∷ []) $ now ! $ show ! End us $ check ! told $ done !))))
+      rewrite ! 0 (λ l. ‵ (Last l)) (sym (heres_id u8 last)) refl $
+      use1 𝓛 (‵ (finally u8 s.ghost_name last)) (res-finally 𝓛 erased κ u8 s.ghost_name last) $
+      keep ! (0 ∷ []) $ now ! $ show ! (End (Ok front)) us $ check ! told $ done !))))
   let_go (Err e) =
-      let End = λ (us : List Val). guard 𝓤 (v ∷ [] ≡ live 1 (of_list us) ∷ []) (sem 𝓛
-      (finally u8 s.ghost_name s.now)) in
       qed 𝓛 (‵ (Owed (Err e)) ∷ ‵ ((Out Slice).own_val (Err e) (v ∷ [])) ∷ []) ∵ updating ! $ move ! (1 ∷ []) $
       fpick ! (λ us. fsplit ! $ feq_l ! (λ told. drop ! $
-      rewrite ! 0 (λ (l : List ℕ). ‵ (fres s.ghost_name ((coded_list u8.coded).code l))) (sym
-      (heres_id u8 s.now)) refl $
+      rewrite ! 0 (λ l. ‵ (Last l)) (sym (heres_id u8 s.now)) refl $
       use1 𝓛 (‵ (finally u8 s.ghost_name s.now)) (res-finally 𝓛 erased κ u8 s.ghost_name s.now) $
-      keep ! (0 ∷ []) $ now ! $ show ! End us $ check ! told $ done !))
+      keep ! (0 ∷ []) $ now ! $ show ! (End (Err e)) us $ check ! told $ done !))
 
 module _ {M : Type 1} {𝓤 : Ura M} (𝓛 : Logic 𝓤) (B : Buffer) (n : ℕ) where
   -- the buffer was lent for the lifetime α under the name δ, and the call answered r

@@ -1,13 +1,14 @@
 -- Pieces of bytes, and lists joined from pieces.
-use Rattle.std.proofs.Common.{◌≡◌, ℕ, zero, suc, inl, inr, ◌+◌, ◌-◌, ◌*◌, ◌/◌, ◌<◌, ◌≤◌, List, [], ◌∷◌, ◌++◌, length, take, drop, sym, ap, subst, ◌∙◌, arith, append_assoc, append-nil, ◌==◌, eq-eqb, ne_eqb, drop-drop, drop_at, length-append, length-drop, length-take-le, take_all, take_at, length-take}
+use Rattle.std.proofs
+use proofs.Common.{◌≡◌, ℕ, zero, suc, inl, inr, ◌+◌, ◌-◌, ◌*◌, ◌/◌, ◌<◌, ◌≤◌, List, [], ◌∷◌, ◌++◌, length, take, drop, sym, ap, subst, ◌∙◌, arith, append_assoc, append-nil, ◌==◌, eq-eqb, ne_eqb, drop-drop, drop_at, length-append, length-drop, length-take-le, take_all, take_at, length-take}
 use Rattle.std.specs.List.{concat}
-use Rattle.std.proofs.lemmas
+use proofs.lemmas
 use lemmas.Bool.{cases_lt}
 use lemmas.List.{append_cancel_left}
 use lemmas.List.Folds.{concat-append}
 use lemmas.List.FromFn.{map-range_with_len_more}
 use lemmas.Nat.{div-mul-add, div_below, le-div}
-use Rattle.std.proofs.Math.Seq.{take-add}
+use proofs.Math.Seq.{take-add}
 use Rattle.aead_ciphers_base.specs.Bytes.{each_below}
 use Rattle.aead_ciphers_base.proofs.EachLemmas.{each-append}
 use Rattle.sealed_file.specs.Format.{piece, last_piece}

@@ -1,6 +1,7 @@
 use Rattle.std.proofs.Common.{refl, rules}
-use Rattle.records.proofs.RecordLemmas.{whole_from}
-use Rattle.records.proofs.header.header_in.Goals as goal
+use Rattle.records.proofs
+use proofs.RecordLemmas.{whole_from}
+use proofs.header.header_in.Goals as goal
 
 pub returns-clause-accepted : goal.returns-clause-accepted
 returns-clause-accepted c = (

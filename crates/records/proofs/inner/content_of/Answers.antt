@@ -1,6 +1,7 @@
 use Rattle.std.proofs.Common.{◌≡◌, ◌<◌, ◌++◌, ◌∷◌, length, get_or, replicate, take, ap, ◌∙◌, sym, rules, ◌-◌, ◌+◌, arith}
-use Rattle.records.proofs.InnerLemmas.{zeros_behind}
-use Rattle.records.proofs.inner.content_of.Goals as goal
+use Rattle.records.proofs
+use proofs.InnerLemmas.{zeros_behind}
+use proofs.inner.content_of.Goals as goal
 
 pub returns-else-content_type-eq0-clause-found : goal.returns-else-content_type-eq0-clause-found
 returns-else-content_type-eq0-clause-found c =

@@ -29,15 +29,16 @@ use denote.Triple.Statement.{Contract}
 use denote.Triple.Walked.{walk_of}
 use Rattle.std.proofs.raw_atomic.Walks.{proved}
 use Rattle.aead_ciphers.proofs.Lending.{Answer, answer_Lawful, Out}
-use Rattle.aead_ciphers.specs.Lending.{LendsAfter, Stands}
+use Rattle.aead_ciphers.specs
+use specs.Lending.{LendsAfter, Stands}
 use denote.Enum.Laws as EL
 use denote.Struct.Declared as Declared
 use Rattle.std.proofs.result.Result.TheLaws as RL
 use Rattle.std.specs.contracts.result.Result as RS
-use Rattle.aead_ciphers_base.proofs.error.Unspecified.TheLaws as UL
+use proofs.error.Unspecified.TheLaws as UL
 use Rattle.aead_ciphers_base.specs.contracts.error.Unspecified as US
 use Rattle.aead_ciphers.proofs.aead.lend.lend_plaintext as P
-use Rattle.aead_ciphers.specs.contracts.aead.lend.lend_plaintext as F
+use specs.contracts.aead.lend.lend_plaintext as F
 
 abbrev laws : EL.Laws (RS.the_type usize US.the_row)
 laws = RL.the_laws usize US.the_row usize_laws UL.the_row_laws usize_told UL.the_told

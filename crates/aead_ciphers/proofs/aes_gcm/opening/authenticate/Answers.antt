@@ -1,7 +1,8 @@
 use Rattle.std.proofs.Common.{◌≡◌, ◌∙◌, false, is_ok, sym, refl, rules}
 use Rattle.aead_ciphers_base.specs.Values.{aad_bytes}
-use Rattle.aead_ciphers.proofs.RunningHash.{tag_found}
-use Rattle.aead_ciphers.proofs.aes_gcm.opening.authenticate.Goals as goal
+use Rattle.aead_ciphers.proofs
+use proofs.RunningHash.{tag_found}
+use proofs.aes_gcm.opening.authenticate.Goals as goal
 
 pub returns-in_err-verify_slices_are_equal-clause-accepted : goal.returns-in_err-verify_slices_are_equal-clause-accepted
 returns-in_err-verify_slices_are_equal-clause-accepted g c =

@@ -1,8 +1,9 @@
 use Rattle.std.proofs.Common.{true, false, is_ok, arith, rules, ◌∙◌, ◌≡◌, ◌↔◌, sym, refl, ap, ◌++◌, length, drop, length-drop, subst}
 use Rattle.aead_ciphers_base.specs.Values.{aad_bytes}
 use Rattle.aead_ciphers.specs.Gcm.{Fits, gcm_decrypted, gcm_tag}
-use Rattle.aead_ciphers.proofs.RunningHash.{to_end}
-use Rattle.aead_ciphers.proofs.aes_gcm.opening.open_with.Goals as goal
+use Rattle.aead_ciphers.proofs
+use proofs.RunningHash.{to_end}
+use proofs.aes_gcm.opening.open_with.Goals as goal
 
 pub returns-in_err-counter-clause-opened : goal.returns-in_err-counter-clause-opened
 returns-in_err-counter-clause-opened g c =

@@ -2,8 +2,9 @@ use Rattle.std.proofs.Common.{◌∙◌, sym, subst, ◌++◌, ◌∷◌, []}
 use Rattle.aead_ciphers.specs
 use specs.HashOf.{IsHashOf}
 use specs.Multiples.{entry}
-use Rattle.aead_ciphers.proofs.RunningHash.{hash_one}
-use Rattle.aead_ciphers.proofs.gcm.KeyRefUpdateBlock.update_block.Goals as goal
+use Rattle.aead_ciphers.proofs
+use proofs.RunningHash.{hash_one}
+use proofs.gcm.KeyRefUpdateBlock.update_block.Goals as goal
 
 pub returns-clause-hashed : goal.returns-clause-hashed
 returns-clause-hashed c = λ done at.

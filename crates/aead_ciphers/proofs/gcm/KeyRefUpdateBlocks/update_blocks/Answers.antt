@@ -1,8 +1,9 @@
 use Rattle.std.proofs.Common.{length, ap, refl, arith}
 use Rattle.aead_ciphers_base.proofs.BlocksLemmas.{length_blocks}
 use Rattle.aead_ciphers.specs.Multiples.{entry}
-use Rattle.aead_ciphers.proofs.RunningHash.{hash_one, front_more}
-use Rattle.aead_ciphers.proofs.gcm.KeyRefUpdateBlocks.update_blocks.Goals as goal
+use Rattle.aead_ciphers.proofs
+use proofs.RunningHash.{hash_one, front_more}
+use proofs.gcm.KeyRefUpdateBlocks.update_blocks.Goals as goal
 
 pub add_product-requires : goal.add_product-requires
 add_product-requires c =

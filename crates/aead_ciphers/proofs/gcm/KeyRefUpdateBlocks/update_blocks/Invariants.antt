@@ -2,8 +2,9 @@ use Rattle.std.proofs.Common.{◌≡◌, ℕ, ◌+◌, List, ◌++◌, length}
 use Rattle.std.specs.Int.{to_be_bytes, w128}
 use Rattle.aead_ciphers_base.specs.Blocks.{blocks}
 use Rattle.aead_ciphers.specs.HashOf.{IsHashOf}
-use Rattle.aead_ciphers.proofs.RunningHash.{HashedFront}
-use Rattle.aead_ciphers.proofs.gcm.KeyRefUpdateBlocks.update_blocks.Given as goal
+use Rattle.aead_ciphers.proofs
+use proofs.RunningHash.{HashedFront}
+use proofs.gcm.KeyRefUpdateBlocks.update_blocks.Given as goal
 
 abbrev pub invariant-loop-block : goal.invariant-loop-block
 invariant-loop-block l = record {

@@ -4,7 +4,7 @@ use Rattle.aead_ciphers.specs.Multiples.{entry, number_of_words}
 use Rattle.aead_ciphers.proofs
 use proofs.BlockLanes.{AllSmall, by_four, entry_is, lane, small-lane, number-lanes, words_chosen}
 use proofs.SubkeyMultiples.{IsStretch, stretch_start, stretch_next, bits_next, product_end, raised_of-block}
-use Rattle.aead_ciphers.proofs.gcm.product.product.Goals as goal
+use proofs.gcm.product.product.Goals as goal
 
 pub loop-i-init : goal.loop-i-init
 loop-i-init c =

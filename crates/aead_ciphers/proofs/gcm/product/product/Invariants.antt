@@ -3,7 +3,7 @@ use Rattle.aead_ciphers.specs.Multiples.{entry, number_of_words}
 use Rattle.aead_ciphers.proofs
 use proofs.BlockLanes.{lane}
 use proofs.SubkeyMultiples.{IsStretch}
-use Rattle.aead_ciphers.proofs.gcm.product.product.Given as goal
+use proofs.gcm.product.product.Given as goal
 
 abbrev pub invariant-loop-i : goal.invariant-loop-i
 invariant-loop-i l = record {

@@ -3,7 +3,7 @@ use Rattle.aead_ciphers.specs.Multiples.{entry}
 use Rattle.aead_ciphers.proofs
 use proofs.BlockLanes.{place, length-written, entry-written, entry-written_other, number-words}
 use proofs.SubkeyMultiples.{IsMultiple, raised_next, multiples_more, first_multiple, block_of-multiple}
-use Rattle.aead_ciphers.proofs.gcm.product.write_multiples.Goals as goal
+use proofs.gcm.product.write_multiples.Goals as goal
 
 pub loop-k-preserved : goal.loop-k-preserved
 loop-k-preserved c =

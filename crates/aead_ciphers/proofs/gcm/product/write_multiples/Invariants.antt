@@ -1,7 +1,8 @@
 use Rattle.std.proofs.Common.{◌≡◌, ◌<◌, ℕ, length}
 use Rattle.aead_ciphers.specs.Multiples.{entry}
-use Rattle.aead_ciphers.proofs.SubkeyMultiples.{IsMultiple, IsRaised}
-use Rattle.aead_ciphers.proofs.gcm.product.write_multiples.Given as goal
+use Rattle.aead_ciphers.proofs
+use proofs.SubkeyMultiples.{IsMultiple, IsRaised}
+use proofs.gcm.product.write_multiples.Given as goal
 
 abbrev pub invariant-loop-k : goal.invariant-loop-k
 invariant-loop-k l = record {

@@ -6,10 +6,10 @@ use specs.Packet.{OpenedPacket}
 use Rattle.aead_ciphers.proofs
 use proofs.LendingWalk as W
 use proofs.LendingWalk.{refl, ◌-◌, [], ◌∷◌, ◌$◌, !, move, length}
-use Rattle.aead_ciphers.proofs.aead.less_safe_key.LessSafeKey.open_packet_in_place_after_header.Met.{met}
-use Rattle.aead_ciphers.specs.contracts.aead.less_safe_key.LessSafeKey.open_packet_in_place as F
-use Rattle.aead_ciphers.specs.contracts.aead.less_safe_key.LessSafeKey.open_packet_in_place_after_header as C
-use Rattle.aead_ciphers.proofs.aead.less_safe_key.LessSafeKey.open_packet_in_place as P
+use proofs.aead.less_safe_key.LessSafeKey.open_packet_in_place_after_header.Met.{met}
+use specs.contracts.aead.less_safe_key.LessSafeKey.open_packet_in_place as F
+use specs.contracts.aead.less_safe_key.LessSafeKey.open_packet_in_place_after_header as C
+use proofs.aead.less_safe_key.LessSafeKey.open_packet_in_place as P
 
 pub open_packet_in_place_spec : {M : Type 1} → P.Statement.statement M
 open_packet_in_place_spec 𝓤 𝓛 𝓜 𝓡 wired =
@@ -26,8 +26,7 @@ open_packet_in_place_spec 𝓤 𝓛 𝓜 𝓡 wired =
     in let vals = W.words_vals Ts vs words in W.at_words words (move ! (4 ∷ 1 ∷ []) $
     W.alloc_all ! (λ l. W.pass_all ! refl (W.words_typed Ts vs words) $
     W.reborrows ! packet.ref_ptr (length old) refl refl (tt, tt) (W.typed b) $
-    W.relends 𝓛 b ! tt (λ α δ. let κs-lent = W.with_lft 1 2 (α ∷ []) κs in
-    let qs-lent = W.with_share 1 2 W.full_share qs in
+    W.relends 𝓛 b ! tt (λ α δ. let (κs-lent, qs-lent) = W.lent_for 1 2 (α ∷ []) κs qs in
     -- [the packet and its lifetime's token; what is kept; a token; self, nonce, the header's length; the premise]
     move ! (3 ∷ 1 ∷ 4 ∷ 5 ∷ 0 ∷ 6 ∷ 7 ∷ []) $ W.consults 𝓛 C.ended (C.clauses 𝓛 𝓜.mem 𝓡.returns) ! (W.table_of 𝓛 𝓜 𝓡)
     (met 𝓤 𝓛 𝓜 𝓡

@@ -2,10 +2,11 @@
 use Rattle.aead_ciphers.proofs
 use proofs.LendingWalk as W
 use proofs.LendingWalk.{refl, ◌-◌, [], ◌∷◌, ◌$◌, !, move}
-use Rattle.aead_ciphers.proofs.aead.less_safe_key.LessSafeKey.open_within_to_front.Met.{met}
-use Rattle.aead_ciphers.specs.contracts.aead.less_safe_key.LessSafeKey.open_within as F
-use Rattle.aead_ciphers.specs.contracts.aead.less_safe_key.LessSafeKey.open_within_to_front as C
-use Rattle.aead_ciphers.proofs.aead.less_safe_key.LessSafeKey.open_within as P
+use proofs.aead.less_safe_key.LessSafeKey.open_within_to_front.Met.{met}
+use Rattle.aead_ciphers.specs
+use specs.contracts.aead.less_safe_key.LessSafeKey.open_within as F
+use specs.contracts.aead.less_safe_key.LessSafeKey.open_within_to_front as C
+use proofs.aead.less_safe_key.LessSafeKey.open_within as P
 
 pub open_within_spec : {M : Type 1} → P.Statement.statement M
 open_within_spec 𝓤 𝓛 𝓜 𝓡 wired =
@@ -25,8 +26,7 @@ open_within_spec 𝓤 𝓛 𝓜 𝓡 wired =
     W.alloc_all ! (λ l. W.pass_all ! refl (W.words_typed Ts vs words) $
     W.sets ! (W.of_opd ! (W.get ! refl)) refl words.1.1.0.2 $
     W.reborrows ! in_out.ref_ptr (W.length old) refl refl (tt, tt) (W.typed b) $
-    W.relends 𝓛 b ! tt (λ α δ. let κs-lent = W.with_lft 2 3 (α ∷ []) κs in
-    let qs-lent = W.with_share 2 3 W.full_share qs in
+    W.relends 𝓛 b ! tt (λ α δ. let (κs-lent, qs-lent) = W.lent_for 2 3 (α ∷ []) κs qs in
     -- [in_out and its lifetime's token; what is kept; two tokens; self, nonce, aad, range; the premise]
     move ! (3 ∷ 4 ∷ 1 ∷ 5 ∷ 6 ∷ 7 ∷ 0 ∷ 8 ∷ 9 ∷ []) $
     W.consults 𝓛 C.ended (C.clauses 𝓛 𝓜.mem 𝓡.returns) ! (W.table_of 𝓛 𝓜 𝓡) (met 𝓤 𝓛 𝓜 𝓡

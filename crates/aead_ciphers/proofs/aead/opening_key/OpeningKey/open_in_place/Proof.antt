@@ -2,9 +2,9 @@
 use Rattle.aead_ciphers.proofs
 use proofs.LendingWalk as W
 use proofs.LendingWalk.{refl, ◌-◌, [], ◌∷◌, ◌$◌, !, move, learns}
-use Rattle.aead_ciphers.proofs.aead.opening_key.OpeningKey.open_in_place_to_front.Met.{met as core_met}
+use proofs.aead.opening_key.OpeningKey.open_in_place_to_front.Met.{met as core_met}
 use Rattle.aead_ciphers.specs.contracts.aead.opening_key.OpeningKey as K
-use Rattle.aead_ciphers.proofs.aead.opening_key.OpeningKey.open_in_place as P
+use proofs.aead.opening_key.OpeningKey.open_in_place as P
 
 pub open_in_place_spec : {M : Type 1} → P.Statement.statement M
 open_in_place_spec 𝓤 𝓛 𝓜 𝓡 wired N LN g d met =
@@ -25,8 +25,7 @@ open_in_place_spec 𝓤 𝓛 𝓜 𝓡 wired N LN g d met =
     W.sets ! (W.addr ! (W.through ! refl (W.stop !))) refl (tt, tt) $
     W.sets ! (W.of_opd ! (W.get ! refl)) refl words.1.0.2 $
     W.reborrows ! in_out.ref_ptr (W.length old) refl refl (tt, tt) (W.typed b) $
-    W.relends 𝓛 b ! tt (λ α δ. let κs-lent = W.with_lft 2 4 (α ∷ []) κs in
-    let qs-lent = W.with_share 2 4 W.full_share qs in
+    W.relends 𝓛 b ! tt (λ α δ. let (κs-lent, qs-lent) = W.lent_for 2 4 (α ∷ []) κs qs in
     -- [in_out and its lifetime's token; what is kept; three tokens; self, aad; the premise]
     move ! (3 ∷ 4 ∷ 1 ∷ 5 ∷ 6 ∷ 7 ∷ 0 ∷ 8 ∷ []) $
     W.consults 𝓛 (K.open_in_place_to_front.ended N g d) (K.open_in_place_to_front.clauses N g d 𝓛 𝓜.mem 𝓡.returns) !

@@ -7,9 +7,9 @@ use specs.Packet.{packet_message, OpenedPacket}
 use Rattle.aead_ciphers.proofs
 use proofs.LendingWalk as W
 use proofs.LendingWalk.{refl, ◌-◌, [], ◌∷◌, ◌$◌, !, move, length, learns, buffer}
-use Rattle.aead_ciphers.proofs.aead.opening_key.OpeningKey.open_packet_in_place_after_header.Met.{met as core_met}
-use Rattle.aead_ciphers.specs.contracts.aead.opening_key.OpeningKey as K
-use Rattle.aead_ciphers.proofs.aead.opening_key.OpeningKey.open_packet_in_place as P
+use proofs.aead.opening_key.OpeningKey.open_packet_in_place_after_header.Met.{met as core_met}
+use specs.contracts.aead.opening_key.OpeningKey as K
+use proofs.aead.opening_key.OpeningKey.open_packet_in_place as P
 
 pub open_packet_in_place_spec : {M : Type 1} → P.Statement.statement M
 open_packet_in_place_spec 𝓤 𝓛 𝓜 𝓡 wired N LN g d met =
@@ -29,8 +29,7 @@ open_packet_in_place_spec 𝓤 𝓛 𝓜 𝓡 wired N LN g d met =
     W.alloc_all ! (λ l. W.pass_all ! refl (W.words_typed Ts vs words) $
     W.sets ! (W.addr ! (W.through ! refl (W.stop !))) refl (tt, tt) $
     W.reborrows ! packet.ref_ptr (length old) refl refl (tt, tt) (W.typed b) $
-    W.relends 𝓛 b ! tt (λ α δ. let κs-lent = W.with_lft 1 3 (α ∷ []) κs in
-    let qs-lent = W.with_share 1 3 W.full_share qs in
+    W.relends 𝓛 b ! tt (λ α δ. let (κs-lent, qs-lent) = W.lent_for 1 3 (α ∷ []) κs qs in
     -- [the packet and its lifetime's token; what is kept; two tokens; self, the header's length; the premise]
     move ! (3 ∷ 1 ∷ 4 ∷ 5 ∷ 0 ∷ 6 ∷ 7 ∷ []) $ W.consults 𝓛 (K.open_packet_in_place_after_header.ended N g d)
     (K.open_packet_in_place_after_header.clauses N g d 𝓛 𝓜.mem 𝓡.returns) ! (W.table_of 𝓛 𝓜 𝓡) (core_met 𝓤 𝓛 𝓜 𝓡
