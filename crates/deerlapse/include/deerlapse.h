@@ -4,10 +4,11 @@
  * Of every call:
  *  - It returns true, or false with every byte as it came. One call differs: deerlapse_key_init fills a key whose bytes it
  *    refuses with zeros. Where a call can't be refused it returns nothing, or a number that it is asked for.
- *  - A pointer with a length has that many bytes, and may be null where the length is 0. No other pointer is null. A
- *    parameter like nonce[12] has the bytes that it says.
- *  - What a call writes overlaps nothing else that the call is given. What it only reads may overlap. A tag may
- *    stand right after its message: `tag` is then `in_out + in_out_len`.
+ *  - A pointer with a length has that many bytes, and may be null where the length is 0: the name that is called
+ *    is then that of a wrapper, as deerlapse_key_seal_nullable at the end. No other pointer is null. A parameter like
+ *    nonce[12] has the bytes that it says.
+ *  - What a call writes overlaps nothing else that the call is given, which no call notices. What it only reads may
+ *    overlap. A tag may stand right after its message: `tag` is then `in_out + in_out_len`.
  *  - It takes no memory, has no state and starts no thread. Calls in several threads at once are fine where none of
  *    them writes what another is given.
  *  - It takes at most DEERLAPSE_MAX_STACK bytes of stack, whatever the lengths.
@@ -74,7 +75,8 @@ bool deerlapse_key_init(deerlapse_key *key, const uint8_t *bytes, size_t len);
 /* Encrypts in place by AES-128-GCM or AES-256-GCM, and writes the tag.
  *
  *   key      what deerlapse_key_init filled, or zeros
- *   nonce    12 bytes, never twice under one key: a counter is safe, and a sealer (below) keeps one
+ *   nonce    12 bytes, never twice under one key: a counter is safe, and a sealer (below) keeps one. A nonce that comes
+ *            twice reveals the XOR of the two messages, and lets others forge tags under the key
  *   aad      aad_len bytes, which the tag covers and which aren't encrypted
  *   in_out   in_out_len bytes: the message, and then the ciphertext
  *   tag      16 bytes, which are written
@@ -91,7 +93,7 @@ bool deerlapse_key_seal(const deerlapse_key *key, const uint8_t nonce[DEERLAPSE_
  *   in_out            in_out_len bytes, `start` bytes of anything, the ciphertext and the tag
  *   plaintext_len     is written where the call returns true: in_out_len - 16 - start
  *
- * False: a false tag, start above in_out_len - 16, a key of zeros, or lengths that deerlapse_key_seal refuses. aad
+ * False: a false tag, fewer than 16 bytes from `start` on, a key of zeros, or lengths that deerlapse_key_seal refuses. aad
  * mustn't lie in in_out, also not before `start`: for a header in front of its ciphertext, hand in the pointer after it,
  * and start 0. */
 DEERLAPSE_ANSWERS
@@ -146,7 +148,8 @@ bool deerlapse_open(const uint8_t *key, size_t key_len, const uint8_t nonce[DEER
  * after four zeros (RFC 8446 section 5.3, RFC 9001 section 5.3). It lies in the caller's memory and is filled by
  * deerlapse_sealer_init; zeros are no sealer, as zeros are no key, and memory with anything else in it must reach no
  * other call. Never copy it, since the copy spends the same nonces again. One thread uses it at a time. It has room for
- * what a later version may keep in it. Nothing has to be freed; to wipe it, overwrite its bytes with zeros. */
+ * what a later version may keep in it. Nothing has to be freed; to wipe it, overwrite its bytes with zeros by a call that the
+ * compiler keeps, as explicit_bzero. */
 typedef struct deerlapse_sealer {
     uint64_t words[400]; /* the library's own: read none, write none */
 } deerlapse_sealer;
@@ -154,11 +157,12 @@ typedef struct deerlapse_sealer {
 /* Fills a sealer. What was in it isn't read.
  *
  *   key            key_len bytes: 16 for AES-128-GCM, 32 for AES-256-GCM
- *   iv             12 bytes
+ *   iv             12 bytes, the same at both ends: from the key exchange, or any value where the key is fresh. One key
+ *                  for each direction, since the nonces of two IVs may meet
  *   first, limit   the numbers of the messages are first, first + 1, .. up to limit, which is left out
  *
  * None of its nonces may come from another sealer, or go to a deerlapse_key_seal, under the same key: a key for one sealer
- * alone is the simplest way. How many messages a key may seal is the protocol's matter (TLS 1.3: about
+ * alone is the simplest way. The protocol says how many messages a key may seal (TLS 1.3: about
  * 24 million of full length, RFC 8446 section 5.5).
  *
  * False: key_len is neither 16 nor 32, or first is above limit. The sealer is then as it was. */
@@ -166,7 +170,7 @@ DEERLAPSE_ANSWERS
 bool deerlapse_sealer_init(deerlapse_sealer *sealer, const uint8_t *key, size_t key_len,
                            const uint8_t iv[DEERLAPSE_NONCE_LEN], uint64_t first, uint64_t limit);
 
-/* Returns the number of the next message, as for a number that is sent along. */
+/* Returns the number of the next message, as for a number that is sent along; of zeros it returns 0. */
 DEERLAPSE_ANSWERS
 uint64_t deerlapse_sealer_next(const deerlapse_sealer *sealer);
 
@@ -178,8 +182,9 @@ DEERLAPSE_ANSWERS
 bool deerlapse_sealer_seal(deerlapse_sealer *sealer, const uint8_t *aad, size_t aad_len, uint8_t *in_out,
                            size_t in_out_len, uint8_t tag[DEERLAPSE_TAG_LEN]);
 
-/* A key that opens what a sealer of the same key and IV sealed, in order or by number. All that is said of a sealer's
- * memory holds of an opener's. */
+/* A key that opens what a sealer of the same key and IV sealed, in order or by number. Zeros, other memory, wiping and
+ * the room for a later version are as for a sealer. A copy counts for itself. Opening in order is for one thread at a
+ * time; any number of threads may open by number, where none fills it or opens in order meanwhile. */
 typedef struct deerlapse_opener {
     uint64_t words[400]; /* the library's own: read none, write none */
 } deerlapse_opener;
@@ -202,7 +207,9 @@ bool deerlapse_opener_open(deerlapse_opener *opener, const uint8_t *aad, size_t 
                            size_t in_out_len, size_t start, size_t *plaintext_len);
 
 /* The same under the nonce of a number that the caller knows, as from a packet. It counts nothing and has no limit, and
- * only reads the opener. Whether a number was there before is the caller's matter: it opens a message again. */
+ * only reads the opener. It opens a message again, so the caller looks whether the number was there before.
+ *
+ * False: the opener is zeros, or deerlapse_key_open is refused. */
 DEERLAPSE_ANSWERS
 bool deerlapse_opener_open_number(const deerlapse_opener *opener, uint64_t number, const uint8_t *aad, size_t aad_len,
                                   uint8_t *in_out, size_t in_out_len, size_t start, size_t *plaintext_len);
@@ -281,7 +288,7 @@ bool deerlapse_key_open_separate_tag_nullable(const deerlapse_key *key, const ui
 }
 #define deerlapse_key_open_separate_tag deerlapse_key_open_separate_tag_nullable
 
-/* These two take no buffer as both `in` and `out`. */
+/* The library's own two take no buffer as both `in` and `out`, so the wrappers make the call in place there. */
 
 DEERLAPSE_WRAPS(1, 2, 9)
 bool deerlapse_key_seal_to_nullable(const deerlapse_key *key, const uint8_t nonce[DEERLAPSE_NONCE_LEN],

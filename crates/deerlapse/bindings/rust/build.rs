@@ -77,14 +77,20 @@ fn main() {
     // This package is crates/deerlapse/bindings/rust of the repository.
     let here = Path::new(env!("CARGO_MANIFEST_DIR"));
     let crates = here.ancestors().nth(3).unwrap_or(here);
-    let named = env::var_os("DEERLAPSE_LIB_DIR").map(PathBuf::from);
-    let elsewhere = named.or_else(folder_of_pkg_config);
+    let folder_of_env = env::var_os("DEERLAPSE_LIB_DIR").map(PathBuf::from);
+    let named = folder_of_env.is_some();
+    let elsewhere = folder_of_env.or_else(folder_of_pkg_config);
     let folder = elsewhere
         .clone()
         .unwrap_or_else(|| crates.join("deerlapse/out"));
     let archive = folder.join(ARCHIVE);
     let shown = archive.display();
     println!("cargo:rerun-if-changed={shown}");
+    if named && !archive.is_file() {
+        fail(&format!(
+            "DEERLAPSE_LIB_DIR is set, and there is no {shown}"
+        ));
+    }
     if !archive.is_file() {
         fail(&format!(
             "there is no {shown}: run `rt lib` in crates/deerlapse of the repository, which proves and makes it; or \

@@ -44,6 +44,7 @@ extern "C" {
         plaintext_len: &mut usize,
     ) -> bool;
 
+    #[cfg(feature = "alloc")]
     pub(crate) fn deerlapse_key_open_separate_tag(
         key: &Key,
         nonce: &[u8; 12],

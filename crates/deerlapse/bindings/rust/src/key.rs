@@ -6,12 +6,13 @@ use alloc::vec::Vec;
 use core::fmt;
 use core::ops::RangeFrom;
 
-/// A key of AES-128-GCM or AES-256-GCM whose calls take the nonce. That no nonce comes twice under it is the caller's
-/// matter; [`Sealer`](crate::Sealer) counts its own.
+/// A key of AES-128-GCM or AES-256-GCM whose calls take the nonce, and so less safe than a [`Sealer`](crate::Sealer),
+/// which counts its own. A nonce that comes twice under one key reveals the XOR of the two messages, and lets others
+/// forge tags under that key.
 ///
-/// The key is expanded once, in [`new`](Self::new), and is about 3 kilobytes of plain data: no call allocates for it, and
-/// threads may share it. Every call that is refused leaves its buffer as it came. A key that is dropped is wiped; where it
-/// was moved from, its bytes may stay.
+/// The key is expanded once, in [`new`](Self::new), and is about 3 kilobytes of plain data, for which no call allocates
+/// and which threads may share. A call takes at most 8 KiB of stack. Every call that is refused leaves its buffer as it
+/// came. A key that is dropped is wiped; where it was moved from, its bytes may stay.
 ///
 /// ```
 /// use deerlapse::LessSafeKey;
@@ -106,7 +107,8 @@ impl LessSafeKey {
     }
 
     /// Opens the ciphertext and tag that are `in_out` from `ciphertext_and_tag.start` on, and returns the plaintext,
-    /// which is then at the front of `in_out`. Bytes after it stay.
+    /// which is then at the front of `in_out`. Bytes after it stay. For a header that is the AAD and stands before the
+    /// ciphertext in one buffer, `split_at_mut` and [`open_in_place`](Self::open_in_place).
     ///
     /// Refused where the tag isn't that of the ciphertext and the AAD, where no 16 bytes stand after the start, and
     /// where the lengths don't fit, as in [`seal_in_place_separate_tag`](Self::seal_in_place_separate_tag).
@@ -169,6 +171,8 @@ impl LessSafeKey {
 
     /// Opens the ciphertext that is `in_out` from `ciphertext.start` on, whose tag is `tag`, and returns the plaintext,
     /// which is then at the front of `in_out`. Bytes after it stay.
+    ///
+    /// Where the start isn't 0, the ciphertext is copied first.
     ///
     /// Refused where the tag isn't that of the ciphertext and the AAD, where the start is after the end, and where the
     /// lengths don't fit, as in [`seal_in_place_separate_tag`](Self::seal_in_place_separate_tag).
