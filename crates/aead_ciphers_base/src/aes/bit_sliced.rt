@@ -15,13 +15,14 @@ impl<'k> KeyRef<'k> {
         ensures { (k : ℕ) → k < 4
             → slice_index_or result k [] ≡ aes self.now (slice_index_or blocks k []) }
     {
+        let round_keys = self.round_keys;
         let rounds = self.rounds;
-        let mut state = add_round_key(pack(blocks), &self.round_keys[0]);
+        let mut state = add_round_key(pack(blocks), &round_keys[0]);
         for round in 1..rounds {
             sub_planes(&mut state);
-            state = add_round_key(mix_columns(shift_rows(state)), &self.round_keys[round]);
+            state = add_round_key(mix_columns(shift_rows(state)), &round_keys[round]);
         }
         sub_planes(&mut state);
-        unpack(add_round_key(shift_rows(state), &self.round_keys[rounds]))
+        unpack(add_round_key(shift_rows(state), &round_keys[rounds]))
     }
 }

@@ -9,4 +9,4 @@ use proofs.aes.KeyRef.encrypt_four.Given as goal
 abbrev pub invariant-loop-round : goal.invariant-loop-round
 invariant-loop-round l =
     (k : ℕ) → k < 4 → plane_block l.state k ≡ rounds
-    (schedule_words l.self-inside.round_keys.now l.self-inside.rounds) (slice_index_or l.fn.blocks k []) (l.round - 1)
+    (schedule_words l.round_keys l.rounds) (slice_index_or l.fn.blocks k []) (l.round - 1)
