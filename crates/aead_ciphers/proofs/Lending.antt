@@ -14,7 +14,7 @@ use denote.Enum.Declared.{shape}
 use denote.Enum.Enum.{Enum, Enum-Lawful}
 use denote.Struct.Recorded.{recorded_lawful}
 use proofs.Walks.{Word, lone, one}
-pub use Rattle.aead_ciphers_base.proofs.ViewWalks.{usize_laws}
+pub use proofs.ViewWalks.{usize_laws}
 use borrow.Table.Owned as owned-types
 use Rattle.std.specs.contracts.result.Result as RS
 use Rattle.std.proofs.result.Result.TheLaws as RL

@@ -2,6 +2,7 @@
 -- `lend_plaintext`.
 -- The context has an entry for each token and for what each parameter owns, and is named in this order. Assumes
 -- `Logic`.
+--     lent_for              the lifetimes and shares of a call that the buffer is lent to
 --     relends, regains      the buffer is lent to the core for a new lifetime, and is back as `lend_plaintext` wants it
 --     lends                 `lend_plaintext` gave the plaintext
 --     says_next             what an opening key's call says beside what it lends
@@ -52,15 +53,17 @@ pub use lib.ListN.{length}
 pub use mir.MapTy.{inst_fn}
 pub use denote.Param.{param, bounded}
 pub use Rattle.aead_ciphers_base.specs.Aes.{aes}
-pub use Rattle.aead_ciphers.proofs.Lending.{nonce_word, aad_word, tag_word, range_word}
+pub use proofs.Lending.{nonce_word, aad_word, tag_word, range_word}
 pub use Rattle.aead_ciphers_base.proofs.WalkLocals.{gets, alone, reborrows}
-pub use Rattle.aead_ciphers_base.proofs.Walks.{at_words, dropped, goes, learns, tell, tells, says, Words, words_vals, words_typed, slice_typed, table_of, walked, consults, ends}
-pub use Rattle.aead_ciphers.proofs.LentPlaintext.{as_lent, lent_plain, length-before_tag, opened_fronts, step_fronts, step_range, after_header, stands_after, same_length}
+pub use Rattle.aead_ciphers_base.proofs.Walks.{at_words, Words, words_vals, words_typed, slice_typed, table_of, dropped, goes}
+pub use Rattle.aead_ciphers_base.proofs.Walks.{walked, consults, learns, tell, tells, says, ends}
+pub use proofs.LentPlaintext.{as_lent, lent_plain, opened_fronts, step_fronts, step_range}
+pub use proofs.LentPlaintext.{after_header, stands_after, same_length, length-before_tag}
 pub use Rattle.aead_ciphers_base.specs.Values.{aad_bytes}
-pub use Rattle.aead_ciphers.specs.Gcm.{Opened, OpenedAttached}
+pub use specs.Gcm.{Opened, OpenedAttached}
 pub use Rattle.std.proofs.Common.{arith, lit<, length-drop}
 use specs.contracts.aead.lend.lend_plaintext as L
-pub use Rattle.aead_ciphers.proofs.aead.lend.lend_plaintext.Met.{met as front_met}
+pub use proofs.aead.lend.lend_plaintext.Met.{met as front_met}
 
 -- the lifetimes and their shares, with another at i, wholly owned
 abbrev pub lent_for : (i n : ℕ) → Lft → Lfts n → Shares n → Lfts n × Shares n

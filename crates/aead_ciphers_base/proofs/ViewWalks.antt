@@ -39,7 +39,7 @@ use Rattle.std.specs.declared.ops.RangeFrom.{RangeFrom}
 use Rattle.aead_ciphers_base.specs
 use specs.Overlapping.{KeptIfErr}
 use specs.declared.overlapping.base.Overlapping.{Overlapping}
-pub use Rattle.aead_ciphers_base.specs.declared.polyfill.slice.chunks_mut.AsChunksMut.{AsChunksMut}
+pub use specs.declared.polyfill.slice.chunks_mut.AsChunksMut.{AsChunksMut}
 use Rattle.std.specs.contracts.result.Result as RS
 use Rattle.std.specs.contracts.ops.RangeFrom as RF
 use specs.contracts.overlapping.base.Overlapping as O
