@@ -25,10 +25,6 @@ by_digits P x y hx hy p₀₀ p₀₁ p₁₀ p₁₁ = by_digit (λ d. P d y) x
 digit-xor : (x y : ℕ) → x < 2 → y < 2 → (bit_xor x y == 1) ≡ ◌xor◌ (x == 1) (y == 1)
 digit-xor x y hx hy = by_digits (λ x y. (bit_xor x y == 1) ≡ ◌xor◌ (x == 1) (y == 1)) x y hx hy refl refl refl refl
 
-pub length-bits_of : (k n : ℕ) → length (bits_of k n) ≡ k
-length-bits_of zero n = refl
-length-bits_of (suc k) n = ap suc (length-bits_of k _)
-
 pub bits_of-xor : (k a b : ℕ) → bits_of k (bit_xor a b) ≡ polynomial_sum (bits_of k a) (bits_of k b)
 bits_of-xor zero a b = refl
 bits_of-xor (suc k) a b =
