@@ -7,7 +7,6 @@ use specs.ByteField.{mul8, value_of}
 use specs.Aes.{mixed}
 use specs.Planes.{plane_byte, below, shifted_from}
 use Rattle.aead_ciphers_base.proofs
-use proofs.PolynomialSums.{polynomial-add}
 use proofs.PlaneBits.{set-xor}
 use proofs.ByteFieldLaws.{mul8-xor_right, three_is}
 use specs.Polynomial.{◌xor◌}
@@ -99,7 +98,6 @@ add_plane a b s h p =
     let g = λ (k : ℕ). bit_at (slice_index b k) p == 1 in
     ap value_of (each-same 8 (λ k. bit_at (slice_index s k) p == 1) (λ k. ◌xor◌ (f k) (g k))
     (λ k lt. ap (λ t. bit_at t p == 1) (h k lt) ∙ set-xor _ _ p))
-    ∙ ap value_of (polynomial-add 8 f g)
     ∙ value_of-add (each_below 8 f) (each_below 8 g) refl
 
 -- (2 (x + y) + y) + (z + w) = 2 x + 3 y + z + w

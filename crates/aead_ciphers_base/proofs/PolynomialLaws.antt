@@ -1,6 +1,6 @@
 -- Multiplication of coefficients by a polynomial, modulo another: Horner's rule, one step of x at a time. What reduction leaves:
 -- the same multiple of one, and as many coefficients as the degree.
-use Rattle.std.proofs.Common.{◌≡◌, ℕ, zero, suc, ◌+◌, ◌-◌, ◌<◌, ◌≤◌, Bool, true, false, ◌&&◌, List, [], ◌∷◌, length, map, refl, sym, ap, ap₂, ◌∙◌, arith, zero-add, add-zero, ◌==◌, ◌||◌, suc-add, ne_eqb}
+use Rattle.std.proofs.Common.{◌≡◌, ℕ, zero, suc, ◌+◌, ◌-◌, ◌<◌, ◌≤◌, Bool, true, false, ◌&&◌, List, [], ◌∷◌, length, map, refl, sym, ap, ap₂, ◌∙◌, arith, ext_get_or, zero-add, add-zero, ◌==◌, ◌||◌, suc-add, ne_eqb}
 use Rattle.std.proofs.Math.Bool.{and_assoc, and-false, and-true}
 use Rattle.std.proofs.Math.ListN.{get_or-eq_default}
 use Rattle.std.proofs.Math.Nat.{suc-sub-suc, sub-zero}
@@ -11,7 +11,7 @@ use Rattle.aead_ciphers_base.proofs
 use proofs.PolynomialBits.{xor_comm, xor_assoc, xor_zero, xor_exchange, and_xor, xor_and, Series, same_series, same_steps, none, add, scale, shift, add_comm, add_assoc, add_exchange, scale_add, scale_xor, scale_none, scale_swap, add_self}
 use specs.Bytes.{each_below}
 use Rattle.std.proofs.Math.Dec.{eqb-suc-suc, eqb-suc-zero}
-use proofs.PolynomialSums.{length-polynomial_product, length-reduced, same_polynomials}
+use proofs.PolynomialSums.{length-polynomial_product, length-reduced}
 use proofs.EachLemmas.{length-each}
 
 -- ---- the coefficients of a product, by the first factor's first coefficient
@@ -59,7 +59,7 @@ module _ (top : ℕ) (m : Series) where
       same_steps _ _ (and_assoc b _ _) (λ k. ap (λ c. (b && f k) xor c) (and_assoc b _ _) ∙ sym (and_xor b (f k) _))
 
   pub mul_x-none : mul_x none ≡ none
-  mul_x-none = same_steps _ _ refl (λ k. refl)
+  mul_x-none = mul_x-scale false none
 
   -- the polynomial with the n coefficients c 0, .., c (n - 1), times f
   abbrev pub horner : ℕ → Series → Series → Series
@@ -92,8 +92,7 @@ module _ (top : ℕ) (m : Series) where
       ∙ sym (scale_add b _ _)
 
   pub horner-none : (n : ℕ) (c : Series) → horner n c none ≡ none
-  horner-none zero c = refl
-  horner-none (suc n) c = ap₂ add (scale_none (c zero)) (ap mul_x (horner-none n (λ k. c _)) ∙ mul_x-none)
+  horner-none n c = horner-scale n c false none
 
   pub horner-mul_x : (n : ℕ) (c f : Series) → horner n c (mul_x f) ≡ mul_x (horner n c f)
   horner-mul_x zero c f = sym mul_x-none
@@ -212,7 +211,7 @@ monomial_same zero = refl
 monomial_same (suc n) = monomial_same n
 
 pub same_coefficients : (p q : List Bool) → length p ≡ length q → coefficient p ≡ coefficient q → p ≡ q
-same_coefficients p q e h = same_polynomials p q e (λ k below. ap (λ f. f k) h)
+same_coefficients p q e h = ext_get_or false p q e (λ k below. ap (λ f. f k) h)
 
 same_test : (f g : ℕ → Bool) (xs : List ℕ) → ((t : ℕ) → f t ≡ g t) → list_any f xs ≡ list_any g xs
 same_test f g xs h = ap (λ (test : ℕ → Bool). list_any test xs) (λ i t. h t i)

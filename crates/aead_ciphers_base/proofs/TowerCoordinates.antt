@@ -89,23 +89,20 @@ product_16_by mul a b =
     (coefficient low 0 xor scaled) ∷ (coefficient low 1 xor coefficient both 0)
     ∷ (coefficient high 0 xor scaled) ∷ (coefficient high 1 xor coefficient both 0) ∷ []
 
-abbrev product_16_holds : (ℕ → ℕ → ℕ) → ℕ → Bool
-product_16_holds mul n =
-    let q = bits_of 8 n in
+abbrev product_16_holds : (ℕ → ℕ → ℕ) → List Bool → Bool
+product_16_holds mul q =
     element basis_16 (product_16_by mul (take 4 q) (drop 4 q)) == mul (element basis_16 (take 4 q)) (element basis_16 (drop 4 q))
 
-product_16_test : all_below (product_16_holds mul8) 256 ≡ true
+product_16_test : all_below (λ n. product_16_holds mul8 (bits_of 8 n)) 256 ≡ true
 unfolding coordinates number_of element basis_4 basis_16
-product_16_test = by_fast_mul8 (λ mul. all_below (product_16_holds mul) 256) refl
+product_16_test = by_fast_mul8 (λ mul. all_below (λ n. product_16_holds mul (bits_of 8 n)) 256) refl
 
 pub product_16_is : (a b : List ℕ) (p : ℕ)
     → element basis_16 (product_16_by mul8 (plane_polynomial 4 a p) (plane_polynomial 4 b p))
     ≡ mul8 (plane_element basis_16 a p) (plane_element basis_16 b p)
 unfolding plane_element plane_polynomial basis_16
 product_16_is a b p =
-    same_at_bits (λ q. element basis_16 (product_16_by mul8 (take 4 q) (drop 4 q)))
-    (λ q. mul8 (element basis_16 (take 4 q)) (element basis_16 (drop 4 q)))
-    (plane_polynomial 4 a p ++ plane_polynomial 4 b p) product_16_test
+    eqb-true _ _ (all_at_bits (product_16_holds mul8) (plane_polynomial 4 a p ++ plane_polynomial 4 b p) product_16_test)
 
 -- ---- the inverses
 
@@ -115,17 +112,15 @@ inv_by mul x = unwrap_or (find (λ y. mul x y == 1) (range_with_len 0 256)) 0
 
 -- y is a byte with product 1, or else the least y with product 1
 abbrev inverts : (ℕ → ℕ → ℕ) → ℕ → ℕ → Bool
-inverts mul x y = x / 256 == 0 && y / 256 == 0 && (mul x y == 1 || y == inv_by mul x)
+inverts mul x y = y / 256 == 0 && (mul x y == 1 || y == inv_by mul x)
 
 inverts_is : (x y : ℕ) → inverts mul8 x y ≡ true → y ≡ inv x
 unfolding inv
 inverts_is x y h =
     let parts = and_parts _ _ h in
-    let bytes = and_parts _ _ parts.0 in
-    let x_byte = eqb-true (x / 256) 0 bytes.0 in
-    let y_byte = eqb-true (y / 256) 0 bytes.1 in
+    let byte = eqb-true (y / 256) 0 parts.0 in
     elim (or_cases (mul8 x y == 1) (y == inv x) parts.1) [
-      | inl one ↦ sym (inv_is x y (omega (arith, x_byte)) (omega (arith, y_byte)) (eqb-true (mul8 x y) 1 one))
+      | inl one ↦ sym (inv_is x y (omega (arith, byte)) (eqb-true (mul8 x y) 1 one))
       | inr least ↦ eqb-true y (inv x) least
     ]
 

@@ -16,7 +16,7 @@ returns-then-product-eq1 c =
     let a = c.args.a in
     let b = c.loop-b.b in
     let one : mul8 c.args.a c.loop-b.b ≡ 1 = cc in
-    sym (inv_is a b (omega arith) (omega arith) one)
+    sym (inv_is a b (omega arith) one)
 
 pub returns : goal.returns
 unfolding inv
