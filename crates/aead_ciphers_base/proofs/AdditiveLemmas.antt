@@ -7,15 +7,7 @@ use Rattle.std.proofs.lemmas.Nat.Bits.{bit_at_xor, bit_at_and, bit_at-lt, same_f
 use Rattle.aead_ciphers_base.proofs.NumberBits.{IsAdditive, by_digits}
 
 min_sum : (x y z : ℕ) → x < 2 → y < 2 → z < 2 → min ((x + y) % 2) z ≡ (min x z + min y z) % 2
-min_sum zero zero zero hx hy hz = refl
-min_sum zero zero (suc zero) hx hy hz = refl
-min_sum zero (suc zero) zero hx hy hz = refl
-min_sum zero (suc zero) (suc zero) hx hy hz = refl
-min_sum (suc zero) zero zero hx hy hz = refl
-min_sum (suc zero) zero (suc zero) hx hy hz = refl
-min_sum (suc zero) (suc zero) zero hx hy hz = refl
-min_sum (suc zero) (suc zero) (suc zero) hx hy hz = refl
-min_sum _ y z hx hy hz = absurd (omega arith)
+min_sum x y z hx hy hz = omega arith
 
 pub additive_and : (m : ℕ) → IsAdditive (λ x. bit_and x m)
 additive_and m a b =

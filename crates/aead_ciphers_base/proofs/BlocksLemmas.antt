@@ -1,9 +1,9 @@
 -- Lemmas on the blocks of a list.
 use Rattle.std.proofs
-use proofs.Common.{arith, refl, sym, subst, ap, ◌∙◌, ◌≡◌, ℕ, zero, suc, ◌+◌, ◌-◌, ◌*◌, ◌/◌, ◌%◌, ◌<◌, ◌≤◌, List, [], ◌∷◌, length, take, drop, get_or, add-one, length-drop, min, max, zero-add, inl, inr, Option, None, Some, MatchOption, MutBor, ◌++◌, length-append, take-append-drop, drop-drop, length-take-le, take-take, take_all}
+use proofs.Common.{arith, refl, sym, subst, ap, ◌∙◌, ◌≡◌, ℕ, zero, suc, ◌+◌, ◌-◌, ◌*◌, ◌/◌, ◌%◌, ◌<◌, ◌≤◌, List, [], ◌∷◌, length, take, drop, get_or, add-one, length-drop, min, max, add-zero, inl, inr, Option, None, Some, MatchOption, MutBor, ◌++◌, length-append, take-append-drop, drop-drop, length-take-le, take-take, take_all}
 use proofs.lemmas.List.{drop-take}
 use proofs.lemmas.Bool.{cases_lt}
-use proofs.Math.Nat.{mod_self, mod-add-div', mul-mod_left, add-div_right, div-eq_of_lt, div-zero, div-mul-le_self, suc-mul, mul-div_cancel, mul-le-mul_right, add_comm, add-mul-mod_self_right, mod-zero, zero-mod}
+use proofs.Math.Nat.{mod_self, mod-add-div', mul-mod_left, add-div_right, div-eq_of_lt, div-zero, div-mul-le_self, suc-mul, mul-div_cancel, mul-le-mul_right, add_comm, add-mod-mod, add-mul-mod_self_right, mod-zero, zero-mod}
 use proofs.Math.Seq.{take-length}
 use Rattle.std.specs.Simd.{first_chunks}
 use Rattle.aead_ciphers_base.specs.Blocks.{blocks, joined}
@@ -152,10 +152,7 @@ pub whole_rest : (n size len : ℕ) → (0 < n → size % n ≡ 0) → len % n �
 whole_rest n size len whole all =
     let part = whole_part n size len whole all in
     let both : len - min size len + min size len ≡ len = omega arith in
-    let back =
-    ap (λ k. (len - min size len + k) % n) (sym (mod-add-div' (min size len) n) ∙ ap (λ k. k + min size len / n * n) part
-    ∙ zero-add _) ∙ add-mul-mod_self_right _ (min size len / n) n in
-    sym back ∙ ap (λ k. k % n) both ∙ all
+    (rw (part, add-zero, both) at (add-mod-mod (len - min size len) (min size len) n)) ∙ all
 
 -- what an iterator over such parts has left is whole blocks
 pub whole_left : {T : Type 0} (n size : ℕ) (xs rest : List T) (r : Option (MutBor (List T)))

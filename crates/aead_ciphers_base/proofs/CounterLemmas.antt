@@ -17,12 +17,8 @@ last_byte old nonce k j at =
 pub number_is : (old nonce : List ℕ) (k : ℕ) → IsCounter old nonce k →
     from_be_bytes w32 (get_or old 12 0 ∷ get_or old 13 0 ∷ get_or old 14 0 ∷ get_or old 15 0 ∷ []) ≡ k % 2 ^ 32
 number_is old nonce k at =
-    let bs = to_be_bytes w32 (k % 2 ^ 32) in
-    ap₂ (λ a b. from_be_bytes w32 (a ∷ b ∷ get_or old 14 0 ∷ get_or old 15 0 ∷ [])) (last_byte old nonce k 0 at)
-    (last_byte old nonce k 1 at)
-    ∙ ap₂ (λ a b. from_be_bytes w32 (get_or bs 0 0 ∷ get_or bs 1 0 ∷ a ∷ b ∷ [])) (last_byte old nonce k 2 at)
-    (last_byte old nonce k 3 at)
-    ∙ from_be_bytes-to_be_bytes_4 _ (omega arith)
+    rw (last_byte old nonce k 0 at, last_byte old nonce k 1 at, last_byte old nonce k 2 at, last_byte old nonce k 3 at)
+    (from_be_bytes-to_be_bytes_4 _ (omega arith))
 
 sum_later : (k by : ℕ) → (k % 2 ^ 32 + by) % 2 ^ 32 ≡ (k + by) % 2 ^ 32
 sum_later k by = omega arith

@@ -13,22 +13,14 @@ use proofs.KeySchedule.{key_word}
 
 -- ---- one more round
 
-pub rounds_none : (w : List (List ℕ)) (b : List ℕ) → rounds w b 0 ≡ add_round_key w 0 b
-unfolding rounds
-rounds_none w b = refl
-
 pub rounds_more : (w : List (List ℕ)) (b : List ℕ) (r : ℕ) → 0 < r
     → rounds w b (r + 1 - 1) ≡ add_round_key w r (mix_columns (shift_rows (sub_bytes (rounds w b (r - 1)))))
 unfolding rounds
 rounds_more w b (suc n) h =
     let same : suc n + 1 - 1 ≡ suc n = omega arith in
-    let before : n ≡ suc n - 1 = omega arith in
-    ap (rounds w b) same ∙ ap (λ i. add_round_key w (suc n) (mix_columns (shift_rows (sub_bytes (rounds w b i))))) before
+    let before : suc n - 1 ≡ n = omega arith in
+    rw (same, before)
 rounds_more w b _ h = absurd (omega arith)
-
-pub cipher_is : (w : List (List ℕ)) (n : ℕ) (b : List ℕ) → cipher w n b ≡ add_round_key w n (shift_rows (sub_bytes (rounds w b (n - 1))))
-unfolding cipher
-cipher_is w n b = refl
 
 length-key_words : (nk : ℕ) (key : List ℕ) (n : ℕ) → length (key_words nk key n) ≡ nk + n
 unfolding key_words
@@ -98,11 +90,7 @@ pub aes_of_schedule : (round_keys : List (List ℕ)) (rounds : ℕ) (b : List �
 unfolding aes key_of
 aes_of_schedule round_keys rounds b h =
     let size = length-each (4 * (rounds - 6)) (λ j. plane_byte (slice_index_or round_keys (j / 16) []) (j % 16)) in
-    let nk : rounds - 6 ≡ length (key_of round_keys rounds) / 4 = omega (arith, size) in
-    let last : 4 * (rounds + 1) ≡ 4 * (length (key_of round_keys rounds) / 4 + 7) = omega (arith, nk) in
-    let count : rounds ≡ length (key_of round_keys rounds) / 4 + 6 = omega (arith, nk) in
-    ap (λ n. cipher (key_words n (key_of round_keys rounds) (4 * (rounds + 1) - n)) rounds b) nk
-    ∙ ap (λ m. cipher (key_words (length (key_of round_keys rounds) / 4) (key_of round_keys rounds)
-    (m - length (key_of round_keys rounds) / 4)) rounds b) last
-    ∙ ap (λ m. cipher (key_words (length (key_of round_keys rounds) / 4) (key_of round_keys rounds)
-    (4 * (length (key_of round_keys rounds) / 4 + 7) - length (key_of round_keys rounds) / 4)) m b) count
+    let nk : length (key_of round_keys rounds) / 4 ≡ rounds - 6 = omega (arith, size) in
+    let last : 4 * (rounds - 6 + 7) ≡ 4 * (rounds + 1) = omega arith in
+    let count : rounds - 6 + 6 ≡ rounds = omega arith in
+    rw (nk, last, count)

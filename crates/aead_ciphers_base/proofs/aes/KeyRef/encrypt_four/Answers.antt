@@ -1,18 +1,18 @@
 use Rattle.std.proofs.Common.{arith, ap, sym, ◌∙◌, ◌≡◌, ◌+◌, ◌-◌, slice_index_or, []}
-use Rattle.aead_ciphers_base.specs.Aes.{add_round_key, aes, mix_columns, shift_rows, sub_bytes, rounds}
+use Rattle.aead_ciphers_base.specs.Aes.{add_round_key, aes, cipher, mix_columns, shift_rows, sub_bytes, rounds}
 use Rattle.aead_ciphers_base.proofs
-use proofs.RoundKeys.{rounds_none, rounds_more, cipher_is, aes_of_schedule, schedule_words}
+use proofs.RoundKeys.{rounds_more, aes_of_schedule, schedule_words}
 use proofs.PlaneBlocks.{sub_block, shift_block, mix_block, add_block, packed_block}
 use proofs.aes.KeyRef.encrypt_four.Goals as goal
 
 pub loop-round-init : goal.loop-round-init
+unfolding rounds
 loop-round-init c = λ k hk.
     let key = c.self.inside in
     let words = schedule_words key.round_keys.now key.rounds in
     add_block c.pack.result c.add_round_key-state.result k hk key.round_keys.now words 0 (key.rounds + 1)
     c.self.invariant.expanded (omega arith) c.add_round_key-state.ensures
     ∙ packed_block c.pack.result c.args.blocks words k hk c.pack.ensures
-    ∙ sym (rounds_none words (slice_index_or c.args.blocks k []))
 
 pub loop-round-preserved : goal.loop-round-preserved
 loop-round-preserved c = λ k hk.
@@ -28,6 +28,7 @@ loop-round-preserved c = λ k hk.
     ∙ sym (rounds_more words (slice_index_or c.args.blocks k []) c.loop-round.round (omega arith))
 
 pub returns : goal.returns
+unfolding cipher
 returns c = λ k hk.
     let key = c.self.inside in
     let words = schedule_words key.round_keys.now key.rounds in
@@ -41,6 +42,5 @@ returns c = λ k hk.
     (shift_block c.sub_planes-2.new.planes c.shift_rows-2.result k hk c.shift_rows-2.ensures
     ∙ ap shift_rows (sub_block c.loop-round.state c.sub_planes-2.new.planes k hk c.sub_planes-2.ensures
     ∙ ap sub_bytes (c.loop-round.invariant k hk ∙ ap (rounds words block) whole)))
-    ∙ sym (cipher_is words nr block)
     ∙ aes_of_schedule key.round_keys.now nr block c.self.invariant.enough
     ∙ ap (λ key. aes key block) c.self.view_is

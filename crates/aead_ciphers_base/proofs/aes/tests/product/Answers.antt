@@ -4,14 +4,12 @@ use lemmas.Nat.{shr_le}
 use lemmas.Nat.Bits.{shr_and_one}
 use Rattle.aead_ciphers_base.specs.ByteField.{mul8}
 use Rattle.aead_ciphers_base.proofs
-use proofs.NumberBits.{IsAdditive_zero}
+use proofs.NumberBits.{IsAdditive_zero, by_digit}
 use proofs.ByteFieldLaws.{mul8-xor_right, two_is, step_of_product}
 use proofs.aes.tests.product.Goals as goal
 
 by_bit : (a d : ℕ) → d < 2 → a * d ≡ (if d == 1 then a else 0)
-by_bit a zero h = omega arith
-by_bit a (suc zero) h = omega arith
-by_bit a (suc (suc d)) h = absurd (omega arith)
+by_bit a d h = by_digit (λ d. a * d ≡ (if d == 1 then a else 0)) d h (λ _. omega arith) (λ _. omega arith)
 
 pub loop-n-init : goal.loop-n-init
 loop-n-init c =
