@@ -11,9 +11,11 @@ ghost use Rattle.aead_ciphers_base.specs.Overlapping.{input_len, input_of};
 use crate::values::{Nonce, Sample};
 use crate::{bb, overlapping};
 use lanes::BATCH_LEN;
+use rows::state_block;
 use std::marker::Model;
 
 mod lanes;
+mod rows;
 #[cfg(test)]
 mod tests;
 
@@ -30,60 +32,6 @@ type State = [u32; 16];
 
 // The first four words of a state (section 2.3), in little-endian order.
 const CONSTANTS: &[u8; 16] = b"expand 32-byte k";
-
-#[inline(always)]
-#[tactic(auto, unfolding(crate::specs::ChaCha20::quarter_round))]
-fn quarter_round(a: u32, b: u32, c: u32, d: u32) -> (u32, u32, u32, u32)
-    ensures { result ≡ quarter_round a b c d }
-{
-    let a1 = a.wrapping_add(b);
-    let d1 = (d ^ a1).rotate_left(16);
-    let c1 = c.wrapping_add(d1);
-    let b1 = (b ^ c1).rotate_left(12);
-    let a2 = a1.wrapping_add(b1);
-    let d2 = (d1 ^ a2).rotate_left(8);
-    let c2 = c1.wrapping_add(d2);
-    let b2 = (b1 ^ c2).rotate_left(7);
-    (a2, b2, c2, d2)
-}
-
-#[inline(always)]
-fn quarter_round_at(state: &mut State, a: usize, b: usize, c: usize, d: usize)
-    requires a_in_state { a < 16 }
-    requires b_in_state { b < 16 }
-    requires c_in_state { c < 16 }
-    requires d_in_state { d < 16 }
-    ensures { state.new ≡ quarter_round_at state.old (a, b, c, d) }
-{
-    let (x, y, z, w) = quarter_round(state[a], state[b], state[c], state[d]);
-    state[a] = x;
-    state[b] = y;
-    state[c] = z;
-    state[d] = w;
-}
-
-#[inline(always)]
-#[tactic(auto, unfolding(crate::specs::ChaCha20::double_round))]
-fn double_round(state: &mut State)
-    ensures { state.new ≡ double_round state.old }
-{
-    quarter_round_at(state, 0, 4, 8, 12);
-    quarter_round_at(state, 1, 5, 9, 13);
-    quarter_round_at(state, 2, 6, 10, 14);
-    quarter_round_at(state, 3, 7, 11, 15);
-    quarter_round_at(state, 0, 5, 10, 15);
-    quarter_round_at(state, 1, 6, 11, 12);
-    quarter_round_at(state, 2, 7, 8, 13);
-    quarter_round_at(state, 3, 4, 9, 14);
-}
-
-fn add_words(words: &mut State, addend: &State)
-    ensures { words.new ≡ zip2 add32 words.old addend.now }
-{
-    for i in 0..16 {
-        words[i] = words[i].wrapping_add(addend[i]);
-    }
-}
 
 // Writes words in little-endian order.
 #[tactic(auto, using(crate::proofs::LittleEndian::read_and_written), unfolding(crate::specs::ChaCha20::le_bytes))]
@@ -108,19 +56,6 @@ fn le_words<const N: usize>(bytes: &[u8]) -> [u32; N]
         words[i] = u32::from_le_bytes([bytes[at], bytes[at + 1], bytes[at + 2], bytes[at + 3]]);
     }
     words
-}
-
-// The block of an initial state.
-#[tactic(auto, using(crate::proofs::ChaChaRounds::iterate_more), unfolding(crate::specs::ChaCha20::state_block))]
-fn state_block(state: &State) -> [u8; BLOCK_LEN]
-    ensures { result ≡ state_block state.now }
-{
-    let mut words = *state;
-    for _round in 0..10u32 {
-        double_round(&mut words);
-    }
-    add_words(&mut words, state);
-    le_bytes(&words)
 }
 
 // Writes to `at` the `n` bytes from `start + at` on, XORed with the key stream. All are read before

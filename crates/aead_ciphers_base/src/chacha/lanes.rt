@@ -35,7 +35,7 @@ fn xor_rotate(a: u32x4, b: u32x4, n: u32) -> u32x4
 
 #[tactic(auto, unfolding(crate::specs::ChaCha20::quarter_round))]
 #[inline(always)]
-fn quarter_round(a: u32x4, b: u32x4, c: u32x4, d: u32x4) -> (u32x4, u32x4, u32x4, u32x4)
+pub(super) fn quarter_round(a: u32x4, b: u32x4, c: u32x4, d: u32x4) -> (u32x4, u32x4, u32x4, u32x4)
     ensures { (j : ℕ) → j < 4 →
         let at = λ (v : List ℕ). slice_index v j in
         (at result.0, at result.1, at result.2, at result.3)

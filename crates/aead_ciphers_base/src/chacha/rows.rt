@@ -1,0 +1,50 @@
+//! The block function on one state, each of whose four rows is a vector (RFC 8439 section 2.3).
+
+ghost use Rattle.std.specs.Prelude.{◌≡◌, ◌++◌};
+ghost use Rattle.aead_ciphers_base.specs.ChaCha20.{double_round, state_block};
+
+use super::lanes::quarter_round;
+use super::{BLOCK_LEN, State, le_bytes};
+use std::simd::u32x4;
+
+// A quarter round on each column, and, once the rows are rotated so that each diagonal is a column,
+// another.
+#[inline(always)]
+fn double_round(a: u32x4, b: u32x4, c: u32x4, d: u32x4) -> (u32x4, u32x4, u32x4, u32x4)
+    ensures { result.0 ++ result.1 ++ result.2 ++ result.3 ≡ double_round (a ++ b ++ c ++ d) }
+{
+    let (a1, b1, c1, d1) = quarter_round(a, b, c, d);
+    let (a2, b2, c2, d2) = quarter_round(
+        a1,
+        b1.rotate_elements_left::<1>(),
+        c1.rotate_elements_left::<2>(),
+        d1.rotate_elements_left::<3>(),
+    );
+    (
+        a2,
+        b2.rotate_elements_left::<3>(),
+        c2.rotate_elements_left::<2>(),
+        d2.rotate_elements_left::<1>(),
+    )
+}
+
+/// The block of an initial state.
+pub(super) fn state_block(state: &State) -> [u8; BLOCK_LEN]
+    ensures { result ≡ state_block state.now }
+{
+    let a = u32x4::from_slice(&state[..4]);
+    let b = u32x4::from_slice(&state[4..8]);
+    let c = u32x4::from_slice(&state[8..12]);
+    let d = u32x4::from_slice(&state[12..]);
+    let mut rows = (a, b, c, d);
+    for _round in 0..10u32 {
+        rows = double_round(rows.0, rows.1, rows.2, rows.3);
+    }
+    let [w0, w1, w2, w3] = (rows.0 + a).to_array();
+    let [w4, w5, w6, w7] = (rows.1 + b).to_array();
+    let [w8, w9, w10, w11] = (rows.2 + c).to_array();
+    let [w12, w13, w14, w15] = (rows.3 + d).to_array();
+    le_bytes(&[
+        w0, w1, w2, w3, w4, w5, w6, w7, w8, w9, w10, w11, w12, w13, w14, w15,
+    ])
+}
