@@ -1,5 +1,5 @@
 -- The rounds of ChaCha20.
-use Rattle.std.proofs.Common.{◌≡◌, ℕ, zero, suc, ◌+◌, ◌%◌, ◌<◌, List, [], ◌∷◌, ◌++◌, length, take, drop, slice_index, refl, ap, sym, add-one, ◌∙◌, arith}
+use Rattle.std.proofs.Common.{◌≡◌, ℕ, zero, suc, ◌+◌, ◌%◌, ◌<◌, List, [], ◌∷◌, ◌++◌, length, take, drop, slice_index, refl, ap, add-one, ◌∙◌, arith}
 use Rattle.std.specs.Fn.{iterate}
 use Rattle.std.specs.Simd.Lanes.{zip2}
 use Rattle.aead_ciphers_base.specs.ChaCha20.{add32, quarter_round, quarter_round_at, double_round}
@@ -65,8 +65,12 @@ row_of word row size e =
 columns_of : (a b c d x y z w : List ℕ) → AreRows x y z w → ColumnsTo a b c d x y z w → (x, y, z, w) ≡ columns (a, b, c, d)
 columns_of a b c d x y z w sizes e =
     let at = λ (word : ℕ × ℕ × ℕ × ℕ → ℕ) (j : ℕ) (h : j < 4). ap word (e j h) in
-    λ i. (row_of _ x sizes.0 (at (λ q. q.0)) i, row_of _ y sizes.1 (at (λ q. q.1)) i,
-    row_of _ z sizes.2 (at (λ q. q.2)) i, row_of _ w sizes.3 (at (λ q. q.3)) i)
+    λ i. (
+      row_of _ x sizes.0 (at (λ q. q.0)) i,
+      row_of _ y sizes.1 (at (λ q. q.1)) i,
+      row_of _ z sizes.2 (at (λ q. q.2)) i,
+      row_of _ w sizes.3 (at (λ q. q.3)) i,
+    )
 
 double_round_columns : (a b c d : List ℕ) → AreRows a b c d
     → from_columns (columns (to_columns (columns (a, b, c, d)))) ≡ double_round (a ++ b ++ c ++ d)
@@ -96,5 +100,13 @@ pub sums_of_rows : (x y z w a b c d : List ℕ) → AreRows x y z w → AreRows 
     → words_before (zip2 add32 x a) (words_before (zip2 add32 y b) (words_before (zip2 add32 z c) (words_before (zip2 add32 w d) [])))
     ≡ zip2 add32 (x ++ y ++ z ++ w) (a ++ b ++ c ++ d)
 sums_of_rows x y z w a b c d s r =
-    rw (drop-elements 4 0 x s.0, drop-elements 4 0 y s.1, drop-elements 4 0 z s.2, drop-elements 4 0 w s.3,
-    drop-elements 4 0 a r.0, drop-elements 4 0 b r.1, drop-elements 4 0 c r.2, drop-elements 4 0 d r.3) refl
+    rw (
+      drop-elements 4 0 x s.0,
+      drop-elements 4 0 y s.1,
+      drop-elements 4 0 z s.2,
+      drop-elements 4 0 w s.3,
+      drop-elements 4 0 a r.0,
+      drop-elements 4 0 b r.1,
+      drop-elements 4 0 c r.2,
+      drop-elements 4 0 d r.3,
+    ) refl
