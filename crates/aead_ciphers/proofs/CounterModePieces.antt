@@ -1,10 +1,14 @@
 -- Bytes encrypted in pieces: what a walk's chunks hold, and the rest.
-use Rattle.std.proofs.Common.{◌≡◌, ℕ, ◌+◌, ◌-◌, ◌<◌, ◌≤◌, List, ◌++◌, length, take, drop, replicate, refl, sym, ap, ◌∙◌, arith, length-append, length-take-le, length-drop, take_all, take_at}
-use Rattle.std.proofs.lemmas.List.{drop-take}
+use Rattle.std.proofs.Common.{◌≡◌, ℕ, ◌+◌, ◌-◌, ◌<◌, ◌≤◌, List, ◌++◌, length, take, drop, replicate, refl, sym, ap, ◌∙◌, arith, length-append, length-take, length-take-le, length-drop, take_all, take_at, drop_at, append_assoc}
+use Rattle.std.proofs.lemmas.List.{drop-take, take-append-le, take-take}
+use Rattle.std.proofs.Math.Seq.{take-add}
 use Rattle.aead_ciphers_base.specs
-use specs.Bytes.{◌⊕◌}
+use specs.Bytes.{◌⊕◌, zero_block}
 use specs.CounterMode.{counter_block, counter_mode}
-use Rattle.aead_ciphers_base.proofs.CounterModeLemmas.{counter_mode-short, length-counter_mode, take-counter_mode, xor-reads}
+use Rattle.aead_ciphers_base.proofs
+use proofs.CounterModeLemmas.{counter_byte-later, counter_mode-short, length-counter_mode, take-counter_mode, xor-reads}
+use proofs.StreamLemmas.{xored-append}
+use proofs.XorLemmas.{xor_comm, xor_zeros}
 use Rattle.aead_ciphers.specs.Gcm.{padded_block}
 use Rattle.aead_ciphers.proofs.PaddedBlocks.{padded_is}
 
@@ -46,3 +50,38 @@ put_rest cipher nonce k s xs input iv output copied within short size ie ive oe 
     ap (λ u. u ++ drop (length xs - s) xs)
     (ce ∙ ap (λ n. take n output) (sym many)
     ∙ rest_piece cipher nonce k text input iv output (omega arith) (ie ∙ ap (λ t. padded_block t 0) whole) ive oe size)
+
+-- counter mode of a block of zeros and a text: the cipher of the counter block, and the text from the next on
+pub zeros_and_text : (cipher : List ℕ → List ℕ) (nonce : List ℕ) (k : ℕ) (text : List ℕ) → length (cipher (counter_block nonce k)) ≡ 16
+    → counter_mode cipher nonce k (zero_block ++ text) ≡ cipher (counter_block nonce k) ++ counter_mode cipher nonce (k + 1) text
+unfolding counter_mode
+zeros_and_text cipher nonce k text size =
+    let mask = cipher (counter_block nonce k) in
+    xored-append _ _ zero_block text (counter_byte-later cipher nonce k 1 16 refl)
+    ∙ ap (λ u. u ++ counter_mode cipher nonce (k + 1) text)
+    (sym (counter_mode-short cipher nonce k zero_block mask (omega arith) (omega (arith, size)) refl) ∙ xor_comm zero_block mask ∙ xor_zeros mask 16 size)
+
+-- A message after a block of zeros, encrypted from counter block 1 on in w bytes: first the cipher of that counter block, then the message
+-- from block 2 on.
+pub short_message : (cipher : List ℕ → List ℕ) (nonce : List ℕ) (w n : ℕ) (message pad last rest : List ℕ) {out : List ℕ}
+    → length (cipher (counter_block nonce 1)) ≡ 16 → length message ≡ n → 16 + n ≤ w
+    → out ≡ counter_mode cipher nonce 1 (take w (zero_block ++ (message ++ pad))) ++ last
+    → (take 16 (out ++ rest) ≡ cipher (counter_block nonce 1)) × (take n (drop 16 (out ++ rest)) ≡ counter_mode cipher nonce 2 message)
+short_message cipher nonce w n message pad last rest size len room e =
+    let text = message ++ pad in
+    let v = w - 16 in
+    let mask = cipher (counter_block nonce 1) in
+    let tail = counter_mode cipher nonce 2 (take v text) in
+    let width : w ≡ 16 + v = omega arith in
+    let cut = ap (λ k. take k (zero_block ++ text)) width ∙ take-add 16 v (zero_block ++ text) in
+    let parts = ap (counter_mode cipher nonce 1) cut ∙ zeros_and_text cipher nonce 1 (take v text) size in
+    let whole =
+    ap (λ u. u ++ rest) (e ∙ ap (λ u. u ++ last) parts) ∙ append_assoc (mask ++ tail) last rest ∙ append_assoc mask tail (last ++ rest) in
+    let fits : n ≤ length (take v text) = omega (arith, length-take v text, length-append message pad) in (
+      ap (take 16) whole ∙ take_at mask (tail ++ (last ++ rest)) 16 size,
+      ap (λ u. take n (drop 16 u)) whole
+          ∙ ap (take n) (drop_at mask (tail ++ (last ++ rest)) 16 size)
+          ∙ take-append-le n tail (last ++ rest) (omega (arith, fits, length-counter_mode cipher nonce 2 (take v text)))
+          ∙ take-counter_mode cipher nonce 2 n (take v text) (omega (arith, fits))
+          ∙ ap (counter_mode cipher nonce 2) (take-take n v text (omega arith) ∙ take_at message pad n len),
+    )

@@ -9,7 +9,7 @@ use proofs.XorLemmas.{length-xor}
 use specs.Gcm.{gcm_tag, gcm_encrypted, gcm_decrypted, gcm_sealed}
 use specs.Ghash.{◌•◌, block_of, ghash}
 
-length-aes : (key block : List ℕ) → length (aes key block) ≡ 16
+pub length-aes : (key block : List ℕ) → length (aes key block) ≡ 16
 unfolding aes cipher add_round_key
 length-aes key block = refl
 

@@ -85,21 +85,21 @@ whole_and_rest bs input whole rest we re =
     ∙ ap (λ u. bs ++ u) (sym (blocks-append q (take w input) (drop w input) size) ∙ ap padded_blocks (take-append-drop w input))
 
 -- what ends a hash of an AAD and a ciphertext returns the tag
-pub tag_found : (cipher : List ℕ → List ℕ) (nonce aad text : List ℕ) {iv result : List ℕ} {started ended : HashState}
-    → started.hash_subkey ≡ cipher zero_block → started.aad_len ≡ length aad → started.in_out_len ≡ length text → iv ≡ counter_block nonce 1
+pub tag_found : (cipher : List ℕ → List ℕ) (nonce aad text : List ℕ) {mask result : List ℕ} {started ended : HashState}
+    → started.hash_subkey ≡ cipher zero_block → started.aad_len ≡ length aad → started.in_out_len ≡ length text → mask ≡ cipher (counter_block nonce 1)
     → IsHashOf started.hash_subkey (padded_blocks aad) started.xi → Absorbs started text ended
     → ((done : List (List ℕ)) → IsHashOf ended.hash_subkey done ended.xi
-    → result ≡ ghash ended.hash_subkey (done ++ length_block ended.aad_len ended.in_out_len ∷ []) ⊕ cipher iv)
+    → result ≡ ghash ended.hash_subkey (done ++ length_block ended.aad_len ended.in_out_len ∷ []) ⊕ mask)
     → result ≡ gcm_tag cipher nonce aad text
 unfolding gcm_tag hashed
-tag_found cipher nonce aad text {iv} {ended = ended} eh ea en ei start absorbed finish =
+tag_found cipher nonce aad text {mask} {ended = ended} eh ea en em start absorbed finish =
     let bs = padded_blocks aad ++ padded_blocks text in
     let kept = absorbed.kept in
     let same_key = ap (λ s. s.hash_subkey) kept in
     let lengths = ap₂ length_block (ap (λ s. s.aad_len) kept ∙ ea) (ap (λ s. s.in_out_len) kept ∙ en) in
     finish bs (subst (λ h. IsHashOf h bs ended.xi) (sym same_key) (absorbed.hashed (padded_blocks aad) start))
-    ∙ ap₂ (λ k b. ghash k (bs ++ b ∷ []) ⊕ cipher iv) (same_key ∙ eh) lengths
-    ∙ ap (λ i. ghash (cipher zero_block) (bs ++ length_block (length aad) (length text) ∷ []) ⊕ cipher i) ei
+    ∙ ap₂ (λ k b. ghash k (bs ++ b ∷ []) ⊕ mask) (same_key ∙ eh) lengths
+    ∙ ap (λ m. ghash (cipher zero_block) (bs ++ length_block (length aad) (length text) ∷ []) ⊕ m) em
 
 -- a part that ends where the buffer does
 pub to_end : (a : ℕ) (xs : List ℕ) → take (length xs - a) (drop a xs) ≡ drop a xs

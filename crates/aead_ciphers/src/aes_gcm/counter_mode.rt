@@ -59,7 +59,7 @@ impl<A: EncryptCtr32, H: Absorb> CounterMode<'_, A, H> {
 
 /// Encrypts the bytes from `start` on, which are whole blocks, to the front. A cipher takes an `Overlapping`, as
 /// ring's do, and takes it apart.
-fn encrypt_blocks<A: EncryptCtr32>(
+pub(super) fn encrypt_blocks<A: EncryptCtr32>(
     aes: &A,
     counter: &mut Counter,
     in_out: &mut [u8],

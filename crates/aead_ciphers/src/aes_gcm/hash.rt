@@ -8,7 +8,7 @@ ghost use Rattle.aead_ciphers.specs.Ghash.{ghash};
 ghost use Rattle.aead_ciphers.specs.HashOf.{Absorbs, HashState, IsHashOf, products_of};
 
 use crate::gcm::{Context, UpdateBlock, UpdateBlocks, padded};
-use aead_ciphers_base::aes::{BLOCK_LEN, Block, EncryptBlock, Iv, Work};
+use aead_ciphers_base::aes::{BLOCK_LEN, Block, Work};
 use aead_ciphers_base::bb;
 use aead_ciphers_base::polyfill::slice::as_chunks;
 use aead_ciphers_base::values::Tag;
@@ -57,20 +57,14 @@ impl Absorb for Unhashed {
     fn absorb(&mut self, _input: &[u8], _work: &mut Work) {}
 }
 
-/// The tag: the hash, ended by the block of the lengths, XOR the cipher of the first counter block.
-pub(super) fn finish<A: EncryptBlock, G: UpdateBlock>(
-    aes: &A,
-    auth: Context<'_, G>,
-    tag_iv: Iv,
-    work: &mut Work,
-) -> Tag
-    requires { CanAdd work.old 1 1 }
+/// The tag: the hash, ended by the block of the lengths, XOR the mask, the cipher of the first counter block.
+pub(super) fn finish<G: UpdateBlock>(auth: Context<'_, G>, mask: Block, work: &mut Work) -> Tag
+    requires { CanAdd work.old 0 1 }
     ensures tag { (done : List (List ℕ)) → IsHashOf auth.entry.hash_subkey done auth.entry.xi →
         let last = length_block auth.entry.aad_len auth.entry.in_out_len in
-        result ≡ ghash auth.entry.hash_subkey (done ++ last ∷ []) ⊕ A.cipher aes.now tag_iv }
-    ensures worked { Adds work.old work.new 1 1 }
+        result ≡ ghash auth.entry.hash_subkey (done ++ last ∷ []) ⊕ mask }
+    ensures worked { Adds work.old work.new 0 1 }
 {
-    let mask = aes.encrypt_block(tag_iv.into_block_less_safe(), work);
     auth.pre_finish(
         work,
         |pre_tag: Block| -> Tag

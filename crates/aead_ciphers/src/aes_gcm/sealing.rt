@@ -1,16 +1,21 @@
 //! Sealing over any cipher and hash (SP 800-38D section 7.1).
 
-ghost use Rattle.std.specs.Prelude.{◌≡◌, ◌↔◌, length, IsOk, IfOk, OnOk, OnErr};
+ghost use Rattle.std.specs.Prelude.{◌≡◌, ◌↔◌, ◌≤◌, ℕ, List, length, IsOk, IfOk, OnOk, OnErr};
 ghost use Rattle.aead_ciphers_base.specs.Bytes.{zero_block};
+ghost use Rattle.aead_ciphers_base.specs.CounterMode.{counter_block};
 ghost use Rattle.aead_ciphers_base.specs.Values.{aad_bytes};
-ghost use Rattle.aead_ciphers.specs.Gcm.{CanSeal, Fits, SealWork, gcm_encrypted, gcm_tag};
+ghost use Rattle.aead_ciphers_base.specs.Work.{Adds, CanAdd};
+ghost use Rattle.aead_ciphers.specs.Gcm.{CanSeal, Fits, SealWork, gcm_encrypted, gcm_tag, sealing_blocks};
 
-use super::counter_mode::CounterMode;
-use super::hash::finish;
+use super::counter_mode::{CounterMode, encrypt_blocks};
+use super::hash::{Absorb, finish};
 use crate::gcm::{Context, UpdateBlocks};
-use aead_ciphers_base::aes::{Counter, EncryptCtr32, Work};
+use aead_ciphers_base::aes::{BLOCK_LEN, Block, Counter, EncryptCtr32, Work, ZERO_BLOCK};
 use aead_ciphers_base::error::Unspecified;
 use aead_ciphers_base::values::{Aad, Nonce, Tag};
+
+/// The longest message that is encrypted in one pass with the tag's mask: three blocks.
+const SHORT_LEN: usize = 3 * BLOCK_LEN;
 
 /// Encrypts the buffer in place, and returns the tag. Refused where the lengths don't fit.
 pub(super) fn seal_with<A: EncryptCtr32, G: UpdateBlocks>(
@@ -23,6 +28,7 @@ pub(super) fn seal_with<A: EncryptCtr32, G: UpdateBlocks>(
 ) -> Result<Tag, Unspecified>
     requires sums { CanSeal work.old (length (aad_bytes aad)) (length in_out.old) }
     requires subkey { G.hash_subkey gcm.now ≡ A.cipher aes.now zero_block }
+    requires blocks { (block : List ℕ) → length (A.cipher aes.now block) ≡ 16 }
     ensures accepted { IsOk result ↔ Fits (length (aad_bytes aad.entry)) (length in_out.old) }
     ensures ciphertext { OnOk result (in_out.new ≡ gcm_encrypted (A.cipher aes.now) nonce in_out.old) }
     ensures tag { IfOk result
@@ -31,9 +37,42 @@ pub(super) fn seal_with<A: EncryptCtr32, G: UpdateBlocks>(
     ensures worked { SealWork (length (aad_bytes aad.entry)) (length in_out.old) result
         work.old work.new }
 {
-    let auth = Context::new(gcm, aad, in_out.len(), work)?;
+    let mut auth = Context::new(gcm, aad, in_out.len(), work)?;
+    if in_out.len() <= SHORT_LEN {
+        let mask = encrypt_short(aes, nonce, in_out, work);
+        auth.absorb(in_out, work);
+        return Ok(finish(auth, mask, work));
+    }
     let mut counter = Counter::one(nonce);
     let tag_iv = counter.increment();
     let auth = CounterMode { aes, counter, auth }.encrypt_within(in_out, 0, work);
-    Ok(finish(aes, auth, tag_iv, work))
+    let mask = aes.encrypt_block(tag_iv.into_block_less_safe(), work);
+    Ok(finish(auth, mask, work))
+}
+
+/// Encrypts a message of at most 48 bytes in place, and returns the cipher of the first counter block, which masks the
+/// tag. The message's counter blocks come after that one, so both are counter mode of a block of zeros and the message,
+/// in one pass of four blocks.
+fn encrypt_short<A: EncryptCtr32>(
+    aes: &A,
+    nonce: Nonce,
+    in_out: &mut [u8],
+    work: &mut Work,
+) -> Block
+    requires short { length in_out.old ≤ 48 }
+    requires sums { CanAdd work.old (sealing_blocks (length in_out.old)) 0 }
+    requires blocks { (block : List ℕ) → length (A.cipher aes.now block) ≡ 16 }
+    ensures ciphertext { in_out.new ≡ gcm_encrypted (A.cipher aes.now) nonce in_out.old }
+    ensures mask { result ≡ A.cipher aes.now (counter_block nonce 1) }
+    ensures worked { Adds work.old work.new (sealing_blocks (length in_out.old)) 0 }
+{
+    let mut text = [0; BLOCK_LEN + SHORT_LEN];
+    let end = BLOCK_LEN + in_out.len();
+    text[BLOCK_LEN..end].copy_from_slice(in_out);
+    let whole = end.div_ceil(BLOCK_LEN) * BLOCK_LEN;
+    encrypt_blocks(aes, &mut Counter::one(nonce), &mut text[..whole], 0, work);
+    in_out.copy_from_slice(&text[BLOCK_LEN..end]);
+    let mut mask = ZERO_BLOCK;
+    mask.copy_from_slice(&text[..BLOCK_LEN]);
+    mask
 }

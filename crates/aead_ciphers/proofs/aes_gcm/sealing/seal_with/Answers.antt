@@ -29,5 +29,16 @@ returns-clause-tag g c =
     let absorbed = c.encrypt_within-auth.ensures.hashed refl nonce 2 (c.increment-tag_iv.ensures.counter nonce 1 c.one-counter.ensures) in
     tag_found cipher nonce (aad_bytes c.args.aad) text (made.hash_subkey ∙ c.requires.subkey) made.aad_len
     (made.in_out_len ∙ sym (ap length is ∙ length-counter_mode cipher nonce 2 c.args.in_out.now))
-    (c.increment-tag_iv.ensures.iv ∙ c.one-counter.ensures.value) made.hashed
-    (subst (λ x. Absorbs started x c.encrypt_within-auth.result) (sym is) absorbed) c.finish.ensures.tag
+    (c.encrypt_block-mask.ensures.value ∙ ap cipher (c.into_block_less_safe.ensures ∙ c.increment-tag_iv.ensures.iv ∙ c.one-counter.ensures.value)) made.hashed
+    (subst (λ x. Absorbs started x c.encrypt_within-auth.result) (sym is) absorbed) c.finish-2.ensures.tag
+
+-- a short message
+pub returns-then-in_out-le-SHORT_LEN-clause-tag : goal.returns-then-in_out-le-SHORT_LEN-clause-tag
+returns-then-in_out-le-SHORT_LEN-clause-tag g c =
+    let nonce = c.args.nonce in
+    let cipher = g.A.EncryptBlock.cipher c.args.aes.now in
+    let short = c.encrypt_short-mask.ensures in
+    let made = c.in_ok-auth.ensures in
+    tag_found cipher nonce (aad_bytes c.args.aad) c.encrypt_short-mask.new.in_out (made.hash_subkey ∙ c.requires.subkey) made.aad_len
+    (made.in_out_len ∙ sym (ap length short.ciphertext ∙ length-counter_mode cipher nonce 2 c.args.in_out.now))
+    short.mask made.hashed (c.absorb.ensures.hashed refl) c.finish.ensures.tag

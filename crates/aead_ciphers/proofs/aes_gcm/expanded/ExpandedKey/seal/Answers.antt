@@ -1,0 +1,16 @@
+use Rattle.std.proofs.Common.{◌≡◌, IfOk, subst}
+use Rattle.aead_ciphers_base.specs
+use specs.Values.{aad_bytes}
+use specs.Aes.{aes}
+use Rattle.aead_ciphers.specs.Gcm.{gcm_tag}
+use Rattle.aead_ciphers.proofs.MessageLaws.{length-aes}
+use Rattle.aead_ciphers.proofs.aes_gcm.expanded.ExpandedKey.seal.Goals as goal
+
+pub seal_with-requires-clause-blocks : goal.seal_with-requires-clause-blocks
+seal_with-requires-clause-blocks c = λ block. length-aes _ block
+
+pub returns-clause-tag : goal.returns-clause-tag
+returns-clause-tag c =
+    let a = c.args in
+    subst (λ key. IfOk c.seal_with.result (λ t. t ≡ gcm_tag (aes key) a.nonce (aad_bytes a.aad) c.seal_with.new.in_out))
+    c.new-aes.ensures c.seal_with.ensures.tag
