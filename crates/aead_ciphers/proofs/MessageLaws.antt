@@ -9,9 +9,9 @@ use proofs.XorLemmas.{length-xor}
 use specs.Gcm.{gcm_tag, gcm_encrypted, gcm_decrypted, gcm_sealed}
 use specs.Ghash.{◌•◌, block_of, ghash}
 
-pub length-aes : (key block : List ℕ) → length (aes key block) ≡ 16
+pub length_aes : (key block : List ℕ) → length (aes key block) ≡ 16
 unfolding aes cipher add_round_key
-length-aes key block = refl
+length_aes key block = refl
 
 length-product : (x y : List ℕ) → length (x • y) ≡ 16
 unfolding ◌•◌ block_of
@@ -27,7 +27,7 @@ length-ghash h (x ∷ xs) = length-xor_16 _ _ (length-product x _) (length-ghash
 
 pub length-aes_tag : (key nonce aad ciphertext : List ℕ) → length (gcm_tag (aes key) nonce aad ciphertext) ≡ 16
 unfolding gcm_tag
-length-aes_tag key nonce aad ciphertext = length-xor_16 _ _ (length-ghash _ _) (length-aes key _)
+length-aes_tag key nonce aad ciphertext = length-xor_16 _ _ (length-ghash _ _) (length_aes key _)
 
 pub length-aes_encrypted : (key nonce message : List ℕ) → length (gcm_encrypted (aes key) nonce message) ≡ length message
 length-aes_encrypted key nonce message = length-counter_mode _ nonce 2 message

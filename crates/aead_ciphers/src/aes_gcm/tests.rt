@@ -74,7 +74,7 @@ fn nonce() -> Nonce {
     Nonce::assume_unique_for_key([7; 12])
 }
 
-#[tactic(auto, using(crate::proofs::MessageLaws::length-aes))]
+#[tactic(auto, using(crate::proofs::MessageLaws::length_aes))]
 fn seals(
     rt: &impl Abort,
     cipher: &CountingCipher<'_>,
