@@ -1,0 +1,18 @@
+/* The library's loops, in crates/aead_bench. */
+#include "bench.h"
+
+loop bench_seal, bench_open, bench_ctr32, bench_encrypt_four, bench_update_block, bench_chacha, bench_mask, bench_aes_key,
+    bench_less_safe_key, bench_clone;
+
+const side library = {{
+    [SEAL] = bench_seal,
+    [OPEN] = bench_open,
+    [CTR32] = bench_ctr32,
+    [ENCRYPT_FOUR] = bench_encrypt_four,
+    [UPDATE_BLOCK] = bench_update_block,
+    [CHACHA] = bench_chacha,
+    [MASK] = bench_mask,
+    [AES_KEY] = bench_aes_key,
+    [GCM_KEY] = bench_less_safe_key,
+    [CLONE] = bench_clone,
+}};

@@ -1,0 +1,202 @@
+/* OpenSSL's EVP. Each loop has one context, in which a call sets the key or the nonce alone. */
+#include "bench.h"
+#include <openssl/evp.h>
+#include <stdbool.h>
+#include <stdio.h>
+#include <stdlib.h>
+
+enum { DECRYPT, ENCRYPT };
+
+static const EVP_CIPHER *gcm(size_t key_len) { return key_len == 16 ? EVP_aes_128_gcm() : EVP_aes_256_gcm(); }
+static const EVP_CIPHER *ctr(size_t key_len) { return key_len == 16 ? EVP_aes_128_ctr() : EVP_aes_256_ctr(); }
+static const EVP_CIPHER *ecb(size_t key_len) { return key_len == 16 ? EVP_aes_128_ecb() : EVP_aes_256_ecb(); }
+
+static EVP_CIPHER_CTX *new_context(const EVP_CIPHER *cipher, const uint8_t *key, int direction) {
+    EVP_CIPHER_CTX *context = EVP_CIPHER_CTX_new();
+    if (!context || EVP_CipherInit_ex(context, cipher, NULL, key, NULL, direction) != 1) {
+        fputs("bench: OpenSSL refuses a key\n", stderr);
+        exit(2);
+    }
+    return context;
+}
+
+/* The first bytes, of a loop that is done with its context. */
+static uint64_t answer_of(EVP_CIPHER_CTX *context, const uint8_t *bytes) {
+    EVP_CIPHER_CTX_free(context);
+    return first_bytes(bytes);
+}
+
+static bool set_key(EVP_CIPHER_CTX *context, const uint8_t *key) {
+    return EVP_CipherInit_ex(context, NULL, NULL, key, NULL, -1) == 1;
+}
+
+static bool set_iv(EVP_CIPHER_CTX *context, const uint8_t *iv) {
+    return EVP_CipherInit_ex(context, NULL, NULL, NULL, iv, -1) == 1;
+}
+
+static bool update(EVP_CIPHER_CTX *context, uint8_t *out, const uint8_t *in, size_t len) {
+    int written;
+    return len == 0 || EVP_CipherUpdate(context, out, &written, in, (int)len) == 1;
+}
+
+static bool seal_with(EVP_CIPHER_CTX *context, const uint8_t *aad, size_t aad_len, uint8_t *data, size_t len,
+                      uint8_t *tag) {
+    int written;
+    return set_iv(context, nonce) && update(context, NULL, aad, aad_len) && update(context, data, data, len) &&
+           EVP_CipherFinal_ex(context, tag, &written) == 1 &&
+           EVP_CIPHER_CTX_ctrl(context, EVP_CTRL_AEAD_GET_TAG, TAG_LEN, tag) == 1;
+}
+
+/* Decrypts before it compares; returns whether the tag is that of the ciphertext. */
+static bool open_with(EVP_CIPHER_CTX *context, uint8_t *tag, uint8_t *data, size_t len) {
+    uint8_t none[BLOCK_LEN];
+    int written;
+    return set_iv(context, nonce) && update(context, data, data, len) &&
+           EVP_CIPHER_CTX_ctrl(context, EVP_CTRL_AEAD_SET_TAG, TAG_LEN, tag) == 1 &&
+           EVP_CipherFinal_ex(context, none, &written) == 1;
+}
+
+/* Opening makes the plaintext the ciphertext of what stood there before: two tags take turns. */
+static void seal_twice(const uint8_t *key, size_t key_len, uint8_t *buffer, size_t len, uint8_t tags[2][TAG_LEN]) {
+    EVP_CIPHER_CTX *context = new_context(gcm(key_len), key, ENCRYPT);
+    seal_with(context, NULL, 0, buffer, len, tags[1]);
+    seal_with(context, NULL, 0, buffer, len, tags[0]);
+    EVP_CIPHER_CTX_free(context);
+}
+
+static uint64_t seal(uint64_t times, const uint8_t *key, size_t key_len, uint8_t *buffer, size_t len) {
+    EVP_CIPHER_CTX *context = new_context(gcm(key_len), key, ENCRYPT);
+    uint8_t tag[TAG_LEN] = {0};
+    for (uint64_t i = 0; i < times; i++) seal_with(context, NULL, 0, buffer, len, tag);
+    return answer_of(context, tag);
+}
+
+static uint64_t open(uint64_t times, const uint8_t *key, size_t key_len, uint8_t *buffer, size_t len) {
+    EVP_CIPHER_CTX *context = new_context(gcm(key_len), key, DECRYPT);
+    uint8_t tags[2][TAG_LEN];
+    uint64_t opened = 0;
+    seal_twice(key, key_len, buffer, len, tags);
+    for (uint64_t i = 0; i < times; i++) opened += open_with(context, tags[i % 2], buffer, len);
+    return answer_of(context, tags[0]) + opened;
+}
+
+static uint64_t seal_once(uint64_t times, const uint8_t *key, size_t key_len, uint8_t *buffer, size_t len) {
+    EVP_CIPHER_CTX *context = new_context(gcm(key_len), NULL, ENCRYPT);
+    uint8_t tag[TAG_LEN] = {0};
+    for (uint64_t i = 0; i < times; i++) {
+        set_key(context, key);
+        seal_with(context, NULL, 0, buffer, len, tag);
+    }
+    return answer_of(context, tag);
+}
+
+static uint64_t open_once(uint64_t times, const uint8_t *key, size_t key_len, uint8_t *buffer, size_t len) {
+    EVP_CIPHER_CTX *context = new_context(gcm(key_len), NULL, DECRYPT);
+    uint8_t tags[2][TAG_LEN];
+    uint64_t opened = 0;
+    seal_twice(key, key_len, buffer, len, tags);
+    for (uint64_t i = 0; i < times; i++) {
+        opened += set_key(context, key) && open_with(context, tags[i % 2], buffer, len);
+    }
+    return answer_of(context, tags[0]) + opened;
+}
+
+static uint64_t gcm_key(uint64_t times, const uint8_t *key, size_t key_len, uint8_t *buffer, size_t len) {
+    EVP_CIPHER_CTX *context = new_context(gcm(len), NULL, ENCRYPT);
+    uint8_t tag[TAG_LEN] = {0};
+    (void)key_len;
+    set_key(context, key);
+    for (uint64_t i = 0; i < times; i++) {
+        set_first_bytes(buffer, i);
+        set_key(context, buffer);
+    }
+    seal_with(context, nonce, sizeof nonce, NULL, 0, tag);
+    return answer_of(context, tag);
+}
+
+static uint64_t aes_key(uint64_t times, const uint8_t *key, size_t key_len, uint8_t *buffer, size_t len) {
+    EVP_CIPHER_CTX *context = new_context(ecb(len), NULL, ENCRYPT);
+    uint8_t block[BLOCK_LEN] = {0};
+    (void)key_len;
+    set_key(context, key);
+    for (uint64_t i = 0; i < times; i++) {
+        set_first_bytes(buffer, i);
+        set_key(context, buffer);
+    }
+    update(context, block, block, sizeof block);
+    return answer_of(context, block);
+}
+
+static uint64_t ctr32(uint64_t times, const uint8_t *key, size_t key_len, uint8_t *buffer, size_t len) {
+    static const uint8_t one[BLOCK_LEN] = {1, 1, 1, 1, 1, 1, 1, 1, 1, 1, 1, 1, 0, 0, 0, 1};
+    EVP_CIPHER_CTX *context = new_context(ctr(key_len), key, ENCRYPT);
+    for (uint64_t i = 0; i < times; i++) {
+        set_iv(context, one);
+        update(context, buffer, buffer, len);
+    }
+    return answer_of(context, buffer);
+}
+
+static uint64_t encrypt_four(uint64_t times, const uint8_t *key, size_t key_len, uint8_t *buffer, size_t len) {
+    EVP_CIPHER_CTX *context = new_context(ecb(key_len), key, ENCRYPT);
+    uint8_t blocks[4 * BLOCK_LEN] = {0};
+    (void)buffer, (void)len;
+    for (uint64_t i = 0; i < times; i++) update(context, blocks, blocks, sizeof blocks);
+    return answer_of(context, blocks);
+}
+
+static uint64_t chacha(uint64_t times, const uint8_t *key, size_t key_len, uint8_t *buffer, size_t len) {
+    static const uint8_t one[BLOCK_LEN] = {1, 0, 0, 0, 1, 1, 1, 1, 1, 1, 1, 1, 1, 1, 1, 1};
+    EVP_CIPHER_CTX *context = new_context(EVP_chacha20(), key, ENCRYPT);
+    (void)key_len;
+    for (uint64_t i = 0; i < times; i++) {
+        set_iv(context, one);
+        update(context, buffer, buffer, len);
+    }
+    return answer_of(context, buffer);
+}
+
+/* By AES of a block, or by the stream that begins at the sample, in the context of such a key. */
+static void write_mask(EVP_CIPHER_CTX *context, size_t key_len, uint8_t *sample) {
+    uint8_t mask[BLOCK_LEN] = {0};
+    if (key_len == 16) {
+        update(context, mask, sample, SAMPLE_LEN);
+    } else {
+        set_iv(context, sample);
+        update(context, mask, mask, MASK_LEN);
+    }
+    memcpy(sample, mask, MASK_LEN);
+}
+
+static const EVP_CIPHER *mask_cipher(size_t key_len) { return key_len == 16 ? EVP_aes_128_ecb() : EVP_chacha20(); }
+
+static uint64_t mask(uint64_t times, const uint8_t *key, size_t key_len, uint8_t *buffer, size_t len) {
+    EVP_CIPHER_CTX *context = new_context(mask_cipher(key_len), key, ENCRYPT);
+    (void)len;
+    for (uint64_t i = 0; i < times; i++) write_mask(context, key_len, buffer);
+    return answer_of(context, buffer);
+}
+
+static uint64_t mask_once(uint64_t times, const uint8_t *key, size_t key_len, uint8_t *buffer, size_t len) {
+    EVP_CIPHER_CTX *context = new_context(mask_cipher(key_len), NULL, ENCRYPT);
+    (void)len;
+    for (uint64_t i = 0; i < times; i++) {
+        set_key(context, key);
+        write_mask(context, key_len, buffer);
+    }
+    return answer_of(context, buffer);
+}
+
+const side openssl = {{
+    [SEAL] = seal,
+    [OPEN] = open,
+    [SEAL_ONCE] = seal_once,
+    [OPEN_ONCE] = open_once,
+    [CTR32] = ctr32,
+    [ENCRYPT_FOUR] = encrypt_four,
+    [CHACHA] = chacha,
+    [MASK] = mask,
+    [MASK_ONCE] = mask_once,
+    [AES_KEY] = aes_key,
+    [GCM_KEY] = gcm_key,
+}};
