@@ -75,21 +75,22 @@ static const row rows[] = {
 typedef struct {
     const char *name;
     const side *side;
+    const side *of; /* the side of the library that it is compared with; null: each */
 } peer;
 
 static const peer all_peers[] = {
-    {"C", &plain},
+    {"C", &plain, NULL},
 #ifdef WITH_BEARSSL
-    {"BearSSL", &bearssl},
+    {"BearSSL", &bearssl, NULL},
 #endif
 #ifdef WITH_BEARSSL_CLANG
-    {"BearSSL, clang", &bearssl_clang},
+    {"BearSSL, clang", &bearssl_clang, NULL},
 #endif
 #ifdef WITH_OPENSSL
-    {"OpenSSL", &openssl},
+    {"OpenSSL", &openssl, NULL},
 #endif
 #ifdef WITH_BEFORE
-    {"Before", &before},
+    {"Before", &before, &library},
 #endif
 };
 
@@ -150,10 +151,11 @@ static bool agree(loop *a, loop *b, input in) {
     return run(b, times, in) == answer && memcmp(left, buffer, in.len) == 0;
 }
 
-/* As many calls as take half of the time or more. */
+/* As many calls as take half of the time or more, and more than what comes before them. */
 static uint64_t times_in(double seconds, loop *loop, input in) {
+    double without = seconds_of_run(loop, 0, in), least = seconds / 2 > without ? seconds / 2 : without;
     uint64_t times = 1;
-    while (seconds_of_calls(loop, times, in) < seconds / 2) times *= 2;
+    while (seconds_of_calls(loop, times, in) < least) times *= 2;
     return times;
 }
 
@@ -207,9 +209,9 @@ static bool print_peer(const row *r, input in, const timed *ours, const timed *t
     return false;
 }
 
-/* Whether a peer has what a row times. An older library is compared with its own loops alone. */
-static bool has(const peer *it, const row *r) {
-    return it->side->loops[r->operation] && (it->side != &before || r->library == &library);
+/* Whether a peer is timed in a row. */
+static bool is_in(const peer *it, const row *r) {
+    return it->side->loops[r->operation] && (!it->of || it->of == r->library);
 }
 
 /* Times a row at a length of the key, prints it, and returns whether the peers agree and the ratio is as wanted. */
@@ -219,7 +221,7 @@ static bool time_row(const row *r, size_t key_len, const peer *peers, int peer_c
     int count = 1;
     bool fine = true;
     for (const peer *it = peers; it < peers + peer_count; it++) {
-        if (!has(it, r)) continue;
+        if (!is_in(it, r)) continue;
         loop *theirs = it->side->loops[r->operation];
         if (agree(sides[0].loop, theirs, in)) {
             sides[count++] = (timed){.peer = it, .loop = theirs};

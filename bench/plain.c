@@ -360,27 +360,40 @@ static inline void double_round(u32 x[16]) {
     quarter_round(x, 3, 4, 9, 14);
 }
 
-/* The block of a counter and a nonce, 16 bytes. */
-static void chacha_block(u8 out[64], const u8 key[32], const u8 counter_and_nonce[16]) {
-    u32 s[16] = {0x61707865, 0x3320646e, 0x79622d32, 0x6b206574}, x[16];
-    memcpy(s + 4, key, 32);
-    memcpy(s + 12, counter_and_nonce, 16);
-    memcpy(x, s, 64);
+/* The state of a key, a counter and a nonce. */
+static void chacha_start(u32 state[16], const u8 key[32], u32 counter, const u8 nonce_bytes[NONCE_LEN]) {
+    static const u32 constants[4] = {0x61707865, 0x3320646e, 0x79622d32, 0x6b206574};
+    memcpy(state, constants, 16);
+    memcpy(state + 4, key, 32);
+    state[12] = counter;
+    memcpy(state + 13, nonce_bytes, NONCE_LEN);
+}
+
+static void chacha_block(u8 out[64], const u32 state[16]) {
+    u32 x[16];
+    memcpy(x, state, 64);
     for (int i = 0; i < 10; i++) double_round(x);
-    for (int i = 0; i < 16; i++) x[i] += s[i];
+    for (int i = 0; i < 16; i++) x[i] += state[i];
     memcpy(out, x, 64);
 }
 
 static void chacha_xor(const u8 key[32], u32 counter, u8 *data, size_t n) {
-    u8 at[16], b[64];
-    memcpy(at + 4, nonce, NONCE_LEN);
-    while (n) {
+    u32 state[16];
+    u8 b[64];
+    chacha_start(state, key, counter, nonce);
+    for (; n; state[12]++) {
         size_t m = n < 64 ? n : 64;
-        memcpy(at, &counter, 4);
-        chacha_block(b, key, at);
+        chacha_block(b, state);
         for (size_t i = 0; i < m; i++) data[i] ^= b[i];
-        data += m, n -= m, counter++;
+        data += m, n -= m;
     }
+}
+
+static void chacha_mask(u8 out[64], const u8 key[32], const u8 sample[SAMPLE_LEN]) {
+    u32 state[16], counter;
+    memcpy(&counter, sample, 4);
+    chacha_start(state, key, counter, sample + 4);
+    chacha_block(out, state);
 }
 
 /* The loops. */
@@ -470,7 +483,7 @@ static u64 mask(u64 times, const u8 *key, size_t key_len, u8 *buffer, size_t len
     if (key_len == 16) aes_init(&k, key, key_len);
     for (u64 i = 0; i < times; i++) {
         if (key_len == 16) aes_one(&k, b, buffer);
-        else chacha_block(b, key, buffer);
+        else chacha_mask(b, key, buffer);
         memcpy(buffer, b, MASK_LEN);
     }
     return first_bytes(buffer);
