@@ -1,4 +1,4 @@
-//! Loops over the library's calls, which `bench/bench.c` times beside plain C.
+//! Loops over the library's calls, which `bench/bench.c` times beside other code.
 //!
 //! Each takes a number of turns, a key and a buffer, works on the buffer in place where the call does, and
 //! returns eight bytes of what it made. So the two sides can be compared. Where the key or the buffer hasn't a
