@@ -96,10 +96,12 @@ static const peer all_peers[] = {
 
 enum { ALL_PEERS = sizeof all_peers / sizeof all_peers[0], MAX_SIDES = 1 + ALL_PEERS, TURNS = 31, LEAST_TURNS = 7 };
 
-/* What all loops of a row are given. */
+/* A row at a length of the key. */
 typedef struct {
+    const row *row;
+    char name[80];
     size_t key_len, len;
-} input;
+} timing;
 
 /* A side in a row: the library's is the first. */
 typedef struct {
@@ -121,54 +123,54 @@ static void fill_buffer(size_t len) {
     for (size_t i = 0; i < len; i++) buffer[i] = (uint8_t)(i * 167 + (i >> 5));
 }
 
-static uint64_t run(loop *loop, uint64_t times, input in) {
+static uint64_t run(loop *loop, uint64_t times, const timing *of) {
     uint8_t key[32];
     memset(key, 7, sizeof key);
-    return loop(times, key, in.key_len, buffer, in.len);
+    return loop(times, key, of->key_len, buffer, of->len);
 }
 
-static double seconds_of_run(loop *loop, uint64_t times, input in) {
-    fill_buffer(in.len);
+static double seconds_of_run(loop *loop, uint64_t times, const timing *of) {
+    fill_buffer(of->len);
     double from = seconds_of_clock(CLOCK_THREAD_CPUTIME_ID);
-    run(loop, times, in);
+    run(loop, times, of);
     return seconds_of_clock(CLOCK_THREAD_CPUTIME_ID) - from;
 }
 
 /* The time of the calls alone: that of a run without calls, which makes keys and tags, is taken off. */
-static double seconds_of_calls(loop *loop, uint64_t times, input in) {
-    double without = seconds_of_run(loop, 0, in);
-    return seconds_of_run(loop, times, in) - without;
+static double seconds_of_calls(loop *loop, uint64_t times, const timing *of) {
+    double without = seconds_of_run(loop, 0, of);
+    return seconds_of_run(loop, times, of) - without;
 }
 
 /* Whether two loops return the same and leave the same buffer. */
-static bool agree(loop *a, loop *b, input in) {
+static bool agree(loop *a, loop *b, const timing *of) {
     static uint8_t left[MAX_LEN];
-    uint64_t times = in.len > 16 * KIB ? 3 : 37;
-    fill_buffer(in.len);
-    uint64_t answer = run(a, times, in);
-    memcpy(left, buffer, in.len);
-    fill_buffer(in.len);
-    return run(b, times, in) == answer && memcmp(left, buffer, in.len) == 0;
+    uint64_t times = of->len > 16 * KIB ? 3 : 37;
+    fill_buffer(of->len);
+    uint64_t answer = run(a, times, of);
+    memcpy(left, buffer, of->len);
+    fill_buffer(of->len);
+    return run(b, times, of) == answer && memcmp(left, buffer, of->len) == 0;
 }
 
 /* As many calls as take half of the time or more, and more than what comes before them. */
-static uint64_t times_in(double seconds, loop *loop, input in) {
-    double without = seconds_of_run(loop, 0, in), least = seconds / 2 > without ? seconds / 2 : without;
+static uint64_t times_in(double seconds, loop *loop, const timing *of) {
+    double without = seconds_of_run(loop, 0, of), least = seconds / 2 > without ? seconds / 2 : without;
     uint64_t times = 1;
-    while (seconds_of_calls(loop, times, in) < least) times *= 2;
+    while (seconds_of_calls(loop, times, of) < least) times *= 2;
     return times;
 }
 
 /* Times the sides in turns, and returns how many turns they had. Each side is the first of some. */
-static int take_turns(timed *sides, int count, input in, double seconds) {
+static int take_turns(timed *sides, int count, const timing *of, double seconds) {
     double from = seconds_of_clock(CLOCK_THREAD_CPUTIME_ID);
-    for (int i = 0; i < count; i++) sides[i].times = times_in(seconds / (TURNS * count), sides[i].loop, in);
+    for (int i = 0; i < count; i++) sides[i].times = times_in(seconds / (TURNS * count), sides[i].loop, of);
     int turn = 0;
     for (; turn < TURNS; turn++) {
         if (turn >= LEAST_TURNS && seconds_of_clock(CLOCK_THREAD_CPUTIME_ID) - from > seconds) break;
         for (int i = 0; i < count; i++) {
             timed *it = &sides[(turn + i) % count];
-            it->seconds[turn] = seconds_of_calls(it->loop, it->times, in) / (double)it->times;
+            it->seconds[turn] = seconds_of_calls(it->loop, it->times, of) / (double)it->times;
         }
     }
     return turn;
@@ -181,14 +183,8 @@ static int by_value(const void *a, const void *b) {
 
 static void sort(double *values, int count) { qsort(values, (size_t)count, sizeof *values, by_value); }
 
-/* The row's name, and the algorithm's where the row is timed for two lengths of a key. */
-static void write_name(char *name, size_t size, const row *r, size_t key_len) {
-    if (r->key_lens[1]) snprintf(name, size, "%s, AES-%zu", r->name, 8 * key_len);
-    else snprintf(name, size, "%s", r->name);
-}
-
 /* Prints the line of a peer, and returns whether its ratio is as wanted. */
-static bool print_peer(const row *r, input in, const timed *ours, const timed *theirs, int turns) {
+static bool print_peer(const timing *of, const timed *ours, const timed *theirs, int turns) {
     double time[TURNS], ratio[TURNS];
     for (int i = 0; i < turns; i++) {
         time[i] = ours->seconds[i];
@@ -196,17 +192,15 @@ static bool print_peer(const row *r, input in, const timed *ours, const timed *t
     }
     sort(time, turns);
     sort(ratio, turns);
+    const row *r = of->row;
     double median = ratio[turns / 2], wanted = theirs->peer->side == &plain ? r->wanted : 0;
     printf("%s\t", r->name);
-    if (r->key_lens[1]) printf("%zu", 8 * in.key_len);
-    printf("\t%s\t%zu\t%.4g\t%.1f\t", r->shown == SPEED ? "MB/s" : "ns", in.len, 1e9 * time[turns / 2], r->wanted);
+    if (r->key_lens[1]) printf("%zu", 8 * of->key_len);
+    printf("\t%s\t%zu\t%.4g\t%.1f\t", r->shown == SPEED ? "MB/s" : "ns", of->len, 1e9 * time[turns / 2], r->wanted);
     printf("%s\t%.4g\t%.4g\t%.4g\n", theirs->peer->name, median, ratio[turns / 4], ratio[turns - 1 - turns / 4]);
     fflush(stdout);
-    if (median >= wanted) return true;
-    char name[80];
-    write_name(name, sizeof name, r, in.key_len);
-    fprintf(stderr, "bench: %s: %.2f of the C, and %.1f is wanted\n", name, median, wanted);
-    return false;
+    if (median < wanted) fprintf(stderr, "bench: %s: %.2f to the C, less than %.1f\n", of->name, median, wanted);
+    return median >= wanted;
 }
 
 /* Whether a peer is timed in a row. */
@@ -214,26 +208,33 @@ static bool is_in(const peer *it, const row *r) {
     return it->side->loops[r->operation] && (!it->of || it->of == r->library);
 }
 
-/* Times a row at a length of the key, prints it, and returns whether the peers agree and the ratio is as wanted. */
-static bool time_row(const row *r, size_t key_len, const peer *peers, int peer_count, double seconds) {
-    timed sides[MAX_SIDES] = {{.loop = r->library->loops[r->operation]}};
-    input in = {key_len, r->len == OF_KEY ? key_len : (size_t)r->len};
+/* Times a row, prints it, and returns whether the peers agree and the ratio is as wanted. */
+static bool time_row(const timing *of, const peer *peers, int peer_count, double seconds) {
+    timed sides[MAX_SIDES] = {{.loop = of->row->library->loops[of->row->operation]}};
     int count = 1;
     bool fine = true;
     for (const peer *it = peers; it < peers + peer_count; it++) {
-        if (!is_in(it, r)) continue;
-        loop *theirs = it->side->loops[r->operation];
-        if (agree(sides[0].loop, theirs, in)) {
+        if (!is_in(it, of->row)) continue;
+        loop *theirs = it->side->loops[of->row->operation];
+        if (agree(sides[0].loop, theirs, of)) {
             sides[count++] = (timed){.peer = it, .loop = theirs};
         } else {
-            fprintf(stderr, "bench: %s, a key of %zu bytes: %s differs\n", r->name, key_len, it->name);
+            fprintf(stderr, "bench: %s: %s differs\n", of->name, it->name);
             fine = false;
         }
     }
     if (count == 1) return fine;
-    int turns = take_turns(sides, count, in, seconds);
-    for (int i = 1; i < count; i++) fine &= print_peer(r, in, &sides[0], &sides[i], turns);
+    int turns = take_turns(sides, count, of, seconds);
+    for (int i = 1; i < count; i++) fine &= print_peer(of, &sides[0], &sides[i], turns);
     return fine;
+}
+
+/* The name has the algorithm's where the row is timed for two lengths of a key. */
+static timing timing_of(const row *r, size_t key_len) {
+    timing of = {.row = r, .key_len = key_len, .len = r->len == OF_KEY ? key_len : (size_t)r->len};
+    if (r->key_lens[1]) snprintf(of.name, sizeof of.name, "%s, AES-%zu", r->name, 8 * key_len);
+    else snprintf(of.name, sizeof of.name, "%s", r->name);
+    return of;
 }
 
 /* Whether a name has one of the words, or there is none. */
@@ -249,9 +250,8 @@ static bool time_rows(const peer *peers, int peer_count, double seconds, char **
     bool fine = true;
     for (const row *r = rows; r < rows + sizeof rows / sizeof rows[0]; r++) {
         for (int i = 0; i < 2 && r->key_lens[i]; i++) {
-            char name[80];
-            write_name(name, sizeof name, r, r->key_lens[i]);
-            if (is_wanted(name, words)) fine &= time_row(r, r->key_lens[i], peers, peer_count, seconds);
+            timing of = timing_of(r, r->key_lens[i]);
+            if (is_wanted(of.name, words)) fine &= time_row(&of, peers, peer_count, seconds);
         }
     }
     return fine;
