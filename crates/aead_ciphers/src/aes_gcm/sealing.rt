@@ -38,7 +38,7 @@ pub(super) fn seal_with<A: EncryptCtr32, G: UpdateBlocks>(
         work.old work.new }
 {
     let mut auth = Context::new(gcm, aad, in_out.len(), work)?;
-    if in_out.len() <= SHORT_LEN {
+    if !in_out.is_empty() && in_out.len() <= SHORT_LEN {
         let mask = encrypt_short(aes, nonce, in_out, work);
         auth.absorb(in_out, work);
         return Ok(finish(auth, mask, work));
