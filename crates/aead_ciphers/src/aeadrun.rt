@@ -48,6 +48,8 @@ impl From<io::Error> for Fault {
 /// A line ends at LF, and the last one may lack it. `output` is flushed after each answer, before the next line is read, so
 /// a caller may wait for an answer before it sends the next line. Output stops at the first failure, and what was
 /// written by then is a beginning of what would have been written. `output` is flushed in every case.
+///
+/// The line, the bytes of its words, and one word of its answer at a time are held in memory.
 pub fn lines<R: BufRead, W: Write>(alloc: Global, input: &mut R, output: &mut W) -> u8
     ensures status { result ≤ 2 }
     ensures fault { FAULT ≡ 2 }
@@ -74,13 +76,11 @@ fn answer_lines<R: BufRead, W: Write>(
         if !read_line(input, &mut line)? {
             break;
         }
-        match program.answer(line.as_slice())? {
-            Some(answer) => writeln!(output, "{answer}")?,
-            None => {
-                writeln!(output, "bad line")?;
-                all_answered = false;
-            }
+        if !program.answer(line.as_slice(), output)? {
+            output.write_all(b"bad line")?;
+            all_answered = false;
         }
+        output.write_all(b"\n")?;
         output.flush()?;
     }
     Ok(all_answered)

@@ -1,82 +1,112 @@
-//! The text of answers.
-ghost use Rattle.std.specs.Prelude.{◌≡◌, ◌≤◌, ◌++◌, length, take, codes, IfOk, OnErr, if◌then◌else◌};
+//! The text of answers, written word by word: no answer is held as a whole.
+ghost use Rattle.std.specs.Prelude.{◌≡◌, ◌≤◌, ◌++◌, length, take, codes, IfOk, OnOk, OnErr, if◌then◌else◌};
+ghost use Rattle.std.specs.Io.KnownBytes.{Appends};
 ghost use Rattle.std.specs.Result.{ForOk};
-ghost use Rattle.std.specs.String.{string_bytes};
 ghost use Rattle.aead_ciphers.specs.Words.{ok_line, word_of_bytes};
 
+use super::Fault;
 use super::words::text;
 use crate::aead::{Tag, Unspecified};
-use std::alloc::{AllocError, Global};
+use std::alloc::Global;
 use std::convert::AsSlice;
+use std::io::Write;
 
 /// `ok CIPHERTEXT TAG`, or `refused`.
-pub(super) fn seal_answer(
+pub(super) fn seal_answer<W: Write>(
     alloc: Global,
+    output: &mut W,
     ciphertext: &[u8],
     sealed: Result<Tag, Unspecified>,
-) -> Result<String, AllocError>
-    ensures ok { IfOk result (λ answer.
-        IfOk sealed (λ tag. string_bytes answer ≡ ok_line ciphertext.now tag)) }
-    ensures refused { IfOk result (λ answer. OnErr sealed (string_bytes answer ≡ codes "refused")) }
+) -> Result<(), Fault>
+    ensures ok { OnOk result (IfOk sealed (λ tag.
+        Appends (W.contents output.old) (W.contents output.new) (ok_line ciphertext.now tag))) }
+    ensures refused { OnOk result (OnErr sealed
+        (Appends (W.contents output.old) (W.contents output.new) (codes "refused"))) }
 {
     match sealed {
-        Ok(tag) => ok_answer(alloc, ciphertext, tag.as_ref()),
-        Err(Unspecified) => String::from_str(alloc, "refused"),
+        Ok(tag) => ok_answer(alloc, output, ciphertext, tag.as_ref()),
+        Err(Unspecified) => write_str(output, "refused"),
     }
 }
 
 /// `ok PLAINTEXT BUFFER`, or `refused BUFFER`, with the buffer as it then stands.
-pub(super) fn open_answer(
+pub(super) fn open_answer<W: Write>(
     alloc: Global,
+    output: &mut W,
     buffer: &[u8],
     opened: Result<usize, Unspecified>,
-) -> Result<String, AllocError>
+) -> Result<(), Fault>
     requires { ForOk opened (λ count. count ≤ length buffer.now) }
-    ensures ok { IfOk result (λ answer. IfOk opened (λ count.
-        string_bytes answer ≡ ok_line (take count buffer.now) buffer.now)) }
-    ensures refused { IfOk result (λ answer.
-        OnErr opened (string_bytes answer ≡ codes "refused " ++ word_of_bytes buffer.now)) }
+    ensures ok { OnOk result (IfOk opened (λ count. Appends (W.contents output.old)
+        (W.contents output.new) (ok_line (take count buffer.now) buffer.now))) }
+    ensures refused { OnOk result (OnErr opened (Appends (W.contents output.old)
+        (W.contents output.new) (codes "refused " ++ word_of_bytes buffer.now))) }
 {
     match opened {
-        Ok(count) => ok_answer(alloc, &buffer[..count], buffer),
+        Ok(count) => ok_answer(alloc, output, &buffer[..count], buffer),
         Err(Unspecified) => {
-            let buffer = text(alloc, buffer)?;
-            format!(in alloc; "refused {buffer}")
+            write_str(output, "refused ")?;
+            write_word(alloc, output, buffer)
         }
     }
 }
 
 /// `ok FIRST SECOND`.
-fn ok_answer(alloc: Global, first: &[u8], second: &[u8]) -> Result<String, AllocError>
-    ensures { IfOk result (λ answer. string_bytes answer ≡ ok_line first.now second.now) }
+fn ok_answer<W: Write>(
+    alloc: Global,
+    output: &mut W,
+    first: &[u8],
+    second: &[u8],
+) -> Result<(), Fault>
+    ensures { OnOk result (Appends (W.contents output.old) (W.contents output.new)
+        (ok_line first.now second.now)) }
 {
-    let first = text(alloc, first)?;
-    let second = text(alloc, second)?;
-    format!(in alloc; "ok {first} {second}")
+    write_str(output, "ok ")?;
+    write_word(alloc, output, first)?;
+    write_str(output, " ")?;
+    write_word(alloc, output, second)
 }
 
 /// `ok BYTES`, or `refused`.
-pub(super) fn bytes_answer<T: AsSlice<u8> + Drop>(
+pub(super) fn bytes_answer<W: Write, T: AsSlice<u8> + Drop>(
     alloc: Global,
+    output: &mut W,
     outcome: Result<T, Unspecified>,
-) -> Result<String, AllocError>
-    ensures ok { IfOk result (λ answer. IfOk outcome (λ bytes.
-        string_bytes answer ≡ codes "ok " ++ word_of_bytes (T.items bytes))) }
-    ensures refused { IfOk result (λ answer. OnErr outcome (string_bytes answer ≡ codes "refused")) }
+) -> Result<(), Fault>
+    ensures ok { OnOk result (IfOk outcome (λ bytes. Appends (W.contents output.old)
+        (W.contents output.new) (codes "ok " ++ word_of_bytes (T.items bytes)))) }
+    ensures refused { OnOk result (OnErr outcome
+        (Appends (W.contents output.old) (W.contents output.new) (codes "refused"))) }
 {
     match outcome {
         Ok(bytes) => {
-            let bytes = text(alloc, bytes.as_slice())?;
-            format!(in alloc; "ok {bytes}")
+            write_str(output, "ok ")?;
+            write_word(alloc, output, bytes.as_slice())
         }
-        Err(Unspecified) => String::from_str(alloc, "refused"),
+        Err(Unspecified) => write_str(output, "refused"),
     }
 }
 
 /// `ok`, or `refused`.
-pub(super) fn keys_answer(alloc: Global, are_made: bool) -> Result<String, AllocError>
-    ensures { IfOk result (λ answer.
-        string_bytes answer ≡ (if are_made then codes "ok" else codes "refused")) }
+pub(super) fn keys_answer<W: Write>(output: &mut W, are_made: bool) -> Result<(), Fault>
+    ensures { OnOk result (Appends (W.contents output.old) (W.contents output.new)
+        (if are_made then codes "ok" else codes "refused")) }
 {
-    String::from_str(alloc, if are_made { "ok" } else { "refused" })
+    write_str(output, if are_made { "ok" } else { "refused" })
+}
+
+/// Writes the word of bytes.
+fn write_word<W: Write>(alloc: Global, output: &mut W, bytes: &[u8]) -> Result<(), Fault>
+    ensures { OnOk result (Appends (W.contents output.old) (W.contents output.new)
+        (word_of_bytes bytes.now)) }
+{
+    let word = text(alloc, bytes)?;
+    write_str(output, word.as_str())
+}
+
+fn write_str<W: Write>(output: &mut W, text: &str) -> Result<(), Fault>
+    ensures { OnOk result (Appends (W.contents output.old) (W.contents output.new) text.now) }
+{
+    output.write_all(text.as_bytes())?;
+    Ok(())
 }

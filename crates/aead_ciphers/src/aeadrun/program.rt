@@ -1,9 +1,11 @@
 //! What the program keeps from line to line, and how it carries a command out.
 
+use super::Fault;
 use super::answers::{bytes_answer, keys_answer, open_answer, seal_answer};
 use super::calls::{Keys, mask, open, seal};
 use super::line::{Call, Command, LineError, Next};
-use std::alloc::{AllocError, Global};
+use std::alloc::Global;
+use std::io::Write;
 
 /// The program between two lines.
 #[derive(Drop)]
@@ -19,20 +21,19 @@ impl Program {
         Program { alloc, keys: None }
     }
 
-    /// The answer to a line, or `None` where it is a bad line, which changes nothing.
-    pub(super) fn answer(&mut self, line: &[u8]) -> Result<Option<String>, AllocError> {
+    /// Writes the answer to a line, and says whether it was a command. A bad line has no answer, and changes nothing.
+    pub(super) fn answer<W: Write>(&mut self, line: &[u8], output: &mut W) -> Result<bool, Fault> {
         match Command::parse(self.alloc, line) {
-            Ok(command) => self.carry_out(command),
-            Err(LineError::BadLine) => Ok(None),
-            Err(LineError::OutOfMemory) => Err(AllocError),
+            Ok(command) => self.carry_out(command, output),
+            Err(LineError::BadLine) => Ok(false),
+            Err(LineError::OutOfMemory) => Err(Fault),
         }
     }
 
-    /// Does what a command asks for, and gives its answer. `None` says that it asks for keys before any
-    /// were made.
-    fn carry_out(&mut self, command: Command) -> Result<Option<String>, AllocError> {
-        let answer = match command {
-            Command::Call(call) => call_answer(self.alloc, call)?,
+    /// Does what a command asks for, and writes its answer. `false` says that it asks for keys before any were made.
+    fn carry_out<W: Write>(&mut self, command: Command, output: &mut W) -> Result<bool, Fault> {
+        match command {
+            Command::Call(call) => answer_call(self.alloc, output, call)?,
             Command::Keys {
                 algorithm,
                 key,
@@ -41,23 +42,22 @@ impl Program {
                 count,
             } => {
                 let made = Keys::new(algorithm, &key, prefix, first, count);
-                let answer = keys_answer(self.alloc, made.is_ok())?;
+                keys_answer(output, made.is_ok())?;
                 if let Ok(keys) = made {
                     self.keys = Some(keys);
                 }
-                answer
             }
             Command::Next(next) => match &mut self.keys {
-                Some(keys) => next_answer(self.alloc, keys, next)?,
-                None => return Ok(None),
+                Some(keys) => answer_next(self.alloc, output, keys, next)?,
+                None => return Ok(false),
             },
-        };
-        Ok(Some(answer))
+        }
+        Ok(true)
     }
 }
 
-/// Makes a call with a key of its own, and gives its answer.
-fn call_answer(alloc: Global, call: Call) -> Result<String, AllocError> {
+/// Makes a call with a key of its own, and writes its answer.
+fn answer_call<W: Write>(alloc: Global, output: &mut W, call: Call) -> Result<(), Fault> {
     match call {
         Call::Seal {
             algorithm,
@@ -67,7 +67,7 @@ fn call_answer(alloc: Global, call: Call) -> Result<String, AllocError> {
             mut message,
         } => {
             let sealed = seal(algorithm, &key, &nonce, &aad, &mut message);
-            seal_answer(alloc, &message, sealed)
+            seal_answer(alloc, output, &message, sealed)
         }
         Call::Open {
             algorithm,
@@ -78,23 +78,28 @@ fn call_answer(alloc: Global, call: Call) -> Result<String, AllocError> {
             mut buffer,
         } => {
             let opened = open(algorithm, &key, &nonce, &aad, start, &mut buffer);
-            open_answer(alloc, &buffer, opened)
+            open_answer(alloc, output, &buffer, opened)
         }
         Call::Mask {
             algorithm,
             key,
             sample,
-        } => bytes_answer(alloc, mask(algorithm, &key, &sample)),
+        } => bytes_answer(alloc, output, mask(algorithm, &key, &sample)),
     }
 }
 
-/// Makes a call with the next nonce of the keys, and gives its answer.
-fn next_answer(alloc: Global, keys: &mut Keys, next: Next) -> Result<String, AllocError> {
+/// Makes a call with the next nonce of the keys, and writes its answer.
+fn answer_next<W: Write>(
+    alloc: Global,
+    output: &mut W,
+    keys: &mut Keys,
+    next: Next,
+) -> Result<(), Fault> {
     match next {
-        Next::Seal { aad, message } => bytes_answer(alloc, keys.next_seal(aad, message)),
+        Next::Seal { aad, message } => bytes_answer(alloc, output, keys.next_seal(aad, message)),
         Next::Open { aad, start, buffer } => {
             let (buffer, opened) = keys.next_open(aad, start, buffer);
-            open_answer(alloc, &buffer, opened)
+            open_answer(alloc, output, &buffer, opened)
         }
     }
 }
