@@ -1,2 +1,4 @@
 pub mod HeaderLemmas
+pub mod NumberBytes
+pub mod NumberLemmas
 pub mod PacketLemmas

@@ -2,4 +2,5 @@
 pub mod Header
 pub mod Keys
 pub mod Laws
+pub mod Numbers
 pub mod Packet
