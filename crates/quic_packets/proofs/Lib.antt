@@ -1,3 +1,4 @@
+pub mod DatagramLemmas
 pub mod HeaderLemmas
 pub mod NumberBytes
 pub mod NumberLemmas

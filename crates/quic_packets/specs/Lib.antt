@@ -1,4 +1,5 @@
 -- What the contracts cite.
+pub mod Datagram
 pub mod Header
 pub mod Keys
 pub mod Laws

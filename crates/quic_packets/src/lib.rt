@@ -3,6 +3,7 @@
 //! A packet is one slice: the header, which ends with the packet number, the payload, and 16 bytes for the tag.
 #![tactic(auto)]
 
+mod datagram;
 mod error;
 mod header;
 pub mod laws;
@@ -11,6 +12,7 @@ mod packet;
 mod receive;
 mod send;
 
+pub use datagram::{DatagramError, Packet, PacketType, Packets, packet_at, split};
 pub use error::PacketError;
 pub use header::HeaderKey;
 pub use receive::ReceiveKey;
