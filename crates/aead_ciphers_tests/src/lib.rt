@@ -45,6 +45,10 @@ mod packets;
 #[cfg(test)]
 mod quic;
 #[cfg(test)]
+mod quic_datagrams;
+#[cfg(test)]
+mod quic_numbers;
+#[cfg(test)]
 mod record_layer;
 #[cfg(test)]
 mod reference;

@@ -5,3 +5,4 @@ pub mod Keys
 pub mod Laws
 pub mod Numbers
 pub mod Packet
+pub mod Retry

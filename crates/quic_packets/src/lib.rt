@@ -10,10 +10,12 @@ pub mod laws;
 pub mod numbers;
 mod packet;
 mod receive;
+mod retry;
 mod send;
 
 pub use datagram::{DatagramError, Packet, PacketType, Packets, packet_at, split};
 pub use error::PacketError;
 pub use header::HeaderKey;
 pub use receive::ReceiveKey;
+pub use retry::{RetryError, is_genuine_retry, retry_tag};
 pub use send::SendKey;
