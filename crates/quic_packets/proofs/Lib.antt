@@ -1,2 +1,3 @@
+pub mod FreshNumbers
 pub mod HeaderLemmas
 pub mod PacketLemmas

@@ -3,3 +3,4 @@ pub mod Header
 pub mod Keys
 pub mod Laws
 pub mod Packet
+pub mod Suite

@@ -1,9 +1,10 @@
 //! Laws of the definitions: functions that answer nothing, whose contracts state a law for their arguments.
 
-ghost use Rattle.std.specs.Prelude.{◌≡◌, ℕ, List, length};
+ghost use Rattle.std.specs.Prelude.{◌≡◌, ℕ, ◌<◌, List, length, AllPairs};
 ghost use Rattle.aead_ciphers.specs.Counting.{xored_nonce};
 ghost use Rattle.aead_ciphers.specs.Packet.{PacketFits, sealed_packet};
 ghost use Rattle.quic_packets.specs.Header.{HasSample, Protected, Unprotected};
+ghost use Rattle.quic_packets.specs.Keys.{Sends};
 ghost use Rattle.quic_packets.specs.Laws.{OpensTo};
 ghost use Rattle.quic_packets.specs.Packet.{HasNumber};
 
@@ -46,4 +47,10 @@ pub fn packet_comes_back(
         sender.now.bytes (xored_nonce sender.now.iv sender.now.next) header_len packet.now) wire
         → Unprotected header_key.now number_at wire back → HasNumber number_at header_len back
         × OpensTo receiver.now sender.now.next header_len back packet.now }
+{}
+
+/// Over every run of calls of one key, the numbers that it seals under rise, so no nonce comes twice (RFC 9001 section
+/// 5.3).
+pub fn no_number_twice(first: &SendKey, last: &SendKey)
+    ensures { (numbers : List ℕ) → Sends first.now last.now numbers → AllPairs (λ m n. m < n) numbers }
 {}

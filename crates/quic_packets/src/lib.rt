@@ -9,8 +9,10 @@ pub mod laws;
 mod packet;
 mod receive;
 mod send;
+mod suite;
 
 pub use error::PacketError;
 pub use header::HeaderKey;
 pub use receive::ReceiveKey;
 pub use send::SendKey;
+pub use suite::Suite;
