@@ -2,5 +2,6 @@
 pub mod Header
 pub mod Keys
 pub mod Laws
+pub mod Numbers
 pub mod Packet
 pub mod Suite

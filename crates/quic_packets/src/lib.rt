@@ -6,6 +6,7 @@
 mod error;
 mod header;
 pub mod laws;
+pub mod numbers;
 mod packet;
 mod receive;
 mod send;
