@@ -45,6 +45,10 @@ mod packets;
 #[cfg(test)]
 mod quic;
 #[cfg(test)]
+mod quic_rows;
+#[cfg(test)]
+mod quic_sender;
+#[cfg(test)]
 mod record_layer;
 #[cfg(test)]
 mod reference;

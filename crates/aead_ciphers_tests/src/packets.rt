@@ -194,7 +194,7 @@ fn each_bit_flipped(rt: HostRuntime) -> Result<(), Fail> {
 }
 
 /// What each error says.
-const ERROR_TEXTS: [(PacketError, &str); 10] = [
+const ERROR_TEXTS: [(PacketError, &str); 15] = [
     (
         PacketError::KeyLength,
         "the key hasn't the length of the algorithm's keys",
@@ -214,6 +214,26 @@ const ERROR_TEXTS: [(PacketError, &str); 10] = [
     (
         PacketError::NumberUsed,
         "the next packet number lies beyond this one already",
+    ),
+    (
+        PacketError::NumberTooFar,
+        "4 bytes don't represent the packet number after the largest acknowledged one",
+    ),
+    (
+        PacketError::NoProtection,
+        "packets of this type have no protection",
+    ),
+    (
+        PacketError::KeyUsedUp,
+        "the key has sealed as many packets as it may",
+    ),
+    (
+        PacketError::HandshakeUnconfirmed,
+        "the handshake isn't confirmed",
+    ),
+    (
+        PacketError::PhaseUnacknowledged,
+        "no packet of this key phase was acknowledged",
     ),
     (
         PacketError::NoSample,

@@ -4,4 +4,5 @@ pub mod Keys
 pub mod Laws
 pub mod Numbers
 pub mod Packet
+pub mod Sending
 pub mod Suite

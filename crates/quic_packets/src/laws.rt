@@ -1,6 +1,6 @@
 //! Laws of the definitions: functions that answer nothing, whose contracts state a law for their arguments.
 
-ghost use Rattle.std.specs.Prelude.{◌≡◌, ℕ, ◌+◌, ◌*◌, ◌%◌, ◌^◌, ◌<◌, ◌≤◌, List, length, AllPairs};
+ghost use Rattle.std.specs.Prelude.{◌≡◌, ℕ, ◌+◌, ◌*◌, ◌%◌, ◌^◌, ◌<◌, ◌≤◌, List, length, flat_map, All, AllPairs};
 ghost use Rattle.std.specs.Int.Digits.{number_from_digits};
 ghost use Rattle.aead_ciphers.specs.Counting.{xored_nonce};
 ghost use Rattle.aead_ciphers.specs.Packet.{PacketFits, sealed_packet};
@@ -9,10 +9,12 @@ ghost use Rattle.quic_packets.specs.Keys.{Sends};
 ghost use Rattle.quic_packets.specs.Laws.{OpensTo};
 ghost use Rattle.quic_packets.specs.Numbers.{InWindow, IsAbove, IsDecoded, Represents, expected, unacknowledged};
 ghost use Rattle.quic_packets.specs.Packet.{HasNumber, IsNumber, low_bytes};
+ghost use Rattle.quic_packets.specs.Sending.{Runs};
 
 use crate::header::HeaderKey;
 use crate::receive::ReceiveKey;
 use crate::send::SendKey;
+use crate::sender::Sender;
 
 /// Unprotecting undoes protecting, for every packet and key (RFC 9001 section 5.4).
 #[tactic(auto, using(crate::proofs::HeaderLemmas::unprotected_back))]
@@ -92,4 +94,14 @@ pub fn decoded_as_sent(
 pub fn low_bytes_are_low_bits(number: u64, len: usize)
     requires { (0 < len) × (len ≤ 4) }
     ensures { number_from_digits 256 (low_bytes len number) ≡ number % 2 ^ (8 * len) }
+{}
+
+/// Over every run of calls of one sender, the numbers that it seals under rise, over all of its keys together, so no
+/// pair of key and number comes twice (RFC 9000 section 12.3, RFC 9001 section 5.3). Under each of its keys there are at
+/// most as many as its limit (RFC 9001 section 6.6).
+pub fn no_number_twice_over_keys(first: &Sender, last: &Sender)
+    ensures fresh { (by_key : List (List ℕ)) → Runs first.now last.now by_key
+        → AllPairs (λ m n. m < n) (flat_map (λ numbers. numbers) by_key) }
+    ensures limited { (by_key : List (List ℕ)) → Runs first.now last.now by_key
+        → All (λ numbers. length numbers ≤ first.now.limit) by_key }
 {}

@@ -10,10 +10,12 @@ pub mod numbers;
 mod packet;
 mod receive;
 mod send;
+mod sender;
 mod suite;
 
 pub use error::PacketError;
 pub use header::HeaderKey;
 pub use receive::ReceiveKey;
 pub use send::SendKey;
+pub use sender::Sender;
 pub use suite::Suite;
