@@ -1,2 +1,3 @@
 pub mod HeaderLemmas
 pub mod PacketLemmas
+pub mod SpaceLemmas

@@ -83,6 +83,12 @@ module _ (receiver : Receiving) (number h : ℕ) (packet : List ℕ) (has : Pack
       sym (get_or-take h whole 0 0 some) ∙ ap (λ xs. get_or xs 0 0) front ∙ get_or-take h packet 0 0 some in
       record { first_byte = has_number.first_byte; len = has_number.len ∙ ap (λ b. at + number_len b) (sym first) }
 
+  -- the header, unmasked again
+  pub same_front : (header_key : HeaderKey) (at : ℕ) (wire back : List ℕ) → HasSample at (length packet) → Protected header_key at whole wire
+      → Unprotected header_key at wire back → take h back ≡ take h packet
+  same_front header_key at wire back has_sample p u =
+      ap (take h) (unprotected_back header_key at whole wire back (subst (HasSample at) (sym length-whole) has_sample) p u) ∙ front
+
   pub comes_back : (header_key : HeaderKey) (at : ℕ) (wire back : List ℕ) → HasNumber at h packet → HasSample at (length packet)
       → Protected header_key at whole wire → Unprotected header_key at wire back → HasNumber at h back × OpensTo receiver number h back packet
   comes_back header_key at wire back has_number has_sample p u =

@@ -1,5 +1,7 @@
 -- What the contracts cite.
+pub mod Failures
 pub mod Header
 pub mod Keys
 pub mod Laws
 pub mod Packet
+pub mod Space

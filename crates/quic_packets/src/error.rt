@@ -2,7 +2,8 @@
 
 use thiserror::Error;
 
-/// Why a call refuses. Each refusal leaves the packet and the key as they came.
+/// Why a call refuses. Each refusal leaves the packet and the key as they came, but for the three that come after a packet
+/// was opened: `ReservedBits`, `Duplicate` and `KeyUpdate`.
 #[derive(Clone, Copy, PartialEq, Eq, Debug, Drop, Error)]
 pub enum PacketError {
     /// The algorithm's keys have another length.
@@ -33,4 +34,17 @@ pub enum PacketError {
     /// The tag is another than that of the header, the payload and the number under this key.
     #[error("the packet's tag isn't the one of its header, its payload and its number")]
     Refused,
+    /// As many packets have failed authentication as may (RFC 9001 section 6.6).
+    #[error("as many packets have failed authentication as may")]
+    TooManyFailures,
+    /// The packet is authentic, and its reserved bits are set (RFC 9000 sections 17.2 and 17.3.1).
+    #[error("the packet's reserved bits are set")]
+    ReservedBits,
+    /// The packet is authentic, and its number was received already, or lies below the window of those of which this is
+    /// known (RFC 9000 section 12.3).
+    #[error("the packet's number was received already, or is too low to tell")]
+    Duplicate,
+    /// The packet is authentic, and its key phase is out of turn (RFC 9001 section 6.4).
+    #[error("the packet's key phase is out of turn")]
+    KeyUpdate,
 }

@@ -65,6 +65,7 @@ impl HeaderKey {
             ↔ ((0 < number_at) × (length packet.old < number_at + 20)) }
         ensures unprotected { OnOk result (Unprotected self.now number_at packet.old packet.new) }
         ensures number_len { IfOk result (λ n. n ≡ number_len (slice_index packet.new 0)) }
+        ensures few { IfOk result (λ n. (0 < n) × (n ≤ 4)) }
         ensures kept { OnErr result (packet.new ≡ packet.old) }
     {
         let mask = self.mask(packet, number_at)?;

@@ -4,13 +4,17 @@
 #![tactic(auto)]
 
 mod error;
+mod failures;
 mod header;
 pub mod laws;
 mod packet;
 mod receive;
 mod send;
+mod space;
 
 pub use error::PacketError;
+pub use failures::Failures;
 pub use header::HeaderKey;
 pub use receive::ReceiveKey;
 pub use send::SendKey;
+pub use space::Space;

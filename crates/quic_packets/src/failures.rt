@@ -1,0 +1,72 @@
+//! How many packets have failed authentication (RFC 9001 section 6.6).
+
+ghost use Rattle.std.specs.Prelude.{◌≡◌, ◌+◌, ◌^◌, ◌<◌, ◌≤◌, ◌↔◌, IsTrue, min};
+
+use std::marker::Model;
+
+/// The packets that may fail authentication under all AES-GCM keys of a connection together (RFC 9001 section 6.6).
+const MAX_FAILURES: u64 = 1 << 52;
+
+/// How many packets have failed authentication, over all keys of a connection, and how many may.
+///
+/// Once the limit is reached every packet is refused, and the connection is to be closed (RFC 9001 section 6.6).
+#[derive(Drop)]
+pub struct Failures {
+    count: u64,
+    limit: u64,
+}
+
+impl Model for Failures {
+    ghost use Rattle.std.specs.Prelude.{◌^◌, ◌≤◌};
+    ghost use Rattle.quic_packets.specs.Failures.{Failures};
+
+    ghost Value = { Failures };
+
+    ghost view = { λ failures. record { count = failures.count; limit = failures.limit } };
+
+    ghost invariant = { λ failures. (failures.count ≤ failures.limit) × (failures.limit ≤ 2 ^ 52) };
+}
+
+impl Failures {
+    /// None yet, of the 2^52 that AES-GCM allows.
+    pub fn new() -> Self
+        ensures { result ≡ record { count = 0; limit = 2 ^ 52 } }
+    {
+        Failures {
+            count: 0,
+            limit: MAX_FAILURES,
+        }
+    }
+
+    /// None yet, of so many, and of 2^52 where that is less.
+    pub fn with_limit(limit: u64) -> Self
+        ensures { result ≡ record { count = 0; limit = min limit (2 ^ 52) } }
+    {
+        Failures {
+            count: 0,
+            limit: limit.min(MAX_FAILURES),
+        }
+    }
+
+    /// The packets that have failed authentication.
+    pub fn count(&self) -> u64
+        ensures { result ≡ self.now.count }
+    {
+        self.count
+    }
+
+    /// Whether no more may fail, so that every packet is refused.
+    pub fn is_at_limit(&self) -> bool
+        ensures { IsTrue result ↔ (self.now.limit ≤ self.now.count) }
+    {
+        self.count >= self.limit
+    }
+
+    /// Counts one more.
+    pub(crate) fn add_one(&mut self)
+        requires { self.old.count < self.old.limit }
+        ensures { self.new ≡ record self.old { count = self.old.count + 1 } }
+    {
+        self.count += 1;
+    }
+}
