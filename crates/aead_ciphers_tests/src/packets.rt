@@ -64,8 +64,7 @@ fn packets(rt: HostRuntime) -> Result<(), Fail> {
     Ok(())
 }
 
-/// Seals and protects a packet, and then unprotects and opens it: header and payload come back. Refused where sealing is,
-/// and where the sealed packet is too short for a sample.
+/// Seals and protects a packet, and then unprotects and opens it: header and payload come back. Refused where sealing is.
 fn there_and_back(
     sender: &mut SendKey,
     receiver: &ReceiveKey,
@@ -76,9 +75,9 @@ fn there_and_back(
     requires key { receiver.now.bytes ≡ sender.old.bytes }
     requires iv { receiver.now.iv ≡ sender.old.iv }
     ensures accepted { IsOk result ↔ (PacketFits number.end (length packet.old)
-        × HasNumber number.start number.end packet.old × IsNumber sender.old.next
-        × CarriesNumber sender.old.next number.start number.end packet.old
-        × HasSample number.start (length packet.old)) }
+        × HasNumber number.start number.end packet.old × HasSample number.start (length packet.old)
+        × IsNumber sender.old.next
+        × CarriesNumber sender.old.next number.start number.end packet.old) }
     ensures comes_back { OnOk result (take (length packet.old - 16) packet.new
         ≡ take (length packet.old - 16) packet.old) }
 {
@@ -131,6 +130,27 @@ fn chacha20_header(rt: HostRuntime) -> Result<(), Fail> {
     Ok(())
 }
 
+// A packet without a sample spends no number, and numbers are skipped forward only.
+#[test]
+fn skips(rt: HostRuntime) -> Result<(), Fail> {
+    let mut key = SendKey::new(&AES_128_GCM, &[1; 16], [2; 12], 5)?;
+    let mut short = [7; 20];
+    short[0] = 0x40;
+    short[1] = 5;
+    assert_eq!(rt; key.seal(&mut short, 1..2), Err(PacketError::NoSample));
+    assert_eq!(rt; key.next_number(), 5);
+    assert_eq!(rt; key.skip_to(4), Err(PacketError::NumberUsed));
+    key.skip_to(5)?;
+    key.skip_to(7)?;
+    let mut packet = [7; 21];
+    packet[0] = 0x40;
+    assert_eq!(rt; key.seal(&mut packet, 1..2)?, 7);
+    assert_eq!(rt; key.skip_to((1 << 62) + 1), Err(PacketError::NumbersEnded));
+    key.skip_to(1 << 62)?;
+    assert_eq!(rt; key.seal(&mut packet, 1..2), Err(PacketError::NumbersEnded));
+    Ok(())
+}
+
 /// The keys of a receiver.
 #[derive(Drop)]
 struct Receiver {
@@ -174,7 +194,7 @@ fn each_bit_flipped(rt: HostRuntime) -> Result<(), Fail> {
 }
 
 /// What each error says.
-const ERROR_TEXTS: [(PacketError, &str); 9] = [
+const ERROR_TEXTS: [(PacketError, &str); 10] = [
     (
         PacketError::KeyLength,
         "the key hasn't the length of the algorithm's keys",
@@ -190,6 +210,10 @@ const ERROR_TEXTS: [(PacketError, &str); 9] = [
     (
         PacketError::OtherNumber,
         "the header holds another packet number than the next one",
+    ),
+    (
+        PacketError::NumberUsed,
+        "the next packet number lies beyond this one already",
     ),
     (
         PacketError::NoSample,

@@ -1,3 +1,6 @@
+pub mod FreshNumbers
 pub mod HeaderLemmas
+pub mod NumberBytes
+pub mod NumberLemmas
 pub mod PacketLemmas
 pub mod SpaceLemmas

@@ -3,5 +3,7 @@ pub mod Failures
 pub mod Header
 pub mod Keys
 pub mod Laws
+pub mod Numbers
 pub mod Packet
 pub mod Space
+pub mod Suite

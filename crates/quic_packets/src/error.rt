@@ -18,6 +18,9 @@ pub enum PacketError {
     /// The header holds another packet number than the next one.
     #[error("the header holds another packet number than the next one")]
     OtherNumber,
+    /// The next packet number lies beyond this one already.
+    #[error("the next packet number lies beyond this one already")]
+    NumberUsed,
     /// The packet ends before the 16 bytes that stand 4 bytes after the packet number's first byte (RFC 9001
     /// section 5.4.2).
     #[error("the packet is too short for a sample of header protection")]

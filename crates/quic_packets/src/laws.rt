@@ -1,11 +1,14 @@
 //! Laws of the definitions: functions that answer nothing, whose contracts state a law for their arguments.
 
-ghost use Rattle.std.specs.Prelude.{◌≡◌, ℕ, List, length};
+ghost use Rattle.std.specs.Prelude.{◌≡◌, ℕ, ◌+◌, ◌*◌, ◌%◌, ◌^◌, ◌<◌, ◌≤◌, List, length, AllPairs};
+ghost use Rattle.std.specs.Int.Digits.{number_from_digits};
 ghost use Rattle.aead_ciphers.specs.Counting.{xored_nonce};
 ghost use Rattle.aead_ciphers.specs.Packet.{PacketFits, sealed_packet};
 ghost use Rattle.quic_packets.specs.Header.{HasSample, Protected, Unprotected};
+ghost use Rattle.quic_packets.specs.Keys.{Sends};
 ghost use Rattle.quic_packets.specs.Laws.{OpensTo};
-ghost use Rattle.quic_packets.specs.Packet.{HasNumber};
+ghost use Rattle.quic_packets.specs.Numbers.{InWindow, IsAbove, IsDecoded, Represents, expected, unacknowledged};
+ghost use Rattle.quic_packets.specs.Packet.{HasNumber, IsNumber, low_bytes};
 
 use crate::header::HeaderKey;
 use crate::receive::ReceiveKey;
@@ -46,4 +49,47 @@ pub fn packet_comes_back(
         sender.now.bytes (xored_nonce sender.now.iv sender.now.next) header_len packet.now) wire
         → Unprotected header_key.now number_at wire back → HasNumber number_at header_len back
         × OpensTo receiver.now sender.now.next header_len back packet.now }
+{}
+
+/// Over every run of calls of one key, the numbers that it seals under rise, so no nonce comes twice (RFC 9001 section
+/// 5.3).
+pub fn no_number_twice(first: &SendKey, last: &SendKey)
+    ensures { (numbers : List ℕ) → Sends first.now last.now numbers → AllPairs (λ m n. m < n) numbers }
+{}
+
+/// A number in the window of `len` bytes around the one that the receiver expects is decoded right, and away from the
+/// first and the last numbers no other is (RFC 9000 appendix A.3).
+#[tactic(auto, using(crate::proofs::NumberLemmas::back))]
+pub fn decoded_in_window(number: u64, largest_received: Option<u64>, len: usize)
+    requires { IsNumber number }
+    ensures right { (decoded : ℕ) → IsDecoded (expected largest_received) (number % 2 ^ (8 * len)) len decoded
+        → InWindow (expected largest_received) len number → decoded ≡ number }
+    ensures wrong { (decoded : ℕ) → IsDecoded (expected largest_received) (number % 2 ^ (8 * len)) len decoded
+        → 2 ^ (8 * len) ≤ number → IsNumber (number + 2 ^ (8 * len)) → decoded ≡ number
+        → InWindow (expected largest_received) len number }
+{}
+
+/// A number that is sent in as many bytes as represent its range is decoded right by every receiver that has received
+/// what it acknowledged, and no number so far beyond this one that the window has left it (RFC 9000 section 17.1).
+pub fn decoded_as_sent(
+    number: u64,
+    largest_acknowledged: Option<u64>,
+    largest_received: Option<u64>,
+    len: usize,
+)
+    requires number { IsNumber number }
+    requires above { IsAbove number largest_acknowledged }
+    requires represents { Represents len (unacknowledged number largest_acknowledged) }
+    requires received { expected largest_acknowledged ≤ expected largest_received }
+    requires late { 2 * expected largest_received < 2 * number + 2 ^ (8 * len) }
+    ensures { (decoded : ℕ) → IsDecoded (expected largest_received) (number % 2 ^ (8 * len)) len decoded
+        → decoded ≡ number }
+{}
+
+/// The bytes that a header carries of a number, which `SendKey::seal` demands to be its low ones, are its low bits in
+/// network byte order (RFC 9000 section 17.1).
+#[tactic(auto, using(crate::proofs::NumberBytes::number_low_bytes))]
+pub fn low_bytes_are_low_bits(number: u64, len: usize)
+    requires { (0 < len) × (len ≤ 4) }
+    ensures { number_from_digits 256 (low_bytes len number) ≡ number % 2 ^ (8 * len) }
 {}

@@ -7,10 +7,12 @@ mod error;
 mod failures;
 mod header;
 pub mod laws;
+pub mod numbers;
 mod packet;
 mod receive;
 mod send;
 mod space;
+mod suite;
 
 pub use error::PacketError;
 pub use failures::Failures;
@@ -18,3 +20,4 @@ pub use header::HeaderKey;
 pub use receive::ReceiveKey;
 pub use send::SendKey;
 pub use space::Space;
+pub use suite::Suite;
