@@ -5,5 +5,6 @@ pub mod Keys
 pub mod Laws
 pub mod Numbers
 pub mod Packet
+pub mod Receiving
 pub mod Space
 pub mod Suite

@@ -1,7 +1,8 @@
 //! How many packets have failed authentication (RFC 9001 section 6.6).
 
-ghost use Rattle.std.specs.Prelude.{◌≡◌, ◌+◌, ◌^◌, ◌<◌, ◌≤◌, ◌↔◌, IsTrue, min};
+ghost use Rattle.std.specs.Prelude.{◌≡◌, ◌≢◌, ◌+◌, ◌^◌, ◌<◌, ◌≤◌, ◌↔◌, IsTrue, min};
 
+use crate::error::PacketError;
 use std::marker::Model;
 
 /// The packets that may fail authentication under all AES-GCM keys of a connection together (RFC 9001 section 6.6).
@@ -62,11 +63,14 @@ impl Failures {
         self.count >= self.limit
     }
 
-    /// Counts one more.
-    pub(crate) fn add_one(&mut self)
+    /// Counts one more where this is why a packet is refused: it failed authentication.
+    pub(crate) fn note(&mut self, error: PacketError)
         requires { self.old.count < self.old.limit }
-        ensures { self.new ≡ record self.old { count = self.old.count + 1 } }
+        ensures failed { error ≡ PacketError.Refused → self.new ≡ record self.old { count = self.old.count + 1 } }
+        ensures others { error ≢ PacketError.Refused → self.new ≡ self.old }
     {
-        self.count += 1;
+        if let PacketError::Refused = error {
+            self.count += 1;
+        }
     }
 }

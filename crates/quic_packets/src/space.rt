@@ -1,7 +1,8 @@
 //! The packet numbers that were received in one space (RFC 9000 section 12.3).
 
-ghost use Rattle.std.specs.Prelude.{◌≡◌, ℕ, ◌+◌, ◌-◌, ◌<◌, ◌≤◌, ◌↔◌, IsTrue, MatchOption};
+ghost use Rattle.std.specs.Prelude.{◌≡◌, ℕ, ◌+◌, ◌-◌, ◌<◌, ◌≤◌, ◌↔◌, IsTrue};
 ghost use Rattle.std.specs.Int.{bit_at};
+ghost use Rattle.quic_packets.specs.Numbers.{expected};
 ghost use Rattle.quic_packets.specs.Packet.{IsNumber};
 ghost use Rattle.quic_packets.specs.Space.{IsNew, Marks};
 
@@ -40,7 +41,7 @@ impl Space {
 
     /// The largest number that was received.
     pub fn largest(&self) -> Option<u64>
-        ensures { MatchOption result (self.now.next ≡ 0) (λ largest. largest + 1 ≡ self.now.next) }
+        ensures { expected result ≡ self.now.next }
     {
         self.next.checked_sub(1)
     }
