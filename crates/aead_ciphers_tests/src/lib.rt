@@ -45,6 +45,8 @@ mod packets;
 #[cfg(test)]
 mod quic;
 #[cfg(test)]
+mod quic_receiver;
+#[cfg(test)]
 mod record_layer;
 #[cfg(test)]
 mod reference;

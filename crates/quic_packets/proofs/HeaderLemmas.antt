@@ -67,7 +67,7 @@ same_range from len xs ys fits e same =
     get_or-take len (drop from xs) i 0 lt ∙ get_or-drop from xs i 0 ∙ same (from + i) (omega arith)
     ∙ sym (get_or-take len (drop from ys) i 0 lt ∙ get_or-drop from ys i 0))
 
-number_len-le : (first : ℕ) → number_len first ≤ 4
+pub number_len-le : (first : ℕ) → number_len first ≤ 4
 number_len-le first = omega (arith, and_le_r first 3)
 
 -- a masked packet has the same sample

@@ -6,5 +6,6 @@ pub mod Laws
 pub mod Numbers
 pub mod Packet
 pub mod Receiving
+pub mod Runs
 pub mod Space
 pub mod Suite

@@ -1,18 +1,22 @@
 //! Laws of the definitions: functions that answer nothing, whose contracts state a law for their arguments.
 
-ghost use Rattle.std.specs.Prelude.{◌≡◌, ℕ, ◌+◌, ◌*◌, ◌%◌, ◌^◌, ◌<◌, ◌≤◌, List, length, AllPairs};
+ghost use Rattle.std.specs.Prelude.{◌≡◌, ◌≢◌, ℕ, ◌+◌, ◌*◌, ◌%◌, ◌^◌, ◌<◌, ◌≤◌, List, length, slice_index, Some, AllPairs};
 ghost use Rattle.std.specs.Int.Digits.{number_from_digits};
 ghost use Rattle.aead_ciphers.specs.Counting.{xored_nonce};
 ghost use Rattle.aead_ciphers.specs.Packet.{PacketFits, sealed_packet};
-ghost use Rattle.quic_packets.specs.Header.{HasSample, Protected, Unprotected};
-ghost use Rattle.quic_packets.specs.Keys.{Sends};
+ghost use Rattle.quic_packets.specs.Header.{HasSample, Protected, Unprotected, number_len};
+ghost use Rattle.quic_packets.specs.Keys.{Receiving, Sends};
 ghost use Rattle.quic_packets.specs.Laws.{OpensTo};
 ghost use Rattle.quic_packets.specs.Numbers.{InWindow, IsAbove, IsDecoded, Represents, expected, unacknowledged};
-ghost use Rattle.quic_packets.specs.Packet.{HasNumber, IsNumber, low_bytes};
+ghost use Rattle.quic_packets.specs.Packet.{CarriesNumber, HasNumber, IsNumber, low_bytes};
+ghost use Rattle.quic_packets.specs.Receiving.{IsInTurn, Reads, key_of, reserved_bits};
+ghost use Rattle.quic_packets.specs.Runs.{Counts, Follows, Holds, Life, ReadAsSent, WasSent};
 
 use crate::header::HeaderKey;
 use crate::receive::ReceiveKey;
+use crate::receiver::Receiver;
 use crate::send::SendKey;
+use crate::space::Space;
 
 /// Unprotecting undoes protecting, for every packet and key (RFC 9001 section 5.4).
 #[tactic(auto, using(crate::proofs::HeaderLemmas::unprotected_back))]
@@ -92,4 +96,38 @@ pub fn decoded_as_sent(
 pub fn low_bytes_are_low_bits(number: u64, len: usize)
     requires { (0 < len) × (len ≤ 4) }
     ensures { number_from_digits 256 (low_bytes len number) ≡ number % 2 ^ (8 * len) }
+{}
+
+/// A packet whose key a receiver holds, and whose number lies in the window around the one that it expects, is read as it
+/// was sent: number and header are the sender's, it is authentic, and its payload comes back (RFC 9001 sections 5.3 and 5.4).
+pub fn read_as_sent(receiver: &Receiver, space: &Space, packet: &[u8], number_at: usize, header_len: usize, number: u64)
+    requires fits { PacketFits header_len (length packet.now) }
+    requires has_number { HasNumber number_at header_len packet.now }
+    requires sample { HasSample number_at (length packet.now) }
+    requires is_number { IsNumber number }
+    requires carries { CarriesNumber number number_at header_len packet.now }
+    requires window { InWindow space.now.next (number_len (slice_index packet.now 0)) number }
+    ensures { (key : Receiving) → key_of receiver.now (slice_index packet.now 0) number ≡ Some key
+        → (wire plain : List ℕ) → (n : ℕ) → Protected receiver.now.header number_at
+        (sealed_packet key.bytes (xored_nonce key.iv number) header_len packet.now) wire
+        → Reads receiver.now.header space.now.next number_at wire plain n
+        → ReadAsSent receiver.now number number_at header_len packet.now plain n }
+{}
+
+/// Over every run of sends, skips and key updates of a sender, and of a receiver that is given its keys in their order, a
+/// packet whose key the receiver holds is received: it is read as it was sent, and it is in turn (RFC 9001 section 6). So
+/// `Receiver::receive` returns it where its number is new, and says that it is a duplicate where it isn't.
+pub fn received_as_sent(receiver: &Receiver, space: &Space)
+    ensures { (life : Life) → (updates number number_at header_len : ℕ) → (packet wire plain : List ℕ) → (n : ℕ)
+        → Follows life receiver.now updates → Holds receiver.now updates (life.updates number)
+        → WasSent life receiver.now.header number number_at header_len packet wire
+        → InWindow space.now.next (number_len (slice_index packet 0)) number
+        → Reads receiver.now.header space.now.next number_at wire plain n
+        → ReadAsSent receiver.now number number_at header_len packet plain n
+        × (reserved_bits (slice_index plain 0) ≡ 0) × IsInTurn receiver.now (slice_index plain 0) n }
+{}
+
+/// Over every run of packets that are received in one space, no number is received twice (RFC 9000 section 12.3).
+pub fn no_number_received_twice(space: &Space)
+    ensures { (numbers : List ℕ) → Counts space.now numbers → AllPairs (λ m n. m ≢ n) numbers }
 {}
