@@ -76,11 +76,12 @@ fn answer_lines<R: BufRead, W: Write>(
         if !read_line(input, &mut line)? {
             break;
         }
-        if !program.answer(line.as_slice(), output)? {
-            output.write_all(b"bad line")?;
+        if program.answer(line.as_slice(), output)? {
+            output.write_all(b"\n")?;
+        } else {
+            output.write_all(b"bad line\n")?;
             all_answered = false;
         }
-        output.write_all(b"\n")?;
         output.flush()?;
     }
     Ok(all_answered)
