@@ -1,2 +1,12 @@
+pub mod DatagramLemmas
+pub mod FreshNumbers
 pub mod HeaderLemmas
+pub mod NumberBytes
+pub mod NumberLemmas
+pub mod NumberedLemmas
 pub mod PacketLemmas
+pub mod ReceivingLemmas
+pub mod RunLemmas
+pub mod SenderRuns
+pub mod SentLemmas
+pub mod SpaceLemmas

@@ -55,7 +55,7 @@ module _ (receiver : Receiving) (number h : ℕ) (packet : List ℕ) (has : Pack
   end : drop (length (drop h whole) - 16) (drop h whole) ≡ its_tag
   end = ap (drop (length (drop h whole) - 16)) behind ∙ drop_at body its_tag (length (drop h whole) - 16) (omega (arith, length-behind))
 
-  length-whole : length whole ≡ length packet
+  pub length-whole : length whole ≡ length packet
   length-whole =
       length-append (take h packet) (body ++ its_tag)
       ∙ omega (arith, length-header, ap length behind, length-behind, length-aes_encrypted key nonce text, length-text, has.room)
@@ -82,6 +82,12 @@ module _ (receiver : Receiving) (number h : ℕ) (packet : List ℕ) (has : Pack
       let first : get_or whole 0 0 ≡ get_or packet 0 0 =
       sym (get_or-take h whole 0 0 some) ∙ ap (λ xs. get_or xs 0 0) front ∙ get_or-take h packet 0 0 some in
       record { first_byte = has_number.first_byte; len = has_number.len ∙ ap (λ b. at + number_len b) (sym first) }
+
+  -- the header, unmasked again
+  pub same_front : (header_key : HeaderKey) (at : ℕ) (wire back : List ℕ) → HasSample at (length packet) → Protected header_key at whole wire
+      → Unprotected header_key at wire back → take h back ≡ take h packet
+  same_front header_key at wire back has_sample p u =
+      ap (take h) (unprotected_back header_key at whole wire back (subst (HasSample at) (sym length-whole) has_sample) p u) ∙ front
 
   pub comes_back : (header_key : HeaderKey) (at : ℕ) (wire back : List ℕ) → HasNumber at h packet → HasSample at (length packet)
       → Protected header_key at whole wire → Unprotected header_key at wire back → HasNumber at h back × OpensTo receiver number h back packet

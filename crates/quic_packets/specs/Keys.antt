@@ -1,5 +1,5 @@
 -- What a contract sees of the keys.
-use Rattle.std.specs.Prelude.{ℕ, List}
+use Rattle.std.specs.Prelude.{ℕ, ◌+◌, ◌≤◌, List, [], ◌∷◌}
 use Rattle.aead_ciphers.specs.declared.aead.algorithm.Algorithm.{Algorithm}
 
 -- of a key that opens: its algorithm, its bytes and its IV
@@ -14,3 +14,10 @@ pub record Sending : Type 0 where
   pub bytes : List ℕ
   pub iv : List ℕ
   pub next : ℕ
+
+-- What a key that seals becomes over calls, and the numbers that it seals under: a call seals under its next number, skips to one
+-- that isn't below it, or is refused and leaves the key.
+pub data Sends : Sending → Sending → List ℕ → Type 0 where
+  none : (s : Sending) → Sends s s []
+  seals : (s t : Sending) (numbers : List ℕ) → Sends (record s { next = s.next + 1 }) t numbers → Sends s t (s.next ∷ numbers)
+  skips : (s t : Sending) (numbers : List ℕ) (n : ℕ) → s.next ≤ n → Sends (record s { next = n }) t numbers → Sends s t numbers

@@ -1,5 +1,14 @@
 -- What the contracts cite.
+pub mod Datagram
+pub mod Exchange
+pub mod Failures
 pub mod Header
 pub mod Keys
 pub mod Laws
+pub mod Numbers
 pub mod Packet
+pub mod Receiving
+pub mod Retry
+pub mod Sending
+pub mod Space
+pub mod Suite

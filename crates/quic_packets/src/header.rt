@@ -13,6 +13,9 @@ const MAX_NUMBER_LEN: usize = 4;
 
 const SAMPLE_LEN: usize = 16;
 
+/// A sample ends this many bytes after the first byte of the packet number.
+pub(crate) const SAMPLE_END: usize = MAX_NUMBER_LEN + SAMPLE_LEN;
+
 /// A key that masks and unmasks headers. One serves both ways, and a packet's number isn't needed.
 #[derive(Drop)]
 pub struct HeaderKey {
@@ -65,6 +68,7 @@ impl HeaderKey {
             ↔ ((0 < number_at) × (length packet.old < number_at + 20)) }
         ensures unprotected { OnOk result (Unprotected self.now number_at packet.old packet.new) }
         ensures number_len { IfOk result (λ n. n ≡ number_len (slice_index packet.new 0)) }
+        ensures few { IfOk result (λ n. (0 < n) × (n ≤ 4)) }
         ensures kept { OnErr result (packet.new ≡ packet.old) }
     {
         let mask = self.mask(packet, number_at)?;
@@ -86,8 +90,7 @@ impl HeaderKey {
         if number_at == 0 {
             return Err(PacketError::NumberAtFirstByte);
         }
-        let needed = MAX_NUMBER_LEN + SAMPLE_LEN;
-        if packet.len() < needed || packet.len() - needed < number_at {
+        if packet.len() < SAMPLE_END || packet.len() - SAMPLE_END < number_at {
             return Err(PacketError::NoSample);
         }
         let sample_at = number_at + MAX_NUMBER_LEN;

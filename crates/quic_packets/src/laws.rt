@@ -1,15 +1,26 @@
-//! Laws of the definitions: functions that answer nothing, whose contracts state a law for their arguments.
+//! Laws of the definitions: functions without a body, whose contracts state a law for their arguments.
 
-ghost use Rattle.std.specs.Prelude.{◌≡◌, ℕ, List, length};
+ghost use Rattle.std.specs.Prelude.{◌≡◌, ◌≢◌, ℕ, ◌+◌, ◌*◌, ◌%◌, ◌^◌, ◌<◌, ◌≤◌, List, length, slice_index, flat_map, All, AllPairs, Contains, Result};
+ghost use Rattle.std.specs.Int.Digits.{number_from_digits};
 ghost use Rattle.aead_ciphers.specs.Counting.{xored_nonce};
 ghost use Rattle.aead_ciphers.specs.Packet.{PacketFits, sealed_packet};
-ghost use Rattle.quic_packets.specs.Header.{HasSample, Protected, Unprotected};
+ghost use Rattle.quic_packets.specs.Header.{HasSample, Protected, Unprotected, number_len};
+ghost use Rattle.quic_packets.specs.Exchange.{Counts, Follows, GivesBack, HasSent, Holds, Life, Sent};
+ghost use Rattle.quic_packets.specs.Keys.{Sends};
 ghost use Rattle.quic_packets.specs.Laws.{OpensTo};
-ghost use Rattle.quic_packets.specs.Packet.{HasNumber};
+ghost use Rattle.quic_packets.specs.Numbers.{InWindow, IsAbove, IsDecoded, Represents, expected, unacknowledged};
+ghost use Rattle.quic_packets.specs.Sending.{Runs};
+ghost use Rattle.quic_packets.specs.Packet.{HasNumber, IsNumber, low_bytes};
+ghost use Rattle.quic_packets.specs.Receiving.{Outcome, Reads, Receiver as ReceiverState};
+ghost use Rattle.quic_packets.specs.declared.error.PacketError.{PacketError};
+ghost use Rattle.quic_packets.specs.declared.receiver.Received.{Received};
 
 use crate::header::HeaderKey;
 use crate::receive::ReceiveKey;
+use crate::receiver::Receiver;
 use crate::send::SendKey;
+use crate::sender::Sender;
+use crate::space::Space;
 
 /// Unprotecting undoes protecting, for every packet and key (RFC 9001 section 5.4).
 #[tactic(auto, using(crate::proofs::HeaderLemmas::unprotected_back))]
@@ -46,4 +57,81 @@ pub fn packet_comes_back(
         sender.now.bytes (xored_nonce sender.now.iv sender.now.next) header_len packet.now) wire
         → Unprotected header_key.now number_at wire back → HasNumber number_at header_len back
         × OpensTo receiver.now sender.now.next header_len back packet.now }
+{}
+
+/// Over every run of calls of one key, the numbers that it seals under rise, so no nonce comes twice (RFC 9001 section
+/// 5.3).
+pub fn no_number_twice(first: &SendKey, last: &SendKey)
+    ensures { (numbers : List ℕ) → Sends first.now last.now numbers → AllPairs (λ m n. m < n) numbers }
+{}
+
+/// A number in the window of `len` bytes around the one that the receiver expects is decoded right, and away from the
+/// first and the last numbers no other is (RFC 9000 appendix A.3).
+#[tactic(auto, using(crate::proofs::NumberLemmas::back))]
+pub fn decoded_in_window(number: u64, largest_received: Option<u64>, len: usize)
+    requires { IsNumber number }
+    ensures right { (decoded : ℕ) → IsDecoded (expected largest_received) (number % 2 ^ (8 * len)) len decoded
+        → InWindow (expected largest_received) len number → decoded ≡ number }
+    ensures wrong { (decoded : ℕ) → IsDecoded (expected largest_received) (number % 2 ^ (8 * len)) len decoded
+        → 2 ^ (8 * len) ≤ number → IsNumber (number + 2 ^ (8 * len)) → decoded ≡ number
+        → InWindow (expected largest_received) len number }
+{}
+
+/// A number that is sent in as many bytes as represent its range lies in the window of every receiver that has received
+/// what it acknowledged, and no number so far beyond this one that the window has left it: it decodes the number right
+/// (RFC 9000 section 17.1).
+pub fn decoded_as_sent(
+    number: u64,
+    largest_acknowledged: Option<u64>,
+    largest_received: Option<u64>,
+    len: usize,
+)
+    requires number { IsNumber number }
+    requires above { IsAbove number largest_acknowledged }
+    requires represents { Represents len (unacknowledged number largest_acknowledged) }
+    requires received { expected largest_acknowledged ≤ expected largest_received }
+    requires late { 2 * expected largest_received < 2 * number + 2 ^ (8 * len) }
+    ensures window { InWindow (expected largest_received) len number }
+    ensures right { (decoded : ℕ) → IsDecoded (expected largest_received) (number % 2 ^ (8 * len)) len decoded
+        → decoded ≡ number }
+{}
+
+/// The bytes that a header carries of a number, which `SendKey::seal` demands to be its low ones, are its low bits in
+/// network byte order (RFC 9000 section 17.1).
+#[tactic(auto, using(crate::proofs::NumberBytes::number_low_bytes))]
+pub fn low_bytes_are_low_bits(number: u64, len: usize)
+    requires { (0 < len) × (len ≤ 4) }
+    ensures { number_from_digits 256 (low_bytes len number) ≡ number % 2 ^ (8 * len) }
+{}
+
+/// Over every run of calls of one sender, the numbers that it seals under rise, over all of its keys together, so no
+/// pair of key and number comes twice (RFC 9000 section 12.3, RFC 9001 section 5.3). Under each of its keys there are at
+/// most as many as its limit (RFC 9001 section 6.6).
+pub fn no_number_twice_over_keys(first: &Sender, last: &Sender)
+    ensures fresh { (by_key : List (List ℕ)) → Runs first.now last.now by_key
+        → AllPairs (λ m n. m < n) (flat_map (λ numbers. numbers) by_key) }
+    ensures limited { (by_key : List (List ℕ)) → Runs first.now last.now by_key
+        → All (λ numbers. length numbers ≤ first.now.limit) by_key }
+{}
+
+/// Over every run of sends, skips and key updates of a sender, and of a receiver that is given its keys in their order, each
+/// packet that was sent is given back, as often as it comes and in whatever order, while the receiver holds its key and its
+/// number lies in the window around the one that is expected: the first time it is received, with its number, its header and its
+/// payload, and later it is told to be a duplicate (RFC 9001 sections 5 and 6). `plain`, `number`, `result`, the receiver
+/// `after` and the bytes that stand `opened` are those of `Receiver::receive`.
+pub fn received_as_sent(sender: &Sender, receiver: &Receiver, space: &Space)
+    requires { receiver.now.header ≡ sender.now.header_key }
+    ensures { (life : Life) → (sent : List Sent) → (updates : ℕ) → (packet : Sent) → (plain opened : List ℕ) → (number : ℕ)
+        → (result : Result Received PacketError) → (after : ReceiverState)
+        → HasSent sender.now life sent → Contains sent packet → Follows life sent receiver.now updates
+        → Holds receiver.now updates life packet
+        → InWindow space.now.next (number_len (slice_index packet.packet 0)) packet.number
+        → Reads receiver.now.header space.now.next packet.number_at packet.wire plain number
+        → Outcome receiver.now space.now packet.number_at plain number result after opened
+        → GivesBack space.now packet result opened }
+{}
+
+/// Over every run of packets that are received in one space, no number is received twice (RFC 9000 section 12.3).
+pub fn no_number_received_twice(space: &Space)
+    ensures { (numbers : List ℕ) → Counts space.now numbers → AllPairs (λ m n. m ≢ n) numbers }
 {}

@@ -51,6 +51,13 @@ impl ReceiveKey {
         }
     }
 
+    /// The algorithm that it was made with.
+    pub fn algorithm(&self) -> &'static Algorithm
+        ensures { result.now ≡ self.now.algorithm }
+    {
+        self.key.algorithm()
+    }
+
     /// Opens the packet with this number, whose header, unmasked, has `header_len` bytes, and returns the length of the
     /// payload: it stands after the header, in plain, and the tag stays after it.
     pub fn open(

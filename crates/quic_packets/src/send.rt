@@ -5,40 +5,40 @@ ghost use Rattle.aead_ciphers.specs.Algorithm.{key_len};
 ghost use Rattle.aead_ciphers.specs.Counting.{xored_nonce};
 ghost use Rattle.aead_ciphers.specs.Gcm.{Fits};
 ghost use Rattle.aead_ciphers.specs.Packet.{PacketFits, sealed_packet};
-ghost use Rattle.quic_packets.specs.Header.{number_len};
+ghost use Rattle.quic_packets.specs.Header.{HasSample, number_len};
 ghost use Rattle.quic_packets.specs.Packet.{CarriesNumber, HasNumber, IsNumber, low_bytes};
 
 use crate::error::PacketError;
-use crate::header::number_len;
+use crate::header::{SAMPLE_END, number_len};
 use crate::packet::{NUMBERS_END, payload_len};
-use aead_ciphers::aead::{Algorithm, BoundKey, NONCE_LEN, SealingKey, UnboundKey, XoredSequence};
+use aead_ciphers::aead::{Algorithm, LessSafeKey, NONCE_LEN, UnboundKey, nonce_of};
 use std::marker::Model;
 use std::ops::Range;
 
 /// A key that seals packets, each with the next packet number.
 ///
-/// It counts the numbers itself, so no nonce comes twice under it.
+/// It counts the numbers itself and skips them forward only, so no nonce comes twice under it.
 #[derive(Drop)]
 pub struct SendKey {
-    key: SealingKey<XoredSequence>,
+    key: LessSafeKey,
+    iv: [u8; NONCE_LEN],
     next: u64,
 }
 
 impl Model for SendKey {
-    ghost use Rattle.std.specs.Prelude.{◌≡◌, ◌+◌, ◌^◌, ◌≤◌};
+    ghost use Rattle.std.specs.Prelude.{◌^◌, ◌≤◌};
     ghost use Rattle.quic_packets.specs.Keys.{Sending};
 
     ghost Value = { Sending };
 
     ghost view = { λ key. record {
-      algorithm = key.key.key.algorithm;
-      bytes = key.key.key.bytes;
-      iv = key.key.sequence.fixed;
+      algorithm = key.key.algorithm;
+      bytes = key.key.bytes;
+      iv = key.iv;
       next = key.next;
     } };
 
-    ghost invariant = { λ key. (key.next ≡ key.key.sequence.first + key.key.sequence.used)
-        × (key.key.sequence.first + key.key.sequence.count ≡ 2 ^ 62) × (key.next ≤ 2 ^ 62) };
+    ghost invariant = { λ key. key.next ≤ 2 ^ 62 };
 }
 
 impl SendKey {
@@ -60,29 +60,59 @@ impl SendKey {
         let Ok(key) = UnboundKey::new(algorithm, key) else {
             return Err(PacketError::KeyLength);
         };
-        let Ok(sequence) = XoredSequence::new(iv, first, NUMBERS_END) else {
+        if first > NUMBERS_END {
             return Err(PacketError::NumbersEnded);
-        };
+        }
         Ok(SendKey {
-            key: SealingKey::new(key, sequence),
+            key: LessSafeKey::new(key),
+            iv,
             next: first,
         })
     }
 
+    /// The algorithm that it was made with.
+    pub fn algorithm(&self) -> &'static Algorithm
+        ensures { result.now ≡ self.now.algorithm }
+    {
+        self.key.algorithm()
+    }
+
     /// The number of the next packet, whose low bytes its header has to hold; 2^62 where no number is left.
     pub fn next_number(&self) -> u64
-        ensures { result ≡ self.now.next }
+        ensures next { result ≡ self.now.next }
+        ensures bound { result ≤ 2 ^ 62 }
     {
         self.next
+    }
+
+    /// Leaves the numbers below `number` unused, so that `number` is the next one. Fails with `NumberUsed` where the next
+    /// one is above `number`, and with `NumbersEnded` where `number` is above 2^62.
+    pub fn skip_to(&mut self, number: u64) -> Result<(), PacketError>
+        ensures accepted { IsOk result ↔ ((self.old.next ≤ number) × (number ≤ 2 ^ 62)) }
+        ensures used { IsErrOf result PacketError.NumberUsed ↔ (number < self.old.next) }
+        ensures ended { IsErrOf result PacketError.NumbersEnded ↔ (2 ^ 62 < number) }
+        ensures skipped { OnOk result (self.new ≡ record self.old { next = number }) }
+        ensures key_kept { OnErr result (self.new ≡ self.old) }
+    {
+        if number < self.next {
+            return Err(PacketError::NumberUsed);
+        }
+        if number > NUMBERS_END {
+            return Err(PacketError::NumbersEnded);
+        }
+        self.next = number;
+        Ok(())
     }
 
     /// Encrypts the payload in place, writes the tag over the last 16 bytes, and returns the packet's number. The
     /// header stays, to be masked by a `HeaderKey`.
     ///
-    /// `number` is where the header holds the packet number: it ends the header.
+    /// `number` is where the header holds the packet number: it ends the header. A packet that is too short for
+    /// `HeaderKey::protect` is refused before it takes a number: packet number and payload need 4 bytes together.
     pub fn seal(&mut self, packet: &mut [u8], number: Range<usize>) -> Result<u64, PacketError>
         ensures accepted { IsOk result ↔ (PacketFits number.end (length packet.old)
-            × HasNumber number.start number.end packet.old × IsNumber self.old.next
+            × HasNumber number.start number.end packet.old
+            × HasSample number.start (length packet.old) × IsNumber self.old.next
             × CarriesNumber self.old.next number.start number.end packet.old) }
         ensures too_short { IsErrOf result PacketError.TooShort ↔ (length packet.old < number.end + 16) }
         ensures too_long { IsErrOf result PacketError.TooLong ↔ ((number.end + 16 ≤ length packet.old)
@@ -92,11 +122,16 @@ impl SendKey {
         ensures number_length { IsErrOf result PacketError.NumberLength
             ↔ (PacketFits number.end (length packet.old) × (0 < number.start)
             × (number.end ≢ number.start + number_len (slice_index packet.old 0))) }
-        ensures ended { IsErrOf result PacketError.NumbersEnded ↔ (PacketFits number.end (length packet.old)
-            × HasNumber number.start number.end packet.old × (self.old.next ≡ 2 ^ 62)) }
+        ensures no_sample { IsErrOf result PacketError.NoSample
+            ↔ (PacketFits number.end (length packet.old) × HasNumber number.start number.end packet.old
+            × (length packet.old < number.start + 20)) }
+        ensures ended { IsErrOf result PacketError.NumbersEnded
+            ↔ (PacketFits number.end (length packet.old) × HasNumber number.start number.end packet.old
+            × HasSample number.start (length packet.old) × (self.old.next ≡ 2 ^ 62)) }
         ensures other_number { IsErrOf result PacketError.OtherNumber
             ↔ (PacketFits number.end (length packet.old) × HasNumber number.start number.end packet.old
-            × IsNumber self.old.next × ¬ CarriesNumber self.old.next number.start number.end packet.old) }
+            × HasSample number.start (length packet.old) × IsNumber self.old.next
+            × ¬ CarriesNumber self.old.next number.start number.end packet.old) }
         ensures sealed { OnOk result (packet.new
             ≡ sealed_packet self.old.bytes (xored_nonce self.old.iv self.old.next) number.end packet.old) }
         ensures number { IfOk result (λ n. n ≡ self.old.next) }
@@ -107,9 +142,10 @@ impl SendKey {
         let header_len = number.end;
         payload_len(packet, header_len)?;
         check_number(packet, number, self.next)?;
-        match self.key.seal_packet_in_place(packet, header_len) {
+        let number = self.next;
+        let nonce = nonce_of(&self.iv, number);
+        match self.key.seal_packet_in_place(nonce, packet, header_len) {
             Ok(()) => {
-                let number = self.next;
                 self.next += 1;
                 Ok(number)
             }
@@ -123,14 +159,19 @@ fn check_number(packet: &[u8], number: Range<usize>, next: u64) -> Result<(), Pa
     requires len { number.end + 16 ≤ length packet.now }
     requires next { next ≤ 2 ^ 62 }
     ensures accepted { IsOk result ↔ (HasNumber number.start number.end packet.now
-        × IsNumber next × CarriesNumber next number.start number.end packet.now) }
+        × HasSample number.start (length packet.now) × IsNumber next
+        × CarriesNumber next number.start number.end packet.now) }
     ensures first_byte { IsErrOf result PacketError.NumberAtFirstByte ↔ (number.start ≡ 0) }
     ensures number_length { IsErrOf result PacketError.NumberLength ↔ ((0 < number.start)
         × (number.end ≢ number.start + number_len (slice_index packet.now 0))) }
+    ensures no_sample { IsErrOf result PacketError.NoSample
+        ↔ (HasNumber number.start number.end packet.now × (length packet.now < number.start + 20)) }
     ensures ended { IsErrOf result PacketError.NumbersEnded
-        ↔ (HasNumber number.start number.end packet.now × (next ≡ 2 ^ 62)) }
+        ↔ (HasNumber number.start number.end packet.now
+        × HasSample number.start (length packet.now) × (next ≡ 2 ^ 62)) }
     ensures other_number { IsErrOf result PacketError.OtherNumber
-        ↔ (HasNumber number.start number.end packet.now × IsNumber next
+        ↔ (HasNumber number.start number.end packet.now
+        × HasSample number.start (length packet.now) × IsNumber next
         × ¬ CarriesNumber next number.start number.end packet.now) }
     ensures others { ¬ IsErrOf result PacketError.TooShort × ¬ IsErrOf result PacketError.TooLong }
 {
@@ -140,6 +181,9 @@ fn check_number(packet: &[u8], number: Range<usize>, next: u64) -> Result<(), Pa
     let len = number_len(packet[0]);
     if number.end < number.start || number.end - number.start != len {
         return Err(PacketError::NumberLength);
+    }
+    if packet.len() - number.start < SAMPLE_END {
+        return Err(PacketError::NoSample);
     }
     if next >= NUMBERS_END {
         return Err(PacketError::NumbersEnded);

@@ -1,0 +1,122 @@
+-- What a sender sends over its life, and what a receiver gives back of it, for the laws.
+use Rattle.std.specs.Prelude.{◌≡◌, ℕ, ◌+◌, ◌-◌, ◌<◌, ◌≤◌, ◌↔◌, ◌⊎◌, if◌then◌else◌, max, min, true, nat_lt, nat_le, false, List, [], ◌∷◌, length, take, slice_index, Option, None, Some, IsSome, Contains, Result, IsOk, IfOk, IsErrOf}
+use Rattle.aead_ciphers.specs.HeaderProtection.{HeaderKey}
+use Rattle.quic_packets.specs.Keys.{Receiving}
+use Rattle.quic_packets.specs.Receiving.{Receiver, has_phase, received}
+use Rattle.quic_packets.specs.Sending.{IsInTurn, IsSealable, IsSent, Sender, after_acknowledgement, after_send, after_skip, after_update, is_long, new_sender, numbered_packet}
+use Rattle.quic_packets.specs.Space.{IsNew, Marks, Space}
+use Rattle.quic_packets.specs.Suite.{algorithm}
+use Rattle.quic_packets.specs.declared.error.PacketError.{PacketError}
+use Rattle.quic_packets.specs.declared.error.PacketError.TheVariants.{Duplicate}
+use Rattle.quic_packets.specs.declared.receiver.Received.{Received}
+use Rattle.quic_packets.specs.declared.suite.Suite.{Suite}
+
+-- a packet that was sent: its number, the byte at which this begins, the bytes in the header, and the packet before it was sealed and
+-- after it was protected
+pub record Sent : Type 0 where
+  pub number : ℕ
+  pub number_at : ℕ
+  pub header_len : ℕ
+  pub packet : List ℕ
+  pub wire : List ℕ
+
+-- a key update of a sender: the key that it went on under, and the number that was the next one then
+pub record Update : Type 0 where
+  pub key : Receiving
+  pub first : ℕ
+
+-- the packet keys of a sender: its first one, and its key updates, the last one first
+pub record Life : Type 0 where
+  pub key : Receiving
+  pub updates : List Update
+
+-- the packet key after n key updates
+abbrev pub key_after : Receiving → List Update → ℕ → Receiving
+key_after key [] n = key
+key_after key (update ∷ earlier) n = if nat_lt (length earlier) n then update.key else key_after key earlier n
+
+-- how many key updates came before the packet with a number
+abbrev pub updates_before : List Update → ℕ → ℕ
+updates_before [] number = 0
+updates_before (update ∷ earlier) number = (if nat_le update.first number then 1 else 0) + updates_before earlier number
+
+-- What a sender has sent, the last packet first, under the keys of its life, over any calls of it: it begins, sends, skips numbers and
+-- updates its keys, and hears of acknowledgements, of the handshake and of a lower limit. A call that is refused changes nothing.
+pub data HasSent : Sender → Life → List Sent → Type 0 where
+  begins : (suite : Suite) (key iv header_key : List ℕ) (first : ℕ) → HasSent (new_sender suite key iv header_key first)
+      (record { key = record { algorithm = algorithm suite; bytes = key; iv = iv }; updates = [] }) []
+  sends : (s : Sender) (life : Life) (sent : List Sent) (start end : ℕ) (largest : Option ℕ) (packet wire : List ℕ)
+      → IsSealable start end packet → IsInTurn s largest start end → IsSent s start end packet wire → HasSent s life sent
+      → HasSent (after_send s) life (record {
+        number = s.key.next;
+        number_at = start;
+        header_len = end;
+        packet = numbered_packet s.phase s.key.next start end packet;
+        wire = wire;
+      } ∷ sent)
+  skips : (s : Sender) (life : Life) (sent : List Sent) (number : ℕ) → s.key.next ≤ number → HasSent s life sent
+      → HasSent (after_skip s number) life sent
+  updates : (s : Sender) (life : Life) (sent : List Sent) (key iv : List ℕ) → HasSent s life sent → HasSent (after_update s key iv)
+      (record {
+        key = life.key;
+        updates = record {
+          key = record { algorithm = s.key.algorithm; bytes = key; iv = iv };
+          first = s.key.next;
+        } ∷ life.updates;
+      }) sent
+  hears : (s : Sender) (life : Life) (sent : List Sent) (number : ℕ) → HasSent s life sent → HasSent (after_acknowledgement s number) life sent
+  confirms : (s : Sender) (life : Life) (sent : List Sent) → HasSent s life sent → HasSent (record s { confirmed = true }) life sent
+  lowers : (s : Sender) (life : Life) (sent : List Sent) (limit : ℕ) → HasSent s life sent
+      → HasSent (record s { limit = min s.limit limit }) life sent
+
+-- a receiver that is made with this key
+abbrev pub new_receiver : HeaderKey → Receiving → Receiver
+new_receiver header key = record {
+  header = header;
+  current = key;
+  next = None;
+  previous = None;
+  phase = false;
+  lowest = 0;
+  highest = 0;
+}
+
+-- A receiver after `own` key updates holds the key of a packet that was sent after so many: its current key, or, of a packet with a
+-- short header, which has a Key Phase bit, the next or the previous one.
+abbrev pub Holds : (r : Receiver) (own : ℕ) → Life → Sent → Type 0
+Holds r own life packet =
+    let updates = updates_before life.updates packet.number in
+    (updates ≡ own) ⊎ ((is_long (slice_index packet.packet 0) ≡ false)
+    × (((updates ≡ own + 1) × IsSome r.next) ⊎ ((updates + 1 ≡ own) × IsSome r.previous)))
+
+-- What a receiver becomes, and after how many key updates, over any calls of it: it is made with the sender's first key; it receives
+-- packets that were sent, in any order, while it holds their keys; it is given the next key, which is the sender's where the sender
+-- has one; and it forgets the previous key. A packet that is refused changes nothing.
+pub data Follows : Life → List Sent → Receiver → ℕ → Type 0 where
+  begins : (life : Life) (sent : List Sent) (header : HeaderKey) → Follows life sent (new_receiver header life.key) 0
+  receives : (life : Life) (sent : List Sent) (r : Receiver) (own : ℕ) (packet : Sent) → Contains sent packet → Holds r own life packet
+      → Follows life sent r own
+      → Follows life sent (received r (slice_index packet.packet 0) packet.number) (max own (updates_before life.updates packet.number))
+  takes_next : (life : Life) (sent : List Sent) (r : Receiver) (own : ℕ) (key : Receiving)
+      → (own < length life.updates → key ≡ key_after life.key life.updates (own + 1)) → Follows life sent r own
+      → Follows life sent (record r { next = Some key }) own
+  forgets : (life : Life) (sent : List Sent) (r : Receiver) (own : ℕ) → Follows life sent r own
+      → Follows life sent (record r { previous = None }) own
+
+-- A packet that was sent is given back: it is received where its number is new, and else told to be a duplicate; then its number, its
+-- header and its payload stand there as they were sent.
+pub record GivesBack (space : Space) (packet : Sent) (result : Result Received PacketError) (opened : List ℕ) : Type 0 where
+  pub accepted : IsOk result ↔ IsNew space packet.number
+  pub duplicate : IsErrOf result Duplicate ↔ ¬ IsNew space packet.number
+  pub returns : IfOk result (λ r. r ≡ record {
+    number = packet.number;
+    header_len = packet.header_len;
+    payload_len = length packet.packet - 16 - packet.header_len;
+    phase = has_phase (slice_index packet.packet 0);
+  })
+  pub bytes : take (length packet.packet - 16) opened ≡ take (length packet.packet - 16) packet.packet
+
+-- the numbers that a space counts as received, the last first: each was new
+pub data Counts : Space → List ℕ → Type 0 where
+  none : Counts (record { next = 0; seen = 0 }) []
+  marks : (s t : Space) (number : ℕ) (numbers : List ℕ) → IsNew s number → Marks s number t → Counts s numbers → Counts t (number ∷ numbers)

@@ -1,0 +1,371 @@
+//! The packets of a datagram: where their parts lie, before any protection is removed (RFC 9000 sections 12.2 and 17).
+
+ghost use Rattle.std.specs.Prelude.{◌≡◌, ◌+◌, ◌-◌, ◌^◌, ◌<◌, ◌≤◌, ◌↔◌, false, if◌then◌else◌, length, slice_index, IsOk, IsErr, IfOk, IfErr, IsErrOf, MatchOption};
+ghost use Rattle.std.specs.Int.Digits.{number_from_digits};
+ghost use Rattle.quic_packets.specs.declared.datagram.DatagramError.TheVariants.{Cut, IdTooLong};
+ghost use Rattle.quic_packets.specs.declared.datagram.PacketType.TheVariants.{Initial};
+ghost use Rattle.quic_packets.specs.Datagram.{has_long_id, id_end, initial_token, long_layout, long_packet, numbered_layout, packet_of, retry_layout, short_layout, source_end, varint, varint_end, version_1_layout, version_of, versioned_layout, whole};
+
+use std::ops::Range;
+use thiserror::Error;
+
+/// The longest connection ID of version 1, in bytes (RFC 9000 section 17.2).
+pub(crate) const MAX_ID_LEN: usize = 20;
+
+const TAG_LEN: usize = 16;
+
+/// What a packet is, by the form of its header, its version and its type (RFC 9000 sections 17.2 and 17.3).
+#[derive(Clone, Copy, PartialEq, Eq, Debug)]
+pub enum PacketType {
+    /// An Initial packet of version 1.
+    Initial,
+    /// A 0-RTT packet of version 1.
+    ZeroRtt,
+    /// A Handshake packet of version 1.
+    Handshake,
+    /// A Retry packet of version 1. It has no packet number.
+    Retry,
+    /// A long header of version 0. The versions that the server offers follow the source connection ID.
+    VersionNegotiation,
+    /// A short header.
+    OneRtt,
+    /// A long header of another version, of which the connection IDs alone are read.
+    OtherVersion,
+}
+
+/// Where the parts of a packet lie: positions in the datagram.
+#[derive(Clone, PartialEq, Eq, Debug, Drop)]
+pub struct Packet {
+    pub packet_type: PacketType,
+    /// The version of a long header.
+    pub version: Option<u32>,
+    pub destination_id: Range<usize>,
+    /// Empty in a short header.
+    pub source_id: Range<usize>,
+    /// The token of an Initial or a Retry packet. Empty in others.
+    pub token: Range<usize>,
+    /// Where the packet number begins.
+    pub number_at: Option<usize>,
+    /// Where the packet ends. The next one begins there.
+    pub end: usize,
+}
+
+/// Why no packet is read.
+#[derive(Clone, Copy, PartialEq, Eq, Debug, Drop, Error)]
+pub enum DatagramError {
+    /// The datagram ends before the packet.
+    #[error("the datagram ends before the packet")]
+    Cut,
+    /// A connection ID of more than 20 bytes in version 1 (RFC 9000 section 17.2).
+    #[error("a connection ID of version 1 has at most 20 bytes")]
+    IdTooLong,
+}
+
+/// Returns an iterator over the packets of a datagram, in order (RFC 9000 section 12.2). `packet_at` reads each, and the
+/// next one begins where it ends. An error is the last item.
+pub fn split(datagram: &[u8], connection_id_len: usize) -> Packets<'_>
+    ensures start { (result.at ≡ 0) × (result.connection_id_len ≡ connection_id_len) }
+    ensures datagram { result.datagram.now ≡ datagram.now }
+{
+    Packets {
+        datagram,
+        connection_id_len,
+        at: 0,
+    }
+}
+
+/// The packets of a datagram: what `split` returns.
+#[derive(Drop)]
+pub struct Packets<'a> {
+    datagram: &'a [u8],
+    connection_id_len: usize,
+    at: usize,
+}
+
+impl Iterator for Packets<'_> {
+    ghost use Rattle.std.specs.Iterator.{at_most};
+    ghost use Rattle.quic_packets.specs.Datagram.{Walks};
+
+    type Item = Result<Packet, DatagramError>;
+
+    ghost next_gives = { λ s read t. (t.datagram.now ≡ s.datagram.now) × (t.connection_id_len ≡ s.connection_id_len)
+        × Walks s.connection_id_len s.datagram.now s.at read t.at };
+
+    ghost remaining = { λ s. at_most (length s.datagram.now - s.at) };
+
+    fn next(&mut self) -> Option<Result<Packet, DatagramError>> {
+        if self.at >= self.datagram.len() {
+            return None;
+        }
+        let read = packet_at(self.datagram, self.at, self.connection_id_len);
+        self.at = match &read {
+            Ok(packet) => packet.end,
+            Err(_) => self.datagram.len(),
+        };
+        Some(read)
+    }
+}
+
+/// Returns where the parts of the packet lie that begins at byte `start` of a datagram (RFC 9000 section 17).
+/// `connection_id_len` is the length of the connection IDs that the receiver chose, which a short header doesn't say.
+///
+/// Of a version that is neither 0 nor 1 the connection IDs alone are read, and the packet is the rest of the datagram. The
+/// fixed bit isn't read. Fails with `Cut` where the packet ends after the datagram, and with `IdTooLong` where a connection
+/// ID of version 1 has more than 20 bytes.
+pub fn packet_at(
+    datagram: &[u8],
+    start: usize,
+    connection_id_len: usize,
+) -> Result<Packet, DatagramError>
+    ensures packet { result ≡ packet_of connection_id_len datagram.now start }
+    ensures within { IfOk result (λ packet. packet.end ≤ length datagram.now) }
+{
+    read_packet(datagram, start, connection_id_len)
+}
+
+fn read_packet(
+    datagram: &[u8],
+    start: usize,
+    connection_id_len: usize,
+) -> Result<Packet, DatagramError>
+    ensures { result ≡ packet_of connection_id_len datagram.now start }
+{
+    if start >= datagram.len() {
+        return Err(DatagramError::Cut);
+    }
+    if datagram[start] < 0x80 {
+        short_packet(datagram, start, connection_id_len)
+    } else {
+        long_packet(datagram, start)
+    }
+}
+
+fn short_packet(
+    datagram: &[u8],
+    start: usize,
+    connection_id_len: usize,
+) -> Result<Packet, DatagramError>
+    requires { start < length datagram.now }
+    ensures { result ≡ whole datagram.now (short_layout connection_id_len datagram.now start) }
+{
+    if datagram.len() - start - 1 < connection_id_len {
+        return Err(DatagramError::Cut);
+    }
+    let number_at = start + 1 + connection_id_len;
+    Ok(Packet {
+        packet_type: PacketType::OneRtt,
+        version: None,
+        destination_id: start + 1..number_at,
+        source_id: number_at..number_at,
+        token: number_at..number_at,
+        number_at: Some(number_at),
+        end: datagram.len(),
+    })
+}
+
+fn long_packet(datagram: &[u8], start: usize) -> Result<Packet, DatagramError>
+    requires { start < length datagram.now }
+    ensures { result ≡ long_packet datagram.now start }
+{
+    match ids_end(datagram, start) {
+        Ok(from) => versioned_packet(datagram, start, from),
+        Err(error) => Err(error),
+    }
+}
+
+// The end of the connection IDs of a long header.
+fn ids_end(datagram: &[u8], start: usize) -> Result<usize, DatagramError>
+    requires { start < length datagram.now }
+    ensures end { IfOk result (λ end. (end ≡ source_end datagram.now start) × (end ≤ length datagram.now)) }
+    ensures short { IsOk result → has_long_id datagram.now start ≡ false }
+    ensures error { IfErr result (λ e. e ≡ (if has_long_id datagram.now start then IdTooLong else Cut)) }
+    ensures cut { IsErr result → has_long_id datagram.now start ≡ false
+        → length datagram.now < source_end datagram.now start }
+{
+    if datagram.len() - start < 6 {
+        return Err(DatagramError::Cut);
+    }
+    let longest = if version(datagram, start) == 1 {
+        MAX_ID_LEN
+    } else {
+        255
+    };
+    match id_end(datagram, start + 5, longest) {
+        Ok(destination_end) => id_end(datagram, destination_end, longest),
+        Err(error) => Err(error),
+    }
+}
+
+// The end of a connection ID that stands after its length, which is the byte `at`.
+fn id_end(datagram: &[u8], at: usize, longest: usize) -> Result<usize, DatagramError>
+    ensures too_long { IsErrOf result DatagramError.IdTooLong ↔ (longest < slice_index datagram.now at) }
+    ensures cut { IsErrOf result DatagramError.Cut
+        ↔ ((slice_index datagram.now at ≤ longest) × (length datagram.now < id_end datagram.now at)) }
+    ensures end { IfOk result (λ end. (end ≡ id_end datagram.now at) × (end ≤ length datagram.now)
+        × (slice_index datagram.now at ≤ longest)) }
+{
+    if at >= datagram.len() {
+        return Err(DatagramError::Cut);
+    }
+    let len = usize::from(datagram[at]);
+    if len > longest {
+        return Err(DatagramError::IdTooLong);
+    }
+    if datagram.len() - at - 1 < len {
+        return Err(DatagramError::Cut);
+    }
+    Ok(at + 1 + len)
+}
+
+// A packet whose connection IDs end at `from`.
+fn versioned_packet(datagram: &[u8], start: usize, from: usize) -> Result<Packet, DatagramError>
+    requires from { from ≡ source_end datagram.now start }
+    requires within { from ≤ length datagram.now }
+    ensures { result ≡ whole datagram.now (versioned_layout datagram.now start) }
+{
+    let end = datagram.len();
+    match version(datagram, start) {
+        0 => Ok(long_layout(
+            datagram,
+            start,
+            PacketType::VersionNegotiation,
+            from..from,
+            None,
+            end,
+        )),
+        1 => version_1_packet(datagram, start, from),
+        _ => Ok(long_layout(
+            datagram,
+            start,
+            PacketType::OtherVersion,
+            from..from,
+            None,
+            end,
+        )),
+    }
+}
+
+fn version_1_packet(datagram: &[u8], start: usize, from: usize) -> Result<Packet, DatagramError>
+    requires from { from ≡ source_end datagram.now start }
+    requires within { from ≤ length datagram.now }
+    ensures { result ≡ whole datagram.now (version_1_layout datagram.now start) }
+{
+    match datagram[start] / 0x10 % 4 {
+        0 => initial_packet(datagram, start, from),
+        1 => numbered_packet(datagram, start, PacketType::ZeroRtt, from..from),
+        2 => numbered_packet(datagram, start, PacketType::Handshake, from..from),
+        _ => retry_packet(datagram, start, from),
+    }
+}
+
+fn initial_packet(datagram: &[u8], start: usize, from: usize) -> Result<Packet, DatagramError>
+    requires from { from ≡ source_end datagram.now start }
+    requires within { from ≤ length datagram.now }
+    ensures { result ≡ whole datagram.now (numbered_layout datagram.now start Initial (initial_token datagram.now start)) }
+{
+    let Some((len, at)) = varint(datagram, from) else {
+        return Err(DatagramError::Cut);
+    };
+    if datagram.len() - at < len {
+        return Err(DatagramError::Cut);
+    }
+    numbered_packet(datagram, start, PacketType::Initial, at..at + len)
+}
+
+// A packet with a packet number, whose token ends before the length of number and payload.
+fn numbered_packet(
+    datagram: &[u8],
+    start: usize,
+    packet_type: PacketType,
+    token: Range<usize>,
+) -> Result<Packet, DatagramError>
+    requires within { source_end datagram.now start ≤ length datagram.now }
+    requires token { token.end ≤ length datagram.now }
+    ensures { result ≡ whole datagram.now (numbered_layout datagram.now start packet_type token) }
+{
+    let Some((len, number_at)) = varint(datagram, token.end) else {
+        return Err(DatagramError::Cut);
+    };
+    if datagram.len() - number_at < len {
+        return Err(DatagramError::Cut);
+    }
+    let end = number_at + len;
+    Ok(long_layout(datagram, start, packet_type, token, Some(number_at), end))
+}
+
+fn retry_packet(datagram: &[u8], start: usize, from: usize) -> Result<Packet, DatagramError>
+    requires from { from ≡ source_end datagram.now start }
+    requires within { from ≤ length datagram.now }
+    ensures { result ≡ whole datagram.now (retry_layout datagram.now start) }
+{
+    let end = datagram.len();
+    if end - from < TAG_LEN {
+        return Err(DatagramError::Cut);
+    }
+    let token = from..end - TAG_LEN;
+    Ok(long_layout(datagram, start, PacketType::Retry, token, None, end))
+}
+
+// A packet with a long header, whose version and connection IDs are read again.
+fn long_layout(
+    datagram: &[u8],
+    start: usize,
+    packet_type: PacketType,
+    token: Range<usize>,
+    number_at: Option<usize>,
+    end: usize,
+) -> Packet
+    requires { source_end datagram.now start ≤ length datagram.now }
+    ensures { result ≡ long_layout datagram.now start packet_type token number_at end }
+{
+    let destination_end = start + 6 + usize::from(datagram[start + 5]);
+    let source_end = destination_end + 1 + usize::from(datagram[destination_end]);
+    Packet {
+        packet_type,
+        version: Some(version(datagram, start)),
+        destination_id: start + 6..destination_end,
+        source_id: destination_end + 1..source_end,
+        token,
+        number_at,
+        end,
+    }
+}
+
+// The version in a long header.
+fn version(datagram: &[u8], start: usize) -> u32
+    requires { start + 5 ≤ length datagram.now }
+    ensures { result ≡ version_of datagram.now start }
+{
+    network_number(&datagram[start + 1..start + 5]) as u32
+}
+
+// The variable-length integer at a byte, and its end. None where it is cut.
+fn varint(datagram: &[u8], at: usize) -> Option<(usize, usize)>
+    ensures { MatchOption result (length datagram.now < varint_end datagram.now at)
+        (λ read. (read.0 ≡ varint datagram.now at) × (read.1 ≡ varint_end datagram.now at)
+        × (read.1 ≤ length datagram.now)) }
+{
+    if at >= datagram.len() {
+        return None;
+    }
+    let len: usize = 1 << (datagram[at] >> 6);
+    if datagram.len() - at < len {
+        return None;
+    }
+    let bytes = &datagram[at..at + len];
+    let value = network_number(bytes) % (1 << (8 * len - 2));
+    Some((value as usize, at + len))
+}
+
+// The number that bytes are in network byte order.
+fn network_number(bytes: &[u8]) -> u64
+    requires { length bytes.now ≤ 8 }
+    ensures is { result ≡ number_from_digits 256 bytes.now }
+    ensures fits { result < 256 ^ length bytes.now }
+{
+    let mut number = 0;
+    for byte in bytes {
+        number = number * 0x100 + u64::from(*byte);
+    }
+    number
+}

@@ -1,0 +1,76 @@
+//! How many packets have failed authentication (RFC 9001 section 6.6).
+
+ghost use Rattle.std.specs.Prelude.{◌≡◌, ◌≢◌, ◌+◌, ◌^◌, ◌<◌, ◌≤◌, ◌↔◌, IsTrue, min};
+
+use crate::error::PacketError;
+use std::marker::Model;
+
+/// The packets that may fail authentication under all AES-GCM keys of a connection together (RFC 9001 section 6.6).
+const MAX_FAILURES: u64 = 1 << 52;
+
+/// How many packets have failed authentication, over all keys of a connection, and how many may.
+///
+/// Once the limit is reached every packet is rejected, and the connection must be closed (RFC 9001 section 6.6).
+#[derive(Drop)]
+pub struct Failures {
+    count: u64,
+    limit: u64,
+}
+
+impl Model for Failures {
+    ghost use Rattle.std.specs.Prelude.{◌^◌, ◌≤◌};
+    ghost use Rattle.quic_packets.specs.Failures.{Failures};
+
+    ghost Value = { Failures };
+
+    ghost view = { λ failures. record { count = failures.count; limit = failures.limit } };
+
+    ghost invariant = { λ failures. (failures.count ≤ failures.limit) × (failures.limit ≤ 2 ^ 52) };
+}
+
+impl Failures {
+    /// Makes a count of none, with the limit of AES-GCM: 2^52 packets.
+    pub fn new() -> Self
+        ensures { result ≡ record { count = 0; limit = 2 ^ 52 } }
+    {
+        Failures {
+            count: 0,
+            limit: MAX_FAILURES,
+        }
+    }
+
+    /// Makes a count of none with a lower limit. A limit above 2^52 is 2^52.
+    pub fn with_limit(limit: u64) -> Self
+        ensures { result ≡ record { count = 0; limit = min limit (2 ^ 52) } }
+    {
+        Failures {
+            count: 0,
+            limit: limit.min(MAX_FAILURES),
+        }
+    }
+
+    /// Returns how many packets have failed authentication.
+    pub fn count(&self) -> u64
+        ensures { result ≡ self.now.count }
+    {
+        self.count
+    }
+
+    /// Returns whether the limit is reached, so that every packet is rejected.
+    pub fn is_at_limit(&self) -> bool
+        ensures { IsTrue result ↔ (self.now.limit ≤ self.now.count) }
+    {
+        self.count >= self.limit
+    }
+
+    /// Counts one more where this is why a packet is refused: it failed authentication.
+    pub(crate) fn note(&mut self, error: PacketError)
+        requires { self.old.count < self.old.limit }
+        ensures failed { error ≡ PacketError.Refused → self.new ≡ record self.old { count = self.old.count + 1 } }
+        ensures others { error ≢ PacketError.Refused → self.new ≡ self.old }
+    {
+        if let PacketError::Refused = error {
+            self.count += 1;
+        }
+    }
+}

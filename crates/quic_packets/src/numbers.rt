@@ -1,0 +1,96 @@
+//! Packet numbers in few bytes (RFC 9000 section 17.1, appendices A.2 and A.3).
+
+ghost use Rattle.std.specs.Prelude.{◌≡◌, ℕ, ◌+◌, ◌*◌, ◌^◌, ◌<◌, ◌≤◌, ◌↔◌, length, slice_range, IsSome, IfSome};
+ghost use Rattle.std.specs.Int.Digits.{number_from_digits};
+ghost use Rattle.quic_packets.specs.Numbers.{IsAbove, IsDecoded, Represents, expected, unacknowledged};
+ghost use Rattle.quic_packets.specs.Packet.{IsNumber};
+
+use crate::packet::NUMBERS_END;
+
+/// Returns in how many bytes a packet's number is sent, from 1 to 4, where `largest_acknowledged` is the largest number of
+/// its space that the peer has acknowledged: the fewest that represent more than twice as many numbers as may be
+/// unacknowledged then (RFC 9000 section 17.1).
+///
+/// Returns `None` where 4 bytes don't, where the number isn't above `largest_acknowledged`, and where it is 2^62 or more.
+pub fn number_len(number: u64, largest_acknowledged: Option<u64>) -> Option<usize>
+    ensures answers { IsSome result ↔ (IsNumber number × IsAbove number largest_acknowledged
+        × Represents 4 (unacknowledged number largest_acknowledged)) }
+    ensures represents { IfSome result (λ n. Represents n (unacknowledged number largest_acknowledged)) }
+    ensures fewest { IfSome result (λ n. (k : ℕ) → 0 < k
+        → Represents k (unacknowledged number largest_acknowledged) → n ≤ k) }
+    ensures few { IfSome result (λ n. (0 < n) × (n ≤ 4)) }
+{
+    if number >= NUMBERS_END {
+        return None;
+    }
+    let unacknowledged = match largest_acknowledged {
+        None => number + 1,
+        Some(largest) if largest < number => number - largest,
+        Some(_) => return None,
+    };
+    let range = 2 * unacknowledged;
+    if range < 1 << 8 {
+        Some(1)
+    } else if range < 1 << 16 {
+        Some(2)
+    } else if range < 1 << 24 {
+        Some(3)
+    } else if range < 1 << 32 {
+        Some(4)
+    } else {
+        None
+    }
+}
+
+/// Returns the number of a packet that was received. `truncated` is what the `len` bytes of its header hold, and
+/// `largest_received` the largest number of its space that was received in an authentic packet. The result is the number
+/// that ends in these bits and is the nearest to the one after it, and of two as near the greater one (RFC 9000 section
+/// 17.1, appendix A.3).
+pub fn decode(largest_received: Option<u64>, truncated: u64, len: usize) -> u64
+    requires len { (0 < len) × (len ≤ 4) }
+    requires truncated { truncated < 2 ^ (8 * len) }
+    ensures { IsDecoded (expected largest_received) truncated len result }
+{
+    let expected = match largest_received {
+        None => 0,
+        Some(largest) if largest < NUMBERS_END - 1 => largest + 1,
+        Some(_) => NUMBERS_END - 1,
+    };
+    nearest(expected, truncated, len)
+}
+
+/// Returns the truncated number in an unmasked header: the `len` bytes of the packet from `number_at` on, in network byte
+/// order.
+///
+/// It reads four bytes, whatever the length: the length that a received header gives isn't authenticated before the packet
+/// is opened (RFC 9001 section 9.5).
+pub fn truncated(packet: &[u8], number_at: usize, len: usize) -> u64
+    requires within { number_at + 4 ≤ length packet.now }
+    requires len { (0 < len) × (len ≤ 4) }
+    ensures is { result ≡ number_from_digits 256 (slice_range packet.now number_at (number_at + len)) }
+    ensures fits { result < 2 ^ (8 * len) }
+{
+    let four = u32::from_be_bytes([
+        packet[number_at],
+        packet[number_at + 1],
+        packet[number_at + 2],
+        packet[number_at + 3],
+    ]);
+    u64::from(four >> (32 - 8 * len))
+}
+
+// Of the numbers with these low bits, the nearest to one: that of the window around it.
+//
+// It has no branch, since the bits and their length aren't authenticated yet (RFC 9001 section 9.5).
+fn nearest(expected: u64, truncated: u64, len: usize) -> u64
+    requires expected { IsNumber expected }
+    requires len { (0 < len) × (len ≤ 4) }
+    requires truncated { truncated < 2 ^ (8 * len) }
+    ensures { IsDecoded expected truncated len result }
+{
+    let window: u64 = 1 << (8 * len);
+    let lowest = (expected + 1)
+        .saturating_sub(window / 2)
+        .min(NUMBERS_END - window);
+    lowest + ((truncated + (NUMBERS_END - lowest)) & (window - 1))
+}

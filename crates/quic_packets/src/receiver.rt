@@ -1,0 +1,323 @@
+//! Receiving whole packets, over key updates (RFC 9001 sections 5.3, 5.4, 6.2 to 6.6 and 9.5).
+
+ghost use Rattle.std.specs.Prelude.{◌≡◌, ◌≢◌, ℕ, ◌+◌, ◌-◌, ◌<◌, ◌≤◌, ◌↔◌, false, true, length, List, slice_index, IsTrue, IsOk, IfOk, IfErr, IsErrOf, IsOkUnless, OnOk, OnErr};
+ghost use Rattle.std.specs.Option.{option_copied};
+ghost use Rattle.aead_ciphers.specs.Algorithm.{key_len};
+ghost use Rattle.aead_ciphers.specs.HeaderProtection.{key_len as header_key_len};
+ghost use Rattle.quic_packets.specs.Header.{HasSample};
+ghost use Rattle.quic_packets.specs.Numbers.{expected};
+ghost use Rattle.quic_packets.specs.Packet.{IsNumber};
+ghost use Rattle.quic_packets.specs.Receiving.{IsInTurn, Opening, Outcome, Reads, is_of_opened, is_other_phase, key_of, opening_key, received, reserved_bits, updated};
+ghost use Rattle.quic_packets.specs.Space.{IsNew, Marks};
+ghost use Rattle.quic_packets.specs.Suite.{algorithm, header_algorithm};
+
+use crate::error::PacketError;
+use crate::failures::Failures;
+use crate::header::HeaderKey;
+use crate::numbers::{decode, truncated};
+use crate::receive::ReceiveKey;
+use crate::space::Space;
+use crate::suite::Suite;
+use aead_ciphers::aead::NONCE_LEN;
+use std::marker::Model;
+use std::mem;
+
+/// A packet that was received.
+#[derive(Clone, Copy, PartialEq, Eq, Debug)]
+pub struct Received {
+    /// The packet number.
+    pub number: u64,
+    /// The length of the header in bytes, with the packet number.
+    pub header_len: usize,
+    /// The length of the payload in bytes, which stands after the header, decrypted.
+    pub payload_len: usize,
+    /// The Key Phase bit of a short header; false for a long one.
+    pub phase: bool,
+}
+
+/// Receives the packets of one encryption level, and after key updates those of each phase in turn.
+#[derive(Drop)]
+pub struct Receiver {
+    header: HeaderKey,
+    current: ReceiveKey,
+    next: Option<ReceiveKey>,
+    previous: Option<ReceiveKey>,
+    phase: bool,
+    lowest: u64,
+    highest: u64,
+}
+
+impl Model for Receiver {
+    ghost use Rattle.quic_packets.specs.Receiving.{Receiver};
+
+    ghost Value = { Receiver };
+
+    ghost view = { λ r. record {
+      header = r.header;
+      current = r.current;
+      next = r.next;
+      previous = r.previous;
+      phase = r.phase;
+      lowest = r.lowest;
+      highest = r.highest;
+    } };
+}
+
+impl Receiver {
+    /// Makes a receiver with these keys of the suite. `iv` is the IV of the packet protection keys (RFC 9001 section 5.1).
+    ///
+    /// Fails with `KeyLength` where a key hasn't the length of the suite's, 16 or 32 bytes.
+    pub fn new(
+        suite: Suite,
+        key: &[u8],
+        iv: [u8; NONCE_LEN],
+        header_key: &[u8],
+    ) -> Result<Self, PacketError>
+        ensures accepted { IsOk result ↔ ((length key.now ≡ key_len (algorithm suite))
+            × (length header_key.now ≡ header_key_len (header_algorithm suite))) }
+        ensures refused { IsOkUnless result PacketError.KeyLength }
+        ensures made { IfOk result (λ made. made ≡ record {
+          header = record { algorithm = header_algorithm suite; bytes = header_key.now };
+          current = record { algorithm = algorithm suite; bytes = key.now; iv = iv };
+          next = None;
+          previous = None;
+          phase = false;
+          lowest = 0;
+          highest = 0;
+        }) }
+    {
+        Ok(Receiver {
+            current: ReceiveKey::new(suite.algorithm(), key, iv)?,
+            header: HeaderKey::new(suite.header_algorithm(), header_key)?,
+            next: None,
+            previous: None,
+            phase: false,
+            lowest: 0,
+            highest: 0,
+        })
+    }
+
+    /// Takes the key of the next phase: the first packet that it opens makes it the current one. The header key stays (RFC
+    /// 9001 section 6).
+    ///
+    /// A peer that initiates an update must have seen a packet of the current phase acknowledged (section 6.1), and one that
+    /// follows an update needs no acknowledgment. So the key is best given once such an acknowledgment was sent, or once one's
+    /// own update was initiated. Before, a packet of the next phase is rejected as a forged one is.
+    pub fn set_next(&mut self, key: &[u8], iv: [u8; NONCE_LEN]) -> Result<(), PacketError>
+        ensures accepted { IsOk result ↔ (length key.now ≡ key_len self.old.current.algorithm) }
+        ensures refused { IsOkUnless result PacketError.KeyLength }
+        ensures given { OnOk result (self.new ≡ record self.old {
+          next = Some (record { algorithm = self.old.current.algorithm; bytes = key.now; iv = iv });
+        }) }
+        ensures kept { OnErr result (self.new ≡ self.old) }
+    {
+        self.next = Some(ReceiveKey::new(self.current.algorithm(), key, iv)?);
+        Ok(())
+    }
+
+    /// Returns the Key Phase bit of the current key (RFC 9000 section 17.3.1). It turns when a packet moves the keys on.
+    pub fn phase(&self) -> bool
+        ensures { result ≡ self.now.phase }
+    {
+        self.phase
+    }
+
+    /// Drops the key of the previous phase, so that late packets of it are rejected (RFC 9001 section 6.5).
+    pub fn forget_previous(&mut self)
+        ensures { self.new ≡ record self.old { previous = None } }
+    {
+        self.previous = None;
+    }
+
+    /// Receives the packet whose number begins at byte `number_at`: unmasks its header, reads its number, opens it, and
+    /// counts its number as received. The header then stands unmasked, and after it the payload, decrypted; the tag stays.
+    ///
+    /// `space` is that of the packet's numbers, and `failures` the one count of the connection. A packet that is rejected
+    /// stays as it came. But `ReservedBits`, `Duplicate` and `KeyUpdate` come of authentic packets alone, which then stand
+    /// opened. Before a packet is known to be authentic, the bits under the header's mask decide nothing but how long the
+    /// header is and which key opens the packet (RFC 9001 section 9.5).
+    pub fn receive(
+        &mut self,
+        space: &mut Space,
+        failures: &mut Failures,
+        packet: &mut [u8],
+        number_at: usize,
+    ) -> Result<Received, PacketError>
+        ensures used_up { IsErrOf result PacketError.TooManyFailures ↔ (failures.old.limit ≤ failures.old.count) }
+        ensures first_byte { IsErrOf result PacketError.NumberAtFirstByte
+            ↔ ((failures.old.count < failures.old.limit) × (number_at ≡ 0)) }
+        ensures no_sample { IsErrOf result PacketError.NoSample ↔ ((failures.old.count < failures.old.limit)
+            × (0 < number_at) × (length packet.old < number_at + 20)) }
+        ensures outcome { failures.old.count < failures.old.limit → HasSample number_at (length packet.old)
+            → (plain : List ℕ) × (number : ℕ)
+            × Reads self.old.header space.old.next number_at packet.old plain number
+            × Outcome self.old space.old number_at plain number result self.new packet.new }
+        ensures parts { IfOk result (λ r. r.header_len + r.payload_len + 16 ≡ length packet.old) }
+        ensures marked { IfOk result (λ r. IsNew space.old r.number × Marks space.old r.number space.new) }
+        ensures failed { IsErrOf result PacketError.Refused
+            → failures.new ≡ record failures.old { count = failures.old.count + 1 } }
+        ensures not_failed { ¬ IsErrOf result PacketError.Refused → failures.new ≡ failures.old }
+        ensures kept { OnErr result ((self.new ≡ self.old) × (space.new ≡ space.old)) }
+        ensures bytes_kept { IfErr result (λ error. is_of_opened error ≡ false → packet.new ≡ packet.old) }
+    {
+        if failures.is_at_limit() {
+            return Err(PacketError::TooManyFailures);
+        }
+        match self.open(space.largest(), packet, number_at) {
+            Ok((first, received)) => {
+                self.admit(space, first, received.number)?;
+                Ok(received)
+            }
+            Err(error) => {
+                failures.note(error);
+                Err(error)
+            }
+        }
+    }
+
+    // Unmasks the header, reads the number and opens the packet; a packet that is refused is masked again. Also gives the
+    // header's first byte.
+    fn open(
+        &self,
+        largest: Option<u64>,
+        packet: &mut [u8],
+        number_at: usize,
+    ) -> Result<(u8, Received), PacketError>
+        ensures first_byte { IsErrOf result PacketError.NumberAtFirstByte ↔ (number_at ≡ 0) }
+        ensures no_sample { IsErrOf result PacketError.NoSample
+            ↔ ((0 < number_at) × (length packet.old < number_at + 20)) }
+        ensures opening { HasSample number_at (length packet.old) → (plain : List ℕ) × (number : ℕ)
+            × Reads self.now.header (expected largest) number_at packet.old plain number
+            × Opening self.now number_at plain number result packet.new }
+        ensures number { IfOk result (λ opened. IsNumber opened.1.number) }
+        ensures sampled { OnOk result (HasSample number_at (length packet.old)) }
+        ensures parts { IfOk result (λ opened. opened.1.header_len + opened.1.payload_len + 16 ≡ length packet.old) }
+        ensures kept { OnErr result (packet.new ≡ packet.old) }
+        ensures others { ¬ IsErrOf result PacketError.TooManyFailures
+            × ¬ IsErrOf result PacketError.ReservedBits × ¬ IsErrOf result PacketError.Duplicate
+            × ¬ IsErrOf result PacketError.KeyUpdate }
+    {
+        let number_len = self.header.unprotect(packet, number_at)?;
+        let first = packet[0];
+        let header_len = number_at + number_len;
+        let number = decode(
+            largest,
+            truncated(packet, number_at, number_len),
+            number_len,
+        );
+        match self
+            .opening_key(first, number)
+            .open(packet, header_len, number)
+        {
+            Ok(payload_len) => {
+                let phase = first & 0x84 == 0x04;
+                Ok((
+                    first,
+                    Received {
+                        number,
+                        header_len,
+                        payload_len,
+                        phase,
+                    },
+                ))
+            }
+            Err(error) => {
+                let Ok(()) = self.header.protect(packet, number_at) else {
+                    unreachable!();
+                };
+                Err(error)
+            }
+        }
+    }
+
+    // The key of a packet, where it is held.
+    fn key_of(&self, first: u8, number: u64) -> Option<&ReceiveKey>
+        ensures { option_copied result ≡ key_of self.now first number }
+    {
+        if !self.is_other_phase(first) {
+            Some(&self.current)
+        } else if number < self.lowest {
+            self.previous.as_ref()
+        } else {
+            self.next.as_ref()
+        }
+    }
+
+    // Whether a packet with this first byte is of the other key phase.
+    fn is_other_phase(&self, first: u8) -> bool
+        ensures { result ≡ is_other_phase self.now first }
+    {
+        first & 0x84 == if self.phase { 0x00 } else { 0x04 }
+    }
+
+    // The key that a packet is opened with: where its own isn't held the current one, so that it takes as long.
+    fn opening_key(&self, first: u8, number: u64) -> &ReceiveKey
+        ensures { result.now ≡ opening_key self.now first number }
+    {
+        self.key_of(first, number).unwrap_or(&self.current)
+    }
+
+    // Whether the key of a packet is held, and its number allows for it.
+    fn is_in_turn(&self, first: u8, number: u64) -> bool
+        ensures { IsTrue result ↔ IsInTurn self.now first number }
+    {
+        if self.key_of(first, number).is_none() {
+            return false;
+        }
+        !self.is_other_phase(first) || number < self.lowest || number >= self.highest
+    }
+
+    // Counts a packet that was received.
+    fn move_on(&mut self, first: u8, number: u64)
+        ensures { self.new ≡ received self.old first number }
+    {
+        if !self.is_other_phase(first) {
+            self.lowest = self.lowest.min(number);
+            self.highest = self.highest.max(number);
+        } else if number >= self.lowest {
+            self.update(number);
+        }
+    }
+
+    // Makes the next key the current one, where it is held.
+    fn update(&mut self, number: u64)
+        ensures { self.new ≡ updated self.old number self.old.next }
+    {
+        if let Some(next) = self.next.take() {
+            self.previous = Some(mem::replace(&mut self.current, next));
+            self.phase = !self.phase;
+            self.lowest = number;
+            self.highest = number;
+        }
+    }
+
+    // Admits a packet that was opened, and counts it.
+    fn admit(&mut self, space: &mut Space, first: u8, number: u64) -> Result<(), PacketError>
+        requires { IsNumber number }
+        ensures accepted { IsOk result ↔ ((reserved_bits first ≡ 0) × IsNew space.old number
+            × IsInTurn self.old first number) }
+        ensures reserved { IsErrOf result PacketError.ReservedBits ↔ (reserved_bits first ≢ 0) }
+        ensures duplicate { IsErrOf result PacketError.Duplicate
+            ↔ ((reserved_bits first ≡ 0) × ¬ IsNew space.old number) }
+        ensures out_of_turn { IsErrOf result PacketError.KeyUpdate ↔ ((reserved_bits first ≡ 0)
+            × IsNew space.old number × ¬ IsInTurn self.old first number) }
+        ensures others { IfErr result (λ error. is_of_opened error ≡ true) }
+        ensures moved_on { OnOk result (self.new ≡ received self.old first number) }
+        ensures marked { OnOk result (Marks space.old number space.new) }
+        ensures kept { OnErr result ((self.new ≡ self.old) × (space.new ≡ space.old)) }
+    {
+        let reserved = if first & 0x80 == 0x80 { 0x0c } else { 0x18 };
+        if first & reserved != 0 {
+            return Err(PacketError::ReservedBits);
+        }
+        if !space.is_new(number) {
+            return Err(PacketError::Duplicate);
+        }
+        if !self.is_in_turn(first, number) {
+            return Err(PacketError::KeyUpdate);
+        }
+        space.mark(number);
+        self.move_on(first, number);
+        Ok(())
+    }
+}

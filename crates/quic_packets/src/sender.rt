@@ -1,0 +1,393 @@
+//! Sending whole packets in one call each, over key updates (RFC 9001 sections 5 and 6).
+
+ghost use Rattle.std.specs.Prelude.{◌≡◌, ◌≢◌, ◌+◌, ◌-◌, ◌^◌, ◌<◌, ◌≤◌, ◌↔◌, true, false, min, length, IsOk, IfOk, IsErrOf, IsOkUnless, IsSome, IfSome, IsTrue, OnOk, OnErr};
+ghost use Rattle.aead_ciphers.specs.Algorithm.{key_len};
+ghost use Rattle.aead_ciphers.specs.Gcm.{Fits};
+ghost use Rattle.aead_ciphers.specs.Packet.{PacketFits};
+ghost use Rattle.quic_packets.specs.Header.{HasSample};
+ghost use Rattle.quic_packets.specs.Packet.{CarriesNumber, HasNumber, IsNumber};
+ghost use Rattle.quic_packets.specs.Sending.{HasKeyLengths, IsEncodable, IsInTurn, IsOpen, IsRoom, IsSealable, IsSent, after_acknowledgement, after_send, after_skip, after_update, first_byte, lacks_protection, new_sender, numbered_packet, with_next_keys};
+
+use crate::error::PacketError;
+use crate::header::{HeaderKey, SAMPLE_END};
+use crate::numbers::number_len;
+use crate::packet::{NUMBERS_END, payload_len};
+use crate::send::SendKey;
+use crate::suite::Suite;
+use aead_ciphers::aead::NONCE_LEN;
+use std::marker::Model;
+use std::ops::Range;
+
+/// The packets that a key of AES-GCM may seal (RFC 9001 section 6.6).
+const MAX_SEALED: u64 = 1 << 23;
+
+/// Sends the packets of one number space in one direction, under one key after the other.
+///
+/// No number is used twice, not even under different keys, and at most 2^23 packets are sealed under one key.
+#[derive(Drop)]
+pub struct Sender {
+    key: SendKey,
+    header_key: HeaderKey,
+    phase: bool,
+    sealed: u64,
+    limit: u64,
+    first: u64,
+    is_acknowledged: bool,
+    is_confirmed: bool,
+}
+
+impl Model for Sender {
+    ghost use Rattle.std.specs.Prelude.{◌^◌, ◌≤◌};
+    ghost use Rattle.quic_packets.specs.Sending.{Sender};
+
+    ghost Value = { Sender };
+
+    ghost view = { λ s. record {
+      key = s.key;
+      header_key = s.header_key;
+      phase = s.phase;
+      sealed = s.sealed;
+      limit = s.limit;
+      first = s.first;
+      acknowledged = s.is_acknowledged;
+      confirmed = s.is_confirmed;
+    } };
+
+    ghost invariant = { λ s. s.limit ≤ 2 ^ 23 };
+}
+
+impl Sender {
+    /// Makes a sender with these keys of the suite, whose first packet has the number `first`. `iv` is the IV of the
+    /// packet protection keys (RFC 9001 section 5.1).
+    ///
+    /// Its Key Phase bit is 0, and it takes the handshake as unconfirmed. Fails with `KeyLength` where a key hasn't the
+    /// length of the suite's, 16 or 32 bytes, and with `NumbersEnded` where `first` is above 2^62.
+    pub fn new(
+        suite: Suite,
+        key: &[u8],
+        iv: [u8; NONCE_LEN],
+        header_key: &[u8],
+        first: u64,
+    ) -> Result<Self, PacketError>
+        ensures accepted { IsOk result ↔ (HasKeyLengths suite key.now header_key.now × (first ≤ 2 ^ 62)) }
+        ensures key_len { IsErrOf result PacketError.KeyLength ↔ ¬ HasKeyLengths suite key.now header_key.now }
+        ensures ended { IsErrOf result PacketError.NumbersEnded
+            ↔ (HasKeyLengths suite key.now header_key.now × (2 ^ 62 < first)) }
+        ensures made { IfOk result (λ made. made ≡ new_sender suite key.now iv header_key.now first) }
+    {
+        let header_key = HeaderKey::new(suite.header_algorithm(), header_key)?;
+        let key = SendKey::new(suite.algorithm(), key, iv, first)?;
+        Ok(Sender {
+            key,
+            header_key,
+            phase: false,
+            sealed: 0,
+            limit: MAX_SEALED,
+            first,
+            is_acknowledged: true,
+            is_confirmed: false,
+        })
+    }
+
+    /// Lowers the number of packets that each key may seal to `limit`. A higher limit changes nothing.
+    pub fn with_limit(mut self, limit: u64) -> Self
+        ensures { result ≡ record self { limit = min self.limit limit } }
+    {
+        if limit < self.limit {
+            self.limit = limit;
+        }
+        self
+    }
+
+    /// Returns the number of the next packet, or 2^62 where no number is left.
+    pub fn next_number(&self) -> u64
+        ensures { result ≡ self.now.key.next }
+    {
+        self.key.next_number()
+    }
+
+    /// Returns how many packets the current key has sealed.
+    pub fn sealed(&self) -> u64
+        ensures { result ≡ self.now.sealed }
+    {
+        self.sealed
+    }
+
+    /// Returns the Key Phase bit of the next packet (RFC 9000 section 17.3.1).
+    pub fn phase(&self) -> bool
+        ensures { result ≡ self.now.phase }
+    {
+        self.phase
+    }
+
+    /// Returns in how many bytes the next packet's number is sent, from 1 to 4, where `largest_acknowledged` is the largest
+    /// number that the peer has acknowledged in this space (RFC 9000 sections 17.1 and A.2).
+    ///
+    /// Returns `None` where `send` can't send it: no number is left, 4 bytes are too few, or the number isn't above
+    /// `largest_acknowledged`.
+    pub fn next_number_len(&self, largest_acknowledged: Option<u64>) -> Option<usize>
+        ensures answers { IsSome result
+            ↔ (IsNumber self.now.key.next × IsEncodable self.now.key.next largest_acknowledged) }
+        ensures room { IfSome result (λ n. IsRoom self.now.key.next largest_acknowledged 0 n) }
+        ensures few { IfSome result (λ n. n ≤ 4) }
+    {
+        number_len(self.key.next_number(), largest_acknowledged)
+    }
+
+    /// Leaves the numbers below `number` unused, so that `number` is the next one. Fails with `NumberUsed` where the next
+    /// one is above `number`, and with `NumbersEnded` where `number` is above 2^62.
+    pub fn skip_to(&mut self, number: u64) -> Result<(), PacketError>
+        ensures accepted { IsOk result ↔ ((self.old.key.next ≤ number) × (number ≤ 2 ^ 62)) }
+        ensures used { IsErrOf result PacketError.NumberUsed ↔ (number < self.old.key.next) }
+        ensures ended { IsErrOf result PacketError.NumbersEnded ↔ (2 ^ 62 < number) }
+        ensures skipped { OnOk result (self.new ≡ after_skip self.old number) }
+        ensures kept { OnErr result (self.new ≡ self.old) }
+    {
+        self.key.skip_to(number)
+    }
+
+    /// Notes that the handshake is confirmed (RFC 9001 section 4.1.2).
+    pub fn confirm_handshake(&mut self)
+        ensures { self.new ≡ record self.old { confirmed = true } }
+    {
+        self.is_confirmed = true;
+    }
+
+    /// Notes that the peer has acknowledged the packet with this number.
+    pub fn acknowledged(&mut self, number: u64)
+        ensures { self.new ≡ after_acknowledgement self.old number }
+    {
+        if self.first <= number && number < self.key.next_number() {
+            self.is_acknowledged = true;
+        }
+    }
+
+    /// Initiates a key update: goes on under the next key and its IV, in the other phase (RFC 9001 section 6.1). The header
+    /// key stays.
+    ///
+    /// Fails with `HandshakeUnconfirmed` before the handshake is confirmed, and with `PhaseUnacknowledged` after an update
+    /// until a packet of its phase is acknowledged.
+    pub fn initiate_update(&mut self, key: &[u8], iv: [u8; NONCE_LEN]) -> Result<(), PacketError>
+        ensures accepted { IsOk result ↔ (IsTrue self.old.confirmed × IsTrue self.old.acknowledged
+            × (length key.now ≡ key_len self.old.key.algorithm)) }
+        ensures unconfirmed { IsErrOf result PacketError.HandshakeUnconfirmed ↔ ¬ IsTrue self.old.confirmed }
+        ensures unacknowledged { IsErrOf result PacketError.PhaseUnacknowledged
+            ↔ (IsTrue self.old.confirmed × ¬ IsTrue self.old.acknowledged) }
+        ensures key_len { IsErrOf result PacketError.KeyLength ↔ (IsTrue self.old.confirmed
+            × IsTrue self.old.acknowledged × (length key.now ≢ key_len self.old.key.algorithm)) }
+        ensures updated { OnOk result (self.new ≡ after_update self.old key.now iv) }
+        ensures kept { OnErr result (self.new ≡ self.old) }
+    {
+        if !self.is_confirmed {
+            return Err(PacketError::HandshakeUnconfirmed);
+        }
+        if !self.is_acknowledged {
+            return Err(PacketError::PhaseUnacknowledged);
+        }
+        self.follow_update(key, iv)
+    }
+
+    /// Follows a key update of the peer: goes on under the next key and its IV, in the other phase (RFC 9001 section 6.2).
+    /// The header key stays.
+    pub fn follow_update(&mut self, key: &[u8], iv: [u8; NONCE_LEN]) -> Result<(), PacketError>
+        ensures accepted { IsOk result ↔ (length key.now ≡ key_len self.old.key.algorithm) }
+        ensures refused { IsOkUnless result PacketError.KeyLength }
+        ensures updated { OnOk result (self.new ≡ after_update self.old key.now iv) }
+        ensures kept { OnErr result (self.new ≡ self.old) }
+    {
+        let next = self.key.next_number();
+        self.key = SendKey::new(self.key.algorithm(), key, iv, next)?;
+        self.phase = !self.phase;
+        self.sealed = 0;
+        self.first = next;
+        self.is_acknowledged = false;
+        Ok(())
+    }
+
+    /// Makes the sender of 1-RTT packets of that of 0-RTT packets, with keys of its own: the numbers go on (RFC 9000
+    /// section 12.3), and the limit stays. All else is as `new` makes it. Where a key hasn't the length of the suite's, the
+    /// sender is dropped.
+    pub fn into_next_keys(
+        self,
+        suite: Suite,
+        key: &[u8],
+        iv: [u8; NONCE_LEN],
+        header_key: &[u8],
+    ) -> Result<Self, PacketError>
+        ensures accepted { IsOk result ↔ HasKeyLengths suite key.now header_key.now }
+        ensures refused { IsOkUnless result PacketError.KeyLength }
+        ensures made { IfOk result (λ made. made ≡ with_next_keys self suite key.now iv header_key.now) }
+    {
+        let next = Sender::new(suite, key, iv, header_key, self.key.next_number())?;
+        Ok(next.with_limit(self.limit))
+    }
+
+    /// Sends a packet: writes its number where `number` says, and the number's length and the phase into the first byte,
+    /// clears the reserved bits, encrypts the payload in place, writes the tag over the last 16 bytes, and masks the
+    /// header. Returns the number.
+    ///
+    /// The packet is the header, which ends with room for the number, the payload, and 16 bytes for the tag. The room has
+    /// as many bytes as `next_number_len` returns; a long header's Length field, which stands before it, is the caller's
+    /// to write. Number and payload have 4 bytes or more together. A call that fails changes nothing and spends no number.
+    pub fn send(
+        &mut self,
+        packet: &mut [u8],
+        number: Range<usize>,
+        largest_acknowledged: Option<u64>,
+    ) -> Result<u64, PacketError>
+        ensures accepted { IsOk result ↔ (IsSealable number.start number.end packet.old
+            × IsInTurn self.old largest_acknowledged number.start number.end) }
+        ensures too_short { IsErrOf result PacketError.TooShort ↔ (length packet.old < number.end + 16) }
+        ensures too_long { IsErrOf result PacketError.TooLong ↔ ((number.end + 16 ≤ length packet.old)
+            × ¬ Fits number.end (length packet.old - 16 - number.end)) }
+        ensures first_byte { IsErrOf result PacketError.NumberAtFirstByte
+            ↔ (PacketFits number.end (length packet.old) × (number.start ≡ 0)) }
+        ensures no_sample { IsErrOf result PacketError.NoSample ↔ (PacketFits number.end (length packet.old)
+            × (0 < number.start) × (length packet.old < number.start + 20)) }
+        ensures no_protection { IsErrOf result PacketError.NoProtection
+            ↔ (PacketFits number.end (length packet.old) × HasSample number.start (length packet.old)
+            × IsTrue (lacks_protection packet.old)) }
+        ensures used_up { IsErrOf result PacketError.KeyUsedUp
+            ↔ (IsSealable number.start number.end packet.old × (self.old.limit ≤ self.old.sealed)) }
+        ensures ended { IsErrOf result PacketError.NumbersEnded
+            ↔ (IsSealable number.start number.end packet.old × (self.old.sealed < self.old.limit)
+            × (self.old.key.next ≡ 2 ^ 62)) }
+        ensures too_far { IsErrOf result PacketError.NumberTooFar
+            ↔ (IsSealable number.start number.end packet.old × IsOpen self.old
+            × ¬ IsEncodable self.old.key.next largest_acknowledged) }
+        ensures number_length { IsErrOf result PacketError.NumberLength
+            ↔ (IsSealable number.start number.end packet.old × IsOpen self.old
+            × IsEncodable self.old.key.next largest_acknowledged
+            × ¬ IsRoom self.old.key.next largest_acknowledged number.start number.end) }
+        ensures sent { OnOk result (IsSent self.old number.start number.end packet.old packet.new) }
+        ensures number { IfOk result (λ n. n ≡ self.old.key.next) }
+        ensures counted { OnOk result (self.new ≡ after_send self.old) }
+        ensures kept { OnErr result (packet.new ≡ packet.old) }
+        ensures sender_kept { OnErr result (self.new ≡ self.old) }
+    {
+        let number_at = number.start;
+        let header_len = number.end;
+        check_packet(packet, number_at, header_len)?;
+        self.check_number(number_at, header_len, largest_acknowledged)?;
+        let next = self.key.next_number();
+        write_number(packet, number_at, header_len, next, self.phase);
+        let Ok(_) = self.key.seal(packet, number) else {
+            unreachable!();
+        };
+        let Ok(()) = self.header_key.protect(packet, number_at) else {
+            unreachable!();
+        };
+        self.sealed += 1;
+        Ok(next)
+    }
+
+    // That the next number is sent in this room.
+    fn check_number(
+        &self,
+        number_at: usize,
+        header_len: usize,
+        largest_acknowledged: Option<u64>,
+    ) -> Result<(), PacketError>
+        ensures accepted { IsOk result ↔ IsInTurn self.now largest_acknowledged number_at header_len }
+        ensures used_up { IsErrOf result PacketError.KeyUsedUp ↔ (self.now.limit ≤ self.now.sealed) }
+        ensures ended { IsErrOf result PacketError.NumbersEnded
+            ↔ ((self.now.sealed < self.now.limit) × (self.now.key.next ≡ 2 ^ 62)) }
+        ensures too_far { IsErrOf result PacketError.NumberTooFar
+            ↔ (IsOpen self.now × ¬ IsEncodable self.now.key.next largest_acknowledged) }
+        ensures number_length { IsErrOf result PacketError.NumberLength
+            ↔ (IsOpen self.now × IsEncodable self.now.key.next largest_acknowledged
+            × ¬ IsRoom self.now.key.next largest_acknowledged number_at header_len) }
+        ensures others { ¬ IsErrOf result PacketError.TooShort × ¬ IsErrOf result PacketError.TooLong
+            × ¬ IsErrOf result PacketError.NumberAtFirstByte × ¬ IsErrOf result PacketError.NoSample
+            × ¬ IsErrOf result PacketError.NoProtection }
+        ensures bound { OnOk result (header_len ≤ number_at + 4) }
+    {
+        if self.sealed >= self.limit {
+            return Err(PacketError::KeyUsedUp);
+        }
+        let next = self.key.next_number();
+        if next >= NUMBERS_END {
+            return Err(PacketError::NumbersEnded);
+        }
+        let Some(len) = number_len(next, largest_acknowledged) else {
+            return Err(PacketError::NumberTooFar);
+        };
+        if header_len < number_at || header_len - number_at != len {
+            return Err(PacketError::NumberLength);
+        }
+        Ok(())
+    }
+}
+
+// That a packet can be sealed and protected.
+fn check_packet(packet: &[u8], number_at: usize, header_len: usize) -> Result<(), PacketError>
+    ensures accepted { IsOk result ↔ IsSealable number_at header_len packet.now }
+    ensures too_short { IsErrOf result PacketError.TooShort ↔ (length packet.now < header_len + 16) }
+    ensures too_long { IsErrOf result PacketError.TooLong ↔ ((header_len + 16 ≤ length packet.now)
+        × ¬ Fits header_len (length packet.now - 16 - header_len)) }
+    ensures first_byte { IsErrOf result PacketError.NumberAtFirstByte
+        ↔ (PacketFits header_len (length packet.now) × (number_at ≡ 0)) }
+    ensures no_sample { IsErrOf result PacketError.NoSample ↔ (PacketFits header_len (length packet.now)
+        × (0 < number_at) × (length packet.now < number_at + 20)) }
+    ensures no_protection { IsErrOf result PacketError.NoProtection
+        ↔ (PacketFits header_len (length packet.now) × HasSample number_at (length packet.now)
+        × IsTrue (lacks_protection packet.now)) }
+    ensures others { ¬ IsErrOf result PacketError.KeyUsedUp × ¬ IsErrOf result PacketError.NumbersEnded
+        × ¬ IsErrOf result PacketError.NumberTooFar × ¬ IsErrOf result PacketError.NumberLength }
+{
+    payload_len(packet, header_len)?;
+    if number_at == 0 {
+        return Err(PacketError::NumberAtFirstByte);
+    }
+    if packet.len() < SAMPLE_END || packet.len() - SAMPLE_END < number_at {
+        return Err(PacketError::NoSample);
+    }
+    if lacks_protection(packet) {
+        return Err(PacketError::NoProtection);
+    }
+    Ok(())
+}
+
+// Whether the header is of a type without protection: Version Negotiation or Retry.
+fn lacks_protection(packet: &[u8]) -> bool
+    requires { 5 ≤ length packet.now }
+    ensures { result ≡ lacks_protection packet.now }
+{
+    let is_retry = packet[0] & 0x30 == 0x30;
+    let is_version_negotiation = packet[1] == 0
+        && packet[2] == 0
+        && packet[3] == 0
+        && packet[4] == 0;
+    packet[0] & 0x80 == 0x80 && (is_retry || is_version_negotiation)
+}
+
+// Writes the packet number and the first byte.
+fn write_number(packet: &mut [u8], number_at: usize, header_len: usize, number: u64, phase: bool)
+    requires after_first { 0 < number_at }
+    requires some { number_at < header_len }
+    requires few { header_len ≤ number_at + 4 }
+    requires within { header_len ≤ length packet.old }
+    ensures numbered { packet.new ≡ numbered_packet phase number number_at header_len packet.old }
+    ensures has_number { HasNumber number_at header_len packet.new }
+    ensures carries { CarriesNumber number number_at header_len packet.new }
+{
+    let first = packet[0];
+    let len = header_len - number_at;
+    let bytes = number.to_be_bytes();
+    packet[number_at..header_len].copy_from_slice(&bytes[bytes.len() - len..]);
+    packet[0] = first_byte(first, len, phase);
+}
+
+// The first byte of a header whose number has this length.
+fn first_byte(first: u8, number_len: usize, phase: bool) -> u8
+    requires { (0 < number_len) × (number_len ≤ 4) }
+    ensures { result ≡ first_byte phase number_len first }
+{
+    let low = number_len as u8 - 1;
+    if first & 0x80 == 0x80 {
+        first & 0xf0 | low
+    } else {
+        let key_phase = if phase { 0x04 } else { 0 };
+        first & 0xe0 | key_phase | low
+    }
+}

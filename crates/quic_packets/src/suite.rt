@@ -1,0 +1,37 @@
+//! The algorithms of payload and header together (RFC 9001 sections 5.3 and 5.4.3).
+
+ghost use Rattle.std.specs.Prelude.{◌≡◌};
+ghost use Rattle.quic_packets.specs.Suite.{algorithm, header_algorithm};
+
+use aead_ciphers::aead::{AES_128_GCM, AES_256_GCM, Algorithm, quic};
+
+/// An algorithm for payloads, and the one for headers that goes with it.
+#[derive(Clone, Copy, PartialEq, Eq, Debug)]
+pub enum Suite {
+    /// AES-128-GCM, and headers masked by AES-128: keys of 16 bytes.
+    Aes128Gcm,
+    /// AES-256-GCM, and headers masked by AES-256: keys of 32 bytes.
+    Aes256Gcm,
+}
+
+impl Suite {
+    /// Returns the algorithm for payloads.
+    pub fn algorithm(self) -> &'static Algorithm
+        ensures { result.now ≡ algorithm self }
+    {
+        match self {
+            Suite::Aes128Gcm => &AES_128_GCM,
+            Suite::Aes256Gcm => &AES_256_GCM,
+        }
+    }
+
+    /// Returns the algorithm for headers.
+    pub fn header_algorithm(self) -> &'static quic::Algorithm
+        ensures { result.now ≡ header_algorithm self }
+    {
+        match self {
+            Suite::Aes128Gcm => &quic::AES_128,
+            Suite::Aes256Gcm => &quic::AES_256,
+        }
+    }
+}
