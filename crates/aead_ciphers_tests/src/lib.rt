@@ -41,8 +41,6 @@ mod masks;
 #[cfg(test)]
 mod overlapping;
 #[cfg(test)]
-mod packets;
-#[cfg(test)]
 mod quic;
 #[cfg(test)]
 mod record_layer;

@@ -1,0 +1,148 @@
+//! `split` and `packet_at`: the packets of RFC 9001 appendix A, and datagrams made by hand.
+
+use crate::retry::A_4_RETRY;
+use aead_vectors::rfc_9001::{A_2_PACKET, A_3_PACKET, A_5_PROTECTED};
+use quic_packets::{DatagramError, Packet, PacketType, packet_at, split};
+use std::alloc::Global;
+use std::ops::Range;
+use std::process::Abort;
+use std::test::Fail;
+
+/// A Version Negotiation packet with IDs of one byte and of two, and one version.
+const NEGOTIATION: [u8; 14] = [0x80, 0, 0, 0, 0, 1, 9, 2, 8, 8, 0, 0, 0, 1];
+
+/// A packet of version 2, with a destination ID of 21 bytes.
+const VERSION_2: [u8; 30] = [
+    0xc0, 0x6b, 0x33, 0x43, 0xcf, 21, 7, 7, 7, 7, 7, 7, 7, 7, 7, 7, 7, 7, 7, 7, 7, 7, 7, 7, 7, 7,
+    7, 0, 1, 2,
+];
+
+/// The packet with a long header at the front of a datagram is this one.
+fn is_long(
+    rt: &impl Abort,
+    datagram: &[u8],
+    packet_type: PacketType,
+    version: u32,
+    ids: (Range<usize>, Range<usize>),
+    token: Range<usize>,
+    number_at: Option<usize>,
+) {
+    let (destination_id, source_id) = ids;
+    let packet = Packet {
+        packet_type,
+        version: Some(version),
+        destination_id,
+        source_id,
+        token,
+        number_at,
+        end: datagram.len(),
+    };
+    assert_eq!(rt; packet_at(datagram, 0, 0), Ok(packet));
+}
+
+#[test]
+fn long_headers(rt: HostRuntime) {
+    let initial = PacketType::Initial;
+    let ids = (6..14, 15..15);
+    is_long(&rt, A_2_PACKET.protected, initial, 1, ids, 16..16, Some(18));
+    let ids = (6..6, 7..15);
+    is_long(&rt, A_3_PACKET.protected, initial, 1, ids, 16..16, Some(18));
+    let ids = (6..6, 7..15);
+    is_long(&rt, &A_4_RETRY, PacketType::Retry, 1, ids, 15..20, None);
+    let negotiation = PacketType::VersionNegotiation;
+    is_long(
+        &rt,
+        &NEGOTIATION,
+        negotiation,
+        0,
+        (6..7, 8..10),
+        10..10,
+        None,
+    );
+    let ids = (6..27, 28..28);
+    is_long(
+        &rt,
+        &VERSION_2,
+        PacketType::OtherVersion,
+        0x6b33_43cf,
+        ids,
+        28..28,
+        None,
+    );
+}
+
+// Two packets of RFC 9001 appendix A, one after the other. The header of the second is short.
+#[test]
+fn coalesced(rt: HostRuntime) -> Result<(), Fail> {
+    let mut datagram = Vec::from_slice(rt.alloc(), A_3_PACKET.protected)?;
+    datagram.extend_from_slice(&A_5_PROTECTED)?;
+    let mut parts = Vec::new(rt.alloc());
+    for packet in split(&datagram, 0) {
+        let packet = packet?;
+        parts.push((packet.packet_type, packet.number_at, packet.end))?;
+    }
+    let wanted = [
+        (PacketType::Initial, Some(18), 135),
+        (PacketType::OneRtt, Some(136), 156),
+    ];
+    assert_eq!(rt; parts.as_slice(), wanted.as_slice());
+    Ok(())
+}
+
+/// Each shorter front of a packet is cut.
+fn cut_anywhere(rt: &impl Abort, packet: &[u8]) {
+    for len in 0..packet.len() {
+        assert_eq!(rt;
+            packet_at(&packet[..len], 0, 0),
+            Err(DatagramError::Cut),
+            "{len}"
+        );
+    }
+}
+
+/// What is read at the front of a datagram is refused so.
+fn refused(rt: &impl Abort, datagram: &[u8], id_len: usize, error: DatagramError) {
+    assert_eq!(rt; packet_at(datagram, 0, id_len), Err(error));
+}
+
+// IDs of 21 bytes in version 1, and a packet after which a cut one comes.
+#[test]
+fn refusals(rt: HostRuntime) -> Result<(), Fail> {
+    cut_anywhere(&rt, A_3_PACKET.protected);
+    refused(&rt, &A_5_PROTECTED, 21, DatagramError::Cut);
+    refused(&rt, &[0xc0, 0, 0, 0, 1, 21], 0, DatagramError::IdTooLong);
+    refused(
+        &rt,
+        &[0xc0, 0, 0, 0, 1, 1, 9, 21],
+        0,
+        DatagramError::IdTooLong,
+    );
+    let mut datagram = Vec::from_slice(rt.alloc(), A_3_PACKET.protected)?;
+    datagram.push(0xc0)?;
+    let mut packets = split(&datagram, 0);
+    assert!(rt; packets.next().is_some_and(|packet| packet.is_ok()));
+    assert_eq!(rt; packets.next(), Some(Err(DatagramError::Cut)));
+    assert_eq!(rt; packets.next(), None);
+    Ok(())
+}
+
+/// A Handshake packet with this length of 37 bytes ends 37 bytes after it.
+fn has_length(rt: &impl Abort, alloc: Global, length: &[u8]) -> Result<(), Fail> {
+    let mut datagram = Vec::from_slice(alloc, &[0xe0, 0, 0, 0, 1, 0, 0])?;
+    datagram.extend_from_slice(length)?;
+    datagram.extend_from_slice(&[0; 37])?;
+    let packet = packet_at(&datagram, 0, 0)?;
+    assert_eq!(rt; packet.end, datagram.len());
+    datagram.push(0)?;
+    assert_eq!(rt; packet_at(&datagram, 0, 0)?.end, packet.end);
+    Ok(())
+}
+
+// 37 in each of the forms of RFC 9000 section 16, of which appendix A.1 has the first two.
+#[test]
+fn variable_lengths(rt: HostRuntime) -> Result<(), Fail> {
+    has_length(&rt, rt.alloc(), &[0x25])?;
+    has_length(&rt, rt.alloc(), &[0x40, 0x25])?;
+    has_length(&rt, rt.alloc(), &[0x80, 0, 0, 0x25])?;
+    has_length(&rt, rt.alloc(), &[0xc0, 0, 0, 0, 0, 0, 0, 0x25])
+}

@@ -1,0 +1,72 @@
+//! A packet from one end of a connection to the other, as README.md of `quic_packets` shows it.
+
+use crate::checks::same;
+use quic_packets::{Failures, PacketError, Receiver, Sender, Space, Suite, packet_at};
+use std::alloc::Global;
+use std::test::Fail;
+use uses::quic_connection::{self, Incoming};
+
+/// What both ends of a direction have: TLS derives it from a secret by HKDF (RFC 9001 section 5.1).
+const KEY: [u8; 16] = [1; 16];
+
+const IV: [u8; 12] = [2; 12];
+
+const HEADER_KEY: [u8; 16] = [3; 16];
+
+/// The connection ID that the receiver chose.
+const CONNECTION_ID: [u8; 8] = [4; 8];
+
+/// Sends a payload in a packet with a short header.
+fn send(alloc: Global, sender: &mut Sender, payload: &[u8]) -> Result<Vec<u8>, Fail> {
+    let acknowledged = None;
+    let number_len = sender
+        .next_number_len(acknowledged)
+        .ok_or(PacketError::NumberTooFar)?;
+    let mut packet = Vec::from_slice(alloc, &[0x40])?;
+    packet.extend_from_slice(&CONNECTION_ID)?;
+    packet.extend_from_slice(&[0; 4][..number_len])?;
+    packet.extend_from_slice(payload)?;
+    packet.extend_from_slice(&[0; 16])?;
+    sender.send(&mut packet, 9..9 + number_len, acknowledged)?;
+    Ok(packet)
+}
+
+#[test]
+fn one_packet(rt: HostRuntime) -> Result<(), Fail> {
+    let mut sender = Sender::new(Suite::Aes128Gcm, &KEY, IV, &HEADER_KEY, 0)?;
+    let mut datagram = send(rt.alloc(), &mut sender, b"hello")?;
+
+    let mut receiver = Receiver::new(Suite::Aes128Gcm, &KEY, IV, &HEADER_KEY)?;
+    let mut space = Space::new();
+    let mut failures = Failures::new();
+    let parts = packet_at(&datagram, 0, CONNECTION_ID.len())?;
+    let number_at = parts.number_at.ok_or("a packet without a number")?;
+    let packet = &mut datagram[..parts.end];
+    let received = receiver.receive(&mut space, &mut failures, packet, number_at)?;
+    let payload = &packet[received.header_len..received.header_len + received.payload_len];
+    same(&rt, payload, b"hello", "the payload");
+    Ok(())
+}
+
+/// The callers of `uses` send a packet and receive it.
+#[test]
+fn callers(rt: HostRuntime) -> Result<(), Fail> {
+    let mut sender = Sender::new(Suite::Aes256Gcm, &[1; 32], IV, &[3; 32], 7)?;
+    let mut incoming = Incoming {
+        receiver: Receiver::new(Suite::Aes256Gcm, &[1; 32], IV, &[3; 32])?,
+        space: Space::new(),
+        failures: Failures::new(),
+    };
+    let mut packet = [7; 40];
+    assert_eq!(rt;
+        quic_connection::send(&mut sender, &mut packet, Some(6))?,
+        7
+    );
+    let mut again = packet;
+    let payload = quic_connection::receive(&mut incoming, &mut packet)?;
+    assert_eq!(rt; payload, 10..24);
+    same(&rt, &packet[10..24], &[7; 14], "the payload");
+    let outcome = quic_connection::receive(&mut incoming, &mut again);
+    assert_eq!(rt; outcome, Err(PacketError::Duplicate));
+    Ok(())
+}

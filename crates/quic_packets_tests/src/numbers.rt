@@ -1,0 +1,56 @@
+//! `quic_packets::numbers`: the examples of RFC 9000 appendices A.2 and A.3, and the ends of lengths and windows.
+
+use quic_packets::numbers::{decode, number_len, truncated};
+
+/// The largest packet number.
+const LAST: u64 = (1 << 62) - 1;
+
+/// A number, the largest that was acknowledged, and the length. The first two rows are those of RFC 9000 appendix A.2.
+const LENGTHS: [(u64, Option<u64>, Option<usize>); 16] = [
+    (0x00ac_5c02, Some(0x00ab_e8b3), Some(2)),
+    (0x00ac_e8fe, Some(0x00ab_e8b3), Some(3)),
+    (0, None, Some(1)),
+    (126, None, Some(1)),
+    (127, None, Some(2)),
+    (127, Some(0), Some(1)),
+    (128, Some(0), Some(2)),
+    (0x7fff, Some(0), Some(2)),
+    (0x8000, Some(0), Some(3)),
+    (0x007f_ffff, Some(0), Some(3)),
+    (0x0080_0000, Some(0), Some(4)),
+    (0x7fff_ffff, Some(0), Some(4)),
+    (0x8000_0000, Some(0), None),
+    (7, Some(7), None),
+    (LAST, Some(LAST - 1), Some(1)),
+    (LAST + 1, Some(LAST), None),
+];
+
+#[test]
+fn lengths(rt: HostRuntime) {
+    for (number, largest_acknowledged, len) in LENGTHS {
+        assert_eq!(rt; number_len(number, largest_acknowledged), len, "{number}");
+    }
+}
+
+// The first is the example of RFC 9000 appendix A.3; then both ends of a window of 1 byte, and of all numbers.
+#[test]
+fn decoded(rt: HostRuntime) {
+    assert_eq!(rt; decode(Some(0xa82f_30ea), 0x9b32, 2), 0xa82f_9b32);
+    assert_eq!(rt; decode(Some(0x01ff), 0x80, 1), 0x0280);
+    assert_eq!(rt; decode(Some(0x01ff), 0x81, 1), 0x0181);
+    assert_eq!(rt; decode(None, 0, 1), 0);
+    assert_eq!(rt; decode(None, 0xff, 1), 0xff);
+    assert_eq!(rt; decode(Some(0), 0x8000_0001, 4), 0x8000_0001);
+    assert_eq!(rt; decode(Some(LAST - 1), 0xff, 1), LAST);
+    assert_eq!(rt; decode(Some(LAST), 0, 1), LAST - 0xff);
+    assert_eq!(rt; decode(Some(LAST), 0xff_ffff, 3), LAST);
+}
+
+#[test]
+fn truncated_numbers(rt: HostRuntime) {
+    let packet = [0x43, 0x12, 0x34, 0x56, 0x78];
+    assert_eq!(rt; truncated(&packet, 1, 1), 0x12);
+    assert_eq!(rt; truncated(&packet, 1, 2), 0x1234);
+    assert_eq!(rt; truncated(&packet, 1, 3), 0x0012_3456);
+    assert_eq!(rt; truncated(&packet, 1, 4), 0x1234_5678);
+}

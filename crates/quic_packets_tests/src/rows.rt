@@ -1,0 +1,111 @@
+//! Packets of QUIC that `tools/quic-packets` prints.
+
+use quic_packets::Suite;
+
+/// The key, of which a suite takes its length.
+pub(crate) const KEY: [u8; 32] = [
+    0, 1, 2, 3, 4, 5, 6, 7, 8, 9, 10, 11, 12, 13, 14, 15, 16, 17, 18, 19, 20, 21, 22, 23, 24, 25,
+    26, 27, 28, 29, 30, 31,
+];
+
+pub(crate) const IV: [u8; 12] = [100, 101, 102, 103, 104, 105, 106, 107, 108, 109, 110, 111];
+
+/// The header protection key, of which a suite takes its length.
+pub(crate) const HEADER_KEY: [u8; 32] = [
+    200, 201, 202, 203, 204, 205, 206, 207, 208, 209, 210, 211, 212, 213, 214, 215, 216, 217, 218,
+    219, 220, 221, 222, 223, 224, 225, 226, 227, 228, 229, 230, 231,
+];
+
+/// A packet before and after its protection, in hex.
+#[derive(Clone, Copy)]
+pub(crate) struct Row {
+    pub(crate) name: &'static str,
+    pub(crate) suite: Suite,
+    /// The length of each key.
+    pub(crate) key_len: usize,
+    /// How many bytes of the header stand before the packet number.
+    pub(crate) number_at: usize,
+    pub(crate) number: u64,
+    /// The largest number that was acknowledged before.
+    pub(crate) acknowledged: Option<u64>,
+    pub(crate) phase: bool,
+    /// The header, unmasked. It ends with the packet number.
+    pub(crate) header: &'static str,
+    pub(crate) payload: &'static str,
+    pub(crate) protected: &'static str,
+}
+
+pub(crate) const ROWS: [Row; 6] = [
+    Row {
+        name: "initial",
+        suite: Suite::Aes128Gcm,
+        key_len: 16,
+        number_at: 18,
+        number: 0,
+        acknowledged: None,
+        phase: false,
+        header: "c000000001088394c8f03e5157080000403900",
+        payload: "000102030405060708090a0b0c0d0e0f101112131415161718191a1b1c1d1e1f2021222324252627",
+        protected: "c400000001088394c8f03e51570800004039c01a634ca6df07befd93375d1b8ac725e320996aec86bccb4dec76ab8ca0efe9ec9add7007af3d01b6c458be6bdd1b1e44c00521c9378d85b2",
+    },
+    Row {
+        name: "handshake",
+        suite: Suite::Aes256Gcm,
+        key_len: 32,
+        number_at: 15,
+        number: 300,
+        acknowledged: None,
+        phase: false,
+        header: "e100000001040a0b0c0d02fefd4033012c",
+        payload: "000102030405060708090a0b0c0d0e0f101112131415161718191a1b1c1d1e1f20",
+        protected: "ec00000001040a0b0c0d02fefd40335a381388c3d1415b71c159e4a87f011abf3b8c8280affc3f59c23ef151e43f7d52a7df9fa8dbb05bfb15ca415a8be30b32d505",
+    },
+    Row {
+        name: "one byte",
+        suite: Suite::Aes128Gcm,
+        key_len: 16,
+        number_at: 9,
+        number: 0x7e,
+        acknowledged: None,
+        phase: false,
+        header: "608394c8f03e5157087e",
+        payload: "000102",
+        protected: "7c8394c8f03e515708be951bd949102890c0b04cc96844df46b1238287",
+    },
+    Row {
+        name: "two bytes",
+        suite: Suite::Aes256Gcm,
+        key_len: 32,
+        number_at: 9,
+        number: 0x00ac_5c02,
+        acknowledged: Some(0x00ab_e8b3),
+        phase: true,
+        header: "658394c8f03e5157085c02",
+        payload: "0001",
+        protected: "7e8394c8f03e5157088b96502a906296a7f5bcf11f4ed88ee589a17abf",
+    },
+    Row {
+        name: "three bytes",
+        suite: Suite::Aes256Gcm,
+        key_len: 32,
+        number_at: 9,
+        number: 0x00ac_e8fe,
+        acknowledged: Some(0x00ab_e8b3),
+        phase: true,
+        header: "668394c8f03e515708ace8fe",
+        payload: "000102030405060708090a0b0c0d0e0f101112131415161718191a1b1c1d1e1f202122232425262728292a2b2c2d2e2f303132333435363738393a3b3c3d3e3f404142434445464748494a4b4c4d4e4f505152535455565758595a5b5c5d5e5f60616263",
+        protected: "758394c8f03e515708e739d5058e075b88986ff722be8bc853b3c1016f9f5463c7732162460d29d9a7c40b7d90c1bb1e8edd9e1f36090d59b4a4f4f93ccfe114dfa13be6f211e979b1b555e29ec33ad87e561bedf40b16a4a59f2e47337cab9bff83a064993e4683ed17dd8d64a3119ca0f1d224dc8838cdbe639d9ecc4a4fed",
+    },
+    Row {
+        name: "four bytes",
+        suite: Suite::Aes128Gcm,
+        key_len: 16,
+        number_at: 9,
+        number: (1 << 62) - 1,
+        acknowledged: Some((1 << 62) - 0x0080_0001),
+        phase: false,
+        header: "638394c8f03e515708ffffffff",
+        payload: "",
+        protected: "6e8394c8f03e515708fd5160a5abb8eba43408356b33959805b710c718",
+    },
+];
