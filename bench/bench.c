@@ -60,6 +60,8 @@ static const row rows[] = {
     {"ChaCha20, 16 KiB", &library, CHACHA, {32}, 16 * KIB, SPEED, 2.0},
     {"a mask by AES-128", &library, MASK, {16}, SAMPLE_LEN, TIME, 0},
     {"a mask by ChaCha20", &library, MASK, {32}, SAMPLE_LEN, TIME, 0},
+    {"sending a QUIC packet, 1350 bytes", &library, SEND, {16, 32}, 1350, SPEED, 0},
+    {"sending and receiving it", &library, SEND_AND_RECEIVE, {16, 32}, 1350, SPEED, 0},
     {"`deerlapse_seal`, 16 bytes", &calls, SEAL_ONCE, {16, 32}, 16, SPEED, 0},
     {"`deerlapse_seal`, 1350 bytes", &calls, SEAL_ONCE, {16, 32}, 1350, SPEED, 0},
     {"`deerlapse_seal`, 16 KiB", &calls, SEAL_ONCE, {16, 32}, 16 * KIB, SPEED, 0},
@@ -82,6 +84,7 @@ typedef struct {
 
 static const peer all_peers[] = {
     {"C", &plain, NULL},
+    {"`LessSafeKey`", &less_safe_key, &library},
 #ifdef WITH_BEARSSL
     {"BearSSL", &bearssl, NULL},
 #endif

@@ -27,6 +27,8 @@ typedef enum {
     AES_KEY,      /* makes an AES key of the buffer */
     GCM_KEY,      /* makes an AES-GCM key of the buffer */
     CLONE,        /* copies an AES-GCM key */
+    SEND,         /* sends the buffer as a QUIC packet with a short header, and then writes zeros over the header */
+    SEND_AND_RECEIVE, /* sends and receives it */
     OPERATIONS
 } operation;
 
@@ -40,6 +42,7 @@ typedef struct {
 
 extern const side library;       /* the loops of crates/aead_bench */
 extern const side before;        /* those of an older crates/aead_bench */
+extern const side less_safe_key; /* those that seal and open the payload of a packet alone */
 extern const side calls;         /* the calls for C of crates/deerlapse */
 extern const side plain;         /* plain C */
 extern const side bearssl;       /* BearSSL as the system has it */

@@ -2,7 +2,7 @@
 #include "bench.h"
 
 loop bench_seal, bench_open, bench_ctr32, bench_encrypt_four, bench_update_block, bench_chacha, bench_mask, bench_aes_key,
-    bench_less_safe_key, bench_clone;
+    bench_less_safe_key, bench_clone, bench_send, bench_send_and_receive, bench_seal_packet, bench_seal_and_open_packet;
 
 const side library = {{
     [SEAL] = bench_seal,
@@ -15,4 +15,11 @@ const side library = {{
     [AES_KEY] = bench_aes_key,
     [GCM_KEY] = bench_less_safe_key,
     [CLONE] = bench_clone,
+    [SEND] = bench_send,
+    [SEND_AND_RECEIVE] = bench_send_and_receive,
+}};
+
+const side less_safe_key = {{
+    [SEND] = bench_seal_packet,
+    [SEND_AND_RECEIVE] = bench_seal_and_open_packet,
 }};
