@@ -1,10 +1,10 @@
 /* Unprotects and opens QUIC packets and reads records, with the bytes of keys, IVs, payloads, contents and their types
- * marked as undefined; so what is made of them is undefined too, as the masked bits of a header. Lengths, offsets and
- * numbers are known. Prints how many packets and records came as far as comparing the tag, and how many of the records
+ * marked as undefined; so what is made of them is undefined too, as the masked bits of a header. Other lengths and
+ * offsets are known. Prints how many packets and records came as far as comparing the tag, and how many of the records
  * were authentic.
  *
- * The length of a packet number is undefined where it is answered, and becomes known before the packet is opened: that
- * call takes the header's length. */
+ * A packet number and its length are undefined where they are returned, and become known before the packet is opened: that
+ * call takes the header's length and the number. */
 #include <stdbool.h>
 #include <stdint.h>
 #include <stdio.h>
@@ -17,7 +17,7 @@ bool watched_seal(const uint8_t *key, size_t key_len, const uint8_t *nonce, cons
 bool watched_protect(bool is_chacha, const uint8_t *key, size_t key_len, uint8_t *packet, size_t len,
                      size_t number_at);
 bool watched_unprotect(bool is_chacha, const uint8_t *key, size_t key_len, uint8_t *packet, size_t len,
-                       size_t number_at, size_t *number_len);
+                       size_t number_at, size_t *number_len, uint64_t *number);
 bool watched_open_packet(const uint8_t *key, size_t key_len, const uint8_t *iv, uint8_t *packet, size_t len,
                          size_t header_len, uint64_t number, size_t *payload_len);
 bool watched_read_record(const uint8_t *key, size_t key_len, const uint8_t *iv, uint8_t *record, size_t len,
@@ -62,6 +62,7 @@ static bool holds(const uint8_t *bytes, uint8_t wanted, size_t len) {
 static void packet(size_t key_len, bool is_chacha, uint8_t form, size_t number_at, size_t number_len, size_t payload) {
     size_t header_len = number_at + number_len, len = header_len + payload + TAG, found, opened = 7;
     size_t header_key_len = is_chacha ? 32 : key_len;
+    uint64_t number;
     uint8_t *key = secret(key_len), *iv = secret(NONCE), *nonce = secret(NONCE), *header_key = secret(header_key_len);
     uint8_t *bytes = secret(len);
     nonce[NONCE - 1] ^= 7;
@@ -70,9 +71,10 @@ static void packet(size_t key_len, bool is_chacha, uint8_t form, size_t number_a
     bytes[header_len - 1] = 7;
     CHECK(watched_seal(key, key_len, nonce, bytes, header_len, bytes + header_len, payload, bytes + len - TAG));
     CHECK(watched_protect(is_chacha, header_key, header_key_len, bytes, len, number_at));
-    CHECK(watched_unprotect(is_chacha, header_key, header_key_len, bytes, len, number_at, &found));
+    CHECK(watched_unprotect(is_chacha, header_key, header_key_len, bytes, len, number_at, &found, &number));
     (void)VALGRIND_MAKE_MEM_DEFINED(&found, sizeof found);
-    CHECK(found == number_len);
+    (void)VALGRIND_MAKE_MEM_DEFINED(&number, sizeof number);
+    CHECK(found == number_len && number == 7);
     bytes[len - 1] ^= 0x10;
     CHECK(!watched_open_packet(key, key_len, iv, bytes, len, number_at + found, 7, &opened));
     CHECK(opened == 7);
