@@ -1,0 +1,194 @@
+//! `SendKey`, `ReceiveKey` and `HeaderKey`: the packets of RFC 9001 appendix A, both ways, and packets under keys of which it has none.
+
+ghost use Rattle.std.specs.Prelude.{◌≡◌, ◌-◌, ◌↔◌, length, take, IsOk, OnOk};
+ghost use Rattle.aead_ciphers.specs.Packet.{PacketFits};
+ghost use Rattle.quic_packets.specs.Header.{HasSample};
+ghost use Rattle.quic_packets.specs.Packet.{CarriesNumber, HasNumber, IsNumber};
+
+use crate::checks::same;
+use aead_ciphers::aead::{AES_128_GCM, AES_256_GCM, quic};
+use aead_vectors::rfc_9001::{A_2_PACKET, A_3_PACKET, A_5_KEY, A_5_PROTECTED, A_5_SEALED, Packet};
+use quic_packets::{HeaderKey, PacketError, ReceiveKey, SendKey, laws};
+use std::alloc::{AllocError, Global};
+use std::ops::Range;
+use std::process::Abort;
+use std::test::Fail;
+
+/// The header and the payload.
+fn plain(alloc: Global, row: &Packet) -> Result<Vec<u8>, AllocError> {
+    let mut packet = Vec::from_slice(alloc, row.header)?;
+    packet.extend_from_slice(row.frames)?;
+    for _ in row.frames.len()..row.payload_len {
+        packet.push(0)?;
+    }
+    Ok(packet)
+}
+
+/// Sealing and protecting the header give the packet.
+fn sends(rt: &impl Abort, alloc: Global, row: &Packet) -> Result<(), Fail> {
+    let mut key = SendKey::new(&AES_128_GCM, row.key, row.iv, row.number)?;
+    let mut packet = plain(alloc, row)?;
+    packet.extend_from_slice(&[0; 16])?;
+    let number = key.seal(&mut packet, row.number_at..row.header.len())?;
+    assert_eq!(rt; number, row.number);
+    HeaderKey::new(&quic::AES_128, row.header_key)?.protect(&mut packet, row.number_at)?;
+    same(rt, &packet, row.protected, row.name);
+    Ok(())
+}
+
+/// Unprotecting the header and opening give header and payload back.
+fn receives(rt: &impl Abort, alloc: Global, row: &Packet) -> Result<(), Fail> {
+    let mut packet = Vec::from_slice(alloc, row.protected)?;
+    let number_len = HeaderKey::new(&quic::AES_128, row.header_key)?.unprotect(
+        &mut packet,
+        row.number_at,
+    )?;
+    assert_eq!(rt;
+        row.number_at.checked_add(number_len),
+        Some(row.header.len())
+    );
+    let key = ReceiveKey::new(&AES_128_GCM, row.key, row.iv)?;
+    let payload_len = key.open(&mut packet, row.header.len(), row.number)?;
+    assert_eq!(rt; payload_len, row.payload_len);
+    let plain = plain(alloc, row)?;
+    assert!(rt; packet.starts_with(&plain), "{}", row.name);
+    Ok(())
+}
+
+#[test]
+fn packets(rt: HostRuntime) -> Result<(), Fail> {
+    for row in [A_2_PACKET, A_3_PACKET] {
+        sends(&rt, rt.alloc(), &row)?;
+        receives(&rt, rt.alloc(), &row)?;
+    }
+    Ok(())
+}
+
+/// Seals and protects a packet, and then unprotects and opens it: header and payload come back. Refused where sealing is.
+fn there_and_back(
+    sender: &mut SendKey,
+    receiver: &ReceiveKey,
+    header_key: &HeaderKey,
+    packet: &mut [u8],
+    number: Range<usize>,
+) -> Result<usize, PacketError>
+    requires key { receiver.now.bytes ≡ sender.old.bytes }
+    requires iv { receiver.now.iv ≡ sender.old.iv }
+    ensures accepted { IsOk result ↔ (PacketFits number.end (length packet.old)
+        × HasNumber number.start number.end packet.old × HasSample number.start (length packet.old)
+        × IsNumber sender.old.next
+        × CarriesNumber sender.old.next number.start number.end packet.old) }
+    ensures comes_back { OnOk result (take (length packet.old - 16) packet.new
+        ≡ take (length packet.old - 16) packet.old) }
+{
+    let number_at = number.start;
+    laws::packet_comes_back(sender, receiver, header_key, packet, number_at, number.end);
+    let number = sender.seal(packet, number)?;
+    header_key.protect(packet, number_at)?;
+    let number_len = header_key.unprotect(packet, number_at)?;
+    receiver.open(packet, number_at + number_len, number)
+}
+
+/// A packet with this first byte and a header of this length goes there and back, under AES-256-GCM.
+fn comes_back(rt: &impl Abort, first: u8, header_len: usize) -> Result<(), Fail> {
+    let mut sender = SendKey::new(&AES_256_GCM, &[1; 32], [2; 12], 0x0707_0707)?;
+    let receiver = ReceiveKey::new(&AES_256_GCM, &[1; 32], [2; 12])?;
+    let header_key = HeaderKey::new(&quic::AES_256, &[3; 32])?;
+    let mut packet = [7; 40];
+    packet[0] = first;
+    let payload_len = there_and_back(
+        &mut sender,
+        &receiver,
+        &header_key,
+        &mut packet,
+        9..header_len,
+    )?;
+    assert_eq!(rt; payload_len.checked_add(header_len), Some(24));
+    assert_eq!(rt; packet[0], first);
+    same(rt, &packet[1..24], &[7; 23], "came back");
+    Ok(())
+}
+
+// Packet numbers of each length, under keys of which RFC 9001 has no packet.
+#[test]
+fn each_number_length(rt: HostRuntime) -> Result<(), Fail> {
+    for (first, header_len) in [(0x40, 10), (0x41, 11), (0x42, 12), (0x43, 13)] {
+        comes_back(&rt, first, header_len)?;
+    }
+    Ok(())
+}
+
+// The packet is as short as a sample allows.
+#[test]
+fn chacha20_header(rt: HostRuntime) -> Result<(), Fail> {
+    let key = HeaderKey::new(&quic::CHACHA20, &A_5_KEY)?;
+    let mut packet = A_5_SEALED;
+    key.protect(&mut packet, 1)?;
+    same(&rt, &packet, &A_5_PROTECTED, "protected");
+    assert_eq!(rt; key.unprotect(&mut packet, 1)?, 3);
+    same(&rt, &packet, &A_5_SEALED, "unprotected");
+    Ok(())
+}
+
+// A packet without a sample spends no number, and numbers are skipped forward only.
+#[test]
+fn skips(rt: HostRuntime) -> Result<(), Fail> {
+    let mut key = SendKey::new(&AES_128_GCM, &[1; 16], [2; 12], 5)?;
+    let mut short = [7; 20];
+    short[0] = 0x40;
+    short[1] = 5;
+    assert_eq!(rt; key.seal(&mut short, 1..2), Err(PacketError::NoSample));
+    assert_eq!(rt; key.next_number(), 5);
+    assert_eq!(rt; key.skip_to(4), Err(PacketError::NumberUsed));
+    key.skip_to(5)?;
+    key.skip_to(7)?;
+    let mut packet = [7; 21];
+    packet[0] = 0x40;
+    assert_eq!(rt; key.seal(&mut packet, 1..2)?, 7);
+    assert_eq!(rt; key.skip_to((1 << 62) + 1), Err(PacketError::NumbersEnded));
+    key.skip_to(1 << 62)?;
+    assert_eq!(rt; key.seal(&mut packet, 1..2), Err(PacketError::NumbersEnded));
+    Ok(())
+}
+
+/// The keys of a receiver.
+#[derive(Drop)]
+struct Receiver {
+    header: HeaderKey,
+    payload: ReceiveKey,
+}
+
+/// The packet with one bit flipped is refused, and left as it came.
+fn refuses_flipped(
+    rt: &impl Abort,
+    alloc: Global,
+    keys: &Receiver,
+    row: &Packet,
+    bit: usize,
+) -> Result<(), Fail> {
+    let mut packet = Vec::from_slice(alloc, row.protected)?;
+    assert!(rt; bit / 8 < packet.len());
+    packet[bit / 8] ^= 1 << (bit % 8);
+    let number_len = keys.header.unprotect(&mut packet, row.number_at)?;
+    assert!(rt; row.number_at < 1000);
+    let came = packet.clone()?;
+    let opened = keys
+        .payload
+        .open(&mut packet, row.number_at + number_len, row.number);
+    assert_eq!(rt; opened, Err(PacketError::Refused), "bit {bit}");
+    same(rt, &packet, &came, "refused");
+    Ok(())
+}
+
+#[test]
+fn each_bit_flipped(rt: HostRuntime) -> Result<(), Fail> {
+    let row = A_3_PACKET;
+    let keys = Receiver {
+        header: HeaderKey::new(&quic::AES_128, row.header_key)?,
+        payload: ReceiveKey::new(&AES_128_GCM, row.key, row.iv)?,
+    };
+    for bit in 0..1080 {
+        refuses_flipped(&rt, rt.alloc(), &keys, &row, bit)?;
+    }
+    Ok(())
+}
