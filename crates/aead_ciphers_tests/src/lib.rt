@@ -45,8 +45,6 @@ mod packets;
 #[cfg(test)]
 mod quic;
 #[cfg(test)]
-mod record_layer;
-#[cfg(test)]
 mod reference;
 #[cfg(test)]
 mod refusals;

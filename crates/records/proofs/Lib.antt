@@ -1,4 +1,5 @@
 mod InnerLemmas
+mod ReaderLemmas
 mod RecordLemmas
 pub mod RunLemmas
 mod WriteLemmas

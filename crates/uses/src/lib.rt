@@ -5,4 +5,5 @@ pub mod connection;
 pub mod messages;
 pub mod one_message;
 pub mod one_nonce;
+pub mod record_stream;
 pub mod streams;
