@@ -1,5 +1,5 @@
 -- Records and their headers. A record that stands in a buffer, and its inner plaintext, which stands before it.
-use Rattle.std.proofs.Common.{◌≡◌, ◌≢◌, ℕ, ◌+◌, ◌-◌, ◌<◌, List, ◌++◌, length, get_or, take, drop, replicate, refl, sym, ap, ap₂, ◌∙◌, rules, arith, drop_at, get_or-drop, get_or-take, length-append, length-drop, take-append-drop, take_at, Err, Bool, ◌≤◌, true, false, append_assoc, drop-drop, length-take-le, take-take, Ok}
+use Rattle.std.proofs.Common.{◌≡◌, ◌≢◌, ℕ, ◌+◌, ◌-◌, ◌^◌, ◌<◌, List, ◌++◌, length, get_or, take, drop, replicate, refl, sym, ap, ap₂, ◌∙◌, rules, arith, drop_at, get_or-drop, get_or-take, length-append, length-drop, take-append-drop, take_at, Err, Bool, ◌≤◌, true, false, append_assoc, drop-drop, length-take-le, take-take, Ok}
 use Rattle.std.proofs.lemmas
 use lemmas.List.{append_cancel_left, get_or_past, drop-append-le}
 use lemmas.Nat.{be_bytes_2}
@@ -163,7 +163,7 @@ module _ (key : KeyState) (number : ℕ) (bytes : List ℕ) (at : ℕ) (old new 
 -- ---- a record in a buffer
 
 module _ (old : List ℕ) (filled at end : ℕ) (order : (filled ≤ at + 5) × (at ≤ end) × (end ≤ length old)) (key : KeyState) (number : ℕ)
-    (w : IsWhole key.size_limit (take (end - at) (drop at old))) where
+    (small : key.size_limit ≤ 2 ^ 14 + 1) (w : IsWhole key.size_limit (take (end - at) (drop at old))) where
   -- the record
   abbrev record_bytes : List ℕ
   record_bytes = take (end - at) (drop at old)
@@ -216,15 +216,15 @@ module _ (old : List ℕ) (filled at end : ℕ) (order : (filled ≤ at + 5) × 
 
   -- a false tag
   pub false_tag : (new : List ℕ) → OpensRecord false new → (message : List ℕ) → ¬ Seals key number record_bytes message
-  false_tag new o message s =
-      let right = sealed_parts key.bytes record_nonce (take 5 record_bytes) text tag message
+  false_tag new o m s =
+      let right = sealed_parts key.bytes record_nonce (take 5 record_bytes) text tag m
       (length-drop _ part ∙ omega (arith, length-part, room))
       (append_cancel_left (take 5 record_bytes) _ _ (sym parts ∙ s)) in
       let head = length-take-le 5 record_bytes (omega (arith, length-bytes, room)) in
       let wrong : false ≡ true =
       o.accepted.1 (
         omega (arith, length-part, room),
-        record { aad = omega arith; message = omega (arith, length-text, length-bytes, w.longest) },
+        record { aad = omega arith; message = omega (arith, length-text, length-bytes, w.longest, small) },
         right.1,
       ) in
       cc

@@ -32,20 +32,20 @@ pub(crate) fn inner_len(
 }
 
 /// Writes a header, the type and the padding around a content where it stands. The last 16 bytes are room for the tag.
-pub(crate) fn frame(record: &mut [u8], content_type: ContentType, content_len: usize)
-    requires room { content_len + 22 ≤ length record.old }
-    requires fits { length record.old ≤ 2 ^ 15 }
-    ensures header { take HEADER_LEN record.new ≡ header (length record.old - HEADER_LEN) }
-    ensures message { packet_message HEADER_LEN record.new
-        ≡ plaintext (take content_len (drop HEADER_LEN record.old)) (type_code content_type)
-        (length record.old - 22 - content_len) }
+pub(crate) fn frame(bytes: &mut [u8], content_type: ContentType, content_len: usize)
+    requires room { content_len + 22 ≤ length bytes.old }
+    requires fits { length bytes.old ≤ 2 ^ 15 }
+    ensures header { take HEADER_LEN bytes.new ≡ header (length bytes.old - HEADER_LEN) }
+    ensures message { packet_message HEADER_LEN bytes.new
+        ≡ plaintext (take content_len (drop HEADER_LEN bytes.old)) (type_code content_type)
+        (length bytes.old - 22 - content_len) }
 {
     let content_end = HEADER_LEN + content_len;
-    let tag_at = record.len() - TAG_LEN;
-    let header = header_of(record.len() - HEADER_LEN);
-    record[..HEADER_LEN].copy_from_slice(&header);
-    record[content_end] = content_type.code();
-    record[content_end + 1..tag_at].fill(0);
+    let tag_at = bytes.len() - TAG_LEN;
+    let header = header_of(bytes.len() - HEADER_LEN);
+    bytes[..HEADER_LEN].copy_from_slice(&header);
+    bytes[content_end] = content_type.code();
+    bytes[content_end + 1..tag_at].fill(0);
 }
 
 /// The type and the length of the content of an inner plaintext.

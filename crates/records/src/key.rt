@@ -3,7 +3,7 @@
 ghost use Rattle.std.specs.Prelude.{◌≡◌, ◌+◌, ◌-◌, ◌^◌, ◌≤◌, ◌↔◌, ◌++◌, length, drop, take, slice_range, IsOk, IfOk, IsOkUnless, IfErr, OnOk, OnErr};
 ghost use Rattle.aead_ciphers.specs.Algorithm.{key_len};
 ghost use Rattle.records.specs.Keys.{rekeyed};
-ghost use Rattle.records.specs.Record.{record_at, IsAllowed};
+ghost use Rattle.records.specs.Record.{record_at, Carries, Inner, IsAllowed};
 ghost use Rattle.records.specs.Refusals.{RefusesContent, RefusesToSeal};
 ghost use Rattle.records.specs.Steps.{content_at, LeavesInner, LeavesRefused, Opens, OpensMessage, RefusesMessage};
 
@@ -98,33 +98,33 @@ impl RecordKey {
 
     /// Seals the record of a number in place, and returns its length, `content_len` + `padding` + 22.
     ///
-    /// The content is the `content_len` bytes of `record` from byte 5 on. The header is written before it, and its type,
+    /// The content is the `content_len` bytes of `bytes` from byte 5 on. The header is written before it, and its type,
     /// `padding` zeros and the tag after it; the bytes after those stay. A number may be used once.
     pub fn seal_at(
         &self,
         number: u64,
         content_type: ContentType,
-        record: &mut [u8],
+        bytes: &mut [u8],
         content_len: usize,
         padding: usize,
     ) -> Result<usize, RecordError>
         ensures accepted { IsOk result ↔ (IsAllowed self.now.size_limit content_type content_len padding
-            × (content_len + padding + 22 ≤ length record.old)) }
+            × (content_len + padding + 22 ≤ length bytes.old)) }
         ensures refused { IfErr result
-            (RefusesToSeal self.now.size_limit content_type content_len padding (length record.old)) }
+            (RefusesToSeal self.now.size_limit content_type content_len padding (length bytes.old)) }
         ensures len { IfOk result (λ n. n ≡ content_len + padding + 22) }
-        ensures sealed { OnOk result (record.new ≡ record_at self.now number (record {
+        ensures sealed { OnOk result (bytes.new ≡ record_at self.now number (record {
           content_type = content_type;
-          content = slice_range record.old HEADER_LEN (HEADER_LEN + content_len);
+          content = slice_range bytes.old HEADER_LEN (HEADER_LEN + content_len);
           padding = padding;
-        }) ++ drop (content_len + padding + 22) record.old) }
-        ensures kept { OnErr result (record.new ≡ record.old) }
+        }) ++ drop (content_len + padding + 22) bytes.old) }
+        ensures kept { OnErr result (bytes.new ≡ bytes.old) }
     {
         let len = HEADER_LEN + self.inner_len(content_type, content_len, padding)? + TAG_LEN;
-        if record.len() < len {
+        if bytes.len() < len {
             return Err(RecordError::NoRoom);
         }
-        self.seal_whole(number, content_type, &mut record[..len], content_len);
+        self.seal_whole(number, content_type, &mut bytes[..len], content_len);
         Ok(len)
     }
 
@@ -148,42 +148,42 @@ impl RecordKey {
         &self,
         number: u64,
         content_type: ContentType,
-        record: &mut [u8],
+        bytes: &mut [u8],
         content_len: usize,
     )
-        requires room { content_len + 22 ≤ length record.old }
-        requires fits { length record.old ≤ 2 ^ 15 }
-        ensures { record.new ≡ record_at self.now number (record {
+        requires room { content_len + 22 ≤ length bytes.old }
+        requires fits { length bytes.old ≤ 2 ^ 15 }
+        ensures { bytes.new ≡ record_at self.now number (record {
           content_type = content_type;
-          content = take content_len (drop HEADER_LEN record.old);
-          padding = length record.old - 22 - content_len;
+          content = take content_len (drop HEADER_LEN bytes.old);
+          padding = length bytes.old - 22 - content_len;
         }) }
     {
-        frame(record, content_type, content_len);
+        frame(bytes, content_type, content_len);
         let nonce = nonce_of(&self.iv, number);
-        let Ok(()) = self.key.seal_packet_in_place(nonce, record, HEADER_LEN) else {
+        let Ok(()) = self.key.seal_packet_in_place(nonce, bytes, HEADER_LEN) else {
             unreachable!();
         };
     }
 
-    /// Opens the record of a number, which is the whole of `record`, in place, and returns the type and the length of its
-    /// content: the content then is `record[5..5 + length]`.
+    /// Opens the record of a number, which is the whole of `bytes`, in place, and returns the type and the length of its
+    /// content: the content then is `bytes[5..5 + length]`.
     ///
     /// Header and tag stay. A refusal changes no byte, unless the record is authentic: after `NoContentType`,
     /// `UnexpectedType` and `EmptyContent` its inner plaintext stands from byte 5 on.
     pub fn open_at(
         &self,
         number: u64,
-        record: &mut [u8],
+        bytes: &mut [u8],
     ) -> Result<(ContentType, usize), RecordError>
-        ensures opens { Opens self.now number record.old (content_at HEADER_LEN record.new result) }
-        ensures within { IfOk result (λ read. read.1 + 22 ≤ length record.old) }
-        ensures put { IfOk result (LeavesInner HEADER_LEN record.old record.new) }
+        ensures opens { Opens self.now number bytes.old (content_at HEADER_LEN bytes.new result) }
+        ensures within { IfOk result (λ read. read.1 + 22 ≤ length bytes.old) }
+        ensures put { IfOk result (LeavesInner HEADER_LEN bytes.old bytes.new) }
         ensures kept { IfErr result
-            (LeavesRefused self.now number record.old HEADER_LEN record.old record.new) }
+            (LeavesRefused self.now number bytes.old HEADER_LEN bytes.old bytes.new) }
     {
-        let end = record.len();
-        self.open_to(number, record, HEADER_LEN, 0, end)
+        let end = bytes.len();
+        self.open_to(number, bytes, HEADER_LEN, 0, end)
     }
 
     /// Opens the record that is `bytes[at..end]` into the bytes from `filled` on.
@@ -224,6 +224,8 @@ impl RecordKey {
             (OpensMessage self.now number (slice_range bytes.old at end) filled bytes.old bytes.new) }
         ensures within { IfOk result (λ n. filled + n + 16 ≤ end) }
         ensures refused { IfErr result (RefusesMessage self.now number (slice_range bytes.old at end)) }
+        ensures none { OnErr result ((inner : Inner)
+            → ¬ Carries self.now number (slice_range bytes.old at end) inner) }
         ensures kept { OnErr result (bytes.new ≡ bytes.old) }
     {
         let header = header_in(self.size_limit, &bytes[at..end])?;

@@ -123,24 +123,24 @@ impl Writer {
     pub fn seal(
         &mut self,
         content_type: ContentType,
-        record: &mut [u8],
+        bytes: &mut [u8],
         content_len: usize,
         padding: usize,
     ) -> Result<usize, RecordError>
         ensures accepted { IsOk result ↔ ((self.old.number < self.old.limit)
             × IsAllowed self.old.key.size_limit content_type content_len padding
-            × (content_len + padding + 22 ≤ length record.old)) }
+            × (content_len + padding + 22 ≤ length bytes.old)) }
         ensures ended { self.old.limit ≤ self.old.number → IsErrOf result RecordError.SequenceEnded }
         ensures refused { self.old.number < self.old.limit → IfErr result
-            (RefusesToSeal self.old.key.size_limit content_type content_len padding (length record.old)) }
+            (RefusesToSeal self.old.key.size_limit content_type content_len padding (length bytes.old)) }
         ensures len { IfOk result (λ n. n ≡ content_len + padding + 22) }
-        ensures sealed { OnOk result (record.new ≡ record_at self.old.key self.old.number (record {
+        ensures sealed { OnOk result (bytes.new ≡ record_at self.old.key self.old.number (record {
           content_type = content_type;
-          content = slice_range record.old HEADER_LEN (HEADER_LEN + content_len);
+          content = slice_range bytes.old HEADER_LEN (HEADER_LEN + content_len);
           padding = padding;
-        }) ++ drop (content_len + padding + 22) record.old) }
+        }) ++ drop (content_len + padding + 22) bytes.old) }
         ensures counted { OnOk result (self.new ≡ record self.old { number = self.old.number + 1 }) }
-        ensures kept { OnErr result (record.new ≡ record.old) }
+        ensures kept { OnErr result (bytes.new ≡ bytes.old) }
         ensures stands { OnErr result (self.new ≡ self.old) }
     {
         if self.number >= self.limit {
@@ -148,7 +148,7 @@ impl Writer {
         }
         let len = self
             .key
-            .seal_at(self.number, content_type, record, content_len, padding)?;
+            .seal_at(self.number, content_type, bytes, content_len, padding)?;
         self.number += 1;
         Ok(len)
     }

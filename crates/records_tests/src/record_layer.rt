@@ -375,6 +375,19 @@ fn a_key_of_another_length(rt: HostRuntime) {
     assert!(rt; Reader::new(&AES_128_GCM, &KEY, IV).err() == Some(RecordError::KeyLength));
 }
 
+/// A record that is made around its content, in a slice.
+#[test]
+fn sealed_in_place(rt: HostRuntime) -> Result<(), Fail> {
+    let mut writer = Writer::new(&AES_128_GCM, &KEY[..16], IV)?;
+    let mut record = [0; 27];
+    record[5..10].copy_from_slice(b"hello");
+    assert!(rt; writer.seal(Handshake, &mut record, 5, 1) == Err(RecordError::NoRoom));
+    assert!(rt; writer.seal(Handshake, &mut record, 5, 0) == Ok(27));
+    assert_eq!(rt; record, <[u8; 27]>::from_hex(OF_AES_128[0].record)?);
+    assert_eq!(rt; writer.number(), 1);
+    Ok(())
+}
+
 /// The record that `tools/read-records make` printed for number 2^64 - 1, both ways, with bytes after it, and a reader that
 /// starts two records later than the first.
 #[test]

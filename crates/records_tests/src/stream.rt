@@ -63,8 +63,9 @@ fn two_epochs(alloc: Global) -> Result<Vec<u8>, Fail> {
 fn two_epochs_in_one_buffer(rt: HostRuntime) -> Result<(), Fail> {
     let mut reader = Reader::new(&AES_128_GCM, &[1; 16], IV)?;
     let mut bytes = two_epochs(rt.alloc())?;
-    let received = receive(&mut reader, bytes.as_mut_slice(), &[2; 16], NEXT_IV)?;
-    assert_eq!(rt; received, (8, bytes.len() - 4));
+    let (filled, taken) = receive(&mut reader, bytes.as_mut_slice(), &[2; 16], NEXT_IV)?;
+    assert_eq!(rt; filled, 8);
+    assert_eq!(rt; Some(taken), bytes.len().checked_sub(4));
     assert_eq!(rt; bytes.get(..8), Some(b"together".as_slice()));
     assert_eq!(rt; reader.number(), 1);
     Ok(())
@@ -78,9 +79,9 @@ fn sends_and_receives(rt: HostRuntime) -> Result<(), Fail> {
     let mut bytes = Vec::from_slice(rt.alloc(), &[20, 3, 3, 0, 1, 1])?;
     record_stream::send(&mut writer, b"hello", &mut bytes)?;
     assert!(rt; record_stream::receive(&mut reader, bytes.as_mut_slice()) == Ok((6, None)));
-    let rest = &mut bytes.as_mut_slice()[6..];
-    let received = record_stream::receive(&mut reader, rest);
+    let mut rest = bytes.get(6..).unwrap_or(&[]).to_vec(rt.alloc())?;
+    let received = record_stream::receive(&mut reader, rest.as_mut_slice());
     assert!(rt; received == Ok((27, Some((ContentType::ApplicationData, 5)))));
-    assert_eq!(rt; &rest[..5], b"hello".as_slice());
+    assert_eq!(rt; rest.get(..5), Some(b"hello".as_slice()));
     Ok(())
 }
