@@ -1,5 +1,4 @@
 mod InnerLemmas
-mod ReaderLemmas
 mod RecordLemmas
 pub mod RunLemmas
 mod WriteLemmas

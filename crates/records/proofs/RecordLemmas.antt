@@ -106,59 +106,15 @@ module _ (key : KeyState) (number : ℕ) (bytes : List ℕ) (at : ℕ) (old new 
   abbrev message : List ℕ
   message = take n (drop at new)
 
-  -- what leaves the message
-  leaves : (error : RecordError) → RefusesInner message error → LeavesRefused key number bytes at old new error
-  leaves NoContentType r = (message, m.sealed, m.left)
-  leaves UnexpectedType r = (message, m.sealed, m.left)
-  leaves EmptyContent r = (message, m.sealed, m.left)
-  leaves error r = absurd r
-
-  pub refused_opens : (error : RecordError) → RefusesInner message error
-      → Opens key number bytes (Err error) × LeavesRefused key number bytes at old new error
-  refused_opens error r = (
-    record {
-      accepted = λ inner c.
-          absurd (allowed_not_refused key.size_limit inner error c.allowed
-              (rw (same_message key number bytes _ _ m.sealed (carried_seals key number bytes inner c)) at r));
-      content = tt;
-      refused = opened_refuses key number bytes error (m.whole, message, m.sealed, r);
-    },
-    leaves error r,
-  )
-
-  length-message : length message ≡ n
-  length-message = omega (arith, ap length m.sealed, length-append (take 5 bytes) (gcm_sealed (aes key.bytes) (nonce key number bytes) (take 5 bytes) message),
-      length-aes_sealed key.bytes (nonce key number bytes) (take 5 bytes) message, length-take-le 5 bytes (omega (arith, m.whole.shortest)), m.len)
-
-  -- a content was found in the message
-  pub found_opens : (content_type : ContentType) (len : ℕ) → len < length message → (len ≡ 0 → content_type ≡ ApplicationData)
-      → (padding : ℕ) → message ≡ inner_plaintext (record { content_type = content_type; content = take len message; padding = padding })
-      → Opens key number bytes (Ok (content_type, take len (drop at new))) × LeavesInner at old new (content_type, len)
-  found_opens content_type len short nonempty padding is =
-      let same : take len message ≡ take len (drop at new) = take-take len n (drop at new) (omega (arith, length-message)) in
-      let content : List ℕ = take len (drop at new) in
-      let inner : Inner = record { content_type = content_type; content = content; padding = padding } in
-      let e : message ≡ inner_plaintext inner = rw same at is in
-      let size : length content ≡ len = ap length (sym same) ∙ length-take-le len message (omega (arith, short)) in
-      let whole_size : length (inner_plaintext inner) ≡ length content + 1 + padding = length-plaintext content (type_code content_type) padding in
-      let total : length (inner_plaintext inner) ≡ n = ap length (sym e) ∙ length-message in
-      let head : length bytes - 5 ≡ length (inner_plaintext inner) + 16 = omega (arith, total, m.len) in (
-        record {
-          accepted = λ other c. refl;
-          content = (
-            padding,
-            record {
-              allowed = record {
-                nonempty = λ z. nonempty (sym size ∙ z);
-                fits = omega (arith, total, whole_size, m.len, m.whole.longest);
-              };
-              made = rw (m.whole.start ∙ ap header head) at (rw e at m.sealed);
-            },
-          );
-          refused = tt;
-        },
-        (padding, m.left ∙ ap (overwritten old at) e),
-      )
+  -- what it carries is refused
+  pub refused_opens : (error : RecordError) → RefusesInner message error → Opens key number bytes (Err error)
+  refused_opens error r = record {
+    accepted = λ inner c.
+        absurd (allowed_not_refused key.size_limit inner error c.allowed
+        (rw (same_message key number bytes _ _ m.sealed (carried_seals key number bytes inner c)) at r));
+    content = tt;
+    refused = opened_refuses key number bytes error (m.whole, message, m.sealed, r);
+  }
 
 -- ---- a record in a buffer
 

@@ -22,10 +22,7 @@ pub(crate) fn header_of(len: usize) -> [u8; HEADER_LEN]
 }
 
 /// The length of the protected record that begins with this header, the header included.
-pub(crate) fn record_len(
-    size_limit: usize,
-    header: &[u8; HEADER_LEN],
-) -> Result<usize, RecordError>
+pub(crate) fn record_len(size_limit: usize, header: &[u8; HEADER_LEN]) -> Result<usize, RecordError>
     requires { size_limit ≤ 2 ^ 14 + 1 }
     ensures accepted { IsOk result ↔ IsHeader size_limit header.now }
     ensures len { IfOk result (λ n. n ≡ HEADER_LEN + body_len header.now) }
@@ -49,10 +46,7 @@ pub(crate) fn record_len(
 }
 
 /// The header of these bytes, where they are one whole record.
-pub(crate) fn header_in(
-    size_limit: usize,
-    bytes: &[u8],
-) -> Result<[u8; HEADER_LEN], RecordError>
+pub(crate) fn header_in(size_limit: usize, bytes: &[u8]) -> Result<[u8; HEADER_LEN], RecordError>
     requires { size_limit ≤ 2 ^ 14 + 1 }
     ensures accepted { IsOk result ↔ IsWhole size_limit bytes.now }
     ensures header { IfOk result (λ header. header ≡ take HEADER_LEN bytes.now) }

@@ -83,9 +83,5 @@ fn last_nonzero(inner: &[u8]) -> Option<(u8, usize)>
         len += usize::from(*byte != 0) * (i - len);
     }
     let code = *inner.get(len)?;
-    if code == 0 {
-        None
-    } else {
-        Some((code, len))
-    }
+    if code == 0 { None } else { Some((code, len)) }
 }

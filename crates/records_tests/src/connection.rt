@@ -38,7 +38,11 @@ fn bytes_of(alloc: Global, lines: &[&str]) -> Result<Vec<u8>, Fail> {
 }
 
 fn algorithm_of(key: &[u8]) -> &'static Algorithm {
-    if key.len() == 32 { &AES_256_GCM } else { &AES_128_GCM }
+    if key.len() == 32 {
+        &AES_256_GCM
+    } else {
+        &AES_128_GCM
+    }
 }
 
 /// Where the next protected record of a stream begins, and how many bytes it takes. What stands before it in plaintext, a

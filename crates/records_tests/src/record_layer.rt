@@ -132,7 +132,10 @@ fn gathered_in_one_buffer(rt: HostRuntime) -> Result<(), Fail> {
     for (filled, at, end) in [(0, 0, 24), (2, 24, 54), (5, 54, 80)] {
         assert!(rt; filled <= at && at <= end && end <= bytes.len());
         let (content_type, len) = reader.gather(bytes.as_mut_slice(), filled, at, end)?;
-        assert_eq!(rt; (content_type, len), (ApplicationData, if at == 0 { 2 } else { 3 }));
+        assert_eq!(rt;
+            (content_type, len),
+            (ApplicationData, if at == 0 { 2 } else { 3 })
+        );
     }
     assert_eq!(rt; bytes.get(..8), Some(b"together".as_slice()));
     assert_eq!(rt; bytes.get(80..), Some(b"later".as_slice()));
@@ -213,7 +216,11 @@ const REFUSED: [(&str, RecordError); 11] = [
 fn no_record(rt: HostRuntime) -> Result<(), Fail> {
     for (text, expected) in REFUSED {
         let mut bytes = hex::decode(rt.alloc(), text)?;
-        assert_eq!(rt; refusal(&rt, rt.alloc(), bytes.as_mut_slice())?, expected, "{text}");
+        assert_eq!(rt;
+            refusal(&rt, rt.alloc(), bytes.as_mut_slice())?,
+            expected,
+            "{text}"
+        );
     }
     Ok(())
 }
@@ -254,7 +261,10 @@ fn authentic_and_refused(rt: HostRuntime) -> Result<(), Fail> {
         let mut reader = Reader::new(&AES_128_GCM, &KEY[..16], IV)?;
         let record = hex::decode(rt.alloc(), text)?;
         let mut bytes = hex::decode(rt.alloc(), text)?;
-        assert!(rt; reader.read(bytes.as_mut_slice()).err() == Some(expected), "{text}");
+        assert!(rt;
+            reader.read(bytes.as_mut_slice()).err() == Some(expected),
+            "{text}"
+        );
         assert_eq!(rt; bytes.get(..inner.len()), Some(inner));
         assert_eq!(rt; bytes.get(inner.len()..), record.get(inner.len()..));
         assert!(rt; reader.is_closed());
@@ -264,8 +274,18 @@ fn authentic_and_refused(rt: HostRuntime) -> Result<(), Fail> {
 
 /// Content types, lengths of contents and of paddings that no record has, and why.
 const UNWRITTEN: [(ContentType, usize, usize, RecordError); 5] = [
-    (ApplicationData, MAX_CONTENT_LEN + 1, 0, RecordError::ContentTooLong),
-    (ApplicationData, MAX_CONTENT_LEN, 1, RecordError::ContentTooLong),
+    (
+        ApplicationData,
+        MAX_CONTENT_LEN + 1,
+        0,
+        RecordError::ContentTooLong,
+    ),
+    (
+        ApplicationData,
+        MAX_CONTENT_LEN,
+        1,
+        RecordError::ContentTooLong,
+    ),
     (ApplicationData, 0, usize::MAX, RecordError::ContentTooLong),
     (Alert, 0, 0, RecordError::EmptyContent),
     (Handshake, 0, 3, RecordError::EmptyContent),
@@ -333,7 +353,10 @@ fn size_limits(rt: HostRuntime) -> Result<(), Fail> {
     for (size_limit, is_allowed) in [(63, false), (64, true), (16385, true), (16386, false)] {
         let before = key.size_limit();
         assert_eq!(rt; key.set_size_limit(size_limit).is_ok(), is_allowed);
-        assert_eq!(rt; key.size_limit(), if is_allowed { size_limit } else { before });
+        assert_eq!(rt;
+            key.size_limit(),
+            if is_allowed { size_limit } else { before }
+        );
     }
     Ok(())
 }
@@ -364,7 +387,10 @@ fn the_end_of_the_sequence(rt: HostRuntime) -> Result<(), Fail> {
 fn limits_where_none_is_set(rt: HostRuntime) -> Result<(), Fail> {
     let writer = Writer::new(&AES_128_GCM, &KEY[..16], IV)?;
     let reader = Reader::new(&AES_128_GCM, &KEY[..16], IV)?;
-    assert_eq!(rt; (writer.remaining(), reader.remaining()), (1 << 24, 1 << 24));
+    assert_eq!(rt;
+        (writer.remaining(), reader.remaining()),
+        (1 << 24, 1 << 24)
+    );
     assert_eq!(rt; (writer.size_limit(), reader.size_limit()), (16385, 16385));
     Ok(())
 }
@@ -396,8 +422,13 @@ fn by_number(rt: HostRuntime) -> Result<(), Fail> {
     let last = <[u8; 26]>::from_hex("17030300151ebc8ad8e3b12c91d4263ea37368226008651065e6")?;
     let mut record = [9; 28];
     record[5..9].copy_from_slice(b"last");
-    assert!(rt; key.seal_at(u64::MAX, ApplicationData, &mut record[..25], 4, 0) == Err(RecordError::NoRoom));
-    assert_eq!(rt; key.seal_at(u64::MAX, ApplicationData, &mut record, 4, 0)?, 26);
+    assert!(rt;
+        key.seal_at(u64::MAX, ApplicationData, &mut record[..25], 4, 0) == Err(RecordError::NoRoom)
+    );
+    assert_eq!(rt;
+        key.seal_at(u64::MAX, ApplicationData, &mut record, 4, 0)?,
+        26
+    );
     assert_eq!(rt; &record[..26], last.as_slice());
     assert_eq!(rt; &record[26..], [9; 2].as_slice());
     assert!(rt; key.open_at(u64::MAX, &mut record[..26]) == Ok((ApplicationData, 4)));
@@ -411,24 +442,52 @@ fn by_number(rt: HostRuntime) -> Result<(), Fail> {
 
 /// Each error with its text, and the number of its alert (RFC 8446 section 6).
 const TEXTS: [(RecordError, &str, u8); 17] = [
-    (RecordError::KeyLength, "the key hasn't the length of the algorithm's keys", 0),
-    (RecordError::SizeLimit, "the size limit isn't from 64 to 2^14 + 1", 0),
+    (
+        RecordError::KeyLength,
+        "the key hasn't the length of the algorithm's keys",
+        0,
+    ),
+    (
+        RecordError::SizeLimit,
+        "the size limit isn't from 64 to 2^14 + 1",
+        0,
+    ),
     (
         RecordError::ContentTooLong,
         "the content and its padding are longer than the size limit allows for",
         0,
     ),
-    (RecordError::NoRoom, "the buffer has no room for the record", 0),
+    (
+        RecordError::NoRoom,
+        "the buffer has no room for the record",
+        0,
+    ),
     (RecordError::OutOfMemory, "no memory for the record", 0),
-    (RecordError::SequenceEnded, "the limit of records under this key is reached", 0),
-    (RecordError::Closed, "the reader is closed, since it has refused a record", 0),
+    (
+        RecordError::SequenceEnded,
+        "the limit of records under this key is reached",
+        0,
+    ),
+    (
+        RecordError::Closed,
+        "the reader is closed, since it has refused a record",
+        0,
+    ),
     (
         RecordError::WrongLength,
         "the record's length isn't the one that its header gives",
         0,
     ),
-    (RecordError::UnexpectedRecord, "the header is that of another record", 10),
-    (RecordError::PlaintextTooLong, "the plaintext record has more than 2^14 bytes", 22),
+    (
+        RecordError::UnexpectedRecord,
+        "the header is that of another record",
+        10,
+    ),
+    (
+        RecordError::PlaintextTooLong,
+        "the plaintext record has more than 2^14 bytes",
+        22,
+    ),
     (
         RecordError::EncryptedRecordTooLong,
         "the encrypted record has more than 2^14 + 256 bytes",
@@ -445,7 +504,11 @@ const TEXTS: [(RecordError, &str, u8); 17] = [
         20,
     ),
     (RecordError::Refused, "the record's tag is another", 20),
-    (RecordError::NoContentType, "the inner plaintext has no content type", 10),
+    (
+        RecordError::NoContentType,
+        "the inner plaintext has no content type",
+        10,
+    ),
     (
         RecordError::UnexpectedType,
         "a protected record has no such content type",

@@ -8,6 +8,7 @@ use std::test::Fail;
 use uses::record_stream;
 
 const IV: [u8; 12] = [3; 12];
+
 const NEXT_IV: [u8; 12] = [4; 12];
 
 /// Bytes in hex, and what they begin with (RFC 8446 sections 5, 5.1 and 5.2).
@@ -15,8 +16,14 @@ const BEGIN: [(&str, Result<Begins, RecordError>); 24] = [
     ("", Ok(Begins::MoreNeeded(5))),
     ("16030100", Ok(Begins::MoreNeeded(5))),
     ("1603010002", Ok(Begins::MoreNeeded(7))),
-    ("16030100020100", Ok(Begins::Record(RecordKind::Handshake, 7))),
-    ("1603030001ff1603", Ok(Begins::Record(RecordKind::Handshake, 6))),
+    (
+        "16030100020100",
+        Ok(Begins::Record(RecordKind::Handshake, 7)),
+    ),
+    (
+        "1603030001ff1603",
+        Ok(Begins::Record(RecordKind::Handshake, 6)),
+    ),
     ("1603034000", Ok(Begins::MoreNeeded(16389))),
     ("1603034001", Err(RecordError::PlaintextTooLong)),
     ("1603030000", Err(RecordError::UnexpectedRecord)),
@@ -24,7 +31,10 @@ const BEGIN: [(&str, Result<Begins, RecordError>); 24] = [
     ("1503030003", Err(RecordError::UnexpectedRecord)),
     ("1503030000", Err(RecordError::UnexpectedRecord)),
     ("1403030001", Ok(Begins::MoreNeeded(6))),
-    ("140303000101", Ok(Begins::Record(RecordKind::ChangeCipherSpec, 6))),
+    (
+        "140303000101",
+        Ok(Begins::Record(RecordKind::ChangeCipherSpec, 6)),
+    ),
     ("140303000102", Err(RecordError::UnexpectedRecord)),
     ("140301000101", Err(RecordError::UnexpectedRecord)),
     ("1403030002", Err(RecordError::UnexpectedRecord)),

@@ -13,8 +13,8 @@ pub returns-in-Ok-clause-opened : goal.returns-in-Ok-clause-opened
 returns-in-Ok-clause-opened c =
     rw (← c.self.view_is)
     (opens_message _ _ _ _ c.requires _ c.args.number c.self.invariant (c.in_ok-header.ensures.accepted.0 refl) _
-      (rw (c.nonce_of-nonce.ensures, c.from-aad.ensures ∙ c.as_slice.ensures, c.in_ok-header.ensures.header) at c.in-Ok.ensures.opened) _
-      c.in-Ok.ensures.count)
+    (rw (c.nonce_of-nonce.ensures, c.from-aad.ensures ∙ c.as_slice.ensures, c.in_ok-header.ensures.header) at c.in-Ok.ensures.opened) _
+    c.in-Ok.ensures.count)
 
 pub returns-in-Err-clause-refused : goal.returns-in-Err-clause-refused
 returns-in-Err-clause-refused c =

@@ -11,4 +11,4 @@ returns-in_err-len-clause-opens c =
 pub returns-in-Err-clause-opens : goal.returns-in-Err-clause-opens
 returns-in-Err-clause-opens c =
     let same : c.args.filled + c.in_ok-len.len - c.args.filled ≡ c.in_ok-len.len = omega arith in
-    (refused_opens _ _ _ _ _ _ _ c.in_ok-len.ensures.opened _ (rw same at c.in-Err.ensures.refused)).0
+    refused_opens _ _ _ _ _ _ _ c.in_ok-len.ensures.opened _ (rw same at c.in-Err.ensures.refused)
