@@ -43,8 +43,6 @@ mod overlapping;
 #[cfg(test)]
 mod quic;
 #[cfg(test)]
-mod record_layer;
-#[cfg(test)]
 mod reference;
 #[cfg(test)]
 mod refusals;

@@ -1,7 +1,13 @@
 -- Inner plaintexts (RFC 8446 section 5.4).
-use Rattle.std.proofs.Common.{◌≡◌, ◌≢◌, ℕ, suc, ◌+◌, ◌-◌, ◌<◌, List, [], ◌∷◌, ◌++◌, length, get_or, take, drop, replicate, refl, sym, ◌∙◌, arith, ext_get_or, get_or-drop, length-append, length-drop, take-append-drop}
+use Rattle.std.proofs.Common.{◌≡◌, ◌≢◌, ℕ, suc, ◌+◌, ◌-◌, ◌<◌, List, [], ◌∷◌, ◌++◌, length, get_or, take, drop, replicate, refl, sym, ◌∙◌, arith, rules, ext_get_or, get_or-drop, length-append, length-drop, take-append-drop}
 use Rattle.std.proofs.lemmas.List.{drop_more, get_or-replicate, length-replicate}
-use Rattle.records.specs.Record.{Inner, inner_plaintext}
+use Rattle.records.specs
+use specs.Record.{Inner, IsAllowed, inner_plaintext, plaintext, type_code}
+use specs.Refusals.{RefusesInner}
+use specs.declared.content_type.ContentType.{ContentType}
+use specs.declared.content_type.ContentType.TheVariants.{Alert, Handshake, ApplicationData}
+use specs.declared.record_error.RecordError.{RecordError}
+use specs.declared.record_error.RecordError.TheVariants.{EmptyContent, NoContentType, UnexpectedType}
 
 -- a list that is zero after a place
 pub zeros_behind : (xs : List ℕ) (n : ℕ) → n < length xs → ((k : ℕ) → n < k → k < length xs → get_or xs k 0 ≡ 0)
@@ -12,8 +18,24 @@ zeros_behind xs n h zeros =
     get_or-drop (n + 1) xs k 0 ∙ zeros (n + 1 + k) (omega arith) (omega arith) ∙ sym (get_or-replicate _ k 0 0 (omega arith))) in
     sym (take-append-drop n xs) ∙ rw (drop_more xs n 0 h, none)
 
-pub length-inner_plaintext : (i : Inner) → length (inner_plaintext i) ≡ length i.content + 1 + i.padding
-length-inner_plaintext i = simp (length-append, length-replicate) (omega arith)
+pub length-plaintext : (content : List ℕ) (code padding : ℕ) → length (plaintext content code padding) ≡ length content + 1 + padding
+length-plaintext content code padding = simp (length-append, length-replicate) (omega arith)
+
+typed : (t : ContentType) → type_code t ≢ 0
+typed Alert e = absurd (omega arith)
+typed Handshake e = absurd (omega arith)
+typed ApplicationData e = absurd (omega arith)
+
+same_type : (s t : ContentType) → type_code s ≡ type_code t → s ≡ t
+same_type Alert Alert e = refl
+same_type Handshake Handshake e = refl
+same_type ApplicationData ApplicationData e = refl
+same_type Alert Handshake e = absurd (omega arith)
+same_type Alert ApplicationData e = absurd (omega arith)
+same_type Handshake Alert e = absurd (omega arith)
+same_type Handshake ApplicationData e = absurd (omega arith)
+same_type ApplicationData Alert e = absurd (omega arith)
+same_type ApplicationData Handshake e = absurd (omega arith)
 
 -- what ends with a type is zeros only where the type is
 zeros_type : (content : List ℕ) (content_type padding n : ℕ) → content ++ content_type ∷ replicate padding 0 ≡ replicate n 0 → content_type ≡ 0
@@ -28,9 +50,21 @@ same_parts [] (y ∷ ys) s t m n p q e = absurd (q (zeros_type ys t n m (cc)))
 same_parts (x ∷ xs) [] s t m n p q e = absurd (p (zeros_type xs s m n (cc)))
 
 -- an inner plaintext has one type and one content
-pub same_inner : (i j : Inner) → i.content_type ≢ 0 → j.content_type ≢ 0 → inner_plaintext i ≡ inner_plaintext j
-    → (i.content_type ≡ j.content_type) × (i.content ≡ j.content)
-same_inner i j = same_parts i.content j.content i.content_type j.content_type i.padding j.padding
+pub same_inner : (i j : Inner) → inner_plaintext i ≡ inner_plaintext j → (i.content_type ≡ j.content_type) × (i.content ≡ j.content)
+same_inner i j e =
+    let same = same_parts i.content j.content (type_code i.content_type) (type_code j.content_type) i.padding j.padding
+    (typed i.content_type) (typed j.content_type) e in
+    (same_type i.content_type j.content_type same.0, same.1)
 
-pub not_zeros : (i : Inner) (n : ℕ) → i.content_type ≢ 0 → inner_plaintext i ≡ replicate n 0 → ⊥
-not_zeros i n typed e = typed (zeros_type i.content i.content_type i.padding n e)
+-- what may be sent isn't refused
+pub allowed_not_refused : (size_limit : ℕ) (i : Inner) (error : RecordError)
+    → IsAllowed size_limit i.content_type (length i.content) i.padding → RefusesInner (inner_plaintext i) error → ⊥
+allowed_not_refused size_limit i NoContentType allowed r =
+    typed i.content_type (zeros_type i.content (type_code i.content_type) i.padding (length (inner_plaintext i)) r)
+allowed_not_refused size_limit i UnexpectedType allowed r =
+    r.4 i.content_type (same_parts i.content r.0 (type_code i.content_type) r.1 i.padding r.2 (typed i.content_type) r.3 r.5).0
+allowed_not_refused size_limit i EmptyContent allowed r =
+    let same = same_parts i.content [] (type_code i.content_type) (type_code r.0) i.padding r.1 (typed i.content_type) (typed r.0) r.3 in
+    let none : length i.content ≡ 0 = rw same.1 refl in
+    r.2 (sym (same_type i.content_type r.0 same.0) ∙ allowed.nonempty none)
+allowed_not_refused size_limit i error allowed r = r

@@ -1,25 +1,29 @@
 -- Records and their headers. A record that stands in a buffer, and its inner plaintext, which stands before it.
-use Rattle.std.proofs.Common.{◌≡◌, ◌≢◌, ℕ, ◌+◌, ◌-◌, ◌<◌, List, ◌++◌, length, get_or, take, drop, replicate, refl, sym, ap, ap₂, ◌∙◌, rules, arith, drop_at, get_or-drop, get_or-take, length-append, length-drop, take-append-drop, take_at, Err, Bool, ◌≤◌, true, false, append_assoc, drop-drop, length-take-le, take-take, Ok}
+use Rattle.std.proofs.Common.{◌≡◌, ◌≢◌, ℕ, ◌+◌, ◌-◌, ◌^◌, ◌<◌, List, ◌++◌, length, get_or, take, drop, replicate, refl, sym, ap, ap₂, ◌∙◌, rules, arith, drop_at, get_or-drop, get_or-take, length-append, length-drop, take-append-drop, take_at, Err, Bool, ◌≤◌, true, false, append_assoc, drop-drop, length-take-le, take-take, Ok}
 use Rattle.std.proofs.lemmas
 use lemmas.List.{append_cancel_left, get_or_past, drop-append-le}
 use lemmas.Nat.{be_bytes_2}
-use Rattle.aead_ciphers_base.specs.Aes.{aes}
-use Rattle.aead_ciphers.specs.Gcm.{gcm_decrypted, gcm_encrypted, gcm_sealed, gcm_tag, OpenedAttached}
-use Rattle.records.specs
-use specs.Record.{Inner, IsHeader, IsWhole, encrypted_len, header, inner_plaintext}
-use specs.State.{State, next_nonce, IsEnded, advanced}
-use specs.Steps.{Carries, Reads, RefusesBytes, RefusesToRead, Seals, LeavesInner, overwritten}
-use specs.declared.record_error.RecordError.{RecordError}
-use specs.declared.record_error.RecordError.TheVariants.{WrongLength, NoContentType, Refused}
-use Rattle.aead_ciphers.proofs.MessageLaws.{decrypted-encrypted, length-aes_encrypted, length-aes_sealed, length-aes_tag, encrypted-decrypted, length-aes_decrypted}
-use Rattle.records.proofs.InnerLemmas.{length-inner_plaintext, not_zeros, same_inner}
 use lemmas.Slice.{between_is}
+use Rattle.aead_ciphers_base.specs.Aes.{aes}
+use Rattle.aead_ciphers.specs.Counting.{xored_nonce}
+use Rattle.aead_ciphers.specs.Gcm.{gcm_decrypted, gcm_encrypted, gcm_sealed, gcm_tag, OpenedAttached}
+use Rattle.aead_ciphers.proofs.MessageLaws.{decrypted-encrypted, length-aes_encrypted, length-aes_sealed, length-aes_tag, encrypted-decrypted, length-aes_decrypted}
+use Rattle.records.specs
+use specs.Keys.{KeyState}
+use specs.Record.{Carries, Inner, IsHeader, IsWhole, Seals, body_len, header, inner_plaintext, type_code}
+use specs.Refusals.{RefusesBytes, RefusesInner, RefusesToOpen, SealsRefused}
+use specs.Steps.{LeavesInner, LeavesMessage, LeavesRefused, Opens, OpensMessage, RefusesMessage, overwritten}
+use specs.declared.content_type.ContentType.{ContentType}
+use specs.declared.content_type.ContentType.TheVariants.{ApplicationData}
+use specs.declared.record_error.RecordError.{RecordError}
+use specs.declared.record_error.RecordError.TheVariants.{EmptyContent, NoContentType, Refused, UnexpectedType, WrongLength}
+use Rattle.records.proofs.InnerLemmas.{allowed_not_refused, length-plaintext, same_inner}
 use borrow.Rule.Slice.PartMut.{put_mid}
 
 -- bytes are one whole record where their header gives the length of what stands after it
-pub whole_from : (head bytes : List ℕ) → head ≡ take 5 bytes → length head ≡ 5 → ((i : ℕ) → get_or bytes i 0 < 256) → IsHeader head
-    → 5 + encrypted_len head ≡ length bytes → IsWhole bytes
-whole_from head bytes is five small h e =
+pub whole_from : (size_limit : ℕ) (head bytes : List ℕ) → head ≡ take 5 bytes → length head ≡ 5 → ((i : ℕ) → get_or bytes i 0 < 256)
+    → IsHeader size_limit head → 5 + body_len head ≡ length bytes → IsWhole size_limit bytes
+whole_from size_limit head bytes is five small h e =
     let two : length (drop 3 head) ≡ 2 = omega (arith, length-drop 3 head) in
     let head_small : (i : ℕ) → get_or head i 0 < 256 = λ i. rw is (grind (arith, get_or-take, get_or_past, small i)) in
     let behind = be_bytes_2 (drop 3 head) (length bytes - 5) two (λ i. rw (get_or-drop 3 head i 0) (head_small (3 + i))) (omega arith) in
@@ -39,74 +43,89 @@ sealed_parts key nonce aad text tag message size e =
     let here : text ≡ c = sym (take_at text tag _ refl) ∙ ap (take (length text)) e ∙ take_at c _ _ long in
     rw here (sym (decrypted-encrypted key nonce message), sym (drop_at text tag _ refl) ∙ ap (drop (length text)) e ∙ drop_at c _ _ long)
 
-module _ (was : State) (bytes : List ℕ) where
-  module _ (inner : Inner) (c : Carries was bytes inner) where
+module _ (key : KeyState) (number : ℕ) (bytes : List ℕ) where
+  abbrev nonce : List ℕ
+  nonce = xored_nonce key.iv number
+
+  module _ (inner : Inner) (c : Carries key number bytes inner) where
     abbrev aad : List ℕ
     aad = header (length (inner_plaintext inner) + 16)
 
     carried_header : take 5 bytes ≡ aad
     carried_header = ap (take 5) c.made
 
-    pub carried_whole : IsWhole bytes
+    pub carried_whole : IsWhole key.size_limit bytes
     carried_whole =
+        let size = length-plaintext inner.content (type_code inner.content_type) inner.padding in
         let n : length bytes ≡ 5 + (length inner.content + 1 + inner.padding + 16) =
         ap length c.made ∙ length-append aad _
-        ∙ ap (λ n. 5 + n) (length-aes_sealed _ _ _ (inner_plaintext inner) ∙ ap (λ n. n + 16) (length-inner_plaintext inner)) in
+        ∙ ap (λ n. 5 + n) (length-aes_sealed _ _ _ (inner_plaintext inner) ∙ ap (λ n. n + 16) size) in
         record {
-          start = carried_header ∙ ap header (omega (arith, n, length-inner_plaintext inner));
+          start = carried_header ∙ ap header (omega (arith, n, size));
           shortest = omega (arith, n);
-          longest = omega (arith, n);
+          longest = omega (arith, n, c.allowed.fits);
         }
 
-    pub carried_seals : Seals was bytes (inner_plaintext inner)
+    pub carried_seals : Seals key number bytes (inner_plaintext inner)
     carried_seals = rw carried_header c.made
 
-  same_message : (m m' : List ℕ) → Seals was bytes m → Seals was bytes m' → m ≡ m'
+  same_message : (m m' : List ℕ) → Seals key number bytes m → Seals key number bytes m' → m ≡ m'
   same_message m m' s s' =
-      let key = was.key.bytes in
-      let nonce = next_nonce was in
-      let c = gcm_encrypted (aes key) nonce m in
-      let parts = sealed_parts key nonce (take 5 bytes) c _ m' (length-aes_tag key nonce (take 5 bytes) c)
+      let c = gcm_encrypted (aes key.bytes) nonce m in
+      let parts = sealed_parts key.bytes nonce (take 5 bytes) c _ m' (length-aes_tag key.bytes nonce (take 5 bytes) c)
       (append_cancel_left (take 5 bytes) _ _ (sym s ∙ s')) in
-      sym (decrypted-encrypted key nonce m) ∙ sym parts.0
+      sym (decrypted-encrypted key.bytes nonce m) ∙ sym parts.0
 
   -- one record carries one content
-  pub same_content : (i j : Inner) → Carries was bytes i → Carries was bytes j → (i.content_type ≡ j.content_type) × (i.content ≡ j.content)
-  same_content i j c d = same_inner i j c.allowed.typed d.allowed.typed (same_message _ _ (carried_seals i c) (carried_seals j d))
+  pub same_content : (i j : Inner) → Carries key number bytes i → Carries key number bytes j → (i.content_type ≡ j.content_type) × (i.content ≡ j.content)
+  same_content i j c d = same_inner i j (same_message _ _ (carried_seals i c) (carried_seals j d))
 
-  pub zeros_carry_nothing : (n : ℕ) → Seals was bytes (replicate n 0) → (inner : Inner) → ¬ Carries was bytes inner
-  zeros_carry_nothing n z inner c = not_zeros inner n c.allowed.typed (same_message _ _ (carried_seals inner c) z)
+  refuses_to_open : (error : RecordError) → RefusesMessage key number bytes error → RefusesToOpen key number bytes error
+  refuses_to_open WrongLength r = r
+  refuses_to_open Refused r = r
+  refuses_to_open error r = search rules
 
-  pub carries_from : (inner : Inner) → IsWhole bytes → ¬ IsEnded was → inner.content_type ≢ 0 → Seals was bytes (inner_plaintext inner)
-      → length (inner_plaintext inner) + 21 ≡ length bytes → Carries was bytes inner
-  carries_from inner w open_before typed s size =
-      let n : length bytes - 5 ≡ length (inner_plaintext inner) + 16 = omega arith in
-      record {
-        allowed = record { typed = typed; fits = omega (arith, length-inner_plaintext inner) };
-        open_before = open_before;
-        made = rw (w.start ∙ ap header n) at s;
-      }
-
-  refuses_to_read : (error : RecordError) → RefusesBytes bytes error → RefusesToRead was bytes error
-  refuses_to_read WrongLength r = r
-  refuses_to_read error r = search rules
-
-  -- bytes that aren't one whole record carry nothing
-  pub reads_no_record : (error : RecordError) → ¬ IsWhole bytes → RefusesBytes bytes error → Reads was was bytes (Err error)
-  reads_no_record error none r = record {
-    accepted = λ inner c. absurd (none (carried_whole inner c));
+  -- where no message is opened, nothing is
+  pub opens_none : (error : RecordError) → ((inner : Inner) → ¬ Carries key number bytes inner) → RefusesMessage key number bytes error
+      → Opens key number bytes (Err error)
+  opens_none error none r = record {
+    accepted = λ inner c. absurd (none inner c);
     content = tt;
-    counted = tt;
-    refused = refuses_to_read error r;
+    refused = refuses_to_open error r;
+  }
+
+  opened_refuses : (error : RecordError) → SealsRefused key number bytes error → RefusesToOpen key number bytes error
+  opened_refuses NoContentType r = r
+  opened_refuses UnexpectedType r = r
+  opened_refuses EmptyContent r = r
+  opened_refuses error r = absurd r.3
+
+-- ---- a message that was opened
+
+module _ (key : KeyState) (number : ℕ) (bytes : List ℕ) (at : ℕ) (old new : List ℕ) (n : ℕ) (m : OpensMessage key number bytes at old new n) where
+  abbrev message : List ℕ
+  message = take n (drop at new)
+
+  -- what it carries is refused
+  pub refused_opens : (error : RecordError) → RefusesInner message error → Opens key number bytes (Err error)
+  refused_opens error r = record {
+    accepted = λ inner c.
+        absurd (allowed_not_refused key.size_limit inner error c.allowed
+        (rw (same_message key number bytes _ _ m.sealed (carried_seals key number bytes inner c)) at r));
+    content = tt;
+    refused = opened_refuses key number bytes error (m.whole, message, m.sealed, r);
   }
 
 -- ---- a record in a buffer
 
-module _ (old : List ℕ) (filled at end : ℕ) (order : (filled ≤ at) × (at ≤ end) × (end ≤ length old)) (was : State)
-    (open_before : ¬ IsEnded was) (w : IsWhole (take (end - at) (drop at old))) where
+module _ (old : List ℕ) (filled at end : ℕ) (order : (filled ≤ at + 5) × (at ≤ end) × (end ≤ length old)) (key : KeyState) (number : ℕ)
+    (small : key.size_limit ≤ 2 ^ 14 + 1) (w : IsWhole key.size_limit (take (end - at) (drop at old))) where
   -- the record
-  abbrev bytes : List ℕ
-  bytes = take (end - at) (drop at old)
+  abbrev record_bytes : List ℕ
+  record_bytes = take (end - at) (drop at old)
+
+  abbrev record_nonce : List ℕ
+  record_nonce = xored_nonce key.iv number
 
   -- what is opened
   abbrev part : List ℕ
@@ -123,10 +142,14 @@ module _ (old : List ℕ) (filled at end : ℕ) (order : (filled ≤ at) × (at 
   tag = drop (length part - 16) part
 
   abbrev OpensRecord : Bool → List ℕ → Type 0
-  OpensRecord accepts new = OpenedAttached (aes was.key.bytes) (next_nonce was) (take 5 bytes) start part accepts new
+  OpensRecord accepts new = OpenedAttached (aes key.bytes) record_nonce (take 5 record_bytes) start part accepts new
 
-  length-bytes : length bytes ≡ end - at
+  length-bytes : length record_bytes ≡ end - at
   length-bytes = length-take-le (end - at) (drop at old) (omega (arith, length-drop at old))
+
+  -- the record lies within the part
+  room : at + 22 ≤ end
+  room = omega (arith, w.shortest, length-bytes)
 
   length-part : length part ≡ end - filled
   length-part = length-take-le (end - filled) (drop filled old) (omega (arith, length-drop filled old))
@@ -134,115 +157,76 @@ module _ (old : List ℕ) (filled at end : ℕ) (order : (filled ≤ at) × (at 
   length-text : length text ≡ end - at - 21
   length-text =
       length-drop start (take (length part - 16) part)
-      ∙ (let front = length-take-le (length part - 16) part (omega arith) in omega (arith, length-part, length-bytes))
+      ∙ (let front = length-take-le (length part - 16) part (omega arith) in omega (arith, length-part, room))
 
-  parts : bytes ≡ take 5 bytes ++ (text ++ tag)
+  parts : record_bytes ≡ take 5 record_bytes ++ (text ++ tag)
   parts =
-      let behind : drop 5 bytes ≡ drop start part =
+      let behind : drop 5 record_bytes ≡ drop start part =
       rw (between_is old filled end, between_is old at end, drop-drop start filled (take end old), drop-drop 5 at (take end old))
       (ap (λ n. drop n (take end old)) (omega arith)) in
       let cut : drop start part ≡ text ++ tag =
       ap (drop start) (sym (take-append-drop (length part - 16) part))
       ∙ drop-append-le start (take (length part - 16) part) tag
-      (let front = length-take-le (length part - 16) part (omega arith) in omega (arith, length-part, length-bytes)) in
-      sym (take-append-drop 5 bytes) ∙ ap (λ ys. take 5 bytes ++ ys) (behind ∙ cut)
+      (let front = length-take-le (length part - 16) part (omega arith) in omega (arith, length-part, room)) in
+      sym (take-append-drop 5 record_bytes) ∙ ap (λ ys. take 5 record_bytes ++ ys) (behind ∙ cut)
 
   -- a false tag
-  pub false_tag_read : (now : State) (new : List ℕ) → OpensRecord false new → Reads was now bytes (Err Refused)
-  false_tag_read now new o =
-      let not_sealed : (message : List ℕ) → ¬ Seals was bytes message = λ message s.
-      let right = sealed_parts was.key.bytes (next_nonce was) (take 5 bytes) text tag message
-      (length-drop _ part ∙ omega (arith, length-part, length-bytes))
-      (append_cancel_left (take 5 bytes) _ _ (sym parts ∙ s)) in
-      let head = length-take-le 5 bytes (omega arith) in
+  pub false_tag : (new : List ℕ) → OpensRecord false new → (message : List ℕ) → ¬ Seals key number record_bytes message
+  false_tag new o m s =
+      let right = sealed_parts key.bytes record_nonce (take 5 record_bytes) text tag m
+      (length-drop _ part ∙ omega (arith, length-part, room))
+      (append_cancel_left (take 5 record_bytes) _ _ (sym parts ∙ s)) in
+      let head = length-take-le 5 record_bytes (omega (arith, length-bytes, room)) in
       let wrong : false ≡ true =
       o.accepted.1 (
-        omega (arith, length-part, length-bytes),
-        record { aad = omega arith; message = omega (arith, length-text, length-bytes) },
+        omega (arith, length-part, room),
+        record { aad = omega arith; message = omega (arith, length-text, length-bytes, w.longest, small) },
         right.1,
       ) in
-      cc in
-      record {
-        accepted = λ inner c. absurd (not_sealed _ (carried_seals was bytes inner c));
-        content = tt;
-        counted = tt;
-        refused = (w, open_before, not_sealed);
-      }
+      cc
 
   module _ (new : List ℕ) (o : OpensRecord true new) (len : ℕ) (count : len ≡ length part - 16 - start) where
-    abbrev message : List ℕ
-    message = gcm_decrypted (aes was.key.bytes) (next_nonce was) text
+    abbrev opened : List ℕ
+    opened = gcm_decrypted (aes key.bytes) record_nonce text
 
     abbrev buffer : List ℕ
     buffer = put_mid filled (end - filled) old new
 
-    abbrev inner : List ℕ
-    inner = take (filled + len - filled) (drop filled buffer)
+    length-opened : length opened ≡ end - at - 21
+    length-opened = length-aes_decrypted key.bytes record_nonce text ∙ length-text
 
-    length-message : length message ≡ end - at - 21
-    length-message = length-aes_decrypted was.key.bytes (next_nonce was) text ∙ length-text
-
-    seals : Seals was bytes message
+    seals : Seals key number record_bytes opened
     seals =
-        rw (encrypted-decrypted was.key.bytes (next_nonce was) text)
-        (parts ∙ ap (λ t. take 5 bytes ++ (text ++ t)) (o.accepted.0 refl).2)
+        rw (encrypted-decrypted key.bytes record_nonce text)
+        (parts ∙ ap (λ t. take 5 record_bytes ++ (text ++ t)) (o.accepted.0 refl).2)
 
-    put : buffer ≡ overwritten old filled message
+    put : buffer ≡ overwritten old filled opened
     put =
         let rest : List ℕ = drop (end - filled) (drop filled old) in
-        let same = length-aes_decrypted was.key.bytes (next_nonce was) text in
-        let tail : drop (length text) part ++ rest ≡ drop (filled + length message) old =
-        sym (drop-append-le (length text) part rest (omega (arith, length-part, length-text)))
+        let same = length-aes_decrypted key.bytes record_nonce text in
+        let tail : drop (length text) part ++ rest ≡ drop (filled + length opened) old =
+        sym (drop-append-le (length text) part rest (omega (arith, length-part, length-text, room)))
         ∙ ap (drop (length text)) (take-append-drop (end - filled) (drop filled old))
         ∙ drop-drop (length text) filled old ∙ ap (λ n. drop (filled + n) old) (sym same) in
         ap (λ ys. take filled old ++ (ys ++ rest)) o.buffer
-        ∙ simp append_assoc (ap (λ ys. take filled old ++ (message ++ ys)) tail)
+        ∙ simp append_assoc (ap (λ ys. take filled old ++ (opened ++ ys)) tail)
 
-    there : inner ≡ message
+    there : take len (drop filled buffer) ≡ opened
     there =
-        let tail : List ℕ = drop (filled + length message) old in
-        let n : filled + len - filled ≡ length message = omega (arith, length-message, length-part, length-bytes) in
+        let tail : List ℕ = drop (filled + length opened) old in
+        let n : len ≡ length opened = omega (arith, length-opened, length-part, room) in
         rw (
           n,
           put,
-          append_assoc (take filled old) message tail,
-          drop_at (take filled old) (message ++ tail) filled (length-take-le filled old (omega arith)),
+          append_assoc (take filled old) opened tail,
+          drop_at (take filled old) (opened ++ tail) filled (length-take-le filled old (omega (arith, room))),
         )
-        (take_at message tail _ refl)
+        (take_at opened tail _ refl)
 
-    -- a content was found in the message
-    pub found_read : (now : State) (content_type n : ℕ) → now ≡ advanced was → (content_type ≢ 0) × (n < length inner)
-        × (padding : ℕ) × (inner ≡ inner_plaintext (record { content_type = content_type; content = take n inner; padding = padding }))
-        → Reads was now bytes (Ok (content_type, take n (drop filled buffer))) × LeavesInner filled old buffer (content_type, n)
-    found_read now content_type n counted found =
-        let size = ap length there ∙ length-message in
-        let same = take-take n (filled + len - filled) (drop filled buffer) (omega (arith, length-part, length-bytes)) in
-        let e = sym there ∙ (rw same at found.3) in (
-          record {
-            accepted = λ inner c. refl;
-            content = (
-              found.2,
-              carries_from was bytes _ w open_before found.0 (rw e at seals)
-                  (omega (arith, ap length e, length-message, length-bytes)),
-            );
-            counted = counted;
-            refused = tt;
-          },
-          (found.2, put ∙ ap (overwritten old filled) e),
-        )
-
-    -- the message is zeros
-    pub zeros_read : (now : State) → inner ≡ replicate (length inner) 0
-        → Reads was now bytes (Err NoContentType) × (buffer ≡ overwritten old filled (replicate (end - at - 21) 0))
-    zeros_read now zeros =
-        let none : message ≡ replicate (end - at - 21) 0 = sym there ∙ zeros ∙ ap (λ n. replicate n 0) (ap length there ∙ length-message) in
-        let m : length bytes - 21 ≡ end - at - 21 = omega (arith, length-bytes) in
-        let sealed : Seals was bytes (replicate (length bytes - 21) 0) = rw m (rw none at seals) in (
-          record {
-            accepted = λ inner c. absurd (zeros_carry_nothing was bytes _ sealed inner c);
-            content = tt;
-            counted = tt;
-            refused = (w, open_before, sealed);
-          },
-          put ∙ ap (overwritten old filled) none,
-        )
+    pub opens_message : OpensMessage key number record_bytes filled old buffer len
+    opens_message = record {
+      whole = w;
+      len = omega (arith, length-part, length-bytes, room);
+      sealed = rw there seals;
+      left = put ∙ ap (overwritten old filled) (sym there);
+    }

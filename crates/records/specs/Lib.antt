@@ -1,4 +1,7 @@
 -- What the contracts cite.
+pub mod Keys
 pub mod Record
-pub mod State
+pub mod Refusals
+pub mod Runs
 pub mod Steps
+pub mod Stream

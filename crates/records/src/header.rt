@@ -1,19 +1,16 @@
-//! The header of a record.
+//! The header of a protected record.
 
-ghost use Rattle.std.specs.Prelude.{◌≡◌, ◌≢◌, ◌⊎◌, ℕ, ◌+◌, ◌-◌, ◌<◌, ◌↔◌, length, take, IsOk, IfOk, IfErr};
-ghost use Rattle.records.specs.Record.{header, encrypted_len, IsHeader, IsWhole, RefusesHeader};
-ghost use Rattle.records.specs.Steps.{RefusesBytes};
+ghost use Rattle.std.specs.Prelude.{◌≡◌, ◌+◌, ◌^◌, ◌<◌, ◌≤◌, ◌↔◌, take, IsOk, IfOk, IfErr};
+ghost use Rattle.records.specs.Record.{header, body_len, IsHeader, IsWhole};
+ghost use Rattle.records.specs.Refusals.{RefusesBytes, RefusesHeader};
 
 use crate::record_error::RecordError;
-use crate::{MAX_CONTENT_LEN, TAG_LEN};
-
-/// The bytes of a header.
-pub const HEADER_LEN: usize = 5;
+use crate::{HEADER_LEN, TAG_LEN};
 
 /// The longest encrypted record that a header may give, whatever the cipher (RFC 8446 section 5.2).
-const MAX_ENCRYPTED_LEN: usize = MAX_CONTENT_LEN + 256;
+const MAX_ENCRYPTED_LEN: usize = 16640;
 
-const APPLICATION_DATA: u8 = 23;
+pub(crate) const APPLICATION_DATA: u8 = 23;
 
 /// The header of a record with `len` bytes after it.
 pub(crate) fn header_of(len: usize) -> [u8; HEADER_LEN]
@@ -24,22 +21,22 @@ pub(crate) fn header_of(len: usize) -> [u8; HEADER_LEN]
     [APPLICATION_DATA, 3, 3, high, low]
 }
 
-/// The length of the record that begins with this header, the header included: so many bytes of a stream are
-/// the record.
-pub fn record_len(header: &[u8; HEADER_LEN]) -> Result<usize, RecordError>
-    ensures accepted { IsOk result ↔ IsHeader header.now }
-    ensures len { IfOk result (λ n. n ≡ HEADER_LEN + encrypted_len header.now) }
-    ensures refused { IfErr result (RefusesHeader header.now) }
+/// The length of the protected record that begins with this header, the header included.
+pub(crate) fn record_len(size_limit: usize, header: &[u8; HEADER_LEN]) -> Result<usize, RecordError>
+    requires { size_limit ≤ 2 ^ 14 + 1 }
+    ensures accepted { IsOk result ↔ IsHeader size_limit header.now }
+    ensures len { IfOk result (λ n. n ≡ HEADER_LEN + body_len header.now) }
+    ensures refused { IfErr result (RefusesHeader size_limit header.now) }
 {
     let [content_type, major, minor, high, low] = *header;
     if content_type != APPLICATION_DATA || major != 3 || minor != 3 {
-        return Err(RecordError::NotApplicationData);
+        return Err(RecordError::UnexpectedRecord);
     }
     let len = usize::from(u16::from_be_bytes([high, low]));
     if len > MAX_ENCRYPTED_LEN {
         return Err(RecordError::EncryptedRecordTooLong);
     }
-    if len > MAX_CONTENT_LEN + 1 + TAG_LEN {
+    if len > size_limit + TAG_LEN {
         return Err(RecordError::InnerPlaintextTooLong);
     }
     if len < 1 + TAG_LEN {
@@ -49,17 +46,18 @@ pub fn record_len(header: &[u8; HEADER_LEN]) -> Result<usize, RecordError>
 }
 
 /// The header of these bytes, where they are one whole record.
-pub(crate) fn header_in(bytes: &[u8]) -> Result<[u8; HEADER_LEN], RecordError>
-    ensures accepted { IsOk result ↔ IsWhole bytes.now }
+pub(crate) fn header_in(size_limit: usize, bytes: &[u8]) -> Result<[u8; HEADER_LEN], RecordError>
+    requires { size_limit ≤ 2 ^ 14 + 1 }
+    ensures accepted { IsOk result ↔ IsWhole size_limit bytes.now }
     ensures header { IfOk result (λ header. header ≡ take HEADER_LEN bytes.now) }
-    ensures refused { IfErr result (RefusesBytes bytes.now) }
+    ensures refused { IfErr result (RefusesBytes size_limit bytes.now) }
 {
     let mut header = [0; HEADER_LEN];
     if bytes.len() < HEADER_LEN {
         return Err(RecordError::WrongLength);
     }
     header.copy_from_slice(&bytes[..HEADER_LEN]);
-    if record_len(&header)? != bytes.len() {
+    if record_len(size_limit, &header)? != bytes.len() {
         return Err(RecordError::WrongLength);
     }
     Ok(header)

@@ -1,80 +1,87 @@
 //! The inner plaintext of a record.
 
-ghost use Rattle.std.specs.Prelude.{◌≡◌, ◌≢◌, ◌+◌, ◌<◌, ◌≤◌, ◌^◌, ◌↔◌, ℕ, ◌++◌, length, take, replicate, vec_len, vec_capacity, IfSome, IfNone, IsOk, IfOk, IsErrOf, IfErr, OnOk, OnErr, ◌⊎◌};
-ghost use Rattle.records.specs.Record.{inner_plaintext};
+ghost use Rattle.std.specs.Prelude.{◌≡◌, ◌≢◌, ◌+◌, ◌-◌, ◌<◌, ◌≤◌, ◌^◌, ◌↔◌, ℕ, length, take, drop, replicate, IfSome, IfNone, IsOk, IfOk, IfErr};
+ghost use Rattle.aead_ciphers.specs.Packet.{packet_message};
+ghost use Rattle.records.specs.Record.{header, inner_plaintext, plaintext, type_code, IsAllowed};
+ghost use Rattle.records.specs.Refusals.{RefusesContent, RefusesInner};
 
+use crate::content_type::ContentType;
+use crate::header::header_of;
 use crate::record_error::RecordError;
-use crate::{HEADER_LEN, MAX_CONTENT_LEN, TAG_LEN};
-use std::alloc::AllocError;
+use crate::{HEADER_LEN, TAG_LEN};
 
 /// The length of the inner plaintext of a content of this type and length.
 pub(crate) fn inner_len(
-    content_type: u8,
+    size_limit: usize,
+    content_type: ContentType,
     content_len: usize,
     padding: usize,
 ) -> Result<usize, RecordError>
-    ensures accepted { IsOk result ↔ (content_type ≢ 0) × (content_len + padding ≤ 2 ^ 14) }
-    ensures len { IfOk result (λ n. n ≡ content_len + padding + 1) }
-    ensures typed { IsErrOf result RecordError.ContentTypeZero ↔ (content_type ≡ 0) }
-    ensures refused { IfErr result (λ error. (error ≡ RecordError.ContentTypeZero)
-        ⊎ (error ≡ RecordError.ContentTooLong)) }
+    requires { size_limit ≤ 2 ^ 14 + 1 }
+    ensures accepted { IsOk result ↔ IsAllowed size_limit content_type content_len padding }
+    ensures len { IfOk result (λ n. n ≡ content_len + 1 + padding) }
+    ensures refused { IfErr result (RefusesContent size_limit content_type content_len padding) }
 {
-    if content_type == 0 {
-        return Err(RecordError::ContentTypeZero);
+    if content_len == 0 && !content_type.may_be_empty() {
+        return Err(RecordError::EmptyContent);
     }
-    if content_len > MAX_CONTENT_LEN || padding > MAX_CONTENT_LEN - content_len {
+    if content_len >= size_limit || padding >= size_limit - content_len {
         return Err(RecordError::ContentTooLong);
     }
-    Ok(content_len + padding + 1)
+    Ok(content_len + 1 + padding)
 }
 
-/// Appends a header, an inner plaintext, and zeros in the place of a tag, or nothing where the `Vec` can't
-/// grow.
-pub(crate) fn append_unsealed(
-    out: &mut Vec<u8>,
-    header: &[u8; HEADER_LEN],
-    content_type: u8,
-    content: &[u8],
-    padding: usize,
-) -> Result<(), AllocError>
-    requires { length content.now + padding ≤ 2 ^ 14 }
-    ensures ok { OnOk result (out.new.items ≡ out.old.items ++ (header.now ++ (inner_plaintext (record {
-      content_type = content_type;
-      content = content.now;
-      padding = padding;
-    }) ++ replicate 16 0))) }
-    ensures err { OnErr result (out.new.items ≡ out.old.items) }
-    ensures full { OnErr result
-        (vec_capacity out.old < vec_len out.old + length content.now + padding + 22) }
+/// Writes a header, the type and the padding around a content where it stands. The last 16 bytes are room for the tag.
+pub(crate) fn frame(bytes: &mut [u8], content_type: ContentType, content_len: usize)
+    requires room { content_len + 22 ≤ length bytes.old }
+    requires fits { length bytes.old ≤ 2 ^ 15 }
+    ensures header { take HEADER_LEN bytes.new ≡ header (length bytes.old - HEADER_LEN) }
+    ensures message { packet_message HEADER_LEN bytes.new
+        ≡ plaintext (take content_len (drop HEADER_LEN bytes.old)) (type_code content_type)
+        (length bytes.old - 22 - content_len) }
 {
-    out.reserve(HEADER_LEN + content.len() + 1 + padding + TAG_LEN)?;
-    out.extend_from_slice(header)?;
-    out.extend_from_slice(content)?;
-    out.push(content_type)?;
-    out.resize(out.len() + padding, 0)?;
-    out.extend_from_slice(&[0; TAG_LEN])
+    let content_end = HEADER_LEN + content_len;
+    let tag_at = bytes.len() - TAG_LEN;
+    let header = header_of(bytes.len() - HEADER_LEN);
+    bytes[..HEADER_LEN].copy_from_slice(&header);
+    bytes[content_end] = content_type.code();
+    bytes[content_end + 1..tag_at].fill(0);
 }
 
-/// The type and the length of the content of an inner plaintext: the type is the last byte that isn't zero, and
-/// the content stands before it. `None` where all bytes are zero. It looks at every byte, however many are
-/// padding.
-pub(crate) fn content_of(inner: &[u8]) -> Option<(u8, usize)>
-    ensures found { IfSome result (λ found. (found.0 ≢ 0) × (found.1 < length inner.now)
+/// The type and the length of the content of an inner plaintext.
+pub(crate) fn content_of(inner: &[u8]) -> Result<(ContentType, usize), RecordError>
+    ensures found { IfOk result (λ found. (found.1 < length inner.now)
+        × (found.1 ≡ 0 → found.0 ≡ ContentType.ApplicationData)
         × (padding : ℕ) × (inner.now ≡ inner_plaintext (record {
           content_type = found.0;
           content = take found.1 inner.now;
           padding = padding;
         }))) }
+    ensures refused { IfErr result (RefusesInner inner.now) }
+{
+    let Some((code, len)) = last_nonzero(inner) else {
+        return Err(RecordError::NoContentType);
+    };
+    let Some(content_type) = ContentType::from_code(code) else {
+        return Err(RecordError::UnexpectedType);
+    };
+    if len == 0 && !content_type.may_be_empty() {
+        return Err(RecordError::EmptyContent);
+    }
+    Ok((content_type, len))
+}
+
+/// The last byte that isn't zero, which is the content type, and where it stands, which is the length of the content.
+/// `None` where all bytes are zero. It looks at every byte, however many are padding.
+fn last_nonzero(inner: &[u8]) -> Option<(u8, usize)>
+    ensures found { IfSome result (λ found. (found.0 ≢ 0) × (found.1 < length inner.now)
+        × (padding : ℕ) × (inner.now ≡ plaintext (take found.1 inner.now) found.0 padding)) }
     ensures zeros { IfNone result (inner.now ≡ replicate (length inner.now) 0) }
 {
     let mut len = 0;
     for (i, byte) in inner.iter().enumerate() {
         len += usize::from(*byte != 0) * (i - len);
     }
-    let content_type = *inner.get(len)?;
-    if content_type == 0 {
-        None
-    } else {
-        Some((content_type, len))
-    }
+    let code = *inner.get(len)?;
+    if code == 0 { None } else { Some((code, len)) }
 }

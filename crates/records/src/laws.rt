@@ -1,23 +1,31 @@
-//! The law of the definitions: a function that does nothing, whose contract states it for its arguments.
+//! Laws of the definitions: functions that do nothing, whose contracts state a law for their arguments.
 
-ghost use Rattle.std.specs.Prelude.{◌≡◌, ℕ, List, map, Result};
+ghost use Rattle.std.specs.Prelude.{◌≡◌, ℕ, ◌<◌, ◌≤◌, All, AllPairs, List, length, map};
 ghost use Rattle.aead_ciphers.specs.Runs.{Runs};
+ghost use Rattle.records.specs.Keys.{ReaderState, WriterState};
 ghost use Rattle.records.specs.Record.{Inner};
-ghost use Rattle.records.specs.State.{State};
-ghost use Rattle.records.specs.Steps.{Writes, Reads, content_of_inner};
-ghost use Rattle.records.specs.declared.record_error.RecordError.{RecordError};
+ghost use Rattle.records.specs.Runs.{Answer, Event, Follows, ReadStep, WriteStep, WriterRuns, as_asked};
 
 use crate::{Reader, Writer};
 
-/// Reading undoes writing, for every list of contents: whatever calls of `write` made records of them, and
-/// whatever calls of `gather` or `read` then read those records, each returns its content's type and its
-/// content, and the reader stands where the writer does.
+/// Reading undoes writing, for every list of contents and over key updates: whatever calls of `write`, `seal` and `update`
+/// made of them, and whatever calls of `gather`, `read` and `update` then read those records under the same keys, each
+/// returns its content's type and its content, and the reader stands where the writer does.
 #[tactic(auto, using(crate::proofs::RunLemmas::reading_undoes_writing))]
 pub fn reading_undoes_writing(writer: &Writer, reader: &Reader)
-    requires { reader.now ≡ writer.now }
-    ensures { (inners : List Inner) (records : List (List ℕ))
-        (answers : List (Result (ℕ × List ℕ) RecordError)) (written read : State)
-        → Runs Writes writer.now written inners records
-        → Runs Reads reader.now read records answers
-        → (answers ≡ map content_of_inner inners) × (read ≡ written) }
+    requires { Follows writer.now reader.now }
+    ensures { (asked : List (Event Inner)) (sent : List (Event (List ℕ))) (read : List (Event Answer))
+        (written : WriterState) (stands : ReaderState)
+        → Runs WriteStep writer.now written asked sent
+        → Runs ReadStep reader.now stands sent read
+        → (read ≡ map as_asked asked) × Follows written stands }
+{}
+
+/// No pair of a key and a number comes twice: over every run of calls of a writer, the numbers that it seals under rise
+/// under each of its keys, and they are at most as many as its limit (RFC 8446 sections 5.3 and 5.5).
+pub fn no_number_twice_under_a_key(first: &Writer, last: &Writer)
+    ensures fresh { (by_key : List (List ℕ)) → WriterRuns first.now last.now by_key
+        → All (λ numbers. AllPairs (λ m n. m < n) numbers) by_key }
+    ensures limited { (by_key : List (List ℕ)) → WriterRuns first.now last.now by_key
+        → All (λ numbers. length numbers ≤ first.now.limit) by_key }
 {}

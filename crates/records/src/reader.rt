@@ -1,86 +1,204 @@
 //! Reading records.
 
-ghost use Rattle.std.specs.Prelude.{◌≡◌, ◌+◌, ◌-◌, ◌≤◌, length, slice_range, is_ok, IfOk, IfErr, OnErr};
-ghost use Rattle.aead_ciphers_base.specs.Aes.{aes};
-ghost use Rattle.aead_ciphers.specs.Gcm.{OpenedAttached};
-ghost use Rattle.records.specs.State.{next_nonce, advanced, IsEnded};
-ghost use Rattle.records.specs.Steps.{Reads, LeavesInner, LeavesRefused, StandsRefused, content_at, lent_content};
+ghost use Rattle.std.specs.Prelude.{◌≡◌, ◌≢◌, ◌+◌, ◌-◌, ◌^◌, ◌≤◌, ◌↔◌, length, slice_range, IsTrue, IsFalse, IsOk, IfOk, IsOkUnless, IsErrOf, IfErr, OnOk, OnErr, false};
+ghost use Rattle.aead_ciphers.specs.Algorithm.{key_len};
+ghost use Rattle.records.specs.Keys.{rekeyed};
+ghost use Rattle.records.specs.Steps.{content_at, lent_content, after_error, LeavesInner, LeavesRefused, Reads};
 
-use crate::header::{HEADER_LEN, header_in};
-use crate::inner::content_of;
-use crate::numbered::Numbered;
+use crate::DEFAULT_LIMIT;
+use crate::content_type::ContentType;
+use crate::key::RecordKey;
 use crate::record_error::RecordError;
-use aead_ciphers::aead::{Aad, OpeningKey, Unspecified, XoredSequence};
+use aead_ciphers::aead::{Algorithm, NONCE_LEN};
+use std::marker::Model;
 
-/// Reads records, each under the next number. It can't be cloned.
-pub type Reader = Numbered<OpeningKey<XoredSequence>>;
+/// Reads records, each under the next number, over key updates. It can't be cloned, and lends no key.
+///
+/// An error that calls for an alert ends the connection (RFC 8446 section 6.2): the reader then is closed, and each later
+/// call returns `Closed`.
+#[derive(Drop)]
+pub struct Reader {
+    key: RecordKey,
+    number: u64,
+    limit: u64,
+    is_closed: bool,
+}
+
+impl Model for Reader {
+    ghost use Rattle.records.specs.Keys.{ReaderState};
+
+    ghost Value = { ReaderState };
+
+    ghost view = { λ r. record { key = r.key; number = r.number; limit = r.limit; is_closed = r.is_closed } };
+}
 
 impl Reader {
-    /// Opens the next record, which is `bytes[at..end]`, into the bytes from `filled` on, and returns the type
-    /// and the length of its content: the content then is `bytes[filled..filled + length]`. So the contents of
-    /// all records in a buffer can be gathered at its front, with `filled` the sum of their lengths so far.
+    /// Before record 0, for at most 2^24 records under each key (RFC 8446 section 5.5). `iv` is the write_iv (section 7.3).
+    pub fn new(
+        algorithm: &'static Algorithm,
+        key: &[u8],
+        iv: [u8; NONCE_LEN],
+    ) -> Result<Self, RecordError>
+        ensures accepted { IsOk result ↔ (length key.now ≡ key_len algorithm.now) }
+        ensures refused { IsOkUnless result RecordError.KeyLength }
+        ensures made { IfOk result (λ made. made ≡ record {
+          key = record { algorithm = algorithm.now; bytes = key.now; iv = iv; size_limit = 2 ^ 14 + 1 };
+          number = 0;
+          limit = 2 ^ 24;
+          is_closed = false;
+        }) }
+    {
+        Self::with_limit(algorithm, key, iv, DEFAULT_LIMIT)
+    }
+
+    /// The same for at most `limit` records under each key, where the caller knows better.
+    pub fn with_limit(
+        algorithm: &'static Algorithm,
+        key: &[u8],
+        iv: [u8; NONCE_LEN],
+        limit: u64,
+    ) -> Result<Self, RecordError>
+        ensures accepted { IsOk result ↔ (length key.now ≡ key_len algorithm.now) }
+        ensures refused { IsOkUnless result RecordError.KeyLength }
+        ensures made { IfOk result (λ made. made ≡ record {
+          key = record { algorithm = algorithm.now; bytes = key.now; iv = iv; size_limit = 2 ^ 14 + 1 };
+          number = 0;
+          limit = limit;
+          is_closed = false;
+        }) }
+    {
+        Ok(Reader {
+            key: RecordKey::new(algorithm, key, iv)?,
+            number: 0,
+            limit,
+            is_closed: false,
+        })
+    }
+
+    /// The same with this number as that of the next record, for a reader that takes over from another one. The records
+    /// before it count towards the limit.
+    pub fn starting_at(mut self, number: u64) -> Self
+        ensures { result ≡ record self { number = number } }
+    {
+        self.number = number;
+        self
+    }
+
+    /// The number of the next record.
+    pub fn number(&self) -> u64
+        ensures { result ≡ self.now.number }
+    {
+        self.number
+    }
+
+    /// How many more records may be read under this key.
+    pub fn remaining(&self) -> u64
+        ensures { result ≡ self.now.limit - self.now.number }
+    {
+        self.limit.saturating_sub(self.number)
+    }
+
+    /// Whether it has refused a record.
+    pub fn is_closed(&self) -> bool
+        ensures { result ≡ self.now.is_closed }
+    {
+        self.is_closed
+    }
+
+    /// How many bytes an inner plaintext may have at most, its content type and padding counted.
+    pub fn size_limit(&self) -> usize
+        ensures { result ≡ self.now.key.size_limit }
+    {
+        self.key.size_limit()
+    }
+
+    /// Sets the RecordSizeLimit that was sent to the peer, from 64 to 2^14 + 1 (RFC 8449 section 4). The limit stays over
+    /// key updates.
+    pub fn set_size_limit(&mut self, size_limit: usize) -> Result<(), RecordError>
+        ensures accepted { IsOk result
+            ↔ (IsFalse self.old.is_closed × (64 ≤ size_limit) × (size_limit ≤ 2 ^ 14 + 1)) }
+        ensures closed { IsTrue self.old.is_closed → IsErrOf result RecordError.Closed }
+        ensures refused { IsFalse self.old.is_closed → IsOkUnless result RecordError.SizeLimit }
+        ensures set { OnOk result (self.new
+            ≡ record self.old { key = record self.old.key { size_limit = size_limit } }) }
+        ensures kept { OnErr result (self.new ≡ self.old) }
+    {
+        if self.is_closed {
+            return Err(RecordError::Closed);
+        }
+        self.key.set_size_limit(size_limit)
+    }
+
+    /// Goes on under the next key and IV of this direction, once a KeyUpdate was read, or the last record of the
+    /// handshake: number and limit begin anew (RFC 8446 sections 5.3 and 7.2).
+    pub fn update(&mut self, key: &[u8], iv: [u8; NONCE_LEN]) -> Result<(), RecordError>
+        ensures accepted { IsOk result
+            ↔ (IsFalse self.old.is_closed × (length key.now ≡ key_len self.old.key.algorithm)) }
+        ensures closed { IsTrue self.old.is_closed → IsErrOf result RecordError.Closed }
+        ensures refused { IsFalse self.old.is_closed → IsOkUnless result RecordError.KeyLength }
+        ensures updated { OnOk result (self.new
+            ≡ record self.old { key = rekeyed self.old.key key.now iv; number = 0 }) }
+        ensures kept { OnErr result (self.new ≡ self.old) }
+    {
+        if self.is_closed {
+            return Err(RecordError::Closed);
+        }
+        self.key = self.key.next(key, iv)?;
+        self.number = 0;
+        Ok(())
+    }
+
+    /// Opens the next record, which is `bytes[at..end]`, into the bytes from `filled` on, and returns the type and the
+    /// length of its content: the content then is `bytes[filled..filled + length]`. So the contents of all records in a
+    /// buffer can be gathered at its front, with `filled` the sum of their lengths so far.
     ///
-    /// Every byte before `filled` and from `end` on stays. A refusal changes no byte, but for `NoContentType`:
-    /// then the inner plaintext, which is zeros, stands from `filled` on. `Refused` and `NoContentType` spend
-    /// the record's number, as a record that was read does; TLS ends a connection there (RFC 8446 section 5.2).
+    /// Every byte before `filled` and from `end` on stays. A refusal changes no byte, unless the record is authentic: after
+    /// `NoContentType`, `UnexpectedType` and `EmptyContent` its inner plaintext stands from `filled` on. It spends no number,
+    /// and closes the reader where the error has an alert.
     pub fn gather(
         &mut self,
         bytes: &mut [u8],
         filled: usize,
         at: usize,
         end: usize,
-    ) -> Result<(u8, usize), RecordError>
-        requires { (filled ≤ at) × (at ≤ end) × (end ≤ length bytes.old) }
+    ) -> Result<(ContentType, usize), RecordError>
+        requires { (filled ≤ at + 5) × (at ≤ end) × (end ≤ length bytes.old) }
         ensures reads { Reads self.old self.new (slice_range bytes.old at end)
             (content_at filled bytes.new result) }
-        ensures within { IfOk result (λ read. filled + read.1 ≤ end) }
+        ensures within { IfOk result (λ read. filled + read.1 + 17 ≤ end) }
         ensures put { IfOk result (LeavesInner filled bytes.old bytes.new) }
-        ensures stands { IfErr result (StandsRefused self.old self.new) }
-        ensures kept { IfErr result (LeavesRefused filled (end - at - 21) bytes.old bytes.new) }
+        ensures kept { IfErr result (LeavesRefused self.old.key self.old.number
+            (slice_range bytes.old at end) filled bytes.old bytes.new) }
+        ensures closed { IsTrue self.old.is_closed → IsErrOf result RecordError.Closed }
+        ensures stands { IfErr result (λ error. self.new ≡ after_error self.old error) }
     {
-        let header = header_in(&bytes[at..end])?;
-        if self.is_ended() {
+        if self.is_closed {
+            return Err(RecordError::Closed);
+        }
+        if self.number >= self.limit {
             return Err(RecordError::SequenceEnded);
         }
-        let start = at + HEADER_LEN - filled;
-        let Ok(len) = self.open(&header, &mut bytes[filled..end], start) else {
-            return Err(RecordError::Refused);
-        };
-        match content_of(&bytes[filled..filled + len]) {
-            Some(read) => Ok(read),
-            None => Err(RecordError::NoContentType),
+        match self.key.open_to(self.number, bytes, filled, at, end) {
+            Ok(read) => {
+                self.number += 1;
+                Ok(read)
+            }
+            Err(error) => {
+                self.is_closed = error.alert().is_some();
+                Err(error)
+            }
         }
     }
 
-    /// Opens the next record, which is the whole of `bytes`, and lends its content, which then stands at the
-    /// front of `bytes`, with its type. It is `gather` of one record, whose clauses say what the buffer then
-    /// holds.
-    pub fn read<'a>(&mut self, bytes: &'a mut [u8]) -> Result<(u8, &'a [u8]), RecordError>
+    /// Opens the next record, which is the whole of `bytes`, and lends its content, which then stands at the front of
+    /// `bytes`, with its type. It is `gather` of one record, whose clauses say what the buffer then holds.
+    pub fn read<'a>(&mut self, bytes: &'a mut [u8]) -> Result<(ContentType, &'a [u8]), RecordError>
         ensures reads { Reads self.old self.new bytes.old (lent_content result) }
-        ensures stands { IfErr result (StandsRefused self.old self.new) }
+        ensures closed { IsTrue self.old.is_closed → IsErrOf result RecordError.Closed }
+        ensures stands { IfErr result (λ error. self.new ≡ after_error self.old error) }
     {
         let end = bytes.len();
         let (content_type, len) = self.gather(bytes, 0, 0, end)?;
         Ok((content_type, &bytes[..len]))
-    }
-
-    /// Opens the bytes from `start` on into the front of the buffer, and returns the length of the inner
-    /// plaintext.
-    fn open(
-        &mut self,
-        header: &[u8; HEADER_LEN],
-        from: &mut [u8],
-        start: usize,
-    ) -> Result<usize, Unspecified>
-        requires { ¬ IsEnded self.old }
-        ensures opened { OpenedAttached (aes self.old.key.bytes) (next_nonce self.old) header.now start
-            from.old (is_ok result) from.new }
-        ensures count { IfOk result (λ len. len ≡ length from.old - 16 - start) }
-        ensures kept { OnErr result (from.new ≡ from.old) }
-        ensures counted { self.new ≡ advanced self.old }
-    {
-        self.left -= 1;
-        self.key
-            .open_within_to_front(Aad::from(header.as_slice()), from, start..)
     }
 }

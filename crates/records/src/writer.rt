@@ -1,68 +1,213 @@
 //! Writing records.
 
-ghost use Rattle.std.specs.Prelude.{◌≡◌, ◌+◌, ◌^◌, ◌<◌, ◌≤◌, ◌++◌, length, vec_len, vec_capacity, OnOk, IfErr, OnErr, IsErrOf};
-ghost use Rattle.aead_ciphers.specs.Packet.{sealed_packet};
-ghost use Rattle.records.specs.Record.{IsAllowed, record_of};
-ghost use Rattle.records.specs.State.{next_nonce, advanced, IsEnded};
-ghost use Rattle.records.specs.Steps.{RefusesToWrite};
+ghost use Rattle.std.specs.Prelude.{◌≡◌, ◌+◌, ◌-◌, ◌^◌, ◌<◌, ◌≤◌, ◌↔◌, ◌++◌, length, drop, replicate, slice_range, vec_len, vec_capacity, IsOk, IfOk, IsOkUnless, OnOk, IfErr, OnErr, IsErrOf};
+ghost use Rattle.aead_ciphers.specs.Algorithm.{key_len};
+ghost use Rattle.records.specs.Keys.{rekeyed};
+ghost use Rattle.records.specs.Record.{IsAllowed, record_at};
+ghost use Rattle.records.specs.Refusals.{RefusesContent, RefusesToSeal};
 
-use crate::TAG_LEN;
-use crate::header::{HEADER_LEN, header_of};
-use crate::inner::{append_unsealed, inner_len};
-use crate::numbered::Numbered;
+use crate::content_type::ContentType;
+use crate::key::RecordKey;
 use crate::record_error::RecordError;
-use aead_ciphers::aead::{SealingKey, XoredSequence};
+use crate::{DEFAULT_LIMIT, HEADER_LEN, TAG_LEN};
+use aead_ciphers::aead::{Algorithm, NONCE_LEN};
+use std::alloc::AllocError;
+use std::marker::Model;
 
-/// Writes records, each under the next number. It can't be cloned.
-pub type Writer = Numbered<SealingKey<XoredSequence>>;
+/// Writes records, each under the next number, over key updates. It can't be cloned, and lends no key.
+#[derive(Drop)]
+pub struct Writer {
+    key: RecordKey,
+    number: u64,
+    limit: u64,
+}
+
+impl Model for Writer {
+    ghost use Rattle.records.specs.Keys.{WriterState};
+
+    ghost Value = { WriterState };
+
+    ghost view = { λ w. record { key = w.key; number = w.number; limit = w.limit } };
+}
 
 impl Writer {
-    /// Appends the next record to `out`: the content, its type and `padding` zeros, which only the length of
-    /// the record shows. The record is 22 bytes longer than content and padding.
+    /// Before record 0, for at most 2^24 records under each key (RFC 8446 section 5.5). `iv` is the write_iv (section 7.3).
+    pub fn new(
+        algorithm: &'static Algorithm,
+        key: &[u8],
+        iv: [u8; NONCE_LEN],
+    ) -> Result<Self, RecordError>
+        ensures accepted { IsOk result ↔ (length key.now ≡ key_len algorithm.now) }
+        ensures refused { IsOkUnless result RecordError.KeyLength }
+        ensures made { IfOk result (λ made. made ≡ record {
+          key = record { algorithm = algorithm.now; bytes = key.now; iv = iv; size_limit = 2 ^ 14 + 1 };
+          number = 0;
+          limit = 2 ^ 24;
+        }) }
+    {
+        Self::with_limit(algorithm, key, iv, DEFAULT_LIMIT)
+    }
+
+    /// The same for at most `limit` records under each key, where the caller knows better: none beyond 2^24.5 keep the
+    /// margin of RFC 8446 section 5.5.
+    pub fn with_limit(
+        algorithm: &'static Algorithm,
+        key: &[u8],
+        iv: [u8; NONCE_LEN],
+        limit: u64,
+    ) -> Result<Self, RecordError>
+        ensures accepted { IsOk result ↔ (length key.now ≡ key_len algorithm.now) }
+        ensures refused { IsOkUnless result RecordError.KeyLength }
+        ensures made { IfOk result (λ made. made ≡ record {
+          key = record { algorithm = algorithm.now; bytes = key.now; iv = iv; size_limit = 2 ^ 14 + 1 };
+          number = 0;
+          limit = limit;
+        }) }
+    {
+        Ok(Writer {
+            key: RecordKey::new(algorithm, key, iv)?,
+            number: 0,
+            limit,
+        })
+    }
+
+    /// The number of the next record: so many were written under this key.
+    pub fn number(&self) -> u64
+        ensures { result ≡ self.now.number }
+    {
+        self.number
+    }
+
+    /// How many more records may be written under this key.
+    pub fn remaining(&self) -> u64
+        ensures { result ≡ self.now.limit - self.now.number }
+    {
+        self.limit.saturating_sub(self.number)
+    }
+
+    /// How many bytes an inner plaintext may have at most, its content type and padding counted.
+    pub fn size_limit(&self) -> usize
+        ensures { result ≡ self.now.key.size_limit }
+    {
+        self.key.size_limit()
+    }
+
+    /// Sets the RecordSizeLimit that the peer has sent, from 64 to 2^14 + 1 (RFC 8449 section 4). A content that is longer
+    /// is refused, and not split. The limit stays over key updates.
+    pub fn set_size_limit(&mut self, size_limit: usize) -> Result<(), RecordError>
+        ensures accepted { IsOk result ↔ ((64 ≤ size_limit) × (size_limit ≤ 2 ^ 14 + 1)) }
+        ensures refused { IsOkUnless result RecordError.SizeLimit }
+        ensures set { OnOk result (self.new
+            ≡ record self.old { key = record self.old.key { size_limit = size_limit } }) }
+        ensures kept { OnErr result (self.new ≡ self.old) }
+    {
+        self.key.set_size_limit(size_limit)
+    }
+
+    /// Goes on under the next key and IV of this direction, once a KeyUpdate was written, or the last record of the
+    /// handshake: number and limit begin anew (RFC 8446 sections 5.3 and 7.2).
+    pub fn update(&mut self, key: &[u8], iv: [u8; NONCE_LEN]) -> Result<(), RecordError>
+        ensures accepted { IsOk result ↔ (length key.now ≡ key_len self.old.key.algorithm) }
+        ensures refused { IsOkUnless result RecordError.KeyLength }
+        ensures updated { OnOk result (self.new
+            ≡ record self.old { key = rekeyed self.old.key key.now iv; number = 0 }) }
+        ensures kept { OnErr result (self.new ≡ self.old) }
+    {
+        self.key = self.key.next(key, iv)?;
+        self.number = 0;
+        Ok(())
+    }
+
+    /// Seals the next record in place, as `RecordKey::seal_at` does, and returns its length. A refusal changes nothing,
+    /// and spends no number.
+    pub fn seal(
+        &mut self,
+        content_type: ContentType,
+        bytes: &mut [u8],
+        content_len: usize,
+        padding: usize,
+    ) -> Result<usize, RecordError>
+        ensures accepted { IsOk result ↔ ((self.old.number < self.old.limit)
+            × IsAllowed self.old.key.size_limit content_type content_len padding
+            × (content_len + padding + 22 ≤ length bytes.old)) }
+        ensures ended { self.old.limit ≤ self.old.number → IsErrOf result RecordError.SequenceEnded }
+        ensures refused { self.old.number < self.old.limit → IfErr result
+            (RefusesToSeal self.old.key.size_limit content_type content_len padding (length bytes.old)) }
+        ensures len { IfOk result (λ n. n ≡ content_len + padding + 22) }
+        ensures sealed { OnOk result (bytes.new ≡ record_at self.old.key self.old.number (record {
+          content_type = content_type;
+          content = slice_range bytes.old HEADER_LEN (HEADER_LEN + content_len);
+          padding = padding;
+        }) ++ drop (content_len + padding + 22) bytes.old) }
+        ensures counted { OnOk result (self.new ≡ record self.old { number = self.old.number + 1 }) }
+        ensures kept { OnErr result (bytes.new ≡ bytes.old) }
+        ensures stands { OnErr result (self.new ≡ self.old) }
+    {
+        if self.number >= self.limit {
+            return Err(RecordError::SequenceEnded);
+        }
+        let len = self
+            .key
+            .seal_at(self.number, content_type, bytes, content_len, padding)?;
+        self.number += 1;
+        Ok(len)
+    }
+
+    /// Appends the next record to `out`: the content, its type and `padding` zeros, which only the length of the record
+    /// shows. The record is 22 bytes longer than content and padding.
     ///
-    /// A refused write appends nothing and spends no number. It fails with `OutOfMemory` only where the capacity
-    /// of `out` is too small for the record.
+    /// A refused write appends nothing and spends no number. It fails with `OutOfMemory` only where the capacity of `out`
+    /// is too small for the record.
     pub fn write(
         &mut self,
-        content_type: u8,
+        content_type: ContentType,
         content: &[u8],
         padding: usize,
         out: &mut Vec<u8>,
     ) -> Result<(), RecordError>
-        ensures accepted { OnOk result (¬ IsEnded self.old × IsAllowed
-            (record { content_type = content_type; content = content.now; padding = padding })) }
-        ensures written { OnOk result (out.new.items ≡ out.old.items
-            ++ record_of self.old.key.bytes (next_nonce self.old)
-            (record { content_type = content_type; content = content.now; padding = padding })) }
-        ensures counted { OnOk result (self.new ≡ advanced self.old) }
-        ensures refused { IfErr result (RefusesToWrite self.old
-            (record { content_type = content_type; content = content.now; padding = padding })) }
+        ensures accepted { OnOk result ((self.old.number < self.old.limit)
+            × IsAllowed self.old.key.size_limit content_type (length content.now) padding) }
+        ensures ended { self.old.limit ≤ self.old.number → IsErrOf result RecordError.SequenceEnded }
+        ensures refused { self.old.number < self.old.limit
+            → ¬ IsAllowed self.old.key.size_limit content_type (length content.now) padding
+            → IfErr result (RefusesContent self.old.key.size_limit content_type (length content.now) padding) }
+        ensures memory { self.old.number < self.old.limit
+            → IsAllowed self.old.key.size_limit content_type (length content.now) padding
+            → IsOkUnless result RecordError.OutOfMemory }
         ensures room { IsErrOf result RecordError.OutOfMemory
             → vec_capacity out.old < vec_len out.old + length content.now + padding + 22 }
+        ensures written { OnOk result (out.new.items ≡ out.old.items
+            ++ record_at self.old.key self.old.number
+            (record { content_type = content_type; content = content.now; padding = padding })) }
+        ensures counted { OnOk result (self.new ≡ record self.old { number = self.old.number + 1 }) }
         ensures kept { OnErr result ((self.new ≡ self.old) × (out.new.items ≡ out.old.items)) }
     {
-        let inner_len = inner_len(content_type, content.len(), padding)?;
-        if self.is_ended() {
+        if self.number >= self.limit {
             return Err(RecordError::SequenceEnded);
         }
-        let header = header_of(inner_len + TAG_LEN);
+        self.key.inner_len(content_type, content.len(), padding)?;
         let start = out.len();
-        append_unsealed(out, &header, content_type, content, padding)?;
-        self.seal(&mut out.as_mut_slice()[start..]);
+        append_unsealed(out, content, padding)?;
+        let record = &mut out.as_mut_slice()[start..];
+        self.key
+            .seal_whole(self.number, content_type, record, content.len());
+        self.number += 1;
         Ok(())
     }
+}
 
-    /// Seals a record where it stands: its header, its inner plaintext, and 16 bytes of room for the tag.
-    fn seal(&mut self, bytes: &mut [u8])
-        requires open_before { ¬ IsEnded self.old }
-        requires room { HEADER_LEN + 16 ≤ length bytes.old }
-        requires fits { length bytes.old ≤ 2 ^ 15 }
-        ensures sealed { bytes.new ≡ sealed_packet self.old.key.bytes (next_nonce self.old) HEADER_LEN bytes.old }
-        ensures counted { self.new ≡ advanced self.old }
-    {
-        let Ok(()) = self.key.seal_packet_in_place(bytes, HEADER_LEN) else {
-            unreachable!();
-        };
-        self.left -= 1;
-    }
+/// Appends a content with room for its record around it, or nothing where the `Vec` can't grow.
+fn append_unsealed(out: &mut Vec<u8>, content: &[u8], padding: usize) -> Result<(), AllocError>
+    requires { length content.now + padding ≤ 2 ^ 14 }
+    ensures ok { OnOk result (out.new.items
+        ≡ out.old.items ++ (replicate 5 0 ++ (content.now ++ replicate (padding + 17) 0))) }
+    ensures err { OnErr result (out.new.items ≡ out.old.items) }
+    ensures full { OnErr result
+        (vec_capacity out.old < vec_len out.old + length content.now + padding + 22) }
+{
+    let rest = padding + 1 + TAG_LEN;
+    out.reserve(HEADER_LEN + content.len() + rest)?;
+    out.extend_from_slice(&[0; HEADER_LEN])?;
+    out.extend_from_slice(content)?;
+    out.resize(out.len() + rest, 0)
 }

@@ -6,4 +6,5 @@ pub mod messages;
 pub mod one_message;
 pub mod one_nonce;
 pub mod quic_connection;
+pub mod record_stream;
 pub mod streams;

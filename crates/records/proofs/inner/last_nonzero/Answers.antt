@@ -1,15 +1,15 @@
 use Rattle.std.proofs.Common.{◌≡◌, ◌<◌, ◌++◌, ◌∷◌, length, get_or, replicate, take, ap, ◌∙◌, sym, rules, ◌-◌, ◌+◌, arith}
 use Rattle.records.proofs
 use proofs.InnerLemmas.{zeros_behind}
-use proofs.inner.content_of.Goals as goal
+use proofs.inner.last_nonzero.Goals as goal
 
-pub returns-else-content_type-eq0-clause-found : goal.returns-else-content_type-eq0-clause-found
-returns-else-content_type-eq0-clause-found c =
+pub returns-else-code-eq0-clause-found : goal.returns-else-code-eq0-clause-found
+returns-else-code-eq0-clause-found c =
     let inner = c.args.inner.now in
     let len = c.loop-i.len in
     let short : len < length inner = search rules in
-    let read : c.in_ok-content_type.field-0.now ≡ get_or inner len 0 = search rules in (
-      c.if-content_type-eq0.false,
+    let read : c.in_ok-code.field-0.now ≡ get_or inner len 0 = search rules in (
+      c.if-code-eq0.false,
       short,
       length inner - (len + 1),
       zeros_behind inner len short (λ k l h. c.loop-i.invariant.zeros k l (omega arith))

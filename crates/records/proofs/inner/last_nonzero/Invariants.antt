@@ -1,5 +1,5 @@
 use Rattle.std.proofs.Common.{◌≡◌, ◌≢◌, ◌⊎◌, ◌<◌, ◌≤◌, ℕ, get_or}
-use Rattle.records.proofs.inner.content_of.Given as goal
+use Rattle.records.proofs.inner.last_nonzero.Given as goal
 
 -- what comes after `len` so far is zero, and what is at `len`, unless it is the first byte, isn't
 abbrev pub invariant-loop-i : goal.invariant-loop-i

@@ -1,0 +1,53 @@
+//! Content types.
+
+ghost use Rattle.std.specs.Prelude.{◌≡◌, ◌↔◌, IsTrue, IfSome, IfNone};
+ghost use Rattle.records.specs.Record.{type_code, IsUnknown};
+
+/// The type of what a protected record carries (RFC 8446 section 5.1).
+///
+/// These three are all that a protected record may have: a protected ChangeCipherSpec ends the connection (section 5).
+#[derive(Clone, Copy, Debug, PartialEq, Eq)]
+pub enum ContentType {
+    /// An alert, of 2 bytes.
+    Alert = 21,
+    /// Handshake messages, or a part of one.
+    Handshake = 22,
+    /// Application data.
+    ApplicationData = 23,
+}
+
+impl ContentType {
+    /// The number of this type.
+    pub fn code(self) -> u8
+        ensures { result ≡ type_code self }
+    {
+        match self {
+            ContentType::Alert => 21,
+            ContentType::Handshake => 22,
+            ContentType::ApplicationData => 23,
+        }
+    }
+
+    /// The type with this number.
+    pub fn from_code(code: u8) -> Option<Self>
+        ensures known { IfSome result (λ content_type. type_code content_type ≡ code) }
+        ensures unknown { IfNone result (IsUnknown code) }
+    {
+        match code {
+            21 => Some(ContentType::Alert),
+            22 => Some(ContentType::Handshake),
+            23 => Some(ContentType::ApplicationData),
+            _ => None,
+        }
+    }
+
+    /// Whether a record of this type may have no content: of application data alone (RFC 8446 sections 5.1 and 5.4).
+    pub fn may_be_empty(self) -> bool
+        ensures { IsTrue result ↔ (self ≡ ContentType.ApplicationData) }
+    {
+        match self {
+            ContentType::ApplicationData => true,
+            ContentType::Alert | ContentType::Handshake => false,
+        }
+    }
+}

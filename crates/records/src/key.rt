@@ -1,0 +1,243 @@
+//! A key that seals and opens records by their numbers.
+
+ghost use Rattle.std.specs.Prelude.{◌≡◌, ◌+◌, ◌-◌, ◌^◌, ◌≤◌, ◌↔◌, ◌++◌, length, drop, take, slice_range, IsOk, IfOk, IsOkUnless, IfErr, OnOk, OnErr};
+ghost use Rattle.aead_ciphers.specs.Algorithm.{key_len};
+ghost use Rattle.records.specs.Keys.{rekeyed};
+ghost use Rattle.records.specs.Record.{record_at, Carries, Inner, IsAllowed};
+ghost use Rattle.records.specs.Refusals.{RefusesContent, RefusesToSeal};
+ghost use Rattle.records.specs.Steps.{content_at, LeavesInner, LeavesRefused, Opens, OpensMessage, RefusesMessage};
+
+use crate::content_type::ContentType;
+use crate::header::header_in;
+use crate::inner::{content_of, frame, inner_len};
+use crate::record_error::RecordError;
+use crate::{HEADER_LEN, MAX_SIZE_LIMIT, MIN_SIZE_LIMIT, TAG_LEN};
+use aead_ciphers::aead::{Aad, Algorithm, LessSafeKey, NONCE_LEN, UnboundKey, nonce_of};
+use std::marker::Model;
+
+/// A key and IV of one direction, which seals and opens records by their numbers, in place and without memory.
+///
+/// It counts nothing: that no number is used twice for sealing is the caller's matter. A `Writer` and a `Reader` count.
+#[derive(Drop)]
+pub struct RecordKey {
+    key: LessSafeKey,
+    iv: [u8; NONCE_LEN],
+    size_limit: usize,
+}
+
+impl Model for RecordKey {
+    ghost use Rattle.std.specs.Prelude.{◌+◌, ◌^◌, ◌≤◌};
+    ghost use Rattle.records.specs.Keys.{KeyState};
+
+    ghost Value = { KeyState };
+
+    ghost view = { λ key. record {
+      algorithm = key.key.algorithm;
+      bytes = key.key.bytes;
+      iv = key.iv;
+      size_limit = key.size_limit;
+    } };
+
+    ghost invariant = { λ key. key.size_limit ≤ 2 ^ 14 + 1 };
+}
+
+impl RecordKey {
+    /// The key of these bytes. `iv` is the write_iv (RFC 8446 section 7.3). The size limit is 2^14 + 1.
+    pub fn new(
+        algorithm: &'static Algorithm,
+        key: &[u8],
+        iv: [u8; NONCE_LEN],
+    ) -> Result<Self, RecordError>
+        ensures accepted { IsOk result ↔ (length key.now ≡ key_len algorithm.now) }
+        ensures refused { IsOkUnless result RecordError.KeyLength }
+        ensures made { IfOk result (λ made. made
+            ≡ record { algorithm = algorithm.now; bytes = key.now; iv = iv; size_limit = 2 ^ 14 + 1 }) }
+    {
+        match UnboundKey::new(algorithm, key) {
+            Ok(key) => Ok(RecordKey {
+                key: LessSafeKey::new(key),
+                iv,
+                size_limit: MAX_SIZE_LIMIT,
+            }),
+            Err(_) => Err(RecordError::KeyLength),
+        }
+    }
+
+    /// The next key of the direction, of the same algorithm and with the same size limit.
+    pub(crate) fn next(&self, key: &[u8], iv: [u8; NONCE_LEN]) -> Result<Self, RecordError>
+        ensures accepted { IsOk result ↔ (length key.now ≡ key_len self.now.algorithm) }
+        ensures refused { IsOkUnless result RecordError.KeyLength }
+        ensures made { IfOk result (λ made. made ≡ rekeyed self.now key.now iv) }
+    {
+        let mut next = RecordKey::new(self.key.algorithm(), key, iv)?;
+        next.size_limit = self.size_limit;
+        Ok(next)
+    }
+
+    /// How many bytes an inner plaintext may have at most, its content type and padding counted.
+    pub fn size_limit(&self) -> usize
+        ensures { result ≡ self.now.size_limit }
+    {
+        self.size_limit
+    }
+
+    /// Sets how many bytes an inner plaintext may have at most: the RecordSizeLimit that the peer has sent for a key that
+    /// seals, and the one that was sent to it for a key that opens (RFC 8449 section 4), from 64 to 2^14 + 1.
+    pub fn set_size_limit(&mut self, size_limit: usize) -> Result<(), RecordError>
+        ensures accepted { IsOk result ↔ ((64 ≤ size_limit) × (size_limit ≤ 2 ^ 14 + 1)) }
+        ensures refused { IsOkUnless result RecordError.SizeLimit }
+        ensures set { OnOk result (self.new ≡ record self.old { size_limit = size_limit }) }
+        ensures kept { OnErr result (self.new ≡ self.old) }
+    {
+        if !(MIN_SIZE_LIMIT..=MAX_SIZE_LIMIT).contains(&size_limit) {
+            return Err(RecordError::SizeLimit);
+        }
+        self.size_limit = size_limit;
+        Ok(())
+    }
+
+    /// Seals the record of a number in place, and returns its length, `content_len` + `padding` + 22.
+    ///
+    /// The content is the `content_len` bytes of `bytes` from byte 5 on. The header is written before it, and its type,
+    /// `padding` zeros and the tag after it; the bytes after those stay. A number may be used once.
+    pub fn seal_at(
+        &self,
+        number: u64,
+        content_type: ContentType,
+        bytes: &mut [u8],
+        content_len: usize,
+        padding: usize,
+    ) -> Result<usize, RecordError>
+        ensures accepted { IsOk result ↔ (IsAllowed self.now.size_limit content_type content_len padding
+            × (content_len + padding + 22 ≤ length bytes.old)) }
+        ensures refused { IfErr result
+            (RefusesToSeal self.now.size_limit content_type content_len padding (length bytes.old)) }
+        ensures len { IfOk result (λ n. n ≡ content_len + padding + 22) }
+        ensures sealed { OnOk result (bytes.new ≡ record_at self.now number (record {
+          content_type = content_type;
+          content = slice_range bytes.old HEADER_LEN (HEADER_LEN + content_len);
+          padding = padding;
+        }) ++ drop (content_len + padding + 22) bytes.old) }
+        ensures kept { OnErr result (bytes.new ≡ bytes.old) }
+    {
+        let len = HEADER_LEN + self.inner_len(content_type, content_len, padding)? + TAG_LEN;
+        if bytes.len() < len {
+            return Err(RecordError::NoRoom);
+        }
+        self.seal_whole(number, content_type, &mut bytes[..len], content_len);
+        Ok(len)
+    }
+
+    /// The length of the inner plaintext of a content of this type and length.
+    pub(crate) fn inner_len(
+        &self,
+        content_type: ContentType,
+        content_len: usize,
+        padding: usize,
+    ) -> Result<usize, RecordError>
+        ensures accepted { IsOk result ↔ IsAllowed self.now.size_limit content_type content_len padding }
+        ensures len { IfOk result (λ n. n ≡ content_len + 1 + padding) }
+        ensures refused { IfErr result (RefusesContent self.now.size_limit content_type content_len padding) }
+        ensures fits { OnOk result (content_len + padding ≤ 2 ^ 14) }
+    {
+        inner_len(self.size_limit, content_type, content_len, padding)
+    }
+
+    /// Seals the record that is the whole of these bytes.
+    pub(crate) fn seal_whole(
+        &self,
+        number: u64,
+        content_type: ContentType,
+        bytes: &mut [u8],
+        content_len: usize,
+    )
+        requires room { content_len + 22 ≤ length bytes.old }
+        requires fits { length bytes.old ≤ 2 ^ 15 }
+        ensures { bytes.new ≡ record_at self.now number (record {
+          content_type = content_type;
+          content = take content_len (drop HEADER_LEN bytes.old);
+          padding = length bytes.old - 22 - content_len;
+        }) }
+    {
+        frame(bytes, content_type, content_len);
+        let nonce = nonce_of(&self.iv, number);
+        let Ok(()) = self.key.seal_packet_in_place(nonce, bytes, HEADER_LEN) else {
+            unreachable!();
+        };
+    }
+
+    /// Opens the record of a number, which is the whole of `bytes`, in place, and returns the type and the length of its
+    /// content: the content then is `bytes[5..5 + length]`.
+    ///
+    /// Header and tag stay. A refusal changes no byte, unless the record is authentic: after `NoContentType`,
+    /// `UnexpectedType` and `EmptyContent` its inner plaintext stands from byte 5 on.
+    pub fn open_at(
+        &self,
+        number: u64,
+        bytes: &mut [u8],
+    ) -> Result<(ContentType, usize), RecordError>
+        ensures opens { Opens self.now number bytes.old (content_at HEADER_LEN bytes.new result) }
+        ensures within { IfOk result (λ read. read.1 + 22 ≤ length bytes.old) }
+        ensures put { IfOk result (LeavesInner HEADER_LEN bytes.old bytes.new) }
+        ensures kept { IfErr result
+            (LeavesRefused self.now number bytes.old HEADER_LEN bytes.old bytes.new) }
+    {
+        let end = bytes.len();
+        self.open_to(number, bytes, HEADER_LEN, 0, end)
+    }
+
+    /// Opens the record that is `bytes[at..end]` into the bytes from `filled` on.
+    pub(crate) fn open_to(
+        &self,
+        number: u64,
+        bytes: &mut [u8],
+        filled: usize,
+        at: usize,
+        end: usize,
+    ) -> Result<(ContentType, usize), RecordError>
+        requires { (filled ≤ at + 5) × (at ≤ end) × (end ≤ length bytes.old) }
+        ensures opens { Opens self.now number (slice_range bytes.old at end)
+            (content_at filled bytes.new result) }
+        ensures within { IfOk result (λ read. filled + read.1 + 17 ≤ end) }
+        ensures put { IfOk result (LeavesInner filled bytes.old bytes.new) }
+        ensures kept { IfErr result
+            (LeavesRefused self.now number (slice_range bytes.old at end) filled bytes.old bytes.new) }
+    {
+        let len = self.open_message(number, bytes, filled, at, end)?;
+        match content_of(&bytes[filled..filled + len]) {
+            Ok(read) => Ok(read),
+            Err(error) => Err(error),
+        }
+    }
+
+    /// Opens an inner plaintext into the bytes from `filled` on, and returns its length.
+    fn open_message(
+        &self,
+        number: u64,
+        bytes: &mut [u8],
+        filled: usize,
+        at: usize,
+        end: usize,
+    ) -> Result<usize, RecordError>
+        requires { (filled ≤ at + 5) × (at ≤ end) × (end ≤ length bytes.old) }
+        ensures opened { IfOk result
+            (OpensMessage self.now number (slice_range bytes.old at end) filled bytes.old bytes.new) }
+        ensures within { IfOk result (λ n. filled + n + 16 ≤ end) }
+        ensures refused { IfErr result (RefusesMessage self.now number (slice_range bytes.old at end)) }
+        ensures none { OnErr result ((inner : Inner)
+            → ¬ Carries self.now number (slice_range bytes.old at end) inner) }
+        ensures kept { OnErr result (bytes.new ≡ bytes.old) }
+    {
+        let header = header_in(self.size_limit, &bytes[at..end])?;
+        let start = at + HEADER_LEN - filled;
+        let nonce = nonce_of(&self.iv, number);
+        let aad = Aad::from(header.as_slice());
+        match self
+            .key
+            .open_within_to_front(nonce, aad, &mut bytes[filled..end], start..)
+        {
+            Ok(len) => Ok(len),
+            Err(_) => Err(RecordError::Refused),
+        }
+    }
+}

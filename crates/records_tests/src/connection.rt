@@ -1,0 +1,126 @@
+//! TLS 1.3 connections of OpenSSL, both ways.
+
+use crate::captured::CAPTURED;
+use aead_ciphers::aead::{AES_128_GCM, AES_256_GCM, Algorithm};
+use hex::FromHex;
+use records::{Begins, ContentType, Reader, RecordKind, Writer, classify};
+use std::alloc::Global;
+use std::process::Abort;
+use std::test::Fail;
+
+/// What one side sent: its bytes in hex, and under each of its keys what the records carry.
+pub(crate) struct Direction {
+    pub(crate) stream: &'static [&'static str],
+    pub(crate) epochs: &'static [Epoch],
+}
+
+/// A key and its IV, and what the records under them carry.
+pub(crate) struct Epoch {
+    pub(crate) key: &'static str,
+    pub(crate) iv: &'static str,
+    pub(crate) records: &'static [Carried],
+}
+
+/// What a record carries, the content in hex.
+pub(crate) struct Carried {
+    pub(crate) content_type: ContentType,
+    pub(crate) content: &'static [&'static str],
+    pub(crate) padding: usize,
+}
+
+/// The bytes of lines of hex.
+fn bytes_of(alloc: Global, lines: &[&str]) -> Result<Vec<u8>, Fail> {
+    let mut bytes = Vec::new(alloc);
+    for line in lines {
+        bytes.extend_from_slice(hex::decode(alloc, line)?.as_slice())?;
+    }
+    Ok(bytes)
+}
+
+fn algorithm_of(key: &[u8]) -> &'static Algorithm {
+    if key.len() == 32 {
+        &AES_256_GCM
+    } else {
+        &AES_128_GCM
+    }
+}
+
+/// Where the next protected record of a stream begins, and how many bytes it takes. What stands before it in plaintext, a
+/// ClientHello or a ServerHello and a ChangeCipherSpec, is passed over.
+fn next_protected(stream: &[u8], from: usize) -> Result<(usize, usize), Fail> {
+    let mut at = from;
+    for _ in 0..3 {
+        let Some(rest) = stream.get(at..) else {
+            return Err(Fail::from("past the end"));
+        };
+        match classify(rest)? {
+            Begins::Record(RecordKind::Protected, len) => return Ok((at, len)),
+            Begins::Record(RecordKind::Handshake | RecordKind::ChangeCipherSpec, len) => at += len,
+            Begins::Record(RecordKind::Alert, _) => return Err(Fail::from("an alert")),
+            Begins::MoreNeeded(_) => return Err(Fail::from("cut off")),
+        }
+    }
+    Err(Fail::from("no protected record"))
+}
+
+/// Reads a record of a side and writes it again.
+fn record_there_and_back(
+    rt: &impl Abort,
+    alloc: Global,
+    carried: &Carried,
+    reader: &mut Reader,
+    writer: &mut Writer,
+    record: &[u8],
+) -> Result<(), Fail> {
+    let content = bytes_of(alloc, carried.content)?;
+    let mut bytes = record.to_vec(alloc)?;
+    let (content_type, read) = reader.read(bytes.as_mut_slice())?;
+    assert!(rt; content_type == carried.content_type);
+    assert_eq!(rt; read, content.as_slice());
+    let mut written = Vec::new(alloc);
+    writer.write(content_type, &content, carried.padding, &mut written)?;
+    assert_eq!(rt; written.as_slice(), record);
+    Ok(())
+}
+
+/// Reads all that a side sent, over its key updates, and writes each record again.
+fn there_and_back(rt: &impl Abort, alloc: Global, direction: &Direction) -> Result<(), Fail> {
+    let stream = bytes_of(alloc, direction.stream)?;
+    let mut at = 0;
+    let mut ends: Option<(Reader, Writer)> = None;
+    for epoch in direction.epochs {
+        let key = hex::decode(alloc, epoch.key)?;
+        let iv = <[u8; 12]>::from_hex(epoch.iv)?;
+        let (mut reader, mut writer) = match ends {
+            Some((mut reader, mut writer)) => {
+                reader.update(&key, iv)?;
+                writer.update(&key, iv)?;
+                (reader, writer)
+            }
+            None => (
+                Reader::new(algorithm_of(&key), &key, iv)?,
+                Writer::new(algorithm_of(&key), &key, iv)?,
+            ),
+        };
+        for carried in epoch.records {
+            let (start, len) = next_protected(&stream, at)?;
+            let Some(record) = stream.get(start..).and_then(|rest| rest.get(..len)) else {
+                return Err(Fail::from("past the end"));
+            };
+            record_there_and_back(rt, alloc, carried, &mut reader, &mut writer, record)?;
+            at = start + len;
+        }
+        ends = Some((reader, writer));
+    }
+    assert_eq!(rt; at, stream.len());
+    Ok(())
+}
+
+#[test]
+fn connections_of_openssl(rt: HostRuntime) -> Result<(), Fail> {
+    for (name, direction) in CAPTURED {
+        println!(rt; "{name}")?;
+        there_and_back(&rt, rt.alloc(), direction)?;
+    }
+    Ok(())
+}

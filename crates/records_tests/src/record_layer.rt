@@ -1,0 +1,532 @@
+//! Records of python's `cryptography`, both ways, and what is refused.
+
+use aead_ciphers::aead::{AES_128_GCM, AES_256_GCM, Algorithm};
+use hex::FromHex;
+use records::ContentType::{Alert, ApplicationData, Handshake};
+use records::{ContentType, MAX_CONTENT_LEN, Reader, RecordError, RecordKey, Writer};
+use std::alloc::Global;
+use std::process::Abort;
+use std::test::Fail;
+
+/// A record that `tools/read-records make` printed.
+struct Case {
+    content_type: ContentType,
+    content: &'static [u8],
+    padding: usize,
+    record: &'static str,
+}
+
+const OF_AES_128: [Case; 3] = [
+    Case {
+        content_type: Handshake,
+        content: b"hello",
+        padding: 0,
+        record: "1703030016fb09cba2090d58e73c31563352433d33c8bfd9f986eb",
+    },
+    Case {
+        content_type: ApplicationData,
+        content: b"",
+        padding: 0,
+        record: "1703030011d67694b177740aedfba37ae58563153ae0",
+    },
+    Case {
+        content_type: ApplicationData,
+        content: b"with zeros\0\0",
+        padding: 7,
+        record: "170303002486c888335ae8b7f06f0e8904bdb50a40532cb7cae9b995b53e555eec6fce9f8e8d77b915",
+    },
+];
+
+const OF_AES_256: [Case; 3] = [
+    Case {
+        content_type: Alert,
+        content: &[2, 50],
+        padding: 1,
+        record: "170303001438b3fac9f5ef2883dbf4b5e9d29a66668f3dd85a",
+    },
+    Case {
+        content_type: Handshake,
+        content: b"xxxxxxxxxxxxxxxxxxxxxxxxxxxxxxxxx",
+        padding: 14,
+        record: "17030300402f5255253d5775ebf4dc77b86889f0f7eba907ffa1a82fdbd9f4c8df9c6fd0b76bc472c3d1a24a346746e01483030bdfd9a1f1bc17b9b047980d9ca4891f7c1d",
+    },
+    Case {
+        content_type: ApplicationData,
+        content: b"",
+        padding: 3,
+        record: "1703030014b589a82976661c9db8fc622cd89f183d1e2d2e9f",
+    },
+];
+
+const KEY: [u8; 32] = [
+    0, 1, 2, 3, 4, 5, 6, 7, 8, 9, 10, 11, 12, 13, 14, 15, 16, 17, 18, 19, 20, 21, 22, 23, 24, 25,
+    26, 27, 28, 29, 30, 31,
+];
+
+const IV: [u8; 12] = [0, 1, 2, 3, 4, 5, 6, 7, 8, 9, 10, 11];
+
+/// The content, its type and the padding.
+fn inner_plaintext(alloc: Global, case: &Case) -> Result<Vec<u8>, Fail> {
+    let mut inner = case.content.to_vec(alloc)?;
+    inner.push(case.content_type.code())?;
+    for _ in 0..case.padding {
+        inner.push(0)?;
+    }
+    Ok(inner)
+}
+
+/// Writes the records of a run, and reads them again. Once the loan of a content has ended, the inner plaintext
+/// is at the front of the buffer, and every byte after it is the record's.
+fn there_and_back(
+    rt: &impl Abort,
+    alloc: Global,
+    algorithm: &'static Algorithm,
+    key: &[u8],
+    iv: [u8; 12],
+    cases: &[Case],
+) -> Result<(), Fail> {
+    let mut writer = Writer::new(algorithm, key, iv)?;
+    let mut reader = Reader::new(algorithm, key, iv)?;
+    for case in cases {
+        let mut record = Vec::new(alloc);
+        writer.write(case.content_type, case.content, case.padding, &mut record)?;
+        let expected = hex::decode(alloc, case.record)?;
+        assert_eq!(rt; record.as_slice(), expected.as_slice());
+        let (content_type, content) = reader.read(record.as_mut_slice())?;
+        assert_eq!(rt; content_type, case.content_type);
+        assert_eq!(rt; content, case.content);
+        let inner = inner_plaintext(alloc, case)?;
+        assert_eq!(rt; record.get(..inner.len()), Some(inner.as_slice()));
+        assert_eq!(rt; record.get(inner.len()..), expected.get(inner.len()..));
+    }
+    Ok(())
+}
+
+#[test]
+fn records_of_another_implementation(rt: HostRuntime) -> Result<(), Fail> {
+    there_and_back(&rt, rt.alloc(), &AES_128_GCM, &KEY[..16], IV, &OF_AES_128)?;
+    there_and_back(&rt, rt.alloc(), &AES_256_GCM, &KEY, [255; 12], &OF_AES_256)
+}
+
+/// Three records, and five bytes after them.
+fn three_records(alloc: Global) -> Result<Vec<u8>, Fail> {
+    let mut writer = Writer::new(&AES_128_GCM, &KEY[..16], IV)?;
+    let mut bytes = Vec::new(alloc);
+    for (content, padding) in [
+        (b"to".as_slice(), 0),
+        (b"get".as_slice(), 5),
+        (b"her".as_slice(), 1),
+    ] {
+        writer.write(ApplicationData, content, padding, &mut bytes)?;
+    }
+    bytes.extend_from_slice(b"later")?;
+    Ok(bytes)
+}
+
+/// What three records carry becomes one text in their buffer, and what follows them stays.
+#[test]
+fn gathered_in_one_buffer(rt: HostRuntime) -> Result<(), Fail> {
+    let mut reader = Reader::new(&AES_128_GCM, &KEY[..16], IV)?;
+    let mut bytes = three_records(rt.alloc())?;
+    assert!(rt; bytes.len() == 85);
+    for (filled, at, end) in [(0, 0, 24), (2, 24, 54), (5, 54, 80)] {
+        assert!(rt; filled <= at && at <= end && end <= bytes.len());
+        let (content_type, len) = reader.gather(bytes.as_mut_slice(), filled, at, end)?;
+        assert_eq!(rt;
+            (content_type, len),
+            (ApplicationData, if at == 0 { 2 } else { 3 })
+        );
+    }
+    assert_eq!(rt; bytes.get(..8), Some(b"together".as_slice()));
+    assert_eq!(rt; bytes.get(80..), Some(b"later".as_slice()));
+    Ok(())
+}
+
+/// Each bit of a record, flipped.
+#[test]
+fn every_flipped_bit_is_refused(rt: HostRuntime) -> Result<(), Fail> {
+    let record = <[u8; 27]>::from_hex(OF_AES_128[0].record)?;
+    for bit in 0..27 * 8 {
+        let mut changed = record;
+        changed[bit / 8] ^= 1 << (bit % 8);
+        let before = changed;
+        let mut reader = Reader::new(&AES_128_GCM, &KEY[..16], IV)?;
+        assert!(rt; reader.read(&mut changed).is_err(), "bit {bit}");
+        assert_eq!(rt; changed, before);
+    }
+    Ok(())
+}
+
+/// Why a new reader refuses these bytes, which must leave them as they are. Where the error has an alert, each later call
+/// must return `Closed`.
+fn refusal(rt: &impl Abort, alloc: Global, bytes: &mut [u8]) -> Result<RecordError, Fail> {
+    let mut reader = Reader::new(&AES_128_GCM, &KEY[..16], IV)?;
+    let before = bytes.to_vec(alloc)?;
+    let Some(error) = reader.read(bytes).err() else {
+        return Err(Fail::from("read"));
+    };
+    assert_eq!(rt; &*bytes, before.as_slice());
+    assert_eq!(rt; reader.is_closed(), error.alert().is_some());
+    if reader.is_closed() {
+        let mut next = hex::decode(alloc, OF_AES_128[0].record)?;
+        assert!(rt; reader.read(next.as_mut_slice()).err() == Some(RecordError::Closed));
+        assert!(rt; reader.update(&KEY[..16], IV) == Err(RecordError::Closed));
+        assert!(rt; reader.set_size_limit(64) == Err(RecordError::Closed));
+    }
+    Ok(error)
+}
+
+/// Bytes in hex, and why they are refused: none is one record, but for the last two, which aren't the next one.
+const REFUSED: [(&str, RecordError); 11] = [
+    ("17030300", RecordError::WrongLength),
+    (
+        "1603030016fb09cba2090d58e73c31563352433d33c8bfd9f986eb",
+        RecordError::UnexpectedRecord,
+    ),
+    (
+        "1703010016fb09cba2090d58e73c31563352433d33c8bfd9f986eb",
+        RecordError::UnexpectedRecord,
+    ),
+    (
+        "1703030016fb09cba2090d58e73c31563352433d33c8bfd9f986",
+        RecordError::WrongLength,
+    ),
+    (
+        "1703030016fb09cba2090d58e73c31563352433d33c8bfd9f986eb00",
+        RecordError::WrongLength,
+    ),
+    (
+        "1703030010fb09cba2090d58e73c31563352433d33",
+        RecordError::EncryptedRecordTooShort,
+    ),
+    ("1703034012", RecordError::InnerPlaintextTooLong),
+    ("1703034100", RecordError::InnerPlaintextTooLong),
+    ("1703034101", RecordError::EncryptedRecordTooLong),
+    (
+        "1703030011d67694b177740aedfba37ae58563153ae0",
+        RecordError::Refused,
+    ),
+    (
+        "1703030016fa09cba2090d58e73c31563352433d33c8bfd9f986eb",
+        RecordError::Refused,
+    ),
+];
+
+#[test]
+fn no_record(rt: HostRuntime) -> Result<(), Fail> {
+    for (text, expected) in REFUSED {
+        let mut bytes = hex::decode(rt.alloc(), text)?;
+        assert_eq!(rt;
+            refusal(&rt, rt.alloc(), bytes.as_mut_slice())?,
+            expected,
+            "{text}"
+        );
+    }
+    Ok(())
+}
+
+/// Authentic records that `tools/read-records make` printed, with their inner plaintexts, and why those are refused.
+const AUTHENTIC: [(&str, &[u8], RecordError); 5] = [
+    (
+        "1703030014936ca7ce192ea8e21527108e19c356659790e9ef",
+        &[0; 4],
+        RecordError::NoContentType,
+    ),
+    (
+        "1703030012927855ce3e6fca0400ecab73879ada8bf18d",
+        &[1, 20],
+        RecordError::UnexpectedType,
+    ),
+    (
+        "17030300149493a7ce406f9de28c94b3020b3588fb6b1befeb",
+        &[7, 255, 0, 0],
+        RecordError::UnexpectedType,
+    ),
+    (
+        "170303001186304669f65d9f79d56ee3e208948883b4",
+        &[21],
+        RecordError::EmptyContent,
+    ),
+    (
+        "1703030013856ca797d99d54caac2c7ae05a4f47ccf7dce0",
+        &[22, 0, 0],
+        RecordError::EmptyContent,
+    ),
+];
+
+/// The inner plaintext is at the front of the buffer, every byte after it is the record's, and the reader is closed.
+#[test]
+fn authentic_and_refused(rt: HostRuntime) -> Result<(), Fail> {
+    for (text, inner, expected) in AUTHENTIC {
+        let mut reader = Reader::new(&AES_128_GCM, &KEY[..16], IV)?;
+        let record = hex::decode(rt.alloc(), text)?;
+        let mut bytes = hex::decode(rt.alloc(), text)?;
+        assert!(rt;
+            reader.read(bytes.as_mut_slice()).err() == Some(expected),
+            "{text}"
+        );
+        assert_eq!(rt; bytes.get(..inner.len()), Some(inner));
+        assert_eq!(rt; bytes.get(inner.len()..), record.get(inner.len()..));
+        assert!(rt; reader.is_closed());
+    }
+    Ok(())
+}
+
+/// Content types, lengths of contents and of paddings that no record has, and why.
+const UNWRITTEN: [(ContentType, usize, usize, RecordError); 5] = [
+    (
+        ApplicationData,
+        MAX_CONTENT_LEN + 1,
+        0,
+        RecordError::ContentTooLong,
+    ),
+    (
+        ApplicationData,
+        MAX_CONTENT_LEN,
+        1,
+        RecordError::ContentTooLong,
+    ),
+    (ApplicationData, 0, usize::MAX, RecordError::ContentTooLong),
+    (Alert, 0, 0, RecordError::EmptyContent),
+    (Handshake, 0, 3, RecordError::EmptyContent),
+];
+
+#[test]
+fn no_such_content(rt: HostRuntime) -> Result<(), Fail> {
+    let mut writer = Writer::new(&AES_128_GCM, &KEY[..16], IV)?;
+    let mut record = Vec::new(rt.alloc());
+    for (content_type, len, padding, expected) in UNWRITTEN {
+        let content = Vec::from_elem(rt.alloc(), 7, len)?;
+        let refused = writer.write(content_type, &content, padding, &mut record);
+        assert!(rt; refused == Err(expected));
+        assert!(rt; record.is_empty());
+    }
+    assert_eq!(rt; writer.number(), 0);
+    Ok(())
+}
+
+/// Writes a content of `len` bytes with this padding, and reads it.
+fn of_length(
+    rt: &impl Abort,
+    alloc: Global,
+    writer: &mut Writer,
+    reader: &mut Reader,
+    len: usize,
+    padding: usize,
+) -> Result<(), Fail> {
+    let content = Vec::from_elem(alloc, 7, len)?;
+    let mut record = Vec::new(alloc);
+    writer.write(ApplicationData, &content, padding, &mut record)?;
+    let (_, read) = reader.read(record.as_mut_slice())?;
+    assert_eq!(rt; read, content.as_slice());
+    Ok(())
+}
+
+/// The longest content, and the longest padding, under the size limit of RFC 8446 and under a lower one, which stays over
+/// a key update.
+#[test]
+fn longest_records(rt: HostRuntime) -> Result<(), Fail> {
+    let alloc = rt.alloc();
+    let mut writer = Writer::new(&AES_128_GCM, &KEY[..16], IV)?;
+    let mut reader = Reader::new(&AES_128_GCM, &KEY[..16], IV)?;
+    of_length(&rt, alloc, &mut writer, &mut reader, MAX_CONTENT_LEN, 0)?;
+    of_length(&rt, alloc, &mut writer, &mut reader, 0, MAX_CONTENT_LEN)?;
+    writer.set_size_limit(64)?;
+    reader.set_size_limit(64)?;
+    writer.update(&KEY[16..], IV)?;
+    reader.update(&KEY[16..], IV)?;
+    of_length(&rt, alloc, &mut writer, &mut reader, 63, 0)?;
+    of_length(&rt, alloc, &mut writer, &mut reader, 3, 60)?;
+    let mut record = Vec::new(alloc);
+    let refused = writer.write(ApplicationData, &[7; 64], 0, &mut record);
+    assert!(rt; refused == Err(RecordError::ContentTooLong));
+    writer.set_size_limit(65)?;
+    writer.write(ApplicationData, &[7; 64], 0, &mut record)?;
+    let refused = reader.read(record.as_mut_slice()).err();
+    assert!(rt; refused == Some(RecordError::InnerPlaintextTooLong));
+    Ok(())
+}
+
+#[test]
+fn size_limits(rt: HostRuntime) -> Result<(), Fail> {
+    let mut key = RecordKey::new(&AES_128_GCM, &KEY[..16], IV)?;
+    for (size_limit, is_allowed) in [(63, false), (64, true), (16385, true), (16386, false)] {
+        let before = key.size_limit();
+        assert_eq!(rt; key.set_size_limit(size_limit).is_ok(), is_allowed);
+        assert_eq!(rt;
+            key.size_limit(),
+            if is_allowed { size_limit } else { before }
+        );
+    }
+    Ok(())
+}
+
+/// After the last record nothing is written or read, until there is another key.
+#[test]
+fn the_end_of_the_sequence(rt: HostRuntime) -> Result<(), Fail> {
+    let alloc = rt.alloc();
+    let mut writer = Writer::with_limit(&AES_128_GCM, &KEY[..16], IV, 2)?;
+    let mut reader = Reader::with_limit(&AES_128_GCM, &KEY[..16], IV, 2)?;
+    for _ in 0..2 {
+        of_length(&rt, alloc, &mut writer, &mut reader, 3, 0)?;
+    }
+    assert_eq!(rt; (writer.remaining(), reader.remaining()), (0, 0));
+    let mut record = Vec::new(alloc);
+    let refused = writer.write(ApplicationData, b"one", 0, &mut record);
+    assert!(rt; refused == Err(RecordError::SequenceEnded));
+    assert!(rt; record.is_empty());
+    let mut bytes = <[u8; 27]>::from_hex(OF_AES_128[0].record)?;
+    assert!(rt; reader.read(&mut bytes).err() == Some(RecordError::SequenceEnded));
+    writer.update(&KEY[16..], IV)?;
+    reader.update(&KEY[16..], IV)?;
+    assert_eq!(rt; (writer.remaining(), reader.remaining()), (2, 2));
+    of_length(&rt, alloc, &mut writer, &mut reader, 3, 0)
+}
+
+#[test]
+fn limits_where_none_is_set(rt: HostRuntime) -> Result<(), Fail> {
+    let writer = Writer::new(&AES_128_GCM, &KEY[..16], IV)?;
+    let reader = Reader::new(&AES_128_GCM, &KEY[..16], IV)?;
+    assert_eq!(rt;
+        (writer.remaining(), reader.remaining()),
+        (1 << 24, 1 << 24)
+    );
+    assert_eq!(rt; (writer.size_limit(), reader.size_limit()), (16385, 16385));
+    Ok(())
+}
+
+#[test]
+fn a_key_of_another_length(rt: HostRuntime) {
+    assert!(rt; Writer::new(&AES_256_GCM, &KEY[..16], IV).err() == Some(RecordError::KeyLength));
+    assert!(rt; Reader::new(&AES_128_GCM, &KEY, IV).err() == Some(RecordError::KeyLength));
+}
+
+/// A record that is made around its content, in a slice.
+#[test]
+fn sealed_in_place(rt: HostRuntime) -> Result<(), Fail> {
+    let mut writer = Writer::new(&AES_128_GCM, &KEY[..16], IV)?;
+    let mut record = [0; 27];
+    record[5..10].copy_from_slice(b"hello");
+    assert!(rt; writer.seal(Handshake, &mut record, 5, 1) == Err(RecordError::NoRoom));
+    assert!(rt; writer.seal(Handshake, &mut record, 5, 0) == Ok(27));
+    assert_eq!(rt; record, <[u8; 27]>::from_hex(OF_AES_128[0].record)?);
+    assert_eq!(rt; writer.number(), 1);
+    Ok(())
+}
+
+/// The record that `tools/read-records make` printed for number 2^64 - 1, both ways, with bytes after it, and a reader that
+/// starts two records later than the first.
+#[test]
+fn by_number(rt: HostRuntime) -> Result<(), Fail> {
+    let key = RecordKey::new(&AES_128_GCM, &KEY[..16], IV)?;
+    let last = <[u8; 26]>::from_hex("17030300151ebc8ad8e3b12c91d4263ea37368226008651065e6")?;
+    let mut record = [9; 28];
+    record[5..9].copy_from_slice(b"last");
+    assert!(rt;
+        key.seal_at(u64::MAX, ApplicationData, &mut record[..25], 4, 0) == Err(RecordError::NoRoom)
+    );
+    assert_eq!(rt;
+        key.seal_at(u64::MAX, ApplicationData, &mut record, 4, 0)?,
+        26
+    );
+    assert_eq!(rt; record.get(..26), Some(last.as_slice()));
+    assert_eq!(rt; record.get(26..), Some([9; 2].as_slice()));
+    let mut received = last;
+    assert!(rt; key.open_at(u64::MAX, &mut received) == Ok((ApplicationData, 4)));
+    assert_eq!(rt; received.get(5..9), Some(b"last".as_slice()));
+    let mut reader = Reader::new(&AES_128_GCM, &KEY[..16], IV)?.starting_at(2);
+    let mut third = hex::decode(rt.alloc(), OF_AES_128[2].record)?;
+    assert!(rt; reader.read(third.as_mut_slice())?.1 == OF_AES_128[2].content);
+    assert_eq!(rt; reader.number(), 3);
+    Ok(())
+}
+
+/// Each error with its text, and the number of its alert (RFC 8446 section 6).
+const TEXTS: [(RecordError, &str, u8); 17] = [
+    (
+        RecordError::KeyLength,
+        "the key hasn't the length of the algorithm's keys",
+        0,
+    ),
+    (
+        RecordError::SizeLimit,
+        "the size limit isn't from 64 to 2^14 + 1",
+        0,
+    ),
+    (
+        RecordError::ContentTooLong,
+        "the content and its padding are longer than the size limit allows for",
+        0,
+    ),
+    (
+        RecordError::NoRoom,
+        "the buffer has no room for the record",
+        0,
+    ),
+    (RecordError::OutOfMemory, "no memory for the record", 0),
+    (
+        RecordError::SequenceEnded,
+        "the limit of records under this key is reached",
+        0,
+    ),
+    (
+        RecordError::Closed,
+        "the reader is closed, since it has refused a record",
+        0,
+    ),
+    (
+        RecordError::WrongLength,
+        "the record's length isn't the one that its header gives",
+        0,
+    ),
+    (
+        RecordError::UnexpectedRecord,
+        "the header is that of another record",
+        10,
+    ),
+    (
+        RecordError::PlaintextTooLong,
+        "the plaintext record has more than 2^14 bytes",
+        22,
+    ),
+    (
+        RecordError::EncryptedRecordTooLong,
+        "the encrypted record has more than 2^14 + 256 bytes",
+        22,
+    ),
+    (
+        RecordError::InnerPlaintextTooLong,
+        "the inner plaintext is longer than the size limit",
+        22,
+    ),
+    (
+        RecordError::EncryptedRecordTooShort,
+        "the encrypted record has fewer than 17 bytes",
+        20,
+    ),
+    (RecordError::Refused, "the record's tag is another", 20),
+    (
+        RecordError::NoContentType,
+        "the inner plaintext has no content type",
+        10,
+    ),
+    (
+        RecordError::UnexpectedType,
+        "a protected record has no such content type",
+        10,
+    ),
+    (
+        RecordError::EmptyContent,
+        "an alert or handshake record has no content",
+        10,
+    ),
+];
+
+#[test]
+fn texts_and_alerts(rt: HostRuntime) -> Result<(), Fail> {
+    for (error, text, alert) in TEXTS {
+        assert_eq!(rt; format!(in rt.alloc(); "{error}")?.as_str(), text);
+        assert_eq!(rt; error.alert().map_or(0, |alert| alert as u8), alert);
+    }
+    Ok(())
+}

@@ -1,0 +1,97 @@
+//! Streams: what they begin with, and the example of the README over two keys.
+
+use crate::example::receive;
+use aead_ciphers::aead::AES_128_GCM;
+use records::{Begins, ContentType, Reader, RecordError, RecordKind, Writer, classify};
+use std::alloc::Global;
+use std::test::Fail;
+use uses::record_stream;
+
+const IV: [u8; 12] = [3; 12];
+
+const NEXT_IV: [u8; 12] = [4; 12];
+
+/// Bytes in hex, and what they begin with (RFC 8446 sections 5, 5.1 and 5.2).
+const BEGIN: [(&str, Result<Begins, RecordError>); 24] = [
+    ("", Ok(Begins::MoreNeeded(5))),
+    ("16030100", Ok(Begins::MoreNeeded(5))),
+    ("1603010002", Ok(Begins::MoreNeeded(7))),
+    (
+        "16030100020100",
+        Ok(Begins::Record(RecordKind::Handshake, 7)),
+    ),
+    (
+        "1603030001ff1603",
+        Ok(Begins::Record(RecordKind::Handshake, 6)),
+    ),
+    ("1603034000", Ok(Begins::MoreNeeded(16389))),
+    ("1603034001", Err(RecordError::PlaintextTooLong)),
+    ("1603030000", Err(RecordError::UnexpectedRecord)),
+    ("1503030002022e14", Ok(Begins::Record(RecordKind::Alert, 7))),
+    ("1503030003", Err(RecordError::UnexpectedRecord)),
+    ("1503030000", Err(RecordError::UnexpectedRecord)),
+    ("1403030001", Ok(Begins::MoreNeeded(6))),
+    (
+        "140303000101",
+        Ok(Begins::Record(RecordKind::ChangeCipherSpec, 6)),
+    ),
+    ("140303000102", Err(RecordError::UnexpectedRecord)),
+    ("140301000101", Err(RecordError::UnexpectedRecord)),
+    ("1403030002", Err(RecordError::UnexpectedRecord)),
+    ("1703030011", Ok(Begins::MoreNeeded(22))),
+    ("1703034011", Ok(Begins::MoreNeeded(16406))),
+    ("1703034012", Err(RecordError::InnerPlaintextTooLong)),
+    ("1703034101", Err(RecordError::EncryptedRecordTooLong)),
+    ("1703030010", Err(RecordError::EncryptedRecordTooShort)),
+    ("1703010011", Err(RecordError::UnexpectedRecord)),
+    ("1803030003", Err(RecordError::UnexpectedRecord)),
+    ("474554202f", Err(RecordError::UnexpectedRecord)),
+];
+
+#[test]
+fn what_streams_begin_with(rt: HostRuntime) -> Result<(), Fail> {
+    for (text, expected) in BEGIN {
+        let bytes = hex::decode(rt.alloc(), text)?;
+        assert!(rt; classify(&bytes) == expected, "{text}");
+    }
+    Ok(())
+}
+
+/// Data, a KeyUpdate, data under the next key, and the first bytes of another record.
+fn two_epochs(alloc: Global) -> Result<Vec<u8>, Fail> {
+    let mut writer = Writer::new(&AES_128_GCM, &[1; 16], IV)?;
+    let mut bytes = Vec::new(alloc);
+    writer.write(ContentType::ApplicationData, b"to", 3, &mut bytes)?;
+    writer.write(ContentType::Handshake, &[24, 0, 0, 1, 0], 0, &mut bytes)?;
+    writer.update(&[2; 16], NEXT_IV)?;
+    writer.write(ContentType::ApplicationData, b"gether", 0, &mut bytes)?;
+    bytes.extend_from_slice(&[23, 3, 3, 0])?;
+    Ok(bytes)
+}
+
+#[test]
+fn two_epochs_in_one_buffer(rt: HostRuntime) -> Result<(), Fail> {
+    let mut reader = Reader::new(&AES_128_GCM, &[1; 16], IV)?;
+    let mut bytes = two_epochs(rt.alloc())?;
+    let (filled, taken) = receive(&mut reader, bytes.as_mut_slice(), &[2; 16], NEXT_IV)?;
+    assert_eq!(rt; filled, 8);
+    assert_eq!(rt; Some(taken), bytes.len().checked_sub(4));
+    assert_eq!(rt; bytes.get(..8), Some(b"together".as_slice()));
+    assert_eq!(rt; reader.number(), 1);
+    Ok(())
+}
+
+/// The caller of the crate `uses`: a ChangeCipherSpec is dropped, and data is read.
+#[test]
+fn sends_and_receives(rt: HostRuntime) -> Result<(), Fail> {
+    let mut writer = Writer::new(&AES_128_GCM, &[1; 16], IV)?;
+    let mut reader = Reader::new(&AES_128_GCM, &[1; 16], IV)?;
+    let mut bytes = Vec::from_slice(rt.alloc(), &[20, 3, 3, 0, 1, 1])?;
+    record_stream::send(&mut writer, b"hello", &mut bytes)?;
+    assert!(rt; record_stream::receive(&mut reader, bytes.as_mut_slice()) == Ok((6, None)));
+    let mut rest = bytes.get(6..).unwrap_or(&[]).to_vec(rt.alloc())?;
+    let received = record_stream::receive(&mut reader, rest.as_mut_slice());
+    assert!(rt; received == Ok((27, Some((ContentType::ApplicationData, 5)))));
+    assert_eq!(rt; rest.get(..5), Some(b"hello".as_slice()));
+    Ok(())
+}

@@ -1,0 +1,50 @@
+//! An end of a TLS 1.3 connection: application data goes out, and the records of a stream come in.
+
+ghost use Rattle.std.specs.Prelude.{◌≡◌, ◌+◌, ◌<◌, ◌≤◌, ◌++◌, ℕ, length, take, slice_range, IsTrue, IsOk, IfOk, IfSome, OnOk, OnErr, vec_len, vec_capacity};
+ghost use Rattle.records.specs.Record.{Carries, record_at};
+
+use records::{Begins, ContentType, Reader, RecordError, RecordKind, Writer, classify};
+
+/// Sends application data, without padding.
+pub fn send(writer: &mut Writer, message: &[u8], out: &mut Vec<u8>) -> Result<(), RecordError>
+    ensures sent { OnOk result (out.new.items ≡ out.old.items ++ record_at writer.old.key writer.old.number
+        (record { content_type = ContentType.ApplicationData; content = message.now; padding = 0 })) }
+    ensures accepted { writer.old.number < writer.old.limit
+        → length message.now < writer.old.key.size_limit
+        → vec_len out.old + length message.now + 22 ≤ vec_capacity out.old → IsOk result }
+    ensures counted { OnOk result (writer.new ≡ record writer.old { number = writer.old.number + 1 }) }
+    ensures refused { OnErr result ((writer.new ≡ writer.old) × (out.new.items ≡ out.old.items)) }
+{
+    writer.write(ContentType::ApplicationData, message, 0, out)
+}
+
+/// Takes the first record of a stream, before the peer's Finished: a protected one is opened to the front, and a
+/// ChangeCipherSpec is dropped. Returns how many bytes were taken, 0 where more have to come, and the type and the length
+/// of what was read.
+pub fn receive(
+    reader: &mut Reader,
+    bytes: &mut [u8],
+) -> Result<(usize, Option<(ContentType, usize)>), RecordError>
+    ensures taken { IfOk result (λ received. received.0 ≤ length bytes.old) }
+    ensures carried { IfOk result (λ received. IfSome received.1 (λ read. (padding : ℕ)
+        × Carries reader.old.key reader.old.number (slice_range bytes.old 0 received.0) (record {
+          content_type = read.0;
+          content = take read.1 bytes.new;
+          padding = padding;
+        }))) }
+    ensures counted { IfOk result (λ received. IfSome received.1 (λ _. reader.new
+        ≡ record reader.old { number = reader.old.number + 1 })) }
+    ensures closed { IsTrue reader.old.is_closed → reader.new ≡ reader.old }
+{
+    match classify(bytes)? {
+        Begins::Record(RecordKind::Protected, len) => {
+            let read = reader.gather(bytes, 0, 0, len)?;
+            Ok((len, Some(read)))
+        }
+        Begins::Record(RecordKind::ChangeCipherSpec, len) => Ok((len, None)),
+        Begins::Record(RecordKind::Handshake | RecordKind::Alert, _) => {
+            Err(RecordError::UnexpectedRecord)
+        }
+        Begins::MoreNeeded(_) => Ok((0, None)),
+    }
+}
