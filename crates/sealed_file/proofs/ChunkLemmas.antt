@@ -7,15 +7,16 @@ use proofs.lemmas.List.FromFn.{fill_by_all}
 use Rattle.aead_ciphers_base.specs.Aes.{aes}
 use Rattle.aead_ciphers.specs.Gcm.{gcm_decrypted, Opened}
 use Rattle.sealed_file.specs
-use specs.Format.{chunk_len, magic_and_version, chunk_nonce, header}
+use specs.Format.{ChunkKey, chunk_len, chunk_nonce}
 use specs.Opening.{HasTag, chunk_tag, ciphertext_of, opened_chunk}
 
 -- a list by its items
 pub items : (n : ℕ) (xs : List ℕ) → length xs ≡ n → xs ≡ map (λ i. get_or xs i 0) (range_with_len 0 n)
 items n xs h = fill_by_all (λ i. get_or xs i 0) xs n 0 h (λ k _. refl)
 
--- what is said under one prefix, of one kind of chunk and of one sealed chunk, is said under equal ones
-pub of_same : (P : List ℕ → Bool → List ℕ → Type 0) {p q : List ℕ} {b d : Bool} {l m : List ℕ} → p ≡ q → b ≡ d → l ≡ m → P p b l → P q d m
+-- what is said under one key, of one kind of chunk and of one sealed chunk, is said under equal ones
+pub of_same : (P : ChunkKey → Bool → List ℕ → Type 0) {k k' : ChunkKey} {b d : Bool} {l m : List ℕ} → k ≡ k' → b ≡ d → l ≡ m
+    → P k b l → P k' d m
 of_same P e f g h = rw (← e, ← f, ← g) h
 
 -- a ciphertext and its tag
@@ -29,31 +30,31 @@ module _ (ciphertext received : List ℕ) (sixteen : length received ≡ 16) whe
   back_is : drop (length (ciphertext ++ received) - 16) (ciphertext ++ received) ≡ received
   back_is = drop_at ciphertext received (length (ciphertext ++ received) - 16) tag_at
 
-  module _ (key prefix : List ℕ) (number : ℕ) (is_last : Bool) where
-    pub has_tag : received ≡ chunk_tag key prefix number is_last ciphertext → HasTag key prefix number is_last (ciphertext ++ received)
+  module _ (k : ChunkKey) (number : ℕ) (is_last : Bool) where
+    pub has_tag : received ≡ chunk_tag k number is_last ciphertext → HasTag k number is_last (ciphertext ++ received)
     has_tag right = record {
       size = omega (arith, length-append ciphertext received, sixteen);
-      tag = back_is ∙ right ∙ ap (chunk_tag key prefix number is_last) (sym front_is);
+      tag = back_is ∙ right ∙ ap (chunk_tag k number is_last) (sym front_is);
     }
 
-    pub tag_is : HasTag key prefix number is_last (ciphertext ++ received) → received ≡ chunk_tag key prefix number is_last ciphertext
-    tag_is had = sym back_is ∙ had.tag ∙ ap (chunk_tag key prefix number is_last) front_is
+    pub tag_is : HasTag k number is_last (ciphertext ++ received) → received ≡ chunk_tag k number is_last ciphertext
+    tag_is had = sym back_is ∙ had.tag ∙ ap (chunk_tag k number is_last) front_is
 
     -- the ciphertext is opened exactly if it has the tag, and becomes the message
-    pub opens_tagged : (accepts : Bool) (new : List ℕ) → length prefix ≡ 7 → length ciphertext ≤ chunk_len
-        → Opened (aes key) (chunk_nonce prefix number is_last) (header prefix) received 0 ciphertext accepts new
-        → ((accepts ≡ true) ↔ HasTag key prefix number is_last (ciphertext ++ received))
-        × (accepts ≡ true → new ≡ opened_chunk key prefix number is_last (ciphertext ++ received))
+    pub opens_tagged : (accepts : Bool) (new : List ℕ) → length k.header ≤ 60 → length ciphertext ≤ chunk_len
+        → Opened (aes k.key) (chunk_nonce k.prefix number is_last) k.header received 0 ciphertext accepts new
+        → ((accepts ≡ true) ↔ HasTag k number is_last (ciphertext ++ received))
+        × (accepts ≡ true → new ≡ opened_chunk k number is_last (ciphertext ++ received))
     unfolding opened_chunk
-    opens_tagged accepts new seven short o = (
+    opens_tagged accepts new small short o = (
       (
         λ yes. has_tag (o.accepted.0 yes).2,
         λ had. o.accepted.1 (
           omega arith,
-          record { aad = omega (arith, length-append magic_and_version prefix, seven); message = omega (arith, short) },
+          record { aad = omega (arith, small); message = omega (arith, short) },
           tag_is had,
         ),
       ),
       λ yes. (rw (yes, drop_all (length ciphertext) ciphertext (omega arith), append-nil) at o.buffer)
-          ∙ ap (gcm_decrypted (aes key) (chunk_nonce prefix number is_last)) (sym front_is),
+          ∙ ap (gcm_decrypted (aes k.key) (chunk_nonce k.prefix number is_last)) (sym front_is),
     )

@@ -14,8 +14,8 @@ returns-in_err-reserve-clause-refused c =
 
 pub loop-number-init : goal.loop-number-init
 loop-number-init c = record {
-  at = open_start c.args.key.now _ c.args.sealed.now _ (Some c.args.out.now.items) (Some c.reserve.new.self.items)
-      c.in_ok-reserve.ensures.items c.in-Some.ensures.cases.same c.in_ok-prefix.ensures.accepted c.in_ok-prefix.ensures.prefix;
+  at = open_start c.args.key.now _ c.args.sealed.now (Some c.args.out.now.items) (Some c.reserve.new.self.items)
+      c.in_ok-reserve.ensures.items (c.in_ok-cipher.ensures.accepted.0 refl) c.in_ok-cipher.ensures.cipher;
   room =
       omega (arith, c.opened_len.ensures c.args.key.now, c.in_ok-reserve.ensures.ok, c.in_ok-reserve.ensures.len);
 }

@@ -1,4 +1,4 @@
-use Rattle.std.proofs.Common.{◌≡◌, vec_len, arith, ◌∙◌}
+use Rattle.std.proofs.Common.{◌≡◌, vec_len, arith, ap, ◌∙◌}
 use Rattle.std.proofs.lemmas.Option.{IfSome_then}
 use Rattle.sealed_file.proofs
 use proofs.SealLemmas.{seal_end, seal_few, seal_long, seal_next, seal_start, sealing_stop, sealing_stop_in, stop_behind_header, stop_in_header}
@@ -10,17 +10,17 @@ returns-in_err-chunk-clause-beginning g c = stop _ _ (λ file. begins_none _ _)
 
 pub returns-in_err-write_bytes-clause-beginning : goal.returns-in_err-write_bytes-clause-beginning
 returns-in_err-write_bytes-clause-beginning g c =
-    stop _ _ (λ file. stop_in_header _ _ _ _ _ _ (c.as_slice.ensures ∙ c.header_of-header.ensures) c.in_err-write_bytes.ensures.err)
+    stop _ _ (λ file. stop_in_header _ _ _ _ _ (c.header.ensures.bytes ∙ ap (λ k. k.header) c.new-cipher.ensures) c.in_err-write_bytes.ensures.err)
 
 pub returns-in_err-read_piece-clause-beginning : goal.returns-in_err-read_piece-clause-beginning
 returns-in_err-read_piece-clause-beginning g c = stop _ _ (λ file.
-    stop_behind_header _ _ _ _ _ _ (c.as_slice.ensures ∙ c.header_of-header.ensures) c.in_ok-write_bytes.ensures.ok)
+    stop_behind_header _ _ _ _ _ (c.header.ensures.bytes ∙ ap (λ k. k.header) c.new-cipher.ensures) c.in_ok-write_bytes.ensures.ok)
 
 pub loop-number-init : goal.loop-number-init
 loop-number-init g c = (
   c.in_ok-read_piece.ensures.size,
   IfSome_then _ c.in_ok-read_piece.ensures.bytes (λ file read.
-      seal_start _ _ _ _ _ _ _ _ (c.as_slice.ensures ∙ c.header_of-header.ensures) c.in_ok-write_bytes.ensures.ok read),
+      seal_start _ _ _ _ _ _ _ (c.header.ensures.bytes ∙ ap (λ k. k.header) c.new-cipher.ensures) c.in_ok-write_bytes.ensures.ok read),
 )
 
 pub returns-in_err-read_piece-2-clause-beginning : goal.returns-in_err-read_piece-2-clause-beginning
