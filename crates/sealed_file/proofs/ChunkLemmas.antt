@@ -1,6 +1,6 @@
 -- What the calls for one chunk say.
 use Rattle.std.proofs
-use proofs.Common.{◌≡◌, ◌↔◌, ℕ, Bool, true, ◌-◌, ◌≤◌, List, ◌++◌, length, drop, map, get_or, refl, sym, ap, ◌∙◌, arith, append-nil, drop_at, length-append, take_at}
+use proofs.Common.{◌≡◌, ◌↔◌, ℕ, Bool, true, ◌+◌, ◌-◌, ◌≤◌, List, ◌++◌, length, drop, map, get_or, refl, sym, ap, ap₂, ◌∙◌, arith, append_assoc, append-nil, drop-drop, drop_at, length-append, take, take_at}
 use Rattle.std.specs.List.{range_with_len}
 use proofs.lemmas.List.{drop_all}
 use proofs.lemmas.List.FromFn.{fill_by_all}
@@ -13,6 +13,31 @@ use specs.Opening.{HasTag, chunk_tag, ciphertext_of, opened_chunk}
 -- a list by its items
 pub items : (n : ℕ) (xs : List ℕ) → length xs ≡ n → xs ≡ map (λ i. get_or xs i 0) (range_with_len 0 n)
 items n xs h = fill_by_all (λ i. get_or xs i 0) xs n 0 h (λ k _. refl)
+
+-- what chunks are sealed under
+abbrev pub under : (key prefix header : List ℕ) → ChunkKey
+under key prefix header = record { key = key; prefix = prefix; header = header }
+
+-- a list whose front is done, and of which the bytes after it are put next
+pub put_next : (zeros done bytes now new : List ℕ) (at : ℕ) → at ≡ length done → now ≡ done ++ drop (length done) zeros
+    → new ≡ take at now ++ (bytes ++ drop (at + length bytes) now) → new ≡ (done ++ bytes) ++ drop (length (done ++ bytes)) zeros
+put_next zeros done bytes now new at at_is now_is new_is =
+    let rest = drop (length done) zeros in
+    let after : drop (at + length bytes) now ≡ drop (length (done ++ bytes)) zeros =
+    sym (drop-drop (length bytes) at now)
+    ∙ ap (drop (length bytes)) (ap (drop at) now_is ∙ drop_at done rest at (sym at_is))
+    ∙ drop-drop (length bytes) (length done) zeros ∙ ap (λ n. drop n zeros) (sym (length-append done bytes)) in
+    new_is ∙ ap₂ (λ xs ys. xs ++ (bytes ++ ys)) (ap (take at) now_is ∙ take_at done rest at (sym at_is)) after
+    ∙ sym (append_assoc done bytes (drop (length (done ++ bytes)) zeros))
+
+-- all of it is done
+pub put_end : (zeros done now : List ℕ) → now ≡ done ++ drop (length done) zeros → length done ≡ length zeros → now ≡ done
+put_end zeros done now now_is all =
+    now_is ∙ ap (λ l. done ++ l) (drop_all (length done) zeros (omega arith)) ∙ append-nil done
+
+-- what chunks are sealed under, by its parts
+pub same_key : {a b c d e f : List ℕ} → a ≡ b → c ≡ d → e ≡ f → under a c e ≡ under b d f
+same_key x y z = rw (x, y, z)
 
 -- what is said under one key, of one kind of chunk and of one sealed chunk, is said under equal ones
 pub of_same : (P : ChunkKey → Bool → List ℕ → Type 0) {k k' : ChunkKey} {b d : Bool} {l m : List ℕ} → k ≡ k' → b ≡ d → l ≡ m

@@ -14,7 +14,8 @@ added_where_one_fell_out l fits =
     let shifted = l * 2 % 2 ^ 128 in
     elim (cases_lt l (2 ^ 127)) [
       | inl low ↦
-          let none : l / 2 ^ 127 ≡ 0 = div-mul-add 0 (2 ^ 127) l low in
+          let same : l ≡ 0 * 2 ^ 127 + l = omega arith in
+          let none : l / 2 ^ 127 ≡ 0 = ap (λ n. n / 2 ^ 127) same ∙ div-mul-add 0 (2 ^ 127) l low in
           ap (λ n. bit_xor shifted (n * 0x87)) none ∙ xor_zero_r shifted
           ∙ ap (λ b. if b then shifted else bit_xor shifted 0x87) (sym (lt-ltb l (2 ^ 127) low))
       | inr high ↦

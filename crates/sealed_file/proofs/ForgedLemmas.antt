@@ -20,8 +20,8 @@ same_bytes : (xs ys : List ℕ) → Either (xs ≡ ys)
 same_bytes xs ys =
     let decides = bytes_eq-Decides xs ys in
     elim (cases_Bool (bytes_eq xs ys)) [
-      | inl yes ↦ inl (decides.0 yes)
-      | inr no ↦ inr (λ e. both_ways _ no (decides.1 e))
+      | inl is_same ↦ inl (decides.0 is_same)
+      | inr differs ↦ inr (λ e. both_ways _ differs (decides.1 e))
     ]
 
 same_flag : (b d : Bool) → Either (b ≡ d)
@@ -34,10 +34,10 @@ same_flag false true = inr (λ e. cc)
 first_without : (P : ℕ → Type 0) → ((i : ℕ) → Either (P i)) → (n : ℕ) → ((i : ℕ) → i < n → P i) ⊎ ((i : ℕ) × (i < n) × ¬ P i)
 first_without P either zero = inl (λ i h. absurd (omega arith))
 first_without P either (suc n) = elim (first_without P either n) [
-  | inr (i, (within, not)) ↦ inr (i, omega arith, not)
+  | inr (i, within, lacks) ↦ inr (i, omega arith, lacks)
   | inl before ↦ (elim (either n) [
     | inl here ↦ inl (λ i h. below_more P n before here i (omega arith))
-    | inr not ↦ inr (n, omega arith, not)
+    | inr lacks ↦ inr (n, omega arith, lacks)
   ])
 ]
 
@@ -50,9 +50,9 @@ module _ (key : List ℕ) (k : ChunkKey) (file other : List ℕ) (h : IsHeaderOf
   made_or_not i = elim (cases_lt i (last_of file + 1)) [
     | inr past ↦ inr (λ made. let within = made.in_range in absurd (omega arith))
     | inl within ↦ (elim (same_flag (i == last_chunk other) (i == last_of file)) [
-      | inr not ↦ inr (λ made. not made.kind)
+      | inr other_kind ↦ inr (λ made. other_kind made.kind)
       | inl kind ↦ (elim (same_bytes (chunk_of other i) (sealed_chunk_of k file i)) [
-        | inr not ↦ inr (λ made. not made.same)
+        | inr differs ↦ inr (λ made. differs made.same)
         | inl same ↦ inl (record { in_range = omega arith; kind = kind; same = same })
       ])
     ])
@@ -75,13 +75,13 @@ module _ (key : List ℕ) (k : ChunkKey) (file other : List ℕ) (h : IsHeaderOf
   pub has_forged : ¬ (other ≡ sealed_file k file) → IsSealed key other → (i : ℕ) × IsForged k file other i
   has_forged differs accepted = elim (first_without Made made_or_not (last_chunk other + 1)) [
     | inl all ↦ absurd (differs (all_made all))
-    | inr (i, (within, not)) ↦ (
+    | inr (i, within, lacks) ↦ (
       i,
       record {
         in_range = omega arith;
         tag = subst (λ j. HasTag j i (i == last_chunk other) (chunk_of other i)) (ap (chunk_key key) header_is ∙ h.back)
             (accepted.tags.each i within);
-        new = not;
+        new = lacks;
       },
     )
   ]

@@ -5,11 +5,14 @@ use Rattle.std.specs.Prelude.{codes, slice_index}
 use proofs.lemmas.Bool.{cases_eq, cond_both}
 use proofs.lemmas.List.{take-append-le}
 use proofs.Math.Seq.{take-add}
+use Rattle.std.specs.Int.{to_be_bytes, w16}
+use Rattle.aead_ciphers_base.specs.Aes.{aes}
+use Rattle.aead_ciphers_base.specs.Bytes.{◌⊕◌, zero_block}
 use Rattle.aead_ciphers.proofs.MessageLaws.{length_aes}
 use Rattle.sealed_file.specs
 use specs.declared.error.FileError.{FileError}
 use specs.declared.error.FileError.TheVariants.{AnotherMagic, AnotherVersion, WrongKey, EndsEarly}
-use specs.Derivation.{cmac_of_block, commitment, derived_block, derived_key}
+use specs.Derivation.{cmac_of_block, commitment, derived_block, first_subkey}
 use specs.Format.{ChunkKey, magic_and_version, version_1, version_2}
 use specs.Opening.{HasHeader, chunk_key, header_len, header_of}
 use specs.Refusals.{HeaderRefuses, IsOfAnotherKey, IsVersion2}
@@ -55,11 +58,18 @@ length-header_of-le file =
 
 -- ---- what a header is made of
 
-pub length-commitment : (key context : List ℕ) → length (commitment key context) ≡ 32
+length-derived_block : (key context : List ℕ) (i : ℕ) → length (derived_block key context i) ≡ 16
 unfolding derived_block cmac_of_block
+length-derived_block key context i = length_aes key (first_subkey (aes key zero_block) ⊕ (to_be_bytes w16 i ++ 88 ∷ 0 ∷ context))
+
+length-commitment : (key context : List ℕ) → length (commitment key context) ≡ 32
 length-commitment key context =
-    length-append (derived_block key context 3) (derived_block key context 4)
-    ∙ omega (arith, length_aes key _, length_aes key _)
+    omega (
+      arith,
+      length-append (derived_block key context 3) (derived_block key context 4),
+      length-derived_block key context 3,
+      length-derived_block key context 4,
+    )
 
 module _ (key random : List ℕ) where
   abbrev header : List ℕ
@@ -177,7 +187,13 @@ module _ (key header : List ℕ) where
       let size : length (take 19 (drop 9 header)) ≡ 19 = omega (arith, wrong.size, length-take 19 (drop 9 header), length-drop 9 header) in
       wrong.other (ap (drop 28) same ∙ commitment_2 key (take 19 (drop 9 header)) size
       ∙ ap (commitment key) (take-take 12 19 (drop 9 header) (omega arith)))
-  refused_is_none error h = absurd h
+  refused_is_none error h has = absurd h
+
+  -- a file with a header under a key has all of it
+  pub size_2 : slice_index header 8 ≡ 2 → HasHeader key header → length header ≡ 60
+  size_2 version has =
+      let e = size_of_2 version has in
+      omega (arith, e, length-take 19 (drop 9 header), length-drop 9 header)
 
   -- a header of version 2 that isn't the one that is made of its random bytes has another commitment
   pub another_key : IsVersion2 header → length header ≡ 60 → ¬ (header ≡ made) → IsOfAnotherKey key header
@@ -198,6 +214,17 @@ module _ (key header : List ℕ) where
           ∙ sym (header_is key (take 19 (drop 9 header)))
         );
       }
+
+pub header_fits : (key file : List ℕ) → HasHeader key (header_of file) → header_len file ≤ length file
+header_fits key file has =
+    let cut = length-take (header_len file) file in
+    elim (cases_eq (slice_index file 8) 2) [
+      | inl e ↦
+          let (low, high) = header_len_range file in
+          let version : slice_index (header_of file) 8 ≡ 2 = get_or-take (header_len file) file 8 0 (omega arith) ∙ e in
+          omega (arith, header_len-2 file e, size_2 key (header_of file) version has, cut)
+      | inr ne ↦ let size = has.size in omega (arith, header_len-1 file ne, size, cut)
+    ]
 
 -- ---- the header of a sealed file
 

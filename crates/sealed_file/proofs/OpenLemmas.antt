@@ -1,19 +1,19 @@
 -- The steps of opening.
-use Rattle.std.proofs.Common.{◌≡◌, ℕ, Bool, true, false, inl, inr, IfSome, ◌+◌, ◌-◌, ◌*◌, ◌^◌, ◌<◌, ◌≤◌, List, [], ◌++◌, length, take, drop, sym, ap, subst, ◌∙◌, arith, below_more, ◌==◌, Option, Some, eqb-true, drop-drop, append-nil, ap₂}
+use Rattle.std.proofs.Common.{◌≡◌, ℕ, Result, Ok, Err, IfErr, IsOk, is_err, Bool, true, false, inl, inr, IfSome, ◌+◌, ◌-◌, ◌*◌, ◌^◌, ◌<◌, ◌≤◌, List, [], ◌++◌, length, take, drop, sym, ap, subst, ◌∙◌, arith, below_more, ◌==◌, Option, Some, eqb-true, drop-drop, append-nil, ap₂}
 use Rattle.std.specs.Io.KnownBytes.{Appends, Keeps}
 use Rattle.std.proofs.KnownBytes.{Appends-kept, Appends-nil, Appends-trans, Keeps-refl}
 use Rattle.std.proofs.lemmas.Bool.{eqb-false}
 use Rattle.std.proofs.Math.Seq.{take-add}
 use Rattle.sealed_file.specs
 use specs.declared.error.FileError.{FileError}
-use specs.declared.error.FileError.TheVariants.{TooLong, Io}
+use specs.declared.error.FileError.TheVariants.{TooLong, OutOfMemory, Io}
 use specs.Format.{ChunkKey, sealed_chunk_len}
 use specs.Opening.{HasTag, HasRightTag, HasHeader, AreRight, IsSealed, body_of, chunk_key, chunk_of, header_len, header_of, key_of, last_chunk, opened_chunk, opened_chunks, opened_file}
-use specs.Refusals.{HeaderRefuses, ChunkRefuses, RefusesAt, OpenRefuses}
+use specs.Refusals.{HeaderRefuses, ChunkAtRefuses, ChunkRefuses, FailsInMemory, RefusesAt, OpenRefuses}
 use specs.Streams.{AppendsBeginning, TakesFront}
 use Rattle.sealed_file.proofs
 use proofs.ChunkLemmas.{of_same}
-use proofs.HeaderLemmas.{header_len-take, header_len_range, header_of-header_of}
+use proofs.HeaderLemmas.{header_len-take, header_len_range, header_of-header_of, refused_is_none}
 use proofs.PieceLemmas.{joined_more}
 use proofs.StreamLemmas.{flag_is, next_read, begins_more, begins_none}
 
@@ -51,6 +51,46 @@ pub refused_at : (key file : List ℕ) (n : ℕ) (error : FileError) → Refuses
 refused_at key file n TooLong h = absurd h.wrong.1
 refused_at key file n (Io e) h = absurd h.wrong.1
 refused_at key file n error h = inr (n, h)
+
+-- a file that is refused isn't one that is accepted
+not_sealed : (key file : List ℕ) (lacks_room : Type 0) (error : FileError) → ¬ lacks_room
+    → FailsInMemory lacks_room (OpenRefuses key file) error → ¬ IsSealed key file
+not_sealed key file lacks_room OutOfMemory room h accepted = room h
+not_sealed key file lacks_room (Io e) room h accepted = absurd h
+not_sealed key file lacks_room TooLong room h accepted = let few = accepted.few in omega (arith, few, h.2)
+not_sealed key file lacks_room error room h accepted = elim h [
+  | inl header ↦ refused_is_none key (header_of file) error header accepted.front
+  | inr (n, at) ↦ at.wrong.0 (accepted.tags.each n (let within = at.in_range in omega arith))
+]
+
+-- nor is a chunk
+not_tagged : (key header : List ℕ) (number : ℕ) (is_last : Bool) (sealed : List ℕ) (lacks_room : Type 0) (error : FileError) → ¬ lacks_room
+    → FailsInMemory lacks_room (ChunkAtRefuses key header number is_last sealed) error
+    → ¬ (HasHeader key (header_of header) × HasTag (key_of key header) number is_last sealed)
+not_tagged key header number is_last sealed lacks_room OutOfMemory room h accepted = room h
+not_tagged key header number is_last sealed lacks_room (Io e) room h accepted = absurd h
+not_tagged key header number is_last sealed lacks_room error room h accepted = elim h [
+  | inl wrong ↦ refused_is_none key (header_of header) error wrong accepted.0
+  | inr wrong ↦ wrong.1 accepted.1
+]
+
+pub chunk_refuses_exactly : (key header : List ℕ) (number : ℕ) (is_last : Bool) (sealed : List ℕ) (lacks_room : Type 0)
+    (result : Result (Unit {0}) FileError) → is_err result ≡ true → ¬ lacks_room
+    → IfErr result (λ error. FailsInMemory lacks_room (ChunkAtRefuses key header number is_last sealed) error)
+    → (IsOk result → HasHeader key (header_of header) × HasTag (key_of key header) number is_last sealed)
+    × (HasHeader key (header_of header) × HasTag (key_of key header) number is_last sealed → IsOk result)
+chunk_refuses_exactly key header number is_last sealed lacks_room (Ok v) fails room h = let never : false ≡ true = fails in cc
+chunk_refuses_exactly key header number is_last sealed lacks_room (Err error) fails room h = (
+  λ ok. let never : false ≡ true = ok in cc,
+  λ accepted. absurd (not_tagged key header number is_last sealed lacks_room error room h accepted),
+)
+
+pub refuses_exactly : (key file : List ℕ) (lacks_room : Type 0) (result : Result (Unit {0}) FileError) → is_err result ≡ true → ¬ lacks_room
+    → IfErr result (λ error. FailsInMemory lacks_room (OpenRefuses key file) error)
+    → (IsOk result → IsSealed key file) × (IsSealed key file → IsOk result)
+refuses_exactly key file lacks_room (Ok v) fails room h = let never : false ≡ true = fails in cc
+refuses_exactly key file lacks_room (Err error) fails room h =
+    (λ ok. let never : false ≡ true = ok in cc, λ accepted. absurd (not_sealed key file lacks_room error room h accepted))
 
 -- ---- steps
 

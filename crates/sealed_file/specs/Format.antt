@@ -43,7 +43,7 @@ version_1 key prefix = record { key = key; prefix = prefix; header = magic_and_v
 unfoldable pub version_2 : (key random : List ℕ) → ChunkKey
 version_2 key random = let context = take 12 random in record {
   key = derived_key key context;
-  prefix = drop 12 random;
+  prefix = take 7 (drop 12 random);
   header = magic_and_version 2 ++ (random ++ commitment key context);
 }
 

@@ -4,7 +4,7 @@ ghost use Rattle.std.specs.Prelude.{◌≡◌, ◌+◌, ◌++◌, ◌<◌};
 ghost use Rattle.aead_ciphers_base.specs.Aes.{aes};
 ghost use Rattle.sealed_file.specs.Derivation.{cmac_of_block, derived_block, first_subkey};
 
-use crate::header::Context;
+use crate::header::{Context, put};
 use aead_ciphers_base::aes::{self, AES_256_KEY_LEN, BLOCK_LEN, Block, EncryptBlock, KeyBytes, Work, ZERO_BLOCK};
 use aead_ciphers_base::bb;
 
@@ -24,6 +24,7 @@ fn first_subkey(cipher_of_zero: Block) -> Block
 }
 
 /// CMAC of a message of one block (SP 800-38B section 6.2).
+#[tactic(auto, unfolding(crate::specs::Derivation::cmac_of_block))]
 fn cmac_of_block(cipher: &aes::Key, block: Block) -> Block
     ensures { result ≡ cmac_of_block cipher.now block }
 {
@@ -50,8 +51,8 @@ fn joined(first: &Block, second: &Block) -> [u8; AES_256_KEY_LEN]
     ensures { result ≡ first.now ++ second.now }
 {
     let mut bytes = [0; AES_256_KEY_LEN];
-    bytes[..BLOCK_LEN].copy_from_slice(first);
-    bytes[BLOCK_LEN..].copy_from_slice(second);
+    put(first, &mut bytes, 0);
+    put(second, &mut bytes, BLOCK_LEN);
     bytes
 }
 

@@ -1,6 +1,6 @@
 //! Headers, and what the chunks after one are sealed under.
 
-ghost use Rattle.std.specs.Prelude.{◌≡◌, ◌+◌, ◌≤◌, ◌↔◌, ◌++◌, length, take, drop, IsOk, IfOk, IfErr};
+ghost use Rattle.std.specs.Prelude.{ℕ, List, ◌≡◌, ◌+◌, ◌≤◌, ◌↔◌, ◌++◌, length, take, drop, IsOk, IfOk, IfErr};
 ghost use Rattle.sealed_file.specs.Format.{magic_and_version, version_1, version_2};
 ghost use Rattle.sealed_file.specs.Opening.{HasHeader, chunk_key, header_len, header_of};
 ghost use Rattle.sealed_file.specs.Refusals.{HeaderRefuses, IsVersion2};
@@ -21,8 +21,11 @@ pub const VERSION: u8 = 2;
 /// The version whose files are sealed under the key itself.
 const VERSION_1: u8 = 1;
 
+/// Where the version is.
+const VERSION_AT: usize = 8;
+
 /// The length of the magic and the version.
-const FRONT_LEN: usize = 9;
+const FRONT_LEN: usize = VERSION_AT + 1;
 
 /// The length of what the key of a file is derived for.
 pub const CONTEXT_LEN: usize = 12;
@@ -149,15 +152,15 @@ fn context_of(random: &[u8; RANDOM_LEN]) -> Context
 
 /// The random bytes after those.
 fn prefix_of(random: &[u8; RANDOM_LEN]) -> Prefix
-    ensures { result ≡ drop 12 random.now }
+    ensures { result ≡ take 7 (drop 12 random.now) }
 {
     let mut prefix = [0; PREFIX_LEN];
-    prefix.copy_from_slice(&random[CONTEXT_LEN..]);
+    prefix.copy_from_slice(&random[CONTEXT_LEN..RANDOM_LEN]);
     prefix
 }
 
 /// Puts bytes into others, from `at` on.
-fn put(bytes: &[u8], all: &mut [u8], at: usize)
+pub(crate) fn put(bytes: &[u8], all: &mut [u8], at: usize)
     requires { at + length bytes.now ≤ length all.old }
     ensures { all.new ≡ take at all.old ++ (bytes.now ++ drop (at + length bytes.now) all.old) }
 {
@@ -173,7 +176,7 @@ fn header_2_of(
 {
     let mut header = [0; HEADER_LEN];
     put(&MAGIC, &mut header, 0);
-    put(&[VERSION], &mut header, MAGIC.len());
+    put(&[VERSION], &mut header, VERSION_AT);
     put(random, &mut header, FRONT_LEN);
     put(commitment, &mut header, FRONT_LEN + RANDOM_LEN);
     header
@@ -185,7 +188,7 @@ pub(crate) fn header_len(file: &[u8]) -> usize
     ensures least { 16 ≤ result }
     ensures most { result ≤ 60 }
 {
-    if file.len() >= FRONT_LEN && file[FRONT_LEN - 1] == VERSION {
+    if file.len() >= FRONT_LEN && file[VERSION_AT] == VERSION {
         HEADER_LEN
     } else {
         HEADER_1_LEN
@@ -217,10 +220,10 @@ fn random_in(header: &[u8; HEADER_LEN]) -> [u8; RANDOM_LEN]
 /// makes of its random bytes.
 fn version_2_in(key: &FileKey, header: &[u8]) -> Result<ChunkCipher, FileError>
     requires version { IsVersion2 header.now }
-    requires size { length header.now ≤ 60 }
-    ensures accepted { IsOk result
-        ↔ (header.now ≡ (version_2 key.now (take 19 (drop 9 header.now))).header) }
-    ensures cipher { IfOk result (λ cipher. cipher ≡ version_2 key.now (take 19 (drop 9 header.now))) }
+    requires least { 16 ≤ length header.now }
+    requires most { length header.now ≤ 60 }
+    ensures accepted { IsOk result ↔ HasHeader key.now header.now }
+    ensures cipher { IfOk result (λ cipher. cipher ≡ chunk_key key.now header.now) }
     ensures refused { IfErr result (λ error. HeaderRefuses key.now header.now error) }
 {
     let Some(header) = header.as_array::<HEADER_LEN>() else {
@@ -233,12 +236,12 @@ fn version_2_in(key: &FileKey, header: &[u8]) -> Result<ChunkCipher, FileError>
     }
 }
 
-/// What the chunks after this header are sealed under.
-fn cipher_in(key: &FileKey, header: &[u8]) -> Result<ChunkCipher, FileError>
-    requires { length header.now ≤ header_len header.now }
-    ensures accepted { IsOk result ↔ HasHeader key.now header.now }
-    ensures cipher { IfOk result (λ cipher. cipher ≡ chunk_key key.now header.now) }
-    ensures refused { IfErr result (λ error. HeaderRefuses key.now header.now error) }
+/// The version in a header, and the prefix that it has in version 1.
+fn front_in(header: &[u8]) -> Result<(u8, Prefix), FileError>
+    ensures size { IsOk result → 16 ≤ length header.now }
+    ensures front { IfOk result (λ front. take 9 header.now ≡ magic_and_version front.0) }
+    ensures prefix { IfOk result (λ front. front.1 ≡ take 7 (drop 9 header.now)) }
+    ensures refused { (key : List ℕ) → IfErr result (λ error. HeaderRefuses key header.now error) }
 {
     let Some(front) = header.first_chunk::<HEADER_1_LEN>() else {
         return Err(FileError::EndsEarly);
@@ -264,13 +267,27 @@ fn cipher_in(key: &FileKey, header: &[u8]) -> Result<ChunkCipher, FileError>
     if [m0, m1, m2, m3, m4, m5, m6, m7] != MAGIC {
         return Err(FileError::AnotherMagic);
     }
+    Ok((version, [p0, p1, p2, p3, p4, p5, p6]))
+}
+
+/// What the chunks after this header are sealed under.
+fn cipher_in(key: &FileKey, header: &[u8]) -> Result<ChunkCipher, FileError>
+    requires { length header.now ≤ header_len header.now }
+    ensures accepted { IsOk result ↔ HasHeader key.now header.now }
+    ensures cipher { IfOk result (λ cipher. cipher ≡ chunk_key key.now header.now) }
+    ensures refused { IfErr result (λ error. HeaderRefuses key.now header.now error) }
+{
+    let (version, prefix) = match front_in(header) {
+        Ok(front) => front,
+        Err(error) => return Err(error),
+    };
     if version == VERSION {
         return version_2_in(key, header);
     }
     if version != VERSION_1 {
         return Err(FileError::AnotherVersion(version));
     }
-    Ok(ChunkCipher::version_1(key, &[p0, p1, p2, p3, p4, p5, p6]))
+    Ok(ChunkCipher::version_1(key, &prefix))
 }
 
 /// What the chunks of a file that begins with these bytes are sealed under.

@@ -60,6 +60,9 @@ pub fn open_chunk_at(
     ensures tag { IsOk result → HasTag (key_of key.now header.now) number is_last sealed.now }
     ensures opened { OnOk result (out.new.items
         ≡ out.old.items ++ opened_chunk (key_of key.now header.now) number is_last sealed.now) }
+    ensures accepted { let grown = vec_len out.old + (length sealed.now - 16) in
+        grown ≤ vec_capacity out.old → (IsOk result ↔ (HasHeader key.now (header_of header.now)
+        × HasTag (key_of key.now header.now) number is_last sealed.now)) }
     ensures refused { let grown = vec_len out.old + (length sealed.now - 16) in
         IfErr result (λ error. FailsInMemory (vec_capacity out.old < grown)
         (ChunkAtRefuses key.now header.now number is_last sealed.now) error) }

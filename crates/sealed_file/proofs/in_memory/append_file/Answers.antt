@@ -2,6 +2,7 @@ use Rattle.std.proofs.Common.{◌≡◌, true, false, Some, length, arith, ap, r
 use Rattle.std.proofs.lemmas.Result.{err_from_is_err_and}
 use Rattle.sealed_file.specs.Opening.{opened_chunks}
 use Rattle.sealed_file.proofs
+use proofs.HeaderLemmas.{header_fits}
 use proofs.InMemoryLemmas.{chunk_fails, front_through, open_fits}
 use proofs.OpenLemmas.{chunk_refused, open_accepted, open_end, open_next, open_start}
 use proofs.PieceLemmas.{length-piece-le}
@@ -19,6 +20,9 @@ loop-number-init c = record {
   room =
       omega (arith, c.opened_len.ensures c.args.key.now, c.in_ok-reserve.ensures.ok, c.in_ok-reserve.ensures.len);
 }
+
+pub chunk_of-chunk-requires-clause-header : goal.chunk_of-chunk-requires-clause-header
+chunk_of-chunk-requires-clause-header c = header_fits c.args.key.now c.args.sealed.now c.loop-number.invariant.at.front
 
 pub append_opened-requires-clause-chunk : goal.append_opened-requires-clause-chunk
 append_opened-requires-clause-chunk c = rw c.chunk_of-chunk.ensures (length-piece-le _ _ c.loop-number.number)

@@ -1,4 +1,4 @@
-use Rattle.std.proofs.Common.{rules, Some, ◌++◌, length, arith, ap, ◌∙◌, ◌==◌, length-append}
+use Rattle.std.proofs.Common.{◌≡◌, rules, Some, ◌++◌, length, arith, ap, ◌∙◌, ◌==◌, length-append}
 use Rattle.std.proofs.lemmas.Result.{err_from_is_err_and}
 use Rattle.sealed_file.specs.Format.{version_2}
 use Rattle.sealed_file.proofs
@@ -10,6 +10,7 @@ use proofs.in_memory.seal_bytes.Goals as goal
 
 pub returns-in_err-reserve-clause-accepted : goal.returns-in_err-reserve-clause-accepted
 returns-in_err-reserve-clause-accepted c = λ room.
+    let nineteen : length c.args.random ≡ 19 = search rules in
     absurd (omega (
       arith,
       room,
@@ -17,11 +18,12 @@ returns-in_err-reserve-clause-accepted c = λ room.
       c.last_piece_of-last.ensures,
       length-sealed_file (version_2 c.args.key.now c.args.random) c.args.file.now,
       length-header_2 c.args.key.now c.args.random,
-      c.told-random,
+      nineteen,
     ))
 
 pub returns-in_err-reserve-clause-refused : goal.returns-in_err-reserve-clause-refused
 returns-in_err-reserve-clause-refused c =
+    let nineteen : length c.args.random ≡ 19 = search rules in
     let p = err_from_is_err_and c.from_residual.result c.from_residual.ensures.1 in
     rw (p.1, p.2) (omega (
       arith,
@@ -29,7 +31,7 @@ returns-in_err-reserve-clause-refused c =
       c.last_piece_of-last.ensures,
       length-sealed_file (version_2 c.args.key.now c.args.random) c.args.file.now,
       length-header_2 c.args.key.now c.args.random,
-      c.told-random,
+      nineteen,
     ))
 
 pub loop-number-init : goal.loop-number-init
@@ -38,11 +40,12 @@ loop-number-init c = record {
       (Some c.append.new.out.items) (c.header.ensures.bytes ∙ ap (λ k. k.header) c.new-cipher.ensures)
       (c.append.ensures.appended ∙ ap (λ l. l ++ c.header.result.now) c.in_ok-reserve.ensures.items);
   room =
+      let nineteen : length c.args.random ≡ 19 = search rules in
       omega (
         arith,
         length-sealed_file (version_2 c.args.key.now c.args.random) c.args.file.now,
       length-header_2 c.args.key.now c.args.random,
-      c.told-random,
+      nineteen,
         c.last_piece_of-last.ensures,
         c.in_ok-reserve.ensures.ok,
         c.in_ok-reserve.ensures.len,

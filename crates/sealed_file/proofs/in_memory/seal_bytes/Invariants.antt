@@ -8,6 +8,6 @@ use proofs.in_memory.seal_bytes.Given as goal
 
 abbrev pub invariant-loop-number : goal.invariant-loop-number
 invariant-loop-number l = record {
-  appended : Appends (Some l.fn.out.items) (Some l.out.items) (sealed_before (version_2 l.key l.random) l.file l.number);
-  room : vec_len l.fn.out + length (sealed_file (version_2 l.key l.random) l.file) ≤ vec_capacity l.out;
+  appended : Appends (Some l.fn.out.items) (Some l.out.items) (sealed_before (version_2 l.key l.fn.random) l.file l.number);
+  room : vec_len l.fn.out + length (sealed_file (version_2 l.key l.fn.random) l.file) ≤ vec_capacity l.out;
 }

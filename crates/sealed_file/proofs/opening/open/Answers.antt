@@ -4,7 +4,7 @@ use lemmas.Option.{IfSome_then}
 use lemmas.Result.{err_from_is_err_and}
 use Rattle.sealed_file.proofs
 use proofs.OpenLemmas.{header_fails, read_accepted, read_end, read_long, read_next, read_refused, read_start, read_stop, read_stop_in, stop_at_start}
-use proofs.StreamLemmas.{stop, stop_then}
+use proofs.StreamLemmas.{says_nothing, stop, stop_then}
 use proofs.opening.open.Goals as goal
 
 pub returns-in_err-chunk-clause-nothing_past : goal.returns-in_err-chunk-clause-nothing_past
@@ -82,3 +82,13 @@ returns-clause-refused g c = IfSome_then _ c.loop-number.invariant.1 (λ file s.
 
 pub returns-clause-nothing_past : goal.returns-clause-nothing_past
 returns-clause-nothing_past g c = IfSome_then _ c.loop-number.invariant.1 (λ file s. read_stop s)
+
+pub returns-in_err-read_piece-2-clause-refused : goal.returns-in_err-read_piece-2-clause-refused
+returns-in_err-read_piece-2-clause-refused g c =
+    let p = err_from_is_err_and c.from_residual-in_err-read_piece-2.result c.from_residual-in_err-read_piece-2.ensures.1 in
+    rw (p.1, p.2) (says_nothing _)
+
+pub returns-in_err-write_bytes-clause-refused : goal.returns-in_err-write_bytes-clause-refused
+returns-in_err-write_bytes-clause-refused g c =
+    let p = err_from_is_err_and c.from_residual-in_err-write_bytes.result c.from_residual-in_err-write_bytes.ensures.1 in
+    rw (p.1, p.2) (says_nothing _)

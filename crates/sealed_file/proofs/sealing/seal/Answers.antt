@@ -32,7 +32,7 @@ returns-in_err-seal_chunk-clause-beginning g c = stop_then _ _ c.loop-number.inv
 pub returns-in_err-write_bytes-2-clause-beginning : goal.returns-in_err-write_bytes-2-clause-beginning
 returns-in_err-write_bytes-2-clause-beginning g c = stop_then _ _ c.loop-number.invariant.1 (λ file s.
     sealing_stop_in s _ _ c.in_ok-read_piece-2.ensures.bytes c.is_empty-is_last.ensures c.read_piece-in-loop-number.new.piece.ok.0
-    (c.deref.ensures.value ∙ c.in_ok-seal_chunk.ensures) _ c.in_err-write_bytes-2.ensures.err)
+    (c.deref.ensures.value ∙ (rw c.new-cipher.ensures at c.in_ok-seal_chunk.ensures)) _ c.in_err-write_bytes-2.ensures.err)
 
 pub returns-then-is_last-clause-few : goal.returns-then-is_last-clause-few
 returns-then-is_last-clause-few g c = IfSome_then _ c.loop-number.invariant.1 (λ file s.
@@ -42,7 +42,7 @@ returns-then-is_last-clause-few g c = IfSome_then _ c.loop-number.invariant.1 (�
 pub returns-then-is_last-clause-sealed : goal.returns-then-is_last-clause-sealed
 returns-then-is_last-clause-sealed g c = IfSome_then _ c.loop-number.invariant.1 (λ file s.
     seal_end s _ _ c.in_ok-read_piece-2.ensures.bytes c.is_empty-is_last.ensures c.read_piece-in-loop-number.new.piece.ok.0
-    (c.deref.ensures.value ∙ c.in_ok-seal_chunk.ensures) _ c.if-is_last.true c.in_ok-write_bytes-2.ensures.ok)
+    (c.deref.ensures.value ∙ (rw c.new-cipher.ensures at c.in_ok-seal_chunk.ensures)) _ c.if-is_last.true c.in_ok-write_bytes-2.ensures.ok)
 
 pub loop-number-preserved : goal.loop-number-preserved
 loop-number-preserved g c =
@@ -52,7 +52,7 @@ loop-number-preserved g c =
       omega (arith, c.in_ok-read_piece-2.ensures.size, swapped),
       IfSome_then _ c.loop-number.invariant.1 (λ file s.
           seal_next s _ _ c.in_ok-read_piece-2.ensures.bytes c.is_empty-is_last.ensures next.ok.0
-          (c.deref.ensures.value ∙ c.in_ok-seal_chunk.ensures) _ same c.if-is_last.false c.in_ok-write_bytes-2.ensures.ok),
+          (c.deref.ensures.value ∙ (rw c.new-cipher.ensures at c.in_ok-seal_chunk.ensures)) _ same c.if-is_last.false c.in_ok-write_bytes-2.ensures.ok),
     )
 
 pub returns-clause-refused : goal.returns-clause-refused

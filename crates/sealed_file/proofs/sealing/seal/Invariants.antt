@@ -7,5 +7,5 @@ use proofs.sealing.seal.Given as goal
 
 abbrev pub invariant-loop-number : goal.invariant-loop-number
 invariant-loop-number g l = (vec_len l.chunk ≤ chunk_len) × IfSome (g.R.Read.remaining l.fn.input)
-    (λ file. Sealing (version_2 l.key l.random) file l.number l.chunk.items (g.R.Read.remaining l.input)
+    (λ file. Sealing (version_2 l.key l.fn.random) file l.number l.chunk.items (g.R.Read.remaining l.input)
     (g.W.Write.contents l.fn.output) (g.W.Write.contents l.output))
