@@ -1,39 +1,24 @@
 //! Files by names of any bytes. std's take UTF-8 text alone.
 
 use crate::name::Name;
-use libc::types::{statx, statx_timestamp};
+use std::fs::{self, Metadata};
 use std::io::{self, Read, Write};
+use std::os::unix::fs::{MetadataExt, PermissionsExt};
+use std::str;
 
 /// An open file. It is closed where it is dropped.
 pub struct File {
     fd: i32,
 }
 
-/// What the system says of a file.
-#[derive(Clone, Copy)]
-pub struct Stat {
-    /// The length in bytes.
-    pub len: u64,
-    mode: u32,
-    device: (u32, u32),
-    inode: u64,
+/// The file's group or all users may read it.
+pub fn others_may_read(metadata: &Metadata) -> bool {
+    metadata.permissions().mode() & 0o044 != 0
 }
 
-impl Stat {
-    /// It is a regular file: no directory, device or pipe.
-    pub fn is_regular(&self) -> bool {
-        self.mode & libc::S_IFMT == libc::S_IFREG
-    }
-
-    /// Its group or all users may read it.
-    pub fn others_may_read(&self) -> bool {
-        self.mode & 0o044 != 0
-    }
-
-    /// They are of one file.
-    pub fn is_same(&self, other: &Stat) -> bool {
-        self.device == other.device && self.inode == other.inode
-    }
+/// The metadata is of one file.
+pub fn are_same(first: &Metadata, second: &Metadata) -> bool {
+    first.dev() == second.dev() && first.ino() == second.ino()
 }
 
 /// The error of the call that failed last.
@@ -87,9 +72,11 @@ impl File {
         check(libc::fsync(self.fd))
     }
 
-    /// What the system says of the open file.
-    pub fn stat(&self) -> io::Result<Stat> {
-        stat_at(self.fd, b"", libc::AT_EMPTY_PATH)
+    /// What the system says of the open file. The kernel's /proc has a name for it.
+    pub fn metadata(&self, rt: &HostRuntime) -> io::Result<Metadata> {
+        let fd = self.fd;
+        let name = format!(in rt.alloc(); "/proc/self/fd/{fd}")?;
+        fs::metadata(rt, name.as_str())
     }
 }
 
@@ -117,7 +104,7 @@ impl Write for File {
         if count < 0 {
             return Err(last_error());
         }
-        Ok(count as usize)
+        Ok((count as usize).min(buf.len()))
     }
 
     fn flush(&mut self) -> io::Result<()> {
@@ -130,9 +117,12 @@ pub fn stderr_is_terminal() -> bool {
     libc::isatty(libc::STDERR_FILENO) == 1
 }
 
-/// What the system says of the file of this name.
-pub fn stat(name: &Name) -> io::Result<Stat> {
-    stat_at(libc::AT_FDCWD, name.as_bytes(), 0)
+/// What the system says of the file of this name. One whose name is no UTF-8 is opened for that.
+pub fn metadata_of(rt: &HostRuntime, name: &Name) -> io::Result<Metadata> {
+    match str::from_utf8(name.as_bytes()) {
+        Ok(text) => fs::metadata(rt, text),
+        Err(_) => File::open(name)?.metadata(rt),
+    }
 }
 
 /// Gives the file of one name another, in place of any file that has it.
@@ -148,52 +138,4 @@ pub fn link(from: &Name, to: &Name) -> io::Result<()> {
 /// Takes a file's name away.
 pub fn remove(name: &Name) -> io::Result<()> {
     check(os::unlink(name.as_bytes()))
-}
-
-fn stat_at(fd: i32, name: &[u8], flags: i32) -> io::Result<Stat> {
-    let mut found = no_statx();
-    check(os::statx(fd, name, flags, &mut found))?;
-    Ok(Stat {
-        len: found.stx_size,
-        mode: u32::from(found.stx_mode),
-        device: (found.stx_dev_major, found.stx_dev_minor),
-        inode: found.stx_ino,
-    })
-}
-
-fn no_time() -> statx_timestamp {
-    statx_timestamp {
-        tv_sec: 0,
-        tv_nsec: 0,
-        __reserved: 0,
-    }
-}
-
-fn no_statx() -> statx {
-    statx {
-        stx_mask: 0,
-        stx_blksize: 0,
-        stx_attributes: 0,
-        stx_nlink: 0,
-        stx_uid: 0,
-        stx_gid: 0,
-        stx_mode: 0,
-        __spare0: [0; 1],
-        stx_ino: 0,
-        stx_size: 0,
-        stx_blocks: 0,
-        stx_attributes_mask: 0,
-        stx_atime: no_time(),
-        stx_btime: no_time(),
-        stx_ctime: no_time(),
-        stx_mtime: no_time(),
-        stx_rdev_major: 0,
-        stx_rdev_minor: 0,
-        stx_dev_major: 0,
-        stx_dev_minor: 0,
-        stx_mnt_id: 0,
-        stx_dio_mem_align: 0,
-        stx_dio_offset_align: 0,
-        __spare3: [0; 12],
-    }
 }

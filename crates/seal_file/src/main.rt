@@ -49,7 +49,7 @@ fn main(rt: HostRuntime) -> ExitCode {
 
 /// What the program is asked for.
 fn request_of(rt: &HostRuntime) -> Result<Request, Failure> {
-    match options::words(rt) {
+    match options::all_words(rt) {
         Ok(words) => Request::of_words(words),
         Err(error) => Err(Failure::Io(Place::Console, error)),
     }
@@ -96,9 +96,9 @@ fn run(rt: &HostRuntime, request: &Request) -> Result<(), Failure> {
     }
 }
 
-/// The result, with the place where it failed.
-fn at<T: Drop>(place: Place, result: io::Result<T>) -> Result<T, Failure> {
-    match result {
+/// The outcome, with the place where it failed.
+fn at<T>(place: Place, outcome: io::Result<T>) -> Result<T, Failure> {
+    match outcome {
         Ok(value) => Ok(value),
         Err(error) => Err(Failure::Io(place, error)),
     }
@@ -141,7 +141,7 @@ fn convert_to(
     input: File,
     target: &Name,
 ) -> Result<(), Failure> {
-    check_target(target, &input, conversion.has_force)?;
+    check_target(rt, target, &input, conversion.has_force)?;
     let mut number = [0; NUMBER_LEN];
     draw(rt, &mut number)?;
     let mut file = at(Place::Output, NewFile::create(rt.alloc(), target, number, FILE_MODE))?;
@@ -161,8 +161,8 @@ fn pass<W: Write>(
     input: File,
     output: &mut W,
 ) -> Result<(), Failure> {
-    let len = match input.stat() {
-        Ok(stat) if stat.is_regular() => Some(stat.len),
+    let len = match input.metadata(rt) {
+        Ok(metadata) if metadata.is_file() => Some(metadata.len()),
         _ => None,
     };
     let is_shown = conversion.has_progress && files::stderr_is_terminal();
@@ -187,8 +187,8 @@ fn pass<W: Write>(
 /// The key in a file of 32 bytes. A file that others may read is warned of.
 fn read_key(rt: &HostRuntime, name: &Name) -> Result<FileKey, Failure> {
     let file = at(Place::KeyFile, File::open(name))?;
-    if let Ok(stat) = file.stat() {
-        if stat.others_may_read() {
+    if let Ok(metadata) = file.metadata(rt) {
+        if files::others_may_read(&metadata) {
             let _ = eprintln!(rt; "seal_file: {name}: warning: others may read this key");
         }
     }

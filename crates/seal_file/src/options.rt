@@ -74,7 +74,7 @@ struct Words {
 }
 
 /// The words that the program was called with, without its name.
-pub fn words(rt: &HostRuntime) -> io::Result<Vec<Name>> {
+pub fn all_words(rt: &HostRuntime) -> io::Result<Vec<Name>> {
     let mut all = Vec::new(rt.alloc());
     for i in 1..usize::MAX {
         match word(rt, i)? {
@@ -88,15 +88,16 @@ pub fn words(rt: &HostRuntime) -> io::Result<Vec<Name>> {
 /// The word of this number, if there is one.
 fn word(rt: &HostRuntime, i: usize) -> io::Result<Option<Name>> {
     let mut bytes = Vec::new(rt.alloc());
-    for power in 8..32 {
-        bytes.resize(1usize << power, 0)?;
+    let mut room = 256usize;
+    for _ in 0..24 {
+        bytes.resize(room, 0)?;
         match rt.arg(i, &mut bytes) {
             Ok(len) => {
                 bytes.truncate(len);
                 return Ok(Some(Name::new(bytes)));
             }
             Err(FillError::NotPresent) => return Ok(None),
-            Err(FillError::TooLong) => {}
+            Err(FillError::TooLong) => room = room.saturating_mul(2),
         }
     }
     Err(io::Error::from(io::ErrorKind::OutOfMemory))
@@ -216,10 +217,10 @@ impl Request {
                 words.take_value(option, word)?;
             } else if has_ended || !is_option(&word) {
                 words.take_word(word)?;
-            } else if word.as_bytes() == b"--" {
+            } else if word.as_bytes() == b"--".as_slice() {
                 has_ended = true;
             } else {
-                option = valued(&word);
+                option = valued_of(&word);
                 if option.is_none() {
                     words.take_flag(&word)?;
                 }
@@ -257,7 +258,7 @@ fn is_option(word: &Name) -> bool {
 }
 
 /// The option that takes a value with this name.
-fn valued(word: &Name) -> Option<Valued> {
+fn valued_of(word: &Name) -> Option<Valued> {
     match word.as_bytes() {
         b"-k" | b"--key" => Some(Valued::Key),
         b"-o" | b"--output" => Some(Valued::Output),

@@ -21,21 +21,26 @@ pub struct SyncedFile {
 }
 
 /// The file isn't to become one that is IN, a directory or a device, nor, without force, one that is there.
-pub fn check_target(target: &Name, input: &File, has_force: bool) -> Result<(), Failure> {
-    let there = match files::stat(target) {
-        Ok(stat) => stat,
+pub fn check_target(
+    rt: &HostRuntime,
+    target: &Name,
+    input: &File,
+    has_force: bool,
+) -> Result<(), Failure> {
+    let there = match files::metadata_of(rt, target) {
+        Ok(metadata) => metadata,
         Err(error) if error.kind() == ErrorKind::NotFound => return Ok(()),
         Err(error) => return Err(Failure::Io(Place::Output, error)),
     };
-    if let Ok(from) = input.stat() {
-        if from.is_same(&there) {
-            return Err(Failure::SameFile);
-        }
+    match input.metadata(rt) {
+        Ok(from) if files::are_same(&from, &there) => return Err(Failure::SameFile),
+        Ok(_) => {}
+        Err(error) => return Err(Failure::Io(Place::Input, error)),
     }
     if !has_force {
         return Err(Failure::Exists);
     }
-    if !there.is_regular() {
+    if !there.is_file() {
         return Err(Failure::NotRegular);
     }
     Ok(())

@@ -1,6 +1,6 @@
 //! A reader that says how much was read, and which stream failed.
 
-ghost use Rattle.std.specs.Prelude.{◌≡◌};
+ghost use Rattle.std.specs.Prelude.{◌≡◌, ◌≤◌};
 
 use std::fmt;
 use std::io::{self, Read};
@@ -80,6 +80,7 @@ impl<'a, R: Read + Drop> Source<'a, R> {
 }
 
 /// A bar of this many hundredths of its length, and their number.
+#[derive(Clone, Copy)]
 struct Bar {
     percent: u64,
 }
