@@ -71,12 +71,7 @@ fn report(rt: &HostRuntime, request: &Request, failure: &Failure) -> ExitCode {
 }
 
 /// Writes what is said of a file or a stream to standard error.
-fn say<D: Display>(
-    rt: &HostRuntime,
-    request: &Request,
-    place: Place,
-    text: &D,
-) -> io::Result<()> {
+fn say<D: Display>(rt: &HostRuntime, request: &Request, place: Place, text: &D) -> io::Result<()> {
     if let Some(name) = request.name_of(place) {
         return eprintln!(rt; "seal_file: {name}: {text}");
     }
@@ -144,7 +139,10 @@ fn convert_to(
     check_target(rt, target, &input, conversion.has_force)?;
     let mut number = [0; NUMBER_LEN];
     draw(rt, &mut number)?;
-    let mut file = at(Place::Output, NewFile::create(rt.alloc(), target, number, FILE_MODE))?;
+    let mut file = at(
+        Place::Output,
+        NewFile::create(rt.alloc(), target, number, FILE_MODE),
+    )?;
     if let Err(failure) = pass(rt, conversion, key, input, &mut file) {
         file.discard();
         return Err(failure);
@@ -193,7 +191,10 @@ fn read_key(rt: &HostRuntime, name: &Name) -> Result<FileKey, Failure> {
         }
     }
     let mut bytes = Vec::new(rt.alloc());
-    at(Place::KeyFile, file.take(KEY_LEN as u64 + 1).read_to_end(&mut bytes))?;
+    at(
+        Place::KeyFile,
+        file.take(KEY_LEN as u64 + 1).read_to_end(&mut bytes),
+    )?;
     match FileKey::new(&bytes) {
         Ok(key) => Ok(key),
         Err(_) => Err(Failure::KeyLength),
@@ -202,7 +203,10 @@ fn read_key(rt: &HostRuntime, name: &Name) -> Result<FileKey, Failure> {
 
 /// Fills `bytes` with random ones that the system draws.
 fn draw(rt: &HostRuntime, bytes: &mut [u8]) -> Result<(), Failure> {
-    let drawn = std::fs::File::open(rt, RANDOM).and_then(|mut source| fill_from(&mut source, bytes));
+    let drawn = std::fs::File::open(rt, RANDOM).and_then(|mut source| fill_from(
+        &mut source,
+        bytes,
+    ));
     at(Place::Random, drawn)
 }
 

@@ -32,7 +32,11 @@ impl Name {
 impl fmt::Display for Name {
     fn fmt<W: fmt::Write>(&self, f: &mut fmt::Formatter<W>) -> fmt::Result {
         for byte in &self.bytes {
-            let printed = if *byte >= b' ' && *byte < 0x7f { *byte } else { b'?' };
+            let printed = if *byte >= b' ' && *byte < 0x7f {
+                *byte
+            } else {
+                b'?'
+            };
             write!(f, "{}", char::from(printed))?;
         }
         Ok(())

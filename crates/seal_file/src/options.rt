@@ -78,7 +78,9 @@ pub fn all_words(rt: &HostRuntime) -> io::Result<Vec<Name>> {
     let mut all = Vec::new(rt.alloc());
     for i in 1..usize::MAX {
         match word(rt, i)? {
-            Some(word) => all.push(word).map_err(|_| io::Error::from(io::ErrorKind::OutOfMemory))?,
+            Some(word) => all
+                .push(word)
+                .map_err(|_| io::Error::from(io::ErrorKind::OutOfMemory))?,
             None => break,
         }
     }

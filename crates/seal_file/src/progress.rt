@@ -89,7 +89,11 @@ impl fmt::Display for Bar {
     fn fmt<W: fmt::Write>(&self, f: &mut fmt::Formatter<W>) -> fmt::Result {
         write!(f, "[")?;
         for mark in 0..WIDTH {
-            let printed = if mark * (100 / WIDTH) < self.percent { '#' } else { '.' };
+            let printed = if mark * (100 / WIDTH) < self.percent {
+                '#'
+            } else {
+                '.'
+            };
             write!(f, "{printed}")?;
         }
         write!(f, "] {:>3} %", self.percent)

@@ -1,5 +1,5 @@
 -- A sealed file is one, and opening it gives the file.
-use Rattle.std.proofs.Common.{◌≡◌, ℕ, Bool, ◌+◌, ◌-◌, ◌*◌, ◌^◌, ◌<◌, ◌≤◌, List, ◌++◌, length, take, drop, refl, sym, ap, subst, ◌∙◌, arith, ◌==◌, drop_at, length-append, length-drop, length-take, take_at}
+use Rattle.std.proofs.Common.{◌≡◌, ℕ, Bool, ◌+◌, ◌-◌, ◌*◌, ◌^◌, ◌<◌, ◌≤◌, List, ◌++◌, length, drop, refl, sym, ap, subst, ◌∙◌, arith, ◌==◌, drop_at, length-append, length-drop, length-take, take_at}
 use Rattle.std.specs.List.{concat}
 use Rattle.aead_ciphers_base.specs
 use specs.Bytes.{each_below}

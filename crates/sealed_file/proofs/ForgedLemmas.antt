@@ -1,5 +1,5 @@
 -- A file that is accepted under the header of a sealed file and isn't that file has a forged chunk.
-use Rattle.std.proofs.Common.{◌≡◌, ℕ, Bool, zero, suc, true, false, inl, inr, ◌⊎◌, ◌+◌, ◌<◌, ◌≤◌, List, ◌++◌, length, refl, sym, ap, subst, ◌∙◌, arith, ◌==◌, below_more, eq-eqb, eqb-true, take-append-drop}
+use Rattle.std.proofs.Common.{◌≡◌, ℕ, Bool, zero, suc, true, false, inl, inr, ◌⊎◌, ◌+◌, ◌<◌, List, ◌++◌, refl, sym, ap, subst, ◌∙◌, arith, ◌==◌, below_more, eq-eqb, eqb-true, take-append-drop}
 use Rattle.std.specs.Str.{bytes_eq}
 use Rattle.std.specs.List.{concat}
 use Rattle.std.proofs.lemmas.Bool.{cases_Bool, cases_lt, both_ways}
@@ -67,9 +67,9 @@ module _ (key : List ℕ) (k : ChunkKey) (file other : List ℕ) (h : IsHeaderOf
       sym (take-append-drop (header_len other) other)
       ∙ ap (λ l. l ++ body_of other) header_is
       ∙ ap (λ l. k.header ++ l) (
-        sym (all_pieces sealed_chunk_len (body_of other) (omega arith))
-        ∙ ap concat (each-same (m + 1) (chunk_of other) (sealed_chunk_of k file) (λ i within. (made i within).same))
-        ∙ ap (λ n. concat (each_below (n + 1) (sealed_chunk_of k file))) end
+      sym (all_pieces sealed_chunk_len (body_of other) (omega arith))
+      ∙ ap concat (each-same (m + 1) (chunk_of other) (sealed_chunk_of k file) (λ i within. (made i within).same))
+      ∙ ap (λ n. concat (each_below (n + 1) (sealed_chunk_of k file))) end
       )
 
   pub has_forged : ¬ (other ≡ sealed_file k file) → IsSealed key other → (i : ℕ) × IsForged k file other i

@@ -1,10 +1,9 @@
 -- Headers, and what the chunks after one were sealed under.
 use Rattle.std.proofs
-use proofs.Common.{◌≡◌, ℕ, inl, inr, ◌+◌, ◌-◌, ◌<◌, ◌≤◌, ◌⊎◌, List, [], ◌∷◌, ◌++◌, length, take, drop, refl, sym, ap, subst, ◌∙◌, arith, ◌==◌, append_assoc, drop_at, drop-drop, eq-eqb, get_or-take, length-append, length-drop, length-take, ne_eqb, take-append-drop, take-take, take_all, take_at, if◌then◌else◌}
+use proofs.Common.{◌≡◌, ℕ, inl, inr, ◌+◌, ◌<◌, ◌≤◌, ◌⊎◌, List, [], ◌∷◌, ◌++◌, length, take, drop, refl, sym, ap, ◌∙◌, arith, ◌==◌, drop_at, drop-drop, eq-eqb, get_or-take, length-append, length-drop, length-take, ne_eqb, take-append-drop, take-take, take_all, take_at, if◌then◌else◌}
 use Rattle.std.specs.Prelude.{codes, slice_index}
 use proofs.lemmas.Bool.{cases_eq, cond_both}
 use proofs.lemmas.List.{take-append-le}
-use proofs.Math.Seq.{take-add}
 use Rattle.std.specs.Int.{to_be_bytes, w16}
 use Rattle.aead_ciphers_base.specs.Aes.{aes}
 use Rattle.aead_ciphers_base.specs.Bytes.{◌⊕◌, zero_block}
@@ -203,16 +202,16 @@ module _ (key header : List ℕ) where
         version = version;
         size = size;
         other = λ same. differs (
-          sym (take-append-drop 9 header)
-          ∙ ap (λ l. l ++ drop 9 header) version.front
-          ∙ ap (λ l. magic_and_version 2 ++ l) (
+            sym (take-append-drop 9 header)
+            ∙ ap (λ l. l ++ drop 9 header) version.front
+            ∙ ap (λ l. magic_and_version 2 ++ l) (
             sym (take-append-drop 19 (drop 9 header))
             ∙ ap (λ l. take 19 (drop 9 header) ++ l) (
-              drop-drop 19 9 header ∙ same ∙ ap (commitment key) (sym (take-take 12 19 (drop 9 header) (omega arith)))
+            drop-drop 19 9 header ∙ same ∙ ap (commitment key) (sym (take-take 12 19 (drop 9 header) (omega arith)))
             )
-          )
-          ∙ sym (header_is key (take 19 (drop 9 header)))
-        );
+            )
+            ∙ sym (header_is key (take 19 (drop 9 header)))
+            );
       }
 
 pub header_fits : (key file : List ℕ) → HasHeader key (header_of file) → header_len file ≤ length file

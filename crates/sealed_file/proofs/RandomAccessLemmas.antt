@@ -1,10 +1,10 @@
 -- The length of what a sealed file of version 2 gives.
-use Rattle.std.proofs.Common.{◌≡◌, ℕ, inl, inr, ◌+◌, ◌-◌, ◌*◌, ◌^◌, ◌<◌, ◌≤◌, List, length, take, drop, sym, ap, subst, ◌∙◌, arith, length-drop, length-take, take-take}
+use Rattle.std.proofs.Common.{◌≡◌, ℕ, inl, inr, ◌+◌, ◌-◌, ◌*◌, ◌^◌, ◌<◌, List, length, drop, sym, ap, subst, ◌∙◌, arith, length-drop, length-take, take-take}
 use Rattle.std.proofs.lemmas.Bool.{cases_lt}
 use Rattle.sealed_file.specs
 use specs.declared.error.FileError.TheVariants.{EndsEarly}
 use specs.Format.{chunk_len, last_piece, sealed_chunk_len}
-use specs.Opening.{IsSealed, IsSealedLen, body_of, chunk_of, header_len, header_of, last_chunk, opened_file}
+use specs.Opening.{IsSealed, IsSealedLen, body_of, header_len, header_of, last_chunk, opened_file}
 use specs.Refusals.{IsVersion2}
 use Rattle.sealed_file.proofs
 use proofs.HeaderLemmas.{header_len-2, refused_is_none, version_at}

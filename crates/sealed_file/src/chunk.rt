@@ -31,12 +31,7 @@ fn nonce_of(prefix: &Prefix, number: u32, is_last: bool) -> Nonce
 }
 
 /// Encrypts a chunk of at most `CHUNK_LEN` bytes, and gives its tag.
-pub(crate) fn seal_slice(
-    cipher: &ChunkCipher,
-    number: u32,
-    is_last: bool,
-    chunk: &mut [u8],
-) -> Tag
+pub(crate) fn seal_slice(cipher: &ChunkCipher, number: u32, is_last: bool, chunk: &mut [u8]) -> Tag
     requires { length chunk.old ≤ chunk_len }
     ensures { chunk.new ++ result ≡ sealed_chunk cipher.now number is_last chunk.old }
 {

@@ -5,7 +5,9 @@ ghost use Rattle.aead_ciphers_base.specs.Aes.{aes};
 ghost use Rattle.sealed_file.specs.Derivation.{cmac_of_block, derived_block, first_subkey};
 
 use crate::header::{Context, put};
-use aead_ciphers_base::aes::{self, AES_256_KEY_LEN, BLOCK_LEN, Block, EncryptBlock, KeyBytes, Work, ZERO_BLOCK};
+use aead_ciphers_base::aes::{
+    self, AES_256_KEY_LEN, BLOCK_LEN, Block, EncryptBlock, KeyBytes, Work, ZERO_BLOCK,
+};
 use aead_ciphers_base::bb;
 
 /// The label of the derivation.

@@ -88,9 +88,9 @@ impl Model for ChunkCipher {
     ghost Value = { ChunkKey };
 
     ghost view = { λ cipher. record {
-        key = cipher.key.bytes;
-        prefix = cipher.prefix;
-        header = header_bytes cipher.header;
+      key = cipher.key.bytes;
+      prefix = cipher.prefix;
+      header = header_bytes cipher.header;
     } };
 }
 
@@ -168,10 +168,7 @@ pub(crate) fn put(bytes: &[u8], all: &mut [u8], at: usize)
 }
 
 /// The header of version 2 with these random bytes and this commitment.
-fn header_2_of(
-    random: &[u8; RANDOM_LEN],
-    commitment: &[u8; COMMITMENT_LEN],
-) -> [u8; HEADER_LEN]
+fn header_2_of(random: &[u8; RANDOM_LEN], commitment: &[u8; COMMITMENT_LEN]) -> [u8; HEADER_LEN]
     ensures { result ≡ magic_and_version 2 ++ (random.now ++ commitment.now) }
 {
     let mut header = [0; HEADER_LEN];
@@ -200,11 +197,7 @@ fn header_of(file: &[u8]) -> &[u8]
     ensures { result.now ≡ header_of file.now }
 {
     let len = header_len(file);
-    if file.len() < len {
-        file
-    } else {
-        &file[..len]
-    }
+    if file.len() < len { file } else { &file[..len] }
 }
 
 /// The random bytes in a header of version 2.

@@ -62,13 +62,7 @@ fn seal_from(
 }
 
 /// Seals a chunk of at most `CHUNK_LEN` bytes onto `out`, which has room for it and its tag.
-fn append_sealed(
-    cipher: &ChunkCipher,
-    number: u32,
-    is_last: bool,
-    chunk: &[u8],
-    out: &mut Vec<u8>,
-)
+fn append_sealed(cipher: &ChunkCipher, number: u32, is_last: bool, chunk: &[u8], out: &mut Vec<u8>)
     requires chunk { length chunk.now ≤ chunk_len }
     requires room { vec_len out.old + length chunk.now + 16 ≤ vec_capacity out.old }
     ensures sealed { out.new.items
@@ -170,7 +164,10 @@ pub(crate) fn append_opened(
 fn last_chunk_of(sealed: &[u8]) -> usize
     ensures { result ≡ last_chunk sealed.now }
 {
-    last_piece_of(sealed.len().saturating_sub(header_len(sealed)), SEALED_CHUNK_LEN)
+    last_piece_of(
+        sealed.len().saturating_sub(header_len(sealed)),
+        SEALED_CHUNK_LEN,
+    )
 }
 
 /// The chunk of this number of a sealed file.

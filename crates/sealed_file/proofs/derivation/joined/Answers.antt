@@ -1,4 +1,4 @@
-use Rattle.std.proofs.Common.{[], ◌++◌, length, arith, refl, ap, ◌∙◌, replicate, length-append}
+use Rattle.std.proofs.Common.{[], ◌++◌, arith, refl, replicate, length-append}
 use Rattle.sealed_file.proofs
 use proofs.ChunkLemmas.{put_end, put_next}
 use proofs.derivation.joined.Goals as goal

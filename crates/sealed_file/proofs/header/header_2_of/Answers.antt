@@ -1,4 +1,4 @@
-use Rattle.std.proofs.Common.{ℕ, List, [], ◌∷◌, ◌++◌, length, arith, refl, ◌∙◌, replicate, append_assoc, length-append}
+use Rattle.std.proofs.Common.{ℕ, List, [], ◌∷◌, ◌++◌, arith, refl, ◌∙◌, replicate, append_assoc, length-append}
 use Rattle.std.specs.Prelude.{codes}
 use Rattle.sealed_file.specs.Format.{magic_and_version}
 use Rattle.sealed_file.proofs

@@ -43,6 +43,6 @@ returns-in-Err-clause-refused c =
     let cipher_is = c.new-cipher.ensures ∙ ap (version_2 c.args.key.now) (c.random_in.ensures ∙ ap (λ l. take 19 (drop 9 l)) whole) in
     another_key c.args.key.now c.args.header.now c.requires.version (c.in-Some.ensures.variant.0 refl)
     (λ made.
-        let accepted : false ≡ true = c.in-Err.ensures.1 (whole ∙ made
-            ∙ sym (ap (λ (k : ChunkKey). k.header) cipher_is) ∙ sym c.header.ensures.bytes) in
-        cc)
+    let accepted : false ≡ true = c.in-Err.ensures.1 (whole ∙ made
+    ∙ sym (ap (λ (k : ChunkKey). k.header) cipher_is) ∙ sym c.header.ensures.bytes) in
+    cc)

@@ -44,8 +44,8 @@ loop-number-init c = record {
       omega (
         arith,
         length-sealed_file (version_2 c.args.key.now c.args.random) c.args.file.now,
-      length-header_2 c.args.key.now c.args.random,
-      nineteen,
+        length-header_2 c.args.key.now c.args.random,
+        nineteen,
         c.last_piece_of-last.ensures,
         c.in_ok-reserve.ensures.ok,
         c.in_ok-reserve.ensures.len,
