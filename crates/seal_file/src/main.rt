@@ -1,85 +1,218 @@
-//! The program `seal_file`: it seals or opens standard input to standard output, under the key in a file.
+//! The program `seal_file`: it seals a file or opens a sealed one, under the key in a file, and makes keys.
 #![tactic(auto)]
 
+mod failure;
+mod files;
+mod name;
 mod options;
+mod output;
 mod progress;
 #[cfg(test)]
 mod tests;
 
-ghost use Rattle.std.specs.Prelude.{IfOk};
+ghost use Rattle.std.specs.Prelude.{OnOk};
 ghost use Rattle.std.specs.Io.KnownBytes.{Consumes};
 
-use anyhow::anyhow;
-use options::{Action, Options};
-use progress::Progress;
-use sealed_file::{FileError, FileKey, PREFIX_LEN};
-use std::fs::File;
-use std::io::{self, Read, Write};
+use failure::{Failure, Place};
+use files::File;
+use name::Name;
+use options::{Action, Conversion, HELP, Request};
+use output::{NUMBER_LEN, NewFile, check_target};
+use progress::Source;
+use sealed_file::{FileError, FileKey, RANDOM_LEN};
+use std::fmt::Display;
+use std::io::{self, ErrorKind, Read, Write};
 use std::process::ExitCode;
 
 /// The length of a key, in bytes.
-const KEY_LEN: u64 = 32;
+const KEY_LEN: usize = 32;
+
+/// The mode of a key file: its owner reads and writes it.
+const KEY_MODE: u32 = 0o600;
+
+/// The mode of another file that is written, which the process's umask narrows.
+const FILE_MODE: u32 = 0o666;
+
+/// The source of random bytes.
+const RANDOM: &str = "/dev/urandom";
 
 fn main(rt: HostRuntime) -> ExitCode {
-    match run(&rt) {
+    let request = match request_of(&rt) {
+        Ok(request) => request,
+        Err(failure) => return report(&rt, &Request::Help, &failure),
+    };
+    match run(&rt, &request) {
         Ok(()) => ExitCode::SUCCESS,
-        Err(error) => {
-            let _ = eprintln!(rt; "seal_file: {error}");
-            ExitCode::FAILURE
+        Err(failure) => report(&rt, &request, &failure),
+    }
+}
+
+/// What the program is asked for.
+fn request_of(rt: &HostRuntime) -> Result<Request, Failure> {
+    match options::all_words(rt) {
+        Ok(words) => Request::of_words(words),
+        Err(error) => Err(Failure::Io(Place::Console, error)),
+    }
+}
+
+/// Writes to standard error why the program ends early, and returns its status.
+fn report(rt: &HostRuntime, request: &Request, failure: &Failure) -> ExitCode {
+    let _ = match failure {
+        Failure::Use(error) => eprintln!(rt; "seal_file: {error}; see --help"),
+        Failure::KeyLength => say(rt, request, Place::KeyFile, &"the key hasn't 32 bytes"),
+        Failure::KeyExists => say(rt, request, Place::KeyFile, &"the file exists"),
+        Failure::Exists => say(rt, request, Place::Output, &"the file exists"),
+        Failure::SameFile => say(rt, request, Place::Output, &"this is the file that is read"),
+        Failure::NotRegular => say(rt, request, Place::Output, &"this is no regular file"),
+        Failure::Refused(error) => say(rt, request, Place::Input, error),
+        Failure::Io(place, error) => say(rt, request, *place, error),
+    };
+    ExitCode::from(failure.status())
+}
+
+/// Writes what is said of a file or a stream to standard error.
+fn say<D: Display>(rt: &HostRuntime, request: &Request, place: Place, text: &D) -> io::Result<()> {
+    if let Some(name) = request.name_of(place) {
+        return eprintln!(rt; "seal_file: {name}: {text}");
+    }
+    match place {
+        Place::Input => eprintln!(rt; "seal_file: standard input: {text}"),
+        Place::Output => eprintln!(rt; "seal_file: standard output: {text}"),
+        Place::Random => eprintln!(rt; "seal_file: {RANDOM}: {text}"),
+        Place::KeyFile | Place::Console => eprintln!(rt; "seal_file: {text}"),
+    }
+}
+
+fn run(rt: &HostRuntime, request: &Request) -> Result<(), Failure> {
+    match request {
+        Request::Help => at(Place::Output, println!(rt; "{HELP}")),
+        Request::Keygen(name) => keygen(rt, name),
+        Request::Convert(conversion) => convert(rt, conversion),
+    }
+}
+
+/// The outcome, with the place where it failed.
+fn at<T>(place: Place, outcome: io::Result<T>) -> Result<T, Failure> {
+    match outcome {
+        Ok(value) => Ok(value),
+        Err(error) => Err(Failure::Io(place, error)),
+    }
+}
+
+/// Makes a key, in a file that wasn't there.
+fn keygen(rt: &HostRuntime, name: &Name) -> Result<(), Failure> {
+    let mut key = [0; KEY_LEN];
+    draw(rt, &mut key)?;
+    let mut file = match File::create_new(name, KEY_MODE) {
+        Ok(file) => file,
+        Err(error) if error.kind() == ErrorKind::AlreadyExists => return Err(Failure::KeyExists),
+        Err(error) => return Err(Failure::Io(Place::KeyFile, error)),
+    };
+    let written = file.write_all(&key).and_then(|()| file.sync_all());
+    if written.is_err() {
+        let _ = files::remove(name);
+    }
+    at(Place::KeyFile, written)
+}
+
+/// Seals a file or opens a sealed one.
+fn convert(rt: &HostRuntime, conversion: &Conversion) -> Result<(), Failure> {
+    let key = read_key(rt, &conversion.key_file)?;
+    let input = match &conversion.input {
+        Some(name) => at(Place::Input, File::open(name))?,
+        None => File::stdin(),
+    };
+    match &conversion.output {
+        Some(name) => convert_to(rt, conversion, &key, input, name),
+        None => pass(rt, conversion, &key, input, &mut File::stdout()),
+    }
+}
+
+/// The same to a file, which is written whole or not at all.
+fn convert_to(
+    rt: &HostRuntime,
+    conversion: &Conversion,
+    key: &FileKey,
+    input: File,
+    target: &Name,
+) -> Result<(), Failure> {
+    check_target(rt, target, &input, conversion.has_force)?;
+    let mut number = [0; NUMBER_LEN];
+    draw(rt, &mut number)?;
+    let mut file = at(
+        Place::Output,
+        NewFile::create(rt.alloc(), target, number, FILE_MODE),
+    )?;
+    if let Err(failure) = pass(rt, conversion, key, input, &mut file) {
+        file.discard();
+        return Err(failure);
+    }
+    let synced = at(Place::Output, file.synced())?;
+    at(Place::Output, synced.name_as(target, conversion.has_force))
+}
+
+/// Seals what `input` gives, or opens it.
+fn pass<W: Write>(
+    rt: &HostRuntime,
+    conversion: &Conversion,
+    key: &FileKey,
+    input: File,
+    output: &mut W,
+) -> Result<(), Failure> {
+    let len = match input.metadata(rt) {
+        Ok(metadata) if metadata.is_file() => Some(metadata.len()),
+        _ => None,
+    };
+    let is_shown = conversion.has_progress && files::stderr_is_terminal();
+    let mut source = Source::new(rt, input, len, is_shown);
+    let passed = match conversion.action {
+        Action::Seal => {
+            let mut random = [0; RANDOM_LEN];
+            draw(rt, &mut random)?;
+            sealed_file::seal(rt.alloc(), key, random, &mut source, output)
+        }
+        Action::Open => sealed_file::open(rt.alloc(), key, &mut source, output),
+    };
+    source.end();
+    match passed {
+        Ok(()) => Ok(()),
+        Err(FileError::Io(error)) if source.has_failed() => Err(Failure::Io(Place::Input, error)),
+        Err(FileError::Io(error)) => Err(Failure::Io(Place::Output, error)),
+        Err(error) => Err(Failure::Refused(error)),
+    }
+}
+
+/// The key in a file of 32 bytes. A file that others may read is warned of.
+fn read_key(rt: &HostRuntime, name: &Name) -> Result<FileKey, Failure> {
+    let file = at(Place::KeyFile, File::open(name))?;
+    if let Ok(metadata) = file.metadata(rt) {
+        if files::others_may_read(&metadata) {
+            let _ = eprintln!(rt; "seal_file: {name}: warning: others may read this key");
         }
     }
-}
-
-fn run(rt: &HostRuntime) -> Result<(), anyhow::Error> {
-    let Some(options) = Options::of_program(rt)? else {
-        println!(rt; "{}", options::HELP)?;
-        return Ok(());
-    };
-    let key = read_key(rt, options.key_file.as_str())?;
-    let mut input = Progress::new(rt, rt.reader(), options.has_progress);
-    let mut output = io::writer(rt);
-    act(rt, options.action, &key, &mut input, &mut output)?;
-    output.flush()?;
-    input.end();
-    Ok(())
-}
-
-/// The key in a file of 32 bytes.
-fn read_key(rt: &HostRuntime, path: &str) -> Result<FileKey, anyhow::Error> {
     let mut bytes = Vec::new(rt.alloc());
-    let read = File::open(rt, path).and_then(|file| file.take(KEY_LEN + 1).read_to_end(&mut bytes));
-    if let Err(error) = read {
-        return Err(anyhow!("{path}: {error}"));
-    }
+    at(
+        Place::KeyFile,
+        file.take(KEY_LEN as u64 + 1).read_to_end(&mut bytes),
+    )?;
     match FileKey::new(&bytes) {
         Ok(key) => Ok(key),
-        Err(error) => Err(anyhow!("{path}: {error}")),
+        Err(_) => Err(Failure::KeyLength),
     }
 }
 
-/// Seals what `input` gives, under a prefix that the system drew, or opens it.
-fn act<R: Read, W: Write>(
-    rt: &HostRuntime,
-    action: Action,
-    key: &FileKey,
-    input: &mut R,
-    output: &mut W,
-) -> Result<(), FileError> {
-    match action {
-        Action::Seal => {
-            let prefix = prefix_from(&mut File::open(rt, "/dev/urandom")?)?;
-            sealed_file::seal(rt.alloc(), key, prefix, input, output)
-        }
-        Action::Open => sealed_file::open(rt.alloc(), key, input, output),
-    }
+/// Fills `bytes` with random ones that the system draws.
+fn draw(rt: &HostRuntime, bytes: &mut [u8]) -> Result<(), Failure> {
+    let drawn = std::fs::File::open(rt, RANDOM).and_then(|mut source| fill_from(
+        &mut source,
+        bytes,
+    ));
+    at(Place::Random, drawn)
 }
 
-/// The prefix that is the first bytes of `source`.
-fn prefix_from<R: Read>(source: &mut R) -> io::Result<[u8; PREFIX_LEN]>
-    ensures { IfOk result (λ prefix.
-        Consumes (R.remaining source.old) (R.remaining source.new) prefix) }
+/// Fills `bytes` from `source`.
+fn fill_from<R: Read>(source: &mut R, bytes: &mut [u8]) -> io::Result<()>
+    ensures { OnOk result (Consumes (R.remaining source.old) (R.remaining source.new) bytes.new) }
 {
-    let mut prefix = [0; PREFIX_LEN];
-    source.read_exact(&mut prefix)?;
-    Ok(prefix)
+    source.read_exact(bytes)
 }

@@ -1,7 +1,8 @@
-//! A reader that says how much was read.
+//! A reader that says how much was read, and which stream failed.
 
-ghost use Rattle.std.specs.Prelude.{◌≡◌};
+ghost use Rattle.std.specs.Prelude.{◌≡◌, ◌≤◌};
 
+use std::fmt;
 use std::io::{self, Read};
 
 /// After how many bytes the line is written again.
@@ -10,35 +11,62 @@ const STEP: u64 = 1 << 24;
 /// The bytes of a MiB.
 const MIB: u64 = 1 << 20;
 
-/// A reader that writes to standard error how much was read, if it is to.
+/// The marks of a whole bar.
+const WIDTH: u64 = 50;
+
+/// A reader that writes to standard error how much was read, if it is to, and knows whether a call failed.
 #[derive(Drop)]
-pub struct Progress<'a, R: Read + Drop> {
+pub struct Source<'a, R: Read + Drop> {
     rt: &'a HostRuntime,
     input: R,
+    len: Option<u64>,
     is_shown: bool,
     read: u64,
+    has_failed: bool,
 }
 
-impl<'a, R: Read + Drop> Progress<'a, R> {
-    /// A reader over `input`, of which nothing was read.
-    pub fn new(rt: &'a HostRuntime, input: R, is_shown: bool) -> Self
+impl<'a, R: Read + Drop> Source<'a, R> {
+    /// A reader over `input`, which has `len` bytes if that is known, and of which nothing was read.
+    pub fn new(rt: &'a HostRuntime, input: R, len: Option<u64>, is_shown: bool) -> Self
         ensures input { result.input ≡ input }
+        ensures len { result.len ≡ len }
         ensures is_shown { result.is_shown ≡ is_shown }
         ensures read { result.read ≡ 0 }
     {
-        Progress {
+        Source {
             rt,
             input,
+            len,
             is_shown,
             read: 0,
+            has_failed: false,
         }
     }
 
-    /// Writes the line. That it can't be written stops nothing.
+    /// A call failed.
+    pub fn has_failed(&self) -> bool
+        ensures { result ≡ self.now.has_failed }
+    {
+        self.has_failed
+    }
+
+    /// Writes the line: a bar and the percentage, or the MiB where the length isn't known. That it can't be written stops
+    /// nothing.
     fn show(&self) {
-        if self.is_shown {
-            let mib = self.read / MIB;
-            let _ = eprint!(self.rt; "\r{mib} MiB");
+        if !self.is_shown {
+            return;
+        }
+        match self.len {
+            Some(len) => {
+                let bar = Bar {
+                    percent: percent_of(self.read, len),
+                };
+                let _ = eprint!(self.rt; "\r{bar}");
+            }
+            None => {
+                let mib = self.read / MIB;
+                let _ = eprint!(self.rt; "\r{mib} MiB");
+            }
         }
     }
 
@@ -51,16 +79,54 @@ impl<'a, R: Read + Drop> Progress<'a, R> {
     }
 }
 
-impl<R: Read + Drop> Read for Progress<'_, R> {
-    ghost remaining = { λ progress. R.remaining progress.input };
+/// A bar of this many hundredths of its length, and their number.
+#[derive(Clone, Copy)]
+struct Bar {
+    percent: u64,
+}
+
+impl fmt::Display for Bar {
+    fn fmt<W: fmt::Write>(&self, f: &mut fmt::Formatter<W>) -> fmt::Result {
+        write!(f, "[")?;
+        for mark in 0..WIDTH {
+            let printed = if mark * (100 / WIDTH) < self.percent {
+                '#'
+            } else {
+                '.'
+            };
+            write!(f, "{printed}")?;
+        }
+        write!(f, "] {:>3} %", self.percent)
+    }
+}
+
+/// How many hundredths of `len` bytes these are, at most 100.
+fn percent_of(read: u64, len: u64) -> u64
+    ensures { result ≤ 100 }
+{
+    if read >= len {
+        return 100;
+    }
+    (u128::from(read) * 100 / u128::from(len)) as u64
+}
+
+impl<R: Read + Drop> Read for Source<'_, R> {
+    ghost remaining = { λ source. R.remaining source.input };
 
     fn read(&mut self, buf: &mut [u8]) -> io::Result<usize> {
-        let count = self.input.read(buf)?;
-        let before = self.read / STEP;
-        self.read = self.read.saturating_add(count as u64);
-        if self.read / STEP != before {
-            self.show();
+        match self.input.read(buf) {
+            Ok(count) => {
+                let before = self.read / STEP;
+                self.read = self.read.saturating_add(count as u64);
+                if self.read / STEP != before {
+                    self.show();
+                }
+                Ok(count)
+            }
+            Err(error) => {
+                self.has_failed = true;
+                Err(error)
+            }
         }
-        Ok(count)
     }
 }

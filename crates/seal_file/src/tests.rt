@@ -1,17 +1,17 @@
 //! Sealed files as `tools/open-sealed-file` makes them, files that are refused, and streams that fail.
 
-use crate::act;
 use crate::options::Action;
+use aead_ciphers::aead::{AES_256_GCM, Aad, LessSafeKey, Nonce, UnboundKey};
 use failing_streams::FailingStream;
 use md5::{Digest, Md5};
-use sealed_file::{CHUNK_LEN, FileError, FileKey, HEADER_LEN, open, open_bytes, seal, seal_bytes};
+use sealed_file::{
+    CHUNK_LEN, FileError, FileKey, HEADER_LEN, SEALED_CHUNK_LEN, open, open_bytes, open_chunk_at,
+    plaintext_len, seal, seal_bytes,
+};
 use std::alloc::Global;
 use std::io::ErrorKind;
 use std::process::Abort;
 use std::test::Fail;
-
-/// The bytes of a sealed chunk that isn't the last.
-const SEALED_LEN: usize = CHUNK_LEN + 16;
 
 /// The key: the bytes 0 to 31.
 const KEY: [u8; 32] = [
@@ -19,46 +19,51 @@ const KEY: [u8; 32] = [
     26, 27, 28, 29, 30, 31,
 ];
 
-const PREFIX: [u8; 7] = [1, 2, 3, 4, 5, 6, 7];
+/// The random bytes: 1 to 19.
+const RANDOM: [u8; 19] = [
+    1, 2, 3, 4, 5, 6, 7, 8, 9, 10, 11, 12, 13, 14, 15, 16, 17, 18, 19,
+];
 
 /// Lengths of files, and the MD5 of each when sealed: python's `cryptography` made them.
 const SEALED: [(usize, [u8; 16]); 6] = [
     (
         0,
-        *b"\xbb\x96\x76\x50\x1a\xb9\xaf\xd7\x19\xac\x72\xe4\xa3\xbd\xbc\xfb",
+        *b"\xf4\x23\x53\x05\x1a\xc6\x48\x2e\x15\xe3\x10\x07\x21\x97\xfc\xb7",
     ),
     (
         1,
-        *b"\x34\xe3\x58\xe1\x09\x89\xc2\x54\x3e\xa3\x97\x77\xf9\xb2\x16\xec",
+        *b"\xca\x2d\x6c\xb8\x1b\xca\xa3\x2a\x09\xfb\x31\xeb\xbf\x83\xdd\xd1",
     ),
     (
         65535,
-        *b"\xd9\xe3\x84\x5d\x0e\x64\x1a\xfc\x8a\x4d\xca\x56\x6b\xd8\x8d\x25",
+        *b"\x16\xee\x53\x70\xe0\x59\xad\x89\x47\xca\x2c\xf7\xb0\x7b\x7f\xed",
     ),
     (
         65536,
-        *b"\xd9\x2d\xbc\xb6\x97\x89\xd4\x49\xfc\x2f\x32\xfe\xa7\xa4\x61\x4f",
+        *b"\x7e\x05\x02\x02\xe8\x05\x58\x2c\xfc\xa8\x92\xb9\x36\x44\xac\x3b",
     ),
     (
         65537,
-        *b"\x24\x94\x21\xe3\xfe\x67\xa3\x70\x9c\x48\x2f\x6f\x8a\x0f\x54\x70",
+        *b"\xfb\x08\xff\x20\xb8\x27\x99\xac\x71\x09\x18\xb1\xdd\x35\x22\xb2",
     ),
     (
         131072,
-        *b"\xf5\x0c\xcb\x69\x08\xf0\xd6\x2d\x6c\x70\x9b\x9b\x1e\x16\xc1\x33",
+        *b"\x8e\xf9\x6b\xd3\x9e\x2c\xd5\xe3\x65\x4f\xd7\x19\xac\x87\x7e\xc0",
     ),
 ];
 
 /// What is wrong with a file, as opening says it.
-const FIRST_REFUSED: &str = "another key, or chunk 0 was changed or cut";
+const FIRST_REFUSED: &str = "chunk 0 was changed or cut, or (version 1) the key is another";
 
-const SECOND_REFUSED: &str = "another key, or chunk 1 was changed or cut";
+const SECOND_REFUSED: &str = "chunk 1 was changed or cut, or (version 1) the key is another";
 
 const ENDS_EARLY: &str = "the sealed file ends early";
 
 const TRAILING_BYTES: &str = "bytes after the last chunk";
 
-const VERSION_TWO: &str = "a sealed file of version 2, which isn't 1";
+const VERSION_THREE: &str = "a sealed file of version 3, which is neither 1 nor 2";
+
+const ANOTHER_KEY: &str = "another key, or the header was changed";
 
 /// Two lists of bytes are equal.
 fn same(rt: &impl Abort, found: &[u8], wanted: &[u8], what: &str) {
@@ -81,7 +86,7 @@ fn sealed_of(alloc: Global, len: usize) -> Result<Vec<u8>, Fail> {
     seal(
         alloc,
         &FileKey::new(&KEY)?,
-        PREFIX,
+        RANDOM,
         &mut file.as_slice(),
         &mut sealed,
     )?;
@@ -125,7 +130,7 @@ fn in_memory(rt: HostRuntime) -> Result<(), Fail> {
     for (len, digest) in &SEALED {
         let file = file_of(rt.alloc(), *len)?;
         let mut sealed = Vec::new(rt.alloc());
-        seal_bytes(&key, PREFIX, &file, &mut sealed)?;
+        seal_bytes(&key, RANDOM, &file, &mut sealed)?;
         same(&rt, &Md5::digest(&sealed), digest, "sealed in memory");
         let mut opened = Vec::new(rt.alloc());
         open_bytes(&key, &sealed, &mut opened)?;
@@ -134,37 +139,18 @@ fn in_memory(rt: HostRuntime) -> Result<(), Fail> {
     Ok(())
 }
 
-/// What the program writes for this input.
-fn written_by(rt: &HostRuntime, action: Action, bytes: &[u8]) -> Result<Vec<u8>, Fail> {
-    let mut input = bytes;
-    let mut written = Vec::new(rt.alloc());
-    act(rt, action, &FileKey::new(&KEY)?, &mut input, &mut written)?;
-    Ok(written)
-}
-
-#[test]
-fn two_seals_of_one_file(rt: HostRuntime) -> Result<(), Fail> {
-    let file = file_of(rt.alloc(), 2 * CHUNK_LEN + 5)?;
-    let first = written_by(&rt, Action::Seal, &file)?;
-    let second = written_by(&rt, Action::Seal, &file)?;
-    assert!(rt; first.get(9..HEADER_LEN) != second.get(9..HEADER_LEN));
-    for sealed in [&first, &second] {
-        let opened = written_by(&rt, Action::Open, sealed)?;
-        same(&rt, &opened, &file, "opened");
-    }
-    Ok(())
-}
-
 #[test]
 fn cut_files(rt: HostRuntime) -> Result<(), Fail> {
     let sealed = sealed_of(rt.alloc(), CHUNK_LEN + 5)?;
-    let behind_first = HEADER_LEN + SEALED_LEN;
+    let behind_first = HEADER_LEN + SEALED_CHUNK_LEN;
     for (len, opened, text) in [
         (0, 0, ENDS_EARLY),
         (15, 0, ENDS_EARLY),
         (16, 0, ENDS_EARLY),
-        (31, 0, ENDS_EARLY),
-        (32, 0, FIRST_REFUSED),
+        (59, 0, ENDS_EARLY),
+        (60, 0, ENDS_EARLY),
+        (75, 0, ENDS_EARLY),
+        (76, 0, FIRST_REFUSED),
         (behind_first - 1, 0, FIRST_REFUSED),
         (behind_first, 0, ENDS_EARLY),
         (behind_first + 15, CHUNK_LEN, ENDS_EARLY),
@@ -178,82 +164,111 @@ fn cut_files(rt: HostRuntime) -> Result<(), Fail> {
     Ok(())
 }
 
-/// The header of the test files.
-const HEADER: &[u8] = b"SEALFILE\x01\x01\x02\x03\x04\x05\x06\x07";
+/// The header of the test files, whose last 32 bytes python's `cryptography` made.
+const HEADER: &[u8] =
+    b"SEALFILE\x02\x01\x02\x03\x04\x05\x06\x07\x08\x09\x0a\x0b\x0c\x0d\x0e\x0f\x10\x11\x12\x13\
+    \x54\x5c\xc4\xe1\x68\xe0\xad\x52\x52\x3d\xae\x55\x27\xf1\x8b\x14\
+    \x87\xf5\xca\xe3\xe7\x72\x0c\x34\x9f\x13\xc0\x96\x78\xca\x54\x52";
 
-/// A sealed file of two chunks, changed: what stands in front, which of the two follow, and what comes after.
+/// A sealed file of two chunks, changed: which byte of the header is another, which of the chunks follow, and what comes
+/// after.
 struct Changed {
-    front: &'static [u8],
+    header: Option<(usize, u8)>,
     chunks: &'static [usize],
     after: &'static [u8],
     opened: usize,
     text: &'static str,
 }
 
-const CHANGED: [Changed; 8] = [
+const CHANGED: [Changed; 11] = [
     Changed {
-        front: HEADER,
+        header: None,
         chunks: &[1, 0],
         after: b"",
         opened: 0,
         text: FIRST_REFUSED,
     },
     Changed {
-        front: HEADER,
+        header: None,
         chunks: &[0, 0, 1],
         after: b"",
         opened: CHUNK_LEN,
         text: SECOND_REFUSED,
     },
     Changed {
-        front: HEADER,
+        header: None,
         chunks: &[1],
         after: b"",
         opened: 0,
         text: FIRST_REFUSED,
     },
     Changed {
-        front: HEADER,
+        header: None,
         chunks: &[0, 1, 1],
         after: b"",
         opened: CHUNK_LEN,
         text: TRAILING_BYTES,
     },
     Changed {
-        front: HEADER,
+        header: None,
         chunks: &[0, 1],
         after: b"x",
         opened: CHUNK_LEN,
         text: TRAILING_BYTES,
     },
     Changed {
-        front: b"SEALFILF\x01\x01\x02\x03\x04\x05\x06\x07",
+        header: Some((7, b'F')),
         chunks: &[0, 1],
         after: b"",
         opened: 0,
         text: "not a sealed file",
     },
     Changed {
-        front: b"SEALFILE\x02\x01\x02\x03\x04\x05\x06\x07",
+        header: Some((8, 3)),
         chunks: &[0, 1],
         after: b"",
         opened: 0,
-        text: VERSION_TWO,
+        text: VERSION_THREE,
     },
     Changed {
-        front: b"SEALFILE\x01prefix!",
+        header: Some((8, 1)),
         chunks: &[0, 1],
         after: b"",
         opened: 0,
         text: FIRST_REFUSED,
     },
+    Changed {
+        header: Some((9, 0)),
+        chunks: &[0, 1],
+        after: b"",
+        opened: 0,
+        text: ANOTHER_KEY,
+    },
+    Changed {
+        header: Some((27, 0)),
+        chunks: &[0, 1],
+        after: b"",
+        opened: 0,
+        text: FIRST_REFUSED,
+    },
+    Changed {
+        header: Some((59, 0)),
+        chunks: &[0, 1],
+        after: b"",
+        opened: 0,
+        text: ANOTHER_KEY,
+    },
 ];
 
 /// A changed file, from what comes after the header of one that was sealed.
 fn changed_file(alloc: Global, body: &[u8], row: &Changed) -> Result<Vec<u8>, Fail> {
-    let mut file = row.front.to_vec(alloc)?;
+    let mut file = HEADER.to_vec(alloc)?;
+    if let Some((at, byte)) = row.header {
+        let place = file.get_mut(at).ok_or("a place")?;
+        *place = byte;
+    }
     for number in row.chunks {
-        let chunk = body.chunks(SEALED_LEN).nth(*number).ok_or("a chunk")?;
+        let chunk = body.chunks(SEALED_CHUNK_LEN).nth(*number).ok_or("a chunk")?;
         file.extend_from_slice(chunk)?;
     }
     file.extend_from_slice(row.after)?;
@@ -282,7 +297,7 @@ fn another_key(rt: HostRuntime) -> Result<(), Fail> {
         &mut sealed.as_slice(),
         &mut opened,
     );
-    assert!(rt; matches!(outcome, Err(FileError::Refused(0))));
+    assert!(rt; matches!(outcome, Err(FileError::WrongKey)));
     assert!(rt; opened.is_empty());
     Ok(())
 }
@@ -328,7 +343,7 @@ fn ended_over(
     let mut input = FailingStream::new(bytes, MOST, failing_read);
     let mut output = FailingStream::new(Vec::new(alloc), MOST, failing_write);
     let outcome = match action {
-        Action::Seal => seal(alloc, &key, PREFIX, &mut input, &mut output),
+        Action::Seal => seal(alloc, &key, RANDOM, &mut input, &mut output),
         Action::Open => open(alloc, &key, &mut input, &mut output),
     };
     Ok(Ended {
@@ -367,4 +382,75 @@ fn each_failed_call_ends_it(rt: HostRuntime) -> Result<(), Fail> {
     let sealed = sealed_of(rt.alloc(), CHUNK_LEN + 5)?;
     fails_in_turn(&rt, Action::Seal, &file, &sealed)?;
     fails_in_turn(&rt, Action::Open, &sealed, &file)
+}
+
+/// What XAES-256-GCM (the C2SP specification's test vectors) makes of `XAES-256-GCM` under the nonce
+/// `ABCDEFGHIJKLMNOPQRSTUVWX`: the byte of the key, the AAD, and the ciphertext with its tag.
+const XAES: [(u8, &[u8], &[u8]); 2] = [
+    (
+        1,
+        b"",
+        b"\xce\x54\x6e\xf6\x3c\x9c\xc6\x07\x65\x92\x36\x09\xb3\x3a\x9a\x19\x74\xe9\x6e\x52\xda\xf2\xfc\xf7\x07\x5e\x22\x71",
+    ),
+    (
+        3,
+        b"c2sp.org/XAES-256-GCM",
+        b"\x98\x6e\xc1\x83\x25\x93\xdf\x54\x43\xa1\x79\x43\x7f\xd0\x83\xbf\x3f\xdb\x41\xab\xd7\x40\xa2\x1f\x71\xeb\x76\x9d",
+    ),
+];
+
+#[test]
+fn xaes_vectors(rt: HostRuntime) -> Result<(), Fail> {
+    for (byte, aad, wanted) in &XAES {
+        let key = FileKey::new(&[*byte; 32])?.derived_key(b"ABCDEFGHIJKL");
+        let unbound = UnboundKey::new(&AES_256_GCM, &key).ok().ok_or("a key")?;
+        let nonce = Nonce::assume_unique_for_key(*b"MNOPQRSTUVWX");
+        let mut sealed = b"XAES-256-GCM".to_vec(rt.alloc())?;
+        LessSafeKey::new(unbound)
+            .seal_in_place_append_tag(nonce, Aad::from(*aad), &mut sealed)
+            .ok()
+            .ok_or("sealed")?;
+        same(&rt, &sealed, wanted, "XAES-256-GCM");
+    }
+    Ok(())
+}
+
+/// The file of the one byte `a`, sealed as version 1 under a key and a prefix of the bytes 7 and 1.
+const VERSION_ONE: &[u8] =
+    b"SEALFILE\x01\x01\x01\x01\x01\x01\x01\x01\x92\x72\xa4\x5f\xcf\x6e\x68\xf8\x9c\x98\xd5\xa2\x4c\x64\x8d\xf9\xb1";
+
+#[test]
+fn version_one(rt: HostRuntime) -> Result<(), Fail> {
+    let mut opened = Vec::new(rt.alloc());
+    open(
+        rt.alloc(),
+        &FileKey::new(&[7; 32])?,
+        &mut &*VERSION_ONE,
+        &mut opened,
+    )?;
+    same(&rt, &opened, b"a", "version 1");
+    Ok(())
+}
+
+// No clause says that a `Vec` which has to grow can.
+#[test]
+fn chunks_alone(rt: HostRuntime) -> Result<(), Fail> {
+    let key = FileKey::new(&KEY)?;
+    for (len, _) in &SEALED {
+        let file = file_of(rt.alloc(), *len)?;
+        let sealed = sealed_of(rt.alloc(), *len)?;
+        assert_eq!(rt; plaintext_len(sealed.len() as u64), Some(*len as u64));
+        let body = sealed.get(HEADER_LEN..).ok_or("a body")?;
+        let mut opened = Vec::new(rt.alloc());
+        let last = body.len().saturating_sub(1) / SEALED_CHUNK_LEN;
+        let mut number = 0u32;
+        for chunk in body.chunks(SEALED_CHUNK_LEN) {
+            let is_last = number as usize == last;
+            assert!(rt; chunk.len() <= SEALED_CHUNK_LEN);
+            open_chunk_at(&key, &sealed, number, is_last, chunk, &mut opened)?;
+            number = number.wrapping_add(1);
+        }
+        same(&rt, &opened, &file, "its chunks");
+    }
+    Ok(())
 }

@@ -1,21 +1,47 @@
 -- What the calls for one chunk say.
 use Rattle.std.proofs
-use proofs.Common.{◌≡◌, ◌↔◌, ℕ, Bool, true, ◌-◌, ◌≤◌, List, ◌++◌, length, drop, map, get_or, refl, sym, ap, ◌∙◌, arith, append-nil, drop_at, length-append, take_at}
+use proofs.Common.{◌≡◌, ◌↔◌, ℕ, Bool, true, ◌+◌, ◌-◌, ◌≤◌, List, ◌++◌, length, drop, map, get_or, refl, sym, ap, ap₂, ◌∙◌, arith, append_assoc, append-nil, drop-drop, drop_at, length-append, take, take_at}
 use Rattle.std.specs.List.{range_with_len}
 use proofs.lemmas.List.{drop_all}
 use proofs.lemmas.List.FromFn.{fill_by_all}
 use Rattle.aead_ciphers_base.specs.Aes.{aes}
 use Rattle.aead_ciphers.specs.Gcm.{gcm_decrypted, Opened}
 use Rattle.sealed_file.specs
-use specs.Format.{chunk_len, magic_and_version, chunk_nonce, header}
+use specs.Format.{ChunkKey, chunk_len, chunk_nonce}
 use specs.Opening.{HasTag, chunk_tag, ciphertext_of, opened_chunk}
 
 -- a list by its items
 pub items : (n : ℕ) (xs : List ℕ) → length xs ≡ n → xs ≡ map (λ i. get_or xs i 0) (range_with_len 0 n)
 items n xs h = fill_by_all (λ i. get_or xs i 0) xs n 0 h (λ k _. refl)
 
--- what is said under one prefix, of one kind of chunk and of one sealed chunk, is said under equal ones
-pub of_same : (P : List ℕ → Bool → List ℕ → Type 0) {p q : List ℕ} {b d : Bool} {l m : List ℕ} → p ≡ q → b ≡ d → l ≡ m → P p b l → P q d m
+-- what chunks are sealed under
+abbrev pub under : (key prefix header : List ℕ) → ChunkKey
+under key prefix header = record { key = key; prefix = prefix; header = header }
+
+-- a list whose front is done, and of which the bytes after it are put next
+pub put_next : (zeros done bytes now new : List ℕ) (at : ℕ) → at ≡ length done → now ≡ done ++ drop (length done) zeros
+    → new ≡ take at now ++ (bytes ++ drop (at + length bytes) now) → new ≡ (done ++ bytes) ++ drop (length (done ++ bytes)) zeros
+put_next zeros done bytes now new at at_is now_is new_is =
+    let rest = drop (length done) zeros in
+    let after : drop (at + length bytes) now ≡ drop (length (done ++ bytes)) zeros =
+    sym (drop-drop (length bytes) at now)
+    ∙ ap (drop (length bytes)) (ap (drop at) now_is ∙ drop_at done rest at (sym at_is))
+    ∙ drop-drop (length bytes) (length done) zeros ∙ ap (λ n. drop n zeros) (sym (length-append done bytes)) in
+    new_is ∙ ap₂ (λ xs ys. xs ++ (bytes ++ ys)) (ap (take at) now_is ∙ take_at done rest at (sym at_is)) after
+    ∙ sym (append_assoc done bytes (drop (length (done ++ bytes)) zeros))
+
+-- all of it is done
+pub put_end : (zeros done now : List ℕ) → now ≡ done ++ drop (length done) zeros → length done ≡ length zeros → now ≡ done
+put_end zeros done now now_is all =
+    now_is ∙ ap (λ l. done ++ l) (drop_all (length done) zeros (omega arith)) ∙ append-nil done
+
+-- what chunks are sealed under, by its parts
+pub same_key : {a b c d e f : List ℕ} → a ≡ b → c ≡ d → e ≡ f → under a c e ≡ under b d f
+same_key x y z = rw (x, y, z)
+
+-- what is said under one key, of one kind of chunk and of one sealed chunk, is said under equal ones
+pub of_same : (P : ChunkKey → Bool → List ℕ → Type 0) {k k' : ChunkKey} {b d : Bool} {l m : List ℕ} → k ≡ k' → b ≡ d → l ≡ m
+    → P k b l → P k' d m
 of_same P e f g h = rw (← e, ← f, ← g) h
 
 -- a ciphertext and its tag
@@ -29,31 +55,31 @@ module _ (ciphertext received : List ℕ) (sixteen : length received ≡ 16) whe
   back_is : drop (length (ciphertext ++ received) - 16) (ciphertext ++ received) ≡ received
   back_is = drop_at ciphertext received (length (ciphertext ++ received) - 16) tag_at
 
-  module _ (key prefix : List ℕ) (number : ℕ) (is_last : Bool) where
-    pub has_tag : received ≡ chunk_tag key prefix number is_last ciphertext → HasTag key prefix number is_last (ciphertext ++ received)
+  module _ (k : ChunkKey) (number : ℕ) (is_last : Bool) where
+    pub has_tag : received ≡ chunk_tag k number is_last ciphertext → HasTag k number is_last (ciphertext ++ received)
     has_tag right = record {
       size = omega (arith, length-append ciphertext received, sixteen);
-      tag = back_is ∙ right ∙ ap (chunk_tag key prefix number is_last) (sym front_is);
+      tag = back_is ∙ right ∙ ap (chunk_tag k number is_last) (sym front_is);
     }
 
-    pub tag_is : HasTag key prefix number is_last (ciphertext ++ received) → received ≡ chunk_tag key prefix number is_last ciphertext
-    tag_is had = sym back_is ∙ had.tag ∙ ap (chunk_tag key prefix number is_last) front_is
+    pub tag_is : HasTag k number is_last (ciphertext ++ received) → received ≡ chunk_tag k number is_last ciphertext
+    tag_is had = sym back_is ∙ had.tag ∙ ap (chunk_tag k number is_last) front_is
 
     -- the ciphertext is opened exactly if it has the tag, and becomes the message
-    pub opens_tagged : (accepts : Bool) (new : List ℕ) → length prefix ≡ 7 → length ciphertext ≤ chunk_len
-        → Opened (aes key) (chunk_nonce prefix number is_last) (header prefix) received 0 ciphertext accepts new
-        → ((accepts ≡ true) ↔ HasTag key prefix number is_last (ciphertext ++ received))
-        × (accepts ≡ true → new ≡ opened_chunk key prefix number is_last (ciphertext ++ received))
+    pub opens_tagged : (accepts : Bool) (new : List ℕ) → length k.header ≤ 60 → length ciphertext ≤ chunk_len
+        → Opened (aes k.key) (chunk_nonce k.prefix number is_last) k.header received 0 ciphertext accepts new
+        → ((accepts ≡ true) ↔ HasTag k number is_last (ciphertext ++ received))
+        × (accepts ≡ true → new ≡ opened_chunk k number is_last (ciphertext ++ received))
     unfolding opened_chunk
-    opens_tagged accepts new seven short o = (
+    opens_tagged accepts new small short o = (
       (
         λ yes. has_tag (o.accepted.0 yes).2,
         λ had. o.accepted.1 (
           omega arith,
-          record { aad = omega (arith, length-append magic_and_version prefix, seven); message = omega (arith, short) },
+          record { aad = omega (arith, small); message = omega (arith, short) },
           tag_is had,
         ),
       ),
       λ yes. (rw (yes, drop_all (length ciphertext) ciphertext (omega arith), append-nil) at o.buffer)
-          ∙ ap (gcm_decrypted (aes key) (chunk_nonce prefix number is_last)) (sym front_is),
+          ∙ ap (gcm_decrypted (aes k.key) (chunk_nonce k.prefix number is_last)) (sym front_is),
     )

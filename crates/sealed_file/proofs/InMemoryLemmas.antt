@@ -4,8 +4,8 @@ use Rattle.aead_ciphers.proofs.MessageLaws.{length-aes_decrypted}
 use Rattle.sealed_file.specs
 use specs.declared.error.FileError.{FileError}
 use specs.declared.error.FileError.TheVariants.{OutOfMemory, Io}
-use specs.Format.{chunk_len, sealed_chunk_len, piece, chunk_nonce}
-use specs.Opening.{ciphertext_of, opened_chunk, opened_chunks, opened_file, last_chunk, prefix_of, body_of}
+use specs.Format.{chunk_len, sealed_chunk_len, chunk_nonce}
+use specs.Opening.{body_of, chunk_of, ciphertext_of, key_of, last_chunk, opened_chunk, opened_chunks, opened_file}
 use specs.Refusals.{RefusesAt, OpenRefuses, FailsInMemory}
 use Rattle.sealed_file.proofs
 use proofs.OpenLemmas.{message_at, refused_at}
@@ -38,11 +38,11 @@ module _ (key file : List ℕ) where
   abbrev last : ℕ
   last = last_chunk file
 
-  length-message_at : (i : ℕ) → length (message_at key file i) ≡ length (piece sealed_chunk_len (body_of file) i) - 16
+  length-message_at : (i : ℕ) → length (message_at key file i) ≡ length (chunk_of file i) - 16
   unfolding opened_chunk
   length-message_at i =
-      let sealed = piece sealed_chunk_len (body_of file) i in
-      length-aes_decrypted key (chunk_nonce (prefix_of file) i (i == last)) (ciphertext_of sealed)
+      let sealed = chunk_of file i in let k = key_of key file in
+      length-aes_decrypted k.key (chunk_nonce k.prefix i (i == last)) (ciphertext_of sealed)
       ∙ (omega (arith, length-take (length sealed - 16) sealed))
 
   -- what a sealed file of this length gives
@@ -61,7 +61,7 @@ module _ (key file : List ℕ) where
 
   -- the next message fits in what it gives
   pub open_fits : (n : ℕ) → n ≤ last
-      → length (opened_chunks key file n) + (length (piece sealed_chunk_len (body_of file) n) - 16) ≤ length (opened_file key file)
+      → length (opened_chunks key file n) + (length (chunk_of file n) - 16) ≤ length (opened_file key file)
   unfolding opened_chunks
   open_fits n within =
       let p = length-parts-le (message_at key file) n (last + 1) (omega arith) in

@@ -1,8 +1,11 @@
 pub mod ChunkLemmas
-pub mod CutLemmas
+pub mod DerivationLemmas
 pub mod FileLemmas
+pub mod ForgedLemmas
+pub mod HeaderLemmas
 pub mod InMemoryLemmas
 pub mod OpenLemmas
 pub mod PieceLemmas
+pub mod RandomAccessLemmas
 pub mod SealLemmas
 pub mod StreamLemmas

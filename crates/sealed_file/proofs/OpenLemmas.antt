@@ -1,23 +1,25 @@
 -- The steps of opening.
-use Rattle.std.proofs.Common.{◌≡◌, ℕ, Bool, true, false, inl, inr, IfSome, ◌+◌, ◌-◌, ◌*◌, ◌^◌, ◌<◌, ◌≤◌, List, [], ◌++◌, length, take, drop, sym, ap, subst, ◌∙◌, arith, below_more, ◌==◌, Option, eqb-true, length-take, take-take, append-nil}
+use Rattle.std.proofs.Common.{◌≡◌, ℕ, Result, Ok, Err, IfErr, IsOk, is_err, Bool, true, false, inl, inr, IfSome, ◌+◌, ◌-◌, ◌*◌, ◌^◌, ◌<◌, ◌≤◌, List, [], ◌++◌, length, take, drop, sym, ap, subst, ◌∙◌, arith, below_more, ◌==◌, Option, Some, eqb-true, drop-drop, append-nil, ap₂}
 use Rattle.std.specs.Io.KnownBytes.{Appends, Keeps}
 use Rattle.std.proofs.KnownBytes.{Appends-kept, Appends-nil, Appends-trans, Keeps-refl}
 use Rattle.std.proofs.lemmas.Bool.{eqb-false}
+use Rattle.std.proofs.Math.Seq.{take-add}
 use Rattle.sealed_file.specs
 use specs.declared.error.FileError.{FileError}
-use specs.declared.error.FileError.TheVariants.{TooLong, Io}
-use specs.Format.{sealed_chunk_len, piece}
-use specs.Opening.{HasTag, HasRightTag, HasHeader, AreRight, IsSealed, opened_chunk, opened_chunks, opened_file, last_chunk, prefix_of, body_of}
-use specs.Refusals.{HeaderRefuses, ChunkRefuses, RefusesAt, OpenRefuses}
+use specs.declared.error.FileError.TheVariants.{TooLong, OutOfMemory, Io}
+use specs.Format.{ChunkKey, sealed_chunk_len}
+use specs.Opening.{HasTag, HasRightTag, HasHeader, AreRight, IsSealed, body_of, chunk_key, chunk_of, header_len, header_of, key_of, last_chunk, opened_chunk, opened_chunks, opened_file}
+use specs.Refusals.{HeaderRefuses, ChunkAtRefuses, ChunkRefuses, FailsInMemory, RefusesAt, OpenRefuses}
 use specs.Streams.{AppendsBeginning, TakesFront}
 use Rattle.sealed_file.proofs
 use proofs.ChunkLemmas.{of_same}
+use proofs.HeaderLemmas.{header_len-take, header_len_range, header_of-header_of, refused_is_none}
 use proofs.PieceLemmas.{joined_more}
 use proofs.StreamLemmas.{flag_is, next_read, begins_more, begins_none}
 
 -- chunk i of a sealed file, opened
 abbrev pub message_at : (key file : List ℕ) → ℕ → List ℕ
-message_at key file i = opened_chunk key (prefix_of file) i (i == last_chunk file) (piece sealed_chunk_len (body_of file) i)
+message_at key file i = opened_chunk (key_of key file) i (i == last_chunk file) (chunk_of file i)
 
 pub messages_more : (key file : List ℕ) (n : ℕ) → opened_chunks key file (n + 1) ≡ opened_chunks key file n ++ message_at key file n
 unfolding opened_chunks
@@ -28,40 +30,85 @@ none_right key file = record { each = λ i h. absurd (omega arith) }
 
 -- ---- refusals
 
+-- the header of the bytes that were read as a file's is the file's
+header_bytes : (file bytes read_bytes : List ℕ) (rest : Option (List ℕ)) → bytes ≡ read_bytes → TakesFront (header_len file) file read_bytes rest
+    → header_of bytes ≡ header_of file
+header_bytes file bytes read_bytes rest same read = ap header_of (same ∙ read.piece_is) ∙ header_of-header_of file
+
 -- a header that is refused, and then a chunk
-pub header_refused : (key file bytes read_bytes : List ℕ) (rest : Option (List ℕ)) (error : FileError) → bytes ≡ read_bytes
-    → TakesFront 16 file read_bytes rest → HeaderRefuses bytes error → OpenRefuses key file error
-header_refused key file bytes read_bytes rest TooLong same read h = absurd h
-header_refused key file bytes read_bytes rest (Io e) same read h = absurd h
-header_refused key file bytes read_bytes rest error same read h =
-    inl (subst (λ l. HeaderRefuses l error) (same ∙ read.piece_is) h)
+pub header_refused : (key file : List ℕ) (error : FileError) → HeaderRefuses key (header_of file) error → OpenRefuses key file error
+header_refused key file TooLong h = absurd h
+header_refused key file (Io e) h = absurd h
+header_refused key file error h = inl h
+
+-- the bytes of a header that was read
+pub header_fails : (key file bytes read_bytes : List ℕ) (rest : Option (List ℕ)) (error : FileError) → bytes ≡ read_bytes
+    → TakesFront (header_len file) file read_bytes rest → HeaderRefuses key (header_of bytes) error → OpenRefuses key file error
+header_fails key file bytes read_bytes rest error same read h =
+    header_refused key file error (subst (λ l. HeaderRefuses key l error) (header_bytes file bytes read_bytes rest same read) h)
 
 pub refused_at : (key file : List ℕ) (n : ℕ) (error : FileError) → RefusesAt key file error n → OpenRefuses key file error
 refused_at key file n TooLong h = absurd h.wrong.1
 refused_at key file n (Io e) h = absurd h.wrong.1
 refused_at key file n error h = inr (n, h)
 
+-- a file that is refused isn't one that is accepted
+not_sealed : (key file : List ℕ) (lacks_room : Type 0) (error : FileError) → ¬ lacks_room
+    → FailsInMemory lacks_room (OpenRefuses key file) error → ¬ IsSealed key file
+not_sealed key file lacks_room OutOfMemory room h accepted = room h
+not_sealed key file lacks_room (Io e) room h accepted = absurd h
+not_sealed key file lacks_room TooLong room h accepted = let few = accepted.few in omega (arith, few, h.2)
+not_sealed key file lacks_room error room h accepted = elim h [
+  | inl header ↦ refused_is_none key (header_of file) error header accepted.front
+  | inr (n, at) ↦ at.wrong.0 (accepted.tags.each n (let within = at.in_range in omega arith))
+]
+
+-- nor is a chunk
+not_tagged : (key header : List ℕ) (number : ℕ) (is_last : Bool) (sealed : List ℕ) (lacks_room : Type 0) (error : FileError) → ¬ lacks_room
+    → FailsInMemory lacks_room (ChunkAtRefuses key header number is_last sealed) error
+    → ¬ (HasHeader key (header_of header) × HasTag (key_of key header) number is_last sealed)
+not_tagged key header number is_last sealed lacks_room OutOfMemory room h accepted = room h
+not_tagged key header number is_last sealed lacks_room (Io e) room h accepted = absurd h
+not_tagged key header number is_last sealed lacks_room error room h accepted = elim h [
+  | inl wrong ↦ refused_is_none key (header_of header) error wrong accepted.0
+  | inr wrong ↦ wrong.1 accepted.1
+]
+
+pub chunk_refuses_exactly : (key header : List ℕ) (number : ℕ) (is_last : Bool) (sealed : List ℕ) (lacks_room : Type 0)
+    (result : Result (Unit {0}) FileError) → is_err result ≡ true → ¬ lacks_room
+    → IfErr result (λ error. FailsInMemory lacks_room (ChunkAtRefuses key header number is_last sealed) error)
+    → (IsOk result → HasHeader key (header_of header) × HasTag (key_of key header) number is_last sealed)
+    × (HasHeader key (header_of header) × HasTag (key_of key header) number is_last sealed → IsOk result)
+chunk_refuses_exactly key header number is_last sealed lacks_room (Ok v) fails room h = let never : false ≡ true = fails in cc
+chunk_refuses_exactly key header number is_last sealed lacks_room (Err error) fails room h = (
+  λ ok. let never : false ≡ true = ok in cc,
+  λ accepted. absurd (not_tagged key header number is_last sealed lacks_room error room h accepted),
+)
+
+pub refuses_exactly : (key file : List ℕ) (lacks_room : Type 0) (result : Result (Unit {0}) FileError) → is_err result ≡ true → ¬ lacks_room
+    → IfErr result (λ error. FailsInMemory lacks_room (OpenRefuses key file) error)
+    → (IsOk result → IsSealed key file) × (IsSealed key file → IsOk result)
+refuses_exactly key file lacks_room (Ok v) fails room h = let never : false ≡ true = fails in cc
+refuses_exactly key file lacks_room (Err error) fails room h =
+    (λ ok. let never : false ≡ true = ok in cc, λ accepted. absurd (not_sealed key file lacks_room error room h accepted))
+
 -- ---- steps
 
 -- before chunk n is opened: the header and the chunks before it are right, and their messages were appended
-pub record Opening (key prefix file : List ℕ) (n : ℕ) (old now : Option (List ℕ)) : Type 0 where
-  pub front : HasHeader file
-  pub prefix_is : prefix ≡ prefix_of file
+pub record Opening (key : List ℕ) (k : ChunkKey) (file : List ℕ) (n : ℕ) (old now : Option (List ℕ)) : Type 0 where
+  pub front : HasHeader key (header_of file)
+  pub key_is : k ≡ key_of key file
   pub in_range : n ≤ last_chunk file
   pub right : AreRight key file n
   pub written : Appends old now (opened_chunks key file n)
 
 -- the header was right
-pub open_start : (key prefix file bytes : List ℕ) (old now : Option (List ℕ)) → Keeps old now → bytes ≡ take 16 file
-    → HasHeader bytes → prefix ≡ drop 9 bytes
-    → Opening key prefix file 0 old now
+pub open_start : (key : List ℕ) (k : ChunkKey) (file : List ℕ) (old now : Option (List ℕ)) → Keeps old now
+    → HasHeader key (header_of file) → k ≡ key_of key file → Opening key k file 0 old now
 unfolding opened_chunks
-open_start key prefix file bytes old now kept taken has prefix_is = record {
-  front = record {
-    size = omega (arith, has.size, ap length taken, length-take 16 file);
-    right = sym (take-take 9 16 file (omega arith)) ∙ ap (take 9) (sym taken) ∙ has.right;
-  };
-  prefix_is = prefix_is ∙ ap (drop 9) taken;
+open_start key k file old now kept has key_is = record {
+  front = has;
+  key_is = key_is;
   in_range = omega arith;
   right = none_right key file;
   written = Appends-kept old old now [] (Appends-nil old) kept;
@@ -74,23 +121,23 @@ Stopped key file old now = (n : ℕ) × AreRight key file n × AppendsBeginning 
 pub stop_at_start : (key file : List ℕ) (old : Option (List ℕ)) → Stopped key file old old
 stop_at_start key file old = (0, none_right key file, begins_none old (opened_chunks key file 0))
 
-module _ {key prefix file : List ℕ} {n : ℕ} {old now : Option (List ℕ)} (s : Opening key prefix file n old now) where
+module _ {key : List ℕ} {k : ChunkKey} {file : List ℕ} {n : ℕ} {old now : Option (List ℕ)} (s : Opening key k file n old now) where
   module _ {flag : Bool} {chunk : List ℕ} (flag_right : flag ≡ (n == last_chunk file))
-      (chunk_is : chunk ≡ piece sealed_chunk_len (body_of file) n) where
+      (chunk_is : chunk ≡ chunk_of file n) where
     -- a chunk that has no right tag
-    pub chunk_refused : (error : FileError) → ¬ HasTag key prefix n flag chunk
-        → ChunkRefuses key prefix n flag chunk error → RefusesAt key file error n
+    pub chunk_refused : (error : FileError) → ¬ HasTag k n flag chunk
+        → ChunkRefuses k n flag chunk error → RefusesAt key file error n
     chunk_refused error wrong why = record {
       front = s.front;
       right = s.right;
       in_range = s.in_range;
-      wrong = of_same (λ p b l. (¬ HasTag key p n b l) × ChunkRefuses key p n b l error) s.prefix_is flag_right chunk_is (wrong, why);
+      wrong = of_same (λ p b l. (¬ HasTag p n b l) × ChunkRefuses p n b l error) s.key_is flag_right chunk_is (wrong, why);
     }
 
-    module _ (had : HasTag key prefix n flag chunk) where
+    module _ (had : HasTag k n flag chunk) where
       right_more : AreRight key file (n + 1)
       right_more = record {
-        each = below_more (HasRightTag key file) n s.right.each (of_same (λ p b l. HasTag key p n b l) s.prefix_is flag_right chunk_is had);
+        each = below_more (HasRightTag key file) n s.right.each (of_same (λ p b l. HasTag p n b l) s.key_is flag_right chunk_is had);
       }
 
       last_here : flag ≡ true → n ≡ last_chunk file
@@ -100,14 +147,14 @@ module _ {key prefix file : List ℕ} {n : ℕ} {old now : Option (List ℕ)} (s
       pub open_accepted : flag ≡ true → n < 2 ^ 32 - 1 → IsSealed key file
       open_accepted last within = record {
         front = s.front;
-        few = subst (λ k. k < 2 ^ 32 - 1) (last_here last) within;
-        tags = subst (λ k. AreRight key file (k + 1)) (last_here last) right_more;
+        few = subst (λ m. m < 2 ^ 32 - 1) (last_here last) within;
+        tags = subst (λ m. AreRight key file (m + 1)) (last_here last) right_more;
       }
 
-      module _ {message : List ℕ} (message_is : message ≡ opened_chunk key prefix n flag chunk) (now' : Option (List ℕ)) where
+      module _ {message : List ℕ} (message_is : message ≡ opened_chunk k n flag chunk) (now' : Option (List ℕ)) where
         more_is : opened_chunks key file (n + 1) ≡ opened_chunks key file n ++ message
         more_is = messages_more key file n ∙ ap (λ l. opened_chunks key file n ++ l)
-            (sym (of_same (λ p b l. message ≡ opened_chunk key p n b l) s.prefix_is flag_right chunk_is message_is))
+            (sym (of_same (λ p b l. message ≡ opened_chunk p n b l) s.key_is flag_right chunk_is message_is))
 
         -- stopped within its message
         pub open_stop_in : AppendsBeginning now now' message → Stopped key file old now'
@@ -117,14 +164,14 @@ module _ {key prefix file : List ℕ} {n : ℕ} {old now : Option (List ℕ)} (s
         written_more more = subst (Appends old now') (sym more_is) (Appends-trans old now now' _ _ s.written more)
 
         pub open_end : flag ≡ true → Appends now now' message → Appends old now' (opened_file key file)
-        open_end last more = subst (λ k. Appends old now' (opened_chunks key file (k + 1))) (last_here last)
+        open_end last more = subst (λ m. Appends old now' (opened_chunks key file (m + 1))) (last_here last)
             (written_more more)
 
         -- another chunk was opened
-        pub open_next : flag ≡ false → Appends now now' message → Opening key prefix file (n + 1) old now'
+        pub open_next : flag ≡ false → Appends now now' message → Opening key k file (n + 1) old now'
         open_next more written = record {
           front = s.front;
-          prefix_is = s.prefix_is;
+          key_is = s.key_is;
           in_range = omega (arith, eqb-false n (last_chunk file) (sym flag_right ∙ more), s.in_range);
           right = right_more;
           written = written_more written;
@@ -132,21 +179,37 @@ module _ {key prefix file : List ℕ} {n : ℕ} {old now : Option (List ℕ)} (s
 
 -- ---- steps over a reader
 
+-- the front of a header was read, and then the rest
+pub header_read : (file front rest all : List ℕ) (between end : Option (List ℕ)) → TakesFront 16 file front between
+    → IfSome between (λ left. TakesFront (header_len front - 16) left rest end) → all ≡ front ++ rest → TakesFront (header_len file) file all end
+header_read file front rest all between end first read all_is =
+    let then = rw first.left at read in
+    let same : header_len front ≡ header_len file = ap header_len first.piece_is ∙ header_len-take file in
+    let (low, high) = header_len_range file in
+    let whole : 16 + (header_len front - 16) ≡ header_len file = omega arith in
+    record {
+      piece_is = all_is ∙ ap₂ (λ xs ys. xs ++ ys) first.piece_is then.piece_is
+          ∙ sym (take-add 16 (header_len front - 16) file) ∙ ap (λ n. take n file) whole;
+      left = then.left ∙ ap (λ l. Some l) (drop-drop (header_len front - 16) 16 file ∙ ap (λ n. drop n file) whole);
+    }
+
 -- before chunk n is opened, which was read
-pub record Reading (key prefix file : List ℕ) (n : ℕ) (chunk : List ℕ) (rest old now : Option (List ℕ)) : Type 0 where
-  pub so_far : Opening key prefix file n old now
+pub record Reading (key : List ℕ) (k : ChunkKey) (file : List ℕ) (n : ℕ) (chunk : List ℕ) (rest old now : Option (List ℕ)) : Type 0 where
+  pub so_far : Opening key k file n old now
   pub at : TakesFront sealed_chunk_len (drop (sealed_chunk_len * n) (body_of file)) chunk rest
 
 -- the header was read, and then the first chunk
-pub read_start : (key prefix file bytes read_bytes chunk : List ℕ) (between rest old : Option (List ℕ)) → bytes ≡ read_bytes
-    → TakesFront 16 file read_bytes between → HasHeader bytes → prefix ≡ drop 9 bytes
-    → IfSome between (λ left. TakesFront sealed_chunk_len left chunk rest) → Reading key prefix file 0 chunk rest old old
-read_start key prefix file bytes read_bytes chunk between rest old same first has prefix_is read = record {
-  so_far = open_start key prefix file bytes old old (Keeps-refl old) (same ∙ first.piece_is) has prefix_is;
-  at = rw first.left at read;
-}
+pub read_start : (key : List ℕ) (k : ChunkKey) (file bytes read_bytes chunk : List ℕ) (between rest old : Option (List ℕ)) → bytes ≡ read_bytes
+    → TakesFront (header_len file) file read_bytes between → HasHeader key (header_of bytes) → k ≡ key_of key bytes
+    → IfSome between (λ left. TakesFront sealed_chunk_len left chunk rest) → Reading key k file 0 chunk rest old old
+read_start key k file bytes read_bytes chunk between rest old same first has key_is read =
+    let e = header_bytes file bytes read_bytes between same first in
+    record {
+      so_far = open_start key k file old old (Keeps-refl old) (subst (HasHeader key) e has) (key_is ∙ ap (chunk_key key) e);
+      at = rw first.left at read;
+    }
 
-module _ {key prefix file chunk : List ℕ} {n : ℕ} {rest old now : Option (List ℕ)} (s : Reading key prefix file n chunk rest old now) where
+module _ {key : List ℕ} {k : ChunkKey} {file chunk : List ℕ} {n : ℕ} {rest old now : Option (List ℕ)} (s : Reading key k file n chunk rest old now) where
   -- stopped before a chunk
   pub read_stop : Stopped key file old now
   read_stop = (n, s.so_far.right, (_, [], sym (append-nil (opened_chunks key file n)), s.so_far.written))
@@ -156,7 +219,7 @@ module _ {key prefix file chunk : List ℕ} {n : ℕ} {rest old now : Option (Li
   read_long e = (
     s.so_far.front,
     subst (AreRight key file) e s.so_far.right,
-    subst (λ k. k ≤ last_chunk file) e s.so_far.in_range,
+    subst (λ m. m ≤ last_chunk file) e s.so_far.in_range,
   )
 
   module _ (next : List ℕ) (rest' : Option (List ℕ)) (read : IfSome rest (λ left. TakesFront sealed_chunk_len left next rest'))
@@ -165,15 +228,15 @@ module _ {key prefix file chunk : List ℕ} {n : ℕ} {rest old now : Option (Li
     flag_right : flag ≡ (n == last_chunk file)
     flag_right = counted ∙ flag_is sealed_chunk_len (body_of file) n s.at next rest' read (omega arith) s.so_far.in_range m_is
 
-    pub read_refused : (error : FileError) → ¬ HasTag key prefix n flag chunk
-        → ChunkRefuses key prefix n flag chunk error → OpenRefuses key file error
+    pub read_refused : (error : FileError) → ¬ HasTag k n flag chunk
+        → ChunkRefuses k n flag chunk error → OpenRefuses key file error
     read_refused error wrong why = refused_at key file n error (chunk_refused s.so_far flag_right s.at.piece_is error wrong why)
 
-    module _ (had : HasTag key prefix n flag chunk) where
+    module _ (had : HasTag k n flag chunk) where
       pub read_accepted : flag ≡ true → n < 2 ^ 32 - 1 → IsSealed key file
       read_accepted = open_accepted s.so_far flag_right s.at.piece_is had
 
-      module _ {message : List ℕ} (message_is : message ≡ opened_chunk key prefix n flag chunk) (now' : Option (List ℕ)) where
+      module _ {message : List ℕ} (message_is : message ≡ opened_chunk k n flag chunk) (now' : Option (List ℕ)) where
         pub read_stop_in : AppendsBeginning now now' message → Stopped key file old now'
         read_stop_in = open_stop_in s.so_far flag_right s.at.piece_is had message_is now'
 
@@ -181,7 +244,7 @@ module _ {key prefix file chunk : List ℕ} {n : ℕ} {rest old now : Option (Li
         read_end = open_end s.so_far flag_right s.at.piece_is had message_is now'
 
         pub read_next : {next' : List ℕ} → next' ≡ next → flag ≡ false → Appends now now' message
-            → Reading key prefix file (n + 1) next' rest' old now'
+            → Reading key k file (n + 1) next' rest' old now'
         read_next same more written = record {
           so_far = open_next s.so_far flag_right s.at.piece_is had message_is now' more written;
           at = rw same (next_read sealed_chunk_len (body_of file) n s.at next rest' read);

@@ -6,6 +6,7 @@ use proofs.KnownBytes.{Appends-nil, Appends-trans, Consumes-kept, Consumes-trans
 use proofs.Math.Seq.{take-add}
 use proofs.lemmas.Bool.{cases_lt}
 use proofs.lemmas.List.{drop_all, take_rest}
+use Rattle.std.specs.Prelude.{⊤}
 use Rattle.sealed_file.specs
 use specs.Format.{last_piece}
 use specs.Streams.{AppendsBeginning, TakesFront}
@@ -82,6 +83,11 @@ pub stop_then : {X T E : Type 0} (r : Result T E) (known : Option X) {P Q : X �
 stop_then (Ok v) known h step = tt
 stop_then (Err e) None h step = tt
 stop_then (Err e) (Some x) h step = step x h
+
+-- nothing is said of the known bytes
+pub says_nothing : {X : Type 0} (known : Option X) → IfSome known (λ _. ⊤)
+says_nothing None = tt
+says_nothing (Some x) = tt
 
 -- what is left of the bytes, once n more were written
 pub moves_front : (all done rest left : List ℕ) (n : ℕ) → all ≡ done ++ rest

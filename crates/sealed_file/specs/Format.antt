@@ -5,10 +5,12 @@ use Rattle.std.specs.Int.{to_be_bytes, w32}
 use Rattle.aead_ciphers_base.specs.Bytes.{each_below}
 use Rattle.aead_ciphers_base.specs.Aes.{aes}
 use Rattle.aead_ciphers.specs.Gcm.{gcm_sealed}
+use Rattle.sealed_file.specs.declared.chunk.TheConstants.{CHUNK_LEN}
+use Rattle.sealed_file.specs.Derivation.{commitment, derived_key}
 
 -- the bytes of a chunk that isn't the last, and of one that is sealed
 abbrev pub chunk_len : ℕ
-chunk_len = 65536
+chunk_len = CHUNK_LEN
 
 abbrev pub sealed_chunk_len : ℕ
 sealed_chunk_len = chunk_len + 16
@@ -21,28 +23,47 @@ piece size bytes i = take size (drop (size * i) bytes)
 abbrev pub last_piece : ℕ → ℕ → ℕ
 last_piece size n = (n - 1) / size
 
--- the magic and the version
-abbrev pub magic_and_version : List ℕ
-magic_and_version = codes "SEALFILE" ++ 1 ∷ []
+-- what the chunks of a file are sealed under: a key of AES-256-GCM, the prefix of the nonces, and the file's header, which
+-- is the AAD of each
+pub record ChunkKey : Type 0 where
+  pub key : List ℕ
+  pub prefix : List ℕ
+  pub header : List ℕ
 
--- what stands in front of a file: the magic, the version and the prefix
-abbrev pub header : List ℕ → List ℕ
-header prefix = magic_and_version ++ prefix
+-- the magic and a version
+abbrev pub magic_and_version : ℕ → List ℕ
+magic_and_version version = codes "SEALFILE" ++ version ∷ []
+
+-- version 1: the user's key, and a header with the prefix
+unfoldable pub version_1 : (key prefix : List ℕ) → ChunkKey
+version_1 key prefix = record { key = key; prefix = prefix; header = magic_and_version 1 ++ prefix }
+
+-- version 2, of 19 random bytes: the key that is derived for the first 12 as a context, the other 7 as the prefix, and a
+-- header with the random bytes and the commitment to the user's key
+unfoldable pub version_2 : (key random : List ℕ) → ChunkKey
+version_2 key random = let context = take 12 random in record {
+  key = derived_key key context;
+  prefix = take 7 (drop 12 random);
+  header = magic_and_version 2 ++ (random ++ commitment key context);
+}
 
 -- the nonce of a chunk: the prefix, the chunk's number in four big-endian bytes, and 1 for the last chunk or 0
 unfoldable pub chunk_nonce : List ℕ → ℕ → Bool → List ℕ
 chunk_nonce prefix number is_last = prefix ++ to_be_bytes w32 number ++ (if is_last then 1 else 0) ∷ []
 
 -- a chunk, sealed with the header as AAD
-unfoldable pub sealed_chunk : (key prefix : List ℕ) (number : ℕ) (is_last : Bool) (chunk : List ℕ) → List ℕ
-sealed_chunk key prefix number is_last chunk =
-    gcm_sealed (aes key) (chunk_nonce prefix number is_last) (header prefix) chunk
+unfoldable pub sealed_chunk : (k : ChunkKey) (number : ℕ) (is_last : Bool) (chunk : List ℕ) → List ℕ
+sealed_chunk k number is_last chunk = gcm_sealed (aes k.key) (chunk_nonce k.prefix number is_last) k.header chunk
+
+-- chunk i of a file, sealed
+abbrev pub sealed_chunk_of : (k : ChunkKey) (file : List ℕ) (i : ℕ) → List ℕ
+sealed_chunk_of k file i =
+    sealed_chunk k i (i == last_piece chunk_len (length file)) (piece chunk_len file i)
 
 -- the first n chunks of a file, sealed
-unfoldable pub sealed_chunks : (key prefix file : List ℕ) (n : ℕ) → List ℕ
-sealed_chunks key prefix file n = let last = last_piece chunk_len (length file) in
-    concat (each_below n (λ i. sealed_chunk key prefix i (i == last) (piece chunk_len file i)))
+unfoldable pub sealed_chunks : (k : ChunkKey) (file : List ℕ) (n : ℕ) → List ℕ
+sealed_chunks k file n = concat (each_below n (sealed_chunk_of k file))
 
 -- a file, sealed
-abbrev pub sealed_file : (key prefix file : List ℕ) → List ℕ
-sealed_file key prefix file = header prefix ++ sealed_chunks key prefix file (last_piece chunk_len (length file) + 1)
+abbrev pub sealed_file : (k : ChunkKey) (file : List ℕ) → List ℕ
+sealed_file k file = k.header ++ sealed_chunks k file (last_piece chunk_len (length file) + 1)

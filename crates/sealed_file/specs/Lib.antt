@@ -1,4 +1,6 @@
+pub mod Derivation
 pub mod Format
+pub mod Header
 pub mod Opening
 pub mod Refusals
 pub mod Streams

@@ -1,73 +1,102 @@
 -- What opening a sealed file accepts, and what it gives.
-use Rattle.std.specs.Prelude.{◌≡◌, ℕ, Bool, true, false, ◌+◌, ◌-◌, ◌^◌, ◌<◌, ◌≤◌, List, length, take, drop, ◌==◌}
+use Rattle.std.specs.Prelude.{◌≡◌, ℕ, Bool, ◌+◌, ◌-◌, ◌*◌, ◌^◌, ◌<◌, ◌≤◌, List, length, take, drop, slice_index, ◌==◌, if◌then◌else◌}
 use Rattle.std.specs.List.{concat}
 use Rattle.aead_ciphers_base.specs.Bytes.{each_below}
 use Rattle.aead_ciphers_base.specs.Aes.{aes}
-use Rattle.aead_ciphers.specs.Gcm.{gcm_encrypted, gcm_decrypted, gcm_tag}
-use Rattle.sealed_file.specs.Format.{sealed_chunk_len, piece, last_piece, magic_and_version, header, chunk_nonce}
+use Rattle.aead_ciphers.specs.Gcm.{gcm_decrypted, gcm_tag}
+use Rattle.sealed_file.specs.Format.{ChunkKey, chunk_len, chunk_nonce, last_piece, piece, sealed_chunk_len, sealed_chunk_of, version_1, version_2}
 
 -- what stands in front of the last 16 bytes, the tag
 abbrev pub ciphertext_of : List ℕ → List ℕ
 ciphertext_of sealed = take (length sealed - 16) sealed
 
 -- the tag that is defined for the ciphertext of the chunk of this number that is the last, or isn't
-abbrev pub chunk_tag : (key prefix : List ℕ) (number : ℕ) (is_last : Bool) (ciphertext : List ℕ) → List ℕ
-chunk_tag key prefix number is_last ciphertext =
-    gcm_tag (aes key) (chunk_nonce prefix number is_last) (header prefix) ciphertext
+abbrev pub chunk_tag : (k : ChunkKey) (number : ℕ) (is_last : Bool) (ciphertext : List ℕ) → List ℕ
+chunk_tag k number is_last ciphertext = gcm_tag (aes k.key) (chunk_nonce k.prefix number is_last) k.header ciphertext
 
 -- the bytes end in the tag that is defined for the chunk of this number that is the last, or isn't
-pub record HasTag (key prefix : List ℕ) (number : ℕ) (is_last : Bool) (sealed : List ℕ) : Type 0 where
+pub record HasTag (k : ChunkKey) (number : ℕ) (is_last : Bool) (sealed : List ℕ) : Type 0 where
   pub size : 16 ≤ length sealed
-  pub tag : drop (length sealed - 16) sealed ≡ chunk_tag key prefix number is_last (ciphertext_of sealed)
-
--- a chunk's ciphertext as one that isn't the last has the same tag as the last one
-abbrev pub HasBothTags : (key prefix : List ℕ) (number : ℕ) (chunk : List ℕ) → Type 0
-HasBothTags key prefix number chunk =
-    let ciphertext = gcm_encrypted (aes key) (chunk_nonce prefix number false) chunk in
-    chunk_tag key prefix number false ciphertext ≡ chunk_tag key prefix number true ciphertext
+  pub tag : drop (length sealed - 16) sealed ≡ chunk_tag k number is_last (ciphertext_of sealed)
 
 -- the message of a sealed chunk
-unfoldable pub opened_chunk : (key prefix : List ℕ) (number : ℕ) (is_last : Bool) (sealed : List ℕ) → List ℕ
-opened_chunk key prefix number is_last sealed =
-    gcm_decrypted (aes key) (chunk_nonce prefix number is_last) (ciphertext_of sealed)
+unfoldable pub opened_chunk : (k : ChunkKey) (number : ℕ) (is_last : Bool) (sealed : List ℕ) → List ℕ
+opened_chunk k number is_last sealed =
+    gcm_decrypted (aes k.key) (chunk_nonce k.prefix number is_last) (ciphertext_of sealed)
 
--- the prefix in a sealed file's header
-abbrev pub prefix_of : List ℕ → List ℕ
-prefix_of file = drop 9 (take 16 file)
+-- the bytes of a header: 60 where byte 8, the version, is 2, and else 16
+unfoldable pub header_len : List ℕ → ℕ
+header_len file = if slice_index file 8 == 2 then 60 else 16
+
+-- a file's header, as far as the file goes
+abbrev pub header_of : List ℕ → List ℕ
+header_of file = take (header_len file) file
 
 -- what comes after the header
 abbrev pub body_of : List ℕ → List ℕ
-body_of file = drop 16 file
+body_of file = drop (header_len file) file
+
+-- what the chunks after a header were sealed under, by the bytes after the magic and the version
+unfoldable pub chunk_key : (key header : List ℕ) → ChunkKey
+chunk_key key header =
+    let bytes = drop 9 header in
+    if slice_index header 8 == 2 then version_2 key (take 19 bytes) else version_1 key (take 7 bytes)
+
+-- the bytes are a header under this key: the one that is defined for the random bytes in it
+pub record HasHeader (key header : List ℕ) : Type 0 where
+  pub size : 16 ≤ length header
+  pub right : header ≡ (chunk_key key header).header
+
+-- what the chunks of a file were sealed under
+abbrev pub key_of : (key file : List ℕ) → ChunkKey
+key_of key file = chunk_key key (header_of file)
 
 -- the number of the last chunk
 abbrev pub last_chunk : List ℕ → ℕ
 last_chunk file = last_piece sealed_chunk_len (length (body_of file))
 
+-- chunk i of a sealed file
+abbrev pub chunk_of : (file : List ℕ) → ℕ → List ℕ
+chunk_of file i = piece sealed_chunk_len (body_of file) i
+
 -- chunk i of a sealed file has its tag
 abbrev pub HasRightTag : (key file : List ℕ) → ℕ → Type 0
-HasRightTag key file i = HasTag key (prefix_of file) i (i == last_chunk file) (piece sealed_chunk_len (body_of file) i)
+HasRightTag key file i = HasTag (key_of key file) i (i == last_chunk file) (chunk_of file i)
 
 -- the first n chunks have their tags
 pub record AreRight (key file : List ℕ) (n : ℕ) : Type 0 where
   pub each : (i : ℕ) → i < n → HasRightTag key file i
 
--- the header is whole, and of this magic and version
-pub record HasHeader (file : List ℕ) : Type 0 where
-  pub size : 16 ≤ length file
-  pub right : take 9 file ≡ magic_and_version
-
--- the header is right, and every chunk has the tag that is defined for the file's prefix, its number and whether it is
--- the last
+-- the header is right, and every chunk has the tag that is defined for the header, its number and whether it is the last
 pub record IsSealed (key file : List ℕ) : Type 0 where
-  pub front : HasHeader file
+  pub front : HasHeader key (header_of file)
   pub few : last_chunk file < 2 ^ 32 - 1
   pub tags : AreRight key file (last_chunk file + 1)
 
 -- the messages of the first n chunks, in order
 unfoldable pub opened_chunks : (key file : List ℕ) (n : ℕ) → List ℕ
-opened_chunks key file n = concat (each_below n (λ i.
-    opened_chunk key (prefix_of file) i (i == last_chunk file) (piece sealed_chunk_len (body_of file) i)))
+opened_chunks key file n =
+    concat (each_below n (λ i. opened_chunk (key_of key file) i (i == last_chunk file) (chunk_of file i)))
 
 -- the messages of all chunks, in order
 abbrev pub opened_file : (key file : List ℕ) → List ℕ
 opened_file key file = opened_chunks key file (last_chunk file + 1)
+
+-- the length of a sealed file of version 2: a header, and then fewer than 2^32 chunks that each hold a tag
+pub record IsSealedLen (n : ℕ) : Type 0 where
+  pub header : 60 ≤ n
+  pub tag : sealed_chunk_len * last_piece sealed_chunk_len (n - 60) + 16 ≤ n - 60
+  pub few : last_piece sealed_chunk_len (n - 60) < 2 ^ 32 - 1
+
+-- sealing a file made these bytes as chunk i, the last or not
+pub record IsMade (k : ChunkKey) (file : List ℕ) (i : ℕ) (is_last : Bool) (sealed : List ℕ) : Type 0 where
+  pub in_range : i ≤ last_piece chunk_len (length file)
+  pub kind : is_last ≡ (i == last_piece chunk_len (length file))
+  pub same : sealed ≡ sealed_chunk_of k file i
+
+-- chunk i of another file has the tag that is defined for its number and whether it is the last, and sealing the file made
+-- other bytes there or none
+pub record IsForged (k : ChunkKey) (file other : List ℕ) (i : ℕ) : Type 0 where
+  pub in_range : i ≤ last_chunk other
+  pub tag : HasTag k i (i == last_chunk other) (chunk_of other i)
+  pub new : ¬ IsMade k file i (i == last_chunk other) (chunk_of other i)

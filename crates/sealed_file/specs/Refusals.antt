@@ -1,9 +1,10 @@
 -- When each error comes.
-use Rattle.std.specs.Prelude.{◌≡◌, ◌≢◌, ℕ, Bool, true, false, ◌-◌, ◌^◌, ◌<◌, ◌≤◌, ◌⊎◌, ⊤, List, length, take, codes, slice_index, ◌==◌}
+use Rattle.std.specs.Prelude.{◌≡◌, ◌≢◌, ℕ, Bool, true, false, ◌-◌, ◌^◌, ◌<◌, ◌≤◌, ◌⊎◌, ⊤, List, length, take, drop, codes, slice_index, ◌==◌}
 use Rattle.sealed_file.specs.declared.error.FileError.{FileError}
-use Rattle.sealed_file.specs.declared.error.FileError.TheVariants.{AnotherMagic, AnotherVersion, EndsEarly, TrailingBytes, Refused, TooLong, OutOfMemory, Io}
-use Rattle.sealed_file.specs.Format.{chunk_len, sealed_chunk_len, piece, last_piece}
-use Rattle.sealed_file.specs.Opening.{HasTag, HasHeader, AreRight, last_chunk, prefix_of, body_of}
+use Rattle.sealed_file.specs.declared.error.FileError.TheVariants.{AnotherMagic, AnotherVersion, WrongKey, EndsEarly, TrailingBytes, Refused, TooLong, OutOfMemory, Io}
+use Rattle.sealed_file.specs.Derivation.{commitment}
+use Rattle.sealed_file.specs.Format.{ChunkKey, chunk_len, last_piece, magic_and_version}
+use Rattle.sealed_file.specs.Opening.{HasTag, HasHeader, AreRight, chunk_of, header_of, key_of, last_chunk}
 
 -- why a file isn't sealed
 abbrev pub SealRefuses : List ℕ → FileError → Type 0
@@ -11,39 +12,55 @@ SealRefuses file TooLong = 2 ^ 32 - 1 ≤ last_piece chunk_len (length file)
 SealRefuses file (Io error) = ⊤
 SealRefuses file error = ⊥
 
--- why the bytes aren't a header
-abbrev pub HeaderRefuses : List ℕ → FileError → Type 0
-HeaderRefuses bytes EndsEarly = length bytes < 16
-HeaderRefuses bytes AnotherMagic = (16 ≤ length bytes) × (take 8 bytes ≢ codes "SEALFILE")
-HeaderRefuses bytes (AnotherVersion version) = (16 ≤ length bytes) × (take 8 bytes ≡ codes "SEALFILE")
-    × (slice_index bytes 8 ≡ version) × (version ≢ 1)
-HeaderRefuses bytes error = ⊥
+-- the bytes begin with the magic and version 2
+pub record IsVersion2 (header : List ℕ) : Type 0 where
+  pub front : take 9 header ≡ magic_and_version 2
+
+-- a header of version 2 that is whole, but whose commitment isn't that of this key to the random bytes in it
+pub record IsOfAnotherKey (key header : List ℕ) : Type 0 where
+  pub version : IsVersion2 header
+  pub size : length header ≡ 60
+  pub other : drop 28 header ≢ commitment key (take 12 (drop 9 header))
+
+-- why the bytes aren't a header under this key
+abbrev pub HeaderRefuses : (key header : List ℕ) → FileError → Type 0
+HeaderRefuses key header EndsEarly = (length header < 16) ⊎ (IsVersion2 header × (length header < 60))
+HeaderRefuses key header AnotherMagic = (16 ≤ length header) × (take 8 header ≢ codes "SEALFILE")
+HeaderRefuses key header (AnotherVersion version) = (16 ≤ length header) × (take 8 header ≡ codes "SEALFILE")
+    × (slice_index header 8 ≡ version) × (version ≢ 1) × (version ≢ 2)
+HeaderRefuses key header WrongKey = IsOfAnotherKey key header
+HeaderRefuses key header error = ⊥
 
 -- why a sealed chunk isn't opened: a tag that is right for the other kind of chunk tells a file that was cut after the
 -- chunk, or that goes on after it
-abbrev pub ChunkRefuses : (key prefix : List ℕ) (number : ℕ) (is_last : Bool) (sealed : List ℕ) → FileError → Type 0
-ChunkRefuses key prefix number is_last sealed EndsEarly =
-    (length sealed < 16) ⊎ ((is_last ≡ true) × HasTag key prefix number false sealed)
-ChunkRefuses key prefix number is_last sealed TrailingBytes =
-    (is_last ≡ false) × HasTag key prefix number true sealed
-ChunkRefuses key prefix number is_last sealed (Refused at) =
-    (at ≡ number) × (16 ≤ length sealed)
-    × ¬ HasTag key prefix number true sealed × ¬ HasTag key prefix number false sealed
-ChunkRefuses key prefix number is_last sealed error = ⊥
+abbrev pub ChunkRefuses : (k : ChunkKey) (number : ℕ) (is_last : Bool) (sealed : List ℕ) → FileError → Type 0
+ChunkRefuses k number is_last sealed EndsEarly =
+    (length sealed < 16) ⊎ ((is_last ≡ true) × HasTag k number false sealed)
+ChunkRefuses k number is_last sealed TrailingBytes = (is_last ≡ false) × HasTag k number true sealed
+ChunkRefuses k number is_last sealed (Refused at) =
+    (at ≡ number) × (16 ≤ length sealed) × ¬ HasTag k number true sealed × ¬ HasTag k number false sealed
+ChunkRefuses k number is_last sealed error = ⊥
 
 -- the header is right and the first n chunks are, and the next isn't
 pub record RefusesAt (key file : List ℕ) (error : FileError) (n : ℕ) : Type 0 where
-  pub front : HasHeader file
+  pub front : HasHeader key (header_of file)
   pub right : AreRight key file n
   pub in_range : n ≤ last_chunk file
-  pub wrong : let is_last = n == last_chunk file in let sealed = piece sealed_chunk_len (body_of file) n in
-      (¬ HasTag key (prefix_of file) n is_last sealed) × ChunkRefuses key (prefix_of file) n is_last sealed error
+  pub wrong : let is_last = n == last_chunk file in
+      (¬ HasTag (key_of key file) n is_last (chunk_of file n)) × ChunkRefuses (key_of key file) n is_last (chunk_of file n) error
 
 -- why a file isn't opened
 abbrev pub OpenRefuses : (key file : List ℕ) → FileError → Type 0
-OpenRefuses key file TooLong = HasHeader file × AreRight key file (2 ^ 32 - 1) × (2 ^ 32 - 1 ≤ last_chunk file)
+OpenRefuses key file TooLong =
+    HasHeader key (header_of file) × AreRight key file (2 ^ 32 - 1) × (2 ^ 32 - 1 ≤ last_chunk file)
 OpenRefuses key file (Io error) = ⊤
-OpenRefuses key file error = HeaderRefuses (take 16 file) error ⊎ ((n : ℕ) × RefusesAt key file error n)
+OpenRefuses key file error = HeaderRefuses key (header_of file) error ⊎ ((n : ℕ) × RefusesAt key file error n)
+
+-- why one chunk isn't opened
+abbrev pub ChunkAtRefuses : (key header : List ℕ) (number : ℕ) (is_last : Bool) (sealed : List ℕ) → FileError → Type 0
+ChunkAtRefuses key header number is_last sealed error = HeaderRefuses key (header_of header) error
+    ⊎ (HasHeader key (header_of header) × (¬ HasTag (key_of key header) number is_last sealed)
+    × ChunkRefuses (key_of key header) number is_last sealed error)
 
 -- why a call over slices fails: memory was wanted, or it refuses what it was given, and never by `Io`
 abbrev pub FailsInMemory : (lacks_room : Type 0) (Refuses : FileError → Type 0) → FileError → Type 0

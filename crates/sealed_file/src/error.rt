@@ -13,11 +13,14 @@ pub enum FileError {
     AnotherMagic,
     /// The file is of another version of the format, this one.
     AnotherVersion(u8),
+    /// The header commits to another key, or was changed. Files of version 1 commit to none.
+    WrongKey,
     /// The file ends within its header, within a tag, or after a chunk that isn't the last.
     EndsEarly,
     /// Bytes come after the last chunk.
     TrailingBytes,
-    /// The chunk of this number, from 0 on, has another tag: the key is another one, or the chunk changed.
+    /// The chunk of this number, from 0 on, has another tag: it was changed, or the file is of version 1 and the key is
+    /// another one.
     Refused(u32),
     /// The file has more than `MAX_CHUNKS` chunks.
     TooLong,
@@ -34,13 +37,14 @@ impl fmt::Display for FileError {
             FileError::AnotherMagic => write!(f, "not a sealed file"),
             FileError::AnotherVersion(version) => write!(
                 f,
-                "a sealed file of version {version}, which isn't 1"
+                "a sealed file of version {version}, which is neither 1 nor 2"
             ),
+            FileError::WrongKey => write!(f, "another key, or the header was changed"),
             FileError::EndsEarly => write!(f, "the sealed file ends early"),
             FileError::TrailingBytes => write!(f, "bytes after the last chunk"),
             FileError::Refused(number) => write!(
                 f,
-                "another key, or chunk {number} was changed or cut"
+                "chunk {number} was changed or cut, or (version 1) the key is another"
             ),
             FileError::TooLong => write!(f, "the file is too long: it has 2^32 chunks or more"),
             FileError::OutOfMemory => write!(f, "out of memory"),

@@ -1,15 +1,13 @@
 //! Sealing and opening files that stand in memory.
 
 ghost use Rattle.std.specs.Prelude.{ℕ, List, ◌≡◌, ◌+◌, ◌-◌, ◌*◌, ◌^◌, ◌<◌, ◌≤◌, ◌↔◌, ◌++◌, length, vec_capacity, vec_len, take, drop, IsOk, IfErr, OnOk, OnErr};
-ghost use Rattle.sealed_file.specs.Format.{chunk_len, sealed_chunk_len, last_piece, piece, sealed_chunk, sealed_file};
-ghost use Rattle.sealed_file.specs.Opening.{HasTag, IsSealed, body_of, last_chunk, opened_chunk, opened_file};
+ghost use Rattle.sealed_file.specs.Format.{chunk_len, sealed_chunk_len, last_piece, piece, sealed_chunk, sealed_file, version_2};
+ghost use Rattle.sealed_file.specs.Opening.{HasTag, IsSealed, chunk_of, header_len, last_chunk, opened_chunk, opened_file};
 ghost use Rattle.sealed_file.specs.Refusals.{ChunkRefuses, FailsInMemory, OpenRefuses, SealRefuses};
 
-use crate::chunk::{
-    CHUNK_LEN, HEADER_LEN, MAX_CHUNKS, PREFIX_LEN, Prefix, SEALED_CHUNK_LEN, header_of,
-    open_ciphertext, prefix_in, seal_slice,
-};
+use crate::chunk::{CHUNK_LEN, MAX_CHUNKS, SEALED_CHUNK_LEN, open_ciphertext, seal_slice};
 use crate::error::FileError;
+use crate::header::{ChunkCipher, HEADER_LEN, RANDOM_LEN, cipher_of, header_len};
 use crate::key::FileKey;
 use aead_ciphers::aead::{MAX_TAG_LEN, Tag};
 
@@ -48,8 +46,7 @@ fn append(bytes: &[u8], out: &mut Vec<u8>)
 
 /// Seals the chunk that `bytes` is from `start` on, at most `CHUNK_LEN` bytes, and returns its tag.
 fn seal_from(
-    key: &FileKey,
-    prefix: &Prefix,
+    cipher: &ChunkCipher,
     number: u32,
     is_last: bool,
     bytes: &mut [u8],
@@ -59,72 +56,64 @@ fn seal_from(
     requires chunk { length bytes.old ≤ start + chunk_len }
     ensures front { take start bytes.new ≡ take start bytes.old }
     ensures sealed { drop start bytes.new ++ result
-        ≡ sealed_chunk key.now prefix.now number is_last (drop start bytes.old) }
+        ≡ sealed_chunk cipher.now number is_last (drop start bytes.old) }
 {
-    seal_slice(key, prefix, number, is_last, &mut bytes[start..])
+    seal_slice(cipher, number, is_last, &mut bytes[start..])
 }
 
 /// Seals a chunk of at most `CHUNK_LEN` bytes onto `out`, which has room for it and its tag.
-fn append_sealed(
-    key: &FileKey,
-    prefix: &Prefix,
-    number: u32,
-    is_last: bool,
-    chunk: &[u8],
-    out: &mut Vec<u8>,
-)
+fn append_sealed(cipher: &ChunkCipher, number: u32, is_last: bool, chunk: &[u8], out: &mut Vec<u8>)
     requires chunk { length chunk.now ≤ chunk_len }
     requires room { vec_len out.old + length chunk.now + 16 ≤ vec_capacity out.old }
     ensures sealed { out.new.items
-        ≡ out.old.items ++ sealed_chunk key.now prefix.now number is_last chunk.now }
+        ≡ out.old.items ++ sealed_chunk cipher.now number is_last chunk.now }
     ensures capacity { vec_capacity out.old ≤ vec_capacity out.new }
 {
     let start = out.len();
     append(chunk, out);
-    let tag = seal_from(key, prefix, number, is_last, out, start);
+    let tag = seal_from(cipher, number, is_last, out, start);
     append(tag.as_ref(), out);
 }
 
-/// Seals `file`, and appends the sealed file to `out`. A prefix is for one file under a key.
+/// Seals `file` as version 2, and appends the sealed file to `out`. The random bytes are for one file under a key.
 ///
 /// Fails with `TooLong` where the file has more than `MAX_CHUNKS` chunks, and else with `OutOfMemory` where `out` has
 /// no room for the sealed file and memory is refused. `out` then holds what it did.
 pub fn seal_bytes(
     key: &FileKey,
-    prefix: [u8; PREFIX_LEN],
+    random: [u8; RANDOM_LEN],
     file: &[u8],
     out: &mut Vec<u8>,
 ) -> Result<(), FileError>
     ensures few { IsOk result → last_piece chunk_len (length file.now) < 2 ^ 32 - 1 }
     ensures sealed { OnOk result (out.new.items
-        ≡ out.old.items ++ sealed_file key.now prefix file.now) }
-    ensures accepted { let grown = vec_len out.old + length (sealed_file key.now prefix file.now) in
+        ≡ out.old.items ++ sealed_file (version_2 key.now random) file.now) }
+    ensures accepted { let grown = vec_len out.old + length (sealed_file (version_2 key.now random) file.now) in
         grown ≤ vec_capacity out.old
         → (IsOk result ↔ (last_piece chunk_len (length file.now) < 2 ^ 32 - 1)) }
-    ensures refused { let grown = vec_len out.old + length (sealed_file key.now prefix file.now) in
+    ensures refused { let grown = vec_len out.old + length (sealed_file (version_2 key.now random) file.now) in
         IfErr result (λ error.
         FailsInMemory (vec_capacity out.old < grown) (SealRefuses file.now) error) }
     ensures kept { OnErr result (out.new.items ≡ out.old.items) }
 {
-    let header = header_of(&prefix);
+    let cipher = ChunkCipher::new(key, &random);
     let last = last_piece_of(file.len(), CHUNK_LEN);
     if last >= MAX_CHUNKS as usize {
         return Err(FileError::TooLong);
     }
     let count = last as u32 + 1;
     out.reserve(HEADER_LEN + file.len() + count as usize * MAX_TAG_LEN)?;
-    append(header.as_slice(), out);
+    append(cipher.header(), out);
     for number in 0..count {
         let chunk = piece_of(file, CHUNK_LEN, number);
-        append_sealed(key, &prefix, number, number as usize == last, chunk, out);
+        append_sealed(&cipher, number, number as usize == last, chunk, out);
     }
     Ok(())
 }
 
 /// Opens the ciphertext that `bytes` is from `start` on, at most `CHUNK_LEN` bytes.
 fn open_from(
-    key: &FileKey,
-    prefix: &Prefix,
+    cipher: &ChunkCipher,
     number: u32,
     is_last: bool,
     tag: &[u8; MAX_TAG_LEN],
@@ -135,20 +124,19 @@ fn open_from(
     requires chunk { length bytes.old ≤ start + chunk_len }
     ensures front { take start bytes.new ≡ take start bytes.old }
     ensures accepted { IsOk result
-        ↔ HasTag key.now prefix.now number is_last (drop start bytes.old ++ tag.now) }
+        ↔ HasTag cipher.now number is_last (drop start bytes.old ++ tag.now) }
     ensures opened { OnOk result (drop start bytes.new
-        ≡ opened_chunk key.now prefix.now number is_last (drop start bytes.old ++ tag.now)) }
+        ≡ opened_chunk cipher.now number is_last (drop start bytes.old ++ tag.now)) }
     ensures refused { IfErr result (λ error.
-        ChunkRefuses key.now prefix.now number is_last (drop start bytes.old ++ tag.now) error) }
+        ChunkRefuses cipher.now number is_last (drop start bytes.old ++ tag.now) error) }
 {
-    open_ciphertext(key, prefix, number, is_last, tag, &mut bytes[start..])
+    open_ciphertext(cipher, number, is_last, tag, &mut bytes[start..])
 }
 
 /// Opens a sealed chunk onto `out`, which has room for the message. On an error bytes that aren't authentic may stand
 /// after what `out` held.
-fn append_opened(
-    key: &FileKey,
-    prefix: &Prefix,
+pub(crate) fn append_opened(
+    cipher: &ChunkCipher,
     number: u32,
     is_last: bool,
     sealed: &[u8],
@@ -157,11 +145,11 @@ fn append_opened(
     requires chunk { length sealed.now ≤ sealed_chunk_len }
     requires room { vec_len out.old + (length sealed.now - 16) ≤ vec_capacity out.old }
     ensures front { take (vec_len out.old) out.new.items ≡ out.old.items }
-    ensures accepted { IsOk result ↔ HasTag key.now prefix.now number is_last sealed.now }
+    ensures accepted { IsOk result ↔ HasTag cipher.now number is_last sealed.now }
     ensures opened { OnOk result (out.new.items
-        ≡ out.old.items ++ opened_chunk key.now prefix.now number is_last sealed.now) }
+        ≡ out.old.items ++ opened_chunk cipher.now number is_last sealed.now) }
     ensures refused { IfErr result (λ error.
-        ChunkRefuses key.now prefix.now number is_last sealed.now error) }
+        ChunkRefuses cipher.now number is_last sealed.now error) }
     ensures capacity { vec_capacity out.old ≤ vec_capacity out.new }
 {
     let Some((ciphertext, tag)) = sealed.split_last_chunk::<MAX_TAG_LEN>() else {
@@ -169,23 +157,26 @@ fn append_opened(
     };
     let start = out.len();
     append(ciphertext, out);
-    open_from(key, prefix, number, is_last, tag, out, start)
+    open_from(cipher, number, is_last, tag, out, start)
 }
 
 /// The number of the last chunk of a sealed file.
 fn last_chunk_of(sealed: &[u8]) -> usize
     ensures { result ≡ last_chunk sealed.now }
 {
-    last_piece_of(sealed.len().saturating_sub(HEADER_LEN), SEALED_CHUNK_LEN)
+    last_piece_of(
+        sealed.len().saturating_sub(header_len(sealed)),
+        SEALED_CHUNK_LEN,
+    )
 }
 
 /// The chunk of this number of a sealed file.
 fn chunk_of(sealed: &[u8], number: u32) -> &[u8]
-    requires header { 16 ≤ length sealed.now }
+    requires header { header_len sealed.now ≤ length sealed.now }
     requires in_range { number ≤ last_chunk sealed.now }
-    ensures { result.now ≡ piece sealed_chunk_len (body_of sealed.now) number }
+    ensures { result.now ≡ chunk_of sealed.now number }
 {
-    piece_of(&sealed[HEADER_LEN..], SEALED_CHUNK_LEN, number)
+    piece_of(&sealed[header_len(sealed)..], SEALED_CHUNK_LEN, number)
 }
 
 /// The length of what a sealed file gives.
@@ -193,7 +184,7 @@ fn opened_len(sealed: &[u8]) -> usize
     ensures { (key : List ℕ) → result ≡ length (opened_file key sealed.now) }
 {
     let last = last_chunk_of(sealed);
-    let body = sealed.len().saturating_sub(HEADER_LEN);
+    let body = sealed.len().saturating_sub(header_len(sealed));
     last * CHUNK_LEN + (body - last * SEALED_CHUNK_LEN).saturating_sub(MAX_TAG_LEN)
 }
 
@@ -207,16 +198,13 @@ fn append_file(key: &FileKey, sealed: &[u8], out: &mut Vec<u8>) -> Result<(), Fi
         IfErr result (λ error.
         FailsInMemory (vec_capacity out.old < grown) (OpenRefuses key.now sealed.now) error) }
 {
-    let Some(header) = sealed.first_chunk::<HEADER_LEN>() else {
-        return Err(FileError::EndsEarly);
-    };
-    let prefix = prefix_in(header)?;
+    let cipher = cipher_of(key, sealed)?;
     let last = last_chunk_of(sealed);
     out.reserve(opened_len(sealed))?;
     for number in 0..MAX_CHUNKS {
         let chunk = chunk_of(sealed, number);
         let is_last = number as usize == last;
-        append_opened(key, &prefix, number, is_last, chunk, out)?;
+        append_opened(&cipher, number, is_last, chunk, out)?;
         if is_last {
             return Ok(());
         }

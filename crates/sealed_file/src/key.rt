@@ -2,14 +2,16 @@
 
 ghost use Rattle.std.specs.Prelude.{◌≡◌, ◌↔◌, length, IsOk, IfOk, IfErr};
 
+use crate::derivation::derived_pair;
 use crate::error::FileError;
-use aead_ciphers::aead::{AES_256_GCM, LessSafeKey, UnboundKey};
+use crate::header::Context;
+use aead_ciphers_base::aes::AES_256_KEY_LEN;
 use std::marker::Model;
 
-/// A key of 32 bytes, for AES-256-GCM.
+/// A key of 32 bytes, from which the key of each file is derived.
 #[derive(Drop)]
 pub struct FileKey {
-    pub(crate) key: LessSafeKey,
+    pub(crate) bytes: [u8; AES_256_KEY_LEN],
 }
 
 impl Model for FileKey {
@@ -17,21 +19,36 @@ impl Model for FileKey {
 
     ghost Value = { List ℕ };
 
-    ghost view = { λ file_key. file_key.key.bytes };
+    ghost view = { λ file_key. file_key.bytes };
 }
 
 impl FileKey {
+    ghost use Rattle.sealed_file.specs.Derivation.{commitment, derived_key};
+
     /// The key of these bytes. Refused by `KeyLength` where they aren't 32.
     pub fn new(bytes: &[u8]) -> Result<FileKey, FileError>
         ensures accepted { IsOk result ↔ (length bytes.now ≡ 32) }
         ensures made { IfOk result (λ key. key ≡ bytes.now) }
         ensures refused { IfErr result (λ error. error ≡ FileError.KeyLength) }
     {
-        match UnboundKey::new(&AES_256_GCM, bytes) {
-            Ok(key) => Ok(FileKey {
-                key: LessSafeKey::new(key),
-            }),
-            Err(_) => Err(FileError::KeyLength),
+        match bytes.as_array::<AES_256_KEY_LEN>() {
+            Some(bytes) => Ok(FileKey { bytes: *bytes }),
+            None => Err(FileError::KeyLength),
         }
+    }
+
+    /// The key of the files of version 2 whose random bytes begin with this context: the AES-256-GCM key that
+    /// XAES-256-GCM derives for a nonce that begins with it.
+    pub fn derived_key(&self, context: &Context) -> [u8; AES_256_KEY_LEN]
+        ensures { result ≡ derived_key self.now context.now }
+    {
+        derived_pair(&self.bytes, context, 1)
+    }
+
+    /// The commitment to this key in the headers of those files.
+    pub fn commitment(&self, context: &Context) -> [u8; AES_256_KEY_LEN]
+        ensures { result ≡ commitment self.now context.now }
+    {
+        derived_pair(&self.bytes, context, 3)
     }
 }

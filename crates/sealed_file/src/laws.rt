@@ -1,24 +1,40 @@
 //! Laws of the format: functions that answer nothing, whose contracts state a law for their arguments.
 
-ghost use Rattle.std.specs.Prelude.{◌≡◌, ◌+◌, ◌-◌, ◌*◌, ◌^◌, ◌<◌, ◌≤◌, length, take};
-ghost use Rattle.sealed_file.specs.Format.{chunk_len, sealed_chunk_len, last_piece, piece, sealed_file};
-ghost use Rattle.sealed_file.specs.Opening.{HasBothTags, IsSealed, opened_file};
+ghost use Rattle.std.specs.Prelude.{ℕ, ◌≡◌, ◌≢◌, ◌-◌, ◌^◌, ◌<◌, length};
+ghost use Rattle.sealed_file.specs.Format.{chunk_len, last_piece, sealed_file, version_1, version_2};
+ghost use Rattle.sealed_file.specs.Opening.{IsForged, IsSealed, header_of, opened_file};
 
-use crate::chunk::PREFIX_LEN;
+use crate::header::{PREFIX_LEN, RANDOM_LEN};
 
 /// Opening undoes sealing: a file that was sealed is accepted and comes back, whatever its length.
-#[tactic(auto, using(crate::proofs::FileLemmas::opened_sealed_file))]
-pub fn opens_again(key: &[u8], prefix: &[u8; PREFIX_LEN], file: &[u8])
+pub fn opens_again(key: &[u8], random: &[u8; RANDOM_LEN], file: &[u8])
     requires { last_piece chunk_len (length file.now) < 2 ^ 32 - 1 }
-    ensures accepted { IsSealed key.now (sealed_file key.now prefix.now file.now) }
-    ensures comes_back { opened_file key.now (sealed_file key.now prefix.now file.now) ≡ file.now }
+    ensures accepted { IsSealed key.now (sealed_file (version_2 key.now random.now) file.now) }
+    ensures comes_back { opened_file key.now (sealed_file (version_2 key.now random.now) file.now)
+        ≡ file.now }
 {}
 
-/// A sealed file that is cut after its first `n` chunks is accepted only if the tag of the last of them, which was
-/// made for a chunk that isn't the last, is also its tag as the last.
-pub fn cut_file(key: &[u8], prefix: &[u8; PREFIX_LEN], file: &[u8], n: usize)
-    requires some { 0 < n }
-    requires inside { n ≤ last_piece chunk_len (length file.now) }
-    ensures { IsSealed key.now (take (16 + sealed_chunk_len * n) (sealed_file key.now prefix.now file.now))
-        → HasBothTags key.now prefix.now (n - 1) (piece chunk_len file.now (n - 1)) }
+/// The same of a file that was sealed as version 1 defines.
+pub fn version_1_opens_again(key: &[u8], prefix: &[u8; PREFIX_LEN], file: &[u8])
+    requires { last_piece chunk_len (length file.now) < 2 ^ 32 - 1 }
+    ensures accepted { IsSealed key.now (sealed_file (version_1 key.now prefix.now) file.now) }
+    ensures comes_back { opened_file key.now (sealed_file (version_1 key.now prefix.now) file.now)
+        ≡ file.now }
+{}
+
+/// Another file under the header of a sealed one is accepted only with a forged chunk: one that has the tag which is
+/// defined for its number and whether it is the last, where sealing made another chunk or none.
+pub fn another_file(key: &[u8], random: &[u8; RANDOM_LEN], file: &[u8], other: &[u8])
+    requires header { header_of other.now ≡ (version_2 key.now random.now).header }
+    requires another { other.now ≢ sealed_file (version_2 key.now random.now) file.now }
+    requires accepted { IsSealed key.now other.now }
+    ensures { (i : ℕ) × IsForged (version_2 key.now random.now) file.now other.now i }
+{}
+
+/// The same of version 1.
+pub fn another_file_of_version_1(key: &[u8], prefix: &[u8; PREFIX_LEN], file: &[u8], other: &[u8])
+    requires header { header_of other.now ≡ (version_1 key.now prefix.now).header }
+    requires another { other.now ≢ sealed_file (version_1 key.now prefix.now) file.now }
+    requires accepted { IsSealed key.now other.now }
+    ensures { (i : ℕ) × IsForged (version_1 key.now prefix.now) file.now other.now i }
 {}

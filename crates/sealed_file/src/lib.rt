@@ -1,19 +1,25 @@
-//! Sealed files: a header, and then a file in chunks of 64 KiB, each sealed by AES-256-GCM under a nonce of the file's
-//! prefix, the chunk's number and whether it is the last (STREAM). The repository's docs/SEALED_FILE.md has the format.
+//! Sealed files: a header, and then a file in chunks of 64 KiB, each sealed by AES-256-GCM under a key that is derived for
+//! the file, and a nonce of the file's prefix, the chunk's number and whether it is the last (STREAM). The repository's
+//! docs/SEALED_FILE.md has the format.
 #![tactic(auto)]
 
 mod chunk;
+mod derivation;
 mod error;
+mod header;
 mod in_memory;
 mod key;
 pub mod laws;
 mod opening;
+mod random_access;
 mod sealing;
 mod stream;
 
-pub use self::chunk::{CHUNK_LEN, HEADER_LEN, MAGIC, MAX_CHUNKS, PREFIX_LEN, VERSION};
+pub use self::chunk::{CHUNK_LEN, MAX_CHUNKS, SEALED_CHUNK_LEN};
 pub use self::error::FileError;
+pub use self::header::{CONTEXT_LEN, Context, HEADER_LEN, MAGIC, PREFIX_LEN, RANDOM_LEN, VERSION};
 pub use self::in_memory::{open_bytes, seal_bytes};
 pub use self::key::FileKey;
 pub use self::opening::open;
+pub use self::random_access::{open_chunk_at, plaintext_len};
 pub use self::sealing::seal;

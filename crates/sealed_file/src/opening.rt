@@ -6,20 +6,21 @@ ghost use Rattle.sealed_file.specs.Opening.{AreRight, IsSealed, opened_chunks, o
 ghost use Rattle.sealed_file.specs.Refusals.{OpenRefuses};
 ghost use Rattle.sealed_file.specs.Streams.{AppendsBeginning};
 
-use crate::chunk::{HEADER_LEN, MAX_CHUNKS, Prefix, SEALED_CHUNK_LEN, open_chunk, prefix_in};
+use crate::chunk::{MAX_CHUNKS, SEALED_CHUNK_LEN, open_chunk};
 use crate::error::FileError;
+use crate::header::cipher_of;
 use crate::key::FileKey;
-use crate::stream::{buffers, read_piece, write_bytes};
+use crate::stream::{buffers, read_header, read_piece, write_bytes};
 use std::alloc::Global;
 use std::io::{Read, Write};
 use std::mem;
 
-/// Opens the sealed file that `input` gives. A chunk's message is written once its tag was found right.
+/// Opens the sealed file that `input` gives, of version 1 or 2. A chunk's message is written once its tag was found right.
 ///
 /// It keeps two chunks in memory. Each error but `Io` says what is wrong with the file: `AnotherMagic`,
-/// `AnotherVersion`, `EndsEarly` (within the header or a tag, or after a chunk that isn't the last),
-/// `TrailingBytes` (after a last chunk of `CHUNK_LEN` bytes), `Refused` (any other chunk with a false tag),
-/// `TooLong` (more than `MAX_CHUNKS` chunks).
+/// `AnotherVersion`, `WrongKey` (version 2: the header commits to another key, or was changed; no chunk was read),
+/// `EndsEarly` (within the header or a tag, or after a chunk that isn't the last), `TrailingBytes` (after a last chunk of
+/// `CHUNK_LEN` bytes), `Refused` (any other chunk with a false tag), `TooLong` (more than `MAX_CHUNKS` chunks).
 pub fn open<R: Read, W: Write>(
     alloc: Global,
     key: &FileKey,
@@ -35,13 +36,13 @@ pub fn open<R: Read, W: Write>(
         × AppendsBeginning (W.contents output.old) (W.contents output.new) (opened_chunks key.now file n))) }
 {
     let (mut chunk, mut next) = buffers(alloc)?;
-    read_piece(input, HEADER_LEN, &mut chunk)?;
-    let prefix = prefix_in(&chunk)?;
+    read_header(input, &mut chunk, &mut next)?;
+    let cipher = cipher_of(key, &chunk)?;
     read_piece(input, SEALED_CHUNK_LEN, &mut chunk)?;
     for number in 0..MAX_CHUNKS {
         read_piece(input, SEALED_CHUNK_LEN, &mut next)?;
         let is_last = next.is_empty();
-        open_chunk(key, &prefix, number, is_last, &mut chunk)?;
+        open_chunk(&cipher, number, is_last, &mut chunk)?;
         write_bytes(output, &chunk)?;
         if is_last {
             return Ok(());

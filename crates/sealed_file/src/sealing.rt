@@ -2,46 +2,47 @@
 
 ghost use Rattle.std.specs.Prelude.{◌-◌, ◌^◌, ◌<◌, length, IfErr, IfSome, OnOk, OnErr};
 ghost use Rattle.std.specs.Io.KnownBytes.{Appends};
-ghost use Rattle.sealed_file.specs.Format.{chunk_len, last_piece, sealed_file};
+ghost use Rattle.sealed_file.specs.Format.{chunk_len, last_piece, sealed_file, version_2};
 ghost use Rattle.sealed_file.specs.Refusals.{SealRefuses};
 ghost use Rattle.sealed_file.specs.Streams.{AppendsBeginning};
 
-use crate::chunk::{CHUNK_LEN, MAX_CHUNKS, PREFIX_LEN, header_of, seal_chunk};
+use crate::chunk::{CHUNK_LEN, MAX_CHUNKS, seal_chunk};
 use crate::error::FileError;
+use crate::header::{ChunkCipher, RANDOM_LEN};
 use crate::key::FileKey;
 use crate::stream::{buffers, read_piece, write_bytes};
 use std::alloc::Global;
 use std::io::{Read, Write};
 use std::mem;
 
-/// Seals what `input` gives. A prefix is for one file under a key.
+/// Seals what `input` gives, as version 2. The random bytes are for one file under a key.
 ///
 /// It keeps two chunks in memory. `TooLong` comes where the file has more than `MAX_CHUNKS` chunks, and any other
 /// error is one of reading, writing or memory. What was written by then is a beginning of the sealed file.
 pub fn seal<R: Read, W: Write>(
     alloc: Global,
     key: &FileKey,
-    prefix: [u8; PREFIX_LEN],
+    random: [u8; RANDOM_LEN],
     input: &mut R,
     output: &mut W,
 ) -> Result<(), FileError>
     ensures few { OnOk result (IfSome (R.remaining input.old) (λ file.
         last_piece chunk_len (length file) < 2 ^ 32 - 1)) }
     ensures sealed { OnOk result (IfSome (R.remaining input.old) (λ file.
-        Appends (W.contents output.old) (W.contents output.new) (sealed_file key.now prefix file))) }
+        Appends (W.contents output.old) (W.contents output.new) (sealed_file (version_2 key.now random) file))) }
     ensures refused { IfErr result (λ error. IfSome (R.remaining input.old) (λ file.
         SealRefuses file error)) }
     ensures beginning { OnErr result (IfSome (R.remaining input.old) (λ file.
-        AppendsBeginning (W.contents output.old) (W.contents output.new) (sealed_file key.now prefix file))) }
+        AppendsBeginning (W.contents output.old) (W.contents output.new) (sealed_file (version_2 key.now random) file))) }
 {
     let (mut chunk, mut next) = buffers(alloc)?;
-    let header = header_of(&prefix);
-    write_bytes(output, header.as_slice())?;
+    let cipher = ChunkCipher::new(key, &random);
+    write_bytes(output, cipher.header())?;
     read_piece(input, CHUNK_LEN, &mut chunk)?;
     for number in 0..MAX_CHUNKS {
         read_piece(input, CHUNK_LEN, &mut next)?;
         let is_last = next.is_empty();
-        seal_chunk(key, &prefix, number, is_last, &mut chunk)?;
+        seal_chunk(&cipher, number, is_last, &mut chunk)?;
         write_bytes(output, &chunk)?;
         if is_last {
             return Ok(());

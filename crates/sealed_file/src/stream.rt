@@ -4,9 +4,11 @@ ghost use Rattle.std.specs.Prelude.{◌≡◌, ◌+◌, ◌<◌, ◌≤◌, leng
 ghost use Rattle.std.specs.Io.KnownBytes.{Appends, Consumes, IsAtEnd, Keeps};
 ghost use Rattle.std.specs.Vec.{vec_capacity};
 ghost use Rattle.sealed_file.specs.Format.{sealed_chunk_len};
+ghost use Rattle.sealed_file.specs.Opening.{header_len};
 ghost use Rattle.sealed_file.specs.Streams.{AppendsBeginning, TakesFront};
 
 use crate::chunk::SEALED_CHUNK_LEN;
+use crate::header::{HEADER_1_LEN, header_len};
 use std::alloc::Global;
 use std::io::{self, ErrorKind, Read, Write};
 
@@ -69,6 +71,21 @@ pub(crate) fn read_piece<R: Read>(input: &mut R, len: usize, piece: &mut Vec<u8>
     piece.resize(len, 0)?;
     let count = fill(input, piece)?;
     piece.truncate(count);
+    Ok(())
+}
+
+/// Reads the header of a sealed file into `header`, as far as the file goes. `rest` is a buffer.
+pub(crate) fn read_header<R: Read>(
+    input: &mut R,
+    header: &mut Vec<u8>,
+    rest: &mut Vec<u8>,
+) -> io::Result<()>
+    ensures { OnOk result (IfSome (R.remaining input.old) (λ file.
+        TakesFront (header_len file) file header.new.items (R.remaining input.new))) }
+{
+    read_piece(input, HEADER_1_LEN, header)?;
+    read_piece(input, header_len(header) - HEADER_1_LEN, rest)?;
+    header.extend_from_slice(rest)?;
     Ok(())
 }
 

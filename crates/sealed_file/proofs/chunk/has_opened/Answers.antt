@@ -1,14 +1,30 @@
+use Rattle.std.proofs.Common.{◌≤◌, length, ap, subst}
 use Rattle.std.proofs.lemmas.Bool.{OnTrue_from}
+use Rattle.sealed_file.specs.Format.{ChunkKey}
 use Rattle.sealed_file.proofs
 use proofs.ChunkLemmas.{opens_tagged}
 use proofs.chunk.has_opened.Goals as goal
 
 pub returns-clause-accepted : goal.returns-clause-accepted
-returns-clause-accepted c = rw c.is_ok.ensures.value (opens_tagged _ _ c.told-tag _ _ _ _ _ _ c.told-prefix c.requires
-    (rw (c.key.view_is, c.nonce_of-nonce.ensures, c.from-aad.ensures, c.as_slice.ensures, c.header_of-header.ensures, c.from.ensures)
-    at c.open_in_place_separate_tag_to_front.ensures.opened)).0
+returns-clause-accepted c = rw c.is_ok.ensures.value (opens_tagged _ _ c.told-tag c.args.cipher.now _ _ _ _
+    (subst (λ l. length l ≤ 60) c.header.ensures.bytes c.header.ensures.len) c.requires
+    (rw (
+      c.nonce_of-nonce.ensures,
+      ap (λ (k : ChunkKey). k.key) c.cipher.view_is,
+      ap (λ (k : ChunkKey). k.prefix) c.cipher.view_is,
+      c.from-aad.ensures,
+      c.header.ensures.bytes,
+      c.from.ensures,
+    ) at c.open_in_place_separate_tag_to_front.ensures.opened)).0
 
 pub returns-clause-opened : goal.returns-clause-opened
-returns-clause-opened c = rw c.is_ok.ensures.value (OnTrue_from _ _ (opens_tagged _ _ c.told-tag _ _ _ _ _ _ c.told-prefix c.requires
-    (rw (c.key.view_is, c.nonce_of-nonce.ensures, c.from-aad.ensures, c.as_slice.ensures, c.header_of-header.ensures, c.from.ensures)
-    at c.open_in_place_separate_tag_to_front.ensures.opened)).1)
+returns-clause-opened c = rw c.is_ok.ensures.value (OnTrue_from _ _ (opens_tagged _ _ c.told-tag c.args.cipher.now _ _ _ _
+    (subst (λ l. length l ≤ 60) c.header.ensures.bytes c.header.ensures.len) c.requires
+    (rw (
+      c.nonce_of-nonce.ensures,
+      ap (λ (k : ChunkKey). k.key) c.cipher.view_is,
+      ap (λ (k : ChunkKey). k.prefix) c.cipher.view_is,
+      c.from-aad.ensures,
+      c.header.ensures.bytes,
+      c.from.ensures,
+    ) at c.open_in_place_separate_tag_to_front.ensures.opened)).1)

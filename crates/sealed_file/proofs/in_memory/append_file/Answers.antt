@@ -2,6 +2,7 @@ use Rattle.std.proofs.Common.{◌≡◌, true, false, Some, length, arith, ap, r
 use Rattle.std.proofs.lemmas.Result.{err_from_is_err_and}
 use Rattle.sealed_file.specs.Opening.{opened_chunks}
 use Rattle.sealed_file.proofs
+use proofs.HeaderLemmas.{header_fits}
 use proofs.InMemoryLemmas.{chunk_fails, front_through, open_fits}
 use proofs.OpenLemmas.{chunk_refused, open_accepted, open_end, open_next, open_start}
 use proofs.PieceLemmas.{length-piece-le}
@@ -14,11 +15,14 @@ returns-in_err-reserve-clause-refused c =
 
 pub loop-number-init : goal.loop-number-init
 loop-number-init c = record {
-  at = open_start c.args.key.now _ c.args.sealed.now _ (Some c.args.out.now.items) (Some c.reserve.new.self.items)
-      c.in_ok-reserve.ensures.items c.in-Some.ensures.cases.same c.in_ok-prefix.ensures.accepted c.in_ok-prefix.ensures.prefix;
+  at = open_start c.args.key.now _ c.args.sealed.now (Some c.args.out.now.items) (Some c.reserve.new.self.items)
+      c.in_ok-reserve.ensures.items (c.in_ok-cipher.ensures.accepted.0 refl) c.in_ok-cipher.ensures.cipher;
   room =
       omega (arith, c.opened_len.ensures c.args.key.now, c.in_ok-reserve.ensures.ok, c.in_ok-reserve.ensures.len);
 }
+
+pub chunk_of-chunk-requires-clause-header : goal.chunk_of-chunk-requires-clause-header
+chunk_of-chunk-requires-clause-header c = header_fits c.args.key.now c.args.sealed.now c.loop-number.invariant.at.front
 
 pub append_opened-requires-clause-chunk : goal.append_opened-requires-clause-chunk
 append_opened-requires-clause-chunk c = rw c.chunk_of-chunk.ensures (length-piece-le _ _ c.loop-number.number)

@@ -7,6 +7,6 @@ use proofs.in_memory.append_file.Given as goal
 
 abbrev pub invariant-loop-number : goal.invariant-loop-number
 invariant-loop-number l = record {
-  at : Opening l.key l.prefix l.sealed l.number (Some l.fn.out.items) (Some l.out.items);
+  at : Opening l.key l.cipher l.sealed l.number (Some l.fn.out.items) (Some l.out.items);
   room : vec_len l.fn.out + length (opened_file l.key l.sealed) ≤ vec_capacity l.out;
 }

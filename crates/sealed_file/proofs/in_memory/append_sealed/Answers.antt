@@ -8,7 +8,7 @@ use proofs.in_memory.append_sealed.Goals as goal
 pub returns-clause-sealed : goal.returns-clause-sealed
 returns-clause-sealed c =
     let written : c.append-2.new.out.items ≡ c.seal_from-tag.new.bytes ++ c.seal_from-tag.result = grind (arith, common_steps) in
-    written ∙ written_behind (sealed_chunk c.args.key.now c.args.prefix.now c.args.number c.args.is_last)
+    written ∙ written_behind (sealed_chunk c.args.cipher.now c.args.number c.args.is_last)
     c.args.out.now.items c.args.chunk.now c.deref_mut.result.now
     c.seal_from-tag.new.bytes c.seal_from-tag.result c.len-start.result (omega (
       arith,

@@ -7,5 +7,5 @@ use proofs.opening.open.Given as goal
 
 abbrev pub invariant-loop-number : goal.invariant-loop-number
 invariant-loop-number g l = (vec_len l.chunk ≤ sealed_chunk_len) × IfSome (g.R.Read.remaining l.fn.input)
-    (λ file. Reading l.key l.prefix file l.number l.chunk.items (g.R.Read.remaining l.input)
+    (λ file. Reading l.key l.cipher file l.number l.chunk.items (g.R.Read.remaining l.input)
     (g.W.Write.contents l.fn.output) (g.W.Write.contents l.output))

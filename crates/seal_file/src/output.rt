@@ -1,0 +1,116 @@
+//! Files that are written whole or not at all.
+
+use crate::failure::{Failure, Place};
+use crate::files::{self, File};
+use crate::name::Name;
+use std::alloc::Global;
+use std::io::{self, ErrorKind, Write};
+
+/// The bytes of a number that makes a name a new one.
+pub const NUMBER_LEN: usize = 8;
+
+/// A new file beside the one that it is to become.
+pub struct NewFile {
+    file: File,
+    name: Name,
+}
+
+/// A new file that has reached the device. Only such a file is given its name.
+pub struct SyncedFile {
+    name: Name,
+}
+
+/// The file isn't to become one that is IN, a directory or a device, nor, without force, one that is there.
+pub fn check_target(
+    rt: &HostRuntime,
+    target: &Name,
+    input: &File,
+    has_force: bool,
+) -> Result<(), Failure> {
+    let there = match files::metadata_of(rt, target) {
+        Ok(metadata) => metadata,
+        Err(error) if error.kind() == ErrorKind::NotFound => return Ok(()),
+        Err(error) => return Err(Failure::Io(Place::Output, error)),
+    };
+    match input.metadata(rt) {
+        Ok(from) if files::are_same(&from, &there) => return Err(Failure::SameFile),
+        Ok(_) => {}
+        Err(error) => return Err(Failure::Io(Place::Input, error)),
+    }
+    if !has_force {
+        return Err(Failure::Exists);
+    }
+    if !there.is_file() {
+        return Err(Failure::NotRegular);
+    }
+    Ok(())
+}
+
+impl NewFile {
+    /// Makes the file, with the target's name and this number.
+    pub fn create(
+        alloc: Global,
+        target: &Name,
+        number: [u8; NUMBER_LEN],
+        mode: u32,
+    ) -> io::Result<NewFile> {
+        let number = u64::from_be_bytes(number);
+        let end = format!(in alloc; ".part-{number:016x}")?;
+        let name = target.with_end(alloc, end.as_bytes())?;
+        let file = File::create_new(&name, mode)?;
+        Ok(NewFile { file, name })
+    }
+
+    /// Waits until the file has reached the device. Where that fails it is removed.
+    pub fn synced(self) -> io::Result<SyncedFile> {
+        let NewFile { file, name } = self;
+        match file.sync_all() {
+            Ok(()) => Ok(SyncedFile { name }),
+            Err(error) => {
+                let _ = files::remove(&name);
+                Err(error)
+            }
+        }
+    }
+
+    /// Removes the file.
+    pub fn discard(self) {
+        let NewFile { file: _file, name } = self;
+        let _ = files::remove(&name);
+    }
+}
+
+impl Write for NewFile {
+    fn write(&mut self, buf: &[u8]) -> io::Result<usize> {
+        self.file.write(buf)
+    }
+
+    fn flush(&mut self) -> io::Result<()> {
+        self.file.flush()
+    }
+}
+
+impl SyncedFile {
+    /// Gives the file its name, in place of another file only with force. Where that fails it is removed.
+    ///
+    /// Without force it gets the name as a second one, which fails where another file has it. Where the file system has no
+    /// second names it is renamed: then a file that got the name since `check_target` is lost.
+    pub fn name_as(self, target: &Name, has_force: bool) -> io::Result<()> {
+        let SyncedFile { name } = self;
+        if !has_force {
+            match files::link(&name, target) {
+                Ok(()) => return files::remove(&name),
+                Err(error) if error.kind() == ErrorKind::AlreadyExists => {
+                    let _ = files::remove(&name);
+                    return Err(error);
+                }
+                Err(_) => {}
+            }
+        }
+        let renamed = files::rename(&name, target);
+        if renamed.is_err() {
+            let _ = files::remove(&name);
+        }
+        renamed
+    }
+}

@@ -1,0 +1,79 @@
+//! What a key derives for a file: CMAC over AES-256 in counter mode, as in XAES-256-GCM.
+
+ghost use Rattle.std.specs.Prelude.{◌≡◌, ◌+◌, ◌++◌, ◌<◌};
+ghost use Rattle.aead_ciphers_base.specs.Aes.{aes};
+ghost use Rattle.sealed_file.specs.Derivation.{cmac_of_block, derived_block, first_subkey};
+
+use crate::header::{Context, put};
+use aead_ciphers_base::aes::{
+    self, AES_256_KEY_LEN, BLOCK_LEN, Block, EncryptBlock, KeyBytes, Work, ZERO_BLOCK,
+};
+use aead_ciphers_base::bb;
+
+/// The label of the derivation.
+const LABEL: u8 = b'X';
+
+/// R of SP 800-38B section 5.3, as a number: 10000111.
+const R: u128 = 0x87;
+
+/// The first subkey of CMAC, from the cipher of the zero block (SP 800-38B section 6.1).
+fn first_subkey(cipher_of_zero: Block) -> Block
+    ensures { result ≡ first_subkey cipher_of_zero }
+{
+    let number = u128::from_be_bytes(cipher_of_zero);
+    let fell_out = number >> 127;
+    ((number << 1) ^ (fell_out * R)).to_be_bytes()
+}
+
+/// CMAC of a message of one block (SP 800-38B section 6.2).
+#[tactic(auto, unfolding(crate::specs::Derivation::cmac_of_block))]
+fn cmac_of_block(cipher: &aes::Key, block: Block) -> Block
+    ensures { result ≡ cmac_of_block cipher.now block }
+{
+    let subkey = first_subkey(cipher.encrypt_block(ZERO_BLOCK, &mut Work::new()));
+    cipher.encrypt_block(bb::xor_16(subkey, block), &mut Work::new())
+}
+
+/// An iteration of the derivation (SP 800-108r1 section 4.1): 16 bytes.
+fn derived_block(cipher: &aes::Key, context: &Context, iteration: u16) -> Block
+    ensures { result ≡ derived_block cipher.now context.now iteration }
+{
+    let [i0, i1] = iteration.to_be_bytes();
+    let [c0, c1, c2, c3, c4, c5, c6, c7, c8, c9, c10, c11] = *context;
+    cmac_of_block(
+        cipher,
+        [
+            i0, i1, LABEL, 0, c0, c1, c2, c3, c4, c5, c6, c7, c8, c9, c10, c11,
+        ],
+    )
+}
+
+/// Two blocks, one after the other.
+fn joined(first: &Block, second: &Block) -> [u8; AES_256_KEY_LEN]
+    ensures { result ≡ first.now ++ second.now }
+{
+    let mut bytes = [0; AES_256_KEY_LEN];
+    put(first, &mut bytes, 0);
+    put(second, &mut bytes, BLOCK_LEN);
+    bytes
+}
+
+/// This iteration of the derivation and the next: 32 bytes.
+pub(crate) fn derived_pair(
+    key: &[u8; AES_256_KEY_LEN],
+    context: &Context,
+    iteration: u16,
+) -> [u8; AES_256_KEY_LEN]
+    requires { iteration < 16 }
+    ensures { result ≡ derived_block key.now context.now iteration
+        ++ derived_block key.now context.now (iteration + 1) }
+{
+    let cipher = match aes::Key::new(KeyBytes::AES_256(key)) {
+        Ok(cipher) => cipher,
+        Err(_) => unreachable!(),
+    };
+    joined(
+        &derived_block(&cipher, context, iteration),
+        &derived_block(&cipher, context, iteration + 1),
+    )
+}

@@ -1,0 +1,293 @@
+//! Headers, and what the chunks after one are sealed under.
+
+ghost use Rattle.std.specs.Prelude.{ℕ, List, ◌≡◌, ◌+◌, ◌≤◌, ◌↔◌, ◌++◌, length, take, drop, IsOk, IfOk, IfErr};
+ghost use Rattle.sealed_file.specs.Format.{magic_and_version, version_1, version_2};
+ghost use Rattle.sealed_file.specs.Opening.{HasHeader, chunk_key, header_len, header_of};
+ghost use Rattle.sealed_file.specs.Refusals.{HeaderRefuses, IsVersion2};
+
+use crate::error::FileError;
+use crate::key::FileKey;
+use aead_ciphers::aead::{AES_256_GCM, LessSafeKey, UnboundKey};
+use aead_ciphers_base::aes::AES_256_KEY_LEN;
+use aead_ciphers_base::bb;
+use std::marker::Model;
+
+/// What a sealed file begins with.
+pub const MAGIC: [u8; 8] = *b"SEALFILE";
+
+/// The version of the format that sealing writes, after the magic. Opening takes version 1 too.
+pub const VERSION: u8 = 2;
+
+/// The version whose files are sealed under the key itself.
+const VERSION_1: u8 = 1;
+
+/// Where the version is.
+const VERSION_AT: usize = 8;
+
+/// The length of the magic and the version.
+const FRONT_LEN: usize = VERSION_AT + 1;
+
+/// The length of what the key of a file is derived for.
+pub const CONTEXT_LEN: usize = 12;
+
+/// The length of the prefix of a file's nonces.
+pub const PREFIX_LEN: usize = 7;
+
+/// The length of the random bytes in a header of version 2: a context and a prefix.
+pub const RANDOM_LEN: usize = CONTEXT_LEN + PREFIX_LEN;
+
+/// The length of the commitment to the key.
+const COMMITMENT_LEN: usize = AES_256_KEY_LEN;
+
+/// The length of a header of version 1: the magic, the version and the prefix.
+pub(crate) const HEADER_1_LEN: usize = FRONT_LEN + PREFIX_LEN;
+
+/// The length of a header of version 2: the magic, the version, the random bytes and the commitment to the key.
+pub const HEADER_LEN: usize = FRONT_LEN + RANDOM_LEN + COMMITMENT_LEN;
+
+/// What the key of a file is derived for.
+pub type Context = [u8; CONTEXT_LEN];
+
+/// The prefix of a file's nonces.
+pub(crate) type Prefix = [u8; PREFIX_LEN];
+
+/// The bytes of a header.
+#[derive(Drop)]
+enum Header {
+    Version1([u8; HEADER_1_LEN]),
+    Version2([u8; HEADER_LEN]),
+}
+
+impl Header {
+    ghost use Rattle.sealed_file.specs.Header.{header_bytes};
+
+    /// Its bytes.
+    fn as_slice(&self) -> &[u8]
+        ensures bytes { result.now ≡ header_bytes self.now }
+        ensures len { length result.now ≤ 60 }
+    {
+        match self {
+            Header::Version1(bytes) => bytes,
+            Header::Version2(bytes) => bytes,
+        }
+    }
+}
+
+/// What the chunks of a file are sealed under: a key, the prefix of the nonces, and the header, the AAD of each.
+#[derive(Drop)]
+pub(crate) struct ChunkCipher {
+    pub(crate) key: LessSafeKey,
+    pub(crate) prefix: Prefix,
+    header: Header,
+}
+
+impl Model for ChunkCipher {
+    ghost use Rattle.sealed_file.specs.Format.{ChunkKey};
+    ghost use Rattle.sealed_file.specs.Header.{header_bytes};
+
+    ghost Value = { ChunkKey };
+
+    ghost view = { λ cipher. record {
+      key = cipher.key.bytes;
+      prefix = cipher.prefix;
+      header = header_bytes cipher.header;
+    } };
+}
+
+impl ChunkCipher {
+    /// The file's header.
+    pub(crate) fn header(&self) -> &[u8]
+        ensures bytes { result.now ≡ self.now.header }
+        ensures len { length result.now ≤ 60 }
+    {
+        self.header.as_slice()
+    }
+
+    /// That of a file of version 1 with this prefix.
+    fn version_1(key: &FileKey, prefix: &Prefix) -> ChunkCipher
+        ensures { result ≡ version_1 key.now prefix.now }
+    {
+        let [m0, m1, m2, m3, m4, m5, m6, m7] = MAGIC;
+        let [p0, p1, p2, p3, p4, p5, p6] = *prefix;
+        ChunkCipher {
+            key: aead_key(&key.bytes),
+            prefix: *prefix,
+            header: Header::Version1([
+                m0, m1, m2, m3, m4, m5, m6, m7, VERSION_1, p0, p1, p2, p3, p4, p5, p6,
+            ]),
+        }
+    }
+
+    /// That of a file of version 2 with these random bytes.
+    pub(crate) fn new(key: &FileKey, random: &[u8; RANDOM_LEN]) -> ChunkCipher
+        ensures { result ≡ version_2 key.now random.now }
+    {
+        let context = context_of(random);
+        ChunkCipher {
+            key: aead_key(&key.derived_key(&context)),
+            prefix: prefix_of(random),
+            header: Header::Version2(header_2_of(random, &key.commitment(&context))),
+        }
+    }
+}
+
+/// The key of AES-256-GCM with these bytes.
+fn aead_key(bytes: &[u8; AES_256_KEY_LEN]) -> LessSafeKey
+    ensures { result.bytes ≡ bytes.now }
+{
+    match UnboundKey::new(&AES_256_GCM, bytes) {
+        Ok(key) => LessSafeKey::new(key),
+        Err(_) => unreachable!(),
+    }
+}
+
+/// The first random bytes of a header.
+fn context_of(random: &[u8; RANDOM_LEN]) -> Context
+    ensures { result ≡ take 12 random.now }
+{
+    let mut context = [0; CONTEXT_LEN];
+    context.copy_from_slice(&random[..CONTEXT_LEN]);
+    context
+}
+
+/// The random bytes after those.
+fn prefix_of(random: &[u8; RANDOM_LEN]) -> Prefix
+    ensures { result ≡ take 7 (drop 12 random.now) }
+{
+    let mut prefix = [0; PREFIX_LEN];
+    prefix.copy_from_slice(&random[CONTEXT_LEN..RANDOM_LEN]);
+    prefix
+}
+
+/// Puts bytes into others, from `at` on.
+pub(crate) fn put(bytes: &[u8], all: &mut [u8], at: usize)
+    requires { at + length bytes.now ≤ length all.old }
+    ensures { all.new ≡ take at all.old ++ (bytes.now ++ drop (at + length bytes.now) all.old) }
+{
+    all[at..at + bytes.len()].copy_from_slice(bytes);
+}
+
+/// The header of version 2 with these random bytes and this commitment.
+fn header_2_of(random: &[u8; RANDOM_LEN], commitment: &[u8; COMMITMENT_LEN]) -> [u8; HEADER_LEN]
+    ensures { result ≡ magic_and_version 2 ++ (random.now ++ commitment.now) }
+{
+    let mut header = [0; HEADER_LEN];
+    put(&MAGIC, &mut header, 0);
+    put(&[VERSION], &mut header, VERSION_AT);
+    put(random, &mut header, FRONT_LEN);
+    put(commitment, &mut header, FRONT_LEN + RANDOM_LEN);
+    header
+}
+
+/// The length of the header of a file that begins with these bytes.
+pub(crate) fn header_len(file: &[u8]) -> usize
+    ensures value { result ≡ header_len file.now }
+    ensures least { 16 ≤ result }
+    ensures most { result ≤ 60 }
+{
+    if file.len() >= FRONT_LEN && file[VERSION_AT] == VERSION {
+        HEADER_LEN
+    } else {
+        HEADER_1_LEN
+    }
+}
+
+/// The header of a file that begins with these bytes, as far as they go.
+fn header_of(file: &[u8]) -> &[u8]
+    ensures { result.now ≡ header_of file.now }
+{
+    let len = header_len(file);
+    if file.len() < len { file } else { &file[..len] }
+}
+
+/// The random bytes in a header of version 2.
+fn random_in(header: &[u8; HEADER_LEN]) -> [u8; RANDOM_LEN]
+    ensures { result ≡ take 19 (drop 9 header.now) }
+{
+    let mut random = [0; RANDOM_LEN];
+    random.copy_from_slice(&header[FRONT_LEN..FRONT_LEN + RANDOM_LEN]);
+    random
+}
+
+/// What the chunks after a header of version 2 are sealed under. The whole header is compared with the one that the key
+/// makes of its random bytes.
+fn version_2_in(key: &FileKey, header: &[u8]) -> Result<ChunkCipher, FileError>
+    requires version { IsVersion2 header.now }
+    requires least { 16 ≤ length header.now }
+    requires most { length header.now ≤ 60 }
+    ensures accepted { IsOk result ↔ HasHeader key.now header.now }
+    ensures cipher { IfOk result (λ cipher. cipher ≡ chunk_key key.now header.now) }
+    ensures refused { IfErr result (λ error. HeaderRefuses key.now header.now error) }
+{
+    let Some(header) = header.as_array::<HEADER_LEN>() else {
+        return Err(FileError::EndsEarly);
+    };
+    let cipher = ChunkCipher::new(key, &random_in(header));
+    match bb::verify_slices_are_equal(header, cipher.header()) {
+        Ok(()) => Ok(cipher),
+        Err(_) => Err(FileError::WrongKey),
+    }
+}
+
+/// The version in a header, and the prefix that it has in version 1.
+fn front_in(header: &[u8]) -> Result<(u8, Prefix), FileError>
+    ensures size { IsOk result → 16 ≤ length header.now }
+    ensures front { IfOk result (λ front. take 9 header.now ≡ magic_and_version front.0) }
+    ensures prefix { IfOk result (λ front. front.1 ≡ take 7 (drop 9 header.now)) }
+    ensures refused { (key : List ℕ) → IfErr result (λ error. HeaderRefuses key header.now error) }
+{
+    let Some(front) = header.first_chunk::<HEADER_1_LEN>() else {
+        return Err(FileError::EndsEarly);
+    };
+    let [
+        m0,
+        m1,
+        m2,
+        m3,
+        m4,
+        m5,
+        m6,
+        m7,
+        version,
+        p0,
+        p1,
+        p2,
+        p3,
+        p4,
+        p5,
+        p6,
+    ] = *front;
+    if [m0, m1, m2, m3, m4, m5, m6, m7] != MAGIC {
+        return Err(FileError::AnotherMagic);
+    }
+    Ok((version, [p0, p1, p2, p3, p4, p5, p6]))
+}
+
+/// What the chunks after this header are sealed under.
+fn cipher_in(key: &FileKey, header: &[u8]) -> Result<ChunkCipher, FileError>
+    requires { length header.now ≤ header_len header.now }
+    ensures accepted { IsOk result ↔ HasHeader key.now header.now }
+    ensures cipher { IfOk result (λ cipher. cipher ≡ chunk_key key.now header.now) }
+    ensures refused { IfErr result (λ error. HeaderRefuses key.now header.now error) }
+{
+    let (version, prefix) = match front_in(header) {
+        Ok(front) => front,
+        Err(error) => return Err(error),
+    };
+    if version == VERSION {
+        return version_2_in(key, header);
+    }
+    if version != VERSION_1 {
+        return Err(FileError::AnotherVersion(version));
+    }
+    Ok(ChunkCipher::version_1(key, &prefix))
+}
+
+/// What the chunks of a file that begins with these bytes are sealed under.
+pub(crate) fn cipher_of(key: &FileKey, file: &[u8]) -> Result<ChunkCipher, FileError>
+    ensures accepted { IsOk result ↔ HasHeader key.now (header_of file.now) }
+    ensures cipher { IfOk result (λ cipher. cipher ≡ chunk_key key.now (header_of file.now)) }
+    ensures refused { IfErr result (λ error. HeaderRefuses key.now (header_of file.now) error) }
+{
+    cipher_in(key, header_of(file))
+}

@@ -1,0 +1,29 @@
+/* Says on standard error when the program calls fsync, link or rename, and lets the call named by FAILING fail. */
+#define _GNU_SOURCE
+#include <dlfcn.h>
+#include <errno.h>
+#include <stdio.h>
+#include <stdlib.h>
+#include <string.h>
+
+static int fails(const char *name) {
+    const char *failing = getenv("FAILING");
+    fprintf(stderr, "call %s\n", name);
+    errno = EIO;
+    return failing != NULL && strcmp(failing, name) == 0;
+}
+
+int fsync(int fd) {
+    int (*next)(int) = (int (*)(int))dlsym(RTLD_NEXT, "fsync");
+    return fails("fsync") ? -1 : next(fd);
+}
+
+int link(const char *from, const char *to) {
+    int (*next)(const char *, const char *) = (int (*)(const char *, const char *))dlsym(RTLD_NEXT, "link");
+    return fails("link") ? -1 : next(from, to);
+}
+
+int rename(const char *from, const char *to) {
+    int (*next)(const char *, const char *) = (int (*)(const char *, const char *))dlsym(RTLD_NEXT, "rename");
+    return fails("rename") ? -1 : next(from, to);
+}
