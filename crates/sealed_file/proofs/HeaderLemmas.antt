@@ -87,7 +87,12 @@ module _ (key random : List ℕ) where
 
   pub length-header_2 : length header ≡ 41 + length random
   length-header_2 = ap length header_is
-      ∙ omega (arith, length-append (magic_and_version 2) tail, length-append random (commitment key (take 12 random)), length-commitment key (take 12 random))
+      ∙ omega (
+        arith,
+        length-append (magic_and_version 2) tail,
+        length-append random (commitment key (take 12 random)),
+        length-commitment key (take 12 random),
+      )
 
   module _ (size : length random ≡ 19) where
     pub random_2 : take 19 (drop 9 header) ≡ random

@@ -209,7 +209,8 @@ read_start key k file bytes read_bytes chunk between rest old same first has key
       at = rw first.left at read;
     }
 
-module _ {key : List ℕ} {k : ChunkKey} {file chunk : List ℕ} {n : ℕ} {rest old now : Option (List ℕ)} (s : Reading key k file n chunk rest old now) where
+module _ {key : List ℕ} {k : ChunkKey} {file chunk : List ℕ} {n : ℕ} {rest old now : Option (List ℕ)}
+    (s : Reading key k file n chunk rest old now) where
   -- stopped before a chunk
   pub read_stop : Stopped key file old now
   read_stop = (n, s.so_far.right, (_, [], sym (append-nil (opened_chunks key file n)), s.so_far.written))

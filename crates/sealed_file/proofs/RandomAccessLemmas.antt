@@ -34,7 +34,15 @@ module _ (key file : List ℕ) (version : IsVersion2 file) (accepted : IsSealed 
       let same : last_piece sealed_chunk_len (length file - 60) ≡ last = ap (last_piece sealed_chunk_len) (sym length-body) in
       record {
         header = omega (arith, length-header, length-take (header_len file) file);
-        tag = omega (arith, same, tag, length-body, length-take sealed_chunk_len (drop (sealed_chunk_len * last) (body_of file)), length-drop (sealed_chunk_len * last) (body_of file));
+        tag =
+            omega (
+              arith,
+              same,
+              tag,
+              length-body,
+              length-take sealed_chunk_len (drop (sealed_chunk_len * last) (body_of file)),
+              length-drop (sealed_chunk_len * last) (body_of file),
+            );
         few = subst (λ n. n < 2 ^ 32 - 1) (sym same) accepted.few;
       }
 

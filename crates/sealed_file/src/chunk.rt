@@ -51,7 +51,8 @@ pub(crate) fn seal_chunk(
     chunk: &mut Vec<u8>,
 ) -> io::Result<()>
     requires { vec_len chunk.old ≤ chunk_len }
-    ensures { OnOk result (chunk.new.items ≡ sealed_chunk cipher.now number is_last chunk.old.items) }
+    ensures { OnOk result (chunk.new.items
+        ≡ sealed_chunk cipher.now number is_last chunk.old.items) }
 {
     let tag = seal_slice(cipher, number, is_last, chunk);
     chunk.extend_from_slice(tag.as_ref())?;

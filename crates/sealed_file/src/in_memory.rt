@@ -88,10 +88,12 @@ pub fn seal_bytes(
     ensures few { IsOk result → last_piece chunk_len (length file.now) < 2 ^ 32 - 1 }
     ensures sealed { OnOk result (out.new.items
         ≡ out.old.items ++ sealed_file (version_2 key.now random) file.now) }
-    ensures accepted { let grown = vec_len out.old + length (sealed_file (version_2 key.now random) file.now) in
+    ensures accepted { let sealed = sealed_file (version_2 key.now random) file.now in
+        let grown = vec_len out.old + length sealed in
         grown ≤ vec_capacity out.old
         → (IsOk result ↔ (last_piece chunk_len (length file.now) < 2 ^ 32 - 1)) }
-    ensures refused { let grown = vec_len out.old + length (sealed_file (version_2 key.now random) file.now) in
+    ensures refused { let sealed = sealed_file (version_2 key.now random) file.now in
+        let grown = vec_len out.old + length sealed in
         IfErr result (λ error.
         FailsInMemory (vec_capacity out.old < grown) (SealRefuses file.now) error) }
     ensures kept { OnErr result (out.new.items ≡ out.old.items) }

@@ -38,8 +38,8 @@ fn append_chunk_at(
 
 /// Opens one chunk of a sealed file, and appends its message to `out`.
 ///
-/// `header` is the file's first `HEADER_LEN` bytes (of version 1, 16); more may be given. `number` counts the chunks from 0,
-/// and `is_last` says that no bytes come after the chunk. Chunk n of a file of version 2 begins at byte
+/// `header` is the file's first `HEADER_LEN` bytes (of version 1, 16); more may be given. `number` counts the chunks from
+/// 0, and `is_last` says that no bytes come after the chunk. Chunk n of a file of version 2 begins at byte
 /// `HEADER_LEN` + n * `SEALED_CHUNK_LEN`, and has `SEALED_CHUNK_LEN` bytes unless it is the last.
 ///
 /// Nothing is said of the other chunks: the file may lack them or have others. Only that the last chunk is opened by

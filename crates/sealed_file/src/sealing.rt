@@ -29,11 +29,13 @@ pub fn seal<R: Read, W: Write>(
     ensures few { OnOk result (IfSome (R.remaining input.old) (λ file.
         last_piece chunk_len (length file) < 2 ^ 32 - 1)) }
     ensures sealed { OnOk result (IfSome (R.remaining input.old) (λ file.
-        Appends (W.contents output.old) (W.contents output.new) (sealed_file (version_2 key.now random) file))) }
+        Appends (W.contents output.old) (W.contents output.new)
+        (sealed_file (version_2 key.now random) file))) }
     ensures refused { IfErr result (λ error. IfSome (R.remaining input.old) (λ file.
         SealRefuses file error)) }
     ensures beginning { OnErr result (IfSome (R.remaining input.old) (λ file.
-        AppendsBeginning (W.contents output.old) (W.contents output.new) (sealed_file (version_2 key.now random) file))) }
+        AppendsBeginning (W.contents output.old) (W.contents output.new)
+        (sealed_file (version_2 key.now random) file))) }
 {
     let (mut chunk, mut next) = buffers(alloc)?;
     let cipher = ChunkCipher::new(key, &random);

@@ -52,7 +52,8 @@ loop-number-preserved g c =
       omega (arith, c.in_ok-read_piece-2.ensures.size, swapped),
       IfSome_then _ c.loop-number.invariant.1 (λ file s.
           seal_next s _ _ c.in_ok-read_piece-2.ensures.bytes c.is_empty-is_last.ensures next.ok.0
-          (c.deref.ensures.value ∙ (rw c.new-cipher.ensures at c.in_ok-seal_chunk.ensures)) _ same c.if-is_last.false c.in_ok-write_bytes-2.ensures.ok),
+          (c.deref.ensures.value ∙ (rw c.new-cipher.ensures at c.in_ok-seal_chunk.ensures)) _ same
+          c.if-is_last.false c.in_ok-write_bytes-2.ensures.ok),
     )
 
 pub returns-clause-refused : goal.returns-clause-refused
