@@ -14,13 +14,13 @@ ghost use Rattle.std.specs.Prelude.{OnOk};
 ghost use Rattle.std.specs.Io.KnownBytes.{Consumes};
 
 use failure::{Failure, Place};
-use files::File;
 use name::Name;
 use options::{Action, Conversion, HELP, Request};
 use output::{NUMBER_LEN, NewFile, check_target};
 use progress::Source;
 use sealed_file::{FileError, FileKey, RANDOM_LEN};
 use std::fmt::Display;
+use std::fs::{File, Metadata};
 use std::io::{self, ErrorKind, Read, Write};
 use std::process::ExitCode;
 
@@ -103,14 +103,14 @@ fn at<T>(place: Place, outcome: io::Result<T>) -> Result<T, Failure> {
 fn keygen(rt: &HostRuntime, name: &Name) -> Result<(), Failure> {
     let mut key = [0; KEY_LEN];
     draw(rt, &mut key)?;
-    let mut file = match File::create_new(name, KEY_MODE) {
+    let mut file = match files::create_new(rt, name, KEY_MODE) {
         Ok(file) => file,
         Err(error) if error.kind() == ErrorKind::AlreadyExists => return Err(Failure::KeyExists),
         Err(error) => return Err(Failure::Io(Place::KeyFile, error)),
     };
     let written = file.write_all(&key).and_then(|()| file.sync_all());
     if written.is_err() {
-        let _ = files::remove(name);
+        let _ = files::remove(rt, name);
     }
     at(Place::KeyFile, written)
 }
@@ -118,53 +118,76 @@ fn keygen(rt: &HostRuntime, name: &Name) -> Result<(), Failure> {
 /// Seals a file or opens a sealed one.
 fn convert(rt: &HostRuntime, conversion: &Conversion) -> Result<(), Failure> {
     let key = read_key(rt, &conversion.key_file)?;
-    let input = match &conversion.input {
-        Some(name) => at(Place::Input, File::open(name))?,
-        None => File::stdin(),
+    match &conversion.input {
+        Some(name) => {
+            let file = at(Place::Input, files::open(rt, name))?;
+            let metadata = file.metadata().ok();
+            convert_from(rt, conversion, &key, file, metadata.as_ref())
+        }
+        None => {
+            let metadata = files::stdin_metadata(rt).ok();
+            convert_from(rt, conversion, &key, rt.reader(), metadata.as_ref())
+        }
+    }
+}
+
+/// The same from a file or a stream, of which the system says this.
+fn convert_from<R: Read + Drop>(
+    rt: &HostRuntime,
+    conversion: &Conversion,
+    key: &FileKey,
+    input: R,
+    metadata: Option<&Metadata>,
+) -> Result<(), Failure> {
+    let len = match metadata {
+        Some(metadata) if metadata.is_file() => Some(metadata.len()),
+        _ => None,
     };
+    let is_shown = conversion.has_progress && files::stderr_is_terminal(rt);
+    let source = Source::new(rt, input, len, is_shown);
     match &conversion.output {
-        Some(name) => convert_to(rt, conversion, &key, input, name),
-        None => pass(rt, conversion, &key, input, &mut File::stdout()),
+        Some(name) => {
+            check_target(rt, name, metadata, conversion.has_force)?;
+            convert_to(rt, conversion, key, source, name)
+        }
+        None => {
+            let mut output = io::writer(rt);
+            pass(rt, conversion, key, source, &mut output)?;
+            at(Place::Output, output.flush())
+        }
     }
 }
 
 /// The same to a file, which is written whole or not at all.
-fn convert_to(
+fn convert_to<R: Read + Drop>(
     rt: &HostRuntime,
     conversion: &Conversion,
     key: &FileKey,
-    input: File,
+    source: Source<'_, R>,
     target: &Name,
 ) -> Result<(), Failure> {
-    check_target(rt, target, &input, conversion.has_force)?;
     let mut number = [0; NUMBER_LEN];
     draw(rt, &mut number)?;
     let mut file = at(
         Place::Output,
-        NewFile::create(rt.alloc(), target, number, FILE_MODE),
+        NewFile::create(rt, target, number, FILE_MODE),
     )?;
-    if let Err(failure) = pass(rt, conversion, key, input, &mut file) {
-        file.discard();
+    if let Err(failure) = pass(rt, conversion, key, source, &mut file) {
+        file.discard(rt);
         return Err(failure);
     }
-    let synced = at(Place::Output, file.synced())?;
-    at(Place::Output, synced.name_as(target, conversion.has_force))
+    let synced = at(Place::Output, file.synced(rt))?;
+    at(Place::Output, synced.name_as(rt, target, conversion.has_force))
 }
 
-/// Seals what `input` gives, or opens it.
-fn pass<W: Write>(
+/// Seals what `source` gives, or opens it.
+fn pass<R: Read + Drop, W: Write>(
     rt: &HostRuntime,
     conversion: &Conversion,
     key: &FileKey,
-    input: File,
+    mut source: Source<'_, R>,
     output: &mut W,
 ) -> Result<(), Failure> {
-    let len = match input.metadata(rt) {
-        Ok(metadata) if metadata.is_file() => Some(metadata.len()),
-        _ => None,
-    };
-    let is_shown = conversion.has_progress && files::stderr_is_terminal();
-    let mut source = Source::new(rt, input, len, is_shown);
     let passed = match conversion.action {
         Action::Seal => {
             let mut random = [0; RANDOM_LEN];
@@ -184,8 +207,8 @@ fn pass<W: Write>(
 
 /// The key in a file of 32 bytes. A file that others may read is warned of.
 fn read_key(rt: &HostRuntime, name: &Name) -> Result<FileKey, Failure> {
-    let file = at(Place::KeyFile, File::open(name))?;
-    if let Ok(metadata) = file.metadata(rt) {
+    let file = at(Place::KeyFile, files::open(rt, name))?;
+    if let Ok(metadata) = file.metadata() {
         if files::others_may_read(&metadata) {
             let _ = eprintln!(rt; "seal_file: {name}: warning: others may read this key");
         }
@@ -203,7 +226,7 @@ fn read_key(rt: &HostRuntime, name: &Name) -> Result<FileKey, Failure> {
 
 /// Fills `bytes` with random ones that the system draws.
 fn draw(rt: &HostRuntime, bytes: &mut [u8]) -> Result<(), Failure> {
-    let drawn = std::fs::File::open(rt, RANDOM).and_then(|mut source| fill_from(
+    let drawn = File::open(rt, RANDOM).and_then(|mut source| fill_from(
         &mut source,
         bytes,
     ));

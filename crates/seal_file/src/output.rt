@@ -1,9 +1,9 @@
 //! Files that are written whole or not at all.
 
 use crate::failure::{Failure, Place};
-use crate::files::{self, File};
+use crate::files;
 use crate::name::Name;
-use std::alloc::Global;
+use std::fs::{File, Metadata};
 use std::io::{self, ErrorKind, Write};
 
 /// The bytes of a number that makes a name a new one.
@@ -24,7 +24,7 @@ pub struct SyncedFile {
 pub fn check_target(
     rt: &HostRuntime,
     target: &Name,
-    input: &File,
+    input: Option<&Metadata>,
     has_force: bool,
 ) -> Result<(), Failure> {
     let there = match files::metadata_of(rt, target) {
@@ -32,10 +32,8 @@ pub fn check_target(
         Err(error) if error.kind() == ErrorKind::NotFound => return Ok(()),
         Err(error) => return Err(Failure::Io(Place::Output, error)),
     };
-    match input.metadata(rt) {
-        Ok(from) if files::are_same(&from, &there) => return Err(Failure::SameFile),
-        Ok(_) => {}
-        Err(error) => return Err(Failure::Io(Place::Input, error)),
+    if input.is_some_and(|from| files::are_same(from, &there)) {
+        return Err(Failure::SameFile);
     }
     if !has_force {
         return Err(Failure::Exists);
@@ -49,34 +47,34 @@ pub fn check_target(
 impl NewFile {
     /// Makes the file, with the target's name and this number.
     pub fn create(
-        alloc: Global,
+        rt: &HostRuntime,
         target: &Name,
         number: [u8; NUMBER_LEN],
         mode: u32,
     ) -> io::Result<NewFile> {
         let number = u64::from_be_bytes(number);
-        let end = format!(in alloc; ".part-{number:016x}")?;
-        let name = target.with_end(alloc, end.as_bytes())?;
-        let file = File::create_new(&name, mode)?;
+        let end = format!(in rt.alloc(); ".part-{number:016x}")?;
+        let name = target.with_end(rt.alloc(), end.as_bytes())?;
+        let file = files::create_new(rt, &name, mode)?;
         Ok(NewFile { file, name })
     }
 
     /// Waits until the file has reached the device. Where that fails it is removed.
-    pub fn synced(self) -> io::Result<SyncedFile> {
+    pub fn synced(self, rt: &HostRuntime) -> io::Result<SyncedFile> {
         let NewFile { file, name } = self;
         match file.sync_all() {
             Ok(()) => Ok(SyncedFile { name }),
             Err(error) => {
-                let _ = files::remove(&name);
+                let _ = files::remove(rt, &name);
                 Err(error)
             }
         }
     }
 
     /// Removes the file.
-    pub fn discard(self) {
+    pub fn discard(self, rt: &HostRuntime) {
         let NewFile { file: _file, name } = self;
-        let _ = files::remove(&name);
+        let _ = files::remove(rt, &name);
     }
 }
 
@@ -95,21 +93,21 @@ impl SyncedFile {
     ///
     /// Without force it gets the name as a second one, which fails where another file has it. Where the file system has no
     /// second names it is renamed: then a file that got the name since `check_target` is lost.
-    pub fn name_as(self, target: &Name, has_force: bool) -> io::Result<()> {
+    pub fn name_as(self, rt: &HostRuntime, target: &Name, has_force: bool) -> io::Result<()> {
         let SyncedFile { name } = self;
         if !has_force {
-            match files::link(&name, target) {
-                Ok(()) => return files::remove(&name),
+            match files::link(rt, &name, target) {
+                Ok(()) => return files::remove(rt, &name),
                 Err(error) if error.kind() == ErrorKind::AlreadyExists => {
-                    let _ = files::remove(&name);
+                    let _ = files::remove(rt, &name);
                     return Err(error);
                 }
                 Err(_) => {}
             }
         }
-        let renamed = files::rename(&name, target);
+        let renamed = files::rename(rt, &name, target);
         if renamed.is_err() {
-            let _ = files::remove(&name);
+            let _ = files::remove(rt, &name);
         }
         renamed
     }
