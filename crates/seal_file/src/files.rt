@@ -20,10 +20,7 @@ pub fn are_same(first: &Metadata, second: &Metadata) -> bool {
 fn text_of(name: &Name) -> io::Result<&str> {
     match str::from_utf8(name.as_bytes()) {
         Ok(text) => Ok(text),
-        Err(_) => Err(io::Error::new(
-            ErrorKind::InvalidInput,
-            "the file's name isn't UTF-8",
-        )),
+        Err(_) => Err(io::Error::new(ErrorKind::InvalidInput, "the file's name isn't UTF-8")),
     }
 }
 

@@ -177,7 +177,10 @@ fn convert_to<R: Read + Drop>(
         return Err(failure);
     }
     let synced = at(Place::Output, file.synced(rt))?;
-    at(Place::Output, synced.name_as(rt, target, conversion.has_force))
+    at(
+        Place::Output,
+        synced.name_as(rt, target, conversion.has_force),
+    )
 }
 
 /// Seals what `source` gives, or opens it.
@@ -226,10 +229,7 @@ fn read_key(rt: &HostRuntime, name: &Name) -> Result<FileKey, Failure> {
 
 /// Fills `bytes` with random ones that the system draws.
 fn draw(rt: &HostRuntime, bytes: &mut [u8]) -> Result<(), Failure> {
-    let drawn = File::open(rt, RANDOM).and_then(|mut source| fill_from(
-        &mut source,
-        bytes,
-    ));
+    let drawn = File::open(rt, RANDOM).and_then(|mut source| fill_from(&mut source, bytes));
     at(Place::Random, drawn)
 }
 

@@ -1,7 +1,7 @@
-//! Names of files: bytes that need not be UTF-8.
+//! Names of files, as the command line has them: bytes that need not be UTF-8.
 
 use std::alloc::{AllocError, Global};
-use std::fmt;
+use std::{fmt, str};
 
 /// The name of a file, as bytes.
 #[derive(Drop)]
@@ -28,16 +28,21 @@ impl Name {
     }
 }
 
-/// Prints bytes that aren't printable ASCII as `?`.
+/// Prints `?` for each control character, and for each byte that isn't printable ASCII where the name isn't UTF-8.
 impl fmt::Display for Name {
     fn fmt<W: fmt::Write>(&self, f: &mut fmt::Formatter<W>) -> fmt::Result {
-        for byte in &self.bytes {
-            let printed = if *byte >= b' ' && *byte < 0x7f {
-                *byte
-            } else {
-                b'?'
-            };
-            write!(f, "{}", char::from(printed))?;
+        match str::from_utf8(&self.bytes) {
+            Ok(text) => {
+                for c in text.chars() {
+                    write!(f, "{}", if c.is_control() { '?' } else { c })?;
+                }
+            }
+            Err(_) => {
+                for byte in &self.bytes {
+                    let is_printed = *byte >= b' ' && *byte < 0x7f;
+                    write!(f, "{}", if is_printed { char::from(*byte) } else { '?' })?;
+                }
+            }
         }
         Ok(())
     }
