@@ -1,5 +1,5 @@
 -- Inner plaintexts (RFC 8446 section 5.4).
-use Rattle.std.proofs.Common.{◌≡◌, ◌≢◌, ℕ, suc, ◌+◌, ◌-◌, ◌<◌, List, [], ◌∷◌, ◌++◌, length, get_or, take, drop, replicate, refl, sym, ◌∙◌, arith, rules, ext_get_or, get_or-drop, length-append, length-drop, take-append-drop}
+use Rattle.std.proofs.Common.{◌≡◌, ◌≢◌, ℕ, suc, ◌+◌, ◌-◌, ◌<◌, List, [], ◌∷◌, ◌++◌, length, get_or, take, drop, replicate, refl, sym, ◌∙◌, arith, ext_get_or, get_or-drop, length-append, length-drop, take-append-drop}
 use Rattle.std.proofs.lemmas.List.{drop_more, get_or-replicate, length-replicate}
 use Rattle.records.specs
 use specs.Record.{Inner, IsAllowed, inner_plaintext, plaintext, type_code}

@@ -1,5 +1,5 @@
 -- Records and their headers. A record that stands in a buffer, and its inner plaintext, which stands before it.
-use Rattle.std.proofs.Common.{◌≡◌, ◌≢◌, ℕ, ◌+◌, ◌-◌, ◌^◌, ◌<◌, List, ◌++◌, length, get_or, take, drop, replicate, refl, sym, ap, ap₂, ◌∙◌, rules, arith, drop_at, get_or-drop, get_or-take, length-append, length-drop, take-append-drop, take_at, Err, Bool, ◌≤◌, true, false, append_assoc, drop-drop, length-take-le, take-take, Ok}
+use Rattle.std.proofs.Common.{◌≡◌, ℕ, ◌+◌, ◌-◌, ◌^◌, ◌<◌, List, ◌++◌, length, get_or, take, drop, refl, sym, ap, ap₂, ◌∙◌, rules, arith, drop_at, get_or-drop, get_or-take, length-append, length-drop, take-append-drop, take_at, Err, Bool, ◌≤◌, true, false, append_assoc, drop-drop, length-take-le}
 use Rattle.std.proofs.lemmas
 use lemmas.List.{append_cancel_left, get_or_past, drop-append-le}
 use lemmas.Nat.{be_bytes_2}
@@ -11,10 +11,8 @@ use Rattle.aead_ciphers.proofs.MessageLaws.{decrypted-encrypted, length-aes_encr
 use Rattle.records.specs
 use specs.Keys.{KeyState}
 use specs.Record.{Carries, Inner, IsHeader, IsWhole, Seals, body_len, header, inner_plaintext, type_code}
-use specs.Refusals.{RefusesBytes, RefusesInner, RefusesToOpen, SealsRefused}
-use specs.Steps.{LeavesInner, LeavesMessage, LeavesRefused, Opens, OpensMessage, RefusesMessage, overwritten}
-use specs.declared.content_type.ContentType.{ContentType}
-use specs.declared.content_type.ContentType.TheVariants.{ApplicationData}
+use specs.Refusals.{RefusesInner, RefusesToOpen, SealsRefused}
+use specs.Steps.{Opens, OpensMessage, RefusesMessage, overwritten}
 use specs.declared.record_error.RecordError.{RecordError}
 use specs.declared.record_error.RecordError.TheVariants.{EmptyContent, NoContentType, Refused, UnexpectedType, WrongLength}
 use Rattle.records.proofs.InnerLemmas.{allowed_not_refused, length-plaintext, same_inner}
@@ -77,7 +75,8 @@ module _ (key : KeyState) (number : ℕ) (bytes : List ℕ) where
       sym (decrypted-encrypted key.bytes nonce m) ∙ sym parts.0
 
   -- one record carries one content
-  pub same_content : (i j : Inner) → Carries key number bytes i → Carries key number bytes j → (i.content_type ≡ j.content_type) × (i.content ≡ j.content)
+  pub same_content : (i j : Inner) → Carries key number bytes i → Carries key number bytes j
+      → (i.content_type ≡ j.content_type) × (i.content ≡ j.content)
   same_content i j c d = same_inner i j (same_message _ _ (carried_seals i c) (carried_seals j d))
 
   refuses_to_open : (error : RecordError) → RefusesMessage key number bytes error → RefusesToOpen key number bytes error

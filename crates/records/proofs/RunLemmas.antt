@@ -1,12 +1,12 @@
 -- Reading undoes writing, and no number comes twice under a key.
-use Rattle.std.proofs.Common.{◌≡◌, ℕ, zero, suc, ◌+◌, ◌-◌, ◌<◌, ◌≤◌, List, [], ◌∷◌, length, get_or, false, true, map, refl, sym, ap₂, subst, ◌∙◌, arith, rules, Ok, Err}
+use Rattle.std.proofs.Common.{◌≡◌, ℕ, zero, suc, ◌+◌, ◌-◌, ◌<◌, ◌≤◌, List, [], ◌∷◌, length, get_or, false, true, map, refl, ap₂, ◌∙◌, arith, rules, Ok, Err}
 use Rattle.std.specs.Prelude.{All, AllPairs}
 use Rattle.aead_ciphers.specs.Runs.{Runs}
 use Rattle.records.specs
 use specs.Keys.{KeyState, ReaderState, WriterState, rekeyed}
-use specs.Record.{Carries, Inner, IsAllowed, record_at}
+use specs.Record.{Carries, Inner}
 use specs.Runs.{Answer, Event, Follows, ReadStep, WriteStep, WriterRuns, as_asked, carries, ends, rekeys, resizes, seals, updates}
-use specs.Steps.{Opens, Reads, Writes, after_error}
+use specs.Steps.{Reads, Writes}
 use Rattle.records.proofs.RecordLemmas.{same_content}
 
 -- a record carries the same under a key of the same bytes and IV that allows for longer ones

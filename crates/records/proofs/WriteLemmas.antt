@@ -1,5 +1,5 @@
 -- A record is framed where it stands.
-use Rattle.std.proofs.Common.{◌≡◌, ℕ, ◌+◌, ◌-◌, ◌≤◌, List, [], ◌∷◌, ◌++◌, length, set, take, drop, replicate, refl, sym, ap, ◌∙◌, arith, append-nil, append_assoc, drop_at, length-append, take_all, take_at, take-take, take-append-drop, length-drop, length-take-le}
+use Rattle.std.proofs.Common.{◌≡◌, ℕ, ◌+◌, ◌-◌, ◌≤◌, List, [], ◌∷◌, ◌++◌, length, set, take, drop, replicate, sym, ap, ◌∙◌, arith, append_assoc, drop_at, length-append, take_at, take-append-drop, length-drop, length-take-le}
 use Rattle.std.proofs.lemmas.List.{length-replicate, length-set, take_more_set}
 use Rattle.std.proofs.lemmas.Slice.{between_is, take-put_mid}
 use Rattle.aead_ciphers.specs.Packet.{packet_message}

@@ -1,6 +1,6 @@
 -- Runs of a writer and of a reader, over key updates (RFC 8446 sections 4.6.3, 5.3 and 7.2).
 use Rattle.std.specs.Prelude.{◌≡◌, ℕ, ◌+◌, ◌<◌, ◌≤◌, IsFalse, List, [], ◌∷◌, Result, Ok}
-use Rattle.records.specs.Keys.{KeyState, ReaderState, WriterState, rekeyed}
+use Rattle.records.specs.Keys.{ReaderState, WriterState, rekeyed}
 use Rattle.records.specs.Record.{Inner}
 use Rattle.records.specs.Steps.{Reads, Writes}
 use Rattle.records.specs.declared.content_type.ContentType.{ContentType}

@@ -1,5 +1,5 @@
 -- What opening a record returns and leaves, and what writing and reading do with the next one.
-use Rattle.std.specs.Prelude.{◌≡◌, ℕ, ◌+◌, ◌<◌, ◌≤◌, Bool, ◌||◌, is_some, List, ◌++◌, length, take, drop, Result, Ok, Err, IfErr, IfOk, IsErrOf}
+use Rattle.std.specs.Prelude.{◌≡◌, ℕ, ◌+◌, ◌<◌, ◌≤◌, ◌||◌, is_some, List, ◌++◌, length, take, drop, Result, Ok, Err, IfErr, IfOk, IsErrOf}
 use Rattle.std.specs.Prelude.{IsFalse, IsOk, IsTrue, OnOk}
 use Rattle.std.specs.Borrow.{Bor}
 use Rattle.records.specs.Keys.{KeyState, ReaderState, WriterState}

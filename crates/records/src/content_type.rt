@@ -5,7 +5,8 @@ ghost use Rattle.records.specs.Record.{type_code, IsUnknown};
 
 /// The type of what a protected record carries (RFC 8446 section 5.1).
 ///
-/// These three are all that a protected record may have: a protected ChangeCipherSpec ends the connection (section 5).
+/// These three are all that a protected record may have: a protected ChangeCipherSpec ends the connection
+/// (section 5).
 #[derive(Clone, Copy, Debug, PartialEq, Eq)]
 pub enum ContentType {
     /// An alert, of 2 bytes.
@@ -41,7 +42,8 @@ impl ContentType {
         }
     }
 
-    /// Whether a record of this type may have no content: of application data alone (RFC 8446 sections 5.1 and 5.4).
+    /// Whether a record of this type may have no content: of application data alone (RFC 8446 sections 5.1 and
+    /// 5.4).
     pub fn may_be_empty(self) -> bool
         ensures { IsTrue result ↔ (self ≡ ContentType.ApplicationData) }
     {

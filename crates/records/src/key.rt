@@ -2,7 +2,7 @@
 
 ghost use Rattle.std.specs.Prelude.{◌≡◌, ◌+◌, ◌-◌, ◌^◌, ◌≤◌, ◌↔◌, ◌++◌, length, drop, take, slice_range, IsOk, IfOk, IsOkUnless, IfErr, OnOk, OnErr};
 ghost use Rattle.aead_ciphers.specs.Algorithm.{key_len};
-ghost use Rattle.records.specs.Keys.{rekeyed};
+ghost use Rattle.records.specs.Keys.{new_key, rekeyed};
 ghost use Rattle.records.specs.Record.{record_at, Carries, Inner, IsAllowed};
 ghost use Rattle.records.specs.Refusals.{RefusesContent, RefusesToSeal};
 ghost use Rattle.records.specs.Steps.{content_at, LeavesInner, LeavesRefused, Opens, OpensMessage, RefusesMessage};
@@ -17,7 +17,8 @@ use std::marker::Model;
 
 /// A key and IV of one direction, which seals and opens records by their numbers, in place and without memory.
 ///
-/// It counts nothing: that no number is used twice for sealing is the caller's matter. A `Writer` and a `Reader` count.
+/// It counts nothing: that no number is used twice for sealing is the caller's matter. A `Writer` and a
+/// `Reader` count.
 #[derive(Drop)]
 pub struct RecordKey {
     key: LessSafeKey,
@@ -50,8 +51,7 @@ impl RecordKey {
     ) -> Result<Self, RecordError>
         ensures accepted { IsOk result ↔ (length key.now ≡ key_len algorithm.now) }
         ensures refused { IsOkUnless result RecordError.KeyLength }
-        ensures made { IfOk result (λ made. made
-            ≡ record { algorithm = algorithm.now; bytes = key.now; iv = iv; size_limit = 2 ^ 14 + 1 }) }
+        ensures made { IfOk result (λ made. made ≡ new_key algorithm.now key.now iv) }
     {
         match UnboundKey::new(algorithm, key) {
             Ok(key) => Ok(RecordKey {
@@ -81,8 +81,9 @@ impl RecordKey {
         self.size_limit
     }
 
-    /// Sets how many bytes an inner plaintext may have at most: the RecordSizeLimit that the peer has sent for a key that
-    /// seals, and the one that was sent to it for a key that opens (RFC 8449 section 4), from 64 to 2^14 + 1.
+    /// Sets how many bytes an inner plaintext may have at most: the RecordSizeLimit that the peer has sent for
+    /// a key that seals, and the one that was sent to it for a key that opens (RFC 8449 section 4), from 64 to
+    /// 2^14 + 1.
     pub fn set_size_limit(&mut self, size_limit: usize) -> Result<(), RecordError>
         ensures accepted { IsOk result ↔ ((64 ≤ size_limit) × (size_limit ≤ 2 ^ 14 + 1)) }
         ensures refused { IsOkUnless result RecordError.SizeLimit }
@@ -98,8 +99,8 @@ impl RecordKey {
 
     /// Seals the record of a number in place, and returns its length, `content_len` + `padding` + 22.
     ///
-    /// The content is the `content_len` bytes of `bytes` from byte 5 on. The header is written before it, and its type,
-    /// `padding` zeros and the tag after it; the bytes after those stay. A number may be used once.
+    /// The content is the `content_len` bytes of `bytes` from byte 5 on. The header is written before it, and
+    /// its type, `padding` zeros and the tag after it; the bytes after those stay. A number may be used once.
     pub fn seal_at(
         &self,
         number: u64,
@@ -108,10 +109,11 @@ impl RecordKey {
         content_len: usize,
         padding: usize,
     ) -> Result<usize, RecordError>
-        ensures accepted { IsOk result ↔ (IsAllowed self.now.size_limit content_type content_len padding
+        ensures accepted { IsOk result
+            ↔ (IsAllowed self.now.size_limit content_type content_len padding
             × (content_len + padding + 22 ≤ length bytes.old)) }
-        ensures refused { IfErr result
-            (RefusesToSeal self.now.size_limit content_type content_len padding (length bytes.old)) }
+        ensures refused { IfErr result (RefusesToSeal
+            self.now.size_limit content_type content_len padding (length bytes.old)) }
         ensures len { IfOk result (λ n. n ≡ content_len + padding + 22) }
         ensures sealed { OnOk result (bytes.new ≡ record_at self.now number (record {
           content_type = content_type;
@@ -135,9 +137,11 @@ impl RecordKey {
         content_len: usize,
         padding: usize,
     ) -> Result<usize, RecordError>
-        ensures accepted { IsOk result ↔ IsAllowed self.now.size_limit content_type content_len padding }
+        ensures accepted { IsOk result
+            ↔ IsAllowed self.now.size_limit content_type content_len padding }
         ensures len { IfOk result (λ n. n ≡ content_len + 1 + padding) }
-        ensures refused { IfErr result (RefusesContent self.now.size_limit content_type content_len padding) }
+        ensures refused { IfErr result
+            (RefusesContent self.now.size_limit content_type content_len padding) }
         ensures fits { OnOk result (content_len + padding ≤ 2 ^ 14) }
     {
         inner_len(self.size_limit, content_type, content_len, padding)
@@ -166,8 +170,8 @@ impl RecordKey {
         };
     }
 
-    /// Opens the record of a number, which is the whole of `bytes`, in place, and returns the type and the length of its
-    /// content: the content then is `bytes[5..5 + length]`.
+    /// Opens the record of a number, which is the whole of `bytes`, in place, and returns the type and the
+    /// length of its content: the content then is `bytes[5..5 + length]`.
     ///
     /// Header and tag stay. A refusal changes no byte, unless the record is authentic: after `NoContentType`,
     /// `UnexpectedType` and `EmptyContent` its inner plaintext stands from byte 5 on.
@@ -200,8 +204,8 @@ impl RecordKey {
             (content_at filled bytes.new result) }
         ensures within { IfOk result (λ read. filled + read.1 + 17 ≤ end) }
         ensures put { IfOk result (LeavesInner filled bytes.old bytes.new) }
-        ensures kept { IfErr result
-            (LeavesRefused self.now number (slice_range bytes.old at end) filled bytes.old bytes.new) }
+        ensures kept { IfErr result (LeavesRefused
+            self.now number (slice_range bytes.old at end) filled bytes.old bytes.new) }
     {
         let len = self.open_message(number, bytes, filled, at, end)?;
         match content_of(&bytes[filled..filled + len]) {
@@ -220,10 +224,11 @@ impl RecordKey {
         end: usize,
     ) -> Result<usize, RecordError>
         requires { (filled ≤ at + 5) × (at ≤ end) × (end ≤ length bytes.old) }
-        ensures opened { IfOk result
-            (OpensMessage self.now number (slice_range bytes.old at end) filled bytes.old bytes.new) }
+        ensures opened { IfOk result (OpensMessage
+            self.now number (slice_range bytes.old at end) filled bytes.old bytes.new) }
         ensures within { IfOk result (λ n. filled + n + 16 ≤ end) }
-        ensures refused { IfErr result (RefusesMessage self.now number (slice_range bytes.old at end)) }
+        ensures refused { IfErr result
+            (RefusesMessage self.now number (slice_range bytes.old at end)) }
         ensures none { OnErr result ((inner : Inner)
             → ¬ Carries self.now number (slice_range bytes.old at end) inner) }
         ensures kept { OnErr result (bytes.new ≡ bytes.old) }

@@ -8,21 +8,22 @@ ghost use Rattle.records.specs.Runs.{Answer, Event, Follows, ReadStep, WriteStep
 
 use crate::{Reader, Writer};
 
-/// Reading undoes writing, for every list of contents and over key updates: whatever calls of `write`, `seal` and `update`
-/// made of them, and whatever calls of `gather`, `read` and `update` then read those records under the same keys, each
-/// returns its content's type and its content, and the reader stands where the writer does.
+/// Reading undoes writing, for every list of contents and over key updates: whatever calls of `write`, `seal`
+/// and `update` made of them, and whatever calls of `gather`, `read` and `update` then read those records under
+/// the same keys, each returns its content's type and its content, and the reader stands where the writer does.
 #[tactic(auto, using(crate::proofs::RunLemmas::reading_undoes_writing))]
 pub fn reading_undoes_writing(writer: &Writer, reader: &Reader)
     requires { Follows writer.now reader.now }
-    ensures { (asked : List (Event Inner)) (sent : List (Event (List ℕ))) (read : List (Event Answer))
-        (written : WriterState) (stands : ReaderState)
+    ensures { (asked : List (Event Inner)) (sent : List (Event (List ℕ)))
+        (read : List (Event Answer)) (written : WriterState) (stands : ReaderState)
         → Runs WriteStep writer.now written asked sent
         → Runs ReadStep reader.now stands sent read
         → (read ≡ map as_asked asked) × Follows written stands }
 {}
 
-/// No pair of a key and a number comes twice: over every run of calls of a writer, the numbers that it seals under rise
-/// under each of its keys, and they are at most as many as its limit (RFC 8446 sections 5.3 and 5.5).
+/// No pair of a key and a number comes twice: over every run of calls of a writer, the numbers that it seals
+/// under rise under each of its keys, and they are at most as many as its limit (RFC 8446 sections 5.3 and
+/// 5.5).
 pub fn no_number_twice_under_a_key(first: &Writer, last: &Writer)
     ensures fresh { (by_key : List (List ℕ)) → WriterRuns first.now last.now by_key
         → All (λ numbers. AllPairs (λ m n. m < n) numbers) by_key }

@@ -1,7 +1,8 @@
 //! A record layer of TLS 1.3 (RFC 8446 section 5), under given keys and by AES-GCM.
 //!
-//! A protected record is a header of 5 bytes and the encrypted record: the content, its type and zeros as padding, sealed
-//! under the number of the record with the header as AAD. `docs/RECORDS.md` has the format byte by byte.
+//! A protected record is a header of 5 bytes and the encrypted record: the content, its type and zeros as
+//! padding, sealed under the number of the record with the header as AAD. `docs/RECORDS.md` has the format byte
+//! by byte.
 #![tactic(auto)]
 
 mod content_type;
@@ -25,7 +26,8 @@ pub use writer::Writer;
 /// The bytes of a header.
 pub const HEADER_LEN: usize = 5;
 
-/// The longest content of a record, padding included, in bytes, where no lower size limit is set (RFC 8446 section 5.1).
+/// The longest content of a record, padding included, in bytes, where no lower size limit is set (RFC 8446
+/// section 5.1).
 pub const MAX_CONTENT_LEN: usize = 16384;
 
 /// The lowest size limit (RFC 8449 section 4).
@@ -34,8 +36,8 @@ pub const MIN_SIZE_LIMIT: usize = 64;
 /// The highest size limit, which is the one where none is set: a content and its type (RFC 8446 section 5.4).
 pub const MAX_SIZE_LIMIT: usize = 16385;
 
-/// How many records a writer and a reader allow for under a key, where no other limit is set: fewer than the 2^24.5 that
-/// keep a margin of safety under AES-GCM (RFC 8446 section 5.5).
+/// How many records a writer and a reader allow for under a key, where no other limit is set: fewer than the
+/// 2^24.5 that keep a margin of safety under AES-GCM (RFC 8446 section 5.5).
 pub const DEFAULT_LIMIT: u64 = 1 << 24;
 
 /// The bytes of a tag.

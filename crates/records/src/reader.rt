@@ -2,7 +2,7 @@
 
 ghost use Rattle.std.specs.Prelude.{◌≡◌, ◌≢◌, ◌+◌, ◌-◌, ◌^◌, ◌≤◌, ◌↔◌, length, slice_range, IsTrue, IsFalse, IsOk, IfOk, IsOkUnless, IsErrOf, IfErr, OnOk, OnErr, false};
 ghost use Rattle.aead_ciphers.specs.Algorithm.{key_len};
-ghost use Rattle.records.specs.Keys.{rekeyed};
+ghost use Rattle.records.specs.Keys.{new_key, rekeyed};
 ghost use Rattle.records.specs.Steps.{content_at, lent_content, after_error, LeavesInner, LeavesRefused, Reads};
 
 use crate::DEFAULT_LIMIT;
@@ -14,8 +14,8 @@ use std::marker::Model;
 
 /// Reads records, each under the next number, over key updates. It can't be cloned, and lends no key.
 ///
-/// An error that calls for an alert ends the connection (RFC 8446 section 6.2): the reader then is closed, and each later
-/// call returns `Closed`.
+/// An error that calls for an alert ends the connection (RFC 8446 section 6.2): the reader then is closed, and
+/// each later call returns `Closed`.
 #[derive(Drop)]
 pub struct Reader {
     key: RecordKey,
@@ -29,11 +29,17 @@ impl Model for Reader {
 
     ghost Value = { ReaderState };
 
-    ghost view = { λ r. record { key = r.key; number = r.number; limit = r.limit; is_closed = r.is_closed } };
+    ghost view = { λ r. record {
+      key = r.key;
+      number = r.number;
+      limit = r.limit;
+      is_closed = r.is_closed;
+    } };
 }
 
 impl Reader {
-    /// Before record 0, for at most 2^24 records under each key (RFC 8446 section 5.5). `iv` is the write_iv (section 7.3).
+    /// Before record 0, for at most 2^24 records under each key (RFC 8446 section 5.5). `iv` is the write_iv
+    /// (section 7.3).
     pub fn new(
         algorithm: &'static Algorithm,
         key: &[u8],
@@ -42,7 +48,7 @@ impl Reader {
         ensures accepted { IsOk result ↔ (length key.now ≡ key_len algorithm.now) }
         ensures refused { IsOkUnless result RecordError.KeyLength }
         ensures made { IfOk result (λ made. made ≡ record {
-          key = record { algorithm = algorithm.now; bytes = key.now; iv = iv; size_limit = 2 ^ 14 + 1 };
+          key = new_key algorithm.now key.now iv;
           number = 0;
           limit = 2 ^ 24;
           is_closed = false;
@@ -61,7 +67,7 @@ impl Reader {
         ensures accepted { IsOk result ↔ (length key.now ≡ key_len algorithm.now) }
         ensures refused { IsOkUnless result RecordError.KeyLength }
         ensures made { IfOk result (λ made. made ≡ record {
-          key = record { algorithm = algorithm.now; bytes = key.now; iv = iv; size_limit = 2 ^ 14 + 1 };
+          key = new_key algorithm.now key.now iv;
           number = 0;
           limit = limit;
           is_closed = false;
@@ -75,8 +81,8 @@ impl Reader {
         })
     }
 
-    /// The same with this number as that of the next record, for a reader that takes over from another one. The records
-    /// before it count towards the limit.
+    /// The same with this number as that of the next record, for a reader that takes over from another one. The
+    /// records before it count towards the limit.
     pub fn starting_at(mut self, number: u64) -> Self
         ensures { result ≡ record self { number = number } }
     {
@@ -112,8 +118,8 @@ impl Reader {
         self.key.size_limit()
     }
 
-    /// Sets the RecordSizeLimit that was sent to the peer, from 64 to 2^14 + 1 (RFC 8449 section 4). The limit stays over
-    /// key updates.
+    /// Sets the RecordSizeLimit that was sent to the peer, from 64 to 2^14 + 1 (RFC 8449 section 4). The limit
+    /// stays over key updates.
     pub fn set_size_limit(&mut self, size_limit: usize) -> Result<(), RecordError>
         ensures accepted { IsOk result
             ↔ (IsFalse self.old.is_closed × (64 ≤ size_limit) × (size_limit ≤ 2 ^ 14 + 1)) }
@@ -148,13 +154,13 @@ impl Reader {
         Ok(())
     }
 
-    /// Opens the next record, which is `bytes[at..end]`, into the bytes from `filled` on, and returns the type and the
-    /// length of its content: the content then is `bytes[filled..filled + length]`. So the contents of all records in a
-    /// buffer can be gathered at its front, with `filled` the sum of their lengths so far.
+    /// Opens the next record, which is `bytes[at..end]`, into the bytes from `filled` on, and returns the type
+    /// and the length of its content: the content then is `bytes[filled..filled + length]`. So the contents of
+    /// all records in a buffer can be gathered at its front, with `filled` the sum of their lengths so far.
     ///
-    /// Every byte before `filled` and from `end` on stays. A refusal changes no byte, unless the record is authentic: after
-    /// `NoContentType`, `UnexpectedType` and `EmptyContent` its inner plaintext stands from `filled` on. It spends no number,
-    /// and closes the reader where the error has an alert.
+    /// Every byte before `filled` and from `end` on stays. A refusal changes no byte, unless the record is
+    /// authentic: after `NoContentType`, `UnexpectedType` and `EmptyContent` its inner plaintext stands from
+    /// `filled` on. It spends no number, and closes the reader where the error has an alert.
     pub fn gather(
         &mut self,
         bytes: &mut [u8],
@@ -190,8 +196,9 @@ impl Reader {
         }
     }
 
-    /// Opens the next record, which is the whole of `bytes`, and lends its content, which then stands at the front of
-    /// `bytes`, with its type. It is `gather` of one record, whose clauses say what the buffer then holds.
+    /// Opens the next record, which is the whole of `bytes`, and lends its content, which then stands at the
+    /// front of `bytes`, with its type. It is `gather` of one record, whose clauses say what the buffer then
+    /// holds.
     pub fn read<'a>(&mut self, bytes: &'a mut [u8]) -> Result<(ContentType, &'a [u8]), RecordError>
         ensures reads { Reads self.old self.new bytes.old (lent_content result) }
         ensures closed { IsTrue self.old.is_closed → IsErrOf result RecordError.Closed }

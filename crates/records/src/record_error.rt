@@ -26,8 +26,8 @@ pub enum RecordError {
     /// The size limit isn't from 64 to 2^14 + 1 (RFC 8449 section 4).
     #[error("the size limit isn't from 64 to 2^14 + 1")]
     SizeLimit,
-    /// The content, its type and its padding have more bytes than the size limit allows for (RFC 8446 section 5.4, RFC
-    /// 8449 section 4).
+    /// The content, its type and its padding have more bytes than the size limit allows for (RFC 8446 section
+    /// 5.4, RFC 8449 section 4).
     #[error("the content and its padding are longer than the size limit allows for")]
     ContentTooLong,
     /// The buffer has no room for the record: its content and padding, and 22 bytes more.
@@ -45,8 +45,8 @@ pub enum RecordError {
     /// The bytes are no whole record: its header is cut off, or gives another length.
     #[error("the record's length isn't the one that its header gives")]
     WrongLength,
-    /// The header is that of no record that may come here: a reader takes application data under version 0x0303 alone
-    /// (RFC 8446 section 5.2), and a connection has no others than `RecordKind` names.
+    /// The header is that of no record that may come here: a reader takes application data under version 0x0303
+    /// alone (RFC 8446 section 5.2), and a connection has no others than `RecordKind` names.
     #[error("the header is that of another record")]
     UnexpectedRecord,
     /// The header gives a plaintext record more than 2^14 bytes (RFC 8446 section 5.1).
@@ -71,14 +71,15 @@ pub enum RecordError {
     /// The tag is right, and the content type is none that a protected record may have (RFC 8446 section 5).
     #[error("a protected record has no such content type")]
     UnexpectedType,
-    /// An alert or a handshake message of no bytes, to be written or, under a right tag, read (RFC 8446 section 5.4).
+    /// An alert or a handshake message of no bytes, to be written or, under a right tag, read (RFC 8446 section
+    /// 5.4).
     #[error("an alert or handshake record has no content")]
     EmptyContent,
 }
 
 impl RecordError {
-    /// The alert with which a record that was read or classified ends the connection, which such a refusal does (RFC 8446
-    /// sections 5.1, 5.2, 5.4 and 6.2). `None` where the record isn't at fault.
+    /// The alert with which a record that was read or classified ends the connection, which such a refusal does
+    /// (RFC 8446 sections 5.1, 5.2, 5.4 and 6.2). `None` where the record isn't at fault.
     pub fn alert(self) -> Option<AlertDescription>
         ensures { result ≡ alert_of self }
     {

@@ -33,9 +33,10 @@ pub enum Begins {
 
 /// Says what a stream begins with, from the bytes that have come so far: its first record, once all of it is there.
 ///
-/// Refused, with the alert that ends the connection, where they begin with no record that a connection of TLS 1.3 has,
-/// as soon as the header is there. The version in a plaintext record is ignored (RFC 8446 section 5.1). Whether a record
-/// may come now is the caller's to say; in particular only the caller knows when a ChangeCipherSpec is dropped.
+/// Refused, with the alert that ends the connection, where they begin with no record that a connection of TLS
+/// 1.3 has, as soon as the header is there. The version in a plaintext record is ignored (RFC 8446 section
+/// 5.1). Whether a record may come now is the caller's to say; in particular only the caller knows when a
+/// ChangeCipherSpec is dropped.
 pub fn classify(bytes: &[u8]) -> Result<Begins, RecordError>
     ensures begins { IfOk result (BeginsWith bytes.now) }
     ensures refused { IfErr result (RefusesToClassify bytes.now) }

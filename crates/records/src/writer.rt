@@ -2,7 +2,7 @@
 
 ghost use Rattle.std.specs.Prelude.{◌≡◌, ◌+◌, ◌-◌, ◌^◌, ◌<◌, ◌≤◌, ◌↔◌, ◌++◌, length, drop, replicate, slice_range, vec_len, vec_capacity, IsOk, IfOk, IsOkUnless, OnOk, IfErr, OnErr, IsErrOf};
 ghost use Rattle.aead_ciphers.specs.Algorithm.{key_len};
-ghost use Rattle.records.specs.Keys.{rekeyed};
+ghost use Rattle.records.specs.Keys.{new_key, rekeyed};
 ghost use Rattle.records.specs.Record.{IsAllowed, record_at};
 ghost use Rattle.records.specs.Refusals.{RefusesContent, RefusesToSeal};
 
@@ -31,7 +31,8 @@ impl Model for Writer {
 }
 
 impl Writer {
-    /// Before record 0, for at most 2^24 records under each key (RFC 8446 section 5.5). `iv` is the write_iv (section 7.3).
+    /// Before record 0, for at most 2^24 records under each key (RFC 8446 section 5.5). `iv` is the write_iv
+    /// (section 7.3).
     pub fn new(
         algorithm: &'static Algorithm,
         key: &[u8],
@@ -40,7 +41,7 @@ impl Writer {
         ensures accepted { IsOk result ↔ (length key.now ≡ key_len algorithm.now) }
         ensures refused { IsOkUnless result RecordError.KeyLength }
         ensures made { IfOk result (λ made. made ≡ record {
-          key = record { algorithm = algorithm.now; bytes = key.now; iv = iv; size_limit = 2 ^ 14 + 1 };
+          key = new_key algorithm.now key.now iv;
           number = 0;
           limit = 2 ^ 24;
         }) }
@@ -48,8 +49,8 @@ impl Writer {
         Self::with_limit(algorithm, key, iv, DEFAULT_LIMIT)
     }
 
-    /// The same for at most `limit` records under each key, where the caller knows better: none beyond 2^24.5 keep the
-    /// margin of RFC 8446 section 5.5.
+    /// The same for at most `limit` records under each key, where the caller knows better: none beyond 2^24.5
+    /// keep the margin of RFC 8446 section 5.5.
     pub fn with_limit(
         algorithm: &'static Algorithm,
         key: &[u8],
@@ -59,7 +60,7 @@ impl Writer {
         ensures accepted { IsOk result ↔ (length key.now ≡ key_len algorithm.now) }
         ensures refused { IsOkUnless result RecordError.KeyLength }
         ensures made { IfOk result (λ made. made ≡ record {
-          key = record { algorithm = algorithm.now; bytes = key.now; iv = iv; size_limit = 2 ^ 14 + 1 };
+          key = new_key algorithm.now key.now iv;
           number = 0;
           limit = limit;
         }) }
@@ -92,8 +93,8 @@ impl Writer {
         self.key.size_limit()
     }
 
-    /// Sets the RecordSizeLimit that the peer has sent, from 64 to 2^14 + 1 (RFC 8449 section 4). A content that is longer
-    /// is refused, and not split. The limit stays over key updates.
+    /// Sets the RecordSizeLimit that the peer has sent, from 64 to 2^14 + 1 (RFC 8449 section 4). A content
+    /// that is longer is refused, and not split. The limit stays over key updates.
     pub fn set_size_limit(&mut self, size_limit: usize) -> Result<(), RecordError>
         ensures accepted { IsOk result ↔ ((64 ≤ size_limit) × (size_limit ≤ 2 ^ 14 + 1)) }
         ensures refused { IsOkUnless result RecordError.SizeLimit }
@@ -118,8 +119,8 @@ impl Writer {
         Ok(())
     }
 
-    /// Seals the next record in place, as `RecordKey::seal_at` does, and returns its length. A refusal changes nothing,
-    /// and spends no number.
+    /// Seals the next record in place, as `RecordKey::seal_at` does, and returns its length. A refusal changes
+    /// nothing, and spends no number.
     pub fn seal(
         &mut self,
         content_type: ContentType,
@@ -130,16 +131,18 @@ impl Writer {
         ensures accepted { IsOk result ↔ ((self.old.number < self.old.limit)
             × IsAllowed self.old.key.size_limit content_type content_len padding
             × (content_len + padding + 22 ≤ length bytes.old)) }
-        ensures ended { self.old.limit ≤ self.old.number → IsErrOf result RecordError.SequenceEnded }
-        ensures refused { self.old.number < self.old.limit → IfErr result
-            (RefusesToSeal self.old.key.size_limit content_type content_len padding (length bytes.old)) }
+        ensures ended { self.old.limit ≤ self.old.number
+            → IsErrOf result RecordError.SequenceEnded }
+        ensures refused { self.old.number < self.old.limit → IfErr result (RefusesToSeal
+            self.old.key.size_limit content_type content_len padding (length bytes.old)) }
         ensures len { IfOk result (λ n. n ≡ content_len + padding + 22) }
         ensures sealed { OnOk result (bytes.new ≡ record_at self.old.key self.old.number (record {
           content_type = content_type;
           content = slice_range bytes.old HEADER_LEN (HEADER_LEN + content_len);
           padding = padding;
         }) ++ drop (content_len + padding + 22) bytes.old) }
-        ensures counted { OnOk result (self.new ≡ record self.old { number = self.old.number + 1 }) }
+        ensures counted { OnOk result
+            (self.new ≡ record self.old { number = self.old.number + 1 }) }
         ensures kept { OnErr result (bytes.new ≡ bytes.old) }
         ensures stands { OnErr result (self.new ≡ self.old) }
     {
@@ -153,11 +156,11 @@ impl Writer {
         Ok(len)
     }
 
-    /// Appends the next record to `out`: the content, its type and `padding` zeros, which only the length of the record
-    /// shows. The record is 22 bytes longer than content and padding.
+    /// Appends the next record to `out`: the content, its type and `padding` zeros, which only the length of
+    /// the record shows. The record is 22 bytes longer than content and padding.
     ///
-    /// A refused write appends nothing and spends no number. It fails with `OutOfMemory` only where the capacity of `out`
-    /// is too small for the record.
+    /// A refused write appends nothing and spends no number. It fails with `OutOfMemory` only where the
+    /// capacity of `out` is too small for the record.
     pub fn write(
         &mut self,
         content_type: ContentType,
@@ -167,10 +170,12 @@ impl Writer {
     ) -> Result<(), RecordError>
         ensures accepted { OnOk result ((self.old.number < self.old.limit)
             × IsAllowed self.old.key.size_limit content_type (length content.now) padding) }
-        ensures ended { self.old.limit ≤ self.old.number → IsErrOf result RecordError.SequenceEnded }
+        ensures ended { self.old.limit ≤ self.old.number
+            → IsErrOf result RecordError.SequenceEnded }
         ensures refused { self.old.number < self.old.limit
             → ¬ IsAllowed self.old.key.size_limit content_type (length content.now) padding
-            → IfErr result (RefusesContent self.old.key.size_limit content_type (length content.now) padding) }
+            → IfErr result (RefusesContent
+            self.old.key.size_limit content_type (length content.now) padding) }
         ensures memory { self.old.number < self.old.limit
             → IsAllowed self.old.key.size_limit content_type (length content.now) padding
             → IsOkUnless result RecordError.OutOfMemory }
@@ -179,7 +184,8 @@ impl Writer {
         ensures written { OnOk result (out.new.items ≡ out.old.items
             ++ record_at self.old.key self.old.number
             (record { content_type = content_type; content = content.now; padding = padding })) }
-        ensures counted { OnOk result (self.new ≡ record self.old { number = self.old.number + 1 }) }
+        ensures counted { OnOk result
+            (self.new ≡ record self.old { number = self.old.number + 1 }) }
         ensures kept { OnErr result ((self.new ≡ self.old) × (out.new.items ≡ out.old.items)) }
     {
         if self.number >= self.limit {

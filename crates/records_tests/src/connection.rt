@@ -45,8 +45,8 @@ fn algorithm_of(key: &[u8]) -> &'static Algorithm {
     }
 }
 
-/// Where the next protected record of a stream begins, and how many bytes it takes. What stands before it in plaintext, a
-/// ClientHello or a ServerHello and a ChangeCipherSpec, is passed over.
+/// Where the next protected record of a stream begins, and how many bytes it takes. What stands before it in
+/// plaintext, a ClientHello or a ServerHello and a ChangeCipherSpec, is passed over.
 fn next_protected(stream: &[u8], from: usize) -> Result<(usize, usize), Fail> {
     let mut at = from;
     for _ in 0..3 {

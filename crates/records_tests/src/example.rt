@@ -5,8 +5,9 @@ use records::{Begins, ContentType, Reader, RecordError, RecordKind, classify};
 
 const KEY_UPDATE: u8 = 24;
 
-/// Reads the records that have come whole, after the handshake, and gathers their application data at the front. Returns
-/// how many bytes of it there are, and how many bytes the records took: the rest is kept until more has come.
+/// Reads the records that have come whole, after the handshake, and gathers their application data at the
+/// front. Returns how many bytes of it there are, and how many bytes the records took: the rest is kept until
+/// more has come.
 ///
 /// `next_key` and `next_iv` are the ones that follow a KeyUpdate.
 pub(crate) fn receive(
@@ -18,7 +19,7 @@ pub(crate) fn receive(
     let mut filled = 0;
     let mut at = 0;
     while let Begins::Record(kind, len) = classify(&bytes[at..])? {
-        // (a ChangeCipherSpec is dropped before the peer's Finished alone, and nothing else comes in plaintext now)
+        // (a ChangeCipherSpec is dropped before the peer's Finished alone)
         if kind != RecordKind::Protected {
             return Err(RecordError::UnexpectedRecord);
         }

@@ -1,5 +1,5 @@
-//! Tests of `records` by what it offers to every caller: records of OpenSSL and of python's `cryptography`, printed text, and
-//! what no clause says.
+//! Tests of `records` by what it offers to every caller: records of OpenSSL and of python's `cryptography`,
+//! printed text, and what no clause says.
 #![tactic(auto)]
 
 #[cfg(test)]

@@ -157,8 +157,8 @@ fn every_flipped_bit_is_refused(rt: HostRuntime) -> Result<(), Fail> {
     Ok(())
 }
 
-/// Why a new reader refuses these bytes, which must leave them as they are. Where the error has an alert, each later call
-/// must return `Closed`.
+/// Why a new reader refuses these bytes, which must leave them as they are. Where the error has an alert, each
+/// later call must return `Closed`.
 fn refusal(rt: &impl Abort, alloc: Global, bytes: &mut [u8]) -> Result<RecordError, Fail> {
     let mut reader = Reader::new(&AES_128_GCM, &KEY[..16], IV)?;
     let before = bytes.to_vec(alloc)?;
@@ -225,7 +225,8 @@ fn no_record(rt: HostRuntime) -> Result<(), Fail> {
     Ok(())
 }
 
-/// Authentic records that `tools/read-records make` printed, with their inner plaintexts, and why those are refused.
+/// Authentic records that `tools/read-records make` printed, with their inner plaintexts, and why those are
+/// refused.
 const AUTHENTIC: [(&str, &[u8], RecordError); 5] = [
     (
         "1703030014936ca7ce192ea8e21527108e19c356659790e9ef",
@@ -254,7 +255,8 @@ const AUTHENTIC: [(&str, &[u8], RecordError); 5] = [
     ),
 ];
 
-/// The inner plaintext is at the front of the buffer, every byte after it is the record's, and the reader is closed.
+/// The inner plaintext is at the front of the buffer, every byte after it is the record's, and the reader is
+/// closed.
 #[test]
 fn authentic_and_refused(rt: HostRuntime) -> Result<(), Fail> {
     for (text, inner, expected) in AUTHENTIC {
@@ -322,8 +324,8 @@ fn of_length(
     Ok(())
 }
 
-/// The longest content, and the longest padding, under the size limit of RFC 8446 and under a lower one, which stays over
-/// a key update.
+/// The longest content, and the longest padding, under the size limit of RFC 8446 and under a lower one, which
+/// stays over a key update.
 #[test]
 fn longest_records(rt: HostRuntime) -> Result<(), Fail> {
     let alloc = rt.alloc();
@@ -414,8 +416,8 @@ fn sealed_in_place(rt: HostRuntime) -> Result<(), Fail> {
     Ok(())
 }
 
-/// The record that `tools/read-records make` printed for number 2^64 - 1, both ways, with bytes after it, and a reader that
-/// starts two records later than the first.
+/// The record that `tools/read-records make` printed for number 2^64 - 1, both ways, with bytes after it, and a
+/// reader that starts two records later than the first.
 #[test]
 fn by_number(rt: HostRuntime) -> Result<(), Fail> {
     let key = RecordKey::new(&AES_128_GCM, &KEY[..16], IV)?;

@@ -7,20 +7,25 @@ use records::{Begins, ContentType, Reader, RecordError, RecordKind, Writer, clas
 
 /// Sends application data, without padding.
 pub fn send(writer: &mut Writer, message: &[u8], out: &mut Vec<u8>) -> Result<(), RecordError>
-    ensures sent { OnOk result (out.new.items ≡ out.old.items ++ record_at writer.old.key writer.old.number
-        (record { content_type = ContentType.ApplicationData; content = message.now; padding = 0 })) }
+    ensures sent { OnOk result (out.new.items ≡ out.old.items
+        ++ record_at writer.old.key writer.old.number (record {
+          content_type = ContentType.ApplicationData;
+          content = message.now;
+          padding = 0;
+        })) }
     ensures accepted { writer.old.number < writer.old.limit
         → length message.now < writer.old.key.size_limit
         → vec_len out.old + length message.now + 22 ≤ vec_capacity out.old → IsOk result }
-    ensures counted { OnOk result (writer.new ≡ record writer.old { number = writer.old.number + 1 }) }
+    ensures counted { OnOk result
+        (writer.new ≡ record writer.old { number = writer.old.number + 1 }) }
     ensures refused { OnErr result ((writer.new ≡ writer.old) × (out.new.items ≡ out.old.items)) }
 {
     writer.write(ContentType::ApplicationData, message, 0, out)
 }
 
-/// Takes the first record of a stream, before the peer's Finished: a protected one is opened to the front, and a
-/// ChangeCipherSpec is dropped. Returns how many bytes were taken, 0 where more have to come, and the type and the length
-/// of what was read.
+/// Takes the first record of a stream, before the peer's Finished: a protected one is opened to the front, and
+/// a ChangeCipherSpec is dropped. Returns how many bytes were taken, 0 where more have to come, and the type
+/// and the length of what was read.
 pub fn receive(
     reader: &mut Reader,
     bytes: &mut [u8],

@@ -1,4 +1,4 @@
-use Rattle.std.proofs.Common.{ℕ, ◌≡◌, ◌+◌, ◌-◌, length, replicate, ap, refl, ◌∙◌, arith, rules}
+use Rattle.std.proofs.Common.{ℕ, ◌≡◌, ◌-◌, length, replicate, ap, refl, ◌∙◌, arith, rules}
 use Rattle.std.proofs.lemmas.List.{places}
 use Rattle.records.proofs
 use proofs.WriteLemmas.{framed_message}
@@ -9,6 +9,7 @@ returns-clause-message c =
     let old = c.args.bytes.now in
     let n = c.args.content_len in
     let five : length c.copy_from_slice.new.self ≡ 5 = search rules in
-    let zeros : c.fill.new.self ≡ replicate (length old - 22 - n) 0 = c.fill.ensures.after (search rules) ∙ ap (λ (m : ℕ). replicate m 0) (search (rules, places)) in
+    let zeros : c.fill.new.self ≡ replicate (length old - 22 - n) 0 =
+    c.fill.ensures.after (search rules) ∙ ap (λ (m : ℕ). replicate m 0) (search (rules, places)) in
     rw c.code.ensures
-    (framed_message old c.copy_from_slice.new.self c.fill.new.self n (length old - 16 - (5 + n + 1)) _ five (omega (arith, c.requires.room)) refl zeros)
+    (framed_message old c.copy_from_slice.new.self c.fill.new.self n _ _ five (omega (arith, c.requires.room)) refl zeros)
