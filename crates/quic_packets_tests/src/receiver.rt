@@ -48,8 +48,12 @@ impl End {
     }
 
     fn receive(&mut self, packet: &mut [u8]) -> Result<Received, PacketError> {
+        self.receive_at(packet, 9)
+    }
+
+    fn receive_at(&mut self, packet: &mut [u8], number_at: usize) -> Result<Received, PacketError> {
         self.receiver
-            .receive(&mut self.space, &mut self.failures, packet, 9)
+            .receive(&mut self.space, &mut self.failures, packet, number_at)
     }
 
     /// The number of a packet that is sent to it, or why it is refused.
@@ -207,9 +211,7 @@ fn one_space(rt: HostRuntime) -> Result<(), Fail> {
 fn too_short(rt: HostRuntime) -> Result<(), Fail> {
     let mut end = End::new()?;
     assert_eq!(rt; end.receive(&mut [0; 28]), Err(PacketError::NoSample));
-    let at_first = end
-        .receiver
-        .receive(&mut end.space, &mut end.failures, &mut [0; 40], 0);
+    let at_first = end.receive_at(&mut [0; 40], 0);
     assert_eq!(rt; at_first, Err(PacketError::NumberAtFirstByte));
     assert_eq!(rt; end.failures.count(), 0);
     assert!(rt; Receiver::new(Suite::Aes256Gcm, &[1; 16], IV, &[1; 32]).is_err());
