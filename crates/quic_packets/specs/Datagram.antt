@@ -1,5 +1,5 @@
--- Where the parts of a packet lie in a datagram (RFC 9000 sections 12.2 and 17, RFC 8999 section 5). Positions count the datagram's
--- bytes, and it reads as zeros past its end. The parts follow each other, so a packet that is cut ends past the datagram.
+-- The positions of a packet's parts in a datagram (RFC 9000 sections 12.2 and 17, RFC 8999 section 5). A position counts the
+-- bytes before it. Past its end, a datagram reads as zeros, so a packet that is cut ends past the datagram.
 use Rattle.std.specs.Prelude.{◌≡◌, ℕ, ◌<◌, ◌≤◌, ◌+◌, ◌-◌, ◌*◌, ◌/◌, ◌%◌, ◌^◌, Bool, ◌==◌, ◌||◌, nat_lt, max, if◌then◌else◌, List, length, slice_index, slice_range, Option, None, Some, Result, Ok, Err}
 use Rattle.std.specs.Int.Digits.{number_from_digits}
 use Rattle.std.specs.declared.ops.Range.{Range}
@@ -9,7 +9,8 @@ use Rattle.quic_packets.specs.declared.datagram.Packet.{Packet}
 use Rattle.quic_packets.specs.declared.datagram.PacketType.{PacketType}
 use Rattle.quic_packets.specs.declared.datagram.PacketType.TheVariants.{Initial, ZeroRtt, Handshake, Retry, VersionNegotiation, OneRtt, OtherVersion}
 
--- a variable-length integer at a byte: the two highest bits of its first byte are the base-2 logarithm of its length (section 16)
+-- the end of the variable-length integer at a byte: the two highest bits of that byte are the base-2 logarithm of its length
+-- (section 16)
 abbrev pub varint_end : List ℕ → ℕ → ℕ
 varint_end datagram at = at + 2 ^ (slice_index datagram at / 2 ^ 6)
 
@@ -18,7 +19,7 @@ abbrev pub varint : List ℕ → ℕ → ℕ
 varint datagram at =
     let end = varint_end datagram at in number_from_digits 256 (slice_range datagram at end) % 2 ^ (8 * (end - at) - 2)
 
--- the end of a connection ID that stands after its length, which is the byte here (RFC 8999 section 5.1)
+-- the end of the connection ID whose length is the byte at this position (RFC 8999 section 5.1)
 abbrev pub id_end : List ℕ → ℕ → ℕ
 id_end datagram at = at + 1 + slice_index datagram at
 
@@ -33,11 +34,11 @@ destination_end datagram start = id_end datagram (start + 5)
 abbrev pub source_end : List ℕ → ℕ → ℕ
 source_end datagram start = id_end datagram (destination_end datagram start)
 
--- the bytes from here to there
+-- the range from one position to another
 abbrev pub span : ℕ → ℕ → Range ℕ
 span start end = record { start = start; end = end }
 
--- a long header: its version and its connection IDs (RFC 8999 section 5.1), and what the version says of the rest
+-- a long header: its version and its connection IDs (RFC 8999 section 5.1), and the parts that depend on the version
 abbrev pub long_layout : List ℕ → ℕ → PacketType → Range ℕ → Option ℕ → ℕ → Packet
 long_layout datagram start packet_type token number_at end = record {
   packet_type = packet_type;
@@ -49,30 +50,31 @@ long_layout datagram start packet_type token number_at end = record {
   end = end;
 }
 
--- where no version that is known says more, the packet takes the rest of the datagram (section 12.2)
+-- a packet whose version gives it no Length field is the rest of the datagram (section 12.2)
 abbrev pub opaque_layout : List ℕ → ℕ → PacketType → Packet
 opaque_layout datagram start packet_type =
     let from = source_end datagram start in
     long_layout datagram start packet_type (span from from) None (max from (length datagram))
 
--- after the token, where there is one, the length of packet number and payload, and then these (section 17.2)
+-- after the token, if there is one, come the Length field, the packet number and the payload, whose lengths it adds up (section
+-- 17.2)
 abbrev pub numbered_layout : List ℕ → ℕ → PacketType → Range ℕ → Packet
 numbered_layout datagram start packet_type token =
     let number_at = varint_end datagram token.end in
     long_layout datagram start packet_type token (Some number_at) (number_at + varint datagram token.end)
 
--- the token of an Initial packet, after its length (section 17.2.2)
+-- the token of an Initial packet, which follows its length (section 17.2.2)
 abbrev pub initial_token : List ℕ → ℕ → Range ℕ
 initial_token datagram start =
     let from = source_end datagram start in let at = varint_end datagram from in span at (at + varint datagram from)
 
--- a Retry packet is a token and 16 bytes of tag, to the end of the datagram (sections 12.2 and 17.2.5)
+-- a Retry packet is its token and a tag of 16 bytes, up to the end of the datagram (sections 12.2 and 17.2.5)
 abbrev pub retry_layout : List ℕ → ℕ → Packet
 retry_layout datagram start =
     let from = source_end datagram start in let end = max (from + 16) (length datagram) in
     long_layout datagram start Retry (span from (end - 16)) None end
 
--- the packets of version 1, by the type in bits 4 and 5 of the first byte (section 17.2, table 5)
+-- a packet of version 1, by the type in bits 4 and 5 of the first byte (section 17.2, table 5)
 abbrev pub version_1_layout : List ℕ → ℕ → Packet
 version_1_layout datagram start =
     let bits = slice_index datagram start / 2 ^ 4 % 4 in let none = span (source_end datagram start) (source_end datagram start) in
@@ -81,8 +83,8 @@ version_1_layout datagram start =
     else if bits == 2 then numbered_layout datagram start Handshake none
     else retry_layout datagram start
 
--- a short header: the destination connection ID, whose length the receiver knows, and then the packet number; the packet takes the
--- rest of the datagram (sections 12.2 and 17.3.1)
+-- a short header: the destination connection ID, whose length the receiver knows, and the packet number. The packet is the rest
+-- of the datagram (sections 12.2 and 17.3.1).
 abbrev pub short_layout : ℕ → List ℕ → ℕ → Packet
 short_layout connection_id_len datagram start =
     let number_at = start + 1 + connection_id_len in record {
@@ -95,14 +97,15 @@ short_layout connection_id_len datagram start =
       end = max number_at (length datagram);
     }
 
--- a long header, by its version; version 0 is that of Version Negotiation (section 17.2.1)
+-- a long header, by its version. Version 0 is Version Negotiation (section 17.2.1).
 abbrev pub versioned_layout : List ℕ → ℕ → Packet
 versioned_layout datagram start =
     if version_of datagram start == 0 then opaque_layout datagram start VersionNegotiation
     else if version_of datagram start == 1 then version_1_layout datagram start
     else opaque_layout datagram start OtherVersion
 
--- a connection ID has at most 20 bytes in version 1 (section 17.2), and in others 255, since its length is a byte (RFC 8999 section 5.1)
+-- the longest connection ID: 20 bytes in version 1 (section 17.2), and 255 otherwise, as its length is one byte (RFC 8999
+-- section 5.1)
 abbrev pub longest_id : ℕ → ℕ
 longest_id version = if version == 1 then 20 else 255
 
@@ -111,27 +114,27 @@ has_long_id datagram start =
     let longest = longest_id (version_of datagram start) in
     nat_lt longest (slice_index datagram (start + 5)) || nat_lt longest (slice_index datagram (destination_end datagram start))
 
--- a packet that ends past the datagram is refused
+-- a packet that ends past the datagram is rejected
 abbrev pub whole : List ℕ → Packet → Result Packet DatagramError
 whole datagram packet = if nat_lt (length datagram) packet.end then Err Cut else Ok packet
 
--- what is read of a packet with a long header
+-- the result of parsing a packet with a long header
 abbrev pub long_packet : List ℕ → ℕ → Result Packet DatagramError
 long_packet datagram start = if has_long_id datagram start then Err IdTooLong else whole datagram (versioned_layout datagram start)
 
--- what is read of the packet at a byte: the highest bit of its first byte is set in a long header (RFC 8999 section 5)
+-- the result of parsing the packet at a byte. The highest bit of that byte is set in a long header (RFC 8999 section 5).
 abbrev pub packet_of : ℕ → List ℕ → ℕ → Result Packet DatagramError
 packet_of connection_id_len datagram start =
     if nat_lt (slice_index datagram start) 0x80 then whole datagram (short_layout connection_id_len datagram start)
     else long_packet datagram start
 
--- where the packet after this one begins; after an error none is read
+-- where the next packet begins; after an error there is none
 abbrev pub next_start : List ℕ → Result Packet DatagramError → ℕ
 next_start datagram (Ok packet) = packet.end
 next_start datagram (Err error) = length datagram
 
--- What a walk over a datagram gives, and where it then stands: the packet at each byte where it stands, up to the datagram's end
--- (section 12.2)
+-- One step of a walk over a datagram: the item and the next position. Before the datagram's end, the item is the packet at this
+-- position; at the end there is none (section 12.2).
 abbrev pub Walks : ℕ → List ℕ → (at : ℕ) → Option (Result Packet DatagramError) → (next : ℕ) → Type 0
 Walks connection_id_len datagram at None next = (length datagram ≤ at) × (next ≡ at)
 Walks connection_id_len datagram at (Some read) next =

@@ -1,4 +1,4 @@
--- What a sender sends over its life, and what a receiver gives back of it, for the laws.
+-- The packets that a sender sends over its life, and the packets that a receiver returns, for the laws.
 use Rattle.std.specs.Prelude.{◌≡◌, ℕ, ◌+◌, ◌-◌, ◌<◌, ◌≤◌, ◌↔◌, ◌⊎◌, if◌then◌else◌, max, min, true, nat_lt, nat_le, false, List, [], ◌∷◌, length, take, slice_index, Option, None, Some, IsSome, Contains, Result, IsOk, IfOk, IsErrOf}
 use Rattle.aead_ciphers.specs.HeaderProtection.{HeaderKey}
 use Rattle.quic_packets.specs.Keys.{Receiving}
@@ -11,8 +11,8 @@ use Rattle.quic_packets.specs.declared.error.PacketError.TheVariants.{Duplicate}
 use Rattle.quic_packets.specs.declared.receiver.Received.{Received}
 use Rattle.quic_packets.specs.declared.suite.Suite.{Suite}
 
--- a packet that was sent: its number, the byte at which this begins, the bytes in the header, and the packet before it was sealed and
--- after it was protected
+-- a packet that was sent: its number, the position of the number, the length of the header, and the packet before sealing and
+-- after protection
 pub record Sent : Type 0 where
   pub number : ℕ
   pub number_at : ℕ
@@ -20,12 +20,12 @@ pub record Sent : Type 0 where
   pub packet : List ℕ
   pub wire : List ℕ
 
--- a key update of a sender: the key that it went on under, and the number that was the next one then
+-- a key update of a sender: the new key, and the next packet number at the time
 pub record Update : Type 0 where
   pub key : Receiving
   pub first : ℕ
 
--- the packet keys of a sender: its first one, and its key updates, the last one first
+-- the packet keys of a sender: the first key, and the key updates, last one first
 pub record Life : Type 0 where
   pub key : Receiving
   pub updates : List Update
@@ -35,13 +35,14 @@ abbrev pub key_after : Receiving → List Update → ℕ → Receiving
 key_after key [] n = key
 key_after key (update ∷ earlier) n = if nat_lt (length earlier) n then update.key else key_after key earlier n
 
--- how many key updates came before the packet with a number
+-- the number of key updates before the packet with this number
 abbrev pub updates_before : List Update → ℕ → ℕ
 updates_before [] number = 0
 updates_before (update ∷ earlier) number = (if nat_le update.first number then 1 else 0) + updates_before earlier number
 
--- What a sender has sent, the last packet first, under the keys of its life, over any calls of it: it begins, sends, skips numbers and
--- updates its keys, and hears of acknowledgements, of the handshake and of a lower limit. A call that is refused changes nothing.
+-- The packets that a sender has sent, last one first, under the keys of its life, over any calls. It is created, sends packets,
+-- skips numbers and updates its keys, and learns of acknowledgments, of the confirmed handshake and of a lower limit. A call
+-- that fails changes nothing.
 pub data HasSent : Sender → Life → List Sent → Type 0 where
   begins : (suite : Suite) (key iv header_key : List ℕ) (first : ℕ) → HasSent (new_sender suite key iv header_key first)
       (record { key = record { algorithm = algorithm suite; bytes = key; iv = iv }; updates = [] }) []
@@ -69,7 +70,7 @@ pub data HasSent : Sender → Life → List Sent → Type 0 where
   lowers : (s : Sender) (life : Life) (sent : List Sent) (limit : ℕ) → HasSent s life sent
       → HasSent (record s { limit = min s.limit limit }) life sent
 
--- a receiver that is made with this key
+-- a receiver that is created with this key
 abbrev pub new_receiver : HeaderKey → Receiving → Receiver
 new_receiver header key = record {
   header = header;
@@ -81,17 +82,17 @@ new_receiver header key = record {
   highest = 0;
 }
 
--- A receiver after `own` key updates holds the key of a packet that was sent after so many: its current key, or, of a packet with a
--- short header, which has a Key Phase bit, the next or the previous one.
+-- After `own` key updates, a receiver holds the key of a packet: it is the current key or, for a short header, which has a Key
+-- Phase bit, the next or the previous key.
 abbrev pub Holds : (r : Receiver) (own : ℕ) → Life → Sent → Type 0
 Holds r own life packet =
     let updates = updates_before life.updates packet.number in
     (updates ≡ own) ⊎ ((is_long (slice_index packet.packet 0) ≡ false)
     × (((updates ≡ own + 1) × IsSome r.next) ⊎ ((updates + 1 ≡ own) × IsSome r.previous)))
 
--- What a receiver becomes, and after how many key updates, over any calls of it: it is made with the sender's first key; it receives
--- packets that were sent, in any order, while it holds their keys; it is given the next key, which is the sender's where the sender
--- has one; and it forgets the previous key. A packet that is refused changes nothing.
+-- The state of a receiver after any calls, and its number of key updates. It is created with the sender's first key. It
+-- receives packets that were sent, in any order, while it holds their keys. It is given the next key, which is the sender's if
+-- the sender has one, and it forgets the previous key. A packet that is rejected changes nothing.
 pub data Follows : Life → List Sent → Receiver → ℕ → Type 0 where
   begins : (life : Life) (sent : List Sent) (header : HeaderKey) → Follows life sent (new_receiver header life.key) 0
   receives : (life : Life) (sent : List Sent) (r : Receiver) (own : ℕ) (packet : Sent) → Contains sent packet → Holds r own life packet
@@ -103,8 +104,8 @@ pub data Follows : Life → List Sent → Receiver → ℕ → Type 0 where
   forgets : (life : Life) (sent : List Sent) (r : Receiver) (own : ℕ) → Follows life sent r own
       → Follows life sent (record r { previous = None }) own
 
--- A packet that was sent is given back: it is received where its number is new, and else told to be a duplicate; then its number, its
--- header and its payload stand there as they were sent.
+-- A packet that was sent is returned: it is received if its number is new, and a duplicate otherwise. Its number, its header
+-- and its payload are then as they were sent.
 pub record GivesBack (space : Space) (packet : Sent) (result : Result Received PacketError) (opened : List ℕ) : Type 0 where
   pub accepted : IsOk result ↔ IsNew space packet.number
   pub duplicate : IsErrOf result Duplicate ↔ ¬ IsNew space packet.number
@@ -116,7 +117,7 @@ pub record GivesBack (space : Space) (packet : Sent) (result : Result Received P
   })
   pub bytes : take (length packet.packet - 16) opened ≡ take (length packet.packet - 16) packet.packet
 
--- the numbers that a space counts as received, the last first: each was new
+-- the numbers that a space counts as received, last one first: each was new
 pub data Counts : Space → List ℕ → Type 0 where
   none : Counts (record { next = 0; seen = 0 }) []
   marks : (s t : Space) (number : ℕ) (numbers : List ℕ) → IsNew s number → Marks s number t → Counts s numbers → Counts t (number ∷ numbers)

@@ -1,7 +1,7 @@
--- Packets that failed authentication (RFC 9001 section 6.6).
+-- Packets that fail authentication (RFC 9001 section 6.6).
 use Rattle.std.specs.Prelude.{ℕ}
 
--- how many, over all keys of a connection, and from how many on every packet is refused
+-- their number, over all keys of a connection, and the limit at which every packet is rejected
 pub record Failures : Type 0 where
   pub count : ℕ
   pub limit : ℕ

@@ -2,11 +2,11 @@
 use Rattle.std.specs.Prelude.{◌≡◌, ℕ, ◌+◌, ◌<◌, ◌≤◌, ◌==◌, if◌then◌else◌, ◌⊎◌, List, length, bit_and, bit_xor, slice_index, slice_range}
 use Rattle.aead_ciphers.specs.HeaderProtection.{HeaderKey, header_protection}
 
--- the bytes in the packet number, by the low two bits of the first byte, unmasked (section 5.4.1)
+-- the length of the packet number in bytes, from the low two bits of the unmasked first byte (section 5.4.1)
 abbrev pub number_len : ℕ → ℕ
 number_len first = bit_and first 0x03 + 1
 
--- the mask of the first byte: four bits of a long header, whose highest bit is set, and five of a short one (section 5.4.1)
+-- the mask of the first byte: four bits in a long header, whose highest bit is set, and five in a short one (section 5.4.1)
 abbrev pub first_mask : ℕ → ℕ → ℕ
 first_mask first mask = if bit_and first 0x80 == 0x80 then bit_and mask 0x0f else bit_and mask 0x1f
 
@@ -15,13 +15,12 @@ pub record HasSample (number_at len : ℕ) : Type 0 where
   pub first_byte : 0 < number_at
   pub sampled : number_at + 20 ≤ len
 
--- the mask: that of the sample of 16 bytes, which begins 4 bytes after the first byte of the packet number (sections 5.4.1
--- and 5.4.2)
+-- the mask for the sample of 16 bytes that begins 4 bytes after the start of the packet number (sections 5.4.1 and 5.4.2)
 abbrev pub mask_of : HeaderKey → ℕ → List ℕ → List ℕ
 mask_of key number_at packet = header_protection key.algorithm key.bytes (slice_range packet (number_at + 4) (number_at + 20))
 
--- What masking makes of a packet whose number is the n bytes from `number_at` on (section 5.4.1): the first byte is XORed with
--- its bits of the mask's first byte, byte i of the packet number with byte i + 1 of the mask, and no other byte changes.
+-- Masking a packet whose number is the n bytes from `number_at` on (section 5.4.1): the first byte is XORed with its bits of
+-- the mask's first byte, and byte i of the packet number with byte i + 1 of the mask. No other byte changes.
 pub record Masked (mask : List ℕ) (number_at n : ℕ) (old new : List ℕ) : Type 0 where
   pub first : slice_index new 0 ≡ bit_xor (slice_index old 0) (first_mask (slice_index old 0) (slice_index mask 0))
   pub number : (i : ℕ) → i < n
@@ -33,6 +32,6 @@ pub record Masked (mask : List ℕ) (number_at n : ℕ) (old new : List ℕ) : T
 abbrev pub Protected : HeaderKey → ℕ → List ℕ → List ℕ → Type 0
 Protected key number_at old new = Masked (mask_of key number_at old) number_at (number_len (slice_index old 0)) old new
 
--- unprotecting: it is read once the first byte is unmasked (section 5.4.1)
+-- unprotecting: the length is read after the first byte is unmasked (section 5.4.1)
 abbrev pub Unprotected : HeaderKey → ℕ → List ℕ → List ℕ → Type 0
 Unprotected key number_at old new = Masked (mask_of key number_at old) number_at (number_len (slice_index new 0)) old new

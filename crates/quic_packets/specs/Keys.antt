@@ -1,22 +1,22 @@
--- What a contract sees of the keys.
+-- The keys as contracts see them.
 use Rattle.std.specs.Prelude.{ℕ, ◌+◌, ◌≤◌, List, [], ◌∷◌}
 use Rattle.aead_ciphers.specs.declared.aead.algorithm.Algorithm.{Algorithm}
 
--- of a key that opens: its algorithm, its bytes and its IV
+-- a key that opens: its algorithm, its bytes and its IV
 pub record Receiving : Type 0 where
   pub algorithm : Algorithm
   pub bytes : List ℕ
   pub iv : List ℕ
 
--- of a key that seals: also the number of the next packet
+-- a key that seals: also the number of the next packet
 pub record Sending : Type 0 where
   pub algorithm : Algorithm
   pub bytes : List ℕ
   pub iv : List ℕ
   pub next : ℕ
 
--- What a key that seals becomes over calls, and the numbers that it seals under: a call seals under its next number, skips to one
--- that isn't below it, or is refused and leaves the key.
+-- The state of a sealing key after any calls, and the numbers that it sealed under. A call seals under the next number, skips
+-- to a number that is not below it, or fails and leaves the key unchanged.
 pub data Sends : Sending → Sending → List ℕ → Type 0 where
   none : (s : Sending) → Sends s s []
   seals : (s t : Sending) (numbers : List ℕ) → Sends (record s { next = s.next + 1 }) t numbers → Sends s t (s.next ∷ numbers)

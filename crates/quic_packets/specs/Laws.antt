@@ -5,8 +5,8 @@ use Rattle.aead_ciphers.specs.Packet.{PacketFits, OpenedPacket}
 use Rattle.quic_packets.specs.Keys.{Receiving}
 use Rattle.quic_packets.specs.Packet.{IsGenuine}
 
--- a sealed packet opens, under a key and a number, to another, of a header, a payload and 16 bytes: it is accepted, and header and
--- payload come back
+-- Under a key and a number, a sealed packet opens to a packet of a header, a payload and 16 bytes: it is accepted, and header
+-- and payload are restored.
 pub record OpensTo (key : Receiving) (number header_len : ℕ) (sealed packet : List ℕ) : Type 0 where
   pub fits : PacketFits header_len (length sealed)
   pub genuine : IsGenuine key.bytes (xored_nonce key.iv number) header_len sealed

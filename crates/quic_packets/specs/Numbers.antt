@@ -1,44 +1,44 @@
--- Packet numbers in few bytes (RFC 9000 section 17.1, appendices A.2 and A.3).
+-- The encoding of packet numbers in 1 to 4 bytes (RFC 9000 section 17.1, appendices A.2 and A.3).
 use Rattle.std.specs.Prelude.{◌≡◌, ℕ, ◌+◌, ◌-◌, ◌*◌, ◌%◌, ◌^◌, ◌<◌, ◌≤◌, Option, None, Some}
 use Rattle.quic_packets.specs.Packet.{IsNumber}
 
--- the number lies above the largest that was acknowledged, where one was
+-- the number is above the largest acknowledged one, if there is one
 abbrev pub IsAbove : ℕ → Option ℕ → Type 0
 IsAbove number None = Unit {0}
 IsAbove number (Some largest) = largest < number
 
--- how many numbers may be unacknowledged once this one is sent: those above the largest that was acknowledged, up to it (A.2)
+-- how many numbers may be unacknowledged once this one is sent: those above the largest acknowledged one, up to it (A.2)
 abbrev pub unacknowledged : ℕ → Option ℕ → ℕ
 unacknowledged number None = number + 1
 unacknowledged number (Some largest) = number - largest
 
--- n bytes represent more than twice as large a range as so many numbers (section 17.1)
+-- n bytes represent more than twice as many numbers (section 17.1)
 abbrev pub Represents : ℕ → ℕ → Type 0
 Represents n numbers = 2 * numbers < 2 ^ (8 * n)
 
--- the number that is expected next: one more than the largest that was received, where one was (A.3)
+-- the expected number: one more than the largest that was received, or 0 (A.3)
 abbrev pub expected : Option ℕ → ℕ
 expected None = 0
 expected (Some largest) = largest + 1
 
--- how far two numbers are apart
+-- the distance between two numbers
 abbrev pub distance : ℕ → ℕ → ℕ
 distance a b = (a - b) + (b - a)
 
--- a packet number whose low 8 n bits are these
+-- a packet number with these low 8 n bits
 pub record HasLowBits (truncated n number : ℕ) : Type 0 where
   pub is_number : IsNumber number
   pub low_bits : number % 2 ^ (8 * n) ≡ truncated
 
--- A number that was sent as its low 8 n bits, decoded: of the packet numbers that have these bits, the one that is nearest to the
--- expected one, and of two that are as near the higher one (section 17.1, A.3)
+-- The number that was sent as its low 8 n bits, decoded: of the packet numbers with these bits, the nearest to the expected
+-- one, and the higher of two that are equally near (section 17.1, A.3).
 pub record IsDecoded (expected truncated n number : ℕ) : Type 0 where
   pub has : HasLowBits truncated n number
   pub nearest : (other : ℕ) → HasLowBits truncated n other → distance number expected ≤ distance other expected
   pub higher : (other : ℕ) → HasLowBits truncated n other → distance number expected ≡ distance other expected → other ≤ number
 
--- the numbers that n bytes tell apart from each other, around the expected one: from half of 2 ^ (8 n) below it, exclusive, to
--- half of it above, inclusive (A.3)
+-- the numbers that n bytes distinguish around the expected one: from half of 2 ^ (8 n) below it, exclusive, to half of it
+-- above, inclusive (A.3)
 pub record InWindow (expected n number : ℕ) : Type 0 where
   pub late : 2 * expected < 2 * number + 2 ^ (8 * n)
   pub early : 2 * number ≤ 2 * expected + 2 ^ (8 * n)

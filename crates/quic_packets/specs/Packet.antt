@@ -1,31 +1,31 @@
--- Packet protection (RFC 9001 section 5.3). A packet is its header, which ends with the packet number, its payload, and 16 bytes
--- for the tag.
+-- Packet protection (RFC 9001 section 5.3). A packet is its header, which ends with the packet number, its payload, and 16
+-- bytes for the tag.
 use Rattle.std.specs.Prelude.{◌≡◌, ℕ, ◌+◌, ◌-◌, ◌^◌, ◌<◌, List, length, take, drop, slice_index, slice_range}
 use Rattle.std.specs.Int.{to_be_bytes, w64}
 use Rattle.aead_ciphers_base.specs.Aes.{aes}
 use Rattle.aead_ciphers.specs.Gcm.{gcm_tag}
 use Rattle.quic_packets.specs.Header.{number_len}
 
--- a packet number lies below 2^62 (RFC 9000 section 12.3)
+-- a packet number is below 2^62 (RFC 9000 section 12.3)
 abbrev pub IsNumber : ℕ → Type 0
 IsNumber number = number < 2 ^ 62
 
--- what stands after the header ends with the tag of the header, which is the AAD, and of the ciphertext between the two
+-- the packet ends with the tag of its ciphertext, with the header as AAD
 abbrev pub IsGenuine : (key nonce : List ℕ) (header_len : ℕ) → List ℕ → Type 0
 IsGenuine key nonce header_len packet =
     let body = drop header_len packet in let n = length body - 16 in
     drop n body ≡ gcm_tag (aes key) nonce (take header_len packet) (take n body)
 
--- the packet number stands at the end of the header, from byte `start` to below `end`: after the first byte, and as long as that
--- byte says (RFC 9000 sections 17.2 and 17.3.1)
+-- the packet number ends the header, from byte `start` up to `end`: it comes after the first byte, and is as long as that byte
+-- says (RFC 9000 sections 17.2 and 17.3.1)
 pub record HasNumber (start end : ℕ) (packet : List ℕ) : Type 0 where
   pub first_byte : 0 < start
   pub len : end ≡ start + number_len (slice_index packet 0)
 
--- the n low bytes of a number, the highest first
+-- the n low bytes of a number, highest first
 unfoldable pub low_bytes : ℕ → ℕ → List ℕ
 low_bytes n number = drop (8 - n) (to_be_bytes w64 number)
 
--- the packet number in the header is the low bytes of this number (RFC 9000 section 17.1)
+-- the header holds the low bytes of this number (RFC 9000 section 17.1)
 abbrev pub CarriesNumber : (number start end : ℕ) → List ℕ → Type 0
 CarriesNumber number start end packet = slice_range packet start end ≡ low_bytes (end - start) number

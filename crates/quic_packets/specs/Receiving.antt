@@ -1,4 +1,4 @@
--- Receiving packets: keys of two phases (RFC 9001 section 6), and what comes of a packet.
+-- Receiving packets: the keys of two phases (RFC 9001 section 6), and the outcome of a packet.
 use Rattle.std.specs.Prelude.{◌≡◌, ◌≢◌, ℕ, ◌+◌, ◌-◌, ◌≤◌, ◌==◌, ◌↔◌, if◌then◌else◌, min, max, Bool, true, false, not, nat_lt, IsTrue, List, length, slice_index, slice_range, bit_and, Option, None, Some, IsSome, unwrap_or, Result, IsOk, IfOk, IsErrOf, OnOk}
 use Rattle.std.specs.Int.Digits.{number_from_digits}
 use Rattle.aead_ciphers.specs.Counting.{xored_nonce}
@@ -13,9 +13,9 @@ use Rattle.quic_packets.specs.declared.error.PacketError.{PacketError}
 use Rattle.quic_packets.specs.declared.error.PacketError.TheVariants.{Duplicate, KeyUpdate, Refused, ReservedBits, TooLong}
 use Rattle.quic_packets.specs.declared.receiver.Received.{Received}
 
--- of a receiver: the key of headers, the packet key of its phase, the one after it where it is given, and the one before it where it
--- is kept; its Key Phase bit; and the lowest and the highest number that was opened in this phase, where the first phase has 0 as
--- the lowest, and as the highest until a packet was opened
+-- a receiver: the header key; the packet key of its phase, the next one if it is given, and the previous one if it is kept; its
+-- Key Phase bit; and the lowest and highest number opened in this phase. In the first phase the lowest is 0, and the highest is
+-- 0 until a packet is opened.
 pub record Receiver : Type 0 where
   pub header : HeaderKey
   pub current : Receiving
@@ -25,30 +25,31 @@ pub record Receiver : Type 0 where
   pub lowest : ℕ
   pub highest : ℕ
 
--- the Key Phase bit, which a short header has and a long one hasn't (RFC 9000 section 17.3.1)
+-- a short header has a Key Phase bit, and a long one does not (RFC 9000 section 17.3.1)
 abbrev pub has_phase : ℕ → Bool
 has_phase first = bit_and first 0x84 == 0x04
 
--- a short header, whose Key Phase bit isn't the receiver's
+-- a short header whose Key Phase bit differs from the receiver's
 abbrev pub is_other_phase : Receiver → ℕ → Bool
 is_other_phase r first = bit_and first 0x84 == (if r.phase then 0x00 else 0x04)
 
--- The key of a packet, by the first byte of its header and its number, where it is held. In the other phase it is the previous key
--- where the number is lower than any of this phase, and else the next one (RFC 9001 section 6.5).
+-- The key of a packet, from its first byte and its number, if it is held. In the other phase it is the previous key if the
+-- number is lower than any of this phase, and the next key otherwise (RFC 9001 section 6.5).
 abbrev pub key_of : Receiver → ℕ → ℕ → Option Receiving
 key_of r first number = if is_other_phase r first then (if nat_lt number r.lowest then r.previous else r.next) else Some r.current
 
--- the key that a packet is opened with: where its own isn't held another, so that this can't be told by the time (section 6.3)
+-- the key that a packet is opened with: another one if its own is not held, so that the time does not reveal which (section
+-- 6.3)
 abbrev pub opening_key : Receiver → ℕ → ℕ → Receiving
 opening_key r first number = unwrap_or (key_of r first number) r.current
 
--- The packet's own key is held; and where that is the next one, no packet of this phase has a higher number, since later packets
--- are never under earlier keys (section 6.4).
+-- The packet's key is held. If it is the next key, no packet of this phase has a higher number, since later packets are never
+-- under earlier keys (section 6.4).
 pub record IsInTurn (r : Receiver) (first number : ℕ) : Type 0 where
   pub held : IsSome (key_of r first number)
   pub later : IsTrue (is_other_phase r first) → r.lowest ≤ number → r.highest ≤ number
 
--- what becomes of a receiver once the key of a later phase opened a packet: the keys move on (section 6.2)
+-- the receiver after the next key first opened a packet: the keys move on (section 6.2)
 abbrev pub updated : Receiver → ℕ → Option Receiving → Receiver
 updated r number None = r
 updated r number (Some key) =
@@ -61,7 +62,7 @@ updated r number (Some key) =
       highest = number;
     }
 
--- what becomes of it once a packet was received
+-- the receiver after a packet was received
 abbrev pub received : Receiver → ℕ → ℕ → Receiver
 received r first number =
     if is_other_phase r first
@@ -72,32 +73,32 @@ received r first number =
 abbrev pub reserved_bits : ℕ → ℕ
 reserved_bits first = bit_and first (if bit_and first 0x80 == 0x80 then 0x0c else 0x18)
 
--- the bytes in the header, which ends with the packet number
+-- the length of the header, which ends with the packet number
 abbrev pub header_len : ℕ → List ℕ → ℕ
 header_len number_at plain = number_at + number_len (slice_index plain 0)
 
--- What is read of a packet before it is opened: the packet with its header unmasked (RFC 9001 section 5.4), and its number, from
--- the bits that the header has (RFC 9000 appendix A.3).
+-- What is read of a packet before it is opened: the packet with its header unmasked (RFC 9001 section 5.4), and its number,
+-- decoded from the header (RFC 9000 appendix A.3).
 pub record Reads (key : HeaderKey) (expected number_at : ℕ) (wire plain : List ℕ) (number : ℕ) : Type 0 where
   pub sample : HasSample number_at (length wire)
   pub unmasked : Unprotected key number_at wire plain
   pub decoded : IsDecoded expected (number_from_digits 256 (slice_range plain number_at (header_len number_at plain)))
       (number_len (slice_index plain 0)) number
 
--- a packet, unmasked, is as long as AES-GCM takes, and its tag is that of its header, its payload and its number under the key that
--- it is opened with
+-- An unmasked packet is within the lengths of AES-GCM, and its tag matches its header, its payload and its number under the key
+-- that it is opened with.
 pub record IsAuthentic (r : Receiver) (number_at : ℕ) (plain : List ℕ) (number : ℕ) : Type 0 where
   pub fits : PacketFits (header_len number_at plain) (length plain)
   pub genuine : (let key = opening_key r (slice_index plain 0) number in
       IsGenuine key.bytes (xored_nonce key.iv number) (header_len number_at plain) plain)
 
--- what opening makes of it: the plain payload stands after the header
+-- the packet after opening: the plaintext payload follows the header
 abbrev pub Opens : (r : Receiver) (number_at : ℕ) (plain : List ℕ) (number : ℕ) → List ℕ → Type 0
 Opens r number_at plain number opened =
     let key = opening_key r (slice_index plain 0) number in
     OpenedPacket key.bytes (xored_nonce key.iv number) (header_len number_at plain) plain true opened
 
--- a packet that is opened
+-- what is returned of a packet that is received
 abbrev pub of_packet : (number_at : ℕ) (plain : List ℕ) (number : ℕ) → Received
 of_packet number_at plain number = record {
   number = number;
@@ -106,7 +107,7 @@ of_packet number_at plain number = record {
   phase = has_phase (slice_index plain 0);
 }
 
--- what comes of opening a packet that is long enough for a sample: its first byte, and what it was
+-- the outcome of opening a packet that is long enough for a sample: its first byte, and its parts
 pub record Opening (r : Receiver) (number_at : ℕ) (plain : List ℕ) (number : ℕ) (result : Result (ℕ × Received) PacketError)
     (opened : List ℕ) : Type 0 where
   pub too_long : IsErrOf result TooLong ↔ ¬ PacketFits (header_len number_at plain) (length plain)
@@ -116,8 +117,8 @@ pub record Opening (r : Receiver) (number_at : ℕ) (plain : List ℕ) (number :
   pub opens : OnOk result (Opens r number_at plain number opened)
   pub returns : IfOk result (λ packet. packet ≡ (slice_index plain 0, of_packet number_at plain number))
 
--- What comes of a packet that is long enough for a sample, in the order of the refusals: it is too long, it is forged, or else, once
--- it is opened, its reserved bits are set, its number was received, or its key isn't in turn.
+-- The outcome of a packet that is long enough for a sample, in the order of the checks: it is too long; it is not authentic;
+-- or, once it is opened, its reserved bits are set, its number was already received, or its key is not in turn.
 pub record Outcome (r : Receiver) (s : Space) (number_at : ℕ) (plain : List ℕ) (number : ℕ) (result : Result Received PacketError)
     (r' : Receiver) (opened : List ℕ) : Type 0 where
   pub too_long : IsErrOf result TooLong ↔ ¬ PacketFits (header_len number_at plain) (length plain)
@@ -136,7 +137,7 @@ pub record Outcome (r : Receiver) (s : Space) (number_at : ℕ) (plain : List �
   pub returns : IfOk result (λ packet. packet ≡ of_packet number_at plain number)
   pub moves_on : OnOk result (r' ≡ received r (slice_index plain 0) number)
 
--- the errors of a packet that is authentic, and stands opened
+-- the errors of a packet that is authentic, and is opened in place
 abbrev pub is_of_opened : PacketError → Bool
 is_of_opened ReservedBits = true
 is_of_opened Duplicate = true

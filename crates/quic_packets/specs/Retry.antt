@@ -12,16 +12,16 @@ retry_key =
 abbrev pub retry_nonce : List ℕ
 retry_nonce = 0x46 ∷ 0x15 ∷ 0x99 ∷ 0xd3 ∷ 0x5d ∷ 0x63 ∷ 0x2b ∷ 0xf2 ∷ 0x23 ∷ 0x98 ∷ 0x25 ∷ 0xbb ∷ []
 
--- the pseudo-packet: the length of the connection ID that the client's first packet had as its destination, in one byte, that ID,
--- and the Retry packet up to its tag
+-- the pseudo-packet: the length of the destination connection ID of the client's first packet, in one byte; that ID; and the
+-- Retry packet without its tag
 abbrev pub pseudo_packet : (original_id retry : List ℕ) → List ℕ
 pseudo_packet original_id retry = (length original_id ∷ original_id) ++ retry
 
--- the tag: that of AES-128-GCM over nothing, with the pseudo-packet as associated data
+-- the tag of AES-128-GCM for an empty plaintext, with the pseudo-packet as AAD
 abbrev pub integrity_tag : (original_id retry : List ℕ) → List ℕ
 integrity_tag original_id retry = gcm_tag (aes retry_key) retry_nonce (pseudo_packet original_id retry) []
 
--- the packet ends with the tag of what stands before it
+-- the packet ends with the tag of the bytes before it
 pub record IsGenuineRetry (original_id packet : List ℕ) : Type 0 where
   pub tagged : 16 ≤ length packet
   pub tag : drop (length packet - 16) packet ≡ integrity_tag original_id (take (length packet - 16) packet)

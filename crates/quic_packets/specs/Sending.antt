@@ -1,5 +1,5 @@
--- What sends, in one space of packet numbers: its state, what it makes of a packet, and its runs (RFC 9000 section 17, RFC 9001
--- sections 5 and 6).
+-- Sending packets in one space of packet numbers: the state of a sender, the packets that it makes, and its runs (RFC 9000
+-- section 17, RFC 9001 sections 5 and 6).
 use Rattle.std.specs.Prelude.{◌≡◌, ℕ, ◌+◌, ◌-◌, ◌^◌, ◌<◌, ◌≤◌, Bool, true, false, not, nat_lt, nat_le, min, ◌==◌, ◌&&◌, ◌||◌, if◌then◌else◌, List, [], ◌∷◌, ◌++◌, Option, length, take, drop, bit_and, bit_or, slice_index, slice_set}
 use Rattle.aead_ciphers.specs.Algorithm.{key_len}
 use Rattle.aead_ciphers.specs.Counting.{xored_nonce}
@@ -12,9 +12,9 @@ use Rattle.quic_packets.specs.Packet.{IsNumber, low_bytes}
 use Rattle.quic_packets.specs.Suite.{algorithm, header_algorithm}
 use Rattle.quic_packets.specs.declared.suite.Suite.{Suite}
 
--- the state: its key with the next number, its header key, the Key Phase bit, how many packets this key sealed and how many it may,
--- the number that was the next one when this phase began, whether the keys were never updated or a packet of this phase was
--- acknowledged, and whether the handshake was confirmed
+-- a sender: its key with the next number; the header key; the Key Phase bit; how many packets this key has sealed and may seal;
+-- the next number when this phase began; whether the keys were never updated or a packet of this phase is acknowledged; and
+-- whether the handshake is confirmed
 pub record Sender : Type 0 where
   pub key : Sending
   pub header_key : HeaderKey
@@ -25,12 +25,12 @@ pub record Sender : Type 0 where
   pub acknowledged : Bool
   pub confirmed : Bool
 
--- the keys of a suite have these lengths
+-- keys with the lengths of a suite
 pub record HasKeyLengths (suite : Suite) (key header_key : List ℕ) : Type 0 where
   pub key_len : length key ≡ key_len (algorithm suite)
   pub header_key_len : length header_key ≡ header_key_len (header_algorithm suite)
 
--- what begins with the first key: it may seal 2^23 packets (RFC 9001 section 6.6)
+-- a sender with its first key, which may seal 2^23 packets (RFC 9001 section 6.6)
 abbrev pub new_sender : Suite → (key iv header_key : List ℕ) → ℕ → Sender
 new_sender suite key iv header_key first = record {
   key = record { algorithm = algorithm suite; bytes = key; iv = iv; next = first };
@@ -45,25 +45,25 @@ new_sender suite key iv header_key first = record {
 
 -- The header.
 
--- the header's form is the long one (RFC 9000 section 17.2)
+-- a long header (RFC 9000 section 17.2)
 abbrev pub is_long : ℕ → Bool
 is_long first = bit_and first 0x80 == 0x80
 
--- a long header of a type without protection: of a Version Negotiation packet, whose version is 0, or of a Retry packet, whose type
--- is 3 (RFC 9000 sections 17.2.1 and 17.2.5)
+-- a long header of a type without protection: Version Negotiation, whose version is 0, or Retry, whose type is 3 (RFC 9000
+-- sections 17.2.1 and 17.2.5)
 abbrev pub lacks_protection : List ℕ → Bool
 lacks_protection packet =
     is_long (slice_index packet 0) && (bit_and (slice_index packet 0) 0x30 == 0x30
     || (slice_index packet 1 == 0 && slice_index packet 2 == 0 && slice_index packet 3 == 0 && slice_index packet 4 == 0))
 
--- the first byte before protection: the length of the packet number less one in its low two bits, the reserved bits 0, the key phase
--- in a short header, and the other bits as they were (RFC 9000 sections 17.2 and 17.3.1)
+-- the first byte before protection: the length of the packet number less one in the low two bits, the reserved bits 0, the key
+-- phase in a short header, and the other bits unchanged (RFC 9000 sections 17.2 and 17.3.1)
 abbrev pub first_byte : Bool → ℕ → ℕ → ℕ
 first_byte phase n first =
     if is_long first then bit_or (bit_and first 0xf0) (n - 1)
     else bit_or (bit_or (bit_and first 0xe0) (if phase then 0x04 else 0)) (n - 1)
 
--- a packet with its first byte, and its number from byte `start` to below `end`
+-- a packet with its first byte, and its number from byte `start` up to `end`
 abbrev pub numbered_packet : Bool → (number start end : ℕ) → List ℕ → List ℕ
 numbered_packet phase number start end packet =
     slice_set (take start packet ++ (low_bytes (end - start) number ++ drop end packet)) 0
@@ -71,43 +71,43 @@ numbered_packet phase number start end packet =
 
 -- One packet.
 
--- a packet, whatever its number, can be sealed and protected
+-- a packet that can be sealed and protected, whatever its number
 pub record IsSealable (start end : ℕ) (packet : List ℕ) : Type 0 where
   pub fits : PacketFits end (length packet)
   pub sample : HasSample start (length packet)
   pub protected : lacks_protection packet ≡ false
 
--- the key may seal a packet, and a number is left
+-- the key may seal another packet, and a number is left
 pub record IsOpen (s : Sender) : Type 0 where
   pub unused : s.sealed < s.limit
   pub left : IsNumber s.key.next
 
--- a number can be sent: it lies above the largest that is acknowledged, so near that 4 bytes represent it (RFC 9000 section 17.1)
+-- the number can be encoded: it is above the largest acknowledged one, and near enough for 4 bytes (RFC 9000 section 17.1)
 pub record IsEncodable (number : ℕ) (largest : Option ℕ) : Type 0 where
   pub above : IsAbove number largest
   pub near : Represents 4 (unacknowledged number largest)
 
--- the room for a number has the fewest bytes that represent it (RFC 9000 sections 17.1 and A.2)
+-- the room for a number has the fewest bytes that represent it (RFC 9000 section 17.1, appendix A.2)
 pub record IsRoom (number : ℕ) (largest : Option ℕ) (start end : ℕ) : Type 0 where
   pub some : start < end
   pub represents : Represents (end - start) (unacknowledged number largest)
   pub fewest : (k : ℕ) → 0 < k → Represents k (unacknowledged number largest) → end - start ≤ k
 
--- the next number is sent in this room
+-- the next number can be sent in this room
 pub record IsInTurn (s : Sender) (largest : Option ℕ) (start end : ℕ) : Type 0 where
   pub is_open : IsOpen s
   pub encodable : IsEncodable s.key.next largest
   pub room : IsRoom s.key.next largest start end
 
--- a packet is sent: its next number is written, and then it is sealed and protected
+-- a packet is sent: the next number is written, and the packet is sealed and protected
 abbrev pub IsSent : Sender → (start end : ℕ) → List ℕ → List ℕ → Type 0
 IsSent s start end old new =
     Protected s.header_key start
     (sealed_packet s.key.bytes (xored_nonce s.key.iv s.key.next) end (numbered_packet s.phase s.key.next start end old)) new
 
--- What a call leaves.
+-- The state after a call.
 
--- after a packet that is sent
+-- after a packet is sent
 abbrev pub after_send : Sender → Sender
 after_send s = record s { key = record s.key { next = s.key.next + 1 }; sealed = s.sealed + 1 }
 
@@ -115,11 +115,11 @@ after_send s = record s { key = record s.key { next = s.key.next + 1 }; sealed =
 abbrev pub after_skip : Sender → ℕ → Sender
 after_skip s number = record s { key = record s.key { next = number } }
 
--- after an acknowledgement: a number from the first of this phase on, below the next, is of this phase
+-- after an acknowledgment: a number from the first of this phase on and below the next one is of this phase
 abbrev pub after_acknowledgement : Sender → ℕ → Sender
 after_acknowledgement s number = record s { acknowledged = s.acknowledged || (nat_le s.first number && nat_lt number s.key.next) }
 
--- after a key update: other keys but the header's, the other phase, and the count anew (RFC 9001 sections 6 and 6.6)
+-- after a key update: new keys except the header key, the other phase, and the count 0 again (RFC 9001 sections 6 and 6.6)
 abbrev pub after_update : Sender → (key iv : List ℕ) → Sender
 after_update s key iv = record s {
   key = record s.key { bytes = key; iv = iv };
@@ -129,12 +129,12 @@ after_update s key iv = record s {
   acknowledged = false;
 }
 
--- with the keys of 1-RTT after those of 0-RTT, whose numbers go on (RFC 9000 section 12.3)
+-- with the keys of 1-RTT after those of 0-RTT, whose numbers continue (RFC 9000 section 12.3)
 abbrev pub with_next_keys : Sender → Suite → (key iv header_key : List ℕ) → Sender
 with_next_keys s suite key iv header_key = record (new_sender suite key iv header_key s.key.next) { limit = s.limit }
 
--- What a sender becomes over calls, and the numbers that it seals under, those of each of its keys in one list: what a call leaves is
--- one of those above, and a call that is refused leaves the sender as it was.
+-- The state of a sender after any calls, and the numbers that it sealed under, in one list for each key. A call leaves one of
+-- the states above, or fails and leaves the sender unchanged.
 pub data Runs : Sender → Sender → List (List ℕ) → Type 0 where
   none : (s : Sender) → Runs s s ([] ∷ [])
   sends : (s t : Sender) (numbers : List ℕ) (later : List (List ℕ)) → IsOpen s → Runs (after_send s) t (numbers ∷ later)

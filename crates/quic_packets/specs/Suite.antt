@@ -6,12 +6,12 @@ use Rattle.aead_ciphers.specs.declared.aead.quic.TheConstants.{AES_128, AES_256}
 use Rattle.quic_packets.specs.declared.suite.Suite.{Suite}
 use Rattle.quic_packets.specs.declared.suite.Suite.TheVariants.{Aes128Gcm, Aes256Gcm}
 
--- that of the payload
+-- the algorithm of the payload
 abbrev pub algorithm : Suite → Algorithm
 algorithm Aes128Gcm = AES_128_GCM
 algorithm Aes256Gcm = AES_256_GCM
 
--- that of the header
+-- the algorithm of the header
 abbrev pub header_algorithm : Suite → HeaderAlgorithm
 header_algorithm Aes128Gcm = AES_128
 header_algorithm Aes256Gcm = AES_256

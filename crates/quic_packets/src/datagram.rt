@@ -1,4 +1,4 @@
-//! The packets of a datagram: where their parts lie, before any protection is removed (RFC 9000 sections 12.2 and 17).
+//! The packets of a datagram: the position of each part, before any protection is removed (RFC 9000 sections 12.2 and 17).
 
 ghost use Rattle.std.specs.Prelude.{◌≡◌, ◌+◌, ◌-◌, ◌^◌, ◌<◌, ◌≤◌, ◌↔◌, false, if◌then◌else◌, length, slice_index, IsOk, IsErr, IfOk, IfErr, IsErrOf, MatchOption};
 ghost use Rattle.std.specs.Int.Digits.{number_from_digits};
@@ -14,7 +14,7 @@ pub(crate) const MAX_ID_LEN: usize = 20;
 
 const TAG_LEN: usize = 16;
 
-/// What a packet is, by the form of its header, its version and its type (RFC 9000 sections 17.2 and 17.3).
+/// The type of a packet, by the form of its header, its version and its type field (RFC 9000 sections 17.2 and 17.3).
 #[derive(Clone, Copy, PartialEq, Eq, Debug)]
 pub enum PacketType {
     /// An Initial packet of version 1.
@@ -25,44 +25,47 @@ pub enum PacketType {
     Handshake,
     /// A Retry packet of version 1. It has no packet number.
     Retry,
-    /// A long header of version 0. The versions that the server offers follow the source connection ID.
+    /// A long header of version 0. The server's supported versions follow the source connection ID.
     VersionNegotiation,
     /// A short header.
     OneRtt,
-    /// A long header of another version, of which the connection IDs alone are read.
+    /// A long header of any other version. Only its connection IDs are parsed.
     OtherVersion,
 }
 
-/// Where the parts of a packet lie: positions in the datagram.
+/// The positions of a packet's parts in its datagram.
 #[derive(Clone, PartialEq, Eq, Debug, Drop)]
 pub struct Packet {
+    /// The type of the packet.
     pub packet_type: PacketType,
-    /// The version of a long header.
+    /// The version in a long header. `None` for a short header.
     pub version: Option<u32>,
+    /// The destination connection ID.
     pub destination_id: Range<usize>,
-    /// Empty in a short header.
+    /// The source connection ID. Empty for a short header.
     pub source_id: Range<usize>,
-    /// The token of an Initial or a Retry packet. Empty in others.
+    /// The token of an Initial or a Retry packet. Empty for other types.
     pub token: Range<usize>,
-    /// Where the packet number begins.
+    /// The position of the packet number, or `None` for a packet without one.
     pub number_at: Option<usize>,
-    /// Where the packet ends. The next one begins there.
+    /// The position after the packet, where the next one begins.
     pub end: usize,
 }
 
-/// Why no packet is read.
+/// The error of parsing a packet.
 #[derive(Clone, Copy, PartialEq, Eq, Debug, Drop, Error)]
 pub enum DatagramError {
-    /// The datagram ends before the packet.
+    /// The datagram ends before the packet does.
     #[error("the datagram ends before the packet")]
     Cut,
-    /// A connection ID of more than 20 bytes in version 1 (RFC 9000 section 17.2).
+    /// A connection ID of version 1 has more than 20 bytes (RFC 9000 section 17.2).
     #[error("a connection ID of version 1 has at most 20 bytes")]
     IdTooLong,
 }
 
-/// Returns an iterator over the packets of a datagram, in order (RFC 9000 section 12.2). `packet_at` reads each, and the
-/// next one begins where it ends. An error is the last item.
+/// Returns an iterator over the packets of a datagram, in order (RFC 9000 section 12.2).
+///
+/// Each item is what `packet_at` returns for the position where the previous packet ends. An error is the last item.
 pub fn split(datagram: &[u8], connection_id_len: usize) -> Packets<'_>
     ensures start { (result.at ≡ 0) × (result.connection_id_len ≡ connection_id_len) }
     ensures datagram { result.datagram.now ≡ datagram.now }
@@ -74,7 +77,7 @@ pub fn split(datagram: &[u8], connection_id_len: usize) -> Packets<'_>
     }
 }
 
-/// The packets of a datagram: what `split` returns.
+/// An iterator over the packets of a datagram. `split` returns it.
 #[derive(Drop)]
 pub struct Packets<'a> {
     datagram: &'a [u8],
@@ -106,12 +109,14 @@ impl Iterator for Packets<'_> {
     }
 }
 
-/// Returns where the parts of the packet lie that begins at byte `start` of a datagram (RFC 9000 section 17).
-/// `connection_id_len` is the length of the connection IDs that the receiver chose, which a short header doesn't say.
+/// Returns the positions of the parts of the packet that begins at byte `start` of a datagram (RFC 9000 section 17).
 ///
-/// Of a version that is neither 0 nor 1 the connection IDs alone are read, and the packet is the rest of the datagram. The
-/// fixed bit isn't read. Fails with `Cut` where the packet ends after the datagram, and with `IdTooLong` where a connection
-/// ID of version 1 has more than 20 bytes.
+/// `connection_id_len` is the length in bytes of the receiver's own connection IDs, which a short header does not hold. If the
+/// version is neither 0 nor 1, only the connection IDs are parsed, and the packet is the rest of the datagram. The fixed bit is
+/// not checked.
+///
+/// Fails with `Cut` if the datagram ends before the packet, and with `IdTooLong` if a connection ID of version 1 has more than
+/// 20 bytes.
 pub fn packet_at(
     datagram: &[u8],
     start: usize,
@@ -196,7 +201,7 @@ fn ids_end(datagram: &[u8], start: usize) -> Result<usize, DatagramError>
     }
 }
 
-// The end of a connection ID that stands after its length, which is the byte `at`.
+// The end of the connection ID whose length is the byte `at`.
 fn id_end(datagram: &[u8], at: usize, longest: usize) -> Result<usize, DatagramError>
     ensures too_long { IsErrOf result DatagramError.IdTooLong ↔ (longest < slice_index datagram.now at) }
     ensures cut { IsErrOf result DatagramError.Cut
@@ -217,7 +222,7 @@ fn id_end(datagram: &[u8], at: usize, longest: usize) -> Result<usize, DatagramE
     Ok(at + 1 + len)
 }
 
-// A packet whose connection IDs end at `from`.
+// Parses a packet whose connection IDs end at `from`.
 fn versioned_packet(datagram: &[u8], start: usize, from: usize) -> Result<Packet, DatagramError>
     requires from { from ≡ source_end datagram.now start }
     requires within { from ≤ length datagram.now }
@@ -272,7 +277,7 @@ fn initial_packet(datagram: &[u8], start: usize, from: usize) -> Result<Packet, 
     numbered_packet(datagram, start, PacketType::Initial, at..at + len)
 }
 
-// A packet with a packet number, whose token ends before the length of number and payload.
+// Parses a packet with a packet number. The Length field follows the token.
 fn numbered_packet(
     datagram: &[u8],
     start: usize,
@@ -306,7 +311,7 @@ fn retry_packet(datagram: &[u8], start: usize, from: usize) -> Result<Packet, Da
     Ok(long_layout(datagram, start, PacketType::Retry, token, None, end))
 }
 
-// A packet with a long header, whose version and connection IDs are read again.
+// A packet with a long header. Its version and its connection IDs are parsed again.
 fn long_layout(
     datagram: &[u8],
     start: usize,
@@ -339,7 +344,7 @@ fn version(datagram: &[u8], start: usize) -> u32
     network_number(&datagram[start + 1..start + 5]) as u32
 }
 
-// The variable-length integer at a byte, and its end. None where it is cut.
+// The variable-length integer at a byte, and its end. `None` if the datagram ends before it does.
 fn varint(datagram: &[u8], at: usize) -> Option<(usize, usize)>
     ensures { MatchOption result (length datagram.now < varint_end datagram.now at)
         (λ read. (read.0 ≡ varint datagram.now at) × (read.1 ≡ varint_end datagram.now at)
@@ -357,7 +362,7 @@ fn varint(datagram: &[u8], at: usize) -> Option<(usize, usize)>
     Some((value as usize, at + len))
 }
 
-// The number that bytes are in network byte order.
+// The number that bytes hold in network byte order.
 fn network_number(bytes: &[u8]) -> u64
     requires { length bytes.now ≤ 8 }
     ensures is { result ≡ number_from_digits 256 bytes.now }

@@ -1,16 +1,16 @@
-//! How many packets have failed authentication (RFC 9001 section 6.6).
+//! The count of packets that have failed authentication (RFC 9001 section 6.6).
 
 ghost use Rattle.std.specs.Prelude.{◌≡◌, ◌≢◌, ◌+◌, ◌^◌, ◌<◌, ◌≤◌, ◌↔◌, IsTrue, min};
 
 use crate::error::PacketError;
 use std::marker::Model;
 
-/// The packets that may fail authentication under all AES-GCM keys of a connection together (RFC 9001 section 6.6).
+/// The limit on packets that fail authentication, over all AES-GCM keys of a connection (RFC 9001 section 6.6).
 const MAX_FAILURES: u64 = 1 << 52;
 
-/// How many packets have failed authentication, over all keys of a connection, and how many may.
+/// The number of packets that have failed authentication, over all keys of a connection, and its limit.
 ///
-/// Once the limit is reached every packet is rejected, and the connection must be closed (RFC 9001 section 6.6).
+/// Once the limit is reached, every packet is rejected and the connection must be closed (RFC 9001 section 6.6).
 #[derive(Drop)]
 pub struct Failures {
     count: u64,
@@ -29,7 +29,7 @@ impl Model for Failures {
 }
 
 impl Failures {
-    /// Makes a count of none, with the limit of AES-GCM: 2^52 packets.
+    /// Creates a count of 0 with the limit of AES-GCM: 2^52 packets.
     pub fn new() -> Self
         ensures { result ≡ record { count = 0; limit = 2 ^ 52 } }
     {
@@ -39,7 +39,7 @@ impl Failures {
         }
     }
 
-    /// Makes a count of none with a lower limit. A limit above 2^52 is 2^52.
+    /// Creates a count of 0 with a lower limit. A limit above 2^52 is taken as 2^52.
     pub fn with_limit(limit: u64) -> Self
         ensures { result ≡ record { count = 0; limit = min limit (2 ^ 52) } }
     {
@@ -49,21 +49,21 @@ impl Failures {
         }
     }
 
-    /// Returns how many packets have failed authentication.
+    /// Returns the number of packets that have failed authentication.
     pub fn count(&self) -> u64
         ensures { result ≡ self.now.count }
     {
         self.count
     }
 
-    /// Returns whether the limit is reached, so that every packet is rejected.
+    /// Returns whether the limit is reached. Every packet is then rejected.
     pub fn is_at_limit(&self) -> bool
         ensures { IsTrue result ↔ (self.now.limit ≤ self.now.count) }
     {
         self.count >= self.limit
     }
 
-    /// Counts one more where this is why a packet is refused: it failed authentication.
+    /// Counts one more failure if the error is `Refused`.
     pub(crate) fn note(&mut self, error: PacketError)
         requires { self.old.count < self.old.limit }
         ensures failed { error ≡ PacketError.Refused → self.new ≡ record self.old { count = self.old.count + 1 } }

@@ -8,15 +8,15 @@ use crate::error::PacketError;
 use aead_ciphers::aead::quic::{Algorithm, HeaderProtectionKey};
 use std::marker::Model;
 
-/// A sample begins this many bytes after the first byte of the packet number, as if that had four bytes.
+/// The sample begins this many bytes after the start of the packet number, as if the number had four bytes.
 const MAX_NUMBER_LEN: usize = 4;
 
 const SAMPLE_LEN: usize = 16;
 
-/// A sample ends this many bytes after the first byte of the packet number.
+/// The sample ends this many bytes after the start of the packet number.
 pub(crate) const SAMPLE_END: usize = MAX_NUMBER_LEN + SAMPLE_LEN;
 
-/// A key that masks and unmasks headers. One serves both ways, and a packet's number isn't needed.
+/// A header protection key (RFC 9001 section 5.4). It masks and unmasks headers, and does not depend on the packet number.
 #[derive(Drop)]
 pub struct HeaderKey {
     key: HeaderProtectionKey,
@@ -29,7 +29,9 @@ impl Model for HeaderKey {
 }
 
 impl HeaderKey {
-    /// The key of these bytes.
+    /// Creates a header protection key from 16 or 32 bytes, the key length of the algorithm.
+    ///
+    /// Fails with `KeyLength` if `key` is not as long.
     pub fn new(algorithm: &Algorithm, key: &[u8]) -> Result<Self, PacketError>
         ensures accepted { IsOk result ↔ (length key.now ≡ key_len algorithm.now) }
         ensures refused { IsOkUnless result PacketError.KeyLength }
@@ -42,8 +44,12 @@ impl HeaderKey {
         }
     }
 
-    /// Masks the header of a sealed packet, whose number begins at byte `number_at`: four bits of the first byte of a
-    /// long header, five of a short one, and the bytes of the packet number.
+    /// Masks the header of a sealed packet whose packet number begins at byte `number_at` (RFC 9001 section 5.4.1).
+    ///
+    /// It masks four bits of the first byte of a long header or five of a short one, and every byte of the packet number.
+    ///
+    /// Fails with `NumberAtFirstByte` if `number_at` is 0, and with `NoSample` if the packet has fewer than `number_at + 20`
+    /// bytes. The packet is then unchanged.
     pub fn protect(&self, packet: &mut [u8], number_at: usize) -> Result<(), PacketError>
         ensures accepted { IsOk result ↔ HasSample number_at (length packet.old) }
         ensures first_byte { IsErrOf result PacketError.NumberAtFirstByte ↔ (number_at ≡ 0) }
@@ -59,8 +65,13 @@ impl HeaderKey {
         Ok(())
     }
 
-    /// Unmasks the header of a packet that was received, whose number begins at byte `number_at`, and returns how many
-    /// bytes the packet number has. Whether the packet is genuine is only known once it is opened.
+    /// Unmasks the header of a received packet whose packet number begins at byte `number_at`, and returns the length of the
+    /// packet number in bytes, from 1 to 4 (RFC 9001 section 5.4.1).
+    ///
+    /// The packet is not known to be authentic until it is opened.
+    ///
+    /// Fails with `NumberAtFirstByte` if `number_at` is 0, and with `NoSample` if the packet has fewer than `number_at + 20`
+    /// bytes. The packet is then unchanged.
     pub fn unprotect(&self, packet: &mut [u8], number_at: usize) -> Result<usize, PacketError>
         ensures accepted { IsOk result ↔ HasSample number_at (length packet.old) }
         ensures first_byte { IsErrOf result PacketError.NumberAtFirstByte ↔ (number_at ≡ 0) }
@@ -79,7 +90,7 @@ impl HeaderKey {
         Ok(number_len)
     }
 
-    // The mask of the packet's sample.
+    // The mask for the packet's sample.
     fn mask(&self, packet: &[u8], number_at: usize) -> Result<[u8; 5], PacketError>
         ensures accepted { IsOk result ↔ HasSample number_at (length packet.now) }
         ensures first_byte { IsErrOf result PacketError.NumberAtFirstByte ↔ (number_at ≡ 0) }
@@ -104,7 +115,7 @@ impl HeaderKey {
     }
 }
 
-/// The bytes in the packet number, by the unmasked first byte.
+/// The length of the packet number in bytes, from the unmasked first byte.
 pub(crate) fn number_len(first: u8) -> usize
     ensures is { result ≡ number_len first }
     ensures few { (0 < result) × (result ≤ 4) }
@@ -112,7 +123,7 @@ pub(crate) fn number_len(first: u8) -> usize
     (first & 0x03) as usize + 1
 }
 
-// What the first byte is XORed with, by its highest bit and the mask's first byte.
+// What the first byte is XORed with, given its highest bit and the mask's first byte.
 fn first_mask(first: u8, mask: u8) -> u8
     ensures { result ≡ first_mask first mask }
 {
@@ -123,10 +134,10 @@ fn first_mask(first: u8, mask: u8) -> u8
     }
 }
 
-// XORs the packet number with the mask's bytes from the second on.
+// XORs the packet number with the mask's bytes after the first.
 //
-// It reads and writes four bytes, whatever the length: the length that a received header gives isn't authenticated before
-// the packet is opened (RFC 9001 section 9.5).
+// It reads and writes four bytes, whatever the length, because the length in a received header is not authenticated before the
+// packet is opened (RFC 9001 section 9.5).
 fn mask_number(packet: &mut [u8], number_at: usize, number_len: usize, mask: &[u8; 5])
     requires within { number_at + 4 ≤ length packet.old }
     requires few { number_len ≤ 4 }
@@ -140,7 +151,7 @@ fn mask_number(packet: &mut [u8], number_at: usize, number_len: usize, mask: &[u
     }
 }
 
-// The byte where `i` is below `number_len`, and zero elsewhere, without a branch.
+// The byte if `i < number_len`, and zero otherwise, without a branch.
 fn kept_below(byte: u8, i: usize, number_len: usize) -> u8
     requires index { i < 4 }
     requires few { number_len ≤ 4 }

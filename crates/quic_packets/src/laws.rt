@@ -1,4 +1,4 @@
-//! Laws of the definitions: functions without a body, whose contracts state a law for their arguments.
+//! Laws of the definitions: functions without a body, each of whose contracts states a law for its arguments.
 
 ghost use Rattle.std.specs.Prelude.{◌≡◌, ◌≢◌, ℕ, ◌+◌, ◌*◌, ◌%◌, ◌^◌, ◌<◌, ◌≤◌, List, length, slice_index, flat_map, All, AllPairs, Contains, Result};
 ghost use Rattle.std.specs.Int.Digits.{number_from_digits};
@@ -22,7 +22,7 @@ use crate::send::SendKey;
 use crate::sender::Sender;
 use crate::space::Space;
 
-/// Unprotecting undoes protecting, for every packet and key (RFC 9001 section 5.4).
+/// Unprotecting a protected header restores it, for every packet and key (RFC 9001 section 5.4).
 #[tactic(auto, using(crate::proofs::HeaderLemmas::unprotected_back))]
 pub fn unprotect_undoes_protect(key: &HeaderKey, packet: &[u8], number_at: usize)
     requires { HasSample number_at (length packet.now) }
@@ -30,7 +30,7 @@ pub fn unprotect_undoes_protect(key: &HeaderKey, packet: &[u8], number_at: usize
         → Unprotected key.now number_at wire back → back ≡ packet.now }
 {}
 
-/// Opening undoes sealing, for every packet and number and under every key and IV (RFC 9001 section 5.3).
+/// Opening a sealed packet restores it, for every packet, number, key and IV (RFC 9001 section 5.3).
 pub fn open_undoes_seal(sender: &SendKey, receiver: &ReceiveKey, packet: &[u8], header_len: usize)
     requires key { receiver.now.bytes ≡ sender.now.bytes }
     requires iv { receiver.now.iv ≡ sender.now.iv }
@@ -39,8 +39,8 @@ pub fn open_undoes_seal(sender: &SendKey, receiver: &ReceiveKey, packet: &[u8], 
         (xored_nonce sender.now.iv sender.now.next) header_len packet.now) packet.now }
 {}
 
-/// A packet that is sealed, protected, unprotected and opened comes back, for every packet and number and under every
-/// key and IV: the unprotected header says where it ends, and the packet then opens (RFC 9001 sections 5.3 and 5.4).
+/// Sealing, protecting, unprotecting and opening a packet restores it, for every packet, number, key and IV: the unprotected
+/// header gives its own end, and the packet then opens (RFC 9001 sections 5.3 and 5.4).
 pub fn packet_comes_back(
     sender: &SendKey,
     receiver: &ReceiveKey,
@@ -59,14 +59,14 @@ pub fn packet_comes_back(
         × OpensTo receiver.now sender.now.next header_len back packet.now }
 {}
 
-/// Over every run of calls of one key, the numbers that it seals under rise, so no nonce comes twice (RFC 9001 section
-/// 5.3).
+/// Over every run of calls of one key, the packet numbers that it seals under increase, so no nonce is used twice (RFC 9001
+/// section 5.3).
 pub fn no_number_twice(first: &SendKey, last: &SendKey)
     ensures { (numbers : List ℕ) → Sends first.now last.now numbers → AllPairs (λ m n. m < n) numbers }
 {}
 
-/// A number in the window of `len` bytes around the one that the receiver expects is decoded right, and away from the
-/// first and the last numbers no other is (RFC 9000 appendix A.3).
+/// A packet number in the window of `len` bytes around the expected one is decoded correctly. Away from the first and the last
+/// numbers, only a number in the window is (RFC 9000 appendix A.3).
 #[tactic(auto, using(crate::proofs::NumberLemmas::back))]
 pub fn decoded_in_window(number: u64, largest_received: Option<u64>, len: usize)
     requires { IsNumber number }
@@ -77,8 +77,8 @@ pub fn decoded_in_window(number: u64, largest_received: Option<u64>, len: usize)
         → InWindow (expected largest_received) len number }
 {}
 
-/// A number that is sent in as many bytes as represent its range lies in the window of every receiver that has received
-/// what it acknowledged, and no number so far beyond this one that the window has left it: it decodes the number right
+/// A packet number whose encoding represents its range is in the window of every receiver that has received what it
+/// acknowledged, and no number so far above this one that the window has moved past it. Such a receiver decodes it correctly
 /// (RFC 9000 section 17.1).
 pub fn decoded_as_sent(
     number: u64,
@@ -96,17 +96,17 @@ pub fn decoded_as_sent(
         → decoded ≡ number }
 {}
 
-/// The bytes that a header carries of a number, which `SendKey::seal` demands to be its low ones, are its low bits in
-/// network byte order (RFC 9000 section 17.1).
+/// The bytes of a number that `SendKey::seal` requires in the header are its low bits in network byte order (RFC 9000 section
+/// 17.1).
 #[tactic(auto, using(crate::proofs::NumberBytes::number_low_bytes))]
 pub fn low_bytes_are_low_bits(number: u64, len: usize)
     requires { (0 < len) × (len ≤ 4) }
     ensures { number_from_digits 256 (low_bytes len number) ≡ number % 2 ^ (8 * len) }
 {}
 
-/// Over every run of calls of one sender, the numbers that it seals under rise, over all of its keys together, so no
-/// pair of key and number comes twice (RFC 9000 section 12.3, RFC 9001 section 5.3). Under each of its keys there are at
-/// most as many as its limit (RFC 9001 section 6.6).
+/// Over every run of calls of one sender, the packet numbers that it seals under increase over all of its keys together, so no
+/// pair of key and number is used twice (RFC 9000 section 12.3, RFC 9001 section 5.3). Under each key there are at most as many
+/// packets as its limit (RFC 9001 section 6.6).
 pub fn no_number_twice_over_keys(first: &Sender, last: &Sender)
     ensures fresh { (by_key : List (List ℕ)) → Runs first.now last.now by_key
         → AllPairs (λ m n. m < n) (flat_map (λ numbers. numbers) by_key) }
@@ -114,11 +114,12 @@ pub fn no_number_twice_over_keys(first: &Sender, last: &Sender)
         → All (λ numbers. length numbers ≤ first.now.limit) by_key }
 {}
 
-/// Over every run of sends, skips and key updates of a sender, and of a receiver that is given its keys in their order, each
-/// packet that was sent is given back, as often as it comes and in whatever order, while the receiver holds its key and its
-/// number lies in the window around the one that is expected: the first time it is received, with its number, its header and its
-/// payload, and later it is told to be a duplicate (RFC 9001 sections 5 and 6). `plain`, `number`, `result`, the receiver
-/// `after` and the bytes that stand `opened` are those of `Receiver::receive`.
+/// A receiver returns every packet that a sender sent, as it was sent (RFC 9001 sections 5 and 6).
+///
+/// This holds over every run of sends, skips and key updates of the sender, for a receiver that is given its keys in their
+/// order, as long as the receiver holds the packet's key and the number is in the window around the expected one. Packets may
+/// arrive in any order and any number of times: the first time, the packet is received, with its number, its header and its
+/// payload; after that, it is a duplicate. `plain`, `number`, `result`, `after` and `opened` are those of `Receiver::receive`.
 pub fn received_as_sent(sender: &Sender, receiver: &Receiver, space: &Space)
     requires { receiver.now.header ≡ sender.now.header_key }
     ensures { (life : Life) → (sent : List Sent) → (updates : ℕ) → (packet : Sent) → (plain opened : List ℕ) → (number : ℕ)

@@ -1,9 +1,8 @@
-//! Packets of QUIC version 1 (RFC 9000 section 17, RFC 9001 sections 5 and 6) under keys that are given: nothing is derived
-//! here.
+//! Packet protection of QUIC version 1 (RFC 9000 section 17, RFC 9001 sections 5 and 6), under keys that the caller derives.
 //!
-//! A packet is one slice: the header, which ends with the packet number, the payload, and 16 bytes for the tag. `Sender`
-//! sends one in a call and `Receiver` receives one; `split` takes a datagram apart. `SendKey`, `ReceiveKey`, `HeaderKey` and
-//! `numbers` are their parts. `laws` states what holds over runs of calls.
+//! A packet is one slice: the header, which ends with the packet number, the payload, and 16 bytes for the tag. `Sender` sends
+//! a packet in one call, `Receiver` receives one, and `split` finds the packets of a datagram. `SendKey`, `ReceiveKey`,
+//! `HeaderKey` and `numbers` are the parts of both. `laws` states what holds over runs of calls.
 #![tactic(auto)]
 
 mod datagram;

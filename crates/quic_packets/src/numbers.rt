@@ -1,4 +1,4 @@
-//! Packet numbers in few bytes (RFC 9000 section 17.1, appendices A.2 and A.3).
+//! The encoding of packet numbers in 1 to 4 bytes (RFC 9000 section 17.1, appendices A.2 and A.3).
 
 ghost use Rattle.std.specs.Prelude.{◌≡◌, ℕ, ◌+◌, ◌*◌, ◌^◌, ◌<◌, ◌≤◌, ◌↔◌, length, slice_range, IsSome, IfSome};
 ghost use Rattle.std.specs.Int.Digits.{number_from_digits};
@@ -7,11 +7,12 @@ ghost use Rattle.quic_packets.specs.Packet.{IsNumber};
 
 use crate::packet::NUMBERS_END;
 
-/// Returns in how many bytes a packet's number is sent, from 1 to 4, where `largest_acknowledged` is the largest number of
-/// its space that the peer has acknowledged: the fewest that represent more than twice as many numbers as may be
-/// unacknowledged then (RFC 9000 section 17.1).
+/// Returns the length of a packet number's encoding in bytes, from 1 to 4 (RFC 9000 section 17.1, appendix A.2).
 ///
-/// Returns `None` where 4 bytes don't, where the number isn't above `largest_acknowledged`, and where it is 2^62 or more.
+/// `largest_acknowledged` is the largest number of the same space that the peer has acknowledged. The result is the fewest
+/// bytes that represent more than twice as many numbers as may then be unacknowledged.
+///
+/// Returns `None` if 4 bytes are too few, if `number` is not above `largest_acknowledged`, or if `number` is 2^62 or more.
 pub fn number_len(number: u64, largest_acknowledged: Option<u64>) -> Option<usize>
     ensures answers { IsSome result ↔ (IsNumber number × IsAbove number largest_acknowledged
         × Represents 4 (unacknowledged number largest_acknowledged)) }
@@ -42,10 +43,11 @@ pub fn number_len(number: u64, largest_acknowledged: Option<u64>) -> Option<usiz
     }
 }
 
-/// Returns the number of a packet that was received. `truncated` is what the `len` bytes of its header hold, and
-/// `largest_received` the largest number of its space that was received in an authentic packet. The result is the number
-/// that ends in these bits and is the nearest to the one after it, and of two as near the greater one (RFC 9000 section
-/// 17.1, appendix A.3).
+/// Decodes the packet number of a received packet (RFC 9000 section 17.1, appendix A.3).
+///
+/// `truncated` is the number in the `len` bytes of the header, and `largest_received` the largest number of the same space that
+/// was received in an authentic packet. The result is the number with these low bits that is nearest to the expected one,
+/// `largest_received + 1`, and the greater of two that are equally near.
 pub fn decode(largest_received: Option<u64>, truncated: u64, len: usize) -> u64
     requires len { (0 < len) × (len ≤ 4) }
     requires truncated { truncated < 2 ^ (8 * len) }
@@ -59,11 +61,11 @@ pub fn decode(largest_received: Option<u64>, truncated: u64, len: usize) -> u64
     nearest(expected, truncated, len)
 }
 
-/// Returns the truncated number in an unmasked header: the `len` bytes of the packet from `number_at` on, in network byte
-/// order.
+/// Returns the truncated packet number of an unmasked header: the `len` bytes of the packet from `number_at` on, in network
+/// byte order.
 ///
-/// It reads four bytes, whatever the length: the length that a received header gives isn't authenticated before the packet
-/// is opened (RFC 9001 section 9.5).
+/// It reads four bytes, whatever the length, because the length in a received header is not authenticated before the packet is
+/// opened (RFC 9001 section 9.5).
 pub fn truncated(packet: &[u8], number_at: usize, len: usize) -> u64
     requires within { number_at + 4 ≤ length packet.now }
     requires len { (0 < len) × (len ≤ 4) }
@@ -79,9 +81,9 @@ pub fn truncated(packet: &[u8], number_at: usize, len: usize) -> u64
     u64::from(four >> (32 - 8 * len))
 }
 
-// Of the numbers with these low bits, the nearest to one: that of the window around it.
+// The number with these low bits that is nearest to the expected one.
 //
-// It has no branch, since the bits and their length aren't authenticated yet (RFC 9001 section 9.5).
+// It does not branch, because the bits and their length are not authenticated yet (RFC 9001 section 9.5).
 fn nearest(expected: u64, truncated: u64, len: usize) -> u64
     requires expected { IsNumber expected }
     requires len { (0 < len) × (len ≤ 4) }

@@ -7,7 +7,7 @@ ghost use Rattle.aead_ciphers.specs.Packet.{PacketFits};
 use crate::error::PacketError;
 use aead_ciphers::aead::MAX_TAG_LEN;
 
-/// The first number that no packet has (RFC 9000 section 12.3).
+/// The end of the packet numbers (RFC 9000 section 12.3).
 pub(crate) const NUMBERS_END: u64 = 1 << 62;
 
 /// The longest payload in bytes (SP 800-38D section 5.2.1.1).
@@ -16,7 +16,7 @@ const MAX_PAYLOAD_LEN: usize = (1 << 36) - 32;
 /// The longest header in bytes (SP 800-38D section 5.2.1.1).
 const MAX_HEADER_LEN: usize = (1 << 61) - 1;
 
-/// The bytes between the header and the tag.
+/// The number of bytes between the header and the tag.
 pub(crate) fn payload_len(packet: &[u8], header_len: usize) -> Result<usize, PacketError>
     ensures accepted { IsOk result ↔ PacketFits header_len (length packet.now) }
     ensures too_short { IsErrOf result PacketError.TooShort ↔ (length packet.now < header_len + 16) }

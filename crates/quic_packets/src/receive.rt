@@ -12,10 +12,10 @@ use crate::packet::{NUMBERS_END, payload_len};
 use aead_ciphers::aead::{Algorithm, LessSafeKey, NONCE_LEN, UnboundKey, nonce_of};
 use std::marker::Model;
 
-/// A key that opens packets, in any order and each as often as it comes.
+/// A key that opens packets, in any order and any number of times.
 ///
-/// It draws no nonces from a sequence: packets come in any order, and a forged packet must not spend the nonce of the
-/// true one. So it stands on a `LessSafeKey`, and the number of each packet is the caller's to say.
+/// It takes no nonces from a sequence: packets arrive in any order, and a forged packet must not use up the nonce of the
+/// authentic one. So it holds a `LessSafeKey`, and the caller gives the number of each packet.
 #[derive(Drop)]
 pub struct ReceiveKey {
     key: LessSafeKey,
@@ -31,7 +31,10 @@ impl Model for ReceiveKey {
 }
 
 impl ReceiveKey {
-    /// The key of these bytes. `iv` is the IV of the packet protection keys (RFC 9001 section 5.1).
+    /// Creates a key from 16 or 32 bytes, the key length of the algorithm. `iv` is the IV of the packet protection keys (RFC
+    /// 9001 section 5.1).
+    ///
+    /// Fails with `KeyLength` if `key` is not as long.
     pub fn new(
         algorithm: &'static Algorithm,
         key: &[u8],
@@ -51,15 +54,21 @@ impl ReceiveKey {
         }
     }
 
-    /// The algorithm that it was made with.
+    /// Returns the key's algorithm.
     pub fn algorithm(&self) -> &'static Algorithm
         ensures { result.now ≡ self.now.algorithm }
     {
         self.key.algorithm()
     }
 
-    /// Opens the packet with this number, whose header, unmasked, has `header_len` bytes, and returns the length of the
-    /// payload: it stands after the header, in plain, and the tag stays after it.
+    /// Decrypts the packet with this number in place, and returns the length of the payload in bytes (RFC 9001 section 5.3).
+    ///
+    /// The unmasked header has `header_len` bytes. On success the plaintext payload follows it, and the tag is left after the
+    /// payload.
+    ///
+    /// Fails with `TooShort` if the packet has fewer than `header_len + 16` bytes, with `TooLong` if it is longer than AES-GCM
+    /// allows, with `NumbersEnded` if `number` is 2^62 or more, and with `Refused` if the tag is wrong. The packet is then
+    /// unchanged.
     pub fn open(
         &self,
         packet: &mut [u8],

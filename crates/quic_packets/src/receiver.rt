@@ -1,4 +1,4 @@
-//! Receiving whole packets, over key updates (RFC 9001 sections 5.3, 5.4, 6.2 to 6.6 and 9.5).
+//! Receiving packets, over key updates (RFC 9001 sections 5.3, 5.4, 6.2 to 6.6 and 9.5).
 
 ghost use Rattle.std.specs.Prelude.{◌≡◌, ◌≢◌, ℕ, ◌+◌, ◌-◌, ◌<◌, ◌≤◌, ◌↔◌, false, true, length, List, slice_index, IsTrue, IsOk, IfOk, IfErr, IsErrOf, IsOkUnless, OnOk, OnErr};
 ghost use Rattle.std.specs.Option.{option_copied};
@@ -27,15 +27,15 @@ use std::mem;
 pub struct Received {
     /// The packet number.
     pub number: u64,
-    /// The length of the header in bytes, with the packet number.
+    /// The length of the header in bytes, including the packet number.
     pub header_len: usize,
-    /// The length of the payload in bytes, which stands after the header, decrypted.
+    /// The length of the decrypted payload in bytes. It follows the header.
     pub payload_len: usize,
-    /// The Key Phase bit of a short header; false for a long one.
+    /// The Key Phase bit of a short header, or `false` for a long one.
     pub phase: bool,
 }
 
-/// Receives the packets of one encryption level, and after key updates those of each phase in turn.
+/// Receives the packets of one encryption level and, after key updates, those of each key phase in turn.
 #[derive(Drop)]
 pub struct Receiver {
     header: HeaderKey,
@@ -64,9 +64,10 @@ impl Model for Receiver {
 }
 
 impl Receiver {
-    /// Makes a receiver with these keys of the suite. `iv` is the IV of the packet protection keys (RFC 9001 section 5.1).
+    /// Creates a receiver with keys of the suite: `key` and `header_key` have 16 or 32 bytes each. `iv` is the IV of the packet
+    /// protection keys (RFC 9001 section 5.1).
     ///
-    /// Fails with `KeyLength` where a key hasn't the length of the suite's, 16 or 32 bytes.
+    /// Fails with `KeyLength` if a key is not as long as the suite's.
     pub fn new(
         suite: Suite,
         key: &[u8],
@@ -97,12 +98,14 @@ impl Receiver {
         })
     }
 
-    /// Takes the key of the next phase: the first packet that it opens makes it the current one. The header key stays (RFC
-    /// 9001 section 6).
+    /// Sets the key of the next phase, which becomes the current key when it first opens a packet. The header key is unchanged
+    /// (RFC 9001 section 6).
     ///
-    /// A peer that initiates an update must have seen a packet of the current phase acknowledged (section 6.1), and one that
-    /// follows an update needs no acknowledgment. So the key is best given once such an acknowledgment was sent, or once one's
-    /// own update was initiated. Before, a packet of the next phase is rejected as a forged one is.
+    /// A peer may initiate an update only after a packet of the current phase is acknowledged (section 6.1); one that follows
+    /// an update needs no acknowledgment. So set the next key once such an acknowledgment is sent, or once this endpoint
+    /// initiates an update. Until then, a packet of the next phase is rejected as a forged one is.
+    ///
+    /// Fails with `KeyLength` if `key` is not as long as the suite's keys. The receiver is then unchanged.
     pub fn set_next(&mut self, key: &[u8], iv: [u8; NONCE_LEN]) -> Result<(), PacketError>
         ensures accepted { IsOk result ↔ (length key.now ≡ key_len self.old.current.algorithm) }
         ensures refused { IsOkUnless result PacketError.KeyLength }
@@ -115,7 +118,8 @@ impl Receiver {
         Ok(())
     }
 
-    /// Returns the Key Phase bit of the current key (RFC 9000 section 17.3.1). It turns when a packet moves the keys on.
+    /// Returns the Key Phase bit of the current key (RFC 9000 section 17.3.1). It changes when a packet of the next phase is
+    /// received.
     pub fn phase(&self) -> bool
         ensures { result ≡ self.now.phase }
     {
@@ -129,13 +133,20 @@ impl Receiver {
         self.previous = None;
     }
 
-    /// Receives the packet whose number begins at byte `number_at`: unmasks its header, reads its number, opens it, and
-    /// counts its number as received. The header then stands unmasked, and after it the payload, decrypted; the tag stays.
+    /// Receives the packet whose packet number begins at byte `number_at`: unmasks its header, decodes its number, opens it,
+    /// and counts its number as received.
     ///
-    /// `space` is that of the packet's numbers, and `failures` the one count of the connection. A packet that is rejected
-    /// stays as it came. But `ReservedBits`, `Duplicate` and `KeyUpdate` come of authentic packets alone, which then stand
-    /// opened. Before a packet is known to be authentic, the bits under the header's mask decide nothing but how long the
-    /// header is and which key opens the packet (RFC 9001 section 9.5).
+    /// On success the header is unmasked, the decrypted payload follows it, and the tag is left after the payload. `space`
+    /// holds the numbers received in the packet's number space, and `failures` is the one count of the connection.
+    ///
+    /// Fails, in this order, with `TooManyFailures` if the limit of `failures` is reached; with `NumberAtFirstByte` if
+    /// `number_at` is 0; with `NoSample` if the packet has fewer than `number_at + 20` bytes; with `TooLong` if it is longer
+    /// than AES-GCM allows; and with `Refused`, which is counted, if it is not authentic. The packet is then unchanged. For an
+    /// authentic packet, which is then opened in place, fails with `ReservedBits` if its reserved bits are set, with
+    /// `Duplicate` if its number was already received, and with `KeyUpdate` if its key phase is out of turn.
+    ///
+    /// Before a packet is known to be authentic, its masked bits only determine the length of the header and the key that opens
+    /// it (RFC 9001 section 9.5).
     pub fn receive(
         &mut self,
         space: &mut Space,
@@ -175,7 +186,7 @@ impl Receiver {
         }
     }
 
-    // Unmasks the header, reads the number and opens the packet; a packet that is refused is masked again. Also gives the
+    // Unmasks the header, decodes the number and opens the packet. Masks the header again if it fails. Also returns the
     // header's first byte.
     fn open(
         &self,
@@ -230,7 +241,7 @@ impl Receiver {
         }
     }
 
-    // The key of a packet, where it is held.
+    // The key of a packet, if it is held.
     fn key_of(&self, first: u8, number: u64) -> Option<&ReceiveKey>
         ensures { option_copied result ≡ key_of self.now first number }
     {
@@ -250,14 +261,15 @@ impl Receiver {
         first & 0x84 == if self.phase { 0x00 } else { 0x04 }
     }
 
-    // The key that a packet is opened with: where its own isn't held the current one, so that it takes as long.
+    // The key that a packet is opened with. If its own is not held, this is the current one, so that rejecting it takes as
+    // long.
     fn opening_key(&self, first: u8, number: u64) -> &ReceiveKey
         ensures { result.now ≡ opening_key self.now first number }
     {
         self.key_of(first, number).unwrap_or(&self.current)
     }
 
-    // Whether the key of a packet is held, and its number allows for it.
+    // Whether the key of a packet is held and its number is consistent with the key phase.
     fn is_in_turn(&self, first: u8, number: u64) -> bool
         ensures { IsTrue result ↔ IsInTurn self.now first number }
     {
@@ -267,7 +279,7 @@ impl Receiver {
         !self.is_other_phase(first) || number < self.lowest || number >= self.highest
     }
 
-    // Counts a packet that was received.
+    // Updates the state for a packet that was received.
     fn move_on(&mut self, first: u8, number: u64)
         ensures { self.new ≡ received self.old first number }
     {
@@ -279,7 +291,7 @@ impl Receiver {
         }
     }
 
-    // Makes the next key the current one, where it is held.
+    // Makes the next key the current one, if it is held.
     fn update(&mut self, number: u64)
         ensures { self.new ≡ updated self.old number self.old.next }
     {
@@ -291,7 +303,7 @@ impl Receiver {
         }
     }
 
-    // Admits a packet that was opened, and counts it.
+    // Accepts a packet that was opened, and counts its number as received.
     fn admit(&mut self, space: &mut Space, first: u8, number: u64) -> Result<(), PacketError>
         requires { IsNumber number }
         ensures accepted { IsOk result ↔ ((reserved_bits first ≡ 0) × IsNew space.old number

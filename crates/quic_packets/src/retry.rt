@@ -25,7 +25,7 @@ const MAX_RETRY_LEN: usize = 2048;
 /// The longest pseudo-packet in bytes: the length of the connection ID, that ID, and the Retry packet.
 const MAX_PSEUDO_LEN: usize = 1 + MAX_ID_LEN + MAX_RETRY_LEN;
 
-/// Why a Retry packet has no tag here.
+/// The error of computing the tag of a Retry packet.
 #[derive(Clone, Copy, PartialEq, Eq, Debug, Drop, Error)]
 pub enum RetryError {
     /// The connection ID has more than 20 bytes (RFC 9000 section 17.2).
@@ -36,10 +36,12 @@ pub enum RetryError {
     TooLong,
 }
 
-/// Returns the integrity tag of a Retry packet, which a server puts at its end (RFC 9001 section 5.8).
+/// Returns the integrity tag of a Retry packet, the last 16 bytes of the packet (RFC 9001 section 5.8).
 ///
-/// `retry` is the packet before the tag, and `original_id` the connection ID that the client's first packet had as its
-/// destination. No memory is allocated: the pseudo-packet has room for 2048 bytes of Retry packet.
+/// `retry` is the packet without its tag, and `original_id` the destination connection ID of the client's first packet. No
+/// memory is allocated.
+///
+/// Fails if `original_id` has more than 20 bytes or `retry` has more than 2048.
 pub fn retry_tag(original_id: &[u8], retry: &[u8]) -> Result<Tag, RetryError>
     ensures accepted { IsOk result ↔ ((length original_id.now ≤ 20) × (length retry.now ≤ 2048)) }
     ensures id_too_long { IsErrOf result RetryError.IdTooLong ↔ (20 < length original_id.now) }
@@ -62,10 +64,11 @@ pub fn retry_tag(original_id: &[u8], retry: &[u8]) -> Result<Tag, RetryError>
     Ok(tag_of(&pseudo[..len]))
 }
 
-/// Returns whether a Retry packet is genuine, where `original_id` was the destination of the client's first packet: it ends
-/// with its integrity tag (RFC 9001 section 5.8).
+/// Returns whether a Retry packet ends with its integrity tag (RFC 9001 section 5.8).
 ///
-/// Returns false too where `original_id` has more than 20 bytes, and where the packet has more than 2064, tag included.
+/// `original_id` is the destination connection ID of the client's first packet.
+///
+/// Returns `false` as well if `original_id` has more than 20 bytes, or if the packet has more than 2064, including its tag.
 pub fn is_genuine_retry(original_id: &[u8], packet: &[u8]) -> bool
     ensures { IsTrue result ↔ ((length original_id.now ≤ 20) × (length packet.now ≤ 2064)
         × IsGenuineRetry original_id.now packet.now) }
@@ -80,7 +83,7 @@ pub fn is_genuine_retry(original_id: &[u8], packet: &[u8]) -> bool
     }
 }
 
-// The tag of AES-128-GCM over nothing, under the key and the nonce of version 1.
+// The tag of AES-128-GCM for an empty plaintext, under the key and the nonce of version 1.
 fn tag_of(pseudo: &[u8]) -> Tag
     requires { length pseudo.now < 2 ^ 61 }
     ensures { result ≡ gcm_tag (aes retry_key) retry_nonce pseudo.now [] }

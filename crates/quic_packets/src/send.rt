@@ -17,7 +17,7 @@ use std::ops::Range;
 
 /// A key that seals packets, each with the next packet number.
 ///
-/// It counts the numbers itself and skips them forward only, so no nonce comes twice under it.
+/// It counts the numbers itself and only skips forward, so no nonce is used twice.
 #[derive(Drop)]
 pub struct SendKey {
     key: LessSafeKey,
@@ -42,8 +42,10 @@ impl Model for SendKey {
 }
 
 impl SendKey {
-    /// The key of these bytes, for the packets from number `first` on. `iv` is the IV of the packet protection keys
-    /// (RFC 9001 section 5.1).
+    /// Creates a key from 16 or 32 bytes, the key length of the algorithm. The first packet has the number `first`. `iv` is the
+    /// IV of the packet protection keys (RFC 9001 section 5.1).
+    ///
+    /// Fails with `KeyLength` if `key` is not as long, and with `NumbersEnded` if `first` is above 2^62.
     pub fn new(
         algorithm: &'static Algorithm,
         key: &[u8],
@@ -70,14 +72,14 @@ impl SendKey {
         })
     }
 
-    /// The algorithm that it was made with.
+    /// Returns the key's algorithm.
     pub fn algorithm(&self) -> &'static Algorithm
         ensures { result.now ≡ self.now.algorithm }
     {
         self.key.algorithm()
     }
 
-    /// The number of the next packet, whose low bytes its header has to hold; 2^62 where no number is left.
+    /// Returns the number of the next packet, whose low bytes its header must hold, or 2^62 if no number is left.
     pub fn next_number(&self) -> u64
         ensures next { result ≡ self.now.next }
         ensures bound { result ≤ 2 ^ 62 }
@@ -85,8 +87,10 @@ impl SendKey {
         self.next
     }
 
-    /// Leaves the numbers below `number` unused, so that `number` is the next one. Fails with `NumberUsed` where the next
-    /// one is above `number`, and with `NumbersEnded` where `number` is above 2^62.
+    /// Leaves the numbers below `number` unused, so that `number` is the next one.
+    ///
+    /// Fails with `NumberUsed` if the next number is already above `number`, and with `NumbersEnded` if `number` is above 2^62.
+    /// The key is then unchanged.
     pub fn skip_to(&mut self, number: u64) -> Result<(), PacketError>
         ensures accepted { IsOk result ↔ ((self.old.next ≤ number) × (number ≤ 2 ^ 62)) }
         ensures used { IsErrOf result PacketError.NumberUsed ↔ (number < self.old.next) }
@@ -104,11 +108,17 @@ impl SendKey {
         Ok(())
     }
 
-    /// Encrypts the payload in place, writes the tag over the last 16 bytes, and returns the packet's number. The
-    /// header stays, to be masked by a `HeaderKey`.
+    /// Encrypts the payload in place, writes the tag to the last 16 bytes, and returns the packet number (RFC 9001 section
+    /// 5.3).
     ///
-    /// `number` is where the header holds the packet number: it ends the header. A packet that is too short for
-    /// `HeaderKey::protect` is refused before it takes a number: packet number and payload need 4 bytes together.
+    /// `number` is the range of the packet number, which ends the header. The header is left unmasked, for
+    /// `HeaderKey::protect`.
+    ///
+    /// Fails with `TooShort` if the packet has fewer than `number.end + 16` bytes; with `TooLong` if it is longer than AES-GCM
+    /// allows; with `NumberAtFirstByte` if `number.start` is 0; with `NumberLength` if the range is not as long as the first
+    /// byte says; with `NoSample` if packet number and payload together have fewer than 4 bytes; with `NumbersEnded` if no
+    /// number is left; and with `OtherNumber` if the header does not hold the next number. The packet and the key are then
+    /// unchanged.
     pub fn seal(&mut self, packet: &mut [u8], number: Range<usize>) -> Result<u64, PacketError>
         ensures accepted { IsOk result ↔ (PacketFits number.end (length packet.old)
             × HasNumber number.start number.end packet.old
@@ -154,7 +164,7 @@ impl SendKey {
     }
 }
 
-// That the header ends with the packet number `next`, and that a packet may have it.
+// Checks that the header ends with the packet number `next`, and that the number is below 2^62.
 fn check_number(packet: &[u8], number: Range<usize>, next: u64) -> Result<(), PacketError>
     requires len { number.end + 16 ≤ length packet.now }
     requires next { next ≤ 2 ^ 62 }
@@ -194,7 +204,7 @@ fn check_number(packet: &[u8], number: Range<usize>, next: u64) -> Result<(), Pa
     Ok(())
 }
 
-// Whether the bytes are the low ones of a number, the highest first.
+// Whether the bytes are the low bytes of a number, in network byte order.
 fn are_low_bytes(bytes: &[u8], number: u64) -> bool
     requires { length bytes.now ≤ 8 }
     ensures { IsTrue result ↔ (bytes.now ≡ low_bytes (length bytes.now) number) }

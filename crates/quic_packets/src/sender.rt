@@ -1,4 +1,4 @@
-//! Sending whole packets in one call each, over key updates (RFC 9001 sections 5 and 6).
+//! Sending packets, each in one call, over key updates (RFC 9001 sections 5 and 6).
 
 ghost use Rattle.std.specs.Prelude.{◌≡◌, ◌≢◌, ◌+◌, ◌-◌, ◌^◌, ◌<◌, ◌≤◌, ◌↔◌, true, false, min, length, IsOk, IfOk, IsErrOf, IsOkUnless, IsSome, IfSome, IsTrue, OnOk, OnErr};
 ghost use Rattle.aead_ciphers.specs.Algorithm.{key_len};
@@ -18,12 +18,12 @@ use aead_ciphers::aead::NONCE_LEN;
 use std::marker::Model;
 use std::ops::Range;
 
-/// The packets that a key of AES-GCM may seal (RFC 9001 section 6.6).
+/// The confidentiality limit of AES-GCM: the packets that one key may seal (RFC 9001 section 6.6).
 const MAX_SEALED: u64 = 1 << 23;
 
-/// Sends the packets of one number space in one direction, under one key after the other.
+/// Sends the packets of one number space in one direction, under one key after another.
 ///
-/// No number is used twice, not even under different keys, and at most 2^23 packets are sealed under one key.
+/// No number is used twice, not even under different keys, and one key seals at most 2^23 packets.
 #[derive(Drop)]
 pub struct Sender {
     key: SendKey,
@@ -57,11 +57,12 @@ impl Model for Sender {
 }
 
 impl Sender {
-    /// Makes a sender with these keys of the suite, whose first packet has the number `first`. `iv` is the IV of the
-    /// packet protection keys (RFC 9001 section 5.1).
+    /// Creates a sender with keys of the suite: `key` and `header_key` have 16 or 32 bytes each. The first packet has the
+    /// number `first`. `iv` is the IV of the packet protection keys (RFC 9001 section 5.1).
     ///
-    /// Its Key Phase bit is 0, and it takes the handshake as unconfirmed. Fails with `KeyLength` where a key hasn't the
-    /// length of the suite's, 16 or 32 bytes, and with `NumbersEnded` where `first` is above 2^62.
+    /// The Key Phase bit is 0, and the handshake is not confirmed.
+    ///
+    /// Fails with `KeyLength` if a key is not as long as the suite's, and with `NumbersEnded` if `first` is above 2^62.
     pub fn new(
         suite: Suite,
         key: &[u8],
@@ -89,7 +90,7 @@ impl Sender {
         })
     }
 
-    /// Lowers the number of packets that each key may seal to `limit`. A higher limit changes nothing.
+    /// Lowers the number of packets that each key may seal to `limit`. A higher limit has no effect.
     pub fn with_limit(mut self, limit: u64) -> Self
         ensures { result ≡ record self { limit = min self.limit limit } }
     {
@@ -99,14 +100,14 @@ impl Sender {
         self
     }
 
-    /// Returns the number of the next packet, or 2^62 where no number is left.
+    /// Returns the number of the next packet, or 2^62 if no number is left.
     pub fn next_number(&self) -> u64
         ensures { result ≡ self.now.key.next }
     {
         self.key.next_number()
     }
 
-    /// Returns how many packets the current key has sealed.
+    /// Returns the number of packets that the current key has sealed.
     pub fn sealed(&self) -> u64
         ensures { result ≡ self.now.sealed }
     {
@@ -120,10 +121,11 @@ impl Sender {
         self.phase
     }
 
-    /// Returns in how many bytes the next packet's number is sent, from 1 to 4, where `largest_acknowledged` is the largest
-    /// number that the peer has acknowledged in this space (RFC 9000 sections 17.1 and A.2).
+    /// Returns the length of the next packet number's encoding in bytes, from 1 to 4 (RFC 9000 section 17.1, appendix A.2).
     ///
-    /// Returns `None` where `send` can't send it: no number is left, 4 bytes are too few, or the number isn't above
+    /// `largest_acknowledged` is the largest number of this space that the peer has acknowledged.
+    ///
+    /// Returns `None` if `send` cannot send the number: no number is left, 4 bytes are too few, or the number is not above
     /// `largest_acknowledged`.
     pub fn next_number_len(&self, largest_acknowledged: Option<u64>) -> Option<usize>
         ensures answers { IsSome result
@@ -134,8 +136,10 @@ impl Sender {
         number_len(self.key.next_number(), largest_acknowledged)
     }
 
-    /// Leaves the numbers below `number` unused, so that `number` is the next one. Fails with `NumberUsed` where the next
-    /// one is above `number`, and with `NumbersEnded` where `number` is above 2^62.
+    /// Leaves the numbers below `number` unused, so that `number` is the next one.
+    ///
+    /// Fails with `NumberUsed` if the next number is already above `number`, and with `NumbersEnded` if `number` is above 2^62.
+    /// The sender is then unchanged.
     pub fn skip_to(&mut self, number: u64) -> Result<(), PacketError>
         ensures accepted { IsOk result ↔ ((self.old.key.next ≤ number) × (number ≤ 2 ^ 62)) }
         ensures used { IsErrOf result PacketError.NumberUsed ↔ (number < self.old.key.next) }
@@ -146,14 +150,15 @@ impl Sender {
         self.key.skip_to(number)
     }
 
-    /// Notes that the handshake is confirmed (RFC 9001 section 4.1.2).
+    /// Records that the handshake is confirmed (RFC 9001 section 4.1.2).
     pub fn confirm_handshake(&mut self)
         ensures { self.new ≡ record self.old { confirmed = true } }
     {
         self.is_confirmed = true;
     }
 
-    /// Notes that the peer has acknowledged the packet with this number.
+    /// Records that the peer has acknowledged the packet with this number. Only a number sent in the current key phase has an
+    /// effect.
     pub fn acknowledged(&mut self, number: u64)
         ensures { self.new ≡ after_acknowledgement self.old number }
     {
@@ -162,11 +167,12 @@ impl Sender {
         }
     }
 
-    /// Initiates a key update: goes on under the next key and its IV, in the other phase (RFC 9001 section 6.1). The header
-    /// key stays.
+    /// Initiates a key update: continues with the next key and its IV, in the other key phase (RFC 9001 section 6.1). The
+    /// header key is unchanged.
     ///
-    /// Fails with `HandshakeUnconfirmed` before the handshake is confirmed, and with `PhaseUnacknowledged` after an update
-    /// until a packet of its phase is acknowledged.
+    /// Fails with `HandshakeUnconfirmed` if the handshake is not confirmed, with `PhaseUnacknowledged` if there was an update
+    /// and no packet of its phase is acknowledged yet, and with `KeyLength` if `key` is not as long as the suite's keys. The
+    /// sender is then unchanged.
     pub fn initiate_update(&mut self, key: &[u8], iv: [u8; NONCE_LEN]) -> Result<(), PacketError>
         ensures accepted { IsOk result ↔ (IsTrue self.old.confirmed × IsTrue self.old.acknowledged
             × (length key.now ≡ key_len self.old.key.algorithm)) }
@@ -187,8 +193,10 @@ impl Sender {
         self.follow_update(key, iv)
     }
 
-    /// Follows a key update of the peer: goes on under the next key and its IV, in the other phase (RFC 9001 section 6.2).
-    /// The header key stays.
+    /// Follows a key update of the peer: continues with the next key and its IV, in the other key phase (RFC 9001 section 6.2).
+    /// The header key is unchanged.
+    ///
+    /// Fails with `KeyLength` if `key` is not as long as the suite's keys. The sender is then unchanged.
     pub fn follow_update(&mut self, key: &[u8], iv: [u8; NONCE_LEN]) -> Result<(), PacketError>
         ensures accepted { IsOk result ↔ (length key.now ≡ key_len self.old.key.algorithm) }
         ensures refused { IsOkUnless result PacketError.KeyLength }
@@ -204,9 +212,10 @@ impl Sender {
         Ok(())
     }
 
-    /// Makes the sender of 1-RTT packets of that of 0-RTT packets, with keys of its own: the numbers go on (RFC 9000
-    /// section 12.3), and the limit stays. All else is as `new` makes it. Where a key hasn't the length of the suite's, the
-    /// sender is dropped.
+    /// Turns the sender of 0-RTT packets into that of 1-RTT packets, with new keys. The numbers continue (RFC 9000 section
+    /// 12.3), and the limit stays. Everything else is as `new` creates it.
+    ///
+    /// Fails with `KeyLength` if a key is not as long as the suite's. The sender is then dropped.
     pub fn into_next_keys(
         self,
         suite: Suite,
@@ -222,13 +231,19 @@ impl Sender {
         Ok(next.with_limit(self.limit))
     }
 
-    /// Sends a packet: writes its number where `number` says, and the number's length and the phase into the first byte,
-    /// clears the reserved bits, encrypts the payload in place, writes the tag over the last 16 bytes, and masks the
-    /// header. Returns the number.
+    /// Sends a packet, and returns its number: writes the number to the range `number`, and its length and the key phase to the
+    /// first byte, clears the reserved bits, encrypts the payload in place, writes the tag to the last 16 bytes, and masks the
+    /// header.
     ///
-    /// The packet is the header, which ends with room for the number, the payload, and 16 bytes for the tag. The room has
-    /// as many bytes as `next_number_len` returns; a long header's Length field, which stands before it, is the caller's
-    /// to write. Number and payload have 4 bytes or more together. A call that fails changes nothing and spends no number.
+    /// The packet is the header, which ends with room for the number, the payload, and 16 bytes for the tag. The room has as
+    /// many bytes as `next_number_len` returns. A long header's Length field, which comes before the number, is the caller's
+    /// responsibility.
+    ///
+    /// Fails with `TooShort` if the packet has fewer than `number.end + 16` bytes; with `TooLong` if it is longer than AES-GCM
+    /// allows; with `NumberAtFirstByte` if `number.start` is 0; with `NoSample` if number and payload together have fewer than
+    /// 4 bytes; with `NoProtection` for a Version Negotiation or a Retry packet; with `KeyUsedUp` if the key has reached its
+    /// limit; with `NumbersEnded` if no number is left; with `NumberTooFar` if `next_number_len` returns `None` for another
+    /// reason; and with `NumberLength` if the room does not have that many bytes. The packet and the sender are then unchanged.
     pub fn send(
         &mut self,
         packet: &mut [u8],
@@ -281,7 +296,7 @@ impl Sender {
         Ok(next)
     }
 
-    // That the next number is sent in this room.
+    // Checks that the next number can be sent in this room.
     fn check_number(
         &self,
         number_at: usize,
@@ -319,7 +334,7 @@ impl Sender {
     }
 }
 
-// That a packet can be sealed and protected.
+// Checks that the packet can be sealed and protected.
 fn check_packet(packet: &[u8], number_at: usize, header_len: usize) -> Result<(), PacketError>
     ensures accepted { IsOk result ↔ IsSealable number_at header_len packet.now }
     ensures too_short { IsErrOf result PacketError.TooShort ↔ (length packet.now < header_len + 16) }
@@ -378,7 +393,7 @@ fn write_number(packet: &mut [u8], number_at: usize, header_len: usize, number: 
     packet[0] = first_byte(first, len, phase);
 }
 
-// The first byte of a header whose number has this length.
+// The first byte of a header with a packet number of this length.
 fn first_byte(first: u8, number_len: usize, phase: bool) -> u8
     requires { (0 < number_len) × (number_len ≤ 4) }
     ensures { result ≡ first_byte phase number_len first }

@@ -8,12 +8,12 @@ ghost use Rattle.quic_packets.specs.Space.{IsNew, Marks};
 
 use std::marker::Model;
 
-/// The numbers in the window.
+/// The number of packet numbers in the window.
 const WINDOW: u64 = 128;
 
-/// The largest number that was received in one space of packet numbers, and which of the 128 up to it were.
+/// The largest packet number that was received in one space, and which of the 128 numbers up to it were.
 ///
-/// 0-RTT and 1-RTT packets share one space; Initial and Handshake packets have one each (RFC 9000 section 12.3).
+/// 0-RTT and 1-RTT packets share one space. Initial and Handshake packets have one each (RFC 9000 section 12.3).
 #[derive(Drop)]
 pub struct Space {
     next: u64,
@@ -32,22 +32,22 @@ impl Model for Space {
 }
 
 impl Space {
-    /// Makes a space in which nothing was received.
+    /// Creates a space in which no number was received.
     pub fn new() -> Self
         ensures { result ≡ record { next = 0; seen = 0 } }
     {
         Space { next: 0, seen: 0 }
     }
 
-    /// Returns the largest number that was received, or `None` where none was.
+    /// Returns the largest number that was received, or `None` if there is none.
     pub fn largest(&self) -> Option<u64>
         ensures { expected result ≡ self.now.next }
     {
         self.next.checked_sub(1)
     }
 
-    /// Returns whether a number wasn't received yet. A number more than 127 below the largest counts as received, since it
-    /// isn't known (RFC 9000 section 12.3).
+    /// Returns whether a number was not received yet. A number more than 127 below the largest counts as received, because the
+    /// window does not reach it (RFC 9000 section 12.3).
     pub fn is_new(&self, number: u64) -> bool
         ensures { IsTrue result ↔ IsNew self.now number }
     {
@@ -73,7 +73,7 @@ impl Space {
     }
 }
 
-// The window that begins `by` numbers higher, where its highest number is received.
+// The window after its highest number, which is received, moves up by `by`.
 fn moved(seen: u128, by: u64) -> u128
     requires { 0 < by }
     ensures highest { bit_at result 0 ≡ 1 }

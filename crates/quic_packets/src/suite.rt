@@ -1,16 +1,16 @@
-//! The algorithms of payload and header together (RFC 9001 sections 5.3 and 5.4.3).
+//! The algorithms for payloads and headers (RFC 9001 sections 5.3 and 5.4.3).
 
 ghost use Rattle.std.specs.Prelude.{◌≡◌};
 ghost use Rattle.quic_packets.specs.Suite.{algorithm, header_algorithm};
 
 use aead_ciphers::aead::{AES_128_GCM, AES_256_GCM, Algorithm, quic};
 
-/// An algorithm for payloads, and the one for headers that goes with it.
+/// An algorithm for payloads, and the matching one for headers.
 #[derive(Clone, Copy, PartialEq, Eq, Debug)]
 pub enum Suite {
-    /// AES-128-GCM, and headers masked by AES-128: keys of 16 bytes.
+    /// AES-128-GCM, with headers masked by AES-128. Each key has 16 bytes.
     Aes128Gcm,
-    /// AES-256-GCM, and headers masked by AES-256: keys of 32 bytes.
+    /// AES-256-GCM, with headers masked by AES-256. Each key has 32 bytes.
     Aes256Gcm,
 }
 

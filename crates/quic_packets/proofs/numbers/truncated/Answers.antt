@@ -16,8 +16,8 @@ returns-clause-is c =
     let first : get_or packet at 0 ≡ get_or bytes 0 0 = ap (λ i. get_or packet i 0) start ∙ here 0 in
     let four : c.from.result ≡ c.from_be_bytes-four.result / 2 ^ (32 - 8 * c.args.len) = search rules in
     four ∙ ap (λ n. n / 2 ^ (32 - 8 * c.args.len)) c.from_be_bytes-four.ensures
-    ∙ shifted bytes c.args.len _ _ _ _ (omega (arith, length-drop at packet)) c.requires.len.0 c.requires.len.1 (byte 1) (byte 2) (byte 3) first (here 1) (here 2)
-    (here 3)
+    ∙ shifted bytes c.args.len _ _ _ _ (omega (arith, length-drop at packet)) c.requires.len.0 c.requires.len.1
+    (byte 1) (byte 2) (byte 3) first (here 1) (here 2) (here 3)
     ∙ ap (λ n. number_from_digits 256 (take n bytes)) (sym whole)
 
 pub returns-clause-fits : goal.returns-clause-fits
