@@ -8,31 +8,31 @@ use Rattle.records.specs.Keys.{KeyState}
 use Rattle.records.specs.declared.content_type.ContentType.{ContentType}
 use Rattle.records.specs.declared.content_type.ContentType.TheVariants.{Alert, Handshake, ApplicationData}
 
--- the number of a content type (section 5.1)
+-- the value of a content type (section 5.1)
 abbrev pub type_code : ContentType → ℕ
 type_code Alert = 21
 type_code Handshake = 22
 type_code ApplicationData = 23
 
--- no content type has this number
+-- no content type has this value
 abbrev pub IsUnknown : ℕ → Type 0
 IsUnknown code = (content_type : ContentType) → type_code content_type ≢ code
 
--- what a record carries: a content, its type, and how many zeros pad it
+-- the contents of a record: a content, its type, and the number of zeros that pad it
 pub record Inner : Type 0 where
   pub content_type : ContentType
   pub content : List ℕ
   pub padding : ℕ
 
--- TLSInnerPlaintext: the content, the number of its type, the padding (section 5.2)
+-- TLSInnerPlaintext: the content, the value of its type, the padding (section 5.2)
 abbrev pub plaintext : List ℕ → (code padding : ℕ) → List ℕ
 plaintext content code padding = content ++ code ∷ replicate padding 0
 
 abbrev pub inner_plaintext : Inner → List ℕ
 inner_plaintext i = plaintext i.content (type_code i.content_type) i.padding
 
--- what may be sent, n bytes of content and the padding: no Handshake and no Alert is empty (section 5.4), and the inner plaintext has
--- at most `size_limit` bytes, its type and padding counted (RFC 8449 section 4)
+-- n bytes of content and their padding may be sent: no handshake or alert content is empty (section 5.4), and the inner
+-- plaintext, with its type and padding, has at most `size_limit` bytes (RFC 8449 section 4)
 pub record IsAllowed (size_limit : ℕ) (content_type : ContentType) (n padding : ℕ) : Type 0 where
   pub nonempty : n ≡ 0 → content_type ≡ ApplicationData
   pub fits : n + 1 + padding ≤ size_limit
@@ -45,36 +45,36 @@ record_start = 23 ∷ 3 ∷ 3 ∷ []
 abbrev pub header : ℕ → List ℕ
 header n = record_start ++ to_be_bytes w16 n
 
--- the length that a header gives (sections 5.1 and 5.2)
+-- the length that a header announces (sections 5.1 and 5.2)
 abbrev pub body_len : List ℕ → ℕ
 body_len bytes = from_be_bytes w16 (drop 3 bytes)
 
--- TLSCiphertext: the header, and the inner plaintext sealed with the header as AAD under the nonce of the record's number, 16 bytes
--- longer by its tag (sections 5.2 and 5.3)
+-- TLSCiphertext: the header, and the inner plaintext sealed with the header as AAD under the nonce of the record's number, 16
+-- bytes longer by its tag (sections 5.2 and 5.3)
 abbrev pub record_at : KeyState → ℕ → Inner → List ℕ
 record_at key number i =
     let aad = header (length (inner_plaintext i) + 16) in
     aad ++ gcm_sealed (aes key.bytes) (xored_nonce key.iv number) aad (inner_plaintext i)
 
--- one whole record: its header gives the length of what stands after it
+-- one whole record: its header announces the length of the bytes after it
 pub record IsWhole (size_limit : ℕ) (bytes : List ℕ) : Type 0 where
   pub start : take 5 bytes ≡ header (length bytes - 5)
   pub shortest : 5 + 17 ≤ length bytes
   pub longest : length bytes ≤ 5 + size_limit + 16
 
--- the header of a record that may be received: at least a content type and a tag stand after it, and at most an inner plaintext of
+-- the header of an acceptable record: at least a content type and a tag follow it, and at most an inner plaintext of
 -- `size_limit` bytes and a tag (sections 5.2 and 5.4, RFC 8449 section 4)
 pub record IsHeader (size_limit : ℕ) (bytes : List ℕ) : Type 0 where
   pub start : take 3 bytes ≡ record_start
   pub shortest : 17 ≤ body_len bytes
   pub longest : body_len bytes ≤ size_limit + 16
 
--- these bytes are the record of this number, and this is what it carries
+-- these bytes are the record with this number, and these are its contents
 pub record Carries (key : KeyState) (number : ℕ) (bytes : List ℕ) (inner : Inner) : Type 0 where
   pub allowed : IsAllowed key.size_limit inner.content_type (length inner.content) inner.padding
   pub made : bytes ≡ record_at key number inner
 
--- the bytes are a header, and a message that is sealed with it as AAD under the nonce of the number
+-- the bytes are a header, and a message sealed with it as AAD under the nonce of the number
 abbrev pub Seals : KeyState → ℕ → List ℕ → List ℕ → Type 0
 Seals key number bytes message =
     bytes ≡ take 5 bytes ++ gcm_sealed (aes key.bytes) (xored_nonce key.iv number) (take 5 bytes) message

@@ -1,4 +1,4 @@
--- Why a call refuses, by the error that it returns, and which alert an error calls for.
+-- The reasons for each error, and the alert that an error calls for.
 use Rattle.std.specs.Prelude.{◌≡◌, ◌≢◌, ◌⊎◌, ℕ, ◌+◌, ◌^◌, ◌<◌, ◌≤◌, List, [], length, take, replicate, Option, Some, None}
 use Rattle.records.specs.Keys.{KeyState}
 use Rattle.records.specs.Record.{IsAllowed, IsHeader, IsUnknown, IsWhole, Seals, body_len, plaintext, record_start, type_code}
@@ -12,7 +12,8 @@ use Rattle.records.specs.declared.record_error.RecordError.TheVariants.{Encrypte
 use Rattle.records.specs.declared.record_error.RecordError.TheVariants.{NoRoom, PlaintextTooLong, Refused, UnexpectedRecord}
 use Rattle.records.specs.declared.record_error.RecordError.TheVariants.{UnexpectedType, WrongLength}
 
--- the alert that ends the connection where a record is refused (sections 5, 5.1, 5.2 and 5.4); none where the record isn't at fault
+-- the alert that ends the connection when a record is rejected (sections 5, 5.1, 5.2 and 5.4), or none if the record is not the
+-- cause
 abbrev pub alert_of : RecordError → Option AlertDescription
 alert_of EncryptedRecordTooShort = Some BadRecordMac
 alert_of Refused = Some BadRecordMac
@@ -25,21 +26,21 @@ alert_of NoContentType = Some UnexpectedMessage
 alert_of EmptyContent = Some UnexpectedMessage
 alert_of error = None
 
--- why no record is made of n bytes of content and this padding
+-- why n bytes of content and this padding make no record
 abbrev pub RefusesContent : (size_limit : ℕ) → ContentType → (n padding : ℕ) → RecordError → Type 0
 RefusesContent size_limit content_type n padding EmptyContent = (n ≡ 0) × (content_type ≢ ApplicationData)
 RefusesContent size_limit content_type n padding ContentTooLong =
     (n ≡ 0 → content_type ≡ ApplicationData) × (size_limit < n + 1 + padding)
 RefusesContent size_limit content_type n padding error = ⊥
 
--- why no record is made of them in a buffer of `room` bytes
+-- why they make no record in a buffer of `room` bytes
 abbrev pub RefusesToSeal : (size_limit : ℕ) → ContentType → (n padding room : ℕ) → RecordError → Type 0
 RefusesToSeal size_limit content_type n padding room NoRoom =
     IsAllowed size_limit content_type n padding × (room < n + padding + 22)
 RefusesToSeal size_limit content_type n padding room error = RefusesContent size_limit content_type n padding error
 
--- why a header is refused; 2^14 + 256 bytes is the limit of section 5.2 for any cipher, and that of the inner plaintext has 16 bytes
--- more for the tag
+-- why a header is rejected. 2^14 + 256 bytes is the limit of section 5.2 for any cipher; `size_limit` bounds the inner
+-- plaintext, so its tag adds 16 bytes
 abbrev pub RefusesHeader : (size_limit : ℕ) → List ℕ → RecordError → Type 0
 RefusesHeader size_limit bytes UnexpectedRecord = take 3 bytes ≢ record_start
 RefusesHeader size_limit bytes EncryptedRecordTooLong = (take 3 bytes ≡ record_start) × (2 ^ 14 + 256 < body_len bytes)
@@ -48,14 +49,14 @@ RefusesHeader size_limit bytes InnerPlaintextTooLong =
 RefusesHeader size_limit bytes EncryptedRecordTooShort = (take 3 bytes ≡ record_start) × (body_len bytes < 17)
 RefusesHeader size_limit bytes error = ⊥
 
--- why bytes aren't one whole record
+-- why bytes are not one whole record
 abbrev pub RefusesBytes : (size_limit : ℕ) → List ℕ → RecordError → Type 0
 RefusesBytes size_limit bytes WrongLength =
     (length bytes < 5) ⊎ (IsHeader size_limit (take 5 bytes) × (length bytes ≢ 5 + body_len (take 5 bytes)))
 RefusesBytes size_limit bytes error = (5 ≤ length bytes) × RefusesHeader size_limit (take 5 bytes) error
 
--- why an inner plaintext is refused: it has no content type, or one that no protected record has, or an empty content whose type is
--- Handshake or Alert (sections 5 and 5.4)
+-- why an inner plaintext is rejected: it has no content type, or one that no protected record has, or an empty handshake or
+-- alert content (sections 5 and 5.4)
 abbrev pub RefusesInner : List ℕ → RecordError → Type 0
 RefusesInner inner NoContentType = inner ≡ replicate (length inner) 0
 RefusesInner inner UnexpectedType =
@@ -65,12 +66,13 @@ RefusesInner inner EmptyContent =
     × (inner ≡ plaintext [] (type_code content_type) padding)
 RefusesInner inner error = ⊥
 
--- an authentic record, whose inner plaintext is refused
+-- an authentic record whose inner plaintext is rejected
 abbrev pub SealsRefused : KeyState → ℕ → List ℕ → RecordError → Type 0
 SealsRefused key number bytes error =
     IsWhole key.size_limit bytes × (inner : List ℕ) × Seals key number bytes inner × RefusesInner inner error
 
--- why nothing is opened: the bytes aren't one whole record, or it isn't authentic (section 5.2), or what it carries is refused
+-- why a record does not open: the bytes are not one whole record, or it is not authentic (section 5.2), or its contents are
+-- rejected
 abbrev pub RefusesToOpen : KeyState → ℕ → List ℕ → RecordError → Type 0
 RefusesToOpen key number bytes Refused =
     IsWhole key.size_limit bytes × ((message : List ℕ) → ¬ Seals key number bytes message)

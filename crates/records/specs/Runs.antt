@@ -6,12 +6,12 @@ use Rattle.records.specs.Steps.{Reads, Writes}
 use Rattle.records.specs.declared.content_type.ContentType.{ContentType}
 use Rattle.records.specs.declared.record_error.RecordError.{RecordError}
 
--- one step: a record, and what is told of it, or a key update, with the key and its IV
+-- one step: a record and what is said of it, or a key update with the key and its IV
 pub data Event (A : Type 0) : Type 0 where
   carries : A → Event A
   updates : (key iv : List ℕ) → Event A
 
--- a writer makes a record of a content, or is given its next key
+-- a writer writes a record, or continues with its next key
 abbrev pub WriteStep : WriterState → WriterState → Event Inner → Event (List ℕ) → Type 0
 WriteStep was now (carries inner) (carries bytes) = Writes was now inner bytes
 WriteStep was now (updates key iv) (updates key' iv') =
@@ -21,14 +21,14 @@ WriteStep was now asked sent = ⊥
 abbrev pub Answer : Type 0
 Answer = Result (ContentType × List ℕ) RecordError
 
--- a reader reads a record, or is given its next key
+-- a reader reads a record, or continues with its next key
 abbrev pub ReadStep : ReaderState → ReaderState → Event (List ℕ) → Event Answer → Type 0
 ReadStep was now (carries bytes) (carries answer) = Reads was now bytes answer
 ReadStep was now (updates key iv) (updates key' iv') =
     (now ≡ record was { key = rekeyed was.key key iv; number = 0 }) × (key' ≡ key) × (iv' ≡ iv)
 ReadStep was now sent read = ⊥
 
--- the reader is open, stands where the writer does under the same key, and allows for as many records and as long ones
+-- the reader is open, has the writer's key and number, and allows at least as many records and as long ones
 pub record Follows (writer : WriterState) (reader : ReaderState) : Type 0 where
   pub bytes : reader.key.bytes ≡ writer.key.bytes
   pub iv : reader.key.iv ≡ writer.key.iv
@@ -37,13 +37,13 @@ pub record Follows (writer : WriterState) (reader : ReaderState) : Type 0 where
   pub size_limit : writer.key.size_limit ≤ reader.key.size_limit
   pub is_open : IsFalse reader.is_closed
 
--- what a reader tells of what a writer was asked for: the type and the content
+-- what a reader returns for what a writer was given: the type and the content
 abbrev pub as_asked : Event Inner → Event Answer
 as_asked (carries inner) = carries (Ok (inner.content_type, inner.content))
 as_asked (updates key iv) = updates key iv
 
--- What a writer becomes over calls, and the numbers that it seals under, those of each of its keys in one list: what a call leaves is
--- one of these, and a call that is refused leaves the writer as it was.
+-- The state of a writer after any calls, and the numbers that it sealed under, in one list for each key. A call leaves one of
+-- these states, or fails and leaves the writer unchanged.
 pub data WriterRuns : WriterState → WriterState → List (List ℕ) → Type 0 where
   ends : (s : WriterState) → WriterRuns s s ([] ∷ [])
   seals : (s t : WriterState) (numbers : List ℕ) (later : List (List ℕ)) → s.number < s.limit

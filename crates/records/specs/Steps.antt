@@ -1,4 +1,4 @@
--- What opening a record returns and leaves, and what writing and reading do with the next one.
+-- The result of opening a record, and one step of a writer and of a reader.
 use Rattle.std.specs.Prelude.{◌≡◌, ℕ, ◌+◌, ◌<◌, ◌≤◌, ◌||◌, is_some, List, ◌++◌, length, take, drop, Result, Ok, Err, IfErr, IfOk, IsErrOf}
 use Rattle.std.specs.Prelude.{IsFalse, IsOk, IsTrue, OnOk}
 use Rattle.std.specs.Borrow.{Bor}
@@ -10,28 +10,28 @@ use Rattle.records.specs.declared.record_error.RecordError.{RecordError}
 use Rattle.records.specs.declared.record_error.RecordError.TheVariants.{Closed, EmptyContent, NoContentType, Refused, SequenceEnded}
 use Rattle.records.specs.declared.record_error.RecordError.TheVariants.{UnexpectedType}
 
--- what opening the record of a number returns: the type and the content of it, or why there is none
+-- opening the record with this number returns its type and its content, or the reason why it does not open
 pub record Opens (key : KeyState) (number : ℕ) (bytes : List ℕ) (answer : Result (ContentType × List ℕ) RecordError) : Type 0 where
   pub accepted : (inner : Inner) → Carries key number bytes inner → IsOk answer
   pub content : IfOk answer (λ read. (padding : ℕ)
       × Carries key number bytes (record { content_type = read.0; content = read.1; padding = padding }))
   pub refused : IfErr answer (RefusesToOpen key number bytes)
 
--- the content, where its length is returned, and it stands in a buffer from `at` on
+-- the content, given its length, in a buffer from `at` on
 abbrev pub content_at : ℕ → List ℕ → Result (ContentType × ℕ) RecordError → Result (ContentType × List ℕ) RecordError
 content_at at buffer (Ok (content_type, len)) = Ok (content_type, take len (drop at buffer))
 content_at at buffer (Err error) = Err error
 
--- the content, where it is lent
+-- the content, as a slice
 abbrev pub lent_content : Result (ContentType × Bor (List ℕ)) RecordError → Result (ContentType × List ℕ) RecordError
 lent_content (Ok (content_type, content)) = Ok (content_type, content.now)
 lent_content (Err error) = Err error
 
--- the buffer with these bytes from `at` on
+-- the buffer, overwritten by these bytes from `at` on
 abbrev pub overwritten : List ℕ → ℕ → List ℕ → List ℕ
 overwritten buffer at bytes = take at buffer ++ bytes ++ drop (at + length bytes) buffer
 
--- what opening a record leaves: its inner plaintext stands in the buffer from `at` on, and every other byte stays
+-- a record is opened: its inner plaintext is in the buffer from `at` on, and every other byte is unchanged
 abbrev pub LeavesInner : ℕ → List ℕ → List ℕ → ContentType × ℕ → Type 0
 LeavesInner at old new (content_type, len) = (padding : ℕ)
     × (new ≡ overwritten old at (inner_plaintext (record {
@@ -40,19 +40,19 @@ LeavesInner at old new (content_type, len) = (padding : ℕ)
       padding = padding;
     })))
 
--- what an authentic record leaves whose inner plaintext is refused: it stands from `at` on all the same
+-- an authentic record whose inner plaintext is rejected: the inner plaintext is in the buffer from `at` on as well
 abbrev pub LeavesMessage : KeyState → ℕ → List ℕ → ℕ → List ℕ → List ℕ → Type 0
 LeavesMessage key number bytes at old new =
     (message : List ℕ) × Seals key number bytes message × (new ≡ overwritten old at message)
 
--- what a refusal leaves in the buffer: every byte as it was, unless the record was authentic
+-- a record is rejected: every byte of the buffer is unchanged, unless the record is authentic
 abbrev pub LeavesRefused : KeyState → ℕ → List ℕ → ℕ → List ℕ → List ℕ → RecordError → Type 0
 LeavesRefused key number bytes at old new NoContentType = LeavesMessage key number bytes at old new
 LeavesRefused key number bytes at old new UnexpectedType = LeavesMessage key number bytes at old new
 LeavesRefused key number bytes at old new EmptyContent = LeavesMessage key number bytes at old new
 LeavesRefused key number bytes at old new error = new ≡ old
 
--- an authentic record was opened: its message, n bytes, stands from `at` on, and every other byte stays
+-- an authentic record is opened: its message, n bytes, is in the buffer from `at` on, and every other byte is unchanged
 pub record OpensMessage (key : KeyState) (number : ℕ) (bytes : List ℕ) (at : ℕ) (old new : List ℕ) (n : ℕ) : Type 0 where
   pub whole : IsWhole key.size_limit bytes
   pub len : n + 21 ≡ length bytes
@@ -65,18 +65,18 @@ RefusesMessage key number bytes Refused =
     IsWhole key.size_limit bytes × ((message : List ℕ) → ¬ Seals key number bytes message)
 RefusesMessage key number bytes error = RefusesBytes key.size_limit bytes error
 
--- a record was written under the next number
+-- a record is written under the next number
 pub record Writes (was now : WriterState) (inner : Inner) (bytes : List ℕ) : Type 0 where
   pub in_limit : was.number < was.limit
   pub carries : Carries was.key was.number bytes inner
   pub counted : now ≡ record was { number = was.number + 1 }
 
--- a reader after an error: closed where the error calls for an alert, and otherwise as it was
+-- a reader after an error: closed if the error calls for an alert, and unchanged otherwise
 abbrev pub after_error : ReaderState → RecordError → ReaderState
 after_error was error = record was { is_closed = was.is_closed || is_some (alert_of error) }
 
--- what reading returns, and where it leaves the reader: a reader that is closed or has no number left reads nothing, and otherwise
--- the record of the next number is opened
+-- One read: a reader that is closed, or has reached its limit, reads nothing. Otherwise it opens the record with the next
+-- number.
 pub record Reads (was now : ReaderState) (bytes : List ℕ) (answer : Result (ContentType × List ℕ) RecordError) : Type 0 where
   pub closed : IsTrue was.is_closed → IsErrOf answer Closed
   pub ended : IsFalse was.is_closed → was.limit ≤ was.number → IsErrOf answer SequenceEnded

@@ -1,4 +1,4 @@
--- What a stream of bytes begins with (RFC 8446 sections 5, 5.1 and 5.2).
+-- The first record of a stream of bytes (RFC 8446 sections 5, 5.1 and 5.2).
 use Rattle.std.specs.Prelude.{◌≡◌, ◌≢◌, ◌⊎◌, ℕ, ◌+◌, ◌^◌, ◌<◌, ◌≤◌, List, [], ◌∷◌, length, take, slice_index}
 use Rattle.records.specs.Record.{IsHeader, body_len, record_start}
 use Rattle.records.specs.Refusals.{RefusesHeader}
@@ -9,8 +9,8 @@ use Rattle.records.specs.declared.stream.Begins.TheVariants.{MoreNeeded, Record}
 use Rattle.records.specs.declared.stream.RecordKind.{RecordKind}
 use Rattle.records.specs.declared.stream.RecordKind.TheVariants.{Alert, ChangeCipherSpec, Handshake, Protected}
 
--- The header is that of a record of this kind. The version in a plaintext record is ignored; a handshake record isn't empty, and an
--- alert record is one alert, of 2 bytes (section 5.1). A ChangeCipherSpec has one header alone (section 5).
+-- The header of a record of this kind. The version of a plaintext record is ignored; a handshake record is not empty, and an
+-- alert record is one alert, of 2 bytes (section 5.1). A ChangeCipherSpec has exactly one header (section 5).
 abbrev pub IsHeaderOf : RecordKind → List ℕ → Type 0
 IsHeaderOf Protected head = IsHeader (2 ^ 14 + 1) head
 IsHeaderOf Handshake head = (slice_index head 0 ≡ 22) × (0 < body_len head) × (body_len head ≤ 2 ^ 14)
@@ -22,21 +22,21 @@ abbrev pub IsBodyOf : RecordKind → List ℕ → Type 0
 IsBodyOf ChangeCipherSpec bytes = slice_index bytes 5 ≡ 1
 IsBodyOf kind bytes = Unit {0}
 
--- what these bytes begin with: a whole record of n bytes, or, of one that isn't whole yet, how many bytes it takes at least
+-- the bytes begin with a whole record of n bytes, or with part of one, which needs at least n bytes
 abbrev pub BeginsWith : List ℕ → Begins → Type 0
 BeginsWith bytes (Record kind n) =
     IsHeaderOf kind (take 5 bytes) × (n ≡ 5 + body_len (take 5 bytes)) × (n ≤ length bytes) × IsBodyOf kind bytes
 BeginsWith bytes (MoreNeeded n) = (length bytes < n) × (length bytes < 5 → n ≡ 5)
     × (5 ≤ length bytes → (kind : RecordKind) × IsHeaderOf kind (take 5 bytes) × (n ≡ 5 + body_len (take 5 bytes)))
 
--- why a header is that of no record that a connection has
+-- why a header is of no record that a connection has
 abbrev pub RefusesStart : List ℕ → RecordError → Type 0
 RefusesStart head UnexpectedRecord = (take 3 head ≢ record_start) × ((slice_index head 0 ≡ 22) → body_len head ≡ 0)
     × ¬ IsHeaderOf Alert head × ¬ IsHeaderOf ChangeCipherSpec head
 RefusesStart head PlaintextTooLong = (slice_index head 0 ≡ 22) × (2 ^ 14 < body_len head)
 RefusesStart head error = RefusesHeader (2 ^ 14 + 1) head error
 
--- why bytes begin with none
+-- why the bytes begin with no record
 abbrev pub RefusesToClassify : List ℕ → RecordError → Type 0
 RefusesToClassify bytes UnexpectedRecord = (5 ≤ length bytes) × (RefusesStart (take 5 bytes) UnexpectedRecord
     ⊎ (IsHeaderOf ChangeCipherSpec (take 5 bytes) × (6 ≤ length bytes) × (slice_index bytes 5 ≢ 1)))

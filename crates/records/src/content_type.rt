@@ -3,22 +3,21 @@
 ghost use Rattle.std.specs.Prelude.{◌≡◌, ◌↔◌, IsTrue, IfSome, IfNone};
 ghost use Rattle.records.specs.Record.{type_code, IsUnknown};
 
-/// The type of what a protected record carries (RFC 8446 section 5.1).
+/// The content type of a protected record (RFC 8446 section 5.1).
 ///
-/// These three are all that a protected record may have: a protected ChangeCipherSpec ends the connection
-/// (section 5).
+/// A protected record has one of these three types. A protected ChangeCipherSpec ends the connection (section 5).
 #[derive(Clone, Copy, Debug, PartialEq, Eq)]
 pub enum ContentType {
     /// An alert, of 2 bytes.
     Alert = 21,
-    /// Handshake messages, or a part of one.
+    /// Handshake messages, or part of one.
     Handshake = 22,
     /// Application data.
     ApplicationData = 23,
 }
 
 impl ContentType {
-    /// The number of this type.
+    /// Returns the value of this content type.
     pub fn code(self) -> u8
         ensures { result ≡ type_code self }
     {
@@ -29,7 +28,7 @@ impl ContentType {
         }
     }
 
-    /// The type with this number.
+    /// Returns the content type with this value, or `None` if there is none.
     pub fn from_code(code: u8) -> Option<Self>
         ensures known { IfSome result (λ content_type. type_code content_type ≡ code) }
         ensures unknown { IfNone result (IsUnknown code) }
@@ -42,8 +41,7 @@ impl ContentType {
         }
     }
 
-    /// Whether a record of this type may have no content: of application data alone (RFC 8446 sections 5.1 and
-    /// 5.4).
+    /// Returns whether a record of this type may have no content. Only application data may (RFC 8446 sections 5.1 and 5.4).
     pub fn may_be_empty(self) -> bool
         ensures { IsTrue result ↔ (self ≡ ContentType.ApplicationData) }
     {

@@ -7,7 +7,7 @@ ghost use Rattle.records.specs.Refusals.{RefusesBytes, RefusesHeader};
 use crate::record_error::RecordError;
 use crate::{HEADER_LEN, TAG_LEN};
 
-/// The longest encrypted record that a header may give, whatever the cipher (RFC 8446 section 5.2).
+/// The longest encrypted record that a header may announce, for any cipher (RFC 8446 section 5.2).
 const MAX_ENCRYPTED_LEN: usize = 16640;
 
 pub(crate) const APPLICATION_DATA: u8 = 23;
@@ -21,7 +21,7 @@ pub(crate) fn header_of(len: usize) -> [u8; HEADER_LEN]
     [APPLICATION_DATA, 3, 3, high, low]
 }
 
-/// The length of the protected record that begins with this header, the header included.
+/// The length of the protected record that begins with this header, including the header.
 pub(crate) fn record_len(size_limit: usize, header: &[u8; HEADER_LEN]) -> Result<usize, RecordError>
     requires { size_limit ≤ 2 ^ 14 + 1 }
     ensures accepted { IsOk result ↔ IsHeader size_limit header.now }
@@ -45,7 +45,7 @@ pub(crate) fn record_len(size_limit: usize, header: &[u8; HEADER_LEN]) -> Result
     Ok(HEADER_LEN + len)
 }
 
-/// The header of these bytes, where they are one whole record.
+/// The header of these bytes, if they are one whole record.
 pub(crate) fn header_in(size_limit: usize, bytes: &[u8]) -> Result<[u8; HEADER_LEN], RecordError>
     requires { size_limit ≤ 2 ^ 14 + 1 }
     ensures accepted { IsOk result ↔ IsWhole size_limit bytes.now }

@@ -31,8 +31,7 @@ pub(crate) fn inner_len(
     Ok(content_len + 1 + padding)
 }
 
-/// Writes a header, the type and the padding around a content where it stands. The last 16 bytes are room for
-/// the tag.
+/// Writes a header, the type and the padding around a content, in place. The last 16 bytes are room for the tag.
 pub(crate) fn frame(bytes: &mut [u8], content_type: ContentType, content_len: usize)
     requires room { content_len + 22 ≤ length bytes.old }
     requires fits { length bytes.old ≤ 2 ^ 15 }
@@ -72,8 +71,8 @@ pub(crate) fn content_of(inner: &[u8]) -> Result<(ContentType, usize), RecordErr
     Ok((content_type, len))
 }
 
-/// The last byte that isn't zero, which is the content type, and where it stands, which is the length of the
-/// content. `None` where all bytes are zero. It looks at every byte, however many are padding.
+/// The last nonzero byte, which is the content type, and its index, which is the length of the content. `None` if all bytes are
+/// zero. It reads every byte, whatever the length of the padding.
 fn last_nonzero(inner: &[u8]) -> Option<(u8, usize)>
     ensures found { IfSome result (λ found. (found.0 ≢ 0) × (found.1 < length inner.now)
         × (padding : ℕ) × (inner.now ≡ plaintext (take found.1 inner.now) found.0 padding)) }

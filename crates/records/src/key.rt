@@ -15,10 +15,9 @@ use crate::{HEADER_LEN, MAX_SIZE_LIMIT, MIN_SIZE_LIMIT, TAG_LEN};
 use aead_ciphers::aead::{Aad, Algorithm, LessSafeKey, NONCE_LEN, UnboundKey, nonce_of};
 use std::marker::Model;
 
-/// A key and IV of one direction, which seals and opens records by their numbers, in place and without memory.
+/// A key and IV of one direction, which seals and opens records by their numbers, in place and without allocating.
 ///
-/// It counts nothing: that no number is used twice for sealing is the caller's matter. A `Writer` and a
-/// `Reader` count.
+/// It keeps no count: not using a number twice for sealing is the caller's responsibility. A `Writer` and a `Reader` count.
 #[derive(Drop)]
 pub struct RecordKey {
     key: LessSafeKey,
@@ -43,7 +42,10 @@ impl Model for RecordKey {
 }
 
 impl RecordKey {
-    /// The key of these bytes. `iv` is the write_iv (RFC 8446 section 7.3). The size limit is 2^14 + 1.
+    /// Creates a key from 16 or 32 bytes, the key length of the algorithm. `iv` is the write_iv (RFC 8446 section 7.3). The
+    /// size limit is 2^14 + 1 bytes.
+    ///
+    /// Fails with `KeyLength` if `key` is not as long.
     pub fn new(
         algorithm: &'static Algorithm,
         key: &[u8],
@@ -63,7 +65,7 @@ impl RecordKey {
         }
     }
 
-    /// The next key of the direction, of the same algorithm and with the same size limit.
+    /// The next key of the direction, with the same algorithm and size limit.
     pub(crate) fn next(&self, key: &[u8], iv: [u8; NONCE_LEN]) -> Result<Self, RecordError>
         ensures accepted { IsOk result ↔ (length key.now ≡ key_len self.now.algorithm) }
         ensures refused { IsOkUnless result RecordError.KeyLength }
@@ -74,16 +76,17 @@ impl RecordKey {
         Ok(next)
     }
 
-    /// How many bytes an inner plaintext may have at most, its content type and padding counted.
+    /// Returns the size limit: the most bytes that an inner plaintext may have, including its content type and padding.
     pub fn size_limit(&self) -> usize
         ensures { result ≡ self.now.size_limit }
     {
         self.size_limit
     }
 
-    /// Sets how many bytes an inner plaintext may have at most: the RecordSizeLimit that the peer has sent for
-    /// a key that seals, and the one that was sent to it for a key that opens (RFC 8449 section 4), from 64 to
-    /// 2^14 + 1.
+    /// Sets the size limit, from 64 to 2^14 + 1 bytes (RFC 8449 section 4).
+    ///
+    /// For a key that seals, this is the RecordSizeLimit that the peer sent; for a key that opens, the one that was sent to the
+    /// peer. Fails with `SizeLimit` for any other limit, and the key is then unchanged.
     pub fn set_size_limit(&mut self, size_limit: usize) -> Result<(), RecordError>
         ensures accepted { IsOk result ↔ ((64 ≤ size_limit) × (size_limit ≤ 2 ^ 14 + 1)) }
         ensures refused { IsOkUnless result RecordError.SizeLimit }
@@ -97,10 +100,14 @@ impl RecordKey {
         Ok(())
     }
 
-    /// Seals the record of a number in place, and returns its length, `content_len` + `padding` + 22.
+    /// Seals the record with this number in place, and returns its length, `content_len + padding + 22` bytes (RFC 8446
+    /// sections 5.2 and 5.4).
     ///
-    /// The content is the `content_len` bytes of `bytes` from byte 5 on. The header is written before it, and
-    /// its type, `padding` zeros and the tag after it; the bytes after those stay. A number may be used once.
+    /// The content is the `content_len` bytes of `bytes` from byte 5 on. The header is written before it, and its type,
+    /// `padding` zeros and the tag after it. The bytes after the tag are unchanged. Each number may be used only once.
+    ///
+    /// Fails with `EmptyContent` for an empty alert or handshake content, with `ContentTooLong` if content, type and padding
+    /// exceed the size limit, and with `NoRoom` if `bytes` is too short for the record. `bytes` is then unchanged.
     pub fn seal_at(
         &self,
         number: u64,
@@ -170,11 +177,11 @@ impl RecordKey {
         };
     }
 
-    /// Opens the record of a number, which is the whole of `bytes`, in place, and returns the type and the
-    /// length of its content: the content then is `bytes[5..5 + length]`.
+    /// Opens the record with this number, which is the whole of `bytes`, in place, and returns the type of its content and its
+    /// length in bytes. The content is then `bytes[5..5 + length]`.
     ///
-    /// Header and tag stay. A refusal changes no byte, unless the record is authentic: after `NoContentType`,
-    /// `UnexpectedType` and `EmptyContent` its inner plaintext stands from byte 5 on.
+    /// Header and tag are unchanged. Unless the record is authentic, a failure leaves every byte unchanged. After
+    /// `NoContentType`, `UnexpectedType` and `EmptyContent`, its inner plaintext begins at byte 5.
     pub fn open_at(
         &self,
         number: u64,
@@ -190,7 +197,7 @@ impl RecordKey {
         self.open_to(number, bytes, HEADER_LEN, 0, end)
     }
 
-    /// Opens the record that is `bytes[at..end]` into the bytes from `filled` on.
+    /// Opens the record `bytes[at..end]` into the bytes from `filled` on.
     pub(crate) fn open_to(
         &self,
         number: u64,

@@ -1,4 +1,4 @@
-//! Laws of the definitions: functions that do nothing, whose contracts state a law for their arguments.
+//! Laws of the definitions: functions that do nothing, each of whose contracts states a law for its arguments.
 
 ghost use Rattle.std.specs.Prelude.{◌≡◌, ℕ, ◌<◌, ◌≤◌, All, AllPairs, List, length, map};
 ghost use Rattle.aead_ciphers.specs.Runs.{Runs};
@@ -8,9 +8,9 @@ ghost use Rattle.records.specs.Runs.{Answer, Event, Follows, ReadStep, WriteStep
 
 use crate::{Reader, Writer};
 
-/// Reading undoes writing, for every list of contents and over key updates: whatever calls of `write`, `seal`
-/// and `update` made of them, and whatever calls of `gather`, `read` and `update` then read those records under
-/// the same keys, each returns its content's type and its content, and the reader stands where the writer does.
+/// Reading restores what was written, for every list of contents and over key updates. Whatever calls of `write`, `seal` and
+/// `update` made records of the contents, and whatever calls of `gather`, `read` and `update` read these records under the same
+/// keys, each read returns its content and its type, and the reader ends in step with the writer.
 #[tactic(auto, using(crate::proofs::RunLemmas::reading_undoes_writing))]
 pub fn reading_undoes_writing(writer: &Writer, reader: &Reader)
     requires { Follows writer.now reader.now }
@@ -21,9 +21,8 @@ pub fn reading_undoes_writing(writer: &Writer, reader: &Reader)
         → (read ≡ map as_asked asked) × Follows written stands }
 {}
 
-/// No pair of a key and a number comes twice: over every run of calls of a writer, the numbers that it seals
-/// under rise under each of its keys, and they are at most as many as its limit (RFC 8446 sections 5.3 and
-/// 5.5).
+/// No pair of key and number is used twice: over every run of calls of a writer, the numbers that it seals under increase under
+/// each of its keys, and are at most as many as its limit (RFC 8446 sections 5.3 and 5.5).
 pub fn no_number_twice_under_a_key(first: &Writer, last: &Writer)
     ensures fresh { (by_key : List (List ℕ)) → WriterRuns first.now last.now by_key
         → All (λ numbers. AllPairs (λ m n. m < n) numbers) by_key }

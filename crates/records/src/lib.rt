@@ -1,8 +1,8 @@
-//! A record layer of TLS 1.3 (RFC 8446 section 5), under given keys and by AES-GCM.
+//! The record layer of TLS 1.3 (RFC 8446 section 5), with AES-GCM and keys that the caller derives.
 //!
-//! A protected record is a header of 5 bytes and the encrypted record: the content, its type and zeros as
-//! padding, sealed under the number of the record with the header as AAD. `docs/RECORDS.md` has the format byte
-//! by byte.
+//! A protected record is a header of 5 bytes and the encrypted record: the content, its type and zeros as padding, sealed under
+//! the number of the record with the header as AAD. `Writer` and `Reader` are the two ends; `docs/RECORDS.md` has the format
+//! byte by byte.
 #![tactic(auto)]
 
 mod content_type;
@@ -23,22 +23,21 @@ pub use record_error::{AlertDescription, RecordError};
 pub use stream::{Begins, RecordKind, classify};
 pub use writer::Writer;
 
-/// The bytes of a header.
+/// The length of a header in bytes.
 pub const HEADER_LEN: usize = 5;
 
-/// The longest content of a record, padding included, in bytes, where no lower size limit is set (RFC 8446
-/// section 5.1).
+/// The longest content of a record in bytes, including its padding, when no lower size limit is set (RFC 8446 section 5.1).
 pub const MAX_CONTENT_LEN: usize = 16384;
 
-/// The lowest size limit (RFC 8449 section 4).
+/// The lowest size limit in bytes (RFC 8449 section 4).
 pub const MIN_SIZE_LIMIT: usize = 64;
 
-/// The highest size limit, which is the one where none is set: a content and its type (RFC 8446 section 5.4).
+/// The highest and the default size limit in bytes: a content and its type (RFC 8446 section 5.4).
 pub const MAX_SIZE_LIMIT: usize = 16385;
 
-/// How many records a writer and a reader allow for under a key, where no other limit is set: fewer than the
-/// 2^24.5 that keep a margin of safety under AES-GCM (RFC 8446 section 5.5).
+/// The default limit on records under one key, for a writer and a reader. It is below the 2^24.5 records that keep a margin of
+/// safety with AES-GCM (RFC 8446 section 5.5).
 pub const DEFAULT_LIMIT: u64 = 1 << 24;
 
-/// The bytes of a tag.
+/// The length of a tag in bytes.
 const TAG_LEN: usize = MAX_TAG_LEN;

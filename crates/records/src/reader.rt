@@ -12,10 +12,10 @@ use crate::record_error::RecordError;
 use aead_ciphers::aead::{Algorithm, NONCE_LEN};
 use std::marker::Model;
 
-/// Reads records, each under the next number, over key updates. It can't be cloned, and lends no key.
+/// Reads records, each under the next number, over key updates.
 ///
-/// An error that calls for an alert ends the connection (RFC 8446 section 6.2): the reader then is closed, and
-/// each later call returns `Closed`.
+/// It cannot be cloned, and does not expose its key. An error that calls for an alert ends the connection (RFC 8446 section
+/// 6.2) and closes the reader: every later call returns `Closed`.
 #[derive(Drop)]
 pub struct Reader {
     key: RecordKey,
@@ -38,8 +38,10 @@ impl Model for Reader {
 }
 
 impl Reader {
-    /// Before record 0, for at most 2^24 records under each key (RFC 8446 section 5.5). `iv` is the write_iv
-    /// (section 7.3).
+    /// Creates a reader whose next record is record 0, with a limit of 2^24 records under each key (RFC 8446 section 5.5).
+    /// `key` has 16 or 32 bytes, and `iv` is the write_iv (section 7.3).
+    ///
+    /// Fails with `KeyLength` if `key` is not as long as the algorithm's keys.
     pub fn new(
         algorithm: &'static Algorithm,
         key: &[u8],
@@ -57,7 +59,7 @@ impl Reader {
         Self::with_limit(algorithm, key, iv, DEFAULT_LIMIT)
     }
 
-    /// The same for at most `limit` records under each key, where the caller knows better.
+    /// Creates a reader like `new`, with a limit of `limit` records under each key.
     pub fn with_limit(
         algorithm: &'static Algorithm,
         key: &[u8],
@@ -81,8 +83,8 @@ impl Reader {
         })
     }
 
-    /// The same with this number as that of the next record, for a reader that takes over from another one. The
-    /// records before it count towards the limit.
+    /// Sets the number of the next record, for a reader that takes over from another one. The records before it count towards
+    /// the limit.
     pub fn starting_at(mut self, number: u64) -> Self
         ensures { result ≡ record self { number = number } }
     {
@@ -90,36 +92,38 @@ impl Reader {
         self
     }
 
-    /// The number of the next record.
+    /// Returns the number of the next record.
     pub fn number(&self) -> u64
         ensures { result ≡ self.now.number }
     {
         self.number
     }
 
-    /// How many more records may be read under this key.
+    /// Returns how many more records may be read under this key.
     pub fn remaining(&self) -> u64
         ensures { result ≡ self.now.limit - self.now.number }
     {
         self.limit.saturating_sub(self.number)
     }
 
-    /// Whether it has refused a record.
+    /// Returns whether the reader is closed, because it rejected a record.
     pub fn is_closed(&self) -> bool
         ensures { result ≡ self.now.is_closed }
     {
         self.is_closed
     }
 
-    /// How many bytes an inner plaintext may have at most, its content type and padding counted.
+    /// Returns the size limit: the most bytes that an inner plaintext may have, including its content type and padding.
     pub fn size_limit(&self) -> usize
         ensures { result ≡ self.now.key.size_limit }
     {
         self.key.size_limit()
     }
 
-    /// Sets the RecordSizeLimit that was sent to the peer, from 64 to 2^14 + 1 (RFC 8449 section 4). The limit
+    /// Sets the size limit, from 64 to 2^14 + 1 bytes: the RecordSizeLimit that was sent to the peer (RFC 8449 section 4). It
     /// stays over key updates.
+    ///
+    /// Fails with `SizeLimit` for any other limit, and with `Closed` if the reader is closed. The reader is then unchanged.
     pub fn set_size_limit(&mut self, size_limit: usize) -> Result<(), RecordError>
         ensures accepted { IsOk result
             ↔ (IsFalse self.old.is_closed × (64 ≤ size_limit) × (size_limit ≤ 2 ^ 14 + 1)) }
@@ -135,8 +139,10 @@ impl Reader {
         self.key.set_size_limit(size_limit)
     }
 
-    /// Goes on under the next key and IV of this direction, once a KeyUpdate was read, or the last record of the
-    /// handshake: number and limit begin anew (RFC 8446 sections 5.3 and 7.2).
+    /// Continues with the next key and IV of this direction, after a KeyUpdate or the last record of the handshake was read.
+    /// The number and the count of records start again at 0 (RFC 8446 sections 5.3 and 7.2).
+    ///
+    /// Fails with `KeyLength` if `key` is not as long as the algorithm's keys, and with `Closed` if the reader is closed.
     pub fn update(&mut self, key: &[u8], iv: [u8; NONCE_LEN]) -> Result<(), RecordError>
         ensures accepted { IsOk result
             ↔ (IsFalse self.old.is_closed × (length key.now ≡ key_len self.old.key.algorithm)) }
@@ -154,13 +160,15 @@ impl Reader {
         Ok(())
     }
 
-    /// Opens the next record, which is `bytes[at..end]`, into the bytes from `filled` on, and returns the type
-    /// and the length of its content: the content then is `bytes[filled..filled + length]`. So the contents of
-    /// all records in a buffer can be gathered at its front, with `filled` the sum of their lengths so far.
+    /// Opens the next record, which is `bytes[at..end]`, into the bytes from `filled` on, and returns the type of its content
+    /// and its length in bytes. The content is then `bytes[filled..filled + length]`.
     ///
-    /// Every byte before `filled` and from `end` on stays. A refusal changes no byte, unless the record is
-    /// authentic: after `NoContentType`, `UnexpectedType` and `EmptyContent` its inner plaintext stands from
-    /// `filled` on. It spends no number, and closes the reader where the error has an alert.
+    /// With `filled` as the sum of the lengths so far, this gathers the contents of all records in a buffer at its front. The
+    /// bytes before `filled` and from `end` on are unchanged.
+    ///
+    /// A failure does not use up the number, and closes the reader if the error has an alert. Unless the record is authentic,
+    /// it leaves every byte unchanged. After `NoContentType`, `UnexpectedType` and `EmptyContent`, its inner plaintext begins
+    /// at `filled`.
     pub fn gather(
         &mut self,
         bytes: &mut [u8],
@@ -196,9 +204,10 @@ impl Reader {
         }
     }
 
-    /// Opens the next record, which is the whole of `bytes`, and lends its content, which then stands at the
-    /// front of `bytes`, with its type. It is `gather` of one record, whose clauses say what the buffer then
-    /// holds.
+    /// Opens the next record, which is the whole of `bytes`, and returns its type and its content, which is then at the front
+    /// of `bytes`.
+    ///
+    /// It is `gather` for one record. The clauses of `gather` say what the buffer then holds.
     pub fn read<'a>(&mut self, bytes: &'a mut [u8]) -> Result<(ContentType, &'a [u8]), RecordError>
         ensures reads { Reads self.old self.new bytes.old (lent_content result) }
         ensures closed { IsTrue self.old.is_closed → IsErrOf result RecordError.Closed }

@@ -1,4 +1,4 @@
-//! Why a call refuses.
+//! The error of sealing and opening records.
 
 ghost use Rattle.std.specs.Prelude.{◌≡◌};
 ghost use Rattle.records.specs.Refusals.{alert_of};
@@ -6,80 +6,78 @@ ghost use Rattle.records.specs.Refusals.{alert_of};
 use std::alloc::AllocError;
 use thiserror::Error;
 
-/// The alert that an endpoint sends before it closes the connection (RFC 8446 section 6). `as u8` gives its number.
+/// An alert that an endpoint sends before it closes the connection (RFC 8446 section 6). `as u8` gives its value.
 #[derive(Clone, Copy, Debug, PartialEq, Eq)]
 pub enum AlertDescription {
-    /// unexpected_message
+    /// `unexpected_message`
     UnexpectedMessage = 10,
-    /// bad_record_mac
+    /// `bad_record_mac`
     BadRecordMac = 20,
-    /// record_overflow
+    /// `record_overflow`
     RecordOverflow = 22,
 }
 
-/// Why a call refuses.
+/// The error of sealing, opening or classifying a record.
 #[derive(Clone, Copy, Debug, PartialEq, Eq, Drop, Error)]
 pub enum RecordError {
-    /// The algorithm's keys have another length.
+    /// The key is not as long as the algorithm's keys.
     #[error("the key hasn't the length of the algorithm's keys")]
     KeyLength,
-    /// The size limit isn't from 64 to 2^14 + 1 (RFC 8449 section 4).
+    /// The size limit is not from 64 to 2^14 + 1 bytes (RFC 8449 section 4).
     #[error("the size limit isn't from 64 to 2^14 + 1")]
     SizeLimit,
-    /// The content, its type and its padding have more bytes than the size limit allows for (RFC 8446 section
-    /// 5.4, RFC 8449 section 4).
+    /// The content, its type and its padding exceed the size limit (RFC 8446 section 5.4, RFC 8449 section 4).
     #[error("the content and its padding are longer than the size limit allows for")]
     ContentTooLong,
     /// The buffer has no room for the record: its content and padding, and 22 bytes more.
     #[error("the buffer has no room for the record")]
     NoRoom,
-    /// There is no memory for the record.
+    /// Allocating memory for the record failed.
     #[error("no memory for the record")]
     OutOfMemory,
-    /// There have been as many records under this key as its limit allows for (RFC 8446 section 5.5).
+    /// The limit on records under this key is reached (RFC 8446 section 5.5).
     #[error("the limit of records under this key is reached")]
     SequenceEnded,
-    /// The reader has refused a record before, which ends the connection.
+    /// The reader has rejected a record before, which ended the connection.
     #[error("the reader is closed, since it has refused a record")]
     Closed,
-    /// The bytes are no whole record: its header is cut off, or gives another length.
+    /// The bytes are not one whole record: the header is cut off, or announces another length.
     #[error("the record's length isn't the one that its header gives")]
     WrongLength,
-    /// The header is that of no record that may come here: a reader takes application data under version 0x0303
-    /// alone (RFC 8446 section 5.2), and a connection has no others than `RecordKind` names.
+    /// The header is of no record that is allowed here: a reader only takes application data of version 0x0303 (RFC 8446
+    /// section 5.2), and a connection only has the records of `RecordKind`.
     #[error("the header is that of another record")]
     UnexpectedRecord,
-    /// The header gives a plaintext record more than 2^14 bytes (RFC 8446 section 5.1).
+    /// The header announces a plaintext record of more than 2^14 bytes (RFC 8446 section 5.1).
     #[error("the plaintext record has more than 2^14 bytes")]
     PlaintextTooLong,
-    /// The header gives more than 2^14 + 256 bytes (RFC 8446 section 5.2).
+    /// The header announces more than 2^14 + 256 bytes (RFC 8446 section 5.2).
     #[error("the encrypted record has more than 2^14 + 256 bytes")]
     EncryptedRecordTooLong,
-    /// The header gives at most 2^14 + 256 bytes, but more than an inner plaintext within the size limit (RFC 8446
-    /// section 5.4, RFC 8449 section 4) and its tag have.
+    /// The header announces at most 2^14 + 256 bytes, but more than an inner plaintext within the size limit and its tag (RFC
+    /// 8446 section 5.4, RFC 8449 section 4).
     #[error("the inner plaintext is longer than the size limit")]
     InnerPlaintextTooLong,
-    /// The header gives fewer than the 17 bytes of a content type and a tag.
+    /// The header announces fewer than the 17 bytes of a content type and a tag.
     #[error("the encrypted record has fewer than 17 bytes")]
     EncryptedRecordTooShort,
-    /// The tag is another: the record was changed, or is another key's, or has another number.
+    /// The tag is wrong: the record was changed, or is of another key or number.
     #[error("the record's tag is another")]
     Refused,
-    /// The tag is right, and the inner plaintext is zeros alone (RFC 8446 section 5.4).
+    /// The record is authentic, but its inner plaintext is all zeros (RFC 8446 section 5.4).
     #[error("the inner plaintext has no content type")]
     NoContentType,
-    /// The tag is right, and the content type is none that a protected record may have (RFC 8446 section 5).
+    /// The record is authentic, but a protected record cannot have its content type (RFC 8446 section 5).
     #[error("a protected record has no such content type")]
     UnexpectedType,
-    /// An alert or a handshake message of no bytes, to be written or, under a right tag, read (RFC 8446 section
-    /// 5.4).
+    /// An alert or a handshake content is empty, when writing it or, in an authentic record, reading it (RFC 8446 section 5.4).
     #[error("an alert or handshake record has no content")]
     EmptyContent,
 }
 
 impl RecordError {
-    /// The alert with which a record that was read or classified ends the connection, which such a refusal does
-    /// (RFC 8446 sections 5.1, 5.2, 5.4 and 6.2). `None` where the record isn't at fault.
+    /// Returns the alert that ends the connection when reading or classifying a record fails with this error, or `None` if the
+    /// record is not the cause (RFC 8446 sections 5.1, 5.2, 5.4 and 6.2).
     pub fn alert(self) -> Option<AlertDescription>
         ensures { result ≡ alert_of self }
     {

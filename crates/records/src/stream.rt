@@ -1,4 +1,4 @@
-//! What a stream of bytes begins with.
+//! The first record of a stream of bytes.
 
 ghost use Rattle.std.specs.Prelude.{◌≡◌, ◌+◌, ◌≤◌, IfOk, IfErr};
 ghost use Rattle.records.specs.Record.{body_len};
@@ -8,35 +8,34 @@ use crate::header::{APPLICATION_DATA, record_len};
 use crate::record_error::RecordError;
 use crate::{HEADER_LEN, MAX_CONTENT_LEN, MAX_SIZE_LIMIT};
 
-/// A record of a connection, by its header.
+/// The kind of a record, by its header.
 #[derive(Clone, Copy, Debug, PartialEq, Eq)]
 pub enum RecordKind {
     /// A protected record (RFC 8446 section 5.2), for a `Reader`.
     Protected,
     /// Handshake messages in plaintext (RFC 8446 section 5.1): a ClientHello, a ServerHello or a HelloRetryRequest.
     Handshake,
-    /// An alert in plaintext (RFC 8446 section 5.1): a peer sends one where it has no keys yet.
+    /// An alert in plaintext (RFC 8446 section 5.1). A peer without keys sends one.
     Alert,
-    /// `14 03 03 00 01 01`, which is dropped between the first ClientHello and the peer's Finished, and ends the
-    /// connection at any other time (RFC 8446 section 5).
+    /// `14 03 03 00 01 01`. It is dropped between the first ClientHello and the peer's Finished, and ends the connection at any
+    /// other time (RFC 8446 section 5).
     ChangeCipherSpec,
 }
 
-/// What the bytes of a stream begin with.
+/// What a stream of bytes begins with.
 #[derive(Clone, Copy, Debug, PartialEq, Eq)]
 pub enum Begins {
-    /// A whole record, and how many bytes it takes, its header included.
+    /// A whole record, and its length in bytes, including its header.
     Record(RecordKind, usize),
-    /// No whole record yet: so many bytes have to come in all before more can be said.
+    /// Less than a whole record: at least this many bytes are needed in all.
     MoreNeeded(usize),
 }
 
-/// Says what a stream begins with, from the bytes that have come so far: its first record, once all of it is there.
+/// Returns what a stream begins with, given the bytes that were received so far.
 ///
-/// Refused, with the alert that ends the connection, where they begin with no record that a connection of TLS
-/// 1.3 has, as soon as the header is there. The version in a plaintext record is ignored (RFC 8446 section
-/// 5.1). Whether a record may come now is the caller's to say; in particular only the caller knows when a
-/// ChangeCipherSpec is dropped.
+/// If the bytes begin with no record that a connection of TLS 1.3 can have, this fails with an error that has an alert, as soon
+/// as the header is complete. The version of a plaintext record is ignored (RFC 8446 section 5.1). Whether a record is allowed
+/// at this point is the caller's responsibility, and so is dropping a ChangeCipherSpec.
 pub fn classify(bytes: &[u8]) -> Result<Begins, RecordError>
     ensures begins { IfOk result (BeginsWith bytes.now) }
     ensures refused { IfErr result (RefusesToClassify bytes.now) }
@@ -56,7 +55,7 @@ pub fn classify(bytes: &[u8]) -> Result<Begins, RecordError>
     Ok(Begins::Record(kind, len))
 }
 
-/// The kind of the record that begins with this header, and its length, the header included.
+/// The kind of the record that begins with this header, and its length, including the header.
 fn kind_of(header: &[u8; HEADER_LEN]) -> Result<(RecordKind, usize), RecordError>
     ensures kind { IfOk result (λ kind. IsHeaderOf kind.0 header.now) }
     ensures len { IfOk result (λ kind. kind.1 ≡ 5 + body_len header.now) }

@@ -14,7 +14,7 @@ use aead_ciphers::aead::{Algorithm, NONCE_LEN};
 use std::alloc::AllocError;
 use std::marker::Model;
 
-/// Writes records, each under the next number, over key updates. It can't be cloned, and lends no key.
+/// Writes records, each under the next number, over key updates. It cannot be cloned, and does not expose its key.
 #[derive(Drop)]
 pub struct Writer {
     key: RecordKey,
@@ -31,8 +31,10 @@ impl Model for Writer {
 }
 
 impl Writer {
-    /// Before record 0, for at most 2^24 records under each key (RFC 8446 section 5.5). `iv` is the write_iv
-    /// (section 7.3).
+    /// Creates a writer whose next record is record 0, with a limit of 2^24 records under each key (RFC 8446 section 5.5).
+    /// `key` has 16 or 32 bytes, and `iv` is the write_iv (section 7.3).
+    ///
+    /// Fails with `KeyLength` if `key` is not as long as the algorithm's keys.
     pub fn new(
         algorithm: &'static Algorithm,
         key: &[u8],
@@ -49,8 +51,8 @@ impl Writer {
         Self::with_limit(algorithm, key, iv, DEFAULT_LIMIT)
     }
 
-    /// The same for at most `limit` records under each key, where the caller knows better: none beyond 2^24.5
-    /// keep the margin of RFC 8446 section 5.5.
+    /// Creates a writer like `new`, with a limit of `limit` records under each key. More than 2^24.5 exceed the margin of RFC
+    /// 8446 section 5.5.
     pub fn with_limit(
         algorithm: &'static Algorithm,
         key: &[u8],
@@ -72,29 +74,31 @@ impl Writer {
         })
     }
 
-    /// The number of the next record: so many were written under this key.
+    /// Returns the number of the next record, which is the number of records written under this key.
     pub fn number(&self) -> u64
         ensures { result ≡ self.now.number }
     {
         self.number
     }
 
-    /// How many more records may be written under this key.
+    /// Returns how many more records may be written under this key.
     pub fn remaining(&self) -> u64
         ensures { result ≡ self.now.limit - self.now.number }
     {
         self.limit.saturating_sub(self.number)
     }
 
-    /// How many bytes an inner plaintext may have at most, its content type and padding counted.
+    /// Returns the size limit: the most bytes that an inner plaintext may have, including its content type and padding.
     pub fn size_limit(&self) -> usize
         ensures { result ≡ self.now.key.size_limit }
     {
         self.key.size_limit()
     }
 
-    /// Sets the RecordSizeLimit that the peer has sent, from 64 to 2^14 + 1 (RFC 8449 section 4). A content
-    /// that is longer is refused, and not split. The limit stays over key updates.
+    /// Sets the size limit, from 64 to 2^14 + 1 bytes: the RecordSizeLimit that the peer sent (RFC 8449 section 4). A longer
+    /// content is rejected, not split. The limit stays over key updates.
+    ///
+    /// Fails with `SizeLimit` for any other limit, and the writer is then unchanged.
     pub fn set_size_limit(&mut self, size_limit: usize) -> Result<(), RecordError>
         ensures accepted { IsOk result ↔ ((64 ≤ size_limit) × (size_limit ≤ 2 ^ 14 + 1)) }
         ensures refused { IsOkUnless result RecordError.SizeLimit }
@@ -105,8 +109,10 @@ impl Writer {
         self.key.set_size_limit(size_limit)
     }
 
-    /// Goes on under the next key and IV of this direction, once a KeyUpdate was written, or the last record of the
-    /// handshake: number and limit begin anew (RFC 8446 sections 5.3 and 7.2).
+    /// Continues with the next key and IV of this direction, after a KeyUpdate or the last record of the handshake was written.
+    /// The number and the count of records start again at 0 (RFC 8446 sections 5.3 and 7.2).
+    ///
+    /// Fails with `KeyLength` if `key` is not as long as the algorithm's keys. The writer is then unchanged.
     pub fn update(&mut self, key: &[u8], iv: [u8; NONCE_LEN]) -> Result<(), RecordError>
         ensures accepted { IsOk result ↔ (length key.now ≡ key_len self.old.key.algorithm) }
         ensures refused { IsOkUnless result RecordError.KeyLength }
@@ -119,8 +125,9 @@ impl Writer {
         Ok(())
     }
 
-    /// Seals the next record in place, as `RecordKey::seal_at` does, and returns its length. A refusal changes
-    /// nothing, and spends no number.
+    /// Seals the next record in place, as `RecordKey::seal_at` does, and returns its length in bytes.
+    ///
+    /// A failure changes nothing and does not use up the number.
     pub fn seal(
         &mut self,
         content_type: ContentType,
@@ -156,11 +163,11 @@ impl Writer {
         Ok(len)
     }
 
-    /// Appends the next record to `out`: the content, its type and `padding` zeros, which only the length of
-    /// the record shows. The record is 22 bytes longer than content and padding.
+    /// Appends the next record to `out`: the content, its type and `padding` zeros, sealed. The record is 22 bytes longer than
+    /// content and padding, and only its length reveals the padding.
     ///
-    /// A refused write appends nothing and spends no number. It fails with `OutOfMemory` only where the
-    /// capacity of `out` is too small for the record.
+    /// A failure appends nothing and does not use up the number. Fails with `OutOfMemory` only if the capacity of `out` is too
+    /// small for the record.
     pub fn write(
         &mut self,
         content_type: ContentType,
@@ -202,7 +209,7 @@ impl Writer {
     }
 }
 
-/// Appends a content with room for its record around it, or nothing where the `Vec` can't grow.
+/// Appends a content with room for its record around it, or nothing if the `Vec` cannot grow.
 fn append_unsealed(out: &mut Vec<u8>, content: &[u8], padding: usize) -> Result<(), AllocError>
     requires { length content.now + padding ≤ 2 ^ 14 }
     ensures ok { OnOk result (out.new.items
