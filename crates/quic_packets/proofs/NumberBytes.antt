@@ -63,11 +63,6 @@ shifted xs (suc (suc zero)) a b c d long some few sb sc sd ea eb ec ed =
 shifted xs (suc (suc (suc zero))) a b c d long some few sb sc sd ea eb ec ed =
     omega (arith, number_more 256 xs 0 (omega arith), number_more 256 xs 1 (omega arith), number_more 256 xs 2 (omega arith))
 shifted xs (suc (suc (suc (suc zero)))) a b c d long some few sb sc sd ea eb ec ed =
-    omega (
-      arith,
-      number_more 256 xs 0 (omega arith),
-      number_more 256 xs 1 (omega arith),
-      number_more 256 xs 2 (omega arith),
-      number_more 256 xs 3 (omega arith),
-    )
+    omega
+    (arith, number_more 256 xs 0 (omega arith), number_more 256 xs 1 (omega arith), number_more 256 xs 2 (omega arith), number_more 256 xs 3 (omega arith))
 shifted xs (suc (suc (suc (suc (suc n))))) a b c d long some few sb sc sd ea eb ec ed = absurd (omega arith)

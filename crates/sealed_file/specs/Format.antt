@@ -1,4 +1,4 @@
--- Sealed files, as docs/SEALED_FILE.md has them.
+-- Sealed files, as docs/SEALED_FILE.md defines them.
 use Rattle.std.specs.Prelude.{ℕ, Bool, ◌+◌, ◌-◌, ◌*◌, ◌/◌, List, [], ◌∷◌, ◌++◌, length, take, drop, codes, ◌==◌, if◌then◌else◌}
 use Rattle.std.specs.List.{concat}
 use Rattle.std.specs.Int.{to_be_bytes, w32}
@@ -8,7 +8,7 @@ use Rattle.aead_ciphers.specs.Gcm.{gcm_sealed}
 use Rattle.sealed_file.specs.declared.chunk.TheConstants.{CHUNK_LEN}
 use Rattle.sealed_file.specs.Derivation.{commitment, derived_key}
 
--- the bytes of a chunk that isn't the last, and of one that is sealed
+-- the length of a chunk that is not the last, and of one that is sealed
 abbrev pub chunk_len : ℕ
 chunk_len = CHUNK_LEN
 
@@ -23,8 +23,8 @@ piece size bytes i = take size (drop (size * i) bytes)
 abbrev pub last_piece : ℕ → ℕ → ℕ
 last_piece size n = (n - 1) / size
 
--- what the chunks of a file are sealed under: a key of AES-256-GCM, the prefix of the nonces, and the file's header, which
--- is the AAD of each
+-- the key of a file's chunks: an AES-256-GCM key, the prefix of the nonces, and the file's header, which is the AAD of every
+-- chunk
 pub record ChunkKey : Type 0 where
   pub key : List ℕ
   pub prefix : List ℕ
@@ -38,8 +38,8 @@ magic_and_version version = codes "SEALFILE" ++ version ∷ []
 unfoldable pub version_1 : (key prefix : List ℕ) → ChunkKey
 version_1 key prefix = record { key = key; prefix = prefix; header = magic_and_version 1 ++ prefix }
 
--- version 2, of 19 random bytes: the key that is derived for the first 12 as a context, the other 7 as the prefix, and a
--- header with the random bytes and the commitment to the user's key
+-- version 2, with 19 random bytes: the key derived for the first 12 as the context, the other 7 as the prefix, and a header
+-- with the random bytes and the commitment to the user's key
 unfoldable pub version_2 : (key random : List ℕ) → ChunkKey
 version_2 key random = let context = take 12 random in record {
   key = derived_key key context;
@@ -47,7 +47,8 @@ version_2 key random = let context = take 12 random in record {
   header = magic_and_version 2 ++ (random ++ commitment key context);
 }
 
--- the nonce of a chunk: the prefix, the chunk's number in four big-endian bytes, and 1 for the last chunk or 0
+-- the nonce of a chunk: the prefix, the chunk's number in four big-endian bytes, and a byte that is 1 for the last chunk and 0
+-- otherwise
 unfoldable pub chunk_nonce : List ℕ → ℕ → Bool → List ℕ
 chunk_nonce prefix number is_last = prefix ++ to_be_bytes w32 number ++ (if is_last then 1 else 0) ∷ []
 

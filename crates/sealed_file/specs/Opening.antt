@@ -1,4 +1,4 @@
--- What opening a sealed file accepts, and what it gives.
+-- The sealed files that opening accepts, and the files that they open to.
 use Rattle.std.specs.Prelude.{◌≡◌, ℕ, Bool, ◌+◌, ◌-◌, ◌*◌, ◌^◌, ◌<◌, ◌≤◌, List, length, take, drop, slice_index, ◌==◌, if◌then◌else◌}
 use Rattle.std.specs.List.{concat}
 use Rattle.aead_ciphers_base.specs.Bytes.{each_below}
@@ -6,15 +6,15 @@ use Rattle.aead_ciphers_base.specs.Aes.{aes}
 use Rattle.aead_ciphers.specs.Gcm.{gcm_decrypted, gcm_tag}
 use Rattle.sealed_file.specs.Format.{ChunkKey, chunk_len, chunk_nonce, last_piece, piece, sealed_chunk_len, sealed_chunk_of, version_1, version_2}
 
--- what stands in front of the last 16 bytes, the tag
+-- the bytes before the last 16, which are the tag
 abbrev pub ciphertext_of : List ℕ → List ℕ
 ciphertext_of sealed = take (length sealed - 16) sealed
 
--- the tag that is defined for the ciphertext of the chunk of this number that is the last, or isn't
+-- the tag defined for the ciphertext of the chunk with this number that is the last, or is not
 abbrev pub chunk_tag : (k : ChunkKey) (number : ℕ) (is_last : Bool) (ciphertext : List ℕ) → List ℕ
 chunk_tag k number is_last ciphertext = gcm_tag (aes k.key) (chunk_nonce k.prefix number is_last) k.header ciphertext
 
--- the bytes end in the tag that is defined for the chunk of this number that is the last, or isn't
+-- the bytes end with the tag defined for the chunk with this number that is the last, or is not
 pub record HasTag (k : ChunkKey) (number : ℕ) (is_last : Bool) (sealed : List ℕ) : Type 0 where
   pub size : 16 ≤ length sealed
   pub tag : drop (length sealed - 16) sealed ≡ chunk_tag k number is_last (ciphertext_of sealed)
@@ -24,30 +24,30 @@ unfoldable pub opened_chunk : (k : ChunkKey) (number : ℕ) (is_last : Bool) (se
 opened_chunk k number is_last sealed =
     gcm_decrypted (aes k.key) (chunk_nonce k.prefix number is_last) (ciphertext_of sealed)
 
--- the bytes of a header: 60 where byte 8, the version, is 2, and else 16
+-- the length of a header: 60 if byte 8, the version, is 2, and 16 otherwise
 unfoldable pub header_len : List ℕ → ℕ
 header_len file = if slice_index file 8 == 2 then 60 else 16
 
--- a file's header, as far as the file goes
+-- a file's header, or the part of it that the file has
 abbrev pub header_of : List ℕ → List ℕ
 header_of file = take (header_len file) file
 
--- what comes after the header
+-- the bytes after the header
 abbrev pub body_of : List ℕ → List ℕ
 body_of file = drop (header_len file) file
 
--- what the chunks after a header were sealed under, by the bytes after the magic and the version
+-- the key of the chunks after a header, given the bytes after its magic and version
 unfoldable pub chunk_key : (key header : List ℕ) → ChunkKey
 chunk_key key header =
     let bytes = drop 9 header in
     if slice_index header 8 == 2 then version_2 key (take 19 bytes) else version_1 key (take 7 bytes)
 
--- the bytes are a header under this key: the one that is defined for the random bytes in it
+-- the bytes are a header under this key: the one defined for its random bytes
 pub record HasHeader (key header : List ℕ) : Type 0 where
   pub size : 16 ≤ length header
   pub right : header ≡ (chunk_key key header).header
 
--- what the chunks of a file were sealed under
+-- the key of the chunks of a file
 abbrev pub key_of : (key file : List ℕ) → ChunkKey
 key_of key file = chunk_key key (header_of file)
 
@@ -67,7 +67,7 @@ HasRightTag key file i = HasTag (key_of key file) i (i == last_chunk file) (chun
 pub record AreRight (key file : List ℕ) (n : ℕ) : Type 0 where
   pub each : (i : ℕ) → i < n → HasRightTag key file i
 
--- the header is right, and every chunk has the tag that is defined for the header, its number and whether it is the last
+-- the header is right, and every chunk has the tag defined for the header, its number and whether it is the last
 pub record IsSealed (key file : List ℕ) : Type 0 where
   pub front : HasHeader key (header_of file)
   pub few : last_chunk file < 2 ^ 32 - 1
@@ -82,20 +82,20 @@ opened_chunks key file n =
 abbrev pub opened_file : (key file : List ℕ) → List ℕ
 opened_file key file = opened_chunks key file (last_chunk file + 1)
 
--- the length of a sealed file of version 2: a header, and then fewer than 2^32 chunks that each hold a tag
+-- the length of a sealed file of version 2: a header, and fewer than 2^32 chunks that each hold a tag
 pub record IsSealedLen (n : ℕ) : Type 0 where
   pub header : 60 ≤ n
   pub tag : sealed_chunk_len * last_piece sealed_chunk_len (n - 60) + 16 ≤ n - 60
   pub few : last_piece sealed_chunk_len (n - 60) < 2 ^ 32 - 1
 
--- sealing a file made these bytes as chunk i, the last or not
+-- sealing the file made these bytes as chunk i, the last or not
 pub record IsMade (k : ChunkKey) (file : List ℕ) (i : ℕ) (is_last : Bool) (sealed : List ℕ) : Type 0 where
   pub in_range : i ≤ last_piece chunk_len (length file)
   pub kind : is_last ≡ (i == last_piece chunk_len (length file))
   pub same : sealed ≡ sealed_chunk_of k file i
 
--- chunk i of another file has the tag that is defined for its number and whether it is the last, and sealing the file made
--- other bytes there or none
+-- chunk i of another file has the tag defined for its number and for whether it is the last, but sealing the file made another
+-- chunk there or none
 pub record IsForged (k : ChunkKey) (file other : List ℕ) (i : ℕ) : Type 0 where
   pub in_range : i ≤ last_chunk other
   pub tag : HasTag k i (i == last_chunk other) (chunk_of other i)

@@ -1,4 +1,4 @@
--- When each error comes.
+-- The reason for each error.
 use Rattle.std.specs.Prelude.{◌≡◌, ◌≢◌, ℕ, Bool, true, false, ◌-◌, ◌^◌, ◌<◌, ◌≤◌, ◌⊎◌, ⊤, List, length, take, drop, codes, slice_index, ◌==◌}
 use Rattle.sealed_file.specs.declared.error.FileError.{FileError}
 use Rattle.sealed_file.specs.declared.error.FileError.TheVariants.{AnotherMagic, AnotherVersion, WrongKey, EndsEarly, TrailingBytes, Refused, TooLong, OutOfMemory, Io}
@@ -6,7 +6,7 @@ use Rattle.sealed_file.specs.Derivation.{commitment}
 use Rattle.sealed_file.specs.Format.{ChunkKey, chunk_len, last_piece, magic_and_version}
 use Rattle.sealed_file.specs.Opening.{HasTag, HasHeader, AreRight, chunk_of, header_of, key_of, last_chunk}
 
--- why a file isn't sealed
+-- why a file is not sealed
 abbrev pub SealRefuses : List ℕ → FileError → Type 0
 SealRefuses file TooLong = 2 ^ 32 - 1 ≤ last_piece chunk_len (length file)
 SealRefuses file (Io error) = ⊤
@@ -16,13 +16,13 @@ SealRefuses file error = ⊥
 pub record IsVersion2 (header : List ℕ) : Type 0 where
   pub front : take 9 header ≡ magic_and_version 2
 
--- a header of version 2 that is whole, but whose commitment isn't that of this key to the random bytes in it
+-- a whole header of version 2 whose commitment is not that of this key for its random bytes
 pub record IsOfAnotherKey (key header : List ℕ) : Type 0 where
   pub version : IsVersion2 header
   pub size : length header ≡ 60
   pub other : drop 28 header ≢ commitment key (take 12 (drop 9 header))
 
--- why the bytes aren't a header under this key
+-- why the bytes are not a header under this key
 abbrev pub HeaderRefuses : (key header : List ℕ) → FileError → Type 0
 HeaderRefuses key header EndsEarly = (length header < 16) ⊎ (IsVersion2 header × (length header < 60))
 HeaderRefuses key header AnotherMagic = (16 ≤ length header) × (take 8 header ≢ codes "SEALFILE")
@@ -31,8 +31,8 @@ HeaderRefuses key header (AnotherVersion version) = (16 ≤ length header) × (t
 HeaderRefuses key header WrongKey = IsOfAnotherKey key header
 HeaderRefuses key header error = ⊥
 
--- why a sealed chunk isn't opened: a tag that is right for the other kind of chunk tells a file that was cut after the
--- chunk, or that goes on after it
+-- why a sealed chunk does not open: the tag of the other kind of chunk shows that the file was cut after the chunk, or goes on
+-- after it
 abbrev pub ChunkRefuses : (k : ChunkKey) (number : ℕ) (is_last : Bool) (sealed : List ℕ) → FileError → Type 0
 ChunkRefuses k number is_last sealed EndsEarly =
     (length sealed < 16) ⊎ ((is_last ≡ true) × HasTag k number false sealed)
@@ -41,7 +41,7 @@ ChunkRefuses k number is_last sealed (Refused at) =
     (at ≡ number) × (16 ≤ length sealed) × ¬ HasTag k number true sealed × ¬ HasTag k number false sealed
 ChunkRefuses k number is_last sealed error = ⊥
 
--- the header is right and the first n chunks are, and the next isn't
+-- the header and the first n chunks are right, and the next chunk is not
 pub record RefusesAt (key file : List ℕ) (error : FileError) (n : ℕ) : Type 0 where
   pub front : HasHeader key (header_of file)
   pub right : AreRight key file n
@@ -49,20 +49,20 @@ pub record RefusesAt (key file : List ℕ) (error : FileError) (n : ℕ) : Type 
   pub wrong : let is_last = n == last_chunk file in
       (¬ HasTag (key_of key file) n is_last (chunk_of file n)) × ChunkRefuses (key_of key file) n is_last (chunk_of file n) error
 
--- why a file isn't opened
+-- why a file does not open
 abbrev pub OpenRefuses : (key file : List ℕ) → FileError → Type 0
 OpenRefuses key file TooLong =
     HasHeader key (header_of file) × AreRight key file (2 ^ 32 - 1) × (2 ^ 32 - 1 ≤ last_chunk file)
 OpenRefuses key file (Io error) = ⊤
 OpenRefuses key file error = HeaderRefuses key (header_of file) error ⊎ ((n : ℕ) × RefusesAt key file error n)
 
--- why one chunk isn't opened
+-- why one chunk does not open
 abbrev pub ChunkAtRefuses : (key header : List ℕ) (number : ℕ) (is_last : Bool) (sealed : List ℕ) → FileError → Type 0
 ChunkAtRefuses key header number is_last sealed error = HeaderRefuses key (header_of header) error
     ⊎ (HasHeader key (header_of header) × (¬ HasTag (key_of key header) number is_last sealed)
     × ChunkRefuses (key_of key header) number is_last sealed error)
 
--- why a call over slices fails: memory was wanted, or it refuses what it was given, and never by `Io`
+-- why a call over slices fails: it needed memory, or it rejects its input, but never with `Io`
 abbrev pub FailsInMemory : (lacks_room : Type 0) (Refuses : FileError → Type 0) → FileError → Type 0
 FailsInMemory lacks_room Refuses OutOfMemory = lacks_room
 FailsInMemory lacks_room Refuses (Io error) = ⊥

@@ -1,4 +1,4 @@
--- What reading a piece and writing bytes do to the known bytes of a reader and a writer.
+-- What reading a piece and writing bytes do to a reader and a writer whose bytes are known.
 use Rattle.std.specs.Prelude.{◌≡◌, ℕ, List, ◌++◌, take, drop, Option, Some}
 use Rattle.std.specs.Io.KnownBytes.{Appends}
 
@@ -6,7 +6,7 @@ use Rattle.std.specs.Io.KnownBytes.{Appends}
 abbrev pub AppendsBeginning : Option (List ℕ) → Option (List ℕ) → List ℕ → Type 0
 AppendsBeginning old new all = (front : List ℕ) × (rest : List ℕ) × (all ≡ front ++ rest) × Appends old new front
 
--- the piece is the first `len` of the bytes that a reader had left, or all of them where those are fewer
+-- the piece is the first `len` bytes that the reader had left, or all of them if there are fewer
 pub record TakesFront (len : ℕ) (bytes piece : List ℕ) (new : Option (List ℕ)) : Type 0 where
   pub piece_is : piece ≡ take len bytes
   pub left : new ≡ Some (drop len bytes)

@@ -1,4 +1,4 @@
-//! One chunk at a time.
+//! Sealing and opening one chunk.
 
 ghost use Rattle.std.specs.Prelude.{◌≡◌, ◌≤◌, ◌↔◌, ◌++◌, length, vec_len, IsTrue, IsOk, IfErr, OnOk};
 ghost use Rattle.std.specs.Bool.{OnTrue, OnFalse};
@@ -11,13 +11,13 @@ use crate::header::{ChunkCipher, Prefix};
 use aead_ciphers::aead::{Aad, MAX_TAG_LEN, Nonce, Tag};
 use std::io;
 
-/// The bytes of a file in a chunk that isn't the last.
+/// The length in bytes of a chunk of the file, except the last, which may be shorter.
 pub const CHUNK_LEN: usize = 65536;
 
-/// The bytes of a sealed chunk that isn't the last.
+/// The length in bytes of a sealed chunk, except the last, which may be shorter.
 pub const SEALED_CHUNK_LEN: usize = CHUNK_LEN + MAX_TAG_LEN;
 
-/// The most chunks of a file.
+/// The most chunks that a file may have.
 pub const MAX_CHUNKS: u32 = u32::MAX;
 
 /// The nonce of a chunk.
@@ -30,7 +30,7 @@ fn nonce_of(prefix: &Prefix, number: u32, is_last: bool) -> Nonce
     Nonce::assume_unique_for_key([p0, p1, p2, p3, p4, p5, p6, n0, n1, n2, n3, last])
 }
 
-/// Encrypts a chunk of at most `CHUNK_LEN` bytes, and gives its tag.
+/// Encrypts a chunk of at most `CHUNK_LEN` bytes in place, and returns its tag.
 pub(crate) fn seal_slice(cipher: &ChunkCipher, number: u32, is_last: bool, chunk: &mut [u8]) -> Tag
     requires { length chunk.old ≤ chunk_len }
     ensures { chunk.new ++ result ≡ sealed_chunk cipher.now number is_last chunk.old }
@@ -59,7 +59,7 @@ pub(crate) fn seal_chunk(
     Ok(())
 }
 
-/// Opens a ciphertext of at most `CHUNK_LEN` bytes in place, and says whether it has this tag.
+/// Decrypts a ciphertext of at most `CHUNK_LEN` bytes in place, and returns whether it has this tag.
 fn has_opened(
     cipher: &ChunkCipher,
     number: u32,
@@ -82,8 +82,8 @@ fn has_opened(
         .is_ok()
 }
 
-/// Opens the ciphertext of a chunk in place, at most `CHUNK_LEN` bytes that have this tag. On an error the ciphertext is as
-/// it was, or opened as a chunk of the other kind.
+/// Decrypts the ciphertext of a chunk in place, at most `CHUNK_LEN` bytes, if they have this tag. On an error the ciphertext is
+/// unchanged, or decrypted as a chunk of the other kind.
 pub(crate) fn open_ciphertext(
     cipher: &ChunkCipher,
     number: u32,
@@ -102,7 +102,7 @@ pub(crate) fn open_ciphertext(
     if has_opened(cipher, number, is_last, tag, ciphertext) {
         return Ok(());
     }
-    // Whether the file was cut or goes on, the other kind's tag tells. What that opens is dropped.
+    // The tag of the other kind of chunk shows that the file was cut or goes on. The plaintext is dropped.
     if has_opened(cipher, number, !is_last, tag, ciphertext) {
         return Err(if is_last {
             FileError::EndsEarly
@@ -113,7 +113,7 @@ pub(crate) fn open_ciphertext(
     Err(FileError::Refused(number))
 }
 
-/// Opens a sealed chunk of at most `CHUNK_LEN` bytes and its tag, so that its message is left.
+/// Opens a sealed chunk of at most `CHUNK_LEN` bytes and its tag, and leaves the message.
 pub(crate) fn open_chunk(
     cipher: &ChunkCipher,
     number: u32,

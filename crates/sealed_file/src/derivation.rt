@@ -1,4 +1,4 @@
-//! What a key derives for a file: CMAC over AES-256 in counter mode, as in XAES-256-GCM.
+//! Deriving the key of a file: CMAC over AES-256 in counter mode, as in XAES-256-GCM.
 
 ghost use Rattle.std.specs.Prelude.{◌≡◌, ◌+◌, ◌++◌, ◌<◌};
 ghost use Rattle.aead_ciphers_base.specs.Aes.{aes};
@@ -16,7 +16,7 @@ const LABEL: u8 = b'X';
 /// R of SP 800-38B section 5.3, as a number: 10000111.
 const R: u128 = 0x87;
 
-/// The first subkey of CMAC, from the cipher of the zero block (SP 800-38B section 6.1).
+/// The first subkey of CMAC, given the encrypted zero block (SP 800-38B section 6.1).
 fn first_subkey(cipher_of_zero: Block) -> Block
     ensures { result ≡ first_subkey cipher_of_zero }
 {
@@ -34,7 +34,7 @@ fn cmac_of_block(cipher: &aes::Key, block: Block) -> Block
     cipher.encrypt_block(bb::xor_16(subkey, block), &mut Work::new())
 }
 
-/// An iteration of the derivation (SP 800-108r1 section 4.1): 16 bytes.
+/// One iteration of the derivation (SP 800-108r1 section 4.1): 16 bytes.
 fn derived_block(cipher: &aes::Key, context: &Context, iteration: u16) -> Block
     ensures { result ≡ derived_block cipher.now context.now iteration }
 {
@@ -48,7 +48,7 @@ fn derived_block(cipher: &aes::Key, context: &Context, iteration: u16) -> Block
     )
 }
 
-/// Two blocks, one after the other.
+/// Two blocks, concatenated.
 fn joined(first: &Block, second: &Block) -> [u8; AES_256_KEY_LEN]
     ensures { result ≡ first.now ++ second.now }
 {
@@ -58,7 +58,7 @@ fn joined(first: &Block, second: &Block) -> [u8; AES_256_KEY_LEN]
     bytes
 }
 
-/// This iteration of the derivation and the next: 32 bytes.
+/// This iteration of the derivation and the next one: 32 bytes.
 pub(crate) fn derived_pair(
     key: &[u8; AES_256_KEY_LEN],
     context: &Context,

@@ -1,32 +1,32 @@
-//! Why a file was not sealed or not opened.
+//! The error of sealing and opening files.
 
 use std::alloc::AllocError;
 use std::error::Error;
 use std::{fmt, io};
 
-/// Why a file was not sealed or not opened.
+/// The error of sealing or opening a file.
 #[derive(Debug, Drop)]
 pub enum FileError {
-    /// The key hasn't 32 bytes.
+    /// The key does not have 32 bytes.
     KeyLength,
-    /// The file doesn't begin with the magic of a sealed file.
+    /// The file does not begin with the magic of a sealed file.
     AnotherMagic,
-    /// The file is of another version of the format, this one.
+    /// The file has this version of the format, which is neither 1 nor 2.
     AnotherVersion(u8),
-    /// The header commits to another key, or was changed. Files of version 1 commit to none.
+    /// The header commits to another key, or was changed. Files of version 1 have no commitment.
     WrongKey,
-    /// The file ends within its header, within a tag, or after a chunk that isn't the last.
+    /// The file ends within its header, within a tag, or after a chunk that is not the last.
     EndsEarly,
-    /// Bytes come after the last chunk.
+    /// There are bytes after the last chunk.
     TrailingBytes,
-    /// The chunk of this number, from 0 on, has another tag: it was changed, or the file is of version 1 and the key is
+    /// The chunk with this number, counted from 0, has a wrong tag: it was changed, or the file is of version 1 and the key is
     /// another one.
     Refused(u32),
     /// The file has more than `MAX_CHUNKS` chunks.
     TooLong,
-    /// Memory was refused to `seal_bytes` or `open_bytes`.
+    /// Allocating memory failed in `seal_bytes`, `open_bytes` or `open_chunk_at`.
     OutOfMemory,
-    /// Reading or writing failed, or memory was refused to `seal` or `open`.
+    /// Reading or writing failed, or allocating memory failed in `seal` or `open`.
     Io(io::Error),
 }
 

@@ -1,4 +1,4 @@
-//! Headers, and what the chunks after one are sealed under.
+//! The header of a sealed file, and the key that follows from it.
 
 ghost use Rattle.std.specs.Prelude.{ℕ, List, ◌≡◌, ◌+◌, ◌≤◌, ◌↔◌, ◌++◌, length, take, drop, IsOk, IfOk, IfErr};
 ghost use Rattle.sealed_file.specs.Format.{magic_and_version, version_1, version_2};
@@ -12,46 +12,46 @@ use aead_ciphers_base::aes::AES_256_KEY_LEN;
 use aead_ciphers_base::bb;
 use std::marker::Model;
 
-/// What a sealed file begins with.
+/// The first bytes of a sealed file.
 pub const MAGIC: [u8; 8] = *b"SEALFILE";
 
-/// The version of the format that sealing writes, after the magic. Opening takes version 1 too.
+/// The version that sealing writes, after the magic. Opening also accepts version 1.
 pub const VERSION: u8 = 2;
 
 /// The version whose files are sealed under the key itself.
 const VERSION_1: u8 = 1;
 
-/// Where the version is.
+/// The position of the version.
 const VERSION_AT: usize = 8;
 
-/// The length of the magic and the version.
+/// The length of the magic and the version, in bytes.
 const FRONT_LEN: usize = VERSION_AT + 1;
 
-/// The length of what the key of a file is derived for.
+/// The length in bytes of the context, which the key of a file is derived from.
 pub const CONTEXT_LEN: usize = 12;
 
-/// The length of the prefix of a file's nonces.
+/// The length in bytes of the prefix of a file's nonces.
 pub const PREFIX_LEN: usize = 7;
 
-/// The length of the random bytes in a header of version 2: a context and a prefix.
+/// The length in bytes of the random part of a header of version 2: a context and a prefix.
 pub const RANDOM_LEN: usize = CONTEXT_LEN + PREFIX_LEN;
 
-/// The length of the commitment to the key.
+/// The length in bytes of the commitment to the key.
 const COMMITMENT_LEN: usize = AES_256_KEY_LEN;
 
-/// The length of a header of version 1: the magic, the version and the prefix.
+/// The length in bytes of a header of version 1: the magic, the version and the prefix.
 pub(crate) const HEADER_1_LEN: usize = FRONT_LEN + PREFIX_LEN;
 
-/// The length of a header of version 2: the magic, the version, the random bytes and the commitment to the key.
+/// The length in bytes of a header of version 2: the magic, the version, the random bytes and the commitment to the key.
 pub const HEADER_LEN: usize = FRONT_LEN + RANDOM_LEN + COMMITMENT_LEN;
 
-/// What the key of a file is derived for.
+/// The context that the key of a file is derived from, along with the user's key.
 pub type Context = [u8; CONTEXT_LEN];
 
 /// The prefix of a file's nonces.
 pub(crate) type Prefix = [u8; PREFIX_LEN];
 
-/// The bytes of a header.
+/// The bytes of a header, of either version.
 #[derive(Drop)]
 enum Header {
     Version1([u8; HEADER_1_LEN]),
@@ -61,7 +61,7 @@ enum Header {
 impl Header {
     ghost use Rattle.sealed_file.specs.Header.{header_bytes};
 
-    /// Its bytes.
+    /// Returns the bytes of the header.
     fn as_slice(&self) -> &[u8]
         ensures bytes { result.now ≡ header_bytes self.now }
         ensures len { length result.now ≤ 60 }
@@ -73,7 +73,7 @@ impl Header {
     }
 }
 
-/// What the chunks of a file are sealed under: a key, the prefix of the nonces, and the header, the AAD of each.
+/// The key of a file's chunks: an AES-256-GCM key, the prefix of the nonces, and the header, which is the AAD of every chunk.
 #[derive(Drop)]
 pub(crate) struct ChunkCipher {
     pub(crate) key: LessSafeKey,
@@ -95,7 +95,7 @@ impl Model for ChunkCipher {
 }
 
 impl ChunkCipher {
-    /// The file's header.
+    /// Returns the file's header.
     pub(crate) fn header(&self) -> &[u8]
         ensures bytes { result.now ≡ self.now.header }
         ensures len { length result.now ≤ 60 }
@@ -103,7 +103,7 @@ impl ChunkCipher {
         self.header.as_slice()
     }
 
-    /// That of a file of version 1 with this prefix.
+    /// The key of a file of version 1 with this prefix.
     fn version_1(key: &FileKey, prefix: &Prefix) -> ChunkCipher
         ensures { result ≡ version_1 key.now prefix.now }
     {
@@ -118,7 +118,7 @@ impl ChunkCipher {
         }
     }
 
-    /// That of a file of version 2 with these random bytes.
+    /// The key of a file of version 2 with these random bytes.
     pub(crate) fn new(key: &FileKey, random: &[u8; RANDOM_LEN]) -> ChunkCipher
         ensures { result ≡ version_2 key.now random.now }
     {
@@ -131,7 +131,7 @@ impl ChunkCipher {
     }
 }
 
-/// The key of AES-256-GCM with these bytes.
+/// The AES-256-GCM key with these bytes.
 fn aead_key(bytes: &[u8; AES_256_KEY_LEN]) -> LessSafeKey
     ensures { result.bytes ≡ bytes.now }
 {
@@ -141,7 +141,7 @@ fn aead_key(bytes: &[u8; AES_256_KEY_LEN]) -> LessSafeKey
     }
 }
 
-/// The first random bytes of a header.
+/// The context: the first of the random bytes of a header.
 fn context_of(random: &[u8; RANDOM_LEN]) -> Context
     ensures { result ≡ take 12 random.now }
 {
@@ -150,7 +150,7 @@ fn context_of(random: &[u8; RANDOM_LEN]) -> Context
     context
 }
 
-/// The random bytes after those.
+/// The prefix: the random bytes after the context.
 fn prefix_of(random: &[u8; RANDOM_LEN]) -> Prefix
     ensures { result ≡ take 7 (drop 12 random.now) }
 {
@@ -159,7 +159,7 @@ fn prefix_of(random: &[u8; RANDOM_LEN]) -> Prefix
     prefix
 }
 
-/// Puts bytes into others, from `at` on.
+/// Writes bytes into others, from `at` on.
 pub(crate) fn put(bytes: &[u8], all: &mut [u8], at: usize)
     requires { at + length bytes.now ≤ length all.old }
     ensures { all.new ≡ take at all.old ++ (bytes.now ++ drop (at + length bytes.now) all.old) }
@@ -192,7 +192,7 @@ pub(crate) fn header_len(file: &[u8]) -> usize
     }
 }
 
-/// The header of a file that begins with these bytes, as far as they go.
+/// The header of a file that begins with these bytes, or the part of it that they hold.
 fn header_of(file: &[u8]) -> &[u8]
     ensures { result.now ≡ header_of file.now }
 {
@@ -200,7 +200,7 @@ fn header_of(file: &[u8]) -> &[u8]
     if file.len() < len { file } else { &file[..len] }
 }
 
-/// The random bytes in a header of version 2.
+/// The random bytes of a header of version 2.
 fn random_in(header: &[u8; HEADER_LEN]) -> [u8; RANDOM_LEN]
     ensures { result ≡ take 19 (drop 9 header.now) }
 {
@@ -209,8 +209,8 @@ fn random_in(header: &[u8; HEADER_LEN]) -> [u8; RANDOM_LEN]
     random
 }
 
-/// What the chunks after a header of version 2 are sealed under. The whole header is compared with the one that the key
-/// makes of its random bytes.
+/// The key of the chunks after a header of version 2. The whole header is compared with the one that the key defines for its
+/// random bytes.
 fn version_2_in(key: &FileKey, header: &[u8]) -> Result<ChunkCipher, FileError>
     requires version { IsVersion2 header.now }
     requires least { 16 ≤ length header.now }
@@ -229,7 +229,7 @@ fn version_2_in(key: &FileKey, header: &[u8]) -> Result<ChunkCipher, FileError>
     }
 }
 
-/// The version in a header, and the prefix that it has in version 1.
+/// The version of a header, and its prefix if the version is 1.
 fn front_in(header: &[u8]) -> Result<(u8, Prefix), FileError>
     ensures size { IsOk result → 16 ≤ length header.now }
     ensures front { IfOk result (λ front. take 9 header.now ≡ magic_and_version front.0) }
@@ -263,7 +263,7 @@ fn front_in(header: &[u8]) -> Result<(u8, Prefix), FileError>
     Ok((version, [p0, p1, p2, p3, p4, p5, p6]))
 }
 
-/// What the chunks after this header are sealed under.
+/// The key of the chunks after this header.
 fn cipher_in(key: &FileKey, header: &[u8]) -> Result<ChunkCipher, FileError>
     requires { length header.now ≤ header_len header.now }
     ensures accepted { IsOk result ↔ HasHeader key.now header.now }
@@ -283,7 +283,7 @@ fn cipher_in(key: &FileKey, header: &[u8]) -> Result<ChunkCipher, FileError>
     Ok(ChunkCipher::version_1(key, &prefix))
 }
 
-/// What the chunks of a file that begins with these bytes are sealed under.
+/// The key of the chunks of a file that begins with these bytes.
 pub(crate) fn cipher_of(key: &FileKey, file: &[u8]) -> Result<ChunkCipher, FileError>
     ensures accepted { IsOk result ↔ HasHeader key.now (header_of file.now) }
     ensures cipher { IfOk result (λ cipher. cipher ≡ chunk_key key.now (header_of file.now)) }

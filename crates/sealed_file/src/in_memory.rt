@@ -1,4 +1,4 @@
-//! Sealing and opening files that stand in memory.
+//! Sealing and opening files in memory.
 
 ghost use Rattle.std.specs.Prelude.{ℕ, List, ◌≡◌, ◌+◌, ◌-◌, ◌*◌, ◌^◌, ◌<◌, ◌≤◌, ◌↔◌, ◌++◌, length, vec_capacity, vec_len, take, drop, IsOk, IfErr, OnOk, OnErr};
 ghost use Rattle.sealed_file.specs.Format.{chunk_len, sealed_chunk_len, last_piece, piece, sealed_chunk, sealed_file, version_2};
@@ -11,7 +11,7 @@ use crate::header::{ChunkCipher, HEADER_LEN, RANDOM_LEN, cipher_of, header_len};
 use crate::key::FileKey;
 use aead_ciphers::aead::{MAX_TAG_LEN, Tag};
 
-/// The number of the last piece of `len` bytes that are cut into pieces of `size` bytes.
+/// The number of the last piece when `len` bytes are cut into pieces of `size` bytes.
 fn last_piece_of(len: usize, size: usize) -> usize
     requires { 0 < size }
     ensures { result ≡ last_piece size len }
@@ -19,7 +19,7 @@ fn last_piece_of(len: usize, size: usize) -> usize
     len.saturating_sub(1) / size
 }
 
-/// The piece of this number of bytes that are cut into pieces of `size` bytes.
+/// The piece with this number when bytes are cut into pieces of `size` bytes.
 fn piece_of(bytes: &[u8], size: usize, number: u32) -> &[u8]
     requires { size * number ≤ length bytes.now }
     ensures { result.now ≡ piece size bytes.now number }
@@ -32,7 +32,7 @@ fn piece_of(bytes: &[u8], size: usize, number: u32) -> &[u8]
     }
 }
 
-/// Appends bytes that there is room for.
+/// Appends bytes, for which `out` has room.
 fn append(bytes: &[u8], out: &mut Vec<u8>)
     requires { vec_len out.old + length bytes.now ≤ vec_capacity out.old }
     ensures appended { out.new.items ≡ out.old.items ++ bytes.now }
@@ -44,7 +44,7 @@ fn append(bytes: &[u8], out: &mut Vec<u8>)
     }
 }
 
-/// Seals the chunk that `bytes` is from `start` on, at most `CHUNK_LEN` bytes, and returns its tag.
+/// Seals the chunk that is `bytes` from `start` on, at most `CHUNK_LEN` bytes, in place, and returns its tag.
 fn seal_from(
     cipher: &ChunkCipher,
     number: u32,
@@ -61,7 +61,7 @@ fn seal_from(
     seal_slice(cipher, number, is_last, &mut bytes[start..])
 }
 
-/// Seals a chunk of at most `CHUNK_LEN` bytes onto `out`, which has room for it and its tag.
+/// Seals a chunk of at most `CHUNK_LEN` bytes, and appends it to `out`, which has room for it and its tag.
 fn append_sealed(cipher: &ChunkCipher, number: u32, is_last: bool, chunk: &[u8], out: &mut Vec<u8>)
     requires chunk { length chunk.now ≤ chunk_len }
     requires room { vec_len out.old + length chunk.now + 16 ≤ vec_capacity out.old }
@@ -75,10 +75,12 @@ fn append_sealed(cipher: &ChunkCipher, number: u32, is_last: bool, chunk: &[u8],
     append(tag.as_ref(), out);
 }
 
-/// Seals `file` as version 2, and appends the sealed file to `out`. The random bytes are for one file under a key.
+/// Seals `file` as version 2, and appends the sealed file to `out`.
 ///
-/// Fails with `TooLong` where the file has more than `MAX_CHUNKS` chunks, and else with `OutOfMemory` where `out` has
-/// no room for the sealed file and memory is refused. `out` then holds what it did.
+/// Each file under a key needs its own 19 random bytes.
+///
+/// Fails with `TooLong` if the file has more than `MAX_CHUNKS` chunks, and otherwise with `OutOfMemory` only if `out` has no
+/// room for the sealed file and cannot grow. `out` then holds the bytes that it held before.
 pub fn seal_bytes(
     key: &FileKey,
     random: [u8; RANDOM_LEN],
@@ -113,7 +115,7 @@ pub fn seal_bytes(
     Ok(())
 }
 
-/// Opens the ciphertext that `bytes` is from `start` on, at most `CHUNK_LEN` bytes.
+/// Decrypts the ciphertext that is `bytes` from `start` on, at most `CHUNK_LEN` bytes.
 fn open_from(
     cipher: &ChunkCipher,
     number: u32,
@@ -135,8 +137,8 @@ fn open_from(
     open_ciphertext(cipher, number, is_last, tag, &mut bytes[start..])
 }
 
-/// Opens a sealed chunk onto `out`, which has room for the message. On an error bytes that aren't authentic may stand
-/// after what `out` held.
+/// Opens a sealed chunk, and appends its message to `out`. On an error, bytes that are not authentic may follow those that
+/// `out` held.
 pub(crate) fn append_opened(
     cipher: &ChunkCipher,
     number: u32,
@@ -172,7 +174,7 @@ fn last_chunk_of(sealed: &[u8]) -> usize
     )
 }
 
-/// The chunk of this number of a sealed file.
+/// The chunk with this number of a sealed file.
 fn chunk_of(sealed: &[u8], number: u32) -> &[u8]
     requires header { header_len sealed.now ≤ length sealed.now }
     requires in_range { number ≤ last_chunk sealed.now }
@@ -181,7 +183,7 @@ fn chunk_of(sealed: &[u8], number: u32) -> &[u8]
     piece_of(&sealed[header_len(sealed)..], SEALED_CHUNK_LEN, number)
 }
 
-/// The length of what a sealed file gives.
+/// The length of the file that a sealed file opens to.
 fn opened_len(sealed: &[u8]) -> usize
     ensures { (key : List ℕ) → result ≡ length (opened_file key sealed.now) }
 {
@@ -190,7 +192,7 @@ fn opened_len(sealed: &[u8]) -> usize
     last * CHUNK_LEN + (body - last * SEALED_CHUNK_LEN).saturating_sub(MAX_TAG_LEN)
 }
 
-/// `open_bytes` that on an error may leave bytes after what `out` held.
+/// `open_bytes`, except that on an error bytes may follow those that `out` held.
 fn append_file(key: &FileKey, sealed: &[u8], out: &mut Vec<u8>) -> Result<(), FileError>
     ensures front { take (vec_len out.old) out.new.items ≡ out.old.items }
     ensures accepted { IsOk result → IsSealed key.now sealed.now }
@@ -214,10 +216,10 @@ fn append_file(key: &FileKey, sealed: &[u8], out: &mut Vec<u8>) -> Result<(), Fi
     Err(FileError::TooLong)
 }
 
-/// Opens a sealed file, and appends what was sealed to `out`.
+/// Opens a sealed file of version 1 or 2, and appends the file to `out`.
 ///
-/// Fails with the errors of `open`, but never with `Io`, and with `OutOfMemory` where `out` has no room for what was
-/// sealed and memory is refused. `out` then holds what it did.
+/// Fails with the errors of `open`, except `Io`, and with `OutOfMemory` only if `out` has no room for the file and cannot grow.
+/// `out` then holds the bytes that it held before.
 pub fn open_bytes(key: &FileKey, sealed: &[u8], out: &mut Vec<u8>) -> Result<(), FileError>
     ensures authentic { IsOk result → IsSealed key.now sealed.now }
     ensures opened { OnOk result (out.new.items

@@ -1,4 +1,4 @@
-//! Keys of files.
+//! The key that files are sealed under.
 
 ghost use Rattle.std.specs.Prelude.{◌≡◌, ◌↔◌, length, IsOk, IfOk, IfErr};
 
@@ -8,7 +8,7 @@ use crate::header::Context;
 use aead_ciphers_base::aes::AES_256_KEY_LEN;
 use std::marker::Model;
 
-/// A key of 32 bytes, from which the key of each file is derived.
+/// A key of 32 bytes. The key of each file is derived from it.
 #[derive(Drop)]
 pub struct FileKey {
     pub(crate) bytes: [u8; AES_256_KEY_LEN],
@@ -25,7 +25,9 @@ impl Model for FileKey {
 impl FileKey {
     ghost use Rattle.sealed_file.specs.Derivation.{commitment, derived_key};
 
-    /// The key of these bytes. Refused by `KeyLength` where they aren't 32.
+    /// Creates a key from 32 bytes.
+    ///
+    /// Fails with `KeyLength` if `bytes` does not have 32 bytes.
     pub fn new(bytes: &[u8]) -> Result<FileKey, FileError>
         ensures accepted { IsOk result ↔ (length bytes.now ≡ 32) }
         ensures made { IfOk result (λ key. key ≡ bytes.now) }
@@ -37,15 +39,15 @@ impl FileKey {
         }
     }
 
-    /// The key of the files of version 2 whose random bytes begin with this context: the AES-256-GCM key that
-    /// XAES-256-GCM derives for a nonce that begins with it.
+    /// Returns the AES-256-GCM key of the files of version 2 whose random bytes begin with this context. It is the key that
+    /// XAES-256-GCM derives for a nonce that begins with the context.
     pub fn derived_key(&self, context: &Context) -> [u8; AES_256_KEY_LEN]
         ensures { result ≡ derived_key self.now context.now }
     {
         derived_pair(&self.bytes, context, 1)
     }
 
-    /// The commitment to this key in the headers of those files.
+    /// Returns the commitment to this key, in the headers of the same files.
     pub fn commitment(&self, context: &Context) -> [u8; AES_256_KEY_LEN]
         ensures { result ≡ commitment self.now context.now }
     {

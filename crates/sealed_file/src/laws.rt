@@ -1,4 +1,4 @@
-//! Laws of the format: functions that answer nothing, whose contracts state a law for their arguments.
+//! Laws of the format: functions that do nothing, each of whose contracts states a law for its arguments.
 
 ghost use Rattle.std.specs.Prelude.{ℕ, ◌≡◌, ◌≢◌, ◌-◌, ◌^◌, ◌<◌, length};
 ghost use Rattle.sealed_file.specs.Format.{chunk_len, last_piece, sealed_file, version_1, version_2};
@@ -6,7 +6,7 @@ ghost use Rattle.sealed_file.specs.Opening.{IsForged, IsSealed, header_of, opene
 
 use crate::header::{PREFIX_LEN, RANDOM_LEN};
 
-/// Opening undoes sealing: a file that was sealed is accepted and comes back, whatever its length.
+/// Opening a sealed file restores the file: it is accepted, whatever its length.
 pub fn opens_again(key: &[u8], random: &[u8; RANDOM_LEN], file: &[u8])
     requires { last_piece chunk_len (length file.now) < 2 ^ 32 - 1 }
     ensures accepted { IsSealed key.now (sealed_file (version_2 key.now random.now) file.now) }
@@ -14,7 +14,7 @@ pub fn opens_again(key: &[u8], random: &[u8; RANDOM_LEN], file: &[u8])
         ≡ file.now }
 {}
 
-/// The same of a file that was sealed as version 1 defines.
+/// The same for a file that was sealed as version 1 defines.
 pub fn version_1_opens_again(key: &[u8], prefix: &[u8; PREFIX_LEN], file: &[u8])
     requires { last_piece chunk_len (length file.now) < 2 ^ 32 - 1 }
     ensures accepted { IsSealed key.now (sealed_file (version_1 key.now prefix.now) file.now) }
@@ -22,8 +22,8 @@ pub fn version_1_opens_again(key: &[u8], prefix: &[u8; PREFIX_LEN], file: &[u8])
         ≡ file.now }
 {}
 
-/// Another file under the header of a sealed one is accepted only with a forged chunk: one that has the tag which is
-/// defined for its number and whether it is the last, where sealing made another chunk or none.
+/// Another file under the header of a sealed one is accepted only with a forged chunk: a chunk with the tag for its number and
+/// for whether it is the last, where sealing made another chunk or none.
 pub fn another_file(key: &[u8], random: &[u8; RANDOM_LEN], file: &[u8], other: &[u8])
     requires header { header_of other.now ≡ (version_2 key.now random.now).header }
     requires another { other.now ≢ sealed_file (version_2 key.now random.now) file.now }
@@ -31,7 +31,7 @@ pub fn another_file(key: &[u8], random: &[u8; RANDOM_LEN], file: &[u8], other: &
     ensures { (i : ℕ) × IsForged (version_2 key.now random.now) file.now other.now i }
 {}
 
-/// The same of version 1.
+/// The same for version 1.
 pub fn another_file_of_version_1(key: &[u8], prefix: &[u8; PREFIX_LEN], file: &[u8], other: &[u8])
     requires header { header_of other.now ≡ (version_1 key.now prefix.now).header }
     requires another { other.now ≢ sealed_file (version_1 key.now prefix.now) file.now }

@@ -1,6 +1,5 @@
-//! Sealed files: a header, and then a file in chunks of 64 KiB, each sealed by AES-256-GCM under a key that is derived for
-//! the file, and a nonce of the file's prefix, the chunk's number and whether it is the last (STREAM). The repository's
-//! docs/SEALED_FILE.md has the format.
+//! Sealed files: a header and the file in chunks of 64 KiB, each sealed by AES-256-GCM under a key derived for the file. The
+//! nonce is the file's prefix, the chunk's number and whether it is the last (STREAM). `docs/SEALED_FILE.md` has the format.
 #![tactic(auto)]
 
 mod chunk;

@@ -15,12 +15,16 @@ use std::alloc::Global;
 use std::io::{Read, Write};
 use std::mem;
 
-/// Opens the sealed file that `input` gives, of version 1 or 2. A chunk's message is written once its tag was found right.
+/// Opens the sealed file of version 1 or 2 in `input`, and writes the file to `output`.
 ///
-/// It keeps two chunks in memory. Each error but `Io` says what is wrong with the file: `AnotherMagic`,
-/// `AnotherVersion`, `WrongKey` (version 2: the header commits to another key, or was changed; no chunk was read),
-/// `EndsEarly` (within the header or a tag, or after a chunk that isn't the last), `TrailingBytes` (after a last chunk of
-/// `CHUNK_LEN` bytes), `Refused` (any other chunk with a false tag), `TooLong` (more than `MAX_CHUNKS` chunks).
+/// It keeps two chunks in memory, and writes the message of a chunk only after its tag is verified. What was written before an
+/// error is authentic, but may be only the beginning of the file.
+///
+/// Fails with `Io` if reading, writing or allocating memory fails. Every other error says what is wrong with the file:
+/// `AnotherMagic` and `AnotherVersion`; `WrongKey`, if the header of version 2 commits to another key or was changed, before
+/// any chunk is read; `EndsEarly`, if the file ends within the header or a tag, or after a chunk that is not the last;
+/// `TrailingBytes`, if there are bytes after a last chunk of `CHUNK_LEN` bytes; `Refused`, if any other chunk has a wrong tag;
+/// and `TooLong`, if there are more than `MAX_CHUNKS` chunks.
 pub fn open<R: Read, W: Write>(
     alloc: Global,
     key: &FileKey,

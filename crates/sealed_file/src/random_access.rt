@@ -1,4 +1,4 @@
-//! One chunk of a sealed file without the others.
+//! Opening one chunk of a sealed file without the others.
 
 ghost use Rattle.std.specs.Prelude.{ℕ, List, ◌≡◌, ◌+◌, ◌-◌, ◌^◌, ◌<◌, ◌≤◌, ◌↔◌, ◌++◌, length, vec_capacity, vec_len, take, IsOk, IsSome, IfErr, IfSome, OnOk, OnErr};
 ghost use Rattle.sealed_file.specs.Format.{sealed_chunk_len};
@@ -12,7 +12,7 @@ use crate::in_memory::append_opened;
 use crate::key::FileKey;
 use aead_ciphers::aead::MAX_TAG_LEN;
 
-/// `open_chunk_at` that on an error may leave bytes after what `out` held.
+/// `open_chunk_at`, except that on an error bytes may follow those that `out` held.
 fn append_chunk_at(
     key: &FileKey,
     header: &[u8],
@@ -38,15 +38,15 @@ fn append_chunk_at(
 
 /// Opens one chunk of a sealed file, and appends its message to `out`.
 ///
-/// `header` is the file's first `HEADER_LEN` bytes (of version 1, 16); more may be given. `number` counts the chunks from
-/// 0, and `is_last` says that no bytes come after the chunk. Chunk n of a file of version 2 begins at byte
-/// `HEADER_LEN` + n * `SEALED_CHUNK_LEN`, and has `SEALED_CHUNK_LEN` bytes unless it is the last.
+/// `header` is at least the file's first `HEADER_LEN` bytes, or 16 bytes for version 1. `number` counts the chunks from 0, and
+/// `is_last` says that the chunk ends the file. Chunk `n` of a file of version 2 begins at byte `HEADER_LEN + n *
+/// SEALED_CHUNK_LEN`, and has `SEALED_CHUNK_LEN` bytes unless it is the last.
 ///
-/// Nothing is said of the other chunks: the file may lack them or have others. Only that the last chunk is opened by
-/// `is_last` tells that the file ends where its sealing ended.
+/// The other chunks are not checked: the file may lack them, or have others in their place. Only opening the last chunk with
+/// `is_last` shows that the file ends where it ended when it was sealed.
 ///
-/// Fails with the errors of `open` for the header and for this chunk, but never with `Io`, and with `OutOfMemory` where
-/// `out` has no room for the message and memory is refused. `out` then holds what it did.
+/// Fails with the errors of `open` for the header and for this chunk, except `Io`, and with `OutOfMemory` only if `out` has no
+/// room for the message and cannot grow. `out` then holds the bytes that it held before.
 pub fn open_chunk_at(
     key: &FileKey,
     header: &[u8],
@@ -76,8 +76,10 @@ pub fn open_chunk_at(
     opened
 }
 
-/// The length of the file that a sealed file of version 2 gives, from the sealed file's length: `None` where no sealed file
-/// has it, since it ends within the header or a tag or has more than `MAX_CHUNKS` chunks.
+/// Returns the length of a file from the length of its sealed file of version 2.
+///
+/// Returns `None` if no sealed file has this length: it would end within the header or a tag, or have more than `MAX_CHUNKS`
+/// chunks.
 pub fn plaintext_len(sealed_len: u64) -> Option<u64>
     ensures known { IsSome result ↔ IsSealedLen sealed_len }
     ensures opened { (key file : List ℕ) → length file ≡ sealed_len → IsVersion2 file

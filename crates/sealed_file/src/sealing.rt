@@ -15,10 +15,12 @@ use std::alloc::Global;
 use std::io::{Read, Write};
 use std::mem;
 
-/// Seals what `input` gives, as version 2. The random bytes are for one file under a key.
+/// Seals the bytes of `input` as version 2, and writes the sealed file to `output`.
 ///
-/// It keeps two chunks in memory. `TooLong` comes where the file has more than `MAX_CHUNKS` chunks, and any other
-/// error is one of reading, writing or memory. What was written by then is a beginning of the sealed file.
+/// Each file under a key needs its own 19 random bytes. It keeps two chunks in memory.
+///
+/// Fails with `TooLong` if the file has more than `MAX_CHUNKS` chunks, and with `Io` if reading, writing or allocating memory
+/// fails. What was written by then is the beginning of the sealed file.
 pub fn seal<R: Read, W: Write>(
     alloc: Global,
     key: &FileKey,

@@ -1,4 +1,4 @@
-//! Reading pieces and writing them.
+//! Reading and writing pieces of a stream.
 
 ghost use Rattle.std.specs.Prelude.{◌≡◌, ◌+◌, ◌<◌, ◌≤◌, length, vec_len, take, drop, IfOk, IfSome, OnOk, OnErr};
 ghost use Rattle.std.specs.Io.KnownBytes.{Appends, Consumes, IsAtEnd, Keeps};
@@ -12,10 +12,10 @@ use crate::header::{HEADER_1_LEN, header_len};
 use std::alloc::Global;
 use std::io::{self, ErrorKind, Read, Write};
 
-/// The error of a stream that is interrupted without end.
+/// The error of a stream that is interrupted too many times in a row.
 const ALWAYS_INTERRUPTED: &str = "interrupted too often";
 
-/// Two buffers with room for a sealed chunk each.
+/// Two buffers, each with room for a sealed chunk.
 pub(crate) fn buffers(alloc: Global) -> io::Result<(Vec<u8>, Vec<u8>)>
     ensures first { IfOk result (λ buffers. sealed_chunk_len ≤ vec_capacity buffers.0) }
     ensures second { IfOk result (λ buffers. sealed_chunk_len ≤ vec_capacity buffers.1) }
@@ -25,7 +25,7 @@ pub(crate) fn buffers(alloc: Global) -> io::Result<(Vec<u8>, Vec<u8>)>
     Ok((first, second))
 }
 
-/// One read into `buf` from `at` on.
+/// Reads once into `buf` from `at` on.
 fn read_at<R: Read>(input: &mut R, buf: &mut [u8], at: usize) -> io::Result<usize>
     requires { at < length buf.old }
     ensures front { take at buf.new ≡ take at buf.old }
@@ -38,7 +38,7 @@ fn read_at<R: Read>(input: &mut R, buf: &mut [u8], at: usize) -> io::Result<usiz
     input.read(&mut buf[at..])
 }
 
-/// Fills `buf` from its front, and returns how many bytes there were: fewer than it has only at the end.
+/// Fills `buf`, and returns the number of bytes read, which is less than its length only at the end of the input.
 pub(crate) fn fill<R: Read>(input: &mut R, buf: &mut [u8]) -> io::Result<usize>
     ensures within { IfOk result (λ n. n ≤ length buf.new) }
     ensures bytes { IfOk result (λ n. Consumes (R.remaining input.old) (R.remaining input.new) (take n buf.new)) }
@@ -62,7 +62,7 @@ pub(crate) fn fill<R: Read>(input: &mut R, buf: &mut [u8]) -> io::Result<usize>
     Err(io::Error::other(ALWAYS_INTERRUPTED))
 }
 
-/// Reads the next `len` bytes into `piece`, or all that are left where those are fewer.
+/// Reads the next `len` bytes into `piece`, or the rest of the input if it is shorter.
 pub(crate) fn read_piece<R: Read>(input: &mut R, len: usize, piece: &mut Vec<u8>) -> io::Result<()>
     ensures size { OnOk result (vec_len piece.new ≤ len) }
     ensures bytes { OnOk result (IfSome (R.remaining input.old) (λ bytes.
@@ -74,7 +74,7 @@ pub(crate) fn read_piece<R: Read>(input: &mut R, len: usize, piece: &mut Vec<u8>
     Ok(())
 }
 
-/// Reads the header of a sealed file into `header`, as far as the file goes. `rest` is a buffer.
+/// Reads the header of a sealed file into `header`, or the part of it that the file has. `rest` is a buffer.
 pub(crate) fn read_header<R: Read>(
     input: &mut R,
     header: &mut Vec<u8>,
@@ -89,7 +89,7 @@ pub(crate) fn read_header<R: Read>(
     Ok(())
 }
 
-/// Writes all the bytes, or a beginning of them where that fails.
+/// Writes all of the bytes, or the beginning of them if that fails.
 pub(crate) fn write_bytes<W: Write>(output: &mut W, bytes: &[u8]) -> io::Result<()>
     ensures ok { OnOk result (Appends (W.contents output.old) (W.contents output.new) bytes.now) }
     ensures err { OnErr result
