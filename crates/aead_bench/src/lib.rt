@@ -1,8 +1,8 @@
-//! Loops over the library's calls, which `bench/bench.c` times beside other code.
+//! Loops over the library's calls, which `bench/bench.c` times against other libraries.
 //!
-//! Each takes a number of turns, a key and a buffer, works on the buffer in place where the call does, and
-//! returns eight bytes of what it made. So the two sides can be compared. Where the key or the buffer hasn't a
-//! length that the call takes, the loop makes no turn.
+//! Each loop takes a number of turns, a key and a buffer, works on the buffer in place if the call does, and returns eight
+//! bytes of its output, so that both sides can be compared. If the key or the buffer is not of a length that the call takes,
+//! the loop makes no turn.
 #![tactic(auto)]
 
 use aead_ciphers::aead::{
@@ -20,22 +20,22 @@ use quic_packets::{Failures, PacketError, Receiver, Sender, Space, Suite};
 
 const NONCE: [u8; 12] = [1; 12];
 
-/// A short header in a QUIC packet: the first byte and a connection ID of 8 bytes, and then a number of 2.
+/// A short header of a QUIC packet: the first byte, a connection ID of 8 bytes, and a packet number of 2 bytes.
 const NUMBER_AT: usize = 9;
 
 const HEADER_LEN: usize = 11;
 
-/// How many packets are unacknowledged: their numbers take 2 bytes.
+/// The number of unacknowledged packets. Their packet numbers take 2 bytes.
 const UNACKNOWLEDGED: u64 = 1000;
 
-/// The most bytes that the loop over ChaCha20 encrypts in a turn.
+/// The most bytes that the loop over ChaCha20 encrypts in one turn.
 const CHACHA_MAX_LEN: usize = 1 << 20;
 
 fn nonce() -> Nonce {
     Nonce::assume_unique_for_key(NONCE)
 }
 
-/// The first eight bytes, or 0 where there are fewer.
+/// The first eight bytes, or 0 if there are fewer.
 fn first_bytes(bytes: &[u8]) -> u64 {
     match bytes.first_chunk::<8>() {
         Some(first) => u64::from_le_bytes(*first),
@@ -43,7 +43,7 @@ fn first_bytes(bytes: &[u8]) -> u64 {
     }
 }
 
-/// Writes a number over the first eight bytes.
+/// Writes a number to the first eight bytes.
 fn set_first_bytes(bytes: &mut [u8], number: u64) {
     if let Some(first) = bytes.first_chunk_mut::<8>() {
         *first = number.to_le_bytes();
@@ -61,7 +61,7 @@ fn aes_key(key: &[u8]) -> Result<aes::Key, Unspecified> {
     }
 }
 
-/// The key of AES-GCM of 16 or 32 bytes.
+/// The AES-GCM key of 16 or 32 bytes.
 fn less_safe_key(key: &[u8]) -> Result<LessSafeKey, Unspecified> {
     let algorithm = match key.len() {
         AES_128_KEY_LEN => &AES_128_GCM,
@@ -75,13 +75,13 @@ fn first_bytes_of_block(block: Block) -> u64 {
     first_bytes(&block)
 }
 
-/// The cipher of the zero block, to tell AES keys apart.
+/// The encrypted zero block, which distinguishes AES keys.
 fn sum_of_aes_key(key: &aes::Key) -> u64 {
     let [first, ..] = key.encrypt_four([ZERO_BLOCK; 4]);
     first_bytes_of_block(first)
 }
 
-/// The tag of the nonce as AAD, to tell keys of AES-GCM apart.
+/// The tag with the nonce as AAD, which distinguishes AES-GCM keys.
 fn sum_of_less_safe_key(key: &LessSafeKey) -> u64 {
     match key.seal_in_place_separate_tag(nonce(), Aad::from(&NONCE[..]), &mut []) {
         Ok(tag) => first_bytes(tag.as_ref()),
@@ -89,7 +89,7 @@ fn sum_of_less_safe_key(key: &LessSafeKey) -> u64 {
     }
 }
 
-/// Encrypts four blocks over and over.
+/// Encrypts four blocks in each turn.
 #[unsafe(no_mangle)]
 pub extern "C" fn bench_encrypt_four(times: u64, key: &[u8], _buffer: &mut [u8]) -> u64 {
     let Ok(key) = aes_key(key) else { return 0 };
@@ -101,7 +101,7 @@ pub extern "C" fn bench_encrypt_four(times: u64, key: &[u8], _buffer: &mut [u8])
     first_bytes_of_block(first)
 }
 
-/// Encrypts the whole blocks of the buffer by counter mode over and over.
+/// Encrypts the whole blocks of the buffer in counter mode in each turn.
 #[unsafe(no_mangle)]
 pub extern "C" fn bench_ctr32(times: u64, key: &[u8], buffer: &mut [u8]) -> u64 {
     let Ok(key) = aes_key(key) else { return 0 };
@@ -113,7 +113,7 @@ pub extern "C" fn bench_ctr32(times: u64, key: &[u8], buffer: &mut [u8]) -> u64 
     first_bytes(buffer)
 }
 
-/// Takes one block into a running hash over and over. The hash subkey and the block are the key.
+/// Adds one block to a running hash in each turn. The hash subkey and the block are the key.
 #[unsafe(no_mangle)]
 pub extern "C" fn bench_update_block(times: u64, key: &[u8], _buffer: &mut [u8]) -> u64 {
     let Some(block) = key.as_array::<BLOCK_LEN>() else {
@@ -127,7 +127,7 @@ pub extern "C" fn bench_update_block(times: u64, key: &[u8], _buffer: &mut [u8])
     first_bytes(xi.as_ref())
 }
 
-/// Seals the buffer in place over and over.
+/// Seals the buffer in place in each turn.
 #[unsafe(no_mangle)]
 pub extern "C" fn bench_seal(times: u64, key: &[u8], buffer: &mut [u8]) -> u64 {
     let Ok(key) = less_safe_key(key) else {
@@ -142,10 +142,10 @@ pub extern "C" fn bench_seal(times: u64, key: &[u8], buffer: &mut [u8]) -> u64 {
     last
 }
 
-/// Opens the buffer in place over and over, and adds to the answer how often it was accepted.
+/// Opens the buffer in place in each turn, and adds the number of accepted messages to the result.
 ///
-/// Opening changes the buffer to the plaintext. That is the ciphertext of what stood there before, so two tags
-/// take turns.
+/// Opening replaces the buffer by the plaintext, whose encryption is the bytes that were in the buffer before. So two tags
+/// alternate.
 #[unsafe(no_mangle)]
 pub extern "C" fn bench_open(times: u64, key: &[u8], buffer: &mut [u8]) -> u64 {
     let Ok(key) = less_safe_key(key) else {
@@ -166,7 +166,7 @@ pub extern "C" fn bench_open(times: u64, key: &[u8], buffer: &mut [u8]) -> u64 {
     answer
 }
 
-/// Makes an AES key over and over, of the bytes of the buffer.
+/// Expands an AES key from the bytes of the buffer in each turn.
 #[unsafe(no_mangle)]
 pub extern "C" fn bench_aes_key(times: u64, key: &[u8], buffer: &mut [u8]) -> u64 {
     let Ok(mut last) = aes_key(key) else { return 0 };
@@ -179,7 +179,7 @@ pub extern "C" fn bench_aes_key(times: u64, key: &[u8], buffer: &mut [u8]) -> u6
     sum_of_aes_key(&last)
 }
 
-/// Makes a key of AES-GCM over and over, of the bytes of the buffer.
+/// Creates an AES-GCM key from the bytes of the buffer in each turn.
 #[unsafe(no_mangle)]
 pub extern "C" fn bench_less_safe_key(times: u64, key: &[u8], buffer: &mut [u8]) -> u64 {
     let Ok(mut last) = less_safe_key(key) else {
@@ -194,7 +194,7 @@ pub extern "C" fn bench_less_safe_key(times: u64, key: &[u8], buffer: &mut [u8])
     sum_of_less_safe_key(&last)
 }
 
-/// Clones a key of AES-GCM over and over, each time the clone made last: at first over the key of the buffer.
+/// Clones an AES-GCM key in each turn: first the key of the buffer, and then the last clone.
 #[unsafe(no_mangle)]
 pub extern "C" fn bench_clone(times: u64, key: &[u8], buffer: &mut [u8]) -> u64 {
     let (Ok(even), Ok(odd)) = (less_safe_key(key), less_safe_key(buffer)) else {
@@ -210,7 +210,7 @@ pub extern "C" fn bench_clone(times: u64, key: &[u8], buffer: &mut [u8]) -> u64 
     sum_of_less_safe_key(&keys[1])
 }
 
-/// Encrypts the buffer in place by ChaCha20 over and over.
+/// Encrypts the buffer in place with ChaCha20 in each turn.
 #[unsafe(no_mangle)]
 pub extern "C" fn bench_chacha(times: u64, key: &[u8], buffer: &mut [u8]) -> u64 {
     let Some(key) = key.as_array::<{ chacha::KEY_LEN }>() else {
@@ -225,8 +225,8 @@ pub extern "C" fn bench_chacha(times: u64, key: &[u8], buffer: &mut [u8]) -> u64
     first_bytes(buffer)
 }
 
-/// Makes the mask of the sample that is the buffer over and over, and writes it over the front of the sample:
-/// by AES-128 under a key of 16 bytes, by ChaCha20 under one of 32.
+/// Computes the header protection mask of the sample in the buffer in each turn, and writes it to the front of the sample: with
+/// AES-128 for a key of 16 bytes, and with ChaCha20 for one of 32.
 #[unsafe(no_mangle)]
 pub extern "C" fn bench_mask(times: u64, key: &[u8], buffer: &mut [u8]) -> u64 {
     let algorithm = match key.len() {
@@ -244,7 +244,7 @@ pub extern "C" fn bench_mask(times: u64, key: &[u8], buffer: &mut [u8]) -> u64 {
     first_bytes(buffer)
 }
 
-/// The suite of keys of 16 or 32 bytes.
+/// The suite for keys of 16 or 32 bytes.
 fn suite(key: &[u8]) -> Suite {
     match key.len() {
         AES_128_KEY_LEN => Suite::Aes128Gcm,
@@ -252,7 +252,7 @@ fn suite(key: &[u8]) -> Suite {
     }
 }
 
-/// One end of a QUIC connection that sends to itself. The key masks headers too.
+/// One end of a QUIC connection that sends to itself. The key also masks headers.
 #[derive(Drop)]
 struct Connection {
     sender: Sender,
@@ -285,7 +285,7 @@ impl Connection {
     }
 }
 
-/// Writes zeros over the header, and returns the first eight bytes of the payload.
+/// Zeroes the header, and returns the first eight bytes of the payload.
 fn without_header(packet: &mut [u8]) -> u64 {
     if packet.len() < HEADER_LEN {
         return 0;
@@ -304,7 +304,7 @@ fn write_header(packet: &mut [u8], number: u64) {
     }
 }
 
-/// Sends the buffer as a QUIC packet in place over and over: a short header, a payload, and the tag in the last 16 bytes.
+/// Sends the buffer as a QUIC packet in place in each turn: a short header, a payload, and the tag in the last 16 bytes.
 #[unsafe(no_mangle)]
 pub extern "C" fn bench_send(times: u64, key: &[u8], buffer: &mut [u8]) -> u64 {
     let Ok(mut connection) = Connection::new(key) else {
@@ -318,7 +318,7 @@ pub extern "C" fn bench_send(times: u64, key: &[u8], buffer: &mut [u8]) -> u64 {
     without_header(buffer)
 }
 
-/// Sends the buffer as a QUIC packet in place and receives it over and over.
+/// Sends the buffer as a QUIC packet in place and receives it, in each turn.
 #[unsafe(no_mangle)]
 pub extern "C" fn bench_send_and_receive(times: u64, key: &[u8], buffer: &mut [u8]) -> u64 {
     let Ok(mut connection) = Connection::new(key) else {
@@ -332,7 +332,7 @@ pub extern "C" fn bench_send_and_receive(times: u64, key: &[u8], buffer: &mut [u
     without_header(buffer)
 }
 
-/// Seals what `bench_send` sends, by a `LessSafeKey`, and leaves out the protection of the header.
+/// Seals what `bench_send` sends with a `LessSafeKey`, without header protection.
 #[unsafe(no_mangle)]
 pub extern "C" fn bench_seal_packet(times: u64, key: &[u8], buffer: &mut [u8]) -> u64 {
     let Ok(key) = less_safe_key(key) else {
@@ -351,7 +351,7 @@ pub extern "C" fn bench_seal_packet(times: u64, key: &[u8], buffer: &mut [u8]) -
     without_header(buffer)
 }
 
-/// Seals and opens what `bench_send_and_receive` sends and receives, by a `LessSafeKey`.
+/// Seals and opens what `bench_send_and_receive` sends and receives with a `LessSafeKey`, without header protection.
 #[unsafe(no_mangle)]
 pub extern "C" fn bench_seal_and_open_packet(times: u64, key: &[u8], buffer: &mut [u8]) -> u64 {
     let Ok(key) = less_safe_key(key) else {

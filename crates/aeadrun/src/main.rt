@@ -1,4 +1,4 @@
-//! The program `aeadrun`: commands in lines on standard input, answers on standard output.
+//! The program `aeadrun`: reads commands as lines on standard input, and writes responses to standard output.
 #![tactic(auto)]
 
 use aead_ciphers::aeadrun;
@@ -16,7 +16,7 @@ fn main(rt: HostRuntime) -> ExitCode {
     ExitCode::from(status)
 }
 
-/// Answers the lines of standard input. It fails only where a buffer of the two streams was refused.
+/// Responds to the lines of standard input. Fails only if a buffer of one of the two streams cannot be allocated.
 fn answer_input(rt: &(impl Input + Print + AllocGlobal)) -> io::Result<u8> {
     let mut input = BufReader::new(rt.alloc(), rt.reader())?;
     let mut output = BufWriter::new(rt.alloc(), io::writer(rt))?;

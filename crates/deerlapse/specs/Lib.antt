@@ -1,3 +1,3 @@
--- What the contracts of the exports cite beside the words of the library.
+-- The definitions that the contracts of the exports use, besides those of the library.
 pub mod AesKey
 pub mod NumberedKey

@@ -1,4 +1,4 @@
--- What the contracts see of a `NumberedKey`, which is a sealer or an opener.
+-- A `NumberedKey`, which is a sealer or an opener, as contracts see it.
 use Rattle.std.specs.Prelude.{ℕ, List}
 use Rattle.aead_ciphers.specs.Counting.{xored_nonce}
 use Rattle.aead_ciphers.specs.ExpandedKey.{bytes_of}

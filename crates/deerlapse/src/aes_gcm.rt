@@ -1,4 +1,4 @@
-//! AES-GCM (SP 800-38D) under a nonce of the caller's choice.
+//! AES-GCM (SP 800-38D) under the caller's key and nonce.
 
 ghost use Rattle.std.specs.Prelude.{◌≡◌, ◌-◌, ◌↔◌, length, IsTrue, IsFalse};
 ghost use Rattle.aead_ciphers_base.specs.Aes.{aes};
@@ -9,10 +9,10 @@ use crate::key::{deerlapse_key_init, deerlapse_key_open, deerlapse_key_seal};
 use aead_ciphers::aead::{MAX_TAG_LEN, NONCE_LEN};
 use aead_ciphers::aes_gcm::ExpandedKey;
 
-/// Encrypts `in_out` in place, and writes its tag (SP 800-38D algorithm 4).
+/// Encrypts `in_out` in place, and writes its tag of 16 bytes (SP 800-38D algorithm 4).
 ///
-/// Refused where the key hasn't 16 or 32 bytes, where the message is longer than 2^36 - 32 bytes or where the AAD has
-/// 2^61 bytes or more.
+/// Returns false if `key` does not have 16 or 32 bytes, if the message is longer than 2^36 - 32 bytes, or if the AAD has 2^61
+/// bytes or more.
 #[unsafe(no_mangle)]
 pub extern "C" fn deerlapse_seal(
     key: &[u8],
@@ -31,12 +31,14 @@ pub extern "C" fn deerlapse_seal(
     deerlapse_key_init(&mut expanded, key) && deerlapse_key_seal(&expanded, nonce, aad, in_out, tag)
 }
 
-/// Opens the ciphertext and tag that are `in_out` from `start` on, the tag its last 16 bytes (SP 800-38D algorithm 5),
-/// and writes the length of the plaintext. The plaintext then stands at the front of `in_out`, and each byte after it
-/// is as it was.
+/// Opens the ciphertext and tag in `in_out` from `start` on, and writes the length of the plaintext in bytes (SP 800-38D
+/// algorithm 5).
 ///
-/// Refused where the key hasn't 16 or 32 bytes, where the buffer has no room for a tag after `start`, where the
-/// lengths don't fit, as in `deerlapse_seal`, and where the tag isn't that of the ciphertext and the AAD.
+/// The tag is the last 16 bytes of `in_out`. On success the plaintext is at the front of `in_out`, and the bytes after it are
+/// unchanged.
+///
+/// Returns false if `key` does not have 16 or 32 bytes, if there are fewer than 16 bytes after `start`, if a length is not one
+/// that `deerlapse_seal` takes, or if the tag is wrong.
 #[unsafe(no_mangle)]
 pub extern "C" fn deerlapse_open(
     key: &[u8],

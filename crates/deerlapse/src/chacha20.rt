@@ -7,9 +7,9 @@ ghost use Rattle.aead_ciphers_base.specs.ChaCha20.{chacha20_encrypted};
 use aead_ciphers::aead::{NONCE_LEN, Nonce};
 use aead_ciphers_base::chacha::{BLOCK_LEN, Counter, KEY_LEN, Key, Overlapping};
 
-/// XORs `in_out` with the key stream from block `counter` on (RFC 8439 section 2.4), which encrypts and decrypts.
+/// XORs `in_out` with the key stream from block `counter` on, which both encrypts and decrypts (RFC 8439 section 2.4).
 ///
-/// Refused where it goes past the last block, whose counter is 2^32 - 1.
+/// Returns false if this would go past the last block, whose counter is 2^32 - 1.
 #[unsafe(no_mangle)]
 pub extern "C" fn deerlapse_chacha20(
     key: &[u8; KEY_LEN],

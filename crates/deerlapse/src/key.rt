@@ -1,4 +1,4 @@
-//! A key of AES-GCM (SP 800-38D) that is expanded once, for many messages and many threads.
+//! An AES-GCM key (SP 800-38D) that is expanded once, for many messages and many threads.
 
 ghost use Rattle.std.specs.Prelude.{◌≡◌, ◌-◌, ◌↔◌, length, IsTrue, IsFalse, IsSome, IfSome};
 ghost use Rattle.aead_ciphers_base.specs.Aes.{aes};
@@ -12,10 +12,10 @@ use aead_ciphers::aes_gcm::ExpandedKey;
 use aead_ciphers_base::aes::{AES_256_KEY_LEN, KeyBytes, Work};
 use std::mem::size_of;
 
-// The header's `words` are as many bytes.
+// The `words` of the type in the header have as many bytes.
 const _: () = prove!(size_of::<ExpandedKey>() == 3016);
 
-/// The key of 16 bytes for AES-128-GCM, of 32 for AES-256-GCM.
+/// A key of 16 bytes for AES-128-GCM, or of 32 bytes for AES-256-GCM.
 pub(crate) fn aes_key(bytes: &[u8]) -> Option<KeyBytes<'_>>
     ensures accepted { IsSome result ↔ IsAesKeyLen (length bytes.now) }
     ensures bytes { IfSome result (λ key. key_bytes key ≡ bytes.now) }
@@ -26,16 +26,16 @@ pub(crate) fn aes_key(bytes: &[u8]) -> Option<KeyBytes<'_>>
     }
 }
 
-/// Whether it has as many rounds as a key. A key of zeros has none.
+/// Whether the key has as many rounds as an AES key. A key of zeros has none.
 pub(crate) fn has_rounds(key: &ExpandedKey) -> bool
     ensures { IsTrue result ↔ HasRounds key.now }
 {
     key.rounds >= 10 && key.rounds <= 14
 }
 
-/// Expands a key once, for the calls that take it from then on. What `key` held before isn't read.
+/// Expands a key once, for the calls that take an expanded key. The previous bytes of `key` are not read.
 ///
-/// Refused where `bytes` hasn't 16 or 32 bytes: every byte of `key` is then zero.
+/// Returns false if `bytes` does not have 16 or 32 bytes, and every byte of `key` is then zero.
 #[unsafe(no_mangle)]
 pub extern "C" fn deerlapse_key_init(key: &mut ExpandedKey, bytes: &[u8]) -> bool
     ensures accepted { IsTrue result ↔ IsAesKeyLen (length bytes.now) }
@@ -54,7 +54,7 @@ pub extern "C" fn deerlapse_key_init(key: &mut ExpandedKey, bytes: &[u8]) -> boo
     }
 }
 
-/// Overwrites a key with zeros. After that every call under it is refused.
+/// Overwrites a key with zeros. Every call under it then returns false.
 #[unsafe(no_mangle)]
 pub extern "C" fn deerlapse_key_wipe(key: &mut ExpandedKey)
     ensures { key.new ≡ zero_key }
@@ -62,7 +62,7 @@ pub extern "C" fn deerlapse_key_wipe(key: &mut ExpandedKey)
     *key = ExpandedKey::zeros();
 }
 
-/// `deerlapse_seal` under an expanded key.
+/// Does the same as `deerlapse_seal`, under an expanded key.
 #[unsafe(no_mangle)]
 pub extern "C" fn deerlapse_key_seal(
     key: &ExpandedKey,
@@ -93,7 +93,7 @@ pub extern "C" fn deerlapse_key_seal(
     }
 }
 
-/// `deerlapse_open` under an expanded key.
+/// Does the same as `deerlapse_open`, under an expanded key.
 #[unsafe(no_mangle)]
 pub extern "C" fn deerlapse_key_open(
     key: &ExpandedKey,
@@ -125,7 +125,7 @@ pub extern "C" fn deerlapse_key_open(
     }
 }
 
-/// The same with the tag apart, and the ciphertext the whole of `in_out`.
+/// Does the same as `deerlapse_key_open` for a ciphertext that is the whole of `in_out`, with a separate tag.
 #[unsafe(no_mangle)]
 pub extern "C" fn deerlapse_key_open_separate_tag(
     key: &ExpandedKey,

@@ -1,7 +1,7 @@
-//! The library's calls for C, C++ and plain Rust: a static library, whose header is `include/deerlapse.h`.
+//! The library's calls for C, C++ and plain Rust: a static library, with the header `include/deerlapse.h`.
 //!
-//! A slice is a pointer and then a length in C. No call asks for memory or keeps anything. It returns true, or false
-//! with every byte as it came; a key whose bytes are refused is zeros.
+//! A slice is a pointer and then a length in C. No call allocates memory or keeps a pointer. A call that returns false leaves
+//! every byte unchanged, except that `deerlapse_key_init` then zeroes the key.
 #![tactic(auto)]
 
 mod aes_gcm;

@@ -9,8 +9,10 @@ use aead_ciphers::aead::quic::{AES_128, AES_256, HeaderProtectionKey, Sample};
 use aead_ciphers_base::aes::AES_256_KEY_LEN;
 use aead_ciphers_base::chacha;
 
-/// Writes the header protection mask of a sample by AES-128 under a key of 16 bytes, by AES-256 under one of 32
-/// (RFC 9001 section 5.4.3). Refused where the key has another length.
+/// Writes the header protection mask for a sample of 16 bytes, with AES-128 for a key of 16 bytes and with AES-256 for one of
+/// 32 (RFC 9001 section 5.4.3).
+///
+/// Returns false if the key has any other length.
 #[unsafe(no_mangle)]
 pub extern "C" fn deerlapse_mask_aes(key: &[u8], sample: &Sample, mask: &mut [u8; 5]) -> bool
     ensures accepted { IsTrue result ↔ IsAesKeyLen (length key.now) }
@@ -33,7 +35,7 @@ pub extern "C" fn deerlapse_mask_aes(key: &[u8], sample: &Sample, mask: &mut [u8
     }
 }
 
-/// Writes the header protection mask of a sample by ChaCha20 (RFC 9001 section 5.4.4). It is never refused.
+/// Writes the header protection mask for a sample of 16 bytes, with ChaCha20 (RFC 9001 section 5.4.4). It never fails.
 #[unsafe(no_mangle)]
 pub extern "C" fn deerlapse_mask_chacha20(
     key: &[u8; chacha::KEY_LEN],

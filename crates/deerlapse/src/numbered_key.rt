@@ -1,5 +1,4 @@
-//! A key with an IV and the numbers of its messages, each of which has a nonce of its own (RFC 8446 section 5.3, RFC
-//! 9001 section 5.3).
+//! A key with an IV and the numbers of its messages, each with its own nonce (RFC 8446 section 5.3, RFC 9001 section 5.3).
 
 ghost use Rattle.std.specs.Prelude.{◌≡◌, ◌≤◌, ◌↔◌, length, IsTrue, IsFalse};
 ghost use Rattle.aead_ciphers.specs.ExpandedKey.{IsExpanded, bytes_of};
@@ -12,25 +11,24 @@ use aead_ciphers::aes_gcm::ExpandedKey;
 use aead_ciphers_base::aes::Work;
 use std::mem::size_of;
 
-/// A key of AES-GCM for the nonces of an IV and the numbers `next`, `next + 1`, .. up to `limit`, which is left out. It
-/// lies in the caller's memory.
+/// An AES-GCM key for the nonces of an IV and the numbers from `next` up to `limit`, exclusive. It is in the caller's memory.
 #[repr(C)]
 #[derive(Drop)]
 pub struct NumberedKey {
     pub key: ExpandedKey,
     /// The number of the next message.
     pub next: u64,
-    /// The first number that no message gets.
+    /// The end of the numbers: no message gets this one.
     pub limit: u64,
     pub iv: [u8; NONCE_LEN],
 }
 
-// The header's `words` have room for more fields.
+// The `words` of the types in the header have room for more fields.
 const _: () = prove!(size_of::<NumberedKey>() <= 3200);
 
-/// Fills a key whose first message gets the number `first`. What it held before isn't read.
+/// Initializes a key whose first message gets the number `first`. Its previous bytes are not read.
 ///
-/// Refused where the key hasn't 16 or 32 bytes, and where `first` is above `limit`.
+/// Returns false if the key does not have 16 or 32 bytes, or if `first` is above `limit`.
 pub(crate) fn fill(
     numbered: &mut NumberedKey,
     key: &[u8],
@@ -59,7 +57,7 @@ pub(crate) fn fill(
     true
 }
 
-/// Writes the nonce of a number under an IV (RFC 8446 section 5.3), for opening what a sealer sealed.
+/// Writes the nonce of 12 bytes for a number under an IV (RFC 8446 section 5.3), for opening what a sealer sealed.
 #[unsafe(no_mangle)]
 pub extern "C" fn deerlapse_nonce(iv: &[u8; NONCE_LEN], number: u64, nonce: &mut [u8; NONCE_LEN])
     ensures { nonce.new ≡ xored_nonce iv.now number }

@@ -12,9 +12,9 @@ use crate::key::deerlapse_key_open;
 use crate::numbered_key::{NumberedKey, fill};
 use aead_ciphers::aead::{NONCE_LEN, nonce_of};
 
-/// Fills an opener whose first message has the number `first`. What it held before isn't read.
+/// Initializes an opener whose first message has the number `first`. Its previous bytes are not read.
 ///
-/// Refused where the key hasn't 16 or 32 bytes, and where `first` is above `limit`.
+/// Returns false if the key does not have 16 or 32 bytes, or if `first` is above `limit`.
 #[unsafe(no_mangle)]
 pub extern "C" fn deerlapse_opener_init(
     opener: &mut NumberedKey,
@@ -32,7 +32,7 @@ pub extern "C" fn deerlapse_opener_init(
     fill(opener, key, iv, first, limit)
 }
 
-/// The number of the next message.
+/// Returns the number of the next message.
 #[unsafe(no_mangle)]
 pub extern "C" fn deerlapse_opener_next(opener: &NumberedKey) -> u64
     ensures { result ≡ opener.now.next }
@@ -40,10 +40,10 @@ pub extern "C" fn deerlapse_opener_next(opener: &NumberedKey) -> u64
     opener.next
 }
 
-/// `deerlapse_open` under the nonce of the next number, which then counts up by one.
+/// Does the same as `deerlapse_open` under the nonce of the next number, and then counts the number up by one.
 ///
-/// Refused where no number is left, where the opener is zeros, and where `deerlapse_open` refuses. A refusal counts
-/// nothing: the message with the number is still to come.
+/// Returns false if no number is left, if the opener is all zeros, or if `deerlapse_open` does. The number is then not counted,
+/// so the message with this number can still be opened.
 #[unsafe(no_mangle)]
 pub extern "C" fn deerlapse_opener_open(
     opener: &mut NumberedKey,
@@ -73,10 +73,11 @@ pub extern "C" fn deerlapse_opener_open(
     true
 }
 
-/// `deerlapse_open` under the nonce of a number that the caller knows, as from a packet. It counts nothing, and whether
-/// the number was there before is the caller's matter.
+/// Does the same as `deerlapse_open` under the nonce of a number that the caller knows, for example from a packet.
 ///
-/// Refused where the opener is zeros, and where `deerlapse_open` refuses.
+/// It counts nothing: whether the number was opened before is the caller's responsibility.
+///
+/// Returns false if the opener is all zeros, or if `deerlapse_open` does.
 #[unsafe(no_mangle)]
 pub extern "C" fn deerlapse_opener_open_number(
     opener: &NumberedKey,

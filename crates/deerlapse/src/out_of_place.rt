@@ -1,4 +1,4 @@
-//! Sealing and opening from one buffer to another, which share no byte.
+//! Sealing and opening from one buffer to another, which do not overlap.
 
 ghost use Rattle.std.specs.Prelude.{◌≡◌, ◌↔◌, length, IsTrue, IsFalse};
 ghost use Rattle.aead_ciphers_base.specs.Aes.{aes};
@@ -11,9 +11,9 @@ use aead_ciphers::aead::{Aad, MAX_TAG_LEN, NONCE_LEN, Nonce, Tag};
 use aead_ciphers::aes_gcm::ExpandedKey;
 use aead_ciphers::gcm::MAX_IN_OUT_LEN;
 
-/// `deerlapse_key_seal` of a message that stays, with the ciphertext in `out`.
+/// Does the same as `deerlapse_key_seal`, but leaves the message unchanged and writes the ciphertext to `out`.
 ///
-/// Refused also where `out` hasn't the length of the message.
+/// Also returns false if `out` does not have as many bytes as the message.
 #[unsafe(no_mangle)]
 pub extern "C" fn deerlapse_key_seal_to(
     key: &ExpandedKey,
@@ -40,10 +40,10 @@ pub extern "C" fn deerlapse_key_seal_to(
     deerlapse_key_seal(key, nonce, aad, out, tag)
 }
 
-/// `deerlapse_key_open_separate_tag` of a ciphertext that stays, with the plaintext in `out`, of which no byte is
-/// written before the tag is found to be right.
+/// Does the same as `deerlapse_key_open_separate_tag`, but leaves the ciphertext unchanged and writes the plaintext to `out`,
+/// after the tag is verified.
 ///
-/// Refused also where `out` hasn't the length of the ciphertext.
+/// Also returns false if `out` does not have as many bytes as the ciphertext.
 #[unsafe(no_mangle)]
 pub extern "C" fn deerlapse_key_open_to(
     key: &ExpandedKey,

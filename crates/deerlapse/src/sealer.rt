@@ -1,4 +1,4 @@
-//! A key that seals each message under a nonce of its own.
+//! A key that seals each message under its own nonce.
 
 ghost use Rattle.std.specs.Prelude.{◌≡◌, ◌+◌, ◌<◌, ◌≤◌, ◌↔◌, length, IsTrue, IsFalse};
 ghost use Rattle.aead_ciphers_base.specs.Aes.{aes};
@@ -11,10 +11,10 @@ use crate::key::deerlapse_key_seal;
 use crate::numbered_key::{NumberedKey, fill};
 use aead_ciphers::aead::{MAX_TAG_LEN, NONCE_LEN, nonce_of};
 
-/// Fills a sealer whose first message gets the number `first`. What it held before isn't read. A copy of it would spend
+/// Initializes a sealer whose first message gets the number `first`. Its previous bytes are not read. A copy of it would use
 /// its nonces again.
 ///
-/// Refused where the key hasn't 16 or 32 bytes, and where `first` is above `limit`.
+/// Returns false if the key does not have 16 or 32 bytes, or if `first` is above `limit`.
 #[unsafe(no_mangle)]
 pub extern "C" fn deerlapse_sealer_init(
     sealer: &mut NumberedKey,
@@ -32,7 +32,7 @@ pub extern "C" fn deerlapse_sealer_init(
     fill(sealer, key, iv, first, limit)
 }
 
-/// The number of the next message.
+/// Returns the number of the next message.
 #[unsafe(no_mangle)]
 pub extern "C" fn deerlapse_sealer_next(sealer: &NumberedKey) -> u64
     ensures { result ≡ sealer.now.next }
@@ -40,10 +40,10 @@ pub extern "C" fn deerlapse_sealer_next(sealer: &NumberedKey) -> u64
     sealer.next
 }
 
-/// Encrypts `in_out` in place under the nonce of the next number, and writes its tag.
+/// Encrypts `in_out` in place under the nonce of the next number, and writes its tag of 16 bytes.
 ///
-/// Refused where no number is left, where the sealer is zeros, and where the lengths don't fit, as in `deerlapse_seal`.
-/// A refusal spends no number.
+/// Returns false if no number is left, if the sealer is all zeros, or if a length is not one that `deerlapse_seal` takes. No
+/// number is then used.
 #[unsafe(no_mangle)]
 pub extern "C" fn deerlapse_sealer_seal(
     sealer: &mut NumberedKey,

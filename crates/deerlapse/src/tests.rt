@@ -55,7 +55,7 @@ fn seals_and_opens(rt: &impl Abort, alloc: Global, case: &Case) -> Result<(), Fa
     Ok(())
 }
 
-/// Seals a case's message under an expanded key, and opens it; and then the key is wiped, and seals nothing.
+/// Seals a case's message under an expanded key, and opens it. After the key is wiped, it seals nothing.
 fn seals_and_opens_by_a_key(rt: &impl Abort, alloc: Global, case: &Case) -> Result<(), Fail> {
     let mut key = ExpandedKey::zeros();
     if !deerlapse_key_init(&mut key, case.key) {
@@ -84,7 +84,7 @@ fn seals_and_opens_by_a_key(rt: &impl Abort, alloc: Global, case: &Case) -> Resu
     Ok(())
 }
 
-/// Seals a case's message with its tag apart, from one buffer to another and back, and opens it in place.
+/// Seals a case's message with a separate tag, from one buffer to another and back, and opens it in place.
 fn seals_and_opens_apart(rt: &impl Abort, alloc: Global, case: &Case) -> Result<(), Fail> {
     let mut key = ExpandedKey::zeros();
     if !deerlapse_key_init(&mut key, case.key) {
@@ -111,7 +111,7 @@ fn seals_and_opens_apart(rt: &impl Abort, alloc: Global, case: &Case) -> Result<
     Ok(())
 }
 
-/// No sealer, and no opener.
+/// A sealer or an opener of zeros.
 fn no_numbers() -> NumberedKey {
     NumberedKey {
         key: ExpandedKey::zeros(),
@@ -121,7 +121,7 @@ fn no_numbers() -> NumberedKey {
     }
 }
 
-/// A sealer with one number, 0, whose nonce is the IV: it seals a case's message, and then none.
+/// A sealer with one number, 0, whose nonce is the IV: it seals a case's message, and then no other.
 fn seals_once(rt: &impl Abort, alloc: Global, case: &Case) -> Result<(), Fail> {
     let mut sealer = no_numbers();
     if !deerlapse_sealer_init(&mut sealer, case.key, &case.nonce, 0, 1) {
@@ -146,7 +146,7 @@ fn sealed_bytes(alloc: Global, case: &Case) -> Result<Vec<u8, Global>, Fail> {
     Ok(bytes)
 }
 
-/// An opener with one number, 0: it opens what is sealed under it twice by number, once in order, and then none.
+/// An opener with one number, 0: it opens a sealed message twice by number, once in order, and then no more.
 fn opens_once(rt: &impl Abort, alloc: Global, case: &Case) -> Result<(), Fail> {
     let mut opener = no_numbers();
     if !deerlapse_opener_init(&mut opener, case.key, &case.nonce, 0, 1) {

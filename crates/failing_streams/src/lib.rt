@@ -1,30 +1,30 @@
-//! A reader or a writer for tests, which moves few bytes a call and fails at one.
+//! A reader or a writer for tests. It moves few bytes in a call, and one of its calls fails.
 #![tactic(auto)]
 
 ghost use Rattle.std.specs.Prelude.{◌≡◌, ◌<◌, ◌≤◌, IfOk};
 
 use std::io::{self, ErrorKind, Read, Write};
 
-/// Each call whose count is a multiple of this is interrupted.
+/// Every call whose number is a multiple of this is interrupted.
 const INTERRUPTED_EVERY: u32 = 4;
 
-/// A stream over `inner` of which one call fails, by `BrokenPipe`; the calls after it don't.
+/// A stream over `inner` in which one call fails with `BrokenPipe`. The calls after it succeed.
 ///
-/// Each fourth call is interrupted, by `Interrupted`, unless it is a flush or fails.
+/// Every fourth call is interrupted, with `Interrupted`, unless it is a flush or the call that fails.
 #[derive(Drop)]
 pub struct FailingStream<T> {
     pub inner: T,
-    /// The most bytes that a read or a write moves, at least one.
+    /// The most bytes that a read or a write moves. At least one is moved.
     pub most: usize,
-    /// The number of the call that fails, from 0 on, if one does.
+    /// The number of the call that fails, counted from 0, if one does.
     pub failing: Option<u32>,
-    /// How many calls there were: reads, writes and flushes.
+    /// The number of calls so far: reads, writes and flushes.
     pub made: u32,
     ghost some: { 0 < most },
 }
 
 impl<T> FailingStream<T> {
-    /// The stream before its first call.
+    /// Creates a stream, before its first call.
     pub fn new(inner: T, most: usize, failing: Option<u32>) -> Self
         requires { 0 < most }
         ensures inner { result.inner ≡ inner }
@@ -40,7 +40,7 @@ impl<T> FailingStream<T> {
         }
     }
 
-    /// Counts a call, which fails if it is the one to.
+    /// Counts a call, and fails if it is the one to fail.
     fn count(&mut self) -> io::Result<()>
         ensures { self.new.inner ≡ self.old.inner }
     {
@@ -52,7 +52,7 @@ impl<T> FailingStream<T> {
         Ok(())
     }
 
-    /// Counts a read or a write of so many bytes, and returns how many it moves.
+    /// Counts a read or a write of this many bytes, and returns how many it moves.
     fn count_bytes(&mut self, len: usize) -> io::Result<usize>
         ensures within { IfOk result (λ n. n ≤ len) }
         ensures some { IfOk result (λ n. n ≡ 0 → len ≡ 0) }

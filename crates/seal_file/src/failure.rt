@@ -16,26 +16,26 @@ pub enum Place {
 /// Why the program ends early.
 #[derive(Drop)]
 pub enum Failure {
-    /// The words on the command line ask for nothing that it does.
+    /// The command line is not one that the program understands.
     Use(anyhow::Error),
-    /// The key file hasn't 32 bytes.
+    /// The key file does not have 32 bytes.
     KeyLength,
-    /// OUT is there, and `--force` isn't.
+    /// OUT exists, and `--force` is not given.
     Exists,
-    /// The key file that is to be made is there.
+    /// The key file to be created already exists.
     KeyExists,
-    /// OUT is IN.
+    /// OUT is the same file as IN.
     SameFile,
-    /// OUT is there, and is no regular file.
+    /// OUT exists, and is not a regular file.
     NotRegular,
-    /// The file isn't sealed or opened.
+    /// The file cannot be sealed or opened.
     Refused(FileError),
-    /// Reading or writing failed, or memory was refused.
+    /// Reading or writing failed, or allocating memory failed.
     Io(Place, io::Error),
 }
 
 impl Failure {
-    /// The exit status: 1 for a file that is refused, 2 for use, 3 for reading and writing.
+    /// Returns the exit status: 1 for a file that cannot be sealed or opened, 2 for wrong use, 3 for reading and writing.
     pub fn status(&self) -> u8 {
         match self {
             Failure::Refused(_) => 1,

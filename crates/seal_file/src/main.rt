@@ -1,4 +1,4 @@
-//! The program `seal_file`: it seals a file or opens a sealed one, under the key in a file, and makes keys.
+//! The program `seal_file`: seals a file or opens a sealed one, under the key in a file, and creates keys.
 #![tactic(auto)]
 
 mod failure;
@@ -24,13 +24,13 @@ use std::fs::{File, Metadata};
 use std::io::{self, ErrorKind, Read, Write};
 use std::process::ExitCode;
 
-/// The length of a key, in bytes.
+/// The length of a key in bytes.
 const KEY_LEN: usize = 32;
 
-/// The mode of a key file: its owner reads and writes it.
+/// The mode of a key file: only its owner reads and writes it.
 const KEY_MODE: u32 = 0o600;
 
-/// The mode of another file that is written, which the process's umask narrows.
+/// The mode of any other file that is written, less the process's umask.
 const FILE_MODE: u32 = 0o666;
 
 /// The source of random bytes.
@@ -47,7 +47,7 @@ fn main(rt: HostRuntime) -> ExitCode {
     }
 }
 
-/// What the program is asked for.
+/// The request on the command line.
 fn request_of(rt: &HostRuntime) -> Result<Request, Failure> {
     match options::all_words(rt) {
         Ok(words) => Request::of_words(words),
@@ -55,7 +55,7 @@ fn request_of(rt: &HostRuntime) -> Result<Request, Failure> {
     }
 }
 
-/// Writes to standard error why the program ends early, and returns its status.
+/// Writes to standard error why the program ends early, and returns its exit status.
 fn report(rt: &HostRuntime, request: &Request, failure: &Failure) -> ExitCode {
     let _ = match failure {
         Failure::Use(error) => eprintln!(rt; "seal_file: {error}; see --help"),
@@ -70,7 +70,7 @@ fn report(rt: &HostRuntime, request: &Request, failure: &Failure) -> ExitCode {
     ExitCode::from(failure.status())
 }
 
-/// Writes what is said of a file or a stream to standard error.
+/// Writes a message about a file or a stream to standard error.
 fn say<D: Display>(rt: &HostRuntime, request: &Request, place: Place, text: &D) -> io::Result<()> {
     if let Some(name) = request.name_of(place) {
         return eprintln!(rt; "seal_file: {name}: {text}");
@@ -91,7 +91,7 @@ fn run(rt: &HostRuntime, request: &Request) -> Result<(), Failure> {
     }
 }
 
-/// The outcome, with the place where it failed.
+/// The outcome of a call, along with the place where it failed.
 fn at<T>(place: Place, outcome: io::Result<T>) -> Result<T, Failure> {
     match outcome {
         Ok(value) => Ok(value),
@@ -99,7 +99,7 @@ fn at<T>(place: Place, outcome: io::Result<T>) -> Result<T, Failure> {
     }
 }
 
-/// Makes a key, in a file that wasn't there.
+/// Creates a key in a new file.
 fn keygen(rt: &HostRuntime, name: &Name) -> Result<(), Failure> {
     let mut key = [0; KEY_LEN];
     draw(rt, &mut key)?;
@@ -131,7 +131,7 @@ fn convert(rt: &HostRuntime, conversion: &Conversion) -> Result<(), Failure> {
     }
 }
 
-/// The same from a file or a stream, of which the system says this.
+/// Converts from a file or a stream with this metadata.
 fn convert_from<R: Read + Drop>(
     rt: &HostRuntime,
     conversion: &Conversion,
@@ -158,7 +158,7 @@ fn convert_from<R: Read + Drop>(
     }
 }
 
-/// The same to a file, which is written whole or not at all.
+/// Converts to a file, which is written whole or not at all.
 fn convert_to<R: Read + Drop>(
     rt: &HostRuntime,
     conversion: &Conversion,
@@ -183,7 +183,7 @@ fn convert_to<R: Read + Drop>(
     )
 }
 
-/// Seals what `source` gives, or opens it.
+/// Seals or opens the bytes of `source`.
 fn pass<R: Read + Drop, W: Write>(
     rt: &HostRuntime,
     conversion: &Conversion,
@@ -208,7 +208,7 @@ fn pass<R: Read + Drop, W: Write>(
     }
 }
 
-/// The key in a file of 32 bytes. A file that others may read is warned of.
+/// Returns the key in a file of 32 bytes. Warns if others may read the file.
 fn read_key(rt: &HostRuntime, name: &Name) -> Result<FileKey, Failure> {
     let file = at(Place::KeyFile, files::open(rt, name))?;
     if let Ok(metadata) = file.metadata() {
@@ -227,7 +227,7 @@ fn read_key(rt: &HostRuntime, name: &Name) -> Result<FileKey, Failure> {
     }
 }
 
-/// Fills `bytes` with random ones that the system draws.
+/// Fills `bytes` with random bytes from the system.
 fn draw(rt: &HostRuntime, bytes: &mut [u8]) -> Result<(), Failure> {
     let drawn = File::open(rt, RANDOM).and_then(|mut source| fill_from(&mut source, bytes));
     at(Place::Random, drawn)

@@ -1,4 +1,4 @@
-//! Names of files, as the command line has them: bytes that need not be UTF-8.
+//! Names of files from the command line: bytes that need not be UTF-8.
 
 use std::alloc::{AllocError, Global};
 use std::{fmt, str};
@@ -10,17 +10,17 @@ pub struct Name {
 }
 
 impl Name {
-    /// The name of these bytes.
+    /// Creates a name from its bytes.
     pub fn new(bytes: Vec<u8>) -> Name {
         Name { bytes }
     }
 
-    /// Its bytes.
+    /// Returns the bytes of the name.
     pub fn as_bytes(&self) -> &[u8] {
         &self.bytes
     }
 
-    /// The name with these bytes at its end.
+    /// Returns the name followed by these bytes.
     pub fn with_end(&self, alloc: Global, end: &[u8]) -> Result<Name, AllocError> {
         let mut bytes = self.bytes.to_vec(alloc)?;
         bytes.extend_from_slice(end)?;
@@ -28,7 +28,7 @@ impl Name {
     }
 }
 
-/// Prints `?` for each control character, and for each byte that isn't printable ASCII where the name isn't UTF-8.
+/// Prints `?` for each control character and, in a name that is not UTF-8, for each byte that is not printable ASCII.
 impl fmt::Display for Name {
     fn fmt<W: fmt::Write>(&self, f: &mut fmt::Formatter<W>) -> fmt::Result {
         match str::from_utf8(&self.bytes) {

@@ -1,4 +1,4 @@
-//! The words on the command line.
+//! The command line.
 
 use crate::failure::{Failure, Place};
 use crate::name::Name;
@@ -6,7 +6,7 @@ use anyhow::anyhow;
 use std::env::{Env, FillError};
 use std::io;
 
-/// What `--help` prints.
+/// The text that `--help` prints.
 pub const HELP: &str = "\
 use: seal_file seal -k KEYFILE [-o OUT] [--force] [--progress] [IN]
      seal_file open -k KEYFILE [-o OUT] [--force] [--progress] [IN]
@@ -27,14 +27,14 @@ changed or cut), 2 where the use is wrong, and 3 where reading or writing fails.
 What was written to standard output by then is the beginning of the file that was
 known to be right; drop it.";
 
-/// What is done with a file.
+/// Whether a file is sealed or opened.
 #[derive(Clone, Copy)]
 pub enum Action {
     Seal,
     Open,
 }
 
-/// A file that is to be sealed or opened.
+/// A file to be sealed or opened.
 #[derive(Drop)]
 pub struct Conversion {
     pub action: Action,
@@ -45,7 +45,7 @@ pub struct Conversion {
     pub has_progress: bool,
 }
 
-/// What the words ask for.
+/// What the command line requests.
 #[derive(Drop)]
 pub enum Request {
     Help,
@@ -53,7 +53,7 @@ pub enum Request {
     Convert(Conversion),
 }
 
-/// The word for what is done.
+/// The command.
 #[derive(Clone, Copy)]
 enum Verb {
     Seal,
@@ -61,7 +61,7 @@ enum Verb {
     Keygen,
 }
 
-/// The words so far.
+/// The arguments so far.
 #[derive(Drop)]
 struct Words {
     verb: Option<Verb>,
@@ -73,7 +73,7 @@ struct Words {
     has_help: bool,
 }
 
-/// The words that the program was called with, without its name.
+/// Returns the arguments of the program, without its name.
 pub fn all_words(rt: &HostRuntime) -> io::Result<Vec<Name>> {
     let mut all = Vec::new(rt.alloc());
     for i in 1..usize::MAX {
@@ -87,7 +87,7 @@ pub fn all_words(rt: &HostRuntime) -> io::Result<Vec<Name>> {
     Ok(all)
 }
 
-/// The word of this number, if there is one.
+/// The argument with this number, if there is one.
 fn word(rt: &HostRuntime, i: usize) -> io::Result<Option<Name>> {
     let mut bytes = Vec::new(rt.alloc());
     let mut room = 256usize;
@@ -118,7 +118,7 @@ impl Words {
         }
     }
 
-    /// Takes an option with no value.
+    /// Takes an option without a value.
     fn take_flag(&mut self, word: &Name) -> Result<(), Failure> {
         match word.as_bytes() {
             b"--force" => self.has_force = true,
@@ -145,7 +145,7 @@ impl Words {
         Ok(())
     }
 
-    /// Takes a word that is no option: what is done, and then IN.
+    /// Takes an argument that is not an option: the command, and then IN.
     fn take_word(&mut self, word: Name) -> Result<(), Failure> {
         if self.verb.is_some() {
             if self.input.is_some() {
@@ -163,7 +163,7 @@ impl Words {
         Ok(())
     }
 
-    /// What the words ask for.
+    /// Returns the request.
     fn request(self) -> Result<Request, Failure> {
         let Words {
             verb,
@@ -209,7 +209,7 @@ impl Words {
 }
 
 impl Request {
-    /// What these words ask for. After `--` no word is an option.
+    /// Returns the request of these arguments. After `--`, no argument is an option.
     pub fn of_words(all: Vec<Name>) -> Result<Request, Failure> {
         let mut words = Words::new();
         let mut option = None;
@@ -234,7 +234,7 @@ impl Request {
         words.request()
     }
 
-    /// The name of a file, if it was given.
+    /// Returns the name of a file, if it is given.
     pub fn name_of(&self, place: Place) -> Option<&Name> {
         match (self, place) {
             (Request::Keygen(name), Place::KeyFile) => Some(name),
@@ -253,13 +253,13 @@ enum Valued {
     Output,
 }
 
-/// The word is an option: it begins with `-`, and has more.
+/// Whether the argument is an option: it begins with `-`, and is longer.
 fn is_option(word: &Name) -> bool {
     let bytes = word.as_bytes();
     bytes.len() > 1 && bytes[0] == b'-'
 }
 
-/// The option that takes a value with this name.
+/// The option with this name that takes a value.
 fn valued_of(word: &Name) -> Option<Valued> {
     match word.as_bytes() {
         b"-k" | b"--key" => Some(Valued::Key),

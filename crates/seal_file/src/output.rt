@@ -6,7 +6,7 @@ use crate::name::Name;
 use std::fs::{File, Metadata};
 use std::io::{self, ErrorKind, Write};
 
-/// The bytes of a number that makes a name a new one.
+/// The length in bytes of the random number that makes a name unique.
 pub const NUMBER_LEN: usize = 8;
 
 /// A new file beside the one that it is to become.
@@ -15,12 +15,12 @@ pub struct NewFile {
     name: Name,
 }
 
-/// A new file that has reached the device. Only such a file is given its name.
+/// A new file whose bytes have reached the device. Only such a file can be given its name.
 pub struct SyncedFile {
     name: Name,
 }
 
-/// The file isn't to become one that is IN, a directory or a device, nor, without force, one that is there.
+/// Checks that OUT is not IN, a directory or a device and, unless forced, does not exist.
 pub fn check_target(
     rt: &HostRuntime,
     target: &Name,
@@ -45,7 +45,7 @@ pub fn check_target(
 }
 
 impl NewFile {
-    /// Makes the file, with the target's name and this number.
+    /// Creates the file, whose name is the target's followed by this number.
     pub fn create(
         rt: &HostRuntime,
         target: &Name,
@@ -59,7 +59,7 @@ impl NewFile {
         Ok(NewFile { file, name })
     }
 
-    /// Waits until the file has reached the device. Where that fails it is removed.
+    /// Waits until the file has reached the device. Removes it if that fails.
     pub fn synced(self, rt: &HostRuntime) -> io::Result<SyncedFile> {
         let NewFile { file, name } = self;
         match file.sync_all() {
@@ -89,10 +89,10 @@ impl Write for NewFile {
 }
 
 impl SyncedFile {
-    /// Gives the file its name, in place of another file only with force. Where that fails it is removed.
+    /// Gives the file its name. It replaces another file only if forced. If this fails, the file is removed.
     ///
-    /// Without force it gets the name as a second one, which fails where another file has it. Where the file system has no
-    /// second names it is renamed: then a file that got the name since `check_target` is lost.
+    /// Unless forced, the file first gets it as a second name, which fails if another file has it. If the file system has no
+    /// second names, the file is renamed: a file that got the name after `check_target` is then lost.
     pub fn name_as(self, rt: &HostRuntime, target: &Name, has_force: bool) -> io::Result<()> {
         let SyncedFile { name } = self;
         if !has_force {

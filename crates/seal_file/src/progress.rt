@@ -1,20 +1,20 @@
-//! A reader that says how much was read, and which stream failed.
+//! A reader that shows how much was read, and records whether a call failed.
 
 ghost use Rattle.std.specs.Prelude.{◌≡◌, ◌≤◌};
 
 use std::fmt;
 use std::io::{self, Read};
 
-/// After how many bytes the line is written again.
+/// The number of bytes after which the line is written again.
 const STEP: u64 = 1 << 24;
 
-/// The bytes of a MiB.
+/// The number of bytes in a MiB.
 const MIB: u64 = 1 << 20;
 
-/// The marks of a whole bar.
+/// The number of marks in a full bar.
 const WIDTH: u64 = 50;
 
-/// A reader that writes to standard error how much was read, if it is to, and knows whether a call failed.
+/// A reader that can write to standard error how much was read, and records whether a call failed.
 #[derive(Drop)]
 pub struct Source<'a, R: Read + Drop> {
     rt: &'a HostRuntime,
@@ -26,7 +26,7 @@ pub struct Source<'a, R: Read + Drop> {
 }
 
 impl<'a, R: Read + Drop> Source<'a, R> {
-    /// A reader over `input`, which has `len` bytes if that is known, and of which nothing was read.
+    /// Creates a reader over `input`, which has `len` bytes if that is known.
     pub fn new(rt: &'a HostRuntime, input: R, len: Option<u64>, is_shown: bool) -> Self
         ensures input { result.input ≡ input }
         ensures len { result.len ≡ len }
@@ -43,15 +43,14 @@ impl<'a, R: Read + Drop> Source<'a, R> {
         }
     }
 
-    /// A call failed.
+    /// Returns whether a call has failed.
     pub fn has_failed(&self) -> bool
         ensures { result ≡ self.now.has_failed }
     {
         self.has_failed
     }
 
-    /// Writes the line: a bar and the percentage, or the MiB where the length isn't known. That it can't be written stops
-    /// nothing.
+    /// Writes the line: a bar and the percentage, or the MiB if the length is not known. A failure to write it is ignored.
     fn show(&self) {
         if !self.is_shown {
             return;
@@ -79,7 +78,7 @@ impl<'a, R: Read + Drop> Source<'a, R> {
     }
 }
 
-/// A bar of this many hundredths of its length, and their number.
+/// A bar that is filled to a percentage, and the percentage.
 #[derive(Clone, Copy)]
 struct Bar {
     percent: u64,
@@ -100,7 +99,7 @@ impl fmt::Display for Bar {
     }
 }
 
-/// How many hundredths of `len` bytes these are, at most 100.
+/// The percentage that these bytes are of `len`, at most 100.
 fn percent_of(read: u64, len: u64) -> u64
     ensures { result ≤ 100 }
 {

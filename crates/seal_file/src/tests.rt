@@ -1,4 +1,4 @@
-//! Sealed files as `tools/open-sealed-file` makes them, files that are refused, and streams that fail.
+//! Sealed files as `tools/open-sealed-file` makes them, files that do not open, and streams that fail.
 
 use crate::options::Action;
 use aead_ciphers::aead::{AES_256_GCM, Aad, LessSafeKey, Nonce, UnboundKey};
@@ -24,7 +24,7 @@ const RANDOM: [u8; 19] = [
     1, 2, 3, 4, 5, 6, 7, 8, 9, 10, 11, 12, 13, 14, 15, 16, 17, 18, 19,
 ];
 
-/// Lengths of files, and the MD5 of each when sealed: python's `cryptography` made them.
+/// Lengths of files, and the MD5 of each when sealed, made by python's `cryptography`.
 const SEALED: [(usize, [u8; 16]); 6] = [
     (
         0,
@@ -52,7 +52,7 @@ const SEALED: [(usize, [u8; 16]); 6] = [
     ),
 ];
 
-/// What is wrong with a file, as opening says it.
+/// The message for a wrong first chunk.
 const FIRST_REFUSED: &str = "chunk 0 was changed or cut, or (version 1) the key is another";
 
 const SECOND_REFUSED: &str = "chunk 1 was changed or cut, or (version 1) the key is another";
@@ -70,7 +70,7 @@ fn same(rt: &impl Abort, found: &[u8], wanted: &[u8], what: &str) {
     assert_eq!(rt; found, wanted, "{what}");
 }
 
-/// The test file of a length: byte i is i modulo 251.
+/// The test file of this length: byte i is i modulo 251.
 fn file_of(alloc: Global, len: usize) -> Result<Vec<u8>, Fail> {
     let mut file = Vec::with_capacity(alloc, len)?;
     for i in 0..len {
@@ -79,7 +79,7 @@ fn file_of(alloc: Global, len: usize) -> Result<Vec<u8>, Fail> {
     Ok(file)
 }
 
-/// The test file of a length, sealed.
+/// The test file of this length, sealed.
 fn sealed_of(alloc: Global, len: usize) -> Result<Vec<u8>, Fail> {
     let file = file_of(alloc, len)?;
     let mut sealed = Vec::new(alloc);
@@ -93,7 +93,7 @@ fn sealed_of(alloc: Global, len: usize) -> Result<Vec<u8>, Fail> {
     Ok(sealed)
 }
 
-/// Opening these bytes ends in this text, and gives the first `len` bytes of the test file.
+/// Opening these bytes ends with this message, and gives the first `len` bytes of the test file.
 fn opens(
     rt: &(impl Abort + AllocGlobal),
     sealed: &[u8],
@@ -112,7 +112,7 @@ fn opens(
     Ok(())
 }
 
-// Sealing and opening succeed over streams that don't fail, which no clause says of the calls over streams.
+// Sealing and opening succeed over streams that do not fail. No clause of the calls over streams says so.
 #[test]
 fn sealed_by_another_program(rt: HostRuntime) -> Result<(), Fail> {
     for (len, digest) in &SEALED {
@@ -123,7 +123,7 @@ fn sealed_by_another_program(rt: HostRuntime) -> Result<(), Fail> {
     Ok(())
 }
 
-// No clause says that a `Vec` which has to grow can.
+// No clause says that a `Vec` can grow.
 #[test]
 fn in_memory(rt: HostRuntime) -> Result<(), Fail> {
     let key = FileKey::new(&KEY)?;
@@ -170,8 +170,7 @@ const HEADER: &[u8] =
     \x54\x5c\xc4\xe1\x68\xe0\xad\x52\x52\x3d\xae\x55\x27\xf1\x8b\x14\
     \x87\xf5\xca\xe3\xe7\x72\x0c\x34\x9f\x13\xc0\x96\x78\xca\x54\x52";
 
-/// A sealed file of two chunks, changed: which byte of the header is another, which of the chunks follow, and what comes
-/// after.
+/// A changed sealed file of two chunks: which byte of the header differs, which chunks follow, and what comes after them.
 struct Changed {
     header: Option<(usize, u8)>,
     chunks: &'static [usize],
@@ -260,7 +259,7 @@ const CHANGED: [Changed; 11] = [
     },
 ];
 
-/// A changed file, from what comes after the header of one that was sealed.
+/// A changed file, given what follows the header of a sealed one.
 fn changed_file(alloc: Global, body: &[u8], row: &Changed) -> Result<Vec<u8>, Fail> {
     let mut file = HEADER.to_vec(alloc)?;
     if let Some((at, byte)) = row.header {
@@ -319,10 +318,10 @@ fn texts(rt: HostRuntime) -> Result<(), Fail> {
     Ok(())
 }
 
-/// The most bytes that a failing stream moves a call.
+/// The most bytes that a failing stream moves in one call.
 const MOST: usize = 50000;
 
-/// How a call over failing streams ended.
+/// The outcome of a call over failing streams.
 #[derive(Drop)]
 struct Ended {
     outcome: Result<(), FileError>,
@@ -331,7 +330,7 @@ struct Ended {
     writes: u32,
 }
 
-/// Seals or opens bytes over streams of which the read or the write of these numbers fails.
+/// Seals or opens bytes over streams of which the read or the write with this number fails.
 fn ended_over(
     alloc: Global,
     action: Action,
@@ -354,7 +353,7 @@ fn ended_over(
     })
 }
 
-/// With no call failing all is written, and with any one failing a beginning, and that call's error comes.
+/// If no call fails, everything is written. If any one fails, a beginning is written, and the error is that of the call.
 fn fails_in_turn(
     rt: &(impl Abort + AllocGlobal),
     action: Action,
@@ -384,8 +383,8 @@ fn each_failed_call_ends_it(rt: HostRuntime) -> Result<(), Fail> {
     fails_in_turn(&rt, Action::Open, &sealed, &file)
 }
 
-/// What XAES-256-GCM (the C2SP specification's test vectors) makes of `XAES-256-GCM` under the nonce
-/// `ABCDEFGHIJKLMNOPQRSTUVWX`: the byte of the key, the AAD, and the ciphertext with its tag.
+/// The ciphertext and tag of XAES-256-GCM (test vectors of the C2SP specification) for the plaintext `XAES-256-GCM` and the
+/// nonce `ABCDEFGHIJKLMNOPQRSTUVWX`, with the byte of the key and the AAD.
 const XAES: [(u8, &[u8], &[u8]); 2] = [
     (
         1,
@@ -434,7 +433,7 @@ fn version_one(rt: HostRuntime) -> Result<(), Fail> {
     Ok(())
 }
 
-// No clause says that a `Vec` which has to grow can.
+// No clause says that a `Vec` can grow.
 #[test]
 fn chunks_alone(rt: HostRuntime) -> Result<(), Fail> {
     let key = FileKey::new(&KEY)?;
