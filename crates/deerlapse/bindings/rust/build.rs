@@ -1,5 +1,5 @@
-//! Finds the static library: in the folder that `DEERLAPSE_LIB_DIR` names, else where pkg-config has `deerlapse` in this
-//! package's version, else where `rt lib` makes it.
+//! Finds the static library: in the folder that `DEERLAPSE_LIB_DIR` names, else where pkg-config has `deerlapse` in
+//! this package's version, else where `rt lib` puts it.
 
 use std::env;
 use std::fs;
@@ -9,11 +9,11 @@ use std::time::SystemTime;
 
 const ARCHIVE: &str = "libdeerlapse.a";
 
-/// What the library is made from, in the folder `crates` of the repository.
+/// The sources of the library, in the folder `crates` of the repository.
 const CRATES: [&str; 3] = ["deerlapse", "aead_ciphers", "aead_ciphers_base"];
 const PARTS: [&str; 3] = ["src", "specs", "proofs"];
 
-/// The newest file in a folder, with its time.
+/// The newest file in a folder, and its modification time.
 fn newest(folder: &Path) -> Option<(SystemTime, PathBuf)> {
     let mut found = None;
     for entry in fs::read_dir(folder).ok()?.flatten() {

@@ -9,7 +9,7 @@ use aead::consts::{U0, U12, U16, U32};
 use aead::{AeadCore, AeadInPlace, Error, Key, KeyInit, KeySizeUser, Nonce, Tag};
 use deerlapse::LessSafeKey;
 
-/// Makes a type of keys of one length, with the traits.
+/// Defines a key type of one length, with the traits.
 macro_rules! cipher {
     ($(#[$documented:meta])* $name:ident, $key_size:ty) => {
         $(#[$documented])*
@@ -63,7 +63,7 @@ macro_rules! cipher {
 }
 
 cipher! {
-    /// AES-128-GCM. A call that is refused leaves its buffer as it came.
+    /// AES-128-GCM. A call that fails leaves its buffer unchanged.
     ///
     /// ```
     /// use deerlapse_aead::aead::KeyInit;
@@ -76,7 +76,7 @@ cipher! {
 }
 
 cipher! {
-    /// AES-256-GCM. A call that is refused leaves its buffer as it came.
+    /// AES-256-GCM. A call that fails leaves its buffer unchanged.
     ///
     /// ```
     /// use deerlapse_aead::aead::KeyInit;

@@ -11,7 +11,7 @@ fn hex(digits: &str) -> Vec<u8> {
         .collect()
 }
 
-/// A buffer that grows: the crate has one for `Vec` under its feature `alloc`.
+/// A buffer that grows. The crate has one for `Vec`, under its feature `alloc`.
 struct Growing(Vec<u8>);
 
 impl AsRef<[u8]> for Growing {
@@ -37,7 +37,7 @@ impl Buffer for Growing {
     }
 }
 
-/// Encrypts and decrypts by any cipher with such nonces and tags, attached and detached.
+/// Encrypts and decrypts with any cipher with these nonce and tag lengths, attached and detached.
 fn run<A>(key: &str, nonce: &str, aad: &str, message: &str, sealed: &str) -> Result<(), Error>
 where
     A: KeyInit + AeadInPlace<NonceSize = U12, TagSize = U16>,

@@ -1,5 +1,5 @@
-//! The calls of `include/deerlapse.h`. `tools/package` of the repository compares these declarations with that header, by
-//! a C compiler, and reads them by their layout: a struct `Sealer` for `deerlapse_sealer`.
+//! The calls of `include/deerlapse.h`. `tools/package` of the repository uses a C compiler to compare these
+//! declarations with that header, and relies on their layout: a struct `Sealer` for `deerlapse_sealer`.
 
 /// `deerlapse_key`.
 #[repr(C)]

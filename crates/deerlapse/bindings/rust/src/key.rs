@@ -6,13 +6,14 @@ use alloc::vec::Vec;
 use core::fmt;
 use core::ops::RangeFrom;
 
-/// A key of AES-128-GCM or AES-256-GCM whose calls take the nonce, and so less safe than a [`Sealer`](crate::Sealer),
-/// which counts its own. A nonce that comes twice under one key reveals the XOR of the two messages, and lets others
-/// forge tags under that key.
+/// An AES-128-GCM or AES-256-GCM key whose calls take the nonce.
 ///
-/// The key is expanded once, in [`new`](Self::new), and is about 3 kilobytes of plain data, for which no call allocates
-/// and which threads may share. A call takes at most 8 KiB of stack. Every call that is refused leaves its buffer as it
-/// came. A key that is dropped is wiped; where it was moved from, its bytes may stay.
+/// It is less safe than a [`Sealer`](crate::Sealer), which counts its own nonces. A nonce that is used twice under one
+/// key reveals the XOR of the two messages, and lets others forge tags under that key.
+///
+/// The key is expanded once, in [`new`](Self::new). It is about 3 kilobytes of plain data, which threads may share. No
+/// call allocates for it, and a call takes at most 8 KiB of stack. A call that fails leaves its buffer unchanged. A key
+/// is wiped when it is dropped; if it was moved, its bytes may remain where it was before.
 ///
 /// ```
 /// use deerlapse::LessSafeKey;
@@ -29,7 +30,9 @@ use core::ops::RangeFrom;
 pub struct LessSafeKey(ffi::Key);
 
 impl LessSafeKey {
-    /// Returns the key of these bytes: 16 for AES-128-GCM, 32 for AES-256-GCM. Refused where there are neither.
+    /// Creates a key from 16 bytes, for AES-128-GCM, or 32, for AES-256-GCM.
+    ///
+    /// Fails if `key_bytes` has any other length.
     ///
     /// ```
     /// use deerlapse::LessSafeKey;
@@ -49,7 +52,7 @@ impl LessSafeKey {
 
     /// Encrypts `in_out` in place, and returns the tag of the ciphertext and the AAD.
     ///
-    /// Refused where the message is longer than 2^36 - 32 bytes.
+    /// Fails if the message is longer than 2^36 - 32 bytes.
     ///
     /// ```
     /// use deerlapse::LessSafeKey;
@@ -83,8 +86,9 @@ impl LessSafeKey {
         Ok(tag)
     }
 
-    /// Encrypts `in_out` in place, and appends the tag: n bytes become n + 16. Refused as in
-    /// [`seal_in_place_separate_tag`](Self::seal_in_place_separate_tag).
+    /// Encrypts `in_out` in place, and appends the tag: n bytes become n + 16.
+    ///
+    /// Fails as [`seal_in_place_separate_tag`](Self::seal_in_place_separate_tag) does.
     ///
     /// ```
     /// use deerlapse::LessSafeKey;
@@ -106,12 +110,14 @@ impl LessSafeKey {
         Ok(())
     }
 
-    /// Opens the ciphertext and tag that are `in_out` from `ciphertext_and_tag.start` on, and returns the plaintext,
-    /// which is then at the front of `in_out`. Bytes after it stay. For a header that is the AAD and stands before the
-    /// ciphertext in one buffer, `split_at_mut` and [`open_in_place`](Self::open_in_place).
+    /// Opens the ciphertext and tag in `in_out` from `ciphertext_and_tag.start` on, and returns the plaintext, which is
+    /// then at the front of `in_out`. The bytes after it are unchanged.
     ///
-    /// Refused where the tag isn't that of the ciphertext and the AAD, where no 16 bytes stand after the start, and
-    /// where the lengths don't fit, as in [`seal_in_place_separate_tag`](Self::seal_in_place_separate_tag).
+    /// If the AAD is a header before the ciphertext in the same buffer, use `split_at_mut` and
+    /// [`open_in_place`](Self::open_in_place).
+    ///
+    /// Fails if the tag is wrong, if there are fewer than 16 bytes after the start, or if a length is not one that
+    /// [`seal_in_place_separate_tag`](Self::seal_in_place_separate_tag) takes.
     ///
     /// ```
     /// use deerlapse::LessSafeKey;
@@ -148,7 +154,7 @@ impl LessSafeKey {
         Ok(&mut in_out[..len])
     }
 
-    /// [`open_within`](Self::open_within) of the whole buffer.
+    /// Opens the ciphertext and tag in the whole of `in_out`, as [`open_within`](Self::open_within) does.
     ///
     /// ```
     /// use deerlapse::{LessSafeKey, Unspecified};
@@ -169,13 +175,13 @@ impl LessSafeKey {
         self.open_within(nonce, aad, in_out, 0..)
     }
 
-    /// Opens the ciphertext that is `in_out` from `ciphertext.start` on, whose tag is `tag`, and returns the plaintext,
-    /// which is then at the front of `in_out`. Bytes after it stay.
+    /// Opens the ciphertext in `in_out` from `ciphertext.start` on, whose tag is `tag`, and returns the plaintext,
+    /// which is then at the front of `in_out`. The bytes after it are unchanged.
     ///
-    /// Where the start isn't 0, the ciphertext is copied first.
+    /// If the start is not 0, the ciphertext is copied first.
     ///
-    /// Refused where the tag isn't that of the ciphertext and the AAD, where the start is after the end, and where the
-    /// lengths don't fit, as in [`seal_in_place_separate_tag`](Self::seal_in_place_separate_tag).
+    /// Fails if the tag is wrong, if the start is after the end, or if a length is not one that
+    /// [`seal_in_place_separate_tag`](Self::seal_in_place_separate_tag) takes.
     ///
     /// ```
     /// use deerlapse::LessSafeKey;
@@ -220,8 +226,8 @@ impl LessSafeKey {
 
     /// Encrypts `message` to `out`, and returns the tag of the ciphertext and the AAD.
     ///
-    /// Refused where the two have different lengths, and where the message is longer than 2^36 - 32 bytes. `out` is then
-    /// as it was.
+    /// Fails if `out` is not as long as `message`, or if the message is longer than 2^36 - 32 bytes. `out` is then
+    /// unchanged.
     ///
     /// ```
     /// use deerlapse::LessSafeKey;
@@ -262,8 +268,8 @@ impl LessSafeKey {
 
     /// Opens `ciphertext`, whose tag is `tag`, to `out`.
     ///
-    /// Refused where the tag isn't that of the ciphertext and the AAD, where `out` has another length than the
-    /// ciphertext, and where the lengths don't fit, as in [`seal_to`](Self::seal_to). `out` is then as it was.
+    /// Fails if the tag is wrong, if `out` is not as long as `ciphertext`, or if a length is not one that
+    /// [`seal_to`](Self::seal_to) takes. `out` is then unchanged.
     ///
     /// ```
     /// use deerlapse::{LessSafeKey, Unspecified};

@@ -40,7 +40,7 @@ pub const NONCE_LEN: usize = 12;
 /// ```
 pub const TAG_LEN: usize = 16;
 
-/// The error of every call. It doesn't say why the call refuses; each call says when it does.
+/// The error of every call. It does not say why the call failed: the documentation of each call lists the reasons.
 ///
 /// ```
 /// use deerlapse::{LessSafeKey, Unspecified};
@@ -59,7 +59,7 @@ impl fmt::Display for Unspecified {
 
 impl Error for Unspecified {}
 
-/// Ok where the library returns true.
+/// Returns `Ok` if the library returned true.
 fn accepted(answer: bool) -> Result<(), Unspecified> {
     if answer {
         Ok(())
@@ -68,7 +68,7 @@ fn accepted(answer: bool) -> Result<(), Unspecified> {
     }
 }
 
-/// Overwrites words with zeros, which the compiler keeps although nobody reads them.
+/// Overwrites words with zeros. The compiler keeps the writes, although nothing reads the words.
 fn wipe(words: &mut [u64]) {
     for word in words {
         // SAFETY: it is a reference.

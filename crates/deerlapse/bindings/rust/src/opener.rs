@@ -4,7 +4,7 @@ use crate::{accepted, ffi, wipe, Unspecified, NONCE_LEN};
 use core::fmt;
 use core::ops::{Range, RangeFrom};
 
-/// A key of AES-GCM that opens what a [`Sealer`](crate::Sealer) of the same key and IV sealed, in order or by number.
+/// An AES-GCM key that opens what a [`Sealer`](crate::Sealer) with the same key and IV sealed, in order or by number.
 ///
 /// It holds the expanded key, as [`LessSafeKey`](crate::LessSafeKey) does, and is wiped when it is dropped.
 ///
@@ -27,8 +27,9 @@ pub struct Opener {
 }
 
 impl Opener {
-    /// Returns the opener that expects messages with these numbers, in order. Refused where the key hasn't 16 or 32 bytes,
-    /// and where the range starts above its end.
+    /// Creates an opener for messages with these numbers, in order.
+    ///
+    /// Fails if the key does not have 16 or 32 bytes, or if the range starts after its end.
     ///
     /// ```
     /// use deerlapse::Opener;
@@ -60,7 +61,7 @@ impl Opener {
         Ok(opener)
     }
 
-    /// Returns the numbers that are left: the first of them is that of the message that is opened next in order.
+    /// Returns the numbers that are left. The first is the number of the message that is opened next in order.
     ///
     /// ```
     /// let opener = deerlapse::Opener::new(&[0; 16], &[0; 12], 7..9)?;
@@ -73,11 +74,11 @@ impl Opener {
         next..self.limit
     }
 
-    /// Opens the next message in order, whose ciphertext and tag are `in_out` from `ciphertext_and_tag.start` on, and
-    /// returns the plaintext, which is then at the front of `in_out`. Bytes after it stay.
+    /// Opens the next message in order, whose ciphertext and tag are in `in_out` from `ciphertext_and_tag.start` on,
+    /// and returns the plaintext, which is then at the front of `in_out`. The bytes after it are unchanged.
     ///
-    /// Refused where no number is left, and where [`LessSafeKey::open_within`](crate::LessSafeKey::open_within) is. A
-    /// refusal counts nothing: the message with that number may still come.
+    /// Fails if no number is left, or if [`LessSafeKey::open_within`](crate::LessSafeKey::open_within) does. The number
+    /// is then not counted, so the message with this number can still be opened.
     ///
     /// ```
     /// use deerlapse::{Opener, Sealer};
@@ -112,7 +113,7 @@ impl Opener {
         Ok(&mut in_out[..len])
     }
 
-    /// [`open_within`](Self::open_within) of the whole buffer.
+    /// Opens the ciphertext and tag in the whole of `in_out`, as [`open_within`](Self::open_within) does.
     ///
     /// ```
     /// use deerlapse::{Opener, Sealer};
@@ -132,11 +133,13 @@ impl Opener {
         self.open_within(aad, in_out, 0..)
     }
 
-    /// [`open_within`](Self::open_within) of the message with a number that the caller knows, as from a packet. It counts
-    /// nothing and has no limit, and threads may share the opener. Whether a number was there before is the caller's
-    /// matter: it opens a message again.
+    /// Opens the message with a number that the caller knows, for example from a packet, as
+    /// [`open_within`](Self::open_within) does.
     ///
-    /// Refused where [`LessSafeKey::open_within`](crate::LessSafeKey::open_within) is.
+    /// It counts nothing and has no limit, and threads may share the opener. It opens a message any number of times:
+    /// whether a number was opened before is the caller's responsibility.
+    ///
+    /// Fails if [`LessSafeKey::open_within`](crate::LessSafeKey::open_within) does.
     ///
     /// ```
     /// use deerlapse::{Opener, Sealer};
@@ -172,7 +175,7 @@ impl Opener {
         Ok(&mut in_out[..len])
     }
 
-    /// [`open_number_within`](Self::open_number_within) of the whole buffer.
+    /// Opens the ciphertext and tag in the whole of `in_out`, as [`open_number_within`](Self::open_number_within) does.
     ///
     /// ```
     /// use deerlapse::{Opener, Sealer};
@@ -201,7 +204,7 @@ impl Drop for Opener {
     }
 }
 
-/// Prints the numbers that are left, and nothing of the key or the IV.
+/// Prints the numbers that are left, but not the key or the IV.
 impl fmt::Debug for Opener {
     fn fmt(&self, f: &mut fmt::Formatter<'_>) -> fmt::Result {
         f.debug_struct("Opener")

@@ -6,8 +6,8 @@ use alloc::vec::Vec;
 use core::fmt;
 use core::ops::Range;
 
-/// A key of AES-GCM that seals each message under a nonce of its own: an IV XOR the message's number (RFC 8446 section
-/// 5.3, RFC 9001 section 5.3).
+/// An AES-GCM key that seals each message under its own nonce: an IV XOR the message's number (RFC 8446 section 5.3,
+/// RFC 9001 section 5.3).
 ///
 /// It holds the expanded key, as [`LessSafeKey`](crate::LessSafeKey) does, and is wiped when it is dropped.
 /// [`Opener`](crate::Opener) opens what it seals.
@@ -24,7 +24,7 @@ use core::ops::Range;
 /// # Ok::<(), deerlapse::Unspecified>(())
 /// ```
 ///
-/// It can't be cloned, since the clone would spend the same nonces again:
+/// It cannot be cloned, because the clone would use the same nonces again:
 ///
 /// ```compile_fail
 /// let sealer = deerlapse::Sealer::new(&[0; 16], &[0; 12], 0..9)?;
@@ -37,11 +37,12 @@ pub struct Sealer {
 }
 
 impl Sealer {
-    /// Returns the sealer whose messages have these numbers, in order. Refused where the key hasn't 16 or 32 bytes, and
-    /// where the range starts above its end.
+    /// Creates a sealer whose messages have these numbers, in order.
     ///
-    /// None of its nonces may come from another sealer, or be handed to a `LessSafeKey` that seals, under the same key: a
-    /// key for one sealer alone is the simplest way.
+    /// Under the same key, none of its nonces may be used by another sealer, or for sealing with a `LessSafeKey`. The
+    /// simplest way is a key for this sealer alone.
+    ///
+    /// Fails if the key does not have 16 or 32 bytes, or if the range starts after its end.
     ///
     /// ```
     /// use deerlapse::Sealer;
@@ -73,7 +74,7 @@ impl Sealer {
         Ok(sealer)
     }
 
-    /// Returns the numbers that are left: the first of them is that of the next message.
+    /// Returns the numbers that are left. The first is the number of the next message.
     ///
     /// ```
     /// let mut sealer = deerlapse::Sealer::new(&[0; 16], &[0; 12], 7..9)?;
@@ -90,8 +91,8 @@ impl Sealer {
     /// Encrypts `in_out` in place under the nonce of the next number, and returns the tag of the ciphertext and the
     /// AAD.
     ///
-    /// Refused where no number is left and where the message is longer than 2^36 - 32 bytes. A refusal spends no number
-    /// and leaves the buffer as it came.
+    /// Fails if no number is left, or if the message is longer than 2^36 - 32 bytes. No number is then used, and the
+    /// buffer is unchanged.
     ///
     /// ```
     /// use deerlapse::{Sealer, Unspecified};
@@ -123,7 +124,8 @@ impl Sealer {
         Ok(tag)
     }
 
-    /// [`seal_in_place_separate_tag`](Self::seal_in_place_separate_tag) that appends the tag: n bytes become n + 16.
+    /// Encrypts `in_out` in place as [`seal_in_place_separate_tag`](Self::seal_in_place_separate_tag) does, and appends
+    /// the tag: n bytes become n + 16.
     ///
     /// ```
     /// let mut sealer = deerlapse::Sealer::new(&[0; 16], &[0; 12], 0..1)?;
@@ -151,7 +153,7 @@ impl Drop for Sealer {
     }
 }
 
-/// Prints the numbers that are left, and nothing of the key or the IV.
+/// Prints the numbers that are left, but not the key or the IV.
 impl fmt::Debug for Sealer {
     fn fmt(&self, f: &mut fmt::Formatter<'_>) -> fmt::Result {
         f.debug_struct("Sealer")
@@ -160,8 +162,8 @@ impl fmt::Debug for Sealer {
     }
 }
 
-/// Returns the nonce of a number under an IV, for opening what a [`Sealer`] sealed by a
-/// [`LessSafeKey`](crate::LessSafeKey).
+/// Returns the nonce of a number under an IV, for opening with a [`LessSafeKey`](crate::LessSafeKey) what a [`Sealer`]
+/// sealed.
 ///
 /// ```
 /// // RFC 9001 appendix A.5

@@ -2,8 +2,10 @@
 
 use crate::{accepted, ffi, Unspecified, NONCE_LEN};
 
-/// Returns the header protection mask of a sample by AES (RFC 9001 section 5.4.3): AES-128 under a key of 16 bytes,
-/// AES-256 under one of 32. Refused where the key has another length.
+/// Returns the header protection mask for a sample, with AES-128 for a key of 16 bytes and with AES-256 for one of 32
+/// (RFC 9001 section 5.4.3).
+///
+/// Fails if the key has any other length.
 ///
 /// ```
 /// // RFC 9001 appendix A.2
@@ -21,7 +23,7 @@ pub fn mask_aes(key: &[u8], sample: &[u8; 16]) -> Result<[u8; 5], Unspecified> {
     Ok(mask)
 }
 
-/// Returns the header protection mask of a sample by ChaCha20 (RFC 9001 section 5.4.4).
+/// Returns the header protection mask for a sample, with ChaCha20 (RFC 9001 section 5.4.4).
 ///
 /// ```
 /// // RFC 9001 appendix A.5
@@ -40,10 +42,12 @@ pub fn mask_chacha20(key: &[u8; 32], sample: &[u8; 16]) -> [u8; 5] {
     mask
 }
 
-/// XORs `in_out` with the ChaCha20 stream from block `counter` on (RFC 8439 section 2.4), which encrypts and decrypts.
-/// It makes no tag: whoever changes the ciphertext changes the plaintext.
+/// XORs `in_out` with the ChaCha20 stream from block `counter` on, which both encrypts and decrypts (RFC 8439 section
+/// 2.4).
 ///
-/// Refused where the stream would go past the last block, whose counter is 2^32 - 1.
+/// It computes no tag: a changed ciphertext decrypts to a changed plaintext.
+///
+/// Fails if the stream would go past the last block, whose counter is 2^32 - 1.
 ///
 /// ```
 /// let mut bytes = *b"hello";

@@ -1,4 +1,4 @@
-//! The functions on standard vectors, and what they refuse.
+//! The functions on standard vectors, and the calls that fail.
 
 use deerlapse::{
     chacha20, mask_aes, mask_chacha20, nonce_of, LessSafeKey, Opener, Sealer, Unspecified,
@@ -222,7 +222,7 @@ fn an_opener_counts_what_it_opens() -> Result<(), Unspecified> {
     Ok(())
 }
 
-/// The bytes of a value after it was dropped where it lies.
+/// The bytes of a value after it is dropped in place.
 fn dropped<T>(value: T) -> Vec<u8> {
     let mut place = MaybeUninit::new(value);
     // SAFETY: the value is there, and nobody uses it again. Its bytes stay, and it has no padding.
@@ -240,7 +240,7 @@ fn a_dropped_key_is_wiped() -> Result<(), Unspecified> {
     assert!(key
         .seal_in_place_separate_tag([0; 12], b"", &mut buffer)
         .is_ok());
-    // The numbers end at 0, so that the limit is zeros too.
+    // The numbers end at 0, so the limit is zeros too.
     let sealer = Sealer::new(&[7; 32], &[7; 12], 0..0)?;
     assert!(dropped(sealer).iter().all(|&byte| byte == 0));
     let opener = Opener::new(&[7; 32], &[7; 12], 0..0)?;
