@@ -145,9 +145,9 @@ bool deerlapse_open(const uint8_t *key, size_t key_len, const uint8_t nonce[DEER
 
 /* A key that seals each message under its own nonce: an IV XOR the message's number, in eight big-endian bytes after four
  * zeros (RFC 8446 section 5.3, RFC 9001 section 5.3). It is in the caller's memory, and deerlapse_sealer_init initializes
- * it. Calls on a sealer of zeros fail, and any other memory must only be passed to deerlapse_sealer_init. Never copy it:
- * the copy would use the same nonces again. Only one thread may use it at a time. It has room for the fields of a later
- * version. Nothing has to be freed. To wipe it, overwrite its bytes with zeros by a call that the compiler keeps, such as
+ * it. A sealer of zeros seals nothing, and any other memory must only be passed to deerlapse_sealer_init. Never copy it: the
+ * copy would use the same nonces again. Only one thread may use it at a time. It has room for the fields of a later version.
+ * Nothing has to be freed. To wipe it, overwrite its bytes with zeros by a call that the compiler keeps, such as
  * explicit_bzero. */
 typedef struct deerlapse_sealer {
     uint64_t words[400]; /* private: neither read nor write them */
