@@ -15,11 +15,13 @@ use std::mem::size_of;
 #[repr(C)]
 #[derive(Drop)]
 pub struct NumberedKey {
+    /// The expanded key.
     pub key: ExpandedKey,
     /// The number of the next message.
     pub next: u64,
     /// The end of the numbers: no message gets this one.
     pub limit: u64,
+    /// The IV, which is XORed with each number.
     pub iv: [u8; NONCE_LEN],
 }
 

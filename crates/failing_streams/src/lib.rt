@@ -13,6 +13,7 @@ const INTERRUPTED_EVERY: u32 = 4;
 /// Every fourth call is interrupted, with `Interrupted`, unless it is a flush or the call that fails.
 #[derive(Drop)]
 pub struct FailingStream<T> {
+    /// The stream that bytes are moved from or to.
     pub inner: T,
     /// The most bytes that a read or a write moves. At least one is moved.
     pub most: usize,

@@ -37,11 +37,17 @@ pub enum Action {
 /// A file to be sealed or opened.
 #[derive(Drop)]
 pub struct Conversion {
+    /// Whether to seal or to open.
     pub action: Action,
+    /// The name of the key file.
     pub key_file: Name,
+    /// IN, or `None` for standard input.
     pub input: Option<Name>,
+    /// OUT, or `None` for standard output.
     pub output: Option<Name>,
+    /// Whether OUT may be replaced.
     pub has_force: bool,
+    /// Whether to show progress on standard error.
     pub has_progress: bool,
 }
 
