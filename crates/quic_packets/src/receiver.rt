@@ -143,7 +143,8 @@ impl Receiver {
     /// `number_at` is 0; with `NoSample` if the packet has fewer than `number_at + 20` bytes; with `TooLong` if it is longer
     /// than AES-GCM allows; and with `Refused`, which is counted, if it is not authentic. The packet is then unchanged. For an
     /// authentic packet, which is then opened in place, fails with `ReservedBits` if its reserved bits are set, with
-    /// `Duplicate` if its number was already received, and with `KeyUpdate` if its key phase is out of turn.
+    /// `Duplicate` if its number was already received or is below the window of `space`, and with `KeyUpdate` if its key phase
+    /// is out of turn.
     ///
     /// Before a packet is known to be authentic, its masked bits only determine the length of the header and the key that opens
     /// it (RFC 9001 section 9.5).
