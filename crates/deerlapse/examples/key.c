@@ -1,4 +1,4 @@
-/* Expands a key once, and seals and opens under nonces of the caller's. */
+/* Expands a key once, and seals and opens with the caller's nonces. */
 #include "deerlapse.h"
 #include <stdio.h>
 

@@ -1,4 +1,4 @@
-/* Seals one message under a key for it alone, and opens it. */
+/* Seals one message under a key that is used once, and opens it. */
 #include "deerlapse.h"
 #include <stdio.h>
 

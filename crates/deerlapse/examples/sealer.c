@@ -27,7 +27,7 @@ int main(void) {
 
     deerlapse_opener opener;
     if (!deerlapse_opener_init(&opener, key, sizeof key, iv, 0, 1 << 24)) return 1;
-    /* The second message isn't message 0: its tag is false there, no byte changes, and nothing is counted. */
+    /* The second message is not message 0: its tag is wrong, no byte changes, and no number is counted. */
     if (opens(&opener, second, sizeof second)) return 1;
     return opens(&opener, first, sizeof first) && opens(&opener, second, sizeof second) ? 0 : 1;
 }

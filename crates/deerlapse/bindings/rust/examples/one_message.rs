@@ -1,4 +1,4 @@
-//! Seals one message under a nonce of the caller's, and opens it.
+//! Seals one message with the caller's nonce, and opens it.
 
 use deerlapse::LessSafeKey;
 use std::error::Error;

@@ -13,7 +13,7 @@ fn main() -> Result<(), Unspecified> {
     sealer.seal_in_place_append_tag(b"v1", &mut first)?;
     sealer.seal_in_place_append_tag(b"v1", &mut second)?;
 
-    // The second message isn't message 0: its tag is false there, no byte changes, and nothing is counted.
+    // The second message is not message 0: its tag is wrong, no byte changes, and no number is counted.
     let mut opener = Opener::new(&key, &iv, 0..1 << 24)?;
     assert_eq!(opener.open_in_place(b"v1", &mut second), Err(Unspecified));
     for message in [&mut first, &mut second] {
