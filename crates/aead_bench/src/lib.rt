@@ -1,4 +1,4 @@
-//! Loops over the library's calls, which `bench/bench.c` times against other libraries.
+//! Loops over the library's calls, which `bench/bench.c` times beside other implementations.
 //!
 //! Each loop takes a number of turns, a key and a buffer, works on the buffer in place if the call does, and returns eight
 //! bytes of its output, so that both sides can be compared. If the key or the buffer is not of a length that the call takes,

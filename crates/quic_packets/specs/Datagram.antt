@@ -56,8 +56,8 @@ opaque_layout datagram start packet_type =
     let from = source_end datagram start in
     long_layout datagram start packet_type (span from from) None (max from (length datagram))
 
--- after the token, if there is one, come the Length field, the packet number and the payload, whose lengths it adds up (section
--- 17.2)
+-- after the token, if there is one: the Length field, and then the packet number and the payload, which have that length
+-- together (section 17.2)
 abbrev pub numbered_layout : List ℕ → ℕ → PacketType → Range ℕ → Packet
 numbered_layout datagram start packet_type token =
     let number_at = varint_end datagram token.end in

@@ -38,7 +38,7 @@ is_other_phase r first = bit_and first 0x84 == (if r.phase then 0x00 else 0x04)
 abbrev pub key_of : Receiver → ℕ → ℕ → Option Receiving
 key_of r first number = if is_other_phase r first then (if nat_lt number r.lowest then r.previous else r.next) else Some r.current
 
--- the key that a packet is opened with: another one if its own is not held, so that the time does not reveal which (section
+-- the key that a packet is opened with: another one if its own is not held, so that the time does not reveal this (section
 -- 6.3)
 abbrev pub opening_key : Receiver → ℕ → ℕ → Receiving
 opening_key r first number = unwrap_or (key_of r first number) r.current

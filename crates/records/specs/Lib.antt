@@ -1,4 +1,4 @@
--- What the contracts cite.
+-- The definitions that the contracts use.
 pub mod Keys
 pub mod Record
 pub mod Refusals

@@ -11,7 +11,7 @@ pub fn others_may_read(metadata: &Metadata) -> bool {
     metadata.permissions().mode() & 0o044 != 0
 }
 
-/// Returns whether the metadata is of one file.
+/// Returns whether both metadata are of the same file.
 pub fn are_same(first: &Metadata, second: &Metadata) -> bool {
     first.dev() == second.dev() && first.ino() == second.ino()
 }
