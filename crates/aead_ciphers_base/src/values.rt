@@ -16,7 +16,7 @@ pub const MAX_TAG_LEN: usize = 16;
 /// The 16 bytes of a packet from which its header protection mask is computed (RFC 9001 section 5.4.2).
 pub type Sample = [u8; 16];
 
-/// A nonce: 12 bytes that are used only once under a key. It is consumed by use, and cannot be cloned.
+/// A nonce: 12 bytes that are used only once under a key. Calls consume it, and it cannot be cloned.
 #[derive(Drop)]
 pub struct Nonce {
     bytes: [u8; NONCE_LEN],

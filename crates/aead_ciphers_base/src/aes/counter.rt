@@ -91,7 +91,7 @@ fn is_some_counter(block: &[u8])
     ensures { (nonce : List ℕ) × (k : ℕ) × IsCounter block.now nonce k }
 {}
 
-/// A counter block that is used only once.
+/// A counter block of 16 bytes that is used only once.
 #[derive(Drop)]
 pub struct Iv {
     block: Block,

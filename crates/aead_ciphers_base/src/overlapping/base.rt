@@ -49,8 +49,8 @@ impl<'o, T> Overlapping<'o, T> {
         Ok(Overlapping { in_out, start })
     }
 
-    /// Creates a buffer whose input starts at `start`, which is known to be at most the length of the
-    /// slice.
+    /// Creates a buffer whose input starts at `start`, without a check. `start` must be at most the length
+    /// of the slice.
     pub fn within(in_out: &'o mut [T], start: usize) -> Self
         requires { start ≤ length in_out.old }
         ensures same_reference { result.in_out.ghost_name ≡ in_out.entry.ghost_name }

@@ -48,7 +48,7 @@ impl<'i, T, const BLOCK_LEN: usize> PartialBlock<'i, T, BLOCK_LEN> {
         Ok(PartialBlock { in_out, start })
     }
 
-    /// Creates a `PartialBlock` from a buffer whose input is known to have fewer than `BLOCK_LEN` items.
+    /// Creates a `PartialBlock` without a check. The input must have fewer than `BLOCK_LEN` items.
     pub fn short(in_out: Overlapping<'i, T>) -> Self
         requires { input_len in_out < BLOCK_LEN }
         ensures same_reference { result.in_out.ghost_name ≡ in_out.entry.in_out.ghost_name }

@@ -46,7 +46,7 @@ pub fn as_chunks<T, const N: usize>(items: &[T]) -> (AsChunks<'_, T, N>, &[T])
 }
 
 impl<'a, T, const N: usize> AsChunks<'a, T, N> {
-    /// Creates a view of a slice that is known to consist of whole blocks.
+    /// Creates a view of a slice whose length is a multiple of `N`.
     pub fn from_whole(items: &'a [T]) -> Self
         requires { length items.now % N ≡ 0 }
         ensures { result.items.now ≡ items.now }
@@ -74,7 +74,7 @@ impl<'a, T, const N: usize> AsChunks<'a, T, N> {
         self.items
     }
 
-    /// Returns `true` if there are no items.
+    /// Returns `true` if the view has no items.
     pub fn is_empty(&self) -> bool
         ensures { IsTrue result ↔ (self.now.items.now ≡ []) }
     {

@@ -66,7 +66,7 @@ impl<'a, 'b, T, const N: usize> From<&'a AsChunksMut<'b, T, N>> for AsChunks<'a,
 impl<'a, T, const N: usize> AsChunksMut<'a, T, N> {
     ghost use Rattle.aead_ciphers_base.specs.AsChunksMut.{KeepsCount, LendsItems, LendsParts};
 
-    /// Creates a view of a slice that is known to consist of whole blocks.
+    /// Creates a view of a slice whose length is a multiple of `N`.
     pub fn from_whole(items: &'a mut [T]) -> Self
         requires { length items.old % N ≡ 0 }
         ensures same_reference { result.items.ghost_name ≡ items.entry.ghost_name }
