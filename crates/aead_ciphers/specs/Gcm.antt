@@ -1,5 +1,5 @@
--- Authenticated encryption over a block cipher of 16-byte blocks, with 12-byte nonces and 16-byte tags
--- (SP 800-38D section 7). A cipher is a function on blocks; bytes are taken by index, and 0 past the end.
+-- Authenticated encryption with a block cipher of 16-byte blocks, 12-byte nonces and 16-byte tags (SP 800-38D
+-- section 7). A cipher is a function on blocks. Bytes are taken by index, and are 0 past the end.
 use Rattle.std.specs.Prelude.{◌≡◌, ◌↔◌, ℕ, Bool, IsTrue, if◌then◌else◌, ◌+◌, ◌-◌, ◌*◌, ◌/◌, ◌^◌, ◌<◌, ◌≤◌, List, [], ◌∷◌, ◌++◌, length, take, drop, slice_index, Result, OnOk, OnErr}
 use Rattle.std.specs.Int.{to_be_bytes, w64}
 use Rattle.aead_ciphers_base.specs.Bytes.{each_below, ◌⊕◌, zero_block}
@@ -7,49 +7,50 @@ use Rattle.aead_ciphers_base.specs.CounterMode.{counter_block, counter_mode}
 use Rattle.aead_ciphers_base.specs.Work.{Adds, CanAdd, Tallies}
 use Rattle.aead_ciphers.specs.Ghash.{ghash}
 
--- 16 bytes from byte 16 i on, zeros past the end (section 7.1 step 4)
+-- the 16 bytes from byte 16 i on, with zeros past the end (section 7.1 step 4)
 unfoldable pub padded_block : List ℕ → ℕ → List ℕ
 padded_block bytes i = each_below 16 (λ j. slice_index bytes (16 * i + j))
 
--- the bytes in blocks, the last padded with zeros (section 7.1 step 4)
+-- the bytes in blocks, the last of which is padded with zeros (section 7.1 step 4)
 unfoldable pub padded_blocks : List ℕ → List (List ℕ)
 padded_blocks bytes = each_below ((length bytes + 15) / 16) (padded_block bytes)
 
--- the numbers of bits of a bytes of AAD and n bytes of ciphertext, in eight big-endian bytes each (section 7.1 step 5)
+-- the lengths of a bytes of AAD and n bytes of ciphertext, in bits, in eight big-endian bytes each (section 7.1 step 5)
 unfoldable pub length_block : ℕ → ℕ → List ℕ
 length_block a n = to_be_bytes w64 (8 * a) ++ to_be_bytes w64 (8 * n)
 
--- the blocks that a tag hashes: the AAD and the ciphertext, each padded by itself, and their lengths (section 7.1 step 5)
+-- the blocks that a tag hashes: those of the AAD and of the ciphertext, each padded by itself, and that of their
+-- lengths (section 7.1 step 5)
 unfoldable pub hashed : List ℕ → List ℕ → List (List ℕ)
 hashed aad ciphertext =
     padded_blocks aad ++ padded_blocks ciphertext ++ length_block (length aad) (length ciphertext) ∷ []
 
--- the lengths of AAD and message, in bytes, that have a ciphertext (section 5.2.1.1)
+-- the lengths of AAD and plaintext are within the limits, in bytes (section 5.2.1.1)
 pub record Fits (a n : ℕ) : Type 0 where
   pub aad : a < 2 ^ 61
   pub message : n ≤ 2 ^ 36 - 32
 
--- the ciphertext of a message: counter mode from counter block 2 on (section 7.1 step 3)
+-- the ciphertext of a plaintext: counter mode from counter block 2 on (section 7.1 step 3)
 abbrev pub gcm_encrypted : (List ℕ → List ℕ) → List ℕ → List ℕ → List ℕ
 gcm_encrypted cipher nonce message = counter_mode cipher nonce 2 message
 
--- the message of a ciphertext: the same (section 7.2 step 4)
+-- the plaintext of a ciphertext, by the same counter mode (section 7.2 step 4)
 abbrev pub gcm_decrypted : (List ℕ → List ℕ) → List ℕ → List ℕ → List ℕ
 gcm_decrypted cipher nonce ciphertext = counter_mode cipher nonce 2 ciphertext
 
--- the tag of a ciphertext, its hash subkey being the cipher of the zero block (section 7.1 steps 1 and 6)
+-- the tag of a ciphertext; the hash subkey is the encrypted zero block (section 7.1 steps 1 and 6)
 unfoldable pub gcm_tag : (List ℕ → List ℕ) → List ℕ → List ℕ → List ℕ → List ℕ
 gcm_tag cipher nonce aad ciphertext =
     ghash (cipher zero_block) (hashed aad ciphertext) ⊕ cipher (counter_block nonce 1)
 
--- the ciphertext of a message, followed by its tag (section 7.1 step 7)
+-- the ciphertext of a plaintext followed by its tag (section 7.1 step 7)
 abbrev pub gcm_sealed : (List ℕ → List ℕ) → List ℕ → List ℕ → List ℕ → List ℕ
 gcm_sealed cipher nonce aad message =
     let ciphertext = gcm_encrypted cipher nonce message in ciphertext ++ gcm_tag cipher nonce aad ciphertext
 
--- What opening a ciphertext, where it is in range, under a received tag makes of the buffer that it stands in, and whether
--- it accepts (section 7.2): exactly a ciphertext that is there and fits, under its own tag. The message then stands at
--- the front, and the later bytes stay; a refusal changes no byte.
+-- Whether opening accepts, and what the buffer then holds (section 7.2). It accepts exactly if the ciphertext is in
+-- range, the lengths are within the limits, and the received tag is the tag of the ciphertext. The plaintext is then at
+-- the front of the buffer, and the bytes after it are unchanged. If it rejects, the buffer is unchanged.
 pub record Opens (cipher : List ℕ → List ℕ) (nonce aad received ciphertext : List ℕ) (in_range : Type 0)
     (old : List ℕ) (accepts : Bool) (new : List ℕ) : Type 0 where
   pub accepted : IsTrue accepts
@@ -61,37 +62,37 @@ abbrev pub Opened : (cipher : List ℕ → List ℕ) (nonce aad received : List 
 Opened cipher nonce aad received start old accepts new =
     Opens cipher nonce aad received (drop start old) (start ≤ length old) old accepts new
 
--- the same with the tag attached: it is the buffer's last 16 bytes, and stays
+-- the same with the tag attached, which is the last 16 bytes of the buffer and is unchanged
 abbrev pub OpenedAttached : (cipher : List ℕ → List ℕ) (nonce aad : List ℕ) (start : ℕ) (old : List ℕ) (accepts : Bool) (new : List ℕ) → Type 0
 OpenedAttached cipher nonce aad start old accepts new =
     let n = length old - 16 in
     Opens cipher nonce aad (drop n old) (drop start (take n old)) (start + 16 ≤ length old) old accepts new
 
--- the cipher blocks of a seal, or of an open that accepts, of n bytes of message: one for each block of the message, and
--- one for the tag (section 7.1 steps 3 and 6)
+-- the cipher blocks of sealing n bytes of plaintext, or of opening them with success: one for each block of the
+-- plaintext, and one for the tag (section 7.1 steps 3 and 6)
 abbrev pub sealing_blocks : ℕ → ℕ
 sealing_blocks n = (n + 15) / 16 + 1
 
--- the field products of a seal or an open of a bytes of AAD and n bytes of message: one for each block that is hashed
+-- the field products of sealing or opening a bytes of AAD and n bytes of plaintext: one for each block that is hashed
 -- (sections 6.4 and 7.1 step 5)
 abbrev pub sealing_products : ℕ → ℕ → ℕ
 sealing_products a n = (a + 15) / 16 + (n + 15) / 16 + 1
 
--- the tallies have room for a seal of n bytes of message under a bytes of AAD, unless the lengths are refused
+-- the tallies have room for sealing n bytes of plaintext with a bytes of AAD, if the lengths are within the limits
 abbrev pub CanSeal : Tallies → ℕ → ℕ → Type 0
 CanSeal work a n = Fits a n → CanAdd work (sealing_blocks n) (sealing_products a n)
 
--- and for an open of the bytes from `start` on of a buffer of len bytes, unless the start or the lengths are refused
+-- the same for opening the bytes from `start` on of a buffer of len bytes, if the start is in range
 abbrev pub CanOpen : Tallies → ℕ → ℕ → ℕ → Type 0
 CanOpen work a start len = start ≤ len → CanSeal work a (len - start)
 
--- the tallies of a seal of n bytes of message under a bytes of AAD; a refused seal counts nothing
+-- the tallies of sealing n bytes of plaintext with a bytes of AAD; a call that fails counts nothing
 pub record SealWork {T E : Type 0} (a n : ℕ) (result : Result T E) (was now : Tallies) : Type 0 where
   pub worked : OnOk result (Adds was now (sealing_blocks n) (sealing_products a n))
   pub idle : OnErr result (Adds was now 0 0)
 
--- the tallies of an open of the bytes from `start` on of a buffer of len bytes: a false tag is found by the products
--- and one block, and where the start or the lengths are refused nothing is counted
+-- The tallies of opening the bytes from `start` on of a buffer of len bytes. A false tag costs all products but only
+-- one block. If the start is out of range or the lengths exceed the limits, nothing is counted.
 pub record OpenWork {T E : Type 0} (a start len : ℕ) (result : Result T E) (was now : Tallies) : Type 0 where
   pub worked : let n = len - start in OnOk result (Adds was now (sealing_blocks n) (sealing_products a n))
   pub false_tag : start ≤ len → let n = len - start in

@@ -10,7 +10,7 @@ pub record IsBlock (block : List ℕ) : Type 0 where
   pub size : length block ≡ 16
   pub bytes : All (λ byte. byte < 256) block
 
--- each of the list has 16 bytes (section 6.4)
+-- each block in the list has 16 bytes (section 6.4)
 abbrev pub AllSized : List (List ℕ) → Type 0
 AllSized [] = Unit {0}
 AllSized (x ∷ xs) = (length x ≡ 16) × AllSized xs
@@ -23,7 +23,7 @@ block_bits block = flat_map (λ byte. reverse (bits_of 8 byte)) block
 unfoldable pub block_of : List Bool → List ℕ
 block_of bits = to_be_bytes w128 (value_of (reverse bits))
 
--- section 6.3: the modulus is 1 + u + u^2 + u^7 + u^128, and these are its powers below 128
+-- section 6.3: the modulus is 1 + u + u^2 + u^7 + u^128, and these are its exponents below 128
 abbrev pub block_taps : List ℕ
 block_taps = 0 ∷ 1 ∷ 2 ∷ 7 ∷ []
 
@@ -32,11 +32,11 @@ infixl 70 ◌•◌
 unfoldable pub ◌•◌ : List ℕ → List ℕ → List ℕ
 x • y = block_of (field_product block_taps 128 (block_bits x) (block_bits y))
 
--- section 6.3: the block of the polynomial 1, whose product with each block is that block
+-- section 6.3: the block of the polynomial 1, whose product with any block is that block
 abbrev pub unit_block : List ℕ
 unit_block = 0x80 ∷ replicate 15 0
 
--- section 6.3: the power h^(k + 1), as h^2 = h • h
+-- section 6.3: the power h^(k + 1), where h^2 = h • h
 abbrev pub power : List ℕ → ℕ → List ℕ
 power h zero = h
 power h (suc k) = power h k • h

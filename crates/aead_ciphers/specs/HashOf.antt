@@ -1,4 +1,4 @@
--- What contracts say of a hash that runs over a list of blocks.
+-- What a contract says of a GHASH that is computed over a list of blocks.
 use Rattle.std.specs.Prelude.{◌≡◌, ℕ, Bool, if◌then◌else◌, List, ◌++◌}
 use Rattle.aead_ciphers.specs.Gcm.{padded_blocks}
 use Rattle.aead_ciphers.specs.Ghash.{AllSized, ghash}
@@ -8,19 +8,19 @@ pub record IsHashOf (h : List ℕ) (blocks : List (List ℕ)) (xi : List ℕ) : 
   pub sized : AllSized blocks
   pub value : ghash h blocks ≡ xi
 
--- what a contract sees of a `Context`: its hash subkey, the lengths in bytes that its last block has, and its running block
+-- what a contract sees of a `Context`: its hash subkey, the two lengths in its last block in bytes, and the hash so far
 pub record HashState : Type 0 where
   pub hash_subkey : List ℕ
   pub aad_len : ℕ
   pub in_out_len : ℕ
   pub xi : List ℕ
 
--- the hash took in bytes, in blocks, the last padded with zeros, and nothing else of it changed
+-- the hash absorbed bytes in blocks, the last of which is padded with zeros, and nothing else of it changed
 pub record Absorbs (was : HashState) (input : List ℕ) (now : HashState) : Type 0 where
   pub kept : now ≡ record was { xi = now.xi }
   pub hashed : (done : List (List ℕ)) → IsHashOf was.hash_subkey done was.xi
       → IsHashOf was.hash_subkey (done ++ padded_blocks input) now.xi
 
--- the field products of so many blocks, where they are hashed
+-- the field products of this many blocks: one each if they are hashed, else none
 abbrev pub products_of : Bool → ℕ → ℕ
 products_of hashes blocks = if hashes then blocks else 0

@@ -1,4 +1,4 @@
--- Header protection of QUIC (RFC 9001).
+-- Header protection of QUIC (RFC 9001 section 5.4).
 use Rattle.std.specs.Prelude.{ℕ, List, codes}
 use Rattle.aead_ciphers_base.specs.Mask.{aes_mask, chacha_mask}
 use Rattle.aead_ciphers.specs.declared.aead.quic.Algorithm.{Algorithm}
@@ -12,7 +12,7 @@ id_key_len AES_128 = 16
 id_key_len AES_256 = 32
 id_key_len CHACHA20 = 32
 
--- sections 5.4.3 and 5.4.4: the bytes in a header protection key
+-- sections 5.4.3 and 5.4.4: the length of a header protection key in bytes
 abbrev pub key_len : Algorithm → ℕ
 key_len algorithm = id_key_len algorithm.id
 
@@ -25,6 +25,7 @@ id_debug_text CHACHA20 = codes "CHACHA20"
 abbrev pub debug_text : Algorithm → List ℕ
 debug_text algorithm = id_debug_text algorithm.id
 
+-- sections 5.4.3 and 5.4.4: the mask by AES and by ChaCha20
 abbrev pub id_mask : AlgorithmId → List ℕ → List ℕ → List ℕ
 id_mask AES_128 key sample = aes_mask key sample
 id_mask AES_256 key sample = aes_mask key sample
@@ -34,11 +35,12 @@ id_mask CHACHA20 key sample = chacha_mask key sample
 abbrev pub header_protection : Algorithm → List ℕ → List ℕ → List ℕ
 header_protection algorithm key sample = id_mask algorithm.id key sample
 
--- what a contract sees of a `HeaderProtectionKey`: its algorithm, and its bytes
+-- what a contract sees of a `HeaderProtectionKey`: its algorithm and its bytes
 pub record HeaderKey : Type 0 where
   pub algorithm : Algorithm
   pub bytes : List ℕ
 
+-- the algorithm and the bytes of a key
 abbrev pub header_key : KeyInner → HeaderKey
 header_key (Aes128 key) = record { algorithm = record { id = AES_128 }; bytes = key }
 header_key (Aes256 key) = record { algorithm = record { id = AES_256 }; bytes = key }

@@ -1,20 +1,21 @@
--- The multiples of a hash subkey that a product of blocks is the sum of (SP 800-38D section 6.3).
+-- The multiples of a hash subkey; a product of blocks is a sum of them (SP 800-38D section 6.3).
 use Rattle.std.specs.Prelude.{◌≡◌, ℕ, ◌+◌, ◌-◌, ◌*◌, ◌/◌, ◌%◌, ◌^◌, ◌<◌, true, false, List, [], ◌∷◌, ◌++◌, fold, map, replicate, slice_index}
 use Rattle.std.specs.Int.{to_be_bytes, w128}
 use Rattle.aead_ciphers.specs.Ghash.{block_of, ◌•◌}
 
--- section 6.3: the block of the polynomial u^k, whose bit k alone is one, the leftmost being bit 0
+-- section 6.3: the block of the polynomial u^k, in which only bit k is one, where bit 0 is the leftmost
 abbrev pub monomial_block : ℕ → List ℕ
 monomial_block k = block_of (replicate k false ++ true ∷ replicate (127 - k) false)
 
--- the number with these words of 32 bits, the highest first
+-- the number with these 32-bit words, the most significant first
 abbrev pub number_of_words : List ℕ → ℕ
 number_of_words words = fold (λ n word. n * 2 ^ 32 + word) 0 words
 
--- number k of a table of 128: its four words stand 128 places apart, and those of i, 32 + i, 64 + i and 96 + i are neighbours
+-- Entry k of a table of 128. Its four words are 128 places apart, and corresponding words of the entries i, 32 + i,
+-- 64 + i and 96 + i are adjacent.
 abbrev pub entry : List ℕ → ℕ → ℕ
 entry table k = number_of_words (map (λ word. slice_index table (128 * word + 4 * (k % 32) + k / 32)) (0 ∷ 1 ∷ 2 ∷ 3 ∷ []))
 
--- the bytes of each number k of the table are the product of u^k and the block h
+-- the bytes of each entry k of the table are the product of u^k and the block h
 abbrev pub AreMultiples : List ℕ → List ℕ → Type 0
 AreMultiples h table = (k : ℕ) → k < 128 → to_be_bytes w128 (entry table k) ≡ monomial_block k • h

@@ -1,28 +1,28 @@
--- A packet that is sealed or opened in place: a header, then a message, then 16 bytes for the tag.
+-- A packet that is sealed or opened in place: a header, then the plaintext or ciphertext, then 16 bytes for the tag.
 use Rattle.std.specs.Prelude.{◌≡◌, ℕ, Bool, ◌+◌, ◌-◌, ◌≤◌, List, ◌++◌, length, take, drop, Result, Ok, Err}
 use Rattle.aead_ciphers_base.specs.Aes.{aes}
 use Rattle.aead_ciphers.specs.Gcm.{Fits, gcm_sealed, OpenedAttached}
 
--- n bytes hold a header of h bytes and the room, and the lengths of header and message have a ciphertext
+-- n bytes have room for a header of h bytes and a tag, and the lengths of header and plaintext are within the limits
 pub record PacketFits (h n : ℕ) : Type 0 where
   pub room : h + 16 ≤ n
   pub lengths : Fits h (n - 16 - h)
 
--- the bytes between the header and the room
+-- the bytes between the header and the tag
 abbrev pub packet_message : ℕ → List ℕ → List ℕ
 packet_message h packet = take (length packet - 16 - h) (drop h packet)
 
--- the packet sealed: its header, which is the AAD, then the ciphertext and the tag (SP 800-38D section 7.1)
+-- the sealed packet: its header, which is the AAD, then the ciphertext and the tag (SP 800-38D section 7.1)
 abbrev pub sealed_packet : (key nonce : List ℕ) → ℕ → List ℕ → List ℕ
 sealed_packet key nonce h packet = take h packet ++ gcm_sealed (aes key) nonce (take h packet) (packet_message h packet)
 
--- what comes after the header: the ciphertext and the tag, and after a refusal the message
+-- the bytes after the header: the ciphertext and the tag, or the plaintext alone after an error
 abbrev pub packet_body : {X E : Type 0} → ℕ → List ℕ → Result X E → List ℕ
 packet_body h packet (Ok x) = drop h packet
 packet_body h packet (Err e) = packet_message h packet
 
--- What opening a packet makes of it, and whether it accepts: the header, which is the AAD, stays, and what stands after
--- it opens with the tag attached.
+-- Whether opening a packet accepts, and what the packet then holds. The header, which is the AAD, is unchanged, and the
+-- bytes after it are opened with the tag attached.
 pub record OpenedPacket (key nonce : List ℕ) (h : ℕ) (old : List ℕ) (accepts : Bool) (new : List ℕ) : Type 0 where
   pub header : take h new ≡ take h old
   pub body : OpenedAttached (aes key) nonce (take h old) 0 (drop h old) accepts (drop h new)

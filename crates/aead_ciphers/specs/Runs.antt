@@ -1,4 +1,4 @@
--- Runs: a step for each item of a list, in order.
+-- Runs: one step for each item of a list, in order.
 use Rattle.std.specs.Prelude.{◌≡◌, ℕ, Bool, if◌then◌else◌, ◌+◌, ◌-◌, ◌<◌, List, [], ◌∷◌, length, vec_len, vec_capacity, ⊤}
 use Rattle.aead_ciphers.specs.BoundState.{BoundState, Keeps}
 use Rattle.aead_ciphers.specs.Steps.{SealStep, OpenStep}
@@ -8,14 +8,14 @@ use Rattle.aead_ciphers.specs.declared.session.Operation.TheVariants.{Seal, Open
 use Rattle.aead_ciphers.specs.declared.session.Outcome.{Outcome}
 use Rattle.aead_ciphers.specs.declared.session.Outcome.TheVariants.{Sealed, Opened, Refused}
 
--- each old item became the new one, while what is shared went from its first state to its last
+-- each old item became the new one, while the shared state went from the first to the last
 abbrev pub Runs : {K X Y : Type 0} → (K → K → X → Y → Type 0) → K → K → List X → List Y → Type 0
 Runs Step first last [] [] = last ≡ first
 Runs {K} Step first last (old ∷ olds) (new ∷ news) =
     (middle : K) × Step first middle old new × Runs Step middle last olds news
 Runs Step first last olds news = ⊥
 
--- A call of a bound key: what the key keeps, what the call does, and its outcome, which is `done` or a refusal.
+-- A call of a bound key: what the key keeps, what the call does, and its outcome, which is `done` or `Refused`.
 pub record Calls {N : Type 0} (origin : N → List ℕ) (was now : BoundState N) (done outcome : Outcome) (Step : Bool → Type 0) : Type 0 where
   pub kept : Keeps origin was now
   pub accepts : Bool
@@ -24,8 +24,8 @@ pub record Calls {N : Type 0} (origin : N → List ℕ) (was now : BoundState N)
 
 module _ {S O : Type 0} (s_spent : S → List (List ℕ)) (s_closed : S → Bool) (s_origin : S → List ℕ)
     (o_spent : O → List (List ℕ)) (o_closed : O → Bool) (o_origin : O → List ℕ) where
-  -- What a job does, by its operation, and its outcome. A seal appends the tag to the job's buffer, an open is of the
-  -- buffer from `start` on, and the other key stays as it is.
+  -- What a job does, by its operation, and its outcome. `Seal` appends the tag to the buffer of the job, `Open` opens
+  -- the buffer from `start` on, and the other key is unchanged.
   abbrev pub Performs : Operation → (was now : BoundState S × BoundState O) (old new : Job) → Type 0
   Performs Seal was now old new = (now.1 ≡ was.1) × Calls s_origin was.0 now.0 Sealed new.outcome
       (SealStep s_spent s_closed (vec_capacity old.buffer < vec_len old.buffer + 16) ⊤ was.0 now.0 old.aad.items
@@ -34,12 +34,12 @@ module _ {S O : Type 0} (s_spent : S → List (List ℕ)) (s_closed : S → Bool
       (Opened (length old.buffer.items - 16 - start)) new.outcome
       (OpenStep o_spent o_closed was.1 now.1 old.aad.items start old.buffer.items new.buffer.items)
 
-  -- one job; its operation and its AAD stay
+  -- one job; its operation and its AAD are unchanged
   pub record JobStep (was now : BoundState S × BoundState O) (old new : Job) : Type 0 where
     pub operation_kept : new.operation ≡ old.operation
     pub aad_kept : new.aad ≡ old.aad
     pub performs : Performs old.operation was now old new
 
-  -- the jobs in order, on a sealing and an opening key
+  -- the jobs in order, with a sealing and an opening key
   abbrev pub Run : (first last : BoundState S × BoundState O) (olds news : List Job) → Type 0
   Run first last olds news = Runs JobStep first last olds news

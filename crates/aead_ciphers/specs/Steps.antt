@@ -1,4 +1,4 @@
--- What one call of a bound key does, by cases: the key and its sequence, and the buffer, before and after.
+-- What one call of a bound key does, by cases: the key, its sequence and the buffer, before and after.
 use Rattle.std.specs.Prelude.{◌≡◌, ℕ, Bool, true, false, List, ◌++◌, length, Result, Ok, Err}
 use Rattle.aead_ciphers_base.specs.Aes.{aes}
 use Rattle.aead_ciphers.specs.BoundState.{BoundState}
@@ -6,15 +6,15 @@ use Rattle.aead_ciphers.specs.Gcm.{Fits, gcm_sealed, OpenedAttached}
 use Rattle.aead_ciphers.specs.NonceSequence.{Appends, Closes}
 
 module _ {N : Type 0} (spent : N → List (List ℕ)) (is_closed : N → Bool) where
-  -- the sequence spends this nonce
+  -- the sequence uses this nonce
   abbrev pub Spends : BoundState N → BoundState N → List ℕ → Type 0
   Spends was now nonce = Appends (spent was.sequence) (spent now.sequence) (is_closed was.sequence) nonce
 
-  -- the sequence refuses
+  -- the sequence returns no nonce
   abbrev pub Refuses : BoundState N → BoundState N → Type 0
   Refuses was now = Closes (spent was.sequence) (spent now.sequence) (is_closed now.sequence)
 
-  -- Sealing with the tag appended, and whether it succeeds. Room for the tag is asked for first.
+  -- Sealing with the tag appended, and whether it succeeds. Room for the tag is reserved first.
   pub data SealStep (may_refuse may_grant : Type 0) (was now : BoundState N) (aad old new : List ℕ) : Bool → Type 0 where
     no_room : may_refuse → now ≡ was → new ≡ old → SealStep may_refuse may_grant was now aad old new false
     no_nonce : may_grant → Refuses was now → new ≡ old → SealStep may_refuse may_grant was now aad old new false
@@ -29,7 +29,7 @@ module _ {N : Type 0} (spent : N → List (List ℕ)) (is_closed : N → Bool) w
     opened : (nonce : List ℕ) (accepts : Bool) → Spends was now nonce
         → OpenedAttached (aes was.key.bytes) nonce aad start old accepts new → OpenStep was now aad start old new accepts
 
--- the bytes, followed by the tag where there is one
+-- the bytes, followed by the tag if there is one
 abbrev pub with_tag : {E : Type 0} → List ℕ → Result (List ℕ) E → List ℕ
 with_tag bytes (Ok tag) = bytes ++ tag
 with_tag bytes (Err e) = bytes

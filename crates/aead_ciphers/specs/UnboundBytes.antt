@@ -1,4 +1,4 @@
--- What an `UnboundKey` keeps.
+-- What a contract sees of the bytes in an `UnboundKey`.
 use Rattle.std.specs.Prelude.{ℕ, List}
 use Rattle.aead_ciphers.specs.declared.aead.unbound_key.UnboundBytes.{UnboundBytes}
 use Rattle.aead_ciphers.specs.declared.aead.unbound_key.UnboundBytes.TheVariants.{AES_128, AES_256}

@@ -1,4 +1,7 @@
-//! Authenticated encryption with additional authenticated data, by AES-GCM (SP 800-38D).
+//! Authenticated encryption with additional authenticated data (AEAD), by AES-GCM (SP 800-38D).
+//!
+//! Read `LessSafeKey` first, whose calls take the nonce. `SealingKey` and `OpeningKey` take theirs from a
+//! `NonceSequence`.
 
 mod algorithm;
 mod bound_key;

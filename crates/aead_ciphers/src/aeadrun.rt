@@ -1,6 +1,6 @@
-//! The program `aeadrun`: it reads commands in lines and answers each by a line.
+//! The program `aeadrun`, which reads commands, one per line, and answers each with a line.
 //!
-//! A line is read whole before anything is done, so a line with a bad word changes nothing.
+//! A line is parsed completely before anything is done, so a bad line changes nothing.
 
 ghost use Rattle.std.specs.Prelude.{◌≡◌, ◌≤◌};
 
@@ -17,17 +17,17 @@ mod words;
 use self::program::Program;
 pub use self::words::{bytes, text};
 
-/// The exit status where each line was a command.
+/// The exit status if every line was a command.
 const ALL_ANSWERED: u8 = 0;
 
-/// The exit status where a line was none.
+/// The exit status if a line was not a command.
 const BAD_LINE: u8 = 1;
 
-/// The exit status where reading or writing failed, or memory was refused. Memory for the tag of `next-seal` is no part of
-/// this: where it is refused, the answer is `refused`.
+/// The exit status if reading or writing failed, or memory was refused. The exception is memory for the tag of
+/// `next-seal`: if that is refused, the answer is `refused`.
 pub const FAULT: u8 = 2;
 
-/// Why the program stops before its input ends.
+/// A failure that ends the program before the end of its input.
 #[derive(Drop)]
 struct Fault;
 
@@ -43,11 +43,13 @@ impl From<io::Error> for Fault {
     }
 }
 
-/// Answers each line of `input` by a line of `output`, and gives the exit status.
+/// Answers each line of `input` with a line of `output`, and returns the exit status: 0 if every line was a command,
+/// 1 if a line was not, or `FAULT`.
 ///
-/// A line ends at LF, and the last one may lack it. `output` is flushed after each answer, before the next line is read, so
-/// a caller may wait for an answer before it sends the next line. Output stops at the first failure, and what was
-/// written by then is a beginning of what would have been written. `output` is flushed in every case.
+/// A line ends with LF, which may be missing from the last one. `output` is flushed after each answer, before the next
+/// line is read, so a caller may wait for an answer before it sends the next line. The output stops at the first
+/// failure, and what has been written by then is a prefix of what would have been written. `output` is flushed in every
+/// case.
 ///
 /// The line, the bytes of its words, and one word of its answer at a time are held in memory.
 pub fn lines<R: BufRead, W: Write>(alloc: Global, input: &mut R, output: &mut W) -> u8
@@ -63,7 +65,7 @@ pub fn lines<R: BufRead, W: Write>(alloc: Global, input: &mut R, output: &mut W)
     }
 }
 
-/// Answers each line, and says whether each was a command.
+/// Answers each line, and returns whether every line was a command.
 fn answer_lines<R: BufRead, W: Write>(
     alloc: Global,
     input: &mut R,
@@ -87,7 +89,7 @@ fn answer_lines<R: BufRead, W: Write>(
     Ok(all_answered)
 }
 
-/// Reads the next line into `line` without its LF, and says whether there was one.
+/// Reads the next line into `line`, without its LF, and returns whether there was one.
 fn read_line<R: BufRead>(input: &mut R, line: &mut Vec<u8>) -> io::Result<bool> {
     line.clear();
     if input.read_until(b'\n', line)? == 0 {

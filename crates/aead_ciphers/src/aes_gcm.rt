@@ -1,4 +1,7 @@
-//! AES-GCM with 12-byte nonces and 16-byte tags (SP 800-38D section 7), in place.
+//! AES-GCM in place, with 12-byte nonces and 16-byte tags (SP 800-38D section 7).
+//!
+//! `aead` is the interface for callers. The functions here also count their cipher blocks and field products in a
+//! `Work`.
 
 ghost use Rattle.std.specs.Prelude.{◌≡◌, ◌↔◌, length, IsOk, IfOk, OnOk, OnErr, is_ok};
 ghost use Rattle.aead_ciphers_base.specs.Aes.{aes as aes_cipher};
@@ -22,7 +25,7 @@ pub use expanded::ExpandedKey;
 use std::marker::Model;
 use std::ops::RangeFrom;
 
-/// A key of AES-GCM: the expanded AES key, and the hash subkey that it makes.
+/// An AES-GCM key: the expanded AES key and its hash subkey.
 #[derive(Clone, Drop)]
 pub struct Key {
     expanded: ExpandedKey,
@@ -40,8 +43,8 @@ impl Model for Key {
 }
 
 impl Key {
-    /// Expands a key of 16 or 32 bytes, and makes its hash subkey by one cipher block (SP 800-38D
-    /// section 7.1 step 1). It is never refused.
+    /// Expands a key of 16 or 32 bytes, and computes its hash subkey by one cipher block (SP 800-38D section 7.1
+    /// step 1). Never fails.
     pub fn new(bytes: KeyBytes<'_>, work: &mut Work) -> Result<Key, Unspecified>
         requires { CanAdd work.old 1 0 }
         ensures accepted { IsOk result }
@@ -54,9 +57,12 @@ impl Key {
     }
 }
 
-/// Encrypts the buffer in place, and returns the tag of 16 bytes (SP 800-38D section 7.1). Refused
-/// where the buffer is above 2^36 - 32 bytes or the AAD has 2^61 bytes or more: then no byte of the
-/// buffer is changed.
+/// Encrypts `in_out` in place, and returns the 16-byte tag of the ciphertext and `aad` (SP 800-38D section 7.1).
+///
+/// # Errors
+///
+/// Fails with `Unspecified`, and leaves `in_out` unchanged, if it is longer than 2^36 - 32 bytes or `aad` is 2^61 bytes
+/// or longer (SP 800-38D section 5.2.1.1).
 pub fn seal(
     key: &Key,
     nonce: Nonce,
@@ -75,10 +81,16 @@ pub fn seal(
     key.expanded.seal(nonce, aad, in_out, work)
 }
 
-/// Opens the bytes from `src.start` on (SP 800-38D section 7.2): compares their tag with the received
-/// one, and then decrypts them to the front of the buffer. Refused, in this order, where the start is
-/// past the end, where the lengths don't fit as in `seal`, and where the tag is false: then no byte of
-/// the buffer is changed.
+/// Opens the ciphertext `in_out[src]`: compares its tag with `received_tag`, and then decrypts it to the front of
+/// `in_out` (SP 800-38D section 7.2).
+///
+/// # Errors
+///
+/// Fails with `Unspecified`, and leaves `in_out` unchanged, in these cases, which are checked in this order:
+///
+/// - `src.start` is greater than `in_out.len()`.
+/// - The lengths exceed the limits of `seal`.
+/// - `received_tag` is not the tag of the ciphertext and `aad`.
 pub fn open(
     key: &Key,
     nonce: Nonce,

@@ -1,4 +1,4 @@
-//! GHASH (SP 800-38D section 6.4), over the blocks of an AAD and a ciphertext.
+//! GHASH (SP 800-38D section 6.4) over the blocks of the AAD and the ciphertext. `Context` hashes a whole message.
 
 ghost use Rattle.std.specs.Prelude.{◌≡◌, ℕ, ◌+◌, ◌/◌, List, [], ◌∷◌, ◌++◌, length};
 ghost use Rattle.std.specs.Int.{to_be_bytes, w128};
@@ -16,7 +16,7 @@ pub(crate) use context::padded;
 pub use context::{Context, MAX_IN_OUT_LEN};
 use std::marker::Model;
 
-/// A hash subkey, H of SP 800-38D: 16 bytes.
+/// A hash subkey: the 16-byte block H of SP 800-38D.
 #[derive(Drop)]
 pub struct KeyValue {
     block: Block,
@@ -31,7 +31,7 @@ impl Model for KeyValue {
 }
 
 impl KeyValue {
-    /// The hash subkey of these bytes.
+    /// Creates a hash subkey from its bytes.
     pub fn new(block: Block) -> Self
         ensures { result ≡ block }
     {
@@ -39,7 +39,7 @@ impl KeyValue {
     }
 }
 
-/// The running block of a hash: 16 bytes.
+/// The intermediate block of a GHASH: 16 bytes.
 #[derive(Drop)]
 pub struct Xi {
     block: Block,
@@ -54,7 +54,7 @@ impl Model for Xi {
 }
 
 impl Xi {
-    /// The GHASH of no block.
+    /// Returns the GHASH of no blocks.
     #[tactic(auto, unfolding(crate::specs::Ghash::ghash))]
     pub fn zero() -> Self
         ensures { (h : List ℕ) → IsHashOf h [] result }
@@ -62,7 +62,7 @@ impl Xi {
         Xi { block: ZERO_BLOCK }
     }
 
-    /// Its bytes.
+    /// Returns the bytes of the block.
     pub fn as_ref(&self) -> &Block
         ensures { result.now ≡ self.now }
     {
@@ -70,12 +70,12 @@ impl Xi {
     }
 }
 
-/// A hash that takes one block.
+/// GHASH under a key, block by block.
 pub trait UpdateBlock {
     // The hash subkey.
     ghost hash_subkey: { Self → List ℕ };
 
-    /// Takes in one block, by one field product.
+    /// Updates the hash `xi` with `block`, by one field product.
     fn update_block(&self, xi: &mut Xi, block: Block, work: &mut Work)
         requires { CanAdd work.old 0 1 }
         ensures hashed { (done : List (List ℕ)) → IsHashOf (hash_subkey self.now) done xi.old
@@ -83,9 +83,9 @@ pub trait UpdateBlock {
         ensures worked { Adds work.old work.new 0 1 };
 }
 
-/// A hash that takes many blocks.
+/// GHASH under a key, many blocks at a time.
 pub trait UpdateBlocks: UpdateBlock {
-    /// Takes in the blocks in order, by one field product each.
+    /// Updates the hash `xi` with the blocks of `input` in order, by one field product each.
     fn update_blocks(&self, xi: &mut Xi, input: AsChunks<'_, u8, BLOCK_LEN>, work: &mut Work)
         requires { CanAdd work.old 0 (length input.items.now / 16) }
         ensures hashed { (done : List (List ℕ)) → IsHashOf (Self.hash_subkey self.now) done xi.old
@@ -93,10 +93,10 @@ pub trait UpdateBlocks: UpdateBlock {
         ensures worked { Adds work.old work.new 0 (length input.entry.items.now / 16) };
 }
 
-/// GHASH under a hash subkey.
+/// A key for GHASH: a hash subkey with its multiples.
 #[derive(Clone, Drop)]
 pub struct Key {
-    /// The multiples of the subkey.
+    /// The multiples of the hash subkey (SP 800-38D section 6.3).
     multiples: [u32; 512],
 }
 
@@ -114,7 +114,7 @@ impl Model for Key {
 }
 
 impl Key {
-    /// GHASH under this hash subkey.
+    /// Creates a key from a hash subkey, and computes the multiples of the subkey.
     pub fn new(value: KeyValue) -> Self
         ensures { result ≡ value }
     {
@@ -123,7 +123,7 @@ impl Key {
         Key { multiples }
     }
 
-    /// The same by reference.
+    /// Borrows the key.
     pub(crate) fn by_ref(&self) -> KeyRef<'_>
         ensures { result ≡ self.now }
     {
@@ -133,7 +133,7 @@ impl Key {
     }
 }
 
-/// Writes the multiples of a hash subkey.
+/// Writes the multiples of the hash subkey `value` to `multiples`.
 pub(crate) fn expand(multiples: &mut [u32; 512], value: KeyValue)
     ensures multiples { AreMultiples (to_be_bytes w128 (entry multiples.new 0)) multiples.new }
     ensures subkey { to_be_bytes w128 (entry multiples.new 0) ≡ value }
@@ -141,7 +141,7 @@ pub(crate) fn expand(multiples: &mut [u32; 512], value: KeyValue)
     product::write_multiples(multiples, number(value.block));
 }
 
-/// GHASH under a hash subkey whose multiples lie elsewhere.
+/// A key for GHASH that borrows the multiples of its hash subkey.
 #[derive(Drop)]
 pub(crate) struct KeyRef<'k> {
     multiples: &'k [u32; 512],
@@ -161,7 +161,7 @@ impl<'k> Model for KeyRef<'k> {
 }
 
 impl<'k> KeyRef<'k> {
-    /// GHASH under the subkey with these multiples.
+    /// Creates a key from the multiples of its hash subkey.
     pub(crate) fn new(multiples: &'k [u32; 512]) -> Self
         requires { AreMultiples (to_be_bytes w128 (entry multiples.now 0)) multiples.now }
         ensures { result ≡ to_be_bytes w128 (entry multiples.now 0) }
@@ -170,7 +170,7 @@ impl<'k> KeyRef<'k> {
     }
 }
 
-/// The number whose big-endian bytes a block is.
+/// Returns the number whose big-endian bytes are `block`.
 fn number(block: Block) -> u128
     ensures { to_be_bytes w128 result ≡ block }
 {

@@ -1,4 +1,4 @@
-//! Laws of the definitions: functions that answer nothing, whose contracts state a law for their arguments.
+//! Laws of the definitions. Each function does nothing when it is called; its contract states a law for its arguments.
 
 ghost use Rattle.std.specs.Prelude.{◌≡◌, ◌≢◌, ℕ, ◌^◌, ◌-◌, ◌<◌, ◌≤◌, ◌⊎◌, Bool, List, length, max, vec_len, All, AllPairs};
 ghost use Rattle.aead_ciphers_base.specs.Aes.{aes};
@@ -14,15 +14,15 @@ use crate::aead::{NonceSequence, SealingKey};
 use aead_ciphers_base::aes::Block;
 use aead_ciphers_base::values::NONCE_LEN;
 
-/// GHASH under a hash subkey keeps XOR: of two lists of one length (SP 800-38D section 6.4).
+/// GHASH of the XOR of two equally long lists of blocks is the XOR of their GHASHes, under any hash subkey (SP 800-38D
+/// section 6.4).
 #[tactic(auto, using(crate::proofs::GhashLaws::ghash_xor, crate::proofs::GhashLaws::sized_from))]
 pub fn ghash_sum(h: Block, left: &[Block], right: &[Block])
     requires { length left.now ≡ length right.now }
     ensures { ghash h (xor_blocks left.now right.now) ≡ ghash h left.now ⊕ ghash h right.now }
 {}
 
-/// Opening undoes sealing (SP 800-38D section 7.2), for every key and every list of nonces, AADs and
-/// messages.
+/// Opening undoes sealing (SP 800-38D section 7.2), for every key and all lists of nonces, AADs and plaintexts.
 pub fn round_trip(key: &[u8], nonces: &[[u8; NONCE_LEN]], aads: &[Vec<u8>], messages: &[Vec<u8>])
     requires key_len { (length key.now ≡ 16) ⊎ (length key.now ≡ 32) }
     requires aads_len { length aads.now ≡ length nonces.now }
@@ -33,8 +33,8 @@ pub fn round_trip(key: &[u8], nonces: &[[u8; NONCE_LEN]], aads: &[Vec<u8>], mess
         nonces.now aads.now messages.now }
 {}
 
-/// Whatever calls take a sealing key from one state to another, the nonces that they spend differ from
-/// each other and from those that its sequence had spent before (SP 800-38D section 8).
+/// No nonce is used twice (SP 800-38D section 8): whatever calls take a sealing key from one state to another, the
+/// nonces that they consume differ from each other and from all that were consumed before.
 #[tactic(auto, using(crate::proofs::FreshLemmas::fresh_calls))]
 pub fn no_nonce_twice<N: NonceSequence>(first: &SealingKey<N>, last: &SealingKey<N>)
     ensures { (calls : List (List ℕ × List ℕ)) (answers : List (List ℕ × Bool))
@@ -42,7 +42,7 @@ pub fn no_nonce_twice<N: NonceSequence>(first: &SealingKey<N>, last: &SealingKey
         → GrewFresh (N.spent first.now.sequence) (N.spent last.now.sequence) }
 {}
 
-/// Encrypting twice by ChaCha20, under one key, counter and nonce, gives the message back (RFC 8439
+/// Encrypting twice with ChaCha20, under the same key, counter and nonce, returns the original message (RFC 8439
 /// section 2.4).
 #[tactic(auto, using(aead_ciphers_base::proofs::KeyStreamLemmas::encrypted_twice))]
 pub fn encrypt_twice(key: &[u8; 32], counter: u32, nonce: &[u8; NONCE_LEN], message: &[u8])
@@ -50,11 +50,11 @@ pub fn encrypt_twice(key: &[u8; 32], counter: u32, nonce: &[u8; NONCE_LEN], mess
         in chacha20_encrypted key.now counter nonce.now ciphertext ≡ message.now }
 {}
 
-/// If the hash subkey of the key has an inverse, a message that is changed in exactly one of the
-/// blocks that its tag hashes has another tag (SP 800-38D section 7.1).
+/// If the hash subkey has an inverse, changing exactly one of the blocks that a tag hashes changes the tag (SP 800-38D
+/// section 7.1).
 ///
-/// By `Opened` the changed message is then refused under the old tag and nonce, and the buffer
-/// is left as it was. By `has_inverse` every hash subkey but zero has an inverse.
+/// By `Opened`, the changed message is therefore rejected under the old tag and nonce, and the buffer is left
+/// unchanged. By `has_inverse`, every hash subkey but zero has an inverse.
 pub fn one_changed_block(
     key: &[u8],
     nonce: [u8; NONCE_LEN],
@@ -75,9 +75,10 @@ pub fn one_changed_block(
         ≢ gcm_tag (aes key.now) nonce other_aad.now other_ciphertext.now }
 {}
 
-/// If two lists of blocks differ when padded, the XOR of the keys at any two places has an inverse,
-/// and under each key as hash subkey the XOR of the two GHASHes is `sum`, then there are at most as
-/// many keys as blocks in the longer list (SP 800-38D section 6.4).
+/// If two lists of blocks differ when padded, their GHASHes differ by `sum` under at most as many hash subkeys as the
+/// longer list has blocks (SP 800-38D section 6.4).
+///
+/// `keys` are such hash subkeys; the XOR of any two of them must have an inverse.
 #[tactic(auto, using(crate::proofs::FewHashKeys::few_hash_keys))]
 pub fn few_hash_keys(left: &[Block], right: &[Block], sum: Block, keys: &[Block])
     ensures { DifferWhenPadded left.now right.now
@@ -90,8 +91,8 @@ pub fn few_hash_keys(left: &[Block], right: &[Block], sum: Block, keys: &[Block]
     are_blocks(right);
 }
 
-/// If two pairs of an AAD and a ciphertext differ, the lists of blocks that their tags hash differ
-/// when padded (SP 800-38D section 7.1 step 5).
+/// If two pairs of an AAD and a ciphertext differ, the lists of blocks that their tags hash differ when padded
+/// (SP 800-38D section 7.1 step 5).
 #[tactic(auto, using(crate::proofs::DifferentMessages::different_messages))]
 pub fn different_messages(aad: &[u8], ciphertext: &[u8], other_aad: &[u8], other_ciphertext: &[u8])
     requires fits { Fits (length aad.now) (length ciphertext.now) }
@@ -109,13 +110,12 @@ pub fn has_inverse(block: Block)
     is_block(block);
 }
 
-/// If two pairs of an AAD and a ciphertext differ, `tag` and `other_tag` are their tags under at most
-/// as many hash subkeys as the longer hashed list has blocks, whatever mask each subkey goes with
-/// (SP 800-38D section 7.1).
+/// If two pairs of an AAD and a ciphertext differ, `tag` and `other_tag` are their tags under at most as many hash
+/// subkeys as the longer hashed list has blocks, whatever mask is used with each subkey (SP 800-38D section 7.1).
 ///
-/// So whatever was sent once under a nonce, another message and tag are accepted under at most
-/// ceil(a / 16) + ceil(n / 16) + 1 of the 2^128 hash subkeys that are possible with what was seen,
-/// where the longer list is that of a bytes of AAD and n bytes of ciphertext.
+/// Once a message has been sealed under a nonce, another message and tag are therefore accepted under at most
+/// ceil(a / 16) + ceil(n / 16) + 1 of the 2^128 hash subkeys that agree with what was seen, where the longer list is
+/// that of a bytes of AAD and n bytes of ciphertext.
 #[tactic(auto, using(crate::proofs::FewHashKeys::few_subkeys))]
 pub fn few_subkeys_accept(
     aad: &[u8],
@@ -141,7 +141,7 @@ pub fn few_subkeys_accept(
     are_blocks(subkeys);
 }
 
-/// A block's numbers are bytes.
+/// The numbers of a block are bytes.
 fn is_block(block: Block)
     ensures { IsBlock block }
 {}

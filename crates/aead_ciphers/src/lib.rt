@@ -1,4 +1,7 @@
-//! AES-GCM, QUIC header protection, and the program `aeadrun` over them.
+//! AES-GCM (SP 800-38D) and QUIC header protection (RFC 9001 section 5.4) under ring's names, and the program
+//! `aeadrun`.
+//!
+//! Read `aead` first, which is the interface for callers, or `CALLING.md`. `aes_gcm` and `gcm` are the layers below it.
 #![tactic(auto)]
 
 pub mod aead;

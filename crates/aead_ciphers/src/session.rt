@@ -1,4 +1,4 @@
-//! Runs of jobs on a sealing and an opening key.
+//! Lists of jobs that are run, in order, with a sealing and an opening key.
 ghost use Rattle.std.specs.Prelude.{◌≡◌, ◌≢◌, vec_capacity};
 ghost use Rattle.std.specs.List.{AllZip};
 ghost use Rattle.aead_ciphers.specs.FreshNonces.{GrewFresh};
@@ -11,36 +11,36 @@ use crate::aead::{Aad, NonceSequence, OpeningKey, SealingKey};
 pub enum Operation {
     /// Encrypt the buffer and append the tag.
     Seal,
-    /// Open the buffer from this byte on; its last 16 bytes are the tag.
+    /// Open the buffer from this byte on. Its last 16 bytes are the tag.
     Open(usize),
 }
 
-/// How a job ended.
+/// The outcome of a job.
 #[derive(Clone, Copy, PartialEq, Eq, Debug)]
 pub enum Outcome {
-    /// The buffer is the ciphertext and its tag.
+    /// The buffer holds the ciphertext followed by the tag.
     Sealed,
-    /// The buffer begins with the plaintext, of this many bytes.
+    /// The buffer begins with the plaintext, which has this length in bytes.
     Opened(usize),
-    /// The buffer is as it was.
+    /// The call failed, and the buffer is unchanged.
     Refused,
 }
 
-/// One call of a key, and its outcome.
+/// One call with a key, and its outcome.
 #[derive(Drop)]
 pub struct Job {
-    /// What it does.
+    /// What the job does.
     pub operation: Operation,
-    /// Additional authenticated data.
+    /// The additional authenticated data.
     pub aad: Vec<u8>,
-    /// What it seals or opens, in place.
+    /// The buffer that is sealed or opened in place.
     pub buffer: Vec<u8>,
-    /// How it ended, once it ran.
+    /// The outcome, once the job has been run.
     pub outcome: Outcome,
 }
 
 impl Job {
-    /// A job that didn't run yet.
+    /// Creates a job that has not been run yet. Its outcome is `Refused`.
     pub fn new(operation: Operation, aad: Vec<u8>, buffer: Vec<u8>) -> Self
         ensures { result ≡ record {
           operation = operation;
@@ -83,8 +83,8 @@ impl Job {
     }
 }
 
-/// Takes the jobs in order: `Seal` with the sealing key, `Open` with the opening key. It fills in every
-/// outcome, whatever stood there. A sealing job may ask for memory for its tag.
+/// Runs the jobs in order: `Seal` jobs with the sealing key, `Open` jobs with the opening key. The outcome of each job
+/// is overwritten. A sealing job may allocate memory for its tag.
 #[tactic(auto, using(crate::proofs::FreshLemmas::fresh_run))]
 pub fn run<S: NonceSequence, O: NonceSequence>(
     sealing: &mut SealingKey<S>,

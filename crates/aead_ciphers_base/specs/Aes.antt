@@ -13,11 +13,11 @@ x ⊻ y = bit_xor x y
 abbrev pub at : List ℕ → ℕ → ℕ → ℕ
 at s r c = slice_index s (r + 4 * c)
 
--- the state with the byte f r c in row r and column c (section 3.4)
+-- the state whose byte in row r and column c is f r c (section 3.4)
 abbrev pub state : (ℕ → ℕ → ℕ) → List ℕ
 state f = each_below 16 (λ k. f (k % 4) (k / 4))
 
--- SubBytes: the S-box of each byte (section 5.1.1)
+-- SubBytes: the S-box is applied to each byte (section 5.1.1)
 unfoldable pub sub_bytes : List ℕ → List ℕ
 sub_bytes s = state (λ r c. sbox (at s r c))
 
@@ -25,15 +25,16 @@ sub_bytes s = state (λ r c. sbox (at s r c))
 unfoldable pub shift_rows : List ℕ → List ℕ
 shift_rows s = state (λ r c. at s r ((c + r) % 4))
 
--- a byte of a mixed column, from its own row and the three below it: {02} a + {03} b + c + d (section 5.1.3)
+-- a byte of a mixed column, from the bytes in its row and the three rows below: {02} a + {03} b + c + d
+-- (section 5.1.3)
 abbrev pub mixed : ℕ → ℕ → ℕ → ℕ → ℕ
 mixed a b c d = mul8 2 a ⊻ mul8 3 b ⊻ c ⊻ d
 
--- MixColumns: each column is mixed, its rows counted modulo 4 (section 5.1.3)
+-- MixColumns: each column is mixed, with row numbers modulo 4 (section 5.1.3)
 unfoldable pub mix_columns : List ℕ → List ℕ
 mix_columns s = state (λ r c. mixed (at s r c) (at s ((r + 1) % 4) c) (at s ((r + 2) % 4) c) (at s ((r + 3) % 4) c))
 
--- word i of the schedule, a list of four bytes (section 5.2)
+-- word i of the key schedule, a list of four bytes (section 5.2)
 abbrev pub word_at : List (List ℕ) → ℕ → List ℕ
 word_at w i = slice_index_or w i []
 
@@ -41,7 +42,7 @@ word_at w i = slice_index_or w i []
 unfoldable pub rot_word : List ℕ → List ℕ
 rot_word a = each_below 4 (λ k. slice_index a ((k + 1) % 4))
 
--- SubWord: the S-box of each byte of a word (section 5.2)
+-- SubWord: the S-box is applied to each byte of a word (section 5.2)
 unfoldable pub sub_word : List ℕ → List ℕ
 sub_word a = each_below 4 (λ k. sbox (slice_index a k))
 
@@ -49,7 +50,7 @@ sub_word a = each_below 4 (λ k. sbox (slice_index a k))
 unfoldable pub power_of_x : ℕ → ℕ
 power_of_x n = iterate (mul8 2) n 1
 
--- word i from the words w before it, under a key of nk words (section 5.2)
+-- word i of the key schedule of a key of nk words, from the words w before it (section 5.2)
 unfoldable pub next_word : ℕ → List (List ℕ) → ℕ → List ℕ
 next_word nk w i =
     let t = word_at w (i - 1) in
@@ -57,12 +58,12 @@ next_word nk w i =
     ⊕ (if i % nk == 0 then sub_word (rot_word t) ⊕ (power_of_x (i / nk - 1) ∷ 0 ∷ 0 ∷ 0 ∷ [])
     else (if nat_lt 6 nk && (i % nk == 4) then sub_word t else t))
 
--- KeyExpansion: the nk words of the key, and n more (section 5.2)
+-- KeyExpansion: the nk words of the key, and the n words after them (section 5.2)
 unfoldable pub key_words : ℕ → List ℕ → ℕ → List (List ℕ)
 key_words nk key zero = each_below nk (λ i. each_below 4 (λ k. slice_index key (4 * i + k)))
 key_words nk key (suc n) = let w = key_words nk key n in w ++ next_word nk w (nk + n) ∷ []
 
--- AddRoundKey: word 4j + c of the schedule is added to column c (section 5.1.4)
+-- AddRoundKey of round j: word 4j + c of the key schedule is added to column c (section 5.1.4)
 unfoldable pub add_round_key : List (List ℕ) → ℕ → List ℕ → List ℕ
 add_round_key w j s = state (λ r c. at s r c ⊻ slice_index (word_at w (4 * j + c)) r)
 
@@ -71,11 +72,12 @@ unfoldable pub rounds : List (List ℕ) → List ℕ → ℕ → List ℕ
 rounds w b zero = add_round_key w 0 b
 rounds w b (suc n) = add_round_key w (suc n) (mix_columns (shift_rows (sub_bytes (rounds w b n))))
 
--- Cipher: nr rounds, the last with no MixColumns (section 5.1)
+-- Cipher: nr rounds, the last without MixColumns (section 5.1)
 unfoldable pub cipher : List (List ℕ) → ℕ → List ℕ → List ℕ
 cipher w nr b = add_round_key w nr (shift_rows (sub_bytes (rounds w b (nr - 1))))
 
--- AES of the block b under a key of nk words, 4 or 8: nr = nk + 6 rounds and 4 (nr + 1) words (section 5)
+-- AES: the block b is encrypted under a key of nk words, 4 or 8, in nr = nk + 6 rounds with 4 (nr + 1) words
+-- (section 5)
 unfoldable pub aes : List ℕ → List ℕ → List ℕ
 aes key b =
     let nk = length key / 4 in

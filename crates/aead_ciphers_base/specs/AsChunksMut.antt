@@ -1,4 +1,4 @@
--- The items of a view that is written, on loan.
+-- Lending the items of a mutable view. The final value of a mutable reference is what it points to when its borrow ends.
 use Rattle.std.specs.Prelude.{ℕ, ◌%◌, List, ◌++◌, drop, length, take, refl, []}
 use Rattle.std.specs.Borrow.{Array, Fml, GName, Lends, LendsBoth, MutBor, RattleType, follows}
 use Rattle.std.specs.List.{length_refill}
@@ -9,22 +9,22 @@ use mathlib.Core.Path.{ap, sym, ◌∙◌}
 use Rattle.aead_ciphers_base.specs.declared.polyfill.slice.chunks_mut.AsChunksMut.{AsChunksMut}
 use Rattle.aead_ciphers_base.specs.contracts.polyfill.slice.chunks_mut.AsChunksMut.{the_row}
 
--- v with ws as its items. Where ws has another length it is cut, or filled up from v's, so that the length stays
+-- v with the items ws. If ws has another length, it is cut or filled up from the items of v, so that v keeps its length
 abbrev pub with_items : {T : Type 0} {N : ℕ} → AsChunksMut T N → List T → AsChunksMut T N
 with_items {T} {N} v ws = record {
   items = record v.items { now = take (length v.items.now) (ws ++ drop (length ws) v.items.now) };
   whole = ap (λ (k : ℕ). k % N) (sym (length_refill (length v.items.now) v.items.now ws refl)) ∙ v.whole;
 }
 
--- v ends with the last value behind r as its items
+-- the final value of v has the final value of r as its items
 abbrev pub LendsItems : (T N : RattleType) → MutBor (AsChunksMut T.Denot (value_of N)) → MutBor (List T.Denot) → Fml
 LendsItems T N v r = Lends (the_row (record { mir = named 1; lft = [] }) T N) (Array T 0) v r (with_items v.now)
 
--- v ends with the last values behind r and q as its items, one after the other
+-- the final value of v has the final values of r and q, one after the other, as its items
 abbrev pub LendsParts : (T N : RattleType) → MutBor (AsChunksMut T.Denot (value_of N)) → MutBor (List T.Denot) → MutBor (List T.Denot) → Fml
 LendsParts T N v r q = LendsBoth (the_row (record { mir = named 1; lft = [] }) T N) (Array T 0) (Array T 0) v (r, q)
     (λ front back. with_items v.now (front ++ back))
 
--- v ends with as many items as it has: with what some loan of them leaves
+-- the final value of v has as many items as v has now: those that some loan of them leaves
 abbrev pub KeepsCount : (T N : RattleType) → MutBor (AsChunksMut T.Denot (value_of N)) → Fml
 KeepsCount T N v = fex GName (λ loan. follows (the_row (record { mir = named 1; lft = [] }) T N) (Array T 0) v.ghost_name loan (with_items v.now))

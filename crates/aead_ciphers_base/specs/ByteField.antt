@@ -1,38 +1,39 @@
--- The bytes as the elements of GF(2^8), and the S-box (FIPS 197 sections 4 and 5.1.1).
+-- Bytes as elements of GF(2^8), and the S-box (FIPS 197 sections 4 and 5.1.1).
 use Rattle.std.specs.Prelude.{ℕ, zero, suc, ◌+◌, ◌*◌, ◌/◌, ◌%◌, ◌==◌, Bool, List, [], ◌∷◌, find, unwrap_or, if◌then◌else◌}
 use Rattle.std.specs.List.{range_with_len}
 use Rattle.aead_ciphers_base.specs.Polynomial.{◌xor◌, coefficient, field_product}
 use Rattle.aead_ciphers_base.specs.Bytes.{each_below}
 
--- the k lowest bits of n as coefficients, the bit of value 1 first (section 3.2: the byte {b7 .. b0} is the
+-- the k lowest bits of n as coefficients, the least significant first (section 3.2: the byte {b7 .. b0} is the
 -- polynomial b7 x^7 + .. + b0)
 abbrev pub bits_of : ℕ → ℕ → List Bool
 bits_of zero n = []
 bits_of (suc k) n = (n % 2 == 1) ∷ bits_of k (n / 2)
 
--- the number with these bits, the bit of value 1 first (section 3.2)
+-- the number with these bits, the least significant first (section 3.2)
 abbrev pub value_of : List Bool → ℕ
 value_of [] = 0
 value_of (b ∷ bs) = (if b then 1 else 0) + 2 * value_of bs
 
--- the product of two bytes: that of their polynomials modulo x^8 + x^4 + x^3 + x + 1 (section 4.2)
+-- the product of two bytes: the product of their polynomials modulo x^8 + x^4 + x^3 + x + 1 (section 4.2)
 unfoldable pub mul8 : ℕ → ℕ → ℕ
 mul8 x y = value_of (field_product (0 ∷ 1 ∷ 3 ∷ 4 ∷ []) 8 (bits_of 8 x) (bits_of 8 y))
 
--- the multiplicative inverse, the least y with product 1; 0, which has none, is mapped to itself (section 5.1.1)
+-- the multiplicative inverse: the least y with x y = 1; 0, which has none, is mapped to itself (section 5.1.1)
 unfoldable pub inv : ℕ → ℕ
 inv x = unwrap_or (find (λ y. mul8 x y == 1) (range_with_len 0 256)) 0
 
--- bit i of the affine map: b_i + b_(i+4) + b_(i+5) + b_(i+6) + b_(i+7) + c_i, the indexes modulo 8 (section 5.1.1)
+-- bit i of the affine transformation: b_i + b_(i+4) + b_(i+5) + b_(i+6) + b_(i+7) + c_i, with indexes modulo 8
+-- (section 5.1.1)
 abbrev pub affine_bit : List Bool → List Bool → ℕ → Bool
 affine_bit b c i =
     coefficient b i xor coefficient b ((i + 4) % 8) xor coefficient b ((i + 5) % 8)
     xor coefficient b ((i + 6) % 8) xor coefficient b ((i + 7) % 8) xor coefficient c i
 
--- the affine map, with c = {63} (section 5.1.1)
+-- the affine transformation, with c = {63} (section 5.1.1)
 unfoldable pub affine : ℕ → ℕ
 affine x = value_of (each_below 8 (affine_bit (bits_of 8 x) (bits_of 8 0x63)))
 
--- the S-box: the affine map of the multiplicative inverse (section 5.1.1)
+-- the S-box: the affine transformation of the multiplicative inverse (section 5.1.1)
 unfoldable pub sbox : ℕ → ℕ
 sbox x = affine (inv x)

@@ -1,5 +1,5 @@
--- ChaCha20 (RFC 8439). A word is a number below 2 ^ 32, a state a list of 16 words; a key, a nonce,
--- a block, a key stream and a message are lists of bytes.
+-- ChaCha20 (RFC 8439). A word is a number below 2 ^ 32, and a state is a list of 16 words. Keys, nonces, blocks,
+-- keystreams and messages are lists of bytes.
 use Rattle.std.specs.Prelude.{ℕ, ◌+◌, ◌/◌, ◌%◌, ◌^◌, List, [], ◌∷◌, ◌++◌, bit_xor, slice_index, slice_set, fold}
 use Rattle.std.specs.Fn.{iterate}
 use Rattle.std.specs.Int.{w32, rotate_left, to_le_bytes, from_le_bytes}
@@ -15,7 +15,7 @@ add32 x y = (x + y) % 2 ^ 32
 abbrev pub xor_rotate : ℕ → ℕ → ℕ → ℕ
 xor_rotate x y n = rotate_left w32 (bit_xor x y) n
 
--- the quarter round, on four words (section 2.1)
+-- the quarter round of four words (section 2.1)
 unfoldable pub quarter_round : ℕ → ℕ → ℕ → ℕ → ℕ × ℕ × ℕ × ℕ
 quarter_round a b c d =
     let a1 = add32 a b in
@@ -28,7 +28,7 @@ quarter_round a b c d =
     let b2 = xor_rotate b1 c2 7 in
     (a2, b2, c2, d2)
 
--- QUARTERROUND(x, y, z, w), on the words of a state at four indices (section 2.2)
+-- QUARTERROUND(x, y, z, w): the quarter round of the words of a state at four indices (section 2.2)
 abbrev pub quarter_round_at : List ℕ → ℕ × ℕ × ℕ × ℕ → List ℕ
 quarter_round_at s p =
     let q = quarter_round (slice_index s p.0) (slice_index s p.1) (slice_index s p.2) (slice_index s p.3) in
@@ -41,37 +41,38 @@ double_round s =
     ((0, 4, 8, 12) ∷ (1, 5, 9, 13) ∷ (2, 6, 10, 14) ∷ (3, 7, 11, 15)
     ∷ (0, 5, 10, 15) ∷ (1, 6, 11, 12) ∷ (2, 7, 8, 13) ∷ (3, 4, 9, 14) ∷ [])
 
--- bytes, read as words of four in little-endian order (section 2.3)
+-- bytes, read four at a time as little-endian words (section 2.3)
 unfoldable pub le_words : List ℕ → List ℕ
 le_words (a ∷ b ∷ c ∷ d ∷ bytes) = from_le_bytes w32 (a ∷ b ∷ c ∷ d ∷ []) ∷ le_words bytes
 le_words _ = []
 
--- words, written as bytes in little-endian order (section 2.3)
+-- words, written as bytes, each in little-endian order (section 2.3)
 unfoldable pub le_bytes : List ℕ → List ℕ
 le_bytes words = flat_map (to_le_bytes w32) words
 
--- the initial state: four constants, the key, the block counter, the nonce (section 2.3)
+-- the initial state: four constants, the key, the block counter and the nonce (section 2.3)
 unfoldable pub initial_state : List ℕ → ℕ → List ℕ → List ℕ
 initial_state key counter nonce =
     0x61707865 ∷ 0x3320646e ∷ 0x79622d32 ∷ 0x6b206574 ∷ le_words key ++ counter ∷ le_words nonce
 
--- after 20 rounds the initial words are added, and the sums written as bytes (section 2.3)
+-- the block of an initial state: after 20 rounds, the initial words are added, and the sums are written as bytes
+-- (section 2.3)
 unfoldable pub state_block : List ℕ → List ℕ
 state_block s = le_bytes (zip2 add32 (iterate double_round 10 s) s)
 
--- the block function (section 2.3)
+-- the block function: a block of the keystream (section 2.3)
 unfoldable pub chacha20_block : List ℕ → ℕ → List ℕ → List ℕ
 chacha20_block key counter nonce = state_block (initial_state key counter nonce)
 
--- byte i of the key stream, the blocks from the counter on in a row (section 2.4)
+-- byte i of the keystream: the blocks from the counter on, one after another (section 2.4)
 unfoldable pub stream_byte : List ℕ → ℕ → List ℕ → ℕ → ℕ
 stream_byte key counter nonce i = slice_index (chacha20_block key (counter + i / 64) nonce) (i % 64)
 
--- the message XOR the key stream (section 2.4)
+-- the message XORed with the keystream (section 2.4)
 unfoldable pub chacha20_encrypted : List ℕ → ℕ → List ℕ → List ℕ → List ℕ
 chacha20_encrypted key counter nonce message = xored (stream_byte key counter nonce) message
 
--- what a contract sees of a `Counter`: the block counter, and the bytes of the nonce
+-- the value of a `Counter` in contracts: the block counter, and the bytes of the nonce
 pub record Position : Type 0 where
   pub number : ℕ
   pub nonce : List ℕ

@@ -1,20 +1,20 @@
--- The round keys as planes.
+-- Round keys as planes (FIPS 197 section 5.2).
 use Rattle.std.specs.Prelude.{ℕ, ◌+◌, ◌-◌, ◌*◌, ◌/◌, ◌%◌, ◌≡◌, ◌<◌, ◌≤◌, List, [], slice_index, slice_index_or}
 use Rattle.aead_ciphers_base.specs.Bytes.{each_below}
 use Rattle.aead_ciphers_base.specs.Aes.{word_at, key_words}
 use Rattle.aead_ciphers_base.specs.Planes.{plane_byte}
 
--- the first n round keys hold the words, in each of the four blocks
+-- the first n round keys hold the words, four words each, in each of the four blocks
 abbrev pub HoldsWords : List (List ℕ) → List (List ℕ) → ℕ → Type 0
 HoldsWords round_keys words n = (j p : ℕ) → j < n → p < 64
     → plane_byte (slice_index_or round_keys j []) p ≡ slice_index (word_at words (4 * j + p % 16 / 4)) (p % 4)
 
--- the key of 4 (rounds - 6) bytes with which the round keys begin
+-- the key of 4 (rounds - 6) bytes that the round keys begin with
 unfoldable pub key_of : List (List ℕ) → ℕ → List ℕ
 key_of round_keys rounds =
     each_below (4 * (rounds - 6)) (λ j. plane_byte (slice_index_or round_keys (j / 16) []) (j % 16))
 
--- the round keys are those of the key with which they begin
+-- the round keys are the expansion of the key that they begin with
 pub record IsSchedule (round_keys : List (List ℕ)) (rounds : ℕ) : Type 0 where
   pub enough : 10 ≤ rounds
   pub in_range : rounds ≤ 14

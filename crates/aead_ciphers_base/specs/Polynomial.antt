@@ -1,5 +1,5 @@
--- Polynomials over the field of two elements, and their products modulo one of them (FIPS 197 section 4.2,
--- SP 800-38D section 6.3). A polynomial is the list of its coefficients, each a bit, that of x^0 first.
+-- Polynomials over the field of two elements, and their products modulo a polynomial (FIPS 197 section 4.2,
+-- SP 800-38D section 6.3). A polynomial is the list of its coefficients, which are bits, that of x^0 first.
 use Rattle.std.specs.Prelude.{ℕ, zero, suc, ◌+◌, ◌-◌, ◌==◌, Bool, true, false, not, ◌&&◌, List, length, slice_index_or}
 use Rattle.std.specs.List.{list_any}
 use Rattle.aead_ciphers_base.specs.Bytes.{each_below}
@@ -15,7 +15,7 @@ abbrev pub xor_sum : ℕ → (ℕ → Bool) → Bool
 xor_sum zero f = false
 xor_sum (suc n) f = xor_sum n f xor f n
 
--- the coefficient of x^i, zero past the end (FIPS 197 section 4)
+-- the coefficient of x^i; zero beyond the end of the list (FIPS 197 section 4)
 abbrev pub coefficient : List Bool → ℕ → Bool
 coefficient p i = slice_index_or p i false
 
@@ -24,13 +24,13 @@ unfoldable pub polynomial_product : List Bool → List Bool → List Bool
 polynomial_product a b = each_below (length a + length b - 1)
     (λ k. xor_sum (suc k) (λ i. coefficient a i && coefficient b (k - i)))
 
--- p, whose highest coefficient is that of x^(d + n), without it: if it was one, the coefficients of x^(n + t) are
--- flipped for each of the taps t, since x^d is the sum of the x^t (FIPS 197 section 4.2, SP 800-38D section 6.3)
+-- p without its highest coefficient, that of x^(d + n): if it is one, the coefficient of x^(n + t) is flipped for each
+-- tap t, since x^d is the sum of x^t over the taps t (FIPS 197 section 4.2, SP 800-38D section 6.3)
 unfoldable pub without_highest : List ℕ → ℕ → ℕ → List Bool → List Bool
 without_highest taps d n p = each_below (d + n)
     (λ j. coefficient p j xor (coefficient p (d + n) && list_any (λ t. n + t == j) taps))
 
--- p, which has d + n coefficients, without its n highest, one after the other
+-- p, which has d + n coefficients, without its n highest, removed one after another
 unfoldable pub without_highests : List ℕ → ℕ → ℕ → List Bool → List Bool
 without_highests taps d zero p = p
 without_highests taps d (suc n) p = without_highests taps d n (without_highest taps d n p)

@@ -1,21 +1,21 @@
--- What is done with the blocks of an overlapping buffer.
+-- Transforming the blocks of an overlapping buffer.
 use Rattle.std.specs.Prelude.{ℕ, ◌≡◌, ◌-◌, List, ◌∷◌, ◌++◌, drop, length, map}
 use Rattle.std.specs.Borrow.{Bor}
 use Rattle.std.specs.Fn.{Mut, CalledAt, TakesAt}
 use Rattle.std.specs.List.{FoldsTo}
 use Rattle.aead_ciphers_base.specs.Blocks.{blocks, joined}
 
--- f answered to each first part of the calls by the second, one after the other, and was then last
+-- f was called with the first value of each pair in `calls`, in order, and returned the second; after that f is `last`
 abbrev pub Answers : {C F : Type 0} → Mut F (Bor C × Unit {0}) C → F → List (C × C) → F → Type 0
 Answers g f calls last = FoldsTo (λ p c q. CalledAt g p c.0 c.1 q) f calls last
 
--- f may be called at each block of n items of xs, once it has answered to those before
+-- f may be called with each block of n items of xs, in order
 abbrev pub TakesBlocks : {T C F : Type 0} → (C → List T) → Mut F (Bor C × Unit {0}) C → ℕ → F → List T → Type 0
 TakesBlocks {T} {C} {F} items g n f xs = (calls : List (C × C)) (p : F) (c : C) (rest : List (List T))
     → Answers g f calls p → blocks n xs ≡ map (λ x. items x.0) calls ++ (items c ∷ rest) → TakesAt g p c
 
--- f answered to each block of n items of old from start on, as old has them, in order; new begins with the answers
--- in that order, and after them is as old
+-- f was called with each block of n items of `old` from `start` on, in order; `new` begins with what it returned, in the
+-- same order, and is unchanged after that
 pub record ShiftsBlocks {T C F : Type 0} (items : C → List T) (g : Mut F (Bor C × Unit {0}) C) (n : ℕ) (f : F)
     (old : List T) (start : ℕ) (new : List T) : Type 0 where
   pub calls : List (C × C)

@@ -1,18 +1,18 @@
--- What a contract sees of a `Work`: how many cipher blocks and field products were counted.
+-- The value of a `Work` in contracts: the numbers of cipher blocks and field products that were counted.
 use Rattle.std.specs.Prelude.{◌≡◌, ℕ, ◌+◌, ◌<◌, ◌≤◌, ◌^◌}
 
 pub record Tallies : Type 0 where
   pub blocks : ℕ
   pub products : ℕ
 
--- so many blocks and products more, and nothing else
+-- `now` is `was` with these numbers of blocks and products added
 abbrev pub Adds : Tallies → Tallies → ℕ → ℕ → Type 0
 Adds was now blocks products = (now.blocks ≡ was.blocks + blocks) × (now.products ≡ was.products + products)
 
--- the sums with so many more fit 64 bits
+-- the tallies with these numbers of blocks and products added fit in 64 bits
 abbrev pub CanAdd : Tallies → ℕ → ℕ → Type 0
 CanAdd work blocks products = (work.blocks + blocks < 2 ^ 64) × (work.products + products < 2 ^ 64)
 
--- room enough for one seal or open
+-- enough room for one seal or open
 abbrev pub HasRoom : Tallies → Type 0
 HasRoom work = (work.blocks ≤ 2 ^ 62) × (work.products ≤ 2 ^ 62)

@@ -1,7 +1,7 @@
-//! AES (FIPS 197), bit-sliced over four blocks, and counter mode over it (SP 800-38D section 6.5).
+//! AES (FIPS 197), bit-sliced over four blocks, and its counter mode (SP 800-38D section 6.5).
 //!
-//! Four blocks stand in eight planes of 64 bits: bit `16 * block + byte` of plane `b` is bit `b` of
-//! that byte. No step reads a table or branches on a byte.
+//! Eight planes of 64 bits hold four blocks: bit `16 * block + byte` of plane `b` is bit `b` of that
+//! byte. No step reads a table or branches on a byte. Read `Key` and `EncryptBlock` first.
 
 ghost use Rattle.std.specs.Prelude.{◌≡◌, ◌<◌, ◌⊎◌, ℕ, ◌/◌, ◌%◌, List, [], length, slice_index_or, IsOk, IfOk};
 ghost use Rattle.aead_ciphers_base.specs.Aes.{aes};
@@ -43,23 +43,23 @@ pub const AES_256_KEY_LEN: usize = 32;
 /// The length of a block, in bytes.
 pub const BLOCK_LEN: usize = 16;
 
-/// A block: 16 bytes.
+/// A block of 16 bytes.
 pub type Block = [u8; BLOCK_LEN];
 
-/// The block of zero bytes.
+/// The block of 16 zero bytes.
 pub const ZERO_BLOCK: Block = [0; BLOCK_LEN];
 
-/// The bytes of a key, by the length of the key.
+/// The bytes of an AES key, whose length selects AES-128 or AES-256.
 #[derive(Clone, Copy)]
 pub enum KeyBytes<'a> {
-    /// A key of AES-128: 16 bytes.
+    /// The 16 bytes of an AES-128 key.
     AES_128(&'a [u8; AES_128_KEY_LEN]),
-    /// A key of AES-256: 32 bytes.
+    /// The 32 bytes of an AES-256 key.
     AES_256(&'a [u8; AES_256_KEY_LEN]),
 }
 
 impl<'a> KeyBytes<'a> {
-    /// Its 16 or 32 bytes.
+    /// Returns the 16 or 32 bytes of the key.
     fn as_slice(self) -> &'a [u8]
         ensures bytes { result.now ≡ key_bytes self.entry }
         ensures len { (length result.now ≡ 16) ⊎ (length result.now ≡ 32) }
@@ -71,35 +71,38 @@ impl<'a> KeyBytes<'a> {
     }
 }
 
-/// A block cipher under a key.
+/// A block cipher under a key, which encrypts one block at a time.
 pub trait EncryptBlock {
-    // The cipher of a block under this key.
+    // The block cipher: from the key and a block to the encrypted block.
     ghost cipher: { Self → List ℕ → List ℕ };
 
-    /// The cipher of a block: 16 bytes in, 16 bytes out.
+    /// Encrypts a block: 16 bytes in, 16 bytes out. Counts one block in `work`.
     fn encrypt_block(&self, block: Block, work: &mut Work) -> Block
         requires { CanAdd work.old 1 0 }
         ensures value { result ≡ cipher self.now block }
         ensures worked { Adds work.old work.new 1 0 };
 
-    /// A block XOR the cipher of the counter block `iv`: 16 bytes in, 16 bytes out.
+    /// Encrypts the counter block `iv`, and returns `block` XORed with it: 16 bytes in, 16 bytes out.
+    /// Counts one block in `work`.
     fn encrypt_iv_xor_block(&self, iv: Iv, block: Block, work: &mut Work) -> Block
         requires { CanAdd work.old 1 0 }
         ensures value { result ≡ block ⊕ cipher self.now iv }
         ensures worked { Adds work.old work.new 1 0 };
 }
 
-/// A buffer of bytes whose output is its front.
+/// A slice of bytes that is read from `start` on and written from the front on.
 pub type Overlapping<'o> = overlapping::Overlapping<'o, u8>;
 
-/// The same with an input shorter than a block.
+/// An `Overlapping` whose input is shorter than a block of 16 bytes.
 pub type OverlappingPartialBlock<'o> = overlapping::PartialBlock<'o, u8, BLOCK_LEN>;
 
-/// Counter mode over a block cipher under a key (SP 800-38D section 6.5, GCTR).
+/// Counter mode over a block cipher under a key (GCTR, SP 800-38D section 6.5).
 pub trait EncryptCtr32: EncryptBlock {
-    /// Encrypts or decrypts whole blocks: output block j is input block j, as it stood at entry, XOR
-    /// the cipher of the counter block plus j. The bytes after the output stay, and the counter
-    /// grows by the number of blocks.
+    /// Encrypts or decrypts an input of whole blocks, and writes the output to the front of the slice.
+    ///
+    /// Output block `j` is the original input block `j` XORed with the encryption of the counter block
+    /// plus `j`. The bytes after the output are unchanged. The counter is incremented by the number of
+    /// blocks, and `work` counts them.
     fn ctr32_encrypt_within(&self, in_out: Overlapping<'_>, counter: &mut Counter, work: &mut Work)
         requires whole { input_len in_out % 16 ≡ 0 }
         requires sums { CanAdd work.old (input_len in_out / 16) 0 }
@@ -109,7 +112,7 @@ pub trait EncryptCtr32: EncryptBlock {
         ensures worked { Adds work.old work.new (input_len in_out.entry / 16) 0 };
 }
 
-/// A key, expanded: its round keys (FIPS 197 section 5.2), each in all four blocks of eight planes.
+/// An expanded AES key: its round keys (FIPS 197 section 5.2), each in all four blocks of eight planes.
 #[derive(Clone, Drop)]
 pub struct Key {
     round_keys: [[u64; 8]; 15],
@@ -128,7 +131,7 @@ impl Model for Key {
 }
 
 impl Key {
-    /// Expands a key of 16 or 32 bytes (FIPS 197 section 5.2). It is never refused.
+    /// Expands a key of 16 or 32 bytes (FIPS 197 section 5.2). Never fails.
     pub fn new(bytes: KeyBytes<'_>) -> Result<Key, Unspecified>
         ensures accepted { IsOk result }
         ensures made { IfOk result (λ key. key ≡ key_bytes bytes.entry) }
@@ -138,7 +141,7 @@ impl Key {
         Ok(Key { round_keys, rounds })
     }
 
-    /// The key by reference.
+    /// Borrows the key as a `KeyRef`.
     pub fn by_ref(&self) -> KeyRef<'_>
         ensures { result ≡ self.now }
     {
@@ -148,8 +151,8 @@ impl Key {
         }
     }
 
-    /// The cipher of each of four blocks (FIPS 197 section 5.1), in one pass of the planes. It is in no
-    /// tally.
+    /// Encrypts each of four blocks (FIPS 197 section 5.1), in one pass over the planes. No `Work`
+    /// counts them.
     pub fn encrypt_four(&self, blocks: [Block; 4]) -> [Block; 4]
         ensures { (k : ℕ) → k < 4
             → slice_index_or result k [] ≡ aes self.now (slice_index_or blocks k []) }
@@ -157,7 +160,7 @@ impl Key {
         self.by_ref().encrypt_four(blocks)
     }
 
-    /// The header protection mask of a sample, under this key (RFC 9001 section 5.4.3): 16 bytes in, 5 bytes out.
+    /// Computes the header protection mask of a sample (RFC 9001 section 5.4.3): 16 bytes in, 5 bytes out.
     #[tactic(auto, unfolding(crate::specs::Mask::aes_mask))]
     pub fn new_mask(&self, sample: Sample) -> [u8; 5]
         ensures { result ≡ aes_mask self.now sample }
@@ -169,7 +172,8 @@ impl Key {
     }
 }
 
-/// Writes the round keys of a key of 16 or 32 bytes (FIPS 197 section 5.2), and returns the number of its rounds.
+/// Expands a key of 16 or 32 bytes (FIPS 197 section 5.2): writes its round keys to `round_keys`, and
+/// returns the number of its rounds, 10 or 14.
 pub fn expand(round_keys: &mut [[u64; 8]; 15], bytes: KeyBytes<'_>) -> usize
     ensures schedule { IsSchedule round_keys.new result }
     ensures bytes { key_of round_keys.new result ≡ key_bytes bytes.entry }
@@ -181,7 +185,7 @@ pub fn expand(round_keys: &mut [[u64; 8]; 15], bytes: KeyBytes<'_>) -> usize
     rounds
 }
 
-/// An expanded key whose round keys lie elsewhere, as in memory that isn't this library's.
+/// An expanded AES key that borrows its round keys, for example from memory that the caller owns.
 #[derive(Drop)]
 pub struct KeyRef<'k> {
     round_keys: &'k [[u64; 8]; 15],
@@ -200,7 +204,7 @@ impl<'k> Model for KeyRef<'k> {
 }
 
 impl<'k> KeyRef<'k> {
-    /// The key with these round keys.
+    /// Creates a key from round keys and the number of rounds, as `expand` writes and returns them.
     pub fn new(round_keys: &'k [[u64; 8]; 15], rounds: usize) -> Self
         requires { IsSchedule round_keys.now rounds }
         ensures { result ≡ key_of round_keys.now rounds }
@@ -208,7 +212,7 @@ impl<'k> KeyRef<'k> {
         KeyRef { round_keys, rounds }
     }
 
-    // The cipher of one block, in the first of the four places.
+    // Encrypts one block, as the first of four.
     fn cipher_block(&self, block: Block) -> Block
         ensures { result ≡ aes self.now block }
     {

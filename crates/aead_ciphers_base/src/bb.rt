@@ -5,7 +5,9 @@ ghost use Rattle.aead_ciphers_base.specs.Bytes.{◌⊕◌};
 
 use crate::error::Unspecified;
 
-/// Whether two slices are equal. Of slices of one length every byte is read, whatever they hold.
+/// Verifies that two slices are equal. Fails with `Unspecified` if they differ.
+///
+/// If their lengths are equal, every byte of both is read, whatever they hold.
 #[tactic(auto, using(crate::proofs::BytesLemmas::same_more))]
 pub fn verify_slices_are_equal(a: &[u8], b: &[u8]) -> Result<(), Unspecified>
     ensures { IsOk result ↔ (a.now ≡ b.now) }
@@ -24,7 +26,7 @@ pub fn verify_slices_are_equal(a: &[u8], b: &[u8]) -> Result<(), Unspecified>
     }
 }
 
-/// The XOR of two blocks of 16 bytes.
+/// Returns the XOR of two blocks of 16 bytes.
 pub fn xor_16(a: [u8; 16], b: [u8; 16]) -> [u8; 16]
     ensures { result ≡ a ⊕ b }
 {
@@ -42,7 +44,8 @@ pub fn xor_assign(a: &mut [u8], b: u8)
     }
 }
 
-/// XORs the bytes of `b` into those of `a`, as far as the shorter goes.
+/// XORs the bytes of `b` into the first bytes of `a`, up to the end of the shorter slice. The other
+/// bytes of `a` are unchanged.
 #[tactic(auto, using(crate::proofs::BytesLemmas::xor_at_start_more, crate::proofs::BytesLemmas::xor_at_start_end))]
 pub fn xor_assign_at_start(a: &mut [u8], b: &[u8])
     ensures { a.new ≡ (a.old ⊕ b.now) ++ drop (length b.now) a.old }

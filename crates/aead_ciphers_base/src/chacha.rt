@@ -1,4 +1,4 @@
-//! The stream cipher ChaCha20 (RFC 8439 sections 2.1 to 2.4).
+//! The stream cipher ChaCha20 (RFC 8439 sections 2.1 to 2.4). Read `Key::encrypt` first.
 
 ghost use Rattle.std.specs.Prelude.{◌≡◌, ℕ, ◌+◌, ◌-◌, ◌*◌, ◌^◌, ◌<◌, ◌≤◌, List, ◌∷◌, ◌++◌, length, take, drop, slice_index, slice_set};
 ghost use Rattle.std.specs.Int.{div_ceil};
@@ -22,10 +22,10 @@ mod tests;
 /// The length of a key, in bytes.
 pub const KEY_LEN: usize = 32;
 
-/// The length of a block of the key stream, in bytes.
+/// The length of a block of the keystream, in bytes.
 pub const BLOCK_LEN: usize = 64;
 
-/// Bytes that are read from a start on, and written from the front on.
+/// A slice of bytes that is read from `start` on and written from the front on.
 pub type Overlapping<'o> = overlapping::Overlapping<'o, u8>;
 
 type State = [u32; 16];
@@ -58,8 +58,8 @@ fn le_words<const N: usize>(bytes: &[u8]) -> [u32; N]
     words
 }
 
-// Writes to `at` the `n` bytes from `start + at` on, XORed with the key stream. All are read before
-// one is written.
+// XORs the `n` bytes at `start + at` with the keystream, and writes them at `at`. All bytes are read
+// before any is written.
 fn xor_stream<const N: usize>(
     in_out: &mut [u8],
     start: usize,
@@ -78,7 +78,7 @@ fn xor_stream<const N: usize>(
     in_out[at..at + n].copy_from_slice(&stream[..n]);
 }
 
-/// A block counter and a nonce: where a key stream starts.
+/// A block counter and a nonce: the position at which a keystream starts.
 #[derive(Drop)]
 pub struct Counter {
     words: [u32; 4],
@@ -96,7 +96,7 @@ impl Model for Counter {
 }
 
 impl Counter {
-    /// Block `ctr` under the nonce.
+    /// Creates the counter of block `ctr` under the nonce.
     pub fn from_nonce_and_ctr(nonce: Nonce, ctr: u32) -> Self
         ensures number { result.number ≡ ctr }
         ensures nonce { result.nonce ≡ nonce }
@@ -107,7 +107,7 @@ impl Counter {
         }
     }
 
-    /// Blocks 0 and 1 under one nonce.
+    /// Creates the counters of blocks 0 and 1 under one nonce.
     pub fn zero_one_less_safe(nonce: Nonce) -> (Self, Self)
         ensures zero { result.0 ≡ record { number = 0; nonce = nonce } }
         ensures one { result.1 ≡ record { number = 1; nonce = nonce } }
@@ -120,7 +120,8 @@ impl Counter {
         (zero, one)
     }
 
-    /// The block counter, then the nonce as three little-endian words.
+    /// Consumes the counter, and returns the block counter followed by the nonce as three little-endian
+    /// words.
     pub fn into_words_less_safe(self) -> [u32; 4]
         ensures { result ≡ self.number ∷ le_words self.nonce }
     {
@@ -128,7 +129,7 @@ impl Counter {
     }
 }
 
-/// A key of 32 bytes.
+/// A ChaCha20 key of 32 bytes.
 #[derive(Clone, Drop)]
 pub struct Key {
     words: [u32; 8],
@@ -143,7 +144,7 @@ impl Model for Key {
 }
 
 impl Key {
-    /// The key of these bytes.
+    /// Creates a key from 32 bytes.
     pub fn new(value: [u8; KEY_LEN]) -> Self
         ensures { result ≡ value }
     {
@@ -152,7 +153,7 @@ impl Key {
         }
     }
 
-    /// The key as eight little-endian words.
+    /// Returns the key as eight little-endian words.
     #[tactic(auto, using(crate::proofs::LittleEndian::read_and_written))]
     pub fn words_less_safe(&self) -> &[u32; 8]
         ensures { result.now ≡ le_words self.now }
@@ -160,8 +161,11 @@ impl Key {
         &self.words
     }
 
-    /// XORs the input with the key stream from the counter on (RFC 8439 section 2.4). The output
-    /// is as long as the input.
+    /// Encrypts or decrypts the input: XORs it with the keystream from `counter` on (RFC 8439
+    /// section 2.4), and writes the output to the front of the slice.
+    ///
+    /// The output is as long as the input. The bytes after it are unchanged. The number of the last
+    /// block must be below 2^32.
     #[tactic(auto, using(crate::proofs::KeyStreamLemmas::written_rest))]
     pub fn encrypt(&self, counter: Counter, in_out: Overlapping<'_>)
         requires { counter.number + div_ceil (input_len in_out) 64 ≤ 2 ^ 32 }
@@ -180,7 +184,7 @@ impl Key {
         );
     }
 
-    // `encrypt` from the start of a slice on.
+    // Encrypts a whole slice in place.
     fn encrypt_in_place(&self, counter: Counter, in_out: &mut [u8])
         requires { counter.number + div_ceil (length in_out.old) 64 ≤ 2 ^ 32 }
         ensures { in_out.new ≡ chacha20_encrypted self.now counter.number counter.nonce in_out.old }
@@ -188,7 +192,8 @@ impl Key {
         self.encrypt(counter, Overlapping::from(in_out));
     }
 
-    /// Encrypts at most one block, the one with counter 0, and gives the counter of the next.
+    /// Encrypts at most 64 bytes in place with block 0 of the keystream, and returns the counter of
+    /// block 1.
     pub fn encrypt_single_block_with_ctr_0<const N: usize>(
         &self,
         nonce: Nonce,
@@ -203,7 +208,7 @@ impl Key {
         one
     }
 
-    /// The header protection mask of a sample (RFC 9001 section 5.4.4).
+    /// Computes the header protection mask of a sample (RFC 9001 section 5.4.4): 16 bytes in, 5 bytes out.
     pub fn new_mask(&self, sample: Sample) -> [u8; 5]
         ensures { result ≡ chacha_mask self.now sample }
     {
@@ -216,7 +221,7 @@ impl Key {
         mask
     }
 
-    // Encrypts the first batches of four blocks, side by side.
+    // Encrypts the first `batches` batches, the four blocks of each side by side.
     #[tactic(auto, unfolding(crate::specs::ChaCha20::chacha20_encrypted, crate::specs::Bytes::xored))]
     fn encrypt_batches(&self, counter: &Counter, in_out: &mut [u8], start: usize, batches: usize)
         requires within { start + 256 * batches ≤ length in_out.old }
@@ -232,8 +237,8 @@ impl Key {
         }
     }
 
-    // Encrypts one block at a time, from block `first` after the counter on. No counter after the
-    // last block is summed.
+    // Encrypts one block at a time, from block `first` after the counter on. No counter after that of
+    // the last block is computed.
     fn encrypt_blocks(&self, counter: &Counter, first: usize, in_out: &mut [u8], start: usize)
         requires within { start ≤ length in_out.old }
         requires counted { counter.now.number + first + div_ceil (length in_out.old - start) 64
@@ -252,7 +257,7 @@ impl Key {
         }
     }
 
-    // The four blocks of the key stream from block `j` after the counter on.
+    // Returns four blocks of the keystream, from block `j` after the counter on.
     fn four_blocks(&self, counter: &Counter, j: u32) -> [u8; BATCH_LEN]
         requires { counter.now.number + j + 4 ≤ 2 ^ 32 }
         ensures { result ≡ each_below 256 (stream_byte self.now (counter.now.number + j) counter.now.nonce) }
@@ -260,7 +265,7 @@ impl Key {
         lanes::state_blocks(&lanes::four_states(&self.initial_state(counter, j)))
     }
 
-    // The initial state of block `j` after the counter.
+    // Returns the initial state of block `j` after the counter.
     fn initial_state(&self, counter: &Counter, j: u32) -> State
         requires { counter.now.number + j < 2 ^ 32 }
         ensures state { result

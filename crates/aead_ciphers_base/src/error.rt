@@ -1,4 +1,4 @@
-//! Errors.
+//! The errors that calls fail with: `Unspecified`, and three that hold an index or a length.
 
 ghost use Rattle.std.specs.Prelude.{◌≡◌, ℕ};
 
@@ -9,11 +9,11 @@ use std::error::Error;
 use std::fmt;
 use std::marker::Model;
 
-/// The error of every call that does not say why it refuses.
+/// The error of a call that gives no reason for its failure.
 #[derive(Clone, Copy, PartialEq, Eq, Debug)]
 pub struct Unspecified;
 
-/// `unspecified error`.
+/// Displays as `unspecified error`.
 impl fmt::Display for Unspecified {
     ghost use Rattle.std.specs.Prelude.{Some, codes};
 
@@ -26,7 +26,7 @@ impl fmt::Display for Unspecified {
 
 impl Error for Unspecified {}
 
-/// A start or a block that does not lie within its input.
+/// The error returned when a start or a block does not lie within its input.
 #[derive(Clone, Copy, PartialEq, Eq, Debug)]
 pub struct IndexError(usize);
 
@@ -39,13 +39,14 @@ impl Model for IndexError {
 }
 
 impl IndexError {
+    /// Creates the error for a start, or for a number of items.
     pub fn new(index: usize) -> Self
         ensures { result ≡ index }
     {
         IndexError(index)
     }
 
-    /// The start, or the number of items, that was asked for.
+    /// Returns the start, or the number of items, that was asked for.
     pub fn value(self) -> usize
         ensures { result ≡ self }
     {
@@ -54,7 +55,7 @@ impl IndexError {
     }
 }
 
-/// `index out of range`.
+/// Displays as `index out of range`.
 impl fmt::Display for IndexError {
     ghost use Rattle.std.specs.Prelude.{Some, codes};
 
@@ -67,7 +68,7 @@ impl fmt::Display for IndexError {
 
 impl Error for IndexError {}
 
-/// An input that has not the length that was asked for.
+/// The error returned when an input does not have the length that was asked for.
 #[derive(Clone, Copy, PartialEq, Eq, Debug)]
 pub struct LenMismatchError(usize);
 
@@ -80,13 +81,14 @@ impl Model for LenMismatchError {
 }
 
 impl LenMismatchError {
+    /// Creates the error for the length that was asked for, in items.
     pub fn new(len: usize) -> Self
         ensures { result ≡ len }
     {
         LenMismatchError(len)
     }
 
-    /// The length that was asked for, in items.
+    /// Returns the length that was asked for, in items.
     pub fn value(self) -> usize
         ensures { result ≡ self }
     {
@@ -95,7 +97,7 @@ impl LenMismatchError {
     }
 }
 
-/// `length mismatch`.
+/// Displays as `length mismatch`.
 impl fmt::Display for LenMismatchError {
     ghost use Rattle.std.specs.Prelude.{Some, codes};
 

@@ -1,5 +1,6 @@
-//! What stands below AES-GCM and the QUIC header masks: AES in bit-sliced form, ChaCha20, the views of
-//! buffers that both work on, and the plain values that calls take and give.
+//! The primitives below AES-GCM and QUIC header protection: bit-sliced AES, ChaCha20, the buffers that
+//! both work on, and the plain values that calls take and return. Read `values` and `overlapping`
+//! first; `CALLING.md` has examples.
 #![tactic(auto)]
 
 pub mod aes;

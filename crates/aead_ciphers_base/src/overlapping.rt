@@ -1,4 +1,4 @@
-//! Buffers whose output overlaps their input.
+//! Buffers whose output overlaps their input. Read `Overlapping` first.
 
 mod array;
 mod base;

@@ -1,3 +1,3 @@
-//! What the standard library may have one day.
+//! Functionality that the standard library may provide one day.
 
 pub mod slice;

@@ -1,4 +1,4 @@
-//! Blocks that are transformed while they are moved to the front.
+//! Transforming blocks while they are moved to the front of a slice.
 
 ghost use Rattle.std.specs.Prelude.{◌≡◌, ◌%◌, ◌<◌};
 ghost use Rattle.aead_ciphers_base.specs.Overlapping.{input_len, input_of};
@@ -6,7 +6,10 @@ ghost use Rattle.aead_ciphers_base.specs.Shift.{ShiftsBlocks, TakesBlocks};
 
 use crate::overlapping::{Chunk, Overlapping, chunk_at};
 
-/// Each block of the input goes through `transform` to the front of the slice, in order.
+/// Passes each block of the input to `transform`, in order, and writes the blocks that it returns to the
+/// front of the slice, in the same order. The items after them are unchanged.
+///
+/// The input must be whole blocks of at least one item.
 pub fn shift_full_blocks<C: Chunk<u8>, F: FnMut(&C) -> C>(
     in_out: Overlapping<'_, u8>,
     mut transform: F,

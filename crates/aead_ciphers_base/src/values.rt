@@ -1,4 +1,5 @@
-//! The plain values that calls take and give: nonces, additional authenticated data, tags, samples.
+//! The plain values that calls take and return: nonces, additional authenticated data (AAD), tags and
+//! samples.
 
 ghost use Rattle.std.specs.Prelude.{◌≡◌, ◌↔◌, [], length, IsOk, IfOk, IsTrue};
 
@@ -9,13 +10,13 @@ use std::marker::Model;
 /// The length of a nonce, in bytes.
 pub const NONCE_LEN: usize = 12;
 
-/// The length of the longest tag, in bytes. Every tag here has it.
+/// The maximum length of a tag, in bytes. Every tag of this library has this length.
 pub const MAX_TAG_LEN: usize = 16;
 
-/// The part of a packet that a header mask is made from (RFC 9001 section 5.4.2): 16 bytes.
+/// The 16 bytes of a packet from which its header protection mask is computed (RFC 9001 section 5.4.2).
 pub type Sample = [u8; 16];
 
-/// A nonce: 12 bytes that are used once under a key. A call consumes it, and it can't be cloned.
+/// A nonce: 12 bytes that are used only once under a key. Calls consume it, and it cannot be cloned.
 #[derive(Drop)]
 pub struct Nonce {
     bytes: [u8; NONCE_LEN],
@@ -30,14 +31,15 @@ impl Model for Nonce {
 }
 
 impl Nonce {
-    /// The nonce of these bytes. That they are used once is the caller's matter.
+    /// Creates a nonce from 12 bytes. Using them only once under a key is the caller's responsibility.
     pub fn assume_unique_for_key(value: [u8; NONCE_LEN]) -> Self
         ensures { result ≡ value }
     {
         Nonce { bytes: value }
     }
 
-    /// The nonce of a slice. Refused where the slice hasn't 12 bytes.
+    /// Creates a nonce from a slice. Fails with `Unspecified` if the slice is not 12 bytes long. Using
+    /// the bytes only once under a key is the caller's responsibility.
     pub fn try_assume_unique_for_key(value: &[u8]) -> Result<Self, Unspecified>
         ensures accepted { IsOk result ↔ (length value.now ≡ 12) }
         ensures bytes { IfOk result (λ nonce. nonce ≡ value.now) }
@@ -48,7 +50,7 @@ impl Nonce {
         }
     }
 
-    /// Its bytes.
+    /// Returns the 12 bytes of the nonce.
     pub fn as_ref(&self) -> &[u8; NONCE_LEN]
         ensures { result.now ≡ self.now }
     {
@@ -56,12 +58,13 @@ impl Nonce {
     }
 }
 
-/// Additional authenticated data: bytes that a tag covers and that aren't encrypted.
+/// Additional authenticated data (AAD): bytes that are authenticated by the tag but not encrypted.
 #[derive(Clone, Copy, PartialEq, Eq)]
 pub struct Aad<'a> {
     bytes: &'a [u8],
 }
 
+/// Borrows the bytes of a slice as AAD.
 impl<'a> From<&'a [u8]> for Aad<'a> {
     ghost use Rattle.aead_ciphers_base.specs.Values.{aad_bytes};
 
@@ -75,14 +78,14 @@ impl<'a> From<&'a [u8]> for Aad<'a> {
 impl<'a> Aad<'a> {
     ghost use Rattle.aead_ciphers_base.specs.Values.{aad_bytes};
 
-    /// No data.
+    /// Creates AAD of no bytes.
     pub fn empty() -> Self
         ensures { aad_bytes result ≡ [] }
     {
         Aad { bytes: &[] }
     }
 
-    /// Its bytes.
+    /// Returns the bytes of the AAD.
     pub fn as_ref(&self) -> &'a [u8]
         ensures { result.now ≡ aad_bytes self.now }
     {
@@ -90,7 +93,7 @@ impl<'a> Aad<'a> {
     }
 }
 
-/// `Aad(` and the list of the bytes and `)`.
+/// Formats the bytes as a list, such as `Aad([1, 2])`.
 impl fmt::Debug for Aad<'_> {
     ghost use Rattle.std.specs.Prelude.{Some, codes};
     ghost use Rattle.std.specs.Fmt.{debug_list, debug_variant, decimal};
@@ -120,6 +123,7 @@ impl Model for Tag {
     ghost inverse = { λ bytes. record { bytes = bytes } };
 }
 
+/// Creates a tag from 16 bytes.
 impl From<[u8; MAX_TAG_LEN]> for Tag {
     ghost from_gives = { λ bytes tag. tag ≡ bytes };
 
@@ -128,7 +132,7 @@ impl From<[u8; MAX_TAG_LEN]> for Tag {
     }
 }
 
-/// The tag of a slice. Refused where the slice hasn't 16 bytes.
+/// Creates a tag from a slice. Fails with `Unspecified` if the slice is not 16 bytes long.
 impl TryFrom<&[u8]> for Tag {
     type Error = Unspecified;
 
@@ -143,7 +147,7 @@ impl TryFrom<&[u8]> for Tag {
 }
 
 impl Tag {
-    /// Its bytes.
+    /// Returns the 16 bytes of the tag.
     pub fn as_ref(&self) -> &[u8]
         ensures { result.now ≡ self.now }
     {

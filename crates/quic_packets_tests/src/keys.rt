@@ -130,24 +130,29 @@ fn chacha20_header(rt: HostRuntime) -> Result<(), Fail> {
     Ok(())
 }
 
+/// A packet of this length, with a short header and number 7 in a byte, is sealed or refused so.
+fn seals(rt: &impl Abort, key: &mut SendKey, len: usize, wanted: Result<u64, PacketError>) {
+    let mut packet = [7; 21];
+    packet[0] = 0x40;
+    assert_eq!(rt; key.seal(&mut packet[..len.min(21)], 1..2), wanted);
+}
+
 // A packet without a sample spends no number, and numbers are skipped forward only.
 #[test]
 fn skips(rt: HostRuntime) -> Result<(), Fail> {
     let mut key = SendKey::new(&AES_128_GCM, &[1; 16], [2; 12], 5)?;
-    let mut short = [7; 20];
-    short[0] = 0x40;
-    short[1] = 5;
-    assert_eq!(rt; key.seal(&mut short, 1..2), Err(PacketError::NoSample));
-    assert_eq!(rt; key.next_number(), 5);
-    assert_eq!(rt; key.skip_to(4), Err(PacketError::NumberUsed));
-    key.skip_to(5)?;
-    key.skip_to(7)?;
-    let mut packet = [7; 21];
-    packet[0] = 0x40;
-    assert_eq!(rt; key.seal(&mut packet, 1..2)?, 7);
-    assert_eq!(rt; key.skip_to((1 << 62) + 1), Err(PacketError::NumbersEnded));
+    for (number, outcome) in [
+        (4, Err(PacketError::NumberUsed)),
+        (5, Ok(())),
+        (7, Ok(())),
+        ((1 << 62) + 1, Err(PacketError::NumbersEnded)),
+    ] {
+        assert_eq!(rt; key.skip_to(number), outcome);
+    }
+    seals(&rt, &mut key, 20, Err(PacketError::NoSample));
+    seals(&rt, &mut key, 21, Ok(7));
     key.skip_to(1 << 62)?;
-    assert_eq!(rt; key.seal(&mut packet, 1..2), Err(PacketError::NumbersEnded));
+    seals(&rt, &mut key, 21, Err(PacketError::NumbersEnded));
     Ok(())
 }
 

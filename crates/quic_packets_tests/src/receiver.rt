@@ -30,6 +30,11 @@ fn sent(key: u8, first: u8, number: u16) -> Result<[u8; 40], PacketError> {
     Ok(packet)
 }
 
+/// What receives under keys of this byte.
+fn receiver(key: u8) -> Result<Receiver, PacketError> {
+    Receiver::new(Suite::Aes128Gcm, &[key; 16], IV, &HEADER_KEY)
+}
+
 /// An end that receives, with what its packets share.
 #[derive(Drop)]
 struct End {
@@ -38,41 +43,74 @@ struct End {
     failures: Failures,
 }
 
+/// What happens to an end. A packet has the byte of its key, its first byte and its number.
+#[derive(Clone, Copy)]
+enum Event {
+    Accepted(u8, u8, u16),
+    Rejected(u8, u8, u16, PacketError),
+    /// The keys of the next phase are set.
+    NextKey(u8),
+    ForgetPrevious,
+    /// Another receiver goes on with the same space.
+    OtherKey(u8),
+}
+
+use Event::{Accepted, ForgetPrevious, NextKey, OtherKey, Rejected};
+
 impl End {
-    fn new() -> Result<Self, PacketError> {
-        Ok(End {
-            receiver: Receiver::new(Suite::Aes128Gcm, &[1; 16], IV, &HEADER_KEY)?,
+    fn new(receiver: Receiver, max_failures: u64) -> Self {
+        End {
+            receiver,
             space: Space::new(),
-            failures: Failures::new(),
-        })
+            failures: Failures::with_limit(max_failures),
+        }
     }
 
-    fn receive(&mut self, packet: &mut [u8]) -> Result<Received, PacketError> {
-        self.receive_at(packet, 9)
-    }
-
-    fn receive_at(&mut self, packet: &mut [u8], number_at: usize) -> Result<Received, PacketError> {
+    fn receive(&mut self, packet: &mut [u8], number_at: usize) -> Result<Received, PacketError> {
         self.receiver
             .receive(&mut self.space, &mut self.failures, packet, number_at)
     }
 
-    /// The number of a packet that is sent to it, or why it is refused.
+    /// The number of a packet that is sent to it, or why it is rejected.
     fn takes(&mut self, key: u8, first: u8, number: u16) -> Result<u64, PacketError> {
         let mut packet = sent(key, first, number)?;
-        Ok(self.receive(&mut packet)?.number)
+        Ok(self.receive(&mut packet, 9)?.number)
     }
+
+    fn meets(&mut self, rt: &impl Abort, event: Event) -> Result<(), PacketError> {
+        match event {
+            Accepted(key, first, number) => {
+                assert_eq!(rt; self.takes(key, first, number), Ok(u64::from(number)));
+            }
+            Rejected(key, first, number, error) => {
+                assert_eq!(rt; self.takes(key, first, number), Err(error));
+            }
+            NextKey(key) => self.receiver.set_next(&[key; 16], IV)?,
+            ForgetPrevious => self.receiver.forget_previous(),
+            OtherKey(key) => self.receiver = receiver(key)?,
+        }
+        Ok(())
+    }
+}
+
+/// The events happen to one end, under a key of ones. So many failures are counted.
+fn happen(rt: &impl Abort, limit: u64, events: &[Event], failures: u64) -> Result<(), Fail> {
+    let mut end = End::new(receiver(1)?, limit);
+    for &event in events {
+        end.meets(rt, event)?;
+    }
+    assert_eq!(rt; end.failures.count(), failures);
+    Ok(())
 }
 
 /// A packet of RFC 9001 appendix A is received, and its payload is as long as it was.
 fn receives(rt: &impl Abort, alloc: Global, row: &Packet) -> Result<(), Fail> {
-    let mut receiver = Receiver::new(Suite::Aes128Gcm, row.key, row.iv, row.header_key)?;
+    let mut end = End::new(
+        Receiver::new(Suite::Aes128Gcm, row.key, row.iv, row.header_key)?,
+        1,
+    );
     let mut packet = Vec::from_slice(alloc, row.protected)?;
-    let received = receiver.receive(
-        &mut Space::new(),
-        &mut Failures::new(),
-        &mut packet,
-        row.number_at,
-    )?;
+    let received = end.receive(&mut packet, row.number_at)?;
     assert_eq!(rt;
         received,
         Received {
@@ -94,33 +132,43 @@ fn appendix_a(rt: HostRuntime) -> Result<(), Fail> {
     Ok(())
 }
 
-/// With each bit flipped the row's packet is refused, left as it came, and counted. Without, it is received.
-fn refuses_flipped(rt: &impl Abort, alloc: Global, row: &Row) -> Result<(), Fail> {
+/// What receives a row's packet, in either phase.
+fn row_end(rt: &impl Abort, row: &Row) -> Result<End, PacketError> {
     assert!(rt; row.key_len <= 32);
     let (key, header_key) = (&KEY[..row.key_len], &ROW_HEADER_KEY[..row.key_len]);
     let mut receiver = Receiver::new(row.suite, key, ROW_IV, header_key)?;
     receiver.set_next(key, ROW_IV)?;
-    let mut space = Space::new();
-    let mut failures = Failures::new();
+    Ok(End::new(receiver, 10_000))
+}
+
+/// The packet with this bit flipped.
+fn flipped(rt: &impl Abort, alloc: Global, packet: &[u8], bit: usize) -> Result<Vec<u8>, Fail> {
+    let mut flipped = Vec::from_slice(alloc, packet)?;
+    assert!(rt; bit / 8 < flipped.len());
+    flipped[bit / 8] ^= 1 << (bit % 8);
+    Ok(flipped)
+}
+
+/// The packet, which was changed, is rejected, and left as it came.
+fn rejects(rt: &impl Abort, end: &mut End, row: &Row, packet: &mut Vec<u8>) -> Result<(), Fail> {
+    let came = packet.clone()?;
+    let outcome = end.receive(packet, row.number_at);
+    assert_eq!(rt; outcome, Err(PacketError::Refused), "{}", row.name);
+    same(rt, packet, &came, row.name);
+    Ok(())
+}
+
+/// With each bit flipped the row's packet is rejected and counted. Without, it is received.
+fn refuses_flipped(rt: &impl Abort, alloc: Global, row: &Row) -> Result<(), Fail> {
+    let mut end = row_end(rt, row)?;
     let mut packet = hex::decode(alloc, row.protected)?;
-    for bit in 0..packet.len().saturating_mul(8) {
-        let mut flipped = packet.clone()?;
-        assert!(rt; bit / 8 < flipped.len());
-        flipped[bit / 8] ^= 1 << (bit % 8);
-        let came = flipped.clone()?;
-        let outcome = receiver.receive(&mut space, &mut failures, &mut flipped, row.number_at);
-        assert_eq!(rt;
-            outcome,
-            Err(PacketError::Refused),
-            "{}: bit {bit}",
-            row.name
-        );
-        same(rt, &flipped, &came, row.name);
+    let bits = packet.len().saturating_mul(8);
+    for bit in 0..bits {
+        rejects(rt, &mut end, row, &mut flipped(rt, alloc, &packet, bit)?)?;
     }
-    assert_eq!(rt; failures.count(), packet.len().saturating_mul(8) as u64);
-    let received = receiver.receive(&mut space, &mut failures, &mut packet, row.number_at)?;
-    assert_eq!(rt; received.number, row.number);
-    assert_eq!(rt; received.phase, row.phase);
+    assert_eq!(rt; end.failures.count(), bits as u64);
+    let received = end.receive(&mut packet, row.number_at)?;
+    assert_eq!(rt; (received.number, received.phase), (row.number, row.phase));
     Ok(())
 }
 
@@ -135,89 +183,106 @@ fn each_bit_flipped(rt: HostRuntime) -> Result<(), Fail> {
     Ok(())
 }
 
-// A number comes once, and one that is 128 below the largest not at all.
-#[test]
-fn each_number_once(rt: HostRuntime) -> Result<(), Fail> {
-    let mut end = End::new()?;
-    for number in [0, 2, 1, 300, 173, 299] {
-        assert_eq!(rt; end.takes(1, FIRST, number)?, u64::from(number));
-    }
-    for number in [0, 2, 300, 173, 299, 172] {
-        assert_eq!(rt; end.takes(1, FIRST, number), Err(PacketError::Duplicate));
-    }
-    assert_eq!(rt; end.space.largest(), Some(300));
-    assert_eq!(rt; end.failures.count(), 0);
-    Ok(())
-}
+/// A number comes once, and one that is 128 below the largest not at all.
+const EACH_NUMBER_ONCE: [Event; 12] = [
+    Accepted(1, FIRST, 0),
+    Accepted(1, FIRST, 2),
+    Accepted(1, FIRST, 1),
+    Accepted(1, FIRST, 300),
+    Accepted(1, FIRST, 173),
+    Accepted(1, FIRST, 299),
+    Rejected(1, FIRST, 0, PacketError::Duplicate),
+    Rejected(1, FIRST, 2, PacketError::Duplicate),
+    Rejected(1, FIRST, 300, PacketError::Duplicate),
+    Rejected(1, FIRST, 173, PacketError::Duplicate),
+    Rejected(1, FIRST, 299, PacketError::Duplicate),
+    Rejected(1, FIRST, 172, PacketError::Duplicate),
+];
 
-// Two updates, with packets of the phase before that come late. The key of a phase that isn't held opens nothing.
+/// Two updates, with packets of the phase before that come late. The key of a phase that isn't held opens nothing.
+const PHASES: [Event; 13] = [
+    Accepted(1, FIRST, 5),
+    Rejected(2, SECOND, 6, PacketError::Refused),
+    NextKey(2),
+    Rejected(2, SECOND, 4, PacketError::KeyUpdate),
+    Accepted(2, SECOND, 8),
+    Accepted(1, FIRST, 6),
+    Accepted(2, SECOND, 7),
+    NextKey(3),
+    Accepted(1, FIRST, 4),
+    Accepted(3, FIRST, 9),
+    Rejected(1, FIRST, 3, PacketError::Refused),
+    ForgetPrevious,
+    Rejected(2, SECOND, 2, PacketError::Refused),
+];
+
+/// From the limit of 2 on every packet is rejected, and none is counted.
+const FAILURES: [Event; 4] = [
+    Rejected(2, FIRST, 0, PacketError::Refused),
+    Accepted(1, FIRST, 0),
+    Rejected(2, FIRST, 1, PacketError::Refused),
+    Rejected(1, FIRST, 1, PacketError::TooManyFailures),
+];
+
+/// 0-RTT and 1-RTT have keys of their own, and one space.
+const ONE_SPACE: [Event; 4] = [
+    Accepted(1, 0xd1, 0),
+    OtherKey(2),
+    Rejected(2, FIRST, 0, PacketError::Duplicate),
+    Accepted(2, FIRST, 1),
+];
+
+/// Reserved bits in authentic headers, short and long.
+const RESERVED_BITS: [Event; 3] = [
+    Rejected(1, FIRST | 0x08, 3, PacketError::ReservedBits),
+    Rejected(1, 0xc5, 3, PacketError::ReservedBits),
+    Accepted(1, 0xd1, 3),
+];
+
 #[test]
-fn phases(rt: HostRuntime) -> Result<(), Fail> {
-    let mut end = End::new()?;
-    assert_eq!(rt; end.takes(1, FIRST, 5)?, 5);
-    assert_eq!(rt; end.takes(2, SECOND, 6), Err(PacketError::Refused));
-    end.receiver.set_next(&[2; 16], IV)?;
-    assert_eq!(rt; end.takes(2, SECOND, 4), Err(PacketError::KeyUpdate));
-    assert_eq!(rt; end.takes(2, SECOND, 8)?, 8);
-    assert_eq!(rt; end.takes(1, FIRST, 6)?, 6);
-    assert_eq!(rt; end.takes(2, SECOND, 7)?, 7);
-    end.receiver.set_next(&[3; 16], IV)?;
-    assert_eq!(rt; end.takes(1, FIRST, 4)?, 4);
-    assert_eq!(rt; end.takes(3, FIRST, 9)?, 9);
-    assert_eq!(rt; end.takes(1, FIRST, 3), Err(PacketError::Refused));
-    end.receiver.forget_previous();
-    assert_eq!(rt; end.takes(2, SECOND, 2), Err(PacketError::Refused));
-    Ok(())
+fn events(rt: HostRuntime) -> Result<(), Fail> {
+    happen(&rt, 9, &EACH_NUMBER_ONCE, 0)?;
+    happen(&rt, 9, &PHASES, 3)?;
+    happen(&rt, 2, &FAILURES, 2)?;
+    happen(&rt, 9, &ONE_SPACE, 0)?;
+    happen(&rt, 9, &RESERVED_BITS, 0)
 }
 
 // What is wrong in an authentic packet is told, and the packet stands opened.
 #[test]
 fn reserved_bits(rt: HostRuntime) -> Result<(), Fail> {
-    let mut end = End::new()?;
     let mut packet = sent(1, FIRST | 0x08, 3)?;
-    assert_eq!(rt; end.receive(&mut packet), Err(PacketError::ReservedBits));
+    let outcome = End::new(receiver(1)?, 1).receive(&mut packet, 9);
+    assert_eq!(rt; outcome, Err(PacketError::ReservedBits));
     same(&rt, &packet[11..24], &[7; 13], "opened");
-    assert_eq!(rt; end.takes(1, 0xc5, 3), Err(PacketError::ReservedBits));
-    assert_eq!(rt; end.takes(1, 0xd1, 3)?, 3);
     Ok(())
 }
 
-// From the limit on every packet is refused, and none is counted.
-#[test]
-fn failures(rt: HostRuntime) -> Result<(), Fail> {
-    let mut end = End::new()?;
-    end.failures = Failures::with_limit(2);
-    assert_eq!(rt; end.takes(2, FIRST, 0), Err(PacketError::Refused));
-    assert_eq!(rt; end.takes(1, FIRST, 0)?, 0);
-    assert_eq!(rt; end.takes(2, FIRST, 1), Err(PacketError::Refused));
-    assert_eq!(rt; end.takes(1, FIRST, 1), Err(PacketError::TooManyFailures));
-    assert_eq!(rt; end.failures.count(), 2);
+/// A packet of zeros is rejected before it is opened, and isn't counted.
+fn rejects_zeros(
+    rt: &impl Abort,
+    packet: &mut [u8],
+    number_at: usize,
+    error: PacketError,
+) -> Result<(), Fail> {
+    let mut end = End::new(receiver(1)?, 1);
+    assert_eq!(rt; end.receive(packet, number_at), Err(error));
+    assert_eq!(rt; end.failures.count(), 0);
     Ok(())
 }
 
-// 0-RTT and 1-RTT have keys of their own, and one space.
-#[test]
-fn one_space(rt: HostRuntime) -> Result<(), Fail> {
-    let mut end = End::new()?;
-    assert_eq!(rt; end.takes(1, 0xd1, 0)?, 0);
-    end.receiver = Receiver::new(Suite::Aes128Gcm, &[2; 16], IV, &HEADER_KEY)?;
-    assert_eq!(rt; end.takes(2, FIRST, 0), Err(PacketError::Duplicate));
-    assert_eq!(rt; end.takes(2, FIRST, 1)?, 1);
-    Ok(())
-}
-
-// Neither a packet without a sample nor one whose number begins the header is counted.
+// A packet without a sample, and one whose number begins the header.
 #[test]
 fn too_short(rt: HostRuntime) -> Result<(), Fail> {
-    let mut end = End::new()?;
-    assert_eq!(rt; end.receive(&mut [0; 28]), Err(PacketError::NoSample));
-    let at_first = end.receive_at(&mut [0; 40], 0);
-    assert_eq!(rt; at_first, Err(PacketError::NumberAtFirstByte));
-    assert_eq!(rt; end.failures.count(), 0);
+    rejects_zeros(&rt, &mut [0; 28], 9, PacketError::NoSample)?;
+    rejects_zeros(&rt, &mut [0; 40], 0, PacketError::NumberAtFirstByte)
+}
+
+// A header key of another length, and a key of the next phase.
+#[test]
+fn key_lengths(rt: HostRuntime) -> Result<(), Fail> {
     assert!(rt; Receiver::new(Suite::Aes256Gcm, &[1; 16], IV, &[1; 32]).is_err());
-    assert_eq!(rt;
-        end.receiver.set_next(&[1; 32], IV),
-        Err(PacketError::KeyLength)
-    );
+    let outcome = receiver(1)?.set_next(&[1; 32], IV);
+    assert_eq!(rt; outcome, Err(PacketError::KeyLength));
     Ok(())
 }

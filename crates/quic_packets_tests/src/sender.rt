@@ -4,13 +4,9 @@ use crate::checks::same;
 use crate::rows::{HEADER_KEY, IV, KEY, ROWS, Row};
 use quic_packets::{HeaderKey, PacketError, ReceiveKey, Sender, Suite};
 use std::alloc::Global;
+use std::ops::Range;
 use std::process::Abort;
 use std::test::Fail;
-
-/// What sends under keys of 16 bytes, from this number on.
-fn sender(first: u64) -> Result<Sender, PacketError> {
-    Sender::new(Suite::Aes128Gcm, &KEY[..16], IV, &HEADER_KEY[..16], first)
-}
 
 /// The row's packet before it is sent: what `send` writes is ones.
 fn before(rt: &impl Abort, alloc: Global, row: &Row) -> Result<Vec<u8>, Fail> {
@@ -61,26 +57,13 @@ const SHORT: [u8; 24] = [
     0x40, 0, 1, 1, 1, 1, 1, 1, 0, 0, 0, 0, 0, 0, 0, 0, 0, 0, 0, 0, 0, 0, 0, 0,
 ];
 
-/// Refused with this error, and packet and sender as they were.
-fn refuses(
-    rt: &impl Abort,
-    sender: &mut Sender,
-    packet: &[u8; 24],
-    start: usize,
-    end: usize,
-    wanted: PacketError,
-) {
-    let mut sent = *packet;
-    let number = sender.next_number();
-    let count = sender.sealed();
-    assert_eq!(rt; sender.send(&mut sent, start..end, None), Err(wanted));
-    assert!(rt; sent == *packet);
-    assert_eq!(rt; sender.next_number(), number);
-    assert_eq!(rt; sender.sealed(), count);
+/// What sends under a key of ones, from this number on.
+fn sender(first: u64) -> Result<Sender, PacketError> {
+    Sender::new(Suite::Aes128Gcm, &[1; 16], IV, &HEADER_KEY[..16], first)
 }
 
-/// A packet as `SHORT` with this first byte and version.
-fn long(first: u8, version: u8) -> [u8; 24] {
+/// A packet of this first byte and version.
+fn packet(first: u8, version: u8) -> [u8; 24] {
     let mut packet = SHORT;
     packet[0] = first;
     packet[2] = 0;
@@ -89,133 +72,180 @@ fn long(first: u8, version: u8) -> [u8; 24] {
     packet
 }
 
+/// Refused with this error, and packet and sender as they were.
+fn refuses(
+    rt: &impl Abort,
+    sender: &mut Sender,
+    packet: &[u8; 24],
+    room: Range<usize>,
+    wanted: PacketError,
+) {
+    let mut sent = *packet;
+    let before = (sender.next_number(), sender.sealed());
+    assert_eq!(rt; sender.send(&mut sent, room, None), Err(wanted));
+    assert_eq!(rt; (sender.next_number(), sender.sealed()), before);
+    same(rt, &sent, packet, "refused");
+}
+
+/// A first byte and a version, the ends of the room for a number, and why the packet isn't sent.
+const REFUSALS: [(u8, u8, usize, usize, PacketError); 7] = [
+    (0x40, 0, 8, 9, PacketError::TooShort),
+    (0x40, 0, 0, 1, PacketError::NumberAtFirstByte),
+    (0x40, 0, 5, 6, PacketError::NoSample),
+    (0x40, 0, 1, 3, PacketError::NumberLength),
+    (0x40, 0, 2, 1, PacketError::NumberLength),
+    (0xf0, 1, 1, 2, PacketError::NoProtection),
+    (0xc0, 0, 1, 2, PacketError::NoProtection),
+];
+
 #[test]
 fn refusals(rt: HostRuntime) -> Result<(), Fail> {
     let mut sender = sender(0)?;
-    refuses(&rt, &mut sender, &SHORT, 8, 9, PacketError::TooShort);
-    refuses(
-        &rt,
-        &mut sender,
-        &SHORT,
-        0,
-        1,
-        PacketError::NumberAtFirstByte,
-    );
-    refuses(&rt, &mut sender, &SHORT, 5, 6, PacketError::NoSample);
-    refuses(&rt, &mut sender, &SHORT, 1, 3, PacketError::NumberLength);
-    refuses(&rt, &mut sender, &SHORT, 2, 1, PacketError::NumberLength);
-    refuses(
-        &rt,
-        &mut sender,
-        &long(0xf0, 1),
-        1,
-        2,
-        PacketError::NoProtection,
-    );
-    refuses(
-        &rt,
-        &mut sender,
-        &long(0xc0, 0),
-        1,
-        2,
-        PacketError::NoProtection,
-    );
-    let mut last = SHORT;
-    assert_eq!(rt; sender.send(&mut last, 4..5, None), Ok(0));
-    let mut long = long(0xe0, 1);
-    assert_eq!(rt; sender.send(&mut long, 4..5, None), Ok(1));
+    for (first, version, start, end, error) in REFUSALS {
+        refuses(&rt, &mut sender, &packet(first, version), start..end, error);
+    }
     Ok(())
 }
 
-// A number that 4 bytes don't represent, one that was acknowledged already, and the end of all numbers.
+// The shortest packets that have a sample, with a short header and with a long one.
+#[test]
+fn shortest(rt: HostRuntime) -> Result<(), Fail> {
+    let mut sender = sender(0)?;
+    for (number, first) in [(0, 0x40), (1, 0xe0)] {
+        assert_eq!(rt; sender.send(&mut packet(first, 1), 4..5, None), Ok(number));
+    }
+    Ok(())
+}
+
+// Numbers are skipped forward only, and end.
 #[test]
 fn numbers(rt: HostRuntime) -> Result<(), Fail> {
     let mut sender = sender(1 << 31)?;
-    assert_eq!(rt; sender.next_number_len(None), None);
-    refuses(&rt, &mut sender, &SHORT, 1, 2, PacketError::NumberTooFar);
-    assert_eq!(rt; sender.next_number_len(Some(1 << 31)), None);
-    assert_eq!(rt; sender.next_number_len(Some((1 << 31) - 127)), Some(1));
-    assert_eq!(rt; sender.next_number_len(Some((1 << 31) - 128)), Some(2));
-    assert_eq!(rt; sender.skip_to((1 << 31) - 1), Err(PacketError::NumberUsed));
-    sender.skip_to((1 << 62) - 1)?;
-    let mut packet = SHORT;
-    assert_eq!(rt;
-        sender.send(&mut packet, 1..2, Some((1 << 62) - 2)),
-        Ok((1 << 62) - 1)
-    );
-    refuses(&rt, &mut sender, &SHORT, 1, 2, PacketError::NumbersEnded);
-    assert_eq!(rt; sender.next_number_len(Some((1 << 62) - 1)), None);
-    assert_eq!(rt;
-        sender.skip_to((1 << 62) + 1),
-        Err(PacketError::NumbersEnded)
-    );
+    refuses(&rt, &mut sender, &SHORT, 1..2, PacketError::NumberTooFar);
+    for (number, outcome) in [
+        ((1 << 31) - 1, Err(PacketError::NumberUsed)),
+        ((1 << 62) + 1, Err(PacketError::NumbersEnded)),
+        (1 << 62, Ok(())),
+    ] {
+        assert_eq!(rt; sender.skip_to(number), outcome);
+    }
+    refuses(&rt, &mut sender, &SHORT, 1..2, PacketError::NumbersEnded);
     Ok(())
 }
 
-/// The sent packet opens under this key, as one of this phase.
+/// What happens to a sender. A key has one byte throughout.
+#[derive(Clone, Copy)]
+enum Event {
+    /// A packet is sent, which opens under this key as one of this phase.
+    Sent(u8, bool),
+    Refused(PacketError),
+    Confirmed,
+    Acknowledged(u64),
+    /// An update to a key of this byte and length.
+    Initiated(u8, usize, Result<(), PacketError>),
+    Followed(u8, usize, Result<(), PacketError>),
+}
+
+use Event::{Acknowledged, Confirmed, Followed, Initiated, Refused, Sent};
+
+/// The packet opens under this key, as one of this number and phase.
 fn opens(
     rt: &impl Abort,
-    packet: &[u8; 24],
-    key: &[u8; 16],
+    mut packet: [u8; 24],
+    key: u8,
     number: u64,
     phase: bool,
-) -> Result<(), Fail> {
-    let mut packet = *packet;
+) -> Result<(), PacketError> {
     let header_key = HeaderKey::new(Suite::Aes128Gcm.header_algorithm(), &HEADER_KEY[..16])?;
-    assert_eq!(rt; header_key.unprotect(&mut packet, 1)?, 1);
-    assert_eq!(rt; packet[0], if phase { 0x44 } else { 0x40 });
-    assert_eq!(rt; u64::from(packet[1]), number);
-    let key = ReceiveKey::new(Suite::Aes128Gcm.algorithm(), key, IV)?;
-    assert_eq!(rt; key.open(&mut packet, 2, number)?, 6);
+    assert_eq!(rt; header_key.unprotect(&mut packet, 1), Ok(1));
+    let header = [if phase { 0x44 } else { 0x40 }, number as u8];
+    same(rt, &packet[..2], &header, "header");
+    let key = ReceiveKey::new(Suite::Aes128Gcm.algorithm(), &[key; 16], IV)?;
+    assert_eq!(rt; key.open(&mut packet, 2, number), Ok(6));
     same(rt, &packet[2..8], &SHORT[2..8], "payload");
     Ok(())
 }
 
-// Two packets under each key: the limit holds anew after an update, and the numbers go on.
+fn sends_under(
+    rt: &impl Abort,
+    sender: &mut Sender,
+    key: u8,
+    phase: bool,
+) -> Result<(), PacketError> {
+    let mut packet = SHORT;
+    let number = sender.send(&mut packet, 1..2, None)?;
+    opens(rt, packet, key, number, phase)
+}
+
+fn meets(rt: &impl Abort, sender: &mut Sender, event: Event) -> Result<(), PacketError> {
+    match event {
+        Sent(key, phase) => sends_under(rt, sender, key, phase)?,
+        Refused(error) => refuses(rt, sender, &SHORT, 1..2, error),
+        Confirmed => sender.confirm_handshake(),
+        Acknowledged(number) => sender.acknowledged(number),
+        Initiated(key, len, outcome) => {
+            assert_eq!(rt;
+                sender.initiate_update(&[key; 32][..len.min(32)], IV),
+                outcome
+            );
+        }
+        Followed(key, len, outcome) => {
+            assert_eq!(rt;
+                sender.follow_update(&[key; 32][..len.min(32)], IV),
+                outcome
+            );
+        }
+    }
+    Ok(())
+}
+
+/// Two packets under each key: the limit holds anew after an update, and the numbers go on.
+const LIMITS_AND_UPDATES: [Event; 16] = [
+    Sent(1, false),
+    Sent(1, false),
+    Refused(PacketError::KeyUsedUp),
+    Initiated(2, 16, Err(PacketError::HandshakeUnconfirmed)),
+    Confirmed,
+    Initiated(2, 17, Err(PacketError::KeyLength)),
+    Initiated(2, 16, Ok(())),
+    Sent(2, true),
+    Acknowledged(1),
+    Acknowledged(3),
+    Initiated(3, 16, Err(PacketError::PhaseUnacknowledged)),
+    Acknowledged(2),
+    Initiated(3, 16, Ok(())),
+    Followed(4, 15, Err(PacketError::KeyLength)),
+    Followed(4, 16, Ok(())),
+    Sent(4, true),
+];
+
 #[test]
 fn limits_and_updates(rt: HostRuntime) -> Result<(), Fail> {
     let mut sender = sender(0)?.with_limit(2);
-    let (mut a, mut b, mut c) = (SHORT, SHORT, SHORT);
-    sender.send(&mut a, 1..2, None)?;
-    sender.send(&mut b, 1..2, None)?;
-    refuses(&rt, &mut sender, &SHORT, 1, 2, PacketError::KeyUsedUp);
-    let unconfirmed = sender.initiate_update(&[2; 16], IV);
-    assert_eq!(rt; unconfirmed, Err(PacketError::HandshakeUnconfirmed));
-    sender.confirm_handshake();
-    assert_eq!(rt;
-        sender.initiate_update(&[2; 17], IV),
-        Err(PacketError::KeyLength)
-    );
-    sender.initiate_update(&[2; 16], IV)?;
-    sender.send(&mut c, 1..2, None)?;
-    opens(&rt, &c, &[2; 16], 2, true)?;
-    sender.acknowledged(1);
-    sender.acknowledged(3);
-    let unacknowledged = sender.initiate_update(&[3; 16], IV);
-    assert_eq!(rt; unacknowledged, Err(PacketError::PhaseUnacknowledged));
-    sender.acknowledged(2);
-    sender.initiate_update(&[3; 16], IV)?;
-    assert_eq!(rt;
-        sender.follow_update(&[4; 15], IV),
-        Err(PacketError::KeyLength)
-    );
-    sender.follow_update(&[4; 16], IV)?;
-    let mut d = SHORT;
-    assert_eq!(rt; sender.send(&mut d, 1..2, None), Ok(3));
-    opens(&rt, &d, &[4; 16], 3, true)
+    for event in LIMITS_AND_UPDATES {
+        meets(&rt, &mut sender, event)?;
+    }
+    Ok(())
 }
 
-// The numbers of 0-RTT go on under the keys of 1-RTT.
+/// The keys of 1-RTT after those of 0-RTT.
+fn next_keys(early: Sender, header_key_len: usize) -> Result<Sender, PacketError> {
+    early.into_next_keys(
+        Suite::Aes256Gcm,
+        &[5; 32],
+        IV,
+        &HEADER_KEY[..header_key_len.min(32)],
+    )
+}
+
+// The numbers of 0-RTT go on under the keys of 1-RTT, and so does the limit.
 #[test]
 fn numbers_go_on(rt: HostRuntime) -> Result<(), Fail> {
     let mut early = sender(0)?.with_limit(1);
-    let mut packet = long(0xd0, 1);
-    early.send(&mut packet, 4..5, None)?;
-    let mut sender = early.into_next_keys(Suite::Aes256Gcm, &[5; 32], IV, &HEADER_KEY)?;
-    let mut packet = SHORT;
-    assert_eq!(rt; sender.send(&mut packet, 1..2, None), Ok(1));
-    refuses(&rt, &mut sender, &SHORT, 1, 2, PacketError::KeyUsedUp);
-    let refused = sender.into_next_keys(Suite::Aes256Gcm, &[5; 32], IV, &HEADER_KEY[..16]);
-    assert!(rt; refused.is_err());
+    early.send(&mut packet(0xd0, 1), 4..5, None)?;
+    let mut sender = next_keys(early, 32)?;
+    assert_eq!(rt; sender.send(&mut packet(0x40, 0), 1..2, None), Ok(1));
+    refuses(&rt, &mut sender, &SHORT, 1..2, PacketError::KeyUsedUp);
+    assert!(rt; next_keys(sender, 16).is_err());
     Ok(())
 }

@@ -1,4 +1,4 @@
-//! The algorithms.
+//! The AEAD algorithms, and the lengths of their keys, nonces and tags.
 
 ghost use Rattle.std.specs.Prelude.{◌≡◌, ◌↔◌, length, IsOk, IfOk};
 ghost use Rattle.aead_ciphers_base.specs.KeyBytes.{key_bytes};
@@ -8,7 +8,7 @@ use aead_ciphers_base::error::Unspecified;
 use aead_ciphers_base::values::{MAX_TAG_LEN, NONCE_LEN};
 use std::fmt;
 
-/// An AEAD algorithm. Two are equal where their ids are.
+/// An AEAD algorithm: `AES_128_GCM` or `AES_256_GCM`. Two values are equal if they are the same algorithm.
 #[derive(Clone, Copy, PartialEq, Eq)]
 pub struct Algorithm {
     id: AlgorithmId,
@@ -20,12 +20,12 @@ enum AlgorithmId {
     AES_256_GCM,
 }
 
-/// AES-128 in Galois/Counter Mode (SP 800-38D), with 12-byte nonces and 16-byte tags.
+/// AES-128 in Galois/Counter Mode (SP 800-38D), with 16-byte keys, 12-byte nonces and 16-byte tags.
 pub const AES_128_GCM: Algorithm = Algorithm {
     id: AlgorithmId::AES_128_GCM,
 };
 
-/// AES-256 in Galois/Counter Mode (SP 800-38D), with 12-byte nonces and 16-byte tags.
+/// AES-256 in Galois/Counter Mode (SP 800-38D), with 32-byte keys, 12-byte nonces and 16-byte tags.
 pub const AES_256_GCM: Algorithm = Algorithm {
     id: AlgorithmId::AES_256_GCM,
 };
@@ -33,7 +33,7 @@ pub const AES_256_GCM: Algorithm = Algorithm {
 impl Algorithm {
     ghost use Rattle.aead_ciphers.specs.Algorithm.{key_len};
 
-    /// The length of a key, in bytes.
+    /// Returns the length of a key in bytes: 16 for `AES_128_GCM`, 32 for `AES_256_GCM`.
     pub fn key_len(&self) -> usize
         ensures len { result ≡ key_len self.now }
         ensures aes_128_gcm { self.now ≡ AES_128_GCM → result ≡ 16 }
@@ -45,21 +45,21 @@ impl Algorithm {
         }
     }
 
-    /// The length of a tag, in bytes.
+    /// Returns the length of a tag in bytes, which is 16.
     pub fn tag_len(&self) -> usize
         ensures { result ≡ 16 }
     {
         MAX_TAG_LEN
     }
 
-    /// The length of a nonce, in bytes.
+    /// Returns the length of a nonce in bytes, which is 12.
     pub fn nonce_len(&self) -> usize
         ensures { result ≡ 12 }
     {
         NONCE_LEN
     }
 
-    /// The bytes of a key of this algorithm. Refused where they aren't `key_len` many.
+    /// Borrows `bytes` as a key of this algorithm. Fails with `Unspecified` if it is not `key_len` bytes long.
     pub(crate) fn key_bytes<'a>(&self, bytes: &'a [u8]) -> Result<KeyBytes<'a>, Unspecified>
         ensures accepted { IsOk result ↔ (length bytes.now ≡ key_len self.now) }
         ensures bytes { IfOk result (λ key. key_bytes key ≡ bytes.now) }

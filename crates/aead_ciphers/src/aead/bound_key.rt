@@ -1,26 +1,26 @@
-//! Keys that draw their nonces from a sequence.
+//! The trait of keys that are bound to a nonce sequence: `SealingKey` and `OpeningKey`.
 ghost use Rattle.std.specs.Prelude.{◌≡◌};
 
 use crate::aead::{Algorithm, NonceSequence, UnboundKey};
 use std::fmt;
 
-/// A key that is bound to a sequence of nonces.
+/// An AEAD key that is bound to a nonce sequence, which supplies the nonce of each call.
 pub trait BoundKey<N: NonceSequence>: fmt::Debug {
     ghost use Rattle.aead_ciphers.specs.AeadKey.{AeadKey};
 
-    // Its algorithm and its bytes.
+    // The algorithm and the bytes of the key.
     ghost key: { Self → AeadKey };
-    // What it draws its nonces from.
+    // The sequence that supplies the nonces.
     ghost sequence: { Self → N };
 
-    /// Binds a key to a sequence of nonces.
+    /// Binds `unbound_key` to `nonce_sequence`. No nonce is consumed.
     fn new(unbound_key: UnboundKey, nonce_sequence: N) -> Self
     where
         Self: Sized,
         ensures key_kept { key result ≡ unbound_key }
         ensures sequence_kept { sequence result ≡ nonce_sequence };
 
-    /// The algorithm that the key was made with.
+    /// Returns the algorithm of the key.
     fn algorithm(&self) -> &'static Algorithm
         ensures { result.now ≡ (key self.now).algorithm };
 }

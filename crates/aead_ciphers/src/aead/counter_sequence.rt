@@ -1,12 +1,13 @@
-//! Nonces of a prefix and a number that counts up.
+//! The nonce sequence of a fixed prefix and a counter.
 ghost use Rattle.std.specs.Prelude.{◌≡◌, ◌+◌, ◌^◌, ◌≤◌, ◌↔◌, IsOk, IfOk};
 ghost use Rattle.aead_ciphers.specs.Counting.{prefixed_nonce};
 
 use crate::aead::{NONCE_LEN, Nonce, NonceSequence, Unspecified};
 use std::marker::Model;
 
-/// Nonces of 12 bytes: a prefix of 4 bytes, which all of them have, and a number in 8 big-endian bytes, which counts
-/// up from a first one (the fixed field and the invocation field of SP 800-38D section 8.2.1). It can't be cloned.
+/// A sequence of 12-byte nonces: a prefix of 4 bytes, which is the same in all of them, followed by a number in 8
+/// big-endian bytes, which counts up (the fixed field and the invocation field of SP 800-38D section 8.2.1). It cannot
+/// be cloned. ring has no such type.
 #[derive(Drop)]
 pub struct CounterSequence {
     prefix: [u8; 4],
@@ -27,8 +28,11 @@ impl Model for CounterSequence {
 }
 
 impl CounterSequence {
-    /// The sequence of the `count` nonces with the numbers from `first` on, of which none is spent. Refused where
-    /// `first + count` is above 2^64.
+    /// Creates a sequence of `count` nonces, whose numbers count up from `first`. None of them is used yet.
+    ///
+    /// # Errors
+    ///
+    /// Fails with `Unspecified` if `first + count` is greater than 2^64.
     pub fn new(prefix: [u8; 4], first: u64, count: u64) -> Result<Self, Unspecified>
         ensures accepted { IsOk result ↔ (first + count ≤ 2 ^ 64) }
         ensures made { IfOk result (λ sequence. sequence
@@ -46,7 +50,7 @@ impl CounterSequence {
     }
 }
 
-// The nonce of a prefix and a number.
+// Returns the nonce of `prefix` and `number`.
 #[tactic(auto, using(crate::proofs::SequenceLemmas::over_zeros))]
 fn prefixed(prefix: &[u8; 4], number: u64) -> Nonce
     ensures { result ≡ prefixed_nonce prefix.now number }

@@ -1,4 +1,4 @@
-//! Lending a part of a buffer.
+//! Mutable slices of a buffer that was opened.
 
 ghost use Rattle.std.specs.Prelude.{◌≡◌, ◌≤◌, ◌++◌, ◌↔◌, ℕ, List, length, drop, take, is_ok, IsOk, IfOk, IsSome, IfSome};
 ghost use Rattle.std.specs.Borrow.{sem, Array, LendsBothIf, LendsIfOk, u8 as byte};
@@ -6,8 +6,8 @@ ghost use Rattle.aead_ciphers.specs.Lending.{count_of, lent_after, Stands};
 
 use aead_ciphers_base::error::Unspecified;
 
-/// Returns the plaintext for writing, which begins at `start`, where `opened` isn't a refusal. `loan` is what the
-/// buffer held before the call that opened it, and the plaintext's length.
+/// Returns the plaintext, which begins at byte `start`, as a mutable slice, or the error of `opened`. `loan` is what
+/// the buffer held before the call that opened it, and the length of the plaintext.
 pub(crate) fn lend_plaintext(
     in_out: &mut [u8],
     start: usize,
@@ -27,9 +27,11 @@ pub(crate) fn lend_plaintext(
     }
 }
 
-/// The plaintext at the front of the buffer and the bytes after it, both for writing, where `opened` isn't a
-/// refusal. It is for a proved caller of a call that returns the plaintext's length: its proof knows the whole
-/// buffer when the loan ends.
+/// Splits a buffer that was opened into two mutable slices, the plaintext at its front and the bytes after it. Returns
+/// `None` if `opened` is an error.
+///
+/// `opened` is the result of a call that returns the length of the plaintext, such as `open_within_to_front`. This
+/// function is for callers whose own contract says what the buffer holds when the loans end.
 pub fn lend_plaintext_and_rest(
     in_out: &mut [u8],
     opened: Result<usize, Unspecified>,

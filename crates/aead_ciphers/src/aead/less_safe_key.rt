@@ -1,4 +1,4 @@
-//! Keys that take the nonce of each call.
+//! The key whose calls take the nonce as an argument.
 
 ghost use Rattle.std.specs.Prelude.{◌≡◌, ◌+◌, ◌-◌, ◌≤◌, ◌↔◌, length, drop, take, is_ok, IsTrue, IsOk, IfOk, OnOk, OnErr};
 ghost use Rattle.std.specs.Borrow.{sem};
@@ -21,7 +21,8 @@ use std::fmt;
 use std::marker::Model;
 use std::ops::RangeFrom;
 
-/// A key whose calls take the nonce. That no nonce comes twice under it is the caller's matter.
+/// An AEAD key whose calls take the nonce as an argument. It is the caller's responsibility that no nonce is used twice
+/// under one key (SP 800-38D section 8).
 #[derive(Drop)]
 pub struct LessSafeKey {
     key: ExpandedKey,
@@ -39,7 +40,7 @@ impl Model for LessSafeKey {
     ghost invariant = { λ key. IsExpanded key.key };
 }
 
-/// The same key with the same algorithm. Cloning takes no memory, and always succeeds.
+/// Copies the expanded key and its algorithm. Cloning allocates no memory and always succeeds.
 impl Clone for LessSafeKey {
     ghost use Rattle.std.specs.Prelude.{◌≡◌, ⊤};
 
@@ -56,7 +57,8 @@ impl Clone for LessSafeKey {
 }
 
 impl LessSafeKey {
-    /// The key as it was made, for use with nonces of the caller's choice. It is expanded here.
+    /// Creates a key for nonces of the caller's choice. The round keys (FIPS 197 section 5.2) and the hash subkey
+    /// (SP 800-38D section 7.1 step 1) are computed here, once.
     pub fn new(key: UnboundKey) -> Self
         ensures { result ≡ key }
     {
@@ -68,18 +70,21 @@ impl LessSafeKey {
         made
     }
 
-    /// The algorithm that it was made with.
+    /// Returns the algorithm of the key.
     pub fn algorithm(&self) -> &'static Algorithm
         ensures { result.now ≡ self.now.algorithm }
     {
         self.algorithm
     }
 
-    /// Encrypts the buffer in place, and returns the tag of what it then holds and the AAD (SP 800-38D
-    /// algorithm 4).
+    /// Encrypts `in_out` in place, and returns the 16-byte tag of the ciphertext and `aad` (SP 800-38D algorithm 4).
     ///
-    /// `in_out` is the message, and then the ciphertext, of as many bytes. Refused where the message is longer
-    /// than 2^36 - 32 bytes or the AAD has 2^61 bytes or more.
+    /// `in_out` holds the plaintext before the call, and the equally long ciphertext after it.
+    ///
+    /// # Errors
+    ///
+    /// Fails with `Unspecified`, and leaves `in_out` unchanged, if the plaintext is longer than 2^36 - 32 bytes or
+    /// `aad` is 2^61 bytes or longer (SP 800-38D section 5.2.1.1).
     pub fn seal_in_place_separate_tag(
         &self,
         nonce: Nonce,
@@ -94,11 +99,16 @@ impl LessSafeKey {
         self.key.seal(nonce, aad, in_out, &mut Work::new())
     }
 
-    /// Encrypts the buffer in place, and appends the tag of the ciphertext and the AAD (SP 800-38D algorithm 4).
+    /// Encrypts the bytes of `in_out` in place, and appends the tag of the ciphertext and `aad` (SP 800-38D
+    /// algorithm 4).
     ///
-    /// `in_out` is the message, and then the ciphertext followed by the tag: n bytes, then n + 16. Room for the tag
-    /// is asked for first. Refused where there is none, or else where the lengths don't fit, as in
-    /// `seal_in_place_separate_tag`.
+    /// `in_out` holds n bytes of plaintext before the call, and n bytes of ciphertext followed by the 16-byte tag after
+    /// it.
+    ///
+    /// # Errors
+    ///
+    /// Fails with `Unspecified`, and leaves the bytes of `in_out` unchanged, if there is no room for the tag, which is
+    /// reserved first, or else if the lengths exceed the limits of `seal_in_place_separate_tag`.
     pub fn seal_in_place_append_tag<B: InOut>(
         &self,
         nonce: Nonce,
@@ -118,12 +128,15 @@ impl LessSafeKey {
         self.seal_with_room(nonce, aad, in_out)
     }
 
-    /// Seals a packet in place, which is a header of `header_len` bytes, then the message, then 16 bytes of room (SP
-    /// 800-38D algorithm 4). The header is the AAD and stays, the ciphertext takes the message's place, and the tag
-    /// the room. This call is this library's own.
+    /// Seals a packet in place (SP 800-38D algorithm 4). ring has no such method.
     ///
-    /// Refused where the packet has fewer than `header_len` + 16 bytes, or else where the lengths don't fit, as in
-    /// `seal_in_place_separate_tag`.
+    /// The packet is a header of `header_len` bytes, then the plaintext, then 16 bytes of room for the tag. The header
+    /// is the AAD and is unchanged, the ciphertext replaces the plaintext, and the tag is written to the room.
+    ///
+    /// # Errors
+    ///
+    /// Fails with `Unspecified`, and leaves the packet unchanged, if it is shorter than `header_len + 16` bytes, or
+    /// else if the lengths exceed the limits of `seal_in_place_separate_tag`.
     pub fn seal_packet_in_place(
         &self,
         nonce: Nonce,
@@ -145,7 +158,8 @@ impl LessSafeKey {
         Ok(())
     }
 
-    /// Encrypts all but the last 16 bytes, and writes the tag over those. Where the lengths don't fit, they are cut.
+    /// Encrypts all but the last 16 bytes in place, and overwrites those with the tag. If the lengths exceed the limits
+    /// of `seal_in_place_separate_tag`, fails with `Unspecified` and removes those 16 bytes.
     pub(crate) fn seal_with_room<B: InOut>(
         &self,
         nonce: Nonce,
@@ -175,11 +189,18 @@ impl LessSafeKey {
         }
     }
 
-    /// Opens the ciphertext that is the buffer from `ciphertext.start` on (SP 800-38D algorithm 5), and gives the
-    /// plaintext at the front of the buffer for writing. Bytes after the plaintext stay.
+    /// Opens a ciphertext in place with a separate tag, and returns the plaintext (SP 800-38D algorithm 5).
     ///
-    /// Refused, in this order and with the buffer as it came, where the start is out of range, where the lengths
-    /// don't fit (as in `seal_in_place_separate_tag`), and where the tag isn't that of the ciphertext and the AAD.
+    /// The ciphertext is `in_out[ciphertext]`. The plaintext, which is equally long, is written to the front of
+    /// `in_out`. The bytes after it are unchanged.
+    ///
+    /// # Errors
+    ///
+    /// Fails with `Unspecified`, and leaves `in_out` unchanged, in these cases, which are checked in this order:
+    ///
+    /// - `ciphertext.start` is greater than `in_out.len()`.
+    /// - The lengths exceed the limits of `seal_in_place_separate_tag`.
+    /// - `tag` is not the tag of the ciphertext and `aad`.
     pub fn open_in_place_separate_tag<'a>(
         &self,
         nonce: Nonce,
@@ -198,8 +219,8 @@ impl LessSafeKey {
         lend_plaintext(in_out, 0, opened)
     }
 
-    /// `open_in_place_separate_tag` that lends nothing: it leaves the plaintext at the front of the buffer, and answers
-    /// its length. This call is this library's own.
+    /// Like `open_in_place_separate_tag`, but returns the length of the plaintext in bytes. The plaintext is at the
+    /// front of `in_out`. ring has no such method.
     pub fn open_in_place_separate_tag_to_front(
         &self,
         nonce: Nonce,
@@ -216,9 +237,19 @@ impl LessSafeKey {
         self.key.open_to_front(nonce, aad, tag, in_out, ciphertext)
     }
 
-    /// The same with the tag attached: it is the last 16 bytes of the buffer, and stays.
+    /// Opens a ciphertext in place with its tag attached, and returns the plaintext (SP 800-38D algorithm 5).
     ///
-    /// A buffer of fewer than 16 bytes is refused before all else.
+    /// The ciphertext followed by the 16-byte tag is `in_out[ciphertext_and_tag]`. The plaintext, which is as long as
+    /// the ciphertext, is written to the front of `in_out`. The bytes after it, including the tag, are unchanged.
+    ///
+    /// # Errors
+    ///
+    /// Fails with `Unspecified`, and leaves `in_out` unchanged, in these cases, which are checked in this order:
+    ///
+    /// - `in_out` is shorter than 16 bytes.
+    /// - `ciphertext_and_tag.start` is greater than `in_out.len() - 16`.
+    /// - The lengths exceed the limits of `seal_in_place_separate_tag`.
+    /// - The tag is not that of the ciphertext and `aad`.
     pub fn open_within<'a>(
         &self,
         nonce: Nonce,
@@ -237,8 +268,8 @@ impl LessSafeKey {
         lend_plaintext(in_out, 0, opened)
     }
 
-    /// `open_within` that lends nothing: it leaves the plaintext at the front of the buffer, and returns its length.
-    /// This call is this library's own.
+    /// Like `open_within`, but returns the length of the plaintext in bytes. The plaintext is at the front of `in_out`.
+    /// ring has no such method.
     pub fn open_within_to_front(
         &self,
         nonce: Nonce,
@@ -255,7 +286,7 @@ impl LessSafeKey {
             .open_within_to_front(nonce, aad, in_out, ciphertext_and_tag)
     }
 
-    /// `open_within` of the whole buffer.
+    /// Opens the whole of `in_out`, like `open_within` with the range `0..`.
     pub fn open_in_place<'a>(
         &self,
         nonce: Nonce,
@@ -272,8 +303,8 @@ impl LessSafeKey {
         lend_plaintext(in_out, 0, opened)
     }
 
-    /// `open_in_place` that lends nothing: it leaves the plaintext at the front of the buffer, and returns its length.
-    /// This call is this library's own.
+    /// Like `open_in_place`, but returns the length of the plaintext in bytes. The plaintext is at the front of
+    /// `in_out`. ring has no such method.
     pub fn open_in_place_to_front(
         &self,
         nonce: Nonce,
@@ -288,12 +319,17 @@ impl LessSafeKey {
         self.open_within_to_front(nonce, aad, in_out, 0..)
     }
 
-    /// Opens a packet in place, which is a header of `header_len` bytes, then the ciphertext, then the tag of 16 bytes (SP
-    /// 800-38D algorithm 5), and returns the plaintext's length. The header is the AAD and stays, the plaintext takes the
-    /// ciphertext's place, and the tag stays. This call is this library's own.
+    /// Opens a packet in place, and returns the length of the plaintext in bytes (SP 800-38D algorithm 5). ring has no
+    /// such method.
     ///
-    /// Refused, with the packet as it came, where it has fewer than `header_len` + 16 bytes, where the lengths don't fit
-    /// (as in `seal_in_place_separate_tag`), and where the tag isn't that of the ciphertext and the header.
+    /// The packet is a header of `header_len` bytes, then the ciphertext, then the 16-byte tag. The header is the AAD.
+    /// The plaintext replaces the ciphertext, and the header and the tag are unchanged.
+    ///
+    /// # Errors
+    ///
+    /// Fails with `Unspecified`, and leaves the packet unchanged, if it is shorter than `header_len + 16` bytes, if the
+    /// lengths exceed the limits of `seal_in_place_separate_tag`, or if the tag is not that of the ciphertext and the
+    /// header.
     pub fn open_packet_in_place_after_header(
         &self,
         nonce: Nonce,
@@ -310,8 +346,8 @@ impl LessSafeKey {
         self.open_in_place_to_front(nonce, Aad::from(&*header), body)
     }
 
-    /// Opens a packet in place as `open_packet_in_place_after_header` does, and returns the
-    /// plaintext for writing, which stands after the header. This call is this library's own.
+    /// Like `open_packet_in_place_after_header`, but returns the plaintext, which comes after the header, as a mutable
+    /// slice. ring has no such method.
     pub fn open_packet_in_place<'a>(
         &self,
         nonce: Nonce,
@@ -330,7 +366,7 @@ impl LessSafeKey {
     }
 }
 
-/// The packet holds a header of this length and a tag.
+/// Returns whether `packet` has room for a header of `header_len` bytes and a tag.
 pub(crate) fn has_room(packet: &[u8], header_len: usize) -> bool
     ensures { IsTrue result ↔ (header_len + 16 ≤ length packet.now) }
 {

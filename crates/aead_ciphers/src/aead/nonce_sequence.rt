@@ -1,26 +1,31 @@
-//! Sources of nonces.
+//! The trait of nonce sequences.
 ghost use Rattle.std.specs.Prelude.{◌≡◌, ℕ, Bool, List, IfOk, OnOk, OnErr};
 ghost use Rattle.aead_ciphers.specs.NonceSequence.{Appends, Closes, UnderNext};
 
 use crate::aead::{Nonce, Unspecified};
 
-/// A source of nonces for one key, none of which comes twice (SP 800-38D section 8). It starts open or closed, and
-/// stays closed once it is.
+/// A sequence of nonces for one key, no two of them equal (SP 800-38D section 8). It may start open or closed, and
+/// stays closed once it is closed.
 pub trait NonceSequence {
-    // The nonces that it gave, in order.
+    // The nonces that it has returned, in order.
     ghost spent: { Self → List (List ℕ) };
-    // Whether it gives no further nonce.
+    // Whether it returns no more nonces.
     ghost is_closed: { Self → Bool };
     // Numbers that no call changes.
     ghost origin: { Self → List ℕ };
-    // What is known of it before and after it gives a nonce. A sequence that says nothing has ⊤ here.
+    // What holds of the sequence before and after a call that returns a nonce. ⊤ says nothing.
     ghost gives: { Self → Self → Type 0 };
-    // What is known of it before and after it refuses. A sequence that says nothing has ⊤ here.
+    // What holds of the sequence before and after a call that fails. ⊤ says nothing.
     ghost refuses: { Self → Self → Type 0 };
-    // The nonce that it gives next, if it gives one. A sequence that says nothing has ⊥ here.
+    // Which nonce the next call returns, if it succeeds. ⊥ says nothing.
     ghost is_next: { Self → List ℕ → Type 0 };
 
-    /// Gives the next nonce. Refused where it gives no further one, and then by every later call too.
+    /// Returns the next nonce.
+    ///
+    /// # Errors
+    ///
+    /// Fails with `Unspecified` if the sequence returns no more nonces. It is then closed, and every later call fails
+    /// too.
     fn advance(&mut self) -> Result<Nonce, Unspecified>
         ensures ok { IfOk result (λ nonce.
             Appends (spent self.old) (spent self.new) (is_closed self.old) nonce) }

@@ -1,4 +1,4 @@
-//! A key that opens with the nonces of a sequence.
+//! The key that opens under the nonces of a sequence.
 ghost use Rattle.std.specs.Prelude.{◌≡◌, ◌-◌, ◌⊎◌, length, drop, take, is_ok, IfOk, OnOk, OnErr};
 ghost use Rattle.std.specs.Borrow.{sem};
 ghost use Rattle.aead_ciphers_base.specs.Values.{aad_bytes};
@@ -16,7 +16,7 @@ use std::fmt;
 use std::marker::Model;
 use std::ops::RangeFrom;
 
-/// A key that opens, each time with the next nonce of its sequence. It can't be cloned.
+/// An AEAD key for opening that is bound to a nonce sequence: each call uses the next nonce. It cannot be cloned.
 #[derive(Drop)]
 pub struct OpeningKey<N> {
     key: LessSafeKey,
@@ -61,8 +61,8 @@ impl<N: NonceSequence> BoundKey<N> for OpeningKey<N> {
 }
 
 impl<N: NonceSequence> OpeningKey<N> {
-    /// `open_within` that lends nothing: it leaves the plaintext at the front of the buffer, and returns its length.
-    /// This call is this library's own.
+    /// Like `open_within`, but returns the length of the plaintext in bytes. The plaintext is at the front of `in_out`.
+    /// ring has no such method.
     pub fn open_within_to_front(
         &mut self,
         aad: Aad<'_>,
@@ -89,8 +89,8 @@ impl<N: NonceSequence> OpeningKey<N> {
             .open_within_to_front(nonce, aad, in_out, ciphertext_and_tag)
     }
 
-    /// `open_in_place` that lends nothing: it leaves the plaintext at the front of the buffer, and returns its length.
-    /// This call is this library's own.
+    /// Like `open_in_place`, but returns the length of the plaintext in bytes. The plaintext is at the front of
+    /// `in_out`. ring has no such method.
     pub fn open_in_place_to_front(
         &mut self,
         aad: Aad<'_>,
@@ -114,12 +114,18 @@ impl<N: NonceSequence> OpeningKey<N> {
         self.open_within_to_front(aad, in_out, 0..)
     }
 
-    /// Opens a packet in place under the next nonce, which is a header of `header_len` bytes, then the ciphertext, then the
-    /// tag of 16 bytes (SP 800-38D algorithm 5), and returns the plaintext's length. The header is the AAD and stays, the
-    /// plaintext takes the ciphertext's place, and the tag stays. This call is this library's own.
+    /// Opens a packet in place under the next nonce, and returns the length of the plaintext in bytes (SP 800-38D
+    /// algorithm 5). ring has no such method.
     ///
-    /// The sequence is asked first. Refused where it refuses; then, with the nonce spent, where the packet has fewer
-    /// than `header_len` + 16 bytes, where the lengths don't fit, and where the tag is another.
+    /// The packet is a header of `header_len` bytes, then the ciphertext, then the 16-byte tag. The header is the AAD.
+    /// The plaintext replaces the ciphertext, and the header and the tag are unchanged.
+    ///
+    /// # Errors
+    ///
+    /// Fails with `Unspecified`, and leaves the packet unchanged, if the sequence returns no nonce, which is checked
+    /// first. Otherwise the nonce is consumed, and the call fails in the same way if the packet is shorter than
+    /// `header_len + 16` bytes, if the lengths exceed the limits of `LessSafeKey::seal_in_place_separate_tag`, or if
+    /// the tag is not that of the ciphertext and the header.
     pub fn open_packet_in_place_after_header(
         &mut self,
         packet: &mut [u8],
@@ -143,11 +149,18 @@ impl<N: NonceSequence> OpeningKey<N> {
             .open_packet_in_place_after_header(self.nonce_sequence.advance()?, packet, header_len)
     }
 
-    /// Opens the buffer from byte `ciphertext_and_tag.start` on under the next nonce, and lends the plaintext, which
-    /// stands at the front of the buffer (SP 800-38D algorithm 5). The last 16 bytes are the tag, and stay.
+    /// Opens a ciphertext in place with its tag attached under the next nonce, and returns the plaintext (SP 800-38D
+    /// algorithm 5).
     ///
-    /// The sequence is asked first. Refused where it refuses; then, with the nonce spent, where there are no 16
-    /// bytes, where the start is past the tag's, where the lengths don't fit, and where the tag is another.
+    /// The ciphertext followed by the 16-byte tag is `in_out[ciphertext_and_tag]`. The plaintext, which is as long as
+    /// the ciphertext, is written to the front of `in_out`. The bytes after it, including the tag, are unchanged.
+    ///
+    /// # Errors
+    ///
+    /// Fails with `Unspecified`, and leaves `in_out` unchanged, if the sequence returns no nonce, which is checked
+    /// first. Otherwise the nonce is consumed, and the call fails in the same way if `in_out` is shorter than 16 bytes,
+    /// if `ciphertext_and_tag.start` is greater than `in_out.len() - 16`, if the lengths exceed the limits of
+    /// `LessSafeKey::seal_in_place_separate_tag`, or if the tag is not that of the ciphertext and `aad`.
     pub fn open_within<'a>(
         &mut self,
         aad: Aad<'_>,
@@ -174,7 +187,7 @@ impl<N: NonceSequence> OpeningKey<N> {
         lend_plaintext(in_out, 0, opened)
     }
 
-    /// `open_within` from the first byte on.
+    /// Opens the whole of `in_out` under the next nonce, like `open_within` with the range `0..`.
     pub fn open_in_place<'a>(
         &mut self,
         aad: Aad<'_>,
@@ -198,8 +211,8 @@ impl<N: NonceSequence> OpeningKey<N> {
         lend_plaintext(in_out, 0, opened)
     }
 
-    /// Opens a packet in place as `open_packet_in_place_after_header` does, and returns the
-    /// plaintext for writing, which stands after the header. This call is this library's own.
+    /// Like `open_packet_in_place_after_header`, but returns the plaintext, which comes after the header, as a mutable
+    /// slice. ring has no such method.
     pub fn open_packet_in_place<'a>(
         &mut self,
         packet: &'a mut [u8],

@@ -1,4 +1,4 @@
-//! Header protection masks of QUIC (RFC 9001 section 5.4).
+//! QUIC header protection (RFC 9001 section 5.4): masks for the headers of packets.
 
 ghost use Rattle.std.specs.Prelude.{◌≡◌, ◌↔◌, length, IsOk, IfOk};
 
@@ -11,7 +11,8 @@ use std::marker::Model;
 
 const SAMPLE_LEN: usize = 16;
 
-/// A header protection algorithm. Two are equal where their ids are.
+/// A header protection algorithm: `AES_128`, `AES_256` or `CHACHA20`. Two values are equal if they are the same
+/// algorithm.
 #[derive(Clone, Copy, PartialEq, Eq)]
 pub struct Algorithm {
     id: AlgorithmId,
@@ -24,17 +25,17 @@ enum AlgorithmId {
     CHACHA20,
 }
 
-/// Header protection by AES-128 (RFC 9001 section 5.4.3).
+/// Header protection by AES-128, with 16-byte keys (RFC 9001 section 5.4.3).
 pub const AES_128: Algorithm = Algorithm {
     id: AlgorithmId::AES_128,
 };
 
-/// Header protection by AES-256 (RFC 9001 section 5.4.3).
+/// Header protection by AES-256, with 32-byte keys (RFC 9001 section 5.4.3).
 pub const AES_256: Algorithm = Algorithm {
     id: AlgorithmId::AES_256,
 };
 
-/// Header protection by ChaCha20 (RFC 9001 section 5.4.4).
+/// Header protection by ChaCha20, with 32-byte keys (RFC 9001 section 5.4.4).
 pub const CHACHA20: Algorithm = Algorithm {
     id: AlgorithmId::CHACHA20,
 };
@@ -57,7 +58,7 @@ impl fmt::Debug for Algorithm {
 impl Algorithm {
     ghost use Rattle.aead_ciphers.specs.HeaderProtection.{key_len};
 
-    /// The length of a key, in bytes.
+    /// Returns the length of a key in bytes: 16 for `AES_128`, 32 for `AES_256` and `CHACHA20`.
     pub fn key_len(&self) -> usize
         ensures len { result ≡ key_len self.now }
         ensures aes_128 { self.now ≡ AES_128 → result ≡ 16 }
@@ -71,7 +72,7 @@ impl Algorithm {
         }
     }
 
-    /// The length of a sample, in bytes.
+    /// Returns the length of a sample in bytes, which is 16 (RFC 9001 section 5.4.2).
     pub fn sample_len(&self) -> usize
         ensures { result ≡ 16 }
     {
@@ -79,7 +80,7 @@ impl Algorithm {
     }
 }
 
-/// A header protection key.
+/// A header protection key with its algorithm.
 #[derive(Drop)]
 pub struct HeaderProtectionKey {
     inner: KeyInner,
@@ -103,7 +104,11 @@ impl Model for HeaderProtectionKey {
 impl HeaderProtectionKey {
     ghost use Rattle.aead_ciphers.specs.HeaderProtection.{key_len, header_protection};
 
-    /// The key of these bytes. Refused where the algorithm's keys have another length.
+    /// Creates a key for `algorithm` from `key_bytes`, and expands it.
+    ///
+    /// # Errors
+    ///
+    /// Fails with `Unspecified` if `key_bytes` is not `algorithm.key_len()` bytes long.
     pub fn new(algorithm: &Algorithm, key_bytes: &[u8]) -> Result<Self, Unspecified>
         ensures accepted { IsOk result ↔ (length key_bytes.now ≡ key_len algorithm.now) }
         ensures algorithm { IfOk result (λ key. key.algorithm ≡ algorithm.now) }
@@ -126,7 +131,11 @@ impl HeaderProtectionKey {
         Ok(HeaderProtectionKey { inner })
     }
 
-    /// The mask of a sample. Refused where the sample hasn't 16 bytes.
+    /// Returns the 5-byte mask of a 16-byte sample (RFC 9001 section 5.4.1).
+    ///
+    /// # Errors
+    ///
+    /// Fails with `Unspecified` if `sample` is not 16 bytes long.
     pub fn new_mask(&self, sample: &[u8]) -> Result<[u8; 5], Unspecified>
         ensures accepted { IsOk result ↔ (length sample.now ≡ 16) }
         ensures mask { IfOk result (λ mask.
@@ -142,7 +151,7 @@ impl HeaderProtectionKey {
         })
     }
 
-    /// The algorithm that it was made with.
+    /// Returns the algorithm of the key.
     pub fn algorithm(&self) -> &'static Algorithm
         ensures { result.now ≡ self.now.algorithm }
     {

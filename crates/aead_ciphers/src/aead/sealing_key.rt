@@ -1,4 +1,4 @@
-//! A key that seals with the nonces of a sequence.
+//! The key that seals under the nonces of a sequence.
 ghost use Rattle.std.specs.Prelude.{◌≡◌, ◌+◌, ◌<◌, ◌≤◌, ◌⊎◌, ⊤, length, take, is_ok, IsOk, IfOk, OnOk, OnErr};
 ghost use Rattle.aead_ciphers_base.specs.Values.{aad_bytes};
 ghost use Rattle.aead_ciphers_base.specs.Aes.{aes};
@@ -15,7 +15,7 @@ use crate::aead::{
 use std::fmt;
 use std::marker::Model;
 
-/// A key that seals, each time with the next nonce of its sequence. It can't be cloned.
+/// An AEAD key for sealing that is bound to a nonce sequence: each call uses the next nonce. It cannot be cloned.
 #[derive(Drop)]
 pub struct SealingKey<N> {
     key: LessSafeKey,
@@ -60,13 +60,21 @@ impl<N: NonceSequence> BoundKey<N> for SealingKey<N> {
 }
 
 impl<N: NonceSequence> SealingKey<N> {
-    /// Encrypts the buffer in place under the next nonce, and appends the tag of the ciphertext and the AAD (SP 800-38D
-    /// algorithm 4).
+    /// Encrypts the bytes of `in_out` in place under the next nonce, and appends the tag of the ciphertext and `aad`
+    /// (SP 800-38D algorithm 4).
     ///
-    /// `in_out` is the message, and then the ciphertext followed by the tag: n bytes, then n + 16. Room for the tag is
-    /// asked for first, then the sequence, and then the lengths are looked at. Refused where there is no room or the
-    /// sequence refuses; and, with the nonce spent, where the message is longer than 2^36 - 32 bytes or the AAD has
-    /// 2^61 bytes or more.
+    /// `in_out` holds n bytes of plaintext before the call, and n bytes of ciphertext followed by the 16-byte tag after
+    /// it.
+    ///
+    /// # Errors
+    ///
+    /// Fails with `Unspecified`, and leaves the bytes of `in_out` unchanged, in these cases, which are checked in this
+    /// order:
+    ///
+    /// - There is no room for the tag.
+    /// - The sequence returns no nonce.
+    /// - The plaintext is longer than 2^36 - 32 bytes or `aad` is 2^61 bytes or longer (SP 800-38D section 5.2.1.1).
+    ///   The nonce is consumed.
     #[tactic(auto, using(crate::proofs::SealLemmas::no_room_step))]
     pub fn seal_in_place_append_tag<B: InOut>(
         &mut self,
@@ -99,11 +107,16 @@ impl<N: NonceSequence> SealingKey<N> {
         }
     }
 
-    /// Encrypts the buffer in place under the next nonce, and returns the tag of what it then holds and the AAD
+    /// Encrypts `in_out` in place under the next nonce, and returns the 16-byte tag of the ciphertext and `aad`
     /// (SP 800-38D algorithm 4).
     ///
-    /// `in_out` is the message, and then the ciphertext, of as many bytes. The sequence is asked first, and then the
-    /// lengths are looked at. Refused as in `seal_in_place_append_tag`, which alone needs room.
+    /// `in_out` holds the plaintext before the call, and the equally long ciphertext after it.
+    ///
+    /// # Errors
+    ///
+    /// Fails with `Unspecified`, and leaves `in_out` unchanged, if the sequence returns no nonce, which is checked
+    /// first, or if the lengths exceed the limits of `seal_in_place_append_tag`. In the latter case the nonce is
+    /// consumed.
     #[tactic(auto, using(crate::proofs::SealLemmas::no_nonce_separate, crate::proofs::SealLemmas::separate_step))]
     pub fn seal_in_place_separate_tag(
         &mut self,
@@ -129,13 +142,18 @@ impl<N: NonceSequence> SealingKey<N> {
         self.key.seal_in_place_separate_tag(nonce, aad, in_out)
     }
 
-    /// Seals a packet in place under the next nonce, which is a header of `header_len` bytes, then the message, then 16
-    /// bytes of room (SP 800-38D algorithm 4). The header is the AAD and stays, the ciphertext takes the message's
-    /// place, and the tag the room. This call is this library's own.
+    /// Seals a packet in place under the next nonce (SP 800-38D algorithm 4). ring has no such method.
     ///
-    /// Room is looked for first, then the sequence is asked, and then the lengths are looked at. Refused where the packet
-    /// has fewer than `header_len` + 16 bytes or the sequence refuses; and, with the nonce spent, where the lengths
-    /// don't fit, as in `seal_in_place_append_tag`.
+    /// The packet is a header of `header_len` bytes, then the plaintext, then 16 bytes of room for the tag. The header
+    /// is the AAD and is unchanged, the ciphertext replaces the plaintext, and the tag is written to the room.
+    ///
+    /// # Errors
+    ///
+    /// Fails with `Unspecified`, and leaves the packet unchanged, in these cases, which are checked in this order:
+    ///
+    /// - The packet is shorter than `header_len + 16` bytes.
+    /// - The sequence returns no nonce.
+    /// - The lengths exceed the limits of `seal_in_place_append_tag`. The nonce is consumed.
     #[tactic(auto, using(crate::proofs::PacketLemmas::packet_no_room, crate::proofs::PacketLemmas::packet_no_nonce))]
     pub fn seal_packet_in_place(
         &mut self,

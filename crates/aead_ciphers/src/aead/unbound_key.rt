@@ -1,4 +1,4 @@
-//! Keys that aren't bound to a use yet.
+//! Keys without a role, from which the other keys are made.
 
 ghost use Rattle.std.specs.Prelude.{◌≡◌, ◌↔◌, length, IsOk, IfOk};
 ghost use Rattle.aead_ciphers_base.specs.KeyBytes.{key_bytes};
@@ -10,14 +10,15 @@ use aead_ciphers_base::error::Unspecified;
 use std::fmt;
 use std::marker::Model;
 
-/// A key with its algorithm, and no role yet. It keeps its bytes, which are expanded once it has one.
+/// An AEAD key without a role or a nonce sequence. It holds the key bytes, which are expanded when it becomes a
+/// `LessSafeKey`, a `SealingKey` or an `OpeningKey`.
 #[derive(Drop)]
 pub struct UnboundKey {
     algorithm: &'static Algorithm,
     bytes: UnboundBytes,
 }
 
-/// The bytes of a key, by the length of the key.
+/// The bytes of a key, by its length.
 #[derive(Drop)]
 enum UnboundBytes {
     AES_128([u8; AES_128_KEY_LEN]),
@@ -35,7 +36,11 @@ impl Model for UnboundKey {
 }
 
 impl UnboundKey {
-    /// The key of these bytes. Refused where the algorithm's keys have another length.
+    /// Creates a key for `algorithm` from `key_bytes`.
+    ///
+    /// # Errors
+    ///
+    /// Fails with `Unspecified` if `key_bytes` is not `algorithm.key_len()` bytes long.
     pub fn new(algorithm: &'static Algorithm, key_bytes: &[u8]) -> Result<Self, Unspecified>
         ensures accepted { IsOk result ↔ (length key_bytes.now ≡ key_len algorithm.now) }
         ensures made { IfOk result (λ key. key ≡ record { algorithm = algorithm.now; bytes = key_bytes.now }) }
@@ -47,14 +52,14 @@ impl UnboundKey {
         Ok(UnboundKey { algorithm, bytes })
     }
 
-    /// The algorithm that it was made with.
+    /// Returns the algorithm of the key.
     pub fn algorithm(&self) -> &'static Algorithm
         ensures { result.now ≡ self.now.algorithm }
     {
         self.algorithm
     }
 
-    /// Its bytes.
+    /// Returns the bytes of the key.
     pub(crate) fn key_bytes(&self) -> KeyBytes<'_>
         ensures { key_bytes result ≡ self.now.bytes }
     {

@@ -1,4 +1,4 @@
-//! Nonces of an IV, XORed with a number that counts up.
+//! The nonce sequence of TLS 1.3 and QUIC: an IV XORed with a counter.
 ghost use Rattle.std.specs.Prelude.{◌≡◌, ◌-◌, ◌≤◌, ◌↔◌, IsOk, IfOk};
 ghost use Rattle.aead_ciphers.specs.Counting.{xored_nonce};
 
@@ -6,9 +6,9 @@ use crate::aead::{NONCE_LEN, Nonce, NonceSequence, Unspecified};
 use aead_ciphers_base::bb;
 use std::marker::Model;
 
-/// Nonces of 12 bytes: an IV, XORed with a number in 8 big-endian bytes after four zeros, which counts up from a first
-/// one (RFC 8446 section 5.3: the number of a record; RFC 9001 section 5.3: the number of a packet). It can't be
-/// cloned. This type is this library's own.
+/// A sequence of 12-byte nonces: an IV of 12 bytes, XORed with a number, which counts up. The number is in 8 big-endian
+/// bytes after four zero bytes (RFC 8446 section 5.3: the sequence number of a record; RFC 9001 section 5.3: the number
+/// of a packet). It cannot be cloned. ring has no such type.
 #[derive(Drop)]
 pub struct XoredSequence {
     iv: [u8; NONCE_LEN],
@@ -29,8 +29,12 @@ impl Model for XoredSequence {
 }
 
 impl XoredSequence {
-    /// The sequence of the nonces with the numbers from `first` to below `limit`, of which none is spent. Refused where
-    /// `first` is above `limit`.
+    /// Creates a sequence of the nonces whose numbers count up from `first` and are less than `limit`. None of them is
+    /// used yet.
+    ///
+    /// # Errors
+    ///
+    /// Fails with `Unspecified` if `first` is greater than `limit`.
     pub fn new(iv: [u8; NONCE_LEN], first: u64, limit: u64) -> Result<Self, Unspecified>
         ensures accepted { IsOk result ↔ (first ≤ limit) }
         ensures made { IfOk result (λ sequence. sequence
@@ -48,8 +52,8 @@ impl XoredSequence {
     }
 }
 
-/// The nonce of a number under an IV, as a receiver needs it that reads the number from a packet (RFC 9001 section 5.3).
-/// This call is this library's own.
+/// Returns the nonce of `number` under `iv` (RFC 9001 section 5.3), for a receiver that reads the number from a packet.
+/// ring has no such function.
 #[tactic(auto, using(crate::proofs::SequenceLemmas::over_padded))]
 pub fn nonce_of(iv: &[u8; NONCE_LEN], number: u64) -> Nonce
     ensures { result ≡ xored_nonce iv.now number }

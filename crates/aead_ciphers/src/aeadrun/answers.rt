@@ -1,4 +1,4 @@
-//! The text of answers, written word by word: no answer is held as a whole.
+//! The text of answers. It is written word by word, so that no answer is held in memory as a whole.
 ghost use Rattle.std.specs.Prelude.{◌≡◌, ◌≤◌, ◌++◌, length, take, codes, IfOk, OnOk, OnErr, if◌then◌else◌};
 ghost use Rattle.std.specs.Io.KnownBytes.{Appends};
 ghost use Rattle.std.specs.Result.{ForOk};
@@ -11,7 +11,7 @@ use std::alloc::Global;
 use std::convert::AsSlice;
 use std::io::Write;
 
-/// `ok CIPHERTEXT TAG`, or `refused`.
+/// Writes `ok CIPHERTEXT TAG`, or `refused`.
 pub(super) fn seal_answer<W: Write>(
     alloc: Global,
     output: &mut W,
@@ -29,7 +29,7 @@ pub(super) fn seal_answer<W: Write>(
     }
 }
 
-/// `ok PLAINTEXT BUFFER`, or `refused BUFFER`, with the buffer as it then stands.
+/// Writes `ok PLAINTEXT BUFFER`, or `refused BUFFER`, with the buffer as the call left it.
 pub(super) fn open_answer<W: Write>(
     alloc: Global,
     output: &mut W,
@@ -51,7 +51,7 @@ pub(super) fn open_answer<W: Write>(
     }
 }
 
-/// `ok FIRST SECOND`.
+/// Writes `ok FIRST SECOND`.
 fn ok_answer<W: Write>(
     alloc: Global,
     output: &mut W,
@@ -67,7 +67,7 @@ fn ok_answer<W: Write>(
     write_word(alloc, output, second)
 }
 
-/// `ok BYTES`, or `refused`.
+/// Writes `ok BYTES`, or `refused`.
 pub(super) fn bytes_answer<W: Write, T: AsSlice<u8> + Drop>(
     alloc: Global,
     output: &mut W,
@@ -87,7 +87,7 @@ pub(super) fn bytes_answer<W: Write, T: AsSlice<u8> + Drop>(
     }
 }
 
-/// `ok`, or `refused`.
+/// Writes `ok`, or `refused`.
 pub(super) fn keys_answer<W: Write>(output: &mut W, are_made: bool) -> Result<(), Fault>
     ensures { OnOk result (Appends (W.contents output.old) (W.contents output.new)
         (if are_made then codes "ok" else codes "refused")) }
@@ -95,7 +95,7 @@ pub(super) fn keys_answer<W: Write>(output: &mut W, are_made: bool) -> Result<()
     write_str(output, if are_made { "ok" } else { "refused" })
 }
 
-/// Writes the word of bytes.
+/// Writes `bytes` as a word.
 fn write_word<W: Write>(alloc: Global, output: &mut W, bytes: &[u8]) -> Result<(), Fault>
     ensures { OnOk result (Appends (W.contents output.old) (W.contents output.new)
         (word_of_bytes bytes.now)) }

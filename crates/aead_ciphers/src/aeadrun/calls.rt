@@ -12,7 +12,7 @@ use crate::aead::{
 use crate::session::{self, Job, Operation, Outcome};
 use std::slice;
 
-/// A key and a nonce for one call.
+/// Creates a key and a nonce for one call. Fails if either has the wrong length.
 fn key_and_nonce(
     algorithm: &'static Algorithm,
     key: &[u8],
@@ -26,7 +26,7 @@ fn key_and_nonce(
     Ok((key, Nonce::try_assume_unique_for_key(nonce)?))
 }
 
-/// Encrypts `in_out` and gives its tag.
+/// Encrypts `in_out` in place, and returns its tag.
 pub(super) fn seal(
     algorithm: &'static Algorithm,
     key: &[u8],
@@ -44,8 +44,8 @@ pub(super) fn seal(
     key.seal_in_place_separate_tag(nonce, Aad::from(aad), in_out)
 }
 
-/// Opens `in_out` from `start` on, with the tag attached, and gives the length of the plaintext, which
-/// then stands in front.
+/// Opens `in_out` from byte `start` on, with the tag attached, and returns the length of the plaintext, which is at the
+/// front of `in_out`.
 pub(super) fn open(
     algorithm: &'static Algorithm,
     key: &[u8],
@@ -67,7 +67,7 @@ pub(super) fn open(
     key.open_within_to_front(nonce, Aad::from(aad), in_out, start..)
 }
 
-/// The mask of a sample.
+/// Returns the mask of a sample.
 pub(super) fn mask(
     algorithm: &quic::Algorithm,
     key: &[u8],
@@ -80,7 +80,7 @@ pub(super) fn mask(
     quic::HeaderProtectionKey::new(algorithm, key)?.new_mask(sample)
 }
 
-/// A sealing and an opening key of the same bytes, each with its own sequence of nonces.
+/// A sealing and an opening key with the same bytes, each with its own nonce sequence.
 #[derive(Drop)]
 pub(super) struct Keys {
     sealing: SealingKey<CounterSequence>,
@@ -93,8 +93,8 @@ impl Keys {
     ghost use Rattle.aead_ciphers.specs.Runs.{JobStep};
     ghost use Rattle.aead_ciphers.specs.Steps.{OpenStep, SealStep};
 
-    /// The keys of these bytes, and sequences of `count` nonces from the number `first` on. Refused where
-    /// the algorithm's keys have another length, or the numbers don't fit 64 bits.
+    /// Creates the keys, and sequences of `count` nonces whose numbers count up from `first`. Fails if `key` does not
+    /// have the length of the algorithm's keys, or if `first + count` is greater than 2^64.
     pub(super) fn new(
         algorithm: &'static Algorithm,
         key: &[u8],
@@ -116,8 +116,8 @@ impl Keys {
         })
     }
 
-    /// Encrypts a message with the next nonce, and gives the ciphertext and its tag. Where the message can't grow by the
-    /// tag, it is refused and no nonce is spent.
+    /// Encrypts `message` under the next nonce, and returns the ciphertext followed by its tag. If `message` cannot
+    /// grow by the tag, fails without consuming a nonce.
     pub(super) fn next_seal(
         &mut self,
         aad: Vec<u8>,
@@ -138,8 +138,8 @@ impl Keys {
         }
     }
 
-    /// Opens a buffer with the next nonce from `start` on, with the tag attached. It gives the buffer back
-    /// and, where it was opened, the length of the plaintext, which then stands in front.
+    /// Opens `buffer` from byte `start` on under the next nonce, with the tag attached. Returns the buffer and, if it
+    /// was opened, the length of the plaintext, which is at the front of the buffer.
     #[tactic(auto, using(crate::proofs::KeysLemmas::opened_within))]
     pub(super) fn next_open(
         &mut self,

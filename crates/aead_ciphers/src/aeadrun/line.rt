@@ -6,7 +6,7 @@ use std::alloc::{AllocError, Global};
 use std::str;
 use std::str::Split;
 
-/// What a line asks for.
+/// The command in a line.
 #[derive(Drop)]
 pub(super) enum Command {
     Call(Call),
@@ -21,7 +21,7 @@ pub(super) enum Command {
     Next(Next),
 }
 
-/// A call with the key that stands in the line.
+/// A call with the key that is in the line.
 #[derive(Drop)]
 pub(super) enum Call {
     /// `seal 128|256 KEY NONCE AAD MESSAGE`
@@ -49,7 +49,7 @@ pub(super) enum Call {
     },
 }
 
-/// A call with the keys of the last `keys` line, and their next nonce.
+/// A call with the keys of the last `keys` line, under their next nonce.
 #[derive(Drop)]
 pub(super) enum Next {
     /// `next-seal AAD MESSAGE`
@@ -65,10 +65,10 @@ pub(super) enum Next {
     },
 }
 
-/// Why no command was read.
+/// Why a line could not be parsed.
 #[derive(Drop)]
 pub(super) enum LineError {
-    /// The line isn't a command.
+    /// The line is not a command.
     BadLine,
     /// Memory for the command was refused.
     OutOfMemory,
@@ -81,7 +81,7 @@ impl From<AllocError> for LineError {
 }
 
 impl Command {
-    /// Reads a line, given without its LF, to its end.
+    /// Parses a line, which is passed without its LF.
     pub(super) fn parse(alloc: Global, line: &[u8]) -> Result<Command, LineError> {
         let Ok(line) = str::from_utf8(line) else {
             return Err(LineError::BadLine);
@@ -162,7 +162,7 @@ impl Next {
     }
 }
 
-/// The words of a line that aren't read yet.
+/// The words of a line that have not been read yet.
 #[derive(Drop)]
 struct Words<'a> {
     alloc: Global,
@@ -170,27 +170,27 @@ struct Words<'a> {
 }
 
 impl<'a> Words<'a> {
-    /// The next word.
+    /// Returns the next word.
     fn next(&mut self) -> Result<&'a str, LineError> {
         self.rest.next().ok_or(LineError::BadLine)
     }
 
-    /// The next word as bytes.
+    /// Returns the next word as bytes.
     fn bytes(&mut self) -> Result<Vec<u8>, LineError> {
         bytes(self.alloc, self.next()?)?.ok_or(LineError::BadLine)
     }
 
-    /// The next word as `N` bytes.
+    /// Returns the next word as `N` bytes.
     fn array<const N: usize>(&mut self) -> Result<[u8; N], LineError> {
         array(self.next()?).ok_or(LineError::BadLine)
     }
 
-    /// The next word as a number.
+    /// Returns the next word as a number.
     fn number(&mut self) -> Result<u64, LineError> {
         number(self.next()?).ok_or(LineError::BadLine)
     }
 
-    /// The next word as the name of an algorithm.
+    /// Returns the next word as the name of an algorithm.
     fn algorithm(&mut self) -> Result<&'static Algorithm, LineError> {
         match self.next()? {
             "128" => Ok(&AES_128_GCM),
@@ -199,7 +199,7 @@ impl<'a> Words<'a> {
         }
     }
 
-    /// The next word as the name of a header protection algorithm.
+    /// Returns the next word as the name of a header protection algorithm.
     fn mask_algorithm(&mut self) -> Result<&'static quic::Algorithm, LineError> {
         match self.next()? {
             "aes128" => Ok(&quic::AES_128),
@@ -209,7 +209,7 @@ impl<'a> Words<'a> {
         }
     }
 
-    /// Whether no word is left.
+    /// Fails unless every word has been read.
     fn end(&mut self) -> Result<(), LineError> {
         match self.rest.next() {
             None => Ok(()),

@@ -1,4 +1,4 @@
-//! What the program keeps from line to line, and how it carries a command out.
+//! The state that the program keeps from line to line, and how it carries out a command.
 
 use super::Fault;
 use super::answers::{bytes_answer, keys_answer, open_answer, seal_answer};
@@ -7,21 +7,22 @@ use super::line::{Call, Command, LineError, Next};
 use std::alloc::Global;
 use std::io::Write;
 
-/// The program between two lines.
+/// The state of the program between two lines.
 #[derive(Drop)]
 pub(super) struct Program {
     alloc: Global,
-    /// The keys of the last `keys` line that was `ok`.
+    /// The keys of the last `keys` line that was answered `ok`.
     keys: Option<Keys>,
 }
 
 impl Program {
-    /// The program before its first line.
+    /// Returns the state before the first line.
     pub(super) fn new(alloc: Global) -> Program {
         Program { alloc, keys: None }
     }
 
-    /// Writes the answer to a line, and says whether it was a command. A bad line has no answer, and changes nothing.
+    /// Writes the answer to a line, and returns whether the line was a command. A bad line has no answer and changes
+    /// nothing.
     pub(super) fn answer<W: Write>(&mut self, line: &[u8], output: &mut W) -> Result<bool, Fault> {
         match Command::parse(self.alloc, line) {
             Ok(command) => self.carry_out(command, output),
@@ -30,7 +31,7 @@ impl Program {
         }
     }
 
-    /// Does what a command asks for, and writes its answer. `false` says that it asks for keys before any were made.
+    /// Carries out a command, and writes its answer. Returns `false` if it asks for keys and none were made before.
     fn carry_out<W: Write>(&mut self, command: Command, output: &mut W) -> Result<bool, Fault> {
         match command {
             Command::Call(call) => answer_call(self.alloc, output, call)?,
@@ -56,7 +57,7 @@ impl Program {
     }
 }
 
-/// Makes a call with a key of its own, and writes its answer.
+/// Makes a call with the key of its line, and writes the answer.
 fn answer_call<W: Write>(alloc: Global, output: &mut W, call: Call) -> Result<(), Fault> {
     match call {
         Call::Seal {
@@ -88,7 +89,7 @@ fn answer_call<W: Write>(alloc: Global, output: &mut W, call: Call) -> Result<()
     }
 }
 
-/// Makes a call with the next nonce of the keys, and writes its answer.
+/// Makes a call with the next nonce of the keys, and writes the answer.
 fn answer_next<W: Write>(
     alloc: Global,
     output: &mut W,

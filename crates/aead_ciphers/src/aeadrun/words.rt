@@ -1,4 +1,4 @@
-//! The words of a line that stand for bytes and for numbers.
+//! The words of a line that represent bytes and numbers.
 ghost use Rattle.std.specs.Prelude.{◌≡◌, ◌↔◌, ◌<◌, ◌%◌, length, option_map, Some, IsSome, IfSome, IfOk, OnErr};
 ghost use Rattle.std.specs.Result.{result_ok};
 ghost use Rattle.std.specs.String.{string_bytes};
@@ -9,14 +9,18 @@ ghost use Rattle.aead_ciphers.specs.Words.{IsBytesWord, IsNumberWord, bytes_of_w
 use hex::{FromHex, FromHexError};
 use std::alloc::{AllocError, Global};
 
-/// The word that stands for no bytes.
+/// The word that represents no bytes.
 const NO_BYTES: &str = "-";
 
-/// The most digits that a number has.
+/// The maximum number of digits of a number.
 const MAX_DIGITS: usize = 20;
 
-/// The bytes that a word stands for, or `None` where it stands for none: `-` is no bytes, else each byte
-/// is two hex digits of either case.
+/// Returns the bytes that a word represents, or `None` if it represents none: `-` is no bytes, and otherwise each byte
+/// is two hex digits in either case.
+///
+/// # Errors
+///
+/// Fails with `AllocError` if memory for the bytes is refused.
 #[tactic(auto, using(crate::proofs::HexWords::decoded))]
 pub fn bytes(alloc: Global, word: &str) -> Result<Option<Vec<u8>>, AllocError>
     ensures accepted { IfOk result (λ read. IsSome read ↔ IsBytesWord word.now) }
@@ -38,15 +42,18 @@ pub fn bytes(alloc: Global, word: &str) -> Result<Option<Vec<u8>>, AllocError>
     }
 }
 
-/// The `N` bytes that a word of `2 * N` hex digits stands for, or `None` where it stands for other bytes
-/// or for none.
+/// Returns the `N` bytes that a word of `2 * N` hex digits represents, or `None` if the word is not of this form.
 pub(super) fn array<const N: usize>(word: &str) -> Option<[u8; N]>
     ensures { result ≡ result_ok (decode_sized word.now N) }
 {
     <[u8; N]>::from_hex(word).ok()
 }
 
-/// The word that bytes are printed as: lower case hex, or `-` for no bytes.
+/// Returns the word that represents `bytes`: lower case hex digits, or `-` if there are no bytes.
+///
+/// # Errors
+///
+/// Fails with `AllocError` if memory for the word is refused.
 pub fn text(alloc: Global, bytes: &[u8]) -> Result<String, AllocError>
     ensures lower_hex { IfOk result (λ word. string_bytes word ≡ word_of_bytes bytes.now) }
     ensures reads_back { IfOk result (λ word. bytes_of_word (string_bytes word) ≡ Some bytes.now) }
@@ -57,7 +64,7 @@ pub fn text(alloc: Global, bytes: &[u8]) -> Result<String, AllocError>
     hex::encode(alloc, bytes)
 }
 
-/// The number that a word of decimal digits stands for, or `None` where it stands for none.
+/// Returns the number that a word of decimal digits represents, or `None` if it represents none.
 pub(super) fn number(word: &str) -> Option<u64>
     ensures accepted { IsSome result ↔ IsNumberWord word.now }
     ensures value { IfSome result (λ n. n ≡ digits_value 10 word.now) }

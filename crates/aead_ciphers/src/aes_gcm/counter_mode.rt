@@ -14,7 +14,7 @@ use aead_ciphers_base::aes::{
 /// The length of a chunk, in bytes: 192 blocks.
 const CHUNK_LEN: usize = 192 * BLOCK_LEN;
 
-/// Counter mode from a counter block on, and what takes in its output.
+/// Counter mode from a counter block on, and the `Absorb` of its output.
 pub(super) struct CounterMode<'key, A, H> {
     pub(super) aes: &'key A,
     pub(super) counter: Counter,
@@ -22,8 +22,7 @@ pub(super) struct CounterMode<'key, A, H> {
 }
 
 impl<A: EncryptCtr32, H: Absorb> CounterMode<'_, A, H> {
-    /// Encrypts or decrypts the bytes from `start` on, to the front, and takes in what then stands
-    /// there, chunk by chunk.
+    /// Encrypts or decrypts the bytes from `start` on to the front of `in_out`, and absorbs the output, chunk by chunk.
     pub(super) fn encrypt_within(self, in_out: &mut [u8], start: usize, work: &mut Work) -> H
         requires within { start ≤ length in_out.old }
         requires sums { let n = (length in_out.old - start + 15) / 16 in
@@ -57,8 +56,8 @@ impl<A: EncryptCtr32, H: Absorb> CounterMode<'_, A, H> {
     }
 }
 
-/// Encrypts the bytes from `start` on, which are whole blocks, to the front. A cipher takes an `Overlapping`, as
-/// ring's do, and takes it apart.
+/// Encrypts the bytes from `start` on, which are whole blocks, to the front of `in_out`. They are passed to the cipher
+/// as an `Overlapping`, as in ring.
 pub(super) fn encrypt_blocks<A: EncryptCtr32>(
     aes: &A,
     counter: &mut Counter,
@@ -76,7 +75,7 @@ pub(super) fn encrypt_blocks<A: EncryptCtr32>(
     aes.ctr32_encrypt_within(Overlapping::within(in_out, start), counter, work);
 }
 
-/// Encrypts the bytes from `start` on, fewer than a block, to the front.
+/// Encrypts the bytes from `start` on, which are fewer than a block, to the front of `in_out`.
 fn encrypt_rest<A: EncryptBlock>(
     aes: &A,
     counter: Counter,

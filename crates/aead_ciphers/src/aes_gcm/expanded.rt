@@ -1,4 +1,4 @@
-//! An expanded key as plain data, for memory that isn't this library's: a struct of C's, or a table of keys.
+//! An expanded key as plain data, for memory that the library does not own: a C struct, or a table of keys.
 
 ghost use Rattle.std.specs.Prelude.{◌≡◌, ◌-◌, ◌↔◌, length, is_ok, IsOk, IfOk, OnOk, OnErr};
 ghost use Rattle.aead_ciphers_base.specs.Aes.{aes as aes_cipher};
@@ -15,21 +15,23 @@ use aead_ciphers_base::error::Unspecified;
 use aead_ciphers_base::values::{Aad, MAX_TAG_LEN, Nonce, Tag};
 use std::ops::RangeFrom;
 
-/// The expanded key of AES-GCM as plain data. Sealing and opening have the condition that it is as `expand` left it,
-/// and only read it, so that many threads may use it at once.
+/// An expanded AES-GCM key as plain data.
+///
+/// Sealing and opening require the fields to be as `expand` left them, and only read them, so many threads may use a
+/// key at once.
 #[repr(C)]
 #[derive(Clone, Drop)]
 pub struct ExpandedKey {
-    /// The round keys, in eight planes each (FIPS 197 section 5.2).
+    /// The round keys, as eight planes each (FIPS 197 section 5.2).
     pub round_keys: [[u64; 8]; 15],
-    /// 10 for AES-128, 14 for AES-256.
+    /// The number of rounds: 10 for AES-128, 14 for AES-256.
     pub rounds: usize,
     /// The multiples of the hash subkey (SP 800-38D section 6.3).
     pub multiples: [u32; 512],
 }
 
 impl ExpandedKey {
-    /// Zeros, which are the fields of no key.
+    /// Returns a value whose fields are all zeros. It is not a key until `expand` is called.
     #[inline(always)]
     pub fn zeros() -> Self
         ensures { result ≡ zero_key }
@@ -41,8 +43,8 @@ impl ExpandedKey {
         }
     }
 
-    /// Writes the expansion of a key of 16 or 32 bytes over what it was, with the hash subkey by one cipher block (SP
-    /// 800-38D section 7.1 step 1).
+    /// Overwrites the fields with the expansion of a key of 16 or 32 bytes, whose hash subkey is computed by one cipher
+    /// block (SP 800-38D section 7.1 step 1).
     pub fn expand(&mut self, bytes: KeyBytes<'_>, work: &mut Work)
         requires { CanAdd work.old 1 0 }
         ensures expanded { IsExpanded self.new }
@@ -55,7 +57,7 @@ impl ExpandedKey {
         gcm::expand(&mut self.multiples, gcm::KeyValue::new(subkey));
     }
 
-    /// `aes_gcm::seal` under the key.
+    /// Seals under this key, like `aes_gcm::seal`.
     pub fn seal(
         &self,
         nonce: Nonce,
@@ -80,7 +82,7 @@ impl ExpandedKey {
         sealing::seal_with(&aes, &gcm, nonce, aad, in_out, work)
     }
 
-    /// `aes_gcm::open` under the key.
+    /// Opens under this key, like `aes_gcm::open`.
     pub fn open(
         &self,
         nonce: Nonce,
@@ -102,7 +104,7 @@ impl ExpandedKey {
         opening::open_with(&aes, &gcm, nonce, aad, received_tag, in_out, src, work)
     }
 
-    /// `open` that returns the length of the plaintext.
+    /// Like `open`, but returns the length of the plaintext in bytes.
     pub fn open_to_front(
         &self,
         nonce: Nonce,
@@ -123,9 +125,8 @@ impl ExpandedKey {
         Ok(len - start)
     }
 
-    /// The same with the tag attached: it is the last 16 bytes of the buffer, and stays.
-    ///
-    /// A buffer of fewer than 16 bytes is refused before all else.
+    /// Like `open_to_front`, but the tag is the last 16 bytes of `in_out`, which are unchanged. Also fails, before
+    /// anything else is checked, if `in_out` is shorter than 16 bytes.
     pub fn open_within_to_front(
         &self,
         nonce: Nonce,
@@ -148,8 +149,12 @@ impl ExpandedKey {
         }
     }
 
-    /// Opens a ciphertext to another buffer of its length. Refused where the lengths don't fit and where the tag is
-    /// false: then no byte of the buffer is changed.
+    /// Opens `ciphertext`, and writes the plaintext to `out`, which must be equally long.
+    ///
+    /// # Errors
+    ///
+    /// Fails with `Unspecified`, and leaves `out` unchanged, if the lengths exceed the limits of `aes_gcm::seal` or if
+    /// `tag` is not the tag of the ciphertext and `aad`.
     pub fn open_to(
         &self,
         nonce: Nonce,

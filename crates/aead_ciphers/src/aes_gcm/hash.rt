@@ -1,4 +1,4 @@
-//! What a tag is made from (SP 800-38D section 7.1, steps 4 to 6).
+//! The hash that a tag is computed from (SP 800-38D section 7.1, steps 4 to 6).
 
 ghost use Rattle.std.specs.Prelude.{◌≡◌, ◌+◌, ◌/◌, ℕ, Bool, IsTrue, List, [], ◌∷◌, ◌++◌, length};
 ghost use Rattle.aead_ciphers_base.specs.Bytes.{◌⊕◌};
@@ -13,14 +13,14 @@ use aead_ciphers_base::bb;
 use aead_ciphers_base::polyfill::slice::as_chunks;
 use aead_ciphers_base::values::Tag;
 
-/// What takes in bytes in blocks, the last padded with zeros.
+/// A type that absorbs bytes in blocks, the last of which is padded with zeros.
 pub(super) trait Absorb {
-    // Whether it hashes them.
+    // Whether the bytes are hashed.
     ghost hashes: { Bool };
-    // The hash, where it does.
+    // The hash, if they are.
     ghost state: { Self → HashState };
 
-    /// Takes in the bytes, by one field product a block where it hashes them.
+    /// Absorbs `input`, by one field product per block if it is hashed.
     fn absorb(&mut self, input: &[u8], work: &mut Work)
         requires { CanAdd work.old 0 (products_of hashes ((length input.now + 15) / 16)) }
         ensures hashed { IsTrue hashes → Absorbs (state self.old) input.now (state self.new) }
@@ -43,7 +43,7 @@ impl<G: UpdateBlocks> Absorb for Context<'_, G> {
     }
 }
 
-/// Takes in bytes that aren't hashed.
+/// Absorbs bytes without hashing them.
 #[derive(Drop)]
 pub(super) struct Unhashed;
 
@@ -57,7 +57,7 @@ impl Absorb for Unhashed {
     fn absorb(&mut self, _input: &[u8], _work: &mut Work) {}
 }
 
-/// The tag: the hash, ended by the block of the lengths, XOR the mask, the cipher of the first counter block.
+/// Returns the tag: the hash, ended by the block of the lengths, XOR `mask`, the encrypted first counter block.
 pub(super) fn finish<G: UpdateBlock>(auth: Context<'_, G>, mask: Block, work: &mut Work) -> Tag
     requires { CanAdd work.old 0 1 }
     ensures tag { (done : List (List ℕ)) → IsHashOf auth.entry.hash_subkey done auth.entry.xi →

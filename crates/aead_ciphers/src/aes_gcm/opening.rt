@@ -1,4 +1,4 @@
-//! Opening over any cipher and hash (SP 800-38D section 7.2).
+//! Opening with any cipher and hash (SP 800-38D section 7.2).
 
 ghost use Rattle.std.specs.Prelude.{◌≡◌, ◌↔◌, length, is_ok, IsOk, IfOk, OnOk, OnErr};
 ghost use Rattle.aead_ciphers_base.specs.Bytes.{zero_block};
@@ -16,8 +16,8 @@ use aead_ciphers_base::error::Unspecified;
 use aead_ciphers_base::values::{Aad, Nonce, Tag};
 use std::ops::RangeFrom;
 
-/// Compares the tag of the bytes from `src.start` on, and then decrypts them to the front. Refused
-/// where the start is out of range, where the lengths don't fit and where the tag is false.
+/// Compares the tag of the ciphertext `in_out[src]` with `received_tag`, and then decrypts it to the front of `in_out`.
+/// Fails if the start is out of range, if the lengths exceed the limits of `aes_gcm::seal`, or if the tags differ.
 pub(super) fn open_with<A: EncryptCtr32, G: UpdateBlocks>(
     aes: &A,
     gcm: &G,
@@ -45,8 +45,8 @@ pub(super) fn open_with<A: EncryptCtr32, G: UpdateBlocks>(
     Ok(())
 }
 
-/// Compares the tag of a ciphertext, and then decrypts it to another buffer of its length. Refused where the lengths
-/// don't fit and where the tag is false.
+/// Compares the tag of `ciphertext` with `received_tag`, and then decrypts it to `out`, which is equally long. Fails if
+/// the lengths exceed the limits of `aes_gcm::seal`, or if the tags differ.
 pub(super) fn open_to_with<A: EncryptCtr32, G: UpdateBlocks>(
     aes: &A,
     gcm: &G,
@@ -73,8 +73,8 @@ pub(super) fn open_to_with<A: EncryptCtr32, G: UpdateBlocks>(
     Ok(())
 }
 
-/// Compares the tag of a ciphertext, and returns the counter block of its first block. Refused where the lengths don't
-/// fit and where the tag is false.
+/// Compares the tag of `ciphertext` with `received_tag`, and returns the counter block of its first block. Fails if the
+/// lengths exceed the limits of `aes_gcm::seal`, or if the tags differ.
 #[inline(never)]
 fn authenticate<A: EncryptCtr32, G: UpdateBlocks>(
     aes: &A,

@@ -1,4 +1,4 @@
-//! Sealing over any cipher and hash (SP 800-38D section 7.1).
+//! Sealing with any cipher and hash (SP 800-38D section 7.1).
 
 ghost use Rattle.std.specs.Prelude.{◌≡◌, ◌↔◌, ◌≤◌, ℕ, List, length, IsOk, IfOk, OnOk, OnErr};
 ghost use Rattle.aead_ciphers_base.specs.Bytes.{zero_block};
@@ -14,10 +14,10 @@ use aead_ciphers_base::aes::{BLOCK_LEN, Block, Counter, EncryptCtr32, Work, ZERO
 use aead_ciphers_base::error::Unspecified;
 use aead_ciphers_base::values::{Aad, Nonce, Tag};
 
-/// The longest message that is encrypted in one pass with the tag's mask: three blocks.
+/// The length of the longest plaintext that is encrypted in one pass with the mask of the tag: three blocks.
 const SHORT_LEN: usize = 3 * BLOCK_LEN;
 
-/// Encrypts the buffer in place, and returns the tag. Refused where the lengths don't fit.
+/// Encrypts `in_out` in place, and returns the tag. Fails if the lengths exceed the limits of `aes_gcm::seal`.
 pub(super) fn seal_with<A: EncryptCtr32, G: UpdateBlocks>(
     aes: &A,
     gcm: &G,
@@ -50,9 +50,9 @@ pub(super) fn seal_with<A: EncryptCtr32, G: UpdateBlocks>(
     Ok(finish(auth, mask, work))
 }
 
-/// Encrypts a message of at most 48 bytes in place, and returns the cipher of the first counter block, which masks the
-/// tag. The message's counter blocks come after that one, so both are counter mode of a block of zeros and the message,
-/// in one pass of four blocks.
+/// Encrypts a plaintext of at most 48 bytes in place, and returns the mask of the tag, which is the encrypted first
+/// counter block. The counter blocks of the plaintext follow that one, so counter mode of a zero block followed by the
+/// plaintext computes both, in one pass of at most four blocks.
 fn encrypt_short<A: EncryptCtr32>(
     aes: &A,
     nonce: Nonce,

@@ -1,4 +1,4 @@
-//! The hash of an AAD and a ciphertext, and of their lengths (SP 800-38D section 7.1).
+//! The hash of the AAD, the ciphertext and their lengths (SP 800-38D section 7.1).
 
 ghost use Rattle.std.specs.Prelude.{◌≡◌, ℕ, ◌+◌, ◌/◌, ◌↔◌, List, [], ◌∷◌, ◌++◌, length, IsOk, IfOk, OnOk, OnErr, ◌≤◌};
 ghost use Rattle.aead_ciphers_base.specs.Blocks.{blocks};
@@ -14,10 +14,10 @@ use aead_ciphers_base::polyfill::slice::AsChunks;
 use aead_ciphers_base::values::{Aad, Tag};
 use std::marker::Model;
 
-/// The most bytes of a message (SP 800-38D section 5.2.1.1).
+/// The maximum length of a plaintext, in bytes (SP 800-38D section 5.2.1.1).
 pub const MAX_IN_OUT_LEN: usize = (1 << 36) - 32;
 
-/// A hash that has taken in an AAD and takes in a ciphertext (SP 800-38D section 7.1 steps 4 and 5).
+/// A hash of the AAD, which is updated with the ciphertext block by block (SP 800-38D section 7.1, steps 4 and 5).
 #[derive(Drop)]
 pub struct Context<'key, K: UpdateBlock> {
     xi: Xi,
@@ -43,9 +43,13 @@ impl<'key, K: UpdateBlock> Model for Context<'key, K> {
 }
 
 impl<'key, K: UpdateBlock> Context<'key, K> {
-    /// Takes in the AAD, padded with zeros to whole blocks, by one field product a block. `in_out_len`
-    /// is the length of the ciphertext, in bytes. Refused where it is above 2^36 - 32, or where the AAD
-    /// has 2^61 bytes or more (SP 800-38D section 5.2.1.1).
+    /// Starts a hash with `aad`, padded with zeros to whole blocks, by one field product per block. `in_out_len` is the
+    /// length of the ciphertext in bytes.
+    ///
+    /// # Errors
+    ///
+    /// Fails with `Unspecified` if `in_out_len` is greater than 2^36 - 32 or `aad` is 2^61 bytes or longer (SP 800-38D
+    /// section 5.2.1.1).
     pub fn new(
         key: &'key K,
         aad: Aad<'_>,
@@ -80,7 +84,7 @@ impl<'key, K: UpdateBlock> Context<'key, K> {
         })
     }
 
-    /// Takes in one block, by one field product.
+    /// Updates the hash with one block, by one field product.
     pub fn update_block(&mut self, block: Block, work: &mut Work)
         requires { CanAdd work.old 0 1 }
         ensures hashed { (done : List (List ℕ)) → IsHashOf self.old.hash_subkey done self.old.xi
@@ -91,8 +95,8 @@ impl<'key, K: UpdateBlock> Context<'key, K> {
         self.key.update_block(&mut self.xi, block, work);
     }
 
-    /// Takes in the block of the lengths of the AAD and of `in_out_len`, by one field product, and
-    /// returns what `f` makes of the hash: 16 bytes.
+    /// Updates the hash with the block of the lengths of the AAD and the ciphertext, by one field product, and returns
+    /// the tag that `f` computes from the 16-byte hash.
     pub fn pre_finish<F: FnOnce(Block) -> Tag>(self, work: &mut Work, f: F) -> Tag
         requires sums { CanAdd work.old 0 1 }
         requires callable { (xi : List ℕ)
@@ -118,7 +122,7 @@ impl<'key, K: UpdateBlock> Context<'key, K> {
 }
 
 impl<'key, K: UpdateBlocks> Context<'key, K> {
-    /// Takes in the blocks in order, by one field product each.
+    /// Updates the hash with the blocks of `input` in order, by one field product each.
     pub fn update_blocks(&mut self, input: AsChunks<'_, u8, BLOCK_LEN>, work: &mut Work)
         requires { CanAdd work.old 0 (length input.items.now / 16) }
         ensures hashed { (done : List (List ℕ)) → IsHashOf self.old.hash_subkey done self.old.xi
@@ -130,7 +134,7 @@ impl<'key, K: UpdateBlocks> Context<'key, K> {
     }
 }
 
-/// A block with these bytes in front, and zeros after them.
+/// Returns a block that begins with `bytes`, at most 16 of them, and ends in zeros.
 #[tactic(auto, using(crate::proofs::PaddedBlocks::padded_is))]
 pub(crate) fn padded(bytes: &[u8]) -> Block
     requires { length bytes.now ≤ 16 }
@@ -141,7 +145,7 @@ pub(crate) fn padded(bytes: &[u8]) -> Block
     block
 }
 
-/// The block of two lengths in bytes, which it holds in bits.
+/// Returns the block of two lengths, which are passed in bytes and written in bits (SP 800-38D section 7.1 step 5).
 #[tactic(auto, using(crate::proofs::PaddedBlocks::lengths_are))]
 fn lengths(aad_len: u64, in_out_len: u64) -> Block
     requires { Fits aad_len in_out_len }

@@ -1,4 +1,4 @@
-//! The product of blocks (SP 800-38D section 6.3), by the multiples of one of them.
+//! The product of two blocks (SP 800-38D section 6.3), by a table of the multiples of one of them.
 
 ghost use Rattle.std.specs.Prelude.{◌≡◌, ℕ, ◌+◌, ◌-◌, ◌*◌, ◌/◌, ◌%◌, ◌^◌, ◌<◌, ◌≤◌, ◌==◌, if◌then◌else◌, List, [], ◌∷◌, bit_xor, slice_index};
 ghost use Rattle.std.specs.Int.{to_be_bytes, w128};
@@ -7,11 +7,11 @@ ghost use Rattle.aead_ciphers.specs.Multiples.{AreMultiples, entry, number_of_wo
 
 use std::simd::u32x4;
 
-/// R of section 6.3: 11100001 and 120 zero bits.
+/// The block R of SP 800-38D section 6.3: 11100001 followed by 120 zero bits.
 const R: u128 = 0xe1 << 120;
 
-/// Writes the products of a block and u^0, .., u^127 (section 6.3), each by a shift of the one before. The words of
-/// multiples i, 32 + i, 64 + i and 96 + i are neighbours.
+/// Writes the products of `block` and u^0, .., u^127 (SP 800-38D section 6.3) to `table`, each computed by a shift of
+/// the one before. Corresponding words of the products i, 32 + i, 64 + i and 96 + i are adjacent.
 pub(crate) fn write_multiples(table: &mut [u32; 512], block: u128)
     ensures multiples { AreMultiples (to_be_bytes w128 block) table.new }
     ensures first { entry table.new 0 ≡ block }
@@ -28,8 +28,8 @@ pub(crate) fn write_multiples(table: &mut [u32; 512], block: u128)
     }
 }
 
-/// The product of a block and the one whose multiples a table holds: the sum of the multiples at which the block has a
-/// one, those of its four words side by side.
+/// Returns the product of `block` and the block whose multiples are in `table`: the sum of the multiples that
+/// correspond to the one bits of `block`. The four words of `block` are processed in parallel.
 pub(crate) fn product(table: &[u32; 512], block: u128) -> u128
     requires { AreMultiples (to_be_bytes w128 (entry table.now 0)) table.now }
     ensures { to_be_bytes w128 result
@@ -55,7 +55,7 @@ pub(crate) fn product(table: &[u32; 512], block: u128) -> u128
     )
 }
 
-/// The four words of a block, the highest first.
+/// Returns the four words of `block`, the most significant first.
 #[inline(always)]
 fn words(block: u128) -> u32x4
     ensures { (j : ℕ) → j < 4 → slice_index result j ≡ block / 2 ^ (96 - 32 * j) % 2 ^ 32 }
@@ -68,7 +68,7 @@ fn words(block: u128) -> u32x4
     ])
 }
 
-/// The block of four words, the highest first.
+/// Returns the block with these four words, the most significant first.
 #[tactic(auto, using(crate::proofs::BlockLanes::joined_is))]
 #[inline(always)]
 fn joined(first: u32, second: u32, third: u32, fourth: u32) -> u128
@@ -80,7 +80,7 @@ fn joined(first: u32, second: u32, third: u32, fourth: u32) -> u128
         | u128::from(fourth)
 }
 
-/// The four words of a table from `at` on.
+/// Returns the four words of `table` from index `at` on.
 #[inline(always)]
 fn lanes(table: &[u32; 512], at: usize) -> u32x4
     requires { at + 4 ≤ 512 }
@@ -90,7 +90,7 @@ fn lanes(table: &[u32; 512], at: usize) -> u32x4
     u32x4::from_slice(&table[at..])
 }
 
-/// Adds each word whose lane of `bits` has its highest bit.
+/// Adds to `sum` each word of `words` for which the highest bit of the same lane of `bits` is set.
 #[tactic(auto, using(crate::proofs::BlockLanes::chosen_lanes))]
 #[inline(always)]
 fn add_chosen(sum: u32x4, bits: u32x4, words: u32x4) -> u32x4

@@ -1,4 +1,4 @@
-//! The cipher on four blocks at a time.
+//! The AES cipher (FIPS 197 section 5.1) on four blocks at a time.
 
 ghost use Rattle.std.specs.Prelude.{◌≡◌, ◌<◌, ℕ, [], slice_index_or};
 ghost use Rattle.aead_ciphers_base.specs.Aes.{aes};
@@ -9,8 +9,8 @@ use super::round::{add_round_key, mix_columns, shift_rows};
 use super::{Block, KeyRef};
 
 impl<'k> KeyRef<'k> {
-    /// The cipher of each of four blocks (FIPS 197 section 5.1), in one pass of the planes. It is in no
-    /// tally.
+    /// Encrypts each of four blocks (FIPS 197 section 5.1), in one pass over the planes. No `Work`
+    /// counts them.
     pub fn encrypt_four(&self, blocks: [Block; 4]) -> [Block; 4]
         ensures { (k : ℕ) → k < 4
             → slice_index_or result k [] ≡ aes self.now (slice_index_or blocks k []) }

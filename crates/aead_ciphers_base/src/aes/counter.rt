@@ -1,4 +1,4 @@
-//! Counter blocks of a 12-byte nonce (SP 800-38D sections 6.2 and 7.1).
+//! Counter blocks of 12-byte nonces (SP 800-38D sections 6.2 and 7.1).
 
 ghost use Rattle.std.specs.Prelude.{◌≡◌, ◌<◌, ℕ, ◌+◌, List, [], length, slice_index_or};
 ghost use Rattle.aead_ciphers_base.specs.CounterMode.{IsCounter};
@@ -22,7 +22,7 @@ impl Model for Counter {
 }
 
 impl Counter {
-    /// Counter block 1 of the nonce, J0 of SP 800-38D section 7.1.
+    /// Creates counter block 1 of the nonce, the pre-counter block J0 (SP 800-38D section 7.1).
     #[tactic(auto, using(crate::proofs::CounterLemmas::counter_one))]
     pub fn one(nonce: Nonce) -> Self
         ensures { IsCounter result nonce 1 }
@@ -33,7 +33,7 @@ impl Counter {
         Counter { block }
     }
 
-    /// Answers the counter block as it was, and adds one to its number (inc32).
+    /// Adds one to the number (inc32, SP 800-38D section 6.2), and returns the previous counter block.
     pub fn increment(&mut self) -> Iv
         ensures iv { result ≡ self.old }
         ensures counter { (nonce : List ℕ) (k : ℕ) → IsCounter self.old nonce k →
@@ -44,7 +44,8 @@ impl Counter {
         iv
     }
 
-    /// Adds to its number, modulo 2^32. That no counter block comes twice is the caller's matter.
+    /// Adds `increment_by` to the number, modulo 2^32. Using no counter block twice under a key is the
+    /// caller's responsibility.
     pub fn increment_by_less_safe(&mut self, increment_by: u32)
         ensures { (nonce : List ℕ) (k : ℕ) → IsCounter self.old nonce k →
             IsCounter self.new nonce (k + increment_by) }
@@ -52,7 +53,7 @@ impl Counter {
         self.block = self.plus(increment_by);
     }
 
-    /// The counter block with so much more as its number, modulo 2^32.
+    /// Returns the counter block with `more` added to its number, modulo 2^32.
     pub(crate) fn plus(&self, more: u32) -> Block
         ensures { (nonce : List ℕ) (k : ℕ) → IsCounter self.now nonce k →
             IsCounter result nonce (k + more) }
@@ -65,7 +66,7 @@ impl Counter {
         block
     }
 
-    /// The counter block and the next three.
+    /// Returns the counter block and the next three.
     pub(crate) fn next_four(&self) -> [Block; 4]
         ensures { (nonce : List ℕ) (k : ℕ) → IsCounter self.now nonce k → (i : ℕ) → i < 4 →
             IsCounter (slice_index_or result i []) nonce (k + i) }
@@ -73,7 +74,7 @@ impl Counter {
         [self.plus(0), self.plus(1), self.plus(2), self.plus(3)]
     }
 
-    /// Its bytes. They are the counter block of some nonce and number.
+    /// Returns the 16 bytes, which are the counter block of some nonce and number.
     pub fn as_ref(&self) -> &Block
         ensures bytes { result.now ≡ self.now }
         ensures counter { (nonce : List ℕ) × (k : ℕ) × IsCounter self.now nonce k }
@@ -83,14 +84,14 @@ impl Counter {
     }
 }
 
-/// States that every block is the counter block of some nonce and number.
+/// States that every block of 16 bytes is the counter block of some nonce and number.
 #[tactic(auto, using(crate::proofs::CounterLemmas::counter_exists))]
 fn is_some_counter(block: &[u8])
     requires { length block.now ≡ 16 }
     ensures { (nonce : List ℕ) × (k : ℕ) × IsCounter block.now nonce k }
 {}
 
-/// A counter block that is used once.
+/// A counter block of 16 bytes that is used only once.
 #[derive(Drop)]
 pub struct Iv {
     block: Block,
@@ -104,6 +105,7 @@ impl Model for Iv {
     ghost view = { λ iv. iv.block };
 }
 
+/// Consumes a counter, and returns its counter block.
 impl From<Counter> for Iv {
     ghost from_gives = { λ counter iv. iv ≡ counter };
 
@@ -114,7 +116,7 @@ impl From<Counter> for Iv {
 }
 
 impl Iv {
-    /// Its bytes.
+    /// Consumes the counter block, and returns its 16 bytes.
     pub fn into_block_less_safe(self) -> Block
         ensures { result ≡ self }
     {

@@ -8,10 +8,10 @@ ghost use Rattle.aead_ciphers_base.specs.Work.{Adds, CanAdd};
 use crate::aes::{BLOCK_LEN, Counter, KeyRef, Work};
 use crate::bb;
 
-/// The length of a batch, in bytes: the blocks that one pass of the cipher encrypts.
+/// The length of a batch, in bytes: the four blocks that one pass of the cipher encrypts.
 const BATCH_LEN: usize = 4 * BLOCK_LEN;
 
-/// Encrypts the whole blocks from `start` on, to the front, batch by batch.
+/// Encrypts the whole blocks from `start` on and writes them to the front, batch by batch.
 #[tactic(auto, using(crate::proofs::CounterModeLemmas::encrypts_all, crate::proofs::CounterModeLemmas::encrypts_more, crate::proofs::CounterLemmas::advances_none, crate::proofs::CounterLemmas::advances_more))]
 pub(crate) fn encrypt_to_front(
     key: &KeyRef<'_>,
@@ -38,8 +38,8 @@ pub(crate) fn encrypt_to_front(
     }
 }
 
-/// Encrypts one to four blocks: the `count` bytes from `start + done` on, to `done`. All of them are
-/// read before one is written.
+/// Encrypts the one to four blocks in the `count` bytes at `start + done`, and writes them at `done`.
+/// All bytes are read before any is written.
 #[tactic(auto, using(crate::proofs::CounterModeLemmas::batch_put))]
 #[inline(always)]
 fn encrypt_batch(
@@ -69,7 +69,7 @@ fn encrypt_batch(
     in_out[done..done + count].copy_from_slice(&batch[..count]);
 }
 
-/// XORs the ciphers of the counter block and of the next three into a batch.
+/// Encrypts the counter block and the next three, and XORs the results into a batch.
 fn xor_keystream(key: &KeyRef<'_>, counter: &Counter, batch: &mut [u8; BATCH_LEN])
     ensures { (nonce : List ℕ) (k : ℕ) → IsCounter counter.now nonce k →
         batch.new ≡ counter_mode (aes key.now) nonce k batch.old }

@@ -1,4 +1,4 @@
-//! The key schedule (FIPS 197 section 5.2), with SubWord on planes.
+//! The key schedule (FIPS 197 section 5.2), with SubWord computed on planes.
 
 ghost use Rattle.std.specs.Prelude.{◌≡◌, ◌+◌, ◌-◌, ◌*◌, ◌/◌, ◌%◌, ◌<◌, ◌≤◌, ◌⊎◌, ℕ, length, take, slice_index};
 ghost use Rattle.aead_ciphers_base.specs.Bytes.{◌⊕◌};
@@ -10,7 +10,7 @@ use super::ZERO_BLOCK;
 use super::pack::{gather, pack, spread};
 use super::planes::{Planes, sub_planes};
 
-// The first byte of each Rcon word.
+// The first byte of each round constant Rcon.
 const ROUND_CONSTANTS: [u8; 10] = [0x01, 0x02, 0x04, 0x08, 0x10, 0x20, 0x40, 0x80, 0x1b, 0x36];
 
 #[tactic(auto, using(crate::proofs::XorLemmas::xor_by_index))]
@@ -27,7 +27,7 @@ fn rot_word(a: [u8; 4]) -> [u8; 4]
     [a[1], a[2], a[3], a[0]]
 }
 
-// The bytes of the word stand in every eighth of the 64 places.
+// The planes hold the bytes of the word in every eighth of the 64 places.
 fn sub_word(a: [u8; 4]) -> [u8; 4]
     ensures { result ≡ sub_word a }
 {
@@ -67,7 +67,7 @@ fn next_word(words: &[[u8; 4]], i: usize, nk: usize) -> [u8; 4]
     add_words(words[i - nk], turned)
 }
 
-/// The words of the schedule of a key of 16 or 32 bytes.
+/// Expands a key of 16 or 32 bytes. The first 44 or 60 words of the result are its key schedule.
 #[tactic(auto, using(crate::proofs::KeySchedule::first_word_step, crate::proofs::KeySchedule::first_words_end))]
 pub fn expand(key: &[u8]) -> [[u8; 4]; 60]
     requires { (length key.now ≡ 16) ⊎ (length key.now ≡ 32) }
@@ -85,7 +85,7 @@ pub fn expand(key: &[u8]) -> [[u8; 4]; 60]
     words
 }
 
-// A round key, in each of the four blocks.
+// Packs a round key into each of the four blocks.
 fn pack_round_key(words: &[[u8; 4]], round: usize) -> Planes
     requires { 4 * round + 4 ≤ length words.now }
     ensures { (p : ℕ) → p < 64
@@ -98,7 +98,7 @@ fn pack_round_key(words: &[[u8; 4]], round: usize) -> Planes
     pack([block, block, block, block])
 }
 
-/// Writes the round keys with these words, four words each.
+/// Writes the round keys that consist of `words`, four words each.
 pub fn write_round_keys(planes: &mut [Planes; 15], words: &[[u8; 4]])
     requires { length words.now ≤ 60 }
     ensures { HoldsWords planes.new words.now (length words.now / 4) }

@@ -1,7 +1,7 @@
-//! Four blocks in eight planes, and back.
+//! Packing four blocks into eight planes, and unpacking them.
 //!
-//! Read as eight words, the lowest byte first, the blocks have bit `b` of byte `8 * i + j` as bit
-//! `8 * j + b` of word `i`. Two transpositions make it bit `8 * i + j` of plane `b`.
+//! If the blocks are read as eight little-endian words, bit `b` of byte `8 * i + j` is bit `8 * j + b` of
+//! word `i`. Two transpositions move it to bit `8 * i + j` of plane `b`.
 
 ghost use Rattle.std.specs.Prelude.{◌≡◌, ◌+◌, ◌-◌, ◌*◌, ◌/◌, ◌%◌, ◌^◌, ◌<◌, ◌==◌, ◌++◌, ℕ, [], slice_index, slice_index_or, if◌then◌else◌};
 ghost use Rattle.std.specs.Int.{bit_at, w64, to_le_bytes};
@@ -10,7 +10,7 @@ ghost use Rattle.aead_ciphers_base.specs.Planes.{plane_byte, plane_block, word_b
 use super::planes::Planes;
 use super::{Block, ZERO_BLOCK};
 
-// The places of which binary digit `k` is zero.
+// The places whose binary digit `k` is zero, for each `k`.
 const LOW: [u64; 6] = [
     0x5555_5555_5555_5555,
     0x3333_3333_3333_3333,
@@ -20,7 +20,8 @@ const LOW: [u64; 6] = [
     0x0000_0000_ffff_ffff,
 ];
 
-// A delta swap: exchanges the bits of `a` at places with digit `k` one and those of `b` with digit `k` zero.
+// A delta swap: exchanges the bits of `a` at places whose digit `k` is one with the bits of `b` at places
+// whose digit `k` is zero.
 #[inline(always)]
 fn delta_swap(a: u64, b: u64, k: usize) -> (u64, u64)
     requires { k < 6 }
@@ -34,8 +35,8 @@ fn delta_swap(a: u64, b: u64, k: usize) -> (u64, u64)
     (a ^ (delta << shift), b ^ delta)
 }
 
-// Exchanges digit `k` of each place and the highest digit of the word's number, and turns the
-// number's digits: the highest becomes the lowest.
+// Exchanges digit `k` of each place with the highest digit of the word's number, and then rotates the
+// digits of the number: the highest becomes the lowest.
 #[inline(always)]
 fn exchange_digits(words: [u64; 8], k: usize) -> [u64; 8]
     requires { k < 6 }
@@ -88,7 +89,7 @@ fn block_of(low: u64, high: u64) -> Block
     block
 }
 
-/// The planes of four blocks: bit `16 * block + byte` of plane `b` is bit `b` of that byte.
+/// Packs four blocks into eight planes: bit `16 * block + byte` of plane `b` is bit `b` of that byte.
 #[inline(always)]
 pub fn pack(blocks: [Block; 4]) -> Planes
     ensures { (p : ℕ) → p < 64
@@ -102,7 +103,7 @@ pub fn pack(blocks: [Block; 4]) -> Planes
     transpose_bits(transpose_bytes([w0, w1, w2, w3, w4, w5, w6, w7]))
 }
 
-/// The four blocks of the planes.
+/// Unpacks the four blocks that the planes hold.
 #[inline(always)]
 pub fn unpack(planes: Planes) -> [Block; 4]
     ensures { (k : ℕ) → k < 4 → slice_index_or result k [] ≡ plane_block planes k }
@@ -116,10 +117,10 @@ pub fn unpack(planes: Planes) -> [Block; 4]
     ]
 }
 
-// Every eighth place.
+// The bits at every eighth place.
 const EIGHTHS: u64 = 0x0101_0101_0101_0101;
 
-/// Planes that hold the bytes of a word in every eighth place.
+/// Returns planes that hold the 8 bytes of a word in every eighth place.
 #[tactic(auto, using(crate::proofs::PlanePacking::spread_more))]
 #[inline(always)]
 pub fn spread(word: u64) -> Planes
@@ -132,7 +133,7 @@ pub fn spread(word: u64) -> Planes
     planes
 }
 
-/// The word of the bytes that planes hold in every eighth place.
+/// Returns the word of the 8 bytes that the planes hold in every eighth place.
 #[tactic(auto, using(crate::proofs::PlanePacking::gathered_more))]
 #[inline(always)]
 pub fn gather(planes: Planes) -> u64

@@ -1,4 +1,4 @@
-//! SubBytes on 64 bytes at a time, in eight planes.
+//! SubBytes (FIPS 197 section 5.1.1) on 64 bytes at a time, in eight planes.
 
 ghost use Rattle.std.specs.Prelude.{◌≡◌, ◌<◌, ℕ};
 ghost use Rattle.aead_ciphers_base.specs.ByteField.{mul8, sbox};
@@ -6,10 +6,10 @@ ghost use Rattle.aead_ciphers_base.specs.Planes.{plane_byte};
 
 use super::tower::{invert, map_affine, to_tower};
 
-/// Eight planes: bit `p` of plane `b` is bit `b` of byte `p`.
+/// Eight planes, which hold 64 bytes: bit `p` of plane `b` is bit `b` of byte `p`.
 pub type Planes = [u64; 8];
 
-/// The product of each byte and {02}, that is x (FIPS 197 section 4.2).
+/// Multiplies each byte by {02}, the polynomial x (FIPS 197 section 4.2).
 #[tactic(auto, using(crate::proofs::PlaneBits::times_x_plane))]
 #[inline(always)]
 pub fn times_x(a: Planes) -> Planes
@@ -19,8 +19,8 @@ pub fn times_x(a: Planes) -> Planes
     [top, a0 ^ top, a1, a2 ^ top, a3 ^ top, a4, a5, a6]
 }
 
-/// The S-box (FIPS 197 section 5.1.1) of each of the 64 bytes that the planes hold: byte `p` is the
-/// one whose bit `b` is bit `p` of plane `b`.
+/// Replaces each of the 64 bytes that the planes hold by its S-box value (FIPS 197 section 5.1.1). Bit
+/// `b` of byte `p` is bit `p` of plane `b`.
 #[tactic(auto, unfolding(crate::specs::ByteField::sbox))]
 #[inline(always)]
 pub fn sub_planes(planes: &mut [u64; 8])

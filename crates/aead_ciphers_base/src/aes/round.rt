@@ -1,4 +1,4 @@
-//! The steps of a round on planes (FIPS 197 section 5.1), but for SubBytes.
+//! The steps of a round on planes (FIPS 197 section 5.1), except SubBytes.
 
 ghost use Rattle.std.specs.Prelude.{◌≡◌, ◌<◌, ℕ, bit_xor};
 ghost use Rattle.std.specs.Int.{bit_at};
@@ -7,7 +7,7 @@ ghost use Rattle.aead_ciphers_base.specs.Planes.{plane_byte, below, shifted_from
 
 use super::planes::{Planes, times_x};
 
-// Moves the bit of each row into the row above it.
+// Moves the bit of each row up by one row, cyclically.
 #[tactic(auto, using(crate::proofs::PlaneShifts::one_below_moves))]
 #[inline(always)]
 fn one_below(x: u64) -> u64
@@ -16,7 +16,7 @@ fn one_below(x: u64) -> u64
     ((x >> 1) & 0x7777_7777_7777_7777) ^ ((x << 3) & 0x8888_8888_8888_8888)
 }
 
-// Moves the bit of each row two rows up.
+// Moves the bit of each row up by two rows, cyclically.
 #[tactic(auto, using(crate::proofs::PlaneShifts::two_below_moves))]
 #[inline(always)]
 fn two_below(x: u64) -> u64
@@ -25,7 +25,7 @@ fn two_below(x: u64) -> u64
     ((x >> 2) & 0x3333_3333_3333_3333) ^ ((x << 2) & 0xcccc_cccc_cccc_cccc)
 }
 
-// Rows 2 and 3 move by two columns of four bits, by a delta swap, and then rows 1 and 3 by one.
+// Shifts rows 2 and 3 by two columns of four bits, with a delta swap, and then rows 1 and 3 by one.
 #[tactic(auto, using(crate::proofs::PlaneShifts::rows_shifted_moves))]
 #[inline(always)]
 fn rows_shifted(x: u64) -> u64
@@ -61,7 +61,7 @@ fn planes_two_below(a: Planes) -> Planes
     out
 }
 
-// The sum of the bytes of `a` and `b`.
+// Adds the bytes of `a` and `b`.
 #[tactic(auto, using(crate::proofs::PlaneShifts::add_plane))]
 #[inline(always)]
 fn add_planes(a: Planes, b: Planes) -> Planes
@@ -74,7 +74,7 @@ fn add_planes(a: Planes, b: Planes) -> Planes
     out
 }
 
-/// ShiftRows (FIPS 197 section 5.1.2) in each block.
+/// Applies ShiftRows (FIPS 197 section 5.1.2) to each of the four blocks.
 #[tactic(auto, using(crate::proofs::PlaneShifts::planes_moved))]
 #[inline(always)]
 pub fn shift_rows(a: Planes) -> Planes
@@ -87,7 +87,7 @@ pub fn shift_rows(a: Planes) -> Planes
     out
 }
 
-/// MixColumns (FIPS 197 section 5.1.3) in each block.
+/// Applies MixColumns (FIPS 197 section 5.1.3) to each of the four blocks.
 #[inline(always)]
 pub fn mix_columns(a: Planes) -> Planes
     ensures { (p : ℕ) → p < 64 → plane_byte result p
@@ -100,7 +100,7 @@ pub fn mix_columns(a: Planes) -> Planes
     add_planes(doubled, planes_two_below(sum))
 }
 
-/// AddRoundKey (FIPS 197 section 5.1.4) in each block.
+/// Applies AddRoundKey (FIPS 197 section 5.1.4) to each of the four blocks.
 #[inline(always)]
 pub fn add_round_key(a: Planes, round_key: &Planes) -> Planes
     ensures { (p : ℕ) → plane_byte result p

@@ -1,4 +1,4 @@
-//! The vectors of FIPS 197 and of RFC 9001 appendix A.2, and the S-box of each byte in each block.
+//! Tests with the vectors of FIPS 197 and RFC 9001 appendix A.2, and of the S-box of each byte in each block.
 
 ghost use Rattle.std.specs.Prelude.{◌≡◌, ◌+◌, ◌<◌, ℕ};
 ghost use Rattle.aead_ciphers_base.specs.ByteField.{mul8, inv, affine, sbox};
@@ -9,7 +9,7 @@ use aead_vectors::{fips_197, rfc_9001};
 use std::process::Abort;
 use std::test::Fail;
 
-// Values that FIPS 197 gives for its field (section 4) and its S-box (section 5.1.1), by the definitions.
+// The definitions yield the values that FIPS 197 gives for its field (section 4) and S-box (section 5.1.1).
 #[tactic(auto, unfolding(crate::proofs::ByteFieldLaws::field))]
 fn field_values()
     ensures product { mul8 0x57 0x83 ≡ 0xc1 }
@@ -19,7 +19,7 @@ fn field_values()
     ensures s_box_of_53 { sbox 0x53 ≡ 0xed }
 {}
 
-// The product of two bytes, by eight doublings.
+// Multiplies two bytes by eight doublings.
 fn product(a: u8, b: u8) -> u8
     ensures { result ≡ mul8 a b }
 {
@@ -58,7 +58,7 @@ fn field_values_of_fips_197(rt: HostRuntime) {
     );
 }
 
-/// The values 0 to 255, sixteen in each block, the first of them at `part`.
+/// Returns four blocks of 16 consecutive values each. Block `k` begins at `16 * ((part + k) % 16)`.
 fn blocks_from(part: u8) -> [Block; 4]
     requires { part < 16 }
 {
@@ -71,7 +71,7 @@ fn blocks_from(part: u8) -> [Block; 4]
     blocks
 }
 
-/// Each byte of a block is the S-box value of the other's.
+/// Asserts that each byte of `found` is the S-box value of the byte at its index in `bytes`.
 fn are_s_boxes(rt: &impl Abort, found: &Block, bytes: &Block) {
     for (found, byte) in found.iter().zip(bytes) {
         assert_eq!(rt; *found, s_box(*byte));

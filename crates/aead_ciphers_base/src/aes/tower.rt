@@ -1,9 +1,9 @@
-//! The inverse and the affine map of the S-box (FIPS 197 section 5.1.1) on planes. The inverse is
-//! x^254, by four products in a tower of fields.
+//! The inverse and the affine transformation of the S-box (FIPS 197 section 5.1.1) on planes. The
+//! inverse is x^254, computed by four products in a tower of fields.
 //!
-//! The field of 256 elements is a field over one of 16, and that one over one of 4, each with a
-//! normal basis: the powers 16, 4 and 2 exchange the two halves of the coordinates. So x^17, an
-//! element of the field of 16, takes four planes, and x^85, one of the field of 4, takes two:
+//! The field of 256 elements is an extension of a field of 16, and that one of a field of 4. Each has a
+//! normal basis: the powers 16, 4 and 2 exchange the two halves of the coordinates. Therefore x^17, an
+//! element of the field of 16, takes four planes, and x^85, an element of the field of 4, takes two:
 //! x^17 = x * x^16, x^85 = x^17 * x^68, x^238 = x^68 * (x^85)^2, x^254 = x^16 * x^238.
 
 ghost use Rattle.std.specs.Prelude.{◌≡◌, ◌<◌, ℕ};
@@ -13,7 +13,7 @@ ghost use Rattle.aead_ciphers_base.specs.Tower.{plane_element, basis_4, basis_16
 
 use super::planes::Planes;
 
-// The product in the field of 4.
+// Multiplies in the field of 4.
 #[inline(always)]
 fn multiply_4(a: [u64; 2], b: [u64; 2]) -> [u64; 2]
     ensures { (p : ℕ) → plane_element basis_4 result p
@@ -25,7 +25,7 @@ fn multiply_4(a: [u64; 2], b: [u64; 2]) -> [u64; 2]
     [(a0 & b0) ^ both, (a1 & b1) ^ both]
 }
 
-// The product in the field of 16, by three in the field of 4.
+// Multiplies in the field of 16, by three products in the field of 4.
 #[inline(always)]
 fn multiply_16(a: [u64; 4], b: [u64; 4]) -> [u64; 4]
     ensures { (p : ℕ) → plane_element basis_16 result p
@@ -40,7 +40,7 @@ fn multiply_16(a: [u64; 4], b: [u64; 4]) -> [u64; 4]
     [low0 ^ scaled, low1 ^ both0, high0 ^ scaled, high1 ^ both0]
 }
 
-// The inverse in the field of 16, n^14 = n^4 * (n^5)^2, where n^5 lies in the field of 4.
+// Inverts in the field of 16: n^14 = n^4 * (n^5)^2, and n^5 is in the field of 4.
 #[inline(always)]
 fn invert_16(n: [u64; 4]) -> [u64; 4]
     ensures { (p : ℕ) → plane_element basis_16 result p ≡ inv (plane_element basis_16 n p) }
@@ -54,7 +54,7 @@ fn invert_16(n: [u64; 4]) -> [u64; 4]
     [low0, low1, high0, high1]
 }
 
-/// The inverse of each byte, a^254 = a^16 * (a^17)^14, where a^17 lies in the field of 16.
+/// Inverts each byte, in coordinates of the tower: a^254 = a^16 * (a^17)^14, and a^17 is in the field of 16.
 #[inline(always)]
 pub fn invert(a: Planes) -> Planes
     ensures { (p : ℕ) → plane_element basis_256 result p ≡ inv (plane_element basis_256 a p) }
@@ -71,7 +71,7 @@ pub fn invert(a: Planes) -> Planes
     [r0, r1, r2, r3, r4, r5, r6, r7]
 }
 
-/// The coordinates of each byte in the basis of the tower.
+/// Converts each byte to its coordinates in the basis of the tower.
 #[inline(always)]
 pub fn to_tower(a: Planes) -> Planes
     ensures { (p : ℕ) → plane_element basis_256 result p ≡ plane_byte a p }
@@ -93,7 +93,8 @@ pub fn to_tower(a: Planes) -> Planes
     ]
 }
 
-/// The affine map of each byte whose coordinates in the basis of the tower the planes hold.
+/// Applies the affine transformation of the S-box to each byte. The planes hold the coordinates of the
+/// bytes in the basis of the tower; the result holds bytes again.
 #[inline(always)]
 pub fn map_affine(a: Planes) -> Planes
     ensures { (p : ℕ) → p < 64 → plane_byte result p ≡ affine (plane_element basis_256 a p) }

@@ -1,13 +1,14 @@
-//! How much was computed.
+//! Tallies of what was computed, so that a contract can say how much a call computes.
 
 ghost use Rattle.std.specs.Prelude.{◌≡◌, ◌↔◌, IsTrue};
 ghost use Rattle.aead_ciphers_base.specs.Work.{Adds, CanAdd, HasRoom};
 
 use std::marker::Model;
 
-/// Two tallies of 64 bits: the cipher blocks whose output was used, and the field products.
+/// Two 64-bit tallies: of cipher blocks whose output was used, and of field products (SP 800-38D
+/// section 6.3).
 ///
-/// A call that counts has the condition that the sums fit. `has_room` is enough for one seal or open.
+/// A call that counts requires that the sums fit in 64 bits. `has_room` suffices for one seal or open.
 #[derive(Drop)]
 pub struct Work {
     blocks: u64,
@@ -23,7 +24,7 @@ impl Model for Work {
 }
 
 impl Work {
-    /// Nothing is counted yet.
+    /// Creates two tallies of zero.
     pub fn new() -> Self
         ensures { result ≡ record { blocks = 0; products = 0 } }
     {
@@ -33,28 +34,28 @@ impl Work {
         }
     }
 
-    /// The cipher blocks so far.
+    /// Returns the number of cipher blocks that were counted.
     pub fn blocks(&self) -> u64
         ensures { result ≡ self.now.blocks }
     {
         self.blocks
     }
 
-    /// The field products so far.
+    /// Returns the number of field products that were counted.
     pub fn products(&self) -> u64
         ensures { result ≡ self.now.products }
     {
         self.products
     }
 
-    /// Whether both tallies are at most 2^62.
+    /// Returns `true` if both tallies are at most 2^62.
     pub fn has_room(&self) -> bool
         ensures { IsTrue result ↔ HasRoom self.now }
     {
         self.blocks <= 1 << 62 && self.products <= 1 << 62
     }
 
-    /// Counts a field product.
+    /// Counts one field product.
     pub fn add_product(&mut self)
         requires { CanAdd self.old 0 1 }
         ensures { Adds self.old self.new 0 1 }
@@ -62,7 +63,7 @@ impl Work {
         self.products += 1;
     }
 
-    /// Counts a cipher block.
+    /// Counts one cipher block.
     pub(crate) fn add_block(&mut self)
         requires { CanAdd self.old 1 0 }
         ensures { Adds self.old self.new 1 0 }
@@ -70,7 +71,7 @@ impl Work {
         self.blocks += 1;
     }
 
-    /// Counts so many cipher blocks.
+    /// Counts `count` cipher blocks.
     pub(crate) fn add_blocks(&mut self, count: u64)
         requires { CanAdd self.old count 0 }
         ensures { Adds self.old self.new count 0 }

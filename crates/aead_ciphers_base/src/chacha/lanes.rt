@@ -1,4 +1,4 @@
-//! The block function on four states side by side in vectors (RFC 8439 section 2.3).
+//! The block function (RFC 8439 section 2.3) on four states at a time, side by side in vectors.
 
 ghost use Rattle.std.specs.Prelude.{◌≡◌, ◌<◌, ℕ, ◌+◌, ◌*◌, ◌^◌, List, drop, take, slice_index, slice_set};
 ghost use Rattle.std.specs.Simd.Lanes.{zip2};
@@ -92,7 +92,7 @@ fn add_states(states: &mut States, addend: &States)
     }
 }
 
-// The state in lane `j`.
+// Returns the state in lane `j`.
 fn lane(states: &States, j: usize) -> State
     requires { j < 4 }
     ensures { result ≡ lane j states.now }
@@ -117,7 +117,7 @@ fn four_le_bytes(states: &States) -> [u8; BATCH_LEN]
     bytes
 }
 
-/// Four copies of a state, with the block counters (word 12) from its own on.
+/// Returns four copies of a state, whose block counters (word 12) count up from its own.
 pub(super) fn four_states(state: &State) -> States
     requires { slice_index state.now 12 + 3 < 2 ^ 32 }
     ensures { (j : ℕ) → j < 4
@@ -131,7 +131,7 @@ pub(super) fn four_states(state: &State) -> States
     states
 }
 
-/// The blocks of four initial states, one after another.
+/// Computes the blocks of four initial states, and returns them one after another.
 #[tactic(auto, using(crate::proofs::ChaChaRounds::iterate_more), unfolding(crate::specs::ChaCha20::state_block))]
 pub(super) fn state_blocks(states: &States) -> [u8; BATCH_LEN]
     ensures { (j : ℕ) → j < 4

@@ -1,4 +1,4 @@
-//! The block function on one state, each of whose four rows is a vector (RFC 8439 section 2.3).
+//! The block function (RFC 8439 section 2.3) on one state, whose four rows are vectors.
 
 ghost use Rattle.std.specs.Prelude.{◌≡◌, ◌++◌};
 ghost use Rattle.aead_ciphers_base.specs.ChaCha20.{double_round, state_block};
@@ -7,8 +7,8 @@ use super::lanes::quarter_round;
 use super::{BLOCK_LEN, State, le_bytes};
 use std::simd::u32x4;
 
-// A quarter round on each column, and, once the rows are rotated so that each diagonal is a column,
-// another.
+// Applies a quarter round to each column, and then to each diagonal, which becomes a column when the
+// rows are rotated.
 #[inline(always)]
 fn double_round(a: u32x4, b: u32x4, c: u32x4, d: u32x4) -> (u32x4, u32x4, u32x4, u32x4)
     ensures { result.0 ++ result.1 ++ result.2 ++ result.3 ≡ double_round (a ++ b ++ c ++ d) }
@@ -28,7 +28,7 @@ fn double_round(a: u32x4, b: u32x4, c: u32x4, d: u32x4) -> (u32x4, u32x4, u32x4,
     )
 }
 
-/// The block of an initial state.
+/// Computes the block of an initial state.
 pub(super) fn state_block(state: &State) -> [u8; BLOCK_LEN]
     ensures { result ≡ state_block state.now }
 {

@@ -1,4 +1,4 @@
-//! The vectors of RFC 8439 and of RFC 9001 appendix A.5: computed by the definitions, in the contracts, and by the code.
+//! Tests with the vectors of RFC 8439 and RFC 9001 appendix A.5: of the definitions, in contracts, and of the code.
 
 ghost use Rattle.std.specs.Prelude.{◌≡◌, ◌≤◌, length};
 ghost use Rattle.aead_vectors.specs.declared.rfc_8439.TheConstants.{BLOCK, BLOCK_NONCE, KEY};
@@ -9,19 +9,19 @@ use crate::values::{NONCE_LEN, Nonce};
 use aead_vectors::{rfc_8439, rfc_9001};
 use std::process::Abort;
 
-// The definition gives the vector of section 2.1.1.
+// The definition yields the vector of section 2.1.1.
 #[tactic(auto, unfolding(crate::specs::ChaCha20::quarter_round))]
 fn rfc_8439_2_1_1()
     ensures { quarter_round 0x11111111 0x01020304 0x9b8d6f43 0x01234567
         ≡ (0xea2a92f4, 0xcb1cf8ce, 0x4581472e, 0x5881c4bb) }
 {}
 
-// The definition gives the block of section 2.3.2.
+// The definition yields the block of section 2.3.2.
 fn rfc_8439_2_3_2_block()
     ensures { chacha20_block KEY 1 BLOCK_NONCE ≡ BLOCK }
 {}
 
-/// Bytes are encrypted from block counter 1 on.
+/// Encrypts `bytes` from block counter 1 on, and asserts that the result is `wanted`.
 fn encrypts(rt: &impl Abort, nonce: [u8; NONCE_LEN], bytes: &mut [u8], wanted: &[u8])
     requires { length bytes.old ≤ 128 }
 {

@@ -1,4 +1,4 @@
-//! The error of an input that is too long.
+//! The error for an input that is too long.
 
 ghost use Rattle.std.specs.Prelude.{◌≡◌};
 
@@ -6,7 +6,7 @@ use std::error::Error;
 use std::fmt;
 use std::marker::Model;
 
-/// An input that is longer than what takes it allows.
+/// The error returned when an input is longer than the call allows.
 #[derive(Clone, Copy, PartialEq, Eq, Debug)]
 pub struct InputTooLongError<T = usize>(T);
 
@@ -19,13 +19,14 @@ impl<T> Model for InputTooLongError<T> {
 }
 
 impl<T> InputTooLongError<T> {
+    /// Creates the error for the length of the input, in items.
     pub fn new(imprecise_input_length: T) -> Self
         ensures { result ≡ imprecise_input_length }
     {
         InputTooLongError(imprecise_input_length)
     }
 
-    /// The length of the input, in items.
+    /// Returns the length of the input, in items.
     pub fn value(self) -> T
         ensures { result ≡ self }
     {
@@ -34,7 +35,7 @@ impl<T> InputTooLongError<T> {
     }
 }
 
-/// `input too long`.
+/// Displays as `input too long`.
 impl<T> fmt::Display for InputTooLongError<T> {
     ghost use Rattle.std.specs.Prelude.{Some, codes};
 

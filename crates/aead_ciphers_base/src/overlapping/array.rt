@@ -1,4 +1,4 @@
-//! An input of a fixed number of items.
+//! Overlapping buffers whose input has a fixed number of items.
 
 ghost use Rattle.std.specs.Prelude.{◌≡◌, ◌↔◌, ◌-◌, ◌<◌, ◌≤◌, IsOk, IfOk, IfErr, drop, length, take};
 ghost use Rattle.std.specs.Borrow.{sem};
@@ -7,7 +7,7 @@ ghost use Rattle.aead_ciphers_base.specs.Overlapping.{KeptIfErr, LendsOutput, in
 use super::Overlapping;
 use crate::error::LenMismatchError;
 
-/// An overlapping buffer whose input has exactly `N` items, and `N` is not zero.
+/// An overlapping buffer whose input has exactly `N` items. `N` is not zero.
 #[derive(Drop)]
 pub struct Array<'o, T, const N: usize> {
     /// The whole buffer.
@@ -17,7 +17,10 @@ pub struct Array<'o, T, const N: usize> {
 }
 
 impl<'o, T, const N: usize> Array<'o, T, N> {
-    /// Refused with `N` where `N` is zero or the input has another length.
+    /// Creates an `Array` from a buffer whose input has `N` items.
+    ///
+    /// Fails with a `LenMismatchError` of `N` if `N` is zero or the input has another length. The slice
+    /// is then unchanged.
     pub fn new(in_out: Overlapping<'o, T>) -> Result<Self, LenMismatchError>
         ensures* kept { sem 𝓛 (KeptIfErr T.row in_out.entry.in_out
             (λ a. a.in_out.in_out.ghost_name) result) }
@@ -35,7 +38,7 @@ impl<'o, T, const N: usize> Array<'o, T, N> {
         Ok(Array { in_out })
     }
 
-    /// The slice from the start on.
+    /// Returns the input: the slice from the start on.
     pub fn input(&self) -> &[T; N]
         ensures { result.now ≡ input_of self.now.in_out }
     {
@@ -45,7 +48,7 @@ impl<'o, T, const N: usize> Array<'o, T, N> {
         }
     }
 
-    /// The first `N` items of the slice, for writing.
+    /// Consumes the buffer, and returns the first `N` items of the slice, for writing.
     pub fn into_unwritten_output(self) -> &'o mut [T; N]
         ensures* writes_back { sem 𝓛 (LendsOutput T.row self.entry.in_out.in_out result N) }
         ensures items { result.now ≡ take N self.entry.in_out.in_out.now }
@@ -53,7 +56,7 @@ impl<'o, T, const N: usize> Array<'o, T, N> {
         first_array::<T, N>(self.into_slice())
     }
 
-    /// The whole slice.
+    /// Consumes the buffer, and returns the whole slice.
     fn into_slice(self) -> &'o mut [T]
         ensures same_reference { result.ghost_name ≡ self.entry.in_out.in_out.ghost_name }
         ensures items { result.now ≡ self.entry.in_out.in_out.now }
@@ -63,7 +66,7 @@ impl<'o, T, const N: usize> Array<'o, T, N> {
     }
 }
 
-/// The first `N` items of a slice, for writing.
+/// Returns the first `N` items of a slice, for writing.
 pub fn first_array<T, const N: usize>(items: &mut [T]) -> &mut [T; N]
     requires { N ≤ length items.old }
     ensures* writes_back { sem 𝓛 (LendsOutput T.row items.entry result N) }

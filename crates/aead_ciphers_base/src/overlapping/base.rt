@@ -1,4 +1,4 @@
-//! A slice and a start: the input is the slice from the start on, the output its front.
+//! A slice and a start: the input is the slice from the start on, and the output is its front.
 
 ghost use Rattle.std.specs.Prelude.{◌≡◌, ◌↔◌, ◌-◌, ◌<◌, ◌≤◌, ◌++◌, IsOk, IfOk, IfErr, drop, length, take};
 ghost use Rattle.std.specs.Borrow.{sem};
@@ -7,16 +7,17 @@ use super::{Chunk, map_chunk};
 use crate::error::IndexError;
 use std::ops::RangeFrom;
 
-/// One slice that is read from `start` on, and written from its front on.
+/// A slice that is read from `start` on and written from the front on.
 #[derive(Drop)]
 pub struct Overlapping<'o, T> {
     /// The whole slice.
     pub in_out: &'o mut [T],
-    /// Where the input starts, in items.
+    /// The index at which the input starts, in items.
     pub start: usize,
     pub ghost within: { start ≤ length in_out.now },
 }
 
+/// Creates a buffer whose input is the whole slice.
 impl<'o, T> From<&'o mut [T]> for Overlapping<'o, T> {
     ghost from_gives = { λ s o.
         (o.in_out.ghost_name ≡ s.ghost_name) × (o.in_out.now ≡ s.now) × (o.start ≡ 0) };
@@ -29,7 +30,10 @@ impl<'o, T> From<&'o mut [T]> for Overlapping<'o, T> {
 impl<'o, T> Overlapping<'o, T> {
     ghost use Rattle.aead_ciphers_base.specs.Overlapping.{KeptIfErr, LendsOutput, LendsRest, MapsChunk, TakesChunk, after_output, input_len, input_of};
 
-    /// The input is `in_out` from `src.start` on.
+    /// Creates a buffer whose input is `in_out` from `src.start` on.
+    ///
+    /// Fails with an `IndexError` of `src.start` if it is greater than the length of the slice. The
+    /// slice is then unchanged.
     pub fn new(in_out: &'o mut [T], src: RangeFrom<usize>) -> Result<Self, IndexError>
         ensures* kept { sem 𝓛 (KeptIfErr T.row in_out.entry (λ o. o.in_out.ghost_name) result) }
         ensures accepted { IsOk result ↔ (src.start ≤ length in_out.old) }
@@ -45,7 +49,8 @@ impl<'o, T> Overlapping<'o, T> {
         Ok(Overlapping { in_out, start })
     }
 
-    /// As `new`, for a start that is known to lie within the slice.
+    /// Creates a buffer whose input starts at `start`, without a check. `start` must be at most the length
+    /// of the slice.
     pub fn within(in_out: &'o mut [T], start: usize) -> Self
         requires { start ≤ length in_out.old }
         ensures same_reference { result.in_out.ghost_name ≡ in_out.entry.ghost_name }
@@ -55,21 +60,21 @@ impl<'o, T> Overlapping<'o, T> {
         Overlapping { in_out, start }
     }
 
-    /// The length of the input, in items.
+    /// Returns the length of the input, in items.
     pub fn len(&self) -> usize
         ensures { result ≡ input_len self.now }
     {
         self.in_out.len() - self.start
     }
 
-    /// The slice from the start on.
+    /// Returns the input: the slice from the start on.
     pub fn input(&self) -> &[T]
         ensures { result.now ≡ input_of self.now }
     {
         &self.in_out[self.start..]
     }
 
-    /// The whole slice, and where its input starts.
+    /// Consumes the buffer, and returns the whole slice and the range of its input.
     pub fn into_slice_src_mut(self) -> (&'o mut [T], RangeFrom<usize>)
         ensures same_reference { result.0.ghost_name ≡ self.entry.in_out.ghost_name }
         ensures items { result.0.now ≡ self.entry.in_out.now }
@@ -79,7 +84,7 @@ impl<'o, T> Overlapping<'o, T> {
         (in_out, start..)
     }
 
-    /// The front of the slice, as long as the input, for writing.
+    /// Consumes the buffer, and returns the front of the slice, as long as the input, for writing.
     pub fn into_unwritten_output(self) -> &'o mut [T]
         ensures* writes_back { sem 𝓛 (LendsOutput T.row self.entry.in_out result
             (input_len self.entry)) }
@@ -90,7 +95,7 @@ impl<'o, T> Overlapping<'o, T> {
         &mut in_out[..count]
     }
 
-    /// Copies the input to the front of the slice.
+    /// Copies the input to the front of the slice. The items after the copy are unchanged.
     pub fn copy_to_front(&mut self)
     where
         T: Copy,
@@ -101,7 +106,7 @@ impl<'o, T> Overlapping<'o, T> {
         self.in_out.copy_within(self.start.., 0);
     }
 
-    /// The same buffer, with its input copied to the front.
+    /// Copies the input to the front of the slice, and returns the buffer.
     fn copied_to_front(mut self) -> Self
     where
         T: Copy,
@@ -113,7 +118,7 @@ impl<'o, T> Overlapping<'o, T> {
         self
     }
 
-    /// Copies the input to the front of the slice, and lends that front.
+    /// Copies the input to the front of the slice, and returns that front, for writing.
     pub fn copy_within(self) -> &'o mut [T]
     where
         T: Copy,
@@ -124,7 +129,7 @@ impl<'o, T> Overlapping<'o, T> {
         self.copied_to_front().into_unwritten_output()
     }
 
-    /// The same buffer with its first chunk mapped by `f`, where its input has one.
+    /// Maps the first chunk of the input with `f`, if there is one, and returns the buffer.
     fn first_chunk_mapped<C: Chunk<T>, F: FnOnce(&C) -> C>(self, f: F) -> FirstMapped<'o, T>
     where
         T: Drop,
@@ -152,9 +157,11 @@ impl<'o, T> Overlapping<'o, T> {
         }
     }
 
-    /// `f` maps the first chunk of the input, its answer is written to the front of the slice, and
-    /// the slice after it comes back with the same start. Where the input is shorter than a chunk,
-    /// it is refused with the length of a chunk, and `f` isn't called.
+    /// Maps the first chunk of the input with `f`, writes the result to the front of the slice, and
+    /// returns a buffer of the slice after it, with the same start.
+    ///
+    /// Fails with an `IndexError` of the length of a chunk if the input is shorter. `f` is then not
+    /// called, and the slice is unchanged.
     pub fn split_first_chunk<C: Chunk<T>, F: FnOnce(&C) -> C>(
         self,
         f: F,
@@ -185,7 +192,7 @@ impl<'o, T> Overlapping<'o, T> {
     }
 }
 
-/// A buffer, and how many items a chunk has.
+/// A buffer, and the number of items in a chunk.
 struct FirstMapped<'o, T> {
     in_out: &'o mut [T],
     start: usize,

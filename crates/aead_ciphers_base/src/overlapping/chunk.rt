@@ -3,22 +3,22 @@
 ghost use Rattle.std.specs.Prelude.{◌≡◌, ◌↔◌, ℕ, ◌+◌, ◌≤◌, List, IsSome, IfSome, drop, length, take};
 ghost use Rattle.aead_ciphers_base.specs.Overlapping.{MapsChunk, TakesChunk};
 
-/// A fixed number of items: `[T; N]`.
+/// A chunk of a fixed number of items: `[T; N]`.
 pub trait Chunk<T>: Sized {
     ghost chunk_items: { Self → List T };
 
     ghost chunk_len: { ℕ };
 
-    /// How many items a chunk has.
+    /// Returns the number of items in a chunk.
     fn chunk_len() -> usize
         ensures { result ≡ chunk_len };
 
-    /// The items as a chunk, where there are as many.
+    /// Returns the items as a chunk, or `None` if their number is not that of a chunk.
     fn of(items: &[T]) -> Option<&Self>
         ensures found { IsSome result ↔ (length items.now ≡ chunk_len) }
         ensures same { IfSome result (λ c. chunk_items c.now ≡ items.now) };
 
-    /// Writes the chunk over `to`.
+    /// Writes the items of the chunk to `to`, which is as long.
     fn put(self, to: &mut [T])
         requires { length to.old ≡ chunk_len }
         ensures { to.new ≡ chunk_items self };
@@ -45,7 +45,7 @@ impl<T: Drop, const N: usize> Chunk<T> for [T; N] {
     }
 }
 
-/// The chunk that starts at `start`.
+/// Returns the chunk that starts at `start`.
 pub fn chunk_at<T, C: Chunk<T>>(items: &[T], start: usize) -> &C
     requires { start + C.chunk_len ≤ length items.now }
     ensures { C.chunk_items result.now ≡ take C.chunk_len (drop start items.now) }
@@ -57,7 +57,7 @@ pub fn chunk_at<T, C: Chunk<T>>(items: &[T], start: usize) -> &C
     }
 }
 
-/// `f` maps the chunk that starts at `start`, and its answer is written to the front.
+/// Maps the chunk that starts at `start` with `f`, and writes the result to the front of the slice.
 pub fn map_chunk<T, C: Chunk<T>, F: FnOnce(&C) -> C>(in_out: &mut [T], start: usize, f: F)
 where
     T: Drop,

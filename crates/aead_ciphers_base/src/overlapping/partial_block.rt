@@ -1,4 +1,4 @@
-//! An input that is shorter than a block.
+//! Overlapping buffers whose input is shorter than a block.
 
 ghost use Rattle.std.specs.Prelude.{◌≡◌, ◌↔◌, ◌-◌, ◌<◌, ◌≤◌, ◌++◌, IsOk, IfOk, IfErr, drop, length, take};
 ghost use Rattle.std.specs.Borrow.{sem};
@@ -7,7 +7,7 @@ ghost use Rattle.aead_ciphers_base.specs.Overlapping.{KeptIfErr, input_len};
 use super::Overlapping;
 use crate::error::InputTooLongError;
 
-/// The refusal of an input of `len` items.
+/// Returns the error for an input of `len` items.
 fn too_long(len: usize) -> InputTooLongError
     ensures { result ≡ len }
 {
@@ -19,14 +19,17 @@ fn too_long(len: usize) -> InputTooLongError
 pub struct PartialBlock<'i, T, const BLOCK_LEN: usize> {
     /// The whole slice.
     pub in_out: &'i mut [T],
-    /// Where the input starts, in items.
+    /// The index at which the input starts, in items.
     pub start: usize,
     pub ghost within: { start ≤ length in_out.now },
     pub ghost short: { length in_out.now - start < BLOCK_LEN },
 }
 
 impl<'i, T, const BLOCK_LEN: usize> PartialBlock<'i, T, BLOCK_LEN> {
-    /// Refused with the length of the input where that is at or above `BLOCK_LEN`.
+    /// Creates a `PartialBlock` from a buffer whose input has fewer than `BLOCK_LEN` items.
+    ///
+    /// Fails with an `InputTooLongError` of the length of the input if that is at least `BLOCK_LEN`. The
+    /// slice is then unchanged.
     pub fn new(in_out: Overlapping<'i, T>) -> Result<Self, InputTooLongError>
         ensures* kept { sem 𝓛 (KeptIfErr T.row in_out.entry.in_out
             (λ b. b.in_out.ghost_name) result) }
@@ -45,7 +48,7 @@ impl<'i, T, const BLOCK_LEN: usize> PartialBlock<'i, T, BLOCK_LEN> {
         Ok(PartialBlock { in_out, start })
     }
 
-    /// As `new`, for an input that is known to be short.
+    /// Creates a `PartialBlock` without a check. The input must have fewer than `BLOCK_LEN` items.
     pub fn short(in_out: Overlapping<'i, T>) -> Self
         requires { input_len in_out < BLOCK_LEN }
         ensures same_reference { result.in_out.ghost_name ≡ in_out.entry.in_out.ghost_name }
@@ -56,21 +59,22 @@ impl<'i, T, const BLOCK_LEN: usize> PartialBlock<'i, T, BLOCK_LEN> {
         PartialBlock { in_out, start }
     }
 
-    /// The slice from the start on.
+    /// Returns the input: the slice from the start on.
     pub fn input(&self) -> &[T]
         ensures { result.now ≡ drop self.now.start self.now.in_out.now }
     {
         &self.in_out[self.start..]
     }
 
-    /// The length of the input, in items.
+    /// Returns the length of the input, in items.
     pub fn len(&self) -> usize
         ensures { result ≡ length self.now.in_out.now - self.now.start }
     {
         self.in_out.len() - self.start
     }
 
-    /// Writes as many items of `padded` as the input has to the front of the slice.
+    /// Overwrites the front of the slice with the first items of `padded`, as many as the input has. The
+    /// items after them are unchanged.
     pub fn overwrite_at_start(self, padded: [T; BLOCK_LEN])
     where
         T: Copy,

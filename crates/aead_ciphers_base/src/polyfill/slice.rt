@@ -1,4 +1,4 @@
-//! Slices as whole blocks.
+//! Views of slices as whole blocks: `AsChunks` for reading, `AsChunksMut` for writing.
 
 mod chunks;
 mod chunks_mut;

@@ -1,4 +1,4 @@
-//! A cipher and a hash that hand on to the real keys, and count what is asked of them.
+//! A cipher and a hash that call those of the real keys, and count what is asked of them.
 
 ghost use Rattle.aead_ciphers_base.specs.Aes.{aes as aes_cipher};
 
@@ -9,12 +9,12 @@ use aead_ciphers_base::aes::{
 use aead_ciphers_base::polyfill::slice::AsChunks;
 use std::cell::Cell;
 
-/// Adds to what is counted.
+/// Adds `more` to `count`.
 fn add(count: &Cell<u64>, more: usize) {
     count.set(count.get().wrapping_add(more as u64));
 }
 
-/// AES under a key, and the blocks that it was asked for.
+/// AES under a key, and the number of blocks that were asked for.
 #[derive(Drop)]
 pub(super) struct CountingCipher<'a> {
     pub(super) key: &'a aes::Key,
@@ -49,7 +49,7 @@ impl EncryptCtr32 for CountingCipher<'_> {
     }
 }
 
-/// GHASH under a key, and the products that it was asked for.
+/// GHASH under a key, and the number of products that were asked for.
 #[derive(Drop)]
 pub(super) struct CountingHash<'a> {
     pub(super) key: &'a gcm::Key,

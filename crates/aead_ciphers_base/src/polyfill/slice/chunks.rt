@@ -1,4 +1,4 @@
-//! Views of a slice as blocks that are read.
+//! Views of a slice as whole blocks, for reading.
 
 ghost use Rattle.std.specs.Prelude.{◌≡◌, ⊤, ℕ, ◌*◌, ◌/◌, ◌%◌, ◌<◌, ◌↔◌, [], ◌∷◌, IfSome, IsTrue, drop, length, slice_index_or, take};
 ghost use Rattle.std.specs.Iterator.{UpTo, YieldsFirstRef, at_most, item_count};
@@ -7,7 +7,7 @@ ghost use Rattle.aead_ciphers_base.specs.Blocks.{blocks, joined};
 
 use std::ops::Index;
 
-/// Whole blocks of `N` items, seen as the list of their items.
+/// A view of a slice as whole blocks of `N` items.
 pub struct AsChunks<'a, T, const N: usize> {
     /// The items of all blocks.
     pub items: &'a [T],
@@ -26,7 +26,8 @@ impl<T, const N: usize> Clone for AsChunks<'_, T, N> {
 
 impl<T, const N: usize> Copy for AsChunks<'_, T, N> {}
 
-/// As many whole blocks of `N` as fit, and the rest.
+/// Splits a slice into a view of as many whole blocks of `N` items as fit, and the fewer than `N` items
+/// after them.
 #[tactic(auto, using(crate::proofs::BlocksLemmas::blocks_take, crate::proofs::BlocksLemmas::whole_blocks))]
 pub fn as_chunks<T, const N: usize>(items: &[T]) -> (AsChunks<'_, T, N>, &[T])
     requires { 0 < N }
@@ -45,7 +46,7 @@ pub fn as_chunks<T, const N: usize>(items: &[T]) -> (AsChunks<'_, T, N>, &[T])
 }
 
 impl<'a, T, const N: usize> AsChunks<'a, T, N> {
-    /// The blocks of a slice that is known to be whole blocks.
+    /// Creates a view of a slice whose length is a multiple of `N`.
     pub fn from_whole(items: &'a [T]) -> Self
         requires { length items.now % N ≡ 0 }
         ensures { result.items.now ≡ items.now }
@@ -53,7 +54,7 @@ impl<'a, T, const N: usize> AsChunks<'a, T, N> {
         AsChunks { items }
     }
 
-    /// A view of one block, or of none where `N` is zero.
+    /// Creates a view of one block, or of no block if `N` is zero.
     #[tactic(auto, using(crate::proofs::BlocksLemmas::blocks_one, crate::proofs::BlocksLemmas::whole_one))]
     pub fn from_ref(block: &'a [T; N]) -> Self
         ensures items { result.items.now ≡ block.now }
@@ -64,7 +65,7 @@ impl<'a, T, const N: usize> AsChunks<'a, T, N> {
         }
     }
 
-    /// The items of all blocks.
+    /// Returns the items of all blocks.
     #[tactic(auto, using(crate::proofs::BlocksLemmas::joined_blocks))]
     pub fn as_flattened(&self) -> &'a [T]
         ensures items { result.now ≡ self.now.items.now }
@@ -73,14 +74,14 @@ impl<'a, T, const N: usize> AsChunks<'a, T, N> {
         self.items
     }
 
-    /// Whether there is no block.
+    /// Returns `true` if the view has no items.
     pub fn is_empty(&self) -> bool
         ensures { IsTrue result ↔ (self.now.items.now ≡ []) }
     {
         self.items.is_empty()
     }
 
-    /// How many blocks there are.
+    /// Returns the number of blocks, which is 0 if `N` is zero.
     #[tactic(auto, using(crate::proofs::BlocksLemmas::length_blocks))]
     pub fn len(&self) -> usize
         ensures { result ≡ length (blocks N self.now.items.now) }
@@ -107,10 +108,10 @@ impl<T, const N: usize> Index<usize> for AsChunks<'_, T, N> {
     }
 }
 
-/// The blocks of a view, in order.
+/// An iterator over the blocks of a view, in order.
 #[derive(Drop)]
 pub struct AsChunksIter<'a, T, const N: usize> {
-    /// The items of the blocks that are left.
+    /// The items of the remaining blocks.
     pub items: &'a [T],
 }
 
@@ -169,6 +170,7 @@ impl<'a, T, const N: usize> From<&'a [T; N]> for AsChunks<'a, T, N> {
     }
 }
 
+/// Views each block of 8 items as two blocks of 4.
 impl<'a, T> From<AsChunks<'a, T, 8>> for AsChunks<'a, T, 4> {
     ghost from_gives = { λ b v. v.items.now ≡ b.items.now };
 

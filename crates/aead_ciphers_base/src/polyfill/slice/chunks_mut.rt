@@ -1,4 +1,4 @@
-//! Views of a slice as blocks that are written.
+//! Views of a slice as whole blocks, for writing.
 
 ghost use Rattle.std.specs.Prelude.{◌≡◌, ℕ, ◌*◌, ◌/◌, ◌%◌, ◌<◌, ◌≤◌, ◌^◌, IfSome, MatchOption, drop, length, take};
 ghost use Rattle.std.specs.Borrow.{sem};
@@ -11,7 +11,7 @@ ghost use Rattle.aead_ciphers_base.specs.ChunksMut.{IsNextPart, LendsInTwo, part
 
 use super::AsChunks;
 
-/// The items of the first `count` blocks of `N`, and the rest.
+/// Splits a slice after the first `count` blocks of `N` items.
 fn split_blocks<T, const N: usize>(items: &mut [T], count: usize) -> (&mut [T], &mut [T])
     requires { count * N ≤ length items.old }
     ensures* writes_back { sem 𝓛 (LendsInTwo T.row items.entry result) }
@@ -21,7 +21,7 @@ fn split_blocks<T, const N: usize>(items: &mut [T], count: usize) -> (&mut [T], 
     items.split_at_mut(count * N)
 }
 
-/// The items that fill whole blocks of `N`, and the rest.
+/// Splits a slice after as many whole blocks of `N` items as fit.
 pub fn split_whole<T, const N: usize>(items: &mut [T]) -> (&mut [T], &mut [T])
     requires { 0 < N }
     ensures* writes_back { sem 𝓛 (LendsInTwo T.row items.entry result) }
@@ -32,7 +32,8 @@ pub fn split_whole<T, const N: usize>(items: &mut [T]) -> (&mut [T], &mut [T])
     split_blocks::<T, N>(items, count)
 }
 
-/// As many whole blocks of `N` as fit, and the rest.
+/// Splits a slice into a view of as many whole blocks of `N` items as fit, and the fewer than `N` items
+/// after them.
 pub fn as_chunks_mut<T, const N: usize>(items: &mut [T]) -> (AsChunksMut<'_, T, N>, &mut [T])
     requires { 0 < N }
     ensures* writes_back { sem 𝓛 (LendsInTwo T.row items.entry (result.0.items, result.1)) }
@@ -45,7 +46,7 @@ pub fn as_chunks_mut<T, const N: usize>(items: &mut [T]) -> (AsChunksMut<'_, T, 
     (AsChunksMut { items: whole }, rest)
 }
 
-/// Whole blocks of `N` items, seen as the list of their items.
+/// A mutable view of a slice as whole blocks of `N` items.
 #[derive(Drop)]
 pub struct AsChunksMut<'a, T, const N: usize> {
     /// The items of all blocks.
@@ -53,6 +54,7 @@ pub struct AsChunksMut<'a, T, const N: usize> {
     pub ghost whole: { length items.now % N ≡ 0 },
 }
 
+/// Reborrows the blocks for reading.
 impl<'a, 'b, T, const N: usize> From<&'a AsChunksMut<'b, T, N>> for AsChunks<'a, T, N> {
     ghost from_gives = { λ m v. v.items.now ≡ m.now.items.now };
 
@@ -64,7 +66,7 @@ impl<'a, 'b, T, const N: usize> From<&'a AsChunksMut<'b, T, N>> for AsChunks<'a,
 impl<'a, T, const N: usize> AsChunksMut<'a, T, N> {
     ghost use Rattle.aead_ciphers_base.specs.AsChunksMut.{KeepsCount, LendsItems, LendsParts};
 
-    /// The blocks of a slice that is known to be whole blocks.
+    /// Creates a view of a slice whose length is a multiple of `N`.
     pub fn from_whole(items: &'a mut [T]) -> Self
         requires { length items.old % N ≡ 0 }
         ensures same_reference { result.items.ghost_name ≡ items.entry.ghost_name }
@@ -73,7 +75,7 @@ impl<'a, T, const N: usize> AsChunksMut<'a, T, N> {
         AsChunksMut { items }
     }
 
-    /// The items of all blocks.
+    /// Returns the items of all blocks.
     #[tactic(auto, using(crate::proofs::BlocksLemmas::joined_blocks))]
     pub fn as_flattened(&self) -> &[T]
         ensures items { result.now ≡ self.now.items.now }
@@ -82,7 +84,7 @@ impl<'a, T, const N: usize> AsChunksMut<'a, T, N> {
         self.items
     }
 
-    /// The items of all blocks, for writing.
+    /// Returns the items of all blocks, for writing.
     pub fn as_flattened_mut(&mut self) -> &mut [T]
         ensures* writes_back { sem 𝓛 (LendsItems T.row N.row self.entry result) }
         ensures items { result.now ≡ self.old.items.now }
@@ -90,7 +92,7 @@ impl<'a, T, const N: usize> AsChunksMut<'a, T, N> {
         self.items
     }
 
-    /// `f` gets the items of all blocks, for writing.
+    /// Calls `f` with the items of all blocks, for writing, and returns what `f` returns.
     pub fn with_flattened_mut<R, F: FnOnce(&mut [T]) -> R>(&mut self, f: F) -> R
         requires { FnOnceTakesAtMut F.FnOnce f self.old.items.now }
         ensures same_reference { self.new.items.ghost_name ≡ self.old.items.ghost_name }
@@ -99,7 +101,7 @@ impl<'a, T, const N: usize> AsChunksMut<'a, T, N> {
         f(self.items)
     }
 
-    /// Hands the items back.
+    /// Consumes the view, and returns the items of all blocks, for writing.
     pub fn into_flattened(self) -> &'a mut [T]
         ensures same_reference { result.ghost_name ≡ self.entry.items.ghost_name }
         ensures items { result.now ≡ self.entry.items.now }
@@ -107,7 +109,7 @@ impl<'a, T, const N: usize> AsChunksMut<'a, T, N> {
         self.items
     }
 
-    /// The same blocks, for a shorter time.
+    /// Reborrows the blocks for writing.
     pub fn as_mut(&mut self) -> AsChunksMut<'_, T, N>
         ensures* writes_back { sem 𝓛 (LendsItems T.row N.row self.entry result.items) }
         ensures items { result.items.now ≡ self.old.items.now }
@@ -117,14 +119,14 @@ impl<'a, T, const N: usize> AsChunksMut<'a, T, N> {
         }
     }
 
-    /// The same blocks, for reading.
+    /// Reborrows the blocks for reading.
     pub fn as_ref(&self) -> AsChunks<'_, T, N>
         ensures { result.items.now ≡ self.now.items.now }
     {
         AsChunks::from(self)
     }
 
-    /// The first `mid` blocks, and the blocks after them.
+    /// Divides the view in two: the first `mid` blocks, and the blocks after them.
     pub fn split_at_mut(&mut self, mid: usize) -> (AsChunksMut<'_, T, N>, AsChunksMut<'_, T, N>)
         requires { mid ≤ length (blocks N self.old.items.now) }
         ensures* writes_back { sem 𝓛 (LendsParts T.row N.row self.entry result.0.items result.1.items) }
@@ -137,7 +139,7 @@ impl<'a, T, const N: usize> AsChunksMut<'a, T, N> {
         (AsChunksMut { items: before }, AsChunksMut { items: after })
     }
 
-    /// Views of `CHUNK_LEN` blocks each, in order; the last may have fewer.
+    /// Returns an iterator over views of `CHUNK_LEN` blocks each, in order. The last may have fewer.
     pub fn chunks_mut<const CHUNK_LEN: usize>(&mut self) -> AsChunksMutChunksMutIter<'_, T, N>
         requires some { 0 < CHUNK_LEN }
         requires fits { CHUNK_LEN * N < 2 ^ 64 }
@@ -149,7 +151,7 @@ impl<'a, T, const N: usize> AsChunksMut<'a, T, N> {
     }
 }
 
-/// Views of `CHUNK_LEN` blocks of a slice of whole blocks, in order.
+/// Returns an iterator over views of `CHUNK_LEN` blocks each of a slice of whole blocks, in order.
 #[tactic(auto, using(crate::proofs::BlocksLemmas::whole_size))]
 fn in_chunks<T, const N: usize, const CHUNK_LEN: usize>(
     items: &mut [T],
@@ -166,10 +168,10 @@ fn in_chunks<T, const N: usize, const CHUNK_LEN: usize>(
     }
 }
 
-/// The views that `AsChunksMut::chunks_mut` gives.
+/// The iterator that `AsChunksMut::chunks_mut` returns.
 #[derive(Drop)]
 pub struct AsChunksMutChunksMutIter<'a, T, const N: usize> {
-    /// The items that are left, in chunks of whole blocks.
+    /// The remaining items, in chunks of whole blocks.
     pub chunks: std::slice::ChunksMut<'a, T>,
     pub ghost some: { 0 < chunks_mut_size chunks },
     pub ghost whole_size: { 0 < N → chunks_mut_size chunks % N ≡ 0 },
