@@ -6,6 +6,7 @@ pub mod NumberLemmas
 pub mod NumberedLemmas
 pub mod PacketLemmas
 pub mod ReceivingLemmas
+pub mod RoomLemmas
 pub mod RunLemmas
 pub mod SenderRuns
 pub mod SentLemmas

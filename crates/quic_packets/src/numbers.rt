@@ -14,7 +14,7 @@ use crate::packet::NUMBERS_END;
 ///
 /// Returns `None` if 4 bytes are too few, if `number` is not above `largest_acknowledged`, or if `number` is 2^62 or more.
 pub fn number_len(number: u64, largest_acknowledged: Option<u64>) -> Option<usize>
-    ensures answers { IsSome result ↔ (IsNumber number × IsAbove number largest_acknowledged
+    ensures encodable { IsSome result ↔ (IsNumber number × IsAbove number largest_acknowledged
         × Represents 4 (unacknowledged number largest_acknowledged)) }
     ensures represents { IfSome result (λ n. Represents n (unacknowledged number largest_acknowledged)) }
     ensures fewest { IfSome result (λ n. (k : ℕ) → 0 < k

@@ -1,6 +1,6 @@
 //! Sending packets, each in one call, over key updates (RFC 9001 sections 5 and 6).
 
-ghost use Rattle.std.specs.Prelude.{◌≡◌, ◌≢◌, ◌+◌, ◌-◌, ◌^◌, ◌<◌, ◌≤◌, ◌↔◌, true, false, min, length, IsOk, IfOk, IsErrOf, IsOkUnless, IsSome, IfSome, IsTrue, OnOk, OnErr};
+ghost use Rattle.std.specs.Prelude.{◌≡◌, ℕ, ◌≢◌, ◌+◌, ◌-◌, ◌^◌, ◌<◌, ◌≤◌, ◌↔◌, true, false, min, length, IsOk, IfOk, IsErrOf, IsOkUnless, IsSome, IfSome, IsTrue, OnOk, OnErr};
 ghost use Rattle.aead_ciphers.specs.Algorithm.{key_len};
 ghost use Rattle.aead_ciphers.specs.Gcm.{Fits};
 ghost use Rattle.aead_ciphers.specs.Packet.{PacketFits};
@@ -127,10 +127,13 @@ impl Sender {
     ///
     /// Returns `None` if `send` cannot send the number: no number is left, 4 bytes are too few, or the number is not above
     /// `largest_acknowledged`.
+    #[tactic(auto, using(crate::proofs::RoomLemmas::only_room))]
     pub fn next_number_len(&self, largest_acknowledged: Option<u64>) -> Option<usize>
-        ensures answers { IsSome result
+        ensures encodable { IsSome result
             ↔ (IsNumber self.now.key.next × IsEncodable self.now.key.next largest_acknowledged) }
         ensures room { IfSome result (λ n. IsRoom self.now.key.next largest_acknowledged 0 n) }
+        ensures only_room { IfSome result (λ n. (start end : ℕ)
+            → IsRoom self.now.key.next largest_acknowledged start end → end ≡ start + n) }
         ensures few { IfSome result (λ n. n ≤ 4) }
     {
         number_len(self.key.next_number(), largest_acknowledged)

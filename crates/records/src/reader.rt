@@ -184,7 +184,7 @@ impl Reader {
         ensures kept { IfErr result (LeavesRefused self.old.key self.old.number
             (slice_range bytes.old at end) filled bytes.old bytes.new) }
         ensures closed { IsTrue self.old.is_closed → IsErrOf result RecordError.Closed }
-        ensures stands { IfErr result (λ error. self.new ≡ after_error self.old error) }
+        ensures closes { IfErr result (λ error. self.new ≡ after_error self.old error) }
     {
         if self.is_closed {
             return Err(RecordError::Closed);
@@ -211,7 +211,7 @@ impl Reader {
     pub fn read<'a>(&mut self, bytes: &'a mut [u8]) -> Result<(ContentType, &'a [u8]), RecordError>
         ensures reads { Reads self.old self.new bytes.old (lent_content result) }
         ensures closed { IsTrue self.old.is_closed → IsErrOf result RecordError.Closed }
-        ensures stands { IfErr result (λ error. self.new ≡ after_error self.old error) }
+        ensures closes { IfErr result (λ error. self.new ≡ after_error self.old error) }
     {
         let end = bytes.len();
         let (content_type, len) = self.gather(bytes, 0, 0, end)?;

@@ -151,7 +151,7 @@ impl Writer {
         ensures counted { OnOk result
             (self.new ≡ record self.old { number = self.old.number + 1 }) }
         ensures kept { OnErr result (bytes.new ≡ bytes.old) }
-        ensures stands { OnErr result (self.new ≡ self.old) }
+        ensures unchanged { OnErr result (self.new ≡ self.old) }
     {
         if self.number >= self.limit {
             return Err(RecordError::SequenceEnded);

@@ -1,7 +1,9 @@
 //! One end of a QUIC connection under its 1-RTT keys: each packet is sent and received in one call.
 
-ghost use Rattle.std.specs.Prelude.{◌≡◌, ℕ, ◌+◌, ◌≤◌, length, IfOk, OnOk, OnErr, IsErrOf};
-ghost use Rattle.quic_packets.specs.Sending.{IsRoom, IsSent, after_send};
+ghost use Rattle.std.specs.Prelude.{◌≡◌, ℕ, ◌+◌, ◌<◌, ◌≤◌, ◌↔◌, List, length, slice_index, IsOk, IfOk, OnOk, OnErr, IsErrOf};
+ghost use Rattle.quic_packets.specs.Header.{HasSample};
+ghost use Rattle.quic_packets.specs.Receiving.{IsAuthentic, IsInTurn as TakesTurn, Reads, reserved_bits};
+ghost use Rattle.quic_packets.specs.Sending.{IsInTurn, IsRoom, IsSealable, IsSent, after_send};
 ghost use Rattle.quic_packets.specs.Space.{IsNew, Marks};
 
 use quic_packets::{Failures, PacketError, Receiver, Sender, Space};
@@ -25,6 +27,8 @@ pub fn send(
     packet: &mut [u8],
     largest_acknowledged: Option<u64>,
 ) -> Result<u64, PacketError>
+    ensures accepted { IsOk result ↔ ((end : ℕ) × IsSealable 9 end packet.old
+        × IsInTurn sender.old largest_acknowledged 9 end) }
     ensures sent { OnOk result ((end : ℕ) × IsRoom sender.old.key.next largest_acknowledged 9 end
         × IsSent sender.old 9 end packet.old packet.new) }
     ensures number { IfOk result (λ n. n ≡ sender.old.key.next) }
@@ -41,8 +45,14 @@ pub fn send(
     )
 }
 
-/// Receives a packet, and returns where its payload stands in it.
+/// Receives a packet, and returns the range of its payload.
 pub fn receive(incoming: &mut Incoming, packet: &mut [u8]) -> Result<Range<usize>, PacketError>
+    ensures accepted { incoming.old.failures.count < incoming.old.failures.limit
+        → HasSample 9 (length packet.old) → (plain : List ℕ) × (number : ℕ)
+        × Reads incoming.old.receiver.header incoming.old.space.next 9 packet.old plain number
+        × (IsOk result ↔ (IsAuthentic incoming.old.receiver 9 plain number
+        × (reserved_bits (slice_index plain 0) ≡ 0) × IsNew incoming.old.space number
+        × TakesTurn incoming.old.receiver (slice_index plain 0) number)) }
     ensures payload { IfOk result (λ r. (r.start ≤ r.end) × (r.end + 16 ≡ length packet.old)) }
     ensures counted { OnOk result ((number : ℕ) × IsNew incoming.old.space number
         × Marks incoming.old.space number incoming.new.space) }

@@ -1,7 +1,9 @@
 //! An end of a TLS 1.3 connection: application data goes out, and the records of a stream come in.
 
-ghost use Rattle.std.specs.Prelude.{◌≡◌, ◌+◌, ◌<◌, ◌≤◌, ◌++◌, ℕ, length, take, slice_range, IsTrue, IsOk, IfOk, IfSome, OnOk, OnErr, vec_len, vec_capacity};
+ghost use Rattle.std.specs.Prelude.{◌≡◌, ◌≢◌, ◌⊎◌, ◌+◌, ◌<◌, ◌≤◌, ◌++◌, ℕ, length, take, slice_range, Err, None, IsTrue, IsOk, IfOk, IfErr, IfSome, OnOk, OnErr, vec_len, vec_capacity};
 ghost use Rattle.records.specs.Record.{Carries, record_at};
+ghost use Rattle.records.specs.Steps.{Reads};
+ghost use Rattle.records.specs.Stream.{BeginsWith, RefusesToClassify};
 
 use records::{Begins, ContentType, Reader, RecordError, RecordKind, Writer, classify};
 
@@ -39,6 +41,15 @@ pub fn receive(
         }))) }
     ensures counted { IfOk result (λ received. IfSome received.1 (λ _. reader.new
         ≡ record reader.old { number = reader.old.number + 1 })) }
+    ensures refused { IfErr result (λ error. RefusesToClassify bytes.old error
+        ⊎ ((kind : RecordKind) × (len : ℕ) × BeginsWith bytes.old (Begins.Record kind len)
+        × (kind ≢ RecordKind.ChangeCipherSpec)
+        × (kind ≡ RecordKind.Protected → Reads reader.old reader.new (slice_range bytes.old 0 len)
+        (Err error))
+        × (kind ≢ RecordKind.Protected → error ≡ RecordError.UnexpectedRecord))) }
+    ensures nothing { IfOk result (λ received. received.1 ≡ None
+        → ((received.0 ≡ 0) × (n : ℕ) × BeginsWith bytes.old (Begins.MoreNeeded n))
+        ⊎ BeginsWith bytes.old (Begins.Record RecordKind.ChangeCipherSpec received.0)) }
     ensures closed { IsTrue reader.old.is_closed → reader.new ≡ reader.old }
 {
     match classify(bytes)? {

@@ -81,7 +81,7 @@ impl<N: NonceSequence> OpeningKey<N> {
             ≡ gcm_decrypted (aes self.old.key.bytes) nonce (drop ciphertext_and_tag.start (take (length in_out.old - 16) in_out.old)))) }
         ensures refused { OnErr result (in_out.new ≡ in_out.old) }
         ensures gives { OnOk result (N.gives self.old.sequence self.new.sequence) }
-        ensures stands { OnErr result
+        ensures after_error { OnErr result
             (N.refuses self.old.sequence self.new.sequence ⊎ N.gives self.old.sequence self.new.sequence) }
     {
         let nonce = self.nonce_sequence.advance()?;
@@ -108,7 +108,7 @@ impl<N: NonceSequence> OpeningKey<N> {
             ≡ gcm_decrypted (aes self.old.key.bytes) nonce (take (length in_out.old - 16) in_out.old))) }
         ensures refused { OnErr result (in_out.new ≡ in_out.old) }
         ensures gives { OnOk result (N.gives self.old.sequence self.new.sequence) }
-        ensures stands { OnErr result
+        ensures after_error { OnErr result
             (N.refuses self.old.sequence self.new.sequence ⊎ N.gives self.old.sequence self.new.sequence) }
     {
         self.open_within_to_front(aad, in_out, 0..)
@@ -142,7 +142,7 @@ impl<N: NonceSequence> OpeningKey<N> {
             ≡ gcm_decrypted (aes self.old.key.bytes) nonce (packet_message header_len packet.old))) }
         ensures refused { OnErr result (packet.new ≡ packet.old) }
         ensures gives { OnOk result (N.gives self.old.sequence self.new.sequence) }
-        ensures stands { OnErr result
+        ensures after_error { OnErr result
             (N.refuses self.old.sequence self.new.sequence ⊎ N.gives self.old.sequence self.new.sequence) }
     {
         self.key
@@ -180,7 +180,7 @@ impl<N: NonceSequence> OpeningKey<N> {
         ensures plaintext { IfOk result (λ plaintext. UnderNext (N.is_next self.old.sequence) (λ nonce.
             plaintext.now ≡ gcm_decrypted (aes self.old.key.bytes) nonce (drop ciphertext_and_tag.start (take (length in_out.old - 16) in_out.old)))) }
         ensures gives { OnOk result (N.gives self.old.sequence self.new.sequence) }
-        ensures stands { OnErr result
+        ensures after_error { OnErr result
             (N.refuses self.old.sequence self.new.sequence ⊎ N.gives self.old.sequence self.new.sequence) }
     {
         let opened = self.open_within_to_front(aad, in_out, ciphertext_and_tag);
@@ -204,7 +204,7 @@ impl<N: NonceSequence> OpeningKey<N> {
         ensures plaintext { IfOk result (λ plaintext. UnderNext (N.is_next self.old.sequence) (λ nonce.
             plaintext.now ≡ gcm_decrypted (aes self.old.key.bytes) nonce (take (length in_out.old - 16) in_out.old))) }
         ensures gives { OnOk result (N.gives self.old.sequence self.new.sequence) }
-        ensures stands { OnErr result
+        ensures after_error { OnErr result
             (N.refuses self.old.sequence self.new.sequence ⊎ N.gives self.old.sequence self.new.sequence) }
     {
         let opened = self.open_in_place_to_front(aad, in_out);
@@ -234,7 +234,7 @@ impl<N: NonceSequence> OpeningKey<N> {
         ensures plaintext { IfOk result (λ plaintext. UnderNext (N.is_next self.old.sequence) (λ nonce. plaintext.now
             ≡ gcm_decrypted (aes self.old.key.bytes) nonce (packet_message header_len packet.old))) }
         ensures gives { OnOk result (N.gives self.old.sequence self.new.sequence) }
-        ensures stands { OnErr result
+        ensures after_error { OnErr result
             (N.refuses self.old.sequence self.new.sequence ⊎ N.gives self.old.sequence self.new.sequence) }
     {
         let opened = self.open_packet_in_place_after_header(packet, header_len);

@@ -94,7 +94,7 @@ impl<N: NonceSequence> SealingKey<N> {
         ensures gives { OnOk result (N.gives self.old.sequence self.new.sequence) }
         ensures refuses { Fits (length (aad_bytes aad.entry)) (length (B.bytes in_out.old))
             → ¬ B.may_refuse in_out.old → OnErr result (N.refuses self.old.sequence self.new.sequence) }
-        ensures stands { OnErr result ((self.new ≡ self.old)
+        ensures after_error { OnErr result ((self.new ≡ self.old)
             ⊎ N.refuses self.old.sequence self.new.sequence ⊎ N.gives self.old.sequence self.new.sequence) }
     {
         in_out.grow_by_tag()?;
@@ -135,7 +135,7 @@ impl<N: NonceSequence> SealingKey<N> {
         ensures gives { OnOk result (N.gives self.old.sequence self.new.sequence) }
         ensures refuses { Fits (length (aad_bytes aad.entry)) (length in_out.old)
             → OnErr result (N.refuses self.old.sequence self.new.sequence) }
-        ensures stands { OnErr result
+        ensures after_error { OnErr result
             (N.refuses self.old.sequence self.new.sequence ⊎ N.gives self.old.sequence self.new.sequence) }
     {
         let nonce = self.nonce_sequence.advance()?;
@@ -172,7 +172,7 @@ impl<N: NonceSequence> SealingKey<N> {
         ensures gives { OnOk result (N.gives self.old.sequence self.new.sequence) }
         ensures refuses { PacketFits header_len (length packet.old)
             → OnErr result (N.refuses self.old.sequence self.new.sequence) }
-        ensures stands { OnErr result ((self.new ≡ self.old)
+        ensures after_error { OnErr result ((self.new ≡ self.old)
             ⊎ N.refuses self.old.sequence self.new.sequence ⊎ N.gives self.old.sequence self.new.sequence) }
     {
         if !has_room(packet, header_len) {
