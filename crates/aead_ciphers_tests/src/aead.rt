@@ -45,61 +45,63 @@ fn keys_of_other_lengths_are_refused(rt: HostRuntime) {
 }
 
 /// Seals with a separate tag, and opens.
-fn seals(rt: &impl Abort, alloc: Global, case: &Case) -> Result<(), Fail> {
-    let mut in_out = case.message.to_vec(alloc)?;
+fn seals(rt: &impl Abort, case: &Case) -> Result<(), Fail> {
+    let mut in_out = case.message.clone()?;
     let tag = key(case)?.seal_in_place_separate_tag(nonce(case), aad(case), &mut in_out)?;
-    same(rt, &in_out, case.ciphertext, case.name);
+    same(rt, &in_out, &case.ciphertext, case.name);
     same(rt, tag.as_ref(), &case.tag, case.name);
     let key = key(case)?;
     let plaintext = key.open_in_place_separate_tag(nonce(case), aad(case), tag, &mut in_out, 0..)?;
-    same(rt, plaintext, case.message, case.name);
+    same(rt, plaintext, &case.message, case.name);
     Ok(())
 }
 
 /// Seals with the tag appended, and opens.
 fn appends(rt: &impl Abort, alloc: Global, case: &Case) -> Result<(), Fail> {
-    let mut in_out = case.message.to_vec(alloc)?;
+    let mut in_out = case.message.clone()?;
     key(case)?.seal_in_place_append_tag(nonce(case), aad(case), &mut in_out)?;
     same(rt, &in_out, &sealed(alloc, case, &[])?, case.name);
     let key = key(case)?;
     let plaintext = key.open_in_place(nonce(case), aad(case), &mut in_out)?;
-    same(rt, plaintext, case.message, case.name);
+    same(rt, plaintext, &case.message, case.name);
     Ok(())
 }
 
 #[test]
 fn gcm_spec_cases(rt: HostRuntime) -> Result<(), Fail> {
-    for case in &CASES {
-        seals(&rt, rt.alloc(), case)?;
-        appends(&rt, rt.alloc(), case)?;
+    for line in CASES {
+        let case = Case::parse(rt.alloc(), line)?;
+        seals(&rt, &case)?;
+        appends(&rt, rt.alloc(), &case)?;
     }
     Ok(())
 }
 
-/// Opens test case 4 from byte 4 on.
-fn opens_at_4(rt: &impl Abort, in_out: &mut [u8]) -> Result<(), Fail> {
-    let key = key(&CASE_4)?;
-    let plaintext = key.open_within(nonce(&CASE_4), aad(&CASE_4), in_out, 4..)?;
-    same(rt, plaintext, CASE_4.message, "the plaintext");
+/// Opens a case from byte 4 on.
+fn opens_at_4(rt: &impl Abort, case: &Case, in_out: &mut [u8]) -> Result<(), Fail> {
+    let key = key(case)?;
+    let plaintext = key.open_within(nonce(case), aad(case), in_out, 4..)?;
+    same(rt, plaintext, &case.message, "the plaintext");
     Ok(())
 }
 
 /// Opens the same, and writes over the plaintext.
-fn opens_and_writes(in_out: &mut [u8]) -> Result<(), Fail> {
-    let key = key(&CASE_4)?;
-    let plaintext = key.open_within(nonce(&CASE_4), aad(&CASE_4), in_out, 4..)?;
+fn opens_and_writes(case: &Case, in_out: &mut [u8]) -> Result<(), Fail> {
+    let key = key(case)?;
+    let plaintext = key.open_within(nonce(case), aad(case), in_out, 4..)?;
     plaintext.fill(0x11);
     Ok(())
 }
 
 #[test]
 fn gcm_spec_case_4_within(rt: HostRuntime) -> Result<(), Fail> {
-    let opened = opened_at_4(rt.alloc(), &CASE_4)?;
-    let mut in_out = sealed(rt.alloc(), &CASE_4, &[0; 4])?;
-    opens_at_4(&rt, &mut in_out)?;
+    let case = Case::parse(rt.alloc(), CASE_4)?;
+    let opened = opened_at_4(rt.alloc(), &case)?;
+    let mut in_out = sealed(rt.alloc(), &case, &[0; 4])?;
+    opens_at_4(&rt, &case, &mut in_out)?;
     same(&rt, &in_out, &opened, "the buffer");
-    let mut in_out = sealed(rt.alloc(), &CASE_4, &[0; 4])?;
-    opens_and_writes(&mut in_out)?;
+    let mut in_out = sealed(rt.alloc(), &case, &[0; 4])?;
+    opens_and_writes(&case, &mut in_out)?;
     holds(
         &rt,
         in_out.as_slice().starts_with(&[0x11; 60]),
@@ -147,24 +149,27 @@ fn is_refused_apart(
 
 #[test]
 fn false_tags_leave_the_buffer(rt: HostRuntime) -> Result<(), Fail> {
-    let mut in_out = sealed(rt.alloc(), &CASE_4, &[0; 4])?;
+    let case = Case::parse(rt.alloc(), CASE_4)?;
+    let mut in_out = sealed(rt.alloc(), &case, &[0; 4])?;
     if let Some(last) = in_out.last_mut() {
         *last ^= 1;
     }
-    is_refused(&rt, rt.alloc(), &CASE_4, &mut in_out, 4)?;
-    let mut in_out = CASE_2.ciphertext.to_vec(rt.alloc())?;
-    is_refused_apart(&rt, rt.alloc(), &CASE_2, false_tag(&CASE_2), &mut in_out)
+    is_refused(&rt, rt.alloc(), &case, &mut in_out, 4)?;
+    let case = Case::parse(rt.alloc(), CASE_2)?;
+    let mut in_out = case.ciphertext.clone()?;
+    is_refused_apart(&rt, rt.alloc(), &case, false_tag(&case), &mut in_out)
 }
 
 #[test]
 fn attached_tag_alone(rt: HostRuntime) -> Result<(), Fail> {
-    is_refused(&rt, rt.alloc(), &CASE_1, &mut [7; 15], 0)?;
-    let mut tag = CASE_1.tag;
-    is_refused(&rt, rt.alloc(), &CASE_1, &mut tag, 1)?;
-    let key = key(&CASE_1)?;
-    let plaintext = key.open_within(nonce(&CASE_1), aad(&CASE_1), &mut tag, 0..)?;
+    let case = Case::parse(rt.alloc(), CASE_1)?;
+    is_refused(&rt, rt.alloc(), &case, &mut [7; 15], 0)?;
+    let mut tag = case.tag;
+    is_refused(&rt, rt.alloc(), &case, &mut tag, 1)?;
+    let key = key(&case)?;
+    let plaintext = key.open_within(nonce(&case), aad(&case), &mut tag, 0..)?;
     same(&rt, plaintext, &[], "no plaintext");
-    same(&rt, &tag, &CASE_1.tag, "the tag stays");
+    same(&rt, &tag, &case.tag, "the tag stays");
     Ok(())
 }
 
@@ -208,22 +213,23 @@ fn seals_each_front(rt: &impl Abort, alloc: Global, case: &Case) -> Result<(), F
 
 #[test]
 fn every_length_seals_as_reference(rt: HostRuntime) -> Result<(), Fail> {
-    for case in [&CASE_4, &CASE_16] {
-        seals_each_front(&rt, rt.alloc(), case)?;
+    for line in [CASE_4, CASE_16] {
+        seals_each_front(&rt, rt.alloc(), &Case::parse(rt.alloc(), line)?)?;
     }
     Ok(())
 }
 
 #[test]
 fn gcm_spec_case_4_as_a_packet(rt: HostRuntime) -> Result<(), Fail> {
-    let (key, header_len) = (key(&CASE_4)?, CASE_4.aad.len());
-    let mut in_out = packet(rt.alloc(), &CASE_4, [0; 16])?;
-    key.seal_packet_in_place(nonce(&CASE_4), &mut in_out, header_len)?;
-    let wanted = sealed(rt.alloc(), &CASE_4, CASE_4.aad)?;
+    let case = Case::parse(rt.alloc(), CASE_4)?;
+    let (key, header_len) = (key(&case)?, case.aad.len());
+    let mut in_out = packet(&case, [0; 16])?;
+    key.seal_packet_in_place(nonce(&case), &mut in_out, header_len)?;
+    let wanted = sealed(rt.alloc(), &case, &case.aad)?;
     same(&rt, &in_out, &wanted, "header, ciphertext and tag");
-    let opened = key.open_packet_in_place_after_header(nonce(&CASE_4), &mut in_out, header_len);
+    let opened = key.open_packet_in_place_after_header(nonce(&case), &mut in_out, header_len);
     holds(&rt, opened == Ok(60), "the message's length");
-    let wanted = packet(rt.alloc(), &CASE_4, CASE_4.tag)?;
+    let wanted = packet(&case, case.tag)?;
     same(&rt, &in_out, &wanted, "header, message and tag");
     Ok(())
 }

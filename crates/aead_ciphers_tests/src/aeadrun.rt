@@ -235,15 +235,17 @@ fn answers(rt: &impl Abort, alloc: Global, input: &[u8], printed: &[u8], status:
 }
 
 /// The text with bytes in place of their names: of test cases 4 and 2, and a block of zeros.
-fn filled(alloc: Global, text: &str) -> Result<String, AllocError> {
-    let mut filled = with_tags(alloc, text)?;
+fn filled(alloc: Global, text: &str) -> Result<String, Fail> {
+    let case_2 = Case::parse(alloc, CASE_2)?;
+    let case_4 = Case::parse(alloc, CASE_4)?;
+    let mut filled = with_tags(alloc, text, &case_4)?;
     for (name, bytes) in [
-        ("<key>", CASE_4.key),
-        ("<aad>", CASE_4.aad),
-        ("<message>", CASE_4.message),
-        ("<ciphertext>", CASE_4.ciphertext),
-        ("<ciphertext_2>", CASE_2.ciphertext),
-        ("<zeros>", CASE_2.message),
+        ("<key>", &case_4.key),
+        ("<aad>", &case_4.aad),
+        ("<message>", &case_4.message),
+        ("<ciphertext>", &case_4.ciphertext),
+        ("<ciphertext_2>", &case_2.ciphertext),
+        ("<zeros>", &case_2.message),
     ] {
         filled = with_bytes(alloc, filled.as_str(), name, bytes)?;
     }
@@ -251,15 +253,15 @@ fn filled(alloc: Global, text: &str) -> Result<String, AllocError> {
 }
 
 /// The text with the nonce of test case 4, and with tags: of the test cases, and test case 4's with its last bit flipped.
-fn with_tags(alloc: Global, text: &str) -> Result<String, AllocError> {
-    let mut filled = with_bytes(alloc, text, "<nonce>", &CASE_4.nonce)?;
-    let mut false_tag = CASE_4.tag;
+fn with_tags(alloc: Global, text: &str, case_4: &Case) -> Result<String, Fail> {
+    let mut filled = with_bytes(alloc, text, "<nonce>", &case_4.nonce)?;
+    let mut false_tag = case_4.tag;
     false_tag[15] ^= 1;
     for (name, tag) in [
-        ("<tag>", CASE_4.tag),
+        ("<tag>", case_4.tag),
         ("<false_tag>", false_tag),
-        ("<tag_1>", CASE_1.tag),
-        ("<tag_2>", CASE_2.tag),
+        ("<tag_1>", Case::parse(alloc, CASE_1)?.tag),
+        ("<tag_2>", Case::parse(alloc, CASE_2)?.tag),
     ] {
         filled = with_bytes(alloc, filled.as_str(), name, &tag)?;
     }
@@ -341,37 +343,36 @@ fn seals(rt: &impl Abort, alloc: Global, case: &Case) -> Result<(), Fail> {
     let input = seal_line(
         alloc,
         algorithm,
-        case.key,
+        &case.key,
         &case.nonce,
-        case.aad,
-        case.message,
+        &case.aad,
+        &case.message,
     )?;
-    let printed = ok_line(alloc, case.ciphertext, &case.tag)?;
+    let printed = ok_line(alloc, &case.ciphertext, &case.tag)?;
     answers(rt, alloc, input.as_bytes(), printed.as_bytes(), 0);
     Ok(())
 }
 
 #[test]
 fn gcm_spec_cases(rt: HostRuntime) -> Result<(), Fail> {
-    for case in &CASES {
-        seals(&rt, rt.alloc(), case)?;
+    for line in CASES {
+        seals(&rt, rt.alloc(), &Case::parse(rt.alloc(), line)?)?;
     }
     Ok(())
 }
 
 fn masks_so(rt: &impl Abort, alloc: Global, row: &Mask) -> Result<(), Fail> {
     let head = format!(in alloc; "mask {}", row.word)?;
-    let input = line(alloc, head.as_str(), &[row.key, row.sample])?;
-    let mask = row.block.get(..5).ok_or("a mask")?;
-    let printed = line(alloc, "ok", &[mask])?;
+    let input = line(alloc, head.as_str(), &[&row.key, &row.sample])?;
+    let printed = line(alloc, "ok", &[&row.mask])?;
     answers(rt, alloc, input.as_bytes(), printed.as_bytes(), 0);
     Ok(())
 }
 
 #[test]
 fn masks(rt: HostRuntime) -> Result<(), Fail> {
-    for row in &MASKS {
-        masks_so(&rt, rt.alloc(), row)?;
+    for line in MASKS {
+        masks_so(&rt, rt.alloc(), &Mask::parse(rt.alloc(), line)?)?;
     }
     Ok(())
 }
@@ -381,7 +382,7 @@ const MEBIBYTE: usize = 1 << 20;
 /// A line that seals a mebibyte of zeros under a key and a nonce of zeros.
 fn line_of_a_mebibyte(alloc: Global) -> Result<String, Fail> {
     let zeros = vec![in alloc; 0; MEBIBYTE]?;
-    Ok(seal_line(alloc, "128", CASE_2.key, &CASE_2.nonce, &[], &zeros)?)
+    Ok(seal_line(alloc, "128", &[0; 16], &[0; 12], &[], &zeros)?)
 }
 
 #[test]

@@ -6,7 +6,8 @@ use aead_ciphers_base::aes::{
     ZERO_BLOCK, sub_planes,
 };
 use aead_ciphers_base::values::Nonce;
-use aead_vectors::fips_197::{C_1_CIPHERTEXT, C_1_KEY, C_3_CIPHERTEXT, C_3_KEY, PLAINTEXT};
+use aead_vectors::fips_197::{CASES, Case};
+use aead_vectors::sp_800_38a::{CTR, CtrCase, ECB};
 use std::process::Abort;
 use std::test::Fail;
 
@@ -18,33 +19,81 @@ fn s_box_of_zero_planes(rt: HostRuntime) {
     holds(&rt, planes == wanted, "planes of 0x63");
 }
 
+/// A key of 16 or 32 bytes.
+fn expanded(key: &[u8]) -> Result<Key, Fail> {
+    let bytes = match key.as_array::<16>() {
+        Some(key) => KeyBytes::AES_128(key),
+        None => KeyBytes::AES_256(key.as_array::<32>().ok_or("a key's length")?),
+    };
+    Ok(Key::new(bytes)?)
+}
+
 /// A block is enciphered so, alone and in each of four places between blocks of zeros.
-fn enciphers_in_each_place(rt: &impl Abort, key: &Key, plaintext: Block, ciphertext: &Block) {
-    let found = key.encrypt_block(plaintext, &mut Work::new());
-    same(rt, &found, ciphertext, "alone");
+fn enciphers_in_each_place(rt: &impl Abort, key: &Key, case: &Case) {
+    let found = key.encrypt_block(case.plaintext, &mut Work::new());
+    same(rt, &found, &case.ciphertext, case.name);
     let of_zeros = key.encrypt_block(ZERO_BLOCK, &mut Work::new());
     for place in 0..4 {
         let mut blocks = [ZERO_BLOCK; 4];
-        blocks[place] = plaintext;
+        blocks[place] = case.plaintext;
         for (k, found) in key.encrypt_four(blocks).iter().enumerate() {
-            let wanted = if k == place { ciphertext } else { &of_zeros };
-            same(rt, found, wanted, "among four");
+            let wanted = if k == place {
+                &case.ciphertext
+            } else {
+                &of_zeros
+            };
+            same(rt, found, wanted, case.name);
         }
     }
 }
 
-#[test]
-fn fips_197_appendix_c_1_in_each_place(rt: HostRuntime) -> Result<(), Fail> {
-    let key = Key::new(KeyBytes::AES_128(&C_1_KEY))?;
-    enciphers_in_each_place(&rt, &key, PLAINTEXT, &C_1_CIPHERTEXT);
-    enciphers_in_each_place(&rt, &key.clone()?, PLAINTEXT, &C_1_CIPHERTEXT);
+/// The same under a key and under its copy.
+fn enciphers(rt: &impl Abort, case: &Case) -> Result<(), Fail> {
+    let key = expanded(&case.key)?;
+    enciphers_in_each_place(rt, &key, case);
+    enciphers_in_each_place(rt, &key.clone()?, case);
     Ok(())
 }
 
 #[test]
-fn fips_197_appendix_c_3_in_each_place(rt: HostRuntime) -> Result<(), Fail> {
-    let key = Key::new(KeyBytes::AES_256(&C_3_KEY))?;
-    enciphers_in_each_place(&rt, &key, PLAINTEXT, &C_3_CIPHERTEXT);
+fn encrypt_block_and_encrypt_four(rt: HostRuntime) -> Result<(), Fail> {
+    for line in CASES {
+        enciphers(&rt, &Case::parse(rt.alloc(), line)?)?;
+    }
+    for line in ECB {
+        enciphers(&rt, &Case::parse(rt.alloc(), line)?)?;
+    }
+    Ok(())
+}
+
+/// The counter whose block is this one.
+fn counter_of(block: &[u8; 16]) -> Counter {
+    let [nonce @ .., a, b, c, d] = *block;
+    let mut counter = Counter::one(Nonce::assume_unique_for_key(nonce));
+    counter.increment_by_less_safe(u32::from_be_bytes([a, b, c, d]).wrapping_sub(1));
+    counter
+}
+
+/// Four blocks are encrypted from the initial counter block on.
+fn encrypts(rt: &impl Abort, case: &CtrCase) -> Result<(), Fail> {
+    let mut bytes = *case
+        .plaintext
+        .as_slice()
+        .as_array::<64>()
+        .ok_or("four blocks")?;
+    let mut counter = counter_of(&case.counter);
+    same(rt, counter.as_ref(), &case.counter, case.name);
+    let in_out = Overlapping::from(bytes.as_mut_slice());
+    expanded(&case.key)?.ctr32_encrypt_within(in_out, &mut counter, &mut Work::new());
+    same(rt, &bytes, &case.ciphertext, case.name);
+    Ok(())
+}
+
+#[test]
+fn ctr32_encrypt_within(rt: HostRuntime) -> Result<(), Fail> {
+    for line in CTR {
+        encrypts(&rt, &CtrCase::parse(rt.alloc(), line)?)?;
+    }
     Ok(())
 }
 

@@ -60,15 +60,15 @@ fn work_of_a_key(rt: HostRuntime) {
 /// Sealing and opening so long a message and AAD takes so many cipher blocks and products.
 fn work_at(
     rt: &impl Abort,
-    alloc: Global,
+    (alloc, case): (Global, &Case),
     (len, aad_len): (usize, usize),
     (blocks, products): (u64, u64),
 ) -> Result<(), Fail> {
     let aad = vec![in alloc; 0; aad_len]?;
     let mut buffer = vec![in alloc; 0; len]?;
-    let (tag, work) = sealed(&CASE_4, &aad, &mut buffer)?;
+    let (tag, work) = sealed(case, &aad, &mut buffer)?;
     worked(rt, &work, blocks, products, "seal");
-    let (is_opened, work) = opened(&CASE_4, &aad, tag, &mut buffer, 0)?;
+    let (is_opened, work) = opened(case, &aad, tag, &mut buffer, 0)?;
     holds(rt, is_opened, "opened");
     worked(rt, &work, blocks, products, "open");
     Ok(())
@@ -76,6 +76,7 @@ fn work_at(
 
 #[test]
 fn work_of_sealing_and_opening(rt: HostRuntime) -> Result<(), Fail> {
+    let case = Case::parse(rt.alloc(), CASE_4)?;
     for (lens, tallies) in [
         ((0, 0), (1, 1)),
         ((1, 1), (2, 3)),
@@ -85,7 +86,7 @@ fn work_of_sealing_and_opening(rt: HostRuntime) -> Result<(), Fail> {
         ((60, 20), (5, 7)),
         ((3073, 20), (194, 196)),
     ] {
-        work_at(&rt, rt.alloc(), lens, tallies)?;
+        work_at(&rt, (rt.alloc(), &case), lens, tallies)?;
     }
     Ok(())
 }
@@ -93,10 +94,11 @@ fn work_of_sealing_and_opening(rt: HostRuntime) -> Result<(), Fail> {
 // A false tag, and a start past the end.
 #[test]
 fn work_of_a_refused_opening(rt: HostRuntime) -> Result<(), Fail> {
+    let case = Case::parse(rt.alloc(), CASE_4)?;
     for (len, start, blocks, products) in [(3073, 0, 1, 196), (64, 4, 1, 7), (4, 5, 0, 0)] {
         let mut buffer = vec![in rt.alloc(); 0; len]?;
         let zeros = Tag::from([0; 16]);
-        let (is_opened, work) = opened(&CASE_4, CASE_4.aad, zeros, &mut buffer, start)?;
+        let (is_opened, work) = opened(&case, &case.aad, zeros, &mut buffer, start)?;
         holds(&rt, !is_opened, "a refusal");
         worked(&rt, &work, blocks, products, "a refusal");
     }
@@ -106,14 +108,15 @@ fn work_of_a_refused_opening(rt: HostRuntime) -> Result<(), Fail> {
 /// Five blocks and seven products to seal and to open, one block and seven products to refuse a false tag.
 #[test]
 fn work_of_gcm_spec_case_4(rt: HostRuntime) -> Result<(), Fail> {
-    let mut buffer = CASE_4.message.to_vec(rt.alloc())?;
-    let (tag, work) = sealed(&CASE_4, CASE_4.aad, &mut buffer)?;
+    let case = Case::parse(rt.alloc(), CASE_4)?;
+    let mut buffer = case.message.clone()?;
+    let (tag, work) = sealed(&case, &case.aad, &mut buffer)?;
     worked(&rt, &work, 5, 7, "seal");
-    let (_, work) = opened(&CASE_4, CASE_4.aad, false_tag(&CASE_4), &mut buffer, 0)?;
+    let (_, work) = opened(&case, &case.aad, false_tag(&case), &mut buffer, 0)?;
     worked(&rt, &work, 1, 7, "a false tag");
-    let (_, work) = opened(&CASE_4, CASE_4.aad, tag, &mut buffer, 0)?;
+    let (_, work) = opened(&case, &case.aad, tag, &mut buffer, 0)?;
     worked(&rt, &work, 5, 7, "open");
-    same(&rt, &buffer, CASE_4.message, "the message");
+    same(&rt, &buffer, &case.message, "the message");
     Ok(())
 }
 
@@ -140,10 +143,10 @@ fn opened_from(
     whole.extend_from_slice(ciphertext)?;
     let mut buffer = whole.clone()?;
     let false_tag = Tag::from(with_last_bit_flipped(tag));
-    let (is_opened, _) = opened(case, case.aad, false_tag, &mut buffer, start)?;
+    let (is_opened, _) = opened(case, &case.aad, false_tag, &mut buffer, start)?;
     holds(rt, !is_opened, "a false tag");
     same(rt, &buffer, &whole, "the buffer stays");
-    let (is_opened, _) = opened(case, case.aad, Tag::from(tag), &mut buffer, start)?;
+    let (is_opened, _) = opened(case, &case.aad, Tag::from(tag), &mut buffer, start)?;
     holds(rt, is_opened, "opened");
     let (front, after) = parts(&buffer, message.len());
     same(rt, front, message, "the message");
@@ -167,9 +170,9 @@ fn every_start(rt: &impl Abort, alloc: Global, case: &Case, len: usize) -> Resul
     let key = aes::Key::new(key_bytes(case)?)?;
     let message = counting(alloc, len)?;
     let ciphertext = reference::ciphertext(alloc, &key, &case.nonce, &message)?;
-    let expected = reference::tag(&key, &case.nonce, case.aad, &ciphertext);
+    let expected = reference::tag(&key, &case.nonce, &case.aad, &ciphertext);
     let mut buffer = message.clone()?;
-    let (tag, _) = sealed(case, case.aad, &mut buffer)?;
+    let (tag, _) = sealed(case, &case.aad, &mut buffer)?;
     same(rt, &buffer, &ciphertext, "the ciphertext");
     same(rt, tag.as_ref(), &expected, "the tag");
     for start in [0, 1, 4, 15, 16, 17, 3071, 3072, 3073] {
@@ -180,18 +183,20 @@ fn every_start(rt: &impl Abort, alloc: Global, case: &Case, len: usize) -> Resul
 
 #[test]
 fn every_byte_at_every_start(rt: HostRuntime) -> Result<(), Fail> {
+    let case = Case::parse(rt.alloc(), CASE_4)?;
     for len in [
         0, 1, 15, 16, 17, 31, 32, 33, 3071, 3072, 3073, 3088, 6143, 6144, 6145,
     ] {
-        every_start(&rt, rt.alloc(), &CASE_4, len)?;
+        every_start(&rt, rt.alloc(), &case, len)?;
     }
     Ok(())
 }
 
 #[test]
 fn every_byte_at_every_start_under_aes_256(rt: HostRuntime) -> Result<(), Fail> {
+    let case = Case::parse(rt.alloc(), CASE_16)?;
     for len in [0, 1, 15, 16, 17, 31, 32, 33] {
-        every_start(&rt, rt.alloc(), &CASE_16, len)?;
+        every_start(&rt, rt.alloc(), &case, len)?;
     }
     Ok(())
 }

@@ -32,7 +32,8 @@ fn opening(case: &Case, count: u64) -> Result<OpeningKey<CounterSequence>, Fail>
 
 #[test]
 fn debug_texts(rt: HostRuntime) -> Result<(), Fail> {
-    let (sealing, opening) = (sealing_once(&CASE_1)?, opening_once(&CASE_1)?);
+    let case = Case::parse(rt.alloc(), CASE_1)?;
+    let (sealing, opening) = (sealing_once(&case)?, opening_once(&case)?);
     holds(
         &rt,
         *sealing.algorithm() == AES_128_GCM,
@@ -68,10 +69,11 @@ fn seals<N: NonceSequence>(
 
 #[test]
 fn seals_while_there_are_nonces(rt: HostRuntime) -> Result<(), Fail> {
+    let case = Case::parse(rt.alloc(), CASE_1)?;
     let nonce = Nonce::assume_unique_for_key([0, 0, 0, 0, 0, 0, 0, 0, 0, 0, 0, 1]);
-    let tag = key(&CASE_1)?.seal_in_place_separate_tag(nonce, Aad::empty(), &mut [])?;
-    let mut sealing = sealing(&CASE_1, 2)?;
-    seals(&rt, &mut sealing, Aad::empty(), Some(&CASE_1.tag));
+    let tag = key(&case)?.seal_in_place_separate_tag(nonce, Aad::empty(), &mut [])?;
+    let mut sealing = sealing(&case, 2)?;
+    seals(&rt, &mut sealing, Aad::empty(), Some(&case.tag));
     seals(&rt, &mut sealing, Aad::empty(), Some(tag.as_ref()));
     seals(&rt, &mut sealing, Aad::empty(), None);
     seals(&rt, &mut sealing, Aad::empty(), None);
@@ -80,45 +82,48 @@ fn seals_while_there_are_nonces(rt: HostRuntime) -> Result<(), Fail> {
 
 #[test]
 fn a_refused_opening_spends_its_nonce(rt: HostRuntime) -> Result<(), Fail> {
-    let mut tag = CASE_1.tag;
-    let opened = opening(&CASE_1, 2)?.open_in_place_to_front(Aad::empty(), &mut tag);
+    let case = Case::parse(rt.alloc(), CASE_1)?;
+    let mut tag = case.tag;
+    let opened = opening(&case, 2)?.open_in_place_to_front(Aad::empty(), &mut tag);
     holds(&rt, opened == Ok(0), "no message");
-    let mut opening = opening(&CASE_1, 2)?;
+    let mut opening = opening(&case, 2)?;
     let mut short = [0; 15];
     let opened = opening.open_in_place(Aad::empty(), &mut short);
     holds(&rt, opened.is_err(), "no tag");
     let opened = opening.open_in_place_to_front(Aad::empty(), &mut tag);
     holds(&rt, opened.is_err(), "the second nonce");
-    same(&rt, &tag, &CASE_1.tag, "the tag stays");
+    same(&rt, &tag, &case.tag, "the tag stays");
     Ok(())
 }
 
 #[test]
 fn no_room_spends_no_nonce(rt: HostRuntime) -> Result<(), Fail> {
-    let mut sealing = sealing(&CASE_1, 1)?;
+    let case = Case::parse(rt.alloc(), CASE_1)?;
+    let mut sealing = sealing(&case, 1)?;
     let mut short = ArrayVec::<u8, 15>::new();
     let sealed = sealing.seal_in_place_append_tag(Aad::empty(), &mut short);
     holds(&rt, sealed.is_err() && short.is_empty(), "no room");
     let mut in_out = Vec::new(rt.alloc());
     sealing.seal_in_place_append_tag(Aad::empty(), &mut in_out)?;
-    same(&rt, &in_out, &CASE_1.tag, "the tag");
+    same(&rt, &in_out, &case.tag, "the tag");
     Ok(())
 }
 
-/// Appending to the message of test case 4 succeeds, or leaves the message.
+/// Appending to the message of a case succeeds, or leaves the message.
 fn appends<const CAP: usize>(
     rt: &impl Abort,
+    case: &Case,
     key: &mut SealingKey<OneNonce>,
     in_out: &mut ArrayVec<u8, CAP>,
     wanted: Option<&[u8]>,
 ) -> Result<(), Fail> {
-    in_out.try_extend_from_slice(CASE_4.message)?;
-    let sealed = key.seal_in_place_append_tag(aad(&CASE_4), in_out);
+    in_out.try_extend_from_slice(&case.message)?;
+    let sealed = key.seal_in_place_append_tag(aad(case), in_out);
     holds(rt, sealed.is_ok() == wanted.is_some(), "sealed or refused");
     same(
         rt,
         in_out.as_slice(),
-        wanted.unwrap_or(CASE_4.message),
+        wanted.unwrap_or(&case.message),
         "the buffer",
     );
     Ok(())
@@ -126,54 +131,59 @@ fn appends<const CAP: usize>(
 
 #[test]
 fn gcm_spec_case_4_sealed(rt: HostRuntime) -> Result<(), Fail> {
-    let mut key = sealing_once(&CASE_4)?;
-    appends(&rt, &mut key, &mut ArrayVec::<u8, 75>::new(), None)?;
-    let sealed = sealed(rt.alloc(), &CASE_4, &[])?;
-    appends(&rt, &mut key, &mut ArrayVec::<u8, 76>::new(), Some(&sealed))?;
-    seals(&rt, &mut key, aad(&CASE_4), None);
+    let case = Case::parse(rt.alloc(), CASE_4)?;
+    let mut key = sealing_once(&case)?;
+    appends(&rt, &case, &mut key, &mut ArrayVec::<u8, 75>::new(), None)?;
+    let sealed = sealed(rt.alloc(), &case, &[])?;
+    appends(
+        &rt,
+        &case,
+        &mut key,
+        &mut ArrayVec::<u8, 76>::new(),
+        Some(&sealed),
+    )?;
+    seals(&rt, &mut key, aad(&case), None);
     Ok(())
 }
 
 /// A header that reaches into the room is refused, and spends no nonce.
 #[test]
 fn gcm_spec_case_4_as_a_packet(rt: HostRuntime) -> Result<(), Fail> {
-    let mut key = sealing_once(&CASE_4)?;
-    let mut packet = packet(rt.alloc(), &CASE_4, [0; 16])?;
+    let case = Case::parse(rt.alloc(), CASE_4)?;
+    let mut key = sealing_once(&case)?;
+    let mut packet = packet(&case, [0; 16])?;
     let refused = key.seal_packet_in_place(&mut packet, 81);
     holds(&rt, refused.is_err(), "no room");
-    key.seal_packet_in_place(&mut packet, CASE_4.aad.len())?;
-    let wanted = sealed(rt.alloc(), &CASE_4, CASE_4.aad)?;
+    key.seal_packet_in_place(&mut packet, case.aad.len())?;
+    let wanted = sealed(rt.alloc(), &case, &case.aad)?;
     same(&rt, &packet, &wanted, "header, ciphertext and tag");
     let refused = key.seal_packet_in_place(&mut packet, 0);
     holds(&rt, refused.is_err(), "the nonce is spent");
     Ok(())
 }
 
-/// Opens test case 4 from byte 4 on.
+/// Opens a case from byte 4 on.
 fn opens_at_4(
     rt: &impl Abort,
+    case: &Case,
     key: &mut OpeningKey<OneNonce>,
     packet: &mut [u8],
 ) -> Result<(), Fail> {
-    let plaintext = key.open_within(aad(&CASE_4), packet, 4..)?;
-    same(rt, plaintext, CASE_4.message, "the plaintext");
+    let plaintext = key.open_within(aad(case), packet, 4..)?;
+    same(rt, plaintext, &case.message, "the plaintext");
     Ok(())
 }
 
 #[test]
 fn gcm_spec_case_4_opened_once(rt: HostRuntime) -> Result<(), Fail> {
-    let mut key = opening_once(&CASE_4)?;
-    let mut packet = sealed(rt.alloc(), &CASE_4, &[0; 4])?;
-    opens_at_4(&rt, &mut key, &mut packet)?;
-    same(
-        &rt,
-        &packet,
-        &opened_at_4(rt.alloc(), &CASE_4)?,
-        "the buffer",
-    );
-    let sealed = sealed(rt.alloc(), &CASE_4, &[])?;
+    let case = Case::parse(rt.alloc(), CASE_4)?;
+    let mut key = opening_once(&case)?;
+    let mut packet = sealed(rt.alloc(), &case, &[0; 4])?;
+    opens_at_4(&rt, &case, &mut key, &mut packet)?;
+    same(&rt, &packet, &opened_at_4(rt.alloc(), &case)?, "the buffer");
+    let sealed = sealed(rt.alloc(), &case, &[])?;
     let mut packet = sealed.clone()?;
-    let opened = key.open_within(aad(&CASE_4), &mut packet, 0..);
+    let opened = key.open_within(aad(&case), &mut packet, 0..);
     holds(&rt, opened.is_err(), "the nonce is spent");
     same(&rt, &packet, &sealed, "the buffer stays");
     Ok(())
@@ -182,29 +192,31 @@ fn gcm_spec_case_4_opened_once(rt: HostRuntime) -> Result<(), Fail> {
 /// A header that is longer than the packet is refused, with the nonce spent.
 #[test]
 fn gcm_spec_case_4_opened_as_a_packet(rt: HostRuntime) -> Result<(), Fail> {
-    let mut in_out = sealed(rt.alloc(), &CASE_4, CASE_4.aad)?;
-    let mut key = opening_once(&CASE_4)?;
-    let opened = key.open_packet_in_place_after_header(&mut in_out, CASE_4.aad.len());
+    let case = Case::parse(rt.alloc(), CASE_4)?;
+    let mut in_out = sealed(rt.alloc(), &case, &case.aad)?;
+    let mut key = opening_once(&case)?;
+    let opened = key.open_packet_in_place_after_header(&mut in_out, case.aad.len());
     holds(&rt, opened == Ok(60), "the message's length");
-    let wanted = packet(rt.alloc(), &CASE_4, CASE_4.tag)?;
+    let wanted = packet(&case, case.tag)?;
     same(&rt, &in_out, &wanted, "header, message and tag");
-    let mut key = opening_once(&CASE_4)?;
+    let mut key = opening_once(&case)?;
     let opened = key.open_packet_in_place_after_header(&mut in_out, 97);
     holds(&rt, opened.is_err(), "too long a header");
-    let mut in_out = sealed(rt.alloc(), &CASE_4, CASE_4.aad)?;
-    let opened = key.open_packet_in_place_after_header(&mut in_out, CASE_4.aad.len());
+    let mut in_out = sealed(rt.alloc(), &case, &case.aad)?;
+    let opened = key.open_packet_in_place_after_header(&mut in_out, case.aad.len());
     holds(&rt, opened.is_err(), "the nonce is spent");
     Ok(())
 }
 
 #[test]
 fn gcm_spec_case_4_opened_to_front(rt: HostRuntime) -> Result<(), Fail> {
-    let mut packet = sealed(rt.alloc(), &CASE_4, &[])?;
-    let opened = opening_once(&CASE_4)?.open_within_to_front(aad(&CASE_4), &mut packet, 0..);
+    let case = Case::parse(rt.alloc(), CASE_4)?;
+    let mut packet = sealed(rt.alloc(), &case, &[])?;
+    let opened = opening_once(&case)?.open_within_to_front(aad(&case), &mut packet, 0..);
     holds(&rt, opened == Ok(60), "the message's length");
     holds(
         &rt,
-        packet.as_slice().starts_with(CASE_4.message),
+        packet.as_slice().starts_with(&case.message),
         "the message in front",
     );
     Ok(())

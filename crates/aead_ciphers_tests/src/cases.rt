@@ -26,16 +26,17 @@ pub(crate) fn word(case: &Case) -> &'static str {
     }
 }
 
-pub(crate) fn key_bytes(case: &Case) -> Result<KeyBytes<'static>, Fail> {
-    match case.key.as_array::<16>() {
+pub(crate) fn key_bytes(case: &Case) -> Result<KeyBytes<'_>, Fail> {
+    let key = case.key.as_slice();
+    match key.as_array::<16>() {
         Some(key) => Ok(KeyBytes::AES_128(key)),
-        None => Ok(KeyBytes::AES_256(case.key.as_array::<32>().ok_or("a key's length")?)),
+        None => Ok(KeyBytes::AES_256(key.as_array::<32>().ok_or("a key's length")?)),
     }
 }
 
 /// A fresh key that isn't bound.
 pub(crate) fn unbound_key(case: &Case) -> Result<UnboundKey, Fail> {
-    Ok(UnboundKey::new(algorithm(case), case.key)?)
+    Ok(UnboundKey::new(algorithm(case), &case.key)?)
 }
 
 pub(crate) fn key(case: &Case) -> Result<LessSafeKey, Fail> {
@@ -46,8 +47,8 @@ pub(crate) fn nonce(case: &Case) -> Nonce {
     Nonce::assume_unique_for_key(case.nonce)
 }
 
-pub(crate) fn aad(case: &Case) -> Aad<'static> {
-    Aad::from(case.aad)
+pub(crate) fn aad(case: &Case) -> Aad<'_> {
+    Aad::from(case.aad.as_slice())
 }
 
 /// The tag with its last bit flipped.
@@ -60,15 +61,15 @@ pub(crate) fn false_tag(case: &Case) -> Tag {
 /// Bytes in front, the ciphertext and the tag.
 pub(crate) fn sealed(alloc: Global, case: &Case, front: &[u8]) -> Result<Vec<u8>, Fail> {
     let mut bytes = front.to_vec(alloc)?;
-    bytes.extend_from_slice(case.ciphertext)?;
+    bytes.extend_from_slice(&case.ciphertext)?;
     bytes.extend_from_slice(&case.tag)?;
     Ok(bytes)
 }
 
 /// The AAD as a header, the message, and then the room for the tag, or the tag.
-pub(crate) fn packet(alloc: Global, case: &Case, tag: [u8; MAX_TAG_LEN]) -> Result<Vec<u8>, Fail> {
-    let mut packet = case.aad.to_vec(alloc)?;
-    packet.extend_from_slice(case.message)?;
+pub(crate) fn packet(case: &Case, tag: [u8; MAX_TAG_LEN]) -> Result<Vec<u8>, Fail> {
+    let mut packet = case.aad.clone()?;
+    packet.extend_from_slice(&case.message)?;
     packet.extend_from_slice(&tag)?;
     Ok(packet)
 }
@@ -77,7 +78,7 @@ pub(crate) fn packet(alloc: Global, case: &Case, tag: [u8; MAX_TAG_LEN]) -> Resu
 /// byte after it as it was.
 pub(crate) fn opened_at_4(alloc: Global, case: &Case) -> Result<Vec<u8>, Fail> {
     let before = sealed(alloc, case, &[0; 4])?;
-    let mut bytes = case.message.to_vec(alloc)?;
+    let mut bytes = case.message.clone()?;
     bytes.extend_from_slice(before.get(bytes.len()..).ok_or("a message's length")?)?;
     Ok(bytes)
 }

@@ -3,9 +3,8 @@
 use crate::checks::{holds, same};
 use aead_ciphers_base::chacha::{BLOCK_LEN, Counter, KEY_LEN, Key, Overlapping};
 use aead_ciphers_base::values::{NONCE_LEN, Nonce};
-use aead_vectors::rfc_8439::{
-    A_2_CIPHERTEXT, A_2_KEY, A_2_NONCE, A_2_PLAINTEXT, BLOCK_NONCE, BLOCK_OF_ZEROS, KEY,
-};
+use aead_vectors::rfc_8439::{A_1_VECTOR_1, A_2_VECTOR_2, BLOCK_NONCE, Case, KEY};
+use std::alloc::Global;
 use std::process::Abort;
 use std::test::Fail;
 
@@ -13,37 +12,52 @@ fn zeros() -> Nonce {
     Nonce::assume_unique_for_key([0; NONCE_LEN])
 }
 
+/// The block of a key, a nonce and a block counter of zeros.
+fn block_of_zeros(alloc: Global) -> Result<[u8; BLOCK_LEN], Fail> {
+    let case = Case::parse(alloc, A_1_VECTOR_1)?;
+    Ok(
+        *case
+            .ciphertext
+            .as_slice()
+            .as_array::<BLOCK_LEN>()
+            .ok_or("a block's length")?,
+    )
+}
+
 #[test]
-fn rfc_8439_a_1_vector_1(rt: HostRuntime) {
+fn rfc_8439_a_1_vector_1(rt: HostRuntime) -> Result<(), Fail> {
+    let wanted = block_of_zeros(rt.alloc())?;
     let key = Key::new([0; KEY_LEN]);
     let mut buffer = [0; BLOCK_LEN];
     key.encrypt(
         Counter::from_nonce_and_ctr(zeros(), 0),
         Overlapping::from(&mut buffer[..]),
     );
-    same(&rt, &buffer, &BLOCK_OF_ZEROS, "the block");
+    same(&rt, &buffer, &wanted, "the block");
     let mut block = [0; 16];
     let one = key.encrypt_single_block_with_ctr_0(zeros(), &mut block);
-    same(&rt, &block, &BLOCK_OF_ZEROS[..16], "block 0");
+    same(&rt, &block, &wanted[..16], "block 0");
     words_are(&rt, one, &[1, 0, 0, 0]);
-    same(
-        &rt,
-        &key.new_mask([0; 16]),
-        &BLOCK_OF_ZEROS[..5],
-        "the mask",
-    );
+    same(&rt, &key.new_mask([0; 16]), &wanted[..5], "the mask");
+    Ok(())
 }
 
 // Four blocks that are made side by side, and two that aren't.
 #[test]
-fn rfc_8439_a_2_vector_2(rt: HostRuntime) {
-    let mut buffer = *A_2_PLAINTEXT;
-    let nonce = Nonce::assume_unique_for_key(A_2_NONCE);
-    Key::new(A_2_KEY).encrypt(
+fn rfc_8439_a_2_vector_2(rt: HostRuntime) -> Result<(), Fail> {
+    let case = Case::parse(rt.alloc(), A_2_VECTOR_2)?;
+    let mut buffer = *case
+        .plaintext
+        .as_slice()
+        .as_array::<375>()
+        .ok_or("a plaintext's length")?;
+    let nonce = Nonce::assume_unique_for_key(case.nonce);
+    Key::new(case.key).encrypt(
         Counter::from_nonce_and_ctr(nonce, 1),
         Overlapping::from(&mut buffer[..]),
     );
-    same(&rt, &buffer, &A_2_CIPHERTEXT, "the ciphertext");
+    same(&rt, &buffer, &case.ciphertext, "the ciphertext");
+    Ok(())
 }
 
 #[test]
@@ -52,7 +66,8 @@ fn the_input_stands_259_bytes_behind_the_output(rt: HostRuntime) -> Result<(), F
     buffer[259..].fill(0);
     let in_out = Overlapping::new(&mut buffer[..], 259..)?;
     Key::new([0; KEY_LEN]).encrypt(Counter::from_nonce_and_ctr(zeros(), 0), in_out);
-    same(&rt, &buffer[..16], &BLOCK_OF_ZEROS[..16], "the output");
+    let wanted = block_of_zeros(rt.alloc())?;
+    same(&rt, &buffer[..16], &wanted[..16], "the output");
     same(&rt, &buffer[16..259], &[0x7b; 243], "between them");
     same(&rt, &buffer[259..], &[0; 16], "the input stays");
     Ok(())

@@ -13,53 +13,58 @@ use std::test::Fail;
 use uses::{connection, messages, one_message, streams};
 
 fn key(case: &Case) -> Result<LessSafeKey, Fail> {
-    Ok(LessSafeKey::new(UnboundKey::new(&AES_128_GCM, case.key)?))
+    Ok(LessSafeKey::new(UnboundKey::new(&AES_128_GCM, &case.key)?))
 }
 
 /// Seals a case and opens it again, then with an AAD that isn't its own.
-fn seals_and_opens(rt: &impl Abort, alloc: Global, case: &Case) -> Result<(), Fail> {
-    let key = case.key.as_array::<32>().ok_or("a key of 32 bytes")?;
-    let mut in_out = case.message.to_vec(alloc)?;
-    let tag = one_message::seal(key, case.nonce, case.aad, &mut in_out)?;
-    same(rt, &in_out, case.ciphertext, case.name);
+fn seals_and_opens(rt: &impl Abort, case: &Case) -> Result<(), Fail> {
+    let key = case
+        .key
+        .as_slice()
+        .as_array::<32>()
+        .ok_or("a key of 32 bytes")?;
+    let mut in_out = case.message.clone()?;
+    let tag = one_message::seal(key, case.nonce, &case.aad, &mut in_out)?;
+    same(rt, &in_out, &case.ciphertext, case.name);
     same(rt, tag.as_ref(), &case.tag, case.name);
     let opened = one_message::open(key, case.nonce, &[1], Tag::from(case.tag), &mut in_out);
     assert!(rt; opened.is_err());
-    same(rt, &in_out, case.ciphertext, case.name);
-    one_message::open(key, case.nonce, case.aad, tag, &mut in_out)?;
-    same(rt, &in_out, case.message, case.name);
+    same(rt, &in_out, &case.ciphertext, case.name);
+    one_message::open(key, case.nonce, &case.aad, tag, &mut in_out)?;
+    same(rt, &in_out, &case.message, case.name);
     Ok(())
 }
 
 #[test]
 fn gcm_spec_case_16(rt: HostRuntime) -> Result<(), Fail> {
-    seals_and_opens(&rt, rt.alloc(), &CASE_16)
+    seals_and_opens(&rt, &Case::parse(rt.alloc(), CASE_16)?)
 }
 
-/// Opens a case that stands after its nonce.
+/// Opens a case that comes after its nonce.
 fn opens_behind_nonce(rt: &impl Abort, alloc: Global, case: &Case) -> Result<(), Fail> {
     let mut message = case.nonce.to_vec(alloc)?;
-    message.extend_from_slice(case.ciphertext)?;
+    message.extend_from_slice(&case.ciphertext)?;
     message.extend_from_slice(&case.tag)?;
-    let len = messages::open_behind_nonce(&key(case)?, case.aad, &mut message)?;
+    let len = messages::open_behind_nonce(&key(case)?, &case.aad, &mut message)?;
     assert_eq!(rt; len, case.message.len());
-    assert!(rt; message.as_slice().starts_with(case.message));
-    let opened = messages::open_behind_nonce(&key(case)?, case.aad, &mut message[..NONCE_LEN - 1]);
+    assert!(rt; message.as_slice().starts_with(&case.message));
+    let opened = messages::open_behind_nonce(&key(case)?, &case.aad, &mut message[..NONCE_LEN - 1]);
     assert!(rt; opened.is_err());
     Ok(())
 }
 
 #[test]
 fn gcm_spec_case_4_behind_nonce(rt: HostRuntime) -> Result<(), Fail> {
-    opens_behind_nonce(&rt, rt.alloc(), &CASE_4)
+    opens_behind_nonce(&rt, rt.alloc(), &Case::parse(rt.alloc(), CASE_4)?)
 }
 
 #[test]
 fn marks_the_plaintext(rt: HostRuntime) -> Result<(), Fail> {
-    let nonce = Nonce::assume_unique_for_key(CASE_2.nonce);
+    let case = Case::parse(rt.alloc(), CASE_2)?;
+    let nonce = Nonce::assume_unique_for_key(case.nonce);
     let mut in_out = CASE_2_CIPHERTEXT;
-    let tag = Tag::from(CASE_2.tag);
-    messages::open_and_mark(&key(&CASE_2)?, nonce, Aad::empty(), tag, &mut in_out)?;
+    let tag = Tag::from(case.tag);
+    messages::open_and_mark(&key(&case)?, nonce, Aad::empty(), tag, &mut in_out)?;
     let marked = [7, 0, 0, 0, 0, 0, 0, 0, 0, 0, 0, 0, 0, 0, 0, 0];
     same(&rt, &in_out, &marked, "the mark");
     Ok(())
@@ -72,25 +77,34 @@ fn appends_to<const CAP: usize>(
     in_out: &mut ArrayVec<u8, CAP>,
     has_room: bool,
 ) -> Result<(), Fail> {
-    in_out.try_extend_from_slice(case.message)?;
+    in_out.try_extend_from_slice(&case.message)?;
     let nonce = Nonce::assume_unique_for_key(case.nonce);
-    let appended = messages::append_to_array(&key(case)?, nonce, Aad::from(case.aad), in_out);
+    let appended = messages::append_to_array(
+        &key(case)?,
+        nonce,
+        Aad::from(case.aad.as_slice()),
+        in_out,
+    );
     assert!(rt; appended.is_ok() == has_room);
     if has_room {
-        assert!(rt; in_out.as_slice().starts_with(case.ciphertext));
+        assert!(rt; in_out.as_slice().starts_with(&case.ciphertext));
         assert!(rt; in_out.as_slice().ends_with(&case.tag));
     } else {
-        same(rt, in_out.as_slice(), case.message, "the message stays");
+        same(rt, in_out.as_slice(), &case.message, "the message stays");
     }
     Ok(())
 }
 
 #[test]
 fn appends_to_an_array_vec(rt: HostRuntime) -> Result<(), Fail> {
-    appends_to(&rt, &CASE_1, &mut ArrayVec::<u8, 16>::new(), true)?;
-    appends_to(&rt, &CASE_1, &mut ArrayVec::<u8, 15>::new(), false)?;
-    appends_to(&rt, &CASE_4, &mut ArrayVec::<u8, 76>::new(), true)?;
-    appends_to(&rt, &CASE_4, &mut ArrayVec::<u8, 75>::new(), false)
+    let (case_1, case_4) = (
+        Case::parse(rt.alloc(), CASE_1)?,
+        Case::parse(rt.alloc(), CASE_4)?,
+    );
+    appends_to(&rt, &case_1, &mut ArrayVec::<u8, 16>::new(), true)?;
+    appends_to(&rt, &case_1, &mut ArrayVec::<u8, 15>::new(), false)?;
+    appends_to(&rt, &case_4, &mut ArrayVec::<u8, 76>::new(), true)?;
+    appends_to(&rt, &case_4, &mut ArrayVec::<u8, 75>::new(), false)
 }
 
 /// Sends a message and receives it, and refuses it a second time.
@@ -116,10 +130,16 @@ fn two_ends(rt: HostRuntime) -> Result<(), Fail> {
 }
 
 #[test]
-fn rfc_8439_2_4_2_stream(rt: HostRuntime) {
-    let mut message = *rfc_8439::PLAINTEXT;
-    streams::xor_stream(rfc_8439::KEY, rfc_8439::MESSAGE_NONCE, &mut message);
-    same(&rt, &message, &rfc_8439::CIPHERTEXT, "the ciphertext");
+fn rfc_8439_2_4_2_stream(rt: HostRuntime) -> Result<(), Fail> {
+    let case = rfc_8439::Case::parse(rt.alloc(), rfc_8439::SECTION_2_4_2)?;
+    let mut message = *case
+        .plaintext
+        .as_slice()
+        .as_array::<114>()
+        .ok_or("a plaintext's length")?;
+    streams::xor_stream(case.key, case.nonce, &mut message);
+    same(&rt, &message, &case.ciphertext, case.name);
+    Ok(())
 }
 
 #[test]

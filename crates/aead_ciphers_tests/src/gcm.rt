@@ -133,8 +133,18 @@ fn hash_of<K: UpdateBlocks>(key: &K, aad: &[u8], ciphertext: &[u8]) -> Result<Ta
 
 #[test]
 fn gcm_spec_case_4(rt: HostRuntime) -> Result<(), Fail> {
-    let case = gcm_spec::CASE_4;
-    let hash = hash_of(&key(gcm_spec::CASE_4_H), case.aad, case.ciphertext)?;
+    let case = gcm_spec::Case::parse(rt.alloc(), gcm_spec::CASE_4)?;
+    let aad = case
+        .aad
+        .as_slice()
+        .as_array::<20>()
+        .ok_or("the AAD's length")?;
+    let ciphertext = case
+        .ciphertext
+        .as_slice()
+        .as_array::<60>()
+        .ok_or("the ciphertext's length")?;
+    let hash = hash_of(&key(gcm_spec::CASE_4_H), aad, ciphertext)?;
     same(&rt, hash.as_ref(), &gcm_spec::CASE_4_GHASH, "the hash");
     Ok(())
 }

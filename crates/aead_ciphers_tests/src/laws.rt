@@ -11,7 +11,7 @@ use crate::checks::{holds, same};
 use aead_ciphers::aead::{AES_128_GCM, Aad, LessSafeKey, Nonce, Tag, UnboundKey, Unspecified};
 use aead_ciphers::laws;
 use aead_ciphers_base::aes::{self, Block, EncryptBlock, KeyBytes, Work, ZERO_BLOCK};
-use aead_vectors::gcm_spec::CASE_4;
+use aead_vectors::gcm_spec::{CASE_4, Case};
 use std::process::Abort;
 use std::test::Fail;
 
@@ -82,11 +82,20 @@ fn replaced<const N: usize>(
 
 #[test]
 fn gcm_spec_case_4_with_a_byte_replaced(rt: HostRuntime) -> Result<(), Fail> {
-    let case = CASE_4;
-    let key = case.key.as_array::<16>().ok_or("the key's length")?;
-    let aad = case.aad.as_array::<20>().ok_or("the AAD's length")?;
+    let case = Case::parse(rt.alloc(), CASE_4)?;
+    let key = case
+        .key
+        .as_slice()
+        .as_array::<16>()
+        .ok_or("the key's length")?;
+    let aad = case
+        .aad
+        .as_slice()
+        .as_array::<20>()
+        .ok_or("the AAD's length")?;
     let ciphertext = case
         .ciphertext
+        .as_slice()
         .as_array::<60>()
         .ok_or("the ciphertext's length")?;
     let sealed = Sealed {

@@ -9,7 +9,7 @@ ghost use Rattle.aead_ciphers.specs.Values.{aad_bytes};
 use crate::cases::{aad, key, nonce, sealed, unbound_key};
 use crate::checks::{holds, same};
 use aead_ciphers::aead::{Aad, BoundKey, LessSafeKey, Nonce, OpeningKey, Tag, Unspecified};
-use aead_vectors::gcm_spec::CASE_4;
+use aead_vectors::gcm_spec::{CASE_4, Case};
 use std::alloc::Global;
 use std::ops::RangeFrom;
 use std::process::Abort;
@@ -50,29 +50,18 @@ fn opens_to_front(
         .is_ok()
 }
 
-fn opening_once() -> Result<OpeningKey<OneNonce>, Fail> {
-    Ok(OpeningKey::new(unbound_key(&CASE_4)?, OneNonce::new(CASE_4.nonce)))
+fn opening_once(case: &Case) -> Result<OpeningKey<OneNonce>, Fail> {
+    Ok(OpeningKey::new(unbound_key(case)?, OneNonce::new(case.nonce)))
 }
 
 #[test]
 fn callers_with_clauses(rt: HostRuntime) -> Result<(), Fail> {
-    let key = key(&CASE_4)?;
-    let packet = sealed(rt.alloc(), &CASE_4, &[])?;
-    let opened = opens(
-        &key,
-        nonce(&CASE_4),
-        aad(&CASE_4),
-        &mut packet.clone()?,
-        0..,
-    );
+    let case = Case::parse(rt.alloc(), CASE_4)?;
+    let key = key(&case)?;
+    let packet = sealed(rt.alloc(), &case, &[])?;
+    let opened = opens(&key, nonce(&case), aad(&case), &mut packet.clone()?, 0..);
     holds(&rt, opened, "the call that lends");
-    let opened = opens_to_front(
-        &key,
-        nonce(&CASE_4),
-        aad(&CASE_4),
-        &mut packet.clone()?,
-        0..,
-    );
+    let opened = opens_to_front(&key, nonce(&case), aad(&case), &mut packet.clone()?, 0..);
     holds(&rt, opened, "the call that returns a length");
     Ok(())
 }
@@ -111,11 +100,11 @@ fn fills(opened: Result<&mut [u8], Unspecified>) -> bool {
     }
 }
 
-/// Opens test case 4, and writes over the plaintext.
-fn opens_and_fills(call: Call, in_out: &mut [u8], start: usize) -> Result<bool, Fail> {
-    let key = key(&CASE_4)?;
-    let mut opening = opening_once()?;
-    let (nonce, aad, tag) = (nonce(&CASE_4), aad(&CASE_4), Tag::from(CASE_4.tag));
+/// Opens a case, and writes over the plaintext.
+fn opens_and_fills(case: &Case, call: Call, in_out: &mut [u8], start: usize) -> Result<bool, Fail> {
+    let key = key(case)?;
+    let mut opening = opening_once(case)?;
+    let (nonce, aad, tag) = (nonce(case), aad(case), Tag::from(case.tag));
     Ok(match call {
         Call::SeparateTag => {
             fills(key.open_in_place_separate_tag(nonce, aad, tag, in_out, start..))
@@ -138,13 +127,13 @@ fn is_packet(call: Call) -> bool {
 
 /// What a call opens: bytes up to the start, which are a packet's AAD, and the ciphertext, with the tag after it unless
 /// that is separate.
-fn buffer(alloc: Global, call: Call, start: usize) -> Result<Vec<u8>, Fail> {
+fn buffer(alloc: Global, case: &Case, call: Call, start: usize) -> Result<Vec<u8>, Fail> {
     let front: &[u8] = if is_packet(call) {
-        CASE_4.aad
+        &case.aad
     } else {
         &[0xee; 4]
     };
-    let mut bytes = sealed(alloc, &CASE_4, front.get(..start).ok_or("a start")?)?;
+    let mut bytes = sealed(alloc, case, front.get(..start).ok_or("a start")?)?;
     if let Call::SeparateTag = call {
         bytes.truncate(64);
     }
@@ -152,10 +141,20 @@ fn buffer(alloc: Global, call: Call, start: usize) -> Result<Vec<u8>, Fail> {
 }
 
 /// A call accepts the buffer, which ends as what was written over the plaintext and each other byte as it was.
-fn ends_filled(rt: &impl Abort, alloc: Global, call: Call, start: usize) -> Result<(), Fail> {
-    let mut wanted = buffer(alloc, call, start)?;
+fn ends_filled(
+    rt: &impl Abort,
+    alloc: Global,
+    case: &Case,
+    call: Call,
+    start: usize,
+) -> Result<(), Fail> {
+    let mut wanted = buffer(alloc, case, call, start)?;
     let mut in_out = wanted.clone()?;
-    holds(rt, opens_and_fills(call, &mut in_out, start)?, "accepted");
+    holds(
+        rt,
+        opens_and_fills(case, call, &mut in_out, start)?,
+        "accepted",
+    );
     let header_len = if is_packet(call) { start } else { 0 };
     for byte in wanted.iter_mut().skip(header_len).take(60) {
         *byte = 0x11;
@@ -166,8 +165,9 @@ fn ends_filled(rt: &impl Abort, alloc: Global, call: Call, start: usize) -> Resu
 
 #[test]
 fn a_loan_ends_with_what_was_written(rt: HostRuntime) -> Result<(), Fail> {
+    let case = Case::parse(rt.alloc(), CASE_4)?;
     for (call, start) in CALLS {
-        ends_filled(&rt, rt.alloc(), call, start)?;
+        ends_filled(&rt, rt.alloc(), &case, call, start)?;
     }
     Ok(())
 }
@@ -175,13 +175,13 @@ fn a_loan_ends_with_what_was_written(rt: HostRuntime) -> Result<(), Fail> {
 /// A call refuses a buffer, and leaves each byte.
 fn stays(
     rt: &impl Abort,
-    alloc: Global,
+    (alloc, case): (Global, &Case),
     call: Call,
     before: &[u8],
     start: usize,
 ) -> Result<(), Fail> {
     let mut in_out = before.to_vec(alloc)?;
-    let opened = opens_and_fills(call, &mut in_out, start)?;
+    let opened = opens_and_fills(case, call, &mut in_out, start)?;
     holds(rt, !opened, "refused");
     same(rt, &in_out, before, "the buffer after the refusal");
     Ok(())
@@ -190,16 +190,17 @@ fn stays(
 /// No bytes for a tag, a start past the last one where the call takes one, and a false tag.
 #[test]
 fn a_refused_call_leaves_the_buffer(rt: HostRuntime) -> Result<(), Fail> {
+    let case = Case::parse(rt.alloc(), CASE_4)?;
     for (call, start) in CALLS {
-        let mut bytes = buffer(rt.alloc(), call, start)?;
-        stays(&rt, rt.alloc(), call, &[7; 15], 0)?;
+        let mut bytes = buffer(rt.alloc(), &case, call, start)?;
+        stays(&rt, (rt.alloc(), &case), call, &[7; 15], 0)?;
         if start != 0 {
-            stays(&rt, rt.alloc(), call, &bytes, 65)?;
+            stays(&rt, (rt.alloc(), &case), call, &bytes, 65)?;
         }
         if let Some(last) = bytes.last_mut() {
             *last ^= 1;
         }
-        stays(&rt, rt.alloc(), call, &bytes, start)?;
+        stays(&rt, (rt.alloc(), &case), call, &bytes, start)?;
     }
     Ok(())
 }

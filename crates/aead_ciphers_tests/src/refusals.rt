@@ -3,7 +3,7 @@
 use crate::cases::{aad, key, nonce, sealed, unbound_key};
 use crate::checks::{holds, same};
 use aead_ciphers::aead::{Aad, BoundKey, CounterSequence, LessSafeKey, OpeningKey};
-use aead_vectors::gcm_spec::CASE_4;
+use aead_vectors::gcm_spec::{CASE_4, Case};
 use std::alloc::Global;
 use std::process::Abort;
 use std::test::Fail;
@@ -18,22 +18,27 @@ fn flip(bytes: &mut [u8], bit: usize) {
     }
 }
 
-/// Four bytes in front of the ciphertext and tag of test case 4.
-fn packet(alloc: Global) -> Result<Vec<u8>, Fail> {
-    sealed(alloc, &CASE_4, &[0; START])
+/// Test case 4: a key, a nonce, 20 bytes of AAD, and 60 bytes of ciphertext.
+fn case_4(alloc: Global) -> Result<Case, Fail> {
+    Ok(Case::parse(alloc, CASE_4)?)
+}
+
+/// Four bytes in front of the ciphertext and tag.
+fn packet(alloc: Global, case: &Case) -> Result<Vec<u8>, Fail> {
+    sealed(alloc, case, &[0; START])
 }
 
 /// Opening from a start on is refused, and the buffer stays as it came.
 fn is_refused(
     rt: &impl Abort,
     alloc: Global,
-    key: &LessSafeKey,
+    (key, case): (&LessSafeKey, &Case),
     aad: &[u8],
     in_out: &mut [u8],
     start: usize,
 ) -> Result<(), Fail> {
     let before = in_out.to_vec(alloc)?;
-    let opened = key.open_within(nonce(&CASE_4), Aad::from(aad), in_out, start..);
+    let opened = key.open_within(nonce(case), Aad::from(aad), in_out, start..);
     holds(rt, opened.is_err(), "a refusal");
     same(rt, in_out, &before, "the buffer");
     Ok(())
@@ -41,11 +46,19 @@ fn is_refused(
 
 #[test]
 fn each_flipped_bit_of_a_packet_is_refused(rt: HostRuntime) -> Result<(), Fail> {
-    let key = key(&CASE_4)?;
-    let mut packet = packet(rt.alloc())?;
+    let case = case_4(rt.alloc())?;
+    let key = key(&case)?;
+    let mut packet = packet(rt.alloc(), &case)?;
     for bit in 8 * START..8 * 80 {
         flip(&mut packet, bit);
-        is_refused(&rt, rt.alloc(), &key, CASE_4.aad, &mut packet, START)?;
+        is_refused(
+            &rt,
+            rt.alloc(),
+            (&key, &case),
+            &case.aad,
+            &mut packet,
+            START,
+        )?;
         flip(&mut packet, bit);
     }
     Ok(())
@@ -53,13 +66,14 @@ fn each_flipped_bit_of_a_packet_is_refused(rt: HostRuntime) -> Result<(), Fail> 
 
 #[test]
 fn each_flipped_bit_of_a_packet_with_a_header_is_refused(rt: HostRuntime) -> Result<(), Fail> {
-    let key = key(&CASE_4)?;
-    let header_len = CASE_4.aad.len();
+    let case = case_4(rt.alloc())?;
+    let key = key(&case)?;
+    let header_len = case.aad.len();
     for bit in 0..8 * 96 {
-        let mut packet = sealed(rt.alloc(), &CASE_4, CASE_4.aad)?;
+        let mut packet = sealed(rt.alloc(), &case, &case.aad)?;
         flip(&mut packet, bit);
         let before = packet.clone()?;
-        let opened = key.open_packet_in_place_after_header(nonce(&CASE_4), &mut packet, header_len);
+        let opened = key.open_packet_in_place_after_header(nonce(&case), &mut packet, header_len);
         holds(&rt, opened.is_err(), "a refusal");
         same(&rt, &packet, &before, "the buffer");
     }
@@ -68,12 +82,13 @@ fn each_flipped_bit_of_a_packet_with_a_header_is_refused(rt: HostRuntime) -> Res
 
 #[test]
 fn each_flipped_bit_of_the_aad_is_refused(rt: HostRuntime) -> Result<(), Fail> {
-    let key = key(&CASE_4)?;
-    let mut packet = packet(rt.alloc())?;
-    let mut aad = CASE_4.aad.to_vec(rt.alloc())?;
-    for bit in 0..8 * CASE_4.aad.len() {
+    let case = case_4(rt.alloc())?;
+    let key = key(&case)?;
+    let mut packet = packet(rt.alloc(), &case)?;
+    let mut aad = case.aad.clone()?;
+    for bit in 0..8 * 20 {
         flip(&mut aad, bit);
-        is_refused(&rt, rt.alloc(), &key, &aad, &mut packet, START)?;
+        is_refused(&rt, rt.alloc(), (&key, &case), &aad, &mut packet, START)?;
         flip(&mut aad, bit);
     }
     Ok(())
@@ -81,11 +96,12 @@ fn each_flipped_bit_of_the_aad_is_refused(rt: HostRuntime) -> Result<(), Fail> {
 
 #[test]
 fn each_cut_is_refused(rt: HostRuntime) -> Result<(), Fail> {
-    let key = key(&CASE_4)?;
+    let case = case_4(rt.alloc())?;
+    let key = key(&case)?;
     for len in 0..80 {
-        let mut cut = packet(rt.alloc())?;
+        let mut cut = packet(rt.alloc(), &case)?;
         cut.truncate(len);
-        is_refused(&rt, rt.alloc(), &key, CASE_4.aad, &mut cut, START)?;
+        is_refused(&rt, rt.alloc(), (&key, &case), &case.aad, &mut cut, START)?;
     }
     Ok(())
 }
@@ -93,38 +109,47 @@ fn each_cut_is_refused(rt: HostRuntime) -> Result<(), Fail> {
 // At 64 the ciphertext is empty and the tag isn't its tag; the others are past the last start.
 #[test]
 fn other_starts_are_refused(rt: HostRuntime) -> Result<(), Fail> {
-    let key = key(&CASE_4)?;
-    let mut packet = packet(rt.alloc())?;
+    let case = case_4(rt.alloc())?;
+    let key = key(&case)?;
+    let mut packet = packet(rt.alloc(), &case)?;
     for start in [64, 65, 80, usize::MAX] {
-        is_refused(&rt, rt.alloc(), &key, CASE_4.aad, &mut packet, start)?;
+        is_refused(
+            &rt,
+            rt.alloc(),
+            (&key, &case),
+            &case.aad,
+            &mut packet,
+            start,
+        )?;
     }
     Ok(())
 }
 
 /// An opening key whose second nonce is that of test case 4.
-fn opening_from_the_nonce_before() -> Result<OpeningKey<CounterSequence>, Fail> {
+fn opening_from_the_nonce_before(case: &Case) -> Result<OpeningKey<CounterSequence>, Fail> {
     let sequence = CounterSequence::new([0xca, 0xfe, 0xba, 0xbe], 0xfacedbaddecaf887, 2)?;
-    Ok(OpeningKey::new(unbound_key(&CASE_4)?, sequence))
+    Ok(OpeningKey::new(unbound_key(case)?, sequence))
 }
 
 /// Refuses a packet cut to a length, and then opens the whole packet under the next nonce.
-fn spends_one_nonce(rt: &impl Abort, alloc: Global, len: usize) -> Result<(), Fail> {
-    let mut key = opening_from_the_nonce_before()?;
-    let mut whole = packet(alloc)?;
-    let mut cut = packet(alloc)?;
+fn spends_one_nonce(rt: &impl Abort, alloc: Global, case: &Case, len: usize) -> Result<(), Fail> {
+    let mut key = opening_from_the_nonce_before(case)?;
+    let mut whole = packet(alloc, case)?;
+    let mut cut = whole.clone()?;
     cut.truncate(len);
-    let opened = key.open_within_to_front(aad(&CASE_4), &mut cut, START..);
+    let opened = key.open_within_to_front(aad(case), &mut cut, START..);
     holds(rt, opened.is_err(), "a refusal");
     holds(rt, whole.as_slice().starts_with(&cut), "the cut packet");
-    let opened = key.open_within_to_front(aad(&CASE_4), &mut whole, START..);
+    let opened = key.open_within_to_front(aad(case), &mut whole, START..);
     holds(rt, opened == Ok(60), "the next nonce");
     Ok(())
 }
 
 #[test]
 fn each_refused_cut_spends_one_nonce(rt: HostRuntime) -> Result<(), Fail> {
+    let case = case_4(rt.alloc())?;
     for len in 0..80 {
-        spends_one_nonce(&rt, rt.alloc(), len)?;
+        spends_one_nonce(&rt, rt.alloc(), &case, len)?;
     }
     Ok(())
 }

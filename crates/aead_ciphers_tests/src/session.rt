@@ -4,19 +4,19 @@ use crate::cases::{sealed, unbound_key};
 use crate::checks::{holds, same};
 use aead_ciphers::aead::{BoundKey, CounterSequence, OpeningKey, SealingKey};
 use aead_ciphers::session::{Job, Operation, Outcome, run};
-use aead_vectors::gcm_spec::CASE_2;
+use aead_vectors::gcm_spec::{CASE_2, Case};
 use std::alloc::Global;
 use std::process::Abort;
 use std::test::Fail;
 
-fn sealing(count: u64) -> Result<SealingKey<CounterSequence>, Fail> {
+fn sealing(case: &Case, count: u64) -> Result<SealingKey<CounterSequence>, Fail> {
     let sequence = CounterSequence::new([0; 4], 0, count)?;
-    Ok(SealingKey::new(unbound_key(&CASE_2)?, sequence))
+    Ok(SealingKey::new(unbound_key(case)?, sequence))
 }
 
-fn opening(count: u64) -> Result<OpeningKey<CounterSequence>, Fail> {
+fn opening(case: &Case, count: u64) -> Result<OpeningKey<CounterSequence>, Fail> {
     let sequence = CounterSequence::new([0; 4], 0, count)?;
-    Ok(OpeningKey::new(unbound_key(&CASE_2)?, sequence))
+    Ok(OpeningKey::new(unbound_key(case)?, sequence))
 }
 
 /// A job of a buffer, with an outcome that no run gives it.
@@ -36,17 +36,17 @@ fn ended(rt: &impl Abort, job: Option<&Job>, outcome: Outcome, buffer: &[u8]) {
 }
 
 /// What an opened buffer holds: the message, and the tag after it.
-fn opened(alloc: Global) -> Result<Vec<u8>, Fail> {
-    let mut bytes = CASE_2.message.to_vec(alloc)?;
-    bytes.extend_from_slice(&CASE_2.tag)?;
+fn opened(case: &Case) -> Result<Vec<u8>, Fail> {
+    let mut bytes = case.message.clone()?;
+    bytes.extend_from_slice(&case.tag)?;
     Ok(bytes)
 }
 
 /// Seals and opens the case twice, with one nonce for each key.
-fn jobs_of_case_2(alloc: Global, sealed: &[u8]) -> Result<Vec<Job>, Fail> {
+fn jobs_of(alloc: Global, case: &Case, sealed: &[u8]) -> Result<Vec<Job>, Fail> {
     let mut jobs = Vec::new(alloc);
     for _ in 0..2u8 {
-        jobs.push(job(alloc, Operation::Seal, CASE_2.message)?)?;
+        jobs.push(job(alloc, Operation::Seal, &case.message)?)?;
         jobs.push(job(alloc, Operation::Open(0), sealed)?)?;
     }
     Ok(jobs)
@@ -54,12 +54,13 @@ fn jobs_of_case_2(alloc: Global, sealed: &[u8]) -> Result<Vec<Job>, Fail> {
 
 #[test]
 fn seals_and_opens_once(rt: HostRuntime) -> Result<(), Fail> {
-    let sealed = sealed(rt.alloc(), &CASE_2, &[])?;
-    let mut jobs = jobs_of_case_2(rt.alloc(), &sealed)?;
-    run(&mut sealing(1)?, &mut opening(1)?, &mut jobs);
+    let case = Case::parse(rt.alloc(), CASE_2)?;
+    let sealed = sealed(rt.alloc(), &case, &[])?;
+    let mut jobs = jobs_of(rt.alloc(), &case, &sealed)?;
+    run(&mut sealing(&case, 1)?, &mut opening(&case, 1)?, &mut jobs);
     ended(&rt, jobs.get(0), Outcome::Sealed, &sealed);
-    ended(&rt, jobs.get(1), Outcome::Opened(16), &opened(rt.alloc())?);
-    ended(&rt, jobs.get(2), Outcome::Refused, CASE_2.message);
+    ended(&rt, jobs.get(1), Outcome::Opened(16), &opened(&case)?);
+    ended(&rt, jobs.get(2), Outcome::Refused, &case.message);
     ended(&rt, jobs.get(3), Outcome::Refused, &sealed);
     Ok(())
 }
@@ -82,7 +83,8 @@ fn refuses_once_the_nonces_are_spent(rt: HostRuntime) -> Result<(), Fail> {
     for i in 0..5u8 {
         jobs.push(job(rt.alloc(), Operation::Seal, &[i; 20])?)?;
     }
-    run(&mut sealing(2)?, &mut opening(0)?, &mut jobs);
+    let case = Case::parse(rt.alloc(), CASE_2)?;
+    run(&mut sealing(&case, 2)?, &mut opening(&case, 0)?, &mut jobs);
     sealed_so_many(&rt, &jobs, 2);
     Ok(())
 }

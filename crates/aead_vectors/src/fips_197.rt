@@ -1,27 +1,34 @@
-//! FIPS 197, "Advanced Encryption Standard (AES)".
+//! FIPS 197, "Advanced Encryption Standard (AES)", appendix C: the cipher with a key of 16 or 32 bytes.
 
-/// Appendices C.1 and C.3: the plaintext.
-pub const PLAINTEXT: [u8; 16] = [
-    0x00, 0x11, 0x22, 0x33, 0x44, 0x55, 0x66, 0x77, 0x88, 0x99, 0xaa, 0xbb, 0xcc, 0xdd, 0xee, 0xff,
-];
+use crate::words::{BadLine, Words};
+use std::alloc::Global;
 
-/// Appendix C.1, AES-128: the key.
-pub const C_1_KEY: [u8; 16] = [
-    0x00, 0x01, 0x02, 0x03, 0x04, 0x05, 0x06, 0x07, 0x08, 0x09, 0x0a, 0x0b, 0x0c, 0x0d, 0x0e, 0x0f,
-];
+/// A block and its encryption.
+#[derive(Drop)]
+pub struct Case {
+    pub name: &'static str,
+    pub key: Vec<u8>,
+    pub plaintext: [u8; 16],
+    pub ciphertext: [u8; 16],
+}
 
-/// Appendix C.1: the ciphertext.
-pub const C_1_CIPHERTEXT: [u8; 16] = [
-    0x69, 0xc4, 0xe0, 0xd8, 0x6a, 0x7b, 0x04, 0x30, 0xd8, 0xcd, 0xb7, 0x80, 0x70, 0xb4, 0xc5, 0x5a,
-];
+impl Case {
+    /// Reads a line: the words are the name, the key, the plaintext and the ciphertext.
+    pub fn parse(alloc: Global, line: &'static str) -> Result<Case, BadLine> {
+        let mut words = Words::new(line);
+        let case = Case {
+            name: words.text()?,
+            key: words.bytes(alloc)?,
+            plaintext: words.array()?,
+            ciphertext: words.array()?,
+        };
+        words.end()?;
+        Ok(case)
+    }
+}
 
-/// Appendix C.3, AES-256: the key.
-pub const C_3_KEY: [u8; 32] = [
-    0x00, 0x01, 0x02, 0x03, 0x04, 0x05, 0x06, 0x07, 0x08, 0x09, 0x0a, 0x0b, 0x0c, 0x0d, 0x0e, 0x0f,
-    0x10, 0x11, 0x12, 0x13, 0x14, 0x15, 0x16, 0x17, 0x18, 0x19, 0x1a, 0x1b, 0x1c, 0x1d, 0x1e, 0x1f,
-];
-
-/// Appendix C.3: the ciphertext.
-pub const C_3_CIPHERTEXT: [u8; 16] = [
-    0x8e, 0xa2, 0xb7, 0xca, 0x51, 0x67, 0x45, 0xbf, 0xea, 0xfc, 0x49, 0x90, 0x4b, 0x49, 0x60, 0x89,
+/// Appendices C.1 and C.3: AES-128 and AES-256.
+pub const CASES: [&str; 2] = [
+    "fips_197_c_1 000102030405060708090a0b0c0d0e0f 00112233445566778899aabbccddeeff 69c4e0d86a7b0430d8cdb78070b4c55a",
+    "fips_197_c_3 000102030405060708090a0b0c0d0e0f101112131415161718191a1b1c1d1e1f 00112233445566778899aabbccddeeff 8ea2b7ca516745bfeafc49904b496089",
 ];

@@ -1,7 +1,9 @@
-//! Test vectors of public standards, as data: a module for each source.
+//! Test vectors of public standards, as lines of text: a module for each source. What a contract cites is an array.
 #![tactic(auto)]
 
 pub mod fips_197;
 pub mod gcm_spec;
 pub mod rfc_8439;
 pub mod rfc_9001;
+pub mod sp_800_38a;
+pub mod words;

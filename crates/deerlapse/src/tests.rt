@@ -33,53 +33,53 @@ fn accepted(rt: &impl Abort, answer: bool, what: &str) {
 
 /// Seals a case's message, and opens it after three other bytes.
 fn seals_and_opens(rt: &impl Abort, alloc: Global, case: &Case) -> Result<(), Fail> {
-    let mut bytes = case.message.to_vec(alloc)?;
+    let mut bytes = case.message.clone()?;
     let mut tag = [0; 16];
-    let sealed = deerlapse_seal(case.key, &case.nonce, case.aad, &mut bytes, &mut tag);
+    let sealed = deerlapse_seal(&case.key, &case.nonce, &case.aad, &mut bytes, &mut tag);
     accepted(rt, sealed, case.name);
-    same(rt, &bytes, case.ciphertext, case.name);
+    same(rt, &bytes, &case.ciphertext, case.name);
     same(rt, &tag, &case.tag, case.name);
 
     let mut bytes = [1, 2, 3].to_vec(alloc)?;
-    bytes.extend_from_slice(case.ciphertext)?;
+    bytes.extend_from_slice(&case.ciphertext)?;
     bytes.extend_from_slice(&case.tag)?;
     let mut len = 0;
-    let opened = deerlapse_open(case.key, &case.nonce, case.aad, &mut bytes, 3, &mut len);
+    let opened = deerlapse_open(&case.key, &case.nonce, &case.aad, &mut bytes, 3, &mut len);
     accepted(rt, opened, case.name);
     same(
         rt,
         bytes.get(..len).ok_or("a plaintext's length")?,
-        case.message,
+        &case.message,
         case.name,
     );
     Ok(())
 }
 
 /// Seals a case's message under an expanded key, and opens it. After the key is wiped, it seals nothing.
-fn seals_and_opens_by_a_key(rt: &impl Abort, alloc: Global, case: &Case) -> Result<(), Fail> {
+fn seals_and_opens_by_a_key(rt: &impl Abort, case: &Case) -> Result<(), Fail> {
     let mut key = ExpandedKey::zeros();
-    if !deerlapse_key_init(&mut key, case.key) {
+    if !deerlapse_key_init(&mut key, &case.key) {
         return Err("a key".into());
     }
-    let mut bytes = case.message.to_vec(alloc)?;
+    let mut bytes = case.message.clone()?;
     let mut tag = [0; 16];
-    let sealed = deerlapse_key_seal(&key, &case.nonce, case.aad, &mut bytes, &mut tag);
+    let sealed = deerlapse_key_seal(&key, &case.nonce, &case.aad, &mut bytes, &mut tag);
     accepted(rt, sealed, case.name);
-    same(rt, &bytes, case.ciphertext, case.name);
+    same(rt, &bytes, &case.ciphertext, case.name);
     same(rt, &tag, &case.tag, case.name);
 
     bytes.extend_from_slice(&tag)?;
     let mut len = 0;
-    let opened = deerlapse_key_open(&key, &case.nonce, case.aad, &mut bytes, 0, &mut len);
+    let opened = deerlapse_key_open(&key, &case.nonce, &case.aad, &mut bytes, 0, &mut len);
     accepted(rt, opened, case.name);
     same(
         rt,
         bytes.get(..len).ok_or("a plaintext's length")?,
-        case.message,
+        &case.message,
         case.name,
     );
     deerlapse_key_wipe(&mut key);
-    let again = deerlapse_key_seal(&key, &case.nonce, case.aad, &mut bytes, &mut tag);
+    let again = deerlapse_key_seal(&key, &case.nonce, &case.aad, &mut bytes, &mut tag);
     accepted(rt, !again, case.name);
     Ok(())
 }
@@ -87,15 +87,15 @@ fn seals_and_opens_by_a_key(rt: &impl Abort, alloc: Global, case: &Case) -> Resu
 /// Seals a case's message with a separate tag, from one buffer to another and back, and opens it in place.
 fn seals_and_opens_apart(rt: &impl Abort, alloc: Global, case: &Case) -> Result<(), Fail> {
     let mut key = ExpandedKey::zeros();
-    if !deerlapse_key_init(&mut key, case.key) {
+    if !deerlapse_key_init(&mut key, &case.key) {
         return Err("a key".into());
     }
-    let (nonce, aad) = (&case.nonce, case.aad);
+    let (nonce, aad) = (&case.nonce, case.aad.as_slice());
     let mut sealed = vec![in alloc; 0; case.message.len()]?;
     let mut tag = [0; 16];
-    let made = deerlapse_key_seal_to(&key, nonce, aad, case.message, &mut sealed, &mut tag);
+    let made = deerlapse_key_seal_to(&key, nonce, aad, &case.message, &mut sealed, &mut tag);
     accepted(rt, made, case.name);
-    same(rt, &sealed, case.ciphertext, case.name);
+    same(rt, &sealed, &case.ciphertext, case.name);
     same(rt, &tag, &case.tag, case.name);
 
     let mut message = vec![in alloc; 0; case.message.len()]?;
@@ -103,11 +103,11 @@ fn seals_and_opens_apart(rt: &impl Abort, alloc: Global, case: &Case) -> Result<
     accepted(rt, !false_tag, case.name);
     let opened = deerlapse_key_open_to(&key, nonce, aad, &sealed, &mut message, &tag);
     accepted(rt, opened, case.name);
-    same(rt, &message, case.message, case.name);
+    same(rt, &message, &case.message, case.name);
 
     let opened = deerlapse_key_open_separate_tag(&key, nonce, aad, &mut sealed, &tag);
     accepted(rt, opened, case.name);
-    same(rt, &sealed, case.message, case.name);
+    same(rt, &sealed, &case.message, case.name);
     Ok(())
 }
 
@@ -122,98 +122,112 @@ fn no_numbers() -> NumberedKey {
 }
 
 /// A sealer with one number, 0, whose nonce is the IV: it seals a case's message, and then no other.
-fn seals_once(rt: &impl Abort, alloc: Global, case: &Case) -> Result<(), Fail> {
+fn seals_once(rt: &impl Abort, case: &Case) -> Result<(), Fail> {
     let mut sealer = no_numbers();
-    if !deerlapse_sealer_init(&mut sealer, case.key, &case.nonce, 0, 1) {
+    if !deerlapse_sealer_init(&mut sealer, &case.key, &case.nonce, 0, 1) {
         return Err("a sealer".into());
     }
-    let mut bytes = case.message.to_vec(alloc)?;
+    let mut bytes = case.message.clone()?;
     let mut tag = [0; 16];
-    let sealed = deerlapse_sealer_seal(&mut sealer, case.aad, &mut bytes, &mut tag);
+    let sealed = deerlapse_sealer_seal(&mut sealer, &case.aad, &mut bytes, &mut tag);
     accepted(rt, sealed, case.name);
-    same(rt, &bytes, case.ciphertext, case.name);
+    same(rt, &bytes, &case.ciphertext, case.name);
     same(rt, &tag, &case.tag, case.name);
-    let again = deerlapse_sealer_seal(&mut sealer, case.aad, &mut bytes, &mut tag);
+    let again = deerlapse_sealer_seal(&mut sealer, &case.aad, &mut bytes, &mut tag);
     accepted(rt, !again, case.name);
     accepted(rt, deerlapse_sealer_next(&sealer) == 1, case.name);
     Ok(())
 }
 
 /// A case's ciphertext and its tag.
-fn sealed_bytes(alloc: Global, case: &Case) -> Result<Vec<u8, Global>, Fail> {
-    let mut bytes = case.ciphertext.to_vec(alloc)?;
+fn sealed_bytes(case: &Case) -> Result<Vec<u8, Global>, Fail> {
+    let mut bytes = case.ciphertext.clone()?;
     bytes.extend_from_slice(&case.tag)?;
     Ok(bytes)
 }
 
 /// An opener with one number, 0: it opens a sealed message twice by number, once in order, and then no more.
-fn opens_once(rt: &impl Abort, alloc: Global, case: &Case) -> Result<(), Fail> {
+fn opens_once(rt: &impl Abort, case: &Case) -> Result<(), Fail> {
     let mut opener = no_numbers();
-    if !deerlapse_opener_init(&mut opener, case.key, &case.nonce, 0, 1) {
+    if !deerlapse_opener_init(&mut opener, &case.key, &case.nonce, 0, 1) {
         return Err("an opener".into());
     }
     let mut len = 0;
     for (number, answer) in [(0, true), (1, false), (0, true)] {
-        let mut bytes = sealed_bytes(alloc, case)?;
+        let mut bytes = sealed_bytes(case)?;
         let opened = deerlapse_opener_open_number(
-            &opener, number, case.aad, &mut bytes, 0, &mut len,
+            &opener, number, &case.aad, &mut bytes, 0, &mut len,
         );
         accepted(rt, opened == answer, case.name);
     }
-    let mut bytes = sealed_bytes(alloc, case)?;
+    let mut bytes = sealed_bytes(case)?;
     let early = deerlapse_opener_open(&mut opener, &[1, 2, 3], &mut bytes, 0, &mut len);
     accepted(rt, !early, case.name);
-    let opened = deerlapse_opener_open(&mut opener, case.aad, &mut bytes, 0, &mut len);
+    let opened = deerlapse_opener_open(&mut opener, &case.aad, &mut bytes, 0, &mut len);
     accepted(rt, opened, case.name);
     same(
         rt,
         bytes.get(..len).ok_or("a plaintext's length")?,
-        case.message,
+        &case.message,
         case.name,
     );
     accepted(rt, deerlapse_opener_next(&opener) == 1, case.name);
-    let mut bytes = sealed_bytes(alloc, case)?;
-    let again = deerlapse_opener_open(&mut opener, case.aad, &mut bytes, 0, &mut len);
+    let mut bytes = sealed_bytes(case)?;
+    let again = deerlapse_opener_open(&mut opener, &case.aad, &mut bytes, 0, &mut len);
     accepted(rt, !again, case.name);
     Ok(())
 }
 
 #[test]
 fn gcm_spec(rt: HostRuntime) -> Result<(), Fail> {
-    for case in &CASES {
-        seals_and_opens(&rt, rt.alloc(), case)?;
-        seals_and_opens_by_a_key(&rt, rt.alloc(), case)?;
-        seals_and_opens_apart(&rt, rt.alloc(), case)?;
-        seals_once(&rt, rt.alloc(), case)?;
-        opens_once(&rt, rt.alloc(), case)?;
+    for line in CASES {
+        let case = Case::parse(rt.alloc(), line)?;
+        seals_and_opens(&rt, rt.alloc(), &case)?;
+        seals_and_opens_by_a_key(&rt, &case)?;
+        seals_and_opens_apart(&rt, rt.alloc(), &case)?;
+        seals_once(&rt, &case)?;
+        opens_once(&rt, &case)?;
     }
     Ok(())
 }
 
+/// The mask of a block is the first bytes of its encryption.
+fn masks_a_block(rt: &impl Abort, case: &fips_197::Case) {
+    let mut mask = [0; 5];
+    let answer = deerlapse_mask_aes(&case.key, &case.plaintext, &mut mask);
+    accepted(rt, answer, case.name);
+    same(rt, &mask, &case.ciphertext[..5], case.name);
+}
+
 #[test]
-fn masks(rt: HostRuntime) {
+fn masks(rt: HostRuntime) -> Result<(), Fail> {
     let mut mask = [0; 5];
     let answer = deerlapse_mask_aes(&rfc_9001::A_2_KEY, &rfc_9001::A_2_SAMPLE, &mut mask);
     accepted(&rt, answer, "RFC 9001 appendix A.2");
     same(&rt, &mask, &rfc_9001::A_2_MASK, "RFC 9001 appendix A.2");
-    let answer = deerlapse_mask_aes(&fips_197::C_3_KEY, &fips_197::PLAINTEXT, &mut mask);
-    accepted(&rt, answer, "FIPS 197 appendix C.3");
-    same(
-        &rt,
-        &mask,
-        &fips_197::C_3_CIPHERTEXT[..5],
-        "FIPS 197 appendix C.3",
-    );
     deerlapse_mask_chacha20(&rfc_9001::A_5_KEY, &rfc_9001::A_5_SAMPLE, &mut mask);
     same(&rt, &mask, &rfc_9001::A_5_MASK, "RFC 9001 appendix A.5");
+    for line in fips_197::CASES {
+        masks_a_block(&rt, &fips_197::Case::parse(rt.alloc(), line)?);
+    }
+    Ok(())
+}
+
+/// A plaintext is encrypted to the ciphertext.
+fn encrypts(rt: &impl Abort, case: &rfc_8439::Case) -> Result<(), Fail> {
+    let mut bytes = case.plaintext.clone()?;
+    let answer = deerlapse_chacha20(&case.key, &case.nonce, case.counter, &mut bytes);
+    accepted(rt, answer, case.name);
+    same(rt, &bytes, &case.ciphertext, case.name);
+    Ok(())
 }
 
 #[test]
-fn chacha20(rt: HostRuntime) {
-    let mut bytes = *rfc_8439::PLAINTEXT;
-    let answer = deerlapse_chacha20(&rfc_8439::KEY, &rfc_8439::MESSAGE_NONCE, 1, &mut bytes);
-    accepted(&rt, answer, "RFC 8439 section 2.4.2");
-    same(&rt, &bytes, &rfc_8439::CIPHERTEXT, "RFC 8439 section 2.4.2");
+fn chacha20(rt: HostRuntime) -> Result<(), Fail> {
+    for line in rfc_8439::CASES {
+        encrypts(&rt, &rfc_8439::Case::parse(rt.alloc(), line)?)?;
+    }
+    Ok(())
 }
 
 // RFC 9001 appendix A.5: the nonce of packet number 654360564.

@@ -21,35 +21,40 @@ use std::test::Fail;
 
 /// The key of a case.
 fn key(case: &Case) -> Result<Key, Fail> {
-    let bytes = match case.key.as_array::<16>() {
+    let bytes = match case.key.as_slice().as_array::<16>() {
         Some(key) => KeyBytes::AES_128(key),
-        None => KeyBytes::AES_256(case.key.as_array::<32>().ok_or("a key's length")?),
+        None => KeyBytes::AES_256(
+            case.key
+                .as_slice()
+                .as_array::<32>()
+                .ok_or("a key's length")?,
+        ),
     };
     Ok(Key::new(bytes, &mut Work::new())?)
 }
 
 /// A case is sealed to its ciphertext and tag, and opened to its message.
-fn seals_and_opens(rt: &impl Abort, alloc: Global, case: &Case) -> Result<(), Fail> {
+fn seals_and_opens(rt: &impl Abort, case: &Case) -> Result<(), Fail> {
     let key = key(case)?;
     let nonce = || Nonce::assume_unique_for_key(case.nonce);
-    let aad = Aad::from(case.aad);
-    let mut buffer = case.message.to_vec(alloc)?;
+    let aad = Aad::from(case.aad.as_slice());
+    let mut buffer = case.message.clone()?;
     let tag = seal(&key, nonce(), aad, &mut buffer, &mut Work::new())?;
     assert_eq!(rt;
         (&*buffer, tag.as_ref()),
-        (case.ciphertext, case.tag.as_slice()),
+        (case.ciphertext.as_slice(), case.tag.as_slice()),
         "{}",
         case.name
     );
     open(&key, nonce(), aad, tag, &mut buffer, 0.., &mut Work::new())?;
-    assert_eq!(rt; &*buffer, case.message, "{}", case.name);
+    assert_eq!(rt; &*buffer, case.message.as_slice(), "{}", case.name);
     Ok(())
 }
 
 #[test]
 fn gcm_spec_cases(rt: HostRuntime) -> Result<(), Fail> {
-    for case in &CASES {
-        seals_and_opens(&rt, rt.alloc(), case)?;
+    for line in CASES {
+        seals_and_opens(&rt, &Case::parse(rt.alloc(), line)?)?;
     }
     Ok(())
 }

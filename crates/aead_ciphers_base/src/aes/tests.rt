@@ -5,7 +5,8 @@ ghost use Rattle.aead_ciphers_base.specs.ByteField.{mul8, inv, affine, sbox};
 
 use super::pack::{pack, unpack};
 use super::{Block, EncryptBlock, Key, KeyBytes, Work, ZERO_BLOCK, sub_planes};
-use aead_vectors::{fips_197, rfc_9001};
+use aead_vectors::fips_197::{CASES, Case};
+use aead_vectors::rfc_9001;
 use std::process::Abort;
 use std::test::Fail;
 
@@ -90,31 +91,31 @@ fn s_box_of_each_byte_in_each_block(rt: HostRuntime) {
     }
 }
 
-fn enciphers(
-    rt: &impl Abort,
-    key: KeyBytes<'_>,
-    plaintext: Block,
-    ciphertext: Block,
-) -> Result<(), Fail> {
-    let found = Key::new(key)?.encrypt_block(plaintext, &mut Work::new());
-    assert_eq!(rt; found, ciphertext);
+fn enciphers(rt: &impl Abort, case: &Case) -> Result<(), Fail> {
+    let key = match case.key.as_slice().as_array::<16>() {
+        Some(key) => KeyBytes::AES_128(key),
+        None => KeyBytes::AES_256(
+            case.key
+                .as_slice()
+                .as_array::<32>()
+                .ok_or("a key's length")?,
+        ),
+    };
+    let found = Key::new(key)?.encrypt_block(case.plaintext, &mut Work::new());
+    assert_eq!(rt; found, case.ciphertext, "{}", case.name);
     Ok(())
 }
 
 #[test]
-fn fips_197_appendix_c_1(rt: HostRuntime) -> Result<(), Fail> {
-    let key = KeyBytes::AES_128(&fips_197::C_1_KEY);
-    enciphers(&rt, key, fips_197::PLAINTEXT, fips_197::C_1_CIPHERTEXT)
+fn encrypt_block(rt: HostRuntime) -> Result<(), Fail> {
+    for line in CASES {
+        enciphers(&rt, &Case::parse(rt.alloc(), line)?)?;
+    }
+    Ok(())
 }
 
 #[test]
-fn fips_197_appendix_c_3(rt: HostRuntime) -> Result<(), Fail> {
-    let key = KeyBytes::AES_256(&fips_197::C_3_KEY);
-    enciphers(&rt, key, fips_197::PLAINTEXT, fips_197::C_3_CIPHERTEXT)
-}
-
-#[test]
-fn rfc_9001_appendix_a_2(rt: HostRuntime) -> Result<(), Fail> {
+fn new_mask(rt: HostRuntime) -> Result<(), Fail> {
     let key = Key::new(KeyBytes::AES_128(&rfc_9001::A_2_KEY))?;
     assert_eq!(rt; key.new_mask(rfc_9001::A_2_SAMPLE), rfc_9001::A_2_MASK);
     Ok(())
