@@ -238,34 +238,30 @@ fn answers(rt: &impl Abort, alloc: Global, input: &[u8], printed: &[u8], status:
 fn filled(alloc: Global, text: &str) -> Result<String, Fail> {
     let case_2 = Case::parse(alloc, CASE_2)?;
     let case_4 = Case::parse(alloc, CASE_4)?;
-    let mut filled = with_tags(alloc, text, &case_4)?;
-    for (name, bytes) in [
-        ("<key>", &case_4.key),
-        ("<aad>", &case_4.aad),
-        ("<message>", &case_4.message),
-        ("<ciphertext>", &case_4.ciphertext),
-        ("<ciphertext_2>", &case_2.ciphertext),
-        ("<zeros>", &case_2.message),
-    ] {
-        filled = with_bytes(alloc, filled.as_str(), name, bytes)?;
-    }
-    Ok(filled)
+    let text = with_tags(alloc, text, &case_2.tag, &case_4.tag)?;
+    let text = with_bytes(alloc, text.as_str(), "<nonce>", &case_4.nonce)?;
+    let text = with_bytes(alloc, text.as_str(), "<key>", &case_4.key)?;
+    let text = with_bytes(alloc, text.as_str(), "<aad>", &case_4.aad)?;
+    let text = with_bytes(alloc, text.as_str(), "<message>", &case_4.message)?;
+    let text = with_bytes(alloc, text.as_str(), "<ciphertext>", &case_4.ciphertext)?;
+    let text = with_bytes(alloc, text.as_str(), "<ciphertext_2>", &case_2.ciphertext)?;
+    Ok(with_bytes(alloc, text.as_str(), "<zeros>", &case_2.message)?)
 }
 
-/// The text with the nonce of test case 4, and with tags: of the test cases, and test case 4's with its last bit flipped.
-fn with_tags(alloc: Global, text: &str, case_4: &Case) -> Result<String, Fail> {
-    let mut filled = with_bytes(alloc, text, "<nonce>", &case_4.nonce)?;
-    let mut false_tag = case_4.tag;
+/// The text with tags: of test cases 1, 2 and 4, and test case 4's with its last bit flipped.
+fn with_tags(
+    alloc: Global,
+    text: &str,
+    tag_2: &[u8; 16],
+    tag_4: &[u8; 16],
+) -> Result<String, Fail> {
+    let case_1 = Case::parse(alloc, CASE_1)?;
+    let mut false_tag = *tag_4;
     false_tag[15] ^= 1;
-    for (name, tag) in [
-        ("<tag>", case_4.tag),
-        ("<false_tag>", false_tag),
-        ("<tag_1>", Case::parse(alloc, CASE_1)?.tag),
-        ("<tag_2>", Case::parse(alloc, CASE_2)?.tag),
-    ] {
-        filled = with_bytes(alloc, filled.as_str(), name, &tag)?;
-    }
-    Ok(filled)
+    let text = with_bytes(alloc, text, "<tag>", tag_4)?;
+    let text = with_bytes(alloc, text.as_str(), "<false_tag>", &false_tag)?;
+    let text = with_bytes(alloc, text.as_str(), "<tag_1>", &case_1.tag)?;
+    Ok(with_bytes(alloc, text.as_str(), "<tag_2>", tag_2)?)
 }
 
 /// The text with bytes in place of a name.

@@ -68,9 +68,12 @@ fn encrypt_block_and_encrypt_four(rt: HostRuntime) -> Result<(), Fail> {
 
 /// The counter whose block is this one.
 fn counter_of(block: &[u8; 16]) -> Counter {
-    let [nonce @ .., a, b, c, d] = *block;
+    let mut nonce = [0; 12];
+    nonce.copy_from_slice(&block[..12]);
+    let mut number = [0; 4];
+    number.copy_from_slice(&block[12..]);
     let mut counter = Counter::one(Nonce::assume_unique_for_key(nonce));
-    counter.increment_by_less_safe(u32::from_be_bytes([a, b, c, d]).wrapping_sub(1));
+    counter.increment_by_less_safe(u32::from_be_bytes(number).wrapping_sub(1));
     counter
 }
 
