@@ -1,4 +1,5 @@
-//! Test vectors of public standards, as lines of text: a module for each source. What a contract cites is an array.
+//! Test vectors of public standards, as lines of text: a module for each source. What a contract cites, and short parts of a
+//! packet, are arrays.
 #![tactic(auto)]
 
 pub mod fips_197;

@@ -1,7 +1,8 @@
 //! `split` and `packet_at`: the packets of RFC 9001 appendix A, and datagrams made by hand.
 
 use crate::retry::A_4_RETRY;
-use aead_vectors::rfc_9001::{A_2_PACKET, A_3_PACKET, A_5_PROTECTED};
+use aead_vectors::rfc_9001::{A_2_PACKET, A_3_PACKET, A_5_PROTECTED, Packet as Vector};
+use aead_vectors::words::BadLine;
 use quic_packets::{DatagramError, Packet, PacketType, packet_at, split};
 use std::alloc::Global;
 use std::ops::Range;
@@ -40,13 +41,20 @@ fn is_long(
     assert_eq!(rt; packet_at(datagram, 0, 0), Ok(packet));
 }
 
+/// The protected packet of a vector.
+fn protected(alloc: Global, line: &'static str) -> Result<Vec<u8>, BadLine> {
+    Ok(Vector::parse(alloc, line)?.protected)
+}
+
 #[test]
-fn long_headers(rt: HostRuntime) {
+fn long_headers(rt: HostRuntime) -> Result<(), Fail> {
     let initial = PacketType::Initial;
+    let packet = protected(rt.alloc(), A_2_PACKET)?;
     let ids = (6..14, 15..15);
-    is_long(&rt, A_2_PACKET.protected, initial, 1, ids, 16..16, Some(18));
+    is_long(&rt, &packet, initial, 1, ids, 16..16, Some(18));
+    let packet = protected(rt.alloc(), A_3_PACKET)?;
     let ids = (6..6, 7..15);
-    is_long(&rt, A_3_PACKET.protected, initial, 1, ids, 16..16, Some(18));
+    is_long(&rt, &packet, initial, 1, ids, 16..16, Some(18));
     let ids = (6..6, 7..15);
     is_long(&rt, &A_4_RETRY, PacketType::Retry, 1, ids, 15..20, None);
     let negotiation = PacketType::VersionNegotiation;
@@ -69,12 +77,13 @@ fn long_headers(rt: HostRuntime) {
         28..28,
         None,
     );
+    Ok(())
 }
 
 // Two packets of RFC 9001 appendix A, one after the other. The header of the second is short.
 #[test]
 fn coalesced(rt: HostRuntime) -> Result<(), Fail> {
-    let mut datagram = Vec::from_slice(rt.alloc(), A_3_PACKET.protected)?;
+    let mut datagram = protected(rt.alloc(), A_3_PACKET)?;
     datagram.extend_from_slice(&A_5_PROTECTED)?;
     let mut parts = Vec::new(rt.alloc());
     for packet in split(&datagram, 0) {
@@ -108,7 +117,8 @@ fn refused(rt: &impl Abort, datagram: &[u8], id_len: usize, error: DatagramError
 // IDs of 21 bytes in version 1, and a packet after which a cut one comes.
 #[test]
 fn refusals(rt: HostRuntime) -> Result<(), Fail> {
-    cut_anywhere(&rt, A_3_PACKET.protected);
+    let mut datagram = protected(rt.alloc(), A_3_PACKET)?;
+    cut_anywhere(&rt, &datagram);
     refused(&rt, &A_5_PROTECTED, 21, DatagramError::Cut);
     refused(&rt, &[0xc0, 0, 0, 0, 1, 21], 0, DatagramError::IdTooLong);
     refused(
@@ -117,7 +127,6 @@ fn refusals(rt: HostRuntime) -> Result<(), Fail> {
         0,
         DatagramError::IdTooLong,
     );
-    let mut datagram = Vec::from_slice(rt.alloc(), A_3_PACKET.protected)?;
     datagram.push(0xc0)?;
     let mut packets = split(&datagram, 0);
     assert!(rt; packets.next().is_some_and(|packet| packet.is_ok()));

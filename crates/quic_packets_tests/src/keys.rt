@@ -7,17 +7,17 @@ ghost use Rattle.quic_packets.specs.Packet.{CarriesNumber, HasNumber, IsNumber};
 
 use crate::checks::same;
 use aead_ciphers::aead::{AES_128_GCM, AES_256_GCM, quic};
-use aead_vectors::rfc_9001::{A_2_PACKET, A_3_PACKET, A_5_KEY, A_5_PROTECTED, A_5_SEALED, Packet};
+use aead_vectors::rfc_9001::{A_3_PACKET, A_5_KEY, A_5_PROTECTED, A_5_SEALED, PACKETS, Packet};
 use quic_packets::{HeaderKey, PacketError, ReceiveKey, SendKey, laws};
-use std::alloc::{AllocError, Global};
+use std::alloc::AllocError;
 use std::ops::Range;
 use std::process::Abort;
 use std::test::Fail;
 
 /// The header and the payload.
-fn plain(alloc: Global, row: &Packet) -> Result<Vec<u8>, AllocError> {
-    let mut packet = Vec::from_slice(alloc, row.header)?;
-    packet.extend_from_slice(row.frames)?;
+fn plain(row: &Packet) -> Result<Vec<u8>, AllocError> {
+    let mut packet = row.header.clone()?;
+    packet.extend_from_slice(&row.frames)?;
     for _ in row.frames.len()..row.payload_len {
         packet.push(0)?;
     }
@@ -25,21 +25,21 @@ fn plain(alloc: Global, row: &Packet) -> Result<Vec<u8>, AllocError> {
 }
 
 /// Sealing and protecting the header give the packet.
-fn sends(rt: &impl Abort, alloc: Global, row: &Packet) -> Result<(), Fail> {
-    let mut key = SendKey::new(&AES_128_GCM, row.key, row.iv, row.number)?;
-    let mut packet = plain(alloc, row)?;
+fn sends(rt: &impl Abort, row: &Packet) -> Result<(), Fail> {
+    let mut key = SendKey::new(&AES_128_GCM, &row.key, row.iv, row.number)?;
+    let mut packet = plain(row)?;
     packet.extend_from_slice(&[0; 16])?;
     let number = key.seal(&mut packet, row.number_at..row.header.len())?;
     assert_eq!(rt; number, row.number);
-    HeaderKey::new(&quic::AES_128, row.header_key)?.protect(&mut packet, row.number_at)?;
-    same(rt, &packet, row.protected, row.name);
+    HeaderKey::new(&quic::AES_128, &row.header_key)?.protect(&mut packet, row.number_at)?;
+    same(rt, &packet, &row.protected, row.name);
     Ok(())
 }
 
 /// Unprotecting the header and opening give header and payload back.
-fn receives(rt: &impl Abort, alloc: Global, row: &Packet) -> Result<(), Fail> {
-    let mut packet = Vec::from_slice(alloc, row.protected)?;
-    let number_len = HeaderKey::new(&quic::AES_128, row.header_key)?.unprotect(
+fn receives(rt: &impl Abort, row: &Packet) -> Result<(), Fail> {
+    let mut packet = row.protected.clone()?;
+    let number_len = HeaderKey::new(&quic::AES_128, &row.header_key)?.unprotect(
         &mut packet,
         row.number_at,
     )?;
@@ -47,19 +47,20 @@ fn receives(rt: &impl Abort, alloc: Global, row: &Packet) -> Result<(), Fail> {
         row.number_at.checked_add(number_len),
         Some(row.header.len())
     );
-    let key = ReceiveKey::new(&AES_128_GCM, row.key, row.iv)?;
+    let key = ReceiveKey::new(&AES_128_GCM, &row.key, row.iv)?;
     let payload_len = key.open(&mut packet, row.header.len(), row.number)?;
     assert_eq!(rt; payload_len, row.payload_len);
-    let plain = plain(alloc, row)?;
+    let plain = plain(row)?;
     assert!(rt; packet.starts_with(&plain), "{}", row.name);
     Ok(())
 }
 
 #[test]
 fn packets(rt: HostRuntime) -> Result<(), Fail> {
-    for row in [A_2_PACKET, A_3_PACKET] {
-        sends(&rt, rt.alloc(), &row)?;
-        receives(&rt, rt.alloc(), &row)?;
+    for line in PACKETS {
+        let row = Packet::parse(rt.alloc(), line)?;
+        sends(&rt, &row)?;
+        receives(&rt, &row)?;
     }
     Ok(())
 }
@@ -164,14 +165,8 @@ struct Receiver {
 }
 
 /// The packet with one bit flipped is refused, and left as it came.
-fn refuses_flipped(
-    rt: &impl Abort,
-    alloc: Global,
-    keys: &Receiver,
-    row: &Packet,
-    bit: usize,
-) -> Result<(), Fail> {
-    let mut packet = Vec::from_slice(alloc, row.protected)?;
+fn refuses_flipped(rt: &impl Abort, keys: &Receiver, row: &Packet, bit: usize) -> Result<(), Fail> {
+    let mut packet = row.protected.clone()?;
     assert!(rt; bit / 8 < packet.len());
     packet[bit / 8] ^= 1 << (bit % 8);
     let number_len = keys.header.unprotect(&mut packet, row.number_at)?;
@@ -187,13 +182,13 @@ fn refuses_flipped(
 
 #[test]
 fn each_bit_flipped(rt: HostRuntime) -> Result<(), Fail> {
-    let row = A_3_PACKET;
+    let row = Packet::parse(rt.alloc(), A_3_PACKET)?;
     let keys = Receiver {
-        header: HeaderKey::new(&quic::AES_128, row.header_key)?,
-        payload: ReceiveKey::new(&AES_128_GCM, row.key, row.iv)?,
+        header: HeaderKey::new(&quic::AES_128, &row.header_key)?,
+        payload: ReceiveKey::new(&AES_128_GCM, &row.key, row.iv)?,
     };
     for bit in 0..1080 {
-        refuses_flipped(&rt, rt.alloc(), &keys, &row, bit)?;
+        refuses_flipped(&rt, &keys, &row, bit)?;
     }
     Ok(())
 }

@@ -3,7 +3,7 @@
 use crate::checks::same;
 use crate::rows::{HEADER_KEY as ROW_HEADER_KEY, IV as ROW_IV, KEY, ROWS, Row};
 use aead_ciphers::aead::{AES_128_GCM, quic};
-use aead_vectors::rfc_9001::{A_2_PACKET, A_3_PACKET, Packet};
+use aead_vectors::rfc_9001::{PACKETS, Packet};
 use quic_packets::{Failures, HeaderKey, PacketError, Received, Receiver, SendKey, Space, Suite};
 use std::alloc::Global;
 use std::process::Abort;
@@ -104,13 +104,10 @@ fn happen(rt: &impl Abort, limit: u64, events: &[Event], failures: u64) -> Resul
 }
 
 /// A packet of RFC 9001 appendix A is received, and its payload is as long as it was.
-fn receives(rt: &impl Abort, alloc: Global, row: &Packet) -> Result<(), Fail> {
-    let mut end = End::new(
-        Receiver::new(Suite::Aes128Gcm, row.key, row.iv, row.header_key)?,
-        1,
-    );
-    let mut packet = Vec::from_slice(alloc, row.protected)?;
-    let received = end.receive(&mut packet, row.number_at)?;
+fn receives(rt: &impl Abort, row: &Packet) -> Result<(), Fail> {
+    let receiver = Receiver::new(Suite::Aes128Gcm, &row.key, row.iv, &row.header_key)?;
+    let mut packet = row.protected.clone()?;
+    let received = End::new(receiver, 1).receive(&mut packet, row.number_at)?;
     assert_eq!(rt;
         received,
         Received {
@@ -120,14 +117,14 @@ fn receives(rt: &impl Abort, alloc: Global, row: &Packet) -> Result<(), Fail> {
             phase: false,
         }
     );
-    assert!(rt; packet.starts_with(row.header), "{}", row.name);
+    assert!(rt; packet.starts_with(&row.header), "{}", row.name);
     Ok(())
 }
 
 #[test]
 fn appendix_a(rt: HostRuntime) -> Result<(), Fail> {
-    for row in [A_2_PACKET, A_3_PACKET] {
-        receives(&rt, rt.alloc(), &row)?;
+    for line in PACKETS {
+        receives(&rt, &Packet::parse(rt.alloc(), line)?)?;
     }
     Ok(())
 }
