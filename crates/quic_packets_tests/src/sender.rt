@@ -158,7 +158,7 @@ fn opens(
 ) -> Result<(), PacketError> {
     let header_key = HeaderKey::new(Suite::Aes128Gcm.header_algorithm(), &HEADER_KEY[..16])?;
     assert_eq!(rt; header_key.unprotect(&mut packet, 1), Ok(1));
-    let header = [if phase { 0x44 } else { 0x40 }, number as u8];
+    let header = [if phase { 0x44 } else { 0x40 }, number.to_le_bytes()[0]];
     same(rt, &packet[..2], &header, "header");
     let key = ReceiveKey::new(Suite::Aes128Gcm.algorithm(), &[key; 16], IV)?;
     assert_eq!(rt; key.open(&mut packet, 2, number), Ok(6));
