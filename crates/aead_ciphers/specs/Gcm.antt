@@ -43,7 +43,7 @@ unfoldable pub gcm_tag : (List ℕ → List ℕ) → List ℕ → List ℕ → L
 gcm_tag cipher nonce aad ciphertext =
     ghash (cipher zero_block) (hashed aad ciphertext) ⊕ cipher (counter_block nonce 1)
 
--- the ciphertext of a plaintext followed by its tag (section 7.1 step 7)
+-- the ciphertext of a plaintext followed by its tag (section 7.1; RFC 5116 section 5.1)
 abbrev pub gcm_sealed : (List ℕ → List ℕ) → List ℕ → List ℕ → List ℕ → List ℕ
 gcm_sealed cipher nonce aad message =
     let ciphertext = gcm_encrypted cipher nonce message in ciphertext ++ gcm_tag cipher nonce aad ciphertext

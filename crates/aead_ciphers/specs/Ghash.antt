@@ -5,7 +5,7 @@ use Rattle.aead_ciphers_base.specs.Polynomial.{field_product}
 use Rattle.aead_ciphers_base.specs.ByteField.{bits_of, value_of}
 use Rattle.aead_ciphers_base.specs.Bytes.{◌⊕◌, zero_block}
 
--- a block: 16 bytes, each below 256 (section 6.3)
+-- a block: 16 bytes, each below 256
 pub record IsBlock (block : List ℕ) : Type 0 where
   pub size : length block ≡ 16
   pub bytes : All (λ byte. byte < 256) block

@@ -16,7 +16,7 @@ packet_message h packet = take (length packet - 16 - h) (drop h packet)
 abbrev pub sealed_packet : (key nonce : List ℕ) → ℕ → List ℕ → List ℕ
 sealed_packet key nonce h packet = take h packet ++ gcm_sealed (aes key) nonce (take h packet) (packet_message h packet)
 
--- the bytes after the header: the ciphertext and the tag, or the plaintext alone after an error
+-- the bytes after the header: the ciphertext and the tag, or, after an error, the plaintext without the room for the tag
 abbrev pub packet_body : {X E : Type 0} → ℕ → List ℕ → Result X E → List ℕ
 packet_body h packet (Ok x) = drop h packet
 packet_body h packet (Err e) = packet_message h packet

@@ -4,7 +4,7 @@ use Rattle.std.specs.List.{range_with_len}
 use Rattle.aead_ciphers_base.specs.Polynomial.{◌xor◌, coefficient, field_product}
 use Rattle.aead_ciphers_base.specs.Bytes.{each_below}
 
--- the k lowest bits of n as coefficients, the least significant first (section 3.2: the byte {b7 .. b0} is the
+-- the k lowest bits of n as coefficients, the least significant first (section 4: the byte {b7 .. b0} is the
 -- polynomial b7 x^7 + .. + b0)
 abbrev pub bits_of : ℕ → ℕ → List Bool
 bits_of zero n = []

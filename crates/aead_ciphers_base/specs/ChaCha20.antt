@@ -64,7 +64,7 @@ state_block s = le_bytes (zip2 add32 (iterate double_round 10 s) s)
 unfoldable pub chacha20_block : List ℕ → ℕ → List ℕ → List ℕ
 chacha20_block key counter nonce = state_block (initial_state key counter nonce)
 
--- byte i of the keystream: the blocks from the counter on, one after another (section 2.4)
+-- byte i of the keystream: the blocks from the counter on, one after another, where each number is below 2^32 (section 2.4)
 unfoldable pub stream_byte : List ℕ → ℕ → List ℕ → ℕ → ℕ
 stream_byte key counter nonce i = slice_index (chacha20_block key (counter + i / 64) nonce) (i % 64)
 

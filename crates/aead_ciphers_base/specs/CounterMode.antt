@@ -16,7 +16,7 @@ counter_byte cipher nonce k i = slice_index (cipher (counter_block nonce (k + i 
 unfoldable pub counter_mode : (List ℕ → List ℕ) → List ℕ → ℕ → List ℕ → List ℕ
 counter_mode cipher nonce k text = xored (counter_byte cipher nonce k) text
 
--- the block is the counter block of a 12-byte nonce and the number k (section 7.1 step 2)
+-- the block is the counter block of a 12-byte nonce and the number k (sections 6.2 and 7.1)
 pub record IsCounter (block nonce : List ℕ) (k : ℕ) : Type 0 where
   pub size : length nonce ≡ 12
   pub value : block ≡ counter_block nonce k
