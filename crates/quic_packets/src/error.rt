@@ -9,23 +9,23 @@ use thiserror::Error;
 #[derive(Clone, Copy, PartialEq, Eq, Debug, Drop, Error)]
 pub enum PacketError {
     /// The key is not as long as the algorithm's keys.
-    #[error("the key hasn't the length of the algorithm's keys")]
+    #[error("the key does not have the length of the algorithm's keys")]
     KeyLength,
     /// The packet number is said to begin at byte 0, which is the first byte of every header.
-    #[error("a packet number can't begin at the header's first byte")]
+    #[error("the packet number cannot begin at the header's first byte")]
     NumberAtFirstByte,
     /// The packet number is not as long as the header's first byte says (RFC 9000 sections 17.2 and 17.3.1), or as long as
     /// `Sender::next_number_len` returns.
-    #[error("the header's first byte gives the packet number another length")]
+    #[error("the packet number does not have the length that the header's first byte gives")]
     NumberLength,
     /// The packet number in the header is not the next one.
-    #[error("the header holds another packet number than the next one")]
+    #[error("the packet number in the header is not the next one")]
     OtherNumber,
     /// The next packet number is already above this one.
-    #[error("the next packet number lies beyond this one already")]
+    #[error("the packet number is below the next one")]
     NumberUsed,
     /// The packet number is not above the largest acknowledged one, or is too far above it for 4 bytes (RFC 9000 section 17.1).
-    #[error("4 bytes don't represent the packet number after the largest acknowledged one")]
+    #[error("4 bytes cannot encode the packet number after the largest acknowledged one")]
     NumberTooFar,
     /// The packet ends before the 16-byte sample, which begins 4 bytes after the start of the packet number (RFC 9001 section
     /// 5.4.2).
@@ -35,37 +35,37 @@ pub enum PacketError {
     #[error("the packet is shorter than its header and a tag")]
     TooShort,
     /// The payload has more than 2^36 - 32 bytes, or the header has 2^61 bytes or more (SP 800-38D section 5.2.1.1).
-    #[error("the packet is longer than AES-GCM takes")]
+    #[error("the packet is longer than AES-GCM allows")]
     TooLong,
     /// The packet is of a type without protection: Version Negotiation or Retry (RFC 9000 sections 17.2.1 and 17.2.5).
     #[error("packets of this type have no protection")]
     NoProtection,
     /// Packet numbers end at 2^62 (RFC 9000 section 12.3).
-    #[error("no packet has this number: packet numbers end at 2^62")]
+    #[error("the packet number is not below 2^62")]
     NumbersEnded,
     /// The key has sealed as many packets as its limit allows (RFC 9001 section 6.6).
-    #[error("the key has sealed as many packets as it may")]
+    #[error("the key has reached its limit of packets")]
     KeyUsedUp,
     /// The handshake is not confirmed, so the keys cannot be updated yet (RFC 9001 section 6.1).
-    #[error("the handshake isn't confirmed")]
+    #[error("the handshake is not confirmed")]
     HandshakeUnconfirmed,
     /// No packet of this key phase is acknowledged, so the keys cannot be updated again yet (RFC 9001 section 6.1).
     #[error("no packet of this key phase was acknowledged")]
     PhaseUnacknowledged,
     /// The tag does not match the header, the payload and the number under this key.
-    #[error("the packet's tag isn't the one of its header, its payload and its number")]
+    #[error("the packet is not authentic")]
     Refused,
     /// The limit on packets that fail authentication is reached (RFC 9001 section 6.6).
-    #[error("as many packets have failed authentication as may")]
+    #[error("too many packets have failed authentication")]
     TooManyFailures,
     /// The packet is authentic, but its reserved bits are set (RFC 9000 sections 17.2 and 17.3.1).
     #[error("the packet's reserved bits are set")]
     ReservedBits,
     /// The packet is authentic, but its number was already received, or is too low for the window to tell (RFC 9000 section
     /// 12.3).
-    #[error("the packet's number was received already, or is too low to tell")]
+    #[error("the packet number was already received, or is below the window")]
     Duplicate,
     /// The packet is authentic, but its key phase is out of turn (RFC 9001 section 6.4).
-    #[error("the packet's key phase is out of turn")]
+    #[error("the packet's key phase is out of order")]
     KeyUpdate,
 }

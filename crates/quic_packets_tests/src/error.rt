@@ -6,27 +6,27 @@ use std::test::Fail;
 const PACKET_ERRORS: [(PacketError, &str); 19] = [
     (
         PacketError::KeyLength,
-        "the key hasn't the length of the algorithm's keys",
+        "the key does not have the length of the algorithm's keys",
     ),
     (
         PacketError::NumberAtFirstByte,
-        "a packet number can't begin at the header's first byte",
+        "the packet number cannot begin at the header's first byte",
     ),
     (
         PacketError::NumberLength,
-        "the header's first byte gives the packet number another length",
+        "the packet number does not have the length that the header's first byte gives",
     ),
     (
         PacketError::OtherNumber,
-        "the header holds another packet number than the next one",
+        "the packet number in the header is not the next one",
     ),
     (
         PacketError::NumberUsed,
-        "the next packet number lies beyond this one already",
+        "the packet number is below the next one",
     ),
     (
         PacketError::NumberTooFar,
-        "4 bytes don't represent the packet number after the largest acknowledged one",
+        "4 bytes cannot encode the packet number after the largest acknowledged one",
     ),
     (
         PacketError::NoProtection,
@@ -34,11 +34,11 @@ const PACKET_ERRORS: [(PacketError, &str); 19] = [
     ),
     (
         PacketError::KeyUsedUp,
-        "the key has sealed as many packets as it may",
+        "the key has reached its limit of packets",
     ),
     (
         PacketError::HandshakeUnconfirmed,
-        "the handshake isn't confirmed",
+        "the handshake is not confirmed",
     ),
     (
         PacketError::PhaseUnacknowledged,
@@ -54,19 +54,13 @@ const PACKET_ERRORS: [(PacketError, &str); 19] = [
     ),
     (
         PacketError::TooLong,
-        "the packet is longer than AES-GCM takes",
+        "the packet is longer than AES-GCM allows",
     ),
-    (
-        PacketError::NumbersEnded,
-        "no packet has this number: packet numbers end at 2^62",
-    ),
-    (
-        PacketError::Refused,
-        "the packet's tag isn't the one of its header, its payload and its number",
-    ),
+    (PacketError::NumbersEnded, "the packet number is not below 2^62"),
+    (PacketError::Refused, "the packet is not authentic"),
     (
         PacketError::TooManyFailures,
-        "as many packets have failed authentication as may",
+        "too many packets have failed authentication",
     ),
     (
         PacketError::ReservedBits,
@@ -74,11 +68,11 @@ const PACKET_ERRORS: [(PacketError, &str); 19] = [
     ),
     (
         PacketError::Duplicate,
-        "the packet's number was received already, or is too low to tell",
+        "the packet number was already received, or is below the window",
     ),
     (
         PacketError::KeyUpdate,
-        "the packet's key phase is out of turn",
+        "the packet's key phase is out of order",
     ),
 ];
 

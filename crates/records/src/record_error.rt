@@ -21,13 +21,13 @@ pub enum AlertDescription {
 #[derive(Clone, Copy, Debug, PartialEq, Eq, Drop, Error)]
 pub enum RecordError {
     /// The key is not as long as the algorithm's keys.
-    #[error("the key hasn't the length of the algorithm's keys")]
+    #[error("the key does not have the length of the algorithm's keys")]
     KeyLength,
     /// The size limit is not from 64 to 2^14 + 1 bytes (RFC 8449 section 4).
-    #[error("the size limit isn't from 64 to 2^14 + 1")]
+    #[error("the size limit is not between 64 and 2^14 + 1")]
     SizeLimit,
     /// The content, its type and its padding exceed the size limit (RFC 8446 section 5.4, RFC 8449 section 4).
-    #[error("the content and its padding are longer than the size limit allows for")]
+    #[error("the content and its padding are longer than the size limit allows")]
     ContentTooLong,
     /// The buffer has no room for the record: its content and padding, and 22 bytes more.
     #[error("the buffer has no room for the record")]
@@ -39,14 +39,14 @@ pub enum RecordError {
     #[error("the limit of records under this key is reached")]
     SequenceEnded,
     /// The reader has rejected a record before, which ended the connection.
-    #[error("the reader is closed, since it has refused a record")]
+    #[error("the reader is closed, since it has rejected a record")]
     Closed,
     /// The bytes are not one whole record: the header is cut off, or announces another length.
-    #[error("the record's length isn't the one that its header gives")]
+    #[error("the record does not have the length that its header gives")]
     WrongLength,
     /// The header is of no record that is allowed here: a reader only takes application data of version 0x0303 (RFC 8446
     /// section 5.2), and a connection only has the records of `RecordKind`.
-    #[error("the header is that of another record")]
+    #[error("the record header is not an expected one")]
     UnexpectedRecord,
     /// The header announces a plaintext record of more than 2^14 bytes (RFC 8446 section 5.1).
     #[error("the plaintext record has more than 2^14 bytes")]
@@ -62,13 +62,13 @@ pub enum RecordError {
     #[error("the encrypted record has fewer than 17 bytes")]
     EncryptedRecordTooShort,
     /// The tag is wrong: the record was changed, or is of another key or number.
-    #[error("the record's tag is another")]
+    #[error("the record is not authentic")]
     Refused,
     /// The record is authentic, but its inner plaintext is all zeros (RFC 8446 section 5.4).
     #[error("the inner plaintext has no content type")]
     NoContentType,
     /// The record is authentic, but a protected record cannot have its content type (RFC 8446 section 5).
-    #[error("a protected record has no such content type")]
+    #[error("a protected record cannot have this content type")]
     UnexpectedType,
     /// An alert or a handshake content is empty, when writing it or, in an authentic record, reading it (RFC 8446 section 5.4).
     #[error("an alert or handshake record has no content")]

@@ -447,17 +447,17 @@ fn by_number(rt: HostRuntime) -> Result<(), Fail> {
 const TEXTS: [(RecordError, &str, u8); 17] = [
     (
         RecordError::KeyLength,
-        "the key hasn't the length of the algorithm's keys",
+        "the key does not have the length of the algorithm's keys",
         0,
     ),
     (
         RecordError::SizeLimit,
-        "the size limit isn't from 64 to 2^14 + 1",
+        "the size limit is not between 64 and 2^14 + 1",
         0,
     ),
     (
         RecordError::ContentTooLong,
-        "the content and its padding are longer than the size limit allows for",
+        "the content and its padding are longer than the size limit allows",
         0,
     ),
     (
@@ -473,17 +473,17 @@ const TEXTS: [(RecordError, &str, u8); 17] = [
     ),
     (
         RecordError::Closed,
-        "the reader is closed, since it has refused a record",
+        "the reader is closed, since it has rejected a record",
         0,
     ),
     (
         RecordError::WrongLength,
-        "the record's length isn't the one that its header gives",
+        "the record does not have the length that its header gives",
         0,
     ),
     (
         RecordError::UnexpectedRecord,
-        "the header is that of another record",
+        "the record header is not an expected one",
         10,
     ),
     (
@@ -506,7 +506,7 @@ const TEXTS: [(RecordError, &str, u8); 17] = [
         "the encrypted record has fewer than 17 bytes",
         20,
     ),
-    (RecordError::Refused, "the record's tag is another", 20),
+    (RecordError::Refused, "the record is not authentic", 20),
     (
         RecordError::NoContentType,
         "the inner plaintext has no content type",
@@ -514,7 +514,7 @@ const TEXTS: [(RecordError, &str, u8); 17] = [
     ),
     (
         RecordError::UnexpectedType,
-        "a protected record has no such content type",
+        "a protected record cannot have this content type",
         10,
     ),
     (

@@ -59,7 +59,7 @@ fn request_of(rt: &HostRuntime) -> Result<Request, Failure> {
 fn report(rt: &HostRuntime, request: &Request, failure: &Failure) -> ExitCode {
     let _ = match failure {
         Failure::Use(error) => eprintln!(rt; "seal_file: {error}; see --help"),
-        Failure::KeyLength => say(rt, request, Place::KeyFile, &"the key hasn't 32 bytes"),
+        Failure::KeyLength => say(rt, request, Place::KeyFile, &"the key is not 32 bytes long"),
         Failure::KeyExists => say(rt, request, Place::KeyFile, &"the file exists"),
         Failure::Exists => say(rt, request, Place::Output, &"the file exists"),
         Failure::SameFile => say(rt, request, Place::Output, &"this is the file that is read"),

@@ -53,9 +53,9 @@ const SEALED: [(usize, [u8; 16]); 6] = [
 ];
 
 /// The message for a wrong first chunk.
-const FIRST_REFUSED: &str = "chunk 0 was changed or cut, or (version 1) the key is another";
+const FIRST_REFUSED: &str = "chunk 0 was changed or cut, or (version 1) the key is wrong";
 
-const SECOND_REFUSED: &str = "chunk 1 was changed or cut, or (version 1) the key is another";
+const SECOND_REFUSED: &str = "chunk 1 was changed or cut, or (version 1) the key is wrong";
 
 const ENDS_EARLY: &str = "the sealed file ends early";
 
@@ -63,7 +63,7 @@ const TRAILING_BYTES: &str = "bytes after the last chunk";
 
 const VERSION_THREE: &str = "a sealed file of version 3, which is neither 1 nor 2";
 
-const ANOTHER_KEY: &str = "another key, or the header was changed";
+const ANOTHER_KEY: &str = "the key is wrong, or the header was changed";
 
 /// Two lists of bytes are equal.
 fn same(rt: &impl Abort, found: &[u8], wanted: &[u8], what: &str) {
@@ -304,8 +304,8 @@ fn another_key(rt: HostRuntime) -> Result<(), Fail> {
 #[test]
 fn texts(rt: HostRuntime) -> Result<(), Fail> {
     for (error, text) in [
-        (FileKey::new(&[7; 31]).err(), "the key hasn't 32 bytes"),
-        (FileKey::new(&[7; 33]).err(), "the key hasn't 32 bytes"),
+        (FileKey::new(&[7; 31]).err(), "the key is not 32 bytes long"),
+        (FileKey::new(&[7; 33]).err(), "the key is not 32 bytes long"),
         (
             Some(FileError::TooLong),
             "the file is too long: it has 2^32 chunks or more",

@@ -33,18 +33,18 @@ pub enum FileError {
 impl fmt::Display for FileError {
     fn fmt<W: fmt::Write>(&self, f: &mut fmt::Formatter<W>) -> fmt::Result {
         match self {
-            FileError::KeyLength => write!(f, "the key hasn't 32 bytes"),
+            FileError::KeyLength => write!(f, "the key is not 32 bytes long"),
             FileError::AnotherMagic => write!(f, "not a sealed file"),
             FileError::AnotherVersion(version) => write!(
                 f,
                 "a sealed file of version {version}, which is neither 1 nor 2"
             ),
-            FileError::WrongKey => write!(f, "another key, or the header was changed"),
+            FileError::WrongKey => write!(f, "the key is wrong, or the header was changed"),
             FileError::EndsEarly => write!(f, "the sealed file ends early"),
             FileError::TrailingBytes => write!(f, "bytes after the last chunk"),
             FileError::Refused(number) => write!(
                 f,
-                "chunk {number} was changed or cut, or (version 1) the key is another"
+                "chunk {number} was changed or cut, or (version 1) the key is wrong"
             ),
             FileError::TooLong => write!(f, "the file is too long: it has 2^32 chunks or more"),
             FileError::OutOfMemory => write!(f, "out of memory"),
