@@ -45,10 +45,10 @@ fn opens_behind_nonce(rt: &impl Abort, alloc: Global, case: &Case) -> Result<(),
     let mut message = case.nonce.to_vec(alloc)?;
     message.extend_from_slice(&case.ciphertext)?;
     message.extend_from_slice(&case.tag)?;
-    let len = messages::open_behind_nonce(&key(case)?, &case.aad, &mut message)?;
+    let len = messages::open_after_nonce(&key(case)?, &case.aad, &mut message)?;
     assert_eq!(rt; len, case.message.len());
     assert!(rt; message.as_slice().starts_with(&case.message));
-    let opened = messages::open_behind_nonce(&key(case)?, &case.aad, &mut message[..NONCE_LEN - 1]);
+    let opened = messages::open_after_nonce(&key(case)?, &case.aad, &mut message[..NONCE_LEN - 1]);
     assert!(rt; opened.is_err());
     Ok(())
 }

@@ -12,7 +12,7 @@ use arrayvec::ArrayVec;
 
 /// Opens a message that has its nonce before it and its tag after it, and returns the length of the plaintext, which then
 /// stands at the front of the buffer.
-pub fn open_behind_nonce(
+pub fn open_after_nonce(
     key: &LessSafeKey,
     aad: &[u8],
     message: &mut [u8],
