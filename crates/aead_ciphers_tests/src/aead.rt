@@ -1,4 +1,4 @@
-//! `aead`: keys that use the nonce handed in.
+//! Tests of `aead`: keys to which the caller passes a nonce.
 
 use crate::cases::{aad, false_tag, key, key_bytes, nonce, opened_at_4, packet, sealed};
 use crate::checks::{holds, reads, same};
@@ -44,7 +44,7 @@ fn keys_of_other_lengths_are_refused(rt: HostRuntime) {
     }
 }
 
-/// Seals with a separate tag, and opens.
+/// Asserts that a case is sealed with a separate tag, and opened.
 fn seals(rt: &impl Abort, case: &Case) -> Result<(), Fail> {
     let mut in_out = case.message.clone()?;
     let tag = key(case)?.seal_in_place_separate_tag(nonce(case), aad(case), &mut in_out)?;
@@ -56,7 +56,7 @@ fn seals(rt: &impl Abort, case: &Case) -> Result<(), Fail> {
     Ok(())
 }
 
-/// Seals with the tag appended, and opens.
+/// Asserts that a case is sealed with the tag appended, and opened.
 fn appends(rt: &impl Abort, alloc: Global, case: &Case) -> Result<(), Fail> {
     let mut in_out = case.message.clone()?;
     key(case)?.seal_in_place_append_tag(nonce(case), aad(case), &mut in_out)?;
@@ -77,7 +77,7 @@ fn gcm_spec_cases(rt: HostRuntime) -> Result<(), Fail> {
     Ok(())
 }
 
-/// Opens a case from byte 4 on.
+/// Asserts that opening a case at offset 4 yields its message.
 fn opens_at_4(rt: &impl Abort, case: &Case, in_out: &mut [u8]) -> Result<(), Fail> {
     let key = key(case)?;
     let plaintext = key.open_within(nonce(case), aad(case), in_out, 4..)?;
@@ -85,7 +85,7 @@ fn opens_at_4(rt: &impl Abort, case: &Case, in_out: &mut [u8]) -> Result<(), Fai
     Ok(())
 }
 
-/// Opens the same, and writes over the plaintext.
+/// Opens a case at offset 4, and overwrites the plaintext.
 fn opens_and_writes(case: &Case, in_out: &mut [u8]) -> Result<(), Fail> {
     let key = key(case)?;
     let plaintext = key.open_within(nonce(case), aad(case), in_out, 4..)?;
@@ -115,7 +115,7 @@ fn gcm_spec_case_4_within(rt: HostRuntime) -> Result<(), Fail> {
     Ok(())
 }
 
-/// Opening from a start on is refused, and the buffer stays.
+/// Asserts that opening at `start` fails and the buffer is unchanged.
 fn is_refused(
     rt: &impl Abort,
     alloc: Global,
@@ -131,7 +131,7 @@ fn is_refused(
     Ok(())
 }
 
-/// The same, with a separate tag.
+/// Like `is_refused`, but with a separate tag.
 fn is_refused_apart(
     rt: &impl Abort,
     alloc: Global,
@@ -181,7 +181,7 @@ fn round_trip_of_one(rt: HostRuntime) -> Result<(), Fail> {
     Ok(())
 }
 
-/// Seals a message: `reference` gives the same bytes and tag.
+/// Asserts that sealing a message yields the ciphertext and tag of `reference`.
 fn seals_as_reference(
     rt: &impl Abort,
     alloc: Global,
@@ -198,7 +198,7 @@ fn seals_as_reference(
     Ok(())
 }
 
-/// Seals each front of 100 bytes, with the rest as AAD.
+/// Asserts the same for each prefix of 100 bytes, with the remaining bytes as the AAD.
 fn seals_each_front(rt: &impl Abort, alloc: Global, case: &Case) -> Result<(), Fail> {
     let aes_key = aes::Key::new(key_bytes(case)?)?;
     let mut bytes = [0; 100];

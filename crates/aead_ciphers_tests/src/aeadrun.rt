@@ -1,4 +1,4 @@
-//! `aeadrun`: what lines are answered by.
+//! Tests of `aeadrun`: lines of input, and the lines printed for them.
 
 use crate::cases;
 use crate::checks::holds;
@@ -9,7 +9,8 @@ use std::alloc::{AllocError, Global};
 use std::process::Abort;
 use std::test::Fail;
 
-/// Lines, the answers to them, and the exit status. The bytes of test cases stand in them by the names of `filled`.
+/// Lines of input, the lines printed for them, and the exit status. `filled` replaces the names in angle brackets by bytes
+/// of test cases.
 struct Run {
     name: &'static str,
     input: &'static str,
@@ -102,7 +103,7 @@ const RUNS: [Run; 12] = [
                   ok <ciphertext><tag>\n",
         status: 0,
     },
-    // The tag at the last number is OpenSSL's.
+    // The tag at the last number was computed by OpenSSL.
     Run {
         name: "refused keys keep those before",
         input: "keys 128 <zeros> 00000000 0000000000000000 2\n\
@@ -172,7 +173,7 @@ const RUNS: [Run; 12] = [
     },
 ];
 
-/// Lines that are no command.
+/// Lines that aren't commands.
 const BAD_LINES: [&[u8]; 46] = [
     b"next-seal - -\n",
     b"next-open - 0 -\n",
@@ -222,7 +223,7 @@ const BAD_LINES: [&[u8]; 46] = [
     b"seal 128 00 00 - \xef\xbc\x90\xef\xbc\x90",
 ];
 
-/// The input is answered so.
+/// Asserts that `lines` prints this output for the input, and returns this status.
 fn answers(rt: &impl Abort, alloc: Global, input: &[u8], printed: &[u8], status: u8) {
     let mut rest = input;
     let mut output = Vec::new(alloc);
@@ -234,7 +235,7 @@ fn answers(rt: &impl Abort, alloc: Global, input: &[u8], printed: &[u8], status:
     );
 }
 
-/// The text with bytes in place of their names: of test cases 4 and 2, and a block of zeros.
+/// Replaces the names in the text by tags, bytes of test cases 4 and 2, and a block of zeros.
 fn filled(alloc: Global, text: &str) -> Result<String, Fail> {
     let case_2 = Case::parse(alloc, CASE_2)?;
     let case_4 = Case::parse(alloc, CASE_4)?;
@@ -248,7 +249,7 @@ fn filled(alloc: Global, text: &str) -> Result<String, Fail> {
     Ok(with_bytes(alloc, text.as_str(), "<zeros>", &case_2.message)?)
 }
 
-/// The text with tags: of test cases 1, 2 and 4, and test case 4's with its last bit flipped.
+/// Replaces the names of tags: those of test cases 1, 2 and 4, and that of test case 4 with its last bit flipped.
 fn with_tags(
     alloc: Global,
     text: &str,
@@ -264,7 +265,7 @@ fn with_tags(
     Ok(with_bytes(alloc, text.as_str(), "<tag_2>", tag_2)?)
 }
 
-/// The text with bytes in place of a name.
+/// Replaces a name in the text by bytes in hex.
 fn with_bytes(
     alloc: Global,
     text: &str,
@@ -297,7 +298,7 @@ fn bad_lines(rt: HostRuntime) {
     }
 }
 
-/// The word of bytes.
+/// Returns the word for bytes, which is `-` if there are none.
 fn word(alloc: Global, bytes: &[u8]) -> Result<String, AllocError> {
     if bytes.is_empty() {
         String::from_str(alloc, "-")
@@ -306,7 +307,7 @@ fn word(alloc: Global, bytes: &[u8]) -> Result<String, AllocError> {
     }
 }
 
-/// A line of words parted by one space, each of bytes but for the head.
+/// Returns a line: the head and a word for each item of `words`, separated by single spaces.
 fn line(alloc: Global, head: &str, words: &[&[u8]]) -> Result<String, AllocError> {
     let mut line = String::from_str(alloc, head)?;
     for bytes in words {
@@ -329,7 +330,7 @@ fn seal_line<'a>(
     line(alloc, head.as_str(), &[key, nonce, aad, message])
 }
 
-/// The answer to sealing.
+/// Returns the line printed for sealing.
 fn ok_line<'a>(alloc: Global, ciphertext: &'a [u8], tag: &'a [u8]) -> Result<String, AllocError> {
     line(alloc, "ok", &[ciphertext, tag])
 }
@@ -375,7 +376,7 @@ fn masks(rt: HostRuntime) -> Result<(), Fail> {
 
 const MEBIBYTE: usize = 1 << 20;
 
-/// A line that seals a mebibyte of zeros under a key and a nonce of zeros.
+/// Returns a line that seals a mebibyte of zeros with a key and a nonce of zeros.
 fn line_of_a_mebibyte(alloc: Global) -> Result<String, Fail> {
     let zeros = vec![in alloc; 0; MEBIBYTE]?;
     Ok(seal_line(alloc, "128", &[0; 16], &[0; 12], &[], &zeros)?)
@@ -398,7 +399,7 @@ fn a_message_of_a_mebibyte(rt: HostRuntime) -> Result<(), Fail> {
         output.as_slice().starts_with(front.as_bytes()),
         "the first block",
     );
-    // OpenSSL's last block and tag.
+    // The last block and the tag, computed by OpenSSL.
     let end = b"590ec3d3cb8f2900dae97d47be155154 51d0dc1a2bffcab23b43f5d30b4f6c7c\n";
     holds(
         &rt,

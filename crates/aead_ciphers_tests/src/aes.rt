@@ -1,4 +1,4 @@
-//! `aes`: the cipher in each of four blocks, the numbers of counter blocks, and counter mode where they wrap.
+//! Tests of `aes`: the cipher at each of four positions, the numbers of counter blocks, and counter mode when they wrap.
 
 use crate::checks::{holds, same};
 use aead_ciphers_base::aes::{
@@ -19,7 +19,7 @@ fn s_box_of_zero_planes(rt: HostRuntime) {
     holds(&rt, planes == wanted, "planes of 0x63");
 }
 
-/// A key of 16 or 32 bytes.
+/// Expands a key of 16 or 32 bytes.
 fn expanded(key: &[u8]) -> Result<Key, Fail> {
     let bytes = match key.as_array::<16>() {
         Some(key) => KeyBytes::AES_128(key),
@@ -28,7 +28,7 @@ fn expanded(key: &[u8]) -> Result<Key, Fail> {
     Ok(Key::new(bytes)?)
 }
 
-/// A block is enciphered so, alone and in each of four places between blocks of zeros.
+/// Asserts the encryption of a block, alone and at each of four positions among blocks of zeros.
 fn enciphers_in_each_place(rt: &impl Abort, key: &Key, case: &Case) {
     let found = key.encrypt_block(case.plaintext, &mut Work::new());
     same(rt, &found, &case.ciphertext, case.name);
@@ -47,7 +47,7 @@ fn enciphers_in_each_place(rt: &impl Abort, key: &Key, case: &Case) {
     }
 }
 
-/// The same under a key and under its copy.
+/// Asserts the same with a key and with its clone.
 fn enciphers(rt: &impl Abort, case: &Case) -> Result<(), Fail> {
     let key = expanded(&case.key)?;
     enciphers_in_each_place(rt, &key, case);
@@ -66,7 +66,7 @@ fn encrypt_block_and_encrypt_four(rt: HostRuntime) -> Result<(), Fail> {
     Ok(())
 }
 
-/// The counter whose block is this one.
+/// Returns the counter with this block.
 fn counter_of(block: &[u8; 16]) -> Counter {
     let mut nonce = [0; 12];
     nonce.copy_from_slice(&block[..12]);
@@ -77,7 +77,7 @@ fn counter_of(block: &[u8; 16]) -> Counter {
     counter
 }
 
-/// Four blocks are encrypted from the initial counter block on.
+/// Asserts the encryption of four blocks, starting at the initial counter block.
 fn encrypts(rt: &impl Abort, case: &CtrCase) -> Result<(), Fail> {
     let mut bytes = *case
         .plaintext
@@ -102,12 +102,12 @@ fn ctr32_encrypt_within(rt: HostRuntime) -> Result<(), Fail> {
 
 const NONCE: [u8; 12] = [1; 12];
 
-/// Counter block 1 of the nonce.
+/// Returns the counter of `NONCE` at number 1.
 fn one() -> Counter {
     Counter::one(Nonce::assume_unique_for_key(NONCE))
 }
 
-/// The counter block of the nonce and a number.
+/// Returns the counter block of `NONCE` and a number.
 fn counter_block(number: u32) -> Block {
     let mut block = ZERO_BLOCK;
     block[..12].copy_from_slice(&NONCE);
@@ -115,7 +115,7 @@ fn counter_block(number: u32) -> Block {
     block
 }
 
-/// The counter stands at a number.
+/// Asserts that the counter is at a number.
 fn stands_at(rt: &impl Abort, counter: &Counter, number: u32) {
     same(rt, counter.as_ref(), &counter_block(number), "the counter");
 }
@@ -129,7 +129,7 @@ fn increment_gives_the_counter_as_it_was(rt: HostRuntime) {
     stands_at(&rt, &counter, 2);
 }
 
-/// A counter that stands at a number.
+/// Returns the counter of `NONCE` at a number.
 fn counter_at(number: u32) -> Counter {
     let mut counter = one();
     counter.increment_by_less_safe(number.wrapping_sub(1));
@@ -148,7 +148,7 @@ fn sums_wrap_in_the_last_four_bytes(rt: HostRuntime) {
     }
 }
 
-/// Five blocks of the key stream, from a number on.
+/// Asserts the five blocks of the keystream that start at a number, and the number and the work after them.
 fn keystream_from(rt: &impl Abort, key: &Key, number: u32) {
     let mut counter = counter_at(number);
     let mut keystream = [0; 5 * BLOCK_LEN];

@@ -1,4 +1,4 @@
-//! `aes_gcm`: the work of each call, and every byte of long messages.
+//! Tests of `aes_gcm`: the work of each call, and every byte of long messages.
 
 use crate::callers::seal_where_room;
 use crate::cases::{false_tag, key_bytes};
@@ -12,12 +12,12 @@ use std::alloc::Global;
 use std::process::Abort;
 use std::test::Fail;
 
-/// The key of a test case.
+/// Expands the key of a test case.
 fn key(case: &Case) -> Result<Key, Fail> {
     Ok(Key::new(key_bytes(case)?, &mut Work::new())?)
 }
 
-/// Seals under the key and the nonce of a test case, and returns the tag and the work.
+/// Seals with the key and the nonce of a test case, and returns the tag and the work.
 fn sealed(case: &Case, aad: &[u8], buffer: &mut [u8]) -> Result<(Tag, Work), Fail> {
     let mut work = Work::new();
     let nonce = Nonce::assume_unique_for_key(case.nonce);
@@ -25,7 +25,7 @@ fn sealed(case: &Case, aad: &[u8], buffer: &mut [u8]) -> Result<(Tag, Work), Fai
     Ok((tag, work))
 }
 
-/// Opens from a start on under the same, and returns whether that succeeded, and the work.
+/// Opens at `start` with the key and the nonce of a test case, and returns whether it succeeded, and the work.
 fn opened(
     case: &Case,
     aad: &[u8],
@@ -40,7 +40,7 @@ fn opened(
     Ok((opened.is_ok(), work))
 }
 
-/// The tallies are these.
+/// Asserts the numbers of cipher blocks and products.
 fn worked(rt: &impl Abort, work: &Work, blocks: u64, products: u64, what: &str) {
     assert_eq!(rt;
         (work.blocks(), work.products()),
@@ -57,7 +57,7 @@ fn work_of_a_key(rt: HostRuntime) {
     worked(&rt, &work, 1, 0, "a key");
 }
 
-/// Sealing and opening so long a message and AAD takes so many cipher blocks and products.
+/// Asserts the numbers of cipher blocks and products for sealing and opening a message and an AAD of these lengths.
 fn work_at(
     rt: &impl Abort,
     (alloc, case): (Global, &Case),
@@ -91,7 +91,7 @@ fn work_of_sealing_and_opening(rt: HostRuntime) -> Result<(), Fail> {
     Ok(())
 }
 
-// A false tag, and a start past the end.
+// A wrong tag, and a start past the end.
 #[test]
 fn work_of_a_refused_opening(rt: HostRuntime) -> Result<(), Fail> {
     let case = Case::parse(rt.alloc(), CASE_4)?;
@@ -105,7 +105,7 @@ fn work_of_a_refused_opening(rt: HostRuntime) -> Result<(), Fail> {
     Ok(())
 }
 
-/// Five blocks and seven products to seal and to open, one block and seven products to refuse a false tag.
+/// Sealing and opening take five blocks and seven products, and rejecting a wrong tag takes one block and seven products.
 #[test]
 fn work_of_gcm_spec_case_4(rt: HostRuntime) -> Result<(), Fail> {
     let case = Case::parse(rt.alloc(), CASE_4)?;
@@ -120,7 +120,7 @@ fn work_of_gcm_spec_case_4(rt: HostRuntime) -> Result<(), Fail> {
     Ok(())
 }
 
-/// The bytes 0 to 250, over and over.
+/// Returns `len` bytes that repeat the bytes from 0 to 250.
 fn counting(alloc: Global, len: usize) -> Result<Vec<u8>, Fail> {
     let mut bytes = Vec::new(alloc);
     for i in 0..len {
@@ -129,8 +129,8 @@ fn counting(alloc: Global, len: usize) -> Result<Vec<u8>, Fail> {
     Ok(bytes)
 }
 
-/// Opening a ciphertext after a start refuses a false tag and leaves the buffer; under the right one the message stands
-/// in front, and each later byte is as it was.
+/// Asserts that opening at `start` fails for a wrong tag and the buffer is unchanged. For the correct tag, asserts that the
+/// message is at the front and each byte after it is unchanged.
 fn opened_from(
     rt: &impl Abort,
     alloc: Global,
@@ -160,12 +160,12 @@ fn with_last_bit_flipped(mut tag: [u8; 16]) -> [u8; 16] {
     tag
 }
 
-/// The bytes before a place, and those from it on.
+/// Splits bytes at `place`, or at the end if `place` is past it.
 fn parts(bytes: &[u8], place: usize) -> (&[u8], &[u8]) {
     bytes.split_at(place.min(bytes.len()))
 }
 
-/// Seals a message, and opens it at each of nine starts.
+/// Asserts that a message is sealed as by `reference`, and opened at each of nine starts.
 fn every_start(rt: &impl Abort, alloc: Global, case: &Case, len: usize) -> Result<(), Fail> {
     let key = aes::Key::new(key_bytes(case)?)?;
     let message = counting(alloc, len)?;

@@ -1,10 +1,10 @@
-//! `bb`: which slices are equal, and what is XORed.
+//! Tests of `bb`: equality of slices, and XOR.
 
 use crate::checks::{holds, same};
 use aead_ciphers_base::bb::{verify_slices_are_equal, xor_16, xor_assign, xor_assign_at_start};
 use std::process::Abort;
 
-/// Two slices are accepted as equal, or refused.
+/// Asserts that two slices compare equal if and only if `are_equal`.
 fn compares(rt: &impl Abort, a: &[u8], b: &[u8], are_equal: bool) {
     let compared = verify_slices_are_equal(a, b);
     holds(rt, compared.is_ok() == are_equal, "equal or not");
@@ -34,7 +34,7 @@ fn another_length_is_refused(rt: HostRuntime) {
     compares(&rt, &[0x5a; 127], &[0x5a; 255], false);
 }
 
-/// XOR at the start of the bytes gives these.
+/// Asserts the result of XOR at the start of the bytes.
 fn xors_at_start(rt: &impl Abort, mut bytes: [u8; 3], with: &[u8], wanted: &[u8]) {
     xor_assign_at_start(&mut bytes, with);
     same(rt, &bytes, wanted, "the XOR");

@@ -1,4 +1,4 @@
-//! Keys over a counter and over a sequence that isn't one.
+//! Tests of keys with a counter and with another nonce sequence.
 
 use crate::cases::{aad, key, opened_at_4, packet, sealed, unbound_key};
 use crate::checks::{holds, reads, same};
@@ -53,7 +53,7 @@ fn debug_texts(rt: HostRuntime) -> Result<(), Fail> {
     Ok(())
 }
 
-/// Sealing no message gives this tag, or is refused.
+/// Asserts that sealing an empty message yields this tag, or fails if there is none.
 fn seals<N: NonceSequence>(
     rt: &impl Abort,
     key: &mut SealingKey<N>,
@@ -109,7 +109,8 @@ fn no_room_spends_no_nonce(rt: HostRuntime) -> Result<(), Fail> {
     Ok(())
 }
 
-/// Appending to the message of a case succeeds, or leaves the message.
+/// Asserts that appending the tag to the message of a case yields `wanted`. If that is `None`, asserts that appending fails
+/// and the message is unchanged.
 fn appends<const CAP: usize>(
     rt: &impl Abort,
     case: &Case,
@@ -146,7 +147,7 @@ fn gcm_spec_case_4_sealed(rt: HostRuntime) -> Result<(), Fail> {
     Ok(())
 }
 
-/// A header that reaches into the room is refused, and spends no nonce.
+/// Sealing fails and uses no nonce if the header reaches into the room for the tag.
 #[test]
 fn gcm_spec_case_4_as_a_packet(rt: HostRuntime) -> Result<(), Fail> {
     let case = Case::parse(rt.alloc(), CASE_4)?;
@@ -162,7 +163,7 @@ fn gcm_spec_case_4_as_a_packet(rt: HostRuntime) -> Result<(), Fail> {
     Ok(())
 }
 
-/// Opens a case from byte 4 on.
+/// Asserts that opening a case at offset 4 yields its message.
 fn opens_at_4(
     rt: &impl Abort,
     case: &Case,
@@ -189,7 +190,7 @@ fn gcm_spec_case_4_opened_once(rt: HostRuntime) -> Result<(), Fail> {
     Ok(())
 }
 
-/// A header that is longer than the packet is refused, with the nonce spent.
+/// Opening fails and uses a nonce if the header is longer than the packet.
 #[test]
 fn gcm_spec_case_4_opened_as_a_packet(rt: HostRuntime) -> Result<(), Fail> {
     let case = Case::parse(rt.alloc(), CASE_4)?;

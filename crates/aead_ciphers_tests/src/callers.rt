@@ -1,4 +1,4 @@
-//! Callers whose contracts are proved from those of the libraries alone.
+//! Callers whose contracts are proved from the contracts of the libraries alone.
 
 ghost use Rattle.std.specs.Prelude.{◌≡◌, ◌↔◌, length, IsTrue, IsOk};
 ghost use Rattle.aead_ciphers.specs.Algorithm.{id};
@@ -10,21 +10,21 @@ use aead_ciphers::aead::{AES_128_GCM, AES_256_GCM, Aad, Algorithm, Nonce, Tag, U
 use aead_ciphers::aes_gcm;
 use aead_ciphers_base::aes::Work;
 
-/// Equal exactly where the ids are.
+/// Returns `true` if and only if the IDs are equal.
 fn same_algorithm(a: &Algorithm, b: &Algorithm) -> bool
     ensures { IsTrue result ↔ (id a.now ≡ id b.now) }
 {
     a == b
 }
 
-/// Equal exactly where the bytes are.
+/// Returns `true` if and only if the bytes are equal.
 fn same_aad(a: &Aad<'_>, b: &Aad<'_>) -> bool
     ensures { IsTrue result ↔ (aad_bytes a.now ≡ aad_bytes b.now) }
 {
     a == b
 }
 
-/// What a caller learns from `==`.
+/// Returns `true` if and only if the algorithms are equal: a caller's proof learns this from `==`.
 pub(crate) fn same_quic_algorithm(a: &quic::Algorithm, b: &quic::Algorithm) -> bool
     ensures { IsTrue result ↔ (a.now ≡ b.now) }
 {
@@ -39,7 +39,7 @@ fn equality(rt: HostRuntime) {
     assert!(rt; !same_aad(&Aad::from(b"a".as_slice()), &Aad::from(b"b".as_slice())));
 }
 
-/// Seals where the tallies have room, which is enough for one call, of whatever lengths.
+/// Seals if the tallies have room, which is enough for one call with any lengths.
 pub(crate) fn seal_where_room(
     key: &aes_gcm::Key,
     nonce: Nonce,

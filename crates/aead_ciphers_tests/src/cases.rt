@@ -1,4 +1,4 @@
-//! What the calls take of a test case of the GCM specification.
+//! Arguments of calls, from a test case of the GCM specification.
 
 use aead_ciphers::aead::{
     AES_128_GCM, AES_256_GCM, Aad, Algorithm, LessSafeKey, MAX_TAG_LEN, Nonce, Tag, UnboundKey,
@@ -8,7 +8,7 @@ use aead_vectors::gcm_spec::Case;
 use std::alloc::Global;
 use std::test::Fail;
 
-/// The algorithm, by the length of the key.
+/// Returns the algorithm for the length of the key.
 fn algorithm(case: &Case) -> &'static Algorithm {
     if case.key.len() == aes::AES_128_KEY_LEN {
         &AES_128_GCM
@@ -17,7 +17,7 @@ fn algorithm(case: &Case) -> &'static Algorithm {
     }
 }
 
-/// The algorithm's word in a line of `aeadrun`.
+/// Returns the algorithm's word in a line of `aeadrun`.
 pub(crate) fn word(case: &Case) -> &'static str {
     if case.key.len() == aes::AES_128_KEY_LEN {
         "128"
@@ -34,7 +34,7 @@ pub(crate) fn key_bytes(case: &Case) -> Result<KeyBytes<'_>, Fail> {
     }
 }
 
-/// A fresh key that isn't bound.
+/// Creates an unbound key.
 pub(crate) fn unbound_key(case: &Case) -> Result<UnboundKey, Fail> {
     Ok(UnboundKey::new(algorithm(case), &case.key)?)
 }
@@ -51,14 +51,14 @@ pub(crate) fn aad(case: &Case) -> Aad<'_> {
     Aad::from(case.aad.as_slice())
 }
 
-/// The tag with its last bit flipped.
+/// Returns the tag with its last bit flipped.
 pub(crate) fn false_tag(case: &Case) -> Tag {
     let mut tag = case.tag;
     tag[15] ^= 1;
     Tag::from(tag)
 }
 
-/// Bytes in front, the ciphertext and the tag.
+/// Returns `front`, the ciphertext and the tag.
 pub(crate) fn sealed(alloc: Global, case: &Case, front: &[u8]) -> Result<Vec<u8>, Fail> {
     let mut bytes = front.to_vec(alloc)?;
     bytes.extend_from_slice(&case.ciphertext)?;
@@ -66,7 +66,7 @@ pub(crate) fn sealed(alloc: Global, case: &Case, front: &[u8]) -> Result<Vec<u8>
     Ok(bytes)
 }
 
-/// The AAD as a header, the message, and then the room for the tag, or the tag.
+/// Returns a packet: the AAD as the header, the message, and the tag or the room for it.
 pub(crate) fn packet(case: &Case, tag: [u8; MAX_TAG_LEN]) -> Result<Vec<u8>, Fail> {
     let mut packet = case.aad.clone()?;
     packet.extend_from_slice(&case.message)?;
@@ -74,8 +74,8 @@ pub(crate) fn packet(case: &Case, tag: [u8; MAX_TAG_LEN]) -> Result<Vec<u8>, Fai
     Ok(packet)
 }
 
-/// What a buffer of four bytes, the ciphertext and the tag holds once it is opened from byte 4 on: the message, and each
-/// byte after it as it was.
+/// Returns the contents of a buffer of four bytes, the ciphertext and the tag after it is opened at offset 4: the message,
+/// followed by unchanged bytes.
 pub(crate) fn opened_at_4(alloc: Global, case: &Case) -> Result<Vec<u8>, Fail> {
     let before = sealed(alloc, case, &[0; 4])?;
     let mut bytes = case.message.clone()?;

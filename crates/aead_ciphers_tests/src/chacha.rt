@@ -1,4 +1,4 @@
-//! `chacha`: the words of keys and counters, the first and the last block, and an input far after the output.
+//! Tests of `chacha`: the words of keys and counters, the first and the last block, and an input far after the output.
 
 use crate::checks::{holds, same};
 use aead_ciphers_base::chacha::{BLOCK_LEN, Counter, KEY_LEN, Key, Overlapping};
@@ -12,7 +12,7 @@ fn zeros() -> Nonce {
     Nonce::assume_unique_for_key([0; NONCE_LEN])
 }
 
-/// The block of a key, a nonce and a block counter of zeros.
+/// Returns the block for a key, a nonce and a block counter of zeros.
 fn block_of_zeros(alloc: Global) -> Result<[u8; BLOCK_LEN], Fail> {
     let case = Case::parse(alloc, A_1_VECTOR_1)?;
     Ok(
@@ -42,7 +42,7 @@ fn rfc_8439_a_1_vector_1(rt: HostRuntime) -> Result<(), Fail> {
     Ok(())
 }
 
-// Four blocks that are made side by side, and two that aren't.
+// Four blocks that are computed together, and two that aren't.
 #[test]
 fn rfc_8439_a_2_vector_2(rt: HostRuntime) -> Result<(), Fail> {
     let case = Case::parse(rt.alloc(), A_2_VECTOR_2)?;
@@ -73,8 +73,7 @@ fn the_input_stands_259_bytes_behind_the_output(rt: HostRuntime) -> Result<(), F
     Ok(())
 }
 
-/// The block at the last block counter under the key of RFC 8439 section 2.3.2 and the nonce 01 02 .. 0c, as OpenSSL gives
-/// it.
+/// The block at the last block counter for the key of RFC 8439 section 2.3.2 and the nonce 01 02 .. 0c, computed by OpenSSL.
 const LAST_BLOCK: [u8; BLOCK_LEN] = [
     0xc4, 0xe9, 0xbc, 0x95, 0x85, 0x5b, 0xfc, 0x7f, 0x54, 0x56, 0xe7, 0x9b, 0x23, 0x56, 0x44, 0x22,
     0xa6, 0x62, 0xe1, 0x95, 0x20, 0x8f, 0xc8, 0xa7, 0xd2, 0x4b, 0xd6, 0xc3, 0x5a, 0x36, 0x65, 0x73,
@@ -98,7 +97,7 @@ fn the_block_at_the_last_counter(rt: HostRuntime) {
     same(&rt, &mask, &LAST_BLOCK[..5], "the mask");
 }
 
-/// The words of a counter are these.
+/// Asserts that a counter has these words.
 fn words_are(rt: &impl Abort, counter: Counter, wanted: &[u32; 4]) {
     holds(rt, counter.into_words_less_safe() == *wanted, "the words");
 }

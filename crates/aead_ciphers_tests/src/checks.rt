@@ -1,18 +1,18 @@
-//! What a test asserts. A helper has no clause: its caller's proof then knows nothing of the bytes, and stays short.
+//! Assertions for tests. They have no contract clauses, so a caller's proof learns nothing about the bytes and stays short.
 
 use std::process::Abort;
 
-/// Two lists of bytes are equal.
+/// Asserts that two byte slices are equal.
 pub(crate) fn same(rt: &impl Abort, found: &[u8], wanted: &[u8], what: &str) {
     assert_eq!(rt; found, wanted, "{what}");
 }
 
-/// A text is this one.
+/// Asserts that a text is the expected one.
 pub(crate) fn reads(rt: &impl Abort, text: &str, wanted: &str) {
     assert_eq!(rt; text, wanted);
 }
 
-/// A test holds.
+/// Asserts that a condition is true.
 pub(crate) fn holds(rt: &impl Abort, test: bool, what: &str) {
     assert!(rt; test, "{what}");
 }

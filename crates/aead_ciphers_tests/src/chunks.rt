@@ -1,4 +1,4 @@
-//! `polyfill::slice`: slices as whole blocks.
+//! Tests of `polyfill::slice`: slices as whole blocks.
 
 ghost use Rattle.std.specs.Prelude.{◌<◌};
 
@@ -8,7 +8,7 @@ use aead_ciphers_base::polyfill::slice::{AsChunks, AsChunksMut, as_chunks, as_ch
 use std::process::Abort;
 use std::test::Fail;
 
-/// A slice of zeros has so many blocks of `N`, and so many items after them.
+/// Asserts that a slice is split into `blocks` blocks of `N` items, and `rest` items after them.
 fn splits<const N: usize>(rt: &impl Abort, items: &[u8], blocks: usize, rest: usize)
     requires { 0 < N }
 {

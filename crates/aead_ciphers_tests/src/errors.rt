@@ -1,11 +1,11 @@
-//! The texts of the errors, and that `?` takes them into an `anyhow::Error`.
+//! Tests of the texts of the errors, and of their conversion to `anyhow::Error` by `?`.
 
 use crate::checks::{holds, reads};
 use aead_ciphers::aead::{AES_128_GCM, UnboundKey, Unspecified};
 use aead_ciphers_base::error::{IndexError, InputTooLongError, LenMismatchError};
 use std::test::Fail;
 
-/// A key of AES-128-GCM.
+/// Creates a key of AES-128-GCM.
 fn unbound(bytes: &[u8]) -> anyhow::Result<UnboundKey> {
     Ok(UnboundKey::new(&AES_128_GCM, bytes)?)
 }

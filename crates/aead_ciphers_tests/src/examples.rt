@@ -1,4 +1,4 @@
-//! The callers of the crate `uses`, on the standards' vectors.
+//! Tests of the crate `uses` with test vectors of the standards.
 
 use crate::checks::same;
 use aead_ciphers::aead::{
@@ -16,7 +16,7 @@ fn key(case: &Case) -> Result<LessSafeKey, Fail> {
     Ok(LessSafeKey::new(UnboundKey::new(&AES_128_GCM, &case.key)?))
 }
 
-/// Seals a case and opens it again, then with an AAD that isn't its own.
+/// Asserts that a case is sealed, is rejected and unchanged with another AAD, and is opened with its own.
 fn seals_and_opens(rt: &impl Abort, case: &Case) -> Result<(), Fail> {
     let key = case
         .key
@@ -40,15 +40,15 @@ fn gcm_spec_case_16(rt: HostRuntime) -> Result<(), Fail> {
     seals_and_opens(&rt, &Case::parse(rt.alloc(), CASE_16)?)
 }
 
-/// Opens a case that comes after its nonce.
+/// Asserts that a case is opened after its nonce, and that a message shorter than a nonce is rejected.
 fn opens_behind_nonce(rt: &impl Abort, alloc: Global, case: &Case) -> Result<(), Fail> {
     let mut message = case.nonce.to_vec(alloc)?;
     message.extend_from_slice(&case.ciphertext)?;
     message.extend_from_slice(&case.tag)?;
-    let len = messages::open_behind_nonce(&key(case)?, &case.aad, &mut message)?;
+    let len = messages::open_after_nonce(&key(case)?, &case.aad, &mut message)?;
     assert_eq!(rt; len, case.message.len());
     assert!(rt; message.as_slice().starts_with(&case.message));
-    let opened = messages::open_behind_nonce(&key(case)?, &case.aad, &mut message[..NONCE_LEN - 1]);
+    let opened = messages::open_after_nonce(&key(case)?, &case.aad, &mut message[..NONCE_LEN - 1]);
     assert!(rt; opened.is_err());
     Ok(())
 }
@@ -70,7 +70,8 @@ fn marks_the_plaintext(rt: HostRuntime) -> Result<(), Fail> {
     Ok(())
 }
 
-/// Appending the tag of a case to an `ArrayVec` succeeds where there is room for 16 bytes.
+/// Asserts that appending the tag of a case to an `ArrayVec` succeeds if there is room for 16 bytes. If not, asserts that it
+/// fails and the message is unchanged.
 fn appends_to<const CAP: usize>(
     rt: &impl Abort,
     case: &Case,
@@ -107,7 +108,7 @@ fn appends_to_an_array_vec(rt: HostRuntime) -> Result<(), Fail> {
     appends_to(&rt, &case_4, &mut ArrayVec::<u8, 75>::new(), false)
 }
 
-/// Sends a message and receives it, and refuses it a second time.
+/// Asserts that two messages are sent and received, and that a third is rejected without its tag.
 fn sends_and_receives(rt: &impl Abort, alloc: Global, text: &[u8]) -> Result<(), Fail> {
     let mut sender = connection::sender(&AES_256_GCM, &[5; 32], [1, 2, 3, 4])?;
     let mut receiver = connection::receiver(&AES_256_GCM, &[5; 32], [1, 2, 3, 4])?;

@@ -1,4 +1,4 @@
-//! `gcm`: values of the GCM specification's test cases, and what no clause says.
+//! Tests of `gcm`: values from the test cases of the GCM specification, and properties that no contract states.
 
 ghost use Rattle.std.specs.Prelude.{◌≡◌, ℕ, ◌<◌, ◌≤◌, List, [], ◌∷◌, length};
 ghost use Rattle.aead_vectors.specs.declared.gcm_spec.TheConstants.{CASE_2_CIPHERTEXT, CASE_2_GHASH, CASE_2_H, CASE_2_X_1};
@@ -15,19 +15,19 @@ use aead_vectors::gcm_spec;
 use std::process::Abort;
 use std::test::Fail;
 
-// The block 80 00 .. 00 is the unit of the product.
+// The unit block, 80 00 .. 00, is the identity of the product.
 fn unit_of_the_product()
     ensures { (block : List ℕ) → IsBlock block → block • unit_block ≡ block }
 {}
 
-// Products, by the definition.
+// Products, computed by the definition.
 fn gcm_spec_products()
     ensures reduced { to_be_bytes w128 1 • to_be_bytes w128 0x4000_0000_0000_0000_0000_0000_0000_0000
         ≡ to_be_bytes w128 0xe100_0000_0000_0000_0000_0000_0000_0000 }
     ensures case_2 { CASE_2_CIPHERTEXT • CASE_2_H ≡ CASE_2_X_1 }
 {}
 
-// GHASH of test case 2's ciphertext and length block, by the definition.
+// GHASH of the ciphertext and the length block of test case 2, computed by the definition.
 fn gcm_spec_case_2_ghash()
     ensures { ghash CASE_2_H (CASE_2_CIPHERTEXT ∷ to_be_bytes w128 0x80 ∷ []) ≡ CASE_2_GHASH }
 {}
@@ -36,7 +36,7 @@ fn key(h: [u8; 16]) -> Key {
     Key::new(KeyValue::new(h))
 }
 
-/// Takes in a block: the hash is then this one.
+/// Asserts the hash after one more block.
 fn hashes(rt: &impl Abort, key: &Key, xi: &mut Xi, block: [u8; 16], wanted: &[u8; 16]) {
     key.update_block(xi, block, &mut Work::new());
     same(rt, xi.as_ref(), wanted, "the hash");
@@ -71,7 +71,7 @@ fn subkey_of_gcm_spec_case_2(rt: HostRuntime) -> Result<(), Fail> {
     Ok(())
 }
 
-// Takes in the blocks of 80 bytes in pieces: there is a cut after block i where bit i of `cuts` is one.
+// Hashes the blocks of 80 bytes in pieces. A piece ends after block i if bit i of `cuts` is one.
 fn in_pieces(key: &Key, bytes: &[u8; 80], cuts: u8) -> Xi {
     let mut xi = Xi::zero();
     let mut rest = &bytes[..];
@@ -102,7 +102,7 @@ fn five_blocks_in_pieces(rt: HostRuntime) {
     }
 }
 
-/// A context for so many bytes is made, or not.
+/// Asserts that a context for `len` bytes is created if and only if `is_made`.
 fn makes(rt: &impl Abort, len: usize, is_made: bool) {
     let key = key(gcm_spec::CASE_2_H);
     let context = Context::new(&key, Aad::empty(), len, &mut Work::new());
@@ -116,7 +116,7 @@ fn limits_of_a_context(rt: HostRuntime) {
     makes(&rt, 68_719_476_705, false);
 }
 
-// The GHASH of an AAD and a ciphertext, as a tag.
+// Returns the GHASH of an AAD and a ciphertext, as a tag.
 fn hash_of<K: UpdateBlocks>(key: &K, aad: &[u8], ciphertext: &[u8]) -> Result<Tag, Unspecified>
     requires aad { length aad.now < 1000 }
     requires ciphertext { length ciphertext.now < 1000 }

@@ -1,4 +1,4 @@
-//! `laws`: messages that were changed, and arguments at which the bounds of the laws are reached.
+//! Tests of `laws`: modified messages, and arguments that reach the bounds of the laws.
 
 ghost use Rattle.std.specs.Prelude.{◌≡◌, ◌≢◌, ℕ, ◌<◌, List, [], ◌∷◌, ◌++◌, length, replicate, IsErr};
 ghost use Rattle.aead_ciphers_base.specs.Aes.{aes};
@@ -15,10 +15,10 @@ use aead_vectors::gcm_spec::{CASE_4, Case};
 use std::process::Abort;
 use std::test::Fail;
 
-// The block whose product with each block is that block.
+// The unit block, which is the identity of the product.
 const UNIT_BLOCK: Block = [0x80, 0, 0, 0, 0, 0, 0, 0, 0, 0, 0, 0, 0, 0, 0, 0];
 
-/// What was sealed under a key and a nonce.
+/// A sealed message, with its key and nonce.
 #[derive(Drop)]
 struct Sealed<'a> {
     key: &'a [u8; 16],
@@ -28,10 +28,10 @@ struct Sealed<'a> {
     tag: [u8; 16],
 }
 
-/// Opens another message under the key, the nonce and the tag of what was sealed.
+/// Opens another message with the key, the nonce and the tag of a sealed message.
 ///
-/// Where the hash subkey isn't zero, and the messages have equal lengths and differ in exactly one of
-/// the blocks that are hashed, this is refused, and the buffer stays.
+/// Fails and leaves the buffer unchanged if the hash subkey isn't zero, and the messages have equal lengths and
+/// differ in exactly one hashed block.
 fn open_changed(sealed: &Sealed<'_>, aad: &[u8], in_out: &mut [u8]) -> Result<usize, Unspecified>
     requires fits { Fits (length sealed.now.aad.now) (length sealed.now.ciphertext.now) }
     requires other_fits { Fits (length aad.now) (length in_out.old) }
@@ -54,7 +54,7 @@ fn open_changed(sealed: &Sealed<'_>, aad: &[u8], in_out: &mut [u8]) -> Result<us
     key.open_in_place_separate_tag_to_front(nonce, Aad::from(aad), tag, in_out, 0..)
 }
 
-/// A message other than the sealed one is refused, and the buffer stays.
+/// Asserts that a message other than the sealed one is rejected and the buffer is unchanged.
 fn is_refused(rt: &impl Abort, sealed: &Sealed<'_>, aad: &[u8; 20], ciphertext: [u8; 60])
     requires { Fits (length sealed.now.aad.now) (length sealed.now.ciphertext.now) }
 {
@@ -64,7 +64,7 @@ fn is_refused(rt: &impl Abort, sealed: &Sealed<'_>, aad: &[u8; 20], ciphertext: 
     same(rt, &in_out, &ciphertext, "the buffer");
 }
 
-/// The bytes with one of them replaced.
+/// Returns the bytes with one of them replaced.
 fn replaced<const N: usize>(
     rt: &impl Abort,
     bytes: &[u8; N],
@@ -122,8 +122,8 @@ fn gcm_spec_case_4_with_a_byte_replaced(rt: HostRuntime) -> Result<(), Fail> {
     Ok(())
 }
 
-// Two hash subkeys, zero and the unit, under which two unit blocks and two zero blocks have one
-// GHASH: as many as blocks.
+// Two hash subkeys, zero and the unit block, under which two unit blocks and two zero blocks have the same
+// GHASH. There are as many subkeys as blocks.
 fn two_keys_of_two_blocks()
     ensures differ { DifferWhenPadded (unit_block ∷ unit_block ∷ [])
         (zero_block ∷ zero_block ∷ []) }
@@ -142,15 +142,15 @@ fn two_keys_of_two_blocks()
     );
 }
 
-// The GHASHes of the unit block and of no block have a XOR that is the hash subkey: one for each.
+// The XOR of the GHASHes of the unit block and of no block is the hash subkey: one subkey for each XOR.
 fn one_key_of_one_block()
     ensures { (h : List ℕ) → IsBlock h → ghash h (unit_block ∷ []) ⊕ ghash h [] ≡ h }
 {
     laws::few_hash_keys(&[UNIT_BLOCK], &[], UNIT_BLOCK, &[UNIT_BLOCK]);
 }
 
-// Two hash subkeys, zero and the unit, under which ciphertexts of 15 and of 16 bytes have one GHASH:
-// as many as blocks in the longer hashed list.
+// Two hash subkeys, zero and the unit block, under which ciphertexts of 15 and of 16 bytes have the same GHASH.
+// There are as many subkeys as blocks in the longer hashed list.
 fn two_subkeys_of_two_messages()
     ensures zero { ghash zero_block (hashed [] (replicate 15 0))
         ≡ ghash zero_block (hashed [] (replicate 15 0 ++ 0xf8 ∷ [])) }
@@ -172,7 +172,7 @@ fn two_subkeys_of_two_messages()
     );
 }
 
-/// What these functions state is proved.
+/// The contracts of these functions are proved.
 #[test]
 fn bounds_are_reached() {
     two_keys_of_two_blocks();

@@ -1,5 +1,5 @@
-//! Tests of the libraries, and of the crates that stand on them, by what they offer to every caller: outside vectors,
-//! printed text, and what no clause says.
+//! Tests of the public interfaces of the libraries and of the crates that use them: external test vectors, printed text, and
+//! properties that no contract states.
 #![tactic(auto)]
 
 #[cfg(test)]

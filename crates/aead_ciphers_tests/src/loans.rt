@@ -1,5 +1,5 @@
-//! The seven calls that lend a plaintext: what the buffer holds once the loan is over. The two callers with clauses show
-//! what a caller's proof gets from the calls' own.
+//! Tests of the seven calls that return the plaintext as a mutable slice: the contents of the buffer once the borrow ends.
+//! The two callers with contracts show what a caller's proof learns from the contracts of the calls.
 
 ghost use Rattle.std.specs.Prelude.{◌≡◌, IsFalse};
 ghost use Rattle.aead_ciphers.specs.Aes.{aes};
@@ -16,7 +16,7 @@ use std::process::Abort;
 use std::test::Fail;
 use uses::one_nonce::OneNonce;
 
-/// Opens, and lets the plaintext go that was lent: every byte of the buffer is known.
+/// Opens a message, and ends the borrow of the plaintext. The contract describes every byte of the buffer.
 fn opens(
     key: &LessSafeKey,
     nonce: Nonce,
@@ -34,7 +34,7 @@ fn opens(
     }
 }
 
-/// `opens` over the call that returns the plaintext's length.
+/// Like `opens`, but with the call that returns the length of the plaintext.
 fn opens_to_front(
     key: &LessSafeKey,
     nonce: Nonce,
@@ -66,7 +66,7 @@ fn callers_with_clauses(rt: HostRuntime) -> Result<(), Fail> {
     Ok(())
 }
 
-/// A call that lends the plaintext.
+/// A call that returns the plaintext as a mutable slice.
 #[derive(Clone, Copy)]
 enum Call {
     SeparateTag,
@@ -78,7 +78,7 @@ enum Call {
     NextPacket,
 }
 
-/// Each call, and the start from which it opens, which for a packet is its header's length.
+/// Each call, and the offset at which it opens, which for a packet is the length of its header.
 const CALLS: [(Call, usize); 7] = [
     (Call::SeparateTag, 4),
     (Call::Within, 4),
@@ -89,7 +89,7 @@ const CALLS: [(Call, usize); 7] = [
     (Call::NextPacket, 20),
 ];
 
-/// Writes over the plaintext, if there is one.
+/// Overwrites the plaintext, if there is one, and returns whether there is.
 fn fills(opened: Result<&mut [u8], Unspecified>) -> bool {
     match opened {
         Ok(plaintext) => {
@@ -100,7 +100,7 @@ fn fills(opened: Result<&mut [u8], Unspecified>) -> bool {
     }
 }
 
-/// Opens a case, and writes over the plaintext.
+/// Opens a case and overwrites the plaintext, and returns whether it succeeded.
 fn opens_and_fills(case: &Case, call: Call, in_out: &mut [u8], start: usize) -> Result<bool, Fail> {
     let key = key(case)?;
     let mut opening = opening_once(case)?;
@@ -125,8 +125,8 @@ fn is_packet(call: Call) -> bool {
     }
 }
 
-/// What a call opens: bytes up to the start, which are a packet's AAD, and the ciphertext, with the tag after it unless
-/// that is separate.
+/// Returns the buffer that a call opens: the bytes before `start` (for a packet, the AAD), the ciphertext, and the tag
+/// unless it is separate.
 fn buffer(alloc: Global, case: &Case, call: Call, start: usize) -> Result<Vec<u8>, Fail> {
     let front: &[u8] = if is_packet(call) {
         &case.aad
@@ -140,7 +140,7 @@ fn buffer(alloc: Global, case: &Case, call: Call, start: usize) -> Result<Vec<u8
     Ok(bytes)
 }
 
-/// A call accepts the buffer, which ends as what was written over the plaintext and each other byte as it was.
+/// Asserts that a call succeeds, and that the buffer then has the overwritten plaintext and is otherwise unchanged.
 fn ends_filled(
     rt: &impl Abort,
     alloc: Global,
@@ -172,7 +172,7 @@ fn a_loan_ends_with_what_was_written(rt: HostRuntime) -> Result<(), Fail> {
     Ok(())
 }
 
-/// A call refuses a buffer, and leaves each byte.
+/// Asserts that a call fails and the buffer is unchanged.
 fn stays(
     rt: &impl Abort,
     (alloc, case): (Global, &Case),
@@ -187,7 +187,7 @@ fn stays(
     Ok(())
 }
 
-/// No bytes for a tag, a start past the last one where the call takes one, and a false tag.
+/// A buffer shorter than a tag, a start past the last one if the call takes one, and a wrong tag.
 #[test]
 fn a_refused_call_leaves_the_buffer(rt: HostRuntime) -> Result<(), Fail> {
     let case = Case::parse(rt.alloc(), CASE_4)?;

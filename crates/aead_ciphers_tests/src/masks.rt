@@ -1,4 +1,4 @@
-//! Masks of header protection, by RFC 9001 section 5.4: the first bytes of a cipher block or of a ChaCha20 block.
+//! Header protection masks (RFC 9001 section 5.4): the first bytes of an AES block or of a ChaCha20 block.
 
 use aead_ciphers::aead::quic;
 use aead_vectors::words::{BadLine, Words};
@@ -16,7 +16,7 @@ pub(crate) struct Mask {
 }
 
 impl Mask {
-    /// Reads a line: the words are the name, the algorithm, the key, the sample and the mask.
+    /// Parses a line, whose words are the name, the algorithm, the key, the sample and the mask.
     pub(crate) fn parse(alloc: Global, line: &'static str) -> Result<Mask, BadLine> {
         let mut words = Words::new(line);
         let mask = Mask {
@@ -41,8 +41,8 @@ impl Mask {
     }
 }
 
-/// The masks of RFC 9001, and those that blocks of FIPS 197 and RFC 8439 begin with. The sample of ChaCha20 is a block
-/// counter and a nonce.
+/// The masks of RFC 9001, and masks that are the first bytes of blocks of FIPS 197 and RFC 8439. A sample for ChaCha20 is a
+/// block counter and a nonce.
 pub(crate) const MASKS: [&str; 6] = [
     "rfc_9001_a_2 aes128 9f50449e04a0e810283a1e9933adedd2 d1b1c98dd7689fb8ec11d242b123dc9b 437b9aec36",
     "rfc_9001_a_5 chacha20 25a282b9e82f06f21f488917a4fc8f1b73573685608597d0efcb076b0ab7a7a4 5e5cd55c41f69080575d7999c25a5bfb aefefe7d03",

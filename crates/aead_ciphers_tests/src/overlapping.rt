@@ -1,4 +1,4 @@
-//! `overlapping` and `shift`: what reads from a start on and writes to the front.
+//! Tests of `overlapping` and `shift`, which read from an offset on and write to the front.
 
 use crate::checks::{holds, same};
 use crate::items::{Item, hold};
@@ -110,7 +110,7 @@ fn array_has_the_input_and_lends_the_front(rt: HostRuntime) -> Result<(), Fail> 
     Ok(())
 }
 
-/// The input is no array of `N` items.
+/// Asserts that `Array::new` fails for this input and `N` items.
 fn is_no_array<const N: usize>(rt: &impl Abort, input: &mut [u8]) {
     let refused = Array::<_, N>::new(Overlapping::from(input)).err();
     holds(

@@ -1,4 +1,4 @@
-//! `aead::quic`: masks of RFC 9001, FIPS 197 and RFC 8439, and what is refused.
+//! Tests of `aead::quic`: masks of RFC 9001, FIPS 197 and RFC 8439, and lengths that are rejected.
 
 ghost use Rattle.std.specs.Prelude.{◌≡◌};
 ghost use Rattle.aead_ciphers_base.specs.Mask.{chacha_mask};
@@ -14,12 +14,12 @@ use aead_vectors::rfc_9001::A_5_KEY;
 use std::process::Abort;
 use std::test::Fail;
 
-// The definition gives the mask of appendix A.5.
+// The definition yields the mask of appendix A.5.
 fn rfc_9001_a_5_mask()
     ensures { chacha_mask A_5_KEY A_5_SAMPLE ≡ A_5_MASK }
 {}
 
-/// The key makes the mask.
+/// Asserts that the key yields the mask.
 fn masks_so(rt: &impl Abort, row: &Mask) -> Result<(), Fail> {
     let mask = HeaderProtectionKey::new(row.algorithm(), &row.key)?.new_mask(&row.sample)?;
     same(rt, &mask, &row.mask, row.name);
@@ -34,7 +34,7 @@ fn masks(rt: HostRuntime) -> Result<(), Fail> {
     Ok(())
 }
 
-// The first four bytes of a sample are a counter, and the others a nonce (RFC 9001 section 5.4.4).
+// The first four bytes of a sample are a block counter, and the others are a nonce (RFC 9001 section 5.4.4).
 #[test]
 fn mask_at_the_last_counter(rt: HostRuntime) -> Result<(), Fail> {
     let nonce = Nonce::assume_unique_for_key([1, 2, 3, 4, 5, 6, 7, 8, 9, 10, 11, 12]);
@@ -47,7 +47,7 @@ fn mask_at_the_last_counter(rt: HostRuntime) -> Result<(), Fail> {
     Ok(())
 }
 
-/// Keys and samples of a byte more or less are refused.
+/// Asserts that keys and samples that are empty, or one byte too short or too long, are rejected.
 fn refuses_other_lengths(
     rt: &impl Abort,
     algorithm: &Algorithm,

@@ -1,9 +1,9 @@
-//! Counter mode and the tag by index, block by block, as SP 800-38D writes them: what the tests compare with.
+//! A reference implementation of counter mode and the tag, block by block and by index as in SP 800-38D.
 
 use aead_ciphers_base::aes::{self, EncryptBlock, Work};
 use std::alloc::{AllocError, Allocator};
 
-/// Block k of the counter, encrypted.
+/// Returns the encryption of counter block k.
 fn keystream_block(key: &aes::Key, nonce: &[u8; 12], k: u32) -> [u8; 16] {
     let mut block = [0; 16];
     block[..12].copy_from_slice(nonce);
@@ -11,7 +11,7 @@ fn keystream_block(key: &aes::Key, nonce: &[u8; 12], k: u32) -> [u8; 16] {
     key.encrypt_block(block, &mut Work::new())
 }
 
-/// The ciphertext of a message: its piece j of 16 bytes XOR counter block 2 + j, encrypted.
+/// Returns the ciphertext of a message: its piece j of 16 bytes XOR the encryption of counter block 2 + j.
 pub(crate) fn ciphertext<A: Allocator>(
     alloc: A,
     key: &aes::Key,
@@ -30,7 +30,7 @@ pub(crate) fn ciphertext<A: Allocator>(
     Ok(bytes)
 }
 
-/// At most 16 bytes, the first the highest, with zeros after them.
+/// Returns at most 16 bytes as a big-endian number, after padding them with zeros at the end.
 fn padded(piece: &[u8]) -> u128 {
     let mut block = [0; 16];
     for (to, from) in block.iter_mut().zip(piece) {
@@ -39,7 +39,7 @@ fn padded(piece: &[u8]) -> u128 {
     u128::from_be_bytes(block)
 }
 
-/// The product of two blocks, whose first bit is the coefficient of 1.
+/// Returns the product of two blocks, in which the first bit is the constant coefficient.
 fn product(x: u128, y: u128) -> u128 {
     let mut sum = 0;
     let mut power = y;
@@ -56,7 +56,8 @@ fn product(x: u128, y: u128) -> u128 {
     sum
 }
 
-/// The tag: block i of m blocks times the power m + 1 - i of the hash subkey, all summed.
+/// Returns the tag: the encryption of counter block 1, plus each block i of the m hashed blocks times the power m + 1 - i of
+/// the hash subkey.
 pub(crate) fn tag(key: &aes::Key, nonce: &[u8; 12], aad: &[u8], ciphertext: &[u8]) -> [u8; 16] {
     let h = u128::from_be_bytes(key.encrypt_block([0; 16], &mut Work::new()));
     let lengths = (8 * aad.len() as u128) << 64 | 8 * ciphertext.len() as u128;

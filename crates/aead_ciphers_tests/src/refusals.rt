@@ -1,4 +1,4 @@
-//! Packets that are not as they were sealed: each is refused, and the buffer stays as it came.
+//! Tests that modified packets are rejected and the buffer is unchanged.
 
 use crate::cases::{aad, key, nonce, sealed, unbound_key};
 use crate::checks::{holds, same};
@@ -8,27 +8,27 @@ use std::alloc::Global;
 use std::process::Abort;
 use std::test::Fail;
 
-/// Where the ciphertext of a packet begins.
+/// The offset of the ciphertext in a packet.
 const START: usize = 4;
 
-/// Flips a bit of some bytes.
+/// Flips one bit.
 fn flip(bytes: &mut [u8], bit: usize) {
     if let Some(byte) = bytes.get_mut(bit / 8) {
         *byte ^= 1 << (bit % 8);
     }
 }
 
-/// Test case 4: a key, a nonce, 20 bytes of AAD, and 60 bytes of ciphertext.
+/// Returns test case 4: a key, a nonce, 20 bytes of AAD, and 60 bytes of ciphertext.
 fn case_4(alloc: Global) -> Result<Case, Fail> {
     Ok(Case::parse(alloc, CASE_4)?)
 }
 
-/// Four bytes in front of the ciphertext and tag.
+/// Returns four bytes, followed by the ciphertext and tag.
 fn packet(alloc: Global, case: &Case) -> Result<Vec<u8>, Fail> {
     sealed(alloc, case, &[0; START])
 }
 
-/// Opening from a start on is refused, and the buffer stays as it came.
+/// Asserts that opening at `start` fails and the buffer is unchanged.
 fn is_refused(
     rt: &impl Abort,
     alloc: Global,
@@ -106,7 +106,7 @@ fn each_cut_is_refused(rt: HostRuntime) -> Result<(), Fail> {
     Ok(())
 }
 
-// At 64 the ciphertext is empty and the tag isn't its tag; the others are past the last start.
+// At 64, the ciphertext is empty and the tag isn't its tag. The others are past the last start.
 #[test]
 fn other_starts_are_refused(rt: HostRuntime) -> Result<(), Fail> {
     let case = case_4(rt.alloc())?;
@@ -125,13 +125,14 @@ fn other_starts_are_refused(rt: HostRuntime) -> Result<(), Fail> {
     Ok(())
 }
 
-/// An opening key whose second nonce is that of test case 4.
+/// Creates an opening key whose second nonce is that of test case 4.
 fn opening_from_the_nonce_before(case: &Case) -> Result<OpeningKey<CounterSequence>, Fail> {
     let sequence = CounterSequence::new([0xca, 0xfe, 0xba, 0xbe], 0xfacedbaddecaf887, 2)?;
     Ok(OpeningKey::new(unbound_key(case)?, sequence))
 }
 
-/// Refuses a packet cut to a length, and then opens the whole packet under the next nonce.
+/// Asserts that a packet truncated to `len` bytes is rejected and unchanged, and that the next nonce then opens the whole
+/// packet.
 fn spends_one_nonce(rt: &impl Abort, alloc: Global, case: &Case, len: usize) -> Result<(), Fail> {
     let mut key = opening_from_the_nonce_before(case)?;
     let mut whole = packet(alloc, case)?;

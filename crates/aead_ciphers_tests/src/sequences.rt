@@ -1,4 +1,4 @@
-//! Sequences of nonces by themselves.
+//! Tests of nonce sequences without a key.
 
 use crate::checks::{holds, same};
 use aead_ciphers::aead::{
@@ -7,7 +7,7 @@ use aead_ciphers::aead::{
 use std::process::Abort;
 use std::test::Fail;
 
-/// A counter of so many numbers from `first` on is made, or not.
+/// Asserts that a counter of `count` numbers, starting at `first`, is created if and only if `is_made`.
 fn counts(rt: &impl Abort, first: u64, count: u64, is_made: bool) {
     let sequence = CounterSequence::new([0; 4], first, count);
     holds(rt, sequence.is_ok() == is_made, "a counter's end");
@@ -23,7 +23,7 @@ fn a_counter_ends_at_the_last_number(rt: HostRuntime) {
     counts(&rt, 2, u64::MAX, false);
 }
 
-/// The next nonce is this one, or there is none.
+/// Asserts that the next nonce is this one, or that none is left.
 fn gives<N: NonceSequence>(rt: &impl Abort, sequence: &mut N, wanted: Option<&[u8; NONCE_LEN]>) {
     match (sequence.advance(), wanted) {
         (Ok(nonce), Some(wanted)) => same(rt, nonce.as_ref(), wanted, "the nonce"),
@@ -50,7 +50,7 @@ fn a_counter_gives_big_endian_numbers(rt: HostRuntime) -> Result<(), Fail> {
     Ok(())
 }
 
-// The IV and a packet number of RFC 9001 appendix A.5, and the nonces of this packet and of the next.
+// The IV and the packet number of RFC 9001 appendix A.5, and the nonces of this packet and of the next.
 const IV: [u8; NONCE_LEN] = [
     0xe0, 0x45, 0x9b, 0x34, 0x74, 0xbd, 0xd0, 0xe4, 0x4a, 0x41, 0xc1, 0x44,
 ];

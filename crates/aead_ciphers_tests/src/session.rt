@@ -1,4 +1,4 @@
-//! `session`: runs of jobs with the bytes of test case 2.
+//! Tests of `session`: runs of jobs with the bytes of test case 2.
 
 use crate::cases::{sealed, unbound_key};
 use crate::checks::{holds, same};
@@ -19,14 +19,14 @@ fn opening(case: &Case, count: u64) -> Result<OpeningKey<CounterSequence>, Fail>
     Ok(OpeningKey::new(unbound_key(case)?, sequence))
 }
 
-/// A job of a buffer, with an outcome that no run gives it.
+/// Returns a job with this buffer, and with an outcome that no run sets.
 fn job(alloc: Global, operation: Operation, buffer: &[u8]) -> Result<Job, Fail> {
     let mut job = Job::new(operation, Vec::new(alloc), buffer.to_vec(alloc)?);
     job.outcome = Outcome::Opened(usize::MAX);
     Ok(job)
 }
 
-/// The job ended so, with these bytes.
+/// Asserts the outcome and the buffer of a job.
 fn ended(rt: &impl Abort, job: Option<&Job>, outcome: Outcome, buffer: &[u8]) {
     let Some(job) = job else {
         panic!(rt; "no such job");
@@ -35,14 +35,14 @@ fn ended(rt: &impl Abort, job: Option<&Job>, outcome: Outcome, buffer: &[u8]) {
     same(rt, &job.buffer, buffer, "the buffer");
 }
 
-/// What an opened buffer holds: the message, and the tag after it.
+/// Returns the contents of an opened buffer: the message, followed by the tag.
 fn opened(case: &Case) -> Result<Vec<u8>, Fail> {
     let mut bytes = case.message.clone()?;
     bytes.extend_from_slice(&case.tag)?;
     Ok(bytes)
 }
 
-/// Seals and opens the case twice, with one nonce for each key.
+/// Returns jobs that seal and open the case twice, for keys with one nonce each.
 fn jobs_of(alloc: Global, case: &Case, sealed: &[u8]) -> Result<Vec<Job>, Fail> {
     let mut jobs = Vec::new(alloc);
     for _ in 0..2u8 {
@@ -65,7 +65,8 @@ fn seals_and_opens_once(rt: HostRuntime) -> Result<(), Fail> {
     Ok(())
 }
 
-/// The first `count` jobs sealed 20 bytes; those after them were refused, and each buffer stays.
+/// Asserts that the first `count` jobs sealed 20 bytes each, and that the jobs after them failed and left their buffers
+/// unchanged.
 fn sealed_so_many(rt: &impl Abort, jobs: &[Job], count: u8) {
     for (i, job) in (0..5u8).zip(jobs.iter()) {
         if i < count {

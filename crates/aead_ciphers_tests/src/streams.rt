@@ -1,4 +1,4 @@
-//! `aeadrun` over streams of which each call fails in turn.
+//! Tests of `aeadrun` with streams of which each call fails in turn.
 
 ghost use Rattle.std.specs.Prelude.{◌<◌};
 
@@ -10,7 +10,7 @@ use std::io::{BufReader, BufWriter};
 use std::process::Abort;
 use std::test::Fail;
 
-/// Lines of each kind: test case 2, the mask of RFC 9001 appendix A.2, refusals, and a bad line.
+/// Lines of each kind: test case 2, the mask of RFC 9001 appendix A.2, commands that fail, and a bad line.
 const LINES: &[u8] = b"keys 128 00000000000000000000000000000000 00000000 0000000000000000 1\n\
     next-seal - 00000000000000000000000000000000\n\
     next-open - 0 0388dace60b6a392f328c2b971b2fe78ab6e47d42cec13bdf53a67b21257bddf\n\
@@ -20,7 +20,7 @@ const LINES: &[u8] = b"keys 128 00000000000000000000000000000000 00000000 000000
     \n\
     next-seal - -";
 
-/// What they are answered by.
+/// The output for `LINES`.
 const ANSWERS: &[u8] = b"ok\n\
     ok 0388dace60b6a392f328c2b971b2fe78ab6e47d42cec13bdf53a67b21257bddf\n\
     ok 00000000000000000000000000000000 00000000000000000000000000000000ab6e47d42cec13bdf53a67b21257bddf\n\
@@ -30,10 +30,10 @@ const ANSWERS: &[u8] = b"ok\n\
     bad line\n\
     refused\n";
 
-/// The most bytes that a stream moves a call.
+/// The maximum number of bytes that a stream transfers per call.
 const MOST: usize = 3;
 
-/// How a run over a stream ended.
+/// The result of a run over a stream.
 #[derive(Drop)]
 struct Ended {
     status: u8,
@@ -79,7 +79,7 @@ fn writes(alloc: Global, failing: Option<u32>) -> Result<Ended, Fail> {
     Ok(Ended::of_writer(status, writer))
 }
 
-/// A run over a buffer of this capacity before a writer of up to `most` bytes a call.
+/// Runs with a buffer of this capacity over a writer that takes up to `most` bytes per call.
 fn writes_of_a_buffer(
     alloc: Global,
     capacity: usize,
@@ -97,7 +97,7 @@ fn writes_of_a_buffer(
 }
 
 impl Failing {
-    /// A run of which the call of this number fails, if one is to.
+    /// Runs with a stream of which the call with this index fails, if any.
     fn run(self, alloc: Global, failing: Option<u32>) -> Result<Ended, Fail> {
         match self {
             Failing::Reads => reads(alloc, failing),
@@ -106,7 +106,8 @@ impl Failing {
         }
     }
 
-    /// With no call failing all is printed, and with any one failing a beginning, with the status of a fault.
+    /// Asserts that all answers are printed if no call fails. If any one call fails, asserts that a prefix is printed and the
+    /// status is `FAULT`.
     fn fails_in_turn(self, rt: &impl Abort, alloc: Global) -> Result<(), Fail> {
         let whole = self.run(alloc, None)?;
         holds(rt, whole.status == 1, "the whole run");
@@ -127,8 +128,8 @@ fn each_failed_call_ends_the_run(rt: HostRuntime) -> Result<(), Fail> {
     Failing::WritesOfABuffer.fails_in_turn(&rt, rt.alloc())
 }
 
-/// Each answer is written before the next line is read. The buffer would hold them all, so the writer's calls are a write
-/// and a flush for each answer: where one of these flushes fails, the answers before it and its own were written.
+/// Each answer is written before the next line is read. The buffer has room for all of them, so the writer's calls are a
+/// write and a flush for each answer. If one of these flushes fails, the answers up to and including its own were written.
 #[test]
 fn each_answer_is_flushed(rt: HostRuntime) -> Result<(), Fail> {
     for i in 0..8u32 {

@@ -1,4 +1,4 @@
-//! `values`: which lengths are refused, and how data prints.
+//! Tests of `values`: lengths that are rejected, and the printed text of an AAD.
 
 use crate::checks::{holds, reads, same};
 use aead_ciphers_base::values::{Aad, Nonce, Tag};
@@ -27,7 +27,7 @@ fn tags_have_sixteen_bytes(rt: HostRuntime) -> Result<(), Fail> {
     Ok(())
 }
 
-/// Two data are equal, or not.
+/// Asserts that two AADs compare equal if and only if `are_equal`.
 fn compares(rt: &impl Abort, a: Aad<'_>, b: Aad<'_>, are_equal: bool) {
     holds(rt, (a == b) == are_equal, "equal or not");
 }

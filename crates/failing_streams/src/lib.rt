@@ -1,23 +1,23 @@
-//! A reader or a writer for tests. It moves few bytes in a call, and one of its calls fails.
+//! A reader or writer for tests. Each call transfers few bytes, and one of the calls fails.
 #![tactic(auto)]
 
 ghost use Rattle.std.specs.Prelude.{◌≡◌, ◌<◌, ◌≤◌, IfOk};
 
 use std::io::{self, ErrorKind, Read, Write};
 
-/// Every call whose number is a multiple of this is interrupted.
+/// A call is interrupted if it brings the number of calls to a multiple of this.
 const INTERRUPTED_EVERY: u32 = 4;
 
-/// A stream over `inner` in which one call fails with `BrokenPipe`. The calls after it succeed.
+/// A stream over `inner` in which one call fails with `BrokenPipe`. Later calls succeed.
 ///
-/// Every fourth call is interrupted, with `Interrupted`, unless it is a flush or the call that fails.
+/// Every fourth call fails with `Interrupted`, unless it is a flush or the call that fails with `BrokenPipe`.
 #[derive(Drop)]
 pub struct FailingStream<T> {
-    /// The stream that bytes are moved from or to.
+    /// The stream that bytes are read from or written to.
     pub inner: T,
-    /// The most bytes that a read or a write moves. At least one is moved.
+    /// The maximum number of bytes per read or write. It is at least 1.
     pub most: usize,
-    /// The number of the call that fails, counted from 0, if one does.
+    /// The index of the call that fails, if any. The first call has index 0.
     pub failing: Option<u32>,
     /// The number of calls so far: reads, writes and flushes.
     pub made: u32,
@@ -25,7 +25,7 @@ pub struct FailingStream<T> {
 }
 
 impl<T> FailingStream<T> {
-    /// Creates a stream, before its first call.
+    /// Creates a stream on which no call has been made.
     pub fn new(inner: T, most: usize, failing: Option<u32>) -> Self
         requires { 0 < most }
         ensures inner { result.inner ≡ inner }
@@ -41,7 +41,7 @@ impl<T> FailingStream<T> {
         }
     }
 
-    /// Counts a call, and fails if it is the one to fail.
+    /// Counts a call, and fails if it is the one that must fail.
     fn count(&mut self) -> io::Result<()>
         ensures { self.new.inner ≡ self.old.inner }
     {
@@ -53,7 +53,7 @@ impl<T> FailingStream<T> {
         Ok(())
     }
 
-    /// Counts a read or a write of this many bytes, and returns how many it moves.
+    /// Counts a read or a write of `len` bytes, and returns how many bytes to transfer.
     fn count_bytes(&mut self, len: usize) -> io::Result<usize>
         ensures within { IfOk result (λ n. n ≤ len) }
         ensures some { IfOk result (λ n. n ≡ 0 → len ≡ 0) }

@@ -1,4 +1,4 @@
-//! `split` and `packet_at`: the packets of RFC 9001 appendix A, and datagrams made by hand.
+//! Tests of `split` and `packet_at`: the packets of RFC 9001 appendix A, and handwritten datagrams.
 
 use crate::retry::A_4_RETRY;
 use aead_vectors::rfc_9001::{A_2_PACKET, A_3_PACKET, A_5_PROTECTED, Packet as Vector};
@@ -9,16 +9,16 @@ use std::ops::Range;
 use std::process::Abort;
 use std::test::Fail;
 
-/// A Version Negotiation packet with IDs of one byte and of two, and one version.
+/// A Version Negotiation packet with connection IDs of one and two bytes, and one version.
 const NEGOTIATION: [u8; 14] = [0x80, 0, 0, 0, 0, 1, 9, 2, 8, 8, 0, 0, 0, 1];
 
-/// A packet of version 2, with a destination ID of 21 bytes.
+/// A packet of QUIC version 2 with a destination connection ID of 21 bytes.
 const VERSION_2: [u8; 30] = [
     0xc0, 0x6b, 0x33, 0x43, 0xcf, 21, 7, 7, 7, 7, 7, 7, 7, 7, 7, 7, 7, 7, 7, 7, 7, 7, 7, 7, 7, 7,
     7, 0, 1, 2,
 ];
 
-/// The packet with a long header at the front of a datagram is this one.
+/// Asserts that the datagram is one packet with a long header and these fields.
 fn is_long(
     rt: &impl Abort,
     datagram: &[u8],
@@ -41,7 +41,7 @@ fn is_long(
     assert_eq!(rt; packet_at(datagram, 0, 0), Ok(packet));
 }
 
-/// The protected packet of a vector.
+/// Returns the protected packet of a test vector.
 fn protected(alloc: Global, line: &'static str) -> Result<Vec<u8>, BadLine> {
     Ok(Vector::parse(alloc, line)?.protected)
 }
@@ -80,7 +80,7 @@ fn long_headers(rt: HostRuntime) -> Result<(), Fail> {
     Ok(())
 }
 
-// Two packets of RFC 9001 appendix A, one after the other. The header of the second is short.
+// Two packets of RFC 9001 appendix A in one datagram. The second has a short header.
 #[test]
 fn coalesced(rt: HostRuntime) -> Result<(), Fail> {
     let mut datagram = protected(rt.alloc(), A_3_PACKET)?;
@@ -98,7 +98,7 @@ fn coalesced(rt: HostRuntime) -> Result<(), Fail> {
     Ok(())
 }
 
-/// Each shorter front of a packet is cut.
+/// Asserts that each proper prefix of a packet is rejected with `Cut`.
 fn cut_anywhere(rt: &impl Abort, packet: &[u8]) {
     for len in 0..packet.len() {
         assert_eq!(rt;
@@ -109,12 +109,12 @@ fn cut_anywhere(rt: &impl Abort, packet: &[u8]) {
     }
 }
 
-/// What is read at the front of a datagram is refused so.
+/// Asserts that the packet at the front of a datagram is rejected with this error.
 fn refused(rt: &impl Abort, datagram: &[u8], id_len: usize, error: DatagramError) {
     assert_eq!(rt; packet_at(datagram, 0, id_len), Err(error));
 }
 
-// IDs of 21 bytes in version 1, and a packet after which a cut one comes.
+// Truncated packets, connection IDs of 21 bytes in version 1, and a packet followed by a truncated one.
 #[test]
 fn refusals(rt: HostRuntime) -> Result<(), Fail> {
     let mut datagram = protected(rt.alloc(), A_3_PACKET)?;
@@ -135,7 +135,7 @@ fn refusals(rt: HostRuntime) -> Result<(), Fail> {
     Ok(())
 }
 
-/// A Handshake packet with this length of 37 bytes ends 37 bytes after it.
+/// Asserts that a Handshake packet ends 37 bytes after this Length field, which encodes 37.
 fn has_length(rt: &impl Abort, alloc: Global, length: &[u8]) -> Result<(), Fail> {
     let mut datagram = Vec::from_slice(alloc, &[0xe0, 0, 0, 0, 1, 0, 0])?;
     datagram.extend_from_slice(length)?;
@@ -147,7 +147,7 @@ fn has_length(rt: &impl Abort, alloc: Global, length: &[u8]) -> Result<(), Fail>
     Ok(())
 }
 
-// 37 in each of the forms of RFC 9000 section 16, of which appendix A.1 has the first two.
+// The number 37 in each encoding of RFC 9000 section 16. The first two are in appendix A.1.
 #[test]
 fn variable_lengths(rt: HostRuntime) -> Result<(), Fail> {
     has_length(&rt, rt.alloc(), &[0x25])?;

@@ -1,4 +1,4 @@
-//! A packet from one end of a connection to the other, as README.md of `quic_packets` shows it.
+//! The example in README.md of `quic_packets`: one end of a connection sends a packet, and the other end receives it.
 
 use crate::checks::same;
 use quic_packets::{Failures, PacketError, Receiver, Sender, Space, Suite, packet_at};
@@ -6,17 +6,18 @@ use std::alloc::Global;
 use std::test::Fail;
 use uses::quic_connection::{self, Incoming};
 
-/// What both ends of a direction have: TLS derives it from a secret by HKDF (RFC 9001 section 5.1).
+/// The key of one direction, which both ends have, like the IV and the header key. TLS derives them from a secret with HKDF
+/// (RFC 9001 section 5.1).
 const KEY: [u8; 16] = [1; 16];
 
 const IV: [u8; 12] = [2; 12];
 
 const HEADER_KEY: [u8; 16] = [3; 16];
 
-/// The connection ID that the receiver chose.
+/// The connection ID chosen by the receiver.
 const CONNECTION_ID: [u8; 8] = [4; 8];
 
-/// Sends a payload in a packet with a short header.
+/// Sends a payload in a packet with a short header, and returns the packet.
 fn send(alloc: Global, sender: &mut Sender, payload: &[u8]) -> Result<Vec<u8>, Fail> {
     let acknowledged = None;
     let number_len = sender
@@ -48,7 +49,7 @@ fn one_packet(rt: HostRuntime) -> Result<(), Fail> {
     Ok(())
 }
 
-/// The callers of `uses` send a packet and receive it.
+/// Tests that `uses::quic_connection` sends a packet, receives it, and rejects it as a duplicate the second time.
 #[test]
 fn callers(rt: HostRuntime) -> Result<(), Fail> {
     let mut sender = Sender::new(Suite::Aes256Gcm, &[1; 32], IV, &[3; 32], 7)?;

@@ -1,4 +1,5 @@
-//! `SendKey`, `ReceiveKey` and `HeaderKey`: the packets of RFC 9001 appendix A, both ways, and packets under keys of which it has none.
+//! Tests of `SendKey`, `ReceiveKey` and `HeaderKey`: the packets of RFC 9001 appendix A, sent and received, and packets with
+//! AES-256 keys, for which the RFC has none.
 
 ghost use Rattle.std.specs.Prelude.{◌≡◌, ◌-◌, ◌↔◌, length, take, IsOk, OnOk};
 ghost use Rattle.aead_ciphers.specs.Packet.{PacketFits};
@@ -14,7 +15,7 @@ use std::ops::Range;
 use std::process::Abort;
 use std::test::Fail;
 
-/// The header and the payload.
+/// Returns the header and the payload.
 fn plain(row: &Packet) -> Result<Vec<u8>, AllocError> {
     let mut packet = row.header.clone()?;
     packet.extend_from_slice(&row.frames)?;
@@ -24,7 +25,7 @@ fn plain(row: &Packet) -> Result<Vec<u8>, AllocError> {
     Ok(packet)
 }
 
-/// Sealing and protecting the header give the packet.
+/// Asserts that sealing and protecting the header yield the protected packet.
 fn sends(rt: &impl Abort, row: &Packet) -> Result<(), Fail> {
     let mut key = SendKey::new(&AES_128_GCM, &row.key, row.iv, row.number)?;
     let mut packet = plain(row)?;
@@ -36,7 +37,7 @@ fn sends(rt: &impl Abort, row: &Packet) -> Result<(), Fail> {
     Ok(())
 }
 
-/// Unprotecting the header and opening give header and payload back.
+/// Asserts that unprotecting the header and opening yield the header and the payload.
 fn receives(rt: &impl Abort, row: &Packet) -> Result<(), Fail> {
     let mut packet = row.protected.clone()?;
     let number_len = HeaderKey::new(&quic::AES_128, &row.header_key)?.unprotect(
@@ -65,7 +66,8 @@ fn packets(rt: HostRuntime) -> Result<(), Fail> {
     Ok(())
 }
 
-/// Seals and protects a packet, and then unprotects and opens it: header and payload come back. Refused where sealing is.
+/// Seals and protects a packet, then unprotects and opens it. The header and the payload are then as before. Fails if and
+/// only if sealing fails.
 fn there_and_back(
     sender: &mut SendKey,
     receiver: &ReceiveKey,
@@ -90,7 +92,7 @@ fn there_and_back(
     receiver.open(packet, number_at + number_len, number)
 }
 
-/// A packet with this first byte and a header of this length goes there and back, under AES-256-GCM.
+/// Asserts that a packet with this first byte and header length makes the round trip with AES-256-GCM.
 fn comes_back(rt: &impl Abort, first: u8, header_len: usize) -> Result<(), Fail> {
     let mut sender = SendKey::new(&AES_256_GCM, &[1; 32], [2; 12], 0x0707_0707)?;
     let receiver = ReceiveKey::new(&AES_256_GCM, &[1; 32], [2; 12])?;
@@ -110,7 +112,7 @@ fn comes_back(rt: &impl Abort, first: u8, header_len: usize) -> Result<(), Fail>
     Ok(())
 }
 
-// Packet numbers of each length, under keys of which RFC 9001 has no packet.
+// Packet numbers of each length, with AES-256 keys, for which RFC 9001 has no packets.
 #[test]
 fn each_number_length(rt: HostRuntime) -> Result<(), Fail> {
     for (first, header_len) in [(0x40, 10), (0x41, 11), (0x42, 12), (0x43, 13)] {
@@ -119,7 +121,7 @@ fn each_number_length(rt: HostRuntime) -> Result<(), Fail> {
     Ok(())
 }
 
-// The packet is as short as a sample allows.
+// The packet is just long enough for a sample.
 #[test]
 fn chacha20_header(rt: HostRuntime) -> Result<(), Fail> {
     let key = HeaderKey::new(&quic::CHACHA20, &A_5_KEY)?;
@@ -131,14 +133,14 @@ fn chacha20_header(rt: HostRuntime) -> Result<(), Fail> {
     Ok(())
 }
 
-/// A packet of this length, with a short header and number 7 in a byte, is sealed or refused so.
+/// Asserts the result of sealing a packet of `len` bytes, with a short header and packet number 7 in one byte.
 fn seals(rt: &impl Abort, key: &mut SendKey, len: usize, wanted: Result<u64, PacketError>) {
     let mut packet = [7; 21];
     packet[0] = 0x40;
     assert_eq!(rt; key.seal(&mut packet[..len.min(21)], 1..2), wanted);
 }
 
-// A packet without a sample spends no number, and numbers are skipped forward only.
+// A packet that is too short for a sample uses no packet number, and numbers are only skipped forward.
 #[test]
 fn skips(rt: HostRuntime) -> Result<(), Fail> {
     let mut key = SendKey::new(&AES_128_GCM, &[1; 16], [2; 12], 5)?;
@@ -164,7 +166,7 @@ struct Receiver {
     payload: ReceiveKey,
 }
 
-/// The packet with one bit flipped is refused, and left as it came.
+/// Asserts that `open` rejects the packet with one bit flipped, and leaves it unchanged.
 fn refuses_flipped(rt: &impl Abort, keys: &Receiver, row: &Packet, bit: usize) -> Result<(), Fail> {
     let mut packet = row.protected.clone()?;
     assert!(rt; bit / 8 < packet.len());

@@ -1,5 +1,5 @@
-//! Tests of `quic_packets`, a module for each of its own: `keys` tests `send`, `receive` and `header`. `rows` has packets that
-//! `tools/quic-packets` makes.
+//! Tests of `quic_packets`, one module for each of its modules, except that `keys` tests `send`, `receive` and `header`. `rows`
+//! contains packets made by `tools/quic-packets`.
 #![tactic(auto)]
 
 #[cfg(test)]

@@ -1,11 +1,12 @@
-//! `quic_packets::numbers`: the examples of RFC 9000 appendices A.2 and A.3, and the ends of lengths and windows.
+//! Tests of `quic_packets::numbers`: the examples of RFC 9000 appendices A.2 and A.3, and the limits of lengths and windows.
 
 use quic_packets::numbers::{decode, number_len, truncated};
 
 /// The largest packet number.
 const LAST: u64 = (1 << 62) - 1;
 
-/// A number, the largest that was acknowledged, and the length. The first two rows are those of RFC 9000 appendix A.2.
+/// A packet number, the largest acknowledged number, and the encoded length. The first two rows are from RFC 9000 appendix
+/// A.2.
 const LENGTHS: [(u64, Option<u64>, Option<usize>); 16] = [
     (0x00ac_5c02, Some(0x00ab_e8b3), Some(2)),
     (0x00ac_e8fe, Some(0x00ab_e8b3), Some(3)),
@@ -32,7 +33,7 @@ fn lengths(rt: HostRuntime) {
     }
 }
 
-// The first is the example of RFC 9000 appendix A.3; then both ends of a window of 1 byte, and of all numbers.
+// The example of RFC 9000 appendix A.3, then both ends of a one-byte window and of the range of packet numbers.
 #[test]
 fn decoded(rt: HostRuntime) {
     assert_eq!(rt; decode(Some(0xa82f_30ea), 0x9b32, 2), 0xa82f_9b32);

@@ -1,4 +1,5 @@
-//! `Receiver`, `Space` and `Failures`: packets of RFC 9001 appendix A, each bit flipped, duplicates, key updates and limits.
+//! Tests of `Receiver`, `Space` and `Failures`: packets of RFC 9001 appendix A, flipped bits, duplicates, key updates and
+//! limits.
 
 use crate::checks::same;
 use crate::rows::{HEADER_KEY as ROW_HEADER_KEY, IV as ROW_IV, KEY, ROWS, Row};
@@ -13,12 +14,12 @@ const IV: [u8; 12] = [5; 12];
 
 const HEADER_KEY: [u8; 16] = [9; 16];
 
-/// A short header's first byte, for a number of two bytes, in the first phase and in the second.
+/// The first byte of a short header with a packet number of two bytes, in the first key phase. `SECOND` is for the second.
 const FIRST: u8 = 0x41;
 
 const SECOND: u8 = 0x45;
 
-/// A packet of 40 bytes with a number of two bytes, sealed under a key of this byte.
+/// Returns a protected packet of 40 bytes with a packet number of two bytes. Each byte of the key is `key`.
 fn sent(key: u8, first: u8, number: u16) -> Result<[u8; 40], PacketError> {
     let mut packet = [7; 40];
     packet[0] = first;
@@ -30,12 +31,12 @@ fn sent(key: u8, first: u8, number: u16) -> Result<[u8; 40], PacketError> {
     Ok(packet)
 }
 
-/// What receives under keys of this byte.
+/// Creates a receiver with a key whose bytes are all `key`.
 fn receiver(key: u8) -> Result<Receiver, PacketError> {
     Receiver::new(Suite::Aes128Gcm, &[key; 16], IV, &HEADER_KEY)
 }
 
-/// An end that receives, with what its packets share.
+/// A receiving end, with the state that its packets share.
 #[derive(Drop)]
 struct End {
     receiver: Receiver,
@@ -43,15 +44,15 @@ struct End {
     failures: Failures,
 }
 
-/// What happens to an end. A packet has the byte of its key, its first byte and its number.
+/// An event at a receiving end. A packet is given by the byte of its key, its first byte and its number.
 #[derive(Clone, Copy)]
 enum Event {
     Accepted(u8, u8, u16),
     Rejected(u8, u8, u16, PacketError),
-    /// The keys of the next phase are set.
+    /// Sets the keys of the next phase.
     NextKey(u8),
     ForgetPrevious,
-    /// Another receiver goes on with the same space.
+    /// Continues with another receiver in the same space.
     OtherKey(u8),
 }
 
@@ -71,7 +72,7 @@ impl End {
             .receive(&mut self.space, &mut self.failures, packet, number_at)
     }
 
-    /// The number of a packet that is sent to it, or why it is rejected.
+    /// Receives such a packet, and returns its number or the error.
     fn takes(&mut self, key: u8, first: u8, number: u16) -> Result<u64, PacketError> {
         let mut packet = sent(key, first, number)?;
         Ok(self.receive(&mut packet, 9)?.number)
@@ -93,7 +94,7 @@ impl End {
     }
 }
 
-/// The events happen to one end, under a key of ones. So many failures are counted.
+/// Asserts the result of each event at one end, which begins with a key of ones, and then the number of failures.
 fn happen(rt: &impl Abort, limit: u64, events: &[Event], failures: u64) -> Result<(), Fail> {
     let mut end = End::new(receiver(1)?, limit);
     for &event in events {
@@ -103,7 +104,7 @@ fn happen(rt: &impl Abort, limit: u64, events: &[Event], failures: u64) -> Resul
     Ok(())
 }
 
-/// A packet of RFC 9001 appendix A is received, and its payload is as long as it was.
+/// Asserts that a packet of RFC 9001 appendix A is received with its header and the length of its payload.
 fn receives(rt: &impl Abort, row: &Packet) -> Result<(), Fail> {
     let receiver = Receiver::new(Suite::Aes128Gcm, &row.key, row.iv, &row.header_key)?;
     let mut packet = row.protected.clone()?;
@@ -129,7 +130,7 @@ fn appendix_a(rt: HostRuntime) -> Result<(), Fail> {
     Ok(())
 }
 
-/// What receives a row's packet, in either phase.
+/// Creates the end that receives a row's packet, in either key phase.
 fn row_end(rt: &impl Abort, row: &Row) -> Result<End, PacketError> {
     assert!(rt; row.key_len <= 32);
     let (key, header_key) = (&KEY[..row.key_len], &ROW_HEADER_KEY[..row.key_len]);
@@ -138,7 +139,7 @@ fn row_end(rt: &impl Abort, row: &Row) -> Result<End, PacketError> {
     Ok(End::new(receiver, 10_000))
 }
 
-/// The packet with this bit flipped.
+/// Returns the packet with this bit flipped.
 fn flipped(rt: &impl Abort, alloc: Global, packet: &[u8], bit: usize) -> Result<Vec<u8>, Fail> {
     let mut flipped = Vec::from_slice(alloc, packet)?;
     assert!(rt; bit / 8 < flipped.len());
@@ -146,7 +147,7 @@ fn flipped(rt: &impl Abort, alloc: Global, packet: &[u8], bit: usize) -> Result<
     Ok(flipped)
 }
 
-/// The packet, which was changed, is rejected, and left as it came.
+/// Asserts that a modified packet is rejected and unchanged.
 fn rejects(rt: &impl Abort, end: &mut End, row: &Row, packet: &mut Vec<u8>) -> Result<(), Fail> {
     let came = packet.clone()?;
     let outcome = end.receive(packet, row.number_at);
@@ -155,7 +156,7 @@ fn rejects(rt: &impl Abort, end: &mut End, row: &Row, packet: &mut Vec<u8>) -> R
     Ok(())
 }
 
-/// With each bit flipped the row's packet is rejected and counted. Without, it is received.
+/// Asserts that the row's packet is rejected and counted if any one bit is flipped, and received if none is.
 fn refuses_flipped(rt: &impl Abort, alloc: Global, row: &Row) -> Result<(), Fail> {
     let mut end = row_end(rt, row)?;
     let mut packet = hex::decode(alloc, row.protected)?;
@@ -169,7 +170,7 @@ fn refuses_flipped(rt: &impl Abort, alloc: Global, row: &Row) -> Result<(), Fail
     Ok(())
 }
 
-// The packets whose numbers are decoded right by who has received none.
+// Only the packets whose numbers are decoded correctly if no packet was received before.
 #[test]
 fn each_bit_flipped(rt: HostRuntime) -> Result<(), Fail> {
     for row in ROWS {
@@ -180,7 +181,7 @@ fn each_bit_flipped(rt: HostRuntime) -> Result<(), Fail> {
     Ok(())
 }
 
-/// A number comes once, and one that is 128 below the largest not at all.
+/// Each number is accepted once, and a number that is 128 below the largest is rejected.
 const EACH_NUMBER_ONCE: [Event; 12] = [
     Accepted(1, FIRST, 0),
     Accepted(1, FIRST, 2),
@@ -196,7 +197,7 @@ const EACH_NUMBER_ONCE: [Event; 12] = [
     Rejected(1, FIRST, 172, PacketError::Duplicate),
 ];
 
-/// Two updates, with packets of the phase before that come late. The key of a phase that isn't held opens nothing.
+/// Two key updates, with late packets of the previous phase. A packet is rejected if the receiver does not have its key.
 const PHASES: [Event; 13] = [
     Accepted(1, FIRST, 5),
     Rejected(2, SECOND, 6, PacketError::Refused),
@@ -213,7 +214,7 @@ const PHASES: [Event; 13] = [
     Rejected(2, SECOND, 2, PacketError::Refused),
 ];
 
-/// From the limit of 2 on every packet is rejected, and none is counted.
+/// Once the limit of 2 failures is reached, every packet is rejected and none is counted.
 const FAILURES: [Event; 4] = [
     Rejected(2, FIRST, 0, PacketError::Refused),
     Accepted(1, FIRST, 0),
@@ -221,7 +222,7 @@ const FAILURES: [Event; 4] = [
     Rejected(1, FIRST, 1, PacketError::TooManyFailures),
 ];
 
-/// 0-RTT and 1-RTT have keys of their own, and one space.
+/// 0-RTT and 1-RTT packets have different keys and share one space.
 const ONE_SPACE: [Event; 4] = [
     Accepted(1, 0xd1, 0),
     OtherKey(2),
@@ -229,7 +230,7 @@ const ONE_SPACE: [Event; 4] = [
     Accepted(2, FIRST, 1),
 ];
 
-/// Reserved bits in authentic headers, short and long.
+/// Reserved bits in authentic packets with short and long headers.
 const RESERVED_BITS: [Event; 3] = [
     Rejected(1, FIRST | 0x08, 3, PacketError::ReservedBits),
     Rejected(1, 0xc5, 3, PacketError::ReservedBits),
@@ -245,7 +246,7 @@ fn events(rt: HostRuntime) -> Result<(), Fail> {
     happen(&rt, 9, &RESERVED_BITS, 0)
 }
 
-// What is wrong in an authentic packet is told, and the packet stands opened.
+// An authentic packet with reserved bits set is rejected with that error, and its payload is then decrypted.
 #[test]
 fn reserved_bits(rt: HostRuntime) -> Result<(), Fail> {
     let mut packet = sent(1, FIRST | 0x08, 3)?;
@@ -255,7 +256,7 @@ fn reserved_bits(rt: HostRuntime) -> Result<(), Fail> {
     Ok(())
 }
 
-/// A packet of zeros is rejected before it is opened, and isn't counted.
+/// Asserts that a packet of zeros is rejected with this error before it is opened, and not counted.
 fn rejects_zeros(
     rt: &impl Abort,
     packet: &mut [u8],
@@ -268,14 +269,14 @@ fn rejects_zeros(
     Ok(())
 }
 
-// A packet without a sample, and one whose number begins the header.
+// A packet that is too short for a sample, and one whose number would be at the first byte.
 #[test]
 fn too_short(rt: HostRuntime) -> Result<(), Fail> {
     rejects_zeros(&rt, &mut [0; 28], 9, PacketError::NoSample)?;
     rejects_zeros(&rt, &mut [0; 40], 0, PacketError::NumberAtFirstByte)
 }
 
-// A header key of another length, and a key of the next phase.
+// A key of the wrong length, and a key of the wrong length for the next phase.
 #[test]
 fn key_lengths(rt: HostRuntime) -> Result<(), Fail> {
     assert!(rt; Receiver::new(Suite::Aes256Gcm, &[1; 16], IV, &[1; 32]).is_err());

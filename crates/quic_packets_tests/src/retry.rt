@@ -1,10 +1,10 @@
-//! `retry_tag` and `is_genuine_retry`: the packet of RFC 9001 appendix A.4, and changed ones.
+//! Tests of `retry_tag` and `is_genuine_retry`: the packet of RFC 9001 appendix A.4, and modified packets.
 
 use quic_packets::{is_genuine_retry, retry_tag};
 use std::process::Abort;
 use std::test::Fail;
 
-/// RFC 9001 appendix A.4: the destination of the client's first packet.
+/// RFC 9001 appendix A.4: the destination connection ID of the client's first packet.
 const A_4_ID: [u8; 8] = [0x83, 0x94, 0xc8, 0xf0, 0x3e, 0x51, 0x57, 0x08];
 
 /// RFC 9001 appendix A.4: the Retry packet.
@@ -14,7 +14,7 @@ pub(crate) const A_4_RETRY: [u8; 36] = [
     0x0f, 0x24, 0x96, 0xba,
 ];
 
-/// Whether a Retry packet is genuine.
+/// Asserts that a Retry packet is genuine if and only if `wanted`.
 fn is_genuine(rt: &impl Abort, original_id: &[u8], packet: &[u8], wanted: bool) {
     assert_eq!(rt; is_genuine_retry(original_id, packet), wanted);
 }

@@ -1,8 +1,8 @@
-//! Packets of QUIC that `tools/quic-packets` prints.
+//! QUIC packets printed by `tools/quic-packets`.
 
 use quic_packets::Suite;
 
-/// The key, of which a suite takes its length.
+/// The key. A suite uses a prefix as long as its keys.
 pub(crate) const KEY: [u8; 32] = [
     0, 1, 2, 3, 4, 5, 6, 7, 8, 9, 10, 11, 12, 13, 14, 15, 16, 17, 18, 19, 20, 21, 22, 23, 24, 25,
     26, 27, 28, 29, 30, 31,
@@ -10,26 +10,26 @@ pub(crate) const KEY: [u8; 32] = [
 
 pub(crate) const IV: [u8; 12] = [100, 101, 102, 103, 104, 105, 106, 107, 108, 109, 110, 111];
 
-/// The header protection key, of which a suite takes its length.
+/// The header protection key. A suite uses a prefix as long as its keys.
 pub(crate) const HEADER_KEY: [u8; 32] = [
     200, 201, 202, 203, 204, 205, 206, 207, 208, 209, 210, 211, 212, 213, 214, 215, 216, 217, 218,
     219, 220, 221, 222, 223, 224, 225, 226, 227, 228, 229, 230, 231,
 ];
 
-/// A packet before and after its protection, in hex.
+/// A packet before and after protection, in hex.
 #[derive(Clone, Copy)]
 pub(crate) struct Row {
     pub(crate) name: &'static str,
     pub(crate) suite: Suite,
     /// The length of each key.
     pub(crate) key_len: usize,
-    /// How many bytes of the header stand before the packet number.
+    /// The length of the header before the packet number.
     pub(crate) number_at: usize,
     pub(crate) number: u64,
-    /// The largest number that was acknowledged before.
+    /// The largest number acknowledged so far.
     pub(crate) acknowledged: Option<u64>,
     pub(crate) phase: bool,
-    /// The header, unmasked. It ends with the packet number.
+    /// The unmasked header, which ends with the packet number.
     pub(crate) header: &'static str,
     pub(crate) payload: &'static str,
     pub(crate) protected: &'static str,

@@ -1,4 +1,4 @@
-//! `quic_packets::Sender`: packets of another implementation, each refusal, skips, limits and key updates.
+//! Tests of `quic_packets::Sender`: packets of another implementation, each error, skipped numbers, limits and key updates.
 
 use crate::checks::same;
 use crate::rows::{HEADER_KEY, IV, KEY, ROWS, Row};
@@ -8,7 +8,7 @@ use std::ops::Range;
 use std::process::Abort;
 use std::test::Fail;
 
-/// The row's packet before it is sent: what `send` writes is ones.
+/// Returns the row's packet before it is sent, with ones in the bits that `send` writes.
 fn before(rt: &impl Abort, alloc: Global, row: &Row) -> Result<Vec<u8>, Fail> {
     let mut packet = hex::decode(alloc, row.header)?;
     let payload = hex::decode(alloc, row.payload)?;
@@ -21,7 +21,7 @@ fn before(rt: &impl Abort, alloc: Global, row: &Row) -> Result<Vec<u8>, Fail> {
     Ok(packet)
 }
 
-/// The row's number is sent as the other implementation does.
+/// Asserts that `send` yields the row's packet, which is from the other implementation.
 fn sends(rt: &impl Abort, alloc: Global, row: &Row) -> Result<(), Fail> {
     assert!(rt; row.key_len <= 32);
     let key = &KEY[..row.key_len];
@@ -57,12 +57,12 @@ const SHORT: [u8; 24] = [
     0x40, 0, 1, 1, 1, 1, 1, 1, 0, 0, 0, 0, 0, 0, 0, 0, 0, 0, 0, 0, 0, 0, 0, 0,
 ];
 
-/// What sends under a key of ones, from this number on.
+/// Creates a sender with a key of ones, whose first packet has the number `first`.
 fn sender(first: u64) -> Result<Sender, PacketError> {
     Sender::new(Suite::Aes128Gcm, &[1; 16], IV, &HEADER_KEY[..16], first)
 }
 
-/// A packet of this first byte and version.
+/// Returns a packet with this first byte and version.
 fn packet(first: u8, version: u8) -> [u8; 24] {
     let mut packet = SHORT;
     packet[0] = first;
@@ -72,7 +72,7 @@ fn packet(first: u8, version: u8) -> [u8; 24] {
     packet
 }
 
-/// Refused with this error, and packet and sender as they were.
+/// Asserts that `send` fails with this error, and the packet and the sender are unchanged.
 fn refuses(
     rt: &impl Abort,
     sender: &mut Sender,
@@ -87,7 +87,7 @@ fn refuses(
     same(rt, &sent, packet, "refused");
 }
 
-/// A first byte and a version, the ends of the room for a number, and why the packet isn't sent.
+/// A first byte and a version, the start and end of the room for the packet number, and the error.
 const REFUSALS: [(u8, u8, usize, usize, PacketError); 7] = [
     (0x40, 0, 8, 9, PacketError::TooShort),
     (0x40, 0, 0, 1, PacketError::NumberAtFirstByte),
@@ -107,7 +107,7 @@ fn refusals(rt: HostRuntime) -> Result<(), Fail> {
     Ok(())
 }
 
-// The shortest packets that have a sample, with a short header and with a long one.
+// The shortest packets that have a sample, with a short and with a long header.
 #[test]
 fn shortest(rt: HostRuntime) -> Result<(), Fail> {
     let mut sender = sender(0)?;
@@ -117,7 +117,7 @@ fn shortest(rt: HostRuntime) -> Result<(), Fail> {
     Ok(())
 }
 
-// Numbers are skipped forward only, and end.
+// Packet numbers are only skipped forward, and they end.
 #[test]
 fn numbers(rt: HostRuntime) -> Result<(), Fail> {
     let mut sender = sender(1 << 31)?;
@@ -133,22 +133,22 @@ fn numbers(rt: HostRuntime) -> Result<(), Fail> {
     Ok(())
 }
 
-/// What happens to a sender. A key has one byte throughout.
+/// An event at a sender. All bytes of a key are equal.
 #[derive(Clone, Copy)]
 enum Event {
-    /// A packet is sent, which opens under this key as one of this phase.
+    /// Sends a packet, which opens with this key and has this key phase.
     Sent(u8, bool),
     Refused(PacketError),
     Confirmed,
     Acknowledged(u64),
-    /// An update to a key of this byte and length.
+    /// Initiates an update to a key of this byte and length.
     Initiated(u8, usize, Result<(), PacketError>),
     Followed(u8, usize, Result<(), PacketError>),
 }
 
 use Event::{Acknowledged, Confirmed, Followed, Initiated, Refused, Sent};
 
-/// The packet opens under this key, as one of this number and phase.
+/// Asserts that the packet opens with this key, and has this number and key phase.
 fn opens(
     rt: &impl Abort,
     mut packet: [u8; 24],
@@ -199,7 +199,7 @@ fn meets(rt: &impl Abort, sender: &mut Sender, event: Event) -> Result<(), Packe
     Ok(())
 }
 
-/// Two packets under each key: the limit holds anew after an update, and the numbers go on.
+/// At most two packets under each key. The limit applies anew after a key update, and the numbers continue.
 const LIMITS_AND_UPDATES: [Event; 16] = [
     Sent(1, false),
     Sent(1, false),
@@ -228,7 +228,7 @@ fn limits_and_updates(rt: HostRuntime) -> Result<(), Fail> {
     Ok(())
 }
 
-/// The keys of 1-RTT after those of 0-RTT.
+/// Turns a sender of 0-RTT packets into one of 1-RTT packets.
 fn next_keys(early: Sender, header_key_len: usize) -> Result<Sender, PacketError> {
     early.into_next_keys(
         Suite::Aes256Gcm,
@@ -238,7 +238,7 @@ fn next_keys(early: Sender, header_key_len: usize) -> Result<Sender, PacketError
     )
 }
 
-// The numbers of 0-RTT go on under the keys of 1-RTT, and so does the limit.
+// The numbers and the limit of 0-RTT continue under the 1-RTT keys.
 #[test]
 fn numbers_go_on(rt: HostRuntime) -> Result<(), Fail> {
     let mut early = sender(0)?.with_limit(1);

@@ -1,4 +1,4 @@
-//! TLS 1.3 connections of OpenSSL, both ways.
+//! Tests with TLS 1.3 connections of OpenSSL, whose records are read and written again.
 
 use crate::captured::CAPTURED;
 use aead_ciphers::aead::{AES_128_GCM, AES_256_GCM, Algorithm};
@@ -8,27 +8,27 @@ use std::alloc::Global;
 use std::process::Abort;
 use std::test::Fail;
 
-/// What one side sent: its bytes in hex, and under each of its keys what the records carry.
+/// What one side sent: its bytes in hex, and the contents of its records under each key.
 pub(crate) struct Direction {
     pub(crate) stream: &'static [&'static str],
     pub(crate) epochs: &'static [Epoch],
 }
 
-/// A key and its IV, and what the records under them carry.
+/// A key, its IV, and the contents of the records under them.
 pub(crate) struct Epoch {
     pub(crate) key: &'static str,
     pub(crate) iv: &'static str,
     pub(crate) records: &'static [Carried],
 }
 
-/// What a record carries, the content in hex.
+/// What a record contains, with the content in hex.
 pub(crate) struct Carried {
     pub(crate) content_type: ContentType,
     pub(crate) content: &'static [&'static str],
     pub(crate) padding: usize,
 }
 
-/// The bytes of lines of hex.
+/// Decodes lines of hex.
 fn bytes_of(alloc: Global, lines: &[&str]) -> Result<Vec<u8>, Fail> {
     let mut bytes = Vec::new(alloc);
     for line in lines {
@@ -45,8 +45,8 @@ fn algorithm_of(key: &[u8]) -> &'static Algorithm {
     }
 }
 
-/// Where the next protected record of a stream begins, and how many bytes it takes. What stands before it in
-/// plaintext, a ClientHello or a ServerHello and a ChangeCipherSpec, is passed over.
+/// Returns the offset and the length of the next protected record of a stream. Skips the plaintext records
+/// before it: a ClientHello or ServerHello, and a ChangeCipherSpec.
 fn next_protected(stream: &[u8], from: usize) -> Result<(usize, usize), Fail> {
     let mut at = from;
     for _ in 0..3 {
@@ -63,7 +63,7 @@ fn next_protected(stream: &[u8], from: usize) -> Result<(usize, usize), Fail> {
     Err(Fail::from("no protected record"))
 }
 
-/// Reads a record of a side and writes it again.
+/// Asserts that reading a record yields its content, and that writing the content yields the record.
 fn record_there_and_back(
     rt: &impl Abort,
     alloc: Global,
@@ -83,7 +83,7 @@ fn record_there_and_back(
     Ok(())
 }
 
-/// Reads all that a side sent, over its key updates, and writes each record again.
+/// Asserts the same for every record that one side sent, across its key updates.
 fn there_and_back(rt: &impl Abort, alloc: Global, direction: &Direction) -> Result<(), Fail> {
     let stream = bytes_of(alloc, direction.stream)?;
     let mut at = 0;

@@ -1,15 +1,15 @@
-//! The example of the crate's README: what comes from a peer is read as it comes.
+//! The example in the README of `records`: the bytes from a peer are read as they arrive.
 
 use aead_ciphers::aead::NONCE_LEN;
 use records::{Begins, ContentType, Reader, RecordError, RecordKind, classify};
 
 const KEY_UPDATE: u8 = 24;
 
-/// Reads the records that have come whole, after the handshake, and gathers their application data at the
-/// front. Returns how many bytes of it there are, and how many bytes the records took: the rest is kept until
-/// more has come.
+/// Reads the complete records in `bytes`, after the handshake, and gathers their application data at the
+/// front. Returns the length of the data and the number of bytes that the records took. The caller keeps the
+/// remaining bytes until more arrive.
 ///
-/// `next_key` and `next_iv` are the ones that follow a KeyUpdate.
+/// `next_key` and `next_iv` are used after a KeyUpdate.
 pub(crate) fn receive(
     reader: &mut Reader,
     bytes: &mut [u8],
@@ -19,7 +19,7 @@ pub(crate) fn receive(
     let mut filled = 0;
     let mut at = 0;
     while let Begins::Record(kind, len) = classify(&bytes[at..])? {
-        // (a ChangeCipherSpec is dropped before the peer's Finished alone)
+        // A ChangeCipherSpec is only dropped before the peer's Finished message.
         if kind != RecordKind::Protected {
             return Err(RecordError::UnexpectedRecord);
         }

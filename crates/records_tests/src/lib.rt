@@ -1,5 +1,5 @@
-//! Tests of `records` by what it offers to every caller: records of OpenSSL and of python's `cryptography`,
-//! printed text, and what no clause says.
+//! Tests of the public interface of `records`: records of OpenSSL and of Python's `cryptography`, printed
+//! text, and properties that no contract states.
 #![tactic(auto)]
 
 #[cfg(test)]

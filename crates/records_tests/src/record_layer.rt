@@ -1,4 +1,5 @@
-//! Records of python's `cryptography`, both ways, and what is refused.
+//! Tests with records of Python's `cryptography`, which are written and read, and with records that are
+//! rejected.
 
 use aead_ciphers::aead::{AES_128_GCM, AES_256_GCM, Algorithm};
 use hex::FromHex;
@@ -65,7 +66,7 @@ const KEY: [u8; 32] = [
 
 const IV: [u8; 12] = [0, 1, 2, 3, 4, 5, 6, 7, 8, 9, 10, 11];
 
-/// The content, its type and the padding.
+/// Returns the inner plaintext: the content, its type and the padding.
 fn inner_plaintext(alloc: Global, case: &Case) -> Result<Vec<u8>, Fail> {
     let mut inner = case.content.to_vec(alloc)?;
     inner.push(case.content_type.code())?;
@@ -75,8 +76,8 @@ fn inner_plaintext(alloc: Global, case: &Case) -> Result<Vec<u8>, Fail> {
     Ok(inner)
 }
 
-/// Writes the records of a run, and reads them again. Once the loan of a content has ended, the inner plaintext
-/// is at the front of the buffer, and every byte after it is the record's.
+/// Asserts that the records of a run are written, and read again. Once the borrow of a content ends, the
+/// inner plaintext is at the front of the buffer, and every byte after it is unchanged.
 fn there_and_back(
     rt: &impl Abort,
     alloc: Global,
@@ -108,7 +109,7 @@ fn records_of_another_implementation(rt: HostRuntime) -> Result<(), Fail> {
     there_and_back(&rt, rt.alloc(), &AES_256_GCM, &KEY, [255; 12], &OF_AES_256)
 }
 
-/// Three records, and five bytes after them.
+/// Returns three records, followed by five bytes.
 fn three_records(alloc: Global) -> Result<Vec<u8>, Fail> {
     let mut writer = Writer::new(&AES_128_GCM, &KEY[..16], IV)?;
     let mut bytes = Vec::new(alloc);
@@ -123,7 +124,8 @@ fn three_records(alloc: Global) -> Result<Vec<u8>, Fail> {
     Ok(bytes)
 }
 
-/// What three records carry becomes one text in their buffer, and what follows them stays.
+/// The contents of three records become one text in their buffer, and the bytes after the records are
+/// unchanged.
 #[test]
 fn gathered_in_one_buffer(rt: HostRuntime) -> Result<(), Fail> {
     let mut reader = Reader::new(&AES_128_GCM, &KEY[..16], IV)?;
@@ -142,7 +144,7 @@ fn gathered_in_one_buffer(rt: HostRuntime) -> Result<(), Fail> {
     Ok(())
 }
 
-/// Each bit of a record, flipped.
+/// A record with any one bit flipped is rejected and unchanged.
 #[test]
 fn every_flipped_bit_is_refused(rt: HostRuntime) -> Result<(), Fail> {
     let record = <[u8; 27]>::from_hex(OF_AES_128[0].record)?;
@@ -157,8 +159,8 @@ fn every_flipped_bit_is_refused(rt: HostRuntime) -> Result<(), Fail> {
     Ok(())
 }
 
-/// Why a new reader refuses these bytes, which must leave them as they are. Where the error has an alert, each
-/// later call must return `Closed`.
+/// Returns the error with which a new reader rejects these bytes. Asserts that the bytes are unchanged and,
+/// if the error has an alert, that each later call fails with `Closed`.
 fn refusal(rt: &impl Abort, alloc: Global, bytes: &mut [u8]) -> Result<RecordError, Fail> {
     let mut reader = Reader::new(&AES_128_GCM, &KEY[..16], IV)?;
     let before = bytes.to_vec(alloc)?;
@@ -176,7 +178,8 @@ fn refusal(rt: &impl Abort, alloc: Global, bytes: &mut [u8]) -> Result<RecordErr
     Ok(error)
 }
 
-/// Bytes in hex, and why they are refused: none is one record, but for the last two, which aren't the next one.
+/// Bytes in hex, and the errors with which they are rejected. Only the last two are single records, but
+/// neither is the next one.
 const REFUSED: [(&str, RecordError); 11] = [
     ("17030300", RecordError::WrongLength),
     (
@@ -225,8 +228,8 @@ fn no_record(rt: HostRuntime) -> Result<(), Fail> {
     Ok(())
 }
 
-/// Authentic records that `tools/read-records make` printed, with their inner plaintexts, and why those are
-/// refused.
+/// Authentic records that `tools/read-records make` printed, with their inner plaintexts, and the errors with
+/// which those are rejected.
 const AUTHENTIC: [(&str, &[u8], RecordError); 5] = [
     (
         "1703030014936ca7ce192ea8e21527108e19c356659790e9ef",
@@ -255,8 +258,8 @@ const AUTHENTIC: [(&str, &[u8], RecordError); 5] = [
     ),
 ];
 
-/// The inner plaintext is at the front of the buffer, every byte after it is the record's, and the reader is
-/// closed.
+/// The rejected inner plaintext is at the front of the buffer, every byte after it is unchanged, and the
+/// reader is closed.
 #[test]
 fn authentic_and_refused(rt: HostRuntime) -> Result<(), Fail> {
     for (text, inner, expected) in AUTHENTIC {
@@ -274,7 +277,7 @@ fn authentic_and_refused(rt: HostRuntime) -> Result<(), Fail> {
     Ok(())
 }
 
-/// Content types, lengths of contents and of paddings that no record has, and why.
+/// Content types with lengths of contents and of paddings that no record has, and the errors.
 const UNWRITTEN: [(ContentType, usize, usize, RecordError); 5] = [
     (
         ApplicationData,
@@ -307,7 +310,7 @@ fn no_such_content(rt: HostRuntime) -> Result<(), Fail> {
     Ok(())
 }
 
-/// Writes a content of `len` bytes with this padding, and reads it.
+/// Asserts that a content of `len` bytes is written with this padding, and read again.
 fn of_length(
     rt: &impl Abort,
     alloc: Global,
@@ -324,8 +327,8 @@ fn of_length(
     Ok(())
 }
 
-/// The longest content, and the longest padding, under the size limit of RFC 8446 and under a lower one, which
-/// stays over a key update.
+/// The longest content and the longest padding, under the size limit of RFC 8446 and under a lower one, which
+/// a key update does not change.
 #[test]
 fn longest_records(rt: HostRuntime) -> Result<(), Fail> {
     let alloc = rt.alloc();
@@ -363,7 +366,7 @@ fn size_limits(rt: HostRuntime) -> Result<(), Fail> {
     Ok(())
 }
 
-/// After the last record nothing is written or read, until there is another key.
+/// After the last record, writing and reading fail until the key is updated.
 #[test]
 fn the_end_of_the_sequence(rt: HostRuntime) -> Result<(), Fail> {
     let alloc = rt.alloc();
@@ -403,7 +406,7 @@ fn a_key_of_another_length(rt: HostRuntime) {
     assert!(rt; Reader::new(&AES_128_GCM, &KEY, IV).err() == Some(RecordError::KeyLength));
 }
 
-/// A record that is made around its content, in a slice.
+/// A record is sealed around its content, in a slice.
 #[test]
 fn sealed_in_place(rt: HostRuntime) -> Result<(), Fail> {
     let mut writer = Writer::new(&AES_128_GCM, &KEY[..16], IV)?;
@@ -416,8 +419,8 @@ fn sealed_in_place(rt: HostRuntime) -> Result<(), Fail> {
     Ok(())
 }
 
-/// The record that `tools/read-records make` printed for number 2^64 - 1, both ways, with bytes after it, and a
-/// reader that starts two records later than the first.
+/// The record that `tools/read-records make` printed for number 2^64 - 1, sealed and opened, with bytes after
+/// it, and a reader that starts at the third record.
 #[test]
 fn by_number(rt: HostRuntime) -> Result<(), Fail> {
     let key = RecordKey::new(&AES_128_GCM, &KEY[..16], IV)?;

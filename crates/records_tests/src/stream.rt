@@ -1,4 +1,4 @@
-//! Streams: what they begin with, and the example of the README over two keys.
+//! Tests of `classify`, and of the example in the README with two keys.
 
 use crate::example::receive;
 use aead_ciphers::aead::AES_128_GCM;
@@ -11,7 +11,7 @@ const IV: [u8; 12] = [3; 12];
 
 const NEXT_IV: [u8; 12] = [4; 12];
 
-/// Bytes in hex, and what they begin with (RFC 8446 sections 5, 5.1 and 5.2).
+/// Bytes in hex, and the result of `classify` (RFC 8446 sections 5, 5.1 and 5.2).
 const BEGIN: [(&str, Result<Begins, RecordError>); 24] = [
     ("", Ok(Begins::MoreNeeded(5))),
     ("16030100", Ok(Begins::MoreNeeded(5))),
@@ -57,7 +57,7 @@ fn what_streams_begin_with(rt: HostRuntime) -> Result<(), Fail> {
     Ok(())
 }
 
-/// Data, a KeyUpdate, data under the next key, and the first bytes of another record.
+/// Returns data, a KeyUpdate, data under the next key, and the first bytes of another record.
 fn two_epochs(alloc: Global) -> Result<Vec<u8>, Fail> {
     let mut writer = Writer::new(&AES_128_GCM, &[1; 16], IV)?;
     let mut bytes = Vec::new(alloc);
@@ -81,7 +81,7 @@ fn two_epochs_in_one_buffer(rt: HostRuntime) -> Result<(), Fail> {
     Ok(())
 }
 
-/// The caller of the crate `uses`: a ChangeCipherSpec is dropped, and data is read.
+/// Tests that `uses::record_stream` sends data, drops a ChangeCipherSpec, and receives the data.
 #[test]
 fn sends_and_receives(rt: HostRuntime) -> Result<(), Fail> {
     let mut writer = Writer::new(&AES_128_GCM, &[1; 16], IV)?;

@@ -10,10 +10,10 @@ use aead_ciphers::aead::{
     Aad, Algorithm, BoundKey, CounterSequence, OpeningKey, SealingKey, Tag, UnboundKey, Unspecified,
 };
 
-/// Every nonce of a connection: 2^32 of them, from number 0 on.
+/// The number of nonces of a connection: 2^32, numbered from 0.
 const NONCES: u64 = 0x1_0000_0000;
 
-/// The end that seals. The other end has a key of the same bytes and the same prefix.
+/// Creates the key of the end that seals. The key of the other end has the same bytes and prefix.
 pub fn sender(
     algorithm: &'static Algorithm,
     key_bytes: &[u8],
@@ -27,7 +27,7 @@ pub fn sender(
     Ok(SealingKey::new(UnboundKey::new(algorithm, key_bytes)?, sequence))
 }
 
-/// The end that opens what `sender`'s key sealed, in that order.
+/// Creates the key of the end that opens what the key of `sender` sealed, in the same order.
 pub fn receiver(
     algorithm: &'static Algorithm,
     key_bytes: &[u8],
@@ -41,7 +41,7 @@ pub fn receiver(
     Ok(OpeningKey::new(UnboundKey::new(algorithm, key_bytes)?, sequence))
 }
 
-/// Seals the next message, and appends its tag.
+/// Seals the next message and appends its tag.
 pub fn send(
     key: &mut SealingKey<CounterSequence>,
     aad: &[u8],
@@ -59,7 +59,7 @@ pub fn send(
     key.seal_in_place_append_tag(Aad::from(aad), message)
 }
 
-/// Seals the next message, and returns its tag: it succeeds exactly while nonces are left.
+/// Seals the next message and returns its tag. Succeeds if and only if a nonce is left.
 pub fn send_apart(
     key: &mut SealingKey<CounterSequence>,
     message: &mut [u8],
@@ -76,8 +76,8 @@ pub fn send_apart(
     key.seal_in_place_separate_tag(Aad::empty(), message)
 }
 
-/// Opens the next message, and returns the length of the plaintext, which then stands in front. A message that isn't
-/// the next one spends its nonce too.
+/// Opens the next message and returns the length of the plaintext, which is then at the front of the buffer. A rejected
+/// message consumes its nonce too.
 pub fn receive(
     key: &mut OpeningKey<CounterSequence>,
     aad: &[u8],

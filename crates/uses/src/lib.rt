@@ -1,4 +1,4 @@
-//! Uses of the library, as callers write them: what each function promises is proved from the library's contracts alone.
+//! Example callers of the libraries. The contract of each function is proved from the contracts of the libraries alone.
 #![tactic(auto)]
 
 pub mod connection;

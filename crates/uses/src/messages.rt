@@ -1,4 +1,4 @@
-//! Single messages, each under a nonce of the caller's.
+//! Single messages, each with a nonce that the caller chooses.
 
 ghost use Rattle.std.specs.Prelude.{◌≡◌, ◌+◌, ◌-◌, ◌<◌, ◌≤◌, ◌↔◌, length, take, slice_set, vec_capacity, vec_len, is_ok, IsOk, IfOk, OnOk, OnErr};
 ghost use Rattle.arrayvec.specs.ArrayVec.{array_vec_len};
@@ -10,9 +10,9 @@ use aead_ciphers::aead::lend::lend_plaintext_and_rest;
 use aead_ciphers::aead::{Aad, LessSafeKey, NONCE_LEN, Nonce, Tag, Unspecified};
 use arrayvec::ArrayVec;
 
-/// Opens a message that has its nonce before it and its tag after it, and returns the length of the plaintext, which then
-/// stands at the front of the buffer.
-pub fn open_behind_nonce(
+/// Opens a message that consists of its nonce, the ciphertext and the tag. Returns the length of the plaintext, which is
+/// then at the front of the buffer.
+pub fn open_after_nonce(
     key: &LessSafeKey,
     aad: &[u8],
     message: &mut [u8],
@@ -30,7 +30,7 @@ pub fn open_behind_nonce(
     key.open_within_to_front(nonce, Aad::from(aad), message, NONCE_LEN..)
 }
 
-/// Opens, and writes 7 over the first byte of the plaintext: the whole buffer is known.
+/// Opens a message and overwrites the first byte of the plaintext with 7. The contract describes the whole buffer.
 pub fn open_and_mark(
     key: &LessSafeKey,
     nonce: Nonce,
@@ -55,7 +55,7 @@ pub fn open_and_mark(
     }
 }
 
-/// Seals what a `Vec` holds, and appends the tag.
+/// Seals the contents of a `Vec` and appends the tag.
 pub fn append(
     key: &LessSafeKey,
     nonce: Nonce,
@@ -72,7 +72,7 @@ pub fn append(
     key.seal_in_place_append_tag(nonce, Aad::from(aad), in_out)
 }
 
-/// The same without allocation: where 16 places are free and the lengths fit, it succeeds.
+/// Like `append`, but without allocation. Succeeds if and only if the lengths fit and 16 bytes of the array are free.
 pub fn append_to_array<const CAP: usize>(
     key: &LessSafeKey,
     nonce: Nonce,

@@ -1,4 +1,4 @@
-//! One message, sealed under a nonce of the caller's and opened again.
+//! One message, sealed and opened with a nonce that the caller chooses.
 
 ghost use Rattle.std.specs.Prelude.{◌≡◌, ◌↔◌, length, IsOk, IfOk, OnOk, OnErr};
 ghost use Rattle.aead_ciphers.specs.Aes.{aes};
@@ -8,7 +8,7 @@ use aead_ciphers::aead::{
     AES_256_GCM, Aad, LessSafeKey, NONCE_LEN, Nonce, Tag, UnboundKey, Unspecified,
 };
 
-/// Encrypts a message in place under AES-256-GCM, and returns its tag.
+/// Encrypts a message in place with AES-256-GCM and returns its tag.
 pub fn seal(
     key_bytes: &[u8; 32],
     nonce: [u8; NONCE_LEN],
@@ -25,7 +25,7 @@ pub fn seal(
     key.seal_in_place_separate_tag(nonce, Aad::from(aad), in_out)
 }
 
-/// Decrypts a ciphertext in place that `seal` made, if the tag is its own.
+/// Verifies the tag of a ciphertext from `seal`, and decrypts the ciphertext in place.
 pub fn open(
     key_bytes: &[u8; 32],
     nonce: [u8; NONCE_LEN],

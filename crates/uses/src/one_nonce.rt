@@ -1,10 +1,10 @@
-//! A nonce sequence of one's own.
+//! A user-defined nonce sequence.
 
 ghost use Rattle.std.specs.Prelude.{◌≡◌, false};
 
 use aead_ciphers::aead::{NONCE_LEN, Nonce, NonceSequence, Unspecified};
 
-/// One nonce, given once.
+/// A sequence that returns one nonce, once.
 #[derive(Drop)]
 pub struct OneNonce {
     nonce: [u8; NONCE_LEN],
@@ -12,7 +12,7 @@ pub struct OneNonce {
 }
 
 impl OneNonce {
-    /// The sequence of this nonce alone.
+    /// Creates the sequence of this nonce alone.
     pub fn new(nonce: [u8; NONCE_LEN]) -> Self
         ensures { result ≡ record { nonce = nonce; is_spent = false } }
     {

@@ -1,4 +1,4 @@
-//! One end of a QUIC connection under its 1-RTT keys: each packet is sent and received in one call.
+//! One end of a QUIC connection with its 1-RTT keys. One call sends a packet, and one call receives it.
 
 ghost use Rattle.std.specs.Prelude.{◌≡◌, ℕ, ◌+◌, ◌<◌, ◌≤◌, ◌↔◌, List, length, slice_index, IsOk, IfOk, OnOk, OnErr, IsErrOf};
 ghost use Rattle.quic_packets.specs.Header.{HasSample};
@@ -9,10 +9,10 @@ ghost use Rattle.quic_packets.specs.Space.{IsNew, Marks};
 use quic_packets::{Failures, PacketError, Receiver, Sender, Space};
 use std::ops::Range;
 
-/// Where the packet number begins: after the first byte, and a connection ID of 8 bytes.
+/// The offset of the packet number, which follows the first byte and a connection ID of 8 bytes.
 pub const NUMBER_AT: usize = 9;
 
-/// What receives: the key, the numbers that were received, and the packets that failed authentication.
+/// The receiving end: its keys, the numbers received, and the count of packets that failed authentication.
 #[derive(Drop)]
 pub struct Incoming {
     pub receiver: Receiver,
@@ -20,8 +20,8 @@ pub struct Incoming {
     pub failures: Failures,
 }
 
-/// Sends a packet with a short header, and returns its number. The packet is the first byte, the connection ID, room for
-/// the number as `Sender::next_number_len` says, the payload, and 16 bytes for the tag.
+/// Sends a packet with a short header and returns its number. The packet consists of the first byte, the connection ID,
+/// room for the number (as many bytes as `Sender::next_number_len` returns), the payload, and 16 bytes for the tag.
 pub fn send(
     sender: &mut Sender,
     packet: &mut [u8],
@@ -45,7 +45,7 @@ pub fn send(
     )
 }
 
-/// Receives a packet, and returns the range of its payload.
+/// Receives a packet and returns the range of its payload.
 pub fn receive(incoming: &mut Incoming, packet: &mut [u8]) -> Result<Range<usize>, PacketError>
     ensures accepted { incoming.old.failures.count < incoming.old.failures.limit
         → HasSample 9 (length packet.old) → (plain : List ℕ) × (number : ℕ)

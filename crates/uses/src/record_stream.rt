@@ -1,4 +1,4 @@
-//! An end of a TLS 1.3 connection: application data goes out, and the records of a stream come in.
+//! One end of a TLS 1.3 connection, which sends application data and receives the records of a stream.
 
 ghost use Rattle.std.specs.Prelude.{◌≡◌, ◌≢◌, ◌⊎◌, ◌+◌, ◌<◌, ◌≤◌, ◌++◌, ℕ, length, take, slice_range, Err, None, IsTrue, IsOk, IfOk, IfErr, IfSome, OnOk, OnErr, vec_len, vec_capacity};
 ghost use Rattle.records.specs.Record.{Carries, record_at};
@@ -7,7 +7,7 @@ ghost use Rattle.records.specs.Stream.{BeginsWith, RefusesToClassify};
 
 use records::{Begins, ContentType, Reader, RecordError, RecordKind, Writer, classify};
 
-/// Sends application data, without padding.
+/// Appends a record of application data, without padding, to `out`.
 pub fn send(writer: &mut Writer, message: &[u8], out: &mut Vec<u8>) -> Result<(), RecordError>
     ensures sent { OnOk result (out.new.items ≡ out.old.items
         ++ record_at writer.old.key writer.old.number (record {
@@ -25,9 +25,9 @@ pub fn send(writer: &mut Writer, message: &[u8], out: &mut Vec<u8>) -> Result<()
     writer.write(ContentType::ApplicationData, message, 0, out)
 }
 
-/// Takes the first record of a stream, before the peer's Finished: a protected one is opened to the front, and
-/// a ChangeCipherSpec is dropped. Returns how many bytes were taken, 0 where more have to come, and the type
-/// and the length of what was read.
+/// Receives the first record of a stream, before the peer's Finished message. Opens a protected record to the
+/// front of the buffer, and drops a ChangeCipherSpec. Returns the number of bytes taken, which is 0 if more are
+/// needed, and the content type and length of a record that was opened.
 pub fn receive(
     reader: &mut Reader,
     bytes: &mut [u8],
