@@ -61,7 +61,7 @@ fn rfc_8439_a_2_vector_2(rt: HostRuntime) -> Result<(), Fail> {
 }
 
 #[test]
-fn the_input_stands_259_bytes_behind_the_output(rt: HostRuntime) -> Result<(), Fail> {
+fn the_input_is_259_bytes_after_the_output(rt: HostRuntime) -> Result<(), Fail> {
     let mut buffer = [0x7b; 275];
     buffer[259..].fill(0);
     let in_out = Overlapping::new(&mut buffer[..], 259..)?;

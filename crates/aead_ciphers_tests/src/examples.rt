@@ -41,7 +41,7 @@ fn gcm_spec_case_16(rt: HostRuntime) -> Result<(), Fail> {
 }
 
 /// Asserts that a case is opened after its nonce, and that a message shorter than a nonce is rejected.
-fn opens_behind_nonce(rt: &impl Abort, alloc: Global, case: &Case) -> Result<(), Fail> {
+fn opens_after_nonce(rt: &impl Abort, alloc: Global, case: &Case) -> Result<(), Fail> {
     let mut message = case.nonce.to_vec(alloc)?;
     message.extend_from_slice(&case.ciphertext)?;
     message.extend_from_slice(&case.tag)?;
@@ -54,8 +54,8 @@ fn opens_behind_nonce(rt: &impl Abort, alloc: Global, case: &Case) -> Result<(),
 }
 
 #[test]
-fn gcm_spec_case_4_behind_nonce(rt: HostRuntime) -> Result<(), Fail> {
-    opens_behind_nonce(&rt, rt.alloc(), &Case::parse(rt.alloc(), CASE_4)?)
+fn gcm_spec_case_4_after_nonce(rt: HostRuntime) -> Result<(), Fail> {
+    opens_after_nonce(&rt, rt.alloc(), &Case::parse(rt.alloc(), CASE_4)?)
 }
 
 #[test]

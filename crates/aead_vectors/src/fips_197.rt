@@ -1,4 +1,4 @@
-//! FIPS 197, "Advanced Encryption Standard (AES)", appendix C: the cipher with keys of 16 and 32 bytes.
+//! FIPS 197, "Advanced Encryption Standard (AES)", appendix C: the cipher with a key of 16 or 32 bytes.
 
 use crate::words::{BadLine, Words};
 use std::alloc::Global;
@@ -13,7 +13,7 @@ pub struct Case {
 }
 
 impl Case {
-    /// Parses a line, whose words are the name, the key, the plaintext and the ciphertext.
+    /// Reads a line: the words are the name, the key, the plaintext and the ciphertext.
     pub fn parse(alloc: Global, line: &'static str) -> Result<Case, BadLine> {
         let mut words = Words::new(line);
         let case = Case {

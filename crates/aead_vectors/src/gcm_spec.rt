@@ -1,5 +1,5 @@
 //! D. McGrew and J. Viega, "The Galois/Counter Mode of Operation (GCM)", appendix B: the test cases with a nonce of 12
-//! bytes and a key of 16 or 32 bytes.
+//! bytes and a key of 16 or 32.
 
 use crate::words::{BadLine, Words};
 use std::alloc::Global;
@@ -17,7 +17,7 @@ pub struct Case {
 }
 
 impl Case {
-    /// Parses a line, whose words are the name, the key, the nonce, the AAD, the plaintext, the ciphertext and the tag.
+    /// Reads a line: the words are the name, the key, the nonce, the AAD, the plaintext, the ciphertext and the tag.
     pub fn parse(alloc: Global, line: &'static str) -> Result<Case, BadLine> {
         let mut words = Words::new(line);
         let case = Case {
@@ -66,7 +66,7 @@ pub const CASE_15: &str =
 pub const CASE_16: &str =
     "gcm_spec_case_16 feffe9928665731c6d6a8f9467308308feffe9928665731c6d6a8f9467308308 cafebabefacedbaddecaf888 feedfacedeadbeeffeedfacedeadbeefabaddad2 d9313225f88406e5a55909c5aff5269a86a7a9531534f7da2e4c303d8a318a721c3c0c95956809532fcf0e2449a6b525b16aedf5aa0de657ba637b39 522dc1f099567d07f47f37a32a84427d643a8cdcbfe5c0c97598a2bd2555d1aa8cb08e48590dbb3da7b08b1056828838c5f61e6393ba7a0abcc9f662 76fc6ece0f4e1768cddf8853bb2d551b";
 
-/// All of these test cases.
+/// All of them.
 pub const CASES: [&str; 8] = [
     CASE_1, CASE_2, CASE_3, CASE_4, CASE_13, CASE_14, CASE_15, CASE_16,
 ];

@@ -1,5 +1,5 @@
-//! Test vectors of public standards, as lines of text, with one module per source. Values that a contract cites, and short
-//! parts of packets, are arrays.
+//! Test vectors of public standards, as lines of text: a module for each source. What a contract cites, and short parts of a
+//! packet, are arrays.
 #![tactic(auto)]
 
 pub mod fips_197;

@@ -3,7 +3,7 @@
 use crate::words::{BadLine, Words};
 use std::alloc::Global;
 
-/// A message and its encryption, starting at a block counter. A block of the keystream is the encryption of 64 zero bytes.
+/// A message and its encryption from a block counter on. A block of the key stream is the encryption of 64 zeros.
 #[derive(Drop)]
 pub struct Case {
     pub name: &'static str,
@@ -15,7 +15,7 @@ pub struct Case {
 }
 
 impl Case {
-    /// Parses a line, whose words are the name, the key, the block counter in decimal, the nonce, the plaintext and the
+    /// Reads a line: the words are the name, the key, the block counter in decimal, the nonce, the plaintext and the
     /// ciphertext.
     pub fn parse(alloc: Global, line: &'static str) -> Result<Case, BadLine> {
         let mut words = Words::new(line);

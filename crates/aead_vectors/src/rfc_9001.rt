@@ -1,4 +1,4 @@
-//! RFC 9001, "Using TLS to Secure QUIC": header protection masks and packets (section 5).
+//! RFC 9001, "Using TLS to Secure QUIC": masks of header protection and packets (section 5).
 
 use crate::words::{BadLine, Words};
 use std::alloc::Global;
@@ -30,7 +30,7 @@ pub const A_5_SAMPLE: [u8; 16] = [
 /// Appendix A.5: the mask.
 pub const A_5_MASK: [u8; 5] = [0xae, 0xfe, 0xfe, 0x7d, 0x03];
 
-/// A packet before and after protection with AES-128-GCM and an AES-128 mask (section 5).
+/// A packet before and after its protection by AES-128-GCM and a mask by AES-128 (section 5).
 #[derive(Drop)]
 pub struct Packet {
     pub name: &'static str,
@@ -41,15 +41,15 @@ pub struct Packet {
     pub number_at: usize,
     pub number: u64,
     pub payload_len: usize,
-    /// The unmasked header, which ends with the packet number.
+    /// The header, unmasked. It ends with the packet number.
     pub header: Vec<u8>,
-    /// The payload without its padding of zero bytes.
+    /// The payload without the zero bytes that pad it.
     pub frames: Vec<u8>,
     pub protected: Vec<u8>,
 }
 
 impl Packet {
-    /// Parses a line, whose words are the name, the key, the IV, the header protection key, the offset of the packet number,
+    /// Reads a line: the words are the name, the key, the IV, the header protection key, the position of the packet number,
     /// the number, the length of the payload, the header, the frames and the protected packet.
     pub fn parse(alloc: Global, line: &'static str) -> Result<Packet, BadLine> {
         let mut words = Words::new(line);
@@ -81,13 +81,13 @@ pub const A_3_PACKET: &str =
 /// The packets of appendices A.2 and A.3.
 pub const PACKETS: [&str; 2] = [A_2_PACKET, A_3_PACKET];
 
-/// Appendix A.5: the packet sealed with AEAD_CHACHA20_POLY1305, before its header is masked. Its number begins at byte 1.
+/// Appendix A.5: the packet, sealed by AEAD_CHACHA20_POLY1305, before its header is masked. Its number begins at byte 1.
 pub const A_5_SEALED: [u8; 21] = [
     0x42, 0x00, 0xbf, 0xf4, 0x65, 0x5e, 0x5c, 0xd5, 0x5c, 0x41, 0xf6, 0x90, 0x80, 0x57, 0x5d, 0x79,
     0x99, 0xc2, 0x5a, 0x5b, 0xfb,
 ];
 
-/// Appendix A.5: the packet after its header is masked.
+/// Appendix A.5: the packet with its header masked.
 pub const A_5_PROTECTED: [u8; 21] = [
     0x4c, 0xfe, 0x41, 0x89, 0x65, 0x5e, 0x5c, 0xd5, 0x5c, 0x41, 0xf6, 0x90, 0x80, 0x57, 0x5d, 0x79,
     0x99, 0xc2, 0x5a, 0x5b, 0xfb,

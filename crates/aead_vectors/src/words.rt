@@ -1,11 +1,11 @@
-//! Parsing of lines of text: a name, followed by bytes in hex and decimal numbers.
+//! Lines of text: a name, and then bytes as hex digits.
 
 use hex::{FromHex, FromHexError};
 use std::alloc::Global;
 use std::num::ParseIntError;
 use std::str::SplitWhitespace;
 
-/// An error that can be returned when parsing a line.
+/// Why a line is refused.
 #[derive(Debug, Drop)]
 pub enum BadLine {
     MissingWord,
@@ -26,7 +26,7 @@ impl From<ParseIntError> for BadLine {
     }
 }
 
-/// The remaining words of a line.
+/// The words of a line that are still to be read.
 #[derive(Drop)]
 pub struct Words<'a> {
     rest: SplitWhitespace<'a>,
@@ -39,17 +39,17 @@ impl<'a> Words<'a> {
         }
     }
 
-    /// Reads the next word.
+    /// Reads a word.
     pub fn text(&mut self) -> Result<&'a str, BadLine> {
         self.rest.next().ok_or(BadLine::MissingWord)
     }
 
-    /// Reads the next word as a decimal number.
+    /// Reads a number in decimal.
     pub fn number(&mut self) -> Result<u32, BadLine> {
         Ok(self.text()?.parse::<u32>()?)
     }
 
-    /// Reads the next word as bytes in hex. The word `-` means no bytes.
+    /// Reads bytes in hex digits, or `-` for none.
     pub fn bytes(&mut self, alloc: Global) -> Result<Vec<u8>, BadLine> {
         let word = self.text()?;
         if word == "-" {
@@ -58,12 +58,12 @@ impl<'a> Words<'a> {
         Ok(hex::decode(alloc, word)?)
     }
 
-    /// Reads the next word as `N` bytes in hex.
+    /// Reads `N` bytes in hex digits.
     pub fn array<const N: usize>(&mut self) -> Result<[u8; N], BadLine> {
         Ok(<[u8; N] as FromHex>::from_hex(self.text()?)?)
     }
 
-    /// Fails if a word is left.
+    /// Fails where a word is left.
     pub fn end(mut self) -> Result<(), BadLine> {
         match self.rest.next() {
             Some(_) => Err(BadLine::WordLeft),
@@ -76,8 +76,7 @@ impl<'a> Words<'a> {
 mod tests {
     use crate::rfc_8439::Case;
 
-    // No word, one word too few, one too many, a key of the wrong length, a counter that isn't decimal, and a message that
-    // isn't hex.
+    // No word, a word too few, a word too many, a key of another length, a counter that isn't decimal, and no hex digits.
     const BAD_LINES: [&str; 6] = [
         "",
         "name 0000000000000000000000000000000000000000000000000000000000000000 1 000000000000000000000000 -",
