@@ -159,23 +159,25 @@ fn every_flipped_bit_is_refused(rt: HostRuntime) -> Result<(), Fail> {
     Ok(())
 }
 
-/// Returns the error with which a new reader rejects these bytes. Asserts that the bytes are unchanged and,
-/// if the error has an alert, that each later call fails with `Closed`.
-fn refusal(rt: &impl Abort, alloc: Global, bytes: &mut [u8]) -> Result<RecordError, Fail> {
+/// Asserts that each call of a closed reader fails with `Closed`.
+fn is_closed(rt: &impl Abort, reader: &mut Reader, record: &mut [u8]) {
+    assert!(rt; reader.read(record).err() == Some(RecordError::Closed));
+    assert!(rt; reader.update(&KEY[..16], IV) == Err(RecordError::Closed));
+    assert!(rt; reader.set_size_limit(64) == Err(RecordError::Closed));
+}
+
+/// Asserts that a new reader rejects these bytes with this error, and that they are unchanged. If the error has
+/// an alert, asserts that the reader is closed.
+fn rejects(rt: &impl Abort, bytes: &mut Vec<u8>, error: RecordError) -> Result<(), Fail> {
     let mut reader = Reader::new(&AES_128_GCM, &KEY[..16], IV)?;
-    let before = bytes.to_vec(alloc)?;
-    let Some(error) = reader.read(bytes).err() else {
-        return Err(Fail::from("read"));
-    };
-    assert_eq!(rt; &*bytes, before.as_slice());
+    let before = bytes.clone()?;
+    assert!(rt; reader.read(bytes.as_mut_slice()).err() == Some(error));
+    assert_eq!(rt; bytes.as_slice(), before.as_slice());
     assert_eq!(rt; reader.is_closed(), error.alert().is_some());
     if reader.is_closed() {
-        let mut next = hex::decode(alloc, OF_AES_128[0].record)?;
-        assert!(rt; reader.read(next.as_mut_slice()).err() == Some(RecordError::Closed));
-        assert!(rt; reader.update(&KEY[..16], IV) == Err(RecordError::Closed));
-        assert!(rt; reader.set_size_limit(64) == Err(RecordError::Closed));
+        is_closed(rt, &mut reader, bytes.as_mut_slice());
     }
-    Ok(error)
+    Ok(())
 }
 
 /// Bytes in hex, and the errors with which they are rejected. Only the last two are single records, but
@@ -217,13 +219,8 @@ const REFUSED: [(&str, RecordError); 11] = [
 
 #[test]
 fn no_record(rt: HostRuntime) -> Result<(), Fail> {
-    for (text, expected) in REFUSED {
-        let mut bytes = hex::decode(rt.alloc(), text)?;
-        assert_eq!(rt;
-            refusal(&rt, rt.alloc(), bytes.as_mut_slice())?,
-            expected,
-            "{text}"
-        );
+    for (text, error) in REFUSED {
+        rejects(&rt, &mut hex::decode(rt.alloc(), text)?, error)?;
     }
     Ok(())
 }
@@ -258,21 +255,28 @@ const AUTHENTIC: [(&str, &[u8], RecordError); 5] = [
     ),
 ];
 
-/// The rejected inner plaintext is at the front of the buffer, every byte after it is unchanged, and the
-/// reader is closed.
+/// Asserts that a new reader rejects this record with this error, and is closed. The inner plaintext is at the
+/// front of the buffer, and every byte after it is unchanged.
+fn rejects_inner(
+    rt: &impl Abort,
+    record: &[u8],
+    bytes: &mut [u8],
+    inner: &[u8],
+    error: RecordError,
+) -> Result<(), Fail> {
+    let mut reader = Reader::new(&AES_128_GCM, &KEY[..16], IV)?;
+    assert!(rt; reader.read(bytes).err() == Some(error));
+    assert_eq!(rt; bytes.get(..inner.len()), Some(inner));
+    assert_eq!(rt; bytes.get(inner.len()..), record.get(inner.len()..));
+    assert!(rt; reader.is_closed());
+    Ok(())
+}
+
 #[test]
 fn authentic_and_refused(rt: HostRuntime) -> Result<(), Fail> {
-    for (text, inner, expected) in AUTHENTIC {
-        let mut reader = Reader::new(&AES_128_GCM, &KEY[..16], IV)?;
+    for (text, inner, error) in AUTHENTIC {
         let record = hex::decode(rt.alloc(), text)?;
-        let mut bytes = hex::decode(rt.alloc(), text)?;
-        assert!(rt;
-            reader.read(bytes.as_mut_slice()).err() == Some(expected),
-            "{text}"
-        );
-        assert_eq!(rt; bytes.get(..inner.len()), Some(inner));
-        assert_eq!(rt; bytes.get(inner.len()..), record.get(inner.len()..));
-        assert!(rt; reader.is_closed());
+        rejects_inner(&rt, &record, &mut record.clone()?, inner, error)?;
     }
     Ok(())
 }
@@ -310,45 +314,135 @@ fn no_such_content(rt: HostRuntime) -> Result<(), Fail> {
     Ok(())
 }
 
-/// Asserts that a content of `len` bytes is written with this padding, and read again.
-fn of_length(
-    rt: &impl Abort,
-    alloc: Global,
-    writer: &mut Writer,
-    reader: &mut Reader,
-    len: usize,
-    padding: usize,
-) -> Result<(), Fail> {
-    let content = Vec::from_elem(alloc, 7, len)?;
-    let mut record = Vec::new(alloc);
-    writer.write(ApplicationData, &content, padding, &mut record)?;
-    let (_, read) = reader.read(record.as_mut_slice())?;
-    assert_eq!(rt; read, content.as_slice());
+/// A writer, and a reader of what it writes.
+#[derive(Drop)]
+struct Ends {
+    writer: Writer,
+    reader: Reader,
+}
+
+/// What happens to both ends.
+#[derive(Clone, Copy)]
+enum Event {
+    /// A content of this length is written with this padding, and read again.
+    Carried(usize, usize),
+    /// A content of this length is not written.
+    Unwritten(usize, RecordError),
+    /// A content of this length is written, and rejected.
+    Unread(usize, RecordError),
+    /// The writer and the reader get these size limits.
+    SizeLimits(usize, usize),
+    Updated,
+    /// So many records are left at both ends.
+    Remaining(u64),
+}
+
+use Event::{Carried, Remaining, SizeLimits, Unread, Unwritten, Updated};
+
+impl Ends {
+    fn new(limit: u64) -> Result<Self, RecordError> {
+        Ok(Ends {
+            writer: Writer::with_limit(&AES_128_GCM, &KEY[..16], IV, limit)?,
+            reader: Reader::with_limit(&AES_128_GCM, &KEY[..16], IV, limit)?,
+        })
+    }
+
+    /// Returns a record with a content of `len` sevens.
+    fn write(&mut self, alloc: Global, len: usize, padding: usize) -> Result<Vec<u8>, RecordError> {
+        let Ok(content) = Vec::from_elem(alloc, 7, len) else {
+            return Err(RecordError::OutOfMemory);
+        };
+        let mut record = Vec::new(alloc);
+        self.writer
+            .write(ApplicationData, &content, padding, &mut record)?;
+        Ok(record)
+    }
+
+    /// Reads a record, and returns whether its content is `len` sevens.
+    fn reads(&mut self, mut record: Vec<u8>, len: usize) -> Result<bool, RecordError> {
+        let (_, content) = self.reader.read(record.as_mut_slice())?;
+        Ok(content.len() == len && content.iter().all(|byte| *byte == 7))
+    }
+
+    fn update(&mut self) -> Result<(), RecordError> {
+        self.writer.update(&KEY[16..], IV)?;
+        self.reader.update(&KEY[16..], IV)
+    }
+
+    fn meets(&mut self, rt: &impl Abort, alloc: Global, event: Event) -> Result<(), RecordError> {
+        match event {
+            Carried(len, padding) => {
+                let record = self.write(alloc, len, padding)?;
+                assert!(rt; self.reads(record, len)?, "{len}");
+            }
+            Unwritten(len, error) => {
+                assert!(rt; self.write(alloc, len, 0).err() == Some(error), "{len}");
+            }
+            Unread(len, error) => {
+                let record = self.write(alloc, len, 0)?;
+                assert!(rt; self.reads(record, len) == Err(error), "{len}");
+            }
+            SizeLimits(writer, reader) => {
+                self.writer.set_size_limit(writer)?;
+                self.reader.set_size_limit(reader)?;
+            }
+            Updated => self.update()?,
+            Remaining(count) => {
+                assert_eq!(rt;
+                    (self.writer.remaining(), self.reader.remaining()),
+                    (count, count)
+                );
+            }
+        }
+        Ok(())
+    }
+}
+
+/// Asserts that the events happen one after another.
+fn happen(rt: &impl Abort, alloc: Global, limit: u64, events: &[Event]) -> Result<(), Fail> {
+    let mut ends = Ends::new(limit)?;
+    for &event in events {
+        ends.meets(rt, alloc, event)?;
+    }
     Ok(())
 }
 
 /// The longest content and the longest padding, under the size limit of RFC 8446 and under a lower one, which
 /// a key update does not change.
+const LONGEST: [Event; 9] = [
+    Carried(MAX_CONTENT_LEN, 0),
+    Carried(0, MAX_CONTENT_LEN),
+    SizeLimits(64, 64),
+    Updated,
+    Carried(63, 0),
+    Carried(3, 60),
+    Unwritten(64, RecordError::ContentTooLong),
+    SizeLimits(65, 64),
+    Unread(64, RecordError::InnerPlaintextTooLong),
+];
+
+/// After the last of two records, writing fails until the key is updated.
+const END_OF_THE_SEQUENCE: [Event; 7] = [
+    Carried(3, 0),
+    Carried(3, 0),
+    Remaining(0),
+    Unwritten(3, RecordError::SequenceEnded),
+    Updated,
+    Remaining(2),
+    Carried(3, 0),
+];
+
 #[test]
 fn longest_records(rt: HostRuntime) -> Result<(), Fail> {
-    let alloc = rt.alloc();
-    let mut writer = Writer::new(&AES_128_GCM, &KEY[..16], IV)?;
-    let mut reader = Reader::new(&AES_128_GCM, &KEY[..16], IV)?;
-    of_length(&rt, alloc, &mut writer, &mut reader, MAX_CONTENT_LEN, 0)?;
-    of_length(&rt, alloc, &mut writer, &mut reader, 0, MAX_CONTENT_LEN)?;
-    writer.set_size_limit(64)?;
-    reader.set_size_limit(64)?;
-    writer.update(&KEY[16..], IV)?;
-    reader.update(&KEY[16..], IV)?;
-    of_length(&rt, alloc, &mut writer, &mut reader, 63, 0)?;
-    of_length(&rt, alloc, &mut writer, &mut reader, 3, 60)?;
-    let mut record = Vec::new(alloc);
-    let refused = writer.write(ApplicationData, &[7; 64], 0, &mut record);
-    assert!(rt; refused == Err(RecordError::ContentTooLong));
-    writer.set_size_limit(65)?;
-    writer.write(ApplicationData, &[7; 64], 0, &mut record)?;
-    let refused = reader.read(record.as_mut_slice()).err();
-    assert!(rt; refused == Some(RecordError::InnerPlaintextTooLong));
+    happen(&rt, rt.alloc(), 4, &LONGEST)
+}
+
+#[test]
+fn the_end_of_the_sequence(rt: HostRuntime) -> Result<(), Fail> {
+    happen(&rt, rt.alloc(), 2, &END_OF_THE_SEQUENCE)?;
+    let mut reader = Ends::new(0)?.reader;
+    let mut bytes = <[u8; 27]>::from_hex(OF_AES_128[0].record)?;
+    assert!(rt; reader.read(&mut bytes).err() == Some(RecordError::SequenceEnded));
     Ok(())
 }
 
@@ -364,28 +458,6 @@ fn size_limits(rt: HostRuntime) -> Result<(), Fail> {
         );
     }
     Ok(())
-}
-
-/// After the last record, writing and reading fail until the key is updated.
-#[test]
-fn the_end_of_the_sequence(rt: HostRuntime) -> Result<(), Fail> {
-    let alloc = rt.alloc();
-    let mut writer = Writer::with_limit(&AES_128_GCM, &KEY[..16], IV, 2)?;
-    let mut reader = Reader::with_limit(&AES_128_GCM, &KEY[..16], IV, 2)?;
-    for _ in 0..2 {
-        of_length(&rt, alloc, &mut writer, &mut reader, 3, 0)?;
-    }
-    assert_eq!(rt; (writer.remaining(), reader.remaining()), (0, 0));
-    let mut record = Vec::new(alloc);
-    let refused = writer.write(ApplicationData, b"one", 0, &mut record);
-    assert!(rt; refused == Err(RecordError::SequenceEnded));
-    assert!(rt; record.is_empty());
-    let mut bytes = <[u8; 27]>::from_hex(OF_AES_128[0].record)?;
-    assert!(rt; reader.read(&mut bytes).err() == Some(RecordError::SequenceEnded));
-    writer.update(&KEY[16..], IV)?;
-    reader.update(&KEY[16..], IV)?;
-    assert_eq!(rt; (writer.remaining(), reader.remaining()), (2, 2));
-    of_length(&rt, alloc, &mut writer, &mut reader, 3, 0)
 }
 
 #[test]
@@ -419,26 +491,38 @@ fn sealed_in_place(rt: HostRuntime) -> Result<(), Fail> {
     Ok(())
 }
 
-/// The record that `tools/read-records make` printed for number 2^64 - 1, sealed and opened, with bytes after
-/// it, and a reader that starts at the third record.
+/// The record that `tools/read-records make` printed for number 2^64 - 1.
+const LAST: &str = "17030300151ebc8ad8e3b12c91d4263ea37368226008651065e6";
+
+/// A record is sealed under the last number, in a slice with bytes after it.
 #[test]
-fn by_number(rt: HostRuntime) -> Result<(), Fail> {
+fn sealed_by_number(rt: HostRuntime) -> Result<(), Fail> {
     let key = RecordKey::new(&AES_128_GCM, &KEY[..16], IV)?;
-    let last = <[u8; 26]>::from_hex("17030300151ebc8ad8e3b12c91d4263ea37368226008651065e6")?;
     let mut record = [9; 28];
     record[5..9].copy_from_slice(b"last");
-    assert!(rt;
-        key.seal_at(u64::MAX, ApplicationData, &mut record[..25], 4, 0) == Err(RecordError::NoRoom)
-    );
+    let no_room = key.seal_at(u64::MAX, ApplicationData, &mut record[..25], 4, 0);
+    assert!(rt; no_room == Err(RecordError::NoRoom));
+    assert!(rt; key.seal_at(u64::MAX, ApplicationData, &mut record, 4, 0) == Ok(26));
     assert_eq!(rt;
-        key.seal_at(u64::MAX, ApplicationData, &mut record, 4, 0)?,
-        26
+        record.get(..26),
+        Some(<[u8; 26]>::from_hex(LAST)?.as_slice())
     );
-    assert_eq!(rt; record.get(..26), Some(last.as_slice()));
     assert_eq!(rt; record.get(26..), Some([9; 2].as_slice()));
-    let mut received = last;
-    assert!(rt; key.open_at(u64::MAX, &mut received) == Ok((ApplicationData, 4)));
-    assert_eq!(rt; received.get(5..9), Some(b"last".as_slice()));
+    Ok(())
+}
+
+#[test]
+fn opened_by_number(rt: HostRuntime) -> Result<(), Fail> {
+    let key = RecordKey::new(&AES_128_GCM, &KEY[..16], IV)?;
+    let mut record = <[u8; 26]>::from_hex(LAST)?;
+    assert!(rt; key.open_at(u64::MAX, &mut record) == Ok((ApplicationData, 4)));
+    assert_eq!(rt; record.get(5..9), Some(b"last".as_slice()));
+    Ok(())
+}
+
+/// A reader that starts at the third record reads it.
+#[test]
+fn starting_at(rt: HostRuntime) -> Result<(), Fail> {
     let mut reader = Reader::new(&AES_128_GCM, &KEY[..16], IV)?.starting_at(2);
     let mut third = hex::decode(rt.alloc(), OF_AES_128[2].record)?;
     assert!(rt; reader.read(third.as_mut_slice())?.1 == OF_AES_128[2].content);
