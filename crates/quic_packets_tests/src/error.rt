@@ -56,7 +56,10 @@ const PACKET_ERRORS: [(PacketError, &str); 19] = [
         PacketError::TooLong,
         "the packet is longer than AES-GCM allows",
     ),
-    (PacketError::NumbersEnded, "the packet number is not below 2^62"),
+    (
+        PacketError::NumbersEnded,
+        "the packet number is not below 2^62",
+    ),
     (PacketError::Refused, "the packet is not authentic"),
     (
         PacketError::TooManyFailures,
