@@ -25,8 +25,6 @@ mod key_schedule;
 mod pack;
 mod planes;
 mod round;
-#[cfg(test)]
-mod tests;
 mod tower;
 mod work;
 

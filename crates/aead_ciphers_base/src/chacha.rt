@@ -16,8 +16,6 @@ use std::marker::Model;
 
 mod lanes;
 mod rows;
-#[cfg(test)]
-mod tests;
 
 /// The length of a key, in bytes.
 pub const KEY_LEN: usize = 32;

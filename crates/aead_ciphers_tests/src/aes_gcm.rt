@@ -2,12 +2,12 @@
 
 use crate::callers::seal_where_room;
 use crate::cases::{false_tag, key_bytes};
-use crate::checks::{holds, same};
 use crate::reference;
 use aead_ciphers::aes_gcm::{Key, open};
 use aead_ciphers_base::aes::{self, KeyBytes, Work};
 use aead_ciphers_base::values::{Aad, Nonce, Tag};
-use aead_vectors::gcm_spec::{CASE_4, CASE_16, Case};
+use aead_vectors::checks::{holds, same};
+use aead_vectors::gcm_spec::{CASE_4, CASE_16, CASES, Case};
 use std::alloc::Global;
 use std::process::Abort;
 use std::test::Fail;
@@ -47,6 +47,26 @@ fn worked(rt: &impl Abort, work: &Work, blocks: u64, products: u64, what: &str) 
         (blocks, products),
         "{what}"
     );
+}
+
+/// Asserts that a case is sealed to its ciphertext and tag, and opened to its message.
+fn seals_and_opens(rt: &impl Abort, case: &Case) -> Result<(), Fail> {
+    let mut buffer = case.message.clone()?;
+    let (tag, _) = sealed(case, &case.aad, &mut buffer)?;
+    same(rt, &buffer, &case.ciphertext, case.name);
+    same(rt, tag.as_ref(), &case.tag, case.name);
+    let (is_opened, _) = opened(case, &case.aad, tag, &mut buffer, 0)?;
+    holds(rt, is_opened, case.name);
+    same(rt, &buffer, &case.message, case.name);
+    Ok(())
+}
+
+#[test]
+fn gcm_spec_cases(rt: HostRuntime) -> Result<(), Fail> {
+    for line in CASES {
+        seals_and_opens(&rt, &Case::parse(rt.alloc(), line)?)?;
+    }
+    Ok(())
 }
 
 #[test]

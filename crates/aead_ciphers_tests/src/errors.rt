@@ -1,30 +1,12 @@
-//! Tests of the texts of the errors, and of their conversion to `anyhow::Error` by `?`.
+//! Tests of the conversion of errors to `anyhow::Error` by `?`.
 
-use crate::checks::{holds, reads};
-use aead_ciphers::aead::{AES_128_GCM, UnboundKey, Unspecified};
-use aead_ciphers_base::error::{IndexError, InputTooLongError, LenMismatchError};
+use aead_ciphers::aead::{AES_128_GCM, UnboundKey};
+use aead_vectors::checks::{holds, reads};
 use std::test::Fail;
 
 /// Creates a key of AES-128-GCM.
 fn unbound(bytes: &[u8]) -> anyhow::Result<UnboundKey> {
     Ok(UnboundKey::new(&AES_128_GCM, bytes)?)
-}
-
-#[test]
-fn texts(rt: HostRuntime) -> Result<(), Fail> {
-    let (u, i, l, t) = (
-        Unspecified,
-        IndexError::new(7),
-        LenMismatchError::new(3),
-        InputTooLongError::new(9),
-    );
-    let text = format!(in rt.alloc(); "{u}, {i}, {l}, {t}")?;
-    reads(
-        &rt,
-        text.as_str(),
-        "unspecified error, index out of range, length mismatch, input too long",
-    );
-    Ok(())
 }
 
 #[test]

@@ -1,4 +1,4 @@
-//! Tests of the public interfaces of the libraries and of the crates that use them: external test vectors, printed text, and
+//! Tests of the public interface of `aead_ciphers` and of the crates that use it: external test vectors, printed text, and
 //! properties that no contract states.
 #![tactic(auto)]
 
@@ -7,11 +7,7 @@ mod aead;
 #[cfg(test)]
 mod aeadrun;
 #[cfg(test)]
-mod aes;
-#[cfg(test)]
 mod aes_gcm;
-#[cfg(test)]
-mod bb;
 #[cfg(test)]
 mod bound_key;
 #[cfg(test)]
@@ -19,11 +15,7 @@ mod callers;
 #[cfg(test)]
 mod cases;
 #[cfg(test)]
-mod chacha;
-#[cfg(test)]
-mod checks;
-#[cfg(test)]
-mod chunks;
+mod counting;
 #[cfg(test)]
 mod errors;
 #[cfg(test)]
@@ -31,15 +23,11 @@ mod examples;
 #[cfg(test)]
 mod gcm;
 #[cfg(test)]
-mod items;
-#[cfg(test)]
 mod laws;
 #[cfg(test)]
 mod loans;
 #[cfg(test)]
 mod masks;
-#[cfg(test)]
-mod overlapping;
 #[cfg(test)]
 mod quic;
 #[cfg(test)]
@@ -52,5 +40,3 @@ mod sequences;
 mod session;
 #[cfg(test)]
 mod streams;
-#[cfg(test)]
-mod values;

@@ -16,9 +16,12 @@ use aead_ciphers_base::error::Unspecified;
 use aead_ciphers_base::values::{Aad, Nonce, Tag};
 use std::ops::RangeFrom;
 
+/// Opens as `aes_gcm::open` does, with any cipher of 16-byte blocks (SP 800-38D section 7.2). The hash subkey of `gcm` must be
+/// the encryption of the zero block.
+///
 /// Compares the tag of the ciphertext `in_out[src]` with `received_tag`, and then decrypts it to the front of `in_out`.
 /// Fails if the start is out of range, if the lengths exceed the limits of `aes_gcm::seal`, or if the tags differ.
-pub(super) fn open_with<A: EncryptCtr32, G: UpdateBlocks>(
+pub fn open_with<A: EncryptCtr32, G: UpdateBlocks>(
     aes: &A,
     gcm: &G,
     nonce: Nonce,

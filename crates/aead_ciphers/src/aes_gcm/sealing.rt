@@ -17,8 +17,11 @@ use aead_ciphers_base::values::{Aad, Nonce, Tag};
 /// The length of the longest plaintext that is encrypted in one pass with the mask of the tag: three blocks.
 const SHORT_LEN: usize = 3 * BLOCK_LEN;
 
+/// Seals as `aes_gcm::seal` does, with any cipher of 16-byte blocks (SP 800-38D section 7.1). The hash subkey of `gcm` must be
+/// the encryption of the zero block.
+///
 /// Encrypts `in_out` in place, and returns the tag. Fails if the lengths exceed the limits of `aes_gcm::seal`.
-pub(super) fn seal_with<A: EncryptCtr32, G: UpdateBlocks>(
+pub fn seal_with<A: EncryptCtr32, G: UpdateBlocks>(
     aes: &A,
     gcm: &G,
     nonce: Nonce,

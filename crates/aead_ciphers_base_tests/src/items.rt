@@ -1,6 +1,6 @@
 //! Items that aren't bytes.
 
-use crate::checks::holds;
+use aead_vectors::checks::holds;
 use std::process::Abort;
 
 /// An item that isn't `Copy`.

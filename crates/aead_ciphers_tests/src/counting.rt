@@ -1,65 +1,87 @@
-//! The test cases of the GCM specification, and what the generic bodies ask of a cipher and a hash.
-
-mod counting;
+//! Tests of `aes_gcm::seal_with` and `aes_gcm::open_with` over a cipher and a hash that count the calls of each.
 
 ghost use Rattle.std.specs.Prelude.{◌≡◌};
 ghost use Rattle.aead_ciphers_base.specs.Aes.{aes as aes_cipher};
 ghost use Rattle.aead_ciphers_base.specs.Bytes.{zero_block};
 
-use self::counting::{CountingCipher, CountingHash};
-use super::opening::open_with;
-use super::sealing::seal_with;
-use super::{Key, open, seal};
-use crate::gcm;
-use aead_ciphers_base::aes::{self, EncryptBlock, KeyBytes, Work, ZERO_BLOCK};
+use aead_ciphers::aes_gcm::{open_with, seal_with};
+use aead_ciphers::gcm::{self, UpdateBlock, UpdateBlocks, Xi};
+use aead_ciphers_base::aes::{
+    self, BLOCK_LEN, Block, Counter, EncryptBlock, EncryptCtr32, Iv, KeyBytes, Overlapping, Work,
+    ZERO_BLOCK,
+};
+use aead_ciphers_base::polyfill::slice::AsChunks;
 use aead_ciphers_base::values::{Aad, Nonce, Tag};
-use aead_vectors::gcm_spec::{CASES, Case};
+use aead_vectors::checks::holds;
 use std::alloc::Global;
 use std::cell::Cell;
 use std::process::Abort;
 use std::test::Fail;
 
-/// The key of a case.
-fn key(case: &Case) -> Result<Key, Fail> {
-    let bytes = match case.key.as_slice().as_array::<16>() {
-        Some(key) => KeyBytes::AES_128(key),
-        None => KeyBytes::AES_256(
-            case.key
-                .as_slice()
-                .as_array::<32>()
-                .ok_or("a key's length")?,
-        ),
-    };
-    Ok(Key::new(bytes, &mut Work::new())?)
+/// Adds `more` to `count`.
+fn add(count: &Cell<u64>, more: usize) {
+    count.set(count.get().wrapping_add(more as u64));
 }
 
-/// A case is sealed to its ciphertext and tag, and opened to its message.
-fn seals_and_opens(rt: &impl Abort, case: &Case) -> Result<(), Fail> {
-    let key = key(case)?;
-    let nonce = || Nonce::assume_unique_for_key(case.nonce);
-    let aad = Aad::from(case.aad.as_slice());
-    let mut buffer = case.message.clone()?;
-    let tag = seal(&key, nonce(), aad, &mut buffer, &mut Work::new())?;
-    assert_eq!(rt;
-        (&*buffer, tag.as_ref()),
-        (case.ciphertext.as_slice(), case.tag.as_slice()),
-        "{}",
-        case.name
-    );
-    open(&key, nonce(), aad, tag, &mut buffer, 0.., &mut Work::new())?;
-    assert_eq!(rt; &*buffer, case.message.as_slice(), "{}", case.name);
-    Ok(())
+/// AES under a key, and the number of blocks that were asked for.
+#[derive(Drop)]
+struct CountingCipher<'a> {
+    key: &'a aes::Key,
+    blocks: &'a Cell<u64>,
 }
 
-#[test]
-fn gcm_spec_cases(rt: HostRuntime) -> Result<(), Fail> {
-    for line in CASES {
-        seals_and_opens(&rt, &Case::parse(rt.alloc(), line)?)?;
+impl EncryptBlock for CountingCipher<'_> {
+    ghost cipher = { λ c block. aes_cipher c.key.now block };
+
+    fn encrypt_block(&self, block: Block, work: &mut Work) -> Block {
+        add(self.blocks, 1);
+        self.key.encrypt_block(block, work)
     }
-    Ok(())
+
+    fn encrypt_iv_xor_block(&self, iv: Iv, block: Block, work: &mut Work) -> Block {
+        add(self.blocks, 1);
+        self.key.encrypt_iv_xor_block(iv, block, work)
+    }
 }
 
-/// The tallies, and what a cipher and a hash were asked for, are these. What was asked for is zero again.
+impl EncryptCtr32 for CountingCipher<'_> {
+    fn ctr32_encrypt_within(
+        &self,
+        in_out: Overlapping<'_>,
+        counter: &mut Counter,
+        work: &mut Work,
+    ) {
+        let Overlapping { in_out, start } = in_out;
+        add(self.blocks, (in_out.len() - start) / BLOCK_LEN);
+        self.key
+            .ctr32_encrypt_within(Overlapping::within(in_out, start), counter, work);
+    }
+}
+
+/// GHASH under a key, and the number of products that were asked for.
+#[derive(Drop)]
+struct CountingHash<'a> {
+    key: &'a gcm::Key,
+    products: &'a Cell<u64>,
+}
+
+impl UpdateBlock for CountingHash<'_> {
+    ghost hash_subkey = { λ h. h.key.now };
+
+    fn update_block(&self, xi: &mut Xi, block: Block, work: &mut Work) {
+        add(self.products, 1);
+        self.key.update_block(xi, block, work);
+    }
+}
+
+impl UpdateBlocks for CountingHash<'_> {
+    fn update_blocks(&self, xi: &mut Xi, input: AsChunks<'_, u8, BLOCK_LEN>, work: &mut Work) {
+        add(self.products, input.len());
+        self.key.update_blocks(xi, input, work);
+    }
+}
+
+/// Asserts that the tallies and the numbers of calls are these, and resets the numbers of calls.
 fn worked(
     rt: &impl Abort,
     work: &Work,
@@ -68,18 +90,16 @@ fn worked(
     (blocks, products): (u64, u64),
 ) {
     let asked = (asked_blocks.take(), asked_products.take());
-    assert!(rt;
-        (work.blocks(), work.products()) == (blocks, products),
-        "the tallies"
-    );
-    assert!(rt; asked == (blocks, products), "what was asked for");
+    let found = (work.blocks(), work.products());
+    holds(rt, found == (blocks, products), "the tallies");
+    holds(rt, asked == (blocks, products), "what was asked for");
 }
 
 fn nonce() -> Nonce {
     Nonce::assume_unique_for_key([7; 12])
 }
 
-#[tactic(auto, using(crate::proofs::MessageLaws::length_aes))]
+#[tactic(auto, using(aead_ciphers::proofs::MessageLaws::length_aes))]
 fn seals(
     rt: &impl Abort,
     cipher: &CountingCipher<'_>,
@@ -140,9 +160,9 @@ fn work_at(
     let tag = seals(rt, &cipher, &hash, aad, &mut buffer, tallies)?;
     let zeros = Tag::from([0; 16]);
     let is_opened = opens(rt, &cipher, &hash, aad, zeros, &mut buffer, (1, tallies.1));
-    assert!(rt; !is_opened, "a false tag");
+    holds(rt, !is_opened, "a false tag");
     let is_opened = opens(rt, &cipher, &hash, aad, tag, &mut buffer, tallies);
-    assert!(rt; is_opened, "the tag");
+    holds(rt, is_opened, "the tag");
     Ok(())
 }
 

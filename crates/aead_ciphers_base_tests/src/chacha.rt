@@ -1,12 +1,66 @@
-//! Tests of `chacha`: the words of keys and counters, the first and the last block, and an input far after the output.
+//! Tests of `chacha`: vectors of RFC 8439 and RFC 9001, of the definitions in contracts and of the code; the words of keys and
+//! counters, the first and the last block, and an input far after the output.
 
-use crate::checks::{holds, same};
+ghost use Rattle.std.specs.Prelude.{◌≡◌};
+ghost use Rattle.aead_ciphers_base.specs.ChaCha20.{quarter_round, chacha20_block};
+ghost use Rattle.aead_vectors.specs.declared.rfc_8439.TheConstants.{BLOCK, BLOCK_NONCE, KEY};
+
 use aead_ciphers_base::chacha::{BLOCK_LEN, Counter, KEY_LEN, Key, Overlapping};
 use aead_ciphers_base::values::{NONCE_LEN, Nonce};
-use aead_vectors::rfc_8439::{A_1_VECTOR_1, A_2_VECTOR_2, BLOCK_NONCE, Case, KEY};
+use aead_vectors::checks::{holds, same};
+use aead_vectors::rfc_8439::{A_1_VECTOR_1, BLOCK_NONCE, CASES, Case, KEY};
+use aead_vectors::rfc_9001;
 use std::alloc::Global;
 use std::process::Abort;
 use std::test::Fail;
+
+// The definition yields the vector of section 2.1.1.
+#[tactic(auto, unfolding(aead_ciphers_base::specs::ChaCha20::quarter_round))]
+fn rfc_8439_2_1_1()
+    ensures { quarter_round 0x11111111 0x01020304 0x9b8d6f43 0x01234567
+        ≡ (0xea2a92f4, 0xcb1cf8ce, 0x4581472e, 0x5881c4bb) }
+{}
+
+// The definition yields the block of section 2.3.2.
+fn rfc_8439_2_3_2_block()
+    ensures { chacha20_block KEY 1 BLOCK_NONCE ≡ BLOCK }
+{}
+
+/// XORs `bytes` with the keystream of a case.
+fn xors(case: &Case, bytes: &mut [u8]) -> Result<(), Fail> {
+    let blocks_left = (1 << 32) - case.counter as usize;
+    if bytes.len().div_ceil(BLOCK_LEN) > blocks_left {
+        return Err("a plaintext's length".into());
+    }
+    let nonce = Nonce::assume_unique_for_key(case.nonce);
+    let counter = Counter::from_nonce_and_ctr(nonce, case.counter);
+    Key::new(case.key).encrypt(counter, Overlapping::from(bytes));
+    Ok(())
+}
+
+/// Asserts that the plaintext of a case is encrypted to its ciphertext, and that decrypted to the plaintext.
+fn encrypts(rt: &impl Abort, case: &Case) -> Result<(), Fail> {
+    let mut bytes = case.plaintext.clone()?;
+    xors(case, &mut bytes)?;
+    same(rt, &bytes, &case.ciphertext, case.name);
+    xors(case, &mut bytes)?;
+    same(rt, &bytes, &case.plaintext, case.name);
+    Ok(())
+}
+
+#[test]
+fn encrypt(rt: HostRuntime) -> Result<(), Fail> {
+    for line in CASES {
+        encrypts(&rt, &Case::parse(rt.alloc(), line)?)?;
+    }
+    Ok(())
+}
+
+#[test]
+fn new_mask(rt: HostRuntime) {
+    let mask = Key::new(rfc_9001::A_5_KEY).new_mask(rfc_9001::A_5_SAMPLE);
+    same(&rt, &mask, &rfc_9001::A_5_MASK, "the mask");
+}
 
 fn zeros() -> Nonce {
     Nonce::assume_unique_for_key([0; NONCE_LEN])
@@ -39,24 +93,6 @@ fn rfc_8439_a_1_vector_1(rt: HostRuntime) -> Result<(), Fail> {
     same(&rt, &block, &wanted[..16], "block 0");
     words_are(&rt, one, &[1, 0, 0, 0]);
     same(&rt, &key.new_mask([0; 16]), &wanted[..5], "the mask");
-    Ok(())
-}
-
-// Four blocks that are computed together, and two that aren't.
-#[test]
-fn rfc_8439_a_2_vector_2(rt: HostRuntime) -> Result<(), Fail> {
-    let case = Case::parse(rt.alloc(), A_2_VECTOR_2)?;
-    let mut buffer = *case
-        .plaintext
-        .as_slice()
-        .as_array::<375>()
-        .ok_or("a plaintext's length")?;
-    let nonce = Nonce::assume_unique_for_key(case.nonce);
-    Key::new(case.key).encrypt(
-        Counter::from_nonce_and_ctr(nonce, 1),
-        Overlapping::from(&mut buffer[..]),
-    );
-    same(&rt, &buffer, &case.ciphertext, "the ciphertext");
     Ok(())
 }
 

@@ -1,22 +1,71 @@
-//! Tests of `aes`: the cipher at each of four positions, the numbers of counter blocks, and counter mode when they wrap.
+//! Tests of `aes`: the field and the S-box, the cipher at each of four positions, the numbers of counter blocks, and counter
+//! mode when they wrap.
 
-use crate::checks::{holds, same};
+ghost use Rattle.std.specs.Prelude.{◌≡◌};
+ghost use Rattle.aead_ciphers_base.specs.ByteField.{mul8, inv, affine, sbox};
+
 use aead_ciphers_base::aes::{
     BLOCK_LEN, Block, Counter, EncryptBlock, EncryptCtr32, Key, KeyBytes, Overlapping, Work,
     ZERO_BLOCK, sub_planes,
 };
 use aead_ciphers_base::values::Nonce;
-use aead_vectors::fips_197::{CASES, Case};
+use aead_vectors::checks::{holds, same};
+use aead_vectors::fips_197::{CASES, Case, S_BOX};
+use aead_vectors::rfc_9001;
 use aead_vectors::sp_800_38a::{CTR, CtrCase, ECB};
+use aead_vectors::words::Words;
 use std::process::Abort;
 use std::test::Fail;
 
-#[test]
-fn s_box_of_zero_planes(rt: HostRuntime) {
+// The definitions yield the values that FIPS 197 gives for its field (section 4) and S-box (section 5.1.1).
+#[tactic(auto, unfolding(aead_ciphers_base::proofs::ByteFieldLaws::field))]
+fn field_values()
+    ensures product { mul8 0x57 0x83 ≡ 0xc1 }
+    ensures inverse { inv 0x53 ≡ 0xca }
+    ensures s_box_of_00 { sbox 0x00 ≡ 0x63 }
+    ensures s_box_of_01 { sbox 0x01 ≡ 0x7c }
+    ensures s_box_of_53 { sbox 0x53 ≡ 0xed }
+{}
+
+/// Returns the 64 bytes from `first` on. The byte after 255 is 0.
+fn bytes_from(first: u8) -> [u8; 64] {
+    let mut bytes = [0; 64];
+    for (byte, p) in bytes.iter_mut().zip(0..64u8) {
+        *byte = first.wrapping_add(p);
+    }
+    bytes
+}
+
+/// Returns the planes of 64 bytes: bit `b` of byte `p` is bit `p` of plane `b`.
+fn planes_of(bytes: &[u8; 64]) -> [u64; 8] {
     let mut planes = [0; 8];
-    sub_planes(&mut planes);
-    let wanted = [u64::MAX, u64::MAX, 0, 0, 0, u64::MAX, u64::MAX, 0];
-    holds(&rt, planes == wanted, "planes of 0x63");
+    for (byte, p) in bytes.iter().zip(0..64u32) {
+        for (plane, b) in planes.iter_mut().zip(0..8u32) {
+            *plane |= u64::from(*byte >> b & 1) << p;
+        }
+    }
+    planes
+}
+
+/// Replaces each byte by its S-box value.
+fn substitute(bytes: &mut [u8; 64], s_box: &[u8; 256]) {
+    for byte in bytes {
+        *byte = s_box[*byte as usize];
+    }
+}
+
+// Each byte at four places, one in each block.
+#[test]
+fn s_box_of_each_byte_in_each_block(rt: HostRuntime) -> Result<(), Fail> {
+    let s_box = Words::new(S_BOX).array()?;
+    for k in 0..16u8 {
+        let mut bytes = bytes_from(16 * k);
+        let mut planes = planes_of(&bytes);
+        sub_planes(&mut planes);
+        substitute(&mut bytes, &s_box);
+        holds(&rt, planes == planes_of(&bytes), "the planes");
+    }
+    Ok(())
 }
 
 /// Expands a key of 16 or 32 bytes.
@@ -63,6 +112,13 @@ fn encrypt_block_and_encrypt_four(rt: HostRuntime) -> Result<(), Fail> {
     for line in ECB {
         enciphers(&rt, &Case::parse(rt.alloc(), line)?)?;
     }
+    Ok(())
+}
+
+#[test]
+fn new_mask(rt: HostRuntime) -> Result<(), Fail> {
+    let mask = expanded(&rfc_9001::A_2_KEY)?.new_mask(rfc_9001::A_2_SAMPLE);
+    same(&rt, &mask, &rfc_9001::A_2_MASK, "the mask");
     Ok(())
 }
 
