@@ -93,7 +93,7 @@ pub rows_of_state : (s : List ℕ) → length s ≡ 16
 rows_of_state s size = rw (drop-elements 16 0 s size) refl
 
 abbrev pub words_before : List ℕ → List ℕ → List ℕ
-words_before row rest = slice_index row 0 ∷ slice_index row 1 ∷ slice_index row 2 ∷ slice_index row 3 ∷ rest
+words_before words rest = slice_index words 0 ∷ slice_index words 1 ∷ slice_index words 2 ∷ slice_index words 3 ∷ rest
 
 -- two states are added row by row
 pub sums_of_rows : (x y z w a b c d : List ℕ) → AreRows x y z w → AreRows a b c d
