@@ -1,4 +1,4 @@
-//! The program `aeadrun`, which reads commands, one per line, and answers each with a line.
+//! The program `aeadrun`, which reads commands, one per line, and prints a one-line response to each.
 //!
 //! A line is parsed completely before anything is done, so a bad line changes nothing.
 
@@ -24,7 +24,7 @@ const ALL_ANSWERED: u8 = 0;
 const BAD_LINE: u8 = 1;
 
 /// The exit status if reading or writing failed, or memory was refused. The exception is memory for the tag of
-/// `next-seal`: if that is refused, the answer is `refused`.
+/// `next-seal`: if that is refused, the response is `refused`.
 pub const FAULT: u8 = 2;
 
 /// A failure that ends the program before the end of its input.
@@ -43,15 +43,15 @@ impl From<io::Error> for Fault {
     }
 }
 
-/// Answers each line of `input` with a line of `output`, and returns the exit status: 0 if every line was a command,
-/// 1 if a line was not, or `FAULT`.
+/// Reads each line of `input`, writes a line to `output` as its response, and returns the exit status: 0 if every line
+/// was a command, 1 if a line was not, or `FAULT`.
 ///
-/// A line ends with LF, which may be missing from the last one. `output` is flushed after each answer, before the next
-/// line is read, so a caller may wait for an answer before it sends the next line. The output stops at the first
+/// A line ends with LF, which may be missing from the last one. `output` is flushed after each response, before the
+/// next line is read, so a caller may wait for a response before it sends the next line. The output stops at the first
 /// failure, and what has been written by then is a prefix of what would have been written. `output` is flushed in every
 /// case.
 ///
-/// The line, the bytes of its words, and one word of its answer at a time are held in memory.
+/// The line, the bytes of its words, and one word of its response at a time are held in memory.
 pub fn lines<R: BufRead, W: Write>(alloc: Global, input: &mut R, output: &mut W) -> u8
     ensures status { result ≤ 2 }
     ensures fault { FAULT ≡ 2 }
@@ -65,7 +65,7 @@ pub fn lines<R: BufRead, W: Write>(alloc: Global, input: &mut R, output: &mut W)
     }
 }
 
-/// Answers each line, and returns whether every line was a command.
+/// Writes a response to each line, and returns whether every line was a command.
 fn answer_lines<R: BufRead, W: Write>(
     alloc: Global,
     input: &mut R,

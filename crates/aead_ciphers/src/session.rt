@@ -85,6 +85,23 @@ impl Job {
 
 /// Runs the jobs in order: `Seal` jobs with the sealing key, `Open` jobs with the opening key. The outcome of each job
 /// is overwritten. A sealing job may allocate memory for its tag.
+///
+/// # Examples
+///
+/// Two of five jobs succeed, since the sealing key has two nonces. From `crates/aead_ciphers_tests/src/session.rt`:
+///
+/// ```
+/// fn refuses_once_the_nonces_are_spent(rt: HostRuntime) -> Result<(), Fail> {
+///     let mut jobs = Vec::new(rt.alloc());
+///     for i in 0..5u8 {
+///         jobs.push(job(rt.alloc(), Operation::Seal, &[i; 20])?)?;
+///     }
+///     let case = Case::parse(rt.alloc(), CASE_2)?;
+///     run(&mut sealing(&case, 2)?, &mut opening(&case, 0)?, &mut jobs);
+///     sealed_so_many(&rt, &jobs, 2);
+///     Ok(())
+/// }
+/// ```
 #[tactic(auto, using(crate::proofs::FreshLemmas::fresh_run))]
 pub fn run<S: NonceSequence, O: NonceSequence>(
     sealing: &mut SealingKey<S>,

@@ -70,6 +70,19 @@ impl<'a> KeyBytes<'a> {
 }
 
 /// A block cipher under a key, which encrypts one block at a time.
+///
+/// # Examples
+///
+/// The CMAC of one block. From `crates/sealed_file/src/derivation.rt`:
+///
+/// ```
+/// fn cmac_of_block(cipher: &aes::Key, block: Block) -> Block
+///     ensures { result ≡ cmac_of_block cipher.now block }
+/// {
+///     let subkey = first_subkey(cipher.encrypt_block(ZERO_BLOCK, &mut Work::new()));
+///     cipher.encrypt_block(bb::xor_16(subkey, block), &mut Work::new())
+/// }
+/// ```
 pub trait EncryptBlock {
     // The block cipher: from the key and a block to the encrypted block.
     ghost cipher: { Self → List ℕ → List ℕ };
@@ -111,6 +124,20 @@ pub trait EncryptCtr32: EncryptBlock {
 }
 
 /// An expanded AES key: its round keys (FIPS 197 section 5.2), each in all four blocks of eight planes.
+///
+/// # Examples
+///
+/// From `crates/aead_ciphers_base_tests/src/aes.rt`:
+///
+/// ```
+/// fn expanded(key: &[u8]) -> Result<Key, Fail> {
+///     let bytes = match key.as_array::<16>() {
+///         Some(key) => KeyBytes::AES_128(key),
+///         None => KeyBytes::AES_256(key.as_array::<32>().ok_or("a key's length")?),
+///     };
+///     Ok(Key::new(bytes)?)
+/// }
+/// ```
 #[derive(Clone, Drop)]
 pub struct Key {
     round_keys: [[u64; 8]; 15],

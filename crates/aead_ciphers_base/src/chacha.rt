@@ -164,6 +164,21 @@ impl Key {
     ///
     /// The output is as long as the input. The bytes after it are unchanged. The number of the last
     /// block must be below 2^32.
+    ///
+    /// # Examples
+    ///
+    /// From `crates/uses/src/streams.rt`:
+    ///
+    /// ```
+    /// pub fn xor_stream(key: [u8; chacha::KEY_LEN], nonce: [u8; NONCE_LEN], message: &mut [u8])
+    ///     requires { 1 + div_ceil (length message.old) 64 ≤ 2 ^ 32 }
+    ///     ensures { message.new ≡ chacha20_encrypted key 1 nonce message.old }
+    /// {
+    ///     let nonce = Nonce::assume_unique_for_key(nonce);
+    ///     let counter = chacha::Counter::from_nonce_and_ctr(nonce, 1);
+    ///     chacha::Key::new(key).encrypt(counter, Overlapping::from(message));
+    /// }
+    /// ```
     #[tactic(auto, using(crate::proofs::KeyStreamLemmas::written_rest))]
     pub fn encrypt(&self, counter: Counter, in_out: Overlapping<'_>)
         requires { counter.number + div_ceil (input_len in_out) 64 ≤ 2 ^ 32 }

@@ -106,8 +106,8 @@ impl Failing {
         }
     }
 
-    /// Asserts that all answers are printed if no call fails. If any one call fails, asserts that a prefix is printed and the
-    /// status is `FAULT`.
+    /// Asserts that all responses are printed if no call fails. If any one call fails, asserts that a prefix is printed and
+    /// the status is `FAULT`.
     fn fails_in_turn(self, rt: &impl Abort, alloc: Global) -> Result<(), Fail> {
         let whole = self.run(alloc, None)?;
         holds(rt, whole.status == 1, "the whole run");
@@ -128,8 +128,9 @@ fn each_failed_call_ends_the_run(rt: HostRuntime) -> Result<(), Fail> {
     Failing::WritesOfABuffer.fails_in_turn(&rt, rt.alloc())
 }
 
-/// Each answer is written before the next line is read. The buffer has room for all of them, so the writer's calls are a
-/// write and a flush for each answer. If one of these flushes fails, the answers up to and including its own were written.
+/// Each response is written before the next line is read. The buffer has room for all of them, so the writer's calls are a
+/// write and a flush for each response. If one of these flushes fails, the responses up to and including its own were
+/// written.
 #[test]
 fn each_answer_is_flushed(rt: HostRuntime) -> Result<(), Fail> {
     for i in 0..8u32 {

@@ -36,6 +36,21 @@ pub struct Received {
 }
 
 /// Receives the packets of one encryption level and, after key updates, those of each key phase in turn.
+///
+/// # Examples
+///
+/// Receives the first packet of a datagram. From `crates/quic_packets_tests/src/example.rt`:
+///
+/// ```
+/// let mut receiver = Receiver::new(Suite::Aes128Gcm, &KEY, IV, &HEADER_KEY)?;
+/// let mut space = Space::new();
+/// let mut failures = Failures::new();
+/// let parts = packet_at(&datagram, 0, CONNECTION_ID.len())?;
+/// let number_at = parts.number_at.ok_or("a packet without a number")?;
+/// let packet = &mut datagram[..parts.end];
+/// let received = receiver.receive(&mut space, &mut failures, packet, number_at)?;
+/// let payload = &packet[received.header_len..received.header_len + received.payload_len];
+/// ```
 #[derive(Drop)]
 pub struct Receiver {
     header: HeaderKey,

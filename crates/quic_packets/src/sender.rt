@@ -24,6 +24,26 @@ const MAX_SEALED: u64 = 1 << 23;
 /// Sends the packets of one number space in one direction, under one key after another.
 ///
 /// No number is used twice, not even under different keys, and one key seals at most 2^23 packets.
+///
+/// # Examples
+///
+/// Sends a packet with a short header. From `crates/quic_packets_tests/src/example.rt`:
+///
+/// ```
+/// fn send(alloc: Global, sender: &mut Sender, payload: &[u8]) -> Result<Vec<u8>, Fail> {
+///     let acknowledged = None;
+///     let number_len = sender
+///         .next_number_len(acknowledged)
+///         .ok_or(PacketError::NumberTooFar)?;
+///     let mut packet = Vec::from_slice(alloc, &[0x40])?;
+///     packet.extend_from_slice(&CONNECTION_ID)?;
+///     packet.extend_from_slice(&[0; 4][..number_len])?;
+///     packet.extend_from_slice(payload)?;
+///     packet.extend_from_slice(&[0; 16])?;
+///     sender.send(&mut packet, 9..9 + number_len, acknowledged)?;
+///     Ok(packet)
+/// }
+/// ```
 #[derive(Drop)]
 pub struct Sender {
     key: SendKey,

@@ -16,6 +16,20 @@ use std::marker::Model;
 ///
 /// It cannot be cloned, and does not expose its key. An error that calls for an alert ends the connection (RFC 8446 section
 /// 6.2) and closes the reader: every later call returns `Closed`.
+///
+/// # Examples
+///
+/// Reads a record, and writes it again. From `crates/records_tests/src/connection.rt`:
+///
+/// ```
+/// let mut bytes = record.to_vec(alloc)?;
+/// let (content_type, read) = reader.read(bytes.as_mut_slice())?;
+/// assert!(rt; content_type == carried.content_type);
+/// assert_eq!(rt; read, content.as_slice());
+/// let mut written = Vec::new(alloc);
+/// writer.write(content_type, &content, carried.padding, &mut written)?;
+/// assert_eq!(rt; written.as_slice(), record);
+/// ```
 #[derive(Drop)]
 pub struct Reader {
     key: RecordKey,

@@ -36,6 +36,24 @@ pub enum Begins {
 /// If the bytes begin with no record that a connection of TLS 1.3 can have, this fails with an error that has an alert, as soon
 /// as the header is complete. The version of a plaintext record is ignored (RFC 8446 section 5.1). Whether a record is allowed
 /// at this point is the caller's responsibility, and so is dropping a ChangeCipherSpec.
+///
+/// # Examples
+///
+/// Opens a protected record, and drops a ChangeCipherSpec. From `crates/uses/src/record_stream.rt`:
+///
+/// ```
+/// match classify(bytes)? {
+///     Begins::Record(RecordKind::Protected, len) => {
+///         let read = reader.gather(bytes, 0, 0, len)?;
+///         Ok((len, Some(read)))
+///     }
+///     Begins::Record(RecordKind::ChangeCipherSpec, len) => Ok((len, None)),
+///     Begins::Record(RecordKind::Handshake | RecordKind::Alert, _) => {
+///         Err(RecordError::UnexpectedRecord)
+///     }
+///     Begins::MoreNeeded(_) => Ok((0, None)),
+/// }
+/// ```
 pub fn classify(bytes: &[u8]) -> Result<Begins, RecordError>
     ensures begins { IfOk result (BeginsWith bytes.now) }
     ensures refused { IfErr result (RefusesToClassify bytes.now) }

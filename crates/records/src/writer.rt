@@ -15,6 +15,23 @@ use std::alloc::AllocError;
 use std::marker::Model;
 
 /// Writes records, each under the next number, over key updates. It cannot be cloned, and does not expose its key.
+///
+/// # Examples
+///
+/// Writes data, a KeyUpdate, and data under the next key. From `crates/records_tests/src/stream.rt`:
+///
+/// ```
+/// fn two_epochs(alloc: Global) -> Result<Vec<u8>, Fail> {
+///     let mut writer = Writer::new(&AES_128_GCM, &[1; 16], IV)?;
+///     let mut bytes = Vec::new(alloc);
+///     writer.write(ContentType::ApplicationData, b"to", 3, &mut bytes)?;
+///     writer.write(ContentType::Handshake, &[24, 0, 0, 1, 0], 0, &mut bytes)?;
+///     writer.update(&[2; 16], NEXT_IV)?;
+///     writer.write(ContentType::ApplicationData, b"gether", 0, &mut bytes)?;
+///     bytes.extend_from_slice(&[23, 3, 3, 0])?;
+///     Ok(bytes)
+/// }
+/// ```
 #[derive(Drop)]
 pub struct Writer {
     key: RecordKey,

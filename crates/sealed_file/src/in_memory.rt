@@ -81,6 +81,23 @@ fn append_sealed(cipher: &ChunkCipher, number: u32, is_last: bool, chunk: &[u8],
 ///
 /// Fails with `TooLong` if the file has more than `MAX_CHUNKS` chunks, and otherwise with `OutOfMemory` only if `out` has no
 /// room for the sealed file and cannot grow. `out` then holds the bytes that it held before.
+///
+/// # Examples
+///
+/// Seals files, and opens them again. From `crates/seal_file/src/tests.rt`:
+///
+/// ```
+/// let key = FileKey::new(&KEY)?;
+/// for (len, digest) in &SEALED {
+///     let file = file_of(rt.alloc(), *len)?;
+///     let mut sealed = Vec::new(rt.alloc());
+///     seal_bytes(&key, RANDOM, &file, &mut sealed)?;
+///     same(&rt, &Md5::digest(&sealed), digest, "sealed in memory");
+///     let mut opened = Vec::new(rt.alloc());
+///     open_bytes(&key, &sealed, &mut opened)?;
+///     same(&rt, &opened, &file, "opened in memory");
+/// }
+/// ```
 pub fn seal_bytes(
     key: &FileKey,
     random: [u8; RANDOM_LEN],

@@ -25,6 +25,19 @@ use std::mem;
 /// any chunk is read; `EndsEarly`, if the file ends within the header or a tag, or after a chunk that is not the last;
 /// `TrailingBytes`, if there are bytes after a last chunk of `CHUNK_LEN` bytes; `Refused`, if any other chunk has a wrong tag;
 /// and `TooLong`, if there are more than `MAX_CHUNKS` chunks.
+///
+/// # Examples
+///
+/// Opens the sealed file in the slice `sealed`. From `crates/seal_file/src/tests.rt`:
+///
+/// ```
+/// let mut opened = Vec::new(alloc);
+/// let mut input = sealed;
+/// let found = match open(alloc, &FileKey::new(&KEY)?, &mut input, &mut opened) {
+///     Ok(()) => String::from_str(alloc, "opened")?,
+///     Err(error) => format!(in alloc; "{error}")?,
+/// };
+/// ```
 pub fn open<R: Read, W: Write>(
     alloc: Global,
     key: &FileKey,

@@ -47,6 +47,23 @@ fn append_chunk_at(
 ///
 /// Fails with the errors of `open` for the header and for this chunk, except `Io`, and with `OutOfMemory` only if `out` has no
 /// room for the message and cannot grow. `out` then holds the bytes that it held before.
+///
+/// # Examples
+///
+/// Opens the chunks of a sealed file one by one. From `crates/seal_file/src/tests.rt`:
+///
+/// ```
+/// let body = sealed.get(HEADER_LEN..).ok_or("a body")?;
+/// let mut opened = Vec::new(rt.alloc());
+/// let last = body.len().saturating_sub(1) / SEALED_CHUNK_LEN;
+/// let mut number = 0u32;
+/// for chunk in body.chunks(SEALED_CHUNK_LEN) {
+///     let is_last = number as usize == last;
+///     assert!(rt; chunk.len() <= SEALED_CHUNK_LEN);
+///     open_chunk_at(&key, &sealed, number, is_last, chunk, &mut opened)?;
+///     number = number.wrapping_add(1);
+/// }
+/// ```
 pub fn open_chunk_at(
     key: &FileKey,
     header: &[u8],

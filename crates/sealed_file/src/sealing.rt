@@ -21,6 +21,25 @@ use std::mem;
 ///
 /// Fails with `TooLong` if the file has more than `MAX_CHUNKS` chunks, and with `Io` if reading, writing or allocating memory
 /// fails. What was written by then is the beginning of the sealed file.
+///
+/// # Examples
+///
+/// From `crates/seal_file/src/tests.rt`:
+///
+/// ```
+/// fn sealed_of(alloc: Global, len: usize) -> Result<Vec<u8>, Fail> {
+///     let file = file_of(alloc, len)?;
+///     let mut sealed = Vec::new(alloc);
+///     seal(
+///         alloc,
+///         &FileKey::new(&KEY)?,
+///         RANDOM,
+///         &mut file.as_slice(),
+///         &mut sealed,
+///     )?;
+///     Ok(sealed)
+/// }
+/// ```
 pub fn seal<R: Read, W: Write>(
     alloc: Global,
     key: &FileKey,

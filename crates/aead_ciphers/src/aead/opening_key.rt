@@ -17,6 +17,25 @@ use std::marker::Model;
 use std::ops::RangeFrom;
 
 /// An AEAD key for opening that is bound to a nonce sequence: each call uses the next nonce. It cannot be cloned.
+///
+/// # Examples
+///
+/// A rejected packet consumes a nonce too. From `crates/aead_ciphers_tests/src/refusals.rt`:
+///
+/// ```
+/// fn spends_one_nonce(rt: &impl Abort, alloc: Global, case: &Case, len: usize) -> Result<(), Fail> {
+///     let mut key = opening_from_the_nonce_before(case)?;
+///     let mut whole = packet(alloc, case)?;
+///     let mut cut = whole.clone()?;
+///     cut.truncate(len);
+///     let opened = key.open_within_to_front(aad(case), &mut cut, START..);
+///     holds(rt, opened.is_err(), "a refusal");
+///     holds(rt, whole.as_slice().starts_with(&cut), "the cut packet");
+///     let opened = key.open_within_to_front(aad(case), &mut whole, START..);
+///     holds(rt, opened == Ok(60), "the next nonce");
+///     Ok(())
+/// }
+/// ```
 #[derive(Drop)]
 pub struct OpeningKey<N> {
     key: LessSafeKey,

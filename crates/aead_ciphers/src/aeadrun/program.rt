@@ -11,7 +11,7 @@ use std::io::Write;
 #[derive(Drop)]
 pub(super) struct Program {
     alloc: Global,
-    /// The keys of the last `keys` line that was answered `ok`.
+    /// The keys of the last `keys` line with the response `ok`.
     keys: Option<Keys>,
 }
 
@@ -21,7 +21,7 @@ impl Program {
         Program { alloc, keys: None }
     }
 
-    /// Writes the answer to a line, and returns whether the line was a command. A bad line has no answer and changes
+    /// Writes the response to a line, and returns whether the line was a command. For a bad line, writes and changes
     /// nothing.
     pub(super) fn answer<W: Write>(&mut self, line: &[u8], output: &mut W) -> Result<bool, Fault> {
         match Command::parse(self.alloc, line) {
@@ -31,7 +31,7 @@ impl Program {
         }
     }
 
-    /// Carries out a command, and writes its answer. Returns `false` if it asks for keys and none were made before.
+    /// Carries out a command, and writes its response. Returns `false` if it asks for keys and none were made before.
     fn carry_out<W: Write>(&mut self, command: Command, output: &mut W) -> Result<bool, Fault> {
         match command {
             Command::Call(call) => answer_call(self.alloc, output, call)?,
@@ -57,7 +57,7 @@ impl Program {
     }
 }
 
-/// Makes a call with the key of its line, and writes the answer.
+/// Makes a call with the key of its line, and writes the response.
 fn answer_call<W: Write>(alloc: Global, output: &mut W, call: Call) -> Result<(), Fault> {
     match call {
         Call::Seal {
@@ -89,7 +89,7 @@ fn answer_call<W: Write>(alloc: Global, output: &mut W, call: Call) -> Result<()
     }
 }
 
-/// Makes a call with the next nonce of the keys, and writes the answer.
+/// Makes a call with the next nonce of the keys, and writes the response.
 fn answer_next<W: Write>(
     alloc: Global,
     output: &mut W,

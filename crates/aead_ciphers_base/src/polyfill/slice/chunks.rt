@@ -28,6 +28,18 @@ impl<T, const N: usize> Copy for AsChunks<'_, T, N> {}
 
 /// Splits a slice into a view of as many whole blocks of `N` items as fit, and the fewer than `N` items
 /// after them.
+///
+/// # Examples
+///
+/// `hold` asserts what the items contain. From `crates/aead_ciphers_base_tests/src/chunks.rt`:
+///
+/// ```
+/// let items = [1, 2, 3, 4, 5].map(Item);
+/// let (blocks, rest) = as_chunks::<_, 2>(&items);
+/// assert_eq!(rt; blocks.len(), 2);
+/// hold(&rt, &blocks[1], &[3, 4]);
+/// hold(&rt, rest, &[5]);
+/// ```
 #[tactic(auto, using(crate::proofs::BlocksLemmas::blocks_take, crate::proofs::BlocksLemmas::whole_blocks))]
 pub fn as_chunks<T, const N: usize>(items: &[T]) -> (AsChunks<'_, T, N>, &[T])
     requires { 0 < N }
