@@ -39,9 +39,9 @@ fn bytes_from(first: u8) -> [u8; 64] {
 /// Returns the planes of 64 bytes: bit `b` of byte `p` is bit `p` of plane `b`.
 fn planes_of(bytes: &[u8; 64]) -> [u64; 8] {
     let mut planes = [0; 8];
-    for (byte, p) in bytes.iter().zip(0..64u32) {
-        for (plane, b) in planes.iter_mut().zip(0..8u32) {
-            *plane |= u64::from(*byte >> b & 1) << p;
+    for p in 0..64 {
+        for b in 0..8 {
+            planes[b] |= u64::from(bytes[p] >> b & 1) << p;
         }
     }
     planes

@@ -45,22 +45,26 @@ fn algorithm_of(key: &[u8]) -> &'static Algorithm {
     }
 }
 
+/// Returns the kind and the length of the record at the front of these bytes.
+fn first_record(bytes: &[u8]) -> Result<(RecordKind, usize), Fail> {
+    match classify(bytes)? {
+        Begins::Record(kind, len) => Ok((kind, len)),
+        Begins::MoreNeeded(_) => Err("cut off".into()),
+    }
+}
+
 /// Returns the offset and the length of the next protected record of a stream. Skips the plaintext records
 /// before it: a ClientHello or ServerHello, and a ChangeCipherSpec.
 fn next_protected(stream: &[u8], from: usize) -> Result<(usize, usize), Fail> {
     let mut at = from;
     for _ in 0..3 {
-        let Some(rest) = stream.get(at..) else {
-            return Err(Fail::from("past the end"));
-        };
-        match classify(rest)? {
-            Begins::Record(RecordKind::Protected, len) => return Ok((at, len)),
-            Begins::Record(RecordKind::Handshake | RecordKind::ChangeCipherSpec, len) => at += len,
-            Begins::Record(RecordKind::Alert, _) => return Err(Fail::from("an alert")),
-            Begins::MoreNeeded(_) => return Err(Fail::from("cut off")),
+        let (kind, len) = first_record(stream.get(at..).ok_or("past the end")?)?;
+        if kind == RecordKind::Protected {
+            return Ok((at, len));
         }
+        at = at.saturating_add(len);
     }
-    Err(Fail::from("no protected record"))
+    Err("no protected record".into())
 }
 
 /// Asserts that reading a record yields its content, and that writing the content yields the record.

@@ -2,6 +2,7 @@
 //! rejected.
 
 use aead_ciphers::aead::{AES_128_GCM, AES_256_GCM, Algorithm};
+use aead_vectors::checks::{holds, same};
 use hex::FromHex;
 use records::ContentType::{Alert, ApplicationData, Handshake};
 use records::{ContentType, MAX_CONTENT_LEN, Reader, RecordError, RecordKey, Writer};
@@ -76,6 +77,39 @@ fn inner_plaintext(alloc: Global, case: &Case) -> Result<Vec<u8>, Fail> {
     Ok(inner)
 }
 
+/// Writes the record of a case, and asserts its bytes.
+fn written(
+    rt: &impl Abort,
+    alloc: Global,
+    writer: &mut Writer,
+    case: &Case,
+) -> Result<Vec<u8>, Fail> {
+    let mut record = Vec::new(alloc);
+    writer.write(case.content_type, case.content, case.padding, &mut record)?;
+    same(rt, &record, &hex::decode(alloc, case.record)?, "the record");
+    Ok(record)
+}
+
+/// Asserts that the record of a case is read as its content.
+fn is_read(
+    rt: &impl Abort,
+    reader: &mut Reader,
+    case: &Case,
+    record: &mut [u8],
+) -> Result<(), Fail> {
+    let (content_type, content) = reader.read(record)?;
+    holds(rt, content_type == case.content_type, "the content type");
+    same(rt, content, case.content, "the content");
+    Ok(())
+}
+
+/// Asserts that the first bytes are these, and that those after them are unchanged.
+fn begins_with(rt: &impl Abort, bytes: &[u8], front: &[u8], before: &[u8]) {
+    holds(rt, bytes.starts_with(front), "the front");
+    let is_unchanged = bytes.get(front.len()..) == before.get(front.len()..);
+    holds(rt, is_unchanged, "the bytes after the front");
+}
+
 /// Asserts that the records of a run are written, and read again. Once the borrow of a content ends, the
 /// inner plaintext is at the front of the buffer, and every byte after it is unchanged.
 fn there_and_back(
@@ -89,16 +123,10 @@ fn there_and_back(
     let mut writer = Writer::new(algorithm, key, iv)?;
     let mut reader = Reader::new(algorithm, key, iv)?;
     for case in cases {
-        let mut record = Vec::new(alloc);
-        writer.write(case.content_type, case.content, case.padding, &mut record)?;
-        let expected = hex::decode(alloc, case.record)?;
-        assert_eq!(rt; record.as_slice(), expected.as_slice());
-        let (content_type, content) = reader.read(record.as_mut_slice())?;
-        assert_eq!(rt; content_type, case.content_type);
-        assert_eq!(rt; content, case.content);
-        let inner = inner_plaintext(alloc, case)?;
-        assert_eq!(rt; record.get(..inner.len()), Some(inner.as_slice()));
-        assert_eq!(rt; record.get(inner.len()..), expected.get(inner.len()..));
+        let mut record = written(rt, alloc, &mut writer, case)?;
+        let before = record.clone()?;
+        is_read(rt, &mut reader, case, &mut record)?;
+        begins_with(rt, &record, &inner_plaintext(alloc, case)?, &before);
     }
     Ok(())
 }
