@@ -1,5 +1,5 @@
 -- AND with a mask, shifts and XOR keep sums, so a function made of them is known by what it does to the powers of two.
-use Rattle.std.proofs.Common.{◌≡◌, ℕ, zero, suc, ◌+◌, ◌*◌, ◌/◌, ◌%◌, ◌^◌, ◌<◌, min, refl, sym, ap, ap₂, ◌∙◌, arith, bit_xor, bit_and, pow_pos}
+use Rattle.std.proofs.Common.{◌≡◌, ℕ, ◌+◌, ◌*◌, ◌/◌, ◌%◌, ◌^◌, ◌<◌, min, refl, sym, ap, ap₂, ◌∙◌, arith, bit_xor, bit_and, pow_pos}
 use Rattle.std.specs
 use specs.Int.{bit_at}
 use specs.Int.Bits.{xor_shr, xor_mod, xor_block, xor_assoc, xor_comm}

@@ -1,5 +1,5 @@
 -- The round keys of a key, the key with which they begin, and one more round.
-use Rattle.std.proofs.Common.{◌≡◌, ℕ, zero, suc, ◌+◌, ◌-◌, ◌*◌, ◌/◌, ◌%◌, ◌<◌, ◌≤◌, List, [], ◌∷◌, length, take, sym, ◌∙◌, ap, ap₂, arith, slice_index, slice_index_or, length-append, refl}
+use Rattle.std.proofs.Common.{◌≡◌, ℕ, zero, suc, ◌+◌, ◌-◌, ◌*◌, ◌/◌, ◌%◌, ◌<◌, ◌≤◌, List, [], ◌∷◌, length, take, sym, ◌∙◌, ap, ap₂, arith, slice_index, slice_index_or, length-append}
 use Rattle.std.proofs.lemmas
 use lemmas.List.{get_or_append_left}
 use lemmas.List.FromFn.{fill_by_all}
