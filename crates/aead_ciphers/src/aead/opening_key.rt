@@ -20,21 +20,17 @@ use std::ops::RangeFrom;
 ///
 /// # Examples
 ///
-/// A rejected packet consumes a nonce too. From `crates/aead_ciphers_tests/src/refusals.rt`:
+/// Creates a key that counts its nonces. From `crates/uses/src/connection.rt`:
 ///
 /// ```
-/// fn spends_one_nonce(rt: &impl Abort, alloc: Global, case: &Case, len: usize) -> Result<(), Fail> {
-///     let mut key = opening_from_the_nonce_before(case)?;
-///     let mut whole = packet(alloc, case)?;
-///     let mut cut = whole.clone()?;
-///     cut.truncate(len);
-///     let opened = key.open_within_to_front(aad(case), &mut cut, START..);
-///     holds(rt, opened.is_err(), "a refusal");
-///     holds(rt, whole.as_slice().starts_with(&cut), "the cut packet");
-///     let opened = key.open_within_to_front(aad(case), &mut whole, START..);
-///     holds(rt, opened == Ok(60), "the next nonce");
-///     Ok(())
-/// }
+/// let sequence = CounterSequence::new(prefix, 0, NONCES)?;
+/// Ok(OpeningKey::new(UnboundKey::new(algorithm, key_bytes)?, sequence))
+/// ```
+///
+/// Opens the next message. A rejected message consumes its nonce too. From `crates/uses/src/connection.rt`:
+///
+/// ```
+/// key.open_in_place_to_front(Aad::from(aad), message)
 /// ```
 #[derive(Drop)]
 pub struct OpeningKey<N> {
