@@ -4,12 +4,12 @@
 ghost use Rattle.std.specs.Prelude.{◌≡◌};
 ghost use Rattle.aead_ciphers_base.specs.ByteField.{mul8, inv, affine, sbox};
 
+use crate::checks::{holds, same};
 use aead_ciphers_base::aes::{
     BLOCK_LEN, Block, Counter, EncryptBlock, EncryptCtr32, Key, KeyBytes, Overlapping, Work,
     ZERO_BLOCK, sub_planes,
 };
 use aead_ciphers_base::values::Nonce;
-use aead_vectors::checks::{holds, same};
 use aead_vectors::fips_197::{CASES, Case, S_BOX};
 use aead_vectors::rfc_9001;
 use aead_vectors::sp_800_38a::{CTR, CtrCase, ECB};

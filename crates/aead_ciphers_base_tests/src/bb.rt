@@ -1,7 +1,7 @@
 //! Tests of `bb`: equality of slices, and XOR.
 
+use crate::checks::{holds, same};
 use aead_ciphers_base::bb::{verify_slices_are_equal, xor_16, xor_assign, xor_assign_at_start};
-use aead_vectors::checks::{holds, same};
 use std::process::Abort;
 
 /// Asserts that two slices compare equal if and only if `are_equal`.

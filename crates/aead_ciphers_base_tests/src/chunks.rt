@@ -2,9 +2,9 @@
 
 ghost use Rattle.std.specs.Prelude.{◌<◌};
 
+use crate::checks::{holds, same};
 use crate::items::{Item, hold};
 use aead_ciphers_base::polyfill::slice::{AsChunks, AsChunksMut, as_chunks, as_chunks_mut};
-use aead_vectors::checks::{holds, same};
 use std::process::Abort;
 use std::test::Fail;
 

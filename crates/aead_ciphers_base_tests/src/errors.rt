@@ -1,7 +1,7 @@
 //! Tests of the texts of the errors.
 
+use crate::checks::reads;
 use aead_ciphers_base::error::{IndexError, InputTooLongError, LenMismatchError, Unspecified};
-use aead_vectors::checks::reads;
 use std::test::Fail;
 
 #[test]

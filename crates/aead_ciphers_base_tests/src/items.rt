@@ -1,6 +1,6 @@
 //! Items that aren't bytes.
 
-use aead_vectors::checks::holds;
+use crate::checks::holds;
 use std::process::Abort;
 
 /// An item that isn't `Copy`.

@@ -1,7 +1,7 @@
 //! Tests of `values`: lengths that are rejected, and the printed text of an AAD.
 
+use crate::checks::{holds, reads, same};
 use aead_ciphers_base::values::{Aad, Nonce, Tag};
-use aead_vectors::checks::{holds, reads, same};
 use std::process::Abort;
 use std::test::Fail;
 

@@ -1,11 +1,11 @@
 //! Tests of `aead`: keys to which the caller passes a nonce.
 
 use crate::cases::{aad, key, key_bytes, nonce, opened_at_4, packet, sealed};
+use crate::checks::{holds, reads, same};
 use crate::reference;
 use aead_ciphers::aead::{AES_128_GCM, AES_256_GCM, Aad, LessSafeKey, UnboundKey};
 use aead_ciphers::laws;
 use aead_ciphers_base::aes;
-use aead_vectors::checks::{holds, reads, same};
 use aead_vectors::gcm_spec::{CASE_1, CASE_4, CASE_16, CASES, Case};
 use std::alloc::Global;
 use std::process::Abort;

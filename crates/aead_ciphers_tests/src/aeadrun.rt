@@ -1,9 +1,9 @@
 //! Tests of `aeadrun`: lines of input, and the lines printed for them.
 
 use crate::cases;
+use crate::checks::holds;
 use crate::masks::{MASKS, Mask};
 use aead_ciphers::aeadrun::lines;
-use aead_vectors::checks::holds;
 use aead_vectors::gcm_spec::{CASE_1, CASE_2, CASE_4, CASES, Case};
 use std::alloc::{AllocError, Global};
 use std::process::Abort;

@@ -2,11 +2,11 @@
 
 use crate::callers::seal_where_room;
 use crate::cases::{false_tag, key_bytes};
+use crate::checks::{holds, same};
 use crate::reference;
 use aead_ciphers::aes_gcm::{Key, open};
 use aead_ciphers_base::aes::{self, KeyBytes, Work};
 use aead_ciphers_base::values::{Aad, Nonce, Tag};
-use aead_vectors::checks::{holds, same};
 use aead_vectors::gcm_spec::{CASE_4, CASE_16, CASES, Case};
 use std::alloc::Global;
 use std::process::Abort;

@@ -1,11 +1,11 @@
 //! Tests of keys with a counter and with another nonce sequence.
 
 use crate::cases::{aad, key, opened_at_4, packet, sealed, unbound_key};
+use crate::checks::{holds, reads, same};
 use aead_ciphers::aead::{
     AES_128_GCM, Aad, BoundKey, CounterSequence, Nonce, NonceSequence, OpeningKey, SealingKey,
     Unspecified,
 };
-use aead_vectors::checks::{holds, reads, same};
 use aead_vectors::gcm_spec::{CASE_1, CASE_4, Case};
 use arrayvec::ArrayVec;
 use std::process::Abort;

@@ -4,6 +4,7 @@ ghost use Rattle.std.specs.Prelude.{◌≡◌};
 ghost use Rattle.aead_ciphers_base.specs.Aes.{aes as aes_cipher};
 ghost use Rattle.aead_ciphers_base.specs.Bytes.{zero_block};
 
+use crate::checks::holds;
 use aead_ciphers::aes_gcm::{open_with, seal_with};
 use aead_ciphers::gcm::{self, UpdateBlock, UpdateBlocks, Xi};
 use aead_ciphers_base::aes::{
@@ -12,7 +13,6 @@ use aead_ciphers_base::aes::{
 };
 use aead_ciphers_base::polyfill::slice::AsChunks;
 use aead_ciphers_base::values::{Aad, Nonce, Tag};
-use aead_vectors::checks::holds;
 use std::alloc::Global;
 use std::cell::Cell;
 use std::process::Abort;

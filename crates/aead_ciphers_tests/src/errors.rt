@@ -1,7 +1,7 @@
 //! Tests of the conversion of errors to `anyhow::Error` by `?`.
 
+use crate::checks::{holds, reads};
 use aead_ciphers::aead::{AES_128_GCM, UnboundKey};
-use aead_vectors::checks::{holds, reads};
 use std::test::Fail;
 
 /// Creates a key of AES-128-GCM.

@@ -1,9 +1,9 @@
 //! Tests of the crate `uses` with test vectors of the standards.
 
+use crate::checks::same;
 use aead_ciphers::aead::{
     AES_128_GCM, AES_256_GCM, Aad, LessSafeKey, NONCE_LEN, Nonce, Tag, UnboundKey,
 };
-use aead_vectors::checks::same;
 use aead_vectors::gcm_spec::{CASE_1, CASE_2, CASE_2_CIPHERTEXT, CASE_4, CASE_16, Case};
 use aead_vectors::{rfc_8439, rfc_9001};
 use arrayvec::ArrayVec;

@@ -5,12 +5,12 @@ ghost use Rattle.aead_vectors.specs.declared.gcm_spec.TheConstants.{CASE_2_CIPHE
 ghost use Rattle.std.specs.Int.{to_be_bytes, w128};
 ghost use Rattle.aead_ciphers.specs.Ghash.{IsBlock, ◌•◌, ghash, unit_block};
 
+use crate::checks::{holds, same};
 use aead_ciphers::gcm::{Context, Key, KeyValue, MAX_IN_OUT_LEN, UpdateBlock, UpdateBlocks, Xi};
 use aead_ciphers_base::aes::{self, BLOCK_LEN, EncryptBlock, KeyBytes, Work, ZERO_BLOCK};
 use aead_ciphers_base::error::Unspecified;
 use aead_ciphers_base::polyfill::slice::as_chunks;
 use aead_ciphers_base::values::{Aad, Tag};
-use aead_vectors::checks::{holds, same};
 use aead_vectors::gcm_spec;
 use std::process::Abort;
 use std::test::Fail;

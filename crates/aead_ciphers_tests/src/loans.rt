@@ -7,8 +7,8 @@ ghost use Rattle.aead_ciphers.specs.Gcm.{OpenedAttached};
 ghost use Rattle.aead_ciphers.specs.Values.{aad_bytes};
 
 use crate::cases::{aad, key, nonce, sealed, unbound_key};
+use crate::checks::{holds, same};
 use aead_ciphers::aead::{Aad, BoundKey, LessSafeKey, Nonce, OpeningKey, Tag, Unspecified};
-use aead_vectors::checks::{holds, same};
 use aead_vectors::gcm_spec::{CASE_4, Case};
 use std::alloc::Global;
 use std::ops::RangeFrom;

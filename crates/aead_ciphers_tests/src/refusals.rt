@@ -1,8 +1,8 @@
 //! Tests that modified packets are rejected and the buffer is unchanged.
 
 use crate::cases::{key, nonce, sealed};
+use crate::checks::{holds, same};
 use aead_ciphers::aead::{Aad, LessSafeKey};
-use aead_vectors::checks::{holds, same};
 use aead_vectors::gcm_spec::{CASE_4, Case};
 use std::alloc::Global;
 use std::process::Abort;

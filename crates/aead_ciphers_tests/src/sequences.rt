@@ -1,9 +1,9 @@
 //! Tests of nonce sequences without a key.
 
+use crate::checks::{holds, same};
 use aead_ciphers::aead::{
     CounterSequence, NONCE_LEN, NonceSequence, Unspecified, XoredSequence, nonce_of,
 };
-use aead_vectors::checks::{holds, same};
 use std::process::Abort;
 use std::test::Fail;
 

@@ -1,9 +1,9 @@
 //! Tests of `session`: runs of jobs with the bytes of test case 2.
 
 use crate::cases::{sealed, unbound_key};
+use crate::checks::{holds, same};
 use aead_ciphers::aead::{BoundKey, CounterSequence, OpeningKey, SealingKey};
 use aead_ciphers::session::{Job, Operation, Outcome, run};
-use aead_vectors::checks::{holds, same};
 use aead_vectors::gcm_spec::{CASE_2, Case};
 use std::alloc::Global;
 use std::process::Abort;

@@ -2,8 +2,8 @@
 
 ghost use Rattle.std.specs.Prelude.{◌<◌};
 
+use crate::checks::{holds, same};
 use aead_ciphers::aeadrun::{FAULT, lines};
-use aead_vectors::checks::{holds, same};
 use failing_streams::FailingStream;
 use std::alloc::Global;
 use std::io::{BufReader, BufWriter};

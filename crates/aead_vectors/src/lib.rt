@@ -1,8 +1,7 @@
 //! Test vectors of public standards, as lines of text: a module for each source. What a contract cites, and short parts of a
-//! packet, are arrays. `checks` has the assertions of the tests.
+//! packet, are arrays.
 #![tactic(auto)]
 
-pub mod checks;
 pub mod fips_197;
 pub mod gcm_spec;
 pub mod rfc_8439;

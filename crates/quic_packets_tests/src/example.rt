@@ -1,6 +1,6 @@
 //! The example in README.md of `quic_packets`: one end of a connection sends a packet, and the other end receives it.
 
-use aead_vectors::checks::same;
+use crate::checks::same;
 use quic_packets::{Failures, PacketError, Receiver, Sender, Space, Suite, packet_at};
 use std::alloc::Global;
 use std::test::Fail;

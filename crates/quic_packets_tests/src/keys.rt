@@ -6,8 +6,8 @@ ghost use Rattle.aead_ciphers.specs.Packet.{PacketFits};
 ghost use Rattle.quic_packets.specs.Header.{HasSample};
 ghost use Rattle.quic_packets.specs.Packet.{CarriesNumber, HasNumber, IsNumber};
 
+use crate::checks::same;
 use aead_ciphers::aead::{AES_128_GCM, AES_256_GCM, quic};
-use aead_vectors::checks::same;
 use aead_vectors::rfc_9001::{A_5_KEY, A_5_PROTECTED, A_5_SEALED, PACKETS, Packet};
 use quic_packets::{HeaderKey, PacketError, ReceiveKey, SendKey, laws};
 use std::alloc::AllocError;

@@ -1,9 +1,9 @@
 //! Tests of `Receiver`, `Space` and `Failures`: packets of RFC 9001 appendix A, flipped bits, duplicates, key updates and
 //! limits.
 
+use crate::checks::same;
 use crate::rows::{HEADER_KEY as ROW_HEADER_KEY, IV as ROW_IV, KEY, ROWS, Row};
 use aead_ciphers::aead::{AES_128_GCM, quic};
-use aead_vectors::checks::same;
 use aead_vectors::rfc_9001::{PACKETS, Packet};
 use quic_packets::{Failures, HeaderKey, PacketError, Received, Receiver, SendKey, Space, Suite};
 use std::alloc::Global;

@@ -1,7 +1,7 @@
 //! Tests of `quic_packets::Sender`: packets of another implementation, each error, skipped numbers, limits and key updates.
 
+use crate::checks::same;
 use crate::rows::{HEADER_KEY, IV, KEY, ROWS, Row};
-use aead_vectors::checks::same;
 use quic_packets::{HeaderKey, PacketError, ReceiveKey, Sender, Suite};
 use std::alloc::Global;
 use std::ops::Range;

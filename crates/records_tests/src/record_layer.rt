@@ -1,8 +1,8 @@
 //! Tests with records of Python's `cryptography`, which are written and read, and with records that are
 //! rejected.
 
+use crate::checks::{holds, same};
 use aead_ciphers::aead::{AES_128_GCM, AES_256_GCM, Algorithm};
-use aead_vectors::checks::{holds, same};
 use hex::FromHex;
 use records::ContentType::{Alert, ApplicationData, Handshake};
 use records::{ContentType, MAX_CONTENT_LEN, Reader, RecordError, RecordKey, Writer};

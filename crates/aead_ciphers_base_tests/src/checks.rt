@@ -3,16 +3,16 @@
 use std::process::Abort;
 
 /// Asserts that two byte slices are equal.
-pub fn same(rt: &impl Abort, found: &[u8], wanted: &[u8], what: &str) {
+pub(crate) fn same(rt: &impl Abort, found: &[u8], wanted: &[u8], what: &str) {
     assert_eq!(rt; found, wanted, "{what}");
 }
 
 /// Asserts that a text is the expected one.
-pub fn reads(rt: &impl Abort, text: &str, wanted: &str) {
+pub(crate) fn reads(rt: &impl Abort, text: &str, wanted: &str) {
     assert_eq!(rt; text, wanted);
 }
 
 /// Asserts that a condition is true.
-pub fn holds(rt: &impl Abort, test: bool, what: &str) {
+pub(crate) fn holds(rt: &impl Abort, test: bool, what: &str) {
     assert!(rt; test, "{what}");
 }
