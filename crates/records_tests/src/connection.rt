@@ -45,11 +45,11 @@ fn algorithm_of(key: &[u8]) -> &'static Algorithm {
     }
 }
 
-/// Returns the kind and the length of the record at the front of these bytes.
-fn first_record(bytes: &[u8]) -> Result<(RecordKind, usize), Fail> {
-    match classify(bytes)? {
-        Begins::Record(kind, len) => Ok((kind, len)),
-        Begins::MoreNeeded(_) => Err("cut off".into()),
+/// Returns the kind and the length of the whole record at the front of these bytes, if there is one.
+fn first_record(bytes: &[u8]) -> Option<(RecordKind, usize)> {
+    match classify(bytes) {
+        Ok(Begins::Record(kind, len)) => Some((kind, len)),
+        _ => None,
     }
 }
 
@@ -58,7 +58,10 @@ fn first_record(bytes: &[u8]) -> Result<(RecordKind, usize), Fail> {
 fn next_protected(stream: &[u8], from: usize) -> Result<(usize, usize), Fail> {
     let mut at = from;
     for _ in 0..3 {
-        let (kind, len) = first_record(stream.get(at..).ok_or("past the end")?)?;
+        let (kind, len) = stream
+            .get(at..)
+            .and_then(first_record)
+            .ok_or("no whole record")?;
         if kind == RecordKind::Protected {
             return Ok((at, len));
         }

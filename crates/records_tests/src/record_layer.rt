@@ -294,8 +294,7 @@ fn rejects_inner(
 ) -> Result<(), Fail> {
     let mut reader = Reader::new(&AES_128_GCM, &KEY[..16], IV)?;
     assert!(rt; reader.read(bytes).err() == Some(error));
-    assert_eq!(rt; bytes.get(..inner.len()), Some(inner));
-    assert_eq!(rt; bytes.get(inner.len()..), record.get(inner.len()..));
+    begins_with(rt, bytes, inner, record);
     assert!(rt; reader.is_closed());
     Ok(())
 }
