@@ -23,6 +23,8 @@ mod errors;
 #[cfg(test)]
 mod examples;
 #[cfg(test)]
+mod failing_streams;
+#[cfg(test)]
 mod gcm;
 #[cfg(test)]
 mod laws;
@@ -36,6 +38,8 @@ mod quic;
 mod reference;
 #[cfg(test)]
 mod refusals;
+#[cfg(test)]
+mod sealed_files;
 #[cfg(test)]
 mod sequences;
 #[cfg(test)]

@@ -3,8 +3,8 @@
 ghost use Rattle.std.specs.Prelude.{◌<◌};
 
 use crate::checks::{holds, same};
+use crate::failing_streams::FailingStream;
 use aead_ciphers::aeadrun::{FAULT, lines};
-use failing_streams::FailingStream;
 use std::alloc::Global;
 use std::io::{BufReader, BufWriter};
 use std::process::Abort;

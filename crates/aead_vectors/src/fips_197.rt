@@ -1,6 +1,7 @@
 //! FIPS 197, "Advanced Encryption Standard (AES)", appendix C: the cipher with a key of 16 or 32 bytes; and section 5.1.1: the S-box.
 
 use crate::words::{BadLine, Words};
+use aead_ciphers_base::aes::Block;
 use std::alloc::Global;
 
 /// A block and its encryption.
@@ -8,8 +9,8 @@ use std::alloc::Global;
 pub struct Case {
     pub name: &'static str,
     pub key: Vec<u8>,
-    pub plaintext: [u8; 16],
-    pub ciphertext: [u8; 16],
+    pub plaintext: Block,
+    pub ciphertext: Block,
 }
 
 impl Case {

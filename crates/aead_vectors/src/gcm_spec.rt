@@ -2,6 +2,7 @@
 //! bytes and a key of 16 or 32.
 
 use crate::words::{BadLine, Words};
+use aead_ciphers_base::values::{MAX_TAG_LEN, NONCE_LEN};
 use std::alloc::Global;
 
 /// A test case.
@@ -9,11 +10,11 @@ use std::alloc::Global;
 pub struct Case {
     pub name: &'static str,
     pub key: Vec<u8>,
-    pub nonce: [u8; 12],
+    pub nonce: [u8; NONCE_LEN],
     pub aad: Vec<u8>,
     pub message: Vec<u8>,
     pub ciphertext: Vec<u8>,
-    pub tag: [u8; 16],
+    pub tag: [u8; MAX_TAG_LEN],
 }
 
 impl Case {

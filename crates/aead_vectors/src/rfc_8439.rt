@@ -1,15 +1,17 @@
 //! RFC 8439, "ChaCha20 and Poly1305 for IETF Protocols".
 
 use crate::words::{BadLine, Words};
+use aead_ciphers_base::chacha;
+use aead_ciphers_base::values::NONCE_LEN;
 use std::alloc::Global;
 
 /// A message and its encryption from a block counter on. A block of the key stream is the encryption of 64 zeros.
 #[derive(Drop)]
 pub struct Case {
     pub name: &'static str,
-    pub key: [u8; 32],
+    pub key: [u8; chacha::KEY_LEN],
     pub counter: u32,
-    pub nonce: [u8; 12],
+    pub nonce: [u8; NONCE_LEN],
     pub plaintext: Vec<u8>,
     pub ciphertext: Vec<u8>,
 }
@@ -55,13 +57,13 @@ pub const CASES: [&str; 10] = [
 ];
 
 /// Section 2.3.2: the key.
-pub const KEY: [u8; 32] = [
+pub const KEY: [u8; chacha::KEY_LEN] = [
     0x00, 0x01, 0x02, 0x03, 0x04, 0x05, 0x06, 0x07, 0x08, 0x09, 0x0a, 0x0b, 0x0c, 0x0d, 0x0e, 0x0f,
     0x10, 0x11, 0x12, 0x13, 0x14, 0x15, 0x16, 0x17, 0x18, 0x19, 0x1a, 0x1b, 0x1c, 0x1d, 0x1e, 0x1f,
 ];
 
 /// Section 2.3.2: the nonce.
-pub const BLOCK_NONCE: [u8; 12] = [
+pub const BLOCK_NONCE: [u8; NONCE_LEN] = [
     0x00, 0x00, 0x00, 0x09, 0x00, 0x00, 0x00, 0x4a, 0x00, 0x00, 0x00, 0x00,
 ];
 

@@ -1,6 +1,7 @@
 //! RFC 9001, "Using TLS to Secure QUIC": masks of header protection and packets (section 5).
 
 use crate::words::{BadLine, Words};
+use aead_ciphers_base::values::NONCE_LEN;
 use std::alloc::Global;
 
 /// Appendix A.2, AES-128: the key.
@@ -35,7 +36,7 @@ pub const A_5_MASK: [u8; 5] = [0xae, 0xfe, 0xfe, 0x7d, 0x03];
 pub struct Packet {
     pub name: &'static str,
     pub key: Vec<u8>,
-    pub iv: [u8; 12],
+    pub iv: [u8; NONCE_LEN],
     pub header_key: Vec<u8>,
     /// The length of the header before the packet number.
     pub number_at: usize,

@@ -1,6 +1,7 @@
 //! SP 800-38A, "Recommendation for Block Cipher Modes of Operation", appendix F: AES-128 and AES-256.
 
 use crate::words::{BadLine, Words};
+use aead_ciphers_base::aes::Block;
 use std::alloc::Global;
 
 /// Appendices F.1.1 and F.1.5, the electronic codebook mode: a line for each block, as `fips_197::Case` reads it.
@@ -21,7 +22,7 @@ pub struct CtrCase {
     pub name: &'static str,
     pub key: Vec<u8>,
     /// The initial counter block.
-    pub counter: [u8; 16],
+    pub counter: Block,
     pub plaintext: Vec<u8>,
     pub ciphertext: Vec<u8>,
 }

@@ -7,8 +7,6 @@ mod name;
 mod options;
 mod output;
 mod progress;
-#[cfg(test)]
-mod tests;
 
 ghost use Rattle.std.specs.Prelude.{OnOk};
 ghost use Rattle.std.specs.Io.KnownBytes.{Consumes};

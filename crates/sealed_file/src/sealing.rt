@@ -24,7 +24,7 @@ use std::mem;
 ///
 /// # Examples
 ///
-/// From `crates/seal_file/src/tests.rt`:
+/// From `crates/aead_ciphers_tests/src/sealed_files.rt`:
 ///
 /// ```
 /// fn sealed_of(alloc: Global, len: usize) -> Result<Vec<u8>, Fail> {

@@ -1,5 +1,4 @@
 //! A reader or writer for tests. Each call transfers few bytes, and one of the calls fails.
-#![tactic(auto)]
 
 ghost use Rattle.std.specs.Prelude.{◌≡◌, ◌<◌, ◌≤◌, IfOk};
 

@@ -1,8 +1,8 @@
 //! Sealed files as `tools/open-sealed-file` makes them, files that do not open, and streams that fail.
 
-use crate::options::Action;
+use crate::checks::same;
+use crate::failing_streams::FailingStream;
 use aead_ciphers::aead::{AES_256_GCM, Aad, LessSafeKey, Nonce, UnboundKey};
-use failing_streams::FailingStream;
 use md5::{Digest, Md5};
 use sealed_file::{
     CHUNK_LEN, FileError, FileKey, HEADER_LEN, SEALED_CHUNK_LEN, open, open_bytes, open_chunk_at,
@@ -64,11 +64,6 @@ const TRAILING_BYTES: &str = "bytes after the last chunk";
 const VERSION_THREE: &str = "a sealed file of version 3, which is neither 1 nor 2";
 
 const ANOTHER_KEY: &str = "the key is wrong, or the header was changed";
-
-/// Two lists of bytes are equal.
-fn same(rt: &impl Abort, found: &[u8], wanted: &[u8], what: &str) {
-    assert_eq!(rt; found, wanted, "{what}");
-}
 
 /// The test file of this length: byte i is i modulo 251.
 fn file_of(alloc: Global, len: usize) -> Result<Vec<u8>, Fail> {
@@ -316,6 +311,13 @@ fn texts(rt: HostRuntime) -> Result<(), Fail> {
         assert_eq!(rt; format!(in rt.alloc(); "{error}")?.as_str(), text);
     }
     Ok(())
+}
+
+/// What a call does.
+#[derive(Clone, Copy)]
+enum Action {
+    Seal,
+    Open,
 }
 
 /// The most bytes that a failing stream moves in one call.
