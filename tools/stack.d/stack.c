@@ -1,6 +1,6 @@
 /* How deep each call goes into the stack: a thread whose 64 KiB are filled with a pattern makes it, and then looks for
  * the lowest byte that changed. Each is made in a process of its own, and what must come before it in another one, since the
- * dynamic linker may bind memcpy and memset at their first use, on the stack of the call. So this file calls neither. */
+ * dynamic linker may bind memcpy, memmove and memset at their first use, on the stack of the call. So this file calls none. */
 #define _DEFAULT_SOURCE
 #include "deerlapse.h"
 #include <pthread.h>

@@ -40,7 +40,7 @@
 #define DEERLAPSE_VERSION_PATCH 0
 
 /* The most bytes of stack that a call uses, as measured by tools/stack. This includes the dynamic linker's, which may bind
- * memcpy and memset in the first call. */
+ * memcpy, memmove and memset in the first call. */
 #define DEERLAPSE_MAX_STACK 8192
 
 #define DEERLAPSE_NONCE_LEN 12
