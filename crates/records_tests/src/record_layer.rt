@@ -255,7 +255,7 @@ fn no_record(rt: HostRuntime) -> Result<(), Fail> {
 
 /// Authentic records that `tools/read-records make` printed, with their inner plaintexts, and the errors with
 /// which those are rejected.
-const AUTHENTIC: [(&str, &[u8], RecordError); 5] = [
+const AUTHENTIC: [(&str, &[u8], RecordError); 7] = [
     (
         "1703030014936ca7ce192ea8e21527108e19c356659790e9ef",
         &[0; 4],
@@ -269,6 +269,16 @@ const AUTHENTIC: [(&str, &[u8], RecordError); 5] = [
     (
         "17030300149493a7ce406f9de28c94b3020b3588fb6b1befeb",
         &[7, 255, 0, 0],
+        RecordError::UnexpectedType,
+    ),
+    (
+        "17030300129274eda2910aa7d6043aef978dc9e26bbe0b",
+        &[1, 24],
+        RecordError::UnexpectedType,
+    ),
+    (
+        "17030300118b75f04452a3e4bce16217c28a63365a24",
+        &[24],
         RecordError::UnexpectedType,
     ),
     (
