@@ -6,7 +6,7 @@
 --     concludes, unchanged     what is said of the buffer at the return is said of it once the loan is over
 --     let_go                   the result is let go: the buffer's last value
 --     loan_ends                the same, and the buffer is back
-use Rattle.aead_ciphers_base.proofs.WalkNames.{SProp, Ura, named, Val, of_list, ent, sep, ex, coded_list, Fml, Lft, GName, Share, flft, fres, Logic, sem, Item, Seq, Goal, ‵, ◌⊛◌, some, later, pick, split, use3, ◌$◌, ◌∵◌, !, qed, move, keep, drop, use1, use2, await, fsplit, fpick, feq_l, rewrite, updating, now, show, check, done, RattleType, MutBor, Is, shows, MutSlice, Room, slice_val, mut_slice_vals, mut_slice_Lawful, peeks, drop_list}
+use Rattle.aead_ciphers_base.proofs.WalkNames.{SProp, Ura, named, Val, of_list, ent, sep, ex, coded_list, Fml, Lft, GName, flft, fres, Logic, sem, Item, Seq, Goal, ‵, ◌⊛◌, some, later, pick, split, use3, ◌$◌, ◌∵◌, !, qed, move, keep, drop, use1, use2, await, fsplit, fpick, feq_l, rewrite, updating, now, show, check, done, RattleType, MutBor, Is, shows, MutSlice, mut_slice_vals, mut_slice_Lawful, peeks, drop_list}
 use Rattle.std.proofs.Common.{◌≡◌, refl, sym, ap, subst, ◌∙◌, List, [], ◌∷◌, ◌++◌, ℕ, ◌-◌, length, take, arith, length-drop, length-take-le, Bool, true, false, Result, Ok, Err, is_ok, IfOk}
 use mir.Syntax.{erased}
 use base.Logic.{guard}

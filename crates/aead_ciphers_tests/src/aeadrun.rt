@@ -1,7 +1,7 @@
 //! Tests of `aeadrun`: lines of input, and the lines printed for them.
 
 use crate::cases;
-use crate::checks::holds;
+use crate::checks::{holds, same};
 use crate::masks::{MASKS, Mask};
 use aead_ciphers::aeadrun::lines;
 use aead_vectors::gcm_spec::{CASE_1, CASE_2, CASE_4, CASES, Case};
@@ -224,45 +224,44 @@ const BAD_LINES: [&[u8]; 46] = [
 ];
 
 /// Asserts that `lines` prints this output for the input, and returns this status.
-fn answers(rt: &impl Abort, alloc: Global, input: &[u8], printed: &[u8], status: u8) {
+fn answers(
+    rt: &impl Abort,
+    alloc: Global,
+    input: &[u8],
+    printed: &[u8],
+    status: u8,
+    what: &'static str,
+) {
     let mut rest = input;
     let mut output = Vec::new(alloc);
-    let ended = lines(alloc, &mut rest, &mut output);
-    assert_eq!(rt;
-        (ended, output.as_slice()),
-        (status, printed),
-        "for {input:?}"
-    );
+    holds(rt, lines(alloc, &mut rest, &mut output) == status, what);
+    same(rt, &output, printed, what);
 }
 
 /// Replaces the names in the text by tags, bytes of test cases 4 and 2, and a block of zeros.
 fn filled(alloc: Global, text: &str) -> Result<String, Fail> {
+    let tag_1 = Case::parse(alloc, CASE_1)?.tag;
     let case_2 = Case::parse(alloc, CASE_2)?;
     let case_4 = Case::parse(alloc, CASE_4)?;
-    let text = with_tags(alloc, text, &case_2.tag, &case_4.tag)?;
-    let text = with_bytes(alloc, text.as_str(), "<nonce>", &case_4.nonce)?;
-    let text = with_bytes(alloc, text.as_str(), "<key>", &case_4.key)?;
-    let text = with_bytes(alloc, text.as_str(), "<aad>", &case_4.aad)?;
-    let text = with_bytes(alloc, text.as_str(), "<message>", &case_4.message)?;
-    let text = with_bytes(alloc, text.as_str(), "<ciphertext>", &case_4.ciphertext)?;
-    let text = with_bytes(alloc, text.as_str(), "<ciphertext_2>", &case_2.ciphertext)?;
-    Ok(with_bytes(alloc, text.as_str(), "<zeros>", &case_2.message)?)
-}
-
-/// Replaces the names of tags: those of test cases 1, 2 and 4, and that of test case 4 with its last bit flipped.
-fn with_tags(
-    alloc: Global,
-    text: &str,
-    tag_2: &[u8; 16],
-    tag_4: &[u8; 16],
-) -> Result<String, Fail> {
-    let case_1 = Case::parse(alloc, CASE_1)?;
-    let mut false_tag = *tag_4;
+    let mut false_tag = case_4.tag;
     false_tag[15] ^= 1;
-    let text = with_bytes(alloc, text, "<tag>", tag_4)?;
-    let text = with_bytes(alloc, text.as_str(), "<false_tag>", &false_tag)?;
-    let text = with_bytes(alloc, text.as_str(), "<tag_1>", &case_1.tag)?;
-    Ok(with_bytes(alloc, text.as_str(), "<tag_2>", tag_2)?)
+    let mut text = String::from_str(alloc, text)?;
+    for (name, bytes) in [
+        ("<tag>", case_4.tag.as_slice()),
+        ("<false_tag>", &false_tag),
+        ("<tag_1>", &tag_1),
+        ("<tag_2>", &case_2.tag),
+        ("<nonce>", &case_4.nonce),
+        ("<key>", &case_4.key),
+        ("<aad>", &case_4.aad),
+        ("<message>", &case_4.message),
+        ("<ciphertext>", &case_4.ciphertext),
+        ("<ciphertext_2>", &case_2.ciphertext),
+        ("<zeros>", &case_2.message),
+    ] {
+        text = with_bytes(alloc, text.as_str(), name, bytes)?;
+    }
+    Ok(text)
 }
 
 /// Replaces a name in the text by bytes in hex.
@@ -279,7 +278,14 @@ fn with_bytes(
 fn runs(rt: &impl Abort, alloc: Global, row: &Run) -> Result<(), Fail> {
     let input = filled(alloc, row.input)?;
     let printed = filled(alloc, row.printed)?;
-    answers(rt, alloc, input.as_bytes(), printed.as_bytes(), row.status);
+    answers(
+        rt,
+        alloc,
+        input.as_bytes(),
+        printed.as_bytes(),
+        row.status,
+        row.name,
+    );
     Ok(())
 }
 
@@ -294,7 +300,7 @@ fn lines_and_answers(rt: HostRuntime) -> Result<(), Fail> {
 #[test]
 fn bad_lines(rt: HostRuntime) {
     for line in BAD_LINES {
-        answers(&rt, rt.alloc(), line, b"bad line\n", 1);
+        answers(&rt, rt.alloc(), line, b"bad line\n", 1, "a bad line");
     }
 }
 
@@ -346,7 +352,14 @@ fn seals(rt: &impl Abort, alloc: Global, case: &Case) -> Result<(), Fail> {
         &case.message,
     )?;
     let printed = ok_line(alloc, &case.ciphertext, &case.tag)?;
-    answers(rt, alloc, input.as_bytes(), printed.as_bytes(), 0);
+    answers(
+        rt,
+        alloc,
+        input.as_bytes(),
+        printed.as_bytes(),
+        0,
+        case.name,
+    );
     Ok(())
 }
 
@@ -362,7 +375,7 @@ fn masks_so(rt: &impl Abort, alloc: Global, row: &Mask) -> Result<(), Fail> {
     let head = format!(in alloc; "mask {}", row.word)?;
     let input = line(alloc, head.as_str(), &[&row.key, &row.sample])?;
     let printed = line(alloc, "ok", &[&row.mask])?;
-    answers(rt, alloc, input.as_bytes(), printed.as_bytes(), 0);
+    answers(rt, alloc, input.as_bytes(), printed.as_bytes(), 0, row.name);
     Ok(())
 }
 

@@ -7,7 +7,7 @@ use crate::reference;
 use aead_ciphers::aes_gcm::{Key, open};
 use aead_ciphers_base::aes::{self, KeyBytes, Work};
 use aead_ciphers_base::values::{Aad, Nonce, Tag};
-use aead_vectors::gcm_spec::{CASE_4, CASE_16, CASES, Case};
+use aead_vectors::gcm_spec::{CASE_4, CASE_16, Case};
 use std::alloc::Global;
 use std::process::Abort;
 use std::test::Fail;
@@ -49,66 +49,12 @@ fn worked(rt: &impl Abort, work: &Work, blocks: u64, products: u64, what: &str) 
     );
 }
 
-/// Asserts that a case is sealed to its ciphertext and tag, and opened to its message.
-fn seals_and_opens(rt: &impl Abort, case: &Case) -> Result<(), Fail> {
-    let mut buffer = case.message.clone()?;
-    let (tag, _) = sealed(case, &case.aad, &mut buffer)?;
-    same(rt, &buffer, &case.ciphertext, case.name);
-    same(rt, tag.as_ref(), &case.tag, case.name);
-    let (is_opened, _) = opened(case, &case.aad, tag, &mut buffer, 0)?;
-    holds(rt, is_opened, case.name);
-    same(rt, &buffer, &case.message, case.name);
-    Ok(())
-}
-
-#[test]
-fn gcm_spec_cases(rt: HostRuntime) -> Result<(), Fail> {
-    for line in CASES {
-        seals_and_opens(&rt, &Case::parse(rt.alloc(), line)?)?;
-    }
-    Ok(())
-}
-
 #[test]
 fn work_of_a_key(rt: HostRuntime) {
     let mut work = Work::new();
     let key = Key::new(KeyBytes::AES_128(&[0; 16]), &mut work);
     assert!(rt; key.is_ok());
     worked(&rt, &work, 1, 0, "a key");
-}
-
-/// Asserts the numbers of cipher blocks and products for sealing and opening a message and an AAD of these lengths.
-fn work_at(
-    rt: &impl Abort,
-    (alloc, case): (Global, &Case),
-    (len, aad_len): (usize, usize),
-    (blocks, products): (u64, u64),
-) -> Result<(), Fail> {
-    let aad = vec![in alloc; 0; aad_len]?;
-    let mut buffer = vec![in alloc; 0; len]?;
-    let (tag, work) = sealed(case, &aad, &mut buffer)?;
-    worked(rt, &work, blocks, products, "seal");
-    let (is_opened, work) = opened(case, &aad, tag, &mut buffer, 0)?;
-    holds(rt, is_opened, "opened");
-    worked(rt, &work, blocks, products, "open");
-    Ok(())
-}
-
-#[test]
-fn work_of_sealing_and_opening(rt: HostRuntime) -> Result<(), Fail> {
-    let case = Case::parse(rt.alloc(), CASE_4)?;
-    for (lens, tallies) in [
-        ((0, 0), (1, 1)),
-        ((1, 1), (2, 3)),
-        ((16, 0), (2, 2)),
-        ((17, 0), (3, 3)),
-        ((64, 0), (5, 5)),
-        ((60, 20), (5, 7)),
-        ((3073, 20), (194, 196)),
-    ] {
-        work_at(&rt, (rt.alloc(), &case), lens, tallies)?;
-    }
-    Ok(())
 }
 
 // A wrong tag, and a start past the end.

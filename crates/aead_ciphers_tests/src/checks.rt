@@ -1,5 +1,7 @@
 //! Assertions for tests. They have no contract clauses, so a caller's proof learns nothing about the bytes and stays short.
 
+use std::alloc::AllocError;
+use std::fmt::{Debug, Display};
 use std::process::Abort;
 
 /// Asserts that two byte slices are equal.
@@ -7,12 +9,29 @@ pub(crate) fn same(rt: &impl Abort, found: &[u8], wanted: &[u8], what: &str) {
     assert_eq!(rt; found, wanted, "{what}");
 }
 
-/// Asserts that a text is the expected one.
-pub(crate) fn reads(rt: &impl Abort, text: &str, wanted: &str) {
-    assert_eq!(rt; text, wanted);
-}
-
 /// Asserts that a condition is true.
 pub(crate) fn holds(rt: &impl Abort, test: bool, what: &str) {
     assert!(rt; test, "{what}");
+}
+
+/// Asserts that a value is printed as this text for debugging.
+pub(crate) fn prints(
+    rt: &(impl Abort + AllocGlobal),
+    value: &impl Debug,
+    wanted: &str,
+) -> Result<(), AllocError> {
+    let text = format!(in rt.alloc(); "{value:?}")?;
+    assert_eq!(rt; text.as_str(), wanted);
+    Ok(())
+}
+
+/// Asserts that a value is displayed as this text.
+pub(crate) fn displays(
+    rt: &(impl Abort + AllocGlobal),
+    value: &impl Display,
+    wanted: &str,
+) -> Result<(), AllocError> {
+    let text = format!(in rt.alloc(); "{value}")?;
+    assert_eq!(rt; text.as_str(), wanted);
+    Ok(())
 }

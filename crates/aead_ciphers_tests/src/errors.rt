@@ -1,6 +1,6 @@
 //! Tests of the conversion of errors to `anyhow::Error` by `?`.
 
-use crate::checks::{holds, reads};
+use crate::checks::{displays, holds};
 use aead_ciphers::aead::{AES_128_GCM, UnboundKey};
 use std::test::Fail;
 
@@ -14,10 +14,7 @@ fn into_anyhow(rt: HostRuntime) -> Result<(), Fail> {
     holds(&rt, unbound(&[0; 16]).is_ok(), "a key of 16 bytes");
     match unbound(&[0; 15]) {
         Ok(_) => holds(&rt, false, "a key of 15 bytes"),
-        Err(error) => {
-            let text = format!(in rt.alloc(); "{error}")?;
-            reads(&rt, text.as_str(), "unspecified error");
-        }
+        Err(error) => displays(&rt, &error, "unspecified error")?,
     }
     Ok(())
 }

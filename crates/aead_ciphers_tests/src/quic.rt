@@ -5,7 +5,7 @@ ghost use Rattle.aead_ciphers_base.specs.Mask.{chacha_mask};
 ghost use Rattle.aead_vectors.specs.declared.rfc_9001.TheConstants.{A_5_KEY, A_5_MASK, A_5_SAMPLE};
 
 use crate::callers::same_quic_algorithm;
-use crate::checks::{holds, reads, same};
+use crate::checks::{holds, prints, same};
 use crate::masks::{MASKS, Mask};
 use aead_ciphers::aead::quic::{AES_128, AES_256, Algorithm, CHACHA20, HeaderProtectionKey};
 use aead_ciphers_base::chacha::{self, Overlapping};
@@ -83,7 +83,8 @@ fn other_lengths_are_refused(rt: HostRuntime) -> Result<(), Fail> {
 
 #[test]
 fn debug_texts(rt: HostRuntime) -> Result<(), Fail> {
-    let text = format!(in rt.alloc(); "{AES_128:?} {AES_256:?} {CHACHA20:?}")?;
-    reads(&rt, text.as_str(), "AES_128 AES_256 CHACHA20");
+    prints(&rt, &AES_128, "AES_128")?;
+    prints(&rt, &AES_256, "AES_256")?;
+    prints(&rt, &CHACHA20, "CHACHA20")?;
     Ok(())
 }

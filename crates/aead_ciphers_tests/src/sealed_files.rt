@@ -1,6 +1,6 @@
 //! Sealed files as `tools/open-sealed-file` makes them, files that do not open, and streams that fail.
 
-use crate::checks::same;
+use crate::checks::{displays, holds, same};
 use crate::failing_streams::FailingStream;
 use aead_ciphers::aead::{AES_256_GCM, Aad, LessSafeKey, Nonce, UnboundKey};
 use md5::{Digest, Md5};
@@ -280,35 +280,19 @@ fn changed_files(rt: HostRuntime) -> Result<(), Fail> {
     Ok(())
 }
 
-#[test]
-fn another_key(rt: HostRuntime) -> Result<(), Fail> {
-    let alloc = rt.alloc();
-    let sealed = sealed_of(alloc, 5)?;
-    let mut opened = Vec::new(alloc);
-    let outcome = open(
-        alloc,
-        &FileKey::new(&[7; 32])?,
-        &mut sealed.as_slice(),
-        &mut opened,
-    );
-    assert!(rt; matches!(outcome, Err(FileError::WrongKey)));
-    assert!(rt; opened.is_empty());
-    Ok(())
-}
+const TEXTS: [(FileError, &str); 3] = [
+    (FileError::KeyLength, "the key is not 32 bytes long"),
+    (
+        FileError::TooLong,
+        "the file is too long: it has 2^32 chunks or more",
+    ),
+    (FileError::OutOfMemory, "out of memory"),
+];
 
 #[test]
 fn texts(rt: HostRuntime) -> Result<(), Fail> {
-    for (error, text) in [
-        (FileKey::new(&[7; 31]).err(), "the key is not 32 bytes long"),
-        (FileKey::new(&[7; 33]).err(), "the key is not 32 bytes long"),
-        (
-            Some(FileError::TooLong),
-            "the file is too long: it has 2^32 chunks or more",
-        ),
-        (Some(FileError::OutOfMemory), "out of memory"),
-    ] {
-        let error = error.ok_or("an error")?;
-        assert_eq!(rt; format!(in rt.alloc(); "{error}")?.as_str(), text);
+    for (error, text) in &TEXTS {
+        displays(&rt, error, text)?;
     }
     Ok(())
 }
@@ -355,7 +339,22 @@ fn ended_over(
     })
 }
 
-/// If no call fails, everything is written. If any one fails, a beginning is written, and the error is that of the call.
+/// Asserts that a beginning is written and the error is that of the failing call.
+fn fails_at(
+    rt: &(impl Abort + AllocGlobal),
+    (action, bytes, all): (Action, &[u8], &[u8]),
+    failing_read: Option<u32>,
+    failing_write: Option<u32>,
+) -> Result<(), Fail> {
+    let ended = ended_over(rt.alloc(), action, bytes, failing_read, failing_write)?;
+    holds(rt, all.starts_with(&ended.written), "a beginning");
+    let is_of_the_call =
+        matches!(ended.outcome, Err(FileError::Io(error)) if error.kind() == ErrorKind::BrokenPipe);
+    holds(rt, is_of_the_call, "the error");
+    Ok(())
+}
+
+/// Asserts that everything is written if no call fails, and then that each call fails in turn.
 fn fails_in_turn(
     rt: &(impl Abort + AllocGlobal),
     action: Action,
@@ -363,16 +362,13 @@ fn fails_in_turn(
     all: &[u8],
 ) -> Result<(), Fail> {
     let whole = ended_over(rt.alloc(), action, bytes, None, None)?;
-    assert!(rt; whole.outcome.is_ok());
+    holds(rt, whole.outcome.is_ok(), "the whole");
     same(rt, &whole.written, all, "all");
-    let reads = (0..whole.reads).map(|call| (Some(call), None));
-    let writes = (0..whole.writes).map(|call| (None, Some(call)));
-    for (read, write) in reads.chain(writes) {
-        let ended = ended_over(rt.alloc(), action, bytes, read, write)?;
-        assert!(rt; all.starts_with(&ended.written));
-        assert!(rt;
-            matches!(ended.outcome, Err(FileError::Io(error)) if error.kind() == ErrorKind::BrokenPipe)
-        );
+    for call in 0..whole.reads {
+        fails_at(rt, (action, bytes, all), Some(call), None)?;
+    }
+    for call in 0..whole.writes {
+        fails_at(rt, (action, bytes, all), None, Some(call))?;
     }
     Ok(())
 }
@@ -402,18 +398,26 @@ const XAES: [(u8, &[u8], &[u8]); 2] = [
     ),
 ];
 
+/// Asserts that the derived key seals the plaintext to these bytes.
+fn seals_as_xaes(
+    rt: &impl Abort,
+    key: &FileKey,
+    aad: &[u8],
+    in_out: &mut Vec<u8>,
+    wanted: &[u8],
+) -> Result<(), Fail> {
+    let unbound = UnboundKey::new(&AES_256_GCM, &key.derived_key(b"ABCDEFGHIJKL"))?;
+    let nonce = Nonce::assume_unique_for_key(*b"MNOPQRSTUVWX");
+    LessSafeKey::new(unbound).seal_in_place_append_tag(nonce, Aad::from(aad), in_out)?;
+    same(rt, in_out, wanted, "XAES-256-GCM");
+    Ok(())
+}
+
 #[test]
 fn xaes_vectors(rt: HostRuntime) -> Result<(), Fail> {
     for (byte, aad, wanted) in &XAES {
-        let key = FileKey::new(&[*byte; 32])?.derived_key(b"ABCDEFGHIJKL");
-        let unbound = UnboundKey::new(&AES_256_GCM, &key).ok().ok_or("a key")?;
-        let nonce = Nonce::assume_unique_for_key(*b"MNOPQRSTUVWX");
-        let mut sealed = b"XAES-256-GCM".to_vec(rt.alloc())?;
-        LessSafeKey::new(unbound)
-            .seal_in_place_append_tag(nonce, Aad::from(*aad), &mut sealed)
-            .ok()
-            .ok_or("sealed")?;
-        same(&rt, &sealed, wanted, "XAES-256-GCM");
+        let mut in_out = b"XAES-256-GCM".to_vec(rt.alloc())?;
+        seals_as_xaes(&rt, &FileKey::new(&[*byte; 32])?, aad, &mut in_out, wanted)?;
     }
     Ok(())
 }

@@ -1,5 +1,6 @@
 //! What the errors print.
 
+use crate::checks::displays;
 use quic_packets::{DatagramError, PacketError, RetryError};
 use std::test::Fail;
 
@@ -100,27 +101,24 @@ const RETRY_ERRORS: [(RetryError, &str); 2] = [
 
 #[test]
 fn packet_errors(rt: HostRuntime) -> Result<(), Fail> {
-    for (error, text) in PACKET_ERRORS {
-        let printed = format!(in rt.alloc(); "{error}")?;
-        assert_eq!(rt; printed.as_str(), text);
+    for (error, text) in &PACKET_ERRORS {
+        displays(&rt, error, text)?;
     }
     Ok(())
 }
 
 #[test]
 fn datagram_errors(rt: HostRuntime) -> Result<(), Fail> {
-    for (error, text) in DATAGRAM_ERRORS {
-        let printed = format!(in rt.alloc(); "{error}")?;
-        assert_eq!(rt; printed.as_str(), text);
+    for (error, text) in &DATAGRAM_ERRORS {
+        displays(&rt, error, text)?;
     }
     Ok(())
 }
 
 #[test]
 fn retry_errors(rt: HostRuntime) -> Result<(), Fail> {
-    for (error, text) in RETRY_ERRORS {
-        let printed = format!(in rt.alloc(); "{error}")?;
-        assert_eq!(rt; printed.as_str(), text);
+    for (error, text) in &RETRY_ERRORS {
+        displays(&rt, error, text)?;
     }
     Ok(())
 }

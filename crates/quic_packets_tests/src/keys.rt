@@ -6,7 +6,7 @@ ghost use Rattle.aead_ciphers.specs.Packet.{PacketFits};
 ghost use Rattle.quic_packets.specs.Header.{HasSample};
 ghost use Rattle.quic_packets.specs.Packet.{CarriesNumber, HasNumber, IsNumber};
 
-use crate::checks::same;
+use crate::checks::{holds, same};
 use aead_ciphers::aead::{AES_128_GCM, AES_256_GCM, quic};
 use aead_vectors::rfc_9001::{A_5_KEY, A_5_PROTECTED, A_5_SEALED, PACKETS, Packet};
 use quic_packets::{HeaderKey, PacketError, ReceiveKey, SendKey, laws};
@@ -128,7 +128,7 @@ fn chacha20_header(rt: HostRuntime) -> Result<(), Fail> {
     let mut packet = A_5_SEALED;
     key.protect(&mut packet, 1)?;
     same(&rt, &packet, &A_5_PROTECTED, "protected");
-    assert_eq!(rt; key.unprotect(&mut packet, 1)?, 3);
+    holds(&rt, key.unprotect(&mut packet, 1) == Ok(3), "the length");
     same(&rt, &packet, &A_5_SEALED, "unprotected");
     Ok(())
 }
@@ -137,24 +137,26 @@ fn chacha20_header(rt: HostRuntime) -> Result<(), Fail> {
 fn seals(rt: &impl Abort, key: &mut SendKey, len: usize, wanted: Result<u64, PacketError>) {
     let mut packet = [7; 21];
     packet[0] = 0x40;
-    assert_eq!(rt; key.seal(&mut packet[..len.min(21)], 1..2), wanted);
+    let sealed = key.seal(&mut packet[..len.min(21)], 1..2);
+    holds(rt, sealed == wanted, "sealed");
+}
+
+/// Asserts the result of skipping to a number.
+fn skips_to(rt: &impl Abort, key: &mut SendKey, number: u64, wanted: Result<(), PacketError>) {
+    holds(rt, key.skip_to(number) == wanted, "skipped");
 }
 
 // A packet that is too short for a sample uses no packet number, and numbers are only skipped forward.
 #[test]
 fn skips(rt: HostRuntime) -> Result<(), Fail> {
     let mut key = SendKey::new(&AES_128_GCM, &[1; 16], [2; 12], 5)?;
-    for (number, outcome) in [
-        (4, Err(PacketError::NumberUsed)),
-        (5, Ok(())),
-        (7, Ok(())),
-        ((1 << 62) + 1, Err(PacketError::NumbersEnded)),
-    ] {
-        assert_eq!(rt; key.skip_to(number), outcome);
-    }
+    skips_to(&rt, &mut key, 4, Err(PacketError::NumberUsed));
+    skips_to(&rt, &mut key, 5, Ok(()));
+    skips_to(&rt, &mut key, 7, Ok(()));
+    skips_to(&rt, &mut key, (1 << 62) + 1, Err(PacketError::NumbersEnded));
     seals(&rt, &mut key, 20, Err(PacketError::NoSample));
     seals(&rt, &mut key, 21, Ok(7));
-    key.skip_to(1 << 62)?;
+    skips_to(&rt, &mut key, 1 << 62, Ok(()));
     seals(&rt, &mut key, 21, Err(PacketError::NumbersEnded));
     Ok(())
 }

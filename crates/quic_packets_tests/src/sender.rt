@@ -1,6 +1,6 @@
 //! Tests of `quic_packets::Sender`: packets of another implementation, each error, skipped numbers, limits and key updates.
 
-use crate::checks::same;
+use crate::checks::{holds, same};
 use crate::rows::{HEADER_KEY, IV, KEY, ROWS, Row};
 use quic_packets::{HeaderKey, PacketError, ReceiveKey, Sender, Suite};
 use std::alloc::Global;
@@ -82,8 +82,13 @@ fn refuses(
 ) {
     let mut sent = *packet;
     let before = (sender.next_number(), sender.sealed());
-    assert_eq!(rt; sender.send(&mut sent, room, None), Err(wanted));
-    assert_eq!(rt; (sender.next_number(), sender.sealed()), before);
+    holds(
+        rt,
+        sender.send(&mut sent, room, None) == Err(wanted),
+        "the error",
+    );
+    let after = (sender.next_number(), sender.sealed());
+    holds(rt, after == before, "the numbers");
     same(rt, &sent, packet, "refused");
 }
 
@@ -112,7 +117,8 @@ fn refusals(rt: HostRuntime) -> Result<(), Fail> {
 fn shortest(rt: HostRuntime) -> Result<(), Fail> {
     let mut sender = sender(0)?;
     for (number, first) in [(0, 0x40), (1, 0xe0)] {
-        assert_eq!(rt; sender.send(&mut packet(first, 1), 4..5, None), Ok(number));
+        let sent = sender.send(&mut packet(first, 1), 4..5, None);
+        holds(&rt, sent == Ok(number), "sent");
     }
     Ok(())
 }
@@ -127,7 +133,7 @@ fn numbers(rt: HostRuntime) -> Result<(), Fail> {
         ((1 << 62) + 1, Err(PacketError::NumbersEnded)),
         (1 << 62, Ok(())),
     ] {
-        assert_eq!(rt; sender.skip_to(number), outcome);
+        holds(&rt, sender.skip_to(number) == outcome, "skipped");
     }
     refuses(&rt, &mut sender, &SHORT, 1..2, PacketError::NumbersEnded);
     Ok(())
@@ -244,8 +250,9 @@ fn numbers_go_on(rt: HostRuntime) -> Result<(), Fail> {
     let mut early = sender(0)?.with_limit(1);
     early.send(&mut packet(0xd0, 1), 4..5, None)?;
     let mut sender = next_keys(early, 32)?;
-    assert_eq!(rt; sender.send(&mut packet(0x40, 0), 1..2, None), Ok(1));
+    let sent = sender.send(&mut packet(0x40, 0), 1..2, None);
+    holds(&rt, sent == Ok(1), "sent");
     refuses(&rt, &mut sender, &SHORT, 1..2, PacketError::KeyUsedUp);
-    assert!(rt; next_keys(sender, 16).is_err());
+    holds(&rt, next_keys(sender, 16).is_err(), "a header key's length");
     Ok(())
 }

@@ -24,11 +24,11 @@ use std::marker::Model;
 /// ```
 /// let mut bytes = record.to_vec(alloc)?;
 /// let (content_type, read) = reader.read(bytes.as_mut_slice())?;
-/// assert!(rt; content_type == carried.content_type);
-/// assert_eq!(rt; read, content.as_slice());
+/// holds(rt, content_type == carried.content_type, "the type");
+/// same(rt, read, &content, "the content");
 /// let mut written = Vec::new(alloc);
 /// writer.write(content_type, &content, carried.padding, &mut written)?;
-/// assert_eq!(rt; written.as_slice(), record);
+/// same(rt, &written, record, "the record");
 /// ```
 #[derive(Drop)]
 pub struct Reader {

@@ -1,7 +1,7 @@
 //! Tests with records of Python's `cryptography`, which are written and read, and with records that are
 //! rejected.
 
-use crate::checks::{holds, same};
+use crate::checks::{displays, holds, same};
 use aead_ciphers::aead::{AES_128_GCM, AES_256_GCM, Algorithm};
 use hex::FromHex;
 use records::ContentType::{Alert, ApplicationData, Handshake};
@@ -181,17 +181,18 @@ fn every_flipped_bit_is_refused(rt: HostRuntime) -> Result<(), Fail> {
         changed[bit / 8] ^= 1 << (bit % 8);
         let before = changed;
         let mut reader = Reader::new(&AES_128_GCM, &KEY[..16], IV)?;
-        assert!(rt; reader.read(&mut changed).is_err(), "bit {bit}");
-        assert_eq!(rt; changed, before);
+        holds(&rt, reader.read(&mut changed).is_err(), "a flipped bit");
+        same(&rt, &changed, &before, "the record stays");
     }
     Ok(())
 }
 
 /// Asserts that each call of a closed reader fails with `Closed`.
 fn is_closed(rt: &impl Abort, reader: &mut Reader, record: &mut [u8]) {
-    assert!(rt; reader.read(record).err() == Some(RecordError::Closed));
-    assert!(rt; reader.update(&KEY[..16], IV) == Err(RecordError::Closed));
-    assert!(rt; reader.set_size_limit(64) == Err(RecordError::Closed));
+    let closed = RecordError::Closed;
+    holds(rt, reader.read(record).err() == Some(closed), "read");
+    holds(rt, reader.update(&KEY[..16], IV) == Err(closed), "update");
+    holds(rt, reader.set_size_limit(64) == Err(closed), "a size limit");
 }
 
 /// Asserts that a new reader rejects these bytes with this error, and that they are unchanged. If the error has
@@ -199,9 +200,10 @@ fn is_closed(rt: &impl Abort, reader: &mut Reader, record: &mut [u8]) {
 fn rejects(rt: &impl Abort, bytes: &mut Vec<u8>, error: RecordError) -> Result<(), Fail> {
     let mut reader = Reader::new(&AES_128_GCM, &KEY[..16], IV)?;
     let before = bytes.clone()?;
-    assert!(rt; reader.read(bytes.as_mut_slice()).err() == Some(error));
-    assert_eq!(rt; bytes.as_slice(), before.as_slice());
-    assert_eq!(rt; reader.is_closed(), error.alert().is_some());
+    let found = reader.read(bytes.as_mut_slice()).err();
+    holds(rt, found == Some(error), "the error");
+    same(rt, bytes, &before, "the bytes stay");
+    holds(rt, reader.is_closed() == error.alert().is_some(), "closed");
     if reader.is_closed() {
         is_closed(rt, &mut reader, bytes.as_mut_slice());
     }
@@ -344,8 +346,8 @@ fn no_such_content(rt: HostRuntime) -> Result<(), Fail> {
     for (content_type, len, padding, expected) in UNWRITTEN {
         let content = Vec::from_elem(rt.alloc(), 7, len)?;
         let refused = writer.write(content_type, &content, padding, &mut record);
-        assert!(rt; refused == Err(expected));
-        assert!(rt; record.is_empty());
+        holds(&rt, refused == Err(expected), "the error");
+        holds(&rt, record.is_empty(), "no record");
     }
     assert_eq!(rt; writer.number(), 0);
     Ok(())
@@ -521,10 +523,13 @@ fn sealed_in_place(rt: HostRuntime) -> Result<(), Fail> {
     let mut writer = Writer::new(&AES_128_GCM, &KEY[..16], IV)?;
     let mut record = [0; 27];
     record[5..10].copy_from_slice(b"hello");
-    assert!(rt; writer.seal(Handshake, &mut record, 5, 1) == Err(RecordError::NoRoom));
-    assert!(rt; writer.seal(Handshake, &mut record, 5, 0) == Ok(27));
-    assert_eq!(rt; record, <[u8; 27]>::from_hex(OF_AES_128[0].record)?);
-    assert_eq!(rt; writer.number(), 1);
+    let no_room = writer.seal(Handshake, &mut record, 5, 1);
+    holds(&rt, no_room == Err(RecordError::NoRoom), "no room");
+    let sealed = writer.seal(Handshake, &mut record, 5, 0);
+    holds(&rt, sealed == Ok(27), "the length");
+    let wanted = <[u8; 27]>::from_hex(OF_AES_128[0].record)?;
+    same(&rt, &record, &wanted, "the record");
+    holds(&rt, writer.number() == 1, "the number");
     Ok(())
 }
 
@@ -538,13 +543,12 @@ fn sealed_by_number(rt: HostRuntime) -> Result<(), Fail> {
     let mut record = [9; 28];
     record[5..9].copy_from_slice(b"last");
     let no_room = key.seal_at(u64::MAX, ApplicationData, &mut record[..25], 4, 0);
-    assert!(rt; no_room == Err(RecordError::NoRoom));
-    assert!(rt; key.seal_at(u64::MAX, ApplicationData, &mut record, 4, 0) == Ok(26));
-    assert_eq!(rt;
-        record.get(..26),
-        Some(<[u8; 26]>::from_hex(LAST)?.as_slice())
-    );
-    assert_eq!(rt; record.get(26..), Some([9; 2].as_slice()));
+    holds(&rt, no_room == Err(RecordError::NoRoom), "no room");
+    let sealed = key.seal_at(u64::MAX, ApplicationData, &mut record, 4, 0);
+    holds(&rt, sealed == Ok(26), "the length");
+    let wanted = <[u8; 26]>::from_hex(LAST)?;
+    holds(&rt, record.starts_with(&wanted), "the record");
+    holds(&rt, record.ends_with(&[9; 2]), "the bytes after it");
     Ok(())
 }
 
@@ -650,9 +654,10 @@ const TEXTS: [(RecordError, &str, u8); 17] = [
 
 #[test]
 fn texts_and_alerts(rt: HostRuntime) -> Result<(), Fail> {
-    for (error, text, alert) in TEXTS {
-        assert_eq!(rt; format!(in rt.alloc(); "{error}")?.as_str(), text);
-        assert_eq!(rt; error.alert().map_or(0, |alert| alert as u8), alert);
+    for (error, text, alert) in &TEXTS {
+        displays(&rt, error, text)?;
+        let found = error.alert().map_or(0, |alert| alert as u8);
+        holds(&rt, found == *alert, text);
     }
     Ok(())
 }
