@@ -240,16 +240,27 @@ fn answers(
 
 /// Replaces the names in the text by tags, bytes of test cases 4 and 2, and a block of zeros.
 fn filled(alloc: Global, text: &str) -> Result<String, Fail> {
-    let tag_1 = Case::parse(alloc, CASE_1)?.tag;
+    let case_1 = Case::parse(alloc, CASE_1)?;
     let case_2 = Case::parse(alloc, CASE_2)?;
     let case_4 = Case::parse(alloc, CASE_4)?;
     let mut false_tag = case_4.tag;
     false_tag[15] ^= 1;
+    Ok(with_cases(alloc, text, &case_1, &case_2, &case_4, &false_tag)?)
+}
+
+fn with_cases<'a>(
+    alloc: Global,
+    text: &str,
+    case_1: &'a Case,
+    case_2: &'a Case,
+    case_4: &'a Case,
+    false_tag: &'a [u8; 16],
+) -> Result<String, AllocError> {
     let mut text = String::from_str(alloc, text)?;
     for (name, bytes) in [
         ("<tag>", case_4.tag.as_slice()),
-        ("<false_tag>", &false_tag),
-        ("<tag_1>", &tag_1),
+        ("<false_tag>", false_tag),
+        ("<tag_1>", &case_1.tag),
         ("<tag_2>", &case_2.tag),
         ("<nonce>", &case_4.nonce),
         ("<key>", &case_4.key),

@@ -42,11 +42,8 @@ fn opened(
 
 /// Asserts the numbers of cipher blocks and products.
 fn worked(rt: &impl Abort, work: &Work, blocks: u64, products: u64, what: &str) {
-    assert_eq!(rt;
-        (work.blocks(), work.products()),
-        (blocks, products),
-        "{what}"
-    );
+    holds(rt, work.blocks() == blocks, what);
+    holds(rt, work.products() == products, what);
 }
 
 #[test]

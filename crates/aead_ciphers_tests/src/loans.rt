@@ -187,20 +187,30 @@ fn stays(
     Ok(())
 }
 
-/// A buffer shorter than a tag, a start past the last one if the call takes one, and a wrong tag.
+/// Asserts the same for a buffer shorter than a tag, a start past the last one if the call takes one, and a wrong tag.
+fn stays_whatever_is_wrong(
+    rt: &impl Abort,
+    (alloc, case): (Global, &Case),
+    call: Call,
+    bytes: &mut [u8],
+    start: usize,
+) -> Result<(), Fail> {
+    stays(rt, (alloc, case), call, &[7; 15], 0)?;
+    if start != 0 {
+        stays(rt, (alloc, case), call, bytes, 65)?;
+    }
+    if let Some(last) = bytes.last_mut() {
+        *last ^= 1;
+    }
+    stays(rt, (alloc, case), call, bytes, start)
+}
+
 #[test]
 fn a_refused_call_leaves_the_buffer(rt: HostRuntime) -> Result<(), Fail> {
     let case = Case::parse(rt.alloc(), CASE_4)?;
     for (call, start) in CALLS {
         let mut bytes = buffer(rt.alloc(), &case, call, start)?;
-        stays(&rt, (rt.alloc(), &case), call, &[7; 15], 0)?;
-        if start != 0 {
-            stays(&rt, (rt.alloc(), &case), call, &bytes, 65)?;
-        }
-        if let Some(last) = bytes.last_mut() {
-            *last ^= 1;
-        }
-        stays(&rt, (rt.alloc(), &case), call, &bytes, start)?;
+        stays_whatever_is_wrong(&rt, (rt.alloc(), &case), call, &mut bytes, start)?;
     }
     Ok(())
 }

@@ -349,7 +349,7 @@ fn fails_at(
     let ended = ended_over(rt.alloc(), action, bytes, failing_read, failing_write)?;
     holds(rt, all.starts_with(&ended.written), "a beginning");
     let is_of_the_call =
-        matches!(ended.outcome, Err(FileError::Io(error)) if error.kind() == ErrorKind::BrokenPipe);
+        matches!(&ended.outcome, Err(FileError::Io(error)) if error.kind() == ErrorKind::BrokenPipe);
     holds(rt, is_of_the_call, "the error");
     Ok(())
 }
