@@ -10,13 +10,13 @@ use std::test::Fail;
 
 #[test]
 fn debug_texts(rt: HostRuntime) -> Result<(), Fail> {
-    let unbound = UnboundKey::new(&AES_128_GCM, &[0; 16])?;
     prints(&rt, &AES_128_GCM, "AES_128_GCM")?;
     prints(&rt, &AES_256_GCM, "AES_256_GCM")?;
+    prints(&rt, &Aad::from([1, 2].as_slice()), "Aad([1, 2])")?;
+    let unbound = UnboundKey::new(&AES_128_GCM, &[0; 16])?;
     prints(&rt, &unbound, "UnboundKey { algorithm: AES_128_GCM }")?;
     let key = LessSafeKey::new(unbound);
     prints(&rt, &key, "LessSafeKey { algorithm: AES_128_GCM }")?;
-    prints(&rt, &Aad::from([1, 2].as_slice()), "Aad([1, 2])")?;
     Ok(())
 }
 

@@ -17,15 +17,6 @@ fn algorithm(case: &Case) -> &'static Algorithm {
     }
 }
 
-/// Returns the algorithm's word in a line of `aeadrun`.
-pub(crate) fn word(case: &Case) -> &'static str {
-    if case.key.len() == aes::AES_128_KEY_LEN {
-        "128"
-    } else {
-        "256"
-    }
-}
-
 pub(crate) fn key_bytes(case: &Case) -> Result<KeyBytes<'_>, Fail> {
     let key = case.key.as_slice();
     match key.as_array::<16>() {

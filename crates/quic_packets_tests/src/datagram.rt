@@ -1,6 +1,6 @@
 //! Tests of `split` and `packet_at`: the packets of RFC 9001 appendix A, and handwritten datagrams.
 
-use crate::checks::holds;
+use crate::checks::{equal, holds};
 use crate::retry::A_4_RETRY;
 use aead_vectors::rfc_9001::{A_2_PACKET, A_3_PACKET, A_5_PROTECTED, Packet as Vector};
 use aead_vectors::words::BadLine;
@@ -39,7 +39,7 @@ fn is_long(
         number_at,
         end: datagram.len(),
     };
-    assert_eq!(rt; packet_at(datagram, 0, 0), Ok(packet));
+    equal(rt, &packet_at(datagram, 0, 0), &Ok(packet));
 }
 
 /// Returns the protected packet of a test vector.
@@ -99,7 +99,7 @@ fn coalesced(rt: HostRuntime) -> Result<(), Fail> {
         (PacketType::Initial, Some(18), 135),
         (PacketType::OneRtt, Some(136), 156),
     ];
-    assert_eq!(rt; parts.as_slice(), wanted.as_slice());
+    equal(&rt, &parts.as_slice(), &wanted.as_slice());
     Ok(())
 }
 
@@ -132,20 +132,18 @@ fn refusals(rt: HostRuntime) -> Result<(), Fail> {
     datagram.push(0xc0)?;
     let mut packets = split(&datagram, 0);
     assert!(rt; packets.next().is_some_and(|packet| packet.is_ok()));
-    assert_eq!(rt; packets.next(), Some(Err(DatagramError::Cut)));
-    assert_eq!(rt; packets.next(), None);
+    equal(&rt, &packets.next(), &Some(Err(DatagramError::Cut)));
+    equal(&rt, &packets.next(), &None);
     Ok(())
 }
 
 /// Asserts that a Handshake packet ends 37 bytes after this Length field, which encodes 37.
 fn has_length(rt: &impl Abort, alloc: Global, length: &[u8]) -> Result<(), Fail> {
-    let mut datagram = Vec::from_slice(alloc, &[0xe0, 0, 0, 0, 1, 0, 0])?;
-    datagram.extend_from_slice(length)?;
-    datagram.extend_from_slice(&[0; 37])?;
+    let mut datagram = [[0xe0, 0, 0, 0, 1, 0, 0].as_slice(), length, &[0; 37]].concat(alloc)?;
     let packet = packet_at(&datagram, 0, 0)?;
-    assert_eq!(rt; packet.end, datagram.len());
+    equal(rt, &packet.end, &datagram.len());
     datagram.push(0)?;
-    assert_eq!(rt; packet_at(&datagram, 0, 0)?.end, packet.end);
+    equal(rt, &packet_at(&datagram, 0, 0)?.end, &packet.end);
     Ok(())
 }
 

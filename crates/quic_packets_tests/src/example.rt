@@ -1,6 +1,6 @@
 //! The example in README.md of `quic_packets`: one end of a connection sends a packet, and the other end receives it.
 
-use crate::checks::same;
+use crate::checks::{equal, same};
 use quic_packets::{Failures, PacketError, Receiver, Sender, Space, Suite, packet_at};
 use std::alloc::Global;
 use std::test::Fail;
@@ -49,6 +49,13 @@ fn one_packet(rt: HostRuntime) -> Result<(), Fail> {
     Ok(())
 }
 
+fn receive(
+    incoming: &mut Incoming,
+    packet: &mut [u8],
+) -> Result<std::ops::Range<usize>, PacketError> {
+    quic_connection::receive(incoming, packet)
+}
+
 /// Tests that `uses::quic_connection` sends a packet, receives it, and rejects it as a duplicate the second time.
 #[test]
 fn callers(rt: HostRuntime) -> Result<(), Fail> {
@@ -59,15 +66,16 @@ fn callers(rt: HostRuntime) -> Result<(), Fail> {
         failures: Failures::new(),
     };
     let mut packet = [7; 40];
-    assert_eq!(rt;
-        quic_connection::send(&mut sender, &mut packet, Some(6))?,
-        7
+    equal(
+        &rt,
+        &quic_connection::send(&mut sender, &mut packet, Some(6))?,
+        &7,
     );
     let mut again = packet;
-    let payload = quic_connection::receive(&mut incoming, &mut packet)?;
-    assert_eq!(rt; payload, 10..24);
+    let payload = receive(&mut incoming, &mut packet)?;
+    equal(&rt, &payload, &(10..24));
     same(&rt, &packet[10..24], &[7; 14], "the payload");
-    let outcome = quic_connection::receive(&mut incoming, &mut again);
-    assert_eq!(rt; outcome, Err(PacketError::Duplicate));
+    let outcome = receive(&mut incoming, &mut again);
+    equal(&rt, &outcome, &Err(PacketError::Duplicate));
     Ok(())
 }

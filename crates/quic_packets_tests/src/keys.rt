@@ -6,7 +6,7 @@ ghost use Rattle.aead_ciphers.specs.Packet.{PacketFits};
 ghost use Rattle.quic_packets.specs.Header.{HasSample};
 ghost use Rattle.quic_packets.specs.Packet.{CarriesNumber, HasNumber, IsNumber};
 
-use crate::checks::{holds, same};
+use crate::checks::{equal, holds, same};
 use aead_ciphers::aead::{AES_128_GCM, AES_256_GCM, quic};
 use aead_vectors::rfc_9001::{A_5_KEY, A_5_PROTECTED, A_5_SEALED, PACKETS, Packet};
 use quic_packets::{HeaderKey, PacketError, ReceiveKey, SendKey, laws};
@@ -15,13 +15,22 @@ use std::ops::Range;
 use std::process::Abort;
 use std::test::Fail;
 
+/// Appends zeros.
+fn pad(bytes: &mut Vec<u8>, count: usize) -> Result<(), AllocError> {
+    for _ in 0..count {
+        bytes.push(0)?;
+    }
+    Ok(())
+}
+
 /// Returns the header and the payload.
 fn plain(row: &Packet) -> Result<Vec<u8>, AllocError> {
     let mut packet = row.header.clone()?;
     packet.extend_from_slice(&row.frames)?;
-    for _ in row.frames.len()..row.payload_len {
-        packet.push(0)?;
-    }
+    pad(
+        &mut packet,
+        row.payload_len.saturating_sub(row.frames.len()),
+    )?;
     Ok(packet)
 }
 
@@ -31,28 +40,34 @@ fn sends(rt: &impl Abort, row: &Packet) -> Result<(), Fail> {
     let mut packet = plain(row)?;
     packet.extend_from_slice(&[0; 16])?;
     let number = key.seal(&mut packet, row.number_at..row.header.len())?;
-    assert_eq!(rt; number, row.number);
+    equal(rt, &number, &row.number);
     HeaderKey::new(&quic::AES_128, &row.header_key)?.protect(&mut packet, row.number_at)?;
     same(rt, &packet, &row.protected, row.name);
     Ok(())
 }
 
+/// Unprotects the header of a packet.
+fn unprotect(row: &Packet, packet: &mut [u8]) -> Result<usize, PacketError> {
+    HeaderKey::new(&quic::AES_128, &row.header_key)?.unprotect(packet, row.number_at)
+}
+
+/// Opens a packet whose header is unprotected.
+fn open(row: &Packet, packet: &mut [u8]) -> Result<usize, PacketError> {
+    ReceiveKey::new(&AES_128_GCM, &row.key, row.iv)?.open(packet, row.header.len(), row.number)
+}
+
 /// Asserts that unprotecting the header and opening yield the header and the payload.
 fn receives(rt: &impl Abort, row: &Packet) -> Result<(), Fail> {
-    let mut packet = row.protected.clone()?;
-    let number_len = HeaderKey::new(&quic::AES_128, &row.header_key)?.unprotect(
-        &mut packet,
-        row.number_at,
-    )?;
-    assert_eq!(rt;
-        row.number_at.checked_add(number_len),
-        Some(row.header.len())
-    );
-    let key = ReceiveKey::new(&AES_128_GCM, &row.key, row.iv)?;
-    let payload_len = key.open(&mut packet, row.header.len(), row.number)?;
-    assert_eq!(rt; payload_len, row.payload_len);
     let plain = plain(row)?;
-    assert!(rt; packet.starts_with(&plain), "{}", row.name);
+    let mut packet = row.protected.clone()?;
+    let number_len = unprotect(row, &mut packet)?;
+    equal(
+        rt,
+        &row.number_at.checked_add(number_len),
+        &Some(row.header.len()),
+    );
+    equal(rt, &open(row, &mut packet)?, &row.payload_len);
+    holds(rt, packet.starts_with(&plain), row.name);
     Ok(())
 }
 
@@ -106,8 +121,8 @@ fn comes_back(rt: &impl Abort, first: u8, header_len: usize) -> Result<(), Fail>
         &mut packet,
         9..header_len,
     )?;
-    assert_eq!(rt; payload_len.checked_add(header_len), Some(24));
-    assert_eq!(rt; packet[0], first);
+    equal(rt, &payload_len.checked_add(header_len), &Some(24));
+    equal(rt, &packet[0], &first);
     same(rt, &packet[1..24], &[7; 23], "came back");
     Ok(())
 }

@@ -1,5 +1,6 @@
 //! Tests of `quic_packets::numbers`: the examples of RFC 9000 appendices A.2 and A.3, and the limits of lengths and windows.
 
+use crate::checks::equal;
 use quic_packets::numbers::{decode, number_len, truncated};
 
 /// The largest packet number.
@@ -29,29 +30,29 @@ const LENGTHS: [(u64, Option<u64>, Option<usize>); 16] = [
 #[test]
 fn lengths(rt: HostRuntime) {
     for (number, largest_acknowledged, len) in LENGTHS {
-        assert_eq!(rt; number_len(number, largest_acknowledged), len, "{number}");
+        equal(&rt, &number_len(number, largest_acknowledged), &len);
     }
 }
 
 // The example of RFC 9000 appendix A.3, then both ends of a one-byte window and of the range of packet numbers.
 #[test]
 fn decoded(rt: HostRuntime) {
-    assert_eq!(rt; decode(Some(0xa82f_30ea), 0x9b32, 2), 0xa82f_9b32);
-    assert_eq!(rt; decode(Some(0x01ff), 0x80, 1), 0x0280);
-    assert_eq!(rt; decode(Some(0x01ff), 0x81, 1), 0x0181);
-    assert_eq!(rt; decode(None, 0, 1), 0);
-    assert_eq!(rt; decode(None, 0xff, 1), 0xff);
-    assert_eq!(rt; decode(Some(0), 0x8000_0001, 4), 0x8000_0001);
-    assert_eq!(rt; decode(Some(LAST - 1), 0xff, 1), LAST);
-    assert_eq!(rt; decode(Some(LAST), 0, 1), LAST - 0xff);
-    assert_eq!(rt; decode(Some(LAST), 0xff_ffff, 3), LAST);
+    equal(&rt, &decode(Some(0xa82f_30ea), 0x9b32, 2), &0xa82f_9b32);
+    equal(&rt, &decode(Some(0x01ff), 0x80, 1), &0x0280);
+    equal(&rt, &decode(Some(0x01ff), 0x81, 1), &0x0181);
+    equal(&rt, &decode(None, 0, 1), &0);
+    equal(&rt, &decode(None, 0xff, 1), &0xff);
+    equal(&rt, &decode(Some(0), 0x8000_0001, 4), &0x8000_0001);
+    equal(&rt, &decode(Some(LAST - 1), 0xff, 1), &LAST);
+    equal(&rt, &decode(Some(LAST), 0, 1), &(LAST - 0xff));
+    equal(&rt, &decode(Some(LAST), 0xff_ffff, 3), &LAST);
 }
 
 #[test]
 fn truncated_numbers(rt: HostRuntime) {
     let packet = [0x43, 0x12, 0x34, 0x56, 0x78];
-    assert_eq!(rt; truncated(&packet, 1, 1), 0x12);
-    assert_eq!(rt; truncated(&packet, 1, 2), 0x1234);
-    assert_eq!(rt; truncated(&packet, 1, 3), 0x0012_3456);
-    assert_eq!(rt; truncated(&packet, 1, 4), 0x1234_5678);
+    equal(&rt, &truncated(&packet, 1, 1), &0x12);
+    equal(&rt, &truncated(&packet, 1, 2), &0x1234);
+    equal(&rt, &truncated(&packet, 1, 3), &0x0012_3456);
+    equal(&rt, &truncated(&packet, 1, 4), &0x1234_5678);
 }

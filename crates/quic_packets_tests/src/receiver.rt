@@ -1,8 +1,8 @@
 //! Tests of `Receiver`, `Space` and `Failures`: packets of RFC 9001 appendix A, flipped bits, duplicates, key updates and
 //! limits.
 
-use crate::checks::{holds, same};
-use crate::rows::{HEADER_KEY as ROW_HEADER_KEY, IV as ROW_IV, KEY, ROWS, Row};
+use crate::checks::{equal, holds, same};
+use crate::rows::{IV as ROW_IV, ROWS, Row};
 use aead_ciphers::aead::{AES_128_GCM, quic};
 use aead_vectors::rfc_9001::{PACKETS, Packet};
 use quic_packets::{Failures, HeaderKey, PacketError, Received, Receiver, SendKey, Space, Suite};
@@ -81,10 +81,10 @@ impl End {
     fn meets(&mut self, rt: &impl Abort, event: Event) -> Result<(), PacketError> {
         match event {
             Accepted(key, first, number) => {
-                assert_eq!(rt; self.takes(key, first, number), Ok(u64::from(number)));
+                equal(rt, &self.takes(key, first, number), &Ok(u64::from(number)));
             }
             Rejected(key, first, number, error) => {
-                assert_eq!(rt; self.takes(key, first, number), Err(error));
+                equal(rt, &self.takes(key, first, number), &Err(error));
             }
             NextKey(key) => self.receiver.set_next(&[key; 16], IV)?,
             ForgetPrevious => self.receiver.forget_previous(),
@@ -100,7 +100,7 @@ fn happen(rt: &impl Abort, limit: u64, events: &[Event], failures: u64) -> Resul
     for &event in events {
         end.meets(rt, event)?;
     }
-    assert_eq!(rt; end.failures.count(), failures);
+    equal(rt, &end.failures.count(), &failures);
     Ok(())
 }
 
@@ -129,11 +129,9 @@ fn appendix_a(rt: HostRuntime) -> Result<(), Fail> {
 }
 
 /// Creates the end that receives a row's packet, in either key phase.
-fn row_end(rt: &impl Abort, row: &Row) -> Result<End, PacketError> {
-    assert!(rt; row.key_len <= 32);
-    let (key, header_key) = (&KEY[..row.key_len], &ROW_HEADER_KEY[..row.key_len]);
-    let mut receiver = Receiver::new(row.suite, key, ROW_IV, header_key)?;
-    receiver.set_next(key, ROW_IV)?;
+fn row_end(row: &Row) -> Result<End, PacketError> {
+    let mut receiver = Receiver::new(row.suite, row.key(), ROW_IV, row.header_key())?;
+    receiver.set_next(row.key(), ROW_IV)?;
     Ok(End::new(receiver, 10_000))
 }
 
@@ -156,15 +154,19 @@ fn rejects(rt: &impl Abort, end: &mut End, row: &Row, packet: &mut Vec<u8>) -> R
 
 /// Asserts that the row's packet is rejected and counted if any one bit is flipped, and received if none is.
 fn refuses_flipped(rt: &impl Abort, alloc: Global, row: &Row) -> Result<(), Fail> {
-    let mut end = row_end(rt, row)?;
     let mut packet = hex::decode(alloc, row.protected)?;
+    let mut end = row_end(row)?;
     let bits = packet.len().saturating_mul(8);
     for bit in 0..bits {
         rejects(rt, &mut end, row, &mut flipped(rt, alloc, &packet, bit)?)?;
     }
-    assert_eq!(rt; end.failures.count(), bits as u64);
+    equal(rt, &end.failures.count(), &(bits as u64));
     let received = end.receive(&mut packet, row.number_at)?;
-    assert_eq!(rt; (received.number, received.phase), (row.number, row.phase));
+    equal(
+        rt,
+        &(received.number, received.phase),
+        &(row.number, row.phase),
+    );
     Ok(())
 }
 
@@ -249,7 +251,7 @@ fn events(rt: HostRuntime) -> Result<(), Fail> {
 fn reserved_bits(rt: HostRuntime) -> Result<(), Fail> {
     let mut packet = sent(1, FIRST | 0x08, 3)?;
     let outcome = End::new(receiver(1)?, 1).receive(&mut packet, 9);
-    assert_eq!(rt; outcome, Err(PacketError::ReservedBits));
+    equal(&rt, &outcome, &Err(PacketError::ReservedBits));
     same(&rt, &packet[11..24], &[7; 13], "opened");
     Ok(())
 }
@@ -283,6 +285,6 @@ fn too_short(rt: HostRuntime) -> Result<(), Fail> {
 fn key_lengths(rt: HostRuntime) -> Result<(), Fail> {
     assert!(rt; Receiver::new(Suite::Aes256Gcm, &[1; 16], IV, &[1; 32]).is_err());
     let outcome = receiver(1)?.set_next(&[1; 32], IV);
-    assert_eq!(rt; outcome, Err(PacketError::KeyLength));
+    equal(&rt, &outcome, &Err(PacketError::KeyLength));
     Ok(())
 }

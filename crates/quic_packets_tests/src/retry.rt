@@ -1,5 +1,6 @@
 //! Tests of `retry_tag` and `is_genuine_retry`: the packet of RFC 9001 appendix A.4, and modified packets.
 
+use crate::checks::equal;
 use quic_packets::{is_genuine_retry, retry_tag};
 use std::process::Abort;
 use std::test::Fail;
@@ -16,14 +17,14 @@ pub(crate) const A_4_RETRY: [u8; 36] = [
 
 /// Asserts that a Retry packet is genuine if and only if `wanted`.
 fn is_genuine(rt: &impl Abort, original_id: &[u8], packet: &[u8], wanted: bool) {
-    assert_eq!(rt; is_genuine_retry(original_id, packet), wanted);
+    equal(rt, &is_genuine_retry(original_id, packet), &wanted);
 }
 
 #[test]
 fn retry(rt: HostRuntime) -> Result<(), Fail> {
     let mut packet = A_4_RETRY;
     let (retry, tag) = packet.split_at(20);
-    assert_eq!(rt; retry_tag(&A_4_ID, retry)?.as_ref(), tag);
+    equal(&rt, &retry_tag(&A_4_ID, retry)?.as_ref(), &tag);
     is_genuine(&rt, &A_4_ID, &packet, true);
     is_genuine(&rt, &A_4_ID[1..], &packet, false);
     is_genuine(&rt, &[0; 21], &packet, false);

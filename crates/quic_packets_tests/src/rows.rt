@@ -35,6 +35,17 @@ pub(crate) struct Row {
     pub(crate) protected: &'static str,
 }
 
+impl Row {
+    /// Returns the prefix of `KEY` that is the key of the row's suite.
+    pub(crate) fn key(&self) -> &'static [u8] {
+        KEY.get(..self.key_len).unwrap_or(&KEY)
+    }
+
+    pub(crate) fn header_key(&self) -> &'static [u8] {
+        HEADER_KEY.get(..self.key_len).unwrap_or(&HEADER_KEY)
+    }
+}
+
 pub(crate) const ROWS: [Row; 6] = [
     Row {
         name: "initial",

@@ -1,6 +1,6 @@
 //! Tests of `quic_packets::Sender`: packets of another implementation, each error, skipped numbers, limits and key updates.
 
-use crate::checks::{holds, same};
+use crate::checks::{equal, holds, same};
 use crate::rows::{HEADER_KEY, IV, KEY, ROWS, Row};
 use quic_packets::{HeaderKey, PacketError, ReceiveKey, Sender, Suite};
 use std::alloc::Global;
@@ -21,26 +21,33 @@ fn before(rt: &impl Abort, alloc: Global, row: &Row) -> Result<Vec<u8>, Fail> {
     Ok(packet)
 }
 
-/// Asserts that `send` yields the row's packet, which is from the other implementation.
-fn sends(rt: &impl Abort, alloc: Global, row: &Row) -> Result<(), Fail> {
-    assert!(rt; row.key_len <= 32);
-    let key = &KEY[..row.key_len];
-    let mut sender = Sender::new(row.suite, key, IV, &HEADER_KEY[..row.key_len], row.number)?;
+/// Creates the sender of the row's packet.
+fn sender_of(row: &Row) -> Result<Sender, PacketError> {
+    let mut sender = Sender::new(row.suite, row.key(), IV, row.header_key(), row.number)?;
     if row.phase {
-        sender.follow_update(key, IV)?;
+        sender.follow_update(row.key(), IV)?;
     }
-    let mut packet = before(rt, alloc, row)?;
+    Ok(sender)
+}
+
+/// Sends the row's packet, and returns its number.
+fn send(sender: &mut Sender, packet: &mut [u8], row: &Row) -> Result<u64, PacketError> {
     let len = sender
         .next_number_len(row.acknowledged)
         .ok_or(PacketError::NumberTooFar)?;
-    assert!(rt; row.number_at < 100 && len <= 4);
-    let end = row.number_at + len;
-    assert_eq!(rt;
-        sender.send(&mut packet, row.number_at..end, row.acknowledged)?,
-        row.number
-    );
-    assert_eq!(rt; sender.sealed(), 1);
-    same(rt, &packet, &hex::decode(alloc, row.protected)?, row.name);
+    let end = row.number_at.saturating_add(len);
+    sender.send(packet, row.number_at..end, row.acknowledged)
+}
+
+/// Asserts that `send` yields the row's packet, which is from the other implementation.
+fn sends(rt: &impl Abort, alloc: Global, row: &Row) -> Result<(), Fail> {
+    let wanted = hex::decode(alloc, row.protected)?;
+    let mut packet = before(rt, alloc, row)?;
+    let mut sender = sender_of(row)?;
+    let number = send(&mut sender, &mut packet, row)?;
+    equal(rt, &number, &row.number);
+    equal(rt, &sender.sealed(), &1);
+    same(rt, &packet, &wanted, row.name);
     Ok(())
 }
 
@@ -163,11 +170,11 @@ fn opens(
     phase: bool,
 ) -> Result<(), PacketError> {
     let header_key = HeaderKey::new(Suite::Aes128Gcm.header_algorithm(), &HEADER_KEY[..16])?;
-    assert_eq!(rt; header_key.unprotect(&mut packet, 1), Ok(1));
+    equal(rt, &header_key.unprotect(&mut packet, 1), &Ok(1));
     let header = [if phase { 0x44 } else { 0x40 }, number.to_le_bytes()[0]];
     same(rt, &packet[..2], &header, "header");
     let key = ReceiveKey::new(Suite::Aes128Gcm.algorithm(), &[key; 16], IV)?;
-    assert_eq!(rt; key.open(&mut packet, 2, number), Ok(6));
+    equal(rt, &key.open(&mut packet, 2, number), &Ok(6));
     same(rt, &packet[2..8], &SHORT[2..8], "payload");
     Ok(())
 }
@@ -190,15 +197,17 @@ fn meets(rt: &impl Abort, sender: &mut Sender, event: Event) -> Result<(), Packe
         Confirmed => sender.confirm_handshake(),
         Acknowledged(number) => sender.acknowledged(number),
         Initiated(key, len, outcome) => {
-            assert_eq!(rt;
-                sender.initiate_update(&[key; 32][..len.min(32)], IV),
-                outcome
+            equal(
+                rt,
+                &sender.initiate_update(&[key; 32][..len.min(32)], IV),
+                &outcome,
             );
         }
         Followed(key, len, outcome) => {
-            assert_eq!(rt;
-                sender.follow_update(&[key; 32][..len.min(32)], IV),
-                outcome
+            equal(
+                rt,
+                &sender.follow_update(&[key; 32][..len.min(32)], IV),
+                &outcome,
             );
         }
     }

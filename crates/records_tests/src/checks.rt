@@ -1,12 +1,17 @@
 //! Assertions for tests. They have no contract clauses, so a caller's proof learns nothing about the bytes and stays short.
 
 use std::alloc::AllocError;
-use std::fmt::Display;
+use std::fmt::{Debug, Display};
 use std::process::Abort;
 
 /// Asserts that two byte slices are equal.
 pub(crate) fn same(rt: &impl Abort, found: &[u8], wanted: &[u8], what: &str) {
     assert_eq!(rt; found, wanted, "{what}");
+}
+
+/// Asserts that two values are equal.
+pub(crate) fn equal<T: Debug + PartialEq>(rt: &impl Abort, found: &T, wanted: &T) {
+    assert_eq!(rt; found, wanted);
 }
 
 /// Asserts that a condition is true.

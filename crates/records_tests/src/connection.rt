@@ -1,7 +1,7 @@
 //! Tests with TLS 1.3 connections of OpenSSL, whose records are read and written again.
 
 use crate::captured::CAPTURED;
-use crate::checks::{holds, same};
+use crate::checks::{equal, holds, same};
 use aead_ciphers::aead::{AES_128_GCM, AES_256_GCM, Algorithm};
 use hex::FromHex;
 use records::{Begins, ContentType, Reader, RecordKind, Writer, classify};
@@ -120,7 +120,7 @@ fn there_and_back(rt: &impl Abort, alloc: Global, direction: &Direction) -> Resu
         }
         ends = Some((reader, writer));
     }
-    assert_eq!(rt; at, stream.len());
+    equal(rt, &at, &stream.len());
     Ok(())
 }
 

@@ -1,7 +1,7 @@
 //! Tests with records of Python's `cryptography`, which are written and read, and with records that are
 //! rejected.
 
-use crate::checks::{displays, holds, same};
+use crate::checks::{displays, equal, holds, same};
 use aead_ciphers::aead::{AES_128_GCM, AES_256_GCM, Algorithm};
 use hex::FromHex;
 use records::ContentType::{Alert, ApplicationData, Handshake};
@@ -77,6 +77,19 @@ fn inner_plaintext(alloc: Global, case: &Case) -> Result<Vec<u8>, Fail> {
     Ok(inner)
 }
 
+/// Writes a record.
+fn write(
+    alloc: Global,
+    writer: &mut Writer,
+    content_type: ContentType,
+    content: &[u8],
+    padding: usize,
+) -> Result<Vec<u8>, RecordError> {
+    let mut record = Vec::new(alloc);
+    writer.write(content_type, content, padding, &mut record)?;
+    Ok(record)
+}
+
 /// Writes the record of a case, and asserts its bytes.
 fn written(
     rt: &impl Abort,
@@ -84,9 +97,9 @@ fn written(
     writer: &mut Writer,
     case: &Case,
 ) -> Result<Vec<u8>, Fail> {
-    let mut record = Vec::new(alloc);
-    writer.write(case.content_type, case.content, case.padding, &mut record)?;
-    same(rt, &record, &hex::decode(alloc, case.record)?, "the record");
+    let wanted = hex::decode(alloc, case.record)?;
+    let record = write(alloc, writer, case.content_type, case.content, case.padding)?;
+    same(rt, &record, &wanted, "the record");
     Ok(record)
 }
 
@@ -106,8 +119,8 @@ fn is_read(
 /// Asserts that the first bytes are these, and that those after them are unchanged.
 fn begins_with(rt: &impl Abort, bytes: &[u8], front: &[u8], before: &[u8]) {
     holds(rt, bytes.starts_with(front), "the front");
-    let is_unchanged = bytes.get(front.len()..) == before.get(front.len()..);
-    holds(rt, is_unchanged, "the bytes after the front");
+    let rest = before.get(front.len()..).unwrap_or(before);
+    holds(rt, bytes.ends_with(rest), "the bytes after the front");
 }
 
 /// Asserts that the records of a run are written, and read again. Once the borrow of a content ends, the
@@ -137,17 +150,22 @@ fn records_of_another_implementation(rt: HostRuntime) -> Result<(), Fail> {
     there_and_back(&rt, rt.alloc(), &AES_256_GCM, &KEY, [255; 12], &OF_AES_256)
 }
 
+fn appends(
+    writer: &mut Writer,
+    content: &[u8],
+    padding: usize,
+    bytes: &mut Vec<u8>,
+) -> Result<(), RecordError> {
+    writer.write(ApplicationData, content, padding, bytes)
+}
+
 /// Returns three records, followed by five bytes.
 fn three_records(alloc: Global) -> Result<Vec<u8>, Fail> {
     let mut writer = Writer::new(&AES_128_GCM, &KEY[..16], IV)?;
     let mut bytes = Vec::new(alloc);
-    for (content, padding) in [
-        (b"to".as_slice(), 0),
-        (b"get".as_slice(), 5),
-        (b"her".as_slice(), 1),
-    ] {
-        writer.write(ApplicationData, content, padding, &mut bytes)?;
-    }
+    appends(&mut writer, b"to", 0, &mut bytes)?;
+    appends(&mut writer, b"get", 5, &mut bytes)?;
+    appends(&mut writer, b"her", 1, &mut bytes)?;
     bytes.extend_from_slice(b"later")?;
     Ok(bytes)
 }
@@ -162,13 +180,14 @@ fn gathered_in_one_buffer(rt: HostRuntime) -> Result<(), Fail> {
     for (filled, at, end) in [(0, 0, 24), (2, 24, 54), (5, 54, 80)] {
         assert!(rt; filled <= at && at <= end && end <= bytes.len());
         let (content_type, len) = reader.gather(bytes.as_mut_slice(), filled, at, end)?;
-        assert_eq!(rt;
-            (content_type, len),
-            (ApplicationData, if at == 0 { 2 } else { 3 })
+        equal(
+            &rt,
+            &(content_type, len),
+            &(ApplicationData, if at == 0 { 2 } else { 3 }),
         );
     }
-    assert_eq!(rt; bytes.get(..8), Some(b"together".as_slice()));
-    assert_eq!(rt; bytes.get(80..), Some(b"later".as_slice()));
+    equal(&rt, &bytes.get(..8), &Some(b"together".as_slice()));
+    equal(&rt, &bytes.get(80..), &Some(b"later".as_slice()));
     Ok(())
 }
 
@@ -195,17 +214,21 @@ fn is_closed(rt: &impl Abort, reader: &mut Reader, record: &mut [u8]) {
     holds(rt, reader.set_size_limit(64) == Err(closed), "a size limit");
 }
 
-/// Asserts that a new reader rejects these bytes with this error, and that they are unchanged. If the error has
+/// Asserts that a new reader rejects these bytes with this error, and that they stay as `before`. If the error has
 /// an alert, asserts that the reader is closed.
-fn rejects(rt: &impl Abort, bytes: &mut Vec<u8>, error: RecordError) -> Result<(), Fail> {
+fn rejects(
+    rt: &impl Abort,
+    bytes: &mut [u8],
+    before: &[u8],
+    error: RecordError,
+) -> Result<(), RecordError> {
     let mut reader = Reader::new(&AES_128_GCM, &KEY[..16], IV)?;
-    let before = bytes.clone()?;
-    let found = reader.read(bytes.as_mut_slice()).err();
+    let found = reader.read(bytes).err();
     holds(rt, found == Some(error), "the error");
-    same(rt, bytes, &before, "the bytes stay");
+    same(rt, bytes, before, "the bytes stay");
     holds(rt, reader.is_closed() == error.alert().is_some(), "closed");
     if reader.is_closed() {
-        is_closed(rt, &mut reader, bytes.as_mut_slice());
+        is_closed(rt, &mut reader, bytes);
     }
     Ok(())
 }
@@ -250,7 +273,8 @@ const REFUSED: [(&str, RecordError); 11] = [
 #[test]
 fn no_record(rt: HostRuntime) -> Result<(), Fail> {
     for (text, error) in REFUSED {
-        rejects(&rt, &mut hex::decode(rt.alloc(), text)?, error)?;
+        let bytes = hex::decode(rt.alloc(), text)?;
+        rejects(&rt, &mut bytes.clone()?, &bytes, error)?;
     }
     Ok(())
 }
@@ -349,7 +373,7 @@ fn no_such_content(rt: HostRuntime) -> Result<(), Fail> {
         holds(&rt, refused == Err(expected), "the error");
         holds(&rt, record.is_empty(), "no record");
     }
-    assert_eq!(rt; writer.number(), 0);
+    equal(&rt, &writer.number(), &0);
     Ok(())
 }
 
@@ -391,10 +415,7 @@ impl Ends {
         let Ok(content) = Vec::from_elem(alloc, 7, len) else {
             return Err(RecordError::OutOfMemory);
         };
-        let mut record = Vec::new(alloc);
-        self.writer
-            .write(ApplicationData, &content, padding, &mut record)?;
-        Ok(record)
+        write(alloc, &mut self.writer, ApplicationData, &content, padding)
     }
 
     /// Reads a record, and returns whether its content is `len` sevens.
@@ -427,9 +448,10 @@ impl Ends {
             }
             Updated => self.update()?,
             Remaining(count) => {
-                assert_eq!(rt;
-                    (self.writer.remaining(), self.reader.remaining()),
-                    (count, count)
+                equal(
+                    rt,
+                    &(self.writer.remaining(), self.reader.remaining()),
+                    &(count, count),
                 );
             }
         }
@@ -490,10 +512,11 @@ fn size_limits(rt: HostRuntime) -> Result<(), Fail> {
     let mut key = RecordKey::new(&AES_128_GCM, &KEY[..16], IV)?;
     for (size_limit, is_allowed) in [(63, false), (64, true), (16385, true), (16386, false)] {
         let before = key.size_limit();
-        assert_eq!(rt; key.set_size_limit(size_limit).is_ok(), is_allowed);
-        assert_eq!(rt;
-            key.size_limit(),
-            if is_allowed { size_limit } else { before }
+        equal(&rt, &key.set_size_limit(size_limit).is_ok(), &is_allowed);
+        equal(
+            &rt,
+            &key.size_limit(),
+            &if is_allowed { size_limit } else { before },
         );
     }
     Ok(())
@@ -503,11 +526,16 @@ fn size_limits(rt: HostRuntime) -> Result<(), Fail> {
 fn limits_where_none_is_set(rt: HostRuntime) -> Result<(), Fail> {
     let writer = Writer::new(&AES_128_GCM, &KEY[..16], IV)?;
     let reader = Reader::new(&AES_128_GCM, &KEY[..16], IV)?;
-    assert_eq!(rt;
-        (writer.remaining(), reader.remaining()),
-        (1 << 24, 1 << 24)
+    equal(
+        &rt,
+        &(writer.remaining(), reader.remaining()),
+        &(1 << 24, 1 << 24),
     );
-    assert_eq!(rt; (writer.size_limit(), reader.size_limit()), (16385, 16385));
+    equal(
+        &rt,
+        &(writer.size_limit(), reader.size_limit()),
+        &(16385, 16385),
+    );
     Ok(())
 }
 
@@ -536,15 +564,20 @@ fn sealed_in_place(rt: HostRuntime) -> Result<(), Fail> {
 /// The record that `tools/read-records make` printed for number 2^64 - 1.
 const LAST: &str = "17030300151ebc8ad8e3b12c91d4263ea37368226008651065e6";
 
+/// Seals a content of four bytes under the last number.
+fn seal_last(key: &RecordKey, record: &mut [u8]) -> Result<usize, RecordError> {
+    key.seal_at(u64::MAX, ApplicationData, record, 4, 0)
+}
+
 /// A record is sealed under the last number, in a slice with bytes after it.
 #[test]
 fn sealed_by_number(rt: HostRuntime) -> Result<(), Fail> {
     let key = RecordKey::new(&AES_128_GCM, &KEY[..16], IV)?;
     let mut record = [9; 28];
     record[5..9].copy_from_slice(b"last");
-    let no_room = key.seal_at(u64::MAX, ApplicationData, &mut record[..25], 4, 0);
+    let no_room = seal_last(&key, &mut record[..25]);
     holds(&rt, no_room == Err(RecordError::NoRoom), "no room");
-    let sealed = key.seal_at(u64::MAX, ApplicationData, &mut record, 4, 0);
+    let sealed = seal_last(&key, &mut record);
     holds(&rt, sealed == Ok(26), "the length");
     let wanted = <[u8; 26]>::from_hex(LAST)?;
     holds(&rt, record.starts_with(&wanted), "the record");
@@ -557,7 +590,7 @@ fn opened_by_number(rt: HostRuntime) -> Result<(), Fail> {
     let key = RecordKey::new(&AES_128_GCM, &KEY[..16], IV)?;
     let mut record = <[u8; 26]>::from_hex(LAST)?;
     assert!(rt; key.open_at(u64::MAX, &mut record) == Ok((ApplicationData, 4)));
-    assert_eq!(rt; record.get(5..9), Some(b"last".as_slice()));
+    equal(&rt, &record.get(5..9), &Some(b"last".as_slice()));
     Ok(())
 }
 
@@ -566,8 +599,8 @@ fn opened_by_number(rt: HostRuntime) -> Result<(), Fail> {
 fn starting_at(rt: HostRuntime) -> Result<(), Fail> {
     let mut reader = Reader::new(&AES_128_GCM, &KEY[..16], IV)?.starting_at(2);
     let mut third = hex::decode(rt.alloc(), OF_AES_128[2].record)?;
-    assert!(rt; reader.read(third.as_mut_slice())?.1 == OF_AES_128[2].content);
-    assert_eq!(rt; reader.number(), 3);
+    is_read(&rt, &mut reader, &OF_AES_128[2], &mut third)?;
+    equal(&rt, &reader.number(), &3);
     Ok(())
 }
 

@@ -1,5 +1,6 @@
 //! Tests of `classify`, and of the example in the README with two keys.
 
+use crate::checks::equal;
 use crate::example::receive;
 use aead_ciphers::aead::AES_128_GCM;
 use records::{Begins, ContentType, Reader, RecordError, RecordKind, Writer, classify};
@@ -74,11 +75,18 @@ fn two_epochs_in_one_buffer(rt: HostRuntime) -> Result<(), Fail> {
     let mut reader = Reader::new(&AES_128_GCM, &[1; 16], IV)?;
     let mut bytes = two_epochs(rt.alloc())?;
     let (filled, taken) = receive(&mut reader, bytes.as_mut_slice(), &[2; 16], NEXT_IV)?;
-    assert_eq!(rt; filled, 8);
-    assert_eq!(rt; Some(taken), bytes.len().checked_sub(4));
-    assert_eq!(rt; bytes.get(..8), Some(b"together".as_slice()));
-    assert_eq!(rt; reader.number(), 1);
+    equal(&rt, &filled, &8);
+    equal(&rt, &Some(taken), &bytes.len().checked_sub(4));
+    equal(&rt, &bytes.get(..8), &Some(b"together".as_slice()));
+    equal(&rt, &reader.number(), &1);
     Ok(())
+}
+
+fn received(
+    reader: &mut Reader,
+    bytes: &mut [u8],
+) -> Result<(usize, Option<(ContentType, usize)>), RecordError> {
+    record_stream::receive(reader, bytes)
 }
 
 /// Tests that `uses::record_stream` sends data, drops a ChangeCipherSpec, and receives the data.
@@ -88,10 +96,10 @@ fn sends_and_receives(rt: HostRuntime) -> Result<(), Fail> {
     let mut reader = Reader::new(&AES_128_GCM, &[1; 16], IV)?;
     let mut bytes = Vec::from_slice(rt.alloc(), &[20, 3, 3, 0, 1, 1])?;
     record_stream::send(&mut writer, b"hello", &mut bytes)?;
-    assert!(rt; record_stream::receive(&mut reader, bytes.as_mut_slice()) == Ok((6, None)));
+    equal(&rt, &received(&mut reader, &mut bytes), &Ok((6, None)));
     let mut rest = bytes.get(6..).unwrap_or(&[]).to_vec(rt.alloc())?;
-    let received = record_stream::receive(&mut reader, rest.as_mut_slice());
-    assert!(rt; received == Ok((27, Some((ContentType::ApplicationData, 5)))));
-    assert_eq!(rt; rest.get(..5), Some(b"hello".as_slice()));
+    let data = Some((ContentType::ApplicationData, 5));
+    equal(&rt, &received(&mut reader, &mut rest), &Ok((27, data)));
+    equal(&rt, &rest.get(..5), &Some(b"hello".as_slice()));
     Ok(())
 }
