@@ -28,7 +28,8 @@ fn rfc_8439_2_3_2_block()
 
 /// XORs `bytes` with the keystream of a case.
 fn xors(case: &Case, bytes: &mut [u8]) -> Result<(), Fail> {
-    if case.counter > 1000 || bytes.len() > 1000 {
+    let blocks_left = (1 << 32) - case.counter as usize;
+    if bytes.len().div_ceil(BLOCK_LEN) > blocks_left {
         return Err("a plaintext's length".into());
     }
     let nonce = Nonce::assume_unique_for_key(case.nonce);
@@ -87,13 +88,6 @@ fn rfc_8439_a_1_vector_1(rt: HostRuntime) -> Result<(), Fail> {
         Overlapping::from(&mut buffer[..]),
     );
     same(&rt, &buffer, &wanted, "the block");
-    Ok(())
-}
-
-#[test]
-fn rfc_8439_a_1_vector_1_as_block_0(rt: HostRuntime) -> Result<(), Fail> {
-    let wanted = block_of_zeros(rt.alloc())?;
-    let key = Key::new([0; KEY_LEN]);
     let mut block = [0; 16];
     let one = key.encrypt_single_block_with_ctr_0(zeros(), &mut block);
     same(&rt, &block, &wanted[..16], "block 0");

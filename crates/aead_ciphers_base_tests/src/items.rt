@@ -11,6 +11,6 @@ pub(crate) struct Item(pub(crate) u8);
 pub(crate) fn hold(rt: &impl Abort, items: &[Item], bytes: &[u8]) {
     holds(rt, items.len() == bytes.len(), "the number of items");
     for (item, byte) in items.iter().zip(bytes) {
-        holds(rt, item.0 == *byte, "an item");
+        assert_eq!(rt; item.0, *byte);
     }
 }

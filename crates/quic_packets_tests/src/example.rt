@@ -49,13 +49,6 @@ fn one_packet(rt: HostRuntime) -> Result<(), Fail> {
     Ok(())
 }
 
-fn receive(
-    incoming: &mut Incoming,
-    packet: &mut [u8],
-) -> Result<std::ops::Range<usize>, PacketError> {
-    quic_connection::receive(incoming, packet)
-}
-
 /// Tests that `uses::quic_connection` sends a packet, receives it, and rejects it as a duplicate the second time.
 #[test]
 fn callers(rt: HostRuntime) -> Result<(), Fail> {
@@ -72,10 +65,10 @@ fn callers(rt: HostRuntime) -> Result<(), Fail> {
         &7,
     );
     let mut again = packet;
-    let payload = receive(&mut incoming, &mut packet)?;
+    let payload = quic_connection::receive(&mut incoming, &mut packet)?;
     equal(&rt, &payload, &(10..24));
     same(&rt, &packet[10..24], &[7; 14], "the payload");
-    let outcome = receive(&mut incoming, &mut again);
+    let outcome = quic_connection::receive(&mut incoming, &mut again);
     equal(&rt, &outcome, &Err(PacketError::Duplicate));
     Ok(())
 }

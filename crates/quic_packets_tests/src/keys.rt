@@ -15,22 +15,13 @@ use std::ops::Range;
 use std::process::Abort;
 use std::test::Fail;
 
-/// Appends zeros.
-fn pad(bytes: &mut Vec<u8>, count: usize) -> Result<(), AllocError> {
-    for _ in 0..count {
-        bytes.push(0)?;
-    }
-    Ok(())
-}
-
 /// Returns the header and the payload.
 fn plain(row: &Packet) -> Result<Vec<u8>, AllocError> {
     let mut packet = row.header.clone()?;
     packet.extend_from_slice(&row.frames)?;
-    pad(
-        &mut packet,
-        row.payload_len.saturating_sub(row.frames.len()),
-    )?;
+    for _ in row.frames.len()..row.payload_len {
+        packet.push(0)?;
+    }
     Ok(packet)
 }
 

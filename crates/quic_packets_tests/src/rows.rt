@@ -21,8 +21,6 @@ pub(crate) const HEADER_KEY: [u8; 32] = [
 pub(crate) struct Row {
     pub(crate) name: &'static str,
     pub(crate) suite: Suite,
-    /// The length of each key.
-    pub(crate) key_len: usize,
     /// The length of the header before the packet number.
     pub(crate) number_at: usize,
     pub(crate) number: u64,
@@ -36,13 +34,20 @@ pub(crate) struct Row {
 }
 
 impl Row {
-    /// Returns the prefix of `KEY` that is the key of the row's suite.
+    /// Returns the key of the suite's length.
     pub(crate) fn key(&self) -> &'static [u8] {
-        KEY.get(..self.key_len).unwrap_or(&KEY)
+        match self.suite {
+            Suite::Aes128Gcm => &KEY[..16],
+            Suite::Aes256Gcm => &KEY,
+        }
     }
 
+    /// Returns the header protection key of the suite's length.
     pub(crate) fn header_key(&self) -> &'static [u8] {
-        HEADER_KEY.get(..self.key_len).unwrap_or(&HEADER_KEY)
+        match self.suite {
+            Suite::Aes128Gcm => &HEADER_KEY[..16],
+            Suite::Aes256Gcm => &HEADER_KEY,
+        }
     }
 }
 
@@ -50,7 +55,6 @@ pub(crate) const ROWS: [Row; 6] = [
     Row {
         name: "initial",
         suite: Suite::Aes128Gcm,
-        key_len: 16,
         number_at: 18,
         number: 0,
         acknowledged: None,
@@ -62,7 +66,6 @@ pub(crate) const ROWS: [Row; 6] = [
     Row {
         name: "handshake",
         suite: Suite::Aes256Gcm,
-        key_len: 32,
         number_at: 15,
         number: 300,
         acknowledged: None,
@@ -74,7 +77,6 @@ pub(crate) const ROWS: [Row; 6] = [
     Row {
         name: "one byte",
         suite: Suite::Aes128Gcm,
-        key_len: 16,
         number_at: 9,
         number: 0x7e,
         acknowledged: None,
@@ -86,7 +88,6 @@ pub(crate) const ROWS: [Row; 6] = [
     Row {
         name: "two bytes",
         suite: Suite::Aes256Gcm,
-        key_len: 32,
         number_at: 9,
         number: 0x00ac_5c02,
         acknowledged: Some(0x00ab_e8b3),
@@ -98,7 +99,6 @@ pub(crate) const ROWS: [Row; 6] = [
     Row {
         name: "three bytes",
         suite: Suite::Aes256Gcm,
-        key_len: 32,
         number_at: 9,
         number: 0x00ac_e8fe,
         acknowledged: Some(0x00ab_e8b3),
@@ -110,7 +110,6 @@ pub(crate) const ROWS: [Row; 6] = [
     Row {
         name: "four bytes",
         suite: Suite::Aes128Gcm,
-        key_len: 16,
         number_at: 9,
         number: (1 << 62) - 1,
         acknowledged: Some((1 << 62) - 0x0080_0001),

@@ -82,13 +82,6 @@ fn two_epochs_in_one_buffer(rt: HostRuntime) -> Result<(), Fail> {
     Ok(())
 }
 
-fn received(
-    reader: &mut Reader,
-    bytes: &mut [u8],
-) -> Result<(usize, Option<(ContentType, usize)>), RecordError> {
-    record_stream::receive(reader, bytes)
-}
-
 /// Tests that `uses::record_stream` sends data, drops a ChangeCipherSpec, and receives the data.
 #[test]
 fn sends_and_receives(rt: HostRuntime) -> Result<(), Fail> {
@@ -96,10 +89,18 @@ fn sends_and_receives(rt: HostRuntime) -> Result<(), Fail> {
     let mut reader = Reader::new(&AES_128_GCM, &[1; 16], IV)?;
     let mut bytes = Vec::from_slice(rt.alloc(), &[20, 3, 3, 0, 1, 1])?;
     record_stream::send(&mut writer, b"hello", &mut bytes)?;
-    equal(&rt, &received(&mut reader, &mut bytes), &Ok((6, None)));
+    equal(
+        &rt,
+        &record_stream::receive(&mut reader, &mut bytes),
+        &Ok((6, None)),
+    );
     let mut rest = bytes.get(6..).unwrap_or(&[]).to_vec(rt.alloc())?;
     let data = Some((ContentType::ApplicationData, 5));
-    equal(&rt, &received(&mut reader, &mut rest), &Ok((27, data)));
+    equal(
+        &rt,
+        &record_stream::receive(&mut reader, &mut rest),
+        &Ok((27, data)),
+    );
     equal(&rt, &rest.get(..5), &Some(b"hello".as_slice()));
     Ok(())
 }

@@ -2,8 +2,9 @@
 
 ghost use Rattle.std.specs.Prelude.{◌≡◌, ℕ, ◌+◌, ◌<◌, ◌≤◌, ◌↔◌, List, length, slice_index, IsOk, IfOk, OnOk, OnErr, IsErrOf};
 ghost use Rattle.quic_packets.specs.Header.{HasSample};
+ghost use Rattle.quic_packets.specs.Packet.{IsNumber};
 ghost use Rattle.quic_packets.specs.Receiving.{IsAuthentic, IsInTurn as TakesTurn, Reads, reserved_bits};
-ghost use Rattle.quic_packets.specs.Sending.{IsInTurn, IsRoom, IsSealable, IsSent, after_send};
+ghost use Rattle.quic_packets.specs.Sending.{IsEncodable, IsInTurn, IsRoom, IsSealable, IsSent, after_send};
 ghost use Rattle.quic_packets.specs.Space.{IsNew, Marks};
 
 use quic_packets::{Failures, PacketError, Receiver, Sender, Space};
@@ -29,6 +30,8 @@ pub fn send(
 ) -> Result<u64, PacketError>
     ensures accepted { IsOk result ↔ ((end : ℕ) × IsSealable 9 end packet.old
         × IsInTurn sender.old largest_acknowledged 9 end) }
+    ensures too_far { IsErrOf result PacketError.NumberTooFar ↔ ¬ (IsNumber sender.old.key.next
+        × IsEncodable sender.old.key.next largest_acknowledged) }
     ensures sent { OnOk result ((end : ℕ) × IsRoom sender.old.key.next largest_acknowledged 9 end
         × IsSent sender.old 9 end packet.old packet.new) }
     ensures number { IfOk result (λ n. n ≡ sender.old.key.next) }
@@ -53,6 +56,10 @@ pub fn receive(incoming: &mut Incoming, packet: &mut [u8]) -> Result<Range<usize
         × (IsOk result ↔ (IsAuthentic incoming.old.receiver 9 plain number
         × (reserved_bits (slice_index plain 0) ≡ 0) × IsNew incoming.old.space number
         × TakesTurn incoming.old.receiver (slice_index plain 0) number)) }
+    ensures used_up { IsErrOf result PacketError.TooManyFailures
+        ↔ (incoming.old.failures.limit ≤ incoming.old.failures.count) }
+    ensures no_sample { IsErrOf result PacketError.NoSample
+        ↔ ((incoming.old.failures.count < incoming.old.failures.limit) × (length packet.old < 29)) }
     ensures payload { IfOk result (λ r. (r.start ≤ r.end) × (r.end + 16 ≡ length packet.old)) }
     ensures counted { OnOk result ((number : ℕ) × IsNew incoming.old.space number
         × Marks incoming.old.space number incoming.new.space) }
