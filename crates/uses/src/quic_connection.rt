@@ -59,7 +59,7 @@ pub fn receive(incoming: &mut Incoming, packet: &mut [u8]) -> Result<Range<usize
     ensures used_up { IsErrOf result PacketError.TooManyFailures
         ↔ (incoming.old.failures.limit ≤ incoming.old.failures.count) }
     ensures no_sample { IsErrOf result PacketError.NoSample
-        ↔ ((incoming.old.failures.count < incoming.old.failures.limit) × (length packet.old < 29)) }
+        ↔ ((incoming.old.failures.count < incoming.old.failures.limit) × ¬ HasSample 9 (length packet.old)) }
     ensures payload { IfOk result (λ r. (r.start ≤ r.end) × (r.end + 16 ≡ length packet.old)) }
     ensures counted { OnOk result ((number : ℕ) × IsNew incoming.old.space number
         × Marks incoming.old.space number incoming.new.space) }
