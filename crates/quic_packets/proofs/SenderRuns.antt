@@ -1,7 +1,7 @@
 -- What a sender seals under over every run: numbers that rise, and under each key at most as many as its limit.
 use Rattle.std.proofs.Common.{ℕ, zero, suc, ◌+◌, ◌-◌, ◌<◌, ◌≤◌, min, List, [], ◌∷◌, length, get_or, arith}
 use Rattle.std.specs.Prelude.{All, AllPairs, flat_map, true}
-use Rattle.quic_packets.specs.Sending.{Runs, Sender, after_acknowledgement, after_send, after_skip, after_update, confirms, goes_on, hears, lowers, none, sends, skips, updates, with_next_keys}
+use Rattle.quic_packets.specs.Sending.{Runs, Sender, after_acknowledgement, after_send, after_skip, after_update, confirms, goes_on, hears, lowers, none, sends, skips, updates, with_installed_keys}
 use Rattle.quic_packets.proofs.FreshNumbers.{Rising, in_order, weaker}
 
 abbrev all_of : List (List ℕ) → List ℕ
@@ -15,7 +15,7 @@ rises s t by_key (hears x y ks n rest) = rises (after_acknowledgement x n) y ks 
 rises s t by_key (confirms x y ks rest) = rises (record x { confirmed = true }) y ks rest
 rises s t by_key (lowers x y ks limit rest) = rises (record x { limit = min x.limit limit }) y ks rest
 rises s t by_key (updates x y ks key iv rest) = rises (after_update x key iv) y ks rest
-rises s t by_key (goes_on x y ks suite key iv hk rest) = rises (with_next_keys x suite key iv hk) y ks rest
+rises s t by_key (goes_on x y ks suite key iv hk rest) = rises (with_installed_keys x suite key iv hk) y ks rest
 
 pub fresh : (s t : Sender) (by_key : List (List ℕ)) → Runs s t by_key → AllPairs (λ m n. m < n) (all_of by_key)
 fresh s t by_key run = λ i j d lt within. in_order s.key.next (all_of by_key) i j d (rises s t by_key run) lt within
@@ -48,7 +48,7 @@ capped s t by_key (updates x y ks key iv rest) =
 capped s t by_key (goes_on x y ks suite key iv hk rest) = (
   omega arith,
   looser (x.limit - 0) x.limit x.limit x.limit ks (omega arith) (omega arith)
-      (capped (with_next_keys x suite key iv hk) y ks rest),
+      (capped (with_installed_keys x suite key iv hk) y ks rest),
 )
 
 each : (a b : ℕ) (by_key : List (List ℕ)) (k : ℕ) (d : List ℕ) → a ≤ b → Capped a b by_key → k < length by_key → length (get_or by_key k d) ≤ b

@@ -130,8 +130,8 @@ after_update s key iv = record s {
 }
 
 -- with the keys of 1-RTT after those of 0-RTT, whose numbers continue (RFC 9000 section 12.3)
-abbrev pub with_next_keys : Sender → Suite → (key iv header_key : List ℕ) → Sender
-with_next_keys s suite key iv header_key = record (new_sender suite key iv header_key s.key.next) { limit = s.limit }
+abbrev pub with_installed_keys : Sender → Suite → (key iv header_key : List ℕ) → Sender
+with_installed_keys s suite key iv header_key = record (new_sender suite key iv header_key s.key.next) { limit = s.limit }
 
 -- The state of a sender after any calls, and the numbers that it sealed under, in one list for each key. A call leaves one of
 -- the states above, or fails and leaves the sender unchanged.
@@ -145,4 +145,4 @@ pub data Runs : Sender → Sender → List (List ℕ) → Type 0 where
   lowers : (s t : Sender) (by_key : List (List ℕ)) (limit : ℕ) → Runs (record s { limit = min s.limit limit }) t by_key → Runs s t by_key
   updates : (s t : Sender) (by_key : List (List ℕ)) (key iv : List ℕ) → Runs (after_update s key iv) t by_key → Runs s t ([] ∷ by_key)
   goes_on : (s t : Sender) (by_key : List (List ℕ)) (suite : Suite) (key iv header_key : List ℕ)
-      → Runs (with_next_keys s suite key iv header_key) t by_key → Runs s t ([] ∷ by_key)
+      → Runs (with_installed_keys s suite key iv header_key) t by_key → Runs s t ([] ∷ by_key)

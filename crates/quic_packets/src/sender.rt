@@ -6,7 +6,7 @@ ghost use Rattle.aead_ciphers.specs.Gcm.{Fits};
 ghost use Rattle.aead_ciphers.specs.Packet.{PacketFits};
 ghost use Rattle.quic_packets.specs.Header.{HasSample};
 ghost use Rattle.quic_packets.specs.Packet.{CarriesNumber, HasNumber, IsNumber};
-ghost use Rattle.quic_packets.specs.Sending.{HasKeyLengths, IsEncodable, IsInTurn, IsOpen, IsRoom, IsSealable, IsSent, after_acknowledgement, after_send, after_skip, after_update, first_byte, lacks_protection, new_sender, numbered_packet, with_next_keys};
+ghost use Rattle.quic_packets.specs.Sending.{HasKeyLengths, IsEncodable, IsInTurn, IsOpen, IsRoom, IsSealable, IsSent, after_acknowledgement, after_send, after_skip, after_update, first_byte, lacks_protection, new_sender, numbered_packet, with_installed_keys};
 
 use crate::error::PacketError;
 use crate::header::{HeaderKey, SAMPLE_END};
@@ -235,23 +235,25 @@ impl Sender {
         Ok(())
     }
 
-    /// Turns the sender of 0-RTT packets into that of 1-RTT packets, with new keys. The numbers continue (RFC 9000 section
-    /// 12.3), and the limit stays. Everything else is as `new` creates it.
+    /// Turns the sender of 0-RTT packets into that of 1-RTT packets: continues with new keys. The numbers continue too (RFC 9000
+    /// section 12.3), and the limit stays. Everything else is as `new` creates it.
     ///
-    /// Fails with `KeyLength` if a key is not as long as the suite's. The sender is then dropped.
-    pub fn into_next_keys(
-        self,
+    /// Fails with `KeyLength` if a key is not as long as the suite's. The sender is then unchanged.
+    pub fn install_keys(
+        &mut self,
         suite: Suite,
         key: &[u8],
         iv: [u8; NONCE_LEN],
         header_key: &[u8],
-    ) -> Result<Self, PacketError>
+    ) -> Result<(), PacketError>
         ensures accepted { IsOk result ↔ HasKeyLengths suite key.now header_key.now }
         ensures refused { IsOkUnless result PacketError.KeyLength }
-        ensures made { IfOk result (λ made. made ≡ with_next_keys self suite key.now iv header_key.now) }
+        ensures installed { OnOk result (self.new ≡ with_installed_keys self.old suite key.now iv header_key.now) }
+        ensures kept { OnErr result (self.new ≡ self.old) }
     {
         let next = Sender::new(suite, key, iv, header_key, self.key.next_number())?;
-        Ok(next.with_limit(self.limit))
+        *self = next.with_limit(self.limit);
+        Ok(())
     }
 
     /// Sends a packet, and returns its number: writes the number to the range `number`, and its length and the key phase to the

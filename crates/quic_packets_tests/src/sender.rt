@@ -244,8 +244,8 @@ fn limits_and_updates(rt: HostRuntime) -> Result<(), Fail> {
 }
 
 /// Turns a sender of 0-RTT packets into one of 1-RTT packets.
-fn next_keys(early: Sender, header_key_len: usize) -> Result<Sender, PacketError> {
-    early.into_next_keys(
+fn install_keys(sender: &mut Sender, header_key_len: usize) -> Result<(), PacketError> {
+    sender.install_keys(
         Suite::Aes256Gcm,
         &[5; 32],
         IV,
@@ -253,15 +253,21 @@ fn next_keys(early: Sender, header_key_len: usize) -> Result<Sender, PacketError
     )
 }
 
-// The numbers and the limit of 0-RTT continue under the 1-RTT keys.
+// A refused key leaves those of 0-RTT. The numbers and the limit of 0-RTT continue under the 1-RTT keys.
 #[test]
 fn numbers_go_on(rt: HostRuntime) -> Result<(), Fail> {
-    let mut early = sender(0)?.with_limit(1);
-    early.send(&mut packet(0xd0, 1), 4..5, None)?;
-    let mut sender = next_keys(early, 32)?;
+    let mut sender = sender(0)?.with_limit(1);
+    sender.send(&mut packet(0xd0, 1), 4..5, None)?;
+    let refused = install_keys(&mut sender, 16);
+    holds(
+        &rt,
+        refused == Err(PacketError::KeyLength),
+        "a header key's length",
+    );
+    refuses(&rt, &mut sender, &SHORT, 1..2, PacketError::KeyUsedUp);
+    install_keys(&mut sender, 32)?;
     let sent = sender.send(&mut packet(0x40, 0), 1..2, None);
     holds(&rt, sent == Ok(1), "sent");
     refuses(&rt, &mut sender, &SHORT, 1..2, PacketError::KeyUsedUp);
-    holds(&rt, next_keys(sender, 16).is_err(), "a header key's length");
     Ok(())
 }
