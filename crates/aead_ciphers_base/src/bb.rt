@@ -1,6 +1,6 @@
 //! Building blocks: comparing and XORing bytes.
 
-ghost use Rattle.std.specs.Prelude.{◌≡◌, ◌↔◌, ◌++◌, IsOk, bit_xor, drop, length, map};
+ghost use Rattle.std.specs.Prelude.{◌≡◌, ◌↔◌, ◌++◌, IsOk, IsTrue, bit_xor, drop, length, map};
 ghost use Rattle.aead_ciphers_base.specs.Bytes.{◌⊕◌};
 
 use crate::error::Unspecified;
@@ -19,11 +19,20 @@ pub fn verify_slices_are_equal(a: &[u8], b: &[u8]) -> Result<(), Unspecified>
     for i in 0..a.len() {
         difference |= a[i] ^ b[i];
     }
-    if difference == 0 {
+    if is_zero(difference) {
         Ok(())
     } else {
         Err(Unspecified)
     }
+}
+
+/// Returns whether `difference` is 0. It is a call, so that a compiler computes `difference` from all bytes, and does not
+/// compare them one by one up to the first that differs.
+#[inline(never)]
+fn is_zero(difference: u8) -> bool
+    ensures { IsTrue result ↔ (difference ≡ 0) }
+{
+    difference == 0
 }
 
 /// Returns the XOR of two blocks of 16 bytes.
