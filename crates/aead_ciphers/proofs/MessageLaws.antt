@@ -1,17 +1,13 @@
 -- Laws of a sealed message under a key, which speak of public definitions alone: what proofs of crates above cite.
 use Rattle.std.proofs.Common.{◌≡◌, ℕ, ◌+◌, List, [], ◌∷◌, length, refl, ap₂, ◌∙◌, arith, length-append}
 use Rattle.aead_ciphers.specs
-use specs.Aes.{aes, cipher, add_round_key}
+use specs.Aes.{aes, length_aes}
 use specs.Bytes.{◌⊕◌}
 use Rattle.aead_ciphers_base.proofs
 use proofs.CounterModeLemmas.{counter_mode-twice, length-counter_mode}
 use proofs.XorLemmas.{length-xor}
 use specs.Gcm.{gcm_tag, gcm_encrypted, gcm_decrypted, gcm_sealed}
 use specs.Ghash.{◌•◌, block_of, ghash}
-
-pub length_aes : (key block : List ℕ) → length (aes key block) ≡ 16
-unfolding aes cipher add_round_key
-length_aes key block = refl
 
 length-product : (x y : List ℕ) → length (x • y) ≡ 16
 unfolding ◌•◌ block_of

@@ -62,6 +62,13 @@ impl Xi {
         Xi { block: ZERO_BLOCK }
     }
 
+    /// Replaces the block, for a hash that is implemented in another crate.
+    pub fn set(&mut self, block: Block)
+        ensures { self.new ≡ block }
+    {
+        self.block = block;
+    }
+
     /// Returns the bytes of the block.
     pub fn as_ref(&self) -> &Block
         ensures { result.now ≡ self.now }

@@ -1,10 +1,14 @@
 -- Counter blocks.
 use Rattle.std.proofs
-use proofs.Common.{◌≡◌, ℕ, ◌+◌, ◌%◌, ◌^◌, ◌<◌, List, [], ◌∷◌, ◌++◌, length, take, drop, set, get_or, refl, sym, ap, ap₂, subst, ◌∙◌, arith, take-append-drop, length-take-le, length-drop, get_or-drop, take_at, drop_at, get_or-append-add, append-nil}
+use proofs.Common.{◌≡◌, ℕ, ◌+◌, ◌%◌, ◌^◌, ◌<◌, List, [], ◌∷◌, ◌++◌, length, take, drop, set, get_or, refl, sym, ap, ap₂, subst, ◌∙◌, arith, take-append-drop, length-append, length-take-le, length-drop, get_or-drop, take_at, drop_at, get_or-append-add, append-nil}
 use Rattle.std.specs.Int.{from_be_bytes, to_be_bytes, w32}
 use proofs.lemmas.Nat.{be_bytes_4, from_be_bytes-to_be_bytes_4}
 use proofs.lemmas.List.{set-append_right}
 use Rattle.aead_ciphers_base.specs.CounterMode.{counter_block, IsCounter, Advances}
+
+pub length-counter_block : (nonce : List ℕ) (k : ℕ) → length nonce ≡ 12 → length (counter_block nonce k) ≡ 16
+unfolding counter_block
+length-counter_block nonce k size = length-append nonce (to_be_bytes w32 (k % 2 ^ 32)) ∙ ap (λ n. n + 4) size
 
 -- its last four bytes
 pub last_byte : (old nonce : List ℕ) (k j : ℕ) → IsCounter old nonce k → get_or old (12 + j) 0 ≡ get_or (to_be_bytes w32 (k % 2 ^ 32)) j 0

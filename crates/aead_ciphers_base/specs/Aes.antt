@@ -1,5 +1,5 @@
 -- The cipher AES and its key schedule (FIPS 197).
-use Rattle.std.specs.Prelude.{ℕ, zero, suc, ◌+◌, ◌-◌, ◌*◌, ◌/◌, ◌%◌, ◌==◌, ◌&&◌, nat_lt, List, [], ◌∷◌, ◌++◌, length, bit_xor, slice_index, slice_index_or, if◌then◌else◌}
+use Rattle.std.specs.Prelude.{◌≡◌, ℕ, zero, suc, ◌+◌, ◌-◌, ◌*◌, ◌/◌, ◌%◌, ◌==◌, ◌&&◌, nat_lt, List, [], ◌∷◌, ◌++◌, length, bit_xor, slice_index, slice_index_or, if◌then◌else◌, refl}
 use Rattle.std.specs.Fn.{iterate}
 use Rattle.aead_ciphers_base.specs.Bytes.{each_below, ◌⊕◌}
 use Rattle.aead_ciphers_base.specs.ByteField.{mul8, sbox}
@@ -82,3 +82,8 @@ unfoldable pub aes : List ℕ → List ℕ → List ℕ
 aes key b =
     let nk = length key / 4 in
     cipher (key_words nk key (4 * (nk + 7) - nk)) (nk + 6) b
+
+-- an encrypted block has 16 bytes (section 3.4)
+pub length_aes : (key b : List ℕ) → length (aes key b) ≡ 16
+unfolding aes cipher add_round_key
+length_aes key b = refl

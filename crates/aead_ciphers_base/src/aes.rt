@@ -4,7 +4,7 @@
 //! byte. No step reads a table or branches on a byte. Read `Key` and `EncryptBlock` first.
 
 ghost use Rattle.std.specs.Prelude.{◌≡◌, ◌<◌, ◌⊎◌, ℕ, ◌/◌, ◌%◌, List, [], length, slice_index_or, IsOk, IfOk};
-ghost use Rattle.aead_ciphers_base.specs.Aes.{aes};
+ghost use Rattle.aead_ciphers_base.specs.Aes.{aes, length_aes};
 ghost use Rattle.aead_ciphers_base.specs.Bytes.{◌⊕◌};
 ghost use Rattle.aead_ciphers_base.specs.CounterMode.{Advances, EncryptsToFront};
 ghost use Rattle.aead_ciphers_base.specs.KeyBytes.{key_bytes};
@@ -99,6 +99,9 @@ pub trait EncryptBlock {
         requires { CanAdd work.old 1 0 }
         ensures value { result ≡ block ⊕ cipher self.now iv }
         ensures worked { Adds work.old work.new 1 0 };
+
+    // An encrypted block has 16 bytes.
+    ghost length_cipher: { (key : Self) (block : List ℕ) → length block ≡ 16 → length (cipher key block) ≡ 16 };
 }
 
 /// A slice of bytes that is read from `start` on and written from the front on.
@@ -249,6 +252,8 @@ impl<'k> KeyRef<'k> {
 impl<'k> EncryptBlock for KeyRef<'k> {
     ghost cipher = { λ key block. aes key block };
 
+    ghost length_cipher = { λ key block _. length_aes key block };
+
     fn encrypt_block(&self, block: Block, work: &mut Work) -> Block {
         work.add_block();
         self.cipher_block(block)
@@ -273,6 +278,8 @@ impl<'k> EncryptCtr32 for KeyRef<'k> {
 
 impl EncryptBlock for Key {
     ghost cipher = { λ key block. aes key block };
+
+    ghost length_cipher = { λ key block _. length_aes key block };
 
     fn encrypt_block(&self, block: Block, work: &mut Work) -> Block {
         self.by_ref().encrypt_block(block, work)

@@ -99,7 +99,6 @@ fn nonce() -> Nonce {
     Nonce::assume_unique_for_key([7; 12])
 }
 
-#[tactic(auto, using(aead_ciphers::proofs::MessageLaws::length_aes))]
 fn seals(
     rt: &impl Abort,
     cipher: &CountingCipher<'_>,

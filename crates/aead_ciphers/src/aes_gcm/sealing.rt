@@ -1,6 +1,6 @@
 //! Sealing with any cipher and hash (SP 800-38D section 7.1).
 
-ghost use Rattle.std.specs.Prelude.{◌≡◌, ◌↔◌, ◌≤◌, ℕ, List, length, IsOk, IfOk, OnOk, OnErr};
+ghost use Rattle.std.specs.Prelude.{◌≡◌, ◌↔◌, ◌≤◌, length, IsOk, IfOk, OnOk, OnErr};
 ghost use Rattle.aead_ciphers_base.specs.Bytes.{zero_block};
 ghost use Rattle.aead_ciphers_base.specs.CounterMode.{counter_block};
 ghost use Rattle.aead_ciphers_base.specs.Values.{aad_bytes};
@@ -31,7 +31,6 @@ pub fn seal_with<A: EncryptCtr32, G: UpdateBlocks>(
 ) -> Result<Tag, Unspecified>
     requires sums { CanSeal work.old (length (aad_bytes aad)) (length in_out.old) }
     requires subkey { G.hash_subkey gcm.now ≡ A.cipher aes.now zero_block }
-    requires blocks { (block : List ℕ) → length (A.cipher aes.now block) ≡ 16 }
     ensures accepted { IsOk result ↔ Fits (length (aad_bytes aad.entry)) (length in_out.old) }
     ensures ciphertext { OnOk result (in_out.new ≡ gcm_encrypted (A.cipher aes.now) nonce in_out.old) }
     ensures tag { IfOk result
@@ -64,7 +63,6 @@ fn encrypt_short<A: EncryptCtr32>(
 ) -> Block
     requires short { length in_out.old ≤ 48 }
     requires sums { CanAdd work.old (sealing_blocks (length in_out.old)) 0 }
-    requires blocks { (block : List ℕ) → length (A.cipher aes.now block) ≡ 16 }
     ensures ciphertext { in_out.new ≡ gcm_encrypted (A.cipher aes.now) nonce in_out.old }
     ensures mask { result ≡ A.cipher aes.now (counter_block nonce 1) }
     ensures worked { Adds work.old work.new (sealing_blocks (length in_out.old)) 0 }

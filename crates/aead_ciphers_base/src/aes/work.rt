@@ -72,7 +72,7 @@ impl Work {
     }
 
     /// Counts `count` cipher blocks.
-    pub(crate) fn add_blocks(&mut self, count: u64)
+    pub fn add_blocks(&mut self, count: u64)
         requires { CanAdd self.old count 0 }
         ensures { Adds self.old self.new count 0 }
     {

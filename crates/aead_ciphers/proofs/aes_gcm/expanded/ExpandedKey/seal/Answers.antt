@@ -3,11 +3,7 @@ use Rattle.aead_ciphers_base.specs
 use specs.Values.{aad_bytes}
 use specs.Aes.{aes}
 use Rattle.aead_ciphers.specs.Gcm.{gcm_tag}
-use Rattle.aead_ciphers.proofs.MessageLaws.{length_aes}
 use Rattle.aead_ciphers.proofs.aes_gcm.expanded.ExpandedKey.seal.Goals as goal
-
-pub seal_with-requires-clause-blocks : goal.seal_with-requires-clause-blocks
-seal_with-requires-clause-blocks c = λ block. length_aes _ block
 
 pub returns-clause-tag : goal.returns-clause-tag
 returns-clause-tag c =
