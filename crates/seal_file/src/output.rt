@@ -15,7 +15,7 @@ pub struct NewFile {
     name: Name,
 }
 
-/// A new file whose bytes have reached the device. Only such a file can be given its name.
+/// A new file that `NewFile::synced` returned. Only such a file can be given its name.
 pub struct SyncedFile {
     name: Name,
 }
