@@ -14,14 +14,17 @@ pub(crate) fn holds(rt: &impl Abort, test: bool, what: &str) {
     assert!(rt; test, "{what}");
 }
 
-/// Asserts that a value is printed as this text for debugging.
+/// Asserts that a value is printed as this text for debugging, also in the alternate form.
 pub(crate) fn prints(
     rt: &(impl Abort + AllocGlobal),
     value: &impl Debug,
     wanted: &str,
 ) -> Result<(), AllocError> {
-    let text = format!(in rt.alloc(); "{value:?}")?;
-    assert_eq!(rt; text.as_str(), wanted);
+    let text = format!(in rt.alloc(); "{value:?} {value:#?}")?;
+    assert_eq!(rt;
+        text.as_str(),
+        format!(in rt.alloc(); "{wanted} {wanted}")?.as_str()
+    );
     Ok(())
 }
 
