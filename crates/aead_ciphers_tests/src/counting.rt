@@ -1,7 +1,7 @@
 //! Tests of `aes_gcm::seal_with` and `aes_gcm::open_with` over a cipher and a hash that count the calls of each.
 
 ghost use Rattle.std.specs.Prelude.{◌≡◌};
-ghost use Rattle.aead_ciphers_base.specs.Aes.{aes as aes_cipher};
+ghost use Rattle.aead_ciphers_base.specs.Aes.{aes as aes_cipher, length_aes};
 ghost use Rattle.aead_ciphers_base.specs.Bytes.{zero_block};
 
 use crate::checks::holds;
@@ -32,6 +32,8 @@ struct CountingCipher<'a> {
 
 impl EncryptBlock for CountingCipher<'_> {
     ghost cipher = { λ c block. aes_cipher c.key.now block };
+
+    ghost length_cipher = { λ c block _. length_aes c.key.now block };
 
     fn encrypt_block(&self, block: Block, work: &mut Work) -> Block {
         add(self.blocks, 1);

@@ -33,6 +33,8 @@ mod loans;
 #[cfg(test)]
 mod masks;
 #[cfg(test)]
+mod other_cipher;
+#[cfg(test)]
 mod quic;
 #[cfg(test)]
 mod reference;
