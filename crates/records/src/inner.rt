@@ -50,9 +50,8 @@ pub(crate) fn frame(bytes: &mut [u8], content_type: ContentType, content_len: us
 
 /// The type and the length of the content of an inner plaintext.
 pub(crate) fn content_of(inner: &[u8]) -> Result<(ContentType, usize), RecordError>
-    ensures found { IfOk result (λ found. (found.1 < length inner.now)
-        × (found.1 ≡ 0 → found.0 ≡ ContentType.ApplicationData)
-        × (padding : ℕ) × (inner.now ≡ inner_plaintext (record {
+    ensures found { IfOk result (λ found. (found.1 ≡ 0 → found.0 ≡ ContentType.ApplicationData)
+        × (padding : ℕ) × (found.1 + 1 + padding ≡ length inner.now) × (inner.now ≡ inner_plaintext (record {
           content_type = found.0;
           content = take found.1 inner.now;
           padding = padding;
@@ -74,8 +73,9 @@ pub(crate) fn content_of(inner: &[u8]) -> Result<(ContentType, usize), RecordErr
 /// The last nonzero byte, which is the content type, and its index, which is the length of the content. `None` if all bytes are
 /// zero. It reads every byte, whatever the length of the padding.
 fn last_nonzero(inner: &[u8]) -> Option<(u8, usize)>
-    ensures found { IfSome result (λ found. (found.0 ≢ 0) × (found.1 < length inner.now)
-        × (padding : ℕ) × (inner.now ≡ plaintext (take found.1 inner.now) found.0 padding)) }
+    ensures found { IfSome result (λ found. (found.0 ≢ 0)
+        × (padding : ℕ) × (found.1 + 1 + padding ≡ length inner.now)
+        × (inner.now ≡ plaintext (take found.1 inner.now) found.0 padding)) }
     ensures zeros { IfNone result (inner.now ≡ replicate (length inner.now) 0) }
 {
     let mut len = 0;

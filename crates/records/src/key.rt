@@ -189,7 +189,8 @@ impl RecordKey {
     ) -> Result<(ContentType, usize), RecordError>
         ensures opens { Opens self.now number bytes.old (content_at HEADER_LEN bytes.new result) }
         ensures within { IfOk result (λ read. read.1 + 22 ≤ length bytes.old) }
-        ensures put { IfOk result (LeavesInner HEADER_LEN bytes.old bytes.new) }
+        ensures put { IfOk result
+            (LeavesInner (length bytes.old) HEADER_LEN bytes.old bytes.new) }
         ensures kept { IfErr result
             (LeavesRefused self.now number bytes.old HEADER_LEN bytes.old bytes.new) }
     {
@@ -210,7 +211,7 @@ impl RecordKey {
         ensures opens { Opens self.now number (slice_range bytes.old at end)
             (content_at filled bytes.new result) }
         ensures within { IfOk result (λ read. filled + read.1 + 17 ≤ end) }
-        ensures put { IfOk result (LeavesInner filled bytes.old bytes.new) }
+        ensures put { IfOk result (LeavesInner (end - at) filled bytes.old bytes.new) }
         ensures kept { IfErr result (LeavesRefused
             self.now number (slice_range bytes.old at end) filled bytes.old bytes.new) }
     {

@@ -194,7 +194,7 @@ impl Reader {
         ensures reads { Reads self.old self.new (slice_range bytes.old at end)
             (content_at filled bytes.new result) }
         ensures within { IfOk result (λ read. filled + read.1 + 17 ≤ end) }
-        ensures put { IfOk result (LeavesInner filled bytes.old bytes.new) }
+        ensures put { IfOk result (LeavesInner (end - at) filled bytes.old bytes.new) }
         ensures kept { IfErr result (LeavesRefused self.old.key self.old.number
             (slice_range bytes.old at end) filled bytes.old bytes.new) }
         ensures closed { IsTrue self.old.is_closed → IsErrOf result RecordError.Closed }

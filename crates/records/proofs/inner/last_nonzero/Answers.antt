@@ -10,8 +10,8 @@ returns-else-code-eq0-clause-found c =
     let short : len < length inner = search rules in
     let read : c.in_ok-code.field-0.now ≡ get_or inner len 0 = search rules in (
       c.if-code-eq0.false,
-      short,
       length inner - (len + 1),
+      omega (arith, short),
       zeros_behind inner len short (λ k l h. c.loop-i.invariant.zeros k l (omega arith))
           ∙ ap (λ t. take len inner ++ t ∷ replicate (length inner - (len + 1)) 0) (sym read),
     )
