@@ -108,29 +108,3 @@ protected_back key at wire packet back h u p =
     (ap (λ k. take k (drop (at + 4) packet)) width ∙ same ∙ sym (ap (λ k. take k (drop (at + 4) wire)) width)) in
     let q : Masked (mask_of key at wire) at n packet back = subst (λ m. Masked m at n packet back) mask p in
     masked_twice (mask_of key at wire) at n wire packet back u q
-
-same_number : (mask : List ℕ) (at n i j : ℕ) (old new new' : List ℕ) → at + j ≡ i → j < n → Masked mask at n old new → Masked mask at n old new'
-    → get_or new i 0 ≡ get_or new' i 0
-same_number mask at n i j old new new' e h a b = subst (λ k. get_or new k 0 ≡ get_or new' k 0) e (a.number j h ∙ sym (b.number j h))
-
-each_same : (mask : List ℕ) (at n i : ℕ) (old new new' : List ℕ) → Masked mask at n old new → Masked mask at n old new'
-    → get_or new i 0 ≡ get_or new' i 0
-each_same mask at n zero old new new' a b = a.first ∙ sym b.first
-each_same mask at n (suc i) old new new' a b =
-    elim (cases_lt (suc i) at) [
-      | inl before ↦ a.others (suc i) (omega arith) (inl before) ∙ sym (b.others (suc i) (omega arith) (inl before))
-      | inr from ↦ elim (cases_lt (suc i) (at + n)) [
-        | inl within ↦ same_number mask at n (suc i) (suc i - at) old new new' (omega arith) (omega arith) a b
-        | inr behind ↦ a.others (suc i) (omega arith) (inr behind) ∙ sym (b.others (suc i) (omega arith) (inr behind))
-      ]
-    ]
-
--- unmasking has one result
-pub unprotected_once : (key : HeaderKey) (at : ℕ) (wire packet packet' : List ℕ) → Unprotected key at wire packet → Unprotected key at wire packet'
-    → packet ≡ packet'
-unprotected_once key at wire packet packet' a b =
-    let mask = mask_of key at wire in
-    let n = number_len (get_or packet 0 0) in
-    let first : get_or packet' 0 0 ≡ get_or packet 0 0 = b.first ∙ sym a.first in
-    let b' : Masked mask at n wire packet' = subst (λ k. Masked mask at k wire packet') (ap number_len first) b in
-    ext_get_or 0 packet packet' (a.len ∙ sym b.len) (λ i h. each_same mask at n i wire packet packet' a b')

@@ -96,14 +96,6 @@ nearest_of n e t low some few is lt start =
     subst (λ (v : ℕ). IsDecoded e t n (low + v)) (sym (and_mask b (8 * n)))
     (decoded n e t (low + b % w) (omega arith) rest (wins_in w (w / 2) e low (low + b % w) (half_twice n some) fits is start (omega arith) (omega arith)))
 
--- an expected number beyond all numbers
-pub past_end : (n e e' t number : ℕ) → 2 ^ 62 ≤ e' + 1 → e' ≤ e → IsDecoded e' t n number → IsDecoded e t n number
-past_end n e e' t number end le is = record {
-  has = is.has;
-  nearest = λ o has. omega (arith, is.nearest o has, has.is_number, is.has.is_number);
-  higher = λ o has tie. omega (arith, is.nearest o has, is.higher o has, has.is_number, is.has.is_number);
-}
-
 -- what is decoded of a number's low bits in the window is the number
 pub back : (n e number found : ℕ) → InWindow e n number → IsNumber number → IsDecoded e (number % 2 ^ (8 * n)) n found → found ≡ number
 back n e number found in_window is it =

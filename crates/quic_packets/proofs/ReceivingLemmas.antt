@@ -34,10 +34,6 @@ record ReadAsSent (r : Receiver) (sent number_at h : ℕ) (packet plain : List �
   comes_back : (opened : List ℕ) → Opens r number_at plain number opened
       → take (length packet - 16) opened ≡ take (length packet - 16) packet
 
--- one number is decoded
-pub decoded_once : (e t n a b : ℕ) → IsDecoded e t n a → IsDecoded e t n b → a ≡ b
-decoded_once e t n a b x y = omega (arith, x.nearest b y.has, y.nearest a x.has, x.higher b y.has, y.higher a x.has)
-
 module _ (r : Receiver) (expected number at h : ℕ) (packet wire plain : List ℕ) (key : Receiving) (n : ℕ)
     (has : PacketFits h (length packet)) (numbered : HasNumber at h packet) (sample : HasSample at (length packet))
     (is : IsNumber number) (carries : CarriesNumber number at h packet) (held : key_of r (get_or packet 0 0) number ≡ Some key)

@@ -1,6 +1,5 @@
 -- The window of the numbers that were received, bit by bit.
-use Rattle.std.proofs.Common.{◌≡◌, ◌≢◌, ℕ, ◌+◌, ◌-◌, ◌*◌, ◌/◌, ◌%◌, ◌^◌, ◌<◌, ◌≤◌, ◌↔◌, inl, inr, max, bit_or, sym, ap, ◌∙◌, arith, add-zero}
-use Rattle.std.proofs.lemmas.Bool.{cases_lt}
+use Rattle.std.proofs.Common.{◌≡◌, ◌≢◌, ℕ, ◌+◌, ◌-◌, ◌*◌, ◌/◌, ◌%◌, ◌^◌, ◌<◌, ◌≤◌, ◌↔◌, max, bit_or, sym, ap, ◌∙◌, arith, add-zero}
 use Rattle.std.proofs.lemmas.Nat.{div-add-mod', pow_pos}
 use Rattle.std.proofs.lemmas.Nat.Bits.{bit_at-lt, bit_at-pow_other, bit_at-zero, bit_at_cat_high, bit_at_cat_low, bit_at_or}
 use Rattle.std.specs.Int.{bit_at}
@@ -70,32 +69,3 @@ left_within next seen number bits n below here others = (
         others (next - 1 - n) other ∙ was.0.unseen lt;
   },
 )
-
--- what is left once a number above all that were received is
-pub left_above : (next seen number bits n : ℕ) → next ≤ number → bit_at bits 0 ≡ 1
-    → ((i : ℕ) → 0 < i → i < number - next + 1 → i < 128 → bit_at bits i ≡ 0)
-    → ((i : ℕ) → number - next + 1 ≤ i → i < 128 → bit_at bits i ≡ bit_at seen (i - (number - next + 1)))
-    → IsNew (record { next = number + 1; seen = bits }) n
-    ↔ (IsNew (record { next = next; seen = seen }) n × (n ≢ number) × (number + 1 ≤ n + 128))
-left_above next seen number bits n from highest skipped kept =
-    let i = number + 1 - 1 - n in
-    let same : n < next → number + 1 ≤ n + 128 → bit_at bits i ≡ bit_at seen (next - 1 - n) =
-    λ lt le.
-    let down : i - (number - next + 1) ≡ next - 1 - n = omega arith in
-    kept i (omega arith) (omega arith) ∙ ap (bit_at seen) down in (
-      λ is. (
-        record { in_window = omega (arith, is.in_window); unseen = λ lt. sym (same lt is.in_window) ∙ is.unseen (omega arith) },
-        λ e. let zeroth : i ≡ 0 = omega arith in no_bit (bit_at bits 0) highest (ap (bit_at bits) (sym zeroth) ∙ is.unseen (omega arith)),
-        is.in_window,
-      ),
-      λ was. record {
-        in_window = was.2;
-        unseen = λ lt.
-            let apart : n ≢ number = was.1 in
-            let window : number + 1 ≤ n + 128 = was.2 in
-            elim (cases_lt n next) [
-              | inl old ↦ same old window ∙ was.0.unseen old
-              | inr later ↦ skipped i (omega arith) (omega arith) (omega arith)
-            ];
-      },
-    )

@@ -169,9 +169,6 @@ module _ (key header : List ℕ) where
   size_of_2 : slice_index header 8 ≡ 2 → HasHeader key header → length header ≡ 41 + length (take 19 (drop 9 header))
   size_of_2 version has = ap length (made_2 version has) ∙ length-header_2 key (take 19 (drop 9 header))
 
-  length-random : length (take 19 (drop 9 header)) ≤ 19
-  length-random = omega (arith, length-take 19 (drop 9 header))
-
   -- what is refused is no header
   pub refused_is_none : (error : FileError) → HeaderRefuses key header error → ¬ HasHeader key header
   refused_is_none EndsEarly (inl short) has = let s = has.size in omega arith
