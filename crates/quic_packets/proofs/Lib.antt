@@ -5,6 +5,7 @@ pub mod NumberBytes
 pub mod NumberLemmas
 pub mod NumberedLemmas
 pub mod PacketLemmas
+pub mod PhaseLemmas
 pub mod ReceivingLemmas
 pub mod RoomLemmas
 pub mod RunLemmas

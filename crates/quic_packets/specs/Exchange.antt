@@ -70,6 +70,11 @@ pub data HasSent : Sender → Life → List Sent → Type 0 where
   lowers : (s : Sender) (life : Life) (sent : List Sent) (limit : ℕ) → HasSent s life sent
       → HasSent (record s { limit = min s.limit limit }) life sent
 
+-- the packet with this number was sent, and after every key update, so in the current key phase
+pub record WasSentInPhase (life : Life) (sent : List Sent) (number : ℕ) : Type 0 where
+  pub was_sent : (packet : Sent) × Contains sent packet × (packet.number ≡ number)
+  pub in_phase : updates_before life.updates number ≡ length life.updates
+
 -- a receiver that is created with this key
 abbrev pub new_receiver : HeaderKey → Receiving → Receiver
 new_receiver header key = record {

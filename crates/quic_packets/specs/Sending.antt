@@ -13,8 +13,9 @@ use Rattle.quic_packets.specs.Suite.{algorithm, header_algorithm}
 use Rattle.quic_packets.specs.declared.suite.Suite.{Suite}
 
 -- a sender: its key with the next number; the header key; the Key Phase bit; how many packets this key has sealed and may seal;
--- the next number when this phase began; whether the keys were never updated or a packet of this phase is acknowledged; and
--- whether the handshake is confirmed
+-- the first number of the unbroken run of numbers that were sent in this phase and that ends before the next one, which is the
+-- next one if the run is empty; whether the keys were never updated or a packet of this phase is acknowledged; and whether the
+-- handshake is confirmed
 pub record Sender : Type 0 where
   pub key : Sending
   pub header_key : HeaderKey
@@ -111,11 +112,13 @@ IsSent s start end old new =
 abbrev pub after_send : Sender → Sender
 after_send s = record s { key = record s.key { next = s.key.next + 1 }; sealed = s.sealed + 1 }
 
--- after a skip
+-- after a skip: the run of sent numbers is broken if a number is left unused
 abbrev pub after_skip : Sender → ℕ → Sender
-after_skip s number = record s { key = record s.key { next = number } }
+after_skip s number =
+    record s { key = record s.key { next = number }; first = if nat_lt s.key.next number then number else s.first }
 
--- after an acknowledgment: a number from the first of this phase on and below the next one is of this phase
+-- after an acknowledgment: a number counts if it is in the unbroken run of numbers that were sent in this phase (RFC 9001
+-- section 6.1)
 abbrev pub after_acknowledgement : Sender → ℕ → Sender
 after_acknowledgement s number = record s { acknowledged = s.acknowledged || (nat_le s.first number && nat_lt number s.key.next) }
 

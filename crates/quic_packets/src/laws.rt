@@ -1,15 +1,15 @@
 //! Laws of the definitions: functions without a body, each of whose contracts states a law for its arguments.
 
-ghost use Rattle.std.specs.Prelude.{◌≡◌, ◌≢◌, ℕ, ◌+◌, ◌*◌, ◌%◌, ◌^◌, ◌<◌, ◌≤◌, List, length, slice_index, flat_map, All, AllPairs, Contains, Result};
+ghost use Rattle.std.specs.Prelude.{◌≡◌, ◌≢◌, ℕ, ◌+◌, ◌*◌, ◌%◌, ◌^◌, ◌<◌, ◌≤◌, List, length, slice_index, flat_map, All, AllPairs, Contains, IsFalse, IsTrue, Result};
 ghost use Rattle.std.specs.Int.Digits.{number_from_digits};
 ghost use Rattle.aead_ciphers.specs.Counting.{xored_nonce};
 ghost use Rattle.aead_ciphers.specs.Packet.{PacketFits, sealed_packet};
 ghost use Rattle.quic_packets.specs.Header.{HasSample, Protected, Unprotected, number_len};
-ghost use Rattle.quic_packets.specs.Exchange.{Counts, Follows, GivesBack, HasSent, Holds, Life, Sent};
+ghost use Rattle.quic_packets.specs.Exchange.{Counts, Follows, GivesBack, HasSent, Holds, Life, Sent, WasSentInPhase};
 ghost use Rattle.quic_packets.specs.Keys.{Sends};
 ghost use Rattle.quic_packets.specs.Laws.{OpensTo};
 ghost use Rattle.quic_packets.specs.Numbers.{InWindow, IsAbove, IsDecoded, Represents, expected, unacknowledged};
-ghost use Rattle.quic_packets.specs.Sending.{Runs};
+ghost use Rattle.quic_packets.specs.Sending.{Runs, after_acknowledgement};
 ghost use Rattle.quic_packets.specs.Packet.{HasNumber, IsNumber, low_bytes};
 ghost use Rattle.quic_packets.specs.Receiving.{Outcome, Reads, Receiver as ReceiverState};
 ghost use Rattle.quic_packets.specs.declared.error.PacketError.{PacketError};
@@ -112,6 +112,15 @@ pub fn no_number_twice_over_keys(first: &Sender, last: &Sender)
         → AllPairs (λ m n. m < n) (flat_map (λ numbers. numbers) by_key) }
     ensures limited { (by_key : List (List ℕ)) → Runs first.now last.now by_key
         → All (λ numbers. length numbers ≤ first.now.limit) by_key }
+{}
+
+/// An acknowledgment allows the next key update only if the packet with its number was sent, and in the current key phase (RFC
+/// 9001 section 6.1). This holds over every run of sends, skips and key updates of the sender.
+pub fn acknowledged_was_sent(sender: &Sender)
+    ensures { (life : Life) → (sent : List Sent) → (number : ℕ) → HasSent sender.now life sent
+        → IsFalse sender.now.acknowledged
+        → IsTrue (after_acknowledgement sender.now number).acknowledged
+        → WasSentInPhase life sent number }
 {}
 
 /// A receiver returns every packet that a sender sent, as it was sent (RFC 9001 sections 5 and 6).

@@ -161,6 +161,9 @@ impl Sender {
 
     /// Leaves the numbers below `number` unused, so that `number` is the next one.
     ///
+    /// If no packet of the current key phase is acknowledged yet, the next `initiate_update` needs an acknowledgment of a packet
+    /// that is sent after the last skip (see `acknowledged`).
+    ///
     /// Fails with `NumberUsed` if the next number is already above `number`, and with `NumbersEnded` if `number` is above 2^62.
     /// The sender is then unchanged.
     pub fn skip_to(&mut self, number: u64) -> Result<(), PacketError>
@@ -170,7 +173,12 @@ impl Sender {
         ensures skipped { OnOk result (self.new ≡ after_skip self.old number) }
         ensures kept { OnErr result (self.new ≡ self.old) }
     {
-        self.key.skip_to(number)
+        let next = self.key.next_number();
+        self.key.skip_to(number)?;
+        if number > next {
+            self.first = number;
+        }
+        Ok(())
     }
 
     /// Records that the handshake is confirmed (RFC 9001 section 4.1.2).
@@ -180,8 +188,11 @@ impl Sender {
         self.is_confirmed = true;
     }
 
-    /// Records that the peer has acknowledged the packet with this number. Only a number sent in the current key phase has an
-    /// effect.
+    /// Records that the peer has acknowledged the packet with this number, which allows the next key update if the packet is of
+    /// the current key phase (RFC 9001 section 6.1).
+    ///
+    /// Only a number in the unbroken run of sent numbers that ends before the next number has an effect. A number that was never
+    /// sent has none, and neither has one from before the last skip or the last key update.
     pub fn acknowledged(&mut self, number: u64)
         ensures { self.new ≡ after_acknowledgement self.old number }
     {

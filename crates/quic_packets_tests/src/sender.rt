@@ -153,13 +153,14 @@ enum Event {
     Sent(u8, bool),
     Refused(PacketError),
     Confirmed,
+    Skipped(u64),
     Acknowledged(u64),
     /// Initiates an update to a key of this byte and length.
     Initiated(u8, usize, Result<(), PacketError>),
     Followed(u8, usize, Result<(), PacketError>),
 }
 
-use Event::{Acknowledged, Confirmed, Followed, Initiated, Refused, Sent};
+use Event::{Acknowledged, Confirmed, Followed, Initiated, Refused, Sent, Skipped};
 
 /// Asserts that the packet opens with this key, and has this number and key phase.
 fn opens(
@@ -195,6 +196,7 @@ fn meets(rt: &impl Abort, sender: &mut Sender, event: Event) -> Result<(), Packe
         Sent(key, phase) => sends_under(rt, sender, key, phase)?,
         Refused(error) => refuses(rt, sender, &SHORT, 1..2, error),
         Confirmed => sender.confirm_handshake(),
+        Skipped(number) => sender.skip_to(number)?,
         Acknowledged(number) => sender.acknowledged(number),
         Initiated(key, len, outcome) => {
             equal(
@@ -238,6 +240,51 @@ const LIMITS_AND_UPDATES: [Event; 16] = [
 fn limits_and_updates(rt: HostRuntime) -> Result<(), Fail> {
     let mut sender = sender(0)?.with_limit(2);
     for event in LIMITS_AND_UPDATES {
+        meets(&rt, &mut sender, event)?;
+    }
+    Ok(())
+}
+
+/// A phase whose first packet comes after a skip, one with a skip between two packets, one with two skips, and one with a skip
+/// that leaves no number unused. Only a packet that was sent after the last other skip allows the next update.
+const SKIPS: [Event; 31] = [
+    Confirmed,
+    Initiated(2, 16, Ok(())),
+    Skipped(50),
+    Acknowledged(20),
+    Initiated(3, 16, Err(PacketError::PhaseUnacknowledged)),
+    Sent(2, true),
+    Acknowledged(49),
+    Acknowledged(51),
+    Initiated(3, 16, Err(PacketError::PhaseUnacknowledged)),
+    Acknowledged(50),
+    Initiated(3, 16, Ok(())),
+    Sent(3, false),
+    Skipped(60),
+    Sent(3, false),
+    Acknowledged(51),
+    Acknowledged(59),
+    Initiated(4, 16, Err(PacketError::PhaseUnacknowledged)),
+    Acknowledged(60),
+    Initiated(4, 16, Ok(())),
+    Skipped(70),
+    Sent(4, true),
+    Skipped(80),
+    Acknowledged(70),
+    Initiated(5, 16, Err(PacketError::PhaseUnacknowledged)),
+    Sent(4, true),
+    Acknowledged(80),
+    Initiated(5, 16, Ok(())),
+    Sent(5, false),
+    Skipped(82),
+    Acknowledged(81),
+    Initiated(6, 16, Ok(())),
+];
+
+#[test]
+fn skips_and_updates(rt: HostRuntime) -> Result<(), Fail> {
+    let mut sender = sender(0)?;
+    for event in SKIPS {
         meets(&rt, &mut sender, event)?;
     }
     Ok(())
