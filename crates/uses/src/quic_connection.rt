@@ -61,8 +61,9 @@ pub fn receive(incoming: &mut Incoming, packet: &mut [u8]) -> Result<Range<usize
     ensures no_sample { IsErrOf result PacketError.NoSample
         ↔ ((incoming.old.failures.count < incoming.old.failures.limit) × ¬ HasSample 9 (length packet.old)) }
     ensures payload { IfOk result (λ r. (r.start ≤ r.end) × (r.end + 16 ≡ length packet.old)) }
-    ensures counted { OnOk result ((number : ℕ) × IsNew incoming.old.space number
-        × Marks incoming.old.space number incoming.new.space) }
+    ensures counted { OnOk result ((plain : List ℕ) × (number : ℕ)
+        × Reads incoming.old.receiver.header incoming.old.space.next 9 packet.old plain number
+        × IsNew incoming.old.space number × Marks incoming.old.space number incoming.new.space) }
     ensures no_forgery { IsErrOf result PacketError.Refused → packet.new ≡ packet.old }
     ensures kept { OnErr result (incoming.new.space ≡ incoming.old.space) }
 {
