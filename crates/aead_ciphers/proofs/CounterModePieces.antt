@@ -12,44 +12,34 @@ use proofs.XorLemmas.{xor_comm, xor_zeros}
 use Rattle.aead_ciphers.specs.Gcm.{padded_block}
 use Rattle.aead_ciphers.proofs.PaddedBlocks.{padded_is}
 
--- n bytes of an encrypted front
-pub encrypted_piece : (cipher : List ℕ → List ℕ) (nonce : List ℕ) (k d n : ℕ) (text behind now : List ℕ) → d + n ≤ length text →
-    now ≡ counter_mode cipher nonce k (take (d + n) text) ++ behind → take n (drop d now) ≡ take n (drop d (counter_mode cipher nonce k text))
-encrypted_piece cipher nonce k d n text behind now room e =
+-- n bytes after the first d of an encrypted front
+pub encrypted_piece : (cipher : List ℕ → List ℕ) (nonce : List ℕ) (k d n : ℕ) (text before piece after behind : List ℕ)
+    → d + n ≤ length text → length before ≡ d → length piece ≡ n
+    → before ++ (piece ++ after) ≡ counter_mode cipher nonce k (take (d + n) text) ++ behind
+    → piece ≡ take n (drop d (counter_mode cipher nonce k text))
+encrypted_piece cipher nonce k d n text before piece after behind room ld ln e =
     let done = counter_mode cipher nonce k (take (d + n) text) in
-    let front = take-counter_mode cipher nonce k (d + n) text room in
     let size = length-counter_mode cipher nonce k (take (d + n) text) ∙ length-take-le (d + n) text room in
-    sym (drop-take d n now)
-    ∙ ap (drop d) (ap (take (d + n)) e ∙ take_at done behind (d + n) size ∙ sym front)
+    sym (ap (take n) (drop_at before (piece ++ after) d ld) ∙ take_at piece after n ln)
+    ∙ sym (drop-take d n (before ++ (piece ++ after)))
+    ∙ ap (drop d) (ap (take (d + n)) e ∙ take_at done behind (d + n) size ∙ sym (take-counter_mode cipher nonce k (d + n) text room))
     ∙ drop-take d n (counter_mode cipher nonce k text)
 
--- the last bytes, padded, encrypted and cut to their length
-rest_piece : (cipher : List ℕ → List ℕ) (nonce : List ℕ) (k : ℕ) (text input iv output : List ℕ) → length text ≤ 16 →
-    input ≡ padded_block text 0 → iv ≡ counter_block nonce k → output ≡ input ⊕ cipher iv → length output ≡ 16 →
-    take (length text) output ≡ counter_mode cipher nonce k text
-rest_piece cipher nonce k text input iv output short ie ive oe size =
-    let zeros = drop (length text) (replicate 16 0) in
-    let split = ie ∙ sym (padded_is text short) in
-    let many : length zeros ≡ 16 - length text = length-drop (length text) (replicate 16 0) in
-    let long : length input ≡ 16 = ap length split ∙ length-append text zeros ∙ omega arith in
-    let all = sym (ap length oe) ∙ size in
-    let reads = xor-reads input (cipher iv) (omega arith) in
-    ap (take (length text)) (oe ∙ counter_mode-short cipher nonce k input (cipher iv) (omega arith) reads (ap cipher ive))
-    ∙ take-counter_mode cipher nonce k (length text) input (omega arith)
-    ∙ ap (counter_mode cipher nonce k) (ap (take (length text)) split ∙ take_at text zeros (length text) refl)
-
--- the last bytes, those from s on, were padded and encrypted, and put to the front
-pub put_rest : (cipher : List ℕ → List ℕ) (nonce : List ℕ) (k s : ℕ) (xs input iv output copied : List ℕ)
-    → s ≤ length xs → length xs < s + 16 → length output ≡ 16 → input ≡ padded_block (take (length xs - s) (drop s xs)) 0
-    → iv ≡ counter_block nonce k → output ≡ input ⊕ cipher iv → copied ≡ take (length xs - s) output
+-- the last bytes, those from s on, were encrypted in the front of a buffer of their own, and put to the front
+pub put_rest : (cipher : List ℕ → List ℕ) (nonce : List ℕ) (k s w : ℕ) (xs input pad last rest copied : List ℕ) {out : List ℕ}
+    → s ≤ length xs → length xs - s ≤ w → input ≡ drop s xs → out ≡ counter_mode cipher nonce k (take w (input ++ pad)) ++ last
+    → copied ≡ take (length xs - s) (out ++ rest)
     → copied ++ drop (length xs - s) xs ≡ counter_mode cipher nonce k (drop s xs) ++ drop (length xs - s) xs
-put_rest cipher nonce k s xs input iv output copied within short size ie ive oe ce =
-    let text = drop s xs in
-    let many = length-drop s xs in
-    let whole = take_all (length xs - s) text (omega arith) in
-    ap (λ u. u ++ drop (length xs - s) xs)
-    (ce ∙ ap (λ n. take n output) (sym many)
-    ∙ rest_piece cipher nonce k text input iv output (omega arith) (ie ∙ ap (λ t. padded_block t 0) whole) ive oe size)
+put_rest cipher nonce k s w xs input pad last rest copied within room ie oe ce =
+    let n = length xs - s in
+    let text = take w (input ++ pad) in
+    let len : length input ≡ n = ap length ie ∙ length-drop s xs in
+    let fits : n ≤ length text = omega (arith, length-take w (input ++ pad), length-append input pad) in
+    ap (λ u. u ++ drop n xs)
+    (ce ∙ ap (λ u. take n (u ++ rest)) oe ∙ ap (take n) (append_assoc (counter_mode cipher nonce k text) last rest)
+    ∙ take-append-le n (counter_mode cipher nonce k text) (last ++ rest) (omega (arith, fits, length-counter_mode cipher nonce k text))
+    ∙ take-counter_mode cipher nonce k n text fits
+    ∙ ap (counter_mode cipher nonce k) (take-take n w (input ++ pad) room ∙ take_at input pad n len ∙ ie))
 
 -- counter mode of a block of zeros and a text: the cipher of the counter block, and the text from the next on
 pub zeros_and_text : (cipher : List ℕ → List ℕ) (nonce : List ℕ) (k : ℕ) (text : List ℕ) → length (cipher (counter_block nonce k)) ≡ 16

@@ -1,5 +1,5 @@
 -- What a contract says of a GHASH that is computed over a list of blocks.
-use Rattle.std.specs.Prelude.{◌≡◌, ℕ, Bool, if◌then◌else◌, List, ◌++◌}
+use Rattle.std.specs.Prelude.{◌≡◌, ℕ, List, ◌++◌}
 use Rattle.aead_ciphers.specs.Gcm.{padded_blocks}
 use Rattle.aead_ciphers.specs.Ghash.{AllSized, ghash}
 
@@ -20,7 +20,3 @@ pub record Absorbs (was : HashState) (input : List ℕ) (now : HashState) : Type
   pub kept : now ≡ record was { xi = now.xi }
   pub hashed : (done : List (List ℕ)) → IsHashOf was.hash_subkey done was.xi
       → IsHashOf was.hash_subkey (done ++ padded_blocks input) now.xi
-
--- the field products of this many blocks: one each if they are hashed, else none
-abbrev pub products_of : Bool → ℕ → ℕ
-products_of hashes blocks = if hashes then blocks else 0

@@ -1,11 +1,11 @@
 //! The hash that a tag is computed from (SP 800-38D section 7.1, steps 4 to 6).
 
-ghost use Rattle.std.specs.Prelude.{◌≡◌, ◌+◌, ◌/◌, ℕ, Bool, IsTrue, List, [], ◌∷◌, ◌++◌, length};
+ghost use Rattle.std.specs.Prelude.{◌≡◌, ◌+◌, ◌/◌, ℕ, List, [], ◌∷◌, ◌++◌, length};
 ghost use Rattle.aead_ciphers_base.specs.Bytes.{◌⊕◌};
 ghost use Rattle.aead_ciphers_base.specs.Work.{Adds, CanAdd};
 ghost use Rattle.aead_ciphers.specs.Gcm.{length_block};
 ghost use Rattle.aead_ciphers.specs.Ghash.{ghash};
-ghost use Rattle.aead_ciphers.specs.HashOf.{Absorbs, HashState, IsHashOf, products_of};
+ghost use Rattle.aead_ciphers.specs.HashOf.{Absorbs, IsHashOf};
 
 use crate::gcm::{Context, UpdateBlock, UpdateBlocks, padded};
 use aead_ciphers_base::aes::{BLOCK_LEN, Block, Work};
@@ -13,48 +13,17 @@ use aead_ciphers_base::bb;
 use aead_ciphers_base::polyfill::slice::as_chunks;
 use aead_ciphers_base::values::Tag;
 
-/// A type that absorbs bytes in blocks, the last of which is padded with zeros.
-pub(super) trait Absorb {
-    // Whether the bytes are hashed.
-    ghost hashes: { Bool };
-    // The hash, if they are.
-    ghost state: { Self → HashState };
-
-    /// Absorbs `input`, by one field product per block if it is hashed.
-    fn absorb(&mut self, input: &[u8], work: &mut Work)
-        requires { CanAdd work.old 0 (products_of hashes ((length input.now + 15) / 16)) }
-        ensures hashed { IsTrue hashes → Absorbs (state self.old) input.now (state self.new) }
-        ensures worked { Adds work.old work.new 0 (products_of hashes ((length input.now + 15) / 16)) };
-}
-
-impl<G: UpdateBlocks> Absorb for Context<'_, G> {
-    ghost use Rattle.std.specs.Prelude.{true};
-
-    ghost hashes = { true };
-
-    ghost state = { λ context. context };
-
-    fn absorb(&mut self, input: &[u8], work: &mut Work) {
-        let (whole, rest) = as_chunks::<u8, BLOCK_LEN>(input);
-        self.update_blocks(whole, work);
-        if !rest.is_empty() {
-            self.update_block(padded(rest), work);
-        }
+/// Updates the hash with `input` in blocks, the last of which is padded with zeros, by one field product per block.
+pub(super) fn absorb<G: UpdateBlocks>(auth: &mut Context<'_, G>, input: &[u8], work: &mut Work)
+    requires { CanAdd work.old 0 ((length input.now + 15) / 16) }
+    ensures hashed { Absorbs auth.old input.now auth.new }
+    ensures worked { Adds work.old work.new 0 ((length input.now + 15) / 16) }
+{
+    let (whole, rest) = as_chunks::<u8, BLOCK_LEN>(input);
+    auth.update_blocks(whole, work);
+    if !rest.is_empty() {
+        auth.update_block(padded(rest), work);
     }
-}
-
-/// Absorbs bytes without hashing them.
-#[derive(Drop)]
-pub(super) struct Unhashed;
-
-impl Absorb for Unhashed {
-    ghost use Rattle.std.specs.Prelude.{false, []};
-
-    ghost hashes = { false };
-
-    ghost state = { λ _. record { hash_subkey = []; aad_len = 0; in_out_len = 0; xi = [] } };
-
-    fn absorb(&mut self, _input: &[u8], _work: &mut Work) {}
 }
 
 /// Returns the tag: the hash, ended by the block of the lengths, XOR `mask`, the encrypted first counter block.

@@ -7,8 +7,8 @@ ghost use Rattle.aead_ciphers_base.specs.Values.{aad_bytes};
 ghost use Rattle.aead_ciphers_base.specs.Work.{Adds};
 ghost use Rattle.aead_ciphers.specs.Gcm.{CanOpen, CanSeal, Fits, OpenWork, Opened, gcm_decrypted, gcm_tag, sealing_products};
 
-use super::counter_mode::CounterMode;
-use super::hash::{Absorb, Unhashed, finish};
+use super::counter_mode::encrypt_within;
+use super::hash::{absorb, finish};
 use crate::gcm::{Context, UpdateBlocks};
 use aead_ciphers_base::aes::{Counter, EncryptCtr32, Work};
 use aead_ciphers_base::bb;
@@ -43,8 +43,7 @@ pub fn open_with<A: EncryptCtr32, G: UpdateBlocks>(
         return Err(Unspecified);
     }
     let counter = authenticate(aes, gcm, nonce, aad, received_tag, &in_out[start..], work)?;
-    let auth = Unhashed;
-    CounterMode { aes, counter, auth }.encrypt_within(in_out, start, work);
+    encrypt_within(aes, counter, in_out, start, work);
     Ok(())
 }
 
@@ -71,8 +70,7 @@ pub(super) fn open_to_with<A: EncryptCtr32, G: UpdateBlocks>(
 {
     let counter = authenticate(aes, gcm, nonce, aad, received_tag, ciphertext, work)?;
     out.copy_from_slice(ciphertext);
-    let auth = Unhashed;
-    CounterMode { aes, counter, auth }.encrypt_within(out, 0, work);
+    encrypt_within(aes, counter, out, 0, work);
     Ok(())
 }
 
@@ -102,7 +100,7 @@ fn authenticate<A: EncryptCtr32, G: UpdateBlocks>(
     let mut auth = Context::new(gcm, aad, ciphertext.len(), work)?;
     let mut counter = Counter::one(nonce);
     let tag_iv = counter.increment();
-    auth.absorb(ciphertext, work);
+    absorb(&mut auth, ciphertext, work);
     let mask = aes.encrypt_block(tag_iv.into_block_less_safe(), work);
     let tag = finish(auth, mask, work);
     bb::verify_slices_are_equal(tag.as_ref(), received_tag.as_ref())?;

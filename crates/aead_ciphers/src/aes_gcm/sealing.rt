@@ -7,15 +7,15 @@ ghost use Rattle.aead_ciphers_base.specs.Values.{aad_bytes};
 ghost use Rattle.aead_ciphers_base.specs.Work.{Adds, CanAdd};
 ghost use Rattle.aead_ciphers.specs.Gcm.{CanSeal, Fits, SealWork, gcm_encrypted, gcm_tag, sealing_blocks};
 
-use super::counter_mode::{CounterMode, encrypt_blocks};
-use super::hash::{Absorb, finish};
+use super::counter_mode::{CHUNK_LEN, encrypt_blocks, encrypt_chunk};
+use super::hash::{absorb, finish};
 use crate::gcm::{Context, UpdateBlocks};
 use aead_ciphers_base::aes::{BLOCK_LEN, Block, Counter, EncryptCtr32, Work, ZERO_BLOCK};
 use aead_ciphers_base::error::Unspecified;
 use aead_ciphers_base::values::{Aad, Nonce, Tag};
 
-/// The length of the longest plaintext that is encrypted in one pass with the mask of the tag: three blocks.
-const SHORT_LEN: usize = 3 * BLOCK_LEN;
+/// The length of the longest plaintext that is encrypted together with the mask of the tag, in bytes: seven blocks.
+const SHORT_LEN: usize = 7 * BLOCK_LEN;
 
 /// Seals as `aes_gcm::seal` does, with any cipher of 16-byte blocks (SP 800-38D section 7.1). The hash subkey of `gcm` must be
 /// the encryption of the zero block.
@@ -42,26 +42,33 @@ pub fn seal_with<A: EncryptCtr32, G: UpdateBlocks>(
     let mut auth = Context::new(gcm, aad, in_out.len(), work)?;
     if !in_out.is_empty() && in_out.len() <= SHORT_LEN {
         let mask = encrypt_short(aes, nonce, in_out, work);
-        auth.absorb(in_out, work);
+        absorb(&mut auth, in_out, work);
         return Ok(finish(auth, mask, work));
     }
     let mut counter = Counter::one(nonce);
     let tag_iv = counter.increment();
-    let auth = CounterMode { aes, counter, auth }.encrypt_within(in_out, 0, work);
+    let mut done = 0;
+    while done < in_out.len() {
+        let count = (in_out.len() - done).min(CHUNK_LEN);
+        let chunk = &mut in_out[done..done + count];
+        encrypt_chunk(aes, &mut counter, chunk, 0, work);
+        absorb(&mut auth, chunk, work);
+        done += count;
+    }
     let mask = aes.encrypt_block(tag_iv.into_block_less_safe(), work);
     Ok(finish(auth, mask, work))
 }
 
-/// Encrypts a plaintext of at most 48 bytes in place, and returns the mask of the tag, which is the encrypted first
+/// Encrypts a plaintext of at most 112 bytes in place, and returns the mask of the tag, which is the encrypted first
 /// counter block. The counter blocks of the plaintext follow that one, so counter mode of a zero block followed by the
-/// plaintext computes both, in one pass of at most four blocks.
+/// plaintext computes both at once, of at most eight blocks.
 fn encrypt_short<A: EncryptCtr32>(
     aes: &A,
     nonce: Nonce,
     in_out: &mut [u8],
     work: &mut Work,
 ) -> Block
-    requires short { length in_out.old ≤ 48 }
+    requires short { length in_out.old ≤ 112 }
     requires sums { CanAdd work.old (sealing_blocks (length in_out.old)) 0 }
     ensures ciphertext { in_out.new ≡ gcm_encrypted (A.cipher aes.now) nonce in_out.old }
     ensures mask { result ≡ A.cipher aes.now (counter_block nonce 1) }
