@@ -1,24 +1,19 @@
-use Rattle.std.proofs.Common.{◌≡◌, ◌+◌, ◌-◌, ◌*◌, ◌/◌, ◌%◌, ◌++◌, length, take, drop, ap, ap₂, arith, ◌∙◌, refl, subst, sym, append-nil, length-take-le, take_all}
+use Rattle.std.proofs.Common.{◌≡◌, ◌+◌, ◌-◌, ◌++◌, ◌<◌, length, take, drop, ap, ap₂, arith, ◌∙◌, refl, subst, sym, append-nil, length-take-le, take_all}
 use Rattle.std.proofs.lemmas.List.{drop_all}
 use Rattle.aead_ciphers_base.specs
-use specs.CounterMode.{Advances, EncryptsFirst, counter_mode}
+use specs.CounterMode.{counter_mode}
 use specs.Values.{aad_bytes}
-use Rattle.aead_ciphers_base.proofs.CounterLemmas.{advances_none, advances_more}
-use Rattle.aead_ciphers_base.proofs.CounterModeLemmas.{encrypts_none, encrypts_more, encrypts_window, length-counter_mode}
+use Rattle.aead_ciphers_base.proofs.CounterModeLemmas.{length-counter_mode}
 use Rattle.aead_ciphers.specs.HashOf.{Absorbs}
 use Rattle.aead_ciphers.proofs
-use proofs.CounterModePieces.{encrypted_piece}
+use proofs.CounterModePieces.{Walked, encrypted_piece, walked_none, walked_more}
 use proofs.RunningHash.{absorbs_none, absorbs_more, tag_found}
 use proofs.aes_gcm.sealing.seal_with.Goals as goal
 
 pub loop-done-init : goal.loop-done-init
 loop-done-init g c = record {
   worked = (omega arith, omega arith);
-  aligned = λ _. refl;
-  within = omega arith;
-  size = refl;
-  output = encrypts_none _ _ 0 _;
-  counter = advances_none _;
+  walk = walked_none _ _ 0 _ _;
   hashed = λ nonce k at. absorbs_none _;
 }
 
@@ -30,25 +25,20 @@ loop-done-preserved g c =
     let xs = c.loop-done.in_out in
     let size = d + n - d in
     let chunk = c.encrypt_chunk.new.in_out in
-    let rest = drop size (drop d xs) in
-    let inv = c.loop-done.invariant in
     let cipher = g.A.EncryptBlock.cipher c.args.aes.now in
-    let begun = c.increment-tag_iv.new.self in
-    let whole : d % 16 ≡ 0 = inv.aligned (omega arith) in
-    let blocks : (d + 15) / 16 ≡ d / 16 = omega (arith, whole) in
-    let output : EncryptsFirst cipher begun 0 (d + n) was (take d xs ++ (chunk ++ rest)) =
-    encrypts_more _ _ _ 0 d n _ _ _ whole (omega arith) inv.output (subst (λ z. Advances begun c.loop-done.counter z) blocks inv.counter)
-    (encrypts_window _ _ 0 d n size xs _ (omega arith) (omega arith) c.encrypt_chunk.ensures.output) in
+    let inv = c.loop-done.invariant in
+    let more : d < length was = omega arith in
+    let whole = inv.walk.aligned more in
+    let walk : Walked cipher c.increment-tag_iv.new.self c.encrypt_chunk.new.counter 0 (length was) (d + n) was (take d xs ++ (chunk ++ drop size (drop d xs))) =
+    walked_more 0 (length was) d n _ size was xs chunk (omega arith) more (omega arith) (λ lt. omega arith) (omega arith) (omega arith) (omega arith)
+    inv.walk c.encrypt_chunk.ensures.output c.encrypt_chunk.ensures.counter in
     record {
       worked = (omega (arith, whole), omega (arith, whole));
-      aligned = λ lt. omega (arith, whole);
-      within = omega arith;
-      size = omega arith;
-      output = output;
-      counter = advances_more _ _ _ _ _ _ inv.counter c.encrypt_chunk.ensures.counter (omega (arith, whole));
+      walk = walk;
       hashed = λ nonce k at.
           absorbs_more (counter_mode cipher nonce k was) d n whole (omega (arith, length-counter_mode cipher nonce k was))
-          (encrypted_piece cipher nonce k d n was (take d xs) chunk rest _ (omega arith) (length-take-le d xs (omega arith)) (omega arith) (output nonce k at))
+          (encrypted_piece cipher nonce k d n was (take d xs) chunk (drop size (drop d xs)) _ (omega arith) (length-take-le d xs (omega arith)) (omega arith)
+          (walk.output nonce k at))
           (inv.hashed nonce k at) c.absorb-in-loop-done.ensures.hashed;
     }
 
@@ -58,7 +48,7 @@ returns-clause-ciphertext g c =
     let nonce = c.args.nonce in
     let cipher = g.A.EncryptBlock.cipher c.args.aes.now in
     let all : c.loop-done.done ≡ length was = omega arith in
-    c.loop-done.invariant.output nonce 2 (c.increment-tag_iv.ensures.counter nonce 1 c.one-counter.ensures)
+    c.loop-done.invariant.walk.output nonce 2 (c.increment-tag_iv.ensures.counter nonce 1 c.one-counter.ensures)
     ∙ ap (λ n. counter_mode cipher nonce 2 (take n was) ++ drop n was) all
     ∙ ap₂ (λ t u. counter_mode cipher nonce 2 t ++ u) (take_all (length was) was (omega arith)) (drop_all (length was) was (omega arith))
     ∙ append-nil (counter_mode cipher nonce 2 was)
