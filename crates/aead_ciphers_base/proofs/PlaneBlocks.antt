@@ -18,7 +18,7 @@ byte_of_state f k h = get_or-each 16 (λ j. f (j % 4) (j / 4)) k 0 h
 pub state_same : (f g : ℕ → ℕ → ℕ) → ((r c : ℕ) → r < 4 → c < 4 → f r c ≡ g r c) → state f ≡ state g
 state_same f g h = state_is g _ refl (λ k lt. byte_of_state f k lt ∙ h _ _ (omega arith) (omega arith))
 
-at_state : (f : ℕ → ℕ → ℕ) (r c : ℕ) → r < 4 → c < 4 → at (state f) r c ≡ f r c
+pub at_state : (f : ℕ → ℕ → ℕ) (r c : ℕ) → r < 4 → c < 4 → at (state f) r c ≡ f r c
 at_state f r c hr hc =
     let row : (r + 4 * c) % 4 ≡ r = omega arith in
     let column : (r + 4 * c) / 4 ≡ c = omega arith in

@@ -84,7 +84,7 @@ upper_lt k q hk hq e =
     let place = rw e at (same_in_table (λ j t. (if bit_at t j == 0 then t + 2 ^ j else t) / 64) (λ j t. 0) 6 64 k q refl hk hq) in
     omega arith
 
-word_bit-at : (w : List ℕ) (i q n : ℕ) → q < 64 → n ≡ 64 * i + q → word_bit w n ≡ bit_at (slice_index w i) q
+pub word_bit-at : (w : List ℕ) (i q n : ℕ) → q < 64 → n ≡ 64 * i + q → word_bit w n ≡ bit_at (slice_index w i) q
 unfolding word_bit
 word_bit-at w i q n h e =
     let word : n / 64 ≡ i = omega arith in

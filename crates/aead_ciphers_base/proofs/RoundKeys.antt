@@ -22,7 +22,7 @@ rounds_more w b (suc n) h =
     rw (same, before)
 rounds_more w b _ h = absurd (omega arith)
 
-length-key_words : (nk : ℕ) (key : List ℕ) (n : ℕ) → length (key_words nk key n) ≡ nk + n
+pub length-key_words : (nk : ℕ) (key : List ℕ) (n : ℕ) → length (key_words nk key n) ≡ nk + n
 unfolding key_words
 length-key_words nk key zero = length-each nk _ ∙ omega arith
 length-key_words nk key (suc n) =
@@ -30,7 +30,7 @@ length-key_words nk key (suc n) =
     let both = length-append (key_words nk key n) (next_word nk (key_words nk key n) (nk + n) ∷ []) in
     omega (arith, before, both)
 
-key_words_front : (nk : ℕ) (key : List ℕ) (n i : ℕ) → i < nk → word_at (key_words nk key n) i ≡ key_word key i
+pub key_words_front : (nk : ℕ) (key : List ℕ) (n i : ℕ) → i < nk → word_at (key_words nk key n) i ≡ key_word key i
 unfolding key_words
 key_words_front nk key zero i h = get_or-each nk _ i [] h
 key_words_front nk key (suc n) i h =

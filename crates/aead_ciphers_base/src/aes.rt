@@ -23,13 +23,18 @@ mod counter;
 mod ctr32;
 mod key_schedule;
 mod pack;
+mod plane;
 mod planes;
 mod round;
 mod tower;
 mod work;
 
 pub use counter::{Counter, Iv};
+pub use key_schedule::expand as expand_words;
+pub use pack::LOW;
+pub use plane::Plane;
 pub use planes::sub_planes;
+pub use tower::sub_bytes;
 pub use work::Work;
 
 /// The length of an AES-128 key, in bytes.
@@ -58,7 +63,7 @@ pub enum KeyBytes<'a> {
 
 impl<'a> KeyBytes<'a> {
     /// Returns the 16 or 32 bytes of the key.
-    fn as_slice(self) -> &'a [u8]
+    pub fn as_slice(self) -> &'a [u8]
         ensures bytes { result.now ≡ key_bytes self.entry }
         ensures len { (length result.now ≡ 16) ⊎ (length result.now ≡ 32) }
     {

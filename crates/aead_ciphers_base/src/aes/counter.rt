@@ -54,7 +54,7 @@ impl Counter {
     }
 
     /// Returns the counter block with `more` added to its number, modulo 2^32.
-    pub(crate) fn plus(&self, more: u32) -> Block
+    pub fn plus(&self, more: u32) -> Block
         ensures { (nonce : List ℕ) (k : ℕ) → IsCounter self.now nonce k →
             IsCounter result nonce (k + more) }
     {

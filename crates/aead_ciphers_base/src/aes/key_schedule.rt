@@ -67,7 +67,7 @@ fn next_word(words: &[[u8; 4]], i: usize, nk: usize) -> [u8; 4]
     add_words(words[i - nk], turned)
 }
 
-/// Expands a key of 16 or 32 bytes. The first 44 or 60 words of the result are its key schedule.
+/// Expands a key of 16 or 32 bytes (FIPS 197 section 5.2). The first 44 or 60 words of the result are its key schedule.
 #[tactic(auto, using(crate::proofs::KeySchedule::first_word_step, crate::proofs::KeySchedule::first_words_end))]
 pub fn expand(key: &[u8]) -> [[u8; 4]; 60]
     requires { (length key.now ≡ 16) ⊎ (length key.now ≡ 32) }

@@ -10,8 +10,8 @@ ghost use Rattle.aead_ciphers_base.specs.Planes.{plane_byte, plane_block, word_b
 use super::planes::Planes;
 use super::{Block, ZERO_BLOCK};
 
-// The places whose binary digit `k` is zero, for each `k`.
-const LOW: [u64; 6] = [
+/// The places whose binary digit `k` is zero, for each `k`.
+pub const LOW: [u64; 6] = [
     0x5555_5555_5555_5555,
     0x3333_3333_3333_3333,
     0x0f0f_0f0f_0f0f_0f0f,

@@ -4,7 +4,7 @@ ghost use Rattle.std.specs.Prelude.{◌≡◌, ◌<◌, ℕ};
 ghost use Rattle.aead_ciphers_base.specs.ByteField.{mul8, sbox};
 ghost use Rattle.aead_ciphers_base.specs.Planes.{plane_byte};
 
-use super::tower::{invert, map_affine, to_tower};
+use super::tower::sub_bytes;
 
 /// Eight planes, which hold 64 bytes: bit `p` of plane `b` is bit `b` of byte `p`.
 pub type Planes = [u64; 8];
@@ -21,10 +21,9 @@ pub fn times_x(a: Planes) -> Planes
 
 /// Replaces each of the 64 bytes that the planes hold by its S-box value (FIPS 197 section 5.1.1). Bit
 /// `b` of byte `p` is bit `p` of plane `b`.
-#[tactic(auto, unfolding(crate::specs::ByteField::sbox))]
 #[inline(always)]
 pub fn sub_planes(planes: &mut [u64; 8])
     ensures { (p : ℕ) → p < 64 → plane_byte planes.new p ≡ sbox (plane_byte planes.old p) }
 {
-    *planes = map_affine(invert(to_tower(*planes)));
+    *planes = sub_bytes(*planes);
 }

@@ -6,18 +6,18 @@
 //! element of the field of 16, takes four planes, and x^85, an element of the field of 4, takes two:
 //! x^17 = x * x^16, x^85 = x^17 * x^68, x^238 = x^68 * (x^85)^2, x^254 = x^16 * x^238.
 
-ghost use Rattle.std.specs.Prelude.{◌≡◌, ◌<◌, ℕ};
-ghost use Rattle.aead_ciphers_base.specs.ByteField.{mul8, affine, inv};
+ghost use Rattle.std.specs.Prelude.{◌≡◌, ◌<◌, ℕ, map};
+ghost use Rattle.aead_ciphers_base.specs.ByteField.{mul8, affine, inv, sbox};
 ghost use Rattle.aead_ciphers_base.specs.Planes.{plane_byte};
 ghost use Rattle.aead_ciphers_base.specs.Tower.{plane_element, basis_4, basis_16, basis_256};
 
-use super::planes::Planes;
+use super::plane::Plane;
 
 // Multiplies in the field of 4.
 #[inline(always)]
-fn multiply_4(a: [u64; 2], b: [u64; 2]) -> [u64; 2]
-    ensures { (p : ℕ) → plane_element basis_4 result p
-        ≡ mul8 (plane_element basis_4 a p) (plane_element basis_4 b p) }
+fn multiply_4<W: Plane>(a: [W; 2], b: [W; 2]) -> [W; 2]
+    ensures { (p : ℕ) → plane_element basis_4 (map W.number result) p
+        ≡ mul8 (plane_element basis_4 (map W.number a) p) (plane_element basis_4 (map W.number b) p) }
 {
     let [a0, a1] = a;
     let [b0, b1] = b;
@@ -27,9 +27,9 @@ fn multiply_4(a: [u64; 2], b: [u64; 2]) -> [u64; 2]
 
 // Multiplies in the field of 16, by three products in the field of 4.
 #[inline(always)]
-fn multiply_16(a: [u64; 4], b: [u64; 4]) -> [u64; 4]
-    ensures { (p : ℕ) → plane_element basis_16 result p
-        ≡ mul8 (plane_element basis_16 a p) (plane_element basis_16 b p) }
+fn multiply_16<W: Plane>(a: [W; 4], b: [W; 4]) -> [W; 4]
+    ensures { (p : ℕ) → plane_element basis_16 (map W.number result) p
+        ≡ mul8 (plane_element basis_16 (map W.number a) p) (plane_element basis_16 (map W.number b) p) }
 {
     let [a0, a1, a2, a3] = a;
     let [b0, b1, b2, b3] = b;
@@ -42,12 +42,14 @@ fn multiply_16(a: [u64; 4], b: [u64; 4]) -> [u64; 4]
 
 // Inverts in the field of 16: n^14 = n^4 * (n^5)^2, and n^5 is in the field of 4.
 #[inline(always)]
-fn invert_16(n: [u64; 4]) -> [u64; 4]
-    ensures { (p : ℕ) → plane_element basis_16 result p ≡ inv (plane_element basis_16 n p) }
+fn invert_16<W: Plane>(n: [W; 4]) -> [W; 4]
+    ensures { (p : ℕ) → plane_element basis_16 (map W.number result) p
+        ≡ inv (plane_element basis_16 (map W.number n) p) }
 {
     let [n0, n1, n2, n3] = n;
     let [c0, c1] = multiply_4([n2, n3], [n0, n1]);
-    let [s0, s1] = [n0 ^ n2, n1 ^ n3];
+    let s0 = n0 ^ n2;
+    let s1 = n1 ^ n3;
     let n10 = [c1 ^ s1, c0 ^ s0 ^ s1];
     let [low0, low1] = multiply_4(n10, [n2, n3]);
     let [high0, high1] = multiply_4(n10, [n0, n1]);
@@ -56,14 +58,18 @@ fn invert_16(n: [u64; 4]) -> [u64; 4]
 
 /// Inverts each byte, in coordinates of the tower: a^254 = a^16 * (a^17)^14, and a^17 is in the field of 16.
 #[inline(always)]
-pub fn invert(a: Planes) -> Planes
-    ensures { (p : ℕ) → plane_element basis_256 result p ≡ inv (plane_element basis_256 a p) }
+fn invert<W: Plane>(a: [W; 8]) -> [W; 8]
+    ensures { (p : ℕ) → plane_element basis_256 (map W.number result) p
+        ≡ inv (plane_element basis_256 (map W.number a) p) }
 {
     let [a0, a1, a2, a3, a4, a5, a6, a7] = a;
     let low = [a0, a1, a2, a3];
     let high = [a4, a5, a6, a7];
     let [c0, c1, c2, c3] = multiply_16(low, high);
-    let [s0, s1, s2, s3] = [a0 ^ a4, a1 ^ a5, a2 ^ a6, a3 ^ a7];
+    let s0 = a0 ^ a4;
+    let s1 = a1 ^ a5;
+    let s2 = a2 ^ a6;
+    let s3 = a3 ^ a7;
     let a17 = [c0 ^ s1 ^ s3, c1 ^ s0 ^ s2, c2 ^ s2, c3 ^ s2 ^ s3];
     let a238 = invert_16(a17);
     let [r0, r1, r2, r3] = multiply_16(high, a238);
@@ -73,8 +79,8 @@ pub fn invert(a: Planes) -> Planes
 
 /// Converts each byte to its coordinates in the basis of the tower.
 #[inline(always)]
-pub fn to_tower(a: Planes) -> Planes
-    ensures { (p : ℕ) → plane_element basis_256 result p ≡ plane_byte a p }
+fn to_tower<W: Plane>(a: [W; 8]) -> [W; 8]
+    ensures { (p : ℕ) → plane_element basis_256 (map W.number result) p ≡ plane_byte (map W.number a) p }
 {
     let [a0, a1, a2, a3, a4, a5, a6, a7] = a;
     let a06 = a0 ^ a6;
@@ -96,22 +102,35 @@ pub fn to_tower(a: Planes) -> Planes
 /// Applies the affine transformation of the S-box to each byte. The planes hold the coordinates of the
 /// bytes in the basis of the tower; the result holds bytes again.
 #[inline(always)]
-pub fn map_affine(a: Planes) -> Planes
-    ensures { (p : ℕ) → p < 64 → plane_byte result p ≡ affine (plane_element basis_256 a p) }
+fn map_affine<W: Plane>(a: [W; 8]) -> [W; 8]
+    ensures { (p : ℕ) → p < W.width → plane_byte (map W.number result) p
+        ≡ affine (plane_element basis_256 (map W.number a) p) }
 {
     let [a0, a1, a2, a3, a4, a5, a6, a7] = a;
+    let ones = W::ones();
     let a17 = a1 ^ a7;
     let a157 = a5 ^ a17;
     let a24 = a2 ^ a4;
     let a36 = a3 ^ a6;
     [
-        a4 ^ a36 ^ u64::MAX,
-        a7 ^ a36 ^ u64::MAX,
+        a4 ^ a36 ^ ones,
+        a7 ^ a36 ^ ones,
         a0 ^ (a17 ^ a24),
         a6 ^ (a4 ^ a157),
         a157,
-        a24 ^ u64::MAX,
-        a1 ^ a5 ^ u64::MAX,
+        a24 ^ ones,
+        a1 ^ a5 ^ ones,
         a17,
     ]
+}
+
+/// Replaces each byte that the planes hold by its S-box value (FIPS 197 section 5.1.1). Bit `b` of byte
+/// `p` is bit `p` of plane `b`.
+#[tactic(auto, unfolding(crate::specs::ByteField::sbox))]
+#[inline(always)]
+pub fn sub_bytes<W: Plane>(planes: [W; 8]) -> [W; 8]
+    ensures { (p : ℕ) → p < W.width → plane_byte (map W.number result) p
+        ≡ sbox (plane_byte (map W.number planes) p) }
+{
+    map_affine(invert(to_tower(planes)))
 }

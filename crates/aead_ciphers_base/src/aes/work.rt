@@ -64,7 +64,7 @@ impl Work {
     }
 
     /// Counts one cipher block.
-    pub(crate) fn add_block(&mut self)
+    pub fn add_block(&mut self)
         requires { CanAdd self.old 1 0 }
         ensures { Adds self.old self.new 1 0 }
     {
