@@ -137,9 +137,3 @@ encrypts_window cipher counter s d n size xs w room e front = λ nonce k at.
     (drop size rest))
     ∙ ap₂ (λ u v. take d xs ++ (counter_mode cipher nonce k u ++ v)) text tail
     ∙ sym (append_assoc (take d xs) (counter_mode cipher nonce k (take n (drop (s + d) xs))) (drop (d + n) xs))
-
--- a XOR as long as the first list has read all of the second that it needs
-pub xor-reads : (xs ys : List ℕ) → length xs ≤ length (xs ⊕ ys) → length xs ≤ length ys
-xor-reads [] ys le = omega arith
-xor-reads (x ∷ xs) [] le = le
-xor-reads (x ∷ xs) (y ∷ ys) le = let rest = xor-reads xs ys (omega arith) in omega arith

@@ -37,6 +37,7 @@ pub(super) fn encrypt_within<A: EncryptCtr32>(
 
 /// Encrypts or decrypts the bytes from `start` on to the front of `in_out`. The counter counts their blocks, of which
 /// the last may be short. Bytes that aren't whole blocks end in less than a batch, which is padded and encrypted at once.
+#[inline(always)]
 pub(super) fn encrypt_chunk<A: EncryptCtr32>(
     aes: &A,
     counter: &mut Counter,
@@ -50,13 +51,21 @@ pub(super) fn encrypt_chunk<A: EncryptCtr32>(
     ensures counter { Advances counter.old counter.new ((length in_out.old - start + 15) / 16) }
     ensures worked { Adds work.old work.new ((length in_out.old - start + 15) / 16) 0 }
 {
-    let len = in_out.len() - start;
+    let whole = whole_len(in_out.len() - start);
+    encrypt_blocks(aes, counter, &mut in_out[..whole + start], start, work);
+    encrypt_rest(aes, counter, &mut in_out[whole..], start, work);
+}
+
+/// Returns how many of `len` bytes go to the cipher as they are: all, if they are whole blocks, else whole batches.
+fn whole_len(len: usize) -> usize
+    ensures aligned { result % 16 ≡ 0 }
+    ensures within { result ≤ len }
+    ensures rest { len < result + 128 }
+{
     if len % BLOCK_LEN == 0 {
-        encrypt_blocks(aes, counter, in_out, start, work);
+        len
     } else {
-        let whole = len / BATCH_LEN * BATCH_LEN;
-        encrypt_blocks(aes, counter, &mut in_out[..whole + start], start, work);
-        encrypt_rest(aes, counter, &mut in_out[whole..], start, work);
+        len / BATCH_LEN * BATCH_LEN
     }
 }
 
@@ -81,6 +90,7 @@ pub(super) fn encrypt_blocks<A: EncryptCtr32>(
 
 /// Encrypts the bytes from `start` on, which are fewer than a batch, to the front of `in_out`: pads them to whole blocks
 /// in a buffer of its own.
+#[inline(always)]
 fn encrypt_rest<A: EncryptCtr32>(
     aes: &A,
     counter: &mut Counter,
@@ -96,9 +106,11 @@ fn encrypt_rest<A: EncryptCtr32>(
     ensures worked { Adds work.old work.new ((length in_out.old - start + 15) / 16) 0 }
 {
     let rest = in_out.len() - start;
-    let whole = rest.div_ceil(BLOCK_LEN) * BLOCK_LEN;
-    let mut padded = [0; BATCH_LEN];
-    padded[..rest].copy_from_slice(&in_out[start..]);
-    encrypt_blocks(aes, counter, &mut padded[..whole], 0, work);
-    in_out[..rest].copy_from_slice(&padded[..rest]);
+    if rest > 0 {
+        let whole = rest.div_ceil(BLOCK_LEN) * BLOCK_LEN;
+        let mut padded = [0; BATCH_LEN];
+        padded[..rest].copy_from_slice(&in_out[start..]);
+        encrypt_blocks(aes, counter, &mut padded[..whole], 0, work);
+        in_out[..rest].copy_from_slice(&padded[..rest]);
+    }
 }

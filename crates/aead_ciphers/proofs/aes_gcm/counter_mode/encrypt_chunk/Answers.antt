@@ -1,17 +1,17 @@
-use Rattle.std.proofs.Common.{◌≡◌, ◌+◌, ◌-◌, ◌*◌, ◌/◌, ◌++◌, length, drop, arith, length-take-le, subst}
+use Rattle.std.proofs.Common.{◌≡◌, ◌+◌, ◌-◌, ◌++◌, length, drop, arith, length-take-le, subst}
 use Rattle.aead_ciphers_base.specs.CounterMode.{EncryptsFirst}
 use Rattle.aead_ciphers_base.proofs.CounterModeLemmas.{encrypts_none, encrypts_more, encrypts_all, encrypts_window}
 use Rattle.aead_ciphers_base.proofs.CounterLemmas.{advances_none, advances_more}
 use Rattle.aead_ciphers.proofs.aes_gcm.counter_mode.encrypt_chunk.Goals as goal
 
-pub returns-else-len-eq0-clause-output : goal.returns-else-len-eq0-clause-output
-returns-else-len-eq0-clause-output g c =
+pub returns-clause-output : goal.returns-clause-output
+returns-clause-output g c =
     let s = c.args.start in
     let was = c.args.in_out.now in
-    let d = (length was - s) / 128 * 128 in
+    let d = c.whole_len-whole.result in
     let n = length was - s - d in
-    let front = c.encrypt_blocks-else-len-eq0.ensures in
-    let xs = c.encrypt_blocks-else-len-eq0.new.in_out ++ drop (d + s) was in
+    let front = c.encrypt_blocks.ensures in
+    let xs = c.encrypt_blocks.new.in_out ++ drop (d + s) was in
     let size = length-take-le (d + s) was (omega arith) in
     let all : 0 + d ≡ d = omega arith in
     encrypts_all _ _ s (d + n) _ _
