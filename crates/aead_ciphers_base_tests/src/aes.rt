@@ -68,6 +68,14 @@ fn s_box_of_each_byte_in_each_block(rt: HostRuntime) -> Result<(), Fail> {
     Ok(())
 }
 
+// The S-box value of 0 is 63.
+#[test]
+fn s_box_of_zero_planes(rt: HostRuntime) {
+    let mut planes = [0; 8];
+    sub_planes(&mut planes);
+    holds(&rt, planes == planes_of(&[0x63; 64]), "the planes");
+}
+
 /// Expands a key of 16 or 32 bytes.
 fn expanded(key: &[u8]) -> Result<Key, Fail> {
     let bytes = match key.as_array::<16>() {
@@ -195,7 +203,8 @@ fn counter_at(number: u32) -> Counter {
 #[test]
 fn sums_wrap_in_the_last_four_bytes(rt: HostRuntime) {
     for number in [0xffff_fffe, u32::MAX, 0, 1] {
-        let mut counter = counter_at(2);
+        let mut counter = one();
+        counter.increment();
         counter.increment_by_less_safe(number.wrapping_sub(2));
         stands_at(&rt, &counter, number);
         let iv = counter.increment().into_block_less_safe();

@@ -88,6 +88,12 @@ fn rfc_8439_a_1_vector_1(rt: HostRuntime) -> Result<(), Fail> {
         Overlapping::from(&mut buffer[..]),
     );
     same(&rt, &buffer, &wanted, "the block");
+    let mut front = [0; 16];
+    key.encrypt(
+        Counter::from_nonce_and_ctr(zeros(), 0),
+        Overlapping::from(&mut front[..]),
+    );
+    same(&rt, &front, &wanted[..16], "the first bytes of the block");
     let mut block = [0; 16];
     let one = key.encrypt_single_block_with_ctr_0(zeros(), &mut block);
     same(&rt, &block, &wanted[..16], "block 0");

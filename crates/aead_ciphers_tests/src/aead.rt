@@ -2,7 +2,7 @@
 
 use crate::cases::{aad, key, nonce, opened_at_4, packet, sealed};
 use crate::checks::{holds, prints, same};
-use aead_ciphers::aead::{AES_128_GCM, AES_256_GCM, Aad, LessSafeKey, UnboundKey};
+use aead_ciphers::aead::{AES_128_GCM, AES_256_GCM, Aad, Algorithm, LessSafeKey, UnboundKey};
 use aead_ciphers::laws;
 use aead_vectors::gcm_spec::{CASE_4, CASES, Case};
 use std::process::Abort;
@@ -17,6 +17,24 @@ fn debug_texts(rt: HostRuntime) -> Result<(), Fail> {
     prints(&rt, &unbound, "UnboundKey { algorithm: AES_128_GCM }")?;
     let key = LessSafeKey::new(unbound);
     prints(&rt, &key, "LessSafeKey { algorithm: AES_128_GCM }")?;
+    Ok(())
+}
+
+/// Asserts that zeros of this length are no key.
+fn is_no_key(rt: &impl Abort, algorithm: &'static Algorithm, len: usize) -> Result<(), Fail> {
+    let key = UnboundKey::new(algorithm, [0; 33].get(..len).ok_or("a key's length")?);
+    holds(rt, key.is_err(), "a key's length");
+    Ok(())
+}
+
+#[test]
+fn keys_of_other_lengths_are_refused(rt: HostRuntime) -> Result<(), Fail> {
+    for len in [0, 15, 17, 32] {
+        is_no_key(&rt, &AES_128_GCM, len)?;
+    }
+    for len in [0, 16, 31, 33] {
+        is_no_key(&rt, &AES_256_GCM, len)?;
+    }
     Ok(())
 }
 
@@ -46,10 +64,10 @@ fn appends(
     key: &LessSafeKey,
     case: &Case,
     in_out: &mut Vec<u8>,
+    sealed: &[u8],
 ) -> Result<(), Fail> {
     key.seal_in_place_append_tag(nonce(case), aad(case), in_out)?;
-    holds(rt, in_out.starts_with(&case.ciphertext), case.name);
-    holds(rt, in_out.ends_with(&case.tag), case.name);
+    same(rt, in_out, sealed, case.name);
     Ok(())
 }
 
@@ -64,8 +82,9 @@ fn opens(rt: &impl Abort, key: &LessSafeKey, case: &Case, in_out: &mut [u8]) -> 
 fn gcm_spec_cases_appended(rt: HostRuntime) -> Result<(), Fail> {
     for line in CASES {
         let case = Case::parse(rt.alloc(), line)?;
+        let sealed = sealed(rt.alloc(), &case, &[])?;
         let mut in_out = case.message.clone()?;
-        appends(&rt, &key(&case)?, &case, &mut in_out)?;
+        appends(&rt, &key(&case)?, &case, &mut in_out, &sealed)?;
         opens(&rt, &key(&case)?, &case, &mut in_out)?;
     }
     Ok(())

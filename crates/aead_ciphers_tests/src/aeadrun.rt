@@ -1,4 +1,4 @@
-//! Tests of `aeadrun` that its stored run can't make: the statuses of other inputs, and a long line.
+//! Tests of `aeadrun`: short inputs, each with its own status, and a long line.
 
 use crate::checks::{holds, same};
 use aead_ciphers::aeadrun::lines;
@@ -19,15 +19,51 @@ fn answers(rt: &impl Abort, alloc: Global, input: &[u8], printed: &[u8], status:
 }
 
 /// Input, what is printed, and the status.
-const STATUSES: [(&[u8], &[u8], u8); 3] = [
+const RUNS: [(&[u8], &[u8], u8); 5] = [
     (b"", b"", 0),
-    (b"seal 128 00 00 - -\n", b"refused\n", 0),
-    (b"seal 128 00 00 -\n", b"bad line\n", 1),
+    // Test case 2.
+    (
+        b"seal 128 00000000000000000000000000000000 000000000000000000000000 - 00000000000000000000000000000000\n",
+        b"ok 0388dace60b6a392f328c2b971b2fe78 ab6e47d42cec13bdf53a67b21257bddf\n",
+        0,
+    ),
+    // A key of 16 bytes for AES-256.
+    (
+        b"seal 256 00000000000000000000000000000000 000000000000000000000000 - -\n",
+        b"refused\n",
+        0,
+    ),
+    // Test case 4, sealed once, and opened after four bytes.
+    (
+        b"keys 128 feffe9928665731c6d6a8f9467308308 cafebabe facedbaddecaf888 1\n\
+          next-seal feedfacedeadbeeffeedfacedeadbeefabaddad2 d9313225f88406e5a55909c5aff5269a86a7a9531534f7da2e4c303d8a318a721c3c0c95956809532fcf0e2449a6b525b16aedf5aa0de657ba637b39\n\
+          next-seal - -\n\
+          next-open feedfacedeadbeeffeedfacedeadbeefabaddad2 4 0000000042831ec2217774244b7221b784d0d49ce3aa212f2c02a4e035c17e2329aca12e21d514b25466931c7d8f6a5aac84aa051ba30b396a0aac973d58e0915bc94fbc3221a5db94fae95ae7121a47\n",
+        b"ok\n\
+          ok 42831ec2217774244b7221b784d0d49ce3aa212f2c02a4e035c17e2329aca12e21d514b25466931c7d8f6a5aac84aa051ba30b396a0aac973d58e0915bc94fbc3221a5db94fae95ae7121a47\n\
+          refused\n\
+          ok d9313225f88406e5a55909c5aff5269a86a7a9531534f7da2e4c303d8a318a721c3c0c95956809532fcf0e2449a6b525b16aedf5aa0de657ba637b39 d9313225f88406e5a55909c5aff5269a86a7a9531534f7da2e4c303d8a318a721c3c0c95956809532fcf0e2449a6b525b16aedf5aa0de657ba637b393d58e0915bc94fbc3221a5db94fae95ae7121a47\n",
+        0,
+    ),
+    // Lines that are no commands, and two with a key of one byte.
+    (
+        b"\n\
+          seal 128 00 -\n\
+          mask aes128 abc -\n\
+          seal 128 00 00 - -\n\
+          open 128 00 00 - 0 ff\n",
+        b"bad line\n\
+          bad line\n\
+          bad line\n\
+          refused\n\
+          refused ff\n",
+        1,
+    ),
 ];
 
 #[test]
-fn a_refusal_is_no_bad_line(rt: HostRuntime) {
-    for (input, printed, status) in STATUSES {
+fn runs(rt: HostRuntime) {
+    for (input, printed, status) in RUNS {
         answers(&rt, rt.alloc(), input, printed, status);
     }
 }

@@ -7,7 +7,7 @@ use crate::reference;
 use aead_ciphers::aes_gcm::{Key, open};
 use aead_ciphers_base::aes::{self, KeyBytes, Work};
 use aead_ciphers_base::values::{Aad, Nonce, Tag};
-use aead_vectors::gcm_spec::{CASE_4, CASE_16, Case};
+use aead_vectors::gcm_spec::{CASE_1, CASE_4, CASE_16, Case};
 use std::alloc::Global;
 use std::process::Abort;
 use std::test::Fail;
@@ -68,18 +68,33 @@ fn work_of_a_refused_opening(rt: HostRuntime) -> Result<(), Fail> {
     Ok(())
 }
 
-/// Sealing and opening take five blocks and seven products, and rejecting a wrong tag takes one block and seven products.
-#[test]
-fn work_of_gcm_spec_case_4(rt: HostRuntime) -> Result<(), Fail> {
-    let case = Case::parse(rt.alloc(), CASE_4)?;
+/// Asserts the work of sealing a case, of rejecting a wrong tag after four bytes, which takes one block, and of opening.
+fn works(
+    rt: &impl Abort,
+    alloc: Global,
+    case: &Case,
+    blocks: u64,
+    products: u64,
+) -> Result<(), Fail> {
     let mut buffer = case.message.clone()?;
-    let (tag, work) = sealed(&case, &case.aad, &mut buffer)?;
-    worked(&rt, &work, 5, 7, "seal");
-    let (_, work) = opened(&case, &case.aad, false_tag(&case), &mut buffer, 0)?;
-    worked(&rt, &work, 1, 7, "a false tag");
-    let (_, work) = opened(&case, &case.aad, tag, &mut buffer, 0)?;
-    worked(&rt, &work, 5, 7, "open");
-    same(&rt, &buffer, &case.message, "the message");
+    let (tag, work) = sealed(case, &case.aad, &mut buffer)?;
+    worked(rt, &work, blocks, products, "seal");
+    let mut after_four = [0; 4].to_vec(alloc)?;
+    after_four.extend_from_slice(&buffer)?;
+    let (_, work) = opened(case, &case.aad, false_tag(case), &mut after_four, 4)?;
+    worked(rt, &work, 1, products, "a false tag");
+    let (_, work) = opened(case, &case.aad, tag, &mut buffer, 0)?;
+    worked(rt, &work, blocks, products, "open");
+    same(rt, &buffer, &case.message, "the message");
+    Ok(())
+}
+
+#[test]
+fn work_of_gcm_spec_cases(rt: HostRuntime) -> Result<(), Fail> {
+    for (line, blocks, products) in [(CASE_1, 1, 1), (CASE_4, 5, 7)] {
+        let case = Case::parse(rt.alloc(), line)?;
+        works(&rt, rt.alloc(), &case, blocks, products)?;
+    }
     Ok(())
 }
 

@@ -6,7 +6,7 @@ use aead_ciphers::aead::{
     AES_128_GCM, Aad, BoundKey, CounterSequence, Nonce, NonceSequence, OpeningKey, SealingKey,
     Unspecified,
 };
-use aead_vectors::gcm_spec::{CASE_1, CASE_4, Case};
+use aead_vectors::gcm_spec::{CASE_1, CASE_4, CASE_13, Case};
 use arrayvec::ArrayVec;
 use std::process::Abort;
 use std::test::Fail;
@@ -63,16 +63,23 @@ fn seals<N: NonceSequence>(
     }
 }
 
+/// Asserts that a key with two nonces seals twice, and then fails.
+fn seals_twice(rt: &impl Abort, case: &Case) -> Result<(), Fail> {
+    let nonce = Nonce::assume_unique_for_key([0, 0, 0, 0, 0, 0, 0, 0, 0, 0, 0, 1]);
+    let tag = key(case)?.seal_in_place_separate_tag(nonce, Aad::empty(), &mut [])?;
+    let mut sealing = sealing(case, 2)?;
+    seals(rt, &mut sealing, Aad::empty(), Some(&case.tag));
+    seals(rt, &mut sealing, Aad::empty(), Some(tag.as_ref()));
+    seals(rt, &mut sealing, Aad::empty(), None);
+    seals(rt, &mut sealing, Aad::empty(), None);
+    Ok(())
+}
+
 #[test]
 fn seals_while_there_are_nonces(rt: HostRuntime) -> Result<(), Fail> {
-    let case = Case::parse(rt.alloc(), CASE_1)?;
-    let nonce = Nonce::assume_unique_for_key([0, 0, 0, 0, 0, 0, 0, 0, 0, 0, 0, 1]);
-    let tag = key(&case)?.seal_in_place_separate_tag(nonce, Aad::empty(), &mut [])?;
-    let mut sealing = sealing(&case, 2)?;
-    seals(&rt, &mut sealing, Aad::empty(), Some(&case.tag));
-    seals(&rt, &mut sealing, Aad::empty(), Some(tag.as_ref()));
-    seals(&rt, &mut sealing, Aad::empty(), None);
-    seals(&rt, &mut sealing, Aad::empty(), None);
+    for line in [CASE_1, CASE_13] {
+        seals_twice(&rt, &Case::parse(rt.alloc(), line)?)?;
+    }
     Ok(())
 }
 

@@ -106,6 +106,7 @@ fn makes(rt: &impl Abort, len: usize, is_made: bool) {
 #[test]
 fn limits_of_a_context(rt: HostRuntime) {
     assert!(rt; MAX_IN_OUT_LEN == 68_719_476_704);
+    makes(&rt, 1 << 32, true);
     makes(&rt, 68_719_476_704, true);
     makes(&rt, 68_719_476_705, false);
 }
