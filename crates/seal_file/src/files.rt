@@ -1,7 +1,7 @@
 //! Files by their names. The calls of std take a name as text, so a name that is not UTF-8 is rejected.
 
 use crate::name::Name;
-use std::fs::{self, File, Metadata};
+use std::fs::{self, File, Metadata, Permissions};
 use std::io::{self, ErrorKind, IsTerminal};
 use std::os::unix::fs::{MetadataExt, OpenOptionsExt, PermissionsExt};
 use std::str;
@@ -9,6 +9,19 @@ use std::str;
 /// Returns whether the file's group or all users may read it.
 pub fn others_may_read(metadata: &Metadata) -> bool {
     metadata.permissions().mode() & 0o044 != 0
+}
+
+/// Returns who may read, write and run the file.
+pub fn mode_of(metadata: &Metadata) -> u32 {
+    metadata.permissions().mode() & 0o777
+}
+
+/// Gives a file this mode, whatever the process's umask is.
+pub fn set_mode(file: &File, mode: u32) -> io::Result<()> {
+    if mode_of(&file.metadata()?) == mode {
+        return Ok(());
+    }
+    file.set_permissions(Permissions::from_mode(mode))
 }
 
 /// Returns whether both metadata are of the same file.
@@ -46,6 +59,15 @@ pub fn stdin_metadata(rt: &HostRuntime) -> io::Result<Metadata> {
 /// Returns the metadata of the file with this name.
 pub fn metadata_of(rt: &HostRuntime, name: &Name) -> io::Result<Metadata> {
     fs::metadata(rt, text_of(name)?)
+}
+
+/// Returns whether a file or a link has this name. The link may lead to no file.
+pub fn exists(rt: &HostRuntime, name: &Name) -> io::Result<bool> {
+    match fs::symlink_metadata(rt, text_of(name)?) {
+        Ok(_) => Ok(true),
+        Err(error) if error.kind() == ErrorKind::NotFound => Ok(false),
+        Err(error) => Err(error),
+    }
 }
 
 /// Returns whether standard error is a terminal.

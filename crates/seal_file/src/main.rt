@@ -28,9 +28,6 @@ const KEY_LEN: usize = 32;
 /// The mode of a key file: only its owner reads and writes it.
 const KEY_MODE: u32 = 0o600;
 
-/// The mode of any other file that is written, less the process's umask.
-const FILE_MODE: u32 = 0o666;
-
 /// The source of random bytes.
 const RANDOM: &str = "/dev/urandom";
 
@@ -145,8 +142,8 @@ fn convert_from<R: Read + Drop>(
     let source = Source::new(rt, input, len, is_shown);
     match &conversion.output {
         Some(name) => {
-            check_target(rt, name, metadata, conversion.has_force)?;
-            convert_to(rt, conversion, key, source, name)
+            let mode = check_target(rt, name, metadata, conversion.has_force)?;
+            convert_to(rt, conversion, key, source, (name, mode))
         }
         None => {
             let mut output = io::writer(rt);
@@ -156,29 +153,23 @@ fn convert_from<R: Read + Drop>(
     }
 }
 
-/// Converts to a file, which is written whole or not at all.
+/// Converts to a file with this name and mode, which is written whole or not at all.
 fn convert_to<R: Read + Drop>(
     rt: &HostRuntime,
     conversion: &Conversion,
     key: &FileKey,
     source: Source<'_, R>,
-    target: &Name,
+    (target, mode): (&Name, Option<u32>),
 ) -> Result<(), Failure> {
     let mut number = [0; NUMBER_LEN];
     draw(rt, &mut number)?;
-    let mut file = at(
-        Place::Output,
-        NewFile::create(rt, target, number, FILE_MODE),
-    )?;
+    let mut file = at(Place::Output, NewFile::create(rt, target, number, mode))?;
     if let Err(failure) = pass(rt, conversion, key, source, &mut file) {
         file.discard(rt);
         return Err(failure);
     }
     let synced = at(Place::Output, file.synced(rt))?;
-    at(
-        Place::Output,
-        synced.name_as(rt, target, conversion.has_force),
-    )
+    synced.name_as(rt, target, conversion.has_force)
 }
 
 /// Seals or opens the bytes of `source`.

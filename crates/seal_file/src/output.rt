@@ -20,16 +20,22 @@ pub struct SyncedFile {
     name: Name,
 }
 
-/// Checks that OUT is not IN, a directory or a device and, unless forced, does not exist.
+/// The mode of a file that replaces none, less the process's umask.
+const NEW_MODE: u32 = 0o666;
+
+/// Checks that OUT is not IN, a directory or a device and, unless forced, does not exist. Returns the mode of the file that
+/// is replaced, if there is one.
 pub fn check_target(
     rt: &HostRuntime,
     target: &Name,
     input: Option<&Metadata>,
     has_force: bool,
-) -> Result<(), Failure> {
+) -> Result<Option<u32>, Failure> {
     let there = match files::metadata_of(rt, target) {
         Ok(metadata) => metadata,
-        Err(error) if error.kind() == ErrorKind::NotFound => return Ok(()),
+        Err(error) if error.kind() == ErrorKind::NotFound => {
+            return check_no_link(rt, target, has_force);
+        }
         Err(error) => return Err(Failure::Io(Place::Output, error)),
     };
     if input.is_some_and(|from| files::are_same(from, &there)) {
@@ -41,21 +47,36 @@ pub fn check_target(
     if !there.is_file() {
         return Err(Failure::NotRegular);
     }
-    Ok(())
+    Ok(Some(files::mode_of(&there)))
+}
+
+/// Checks that OUT, which is no file, is no link that leads to none, unless forced.
+fn check_no_link(rt: &HostRuntime, target: &Name, has_force: bool) -> Result<Option<u32>, Failure> {
+    match files::exists(rt, target) {
+        Ok(true) if !has_force => Err(Failure::Exists),
+        Ok(_) => Ok(None),
+        Err(error) => Err(Failure::Io(Place::Output, error)),
+    }
 }
 
 impl NewFile {
-    /// Creates the file, whose name is the target's followed by this number.
+    /// Creates the file, whose name is the target's followed by this number. It has this mode, or that of any new file.
     pub fn create(
         rt: &HostRuntime,
         target: &Name,
         number: [u8; NUMBER_LEN],
-        mode: u32,
+        mode: Option<u32>,
     ) -> io::Result<NewFile> {
         let number = u64::from_be_bytes(number);
         let end = format!(in rt.alloc(); ".part-{number:016x}")?;
         let name = target.with_end(rt.alloc(), end.as_bytes())?;
-        let file = files::create_new(rt, &name, mode)?;
+        let file = files::create_new(rt, &name, mode.unwrap_or(NEW_MODE))?;
+        if let Some(mode) = mode {
+            if let Err(error) = files::set_mode(&file, mode) {
+                let _ = files::remove(rt, &name);
+                return Err(error);
+            }
+        }
         Ok(NewFile { file, name })
     }
 
@@ -93,22 +114,23 @@ impl SyncedFile {
     ///
     /// Unless forced, the file first gets it as a second name, which fails if another file has it. If the file system has no
     /// second names, the file is renamed: a file that got the name after `check_target` is then lost.
-    pub fn name_as(self, rt: &HostRuntime, target: &Name, has_force: bool) -> io::Result<()> {
+    pub fn name_as(self, rt: &HostRuntime, target: &Name, has_force: bool) -> Result<(), Failure> {
         let SyncedFile { name } = self;
-        if !has_force {
+        let named = if has_force {
+            files::rename(rt, &name, target)
+        } else {
             match files::link(rt, &name, target) {
-                Ok(()) => return files::remove(rt, &name),
+                Ok(()) => files::remove(rt, &name),
                 Err(error) if error.kind() == ErrorKind::AlreadyExists => {
                     let _ = files::remove(rt, &name);
-                    return Err(error);
+                    return Err(Failure::Exists);
                 }
-                Err(_) => {}
+                Err(_) => files::rename(rt, &name, target),
             }
-        }
-        let renamed = files::rename(rt, &name, target);
-        if renamed.is_err() {
+        };
+        named.map_err(|error| {
             let _ = files::remove(rt, &name);
-        }
-        renamed
+            Failure::Io(Place::Output, error)
+        })
     }
 }
