@@ -53,7 +53,7 @@ pub fn check_target(
 /// Checks that OUT, which is no file, is no link that leads to none, unless forced.
 fn check_no_link(rt: &HostRuntime, target: &Name, has_force: bool) -> Result<Option<u32>, Failure> {
     match files::exists(rt, target) {
-        Ok(true) if !has_force => Err(Failure::Exists),
+        Ok(is_link) if is_link && !has_force => Err(Failure::Exists),
         Ok(_) => Ok(None),
         Err(error) => Err(Failure::Io(Place::Output, error)),
     }
