@@ -70,7 +70,6 @@ fn encrypt_batch(
 }
 
 /// Encrypts the counter block and the next three, and XORs the results into a batch.
-#[inline(always)]
 fn xor_keystream(key: &KeyRef<'_>, counter: &Counter, batch: &mut [u8; BATCH_LEN])
     ensures { (nonce : List ℕ) (k : ℕ) → IsCounter counter.now nonce k →
         batch.new ≡ counter_mode (aes key.now) nonce k batch.old }
