@@ -1,9 +1,9 @@
 -- Bytes encrypted in pieces: what a walk's chunks hold, and the rest.
-use Rattle.std.proofs.Common.{◌≡◌, ℕ, ◌+◌, ◌-◌, ◌/◌, ◌%◌, ◌<◌, ◌≤◌, List, ◌++◌, length, take, drop, refl, sym, ap, subst, ◌∙◌, arith, length-append, length-take, length-take-le, length-drop, take_all, take_at, drop_at, append_assoc}
+use Rattle.std.proofs.Common.{◌≡◌, ℕ, ◌+◌, ◌-◌, ◌/◌, ◌%◌, ◌<◌, ◌≤◌, List, ◌++◌, length, take, drop, refl, sym, ap, subst, ◌∙◌, arith, length-append, length-take, length-take-le, length-drop, take_at, drop_at, append_assoc}
 use Rattle.std.proofs.lemmas.List.{drop-take, take-append-le, take-take}
 use Rattle.std.proofs.Math.Seq.{take-add}
 use Rattle.aead_ciphers_base.specs
-use specs.Bytes.{◌⊕◌, zero_block}
+use specs.Bytes.{zero_block}
 use specs.CounterMode.{Advances, EncryptsFirst, EncryptsToFront, counter_block, counter_mode}
 use Rattle.aead_ciphers_base.proofs
 use proofs.CounterLemmas.{advances_none, advances_more}
@@ -42,9 +42,14 @@ walked_more {begun = begun} {counter} s len d n m size was now chunk ends more r
       aligned = λ lt. omega (arith, whole, last lt);
       within = room;
       size = omega (
-          arith,
-          length-append (take d now) (chunk ++ drop size (drop d now)), length-append chunk (drop size (drop d now)), length-drop d now, before,
-          after, walk.size);
+        arith,
+        length-append (take d now) (chunk ++ drop size (drop d now)),
+        length-append chunk (drop size (drop d now)),
+        length-drop d now,
+        before,
+        after,
+        walk.size,
+      );
       output =
           encrypts_more _ _ _ s d n _ _ _ whole (omega arith) walk.output (subst (λ z. Advances begun counter z) blocks walk.counter)
           (encrypts_window _ _ s d n size now _ (omega (arith, walk.size)) es front);

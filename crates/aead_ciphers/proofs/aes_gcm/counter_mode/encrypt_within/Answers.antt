@@ -5,7 +5,7 @@ use proofs.CounterModePieces.{walked_none, walked_more}
 use proofs.aes_gcm.counter_mode.encrypt_within.Goals as goal
 
 pub loop-done-init : goal.loop-done-init
-loop-done-init g c = record { worked = (omega arith, omega arith); walk = walked_none _ _ _ _ _; }
+loop-done-init g c = record { worked = (omega arith, omega arith); walk = walked_none _ _ _ _ _ }
 
 pub loop-done-preserved : goal.loop-done-preserved
 loop-done-preserved g c =

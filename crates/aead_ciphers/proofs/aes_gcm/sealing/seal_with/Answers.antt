@@ -1,4 +1,4 @@
-use Rattle.std.proofs.Common.{◌≡◌, ◌+◌, ◌-◌, ◌++◌, ◌<◌, length, take, drop, ap, ap₂, arith, ◌∙◌, refl, subst, sym, append-nil, length-take-le, take_all}
+use Rattle.std.proofs.Common.{◌≡◌, ◌+◌, ◌-◌, ◌++◌, ◌<◌, length, take, drop, ap, ap₂, arith, ◌∙◌, subst, sym, append-nil, length-take-le, take_all}
 use Rattle.std.proofs.lemmas.List.{drop_all}
 use Rattle.aead_ciphers_base.specs
 use specs.CounterMode.{counter_mode}
