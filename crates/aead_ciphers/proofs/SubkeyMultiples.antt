@@ -36,7 +36,7 @@ length-monomial k within =
     ∙ ap₂ (λ m n. m + suc n) (length-replicate k false) (length-replicate (127 - k) false)
     ∙ omega arith
 
-series-monomial : (k : ℕ) (h : List ℕ) → k < 128 → length h ≡ 16 → series (monomial_block k • h) ≡ raised k (series h)
+pub series-monomial : (k : ℕ) (h : List ℕ) → k < 128 → length h ≡ 16 → series (monomial_block k • h) ≡ raised k (series h)
 unfolding block_of
 series-monomial k h within size =
     let bits = replicate k false ++ true ∷ replicate (127 - k) false in

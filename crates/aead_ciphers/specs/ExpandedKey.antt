@@ -1,4 +1,4 @@
--- What a contract sees of an expanded AES-GCM key that is plain data.
+-- What a contract sees of an expanded AES-GCM key.
 use Rattle.std.specs.Prelude.{◌≡◌, ℕ, List, replicate}
 use Rattle.std.specs.Int.{to_be_bytes, w128}
 use Rattle.aead_ciphers_base.specs.Aes.{aes}

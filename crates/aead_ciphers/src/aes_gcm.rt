@@ -1,7 +1,7 @@
 //! AES-GCM in place, with 12-byte nonces and 16-byte tags (SP 800-38D section 7).
 //!
 //! `aead` is the interface for callers. The functions here also count their cipher blocks and field products in a
-//! `Work`. `seal_with` and `open_with` are the same with any cipher of 16-byte blocks.
+//! `Work`. `seal_with`, `open_with` and `open_to_with` are the same with any cipher of 16-byte blocks.
 
 ghost use Rattle.std.specs.Prelude.{◌≡◌, ◌↔◌, length, IsOk, IfOk, OnOk, OnErr, is_ok};
 ghost use Rattle.aead_ciphers_base.specs.Aes.{aes as aes_cipher};
@@ -19,8 +19,8 @@ mod sealing;
 use aead_ciphers_base::aes::{KeyBytes, Work};
 use aead_ciphers_base::error::Unspecified;
 use aead_ciphers_base::values::{Aad, Nonce, Tag};
-pub use expanded::ExpandedKey;
-pub use opening::open_with;
+pub(crate) use expanded::ExpandedKey;
+pub use opening::{open_to_with, open_with};
 pub use sealing::seal_with;
 use std::marker::Model;
 use std::ops::RangeFrom;

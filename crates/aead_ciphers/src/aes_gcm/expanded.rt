@@ -1,4 +1,4 @@
-//! An expanded key as plain data, for memory that the library does not own: a C struct, or a table of keys.
+//! An expanded key, which `aes_gcm::Key` and the keys of `aead` consist of.
 
 ghost use Rattle.std.specs.Prelude.{◌≡◌, ◌-◌, ◌↔◌, length, is_ok, IsOk, IfOk, OnOk, OnErr};
 ghost use Rattle.aead_ciphers_base.specs.Aes.{aes as aes_cipher};
@@ -6,7 +6,7 @@ ghost use Rattle.aead_ciphers_base.specs.KeyBytes.{key_bytes};
 ghost use Rattle.aead_ciphers_base.specs.Values.{aad_bytes};
 ghost use Rattle.aead_ciphers_base.specs.Work.{Adds, CanAdd};
 ghost use Rattle.aead_ciphers.specs.ExpandedKey.{IsExpanded, bytes_of, zero_key};
-ghost use Rattle.aead_ciphers.specs.Gcm.{CanOpen, CanSeal, Fits, OpenWork, SealWork, Opened, OpenedAttached, gcm_decrypted, gcm_encrypted, gcm_tag};
+ghost use Rattle.aead_ciphers.specs.Gcm.{CanOpen, CanSeal, Fits, OpenWork, SealWork, Opened, OpenedAttached, gcm_encrypted, gcm_tag};
 
 use super::{opening, sealing};
 use crate::gcm;
@@ -15,25 +15,23 @@ use aead_ciphers_base::error::Unspecified;
 use aead_ciphers_base::values::{Aad, MAX_TAG_LEN, Nonce, Tag};
 use std::ops::RangeFrom;
 
-/// An expanded AES-GCM key as plain data.
+/// An expanded AES-GCM key, without an invariant, so that it can be expanded in place.
 ///
-/// Sealing and opening require the fields to be as `expand` left them, and only read them, so many threads may use a
-/// key at once.
-#[repr(C)]
+/// Sealing and opening require the fields to be as `expand` left them.
 #[derive(Clone, Drop)]
-pub struct ExpandedKey {
+pub(crate) struct ExpandedKey {
     /// The round keys, as eight planes each (FIPS 197 section 5.2).
-    pub round_keys: [[u64; 8]; 15],
+    round_keys: [[u64; 8]; 15],
     /// The number of rounds: 10 for AES-128, 14 for AES-256.
-    pub rounds: usize,
+    rounds: usize,
     /// The multiples of the hash subkey (SP 800-38D section 6.3).
-    pub multiples: [u32; 512],
+    multiples: [u32; 512],
 }
 
 impl ExpandedKey {
     /// Returns a value whose fields are all zeros. It is not a key until `expand` is called.
     #[inline(always)]
-    pub fn zeros() -> Self
+    pub(crate) fn zeros() -> Self
         ensures { result ≡ zero_key }
     {
         ExpandedKey {
@@ -45,7 +43,7 @@ impl ExpandedKey {
 
     /// Overwrites the fields with the expansion of a key of 16 or 32 bytes, whose hash subkey is computed by one cipher
     /// block (SP 800-38D section 7.1 step 1).
-    pub fn expand(&mut self, bytes: KeyBytes<'_>, work: &mut Work)
+    pub(crate) fn expand(&mut self, bytes: KeyBytes<'_>, work: &mut Work)
         requires { CanAdd work.old 1 0 }
         ensures expanded { IsExpanded self.new }
         ensures bytes { bytes_of self.new ≡ key_bytes bytes.entry }
@@ -58,7 +56,7 @@ impl ExpandedKey {
     }
 
     /// Seals under this key, like `aes_gcm::seal`.
-    pub fn seal(
+    pub(crate) fn seal(
         &self,
         nonce: Nonce,
         aad: Aad<'_>,
@@ -83,7 +81,7 @@ impl ExpandedKey {
     }
 
     /// Opens under this key, like `aes_gcm::open`.
-    pub fn open(
+    pub(crate) fn open(
         &self,
         nonce: Nonce,
         aad: Aad<'_>,
@@ -105,7 +103,7 @@ impl ExpandedKey {
     }
 
     /// Like `open`, but returns the length of the plaintext in bytes.
-    pub fn open_to_front(
+    pub(crate) fn open_to_front(
         &self,
         nonce: Nonce,
         aad: Aad<'_>,
@@ -127,7 +125,7 @@ impl ExpandedKey {
 
     /// Like `open_to_front`, but the tag is the last 16 bytes of `in_out`, which are unchanged. Also fails, before
     /// anything else is checked, if `in_out` is shorter than 16 bytes.
-    pub fn open_within_to_front(
+    pub(crate) fn open_within_to_front(
         &self,
         nonce: Nonce,
         aad: Aad<'_>,
@@ -147,43 +145,5 @@ impl ExpandedKey {
             }
             None => Err(Unspecified),
         }
-    }
-
-    /// Opens `ciphertext`, and writes the plaintext to `out`, which must be equally long.
-    ///
-    /// # Errors
-    ///
-    /// Fails with `Unspecified`, and leaves `out` unchanged, if the lengths exceed the limits of `aes_gcm::seal` or if
-    /// `tag` is not the tag of the ciphertext and `aad`.
-    pub fn open_to(
-        &self,
-        nonce: Nonce,
-        aad: Aad<'_>,
-        tag: Tag,
-        ciphertext: &[u8],
-        out: &mut [u8],
-    ) -> Result<(), Unspecified>
-        requires key { IsExpanded self.now }
-        requires lengths { length out.old ≡ length ciphertext.now }
-        ensures accepted { IsOk result
-            ↔ (Fits (length (aad_bytes aad.entry)) (length ciphertext.now)
-            × (tag ≡ gcm_tag (aes_cipher (bytes_of self.now)) nonce
-            (aad_bytes aad.entry) ciphertext.now)) }
-        ensures plaintext { OnOk result
-            (out.new ≡ gcm_decrypted (aes_cipher (bytes_of self.now)) nonce ciphertext.now) }
-        ensures refused { OnErr result (out.new ≡ out.old) }
-    {
-        let aes = aes::KeyRef::new(&self.round_keys, self.rounds);
-        let gcm = gcm::KeyRef::new(&self.multiples);
-        opening::open_to_with(
-            &aes,
-            &gcm,
-            nonce,
-            aad,
-            tag,
-            ciphertext,
-            out,
-            &mut Work::new(),
-        )
     }
 }

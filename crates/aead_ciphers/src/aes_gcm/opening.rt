@@ -49,7 +49,7 @@ pub fn open_with<A: EncryptCtr32, G: UpdateBlocks>(
 
 /// Compares the tag of `ciphertext` with `received_tag`, and then decrypts it to `out`, which is equally long. Fails if
 /// the lengths exceed the limits of `aes_gcm::seal`, or if the tags differ.
-pub(super) fn open_to_with<A: EncryptCtr32, G: UpdateBlocks>(
+pub fn open_to_with<A: EncryptCtr32, G: UpdateBlocks>(
     aes: &A,
     gcm: &G,
     nonce: Nonce,

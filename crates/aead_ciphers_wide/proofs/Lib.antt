@@ -1,0 +1,13 @@
+pub mod ByteLadder
+pub mod ByteReduction
+pub mod ByteRows
+pub mod EightPacking
+pub mod WideBits
+pub mod WideBlocks
+pub mod WideHash
+pub mod WideRoundKeys
+pub mod WideShifts
+pub mod WordBytes
+pub mod WordLanes
+pub mod WordMoves
+pub mod WordOperators

@@ -1,0 +1,11 @@
+use Rattle.std.proofs.Common.{◌≡◌, IfOk, subst}
+use Rattle.aead_ciphers_base.specs.Values.{aad_bytes}
+use Rattle.aead_ciphers_base.specs.Aes.{aes}
+use Rattle.aead_ciphers.specs.Gcm.{gcm_tag}
+use Rattle.aead_ciphers_wide.proofs.aes_gcm.ExpandedKey.seal.Goals as goal
+
+pub returns-clause-tag : goal.returns-clause-tag
+returns-clause-tag c =
+    let a = c.args in
+    subst (λ key. IfOk c.seal_with.result (λ t. t ≡ gcm_tag (aes key) a.nonce (aad_bytes a.aad) c.seal_with.new.in_out))
+    c.new-aes.ensures c.seal_with.ensures.tag

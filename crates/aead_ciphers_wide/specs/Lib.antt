@@ -1,0 +1,6 @@
+pub mod ExpandedKey
+pub mod HeaderKey
+pub mod Products
+pub mod WidePlanes
+pub mod WideSchedule
+pub mod Word

@@ -1,0 +1,43 @@
+-- The products of a hash subkey and the digits of a byte; a product of blocks is a sum of them (SP 800-38D section 6.3).
+use Rattle.std.specs.Prelude.{◌≡◌, ℕ, zero, suc, ◌+◌, ◌*◌, ◌/◌, ◌%◌, ◌<◌, ◌==◌, if◌then◌else◌, bit_xor, List, ◌∷◌, replicate, slice_index}
+use Rattle.aead_ciphers_base.specs.Bytes.{each_below}
+use Rattle.aead_ciphers.specs.Ghash.{◌•◌}
+use Rattle.aead_ciphers.specs.Multiples.{monomial_block}
+
+-- u^(8 n) times a block
+abbrev pub stepped : ℕ → List ℕ → List ℕ
+stepped zero block = block
+stepped (suc n) block = monomial_block 8 • stepped n block
+
+-- u^128 times a block
+unfoldable pub u128_times : List ℕ → List ℕ
+u128_times block = stepped 16 block
+
+-- the block whose first byte is b, and whose other bytes are zero
+abbrev pub first_byte : ℕ → List ℕ
+first_byte b = b ∷ replicate 15 0
+
+-- the bytes of a table at the places n, 16 + n, .., 240 + n
+abbrev pub column : List ℕ → ℕ → List ℕ
+column table n = each_below 16 (λ r. slice_index table (16 * r + n))
+
+-- column n of a table is the product of h and the block whose first byte is 16 n, and column n of its second half that of h
+-- and the block whose first byte is n
+pub record AreProducts (h table : List ℕ) : Type 0 where
+  pub high : (n : ℕ) → n < 16 → column table n ≡ first_byte (16 * n) • h
+  pub low : (n : ℕ) → n < 16 → column table (256 + n) ≡ first_byte n • h
+
+-- the block whose products are in a table: its product with the polynomial 1
+unfoldable pub subkey : List ℕ → List ℕ
+subkey table = column table 8
+
+-- the sum of those of four numbers, from a place on, at which the digit n has a one, its highest bit first
+abbrev pub chosen_sum : ℕ → ℕ → List ℕ → ℕ
+chosen_sum n from numbers =
+    let part = λ (k p : ℕ). if n / p % 2 == 1 then slice_index numbers (from + k) else 0 in
+    bit_xor (bit_xor (bit_xor (part 0 8) (part 1 4)) (part 2 2)) (part 3 1)
+
+-- one table has the products of a block, and the other those of its square
+pub record ArePowers (products squares : List ℕ) : Type 0 where
+  pub first : AreProducts (subkey products) products
+  pub second : AreProducts (subkey products • subkey products) squares

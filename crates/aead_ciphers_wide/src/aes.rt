@@ -1,0 +1,186 @@
+//! AES (FIPS 197), bit-sliced over eight blocks, and its counter mode (SP 800-38D section 6.5).
+//!
+//! Eight planes of 128 bits hold eight blocks: bit `8 * byte + block` of plane `b` is bit `b` of that byte.
+
+ghost use Rattle.std.specs.Prelude.{◌≡◌, ◌<◌, ◌⊎◌, ℕ, ◌/◌, ◌%◌, List, [], length, slice_index_or, IsOk, IfOk};
+ghost use Rattle.aead_ciphers_base.specs.Aes.{aes, length_aes};
+ghost use Rattle.aead_ciphers_base.specs.Bytes.{◌⊕◌};
+ghost use Rattle.aead_ciphers_base.specs.CounterMode.{Advances, EncryptsToFront};
+ghost use Rattle.aead_ciphers_base.specs.KeyBytes.{key_bytes};
+ghost use Rattle.aead_ciphers_wide.specs.WideSchedule.{IsSchedule, key_of};
+ghost use Rattle.aead_ciphers_base.specs.Mask.{aes_mask};
+ghost use Rattle.aead_ciphers_base.specs.Overlapping.{input_len};
+ghost use Rattle.aead_ciphers_base.specs.Work.{Adds, CanAdd};
+
+use aead_ciphers_base::aes::{
+    Block, Counter, EncryptBlock, EncryptCtr32, Iv, KeyBytes, Overlapping, Work, ZERO_BLOCK,
+    expand_words,
+};
+use aead_ciphers_base::bb;
+use aead_ciphers_base::error::Unspecified;
+use aead_ciphers_base::values::Sample;
+use std::marker::Model;
+
+mod bit_sliced;
+mod ctr32;
+mod pack_eight;
+mod planes;
+mod round;
+mod round_keys;
+mod word;
+
+pub use round_keys::{RoundKey, RoundKeys};
+
+/// An expanded AES key: its round keys (FIPS 197 section 5.2), each in all eight blocks of eight planes.
+#[derive(Clone, Drop)]
+pub struct Key {
+    round_keys: RoundKeys,
+    rounds: usize,
+}
+
+impl Model for Key {
+    ghost use Rattle.std.specs.Prelude.{ℕ, List};
+    ghost use Rattle.aead_ciphers_wide.specs.WideSchedule.{key_of, IsSchedule};
+
+    ghost Value = { List ℕ };
+
+    ghost view = { λ key. key_of key.round_keys key.rounds };
+
+    ghost invariant = { λ key. IsSchedule key.round_keys key.rounds };
+}
+
+impl Key {
+    /// Expands a key of 16 or 32 bytes (FIPS 197 section 5.2). Never fails.
+    pub fn new(bytes: KeyBytes<'_>) -> Result<Key, Unspecified>
+        ensures accepted { IsOk result }
+        ensures made { IfOk result (λ key. key ≡ key_bytes bytes.entry) }
+    {
+        let mut round_keys = [[0; 16]; 15];
+        let rounds = expand(&mut round_keys, bytes);
+        Ok(Key { round_keys, rounds })
+    }
+
+    /// Borrows the key as a `KeyRef`.
+    pub fn by_ref(&self) -> KeyRef<'_>
+        ensures { result ≡ self.now }
+    {
+        KeyRef {
+            round_keys: &self.round_keys,
+            rounds: self.rounds,
+        }
+    }
+
+    /// Computes the header protection mask of a sample (RFC 9001 section 5.4.3): 16 bytes in, 5 bytes out.
+    #[tactic(auto, unfolding(aead_ciphers_base::specs::Mask::aes_mask))]
+    pub fn new_mask(&self, sample: Sample) -> [u8; 5]
+        ensures { result ≡ aes_mask self.now sample }
+    {
+        let block = self.encrypt_block(sample, &mut Work::new());
+        let mut mask = [0; 5];
+        mask.copy_from_slice(&block[..5]);
+        mask
+    }
+}
+
+/// Expands a key of 16 or 32 bytes (FIPS 197 section 5.2): writes its round keys to `round_keys`, and
+/// returns the number of its rounds, 10 or 14.
+pub fn expand(round_keys: &mut RoundKeys, bytes: KeyBytes<'_>) -> usize
+    ensures schedule { IsSchedule round_keys.new result }
+    ensures bytes { key_of round_keys.new result ≡ key_bytes bytes.entry }
+{
+    let key = bytes.as_slice();
+    let rounds = key.len() / 4 + 6;
+    let words = expand_words(key);
+    round_keys::write_round_keys(round_keys, &words[..4 * (rounds + 1)]);
+    rounds
+}
+
+/// An expanded AES key that borrows its round keys, for example from memory that the caller owns.
+#[derive(Drop)]
+pub struct KeyRef<'k> {
+    round_keys: &'k RoundKeys,
+    rounds: usize,
+}
+
+impl<'k> Model for KeyRef<'k> {
+    ghost use Rattle.std.specs.Prelude.{ℕ, List};
+    ghost use Rattle.aead_ciphers_wide.specs.WideSchedule.{key_of, IsSchedule};
+
+    ghost Value = { List ℕ };
+
+    ghost view = { λ key. key_of key.round_keys.now key.rounds };
+
+    ghost invariant = { λ key. IsSchedule key.round_keys.now key.rounds };
+}
+
+impl<'k> KeyRef<'k> {
+    /// Creates a key from round keys and the number of rounds, as `expand` writes and returns them.
+    pub fn new(round_keys: &'k RoundKeys, rounds: usize) -> Self
+        requires { IsSchedule round_keys.now rounds }
+        ensures { result ≡ key_of round_keys.now rounds }
+    {
+        KeyRef { round_keys, rounds }
+    }
+
+    // Encrypts one block, as the first of eight.
+    fn cipher_block(&self, block: Block) -> Block
+        ensures { result ≡ aes self.now block }
+    {
+        let z = ZERO_BLOCK;
+        let [first, ..] = self.encrypt_eight([block, z, z, z, z, z, z, z]);
+        first
+    }
+}
+
+impl<'k> EncryptBlock for KeyRef<'k> {
+    ghost cipher = { λ key block. aes key block };
+
+    ghost length_cipher = { λ key block _. length_aes key block };
+
+    fn encrypt_block(&self, block: Block, work: &mut Work) -> Block {
+        work.add_block();
+        self.cipher_block(block)
+    }
+
+    fn encrypt_iv_xor_block(&self, iv: Iv, block: Block, work: &mut Work) -> Block {
+        bb::xor_16(block, self.encrypt_block(iv.into_block_less_safe(), work))
+    }
+}
+
+impl<'k> EncryptCtr32 for KeyRef<'k> {
+    fn ctr32_encrypt_within(
+        &self,
+        in_out: Overlapping<'_>,
+        counter: &mut Counter,
+        work: &mut Work,
+    ) {
+        let Overlapping { in_out, start } = in_out;
+        ctr32::encrypt_to_front(self, in_out, start, counter, work);
+    }
+}
+
+impl EncryptBlock for Key {
+    ghost cipher = { λ key block. aes key block };
+
+    ghost length_cipher = { λ key block _. length_aes key block };
+
+    fn encrypt_block(&self, block: Block, work: &mut Work) -> Block {
+        self.by_ref().encrypt_block(block, work)
+    }
+
+    fn encrypt_iv_xor_block(&self, iv: Iv, block: Block, work: &mut Work) -> Block {
+        self.by_ref().encrypt_iv_xor_block(iv, block, work)
+    }
+}
+
+impl EncryptCtr32 for Key {
+    fn ctr32_encrypt_within(
+        &self,
+        in_out: Overlapping<'_>,
+        counter: &mut Counter,
+        work: &mut Work,
+    ) {
+        let Overlapping { in_out, start } = in_out;
+        ctr32::encrypt_to_front(&self.by_ref(), in_out, start, counter, work);
+    }
+}

@@ -1,0 +1,196 @@
+//! Numbers of 128 bits in vectors.
+
+ghost use Rattle.std.specs.Prelude.{◌≡◌, ◌<◌, ◌+◌, ◌*◌, ◌/◌, ◌%◌, ◌^◌, ℕ, bit_xor, bit_and, slice_index};
+ghost use Rattle.std.specs.Int.{bit_at, to_le_bytes, w128};
+ghost use Rattle.aead_ciphers_wide.specs.Word.{each_lane};
+
+use aead_ciphers_base::aes::{Block, Plane};
+use std::marker::Model;
+use std::ops::{BitAnd, BitXor, Shl, Shr};
+use std::simd::{u8x16, u64x2};
+
+/// A number of 128 bits.
+#[derive(Clone, Copy)]
+pub struct Word {
+    lanes: u64x2,
+}
+
+impl Model for Word {
+    ghost use Rattle.std.specs.Prelude.{ℕ, ◌^◌, ◌≡◌, ◌<◌, length};
+    ghost use Rattle.std.proofs.Common.{ap};
+    ghost use Rattle.std.specs.Simd.Lanes.{number_l, digits_l, Each1};
+    ghost use Rattle.aead_ciphers_wide.specs.Word.{digits_back};
+
+    ghost Value = { ℕ };
+
+    ghost view = { λ word. number_l (2 ^ 64) word.lanes };
+
+    ghost invariant = { λ word. (length word.lanes ≡ 2) × Each1 (λ x. x < 2 ^ 64) word.lanes };
+
+    ghost inverse = { λ n. record { lanes = digits_l (2 ^ 64) 2 n } };
+
+    ghost inverse_ok = { λ word h. ap (λ lanes. record { lanes = lanes }) (digits_back word.lanes h.0 h.1) };
+}
+
+impl Word {
+    /// Returns the number with these lanes, the least significant first.
+    #[inline(always)]
+    pub fn new(low: u64, high: u64) -> Self
+        ensures { result ≡ high * 2 ^ 64 + low }
+    {
+        Word {
+            lanes: u64x2::from_array([low, high]),
+        }
+    }
+
+    /// Returns the two lanes, the least significant first.
+    #[inline(always)]
+    pub fn lanes(self) -> (u64, u64)
+        ensures { self ≡ result.1 * 2 ^ 64 + result.0 }
+    {
+        let [low, high] = self.lanes.to_array();
+        (low, high)
+    }
+
+    /// Returns the number with the bytes of a block, the least significant first.
+    #[inline(always)]
+    pub fn from_block(block: Block) -> Self
+        ensures { to_le_bytes w128 result ≡ block }
+    {
+        Word::from_bytes(u8x16::from_array(block))
+    }
+
+    /// Returns the block of the bytes, the least significant first.
+    #[inline(always)]
+    pub fn to_block(self) -> Block
+        ensures { result ≡ to_le_bytes w128 self }
+    {
+        self.bytes().to_array()
+    }
+
+    /// Returns the number with these bytes, the least significant first.
+    #[inline(always)]
+    pub fn from_bytes(bytes: u8x16) -> Self
+        ensures { to_le_bytes w128 result ≡ bytes }
+    {
+        Word {
+            lanes: u64x2::from_le_bytes(bytes),
+        }
+    }
+
+    /// Returns the bytes, the least significant first.
+    #[inline(always)]
+    pub fn bytes(self) -> u8x16
+        ensures { result ≡ to_le_bytes w128 self }
+    {
+        self.lanes.to_le_bytes()
+    }
+
+    /// Returns the number each of whose bytes has all bits of one bit of that byte of `bytes`.
+    #[inline(always)]
+    pub fn filled(bytes: u8x16, bit: u8) -> Self
+        ensures { (b p : ℕ) → b < 8 → bit ≡ 2 ^ b → p < 128
+            → bit_at result p ≡ bit_at (slice_index bytes (p / 8)) b }
+    {
+        Word::from_bytes(filled(bytes, bit))
+    }
+
+    /// Returns the number both of whose lanes are `word`.
+    #[inline(always)]
+    pub fn splat(word: u64) -> Self
+        ensures { result ≡ word * 2 ^ 64 + word }
+    {
+        Word {
+            lanes: u64x2::splat(word),
+        }
+    }
+}
+
+/// Returns 255 for each byte that has the bit `bit`, and 0 for the others.
+#[inline(always)]
+fn filled(bytes: u8x16, bit: u8) -> u8x16
+    ensures { (b j : ℕ) → b < 8 → bit ≡ 2 ^ b → j < 16
+        → slice_index result j ≡ 255 * bit_at (slice_index bytes j) b }
+{
+    let bits = u8x16::splat(bit);
+    (bytes & bits)
+        .simd_eq(bits)
+        .select(u8x16::splat(255), u8x16::splat(0))
+}
+
+impl BitXor<Word> for Word {
+    type Output = Word;
+
+    ghost bitxor_gives = { λ a b result. result ≡ bit_xor a b };
+
+    #[inline(always)]
+    fn bitxor(self, rhs: Word) -> Word {
+        Word {
+            lanes: self.lanes ^ rhs.lanes,
+        }
+    }
+}
+
+impl BitAnd<Word> for Word {
+    type Output = Word;
+
+    ghost bitand_gives = { λ a b result. result ≡ bit_and a b };
+
+    #[inline(always)]
+    fn bitand(self, rhs: Word) -> Word {
+        Word {
+            lanes: self.lanes & rhs.lanes,
+        }
+    }
+}
+
+impl Plane for Word {
+    ghost number = { λ word. word };
+
+    ghost width = { 128 };
+
+    ghost can_xor = { λ a b. tt };
+
+    ghost can_and = { λ a b. tt };
+
+    ghost xor_is = { λ a b c h. h };
+
+    ghost and_is = { λ a b c h. h };
+
+    #[inline(always)]
+    fn ones() -> Word {
+        Word::splat(u64::MAX)
+    }
+}
+
+/// Shifts each lane to the left.
+impl Shl<u32> for Word {
+    type Output = Word;
+
+    ghost can_shl = { λ a n. n < 64 };
+
+    ghost shl_gives = { λ a n result. result ≡ each_lane (λ x. x * 2 ^ n % 2 ^ 64) a };
+
+    #[inline(always)]
+    fn shl(self, rhs: u32) -> Word {
+        Word {
+            lanes: self.lanes << u64x2::splat(u64::from(rhs)),
+        }
+    }
+}
+
+/// Shifts each lane to the right.
+impl Shr<u32> for Word {
+    type Output = Word;
+
+    ghost can_shr = { λ a n. n < 64 };
+
+    ghost shr_gives = { λ a n result. result ≡ each_lane (λ x. x / 2 ^ n) a };
+
+    #[inline(always)]
+    fn shr(self, rhs: u32) -> Word {
+        Word {
+            lanes: self.lanes >> u64x2::splat(u64::from(rhs)),
+        }
+    }
+}

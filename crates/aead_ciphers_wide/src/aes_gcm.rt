@@ -1,0 +1,192 @@
+//! An expanded AES-GCM key as plain data, for memory that the library does not own: a C struct, or a table of keys.
+
+ghost use Rattle.std.specs.Prelude.{◌≡◌, ◌-◌, ◌↔◌, length, is_ok, IsOk, IfOk, OnOk, OnErr};
+ghost use Rattle.aead_ciphers_base.specs.Aes.{aes as aes_cipher};
+ghost use Rattle.aead_ciphers_base.specs.KeyBytes.{key_bytes};
+ghost use Rattle.aead_ciphers_base.specs.Values.{aad_bytes};
+ghost use Rattle.aead_ciphers_base.specs.Work.{Adds, CanAdd};
+ghost use Rattle.aead_ciphers_wide.specs.ExpandedKey.{IsExpanded, bytes_of, zero_key};
+ghost use Rattle.aead_ciphers.specs.Gcm.{CanOpen, CanSeal, Fits, OpenWork, SealWork, Opened, OpenedAttached, gcm_decrypted, gcm_encrypted, gcm_tag};
+
+use crate::{aes, gcm};
+use aead_ciphers::aes_gcm::{open_to_with, open_with, seal_with};
+use aead_ciphers_base::aes::{EncryptBlock, KeyBytes, Work, ZERO_BLOCK};
+use aead_ciphers_base::error::Unspecified;
+use aead_ciphers_base::values::{Aad, MAX_TAG_LEN, Nonce, Tag};
+use std::ops::RangeFrom;
+
+/// An expanded AES-GCM key as plain data.
+///
+/// Sealing and opening require the fields to be as `expand` left them, and only read them, so many threads may use a
+/// key at once.
+#[repr(C)]
+#[derive(Clone, Drop)]
+pub struct ExpandedKey {
+    /// The round keys, as eight planes of 128 bits each (FIPS 197 section 5.2).
+    pub round_keys: [[u64; 16]; 15],
+    /// The number of rounds: 10 for AES-128, 14 for AES-256.
+    pub rounds: usize,
+    /// The products of the hash subkey (SP 800-38D section 6.3).
+    pub products: [u8; 512],
+    /// The products of the square of the hash subkey.
+    pub squares: [u8; 512],
+}
+
+impl ExpandedKey {
+    /// Returns a value whose fields are all zeros. It is not a key until `expand` is called.
+    #[inline(always)]
+    pub fn zeros() -> Self
+        ensures { result ≡ zero_key }
+    {
+        ExpandedKey {
+            round_keys: [[0; 16]; 15],
+            rounds: 0,
+            products: [0; 512],
+            squares: [0; 512],
+        }
+    }
+
+    /// Overwrites the fields with the expansion of a key of 16 or 32 bytes, whose hash subkey is computed by one cipher
+    /// block (SP 800-38D section 7.1 step 1).
+    pub fn expand(&mut self, bytes: KeyBytes<'_>, work: &mut Work)
+        requires { CanAdd work.old 1 0 }
+        ensures expanded { IsExpanded self.new }
+        ensures bytes { bytes_of self.new ≡ key_bytes bytes.entry }
+        ensures worked { Adds work.old work.new 1 0 }
+    {
+        self.rounds = aes::expand(&mut self.round_keys, bytes);
+        let aes = aes::KeyRef::new(&self.round_keys, self.rounds);
+        let subkey = aes.encrypt_block(ZERO_BLOCK, work);
+        gcm::expand(&mut self.products, &mut self.squares, subkey);
+    }
+
+    /// Seals under this key, like `aead_ciphers::aes_gcm::seal`.
+    pub fn seal(
+        &self,
+        nonce: Nonce,
+        aad: Aad<'_>,
+        in_out: &mut [u8],
+        work: &mut Work,
+    ) -> Result<Tag, Unspecified>
+        requires key { IsExpanded self.now }
+        requires sums { CanSeal work.old (length (aad_bytes aad)) (length in_out.old) }
+        ensures accepted { IsOk result ↔ Fits (length (aad_bytes aad.entry)) (length in_out.old) }
+        ensures ciphertext { OnOk result
+            (in_out.new ≡ gcm_encrypted (aes_cipher (bytes_of self.now)) nonce in_out.old) }
+        ensures tag { IfOk result
+            (λ t. t ≡ gcm_tag (aes_cipher (bytes_of self.now)) nonce
+            (aad_bytes aad.entry) in_out.new) }
+        ensures refused { OnErr result (in_out.new ≡ in_out.old) }
+        ensures worked { SealWork (length (aad_bytes aad.entry)) (length in_out.old) result
+            work.old work.new }
+    {
+        let aes = aes::KeyRef::new(&self.round_keys, self.rounds);
+        let gcm = gcm::KeyRef::new(&self.products, &self.squares);
+        seal_with(&aes, &gcm, nonce, aad, in_out, work)
+    }
+
+    /// Opens under this key, like `aead_ciphers::aes_gcm::open`.
+    pub fn open(
+        &self,
+        nonce: Nonce,
+        aad: Aad<'_>,
+        received_tag: Tag,
+        in_out: &mut [u8],
+        src: RangeFrom<usize>,
+        work: &mut Work,
+    ) -> Result<(), Unspecified>
+        requires key { IsExpanded self.now }
+        requires sums { CanOpen work.old (length (aad_bytes aad)) src.start (length in_out.old) }
+        ensures opened { Opened (aes_cipher (bytes_of self.now)) nonce (aad_bytes aad.entry)
+            received_tag src.start in_out.old (is_ok result) in_out.new }
+        ensures worked { OpenWork (length (aad_bytes aad.entry)) src.start (length in_out.old)
+            result work.old work.new }
+    {
+        let aes = aes::KeyRef::new(&self.round_keys, self.rounds);
+        let gcm = gcm::KeyRef::new(&self.products, &self.squares);
+        open_with(&aes, &gcm, nonce, aad, received_tag, in_out, src, work)
+    }
+
+    /// Like `open`, but returns the length of the plaintext in bytes.
+    pub fn open_to_front(
+        &self,
+        nonce: Nonce,
+        aad: Aad<'_>,
+        tag: Tag,
+        in_out: &mut [u8],
+        ciphertext: RangeFrom<usize>,
+    ) -> Result<usize, Unspecified>
+        requires { IsExpanded self.now }
+        ensures opened { Opened (aes_cipher (bytes_of self.now)) nonce (aad_bytes aad.entry) tag
+            ciphertext.start in_out.old (is_ok result) in_out.new }
+        ensures count { IfOk result (λ n. n ≡ length in_out.old - ciphertext.start) }
+        ensures refused { OnErr result (in_out.new ≡ in_out.old) }
+    {
+        let len = in_out.len();
+        let start = ciphertext.start;
+        self.open(nonce, aad, tag, in_out, ciphertext, &mut Work::new())?;
+        Ok(len - start)
+    }
+
+    /// Like `open_to_front`, but the tag is the last 16 bytes of `in_out`, which are unchanged. Also fails, before
+    /// anything else is checked, if `in_out` is shorter than 16 bytes.
+    pub fn open_within_to_front(
+        &self,
+        nonce: Nonce,
+        aad: Aad<'_>,
+        in_out: &mut [u8],
+        ciphertext_and_tag: RangeFrom<usize>,
+    ) -> Result<usize, Unspecified>
+        requires { IsExpanded self.now }
+        ensures opened { OpenedAttached (aes_cipher (bytes_of self.now)) nonce (aad_bytes aad.entry)
+            ciphertext_and_tag.start in_out.old (is_ok result) in_out.new }
+        ensures count { IfOk result (λ n. n ≡ length in_out.old - 16 - ciphertext_and_tag.start) }
+        ensures refused { OnErr result (in_out.new ≡ in_out.old) }
+    {
+        match in_out.split_last_chunk_mut::<MAX_TAG_LEN>() {
+            Some((before_tag, tag)) => {
+                let tag = Tag::from(*tag);
+                self.open_to_front(nonce, aad, tag, before_tag, ciphertext_and_tag)
+            }
+            None => Err(Unspecified),
+        }
+    }
+
+    /// Opens `ciphertext`, and writes the plaintext to `out`, which must be equally long.
+    ///
+    /// # Errors
+    ///
+    /// Fails with `Unspecified`, and leaves `out` unchanged, if the lengths exceed the limits of `seal` or if
+    /// `tag` is not the tag of the ciphertext and `aad`.
+    pub fn open_to(
+        &self,
+        nonce: Nonce,
+        aad: Aad<'_>,
+        tag: Tag,
+        ciphertext: &[u8],
+        out: &mut [u8],
+    ) -> Result<(), Unspecified>
+        requires key { IsExpanded self.now }
+        requires lengths { length out.old ≡ length ciphertext.now }
+        ensures accepted { IsOk result
+            ↔ (Fits (length (aad_bytes aad.entry)) (length ciphertext.now)
+            × (tag ≡ gcm_tag (aes_cipher (bytes_of self.now)) nonce
+            (aad_bytes aad.entry) ciphertext.now)) }
+        ensures plaintext { OnOk result
+            (out.new ≡ gcm_decrypted (aes_cipher (bytes_of self.now)) nonce ciphertext.now) }
+        ensures refused { OnErr result (out.new ≡ out.old) }
+    {
+        let aes = aes::KeyRef::new(&self.round_keys, self.rounds);
+        let gcm = gcm::KeyRef::new(&self.products, &self.squares);
+        open_to_with(
+            &aes,
+            &gcm,
+            nonce,
+            aad,
+            tag,
+            ciphertext,
+            out,
+            &mut Work::new(),
+        )
+    }
+}

@@ -1,0 +1,251 @@
+//! The product of two blocks (SP 800-38D section 6.3), by a table of products of one of them.
+//!
+//! A block is the sum of u^(8 i) times its bytes, and each byte is 16 n + m for two digits below 16. So the
+//! product is a sum of 32 products, of which the table has 16 for each place of a digit. Its rows are in the
+//! order of their bytes: a look-up in a row gives one byte of the products of all 16 digits at once. The rows'
+//! bytes are added up from the last row on, moved by one place for each row.
+
+ghost use Rattle.std.specs.Prelude.{◌≡◌, ℕ, ◌+◌, ◌*◌, ◌/◌, ◌%◌, ◌<◌, ◌≤◌, bit_xor, if◌then◌else◌, [], ◌∷◌, slice_index, slice_index_or};
+ghost use Rattle.std.specs.Int.{to_be_bytes, w128};
+ghost use Rattle.aead_ciphers_base.specs.Bytes.{◌⊕◌, each_below};
+ghost use Rattle.aead_ciphers.specs.Ghash.{◌•◌};
+ghost use Rattle.aead_ciphers_wide.specs.Products.{AreProducts, ArePowers, chosen_sum, subkey, u128_times};
+ghost use Rattle.aead_ciphers.specs.Multiples.{monomial_block};
+
+use aead_ciphers_base::aes::Block;
+use std::simd::{u8x16, u64x2};
+
+/// The block R of SP 800-38D section 6.3: 11100001 followed by 120 zero bits.
+const R: u128 = 0xe1 << 120;
+
+/// Returns the product of `block` and the block whose products are in `table`.
+pub(crate) fn product(table: &[u8; 512], block: u128) -> u128
+    requires { AreProducts (subkey table.now) table.now }
+    ensures { to_be_bytes w128 result ≡ to_be_bytes w128 block • subkey table.now }
+{
+    let (high, low) = digits(bytes_of(block));
+    let mut first = u8x16::splat(0);
+    let mut second = u8x16::splat(0);
+    for k in 0..16 {
+        let at = 16 * (15 - k);
+        let (front, back) = moved(first, second);
+        let bytes = looked_up(table, at, high, low);
+        first = add(front, bytes);
+        second = back;
+    }
+    reduced(number_of(first), number_of(second))
+}
+
+/// Returns the product of `first` and the block H whose products are in `table`, added to `second`, times H. That is the
+/// sum of `first` times H^2, whose products are in `squares`, and `second` times H: the two share the moves and the
+/// reduction.
+pub(crate) fn product_pair(
+    table: &[u8; 512],
+    squares: &[u8; 512],
+    first: u128,
+    second: Block,
+) -> u128
+    requires { ArePowers table.now squares.now }
+    ensures { to_be_bytes w128 result
+        ≡ (to_be_bytes w128 first • subkey table.now ⊕ second) • subkey table.now }
+{
+    let (first_high, first_low) = digits(bytes_of(first));
+    let (second_high, second_low) = digits(u8x16::from_array(second));
+    let mut sum = u8x16::splat(0);
+    let mut over = u8x16::splat(0);
+    for k in 0..16 {
+        let at = 16 * (15 - k);
+        let (front, back) = moved(sum, over);
+        let one = looked_up(squares, at, first_high, first_low);
+        let two = looked_up(table, at, second_high, second_low);
+        let bytes = add(one, two);
+        sum = add(front, bytes);
+        over = back;
+    }
+    reduced(number_of(sum), number_of(over))
+}
+
+/// Returns the bytes of the two rows of `table` from the indices `at` and `256 + at` on, at the places `high` and `low`,
+/// added.
+#[inline(always)]
+fn looked_up(table: &[u8; 512], at: usize, high: u8x16, low: u8x16) -> u8x16
+    requires at { at + 272 ≤ 512 }
+    requires high { (i : ℕ) → i < 16 → slice_index high i < 16 }
+    requires low { (i : ℕ) → i < 16 → slice_index low i < 16 }
+    ensures { (i : ℕ) → i < 16 → slice_index result i
+        ≡ bit_xor (slice_index table.now (at + slice_index high i)) (slice_index table.now (256 + at + slice_index low i)) }
+{
+    add(
+        look_up(row(table, at), high),
+        look_up(row(table, 256 + at), low),
+    )
+}
+
+/// Returns the bytes of `block`, the most significant first.
+#[inline(always)]
+fn bytes_of(block: u128) -> u8x16
+    ensures { result ≡ to_be_bytes w128 block }
+{
+    let low = (block & 0xffff_ffff_ffff_ffff) as u64;
+    let high = (block >> 64) as u64;
+    u64x2::from_array([low, high]).to_le_bytes().reverse()
+}
+
+/// Returns the number with these bytes, the most significant first.
+#[inline(always)]
+fn number_of(bytes: u8x16) -> u128
+    ensures { to_be_bytes w128 result ≡ bytes }
+{
+    u128::from_be_bytes(bytes.to_array())
+}
+
+/// Returns the high and the low digit of each byte, in base 16.
+#[inline(always)]
+fn digits(bytes: u8x16) -> (u8x16, u8x16)
+    ensures high { (i : ℕ) → i < 16 → slice_index result.0 i ≡ slice_index bytes i / 16 }
+    ensures low { (i : ℕ) → i < 16 → slice_index result.1 i ≡ slice_index bytes i % 16 }
+{
+    (bytes >> u8x16::splat(4), bytes & u8x16::splat(15))
+}
+
+/// Returns the 16 bytes of `table` from index `at` on.
+#[inline(always)]
+fn row(table: &[u8; 512], at: usize) -> u8x16
+    requires { at + 16 ≤ 512 }
+    ensures { (n : ℕ) → n < 16 → slice_index result n ≡ slice_index table.now (at + n) }
+{
+    u8x16::from_slice(&table[at..])
+}
+
+/// Returns the bytes of `row` at the places `digits`, which are below 16. No memory is read at a place.
+#[inline(always)]
+fn look_up(row: u8x16, digits: u8x16) -> u8x16
+    requires { (i : ℕ) → i < 16 → slice_index digits i < 16 }
+    ensures { (i : ℕ) → i < 16 → slice_index result i ≡ slice_index row (slice_index digits i) }
+{
+    row.swizzle_dyn(digits)
+}
+
+/// Adds the bytes.
+#[inline(always)]
+fn add(a: u8x16, b: u8x16) -> u8x16
+    ensures { result ≡ a ⊕ b }
+{
+    a ^ b
+}
+
+/// Moves 32 bytes by one place. The last is lost.
+#[inline(always)]
+fn moved(first: u8x16, second: u8x16) -> (u8x16, u8x16)
+    ensures first { result.0 ≡ 0 ∷ each_below 15 (λ i. slice_index first i) }
+    ensures second { result.1 ≡ slice_index first 15 ∷ each_below 15 (λ i. slice_index second i) }
+{
+    (
+        u8x16::splat(0).shuffle(
+            first,
+            [
+                15, 16, 17, 18, 19, 20, 21, 22, 23, 24, 25, 26, 27, 28, 29, 30,
+            ],
+        ),
+        first.shuffle(
+            second,
+            [
+                15, 16, 17, 18, 19, 20, 21, 22, 23, 24, 25, 26, 27, 28, 29, 30,
+            ],
+        ),
+    )
+}
+
+/// Returns the sum of `first` and u^128 times `second`.
+#[inline(always)]
+fn reduced(first: u128, second: u128) -> u128
+    ensures { to_be_bytes w128 result ≡ to_be_bytes w128 first ⊕ u128_times (to_be_bytes w128 second) }
+{
+    let kept = second ^ ((second << 127) ^ (second << 126) ^ (second << 121));
+    first ^ (kept ^ (kept >> 1) ^ (kept >> 2) ^ (kept >> 7))
+}
+
+/// Writes the products of `block` and each digit of a byte to `table`.
+pub(crate) fn write_products(table: &mut [u8; 512], block: u128)
+    ensures products { AreProducts (to_be_bytes w128 block) table.new }
+    ensures subkey { subkey table.new ≡ to_be_bytes w128 block }
+{
+    let multiples = blocks(multiples(block));
+    for r in 0..32 {
+        let sums = sums_at(&multiples, r);
+        for n in 0..16 {
+            table[16 * r + n] = sums[n];
+        }
+    }
+}
+
+/// Returns u^0, .., u^7 times `block`, each computed by a shift of the one before.
+fn multiples(block: u128) -> [u128; 8]
+    ensures { (k : ℕ) → k < 8
+        → to_be_bytes w128 (slice_index result k) ≡ monomial_block k • to_be_bytes w128 block }
+{
+    let mut multiples = [0; 8];
+    let mut multiple = block;
+    for k in 0..8 {
+        multiples[k] = multiple;
+        multiple = (multiple >> 1) ^ (R & 0u128.wrapping_sub(multiple & 1));
+    }
+    multiples
+}
+
+/// Returns the bytes of each number, the most significant first.
+fn blocks(numbers: [u128; 8]) -> [[u8; 16]; 8]
+    ensures { (k : ℕ) → k < 8
+        → slice_index_or result k [] ≡ to_be_bytes w128 (slice_index numbers k) }
+{
+    let [n0, n1, n2, n3, n4, n5, n6, n7] = numbers;
+    [
+        n0.to_be_bytes(),
+        n1.to_be_bytes(),
+        n2.to_be_bytes(),
+        n3.to_be_bytes(),
+        n4.to_be_bytes(),
+        n5.to_be_bytes(),
+        n6.to_be_bytes(),
+        n7.to_be_bytes(),
+    ]
+}
+
+/// Returns byte `r % 16` of the sums of the first four blocks, or of the others, for each digit.
+#[inline(always)]
+fn sums_at(blocks: &[[u8; 16]; 8], r: usize) -> [u8; 16]
+    requires { r < 32 }
+    ensures { (n : ℕ) → n < 16 → slice_index result n ≡ chosen_sum n 0
+        (each_below 4 (λ k. slice_index (slice_index_or blocks.now (r / 16 * 4 + k) []) (r % 16))) }
+{
+    let from = r / 16 * 4;
+    let at = r % 16;
+    sums(
+        blocks[from][at],
+        blocks[from + 1][at],
+        blocks[from + 2][at],
+        blocks[from + 3][at],
+    )
+}
+
+/// Returns the sum of those of the bytes at which a digit has a one, its highest bit first, for each digit.
+#[inline(always)]
+fn sums(a: u8, b: u8, c: u8, d: u8) -> [u8; 16]
+    ensures { (n : ℕ) → n < 16
+        → slice_index result n ≡ chosen_sum n 0 (a ∷ b ∷ c ∷ d ∷ []) }
+{
+    let eights = u8x16::from_array([
+        0, 0, 0, 0, 0, 0, 0, 0, 255, 255, 255, 255, 255, 255, 255, 255,
+    ]);
+    let fours = u8x16::from_array([
+        0, 0, 0, 0, 255, 255, 255, 255, 0, 0, 0, 0, 255, 255, 255, 255,
+    ]);
+    let twos = u8x16::from_array([
+        0, 0, 255, 255, 0, 0, 255, 255, 0, 0, 255, 255, 0, 0, 255, 255,
+    ]);
+    let ones = u8x16::from_array([
+        0, 255, 0, 255, 0, 255, 0, 255, 0, 255, 0, 255, 0, 255, 0, 255,
+    ]);
+    let high = (u8x16::splat(a) & eights) ^ (u8x16::splat(b) & fours);
+    (high ^ (u8x16::splat(c) & twos) ^ (u8x16::splat(d) & ones)).to_array()
+}

@@ -1,0 +1,10 @@
+//! AES-GCM (SP 800-38D) and header masks (RFC 9001 section 5.4.3) over eight blocks a pass, with GHASH by byte permutes.
+//!
+//! Read `aead` first, whose keys have calls of the keys of `aead_ciphers::aead`. `aes_gcm` has their expanded key, and
+//! `aes` and `gcm` implement the traits that `aead_ciphers::aes_gcm` seals and opens by.
+#![tactic(auto)]
+
+pub mod aead;
+pub mod aes;
+pub mod aes_gcm;
+pub mod gcm;
