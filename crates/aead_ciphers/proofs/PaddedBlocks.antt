@@ -76,7 +76,7 @@ module _ (xs part rest : List ℕ) (cut : xs ≡ part ++ rest) (size : length pa
       ap₂ (λ ys k. get_or ys k 0) cut here ∙ get_or-append-add part rest (16 * i + j) 0)
 
   -- the first part of a list, and the rest
-  pub padded_blocks-cons : 0 < length xs → padded_blocks xs ≡ padded_block part 0 ∷ padded_blocks rest
+  padded_blocks-cons : 0 < length xs → padded_blocks xs ≡ padded_block part 0 ∷ padded_blocks rest
   unfolding padded_blocks
   padded_blocks-cons some =
       let n = (length rest + 15) / 16 in

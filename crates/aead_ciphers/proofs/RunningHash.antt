@@ -41,9 +41,6 @@ front_more h block left rest all xi xi' e step at = (
   step at.0 at.2,
 )
 
-pub front_end : (h : List ℕ) (left all : List (List ℕ)) (xi : List ℕ) → left ≡ [] → HashedFront h left all xi → IsHashOf h all xi
-front_end h left all xi e at = subst (λ bs. IsHashOf h bs xi) (sym (append-nil at.0) ∙ ap (λ bs. at.0 ++ bs) (sym e) ∙ at.1) at.2
-
 -- what a step takes in under one name of the subkey it does under another
 pub hash_with : {h h' : List ℕ} {bs bs' more : List (List ℕ)} {xi xi' : List ℕ} → h' ≡ h → bs ++ more ≡ bs'
     → ((done : List (List ℕ)) → IsHashOf h' done xi → IsHashOf h' (done ++ more) xi') → IsHashOf h bs xi → IsHashOf h bs' xi'

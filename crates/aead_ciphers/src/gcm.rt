@@ -12,7 +12,6 @@ mod product;
 
 use aead_ciphers_base::aes::{BLOCK_LEN, Block, Work, ZERO_BLOCK};
 use aead_ciphers_base::polyfill::slice::AsChunks;
-pub(crate) use context::padded;
 pub use context::{Context, MAX_IN_OUT_LEN};
 use std::marker::Model;
 

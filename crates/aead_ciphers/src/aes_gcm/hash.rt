@@ -1,30 +1,16 @@
 //! The hash that a tag is computed from (SP 800-38D section 7.1, steps 4 to 6).
 
-ghost use Rattle.std.specs.Prelude.{◌≡◌, ◌+◌, ◌/◌, ℕ, List, [], ◌∷◌, ◌++◌, length};
+ghost use Rattle.std.specs.Prelude.{◌≡◌, ℕ, List, [], ◌∷◌, ◌++◌};
 ghost use Rattle.aead_ciphers_base.specs.Bytes.{◌⊕◌};
 ghost use Rattle.aead_ciphers_base.specs.Work.{Adds, CanAdd};
 ghost use Rattle.aead_ciphers.specs.Gcm.{length_block};
 ghost use Rattle.aead_ciphers.specs.Ghash.{ghash};
-ghost use Rattle.aead_ciphers.specs.HashOf.{Absorbs, IsHashOf};
+ghost use Rattle.aead_ciphers.specs.HashOf.{IsHashOf};
 
-use crate::gcm::{Context, UpdateBlock, UpdateBlocks, padded};
-use aead_ciphers_base::aes::{BLOCK_LEN, Block, Work};
+use crate::gcm::{Context, UpdateBlock};
+use aead_ciphers_base::aes::{Block, Work};
 use aead_ciphers_base::bb;
-use aead_ciphers_base::polyfill::slice::as_chunks;
 use aead_ciphers_base::values::Tag;
-
-/// Updates the hash with `input` in blocks, the last of which is padded with zeros, by one field product per block.
-pub(super) fn absorb<G: UpdateBlocks>(auth: &mut Context<'_, G>, input: &[u8], work: &mut Work)
-    requires { CanAdd work.old 0 ((length input.now + 15) / 16) }
-    ensures hashed { Absorbs auth.old input.now auth.new }
-    ensures worked { Adds work.old work.new 0 ((length input.now + 15) / 16) }
-{
-    let (whole, rest) = as_chunks::<u8, BLOCK_LEN>(input);
-    auth.update_blocks(whole, work);
-    if !rest.is_empty() {
-        auth.update_block(padded(rest), work);
-    }
-}
 
 /// Returns the tag: the hash, ended by the block of the lengths, XOR `mask`, the encrypted first counter block.
 pub(super) fn finish<G: UpdateBlock>(auth: Context<'_, G>, mask: Block, work: &mut Work) -> Tag

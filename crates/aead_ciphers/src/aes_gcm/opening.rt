@@ -8,7 +8,7 @@ ghost use Rattle.aead_ciphers_base.specs.Work.{Adds};
 ghost use Rattle.aead_ciphers.specs.Gcm.{CanOpen, CanSeal, Fits, OpenWork, Opened, gcm_decrypted, gcm_tag, sealing_products};
 
 use super::counter_mode::encrypt_within;
-use super::hash::{absorb, finish};
+use super::hash::finish;
 use crate::gcm::{Context, UpdateBlocks};
 use aead_ciphers_base::aes::{Counter, EncryptCtr32, Work};
 use aead_ciphers_base::bb;
@@ -100,7 +100,7 @@ fn authenticate<A: EncryptCtr32, G: UpdateBlocks>(
     let mut auth = Context::new(gcm, aad, ciphertext.len(), work)?;
     let mut counter = Counter::one(nonce);
     let tag_iv = counter.increment();
-    absorb(&mut auth, ciphertext, work);
+    auth.absorb(ciphertext, work);
     let mask = aes.encrypt_block(tag_iv.into_block_less_safe(), work);
     let tag = finish(auth, mask, work);
     bb::verify_slices_are_equal(tag.as_ref(), received_tag.as_ref())?;

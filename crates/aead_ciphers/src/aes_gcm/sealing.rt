@@ -8,7 +8,7 @@ ghost use Rattle.aead_ciphers_base.specs.Work.{Adds, CanAdd};
 ghost use Rattle.aead_ciphers.specs.Gcm.{CanSeal, Fits, SealWork, gcm_encrypted, gcm_tag, sealing_blocks};
 
 use super::counter_mode::{CHUNK_LEN, encrypt_blocks, encrypt_chunk};
-use super::hash::{absorb, finish};
+use super::hash::finish;
 use crate::gcm::{Context, UpdateBlocks};
 use aead_ciphers_base::aes::{BLOCK_LEN, Block, Counter, EncryptCtr32, Work, ZERO_BLOCK};
 use aead_ciphers_base::error::Unspecified;
@@ -42,7 +42,7 @@ pub fn seal_with<A: EncryptCtr32, G: UpdateBlocks>(
     let mut auth = Context::new(gcm, aad, in_out.len(), work)?;
     if !in_out.is_empty() && in_out.len() <= SHORT_LEN {
         let mask = encrypt_short(aes, nonce, in_out, work);
-        absorb(&mut auth, in_out, work);
+        auth.absorb(in_out, work);
         return Ok(finish(auth, mask, work));
     }
     let mut counter = Counter::one(nonce);
@@ -52,7 +52,7 @@ pub fn seal_with<A: EncryptCtr32, G: UpdateBlocks>(
         let count = (in_out.len() - done).min(CHUNK_LEN);
         let chunk = &mut in_out[done..done + count];
         encrypt_chunk(aes, &mut counter, chunk, 0, work);
-        absorb(&mut auth, chunk, work);
+        auth.absorb(chunk, work);
         done += count;
     }
     let mask = aes.encrypt_block(tag_iv.into_block_less_safe(), work);

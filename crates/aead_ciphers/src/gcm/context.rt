@@ -5,12 +5,12 @@ ghost use Rattle.aead_ciphers_base.specs.Blocks.{blocks};
 ghost use Rattle.aead_ciphers_base.specs.Values.{aad_bytes};
 ghost use Rattle.aead_ciphers_base.specs.Work.{Adds, CanAdd};
 ghost use Rattle.aead_ciphers.specs.Gcm.{Fits, length_block, padded_block, padded_blocks};
-ghost use Rattle.aead_ciphers.specs.HashOf.{IsHashOf};
+ghost use Rattle.aead_ciphers.specs.HashOf.{Absorbs, IsHashOf};
 
 use super::{UpdateBlock, UpdateBlocks, Xi};
 use aead_ciphers_base::aes::{BLOCK_LEN, Block, Work, ZERO_BLOCK};
 use aead_ciphers_base::error::Unspecified;
-use aead_ciphers_base::polyfill::slice::AsChunks;
+use aead_ciphers_base::polyfill::slice::{AsChunks, as_chunks};
 use aead_ciphers_base::values::{Aad, Tag};
 use std::marker::Model;
 
@@ -43,47 +43,6 @@ impl<'key, K: UpdateBlock> Model for Context<'key, K> {
 }
 
 impl<'key, K: UpdateBlock> Context<'key, K> {
-    /// Starts a hash with `aad`, padded with zeros to whole blocks, by one field product per block. `in_out_len` is the
-    /// length of the ciphertext in bytes.
-    ///
-    /// # Errors
-    ///
-    /// Fails with `Unspecified` if `in_out_len` is greater than 2^36 - 32 or `aad` is 2^61 bytes or longer (SP 800-38D
-    /// section 5.2.1.1).
-    pub fn new(
-        key: &'key K,
-        aad: Aad<'_>,
-        in_out_len: usize,
-        work: &mut Work,
-    ) -> Result<Self, Unspecified>
-        requires { Fits (length (aad_bytes aad)) in_out_len
-            → CanAdd work.old 0 ((length (aad_bytes aad) + 15) / 16) }
-        ensures accepted { IsOk result ↔ Fits (length (aad_bytes aad.entry)) in_out_len }
-        ensures hash_subkey { IfOk result (λ context. context.hash_subkey ≡ K.hash_subkey key.now) }
-        ensures aad_len { IfOk result (λ context. context.aad_len ≡ length (aad_bytes aad.entry)) }
-        ensures in_out_len { IfOk result (λ context. context.in_out_len ≡ in_out_len) }
-        ensures hashed { IfOk result
-            (λ context. IsHashOf context.hash_subkey (padded_blocks (aad_bytes aad.entry)) context.xi) }
-        ensures worked { OnOk result
-            (Adds work.old work.new 0 ((length (aad_bytes aad.entry) + 15) / 16)) }
-        ensures idle { OnErr result (work.new ≡ work.old) }
-    {
-        let aad = aad.as_ref();
-        if in_out_len > MAX_IN_OUT_LEN || aad.len() >= 1 << 61 {
-            return Err(Unspecified);
-        }
-        let mut xi = Xi::zero();
-        for bytes in aad.chunks(BLOCK_LEN) {
-            key.update_block(&mut xi, padded(bytes), work);
-        }
-        Ok(Context {
-            xi,
-            key,
-            aad_len: aad.len(),
-            in_out_len,
-        })
-    }
-
     /// Updates the hash with one block, by one field product.
     pub fn update_block(&mut self, block: Block, work: &mut Work)
         requires { CanAdd work.old 0 1 }
@@ -122,6 +81,45 @@ impl<'key, K: UpdateBlock> Context<'key, K> {
 }
 
 impl<'key, K: UpdateBlocks> Context<'key, K> {
+    /// Starts a hash with `aad`, padded with zeros to whole blocks, by one field product per block. `in_out_len` is the
+    /// length of the ciphertext in bytes.
+    ///
+    /// # Errors
+    ///
+    /// Fails with `Unspecified` if `in_out_len` is greater than 2^36 - 32 or `aad` is 2^61 bytes or longer (SP 800-38D
+    /// section 5.2.1.1).
+    pub fn new(
+        key: &'key K,
+        aad: Aad<'_>,
+        in_out_len: usize,
+        work: &mut Work,
+    ) -> Result<Self, Unspecified>
+        requires { Fits (length (aad_bytes aad)) in_out_len
+            → CanAdd work.old 0 ((length (aad_bytes aad) + 15) / 16) }
+        ensures accepted { IsOk result ↔ Fits (length (aad_bytes aad.entry)) in_out_len }
+        ensures hash_subkey { IfOk result (λ context. context.hash_subkey ≡ K.hash_subkey key.now) }
+        ensures aad_len { IfOk result (λ context. context.aad_len ≡ length (aad_bytes aad.entry)) }
+        ensures in_out_len { IfOk result (λ context. context.in_out_len ≡ in_out_len) }
+        ensures hashed { IfOk result
+            (λ context. IsHashOf context.hash_subkey (padded_blocks (aad_bytes aad.entry)) context.xi) }
+        ensures worked { OnOk result
+            (Adds work.old work.new 0 ((length (aad_bytes aad.entry) + 15) / 16)) }
+        ensures idle { OnErr result (work.new ≡ work.old) }
+    {
+        let aad = aad.as_ref();
+        if in_out_len > MAX_IN_OUT_LEN || aad.len() >= 1 << 61 {
+            return Err(Unspecified);
+        }
+        let mut context = Context {
+            xi: Xi::zero(),
+            key,
+            aad_len: aad.len(),
+            in_out_len,
+        };
+        context.absorb(aad, work);
+        Ok(context)
+    }
+
     /// Updates the hash with the blocks of `input` in order, by one field product each.
     pub fn update_blocks(&mut self, input: AsChunks<'_, u8, BLOCK_LEN>, work: &mut Work)
         requires { CanAdd work.old 0 (length input.items.now / 16) }
@@ -132,11 +130,24 @@ impl<'key, K: UpdateBlocks> Context<'key, K> {
     {
         self.key.update_blocks(&mut self.xi, input, work);
     }
+
+    /// Updates the hash with `input` in blocks, the last of which is padded with zeros, by one field product per block.
+    pub(crate) fn absorb(&mut self, input: &[u8], work: &mut Work)
+        requires { CanAdd work.old 0 ((length input.now + 15) / 16) }
+        ensures hashed { Absorbs self.old input.now self.new }
+        ensures worked { Adds work.old work.new 0 ((length input.now + 15) / 16) }
+    {
+        let (whole, rest) = as_chunks::<u8, BLOCK_LEN>(input);
+        self.update_blocks(whole, work);
+        if !rest.is_empty() {
+            self.update_block(padded(rest), work);
+        }
+    }
 }
 
 /// Returns a block that begins with `bytes`, at most 16 of them, and ends in zeros.
 #[tactic(auto, using(crate::proofs::PaddedBlocks::padded_is))]
-pub(crate) fn padded(bytes: &[u8]) -> Block
+fn padded(bytes: &[u8]) -> Block
     requires { length bytes.now ≤ 16 }
     ensures { result ≡ padded_block bytes.now 0 }
 {

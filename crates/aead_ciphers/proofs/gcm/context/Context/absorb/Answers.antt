@@ -6,7 +6,7 @@ use specs.HashOf.{IsHashOf, HashState}
 use Rattle.aead_ciphers.proofs
 use proofs.PaddedBlocks.{padded_blocks_none, padded_blocks_short}
 use proofs.RunningHash.{hash_with, whole_and_rest}
-use proofs.aes_gcm.hash.absorb.Goals as goal
+use proofs.gcm.context.Context.absorb.Goals as goal
 
 pub returns-then-not-is_empty-clause-hashed : goal.returns-then-not-is_empty-clause-hashed
 returns-then-not-is_empty-clause-hashed g c =
@@ -38,5 +38,5 @@ returns-else-not-is_empty-clause-hashed g c =
           let same =
           sym (append-nil (done ++ blocks 16 whole)) ∙ ap (λ u. done ++ blocks 16 whole ++ u) (sym (padded_blocks_none rest none))
           ∙ whole_and_rest done c.args.input.now whole rest c.as_chunks.ensures.whole c.as_chunks.ensures.rest in
-          subst (λ bs. IsHashOf c.args.auth.now.hash_subkey bs c.update_blocks.new.self.xi) same (c.update_blocks.ensures.hashed done at);
+          subst (λ bs. IsHashOf c.args.self.now.hash_subkey bs c.update_blocks.new.self.xi) same (c.update_blocks.ensures.hashed done at);
     }
