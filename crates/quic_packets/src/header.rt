@@ -5,7 +5,8 @@ ghost use Rattle.aead_ciphers.specs.HeaderProtection.{key_len};
 ghost use Rattle.quic_packets.specs.Header.{HasSample, Protected, Unprotected, first_mask, mask_of, number_len};
 
 use crate::error::PacketError;
-use aead_ciphers::aead::quic::{Algorithm, HeaderProtectionKey};
+use aead_ciphers::aead::quic::Algorithm;
+use aead_ciphers_wide::aead::quic::HeaderProtectionKey;
 use std::marker::Model;
 
 /// The sample begins this many bytes after the start of the packet number, as if the number had four bytes.

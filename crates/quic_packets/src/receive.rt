@@ -9,7 +9,8 @@ ghost use Rattle.quic_packets.specs.Packet.{IsGenuine, IsNumber};
 
 use crate::error::PacketError;
 use crate::packet::{NUMBERS_END, payload_len};
-use aead_ciphers::aead::{Algorithm, LessSafeKey, NONCE_LEN, UnboundKey, nonce_of};
+use aead_ciphers::aead::{Algorithm, NONCE_LEN, nonce_of};
+use aead_ciphers_wide::aead::LessSafeKey;
 use std::marker::Model;
 
 /// A key that opens packets, in any order and any number of times.
@@ -45,11 +46,8 @@ impl ReceiveKey {
         ensures made { IfOk result (λ made. made
             ≡ record { algorithm = algorithm.now; bytes = key.now; iv = iv }) }
     {
-        match UnboundKey::new(algorithm, key) {
-            Ok(key) => Ok(ReceiveKey {
-                key: LessSafeKey::new(key),
-                iv,
-            }),
+        match LessSafeKey::new(algorithm, key) {
+            Ok(key) => Ok(ReceiveKey { key, iv }),
             Err(_) => Err(PacketError::KeyLength),
         }
     }

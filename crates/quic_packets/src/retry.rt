@@ -6,9 +6,8 @@ ghost use Rattle.aead_ciphers.specs.Gcm.{gcm_tag};
 ghost use Rattle.quic_packets.specs.Retry.{IsGenuineRetry, integrity_tag, retry_key, retry_nonce};
 
 use crate::datagram::MAX_ID_LEN;
-use aead_ciphers::aead::{
-    AES_128_GCM, Aad, LessSafeKey, MAX_TAG_LEN, NONCE_LEN, Nonce, Tag, UnboundKey,
-};
+use aead_ciphers::aead::{AES_128_GCM, Aad, MAX_TAG_LEN, NONCE_LEN, Nonce, Tag};
+use aead_ciphers_wide::aead::LessSafeKey;
 use thiserror::Error;
 
 const KEY: [u8; 16] = [
@@ -88,11 +87,10 @@ fn tag_of(pseudo: &[u8]) -> Tag
     requires { length pseudo.now < 2 ^ 61 }
     ensures { result ≡ gcm_tag (aes retry_key) retry_nonce pseudo.now [] }
 {
-    let Ok(key) = UnboundKey::new(&AES_128_GCM, &KEY) else {
+    let Ok(key) = LessSafeKey::new(&AES_128_GCM, &KEY) else {
         unreachable!();
     };
     let nonce = Nonce::assume_unique_for_key(NONCE);
-    let key = LessSafeKey::new(key);
     match key.seal_in_place_separate_tag(nonce, Aad::from(pseudo), &mut []) {
         Ok(tag) => tag,
         Err(_) => unreachable!(),

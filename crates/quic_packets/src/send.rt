@@ -11,7 +11,8 @@ ghost use Rattle.quic_packets.specs.Packet.{CarriesNumber, HasNumber, IsNumber, 
 use crate::error::PacketError;
 use crate::header::{SAMPLE_END, number_len};
 use crate::packet::{NUMBERS_END, payload_len};
-use aead_ciphers::aead::{Algorithm, LessSafeKey, NONCE_LEN, UnboundKey, nonce_of};
+use aead_ciphers::aead::{Algorithm, NONCE_LEN, nonce_of};
+use aead_ciphers_wide::aead::LessSafeKey;
 use std::marker::Model;
 use std::ops::Range;
 
@@ -59,14 +60,14 @@ impl SendKey {
         ensures made { IfOk result (λ made. made
             ≡ record { algorithm = algorithm.now; bytes = key.now; iv = iv; next = first }) }
     {
-        let Ok(key) = UnboundKey::new(algorithm, key) else {
+        let Ok(key) = LessSafeKey::new(algorithm, key) else {
             return Err(PacketError::KeyLength);
         };
         if first > NUMBERS_END {
             return Err(PacketError::NumbersEnded);
         }
         Ok(SendKey {
-            key: LessSafeKey::new(key),
+            key,
             iv,
             next: first,
         })

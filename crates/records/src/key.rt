@@ -12,7 +12,8 @@ use crate::header::header_in;
 use crate::inner::{content_of, frame, inner_len};
 use crate::record_error::RecordError;
 use crate::{HEADER_LEN, MAX_SIZE_LIMIT, MIN_SIZE_LIMIT, TAG_LEN};
-use aead_ciphers::aead::{Aad, Algorithm, LessSafeKey, NONCE_LEN, UnboundKey, nonce_of};
+use aead_ciphers::aead::{Aad, Algorithm, NONCE_LEN, nonce_of};
+use aead_ciphers_wide::aead::LessSafeKey;
 use std::marker::Model;
 
 /// A key and IV of one direction, which seals and opens records by their numbers, in place and without allocating.
@@ -55,9 +56,9 @@ impl RecordKey {
         ensures refused { IsOkUnless result RecordError.KeyLength }
         ensures made { IfOk result (λ made. made ≡ new_key algorithm.now key.now iv) }
     {
-        match UnboundKey::new(algorithm, key) {
+        match LessSafeKey::new(algorithm, key) {
             Ok(key) => Ok(RecordKey {
-                key: LessSafeKey::new(key),
+                key,
                 iv,
                 size_limit: MAX_SIZE_LIMIT,
             }),

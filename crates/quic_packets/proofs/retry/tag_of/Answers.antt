@@ -18,5 +18,5 @@ from_call tag key nonce aad text pseudo e t k n a =
 pub returns : goal.returns
 returns c =
     let sealed = c.in-Ok-seal_in_place_separate_tag.ensures in
-    let key : c.new-key.result.bytes ≡ retry_key = ap (λ (k : AeadKey). k.bytes) (c.new-key.ensures ∙ c.in-Ok.ensures.made) in
+    let key : c.in-Ok.key.bytes ≡ retry_key = ap (λ (k : AeadKey). k.bytes) c.in-Ok.ensures.made in
     from_call _ _ _ _ _ c.args.pseudo.now sealed.tag sealed.ciphertext key c.assume_unique_for_key-nonce.ensures c.from.ensures
