@@ -5,9 +5,8 @@ use Rattle.std.specs.Prelude.{codes, slice_index}
 use proofs.lemmas.Bool.{cases_eq, cond_both}
 use proofs.lemmas.List.{take-append-le}
 use Rattle.std.specs.Int.{to_be_bytes, w16}
-use Rattle.aead_ciphers_base.specs.Aes.{aes}
+use Rattle.aead_ciphers_base.specs.Aes.{aes, length_aes}
 use Rattle.aead_ciphers_base.specs.Bytes.{◌⊕◌, zero_block}
-use Rattle.aead_ciphers.proofs.MessageLaws.{length_aes}
 use Rattle.sealed_file.specs
 use specs.declared.error.FileError.{FileError}
 use specs.declared.error.FileError.TheVariants.{AnotherMagic, AnotherVersion, WrongKey, EndsEarly}

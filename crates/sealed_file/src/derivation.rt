@@ -6,9 +6,10 @@ ghost use Rattle.sealed_file.specs.Derivation.{cmac_of_block, derived_block, fir
 
 use crate::header::{Context, put};
 use aead_ciphers_base::aes::{
-    self, AES_256_KEY_LEN, BLOCK_LEN, Block, EncryptBlock, KeyBytes, Work, ZERO_BLOCK,
+    AES_256_KEY_LEN, BLOCK_LEN, Block, EncryptBlock, KeyBytes, Work, ZERO_BLOCK,
 };
 use aead_ciphers_base::bb;
+use aead_ciphers_wide::aes;
 
 /// The label of the derivation.
 const LABEL: u8 = b'X';

@@ -7,9 +7,10 @@ ghost use Rattle.sealed_file.specs.Refusals.{HeaderRefuses, IsVersion2};
 
 use crate::error::FileError;
 use crate::key::FileKey;
-use aead_ciphers::aead::{AES_256_GCM, LessSafeKey, UnboundKey};
+use aead_ciphers::aead::AES_256_GCM;
 use aead_ciphers_base::aes::AES_256_KEY_LEN;
 use aead_ciphers_base::bb;
+use aead_ciphers_wide::aead::LessSafeKey;
 use std::marker::Model;
 
 /// The first bytes of a sealed file.
@@ -135,8 +136,8 @@ impl ChunkCipher {
 fn aead_key(bytes: &[u8; AES_256_KEY_LEN]) -> LessSafeKey
     ensures { result.bytes ≡ bytes.now }
 {
-    match UnboundKey::new(&AES_256_GCM, bytes) {
-        Ok(key) => LessSafeKey::new(key),
+    match LessSafeKey::new(&AES_256_GCM, bytes) {
+        Ok(key) => key,
         Err(_) => unreachable!(),
     }
 }
