@@ -56,6 +56,14 @@ static uint64_t open(uint64_t times, const uint8_t *key, size_t key_len, uint8_t
     return answer;
 }
 
+static uint64_t authenticate(uint64_t times, const uint8_t *key, size_t key_len, uint8_t *buffer, size_t len) {
+    gcm_key k;
+    uint8_t tag[TAG_LEN] = {0};
+    init(&k, key, key_len);
+    for (uint64_t i = 0; i < times; i++) seal_with(&k, buffer, len, NULL, 0, tag);
+    return first_bytes(tag);
+}
+
 static uint64_t seal_once(uint64_t times, const uint8_t *key, size_t key_len, uint8_t *buffer, size_t len) {
     gcm_key k;
     uint8_t tag[TAG_LEN] = {0};
@@ -118,6 +126,13 @@ static uint64_t update_block(uint64_t times, const uint8_t *key, size_t key_len,
     return first_bytes(hash);
 }
 
+static uint64_t update_blocks(uint64_t times, const uint8_t *key, size_t key_len, uint8_t *buffer, size_t len) {
+    uint8_t hash[BLOCK_LEN] = {0};
+    (void)key_len;
+    for (uint64_t i = 0; i < times; i++) br_ghash_ctmul64(hash, key, buffer, len);
+    return first_bytes(hash);
+}
+
 static uint64_t chacha(uint64_t times, const uint8_t *key, size_t key_len, uint8_t *buffer, size_t len) {
     (void)key_len;
     for (uint64_t i = 0; i < times; i++) br_chacha20_ct_run(key, nonce, 1, buffer, len);
@@ -170,8 +185,10 @@ const side bearssl = {{
     [OPEN] = open,
     [SEAL_ONCE] = seal_once,
     [OPEN_ONCE] = open_once,
+    [AUTHENTICATE] = authenticate,
     [CTR32] = ctr32,
     [UPDATE_BLOCK] = update_block,
+    [UPDATE_BLOCKS] = update_blocks,
     [CHACHA] = chacha,
     [MASK] = mask,
     [MASK_ONCE] = mask_once,

@@ -2,10 +2,13 @@
  * the buffer is compared with the library's. Then all take turns in one process, by the processor time of the thread.
  *
  * Use: bench [-o NAME] SECONDS [WORD..]
+ *      bench -c PEER CALLS ROW
  *
  *   -o NAME   of the peers OpenSSL alone, which is called NAME
  *   SECONDS   for each row, more where the fewest turns take longer
  *   WORD..    only the rows that have one of the words in their name
+ *   -c        makes so many calls of the peer in one row, or of the library where the peer is "Ours", and prints nothing:
+ *             `bench/instructions` counts the instructions. The status is 3 where the row hasn't that peer
  *
  * It prints a line for each row and peer, with tabs between the fields: the row, the bits of the key where the row is
  * timed for two, "MB/s" or "ns", the length of the buffer, the nanoseconds of the library's call, the ratio to the plain C
@@ -37,31 +40,57 @@ typedef struct {
 
 static const row rows[] = {
     {"sealing, 0 bytes", &library, SEAL, {16, 32}, 0, TIME, 0},
+    {"sealing, 0 bytes, wide", &wide, SEAL, {16, 32}, 0, TIME, 0},
     {"sealing, 16 bytes", &library, SEAL, {16, 32}, 16, SPEED, 2.4},
+    {"sealing, 16 bytes, wide", &wide, SEAL, {16, 32}, 16, SPEED, 0},
     {"sealing, 32 bytes", &library, SEAL, {16, 32}, 32, SPEED, 2.4},
+    {"sealing, 32 bytes, wide", &wide, SEAL, {16, 32}, 32, SPEED, 0},
     {"sealing, 64 bytes", &library, SEAL, {16, 32}, 64, SPEED, 2.4},
+    {"sealing, 64 bytes, wide", &wide, SEAL, {16, 32}, 64, SPEED, 0},
     {"sealing, 1350 bytes", &library, SEAL, {16, 32}, 1350, SPEED, 2.4},
+    {"sealing, 1350 bytes, wide", &wide, SEAL, {16, 32}, 1350, SPEED, 0},
     {"sealing, 16 KiB", &library, SEAL, {16, 32}, 16 * KIB, SPEED, 2.7},
+    {"sealing, 16 KiB, wide", &wide, SEAL, {16, 32}, 16 * KIB, SPEED, 0},
     {"sealing, 1 MiB", &library, SEAL, {16, 32}, MIB, SPEED, 0},
+    {"sealing, 1 MiB, wide", &wide, SEAL, {16, 32}, MIB, SPEED, 0},
     {"opening, 0 bytes", &library, OPEN, {16, 32}, 0, TIME, 0},
+    {"opening, 0 bytes, wide", &wide, OPEN, {16, 32}, 0, TIME, 0},
     {"opening, 16 bytes", &library, OPEN, {16, 32}, 16, SPEED, 0},
+    {"opening, 16 bytes, wide", &wide, OPEN, {16, 32}, 16, SPEED, 0},
     {"opening, 32 bytes", &library, OPEN, {16, 32}, 32, SPEED, 0},
+    {"opening, 32 bytes, wide", &wide, OPEN, {16, 32}, 32, SPEED, 0},
     {"opening, 64 bytes", &library, OPEN, {16, 32}, 64, SPEED, 0},
+    {"opening, 64 bytes, wide", &wide, OPEN, {16, 32}, 64, SPEED, 0},
     {"opening, 1350 bytes", &library, OPEN, {16, 32}, 1350, SPEED, 0},
+    {"opening, 1350 bytes, wide", &wide, OPEN, {16, 32}, 1350, SPEED, 0},
     {"opening, 16 KiB", &library, OPEN, {16, 32}, 16 * KIB, SPEED, 2.7},
+    {"opening, 16 KiB, wide", &wide, OPEN, {16, 32}, 16 * KIB, SPEED, 0},
     {"opening, 1 MiB", &library, OPEN, {16, 32}, MIB, SPEED, 0},
+    {"opening, 1 MiB, wide", &wide, OPEN, {16, 32}, MIB, SPEED, 0},
     {"making an AES-GCM key", &library, GCM_KEY, {16, 32}, OF_KEY, TIME, 0},
+    {"making an AES-GCM key, wide", &wide, GCM_KEY, {16, 32}, OF_KEY, TIME, 0},
     {"cloning an AES-GCM key", &library, CLONE, {16}, OF_KEY, TIME, 0},
+    {"cloning an AES-GCM key, wide", &wide, CLONE, {16}, OF_KEY, TIME, 0},
     {"making an AES key", &library, AES_KEY, {16, 32}, OF_KEY, TIME, 0},
+    {"making an AES key, wide", &wide, AES_KEY, {16, 32}, OF_KEY, TIME, 0},
     {"AES, four blocks", &library, ENCRYPT_FOUR, {16, 32}, 64, SPEED, 2.5},
     {"counter mode, 16 KiB", &library, CTR32, {16, 32}, 16 * KIB, SPEED, 2.5},
+    {"counter mode, 16 KiB, wide", &wide, CTR32, {16, 32}, 16 * KIB, SPEED, 0},
     {"GHASH, one block", &library, UPDATE_BLOCK, {16}, 16, SPEED, 3.0},
+    {"GHASH, one block, wide", &wide, UPDATE_BLOCK, {16}, 16, SPEED, 0},
+    {"GHASH, 16 KiB, wide", &wide, UPDATE_BLOCKS, {16}, 16 * KIB, SPEED, 0},
+    {"an AAD of 16 KiB, wide", &wide, AUTHENTICATE, {16, 32}, 16 * KIB, SPEED, 0},
     {"ChaCha20, 64 bytes", &library, CHACHA, {32}, 64, SPEED, 0},
     {"ChaCha20, 16 KiB", &library, CHACHA, {32}, 16 * KIB, SPEED, 2.0},
     {"a mask by AES-128", &library, MASK, {16}, SAMPLE_LEN, TIME, 0},
+    {"a mask by AES-128, wide", &wide, MASK, {16}, SAMPLE_LEN, TIME, 0},
     {"a mask by ChaCha20", &library, MASK, {32}, SAMPLE_LEN, TIME, 0},
     {"sending a QUIC packet, 1350 bytes", &library, SEND, {16, 32}, 1350, SPEED, 0},
     {"sending and receiving it", &library, SEND_AND_RECEIVE, {16, 32}, 1350, SPEED, 0},
+    {"sealing a record, 1350 bytes", &wide, SEAL_RECORD, {16, 32}, 1350, SPEED, 0},
+    {"sealing and opening a record, 1350 bytes", &wide, SEAL_AND_OPEN_RECORD, {16, 32}, 1350, SPEED, 0},
+    {"sealing a record of 16 KiB", &wide, SEAL_RECORD, {16, 32}, 16 * KIB + 22, SPEED, 0},
+    {"sealing and opening a record of 16 KiB", &wide, SEAL_AND_OPEN_RECORD, {16, 32}, 16 * KIB + 22, SPEED, 0},
     {"`deerlapse_seal`, 16 bytes", &calls, SEAL_ONCE, {16, 32}, 16, SPEED, 0},
     {"`deerlapse_seal`, 1350 bytes", &calls, SEAL_ONCE, {16, 32}, 1350, SPEED, 0},
     {"`deerlapse_seal`, 16 KiB", &calls, SEAL_ONCE, {16, 32}, 16 * KIB, SPEED, 0},
@@ -79,23 +108,24 @@ static const row rows[] = {
 typedef struct {
     const char *name;
     const side *side;
-    const side *of; /* the side of the library that it is compared with; null: each */
+    const side *of[2]; /* the sides of the library that it is compared with; none: each */
 } peer;
 
 static const peer all_peers[] = {
-    {"C", &plain, NULL},
-    {"`LessSafeKey`", &less_safe_key, &library},
+    {"C", &plain, {0}},
+    {"Libraries", &libraries, {&wide}},
+    {"`LessSafeKey`", &less_safe_key, {&library, &wide}},
 #ifdef WITH_BEARSSL
-    {"BearSSL", &bearssl, NULL},
+    {"BearSSL", &bearssl, {0}},
 #endif
 #ifdef WITH_BEARSSL_CLANG
-    {"BearSSL, clang", &bearssl_clang, NULL},
+    {"BearSSL, clang", &bearssl_clang, {0}},
 #endif
 #ifdef WITH_OPENSSL
-    {"OpenSSL", &openssl, NULL},
+    {"OpenSSL", &openssl, {0}},
 #endif
 #ifdef WITH_BEFORE
-    {"Before", &before, &library},
+    {"Before", &before, {&library, &wide}},
 #endif
 };
 
@@ -210,7 +240,7 @@ static bool print_peer(const timing *of, const timed *ours, const timed *theirs,
 
 /* Whether a peer is timed in a row. */
 static bool is_in(const peer *it, const row *r) {
-    return it->side->loops[r->operation] && (!it->of || it->of == r->library);
+    return it->side->loops[r->operation] && (!it->of[0] || it->of[0] == r->library || it->of[1] == r->library);
 }
 
 /* Times a row, prints it, and returns whether the peers agree and the ratio is as wanted. */
@@ -262,7 +292,27 @@ static bool time_rows(const peer *peers, int peer_count, double seconds, char **
     return fine;
 }
 
+/* Makes calls of one side in one row. Returns false where there is none. */
+static bool make_calls(const char *peer_name, uint64_t times, const char *row_name) {
+    for (const row *r = rows; r < rows + sizeof rows / sizeof rows[0]; r++) {
+        for (int i = 0; i < 2 && r->key_lens[i]; i++) {
+            timing of = timing_of(r, r->key_lens[i]);
+            if (strcmp(of.name, row_name) != 0) continue;
+            loop *made = strcmp(peer_name, "Ours") == 0 ? r->library->loops[r->operation] : NULL;
+            for (const peer *it = all_peers; it < all_peers + ALL_PEERS; it++) {
+                if (strcmp(it->name, peer_name) == 0 && is_in(it, r)) made = it->side->loops[r->operation];
+            }
+            if (!made) return false;
+            fill_buffer(of.len);
+            run(made, times, &of);
+            return true;
+        }
+    }
+    return false;
+}
+
 int main(int n, char **v) {
+    if (n == 5 && strcmp(v[1], "-c") == 0) return make_calls(v[2], strtoull(v[3], NULL, 10), v[4]) ? 0 : 3;
     const peer *peers = all_peers;
     int peer_count = ALL_PEERS;
 #ifdef WITH_OPENSSL
@@ -276,7 +326,7 @@ int main(int n, char **v) {
 #endif
     double seconds = n > 1 ? atof(v[1]) : 0;
     if (seconds <= 0) {
-        fputs("bench: use: bench [-o NAME] SECONDS [WORD..]\n", stderr);
+        fputs("bench: use: bench [-o NAME] SECONDS [WORD..] or bench -c PEER CALLS ROW\n", stderr);
         return 2;
     }
     double wall = seconds_of_clock(CLOCK_MONOTONIC), processor = seconds_of_clock(CLOCK_PROCESS_CPUTIME_ID);

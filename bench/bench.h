@@ -17,9 +17,11 @@ typedef enum {
     OPEN,         /* opens the buffer in place, under a key that is made before */
     SEAL_ONCE,    /* makes the key and seals */
     OPEN_ONCE,    /* makes the key and opens */
+    AUTHENTICATE, /* seals no bytes with the buffer as the AAD, under a key that is made before */
     CTR32,        /* encrypts the buffer by counter mode */
     ENCRYPT_FOUR, /* encrypts four blocks, which are not the buffer's */
     UPDATE_BLOCK, /* takes one block into a hash: the first of the key, which is the hash subkey as well */
+    UPDATE_BLOCKS, /* takes the whole blocks of the buffer into a hash, whose subkey is the key */
     CHACHA,       /* encrypts the buffer by ChaCha20 */
     MASK,         /* makes a mask of the buffer, a sample, and writes it over its front: AES for a key of 16 bytes, ChaCha20
                      for one of 32 */
@@ -29,6 +31,8 @@ typedef enum {
     CLONE,        /* copies an AES-GCM key */
     SEND,         /* sends the buffer as a QUIC packet with a short header, and then writes zeros over the header */
     SEND_AND_RECEIVE, /* sends and receives it */
+    SEAL_RECORD, /* seals a record of TLS that fills the buffer */
+    SEAL_AND_OPEN_RECORD, /* seals and opens it */
     OPERATIONS
 } operation;
 
@@ -40,9 +44,11 @@ typedef struct {
     loop *loops[OPERATIONS]; /* null: it hasn't this one */
 } side;
 
-extern const side library;       /* the loops of crates/aead_bench */
+extern const side library;       /* the loops of crates/aead_bench over the keys of the libraries, and over packets */
 extern const side before;        /* those of an older crates/aead_bench */
-extern const side less_safe_key; /* those that seal and open the payload of a packet alone */
+extern const side wide;          /* those over the keys of crates/aead_ciphers_wide, and over records */
+extern const side libraries;     /* those over the keys of the libraries that `wide` has too */
+extern const side less_safe_key; /* those that seal and open what a packet or a record holds, without making it */
 extern const side calls;         /* the calls for C of crates/deerlapse */
 extern const side plain;         /* plain C */
 extern const side bearssl;       /* BearSSL as the system has it */

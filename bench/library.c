@@ -1,8 +1,8 @@
-/* The library's loops, in crates/aead_bench. */
+/* The loops of crates/aead_bench over the keys of the two libraries, and over packets. */
 #include "bench.h"
 
 loop bench_seal, bench_open, bench_ctr32, bench_encrypt_four, bench_update_block, bench_chacha, bench_mask, bench_aes_key,
-    bench_less_safe_key, bench_clone, bench_send, bench_send_and_receive, bench_seal_packet, bench_seal_and_open_packet;
+    bench_less_safe_key, bench_clone, bench_send, bench_send_and_receive;
 
 const side library = {{
     [SEAL] = bench_seal,
@@ -17,9 +17,4 @@ const side library = {{
     [CLONE] = bench_clone,
     [SEND] = bench_send,
     [SEND_AND_RECEIVE] = bench_send_and_receive,
-}};
-
-const side less_safe_key = {{
-    [SEND] = bench_seal_packet,
-    [SEND_AND_RECEIVE] = bench_seal_and_open_packet,
 }};

@@ -80,6 +80,13 @@ static uint64_t open(uint64_t times, const uint8_t *key, size_t key_len, uint8_t
     return answer_of(context, tags[0]) + opened;
 }
 
+static uint64_t authenticate(uint64_t times, const uint8_t *key, size_t key_len, uint8_t *buffer, size_t len) {
+    EVP_CIPHER_CTX *context = new_context(gcm(key_len), key, ENCRYPT);
+    uint8_t tag[TAG_LEN] = {0};
+    for (uint64_t i = 0; i < times; i++) seal_with(context, buffer, len, NULL, 0, tag);
+    return answer_of(context, tag);
+}
+
 static uint64_t seal_once(uint64_t times, const uint8_t *key, size_t key_len, uint8_t *buffer, size_t len) {
     EVP_CIPHER_CTX *context = new_context(gcm(key_len), NULL, ENCRYPT);
     uint8_t tag[TAG_LEN] = {0};
@@ -192,6 +199,7 @@ const side openssl = {{
     [OPEN] = open,
     [SEAL_ONCE] = seal_once,
     [OPEN_ONCE] = open_once,
+    [AUTHENTICATE] = authenticate,
     [CTR32] = ctr32,
     [ENCRYPT_FOUR] = encrypt_four,
     [CHACHA] = chacha,

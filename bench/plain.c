@@ -422,6 +422,14 @@ static u64 open(u64 times, const u8 *key, size_t key_len, u8 *buffer, size_t len
     return answer;
 }
 
+static u64 authenticate(u64 times, const u8 *key, size_t key_len, u8 *buffer, size_t len) {
+    gcm_key k;
+    u8 tag[16] = {0};
+    gcm_init(&k, key, key_len);
+    for (u64 i = 0; i < times; i++) gcm_seal(&k, buffer, len, NULL, 0, tag);
+    return first_bytes(tag);
+}
+
 static u64 seal_once(u64 times, const u8 *key, size_t key_len, u8 *buffer, size_t len) {
     gcm_key k;
     u8 tag[16] = {0};
@@ -466,6 +474,15 @@ static u64 update_block(u64 times, const u8 *key, size_t key_len, u8 *buffer, si
     u8 b[16];
     (void)key_len, (void)buffer, (void)len;
     for (u64 i = 0; i < times; i++) y = block_product(y ^ load(key), h);
+    store(b, y);
+    return first_bytes(b);
+}
+
+static u64 update_blocks(u64 times, const u8 *key, size_t key_len, u8 *buffer, size_t len) {
+    u128 h = load(key), y = 0;
+    u8 b[16];
+    (void)key_len;
+    for (u64 i = 0; i < times; i++) y = ghash(y, h, buffer, len);
     store(b, y);
     return first_bytes(b);
 }
@@ -536,9 +553,11 @@ const side plain = {{
     [OPEN] = open,
     [SEAL_ONCE] = seal_once,
     [OPEN_ONCE] = open_once,
+    [AUTHENTICATE] = authenticate,
     [CTR32] = ctr32,
     [ENCRYPT_FOUR] = encrypt_four,
     [UPDATE_BLOCK] = update_block,
+    [UPDATE_BLOCKS] = update_blocks,
     [CHACHA] = chacha,
     [MASK] = mask,
     [MASK_ONCE] = mask_once,

@@ -1,0 +1,68 @@
+//! What the loops do with an AES-GCM key, of either crate.
+
+use aead_ciphers::aead::{
+    AES_128_GCM, AES_256_GCM, Aad, Algorithm, LessSafeKey, Nonce, Tag, UnboundKey, Unspecified,
+};
+use aead_ciphers_base::aes::{AES_128_KEY_LEN, AES_256_KEY_LEN, KeyBytes};
+use aead_ciphers_wide::aead::LessSafeKey as WideKey;
+
+/// The bytes of an AES key of 16 or 32 bytes.
+pub(crate) fn key_bytes(key: &[u8]) -> Result<KeyBytes<'_>, Unspecified> {
+    if let Some(bytes) = key.as_array::<AES_128_KEY_LEN>() {
+        return Ok(KeyBytes::AES_128(bytes));
+    }
+    match key.as_array::<AES_256_KEY_LEN>() {
+        Some(bytes) => Ok(KeyBytes::AES_256(bytes)),
+        None => Err(Unspecified),
+    }
+}
+
+/// The algorithm for a key of 16 or 32 bytes.
+pub(crate) fn algorithm(key: &[u8]) -> &'static Algorithm {
+    match key.len() {
+        AES_128_KEY_LEN => &AES_128_GCM,
+        _ => &AES_256_GCM,
+    }
+}
+
+/// An AES-GCM key whose calls take the nonce.
+pub(crate) trait AeadKey: Drop {
+    /// Makes a key of 16 or 32 bytes.
+    fn from_bytes(key: &[u8]) -> Result<Self, Unspecified>;
+
+    /// Seals in place.
+    fn seal(&self, nonce: Nonce, aad: Aad<'_>, in_out: &mut [u8]) -> Result<Tag, Unspecified>;
+
+    /// Opens in place, and returns whether the tag is right.
+    fn open(&self, nonce: Nonce, tag: Tag, in_out: &mut [u8]) -> bool;
+}
+
+impl AeadKey for LessSafeKey {
+    fn from_bytes(key: &[u8]) -> Result<Self, Unspecified> {
+        Ok(LessSafeKey::new(UnboundKey::new(algorithm(key), key)?))
+    }
+
+    fn seal(&self, nonce: Nonce, aad: Aad<'_>, in_out: &mut [u8]) -> Result<Tag, Unspecified> {
+        self.seal_in_place_separate_tag(nonce, aad, in_out)
+    }
+
+    fn open(&self, nonce: Nonce, tag: Tag, in_out: &mut [u8]) -> bool {
+        self.open_in_place_separate_tag(nonce, Aad::empty(), tag, in_out, 0..)
+            .is_ok()
+    }
+}
+
+impl AeadKey for WideKey {
+    fn from_bytes(key: &[u8]) -> Result<Self, Unspecified> {
+        WideKey::new(algorithm(key), key)
+    }
+
+    fn seal(&self, nonce: Nonce, aad: Aad<'_>, in_out: &mut [u8]) -> Result<Tag, Unspecified> {
+        self.seal_in_place_separate_tag(nonce, aad, in_out)
+    }
+
+    fn open(&self, nonce: Nonce, tag: Tag, in_out: &mut [u8]) -> bool {
+        self.open_in_place_separate_tag_to_front(nonce, Aad::empty(), tag, in_out, 0..)
+            .is_ok()
+    }
+}

@@ -1,0 +1,148 @@
+//! Loops over packets of QUIC.
+
+use crate::keys::algorithm;
+use crate::{NONCE, first_bytes};
+use aead_ciphers::aead::nonce_of;
+use aead_ciphers_base::aes::AES_128_KEY_LEN;
+use aead_ciphers_wide::aead::LessSafeKey;
+use quic_packets::{Failures, PacketError, Receiver, Sender, Space, Suite};
+
+/// A short header of a QUIC packet: the first byte, a connection ID of 8 bytes, and a packet number of 2 bytes.
+const NUMBER_AT: usize = 9;
+
+const HEADER_LEN: usize = 11;
+
+/// The number of unacknowledged packets. Their packet numbers take 2 bytes.
+const UNACKNOWLEDGED: u64 = 1000;
+
+/// The suite for keys of 16 or 32 bytes.
+fn suite(key: &[u8]) -> Suite {
+    match key.len() {
+        AES_128_KEY_LEN => Suite::Aes128Gcm,
+        _ => Suite::Aes256Gcm,
+    }
+}
+
+/// One end of a QUIC connection that sends to itself. The key also masks headers.
+#[derive(Drop)]
+struct Connection {
+    sender: Sender,
+    receiver: Receiver,
+    space: Space,
+    failures: Failures,
+}
+
+impl Connection {
+    fn new(key: &[u8]) -> Result<Self, PacketError> {
+        Ok(Connection {
+            sender: Sender::new(suite(key), key, NONCE, key, UNACKNOWLEDGED)?,
+            receiver: Receiver::new(suite(key), key, NONCE, key)?,
+            space: Space::new(),
+            failures: Failures::new(),
+        })
+    }
+
+    fn send(&mut self, packet: &mut [u8]) -> Result<u64, PacketError> {
+        let acknowledged = self.sender.next_number().checked_sub(UNACKNOWLEDGED);
+        self.sender
+            .send(packet, NUMBER_AT..HEADER_LEN, acknowledged)
+    }
+
+    fn receive(&mut self, packet: &mut [u8]) -> Result<usize, PacketError> {
+        let received = self
+            .receiver
+            .receive(&mut self.space, &mut self.failures, packet, NUMBER_AT)?;
+        Ok(received.payload_len)
+    }
+}
+
+/// Zeroes the header, and returns the first eight bytes of the payload.
+fn without_header(packet: &mut [u8]) -> u64 {
+    if packet.len() < HEADER_LEN {
+        return 0;
+    }
+    packet[..HEADER_LEN].fill(0);
+    first_bytes(&packet[HEADER_LEN..])
+}
+
+/// Writes the first byte and the low bytes of a number into the header.
+fn write_header(packet: &mut [u8], number: u64) {
+    if let Some(header) = packet.first_chunk_mut::<HEADER_LEN>() {
+        let [.., high, low] = number.to_be_bytes();
+        header[0] = header[0] & 0xe0 | 1;
+        header[NUMBER_AT] = high;
+        header[NUMBER_AT + 1] = low;
+    }
+}
+
+/// Sends the buffer as a QUIC packet in place in each turn: a short header, a payload, and the tag in the last 16 bytes.
+#[unsafe(no_mangle)]
+pub extern "C" fn bench_send(times: u64, key: &[u8], buffer: &mut [u8]) -> u64 {
+    let Ok(mut connection) = Connection::new(key) else {
+        return 0
+    };
+    for _ in 0..times {
+        if connection.send(buffer).is_err() {
+            return 0;
+        }
+    }
+    without_header(buffer)
+}
+
+/// Sends the buffer as a QUIC packet in place and receives it, in each turn.
+#[unsafe(no_mangle)]
+pub extern "C" fn bench_send_and_receive(times: u64, key: &[u8], buffer: &mut [u8]) -> u64 {
+    let Ok(mut connection) = Connection::new(key) else {
+        return 0
+    };
+    for _ in 0..times {
+        if connection.send(buffer).is_err() || connection.receive(buffer).is_err() {
+            return 0;
+        }
+    }
+    without_header(buffer)
+}
+
+/// Seals what `bench_send` sends with a `LessSafeKey` of `aead_ciphers_wide`, without header protection.
+#[unsafe(no_mangle)]
+pub extern "C" fn bench_seal_packet(times: u64, key: &[u8], buffer: &mut [u8]) -> u64 {
+    let Ok(key) = LessSafeKey::new(algorithm(key), key) else {
+        return 0
+    };
+    for number in 0..times.min(1 << 32) {
+        let number = UNACKNOWLEDGED + number;
+        write_header(buffer, number);
+        if key
+            .seal_packet_in_place(nonce_of(&NONCE, number), buffer, HEADER_LEN)
+            .is_err()
+        {
+            return 0;
+        }
+    }
+    without_header(buffer)
+}
+
+/// Seals and opens what `bench_send_and_receive` sends and receives with a `LessSafeKey` of `aead_ciphers_wide`, without header protection.
+#[unsafe(no_mangle)]
+pub extern "C" fn bench_seal_and_open_packet(times: u64, key: &[u8], buffer: &mut [u8]) -> u64 {
+    let Ok(key) = LessSafeKey::new(algorithm(key), key) else {
+        return 0
+    };
+    for number in 0..times.min(1 << 32) {
+        let number = UNACKNOWLEDGED + number;
+        write_header(buffer, number);
+        if key
+            .seal_packet_in_place(nonce_of(&NONCE, number), buffer, HEADER_LEN)
+            .is_err()
+        {
+            return 0;
+        }
+        if key
+            .open_packet_in_place_after_header(nonce_of(&NONCE, number), buffer, HEADER_LEN)
+            .is_err()
+        {
+            return 0;
+        }
+    }
+    without_header(buffer)
+}
