@@ -71,14 +71,10 @@ impl Key {
     }
 
     /// Computes the header protection mask of a sample (RFC 9001 section 5.4.3): 16 bytes in, 5 bytes out.
-    #[tactic(auto, unfolding(aead_ciphers_base::specs::Mask::aes_mask))]
     pub fn new_mask(&self, sample: Sample) -> [u8; 5]
         ensures { result ≡ aes_mask self.now sample }
     {
-        let block = self.encrypt_block(sample, &mut Work::new());
-        let mut mask = [0; 5];
-        mask.copy_from_slice(&block[..5]);
-        mask
+        self.by_ref().new_mask(sample)
     }
 }
 
@@ -120,6 +116,17 @@ impl<'k> KeyRef<'k> {
         ensures { result ≡ key_of round_keys.now rounds }
     {
         KeyRef { round_keys, rounds }
+    }
+
+    /// Computes the header protection mask of a sample (RFC 9001 section 5.4.3): 16 bytes in, 5 bytes out.
+    #[tactic(auto, unfolding(aead_ciphers_base::specs::Mask::aes_mask))]
+    pub fn new_mask(&self, sample: Sample) -> [u8; 5]
+        ensures { result ≡ aes_mask self.now sample }
+    {
+        let block = self.cipher_block(sample);
+        let mut mask = [0; 5];
+        mask.copy_from_slice(&block[..5]);
+        mask
     }
 
     // Encrypts one block, as the first of eight.

@@ -60,7 +60,7 @@ extern "C" {
  * deerlapse_key_init returned false and after it is wiped. Any other memory, such as an uninitialized variable, must only be
  * passed to deerlapse_key_init and deerlapse_key_wipe. */
 typedef struct deerlapse_key {
-    uint64_t words[377]; /* private: neither read nor write them */
+    uint64_t words[369]; /* private: neither read nor write them */
 } deerlapse_key;
 
 /* Expands a key. The previous bytes of `key` are not read.

@@ -1,7 +1,7 @@
 -- The keys of AES (FIPS 197) that the calls take.
 use Rattle.std.specs.Prelude.{◌≡◌, ℕ, ◌⊎◌, ◌≤◌}
-use Rattle.aead_ciphers.specs.ExpandedKey.{IsExpanded}
-use Rattle.aead_ciphers.specs.declared.aes_gcm.expanded.ExpandedKey.{ExpandedKey}
+use Rattle.aead_ciphers_wide.specs.ExpandedKey.{IsExpanded}
+use Rattle.aead_ciphers_wide.specs.declared.aes_gcm.ExpandedKey.{ExpandedKey}
 
 -- a key has 16 bytes for AES-128 and 32 bytes for AES-256 (FIPS 197 section 5)
 abbrev pub IsAesKeyLen : ℕ → Type 0

@@ -1,7 +1,7 @@
 -- A `NumberedKey`, which is a sealer or an opener, as contracts see it.
 use Rattle.std.specs.Prelude.{ℕ, List}
 use Rattle.aead_ciphers.specs.Counting.{xored_nonce}
-use Rattle.aead_ciphers.specs.ExpandedKey.{bytes_of}
+use Rattle.aead_ciphers_wide.specs.ExpandedKey.{bytes_of}
 use Rattle.deerlapse.specs.declared.numbered_key.NumberedKey.{NumberedKey}
 
 -- the bytes of its key

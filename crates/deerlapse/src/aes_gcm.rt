@@ -7,7 +7,7 @@ ghost use Rattle.deerlapse.specs.AesKey.{IsAesKeyLen};
 
 use crate::key::{deerlapse_key_init, deerlapse_key_open, deerlapse_key_seal};
 use aead_ciphers::aead::{MAX_TAG_LEN, NONCE_LEN};
-use aead_ciphers::aes_gcm::ExpandedKey;
+use aead_ciphers_wide::aes_gcm::ExpandedKey;
 
 /// Encrypts `in_out` in place, and writes its tag of 16 bytes (SP 800-38D algorithm 4).
 ///

@@ -3,17 +3,17 @@
 ghost use Rattle.std.specs.Prelude.{◌≡◌, ◌-◌, ◌↔◌, length, IsTrue, IsFalse, IsSome, IfSome};
 ghost use Rattle.aead_ciphers_base.specs.Aes.{aes};
 ghost use Rattle.aead_ciphers_base.specs.KeyBytes.{key_bytes};
-ghost use Rattle.aead_ciphers.specs.ExpandedKey.{IsExpanded, bytes_of, zero_key};
+ghost use Rattle.aead_ciphers_wide.specs.ExpandedKey.{IsExpanded, bytes_of, zero_key};
 ghost use Rattle.aead_ciphers.specs.Gcm.{Fits, gcm_encrypted, gcm_tag, Opened, OpenedAttached};
 ghost use Rattle.deerlapse.specs.AesKey.{HasRounds, IsAesKeyLen, IsKeyOrNone};
 
 use aead_ciphers::aead::{Aad, MAX_TAG_LEN, NONCE_LEN, Nonce, Tag, Unspecified};
-use aead_ciphers::aes_gcm::ExpandedKey;
 use aead_ciphers_base::aes::{AES_256_KEY_LEN, KeyBytes, Work};
+use aead_ciphers_wide::aes_gcm::ExpandedKey;
 use std::mem::size_of;
 
 // The `words` of the type in the header have as many bytes.
-const _: () = prove!(size_of::<ExpandedKey>() == 3016);
+const _: () = prove!(size_of::<ExpandedKey>() == 2952);
 
 /// A key of 16 bytes for AES-128-GCM, or of 32 bytes for AES-256-GCM.
 pub(crate) fn aes_key(bytes: &[u8]) -> Option<KeyBytes<'_>>

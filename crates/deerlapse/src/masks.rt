@@ -4,10 +4,10 @@ ghost use Rattle.std.specs.Prelude.{◌≡◌, ◌↔◌, length, IsTrue, IsFals
 ghost use Rattle.aead_ciphers_base.specs.Mask.{aes_mask, chacha_mask};
 ghost use Rattle.deerlapse.specs.AesKey.{IsAesKeyLen};
 
-use aead_ciphers::aead::Unspecified;
-use aead_ciphers::aead::quic::{AES_128, AES_256, HeaderProtectionKey, Sample};
-use aead_ciphers_base::aes::AES_256_KEY_LEN;
+use crate::key::aes_key;
+use aead_ciphers::aead::quic::Sample;
 use aead_ciphers_base::chacha;
+use aead_ciphers_wide::aes::{self, KeyRef};
 
 /// Writes the header protection mask for a sample of 16 bytes, with AES-128 for a key of 16 bytes and with AES-256 for one of
 /// 32 (RFC 9001 section 5.4.3).
@@ -19,20 +19,13 @@ pub extern "C" fn deerlapse_mask_aes(key: &[u8], sample: &Sample, mask: &mut [u8
     ensures mask { IsTrue result → mask.new ≡ aes_mask key.now sample.now }
     ensures refused { IsFalse result → mask.new ≡ mask.old }
 {
-    let algorithm = match key.len() {
-        AES_256_KEY_LEN => &AES_256,
-        _ => &AES_128,
-    };
-    let Ok(key) = HeaderProtectionKey::new(algorithm, key) else {
+    let Some(key) = aes_key(key) else {
         return false
     };
-    match key.new_mask(sample) {
-        Ok(made) => {
-            *mask = made;
-            true
-        }
-        Err(Unspecified) => false,
-    }
+    let mut round_keys = [[0; 16]; 15];
+    let rounds = aes::expand(&mut round_keys, key);
+    *mask = KeyRef::new(&round_keys, rounds).new_mask(*sample);
+    true
 }
 
 /// Writes the header protection mask for a sample of 16 bytes, with ChaCha20 (RFC 9001 section 5.4.4). It never fails.

@@ -1,14 +1,14 @@
 //! A key with an IV and the numbers of its messages, each with its own nonce (RFC 8446 section 5.3, RFC 9001 section 5.3).
 
 ghost use Rattle.std.specs.Prelude.{◌≡◌, ◌≤◌, ◌↔◌, length, IsTrue, IsFalse};
-ghost use Rattle.aead_ciphers.specs.ExpandedKey.{IsExpanded, bytes_of};
+ghost use Rattle.aead_ciphers_wide.specs.ExpandedKey.{IsExpanded, bytes_of};
 ghost use Rattle.aead_ciphers.specs.Counting.{xored_nonce};
 ghost use Rattle.deerlapse.specs.AesKey.{IsAesKeyLen};
 
 use crate::key::aes_key;
 use aead_ciphers::aead::{NONCE_LEN, nonce_of};
-use aead_ciphers::aes_gcm::ExpandedKey;
 use aead_ciphers_base::aes::Work;
+use aead_ciphers_wide::aes_gcm::ExpandedKey;
 use std::mem::size_of;
 
 /// An AES-GCM key for the nonces of an IV and the numbers from `next` up to `limit`, exclusive. It is in the caller's memory.

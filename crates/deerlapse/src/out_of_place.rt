@@ -2,14 +2,14 @@
 
 ghost use Rattle.std.specs.Prelude.{◌≡◌, ◌↔◌, length, IsTrue, IsFalse};
 ghost use Rattle.aead_ciphers_base.specs.Aes.{aes};
-ghost use Rattle.aead_ciphers.specs.ExpandedKey.{bytes_of};
+ghost use Rattle.aead_ciphers_wide.specs.ExpandedKey.{bytes_of};
 ghost use Rattle.aead_ciphers.specs.Gcm.{Fits, gcm_decrypted, gcm_encrypted, gcm_tag};
 ghost use Rattle.deerlapse.specs.AesKey.{HasRounds, IsKeyOrNone};
 
 use crate::key::{deerlapse_key_seal, has_rounds};
 use aead_ciphers::aead::{Aad, MAX_TAG_LEN, NONCE_LEN, Nonce, Tag};
-use aead_ciphers::aes_gcm::ExpandedKey;
 use aead_ciphers::gcm::MAX_IN_OUT_LEN;
+use aead_ciphers_wide::aes_gcm::ExpandedKey;
 
 /// Does the same as `deerlapse_key_seal`, but leaves the message unchanged and writes the ciphertext to `out`.
 ///

@@ -2,7 +2,7 @@
 
 ghost use Rattle.std.specs.Prelude.{◌≡◌, ◌+◌, ◌<◌, ◌≤◌, ◌↔◌, length, IsTrue, IsFalse};
 ghost use Rattle.aead_ciphers_base.specs.Aes.{aes};
-ghost use Rattle.aead_ciphers.specs.ExpandedKey.{IsExpanded};
+ghost use Rattle.aead_ciphers_wide.specs.ExpandedKey.{IsExpanded};
 ghost use Rattle.aead_ciphers.specs.Gcm.{Fits, gcm_encrypted, gcm_tag};
 ghost use Rattle.deerlapse.specs.AesKey.{HasRounds, IsAesKeyLen, IsKeyOrNone};
 ghost use Rattle.deerlapse.specs.NumberedKey.{key_of, next_nonce};

@@ -14,7 +14,7 @@ use crate::opener::{
 };
 use crate::out_of_place::{deerlapse_key_open_to, deerlapse_key_seal_to};
 use crate::sealer::{deerlapse_sealer_init, deerlapse_sealer_next, deerlapse_sealer_seal};
-use aead_ciphers::aes_gcm::ExpandedKey;
+use aead_ciphers_wide::aes_gcm::ExpandedKey;
 use aead_vectors::gcm_spec::{CASES, Case};
 use aead_vectors::{fips_197, rfc_8439, rfc_9001};
 use std::alloc::Global;

@@ -10,7 +10,12 @@ use std::time::SystemTime;
 const ARCHIVE: &str = "libdeerlapse.a";
 
 /// The sources of the library, in the folder `crates` of the repository.
-const CRATES: [&str; 3] = ["deerlapse", "aead_ciphers", "aead_ciphers_base"];
+const CRATES: [&str; 4] = [
+    "deerlapse",
+    "aead_ciphers_wide",
+    "aead_ciphers",
+    "aead_ciphers_base",
+];
 const PARTS: [&str; 3] = ["src", "specs", "proofs"];
 
 /// The newest file in a folder, and its modification time.

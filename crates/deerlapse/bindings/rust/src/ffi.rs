@@ -5,7 +5,7 @@
 #[repr(C)]
 #[derive(Clone)]
 pub(crate) struct Key {
-    pub(crate) words: [u64; 377],
+    pub(crate) words: [u64; 369],
 }
 
 /// `deerlapse_sealer`.

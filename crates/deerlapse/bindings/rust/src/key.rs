@@ -42,7 +42,7 @@ impl LessSafeKey {
     /// assert!(LessSafeKey::new(&[0; 24]).is_err());
     /// ```
     pub fn new(key_bytes: &[u8]) -> Result<Self, Unspecified> {
-        let mut key = LessSafeKey(ffi::Key { words: [0; 377] });
+        let mut key = LessSafeKey(ffi::Key { words: [0; 369] });
         // SAFETY: the pointer and its length are those of one slice, and the key is borrowed for writing.
         accepted(unsafe {
             ffi::deerlapse_key_init(&mut key.0, key_bytes.as_ptr(), key_bytes.len())
