@@ -1,0 +1,109 @@
+//! Tests of `aes`: the cipher and counter mode on the vectors of FIPS 197, SP 800-38A and RFC 9001, and counter mode when the
+//! number of a block wraps in a pass of eight.
+
+use crate::checks::{holds, same};
+use aead_ciphers_base::aes::{
+    self, BLOCK_LEN, Counter, EncryptBlock, EncryptCtr32, KeyBytes, Overlapping, Work,
+};
+use aead_ciphers_base::values::Nonce;
+use aead_ciphers_wide::aes::Key;
+use aead_vectors::fips_197::{CASES, Case};
+use aead_vectors::rfc_9001;
+use aead_vectors::sp_800_38a::{CTR, CtrCase, ECB};
+use std::process::Abort;
+use std::test::Fail;
+
+/// A key of 16 or 32 bytes.
+fn key_bytes(key: &[u8]) -> Result<KeyBytes<'_>, Fail> {
+    match key.as_array::<16>() {
+        Some(key) => Ok(KeyBytes::AES_128(key)),
+        None => Ok(KeyBytes::AES_256(key.as_array::<32>().ok_or("a key's length")?)),
+    }
+}
+
+/// Asserts the encryption of a block by a key and by its clone.
+fn enciphers(rt: &impl Abort, case: &Case) -> Result<(), Fail> {
+    let key = Key::new(key_bytes(&case.key)?)?;
+    let found = key.encrypt_block(case.plaintext, &mut Work::new());
+    same(rt, &found, &case.ciphertext, case.name);
+    let found = key.clone()?.encrypt_block(case.plaintext, &mut Work::new());
+    same(rt, &found, &case.ciphertext, case.name);
+    Ok(())
+}
+
+#[test]
+fn encrypt_block(rt: HostRuntime) -> Result<(), Fail> {
+    for line in CASES {
+        enciphers(&rt, &Case::parse(rt.alloc(), line)?)?;
+    }
+    for line in ECB {
+        enciphers(&rt, &Case::parse(rt.alloc(), line)?)?;
+    }
+    Ok(())
+}
+
+#[test]
+fn new_mask(rt: HostRuntime) -> Result<(), Fail> {
+    let key = Key::new(KeyBytes::AES_128(&rfc_9001::A_2_KEY))?;
+    let mask = key.new_mask(rfc_9001::A_2_SAMPLE);
+    same(&rt, &mask, &rfc_9001::A_2_MASK, "the mask");
+    Ok(())
+}
+
+/// Returns the counter with this block.
+fn counter_of(block: &[u8; 16]) -> Counter {
+    let mut nonce = [0; 12];
+    nonce.copy_from_slice(&block[..12]);
+    let mut number = [0; 4];
+    number.copy_from_slice(&block[12..]);
+    let mut counter = Counter::one(Nonce::assume_unique_for_key(nonce));
+    counter.increment_by_less_safe(u32::from_be_bytes(number).wrapping_sub(1));
+    counter
+}
+
+/// Asserts the encryption of four blocks, starting at the initial counter block.
+fn encrypts(rt: &impl Abort, case: &CtrCase) -> Result<(), Fail> {
+    let mut bytes = case.plaintext.clone()?;
+    let whole = bytes.len() / BLOCK_LEN * BLOCK_LEN;
+    let in_out = Overlapping::from(&mut bytes[..whole]);
+    let mut counter = counter_of(&case.counter);
+    Key::new(key_bytes(&case.key)?)?.ctr32_encrypt_within(in_out, &mut counter, &mut Work::new());
+    same(rt, &bytes, &case.ciphertext, case.name);
+    Ok(())
+}
+
+#[test]
+fn ctr32_encrypt_within(rt: HostRuntime) -> Result<(), Fail> {
+    for line in CTR {
+        encrypts(&rt, &CtrCase::parse(rt.alloc(), line)?)?;
+    }
+    Ok(())
+}
+
+/// Encrypts twenty blocks of zeros from a counter block on, and returns them, the next counter block and the work.
+fn keystream<K: EncryptCtr32>(key: &K, first: &[u8; 16]) -> ([u8; 320], [u8; 16], u64) {
+    let mut bytes = [0; 320];
+    let mut counter = counter_of(first);
+    let mut work = Work::new();
+    let in_out = Overlapping::from(bytes.as_mut_slice());
+    key.ctr32_encrypt_within(in_out, &mut counter, &mut work);
+    (bytes, *counter.as_ref(), work.blocks())
+}
+
+// At each place of a pass.
+#[test]
+fn counter_mode_wraps(rt: HostRuntime) -> Result<(), Fail> {
+    let key = Key::new(KeyBytes::AES_256(&[7; 32]))?;
+    let narrow = aes::Key::new(KeyBytes::AES_256(&[7; 32]))?;
+    for last in 0xf0..=0xffu8 {
+        let first = [
+            1, 2, 3, 4, 5, 6, 7, 8, 9, 10, 11, 12, 0xff, 0xff, 0xff, last,
+        ];
+        let (found, next, blocks) = keystream(&key, &first);
+        let (wanted, wanted_next, _) = keystream(&narrow, &first);
+        same(&rt, &found, &wanted, "the key stream");
+        same(&rt, &next, &wanted_next, "the next counter block");
+        holds(&rt, blocks == 20, "the tally");
+    }
+    Ok(())
+}

@@ -1,0 +1,16 @@
+//! Tests of the public interface of `aead_ciphers_wide`: external test vectors, and that its keys make the same bytes as
+//! those of `aead_ciphers`.
+#![tactic(auto)]
+
+#[cfg(test)]
+mod aead;
+#[cfg(test)]
+mod aes;
+#[cfg(test)]
+mod both_keys;
+#[cfg(test)]
+mod checks;
+#[cfg(test)]
+mod gcm;
+#[cfg(test)]
+mod quic;
