@@ -9,6 +9,11 @@ int main(void) {
     uint8_t buffer[5 + DEERLAPSE_TAG_LEN] = {'h', 'e', 'l', 'l', 'o'};
     size_t len;
 
+    if (!deerlapse_cpu_supported()) {
+        fputs("this processor lacks instructions that the library was built for\n", stderr);
+        return 1;
+    }
+
     deerlapse_key key; /* many threads may use it at once */
     if (!deerlapse_key_init(&key, bytes, sizeof bytes) ||
         !deerlapse_key_seal(&key, nonce, header, sizeof header, buffer, 5, buffer + 5) ||

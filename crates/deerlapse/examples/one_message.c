@@ -9,6 +9,11 @@ int main(void) {
     uint8_t buffer[5 + DEERLAPSE_TAG_LEN] = {'h', 'e', 'l', 'l', 'o'};
     size_t len;
 
+    if (!deerlapse_cpu_supported()) {
+        fputs("this processor lacks instructions that the library was built for\n", stderr);
+        return 1;
+    }
+
     if (!deerlapse_seal(key, sizeof key, nonce, header, sizeof header, buffer, 5, buffer + 5) ||
         !deerlapse_open(key, sizeof key, nonce, header, sizeof header, buffer, sizeof buffer, 0, &len)) {
         return 1;

@@ -17,6 +17,11 @@ int main(void) {
     uint8_t first[5 + DEERLAPSE_TAG_LEN] = {'h', 'e', 'l', 'l', 'o'};
     uint8_t second[3 + DEERLAPSE_TAG_LEN] = {'b', 'y', 'e'};
 
+    if (!deerlapse_cpu_supported()) {
+        fputs("this processor lacks instructions that the library was built for\n", stderr);
+        return 1;
+    }
+
     /* Numbers 0, 1, 2, .. and at most 2^24 messages. The tag goes after the message. */
     deerlapse_sealer sealer;
     if (!deerlapse_sealer_init(&sealer, key, sizeof key, iv, 0, 1 << 24) ||

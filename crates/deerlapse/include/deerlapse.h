@@ -13,7 +13,8 @@
  *    call writes bytes that another one is given.
  *  - It uses at most DEERLAPSE_MAX_STACK bytes of stack, whatever the lengths.
  *
- * The library needs Linux on an x86-64 processor of level x86-64-v2 (SSSE3, SSE4.2, POPCNT). No call checks the processor.
+ * The library needs Linux, on ARM64 or on an x86-64 processor of the level DEERLAPSE_X86_64_LEVEL. No call checks the
+ * processor: deerlapse_cpu_supported does.
  */
 #ifndef DEERLAPSE_H
 #define DEERLAPSE_H
@@ -38,6 +39,10 @@
 #define DEERLAPSE_VERSION_MAJOR 0
 #define DEERLAPSE_VERSION_MINOR 1
 #define DEERLAPSE_VERSION_PATCH 0
+
+/* The level of x86-64 processors that the archive beside this header was built for: 2 for x86-64-v2, 3 for x86-64-v3.
+ * tools/targets and tools/install write it. An archive for ARM64 needs no more than every such processor has. */
+#define DEERLAPSE_X86_64_LEVEL 2
 
 /* The most bytes of stack that a call uses, as measured by tools/stack. This includes the dynamic linker's, which may bind
  * memcpy, memmove and memset in the first call. */
@@ -241,6 +246,18 @@ void deerlapse_mask_chacha20(const uint8_t key[32], const uint8_t sample[DEERLAP
 DEERLAPSE_ANSWERS
 bool deerlapse_chacha20(const uint8_t key[32], const uint8_t nonce[DEERLAPSE_NONCE_LEN], uint32_t counter,
                         uint8_t *in_out, size_t in_out_len);
+
+/* Returns whether this processor has the instructions of the archive. Where it returns false, a call of the library may end
+ * the program with SIGILL. Where the compiler doesn't define __GNUC__, it returns true on every processor. */
+static inline bool deerlapse_cpu_supported(void) {
+#if defined(__GNUC__) && defined(__x86_64__) && DEERLAPSE_X86_64_LEVEL >= 3
+    return __builtin_cpu_supports("avx2") && __builtin_cpu_supports("bmi2") && __builtin_cpu_supports("fma");
+#elif defined(__GNUC__) && defined(__x86_64__)
+    return __builtin_cpu_supports("ssse3") && __builtin_cpu_supports("sse4.2") && __builtin_cpu_supports("popcnt");
+#else
+    return true;
+#endif
+}
 
 /* The functions of the library take no null pointer. So from here on, the name of every function that has a pointer with a
  * length is that of a wrapper, which passes another address if the length is 0. */

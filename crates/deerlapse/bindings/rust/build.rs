@@ -1,13 +1,30 @@
 //! Finds the static library: in the folder that `DEERLAPSE_LIB_DIR` names, else where pkg-config has `deerlapse` in
-//! this package's version, else where `rt lib` puts it.
+//! this package's version, else where `rt lib` puts it, or for ARM64 `tools/targets`. The header beside it says for which
+//! level of x86-64 processors it was built.
 
 use std::env;
 use std::fs;
+use std::iter;
 use std::path::{Path, PathBuf};
 use std::process::{exit, Command};
+use std::str;
 use std::time::SystemTime;
 
 const ARCHIVE: &str = "libdeerlapse.a";
+const HEADER: &str = "deerlapse.h";
+const LEVEL: &str = "#define DEERLAPSE_X86_64_LEVEL ";
+
+/// The architectures for which there is a library: Rust's name, the ELF machine, where in the repository its archive is,
+/// and what makes it.
+const TARGETS: [(&str, u16, &str, &str); 2] = [
+    (
+        "x86_64",
+        62,
+        "crates/deerlapse/out",
+        "`rt lib` in crates/deerlapse",
+    ),
+    ("aarch64", 183, "out/aarch64", "`tools/targets aarch64`"),
+];
 
 /// The sources of the library, in the folder `crates` of the repository.
 const CRATES: [&str; 4] = [
@@ -66,6 +83,37 @@ fn folder_of_pkg_config() -> Option<PathBuf> {
     folder.join(ARCHIVE).is_file().then_some(folder)
 }
 
+/// The ELF machine of the first object in an archive.
+fn machine(archive: &Path) -> Option<u16> {
+    let bytes = fs::read(archive).ok()?;
+    let mut rest = bytes.strip_prefix(b"!<arch>\n")?;
+    loop {
+        let header = rest.get(..60)?;
+        let len = str::from_utf8(&header[48..58]).ok()?.trim().parse().ok()?;
+        rest = &rest[60..];
+        let member = rest.get(..len)?;
+        if member.starts_with(b"\x7fELF") {
+            return Some(u16::from_le_bytes([*member.get(18)?, *member.get(19)?]));
+        }
+        rest = rest.get(len + len % 2..)?;
+    }
+}
+
+/// The level of x86-64 in the header beside the archive: in its folder, where `tools/targets` puts it, or in `include` in
+/// one of the two folders above. It is 2, the default of `rt lib`, if there is none.
+fn level(folder: &Path) -> String {
+    let includes = folder.ancestors().skip(1).take(2);
+    let headers = includes.map(|it| it.join("include").join(HEADER));
+    for header in iter::once(folder.join(HEADER)).chain(headers) {
+        if let Ok(text) = fs::read_to_string(&header) {
+            println!("cargo:rerun-if-changed={}", header.display());
+            let found = text.lines().find_map(|line| line.strip_prefix(LEVEL));
+            return found.unwrap_or("2").trim().to_string();
+        }
+    }
+    "2".to_string()
+}
+
 fn fail(why: &str) -> ! {
     eprintln!("{why}");
     exit(1)
@@ -76,18 +124,23 @@ fn main() {
         println!("cargo:rerun-if-env-changed={name}");
     }
     let target = |part| env::var(format!("CARGO_CFG_TARGET_{part}")).unwrap_or_default();
-    if target("ARCH") != "x86_64" || target("OS") != "linux" {
-        fail("the library is built for Linux on x86-64 alone");
+    let arch = target("ARCH");
+    let Some((_, elf, place, made_by)) = TARGETS.into_iter().find(|it| it.0 == arch) else {
+        fail(&format!(
+            "the library is built for x86-64 and ARM64, and not for {arch}"
+        ))
+    };
+    let linux = ["linux", "64", "little"];
+    if ["OS", "POINTER_WIDTH", "ENDIAN"].map(target) != linux {
+        fail("the library is built for Linux with addresses of 64 bits and little-endian numbers");
     }
     // This package is crates/deerlapse/bindings/rust of the repository.
     let here = Path::new(env!("CARGO_MANIFEST_DIR"));
-    let crates = here.ancestors().nth(3).unwrap_or(here);
+    let top = here.ancestors().nth(4).unwrap_or(here);
     let folder_of_env = env::var_os("DEERLAPSE_LIB_DIR").map(PathBuf::from);
     let named = folder_of_env.is_some();
     let elsewhere = folder_of_env.or_else(folder_of_pkg_config);
-    let folder = elsewhere
-        .clone()
-        .unwrap_or_else(|| crates.join("deerlapse/out"));
+    let folder = elsewhere.clone().unwrap_or_else(|| top.join(place));
     let archive = folder.join(ARCHIVE);
     let shown = archive.display();
     println!("cargo:rerun-if-changed={shown}");
@@ -98,18 +151,24 @@ fn main() {
     }
     if !archive.is_file() {
         fail(&format!(
-            "there is no {shown}: run `rt lib` in crates/deerlapse of the repository, which proves and makes it; or \
-             install it by `tools/install PREFIX`, and name PREFIX/lib/pkgconfig in PKG_CONFIG_PATH; or name the folder \
-             that has it in DEERLAPSE_LIB_DIR"
+            "there is no {shown}: run {made_by} of the repository, which proves and makes it; or install it by \
+             `tools/install PREFIX`, and name PREFIX/lib/pkgconfig in PKG_CONFIG_PATH; or name the folder that has it \
+             in DEERLAPSE_LIB_DIR"
         ));
     }
-    if let Some(source) = newer_source(crates, &archive) {
+    if machine(&archive) != Some(elf) {
+        fail(&format!(
+            "{shown} isn't an archive for {arch}: {made_by} makes one"
+        ));
+    }
+    if let Some(source) = newer_source(&top.join("crates"), &archive) {
         let told = format!("{shown} is older than {}", source.display());
         if elsewhere.is_none() {
-            fail(&format!("{told}: run `rt lib` in crates/deerlapse"));
+            fail(&format!("{told}: run {made_by}"));
         }
         println!("cargo:warning={told}");
     }
+    println!("cargo:rustc-env=DEERLAPSE_X86_64_LEVEL={}", level(&folder));
     println!("cargo:rustc-link-search=native={}", folder.display());
     println!("cargo:rustc-link-lib=static=deerlapse");
 }

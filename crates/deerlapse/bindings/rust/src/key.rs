@@ -1,6 +1,6 @@
 //! A key that is expanded once, and whose calls take the nonce.
 
-use crate::{accepted, ffi, Unspecified, NONCE_LEN, TAG_LEN};
+use crate::{accepted, cpu, ffi, Unspecified, NONCE_LEN, TAG_LEN};
 #[cfg(feature = "alloc")]
 use alloc::vec::Vec;
 use core::fmt;
@@ -42,6 +42,7 @@ impl LessSafeKey {
     /// assert!(LessSafeKey::new(&[0; 24]).is_err());
     /// ```
     pub fn new(key_bytes: &[u8]) -> Result<Self, Unspecified> {
+        cpu::require();
         let mut key = LessSafeKey(ffi::Key { words: [0; 369] });
         // SAFETY: the pointer and its length are those of one slice, and the key is borrowed for writing.
         accepted(unsafe {

@@ -5,12 +5,14 @@
 #[cfg(feature = "alloc")]
 extern crate alloc;
 
+mod cpu;
 mod ffi;
 mod key;
 mod opener;
 mod sealer;
 mod streams;
 
+pub use cpu::cpu_supported;
 pub use key::LessSafeKey;
 pub use opener::Opener;
 pub use sealer::{nonce_of, Sealer};

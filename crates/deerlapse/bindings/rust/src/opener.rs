@@ -1,6 +1,6 @@
 //! A key that opens what a `Sealer` sealed.
 
-use crate::{accepted, ffi, wipe, Unspecified, NONCE_LEN};
+use crate::{accepted, cpu, ffi, wipe, Unspecified, NONCE_LEN};
 use core::fmt;
 use core::ops::{Range, RangeFrom};
 
@@ -43,6 +43,7 @@ impl Opener {
         iv: &[u8; NONCE_LEN],
         numbers: Range<u64>,
     ) -> Result<Self, Unspecified> {
+        cpu::require();
         let mut opener = Opener {
             state: ffi::Opener { words: [0; 400] },
             limit: numbers.end,

@@ -1,6 +1,6 @@
 //! A key that counts its nonces.
 
-use crate::{accepted, ffi, wipe, Unspecified, NONCE_LEN, TAG_LEN};
+use crate::{accepted, cpu, ffi, wipe, Unspecified, NONCE_LEN, TAG_LEN};
 #[cfg(feature = "alloc")]
 use alloc::vec::Vec;
 use core::fmt;
@@ -56,6 +56,7 @@ impl Sealer {
         iv: &[u8; NONCE_LEN],
         numbers: Range<u64>,
     ) -> Result<Self, Unspecified> {
+        cpu::require();
         let mut sealer = Sealer {
             state: ffi::Sealer { words: [0; 400] },
             limit: numbers.end,
@@ -172,6 +173,7 @@ impl fmt::Debug for Sealer {
 /// assert_eq!(deerlapse::nonce_of(&iv, 654_360_564), nonce);
 /// ```
 pub fn nonce_of(iv: &[u8; NONCE_LEN], number: u64) -> [u8; NONCE_LEN] {
+    cpu::require();
     let mut nonce = [0; NONCE_LEN];
     // SAFETY: the parameters are references.
     unsafe { ffi::deerlapse_nonce(iv, number, &mut nonce) };

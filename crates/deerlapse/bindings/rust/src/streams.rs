@@ -1,6 +1,6 @@
 //! QUIC's header masks, and the ChaCha20 stream.
 
-use crate::{accepted, ffi, Unspecified, NONCE_LEN};
+use crate::{accepted, cpu, ffi, Unspecified, NONCE_LEN};
 
 /// Returns the header protection mask for a sample, with AES-128 for a key of 16 bytes and with AES-256 for one of 32
 /// (RFC 9001 section 5.4.3).
@@ -16,6 +16,7 @@ use crate::{accepted, ffi, Unspecified, NONCE_LEN};
 /// # Ok::<(), deerlapse::Unspecified>(())
 /// ```
 pub fn mask_aes(key: &[u8], sample: &[u8; 16]) -> Result<[u8; 5], Unspecified> {
+    cpu::require();
     let mut mask = [0; 5];
     // SAFETY: the pointer and its length are those of one slice, and the others are references.
     let made = unsafe { ffi::deerlapse_mask_aes(key.as_ptr(), key.len(), sample, &mut mask) };
@@ -36,6 +37,7 @@ pub fn mask_aes(key: &[u8], sample: &[u8; 16]) -> Result<[u8; 5], Unspecified> {
 /// assert_eq!(mask, [0xae, 0xfe, 0xfe, 0x7d, 0x03]);
 /// ```
 pub fn mask_chacha20(key: &[u8; 32], sample: &[u8; 16]) -> [u8; 5] {
+    cpu::require();
     let mut mask = [0; 5];
     // SAFETY: the parameters are references.
     unsafe { ffi::deerlapse_mask_chacha20(key, sample, &mut mask) };
@@ -62,6 +64,7 @@ pub fn chacha20(
     counter: u32,
     in_out: &mut [u8],
 ) -> Result<(), Unspecified> {
+    cpu::require();
     // SAFETY: the pointer and its length are those of one slice, borrowed for writing, and the others are references.
     accepted(unsafe {
         ffi::deerlapse_chacha20(key, nonce, counter, in_out.as_mut_ptr(), in_out.len())

@@ -1,0 +1,80 @@
+//! The instructions that the library was built for.
+
+#[cfg(target_arch = "x86_64")]
+use core::arch::{asm, x86_64};
+#[cfg(target_arch = "x86_64")]
+use core::sync::atomic::{AtomicU8, Ordering};
+
+/// Returns whether this processor has the instructions that the library was built for. On x86-64 they are those of
+/// level x86-64-v2, or v3 if the header beside the library says so; on ARM64 every processor has them.
+///
+/// The other functions and methods panic if it returns false, before they call the library.
+///
+/// ```
+/// assert!(deerlapse::cpu_supported());
+/// ```
+#[cfg(target_arch = "x86_64")]
+pub fn cpu_supported() -> bool {
+    const UNKNOWN: u8 = 0;
+    const YES: u8 = 1;
+    const NO: u8 = 2;
+    static FOUND: AtomicU8 = AtomicU8::new(UNKNOWN);
+    match FOUND.load(Ordering::Relaxed) {
+        UNKNOWN => {
+            let is = has_instructions();
+            FOUND.store(if is { YES } else { NO }, Ordering::Relaxed);
+            is
+        }
+        found => found == YES,
+    }
+}
+
+/// Returns true, since every processor of this architecture has the instructions that the library was built for.
+#[cfg(not(target_arch = "x86_64"))]
+pub fn cpu_supported() -> bool {
+    true
+}
+
+/// Panics if the processor lacks instructions, for which the system would end the program.
+pub(crate) fn require() {
+    assert!(
+        cpu_supported(),
+        "this processor lacks instructions that the library was built for"
+    );
+}
+
+/// Whether the processor and the system have what is asked of them by the header's `deerlapse_cpu_supported`.
+#[cfg(target_arch = "x86_64")]
+#[allow(unused_unsafe)] // `__cpuid` is a safe function in later versions of Rust
+fn has_instructions() -> bool {
+    const FMA: u32 = 1 << 12;
+    const SSSE3: u32 = 1 << 9;
+    const SSE4_2: u32 = 1 << 20;
+    const POPCNT: u32 = 1 << 23;
+    const OSXSAVE: u32 = 1 << 27;
+    const AVX2: u32 = 1 << 5;
+    const BMI2: u32 = 1 << 8;
+    let has = |found: u32, wanted: u32| found & wanted == wanted;
+    // SAFETY: every x86-64 processor has CPUID.
+    let (leaves, basic) = unsafe { (x86_64::__cpuid(0).eax, x86_64::__cpuid(1).ecx) };
+    if env!("DEERLAPSE_X86_64_LEVEL") != "3" {
+        return has(basic, SSSE3 | SSE4_2 | POPCNT);
+    }
+    leaves >= 7
+        && has(basic, FMA | OSXSAVE)
+        // SAFETY: as above, and there is a leaf 7.
+        && has(unsafe { x86_64::__cpuid_count(7, 0).ebx }, AVX2 | BMI2)
+        && saves_wide_registers()
+}
+
+/// Whether the system keeps the 32 bytes of a wide register for each thread, where the processor has OSXSAVE.
+#[cfg(target_arch = "x86_64")]
+fn saves_wide_registers() -> bool {
+    const BOTH_HALVES: u32 = 6;
+    let kept: u32;
+    // SAFETY: with OSXSAVE there is XGETBV, and every register that it writes is named.
+    unsafe {
+        asm!("xgetbv", in("ecx") 0, out("eax") kept, out("edx") _, options(nomem, nostack, preserves_flags));
+    }
+    kept & BOTH_HALVES == BOTH_HALVES
+}
