@@ -48,6 +48,7 @@
  * memcpy, memmove and memset in the first call. */
 #define DEERLAPSE_MAX_STACK 8192
 
+/* The lengths of arrays, in bytes. */
 #define DEERLAPSE_NONCE_LEN 12
 #define DEERLAPSE_TAG_LEN 16
 #define DEERLAPSE_SAMPLE_LEN 16
