@@ -1,0 +1,107 @@
+/* Protects, unprotects and opens QUIC packets, and reads records, for tools/traces, by the calls of
+ * tools/secrets.d/watched.txt. */
+#define LONGEST 16380 /* with its type and padding the most that a record holds */
+#include "traced.h"
+
+bool watched_seal(const uint8_t *key, size_t key_len, const uint8_t *nonce, const uint8_t *aad, size_t aad_len,
+                  uint8_t *in_out, size_t len, uint8_t *tag);
+bool watched_protect(bool is_chacha, const uint8_t *key, size_t key_len, uint8_t *packet, size_t len,
+                     size_t number_at);
+bool watched_unprotect(bool is_chacha, const uint8_t *key, size_t key_len, uint8_t *packet, size_t len,
+                       size_t number_at, size_t *number_len, uint64_t *number);
+bool watched_open_packet(const uint8_t *key, size_t key_len, const uint8_t *iv, uint8_t *packet, size_t len,
+                         size_t header_len, uint64_t number, size_t *payload_len);
+bool watched_read_record(const uint8_t *key, size_t key_len, const uint8_t *iv, uint8_t *record, size_t len,
+                         uint8_t *content_type, size_t *content_len);
+
+enum { HEADER = 12, NUMBER_AT = 9, RECORD_HEADER = 5, PADDING = 4, APPLICATION_DATA = 23 };
+enum { SHORT_FORM = 0x40, SHORT_MASKED = 0x1f, LONG_FORM = 0xc0, LONG_MASKED = 0x0f };
+
+static size_t found;
+static uint64_t number;
+static uint8_t content_type;
+
+/* The bits of a header that a mask covers, and so the length of the number, are of the seed. */
+static bool as_short(size_t key_len, size_t len) {
+    (void)key_len, (void)len;
+    message[0] = (uint8_t)(SHORT_FORM | (message[0] & SHORT_MASKED));
+    return true;
+}
+static bool as_long(size_t key_len, size_t len) {
+    (void)key_len, (void)len;
+    message[0] = (uint8_t)(LONG_FORM | (message[0] & LONG_MASKED));
+    return true;
+}
+static bool unprotect(size_t key_len, size_t len) {
+    return watched_unprotect(false, header_key, key_len, message, len + 40, NUMBER_AT, &found, &number);
+}
+static bool unprotect_chacha20(size_t key_len, size_t len) {
+    (void)key_len;
+    return watched_unprotect(true, header_key, 32, message, len + 40, NUMBER_AT, &found, &number);
+}
+/* Who protects a header has chosen the length of the number. */
+static bool with_number(size_t key_len, size_t len) {
+    (void)key_len, (void)len;
+    message[0] = SHORT_FORM | 2;
+    return true;
+}
+static bool protect(size_t key_len, size_t len) {
+    return watched_protect(false, header_key, key_len, message, len + 40, NUMBER_AT);
+}
+static bool protect_chacha20(size_t key_len, size_t len) {
+    (void)key_len;
+    return watched_protect(true, header_key, 32, message, len + 40, NUMBER_AT);
+}
+
+/* Packet number 7. */
+static bool packet(size_t key_len, size_t len) {
+    uint8_t of_seven[NONCE];
+    memcpy(of_seven, nonce, NONCE);
+    of_seven[NONCE - 1] ^= 7;
+    memset(message, SHORT_FORM, HEADER);
+    return watched_seal(key_bytes, key_len, of_seven, message, HEADER, message + HEADER, len, message + HEADER + len);
+}
+static bool false_packet(size_t key_len, size_t len) {
+    bool is = packet(key_len, len);
+    message[HEADER + len + seed % TAG] ^= 1;
+    return is;
+}
+static bool open_packet(size_t key_len, size_t len) {
+    return watched_open_packet(key_bytes, key_len, nonce, message, HEADER + len + TAG, HEADER, 7, &found);
+}
+static bool refuse_packet(size_t key_len, size_t len) { return !open_packet(key_len, len); }
+
+/* Record 0, whose content has len bytes. */
+static bool record(size_t key_len, size_t len) {
+    size_t inner = len + 1 + PADDING;
+    uint8_t *body = message + RECORD_HEADER;
+    const uint8_t header[RECORD_HEADER] = {23, 3, 3, (uint8_t)((inner + TAG) >> 8), (uint8_t)(inner + TAG)};
+    memcpy(message, header, RECORD_HEADER);
+    body[len] = APPLICATION_DATA;
+    memset(body + len + 1, 0, PADDING);
+    return watched_seal(key_bytes, key_len, nonce, header, RECORD_HEADER, body, inner, body + inner);
+}
+static bool false_record(size_t key_len, size_t len) {
+    bool is = record(key_len, len);
+    message[RECORD_HEADER + len + 1 + PADDING + seed % TAG] ^= 1;
+    return is;
+}
+static bool read_record(size_t key_len, size_t len) {
+    size_t all = RECORD_HEADER + len + 1 + PADDING + TAG;
+    return watched_read_record(key_bytes, key_len, nonce, message, all, &content_type, &found);
+}
+static bool refuse_record(size_t key_len, size_t len) { return !read_record(key_len, len); }
+
+static const traced_call calls[] = {
+    {"protect", protect, with_number, false},
+    {"protect,ChaCha20", protect_chacha20, with_number, false},
+    {"unprotect,short", unprotect, as_short, false},
+    {"unprotect,long", unprotect, as_long, false},
+    {"unprotect,ChaCha20", unprotect_chacha20, as_short, false},
+    {"open_packet", open_packet, packet, true},
+    {"open_packet,false", refuse_packet, false_packet, true},
+    {"read_record", read_record, record, true},
+    {"read_record,false", refuse_record, false_record, true},
+};
+
+int main(void) { return trace(calls, sizeof calls / sizeof calls[0]) ? 0 : 1; }
