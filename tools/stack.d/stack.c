@@ -1,6 +1,7 @@
-/* How deep each call goes into the stack: a thread whose 64 KiB are filled with a pattern makes it, and then looks for
- * the lowest byte that changed. Each is made in a process of its own, and what must come before it in another one, since the
- * dynamic linker may bind memcpy, memmove and memset at their first use, on the stack of the call. So this file calls none. */
+/* How deep each call goes into the stack: a thread whose 256 KiB are filled with a pattern makes it, and then looks for
+ * the lowest byte that changed. On ARM64 glibc starts no thread with less than 128 KiB. Each is made in a process of its
+ * own, and what must come before it in another one, since the dynamic linker may bind memcpy, memmove and memset at their
+ * first use, on the stack of the call. So this file calls none. */
 #define _DEFAULT_SOURCE
 #include "deerlapse.h"
 #include <pthread.h>
@@ -10,7 +11,7 @@
 #include <sys/wait.h>
 #include <unistd.h>
 
-enum { SIZE = 64 * 1024, PATTERN = 0xa7, MAX_LEN = 5000, AAD = 40, TAG = DEERLAPSE_TAG_LEN };
+enum { SIZE = 256 * 1024, PATTERN = 0xa7, MAX_LEN = 5000, AAD = 40, TAG = DEERLAPSE_TAG_LEN };
 
 typedef struct {
     const char *name;
