@@ -2,9 +2,10 @@
 #![tactic(auto)]
 
 use aead_ciphers::aead::{
-    AES_128_GCM, AES_256_GCM, Aad, LessSafeKey, Nonce, Tag, UnboundKey, Unspecified,
+    AES_128_GCM, AES_256_GCM, Aad, Algorithm, LessSafeKey, Nonce, Tag, UnboundKey, Unspecified,
 };
 use aead_ciphers::aeadrun::{bytes, text};
+use aead_ciphers_wide::aead::LessSafeKey as WideKey;
 use std::alloc::{AllocError, Global};
 use std::io::{self, BufRead, BufReader, BufWriter, Write};
 use std::str::SplitWhitespace;
@@ -67,17 +68,26 @@ fn respond(alloc: Global, verb: &str, fields: &mut [Vec<u8>]) -> Result<String, 
     }
 }
 
-/// Creates a key of AES-128-GCM from 16 bytes, or of AES-256-GCM from 32.
-fn less_safe_key(bytes: &[u8]) -> Result<LessSafeKey, NoVector> {
-    let algorithm = if bytes.len() == AES_128_GCM.key_len() {
+/// The algorithm of a key: AES-128-GCM for 16 bytes, or else AES-256-GCM.
+fn algorithm(key: &[u8]) -> &'static Algorithm {
+    if key.len() == AES_128_GCM.key_len() {
         &AES_128_GCM
     } else {
         &AES_256_GCM
-    };
-    Ok(LessSafeKey::new(UnboundKey::new(algorithm, bytes)?))
+    }
 }
 
-/// Seals a plaintext, and returns CT TAG.
+/// Creates the key of `aead_ciphers`.
+fn less_safe_key(bytes: &[u8]) -> Result<LessSafeKey, NoVector> {
+    Ok(LessSafeKey::new(UnboundKey::new(algorithm(bytes), bytes)?))
+}
+
+/// What is said of a vector for which the two keys don't make the same.
+fn differs(alloc: Global) -> Result<String, NoVector> {
+    Ok(format!(in alloc; "the keys differ")?)
+}
+
+/// Seals a plaintext by both keys, and returns CT TAG.
 fn seal(
     alloc: Global,
     key: &[u8],
@@ -86,13 +96,22 @@ fn seal(
     in_out: &mut [u8],
 ) -> Result<String, NoVector> {
     let nonce = Nonce::try_assume_unique_for_key(iv)?;
+    let mut sealed = in_out.to_vec(alloc)?;
+    let wide_tag = WideKey::new(algorithm(key), key)?.seal_in_place_separate_tag(
+        Nonce::try_assume_unique_for_key(iv)?,
+        Aad::from(aad),
+        &mut sealed,
+    )?;
     let tag = less_safe_key(key)?.seal_in_place_separate_tag(nonce, Aad::from(aad), in_out)?;
+    if wide_tag.as_ref() != tag.as_ref() || sealed.as_slice() != &*in_out {
+        return differs(alloc);
+    }
     let ciphertext = text(alloc, in_out)?;
     let tag = text(alloc, tag.as_ref())?;
     Ok(format!(in alloc; "{ciphertext} {tag}")?)
 }
 
-/// Opens a ciphertext, and returns PT, or FAIL and the buffer as the call left it.
+/// Opens a ciphertext by both keys, and returns PT, or FAIL and the buffer as the calls left it.
 fn open(
     alloc: Global,
     key: &[u8],
@@ -101,11 +120,29 @@ fn open(
     in_out: &mut [u8],
     tag: &[u8],
 ) -> Result<String, NoVector> {
-    let (nonce, tag) = (Nonce::try_assume_unique_for_key(iv)?, Tag::try_from(tag)?);
-    let key = less_safe_key(key)?;
-    if let Ok(plaintext) = key.open_in_place_separate_tag(nonce, Aad::from(aad), tag, in_out, 0..) {
-        return Ok(text(alloc, plaintext)?);
+    let tag = Tag::try_from(tag)?;
+    let mut opened = in_out.to_vec(alloc)?;
+    let by_wide = WideKey::new(algorithm(key), key)?.open_in_place_separate_tag_to_front(
+        Nonce::try_assume_unique_for_key(iv)?,
+        Aad::from(aad),
+        tag,
+        &mut opened,
+        0..,
+    );
+    let nonce = Nonce::try_assume_unique_for_key(iv)?;
+    let by_other = less_safe_key(key)?.open_in_place_separate_tag_to_front(
+        nonce,
+        Aad::from(aad),
+        tag,
+        in_out,
+        0..,
+    );
+    if by_wide != by_other || opened.as_slice() != &*in_out {
+        return differs(alloc);
     }
     let left = text(alloc, in_out)?;
-    Ok(format!(in alloc; "FAIL {left}")?)
+    match by_other {
+        Ok(_) => Ok(left),
+        Err(Unspecified) => Ok(format!(in alloc; "FAIL {left}")?),
+    }
 }
