@@ -163,8 +163,8 @@ fn every_start(rt: &impl Abort, alloc: Global, case: &Case, len: usize) -> Resul
 fn every_byte_at_every_start(rt: HostRuntime) -> Result<(), Fail> {
     let case = Case::parse(rt.alloc(), CASE_4)?;
     for len in [
-        0, 1, 15, 16, 17, 31, 32, 33, 48, 49, 64, 65, 111, 112, 113, 127, 128, 129, 250, 3071, 3072,
-        3073, 3088, 3199, 3200, 3201, 6143, 6144, 6145,
+        0, 1, 15, 16, 17, 31, 32, 33, 48, 49, 64, 65, 111, 112, 113, 127, 128, 129, 250, 3071,
+        3072, 3073, 3088, 3199, 3200, 3201, 6143, 6144, 6145,
     ] {
         every_start(&rt, rt.alloc(), &case, len)?;
     }
