@@ -158,14 +158,16 @@ sums_is a b c d ha hb hc hd =
     ∷ bit_xor (bit_xor (bit_xor (bit_and a 255) (bit_and b 255)) (bit_and c 0)) (bit_and d 255)
     ∷ bit_xor (bit_xor (bit_xor (bit_and a 255) (bit_and b 255)) (bit_and c 255)) (bit_and d 0)
     ∷ bit_xor (bit_xor (bit_xor (bit_and a 255) (bit_and b 255)) (bit_and c 255)) (bit_and d 255) ∷ []) n ≡ chosen_sum n 0 (a ∷ b ∷ c ∷ d ∷ []))
-    (four za zb zc zd) (four za zb zc ed) (four za zb ec zd) (four za zb ec ed) (four za eb zc zd) (four za eb zc ed) (four za eb ec zd) (four za eb ec ed) (four ea zb zc zd) (four ea zb zc ed) (four ea zb ec zd) (four ea zb ec ed) (four ea eb zc zd) (four ea eb zc ed) (four ea eb ec zd) (four ea eb ec ed)
+    (four za zb zc zd) (four za zb zc ed) (four za zb ec zd) (four za zb ec ed) (four za eb zc zd) (four za eb zc ed) (four za eb ec zd) (four za eb ec ed)
+    (four ea zb zc zd) (four ea zb zc ed) (four ea zb ec zd) (four ea zb ec ed) (four ea eb zc zd) (four ea eb zc ed) (four ea eb ec zd) (four ea eb ec ed)
 
 -- byte q of the table, of the multiples
 abbrev pub byte_at : List (List ℕ) → ℕ → ℕ
 byte_at blocks q = chosen_sum (q % 16) 0 (each_below 4 (λ k. slice_index (slice_index_or blocks (q / 256 * 4 + k) []) (q / 16 % 16)))
 
 -- a byte of a sum
-byte-xor : (a b at : ℕ) → at < 16 → slice_index (to_be_bytes w128 (bit_xor a b)) at ≡ bit_xor (slice_index (to_be_bytes w128 a) at) (slice_index (to_be_bytes w128 b) at)
+byte-xor : (a b at : ℕ) → at < 16
+    → slice_index (to_be_bytes w128 (bit_xor a b)) at ≡ bit_xor (slice_index (to_be_bytes w128 a) at) (slice_index (to_be_bytes w128 b) at)
 byte-xor a b at h =
     let size = λ (n : ℕ). (IsBlock-number n).size in
     ap (λ l. slice_index l at) (to_be_bytes-xor a b ∙ xor_by_index (to_be_bytes w128 a) (to_be_bytes w128 b) 16 (size a) (size b))
@@ -179,7 +181,8 @@ byte-chosen true x at h = refl
 byte-chosen false x at h = byte-none at h
 
 byte-chosen_sum : (n from at : ℕ) (m : List ℕ) → at < 16
-    → slice_index (to_be_bytes w128 (chosen_sum n from m)) at ≡ chosen_sum n 0 (each_below 4 (λ k. slice_index (to_be_bytes w128 (slice_index m (from + k))) at))
+    → slice_index (to_be_bytes w128 (chosen_sum n from m)) at
+    ≡ chosen_sum n 0 (each_below 4 (λ k. slice_index (to_be_bytes w128 (slice_index m (from + k))) at))
 byte-chosen_sum n from at m h =
     let part = λ (k p : ℕ). if n / p % 2 == 1 then slice_index m (from + k) else 0 in
     let byte = λ (k p : ℕ). byte-chosen (n / p % 2 == 1) (slice_index m (from + k)) at h in

@@ -37,7 +37,8 @@ by_sixteen P p0 p1 p2 p3 p4 p5 p6 p7 p8 p9 p10 p11 p12 p13 p14 p15 n h = elim n 
 pub bit_of_byte : (x p : ℕ) → p < 128 → bit_at x p ≡ bit_at (slice_index (to_le_bytes w128 x) (p / 8)) (p % 8)
 bit_of_byte x p h =
     let place : p % 8 + 8 * (p / 8) ≡ p = omega arith in
-    sym (ap (λ b. bit_at b (p % 8)) (byte_is x (p / 8) (omega arith)) ∙ bit_at-mod _ 8 (p % 8) (omega arith) ∙ bit_at-shr x (8 * (p / 8)) (p % 8) ∙ ap (bit_at x) place)
+    sym (ap (λ b. bit_at b (p % 8)) (byte_is x (p / 8) (omega arith)) ∙ bit_at-mod _ 8 (p % 8) (omega arith)
+    ∙ bit_at-shr x (8 * (p / 8)) (p % 8) ∙ ap (bit_at x) place)
 
 pub bytes_move : (x y : ℕ) (source : ℕ → ℕ) → ((j : ℕ) → j < 16 → slice_index (to_le_bytes w128 y) j ≡ slice_index (to_le_bytes w128 x) (source j))
     → ((j : ℕ) → j < 16 → source j < 16) → (p : ℕ) → p < 128 → bit_at y p ≡ bit_at x (8 * source (p / 8) + p % 8)
@@ -57,7 +58,8 @@ chosen_is v b hv hb =
     same_in_table (λ b v. cond (eqb (bit_and v (2 ^ b)) (2 ^ b)) 255 0) (λ b v. 255 * bit_at v b) 8 256 b v refl hb hv
 
 pub filled_is : (bytes : List ℕ) (d b : ℕ) → length bytes ≡ 16 → Each1 (Fits w8) bytes → b < 8 → d ≡ 2 ^ b → (j : ℕ) → j < 16
-    → slice_index (sel_l (map (top 7) (zip2 (λ a b. cond (eqb a b) 255 0) (zip2 bit_and bytes (replicate 16 d)) (replicate 16 d))) (replicate 16 255) (replicate 16 0)) j
+    → slice_index (sel_l (map (top 7) (zip2 (λ a b. cond (eqb a b) 255 0) (zip2 bit_and bytes (replicate 16 d)) (replicate 16 d)))
+    (replicate 16 255) (replicate 16 0)) j
     ≡ 255 * bit_at (slice_index bytes j) b
 filled_is bytes d b size fits hb is j h =
     let digits = replicate 16 d in

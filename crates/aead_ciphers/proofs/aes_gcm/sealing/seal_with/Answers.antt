@@ -29,7 +29,8 @@ loop-done-preserved g c =
     let inv = c.loop-done.invariant in
     let more : d < length was = omega arith in
     let whole = inv.walk.aligned more in
-    let walk : Walked cipher c.increment-tag_iv.new.self c.encrypt_chunk.new.counter 0 (length was) (d + n) was (take d xs ++ (chunk ++ drop size (drop d xs))) =
+    let walk : Walked cipher c.increment-tag_iv.new.self c.encrypt_chunk.new.counter 0 (length was) (d + n) was
+    (take d xs ++ (chunk ++ drop size (drop d xs))) =
     walked_more 0 (length was) d n _ size was xs chunk (omega arith) more (omega arith) (λ lt. omega arith) (omega arith) (omega arith) (omega arith)
     inv.walk c.encrypt_chunk.ensures.output c.encrypt_chunk.ensures.counter in
     record {
