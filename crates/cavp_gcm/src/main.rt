@@ -7,7 +7,7 @@ use aead_ciphers::aead::{
 use aead_ciphers::aeadrun::{bytes, text};
 use aead_ciphers_wide::aead::LessSafeKey as WideKey;
 use std::alloc::{AllocError, Global};
-use std::io;
+use std::io::{self, BufRead, BufReader, BufWriter, Write};
 use std::str::SplitWhitespace;
 
 /// A line that is no vector, or memory that was refused.
@@ -27,13 +27,14 @@ impl From<AllocError> for NoVector {
 }
 
 fn main(rt: HostRuntime) -> io::Result<()> {
-    for line in rt.lines(rt.alloc()) {
+    let mut output = BufWriter::new(rt.alloc(), io::writer(&rt))?;
+    for line in BufReader::new(rt.alloc(), rt.reader())?.lines(rt.alloc()) {
         match response(rt.alloc(), line?.as_str()) {
-            Ok(text) => println!(rt; "{text}")?,
-            Err(NoVector) => println!(rt; "bad line")?,
+            Ok(text) => writeln!(output, "{text}")?,
+            Err(NoVector) => writeln!(output, "bad line")?,
         }
     }
-    Ok(())
+    output.flush()
 }
 
 /// Returns the response to a line.
