@@ -332,7 +332,7 @@ added_value front back bytes size size' size'' =
     ∙ ladder-xor 32 f g (λ i. refl) (λ i. refl)
     ∙ ap (λ y. ladder 32 f ⊕ y) (padded_value bytes size'')
 
--- one turn of the loop: row 15 - k
+-- one turn of the loop, which takes in the row at 15 - k
 pub turn : (first second bytes : List ℕ) (W : ℕ → List ℕ) (k : ℕ) → length first ≡ 16 → length second ≡ 16 → length bytes ≡ 16 → k < 16
     → slice_index second 15 ≡ 0 → pair_value first second ≡ ladder k (λ r. W (16 - k + r))
     → ladder 16 (λ i. first_byte (slice_index bytes i)) ≡ W (15 - k)
