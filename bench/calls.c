@@ -24,7 +24,7 @@ static uint64_t open(uint64_t times, const uint8_t *key, size_t key_len, uint8_t
     if (!deerlapse_key_init(&k, key, key_len) || !seal_twice(key, key_len, buffer, len, tags)) return 0;
     uint64_t answer = first_bytes(tags[0]);
     for (uint64_t i = 0; i < times; i++) {
-        answer += deerlapse_key_open_separate_tag(&k, nonce, NULL, 0, buffer, len, tags[i % 2]);
+        answer += deerlapse_key_open_separate_tag(&k, nonce, NULL, 0, buffer, len, 0, tags[i % 2]);
     }
     return answer;
 }
@@ -74,6 +74,18 @@ static bool mask_of(const uint8_t *key, size_t key_len, const uint8_t *sample, u
     return true;
 }
 
+static uint64_t key_mask(uint64_t times, const uint8_t *key, size_t key_len, uint8_t *buffer, size_t len) {
+    deerlapse_key k;
+    uint8_t mask[MASK_LEN];
+    (void)len;
+    if (!deerlapse_key_init(&k, key, key_len)) return 0;
+    for (uint64_t i = 0; i < times; i++) {
+        if (!deerlapse_key_mask(&k, buffer, mask)) return 0;
+        memcpy(buffer, mask, MASK_LEN);
+    }
+    return first_bytes(buffer);
+}
+
 static uint64_t mask_once(uint64_t times, const uint8_t *key, size_t key_len, uint8_t *buffer, size_t len) {
     uint8_t mask[MASK_LEN];
     (void)len;
@@ -91,5 +103,6 @@ const side calls = {{
     [OPEN_ONCE] = open_once,
     [GCM_KEY] = key_init,
     [CHACHA] = chacha,
+    [MASK] = key_mask,
     [MASK_ONCE] = mask_once,
 }};

@@ -101,13 +101,14 @@ static void seal_by_openssl(sealing *s) {
     EVP_CIPHER_CTX_free(context);
 }
 
-/* Each length up to 299 first, then the greatest, and then random ones. */
+/* Each length up to 299 first, then the greatest, those around a chunk of 192 blocks, and then random ones. */
 static void make_sealing(sealing *s, size_t round) {
     s->key_len = below(2) ? 16 : 32;
     s->aad_len = below(4) ? below(MAX_AAD) : 0;
     s->len = below(4) ? below(2000) : below(MAX_MESSAGE + 1);
     if (round < 300) s->len = round;
     if (round == 300) s->len = MAX_MESSAGE;
+    if (round > 300 && round <= 340) s->len = 192 * 16 - 20 + (round - 300);
     s->number = below(4) ? next_random() : below(4);
     if (s->number > UINT64_MAX - 3 || below(8) == 0) s->number = UINT64_MAX - 3;
     fill(s->key, sizeof s->key);
@@ -269,64 +270,131 @@ static void refuses(const sealing *s, open_way *way) {
     if (s->len) refuses_to_open(s, way, s->sealed, all, 1 + below(s->len));
 }
 
-/* Opens with the tag apart, in place and from one buffer to another. `bytes` stay where they are only read. */
-static void opens_apart(const deerlapse_key *key, const sealing *s, const uint8_t *bytes, size_t len, bool right) {
+/* The bytes of `bytes` that an opening left, or the message at the front of them. */
+static bool is_opened(const sealing *s, const uint8_t *found, const uint8_t *bytes, size_t len, bool right) {
+    size_t front = right ? s->len : 0;
+    return memcmp(found, s->message, front) == 0 && memcmp(found + front, bytes + front, len - front) == 0;
+}
+
+/* Opens with the tag apart: in place from a start, and from one buffer to another, which may be the same. `bytes` are a
+ * ciphertext of s->len bytes and its tag, and stay where they are only read. */
+static void opens_apart(const deerlapse_key *key, const sealing *s, const uint8_t *bytes, bool right) {
+    size_t len = s->len, start = below(2) ? below(40) : 0, all = start + len;
     uint8_t *in = guarded(bytes, len), *out = guarded(s->message, len), *tag = guarded(bytes + len, TAG);
+    uint8_t *was = malloc(all + 1);
+    CHECK(was);
+    memset(was, 0x3c, start);
+    memcpy(was + start, bytes, len);
+    uint8_t *packet = guarded(was, all);
     memset(out, 0x3c, len);
-    CHECK(CALL(deerlapse_key_open_to(key, s->nonce, s->aad, s->aad_len, in, len, out, len, tag)) == right);
+    CHECK(CALL(deerlapse_key_open_to(key, s->nonce, s->aad, s->aad_len, in, len, out, tag)) == right);
     CHECK(memcmp(in, bytes, len) == 0);
     for (size_t i = 0; i < len; i++) CHECK(out[i] == (right ? s->message[i] : 0x3c));
-    CHECK(CALL(deerlapse_key_open_separate_tag(key, s->nonce, s->aad, s->aad_len, in, len, tag)) == right);
-    CHECK(memcmp(in, right ? s->message : bytes, len) == 0);
-    memcpy(in, bytes, len);
-    CHECK(CALL(deerlapse_key_open_to(key, s->nonce, s->aad, s->aad_len, in, len, in, len, tag)) == right);
-    CHECK(memcmp(in, right ? s->message : bytes, len) == 0 && memcmp(tag, bytes + len, TAG) == 0);
+    CHECK(CALL(deerlapse_key_open_separate_tag(key, s->nonce, s->aad, s->aad_len, packet, all, start, tag)) == right);
+    CHECK(is_opened(s, packet, was, all, right));
+    CHECK(CALL(deerlapse_key_open_to(key, s->nonce, s->aad, s->aad_len, in, len, in, tag)) == right);
+    CHECK(is_opened(s, in, bytes, len, right) && memcmp(tag, bytes + len, TAG) == 0);
+    release(packet, all);
+    free(was);
     release(tag, TAG);
     release(out, len);
     release(in, len);
 }
 
-/* Two lengths that differ, and a key of zeros. */
-static void refuses_apart(const deerlapse_key *key, const sealing *s, size_t out_len) {
-    uint8_t *in = guarded(s->sealed, s->len), *out = guarded(s->message, out_len), tag[TAG];
+/* Opens with the tag after the ciphertext, from one buffer to another and in place. */
+static void opens_appended(const deerlapse_key *key, const sealing *s, const uint8_t *bytes, bool right) {
+    size_t len = s->len, all = len + TAG;
+    uint8_t *in = guarded(bytes, all), *out = guarded(s->message, len);
+    memset(out, 0x3c, len);
+    CHECK(CALL(deerlapse_key_open_appended_tag(key, s->nonce, s->aad, s->aad_len, in, all, out)) == right);
+    CHECK(memcmp(in, bytes, all) == 0);
+    for (size_t i = 0; i < len; i++) CHECK(out[i] == (right ? s->message[i] : 0x3c));
+    CHECK(CALL(deerlapse_key_open_appended_tag(key, s->nonce, s->aad, s->aad_len, in, all, in)) == right);
+    CHECK(is_opened(s, in, bytes, all, right));
+    release(out, len);
+    release(in, all);
+}
+
+/* Two lengths that don't fit, and a key of zeros: the functions of the library take that of `out`. */
+static void refuses_sized(const deerlapse_key *key, const sealing *s, size_t out_len) {
+    size_t all = s->len + TAG;
+    uint8_t *in = guarded(s->sealed, all), *out = guarded(s->sealed, out_len), tag[TAG];
     memcpy(tag, s->sealed + s->len, TAG);
-    CHECK(!CALL(deerlapse_key_seal_to(key, s->nonce, s->aad, s->aad_len, in, s->len, out, out_len, tag)));
-    CHECK(!CALL(deerlapse_key_open_to(key, s->nonce, s->aad, s->aad_len, in, s->len, out, out_len, tag)));
-    CHECK(memcmp(in, s->sealed, s->len) == 0 && memcmp(out, s->message, out_len) == 0);
+    CHECK(!CALL(deerlapse_key_seal_to_sized(key, s->nonce, s->aad, s->aad_len, in, s->len, out, out_len, tag)));
+    CHECK(!CALL(deerlapse_key_open_to_sized(key, s->nonce, s->aad, s->aad_len, in, s->len, out, out_len, tag)));
+    CHECK(!CALL(deerlapse_key_open_appended_tag_sized(key, s->nonce, s->aad, s->aad_len, in, all, out, out_len)));
+    CHECK(memcmp(in, s->sealed, all) == 0 && memcmp(out, s->sealed, out_len) == 0);
     CHECK(memcmp(tag, s->sealed + s->len, TAG) == 0);
+    release(out, out_len);
+    release(in, all);
+}
+
+static void refuses_append_sized(const deerlapse_key *key, const sealing *s, size_t out_len) {
+    uint8_t *in = guarded(s->message, s->len), *out = guarded(s->sealed, out_len);
+    CHECK(!CALL(deerlapse_key_seal_append_tag_sized(key, s->nonce, s->aad, s->aad_len, in, s->len, out, out_len)));
+    CHECK(memcmp(in, s->message, s->len) == 0 && memcmp(out, s->sealed, out_len) == 0);
     release(out, out_len);
     release(in, s->len);
 }
 
-static void apart(const sealing *s) {
+/* A ciphertext and tag, and the same with a bit of either flipped, under a key and under one of zeros. */
+static void opens_elsewhere(const deerlapse_key *key, const sealing *s) {
     static const deerlapse_key no_key;
     static uint8_t changed[MAX_MESSAGE + TAG];
     size_t all = s->len + TAG;
-    deerlapse_key key;
+    opens_apart(key, s, s->sealed, true);
+    opens_appended(key, s, s->sealed, true);
+    opens_apart(&no_key, s, s->sealed, false);
+    opens_appended(&no_key, s, s->sealed, false);
+    for (int i = 0; i < 2; i++) {
+        memcpy(changed, s->sealed, all);
+        if (i == 0) flip_a_bit(changed, all);
+        else flip_a_bit(changed + s->len, TAG);
+        opens_apart(key, s, changed, false);
+        opens_appended(key, s, changed, false);
+    }
+}
+
+/* From one buffer to another, and in place. What is only read stays. */
+static void seals_elsewhere(const deerlapse_key *key, const sealing *s) {
+    size_t all = s->len + TAG;
     uint8_t *in = guarded(s->message, s->len), *out = guarded(s->sealed, s->len), *tag = guarded(s->message, TAG);
-    CHECK(CALL(deerlapse_key_init(&key, s->key, s->key_len)));
+    uint8_t *both = guarded(s->sealed, all);
     memset(out, 0x3c, s->len);
-    CHECK(CALL(deerlapse_key_seal_to(&key, s->nonce, s->aad, s->aad_len, in, s->len, out, s->len, tag)));
+    CHECK(CALL(deerlapse_key_seal_to(key, s->nonce, s->aad, s->aad_len, in, s->len, out, tag)));
     CHECK(memcmp(out, s->sealed, s->len) == 0 && memcmp(tag, s->sealed + s->len, TAG) == 0);
-    CHECK(memcmp(in, s->message, s->len) == 0);
+    memset(both, 0x3c, all);
+    CHECK(CALL(deerlapse_key_seal_append_tag(key, s->nonce, s->aad, s->aad_len, in, s->len, both)));
+    CHECK(memcmp(both, s->sealed, all) == 0 && memcmp(in, s->message, s->len) == 0);
+    memcpy(both, s->message, s->len);
+    memset(both + s->len, 0x3c, TAG);
+    CHECK(CALL(deerlapse_key_seal_append_tag(key, s->nonce, s->aad, s->aad_len, both, s->len, both)));
+    CHECK(memcmp(both, s->sealed, all) == 0);
     memset(tag, 0, TAG);
-    CHECK(CALL(deerlapse_key_seal_to(&key, s->nonce, s->aad, s->aad_len, in, s->len, in, s->len, tag)));
+    CHECK(CALL(deerlapse_key_seal_to(key, s->nonce, s->aad, s->aad_len, in, s->len, in, tag)));
     CHECK(memcmp(in, s->sealed, s->len) == 0 && memcmp(tag, s->sealed + s->len, TAG) == 0);
+    release(both, all);
     release(tag, TAG);
     release(out, s->len);
     release(in, s->len);
+}
 
-    opens_apart(&key, s, s->sealed, s->len, true);
-    memcpy(changed, s->sealed, all);
-    flip_a_bit(changed, all);
-    opens_apart(&key, s, changed, s->len, false);
-    memcpy(changed, s->sealed, all);
-    flip_a_bit(changed + s->len, TAG);
-    opens_apart(&key, s, changed, s->len, false);
-    opens_apart(&no_key, s, s->sealed, s->len, false);
-    refuses_apart(&no_key, s, s->len);
-    if (s->len) refuses_apart(&key, s, below(s->len));
-    if (s->len < MAX_MESSAGE) refuses_apart(&key, s, s->len + 1);
+static void elsewhere(const sealing *s) {
+    static const deerlapse_key no_key;
+    uint8_t tag[TAG] = {0};
+    deerlapse_key key;
+    CHECK(CALL(deerlapse_key_init(&key, s->key, s->key_len)));
+    seals_elsewhere(&key, s);
+    opens_elsewhere(&key, s);
+    refuses_sized(&no_key, s, s->len);
+    refuses_append_sized(&no_key, s, s->len + TAG);
+    refuses_append_sized(&key, s, below(s->len + TAG));
+    refuses_append_sized(&key, s, s->len + TAG + 1);
+    if (s->len) refuses_sized(&key, s, below(s->len));
+    if (s->len < MAX_MESSAGE) refuses_sized(&key, s, s->len + 1);
+    CHECK(!CALL(deerlapse_key_open_appended_tag(&key, s->nonce, s->aad, s->aad_len, tag, below(TAG), tag)));
+    CHECK(!CALL(deerlapse_key_open_separate_tag(&key, s->nonce, s->aad, s->aad_len, tag, 3, 4 + below(40), s->sealed)));
+    CHECK(!CALL(deerlapse_key_open_separate_tag(&key, s->nonce, s->aad, s->aad_len, tag, 3, SIZE_MAX, s->sealed)));
 }
 
 /* Keys of other lengths: each call that takes bytes is refused, and leaves what it has. A key is then zeros. */
@@ -363,8 +431,8 @@ static void refused_under(const deerlapse_key *key, const sealing *s) {
     release(buffer, all);
 }
 
-/* Under a key of zeros, a wiped one, one whose bytes were refused, and by a sealer and an opener of zeros nothing is
- * sealed or opened. A copy of a key is one. */
+/* Under a key of zeros, a wiped one, one whose bytes were refused, and by a sealer and an opener of zeros or wiped nothing
+ * is sealed or opened. A copy of a key is one. */
 static void zeros(const sealing *s) {
     static const deerlapse_key no_key;
     deerlapse_key key = {{0}}, copy, refused;
@@ -384,6 +452,14 @@ static void zeros(const sealing *s) {
     CHECK(!CALL(deerlapse_opener_open(&opener, s->aad, s->aad_len, buffer, all, 0, &len)));
     CHECK(!CALL(deerlapse_opener_open_number(&opener, s->number, s->aad, s->aad_len, buffer, all, 0, &len)));
     CHECK(SAME(sealer, no_sealer) && SAME(opener, no_opener) && memcmp(buffer, s->sealed, all) == 0);
+    CHECK(CALL(deerlapse_sealer_init(&sealer, s->key, s->key_len, s->iv, 1, 9)));
+    CHECK(CALL(deerlapse_opener_init(&opener, s->key, s->key_len, s->iv, 1, 9)));
+    CALL(deerlapse_sealer_wipe(&sealer));
+    CALL(deerlapse_opener_wipe(&opener));
+    CHECK(SAME(sealer, no_sealer) && SAME(opener, no_opener));
+    CHECK(!CALL(deerlapse_sealer_seal(&sealer, s->aad, s->aad_len, buffer, s->len, buffer + s->len)));
+    CHECK(!CALL(deerlapse_opener_open_number(&opener, s->number, s->aad, s->aad_len, buffer, all, 0, &len)));
+    CHECK(memcmp(buffer, s->sealed, all) == 0);
     CHECK(CALL(deerlapse_key_open(&copy, s->nonce, s->aad, s->aad_len, buffer, all, 0, &len)) && len == s->len);
     CHECK(memcmp(buffer, s->message, s->len) == 0);
     release(buffer, all);
@@ -408,12 +484,15 @@ static void nulls(sealing *s) {
         CHECK(!open_ways[i](s, NULL, NULL, 0, 0, &len) && len == UNTOUCHED);
     }
     CHECK(CALL(deerlapse_key_init(&key, s->key, s->key_len)));
-    CHECK(CALL(deerlapse_key_seal_to(&key, s->nonce, NULL, 0, NULL, 0, NULL, 0, tag)));
-    CHECK(CALL(deerlapse_key_seal_to(&key, s->nonce, NULL, 0, s->key, 0, NULL, 0, tag)));
+    CHECK(CALL(deerlapse_key_seal_to(&key, s->nonce, NULL, 0, NULL, 0, NULL, tag)));
+    CHECK(CALL(deerlapse_key_seal_to(&key, s->nonce, NULL, 0, s->key, 0, NULL, tag)));
+    CHECK(CALL(deerlapse_key_seal_append_tag(&key, s->nonce, NULL, 0, NULL, 0, tag)));
     CHECK(memcmp(tag, other, TAG) == 0);
-    CHECK(CALL(deerlapse_key_open_to(&key, s->nonce, NULL, 0, NULL, 0, other, 0, tag)));
-    CHECK(CALL(deerlapse_key_open_to(&key, s->nonce, NULL, 0, NULL, 0, NULL, 0, tag)));
-    CHECK(CALL(deerlapse_key_open_separate_tag(&key, s->nonce, NULL, 0, NULL, 0, tag)));
+    CHECK(CALL(deerlapse_key_open_to(&key, s->nonce, NULL, 0, NULL, 0, other, tag)));
+    CHECK(CALL(deerlapse_key_open_to(&key, s->nonce, NULL, 0, NULL, 0, NULL, tag)));
+    CHECK(CALL(deerlapse_key_open_separate_tag(&key, s->nonce, NULL, 0, NULL, 0, 0, tag)));
+    CHECK(CALL(deerlapse_key_open_appended_tag(&key, s->nonce, NULL, 0, tag, TAG, NULL)));
+    CHECK(!CALL(deerlapse_key_open_appended_tag(&key, s->nonce, NULL, 0, NULL, 0, NULL)));
     CHECK(!CALL(deerlapse_seal(NULL, 0, s->nonce, NULL, 0, NULL, 0, tag)));
     CHECK(!CALL(deerlapse_open(NULL, 0, s->nonce, NULL, 0, NULL, 0, 0, &len)));
     CHECK(!CALL(deerlapse_key_init(&key, NULL, 0)));
@@ -425,7 +504,9 @@ static void nulls(sealing *s) {
 }
 
 static void masks(void) {
+    static const deerlapse_key no_key;
     uint8_t key[32], sample[16], block[32], *mask, zeros[5] = {0};
+    deerlapse_key expanded;
     int written;
     size_t key_len = below(2) ? 16 : 32;
     fill(key, 32);
@@ -437,6 +518,11 @@ static void masks(void) {
     CHECK(CALL(deerlapse_mask_aes(key, key_len, sample, mask)));
     CHECK(memcmp(mask, block, 5) == 0);
     CHECK(!CALL(deerlapse_mask_aes(key, 24, sample, mask)));
+    CHECK(!CALL(deerlapse_key_mask(&no_key, sample, mask)));
+    CHECK(memcmp(mask, block, 5) == 0);
+    memset(mask, 0, 5);
+    CHECK(CALL(deerlapse_key_init(&expanded, key, key_len)));
+    CHECK(CALL(deerlapse_key_mask(&expanded, sample, mask)));
     CHECK(memcmp(mask, block, 5) == 0);
 
     context = started(EVP_chacha20(), key, sample);
@@ -550,9 +636,104 @@ static void too_long(sealing *s) {
     CHECK(!CALL(deerlapse_key_open(&key, s->nonce, NULL, 0, bytes, len + TAG, 0, &opened)));
     CHECK(!CALL(deerlapse_opener_open(&opener, NULL, 0, bytes, len + TAG, 0, &opened)));
     CHECK(!CALL(deerlapse_opener_open_number(&opener, 5, NULL, 0, bytes, len + TAG, 0, &opened)));
+    CHECK(!CALL(deerlapse_key_open_separate_tag(&key, s->nonce, NULL, 0, bytes, len, 0, was)));
+    CHECK(!CALL(deerlapse_key_seal_append_tag(&key, s->nonce, NULL, 0, bytes, len, bytes)));
+    CHECK(!CALL(deerlapse_key_open_appended_tag(&key, s->nonce, NULL, 0, bytes, len + TAG, bytes)));
     CHECK(CALL(deerlapse_sealer_next(&sealer)) == 5 && CALL(deerlapse_opener_next(&opener)) == 5);
     CHECK(opened == UNTOUCHED && SAME(tag, was));
     CHECK(munmap(bytes, len + TAG) == 0);
+}
+
+/* A key, a sealer and an opener that refuse, with one page of zeros that may be read and written and none on either side. */
+typedef struct {
+    uint8_t *pages, *at, zeros[TAG];
+    size_t opened;
+    deerlapse_key key;
+    deerlapse_sealer sealer;
+    deerlapse_opener opener;
+} one_page;
+
+enum { PAGE = 4096 };
+
+/* Message lengths that are above the limit, or that seem to be so where the address after them overflows. */
+static void false_message_length(const sealing *s, one_page *p, size_t len) {
+    size_t all = len > SIZE_MAX - TAG ? len : len + TAG;
+    uint8_t *at = p->at, *tag = p->zeros;
+    CHECK(!CALL(deerlapse_seal(s->key, s->key_len, s->nonce, NULL, 0, at, len, tag)));
+    CHECK(!CALL(deerlapse_key_seal(&p->key, s->nonce, NULL, 0, at, len, at + len)));
+    CHECK(!CALL(deerlapse_key_seal_to(&p->key, s->nonce, NULL, 0, at, len, at + 1, tag)));
+    CHECK(!CALL(deerlapse_key_seal_to(&p->key, s->nonce, NULL, 0, at, len, at, tag)));
+    CHECK(!CALL(deerlapse_key_seal_append_tag(&p->key, s->nonce, NULL, 0, at, len, at + 1)));
+    CHECK(!CALL(deerlapse_key_seal_append_tag(&p->key, s->nonce, NULL, 0, at, len, at)));
+    CHECK(!CALL(deerlapse_sealer_seal(&p->sealer, NULL, 0, at, len, tag)));
+    CHECK(!CALL(deerlapse_key_open_to(&p->key, s->nonce, NULL, 0, at, len, at + 1, at + len)));
+    CHECK(!CALL(deerlapse_key_open_to(&p->key, s->nonce, NULL, 0, at, len, at, at + len)));
+    CHECK(!CALL(deerlapse_key_open_appended_tag(&p->key, s->nonce, NULL, 0, at, all, at + 1)));
+    CHECK(!CALL(deerlapse_key_open_appended_tag(&p->key, s->nonce, NULL, 0, at, all, at)));
+    CHECK(!CALL(deerlapse_chacha20(s->key, s->nonce, 1, at, len < (size_t)1 << 38 ? (size_t)1 << 38 : len)));
+}
+
+/* The same where `start` leaves more than the limit, or is after the end. */
+static void false_start(const sealing *s, one_page *p, size_t len, size_t start) {
+    size_t all = len > SIZE_MAX - TAG ? len : len + TAG;
+    uint8_t *at = p->at;
+    CHECK(!CALL(deerlapse_open(s->key, s->key_len, s->nonce, NULL, 0, at, all, start, &p->opened)));
+    CHECK(!CALL(deerlapse_key_open(&p->key, s->nonce, NULL, 0, at, all, start, &p->opened)));
+    CHECK(!CALL(deerlapse_key_open_separate_tag(&p->key, s->nonce, NULL, 0, at, len, start, at + len)));
+    CHECK(!CALL(deerlapse_opener_open(&p->opener, NULL, 0, at, all, start, &p->opened)));
+    CHECK(!CALL(deerlapse_opener_open_number(&p->opener, 5, NULL, 0, at, all, start, &p->opened)));
+}
+
+static void false_aad_length(const sealing *s, one_page *p, size_t aad_len) {
+    uint8_t *at = p->at, *tag = p->zeros;
+    CHECK(!CALL(deerlapse_key_seal(&p->key, s->nonce, at, aad_len, tag, 0, at + 1)));
+    CHECK(!CALL(deerlapse_key_seal_to(&p->key, s->nonce, at, aad_len, s->message, 1, at + 1, tag)));
+    CHECK(!CALL(deerlapse_key_seal_append_tag(&p->key, s->nonce, at, aad_len, s->message, 1, at + 1)));
+    CHECK(!CALL(deerlapse_key_open(&p->key, s->nonce, at, aad_len, tag, TAG, 0, &p->opened)));
+    CHECK(!CALL(deerlapse_key_open_to(&p->key, s->nonce, at, aad_len, s->message, 1, at + 1, tag)));
+    CHECK(!CALL(deerlapse_key_open_appended_tag(&p->key, s->nonce, at, aad_len, s->message, TAG, at + 1)));
+    CHECK(!CALL(deerlapse_key_open_separate_tag(&p->key, s->nonce, at, aad_len, at + 1, 1, 0, tag)));
+    CHECK(!CALL(deerlapse_sealer_seal(&p->sealer, at, aad_len, tag, 0, at + 1)));
+    CHECK(!CALL(deerlapse_opener_open(&p->opener, at, aad_len, tag, TAG, 0, &p->opened)));
+}
+
+static void false_key_length(const sealing *s, one_page *p, size_t len) {
+    deerlapse_key key;
+    deerlapse_sealer sealer;
+    deerlapse_opener opener;
+    CHECK(!CALL(deerlapse_key_init(&key, p->at, len)));
+    CHECK(!CALL(deerlapse_sealer_init(&sealer, p->at, len, s->iv, 5, 9)));
+    CHECK(!CALL(deerlapse_opener_init(&opener, p->at, len, s->iv, 5, 9)));
+    CHECK(!CALL(deerlapse_mask_aes(p->at, len, s->message, p->zeros)));
+}
+
+/* Lengths above a limit are refused before a byte is read or written. */
+static void false_lengths(sealing *s) {
+    static const size_t limit = ((size_t)1 << 36) - 32;
+    static const size_t lens[] = {((size_t)1 << 36) - 31, (size_t)1 << 40, SIZE_MAX / 2, SIZE_MAX - TAG, SIZE_MAX};
+    static one_page page;
+    make_sealing(s, 0);
+    page.opened = UNTOUCHED;
+    page.pages = mmap(NULL, 3 * PAGE, PROT_NONE, MAP_PRIVATE | MAP_ANONYMOUS, -1, 0);
+    CHECK(page.pages != MAP_FAILED);
+    page.at = page.pages + PAGE;
+    CHECK(mprotect(page.at, PAGE, PROT_READ | PROT_WRITE) == 0);
+    CHECK(CALL(deerlapse_key_init(&page.key, s->key, s->key_len)));
+    CHECK(CALL(deerlapse_sealer_init(&page.sealer, s->key, s->key_len, s->iv, 5, 9)));
+    CHECK(CALL(deerlapse_opener_init(&page.opener, s->key, s->key_len, s->iv, 5, 9)));
+    for (size_t i = 0; i < sizeof lens / sizeof lens[0]; i++) {
+        size_t len = lens[i];
+        false_message_length(s, &page, len);
+        false_start(s, &page, len, 0);
+        if (len - 1 > limit) false_start(s, &page, len, 1);
+        if (len < SIZE_MAX - TAG) false_start(s, &page, len, SIZE_MAX);
+        false_key_length(s, &page, len);
+    }
+    for (size_t aad_len = (size_t)1 << 61; aad_len != 0; aad_len <<= 1) false_aad_length(s, &page, aad_len);
+    for (size_t i = 0; i < PAGE; i++) CHECK(page.at[i] == 0);
+    for (size_t i = 0; i < TAG; i++) CHECK(page.zeros[i] == 0);
+    CHECK(CALL(deerlapse_sealer_next(&page.sealer)) == 5 && CALL(deerlapse_opener_next(&page.opener)) == 5);
+    CHECK(page.opened == UNTOUCHED && munmap(page.pages, 3 * PAGE) == 0);
 }
 
 /* What threads share: a key and an opener, and messages under them. */
@@ -612,6 +793,8 @@ int main(int argc, char **argv) {
     static sealing s;
     starts(&s);
     too_long(&s);
+    false_lengths(&s);
+    CHECK(CALL(deerlapse_version()) == DEERLAPSE_VERSION);
     for (size_t round = 0; round < rounds; round++) {
         make_sealing(&s, round);
         for (int i = 0; i < SEAL_WAYS; i++) seals(&s, seal_ways[i]);
@@ -619,7 +802,7 @@ int main(int argc, char **argv) {
             opens(&s, open_ways[i], below(40));
             refuses(&s, open_ways[i]);
         }
-        apart(&s);
+        elsewhere(&s);
         refuses_keys(&s);
         zeros(&s);
         chacha20(&s);

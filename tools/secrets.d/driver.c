@@ -37,18 +37,32 @@ static void opened(bool answer, bool right, const size_t *len, size_t wanted) {
     CHECK(*len == (right ? wanted : 7));
 }
 
-/* The tag apart, in place and from one buffer to another, with a false tag first. */
+/* The tag apart, in place from a start and from one buffer to another, with a false tag first. */
 static void opens_apart(const deerlapse_key *key, const uint8_t *nonce, const uint8_t *aad, size_t aad_len, size_t len) {
-    uint8_t *message = secret(len), *out = secret(len), *tag = secret(TAG);
+    uint8_t *message = secret(len), *packet = secret(3 + len), *out = packet + 3, *tag = secret(TAG);
     const size_t none = 7;
-    CHECK(deerlapse_key_seal_to(key, nonce, aad, aad_len, message, len, out, len, tag));
+    CHECK(deerlapse_key_seal_to(key, nonce, aad, aad_len, message, len, out, tag));
     for (int right = 0; right < 2; right++) {
         if (!right) tag[len % TAG] ^= 0x10;
-        opened(deerlapse_key_open_to(key, nonce, aad, aad_len, out, len, message, len, tag), right, &none, 7);
-        opened(deerlapse_key_open_separate_tag(key, nonce, aad, aad_len, out, len, tag), right, &none, 7);
+        opened(deerlapse_key_open_to(key, nonce, aad, aad_len, out, len, message, tag), right, &none, 7);
+        opened(deerlapse_key_open_separate_tag(key, nonce, aad, aad_len, packet, 3 + len, 3, tag), right, &none, 7);
         if (!right) tag[len % TAG] ^= 0x10;
     }
     free(tag);
+    free(packet);
+    free(message);
+}
+
+/* The tag after the ciphertext, from one buffer to another, with a false tag first. */
+static void opens_appended(const deerlapse_key *key, const uint8_t *nonce, const uint8_t *aad, size_t aad_len, size_t len) {
+    uint8_t *message = secret(len), *out = secret(len + TAG);
+    const size_t none = 7;
+    CHECK(deerlapse_key_seal_append_tag(key, nonce, aad, aad_len, message, len, out));
+    for (int right = 0; right < 2; right++) {
+        if (!right) out[len] ^= 0x10;
+        opened(deerlapse_key_open_appended_tag(key, nonce, aad, aad_len, out, len + TAG, message), right, &none, 7);
+        if (!right) out[len] ^= 0x10;
+    }
     free(out);
     free(message);
 }
@@ -75,6 +89,7 @@ static void seals_and_opens(size_t key_len, size_t aad_len, size_t len, size_t s
         free(buffer);
     }
     opens_apart(&key, nonce, aad, aad_len, len);
+    opens_appended(&key, nonce, aad, aad_len, len);
     deerlapse_key_wipe(&key);
     CHECK(!deerlapse_key_seal(&key, nonce, aad, aad_len, bytes, key_len, nonce));
     free(aad);
@@ -103,6 +118,9 @@ static void seals_by_a_sealer(size_t key_len, size_t len) {
     opened(deerlapse_opener_open_number(&opener, 7, aad, 5, second, all, 0, &found), false, &found, len);
     opened(deerlapse_opener_open_number(&opener, 8, aad, 5, second, all, 0, &found), true, &found, len);
     deerlapse_nonce(iv, 7, nonce);
+    deerlapse_sealer_wipe(&sealer);
+    deerlapse_opener_wipe(&opener);
+    CHECK(!deerlapse_sealer_seal(&sealer, aad, 5, second, len, second + len));
     free(second);
     free(first);
     free(nonce);
@@ -137,7 +155,10 @@ static void encrypts(size_t len) {
 static void masks(size_t key_len) {
     uint8_t *key = secret(key_len), *chacha_key = secret(32), *sample = secret(DEERLAPSE_SAMPLE_LEN);
     uint8_t *mask = secret(DEERLAPSE_MASK_LEN);
+    deerlapse_key expanded;
     CHECK(deerlapse_mask_aes(key, key_len, sample, mask));
+    CHECK(deerlapse_key_init(&expanded, key, key_len));
+    CHECK(deerlapse_key_mask(&expanded, sample, mask));
     deerlapse_mask_chacha20(chacha_key, sample, mask);
     free(mask);
     free(sample);
@@ -157,6 +178,7 @@ static void leaks_by_an_address(const uint8_t *key) {
 }
 
 int main(int argc, char **argv) {
+    CHECK(deerlapse_version() == DEERLAPSE_VERSION);
     if (argc > 1) {
         uint8_t *key = secret(16);
         if (strcmp(argv[1], "branch") == 0) leaks_by_a_branch(key);

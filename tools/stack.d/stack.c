@@ -21,7 +21,7 @@ typedef struct {
 
 /* What the processes share: the arguments of the calls, and what one of them took. */
 static struct {
-    uint8_t bytes[32], nonce[DEERLAPSE_NONCE_LEN], aad[AAD], buffer[MAX_LEN + TAG], out[MAX_LEN], tag[TAG];
+    uint8_t bytes[32], nonce[DEERLAPSE_NONCE_LEN], aad[AAD], buffer[MAX_LEN + TAG], out[MAX_LEN + TAG], tag[TAG];
     uint8_t sample[DEERLAPSE_SAMPLE_LEN], mask[DEERLAPSE_MASK_LEN];
     size_t key_len, len, opened_len;
     deerlapse_key key;
@@ -41,15 +41,23 @@ static bool key_open(void) {
 }
 static bool key_open_separate_tag(void) {
     uint8_t *tag = at->buffer + at->len;
-    return deerlapse_key_open_separate_tag(&at->key, at->nonce, at->aad, AAD, at->buffer, at->len, tag);
+    return deerlapse_key_open_separate_tag(&at->key, at->nonce, at->aad, AAD, at->buffer, at->len, 0, tag);
 }
 static bool key_seal_to(void) {
-    return deerlapse_key_seal_to(&at->key, at->nonce, at->aad, AAD, at->buffer, at->len, at->out, at->len, at->tag);
+    return deerlapse_key_seal_to(&at->key, at->nonce, at->aad, AAD, at->buffer, at->len, at->out, at->tag);
 }
 static bool key_open_to(void) {
     uint8_t *tag = at->buffer + at->len;
-    return deerlapse_key_open_to(&at->key, at->nonce, at->aad, AAD, at->buffer, at->len, at->out, at->len, tag);
+    return deerlapse_key_open_to(&at->key, at->nonce, at->aad, AAD, at->buffer, at->len, at->out, tag);
 }
+static bool key_seal_append_tag(void) {
+    return deerlapse_key_seal_append_tag(&at->key, at->nonce, at->aad, AAD, at->buffer, at->len, at->out);
+}
+static bool key_open_appended_tag(void) {
+    return deerlapse_key_open_appended_tag(&at->key, at->nonce, at->aad, AAD, at->buffer, at->len + TAG, at->out);
+}
+static bool key_mask(void) { return deerlapse_key_mask(&at->key, at->sample, at->mask); }
+static bool version(void) { return deerlapse_version() == DEERLAPSE_VERSION; }
 static bool seal(void) {
     uint8_t *tag = at->buffer + at->len;
     return deerlapse_seal(at->bytes, at->key_len, at->nonce, at->aad, AAD, at->buffer, at->len, tag);
@@ -61,6 +69,8 @@ static bool open_(void) {
 static bool sealer_init(void) {
     return deerlapse_sealer_init(&at->sealer, at->bytes, at->key_len, at->nonce, 0, 9);
 }
+static bool sealer_wipe(void) { return deerlapse_sealer_wipe(&at->sealer), true; }
+static bool opener_wipe(void) { return deerlapse_opener_wipe(&at->opener), true; }
 static bool sealer_next(void) { return deerlapse_sealer_next(&at->sealer) == 0; }
 static bool sealer_seal(void) {
     return deerlapse_sealer_seal(&at->sealer, at->aad, AAD, at->buffer, at->len, at->buffer + at->len);
@@ -90,20 +100,26 @@ static const named calls[] = {{"deerlapse_key_init", key_init, NULL},
                               {"deerlapse_key_open_separate_tag", key_open_separate_tag, key_sealed},
                               {"deerlapse_key_seal_to", key_seal_to, key_init},
                               {"deerlapse_key_open_to", key_open_to, key_sealed},
+                              {"deerlapse_key_seal_append_tag", key_seal_append_tag, key_init},
+                              {"deerlapse_key_open_appended_tag", key_open_appended_tag, key_sealed},
+                              {"deerlapse_key_mask", key_mask, key_init},
                               {"deerlapse_key_wipe", key_wipe, key_init},
                               {"deerlapse_seal", seal, NULL},
                               {"deerlapse_open", open_, seal},
                               {"deerlapse_sealer_init", sealer_init, NULL},
                               {"deerlapse_sealer_next", sealer_next, sealer_init},
                               {"deerlapse_sealer_seal", sealer_seal, sealer_init},
+                              {"deerlapse_sealer_wipe", sealer_wipe, sealer_init},
                               {"deerlapse_opener_init", opener_init, NULL},
                               {"deerlapse_opener_next", opener_next, opener_init},
                               {"deerlapse_opener_open", opener_open, opener_sealed},
                               {"deerlapse_opener_open_number", opener_open_number, opener_sealed},
+                              {"deerlapse_opener_wipe", opener_wipe, opener_init},
                               {"deerlapse_nonce", nonce_of, NULL},
                               {"deerlapse_mask_aes", mask_aes, NULL},
                               {"deerlapse_mask_chacha20", mask_chacha20, NULL},
-                              {"deerlapse_chacha20", chacha20, NULL}};
+                              {"deerlapse_chacha20", chacha20, NULL},
+                              {"deerlapse_version", version, NULL}};
 enum { CALLS = sizeof calls / sizeof calls[0] };
 
 static unsigned char stack[SIZE] __attribute__((aligned(4096)));

@@ -29,9 +29,16 @@ static bool key_seal_aad(size_t key_len, size_t len) {
 }
 static bool key_seal_to(size_t key_len, size_t len) {
     (void)key_len;
-    return deerlapse_key_seal_to(&key, nonce, aad, AAD, message, len, other, len, tag);
+    return deerlapse_key_seal_to(&key, nonce, aad, AAD, message, len, other, tag);
+}
+static bool key_seal_append_tag(size_t key_len, size_t len) {
+    (void)key_len;
+    return deerlapse_key_seal_append_tag(&key, nonce, aad, AAD, message, len, other);
 }
 static bool key_sealed(size_t key_len, size_t len) { return key_init(key_len, len) && key_seal(key_len, len); }
+static bool key_sealed_appended(size_t key_len, size_t len) {
+    return key_init(key_len, len) && key_seal_append_tag(key_len, len);
+}
 static bool key_sealed_to(size_t key_len, size_t len) { return key_init(key_len, len) && key_seal_to(key_len, len); }
 /* A tag that is wrong in one bit, or in every one: which, by the seed. */
 static void spoil(uint8_t *bytes) {
@@ -48,6 +55,11 @@ static bool key_sealed_falsely_to(size_t key_len, size_t len) {
     spoil(tag);
     return is;
 }
+static bool key_sealed_falsely_appended(size_t key_len, size_t len) {
+    bool is = key_sealed_appended(key_len, len);
+    spoil(other + len);
+    return is;
+}
 static bool key_open(size_t key_len, size_t len) {
     (void)key_len;
     return deerlapse_key_open(&key, nonce, aad, AAD, message, len + TAG, 0, &opened);
@@ -55,14 +67,32 @@ static bool key_open(size_t key_len, size_t len) {
 static bool key_refuse(size_t key_len, size_t len) { return !key_open(key_len, len); }
 static bool key_open_separate_tag(size_t key_len, size_t len) {
     (void)key_len;
-    return deerlapse_key_open_separate_tag(&key, nonce, aad, AAD, other, len, tag);
+    return deerlapse_key_open_separate_tag(&key, nonce, aad, AAD, other, len, 0, tag);
+}
+static bool key_sealed_after_start(size_t key_len, size_t len) {
+    bool is = key_sealed_to(key_len, len);
+    memmove(other + 3, other, len);
+    return is;
+}
+static bool key_open_after_start(size_t key_len, size_t len) {
+    (void)key_len;
+    return deerlapse_key_open_separate_tag(&key, nonce, aad, AAD, other, len + 3, 3, tag);
 }
 static bool key_refuse_separate_tag(size_t key_len, size_t len) { return !key_open_separate_tag(key_len, len); }
 static bool key_open_to(size_t key_len, size_t len) {
     (void)key_len;
-    return deerlapse_key_open_to(&key, nonce, aad, AAD, other, len, message, len, tag);
+    return deerlapse_key_open_to(&key, nonce, aad, AAD, other, len, message, tag);
 }
 static bool key_refuse_to(size_t key_len, size_t len) { return !key_open_to(key_len, len); }
+static bool key_open_appended_tag(size_t key_len, size_t len) {
+    (void)key_len;
+    return deerlapse_key_open_appended_tag(&key, nonce, aad, AAD, other, len + TAG, message);
+}
+static bool key_refuse_appended_tag(size_t key_len, size_t len) { return !key_open_appended_tag(key_len, len); }
+static bool key_mask(size_t key_len, size_t len) {
+    (void)key_len, (void)len;
+    return deerlapse_key_mask(&key, sample, mask);
+}
 
 static bool seal(size_t key_len, size_t len) {
     return deerlapse_seal(key_bytes, key_len, nonce, aad, AAD, message, len, message + len);
@@ -80,6 +110,16 @@ static bool refuse(size_t key_len, size_t len) { return !open_(key_len, len); }
 static bool sealer_init(size_t key_len, size_t len) {
     (void)len;
     return deerlapse_sealer_init(&sealer, key_bytes, key_len, nonce, 5, 9);
+}
+static bool sealer_wipe(size_t key_len, size_t len) {
+    (void)key_len, (void)len;
+    deerlapse_sealer_wipe(&sealer);
+    return true;
+}
+static bool opener_wipe(size_t key_len, size_t len) {
+    (void)key_len, (void)len;
+    deerlapse_opener_wipe(&opener);
+    return true;
 }
 static bool opener_init(size_t key_len, size_t len) {
     (void)len;
@@ -146,21 +186,28 @@ static const traced_call calls[] = {
     {"deerlapse_key_open,false", key_refuse, key_sealed_falsely, true},
     {"deerlapse_key_open_separate_tag", key_open_separate_tag, key_sealed_to, true},
     {"deerlapse_key_open_separate_tag,false", key_refuse_separate_tag, key_sealed_falsely_to, true},
+    {"deerlapse_key_open_separate_tag,start", key_open_after_start, key_sealed_after_start, true},
     {"deerlapse_key_seal_to", key_seal_to, key_init, true},
     {"deerlapse_key_open_to", key_open_to, key_sealed_to, true},
     {"deerlapse_key_open_to,false", key_refuse_to, key_sealed_falsely_to, true},
+    {"deerlapse_key_seal_append_tag", key_seal_append_tag, key_init, true},
+    {"deerlapse_key_open_appended_tag", key_open_appended_tag, key_sealed_appended, true},
+    {"deerlapse_key_open_appended_tag,false", key_refuse_appended_tag, key_sealed_falsely_appended, true},
+    {"deerlapse_key_mask", key_mask, key_init, false},
     {"deerlapse_seal", seal, NULL, true},
     {"deerlapse_open", open_, seal, true},
     {"deerlapse_open,false", refuse, sealed_falsely, true},
     {"deerlapse_sealer_init", sealer_init, NULL, false},
     {"deerlapse_sealer_next", sealer_next, sealer_init, false},
     {"deerlapse_sealer_seal", sealer_seal, sealer_init, true},
+    {"deerlapse_sealer_wipe", sealer_wipe, sealer_init, false},
     {"deerlapse_opener_init", opener_init, NULL, false},
     {"deerlapse_opener_next", opener_next, opener_init, false},
     {"deerlapse_opener_open", opener_open, opener_sealed, true},
     {"deerlapse_opener_open,false", opener_refuse, opener_sealed_falsely, true},
     {"deerlapse_opener_open_number", opener_open_number, opener_sealed, true},
     {"deerlapse_opener_open_number,false", opener_refuse_number, opener_sealed_falsely, true},
+    {"deerlapse_opener_wipe", opener_wipe, opener_init, false},
     {"deerlapse_nonce", nonce_of, NULL, false},
     {"deerlapse_mask_aes", mask_aes, NULL, false},
     {"deerlapse_mask_chacha20", mask_chacha20, NULL, false},

@@ -1,8 +1,9 @@
 //! An expanded AES-GCM key as plain data, for memory that the library does not own: a C struct, or a table of keys.
 
-ghost use Rattle.std.specs.Prelude.{◌≡◌, ◌-◌, ◌↔◌, length, is_ok, IsOk, IfOk, OnOk, OnErr};
+ghost use Rattle.std.specs.Prelude.{◌≡◌, ◌-◌, ◌↔◌, length, is_ok, IsTrue, IsOk, IfOk, OnOk, OnErr};
 ghost use Rattle.aead_ciphers_base.specs.Aes.{aes as aes_cipher};
 ghost use Rattle.aead_ciphers_base.specs.KeyBytes.{key_bytes};
+ghost use Rattle.aead_ciphers_base.specs.Mask.{aes_mask};
 ghost use Rattle.aead_ciphers_base.specs.Values.{aad_bytes};
 ghost use Rattle.aead_ciphers_base.specs.Work.{Adds, CanAdd};
 ghost use Rattle.aead_ciphers_wide.specs.ExpandedKey.{IsExpanded, bytes_of, zero_key};
@@ -10,10 +11,19 @@ ghost use Rattle.aead_ciphers.specs.Gcm.{CanOpen, CanSeal, Fits, OpenWork, SealW
 
 use crate::{aes, gcm};
 use aead_ciphers::aes_gcm::{open_to_with, open_with, seal_with};
+use aead_ciphers::gcm::MAX_IN_OUT_LEN;
 use aead_ciphers_base::aes::{EncryptBlock, KeyBytes, Work, ZERO_BLOCK};
 use aead_ciphers_base::error::Unspecified;
-use aead_ciphers_base::values::{Aad, MAX_TAG_LEN, Nonce, Tag};
+use aead_ciphers_base::values::{Aad, MAX_TAG_LEN, Nonce, Sample, Tag};
 use std::ops::RangeFrom;
+
+/// Returns whether AAD and a message of these lengths, in bytes, are within the limits of AES-GCM (SP 800-38D section
+/// 5.2.1.1).
+pub fn fits(aad_len: usize, in_out_len: usize) -> bool
+    ensures { IsTrue result ↔ Fits aad_len in_out_len }
+{
+    aad_len < 1 << 61 && in_out_len <= MAX_IN_OUT_LEN
+}
 
 /// An expanded AES-GCM key as plain data.
 ///
@@ -128,8 +138,8 @@ impl ExpandedKey {
         Ok(len - start)
     }
 
-    /// Like `open_to_front`, but the tag is the last 16 bytes of `in_out`, which are unchanged. Also fails, before
-    /// anything else is checked, if `in_out` is shorter than 16 bytes.
+    /// Like `open_to_front`, but the tag is the last 16 bytes of `in_out`, which are unchanged. Also fails if `in_out` is
+    /// shorter than 16 bytes. The tag is not read before the lengths are checked, so a length from C may be false.
     pub fn open_within_to_front(
         &self,
         nonce: Nonce,
@@ -143,12 +153,15 @@ impl ExpandedKey {
         ensures count { IfOk result (λ n. n ≡ length in_out.old - 16 - ciphertext_and_tag.start) }
         ensures refused { OnErr result (in_out.new ≡ in_out.old) }
     {
-        match in_out.split_last_chunk_mut::<MAX_TAG_LEN>() {
-            Some((before_tag, tag)) => {
+        let (before_tag, tag) = in_out
+            .split_last_chunk_mut::<MAX_TAG_LEN>()
+            .ok_or(Unspecified)?;
+        match before_tag.len().checked_sub(ciphertext_and_tag.start) {
+            Some(len) if fits(aad.as_ref().len(), len) => {
                 let tag = Tag::from(*tag);
                 self.open_to_front(nonce, aad, tag, before_tag, ciphertext_and_tag)
             }
-            None => Err(Unspecified),
+            _ => Err(Unspecified),
         }
     }
 
@@ -188,5 +201,14 @@ impl ExpandedKey {
             out,
             &mut Work::new(),
         )
+    }
+
+    /// Computes the header protection mask of a sample (RFC 9001 section 5.4.3) with the AES key alone: 16 bytes in, 5
+    /// bytes out.
+    pub fn new_mask(&self, sample: Sample) -> [u8; 5]
+        requires { IsExpanded self.now }
+        ensures { result ≡ aes_mask (bytes_of self.now) sample }
+    {
+        aes::KeyRef::new(&self.round_keys, self.rounds).new_mask(sample)
     }
 }

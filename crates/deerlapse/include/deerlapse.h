@@ -1,5 +1,5 @@
 /* AES-GCM, the ChaCha20 stream and QUIC's header protection masks, for C and C++. The library is libdeerlapse.a: `rt lib`
- * builds it in crates/deerlapse/out, and `tools/install PREFIX` installs it with this header.
+ * builds it in crates/deerlapse/out, and `tools/install PREFIX` installs it with this header, which is C99.
  *
  * The following holds for every call:
  *  - It returns true on success. It returns false on failure, and leaves every byte unchanged, except that
@@ -27,18 +27,21 @@
 /* The compiler warns if a null pointer is passed. */
 #define DEERLAPSE_CALL __attribute__((nonnull))
 /* It also warns if the result is ignored. */
-#define DEERLAPSE_ANSWERS __attribute__((nonnull, warn_unused_result))
+#define DEERLAPSE_NODISCARD __attribute__((nonnull, warn_unused_result))
 /* The same, for a function of which only the parameters with these numbers must not be null. */
 #define DEERLAPSE_WRAPS(...) static inline __attribute__((nonnull(__VA_ARGS__), warn_unused_result))
 #else
 #define DEERLAPSE_CALL
-#define DEERLAPSE_ANSWERS
+#define DEERLAPSE_NODISCARD
 #define DEERLAPSE_WRAPS(...) static inline
 #endif
 
 #define DEERLAPSE_VERSION_MAJOR 0
 #define DEERLAPSE_VERSION_MINOR 1
 #define DEERLAPSE_VERSION_PATCH 0
+
+/* The version in one number: 0x010203 for 1.2.3. */
+#define DEERLAPSE_VERSION (DEERLAPSE_VERSION_MAJOR << 16 | DEERLAPSE_VERSION_MINOR << 8 | DEERLAPSE_VERSION_PATCH)
 
 /* The level of x86-64 processors that the archive beside this header was built for: 2 for x86-64-v2, 3 for x86-64-v3.
  * tools/targets and tools/install write it. An archive for ARM64 needs no more than every such processor has. */
@@ -58,6 +61,9 @@
 extern "C" {
 #endif
 
+/* Returns the version of the library that the program was linked with. DEERLAPSE_VERSION is the one of this header. */
+uint32_t deerlapse_version(void);
+
 /* A key that is expanded once, for many messages and many threads. deerlapse_key_init initializes it. It is in the caller's
  * memory: on the stack, in a struct or in a table. It contains no pointer, so a copy by `=` or memcpy is a key as well.
  * Sealing and opening only read it, so threads may share it once they see it initialized.
@@ -74,7 +80,7 @@ typedef struct deerlapse_key {
  *   bytes   len bytes: 16 for AES-128-GCM, 32 for AES-256-GCM
  *
  * Returns false if len is neither 16 nor 32. Every byte of `key` is then zero. */
-DEERLAPSE_ANSWERS
+DEERLAPSE_NODISCARD
 bool deerlapse_key_init(deerlapse_key *key, const uint8_t *bytes, size_t len);
 
 /* Encrypts in place with AES-128-GCM or AES-256-GCM, and writes the tag (SP 800-38D algorithm 4).
@@ -87,7 +93,7 @@ bool deerlapse_key_init(deerlapse_key *key, const uint8_t *bytes, size_t len);
  *   tag      16 bytes, which are written
  *
  * Returns false if the key is zeros, if in_out_len is above 2^36 - 32, or if aad_len is 2^61 or more. */
-DEERLAPSE_ANSWERS
+DEERLAPSE_NODISCARD
 bool deerlapse_key_seal(const deerlapse_key *key, const uint8_t nonce[DEERLAPSE_NONCE_LEN], const uint8_t *aad,
                         size_t aad_len, uint8_t *in_out, size_t in_out_len, uint8_t tag[DEERLAPSE_TAG_LEN]);
 
@@ -101,35 +107,61 @@ bool deerlapse_key_seal(const deerlapse_key *key, const uint8_t nonce[DEERLAPSE_
  * Returns false if the tag is wrong, if there are fewer than 16 bytes from `start` on, if the key is zeros, or for lengths
  * for which deerlapse_key_seal does. aad must not be in in_out, not even before `start`. For a header before its
  * ciphertext, pass the pointer after the header, and 0 for `start`. */
-DEERLAPSE_ANSWERS
+DEERLAPSE_NODISCARD
 bool deerlapse_key_open(const deerlapse_key *key, const uint8_t nonce[DEERLAPSE_NONCE_LEN], const uint8_t *aad,
                         size_t aad_len, uint8_t *in_out, size_t in_out_len, size_t start, size_t *plaintext_len);
 
-/* The same for a ciphertext with a separate tag: in_out is the ciphertext, which the plaintext of the same length replaces.
+/* The same for a ciphertext with a separate tag: the ciphertext from in_out + start on. On success the plaintext, of
+ * in_out_len - start bytes, is at in_out, and the bytes after it are unchanged.
  *
  *   tag   16 bytes, which are read
  *
- * Returns false if the tag is wrong, if the key is zeros, or for lengths for which deerlapse_key_seal does. */
-DEERLAPSE_ANSWERS
+ * Returns false if the tag is wrong, if `start` is above in_out_len, if the key is zeros, or for lengths for which
+ * deerlapse_key_seal does. */
+DEERLAPSE_NODISCARD
 bool deerlapse_key_open_separate_tag(const deerlapse_key *key, const uint8_t nonce[DEERLAPSE_NONCE_LEN],
                                      const uint8_t *aad, size_t aad_len, uint8_t *in_out, size_t in_out_len,
-                                     const uint8_t tag[DEERLAPSE_TAG_LEN]);
+                                     size_t start, const uint8_t tag[DEERLAPSE_TAG_LEN]);
 
 /* Do the same as deerlapse_key_seal and deerlapse_key_open_separate_tag, but from one buffer to another. `in` is unchanged.
  * No byte of `out` is written before the tag is verified.
  *
  *   in    in_len bytes: the message, or the ciphertext
- *   out   out_len bytes: none of those of `in`, or the same pointer as `in`, for the call in place
+ *   out   in_len bytes: none of those of `in`, or the same pointer as `in`, for the call in place
  *
- * Return false if those calls do, or if in_len and out_len differ. */
-DEERLAPSE_ANSWERS
+ * Return false if those calls do. */
+DEERLAPSE_WRAPS(1, 2, 8)
 bool deerlapse_key_seal_to(const deerlapse_key *key, const uint8_t nonce[DEERLAPSE_NONCE_LEN], const uint8_t *aad,
-                           size_t aad_len, const uint8_t *in, size_t in_len, uint8_t *out, size_t out_len,
+                           size_t aad_len, const uint8_t *in, size_t in_len, uint8_t *out,
                            uint8_t tag[DEERLAPSE_TAG_LEN]);
-DEERLAPSE_ANSWERS
+DEERLAPSE_WRAPS(1, 2, 8)
 bool deerlapse_key_open_to(const deerlapse_key *key, const uint8_t nonce[DEERLAPSE_NONCE_LEN], const uint8_t *aad,
-                           size_t aad_len, const uint8_t *in, size_t in_len, uint8_t *out, size_t out_len,
+                           size_t aad_len, const uint8_t *in, size_t in_len, uint8_t *out,
                            const uint8_t tag[DEERLAPSE_TAG_LEN]);
+
+/* Do the same with the tag after the ciphertext: sealing writes both to `out`, and opening reads both from `in`.
+ *
+ *   in    in_len bytes: the message, or the ciphertext and its tag
+ *   out   in_len + 16 bytes for sealing, in_len - 16 bytes for opening: none of those of `in`, or the same pointer as `in`,
+ *         for the call in place
+ *
+ * Return false if those calls do. Opening also does if in_len is below 16. */
+DEERLAPSE_WRAPS(1, 2, 7)
+bool deerlapse_key_seal_append_tag(const deerlapse_key *key, const uint8_t nonce[DEERLAPSE_NONCE_LEN],
+                                   const uint8_t *aad, size_t aad_len, const uint8_t *in, size_t in_len,
+                                   uint8_t *out);
+DEERLAPSE_WRAPS(1, 2)
+bool deerlapse_key_open_appended_tag(const deerlapse_key *key, const uint8_t nonce[DEERLAPSE_NONCE_LEN],
+                                     const uint8_t *aad, size_t aad_len, const uint8_t *in, size_t in_len,
+                                     uint8_t *out);
+
+/* Writes QUIC's header protection mask for a sample, with AES under an expanded key (RFC 9001 section 5.4.3). The key is one
+ * for headers, and seals nothing.
+ *
+ * Returns false if the key is zeros. */
+DEERLAPSE_NODISCARD
+bool deerlapse_key_mask(const deerlapse_key *key, const uint8_t sample[DEERLAPSE_SAMPLE_LEN],
+                        uint8_t mask[DEERLAPSE_MASK_LEN]);
 
 /* Overwrites a key with zeros. Every call under it then returns false. Nothing else has to be freed. This does not clear
  * what earlier calls left on the stack. */
@@ -140,11 +172,11 @@ void deerlapse_key_wipe(deerlapse_key *key);
  * this message only.
  *
  * Return false if key_len is neither 16 nor 32, or if those calls do. */
-DEERLAPSE_ANSWERS
+DEERLAPSE_NODISCARD
 bool deerlapse_seal(const uint8_t *key, size_t key_len, const uint8_t nonce[DEERLAPSE_NONCE_LEN],
                     const uint8_t *aad, size_t aad_len, uint8_t *in_out, size_t in_out_len,
                     uint8_t tag[DEERLAPSE_TAG_LEN]);
-DEERLAPSE_ANSWERS
+DEERLAPSE_NODISCARD
 bool deerlapse_open(const uint8_t *key, size_t key_len, const uint8_t nonce[DEERLAPSE_NONCE_LEN],
                     const uint8_t *aad, size_t aad_len, uint8_t *in_out, size_t in_out_len, size_t start,
                     size_t *plaintext_len);
@@ -153,8 +185,7 @@ bool deerlapse_open(const uint8_t *key, size_t key_len, const uint8_t nonce[DEER
  * zeros (RFC 8446 section 5.3, RFC 9001 section 5.3). It is in the caller's memory, and deerlapse_sealer_init initializes
  * it. A sealer of zeros seals nothing, and any other memory must only be passed to deerlapse_sealer_init. Never copy it: the
  * copy would use the same nonces again. Only one thread may use it at a time. It has room for the fields of a later version.
- * Nothing has to be freed. To wipe it, overwrite its bytes with zeros by a call that the compiler keeps, such as
- * explicit_bzero. */
+ * Nothing has to be freed. */
 typedef struct deerlapse_sealer {
     uint64_t words[400]; /* private: neither read nor write them */
 } deerlapse_sealer;
@@ -171,43 +202,47 @@ typedef struct deerlapse_sealer {
  * full length, RFC 8446 section 5.5).
  *
  * Returns false if key_len is neither 16 nor 32, or if first is above limit. The sealer is then unchanged. */
-DEERLAPSE_ANSWERS
+DEERLAPSE_NODISCARD
 bool deerlapse_sealer_init(deerlapse_sealer *sealer, const uint8_t *key, size_t key_len,
                            const uint8_t iv[DEERLAPSE_NONCE_LEN], uint64_t first, uint64_t limit);
 
 /* Returns the number of the next message, for example to send it along, or 0 for a sealer of zeros. */
-DEERLAPSE_ANSWERS
+DEERLAPSE_NODISCARD
 uint64_t deerlapse_sealer_next(const deerlapse_sealer *sealer);
 
 /* Does the same as deerlapse_key_seal under the nonce of the next number, and then counts the number up by one.
  *
  * Returns false if the next number is not below limit, if the sealer is zeros, or for lengths for which deerlapse_key_seal
  * does. The sealer is then unchanged. */
-DEERLAPSE_ANSWERS
+DEERLAPSE_NODISCARD
 bool deerlapse_sealer_seal(deerlapse_sealer *sealer, const uint8_t *aad, size_t aad_len, uint8_t *in_out,
                            size_t in_out_len, uint8_t tag[DEERLAPSE_TAG_LEN]);
 
-/* A key that opens what a sealer with the same key and IV sealed, in order or by number. Zeros, other memory, wiping and
- * the room for a later version are as for a sealer. A copy counts separately. Only one thread at a time may open in order.
+/* Overwrites a sealer with zeros. It then seals nothing. This does not clear what earlier calls left on the stack. */
+DEERLAPSE_CALL
+void deerlapse_sealer_wipe(deerlapse_sealer *sealer);
+
+/* A key that opens what a sealer with the same key and IV sealed, in order or by number. Zeros, other memory and the room
+ * for a later version are as for a sealer. A copy counts separately. Only one thread at a time may open in order.
  * Any number of threads may open by number, as long as none initializes it or opens in order at the same time. */
 typedef struct deerlapse_opener {
     uint64_t words[400]; /* private: neither read nor write them */
 } deerlapse_opener;
 
 /* Initializes an opener, as deerlapse_sealer_init does a sealer. */
-DEERLAPSE_ANSWERS
+DEERLAPSE_NODISCARD
 bool deerlapse_opener_init(deerlapse_opener *opener, const uint8_t *key, size_t key_len,
                            const uint8_t iv[DEERLAPSE_NONCE_LEN], uint64_t first, uint64_t limit);
 
 /* Returns the number of the message that is opened next in order. */
-DEERLAPSE_ANSWERS
+DEERLAPSE_NODISCARD
 uint64_t deerlapse_opener_next(const deerlapse_opener *opener);
 
 /* Does the same as deerlapse_key_open under the nonce of the next number, and then counts the number up by one.
  *
  * Returns false if the next number is not below limit, if the opener is zeros, or if deerlapse_key_open does. The opener is
  * then unchanged, so the message with that number can still be opened. */
-DEERLAPSE_ANSWERS
+DEERLAPSE_NODISCARD
 bool deerlapse_opener_open(deerlapse_opener *opener, const uint8_t *aad, size_t aad_len, uint8_t *in_out,
                            size_t in_out_len, size_t start, size_t *plaintext_len);
 
@@ -216,24 +251,28 @@ bool deerlapse_opener_open(deerlapse_opener *opener, const uint8_t *aad, size_t 
  * responsibility.
  *
  * Returns false if the opener is zeros, or if deerlapse_key_open does. */
-DEERLAPSE_ANSWERS
+DEERLAPSE_NODISCARD
 bool deerlapse_opener_open_number(const deerlapse_opener *opener, uint64_t number, const uint8_t *aad, size_t aad_len,
                                   uint8_t *in_out, size_t in_out_len, size_t start, size_t *plaintext_len);
+
+/* Overwrites an opener with zeros. It then opens nothing. */
+DEERLAPSE_CALL
+void deerlapse_opener_wipe(deerlapse_opener *opener);
 
 /* Writes the nonce of a number under an IV, for opening with deerlapse_key_open what a sealer sealed. */
 DEERLAPSE_CALL
 void deerlapse_nonce(const uint8_t iv[DEERLAPSE_NONCE_LEN], uint64_t number, uint8_t nonce[DEERLAPSE_NONCE_LEN]);
 
-/* Writes QUIC's header protection mask for a sample, with AES (RFC 9001 section 5.4.3).
+/* Does the same as deerlapse_key_mask under a key that is expanded for this sample only.
  *
  *   key   key_len bytes: 16 for AES-128, 32 for AES-256
  *
  * Returns false if key_len is neither 16 nor 32. */
-DEERLAPSE_ANSWERS
+DEERLAPSE_NODISCARD
 bool deerlapse_mask_aes(const uint8_t *key, size_t key_len, const uint8_t sample[DEERLAPSE_SAMPLE_LEN],
                         uint8_t mask[DEERLAPSE_MASK_LEN]);
 
-/* The same with ChaCha20 (RFC 9001 section 5.4.4). */
+/* The same with ChaCha20 (RFC 9001 section 5.4.4), which has no key to expand. */
 DEERLAPSE_CALL
 void deerlapse_mask_chacha20(const uint8_t key[32], const uint8_t sample[DEERLAPSE_SAMPLE_LEN],
                              uint8_t mask[DEERLAPSE_MASK_LEN]);
@@ -244,7 +283,7 @@ void deerlapse_mask_chacha20(const uint8_t key[32], const uint8_t sample[DEERLAP
  *   in_out   in_out_len bytes
  *
  * Returns false if the stream would go past the last block, whose counter is 2^32 - 1. */
-DEERLAPSE_ANSWERS
+DEERLAPSE_NODISCARD
 bool deerlapse_chacha20(const uint8_t key[32], const uint8_t nonce[DEERLAPSE_NONCE_LEN], uint32_t counter,
                         uint8_t *in_out, size_t in_out_len);
 
@@ -261,7 +300,8 @@ static inline bool deerlapse_cpu_supported(void) {
 }
 
 /* The functions of the library take no null pointer. So from here on, the name of every function that has a pointer with a
- * length is that of a wrapper, which passes another address if the length is 0. */
+ * length is that of a wrapper, which passes another address if the length is 0. Those from one buffer to another, such as
+ * deerlapse_key_seal_to, are wrappers from the start. */
 
 static inline const uint8_t *deerlapse_to_read(const uint8_t *bytes, size_t len) {
     static const uint8_t none = 0;
@@ -297,40 +337,76 @@ bool deerlapse_key_open_nullable(const deerlapse_key *key, const uint8_t nonce[D
 }
 #define deerlapse_key_open deerlapse_key_open_nullable
 
-DEERLAPSE_WRAPS(1, 2, 7)
+DEERLAPSE_WRAPS(1, 2, 8)
 bool deerlapse_key_open_separate_tag_nullable(const deerlapse_key *key, const uint8_t nonce[DEERLAPSE_NONCE_LEN],
                                               const uint8_t *aad, size_t aad_len, uint8_t *in_out,
-                                              size_t in_out_len, const uint8_t tag[DEERLAPSE_TAG_LEN]) {
+                                              size_t in_out_len, size_t start,
+                                              const uint8_t tag[DEERLAPSE_TAG_LEN]) {
     return deerlapse_key_open_separate_tag(key, nonce, deerlapse_to_read(aad, aad_len), aad_len,
-                                           deerlapse_to_write(in_out, in_out_len), in_out_len, tag);
+                                           deerlapse_to_write(in_out, in_out_len), in_out_len, start, tag);
 }
 #define deerlapse_key_open_separate_tag deerlapse_key_open_separate_tag_nullable
 
-/* The two functions of the library do not take the same buffer as `in` and `out`. The wrappers then make the call in place. */
+/* The functions of the library from one buffer to another. They take the length of `out`, and return false if it is another
+ * than the one above; they do not take the same buffer as `in` and `out`. The wrappers then make the call in place. */
 
-DEERLAPSE_WRAPS(1, 2, 9)
-bool deerlapse_key_seal_to_nullable(const deerlapse_key *key, const uint8_t nonce[DEERLAPSE_NONCE_LEN],
-                                    const uint8_t *aad, size_t aad_len, const uint8_t *in, size_t in_len,
-                                    uint8_t *out, size_t out_len, uint8_t tag[DEERLAPSE_TAG_LEN]) {
-    if (in == out) return in_len == out_len && deerlapse_key_seal(key, nonce, aad, aad_len, out, out_len, tag);
-    return deerlapse_key_seal_to(key, nonce, deerlapse_to_read(aad, aad_len), aad_len,
-                                 deerlapse_to_read(in, in_len), in_len, deerlapse_to_write(out, out_len), out_len,
-                                 tag);
-}
-#define deerlapse_key_seal_to deerlapse_key_seal_to_nullable
+DEERLAPSE_NODISCARD
+bool deerlapse_key_seal_to_sized(const deerlapse_key *key, const uint8_t nonce[DEERLAPSE_NONCE_LEN],
+                                 const uint8_t *aad, size_t aad_len, const uint8_t *in, size_t in_len, uint8_t *out,
+                                 size_t out_len, uint8_t tag[DEERLAPSE_TAG_LEN]);
+DEERLAPSE_NODISCARD
+bool deerlapse_key_open_to_sized(const deerlapse_key *key, const uint8_t nonce[DEERLAPSE_NONCE_LEN],
+                                 const uint8_t *aad, size_t aad_len, const uint8_t *in, size_t in_len, uint8_t *out,
+                                 size_t out_len, const uint8_t tag[DEERLAPSE_TAG_LEN]);
+DEERLAPSE_NODISCARD
+bool deerlapse_key_seal_append_tag_sized(const deerlapse_key *key, const uint8_t nonce[DEERLAPSE_NONCE_LEN],
+                                         const uint8_t *aad, size_t aad_len, const uint8_t *in, size_t in_len,
+                                         uint8_t *out, size_t out_len);
+DEERLAPSE_NODISCARD
+bool deerlapse_key_open_appended_tag_sized(const deerlapse_key *key, const uint8_t nonce[DEERLAPSE_NONCE_LEN],
+                                           const uint8_t *aad, size_t aad_len, const uint8_t *in, size_t in_len,
+                                           uint8_t *out, size_t out_len);
 
-DEERLAPSE_WRAPS(1, 2, 9)
-bool deerlapse_key_open_to_nullable(const deerlapse_key *key, const uint8_t nonce[DEERLAPSE_NONCE_LEN],
-                                    const uint8_t *aad, size_t aad_len, const uint8_t *in, size_t in_len,
-                                    uint8_t *out, size_t out_len, const uint8_t tag[DEERLAPSE_TAG_LEN]) {
-    if (in == out) {
-        return in_len == out_len && deerlapse_key_open_separate_tag(key, nonce, aad, aad_len, out, out_len, tag);
-    }
-    return deerlapse_key_open_to(key, nonce, deerlapse_to_read(aad, aad_len), aad_len,
-                                 deerlapse_to_read(in, in_len), in_len, deerlapse_to_write(out, out_len), out_len,
-                                 tag);
+DEERLAPSE_WRAPS(1, 2, 8)
+bool deerlapse_key_seal_to(const deerlapse_key *key, const uint8_t nonce[DEERLAPSE_NONCE_LEN], const uint8_t *aad,
+                           size_t aad_len, const uint8_t *in, size_t in_len, uint8_t *out,
+                           uint8_t tag[DEERLAPSE_TAG_LEN]) {
+    if (in == out) return deerlapse_key_seal(key, nonce, aad, aad_len, out, in_len, tag);
+    return deerlapse_key_seal_to_sized(key, nonce, deerlapse_to_read(aad, aad_len), aad_len,
+                                       deerlapse_to_read(in, in_len), in_len, deerlapse_to_write(out, in_len), in_len,
+                                       tag);
 }
-#define deerlapse_key_open_to deerlapse_key_open_to_nullable
+
+DEERLAPSE_WRAPS(1, 2, 8)
+bool deerlapse_key_open_to(const deerlapse_key *key, const uint8_t nonce[DEERLAPSE_NONCE_LEN], const uint8_t *aad,
+                           size_t aad_len, const uint8_t *in, size_t in_len, uint8_t *out,
+                           const uint8_t tag[DEERLAPSE_TAG_LEN]) {
+    if (in == out) return deerlapse_key_open_separate_tag(key, nonce, aad, aad_len, out, in_len, 0, tag);
+    return deerlapse_key_open_to_sized(key, nonce, deerlapse_to_read(aad, aad_len), aad_len,
+                                       deerlapse_to_read(in, in_len), in_len, deerlapse_to_write(out, in_len), in_len,
+                                       tag);
+}
+
+DEERLAPSE_WRAPS(1, 2, 7)
+bool deerlapse_key_seal_append_tag(const deerlapse_key *key, const uint8_t nonce[DEERLAPSE_NONCE_LEN],
+                                   const uint8_t *aad, size_t aad_len, const uint8_t *in, size_t in_len,
+                                   uint8_t *out) {
+    if (in == out) return deerlapse_key_seal(key, nonce, aad, aad_len, out, in_len, out + in_len);
+    return deerlapse_key_seal_append_tag_sized(key, nonce, deerlapse_to_read(aad, aad_len), aad_len,
+                                               deerlapse_to_read(in, in_len), in_len, out,
+                                               in_len + DEERLAPSE_TAG_LEN);
+}
+
+DEERLAPSE_WRAPS(1, 2)
+bool deerlapse_key_open_appended_tag(const deerlapse_key *key, const uint8_t nonce[DEERLAPSE_NONCE_LEN],
+                                     const uint8_t *aad, size_t aad_len, const uint8_t *in, size_t in_len,
+                                     uint8_t *out) {
+    size_t out_len = in_len - DEERLAPSE_TAG_LEN;
+    if (in_len < DEERLAPSE_TAG_LEN) return false;
+    if (in == out) return deerlapse_key_open(key, nonce, aad, aad_len, out, in_len, 0, &out_len);
+    return deerlapse_key_open_appended_tag_sized(key, nonce, deerlapse_to_read(aad, aad_len), aad_len, in, in_len,
+                                                 deerlapse_to_write(out, out_len), out_len);
+}
 
 DEERLAPSE_WRAPS(3, 8)
 bool deerlapse_seal_nullable(const uint8_t *key, size_t key_len, const uint8_t nonce[DEERLAPSE_NONCE_LEN],
@@ -408,7 +484,7 @@ bool deerlapse_chacha20_nullable(const uint8_t key[32], const uint8_t nonce[DEER
 #endif
 
 #undef DEERLAPSE_CALL
-#undef DEERLAPSE_ANSWERS
+#undef DEERLAPSE_NODISCARD
 #undef DEERLAPSE_WRAPS
 
 #endif

@@ -1,3 +1,4 @@
 -- The definitions that the contracts of the exports use, besides those of the library.
 pub mod AesKey
 pub mod NumberedKey
+pub mod Version

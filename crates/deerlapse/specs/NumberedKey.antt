@@ -1,7 +1,7 @@
 -- A `NumberedKey`, which is a sealer or an opener, as contracts see it.
-use Rattle.std.specs.Prelude.{ℕ, List}
+use Rattle.std.specs.Prelude.{ℕ, List, replicate}
 use Rattle.aead_ciphers.specs.Counting.{xored_nonce}
-use Rattle.aead_ciphers_wide.specs.ExpandedKey.{bytes_of}
+use Rattle.aead_ciphers_wide.specs.ExpandedKey.{bytes_of, zero_key}
 use Rattle.deerlapse.specs.declared.numbered_key.NumberedKey.{NumberedKey}
 
 -- the bytes of its key
@@ -11,3 +11,7 @@ key_of numbered = bytes_of numbered.key
 -- the nonce of its next number (RFC 8446 section 5.3)
 abbrev pub next_nonce : NumberedKey → List ℕ
 next_nonce numbered = xored_nonce numbered.iv numbered.next
+
+-- the fields of one that is wiped: all zeros, so that it has no number left
+abbrev pub zero_numbered_key : NumberedKey
+zero_numbered_key = record { key = zero_key; next = 0; limit = 0; iv = replicate 12 0 }

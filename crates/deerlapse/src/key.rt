@@ -9,7 +9,7 @@ ghost use Rattle.deerlapse.specs.AesKey.{HasRounds, IsAesKeyLen, IsKeyOrNone};
 
 use aead_ciphers::aead::{Aad, MAX_TAG_LEN, NONCE_LEN, Nonce, Tag, Unspecified};
 use aead_ciphers_base::aes::{AES_256_KEY_LEN, KeyBytes, Work};
-use aead_ciphers_wide::aes_gcm::ExpandedKey;
+use aead_ciphers_wide::aes_gcm::{ExpandedKey, fits};
 use std::mem::size_of;
 
 // The `words` of the type in the header have as many bytes.
@@ -125,26 +125,30 @@ pub extern "C" fn deerlapse_key_open(
     }
 }
 
-/// Does the same as `deerlapse_key_open` for a ciphertext that is the whole of `in_out`, with a separate tag.
+/// Does the same as `deerlapse_key_open` for a ciphertext from `start` on, with a separate tag. The tag is not read before the
+/// lengths are checked, since it may come right after `in_out`.
 #[unsafe(no_mangle)]
 pub extern "C" fn deerlapse_key_open_separate_tag(
     key: &ExpandedKey,
     nonce: &[u8; NONCE_LEN],
     aad: &[u8],
     in_out: &mut [u8],
+    start: usize,
     tag: &[u8; MAX_TAG_LEN],
 ) -> bool
     requires { IsKeyOrNone key.now }
     ensures filled { IsTrue result → HasRounds key.now }
-    ensures opened { HasRounds key.now
-        → Opened (aes (bytes_of key.now)) nonce.now aad.now tag.now 0 in_out.old result in_out.new }
+    ensures opened { HasRounds key.now → Opened (aes (bytes_of key.now)) nonce.now aad.now tag.now
+        start in_out.old result in_out.new }
     ensures refused { IsFalse result → in_out.new ≡ in_out.old }
 {
-    if !has_rounds(key) {
-        return false;
+    match in_out.len().checked_sub(start) {
+        Some(len) if has_rounds(key) && fits(aad.len(), len) => {
+            let nonce = Nonce::assume_unique_for_key(*nonce);
+            let tag = Tag::from(*tag);
+            key.open_to_front(nonce, Aad::from(aad), tag, in_out, start..)
+                .is_ok()
+        }
+        _ => false,
     }
-    let nonce = Nonce::assume_unique_for_key(*nonce);
-    let tag = Tag::from(*tag);
-    key.open_to_front(nonce, Aad::from(aad), tag, in_out, 0..)
-        .is_ok()
 }

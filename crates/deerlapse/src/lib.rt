@@ -14,3 +14,4 @@ mod out_of_place;
 mod sealer;
 #[cfg(test)]
 mod tests;
+mod version;

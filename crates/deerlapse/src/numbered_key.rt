@@ -4,8 +4,9 @@ ghost use Rattle.std.specs.Prelude.{◌≡◌, ◌≤◌, ◌↔◌, length, IsT
 ghost use Rattle.aead_ciphers_wide.specs.ExpandedKey.{IsExpanded, bytes_of};
 ghost use Rattle.aead_ciphers.specs.Counting.{xored_nonce};
 ghost use Rattle.deerlapse.specs.AesKey.{IsAesKeyLen};
+ghost use Rattle.deerlapse.specs.NumberedKey.{zero_numbered_key};
 
-use crate::key::aes_key;
+use crate::key::{aes_key, deerlapse_key_wipe};
 use aead_ciphers::aead::{NONCE_LEN, nonce_of};
 use aead_ciphers_base::aes::Work;
 use aead_ciphers_wide::aes_gcm::ExpandedKey;
@@ -57,6 +58,16 @@ pub(crate) fn fill(
     numbered.limit = limit;
     numbered.iv = *iv;
     true
+}
+
+/// Overwrites a key with zeros. It has no number left, and its key is none.
+pub(crate) fn wipe(numbered: &mut NumberedKey)
+    ensures { numbered.new ≡ zero_numbered_key }
+{
+    deerlapse_key_wipe(&mut numbered.key);
+    numbered.next = 0;
+    numbered.limit = 0;
+    numbered.iv = [0; NONCE_LEN];
 }
 
 /// Writes the nonce of 12 bytes for a number under an IV (RFC 8446 section 5.3), for opening what a sealer sealed.

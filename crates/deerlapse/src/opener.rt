@@ -6,10 +6,10 @@ ghost use Rattle.aead_ciphers.specs.Counting.{xored_nonce};
 ghost use Rattle.aead_ciphers_wide.specs.ExpandedKey.{IsExpanded};
 ghost use Rattle.aead_ciphers.specs.Gcm.{OpenedAttached};
 ghost use Rattle.deerlapse.specs.AesKey.{HasRounds, IsAesKeyLen, IsKeyOrNone};
-ghost use Rattle.deerlapse.specs.NumberedKey.{key_of, next_nonce};
+ghost use Rattle.deerlapse.specs.NumberedKey.{key_of, next_nonce, zero_numbered_key};
 
 use crate::key::deerlapse_key_open;
-use crate::numbered_key::{NumberedKey, fill};
+use crate::numbered_key::{NumberedKey, fill, wipe};
 use aead_ciphers::aead::{NONCE_LEN, nonce_of};
 
 /// Initializes an opener whose first message has the number `first`. Its previous bytes are not read.
@@ -105,4 +105,12 @@ pub extern "C" fn deerlapse_opener_open_number(
         start,
         plaintext_len,
     )
+}
+
+/// Overwrites an opener with zeros. It then opens nothing.
+#[unsafe(no_mangle)]
+pub extern "C" fn deerlapse_opener_wipe(opener: &mut NumberedKey)
+    ensures { opener.new ≡ zero_numbered_key }
+{
+    wipe(opener);
 }

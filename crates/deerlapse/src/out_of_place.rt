@@ -1,21 +1,20 @@
-//! Sealing and opening from one buffer to another, which do not overlap.
+//! Sealing and opening from one buffer to another, which do not overlap. A wrapper in the header passes the length of `out`.
 
-ghost use Rattle.std.specs.Prelude.{◌≡◌, ◌↔◌, length, IsTrue, IsFalse};
+ghost use Rattle.std.specs.Prelude.{◌≡◌, ◌+◌, ◌↔◌, length, take, drop, IsTrue, IsFalse};
 ghost use Rattle.aead_ciphers_base.specs.Aes.{aes};
 ghost use Rattle.aead_ciphers_wide.specs.ExpandedKey.{bytes_of};
-ghost use Rattle.aead_ciphers.specs.Gcm.{Fits, gcm_decrypted, gcm_encrypted, gcm_tag};
+ghost use Rattle.aead_ciphers.specs.Gcm.{Fits, gcm_decrypted, gcm_encrypted, gcm_sealed, gcm_tag};
 ghost use Rattle.deerlapse.specs.AesKey.{HasRounds, IsKeyOrNone};
 
 use crate::key::{deerlapse_key_seal, has_rounds};
 use aead_ciphers::aead::{Aad, MAX_TAG_LEN, NONCE_LEN, Nonce, Tag};
-use aead_ciphers::gcm::MAX_IN_OUT_LEN;
-use aead_ciphers_wide::aes_gcm::ExpandedKey;
+use aead_ciphers_wide::aes_gcm::{ExpandedKey, fits};
 
 /// Does the same as `deerlapse_key_seal`, but leaves the message unchanged and writes the ciphertext to `out`.
 ///
 /// Also returns false if `out` does not have as many bytes as the message.
 #[unsafe(no_mangle)]
-pub extern "C" fn deerlapse_key_seal_to(
+pub extern "C" fn deerlapse_key_seal_to_sized(
     key: &ExpandedKey,
     nonce: &[u8; NONCE_LEN],
     aad: &[u8],
@@ -32,8 +31,7 @@ pub extern "C" fn deerlapse_key_seal_to(
         → tag.new ≡ gcm_tag (aes (bytes_of key.now)) nonce.now aad.now out.new }
     ensures refused { IsFalse result → (out.new ≡ out.old) × (tag.new ≡ tag.old) }
 {
-    let fits = message.len() <= MAX_IN_OUT_LEN && aad.len() < 1 << 61;
-    if !has_rounds(key) || out.len() != message.len() || !fits {
+    if !has_rounds(key) || out.len() != message.len() || !fits(aad.len(), message.len()) {
         return false;
     }
     out.copy_from_slice(message);
@@ -41,11 +39,11 @@ pub extern "C" fn deerlapse_key_seal_to(
 }
 
 /// Does the same as `deerlapse_key_open_separate_tag`, but leaves the ciphertext unchanged and writes the plaintext to `out`,
-/// after the tag is verified.
+/// after the tag is verified. The tag is not read before the lengths are checked, since it may come right after the ciphertext.
 ///
 /// Also returns false if `out` does not have as many bytes as the ciphertext.
 #[unsafe(no_mangle)]
-pub extern "C" fn deerlapse_key_open_to(
+pub extern "C" fn deerlapse_key_open_to_sized(
     key: &ExpandedKey,
     nonce: &[u8; NONCE_LEN],
     aad: &[u8],
@@ -61,10 +59,68 @@ pub extern "C" fn deerlapse_key_open_to(
         → out.new ≡ gcm_decrypted (aes (bytes_of key.now)) nonce.now ciphertext.now }
     ensures refused { IsFalse result → out.new ≡ out.old }
 {
-    if !has_rounds(key) || out.len() != ciphertext.len() {
+    if !has_rounds(key) || out.len() != ciphertext.len() || !fits(aad.len(), ciphertext.len()) {
         return false;
     }
     let nonce = Nonce::assume_unique_for_key(*nonce);
     key.open_to(nonce, Aad::from(aad), Tag::from(*tag), ciphertext, out)
         .is_ok()
+}
+
+/// Does the same as `deerlapse_key_seal`, but leaves the message unchanged and writes the ciphertext and its tag to `out`: n
+/// bytes become n + 16.
+///
+/// Also returns false if `out` does not have 16 bytes more than the message.
+#[unsafe(no_mangle)]
+pub extern "C" fn deerlapse_key_seal_append_tag_sized(
+    key: &ExpandedKey,
+    nonce: &[u8; NONCE_LEN],
+    aad: &[u8],
+    message: &[u8],
+    out: &mut [u8],
+) -> bool
+    requires { IsKeyOrNone key.now }
+    ensures accepted { IsTrue result
+        ↔ (HasRounds key.now × (length out.old ≡ length message.now + 16)
+        × Fits (length aad.now) (length message.now)) }
+    ensures sealed { IsTrue result
+        → out.new ≡ gcm_sealed (aes (bytes_of key.now)) nonce.now aad.now message.now }
+    ensures refused { IsFalse result → out.new ≡ out.old }
+{
+    match out.split_last_chunk_mut::<MAX_TAG_LEN>() {
+        Some((ciphertext, tag)) => {
+            deerlapse_key_seal_to_sized(key, nonce, aad, message, ciphertext, tag)
+        }
+        None => false,
+    }
+}
+
+/// Does the same as `deerlapse_key_open` for a ciphertext and tag that are the whole of `ciphertext_and_tag`, but leaves them
+/// unchanged and writes the plaintext to `out`, after the tag is verified: n bytes become n - 16.
+///
+/// Also returns false if `out` does not have 16 bytes less.
+#[unsafe(no_mangle)]
+pub extern "C" fn deerlapse_key_open_appended_tag_sized(
+    key: &ExpandedKey,
+    nonce: &[u8; NONCE_LEN],
+    aad: &[u8],
+    ciphertext_and_tag: &[u8],
+    out: &mut [u8],
+) -> bool
+    requires { IsKeyOrNone key.now }
+    ensures accepted { let n = length out.old in let ciphertext = take n ciphertext_and_tag.now in
+        IsTrue result
+        ↔ (HasRounds key.now × (length ciphertext_and_tag.now ≡ n + 16) × Fits (length aad.now) n
+        × (drop n ciphertext_and_tag.now ≡ gcm_tag (aes (bytes_of key.now)) nonce.now aad.now
+        ciphertext)) }
+    ensures plaintext { IsTrue result → out.new ≡ gcm_decrypted (aes (bytes_of key.now)) nonce.now
+        (take (length out.old) ciphertext_and_tag.now) }
+    ensures refused { IsFalse result → out.new ≡ out.old }
+{
+    match ciphertext_and_tag.split_last_chunk::<MAX_TAG_LEN>() {
+        Some((ciphertext, tag)) => {
+            deerlapse_key_open_to_sized(key, nonce, aad, ciphertext, out, tag)
+        }
+        None => false,
+    }
 }

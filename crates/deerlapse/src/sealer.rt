@@ -5,10 +5,10 @@ ghost use Rattle.aead_ciphers_base.specs.Aes.{aes};
 ghost use Rattle.aead_ciphers_wide.specs.ExpandedKey.{IsExpanded};
 ghost use Rattle.aead_ciphers.specs.Gcm.{Fits, gcm_encrypted, gcm_tag};
 ghost use Rattle.deerlapse.specs.AesKey.{HasRounds, IsAesKeyLen, IsKeyOrNone};
-ghost use Rattle.deerlapse.specs.NumberedKey.{key_of, next_nonce};
+ghost use Rattle.deerlapse.specs.NumberedKey.{key_of, next_nonce, zero_numbered_key};
 
 use crate::key::deerlapse_key_seal;
-use crate::numbered_key::{NumberedKey, fill};
+use crate::numbered_key::{NumberedKey, fill, wipe};
 use aead_ciphers::aead::{MAX_TAG_LEN, NONCE_LEN, nonce_of};
 
 /// Initializes a sealer whose first message gets the number `first`. Its previous bytes are not read. A copy of it would use
@@ -72,4 +72,12 @@ pub extern "C" fn deerlapse_sealer_seal(
     }
     sealer.next += 1;
     true
+}
+
+/// Overwrites a sealer with zeros. It then seals nothing.
+#[unsafe(no_mangle)]
+pub extern "C" fn deerlapse_sealer_wipe(sealer: &mut NumberedKey)
+    ensures { sealer.new ≡ zero_numbered_key }
+{
+    wipe(sealer);
 }

@@ -1,18 +1,23 @@
 //! The calls on standard vectors.
 
+ghost use Rattle.deerlapse.specs.AesKey.{IsKeyOrNone};
+
 use crate::aes_gcm::{deerlapse_open, deerlapse_seal};
 use crate::chacha20::deerlapse_chacha20;
 use crate::key::{
     deerlapse_key_init, deerlapse_key_open, deerlapse_key_open_separate_tag, deerlapse_key_seal,
     deerlapse_key_wipe,
 };
-use crate::masks::{deerlapse_mask_aes, deerlapse_mask_chacha20};
+use crate::masks::{deerlapse_key_mask, deerlapse_mask_aes, deerlapse_mask_chacha20};
 use crate::numbered_key::{NumberedKey, deerlapse_nonce};
 use crate::opener::{
     deerlapse_opener_init, deerlapse_opener_next, deerlapse_opener_open,
     deerlapse_opener_open_number,
 };
-use crate::out_of_place::{deerlapse_key_open_to, deerlapse_key_seal_to};
+use crate::out_of_place::{
+    deerlapse_key_open_appended_tag_sized, deerlapse_key_open_to_sized,
+    deerlapse_key_seal_append_tag_sized, deerlapse_key_seal_to_sized,
+};
 use crate::sealer::{deerlapse_sealer_init, deerlapse_sealer_next, deerlapse_sealer_seal};
 use aead_ciphers_wide::aes_gcm::ExpandedKey;
 use aead_vectors::gcm_spec::{CASES, Case};
@@ -93,21 +98,44 @@ fn seals_and_opens_apart(rt: &impl Abort, alloc: Global, case: &Case) -> Result<
     let (nonce, aad) = (&case.nonce, case.aad.as_slice());
     let mut sealed = vec![in alloc; 0; case.message.len()]?;
     let mut tag = [0; 16];
-    let made = deerlapse_key_seal_to(&key, nonce, aad, &case.message, &mut sealed, &mut tag);
+    let made = deerlapse_key_seal_to_sized(&key, nonce, aad, &case.message, &mut sealed, &mut tag);
     accepted(rt, made, case.name);
     same(rt, &sealed, &case.ciphertext, case.name);
     same(rt, &tag, &case.tag, case.name);
 
     let mut message = vec![in alloc; 0; case.message.len()]?;
-    let false_tag = deerlapse_key_open_to(&key, nonce, aad, &sealed, &mut message, &[0; 16]);
+    let false_tag = deerlapse_key_open_to_sized(&key, nonce, aad, &sealed, &mut message, &[0; 16]);
     accepted(rt, !false_tag, case.name);
-    let opened = deerlapse_key_open_to(&key, nonce, aad, &sealed, &mut message, &tag);
+    let opened = deerlapse_key_open_to_sized(&key, nonce, aad, &sealed, &mut message, &tag);
     accepted(rt, opened, case.name);
     same(rt, &message, &case.message, case.name);
 
-    let opened = deerlapse_key_open_separate_tag(&key, nonce, aad, &mut sealed, &tag);
+    let opened = deerlapse_key_open_separate_tag(&key, nonce, aad, &mut sealed, 0, &tag);
     accepted(rt, opened, case.name);
     same(rt, &sealed, &case.message, case.name);
+    appends_and_opens(rt, alloc, &key, case)
+}
+
+/// Seals a case's message with the tag after the ciphertext, from one buffer to another and back.
+fn appends_and_opens(
+    rt: &impl Abort,
+    alloc: Global,
+    key: &ExpandedKey,
+    case: &Case,
+) -> Result<(), Fail>
+    requires { IsKeyOrNone key.now }
+{
+    let (nonce, aad) = (&case.nonce, case.aad.as_slice());
+    let wanted = sealed_bytes(case)?;
+    let mut sealed = vec![in alloc; 0; wanted.len()]?;
+    let made = deerlapse_key_seal_append_tag_sized(key, nonce, aad, &case.message, &mut sealed);
+    accepted(rt, made, case.name);
+    same(rt, &sealed, &wanted, case.name);
+
+    let mut message = vec![in alloc; 0; case.message.len()]?;
+    let opened = deerlapse_key_open_appended_tag_sized(key, nonce, aad, &sealed, &mut message);
+    accepted(rt, opened, case.name);
+    same(rt, &message, &case.message, case.name);
     Ok(())
 }
 
@@ -195,6 +223,13 @@ fn gcm_spec(rt: HostRuntime) -> Result<(), Fail> {
 fn masks_a_block(rt: &impl Abort, case: &fips_197::Case) {
     let mut mask = [0; 5];
     let answer = deerlapse_mask_aes(&case.key, &case.plaintext, &mut mask);
+    accepted(rt, answer, case.name);
+    same(rt, &mask, &case.ciphertext[..5], case.name);
+
+    let mut key = ExpandedKey::zeros();
+    let mut mask = [0; 5];
+    let answer = deerlapse_key_init(&mut key, &case.key)
+        && deerlapse_key_mask(&key, &case.plaintext, &mut mask);
     accepted(rt, answer, case.name);
     same(rt, &mask, &case.ciphertext[..5], case.name);
 }

@@ -9,6 +9,11 @@ use aead::consts::{U0, U12, U16, U32};
 use aead::{AeadCore, AeadInPlace, Error, Key, KeyInit, KeySizeUser, Nonce, Tag};
 use deerlapse::LessSafeKey;
 
+/// The nonce of a call.
+fn of_bytes(nonce: &[u8]) -> deerlapse::Nonce {
+    deerlapse::Nonce::try_assume_unique_for_key(nonce).expect("a nonce of these types has 12 bytes")
+}
+
 /// Defines a key type of one length, with the traits.
 macro_rules! cipher {
     ($(#[$documented:meta])* $name:ident, $key_size:ty) => {
@@ -40,7 +45,7 @@ macro_rules! cipher {
                 buffer: &mut [u8],
             ) -> Result<Tag<Self>, Error> {
                 self.0
-                    .seal_in_place_separate_tag((*nonce).into(), associated_data, buffer)
+                    .seal_in_place_separate_tag(of_bytes(nonce), associated_data, buffer)
                     .map(Into::into)
                     .map_err(|_| Error)
             }
@@ -52,7 +57,7 @@ macro_rules! cipher {
                 buffer: &mut [u8],
                 tag: &Tag<Self>,
             ) -> Result<(), Error> {
-                let (nonce, tag) = ((*nonce).into(), (*tag).into());
+                let (nonce, tag) = (of_bytes(nonce), (*tag).into());
                 self.0
                     .open_in_place_separate_tag(nonce, associated_data, tag, buffer, 0..)
                     .map(|_| ())

@@ -21,6 +21,8 @@ pub(crate) struct Opener {
 }
 
 extern "C" {
+    pub(crate) fn deerlapse_version() -> u32;
+
     pub(crate) fn deerlapse_key_init(key: &mut Key, bytes: *const u8, len: usize) -> bool;
 
     pub(crate) fn deerlapse_key_seal(
@@ -44,7 +46,6 @@ extern "C" {
         plaintext_len: &mut usize,
     ) -> bool;
 
-    #[cfg(feature = "alloc")]
     pub(crate) fn deerlapse_key_open_separate_tag(
         key: &Key,
         nonce: &[u8; 12],
@@ -52,10 +53,11 @@ extern "C" {
         aad_len: usize,
         in_out: *mut u8,
         in_out_len: usize,
+        start: usize,
         tag: &[u8; 16],
     ) -> bool;
 
-    pub(crate) fn deerlapse_key_seal_to(
+    pub(crate) fn deerlapse_key_seal_to_sized(
         key: &Key,
         nonce: &[u8; 12],
         aad: *const u8,
@@ -67,7 +69,7 @@ extern "C" {
         tag: &mut [u8; 16],
     ) -> bool;
 
-    pub(crate) fn deerlapse_key_open_to(
+    pub(crate) fn deerlapse_key_open_to_sized(
         key: &Key,
         nonce: &[u8; 12],
         aad: *const u8,
@@ -78,6 +80,30 @@ extern "C" {
         out_len: usize,
         tag: &[u8; 16],
     ) -> bool;
+
+    pub(crate) fn deerlapse_key_seal_append_tag_sized(
+        key: &Key,
+        nonce: &[u8; 12],
+        aad: *const u8,
+        aad_len: usize,
+        message: *const u8,
+        message_len: usize,
+        out: *mut u8,
+        out_len: usize,
+    ) -> bool;
+
+    pub(crate) fn deerlapse_key_open_appended_tag_sized(
+        key: &Key,
+        nonce: &[u8; 12],
+        aad: *const u8,
+        aad_len: usize,
+        ciphertext_and_tag: *const u8,
+        ciphertext_and_tag_len: usize,
+        out: *mut u8,
+        out_len: usize,
+    ) -> bool;
+
+    pub(crate) fn deerlapse_key_mask(key: &Key, sample: &[u8; 16], mask: &mut [u8; 5]) -> bool;
 
     pub(crate) fn deerlapse_key_wipe(key: &mut Key);
 
@@ -100,6 +126,8 @@ extern "C" {
         in_out_len: usize,
         tag: &mut [u8; 16],
     ) -> bool;
+
+    pub(crate) fn deerlapse_sealer_wipe(sealer: &mut Sealer);
 
     pub(crate) fn deerlapse_opener_init(
         opener: &mut Opener,
@@ -132,6 +160,8 @@ extern "C" {
         start: usize,
         plaintext_len: &mut usize,
     ) -> bool;
+
+    pub(crate) fn deerlapse_opener_wipe(opener: &mut Opener);
 
     pub(crate) fn deerlapse_nonce(iv: &[u8; 12], number: u64, nonce: &mut [u8; 12]);
 

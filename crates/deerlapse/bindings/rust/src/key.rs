@@ -1,6 +1,6 @@
 //! A key that is expanded once, and whose calls take the nonce.
 
-use crate::{accepted, cpu, ffi, Unspecified, NONCE_LEN, TAG_LEN};
+use crate::{accepted, cpu, ffi, Nonce, Unspecified, TAG_LEN};
 #[cfg(feature = "alloc")]
 use alloc::vec::Vec;
 use core::fmt;
@@ -16,13 +16,14 @@ use core::ops::RangeFrom;
 /// is wiped when it is dropped; if it was moved, its bytes may remain where it was before.
 ///
 /// ```
-/// use deerlapse::LessSafeKey;
+/// use deerlapse::{LessSafeKey, Nonce};
 ///
 /// let key = LessSafeKey::new(&[0; 32])?; // 32 bytes: AES-256-GCM; 16 bytes: AES-128-GCM
+/// let nonce = || Nonce::assume_unique_for_key([0; 12]);
 /// let mut buffer = b"hello".to_vec();
-/// key.seal_in_place_append_tag([0; 12], b"v1", &mut buffer)?;
+/// key.seal_in_place_append_tag(nonce(), b"v1", &mut buffer)?;
 /// std::thread::scope(|scope| {
-///     scope.spawn(|| assert!(key.open_in_place([0; 12], b"v1", &mut buffer).is_ok()));
+///     scope.spawn(|| assert!(key.open_in_place(nonce(), b"v1", &mut buffer).is_ok()));
 /// });
 /// # Ok::<(), deerlapse::Unspecified>(())
 /// ```
@@ -43,12 +44,7 @@ impl LessSafeKey {
     /// ```
     pub fn new(key_bytes: &[u8]) -> Result<Self, Unspecified> {
         cpu::require();
-        let mut key = LessSafeKey(ffi::Key { words: [0; 369] });
-        // SAFETY: the pointer and its length are those of one slice, and the key is borrowed for writing.
-        accepted(unsafe {
-            ffi::deerlapse_key_init(&mut key.0, key_bytes.as_ptr(), key_bytes.len())
-        })?;
-        Ok(key)
+        Ok(LessSafeKey(ffi::Key::new(key_bytes)?))
     }
 
     /// Encrypts `in_out` in place, and returns the tag of the ciphertext and the AAD.
@@ -56,16 +52,17 @@ impl LessSafeKey {
     /// Fails if the message is longer than 2^36 - 32 bytes.
     ///
     /// ```
-    /// use deerlapse::LessSafeKey;
+    /// use deerlapse::{LessSafeKey, Nonce};
     ///
     /// // McGrew and Viega, "The Galois/Counter Mode of Operation (GCM)", appendix B, test case 1
-    /// let tag = LessSafeKey::new(&[0; 16])?.seal_in_place_separate_tag([0; 12], b"", &mut [])?;
+    /// let nonce = Nonce::assume_unique_for_key([0; 12]);
+    /// let tag = LessSafeKey::new(&[0; 16])?.seal_in_place_separate_tag(nonce, b"", &mut [])?;
     /// assert_eq!(u128::from_be_bytes(tag), 0x58e2fccefa7e3061367f1d57a4e7455a);
     /// # Ok::<(), deerlapse::Unspecified>(())
     /// ```
     pub fn seal_in_place_separate_tag(
         &self,
-        nonce: [u8; NONCE_LEN],
+        nonce: Nonce,
         aad: &[u8],
         in_out: &mut [u8],
     ) -> Result<[u8; TAG_LEN], Unspecified> {
@@ -75,7 +72,7 @@ impl LessSafeKey {
         let sealed = unsafe {
             ffi::deerlapse_key_seal(
                 &self.0,
-                &nonce,
+                nonce.as_ref(),
                 aad.as_ptr(),
                 aad.len(),
                 in_out.as_mut_ptr(),
@@ -92,17 +89,18 @@ impl LessSafeKey {
     /// Fails as [`seal_in_place_separate_tag`](Self::seal_in_place_separate_tag) does.
     ///
     /// ```
-    /// use deerlapse::LessSafeKey;
+    /// use deerlapse::{LessSafeKey, Nonce};
     ///
     /// let mut buffer = b"hello".to_vec();
-    /// LessSafeKey::new(&[0; 16])?.seal_in_place_append_tag([0; 12], b"v1", &mut buffer)?;
+    /// let nonce = Nonce::assume_unique_for_key([0; 12]);
+    /// LessSafeKey::new(&[0; 16])?.seal_in_place_append_tag(nonce, b"v1", &mut buffer)?;
     /// assert_eq!(buffer.len(), 21);
     /// # Ok::<(), deerlapse::Unspecified>(())
     /// ```
     #[cfg(feature = "alloc")]
     pub fn seal_in_place_append_tag(
         &self,
-        nonce: [u8; NONCE_LEN],
+        nonce: Nonce,
         aad: &[u8],
         in_out: &mut Vec<u8>,
     ) -> Result<(), Unspecified> {
@@ -121,18 +119,19 @@ impl LessSafeKey {
     /// [`seal_in_place_separate_tag`](Self::seal_in_place_separate_tag) takes.
     ///
     /// ```
-    /// use deerlapse::LessSafeKey;
+    /// use deerlapse::{LessSafeKey, Nonce};
     ///
     /// let key = LessSafeKey::new(&[0; 16])?;
+    /// let nonce = || Nonce::assume_unique_for_key([0; 12]);
     /// let mut message = b"hello".to_vec();
-    /// key.seal_in_place_append_tag([0; 12], b"v1", &mut message)?;
+    /// key.seal_in_place_append_tag(nonce(), b"v1", &mut message)?;
     /// let mut packet = [b"header".as_slice(), &message].concat();
-    /// assert_eq!(key.open_within([0; 12], b"v1", &mut packet, 6..)?, b"hello");
+    /// assert_eq!(key.open_within(nonce(), b"v1", &mut packet, 6..)?, b"hello");
     /// # Ok::<(), deerlapse::Unspecified>(())
     /// ```
     pub fn open_within<'a>(
         &self,
-        nonce: [u8; NONCE_LEN],
+        nonce: Nonce,
         aad: &[u8],
         in_out: &'a mut [u8],
         ciphertext_and_tag: RangeFrom<usize>,
@@ -142,7 +141,7 @@ impl LessSafeKey {
         let opened = unsafe {
             ffi::deerlapse_key_open(
                 &self.0,
-                &nonce,
+                nonce.as_ref(),
                 aad.as_ptr(),
                 aad.len(),
                 in_out.as_mut_ptr(),
@@ -158,18 +157,19 @@ impl LessSafeKey {
     /// Opens the ciphertext and tag in the whole of `in_out`, as [`open_within`](Self::open_within) does.
     ///
     /// ```
-    /// use deerlapse::{LessSafeKey, Unspecified};
+    /// use deerlapse::{LessSafeKey, Nonce, Unspecified};
     ///
     /// let key = LessSafeKey::new(&[0; 16])?;
+    /// let nonce = |byte| Nonce::assume_unique_for_key([byte; 12]);
     /// let mut buffer = b"hello".to_vec();
-    /// key.seal_in_place_append_tag([0; 12], b"v1", &mut buffer)?;
-    /// assert_eq!(key.open_in_place([1; 12], b"v1", &mut buffer), Err(Unspecified)); // another nonce
-    /// assert_eq!(key.open_in_place([0; 12], b"v1", &mut buffer)?, b"hello");
+    /// key.seal_in_place_append_tag(nonce(0), b"v1", &mut buffer)?;
+    /// assert_eq!(key.open_in_place(nonce(1), b"v1", &mut buffer), Err(Unspecified));
+    /// assert_eq!(key.open_in_place(nonce(0), b"v1", &mut buffer)?, b"hello");
     /// # Ok::<(), deerlapse::Unspecified>(())
     /// ```
     pub fn open_in_place<'a>(
         &self,
-        nonce: [u8; NONCE_LEN],
+        nonce: Nonce,
         aad: &[u8],
         in_out: &'a mut [u8],
     ) -> Result<&'a mut [u8], Unspecified> {
@@ -179,50 +179,44 @@ impl LessSafeKey {
     /// Opens the ciphertext in `in_out` from `ciphertext.start` on, whose tag is `tag`, and returns the plaintext,
     /// which is then at the front of `in_out`. The bytes after it are unchanged.
     ///
-    /// If the start is not 0, the ciphertext is copied first.
-    ///
     /// Fails if the tag is wrong, if the start is after the end, or if a length is not one that
     /// [`seal_in_place_separate_tag`](Self::seal_in_place_separate_tag) takes.
     ///
     /// ```
-    /// use deerlapse::LessSafeKey;
+    /// use deerlapse::{LessSafeKey, Nonce};
     ///
     /// let key = LessSafeKey::new(&[0; 16])?;
-    /// let mut buffer = *b"hello";
-    /// let tag = key.seal_in_place_separate_tag([0; 12], b"v1", &mut buffer)?;
-    /// let opened = key.open_in_place_separate_tag([0; 12], b"v1", tag, &mut buffer, 0..)?;
+    /// let nonce = || Nonce::assume_unique_for_key([0; 12]);
+    /// let mut buffer = *b"v1hello";
+    /// let tag = key.seal_in_place_separate_tag(nonce(), b"v1", &mut buffer[2..])?;
+    /// let opened = key.open_in_place_separate_tag(nonce(), b"v1", tag, &mut buffer, 2..)?;
     /// assert_eq!(opened, b"hello");
     /// # Ok::<(), deerlapse::Unspecified>(())
     /// ```
-    #[cfg(feature = "alloc")]
     pub fn open_in_place_separate_tag<'a>(
         &self,
-        nonce: [u8; NONCE_LEN],
+        nonce: Nonce,
         aad: &[u8],
         tag: [u8; TAG_LEN],
         in_out: &'a mut [u8],
         ciphertext: RangeFrom<usize>,
     ) -> Result<&'a mut [u8], Unspecified> {
-        if ciphertext.start == 0 {
-            // SAFETY: as in `seal_in_place_separate_tag`, and the tag is only read.
-            let opened = unsafe {
-                ffi::deerlapse_key_open_separate_tag(
-                    &self.0,
-                    &nonce,
-                    aad.as_ptr(),
-                    aad.len(),
-                    in_out.as_mut_ptr(),
-                    in_out.len(),
-                    &tag,
-                )
-            };
-            accepted(opened)?;
-            return Ok(in_out);
-        }
-        let ciphertext = in_out.get(ciphertext).ok_or(Unspecified)?.to_vec();
-        let front = &mut in_out[..ciphertext.len()];
-        self.open_to(nonce, aad, tag, &ciphertext, front)?;
-        Ok(front)
+        // SAFETY: as in `seal_in_place_separate_tag`, and the tag is only read.
+        let opened = unsafe {
+            ffi::deerlapse_key_open_separate_tag(
+                &self.0,
+                nonce.as_ref(),
+                aad.as_ptr(),
+                aad.len(),
+                in_out.as_mut_ptr(),
+                in_out.len(),
+                ciphertext.start,
+                &tag,
+            )
+        };
+        accepted(opened)?;
+        let len = in_out.len() - ciphertext.start;
+        Ok(&mut in_out[..len])
     }
 
     /// Encrypts `message` to `out`, and returns the tag of the ciphertext and the AAD.
@@ -231,18 +225,19 @@ impl LessSafeKey {
     /// unchanged.
     ///
     /// ```
-    /// use deerlapse::LessSafeKey;
+    /// use deerlapse::{LessSafeKey, Nonce};
     ///
     /// let key = LessSafeKey::new(&[0; 16])?;
+    /// let nonce = || Nonce::assume_unique_for_key([0; 12]);
     /// let (mut sealed, mut opened) = ([0; 5], [0; 5]);
-    /// let tag = key.seal_to([0; 12], b"v1", b"hello", &mut sealed)?;
-    /// key.open_to([0; 12], b"v1", tag, &sealed, &mut opened)?;
+    /// let tag = key.seal_to(nonce(), b"v1", b"hello", &mut sealed)?;
+    /// key.open_to(nonce(), b"v1", tag, &sealed, &mut opened)?;
     /// assert_eq!(opened, *b"hello");
     /// # Ok::<(), deerlapse::Unspecified>(())
     /// ```
     pub fn seal_to(
         &self,
-        nonce: [u8; NONCE_LEN],
+        nonce: Nonce,
         aad: &[u8],
         message: &[u8],
         out: &mut [u8],
@@ -251,9 +246,9 @@ impl LessSafeKey {
         // SAFETY: each pointer and its length are those of one slice, which is borrowed for the call; `out` and `tag`
         // are borrowed for writing, so they overlap nothing. `new` filled the key.
         let sealed = unsafe {
-            ffi::deerlapse_key_seal_to(
+            ffi::deerlapse_key_seal_to_sized(
                 &self.0,
-                &nonce,
+                nonce.as_ref(),
                 aad.as_ptr(),
                 aad.len(),
                 message.as_ptr(),
@@ -273,17 +268,18 @@ impl LessSafeKey {
     /// [`seal_to`](Self::seal_to) takes. `out` is then unchanged.
     ///
     /// ```
-    /// use deerlapse::{LessSafeKey, Unspecified};
+    /// use deerlapse::{LessSafeKey, Nonce, Unspecified};
     ///
     /// let key = LessSafeKey::new(&[0; 16])?;
+    /// let nonce = Nonce::assume_unique_for_key([0; 12]);
     /// let mut out = *b"12345";
-    /// assert_eq!(key.open_to([0; 12], b"v1", [0; 16], b"hello", &mut out), Err(Unspecified));
+    /// assert_eq!(key.open_to(nonce, b"v1", [0; 16], b"hello", &mut out), Err(Unspecified));
     /// assert_eq!(out, *b"12345");
     /// # Ok::<(), deerlapse::Unspecified>(())
     /// ```
     pub fn open_to(
         &self,
-        nonce: [u8; NONCE_LEN],
+        nonce: Nonce,
         aad: &[u8],
         tag: [u8; TAG_LEN],
         ciphertext: &[u8],
@@ -291,9 +287,9 @@ impl LessSafeKey {
     ) -> Result<(), Unspecified> {
         // SAFETY: as in `seal_to`, and the tag is only read.
         accepted(unsafe {
-            ffi::deerlapse_key_open_to(
+            ffi::deerlapse_key_open_to_sized(
                 &self.0,
-                &nonce,
+                nonce.as_ref(),
                 aad.as_ptr(),
                 aad.len(),
                 ciphertext.as_ptr(),
@@ -304,13 +300,80 @@ impl LessSafeKey {
             )
         })
     }
-}
 
-/// Wipes the key.
-impl Drop for LessSafeKey {
-    fn drop(&mut self) {
-        // SAFETY: the parameter is a reference.
-        unsafe { ffi::deerlapse_key_wipe(&mut self.0) };
+    /// Encrypts `message` to `out`, and writes the tag after the ciphertext: n bytes become n + 16.
+    ///
+    /// Fails if `out` does not have 16 bytes more than `message`, or if the message is longer than 2^36 - 32 bytes. `out`
+    /// is then unchanged.
+    ///
+    /// ```
+    /// use deerlapse::{LessSafeKey, Nonce};
+    ///
+    /// let key = LessSafeKey::new(&[0; 16])?;
+    /// let nonce = || Nonce::assume_unique_for_key([0; 12]);
+    /// let (mut sealed, mut opened) = ([0; 21], [0; 5]);
+    /// key.seal_append_tag_to(nonce(), b"v1", b"hello", &mut sealed)?;
+    /// key.open_appended_tag_to(nonce(), b"v1", &sealed, &mut opened)?;
+    /// assert_eq!(opened, *b"hello");
+    /// # Ok::<(), deerlapse::Unspecified>(())
+    /// ```
+    pub fn seal_append_tag_to(
+        &self,
+        nonce: Nonce,
+        aad: &[u8],
+        message: &[u8],
+        out: &mut [u8],
+    ) -> Result<(), Unspecified> {
+        // SAFETY: as in `seal_to`.
+        accepted(unsafe {
+            ffi::deerlapse_key_seal_append_tag_sized(
+                &self.0,
+                nonce.as_ref(),
+                aad.as_ptr(),
+                aad.len(),
+                message.as_ptr(),
+                message.len(),
+                out.as_mut_ptr(),
+                out.len(),
+            )
+        })
+    }
+
+    /// Opens the ciphertext and the tag after it to `out`: n bytes become n - 16.
+    ///
+    /// Fails if the tag is wrong, if `out` does not have 16 bytes less than `ciphertext_and_tag`, or if a length is not
+    /// one that [`seal_append_tag_to`](Self::seal_append_tag_to) takes. `out` is then unchanged.
+    ///
+    /// ```
+    /// use deerlapse::{LessSafeKey, Nonce, Unspecified};
+    ///
+    /// let key = LessSafeKey::new(&[0; 16])?;
+    /// let nonce = Nonce::assume_unique_for_key([0; 12]);
+    /// let mut out = *b"12345";
+    /// assert_eq!(key.open_appended_tag_to(nonce, b"v1", &[0; 21], &mut out), Err(Unspecified));
+    /// assert_eq!(out, *b"12345");
+    /// # Ok::<(), deerlapse::Unspecified>(())
+    /// ```
+    pub fn open_appended_tag_to(
+        &self,
+        nonce: Nonce,
+        aad: &[u8],
+        ciphertext_and_tag: &[u8],
+        out: &mut [u8],
+    ) -> Result<(), Unspecified> {
+        // SAFETY: as in `seal_to`.
+        accepted(unsafe {
+            ffi::deerlapse_key_open_appended_tag_sized(
+                &self.0,
+                nonce.as_ref(),
+                aad.as_ptr(),
+                aad.len(),
+                ciphertext_and_tag.as_ptr(),
+                ciphertext_and_tag.len(),
+                out.as_mut_ptr(),
+                out.len(),
+            )
+        })
     }
 }
 
@@ -318,5 +381,23 @@ impl Drop for LessSafeKey {
 impl fmt::Debug for LessSafeKey {
     fn fmt(&self, f: &mut fmt::Formatter<'_>) -> fmt::Result {
         f.debug_struct("LessSafeKey").finish_non_exhaustive()
+    }
+}
+
+impl ffi::Key {
+    /// Expands a key of 16 or 32 bytes.
+    pub(crate) fn new(bytes: &[u8]) -> Result<Self, Unspecified> {
+        let mut key = ffi::Key { words: [0; 369] };
+        // SAFETY: the pointer and its length are those of one slice, and the key is borrowed for writing.
+        accepted(unsafe { ffi::deerlapse_key_init(&mut key, bytes.as_ptr(), bytes.len()) })?;
+        Ok(key)
+    }
+}
+
+/// Wipes the key.
+impl Drop for ffi::Key {
+    fn drop(&mut self) {
+        // SAFETY: the parameter is a reference.
+        unsafe { ffi::deerlapse_key_wipe(self) };
     }
 }

@@ -7,40 +7,69 @@ extern crate alloc;
 
 mod cpu;
 mod ffi;
+mod header_key;
 mod key;
+mod nonce;
 mod opener;
 mod sealer;
 mod streams;
 
 pub use cpu::cpu_supported;
+pub use header_key::HeaderProtectionKey;
 pub use key::LessSafeKey;
+pub use nonce::{nonce_of, Nonce};
 pub use opener::Opener;
-pub use sealer::{nonce_of, Sealer};
+pub use sealer::Sealer;
 pub use streams::{chacha20, mask_aes, mask_chacha20};
 
 use core::error::Error;
 use core::fmt;
-use core::ptr;
-use core::sync::atomic::{compiler_fence, Ordering};
 
 /// The length of a nonce, in bytes.
 ///
 /// ```
-/// assert_eq!(deerlapse::nonce_of(&[0; 12], 1).len(), deerlapse::NONCE_LEN);
+/// assert_eq!(deerlapse::nonce_of(&[0; 12], 1).as_ref().len(), deerlapse::NONCE_LEN);
 /// ```
 pub const NONCE_LEN: usize = 12;
 
 /// The length of a tag, in bytes.
 ///
 /// ```
-/// use deerlapse::{LessSafeKey, TAG_LEN};
+/// use deerlapse::{LessSafeKey, Nonce, TAG_LEN};
 ///
 /// let mut buffer = b"hello".to_vec();
-/// LessSafeKey::new(&[0; 16])?.seal_in_place_append_tag([0; 12], b"", &mut buffer)?;
+/// let nonce = Nonce::assume_unique_for_key([0; 12]);
+/// LessSafeKey::new(&[0; 16])?.seal_in_place_append_tag(nonce, b"", &mut buffer)?;
 /// assert_eq!(buffer.len(), 5 + TAG_LEN);
 /// # Ok::<(), deerlapse::Unspecified>(())
 /// ```
 pub const TAG_LEN: usize = 16;
+
+/// The length of a sample of QUIC's header protection, in bytes.
+///
+/// ```
+/// let sample = [0; deerlapse::SAMPLE_LEN];
+/// assert!(deerlapse::mask_aes(&[0; 16], &sample).is_ok());
+/// ```
+pub const SAMPLE_LEN: usize = 16;
+
+/// The length of a mask of QUIC's header protection, in bytes.
+///
+/// ```
+/// assert_eq!(deerlapse::mask_chacha20(&[0; 32], &[0; 16]).len(), deerlapse::MASK_LEN);
+/// ```
+pub const MASK_LEN: usize = 5;
+
+/// Returns the version of the library in one number: 0x010203 for 1.2.3.
+///
+/// ```
+/// assert_eq!(deerlapse::version(), 0x000100);
+/// ```
+pub fn version() -> u32 {
+    cpu::require();
+    // SAFETY: it has no parameter.
+    unsafe { ffi::deerlapse_version() }
+}
 
 /// The error of every call. It does not say why the call failed: the documentation of each call lists the reasons.
 ///
@@ -68,13 +97,4 @@ fn accepted(answer: bool) -> Result<(), Unspecified> {
     } else {
         Err(Unspecified)
     }
-}
-
-/// Overwrites words with zeros. The compiler keeps the writes, although nothing reads the words.
-fn wipe(words: &mut [u64]) {
-    for word in words {
-        // SAFETY: it is a reference.
-        unsafe { ptr::write_volatile(word, 0) };
-    }
-    compiler_fence(Ordering::SeqCst);
 }

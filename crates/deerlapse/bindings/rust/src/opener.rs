@@ -1,6 +1,6 @@
 //! A key that opens what a `Sealer` sealed.
 
-use crate::{accepted, cpu, ffi, wipe, Unspecified, NONCE_LEN};
+use crate::{accepted, cpu, ffi, Unspecified, NONCE_LEN};
 use core::fmt;
 use core::ops::{Range, RangeFrom};
 
@@ -201,7 +201,8 @@ impl Opener {
 /// Wipes the key and the IV.
 impl Drop for Opener {
     fn drop(&mut self) {
-        wipe(&mut self.state.words);
+        // SAFETY: the parameter is a reference.
+        unsafe { ffi::deerlapse_opener_wipe(&mut self.state) };
     }
 }
 

@@ -1,6 +1,6 @@
 //! A key that counts its nonces.
 
-use crate::{accepted, cpu, ffi, wipe, Unspecified, NONCE_LEN, TAG_LEN};
+use crate::{accepted, cpu, ffi, Unspecified, NONCE_LEN, TAG_LEN};
 #[cfg(feature = "alloc")]
 use alloc::vec::Vec;
 use core::fmt;
@@ -150,7 +150,8 @@ impl Sealer {
 /// Wipes the key and the IV.
 impl Drop for Sealer {
     fn drop(&mut self) {
-        wipe(&mut self.state.words);
+        // SAFETY: the parameter is a reference.
+        unsafe { ffi::deerlapse_sealer_wipe(&mut self.state) };
     }
 }
 
@@ -161,21 +162,4 @@ impl fmt::Debug for Sealer {
             .field("numbers_left", &self.numbers_left())
             .finish_non_exhaustive()
     }
-}
-
-/// Returns the nonce of a number under an IV, for opening with a [`LessSafeKey`](crate::LessSafeKey) what a [`Sealer`]
-/// sealed.
-///
-/// ```
-/// // RFC 9001 appendix A.5
-/// let iv = [0xe0, 0x45, 0x9b, 0x34, 0x74, 0xbd, 0xd0, 0xe4, 0x4a, 0x41, 0xc1, 0x44];
-/// let nonce = [0xe0, 0x45, 0x9b, 0x34, 0x74, 0xbd, 0xd0, 0xe4, 0x6d, 0x41, 0x7e, 0xb0];
-/// assert_eq!(deerlapse::nonce_of(&iv, 654_360_564), nonce);
-/// ```
-pub fn nonce_of(iv: &[u8; NONCE_LEN], number: u64) -> [u8; NONCE_LEN] {
-    cpu::require();
-    let mut nonce = [0; NONCE_LEN];
-    // SAFETY: the parameters are references.
-    unsafe { ffi::deerlapse_nonce(iv, number, &mut nonce) };
-    nonce
 }

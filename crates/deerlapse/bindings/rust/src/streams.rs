@@ -1,6 +1,6 @@
 //! QUIC's header masks, and the ChaCha20 stream.
 
-use crate::{accepted, cpu, ffi, Unspecified, NONCE_LEN};
+use crate::{accepted, cpu, ffi, Unspecified, MASK_LEN, NONCE_LEN, SAMPLE_LEN};
 
 /// Returns the header protection mask for a sample, with AES-128 for a key of 16 bytes and with AES-256 for one of 32
 /// (RFC 9001 section 5.4.3).
@@ -15,9 +15,9 @@ use crate::{accepted, cpu, ffi, Unspecified, NONCE_LEN};
 /// assert_eq!(mask, [0x43, 0x7b, 0x9a, 0xec, 0x36]);
 /// # Ok::<(), deerlapse::Unspecified>(())
 /// ```
-pub fn mask_aes(key: &[u8], sample: &[u8; 16]) -> Result<[u8; 5], Unspecified> {
+pub fn mask_aes(key: &[u8], sample: &[u8; SAMPLE_LEN]) -> Result<[u8; MASK_LEN], Unspecified> {
     cpu::require();
-    let mut mask = [0; 5];
+    let mut mask = [0; MASK_LEN];
     // SAFETY: the pointer and its length are those of one slice, and the others are references.
     let made = unsafe { ffi::deerlapse_mask_aes(key.as_ptr(), key.len(), sample, &mut mask) };
     accepted(made)?;
@@ -36,9 +36,9 @@ pub fn mask_aes(key: &[u8], sample: &[u8; 16]) -> Result<[u8; 5], Unspecified> {
 /// let mask = deerlapse::mask_chacha20(&key, &sample.to_be_bytes());
 /// assert_eq!(mask, [0xae, 0xfe, 0xfe, 0x7d, 0x03]);
 /// ```
-pub fn mask_chacha20(key: &[u8; 32], sample: &[u8; 16]) -> [u8; 5] {
+pub fn mask_chacha20(key: &[u8; 32], sample: &[u8; SAMPLE_LEN]) -> [u8; MASK_LEN] {
     cpu::require();
-    let mut mask = [0; 5];
+    let mut mask = [0; MASK_LEN];
     // SAFETY: the parameters are references.
     unsafe { ffi::deerlapse_mask_chacha20(key, sample, &mut mask) };
     mask

@@ -1,7 +1,8 @@
 //! The functions on standard vectors, and the calls that fail.
 
 use deerlapse::{
-    chacha20, mask_aes, mask_chacha20, nonce_of, LessSafeKey, Opener, Sealer, Unspecified,
+    chacha20, mask_aes, mask_chacha20, nonce_of, HeaderProtectionKey, LessSafeKey, Nonce, Opener,
+    Sealer, Unspecified,
 };
 use std::error::Error;
 use std::mem::{size_of, MaybeUninit};
@@ -13,6 +14,10 @@ fn hex(digits: &str) -> Vec<u8> {
         .step_by(2)
         .map(|i| u8::from_str_radix(&digits[i..i + 2], 16).expect("two hexadecimal digits"))
         .collect()
+}
+
+fn nonce() -> Nonce {
+    Nonce::assume_unique_for_key(array(NONCE))
 }
 
 fn array<const N: usize>(digits: &str) -> [u8; N] {
@@ -33,29 +38,61 @@ fn seals_and_opens() -> Result<(), Unspecified> {
     let key = LessSafeKey::new(&hex(KEY))?;
     let (aad, message, sealed) = (hex(AAD), hex(MESSAGE), hex(SEALED));
     let mut buffer = message.clone();
-    key.seal_in_place_append_tag(array(NONCE), &aad, &mut buffer)?;
+    key.seal_in_place_append_tag(nonce(), &aad, &mut buffer)?;
     assert_eq!(buffer, sealed);
 
     let mut buffer = [b"123".as_slice(), &sealed].concat();
-    assert_eq!(
-        key.open_within(array(NONCE), &aad, &mut buffer, 3..)?,
-        message
-    );
+    assert_eq!(key.open_within(nonce(), &aad, &mut buffer, 3..)?, message);
     assert_eq!(buffer[message.len()..], sealed[message.len() - 3..]);
 
     let (ciphertext, tag) = sealed.split_at(message.len());
     let mut buffer = [b"123".as_slice(), ciphertext].concat();
     let tag = tag.try_into().expect("a tag");
     assert_eq!(
-        key.open_in_place_separate_tag(array(NONCE), &aad, tag, &mut buffer, 3..)?,
+        key.open_in_place_separate_tag(nonce(), &aad, tag, &mut buffer, 3..)?,
         message
     );
     assert_eq!(buffer[message.len()..], ciphertext[message.len() - 3..]);
     let mut buffer = ciphertext.to_vec();
     assert_eq!(
-        key.open_in_place_separate_tag(array(NONCE), &aad, tag, &mut buffer, 0..)?,
+        key.open_in_place_separate_tag(nonce(), &aad, tag, &mut buffer, 0..)?,
         message
     );
+    Ok(())
+}
+
+#[test]
+fn seals_and_opens_with_the_tag_after_the_ciphertext() -> Result<(), Unspecified> {
+    let key = LessSafeKey::new(&hex(KEY))?;
+    let (aad, message, sealed) = (hex(AAD), hex(MESSAGE), hex(SEALED));
+    let mut out = vec![7; sealed.len()];
+    key.seal_append_tag_to(nonce(), &aad, &message, &mut out)?;
+    assert_eq!(out, sealed);
+    let mut opened = vec![7; message.len()];
+    key.open_appended_tag_to(nonce(), &aad, &sealed, &mut opened)?;
+    assert_eq!(opened, message);
+
+    for len in [0, 15, message.len(), sealed.len() - 1] {
+        let out = &mut out[..len];
+        let was = out.to_vec();
+        assert_eq!(
+            key.seal_append_tag_to(nonce(), &aad, &message, out),
+            Err(Unspecified)
+        );
+        assert_eq!(out, was);
+    }
+    for (in_len, out_len) in [(0, 0), (15, 0), (sealed.len(), message.len() - 1)] {
+        let out = &mut opened[..out_len];
+        assert_eq!(
+            key.open_appended_tag_to(nonce(), &aad, &sealed[..in_len], out),
+            Err(Unspecified)
+        );
+    }
+    assert_eq!(
+        key.open_appended_tag_to(nonce(), b"another", &sealed, &mut opened),
+        Err(Unspecified)
+    );
+    assert_eq!(opened, message);
     Ok(())
 }
 
@@ -65,20 +102,20 @@ fn seals_and_opens_from_one_buffer_to_another() -> Result<(), Unspecified> {
     let (aad, message, sealed) = (hex(AAD), hex(MESSAGE), hex(SEALED));
     let (ciphertext, tag) = sealed.split_at(message.len());
     let mut out = vec![7; message.len()];
-    let made = key.seal_to(array(NONCE), &aad, &message, &mut out)?;
+    let made = key.seal_to(nonce(), &aad, &message, &mut out)?;
     assert_eq!((&*out, &made[..]), (ciphertext, tag));
-    key.open_to(array(NONCE), &aad, made, ciphertext, &mut out)?;
+    key.open_to(nonce(), &aad, made, ciphertext, &mut out)?;
     assert_eq!(out, message);
 
-    let refused = key.open_to(array(NONCE), b"another", made, ciphertext, &mut out);
+    let refused = key.open_to(nonce(), b"another", made, ciphertext, &mut out);
     assert_eq!(refused, Err(Unspecified));
     let shorter = &mut out[1..];
     assert_eq!(
-        key.open_to(array(NONCE), &aad, made, ciphertext, shorter),
+        key.open_to(nonce(), &aad, made, ciphertext, shorter),
         Err(Unspecified)
     );
     assert_eq!(
-        key.seal_to(array(NONCE), &aad, &message, shorter),
+        key.seal_to(nonce(), &aad, &message, shorter),
         Err(Unspecified)
     );
     assert_eq!(out, message);
@@ -94,11 +131,11 @@ fn threads_share_a_key() -> Result<(), Unspecified> {
         for _ in 0..100 {
             let mut buffer = message.clone();
             assert_eq!(
-                key.seal_in_place_append_tag(array(NONCE), &aad, &mut buffer),
+                key.seal_in_place_append_tag(nonce(), &aad, &mut buffer),
                 Ok(())
             );
             assert_eq!(buffer, sealed);
-            let opened = key.open_in_place(array(NONCE), &aad, &mut buffer);
+            let opened = key.open_in_place(nonce(), &aad, &mut buffer);
             assert_eq!(opened.as_deref(), Ok(&*message));
         }
     };
@@ -117,20 +154,18 @@ fn a_refusal_leaves_the_buffer() -> Result<(), Unspecified> {
     let sealed = hex(SEALED);
     for start in [1, sealed.len(), sealed.len() + 1, usize::MAX] {
         let mut buffer = sealed.clone();
-        let opened = key.open_within(array(NONCE), &hex(AAD), &mut buffer, start..);
+        let opened = key.open_within(nonce(), &hex(AAD), &mut buffer, start..);
         assert_eq!(opened, Err(Unspecified));
-        let opened =
-            key.open_in_place_separate_tag(array(NONCE), b"", [0; 16], &mut buffer, start..);
+        let opened = key.open_in_place_separate_tag(nonce(), b"", [0; 16], &mut buffer, start..);
         assert_eq!(opened, Err(Unspecified));
         assert_eq!(buffer, sealed);
     }
-    assert_eq!(
-        key.open_in_place(array(NONCE), b"", &mut []),
-        Err(Unspecified)
-    );
+    assert_eq!(key.open_in_place(nonce(), b"", &mut []), Err(Unspecified));
     for len in [0, 15, 17, 24, 31, 33] {
         assert_eq!(LessSafeKey::new(&vec![0; len]).err(), Some(Unspecified));
         assert_eq!(mask_aes(&vec![0; len], &[0; 16]), Err(Unspecified));
+        assert!(HeaderProtectionKey::new(&vec![0; len]).is_err());
+        assert!(Nonce::try_assume_unique_for_key(&vec![0; len]).is_err());
         assert_eq!(
             Sealer::new(&vec![0; len], &[0; 12], 0..1).err(),
             Some(Unspecified)
@@ -238,13 +273,15 @@ fn a_dropped_key_is_wiped() -> Result<(), Unspecified> {
     assert!(dropped(key.clone()).iter().all(|&byte| byte == 0));
     let mut buffer = *b"hello";
     assert!(key
-        .seal_in_place_separate_tag([0; 12], b"", &mut buffer)
+        .seal_in_place_separate_tag(nonce(), b"", &mut buffer)
         .is_ok());
     // The numbers end at 0, so the limit is zeros too.
     let sealer = Sealer::new(&[7; 32], &[7; 12], 0..0)?;
     assert!(dropped(sealer).iter().all(|&byte| byte == 0));
     let opener = Opener::new(&[7; 32], &[7; 12], 0..0)?;
     assert!(dropped(opener).iter().all(|&byte| byte == 0));
+    let key = HeaderProtectionKey::new(&[7; 32])?;
+    assert!(dropped(key).iter().all(|&byte| byte == 0));
     Ok(())
 }
 
@@ -254,21 +291,22 @@ fn threads_may_have_each_type() {
     may::<LessSafeKey>();
     may::<Sealer>();
     may::<Opener>();
+    may::<HeaderProtectionKey>();
 }
 
 #[test]
 fn masks_and_streams() -> Result<(), Unspecified> {
     // RFC 9001 appendices A.2 and A.5, FIPS 197 appendix C.3
     let key = hex("9f50449e04a0e810283a1e9933adedd2");
-    assert_eq!(
-        mask_aes(&key, &array("d1b1c98dd7689fb8ec11d242b123dc9b"))?,
-        array("437b9aec36")
-    );
+    let sample = array("d1b1c98dd7689fb8ec11d242b123dc9b");
+    assert_eq!(mask_aes(&key, &sample)?, array("437b9aec36"));
+    let expanded = HeaderProtectionKey::new(&key)?;
+    assert_eq!(expanded.new_mask(&sample), array("437b9aec36"));
     let key = hex("000102030405060708090a0b0c0d0e0f101112131415161718191a1b1c1d1e1f");
-    assert_eq!(
-        mask_aes(&key, &array("00112233445566778899aabbccddeeff"))?,
-        array("8ea2b7ca51")
-    );
+    let sample = array("00112233445566778899aabbccddeeff");
+    assert_eq!(mask_aes(&key, &sample)?, array("8ea2b7ca51"));
+    let expanded = HeaderProtectionKey::new(&key)?;
+    assert_eq!(expanded.new_mask(&sample), array("8ea2b7ca51"));
     let key = array("25a282b9e82f06f21f488917a4fc8f1b73573685608597d0efcb076b0ab7a7a4");
     assert_eq!(
         mask_chacha20(&key, &array("5e5cd55c41f69080575d7999c25a5bfb")),
@@ -287,6 +325,8 @@ fn masks_and_streams() -> Result<(), Unspecified> {
 fn prints_no_secret() -> Result<(), Box<dyn Error>> {
     let key = LessSafeKey::new(&[7; 16])?;
     assert_eq!(format!("{key:?}"), "LessSafeKey { .. }");
+    let key = HeaderProtectionKey::new(&[7; 16])?;
+    assert_eq!(format!("{key:?}"), "HeaderProtectionKey { .. }");
     let sealer = Sealer::new(&[7; 32], &[7; 12], 3..9)?;
     assert_eq!(format!("{sealer:?}"), "Sealer { numbers_left: 3..9, .. }");
     let opener = Opener::new(&[7; 32], &[7; 12], 3..9)?;

@@ -1,0 +1,65 @@
+//! A key of QUIC's header protection that is expanded once.
+
+use crate::{accepted, cpu, ffi, Unspecified, MASK_LEN, SAMPLE_LEN};
+use core::fmt;
+
+/// An AES key of QUIC's header protection (RFC 9001 section 5.4.3), which is expanded once and makes many masks.
+///
+/// It is about 3 kilobytes of plain data, which threads may share, and is wiped when it is dropped; if it was moved, its
+/// bytes may remain where it was before. [`mask_chacha20`](crate::mask_chacha20) has nothing to expand.
+///
+/// ```
+/// use deerlapse::HeaderProtectionKey;
+///
+/// // RFC 9001 appendix A.2
+/// let key: u128 = 0x9f50449e04a0e810283a1e9933adedd2;
+/// let sample: u128 = 0xd1b1c98dd7689fb8ec11d242b123dc9b;
+/// let key = HeaderProtectionKey::new(&key.to_be_bytes())?;
+/// assert_eq!(key.new_mask(&sample.to_be_bytes()), [0x43, 0x7b, 0x9a, 0xec, 0x36]);
+/// # Ok::<(), deerlapse::Unspecified>(())
+/// ```
+#[derive(Clone)]
+pub struct HeaderProtectionKey(ffi::Key);
+
+impl HeaderProtectionKey {
+    /// Creates a key from 16 bytes, for AES-128, or 32, for AES-256.
+    ///
+    /// Fails if `key_bytes` has any other length.
+    ///
+    /// ```
+    /// use deerlapse::HeaderProtectionKey;
+    ///
+    /// assert!(HeaderProtectionKey::new(&[0; 16]).is_ok());
+    /// assert!(HeaderProtectionKey::new(&[0; 32]).is_ok());
+    /// assert!(HeaderProtectionKey::new(&[0; 24]).is_err());
+    /// ```
+    pub fn new(key_bytes: &[u8]) -> Result<Self, Unspecified> {
+        cpu::require();
+        Ok(HeaderProtectionKey(ffi::Key::new(key_bytes)?))
+    }
+
+    /// Returns the mask of 5 bytes for a sample of 16 bytes.
+    ///
+    /// ```
+    /// use deerlapse::{mask_aes, HeaderProtectionKey};
+    ///
+    /// let mask = HeaderProtectionKey::new(&[7; 32])?.new_mask(&[0; 16]);
+    /// assert_eq!(mask, mask_aes(&[7; 32], &[0; 16])?);
+    /// # Ok::<(), deerlapse::Unspecified>(())
+    /// ```
+    pub fn new_mask(&self, sample: &[u8; SAMPLE_LEN]) -> [u8; MASK_LEN] {
+        let mut mask = [0; MASK_LEN];
+        // SAFETY: the parameters are references, and `new` filled the key.
+        let made = unsafe { ffi::deerlapse_key_mask(&self.0, sample, &mut mask) };
+        accepted(made).expect("the key is not zeros");
+        mask
+    }
+}
+
+/// Prints nothing of the key.
+impl fmt::Debug for HeaderProtectionKey {
+    fn fmt(&self, f: &mut fmt::Formatter<'_>) -> fmt::Result {
+        f.debug_struct("HeaderProtectionKey")
+            .finish_non_exhaustive()
+    }
+}
