@@ -389,9 +389,11 @@ static void elsewhere(const sealing *s) {
     refuses_sized(&no_key, s, s->len);
     refuses_append_sized(&no_key, s, s->len + TAG);
     refuses_append_sized(&key, s, below(s->len + TAG));
-    refuses_append_sized(&key, s, s->len + TAG + 1);
     if (s->len) refuses_sized(&key, s, below(s->len));
-    if (s->len < MAX_MESSAGE) refuses_sized(&key, s, s->len + 1);
+    if (s->len < MAX_MESSAGE) {
+        refuses_sized(&key, s, s->len + 1);
+        refuses_append_sized(&key, s, s->len + TAG + 1);
+    }
     CHECK(!CALL(deerlapse_key_open_appended_tag(&key, s->nonce, s->aad, s->aad_len, tag, below(TAG), tag)));
     CHECK(!CALL(deerlapse_key_open_separate_tag(&key, s->nonce, s->aad, s->aad_len, tag, 3, 4 + below(40), s->sealed)));
     CHECK(!CALL(deerlapse_key_open_separate_tag(&key, s->nonce, s->aad, s->aad_len, tag, 3, SIZE_MAX, s->sealed)));
