@@ -155,8 +155,9 @@ bool deerlapse_key_open_appended_tag(const deerlapse_key *key, const uint8_t non
                                      const uint8_t *aad, size_t aad_len, const uint8_t *in, size_t in_len,
                                      uint8_t *out);
 
-/* Writes QUIC's header protection mask for a sample, with AES under an expanded key (RFC 9001 section 5.4.3). The key is one
- * for headers, and seals nothing.
+/* Writes QUIC's header protection mask for a sample, with AES under an expanded key (RFC 9001 section 5.4.3).
+ *
+ *   key   initialized by deerlapse_key_init from a header protection key, under which nothing is sealed, or zeros
  *
  * Returns false if the key is zeros. */
 DEERLAPSE_NODISCARD
@@ -183,9 +184,9 @@ bool deerlapse_open(const uint8_t *key, size_t key_len, const uint8_t nonce[DEER
 
 /* A key that seals each message under its own nonce: an IV XOR the message's number, in eight big-endian bytes after four
  * zeros (RFC 8446 section 5.3, RFC 9001 section 5.3). It is in the caller's memory, and deerlapse_sealer_init initializes
- * it. A sealer of zeros seals nothing, and any other memory must only be passed to deerlapse_sealer_init. Never copy it: the
- * copy would use the same nonces again. Only one thread may use it at a time. It has room for the fields of a later version.
- * Nothing has to be freed. */
+ * it. A sealer of zeros seals nothing, and any other memory must only be passed to deerlapse_sealer_init and
+ * deerlapse_sealer_wipe. Never copy it: the copy would use the same nonces again. Only one thread may use it at a time. It
+ * has room for the fields of a later version. Nothing has to be freed. */
 typedef struct deerlapse_sealer {
     uint64_t words[400]; /* private: neither read nor write them */
 } deerlapse_sealer;
