@@ -150,7 +150,32 @@ static bool seal_by_sealer(const sealing *s, const uint8_t *aad, uint8_t *in_out
     return true;
 }
 
-static seal_way *const seal_ways[] = {seal_once, seal_by_key, seal_by_sealer};
+/* Pieces of random lengths, of no bytes and all too, and pieces that are refused. Nothing is sealed after the end. */
+static bool seal_in_pieces(const sealing *s, const uint8_t *aad, uint8_t *in_out, uint8_t *tag) {
+    static const deerlapse_message zeros;
+    deerlapse_key key, no_key = {{0}};
+    deerlapse_message message, was;
+    size_t longest = 1 + below(below(2) ? 300 : MAX_MESSAGE);
+    memset(&message, 0x5a, sizeof message);
+    CHECK(CALL(deerlapse_key_init(&key, s->key, s->key_len)));
+    CHECK(CALL(deerlapse_key_begin(&key, s->nonce, aad, s->aad_len, &message)));
+    for (size_t done = 0, piece = 0; done < s->len; done += piece) {
+        piece = below(longest + 1);
+        if (piece > s->len - done) piece = s->len - done;
+        CHECK(CALL(deerlapse_key_update(&key, &message, in_out + done, piece)));
+    }
+    was = message;
+    CHECK(!CALL(deerlapse_key_update(&no_key, &message, in_out, s->len)));
+    CHECK(!CALL(deerlapse_key_update(&key, &message, in_out, ((size_t)1 << 36) - 31 - s->len)));
+    CHECK(!CALL(deerlapse_key_finish(&no_key, &message, tag)) && SAME(message, was));
+    CHECK(CALL(deerlapse_key_finish(&key, &message, tag)) && SAME(message, zeros));
+    CHECK(!CALL(deerlapse_key_update(&key, &message, in_out, s->len)));
+    CHECK(!CALL(deerlapse_key_finish(&key, &message, tag)) && SAME(message, zeros));
+    CHECK(!CALL(deerlapse_key_begin(&no_key, s->nonce, aad, s->aad_len, &message)) && SAME(message, zeros));
+    return true;
+}
+
+static seal_way *const seal_ways[] = {seal_once, seal_by_key, seal_by_sealer, seal_in_pieces};
 enum { SEAL_WAYS = sizeof seal_ways / sizeof seal_ways[0] };
 
 /* The tag right after the message, and apart. */
@@ -624,6 +649,7 @@ static void too_long(sealing *s) {
     uint8_t tag[TAG] = {0}, was[TAG] = {0};
     uint8_t *bytes = mmap(NULL, len + TAG, PROT_READ | PROT_WRITE, MAP_PRIVATE | MAP_ANONYMOUS | MAP_NORESERVE, -1, 0);
     deerlapse_key key;
+    deerlapse_message message;
     deerlapse_sealer sealer;
     deerlapse_opener opener;
     if (bytes == MAP_FAILED) return;
@@ -633,6 +659,8 @@ static void too_long(sealing *s) {
     CHECK(CALL(deerlapse_opener_init(&opener, s->key, s->key_len, s->iv, 5, 9)));
     CHECK(!CALL(deerlapse_seal(s->key, s->key_len, s->nonce, NULL, 0, bytes, len, tag)));
     CHECK(!CALL(deerlapse_key_seal(&key, s->nonce, NULL, 0, bytes, len, tag)));
+    CHECK(CALL(deerlapse_key_begin(&key, s->nonce, NULL, 0, &message)));
+    CHECK(!CALL(deerlapse_key_update(&key, &message, bytes, len)));
     CHECK(!CALL(deerlapse_sealer_seal(&sealer, NULL, 0, bytes, len, tag)));
     CHECK(!CALL(deerlapse_open(s->key, s->key_len, s->nonce, NULL, 0, bytes, len + TAG, 0, &opened)));
     CHECK(!CALL(deerlapse_key_open(&key, s->nonce, NULL, 0, bytes, len + TAG, 0, &opened)));
@@ -651,6 +679,7 @@ typedef struct {
     uint8_t *pages, *at, zeros[TAG];
     size_t opened;
     deerlapse_key key;
+    deerlapse_message message;
     deerlapse_sealer sealer;
     deerlapse_opener opener;
 } one_page;
@@ -667,6 +696,7 @@ static void false_message_length(const sealing *s, one_page *p, size_t len) {
     CHECK(!CALL(deerlapse_key_seal_to(&p->key, s->nonce, NULL, 0, at, len, at, tag)));
     CHECK(!CALL(deerlapse_key_seal_append_tag(&p->key, s->nonce, NULL, 0, at, len, at + 1)));
     CHECK(!CALL(deerlapse_key_seal_append_tag(&p->key, s->nonce, NULL, 0, at, len, at)));
+    CHECK(!CALL(deerlapse_key_update(&p->key, &p->message, at, len)));
     CHECK(!CALL(deerlapse_sealer_seal(&p->sealer, NULL, 0, at, len, tag)));
     CHECK(!CALL(deerlapse_key_open_to(&p->key, s->nonce, NULL, 0, at, len, at + 1, at + len)));
     CHECK(!CALL(deerlapse_key_open_to(&p->key, s->nonce, NULL, 0, at, len, at, at + len)));
@@ -689,6 +719,7 @@ static void false_start(const sealing *s, one_page *p, size_t len, size_t start)
 static void false_aad_length(const sealing *s, one_page *p, size_t aad_len) {
     uint8_t *at = p->at, *tag = p->zeros;
     CHECK(!CALL(deerlapse_key_seal(&p->key, s->nonce, at, aad_len, tag, 0, at + 1)));
+    CHECK(!CALL(deerlapse_key_begin(&p->key, s->nonce, at, aad_len, &p->message)));
     CHECK(!CALL(deerlapse_key_seal_to(&p->key, s->nonce, at, aad_len, s->message, 1, at + 1, tag)));
     CHECK(!CALL(deerlapse_key_seal_append_tag(&p->key, s->nonce, at, aad_len, s->message, 1, at + 1)));
     CHECK(!CALL(deerlapse_key_open(&p->key, s->nonce, at, aad_len, tag, TAG, 0, &p->opened)));
@@ -721,6 +752,7 @@ static void false_lengths(sealing *s) {
     page.at = page.pages + PAGE;
     CHECK(mprotect(page.at, PAGE, PROT_READ | PROT_WRITE) == 0);
     CHECK(CALL(deerlapse_key_init(&page.key, s->key, s->key_len)));
+    CHECK(CALL(deerlapse_key_begin(&page.key, s->nonce, NULL, 0, &page.message)));
     CHECK(CALL(deerlapse_sealer_init(&page.sealer, s->key, s->key_len, s->iv, 5, 9)));
     CHECK(CALL(deerlapse_opener_init(&page.opener, s->key, s->key_len, s->iv, 5, 9)));
     for (size_t i = 0; i < sizeof lens / sizeof lens[0]; i++) {

@@ -67,6 +67,21 @@ static void opens_appended(const deerlapse_key *key, const uint8_t *nonce, const
     free(message);
 }
 
+/* Pieces of 0, 1, 2 bytes and so on. */
+static void seals_in_pieces(const deerlapse_key *key, const uint8_t *nonce, const uint8_t *aad, size_t aad_len, size_t len) {
+    uint8_t *in_out = secret(len), *tag = secret(TAG);
+    deerlapse_message message;
+    CHECK(deerlapse_key_begin(key, nonce, aad, aad_len, &message));
+    for (size_t done = 0, piece = 0; done < len; done += piece++) {
+        if (piece > len - done) piece = len - done;
+        CHECK(deerlapse_key_update(key, &message, in_out + done, piece));
+    }
+    CHECK(deerlapse_key_finish(key, &message, tag));
+    CHECK(!deerlapse_key_finish(key, &message, tag));
+    free(tag);
+    free(in_out);
+}
+
 /* Seals by the bytes of a key and by an expanded one, and opens with a false tag and with the right one, from a start. */
 static void seals_and_opens(size_t key_len, size_t aad_len, size_t len, size_t start) {
     uint8_t *bytes = secret(key_len), *nonce = secret(NONCE), *aad = secret(aad_len);
@@ -90,6 +105,7 @@ static void seals_and_opens(size_t key_len, size_t aad_len, size_t len, size_t s
     }
     opens_apart(&key, nonce, aad, aad_len, len);
     opens_appended(&key, nonce, aad, aad_len, len);
+    seals_in_pieces(&key, nonce, aad, aad_len, len);
     deerlapse_key_wipe(&key);
     CHECK(!deerlapse_key_seal(&key, nonce, aad, aad_len, bytes, key_len, nonce));
     free(aad);

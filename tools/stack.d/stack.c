@@ -25,6 +25,7 @@ static struct {
     uint8_t sample[DEERLAPSE_SAMPLE_LEN], mask[DEERLAPSE_MASK_LEN];
     size_t key_len, len, opened_len;
     deerlapse_key key;
+    deerlapse_message message;
     deerlapse_sealer sealer;
     deerlapse_opener opener;
     bool is_true;
@@ -56,6 +57,9 @@ static bool key_seal_append_tag(void) {
 static bool key_open_appended_tag(void) {
     return deerlapse_key_open_appended_tag(&at->key, at->nonce, at->aad, AAD, at->buffer, at->len + TAG, at->out);
 }
+static bool key_begin(void) { return deerlapse_key_begin(&at->key, at->nonce, at->aad, AAD, &at->message); }
+static bool key_update(void) { return deerlapse_key_update(&at->key, &at->message, at->buffer, at->len); }
+static bool key_finish(void) { return deerlapse_key_finish(&at->key, &at->message, at->tag); }
 static bool key_mask(void) { return deerlapse_key_mask(&at->key, at->sample, at->mask); }
 static bool version(void) { return deerlapse_version() == DEERLAPSE_VERSION; }
 static bool seal(void) {
@@ -92,6 +96,8 @@ static bool mask_chacha20(void) { return deerlapse_mask_chacha20(at->bytes, at->
 static bool chacha20(void) { return deerlapse_chacha20(at->bytes, at->nonce, 1, at->buffer, at->len); }
 
 static bool key_sealed(void) { return key_init() && key_seal(); }
+static bool key_begun(void) { return key_init() && key_begin(); }
+static bool key_updated(void) { return key_begun() && key_update(); }
 static bool opener_sealed(void) { return opener_init() && seal(); }
 
 static const named calls[] = {{"deerlapse_key_init", key_init, NULL},
@@ -102,6 +108,9 @@ static const named calls[] = {{"deerlapse_key_init", key_init, NULL},
                               {"deerlapse_key_open_to", key_open_to, key_sealed},
                               {"deerlapse_key_seal_append_tag", key_seal_append_tag, key_init},
                               {"deerlapse_key_open_appended_tag", key_open_appended_tag, key_sealed},
+                              {"deerlapse_key_begin", key_begin, key_init},
+                              {"deerlapse_key_update", key_update, key_begun},
+                              {"deerlapse_key_finish", key_finish, key_updated},
                               {"deerlapse_key_mask", key_mask, key_init},
                               {"deerlapse_key_wipe", key_wipe, key_init},
                               {"deerlapse_seal", seal, NULL},

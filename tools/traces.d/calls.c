@@ -4,6 +4,7 @@
 #include "traced.h"
 
 static deerlapse_key key;
+static deerlapse_message in_pieces;
 static deerlapse_sealer sealer;
 static deerlapse_opener opener;
 static uint8_t mask[DEERLAPSE_MASK_LEN];
@@ -34,6 +35,24 @@ static bool key_seal_to(size_t key_len, size_t len) {
 static bool key_seal_append_tag(size_t key_len, size_t len) {
     (void)key_len;
     return deerlapse_key_seal_append_tag(&key, nonce, aad, AAD, message, len, other);
+}
+static bool key_begin(size_t key_len, size_t len) {
+    (void)key_len;
+    return deerlapse_key_begin(&key, nonce, aad, len, &in_pieces);
+}
+static bool key_begun(size_t key_len, size_t len) { return key_init(key_len, len) && key_begin(key_len, AAD); }
+static bool key_update(size_t key_len, size_t len) {
+    (void)key_len;
+    return deerlapse_key_update(&key, &in_pieces, message, len);
+}
+static bool key_updated(size_t key_len, size_t len) { return key_begun(key_len, len) && key_update(key_len, len); }
+/* A piece that doesn't begin where a batch does. */
+static bool key_updated_shortly(size_t key_len, size_t len) {
+    return key_begun(key_len, len) && deerlapse_key_update(&key, &in_pieces, other, 3);
+}
+static bool key_finish(size_t key_len, size_t len) {
+    (void)key_len, (void)len;
+    return deerlapse_key_finish(&key, &in_pieces, tag);
 }
 static bool key_sealed(size_t key_len, size_t len) { return key_init(key_len, len) && key_seal(key_len, len); }
 static bool key_sealed_appended(size_t key_len, size_t len) {
@@ -193,6 +212,10 @@ static const traced_call calls[] = {
     {"deerlapse_key_seal_append_tag", key_seal_append_tag, key_init, true},
     {"deerlapse_key_open_appended_tag", key_open_appended_tag, key_sealed_appended, true},
     {"deerlapse_key_open_appended_tag,false", key_refuse_appended_tag, key_sealed_falsely_appended, true},
+    {"deerlapse_key_begin", key_begin, key_init, true},
+    {"deerlapse_key_update", key_update, key_begun, true},
+    {"deerlapse_key_update,next", key_update, key_updated_shortly, true},
+    {"deerlapse_key_finish", key_finish, key_updated, true},
     {"deerlapse_key_mask", key_mask, key_init, false},
     {"deerlapse_seal", seal, NULL, true},
     {"deerlapse_open", open_, seal, true},

@@ -2,6 +2,7 @@ pub mod ByteLadder
 pub mod ByteReduction
 pub mod ByteRows
 pub mod EightPacking
+pub mod PieceLemmas
 pub mod WideBits
 pub mod WideBlocks
 pub mod WideHash

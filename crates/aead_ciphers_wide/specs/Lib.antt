@@ -1,5 +1,6 @@
 pub mod ExpandedKey
 pub mod HeaderKey
+pub mod Pieces
 pub mod Products
 pub mod WidePlanes
 pub mod WideSchedule

@@ -1,13 +1,16 @@
 //! An expanded AES-GCM key as plain data, for memory that the library does not own: a C struct, or a table of keys.
 
-ghost use Rattle.std.specs.Prelude.{◌≡◌, ◌-◌, ◌↔◌, length, is_ok, IsTrue, IsOk, IfOk, OnOk, OnErr};
+ghost use Rattle.std.specs.Prelude.{◌≡◌, ◌+◌, ◌-◌, ◌↔◌, ℕ, List, [], length, is_ok, IsTrue, IsOk, IfOk, OnOk, OnErr};
 ghost use Rattle.aead_ciphers_base.specs.Aes.{aes as aes_cipher};
 ghost use Rattle.aead_ciphers_base.specs.KeyBytes.{key_bytes};
 ghost use Rattle.aead_ciphers_base.specs.Mask.{aes_mask};
 ghost use Rattle.aead_ciphers_base.specs.Values.{aad_bytes};
 ghost use Rattle.aead_ciphers_base.specs.Work.{Adds, CanAdd};
 ghost use Rattle.aead_ciphers_wide.specs.ExpandedKey.{IsExpanded, bytes_of, zero_key};
+ghost use Rattle.aead_ciphers_wide.specs.Pieces.{HasSealed, SealsPiece};
 ghost use Rattle.aead_ciphers.specs.Gcm.{CanOpen, CanSeal, Fits, OpenWork, SealWork, Opened, OpenedAttached, gcm_decrypted, gcm_encrypted, gcm_tag};
+
+mod pieces;
 
 use crate::{aes, gcm};
 use aead_ciphers::aes_gcm::{open_to_with, open_with, seal_with};
@@ -15,6 +18,7 @@ use aead_ciphers::gcm::MAX_IN_OUT_LEN;
 use aead_ciphers_base::aes::{EncryptBlock, KeyBytes, Work, ZERO_BLOCK};
 use aead_ciphers_base::error::Unspecified;
 use aead_ciphers_base::values::{Aad, MAX_TAG_LEN, Nonce, Sample, Tag};
+pub use pieces::SealState;
 use std::ops::RangeFrom;
 
 /// Returns whether AAD and a message of these lengths, in bytes, are within the limits of AES-GCM (SP 800-38D section
@@ -201,6 +205,53 @@ impl ExpandedKey {
             out,
             &mut Work::new(),
         )
+    }
+
+    /// Begins a message that is sealed in pieces, of which none is sealed yet.
+    ///
+    /// # Errors
+    ///
+    /// Fails with `Unspecified` if `aad` is 2^61 bytes or longer (SP 800-38D section 5.2.1.1).
+    pub fn begin(&self, nonce: Nonce, aad: Aad<'_>) -> Result<SealState, Unspecified>
+        requires { IsExpanded self.now }
+        ensures accepted { IsOk result ↔ Fits (length (aad_bytes aad.entry)) 0 }
+        ensures begun { IfOk result (λ state. HasSealed (aes_cipher (bytes_of self.now)) nonce
+            (aad_bytes aad.entry) [] [] state) }
+    {
+        let gcm = gcm::KeyRef::new(&self.products, &self.squares);
+        SealState::begin_with(&gcm, nonce, aad)
+    }
+
+    /// Encrypts the next piece of a message in place, under the key that the message began with.
+    ///
+    /// # Errors
+    ///
+    /// Fails with `Unspecified`, and changes nothing, if the message would be longer than 2^36 - 32 bytes.
+    pub fn update(&self, state: &mut SealState, in_out: &mut [u8]) -> Result<(), Unspecified>
+        requires key { IsExpanded self.now }
+        requires fits { Fits state.old.aad_len state.old.len }
+        ensures accepted { IsOk result ↔ Fits state.old.aad_len (state.old.len + length in_out.old) }
+        ensures sealed { OnOk result (SealsPiece (aes_cipher (bytes_of self.now)) state.old
+            in_out.old in_out.new state.new) }
+        ensures refused { OnErr result ((state.new ≡ state.old) × (in_out.new ≡ in_out.old)) }
+    {
+        let aes = aes::KeyRef::new(&self.round_keys, self.rounds);
+        let gcm = gcm::KeyRef::new(&self.products, &self.squares);
+        state.update_with(&aes, &gcm, in_out)
+    }
+
+    /// Ends a message, and returns the tag of its AAD and of the ciphertexts of all its pieces in a row, under the key that
+    /// the message began with.
+    pub fn finish(&self, state: SealState) -> Tag
+        requires key { IsExpanded self.now }
+        requires fits { Fits state.aad_len state.len }
+        ensures { (nonce aad message ciphertext : List ℕ)
+            → HasSealed (aes_cipher (bytes_of self.now)) nonce aad message ciphertext state
+            → result ≡ gcm_tag (aes_cipher (bytes_of self.now)) nonce aad ciphertext }
+    {
+        let aes = aes::KeyRef::new(&self.round_keys, self.rounds);
+        let gcm = gcm::KeyRef::new(&self.products, &self.squares);
+        state.finish_with(&aes, &gcm)
     }
 
     /// Computes the header protection mask of a sample (RFC 9001 section 5.4.3) with the AES key alone: 16 bytes in, 5

@@ -155,6 +155,44 @@ bool deerlapse_key_open_appended_tag(const deerlapse_key *key, const uint8_t non
                                      const uint8_t *aad, size_t aad_len, const uint8_t *in, size_t in_len,
                                      uint8_t *out);
 
+/* A message that is sealed in pieces of any lengths: deerlapse_key_begin begins it, deerlapse_key_update encrypts its pieces
+ * in order, and deerlapse_key_finish writes its tag. It is in the caller's memory, and contains no pointer. A message of
+ * zeros has not begun, and any other memory must only be passed to deerlapse_key_begin. Never copy it: pieces that follow the
+ * copy would be encrypted with the same keystream. Only one thread may use it at a time.
+ *
+ * It contains keystream, which is secret, until deerlapse_key_finish overwrites it with zeros. Finish a message that is given
+ * up as well, and discard its tag. No message is opened in pieces, since its plaintext would be used before it is verified. */
+typedef struct deerlapse_message {
+    uint64_t words[22]; /* private: neither read nor write them */
+} deerlapse_message;
+
+/* Begins a message, of which no piece is sealed yet. The previous bytes of `message` are not read.
+ *
+ *   key, nonce, aad   as for deerlapse_key_seal
+ *
+ * Returns false if the key is zeros, or if aad_len is 2^61 or more. */
+DEERLAPSE_NODISCARD
+bool deerlapse_key_begin(const deerlapse_key *key, const uint8_t nonce[DEERLAPSE_NONCE_LEN], const uint8_t *aad,
+                         size_t aad_len, deerlapse_message *message);
+
+/* Encrypts the next piece in place. However a message is cut, its ciphertext is that of deerlapse_key_seal.
+ *
+ *   key      the key that the message began with, which no call checks
+ *   in_out   in_out_len bytes: the piece, which its ciphertext replaces
+ *
+ * Returns false if the message has not begun, if it would be longer than 2^36 - 32 bytes, or if the key is zeros. */
+DEERLAPSE_NODISCARD
+bool deerlapse_key_update(const deerlapse_key *key, deerlapse_message *message, uint8_t *in_out, size_t in_out_len);
+
+/* Writes the tag that deerlapse_key_seal writes for all pieces in a row, and overwrites `message` with zeros.
+ *
+ *   key   the key that the message began with, which no call checks
+ *   tag   16 bytes, which are written
+ *
+ * Returns false if the message has not begun, or if the key is zeros. */
+DEERLAPSE_NODISCARD
+bool deerlapse_key_finish(const deerlapse_key *key, deerlapse_message *message, uint8_t tag[DEERLAPSE_TAG_LEN]);
+
 /* Writes QUIC's header protection mask for a sample, with AES under an expanded key (RFC 9001 section 5.4.3).
  *
  *   key   initialized by deerlapse_key_init from a header protection key, under which nothing is sealed, or zeros
@@ -347,6 +385,20 @@ bool deerlapse_key_open_separate_tag_nullable(const deerlapse_key *key, const ui
                                            deerlapse_to_write(in_out, in_out_len), in_out_len, start, tag);
 }
 #define deerlapse_key_open_separate_tag deerlapse_key_open_separate_tag_nullable
+
+DEERLAPSE_WRAPS(1, 2, 5)
+bool deerlapse_key_begin_nullable(const deerlapse_key *key, const uint8_t nonce[DEERLAPSE_NONCE_LEN],
+                                  const uint8_t *aad, size_t aad_len, deerlapse_message *message) {
+    return deerlapse_key_begin(key, nonce, deerlapse_to_read(aad, aad_len), aad_len, message);
+}
+#define deerlapse_key_begin deerlapse_key_begin_nullable
+
+DEERLAPSE_WRAPS(1, 2)
+bool deerlapse_key_update_nullable(const deerlapse_key *key, deerlapse_message *message, uint8_t *in_out,
+                                   size_t in_out_len) {
+    return deerlapse_key_update(key, message, deerlapse_to_write(in_out, in_out_len), in_out_len);
+}
+#define deerlapse_key_update deerlapse_key_update_nullable
 
 /* The functions of the library from one buffer to another. They take the length of `out`, and return false if it is another
  * than the one above; they do not take the same buffer as `in` and `out`. The wrappers then make the call in place. */

@@ -1,7 +1,9 @@
--- The keys of AES (FIPS 197) that the calls take.
-use Rattle.std.specs.Prelude.{◌≡◌, ℕ, ◌⊎◌, ◌≤◌}
+-- The keys of AES (FIPS 197) that the calls take, and the messages that are sealed in pieces under them.
+use Rattle.std.specs.Prelude.{◌≡◌, ℕ, ◌⊎◌, ◌<◌, ◌≤◌}
+use Rattle.aead_ciphers.specs.Gcm.{Fits}
 use Rattle.aead_ciphers_wide.specs.ExpandedKey.{IsExpanded}
 use Rattle.aead_ciphers_wide.specs.declared.aes_gcm.ExpandedKey.{ExpandedKey}
+use Rattle.aead_ciphers_wide.specs.declared.aes_gcm.pieces.SealState.{SealState}
 
 -- a key has 16 bytes for AES-128 and 32 bytes for AES-256 (FIPS 197 section 5)
 abbrev pub IsAesKeyLen : ℕ → Type 0
@@ -14,3 +16,7 @@ HasRounds key = (10 ≤ key.rounds) × (key.rounds ≤ 14)
 -- a key that `deerlapse_key_init` filled, or one of zeros
 abbrev pub IsKeyOrNone : ExpandedKey → Type 0
 IsKeyOrNone key = HasRounds key → IsExpanded key
+
+-- a message that `deerlapse_key_begin` began, or one of zeros
+abbrev pub IsBegunOrNone : SealState → Type 0
+IsBegunOrNone message = 0 < message.begun → Fits message.aad_len message.len

@@ -11,6 +11,7 @@ mod masks;
 mod numbered_key;
 mod opener;
 mod out_of_place;
+mod pieces;
 mod sealer;
 #[cfg(test)]
 mod tests;

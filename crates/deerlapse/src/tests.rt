@@ -18,8 +18,9 @@ use crate::out_of_place::{
     deerlapse_key_open_appended_tag_sized, deerlapse_key_open_to_sized,
     deerlapse_key_seal_append_tag_sized, deerlapse_key_seal_to_sized,
 };
+use crate::pieces::{deerlapse_key_begin, deerlapse_key_finish, deerlapse_key_update};
 use crate::sealer::{deerlapse_sealer_init, deerlapse_sealer_next, deerlapse_sealer_seal};
-use aead_ciphers_wide::aes_gcm::ExpandedKey;
+use aead_ciphers_wide::aes_gcm::{ExpandedKey, SealState};
 use aead_vectors::gcm_spec::{CASES, Case};
 use aead_vectors::{fips_197, rfc_8439, rfc_9001};
 use std::alloc::Global;
@@ -139,6 +140,33 @@ fn appends_and_opens(
     Ok(())
 }
 
+/// Seals a case's message in two pieces, the first of at most `len` bytes.
+fn seals_in_pieces(rt: &impl Abort, case: &Case, len: usize) -> Result<(), Fail> {
+    let mut key = ExpandedKey::zeros();
+    let mut message = SealState::zeros();
+    let mut bytes = case.message.clone()?;
+    let mut tag = [0; 16];
+    if !deerlapse_key_init(&mut key, &case.key)
+        || !deerlapse_key_begin(&key, &case.nonce, &case.aad, &mut message)
+    {
+        return Err("a message".into());
+    }
+    let count = bytes.len().min(len);
+    let (first, second) = bytes.split_at_mut(count);
+    if !deerlapse_key_update(&key, &mut message, first)
+        || !deerlapse_key_update(&key, &mut message, second)
+    {
+        return Err("a piece".into());
+    }
+    let sealed = deerlapse_key_finish(&key, &mut message, &mut tag);
+    accepted(rt, sealed, case.name);
+    same(rt, &bytes, &case.ciphertext, case.name);
+    same(rt, &tag, &case.tag, case.name);
+    let again = deerlapse_key_finish(&key, &mut message, &mut tag);
+    accepted(rt, !again, case.name);
+    Ok(())
+}
+
 /// A sealer or an opener of zeros.
 fn no_numbers() -> NumberedKey {
     NumberedKey {
@@ -213,6 +241,7 @@ fn gcm_spec(rt: HostRuntime) -> Result<(), Fail> {
         seals_and_opens(&rt, rt.alloc(), &case)?;
         seals_and_opens_by_a_key(&rt, &case)?;
         seals_and_opens_apart(&rt, rt.alloc(), &case)?;
+        seals_in_pieces(&rt, &case, 17)?;
         seals_once(&rt, &case)?;
         opens_once(&rt, &case)?;
     }

@@ -5,6 +5,7 @@ pub mod connection;
 pub mod messages;
 pub mod one_message;
 pub mod one_nonce;
+pub mod pieces;
 pub mod quic_connection;
 pub mod record_stream;
 pub mod streams;

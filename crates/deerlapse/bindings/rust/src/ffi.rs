@@ -8,6 +8,12 @@ pub(crate) struct Key {
     pub(crate) words: [u64; 369],
 }
 
+/// `deerlapse_message`.
+#[repr(C)]
+pub(crate) struct Message {
+    pub(crate) words: [u64; 22],
+}
+
 /// `deerlapse_sealer`.
 #[repr(C)]
 pub(crate) struct Sealer {
@@ -101,6 +107,27 @@ extern "C" {
         ciphertext_and_tag_len: usize,
         out: *mut u8,
         out_len: usize,
+    ) -> bool;
+
+    pub(crate) fn deerlapse_key_begin(
+        key: &Key,
+        nonce: &[u8; 12],
+        aad: *const u8,
+        aad_len: usize,
+        message: &mut Message,
+    ) -> bool;
+
+    pub(crate) fn deerlapse_key_update(
+        key: &Key,
+        message: &mut Message,
+        in_out: *mut u8,
+        in_out_len: usize,
+    ) -> bool;
+
+    pub(crate) fn deerlapse_key_finish(
+        key: &Key,
+        message: &mut Message,
+        tag: &mut [u8; 16],
     ) -> bool;
 
     pub(crate) fn deerlapse_key_mask(key: &Key, sample: &[u8; 16], mask: &mut [u8; 5]) -> bool;

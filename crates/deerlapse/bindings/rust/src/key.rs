@@ -28,7 +28,7 @@ use core::ops::RangeFrom;
 /// # Ok::<(), deerlapse::Unspecified>(())
 /// ```
 #[derive(Clone)]
-pub struct LessSafeKey(ffi::Key);
+pub struct LessSafeKey(pub(crate) ffi::Key);
 
 impl LessSafeKey {
     /// Creates a key from 16 bytes, for AES-128-GCM, or 32, for AES-256-GCM.

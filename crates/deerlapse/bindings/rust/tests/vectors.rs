@@ -2,7 +2,7 @@
 
 use deerlapse::{
     chacha20, mask_aes, mask_chacha20, nonce_of, HeaderProtectionKey, LessSafeKey, Nonce, Opener,
-    Sealer, Unspecified,
+    Sealer, SealingMessage, Unspecified,
 };
 use std::error::Error;
 use std::mem::{size_of, MaybeUninit};
@@ -119,6 +119,23 @@ fn seals_and_opens_from_one_buffer_to_another() -> Result<(), Unspecified> {
         Err(Unspecified)
     );
     assert_eq!(out, message);
+    Ok(())
+}
+
+#[test]
+fn seals_in_pieces() -> Result<(), Unspecified> {
+    let key = LessSafeKey::new(&hex(KEY))?;
+    let (aad, message, sealed) = (hex(AAD), hex(MESSAGE), hex(SEALED));
+    for len in 1..=message.len() {
+        let mut buffer = message.clone();
+        let mut pieces = key.begin(nonce(), &aad)?;
+        pieces.update(&mut [])?;
+        for piece in buffer.chunks_mut(len) {
+            pieces.update(piece)?;
+        }
+        buffer.extend(pieces.finish());
+        assert_eq!(buffer, sealed);
+    }
     Ok(())
 }
 
@@ -280,6 +297,14 @@ fn a_dropped_key_is_wiped() -> Result<(), Unspecified> {
     assert!(dropped(sealer).iter().all(|&byte| byte == 0));
     let opener = Opener::new(&[7; 32], &[7; 12], 0..0)?;
     assert!(dropped(opener).iter().all(|&byte| byte == 0));
+    let key = LessSafeKey::new(&[7; 32])?;
+    let mut message = key.begin(nonce(), b"aad")?;
+    message.update(&mut [7; 100])?;
+    let left = dropped(message).iter().filter(|&&byte| byte != 0).count();
+    assert!(
+        left <= size_of::<usize>(),
+        "more than the address of the key"
+    );
     let key = HeaderProtectionKey::new(&[7; 32])?;
     assert!(dropped(key).iter().all(|&byte| byte == 0));
     Ok(())
@@ -289,6 +314,7 @@ fn a_dropped_key_is_wiped() -> Result<(), Unspecified> {
 fn threads_may_have_each_type() {
     fn may<T: Send + Sync>() {}
     may::<LessSafeKey>();
+    may::<SealingMessage<'_>>();
     may::<Sealer>();
     may::<Opener>();
     may::<HeaderProtectionKey>();
@@ -325,6 +351,8 @@ fn masks_and_streams() -> Result<(), Unspecified> {
 fn prints_no_secret() -> Result<(), Box<dyn Error>> {
     let key = LessSafeKey::new(&[7; 16])?;
     assert_eq!(format!("{key:?}"), "LessSafeKey { .. }");
+    let message = key.begin(nonce(), b"")?;
+    assert_eq!(format!("{message:?}"), "SealingMessage { .. }");
     let key = HeaderProtectionKey::new(&[7; 16])?;
     assert_eq!(format!("{key:?}"), "HeaderProtectionKey { .. }");
     let sealer = Sealer::new(&[7; 32], &[7; 12], 3..9)?;

@@ -1,0 +1,20 @@
+use Rattle.std.proofs.Common.{◌+◌, ◌-◌, ◌%◌, ◌++◌, length, take, drop, arith, ap}
+use Rattle.aead_ciphers_wide.proofs.PieceLemmas.{seals_full, seals_open}
+use Rattle.aead_ciphers_wide.proofs.aes_gcm.pieces.SealState.seal_in_batch.Goals as goal
+
+pub returns-then-end-eq-BATCH_LEN : goal.returns-then-end-eq-BATCH_LEN
+returns-then-end-eq-BATCH_LEN g c =
+    let n = c.args.self.now.len % 128 in
+    let batch = c.next_batch-self.result in
+    seals_full (g.A.EncryptBlock.cipher c.args.aes.now) c.args.self.now c.args.in_out.now c.xor_assign_at_start.new.a batch _ (omega arith)
+    c.requires.room c.requires.len (omega arith) (omega arith) c.next_batch-self.ensures.made c.next_batch-self.ensures.kept c.xor_assign_at_start.ensures
+    (ap (λ u. take n batch ++ (u ++ drop (n + length c.args.in_out.now - n) (drop n batch))) c.copy_from_slice.ensures.after)
+    _ (omega arith) c.requires.subkey c.absorb-self.ensures
+
+pub returns-else-end-eq-BATCH_LEN : goal.returns-else-end-eq-BATCH_LEN
+returns-else-end-eq-BATCH_LEN g c =
+    let n = c.args.self.now.len % 128 in
+    let batch = c.next_batch-self.result in
+    seals_open (g.A.EncryptBlock.cipher c.args.aes.now) c.args.self.now c.args.in_out.now c.xor_assign_at_start.new.a batch _ (omega arith)
+    c.requires.room c.requires.len (omega arith) (omega arith) c.next_batch-self.ensures.made c.next_batch-self.ensures.kept c.xor_assign_at_start.ensures
+    (ap (λ u. take n batch ++ (u ++ drop (n + length c.args.in_out.now - n) (drop n batch))) c.copy_from_slice.ensures.after) (omega arith)

@@ -1,0 +1,39 @@
+-- A message that is sealed in pieces (SP 800-38D section 7.1).
+use Rattle.std.specs.Prelude.{◌≡◌, ℕ, ◌+◌, ◌/◌, ◌%◌, ◌<◌, List, ◌++◌, length, drop, replicate}
+use Rattle.aead_ciphers_base.specs.Bytes.{zero_block}
+use Rattle.aead_ciphers_base.specs.CounterMode.{counter_mode}
+use Rattle.aead_ciphers.specs.Gcm.{Fits, gcm_encrypted, padded_blocks}
+use Rattle.aead_ciphers.specs.HashOf.{IsHashOf}
+use Rattle.aead_ciphers_wide.specs.declared.aes_gcm.pieces.SealState.{SealState}
+
+-- the 128 bytes of keystream after n bytes of plaintext, which are whole blocks (section 6.5)
+abbrev pub keystream : (List ℕ → List ℕ) → List ℕ → ℕ → List ℕ
+keystream cipher nonce n = counter_mode cipher nonce (2 + n / 16) (replicate 128 0)
+
+-- The state after pieces were sealed with `aad`: `message` is all of them in a row, and `ciphertext` what they became in a
+-- row. That is whole batches of eight blocks, which are hashed, and then fewer than 128 bytes, which are kept before the
+-- rest of their keystream.
+pub record HasSealed (cipher : List ℕ → List ℕ) (nonce aad message ciphertext : List ℕ) (s : SealState) : Type 0 where
+  pub encrypted : ciphertext ≡ gcm_encrypted cipher nonce message
+  pub begun : 0 < s.begun
+  pub fits : Fits s.aad_len s.len
+  pub nonce_is : s.nonce ≡ nonce
+  pub aad_len : s.aad_len ≡ length aad
+  pub len : s.len ≡ length message
+  pub whole : List ℕ
+  pub rest : List ℕ
+  pub parts : ciphertext ≡ whole ++ rest
+  pub aligned : length whole % 128 ≡ 0
+  pub short : length rest < 128
+  pub hashed : IsHashOf (cipher zero_block) (padded_blocks aad ++ padded_blocks whole) s.xi
+  pub kept : 0 < length rest → s.batch ≡ rest ++ drop (length rest) (keystream cipher nonce (length whole))
+
+-- One more piece was sealed, whose ciphertext is `out`. The nonce and the length of the AAD stay.
+pub record SealsPiece (cipher : List ℕ → List ℕ) (was : SealState) (piece out : List ℕ) (now : SealState) : Type 0 where
+  pub kept : now ≡ record was { xi = now.xi; batch = now.batch; len = was.len + length piece }
+  pub sealed : (nonce aad message ciphertext : List ℕ) → HasSealed cipher nonce aad message ciphertext was
+      → HasSealed cipher nonce aad (message ++ piece) (ciphertext ++ out) now
+
+-- the fields of a message that has not begun, or that is finished: all zeros
+abbrev pub zero_state : SealState
+zero_state = record { xi = replicate 16 0; batch = replicate 128 0; aad_len = 0; len = 0; nonce = replicate 12 0; begun = 0 }

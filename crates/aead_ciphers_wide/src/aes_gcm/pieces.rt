@@ -1,0 +1,210 @@
+//! Sealing a message in pieces of any lengths, with any cipher and hash (SP 800-38D section 7.1).
+
+ghost use Rattle.std.specs.Prelude.{◌≡◌, ◌↔◌, ◌≤◌, ◌<◌, ◌+◌, ◌%◌, ◌^◌, ◌-◌, ℕ, List, [], ◌++◌, length, IsOk, IfOk, OnOk, OnErr};
+ghost use Rattle.aead_ciphers_base.specs.Bytes.{zero_block};
+ghost use Rattle.aead_ciphers_base.specs.Values.{aad_bytes};
+ghost use Rattle.aead_ciphers.specs.Gcm.{Fits, gcm_tag, length_block, padded_block, padded_blocks};
+ghost use Rattle.aead_ciphers.specs.HashOf.{IsHashOf};
+ghost use Rattle.aead_ciphers_wide.specs.Pieces.{HasSealed, SealsPiece, keystream, zero_state};
+
+use aead_ciphers::gcm::{MAX_IN_OUT_LEN, UpdateBlocks, Xi};
+use aead_ciphers_base::aes::{
+    BLOCK_LEN, Block, Counter, EncryptCtr32, Iv, Overlapping, Work, ZERO_BLOCK,
+};
+use aead_ciphers_base::bb;
+use aead_ciphers_base::error::Unspecified;
+use aead_ciphers_base::polyfill::slice::as_chunks;
+use aead_ciphers_base::values::{Aad, NONCE_LEN, Nonce, Tag};
+
+/// The length of a batch, in bytes: eight blocks, which one pass of the wide cipher encrypts.
+const BATCH_LEN: usize = 8 * BLOCK_LEN;
+
+/// What is kept of a message that is sealed in pieces, as plain data without padding. The keystream in `batch` is secret.
+#[repr(C)]
+#[derive(Drop)]
+pub struct SealState {
+    /// The hash of the AAD and of the whole batches of ciphertext.
+    pub xi: Block,
+    /// The ciphertext after the whole batches, followed by the rest of its keystream.
+    pub batch: [u8; BATCH_LEN],
+    /// The length of the AAD, in bytes.
+    pub aad_len: usize,
+    /// The length of the pieces that were sealed, in bytes.
+    pub len: usize,
+    /// The nonce of the message.
+    pub nonce: [u8; NONCE_LEN],
+    /// 1 in a message that has begun, and 0 in zeros.
+    pub begun: u32,
+}
+
+impl SealState {
+    /// Returns a value whose fields are all zeros. It is not a message that has begun.
+    pub fn zeros() -> Self
+        ensures { result ≡ zero_state }
+    {
+        SealState {
+            xi: ZERO_BLOCK,
+            batch: [0; BATCH_LEN],
+            aad_len: 0,
+            len: 0,
+            nonce: [0; NONCE_LEN],
+            begun: 0,
+        }
+    }
+
+    /// Begins a message, of which no piece is sealed yet, for any cipher whose encryption of the zero block is the hash
+    /// subkey.
+    ///
+    /// # Errors
+    ///
+    /// Fails with `Unspecified` if `aad` is 2^61 bytes or longer (SP 800-38D section 5.2.1.1).
+    pub fn begin_with<G: UpdateBlocks>(
+        gcm: &G,
+        nonce: Nonce,
+        aad: Aad<'_>,
+    ) -> Result<SealState, Unspecified>
+        ensures accepted { IsOk result ↔ Fits (length (aad_bytes aad.entry)) 0 }
+        ensures begun { IfOk result (λ s. (cipher : List ℕ → List ℕ)
+            → G.hash_subkey gcm.now ≡ cipher zero_block
+            → HasSealed cipher nonce (aad_bytes aad.entry) [] [] s) }
+    {
+        let aad = aad.as_ref();
+        if aad.len() >= 1 << 61 {
+            return Err(Unspecified);
+        }
+        Ok(SealState {
+            xi: absorb(gcm, ZERO_BLOCK, aad),
+            batch: [0; BATCH_LEN],
+            aad_len: aad.len(),
+            len: 0,
+            nonce: *nonce.as_ref(),
+            begun: 1,
+        })
+    }
+
+    /// Encrypts the next piece of the message in place, under the key that the message began with.
+    ///
+    /// # Errors
+    ///
+    /// Fails with `Unspecified`, and changes nothing, if the message would be longer than 2^36 - 32 bytes.
+    pub fn update_with<A: EncryptCtr32, G: UpdateBlocks>(
+        &mut self,
+        aes: &A,
+        gcm: &G,
+        in_out: &mut [u8],
+    ) -> Result<(), Unspecified>
+        requires subkey { G.hash_subkey gcm.now ≡ A.cipher aes.now zero_block }
+        requires fits { Fits self.old.aad_len self.old.len }
+        ensures accepted { IsOk result ↔ Fits self.old.aad_len (self.old.len + length in_out.old) }
+        ensures sealed { OnOk result
+            (SealsPiece (A.cipher aes.now) self.old in_out.old in_out.new self.new) }
+        ensures refused { OnErr result ((self.new ≡ self.old) × (in_out.new ≡ in_out.old)) }
+    {
+        if in_out.len() > MAX_IN_OUT_LEN - self.len {
+            return Err(Unspecified);
+        }
+        let mut done = 0;
+        while done < in_out.len() {
+            let count = (in_out.len() - done).min(BATCH_LEN - self.len % BATCH_LEN);
+            self.seal_in_batch(aes, gcm, &mut in_out[done..done + count]);
+            done += count;
+        }
+        Ok(())
+    }
+
+    /// Ends the message, and returns the tag of its AAD and of the ciphertexts of all its pieces in a row.
+    pub fn finish_with<A: EncryptCtr32, G: UpdateBlocks>(self, aes: &A, gcm: &G) -> Tag
+        requires subkey { G.hash_subkey gcm.now ≡ A.cipher aes.now zero_block }
+        requires fits { Fits self.aad_len self.len }
+        ensures { (nonce aad message ciphertext : List ℕ)
+            → HasSealed (A.cipher aes.now) nonce aad message ciphertext self
+            → result ≡ gcm_tag (A.cipher aes.now) nonce aad ciphertext }
+    {
+        let xi = absorb(gcm, self.xi, &self.batch[..self.len % BATCH_LEN]);
+        let pre_tag = absorb(gcm, xi, &lengths(self.aad_len as u64, self.len as u64));
+        let tag_iv: Iv = Counter::one(Nonce::assume_unique_for_key(self.nonce)).into();
+        Tag::from(aes.encrypt_iv_xor_block(tag_iv, pre_tag, &mut Work::new()))
+    }
+
+    /// Seals a piece that ends in the batch of its first byte.
+    fn seal_in_batch<A: EncryptCtr32, G: UpdateBlocks>(
+        &mut self,
+        aes: &A,
+        gcm: &G,
+        in_out: &mut [u8],
+    )
+        requires subkey { G.hash_subkey gcm.now ≡ A.cipher aes.now zero_block }
+        requires room { self.old.len % 128 + length in_out.old ≤ 128 }
+        requires len { self.old.len + length in_out.old ≤ 2 ^ 36 - 32 }
+        ensures { SealsPiece (A.cipher aes.now) self.old in_out.old in_out.new self.new }
+    {
+        let start = self.len % BATCH_LEN;
+        let end = start + in_out.len();
+        self.batch = self.next_batch(aes);
+        bb::xor_assign_at_start(in_out, &self.batch[start..end]);
+        self.batch[start..end].copy_from_slice(in_out);
+        self.len += in_out.len();
+        if end == BATCH_LEN {
+            self.xi = absorb(gcm, self.xi, &self.batch);
+        }
+    }
+
+    /// Returns the batch of the next byte. At the start of a batch, it is new keystream.
+    fn next_batch<A: EncryptCtr32>(&self, aes: &A) -> [u8; BATCH_LEN]
+        requires { self.now.len ≤ 2 ^ 36 - 32 }
+        ensures made { self.now.len % 128 ≡ 0
+            → result ≡ keystream (A.cipher aes.now) self.now.nonce self.now.len }
+        ensures kept { 0 < self.now.len % 128 → result ≡ self.now.batch }
+    {
+        if self.len % BATCH_LEN != 0 {
+            return self.batch;
+        }
+        let mut counter = Counter::one(Nonce::assume_unique_for_key(self.nonce));
+        counter.increment_by_less_safe((1 + self.len / BLOCK_LEN) as u32);
+        let mut batch = [0; BATCH_LEN];
+        aes.ctr32_encrypt_within(
+            Overlapping::within(&mut batch, 0),
+            &mut counter,
+            &mut Work::new(),
+        );
+        batch
+    }
+}
+
+/// Returns the hash `xi` updated with the blocks of `input`, the last of which is padded with zeros.
+fn absorb<G: UpdateBlocks>(gcm: &G, xi: Block, input: &[u8]) -> Block
+    ensures { (done : List (List ℕ)) → IsHashOf (G.hash_subkey gcm.now) done xi
+        → IsHashOf (G.hash_subkey gcm.now) (done ++ padded_blocks input.now) result }
+{
+    let mut hash = Xi::zero();
+    hash.set(xi);
+    let (whole, rest) = as_chunks::<u8, BLOCK_LEN>(input);
+    gcm.update_blocks(&mut hash, whole, &mut Work::new());
+    if !rest.is_empty() {
+        gcm.update_block(&mut hash, padded(rest), &mut Work::new());
+    }
+    *hash.as_ref()
+}
+
+/// Returns a block that begins with `bytes`, at most 16 of them, and ends in zeros.
+#[tactic(auto, using(aead_ciphers::proofs::PaddedBlocks::padded_is))]
+fn padded(bytes: &[u8]) -> Block
+    requires { length bytes.now ≤ 16 }
+    ensures { result ≡ padded_block bytes.now 0 }
+{
+    let mut block = ZERO_BLOCK;
+    block[..bytes.len()].copy_from_slice(bytes);
+    block
+}
+
+/// Returns the block of two lengths, which are passed in bytes and written in bits (SP 800-38D section 7.1 step 5).
+#[tactic(auto, using(aead_ciphers::proofs::PaddedBlocks::lengths_are))]
+fn lengths(aad_len: u64, in_out_len: u64) -> Block
+    requires { Fits aad_len in_out_len }
+    ensures { result ≡ length_block aad_len in_out_len }
+{
+    let mut block = ZERO_BLOCK;
+    block[..8].copy_from_slice(&(8 * aad_len).to_be_bytes());
+    block[8..].copy_from_slice(&(8 * in_out_len).to_be_bytes());
+    block
+}
