@@ -166,7 +166,7 @@ static bool seal_in_pieces(const sealing *s, const uint8_t *aad, uint8_t *in_out
     }
     was = message;
     CHECK(!CALL(deerlapse_key_update(&no_key, &message, in_out, s->len)));
-    CHECK(!CALL(deerlapse_key_update(&key, &message, in_out, ((size_t)1 << 36) - 31 - s->len)));
+    CHECK(!CALL(deerlapse_key_update(&key, &message, tag, ((size_t)1 << 36) - 31 - s->len)));
     CHECK(!CALL(deerlapse_key_finish(&no_key, &message, tag)) && SAME(message, was));
     CHECK(CALL(deerlapse_key_finish(&key, &message, tag)) && SAME(message, zeros));
     CHECK(!CALL(deerlapse_key_update(&key, &message, in_out, s->len)));

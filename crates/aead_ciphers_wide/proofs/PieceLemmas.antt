@@ -11,7 +11,7 @@ use proofs.CounterModeLemmas.{counter_byte-later, counter_mode-nil, length-count
 use proofs.EachLemmas.{get_or-each, length-each}
 use proofs.StreamLemmas.{stream_front, xored-append, xored-is}
 use proofs.XorLemmas.{xor-take, xor_comm, xor_zeros}
-use Rattle.aead_ciphers.specs.Gcm.{Fits, gcm_encrypted, gcm_tag, hashed, length_block, padded_block, padded_blocks}
+use Rattle.aead_ciphers.specs.Gcm.{gcm_encrypted, gcm_tag, hashed, length_block, padded_blocks}
 use Rattle.aead_ciphers.specs.Ghash.{ghash}
 use Rattle.aead_ciphers.specs.HashOf.{IsHashOf}
 use Rattle.aead_ciphers.proofs.PaddedBlocks.{padded_blocks-append, padded_blocks_none, padded_blocks_short, padded_is}

@@ -1,7 +1,6 @@
-use Rattle.std.proofs.Common.{sym, subst, ◌≡◌, ap, ◌∙◌}
+use Rattle.std.proofs.Common.{◌∙◌, ap, subst, sym}
 use Rattle.aead_ciphers_base.specs.Aes.{aes}
 use Rattle.aead_ciphers.specs.Gcm.{gcm_tag}
-use Rattle.aead_ciphers_wide.specs.ExpandedKey.{bytes_of}
 use Rattle.aead_ciphers_wide.specs.Pieces.{HasSealed}
 use Rattle.aead_ciphers_wide.proofs.aes_gcm.ExpandedKey.finish.Goals as goal
 

@@ -1,5 +1,4 @@
-use Rattle.std.proofs.Common.{◌∙◌, ap, ap₂, arith}
-use Rattle.aead_ciphers_base.specs.Bytes.{◌⊕◌}
+use Rattle.std.proofs.Common.{◌∙◌, ap, arith}
 use Rattle.aead_ciphers_base.specs.CounterMode.{counter_block}
 use Rattle.aead_ciphers_wide.proofs.PieceLemmas.{ends}
 use Rattle.aead_ciphers_wide.proofs.aes_gcm.pieces.SealState.finish_with.Goals as goal
