@@ -1,0 +1,128 @@
+/* An OpenSSL 3 provider of AES-128-GCM and AES-256-GCM by deerlapse.h: what OpenSSL loads, asks and unloads (provider(7),
+ * provider-base(7)). The ciphers are in cipher.c. */
+#include "provider.h"
+#include <deerlapse.h>
+#include <openssl/core_names.h>
+#include <openssl/err.h>
+#include <openssl/params.h>
+#include <openssl/proverr.h>
+
+#define TEXT_OF(number) #number
+#define DOTTED(major, minor, patch) TEXT_OF(major) "." TEXT_OF(minor) "." TEXT_OF(patch)
+#define VERSION DOTTED(DEERLAPSE_VERSION_MAJOR, DEERLAPSE_VERSION_MINOR, DEERLAPSE_VERSION_PATCH)
+
+static const OSSL_ITEM texts[] = {
+    {KEY_LENGTH, "the key has another length than the cipher's"},
+    {NONCE_LENGTH, "a nonce has 12 bytes"},
+    {TAG_LENGTH, "a tag has 16 bytes, and is set to open a message"},
+    {NO_KEY, "no key is set"},
+    {NO_NONCE, "no nonce is set"},
+    {SECOND_MESSAGE, "a second message before a new nonce"},
+    {LATE_AAD, "AAD after the message has begun"},
+    {OPENING_IN_PIECES, "opening in pieces: a message is opened in one update"},
+    {NO_TAG, "no tag is set before the message is opened"},
+    {LATE_TAG, "a tag is set after the update, and not before"},
+    {TAG_OF_NO_MESSAGE, "no message was sealed to its end, which makes the tag"},
+    {COPY, "a context that seals isn't copied: both would use one nonce"},
+    {SHORT_OUTPUT, "the output is shorter than the input"},
+    {OVERLAP, "the output overlaps the input, and isn't the same"},
+    {TOO_LONG, "the message is too long"},
+    {NO_RECORD, "not a record in place, under a nonce of which the first 4 bytes are fixed"},
+    {0, NULL},
+};
+
+int refuse_at(const provider *by, const char *file, int line, const char *function, int why, const char *format, ...) {
+    va_list arguments;
+    if (by->new_error == NULL || by->set_error_debug == NULL || by->vset_error == NULL) return 0;
+    va_start(arguments, format);
+    by->new_error(by->core);
+    by->set_error_debug(by->core, file, line, function);
+    by->vset_error(by->core, (uint32_t)why, format, arguments);
+    va_end(arguments);
+    return 0;
+}
+
+/* OpenSSL calls it once for each kind of algorithm: the provider has ciphers alone. */
+static OSSL_FUNC_provider_query_operation_fn query;
+static const OSSL_ALGORITHM *query(void *of, int operation, int *no_cache) {
+    static const OSSL_ALGORITHM ciphers[] = {
+        {"AES-128-GCM:id-aes128-GCM:2.16.840.1.101.3.4.1.6", "provider=deerlapse", aes_128_gcm, "AES-128-GCM by deerlapse"},
+        {"AES-256-GCM:id-aes256-GCM:2.16.840.1.101.3.4.1.46", "provider=deerlapse", aes_256_gcm, "AES-256-GCM by deerlapse"},
+        {NULL, NULL, NULL, NULL},
+    };
+    (void)of;
+    *no_cache = 0;
+    return operation == OSSL_OP_CIPHER ? ciphers : NULL;
+}
+
+/* What `openssl list -providers` prints. */
+static OSSL_FUNC_provider_gettable_params_fn gettable;
+static const OSSL_PARAM *gettable(void *of) {
+    static const OSSL_PARAM params[] = {
+        OSSL_PARAM_utf8_ptr(OSSL_PROV_PARAM_NAME, NULL, 0),
+        OSSL_PARAM_utf8_ptr(OSSL_PROV_PARAM_VERSION, NULL, 0),
+        OSSL_PARAM_utf8_ptr(OSSL_PROV_PARAM_BUILDINFO, NULL, 0),
+        OSSL_PARAM_int(OSSL_PROV_PARAM_STATUS, NULL),
+        OSSL_PARAM_END,
+    };
+    (void)of;
+    return params;
+}
+
+static OSSL_FUNC_provider_get_params_fn get_params;
+static int get_params(void *of, OSSL_PARAM params[]) {
+    static const char *const strings[][2] = {
+        {OSSL_PROV_PARAM_NAME, "Deerlapse"}, {OSSL_PROV_PARAM_VERSION, VERSION}, {OSSL_PROV_PARAM_BUILDINFO, VERSION}};
+    OSSL_PARAM *param;
+    (void)of;
+    for (size_t i = 0; i < sizeof strings / sizeof *strings; i++) {
+        param = OSSL_PARAM_locate(params, strings[i][0]);
+        if (param != NULL && !OSSL_PARAM_set_utf8_ptr(param, strings[i][1])) return 0;
+    }
+    param = OSSL_PARAM_locate(params, OSSL_PROV_PARAM_STATUS);
+    return param == NULL || OSSL_PARAM_set_int(param, 1);
+}
+
+/* OpenSSL calls it after loading, for the texts of the errors. */
+static OSSL_FUNC_provider_get_reason_strings_fn get_reason_strings;
+static const OSSL_ITEM *get_reason_strings(void *of) {
+    (void)of;
+    return texts;
+}
+
+static OSSL_FUNC_provider_teardown_fn teardown;
+static void teardown(void *of) { OPENSSL_free(of); }
+
+/* OpenSSL calls it when it loads the shared object, whose only exported function it is. The provider isn't loaded where the
+ * processor lacks instructions of the library. */
+__attribute__((visibility("default"))) OSSL_provider_init_fn OSSL_provider_init;
+int OSSL_provider_init(const OSSL_CORE_HANDLE *core, const OSSL_DISPATCH *in, const OSSL_DISPATCH **out, void **context) {
+    static const OSSL_DISPATCH functions[] = {
+        {OSSL_FUNC_PROVIDER_QUERY_OPERATION, (void (*)(void))query},
+        {OSSL_FUNC_PROVIDER_GETTABLE_PARAMS, (void (*)(void))gettable},
+        {OSSL_FUNC_PROVIDER_GET_PARAMS, (void (*)(void))get_params},
+        {OSSL_FUNC_PROVIDER_GET_REASON_STRINGS, (void (*)(void))get_reason_strings},
+        {OSSL_FUNC_PROVIDER_TEARDOWN, (void (*)(void))teardown},
+        {0, NULL},
+    };
+    provider *made = OPENSSL_zalloc(sizeof *made);
+    if (made == NULL) return 0;
+    made->core = core;
+    for (; in->function_id != 0; in++) {
+        switch (in->function_id) {
+        case OSSL_FUNC_CORE_NEW_ERROR: made->new_error = OSSL_FUNC_core_new_error(in); break;
+        case OSSL_FUNC_CORE_SET_ERROR_DEBUG: made->set_error_debug = OSSL_FUNC_core_set_error_debug(in); break;
+        case OSSL_FUNC_CORE_VSET_ERROR: made->vset_error = OSSL_FUNC_core_vset_error(in); break;
+        default: break;
+        }
+    }
+    if (!deerlapse_cpu_supported()) {
+        refuse_at(made, OPENSSL_FILE, OPENSSL_LINE, OPENSSL_FUNC, ERR_PACK(ERR_LIB_PROV, 0, ERR_R_INIT_FAIL),
+                  "deerlapse: this processor lacks instructions that the library was built for");
+        OPENSSL_free(made);
+        return 0;
+    }
+    *out = functions;
+    *context = made;
+    return 1;
+}

@@ -1,0 +1,43 @@
+/* What the two files of the provider share. */
+#ifndef DEERLAPSE_PROVIDER_H
+#define DEERLAPSE_PROVIDER_H
+
+#include <openssl/core_dispatch.h>
+#include <openssl/crypto.h>
+
+/* A loaded provider: OpenSSL's handle of it, and the functions that put an error into OpenSSL's queue. */
+typedef struct {
+    const OSSL_CORE_HANDLE *core;
+    OSSL_FUNC_core_new_error_fn *new_error;
+    OSSL_FUNC_core_set_error_debug_fn *set_error_debug;
+    OSSL_FUNC_core_vset_error_fn *vset_error;
+} provider;
+
+/* Why a call is refused. The texts, which OpenSSL prints, are in provider.c. */
+typedef enum {
+    KEY_LENGTH = 1,
+    NONCE_LENGTH,
+    TAG_LENGTH,
+    NO_KEY,
+    NO_NONCE,
+    SECOND_MESSAGE,
+    LATE_AAD,
+    OPENING_IN_PIECES,
+    NO_TAG,
+    LATE_TAG,
+    TAG_OF_NO_MESSAGE,
+    COPY,
+    SHORT_OUTPUT,
+    OVERLAP,
+    TOO_LONG,
+    NO_RECORD
+} reason;
+
+/* Puts a reason into the queue, and returns 0. The text `format`, if it isn't null, is printed after it. */
+int refuse_at(const provider *by, const char *file, int line, const char *function, int why, const char *format, ...);
+#define refuse(by, why) refuse_at(by, OPENSSL_FILE, OPENSSL_LINE, OPENSSL_FUNC, why, NULL)
+
+/* The functions of the two ciphers, in cipher.c. */
+extern const OSSL_DISPATCH aes_128_gcm[], aes_256_gcm[];
+
+#endif

@@ -1,0 +1,433 @@
+/* Calls of EVP on the provider deerlapse, which the configuration of OpenSSL prefers, beside OpenSSL's own cipher: messages,
+ * records of TLS 1.2, nonces that are made, and each call that is refused, with the reason in the error queue.
+ *
+ * Use: calls ROUNDS. It prints how many there were. */
+#include <openssl/core_names.h>
+#include <openssl/err.h>
+#include <openssl/evp.h>
+#include <openssl/params.h>
+#include <openssl/provider.h>
+#include <stdbool.h>
+#include <stdint.h>
+#include <stdio.h>
+#include <stdlib.h>
+#include <string.h>
+
+enum { NONCE = 12, TAG = 16, MAX_LEN = 70000, MAX_AAD = 300, MAX_PIECES = 5, EXPLICIT = 8, RECORD_AAD = 13 };
+
+#define CHECK(is)                                                    \
+    do {                                                             \
+        if (!(is)) {                                                 \
+            fprintf(stderr, "failed: line %d, %s\n", __LINE__, #is); \
+            ERR_print_errors_fp(stderr);                             \
+            exit(1);                                                 \
+        }                                                            \
+    } while (0)
+
+/* One of the two ciphers, by the provider and by OpenSSL. */
+typedef struct {
+    EVP_CIPHER *ours, *theirs;
+    int key_len;
+} pair;
+
+typedef struct {
+    uint8_t key[32], nonce[NONCE], aad[MAX_AAD], text[MAX_LEN], sealed[MAX_LEN], tag[TAG];
+    size_t aad_len, len;
+} message;
+
+static pair pairs[2];
+static message it;
+static uint8_t out[MAX_LEN + 1];
+static unsigned long messages, records, nonces, refusals;
+
+static uint32_t some(uint32_t below) {
+    static uint64_t state = 1;
+    state = state * 6364136223846793005u + 1442695040888963407u;
+    return (uint32_t)(state >> 33) % below;
+}
+
+static void fill(uint8_t *bytes, size_t len) {
+    for (size_t i = 0; i < len; i++) bytes[i] = (uint8_t)some(256);
+}
+
+static void fetch(pair *to, const char *name, const char *alias, const char *oid, int key_len) {
+    EVP_CIPHER *by_alias = EVP_CIPHER_fetch(NULL, alias, NULL), *by_oid = EVP_CIPHER_fetch(NULL, oid, NULL);
+    to->ours = EVP_CIPHER_fetch(NULL, name, NULL);
+    to->theirs = EVP_CIPHER_fetch(NULL, name, "provider=default");
+    to->key_len = key_len;
+    CHECK(to->ours != NULL && to->theirs != NULL);
+    CHECK(by_alias == to->ours && by_oid == to->ours);
+    CHECK(strcmp(OSSL_PROVIDER_get0_name(EVP_CIPHER_get0_provider(to->ours)), "deerlapse") == 0);
+    CHECK(EVP_CIPHER_get_nid(to->ours) == EVP_CIPHER_get_nid(to->theirs));
+    CHECK(EVP_CIPHER_get_key_length(to->ours) == key_len);
+    CHECK(EVP_CIPHER_get_iv_length(to->ours) == NONCE);
+    CHECK(EVP_CIPHER_get_block_size(to->ours) == 1);
+    CHECK(EVP_CIPHER_get_flags(to->ours) == EVP_CIPHER_get_flags(to->theirs));
+    EVP_CIPHER_free(by_alias);
+    EVP_CIPHER_free(by_oid);
+}
+
+/* A context with a key and a nonce. */
+static EVP_CIPHER_CTX *context(const EVP_CIPHER *cipher, bool encrypting) {
+    EVP_CIPHER_CTX *ctx = EVP_CIPHER_CTX_new();
+    CHECK(ctx != NULL && EVP_CipherInit_ex(ctx, cipher, NULL, it.key, it.nonce, encrypting));
+    return ctx;
+}
+
+static bool ctrl(EVP_CIPHER_CTX *ctx, int what, int len, void *bytes) {
+    return EVP_CIPHER_CTX_ctrl(ctx, what, len, bytes) > 0;
+}
+
+static bool update(EVP_CIPHER_CTX *ctx, uint8_t *to, const uint8_t *from, size_t len) {
+    int written = -1;
+    return EVP_CipherUpdate(ctx, to, &written, from, (int)len) > 0 && written == (int)len;
+}
+
+static bool final(EVP_CIPHER_CTX *ctx) {
+    int written = -1;
+    return EVP_CipherFinal_ex(ctx, out, &written) > 0 && written == 0;
+}
+
+/* The AAD in one update or in two, the second of which may be empty. */
+static void add_aad(EVP_CIPHER_CTX *ctx) {
+    size_t first = some((uint32_t)it.aad_len + 1);
+    CHECK(update(ctx, NULL, it.aad, first));
+    CHECK(update(ctx, NULL, it.aad + first, it.aad_len - first));
+}
+
+/* Seals the message in so many pieces. */
+static void seal(const EVP_CIPHER *cipher, uint8_t *to, uint8_t *tag, const uint8_t *text, unsigned pieces) {
+    EVP_CIPHER_CTX *ctx = context(cipher, true);
+    size_t done = 0, len;
+    add_aad(ctx);
+    for (; pieces > 0; pieces--, done += len) {
+        len = pieces == 1 ? it.len - done : some((uint32_t)(it.len - done) + 1);
+        CHECK(update(ctx, to + done, text + done, len));
+    }
+    CHECK(final(ctx) && ctrl(ctx, EVP_CTRL_AEAD_GET_TAG, TAG, tag));
+    EVP_CIPHER_CTX_free(ctx);
+}
+
+static bool opens(const EVP_CIPHER *cipher, uint8_t *to, const uint8_t *from) {
+    EVP_CIPHER_CTX *ctx = context(cipher, false);
+    bool opened;
+    CHECK(ctrl(ctx, EVP_CTRL_AEAD_SET_TAG, TAG, it.tag));
+    add_aad(ctx);
+    opened = update(ctx, to, from, it.len) && final(ctx);
+    EVP_CIPHER_CTX_free(ctx);
+    return opened;
+}
+
+/* Takes what is in the error queue: the provider's error has this text. EVP may have added one. */
+static bool reason_is(const char *text) {
+    bool is = false;
+    for (unsigned long error = ERR_get_error(); error != 0; error = ERR_get_error()) {
+        const char *by = ERR_lib_error_string(error), *found = ERR_reason_error_string(error);
+        if (by == NULL || found == NULL || strcmp(by, "deerlapse") != 0) continue;
+        is = strcmp(found, text) == 0;
+        if (!is) fprintf(stderr, "%s, and not: %s\n", found, text);
+    }
+    return is;
+}
+
+/* Both seal the same, in place too, and each opens it. With a bit flipped, ours doesn't, writes zeros alone, and leaves no
+ * error. */
+static void a_message(const pair *by) {
+    uint8_t tag[TAG], *flipped;
+    fill(it.key, sizeof it.key);
+    fill(it.nonce, NONCE);
+    it.aad_len = some(4) == 0 ? 0 : some(MAX_AAD);
+    it.len = some(some(8) == 0 ? MAX_LEN : 300);
+    fill(it.aad, it.aad_len);
+    fill(it.text, it.len);
+    seal(by->theirs, it.sealed, it.tag, it.text, 1);
+    seal(by->ours, out, tag, it.text, 1 + some(MAX_PIECES));
+    CHECK(memcmp(out, it.sealed, it.len) == 0 && memcmp(tag, it.tag, TAG) == 0);
+    memcpy(out, it.text, it.len);
+    seal(by->ours, out, tag, out, 1 + some(MAX_PIECES));
+    CHECK(memcmp(out, it.sealed, it.len) == 0 && memcmp(tag, it.tag, TAG) == 0);
+    CHECK(opens(by->ours, out, out) && memcmp(out, it.text, it.len) == 0);
+    memset(out, 0xa7, sizeof out);
+    CHECK(opens(by->ours, out, it.sealed) && memcmp(out, it.text, it.len) == 0 && out[it.len] == 0xa7);
+    CHECK(opens(by->theirs, out, it.sealed) && memcmp(out, it.text, it.len) == 0);
+    CHECK(ERR_peek_error() == 0);
+    flipped = it.len > 0 && some(2) == 0 ? &it.sealed[some((uint32_t)it.len)] : &it.tag[some(TAG)];
+    *flipped ^= (uint8_t)(1 << some(8));
+    memset(out, 0xa7, it.len);
+    CHECK(!opens(by->ours, out, it.sealed) && ERR_peek_error() == 0);
+    for (size_t i = 0; i < it.len; i++) CHECK(out[i] == 0);
+    messages++;
+}
+
+/* Sets the AAD of a record of TLS 1.2 with so many bytes of text, and more that are its overhead. */
+static bool record_aad(EVP_CIPHER_CTX *ctx, size_t number, size_t len) {
+    uint8_t aad[RECORD_AAD] = {[7] = (uint8_t)number, 23, 3, 3, (uint8_t)(len >> 8), (uint8_t)len};
+    return EVP_CIPHER_CTX_ctrl(ctx, EVP_CTRL_AEAD_TLS1_AAD, RECORD_AAD, aad) == TAG;
+}
+
+/* What one seals the other opens, under nonces that it makes. With a bit flipped ours doesn't, and leaves no error. */
+static void some_records(const EVP_CIPHER *sealing, const EVP_CIPHER *opening, bool ours_opens) {
+    static uint8_t buffer[EXPLICIT + 500 + TAG], last[EXPLICIT];
+    EVP_CIPHER_CTX *seals = EVP_CIPHER_CTX_new(), *open = EVP_CIPHER_CTX_new();
+    CHECK(EVP_EncryptInit_ex(seals, sealing, NULL, it.key, NULL) && EVP_DecryptInit_ex(open, opening, NULL, it.key, NULL));
+    CHECK(ctrl(seals, EVP_CTRL_GCM_SET_IV_FIXED, 4, it.nonce) && ctrl(open, EVP_CTRL_GCM_SET_IV_FIXED, 4, it.nonce));
+    for (size_t number = 0; number < 100; number++) {
+        size_t len = some(500), all = EXPLICIT + len + TAG;
+        memcpy(buffer + EXPLICIT, it.text, len);
+        CHECK(record_aad(seals, number, EXPLICIT + len));
+        CHECK(EVP_Cipher(seals, buffer, buffer, (unsigned)all) == (int)all);
+        CHECK(number == 0 || memcmp(buffer, last, EXPLICIT) != 0);
+        memcpy(last, buffer, EXPLICIT);
+        if (ours_opens && number % 4 == 0) {
+            buffer[EXPLICIT + some((uint32_t)(all - EXPLICIT))] ^= 0x10;
+            CHECK(record_aad(open, number, all));
+            CHECK(EVP_Cipher(open, buffer, buffer, (unsigned)all) < 0 && ERR_peek_error() == 0);
+            continue;
+        }
+        CHECK(record_aad(open, number, all));
+        CHECK(EVP_Cipher(open, buffer, buffer, (unsigned)all) == (int)all);
+        CHECK(memcmp(buffer + EXPLICIT, it.text, len) == 0);
+        records++;
+    }
+    EVP_CIPHER_CTX_free(seals);
+    EVP_CIPHER_CTX_free(open);
+}
+
+/* From a whole nonce on, as OpenSSH makes them, and over the carry of the number's last bytes. */
+static void made_nonces(const pair *by) {
+    static uint8_t first[NONCE] = {1, 2, 3, 4, 5, 6, 7, 8, 0xff, 0xff, 0xff, 0xf0};
+    EVP_CIPHER_CTX *ours = EVP_CIPHER_CTX_new(), *theirs = EVP_CIPHER_CTX_new();
+    uint8_t mine[NONCE], other[NONCE], whole[NONCE];
+    CHECK(EVP_EncryptInit_ex(ours, by->ours, NULL, it.key, NULL));
+    CHECK(EVP_EncryptInit_ex(theirs, by->theirs, NULL, it.key, NULL));
+    CHECK(ctrl(ours, EVP_CTRL_GCM_SET_IV_FIXED, -1, first) && ctrl(theirs, EVP_CTRL_GCM_SET_IV_FIXED, -1, first));
+    for (int i = 0; i < 40; i++) {
+        int len = i % 2 == 0 ? NONCE : EXPLICIT;
+        CHECK(ctrl(ours, EVP_CTRL_GCM_IV_GEN, len, mine) && ctrl(theirs, EVP_CTRL_GCM_IV_GEN, len, other));
+        CHECK(memcmp(mine, other, (size_t)len) == 0);
+        CHECK(EVP_CIPHER_CTX_get_updated_iv(ours, whole, NONCE) && memcmp(whole + NONCE - len, mine, (size_t)len) == 0);
+        nonces++;
+    }
+    EVP_CIPHER_CTX_free(ours);
+    EVP_CIPHER_CTX_free(theirs);
+}
+
+/* The calls that are refused, each over a context with a key and a nonce. */
+
+static bool other_nonce_len(EVP_CIPHER_CTX *ctx) { return ctrl(ctx, EVP_CTRL_AEAD_SET_IVLEN, 16, NULL); }
+
+static bool short_tag(EVP_CIPHER_CTX *ctx) { return ctrl(ctx, EVP_CTRL_AEAD_SET_TAG, 12, it.tag); }
+
+static bool short_tag_of_sealing(EVP_CIPHER_CTX *ctx) {
+    CHECK(final(ctx));
+    return ctrl(ctx, EVP_CTRL_AEAD_GET_TAG, 12, out);
+}
+
+static bool tag_while_sealing(EVP_CIPHER_CTX *ctx) { return ctrl(ctx, EVP_CTRL_AEAD_SET_TAG, TAG, it.tag); }
+
+static bool tag_before_the_end(EVP_CIPHER_CTX *ctx) {
+    CHECK(update(ctx, out, it.text, 20));
+    return ctrl(ctx, EVP_CTRL_AEAD_GET_TAG, TAG, out);
+}
+
+static bool tag_of_the_last_message(EVP_CIPHER_CTX *ctx) {
+    CHECK(ctrl(ctx, EVP_CTRL_GCM_SET_IV_FIXED, -1, it.nonce) && ctrl(ctx, EVP_CTRL_GCM_IV_GEN, NONCE, out));
+    CHECK(update(ctx, out, it.text, 20) && final(ctx) && ctrl(ctx, EVP_CTRL_AEAD_GET_TAG, TAG, out));
+    CHECK(ctrl(ctx, EVP_CTRL_GCM_IV_GEN, NONCE, out) && update(ctx, out, it.text, 20));
+    return ctrl(ctx, EVP_CTRL_AEAD_GET_TAG, TAG, out);
+}
+
+static bool no_key(EVP_CIPHER_CTX *ctx) {
+    CHECK(EVP_CIPHER_CTX_reset(ctx) && EVP_EncryptInit_ex(ctx, pairs[0].ours, NULL, NULL, it.nonce));
+    return update(ctx, out, it.text, 20);
+}
+
+static bool no_nonce(EVP_CIPHER_CTX *ctx) {
+    CHECK(EVP_CIPHER_CTX_reset(ctx) && EVP_EncryptInit_ex(ctx, pairs[0].ours, NULL, it.key, NULL));
+    return update(ctx, out, it.text, 20);
+}
+
+static bool no_made_nonce(EVP_CIPHER_CTX *ctx) {
+    CHECK(ctrl(ctx, EVP_CTRL_GCM_SET_IV_FIXED, -1, it.nonce));
+    return update(ctx, out, it.text, 20);
+}
+
+static bool second_message(EVP_CIPHER_CTX *ctx) {
+    CHECK(update(ctx, out, it.text, 20) && final(ctx));
+    return update(ctx, out, it.text, 20);
+}
+
+static bool second_end(EVP_CIPHER_CTX *ctx) {
+    CHECK(final(ctx));
+    return final(ctx);
+}
+
+static bool begun_anew(EVP_CIPHER_CTX *ctx) {
+    CHECK(update(ctx, out, it.text, 20) && EVP_EncryptInit_ex(ctx, NULL, NULL, NULL, NULL));
+    return update(ctx, out, it.text, 20);
+}
+
+static bool late_aad(EVP_CIPHER_CTX *ctx) {
+    CHECK(update(ctx, out, it.text, 20));
+    return update(ctx, NULL, it.aad, 20);
+}
+
+static bool copy_while_sealing(EVP_CIPHER_CTX *ctx) {
+    EVP_CIPHER_CTX *to = EVP_CIPHER_CTX_new();
+    bool copied;
+    CHECK(to != NULL && update(ctx, out, it.text, 20));
+    copied = EVP_CIPHER_CTX_copy(to, ctx);
+    EVP_CIPHER_CTX_free(to);
+    return copied;
+}
+
+static bool copy_that_makes_nonces(EVP_CIPHER_CTX *ctx) {
+    EVP_CIPHER_CTX *to = EVP_CIPHER_CTX_new();
+    bool copied;
+    CHECK(to != NULL && ctrl(ctx, EVP_CTRL_GCM_SET_IV_FIXED, -1, it.nonce));
+    copied = EVP_CIPHER_CTX_copy(to, ctx);
+    EVP_CIPHER_CTX_free(to);
+    return copied;
+}
+
+/* The text is taken in, and none is given out: the end is refused. */
+static void give_none(EVP_CIPHER_CTX *ctx, size_t from, size_t to) {
+    int written = -1;
+    memset(out, 0xa7, sizeof out);
+    CHECK(EVP_DecryptUpdate(ctx, out, &written, it.sealed + from, (int)(to - from)) && written == 0);
+    CHECK(ERR_peek_error() == 0);
+    for (size_t i = 0; i < to - from; i++) CHECK(out[i] == 0);
+    CHECK(out[to - from] == 0xa7);
+}
+
+static bool no_tag(EVP_CIPHER_CTX *ctx) {
+    give_none(ctx, 0, it.len);
+    return final(ctx);
+}
+
+static bool no_tag_of_nothing(EVP_CIPHER_CTX *ctx) { return final(ctx); }
+
+static bool late_tag(EVP_CIPHER_CTX *ctx) {
+    give_none(ctx, 0, it.len);
+    return ctrl(ctx, EVP_CTRL_AEAD_SET_TAG, TAG, it.tag);
+}
+
+static bool second_tag(EVP_CIPHER_CTX *ctx) {
+    CHECK(ctrl(ctx, EVP_CTRL_AEAD_SET_TAG, TAG, it.tag) && update(ctx, out, it.sealed, it.len));
+    return ctrl(ctx, EVP_CTRL_AEAD_SET_TAG, TAG, it.tag);
+}
+
+static bool pieces(EVP_CIPHER_CTX *ctx) {
+    CHECK(ctrl(ctx, EVP_CTRL_AEAD_SET_TAG, TAG, it.tag));
+    give_none(ctx, 0, it.len / 2);
+    give_none(ctx, it.len / 2, it.len);
+    return final(ctx);
+}
+
+static bool more_after_the_message(EVP_CIPHER_CTX *ctx) {
+    CHECK(ctrl(ctx, EVP_CTRL_AEAD_SET_TAG, TAG, it.tag) && update(ctx, out, it.sealed, it.len));
+    give_none(ctx, 0, 1);
+    return final(ctx);
+}
+
+static bool overlap(EVP_CIPHER_CTX *ctx) {
+    memcpy(out + 1, it.sealed, it.len);
+    CHECK(ctrl(ctx, EVP_CTRL_AEAD_SET_TAG, TAG, it.tag));
+    return update(ctx, out, out + 1, it.len);
+}
+
+static bool record_without_fixed_bytes(EVP_CIPHER_CTX *ctx) {
+    CHECK(record_aad(ctx, 0, EXPLICIT + 20));
+    return EVP_Cipher(ctx, out, out, EXPLICIT + 20 + TAG) >= 0;
+}
+
+static bool record_elsewhere(EVP_CIPHER_CTX *ctx) {
+    CHECK(ctrl(ctx, EVP_CTRL_GCM_SET_IV_FIXED, 4, it.nonce) && record_aad(ctx, 0, EXPLICIT + 20));
+    return EVP_Cipher(ctx, out, it.text, EXPLICIT + 20 + TAG) >= 0;
+}
+
+static const struct {
+    bool encrypting;
+    bool (*call)(EVP_CIPHER_CTX *);
+    const char *reason;
+} refused[] = {
+    {true, other_nonce_len, "a nonce has 12 bytes"},
+    {false, short_tag, "a tag has 16 bytes, and is set to open a message"},
+    {true, short_tag_of_sealing, "a tag has 16 bytes, and is set to open a message"},
+    {true, tag_while_sealing, "a tag has 16 bytes, and is set to open a message"},
+    {true, tag_before_the_end, "no message was sealed to its end, which makes the tag"},
+    {true, tag_of_the_last_message, "no message was sealed to its end, which makes the tag"},
+    {true, no_key, "no key is set"},
+    {true, no_nonce, "no nonce is set"},
+    {true, no_made_nonce, "no nonce is set"},
+    {true, second_message, "a second message before a new nonce"},
+    {true, second_end, "a second message before a new nonce"},
+    {true, begun_anew, "a second message before a new nonce"},
+    {true, late_aad, "AAD after the message has begun"},
+    {true, copy_while_sealing, "a context that seals isn't copied: both would use one nonce"},
+    {true, copy_that_makes_nonces, "a context that seals isn't copied: both would use one nonce"},
+    {false, no_tag, "no tag is set before the message is opened"},
+    {false, no_tag_of_nothing, "no tag is set before the message is opened"},
+    {false, late_tag, "a tag is set after the update, and not before"},
+    {false, second_tag, "a tag is set after the update, and not before"},
+    {false, pieces, "opening in pieces: a message is opened in one update"},
+    {false, more_after_the_message, "opening in pieces: a message is opened in one update"},
+    {false, overlap, "the output overlaps the input, and isn't the same"},
+    {true, record_without_fixed_bytes, "not a record in place, under a nonce of which the first 4 bytes are fixed"},
+    {true, record_elsewhere, "not a record in place, under a nonce of which the first 4 bytes are fixed"},
+};
+
+static void refuses(const pair *by) {
+    it.aad_len = 0;
+    it.len = 100;
+    seal(by->theirs, it.sealed, it.tag, it.text, 1);
+    for (size_t i = 0; i < sizeof refused / sizeof *refused; i++) {
+        EVP_CIPHER_CTX *ctx = context(by->ours, refused[i].encrypting);
+        CHECK(ERR_peek_error() == 0);
+        CHECK(!refused[i].call(ctx) && reason_is(refused[i].reason));
+        EVP_CIPHER_CTX_free(ctx);
+        refusals++;
+    }
+}
+
+/* A copy that is made before a byte is sealed goes on by itself, and so does one of a context that opens. */
+static void copies(const pair *by) {
+    EVP_CIPHER_CTX *from = context(by->ours, true), *to = EVP_CIPHER_CTX_new();
+    uint8_t tag[TAG];
+    it.aad_len = 30;
+    seal(by->theirs, it.sealed, it.tag, it.text, 1);
+    CHECK(update(from, NULL, it.aad, it.aad_len) && EVP_CIPHER_CTX_copy(to, from));
+    EVP_CIPHER_CTX_free(from);
+    CHECK(update(to, out, it.text, it.len) && final(to) && ctrl(to, EVP_CTRL_AEAD_GET_TAG, TAG, tag));
+    CHECK(memcmp(out, it.sealed, it.len) == 0 && memcmp(tag, it.tag, TAG) == 0);
+    EVP_CIPHER_CTX_free(to);
+    from = context(by->ours, false);
+    to = EVP_CIPHER_CTX_new();
+    CHECK(ctrl(from, EVP_CTRL_AEAD_SET_TAG, TAG, it.tag) && update(from, NULL, it.aad, it.aad_len));
+    CHECK(EVP_CIPHER_CTX_copy(to, from) && update(to, out, it.sealed, it.len) && final(to));
+    CHECK(memcmp(out, it.text, it.len) == 0 && update(from, out, it.sealed, it.len) && final(from));
+    EVP_CIPHER_CTX_free(from);
+    EVP_CIPHER_CTX_free(to);
+}
+
+int main(int argc, char **argv) {
+    long rounds = argc == 2 ? strtol(argv[1], NULL, 10) : 0;
+    CHECK(rounds > 0);
+    fetch(&pairs[0], "AES-128-GCM", "id-aes128-GCM", "2.16.840.1.101.3.4.1.6", 16);
+    fetch(&pairs[1], "AES-256-GCM", "id-aes256-GCM", "2.16.840.1.101.3.4.1.46", 32);
+    for (int i = 0; i < 2; i++) {
+        for (long round = 0; round < rounds; round++) a_message(&pairs[i]);
+        fill(it.text, sizeof it.text);
+        some_records(pairs[i].ours, pairs[i].theirs, false);
+        some_records(pairs[i].theirs, pairs[i].ours, true);
+        some_records(pairs[i].ours, pairs[i].ours, true);
+        made_nonces(&pairs[i]);
+        refuses(&pairs[i]);
+        copies(&pairs[i]);
+        EVP_CIPHER_free(pairs[i].ours);
+        EVP_CIPHER_free(pairs[i].theirs);
+    }
+    printf("%lu messages, %lu records of TLS 1.2 and %lu nonces as OpenSSL's own, and %lu refusals with their reasons\n",
+           messages, records, nonces, refusals);
+    return 0;
+}
