@@ -161,7 +161,7 @@ bool deerlapse_key_open_appended_tag(const deerlapse_key *key, const uint8_t non
  * copy would be encrypted with the same keystream. Only one thread may use it at a time.
  *
  * It contains keystream, which is secret, until deerlapse_key_finish overwrites it with zeros. Finish a message that is given
- * up as well, and discard its tag. No message is opened in pieces, since its plaintext would be used before it is verified. */
+ * up as well, and discard its tag. No message is opened in pieces: its plaintext would be used before it is verified. */
 typedef struct deerlapse_message {
     uint64_t words[22]; /* private: neither read nor write them */
 } deerlapse_message;
