@@ -267,6 +267,12 @@ static bool begun_anew(EVP_CIPHER_CTX *ctx) {
     return update(ctx, out, it.text, 20);
 }
 
+static bool text_after_a_record(EVP_CIPHER_CTX *ctx) {
+    CHECK(ctrl(ctx, EVP_CTRL_GCM_SET_IV_FIXED, 4, it.nonce) && record_aad(ctx, 0, EXPLICIT + 20));
+    CHECK(EVP_Cipher(ctx, out, out, EXPLICIT + 20 + TAG) >= 0);
+    return update(ctx, out, it.text, 20);
+}
+
 static bool late_aad(EVP_CIPHER_CTX *ctx) {
     CHECK(update(ctx, out, it.text, 20));
     return update(ctx, NULL, it.aad, 20);
@@ -306,6 +312,13 @@ static bool no_tag(EVP_CIPHER_CTX *ctx) {
 }
 
 static bool no_tag_of_nothing(EVP_CIPHER_CTX *ctx) { return final(ctx); }
+
+static bool tag_of_another_message(EVP_CIPHER_CTX *ctx) {
+    CHECK(ctrl(ctx, EVP_CTRL_AEAD_SET_TAG, TAG, it.tag) && update(ctx, out, it.sealed, it.len) && final(ctx));
+    CHECK(EVP_DecryptInit_ex(ctx, NULL, NULL, NULL, it.nonce));
+    give_none(ctx, 0, it.len);
+    return final(ctx);
+}
 
 static bool late_tag(EVP_CIPHER_CTX *ctx) {
     give_none(ctx, 0, it.len);
@@ -363,11 +376,13 @@ static const struct {
     {true, second_message, "a second message before a new nonce"},
     {true, second_end, "a second message before a new nonce"},
     {true, begun_anew, "a second message before a new nonce"},
+    {true, text_after_a_record, "a second message before a new nonce"},
     {true, late_aad, "AAD after the message has begun"},
     {true, copy_while_sealing, "a context that seals isn't copied: both would use one nonce"},
     {true, copy_that_makes_nonces, "a context that seals isn't copied: both would use one nonce"},
     {false, no_tag, "no tag is set before the message is opened"},
     {false, no_tag_of_nothing, "no tag is set before the message is opened"},
+    {false, tag_of_another_message, "no tag is set before the message is opened"},
     {false, late_tag, "a tag is set after the update, and not before"},
     {false, second_tag, "a tag is set after the update, and not before"},
     {false, pieces, "opening in pieces: a message is opened in one update"},
@@ -388,6 +403,29 @@ static void refuses(const pair *by) {
         EVP_CIPHER_CTX_free(ctx);
         refusals++;
     }
+}
+
+/* Two contexts, for messages one after the other: the first may be given up. */
+static void one_after_the_other(const pair *by) {
+    EVP_CIPHER_CTX *seals = context(by->ours, true), *open = context(by->ours, false);
+    uint8_t tag[TAG];
+    CHECK(update(seals, NULL, it.aad, 10) && update(seals, out, it.text, 20) && update(open, NULL, it.aad, 10));
+    for (int i = 0; i < 20; i++) {
+        fill(it.nonce, NONCE);
+        it.aad_len = some(MAX_AAD);
+        it.len = some(300);
+        seal(by->theirs, it.sealed, it.tag, it.text, 1);
+        CHECK(EVP_EncryptInit_ex(seals, NULL, NULL, NULL, it.nonce) && EVP_DecryptInit_ex(open, NULL, NULL, NULL, it.nonce));
+        add_aad(seals);
+        CHECK(update(seals, out, it.text, it.len) && final(seals) && ctrl(seals, EVP_CTRL_AEAD_GET_TAG, TAG, tag));
+        CHECK(memcmp(out, it.sealed, it.len) == 0 && memcmp(tag, it.tag, TAG) == 0);
+        add_aad(open);
+        CHECK(ctrl(open, EVP_CTRL_AEAD_SET_TAG, TAG, it.tag) && update(open, out, it.sealed, it.len) && final(open));
+        CHECK(memcmp(out, it.text, it.len) == 0);
+        messages++;
+    }
+    EVP_CIPHER_CTX_free(seals);
+    EVP_CIPHER_CTX_free(open);
 }
 
 /* A copy that is made before a byte is sealed goes on by itself, and so does one of a context that opens. */
@@ -424,6 +462,7 @@ int main(int argc, char **argv) {
         made_nonces(&pairs[i]);
         refuses(&pairs[i]);
         copies(&pairs[i]);
+        one_after_the_other(&pairs[i]);
         EVP_CIPHER_free(pairs[i].ours);
         EVP_CIPHER_free(pairs[i].theirs);
     }
