@@ -139,7 +139,7 @@ fn row(name: &str, bytes: Option<usize>, times: [[f64; 2]; 2]) {
 }
 
 pub(crate) fn run() {
-    println!("| Beside ring | `deerlapse-ring` | ring | times as fast |");
+    println!("| Beside ring | `deerlapse-ring` | ring | ring's speed over ours |");
     println!("|---|---|---|---|");
     let both = |is_256| [deerlapse_ring::calls(is_256), ring::calls(is_256)];
     row(

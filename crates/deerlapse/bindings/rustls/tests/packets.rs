@@ -79,13 +79,16 @@ fn opens_the_packet_of_the_standard() -> Result<(), Error> {
 #[test]
 fn a_number_of_one_byte_leaves_the_others() -> Result<(), Error> {
     let header = ours(Side::Client).local.header;
-    // Short headers (RFC 9000 section 17.3.1): the length of the number is in the last two bits.
-    for (first, changed) in [(0x40, 1), (0x41, 2), (0x42, 3), (0x43, 4)] {
+    // Short headers (RFC 9000 section 17.3.1): the length of the number is in the last two bits, before the masking.
+    for (sample, length) in (0..16).flat_map(|it| [(it, 1), (it, 2), (it, 3), (it, 4)]) {
+        let first = 0x40 | (length - 1);
         let (mut byte, mut number) = (first, [0; 4]);
-        header.encrypt_in_place(&[7; 16], &mut byte, &mut number)?;
+        header.encrypt_in_place(&[sample; 16], &mut byte, &mut number)?;
         assert_eq!(byte & 0xe0, 0x40, "the first three bits aren't protected");
-        assert_eq!(number[changed..], [0; 4][changed..]);
-        header.decrypt_in_place(&[7; 16], &mut byte, &mut number)?;
+        let (changed, others) = number.split_at(length.into());
+        assert!(others.iter().all(|&it| it == 0));
+        assert!(changed.iter().any(|&it| it != 0));
+        header.decrypt_in_place(&[sample; 16], &mut byte, &mut number)?;
         assert_eq!((byte, number), (first, [0; 4]));
     }
     Ok(())
