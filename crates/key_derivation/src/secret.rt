@@ -31,6 +31,19 @@ enum SecretBytes {
 }
 
 /// A secret of one direction of a connection of TLS 1.3 or QUIC, which gives the keys of this direction and the next secret.
+///
+/// # Examples
+///
+/// The keys of a client's Initial packets. From `crates/uses/src/initial_keys.rt`:
+///
+/// ```
+/// let secret = Secret::client_initial(id)?;
+/// Ok((
+///     secret.quic_key(),
+///     secret.quic_iv(),
+///     secret.quic_header_key(),
+/// ))
+/// ```
 #[derive(Drop)]
 pub struct Secret {
     inner: SecretBytes,
