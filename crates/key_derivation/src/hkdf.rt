@@ -1,0 +1,194 @@
+//! HKDF (RFC 5869), and HKDF-Expand-Label and Derive-Secret of TLS 1.3 (RFC 8446 section 7.1).
+
+ghost use Rattle.std.specs.Prelude.{◌≡◌, ◌≢◌, ◌++◌, ◌*◌, ◌+◌, ◌<◌, ◌≤◌, ◌↔◌, length, take, IsOk, IfOk, IsOkUnless, IsErrOf, IsTrue, OnOk, OnErr};
+ghost use Rattle.key_derivation.specs.Hkdf.{IsLabel, derive_secret, hkdf_expand, hkdf_expand_label, hkdf_extract, hkdf_label};
+
+use crate::error::DerivationError;
+use crate::hash::Hash;
+use crate::hmac::{HmacKey, hmac};
+use sha2::Digest;
+use std::convert::AsSlice;
+
+/// The length of the longest label in bytes, without its prefix `tls13 `.
+pub const MAX_LABEL_LEN: usize = 249;
+
+/// The length of the longest context in bytes.
+pub const MAX_CONTEXT_LEN: usize = 255;
+
+// The length of the longest HkdfLabel in bytes: two for the length, and two vectors of at most 255 bytes with their lengths.
+const MAX_INFO_LEN: usize = 514;
+
+/// HKDF-Extract (RFC 5869 section 2.2): returns the pseudorandom key of a salt and input keying material.
+pub fn extract<H: Hash>(salt: &[u8], ikm: &[u8]) -> H::Output
+    ensures { H.Output.items result ≡ hkdf_extract H.function salt.now ikm.now }
+{
+    hmac::<H>(salt, ikm)
+}
+
+/// HKDF-Expand (RFC 5869 section 2.3): fills `out` with the output keying material of a pseudorandom key.
+///
+/// Fails with `TooLong` if `out` is longer than 255 digests. It is then unchanged.
+pub fn expand<H: Hash>(prk: &[u8], info: &[u8], out: &mut [u8]) -> Result<(), DerivationError>
+    ensures accepted { IsOk result ↔ (length out.old ≤ 255 * H.OUTPUT_LEN) }
+    ensures refused { IsOkUnless result DerivationError.TooLong }
+    ensures expanded { OnOk result
+        (out.new ≡ hkdf_expand H.function prk.now info.now (length out.old)) }
+    ensures kept { OnErr result (out.new ≡ out.old) }
+{
+    check_len::<H>(out.len())?;
+    fill::<H>(prk, info, out);
+    Ok(())
+}
+
+/// HKDF-Expand-Label (RFC 8446 section 7.1): fills `out` from a secret. `label` is without its prefix `tls13 `.
+///
+/// Fails with `LabelLength` if `label` is empty or has more than 249 bytes; with `ContextLength` if `context` has more than
+/// 255; and with `TooLong` if `out` is longer than 255 digests. `out` is then unchanged.
+pub fn expand_label<H: Hash>(
+    secret: &[u8],
+    label: &[u8],
+    context: &[u8],
+    out: &mut [u8],
+) -> Result<(), DerivationError>
+    ensures accepted { IsOk result ↔ (IsLabel label.now × (length context.now ≤ 255)
+        × (length out.old ≤ 255 * H.OUTPUT_LEN)) }
+    ensures label { IsErrOf result DerivationError.LabelLength ↔ ¬ IsLabel label.now }
+    ensures context { IsErrOf result DerivationError.ContextLength
+        ↔ (IsLabel label.now × (255 < length context.now)) }
+    ensures too_long { IsErrOf result DerivationError.TooLong ↔ (IsLabel label.now
+        × (length context.now ≤ 255) × (255 * H.OUTPUT_LEN < length out.old)) }
+    ensures expanded { OnOk result
+        (out.new ≡ hkdf_expand_label H.function secret.now label.now context.now (length out.old)) }
+    ensures kept { OnErr result (out.new ≡ out.old) }
+{
+    check_label(label)?;
+    if context.len() > MAX_CONTEXT_LEN {
+        return Err(DerivationError::ContextLength);
+    }
+    check_len::<H>(out.len())?;
+    fill_labeled::<H>(secret, label, context, out);
+    Ok(())
+}
+
+/// Derive-Secret (RFC 8446 section 7.1): returns a secret as long as a digest. `label` is without its prefix `tls13 `.
+///
+/// `transcript_hash` is the Transcript-Hash of the messages (section 4.4.1), for no messages the digest of no bytes.
+///
+/// Fails with `LabelLength` if `label` is empty or has more than 249 bytes, and with `TranscriptHashLength` if
+/// `transcript_hash` is not as long as a digest.
+pub fn derive_secret<H: Hash>(
+    secret: &[u8],
+    label: &[u8],
+    transcript_hash: &[u8],
+) -> Result<H::Output, DerivationError>
+    ensures accepted { IsOk result
+        ↔ (IsLabel label.now × (length transcript_hash.now ≡ H.OUTPUT_LEN)) }
+    ensures label { IsErrOf result DerivationError.LabelLength ↔ ¬ IsLabel label.now }
+    ensures hash_length { IsErrOf result DerivationError.TranscriptHashLength
+        ↔ (IsLabel label.now × (length transcript_hash.now ≢ H.OUTPUT_LEN)) }
+    ensures derived { IfOk result (λ derived. H.Output.items derived
+        ≡ derive_secret H.function secret.now label.now transcript_hash.now) }
+{
+    check_label(label)?;
+    if transcript_hash.len() != H::OUTPUT_LEN {
+        return Err(DerivationError::TranscriptHashLength);
+    }
+    let mut info = [0u8; MAX_INFO_LEN];
+    let len = write_label(&mut info, label, transcript_hash, H::OUTPUT_LEN as u16);
+    Ok(first_block::<H>(secret, &info[..len]))
+}
+
+// Checks that a label has a length that is allowed.
+fn check_label(label: &[u8]) -> Result<(), DerivationError>
+    ensures accepted { IsOk result ↔ IsLabel label.now }
+    ensures refused { IsOkUnless result DerivationError.LabelLength }
+{
+    if label.is_empty() || label.len() > MAX_LABEL_LEN {
+        return Err(DerivationError::LabelLength);
+    }
+    Ok(())
+}
+
+// Checks that an output is not longer than 255 digests.
+fn check_len<H: Hash>(len: usize) -> Result<(), DerivationError>
+    ensures accepted { IsOk result ↔ (len ≤ 255 * H.OUTPUT_LEN) }
+    ensures refused { IsOkUnless result DerivationError.TooLong }
+{
+    if len > 255 * H::OUTPUT_LEN {
+        return Err(DerivationError::TooLong);
+    }
+    Ok(())
+}
+
+// Fills `out`, which is not too long.
+fn fill<H: Hash>(prk: &[u8], info: &[u8], out: &mut [u8])
+    requires { length out.old ≤ 255 * H.OUTPUT_LEN }
+    ensures { out.new ≡ hkdf_expand H.function prk.now info.now (length out.old) }
+{
+    let key = HmacKey::<H>::new(prk);
+    let len = out.len();
+    let count = (len + H::OUTPUT_LEN - 1) / H::OUTPUT_LEN;
+    let mut hasher = key.start();
+    let mut filled = 0;
+    'rounds: for i in 0..count {
+        hasher.update(info);
+        hasher.update(&[(i + 1) as u8]);
+        let block = key.finish(hasher);
+        let bytes = block.as_slice();
+        let n = usize::min(bytes.len(), len - filled);
+        out[filled..filled + n].copy_from_slice(&bytes[..n]);
+        filled += n;
+        hasher = key.start();
+        hasher.update(block);
+    }
+}
+
+// The output that is as long as a digest: the first block.
+fn first_block<H: Hash>(prk: &[u8], info: &[u8]) -> H::Output
+    ensures { H.Output.items result ≡ hkdf_expand H.function prk.now info.now H.OUTPUT_LEN }
+{
+    let key = HmacKey::<H>::new(prk);
+    let mut hasher = key.start();
+    hasher.update(info);
+    hasher.update(&[1]);
+    key.finish(hasher)
+}
+
+// Fills `out` by a label, where no length is above its limit.
+pub(crate) fn fill_labeled<H: Hash>(secret: &[u8], label: &[u8], context: &[u8], out: &mut [u8])
+    requires label { length label.now ≤ 249 }
+    requires context { length context.now ≤ 255 }
+    requires out { length out.old ≤ 255 * H.OUTPUT_LEN }
+    ensures { out.new
+        ≡ hkdf_expand_label H.function secret.now label.now context.now (length out.old) }
+{
+    let mut info = [0u8; MAX_INFO_LEN];
+    let len = write_label(&mut info, label, context, out.len() as u16);
+    fill::<H>(secret, &info[..len], out);
+}
+
+// Writes the HkdfLabel, and returns its length.
+fn write_label(info: &mut [u8; MAX_INFO_LEN], label: &[u8], context: &[u8], len: u16) -> usize
+    requires label { length label.now ≤ 249 }
+    requires context { length context.now ≤ 255 }
+    ensures len { result ≤ 514 }
+    ensures written { take result info.new ≡ hkdf_label label.now context.now len }
+{
+    let at = append(info, 0, &len.to_be_bytes());
+    let at = append(info, at, &[(6 + label.len()) as u8]);
+    let at = append(info, at, b"tls13 ");
+    let at = append(info, at, label);
+    let at = append(info, at, &[context.len() as u8]);
+    append(info, at, context)
+}
+
+// Writes bytes at an index, and returns the index after them.
+fn append(info: &mut [u8; MAX_INFO_LEN], at: usize, bytes: &[u8]) -> usize
+    requires { at + length bytes.now ≤ 514 }
+    ensures end { result ≡ at + length bytes.now }
+    ensures written { take result info.new ≡ take at info.old ++ bytes.now }
+{
+    let end = at + bytes.len();
+    info[at..end].copy_from_slice(bytes);
+    end
+}

@@ -1,0 +1,94 @@
+//! HMAC (RFC 2104).
+
+ghost use Rattle.std.specs.Prelude.{◌≡◌, ℕ, ◌++◌, ◌<◌, ◌≤◌, ◌↔◌, List, [], length, map, take, bit_xor, IsTrue};
+ghost use Rattle.key_derivation.specs.Hmac.{hmac, block_key, inner_block, outer_block};
+ghost use Rattle.key_derivation.specs.HmacState.{IsKey};
+
+use crate::hash::{Hash, MAX_BLOCK_LEN};
+use sha2::Digest;
+use std::convert::AsSlice;
+
+/// A key of HMAC: the two hashers that have absorbed its two blocks.
+#[derive(Drop)]
+pub struct HmacKey<H> {
+    inner: H,
+    outer: H,
+}
+
+impl<H: Hash> HmacKey<H> {
+    /// Creates a key from bytes of any length.
+    pub fn new(key: &[u8]) -> Self
+        ensures { IsKey H.function H.holds key.now result }
+    {
+        let block = block_of::<H>(key);
+        let block = &block[..H::BLOCK_LEN];
+        HmacKey {
+            inner: absorb_xored(block, 0x36),
+            outer: absorb_xored(block, 0x5c),
+        }
+    }
+
+    /// Begins a message: returns a hasher to which its bytes are added.
+    pub fn start(&self) -> H
+        ensures { (key : List ℕ) → IsKey H.function H.holds key self.now
+            → H.holds result (inner_block H.function key) }
+    {
+        self.inner.fork()
+    }
+
+    /// Returns the code of the message whose bytes were added to `hasher`.
+    pub fn finish(&self, hasher: H) -> H::Output
+        ensures { (key text : List ℕ) → IsKey H.function H.holds key self.now
+            → H.holds «hasher» (inner_block H.function key ++ text)
+            → H.Output.items result ≡ hmac H.function key text }
+    {
+        let mut outer = self.outer.fork();
+        outer.update(hasher.finalize());
+        outer.finalize()
+    }
+}
+
+// The key, hashed if it is longer than a block, with zeros after it.
+fn block_of<H: Hash>(key: &[u8]) -> [u8; MAX_BLOCK_LEN]
+    ensures { take H.BLOCK_LEN result ≡ block_key H.function key.now }
+{
+    let mut block = [0u8; MAX_BLOCK_LEN];
+    if is_long::<H>(key) {
+        let digest = H::digest(key);
+        block[..H::OUTPUT_LEN].copy_from_slice(digest.as_slice());
+    } else {
+        block[..key.len()].copy_from_slice(key);
+    }
+    block
+}
+
+// Whether a key is longer than a block.
+fn is_long<H: Hash>(key: &[u8]) -> bool
+    ensures { IsTrue result ↔ (H.BLOCK_LEN < length key.now) }
+{
+    key.len() > H::BLOCK_LEN
+}
+
+// A hasher of the block, each byte XORed with `pad`.
+fn absorb_xored<H: Hash>(block: &[u8], pad: u8) -> H
+    requires { length block.now ≤ 128 }
+    ensures { H.holds result (map (bit_xor pad) block.now) }
+{
+    let mut padded = [0u8; MAX_BLOCK_LEN];
+    'bytes: for i in 0..block.len() {
+        padded[i] = pad ^ block[i];
+    }
+    let mut hasher = H::new();
+    hasher.update(&padded[..block.len()]);
+    hasher
+}
+
+/// Returns the code of a message.
+pub fn hmac<H: Hash>(key: &[u8], text: &[u8]) -> H::Output
+    ensures { H.Output.items result ≡ hmac H.function key.now text.now }
+{
+    let key = HmacKey::<H>::new(key);
+    let mut hasher = key.start();
+    hasher.update(text);
+    key.finish(hasher)
+}

@@ -1,0 +1,96 @@
+//! The keys that a secret gives, each kind of its own type.
+
+ghost use Rattle.std.specs.Prelude.{◌≡◌};
+ghost use Rattle.key_derivation.specs.Secret.{key_bytes};
+
+use std::fmt;
+use std::marker::Model;
+
+/// The length of an IV in bytes.
+pub const IV_LEN: usize = 12;
+
+// The bytes of a key.
+#[derive(Drop)]
+pub(crate) enum KeyBytes {
+    Aes128([u8; 16]),
+    Aes256([u8; 32]),
+}
+
+impl KeyBytes {
+    fn as_slice(&self) -> &[u8]
+        ensures { result.now ≡ key_bytes self.now }
+    {
+        match self {
+            KeyBytes::Aes128(bytes) => bytes,
+            KeyBytes::Aes256(bytes) => bytes,
+        }
+    }
+}
+
+/// The 16 or 32 bytes of an AEAD key, which seals or opens payloads: a `quic key`, or a `key` of TLS 1.3.
+#[derive(Drop)]
+pub struct AeadKeyBytes {
+    pub(crate) inner: KeyBytes,
+}
+
+impl Model for AeadKeyBytes {
+    ghost use Rattle.std.specs.Prelude.{ℕ, List};
+    ghost use Rattle.key_derivation.specs.Secret.{key_bytes};
+
+    ghost Value = { List ℕ };
+
+    ghost view = { λ key. key_bytes key.inner };
+}
+
+impl fmt::Debug for AeadKeyBytes {
+    ghost use Rattle.std.specs.Prelude.{Some, codes};
+
+    ghost debug_output = { λ key. Some (codes "AeadKeyBytes { .. }") };
+
+    fn fmt<W: fmt::Write>(&self, f: &mut fmt::Formatter<W>) -> fmt::Result {
+        f.write_str("AeadKeyBytes { .. }")
+    }
+}
+
+impl AeadKeyBytes {
+    /// Returns the bytes of the key.
+    pub fn as_slice(&self) -> &[u8]
+        ensures { result.now ≡ self.now }
+    {
+        self.inner.as_slice()
+    }
+}
+
+/// The 16 or 32 bytes of a key that masks headers: a `quic hp`.
+#[derive(Drop)]
+pub struct HeaderKeyBytes {
+    pub(crate) inner: KeyBytes,
+}
+
+impl Model for HeaderKeyBytes {
+    ghost use Rattle.std.specs.Prelude.{ℕ, List};
+    ghost use Rattle.key_derivation.specs.Secret.{key_bytes};
+
+    ghost Value = { List ℕ };
+
+    ghost view = { λ key. key_bytes key.inner };
+}
+
+impl fmt::Debug for HeaderKeyBytes {
+    ghost use Rattle.std.specs.Prelude.{Some, codes};
+
+    ghost debug_output = { λ key. Some (codes "HeaderKeyBytes { .. }") };
+
+    fn fmt<W: fmt::Write>(&self, f: &mut fmt::Formatter<W>) -> fmt::Result {
+        f.write_str("HeaderKeyBytes { .. }")
+    }
+}
+
+impl HeaderKeyBytes {
+    /// Returns the bytes of the key.
+    pub fn as_slice(&self) -> &[u8]
+        ensures { result.now ≡ self.now }
+    {
+        self.inner.as_slice()
+    }
+}

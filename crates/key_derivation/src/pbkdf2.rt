@@ -1,0 +1,92 @@
+//! PBKDF2 with HMAC (RFC 8018 section 5.2).
+
+ghost use Rattle.std.specs.Prelude.{◌≡◌, ℕ, ◌++◌, ◌*◌, ◌+◌, ◌-◌, ◌^◌, ◌<◌, ◌≤◌, ◌↔◌, List, [], ◌∷◌, length, take, replicate, IsOk, OnOk, OnErr, IsErrOf};
+ghost use Rattle.key_derivation.specs.HmacState.{IsKey};
+ghost use Rattle.key_derivation.specs.Pbkdf2.{◌⊕◌, pbkdf2, pbkdf2_sum};
+
+use crate::error::DerivationError;
+use crate::hash::{Hash, MAX_OUTPUT_LEN};
+use crate::hmac::HmacKey;
+use sha2::Digest;
+use std::convert::AsSlice;
+
+// The number of blocks of a key, at most.
+const MAX_BLOCKS: usize = u32::MAX as usize;
+
+/// PBKDF2 with HMAC (RFC 8018 section 5.2): fills `out` with the key of a password, after `count` iterations.
+///
+/// An iteration takes two compressions. Whoever has a processor with SHA instructions, which this crate doesn't use, makes
+/// them three to five times as fast, so `count` says nothing by itself of what a guess costs.
+///
+/// Fails with `NoIterations` if `count` is 0, and else with `TooLong` if `out` is longer than 2^32 - 1 digests. `out` is
+/// then unchanged.
+pub fn pbkdf2<H: Hash>(
+    password: &[u8],
+    salt: &[u8],
+    count: u32,
+    out: &mut [u8],
+) -> Result<(), DerivationError>
+    ensures accepted { IsOk result
+        ↔ ((0 < count) × (length out.old ≤ (2 ^ 32 - 1) * H.OUTPUT_LEN)) }
+    ensures no_iterations { IsErrOf result DerivationError.NoIterations ↔ (count ≡ 0) }
+    ensures too_long { IsErrOf result DerivationError.TooLong
+        ↔ ((0 < count) × ((2 ^ 32 - 1) * H.OUTPUT_LEN < length out.old)) }
+    ensures derived { OnOk result
+        (out.new ≡ pbkdf2 H.function password.now salt.now count (length out.old)) }
+    ensures kept { OnErr result (out.new ≡ out.old) }
+{
+    if count == 0 {
+        return Err(DerivationError::NoIterations);
+    }
+    if out.len() > MAX_BLOCKS * H::OUTPUT_LEN {
+        return Err(DerivationError::TooLong);
+    }
+    fill::<H>(password, salt, count, out);
+    Ok(())
+}
+
+// Fills `out`, which is not too long.
+fn fill<H: Hash>(password: &[u8], salt: &[u8], count: u32, out: &mut [u8])
+    requires { length out.old ≤ (2 ^ 32 - 1) * H.OUTPUT_LEN }
+    ensures { out.new ≡ pbkdf2 H.function password.now salt.now count (length out.old) }
+{
+    let key = HmacKey::<H>::new(password);
+    let len = out.len();
+    let blocks = (len + H::OUTPUT_LEN - 1) / H::OUTPUT_LEN;
+    let mut filled = 0;
+    'rounds: for i in 0..blocks {
+        let mut block = [0u8; MAX_OUTPUT_LEN];
+        let block_len = H::OUTPUT_LEN;
+        add_codes(&key, salt, count, (i + 1) as u32, &mut block[..block_len]);
+        let n = usize::min(block_len, len - filled);
+        out[filled..filled + n].copy_from_slice(&block[..n]);
+        filled += n;
+    }
+}
+
+// Writes the XOR of the codes of one block.
+fn add_codes<H: Hash>(key: &HmacKey<H>, salt: &[u8], count: u32, index: u32, sum: &mut [u8])
+    requires { length sum.old ≡ H.OUTPUT_LEN }
+    ensures { (password : List ℕ) → IsKey H.function H.holds password key.now
+        → sum.new ≡ pbkdf2_sum H.function password salt.now index count }
+{
+    sum.fill(0);
+    let mut hasher = key.start();
+    hasher.update(salt);
+    hasher.update(&index.to_be_bytes());
+    'codes: for n in 0..count {
+        let code = key.finish(hasher);
+        xor_into(sum, code.as_slice());
+        hasher = key.start();
+        hasher.update(code);
+    }
+}
+
+// XORs bytes into as many.
+fn xor_into(sum: &mut [u8], code: &[u8])
+    ensures { length sum.old ≡ length code.now → sum.new ≡ sum.old ⊕ code.now }
+{
+    'bytes: for i in 0..usize::min(sum.len(), code.len()) {
+        sum[i] ^= code[i];
+    }
+}

@@ -1,0 +1,283 @@
+//! Secrets of TLS 1.3 and QUIC, and the keys that they give (RFC 8446 sections 7.2 and 7.3, RFC 9001 sections 5.1, 5.2 and
+//! 6.1).
+
+ghost use Rattle.std.specs.Prelude.{◌≡◌, ◌≤◌, ◌↔◌, length, IsOk, IfOk, IsOkUnless};
+ghost use Rattle.key_derivation.specs.Quic.{client_initial_secret, endpoint_secret, next_quic_secret, quic_header_key, quic_iv, quic_key, server_initial_secret};
+ghost use Rattle.key_derivation.specs.Secret.{key_bytes, labeled, next_secret, suite_key_len, suite_secret_len};
+ghost use Rattle.key_derivation.specs.Tls.{next_traffic_secret, record_iv, record_key};
+
+use crate::error::DerivationError;
+use crate::hkdf::{extract, fill_labeled};
+use crate::keys::{AeadKeyBytes, HeaderKeyBytes, IV_LEN, KeyBytes};
+use crate::suite::Suite;
+use sha2::{Sha256, Sha384};
+use std::fmt;
+use std::marker::Model;
+
+/// The length of the longest connection ID in bytes (RFC 9000 section 17.2).
+pub const MAX_CONNECTION_ID_LEN: usize = 20;
+
+// The salt of version 1 (RFC 9001 section 5.2).
+const INITIAL_SALT: [u8; 20] = [
+    0x38, 0x76, 0x2c, 0xf7, 0xf5, 0x59, 0x34, 0xb3, 0x4d, 0x17, 0x9a, 0xe6, 0xa4, 0xc8, 0x0c, 0xad,
+    0xcc, 0xbb, 0x7f, 0x0a,
+];
+
+// The bytes of a secret, as many as a digest of its hash function has.
+#[derive(Drop)]
+enum SecretBytes {
+    Sha256([u8; 32]),
+    Sha384([u8; 48]),
+}
+
+/// A secret of one direction of a connection of TLS 1.3 or QUIC, which gives the keys of this direction and the next secret.
+///
+/// # Examples
+///
+/// The keys of a client's Initial packets. From `crates/uses/src/initial_keys.rt`:
+///
+/// ```
+/// let secret = Secret::client_initial(id)?;
+/// Ok((
+///     secret.quic_key(),
+///     secret.quic_iv(),
+///     secret.quic_header_key(),
+/// ))
+/// ```
+#[derive(Drop)]
+pub struct Secret {
+    inner: SecretBytes,
+}
+
+impl Model for Secret {
+    ghost use Rattle.key_derivation.specs.Secret.{SecretState, secret_state};
+
+    ghost Value = { SecretState };
+
+    ghost view = { λ s. secret_state s.inner };
+}
+
+impl fmt::Debug for Secret {
+    ghost use Rattle.std.specs.Prelude.{Some, codes};
+
+    ghost debug_output = { λ s. Some (codes "Secret { .. }") };
+
+    fn fmt<W: fmt::Write>(&self, f: &mut fmt::Formatter<W>) -> fmt::Result {
+        f.write_str("Secret { .. }")
+    }
+}
+
+impl Secret {
+    /// Creates a secret of a suite from its 32 or 48 bytes.
+    ///
+    /// Fails with `SecretLength` if `bytes` is not as long as a digest of the suite's hash function.
+    pub fn new(suite: Suite, bytes: &[u8]) -> Result<Self, DerivationError>
+        ensures accepted { IsOk result ↔ (length bytes.now ≡ suite_secret_len suite) }
+        ensures refused { IsOkUnless result DerivationError.SecretLength }
+        ensures made { IfOk result (λ s. s ≡ record { suite = suite; bytes = bytes.now }) }
+    {
+        match suite {
+            Suite::Aes128Gcm => match bytes.as_array::<32>() {
+                Some(bytes) => Ok(Secret::aes_128_gcm(*bytes)),
+                None => Err(DerivationError::SecretLength),
+            },
+            Suite::Aes256Gcm => match bytes.as_array::<48>() {
+                Some(bytes) => Ok(Secret::aes_256_gcm(*bytes)),
+                None => Err(DerivationError::SecretLength),
+            },
+        }
+    }
+
+    /// Creates a secret of TLS_AES_128_GCM_SHA256.
+    pub fn aes_128_gcm(bytes: [u8; 32]) -> Self
+        ensures { result ≡ record { suite = Suite.Aes128Gcm; bytes = bytes } }
+    {
+        Secret {
+            inner: SecretBytes::Sha256(bytes),
+        }
+    }
+
+    /// Creates a secret of TLS_AES_256_GCM_SHA384.
+    pub fn aes_256_gcm(bytes: [u8; 48]) -> Self
+        ensures { result ≡ record { suite = Suite.Aes256Gcm; bytes = bytes } }
+    {
+        Secret {
+            inner: SecretBytes::Sha384(bytes),
+        }
+    }
+
+    /// Creates the secret of the Initial packets that a client sends, from the Destination Connection ID of its first one
+    /// (RFC 9001 section 5.2).
+    ///
+    /// Fails with `ConnectionIdLength` if `id` has more than 20 bytes.
+    pub fn client_initial(id: &[u8]) -> Result<Self, DerivationError>
+        ensures accepted { IsOk result ↔ (length id.now ≤ 20) }
+        ensures refused { IsOkUnless result DerivationError.ConnectionIdLength }
+        ensures made { IfOk result (λ s. s ≡ client_initial_secret id.now) }
+    {
+        initial(id, b"client in")
+    }
+
+    /// Creates the secret of the Initial packets that a server sends, from the Destination Connection ID of the client's
+    /// first Initial packet (RFC 9001 section 5.2).
+    ///
+    /// Fails with `ConnectionIdLength` if `id` has more than 20 bytes.
+    pub fn server_initial(id: &[u8]) -> Result<Self, DerivationError>
+        ensures accepted { IsOk result ↔ (length id.now ≤ 20) }
+        ensures refused { IsOkUnless result DerivationError.ConnectionIdLength }
+        ensures made { IfOk result (λ s. s ≡ server_initial_secret id.now) }
+    {
+        initial(id, b"server in")
+    }
+
+    /// Returns the secret's suite.
+    pub fn suite(&self) -> Suite
+        ensures { result ≡ self.now.suite }
+    {
+        match self.inner {
+            SecretBytes::Sha256(_) => Suite::Aes128Gcm,
+            SecretBytes::Sha384(_) => Suite::Aes256Gcm,
+        }
+    }
+
+    /// Returns the secret's bytes.
+    pub fn as_slice(&self) -> &[u8]
+        ensures bytes { result.now ≡ self.now.bytes }
+        ensures len { length result.now ≡ suite_secret_len self.now.suite }
+    {
+        match &self.inner {
+            SecretBytes::Sha256(bytes) => bytes,
+            SecretBytes::Sha384(bytes) => bytes,
+        }
+    }
+
+    /// Returns the key for payloads of QUIC, by the label `quic key` (RFC 9001 section 5.1).
+    pub fn quic_key(&self) -> AeadKeyBytes
+        ensures key { result ≡ quic_key self.now }
+        ensures len { length result ≡ suite_key_len self.now.suite }
+    {
+        AeadKeyBytes {
+            inner: self.key(b"quic key"),
+        }
+    }
+
+    /// Returns the IV of QUIC, by the label `quic iv` (RFC 9001 section 5.1).
+    pub fn quic_iv(&self) -> [u8; IV_LEN]
+        ensures { result ≡ quic_iv self.now }
+    {
+        let mut iv = [0u8; IV_LEN];
+        self.fill(b"quic iv", &mut iv);
+        iv
+    }
+
+    /// Returns the key that masks headers of QUIC, by the label `quic hp` (RFC 9001 section 5.1).
+    pub fn quic_header_key(&self) -> HeaderKeyBytes
+        ensures key { result ≡ quic_header_key self.now }
+        ensures len { length result ≡ suite_key_len self.now.suite }
+    {
+        HeaderKeyBytes {
+            inner: self.key(b"quic hp"),
+        }
+    }
+
+    /// Returns the secret after a key update of QUIC, by the label `quic ku` (RFC 9001 section 6.1). The header key does not
+    /// change at an update: it stays that of the first secret.
+    pub fn next_quic(&self) -> Self
+        ensures { result ≡ next_quic_secret self.now }
+    {
+        self.next(b"quic ku")
+    }
+
+    /// Returns the key of TLS 1.3's records, by the label `key` (RFC 8446 section 7.3).
+    pub fn record_key(&self) -> AeadKeyBytes
+        ensures key { result ≡ record_key self.now }
+        ensures len { length result ≡ suite_key_len self.now.suite }
+    {
+        AeadKeyBytes {
+            inner: self.key(b"key"),
+        }
+    }
+
+    /// Returns the IV of TLS 1.3's records, by the label `iv` (RFC 8446 section 7.3).
+    pub fn record_iv(&self) -> [u8; IV_LEN]
+        ensures { result ≡ record_iv self.now }
+    {
+        let mut iv = [0u8; IV_LEN];
+        self.fill(b"iv", &mut iv);
+        iv
+    }
+
+    /// Returns the traffic secret after a KeyUpdate of TLS 1.3, by the label `traffic upd` (RFC 8446 section 7.2).
+    pub fn next_traffic(&self) -> Self
+        ensures { result ≡ next_traffic_secret self.now }
+    {
+        self.next(b"traffic upd")
+    }
+
+    // The next secret by its label.
+    fn next(&self, label: &[u8]) -> Self
+        requires { length label.now ≤ 249 }
+        ensures { result ≡ next_secret self.now label.now }
+    {
+        match self.suite() {
+            Suite::Aes128Gcm => {
+                let mut bytes = [0u8; 32];
+                self.fill(label, &mut bytes);
+                Secret::aes_128_gcm(bytes)
+            }
+            Suite::Aes256Gcm => {
+                let mut bytes = [0u8; 48];
+                self.fill(label, &mut bytes);
+                Secret::aes_256_gcm(bytes)
+            }
+        }
+    }
+
+    // A key by its label.
+    fn key(&self, label: &[u8]) -> KeyBytes
+        requires { length label.now ≤ 249 }
+        ensures key { key_bytes result ≡ labeled self.now label.now (suite_key_len self.now.suite) }
+        ensures len { length (key_bytes result) ≡ suite_key_len self.now.suite }
+    {
+        match self.suite() {
+            Suite::Aes128Gcm => {
+                let mut key = [0u8; 16];
+                self.fill(label, &mut key);
+                KeyBytes::Aes128(key)
+            }
+            Suite::Aes256Gcm => {
+                let mut key = [0u8; 32];
+                self.fill(label, &mut key);
+                KeyBytes::Aes256(key)
+            }
+        }
+    }
+
+    // Fills `out` by a label.
+    fn fill(&self, label: &[u8], out: &mut [u8])
+        requires label { length label.now ≤ 249 }
+        requires out { length out.old ≤ 48 }
+        ensures { out.new ≡ labeled self.now label.now (length out.old) }
+    {
+        match &self.inner {
+            SecretBytes::Sha256(bytes) => fill_labeled::<Sha256>(bytes, label, b"", out),
+            SecretBytes::Sha384(bytes) => fill_labeled::<Sha384>(bytes, label, b"", out),
+        }
+    }
+}
+
+// The secret of an endpoint by its label.
+fn initial(id: &[u8], label: &[u8]) -> Result<Secret, DerivationError>
+    requires { length label.now ≤ 249 }
+    ensures accepted { IsOk result ↔ (length id.now ≤ 20) }
+    ensures refused { IsOkUnless result DerivationError.ConnectionIdLength }
+    ensures made { IfOk result (λ s. s ≡ endpoint_secret id.now label.now) }
+{
+    if id.len() > MAX_CONNECTION_ID_LEN {
+        return Err(DerivationError::ConnectionIdLength);
+    }
+    let secret = extract::<Sha256>(&INITIAL_SALT, id);
+    let mut bytes = [0u8; 32];
+    fill_labeled::<Sha256>(&secret, label, b"", &mut bytes);
+    Ok(Secret::aes_128_gcm(bytes))
+}
