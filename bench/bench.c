@@ -5,15 +5,18 @@
  *      bench -c PEER CALLS ROW
  *
  *   -o NAME   of the peers OpenSSL alone, which is called NAME
- *   SECONDS   for each row, more where the fewest turns take longer
+ *   SECONDS   for each row and length of the key, more where the fewest turns take longer
  *   WORD..    only the rows that have one of the words in their name
  *   -c        makes so many calls of the peer in one row, or of the library where the peer is "Ours", and prints nothing:
  *             `bench/instructions` counts the instructions. The status is 3 where the row hasn't that peer
  *
+ * Both lengths of the key take their turns together, under one load. A row is timed again, at most TRIES times, while the
+ * median time of the library differs from its least time by more than a tenth.
+ *
  * It prints a line for each row and peer, with tabs between the fields: the row, the bits of the key where the row is
- * timed for two, "MB/s" or "ns", the length of the buffer, the nanoseconds of the library's call, the ratio to the plain C
- * that is wanted (0: none), the peer, and its time over the library's: median, first and third quartile. The last line is
- * "clock", the seconds of the wall clock that the turns took, and those of processor time.
+ * timed for two, "MB/s" or "ns", the length of the buffer, the nanoseconds of the library's call, median and least, the
+ * ratio to the plain C that is wanted (0: none), the peer, and its time over the library's: median, first and third
+ * quartile. The last line is "clock", the seconds of the wall clock that the turns took, and those of processor time.
  *
  * The status is 2 where a peer's answer differs, or a ratio to the plain C is below what is wanted. `bench/run` builds and
  * runs it, and `bench/tables` makes tables of what it prints.
@@ -130,7 +133,14 @@ static const peer all_peers[] = {
 #endif
 };
 
-enum { ALL_PEERS = sizeof all_peers / sizeof all_peers[0], MAX_SIDES = 1 + ALL_PEERS, TURNS = 31, LEAST_TURNS = 7 };
+enum {
+    ALL_PEERS = sizeof all_peers / sizeof all_peers[0],
+    MAX_SIDES = 1 + ALL_PEERS,
+    MAX_COLUMNS = 2,
+    TURNS = 31,
+    LEAST_TURNS = 7,
+    TRIES = 3
+};
 
 /* A row at a length of the key. */
 typedef struct {
@@ -146,6 +156,13 @@ typedef struct {
     uint64_t times;        /* the calls of a turn */
     double seconds[TURNS]; /* of a call, by turn */
 } timed;
+
+/* A row at a length of the key, with its sides. */
+typedef struct {
+    timing of;
+    timed sides[MAX_SIDES];
+    int count;
+} column;
 
 static uint8_t buffer[MAX_LEN + TAG_LEN];
 
@@ -197,16 +214,26 @@ static uint64_t times_in(double seconds, loop *loop, const timing *of) {
     return times;
 }
 
-/* Times the sides in turns, and returns how many turns they had. Each side is the first of some. */
-static int take_turns(timed *sides, int count, const timing *of, double seconds) {
+/* Times the sides of all columns in turns, and returns how many turns they had. Each side is the first of some. */
+static int take_turns(column *columns, int column_count, double seconds) {
+    struct {
+        const timing *of;
+        timed *side;
+    } all[MAX_COLUMNS * MAX_SIDES];
+    int count = 0;
+    for (column *c = columns; c < columns + column_count; c++) {
+        for (int i = 0; i < c->count; i++, count++) all[count].of = &c->of, all[count].side = &c->sides[i];
+    }
+    seconds *= column_count;
     double from = seconds_of_clock(CLOCK_THREAD_CPUTIME_ID);
-    for (int i = 0; i < count; i++) sides[i].times = times_in(seconds / (TURNS * count), sides[i].loop, of);
+    for (int i = 0; i < count; i++) all[i].side->times = times_in(seconds / (TURNS * count), all[i].side->loop, all[i].of);
     int turn = 0;
     for (; turn < TURNS; turn++) {
         if (turn >= LEAST_TURNS && seconds_of_clock(CLOCK_THREAD_CPUTIME_ID) - from > seconds) break;
         for (int i = 0; i < count; i++) {
-            timed *it = &sides[(turn + i) % count];
-            it->seconds[turn] = seconds_of_calls(it->loop, it->times, of) / (double)it->times;
+            int at = (turn + i) % count;
+            timed *it = all[at].side;
+            it->seconds[turn] = seconds_of_calls(it->loop, it->times, all[at].of) / (double)it->times;
         }
     }
     return turn;
@@ -219,21 +246,36 @@ static int by_value(const void *a, const void *b) {
 
 static void sort(double *values, int count) { qsort(values, (size_t)count, sizeof *values, by_value); }
 
+/* The median time of a side's call, and the least. */
+static double median_of(const timed *it, int turns, double *least) {
+    double time[TURNS];
+    memcpy(time, it->seconds, (size_t)turns * sizeof *time);
+    sort(time, turns);
+    *least = time[0];
+    return time[turns / 2];
+}
+
+/* Whether the library's times repeat: in each column the median is at most a tenth above the least. */
+static bool repeats(const column *columns, int column_count, int turns) {
+    for (const column *c = columns; c < columns + column_count; c++) {
+        double least, median = median_of(&c->sides[0], turns, &least);
+        if (median > 1.1 * least) return false;
+    }
+    return true;
+}
+
 /* Prints the line of a peer, and returns whether its ratio is as wanted. */
 static bool print_peer(const timing *of, const timed *ours, const timed *theirs, int turns) {
-    double time[TURNS], ratio[TURNS];
-    for (int i = 0; i < turns; i++) {
-        time[i] = ours->seconds[i];
-        ratio[i] = theirs->seconds[i] / ours->seconds[i];
-    }
-    sort(time, turns);
+    double ratio[TURNS], least, time = median_of(ours, turns, &least);
+    for (int i = 0; i < turns; i++) ratio[i] = theirs->seconds[i] / ours->seconds[i];
     sort(ratio, turns);
     const row *r = of->row;
     double median = ratio[turns / 2], wanted = theirs->peer->side == &plain ? r->wanted : 0;
     printf("%s\t", r->name);
     if (r->key_lens[1]) printf("%zu", 8 * of->key_len);
-    printf("\t%s\t%zu\t%.4g\t%.1f\t", r->shown == SPEED ? "MB/s" : "ns", of->len, 1e9 * time[turns / 2], r->wanted);
-    printf("%s\t%.4g\t%.4g\t%.4g\n", theirs->peer->name, median, ratio[turns / 4], ratio[turns - 1 - turns / 4]);
+    printf("\t%s\t%zu\t%.4g\t%.4g\t", r->shown == SPEED ? "MB/s" : "ns", of->len, 1e9 * time, 1e9 * least);
+    printf("%.1f\t%s\t%.4g\t%.4g\t%.4g\n", r->wanted, theirs->peer->name, median, ratio[turns / 4],
+           ratio[turns - 1 - turns / 4]);
     fflush(stdout);
     if (median < wanted) fprintf(stderr, "bench: %s: %.2f to the C, less than %.1f\n", of->name, median, wanted);
     return median >= wanted;
@@ -244,33 +286,42 @@ static bool is_in(const peer *it, const row *r) {
     return it->side->loops[r->operation] && (!it->of[0] || it->of[0] == r->library || it->of[1] == r->library);
 }
 
-/* Times a row, prints it, and returns whether the peers agree and the ratio is as wanted. */
-static bool time_row(const timing *of, const peer *peers, int peer_count, double seconds) {
-    timed sides[MAX_SIDES] = {{.loop = of->row->library->loops[of->row->operation]}};
-    int count = 1;
-    bool fine = true;
-    for (const peer *it = peers; it < peers + peer_count; it++) {
-        if (!is_in(it, of->row)) continue;
-        loop *theirs = it->side->loops[of->row->operation];
-        if (agree(sides[0].loop, theirs, of)) {
-            sides[count++] = (timed){.peer = it, .loop = theirs};
-        } else {
-            fprintf(stderr, "bench: %s: %s differs\n", of->name, it->name);
-            fine = false;
-        }
-    }
-    if (count == 1) return fine;
-    int turns = take_turns(sides, count, of, seconds);
-    for (int i = 1; i < count; i++) fine &= print_peer(of, &sides[0], &sides[i], turns);
-    return fine;
-}
-
 /* The name has the algorithm's where the row is timed for two lengths of a key. */
 static timing timing_of(const row *r, size_t key_len) {
     timing of = {.row = r, .key_len = key_len, .len = r->len == OF_KEY ? key_len : (size_t)r->len};
     if (r->key_lens[1]) snprintf(of.name, sizeof of.name, "%s, AES-%zu", r->name, 8 * key_len);
     else snprintf(of.name, sizeof of.name, "%s", r->name);
     return of;
+}
+
+/* Gives a column its sides, and returns whether the peers agree with the library. */
+static bool fill_column(column *c, const peer *peers, int peer_count) {
+    const row *r = c->of.row;
+    bool fine = true;
+    c->sides[0] = (timed){.loop = r->library->loops[r->operation]};
+    c->count = 1;
+    for (const peer *it = peers; it < peers + peer_count; it++) {
+        if (!is_in(it, r)) continue;
+        loop *theirs = it->side->loops[r->operation];
+        if (agree(c->sides[0].loop, theirs, &c->of)) {
+            c->sides[c->count++] = (timed){.peer = it, .loop = theirs};
+        } else {
+            fprintf(stderr, "bench: %s: %s differs\n", c->of.name, it->name);
+            fine = false;
+        }
+    }
+    return fine;
+}
+
+/* Times the columns of a row, prints them, and returns whether the ratios are as wanted. */
+static bool time_columns(column *columns, int column_count, double seconds) {
+    int turns, tries = 1;
+    while (turns = take_turns(columns, column_count, seconds), !repeats(columns, column_count, turns) && tries < TRIES) tries++;
+    bool fine = true;
+    for (column *c = columns; c < columns + column_count; c++) {
+        for (int i = 1; i < c->count; i++) fine &= print_peer(&c->of, &c->sides[0], &c->sides[i], turns);
+    }
+    return fine;
 }
 
 /* Whether a name has one of the words, or there is none. */
@@ -285,10 +336,15 @@ static bool is_wanted(const char *name, char **words) {
 static bool time_rows(const peer *peers, int peer_count, double seconds, char **words) {
     bool fine = true;
     for (const row *r = rows; r < rows + sizeof rows / sizeof rows[0]; r++) {
-        for (int i = 0; i < 2 && r->key_lens[i]; i++) {
-            timing of = timing_of(r, r->key_lens[i]);
-            if (is_wanted(of.name, words)) fine &= time_row(&of, peers, peer_count, seconds);
+        column columns[MAX_COLUMNS];
+        int count = 0;
+        for (int i = 0; i < MAX_COLUMNS && r->key_lens[i]; i++) {
+            columns[count].of = timing_of(r, r->key_lens[i]);
+            if (!is_wanted(columns[count].of.name, words)) continue;
+            fine &= fill_column(&columns[count], peers, peer_count);
+            if (columns[count].count > 1) count++;
         }
+        if (count > 0) fine &= time_columns(columns, count, seconds);
     }
     return fine;
 }
@@ -296,7 +352,7 @@ static bool time_rows(const peer *peers, int peer_count, double seconds, char **
 /* Makes calls of one side in one row. Returns false where there is none. */
 static bool make_calls(const char *peer_name, uint64_t times, const char *row_name) {
     for (const row *r = rows; r < rows + sizeof rows / sizeof rows[0]; r++) {
-        for (int i = 0; i < 2 && r->key_lens[i]; i++) {
+        for (int i = 0; i < MAX_COLUMNS && r->key_lens[i]; i++) {
             timing of = timing_of(r, r->key_lens[i]);
             if (strcmp(of.name, row_name) != 0) continue;
             loop *made = strcmp(peer_name, "Ours") == 0 ? r->library->loops[r->operation] : NULL;
