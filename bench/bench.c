@@ -5,20 +5,20 @@
  *      bench -c PEER CALLS ROW
  *
  *   -o NAME   of the peers OpenSSL alone, which is called NAME
- *   SECONDS   for each row and length of the key, more where the fewest turns take longer
+ *   SECONDS   for each row and length of the key, more if the fewest turns take longer
  *   WORD..    only the rows that have one of the words in their name
- *   -c        makes so many calls of the peer in one row, or of the library where the peer is "Ours", and prints nothing:
- *             `bench/instructions` counts the instructions. The status is 3 where the row hasn't that peer
+ *   -c        makes so many calls of the peer in one row, or of the library if the peer is "Ours", and prints nothing:
+ *             `bench/instructions` counts the instructions. The status is 3 if the row doesn't have that peer
  *
  * Both lengths of the key take their turns together, under one load. A row is timed again, at most TRIES times, while the
  * median time of the library differs from its least time by more than a tenth.
  *
- * It prints a line for each row and peer, with tabs between the fields: the row, the bits of the key where the row is
+ * It prints a line for each row and peer, with tabs between the fields: the row, the bits of the key if the row is
  * timed for two, "MB/s" or "ns", the length of the buffer, the nanoseconds of the library's call, median and least, the
  * ratio to the plain C that is wanted (0: none), the peer, and its time over the library's: median, first and third
  * quartile. The last line is "clock", the seconds of the wall clock that the turns took, and those of processor time.
  *
- * The status is 2 where a peer's answer differs, or a ratio to the plain C is below what is wanted. `bench/run` builds and
+ * The status is 2 if the result of a peer differs, or a ratio to the plain C is less than required. `bench/run` builds and
  * runs it, and `bench/tables` makes tables of what it prints.
  */
 #define _POSIX_C_SOURCE 200809L

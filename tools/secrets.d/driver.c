@@ -1,7 +1,7 @@
 /* Every call of the static library with its bytes marked as undefined: the key, the nonce, the AAD, the message, the
  * sample. Lengths, offsets and numbers are known. Prints how many openings came as far as comparing the tag.
  *
- * With `branch` or `address` it leaks a byte of a key instead, to show that this is seen. */
+ * With `branch` or `address` it leaks a byte of a key instead, to show that this is detected. */
 #include "deerlapse.h"
 #include <stdio.h>
 #include <stdlib.h>
