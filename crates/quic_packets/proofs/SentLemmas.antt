@@ -1,5 +1,5 @@
 -- What a sender has sent: each packet carries its number and the key phase of the key that it is sealed under.
-use Rattle.std.proofs.Common.{◌≡◌, ℕ, zero, suc, ◌+◌, ◌-◌, ◌<◌, ◌≤◌, if◌then◌else◌, inl, inr, Bool, false, not, List, [], ◌∷◌, length, get_or, Option, bit_and, refl, sym, ap, subst, ◌∙◌, arith}
+use Rattle.std.proofs.Common.{◌≡◌, ℕ, zero, suc, ◌+◌, ◌-◌, ◌<◌, ◌≤◌, if◌then◌else◌, inl, inr, Bool, false, not, List, [], ◌∷◌, length, get_or, bit_and, refl, sym, ap, subst, ◌∙◌, arith}
 use Rattle.std.proofs.lemmas.Bool.{cases_lt, le-leb, le-ltb, lt-leb, lt-ltb}
 use Rattle.std.proofs.lemmas.List.Elements.{All-cons, All-contains, All-head, All-nil, All-tail, All-weaker}
 use Rattle.std.proofs.Math.ListN.{set}
@@ -13,7 +13,7 @@ use Rattle.quic_packets.specs.Header.{HasSample, Protected}
 use Rattle.quic_packets.specs.Keys.{Receiving, Sending}
 use Rattle.quic_packets.specs.Packet.{CarriesNumber, HasNumber, IsNumber, low_bytes}
 use Rattle.quic_packets.specs.Receiving.{reserved_bits}
-use Rattle.quic_packets.specs.Sending.{IsInTurn, IsSealable, IsSent, Sender, first_byte, is_long, numbered_packet}
+use Rattle.quic_packets.specs.Sending.{IsSealable, IsSent, Sender, first_byte, is_long, numbered_packet}
 use Rattle.quic_packets.proofs.NumberBytes.{length-low_bytes}
 use Rattle.quic_packets.proofs.NumberedLemmas.{carried, has_number, has_phase, here, same_length, unreserved, written}
 
@@ -160,9 +160,6 @@ module _ (s : Sender) (life : Life) (sent : List Sent) (start end : ℕ) (packet
     sealed = subst (λ k. Protected s.header_key start (sealed_packet k.bytes (xored_nonce k.iv s.key.next) end whole) wire) key_now is;
   }
 
-few_bytes : (s : Sender) (largest : Option ℕ) (start end : ℕ) → IsInTurn s largest start end → end ≤ start + 4
-few_bytes s largest start end turn = omega (arith, turn.room.fewest 4 (omega arith) turn.encodable.near)
-
 state : (s : Sender) (life : Life) (sent : List Sent) → HasSent s life sent → Stands s life sent
 state s life sent (begins suite key iv header_key from) = record {
   key = refl;
@@ -180,7 +177,7 @@ state t l ps (sends s life sent start end largest packet wire sealable turn is r
       below = All-cons (λ p. p.number < s.key.next + 1) _ sent (omega arith)
           (All-weaker (λ p. p.number < s.key.next) (λ p. p.number < s.key.next + 1) (λ p h. omega arith) sent stands.below);
       each = All-cons (λ p. WasSent s.header_key life p) _ sent
-          (was_sent_now s life sent start end packet wire sealable turn.is_open.left turn.room.some (few_bytes s largest start end turn) is stands)
+          (was_sent_now s life sent start end packet wire sealable turn.is_open.left turn.room.some turn.room.few is stands)
           stands.each;
     }
 state t l ps (skips s life sent number le run) =

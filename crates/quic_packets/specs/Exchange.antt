@@ -1,6 +1,7 @@
 -- The packets that a sender sends over its life, and the packets that a receiver returns, for the laws.
 use Rattle.std.specs.Prelude.{◌≡◌, ℕ, ◌+◌, ◌-◌, ◌<◌, ◌≤◌, ◌↔◌, ◌⊎◌, if◌then◌else◌, max, min, true, nat_lt, nat_le, false, List, [], ◌∷◌, length, take, slice_index, Option, None, Some, IsSome, Contains, Result, IsOk, IfOk, IsErrOf}
 use Rattle.aead_ciphers.specs.HeaderProtection.{HeaderKey}
+use Rattle.quic_packets.specs.Datagram.{span}
 use Rattle.quic_packets.specs.Keys.{Receiving}
 use Rattle.quic_packets.specs.Receiving.{Receiver, has_phase, received}
 use Rattle.quic_packets.specs.Sending.{IsInTurn, IsSealable, IsSent, Sender, after_acknowledgement, after_send, after_skip, after_update, is_long, new_sender, numbered_packet}
@@ -109,15 +110,14 @@ pub data Follows : Life → List Sent → Receiver → ℕ → Type 0 where
   forgets : (life : Life) (sent : List Sent) (r : Receiver) (own : ℕ) → Follows life sent r own
       → Follows life sent (record r { previous = None }) own
 
--- A packet that was sent is returned: it is received if its number is new, and a duplicate otherwise. Its number, its header
--- and its payload are then as they were sent.
-pub record GivesBack (space : Space) (packet : Sent) (result : Result Received PacketError) (opened : List ℕ) : Type 0 where
+-- A packet that was sent, and begins at byte `start` of a datagram, is returned: it is received if its number is new, and a
+-- duplicate otherwise. Its number, its header and its payload are then as they were sent.
+pub record GivesBack (space : Space) (start : ℕ) (packet : Sent) (result : Result Received PacketError) (opened : List ℕ) : Type 0 where
   pub accepted : IsOk result ↔ IsNew space packet.number
   pub duplicate : IsErrOf result Duplicate ↔ ¬ IsNew space packet.number
   pub returns : IfOk result (λ r. r ≡ record {
     number = packet.number;
-    header_len = packet.header_len;
-    payload_len = length packet.packet - 16 - packet.header_len;
+    payload = span (start + packet.header_len) (start + (length packet.packet - 16));
     phase = has_phase (slice_index packet.packet 0);
   })
   pub bytes : take (length packet.packet - 16) opened ≡ take (length packet.packet - 16) packet.packet

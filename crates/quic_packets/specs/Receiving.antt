@@ -4,6 +4,7 @@ use Rattle.std.specs.Int.Digits.{number_from_digits}
 use Rattle.aead_ciphers.specs.Counting.{xored_nonce}
 use Rattle.aead_ciphers.specs.HeaderProtection.{HeaderKey}
 use Rattle.aead_ciphers.specs.Packet.{OpenedPacket, PacketFits}
+use Rattle.quic_packets.specs.Datagram.{span}
 use Rattle.quic_packets.specs.Header.{HasSample, Unprotected, number_len}
 use Rattle.quic_packets.specs.Keys.{Receiving}
 use Rattle.quic_packets.specs.Numbers.{IsDecoded}
@@ -98,28 +99,27 @@ Opens r number_at plain number opened =
     let key = opening_key r (slice_index plain 0) number in
     OpenedPacket key.bytes (xored_nonce key.iv number) (header_len number_at plain) plain true opened
 
--- what is returned of a packet that is received
-abbrev pub of_packet : (number_at : ℕ) (plain : List ℕ) (number : ℕ) → Received
-of_packet number_at plain number = record {
+-- what is returned of a packet that is received, and begins at byte `start` of its datagram
+abbrev pub of_packet : (start number_at : ℕ) (plain : List ℕ) (number : ℕ) → Received
+of_packet start number_at plain number = record {
   number = number;
-  header_len = header_len number_at plain;
-  payload_len = length plain - 16 - header_len number_at plain;
+  payload = span (start + header_len number_at plain) (start + (length plain - 16));
   phase = has_phase (slice_index plain 0);
 }
 
 -- the outcome of opening a packet that is long enough for a sample: its first byte, and its parts
-pub record Opening (r : Receiver) (number_at : ℕ) (plain : List ℕ) (number : ℕ) (result : Result (ℕ × Received) PacketError)
+pub record Opening (r : Receiver) (start number_at : ℕ) (plain : List ℕ) (number : ℕ) (result : Result (ℕ × Received) PacketError)
     (opened : List ℕ) : Type 0 where
   pub too_long : IsErrOf result TooLong ↔ ¬ PacketFits (header_len number_at plain) (length plain)
   pub forged : IsErrOf result Refused
       ↔ (PacketFits (header_len number_at plain) (length plain) × ¬ IsAuthentic r number_at plain number)
   pub accepted : IsOk result ↔ IsAuthentic r number_at plain number
   pub opens : OnOk result (Opens r number_at plain number opened)
-  pub returns : IfOk result (λ packet. packet ≡ (slice_index plain 0, of_packet number_at plain number))
+  pub returns : IfOk result (λ packet. packet ≡ (slice_index plain 0, of_packet start number_at plain number))
 
 -- The outcome of a packet that is long enough for a sample, in the order of the checks: it is too long; it is not authentic;
 -- or, once it is opened, its reserved bits are set, its number was already received, or its key is not in turn.
-pub record Outcome (r : Receiver) (s : Space) (number_at : ℕ) (plain : List ℕ) (number : ℕ) (result : Result Received PacketError)
+pub record Outcome (r : Receiver) (s : Space) (start number_at : ℕ) (plain : List ℕ) (number : ℕ) (result : Result Received PacketError)
     (r' : Receiver) (opened : List ℕ) : Type 0 where
   pub too_long : IsErrOf result TooLong ↔ ¬ PacketFits (header_len number_at plain) (length plain)
   pub forged : IsErrOf result Refused
@@ -134,7 +134,7 @@ pub record Outcome (r : Receiver) (s : Space) (number_at : ℕ) (plain : List �
       ↔ (IsAuthentic r number_at plain number × (reserved_bits (slice_index plain 0) ≡ 0) × IsNew s number
       × IsInTurn r (slice_index plain 0) number)
   pub opens : IsAuthentic r number_at plain number → Opens r number_at plain number opened
-  pub returns : IfOk result (λ packet. packet ≡ of_packet number_at plain number)
+  pub returns : IfOk result (λ packet. packet ≡ of_packet start number_at plain number)
   pub moves_on : OnOk result (r' ≡ received r (slice_index plain 0) number)
 
 -- the errors of a packet that is authentic, and is opened in place

@@ -88,11 +88,11 @@ pub record IsEncodable (number : ℕ) (largest : Option ℕ) : Type 0 where
   pub above : IsAbove number largest
   pub near : Represents 4 (unacknowledged number largest)
 
--- the room for a number has the fewest bytes that represent it (RFC 9000 section 17.1, appendix A.2)
+-- the room for a number has 1 to 4 bytes, and they represent it (RFC 9000 section 17.1)
 pub record IsRoom (number : ℕ) (largest : Option ℕ) (start end : ℕ) : Type 0 where
   pub some : start < end
+  pub few : end ≤ start + 4
   pub represents : Represents (end - start) (unacknowledged number largest)
-  pub fewest : (k : ℕ) → 0 < k → Represents k (unacknowledged number largest) → end - start ≤ k
 
 -- the next number can be sent in this room
 pub record IsInTurn (s : Sender) (largest : Option ℕ) (start end : ℕ) : Type 0 where

@@ -1,6 +1,15 @@
 //! The error of sending and receiving packets.
 
+ghost use Rattle.std.specs.Prelude.{◌≡◌};
+ghost use Rattle.quic_packets.specs.Errors.{error_code};
+
 use thiserror::Error;
+
+const PROTOCOL_VIOLATION: u64 = 0x0a;
+
+const KEY_UPDATE_ERROR: u64 = 0x0e;
+
+const AEAD_LIMIT_REACHED: u64 = 0x0f;
 
 /// The error of sending or receiving a packet.
 ///
@@ -14,8 +23,14 @@ pub enum PacketError {
     /// The packet number is said to begin at byte 0, which is the first byte of every header.
     #[error("the packet number cannot begin at the header's first byte")]
     NumberAtFirstByte,
-    /// The packet number is not as long as the header's first byte says (RFC 9000 sections 17.2 and 17.3.1), or as long as
-    /// `Sender::next_number_len` returns.
+    /// The packet ends after the datagram.
+    #[error("the datagram ends before the packet")]
+    PastEnd,
+    /// The packet has no packet number, as its type or its version says.
+    #[error("the packet has no packet number")]
+    NoNumber,
+    /// The packet number is not as long as the header's first byte says (RFC 9000 sections 17.2 and 17.3.1), or its room for
+    /// `Sender::send` has fewer bytes than `Sender::next_number_len` returns, or more than 4.
     #[error("the packet number does not have the length that the header's first byte gives")]
     NumberLength,
     /// The packet number in the header is not the next one.
@@ -68,4 +83,20 @@ pub enum PacketError {
     /// The packet is authentic, but its key phase is out of turn (RFC 9001 section 6.4).
     #[error("the packet's key phase is out of order")]
     KeyUpdate,
+}
+
+impl PacketError {
+    /// Returns the code of the transport error that the connection must be closed with (RFC 9000 section 20.1), or `None` if the
+    /// packet is only dropped or not sent: `PROTOCOL_VIOLATION` for `ReservedBits`, `KEY_UPDATE_ERROR` for `KeyUpdate`, and
+    /// `AEAD_LIMIT_REACHED` for `TooManyFailures`.
+    pub fn code(self) -> Option<u64>
+        ensures { result ≡ error_code self }
+    {
+        match self {
+            PacketError::ReservedBits => Some(PROTOCOL_VIOLATION),
+            PacketError::KeyUpdate => Some(KEY_UPDATE_ERROR),
+            PacketError::TooManyFailures => Some(AEAD_LIMIT_REACHED),
+            _ => None,
+        }
+    }
 }

@@ -4,6 +4,7 @@ ghost use Rattle.std.specs.Prelude.{◌≡◌, ◌≢◌, ℕ, ◌+◌, ◌*◌,
 ghost use Rattle.std.specs.Int.Digits.{number_from_digits};
 ghost use Rattle.aead_ciphers.specs.Counting.{xored_nonce};
 ghost use Rattle.aead_ciphers.specs.Packet.{PacketFits, sealed_packet};
+ghost use Rattle.quic_packets.specs.Datagram.{packet_of};
 ghost use Rattle.quic_packets.specs.Header.{HasSample, Protected, Unprotected, number_len};
 ghost use Rattle.quic_packets.specs.Exchange.{Counts, Follows, GivesBack, HasSent, Holds, Life, Sent, WasSentInPhase};
 ghost use Rattle.quic_packets.specs.Keys.{Sends};
@@ -137,8 +138,16 @@ pub fn received_as_sent(sender: &Sender, receiver: &Receiver, space: &Space)
         → Holds receiver.now updates life packet
         → InWindow space.now.next (number_len (slice_index packet.packet 0)) packet.number
         → Reads receiver.now.header space.now.next packet.number_at packet.wire plain number
-        → Outcome receiver.now space.now packet.number_at plain number result after opened
-        → GivesBack space.now packet result opened }
+        → (start : ℕ) → Outcome receiver.now space.now start packet.number_at plain number result after opened
+        → GivesBack space.now start packet result opened }
+{}
+
+/// The parts of a packet depend on the bytes from its first one on alone. So `Receiver::receive`, which changes no byte outside
+/// its packet, leaves each later packet of the datagram as it came (RFC 9000 section 12.2).
+pub fn parts_of_its_bytes(datagram: &[u8], changed: &[u8], start: usize, connection_id_len: usize)
+    requires len { length changed.now ≡ length datagram.now }
+    requires same { (i : ℕ) → start ≤ i → slice_index changed.now i ≡ slice_index datagram.now i }
+    ensures { packet_of connection_id_len changed.now start ≡ packet_of connection_id_len datagram.now start }
 {}
 
 /// Over every run of packets that are received in one space, no number is received twice (RFC 9000 section 12.3).

@@ -9,7 +9,7 @@ ghost use Rattle.quic_packets.specs.Packet.{CarriesNumber, HasNumber, IsNumber};
 ghost use Rattle.quic_packets.specs.Sending.{HasKeyLengths, IsEncodable, IsInTurn, IsOpen, IsRoom, IsSealable, IsSent, after_acknowledgement, after_send, after_skip, after_update, first_byte, lacks_protection, new_sender, numbered_packet, with_installed_keys};
 
 use crate::error::PacketError;
-use crate::header::{HeaderKey, SAMPLE_END};
+use crate::header::{HeaderKey, MAX_NUMBER_LEN, SAMPLE_END};
 use crate::numbers::number_len;
 use crate::packet::{NUMBERS_END, payload_len};
 use crate::send::SendKey;
@@ -141,20 +141,20 @@ impl Sender {
         self.phase
     }
 
-    /// Returns the length of the next packet number's encoding in bytes, from 1 to 4 (RFC 9000 section 17.1, appendix A.2).
+    /// Returns the least length of the next packet number's encoding in bytes, from 1 to 4 (RFC 9000 section 17.1, appendix
+    /// A.2). `send` takes this length and any longer one, up to 4 bytes.
     ///
     /// `largest_acknowledged` is the largest number of this space that the peer has acknowledged.
     ///
     /// Returns `None` if `send` cannot send the number: no number is left, 4 bytes are too few, or the number is not above
     /// `largest_acknowledged`.
-    #[tactic(auto, using(crate::proofs::RoomLemmas::only_room))]
+    #[tactic(auto, using(crate::proofs::RoomLemmas::rooms))]
     pub fn next_number_len(&self, largest_acknowledged: Option<u64>) -> Option<usize>
         ensures encodable { IsSome result
             ↔ (IsNumber self.now.key.next × IsEncodable self.now.key.next largest_acknowledged) }
-        ensures room { IfSome result (λ n. IsRoom self.now.key.next largest_acknowledged 0 n) }
-        ensures only_room { IfSome result (λ n. (start end : ℕ)
-            → IsRoom self.now.key.next largest_acknowledged start end → end ≡ start + n) }
-        ensures few { IfSome result (λ n. n ≤ 4) }
+        ensures rooms { IfSome result (λ n. (start end : ℕ)
+            → IsRoom self.now.key.next largest_acknowledged start end ↔ ((start + n ≤ end) × (end ≤ start + 4))) }
+        ensures few { IfSome result (λ n. (0 < n) × (n ≤ 4)) }
     {
         number_len(self.key.next_number(), largest_acknowledged)
     }
@@ -271,15 +271,16 @@ impl Sender {
     /// first byte, clears the reserved bits, encrypts the payload in place, writes the tag to the last 16 bytes, and masks the
     /// header.
     ///
-    /// The packet is the header, which ends with room for the number, the payload, and 16 bytes for the tag. The room has as
-    /// many bytes as `next_number_len` returns. A long header's Length field, which comes before the number, is the caller's
+    /// The packet is the header, which ends with room for the number, the payload, and 16 bytes for the tag. The room has from
+    /// `next_number_len` to 4 bytes. A long header's Length field, which comes before the number, is the caller's
     /// responsibility.
     ///
     /// Fails with `TooShort` if the packet has fewer than `number.end + 16` bytes; with `TooLong` if it is longer than AES-GCM
     /// allows; with `NumberAtFirstByte` if `number.start` is 0; with `NoSample` if number and payload together have fewer than
     /// 4 bytes; with `NoProtection` for a Version Negotiation or a Retry packet; with `KeyUsedUp` if the key has reached its
     /// limit; with `NumbersEnded` if no number is left; with `NumberTooFar` if `next_number_len` returns `None` for another
-    /// reason; and with `NumberLength` if the room does not have that many bytes. The packet and the sender are then unchanged.
+    /// reason; and with `NumberLength` if the room has fewer bytes than that, or more than 4. The packet and the sender are then
+    /// unchanged.
     pub fn send(
         &mut self,
         packet: &mut [u8],
@@ -356,14 +357,16 @@ impl Sender {
         if self.sealed >= self.limit {
             return Err(PacketError::KeyUsedUp);
         }
-        let next = self.key.next_number();
-        if next >= NUMBERS_END {
+        if self.key.next_number() >= NUMBERS_END {
             return Err(PacketError::NumbersEnded);
         }
-        let Some(len) = number_len(next, largest_acknowledged) else {
+        let Some(least) = self.next_number_len(largest_acknowledged) else {
             return Err(PacketError::NumberTooFar);
         };
-        if header_len < number_at || header_len - number_at != len {
+        if header_len < number_at {
+            return Err(PacketError::NumberLength);
+        }
+        if !(least..=MAX_NUMBER_LEN).contains(&(header_len - number_at)) {
             return Err(PacketError::NumberLength);
         }
         Ok(())

@@ -4,7 +4,7 @@ use crate::checks::displays;
 use quic_packets::{DatagramError, PacketError, RetryError};
 use std::test::Fail;
 
-const PACKET_ERRORS: [(PacketError, &str); 19] = [
+const PACKET_ERRORS: [(PacketError, &str); 21] = [
     (
         PacketError::KeyLength,
         "the key does not have the length of the algorithm's keys",
@@ -13,6 +13,8 @@ const PACKET_ERRORS: [(PacketError, &str); 19] = [
         PacketError::NumberAtFirstByte,
         "the packet number cannot begin at the header's first byte",
     ),
+    (PacketError::PastEnd, "the datagram ends before the packet"),
+    (PacketError::NoNumber, "the packet has no packet number"),
     (
         PacketError::NumberLength,
         "the packet number does not have the length that the header's first byte gives",

@@ -3,8 +3,9 @@
 use crate::checks::{equal, same};
 use quic_packets::{Failures, PacketError, Receiver, Sender, Space, Suite, packet_at};
 use std::alloc::Global;
+use std::process::Abort;
 use std::test::Fail;
-use uses::quic_connection::{self, Incoming};
+use uses::quic_connection::{self, Connection, Level, NextKey};
 
 /// The key of one direction, which both ends have, like the IV and the header key. TLS derives them from a secret with HKDF
 /// (RFC 9001 section 5.1).
@@ -41,34 +42,87 @@ fn one_packet(rt: HostRuntime) -> Result<(), Fail> {
     let mut space = Space::new();
     let mut failures = Failures::new();
     let parts = packet_at(&datagram, 0, CONNECTION_ID.len())?;
-    let number_at = parts.number_at.ok_or("a packet without a number")?;
-    let packet = &mut datagram[..parts.end];
-    let received = receiver.receive(&mut space, &mut failures, packet, number_at)?;
-    let payload = &packet[received.header_len..received.header_len + received.payload_len];
+    let received = receiver.receive(&mut space, &mut failures, &mut datagram, &parts)?;
+    let payload = &datagram[received.payload];
     same(&rt, payload, b"hello", "the payload");
     Ok(())
 }
 
-/// Tests that `uses::quic_connection` sends a packet, receives it, and rejects it as a duplicate the second time.
-#[test]
-fn callers(rt: HostRuntime) -> Result<(), Fail> {
-    let mut sender = Sender::new(Suite::Aes256Gcm, &[1; 32], IV, &[3; 32], 7)?;
-    let mut incoming = Incoming {
+/// The header of a Handshake packet of 40 bytes, up to its number of four bytes.
+const HANDSHAKE: [u8; 16] = [0xe0, 0, 0, 0, 1, 8, 4, 4, 4, 4, 4, 4, 4, 4, 0, 24];
+
+fn sender() -> Result<Sender, PacketError> {
+    Sender::new(Suite::Aes256Gcm, &[1; 32], IV, &[3; 32], 7)
+}
+
+fn level() -> Result<Level, PacketError> {
+    Ok(Level {
         receiver: Receiver::new(Suite::Aes256Gcm, &[1; 32], IV, &[3; 32])?,
         space: Space::new(),
-        failures: Failures::new(),
-    };
-    let mut packet = [7; 40];
-    equal(
+    })
+}
+
+/// Creates a connection without Initial keys.
+fn connection(max_failures: u64) -> Result<Connection, PacketError> {
+    Ok(Connection {
+        initial: None,
+        handshake: Some(level()?),
+        one_rtt: Some(level()?),
+        failures: Failures::with_limit(max_failures),
+        sender: sender()?,
+        next: NextKey { key: KEY, iv: IV },
+    })
+}
+
+/// Returns a datagram of a Handshake packet and a 1-RTT packet, of 40 bytes each.
+fn coalesced() -> Result<[u8; 80], PacketError> {
+    let mut datagram = [4; 80];
+    datagram[..16].copy_from_slice(&HANDSHAKE);
+    let mut sender = sender()?;
+    sender.send(&mut datagram[..40], 16..20, None)?;
+    quic_connection::send(&mut sender, &mut datagram[40..], None)?;
+    Ok(datagram)
+}
+
+/// Asserts the result of receiving a datagram, with one bit of byte 30 flipped if `is_forged`, and returns what it then is.
+fn received(
+    rt: &impl Abort,
+    connection: &mut Connection,
+    is_forged: bool,
+    id: &[u8; 8],
+    wanted: Result<bool, u64>,
+) -> Result<[u8; 80], PacketError> {
+    let mut datagram = coalesced()?;
+    datagram[30] ^= u8::from(is_forged);
+    let found = quic_connection::receive(connection, &mut datagram, 80, id);
+    equal(rt, &found, &wanted);
+    Ok(datagram)
+}
+
+/// A forged packet is dropped and the packet after it is received, and a duplicate is dropped too. Packets with another ID are
+/// ignored, and the limit of failures closes the connection.
+#[test]
+fn datagrams(rt: HostRuntime) -> Result<(), Fail> {
+    let mut connection = connection(2)?;
+    let sent = coalesced()?;
+    let found = received(&rt, &mut connection, false, &[8; 8], Ok(false))?;
+    same(&rt, &found, &sent, "another ID");
+    let found = received(&rt, &mut connection, true, &CONNECTION_ID, Ok(true))?;
+    same(&rt, &found[..30], &sent[..30], "the forged packet");
+    same(
         &rt,
-        &quic_connection::send(&mut sender, &mut packet, Some(6))?,
-        &7,
+        &found[53..64],
+        &[4; 11],
+        "the payload of the second packet",
     );
-    let mut again = packet;
-    let payload = quic_connection::receive(&mut incoming, &mut packet)?;
-    equal(&rt, &payload, &(10..24));
-    same(&rt, &packet[10..24], &[7; 14], "the payload");
-    let outcome = quic_connection::receive(&mut incoming, &mut again);
-    equal(&rt, &outcome, &Err(PacketError::Duplicate));
+    let found = received(&rt, &mut connection, false, &CONNECTION_ID, Ok(true))?;
+    same(
+        &rt,
+        &found[20..24],
+        &[4; 4],
+        "the payload of the first packet",
+    );
+    received(&rt, &mut connection, false, &CONNECTION_ID, Ok(false))?;
+    received(&rt, &mut connection, true, &CONNECTION_ID, Err(0x0f))?;
     Ok(())
 }

@@ -16,7 +16,7 @@ use std::process::Abort;
 use std::test::Fail;
 
 /// Returns the header and the payload.
-fn plain(row: &Packet) -> Result<Vec<u8>, AllocError> {
+pub(crate) fn plain(row: &Packet) -> Result<Vec<u8>, AllocError> {
     let mut packet = row.header.clone()?;
     packet.extend_from_slice(&row.frames)?;
     for _ in row.frames.len()..row.payload_len {

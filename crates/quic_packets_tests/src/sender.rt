@@ -1,7 +1,9 @@
-//! Tests of `quic_packets::Sender`: packets of another implementation, each error, skipped numbers, limits and key updates.
+//! Tests of `quic_packets::Sender`: packets of RFC 9001 appendix A and of another implementation, each error, skipped numbers, limits and key updates.
 
 use crate::checks::{equal, holds, same};
+use crate::keys::plain;
 use crate::rows::{HEADER_KEY, IV, KEY, ROWS, Row};
+use aead_vectors::rfc_9001::{PACKETS, Packet};
 use quic_packets::{HeaderKey, PacketError, ReceiveKey, Sender, Suite};
 use std::alloc::Global;
 use std::ops::Range;
@@ -59,6 +61,26 @@ fn packets_of_another_implementation(rt: HostRuntime) -> Result<(), Fail> {
     Ok(())
 }
 
+// A.2 has its number 2 in four bytes, where one would do.
+#[test]
+fn appendix_a(rt: HostRuntime) -> Result<(), Fail> {
+    for line in PACKETS {
+        let row = Packet::parse(rt.alloc(), line)?;
+        let mut sender = Sender::new(
+            Suite::Aes128Gcm,
+            &row.key,
+            row.iv,
+            &row.header_key,
+            row.number,
+        )?;
+        let mut packet = plain(&row)?;
+        packet.extend_from_slice(&[0; 16])?;
+        sender.send(&mut packet, row.number_at..row.header.len(), None)?;
+        same(&rt, &packet, &row.protected, row.name);
+    }
+    Ok(())
+}
+
 /// A short header of two bytes, a payload, and room for the tag.
 const SHORT: [u8; 24] = [
     0x40, 0, 1, 1, 1, 1, 1, 1, 0, 0, 0, 0, 0, 0, 0, 0, 0, 0, 0, 0, 0, 0, 0, 0,
@@ -104,7 +126,7 @@ const REFUSALS: [(u8, u8, usize, usize, PacketError); 7] = [
     (0x40, 0, 8, 9, PacketError::TooShort),
     (0x40, 0, 0, 1, PacketError::NumberAtFirstByte),
     (0x40, 0, 5, 6, PacketError::NoSample),
-    (0x40, 0, 1, 3, PacketError::NumberLength),
+    (0x40, 0, 1, 6, PacketError::NumberLength),
     (0x40, 0, 2, 1, PacketError::NumberLength),
     (0xf0, 1, 1, 2, PacketError::NoProtection),
     (0xc0, 0, 1, 2, PacketError::NoProtection),
