@@ -43,9 +43,9 @@ impl Connection {
     }
 
     fn send(&mut self, packet: &mut [u8]) -> Result<u64, PacketError> {
-        let acknowledged = self.sender.next_number().checked_sub(UNACKNOWLEDGED);
-        self.sender
-            .send(packet, NUMBER_AT..HEADER_LEN, acknowledged)
+        let acknowledged = self.sender.next_number().saturating_sub(UNACKNOWLEDGED);
+        self.sender.acknowledged(acknowledged)?;
+        self.sender.send(packet, NUMBER_AT..HEADER_LEN)
     }
 
     fn receive(&mut self, packet: &mut [u8], parts: &Packet) -> Result<u64, PacketError> {

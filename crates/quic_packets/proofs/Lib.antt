@@ -1,5 +1,4 @@
 pub mod DatagramLemmas
-pub mod FreshNumbers
 pub mod HeaderLemmas
 pub mod LaterBytes
 pub mod NumberBytes

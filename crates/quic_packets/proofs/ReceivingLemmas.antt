@@ -8,7 +8,7 @@ use Rattle.aead_ciphers.specs.Packet.{OpenedPacket, PacketFits, sealed_packet}
 use Rattle.quic_packets.specs.Datagram.{span}
 use Rattle.quic_packets.specs.Exchange.{Follows, GivesBack, HasSent, Holds, Life, Sent, key_after, updates_before}
 use Rattle.quic_packets.specs.Header.{HasSample, Protected, number_len}
-use Rattle.quic_packets.specs.Keys.{Receiving}
+use Rattle.quic_packets.specs.Keys.{PacketKey}
 use Rattle.quic_packets.specs.Laws.{OpensTo}
 use Rattle.quic_packets.specs.Numbers.{InWindow, IsDecoded}
 use Rattle.quic_packets.specs.Packet.{CarriesNumber, HasNumber, IsGenuine, IsNumber, low_bytes}
@@ -35,7 +35,7 @@ record ReadAsSent (r : Receiver) (sent number_at h : ℕ) (packet plain : List �
   comes_back : (opened : List ℕ) → Opens r number_at plain number opened
       → take (length packet - 16) opened ≡ take (length packet - 16) packet
 
-module _ (r : Receiver) (expected number at h : ℕ) (packet wire plain : List ℕ) (key : Receiving) (n : ℕ)
+module _ (r : Receiver) (expected number at h : ℕ) (packet wire plain : List ℕ) (key : PacketKey) (n : ℕ)
     (has : PacketFits h (length packet)) (numbered : HasNumber at h packet) (sample : HasSample at (length packet))
     (is : IsNumber number) (carries : CarriesNumber number at h packet) (held : key_of r (get_or packet 0 0) number ≡ Some key)
     (window : InWindow expected (number_len (get_or packet 0 0)) number)
@@ -115,7 +115,7 @@ module _ (sender : Sender) (life : Life) (sent : List Sent) (run : HasSent sende
   takes : Takes life r (get_or p.packet 0 0) p.number
   takes = held sender life sent run r own p has follows holds
 
-  abbrev its_key : Receiving
+  abbrev its_key : PacketKey
   its_key = key_after life.key life.updates (updates_before life.updates p.number)
 
   read : ReadAsSent r p.number p.number_at p.header_len p.packet plain n

@@ -6,7 +6,7 @@ use Rattle.aead_ciphers.specs.HeaderProtection.{HeaderKey}
 use Rattle.aead_ciphers.specs.Packet.{OpenedPacket, PacketFits}
 use Rattle.quic_packets.specs.Datagram.{span}
 use Rattle.quic_packets.specs.Header.{HasSample, Unprotected, number_len}
-use Rattle.quic_packets.specs.Keys.{Receiving}
+use Rattle.quic_packets.specs.Keys.{PacketKey}
 use Rattle.quic_packets.specs.Numbers.{IsDecoded}
 use Rattle.quic_packets.specs.Packet.{IsGenuine}
 use Rattle.quic_packets.specs.Space.{IsNew, Space}
@@ -19,9 +19,9 @@ use Rattle.quic_packets.specs.declared.receiver.Received.{Received}
 -- 0 until a packet is opened.
 pub record Receiver : Type 0 where
   pub header : HeaderKey
-  pub current : Receiving
-  pub next : Option Receiving
-  pub previous : Option Receiving
+  pub current : PacketKey
+  pub next : Option PacketKey
+  pub previous : Option PacketKey
   pub phase : Bool
   pub lowest : ℕ
   pub highest : ℕ
@@ -36,12 +36,12 @@ is_other_phase r first = bit_and first 0x84 == (if r.phase then 0x00 else 0x04)
 
 -- The key of a packet, from its first byte and its number, if it is held. In the other phase it is the previous key if the
 -- number is lower than any of this phase, and the next key otherwise (RFC 9001 section 6.5).
-abbrev pub key_of : Receiver → ℕ → ℕ → Option Receiving
+abbrev pub key_of : Receiver → ℕ → ℕ → Option PacketKey
 key_of r first number = if is_other_phase r first then (if nat_lt number r.lowest then r.previous else r.next) else Some r.current
 
 -- the key that a packet is opened with: another one if its own is not held, so that the time does not reveal this (section
 -- 6.3)
-abbrev pub opening_key : Receiver → ℕ → ℕ → Receiving
+abbrev pub opening_key : Receiver → ℕ → ℕ → PacketKey
 opening_key r first number = unwrap_or (key_of r first number) r.current
 
 -- The packet's key is held. If it is the next key, no packet of this phase has a higher number, since later packets are never
@@ -51,7 +51,7 @@ pub record IsInTurn (r : Receiver) (first number : ℕ) : Type 0 where
   pub later : IsTrue (is_other_phase r first) → r.lowest ≤ number → r.highest ≤ number
 
 -- the receiver after the next key first opened a packet: the keys move on (section 6.2)
-abbrev pub updated : Receiver → ℕ → Option Receiving → Receiver
+abbrev pub updated : Receiver → ℕ → Option PacketKey → Receiver
 updated r number None = r
 updated r number (Some key) =
     record r {

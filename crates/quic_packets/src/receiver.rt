@@ -16,8 +16,8 @@ use crate::datagram::Packet;
 use crate::error::PacketError;
 use crate::failures::Failures;
 use crate::header::{HeaderKey, SAMPLE_END};
+use crate::key::PacketKey;
 use crate::numbers::{decode, truncated};
-use crate::receive::ReceiveKey;
 use crate::space::Space;
 use crate::suite::Suite;
 use aead_ciphers::aead::NONCE_LEN;
@@ -53,9 +53,9 @@ pub struct Received {
 #[derive(Drop)]
 pub struct Receiver {
     header: HeaderKey,
-    current: ReceiveKey,
-    next: Option<ReceiveKey>,
-    previous: Option<ReceiveKey>,
+    current: PacketKey,
+    next: Option<PacketKey>,
+    previous: Option<PacketKey>,
     phase: bool,
     lowest: u64,
     highest: u64,
@@ -102,7 +102,7 @@ impl Receiver {
         }) }
     {
         Ok(Receiver {
-            current: ReceiveKey::new(suite.algorithm(), key, iv)?,
+            current: PacketKey::new(suite.algorithm(), key, iv)?,
             header: HeaderKey::new(suite.header_algorithm(), header_key)?,
             next: None,
             previous: None,
@@ -128,7 +128,7 @@ impl Receiver {
         }) }
         ensures kept { OnErr result (self.new ≡ self.old) }
     {
-        self.next = Some(ReceiveKey::new(self.current.algorithm(), key, iv)?);
+        self.next = Some(PacketKey::new(self.current.algorithm(), key, iv)?);
         Ok(())
     }
 
@@ -285,7 +285,7 @@ impl Receiver {
         );
         match self
             .opening_key(first, number)
-            .open(packet, header_len, number)
+            .open(number, packet, header_len)
         {
             Ok(payload_len) => {
                 let from = start + header_len;
@@ -306,7 +306,7 @@ impl Receiver {
     }
 
     // The key of a packet, if it is held.
-    fn key_of(&self, first: u8, number: u64) -> Option<&ReceiveKey>
+    fn key_of(&self, first: u8, number: u64) -> Option<&PacketKey>
         ensures { option_copied result ≡ key_of self.now first number }
     {
         if !self.is_other_phase(first) {
@@ -327,7 +327,7 @@ impl Receiver {
 
     // The key that a packet is opened with. If its own is not held, this is the current one, so that rejecting it takes as
     // long.
-    fn opening_key(&self, first: u8, number: u64) -> &ReceiveKey
+    fn opening_key(&self, first: u8, number: u64) -> &PacketKey
         ensures { result.now ≡ opening_key self.now first number }
     {
         self.key_of(first, number).unwrap_or(&self.current)

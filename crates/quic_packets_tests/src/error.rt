@@ -4,7 +4,7 @@ use crate::checks::displays;
 use quic_packets::{DatagramError, PacketError, RetryError};
 use std::test::Fail;
 
-const PACKET_ERRORS: [(PacketError, &str); 21] = [
+const PACKET_ERRORS: [(PacketError, &str); 22] = [
     (
         PacketError::KeyLength,
         "the key does not have the length of the algorithm's keys",
@@ -17,11 +17,7 @@ const PACKET_ERRORS: [(PacketError, &str); 21] = [
     (PacketError::NoNumber, "the packet has no packet number"),
     (
         PacketError::NumberLength,
-        "the packet number does not have the length that the header's first byte gives",
-    ),
-    (
-        PacketError::OtherNumber,
-        "the packet number in the header is not the next one",
+        "the packet number does not fit the room for it",
     ),
     (
         PacketError::NumberUsed,
@@ -38,6 +34,14 @@ const PACKET_ERRORS: [(PacketError, &str); 21] = [
     (
         PacketError::KeyUsedUp,
         "the key has reached its limit of packets",
+    ),
+    (
+        PacketError::OutputLength,
+        "the output does not have the length of the result",
+    ),
+    (
+        PacketError::NeverSent,
+        "a packet that was not sent was acknowledged",
     ),
     (
         PacketError::HandshakeUnconfirmed,

@@ -6,7 +6,7 @@ use crate::rows::{IV as ROW_IV, ROWS, Row};
 use aead_ciphers::aead::{AES_128_GCM, quic};
 use aead_vectors::rfc_9001::{PACKETS, Packet};
 use quic_packets::{
-    Failures, HeaderKey, Packet as Parts, PacketError, PacketType, Received, Receiver, SendKey,
+    Failures, HeaderKey, Packet as Parts, PacketError, PacketKey, PacketType, Received, Receiver,
     Space, Suite,
 };
 use std::alloc::Global;
@@ -29,7 +29,7 @@ fn sent(key: u8, first: u8, number: u16) -> Result<[u8; 40], PacketError> {
     let [high, low] = number.to_be_bytes();
     packet[9] = high;
     packet[10] = low;
-    SendKey::new(&AES_128_GCM, &[key; 16], IV, u64::from(number))?.seal(&mut packet, 9..11)?;
+    PacketKey::new(&AES_128_GCM, &[key; 16], IV)?.seal(u64::from(number), &mut packet, 11)?;
     HeaderKey::new(&quic::AES_128, &HEADER_KEY)?.protect(&mut packet, 9)?;
     Ok(packet)
 }

@@ -43,18 +43,14 @@ pub struct Connection {
 
 /// Sends a packet with a short header and returns its number. The packet consists of the first byte, the connection ID,
 /// four bytes for the number, the payload, and 16 bytes for the tag.
-pub fn send(
-    sender: &mut Sender,
-    packet: &mut [u8],
-    largest_acknowledged: Option<u64>,
-) -> Result<u64, PacketError>
-    ensures accepted { IsOk result ↔ (IsSealable 9 13 packet.old × IsInTurn sender.old largest_acknowledged 9 13) }
+pub fn send(sender: &mut Sender, packet: &mut [u8]) -> Result<u64, PacketError>
+    ensures accepted { IsOk result ↔ (IsSealable 9 13 packet.old × IsInTurn sender.old 9 13) }
     ensures sent { OnOk result (IsSent sender.old 9 13 packet.old packet.new) }
-    ensures number { IfOk result (λ n. n ≡ sender.old.key.next) }
+    ensures number { IfOk result (λ n. n ≡ sender.old.next) }
     ensures counted { OnOk result (sender.new ≡ after_send sender.old) }
     ensures kept { OnErr result ((packet.new ≡ packet.old) × (sender.new ≡ sender.old)) }
 {
-    sender.send(packet, NUMBER_AT..NUMBER_AT + 4, largest_acknowledged)
+    sender.send(packet, NUMBER_AT..NUMBER_AT + 4)
 }
 
 /// Receives the packets of a datagram, the first `len` bytes of a buffer, and returns whether there was one. `id` is the
