@@ -1,5 +1,5 @@
 -- The parts of a packet depend on the bytes from its first one on alone.
-use Rattle.std.proofs.Common.{◌≡◌, ℕ, ◌+◌, ◌-◌, ◌*◌, ◌/◌, ◌%◌, ◌^◌, ◌<◌, ◌≤◌, List, length, get_or, take, drop, sym, ap, ap₂, refl, ◌∙◌, arith, length-drop, max}
+use Rattle.std.proofs.Common.{◌≡◌, ℕ, ◌+◌, ◌-◌, ◌*◌, ◌/◌, ◌%◌, ◌^◌, ◌≤◌, List, length, get_or, take, drop, sym, ap, ap₂, refl, ◌∙◌, arith, length-drop, max}
 use Rattle.std.proofs.lemmas.List.{ext_get_or, get_or-drop}
 use Rattle.std.specs.Int.Digits.{number_from_digits}
 use Rattle.std.specs.Prelude.{Err, Ok, Option, Some, None, Result, nat_lt, slice_range, ◌==◌, ◌||◌, if◌then◌else◌}

@@ -1,5 +1,5 @@
 -- The packets that a sender sends over its life, and the packets that a receiver returns, for the laws.
-use Rattle.std.specs.Prelude.{◌≡◌, ℕ, ◌+◌, ◌-◌, ◌<◌, ◌≤◌, ◌↔◌, ◌⊎◌, if◌then◌else◌, max, min, true, nat_lt, nat_le, false, List, [], ◌∷◌, length, take, slice_index, Option, None, Some, IsSome, Contains, Result, IsOk, IfOk, IsErrOf}
+use Rattle.std.specs.Prelude.{◌≡◌, ℕ, ◌+◌, ◌-◌, ◌<◌, ◌≤◌, ◌↔◌, ◌⊎◌, if◌then◌else◌, max, min, true, nat_lt, nat_le, false, List, [], ◌∷◌, length, take, slice_index, None, Some, IsSome, Contains, Result, IsOk, IfOk, IsErrOf}
 use Rattle.aead_ciphers.specs.HeaderProtection.{HeaderKey}
 use Rattle.quic_packets.specs.Datagram.{span}
 use Rattle.quic_packets.specs.Keys.{PacketKey}

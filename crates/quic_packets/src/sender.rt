@@ -122,9 +122,7 @@ impl Sender {
     pub fn with_limit(mut self, limit: u64) -> Self
         ensures { result ≡ record self { limit = min self.limit limit } }
     {
-        if limit < self.limit {
-            self.limit = limit;
-        }
+        self.limit = self.limit.min(limit);
         self
     }
 

@@ -31,7 +31,7 @@ fn connection(max_failures: u64) -> Result<Connection, PacketError> {
         initial: None,
         handshake: Some(level()?),
         one_rtt: Some(level()?),
-        failures: Failures::with_limit(max_failures),
+        failures: Failures::new().with_limit(max_failures),
         sender: sender()?,
         next: NextKey {
             key: [1; 16],

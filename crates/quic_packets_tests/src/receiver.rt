@@ -66,7 +66,7 @@ impl End {
         End {
             receiver,
             space: Space::new(),
-            failures: Failures::with_limit(max_failures),
+            failures: Failures::new().with_limit(max_failures),
         }
     }
 
