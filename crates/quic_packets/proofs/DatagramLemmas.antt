@@ -1,11 +1,16 @@
 -- The packets of a datagram.
-use Rattle.std.proofs.Common.{◌≡◌, ℕ, suc, ◌+◌, ◌-◌, ◌*◌, ◌/◌, ◌%◌, ◌^◌, ◌<◌, ◌≤◌, List, get_or, take, drop, sym, ap, ap₂, subst, ◌∙◌, arith, mul_comm, pow-suc}
+use Rattle.std.proofs.Common.{◌≡◌, ℕ, suc, ◌+◌, ◌-◌, ◌*◌, ◌/◌, ◌%◌, ◌^◌, ◌<◌, ◌≤◌, List, get_or, take, drop, sym, ap, ap₂, subst, refl, ◌∙◌, arith, mul_comm, pow-suc}
 use Rattle.std.proofs.Math.Nat.{pow-le-pow_right}
 use Rattle.std.proofs.lemmas.Nat.{one_shl, pow_pos}
 use Rattle.std.proofs.lemmas.Bool.{cond_both, ltb-false}
 use Rattle.std.specs.Int.Digits.{number_from_digits}
-use Rattle.std.specs.Prelude.{Err, IfOk, Ok, length, nat_lt}
-use Rattle.quic_packets.specs.Datagram.{has_long_id, long_packet, packet_of, short_layout, varint, versioned_layout, whole}
+use Rattle.std.proofs.Math.Nat.{le-max_left}
+use Rattle.std.specs.Prelude.{Err, IfOk, IfSome, Ok, Result, length, nat_lt, ◌==◌, if◌then◌else◌}
+use Rattle.std.specs.declared.ops.Range.{Range}
+use Rattle.quic_packets.specs.Datagram.{IsIn, has_long_id, initial_token, long_packet, numbered_layout, opaque_layout, packet_of, retry_layout, short_layout, source_end, span, varint, version_1_layout, version_of, versioned_layout, whole}
+use Rattle.quic_packets.specs.declared.datagram.DatagramError.{DatagramError}
+use Rattle.quic_packets.specs.declared.datagram.PacketType.{PacketType}
+use Rattle.quic_packets.specs.declared.datagram.PacketType.TheVariants.{Initial, ZeroRtt, Handshake, VersionNegotiation, OtherVersion}
 use Rattle.quic_packets.specs.declared.datagram.DatagramError.TheVariants.{Cut, IdTooLong}
 use Rattle.quic_packets.specs.declared.datagram.Packet.{Packet}
 
@@ -44,13 +49,104 @@ varint_read d at l n few e =
     ap (λ m. n % m) (mask l few.most) ∙ ap₂ (λ v w. v % 2 ^ w) e width
     ∙ ap (λ v. number_from_digits 256 (take (at + v - at) (drop at d)) % 2 ^ (8 * (at + v - at) - 2)) few.is
 
--- a packet that is read ends within the datagram
-whole_within : (d : List ℕ) (p : Packet) → IfOk (whole d p) (λ q. q.end ≤ length d)
-whole_within d p = cond_both (nat_lt (length d) p.end) (Err Cut) (Ok p) (λ r. IfOk r (λ q. q.end ≤ length d)) (λ e. tt) (λ e. ltb-false (length d) p.end e)
+-- the place of a packet that is read: it begins where it was asked for, has a byte, and ends within the datagram, and its number
+-- is in it
+pub record IsPlaced (start : ℕ) (d : List ℕ) (p : Packet) : Type 0 where
+  pub begins : p.start ≡ start
+  pub some : p.start < p.end
+  pub within : p.end ≤ length d
+  pub number : IfSome p.number_at (λ at. (p.start < at) × (at ≤ p.end))
+  pub ranges : IsIn p p.destination_id × IsIn p p.source_id × IsIn p p.token
 
-pub packet_within : (id_len : ℕ) (d : List ℕ) (start : ℕ) → IfOk (packet_of id_len d start) (λ q. q.end ≤ length d)
-packet_within id_len d start =
-    cond_both (nat_lt (get_or d start 0) 0x80) (whole d (short_layout id_len d start)) (long_packet d start) (λ r. IfOk r (λ q. q.end ≤ length d))
-    (λ e. whole_within d (short_layout id_len d start))
-    (λ e. cond_both (has_long_id d start) (Err IdTooLong) (whole d (versioned_layout d start)) (λ r. IfOk r (λ q. q.end ≤ length d))
-    (λ e. tt) (λ e. whole_within d (versioned_layout d start)))
+abbrev pub Placed : ℕ → List ℕ → Result Packet DatagramError → Type 0
+Placed start d read = IfOk read (IsPlaced start d)
+
+-- a layout, whether or not it ends within the datagram
+record IsLaid (start : ℕ) (p : Packet) : Type 0 where
+  begins : p.start ≡ start
+  some : p.start < p.end
+  number : IfSome p.number_at (λ at. (p.start < at) × (at ≤ p.end))
+  ranges : IsIn p p.destination_id × IsIn p p.source_id × IsIn p p.token
+
+whole_placed : (start : ℕ) (d : List ℕ) (p : Packet) → IsLaid start p → Placed start d (whole d p)
+whole_placed start d p laid =
+    cond_both (nat_lt (length d) p.end) (Err Cut) (Ok p) (Placed start d) (λ e. tt)
+    (λ e. record { begins = laid.begins; some = laid.some; within = ltb-false (length d) p.end e; number = laid.number; ranges = laid.ranges })
+
+short_laid : (id_len : ℕ) (d : List ℕ) (start : ℕ) → IsLaid start (short_layout id_len d start)
+short_laid id_len d start =
+    let most = le-max_left (start + 1 + id_len) (length d) in
+    record { begins = refl; some = omega (arith, most); number = (omega arith, most); ranges = ((omega arith, omega arith, most), (omega arith, omega arith, most), (omega arith, omega arith, most)) }
+
+opaque_laid : (d : List ℕ) (start : ℕ) (kind : PacketType) → IsLaid start (opaque_layout d start kind)
+opaque_laid d start kind =
+    let most = le-max_left (source_end d start) (length d) in
+    record {
+      begins = refl;
+      some = omega (arith, most);
+      number = tt;
+      ranges = ((omega arith, omega arith, omega (arith, most)), (omega arith, omega arith, most), (omega arith, omega arith, most));
+    }
+
+retry_laid : (d : List ℕ) (start : ℕ) → IsLaid start (retry_layout d start)
+retry_laid d start =
+    let most = le-max_left (source_end d start + 16) (length d) in
+    record {
+      begins = refl;
+      some = omega (arith, most);
+      number = tt;
+      ranges = (
+        (omega arith, omega arith, omega (arith, most)),
+        (omega arith, omega arith, omega (arith, most)),
+        (omega arith, omega (arith, most), omega arith),
+      );
+    }
+
+numbered_laid : (d : List ℕ) (start : ℕ) (kind : PacketType) (token : Range ℕ) → source_end d start ≤ token.start
+    → token.start ≤ token.end → IsLaid start (numbered_layout d start kind token)
+numbered_laid d start kind token after ordered =
+    record {
+      begins = refl;
+      some = omega (arith, after, ordered);
+      number = (omega (arith, after, ordered), omega arith);
+      ranges = (
+        (omega arith, omega arith, omega (arith, after, ordered)),
+        (omega arith, omega arith, omega (arith, after, ordered)),
+        (omega (arith, after), ordered, omega arith),
+      );
+    }
+
+version_1_laid : (d : List ℕ) (start : ℕ) → IsLaid start (version_1_layout d start)
+version_1_laid d start =
+    let bits = get_or d start 0 / 2 ^ 4 % 4 in
+    let none : Range ℕ = span (source_end d start) (source_end d start) in
+    cond_both (bits == 0) (numbered_layout d start Initial (initial_token d start))
+    (if bits == 1 then numbered_layout d start ZeroRtt none else if bits == 2 then numbered_layout d start Handshake none else retry_layout d start)
+    (IsLaid start) (λ e. numbered_laid d start Initial (initial_token d start) (omega arith) (omega arith))
+    (λ e. cond_both (bits == 1) (numbered_layout d start ZeroRtt none)
+    (if bits == 2 then numbered_layout d start Handshake none else retry_layout d start)
+    (IsLaid start) (λ e. numbered_laid d start ZeroRtt none (omega arith) (omega arith))
+    (λ e. cond_both (bits == 2) (numbered_layout d start Handshake none) (retry_layout d start)
+    (IsLaid start) (λ e. numbered_laid d start Handshake none (omega arith) (omega arith)) (λ e. retry_laid d start)))
+
+versioned_laid : (d : List ℕ) (start : ℕ) → IsLaid start (versioned_layout d start)
+versioned_laid d start =
+    let version = version_of d start in
+    cond_both (version == 0) (opaque_layout d start VersionNegotiation)
+    (if version == 1 then version_1_layout d start else opaque_layout d start OtherVersion) (IsLaid start)
+    (λ e. opaque_laid d start VersionNegotiation)
+    (λ e. cond_both (version == 1) (version_1_layout d start) (opaque_layout d start OtherVersion) (IsLaid start)
+    (λ e. version_1_laid d start) (λ e. opaque_laid d start OtherVersion))
+
+pub packet_placed : (id_len : ℕ) (d : List ℕ) (start : ℕ) → Placed start d (packet_of id_len d start)
+packet_placed id_len d start =
+    cond_both (nat_lt (get_or d start 0) 0x80) (whole d (short_layout id_len d start)) (long_packet d start) (Placed start d)
+    (λ e. whole_placed start d (short_layout id_len d start) (short_laid id_len d start))
+    (λ e. cond_both (has_long_id d start) (Err IdTooLong) (whole d (versioned_layout d start)) (Placed start d)
+    (λ e. tt) (λ e. whole_placed start d (versioned_layout d start) (versioned_laid d start)))
+
+-- what each of its facts says of a result
+pub each : (start : ℕ) (d : List ℕ) (Q : Packet → Type 0) (read : Result Packet DatagramError) → Placed start d read
+    → ((p : Packet) → IsPlaced start d p → Q p) → IfOk read Q
+each start d Q (Ok p) is implies = implies p is
+each start d Q (Err e) is implies = tt

@@ -1,10 +1,11 @@
 pub mod DatagramLemmas
-pub mod FreshNumbers
 pub mod HeaderLemmas
+pub mod LaterBytes
 pub mod NumberBytes
 pub mod NumberLemmas
 pub mod NumberedLemmas
 pub mod PacketLemmas
+pub mod PartLemmas
 pub mod PhaseLemmas
 pub mod ReceivingLemmas
 pub mod RoomLemmas

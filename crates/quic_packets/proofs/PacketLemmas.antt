@@ -9,12 +9,12 @@ use specs.Counting.{xored_nonce}
 use specs.Packet.{PacketFits, packet_message, sealed_packet}
 use Rattle.aead_ciphers.proofs.MessageLaws.{decrypted-encrypted, length-aes_encrypted, length-aes_tag}
 use Rattle.quic_packets.specs.Header.{HasSample, Protected, Unprotected, number_len}
-use Rattle.quic_packets.specs.Keys.{Receiving}
+use Rattle.quic_packets.specs.Keys.{PacketKey}
 use Rattle.quic_packets.specs.Laws.{OpensTo}
 use Rattle.quic_packets.specs.Packet.{HasNumber}
 use Rattle.quic_packets.proofs.HeaderLemmas.{unprotected_back}
 
-module _ (receiver : Receiving) (number h : ℕ) (packet : List ℕ) (has : PacketFits h (length packet)) where
+module _ (receiver : PacketKey) (number h : ℕ) (packet : List ℕ) (has : PacketFits h (length packet)) where
   abbrev key : List ℕ
   key = receiver.bytes
 

@@ -5,9 +5,10 @@ use Rattle.std.specs.Int.Digits.{number_from_digits}
 use Rattle.std.specs.Prelude.{Contains, IfOk, Result}
 use Rattle.aead_ciphers.specs.Counting.{xored_nonce}
 use Rattle.aead_ciphers.specs.Packet.{OpenedPacket, PacketFits, sealed_packet}
+use Rattle.quic_packets.specs.Datagram.{span}
 use Rattle.quic_packets.specs.Exchange.{Follows, GivesBack, HasSent, Holds, Life, Sent, key_after, updates_before}
 use Rattle.quic_packets.specs.Header.{HasSample, Protected, number_len}
-use Rattle.quic_packets.specs.Keys.{Receiving}
+use Rattle.quic_packets.specs.Keys.{PacketKey}
 use Rattle.quic_packets.specs.Laws.{OpensTo}
 use Rattle.quic_packets.specs.Numbers.{InWindow, IsDecoded}
 use Rattle.quic_packets.specs.Packet.{CarriesNumber, HasNumber, IsGenuine, IsNumber, low_bytes}
@@ -34,7 +35,7 @@ record ReadAsSent (r : Receiver) (sent number_at h : ℕ) (packet plain : List �
   comes_back : (opened : List ℕ) → Opens r number_at plain number opened
       → take (length packet - 16) opened ≡ take (length packet - 16) packet
 
-module _ (r : Receiver) (expected number at h : ℕ) (packet wire plain : List ℕ) (key : Receiving) (n : ℕ)
+module _ (r : Receiver) (expected number at h : ℕ) (packet wire plain : List ℕ) (key : PacketKey) (n : ℕ)
     (has : PacketFits h (length packet)) (numbered : HasNumber at h packet) (sample : HasSample at (length packet))
     (is : IsNumber number) (carries : CarriesNumber number at h packet) (held : key_of r (get_or packet 0 0) number ≡ Some key)
     (window : InWindow expected (number_len (get_or packet 0 0)) number)
@@ -98,11 +99,11 @@ module _ (r : Receiver) (expected number at h : ℕ) (packet wire plain : List �
   }
 
 -- what a packet was, by its parts
-returned : (number header_len len first number' header_len' len' first' : ℕ) → number ≡ number' → header_len ≡ header_len' → len ≡ len'
+returned : (start number header_len len first number' header_len' len' first' : ℕ) → number ≡ number' → header_len ≡ header_len' → len ≡ len'
     → first ≡ first'
-    → (let made : ℕ → ℕ → ℕ → ℕ → Received = λ a b c d. record { number = a; header_len = b; payload_len = c - 16 - b; phase = has_phase d } in
+    → (let made : ℕ → ℕ → ℕ → ℕ → Received = λ a b c d. record { number = a; payload = span (start + b) (start + (c - 16)); phase = has_phase d } in
     made number header_len len first ≡ made number' header_len' len' first')
-returned number h len first number' h' len' first' e0 e1 e2 e3 = rw (e0, e1, e2, e3) refl
+returned start number h len first number' h' len' first' e0 e1 e2 e3 = rw (e0, e1, e2, e3) refl
 
 module _ (sender : Sender) (life : Life) (sent : List Sent) (run : HasSent sender life sent) (r : Receiver) (own : ℕ) (p : Sent)
     (has : Contains sent p) (follows : Follows life sent r own) (holds : Holds r own life p) (same_key : r.header ≡ sender.header_key)
@@ -114,7 +115,7 @@ module _ (sender : Sender) (life : Life) (sent : List Sent) (run : HasSent sende
   takes : Takes life r (get_or p.packet 0 0) p.number
   takes = held sender life sent run r own p has follows holds
 
-  abbrev its_key : Receiving
+  abbrev its_key : PacketKey
   its_key = key_after life.key life.updates (updates_before life.updates p.number)
 
   read : ReadAsSent r p.number p.number_at p.header_len p.packet plain n
@@ -133,9 +134,9 @@ module _ (sender : Sender) (life : Life) (sent : List Sent) (run : HasSent sende
       subst (λ f. IsInTurn r f n) (sym read.same_first)
       (subst (λ m. IsInTurn r (get_or p.packet 0 0) m) (sym read.same_number) takes.turn)
 
-  pub gives_back : (result : Result Received PacketError) (r' : Receiver) (opened : List ℕ)
-      → Outcome r space p.number_at plain n result r' opened → GivesBack space p result opened
-  gives_back result r' opened outcome = record {
+  pub gives_back : (result : Result Received PacketError) (r' : Receiver) (opened : List ℕ) (start : ℕ)
+      → Outcome r space start p.number_at plain n result r' opened → GivesBack space start p result opened
+  gives_back result r' opened start outcome = record {
     accepted = (
       λ ok. subst (IsNew space) read.same_number (outcome.accepted.0 ok).2,
       λ new. outcome.accepted.1 (read.authentic, unreserved, subst (IsNew space) (sym read.same_number) new, in_turn),
@@ -146,7 +147,7 @@ module _ (sender : Sender) (life : Life) (sent : List Sent) (run : HasSent sende
     );
     returns =
         subst (λ v. IfOk result (λ received. received ≡ v))
-        (returned n (header_len p.number_at plain) (length plain) (get_or plain 0 0) p.number p.header_len (length p.packet) (get_or p.packet 0 0)
+        (returned start n (header_len p.number_at plain) (length plain) (get_or plain 0 0) p.number p.header_len (length p.packet) (get_or p.packet 0 0)
         read.same_number read.same_header_len read.same_len read.same_first)
         outcome.returns;
     bytes = read.comes_back opened (outcome.opens read.authentic);

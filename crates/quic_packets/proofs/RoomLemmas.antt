@@ -1,13 +1,32 @@
--- The room for a packet number has one length.
-use Rattle.std.proofs.Common.{◌≡◌, ℕ, ◌+◌, ◌-◌, Option, subst, arith}
-use Rattle.quic_packets.specs.Numbers.{Represents, unacknowledged}
+-- The rooms for a packet number: as many bytes as represent its range, up to 4.
+use Rattle.std.proofs.Common.{ℕ, ◌+◌, ◌-◌, ◌*◌, ◌<◌, ◌≤◌, ◌↔◌, Option, None, Some, IfSome, arith}
+use Rattle.std.proofs.Math.Nat.{pow-le-pow_right}
+use Rattle.quic_packets.specs.Numbers.{IsAbove, Represents, expected, unacknowledged}
 use Rattle.quic_packets.specs.Sending.{IsRoom}
 
-pub only_room : {number : ℕ} {largest : Option ℕ} (n start end : ℕ) → IsRoom number largest 0 n → IsRoom number largest start end
-    → end ≡ start + n
-only_room {number} {largest} n start end room other =
-    let short : Represents n (unacknowledged number largest) = subst (λ k. Represents k (unacknowledged number largest))
-    (omega (arith)) room.represents in
-    let least = room.fewest (end - start) (omega (arith, other.some)) other.represents in
-    let most = other.fewest n room.some short in
-    omega (arith, room.some, other.some, least, most)
+-- more bytes represent what fewer do
+represents_more : (m n range : ℕ) → m ≤ n → Represents m range → Represents n range
+represents_more m n range le short = omega (arith, short, pow-le-pow_right {n = 2} (omega arith) {i = 8 * m} {j = 8 * n} (omega arith))
+
+-- a number is above the largest acknowledged one if it isn't below the one expected after that
+pub is_above : (number : ℕ) (largest : Option ℕ) → expected largest ≤ number → IsAbove number largest
+is_above number None le = tt
+is_above number (Some largest) le = omega (arith, le)
+
+-- the least length, and any longer one
+pub rooms : (number : ℕ) (largest : Option ℕ) (least : Option ℕ) → IfSome least (λ n. Represents n (unacknowledged number largest))
+    → IfSome least (λ n. (k : ℕ) → 0 < k → Represents k (unacknowledged number largest) → n ≤ k)
+    → IfSome least (λ n. (0 < n) × (n ≤ 4))
+    → IfSome least (λ n. (start end : ℕ) → IsRoom number largest start end ↔ ((start + n ≤ end) × (end ≤ start + 4)))
+rooms number largest None represents fewest few = tt
+rooms number largest (Some n) represents fewest few = λ start end. (
+  λ room. (
+    (let least = fewest (end - start) (omega (arith, room.some)) room.represents in omega (arith, room.some, least)),
+    room.few,
+  ),
+  λ fits. record {
+    some = omega (arith, few.0, fits.0);
+    few = fits.1;
+    represents = represents_more n (end - start) (unacknowledged number largest) (omega (arith, fits.0)) represents;
+  },
+)

@@ -4,7 +4,7 @@ use Rattle.std.proofs.lemmas.Bool.{cases_Bool, cases_lt, eqb-true, le-ltb, lt-lt
 use Rattle.std.proofs.lemmas.Nat.{and_assoc}
 use Rattle.std.specs.Prelude.{Contains}
 use Rattle.quic_packets.specs.Exchange.{Counts, Follows, HasSent, Holds, Life, Sent, Update, begins, forgets, key_after, marks, none, receives, takes_next, updates_before}
-use Rattle.quic_packets.specs.Keys.{Receiving}
+use Rattle.quic_packets.specs.Keys.{PacketKey}
 use Rattle.quic_packets.specs.Receiving.{IsInTurn, Receiver, is_other_phase, key_of, received}
 use Rattle.quic_packets.specs.Sending.{Sender, is_long}
 use Rattle.quic_packets.specs.Space.{IsNew, Space}
@@ -13,8 +13,8 @@ use Rattle.quic_packets.proofs.SentLemmas.{HasPhase, before-le, before_in_order,
 -- how a receiver stands after `own` updates
 record Stands (life : Life) (r : Receiver) (own : ℕ) : Type 0 where
   current : r.current ≡ key_after life.key life.updates own
-  next : (k : Receiving) → r.next ≡ Some k → own < length life.updates → k ≡ key_after life.key life.updates (own + 1)
-  previous : (k : Receiving) (u : ℕ) → r.previous ≡ Some k → u + 1 ≡ own → k ≡ key_after life.key life.updates u
+  next : (k : PacketKey) → r.next ≡ Some k → own < length life.updates → k ≡ key_after life.key life.updates (own + 1)
+  previous : (k : PacketKey) (u : ℕ) → r.previous ≡ Some k → u + 1 ≡ own → k ≡ key_after life.key life.updates u
   phase : r.phase ≡ phase_after own
   earlier : (n : ℕ) → updates_before life.updates n < own → n < r.lowest
   later : (n : ℕ) → own < updates_before life.updates n → (r.lowest ≤ n) × (r.highest ≤ n)
@@ -81,12 +81,12 @@ module _ (life : Life) (r : Receiver) (own first number : ℕ)
   key_now : its ≡ own → key_of r first number ≡ Some (key_after life.key life.updates its)
   key_now e = rw (same e) (ap Some (s.current ∙ ap (key_after life.key life.updates) (sym e)))
 
-  key_next : is_long first ≡ false → its ≡ own + 1 → (k : Receiving) → r.next ≡ Some k
+  key_next : is_long first ≡ false → its ≡ own + 1 → (k : PacketKey) → r.next ≡ Some k
       → key_of r first number ≡ Some (key_after life.key life.updates its)
   key_next short e k is =
       rw (after short e, above e) (is ∙ ap Some (s.next k is (more e) ∙ ap (key_after life.key life.updates) (sym e)))
 
-  key_previous : is_long first ≡ false → its + 1 ≡ own → (k : Receiving) → r.previous ≡ Some k
+  key_previous : is_long first ≡ false → its + 1 ≡ own → (k : PacketKey) → r.previous ≡ Some k
       → key_of r first number ≡ Some (key_after life.key life.updates its)
   key_previous short e k is = rw (before short e, below e) (is ∙ ap Some (s.previous k its is e))
 
@@ -108,7 +108,7 @@ module _ (life : Life) (r : Receiver) (own first number : ℕ)
         ];
   }
 
-  moves : (k : Receiving) → its ≡ own + 1 → r.next ≡ Some k
+  moves : (k : PacketKey) → its ≡ own + 1 → r.next ≡ Some k
       → Stands life (record r {
         current = k;
         next = None;
@@ -142,7 +142,7 @@ module _ (life : Life) (r : Receiver) (own first number : ℕ)
       let top : own ≡ max own its = omega arith in
       subst (λ o. Stands life (received r first number) o) top (rw (same e) (stays e))
 
-  moves_received : is_long first ≡ false → (k : Receiving) → its ≡ own + 1 → r.next ≡ Some k
+  moves_received : is_long first ≡ false → (k : PacketKey) → its ≡ own + 1 → r.next ≡ Some k
       → Stands life (received r first number) (max own its)
   moves_received short k e is =
       let top : own + 1 ≡ max own its = omega arith in
@@ -162,7 +162,7 @@ marked_of : (sender : Sender) (life : Life) (sent : List Sent) → HasSent sende
 marked_of sender life sent run p has = (was_sent sender life sent p run has).phase
 
 -- the first key, which comes before all updates
-first_key : (key : Receiving) (us : List Update) → key ≡ key_after key us 0
+first_key : (key : PacketKey) (us : List Update) → key ≡ key_after key us 0
 first_key key [] = refl
 first_key key (u ∷ us) = rw (le-ltb (length us) 0 (omega arith)) (first_key key us)
 

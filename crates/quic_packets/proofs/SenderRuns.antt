@@ -2,23 +2,42 @@
 use Rattle.std.proofs.Common.{ℕ, zero, suc, ◌+◌, ◌-◌, ◌<◌, ◌≤◌, min, List, [], ◌∷◌, length, get_or, arith}
 use Rattle.std.specs.Prelude.{All, AllPairs, flat_map, true}
 use Rattle.quic_packets.specs.Sending.{Runs, Sender, after_acknowledgement, after_send, after_skip, after_update, confirms, goes_on, hears, lowers, none, sends, skips, updates, with_installed_keys}
-use Rattle.quic_packets.proofs.FreshNumbers.{Rising, in_order, weaker}
+
+-- numbers that rise, from one on
+abbrev Rising : ℕ → List ℕ → Type 0
+Rising from [] = Unit {0}
+Rising from (n ∷ ns) = (from ≤ n) × Rising (n + 1) ns
+
+weaker : (a b : ℕ) (ns : List ℕ) → a ≤ b → Rising b ns → Rising a ns
+weaker a b [] le h = tt
+weaker a b (n ∷ ns) le h = (omega (arith, h.0), h.1)
+
+at_least : (a : ℕ) (ns : List ℕ) (j d : ℕ) → Rising a ns → j < length ns → a ≤ get_or ns j d
+at_least a [] j d h lt = absurd (omega arith)
+at_least a (n ∷ ns) zero d h lt = h.0
+at_least a (n ∷ ns) (suc j) d h lt = omega (arith, h.0, at_least (n + 1) ns j d h.1 (omega arith))
+
+in_order : (a : ℕ) (ns : List ℕ) (i j d : ℕ) → Rising a ns → i < j → j < length ns → get_or ns i d < get_or ns j d
+in_order a [] i j d h lt within = absurd (omega arith)
+in_order a (n ∷ ns) i zero d h lt within = absurd (omega arith)
+in_order a (n ∷ ns) zero (suc j) d h lt within = omega (arith, at_least (n + 1) ns j d h.1 (omega arith))
+in_order a (n ∷ ns) (suc i) (suc j) d h lt within = in_order (n + 1) ns i j d h.1 (omega arith) (omega arith)
 
 abbrev all_of : List (List ℕ) → List ℕ
 all_of = flat_map (λ ns. ns)
 
-rises : (s t : Sender) (by_key : List (List ℕ)) → Runs s t by_key → Rising s.key.next (all_of by_key)
+rises : (s t : Sender) (by_key : List (List ℕ)) → Runs s t by_key → Rising s.next (all_of by_key)
 rises s t by_key (none x) = tt
 rises s t by_key (sends x y ns later may rest) = (omega arith, rises (after_send x) y (ns ∷ later) rest)
-rises s t by_key (skips x y ks n le rest) = weaker x.key.next n (all_of ks) le (rises (after_skip x n) y ks rest)
-rises s t by_key (hears x y ks n rest) = rises (after_acknowledgement x n) y ks rest
+rises s t by_key (skips x y ks n le rest) = weaker x.next n (all_of ks) le (rises (after_skip x n) y ks rest)
+rises s t by_key (hears x y ks n below rest) = rises (after_acknowledgement x n) y ks rest
 rises s t by_key (confirms x y ks rest) = rises (record x { confirmed = true }) y ks rest
 rises s t by_key (lowers x y ks limit rest) = rises (record x { limit = min x.limit limit }) y ks rest
 rises s t by_key (updates x y ks key iv rest) = rises (after_update x key iv) y ks rest
 rises s t by_key (goes_on x y ks suite key iv hk rest) = rises (with_installed_keys x suite key iv hk) y ks rest
 
 pub fresh : (s t : Sender) (by_key : List (List ℕ)) → Runs s t by_key → AllPairs (λ m n. m < n) (all_of by_key)
-fresh s t by_key run = λ i j d lt within. in_order s.key.next (all_of by_key) i j d (rises s t by_key run) lt within
+fresh s t by_key run = λ i j d lt within. in_order s.next (all_of by_key) i j d (rises s t by_key run) lt within
 
 -- the first list has at most so many numbers, and each later one at most as many as the limit
 abbrev Capped : ℕ → ℕ → List (List ℕ) → Type 0
@@ -36,9 +55,9 @@ one_more sealed limit n ns later lt h = (omega (arith, h.0), h.1)
 capped : (s t : Sender) (by_key : List (List ℕ)) → Runs s t by_key → Capped (s.limit - s.sealed) s.limit by_key
 capped s t by_key (none x) = (omega arith, tt)
 capped s t by_key (sends x y ns later may rest) =
-    one_more x.sealed x.limit x.key.next ns later may.unused (capped (after_send x) y (ns ∷ later) rest)
+    one_more x.sealed x.limit x.next ns later may.unused (capped (after_send x) y (ns ∷ later) rest)
 capped s t by_key (skips x y ks n le rest) = capped (after_skip x n) y ks rest
-capped s t by_key (hears x y ks n rest) = capped (after_acknowledgement x n) y ks rest
+capped s t by_key (hears x y ks n below rest) = capped (after_acknowledgement x n) y ks rest
 capped s t by_key (confirms x y ks rest) = capped (record x { confirmed = true }) y ks rest
 capped s t by_key (lowers x y ks limit rest) =
     looser (min x.limit limit - x.sealed) (min x.limit limit) (x.limit - x.sealed) x.limit ks (omega arith) (omega arith)

@@ -1,6 +1,6 @@
 -- The positions of a packet's parts in a datagram (RFC 9000 sections 12.2 and 17, RFC 8999 section 5). A position counts the
 -- bytes before it. Past its end, a datagram reads as zeros, so a packet that is cut ends past the datagram.
-use Rattle.std.specs.Prelude.{◌≡◌, ℕ, ◌<◌, ◌≤◌, ◌+◌, ◌-◌, ◌*◌, ◌/◌, ◌%◌, ◌^◌, Bool, ◌==◌, ◌||◌, nat_lt, max, if◌then◌else◌, List, length, slice_index, slice_range, Option, None, Some, Result, Ok, Err}
+use Rattle.std.specs.Prelude.{◌≡◌, ℕ, ◌<◌, ◌≤◌, ◌+◌, ◌-◌, ◌*◌, ◌/◌, ◌%◌, ◌^◌, ◌⊎◌, unwrap_or, Bool, ◌==◌, ◌||◌, nat_lt, max, if◌then◌else◌, List, length, slice_index, slice_range, Option, None, Some, Result, Ok, Err}
 use Rattle.std.specs.Int.Digits.{number_from_digits}
 use Rattle.std.specs.declared.ops.Range.{Range}
 use Rattle.quic_packets.specs.declared.datagram.DatagramError.{DatagramError}
@@ -41,6 +41,7 @@ span start end = record { start = start; end = end }
 -- a long header: its version and its connection IDs (RFC 8999 section 5.1), and the parts that depend on the version
 abbrev pub long_layout : List ℕ → ℕ → PacketType → Range ℕ → Option ℕ → ℕ → Packet
 long_layout datagram start packet_type token number_at end = record {
+  start = start;
   packet_type = packet_type;
   version = Some (version_of datagram start);
   destination_id = span (start + 6) (destination_end datagram start);
@@ -88,6 +89,7 @@ version_1_layout datagram start =
 abbrev pub short_layout : ℕ → List ℕ → ℕ → Packet
 short_layout connection_id_len datagram start =
     let number_at = start + 1 + connection_id_len in record {
+      start = start;
       packet_type = OneRtt;
       version = None;
       destination_id = span (start + 1) number_at;
@@ -128,14 +130,18 @@ packet_of connection_id_len datagram start =
     if nat_lt (slice_index datagram start) 0x80 then whole datagram (short_layout connection_id_len datagram start)
     else long_packet datagram start
 
--- where the next packet begins; after an error there is none
-abbrev pub next_start : List ℕ → Result Packet DatagramError → ℕ
-next_start datagram (Ok packet) = packet.end
-next_start datagram (Err error) = length datagram
+-- where the packet number begins in its packet, counted from the packet's first byte. It is 0 if there is no number.
+abbrev pub number_in : Packet → ℕ
+number_in packet = unwrap_or packet.number_at 0 - packet.start
 
--- One step of a walk over a datagram: the item and the next position. Before the datagram's end, the item is the packet at this
--- position; at the end there is none (section 12.2).
-abbrev pub Walks : ℕ → List ℕ → (at : ℕ) → Option (Result Packet DatagramError) → (next : ℕ) → Type 0
-Walks connection_id_len datagram at None next = (length datagram ≤ at) × (next ≡ at)
-Walks connection_id_len datagram at (Some read) next =
-    (at < length datagram) × (read ≡ packet_of connection_id_len datagram at) × (next ≡ next_start datagram read)
+-- the range is in the packet, after its first byte
+abbrev pub IsIn : Packet → Range ℕ → Type 0
+IsIn packet range = (packet.start < range.start) × (range.start ≤ range.end) × (range.end ≤ packet.end)
+
+-- the bytes of a packet in its datagram
+abbrev pub bytes_of : Packet → List ℕ → List ℕ
+bytes_of packet datagram = slice_range datagram packet.start packet.end
+
+-- no byte outside these positions changes
+abbrev pub KeepsOutside : (start end : ℕ) (old new : List ℕ) → Type 0
+KeepsOutside start end old new = (i : ℕ) → (i < start) ⊎ (end ≤ i) → slice_index new i ≡ slice_index old i

@@ -1,7 +1,8 @@
 -- The packets that a sender sends over its life, and the packets that a receiver returns, for the laws.
-use Rattle.std.specs.Prelude.{◌≡◌, ℕ, ◌+◌, ◌-◌, ◌<◌, ◌≤◌, ◌↔◌, ◌⊎◌, if◌then◌else◌, max, min, true, nat_lt, nat_le, false, List, [], ◌∷◌, length, take, slice_index, Option, None, Some, IsSome, Contains, Result, IsOk, IfOk, IsErrOf}
+use Rattle.std.specs.Prelude.{◌≡◌, ℕ, ◌+◌, ◌-◌, ◌<◌, ◌≤◌, ◌↔◌, ◌⊎◌, if◌then◌else◌, max, min, true, nat_lt, nat_le, false, List, [], ◌∷◌, length, take, slice_index, None, Some, IsSome, Contains, Result, IsOk, IfOk, IsErrOf}
 use Rattle.aead_ciphers.specs.HeaderProtection.{HeaderKey}
-use Rattle.quic_packets.specs.Keys.{Receiving}
+use Rattle.quic_packets.specs.Datagram.{span}
+use Rattle.quic_packets.specs.Keys.{PacketKey}
 use Rattle.quic_packets.specs.Receiving.{Receiver, has_phase, received}
 use Rattle.quic_packets.specs.Sending.{IsInTurn, IsSealable, IsSent, Sender, after_acknowledgement, after_send, after_skip, after_update, is_long, new_sender, numbered_packet}
 use Rattle.quic_packets.specs.Space.{IsNew, Marks, Space}
@@ -22,16 +23,16 @@ pub record Sent : Type 0 where
 
 -- a key update of a sender: the new key, and the next packet number at the time
 pub record Update : Type 0 where
-  pub key : Receiving
+  pub key : PacketKey
   pub first : ℕ
 
 -- the packet keys of a sender: the first key, and the key updates, last one first
 pub record Life : Type 0 where
-  pub key : Receiving
+  pub key : PacketKey
   pub updates : List Update
 
 -- the packet key after n key updates
-abbrev pub key_after : Receiving → List Update → ℕ → Receiving
+abbrev pub key_after : PacketKey → List Update → ℕ → PacketKey
 key_after key [] n = key
 key_after key (update ∷ earlier) n = if nat_lt (length earlier) n then update.key else key_after key earlier n
 
@@ -46,26 +47,26 @@ updates_before (update ∷ earlier) number = (if nat_le update.first number then
 pub data HasSent : Sender → Life → List Sent → Type 0 where
   begins : (suite : Suite) (key iv header_key : List ℕ) (first : ℕ) → HasSent (new_sender suite key iv header_key first)
       (record { key = record { algorithm = algorithm suite; bytes = key; iv = iv }; updates = [] }) []
-  sends : (s : Sender) (life : Life) (sent : List Sent) (start end : ℕ) (largest : Option ℕ) (packet wire : List ℕ)
-      → IsSealable start end packet → IsInTurn s largest start end → IsSent s start end packet wire → HasSent s life sent
+  sends : (s : Sender) (life : Life) (sent : List Sent) (start end : ℕ) (packet wire : List ℕ)
+      → IsSealable start end packet → IsInTurn s start end → IsSent s start end packet wire → HasSent s life sent
       → HasSent (after_send s) life (record {
-        number = s.key.next;
+        number = s.next;
         number_at = start;
         header_len = end;
-        packet = numbered_packet s.phase s.key.next start end packet;
+        packet = numbered_packet s.phase s.next start end packet;
         wire = wire;
       } ∷ sent)
-  skips : (s : Sender) (life : Life) (sent : List Sent) (number : ℕ) → s.key.next ≤ number → HasSent s life sent
+  skips : (s : Sender) (life : Life) (sent : List Sent) (number : ℕ) → s.next ≤ number → HasSent s life sent
       → HasSent (after_skip s number) life sent
   updates : (s : Sender) (life : Life) (sent : List Sent) (key iv : List ℕ) → HasSent s life sent → HasSent (after_update s key iv)
       (record {
         key = life.key;
         updates = record {
           key = record { algorithm = s.key.algorithm; bytes = key; iv = iv };
-          first = s.key.next;
+          first = s.next;
         } ∷ life.updates;
       }) sent
-  hears : (s : Sender) (life : Life) (sent : List Sent) (number : ℕ) → HasSent s life sent → HasSent (after_acknowledgement s number) life sent
+  hears : (s : Sender) (life : Life) (sent : List Sent) (number : ℕ) → number < s.next → HasSent s life sent → HasSent (after_acknowledgement s number) life sent
   confirms : (s : Sender) (life : Life) (sent : List Sent) → HasSent s life sent → HasSent (record s { confirmed = true }) life sent
   lowers : (s : Sender) (life : Life) (sent : List Sent) (limit : ℕ) → HasSent s life sent
       → HasSent (record s { limit = min s.limit limit }) life sent
@@ -76,7 +77,7 @@ pub record WasSentInPhase (life : Life) (sent : List Sent) (number : ℕ) : Type
   pub in_phase : updates_before life.updates number ≡ length life.updates
 
 -- a receiver that is created with this key
-abbrev pub new_receiver : HeaderKey → Receiving → Receiver
+abbrev pub new_receiver : HeaderKey → PacketKey → Receiver
 new_receiver header key = record {
   header = header;
   current = key;
@@ -103,21 +104,20 @@ pub data Follows : Life → List Sent → Receiver → ℕ → Type 0 where
   receives : (life : Life) (sent : List Sent) (r : Receiver) (own : ℕ) (packet : Sent) → Contains sent packet → Holds r own life packet
       → Follows life sent r own
       → Follows life sent (received r (slice_index packet.packet 0) packet.number) (max own (updates_before life.updates packet.number))
-  takes_next : (life : Life) (sent : List Sent) (r : Receiver) (own : ℕ) (key : Receiving)
+  takes_next : (life : Life) (sent : List Sent) (r : Receiver) (own : ℕ) (key : PacketKey)
       → (own < length life.updates → key ≡ key_after life.key life.updates (own + 1)) → Follows life sent r own
       → Follows life sent (record r { next = Some key }) own
   forgets : (life : Life) (sent : List Sent) (r : Receiver) (own : ℕ) → Follows life sent r own
       → Follows life sent (record r { previous = None }) own
 
--- A packet that was sent is returned: it is received if its number is new, and a duplicate otherwise. Its number, its header
--- and its payload are then as they were sent.
-pub record GivesBack (space : Space) (packet : Sent) (result : Result Received PacketError) (opened : List ℕ) : Type 0 where
+-- A packet that was sent, and begins at byte `start` of a datagram, is returned: it is received if its number is new, and a
+-- duplicate otherwise. Its number, its header and its payload are then as they were sent.
+pub record GivesBack (space : Space) (start : ℕ) (packet : Sent) (result : Result Received PacketError) (opened : List ℕ) : Type 0 where
   pub accepted : IsOk result ↔ IsNew space packet.number
   pub duplicate : IsErrOf result Duplicate ↔ ¬ IsNew space packet.number
   pub returns : IfOk result (λ r. r ≡ record {
     number = packet.number;
-    header_len = packet.header_len;
-    payload_len = length packet.packet - 16 - packet.header_len;
+    payload = span (start + packet.header_len) (start + (length packet.packet - 16));
     phase = has_phase (slice_index packet.packet 0);
   })
   pub bytes : take (length packet.packet - 16) opened ≡ take (length packet.packet - 16) packet.packet

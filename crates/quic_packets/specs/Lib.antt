@@ -1,5 +1,6 @@
 -- The definitions that the contracts use.
 pub mod Datagram
+pub mod Errors
 pub mod Exchange
 pub mod Failures
 pub mod Header

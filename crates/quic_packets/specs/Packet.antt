@@ -10,11 +10,13 @@ use Rattle.quic_packets.specs.Header.{number_len}
 abbrev pub IsNumber : ℕ → Type 0
 IsNumber number = number < 2 ^ 62
 
+-- the last 16 bytes are the tag of the ciphertext before them, with the header as AAD
+abbrev pub EndsWithTag : (key nonce header : List ℕ) → List ℕ → Type 0
+EndsWithTag key nonce header body = let n = length body - 16 in drop n body ≡ gcm_tag (aes key) nonce header (take n body)
+
 -- the packet ends with the tag of its ciphertext, with the header as AAD
 abbrev pub IsGenuine : (key nonce : List ℕ) (header_len : ℕ) → List ℕ → Type 0
-IsGenuine key nonce header_len packet =
-    let body = drop header_len packet in let n = length body - 16 in
-    drop n body ≡ gcm_tag (aes key) nonce (take header_len packet) (take n body)
+IsGenuine key nonce header_len packet = EndsWithTag key nonce (take header_len packet) (drop header_len packet)
 
 -- the packet number ends the header, from byte `start` up to `end`: it comes after the first byte, and is as long as that byte
 -- says (RFC 9000 sections 17.2 and 17.3.1)

@@ -4,8 +4,9 @@ use Rattle.std.specs.Int.Digits.{number_from_digits}
 use Rattle.aead_ciphers.specs.Counting.{xored_nonce}
 use Rattle.aead_ciphers.specs.HeaderProtection.{HeaderKey}
 use Rattle.aead_ciphers.specs.Packet.{OpenedPacket, PacketFits}
+use Rattle.quic_packets.specs.Datagram.{span}
 use Rattle.quic_packets.specs.Header.{HasSample, Unprotected, number_len}
-use Rattle.quic_packets.specs.Keys.{Receiving}
+use Rattle.quic_packets.specs.Keys.{PacketKey}
 use Rattle.quic_packets.specs.Numbers.{IsDecoded}
 use Rattle.quic_packets.specs.Packet.{IsGenuine}
 use Rattle.quic_packets.specs.Space.{IsNew, Space}
@@ -18,9 +19,9 @@ use Rattle.quic_packets.specs.declared.receiver.Received.{Received}
 -- 0 until a packet is opened.
 pub record Receiver : Type 0 where
   pub header : HeaderKey
-  pub current : Receiving
-  pub next : Option Receiving
-  pub previous : Option Receiving
+  pub current : PacketKey
+  pub next : Option PacketKey
+  pub previous : Option PacketKey
   pub phase : Bool
   pub lowest : ℕ
   pub highest : ℕ
@@ -35,12 +36,12 @@ is_other_phase r first = bit_and first 0x84 == (if r.phase then 0x00 else 0x04)
 
 -- The key of a packet, from its first byte and its number, if it is held. In the other phase it is the previous key if the
 -- number is lower than any of this phase, and the next key otherwise (RFC 9001 section 6.5).
-abbrev pub key_of : Receiver → ℕ → ℕ → Option Receiving
+abbrev pub key_of : Receiver → ℕ → ℕ → Option PacketKey
 key_of r first number = if is_other_phase r first then (if nat_lt number r.lowest then r.previous else r.next) else Some r.current
 
 -- the key that a packet is opened with: another one if its own is not held, so that the time does not reveal this (section
 -- 6.3)
-abbrev pub opening_key : Receiver → ℕ → ℕ → Receiving
+abbrev pub opening_key : Receiver → ℕ → ℕ → PacketKey
 opening_key r first number = unwrap_or (key_of r first number) r.current
 
 -- The packet's key is held. If it is the next key, no packet of this phase has a higher number, since later packets are never
@@ -50,7 +51,7 @@ pub record IsInTurn (r : Receiver) (first number : ℕ) : Type 0 where
   pub later : IsTrue (is_other_phase r first) → r.lowest ≤ number → r.highest ≤ number
 
 -- the receiver after the next key first opened a packet: the keys move on (section 6.2)
-abbrev pub updated : Receiver → ℕ → Option Receiving → Receiver
+abbrev pub updated : Receiver → ℕ → Option PacketKey → Receiver
 updated r number None = r
 updated r number (Some key) =
     record r {
@@ -98,28 +99,27 @@ Opens r number_at plain number opened =
     let key = opening_key r (slice_index plain 0) number in
     OpenedPacket key.bytes (xored_nonce key.iv number) (header_len number_at plain) plain true opened
 
--- what is returned of a packet that is received
-abbrev pub of_packet : (number_at : ℕ) (plain : List ℕ) (number : ℕ) → Received
-of_packet number_at plain number = record {
+-- what is returned of a packet that is received, and begins at byte `start` of its datagram
+abbrev pub of_packet : (start number_at : ℕ) (plain : List ℕ) (number : ℕ) → Received
+of_packet start number_at plain number = record {
   number = number;
-  header_len = header_len number_at plain;
-  payload_len = length plain - 16 - header_len number_at plain;
+  payload = span (start + header_len number_at plain) (start + (length plain - 16));
   phase = has_phase (slice_index plain 0);
 }
 
 -- the outcome of opening a packet that is long enough for a sample: its first byte, and its parts
-pub record Opening (r : Receiver) (number_at : ℕ) (plain : List ℕ) (number : ℕ) (result : Result (ℕ × Received) PacketError)
+pub record Opening (r : Receiver) (start number_at : ℕ) (plain : List ℕ) (number : ℕ) (result : Result (ℕ × Received) PacketError)
     (opened : List ℕ) : Type 0 where
   pub too_long : IsErrOf result TooLong ↔ ¬ PacketFits (header_len number_at plain) (length plain)
   pub forged : IsErrOf result Refused
       ↔ (PacketFits (header_len number_at plain) (length plain) × ¬ IsAuthentic r number_at plain number)
   pub accepted : IsOk result ↔ IsAuthentic r number_at plain number
   pub opens : OnOk result (Opens r number_at plain number opened)
-  pub returns : IfOk result (λ packet. packet ≡ (slice_index plain 0, of_packet number_at plain number))
+  pub returns : IfOk result (λ packet. packet ≡ (slice_index plain 0, of_packet start number_at plain number))
 
 -- The outcome of a packet that is long enough for a sample, in the order of the checks: it is too long; it is not authentic;
 -- or, once it is opened, its reserved bits are set, its number was already received, or its key is not in turn.
-pub record Outcome (r : Receiver) (s : Space) (number_at : ℕ) (plain : List ℕ) (number : ℕ) (result : Result Received PacketError)
+pub record Outcome (r : Receiver) (s : Space) (start number_at : ℕ) (plain : List ℕ) (number : ℕ) (result : Result Received PacketError)
     (r' : Receiver) (opened : List ℕ) : Type 0 where
   pub too_long : IsErrOf result TooLong ↔ ¬ PacketFits (header_len number_at plain) (length plain)
   pub forged : IsErrOf result Refused
@@ -134,7 +134,7 @@ pub record Outcome (r : Receiver) (s : Space) (number_at : ℕ) (plain : List �
       ↔ (IsAuthentic r number_at plain number × (reserved_bits (slice_index plain 0) ≡ 0) × IsNew s number
       × IsInTurn r (slice_index plain 0) number)
   pub opens : IsAuthentic r number_at plain number → Opens r number_at plain number opened
-  pub returns : IfOk result (λ packet. packet ≡ of_packet number_at plain number)
+  pub returns : IfOk result (λ packet. packet ≡ of_packet start number_at plain number)
   pub moves_on : OnOk result (r' ≡ received r (slice_index plain 0) number)
 
 -- the errors of a packet that is authentic, and is opened in place

@@ -1,24 +1,26 @@
 -- Sending packets in one space of packet numbers: the state of a sender, the packets that it makes, and its runs (RFC 9000
 -- section 17, RFC 9001 sections 5 and 6).
-use Rattle.std.specs.Prelude.{◌≡◌, ℕ, ◌+◌, ◌-◌, ◌^◌, ◌<◌, ◌≤◌, Bool, true, false, not, nat_lt, nat_le, min, ◌==◌, ◌&&◌, ◌||◌, if◌then◌else◌, List, [], ◌∷◌, ◌++◌, Option, length, take, drop, bit_and, bit_or, slice_index, slice_set}
+use Rattle.std.specs.Prelude.{◌≡◌, ℕ, ◌+◌, ◌-◌, ◌^◌, ◌<◌, ◌≤◌, Bool, true, false, not, nat_lt, nat_le, min, max, ◌==◌, ◌&&◌, ◌||◌, if◌then◌else◌, List, [], ◌∷◌, ◌++◌, Option, None, Some, length, take, drop, bit_and, bit_or, slice_index, slice_set}
 use Rattle.aead_ciphers.specs.Algorithm.{key_len}
 use Rattle.aead_ciphers.specs.Counting.{xored_nonce}
 use Rattle.aead_ciphers.specs.HeaderProtection.{HeaderKey, key_len as header_key_len}
 use Rattle.aead_ciphers.specs.Packet.{PacketFits, sealed_packet}
 use Rattle.quic_packets.specs.Header.{HasSample, Protected}
-use Rattle.quic_packets.specs.Keys.{Sending}
-use Rattle.quic_packets.specs.Numbers.{IsAbove, Represents, unacknowledged}
+use Rattle.quic_packets.specs.Keys.{PacketKey}
+use Rattle.quic_packets.specs.Numbers.{Represents, unacknowledged}
 use Rattle.quic_packets.specs.Packet.{IsNumber, low_bytes}
 use Rattle.quic_packets.specs.Suite.{algorithm, header_algorithm}
 use Rattle.quic_packets.specs.declared.suite.Suite.{Suite}
 
--- a sender: its key with the next number; the header key; the Key Phase bit; how many packets this key has sealed and may seal;
--- the first number of the unbroken run of numbers that were sent in this phase and that ends before the next one, which is the
--- next one if the run is empty; whether the keys were never updated or a packet of this phase is acknowledged; and whether the
--- handshake is confirmed
+-- a sender: its key and header key; the next number, and the largest acknowledged one of its space; the Key Phase bit; how many
+-- packets this key has sealed and may seal; the first number of the unbroken run of numbers that were sent in this phase and that
+-- ends before the next one, which is the next one if the run is empty; whether the keys were never updated or a packet of this
+-- phase is acknowledged; and whether the handshake is confirmed
 pub record Sender : Type 0 where
-  pub key : Sending
+  pub key : PacketKey
   pub header_key : HeaderKey
+  pub next : ℕ
+  pub largest : Option ℕ
   pub phase : Bool
   pub sealed : ℕ
   pub limit : ℕ
@@ -34,8 +36,10 @@ pub record HasKeyLengths (suite : Suite) (key header_key : List ℕ) : Type 0 wh
 -- a sender with its first key, which may seal 2^23 packets (RFC 9001 section 6.6)
 abbrev pub new_sender : Suite → (key iv header_key : List ℕ) → ℕ → Sender
 new_sender suite key iv header_key first = record {
-  key = record { algorithm = algorithm suite; bytes = key; iv = iv; next = first };
+  key = record { algorithm = algorithm suite; bytes = key; iv = iv };
   header_key = record { algorithm = header_algorithm suite; bytes = header_key };
+  next = first;
+  largest = None;
   phase = false;
   sealed = 0;
   limit = 2 ^ 23;
@@ -81,46 +85,51 @@ pub record IsSealable (start end : ℕ) (packet : List ℕ) : Type 0 where
 -- the key may seal another packet, and a number is left
 pub record IsOpen (s : Sender) : Type 0 where
   pub unused : s.sealed < s.limit
-  pub left : IsNumber s.key.next
+  pub left : IsNumber s.next
 
--- the number can be encoded: it is above the largest acknowledged one, and near enough for 4 bytes (RFC 9000 section 17.1)
-pub record IsEncodable (number : ℕ) (largest : Option ℕ) : Type 0 where
-  pub above : IsAbove number largest
-  pub near : Represents 4 (unacknowledged number largest)
+-- 4 bytes represent the next number (RFC 9000 section 17.1)
+abbrev pub IsEncodable : Sender → Type 0
+IsEncodable s = Represents 4 (unacknowledged s.next s.largest)
 
--- the room for a number has the fewest bytes that represent it (RFC 9000 section 17.1, appendix A.2)
+-- the room for a number has 1 to 4 bytes, and they represent it (RFC 9000 section 17.1)
 pub record IsRoom (number : ℕ) (largest : Option ℕ) (start end : ℕ) : Type 0 where
   pub some : start < end
+  pub few : end ≤ start + 4
   pub represents : Represents (end - start) (unacknowledged number largest)
-  pub fewest : (k : ℕ) → 0 < k → Represents k (unacknowledged number largest) → end - start ≤ k
 
 -- the next number can be sent in this room
-pub record IsInTurn (s : Sender) (largest : Option ℕ) (start end : ℕ) : Type 0 where
+pub record IsInTurn (s : Sender) (start end : ℕ) : Type 0 where
   pub is_open : IsOpen s
-  pub encodable : IsEncodable s.key.next largest
-  pub room : IsRoom s.key.next largest start end
+  pub encodable : IsEncodable s
+  pub room : IsRoom s.next s.largest start end
 
 -- a packet is sent: the next number is written, and the packet is sealed and protected
 abbrev pub IsSent : Sender → (start end : ℕ) → List ℕ → List ℕ → Type 0
 IsSent s start end old new =
     Protected s.header_key start
-    (sealed_packet s.key.bytes (xored_nonce s.key.iv s.key.next) end (numbered_packet s.phase s.key.next start end old)) new
+    (sealed_packet s.key.bytes (xored_nonce s.key.iv s.next) end (numbered_packet s.phase s.next start end old)) new
 
 -- The state after a call.
 
 -- after a packet is sent
 abbrev pub after_send : Sender → Sender
-after_send s = record s { key = record s.key { next = s.key.next + 1 }; sealed = s.sealed + 1 }
+after_send s = record s { next = s.next + 1; sealed = s.sealed + 1 }
 
 -- after a skip: the run of sent numbers is broken if a number is left unused
 abbrev pub after_skip : Sender → ℕ → Sender
 after_skip s number =
-    record s { key = record s.key { next = number }; first = if nat_lt s.key.next number then number else s.first }
+    record s { next = number; first = if nat_lt s.next number then number else s.first }
 
--- after an acknowledgment: a number counts if it is in the unbroken run of numbers that were sent in this phase (RFC 9001
--- section 6.1)
+-- the largest acknowledged number once this one is acknowledged too
+abbrev pub raised : Option ℕ → ℕ → Option ℕ
+raised None number = Some number
+raised (Some largest) number = Some (max largest number)
+
+-- After an acknowledgment of a number below the next one. It allows an update if the number is in the unbroken run of numbers that
+-- were sent in this phase (RFC 9001 section 6.1).
 abbrev pub after_acknowledgement : Sender → ℕ → Sender
-after_acknowledgement s number = record s { acknowledged = s.acknowledged || (nat_le s.first number && nat_lt number s.key.next) }
+after_acknowledgement s number =
+    record s { largest = raised s.largest number; acknowledged = s.acknowledged || nat_le s.first number }
 
 -- after a key update: new keys except the header key, the other phase, and the count 0 again (RFC 9001 sections 6 and 6.6)
 abbrev pub after_update : Sender → (key iv : List ℕ) → Sender
@@ -128,22 +137,23 @@ after_update s key iv = record s {
   key = record s.key { bytes = key; iv = iv };
   phase = not s.phase;
   sealed = 0;
-  first = s.key.next;
+  first = s.next;
   acknowledged = false;
 }
 
--- with the keys of 1-RTT after those of 0-RTT, whose numbers continue (RFC 9000 section 12.3)
+-- with the keys of 1-RTT after those of 0-RTT, whose space of numbers continues (RFC 9000 section 12.3)
 abbrev pub with_installed_keys : Sender → Suite → (key iv header_key : List ℕ) → Sender
-with_installed_keys s suite key iv header_key = record (new_sender suite key iv header_key s.key.next) { limit = s.limit }
+with_installed_keys s suite key iv header_key =
+    record (new_sender suite key iv header_key s.next) { largest = s.largest; limit = s.limit }
 
 -- The state of a sender after any calls, and the numbers that it sealed under, in one list for each key. A call leaves one of
 -- the states above, or fails and leaves the sender unchanged.
 pub data Runs : Sender → Sender → List (List ℕ) → Type 0 where
   none : (s : Sender) → Runs s s ([] ∷ [])
   sends : (s t : Sender) (numbers : List ℕ) (later : List (List ℕ)) → IsOpen s → Runs (after_send s) t (numbers ∷ later)
-      → Runs s t ((s.key.next ∷ numbers) ∷ later)
-  skips : (s t : Sender) (by_key : List (List ℕ)) (number : ℕ) → s.key.next ≤ number → Runs (after_skip s number) t by_key → Runs s t by_key
-  hears : (s t : Sender) (by_key : List (List ℕ)) (number : ℕ) → Runs (after_acknowledgement s number) t by_key → Runs s t by_key
+      → Runs s t ((s.next ∷ numbers) ∷ later)
+  skips : (s t : Sender) (by_key : List (List ℕ)) (number : ℕ) → s.next ≤ number → Runs (after_skip s number) t by_key → Runs s t by_key
+  hears : (s t : Sender) (by_key : List (List ℕ)) (number : ℕ) → number < s.next → Runs (after_acknowledgement s number) t by_key → Runs s t by_key
   confirms : (s t : Sender) (by_key : List (List ℕ)) → Runs (record s { confirmed = true }) t by_key → Runs s t by_key
   lowers : (s t : Sender) (by_key : List (List ℕ)) (limit : ℕ) → Runs (record s { limit = min s.limit limit }) t by_key → Runs s t by_key
   updates : (s t : Sender) (by_key : List (List ℕ)) (key iv : List ℕ) → Runs (after_update s key iv) t by_key → Runs s t ([] ∷ by_key)

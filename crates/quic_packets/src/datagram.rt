@@ -1,10 +1,10 @@
 //! The packets of a datagram: the position of each part, before any protection is removed (RFC 9000 sections 12.2 and 17).
 
-ghost use Rattle.std.specs.Prelude.{◌≡◌, ◌+◌, ◌-◌, ◌^◌, ◌<◌, ◌≤◌, ◌↔◌, false, if◌then◌else◌, length, slice_index, IsOk, IsErr, IfOk, IfErr, IsErrOf, MatchOption};
+ghost use Rattle.std.specs.Prelude.{◌≡◌, ◌+◌, ◌-◌, ◌^◌, ◌<◌, ◌≤◌, ◌↔◌, false, if◌then◌else◌, length, slice_index, IsOk, IsErr, IfOk, IfErr, IsErrOf, IfSome, MatchOption};
 ghost use Rattle.std.specs.Int.Digits.{number_from_digits};
 ghost use Rattle.quic_packets.specs.declared.datagram.DatagramError.TheVariants.{Cut, IdTooLong};
 ghost use Rattle.quic_packets.specs.declared.datagram.PacketType.TheVariants.{Initial};
-ghost use Rattle.quic_packets.specs.Datagram.{has_long_id, id_end, initial_token, long_layout, long_packet, numbered_layout, packet_of, retry_layout, short_layout, source_end, varint, varint_end, version_1_layout, version_of, versioned_layout, whole};
+ghost use Rattle.quic_packets.specs.Datagram.{IsIn, has_long_id, id_end, initial_token, long_layout, long_packet, numbered_layout, packet_of, retry_layout, short_layout, source_end, varint, varint_end, version_1_layout, version_of, versioned_layout, whole};
 
 use std::ops::Range;
 use thiserror::Error;
@@ -36,6 +36,8 @@ pub enum PacketType {
 /// The positions of a packet's parts in its datagram.
 #[derive(Clone, PartialEq, Eq, Debug, Drop)]
 pub struct Packet {
+    /// The position of its first byte.
+    pub start: usize,
     /// The type of the packet.
     pub packet_type: PacketType,
     /// The version in a long header. `None` for a short header.
@@ -63,52 +65,6 @@ pub enum DatagramError {
     IdTooLong,
 }
 
-/// Returns an iterator over the packets of a datagram, in order (RFC 9000 section 12.2).
-///
-/// Each item is what `packet_at` returns for the position where the previous packet ends. An error is the last item.
-pub fn split(datagram: &[u8], connection_id_len: usize) -> Packets<'_>
-    ensures start { (result.at ≡ 0) × (result.connection_id_len ≡ connection_id_len) }
-    ensures datagram { result.datagram.now ≡ datagram.now }
-{
-    Packets {
-        datagram,
-        connection_id_len,
-        at: 0,
-    }
-}
-
-/// An iterator over the packets of a datagram. `split` returns it.
-#[derive(Drop)]
-pub struct Packets<'a> {
-    datagram: &'a [u8],
-    connection_id_len: usize,
-    at: usize,
-}
-
-impl Iterator for Packets<'_> {
-    ghost use Rattle.std.specs.Iterator.{at_most};
-    ghost use Rattle.quic_packets.specs.Datagram.{Walks};
-
-    type Item = Result<Packet, DatagramError>;
-
-    ghost next_gives = { λ s read t. (t.datagram.now ≡ s.datagram.now) × (t.connection_id_len ≡ s.connection_id_len)
-        × Walks s.connection_id_len s.datagram.now s.at read t.at };
-
-    ghost remaining = { λ s. at_most (length s.datagram.now - s.at) };
-
-    fn next(&mut self) -> Option<Result<Packet, DatagramError>> {
-        if self.at >= self.datagram.len() {
-            return None;
-        }
-        let read = packet_at(self.datagram, self.at, self.connection_id_len);
-        self.at = match &read {
-            Ok(packet) => packet.end,
-            Err(_) => self.datagram.len(),
-        };
-        Some(read)
-    }
-}
-
 /// Returns the positions of the parts of the packet that begins at byte `start` of a datagram (RFC 9000 section 17).
 ///
 /// `connection_id_len` is the length in bytes of the receiver's own connection IDs, which a short header does not hold. If the
@@ -123,7 +79,12 @@ pub fn packet_at(
     connection_id_len: usize,
 ) -> Result<Packet, DatagramError>
     ensures packet { result ≡ packet_of connection_id_len datagram.now start }
+    ensures start { IfOk result (λ packet. packet.start ≡ start) }
+    ensures some { IfOk result (λ packet. packet.start < packet.end) }
     ensures within { IfOk result (λ packet. packet.end ≤ length datagram.now) }
+    ensures number { IfOk result (λ packet. IfSome packet.number_at (λ at. (packet.start < at) × (at ≤ packet.end))) }
+    ensures ranges { IfOk result (λ packet. IsIn packet packet.destination_id × IsIn packet packet.source_id
+        × IsIn packet packet.token) }
 {
     read_packet(datagram, start, connection_id_len)
 }
@@ -158,6 +119,7 @@ fn short_packet(
     }
     let number_at = start + 1 + connection_id_len;
     Ok(Packet {
+        start,
         packet_type: PacketType::OneRtt,
         version: None,
         destination_id: start + 1..number_at,
@@ -326,6 +288,7 @@ fn long_layout(
     let destination_end = start + 6 + usize::from(datagram[start + 5]);
     let source_end = destination_end + 1 + usize::from(datagram[destination_end]);
     Packet {
+        start,
         packet_type,
         version: Some(version(datagram, start)),
         destination_id: start + 6..destination_end,

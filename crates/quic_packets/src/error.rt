@@ -1,11 +1,20 @@
 //! The error of sending and receiving packets.
 
+ghost use Rattle.std.specs.Prelude.{◌≡◌};
+ghost use Rattle.quic_packets.specs.Errors.{error_code};
+
 use thiserror::Error;
+
+const PROTOCOL_VIOLATION: u64 = 0x0a;
+
+const KEY_UPDATE_ERROR: u64 = 0x0e;
+
+const AEAD_LIMIT_REACHED: u64 = 0x0f;
 
 /// The error of sending or receiving a packet.
 ///
 /// A call that fails leaves the packet and the key unchanged, except with `ReservedBits`, `Duplicate` and `KeyUpdate`: these
-/// come after the packet was opened.
+/// come after the packet was opened. After `Refused`, the output of `PacketKey::open_to` is the ciphertext.
 #[derive(Clone, Copy, PartialEq, Eq, Debug, Drop, Error)]
 pub enum PacketError {
     /// The key is not as long as the algorithm's keys.
@@ -14,17 +23,20 @@ pub enum PacketError {
     /// The packet number is said to begin at byte 0, which is the first byte of every header.
     #[error("the packet number cannot begin at the header's first byte")]
     NumberAtFirstByte,
-    /// The packet number is not as long as the header's first byte says (RFC 9000 sections 17.2 and 17.3.1), or as long as
-    /// `Sender::next_number_len` returns.
-    #[error("the packet number does not have the length that the header's first byte gives")]
+    /// The packet ends after the datagram.
+    #[error("the datagram ends before the packet")]
+    PastEnd,
+    /// The packet has no packet number, as its type or its version says.
+    #[error("the packet has no packet number")]
+    NoNumber,
+    /// The room for the packet number has fewer bytes than `Sender::next_number_len` returns, or more than 4 (RFC 9000 section
+    /// 17.1).
+    #[error("the packet number does not fit the room for it")]
     NumberLength,
-    /// The packet number in the header is not the next one.
-    #[error("the packet number in the header is not the next one")]
-    OtherNumber,
     /// The next packet number is already above this one.
     #[error("the packet number is below the next one")]
     NumberUsed,
-    /// The packet number is not above the largest acknowledged one, or is too far above it for 4 bytes (RFC 9000 section 17.1).
+    /// The packet number is too far above the largest acknowledged one for 4 bytes (RFC 9000 section 17.1).
     #[error("4 bytes cannot encode the packet number after the largest acknowledged one")]
     NumberTooFar,
     /// The packet ends before the 16-byte sample, which begins 4 bytes after the start of the packet number (RFC 9001 section
@@ -46,6 +58,12 @@ pub enum PacketError {
     /// The key has sealed as many packets as its limit allows (RFC 9001 section 6.6).
     #[error("the key has reached its limit of packets")]
     KeyUsedUp,
+    /// The output does not have the length of the result.
+    #[error("the output does not have the length of the result")]
+    OutputLength,
+    /// The peer has acknowledged a packet number that was not sent (RFC 9000 section 13.1).
+    #[error("a packet that was not sent was acknowledged")]
+    NeverSent,
     /// The handshake is not confirmed, so the keys cannot be updated yet (RFC 9001 section 6.1).
     #[error("the handshake is not confirmed")]
     HandshakeUnconfirmed,
@@ -68,4 +86,20 @@ pub enum PacketError {
     /// The packet is authentic, but its key phase is out of turn (RFC 9001 section 6.4).
     #[error("the packet's key phase is out of order")]
     KeyUpdate,
+}
+
+impl PacketError {
+    /// Returns the code of the transport error that the connection must be closed with (RFC 9000 section 20.1), or `None` if the
+    /// packet is only dropped or not sent: `PROTOCOL_VIOLATION` for `NeverSent` and `ReservedBits`, `KEY_UPDATE_ERROR` for
+    /// `KeyUpdate`, and `AEAD_LIMIT_REACHED` for `TooManyFailures`.
+    pub fn code(self) -> Option<u64>
+        ensures { result ≡ error_code self }
+    {
+        match self {
+            PacketError::NeverSent | PacketError::ReservedBits => Some(PROTOCOL_VIOLATION),
+            PacketError::KeyUpdate => Some(KEY_UPDATE_ERROR),
+            PacketError::TooManyFailures => Some(AEAD_LIMIT_REACHED),
+            _ => None,
+        }
+    }
 }

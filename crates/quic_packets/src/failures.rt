@@ -25,7 +25,7 @@ impl Model for Failures {
 
     ghost view = { λ failures. record { count = failures.count; limit = failures.limit } };
 
-    ghost invariant = { λ failures. (failures.count ≤ failures.limit) × (failures.limit ≤ 2 ^ 52) };
+    ghost invariant = { λ failures. failures.limit ≤ 2 ^ 52 };
 }
 
 impl Failures {
@@ -39,14 +39,12 @@ impl Failures {
         }
     }
 
-    /// Creates a count of 0 with a lower limit. A limit above 2^52 is taken as 2^52.
-    pub fn with_limit(limit: u64) -> Self
-        ensures { result ≡ record { count = 0; limit = min limit (2 ^ 52) } }
+    /// Lowers the limit to `limit`. A higher limit has no effect.
+    pub fn with_limit(mut self, limit: u64) -> Self
+        ensures { result ≡ record self { limit = min self.limit limit } }
     {
-        Failures {
-            count: 0,
-            limit: limit.min(MAX_FAILURES),
-        }
+        self.limit = self.limit.min(limit);
+        self
     }
 
     /// Returns the number of packets that have failed authentication.

@@ -10,7 +10,7 @@ use aead_ciphers_wide::aead::quic::HeaderProtectionKey;
 use std::marker::Model;
 
 /// The sample begins this many bytes after the start of the packet number, as if the number had four bytes.
-const MAX_NUMBER_LEN: usize = 4;
+pub(crate) const MAX_NUMBER_LEN: usize = 4;
 
 const SAMPLE_LEN: usize = 16;
 

@@ -4,9 +4,9 @@ ghost use Rattle.std.specs.Prelude.{◌≡◌, ◌≢◌, ℕ, ◌+◌, ◌*◌,
 ghost use Rattle.std.specs.Int.Digits.{number_from_digits};
 ghost use Rattle.aead_ciphers.specs.Counting.{xored_nonce};
 ghost use Rattle.aead_ciphers.specs.Packet.{PacketFits, sealed_packet};
+ghost use Rattle.quic_packets.specs.Datagram.{packet_of};
 ghost use Rattle.quic_packets.specs.Header.{HasSample, Protected, Unprotected, number_len};
 ghost use Rattle.quic_packets.specs.Exchange.{Counts, Follows, GivesBack, HasSent, Holds, Life, Sent, WasSentInPhase};
-ghost use Rattle.quic_packets.specs.Keys.{Sends};
 ghost use Rattle.quic_packets.specs.Laws.{OpensTo};
 ghost use Rattle.quic_packets.specs.Numbers.{InWindow, IsAbove, IsDecoded, Represents, expected, unacknowledged};
 ghost use Rattle.quic_packets.specs.Sending.{Runs, after_acknowledgement};
@@ -16,9 +16,8 @@ ghost use Rattle.quic_packets.specs.declared.error.PacketError.{PacketError};
 ghost use Rattle.quic_packets.specs.declared.receiver.Received.{Received};
 
 use crate::header::HeaderKey;
-use crate::receive::ReceiveKey;
+use crate::key::PacketKey;
 use crate::receiver::Receiver;
-use crate::send::SendKey;
 use crate::sender::Sender;
 use crate::space::Space;
 
@@ -31,38 +30,39 @@ pub fn unprotect_undoes_protect(key: &HeaderKey, packet: &[u8], number_at: usize
 {}
 
 /// Opening a sealed packet restores it, for every packet, number, key and IV (RFC 9001 section 5.3).
-pub fn open_undoes_seal(sender: &SendKey, receiver: &ReceiveKey, packet: &[u8], header_len: usize)
-    requires key { receiver.now.bytes ≡ sender.now.bytes }
-    requires iv { receiver.now.iv ≡ sender.now.iv }
+pub fn open_undoes_seal(
+    sealing: &PacketKey,
+    opening: &PacketKey,
+    number: u64,
+    packet: &[u8],
+    header_len: usize,
+)
+    requires key { opening.now.bytes ≡ sealing.now.bytes }
+    requires iv { opening.now.iv ≡ sealing.now.iv }
     ensures { PacketFits header_len (length packet.now)
-        → OpensTo receiver.now sender.now.next header_len (sealed_packet sender.now.bytes
-        (xored_nonce sender.now.iv sender.now.next) header_len packet.now) packet.now }
+        → OpensTo opening.now number header_len (sealed_packet sealing.now.bytes
+        (xored_nonce sealing.now.iv number) header_len packet.now) packet.now }
 {}
 
 /// Sealing, protecting, unprotecting and opening a packet restores it, for every packet, number, key and IV: the unprotected
 /// header gives its own end, and the packet then opens (RFC 9001 sections 5.3 and 5.4).
 pub fn packet_comes_back(
-    sender: &SendKey,
-    receiver: &ReceiveKey,
+    sealing: &PacketKey,
+    opening: &PacketKey,
     header_key: &HeaderKey,
+    number: u64,
     packet: &[u8],
     number_at: usize,
     header_len: usize,
 )
-    requires key { receiver.now.bytes ≡ sender.now.bytes }
-    requires iv { receiver.now.iv ≡ sender.now.iv }
+    requires key { opening.now.bytes ≡ sealing.now.bytes }
+    requires iv { opening.now.iv ≡ sealing.now.iv }
     ensures { PacketFits header_len (length packet.now)
         → HasNumber number_at header_len packet.now → HasSample number_at (length packet.now)
         → (wire back : List ℕ) → Protected header_key.now number_at (sealed_packet
-        sender.now.bytes (xored_nonce sender.now.iv sender.now.next) header_len packet.now) wire
+        sealing.now.bytes (xored_nonce sealing.now.iv number) header_len packet.now) wire
         → Unprotected header_key.now number_at wire back → HasNumber number_at header_len back
-        × OpensTo receiver.now sender.now.next header_len back packet.now }
-{}
-
-/// Over every run of calls of one key, the packet numbers that it seals under increase, so no nonce is used twice (RFC 9001
-/// section 5.3).
-pub fn no_number_twice(first: &SendKey, last: &SendKey)
-    ensures { (numbers : List ℕ) → Sends first.now last.now numbers → AllPairs (λ m n. m < n) numbers }
+        × OpensTo opening.now number header_len back packet.now }
 {}
 
 /// A packet number in the window of `len` bytes around the expected one is decoded correctly. Away from the first and the last
@@ -96,7 +96,7 @@ pub fn decoded_as_sent(
         → decoded ≡ number }
 {}
 
-/// The bytes of a number that `SendKey::seal` requires in the header are its low bits in network byte order (RFC 9000 section
+/// The bytes of a number that `Sender::send` writes to the header are its low bits in network byte order (RFC 9000 section
 /// 17.1).
 #[tactic(auto, using(crate::proofs::NumberBytes::number_low_bytes))]
 pub fn low_bytes_are_low_bits(number: u64, len: usize)
@@ -118,7 +118,7 @@ pub fn no_number_twice_over_keys(first: &Sender, last: &Sender)
 /// 9001 section 6.1). This holds over every run of sends, skips and key updates of the sender.
 pub fn acknowledged_was_sent(sender: &Sender)
     ensures { (life : Life) → (sent : List Sent) → (number : ℕ) → HasSent sender.now life sent
-        → IsFalse sender.now.acknowledged
+        → IsFalse sender.now.acknowledged → number < sender.now.next
         → IsTrue (after_acknowledgement sender.now number).acknowledged
         → WasSentInPhase life sent number }
 {}
@@ -137,8 +137,16 @@ pub fn received_as_sent(sender: &Sender, receiver: &Receiver, space: &Space)
         → Holds receiver.now updates life packet
         → InWindow space.now.next (number_len (slice_index packet.packet 0)) packet.number
         → Reads receiver.now.header space.now.next packet.number_at packet.wire plain number
-        → Outcome receiver.now space.now packet.number_at plain number result after opened
-        → GivesBack space.now packet result opened }
+        → (start : ℕ) → Outcome receiver.now space.now start packet.number_at plain number result after opened
+        → GivesBack space.now start packet result opened }
+{}
+
+/// The parts of a packet depend on the bytes from its first one on alone. So `Receiver::receive`, which changes no byte outside
+/// its packet, leaves each later packet of the datagram as it came (RFC 9000 section 12.2).
+pub fn parts_of_its_bytes(datagram: &[u8], changed: &[u8], start: usize, connection_id_len: usize)
+    requires len { length changed.now ≡ length datagram.now }
+    requires same { (i : ℕ) → start ≤ i → slice_index changed.now i ≡ slice_index datagram.now i }
+    ensures { packet_of connection_id_len changed.now start ≡ packet_of connection_id_len datagram.now start }
 {}
 
 /// Over every run of packets that are received in one space, no number is received twice (RFC 9000 section 12.3).

@@ -1,7 +1,7 @@
 //! Packet protection of QUIC version 1 (RFC 9000 section 17, RFC 9001 sections 5 and 6), under keys that the caller derives.
 //!
 //! A packet is one slice: the header, which ends with the packet number, the payload, and 16 bytes for the tag. `Sender` sends
-//! a packet in one call, `Receiver` receives one, and `split` finds the packets of a datagram. `SendKey`, `ReceiveKey`,
+//! a packet in one call, `Receiver` receives one, and `packet_at` finds the parts of a packet in its datagram. `PacketKey`,
 //! `HeaderKey` and `numbers` are the parts of both. `laws` states what holds over runs of calls.
 #![tactic(auto)]
 
@@ -9,25 +9,23 @@ mod datagram;
 mod error;
 mod failures;
 mod header;
+mod key;
 pub mod laws;
 pub mod numbers;
 mod packet;
-mod receive;
 mod receiver;
 mod retry;
-mod send;
 mod sender;
 mod space;
 mod suite;
 
-pub use datagram::{DatagramError, Packet, PacketType, Packets, packet_at, split};
+pub use datagram::{DatagramError, Packet, PacketType, packet_at};
 pub use error::PacketError;
 pub use failures::Failures;
 pub use header::HeaderKey;
-pub use receive::ReceiveKey;
+pub use key::PacketKey;
 pub use receiver::{Received, Receiver};
 pub use retry::{RetryError, is_genuine_retry, retry_tag};
-pub use send::SendKey;
 pub use sender::Sender;
 pub use space::Space;
 pub use suite::Suite;

@@ -1,6 +1,6 @@
 //! What sealing and opening share.
 
-ghost use Rattle.std.specs.Prelude.{◌≡◌, ◌+◌, ◌-◌, ◌<◌, ◌≤◌, ◌↔◌, length, IsOk, IfOk, IsErrOf};
+ghost use Rattle.std.specs.Prelude.{◌≡◌, ◌+◌, ◌-◌, ◌<◌, ◌≤◌, ◌↔◌, length, IsOk, IfOk, IsErrOf, IsOkUnless};
 ghost use Rattle.aead_ciphers.specs.Gcm.{Fits};
 ghost use Rattle.aead_ciphers.specs.Packet.{PacketFits};
 
@@ -28,8 +28,17 @@ pub(crate) fn payload_len(packet: &[u8], header_len: usize) -> Result<usize, Pac
         return Err(PacketError::TooShort);
     }
     let payload_len = packet.len() - MAX_TAG_LEN - header_len;
+    check_lengths(header_len, payload_len)?;
+    Ok(payload_len)
+}
+
+/// Checks that AES-GCM allows a header and a payload of these lengths.
+pub(crate) fn check_lengths(header_len: usize, payload_len: usize) -> Result<(), PacketError>
+    ensures accepted { IsOk result ↔ Fits header_len payload_len }
+    ensures refused { IsOkUnless result PacketError.TooLong }
+{
     if payload_len > MAX_PAYLOAD_LEN || header_len > MAX_HEADER_LEN {
         return Err(PacketError::TooLong);
     }
-    Ok(payload_len)
+    Ok(())
 }

@@ -1,9 +1,10 @@
 //! Receiving packets, over key updates (RFC 9001 sections 5.3, 5.4, 6.2 to 6.6 and 9.5).
 
-ghost use Rattle.std.specs.Prelude.{◌≡◌, ◌≢◌, ℕ, ◌+◌, ◌-◌, ◌<◌, ◌≤◌, ◌↔◌, false, true, length, List, slice_index, IsTrue, IsOk, IfOk, IfErr, IsErrOf, IsOkUnless, OnOk, OnErr};
+ghost use Rattle.std.specs.Prelude.{◌≡◌, ◌≢◌, ℕ, ◌+◌, ◌-◌, ◌<◌, ◌≤◌, ◌↔◌, false, true, length, List, slice_index, ◌^◌, IsTrue, IsOk, IfOk, IfErr, IsErrOf, IsOkUnless, IsSome, OnOk, OnErr};
 ghost use Rattle.std.specs.Option.{option_copied};
 ghost use Rattle.aead_ciphers.specs.Algorithm.{key_len};
 ghost use Rattle.aead_ciphers.specs.HeaderProtection.{key_len as header_key_len};
+ghost use Rattle.quic_packets.specs.Datagram.{KeepsOutside, bytes_of, number_in};
 ghost use Rattle.quic_packets.specs.Header.{HasSample};
 ghost use Rattle.quic_packets.specs.Numbers.{expected};
 ghost use Rattle.quic_packets.specs.Packet.{IsNumber};
@@ -11,26 +12,26 @@ ghost use Rattle.quic_packets.specs.Receiving.{IsInTurn, Opening, Outcome, Reads
 ghost use Rattle.quic_packets.specs.Space.{IsNew, Marks};
 ghost use Rattle.quic_packets.specs.Suite.{algorithm, header_algorithm};
 
+use crate::datagram::Packet;
 use crate::error::PacketError;
 use crate::failures::Failures;
-use crate::header::HeaderKey;
+use crate::header::{HeaderKey, SAMPLE_END};
+use crate::key::PacketKey;
 use crate::numbers::{decode, truncated};
-use crate::receive::ReceiveKey;
 use crate::space::Space;
 use crate::suite::Suite;
 use aead_ciphers::aead::NONCE_LEN;
 use std::marker::Model;
 use std::mem;
+use std::ops::Range;
 
 /// A packet that was received.
-#[derive(Clone, Copy, PartialEq, Eq, Debug)]
+#[derive(Clone, PartialEq, Eq, Debug, Drop)]
 pub struct Received {
     /// The packet number.
     pub number: u64,
-    /// The length of the header in bytes, including the packet number.
-    pub header_len: usize,
-    /// The length of the decrypted payload in bytes. It follows the header.
-    pub payload_len: usize,
+    /// The position of the decrypted payload in the datagram. It follows the header, which ends with the packet number.
+    pub payload: Range<usize>,
     /// The Key Phase bit of a short header, or `false` for a long one.
     pub phase: bool,
 }
@@ -46,17 +47,15 @@ pub struct Received {
 /// let mut space = Space::new();
 /// let mut failures = Failures::new();
 /// let parts = packet_at(&datagram, 0, CONNECTION_ID.len())?;
-/// let number_at = parts.number_at.ok_or("a packet without a number")?;
-/// let packet = &mut datagram[..parts.end];
-/// let received = receiver.receive(&mut space, &mut failures, packet, number_at)?;
-/// let payload = &packet[received.header_len..received.header_len + received.payload_len];
+/// let received = receiver.receive(&mut space, &mut failures, &mut datagram, &parts)?;
+/// let payload = &datagram[received.payload];
 /// ```
 #[derive(Drop)]
 pub struct Receiver {
     header: HeaderKey,
-    current: ReceiveKey,
-    next: Option<ReceiveKey>,
-    previous: Option<ReceiveKey>,
+    current: PacketKey,
+    next: Option<PacketKey>,
+    previous: Option<PacketKey>,
     phase: bool,
     lowest: u64,
     highest: u64,
@@ -103,7 +102,7 @@ impl Receiver {
         }) }
     {
         Ok(Receiver {
-            current: ReceiveKey::new(suite.algorithm(), key, iv)?,
+            current: PacketKey::new(suite.algorithm(), key, iv)?,
             header: HeaderKey::new(suite.header_algorithm(), header_key)?,
             next: None,
             previous: None,
@@ -129,7 +128,7 @@ impl Receiver {
         }) }
         ensures kept { OnErr result (self.new ≡ self.old) }
     {
-        self.next = Some(ReceiveKey::new(self.current.algorithm(), key, iv)?);
+        self.next = Some(PacketKey::new(self.current.algorithm(), key, iv)?);
         Ok(())
     }
 
@@ -148,18 +147,19 @@ impl Receiver {
         self.previous = None;
     }
 
-    /// Receives the packet whose packet number begins at byte `number_at`: unmasks its header, decodes its number, opens it,
-    /// and counts its number as received.
+    /// Receives a packet of a datagram, whose parts `packet_at` returns: unmasks its header, decodes its number, opens it, and
+    /// counts its number as received. No byte of the datagram outside the packet changes.
     ///
     /// On success the header is unmasked, the decrypted payload follows it, and the tag is left after the payload. `space`
     /// holds the numbers received in the packet's number space, and `failures` is the one count of the connection.
     ///
-    /// Fails, in this order, with `TooManyFailures` if the limit of `failures` is reached; with `NumberAtFirstByte` if
-    /// `number_at` is 0; with `NoSample` if the packet has fewer than `number_at + 20` bytes; with `TooLong` if it is longer
-    /// than AES-GCM allows; and with `Refused`, which is counted, if it is not authentic. The packet is then unchanged. For an
-    /// authentic packet, which is then opened in place, fails with `ReservedBits` if its reserved bits are set, with
-    /// `Duplicate` if its number was already received or is below the window of `space`, and with `KeyUpdate` if its key phase
-    /// is out of turn.
+    /// Fails, in this order, with `TooManyFailures` if the limit of `failures` is reached; with `PastEnd` if the packet ends
+    /// after the datagram; with `NoNumber` if it has no packet number; with `NumberAtFirstByte` if the number does not begin
+    /// after the packet's first byte; with `NoSample` if the packet has fewer than 20 bytes from its number on; with `TooLong`
+    /// if it is longer than AES-GCM allows; and with `Refused`, which is counted, if it is not authentic. The packet is then
+    /// unchanged. For an authentic packet, which is then opened in place, fails with `ReservedBits` if its reserved bits are
+    /// set, with `Duplicate` if its number was already received or is below the window of `space`, and with `KeyUpdate` if its
+    /// key phase is out of turn.
     ///
     /// Before a packet is known to be authentic, its masked bits only determine the length of the header and the key that opens
     /// it (RFC 9001 section 9.5).
@@ -167,34 +167,81 @@ impl Receiver {
         &mut self,
         space: &mut Space,
         failures: &mut Failures,
-        packet: &mut [u8],
-        number_at: usize,
+        datagram: &mut [u8],
+        parts: &Packet,
     ) -> Result<Received, PacketError>
         ensures used_up { IsErrOf result PacketError.TooManyFailures ↔ (failures.old.limit ≤ failures.old.count) }
+        ensures past_end { IsErrOf result PacketError.PastEnd
+            ↔ ((failures.old.count < failures.old.limit) × (length datagram.old < parts.now.end)) }
+        ensures no_number { IsErrOf result PacketError.NoNumber ↔ ((failures.old.count < failures.old.limit)
+            × (parts.now.end ≤ length datagram.old) × ¬ IsSome parts.now.number_at) }
         ensures first_byte { IsErrOf result PacketError.NumberAtFirstByte
-            ↔ ((failures.old.count < failures.old.limit) × (number_at ≡ 0)) }
+            ↔ ((failures.old.count < failures.old.limit) × (parts.now.end ≤ length datagram.old)
+            × IsSome parts.now.number_at × (number_in parts.now ≡ 0)) }
         ensures no_sample { IsErrOf result PacketError.NoSample ↔ ((failures.old.count < failures.old.limit)
-            × (0 < number_at) × (length packet.old < number_at + 20)) }
-        ensures outcome { failures.old.count < failures.old.limit → HasSample number_at (length packet.old)
-            → (plain : List ℕ) × (number : ℕ)
+            × (parts.now.end ≤ length datagram.old) × (0 < number_in parts.now)
+            × (parts.now.end - parts.now.start < number_in parts.now + 20)) }
+        ensures outcome { failures.old.count < failures.old.limit → parts.now.end ≤ length datagram.old
+            → HasSample (number_in parts.now) (parts.now.end - parts.now.start) → (plain : List ℕ) × (number : ℕ)
+            × Reads self.old.header space.old.next (number_in parts.now) (bytes_of parts.now datagram.old) plain number
+            × Outcome self.old space.old parts.now.start (number_in parts.now) plain number result self.new
+            (bytes_of parts.now datagram.new) }
+        ensures payload { IfOk result (λ r. (parts.now.start < r.payload.start) × (r.payload.start ≤ r.payload.end)
+            × (r.payload.end + 16 ≡ parts.now.end) × (parts.now.end ≤ length datagram.old)) }
+        ensures marked { IfOk result (λ r. IsNew space.old r.number × Marks space.old r.number space.new) }
+        ensures failed { IsErrOf result PacketError.Refused
+            → failures.new ≡ record failures.old { count = failures.old.count + 1 } }
+        ensures not_failed { ¬ IsErrOf result PacketError.Refused → failures.new ≡ failures.old }
+        ensures kept { OnErr result ((self.new ≡ self.old) × (space.new ≡ space.old)) }
+        ensures bytes_kept { IfErr result (λ error. is_of_opened error ≡ false → datagram.new ≡ datagram.old) }
+        ensures outside { KeepsOutside parts.now.start parts.now.end datagram.old datagram.new }
+    {
+        if failures.is_at_limit() {
+            return Err(PacketError::TooManyFailures);
+        }
+        let number_at = place_of_number(parts, datagram.len())?;
+        let start = parts.start;
+        self.receive_packet(
+            space,
+            failures,
+            &mut datagram[start..parts.end],
+            number_at,
+            start,
+        )
+    }
+
+    // Receives a packet that begins at byte `start` of its datagram. `number_at` is counted from the packet.
+    fn receive_packet(
+        &mut self,
+        space: &mut Space,
+        failures: &mut Failures,
+        packet: &mut [u8],
+        number_at: usize,
+        start: usize,
+    ) -> Result<Received, PacketError>
+        requires left { failures.old.count < failures.old.limit }
+        requires sample { HasSample number_at (length packet.old) }
+        requires place { start + length packet.old < 2 ^ 64 }
+        ensures outcome { (plain : List ℕ) × (number : ℕ)
             × Reads self.old.header space.old.next number_at packet.old plain number
-            × Outcome self.old space.old number_at plain number result self.new packet.new }
-        ensures parts { IfOk result (λ r. r.header_len + r.payload_len + 16 ≡ length packet.old) }
+            × Outcome self.old space.old start number_at plain number result self.new packet.new }
+        ensures payload { IfOk result (λ r. (start < r.payload.start) × (r.payload.start ≤ r.payload.end)
+            × (r.payload.end + 16 ≡ start + length packet.old)) }
         ensures marked { IfOk result (λ r. IsNew space.old r.number × Marks space.old r.number space.new) }
         ensures failed { IsErrOf result PacketError.Refused
             → failures.new ≡ record failures.old { count = failures.old.count + 1 } }
         ensures not_failed { ¬ IsErrOf result PacketError.Refused → failures.new ≡ failures.old }
         ensures kept { OnErr result ((self.new ≡ self.old) × (space.new ≡ space.old)) }
         ensures bytes_kept { IfErr result (λ error. is_of_opened error ≡ false → packet.new ≡ packet.old) }
+        ensures others { ¬ IsErrOf result PacketError.TooManyFailures × ¬ IsErrOf result PacketError.PastEnd
+            × ¬ IsErrOf result PacketError.NoNumber × ¬ IsErrOf result PacketError.NumberAtFirstByte
+            × ¬ IsErrOf result PacketError.NoSample }
     {
-        if failures.is_at_limit() {
-            return Err(PacketError::TooManyFailures);
-        }
-        match self.open(space.largest(), packet, number_at) {
-            Ok((first, received)) => {
-                self.admit(space, first, received.number)?;
-                Ok(received)
-            }
+        match self.open(space.largest(), packet, number_at, start) {
+            Ok((first, received)) => match self.admit(space, first, received.number) {
+                Ok(()) => Ok(received),
+                Err(error) => Err(error),
+            },
             Err(error) => {
                 failures.note(error);
                 Err(error)
@@ -209,19 +256,23 @@ impl Receiver {
         largest: Option<u64>,
         packet: &mut [u8],
         number_at: usize,
+        start: usize,
     ) -> Result<(u8, Received), PacketError>
+        requires place { start + length packet.old < 2 ^ 64 }
         ensures first_byte { IsErrOf result PacketError.NumberAtFirstByte ↔ (number_at ≡ 0) }
         ensures no_sample { IsErrOf result PacketError.NoSample
             ↔ ((0 < number_at) × (length packet.old < number_at + 20)) }
         ensures opening { HasSample number_at (length packet.old) → (plain : List ℕ) × (number : ℕ)
             × Reads self.now.header (expected largest) number_at packet.old plain number
-            × Opening self.now number_at plain number result packet.new }
+            × Opening self.now start number_at plain number result packet.new }
         ensures number { IfOk result (λ opened. IsNumber opened.1.number) }
         ensures sampled { OnOk result (HasSample number_at (length packet.old)) }
-        ensures parts { IfOk result (λ opened. opened.1.header_len + opened.1.payload_len + 16 ≡ length packet.old) }
+        ensures payload { IfOk result (λ opened. (start < opened.1.payload.start)
+            × (opened.1.payload.start ≤ opened.1.payload.end)
+            × (opened.1.payload.end + 16 ≡ start + length packet.old)) }
         ensures kept { OnErr result (packet.new ≡ packet.old) }
-        ensures others { ¬ IsErrOf result PacketError.TooManyFailures
-            × ¬ IsErrOf result PacketError.ReservedBits × ¬ IsErrOf result PacketError.Duplicate
+        ensures others { ¬ IsErrOf result PacketError.TooManyFailures × ¬ IsErrOf result PacketError.PastEnd
+            × ¬ IsErrOf result PacketError.NoNumber × ¬ IsErrOf result PacketError.ReservedBits × ¬ IsErrOf result PacketError.Duplicate
             × ¬ IsErrOf result PacketError.KeyUpdate }
     {
         let number_len = self.header.unprotect(packet, number_at)?;
@@ -234,19 +285,16 @@ impl Receiver {
         );
         match self
             .opening_key(first, number)
-            .open(packet, header_len, number)
+            .open(number, packet, header_len)
         {
             Ok(payload_len) => {
-                let phase = first & 0x84 == 0x04;
-                Ok((
-                    first,
-                    Received {
-                        number,
-                        header_len,
-                        payload_len,
-                        phase,
-                    },
-                ))
+                let from = start + header_len;
+                let received = Received {
+                    number,
+                    payload: from..from + payload_len,
+                    phase: first & 0x84 == 0x04,
+                };
+                Ok((first, received))
             }
             Err(error) => {
                 let Ok(()) = self.header.protect(packet, number_at) else {
@@ -258,7 +306,7 @@ impl Receiver {
     }
 
     // The key of a packet, if it is held.
-    fn key_of(&self, first: u8, number: u64) -> Option<&ReceiveKey>
+    fn key_of(&self, first: u8, number: u64) -> Option<&PacketKey>
         ensures { option_copied result ≡ key_of self.now first number }
     {
         if !self.is_other_phase(first) {
@@ -279,7 +327,7 @@ impl Receiver {
 
     // The key that a packet is opened with. If its own is not held, this is the current one, so that rejecting it takes as
     // long.
-    fn opening_key(&self, first: u8, number: u64) -> &ReceiveKey
+    fn opening_key(&self, first: u8, number: u64) -> &PacketKey
         ensures { result.now ≡ opening_key self.now first number }
     {
         self.key_of(first, number).unwrap_or(&self.current)
@@ -348,4 +396,35 @@ impl Receiver {
         self.move_on(first, number);
         Ok(())
     }
+}
+
+// The position of the packet number, counted from the packet, if the packet ends within a datagram of this length and is long
+// enough for a sample.
+fn place_of_number(parts: &Packet, len: usize) -> Result<usize, PacketError>
+    ensures accepted { IsOk result ↔ ((parts.now.end ≤ len)
+        × HasSample (number_in parts.now) (parts.now.end - parts.now.start)) }
+    ensures past_end { IsErrOf result PacketError.PastEnd ↔ (len < parts.now.end) }
+    ensures no_number { IsErrOf result PacketError.NoNumber
+        ↔ ((parts.now.end ≤ len) × ¬ IsSome parts.now.number_at) }
+    ensures first_byte { IsErrOf result PacketError.NumberAtFirstByte ↔ ((parts.now.end ≤ len)
+        × IsSome parts.now.number_at × (number_in parts.now ≡ 0)) }
+    ensures no_sample { IsErrOf result PacketError.NoSample ↔ ((parts.now.end ≤ len) × (0 < number_in parts.now)
+        × (parts.now.end - parts.now.start < number_in parts.now + 20)) }
+    ensures place { IfOk result (λ at. at ≡ number_in parts.now) }
+    ensures others { ¬ IsErrOf result PacketError.TooManyFailures × ¬ IsErrOf result PacketError.Refused }
+    ensures unopened { IfErr result (λ error. is_of_opened error ≡ false) }
+{
+    if parts.end > len {
+        return Err(PacketError::PastEnd);
+    }
+    let Some(number_at) = parts.number_at else {
+        return Err(PacketError::NoNumber);
+    };
+    if number_at <= parts.start {
+        return Err(PacketError::NumberAtFirstByte);
+    }
+    if parts.end < number_at || parts.end - number_at < SAMPLE_END {
+        return Err(PacketError::NoSample);
+    }
+    Ok(number_at - parts.start)
 }

@@ -5,14 +5,14 @@ ghost use Rattle.aead_ciphers.specs.Algorithm.{key_len};
 ghost use Rattle.aead_ciphers.specs.Gcm.{Fits};
 ghost use Rattle.aead_ciphers.specs.Packet.{PacketFits};
 ghost use Rattle.quic_packets.specs.Header.{HasSample};
-ghost use Rattle.quic_packets.specs.Packet.{CarriesNumber, HasNumber, IsNumber};
+ghost use Rattle.quic_packets.specs.Packet.{IsNumber};
 ghost use Rattle.quic_packets.specs.Sending.{HasKeyLengths, IsEncodable, IsInTurn, IsOpen, IsRoom, IsSealable, IsSent, after_acknowledgement, after_send, after_skip, after_update, first_byte, lacks_protection, new_sender, numbered_packet, with_installed_keys};
 
 use crate::error::PacketError;
-use crate::header::{HeaderKey, SAMPLE_END};
+use crate::header::{HeaderKey, MAX_NUMBER_LEN, SAMPLE_END};
+use crate::key::PacketKey;
 use crate::numbers::number_len;
 use crate::packet::{NUMBERS_END, payload_len};
-use crate::send::SendKey;
 use crate::suite::Suite;
 use aead_ciphers::aead::NONCE_LEN;
 use std::marker::Model;
@@ -31,23 +31,23 @@ const MAX_SEALED: u64 = 1 << 23;
 ///
 /// ```
 /// fn send(alloc: Global, sender: &mut Sender, payload: &[u8]) -> Result<Vec<u8>, Fail> {
-///     let acknowledged = None;
-///     let number_len = sender
-///         .next_number_len(acknowledged)
-///         .ok_or(PacketError::NumberTooFar)?;
+///     let least = sender.next_number_len().ok_or(PacketError::NumberTooFar)?;
+///     let number_len = least.max(2);
 ///     let mut packet = Vec::from_slice(alloc, &[0x40])?;
 ///     packet.extend_from_slice(&CONNECTION_ID)?;
 ///     packet.extend_from_slice(&[0; 4][..number_len])?;
 ///     packet.extend_from_slice(payload)?;
 ///     packet.extend_from_slice(&[0; 16])?;
-///     sender.send(&mut packet, 9..9 + number_len, acknowledged)?;
+///     sender.send(&mut packet, 9..9 + number_len)?;
 ///     Ok(packet)
 /// }
 /// ```
 #[derive(Drop)]
 pub struct Sender {
-    key: SendKey,
+    key: PacketKey,
     header_key: HeaderKey,
+    next: u64,
+    largest_acknowledged: Option<u64>,
     phase: bool,
     sealed: u64,
     limit: u64,
@@ -58,6 +58,7 @@ pub struct Sender {
 
 impl Model for Sender {
     ghost use Rattle.std.specs.Prelude.{◌^◌, ◌≤◌};
+    ghost use Rattle.quic_packets.specs.Numbers.{expected};
     ghost use Rattle.quic_packets.specs.Sending.{Sender};
 
     ghost Value = { Sender };
@@ -65,6 +66,8 @@ impl Model for Sender {
     ghost view = { λ s. record {
       key = s.key;
       header_key = s.header_key;
+      next = s.next;
+      largest = s.largest_acknowledged;
       phase = s.phase;
       sealed = s.sealed;
       limit = s.limit;
@@ -73,7 +76,7 @@ impl Model for Sender {
       confirmed = s.is_confirmed;
     } };
 
-    ghost invariant = { λ s. s.limit ≤ 2 ^ 23 };
+    ghost invariant = { λ s. (s.limit ≤ 2 ^ 23) × (s.next ≤ 2 ^ 62) × (expected s.largest_acknowledged ≤ s.next) };
 }
 
 impl Sender {
@@ -97,10 +100,15 @@ impl Sender {
         ensures made { IfOk result (λ made. made ≡ new_sender suite key.now iv header_key.now first) }
     {
         let header_key = HeaderKey::new(suite.header_algorithm(), header_key)?;
-        let key = SendKey::new(suite.algorithm(), key, iv, first)?;
+        let key = PacketKey::new(suite.algorithm(), key, iv)?;
+        if first > NUMBERS_END {
+            return Err(PacketError::NumbersEnded);
+        }
         Ok(Sender {
             key,
             header_key,
+            next: first,
+            largest_acknowledged: None,
             phase: false,
             sealed: 0,
             limit: MAX_SEALED,
@@ -114,17 +122,22 @@ impl Sender {
     pub fn with_limit(mut self, limit: u64) -> Self
         ensures { result ≡ record self { limit = min self.limit limit } }
     {
-        if limit < self.limit {
-            self.limit = limit;
-        }
+        self.limit = self.limit.min(limit);
         self
     }
 
     /// Returns the number of the next packet, or 2^62 if no number is left.
     pub fn next_number(&self) -> u64
-        ensures { result ≡ self.now.key.next }
+        ensures { result ≡ self.now.next }
     {
-        self.key.next_number()
+        self.next
+    }
+
+    /// Returns the largest number of the space that the peer has acknowledged, or `None` if there is none.
+    pub fn largest_acknowledged(&self) -> Option<u64>
+        ensures { result ≡ self.now.largest }
+    {
+        self.largest_acknowledged
     }
 
     /// Returns the number of packets that the current key has sealed.
@@ -141,22 +154,18 @@ impl Sender {
         self.phase
     }
 
-    /// Returns the length of the next packet number's encoding in bytes, from 1 to 4 (RFC 9000 section 17.1, appendix A.2).
+    /// Returns the least length of the next packet number's encoding in bytes, from 1 to 4 (RFC 9000 section 17.1, appendix
+    /// A.2). `send` takes this length and any longer one, up to 4 bytes.
     ///
-    /// `largest_acknowledged` is the largest number of this space that the peer has acknowledged.
-    ///
-    /// Returns `None` if `send` cannot send the number: no number is left, 4 bytes are too few, or the number is not above
-    /// `largest_acknowledged`.
-    #[tactic(auto, using(crate::proofs::RoomLemmas::only_room))]
-    pub fn next_number_len(&self, largest_acknowledged: Option<u64>) -> Option<usize>
-        ensures encodable { IsSome result
-            ↔ (IsNumber self.now.key.next × IsEncodable self.now.key.next largest_acknowledged) }
-        ensures room { IfSome result (λ n. IsRoom self.now.key.next largest_acknowledged 0 n) }
-        ensures only_room { IfSome result (λ n. (start end : ℕ)
-            → IsRoom self.now.key.next largest_acknowledged start end → end ≡ start + n) }
-        ensures few { IfSome result (λ n. n ≤ 4) }
+    /// Returns `None` if `send` cannot send the number: no number is left, or 4 bytes are too few.
+    #[tactic(auto, using(crate::proofs::RoomLemmas::rooms, crate::proofs::RoomLemmas::is_above))]
+    pub fn next_number_len(&self) -> Option<usize>
+        ensures encodable { IsSome result ↔ (IsNumber self.now.next × IsEncodable self.now) }
+        ensures rooms { IfSome result (λ n. (start end : ℕ)
+            → IsRoom self.now.next self.now.largest start end ↔ ((start + n ≤ end) × (end ≤ start + 4))) }
+        ensures few { IfSome result (λ n. (0 < n) × (n ≤ 4)) }
     {
-        number_len(self.key.next_number(), largest_acknowledged)
+        number_len(self.next, self.largest_acknowledged)
     }
 
     /// Leaves the numbers below `number` unused, so that `number` is the next one.
@@ -167,17 +176,22 @@ impl Sender {
     /// Fails with `NumberUsed` if the next number is already above `number`, and with `NumbersEnded` if `number` is above 2^62.
     /// The sender is then unchanged.
     pub fn skip_to(&mut self, number: u64) -> Result<(), PacketError>
-        ensures accepted { IsOk result ↔ ((self.old.key.next ≤ number) × (number ≤ 2 ^ 62)) }
-        ensures used { IsErrOf result PacketError.NumberUsed ↔ (number < self.old.key.next) }
+        ensures accepted { IsOk result ↔ ((self.old.next ≤ number) × (number ≤ 2 ^ 62)) }
+        ensures used { IsErrOf result PacketError.NumberUsed ↔ (number < self.old.next) }
         ensures ended { IsErrOf result PacketError.NumbersEnded ↔ (2 ^ 62 < number) }
         ensures skipped { OnOk result (self.new ≡ after_skip self.old number) }
         ensures kept { OnErr result (self.new ≡ self.old) }
     {
-        let next = self.key.next_number();
-        self.key.skip_to(number)?;
-        if number > next {
+        if number < self.next {
+            return Err(PacketError::NumberUsed);
+        }
+        if number > NUMBERS_END {
+            return Err(PacketError::NumbersEnded);
+        }
+        if number > self.next {
             self.first = number;
         }
+        self.next = number;
         Ok(())
     }
 
@@ -188,17 +202,32 @@ impl Sender {
         self.is_confirmed = true;
     }
 
-    /// Records that the peer has acknowledged the packet with this number, which allows the next key update if the packet is of
-    /// the current key phase (RFC 9001 section 6.1).
+    /// Records that the peer has acknowledged the packet with this number. The largest acknowledged number of the space, which
+    /// stays over key updates and `install_keys`, determines how many bytes later numbers need (RFC 9000 section 17.1). A peer
+    /// that acknowledges what it didn't receive shortens only numbers that it must decode itself.
     ///
-    /// Only a number in the unbroken run of sent numbers that ends before the next number has an effect. A number that was never
-    /// sent has none, and neither has one from before the last skip or the last key update.
-    pub fn acknowledged(&mut self, number: u64)
-        ensures { self.new ≡ after_acknowledgement self.old number }
+    /// A number allows the next key update if it is in the unbroken run of numbers that were sent in the current key phase and
+    /// that ends before the next number (RFC 9001 section 6.1). One from before the last skip or the last key update does not.
+    ///
+    /// Fails with `NeverSent` if `number` is not below the next number. The sender is then unchanged, and the connection must be
+    /// closed (RFC 9000 section 13.1).
+    pub fn acknowledged(&mut self, number: u64) -> Result<(), PacketError>
+        ensures accepted { IsOk result ↔ (number < self.old.next) }
+        ensures refused { IsOkUnless result PacketError.NeverSent }
+        ensures acknowledged { OnOk result (self.new ≡ after_acknowledgement self.old number) }
+        ensures kept { OnErr result (self.new ≡ self.old) }
     {
-        if self.first <= number && number < self.key.next_number() {
+        if number >= self.next {
+            return Err(PacketError::NeverSent);
+        }
+        self.largest_acknowledged = match self.largest_acknowledged {
+            Some(largest) => Some(largest.max(number)),
+            None => Some(number),
+        };
+        if number >= self.first {
             self.is_acknowledged = true;
         }
+        Ok(())
     }
 
     /// Initiates a key update: continues with the next key and its IV, in the other key phase (RFC 9001 section 6.1). The
@@ -237,17 +266,16 @@ impl Sender {
         ensures updated { OnOk result (self.new ≡ after_update self.old key.now iv) }
         ensures kept { OnErr result (self.new ≡ self.old) }
     {
-        let next = self.key.next_number();
-        self.key = SendKey::new(self.key.algorithm(), key, iv, next)?;
+        self.key = PacketKey::new(self.key.algorithm(), key, iv)?;
         self.phase = !self.phase;
         self.sealed = 0;
-        self.first = next;
+        self.first = self.next;
         self.is_acknowledged = false;
         Ok(())
     }
 
     /// Turns the sender of 0-RTT packets into that of 1-RTT packets: continues with new keys. The numbers continue too (RFC 9000
-    /// section 12.3), and the limit stays. Everything else is as `new` creates it.
+    /// section 12.3), and the largest acknowledged one and the limit stay. Everything else is as `new` creates it.
     ///
     /// Fails with `KeyLength` if a key is not as long as the suite's. The sender is then unchanged.
     pub fn install_keys(
@@ -262,7 +290,8 @@ impl Sender {
         ensures installed { OnOk result (self.new ≡ with_installed_keys self.old suite key.now iv header_key.now) }
         ensures kept { OnErr result (self.new ≡ self.old) }
     {
-        let next = Sender::new(suite, key, iv, header_key, self.key.next_number())?;
+        let mut next = Sender::new(suite, key, iv, header_key, self.next)?;
+        next.largest_acknowledged = self.largest_acknowledged;
         *self = next.with_limit(self.limit);
         Ok(())
     }
@@ -271,23 +300,19 @@ impl Sender {
     /// first byte, clears the reserved bits, encrypts the payload in place, writes the tag to the last 16 bytes, and masks the
     /// header.
     ///
-    /// The packet is the header, which ends with room for the number, the payload, and 16 bytes for the tag. The room has as
-    /// many bytes as `next_number_len` returns. A long header's Length field, which comes before the number, is the caller's
+    /// The packet is the header, which ends with room for the number, the payload, and 16 bytes for the tag. The room has from
+    /// `next_number_len` to 4 bytes. A long header's Length field, which comes before the number, is the caller's
     /// responsibility.
     ///
     /// Fails with `TooShort` if the packet has fewer than `number.end + 16` bytes; with `TooLong` if it is longer than AES-GCM
     /// allows; with `NumberAtFirstByte` if `number.start` is 0; with `NoSample` if number and payload together have fewer than
     /// 4 bytes; with `NoProtection` for a Version Negotiation or a Retry packet; with `KeyUsedUp` if the key has reached its
-    /// limit; with `NumbersEnded` if no number is left; with `NumberTooFar` if `next_number_len` returns `None` for another
-    /// reason; and with `NumberLength` if the room does not have that many bytes. The packet and the sender are then unchanged.
-    pub fn send(
-        &mut self,
-        packet: &mut [u8],
-        number: Range<usize>,
-        largest_acknowledged: Option<u64>,
-    ) -> Result<u64, PacketError>
+    /// limit; with `NumbersEnded` if no number is left; with `NumberTooFar` if 4 bytes cannot encode the number; and with
+    /// `NumberLength` if the room has fewer bytes than that, or more than 4. The packet and the sender are then
+    /// unchanged.
+    pub fn send(&mut self, packet: &mut [u8], number: Range<usize>) -> Result<u64, PacketError>
         ensures accepted { IsOk result ↔ (IsSealable number.start number.end packet.old
-            × IsInTurn self.old largest_acknowledged number.start number.end) }
+            × IsInTurn self.old number.start number.end) }
         ensures too_short { IsErrOf result PacketError.TooShort ↔ (length packet.old < number.end + 16) }
         ensures too_long { IsErrOf result PacketError.TooLong ↔ ((number.end + 16 ≤ length packet.old)
             × ¬ Fits number.end (length packet.old - 16 - number.end)) }
@@ -302,16 +327,16 @@ impl Sender {
             ↔ (IsSealable number.start number.end packet.old × (self.old.limit ≤ self.old.sealed)) }
         ensures ended { IsErrOf result PacketError.NumbersEnded
             ↔ (IsSealable number.start number.end packet.old × (self.old.sealed < self.old.limit)
-            × (self.old.key.next ≡ 2 ^ 62)) }
+            × (self.old.next ≡ 2 ^ 62)) }
         ensures too_far { IsErrOf result PacketError.NumberTooFar
             ↔ (IsSealable number.start number.end packet.old × IsOpen self.old
-            × ¬ IsEncodable self.old.key.next largest_acknowledged) }
+            × ¬ IsEncodable self.old) }
         ensures number_length { IsErrOf result PacketError.NumberLength
             ↔ (IsSealable number.start number.end packet.old × IsOpen self.old
-            × IsEncodable self.old.key.next largest_acknowledged
-            × ¬ IsRoom self.old.key.next largest_acknowledged number.start number.end) }
+            × IsEncodable self.old
+            × ¬ IsRoom self.old.next self.old.largest number.start number.end) }
         ensures sent { OnOk result (IsSent self.old number.start number.end packet.old packet.new) }
-        ensures number { IfOk result (λ n. n ≡ self.old.key.next) }
+        ensures number { IfOk result (λ n. n ≡ self.old.next) }
         ensures counted { OnOk result (self.new ≡ after_send self.old) }
         ensures kept { OnErr result (packet.new ≡ packet.old) }
         ensures sender_kept { OnErr result (self.new ≡ self.old) }
@@ -319,35 +344,31 @@ impl Sender {
         let number_at = number.start;
         let header_len = number.end;
         check_packet(packet, number_at, header_len)?;
-        self.check_number(number_at, header_len, largest_acknowledged)?;
-        let next = self.key.next_number();
+        self.check_number(number_at, header_len)?;
+        let next = self.next;
         write_number(packet, number_at, header_len, next, self.phase);
-        let Ok(_) = self.key.seal(packet, number) else {
+        let Ok(()) = self.key.seal(next, packet, header_len) else {
             unreachable!();
         };
         let Ok(()) = self.header_key.protect(packet, number_at) else {
             unreachable!();
         };
+        self.next += 1;
         self.sealed += 1;
         Ok(next)
     }
 
     // Checks that the next number can be sent in this room.
-    fn check_number(
-        &self,
-        number_at: usize,
-        header_len: usize,
-        largest_acknowledged: Option<u64>,
-    ) -> Result<(), PacketError>
-        ensures accepted { IsOk result ↔ IsInTurn self.now largest_acknowledged number_at header_len }
+    fn check_number(&self, number_at: usize, header_len: usize) -> Result<(), PacketError>
+        ensures accepted { IsOk result ↔ IsInTurn self.now number_at header_len }
         ensures used_up { IsErrOf result PacketError.KeyUsedUp ↔ (self.now.limit ≤ self.now.sealed) }
         ensures ended { IsErrOf result PacketError.NumbersEnded
-            ↔ ((self.now.sealed < self.now.limit) × (self.now.key.next ≡ 2 ^ 62)) }
+            ↔ ((self.now.sealed < self.now.limit) × (self.now.next ≡ 2 ^ 62)) }
         ensures too_far { IsErrOf result PacketError.NumberTooFar
-            ↔ (IsOpen self.now × ¬ IsEncodable self.now.key.next largest_acknowledged) }
+            ↔ (IsOpen self.now × ¬ IsEncodable self.now) }
         ensures number_length { IsErrOf result PacketError.NumberLength
-            ↔ (IsOpen self.now × IsEncodable self.now.key.next largest_acknowledged
-            × ¬ IsRoom self.now.key.next largest_acknowledged number_at header_len) }
+            ↔ (IsOpen self.now × IsEncodable self.now
+            × ¬ IsRoom self.now.next self.now.largest number_at header_len) }
         ensures others { ¬ IsErrOf result PacketError.TooShort × ¬ IsErrOf result PacketError.TooLong
             × ¬ IsErrOf result PacketError.NumberAtFirstByte × ¬ IsErrOf result PacketError.NoSample
             × ¬ IsErrOf result PacketError.NoProtection }
@@ -356,14 +377,16 @@ impl Sender {
         if self.sealed >= self.limit {
             return Err(PacketError::KeyUsedUp);
         }
-        let next = self.key.next_number();
-        if next >= NUMBERS_END {
+        if self.next >= NUMBERS_END {
             return Err(PacketError::NumbersEnded);
         }
-        let Some(len) = number_len(next, largest_acknowledged) else {
+        let Some(least) = self.next_number_len() else {
             return Err(PacketError::NumberTooFar);
         };
-        if header_len < number_at || header_len - number_at != len {
+        if header_len < number_at {
+            return Err(PacketError::NumberLength);
+        }
+        if !(least..=MAX_NUMBER_LEN).contains(&(header_len - number_at)) {
             return Err(PacketError::NumberLength);
         }
         Ok(())
@@ -418,9 +441,7 @@ fn write_number(packet: &mut [u8], number_at: usize, header_len: usize, number: 
     requires some { number_at < header_len }
     requires few { header_len ≤ number_at + 4 }
     requires within { header_len ≤ length packet.old }
-    ensures numbered { packet.new ≡ numbered_packet phase number number_at header_len packet.old }
-    ensures has_number { HasNumber number_at header_len packet.new }
-    ensures carries { CarriesNumber number number_at header_len packet.new }
+    ensures { packet.new ≡ numbered_packet phase number number_at header_len packet.old }
 {
     let first = packet[0];
     let len = header_len - number_at;

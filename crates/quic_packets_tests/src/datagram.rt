@@ -1,10 +1,10 @@
-//! Tests of `split` and `packet_at`: the packets of RFC 9001 appendix A, and handwritten datagrams.
+//! Tests of `packet_at`: the packets of RFC 9001 appendix A, and handwritten datagrams.
 
 use crate::checks::{equal, holds};
 use crate::retry::A_4_RETRY;
 use aead_vectors::rfc_9001::{A_2_PACKET, A_3_PACKET, A_5_PROTECTED, Packet as Vector};
 use aead_vectors::words::BadLine;
-use quic_packets::{DatagramError, Packet, PacketType, packet_at, split};
+use quic_packets::{DatagramError, Packet, PacketType, packet_at};
 use std::alloc::Global;
 use std::ops::Range;
 use std::process::Abort;
@@ -31,6 +31,7 @@ fn is_long(
 ) {
     let (destination_id, source_id) = ids;
     let packet = Packet {
+        start: 0,
         packet_type,
         version: Some(version),
         destination_id,
@@ -91,8 +92,8 @@ fn coalesced(rt: HostRuntime) -> Result<(), Fail> {
     let mut datagram = protected(rt.alloc(), A_3_PACKET)?;
     datagram.extend_from_slice(&A_5_PROTECTED)?;
     let mut parts = Vec::new(rt.alloc());
-    for packet in split(&datagram, 0) {
-        let packet = packet?;
+    for start in [0, 135] {
+        let packet = packet_at(&datagram, start, 0)?;
         parts.push((packet.packet_type, packet.number_at, packet.end))?;
     }
     let wanted = [
@@ -130,10 +131,8 @@ fn refusals(rt: HostRuntime) -> Result<(), Fail> {
         DatagramError::IdTooLong,
     );
     datagram.push(0xc0)?;
-    let mut packets = split(&datagram, 0);
-    assert!(rt; packets.next().is_some_and(|packet| packet.is_ok()));
-    equal(&rt, &packets.next(), &Some(Err(DatagramError::Cut)));
-    equal(&rt, &packets.next(), &None);
+    let end = packet_at(&datagram, 0, 0)?.end;
+    equal(&rt, &packet_at(&datagram, end, 0), &Err(DatagramError::Cut));
     Ok(())
 }
 

@@ -4,7 +4,7 @@ use crate::checks::displays;
 use quic_packets::{DatagramError, PacketError, RetryError};
 use std::test::Fail;
 
-const PACKET_ERRORS: [(PacketError, &str); 19] = [
+const PACKET_ERRORS: [(PacketError, &str); 22] = [
     (
         PacketError::KeyLength,
         "the key does not have the length of the algorithm's keys",
@@ -13,13 +13,11 @@ const PACKET_ERRORS: [(PacketError, &str); 19] = [
         PacketError::NumberAtFirstByte,
         "the packet number cannot begin at the header's first byte",
     ),
+    (PacketError::PastEnd, "the datagram ends before the packet"),
+    (PacketError::NoNumber, "the packet has no packet number"),
     (
         PacketError::NumberLength,
-        "the packet number does not have the length that the header's first byte gives",
-    ),
-    (
-        PacketError::OtherNumber,
-        "the packet number in the header is not the next one",
+        "the packet number does not fit the room for it",
     ),
     (
         PacketError::NumberUsed,
@@ -36,6 +34,14 @@ const PACKET_ERRORS: [(PacketError, &str); 19] = [
     (
         PacketError::KeyUsedUp,
         "the key has reached its limit of packets",
+    ),
+    (
+        PacketError::OutputLength,
+        "the output does not have the length of the result",
+    ),
+    (
+        PacketError::NeverSent,
+        "a packet that was not sent was acknowledged",
     ),
     (
         PacketError::HandshakeUnconfirmed,

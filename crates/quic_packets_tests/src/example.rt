@@ -1,10 +1,9 @@
 //! The example in README.md of `quic_packets`: one end of a connection sends a packet, and the other end receives it.
 
-use crate::checks::{equal, same};
+use crate::checks::same;
 use quic_packets::{Failures, PacketError, Receiver, Sender, Space, Suite, packet_at};
 use std::alloc::Global;
 use std::test::Fail;
-use uses::quic_connection::{self, Incoming};
 
 /// The key of one direction, which both ends have, like the IV and the header key. TLS derives them from a secret with HKDF
 /// (RFC 9001 section 5.1).
@@ -19,16 +18,14 @@ const CONNECTION_ID: [u8; 8] = [4; 8];
 
 /// Sends a payload in a packet with a short header, and returns the packet.
 fn send(alloc: Global, sender: &mut Sender, payload: &[u8]) -> Result<Vec<u8>, Fail> {
-    let acknowledged = None;
-    let number_len = sender
-        .next_number_len(acknowledged)
-        .ok_or(PacketError::NumberTooFar)?;
+    let least = sender.next_number_len().ok_or(PacketError::NumberTooFar)?;
+    let number_len = least.max(2);
     let mut packet = Vec::from_slice(alloc, &[0x40])?;
     packet.extend_from_slice(&CONNECTION_ID)?;
     packet.extend_from_slice(&[0; 4][..number_len])?;
     packet.extend_from_slice(payload)?;
     packet.extend_from_slice(&[0; 16])?;
-    sender.send(&mut packet, 9..9 + number_len, acknowledged)?;
+    sender.send(&mut packet, 9..9 + number_len)?;
     Ok(packet)
 }
 
@@ -41,34 +38,8 @@ fn one_packet(rt: HostRuntime) -> Result<(), Fail> {
     let mut space = Space::new();
     let mut failures = Failures::new();
     let parts = packet_at(&datagram, 0, CONNECTION_ID.len())?;
-    let number_at = parts.number_at.ok_or("a packet without a number")?;
-    let packet = &mut datagram[..parts.end];
-    let received = receiver.receive(&mut space, &mut failures, packet, number_at)?;
-    let payload = &packet[received.header_len..received.header_len + received.payload_len];
+    let received = receiver.receive(&mut space, &mut failures, &mut datagram, &parts)?;
+    let payload = &datagram[received.payload];
     same(&rt, payload, b"hello", "the payload");
-    Ok(())
-}
-
-/// Tests that `uses::quic_connection` sends a packet, receives it, and rejects it as a duplicate the second time.
-#[test]
-fn callers(rt: HostRuntime) -> Result<(), Fail> {
-    let mut sender = Sender::new(Suite::Aes256Gcm, &[1; 32], IV, &[3; 32], 7)?;
-    let mut incoming = Incoming {
-        receiver: Receiver::new(Suite::Aes256Gcm, &[1; 32], IV, &[3; 32])?,
-        space: Space::new(),
-        failures: Failures::new(),
-    };
-    let mut packet = [7; 40];
-    equal(
-        &rt,
-        &quic_connection::send(&mut sender, &mut packet, Some(6))?,
-        &7,
-    );
-    let mut again = packet;
-    let payload = quic_connection::receive(&mut incoming, &mut packet)?;
-    equal(&rt, &payload, &(10..24));
-    same(&rt, &packet[10..24], &[7; 14], "the payload");
-    let outcome = quic_connection::receive(&mut incoming, &mut again);
-    equal(&rt, &outcome, &Err(PacketError::Duplicate));
     Ok(())
 }

@@ -1,22 +1,22 @@
-//! Tests of `SendKey`, `ReceiveKey` and `HeaderKey`: the packets of RFC 9001 appendix A, sent and received, and packets with
+//! Tests of `PacketKey` and `HeaderKey`: the packets of RFC 9001 appendix A, sealed and opened by each call, and packets with
 //! AES-256 keys, for which the RFC has none.
 
-ghost use Rattle.std.specs.Prelude.{◌≡◌, ◌-◌, ◌↔◌, length, take, IsOk, OnOk};
+ghost use Rattle.std.specs.Prelude.{◌≡◌, ◌-◌, length, take, OnOk};
 ghost use Rattle.aead_ciphers.specs.Packet.{PacketFits};
 ghost use Rattle.quic_packets.specs.Header.{HasSample};
-ghost use Rattle.quic_packets.specs.Packet.{CarriesNumber, HasNumber, IsNumber};
+ghost use Rattle.quic_packets.specs.Packet.{HasNumber};
 
 use crate::checks::{equal, holds, same};
-use aead_ciphers::aead::{AES_128_GCM, AES_256_GCM, quic};
+use aead_ciphers::aead::{AES_128_GCM, AES_256_GCM, Tag, quic};
 use aead_vectors::rfc_9001::{A_5_KEY, A_5_PROTECTED, A_5_SEALED, PACKETS, Packet};
-use quic_packets::{HeaderKey, PacketError, ReceiveKey, SendKey, laws};
-use std::alloc::AllocError;
+use quic_packets::{HeaderKey, PacketError, PacketKey, laws};
+use std::alloc::{AllocError, Global};
 use std::ops::Range;
 use std::process::Abort;
 use std::test::Fail;
 
 /// Returns the header and the payload.
-fn plain(row: &Packet) -> Result<Vec<u8>, AllocError> {
+pub(crate) fn plain(row: &Packet) -> Result<Vec<u8>, AllocError> {
     let mut packet = row.header.clone()?;
     packet.extend_from_slice(&row.frames)?;
     for _ in row.frames.len()..row.payload_len {
@@ -25,40 +25,69 @@ fn plain(row: &Packet) -> Result<Vec<u8>, AllocError> {
     Ok(packet)
 }
 
-/// Asserts that sealing and protecting the header yield the protected packet.
-fn sends(rt: &impl Abort, row: &Packet) -> Result<(), Fail> {
-    let mut key = SendKey::new(&AES_128_GCM, &row.key, row.iv, row.number)?;
-    let mut packet = plain(row)?;
+/// Creates the key of a row.
+fn key_of(row: &Packet) -> Result<PacketKey, PacketError> {
+    PacketKey::new(&AES_128_GCM, &row.key, row.iv)
+}
+
+/// Returns the packet of a row before its header is protected.
+fn unprotected(row: &Packet) -> Result<Vec<u8>, Fail> {
+    let mut packet = row.protected.clone()?;
+    HeaderKey::new(&quic::AES_128, &row.header_key)?.unprotect(&mut packet, row.number_at)?;
+    Ok(packet)
+}
+
+// Header, payload and tag in one slice.
+fn in_one_slice(rt: &impl Abort, row: &Packet, sealed: &[u8]) -> Result<(), Fail> {
+    let key = key_of(row)?;
+    let plain = plain(row)?;
+    let mut packet = plain.clone()?;
     packet.extend_from_slice(&[0; 16])?;
-    let number = key.seal(&mut packet, row.number_at..row.header.len())?;
-    equal(rt, &number, &row.number);
-    HeaderKey::new(&quic::AES_128, &row.header_key)?.protect(&mut packet, row.number_at)?;
-    same(rt, &packet, &row.protected, row.name);
+    key.seal(row.number, &mut packet, row.header.len())?;
+    same(rt, &packet, sealed, row.name);
+    let len = key.open(row.number, &mut packet, row.header.len())?;
+    equal(rt, &len, &row.payload_len);
+    holds(rt, packet.starts_with(&plain), row.name);
     Ok(())
 }
 
-/// Unprotects the header of a packet.
-fn unprotect(row: &Packet, packet: &mut [u8]) -> Result<usize, PacketError> {
-    HeaderKey::new(&quic::AES_128, &row.header_key)?.unprotect(packet, row.number_at)
+// Header, payload and tag apart.
+fn apart(rt: &impl Abort, row: &Packet, plain: &[u8], sealed: &[u8]) -> Result<(), Fail> {
+    let key = key_of(row)?;
+    let (ciphertext, tag) = sealed.split_last_chunk::<16>().ok_or("a tag")?;
+    let mut payload = Vec::from_slice(row.header.allocator(), plain)?;
+    let made = key.seal_separate_tag(row.number, &row.header, &mut payload)?;
+    same(rt, &payload, ciphertext, row.name);
+    same(rt, made.as_ref(), tag, row.name);
+    key.open_separate_tag(row.number, &row.header, &mut payload, Tag::from(*tag))?;
+    same(rt, &payload, plain, row.name);
+    Ok(())
 }
 
-/// Opens a packet whose header is unprotected.
-fn open(row: &Packet, packet: &mut [u8]) -> Result<usize, PacketError> {
-    ReceiveKey::new(&AES_128_GCM, &row.key, row.iv)?.open(packet, row.header.len(), row.number)
+// The header apart, and the tag at the payload's end.
+fn tag_at_the_end(rt: &impl Abort, row: &Packet, plain: &[u8], sealed: &[u8]) -> Result<(), Fail> {
+    let mut payload = Vec::from_slice(row.header.allocator(), sealed)?;
+    let len = key_of(row)?.open_payload(row.number, &row.header, &mut payload)?;
+    same(rt, &payload[..len.min(payload.len())], plain, row.name);
+    Ok(())
 }
 
-/// Asserts that unprotecting the header and opening yield the header and the payload.
-fn receives(rt: &impl Abort, row: &Packet) -> Result<(), Fail> {
-    let plain = plain(row)?;
-    let mut packet = row.protected.clone()?;
-    let number_len = unprotect(row, &mut packet)?;
-    equal(
-        rt,
-        &row.number_at.checked_add(number_len),
-        &Some(row.header.len()),
-    );
-    equal(rt, &open(row, &mut packet)?, &row.payload_len);
-    holds(rt, packet.starts_with(&plain), row.name);
+// From one buffer to another.
+fn to_another(
+    rt: &impl Abort,
+    alloc: Global,
+    row: &Packet,
+    plain: &[u8],
+    sealed: &[u8],
+) -> Result<(), Fail> {
+    let key = key_of(row)?;
+    let mut out = Vec::from_slice(alloc, sealed)?;
+    out.fill(0);
+    key.seal_to(row.number, &row.header, plain, &mut out)?;
+    same(rt, &out, sealed, row.name);
+    out.truncate(plain.len());
+    key.open_to(row.number, &row.header, sealed, &mut out)?;
+    same(rt, &out, plain, row.name);
     Ok(())
 }
 
@@ -66,52 +95,102 @@ fn receives(rt: &impl Abort, row: &Packet) -> Result<(), Fail> {
 fn packets(rt: HostRuntime) -> Result<(), Fail> {
     for line in PACKETS {
         let row = Packet::parse(rt.alloc(), line)?;
-        sends(&rt, &row)?;
-        receives(&rt, &row)?;
+        let packet = unprotected(&row)?;
+        in_one_slice(&rt, &row, &packet)?;
+        let sealed = &packet[row.header.len().min(packet.len())..];
+        let whole = plain(&row)?;
+        let payload = &whole[row.header.len().min(whole.len())..];
+        apart(&rt, &row, payload, sealed)?;
+        tag_at_the_end(&rt, &row, payload, sealed)?;
+        to_another(&rt, rt.alloc(), &row, payload, sealed)?;
     }
     Ok(())
 }
 
-/// Seals and protects a packet, then unprotects and opens it. The header and the payload are then as before. Fails if and
-/// only if sealing fails.
+/// Asserts that each call that seals or opens 4 bytes under this number fails with this error.
+fn refuses(rt: &impl Abort, number: u64, error: PacketError) -> Result<(), Fail> {
+    let key = PacketKey::new(&AES_128_GCM, &[1; 16], [2; 12])?;
+    let mut bytes = [7; 24];
+    holds(rt, key.open(number, &mut bytes, 4) == Err(error), "open");
+    holds(
+        rt,
+        key.open_payload(number, &[7; 4], &mut bytes[4..]) == Err(error),
+        "open_payload",
+    );
+    let tag = Tag::from([7; 16]);
+    holds(
+        rt,
+        key.open_separate_tag(number, &[7; 4], &mut bytes, tag) == Err(error),
+        "open_separate_tag",
+    );
+    holds(
+        rt,
+        key.open_to(number, &[7; 4], &[7; 40], &mut bytes) == Err(error),
+        "open_to",
+    );
+    same(rt, &bytes, &[7; 24], "the bytes");
+    Ok(())
+}
+
+// A forged packet, and a number of 2^62.
+#[test]
+fn refusals(rt: HostRuntime) -> Result<(), Fail> {
+    refuses(&rt, (1 << 62) - 1, PacketError::Refused)?;
+    refuses(&rt, 1 << 62, PacketError::NumbersEnded)
+}
+
+// The last number seals, and 2^62 is refused.
+#[test]
+fn numbers_end(rt: HostRuntime) -> Result<(), Fail> {
+    let key = PacketKey::new(&AES_128_GCM, &[1; 16], [2; 12])?;
+    let ended = Err(PacketError::NumbersEnded);
+    holds(
+        &rt,
+        key.seal((1 << 62) - 1, &mut [7; 24], 4) == Ok(()),
+        "the last number",
+    );
+    let mut bytes = [7; 24];
+    holds(&rt, key.seal(1 << 62, &mut bytes, 4) == ended, "seal");
+    holds(
+        &rt,
+        key.seal_to(1 << 62, &[7; 4], &[7; 8], &mut bytes) == ended,
+        "seal_to",
+    );
+    let made = key.seal_separate_tag(1 << 62, &[7; 4], &mut bytes);
+    holds(&rt, made.is_err(), "seal_separate_tag");
+    same(&rt, &bytes, &[7; 24], "the bytes");
+    Ok(())
+}
+
+/// Seals and protects a packet, then unprotects and opens it. The header and the payload are then as before.
 fn there_and_back(
-    sender: &mut SendKey,
-    receiver: &ReceiveKey,
+    key: &PacketKey,
     header_key: &HeaderKey,
     packet: &mut [u8],
-    number: Range<usize>,
+    number: u64,
+    place: Range<usize>,
 ) -> Result<usize, PacketError>
-    requires key { receiver.now.bytes ≡ sender.old.bytes }
-    requires iv { receiver.now.iv ≡ sender.old.iv }
-    ensures accepted { IsOk result ↔ (PacketFits number.end (length packet.old)
-        × HasNumber number.start number.end packet.old × HasSample number.start (length packet.old)
-        × IsNumber sender.old.next
-        × CarriesNumber sender.old.next number.start number.end packet.old) }
+    requires fits { PacketFits place.end (length packet.old) }
+    requires number { HasNumber place.start place.end packet.old }
+    requires sample { HasSample place.start (length packet.old) }
     ensures comes_back { OnOk result (take (length packet.old - 16) packet.new
         ≡ take (length packet.old - 16) packet.old) }
 {
-    let number_at = number.start;
-    laws::packet_comes_back(sender, receiver, header_key, packet, number_at, number.end);
-    let number = sender.seal(packet, number)?;
+    let number_at = place.start;
+    laws::packet_comes_back(key, key, header_key, number, packet, number_at, place.end);
+    key.seal(number, packet, place.end)?;
     header_key.protect(packet, number_at)?;
     let number_len = header_key.unprotect(packet, number_at)?;
-    receiver.open(packet, number_at + number_len, number)
+    key.open(number, packet, number_at + number_len)
 }
 
 /// Asserts that a packet with this first byte and header length makes the round trip with AES-256-GCM.
 fn comes_back(rt: &impl Abort, first: u8, header_len: usize) -> Result<(), Fail> {
-    let mut sender = SendKey::new(&AES_256_GCM, &[1; 32], [2; 12], 0x0707_0707)?;
-    let receiver = ReceiveKey::new(&AES_256_GCM, &[1; 32], [2; 12])?;
+    let key = PacketKey::new(&AES_256_GCM, &[1; 32], [2; 12])?;
     let header_key = HeaderKey::new(&quic::AES_256, &[3; 32])?;
     let mut packet = [7; 40];
     packet[0] = first;
-    let payload_len = there_and_back(
-        &mut sender,
-        &receiver,
-        &header_key,
-        &mut packet,
-        9..header_len,
-    )?;
+    let payload_len = there_and_back(&key, &header_key, &mut packet, 0x0707_0707, 9..header_len)?;
     equal(rt, &payload_len.checked_add(header_len), &Some(24));
     equal(rt, &packet[0], &first);
     same(rt, &packet[1..24], &[7; 23], "came back");
@@ -137,39 +216,4 @@ fn chacha20_header(rt: HostRuntime) -> Result<(), Fail> {
     holds(&rt, key.unprotect(&mut packet, 1) == Ok(3), "the length");
     same(&rt, &packet, &A_5_SEALED, "unprotected");
     Ok(())
-}
-
-/// Asserts the result of sealing a packet of `len` bytes, with a short header and packet number 7 in one byte.
-fn seals(rt: &impl Abort, key: &mut SendKey, len: usize, wanted: Result<u64, PacketError>) {
-    let mut packet = [7; 21];
-    packet[0] = 0x40;
-    let sealed = key.seal(&mut packet[..len.min(21)], 1..2);
-    holds(rt, sealed == wanted, "sealed");
-}
-
-/// Asserts the result of skipping to a number.
-fn skips_to(rt: &impl Abort, key: &mut SendKey, number: u64, wanted: Result<(), PacketError>) {
-    holds(rt, key.skip_to(number) == wanted, "skipped");
-}
-
-// A packet that is too short for a sample uses no packet number, and numbers are only skipped forward.
-#[test]
-fn skips(rt: HostRuntime) -> Result<(), Fail> {
-    let mut key = SendKey::new(&AES_128_GCM, &[1; 16], [2; 12], 5)?;
-    skips_to(&rt, &mut key, 4, Err(PacketError::NumberUsed));
-    skips_to(&rt, &mut key, 5, Ok(()));
-    skips_to(&rt, &mut key, 7, Ok(()));
-    skips_to(&rt, &mut key, (1 << 62) + 1, Err(PacketError::NumbersEnded));
-    seals(&rt, &mut key, 20, Err(PacketError::NoSample));
-    seals(&rt, &mut key, 21, Ok(7));
-    skips_to(&rt, &mut key, 1 << 62, Ok(()));
-    seals(&rt, &mut key, 21, Err(PacketError::NumbersEnded));
-    Ok(())
-}
-
-/// The keys of a receiver.
-#[derive(Drop)]
-struct Receiver {
-    header: HeaderKey,
-    payload: ReceiveKey,
 }

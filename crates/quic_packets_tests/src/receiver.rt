@@ -5,7 +5,10 @@ use crate::checks::{equal, holds, same};
 use crate::rows::{IV as ROW_IV, ROWS, Row};
 use aead_ciphers::aead::{AES_128_GCM, quic};
 use aead_vectors::rfc_9001::{PACKETS, Packet};
-use quic_packets::{Failures, HeaderKey, PacketError, Received, Receiver, SendKey, Space, Suite};
+use quic_packets::{
+    Failures, HeaderKey, Packet as Parts, PacketError, PacketKey, PacketType, Received, Receiver,
+    Space, Suite,
+};
 use std::alloc::Global;
 use std::process::Abort;
 use std::test::Fail;
@@ -26,7 +29,7 @@ fn sent(key: u8, first: u8, number: u16) -> Result<[u8; 40], PacketError> {
     let [high, low] = number.to_be_bytes();
     packet[9] = high;
     packet[10] = low;
-    SendKey::new(&AES_128_GCM, &[key; 16], IV, u64::from(number))?.seal(&mut packet, 9..11)?;
+    PacketKey::new(&AES_128_GCM, &[key; 16], IV)?.seal(u64::from(number), &mut packet, 11)?;
     HeaderKey::new(&quic::AES_128, &HEADER_KEY)?.protect(&mut packet, 9)?;
     Ok(packet)
 }
@@ -63,13 +66,35 @@ impl End {
         End {
             receiver,
             space: Space::new(),
-            failures: Failures::with_limit(max_failures),
+            failures: Failures::new().with_limit(max_failures),
         }
     }
 
     fn receive(&mut self, packet: &mut [u8], number_at: usize) -> Result<Received, PacketError> {
+        let end = packet.len();
+        self.receive_part(packet, 0, Some(number_at), end)
+    }
+
+    /// Receives the packet between two positions of a datagram.
+    fn receive_part(
+        &mut self,
+        datagram: &mut [u8],
+        start: usize,
+        number_at: Option<usize>,
+        end: usize,
+    ) -> Result<Received, PacketError> {
+        let parts = Parts {
+            start,
+            packet_type: PacketType::OneRtt,
+            version: None,
+            destination_id: 1..1,
+            source_id: 1..1,
+            token: 1..1,
+            number_at,
+            end,
+        };
         self.receiver
-            .receive(&mut self.space, &mut self.failures, packet, number_at)
+            .receive(&mut self.space, &mut self.failures, datagram, &parts)
     }
 
     /// Receives such a packet, and returns its number or the error.
@@ -111,8 +136,7 @@ fn receives(rt: &impl Abort, row: &Packet) -> Result<(), Fail> {
     let received = End::new(receiver, 1).receive(&mut packet, row.number_at)?;
     let wanted = Received {
         number: row.number,
-        header_len: row.header.len(),
-        payload_len: row.payload_len,
+        payload: row.header.len()..row.header.len().saturating_add(row.payload_len),
         phase: false,
     };
     holds(rt, received == wanted, row.name);
@@ -278,6 +302,36 @@ fn rejects_zeros(
 fn too_short(rt: HostRuntime) -> Result<(), Fail> {
     rejects_zeros(&rt, &mut [0; 28], 9, PacketError::NoSample)?;
     rejects_zeros(&rt, &mut [0; 40], 0, PacketError::NumberAtFirstByte)
+}
+
+/// A start, the position of the number and an end of a packet in a datagram of 44 bytes, and the error.
+const OTHER_PARTS: [(usize, Option<usize>, usize, PacketError); 7] = [
+    (2, Some(11), 45, PacketError::PastEnd),
+    (2, None, 42, PacketError::NoNumber),
+    (2, Some(2), 42, PacketError::NumberAtFirstByte),
+    (2, Some(1), 42, PacketError::NumberAtFirstByte),
+    (2, Some(23), 42, PacketError::NoSample),
+    (2, Some(11), 41, PacketError::Refused),
+    (2, Some(11), 43, PacketError::Refused),
+];
+
+// A packet in a datagram, by its parts and by others.
+#[test]
+fn parts(rt: HostRuntime) -> Result<(), Fail> {
+    let mut end = End::new(receiver(1)?, 9);
+    let mut datagram = [6; 44];
+    datagram[2..42].copy_from_slice(&sent(1, FIRST, 3)?);
+    let before = datagram;
+    for (start, number_at, to, error) in OTHER_PARTS {
+        let found = end.receive_part(&mut datagram, start, number_at, to);
+        holds(&rt, found == Err(error), "the error");
+        same(&rt, &datagram, &before, "refused");
+    }
+    let received = end.receive_part(&mut datagram, 2, Some(11), 42)?;
+    equal(&rt, &received.payload, &(13..26));
+    same(&rt, &datagram[13..26], &[7; 13], "the payload");
+    same(&rt, &datagram[42..], &[6; 2], "after the packet");
+    Ok(())
 }
 
 // A key of the wrong length, and a key of the wrong length for the next phase.

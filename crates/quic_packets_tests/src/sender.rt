@@ -1,8 +1,10 @@
-//! Tests of `quic_packets::Sender`: packets of another implementation, each error, skipped numbers, limits and key updates.
+//! Tests of `quic_packets::Sender`: packets of RFC 9001 appendix A and of another implementation, each error, skipped numbers, limits and key updates.
 
 use crate::checks::{equal, holds, same};
+use crate::keys::plain;
 use crate::rows::{HEADER_KEY, IV, KEY, ROWS, Row};
-use quic_packets::{HeaderKey, PacketError, ReceiveKey, Sender, Suite};
+use aead_vectors::rfc_9001::{PACKETS, Packet};
+use quic_packets::{HeaderKey, PacketError, PacketKey, Sender, Suite};
 use std::alloc::Global;
 use std::ops::Range;
 use std::process::Abort;
@@ -24,6 +26,9 @@ fn before(rt: &impl Abort, alloc: Global, row: &Row) -> Result<Vec<u8>, Fail> {
 /// Creates the sender of the row's packet.
 fn sender_of(row: &Row) -> Result<Sender, PacketError> {
     let mut sender = Sender::new(row.suite, row.key(), IV, row.header_key(), row.number)?;
+    if let Some(number) = row.acknowledged {
+        sender.acknowledged(number)?;
+    }
     if row.phase {
         sender.follow_update(row.key(), IV)?;
     }
@@ -32,11 +37,9 @@ fn sender_of(row: &Row) -> Result<Sender, PacketError> {
 
 /// Sends the row's packet, and returns its number.
 fn send(sender: &mut Sender, packet: &mut [u8], row: &Row) -> Result<u64, PacketError> {
-    let len = sender
-        .next_number_len(row.acknowledged)
-        .ok_or(PacketError::NumberTooFar)?;
+    let len = sender.next_number_len().ok_or(PacketError::NumberTooFar)?;
     let end = row.number_at.saturating_add(len);
-    sender.send(packet, row.number_at..end, row.acknowledged)
+    sender.send(packet, row.number_at..end)
 }
 
 /// Asserts that `send` yields the row's packet, which is from the other implementation.
@@ -55,6 +58,26 @@ fn sends(rt: &impl Abort, alloc: Global, row: &Row) -> Result<(), Fail> {
 fn packets_of_another_implementation(rt: HostRuntime) -> Result<(), Fail> {
     for row in ROWS {
         sends(&rt, rt.alloc(), &row)?;
+    }
+    Ok(())
+}
+
+// A.2 has its number 2 in four bytes, where one would do.
+#[test]
+fn appendix_a(rt: HostRuntime) -> Result<(), Fail> {
+    for line in PACKETS {
+        let row = Packet::parse(rt.alloc(), line)?;
+        let mut sender = Sender::new(
+            Suite::Aes128Gcm,
+            &row.key,
+            row.iv,
+            &row.header_key,
+            row.number,
+        )?;
+        let mut packet = plain(&row)?;
+        packet.extend_from_slice(&[0; 16])?;
+        sender.send(&mut packet, row.number_at..row.header.len())?;
+        same(&rt, &packet, &row.protected, row.name);
     }
     Ok(())
 }
@@ -89,11 +112,7 @@ fn refuses(
 ) {
     let mut sent = *packet;
     let before = (sender.next_number(), sender.sealed());
-    holds(
-        rt,
-        sender.send(&mut sent, room, None) == Err(wanted),
-        "the error",
-    );
+    holds(rt, sender.send(&mut sent, room) == Err(wanted), "the error");
     let after = (sender.next_number(), sender.sealed());
     holds(rt, after == before, "the numbers");
     same(rt, &sent, packet, "refused");
@@ -104,7 +123,7 @@ const REFUSALS: [(u8, u8, usize, usize, PacketError); 7] = [
     (0x40, 0, 8, 9, PacketError::TooShort),
     (0x40, 0, 0, 1, PacketError::NumberAtFirstByte),
     (0x40, 0, 5, 6, PacketError::NoSample),
-    (0x40, 0, 1, 3, PacketError::NumberLength),
+    (0x40, 0, 1, 6, PacketError::NumberLength),
     (0x40, 0, 2, 1, PacketError::NumberLength),
     (0xf0, 1, 1, 2, PacketError::NoProtection),
     (0xc0, 0, 1, 2, PacketError::NoProtection),
@@ -124,7 +143,7 @@ fn refusals(rt: HostRuntime) -> Result<(), Fail> {
 fn shortest(rt: HostRuntime) -> Result<(), Fail> {
     let mut sender = sender(0)?;
     for (number, first) in [(0, 0x40), (1, 0xe0)] {
-        let sent = sender.send(&mut packet(first, 1), 4..5, None);
+        let sent = sender.send(&mut packet(first, 1), 4..5);
         holds(&rt, sent == Ok(number), "sent");
     }
     Ok(())
@@ -155,12 +174,14 @@ enum Event {
     Confirmed,
     Skipped(u64),
     Acknowledged(u64),
+    /// The peer acknowledges a number that is not below the next one.
+    NeverSent(u64),
     /// Initiates an update to a key of this byte and length.
     Initiated(u8, usize, Result<(), PacketError>),
     Followed(u8, usize, Result<(), PacketError>),
 }
 
-use Event::{Acknowledged, Confirmed, Followed, Initiated, Refused, Sent, Skipped};
+use Event::{Acknowledged, Confirmed, Followed, Initiated, NeverSent, Refused, Sent, Skipped};
 
 /// Asserts that the packet opens with this key, and has this number and key phase.
 fn opens(
@@ -174,8 +195,8 @@ fn opens(
     equal(rt, &header_key.unprotect(&mut packet, 1), &Ok(1));
     let header = [if phase { 0x44 } else { 0x40 }, number.to_le_bytes()[0]];
     same(rt, &packet[..2], &header, "header");
-    let key = ReceiveKey::new(Suite::Aes128Gcm.algorithm(), &[key; 16], IV)?;
-    equal(rt, &key.open(&mut packet, 2, number), &Ok(6));
+    let key = PacketKey::new(Suite::Aes128Gcm.algorithm(), &[key; 16], IV)?;
+    equal(rt, &key.open(number, &mut packet, 2), &Ok(6));
     same(rt, &packet[2..8], &SHORT[2..8], "payload");
     Ok(())
 }
@@ -187,7 +208,7 @@ fn sends_under(
     phase: bool,
 ) -> Result<(), PacketError> {
     let mut packet = SHORT;
-    let number = sender.send(&mut packet, 1..2, None)?;
+    let number = sender.send(&mut packet, 1..2)?;
     opens(rt, packet, key, number, phase)
 }
 
@@ -197,7 +218,11 @@ fn meets(rt: &impl Abort, sender: &mut Sender, event: Event) -> Result<(), Packe
         Refused(error) => refuses(rt, sender, &SHORT, 1..2, error),
         Confirmed => sender.confirm_handshake(),
         Skipped(number) => sender.skip_to(number)?,
-        Acknowledged(number) => sender.acknowledged(number),
+        Acknowledged(number) => sender.acknowledged(number)?,
+        NeverSent(number) => {
+            let outcome = sender.acknowledged(number);
+            equal(rt, &outcome, &Err(PacketError::NeverSent));
+        }
         Initiated(key, len, outcome) => {
             equal(
                 rt,
@@ -217,7 +242,7 @@ fn meets(rt: &impl Abort, sender: &mut Sender, event: Event) -> Result<(), Packe
 }
 
 /// At most two packets under each key. The limit applies anew after a key update, and the numbers continue.
-const LIMITS_AND_UPDATES: [Event; 16] = [
+const LIMITS_AND_UPDATES: [Event; 17] = [
     Sent(1, false),
     Sent(1, false),
     Refused(PacketError::KeyUsedUp),
@@ -227,7 +252,8 @@ const LIMITS_AND_UPDATES: [Event; 16] = [
     Initiated(2, 16, Ok(())),
     Sent(2, true),
     Acknowledged(1),
-    Acknowledged(3),
+    NeverSent(3),
+    NeverSent(1 << 61),
     Initiated(3, 16, Err(PacketError::PhaseUnacknowledged)),
     Acknowledged(2),
     Initiated(3, 16, Ok(())),
@@ -255,7 +281,7 @@ const SKIPS: [Event; 31] = [
     Initiated(3, 16, Err(PacketError::PhaseUnacknowledged)),
     Sent(2, true),
     Acknowledged(49),
-    Acknowledged(51),
+    NeverSent(51),
     Initiated(3, 16, Err(PacketError::PhaseUnacknowledged)),
     Acknowledged(50),
     Initiated(3, 16, Ok(())),
@@ -290,6 +316,22 @@ fn skips_and_updates(rt: HostRuntime) -> Result<(), Fail> {
     Ok(())
 }
 
+// Acknowledgments keep the numbers of a sender short. The largest one counts, over key updates and installed keys.
+#[test]
+fn short_numbers(rt: HostRuntime) -> Result<(), Fail> {
+    let mut sender = sender(1 << 40)?;
+    equal(&rt, &sender.next_number_len(), &None);
+    sender.acknowledged((1 << 40) - 1)?;
+    sender.acknowledged(5)?;
+    sender.send(&mut packet(0x40, 0), 1..2)?;
+    sender.follow_update(&[2; 16], IV)?;
+    sender.send(&mut packet(0x40, 0), 1..2)?;
+    install_keys(&mut sender, 32)?;
+    equal(&rt, &sender.next_number_len(), &Some(1));
+    equal(&rt, &sender.largest_acknowledged(), &Some((1 << 40) - 1));
+    Ok(())
+}
+
 /// Turns a sender of 0-RTT packets into one of 1-RTT packets.
 fn install_keys(sender: &mut Sender, header_key_len: usize) -> Result<(), PacketError> {
     sender.install_keys(
@@ -304,7 +346,7 @@ fn install_keys(sender: &mut Sender, header_key_len: usize) -> Result<(), Packet
 #[test]
 fn numbers_go_on(rt: HostRuntime) -> Result<(), Fail> {
     let mut sender = sender(0)?.with_limit(1);
-    sender.send(&mut packet(0xd0, 1), 4..5, None)?;
+    sender.send(&mut packet(0xd0, 1), 4..5)?;
     let refused = install_keys(&mut sender, 16);
     holds(
         &rt,
@@ -313,7 +355,7 @@ fn numbers_go_on(rt: HostRuntime) -> Result<(), Fail> {
     );
     refuses(&rt, &mut sender, &SHORT, 1..2, PacketError::KeyUsedUp);
     install_keys(&mut sender, 32)?;
-    let sent = sender.send(&mut packet(0x40, 0), 1..2, None);
+    let sent = sender.send(&mut packet(0x40, 0), 1..2);
     holds(&rt, sent == Ok(1), "sent");
     refuses(&rt, &mut sender, &SHORT, 1..2, PacketError::KeyUsedUp);
     Ok(())

@@ -1,11 +1,11 @@
 -- Reading undoes writing, and no number comes twice under a key.
-use Rattle.std.proofs.Common.{◌≡◌, ℕ, zero, suc, ◌+◌, ◌-◌, ◌<◌, ◌≤◌, List, [], ◌∷◌, length, get_or, false, true, map, refl, ap₂, ◌∙◌, arith, rules, Ok, Err}
+use Rattle.std.proofs.Common.{◌≡◌, ℕ, zero, suc, ◌+◌, ◌-◌, ◌<◌, ◌≤◌, min, List, [], ◌∷◌, length, get_or, false, true, map, refl, ap₂, ◌∙◌, arith, rules, Ok, Err}
 use Rattle.std.specs.Prelude.{All, AllPairs}
 use Rattle.aead_ciphers.specs.Runs.{Runs}
 use Rattle.records.specs
 use specs.Keys.{KeyState, ReaderState, WriterState, rekeyed}
 use specs.Record.{Carries, Inner}
-use specs.Runs.{Answer, Event, Follows, ReadStep, WriteStep, WriterRuns, as_asked, carries, ends, rekeys, resizes, seals, updates}
+use specs.Runs.{Answer, Event, Follows, ReadStep, WriteStep, WriterRuns, as_asked, carries, ends, lowers, rekeys, resizes, seals, updates}
 use specs.Steps.{Reads, Writes}
 use Rattle.records.proofs.RecordLemmas.{same_content}
 
@@ -103,10 +103,17 @@ one_more : (from limit : ℕ) (ns : List ℕ) (later : List (List ℕ)) → from
     → RisingByKey from limit ((from ∷ ns) ∷ later)
 one_more from limit ns later lt h = ((omega arith, h.0), omega (arith, h.1), h.2)
 
+-- the same below a higher limit
+looser : (from low high : ℕ) (by_key : List (List ℕ)) → low ≤ high → RisingByKey from low by_key → RisingByKey from high by_key
+looser from low high [] le h = tt
+looser from low high (ns ∷ later) le h = (h.0, omega (arith, h.1), looser 0 low high later le h.2)
+
 rise : (s t : WriterState) (by_key : List (List ℕ)) → WriterRuns s t by_key → RisingByKey s.number s.limit by_key
 rise s t by_key (ends x) = (tt, omega arith, tt)
 rise s t by_key (seals x y ns later lt rest) = one_more x.number x.limit ns later lt (rise (record x { number = x.number + 1 }) y (ns ∷ later) rest)
 rise s t by_key (resizes x y ks size_limit rest) = rise (record x { key = record x.key { size_limit = size_limit } }) y ks rest
+rise s t by_key (lowers x y ks limit rest) =
+    looser x.number (min x.limit limit) x.limit ks (omega arith) (rise (record x { limit = min x.limit limit }) y ks rest)
 rise s t by_key (rekeys x y ks key iv rest) = (tt, omega arith, rise (record x { key = rekeyed x.key key iv; number = 0 }) y ks rest)
 
 each_rises : (from limit : ℕ) (by_key : List (List ℕ)) (k : ℕ) (d : List ℕ) → RisingByKey from limit by_key → k < length by_key

@@ -1,5 +1,5 @@
 -- Runs of a writer and of a reader, over key updates (RFC 8446 sections 4.6.3, 5.3 and 7.2).
-use Rattle.std.specs.Prelude.{◌≡◌, ℕ, ◌+◌, ◌<◌, ◌≤◌, IsFalse, List, [], ◌∷◌, Result, Ok}
+use Rattle.std.specs.Prelude.{◌≡◌, ℕ, ◌+◌, ◌<◌, ◌≤◌, IsFalse, min, List, [], ◌∷◌, Result, Ok}
 use Rattle.records.specs.Keys.{ReaderState, WriterState, rekeyed}
 use Rattle.records.specs.Record.{Inner}
 use Rattle.records.specs.Steps.{Reads, Writes}
@@ -50,5 +50,7 @@ pub data WriterRuns : WriterState → WriterState → List (List ℕ) → Type 0
       → WriterRuns (record s { number = s.number + 1 }) t (numbers ∷ later) → WriterRuns s t ((s.number ∷ numbers) ∷ later)
   resizes : (s t : WriterState) (by_key : List (List ℕ)) (size_limit : ℕ)
       → WriterRuns (record s { key = record s.key { size_limit = size_limit } }) t by_key → WriterRuns s t by_key
+  lowers : (s t : WriterState) (by_key : List (List ℕ)) (limit : ℕ)
+      → WriterRuns (record s { limit = min s.limit limit }) t by_key → WriterRuns s t by_key
   rekeys : (s t : WriterState) (by_key : List (List ℕ)) (key iv : List ℕ)
       → WriterRuns (record s { key = rekeyed s.key key iv; number = 0 }) t by_key → WriterRuns s t ([] ∷ by_key)

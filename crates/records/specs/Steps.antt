@@ -7,7 +7,7 @@ use Rattle.records.specs.Record.{Carries, Inner, IsWhole, Seals, inner_plaintext
 use Rattle.records.specs.Refusals.{RefusesBytes, RefusesToOpen, alert_of}
 use Rattle.records.specs.declared.content_type.ContentType.{ContentType}
 use Rattle.records.specs.declared.record_error.RecordError.{RecordError}
-use Rattle.records.specs.declared.record_error.RecordError.TheVariants.{Closed, EmptyContent, NoContentType, Refused, SequenceEnded}
+use Rattle.records.specs.declared.record_error.RecordError.TheVariants.{Closed, EmptyContent, KeyUsedUp, NoContentType, Refused}
 use Rattle.records.specs.declared.record_error.RecordError.TheVariants.{UnexpectedType}
 
 -- opening the record with this number returns its type and its content, or the reason why it does not open
@@ -80,7 +80,7 @@ after_error was error = record was { is_closed = was.is_closed || is_some (alert
 -- number.
 pub record Reads (was now : ReaderState) (bytes : List ℕ) (answer : Result (ContentType × List ℕ) RecordError) : Type 0 where
   pub closed : IsTrue was.is_closed → IsErrOf answer Closed
-  pub ended : IsFalse was.is_closed → was.limit ≤ was.number → IsErrOf answer SequenceEnded
+  pub ended : IsFalse was.is_closed → was.limit ≤ was.number → IsErrOf answer KeyUsedUp
   pub opens : IsFalse was.is_closed → was.number < was.limit → Opens was.key was.number bytes answer
   pub counted : OnOk answer (now ≡ record was { number = was.number + 1 })
   pub stands : IfErr answer (λ error. now ≡ after_error was error)

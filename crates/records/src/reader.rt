@@ -1,6 +1,6 @@
 //! Reading records.
 
-ghost use Rattle.std.specs.Prelude.{◌≡◌, ◌≢◌, ◌+◌, ◌-◌, ◌^◌, ◌≤◌, ◌↔◌, length, slice_range, IsTrue, IsFalse, IsOk, IfOk, IsOkUnless, IsErrOf, IfErr, OnOk, OnErr, false};
+ghost use Rattle.std.specs.Prelude.{◌≡◌, ◌≢◌, ◌+◌, ◌-◌, ◌^◌, ◌≤◌, ◌↔◌, min, length, slice_range, IsTrue, IsFalse, IsOk, IfOk, IsOkUnless, IsErrOf, IfErr, OnOk, OnErr, false};
 ghost use Rattle.aead_ciphers.specs.Algorithm.{key_len};
 ghost use Rattle.records.specs.Keys.{new_key, rekeyed};
 ghost use Rattle.records.specs.Steps.{content_at, lent_content, after_error, LeavesInner, LeavesRefused, Reads};
@@ -70,31 +70,20 @@ impl Reader {
           is_closed = false;
         }) }
     {
-        Self::with_limit(algorithm, key, iv, DEFAULT_LIMIT)
-    }
-
-    /// Creates a reader like `new`, with a limit of `limit` records under each key.
-    pub fn with_limit(
-        algorithm: &'static Algorithm,
-        key: &[u8],
-        iv: [u8; NONCE_LEN],
-        limit: u64,
-    ) -> Result<Self, RecordError>
-        ensures accepted { IsOk result ↔ (length key.now ≡ key_len algorithm.now) }
-        ensures refused { IsOkUnless result RecordError.KeyLength }
-        ensures made { IfOk result (λ made. made ≡ record {
-          key = new_key algorithm.now key.now iv;
-          number = 0;
-          limit = limit;
-          is_closed = false;
-        }) }
-    {
         Ok(Reader {
             key: RecordKey::new(algorithm, key, iv)?,
             number: 0,
-            limit,
+            limit: DEFAULT_LIMIT,
             is_closed: false,
         })
+    }
+
+    /// Lowers the number of records under each key to `limit`. A higher limit has no effect.
+    pub fn with_limit(mut self, limit: u64) -> Self
+        ensures { result ≡ record self { limit = min self.limit limit } }
+    {
+        self.limit = self.limit.min(limit);
+        self
     }
 
     /// Sets the number of the next record, for a reader that takes over from another one. The records before it count towards
@@ -204,7 +193,7 @@ impl Reader {
             return Err(RecordError::Closed);
         }
         if self.number >= self.limit {
-            return Err(RecordError::SequenceEnded);
+            return Err(RecordError::KeyUsedUp);
         }
         match self.key.open_to(self.number, bytes, filled, at, end) {
             Ok(read) => {

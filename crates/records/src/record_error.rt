@@ -37,7 +37,7 @@ pub enum RecordError {
     OutOfMemory,
     /// The limit on records under this key is reached (RFC 8446 section 5.5).
     #[error("the limit of records under this key is reached")]
-    SequenceEnded,
+    KeyUsedUp,
     /// The reader has rejected a record before, which ended the connection.
     #[error("the reader is closed, since it has rejected a record")]
     Closed,

@@ -1,6 +1,6 @@
 //! Writing records.
 
-ghost use Rattle.std.specs.Prelude.{◌≡◌, ◌+◌, ◌-◌, ◌^◌, ◌<◌, ◌≤◌, ◌↔◌, ◌++◌, length, drop, replicate, slice_range, vec_len, vec_capacity, IsOk, IfOk, IsOkUnless, OnOk, IfErr, OnErr, IsErrOf};
+ghost use Rattle.std.specs.Prelude.{◌≡◌, ◌+◌, ◌-◌, ◌^◌, ◌<◌, ◌≤◌, ◌↔◌, ◌++◌, min, length, drop, replicate, slice_range, vec_len, vec_capacity, IsOk, IfOk, IsOkUnless, OnOk, IfErr, OnErr, IsErrOf};
 ghost use Rattle.aead_ciphers.specs.Algorithm.{key_len};
 ghost use Rattle.records.specs.Keys.{new_key, rekeyed};
 ghost use Rattle.records.specs.Record.{IsAllowed, record_at};
@@ -65,30 +65,19 @@ impl Writer {
           limit = 2 ^ 24;
         }) }
     {
-        Self::with_limit(algorithm, key, iv, DEFAULT_LIMIT)
-    }
-
-    /// Creates a writer like `new`, with a limit of `limit` records under each key. More than 2^24.5 exceed the margin of RFC
-    /// 8446 section 5.5.
-    pub fn with_limit(
-        algorithm: &'static Algorithm,
-        key: &[u8],
-        iv: [u8; NONCE_LEN],
-        limit: u64,
-    ) -> Result<Self, RecordError>
-        ensures accepted { IsOk result ↔ (length key.now ≡ key_len algorithm.now) }
-        ensures refused { IsOkUnless result RecordError.KeyLength }
-        ensures made { IfOk result (λ made. made ≡ record {
-          key = new_key algorithm.now key.now iv;
-          number = 0;
-          limit = limit;
-        }) }
-    {
         Ok(Writer {
             key: RecordKey::new(algorithm, key, iv)?,
             number: 0,
-            limit,
+            limit: DEFAULT_LIMIT,
         })
+    }
+
+    /// Lowers the number of records under each key to `limit`. A higher limit has no effect.
+    pub fn with_limit(mut self, limit: u64) -> Self
+        ensures { result ≡ record self { limit = min self.limit limit } }
+    {
+        self.limit = self.limit.min(limit);
+        self
     }
 
     /// Returns the number of the next record, which is the number of records written under this key.
@@ -156,7 +145,7 @@ impl Writer {
             × IsAllowed self.old.key.size_limit content_type content_len padding
             × (content_len + padding + 22 ≤ length bytes.old)) }
         ensures ended { self.old.limit ≤ self.old.number
-            → IsErrOf result RecordError.SequenceEnded }
+            → IsErrOf result RecordError.KeyUsedUp }
         ensures refused { self.old.number < self.old.limit → IfErr result (RefusesToSeal
             self.old.key.size_limit content_type content_len padding (length bytes.old)) }
         ensures len { IfOk result (λ n. n ≡ content_len + padding + 22) }
@@ -171,7 +160,7 @@ impl Writer {
         ensures unchanged { OnErr result (self.new ≡ self.old) }
     {
         if self.number >= self.limit {
-            return Err(RecordError::SequenceEnded);
+            return Err(RecordError::KeyUsedUp);
         }
         let len = self
             .key
@@ -195,7 +184,7 @@ impl Writer {
         ensures accepted { OnOk result ((self.old.number < self.old.limit)
             × IsAllowed self.old.key.size_limit content_type (length content.now) padding) }
         ensures ended { self.old.limit ≤ self.old.number
-            → IsErrOf result RecordError.SequenceEnded }
+            → IsErrOf result RecordError.KeyUsedUp }
         ensures refused { self.old.number < self.old.limit
             → ¬ IsAllowed self.old.key.size_limit content_type (length content.now) padding
             → IfErr result (RefusesContent
@@ -213,7 +202,7 @@ impl Writer {
         ensures kept { OnErr result ((self.new ≡ self.old) × (out.new.items ≡ out.old.items)) }
     {
         if self.number >= self.limit {
-            return Err(RecordError::SequenceEnded);
+            return Err(RecordError::KeyUsedUp);
         }
         self.key.inner_len(content_type, content.len(), padding)?;
         let start = out.len();

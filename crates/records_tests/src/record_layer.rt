@@ -405,8 +405,8 @@ use Event::{Carried, Remaining, SizeLimits, Unread, Unwritten, Updated};
 impl Ends {
     fn new(limit: u64) -> Result<Self, RecordError> {
         Ok(Ends {
-            writer: Writer::with_limit(&AES_128_GCM, &KEY[..16], IV, limit)?,
-            reader: Reader::with_limit(&AES_128_GCM, &KEY[..16], IV, limit)?,
+            writer: Writer::new(&AES_128_GCM, &KEY[..16], IV)?.with_limit(limit),
+            reader: Reader::new(&AES_128_GCM, &KEY[..16], IV)?.with_limit(limit),
         })
     }
 
@@ -487,7 +487,7 @@ const END_OF_THE_SEQUENCE: [Event; 7] = [
     Carried(3, 0),
     Carried(3, 0),
     Remaining(0),
-    Unwritten(3, RecordError::SequenceEnded),
+    Unwritten(3, RecordError::KeyUsedUp),
     Updated,
     Remaining(2),
     Carried(3, 0),
@@ -503,7 +503,7 @@ fn the_end_of_the_sequence(rt: HostRuntime) -> Result<(), Fail> {
     happen(&rt, rt.alloc(), 2, &END_OF_THE_SEQUENCE)?;
     let mut reader = Ends::new(0)?.reader;
     let mut bytes = <[u8; 27]>::from_hex(OF_AES_128[0].record)?;
-    assert!(rt; reader.read(&mut bytes).err() == Some(RecordError::SequenceEnded));
+    assert!(rt; reader.read(&mut bytes).err() == Some(RecordError::KeyUsedUp));
     Ok(())
 }
 
@@ -628,7 +628,7 @@ const TEXTS: [(RecordError, &str, u8); 17] = [
     ),
     (RecordError::OutOfMemory, "no memory for the record", 0),
     (
-        RecordError::SequenceEnded,
+        RecordError::KeyUsedUp,
         "the limit of records under this key is reached",
         0,
     ),

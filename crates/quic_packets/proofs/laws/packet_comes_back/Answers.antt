@@ -6,4 +6,4 @@ pub returns : goal.returns
 returns c payload number sample wire back =
     let a = c.args in
     rw (← c.requires.key, ← c.requires.iv)
-    (comes_back a.receiver.now a.sender.now.next a.header_len a.packet.now payload a.header_key.now a.number_at wire back number sample)
+    (comes_back a.opening.now a.number a.header_len a.packet.now payload a.header_key.now a.number_at wire back number sample)

@@ -1,6 +1,6 @@
 use Rattle.std.proofs.Common.{◌≡◌, ◌-◌, length, drop, arith, ap, ◌∙◌, length-drop, length-take-le}
 use Rattle.quic_packets.specs.Packet.{low_bytes}
-use Rattle.quic_packets.proofs.NumberedLemmas.{carried, has_number, low_is, written}
+use Rattle.quic_packets.proofs.NumberedLemmas.{low_is, written}
 use Rattle.quic_packets.proofs.sender.write_number.Goals as goal
 use Rattle.quic_packets.proofs.sender.write_number.Goals.{After-first_byte}
 
@@ -16,23 +16,9 @@ len c =
     c.copy_from_slice.ensures.len
     ∙ length-take-le (a.header_len - a.number_at) (drop a.number_at a.packet.now) (omega (arith, length-drop a.number_at a.packet.now))
 
-pub returns-clause-numbered : goal.returns-clause-numbered
-returns-clause-numbered c =
+pub returns : goal.returns
+returns c =
     let a = c.args in
     let h = c.requires in
     rw c.first_byte.ensures
     (written a.phase a.number a.number_at a.header_len a.packet.now c.copy_from_slice.new.self (low c) (len c) h.after_first h.some h.few h.within)
-
-pub returns-clause-has_number : goal.returns-clause-has_number
-returns-clause-has_number c =
-    let a = c.args in
-    let h = c.requires in
-    rw c.first_byte.ensures
-    (has_number a.phase a.number a.number_at a.header_len a.packet.now c.copy_from_slice.new.self (low c) (len c) h.after_first h.some h.few h.within)
-
-pub returns-clause-carries : goal.returns-clause-carries
-returns-clause-carries c =
-    let a = c.args in
-    let h = c.requires in
-    rw c.first_byte.ensures
-    (carried a.phase a.number a.number_at a.header_len a.packet.now c.copy_from_slice.new.self (low c) (len c) h.after_first h.some h.few h.within)

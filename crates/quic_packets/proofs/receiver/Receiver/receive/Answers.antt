@@ -1,41 +1,33 @@
-use Rattle.std.proofs.Common.{◌≡◌, ℕ, List, Err, IsErrOf, ap, subst}
-use Rattle.quic_packets.specs.Receiving.{IsAuthentic, Opening, Outcome, Reads, Receiver}
-use Rattle.quic_packets.specs.Space.{Space}
-use Rattle.quic_packets.specs.declared.error.PacketError.{PacketError}
-use Rattle.quic_packets.specs.declared.error.PacketError.TheVariants.{Duplicate, KeyUpdate, Refused, ReservedBits, TooLong}
-use Rattle.quic_packets.specs.declared.receiver.Received.{Received}
+use Rattle.std.proofs.Common.{◌≡◌, ◌-◌, refl, sym, subst, arith, false}
+use Rattle.quic_packets.proofs.PartLemmas.{kept, outside, part_of}
+use Rattle.quic_packets.specs.Datagram.{bytes_of, number_in}
+use Rattle.quic_packets.specs.Receiving.{Outcome, Reads, is_of_opened}
 use Rattle.quic_packets.proofs.receiver.Receiver.receive.Goals as goal
 
--- an error is that of a result of any other type
-same_error : {A B : Type 0} (e f : PacketError) → IsErrOf {T = A} (Err e) f → IsErrOf {T = B} (Err e) f
-same_error e f is = let same : e ≡ f = cc in ap Err same
-
--- what comes of a packet that isn't opened
-refused : (r : Receiver) (s : Space) (at : ℕ) (plain : List ℕ) (number : ℕ) (e : PacketError) (opened : List ℕ)
-    → (IsErrOf {T = ℕ × Received} (Err e) ReservedBits → ⊥) → (IsErrOf {T = ℕ × Received} (Err e) Duplicate → ⊥)
-    → (IsErrOf {T = ℕ × Received} (Err e) KeyUpdate → ⊥) → Opening r at plain number (Err e) opened → Outcome r s at plain number (Err e) r opened
-refused r s at plain number e opened reserved duplicate turn is =
-    let none : IsAuthentic r at plain number → ⊥ = λ authentic. (let ok = is.accepted.1 authentic in cc) in
-    record {
-      too_long = (λ it. is.too_long.0 (same_error e TooLong it), λ it. same_error e TooLong (is.too_long.1 it));
-      forged = (λ it. is.forged.0 (same_error e Refused it), λ it. same_error e Refused (is.forged.1 it));
-      reserved = (λ it. absurd (reserved (same_error e ReservedBits it)), λ it. absurd (none it.0));
-      duplicate = (λ it. absurd (duplicate (same_error e Duplicate it)), λ it. absurd (none it.0));
-      out_of_turn = (λ it. absurd (turn (same_error e KeyUpdate it)), λ it. absurd (none it.0));
-      accepted = (λ it. absurd cc, λ it. absurd (none it.0));
-      opens = λ it. absurd (none it);
-      returns = tt;
-      moves_on = tt;
-    }
-
-pub returns-in-Err-clause-outcome : goal.returns-in-Err-clause-outcome
-returns-in-Err-clause-outcome c left sampled =
+pub returns-clause-outcome : goal.returns-clause-outcome
+returns-clause-outcome c left within sample =
     let a = c.args in
-    let it = c.in-Err.ensures in
-    let opening = it.opening sampled in (
-      opening.0,
-      opening.1,
-      subst (λ e. Reads a.self.now.header e a.number_at a.packet.now opening.0 opening.1) c.largest.ensures opening.2,
-      refused a.self.now a.space.now a.number_at opening.0 opening.1 c.in-Err.error c.open.new.packet it.others.1 it.others.2 it.others.3
-          opening.3,
+    let p = a.parts.now in
+    let place = c.in_ok-number_at.ensures.place in
+    let it = c.receive_packet.ensures.outcome in
+    let back = part_of p.start p.end a.datagram.now c.receive_packet.new.packet (omega (arith, sample.sampled)) within c.receive_packet.auto.packet in (
+      it.0,
+      it.1,
+      subst (λ k. Reads a.self.now.header a.space.now.next k (bytes_of p a.datagram.now) it.0 it.1) place it.2,
+      subst (λ xs. Outcome a.self.now a.space.now p.start (number_in p) it.0 it.1 c.receive_packet.result c.receive_packet.new.self xs) (sym back)
+          (subst (λ k. Outcome a.self.now a.space.now p.start k it.0 it.1 c.receive_packet.result c.receive_packet.new.self c.receive_packet.new.packet) place
+          it.3),
     )
+
+pub returns-clause-bytes_kept : goal.returns-clause-bytes_kept
+returns-clause-bytes_kept c =
+    let p = c.args.parts.now in
+    kept (λ e. is_of_opened e ≡ false) p.start (p.end - p.start) c.args.datagram.now c.receive_packet.new.packet c.receive_packet.result
+    c.receive_packet.ensures.bytes_kept
+
+pub returns-clause-outside : goal.returns-clause-outside
+returns-clause-outside c =
+    let a = c.args in
+    let fits = c.in_ok-number_at.ensures.accepted.0 refl in
+    outside a.parts.now.start a.parts.now.end a.datagram.now c.receive_packet.new.packet (omega (arith, fits.1.sampled)) fits.0
+    c.receive_packet.auto.packet

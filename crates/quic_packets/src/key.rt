@@ -1,0 +1,322 @@
+//! A key that seals and opens packets by their numbers (RFC 9001 section 5.3).
+
+ghost use Rattle.std.specs.Prelude.{◌≡◌, ◌≢◌, ◌+◌, ◌-◌, ◌^◌, ◌<◌, ◌≤◌, ◌↔◌, true, length, take, IsOk, IfOk, IfErr, IsOkUnless, IsErrOf, OnOk, OnErr};
+ghost use Rattle.aead_ciphers_base.specs.Aes.{aes};
+ghost use Rattle.aead_ciphers.specs.Algorithm.{key_len};
+ghost use Rattle.aead_ciphers.specs.Counting.{xored_nonce};
+ghost use Rattle.aead_ciphers.specs.Gcm.{Fits, Opened, OpenedAttached, gcm_decrypted, gcm_encrypted, gcm_sealed, gcm_tag};
+ghost use Rattle.aead_ciphers.specs.Packet.{OpenedPacket, PacketFits, sealed_packet};
+ghost use Rattle.quic_packets.specs.Packet.{EndsWithTag, IsGenuine, IsNumber};
+
+use crate::error::PacketError;
+use crate::packet::{NUMBERS_END, check_lengths, payload_len};
+use aead_ciphers::aead::{Aad, Algorithm, MAX_TAG_LEN, NONCE_LEN, Nonce, Tag, nonce_of};
+use aead_ciphers_wide::aead::LessSafeKey;
+use std::marker::Model;
+
+/// A key and IV of one direction, which seals and opens packets by their numbers, in any order and without allocating.
+///
+/// It keeps no count: not using a number twice for sealing is the caller's responsibility, and so is the limit of packets (RFC
+/// 9001 section 6.6). A `Sender` and a `Receiver` count. Each call has a variant for packets in one slice, for header and payload
+/// apart, and from one buffer to another.
+#[derive(Drop)]
+pub struct PacketKey {
+    key: LessSafeKey,
+    iv: [u8; NONCE_LEN],
+}
+
+impl Model for PacketKey {
+    ghost use Rattle.quic_packets.specs.Keys.{PacketKey};
+
+    ghost Value = { PacketKey };
+
+    ghost view = { λ key. record { algorithm = key.key.algorithm; bytes = key.key.bytes; iv = key.iv } };
+}
+
+impl PacketKey {
+    /// Creates a key from 16 or 32 bytes, the key length of the algorithm. `iv` is the IV of the packet protection keys (RFC
+    /// 9001 section 5.1).
+    ///
+    /// Fails with `KeyLength` if `key` is not as long.
+    pub fn new(
+        algorithm: &'static Algorithm,
+        key: &[u8],
+        iv: [u8; NONCE_LEN],
+    ) -> Result<Self, PacketError>
+        ensures accepted { IsOk result ↔ (length key.now ≡ key_len algorithm.now) }
+        ensures refused { IsOkUnless result PacketError.KeyLength }
+        ensures made { IfOk result (λ made. made
+            ≡ record { algorithm = algorithm.now; bytes = key.now; iv = iv }) }
+    {
+        match LessSafeKey::new(algorithm, key) {
+            Ok(key) => Ok(PacketKey { key, iv }),
+            Err(_) => Err(PacketError::KeyLength),
+        }
+    }
+
+    /// Returns the key's algorithm.
+    pub fn algorithm(&self) -> &'static Algorithm
+        ensures { result.now ≡ self.now.algorithm }
+    {
+        self.key.algorithm()
+    }
+
+    /// Seals the packet with this number in place: a header of `header_len` bytes, the payload, and 16 bytes for the tag.
+    ///
+    /// The header is left unmasked, for `HeaderKey::protect`.
+    ///
+    /// Fails with `TooShort` if the packet has fewer than `header_len + 16` bytes, with `TooLong` if it is longer than AES-GCM
+    /// allows, and with `NumbersEnded` if `number` is 2^62 or more. The packet is then unchanged.
+    pub fn seal(&self, number: u64, packet: &mut [u8], header_len: usize) -> Result<(), PacketError>
+        ensures accepted { IsOk result ↔ (PacketFits header_len (length packet.old) × IsNumber number) }
+        ensures too_short { IsErrOf result PacketError.TooShort ↔ (length packet.old < header_len + 16) }
+        ensures too_long { IsErrOf result PacketError.TooLong ↔ ((header_len + 16 ≤ length packet.old)
+            × ¬ Fits header_len (length packet.old - 16 - header_len)) }
+        ensures ended { IsErrOf result PacketError.NumbersEnded
+            ↔ (PacketFits header_len (length packet.old) × (2 ^ 62 ≤ number)) }
+        ensures sealed { OnOk result (packet.new
+            ≡ sealed_packet self.now.bytes (xored_nonce self.now.iv number) header_len packet.old) }
+        ensures kept { OnErr result (packet.new ≡ packet.old) }
+    {
+        payload_len(packet, header_len)?;
+        let nonce = self.nonce(number)?;
+        match self.key.seal_packet_in_place(nonce, packet, header_len) {
+            Ok(()) => Ok(()),
+            Err(_) => unreachable!(),
+        }
+    }
+
+    /// Like `seal` for a payload apart from its header, and returns the tag.
+    ///
+    /// Fails with `TooLong` and `NumbersEnded` as `seal` does. The payload is then unchanged.
+    pub fn seal_separate_tag(
+        &self,
+        number: u64,
+        header: &[u8],
+        payload: &mut [u8],
+    ) -> Result<Tag, PacketError>
+        ensures accepted { IsOk result ↔ (Fits (length header.now) (length payload.old) × IsNumber number) }
+        ensures too_long { IsErrOf result PacketError.TooLong ↔ ¬ Fits (length header.now) (length payload.old) }
+        ensures ended { IsErrOf result PacketError.NumbersEnded
+            ↔ (Fits (length header.now) (length payload.old) × (2 ^ 62 ≤ number)) }
+        ensures ciphertext { OnOk result (payload.new
+            ≡ gcm_encrypted (aes self.now.bytes) (xored_nonce self.now.iv number) payload.old) }
+        ensures tag { IfOk result (λ tag. tag ≡ gcm_tag (aes self.now.bytes) (xored_nonce self.now.iv number)
+            header.now payload.new) }
+        ensures kept { OnErr result (payload.new ≡ payload.old) }
+    {
+        check_lengths(header.len(), payload.len())?;
+        let nonce = self.nonce(number)?;
+        match self
+            .key
+            .seal_in_place_separate_tag(nonce, Aad::from(header), payload)
+        {
+            Ok(tag) => Ok(tag),
+            Err(_) => unreachable!(),
+        }
+    }
+
+    /// Like `seal` from one buffer to another: writes the ciphertext and its tag to `out`, which has 16 bytes more than the
+    /// payload.
+    ///
+    /// Fails with `OutputLength` if `out` does not have that length, and with `TooLong` and `NumbersEnded` as `seal` does. `out`
+    /// is then unchanged.
+    pub fn seal_to(
+        &self,
+        number: u64,
+        header: &[u8],
+        payload: &[u8],
+        out: &mut [u8],
+    ) -> Result<(), PacketError>
+        ensures accepted { IsOk result ↔ ((length out.old ≡ length payload.now + 16)
+            × Fits (length header.now) (length payload.now) × IsNumber number) }
+        ensures output { IsErrOf result PacketError.OutputLength ↔ (length out.old ≢ length payload.now + 16) }
+        ensures too_long { IsErrOf result PacketError.TooLong ↔ ((length out.old ≡ length payload.now + 16)
+            × ¬ Fits (length header.now) (length payload.now)) }
+        ensures ended { IsErrOf result PacketError.NumbersEnded ↔ ((length out.old ≡ length payload.now + 16)
+            × Fits (length header.now) (length payload.now) × (2 ^ 62 ≤ number)) }
+        ensures sealed { OnOk result (out.new ≡ gcm_sealed (aes self.now.bytes) (xored_nonce self.now.iv number)
+            header.now payload.now) }
+        ensures kept { OnErr result (out.new ≡ out.old) }
+    {
+        if out.len() < MAX_TAG_LEN || out.len() - MAX_TAG_LEN != payload.len() {
+            return Err(PacketError::OutputLength);
+        }
+        check_lengths(header.len(), payload.len())?;
+        let nonce = self.nonce(number)?;
+        let (ciphertext, tag) = out.split_at_mut(payload.len());
+        ciphertext.copy_from_slice(payload);
+        let Ok(made) = self
+            .key
+            .seal_in_place_separate_tag(nonce, Aad::from(header), ciphertext)
+        else {
+            unreachable!();
+        };
+        tag.copy_from_slice(made.as_ref());
+        Ok(())
+    }
+
+    /// Opens the packet with this number in place, and returns the length of the payload in bytes.
+    ///
+    /// The unmasked header has `header_len` bytes. On success the plaintext payload follows it, and the tag is left after the
+    /// payload.
+    ///
+    /// Fails with `TooShort` if the packet has fewer than `header_len + 16` bytes, with `TooLong` if it is longer than AES-GCM
+    /// allows, with `NumbersEnded` if `number` is 2^62 or more, and with `Refused` if the tag is wrong. The packet is then
+    /// unchanged.
+    pub fn open(
+        &self,
+        number: u64,
+        packet: &mut [u8],
+        header_len: usize,
+    ) -> Result<usize, PacketError>
+        ensures accepted { IsOk result ↔ (PacketFits header_len (length packet.old) × IsNumber number
+            × IsGenuine self.now.bytes (xored_nonce self.now.iv number) header_len packet.old) }
+        ensures too_short { IsErrOf result PacketError.TooShort ↔ (length packet.old < header_len + 16) }
+        ensures too_long { IsErrOf result PacketError.TooLong
+            ↔ ((header_len + 16 ≤ length packet.old)
+            × ¬ Fits header_len (length packet.old - 16 - header_len)) }
+        ensures ended { IsErrOf result PacketError.NumbersEnded
+            ↔ (PacketFits header_len (length packet.old) × (2 ^ 62 ≤ number)) }
+        ensures forged { IsErrOf result PacketError.Refused
+            ↔ (PacketFits header_len (length packet.old) × IsNumber number
+            × ¬ IsGenuine self.now.bytes (xored_nonce self.now.iv number) header_len packet.old) }
+        ensures opened { OnOk result (OpenedPacket self.now.bytes (xored_nonce self.now.iv number)
+            header_len packet.old true packet.new) }
+        ensures payload_len { IfOk result (λ n. n ≡ length packet.old - 16 - header_len) }
+        ensures kept { OnErr result (packet.new ≡ packet.old) }
+    {
+        let payload_len = payload_len(packet, header_len)?;
+        let nonce = self.nonce(number)?;
+        match self
+            .key
+            .open_packet_in_place_after_header(nonce, packet, header_len)
+        {
+            Ok(_) => Ok(payload_len),
+            Err(_) => Err(PacketError::Refused),
+        }
+    }
+
+    /// Like `open` for a payload apart from its header, with the tag in its last 16 bytes.
+    pub fn open_payload(
+        &self,
+        number: u64,
+        header: &[u8],
+        payload: &mut [u8],
+    ) -> Result<usize, PacketError>
+        ensures accepted { IsOk result ↔ ((16 ≤ length payload.old)
+            × Fits (length header.now) (length payload.old - 16) × IsNumber number
+            × EndsWithTag self.now.bytes (xored_nonce self.now.iv number) header.now payload.old) }
+        ensures too_short { IsErrOf result PacketError.TooShort ↔ (length payload.old < 16) }
+        ensures too_long { IsErrOf result PacketError.TooLong ↔ ((16 ≤ length payload.old)
+            × ¬ Fits (length header.now) (length payload.old - 16)) }
+        ensures ended { IsErrOf result PacketError.NumbersEnded ↔ ((16 ≤ length payload.old)
+            × Fits (length header.now) (length payload.old - 16) × (2 ^ 62 ≤ number)) }
+        ensures forged { IsErrOf result PacketError.Refused ↔ ((16 ≤ length payload.old)
+            × Fits (length header.now) (length payload.old - 16) × IsNumber number
+            × ¬ EndsWithTag self.now.bytes (xored_nonce self.now.iv number) header.now payload.old) }
+        ensures opened { OnOk result (OpenedAttached (aes self.now.bytes) (xored_nonce self.now.iv number)
+            header.now 0 payload.old true payload.new) }
+        ensures payload_len { IfOk result (λ n. n ≡ length payload.old - 16) }
+        ensures kept { OnErr result (payload.new ≡ payload.old) }
+    {
+        if payload.len() < MAX_TAG_LEN {
+            return Err(PacketError::TooShort);
+        }
+        let payload_len = payload.len() - MAX_TAG_LEN;
+        check_lengths(header.len(), payload_len)?;
+        let nonce = self.nonce(number)?;
+        match self
+            .key
+            .open_within_to_front(nonce, Aad::from(header), payload, 0..)
+        {
+            Ok(_) => Ok(payload_len),
+            Err(_) => Err(PacketError::Refused),
+        }
+    }
+
+    /// Like `open` for a payload apart from its header and its tag.
+    ///
+    /// Fails with `TooLong`, `NumbersEnded` and `Refused` as `open` does. The payload is then unchanged.
+    pub fn open_separate_tag(
+        &self,
+        number: u64,
+        header: &[u8],
+        payload: &mut [u8],
+        tag: Tag,
+    ) -> Result<(), PacketError>
+        ensures accepted { IsOk result ↔ (Fits (length header.now) (length payload.old) × IsNumber number
+            × (tag ≡ gcm_tag (aes self.now.bytes) (xored_nonce self.now.iv number) header.now payload.old)) }
+        ensures too_long { IsErrOf result PacketError.TooLong ↔ ¬ Fits (length header.now) (length payload.old) }
+        ensures ended { IsErrOf result PacketError.NumbersEnded
+            ↔ (Fits (length header.now) (length payload.old) × (2 ^ 62 ≤ number)) }
+        ensures forged { IsErrOf result PacketError.Refused ↔ (Fits (length header.now) (length payload.old)
+            × IsNumber number
+            × (tag ≢ gcm_tag (aes self.now.bytes) (xored_nonce self.now.iv number) header.now payload.old)) }
+        ensures opened { OnOk result (payload.new
+            ≡ gcm_decrypted (aes self.now.bytes) (xored_nonce self.now.iv number) payload.old) }
+        ensures kept { OnErr result (payload.new ≡ payload.old) }
+    {
+        check_lengths(header.len(), payload.len())?;
+        let nonce = self.nonce(number)?;
+        match self
+            .key
+            .open_in_place_separate_tag_to_front(nonce, Aad::from(header), tag, payload, 0..)
+        {
+            Ok(_) => Ok(()),
+            Err(_) => Err(PacketError::Refused),
+        }
+    }
+
+    /// Like `open` from one buffer to another: `sealed` is the ciphertext and its tag, and the payload is written to `out`, which
+    /// has 16 bytes fewer.
+    ///
+    /// Fails with `OutputLength` if `out` does not have that length, with `TooLong` and `NumbersEnded` as `open` does, and `out`
+    /// is then unchanged. Fails with `Refused` if the tag is wrong, and `out` is then the ciphertext.
+    pub fn open_to(
+        &self,
+        number: u64,
+        header: &[u8],
+        sealed: &[u8],
+        out: &mut [u8],
+    ) -> Result<(), PacketError>
+        ensures accepted { IsOk result ↔ ((length sealed.now ≡ length out.old + 16)
+            × Fits (length header.now) (length out.old) × IsNumber number
+            × EndsWithTag self.now.bytes (xored_nonce self.now.iv number) header.now sealed.now) }
+        ensures output { IsErrOf result PacketError.OutputLength ↔ (length sealed.now ≢ length out.old + 16) }
+        ensures too_long { IsErrOf result PacketError.TooLong ↔ ((length sealed.now ≡ length out.old + 16)
+            × ¬ Fits (length header.now) (length out.old)) }
+        ensures ended { IsErrOf result PacketError.NumbersEnded ↔ ((length sealed.now ≡ length out.old + 16)
+            × Fits (length header.now) (length out.old) × (2 ^ 62 ≤ number)) }
+        ensures forged { IsErrOf result PacketError.Refused ↔ ((length sealed.now ≡ length out.old + 16)
+            × Fits (length header.now) (length out.old) × IsNumber number
+            × ¬ EndsWithTag self.now.bytes (xored_nonce self.now.iv number) header.now sealed.now) }
+        ensures opened { OnOk result (out.new ≡ gcm_decrypted (aes self.now.bytes)
+            (xored_nonce self.now.iv number) (take (length out.old) sealed.now)) }
+        ensures ciphertext { IsErrOf result PacketError.Refused → out.new ≡ take (length out.old) sealed.now }
+        ensures kept { IfErr result (λ error. error ≢ PacketError.Refused → out.new ≡ out.old) }
+    {
+        let Some((ciphertext, tag)) = sealed.split_last_chunk::<MAX_TAG_LEN>() else {
+            return Err(PacketError::OutputLength);
+        };
+        if out.len() != ciphertext.len() {
+            return Err(PacketError::OutputLength);
+        }
+        check_lengths(header.len(), out.len())?;
+        self.nonce(number)?;
+        out.copy_from_slice(ciphertext);
+        self.open_separate_tag(number, header, out, Tag::from(*tag))
+    }
+
+    // The nonce of a packet (RFC 9001 section 5.3).
+    fn nonce(&self, number: u64) -> Result<Nonce, PacketError>
+        ensures accepted { IsOk result ↔ IsNumber number }
+        ensures refused { IsOkUnless result PacketError.NumbersEnded }
+        ensures nonce { IfOk result (λ nonce. nonce ≡ xored_nonce self.now.iv number) }
+    {
+        if number >= NUMBERS_END {
+            return Err(PacketError::NumbersEnded);
+        }
+        Ok(nonce_of(&self.iv, number))
+    }
+}

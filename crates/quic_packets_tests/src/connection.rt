@@ -1,0 +1,94 @@
+//! Tests of `uses::quic_connection`: datagrams of two packets.
+
+use crate::checks::{equal, same};
+use quic_packets::{Failures, PacketError, Receiver, Sender, Space, Suite};
+use std::process::Abort;
+use std::test::Fail;
+use uses::quic_connection::{self, Connection, Level, NextKey};
+
+const IV: [u8; 12] = [2; 12];
+
+/// The connection ID chosen by the receiver.
+const ID: [u8; 8] = [4; 8];
+
+/// The header of a Handshake packet of 40 bytes, up to its number of four bytes.
+const HANDSHAKE: [u8; 16] = [0xe0, 0, 0, 0, 1, 8, 4, 4, 4, 4, 4, 4, 4, 4, 0, 24];
+
+fn sender() -> Result<Sender, PacketError> {
+    Sender::new(Suite::Aes256Gcm, &[1; 32], IV, &[3; 32], 7)
+}
+
+fn level() -> Result<Level, PacketError> {
+    Ok(Level {
+        receiver: Receiver::new(Suite::Aes256Gcm, &[1; 32], IV, &[3; 32])?,
+        space: Space::new(),
+    })
+}
+
+/// Creates a connection without Initial keys.
+fn connection(max_failures: u64) -> Result<Connection, PacketError> {
+    Ok(Connection {
+        initial: None,
+        handshake: Some(level()?),
+        one_rtt: Some(level()?),
+        failures: Failures::new().with_limit(max_failures),
+        sender: sender()?,
+        next: NextKey {
+            key: [1; 16],
+            iv: IV,
+        },
+    })
+}
+
+/// Returns a datagram of a Handshake packet and a 1-RTT packet, of 40 bytes each.
+fn coalesced() -> Result<[u8; 80], PacketError> {
+    let mut datagram = [4; 80];
+    datagram[..16].copy_from_slice(&HANDSHAKE);
+    let mut sender = sender()?;
+    sender.send(&mut datagram[..40], 16..20)?;
+    quic_connection::send(&mut sender, &mut datagram[40..])?;
+    Ok(datagram)
+}
+
+/// Asserts the result of receiving a datagram, with one bit of byte 30 flipped if `is_forged`, and returns what it then is.
+fn received(
+    rt: &impl Abort,
+    connection: &mut Connection,
+    is_forged: bool,
+    id: &[u8; 8],
+    wanted: Result<bool, u64>,
+) -> Result<[u8; 80], PacketError> {
+    let mut datagram = coalesced()?;
+    datagram[30] ^= u8::from(is_forged);
+    let found = quic_connection::receive(connection, &mut datagram, 80, id);
+    equal(rt, &found, &wanted);
+    Ok(datagram)
+}
+
+/// A forged packet is dropped and the packet after it is received, and a duplicate is dropped too. Packets with another ID are
+/// ignored, and the limit of failures closes the connection.
+#[test]
+fn datagrams(rt: HostRuntime) -> Result<(), Fail> {
+    let mut connection = connection(2)?;
+    let sent = coalesced()?;
+    let found = received(&rt, &mut connection, false, &[8; 8], Ok(false))?;
+    same(&rt, &found, &sent, "another ID");
+    let found = received(&rt, &mut connection, true, &ID, Ok(true))?;
+    same(&rt, &found[..30], &sent[..30], "the forged packet");
+    same(
+        &rt,
+        &found[53..64],
+        &[4; 11],
+        "the payload of the second packet",
+    );
+    let found = received(&rt, &mut connection, false, &ID, Ok(true))?;
+    same(
+        &rt,
+        &found[20..24],
+        &[4; 4],
+        "the payload of the first packet",
+    );
+    received(&rt, &mut connection, false, &ID, Ok(false))?;
+    received(&rt, &mut connection, true, &ID, Err(0x0f))?;
+    Ok(())
+}
