@@ -57,6 +57,17 @@ COUNTED(count_opening, deerlapse_key_open_separate_tag,
         (const void *key, const uint8_t *nonce, const uint8_t *aad, size_t aad_len, uint8_t *in_out, size_t in_out_len,
          size_t start, const uint8_t *tag),
         (key, nonce, aad, aad_len, in_out, in_out_len, start, tag))
+COUNTED(count_sealing, deerlapse_sealer_seal,
+        (void *sealer, const uint8_t *aad, size_t aad_len, uint8_t *in_out, size_t in_out_len, uint8_t *tag),
+        (sealer, aad, aad_len, in_out, in_out_len, tag))
+COUNTED(count_opening, deerlapse_opener_open,
+        (void *opener, const uint8_t *aad, size_t aad_len, uint8_t *in_out, size_t in_out_len, size_t start,
+         size_t *plaintext_len),
+        (opener, aad, aad_len, in_out, in_out_len, start, plaintext_len))
+COUNTED(count_opening, deerlapse_opener_open_number,
+        (const void *opener, uint64_t number, const uint8_t *aad, size_t aad_len, uint8_t *in_out, size_t in_out_len,
+         size_t start, size_t *plaintext_len),
+        (opener, number, aad, aad_len, in_out, in_out_len, start, plaintext_len))
 COUNTED(count_mask, deerlapse_key_mask, (const void *key, const uint8_t *sample, uint8_t *mask), (key, sample, mask))
 
 void uncounted_deerlapse_mask_chacha20(const uint8_t *key, const uint8_t *sample, uint8_t *mask);
