@@ -13,7 +13,7 @@ const IV: [u8; 12] = [3; 12];
 const NEXT_IV: [u8; 12] = [4; 12];
 
 /// Bytes in hex, and the result of `classify` (RFC 8446 sections 5, 5.1 and 5.2).
-const BEGIN: [(&str, Result<Begins, RecordError>); 24] = [
+const BEGIN: [(&str, Result<Begins, RecordError>); 29] = [
     ("", Ok(Begins::MoreNeeded(5))),
     ("16030100", Ok(Begins::MoreNeeded(5))),
     ("1603010002", Ok(Begins::MoreNeeded(7))),
@@ -37,7 +37,15 @@ const BEGIN: [(&str, Result<Begins, RecordError>); 24] = [
         Ok(Begins::Record(RecordKind::ChangeCipherSpec, 6)),
     ),
     ("140303000102", Err(RecordError::UnexpectedRecord)),
-    ("140301000101", Err(RecordError::UnexpectedRecord)),
+    (
+        "140301000101",
+        Ok(Begins::Record(RecordKind::ChangeCipherSpec, 6)),
+    ),
+    ("140304000102", Err(RecordError::UnexpectedRecord)),
+    ("1403034001", Err(RecordError::PlaintextTooLong)),
+    ("1503034001", Err(RecordError::PlaintextTooLong)),
+    ("1803034001", Err(RecordError::PlaintextTooLong)),
+    ("1803034000", Err(RecordError::UnexpectedRecord)),
     ("1403030002", Err(RecordError::UnexpectedRecord)),
     ("1703030011", Ok(Begins::MoreNeeded(22))),
     ("1703034011", Ok(Begins::MoreNeeded(16406))),
