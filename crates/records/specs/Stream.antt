@@ -1,5 +1,5 @@
 -- The first record of a stream of bytes (RFC 8446 sections 5, 5.1 and 5.2).
-use Rattle.std.specs.Prelude.{◌≡◌, ◌≢◌, ◌⊎◌, ℕ, ◌+◌, ◌^◌, ◌<◌, ◌≤◌, List, length, take, slice_index}
+use Rattle.std.specs.Prelude.{◌≡◌, ◌≢◌, ◌⊎◌, ℕ, ◌+◌, ◌^◌, ◌<◌, ◌≤◌, List, length, take, slice_index, slice_range}
 use Rattle.records.specs.Record.{IsHeader, body_len, record_start}
 use Rattle.records.specs.Refusals.{RefusesHeader}
 use Rattle.records.specs.declared.record_error.RecordError.{RecordError}
@@ -28,6 +28,16 @@ BeginsWith bytes (Record kind n) =
     IsHeaderOf kind (take 5 bytes) × (n ≡ 5 + body_len (take 5 bytes)) × (n ≤ length bytes) × IsBodyOf kind bytes
 BeginsWith bytes (MoreNeeded n) = (length bytes < n) × (length bytes < 5 → n ≡ 5)
     × (5 ≤ length bytes → (kind : RecordKind) × IsHeaderOf kind (take 5 bytes) × (n ≡ 5 + body_len (take 5 bytes)))
+
+-- the bytes begin with less than a whole record
+unfoldable pub NeedsMore : List ℕ → Type 0
+NeedsMore bytes = (n : ℕ) × BeginsWith bytes (MoreNeeded n)
+
+-- the first bytes of a stream are records, which are received one after another
+pub data Taken {S : Type 0} (Next : S → List ℕ → S → Type 0) (stream : List ℕ) (first : S) : ℕ → S → Type 0 where
+  nothing : Taken Next stream first 0 first
+  one_more : (at end : ℕ) (was now : S) → Taken Next stream first at was → at ≤ end → end ≤ length stream
+      → Next was (slice_range stream at end) now → Taken Next stream first end now
 
 -- why a header is of no record that a connection has. A record of any type but application data is in plaintext, and its
 -- content has at most 2^14 bytes (section 5.1)
