@@ -19,6 +19,20 @@ use std::marker::Model;
 ///
 /// The reader keeps the part of a message that a record ends in. The caller lends it a buffer, whose length is the most bytes
 /// that a message may have. An error ends the connection and closes the reader: every later call returns `Closed`.
+///
+/// # Examples
+///
+/// Takes the messages of one record: follows each KeyUpdate, and appends the others. From `crates/uses/src/tls_connection.rt`:
+///
+/// ```
+/// while let Some(message) = messages.next(&mut content)? {
+///     if message[0] == KEY_UPDATE {
+///         incoming.update(message[4])?;
+///     } else {
+///         handed.push(message.to_vec(alloc)?)?;
+///     }
+/// }
+/// ```
 #[derive(Drop)]
 pub struct MessageReader<'b> {
     buffer: &'b mut [u8],
