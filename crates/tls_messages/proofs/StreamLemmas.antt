@@ -2,11 +2,10 @@
 use Rattle.std.proofs.Common.{◌≡◌, ◌<◌, ◌≤◌, ◌+◌, ℕ, zero, suc, true, false, ◌++◌, List, [], ◌∷◌, length, take, drop, rules, arith, ap, subst, refl, ◌∙◌, sym, append_assoc, inl, inr}
 use Rattle.std.proofs.lemmas.Bool.{cases_lt, cond-true, cond-false}
 use Rattle.std.proofs.lemmas.Bool.Decides.{leb_tells}
-use Rattle.std.proofs.lemmas.List.{map-append, append-nil, take-append-drop, length-take-le, length-append}
+use Rattle.std.proofs.lemmas.List.{take-append-drop, length-take-le, length-append}
 use Rattle.std.proofs.lemmas.List.Elements.{All-append, All-nil, All-cons, All-head, All-tail}
 use Rattle.std.proofs.lemmas.List.Folds.{concat-append}
-use Rattle.std.proofs.Common.{map, get_or}
-use Rattle.std.proofs.Math.Seq.{take-suc, take-append_seam, drop-append_seam}
+use Rattle.std.proofs.Math.Seq.{take-append_seam, drop-append_seam}
 use Rattle.std.specs.List.{All, concat}
 use Rattle.tls_messages.specs.Messages.{message_len, IsMessage, IsPart, Splits, begins_whole, messages_in, part_in, messages_of, part_of}
 use Rattle.tls_messages.specs.Messages.{messages_read}
@@ -163,29 +162,3 @@ pub all_used : (stream part rest : List ℕ) → IsPart part → rest ≡ [] →
 all_used stream part rest is none joined =
     let all : stream ≡ part = joined ∙ ap (λ t. part ++ t) none ∙ search rules in
     (is, none, ap messages_of all ∙ (no_message part is).0, ap part_of all ∙ (no_message part is).1)
-
-pub nothing_yet : (messages_of [] ≡ []) × (part_of [] ≡ [])
-nothing_yet = no_message [] (λ there. absurd (omega (arith, there)))
-
--- a reader that has read a stream reads a content more
-pub read_more : (done content next part part' : List ℕ) (before got got' : List (List ℕ)) → next ≡ done ++ content
-    → got ≡ before ++ messages_of done → part ≡ part_of done → got' ≡ got ++ messages_of (part ++ content)
-    → part' ≡ part_of (part ++ content) → (got' ≡ before ++ messages_of next) × (part' ≡ part_of next)
-read_more done content next part part' before got got' joined was kept now left =
-    let same : part ++ content ≡ part_of done ++ content = ap (λ t. t ++ content) kept in
-    let both = cut done content in (
-      now ∙ ap (λ t. got ++ messages_of t) same ∙ ap (λ t. t ++ messages_of (part_of done ++ content)) was
-          ∙ append_assoc before _ _ ∙ ap (λ t. before ++ t) (sym both.0) ∙ ap (λ t. before ++ messages_of t) (sym joined),
-      left ∙ ap part_of same ∙ sym both.1 ∙ ap part_of (sym joined),
-    )
-
--- the contents up to the next one
-pub contents_more : {A : Type 0} (f : A → List ℕ) (xs : List A) (i : ℕ) (x : A) → i < length xs → get_or xs i x ≡ x
-    → concat (map f (take (i + 1) xs)) ≡ concat (map f (take i xs)) ++ f x
-contents_more f xs i x inside is =
-    let next : i + 1 ≡ suc i = omega arith in
-    let taken : take (suc i) xs ≡ take i xs ++ (x ∷ [])
-    = take-suc xs i x inside ∙ ap (λ y. take i xs ++ (y ∷ [])) is in
-    ap (λ k. concat (map f (take k xs))) next ∙ ap (λ t. concat (map f t)) taken
-    ∙ ap concat (map-append f (take i xs) (x ∷ [])) ∙ concat-append (map f (take i xs)) (f x ∷ [])
-    ∙ ap (λ t. concat (map f (take i xs)) ++ t) (append-nil (f x))

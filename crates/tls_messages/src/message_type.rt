@@ -1,5 +1,8 @@
 //! The types of handshake messages (RFC 8446 section 4).
 
+ghost use Rattle.std.specs.Prelude.{◌≡◌};
+ghost use Rattle.tls_messages.specs.Messages.{changes_keys as changes_keys_lem};
+
 pub const CLIENT_HELLO: u8 = 1;
 
 pub const SERVER_HELLO: u8 = 2;
@@ -17,9 +20,6 @@ pub const CERTIFICATE_VERIFY: u8 = 15;
 pub const FINISHED: u8 = 20;
 
 pub const KEY_UPDATE: u8 = 24;
-
-ghost use Rattle.std.specs.Prelude.{◌≡◌};
-ghost use Rattle.tls_messages.specs.Messages.{changes_keys as changes_keys_lem};
 
 /// Whether the keys may change after a message of this type, so that its record ends with it (RFC 8446 section 5.1).
 pub(crate) fn changes_keys(message_type: u8) -> bool
