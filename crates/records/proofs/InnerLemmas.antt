@@ -7,7 +7,7 @@ use specs.Refusals.{RefusesInner}
 use specs.declared.content_type.ContentType.{ContentType}
 use specs.declared.content_type.ContentType.TheVariants.{Alert, Handshake, ApplicationData}
 use specs.declared.record_error.RecordError.{RecordError}
-use specs.declared.record_error.RecordError.TheVariants.{EmptyContent, NoContentType, UnexpectedType}
+use specs.declared.record_error.RecordError.TheVariants.{AlertLength, EmptyContent, NoContentType, UnexpectedType}
 
 -- a list that is zero after a place
 pub zeros_behind : (xs : List ℕ) (n : ℕ) → n < length xs → ((k : ℕ) → n < k → k < length xs → get_or xs k 0 ≡ 0)
@@ -67,4 +67,8 @@ allowed_not_refused size_limit i EmptyContent allowed r =
     let same = same_parts i.content [] (type_code i.content_type) (type_code r.0) i.padding r.1 (typed i.content_type) (typed r.0) r.3 in
     let none : length i.content ≡ 0 = rw same.1 refl in
     r.2 (sym (same_type i.content_type r.0 same.0) ∙ allowed.nonempty none)
+allowed_not_refused size_limit i AlertLength allowed r =
+    let same = same_parts i.content r.0 (type_code i.content_type) (type_code Alert) i.padding r.1 (typed i.content_type) (typed Alert) r.4 in
+    let two : length i.content ≡ 2 = allowed.alert (same_type i.content_type Alert same.0) in
+    r.3 (rw (← same.1) two)
 allowed_not_refused size_limit i error allowed r = r

@@ -1,4 +1,6 @@
 mod InnerLemmas
+pub mod JoinedLemmas
 mod RecordLemmas
 pub mod RunLemmas
+pub mod TakenLemmas
 mod WriteLemmas

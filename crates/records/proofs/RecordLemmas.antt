@@ -14,7 +14,7 @@ use specs.Record.{Carries, Inner, IsHeader, IsWhole, Seals, body_len, header, in
 use specs.Refusals.{RefusesInner, RefusesToOpen, SealsRefused}
 use specs.Steps.{Opens, OpensMessage, RefusesMessage, overwritten}
 use specs.declared.record_error.RecordError.{RecordError}
-use specs.declared.record_error.RecordError.TheVariants.{EmptyContent, NoContentType, Refused, UnexpectedType, WrongLength}
+use specs.declared.record_error.RecordError.TheVariants.{AlertLength, EmptyContent, NoContentType, Refused, UnexpectedType, WrongLength}
 use Rattle.records.proofs.InnerLemmas.{allowed_not_refused, length-plaintext, same_inner}
 use borrow.Rule.Slice.PartMut.{put_mid}
 
@@ -97,6 +97,7 @@ module _ (key : KeyState) (number : ℕ) (bytes : List ℕ) where
   opened_refuses NoContentType r = r
   opened_refuses UnexpectedType r = r
   opened_refuses EmptyContent r = r
+  opened_refuses AlertLength r = r
   opened_refuses error r = absurd r.3
 
 -- ---- a message that was opened

@@ -13,7 +13,7 @@ use Rattle.records.proofs.RecordLemmas.{same_content}
 carries_under : (k l : KeyState) (m n : ℕ) (bytes : List ℕ) (inner : Inner) → l.bytes ≡ k.bytes → l.iv ≡ k.iv → n ≡ m
     → k.size_limit ≤ l.size_limit → Carries k m bytes inner → Carries l n bytes inner
 carries_under k l m n bytes inner same_bytes same_iv same_number le c = record {
-  allowed = record { nonempty = c.allowed.nonempty; fits = omega (arith, c.allowed.fits) };
+  allowed = record { nonempty = c.allowed.nonempty; alert = c.allowed.alert; fits = omega (arith, c.allowed.fits) };
   made = rw (same_bytes, same_iv, same_number) c.made;
 }
 

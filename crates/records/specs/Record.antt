@@ -31,10 +31,12 @@ plaintext content code padding = content ++ code ∷ replicate padding 0
 abbrev pub inner_plaintext : Inner → List ℕ
 inner_plaintext i = plaintext i.content (type_code i.content_type) i.padding
 
--- n bytes of content and their padding may be sent: no handshake or alert content is empty (section 5.4), and the inner
--- plaintext, with its type and padding, has at most `size_limit` bytes (RFC 8449 section 4)
+-- n bytes of content and their padding may be sent: no handshake or alert content is empty (section 5.4), an alert record is
+-- one alert, of 2 bytes (sections 5.1 and 6), and the inner plaintext, with its type and padding, has at most `size_limit` bytes
+-- (RFC 8449 section 4)
 pub record IsAllowed (size_limit : ℕ) (content_type : ContentType) (n padding : ℕ) : Type 0 where
   pub nonempty : n ≡ 0 → content_type ≡ ApplicationData
+  pub alert : content_type ≡ Alert → n ≡ 2
   pub fits : n + 1 + padding ≤ size_limit
 
 -- application_data, and legacy_record_version 0x0303 (section 5.2)

@@ -3,16 +3,16 @@ use Rattle.std.specs.Prelude.{◌≡◌, ◌≢◌, ◌⊎◌, ℕ, ◌+◌, ◌
 use Rattle.records.specs.Keys.{KeyState}
 use Rattle.records.specs.Record.{IsAllowed, IsHeader, IsUnknown, IsWhole, Seals, body_len, plaintext, record_start, type_code}
 use Rattle.records.specs.declared.content_type.ContentType.{ContentType}
-use Rattle.records.specs.declared.content_type.ContentType.TheVariants.{ApplicationData}
-use Rattle.records.specs.declared.record_error.AlertDescription.{AlertDescription}
-use Rattle.records.specs.declared.record_error.AlertDescription.TheVariants.{BadRecordMac, RecordOverflow, UnexpectedMessage}
+use Rattle.records.specs.declared.content_type.ContentType.TheVariants.{Alert, ApplicationData}
+use Rattle.tls_messages.specs.declared.alert.AlertDescription.{AlertDescription}
+use Rattle.tls_messages.specs.declared.alert.AlertDescription.TheVariants.{BadRecordMac, DecodeError, RecordOverflow, UnexpectedMessage}
 use Rattle.records.specs.declared.record_error.RecordError.{RecordError}
-use Rattle.records.specs.declared.record_error.RecordError.TheVariants.{ContentTooLong, EmptyContent, EncryptedRecordTooLong}
+use Rattle.records.specs.declared.record_error.RecordError.TheVariants.{AlertLength, ContentTooLong, EmptyContent, EncryptedRecordTooLong}
 use Rattle.records.specs.declared.record_error.RecordError.TheVariants.{EncryptedRecordTooShort, InnerPlaintextTooLong, NoContentType}
 use Rattle.records.specs.declared.record_error.RecordError.TheVariants.{NoRoom, PlaintextTooLong, Refused, UnexpectedRecord}
 use Rattle.records.specs.declared.record_error.RecordError.TheVariants.{UnexpectedType, WrongLength}
 
--- the alert that ends the connection when a record is rejected (sections 5, 5.1, 5.2 and 5.4), or none if the record is not the
+-- the alert that ends the connection when a record is rejected (sections 5, 5.1, 5.2, 5.4 and 6.2), or none if the record is not the
 -- cause
 abbrev pub alert_of : RecordError → Option AlertDescription
 alert_of EncryptedRecordTooShort = Some BadRecordMac
@@ -24,13 +24,15 @@ alert_of UnexpectedRecord = Some UnexpectedMessage
 alert_of UnexpectedType = Some UnexpectedMessage
 alert_of NoContentType = Some UnexpectedMessage
 alert_of EmptyContent = Some UnexpectedMessage
+alert_of AlertLength = Some DecodeError
 alert_of error = None
 
 -- why n bytes of content and this padding make no record
 abbrev pub RefusesContent : (size_limit : ℕ) → ContentType → (n padding : ℕ) → RecordError → Type 0
 RefusesContent size_limit content_type n padding EmptyContent = (n ≡ 0) × (content_type ≢ ApplicationData)
+RefusesContent size_limit content_type n padding AlertLength = (n ≢ 0) × (n ≢ 2) × (content_type ≡ Alert)
 RefusesContent size_limit content_type n padding ContentTooLong =
-    (n ≡ 0 → content_type ≡ ApplicationData) × (size_limit < n + 1 + padding)
+    (n ≡ 0 → content_type ≡ ApplicationData) × (content_type ≡ Alert → n ≡ 2) × (size_limit < n + 1 + padding)
 RefusesContent size_limit content_type n padding error = ⊥
 
 -- why they make no record in a buffer of `room` bytes
@@ -56,7 +58,7 @@ RefusesBytes size_limit bytes WrongLength =
 RefusesBytes size_limit bytes error = (5 ≤ length bytes) × RefusesHeader size_limit (take 5 bytes) error
 
 -- why an inner plaintext is rejected: it has no content type, or one that no protected record has, or an empty handshake or
--- alert content (sections 5 and 5.4)
+-- alert content, or an alert content that is not one alert (sections 5, 5.1 and 5.4)
 abbrev pub RefusesInner : List ℕ → RecordError → Type 0
 RefusesInner inner NoContentType = inner ≡ replicate (length inner) 0
 RefusesInner inner UnexpectedType =
@@ -64,6 +66,8 @@ RefusesInner inner UnexpectedType =
 RefusesInner inner EmptyContent =
     (content_type : ContentType) × (padding : ℕ) × (content_type ≢ ApplicationData)
     × (inner ≡ plaintext [] (type_code content_type) padding)
+RefusesInner inner AlertLength = (content : List ℕ) × (padding : ℕ) × (length content ≢ 0) × (length content ≢ 2)
+    × (inner ≡ plaintext content (type_code Alert) padding)
 RefusesInner inner error = ⊥
 
 -- an authentic record whose inner plaintext is rejected
@@ -79,4 +83,5 @@ RefusesToOpen key number bytes Refused =
 RefusesToOpen key number bytes NoContentType = SealsRefused key number bytes NoContentType
 RefusesToOpen key number bytes UnexpectedType = SealsRefused key number bytes UnexpectedType
 RefusesToOpen key number bytes EmptyContent = SealsRefused key number bytes EmptyContent
+RefusesToOpen key number bytes AlertLength = SealsRefused key number bytes AlertLength
 RefusesToOpen key number bytes error = RefusesBytes key.size_limit bytes error

@@ -7,7 +7,7 @@ use Rattle.records.specs.Record.{Carries, Inner, IsWhole, Seals, inner_plaintext
 use Rattle.records.specs.Refusals.{RefusesBytes, RefusesToOpen, alert_of}
 use Rattle.records.specs.declared.content_type.ContentType.{ContentType}
 use Rattle.records.specs.declared.record_error.RecordError.{RecordError}
-use Rattle.records.specs.declared.record_error.RecordError.TheVariants.{Closed, EmptyContent, KeyUsedUp, NoContentType, Refused}
+use Rattle.records.specs.declared.record_error.RecordError.TheVariants.{AlertLength, Closed, EmptyContent, KeyUsedUp, NoContentType, Refused}
 use Rattle.records.specs.declared.record_error.RecordError.TheVariants.{UnexpectedType}
 
 -- opening the record with this number returns its type and its content, or the reason why it does not open
@@ -51,6 +51,7 @@ abbrev pub LeavesRefused : KeyState → ℕ → List ℕ → ℕ → List ℕ �
 LeavesRefused key number bytes at old new NoContentType = LeavesMessage key number bytes at old new
 LeavesRefused key number bytes at old new UnexpectedType = LeavesMessage key number bytes at old new
 LeavesRefused key number bytes at old new EmptyContent = LeavesMessage key number bytes at old new
+LeavesRefused key number bytes at old new AlertLength = LeavesMessage key number bytes at old new
 LeavesRefused key number bytes at old new error = new ≡ old
 
 -- an authentic record is opened: its message, n bytes, is in the buffer from `at` on, and every other byte is unchanged

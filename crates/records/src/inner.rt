@@ -10,6 +10,9 @@ use crate::header::header_of;
 use crate::record_error::RecordError;
 use crate::{HEADER_LEN, TAG_LEN};
 
+/// The length of an alert in bytes (RFC 8446 section 6).
+const ALERT_LEN: usize = 2;
+
 /// The length of the inner plaintext of a content of this type and length.
 pub(crate) fn inner_len(
     size_limit: usize,
@@ -24,6 +27,9 @@ pub(crate) fn inner_len(
 {
     if content_len == 0 && !content_type.may_be_empty() {
         return Err(RecordError::EmptyContent);
+    }
+    if content_type == ContentType::Alert && content_len != ALERT_LEN {
+        return Err(RecordError::AlertLength);
     }
     if content_len >= size_limit || padding >= size_limit - content_len {
         return Err(RecordError::ContentTooLong);
@@ -51,6 +57,7 @@ pub(crate) fn frame(bytes: &mut [u8], content_type: ContentType, content_len: us
 /// The type and the length of the content of an inner plaintext.
 pub(crate) fn content_of(inner: &[u8]) -> Result<(ContentType, usize), RecordError>
     ensures found { IfOk result (λ found. (found.1 ≡ 0 → found.0 ≡ ContentType.ApplicationData)
+        × (found.0 ≡ ContentType.Alert → found.1 ≡ 2)
         × (padding : ℕ) × (found.1 + 1 + padding ≡ length inner.now) × (inner.now ≡ inner_plaintext (record {
           content_type = found.0;
           content = take found.1 inner.now;
@@ -66,6 +73,9 @@ pub(crate) fn content_of(inner: &[u8]) -> Result<(ContentType, usize), RecordErr
     };
     if len == 0 && !content_type.may_be_empty() {
         return Err(RecordError::EmptyContent);
+    }
+    if content_type == ContentType::Alert && len != ALERT_LEN {
+        return Err(RecordError::AlertLength);
     }
     Ok((content_type, len))
 }

@@ -182,7 +182,7 @@ impl RecordKey {
     /// length in bytes. The content is then `bytes[5..5 + length]`.
     ///
     /// Header and tag are unchanged. Unless the record is authentic, a failure leaves every byte unchanged. After
-    /// `NoContentType`, `UnexpectedType` and `EmptyContent`, its inner plaintext begins at byte 5.
+    /// `NoContentType`, `UnexpectedType`, `EmptyContent` and `AlertLength`, its inner plaintext begins at byte 5.
     pub fn open_at(
         &self,
         number: u64,

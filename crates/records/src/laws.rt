@@ -1,10 +1,12 @@
 //! Laws of the definitions: functions that do nothing, each of whose contracts states a law for its arguments.
 
-ghost use Rattle.std.specs.Prelude.{◌≡◌, ℕ, ◌<◌, ◌≤◌, All, AllPairs, List, length, map};
+ghost use Rattle.std.specs.Prelude.{◌≡◌, [], false, ℕ, ◌<◌, ◌≤◌, All, AllPairs, List, length, map};
 ghost use Rattle.aead_ciphers.specs.Runs.{Runs};
+ghost use Rattle.records.specs.Joined.{Joins, Says, Token};
 ghost use Rattle.records.specs.Keys.{ReaderState, WriterState};
 ghost use Rattle.records.specs.Record.{Inner};
 ghost use Rattle.records.specs.Runs.{Answer, Event, Follows, ReadStep, WriteStep, WriterRuns, as_asked};
+ghost use Rattle.tls_messages.specs.declared.stage.Stage.{Stage};
 
 use crate::{Reader, Writer};
 
@@ -19,6 +21,21 @@ pub fn reading_undoes_writing(writer: &Writer, reader: &Reader)
         → Runs WriteStep writer.now written asked sent
         → Runs ReadStep reader.now stands sent read
         → (read ≡ map as_asked asked) × Follows written stands }
+{}
+
+/// Joined reading gives back what was written: application data as one stream of bytes, and each handshake message whole, in the
+/// order between them, however records cut them. It rejects nothing that a writer is asked to write, where the stage allows each
+/// message and none is longer than the bound, and it knows from the messages when to continue with the next key.
+#[tactic(auto, using(crate::proofs::JoinedLemmas::joining_undoes_writing))]
+pub fn joining_undoes_writing(writer: &Writer, reader: &Reader)
+    requires { Follows writer.now reader.now }
+    ensures { (stage : Stage) (bound : ℕ) (asked : List (Event Inner)) (tokens : List Token)
+        (sent : List (Event (List ℕ))) (read : List (Event Answer))
+        (written : WriterState) (stands : ReaderState)
+        → Says stage bound [] false asked tokens
+        → Runs WriteStep writer.now written asked sent
+        → Runs ReadStep reader.now stands sent read
+        → Joins stage bound [] false read tokens }
 {}
 
 /// No pair of key and number is used twice: over every run of calls of a writer, the numbers that it seals under increase under

@@ -19,8 +19,9 @@ use aead_ciphers::aead::MAX_TAG_LEN;
 pub use content_type::ContentType;
 pub use key::RecordKey;
 pub use reader::Reader;
-pub use record_error::{AlertDescription, RecordError};
+pub use record_error::RecordError;
 pub use stream::{Begins, RecordKind, classify};
+pub use tls_messages::AlertDescription;
 pub use writer::Writer;
 
 /// The length of a header in bytes.
@@ -35,7 +36,7 @@ pub const MIN_SIZE_LIMIT: usize = 64;
 /// The highest and the default size limit in bytes: a content and its type (RFC 8446 section 5.4).
 pub const MAX_SIZE_LIMIT: usize = 16385;
 
-/// The default limit on records under one key, for a writer and a reader. It is below the 2^24.5 records that keep a margin of
+/// The default limit on the records that a writer seals under one key. It is below the 2^24.5 records that keep a margin of
 /// safety with AES-GCM (RFC 8446 section 5.5).
 pub const DEFAULT_LIMIT: u64 = 1 << 24;
 

@@ -5,7 +5,6 @@ ghost use Rattle.aead_ciphers.specs.Algorithm.{key_len};
 ghost use Rattle.records.specs.Keys.{new_key, rekeyed};
 ghost use Rattle.records.specs.Steps.{content_at, lent_content, after_error, LeavesInner, LeavesRefused, Reads};
 
-use crate::DEFAULT_LIMIT;
 use crate::content_type::ContentType;
 use crate::key::RecordKey;
 use crate::record_error::RecordError;
@@ -52,8 +51,8 @@ impl Model for Reader {
 }
 
 impl Reader {
-    /// Creates a reader whose next record is record 0, with a limit of 2^24 records under each key (RFC 8446 section 5.5).
-    /// `key` has 16 or 32 bytes, and `iv` is the write_iv (section 7.3).
+    /// Creates a reader whose next record is record 0, with a limit of 2^64 - 1 records under each key: RFC 8446 section 5.5
+    /// limits what is sealed. `key` has 16 or 32 bytes, and `iv` is the write_iv (section 7.3).
     ///
     /// Fails with `KeyLength` if `key` is not as long as the algorithm's keys.
     pub fn new(
@@ -66,14 +65,14 @@ impl Reader {
         ensures made { IfOk result (λ made. made ≡ record {
           key = new_key algorithm.now key.now iv;
           number = 0;
-          limit = 2 ^ 24;
+          limit = 2 ^ 64 - 1;
           is_closed = false;
         }) }
     {
         Ok(Reader {
             key: RecordKey::new(algorithm, key, iv)?,
             number: 0,
-            limit: DEFAULT_LIMIT,
+            limit: u64::MAX,
             is_closed: false,
         })
     }
@@ -170,8 +169,8 @@ impl Reader {
     /// bytes before `filled` and from `end` on are unchanged.
     ///
     /// A failure does not use up the number, and closes the reader if the error has an alert. Unless the record is authentic,
-    /// it leaves every byte unchanged. After `NoContentType`, `UnexpectedType` and `EmptyContent`, its inner plaintext begins
-    /// at `filled`.
+    /// it leaves every byte unchanged. After `NoContentType`, `UnexpectedType`, `EmptyContent` and `AlertLength`, its inner
+    /// plaintext begins at `filled`.
     pub fn gather(
         &mut self,
         bytes: &mut [u8],

@@ -5,17 +5,7 @@ ghost use Rattle.records.specs.Refusals.{alert_of};
 
 use std::alloc::AllocError;
 use thiserror::Error;
-
-/// An alert that an endpoint sends before it closes the connection (RFC 8446 section 6). `as u8` gives its value.
-#[derive(Clone, Copy, Debug, PartialEq, Eq)]
-pub enum AlertDescription {
-    /// `unexpected_message`
-    UnexpectedMessage = 10,
-    /// `bad_record_mac`
-    BadRecordMac = 20,
-    /// `record_overflow`
-    RecordOverflow = 22,
-}
+use tls_messages::AlertDescription;
 
 /// The error of sealing, opening or classifying a record.
 #[derive(Clone, Copy, Debug, PartialEq, Eq, Drop, Error)]
@@ -73,6 +63,10 @@ pub enum RecordError {
     /// An alert or a handshake content is empty, when writing it or, in an authentic record, reading it (RFC 8446 section 5.4).
     #[error("an alert or handshake record has no content")]
     EmptyContent,
+    /// An alert has a number of bytes other than 2 and 0, when writing it or, in an authentic record, reading it (RFC 8446
+    /// sections 5.1 and 6).
+    #[error("an alert does not have 2 bytes")]
+    AlertLength,
 }
 
 impl RecordError {
@@ -92,6 +86,7 @@ impl RecordError {
             | RecordError::UnexpectedType
             | RecordError::NoContentType
             | RecordError::EmptyContent => Some(AlertDescription::UnexpectedMessage),
+            RecordError::AlertLength => Some(AlertDescription::DecodeError),
             _ => None,
         }
     }

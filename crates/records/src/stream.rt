@@ -17,8 +17,8 @@ pub enum RecordKind {
     Handshake,
     /// An alert in plaintext (RFC 8446 section 5.1). A peer without keys sends one.
     Alert,
-    /// `14 03 03 00 01 01`. It is dropped between the first ClientHello and the peer's Finished, and ends the connection at any
-    /// other time (RFC 8446 section 5).
+    /// A ChangeCipherSpec, whose one byte is 1. It is dropped between the first ClientHello and the peer's Finished, and ends
+    /// the connection at any other time (RFC 8446 section 5).
     ChangeCipherSpec,
 }
 
@@ -79,18 +79,18 @@ fn kind_of(header: &[u8; HEADER_LEN]) -> Result<(RecordKind, usize), RecordError
     ensures len { IfOk result (λ kind. kind.1 ≡ 5 + body_len header.now) }
     ensures refused { IfErr result (RefusesStart header.now) }
 {
-    let [first, major, minor, high, low] = *header;
+    let [first, _, _, high, low] = *header;
     let len = usize::from(u16::from_be_bytes([high, low]));
     if first == APPLICATION_DATA {
         let len = record_len(MAX_SIZE_LIMIT, header)?;
         Ok((RecordKind::Protected, len))
-    } else if first == 22 && len > MAX_CONTENT_LEN {
+    } else if len > MAX_CONTENT_LEN {
         Err(RecordError::PlaintextTooLong)
     } else if first == 22 && len > 0 {
         Ok((RecordKind::Handshake, HEADER_LEN + len))
     } else if first == 21 && len == 2 {
         Ok((RecordKind::Alert, HEADER_LEN + len))
-    } else if first == 20 && major == 3 && minor == 3 && high == 0 && low == 1 {
+    } else if first == 20 && len == 1 {
         Ok((RecordKind::ChangeCipherSpec, HEADER_LEN + len))
     } else {
         Err(RecordError::UnexpectedRecord)

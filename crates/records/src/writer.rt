@@ -18,19 +18,16 @@ use std::marker::Model;
 ///
 /// # Examples
 ///
-/// Writes data, a KeyUpdate, and data under the next key. From `crates/records_tests/src/stream.rt`:
+/// Writes a KeyUpdate, and continues under the next key. From `crates/uses/src/tls_connection.rt`:
 ///
 /// ```
-/// fn two_epochs(alloc: Global) -> Result<Vec<u8>, Fail> {
-///     let mut writer = Writer::new(&AES_128_GCM, &[1; 16], IV)?;
-///     let mut bytes = Vec::new(alloc);
-///     writer.write(ContentType::ApplicationData, b"to", 3, &mut bytes)?;
-///     writer.write(ContentType::Handshake, &[24, 0, 0, 1, 0], 0, &mut bytes)?;
-///     writer.update(&[2; 16], NEXT_IV)?;
-///     writer.write(ContentType::ApplicationData, b"gether", 0, &mut bytes)?;
-///     bytes.extend_from_slice(&[23, 3, 3, 0])?;
-///     Ok(bytes)
-/// }
+/// self.writer
+///     .write(ContentType::Handshake, &KEY_UPDATE_MESSAGE, 0, out)?;
+/// let next = self.secret.next_traffic();
+/// let key = next.record_key();
+/// self.writer.update(key.as_slice(), next.record_iv())?;
+/// self.secret = next;
+/// Ok(())
 /// ```
 #[derive(Drop)]
 pub struct Writer {

@@ -15,8 +15,10 @@ pub(crate) struct Direction {
     pub(crate) epochs: &'static [Epoch],
 }
 
-/// A key, its IV, and the contents of the records under them.
+/// A traffic secret, its key and IV, and the contents of the records under them. The first epoch of a direction is the
+/// handshake.
 pub(crate) struct Epoch {
+    pub(crate) secret: &'static str,
     pub(crate) key: &'static str,
     pub(crate) iv: &'static str,
     pub(crate) records: &'static [Carried],
@@ -30,7 +32,7 @@ pub(crate) struct Carried {
 }
 
 /// Decodes lines of hex.
-fn bytes_of(alloc: Global, lines: &[&str]) -> Result<Vec<u8>, Fail> {
+pub(crate) fn bytes_of(alloc: Global, lines: &[&str]) -> Result<Vec<u8>, Fail> {
     let mut bytes = Vec::new(alloc);
     for line in lines {
         bytes.extend_from_slice(hex::decode(alloc, line)?.as_slice())?;
@@ -69,6 +71,17 @@ fn next_protected(stream: &[u8], from: usize) -> Result<(usize, usize), Fail> {
         at = at.saturating_add(len);
     }
     Err("no protected record".into())
+}
+
+/// Returns the offset in a stream of what follows the handshake.
+pub(crate) fn end_of_handshake(stream: &[u8], direction: &Direction) -> Result<usize, Fail> {
+    let epoch = direction.epochs.first().ok_or("no epoch")?;
+    let mut at = 0;
+    for _ in epoch.records {
+        let (start, len) = next_protected(stream, at)?;
+        at = start.saturating_add(len);
+    }
+    Ok(at)
 }
 
 /// Asserts that reading a record yields its content, and that writing the content yields the record.

@@ -1,5 +1,5 @@
-//! Tests of the public interface of `records`: records of OpenSSL and of Python's `cryptography`, printed
-//! text, and properties that no contract states.
+//! Tests of the public interfaces of `records` and `tls_messages`, and of the loop in `uses` over both: records of
+//! OpenSSL and of Python's `cryptography`, printed text, and properties that no contract states.
 #![tactic(auto)]
 
 #[cfg(test)]
@@ -9,7 +9,9 @@ mod checks;
 #[cfg(test)]
 mod connection;
 #[cfg(test)]
-mod example;
+mod messages;
+#[cfg(test)]
+mod receiving;
 #[cfg(test)]
 mod record_layer;
 #[cfg(test)]

@@ -281,7 +281,7 @@ fn no_record(rt: HostRuntime) -> Result<(), Fail> {
 
 /// Authentic records that `tools/read-records make` printed, with their inner plaintexts, and the errors with
 /// which those are rejected.
-const AUTHENTIC: [(&str, &[u8], RecordError); 7] = [
+const AUTHENTIC: [(&str, &[u8], RecordError); 9] = [
     (
         "1703030014936ca7ce192ea8e21527108e19c356659790e9ef",
         &[0; 4],
@@ -317,6 +317,16 @@ const AUTHENTIC: [(&str, &[u8], RecordError); 7] = [
         &[22, 0, 0],
         RecordError::EmptyContent,
     ),
+    (
+        "17030300129179f7ecfe7c77a94a6ee299ed27588fe16c",
+        &[2, 21],
+        RecordError::AlertLength,
+    ),
+    (
+        "1703030015915ea7db66700ca14be09c26340c114dd82afd3ef6",
+        &[2, 50, 0, 21, 0],
+        RecordError::AlertLength,
+    ),
 ];
 
 /// Asserts that a new reader rejects this record with this error, and is closed. The inner plaintext is at the
@@ -345,7 +355,7 @@ fn authentic_and_refused(rt: HostRuntime) -> Result<(), Fail> {
 }
 
 /// Content types with lengths of contents and of paddings that no record has, and the errors.
-const UNWRITTEN: [(ContentType, usize, usize, RecordError); 5] = [
+const UNWRITTEN: [(ContentType, usize, usize, RecordError); 7] = [
     (
         ApplicationData,
         MAX_CONTENT_LEN + 1,
@@ -361,6 +371,8 @@ const UNWRITTEN: [(ContentType, usize, usize, RecordError); 5] = [
     (ApplicationData, 0, usize::MAX, RecordError::ContentTooLong),
     (Alert, 0, 0, RecordError::EmptyContent),
     (Handshake, 0, 3, RecordError::EmptyContent),
+    (Alert, 1, 0, RecordError::AlertLength),
+    (Alert, 3, usize::MAX, RecordError::AlertLength),
 ];
 
 #[test]
@@ -529,7 +541,7 @@ fn limits_where_none_is_set(rt: HostRuntime) -> Result<(), Fail> {
     equal(
         &rt,
         &(writer.remaining(), reader.remaining()),
-        &(1 << 24, 1 << 24),
+        &(1 << 24, u64::MAX),
     );
     equal(
         &rt,
@@ -594,18 +606,42 @@ fn opened_by_number(rt: HostRuntime) -> Result<(), Fail> {
     Ok(())
 }
 
-/// A reader that starts at the third record reads it.
+/// Numbers, and the records that `tools/read-records make` printed for them: one past the writer's default limit, and the last
+/// that a reader reads.
+const NUMBERED: [(u64, &str); 2] = [
+    (
+        1 << 24,
+        "1703030015c9fe435a1a697eecad76a4c1665cb1743d58ad11bd",
+    ),
+    (
+        u64::MAX - 1,
+        "1703030015e238123fefd7cea0052137e396f15bb2570a1387a8",
+    ),
+];
+
+/// A new reader that starts at a number reads the record with this number.
 #[test]
 fn starting_at(rt: HostRuntime) -> Result<(), Fail> {
-    let mut reader = Reader::new(&AES_128_GCM, &KEY[..16], IV)?.starting_at(2);
-    let mut third = hex::decode(rt.alloc(), OF_AES_128[2].record)?;
-    is_read(&rt, &mut reader, &OF_AES_128[2], &mut third)?;
-    equal(&rt, &reader.number(), &3);
+    for (number, text) in NUMBERED {
+        let mut reader = Reader::new(&AES_128_GCM, &KEY[..16], IV)?.starting_at(number);
+        let mut record = <[u8; 26]>::from_hex(text)?;
+        let (content_type, content) = reader.read(&mut record)?;
+        holds(&rt, content_type == ApplicationData, "the type");
+        same(&rt, content, b"last", "the content");
+        holds(&rt, reader.number() == number.wrapping_add(1), "the number");
+    }
+    let mut ended = Reader::new(&AES_128_GCM, &KEY[..16], IV)?.starting_at(u64::MAX);
+    let mut record = <[u8; 26]>::from_hex(LAST)?;
+    holds(
+        &rt,
+        ended.read(&mut record).err() == Some(RecordError::KeyUsedUp),
+        "no record after them",
+    );
     Ok(())
 }
 
 /// Each error with its text, and the number of its alert (RFC 8446 section 6).
-const TEXTS: [(RecordError, &str, u8); 17] = [
+const TEXTS: [(RecordError, &str, u8); 18] = [
     (
         RecordError::KeyLength,
         "the key does not have the length of the algorithm's keys",
@@ -682,6 +718,11 @@ const TEXTS: [(RecordError, &str, u8); 17] = [
         RecordError::EmptyContent,
         "an alert or handshake record has no content",
         10,
+    ),
+    (
+        RecordError::AlertLength,
+        "an alert does not have 2 bytes",
+        50,
     ),
 ];
 

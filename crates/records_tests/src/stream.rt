@@ -1,19 +1,15 @@
-//! Tests of `classify`, and of the example in the README with two keys.
+//! Tests of `classify`, and of `uses::record_stream`.
 
 use crate::checks::equal;
-use crate::example::receive;
 use aead_ciphers::aead::AES_128_GCM;
 use records::{Begins, ContentType, Reader, RecordError, RecordKind, Writer, classify};
-use std::alloc::Global;
 use std::test::Fail;
 use uses::record_stream;
 
 const IV: [u8; 12] = [3; 12];
 
-const NEXT_IV: [u8; 12] = [4; 12];
-
 /// Bytes in hex, and the result of `classify` (RFC 8446 sections 5, 5.1 and 5.2).
-const BEGIN: [(&str, Result<Begins, RecordError>); 24] = [
+const BEGIN: [(&str, Result<Begins, RecordError>); 29] = [
     ("", Ok(Begins::MoreNeeded(5))),
     ("16030100", Ok(Begins::MoreNeeded(5))),
     ("1603010002", Ok(Begins::MoreNeeded(7))),
@@ -37,7 +33,15 @@ const BEGIN: [(&str, Result<Begins, RecordError>); 24] = [
         Ok(Begins::Record(RecordKind::ChangeCipherSpec, 6)),
     ),
     ("140303000102", Err(RecordError::UnexpectedRecord)),
-    ("140301000101", Err(RecordError::UnexpectedRecord)),
+    (
+        "140301000101",
+        Ok(Begins::Record(RecordKind::ChangeCipherSpec, 6)),
+    ),
+    ("140304000102", Err(RecordError::UnexpectedRecord)),
+    ("1403034001", Err(RecordError::PlaintextTooLong)),
+    ("1503034001", Err(RecordError::PlaintextTooLong)),
+    ("1803034001", Err(RecordError::PlaintextTooLong)),
+    ("1803034000", Err(RecordError::UnexpectedRecord)),
     ("1403030002", Err(RecordError::UnexpectedRecord)),
     ("1703030011", Ok(Begins::MoreNeeded(22))),
     ("1703034011", Ok(Begins::MoreNeeded(16406))),
@@ -55,30 +59,6 @@ fn what_streams_begin_with(rt: HostRuntime) -> Result<(), Fail> {
         let bytes = hex::decode(rt.alloc(), text)?;
         assert!(rt; classify(&bytes) == expected, "{text}");
     }
-    Ok(())
-}
-
-/// Returns data, a KeyUpdate, data under the next key, and the first bytes of another record.
-fn two_epochs(alloc: Global) -> Result<Vec<u8>, Fail> {
-    let mut writer = Writer::new(&AES_128_GCM, &[1; 16], IV)?;
-    let mut bytes = Vec::new(alloc);
-    writer.write(ContentType::ApplicationData, b"to", 3, &mut bytes)?;
-    writer.write(ContentType::Handshake, &[24, 0, 0, 1, 0], 0, &mut bytes)?;
-    writer.update(&[2; 16], NEXT_IV)?;
-    writer.write(ContentType::ApplicationData, b"gether", 0, &mut bytes)?;
-    bytes.extend_from_slice(&[23, 3, 3, 0])?;
-    Ok(bytes)
-}
-
-#[test]
-fn two_epochs_in_one_buffer(rt: HostRuntime) -> Result<(), Fail> {
-    let mut reader = Reader::new(&AES_128_GCM, &[1; 16], IV)?;
-    let mut bytes = two_epochs(rt.alloc())?;
-    let (filled, taken) = receive(&mut reader, bytes.as_mut_slice(), &[2; 16], NEXT_IV)?;
-    equal(&rt, &filled, &8);
-    equal(&rt, &Some(taken), &bytes.len().checked_sub(4));
-    equal(&rt, &bytes.get(..8), &Some(b"together".as_slice()));
-    equal(&rt, &reader.number(), &1);
     Ok(())
 }
 

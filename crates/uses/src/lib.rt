@@ -10,3 +10,4 @@ pub mod pieces;
 pub mod quic_connection;
 pub mod record_stream;
 pub mod streams;
+pub mod tls_connection;

@@ -1,0 +1,95 @@
+-- Handshake messages (RFC 8446 section 4), and how they are joined from the contents of records (section 5.1).
+use Rattle.std.specs.Prelude.{◌≡◌, ℕ, zero, suc, ◌+◌, ◌*◌, ◌<◌, ◌≤◌, Bool, cond, leb, ◌&&◌, List, [], ◌∷◌, ◌++◌, length, take, drop, slice_index, ◌==◌, ◌||◌, IsTrue}
+use Rattle.std.specs.Prelude.{not}
+use Rattle.std.specs.List.{All, concat}
+use Rattle.tls_messages.specs.declared.stage.Stage.{Stage}
+use Rattle.tls_messages.specs.declared.stage.Stage.TheVariants.{AuthenticatingClient, AuthenticatingServer, Client, Handshake, Server}
+
+-- the length of the message that begins with these 4 bytes: its type, the length of its body in 3 bytes, its body
+abbrev pub message_len : List ℕ → ℕ
+message_len start = 4 + (65536 * slice_index start 1 + 256 * slice_index start 2 + slice_index start 3)
+
+-- one whole message
+pub record IsMessage (bytes : List ℕ) : Type 0 where
+  pub header : 4 ≤ length bytes
+  pub len : length bytes ≡ message_len bytes
+
+-- the start of a message, which is not whole
+abbrev pub IsPart : List ℕ → Type 0
+IsPart bytes = 4 ≤ length bytes → length bytes < message_len bytes
+
+-- A message of this type may come at a stage: no KeyUpdate during the handshake (section 4.6.3), and after it NewSessionTicket
+-- from a server, KeyUpdate from both, and with post-handshake authentication CertificateRequest from a server, and Certificate,
+-- CertificateVerify and Finished from a client (section 4.6.2)
+abbrev pub may_come : Stage → ℕ → Bool
+may_come Handshake type = not (type == 24)
+may_come Client type = type == 4 || type == 24
+may_come AuthenticatingClient type = type == 4 || type == 24 || type == 13
+may_come Server type = type == 24
+may_come AuthenticatingServer type = type == 24 || type == 11 || type == 15 || type == 20
+
+-- the header of a message that may come, with a KeyUpdate's body of one byte (section 4.6.3), and no longer than the bound
+pub record IsExpected (stage : Stage) (bound : ℕ) (bytes : List ℕ) : Type 0 where
+  pub type : IsTrue (may_come stage (slice_index bytes 0))
+  pub update : slice_index bytes 0 ≡ 24 → message_len bytes ≡ 5
+  pub fits : message_len bytes ≤ bound
+
+-- such a header begins here, as far as it is there
+abbrev pub Begins : Stage → ℕ → List ℕ → Type 0
+Begins stage bound bytes = 4 ≤ length bytes → IsExpected stage bound bytes
+
+-- a stream is these messages, in order, and after them this part of a message
+pub record Splits (stream : List ℕ) (messages : List (List ℕ)) (part : List ℕ) : Type 0 where
+  pub whole : All IsMessage messages
+  pub rest : IsPart part
+  pub joined : stream ≡ concat messages ++ part
+
+-- whether a stream begins with a whole message
+abbrev pub begins_whole : List ℕ → Bool
+begins_whole stream = leb 4 (length stream) && leb (message_len stream) (length stream)
+
+-- the whole messages at the front of a stream, at most n
+unfoldable pub messages_in : (n : ℕ) → List ℕ → List (List ℕ)
+messages_in zero stream = []
+messages_in (suc n) stream = cond (begins_whole stream)
+    (take (message_len stream) stream ∷ messages_in n (drop (message_len stream) stream)) []
+
+-- what comes after them
+unfoldable pub part_in : (n : ℕ) → List ℕ → List ℕ
+part_in zero stream = stream
+part_in (suc n) stream = cond (begins_whole stream) (part_in n (drop (message_len stream) stream)) stream
+
+-- the whole messages of a stream, in order, and the part of a message after them
+unfoldable pub messages_of : List ℕ → List (List ℕ)
+messages_of stream = messages_in (length stream) stream
+
+unfoldable pub part_of : List ℕ → List ℕ
+part_of stream = part_in (length stream) stream
+
+-- the messages of the contents of records, where `part` is left of those before
+unfoldable pub messages_read : (part : List ℕ) → (contents : List (List ℕ)) → List (List ℕ)
+messages_read part [] = []
+messages_read part (content ∷ later) = messages_of (part ++ content) ++ messages_read (part_of (part ++ content)) later
+
+-- a reader: the message that it gives, which is empty if it gives none, the part of a message that it keeps, the most bytes that
+-- a message may have, the stage of the connection, and whether it has rejected a message
+pub record Joining : Type 0 where
+  pub message : List ℕ
+  pub part : List ℕ
+  pub bound : ℕ
+  pub stage : Stage
+  pub is_closed : Bool
+
+-- the keys may change after a message of this type: ClientHello, ServerHello, EndOfEarlyData, Finished, KeyUpdate. A sender ends
+-- the record with it in any case (section 5.1)
+abbrev pub changes_keys : ℕ → Bool
+changes_keys type = type == 1 || type == 2 || type == 5 || type == 20 || type == 24
+
+abbrev pub ChangesKeys : List ℕ → Type 0
+ChangesKeys message = IsTrue (changes_keys (slice_index message 0))
+
+-- a whole message, which `rest` follows in its record: the byte of a KeyUpdate is 0 or 1 (section 4.6.3), and nothing follows a
+-- message that changes keys (section 5.1)
+pub record IsTaken (message rest : List ℕ) : Type 0 where
+  pub request : slice_index message 0 ≡ 24 → slice_index message 4 ≤ 1
+  pub aligned : ChangesKeys message → rest ≡ []

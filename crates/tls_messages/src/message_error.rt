@@ -1,0 +1,51 @@
+//! The error of joining messages.
+
+ghost use Rattle.std.specs.Prelude.{◌≡◌};
+ghost use Rattle.tls_messages.specs.Steps.{alert_of};
+
+use crate::alert::AlertDescription;
+use thiserror::Error;
+
+/// The error of joining messages. Each but `Closed` ends the connection.
+#[derive(Clone, Copy, Debug, PartialEq, Eq, Drop, Error)]
+pub enum MessageError {
+    /// A message has more bytes than the reader's buffer: this many.
+    #[error("a handshake message of {0} bytes is longer than the buffer")]
+    TooLong(usize),
+    /// A message of this type may not come at this stage (RFC 8446 sections 4.6.2 and 4.6.3).
+    #[error("a handshake message of type {0} is not expected")]
+    UnexpectedType(u8),
+    /// The body of a KeyUpdate does not have one byte (RFC 8446 section 4.6.3).
+    #[error("a KeyUpdate does not have one byte")]
+    KeyUpdateLength,
+    /// The byte of a KeyUpdate is neither 0 nor 1 (RFC 8446 section 4.6.3).
+    #[error("a KeyUpdate has an unknown request")]
+    KeyUpdateRequest,
+    /// The record goes on after a message that changes the keys (RFC 8446 section 5.1).
+    #[error("a record goes on after a handshake message that changes the keys")]
+    DataAfterKeys,
+    /// A record of another type is between the parts of a message (RFC 8446 section 5.1).
+    #[error("a record of another type is between the parts of a handshake message")]
+    Interrupted,
+    /// The reader has rejected a message before, which ended the connection.
+    #[error("the reader is closed, since it has rejected a message")]
+    Closed,
+}
+
+impl MessageError {
+    /// Returns the alert that ends the connection, or `None` for `Closed`. It is `internal_error` for `TooLong`, since the
+    /// bound is the caller's and not the protocol's (RFC 8446 section 6.2).
+    pub fn alert(self) -> Option<AlertDescription>
+        ensures { result ≡ alert_of self }
+    {
+        match self {
+            MessageError::TooLong(_) => Some(AlertDescription::InternalError),
+            MessageError::UnexpectedType(_)
+            | MessageError::DataAfterKeys
+            | MessageError::Interrupted => Some(AlertDescription::UnexpectedMessage),
+            MessageError::KeyUpdateLength => Some(AlertDescription::DecodeError),
+            MessageError::KeyUpdateRequest => Some(AlertDescription::IllegalParameter),
+            MessageError::Closed => None,
+        }
+    }
+}

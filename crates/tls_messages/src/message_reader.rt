@@ -1,0 +1,324 @@
+//! Joining messages.
+
+ghost use Rattle.std.specs.Prelude.{◌≡◌, ◌↔◌, ◌+◌, ◌<◌, ◌≤◌, ◌++◌, ◌∷◌, [], length, take, false, IsOk, IfOk, IfErr, IfSome, IsErrOf, IsTrue, IsFalse, IsErr, OnErr, OnOk, IsOkUnless, List, None, slice_index, true, ℕ, ◌≢◌, ⊤};
+ghost use Rattle.std.specs.Borrow.{sem, follows_so};
+ghost use mathlib.Core.Option.{none};
+ghost use mir.Syntax.{named};
+ghost use Rattle.tls_messages.specs.Messages.{message_len, messages_of, part_of, Begins, ChangesKeys, IsExpected, IsMessage, IsPart, IsTaken};
+ghost use Rattle.tls_messages.specs.Steps.{Leaves, Refuses, RefusesHeader, RefusesMessage};
+ghost use Rattle.tls_messages.specs.contracts.message_reader.MessageReader.{the_row};
+
+use crate::message_error::MessageError;
+use crate::message_type::{KEY_UPDATE, changes_keys};
+use crate::stage::Stage;
+use crate::{KEY_UPDATE_LEN, MESSAGE_HEADER_LEN};
+use std::marker::Model;
+
+/// Joins the handshake messages that records carry. A message may be cut over records, and share one with others (RFC 8446
+/// section 5.1).
+///
+/// The reader keeps the part of a message that a record ends in. The caller lends it a buffer, whose length is the most bytes
+/// that a message may have. An error ends the connection and closes the reader: every later call returns `Closed`.
+///
+/// # Examples
+///
+/// Takes the messages of one record: follows each KeyUpdate, and appends the others. From `crates/uses/src/tls_connection.rt`:
+///
+/// ```
+/// while let Some(message) = messages.next(&mut content)? {
+///     if message[0] == KEY_UPDATE {
+///         incoming.update(message[4])?;
+///     } else {
+///         handed.push(message.to_vec(alloc)?)?;
+///     }
+/// }
+/// ```
+#[derive(Drop)]
+pub struct MessageReader<'b> {
+    buffer: &'b mut [u8],
+    filled: usize,
+    is_whole: bool,
+    stage: Stage,
+    is_closed: bool,
+}
+
+impl<'b> Model for MessageReader<'b> {
+    ghost use Rattle.std.specs.Prelude.{◌≤◌, length, take, cond, [], IsFalse};
+    ghost use Rattle.tls_messages.specs.Messages.{IsPart, Joining};
+
+    ghost Value = { Joining };
+
+    ghost view = { λ r. record {
+      message = cond r.is_whole (take r.filled r.buffer.now) [];
+      part = cond r.is_whole [] (take r.filled r.buffer.now);
+      bound = length r.buffer.now;
+      stage = r.stage;
+      is_closed = r.is_closed;
+    } };
+
+    ghost invariant = { λ r. (4 ≤ length r.buffer.now) × (r.filled ≤ length r.buffer.now)
+        × (IsFalse r.is_closed → IsPart (cond r.is_whole [] (take r.filled r.buffer.now))) };
+}
+
+impl<'b> MessageReader<'b> {
+    /// Creates a reader of messages that have at most as many bytes as the buffer.
+    pub fn new(buffer: &'b mut [u8], stage: Stage) -> Self
+        requires { MESSAGE_HEADER_LEN ≤ length buffer.old }
+        ensures { result ≡ record {
+          message = [];
+          part = [];
+          bound = length buffer.old;
+          stage = stage;
+          is_closed = false;
+        } }
+    {
+        MessageReader {
+            buffer,
+            filled: 0,
+            is_whole: false,
+            stage,
+            is_closed: false,
+        }
+    }
+
+    /// Continues at another stage, as after the Finished of the peer.
+    pub fn set_stage(&mut self, stage: Stage)
+        ensures { self.new ≡ record self.old { stage = stage } }
+    {
+        self.stage = stage;
+    }
+
+    /// Returns whether a message is cut: more of it is to come.
+    pub fn is_cut(&self) -> bool
+        ensures { IsFalse result ↔ (self.now.part ≡ []) }
+    {
+        !self.is_whole && self.filled > 0
+    }
+
+    /// Returns whether the reader is closed, because it rejected a message.
+    pub fn is_closed(&self) -> bool
+        ensures { result ≡ self.now.is_closed }
+    {
+        self.is_closed
+    }
+
+    /// Admits a record that is neither a handshake record nor an alert: no message may be cut (RFC 8446 section 5.1). An alert
+    /// may come at any time.
+    ///
+    /// Fails with `Interrupted` if a message is cut, which closes the reader.
+    pub fn admit_other_record(&mut self) -> Result<(), MessageError>
+        ensures accepted { IsOk result ↔ (IsFalse self.old.is_closed × (self.old.part ≡ [])) }
+        ensures closed { IsTrue self.old.is_closed → IsErrOf result MessageError.Closed }
+        ensures interrupted { IsFalse self.old.is_closed
+            → IsOkUnless result MessageError.Interrupted }
+        ensures kept { OnOk result (self.new ≡ self.old) }
+        ensures closes { OnErr result (self.new ≡ record self.old { is_closed = true }) }
+    {
+        if self.is_closed {
+            return Err(MessageError::Closed);
+        }
+        if self.is_cut() {
+            self.is_closed = true;
+            return Err(MessageError::Interrupted);
+        }
+        Ok(())
+    }
+
+    /// Returns the next message, with its type and its length, and takes its last bytes off the front of the content. Returns
+    /// `None` if the content ends before a message does. It is then used up, and the content of the next handshake record
+    /// continues.
+    ///
+    /// As soon as the type and the length of a message are there, fails with `UnexpectedType` if the stage does not allow the
+    /// message, with `KeyUpdateLength` if it is a KeyUpdate of another length, and with `TooLong` if it is longer than the
+    /// buffer. When it is whole, fails with `KeyUpdateRequest` if it is a KeyUpdate whose byte is neither 0 nor 1, and with
+    /// `DataAfterKeys` if the content continues after a ClientHello, ServerHello, EndOfEarlyData, Finished or KeyUpdate.
+    pub fn next<'s>(&'s mut self, content: &mut &[u8]) -> Result<Option<&'s [u8]>, MessageError>
+        ensures* leaves { sem 𝓛 (follows_so (the_row (record { mir = named 1; lft = [] })) (the_row (record { mir = named 1; lft = [] }))
+            self.entry.ghost_name none (λ _ _. ⊤)
+            (λ now. Leaves self.old content.old.now result content.new.now now)) }
+        ensures found { IfOk result (λ found. IfSome found (λ message. IsMessage message.now
+            × (messages_of (self.old.part ++ content.old.now) ≡ message.now ∷ messages_of content.new.now)
+            × (part_of (self.old.part ++ content.old.now) ≡ part_of content.new.now)
+            × (length content.new.now < length content.old.now))) }
+        ensures taken { IfOk result (λ found. IfSome found (λ message. IsTaken message.now content.new.now
+            × IsExpected self.old.stage self.old.bound message.now)) }
+        ensures ended { IfOk result (λ found. found ≡ None → (content.new.now ≡ [])
+            × (messages_of (self.old.part ++ content.old.now) ≡ [])) }
+        ensures begins { IsOk result
+            → Begins self.old.stage self.old.bound (self.old.part ++ content.old.now) }
+        ensures closed { IsTrue self.old.is_closed → IsErrOf result MessageError.Closed }
+    {
+        if !self.advance(content)? {
+            return Ok(None);
+        }
+        Ok(Some(self.message()))
+    }
+
+    /// Moves bytes from the front of the content to the message that the reader is at, and returns whether it is whole.
+    fn advance(&mut self, content: &mut &[u8]) -> Result<bool, MessageError>
+        ensures rules { (self.new.bound ≡ self.old.bound) × (self.new.stage ≡ self.old.stage) }
+        ensures joined { IfErr result (λ error. IsFalse self.old.is_closed
+            → self.old.part ++ content.old.now ≡ self.new.part ++ content.new.now) }
+        ensures found { IfOk result (λ found. IsTrue found → IsMessage self.new.message × (self.new.part ≡ [])
+            × (messages_of (self.old.part ++ content.old.now) ≡ self.new.message ∷ messages_of content.new.now)
+            × (part_of (self.old.part ++ content.old.now) ≡ part_of content.new.now)
+            × (length content.new.now < length content.old.now)) }
+        ensures taken { IfOk result (λ found. IsTrue found → IsTaken self.new.message content.new.now
+            × IsExpected self.old.stage self.old.bound self.new.message) }
+        ensures ended { IfOk result (λ found. IsFalse found → (self.new.message ≡ []) × (content.new.now ≡ [])
+            × (messages_of (self.old.part ++ content.old.now) ≡ [])
+            × (part_of (self.old.part ++ content.old.now) ≡ self.new.part)) }
+        ensures begins { IsOk result
+            → Begins self.old.stage self.old.bound (self.old.part ++ content.old.now) }
+        ensures refused { IsFalse self.old.is_closed → IfErr result (λ error. (self.new.message ≡ [])
+            × Refuses self.old.stage self.old.bound self.new.part content.new.now error) }
+        ensures closed { IsTrue self.old.is_closed → IsErrOf result MessageError.Closed
+            × (self.new ≡ self.old) × (content.new.now ≡ content.old.now) }
+        ensures closes { IsTrue self.new.is_closed ↔ IsErr result }
+    {
+        if self.is_closed {
+            return Err(MessageError::Closed);
+        }
+        self.is_closed = true;
+        if self.is_whole {
+            self.filled = 0;
+            self.is_whole = false;
+        }
+        let stage = self.stage;
+        self.is_whole = next_message(stage, self.buffer, &mut self.filled, content)?;
+        self.is_closed = false;
+        Ok(self.is_whole)
+    }
+
+    /// The message that was found last, or nothing if none was.
+    fn message(&self) -> &[u8]
+        ensures { result.now ≡ self.now.message }
+    {
+        if self.is_whole {
+            &self.buffer[..self.filled]
+        } else {
+            &[]
+        }
+    }
+}
+
+/// Moves bytes from the front of the content into the buffer, which has `filled` bytes of a message, until it is whole, and
+/// checks it then.
+fn next_message(
+    stage: Stage,
+    buffer: &mut [u8],
+    filled: &mut usize,
+    content: &mut &[u8],
+) -> Result<bool, MessageError>
+    requires { (4 ≤ length buffer.old) × (filled.old ≤ length buffer.old) × IsPart (take filled.old buffer.old) }
+    ensures within { filled.new ≤ length buffer.old }
+    ensures joined { take filled.old buffer.old ++ content.old.now
+        ≡ take filled.new buffer.new ++ content.new.now }
+    ensures found { IfOk result (λ found. IsTrue found → IsMessage (take filled.new buffer.new)
+        × (messages_of (take filled.old buffer.old ++ content.old.now)
+        ≡ take filled.new buffer.new ∷ messages_of content.new.now)
+        × (part_of (take filled.old buffer.old ++ content.old.now) ≡ part_of content.new.now)
+        × (length content.new.now < length content.old.now)) }
+    ensures taken { IfOk result (λ found. IsTrue found → IsTaken (take filled.new buffer.new) content.new.now
+        × IsExpected stage (length buffer.old) (take filled.new buffer.new)) }
+    ensures ended { IfOk result (λ found. IsFalse found → IsPart (take filled.new buffer.new)
+        × (content.new.now ≡ [])
+        × (messages_of (take filled.old buffer.old ++ content.old.now) ≡ [])
+        × (part_of (take filled.old buffer.old ++ content.old.now) ≡ take filled.new buffer.new)) }
+    ensures begins { IsOk result → Begins stage (length buffer.old) (take filled.old buffer.old ++ content.old.now) }
+    ensures refused { IfErr result
+        (Refuses stage (length buffer.old) (take filled.new buffer.new) content.new.now) }
+{
+    let is_whole = join(stage, buffer, filled, content)?;
+    if is_whole {
+        check_whole(&buffer[..*filled], content.is_empty())?;
+    }
+    Ok(is_whole)
+}
+
+/// Checks a whole message, and that the record ends with it if it changes keys.
+fn check_whole(message: &[u8], is_last: bool) -> Result<(), MessageError>
+    requires { IsMessage message.now × (slice_index message.now 0 ≡ 24 → message_len message.now ≡ 5) }
+    ensures accepted { IsOk result ↔ ((slice_index message.now 0 ≡ 24 → slice_index message.now 4 ≤ 1)
+        × (ChangesKeys message.now → IsTrue is_last)) }
+    ensures refused { (rest : List ℕ) → (IsFalse is_last → rest ≢ [])
+        → IfErr result (RefusesMessage message.now rest) }
+{
+    if message[0] == KEY_UPDATE && message[MESSAGE_HEADER_LEN] > 1 {
+        return Err(MessageError::KeyUpdateRequest);
+    }
+    if changes_keys(message[0]) && !is_last {
+        return Err(MessageError::DataAfterKeys);
+    }
+    Ok(())
+}
+
+/// Moves bytes from the front of the content into the buffer, which has `filled` bytes of a message, until it is whole.
+fn join(
+    stage: Stage,
+    buffer: &mut [u8],
+    filled: &mut usize,
+    content: &mut &[u8],
+) -> Result<bool, MessageError>
+    requires { (4 ≤ length buffer.old) × (filled.old ≤ length buffer.old) × IsPart (take filled.old buffer.old) }
+    ensures within { filled.new ≤ length buffer.old }
+    ensures joined { take filled.old buffer.old ++ content.old.now
+        ≡ take filled.new buffer.new ++ content.new.now }
+    ensures found { IfOk result (λ found. IsTrue found → IsMessage (take filled.new buffer.new)
+        × (messages_of (take filled.old buffer.old ++ content.old.now)
+        ≡ take filled.new buffer.new ∷ messages_of content.new.now)
+        × (part_of (take filled.old buffer.old ++ content.old.now) ≡ part_of content.new.now)
+        × (length content.new.now < length content.old.now)) }
+    ensures ended { IfOk result (λ found. IsFalse found → IsPart (take filled.new buffer.new)
+        × (content.new.now ≡ [])
+        × (messages_of (take filled.old buffer.old ++ content.old.now) ≡ [])
+        × (part_of (take filled.old buffer.old ++ content.old.now) ≡ take filled.new buffer.new)) }
+    ensures accepted { IsOk result ↔ Begins stage (length buffer.old) (take filled.old buffer.old ++ content.old.now) }
+    ensures refused { IfErr result (λ error. (4 ≤ length (take filled.new buffer.new))
+        × RefusesHeader stage (length buffer.old) (take filled.new buffer.new) error) }
+{
+    let header_end = MESSAGE_HEADER_LEN.max(*filled);
+    *filled += fill(buffer, *filled, header_end, content);
+    if *filled < MESSAGE_HEADER_LEN {
+        return Ok(false);
+    }
+    let len = expected_len(stage, buffer)?;
+    *filled += fill(buffer, *filled, len, content);
+    Ok(*filled == len)
+}
+
+/// The length of the message that begins with these bytes, if it may come and is no longer than they are.
+fn expected_len(stage: Stage, start: &[u8]) -> Result<usize, MessageError>
+    requires { 4 ≤ length start.now }
+    ensures accepted { IsOk result ↔ IsExpected stage (length start.now) start.now }
+    ensures len { IfOk result (λ n. n ≡ message_len start.now) }
+    ensures refused { IfErr result (RefusesHeader stage (length start.now) start.now) }
+{
+    let message_type = start[0];
+    if !stage.allows(message_type) {
+        return Err(MessageError::UnexpectedType(message_type));
+    }
+    let len = MESSAGE_HEADER_LEN
+        + (65536 * usize::from(start[1]) + 256 * usize::from(start[2]) + usize::from(start[3]));
+    if message_type == KEY_UPDATE && len != KEY_UPDATE_LEN {
+        return Err(MessageError::KeyUpdateLength);
+    }
+    if len > start.len() {
+        return Err(MessageError::TooLong(len));
+    }
+    Ok(len)
+}
+
+/// Moves bytes from the front of the content into `buffer[at..end]`, as many as there are, and returns how many.
+fn fill(buffer: &mut [u8], at: usize, end: usize, content: &mut &[u8]) -> usize
+    requires { (at ≤ end) × (end ≤ length buffer.old) }
+    ensures filled { take (at + result) buffer.new ++ content.new.now ≡ take at buffer.old ++ content.old.now }
+    ensures within { at + result ≤ end }
+    ensures used { at + result < end → content.new.now ≡ [] }
+{
+    let count = (end - at).min(content.len());
+    let (taken, rest) = content.split_at(count);
+    buffer[at..at + count].copy_from_slice(taken);
+    *content = rest;
+    count
+}

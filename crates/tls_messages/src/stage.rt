@@ -1,0 +1,49 @@
+//! The stages of a connection.
+
+ghost use Rattle.std.specs.Prelude.{◌≡◌};
+ghost use Rattle.tls_messages.specs.Messages.{may_come};
+
+use crate::message_type::{
+    CERTIFICATE, CERTIFICATE_REQUEST, CERTIFICATE_VERIFY, FINISHED, KEY_UPDATE, NEW_SESSION_TICKET,
+};
+
+/// A stage of a connection at one end, which decides on the messages that the end may receive.
+#[derive(Clone, Copy, Debug, PartialEq, Eq)]
+pub enum Stage {
+    /// The handshake: every message but a KeyUpdate, which must not precede the Finished (RFC 8446 section 4.6.3). In which
+    /// order the messages of the handshake come is the caller's responsibility.
+    Handshake,
+    /// After the handshake, at a client: NewSessionTicket and KeyUpdate (section 4.6).
+    Client,
+    /// After the handshake, at a client that offered post-handshake authentication: CertificateRequest too (section 4.6.2).
+    AuthenticatingClient,
+    /// After the handshake, at a server: KeyUpdate.
+    Server,
+    /// After the handshake, at a server that asks for post-handshake authentication: Certificate, CertificateVerify and
+    /// Finished too (section 4.6.2).
+    AuthenticatingServer,
+}
+
+impl Stage {
+    /// Returns whether a message of this type may come.
+    pub fn allows(self, message_type: u8) -> bool
+        ensures { result ≡ may_come self message_type }
+    {
+        match self {
+            Stage::Handshake => message_type != KEY_UPDATE,
+            Stage::Client => message_type == NEW_SESSION_TICKET || message_type == KEY_UPDATE,
+            Stage::AuthenticatingClient => {
+                message_type == NEW_SESSION_TICKET
+                    || message_type == KEY_UPDATE
+                    || message_type == CERTIFICATE_REQUEST
+            }
+            Stage::Server => message_type == KEY_UPDATE,
+            Stage::AuthenticatingServer => {
+                message_type == KEY_UPDATE
+                    || message_type == CERTIFICATE
+                    || message_type == CERTIFICATE_VERIFY
+                    || message_type == FINISHED
+            }
+        }
+    }
+}

@@ -1,0 +1,19 @@
+use Rattle.std.proofs.Common.{◌≡◌, ◌-◌, ◌≤◌, drop, length, false}
+use Rattle.records.specs.Stream.{Taken}
+use Rattle.uses.specs.Connection.{IsOf, Step, receiving}
+use Rattle.uses.proofs.tls_connection.receive_records.Given as goal
+
+-- the records before `at` are received, and the bytes from there on are as they were
+abbrev pub invariant-loop-len : goal.invariant-loop-len
+invariant-loop-len l = record {
+  in_range : l.at ≤ length l.bytes;
+  same_len : length l.bytes ≡ length l.fn.bytes;
+  taken : Taken Step l.fn.bytes (receiving l.initial.incoming l.initial.messages l.initial.received) l.at
+      (receiving l.incoming l.messages l.received);
+  kept : drop l.at l.bytes ≡ drop l.at l.fn.bytes;
+  is_of : IsOf l.incoming.secret l.incoming.reader.key;
+  going : l.incoming.is_ended ≡ false;
+}
+
+abbrev pub decreases-loop-len : goal.decreases-loop-len
+decreases-loop-len l = length l.bytes - l.at

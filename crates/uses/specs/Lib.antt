@@ -1,0 +1,2 @@
+-- The definitions that the contracts use.
+pub mod Connection

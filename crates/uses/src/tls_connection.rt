@@ -1,0 +1,407 @@
+//! One end of a TLS 1.3 connection after the handshake: what it receives, over the peer's key updates, and what it sends.
+
+ghost use Rattle.std.specs.Prelude.{◌≡◌, ◌≢◌, ◌↔◌, ◌+◌, ◌<◌, ◌≤◌, ◌++◌, ℕ, List, [], ◌∷◌, map, length, take, drop, slice_range, slice_index, false, true, IsTrue, IsFalse, IsOk, IfOk, IfErr, IfSome, IsErrOf, OnOk, OnErr, Ok, Err, None, cond, vec_len};
+ghost use Rattle.aead_ciphers.specs.Algorithm.{key_len};
+ghost use Rattle.key_derivation.specs.Secret.{suite_key_len};
+ghost use Rattle.key_derivation.specs.Tls.{next_traffic_secret, record_iv, record_key};
+ghost use Rattle.records.specs.Keys.{new_key, rekeyed};
+ghost use Rattle.records.specs.Record.{record_at};
+ghost use Rattle.records.specs.Refusals.{alert_of as record_alert};
+ghost use Rattle.tls_messages.specs.Steps.{alert_of as message_alert};
+ghost use Rattle.records.specs.Stream.{NeedsMore, Taken};
+ghost use Rattle.uses.specs.Connection.{IsOf, Step, data_record, handed_over, key_update_record, next_outgoing, receiving, updated, updated_by};
+ghost use Rattle.tls_messages.specs.Messages.{messages_of, part_of};
+
+use aead_ciphers::aead::{AES_128_GCM, AES_256_GCM, Algorithm};
+use key_derivation::{Secret, Suite};
+use records::{
+    AlertDescription, Begins, ContentType, Reader, RecordError, RecordKind, Writer, classify,
+};
+use std::alloc::{AllocError, AllocFailed, Global};
+use tls_messages::message_type::KEY_UPDATE;
+use tls_messages::{MessageError, MessageReader};
+
+/// The alerts that are no errors (RFC 8446 section 6.1).
+const CLOSE_NOTIFY: u8 = 0;
+
+const USER_CANCELED: u8 = 90;
+
+/// Why no more is received.
+#[derive(Clone, Copy, Debug, PartialEq, Eq, Drop)]
+pub enum ReceiveError {
+    /// A record is rejected.
+    Record(RecordError),
+    /// A handshake message is rejected.
+    Message(MessageError),
+    /// The peer has sent this alert, which is an error whatever its level (RFC 8446 section 6).
+    Alert(u8),
+    /// Allocating memory for what was received failed.
+    OutOfMemory,
+    /// The connection had ended before.
+    Ended,
+}
+
+impl From<RecordError> for ReceiveError {
+    ghost use Rattle.std.specs.Prelude.{◌≡◌};
+    ghost use Rattle.uses.specs.declared.tls_connection.ReceiveError.TheVariants.{Record};
+
+    ghost from_gives = { λ from error. error ≡ Record from };
+
+    fn from(error: RecordError) -> Self {
+        ReceiveError::Record(error)
+    }
+}
+
+impl From<MessageError> for ReceiveError {
+    ghost use Rattle.std.specs.Prelude.{◌≡◌};
+    ghost use Rattle.uses.specs.declared.tls_connection.ReceiveError.TheVariants.{Message};
+
+    ghost from_gives = { λ from error. error ≡ Message from };
+
+    fn from(error: MessageError) -> Self {
+        ReceiveError::Message(error)
+    }
+}
+
+impl From<AllocError> for ReceiveError {
+    ghost use Rattle.std.specs.Prelude.{◌≡◌};
+    ghost use Rattle.uses.specs.declared.tls_connection.ReceiveError.TheVariants.{OutOfMemory};
+
+    ghost from_gives = { λ _ error. error ≡ OutOfMemory };
+
+    fn from(_error: AllocError) -> Self {
+        ReceiveError::OutOfMemory
+    }
+}
+
+impl<T: Drop> From<AllocFailed<T>> for ReceiveError {
+    ghost use Rattle.std.specs.Prelude.{◌≡◌};
+    ghost use Rattle.uses.specs.declared.tls_connection.ReceiveError.TheVariants.{OutOfMemory};
+
+    ghost from_gives = { λ _ error. error ≡ OutOfMemory };
+
+    fn from(_error: AllocFailed<T>) -> Self {
+        ReceiveError::OutOfMemory
+    }
+}
+
+impl ReceiveError {
+    /// Returns the alert that ends the connection, or `None` if the peer has ended it.
+    pub fn alert(self) -> Option<AlertDescription>
+        ensures record { (error : RecordError) → self ≡ ReceiveError.Record error → result ≡ record_alert error }
+        ensures message { (error : MessageError) → self ≡ ReceiveError.Message error → result ≡ message_alert error }
+    {
+        match self {
+            ReceiveError::Record(error) => error.alert(),
+            ReceiveError::Message(error) => error.alert(),
+            ReceiveError::OutOfMemory => Some(AlertDescription::InternalError),
+            ReceiveError::Alert(_) | ReceiveError::Ended => None,
+        }
+    }
+}
+
+/// The keys of what the peer sends.
+#[derive(Drop)]
+pub struct Incoming {
+    pub reader: Reader,
+    /// The traffic secret of the reader's key.
+    pub secret: Secret,
+    /// Whether the peer has asked for a KeyUpdate that is not sent yet.
+    pub owes_update: bool,
+    /// Whether nothing more is received, after close_notify or an error.
+    pub is_ended: bool,
+}
+
+/// What was received: application data, and the handshake messages but for KeyUpdates, as tickets.
+#[derive(Drop)]
+pub struct Received {
+    pub application_data: Vec<u8>,
+    pub messages: Vec<Vec<u8>>,
+}
+
+/// The algorithm of a suite.
+fn algorithm_of(suite: Suite) -> &'static Algorithm
+    ensures { key_len result.now ≡ suite_key_len suite }
+{
+    match suite {
+        Suite::Aes128Gcm => &AES_128_GCM,
+        Suite::Aes256Gcm => &AES_256_GCM,
+    }
+}
+
+impl Incoming {
+    /// The end that receives under the peer's first application traffic secret.
+    pub fn new(secret: Secret) -> Result<Self, RecordError>
+        ensures accepted { IsOk result }
+        ensures made { IfOk result (λ made. (made.secret ≡ secret) × IsOf secret made.reader.key
+            × (made.reader.number ≡ 0) × IsFalse made.reader.is_closed
+            × IsFalse made.owes_update × IsFalse made.is_ended) }
+    {
+        let key = secret.record_key();
+        let reader = Reader::new(
+            algorithm_of(secret.suite()),
+            key.as_slice(),
+            secret.record_iv(),
+        )?;
+        Ok(Incoming {
+            reader,
+            secret,
+            owes_update: false,
+            is_ended: false,
+        })
+    }
+
+    /// Continues under the next traffic secret, after a KeyUpdate with this byte (RFC 8446 section 4.6.3).
+    fn update(&mut self, request: u8) -> Result<(), RecordError>
+        requires { IsOf self.old.secret self.old.reader.key }
+        ensures accepted { IsOk result ↔ IsFalse self.old.reader.is_closed }
+        ensures updated { OnOk result (self.new ≡ updated self.old request) }
+        ensures is_of { IsOf self.new.secret self.new.reader.key }
+    {
+        let next = self.secret.next_traffic();
+        let key = next.record_key();
+        self.reader.update(key.as_slice(), next.record_iv())?;
+        self.secret = next;
+        self.owes_update = self.owes_update || request == 1;
+        Ok(())
+    }
+}
+
+/// Takes the messages of a handshake record: follows each KeyUpdate, and appends the others.
+fn receive_messages(
+    alloc: Global,
+    incoming: &mut Incoming,
+    messages: &mut MessageReader<'_>,
+    mut content: &[u8],
+    handed: &mut Vec<Vec<u8>>,
+) -> Result<(), ReceiveError>
+    requires { IsOf incoming.old.secret incoming.old.reader.key }
+    ensures updated { OnOk result (incoming.new
+        ≡ updated_by (messages_of (messages.old.part ++ content.entry.now)) incoming.old) }
+    ensures handed { OnOk result (map (λ v. v.items) handed.new.items ≡ map (λ v. v.items) handed.old.items
+        ++ handed_over (messages_of (messages.old.part ++ content.entry.now))) }
+    ensures part { OnOk result (messages.new.part ≡ part_of (messages.old.part ++ content.entry.now)) }
+    ensures is_of { IsOf incoming.new.secret incoming.new.reader.key }
+{
+    while let Some(message) = messages.next(&mut content)? {
+        if message[0] == KEY_UPDATE {
+            incoming.update(message[4])?;
+        } else {
+            handed.push(message.to_vec(alloc)?)?;
+        }
+    }
+    Ok(())
+}
+
+/// Returns whether an alert is close_notify, the end of the data. Passes over user_canceled.
+fn is_close_notify(alert: &[u8]) -> Result<bool, ReceiveError>
+    ensures close_notify { IfOk result (λ is_end. slice_index alert.now 1 ≡ cond is_end 0 90) }
+    ensures error { length alert.now ≡ 2 → slice_index alert.now 1 ≢ 0 → slice_index alert.now 1 ≢ 90
+        → IsErrOf result (ReceiveError.Alert (slice_index alert.now 1)) }
+{
+    match alert {
+        [_, CLOSE_NOTIFY] => Ok(true),
+        [_, USER_CANCELED] => Ok(false),
+        [_, number] => Err(ReceiveError::Alert(*number)),
+        _ => Err(ReceiveError::Record(RecordError::AlertLength)),
+    }
+}
+
+/// Receives one protected record, which is the whole of `bytes`.
+fn receive_record(
+    alloc: Global,
+    incoming: &mut Incoming,
+    messages: &mut MessageReader<'_>,
+    bytes: &mut [u8],
+    received: &mut Received,
+) -> Result<(), ReceiveError>
+    requires is_of { IsOf incoming.old.secret incoming.old.reader.key }
+    requires going { IsFalse incoming.old.is_ended }
+    ensures step { OnOk result (Step (receiving incoming.old messages.old received.old) bytes.old
+        (receiving incoming.new messages.new received.new)) }
+    ensures is_of { IsOf incoming.new.secret incoming.new.reader.key }
+{
+    let end = bytes.len();
+    let (content_type, len) = incoming.reader.gather(bytes, 0, 0, end)?;
+    let content = &bytes[..len];
+    match content_type {
+        ContentType::ApplicationData => {
+            messages.admit_other_record()?;
+            received.application_data.extend_from_slice(content)?;
+        }
+        ContentType::Handshake => {
+            receive_messages(alloc, incoming, messages, content, &mut received.messages)?;
+        }
+        ContentType::Alert => incoming.is_ended = is_close_notify(content)?,
+    }
+    Ok(())
+}
+
+/// Receives the record `bytes[at..end]`.
+#[tactic(auto, using(std::proofs::lemmas::Slice::overwrites))]
+fn receive_at(
+    alloc: Global,
+    incoming: &mut Incoming,
+    messages: &mut MessageReader<'_>,
+    bytes: &mut [u8],
+    at: usize,
+    end: usize,
+    received: &mut Received,
+) -> Result<(), ReceiveError>
+    requires range { (at ≤ end) × (end ≤ length bytes.old) }
+    requires is_of { IsOf incoming.old.secret incoming.old.reader.key }
+    requires going { IsFalse incoming.old.is_ended }
+    ensures step { OnOk result (Step (receiving incoming.old messages.old received.old)
+        (slice_range bytes.old at end) (receiving incoming.new messages.new received.new)) }
+    ensures kept { drop end bytes.new ≡ drop end bytes.old }
+    ensures is_of { IsOf incoming.new.secret incoming.new.reader.key }
+{
+    receive_record(alloc, incoming, messages, &mut bytes[at..end], received)
+}
+
+/// The length of the protected record at the front of these bytes, or `None` if it is not whole.
+#[tactic(auto, unfolding(records::specs::Stream::NeedsMore))]
+fn protected_len(bytes: &[u8]) -> Result<Option<usize>, RecordError>
+    ensures len { IfOk result (λ found. IfSome found (λ n. (0 < n) × (n ≤ length bytes.now))) }
+    ensures more { IfOk result (λ found. found ≡ None → NeedsMore bytes.now) }
+{
+    match classify(bytes)? {
+        Begins::Record(RecordKind::Protected, len) => Ok(Some(len)),
+        Begins::Record(_, _) => Err(RecordError::UnexpectedRecord),
+        Begins::MoreNeeded(_) => Ok(None),
+    }
+}
+
+/// Receives the whole records at the front of `bytes`, up to close_notify, and returns their length.
+#[tactic(auto, using(records::proofs::TakenLemmas::taken_more, records::proofs::TakenLemmas::taken_none, records::proofs::TakenLemmas::kept_more))]
+fn receive_records(
+    alloc: Global,
+    incoming: &mut Incoming,
+    messages: &mut MessageReader<'_>,
+    bytes: &mut [u8],
+    received: &mut Received,
+) -> Result<usize, ReceiveError>
+    requires is_of { IsOf incoming.old.secret incoming.old.reader.key }
+    requires going { IsFalse incoming.old.is_ended }
+    ensures taken { IfOk result (λ n. Taken Step bytes.old (receiving incoming.old messages.old received.old)
+        n (receiving incoming.new messages.new received.new)) }
+    ensures within { IfOk result (λ n. n ≤ length bytes.old) }
+    ensures kept { IfOk result (λ n. drop n bytes.new ≡ drop n bytes.old) }
+    ensures more { IfOk result (λ n. IsFalse incoming.new.is_ended → NeedsMore (drop n bytes.new)) }
+    ensures is_of { IsOf incoming.new.secret incoming.new.reader.key }
+{
+    let mut at = 0;
+    while let Some(len) = protected_len(&bytes[at..])? {
+        let end = at + len;
+        receive_at(alloc, incoming, messages, bytes, at, end, received)?;
+        if incoming.is_ended {
+            return Ok(end);
+        }
+        at = end;
+    }
+    Ok(at)
+}
+
+/// Receives the whole records at the front of `bytes`, after the handshake, and returns their length. The caller keeps the bytes
+/// after them until more arrive.
+///
+/// Appends application data and handshake messages to `received`. Follows KeyUpdates, and notes in `incoming` if the peer asks for
+/// one. After close_notify or an error the connection has ended, and every later call fails with `Ended`.
+pub fn receive(
+    alloc: Global,
+    incoming: &mut Incoming,
+    messages: &mut MessageReader<'_>,
+    bytes: &mut [u8],
+    received: &mut Received,
+) -> Result<usize, ReceiveError>
+    requires { IsOf incoming.old.secret incoming.old.reader.key }
+    ensures taken { IfOk result (λ n. Taken Step bytes.old (receiving incoming.old messages.old received.old)
+        n (receiving incoming.new messages.new received.new)) }
+    ensures within { IfOk result (λ n. n ≤ length bytes.old) }
+    ensures kept { IfOk result (λ n. drop n bytes.new ≡ drop n bytes.old) }
+    ensures more { IfOk result (λ n. IsFalse incoming.new.is_ended → NeedsMore (drop n bytes.new)) }
+    ensures is_of { IsOf incoming.new.secret incoming.new.reader.key }
+    ensures ends { OnErr result (IsTrue incoming.new.is_ended) }
+    ensures ended { IsTrue incoming.old.is_ended → IsErrOf result ReceiveError.Ended
+        × (incoming.new ≡ incoming.old) × (messages.new ≡ messages.old) × (bytes.new ≡ bytes.old)
+        × (received.new ≡ received.old) }
+{
+    if incoming.is_ended {
+        return Err(ReceiveError::Ended);
+    }
+    let taken = receive_records(alloc, incoming, messages, bytes, received);
+    if taken.is_err() {
+        incoming.is_ended = true;
+    }
+    taken
+}
+
+/// The keys of what this end sends.
+#[derive(Drop)]
+pub struct Outgoing {
+    pub writer: Writer,
+    /// The traffic secret of the writer's key.
+    pub secret: Secret,
+}
+
+/// A KeyUpdate that asks for none in turn (RFC 8446 section 4.6.3).
+const KEY_UPDATE_MESSAGE: [u8; 5] = [KEY_UPDATE, 0, 0, 1, 0];
+
+impl Outgoing {
+    /// The end that sends under its first application traffic secret.
+    pub fn new(secret: Secret) -> Result<Self, RecordError>
+        ensures accepted { IsOk result }
+        ensures made { IfOk result (λ made. (made.secret ≡ secret) × IsOf secret made.writer.key
+            × (made.writer.number ≡ 0)) }
+    {
+        let key = secret.record_key();
+        let writer = Writer::new(
+            algorithm_of(secret.suite()),
+            key.as_slice(),
+            secret.record_iv(),
+        )?;
+        Ok(Outgoing { writer, secret })
+    }
+
+    /// Appends a KeyUpdate under the old key, and continues under the next (RFC 8446 section 4.6.3).
+    pub fn update(&mut self, out: &mut Vec<u8>) -> Result<(), RecordError>
+        requires { IsOf self.old.secret self.old.writer.key }
+        ensures sent { OnOk result (out.new.items ≡ out.old.items
+            ++ record_at self.old.writer.key self.old.writer.number key_update_record) }
+        ensures updated { OnOk result (self.new ≡ next_outgoing self.old) }
+        ensures kept { OnErr result ((self.new ≡ self.old) × (out.new.items ≡ out.old.items)) }
+    {
+        self.writer
+            .write(ContentType::Handshake, &KEY_UPDATE_MESSAGE, 0, out)?;
+        let next = self.secret.next_traffic();
+        let key = next.record_key();
+        self.writer.update(key.as_slice(), next.record_iv())?;
+        self.secret = next;
+        Ok(())
+    }
+}
+
+/// Appends a record of application data to `out`, and before it, under the old key, the KeyUpdate that the peer has asked for.
+pub fn send(
+    outgoing: &mut Outgoing,
+    incoming: &mut Incoming,
+    content: &[u8],
+    out: &mut Vec<u8>,
+) -> Result<(), RecordError>
+    requires { IsOf outgoing.old.secret outgoing.old.writer.key }
+    ensures sent { IsFalse incoming.old.owes_update → OnOk result (out.new.items ≡ out.old.items
+        ++ record_at outgoing.old.writer.key outgoing.old.writer.number (data_record content.now)) }
+    ensures answered { IsTrue incoming.old.owes_update → OnOk result (out.new.items ≡ (out.old.items
+        ++ record_at outgoing.old.writer.key outgoing.old.writer.number key_update_record)
+        ++ record_at (next_outgoing outgoing.old).writer.key 0 (data_record content.now)) }
+    ensures settled { OnOk result (incoming.new ≡ record incoming.old { owes_update = false }) }
+    ensures is_of { IsOf outgoing.new.secret outgoing.new.writer.key }
+{
+    if incoming.owes_update {
+        outgoing.update(out)?;
+        incoming.owes_update = false;
+    }
+    outgoing
+        .writer
+        .write(ContentType::ApplicationData, content, 0, out)
+}
