@@ -2,8 +2,6 @@
 //! AES-256 keys, for which the RFC has none.
 
 ghost use Rattle.std.specs.Prelude.{◌≡◌, ◌-◌, length, take, OnOk};
-ghost use Rattle.aead_ciphers.specs.Packet.{PacketFits};
-ghost use Rattle.quic_packets.specs.Header.{HasSample};
 ghost use Rattle.quic_packets.specs.Packet.{HasNumber};
 
 use crate::checks::{equal, holds, same};
@@ -112,11 +110,8 @@ fn refuses(rt: &impl Abort, number: u64, error: PacketError) -> Result<(), Fail>
     let key = PacketKey::new(&AES_128_GCM, &[1; 16], [2; 12])?;
     let mut bytes = [7; 24];
     holds(rt, key.open(number, &mut bytes, 4) == Err(error), "open");
-    holds(
-        rt,
-        key.open_payload(number, &[7; 4], &mut bytes[4..]) == Err(error),
-        "open_payload",
-    );
+    let opened = key.open_payload(number, &[7; 4], &mut bytes);
+    holds(rt, opened == Err(error), "open_payload");
     let tag = Tag::from([7; 16]);
     holds(
         rt,
@@ -170,10 +165,7 @@ fn there_and_back(
     number: u64,
     place: Range<usize>,
 ) -> Result<usize, PacketError>
-    requires fits { PacketFits place.end (length packet.old) }
-    requires number { HasNumber place.start place.end packet.old }
-    requires sample { HasSample place.start (length packet.old) }
-    ensures comes_back { OnOk result (take (length packet.old - 16) packet.new
+    ensures { HasNumber place.start place.end packet.old → OnOk result (take (length packet.old - 16) packet.new
         ≡ take (length packet.old - 16) packet.old) }
 {
     let number_at = place.start;
