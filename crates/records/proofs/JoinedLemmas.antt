@@ -9,7 +9,7 @@ use specs.Record.{Inner}
 use specs.Runs.{Answer, Event, Follows, ReadStep, WriteStep, as_asked, carries}
 use specs.declared.content_type.ContentType.TheVariants.{Handshake}
 use Rattle.std.specs.Prelude.{Ok, ◌∷◌, false}
-use Rattle.tls_messages.specs.Messages.{Splits, messages_of, part_of}
+use Rattle.tls_messages.specs.Messages.{messages_of, part_of}
 use Rattle.tls_messages.specs.declared.stage.Stage.{Stage}
 use Rattle.tls_messages.proofs.StreamLemmas.{of_splits}
 use Rattle.records.proofs.RunLemmas.{reading_undoes_writing}

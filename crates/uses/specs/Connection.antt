@@ -1,5 +1,5 @@
 -- One end of a TLS 1.3 connection after the handshake (RFC 8446 sections 4.6, 5.1, 6 and 7.2).
-use Rattle.std.specs.Prelude.{◌≤◌, length, slice_range, ◌≡◌, ◌≢◌, ℕ, Bool, true, false, cond, ◌==◌, ◌||◌, List, [], ◌∷◌, ◌++◌, map, slice_index, vec_len, Result, Ok, Err}
+use Rattle.std.specs.Prelude.{◌≡◌, ℕ, Bool, false, cond, ◌==◌, ◌||◌, List, [], ◌∷◌, ◌++◌, map, slice_index, Ok}
 use Rattle.aead_ciphers.specs.Algorithm.{key_len}
 use Rattle.key_derivation.specs.Secret.{SecretState, suite_key_len}
 use Rattle.key_derivation.specs.Tls.{next_traffic_secret, record_iv, record_key}
