@@ -1,11 +1,11 @@
-/* AES-GCM, the ChaCha20 stream and QUIC's header protection masks, for C and C++. The library is libdeerlapse.a: `rt lib`
- * builds it in crates/deerlapse/out, and `tools/install PREFIX` installs it with this header, which is C99.
+/* AES-GCM, the ChaCha20 stream and QUIC's header protection masks, for C and C++. deerlapse.h is C99. The library is
+ * libdeerlapse.a, and libdeerlapse.so is made of it.
  *
  * The following holds for every call:
  *  - It returns true on success. It returns false on failure, and leaves every byte unchanged, except that
  *    deerlapse_key_init then zeroes the key. A call that cannot fail returns nothing, or the number that it computes.
  *  - A pointer with a length points to that many bytes, and may be null if the length is 0: the name in the call is that
- *    of a wrapper, such as deerlapse_key_seal_nullable, at the end of this header. No other pointer may be null. A
+ *    of a wrapper, such as deerlapse_key_seal_nullable, at the end of deerlapse.h. No other pointer may be null. A
  *    parameter such as nonce[12] points to as many bytes.
  *  - The bytes that a call writes must not overlap any others that it is given. No call checks this. Bytes that it only
  *    reads may overlap. A tag may come right after its message: `tag` is then `in_out + in_out_len`.
@@ -43,12 +43,12 @@
 /* The version in one number: 0x010203 for 1.2.3. */
 #define DEERLAPSE_VERSION (DEERLAPSE_VERSION_MAJOR << 16 | DEERLAPSE_VERSION_MINOR << 8 | DEERLAPSE_VERSION_PATCH)
 
-/* The level of x86-64 processors that the archive beside this header was built for: 2 for x86-64-v2, 3 for x86-64-v3.
- * tools/targets and tools/install write it. An archive for ARM64 needs no more than every such processor has. */
+/* The level of x86-64 processors that the library was built for: 2 for x86-64-v2, 3 for x86-64-v3. The deerlapse.h that
+ * comes with a library has its level. A library for ARM64 needs no more than every such processor has. */
 #define DEERLAPSE_X86_64_LEVEL 2
 
-/* The most bytes of stack that a call uses, as measured by tools/stack. This includes the dynamic linker's, which may bind
- * memcpy, memmove and memset in the first call. */
+/* The most bytes of stack that a call uses, as measured by the repository's tools/stack. This includes the dynamic linker's,
+ * which may bind memcpy, memmove and memset in the first call. */
 #define DEERLAPSE_MAX_STACK 8192
 
 /* The lengths of arrays, in bytes. */
@@ -61,7 +61,7 @@
 extern "C" {
 #endif
 
-/* Returns the version of the library that the program was linked with. DEERLAPSE_VERSION is the one of this header. */
+/* Returns the version of the library that the program was linked with. DEERLAPSE_VERSION is the one of deerlapse.h. */
 uint32_t deerlapse_version(void);
 
 /* A key that is expanded once, for many messages and many threads. deerlapse_key_init initializes it. It is in the caller's

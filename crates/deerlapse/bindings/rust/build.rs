@@ -151,9 +151,9 @@ fn main() {
     }
     if !archive.is_file() {
         fail(&format!(
-            "there is no {shown}: run {made_by} of the repository, which proves and makes it; or install it by \
-             `tools/install PREFIX`, and name PREFIX/lib/pkgconfig in PKG_CONFIG_PATH; or name the folder that has it \
-             in DEERLAPSE_LIB_DIR"
+            "there is no {shown}: run {made_by} of the repository, which proves and makes it; or unpack a tarball of the \
+             library, or install it by `tools/install PREFIX`, and name the tree's lib/pkgconfig in PKG_CONFIG_PATH, for \
+             pkg-config; or name the folder that has it in DEERLAPSE_LIB_DIR"
         ));
     }
     if machine(&archive) != Some(elf) {
@@ -161,12 +161,14 @@ fn main() {
             "{shown} isn't an archive for {arch}: {made_by} makes one"
         ));
     }
-    if let Some(source) = newer_source(&top.join("crates"), &archive) {
-        let told = format!("{shown} is older than {}", source.display());
-        if elsewhere.is_none() {
-            fail(&format!("{told}: run {made_by}"));
+    // A failed `rt lib` leaves the last archive in place. One from elsewhere may be made of other sources.
+    if elsewhere.is_none() {
+        if let Some(source) = newer_source(&top.join("crates"), &archive) {
+            fail(&format!(
+                "{shown} is older than {}: run {made_by}",
+                source.display()
+            ));
         }
-        println!("cargo:warning={told}");
     }
     println!("cargo:rustc-env=DEERLAPSE_X86_64_LEVEL={}", level(&folder));
     println!("cargo:rustc-link-search=native={}", folder.display());
