@@ -24,7 +24,7 @@ use std::mem;
 ///
 /// # Examples
 ///
-/// From `crates/aead_ciphers_tests/src/sealed_files.rt`:
+/// From `crates/sealed_file_tests/src/sealed_files.rt`:
 ///
 /// ```
 /// fn sealed_of(alloc: Global, len: usize) -> Result<Vec<u8>, Fail> {
