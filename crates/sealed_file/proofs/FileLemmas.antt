@@ -80,10 +80,10 @@ module _ (k : ChunkKey) (file : List ℕ) where
 
   module _ (key : List ℕ) (h : IsHeaderOf key k) where
     body_is : body_of whole ≡ chunks
-    body_is = ap body_of whole_is ∙ drop_at k.header chunks _ (sym (h.len chunks))
+    body_is = ap body_of whole_is ∙ drop_at k.header chunks _ h.len
 
     pub header_is : header_of whole ≡ k.header
-    header_is = ap header_of whole_is ∙ take_at k.header chunks _ (sym (h.len chunks))
+    header_is = ap header_of whole_is ∙ take_at k.header chunks _ h.len
 
     key_is : key_of key whole ≡ k
     key_is = ap (chunk_key key) header_is ∙ h.back
@@ -105,7 +105,7 @@ module _ (k : ChunkKey) (file : List ℕ) where
 
     pub sealed_is_sealed : last < 2 ^ 32 - 1 → IsSealed key whole
     sealed_is_sealed few = record {
-      front = subst (HasHeader key) (sym header_is) (record { size = h.size; right = ap (λ j. j.header) (sym h.back) });
+      front = subst (HasHeader key) (sym header_is) (record { right = ap (λ j. j.header) (sym h.back) });
       few = subst (λ n. n < 2 ^ 32 - 1) (sym last_is) few;
       tags = record {
         each = λ i within. of_sealed (λ p b l. HasTag p i b l) i within (sealed_has_tag k i (i == last) (piece chunk_len file i));

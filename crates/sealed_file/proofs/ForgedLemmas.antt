@@ -64,7 +64,7 @@ module _ (key : List ℕ) (k : ChunkKey) (file other : List ℕ) (h : IsHeaderOf
   all_made made =
       let m = last_chunk other in
       let end : m ≡ last_of file = eqb-true m (last_of file) (sym (made m (omega arith)).kind ∙ eq-eqb m m refl) in
-      sym (take-append-drop (header_len other) other)
+      sym (take-append-drop header_len other)
       ∙ ap (λ l. l ++ body_of other) header_is
       ∙ ap (λ l. k.header ++ l) (
       sym (all_pieces sealed_chunk_len (body_of other) (omega arith))

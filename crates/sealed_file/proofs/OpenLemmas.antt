@@ -13,7 +13,7 @@ use specs.Refusals.{HeaderRefuses, ChunkAtRefuses, ChunkRefuses, FailsInMemory, 
 use specs.Streams.{AppendsBeginning, TakesFront}
 use Rattle.sealed_file.proofs
 use proofs.ChunkLemmas.{of_same}
-use proofs.HeaderLemmas.{header_len-take, header_len_range, header_of-header_of, refused_is_none}
+use proofs.HeaderLemmas.{header_of-header_of, refused_is_none}
 use proofs.PieceLemmas.{joined_more}
 use proofs.StreamLemmas.{flag_is, next_read, begins_more, begins_none}
 
@@ -31,7 +31,7 @@ none_right key file = record { each = λ i h. absurd (omega arith) }
 -- ---- refusals
 
 -- the header of the bytes that were read as a file's is the file's
-header_bytes : (file bytes read_bytes : List ℕ) (rest : Option (List ℕ)) → bytes ≡ read_bytes → TakesFront (header_len file) file read_bytes rest
+header_bytes : (file bytes read_bytes : List ℕ) (rest : Option (List ℕ)) → bytes ≡ read_bytes → TakesFront header_len file read_bytes rest
     → header_of bytes ≡ header_of file
 header_bytes file bytes read_bytes rest same read = ap header_of (same ∙ read.piece_is) ∙ header_of-header_of file
 
@@ -43,7 +43,7 @@ header_refused key file error h = inl h
 
 -- the bytes of a header that was read
 pub header_fails : (key file bytes read_bytes : List ℕ) (rest : Option (List ℕ)) (error : FileError) → bytes ≡ read_bytes
-    → TakesFront (header_len file) file read_bytes rest → HeaderRefuses key (header_of bytes) error → OpenRefuses key file error
+    → TakesFront header_len file read_bytes rest → HeaderRefuses key (header_of bytes) error → OpenRefuses key file error
 header_fails key file bytes read_bytes rest error same read h =
     header_refused key file error (subst (λ l. HeaderRefuses key l error) (header_bytes file bytes read_bytes rest same read) h)
 
@@ -179,20 +179,6 @@ module _ {key : List ℕ} {k : ChunkKey} {file : List ℕ} {n : ℕ} {old now : 
 
 -- ---- steps over a reader
 
--- the front of a header was read, and then the rest
-pub header_read : (file front rest all : List ℕ) (between end : Option (List ℕ)) → TakesFront 16 file front between
-    → IfSome between (λ left. TakesFront (header_len front - 16) left rest end) → all ≡ front ++ rest → TakesFront (header_len file) file all end
-header_read file front rest all between end first read all_is =
-    let then = rw first.left at read in
-    let same : header_len front ≡ header_len file = ap header_len first.piece_is ∙ header_len-take file in
-    let (low, high) = header_len_range file in
-    let whole : 16 + (header_len front - 16) ≡ header_len file = omega arith in
-    record {
-      piece_is = all_is ∙ ap₂ (λ xs ys. xs ++ ys) first.piece_is then.piece_is
-          ∙ sym (take-add 16 (header_len front - 16) file) ∙ ap (λ n. take n file) whole;
-      left = then.left ∙ ap (λ l. Some l) (drop-drop (header_len front - 16) 16 file ∙ ap (λ n. drop n file) whole);
-    }
-
 -- before chunk n is opened, which was read
 pub record Reading (key : List ℕ) (k : ChunkKey) (file : List ℕ) (n : ℕ) (chunk : List ℕ) (rest old now : Option (List ℕ)) : Type 0 where
   pub so_far : Opening key k file n old now
@@ -200,7 +186,7 @@ pub record Reading (key : List ℕ) (k : ChunkKey) (file : List ℕ) (n : ℕ) (
 
 -- the header was read, and then the first chunk
 pub read_start : (key : List ℕ) (k : ChunkKey) (file bytes read_bytes chunk : List ℕ) (between rest old : Option (List ℕ)) → bytes ≡ read_bytes
-    → TakesFront (header_len file) file read_bytes between → HasHeader key (header_of bytes) → k ≡ key_of key bytes
+    → TakesFront header_len file read_bytes between → HasHeader key (header_of bytes) → k ≡ key_of key bytes
     → IfSome between (λ left. TakesFront sealed_chunk_len left chunk rest) → Reading key k file 0 chunk rest old old
 read_start key k file bytes read_bytes chunk between rest old same first has key_is read =
     let e = header_bytes file bytes read_bytes between same first in

@@ -34,10 +34,6 @@ pub record ChunkKey : Type 0 where
 abbrev pub magic_and_version : ℕ → List ℕ
 magic_and_version version = codes "SEALFILE" ++ version ∷ []
 
--- version 1: the user's key, and a header with the prefix
-unfoldable pub version_1 : (key prefix : List ℕ) → ChunkKey
-version_1 key prefix = record { key = key; prefix = prefix; header = magic_and_version 1 ++ prefix }
-
 -- version 2, with 19 random bytes: the key derived for the first 12 as the context, the other 7 as the prefix, and a header
 -- with the random bytes and the commitment to the user's key
 unfoldable pub version_2 : (key random : List ℕ) → ChunkKey

@@ -1,6 +1,5 @@
 pub mod Derivation
 pub mod Format
-pub mod Header
 pub mod Opening
 pub mod Refusals
 pub mod Streams

@@ -1,10 +1,10 @@
 -- The sealed files that opening accepts, and the files that they open to.
-use Rattle.std.specs.Prelude.{◌≡◌, ℕ, Bool, ◌+◌, ◌-◌, ◌*◌, ◌^◌, ◌<◌, ◌≤◌, List, length, take, drop, slice_index, ◌==◌, if◌then◌else◌}
+use Rattle.std.specs.Prelude.{◌≡◌, ℕ, Bool, ◌+◌, ◌-◌, ◌*◌, ◌^◌, ◌<◌, ◌≤◌, List, length, take, drop, ◌==◌}
 use Rattle.std.specs.List.{concat}
 use Rattle.aead_ciphers_base.specs.Bytes.{each_below}
 use Rattle.aead_ciphers_base.specs.Aes.{aes}
 use Rattle.aead_ciphers.specs.Gcm.{gcm_decrypted, gcm_tag}
-use Rattle.sealed_file.specs.Format.{ChunkKey, chunk_len, chunk_nonce, last_piece, piece, sealed_chunk_len, sealed_chunk_of, version_1, version_2}
+use Rattle.sealed_file.specs.Format.{ChunkKey, chunk_len, chunk_nonce, last_piece, piece, sealed_chunk_len, sealed_chunk_of, version_2}
 
 -- the bytes before the last 16, which are the tag
 abbrev pub ciphertext_of : List ℕ → List ℕ
@@ -24,27 +24,28 @@ unfoldable pub opened_chunk : (k : ChunkKey) (number : ℕ) (is_last : Bool) (se
 opened_chunk k number is_last sealed =
     gcm_decrypted (aes k.key) (chunk_nonce k.prefix number is_last) (ciphertext_of sealed)
 
--- the length of a header: 60 if byte 8, the version, is 2, and 16 otherwise
-unfoldable pub header_len : List ℕ → ℕ
-header_len file = if slice_index file 8 == 2 then 60 else 16
+-- the length of a header: the magic, the version, 19 random bytes and the commitment
+abbrev pub header_len : ℕ
+header_len = 60
 
 -- a file's header, or the part of it that the file has
 abbrev pub header_of : List ℕ → List ℕ
-header_of file = take (header_len file) file
+header_of file = take header_len file
+
+-- the context in a file's header
+abbrev pub context_of : List ℕ → List ℕ
+context_of file = take 12 (drop 9 file)
 
 -- the bytes after the header
 abbrev pub body_of : List ℕ → List ℕ
-body_of file = drop (header_len file) file
+body_of file = drop header_len file
 
--- the key of the chunks after a header, given the bytes after its magic and version
-unfoldable pub chunk_key : (key header : List ℕ) → ChunkKey
-chunk_key key header =
-    let bytes = drop 9 header in
-    if slice_index header 8 == 2 then version_2 key (take 19 bytes) else version_1 key (take 7 bytes)
+-- the key of the chunks after a header, from the 19 random bytes after its magic and version
+abbrev pub chunk_key : (key header : List ℕ) → ChunkKey
+chunk_key key header = version_2 key (take 19 (drop 9 header))
 
--- the bytes are a header under this key: the one defined for its random bytes
+-- the bytes are a header under this key: the one defined for its random bytes, with the commitment to this key
 pub record HasHeader (key header : List ℕ) : Type 0 where
-  pub size : 16 ≤ length header
   pub right : header ≡ (chunk_key key header).header
 
 -- the key of the chunks of a file
@@ -82,7 +83,7 @@ opened_chunks key file n =
 abbrev pub opened_file : (key file : List ℕ) → List ℕ
 opened_file key file = opened_chunks key file (last_chunk file + 1)
 
--- the length of a sealed file of version 2: a header, and fewer than 2^32 chunks that each hold a tag
+-- the length of a sealed file: a header, and fewer than 2^32 chunks that each hold a tag
 pub record IsSealedLen (n : ℕ) : Type 0 where
   pub header : 60 ≤ n
   pub tag : sealed_chunk_len * last_piece sealed_chunk_len (n - 60) + 16 ≤ n - 60

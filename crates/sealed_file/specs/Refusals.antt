@@ -24,10 +24,10 @@ pub record IsOfAnotherKey (key header : List ℕ) : Type 0 where
 
 -- why the bytes are not a header under this key
 abbrev pub HeaderRefuses : (key header : List ℕ) → FileError → Type 0
-HeaderRefuses key header EndsEarly = (length header < 16) ⊎ (IsVersion2 header × (length header < 60))
-HeaderRefuses key header AnotherMagic = (16 ≤ length header) × (take 8 header ≢ codes "SEALFILE")
-HeaderRefuses key header (AnotherVersion version) = (16 ≤ length header) × (take 8 header ≡ codes "SEALFILE")
-    × (slice_index header 8 ≡ version) × (version ≢ 1) × (version ≢ 2)
+HeaderRefuses key header EndsEarly = (length header < 9) ⊎ (IsVersion2 header × (length header < 60))
+HeaderRefuses key header AnotherMagic = (9 ≤ length header) × (take 8 header ≢ codes "SEALFILE")
+HeaderRefuses key header (AnotherVersion version) = (9 ≤ length header) × (take 8 header ≡ codes "SEALFILE")
+    × (slice_index header 8 ≡ version) × (version ≢ 2)
 HeaderRefuses key header WrongKey = IsOfAnotherKey key header
 HeaderRefuses key header error = ⊥
 

@@ -2,12 +2,12 @@
 
 ghost use Rattle.std.specs.Prelude.{ℕ, List, ◌≡◌, ◌+◌, ◌-◌, ◌*◌, ◌^◌, ◌<◌, ◌≤◌, ◌↔◌, ◌++◌, length, vec_capacity, vec_len, take, drop, IsOk, IfErr, OnOk, OnErr};
 ghost use Rattle.sealed_file.specs.Format.{chunk_len, sealed_chunk_len, last_piece, piece, sealed_chunk, sealed_file, version_2};
-ghost use Rattle.sealed_file.specs.Opening.{HasTag, IsSealed, chunk_of, header_len, last_chunk, opened_chunk, opened_file};
+ghost use Rattle.sealed_file.specs.Opening.{HasTag, IsSealed, chunk_of, last_chunk, opened_chunk, opened_file};
 ghost use Rattle.sealed_file.specs.Refusals.{ChunkRefuses, FailsInMemory, OpenRefuses, SealRefuses};
 
 use crate::chunk::{CHUNK_LEN, MAX_CHUNKS, SEALED_CHUNK_LEN, open_ciphertext, seal_slice};
 use crate::error::FileError;
-use crate::header::{ChunkCipher, HEADER_LEN, RANDOM_LEN, cipher_of, header_len};
+use crate::header::{ChunkCipher, HEADER_LEN, RANDOM_LEN, cipher_of};
 use crate::key::FileKey;
 use aead_ciphers::aead::{MAX_TAG_LEN, Tag};
 
@@ -75,7 +75,7 @@ fn append_sealed(cipher: &ChunkCipher, number: u32, is_last: bool, chunk: &[u8],
     append(tag.as_ref(), out);
 }
 
-/// Seals `file` as version 2, and appends the sealed file to `out`.
+/// Seals `file`, and appends the sealed file to `out`.
 ///
 /// Each file under a key needs its own 19 random bytes.
 ///
@@ -185,19 +185,16 @@ pub(crate) fn append_opened(
 fn last_chunk_of(sealed: &[u8]) -> usize
     ensures { result ≡ last_chunk sealed.now }
 {
-    last_piece_of(
-        sealed.len().saturating_sub(header_len(sealed)),
-        SEALED_CHUNK_LEN,
-    )
+    last_piece_of(sealed.len().saturating_sub(HEADER_LEN), SEALED_CHUNK_LEN)
 }
 
 /// The chunk with this number of a sealed file.
 fn chunk_of(sealed: &[u8], number: u32) -> &[u8]
-    requires header { header_len sealed.now ≤ length sealed.now }
+    requires header { 60 ≤ length sealed.now }
     requires in_range { number ≤ last_chunk sealed.now }
     ensures { result.now ≡ chunk_of sealed.now number }
 {
-    piece_of(&sealed[header_len(sealed)..], SEALED_CHUNK_LEN, number)
+    piece_of(&sealed[HEADER_LEN..], SEALED_CHUNK_LEN, number)
 }
 
 /// The length of the file that a sealed file opens to.
@@ -205,7 +202,7 @@ fn opened_len(sealed: &[u8]) -> usize
     ensures { (key : List ℕ) → result ≡ length (opened_file key sealed.now) }
 {
     let last = last_chunk_of(sealed);
-    let body = sealed.len().saturating_sub(header_len(sealed));
+    let body = sealed.len().saturating_sub(HEADER_LEN);
     last * CHUNK_LEN + (body - last * SEALED_CHUNK_LEN).saturating_sub(MAX_TAG_LEN)
 }
 
@@ -233,7 +230,7 @@ fn append_file(key: &FileKey, sealed: &[u8], out: &mut Vec<u8>) -> Result<(), Fi
     Err(FileError::TooLong)
 }
 
-/// Opens a sealed file of version 1 or 2, and appends the file to `out`.
+/// Opens a sealed file, and appends the file to `out`.
 ///
 /// Fails with the errors of `open`, except `Io`, and with `OutOfMemory` only if `out` has no room for the file and cannot grow.
 /// `out` then holds the bytes that it held before.

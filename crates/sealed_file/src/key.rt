@@ -39,7 +39,7 @@ impl FileKey {
         }
     }
 
-    /// Returns the AES-256-GCM key of the files of version 2 whose random bytes begin with this context. It is the key that
+    /// Returns the AES-256-GCM key of the files whose random bytes begin with this context. It is the key that
     /// XAES-256-GCM derives for a nonce that begins with the context.
     pub fn derived_key(&self, context: &Context) -> [u8; AES_256_KEY_LEN]
         ensures { result ≡ derived_key self.now context.now }

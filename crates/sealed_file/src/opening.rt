@@ -15,14 +15,14 @@ use std::alloc::Global;
 use std::io::{Read, Write};
 use std::mem;
 
-/// Opens the sealed file of version 1 or 2 in `input`, and writes the file to `output`.
+/// Opens the sealed file in `input`, and writes the file to `output`.
 ///
 /// It keeps two chunks in memory, and writes the message of a chunk only after its tag is verified. What was written before an
 /// error is authentic, but may be only the beginning of the file.
 ///
 /// Fails with `Io` if reading, writing or allocating memory fails. Every other error says what is wrong with the file:
-/// `AnotherMagic` and `AnotherVersion`; `WrongKey`, if the header of version 2 commits to another key or was changed, before
-/// any chunk is read; `EndsEarly`, if the file ends within the header or a tag, or after a chunk that is not the last;
+/// `AnotherMagic` and `AnotherVersion`; `WrongKey`, if the header commits to another key or was changed, before any chunk is
+/// read; `EndsEarly`, if the file ends within the header or a tag, or after a chunk that is not the last;
 /// `TrailingBytes`, if there are bytes after a last chunk of `CHUNK_LEN` bytes; `Refused`, if any other chunk has a wrong tag;
 /// and `TooLong`, if there are more than `MAX_CHUNKS` chunks.
 ///
@@ -53,7 +53,7 @@ pub fn open<R: Read, W: Write>(
         × AppendsBeginning (W.contents output.old) (W.contents output.new) (opened_chunks key.now file n))) }
 {
     let (mut chunk, mut next) = buffers(alloc)?;
-    read_header(input, &mut chunk, &mut next)?;
+    read_header(input, &mut chunk)?;
     let cipher = cipher_of(key, &chunk)?;
     read_piece(input, SEALED_CHUNK_LEN, &mut chunk)?;
     for number in 0..MAX_CHUNKS {

@@ -3,7 +3,7 @@
 ghost use Rattle.std.specs.Prelude.{ℕ, List, ◌≡◌, ◌+◌, ◌-◌, ◌^◌, ◌<◌, ◌≤◌, ◌↔◌, ◌++◌, length, vec_capacity, vec_len, take, IsOk, IsSome, IfErr, IfSome, OnOk, OnErr};
 ghost use Rattle.sealed_file.specs.Format.{sealed_chunk_len};
 ghost use Rattle.sealed_file.specs.Opening.{HasHeader, HasTag, IsSealed, IsSealedLen, header_of, key_of, opened_chunk, opened_file};
-ghost use Rattle.sealed_file.specs.Refusals.{ChunkAtRefuses, FailsInMemory, IsVersion2};
+ghost use Rattle.sealed_file.specs.Refusals.{ChunkAtRefuses, FailsInMemory};
 
 use crate::chunk::{CHUNK_LEN, MAX_CHUNKS, SEALED_CHUNK_LEN};
 use crate::error::FileError;
@@ -38,9 +38,9 @@ fn append_chunk_at(
 
 /// Opens one chunk of a sealed file, and appends its message to `out`.
 ///
-/// `header` is at least the file's first `HEADER_LEN` bytes, or 16 bytes for version 1. `number` counts the chunks from 0, and
-/// `is_last` says that the chunk ends the file. Chunk `n` of a file of version 2 begins at byte `HEADER_LEN + n *
-/// SEALED_CHUNK_LEN`, and has `SEALED_CHUNK_LEN` bytes unless it is the last.
+/// `header` is at least the file's first `HEADER_LEN` bytes. `number` counts the chunks from 0, and `is_last` says that the chunk
+/// ends the file. Chunk `n` begins at byte `HEADER_LEN + n * SEALED_CHUNK_LEN`, and has `SEALED_CHUNK_LEN` bytes unless it is the
+/// last.
 ///
 /// The other chunks are not checked: the file may lack them, or have others in their place. Only opening the last chunk with
 /// `is_last` shows that the file ends where it ended when it was sealed.
@@ -93,13 +93,13 @@ pub fn open_chunk_at(
     opened
 }
 
-/// Returns the length of a file from the length of its sealed file of version 2.
+/// Returns the length of a file from the length of its sealed file.
 ///
 /// Returns `None` if no sealed file has this length: it would end within the header or a tag, or have more than `MAX_CHUNKS`
 /// chunks.
 pub fn plaintext_len(sealed_len: u64) -> Option<u64>
     ensures known { IsSome result ↔ IsSealedLen sealed_len }
-    ensures opened { (key file : List ℕ) → length file ≡ sealed_len → IsVersion2 file
+    ensures opened { (key file : List ℕ) → length file ≡ sealed_len
         → IsSealed key file → result ≡ Some (length (opened_file key file)) }
 {
     let body = sealed_len.checked_sub(HEADER_LEN as u64)?;

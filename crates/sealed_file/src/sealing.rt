@@ -15,7 +15,7 @@ use std::alloc::Global;
 use std::io::{Read, Write};
 use std::mem;
 
-/// Seals the bytes of `input` as version 2, and writes the sealed file to `output`.
+/// Seals the bytes of `input`, and writes the sealed file to `output`.
 ///
 /// Each file under a key needs its own 19 random bytes. It keeps two chunks in memory.
 ///

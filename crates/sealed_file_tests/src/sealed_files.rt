@@ -53,15 +53,17 @@ const SEALED: [(usize, [u8; 16]); 6] = [
 ];
 
 /// The message for a wrong first chunk.
-const FIRST_REFUSED: &str = "chunk 0 was changed or cut, or (version 1) the key is wrong";
+const FIRST_REFUSED: &str = "chunk 0 was changed or cut";
 
-const SECOND_REFUSED: &str = "chunk 1 was changed or cut, or (version 1) the key is wrong";
+const SECOND_REFUSED: &str = "chunk 1 was changed or cut";
 
 const ENDS_EARLY: &str = "the sealed file ends early";
 
 const TRAILING_BYTES: &str = "bytes after the last chunk";
 
-const VERSION_THREE: &str = "a sealed file of version 3, which is neither 1 nor 2";
+const VERSION_ONE: &str = "a sealed file of version 1, which is not 2";
+
+const VERSION_FOUR: &str = "a sealed file of version 4, which is not 2";
 
 const ANOTHER_KEY: &str = "the key is wrong, or the header was changed";
 
@@ -140,8 +142,8 @@ fn cut_files(rt: HostRuntime) -> Result<(), Fail> {
     let behind_first = HEADER_LEN + SEALED_CHUNK_LEN;
     for (len, opened, text) in [
         (0, 0, ENDS_EARLY),
-        (15, 0, ENDS_EARLY),
-        (16, 0, ENDS_EARLY),
+        (8, 0, ENDS_EARLY),
+        (9, 0, ENDS_EARLY),
         (59, 0, ENDS_EARLY),
         (60, 0, ENDS_EARLY),
         (75, 0, ENDS_EARLY),
@@ -218,18 +220,18 @@ const CHANGED: [Changed; 11] = [
         text: "not a sealed file",
     },
     Changed {
-        header: Some((8, 3)),
+        header: Some((8, 4)),
         chunks: &[0, 1],
         after: b"",
         opened: 0,
-        text: VERSION_THREE,
+        text: VERSION_FOUR,
     },
     Changed {
         header: Some((8, 1)),
         chunks: &[0, 1],
         after: b"",
         opened: 0,
-        text: FIRST_REFUSED,
+        text: VERSION_ONE,
     },
     Changed {
         header: Some((9, 0)),
@@ -422,20 +424,48 @@ fn xaes_vectors(rt: HostRuntime) -> Result<(), Fail> {
     Ok(())
 }
 
-/// The file of the one byte `a`, sealed as version 1 under a key and a prefix of the bytes 7 and 1.
-const VERSION_ONE: &[u8] = b"SEALFILE\x01\x01\x01\x01\x01\x01\x01\x01\
-    \x92\x72\xa4\x5f\xcf\x6e\x68\xf8\x9c\x98\xd5\xa2\x4c\x64\x8d\xf9\xb1";
+/// A header without a commitment, of version 1, and one chunk whose tag is right under `KEY` and under `OTHER_KEY`: its ciphertext
+/// block solves the equation that both tags are one.
+const TWO_KEYS: &[u8] = b"SEALFILE\x01\x01\x02\x03\x04\x05\x06\x07\
+    \x80\x46\x48\xf4\xf5\x80\x00\xb4\xa8\xa2\x8d\xb0\x36\xef\xb4\x1e\
+    \xf5\x66\x69\xb3\x9b\xaa\x40\xb9\xa2\x2d\x34\x6f\xab\xc7\x56\x7d";
+
+/// The same after `HEADER`, which has the commitment of `KEY`.
+const TWO_KEYS_AFTER_HEADER: &[u8] =
+    b"\x69\xc7\xb4\xdc\x31\xf8\xb1\x7d\xe5\x16\x51\xc8\x5e\x7f\x5a\x92\
+    \x49\x34\x23\xd2\xce\x0f\x71\x3e\xae\xef\xc4\x9f\x5e\xc8\x10\x38";
+
+/// What `TWO_KEYS_AFTER_HEADER` opens to under `KEY`.
+const UNDER_THE_FIRST: &[u8] =
+    b"\x87\xd9\xd8\xf1\x12\x46\x32\xcf\x48\xf0\x5a\x1a\xcf\x04\x78\x9a";
+
+const OTHER_KEY: [u8; 32] = [7; 32];
+
+/// Asserts that opening a file in memory ends with this message.
+fn refused(
+    rt: &(impl Abort + AllocGlobal),
+    key: &[u8],
+    sealed: &[u8],
+    text: &str,
+) -> Result<(), Fail> {
+    let mut opened = Vec::new(rt.alloc());
+    match open_bytes(&FileKey::new(key)?, sealed, &mut opened) {
+        Ok(()) => holds(rt, false, text),
+        Err(error) => displays(rt, &error, text)?,
+    }
+    Ok(())
+}
 
 #[test]
-fn version_one(rt: HostRuntime) -> Result<(), Fail> {
+fn a_file_that_opens_under_two_keys(rt: HostRuntime) -> Result<(), Fail> {
+    refused(&rt, &KEY, TWO_KEYS, VERSION_ONE)?;
+    refused(&rt, &OTHER_KEY, TWO_KEYS, VERSION_ONE)?;
+    let mut sealed = HEADER.to_vec(rt.alloc())?;
+    sealed.extend_from_slice(TWO_KEYS_AFTER_HEADER)?;
+    refused(&rt, &OTHER_KEY, &sealed, ANOTHER_KEY)?;
     let mut opened = Vec::new(rt.alloc());
-    open(
-        rt.alloc(),
-        &FileKey::new(&[7; 32])?,
-        &mut &*VERSION_ONE,
-        &mut opened,
-    )?;
-    same(&rt, &opened, b"a", "version 1");
+    open_bytes(&FileKey::new(&KEY)?, &sealed, &mut opened)?;
+    same(&rt, &opened, UNDER_THE_FIRST, "under the first key");
     Ok(())
 }
 

@@ -2,7 +2,7 @@ use Rattle.std.proofs.Common.{◌≡◌, ◌<◌, false, true, inr, length, take
 use Rattle.sealed_file.specs.declared.error.FileError.TheVariants.{EndsEarly}
 use Rattle.sealed_file.specs.Format.{ChunkKey, version_2}
 use Rattle.sealed_file.proofs
-use proofs.HeaderLemmas.{another_key, chunk_key-2, has_2, made_2, refused_is_none, version_at}
+use proofs.HeaderLemmas.{another_key, refused_is_none}
 use proofs.header.version_2_in.Goals as goal
 
 pub returns-in_default-clause-accepted : goal.returns-in_default-clause-accepted
@@ -17,23 +17,20 @@ pub returns-in-Ok-clause-accepted : goal.returns-in-Ok-clause-accepted
 returns-in-Ok-clause-accepted c =
     let whole = c.in-Some.ensures.cases.same in
     let cipher_is = c.new-cipher.ensures ∙ ap (version_2 c.args.key.now) (c.random_in.ensures ∙ ap (λ l. take 19 (drop 9 l)) whole) in (
-      λ _. has_2 c.args.key.now c.args.header.now (version_at c.args.header.now 2 c.requires.version.front) c.requires.least
-          (sym whole ∙ c.in-Ok.ensures.0 refl ∙ c.header.ensures.bytes ∙ ap (λ (k : ChunkKey). k.header) cipher_is),
+      λ _. record { right = sym whole ∙ c.in-Ok.ensures.0 refl ∙ c.header.ensures.bytes ∙ ap (λ (k : ChunkKey). k.header) cipher_is },
       λ _. refl,
     )
 
 pub returns-in-Ok-clause-cipher : goal.returns-in-Ok-clause-cipher
 returns-in-Ok-clause-cipher c =
     c.new-cipher.ensures ∙ ap (version_2 c.args.key.now) (c.random_in.ensures ∙ ap (λ l. take 19 (drop 9 l)) c.in-Some.ensures.cases.same)
-    ∙ sym (chunk_key-2 c.args.key.now c.args.header.now (version_at c.args.header.now 2 c.requires.version.front))
 
 pub returns-in-Err-clause-accepted : goal.returns-in-Err-clause-accepted
 returns-in-Err-clause-accepted c =
     let whole = c.in-Some.ensures.cases.same in
     let cipher_is = c.new-cipher.ensures ∙ ap (version_2 c.args.key.now) (c.random_in.ensures ∙ ap (λ l. take 19 (drop 9 l)) whole) in (
       λ e. cc,
-      λ has. c.in-Err.ensures.1 (whole
-          ∙ made_2 c.args.key.now c.args.header.now (version_at c.args.header.now 2 c.requires.version.front) has
+      λ has. c.in-Err.ensures.1 (whole ∙ has.right
           ∙ sym (ap (λ (k : ChunkKey). k.header) cipher_is) ∙ sym c.header.ensures.bytes),
     )
 

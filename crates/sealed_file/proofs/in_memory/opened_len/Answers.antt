@@ -9,6 +9,6 @@ returns c = λ key.
     omega (
       arith,
       length-opened_file key c.args.sealed.now,
-      length-drop (header_len c.args.sealed.now) c.args.sealed.now,
+      length-drop header_len c.args.sealed.now,
       c.last_chunk_of-last.ensures,
     )

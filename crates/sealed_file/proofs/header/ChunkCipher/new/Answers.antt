@@ -10,5 +10,5 @@ unfolding version_2
 returns c =
     let context_is = c.context_of-context.ensures in
     same_key (c.aead_key.ensures ∙ c.derived_key.ensures ∙ ap (derived_key c.args.key.now) context_is) c.prefix_of.ensures
-    (c.header_2_of.ensures
+    (c.header_with.ensures
     ∙ ap (λ l. magic_and_version 2 ++ (c.args.random.now ++ l)) (c.commitment.ensures ∙ ap (commitment c.args.key.now) context_is))

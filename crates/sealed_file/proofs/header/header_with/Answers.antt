@@ -3,7 +3,7 @@ use Rattle.std.specs.Prelude.{codes}
 use Rattle.sealed_file.specs.Format.{magic_and_version}
 use Rattle.sealed_file.proofs
 use proofs.ChunkLemmas.{put_end, put_next}
-use proofs.header.header_2_of.Goals as goal
+use proofs.header.header_with.Goals as goal
 
 pub returns : goal.returns
 returns c =

@@ -1,0 +1,6 @@
+use Rattle.sealed_file.proofs
+use proofs.HeaderLemmas.{one_commitment}
+use proofs.laws.two_keys.Goals as goal
+
+pub returns : goal.returns
+returns c = one_commitment c.args.key.now c.args.other.now c.args.file.now c.requires.first.front c.requires.second.front
