@@ -8,28 +8,23 @@ mod options;
 mod output;
 mod progress;
 
-ghost use Rattle.std.specs.Prelude.{OnOk};
-ghost use Rattle.std.specs.Io.KnownBytes.{Consumes};
-
 use failure::{Failure, Place};
 use name::Name;
 use options::{Action, Conversion, HELP, Request};
 use output::{NUMBER_LEN, NewFile, check_target};
 use progress::Source;
-use sealed_file::{FileError, FileKey, RANDOM_LEN};
+use sealed_file::{FileError, FileKey, FileRandom};
 use std::fmt::Display;
-use std::fs::{File, Metadata};
-use std::io::{self, ErrorKind, Read, Write};
+use std::fs::Metadata;
+use std::io::{self, ErrorKind, IsTerminal, Read, Write};
 use std::process::ExitCode;
+use std::random::RandomSource;
 
 /// The length of a key in bytes.
 const KEY_LEN: usize = 32;
 
 /// The mode of a key file: only its owner reads and writes it.
 const KEY_MODE: u32 = 0o600;
-
-/// The source of random bytes.
-const RANDOM: &str = "/dev/urandom";
 
 fn main(rt: HostRuntime) -> ExitCode {
     let request = match request_of(&rt) {
@@ -73,7 +68,7 @@ fn say<D: Display>(rt: &HostRuntime, request: &Request, place: Place, text: &D) 
     match place {
         Place::Input => eprintln!(rt; "seal_file: standard input: {text}"),
         Place::Output => eprintln!(rt; "seal_file: standard output: {text}"),
-        Place::Random => eprintln!(rt; "seal_file: {RANDOM}: {text}"),
+        Place::Random => eprintln!(rt; "seal_file: random bytes: {text}"),
         Place::KeyFile | Place::Console => eprintln!(rt; "seal_file: {text}"),
     }
 }
@@ -97,7 +92,7 @@ fn at<T>(place: Place, outcome: io::Result<T>) -> Result<T, Failure> {
 /// Creates a key in a new file.
 fn keygen(rt: &HostRuntime, name: &Name) -> Result<(), Failure> {
     let mut key = [0; KEY_LEN];
-    draw(rt, &mut key)?;
+    at(Place::Random, rt.fill_bytes(&mut key))?;
     let mut file = match files::create_new(rt, name, KEY_MODE) {
         Ok(file) => file,
         Err(error) if error.kind() == ErrorKind::AlreadyExists => return Err(Failure::KeyExists),
@@ -138,7 +133,7 @@ fn convert_from<R: Read + Drop>(
         Some(metadata) if metadata.is_file() => Some(metadata.len()),
         _ => None,
     };
-    let is_shown = conversion.has_progress && files::stderr_is_terminal(rt);
+    let is_shown = conversion.has_progress && rt.stderr().is_terminal();
     let source = Source::new(rt, input, len, is_shown);
     match &conversion.output {
         Some(name) => {
@@ -162,7 +157,7 @@ fn convert_to<R: Read + Drop>(
     (target, mode): (&Name, Option<u32>),
 ) -> Result<(), Failure> {
     let mut number = [0; NUMBER_LEN];
-    draw(rt, &mut number)?;
+    at(Place::Random, rt.fill_bytes(&mut number))?;
     let mut file = at(Place::Output, NewFile::create(rt, target, number, mode))?;
     if let Err(failure) = pass(rt, conversion, key, source, &mut file) {
         file.discard(rt);
@@ -182,8 +177,7 @@ fn pass<R: Read + Drop, W: Write>(
 ) -> Result<(), Failure> {
     let passed = match conversion.action {
         Action::Seal => {
-            let mut random = [0; RANDOM_LEN];
-            draw(rt, &mut random)?;
+            let random = at(Place::Random, FileRandom::draw(rt))?;
             sealed_file::seal(rt.alloc(), key, random, &mut source, output)
         }
         Action::Open => sealed_file::open(rt.alloc(), key, &mut source, output),
@@ -214,17 +208,4 @@ fn read_key(rt: &HostRuntime, name: &Name) -> Result<FileKey, Failure> {
         Ok(key) => Ok(key),
         Err(_) => Err(Failure::KeyLength),
     }
-}
-
-/// Fills `bytes` with random bytes from the system.
-fn draw(rt: &HostRuntime, bytes: &mut [u8]) -> Result<(), Failure> {
-    let drawn = File::open(rt, RANDOM).and_then(|mut source| fill_from(&mut source, bytes));
-    at(Place::Random, drawn)
-}
-
-/// Fills `bytes` from `source`.
-fn fill_from<R: Read>(source: &mut R, bytes: &mut [u8]) -> io::Result<()>
-    ensures { OnOk result (Consumes (R.remaining source.old) (R.remaining source.new) bytes.new) }
-{
-    source.read_exact(bytes)
 }

@@ -7,8 +7,9 @@ ghost use Rattle.sealed_file.specs.Refusals.{ChunkRefuses, FailsInMemory, OpenRe
 
 use crate::chunk::{CHUNK_LEN, MAX_CHUNKS, SEALED_CHUNK_LEN, open_ciphertext, seal_slice};
 use crate::error::FileError;
-use crate::header::{ChunkCipher, HEADER_LEN, RANDOM_LEN, cipher_of};
+use crate::header::{ChunkCipher, HEADER_LEN, cipher_of};
 use crate::key::FileKey;
+use crate::random::FileRandom;
 use aead_ciphers::aead::{MAX_TAG_LEN, Tag};
 
 /// The number of the last piece when `len` bytes are cut into pieces of `size` bytes.
@@ -77,8 +78,6 @@ fn append_sealed(cipher: &ChunkCipher, number: u32, is_last: bool, chunk: &[u8],
 
 /// Seals `file`, and appends the sealed file to `out`.
 ///
-/// Each file under a key needs its own 19 random bytes.
-///
 /// Fails with `TooLong` if the file has more than `MAX_CHUNKS` chunks, and otherwise with `OutOfMemory` only if `out` has no
 /// room for the sealed file and cannot grow. `out` then holds the bytes that it held before.
 ///
@@ -91,7 +90,8 @@ fn append_sealed(cipher: &ChunkCipher, number: u32, is_last: bool, chunk: &[u8],
 /// for (len, digest) in &SEALED {
 ///     let file = file_of(rt.alloc(), *len)?;
 ///     let mut sealed = Vec::new(rt.alloc());
-///     seal_bytes(&key, RANDOM, &file, &mut sealed)?;
+///     let random = FileRandom::from_bytes_for_tests(RANDOM);
+///     seal_bytes(&key, random, &file, &mut sealed)?;
 ///     same(&rt, &Md5::digest(&sealed), digest, "sealed in memory");
 ///     let mut opened = Vec::new(rt.alloc());
 ///     open_bytes(&key, &sealed, &mut opened)?;
@@ -100,7 +100,7 @@ fn append_sealed(cipher: &ChunkCipher, number: u32, is_last: bool, chunk: &[u8],
 /// ```
 pub fn seal_bytes(
     key: &FileKey,
-    random: [u8; RANDOM_LEN],
+    random: FileRandom,
     file: &[u8],
     out: &mut Vec<u8>,
 ) -> Result<(), FileError>
@@ -117,7 +117,7 @@ pub fn seal_bytes(
         FailsInMemory (vec_capacity out.old < grown) (SealRefuses file.now) error) }
     ensures kept { OnErr result (out.new.items ≡ out.old.items) }
 {
-    let cipher = ChunkCipher::new(key, &random);
+    let cipher = ChunkCipher::new(key, &random.bytes);
     let last = last_piece_of(file.len(), CHUNK_LEN);
     if last >= MAX_CHUNKS as usize {
         return Err(FileError::TooLong);

@@ -10,6 +10,7 @@ mod in_memory;
 mod key;
 pub mod laws;
 mod opening;
+mod random;
 mod random_access;
 mod sealing;
 mod stream;
@@ -20,5 +21,6 @@ pub use self::header::{CONTEXT_LEN, Context, HEADER_LEN, MAGIC, PREFIX_LEN, RAND
 pub use self::in_memory::{open_bytes, seal_bytes};
 pub use self::key::FileKey;
 pub use self::opening::open;
+pub use self::random::FileRandom;
 pub use self::random_access::{open_chunk_at, plaintext_len};
 pub use self::sealing::seal;

@@ -8,8 +8,9 @@ ghost use Rattle.sealed_file.specs.Streams.{AppendsBeginning};
 
 use crate::chunk::{CHUNK_LEN, MAX_CHUNKS, seal_chunk};
 use crate::error::FileError;
-use crate::header::{ChunkCipher, RANDOM_LEN};
+use crate::header::ChunkCipher;
 use crate::key::FileKey;
+use crate::random::FileRandom;
 use crate::stream::{buffers, read_piece, write_bytes};
 use std::alloc::Global;
 use std::io::{Read, Write};
@@ -17,7 +18,7 @@ use std::mem;
 
 /// Seals the bytes of `input`, and writes the sealed file to `output`.
 ///
-/// Each file under a key needs its own 19 random bytes. It keeps two chunks in memory.
+/// It keeps two chunks in memory.
 ///
 /// Fails with `TooLong` if the file has more than `MAX_CHUNKS` chunks, and with `Io` if reading, writing or allocating memory
 /// fails. What was written by then is the beginning of the sealed file.
@@ -33,7 +34,7 @@ use std::mem;
 ///     seal(
 ///         alloc,
 ///         &FileKey::new(&KEY)?,
-///         RANDOM,
+///         FileRandom::from_bytes_for_tests(RANDOM),
 ///         &mut file.as_slice(),
 ///         &mut sealed,
 ///     )?;
@@ -43,7 +44,7 @@ use std::mem;
 pub fn seal<R: Read, W: Write>(
     alloc: Global,
     key: &FileKey,
-    random: [u8; RANDOM_LEN],
+    random: FileRandom,
     input: &mut R,
     output: &mut W,
 ) -> Result<(), FileError>
@@ -59,7 +60,7 @@ pub fn seal<R: Read, W: Write>(
         (sealed_file (version_2 key.now random) file))) }
 {
     let (mut chunk, mut next) = buffers(alloc)?;
-    let cipher = ChunkCipher::new(key, &random);
+    let cipher = ChunkCipher::new(key, &random.bytes);
     write_bytes(output, cipher.header())?;
     read_piece(input, CHUNK_LEN, &mut chunk)?;
     for number in 0..MAX_CHUNKS {

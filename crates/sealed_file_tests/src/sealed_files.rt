@@ -5,12 +5,13 @@ use crate::failing_streams::FailingStream;
 use aead_ciphers::aead::{AES_256_GCM, Aad, LessSafeKey, Nonce, UnboundKey};
 use md5::{Digest, Md5};
 use sealed_file::{
-    CHUNK_LEN, FileError, FileKey, HEADER_LEN, SEALED_CHUNK_LEN, open, open_bytes, open_chunk_at,
-    plaintext_len, seal, seal_bytes,
+    CHUNK_LEN, FileError, FileKey, FileRandom, HEADER_LEN, SEALED_CHUNK_LEN, open, open_bytes,
+    open_chunk_at, plaintext_len, seal, seal_bytes,
 };
 use std::alloc::Global;
-use std::io::ErrorKind;
+use std::io::{self, ErrorKind};
 use std::process::Abort;
+use std::random::RandomSource;
 use std::test::Fail;
 
 /// The key: the bytes 0 to 31.
@@ -83,7 +84,7 @@ fn sealed_of(alloc: Global, len: usize) -> Result<Vec<u8>, Fail> {
     seal(
         alloc,
         &FileKey::new(&KEY)?,
-        RANDOM,
+        FileRandom::from_bytes_for_tests(RANDOM),
         &mut file.as_slice(),
         &mut sealed,
     )?;
@@ -127,12 +128,41 @@ fn in_memory(rt: HostRuntime) -> Result<(), Fail> {
     for (len, digest) in &SEALED {
         let file = file_of(rt.alloc(), *len)?;
         let mut sealed = Vec::new(rt.alloc());
-        seal_bytes(&key, RANDOM, &file, &mut sealed)?;
+        let random = FileRandom::from_bytes_for_tests(RANDOM);
+        seal_bytes(&key, random, &file, &mut sealed)?;
         same(&rt, &Md5::digest(&sealed), digest, "sealed in memory");
         let mut opened = Vec::new(rt.alloc());
         open_bytes(&key, &sealed, &mut opened)?;
         same(&rt, &opened, &file, "opened in memory");
     }
+    Ok(())
+}
+
+/// A source that gives the bytes of `RANDOM`, or fails.
+struct Source {
+    fails: bool,
+}
+
+impl RandomSource for Source {
+    fn fill_bytes(&self, buf: &mut [u8]) -> io::Result<()> {
+        if self.fails {
+            return Err(io::Error::from(ErrorKind::BrokenPipe));
+        }
+        for (byte, random) in buf.iter_mut().zip(&RANDOM) {
+            *byte = *random;
+        }
+        Ok(())
+    }
+}
+
+// No clause says which bytes a source gives.
+#[test]
+fn drawn_random_bytes(rt: HostRuntime) -> Result<(), Fail> {
+    let random = FileRandom::draw(&Source { fails: false })?;
+    let mut sealed = Vec::new(rt.alloc());
+    seal_bytes(&FileKey::new(&KEY)?, random, b"", &mut sealed)?;
+    holds(&rt, sealed.starts_with(HEADER), "the drawn bytes");
+    holds(&rt, FileRandom::draw(&Source { fails: true }).is_err(), "a source that fails");
     Ok(())
 }
 
@@ -330,7 +360,10 @@ fn ended_over(
     let mut input = FailingStream::new(bytes, MOST, failing_read);
     let mut output = FailingStream::new(Vec::new(alloc), MOST, failing_write);
     let outcome = match action {
-        Action::Seal => seal(alloc, &key, RANDOM, &mut input, &mut output),
+        Action::Seal => {
+            let random = FileRandom::from_bytes_for_tests(RANDOM);
+            seal(alloc, &key, random, &mut input, &mut output)
+        }
         Action::Open => open(alloc, &key, &mut input, &mut output),
     };
     Ok(Ended {
