@@ -10,7 +10,7 @@ use Rattle.sealed_file.specs
 use specs.declared.error.FileError.{FileError}
 use specs.declared.error.FileError.TheVariants.{AnotherMagic, AnotherVersion, WrongKey, EndsEarly}
 use specs.Derivation.{cmac_of_block, commitment, derived_block, first_subkey}
-use specs.Format.{ChunkKey, magic_and_version, version_2}
+use specs.Format.{ChunkKey, Secret, magic_and_version, version_2}
 use specs.Opening.{HasHeader, chunk_key, context_of, header_len, header_of}
 use specs.Refusals.{HeaderRefuses, IsOfAnotherKey, IsVersion2}
 
@@ -36,13 +36,13 @@ length-commitment key context =
       length-derived_block key context 4,
     )
 
-module _ (key random : List ℕ) where
+module _ (s : Secret) (random : List ℕ) where
   abbrev header : List ℕ
-  header = (version_2 key random).header
+  header = (version_2 s random).header
 
   -- the random bytes and the commitment
   abbrev tail : List ℕ
-  tail = random ++ commitment key (take 12 random)
+  tail = random ++ commitment s.key (take 12 random)
 
   header_is : header ≡ magic_and_version 2 ++ tail
   unfolding version_2
@@ -56,19 +56,19 @@ module _ (key random : List ℕ) where
       ∙ omega (
         arith,
         length-append (magic_and_version 2) tail,
-        length-append random (commitment key (take 12 random)),
-        length-commitment key (take 12 random),
+        length-append random (commitment s.key (take 12 random)),
+        length-commitment s.key (take 12 random),
       )
 
   module _ (size : length random ≡ 19) where
     pub random_2 : take 19 (drop 9 header) ≡ random
     random_2 = ap (λ l. take 19 (drop 9 l)) header_is ∙ ap (take 19) (drop_at (magic_and_version 2) tail 9 refl)
-        ∙ take_at random (commitment key (take 12 random)) 19 size
+        ∙ take_at random (commitment s.key (take 12 random)) 19 size
 
-    pub commitment_2 : drop 28 header ≡ commitment key (take 12 random)
+    pub commitment_2 : drop 28 header ≡ commitment s.key (take 12 random)
     commitment_2 = sym (drop-drop 19 9 header) ∙ ap (λ l. drop 19 (drop 9 l)) header_is
         ∙ ap (drop 19) (drop_at (magic_and_version 2) tail 9 refl)
-        ∙ drop_at random (commitment key (take 12 random)) 19 size
+        ∙ drop_at random (commitment s.key (take 12 random)) 19 size
 
 -- the version behind the magic
 pub version_at : (bytes : List ℕ) (version : ℕ) → take 9 bytes ≡ magic_and_version version → slice_index bytes 8 ≡ version
@@ -79,33 +79,33 @@ magic_at bytes version front = sym (take-take 8 9 bytes (omega arith)) ∙ ap (t
 
 -- ---- what is read from a header
 
-module _ (key header : List ℕ) where
+module _ (s : Secret) (header : List ℕ) where
   -- the random bytes in it
   abbrev random : List ℕ
   random = take 19 (drop 9 header)
 
   -- the header with these random bytes
   abbrev made : List ℕ
-  made = (version_2 key random).header
+  made = (version_2 s random).header
 
   -- a header is whole
-  pub size_of : HasHeader key header → length header ≡ 60
+  pub size_of : HasHeader s header → length header ≡ 60
   size_of has =
-      let e = ap length has.right ∙ length-header_2 key random in
+      let e = ap length has.right ∙ length-header_2 s random in
       omega (arith, e, length-take 19 (drop 9 header), length-drop 9 header)
 
-  front_of : HasHeader key header → take 9 header ≡ magic_and_version 2
-  front_of has = ap (take 9) has.right ∙ front_2 key random
+  front_of : HasHeader s header → take 9 header ≡ magic_and_version 2
+  front_of has = ap (take 9) has.right ∙ front_2 s random
 
   -- and ends with the commitment to the key
-  pub commitment_of : HasHeader key header → drop 28 header ≡ commitment key (take 12 (drop 9 header))
+  pub commitment_of : HasHeader s header → drop 28 header ≡ commitment s.key (take 12 (drop 9 header))
   commitment_of has =
       let size : length random ≡ 19 = omega (arith, size_of has, length-take 19 (drop 9 header), length-drop 9 header) in
-      ap (drop 28) has.right ∙ commitment_2 key random size
-      ∙ ap (commitment key) (take-take 12 19 (drop 9 header) (omega arith))
+      ap (drop 28) has.right ∙ commitment_2 s random size
+      ∙ ap (commitment s.key) (take-take 12 19 (drop 9 header) (omega arith))
 
   -- what is refused is no header
-  pub refused_is_none : (error : FileError) → HeaderRefuses key header error → ¬ HasHeader key header
+  pub refused_is_none : (error : FileError) → HeaderRefuses s header error → ¬ HasHeader s header
   refused_is_none EndsEarly (inl short) has = omega (arith, size_of has)
   refused_is_none EndsEarly (inr (version, short)) has = omega (arith, size_of has)
   refused_is_none AnotherMagic (size, other) has = other (magic_at header 2 (front_of has))
@@ -114,7 +114,7 @@ module _ (key header : List ℕ) where
   refused_is_none error h has = absurd h
 
   -- a header that isn't the one that is made of its random bytes has another commitment
-  pub another_key : IsVersion2 header → length header ≡ 60 → ¬ (header ≡ made) → IsOfAnotherKey key header
+  pub another_key : IsVersion2 header → length header ≡ 60 → ¬ (header ≡ made) → IsOfAnotherKey s header
   another_key version size differs = record {
     version = version;
     size = size;
@@ -124,35 +124,35 @@ module _ (key header : List ℕ) where
         ∙ ap (λ l. magic_and_version 2 ++ l) (
         sym (take-append-drop 19 (drop 9 header))
         ∙ ap (λ l. random ++ l) (
-        drop-drop 19 9 header ∙ same ∙ ap (commitment key) (sym (take-take 12 19 (drop 9 header) (omega arith)))
+        drop-drop 19 9 header ∙ same ∙ ap (commitment s.key) (sym (take-take 12 19 (drop 9 header) (omega arith)))
         )
         )
-        ∙ sym (header_is key random)
+        ∙ sym (header_is s random)
         );
   }
 
-pub header_fits : (key file : List ℕ) → HasHeader key (header_of file) → header_len ≤ length file
-header_fits key file has = omega (arith, size_of key (header_of file) has, length-take header_len file)
+pub header_fits : (s : Secret) (file : List ℕ) → HasHeader s (header_of file) → header_len ≤ length file
+header_fits s file has = omega (arith, size_of s (header_of file) has, length-take header_len file)
 
 -- a file that opens under two keys has two keys with one commitment
-pub one_commitment : (key other file : List ℕ) → HasHeader key (header_of file) → HasHeader other (header_of file)
-    → commitment key (context_of file) ≡ commitment other (context_of file)
-one_commitment key other file has has_other =
+pub one_commitment : (s t : Secret) (file : List ℕ) → HasHeader s (header_of file) → HasHeader t (header_of file)
+    → commitment s.key (context_of file) ≡ commitment t.key (context_of file)
+one_commitment s t file has other =
     let header = header_of file in
     let context_is : take 12 (drop 9 header) ≡ context_of file =
     ap (take 12) (drop-take 9 51 file) ∙ take-take 12 51 (drop 9 file) (omega arith) in
-    ap (commitment key) (sym context_is) ∙ sym (commitment_of key header has) ∙ commitment_of other header has_other
-    ∙ ap (commitment other) context_is
+    ap (commitment s.key) (sym context_is) ∙ sym (commitment_of s header has) ∙ commitment_of t header other
+    ∙ ap (commitment t.key) context_is
 
 -- ---- the header of a sealed file
 
 -- a header under a key
-pub record IsHeaderOf (key : List ℕ) (k : ChunkKey) : Type 0 where
+pub record IsHeaderOf (s : Secret) (k : ChunkKey) : Type 0 where
   pub len : length k.header ≡ header_len
-  pub back : chunk_key key k.header ≡ k
+  pub back : chunk_key s k.header ≡ k
 
-pub header_of_2 : (key random : List ℕ) → length random ≡ 19 → IsHeaderOf key (version_2 key random)
-header_of_2 key random size = record {
-  len = omega (arith, length-header_2 key random);
-  back = ap (version_2 key) (random_2 key random size);
+pub header_of_2 : (s : Secret) (random : List ℕ) → length random ≡ 19 → IsHeaderOf s (version_2 s random)
+header_of_2 s random size = record {
+  len = omega (arith, length-header_2 s random);
+  back = ap (version_2 s) (random_2 s random size);
 }

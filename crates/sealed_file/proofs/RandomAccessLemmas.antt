@@ -1,13 +1,13 @@
 -- The length of what a sealed file gives.
 use Rattle.std.proofs.Common.{◌≡◌, ℕ, ◌+◌, ◌-◌, ◌*◌, ◌^◌, ◌<◌, List, length, drop, sym, ap, subst, ◌∙◌, arith, length-drop, length-take}
 use Rattle.sealed_file.specs
-use specs.Format.{chunk_len, last_piece, sealed_chunk_len}
+use specs.Format.{Secret, chunk_len, last_piece, sealed_chunk_len}
 use specs.Opening.{IsSealed, IsSealedLen, body_of, header_len, last_chunk, opened_file}
 use Rattle.sealed_file.proofs
 use proofs.HeaderLemmas.{header_fits}
 use proofs.InMemoryLemmas.{length-opened_file}
 
-module _ (key file : List ℕ) (accepted : IsSealed key file) where
+module _ (key : Secret) (file : List ℕ) (accepted : IsSealed key file) where
   length-body : length (body_of file) ≡ length file - 60
   length-body = length-drop header_len file
 

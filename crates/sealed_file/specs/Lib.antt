@@ -1,5 +1,6 @@
 pub mod Derivation
 pub mod Format
 pub mod Opening
+pub mod Reader
 pub mod Refusals
 pub mod Streams

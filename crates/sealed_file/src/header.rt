@@ -1,12 +1,14 @@
 //! The header of a sealed file, and the key that follows from it.
 
 ghost use Rattle.std.specs.Prelude.{ℕ, List, ◌≡◌, ◌+◌, ◌≤◌, ◌↔◌, ◌++◌, length, take, drop, IsOk, IfOk, IfErr};
-ghost use Rattle.sealed_file.specs.Format.{magic_and_version, version_2};
+ghost use Rattle.sealed_file.specs.Format.{Secret, magic_and_version, secret, version_2};
 ghost use Rattle.sealed_file.specs.Opening.{HasHeader, chunk_key, header_of};
 ghost use Rattle.sealed_file.specs.Refusals.{HeaderRefuses, IsVersion2};
 
+use crate::aad::ChunkAad;
 use crate::error::FileError;
 use crate::key::FileKey;
+use crate::random::FileRandom;
 use aead_ciphers::aead::AES_256_GCM;
 use aead_ciphers_base::aes::AES_256_KEY_LEN;
 use aead_ciphers_base::bb;
@@ -46,12 +48,14 @@ pub type Context = [u8; CONTEXT_LEN];
 /// The prefix of a file's nonces.
 pub(crate) type Prefix = [u8; PREFIX_LEN];
 
-/// The key of a file's chunks: an AES-256-GCM key, the prefix of the nonces, and the header, which is the AAD of every chunk.
+/// The key of a file's chunks: an AES-256-GCM key, the prefix of the nonces, the header, and the AAD of
+/// every chunk.
 #[derive(Drop)]
 pub(crate) struct ChunkCipher {
     pub(crate) key: LessSafeKey,
     pub(crate) prefix: Prefix,
     header: [u8; HEADER_LEN],
+    aad: ChunkAad,
 }
 
 impl Model for ChunkCipher {
@@ -63,6 +67,7 @@ impl Model for ChunkCipher {
       key = cipher.key.bytes;
       prefix = cipher.prefix;
       header = cipher.header;
+      aad = cipher.aad;
     } };
 }
 
@@ -75,15 +80,28 @@ impl ChunkCipher {
         &self.header
     }
 
-    /// The key of a file with these random bytes.
-    pub(crate) fn new(key: &FileKey, random: &[u8; RANDOM_LEN]) -> ChunkCipher
-        ensures { result ≡ version_2 key.now random.now }
+    /// Returns the AAD of each chunk.
+    pub(crate) fn aad(&self) -> &[u8]
+        ensures bytes { result.now ≡ self.now.aad }
+        ensures len { length result.now ≤ 4156 }
     {
+        self.aad.as_slice()
+    }
+
+    /// The key of a file with this AAD of the caller and these random bytes.
+    pub(crate) fn new(key: &FileKey, aad: &[u8], random: &FileRandom) -> ChunkCipher
+        requires { length aad.now ≤ 4096 }
+        ensures made { result ≡ version_2 (secret key.now aad.now) random.now }
+        ensures size { length result.header ≡ 60 }
+    {
+        let random = random.as_bytes();
         let context = context_of(random);
+        let header = header_with(random, &key.commitment(&context));
         ChunkCipher {
             key: aead_key(&key.derived_key(&context)),
             prefix: prefix_of(random),
-            header: header_with(random, &key.commitment(&context)),
+            header,
+            aad: ChunkAad::new(&header, aad),
         }
     }
 }
@@ -148,18 +166,18 @@ fn header_of(file: &[u8]) -> &[u8]
 }
 
 /// The random bytes of a header.
-fn random_in(header: &[u8; HEADER_LEN]) -> [u8; RANDOM_LEN]
+fn random_in(header: &[u8; HEADER_LEN]) -> FileRandom
     ensures { result ≡ take 19 (drop 9 header.now) }
 {
     let mut random = [0; RANDOM_LEN];
     random.copy_from_slice(&header[FRONT_LEN..FRONT_LEN + RANDOM_LEN]);
-    random
+    FileRandom::of_bytes(random)
 }
 
 /// Fails unless a header begins with the magic and the version.
 fn check_front(header: &[u8]) -> Result<(), FileError>
     ensures front { IsOk result → IsVersion2 header.now }
-    ensures refused { (key : List ℕ) → IfErr result (λ error. HeaderRefuses key header.now error) }
+    ensures refused { (s : Secret) → IfErr result (λ error. HeaderRefuses s header.now error) }
 {
     let Some(front) = header.first_chunk::<FRONT_LEN>() else {
         return Err(FileError::EndsEarly);
@@ -174,19 +192,32 @@ fn check_front(header: &[u8]) -> Result<(), FileError>
     Ok(())
 }
 
+/// Fails unless these bytes begin with the magic, the version and a whole header. The commitment is not compared.
+pub fn check_header(file: &[u8]) -> Result<(), FileError>
+    ensures accepted { IsOk result → IsVersion2 (header_of file.now) }
+    ensures whole { IsOk result → 60 ≤ length file.now }
+    ensures refused { (s : Secret) → IfErr result (λ error. HeaderRefuses s (header_of file.now) error) }
+{
+    match check_front(header_of(file)) {
+        Ok(()) if file.len() < HEADER_LEN => Err(FileError::EndsEarly),
+        checked => checked,
+    }
+}
+
 /// The key of the chunks after a header that begins as one. The whole header is compared with the one that the key defines for
 /// its random bytes.
-fn version_2_in(key: &FileKey, header: &[u8]) -> Result<ChunkCipher, FileError>
+fn version_2_in(key: &FileKey, aad: &[u8], header: &[u8]) -> Result<ChunkCipher, FileError>
     requires version { IsVersion2 header.now }
     requires most { length header.now ≤ 60 }
-    ensures accepted { IsOk result ↔ HasHeader key.now header.now }
-    ensures cipher { IfOk result (λ cipher. cipher ≡ chunk_key key.now header.now) }
-    ensures refused { IfErr result (λ error. HeaderRefuses key.now header.now error) }
+    requires aad { length aad.now ≤ 4096 }
+    ensures accepted { IsOk result ↔ HasHeader (secret key.now aad.now) header.now }
+    ensures cipher { IfOk result (λ cipher. cipher ≡ chunk_key (secret key.now aad.now) header.now) }
+    ensures refused { IfErr result (λ error. HeaderRefuses (secret key.now aad.now) header.now error) }
 {
     let Some(header) = header.as_array::<HEADER_LEN>() else {
         return Err(FileError::EndsEarly);
     };
-    let cipher = ChunkCipher::new(key, &random_in(header));
+    let cipher = ChunkCipher::new(key, aad, &random_in(header));
     match bb::verify_slices_are_equal(header, cipher.header()) {
         Ok(()) => Ok(cipher),
         Err(_) => Err(FileError::WrongKey),
@@ -194,23 +225,25 @@ fn version_2_in(key: &FileKey, header: &[u8]) -> Result<ChunkCipher, FileError>
 }
 
 /// The key of the chunks after this header.
-fn cipher_in(key: &FileKey, header: &[u8]) -> Result<ChunkCipher, FileError>
-    requires { length header.now ≤ 60 }
-    ensures accepted { IsOk result ↔ HasHeader key.now header.now }
-    ensures cipher { IfOk result (λ cipher. cipher ≡ chunk_key key.now header.now) }
-    ensures refused { IfErr result (λ error. HeaderRefuses key.now header.now error) }
+fn cipher_in(key: &FileKey, aad: &[u8], header: &[u8]) -> Result<ChunkCipher, FileError>
+    requires header { length header.now ≤ 60 }
+    requires aad { length aad.now ≤ 4096 }
+    ensures accepted { IsOk result ↔ HasHeader (secret key.now aad.now) header.now }
+    ensures cipher { IfOk result (λ cipher. cipher ≡ chunk_key (secret key.now aad.now) header.now) }
+    ensures refused { IfErr result (λ error. HeaderRefuses (secret key.now aad.now) header.now error) }
 {
     match check_front(header) {
-        Ok(()) => version_2_in(key, header),
+        Ok(()) => version_2_in(key, aad, header),
         Err(error) => Err(error),
     }
 }
 
 /// The key of the chunks of a file that begins with these bytes.
-pub(crate) fn cipher_of(key: &FileKey, file: &[u8]) -> Result<ChunkCipher, FileError>
-    ensures accepted { IsOk result ↔ HasHeader key.now (header_of file.now) }
-    ensures cipher { IfOk result (λ cipher. cipher ≡ chunk_key key.now (header_of file.now)) }
-    ensures refused { IfErr result (λ error. HeaderRefuses key.now (header_of file.now) error) }
+pub(crate) fn cipher_of(key: &FileKey, aad: &[u8], file: &[u8]) -> Result<ChunkCipher, FileError>
+    requires { length aad.now ≤ 4096 }
+    ensures accepted { IsOk result ↔ HasHeader (secret key.now aad.now) (header_of file.now) }
+    ensures cipher { IfOk result (λ cipher. cipher ≡ chunk_key (secret key.now aad.now) (header_of file.now)) }
+    ensures refused { IfErr result (λ error. HeaderRefuses (secret key.now aad.now) (header_of file.now) error) }
 {
-    cipher_in(key, header_of(file))
+    cipher_in(key, aad, header_of(file))
 }

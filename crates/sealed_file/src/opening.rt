@@ -1,7 +1,8 @@
 //! Opening a sealed file.
 
-ghost use Rattle.std.specs.Prelude.{ℕ, IfErr, IfSome, OnOk, OnErr};
+ghost use Rattle.std.specs.Prelude.{ℕ, [], ◌≤◌, length, IfErr, IfSome, OnOk, OnErr};
 ghost use Rattle.std.specs.Io.KnownBytes.{Appends};
+ghost use Rattle.sealed_file.specs.Format.{secret};
 ghost use Rattle.sealed_file.specs.Opening.{AreRight, IsSealed, opened_chunks, opened_file};
 ghost use Rattle.sealed_file.specs.Refusals.{OpenRefuses};
 ghost use Rattle.sealed_file.specs.Streams.{AppendsBeginning};
@@ -44,17 +45,38 @@ pub fn open<R: Read, W: Write>(
     input: &mut R,
     output: &mut W,
 ) -> Result<(), FileError>
-    ensures accepted { OnOk result (IfSome (R.remaining input.old) (λ file. IsSealed key.now file)) }
+    ensures accepted { OnOk result (IfSome (R.remaining input.old) (λ file. IsSealed (secret key.now []) file)) }
     ensures opened { OnOk result (IfSome (R.remaining input.old) (λ file.
-        Appends (W.contents output.old) (W.contents output.new) (opened_file key.now file))) }
+        Appends (W.contents output.old) (W.contents output.new) (opened_file (secret key.now []) file))) }
     ensures refused { IfErr result (λ error. IfSome (R.remaining input.old) (λ file.
-        OpenRefuses key.now file error)) }
-    ensures nothing_past { OnErr result (IfSome (R.remaining input.old) (λ file. (n : ℕ) × AreRight key.now file n
-        × AppendsBeginning (W.contents output.old) (W.contents output.new) (opened_chunks key.now file n))) }
+        OpenRefuses (secret key.now []) file error)) }
+    ensures nothing_past { OnErr result (IfSome (R.remaining input.old) (λ file. (n : ℕ) × AreRight (secret key.now []) file n
+        × AppendsBeginning (W.contents output.old) (W.contents output.new) (opened_chunks (secret key.now []) file n))) }
+{
+    open_with_aad(alloc, key, &[], input, output)
+}
+
+/// `open` of a file that is bound to `aad`, at most `MAX_AAD_LEN` bytes. With other bytes than it was sealed with, the first chunk
+/// is refused.
+pub fn open_with_aad<R: Read, W: Write>(
+    alloc: Global,
+    key: &FileKey,
+    aad: &[u8],
+    input: &mut R,
+    output: &mut W,
+) -> Result<(), FileError>
+    requires { length aad.now ≤ 4096 }
+    ensures accepted { OnOk result (IfSome (R.remaining input.old) (λ file. IsSealed (secret key.now aad.now) file)) }
+    ensures opened { OnOk result (IfSome (R.remaining input.old) (λ file.
+        Appends (W.contents output.old) (W.contents output.new) (opened_file (secret key.now aad.now) file))) }
+    ensures refused { IfErr result (λ error. IfSome (R.remaining input.old) (λ file.
+        OpenRefuses (secret key.now aad.now) file error)) }
+    ensures nothing_past { OnErr result (IfSome (R.remaining input.old) (λ file. (n : ℕ) × AreRight (secret key.now aad.now) file n
+        × AppendsBeginning (W.contents output.old) (W.contents output.new) (opened_chunks (secret key.now aad.now) file n))) }
 {
     let (mut chunk, mut next) = buffers(alloc)?;
     read_header(input, &mut chunk)?;
-    let cipher = cipher_of(key, &chunk)?;
+    let cipher = cipher_of(key, aad, &chunk)?;
     read_piece(input, SEALED_CHUNK_LEN, &mut chunk)?;
     for number in 0..MAX_CHUNKS {
         read_piece(input, SEALED_CHUNK_LEN, &mut next)?;

@@ -12,7 +12,7 @@ use std::random::RandomSource;
 /// Sealing takes it by value, and it cannot be copied, so that no two files are sealed under the same one.
 #[derive(Drop)]
 pub struct FileRandom {
-    pub(crate) bytes: [u8; RANDOM_LEN],
+    bytes: [u8; RANDOM_LEN],
 }
 
 impl Model for FileRandom {
@@ -24,6 +24,20 @@ impl Model for FileRandom {
 }
 
 impl FileRandom {
+    /// The random bytes in a header.
+    pub(crate) fn of_bytes(bytes: [u8; RANDOM_LEN]) -> FileRandom
+        ensures { result ≡ bytes }
+    {
+        FileRandom { bytes }
+    }
+
+    /// Returns the bytes.
+    pub(crate) fn as_bytes(&self) -> &[u8; RANDOM_LEN]
+        ensures { result.now ≡ self.now }
+    {
+        &self.bytes
+    }
+
     /// Draws the random bytes of a file, as from the system by a program's runtime.
     ///
     /// Fails with the error of the source.
@@ -40,6 +54,6 @@ impl FileRandom {
     pub fn from_bytes_for_tests(bytes: [u8; RANDOM_LEN]) -> FileRandom
         ensures { result ≡ bytes }
     {
-        FileRandom { bytes }
+        FileRandom::of_bytes(bytes)
     }
 }

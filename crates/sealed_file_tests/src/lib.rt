@@ -7,4 +7,6 @@ mod checks;
 #[cfg(test)]
 mod failing_streams;
 #[cfg(test)]
+mod reader;
+#[cfg(test)]
 mod sealed_files;

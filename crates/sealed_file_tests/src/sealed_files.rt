@@ -1,12 +1,14 @@
 //! Sealed files as `tools/open-sealed-file` makes them, files that do not open, and streams that fail.
 
+ghost use Rattle.std.specs.Prelude.{◌≤◌, length};
+
 use crate::checks::{displays, holds, same};
 use crate::failing_streams::FailingStream;
 use aead_ciphers::aead::{AES_256_GCM, Aad, LessSafeKey, Nonce, UnboundKey};
 use md5::{Digest, Md5};
 use sealed_file::{
     CHUNK_LEN, FileError, FileKey, FileRandom, HEADER_LEN, SEALED_CHUNK_LEN, open, open_bytes,
-    open_chunk_at, plaintext_len, seal, seal_bytes,
+    open_chunk_at, open_with_aad, plaintext_len, seal, seal_bytes, seal_with_aad,
 };
 use std::alloc::Global;
 use std::io::{self, ErrorKind};
@@ -15,7 +17,7 @@ use std::random::RandomSource;
 use std::test::Fail;
 
 /// The key: the bytes 0 to 31.
-const KEY: [u8; 32] = [
+pub(crate) const KEY: [u8; 32] = [
     0, 1, 2, 3, 4, 5, 6, 7, 8, 9, 10, 11, 12, 13, 14, 15, 16, 17, 18, 19, 20, 21, 22, 23, 24, 25,
     26, 27, 28, 29, 30, 31,
 ];
@@ -69,7 +71,7 @@ const VERSION_FOUR: &str = "a sealed file of version 4, which is not 2";
 const ANOTHER_KEY: &str = "the key is wrong, or the header was changed";
 
 /// The test file of this length: byte i is i modulo 251.
-fn file_of(alloc: Global, len: usize) -> Result<Vec<u8>, Fail> {
+pub(crate) fn file_of(alloc: Global, len: usize) -> Result<Vec<u8>, Fail> {
     let mut file = Vec::with_capacity(alloc, len)?;
     for i in 0..len {
         file.push((i % 251) as u8)?;
@@ -162,7 +164,11 @@ fn drawn_random_bytes(rt: HostRuntime) -> Result<(), Fail> {
     let mut sealed = Vec::new(rt.alloc());
     seal_bytes(&FileKey::new(&KEY)?, random, b"", &mut sealed)?;
     holds(&rt, sealed.starts_with(HEADER), "the drawn bytes");
-    holds(&rt, FileRandom::draw(&Source { fails: true }).is_err(), "a source that fails");
+    holds(
+        &rt,
+        FileRandom::draw(&Source { fails: true }).is_err(),
+        "a source that fails",
+    );
     Ok(())
 }
 
@@ -469,8 +475,7 @@ const TWO_KEYS_AFTER_HEADER: &[u8] =
     \x49\x34\x23\xd2\xce\x0f\x71\x3e\xae\xef\xc4\x9f\x5e\xc8\x10\x38";
 
 /// What `TWO_KEYS_AFTER_HEADER` opens to under `KEY`.
-const UNDER_THE_FIRST: &[u8] =
-    b"\x87\xd9\xd8\xf1\x12\x46\x32\xcf\x48\xf0\x5a\x1a\xcf\x04\x78\x9a";
+const UNDER_THE_FIRST: &[u8] = b"\x87\xd9\xd8\xf1\x12\x46\x32\xcf\x48\xf0\x5a\x1a\xcf\x04\x78\x9a";
 
 const OTHER_KEY: [u8; 32] = [7; 32];
 
@@ -502,6 +507,50 @@ fn a_file_that_opens_under_two_keys(rt: HostRuntime) -> Result<(), Fail> {
     Ok(())
 }
 
+/// The byte `a`, sealed under `OTHER_KEY` and random bytes 1 with the AAD `name` by python's `cryptography`, without its header.
+const BOUND: &[u8] = b"\x85\xf0\x7a\x0a\x1a\x53\x29\x9a\xd2\x65\x09\xc9\x8d\xda\x54\x10\x1a";
+
+/// Opening the file that is bound to `name` with this AAD ends with this message.
+fn opens_with(
+    rt: &(impl Abort + AllocGlobal),
+    sealed: &[u8],
+    aad: &[u8],
+    text: &str,
+) -> Result<(), Fail>
+    requires { length aad.now ≤ 4096 }
+{
+    let mut opened = Vec::new(rt.alloc());
+    let mut input = sealed;
+    let key = FileKey::new(&OTHER_KEY)?;
+    match open_with_aad(rt.alloc(), &key, aad, &mut input, &mut opened) {
+        Ok(()) => {
+            holds(rt, text == "opened", text);
+            same(rt, &opened, b"a", text);
+        }
+        Err(error) => displays(rt, &error, text)?,
+    }
+    Ok(())
+}
+
+#[test]
+fn bound_to_aad(rt: HostRuntime) -> Result<(), Fail> {
+    let random = FileRandom::from_bytes_for_tests([1; 19]);
+    let mut sealed = Vec::new(rt.alloc());
+    let mut file = b"a".as_slice();
+    let key = FileKey::new(&OTHER_KEY)?;
+    seal_with_aad(rt.alloc(), &key, random, b"name", &mut file, &mut sealed)?;
+    let chunk = sealed.get(HEADER_LEN..).ok_or("a body")?;
+    same(&rt, chunk, BOUND, "bound to an AAD");
+    opens_with(&rt, &sealed, b"name", "opened")?;
+    opens_with(&rt, &sealed, b"", FIRST_REFUSED)?;
+    opens_with(&rt, &sealed, b"nam", FIRST_REFUSED)?;
+    opens_with(&rt, &sealed, b"Name", FIRST_REFUSED)?;
+    let mut opened = Vec::new(rt.alloc());
+    open_chunk_at(&key, b"name", &sealed, 0, true, BOUND, &mut opened)?;
+    same(&rt, &opened, b"a", "its chunk");
+    Ok(())
+}
+
 // No clause says that a `Vec` can grow.
 #[test]
 fn chunks_alone(rt: HostRuntime) -> Result<(), Fail> {
@@ -517,7 +566,7 @@ fn chunks_alone(rt: HostRuntime) -> Result<(), Fail> {
         for chunk in body.chunks(SEALED_CHUNK_LEN) {
             let is_last = number as usize == last;
             assert!(rt; chunk.len() <= SEALED_CHUNK_LEN);
-            open_chunk_at(&key, &sealed, number, is_last, chunk, &mut opened)?;
+            open_chunk_at(&key, &[], &sealed, number, is_last, chunk, &mut opened)?;
             number = number.wrapping_add(1);
         }
         same(&rt, &opened, &file, "its chunks");

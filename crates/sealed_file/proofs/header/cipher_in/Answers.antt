@@ -1,3 +1,4 @@
+use Rattle.sealed_file.specs.Format.{secret}
 use Rattle.sealed_file.proofs
 use proofs.HeaderLemmas.{refused_is_none}
 use proofs.header.cipher_in.Goals as goal
@@ -5,8 +6,8 @@ use proofs.header.cipher_in.Goals as goal
 pub returns-in-Err-clause-accepted : goal.returns-in-Err-clause-accepted
 returns-in-Err-clause-accepted c = (
   λ e. cc,
-  λ has. absurd (refused_is_none c.args.key.now c.args.header.now c.in-Err.error (c.in-Err.ensures.refused c.args.key.now) has),
+  λ has. absurd (refused_is_none (secret c.args.key.now c.args.aad.now) c.args.header.now c.in-Err.error (c.in-Err.ensures.refused (secret c.args.key.now c.args.aad.now)) has),
 )
 
 pub returns-in-Err-clause-refused : goal.returns-in-Err-clause-refused
-returns-in-Err-clause-refused c = c.in-Err.ensures.refused c.args.key.now
+returns-in-Err-clause-refused c = c.in-Err.ensures.refused (secret c.args.key.now c.args.aad.now)
