@@ -74,10 +74,9 @@ fn bytes_at_any_place(rt: HostRuntime) -> Result<(), Fail> {
     let key = FileKey::new(&KEY)?;
     let mut reader = SealedReader::new(rt.alloc(), &key, &[], Cursor::new(input.as_slice()), 6)?;
     assert_eq!(rt; reader.len(), LEN as u64);
-    let mut buf = file_of(rt.alloc(), CHUNK_LEN + 1)?;
     for (at, asked, wanted) in &READS {
-        let buf = buf.get_mut(..*asked).ok_or("a buffer")?;
-        reads(&rt, &mut reader, &file, (*at, buf), *wanted)?;
+        let mut buf = file_of(rt.alloc(), *asked)?;
+        reads(&rt, &mut reader, &file, (*at, &mut buf), *wanted)?;
     }
     Ok(())
 }
