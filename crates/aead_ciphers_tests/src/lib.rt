@@ -41,8 +41,6 @@ mod reference;
 #[cfg(test)]
 mod refusals;
 #[cfg(test)]
-mod sealed_files;
-#[cfg(test)]
 mod sequences;
 #[cfg(test)]
 mod session;

@@ -28,6 +28,10 @@ pub enum Failure {
     SameFile,
     /// OUT exists, and is not a regular file.
     NotRegular,
+    /// The AAD has more than `MAX_AAD_LEN` bytes.
+    AadTooLong,
+    /// A sealed file would be written to a terminal.
+    Terminal,
     /// The file cannot be sealed or opened.
     Refused(FileError),
     /// Reading or writing failed, or allocating memory failed.

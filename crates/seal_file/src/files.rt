@@ -2,7 +2,7 @@
 
 use crate::name::Name;
 use std::fs::{self, File, Metadata, Permissions};
-use std::io::{self, ErrorKind, IsTerminal};
+use std::io::{self, ErrorKind};
 use std::os::unix::fs::{MetadataExt, OpenOptionsExt, PermissionsExt};
 use std::str;
 
@@ -67,14 +67,6 @@ pub fn exists(rt: &HostRuntime, name: &Name) -> io::Result<bool> {
         Ok(_) => Ok(true),
         Err(error) if error.kind() == ErrorKind::NotFound => Ok(false),
         Err(error) => Err(error),
-    }
-}
-
-/// Returns whether standard error is a terminal.
-pub fn stderr_is_terminal(rt: &HostRuntime) -> bool {
-    match File::options().write(true).open(rt, "/proc/self/fd/2") {
-        Ok(file) => file.is_terminal(),
-        Err(_) => false,
     }
 }
 

@@ -7,29 +7,32 @@ mod name;
 mod options;
 mod output;
 mod progress;
+mod range;
 
-ghost use Rattle.std.specs.Prelude.{OnOk};
-ghost use Rattle.std.specs.Io.KnownBytes.{Consumes};
+ghost use Rattle.std.specs.Prelude.{◌≤◌, length};
 
 use failure::{Failure, Place};
 use name::Name;
-use options::{Action, Conversion, HELP, Request};
+use options::{Action, Conversion, HELP, Request, VERSION};
 use output::{NUMBER_LEN, NewFile, check_target};
 use progress::Source;
-use sealed_file::{FileError, FileKey, RANDOM_LEN};
+use range::{Range, RangeWriter};
+use sealed_file::{
+    CHUNK_LEN, FileError, FileKey, FileRandom, HEADER_LEN, MAX_AAD_LEN, SealedReader, check_header,
+    open_with_aad, plaintext_len, seal_with_aad,
+};
+use std::alloc::Global;
 use std::fmt::Display;
 use std::fs::{File, Metadata};
-use std::io::{self, ErrorKind, Read, Write};
+use std::io::{self, ErrorKind, IsTerminal, Read, Write};
 use std::process::ExitCode;
+use std::random::RandomSource;
 
 /// The length of a key in bytes.
 const KEY_LEN: usize = 32;
 
 /// The mode of a key file: only its owner reads and writes it.
 const KEY_MODE: u32 = 0o600;
-
-/// The source of random bytes.
-const RANDOM: &str = "/dev/urandom";
 
 fn main(rt: HostRuntime) -> ExitCode {
     let request = match request_of(&rt) {
@@ -45,7 +48,7 @@ fn main(rt: HostRuntime) -> ExitCode {
 /// The request on the command line.
 fn request_of(rt: &HostRuntime) -> Result<Request, Failure> {
     match options::all_words(rt) {
-        Ok(words) => Request::of_words(words),
+        Ok(words) => Request::of_words(rt.alloc(), words),
         Err(error) => Err(Failure::Io(Place::Console, error)),
     }
 }
@@ -57,8 +60,18 @@ fn report(rt: &HostRuntime, request: &Request, failure: &Failure) -> ExitCode {
         Failure::KeyLength => say(rt, request, Place::KeyFile, &"the key is not 32 bytes long"),
         Failure::KeyExists => say(rt, request, Place::KeyFile, &"the file exists"),
         Failure::Exists => say(rt, request, Place::Output, &"the file exists"),
-        Failure::SameFile => say(rt, request, Place::Output, &"this is the file that is read"),
-        Failure::NotRegular => say(rt, request, Place::Output, &"this is no regular file"),
+        Failure::SameFile => say(
+            rt,
+            request,
+            Place::Output,
+            &"input and output are the same file",
+        ),
+        Failure::AadTooLong => eprintln!(rt; "seal_file: --aad takes at most {MAX_AAD_LEN} bytes"),
+        Failure::Terminal => {
+            let text = "a sealed file is not written to a terminal: give -o OUT, or -o -";
+            say(rt, request, Place::Output, &text)
+        }
+        Failure::NotRegular => say(rt, request, Place::Output, &"not a regular file"),
         Failure::Refused(error) => say(rt, request, Place::Input, error),
         Failure::Io(place, error) => say(rt, request, *place, error),
     };
@@ -73,7 +86,7 @@ fn say<D: Display>(rt: &HostRuntime, request: &Request, place: Place, text: &D) 
     match place {
         Place::Input => eprintln!(rt; "seal_file: standard input: {text}"),
         Place::Output => eprintln!(rt; "seal_file: standard output: {text}"),
-        Place::Random => eprintln!(rt; "seal_file: {RANDOM}: {text}"),
+        Place::Random => eprintln!(rt; "seal_file: random bytes: {text}"),
         Place::KeyFile | Place::Console => eprintln!(rt; "seal_file: {text}"),
     }
 }
@@ -81,6 +94,8 @@ fn say<D: Display>(rt: &HostRuntime, request: &Request, place: Place, text: &D) 
 fn run(rt: &HostRuntime, request: &Request) -> Result<(), Failure> {
     match request {
         Request::Help => at(Place::Output, println!(rt; "{HELP}")),
+        Request::Version => at(Place::Output, println!(rt; "{VERSION}")),
+        Request::Inspect { file, key_file } => inspect(rt, file, key_file.as_ref()),
         Request::Keygen(name) => keygen(rt, name),
         Request::Convert(conversion) => convert(rt, conversion),
     }
@@ -97,7 +112,7 @@ fn at<T>(place: Place, outcome: io::Result<T>) -> Result<T, Failure> {
 /// Creates a key in a new file.
 fn keygen(rt: &HostRuntime, name: &Name) -> Result<(), Failure> {
     let mut key = [0; KEY_LEN];
-    draw(rt, &mut key)?;
+    at(Place::Random, rt.fill_bytes(&mut key))?;
     let mut file = match files::create_new(rt, name, KEY_MODE) {
         Ok(file) => file,
         Err(error) if error.kind() == ErrorKind::AlreadyExists => return Err(Failure::KeyExists),
@@ -110,20 +125,104 @@ fn keygen(rt: &HostRuntime, name: &Name) -> Result<(), Failure> {
     at(Place::KeyFile, written)
 }
 
+/// Prints what a header and the length of a file say, and whether the commitment is that of a key.
+fn inspect(rt: &HostRuntime, name: &Name, key_file: Option<&Name>) -> Result<(), Failure> {
+    let file = at(Place::Input, files::open(rt, name))?;
+    let metadata = at(Place::Input, file.metadata())?;
+    let mut header = Vec::new(rt.alloc());
+    at(
+        Place::Input,
+        file.take(HEADER_LEN as u64).read_to_end(&mut header),
+    )?;
+    check_header(&header).map_err(Failure::Refused)?;
+    at(Place::Output, print_len(rt, &metadata))?;
+    if let Some(key_file) = key_file {
+        if !read_key(rt, key_file)?.is_of(&header) {
+            return Err(Failure::Refused(FileError::WrongKey));
+        }
+        at(
+            Place::Output,
+            println!(rt; "the header commits to this key"),
+        )?;
+    }
+    at(Place::Output, println!(rt; "nothing else was checked"))
+}
+
+/// Prints the version, and the length of the file that a sealed file of this length has.
+fn print_len(rt: &HostRuntime, metadata: &Metadata) -> io::Result<()> {
+    println!(rt; "version {}", sealed_file::VERSION)?;
+    if !metadata.is_file() {
+        return println!(rt; "length unknown: not a regular file");
+    }
+    match plaintext_len(metadata.len()) {
+        Some(len) => println!(rt; "length {len}, unless the file was cut"),
+        None => println!(rt; "no sealed file has this length: the file was cut"),
+    }
+}
+
 /// Seals a file or opens a sealed one.
 fn convert(rt: &HostRuntime, conversion: &Conversion) -> Result<(), Failure> {
+    if conversion.seals_to_unnamed_stdout() && rt.stdout().is_terminal() {
+        return Err(Failure::Terminal);
+    }
     let key = read_key(rt, &conversion.key_file)?;
     match &conversion.input {
         Some(name) => {
             let file = at(Place::Input, files::open(rt, name))?;
             let metadata = file.metadata().ok();
-            convert_from(rt, conversion, &key, file, metadata.as_ref())
+            convert_file(rt, conversion, &key, file, metadata.as_ref())
         }
         None => {
             let metadata = files::stdin_metadata(rt).ok();
-            convert_from(rt, conversion, &key, rt.reader(), metadata.as_ref())
+            let source = source_of(rt, conversion, rt.reader(), metadata.as_ref());
+            convert_from(
+                rt,
+                conversion,
+                &key,
+                Input::Stream(source),
+                metadata.as_ref(),
+            )
         }
     }
+}
+
+/// What is sealed or opened: the bytes of a stream, or a part of a sealed file that can be read at any position.
+#[derive(Drop)]
+enum Input<'a, R: Read + Drop> {
+    Stream(Source<'a, R>),
+    Part(File, Range),
+}
+
+/// Returns a reader that can show how much of a file or a stream with this metadata was read.
+fn source_of<'a, R: Read + Drop>(
+    rt: &'a HostRuntime,
+    conversion: &Conversion,
+    input: R,
+    metadata: Option<&Metadata>,
+) -> Source<'a, R> {
+    let len = match metadata {
+        Some(metadata) if metadata.is_file() => Some(metadata.len()),
+        _ => None,
+    };
+    let is_shown = conversion.has_progress && rt.stderr().is_terminal();
+    Source::new(rt, input, len, is_shown)
+}
+
+/// Converts from an open file with this metadata. A part of a regular file is read at its place.
+fn convert_file(
+    rt: &HostRuntime,
+    conversion: &Conversion,
+    key: &FileKey,
+    file: File,
+    metadata: Option<&Metadata>,
+) -> Result<(), Failure> {
+    let input = match conversion.range {
+        Some(range) if metadata.is_some_and(|metadata| metadata.is_file()) => {
+            Input::Part(file, range)
+        }
+        _ => Input::Stream(source_of(rt, conversion, file, metadata)),
+    };
+    convert_from(rt, conversion, key, input, metadata)
 }
 
 /// Converts from a file or a stream with this metadata.
@@ -131,23 +230,17 @@ fn convert_from<R: Read + Drop>(
     rt: &HostRuntime,
     conversion: &Conversion,
     key: &FileKey,
-    input: R,
+    input: Input<'_, R>,
     metadata: Option<&Metadata>,
 ) -> Result<(), Failure> {
-    let len = match metadata {
-        Some(metadata) if metadata.is_file() => Some(metadata.len()),
-        _ => None,
-    };
-    let is_shown = conversion.has_progress && files::stderr_is_terminal(rt);
-    let source = Source::new(rt, input, len, is_shown);
     match &conversion.output {
         Some(name) => {
             let mode = check_target(rt, name, metadata, conversion.has_force)?;
-            convert_to(rt, conversion, key, source, (name, mode))
+            convert_to(rt, conversion, key, input, (name, mode))
         }
         None => {
             let mut output = io::writer(rt);
-            pass(rt, conversion, key, source, &mut output)?;
+            pass(rt, conversion, key, input, &mut output)?;
             at(Place::Output, output.flush())
         }
     }
@@ -158,13 +251,13 @@ fn convert_to<R: Read + Drop>(
     rt: &HostRuntime,
     conversion: &Conversion,
     key: &FileKey,
-    source: Source<'_, R>,
+    input: Input<'_, R>,
     (target, mode): (&Name, Option<u32>),
 ) -> Result<(), Failure> {
     let mut number = [0; NUMBER_LEN];
-    draw(rt, &mut number)?;
+    at(Place::Random, rt.fill_bytes(&mut number))?;
     let mut file = at(Place::Output, NewFile::create(rt, target, number, mode))?;
-    if let Err(failure) = pass(rt, conversion, key, source, &mut file) {
+    if let Err(failure) = pass(rt, conversion, key, input, &mut file) {
         file.discard(rt);
         return Err(failure);
     }
@@ -172,21 +265,45 @@ fn convert_to<R: Read + Drop>(
     synced.name_as(rt, target, conversion.has_force)
 }
 
-/// Seals or opens the bytes of `source`.
+/// Seals or opens what is read.
 fn pass<R: Read + Drop, W: Write>(
     rt: &HostRuntime,
     conversion: &Conversion,
     key: &FileKey,
-    mut source: Source<'_, R>,
+    input: Input<'_, R>,
     output: &mut W,
 ) -> Result<(), Failure> {
-    let passed = match conversion.action {
-        Action::Seal => {
-            let mut random = [0; RANDOM_LEN];
-            draw(rt, &mut random)?;
-            sealed_file::seal(rt.alloc(), key, random, &mut source, output)
+    let aad = conversion.aad_bytes();
+    if aad.len() > MAX_AAD_LEN {
+        return Err(Failure::AadTooLong);
+    }
+    match input {
+        Input::Stream(source) => pass_stream(rt, conversion, key, aad, source, output),
+        Input::Part(file, range) => pass_part(rt, key, aad, file, range, output),
+    }
+}
+
+/// Seals or opens the bytes of `source`.
+fn pass_stream<R: Read + Drop, W: Write>(
+    rt: &HostRuntime,
+    conversion: &Conversion,
+    key: &FileKey,
+    aad: &[u8],
+    mut source: Source<'_, R>,
+    output: &mut W,
+) -> Result<(), Failure>
+    requires { length aad.now ≤ 4096 }
+{
+    let passed = match (conversion.action, conversion.range) {
+        (Action::Seal, _) => {
+            let random = at(Place::Random, FileRandom::draw(rt))?;
+            seal_with_aad(rt.alloc(), key, random, aad, &mut source, output)
         }
-        Action::Open => sealed_file::open(rt.alloc(), key, &mut source, output),
+        (Action::Open, None) => open_with_aad(rt.alloc(), key, aad, &mut source, output),
+        (Action::Open, Some(range)) => {
+            let mut part = RangeWriter::new(output, range);
+            open_with_aad(rt.alloc(), key, aad, &mut source, &mut part)
+        }
     };
     source.end();
     match passed {
@@ -194,6 +311,49 @@ fn pass<R: Read + Drop, W: Write>(
         Err(FileError::Io(error)) if source.has_failed() => Err(Failure::Io(Place::Input, error)),
         Err(FileError::Io(error)) => Err(Failure::Io(Place::Output, error)),
         Err(error) => Err(Failure::Refused(error)),
+    }
+}
+
+/// A buffer as long as a chunk.
+fn buffer(alloc: Global) -> io::Result<Vec<u8>> {
+    let mut buf = Vec::new(alloc);
+    buf.resize(CHUNK_LEN, 0)?;
+    Ok(buf)
+}
+
+/// Writes the bytes of a range of a sealed file.
+fn pass_part<W: Write>(
+    rt: &HostRuntime,
+    key: &FileKey,
+    aad: &[u8],
+    file: File,
+    range: Range,
+    output: &mut W,
+) -> Result<(), Failure>
+    requires { length aad.now ≤ 4096 }
+{
+    let mut reader = SealedReader::new(rt.alloc(), key, aad, file, 0).map_err(of_reading)?;
+    let mut buf = at(Place::Input, buffer(rt.alloc()))?;
+    let mut range = range;
+    for _ in 0..u64::MAX {
+        let asked = range.len.min(buf.len() as u64) as usize;
+        let count = reader
+            .read_at(range.start, &mut buf[..asked])
+            .map_err(of_reading)?;
+        if count == 0 {
+            break;
+        }
+        at(Place::Output, output.write_all(&buf[..count]))?;
+        range = range.after(count);
+    }
+    Ok(())
+}
+
+/// The failure of reading a sealed file.
+fn of_reading(error: FileError) -> Failure {
+    match error {
+        FileError::Io(error) => Failure::Io(Place::Input, error),
+        error => Failure::Refused(error),
     }
 }
 
@@ -214,17 +374,4 @@ fn read_key(rt: &HostRuntime, name: &Name) -> Result<FileKey, Failure> {
         Ok(key) => Ok(key),
         Err(_) => Err(Failure::KeyLength),
     }
-}
-
-/// Fills `bytes` with random bytes from the system.
-fn draw(rt: &HostRuntime, bytes: &mut [u8]) -> Result<(), Failure> {
-    let drawn = File::open(rt, RANDOM).and_then(|mut source| fill_from(&mut source, bytes));
-    at(Place::Random, drawn)
-}
-
-/// Fills `bytes` from `source`.
-fn fill_from<R: Read>(source: &mut R, bytes: &mut [u8]) -> io::Result<()>
-    ensures { OnOk result (Consumes (R.remaining source.old) (R.remaining source.new) bytes.new) }
-{
-    source.read_exact(bytes)
 }

@@ -2,30 +2,40 @@
 
 use crate::failure::{Failure, Place};
 use crate::name::Name;
+use crate::range::Range;
 use anyhow::anyhow;
+use std::alloc::{AllocError, Global};
 use std::env::{Env, FillError};
-use std::io;
+use std::{io, str};
+
+/// The text that `--version` prints.
+pub const VERSION: &str = "seal_file 0.1.0";
 
 /// The text that `--help` prints.
 pub const HELP: &str = "\
-use: seal_file seal -k KEYFILE [-o OUT] [--force] [--progress] [IN]
-     seal_file open -k KEYFILE [-o OUT] [--force] [--progress] [IN]
-     seal_file keygen -o KEYFILE
+usage: seal_file seal -k KEYFILE [-o OUT] [-f] [--aad TEXT] [--progress] [IN]
+       seal_file open -k KEYFILE [-o OUT] [-f] [--aad TEXT] [--progress]
+                      [--range START LEN] [IN]
+       seal_file inspect [-k KEYFILE] FILE
+       seal_file keygen -o KEYFILE
 
-Seals a file, or opens a sealed one, by AES-256-GCM in chunks of 64 KiB, or makes
-a key. KEYFILE has the 32 bytes of the key. Without IN it reads standard input,
-and without -o it writes standard output.
+Seal a file with AES-256-GCM in chunks of 64 KiB, open or inspect a sealed file,
+or generate a key. KEYFILE holds the 32 bytes of the key. IN and OUT default to
+standard input and output, which are also named -.
 
-  -k, --key KEYFILE   the key
-  -o, --output OUT    OUT is written whole or not at all, and isn't there yet
-  --force             an OUT that is there is replaced
-  --progress          how much was read, on standard error if it is a terminal
-  -h, --help          this text
+  -k, --key KEYFILE    the key
+  -o, --output OUT     write OUT, whole or not at all; OUT must not exist
+  -f, --force          replace OUT if it exists
+  --aad TEXT           bind the file to TEXT: it opens with the same TEXT alone
+  --range START LEN    write LEN bytes from byte START on, or as many as there are
+  --progress           show progress on standard error if it is a terminal
+  -h, --help           print this help
+  -V, --version        print the version
 
-The status is 0 where all was done, 1 where the file is refused (another key, or
-changed or cut), 2 where the use is wrong, and 3 where reading or writing fails.
-What was written to standard output by then is the beginning of the file that was
-known to be right; drop it.";
+exit status: 0 success; 1 the file does not open (another key, another TEXT, or
+the file was changed or cut); 2 wrong usage; 3 reading or writing failed.
+If opening fails, what was written to standard output is authentic, but may be
+only a beginning of what was asked for: discard it.";
 
 /// Whether a file is sealed or opened.
 #[derive(Clone, Copy)]
@@ -45,17 +55,40 @@ pub struct Conversion {
     pub input: Option<Name>,
     /// OUT, or `None` for standard output.
     pub output: Option<Name>,
+    /// Whether standard output is named, so that a sealed file may be written to a terminal.
+    pub has_named_stdout: bool,
+    /// What the file is bound to.
+    pub aad: Option<Name>,
+    /// The bytes to be written, if not all.
+    pub range: Option<Range>,
     /// Whether OUT may be replaced.
     pub has_force: bool,
     /// Whether to show progress on standard error.
     pub has_progress: bool,
 }
 
+impl Conversion {
+    /// Returns what the file is bound to.
+    pub fn aad_bytes(&self) -> &[u8] {
+        match &self.aad {
+            Some(text) => text.as_bytes(),
+            None => &[],
+        }
+    }
+
+    /// Returns whether a sealed file is written to standard output, which is not named.
+    pub fn seals_to_unnamed_stdout(&self) -> bool {
+        matches!(self.action, Action::Seal) && self.output.is_none() && !self.has_named_stdout
+    }
+}
+
 /// What the command line requests.
 #[derive(Drop)]
 pub enum Request {
     Help,
+    Version,
     Keygen(Name),
+    Inspect { file: Name, key_file: Option<Name> },
     Convert(Conversion),
 }
 
@@ -64,7 +97,18 @@ pub enum Request {
 enum Verb {
     Seal,
     Open,
+    Inspect,
     Keygen,
+}
+
+/// An option that takes a value.
+#[derive(Clone, Copy)]
+enum Valued {
+    Key,
+    Output,
+    Aad,
+    RangeStart,
+    RangeLen,
 }
 
 /// The arguments so far.
@@ -74,9 +118,13 @@ struct Words {
     key_file: Option<Name>,
     input: Option<Name>,
     output: Option<Name>,
+    aad: Option<Name>,
+    start: Option<u64>,
+    len: Option<u64>,
     has_force: bool,
     has_progress: bool,
     has_help: bool,
+    has_version: bool,
 }
 
 /// Returns the arguments of the program, without its name.
@@ -111,6 +159,29 @@ fn word(rt: &HostRuntime, i: usize) -> io::Result<Option<Name>> {
     Err(io::Error::from(io::ErrorKind::OutOfMemory))
 }
 
+/// The number that a word is.
+fn number_in(word: &Name) -> Result<u64, Failure> {
+    let number = match str::from_utf8(word.as_bytes()) {
+        Ok(text) => text.parse::<u64>().ok(),
+        Err(_) => None,
+    };
+    number.ok_or(Failure::Use(anyhow!("--range takes two numbers: {word} is none")))
+}
+
+/// The failure to copy a word.
+fn out_of_memory(_error: AllocError) -> Failure {
+    Failure::Io(Place::Console, io::Error::from(io::ErrorKind::OutOfMemory))
+}
+
+/// Puts a value where none is yet.
+fn set<T: Drop>(place: &mut Option<T>, value: T) -> Result<(), Failure> {
+    if place.is_some() {
+        return Err(Failure::Use(anyhow!("an option is given twice")));
+    }
+    *place = Some(value);
+    Ok(())
+}
+
 impl Words {
     fn new() -> Words {
         Words {
@@ -118,44 +189,62 @@ impl Words {
             key_file: None,
             input: None,
             output: None,
+            aad: None,
+            start: None,
+            len: None,
             has_force: false,
             has_progress: false,
             has_help: false,
+            has_version: false,
         }
     }
 
     /// Takes an option without a value.
     fn take_flag(&mut self, word: &Name) -> Result<(), Failure> {
         match word.as_bytes() {
-            b"--force" => self.has_force = true,
+            b"-f" | b"--force" => self.has_force = true,
             b"--progress" => self.has_progress = true,
             b"-h" | b"--help" => self.has_help = true,
+            b"-V" | b"--version" => self.has_version = true,
             _ => return Err(Failure::Use(anyhow!("unknown option {word}"))),
         }
         Ok(())
     }
 
-    /// Takes the value of an option.
-    fn take_value(&mut self, option: Valued, word: Name) -> Result<(), Failure> {
-        let is_taken = match option {
-            Valued::Key => self.key_file.is_some(),
-            Valued::Output => self.output.is_some(),
-        };
-        if is_taken {
-            return Err(Failure::Use(anyhow!("an option is given twice")));
-        }
+    /// Takes the value of an option. Returns the option whose value comes next, if there is one.
+    fn take_value(&mut self, option: Valued, word: Name) -> Result<Option<Valued>, Failure> {
         match option {
-            Valued::Key => self.key_file = Some(word),
-            Valued::Output => self.output = Some(word),
+            Valued::Key => set(&mut self.key_file, word)?,
+            Valued::Output => set(&mut self.output, word)?,
+            Valued::Aad => set(&mut self.aad, word)?,
+            Valued::RangeStart => {
+                set(&mut self.start, number_in(&word)?)?;
+                return Ok(Some(Valued::RangeLen));
+            }
+            Valued::RangeLen => set(&mut self.len, number_in(&word)?)?,
         }
-        Ok(())
+        Ok(None)
+    }
+
+    /// Takes an option, with its value if that is in the same word. Returns the option whose value comes next, if there is one.
+    fn take_option(&mut self, alloc: Global, word: Name) -> Result<Option<Valued>, Failure> {
+        let (name, value) = parts_of(word.as_bytes());
+        let Some(option) = valued_of(name) else {
+            self.take_flag(&word)?;
+            return Ok(None);
+        };
+        let Some(value) = value else {
+            return Ok(Some(option));
+        };
+        let value = value.to_vec(alloc).map_err(out_of_memory)?;
+        self.take_value(option, Name::new(value))
     }
 
     /// Takes an argument that is not an option: the command, and then IN.
     fn take_word(&mut self, word: Name) -> Result<(), Failure> {
         if self.verb.is_some() {
             if self.input.is_some() {
-                return Err(Failure::Use(anyhow!("one word too many: {word}")));
+                return Err(Failure::Use(anyhow!("unexpected argument {word}")));
             }
             self.input = Some(word);
             return Ok(());
@@ -163,79 +252,132 @@ impl Words {
         self.verb = match word.as_bytes() {
             b"seal" => Some(Verb::Seal),
             b"open" => Some(Verb::Open),
+            b"inspect" => Some(Verb::Inspect),
             b"keygen" => Some(Verb::Keygen),
-            _ => return Err(Failure::Use(anyhow!("{word} is neither seal, open nor keygen"))),
+            _ => {
+                let text = anyhow!("unknown command {word}: seal, open, inspect or keygen");
+                return Err(Failure::Use(text));
+            }
         };
         Ok(())
     }
 
+    /// Returns the range, if both of its numbers are given.
+    fn range(&self) -> Option<Range> {
+        match (self.start, self.len) {
+            (Some(start), Some(len)) => Some(Range { start, len }),
+            _ => None,
+        }
+    }
+
+    /// Returns whether an option is given that only sealing or opening takes.
+    fn has_conversion_options(&self) -> bool {
+        self.aad.is_some() || self.range().is_some() || self.has_force || self.has_progress
+    }
+
     /// Returns the request.
     fn request(self) -> Result<Request, Failure> {
+        if self.has_help {
+            return Ok(Request::Help);
+        }
+        if self.has_version {
+            return Ok(Request::Version);
+        }
+        match self.verb {
+            Some(Verb::Seal) => self.conversion(Action::Seal),
+            Some(Verb::Open) => self.conversion(Action::Open),
+            Some(Verb::Inspect) => self.inspection(),
+            Some(Verb::Keygen) => self.generation(),
+            None => Err(Failure::Use(anyhow!("missing command: seal, open, inspect or keygen"))),
+        }
+    }
+}
+
+impl Words {
+    /// Returns the request to seal or to open.
+    fn conversion(self, action: Action) -> Result<Request, Failure> {
+        let range = self.range();
+        if range.is_some() && !matches!(action, Action::Open) {
+            return Err(Failure::Use(anyhow!("--range is an option of open alone")));
+        }
         let Words {
-            verb,
             key_file,
             input,
             output,
+            aad,
             has_force,
             has_progress,
-            has_help,
+            ..
         } = self;
-        if has_help {
-            return Ok(Request::Help);
-        }
-        let action = match verb {
-            Some(Verb::Seal) => Action::Seal,
-            Some(Verb::Open) => Action::Open,
-            Some(Verb::Keygen) => {
-                if input.is_some() || key_file.is_some() || has_force || has_progress {
-                    return Err(Failure::Use(anyhow!("keygen takes -o KEYFILE alone")));
-                }
-                let Some(output) = output else {
-                    return Err(Failure::Use(anyhow!("-o KEYFILE is missing")));
-                };
-                return Ok(Request::Keygen(output));
-            }
-            None => return Err(Failure::Use(anyhow!("seal, open or keygen is missing"))),
-        };
         let Some(key_file) = key_file else {
-            return Err(Failure::Use(anyhow!("-k KEYFILE is missing")));
+            return Err(Failure::Use(anyhow!("missing -k KEYFILE")));
         };
+        let has_named_stdout = output.as_ref().is_some_and(is_stream);
+        let output = output.filter(|name| !is_stream(name));
         if has_force && output.is_none() {
-            return Err(Failure::Use(anyhow!("--force is for -o OUT alone")));
+            return Err(Failure::Use(anyhow!("--force needs -o OUT")));
         }
         Ok(Request::Convert(Conversion {
             action,
             key_file,
-            input,
+            input: input.filter(|name| !is_stream(name)),
             output,
+            has_named_stdout,
+            aad,
+            range,
             has_force,
             has_progress,
         }))
+    }
+
+    /// Returns the request to inspect a file.
+    fn inspection(self) -> Result<Request, Failure> {
+        if self.output.is_some() || self.has_conversion_options() {
+            return Err(Failure::Use(anyhow!("inspect takes [-k KEYFILE] FILE alone")));
+        }
+        let Words {
+            key_file,
+            input,
+            ..
+        } = self;
+        let Some(file) = input else {
+            return Err(Failure::Use(anyhow!("missing FILE")));
+        };
+        Ok(Request::Inspect { file, key_file })
+    }
+
+    /// Returns the request to generate a key.
+    fn generation(self) -> Result<Request, Failure> {
+        if self.input.is_some() || self.key_file.is_some() || self.has_conversion_options() {
+            return Err(Failure::Use(anyhow!("keygen takes -o KEYFILE alone")));
+        }
+        let Words { output, .. } = self;
+        let Some(output) = output else {
+            return Err(Failure::Use(anyhow!("missing -o KEYFILE")));
+        };
+        Ok(Request::Keygen(output))
     }
 }
 
 impl Request {
     /// Returns the request of these arguments. After `--`, no argument is an option.
-    pub fn of_words(all: Vec<Name>) -> Result<Request, Failure> {
+    pub fn of_words(alloc: Global, all: Vec<Name>) -> Result<Request, Failure> {
         let mut words = Words::new();
         let mut option = None;
         let mut has_ended = false;
         for word in all {
-            if let Some(option) = option.take() {
-                words.take_value(option, word)?;
+            if let Some(valued) = option.take() {
+                option = words.take_value(valued, word)?;
             } else if has_ended || !is_option(&word) {
                 words.take_word(word)?;
             } else if word.as_bytes() == b"--".as_slice() {
                 has_ended = true;
             } else {
-                option = valued_of(&word);
-                if option.is_none() {
-                    words.take_flag(&word)?;
-                }
+                option = words.take_option(alloc, word)?;
             }
         }
         if option.is_some() {
-            return Err(Failure::Use(anyhow!("the last option has no value")));
+            return Err(Failure::Use(anyhow!("the last option needs a value")));
         }
         words.request()
     }
@@ -244,6 +386,8 @@ impl Request {
     pub fn name_of(&self, place: Place) -> Option<&Name> {
         match (self, place) {
             (Request::Keygen(name), Place::KeyFile) => Some(name),
+            (Request::Inspect { file, .. }, Place::Input) => Some(file),
+            (Request::Inspect { key_file, .. }, Place::KeyFile) => key_file.as_ref(),
             (Request::Convert(conversion), Place::KeyFile) => Some(&conversion.key_file),
             (Request::Convert(conversion), Place::Input) => conversion.input.as_ref(),
             (Request::Convert(conversion), Place::Output) => conversion.output.as_ref(),
@@ -252,24 +396,39 @@ impl Request {
     }
 }
 
-/// An option that takes a value.
-#[derive(Clone, Copy)]
-enum Valued {
-    Key,
-    Output,
-}
-
 /// Whether the argument is an option: it begins with `-`, and is longer.
 fn is_option(word: &Name) -> bool {
     let bytes = word.as_bytes();
     bytes.len() > 1 && bytes[0] == b'-'
 }
 
+/// Whether the name is `-`, which names a standard stream.
+fn is_stream(name: &Name) -> bool {
+    name.as_bytes() == b"-".as_slice()
+}
+
+/// The name of an option, and its value if that is in the same word: `--output=OUT`, `-oOUT`.
+fn parts_of(word: &[u8]) -> (&[u8], Option<&[u8]>) {
+    if word.starts_with(b"--") {
+        return match word.iter().position(|byte| *byte == b'=') {
+            Some(at) => (&word[..at], Some(&word[at + 1..])),
+            None => (word, None),
+        };
+    }
+    if word.len() > 2 {
+        (&word[..2], Some(&word[2..]))
+    } else {
+        (word, None)
+    }
+}
+
 /// The option with this name that takes a value.
-fn valued_of(word: &Name) -> Option<Valued> {
-    match word.as_bytes() {
+fn valued_of(name: &[u8]) -> Option<Valued> {
+    match name {
         b"-k" | b"--key" => Some(Valued::Key),
         b"-o" | b"--output" => Some(Valued::Output),
+        b"--aad" => Some(Valued::Aad),
+        b"--range" => Some(Valued::RangeStart),
         _ => None,
     }
 }

@@ -15,8 +15,8 @@ pub items : (n : ℕ) (xs : List ℕ) → length xs ≡ n → xs ≡ map (λ i. 
 items n xs h = fill_by_all (λ i. get_or xs i 0) xs n 0 h (λ k _. refl)
 
 -- what chunks are sealed under
-abbrev pub under : (key prefix header : List ℕ) → ChunkKey
-under key prefix header = record { key = key; prefix = prefix; header = header }
+abbrev pub under : (key prefix header aad : List ℕ) → ChunkKey
+under key prefix header aad = record { key = key; prefix = prefix; header = header; aad = aad }
 
 -- a list whose front is done, and of which the bytes after it are put next
 pub put_next : (zeros done bytes now new : List ℕ) (at : ℕ) → at ≡ length done → now ≡ done ++ drop (length done) zeros
@@ -36,8 +36,8 @@ put_end zeros done now now_is all =
     now_is ∙ ap (λ l. done ++ l) (drop_all (length done) zeros (omega arith)) ∙ append-nil done
 
 -- what chunks are sealed under, by its parts
-pub same_key : {a b c d e f : List ℕ} → a ≡ b → c ≡ d → e ≡ f → under a c e ≡ under b d f
-same_key x y z = rw (x, y, z)
+pub same_key : {a b c d e f g h : List ℕ} → a ≡ b → c ≡ d → e ≡ f → g ≡ h → under a c e g ≡ under b d f h
+same_key w x y z = rw (w, x, y, z)
 
 -- what is said under one key, of one kind of chunk and of one sealed chunk, is said under equal ones
 pub of_same : (P : ChunkKey → Bool → List ℕ → Type 0) {k k' : ChunkKey} {b d : Bool} {l m : List ℕ} → k ≡ k' → b ≡ d → l ≡ m
@@ -66,8 +66,8 @@ module _ (ciphertext received : List ℕ) (sixteen : length received ≡ 16) whe
     tag_is had = sym back_is ∙ had.tag ∙ ap (chunk_tag k number is_last) front_is
 
     -- the ciphertext is opened exactly if it has the tag, and becomes the message
-    pub opens_tagged : (accepts : Bool) (new : List ℕ) → length k.header ≤ 60 → length ciphertext ≤ chunk_len
-        → Opened (aes k.key) (chunk_nonce k.prefix number is_last) k.header received 0 ciphertext accepts new
+    pub opens_tagged : (accepts : Bool) (new : List ℕ) → length k.aad ≤ 4156 → length ciphertext ≤ chunk_len
+        → Opened (aes k.key) (chunk_nonce k.prefix number is_last) k.aad received 0 ciphertext accepts new
         → ((accepts ≡ true) ↔ HasTag k number is_last (ciphertext ++ received))
         × (accepts ≡ true → new ≡ opened_chunk k number is_last (ciphertext ++ received))
     unfolding opened_chunk

@@ -6,7 +6,7 @@ use specs.Bytes.{each_below}
 use Rattle.aead_ciphers_base.proofs.EachLemmas.{each-same}
 use specs.Aes.{aes}
 use Rattle.aead_ciphers.specs.Gcm.{gcm_encrypted, gcm_decrypted}
-use Rattle.sealed_file.specs.Format.{ChunkKey, chunk_len, sealed_chunk_len, piece, last_piece, chunk_nonce, sealed_chunk, sealed_chunk_of, sealed_chunks, sealed_file}
+use Rattle.sealed_file.specs.Format.{ChunkKey, Secret, chunk_len, sealed_chunk_len, piece, last_piece, chunk_nonce, sealed_chunk, sealed_chunk_of, sealed_chunks, sealed_file}
 use Rattle.sealed_file.specs.Opening.{HasHeader, HasTag, IsSealed, body_of, chunk_key, chunk_of, chunk_tag, header_of, key_of, last_chunk, opened_chunk, opened_chunks, opened_file}
 use Rattle.sealed_file.proofs
 use proofs.ChunkLemmas.{front_is, has_tag, of_same}
@@ -19,11 +19,11 @@ module _ (k : ChunkKey) (number : ℕ) (flag : Bool) (chunk : List ℕ) where
   ciphertext = gcm_encrypted (aes k.key) (chunk_nonce k.prefix number flag) chunk
 
   sixteen : length (chunk_tag k number flag ciphertext) ≡ 16
-  sixteen = length-aes_tag k.key (chunk_nonce k.prefix number flag) k.header ciphertext
+  sixteen = length-aes_tag k.key (chunk_nonce k.prefix number flag) k.aad ciphertext
 
   pub length-sealed_chunk : length (sealed_chunk k number flag chunk) ≡ length chunk + 16
   unfolding sealed_chunk
-  length-sealed_chunk = length-aes_sealed k.key (chunk_nonce k.prefix number flag) k.header chunk
+  length-sealed_chunk = length-aes_sealed k.key (chunk_nonce k.prefix number flag) k.aad chunk
 
   -- a sealed chunk has its tag
   pub sealed_has_tag : HasTag k number flag (sealed_chunk k number flag chunk)
@@ -78,12 +78,12 @@ module _ (k : ChunkKey) (file : List ℕ) where
   pub length-sealed_file : length whole ≡ length k.header + length file + (last + 1) * 16
   length-sealed_file = omega (arith, ap length whole_is, length-append k.header chunks, length-chunks)
 
-  module _ (key : List ℕ) (h : IsHeaderOf key k) where
+  module _ (key : Secret) (h : IsHeaderOf key k) where
     body_is : body_of whole ≡ chunks
-    body_is = ap body_of whole_is ∙ drop_at k.header chunks _ (sym (h.len chunks))
+    body_is = ap body_of whole_is ∙ drop_at k.header chunks _ h.len
 
     pub header_is : header_of whole ≡ k.header
-    header_is = ap header_of whole_is ∙ take_at k.header chunks _ (sym (h.len chunks))
+    header_is = ap header_of whole_is ∙ take_at k.header chunks _ h.len
 
     key_is : key_of key whole ≡ k
     key_is = ap (chunk_key key) header_is ∙ h.back
@@ -105,7 +105,7 @@ module _ (k : ChunkKey) (file : List ℕ) where
 
     pub sealed_is_sealed : last < 2 ^ 32 - 1 → IsSealed key whole
     sealed_is_sealed few = record {
-      front = subst (HasHeader key) (sym header_is) (record { size = h.size; right = ap (λ j. j.header) (sym h.back) });
+      front = subst (HasHeader key) (sym header_is) (record { right = ap (λ j. j.header) (sym h.back) });
       few = subst (λ n. n < 2 ^ 32 - 1) (sym last_is) few;
       tags = record {
         each = λ i within. of_sealed (λ p b l. HasTag p i b l) i within (sealed_has_tag k i (i == last) (piece chunk_len file i));

@@ -6,7 +6,7 @@ use Rattle.std.proofs.lemmas.Bool.{cases_Bool, cases_lt, both_ways}
 use Rattle.std.proofs.lemmas.Slice.Eq.{bytes_eq-Decides}
 use Rattle.aead_ciphers_base.specs.Bytes.{each_below}
 use Rattle.aead_ciphers_base.proofs.EachLemmas.{each-same}
-use Rattle.sealed_file.specs.Format.{ChunkKey, sealed_chunk_len, sealed_chunk_of, sealed_chunks, sealed_file}
+use Rattle.sealed_file.specs.Format.{ChunkKey, Secret, sealed_chunk_len, sealed_chunk_of, sealed_chunks, sealed_file}
 use Rattle.sealed_file.specs.Opening.{HasTag, IsForged, IsMade, IsSealed, body_of, chunk_key, chunk_of, header_len, header_of, last_chunk}
 use Rattle.sealed_file.proofs
 use proofs.FileLemmas.{last_of}
@@ -41,7 +41,7 @@ first_without P either (suc n) = elim (first_without P either n) [
   ])
 ]
 
-module _ (key : List ℕ) (k : ChunkKey) (file other : List ℕ) (h : IsHeaderOf key k) (header_is : header_of other ≡ k.header) where
+module _ (key : Secret) (k : ChunkKey) (file other : List ℕ) (h : IsHeaderOf key k) (header_is : header_of other ≡ k.header) where
   -- sealing made chunk i of the other file
   abbrev Made : ℕ → Type 0
   Made i = IsMade k file i (i == last_chunk other) (chunk_of other i)
@@ -64,7 +64,7 @@ module _ (key : List ℕ) (k : ChunkKey) (file other : List ℕ) (h : IsHeaderOf
   all_made made =
       let m = last_chunk other in
       let end : m ≡ last_of file = eqb-true m (last_of file) (sym (made m (omega arith)).kind ∙ eq-eqb m m refl) in
-      sym (take-append-drop (header_len other) other)
+      sym (take-append-drop header_len other)
       ∙ ap (λ l. l ++ body_of other) header_is
       ∙ ap (λ l. k.header ++ l) (
       sym (all_pieces sealed_chunk_len (body_of other) (omega arith))

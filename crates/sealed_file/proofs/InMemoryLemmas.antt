@@ -4,7 +4,7 @@ use Rattle.aead_ciphers.proofs.MessageLaws.{length-aes_decrypted}
 use Rattle.sealed_file.specs
 use specs.declared.error.FileError.{FileError}
 use specs.declared.error.FileError.TheVariants.{OutOfMemory, Io}
-use specs.Format.{chunk_len, sealed_chunk_len, chunk_nonce}
+use specs.Format.{Secret, chunk_len, sealed_chunk_len, chunk_nonce}
 use specs.Opening.{body_of, chunk_of, ciphertext_of, key_of, last_chunk, opened_chunk, opened_chunks, opened_file}
 use specs.Refusals.{RefusesAt, OpenRefuses, FailsInMemory}
 use Rattle.sealed_file.proofs
@@ -28,13 +28,13 @@ front_through old more mid new n m n_is m_is appended kept =
     sym (take-take n m new within) ∙ ap (take n) (kept ∙ appended) ∙ t
 
 -- a chunk that is refused
-pub chunk_fails : (lacks_room : Type 0) (key file : List ℕ) (n : ℕ) (error : FileError) → RefusesAt key file error n
+pub chunk_fails : (lacks_room : Type 0) (key : Secret) (file : List ℕ) (n : ℕ) (error : FileError) → RefusesAt key file error n
     → FailsInMemory lacks_room (OpenRefuses key file) error
 chunk_fails lacks_room key file n OutOfMemory h = absurd h.wrong.1
 chunk_fails lacks_room key file n (Io e) h = absurd h.wrong.1
 chunk_fails lacks_room key file n error h = refused_at key file n error h
 
-module _ (key file : List ℕ) where
+module _ (key : Secret) (file : List ℕ) where
   abbrev last : ℕ
   last = last_chunk file
 

@@ -7,5 +7,6 @@ pub mod InMemoryLemmas
 pub mod OpenLemmas
 pub mod PieceLemmas
 pub mod RandomAccessLemmas
+pub mod ReaderLemmas
 pub mod SealLemmas
 pub mod StreamLemmas

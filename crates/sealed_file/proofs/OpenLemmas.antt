@@ -7,53 +7,53 @@ use Rattle.std.proofs.Math.Seq.{take-add}
 use Rattle.sealed_file.specs
 use specs.declared.error.FileError.{FileError}
 use specs.declared.error.FileError.TheVariants.{TooLong, OutOfMemory, Io}
-use specs.Format.{ChunkKey, sealed_chunk_len}
+use specs.Format.{ChunkKey, Secret, sealed_chunk_len}
 use specs.Opening.{HasTag, HasRightTag, HasHeader, AreRight, IsSealed, body_of, chunk_key, chunk_of, header_len, header_of, key_of, last_chunk, opened_chunk, opened_chunks, opened_file}
 use specs.Refusals.{HeaderRefuses, ChunkAtRefuses, ChunkRefuses, FailsInMemory, RefusesAt, OpenRefuses}
 use specs.Streams.{AppendsBeginning, TakesFront}
 use Rattle.sealed_file.proofs
 use proofs.ChunkLemmas.{of_same}
-use proofs.HeaderLemmas.{header_len-take, header_len_range, header_of-header_of, refused_is_none}
+use proofs.HeaderLemmas.{header_of-header_of, refused_is_none}
 use proofs.PieceLemmas.{joined_more}
 use proofs.StreamLemmas.{flag_is, next_read, begins_more, begins_none}
 
 -- chunk i of a sealed file, opened
-abbrev pub message_at : (key file : List ℕ) → ℕ → List ℕ
+abbrev pub message_at : (key : Secret) (file : List ℕ) → ℕ → List ℕ
 message_at key file i = opened_chunk (key_of key file) i (i == last_chunk file) (chunk_of file i)
 
-pub messages_more : (key file : List ℕ) (n : ℕ) → opened_chunks key file (n + 1) ≡ opened_chunks key file n ++ message_at key file n
+pub messages_more : (key : Secret) (file : List ℕ) (n : ℕ) → opened_chunks key file (n + 1) ≡ opened_chunks key file n ++ message_at key file n
 unfolding opened_chunks
 messages_more key file n = joined_more (message_at key file) n
 
-none_right : (key file : List ℕ) → AreRight key file 0
+none_right : (key : Secret) (file : List ℕ) → AreRight key file 0
 none_right key file = record { each = λ i h. absurd (omega arith) }
 
 -- ---- refusals
 
 -- the header of the bytes that were read as a file's is the file's
-header_bytes : (file bytes read_bytes : List ℕ) (rest : Option (List ℕ)) → bytes ≡ read_bytes → TakesFront (header_len file) file read_bytes rest
+header_bytes : (file bytes read_bytes : List ℕ) (rest : Option (List ℕ)) → bytes ≡ read_bytes → TakesFront header_len file read_bytes rest
     → header_of bytes ≡ header_of file
 header_bytes file bytes read_bytes rest same read = ap header_of (same ∙ read.piece_is) ∙ header_of-header_of file
 
 -- a header that is refused, and then a chunk
-pub header_refused : (key file : List ℕ) (error : FileError) → HeaderRefuses key (header_of file) error → OpenRefuses key file error
+pub header_refused : (key : Secret) (file : List ℕ) (error : FileError) → HeaderRefuses key (header_of file) error → OpenRefuses key file error
 header_refused key file TooLong h = absurd h
 header_refused key file (Io e) h = absurd h
 header_refused key file error h = inl h
 
 -- the bytes of a header that was read
-pub header_fails : (key file bytes read_bytes : List ℕ) (rest : Option (List ℕ)) (error : FileError) → bytes ≡ read_bytes
-    → TakesFront (header_len file) file read_bytes rest → HeaderRefuses key (header_of bytes) error → OpenRefuses key file error
+pub header_fails : (key : Secret) (file bytes read_bytes : List ℕ) (rest : Option (List ℕ)) (error : FileError) → bytes ≡ read_bytes
+    → TakesFront header_len file read_bytes rest → HeaderRefuses key (header_of bytes) error → OpenRefuses key file error
 header_fails key file bytes read_bytes rest error same read h =
     header_refused key file error (subst (λ l. HeaderRefuses key l error) (header_bytes file bytes read_bytes rest same read) h)
 
-pub refused_at : (key file : List ℕ) (n : ℕ) (error : FileError) → RefusesAt key file error n → OpenRefuses key file error
+pub refused_at : (key : Secret) (file : List ℕ) (n : ℕ) (error : FileError) → RefusesAt key file error n → OpenRefuses key file error
 refused_at key file n TooLong h = absurd h.wrong.1
 refused_at key file n (Io e) h = absurd h.wrong.1
 refused_at key file n error h = inr (n, h)
 
 -- a file that is refused isn't one that is accepted
-not_sealed : (key file : List ℕ) (lacks_room : Type 0) (error : FileError) → ¬ lacks_room
+not_sealed : (key : Secret) (file : List ℕ) (lacks_room : Type 0) (error : FileError) → ¬ lacks_room
     → FailsInMemory lacks_room (OpenRefuses key file) error → ¬ IsSealed key file
 not_sealed key file lacks_room OutOfMemory room h accepted = room h
 not_sealed key file lacks_room (Io e) room h accepted = absurd h
@@ -64,7 +64,7 @@ not_sealed key file lacks_room error room h accepted = elim h [
 ]
 
 -- nor is a chunk
-not_tagged : (key header : List ℕ) (number : ℕ) (is_last : Bool) (sealed : List ℕ) (lacks_room : Type 0) (error : FileError) → ¬ lacks_room
+not_tagged : (key : Secret) (header : List ℕ) (number : ℕ) (is_last : Bool) (sealed : List ℕ) (lacks_room : Type 0) (error : FileError) → ¬ lacks_room
     → FailsInMemory lacks_room (ChunkAtRefuses key header number is_last sealed) error
     → ¬ (HasHeader key (header_of header) × HasTag (key_of key header) number is_last sealed)
 not_tagged key header number is_last sealed lacks_room OutOfMemory room h accepted = room h
@@ -74,7 +74,7 @@ not_tagged key header number is_last sealed lacks_room error room h accepted = e
   | inr wrong ↦ wrong.1 accepted.1
 ]
 
-pub chunk_refuses_exactly : (key header : List ℕ) (number : ℕ) (is_last : Bool) (sealed : List ℕ) (lacks_room : Type 0)
+pub chunk_refuses_exactly : (key : Secret) (header : List ℕ) (number : ℕ) (is_last : Bool) (sealed : List ℕ) (lacks_room : Type 0)
     (result : Result (Unit {0}) FileError) → is_err result ≡ true → ¬ lacks_room
     → IfErr result (λ error. FailsInMemory lacks_room (ChunkAtRefuses key header number is_last sealed) error)
     → (IsOk result → HasHeader key (header_of header) × HasTag (key_of key header) number is_last sealed)
@@ -85,7 +85,7 @@ chunk_refuses_exactly key header number is_last sealed lacks_room (Err error) fa
   λ accepted. absurd (not_tagged key header number is_last sealed lacks_room error room h accepted),
 )
 
-pub refuses_exactly : (key file : List ℕ) (lacks_room : Type 0) (result : Result (Unit {0}) FileError) → is_err result ≡ true → ¬ lacks_room
+pub refuses_exactly : (key : Secret) (file : List ℕ) (lacks_room : Type 0) (result : Result (Unit {0}) FileError) → is_err result ≡ true → ¬ lacks_room
     → IfErr result (λ error. FailsInMemory lacks_room (OpenRefuses key file) error)
     → (IsOk result → IsSealed key file) × (IsSealed key file → IsOk result)
 refuses_exactly key file lacks_room (Ok v) fails room h = let never : false ≡ true = fails in cc
@@ -95,7 +95,7 @@ refuses_exactly key file lacks_room (Err error) fails room h =
 -- ---- steps
 
 -- before chunk n is opened: the header and the chunks before it are right, and their messages were appended
-pub record Opening (key : List ℕ) (k : ChunkKey) (file : List ℕ) (n : ℕ) (old now : Option (List ℕ)) : Type 0 where
+pub record Opening (key : Secret) (k : ChunkKey) (file : List ℕ) (n : ℕ) (old now : Option (List ℕ)) : Type 0 where
   pub front : HasHeader key (header_of file)
   pub key_is : k ≡ key_of key file
   pub in_range : n ≤ last_chunk file
@@ -103,7 +103,7 @@ pub record Opening (key : List ℕ) (k : ChunkKey) (file : List ℕ) (n : ℕ) (
   pub written : Appends old now (opened_chunks key file n)
 
 -- the header was right
-pub open_start : (key : List ℕ) (k : ChunkKey) (file : List ℕ) (old now : Option (List ℕ)) → Keeps old now
+pub open_start : (key : Secret) (k : ChunkKey) (file : List ℕ) (old now : Option (List ℕ)) → Keeps old now
     → HasHeader key (header_of file) → k ≡ key_of key file → Opening key k file 0 old now
 unfolding opened_chunks
 open_start key k file old now kept has key_is = record {
@@ -115,13 +115,13 @@ open_start key k file old now kept has key_is = record {
 }
 
 -- what was written until a call failed
-abbrev Stopped : (key file : List ℕ) (old now : Option (List ℕ)) → Type 0
+abbrev Stopped : (key : Secret) (file : List ℕ) (old now : Option (List ℕ)) → Type 0
 Stopped key file old now = (n : ℕ) × AreRight key file n × AppendsBeginning old now (opened_chunks key file n)
 
-pub stop_at_start : (key file : List ℕ) (old : Option (List ℕ)) → Stopped key file old old
+pub stop_at_start : (key : Secret) (file : List ℕ) (old : Option (List ℕ)) → Stopped key file old old
 stop_at_start key file old = (0, none_right key file, begins_none old (opened_chunks key file 0))
 
-module _ {key : List ℕ} {k : ChunkKey} {file : List ℕ} {n : ℕ} {old now : Option (List ℕ)} (s : Opening key k file n old now) where
+module _ {key : Secret} {k : ChunkKey} {file : List ℕ} {n : ℕ} {old now : Option (List ℕ)} (s : Opening key k file n old now) where
   module _ {flag : Bool} {chunk : List ℕ} (flag_right : flag ≡ (n == last_chunk file))
       (chunk_is : chunk ≡ chunk_of file n) where
     -- a chunk that has no right tag
@@ -179,28 +179,14 @@ module _ {key : List ℕ} {k : ChunkKey} {file : List ℕ} {n : ℕ} {old now : 
 
 -- ---- steps over a reader
 
--- the front of a header was read, and then the rest
-pub header_read : (file front rest all : List ℕ) (between end : Option (List ℕ)) → TakesFront 16 file front between
-    → IfSome between (λ left. TakesFront (header_len front - 16) left rest end) → all ≡ front ++ rest → TakesFront (header_len file) file all end
-header_read file front rest all between end first read all_is =
-    let then = rw first.left at read in
-    let same : header_len front ≡ header_len file = ap header_len first.piece_is ∙ header_len-take file in
-    let (low, high) = header_len_range file in
-    let whole : 16 + (header_len front - 16) ≡ header_len file = omega arith in
-    record {
-      piece_is = all_is ∙ ap₂ (λ xs ys. xs ++ ys) first.piece_is then.piece_is
-          ∙ sym (take-add 16 (header_len front - 16) file) ∙ ap (λ n. take n file) whole;
-      left = then.left ∙ ap (λ l. Some l) (drop-drop (header_len front - 16) 16 file ∙ ap (λ n. drop n file) whole);
-    }
-
 -- before chunk n is opened, which was read
-pub record Reading (key : List ℕ) (k : ChunkKey) (file : List ℕ) (n : ℕ) (chunk : List ℕ) (rest old now : Option (List ℕ)) : Type 0 where
+pub record Reading (key : Secret) (k : ChunkKey) (file : List ℕ) (n : ℕ) (chunk : List ℕ) (rest old now : Option (List ℕ)) : Type 0 where
   pub so_far : Opening key k file n old now
   pub at : TakesFront sealed_chunk_len (drop (sealed_chunk_len * n) (body_of file)) chunk rest
 
 -- the header was read, and then the first chunk
-pub read_start : (key : List ℕ) (k : ChunkKey) (file bytes read_bytes chunk : List ℕ) (between rest old : Option (List ℕ)) → bytes ≡ read_bytes
-    → TakesFront (header_len file) file read_bytes between → HasHeader key (header_of bytes) → k ≡ key_of key bytes
+pub read_start : (key : Secret) (k : ChunkKey) (file bytes read_bytes chunk : List ℕ) (between rest old : Option (List ℕ)) → bytes ≡ read_bytes
+    → TakesFront header_len file read_bytes between → HasHeader key (header_of bytes) → k ≡ key_of key bytes
     → IfSome between (λ left. TakesFront sealed_chunk_len left chunk rest) → Reading key k file 0 chunk rest old old
 read_start key k file bytes read_bytes chunk between rest old same first has key_is read =
     let e = header_bytes file bytes read_bytes between same first in
@@ -209,7 +195,7 @@ read_start key k file bytes read_bytes chunk between rest old same first has key
       at = rw first.left at read;
     }
 
-module _ {key : List ℕ} {k : ChunkKey} {file chunk : List ℕ} {n : ℕ} {rest old now : Option (List ℕ)}
+module _ {key : Secret} {k : ChunkKey} {file chunk : List ℕ} {n : ℕ} {rest old now : Option (List ℕ)}
     (s : Reading key k file n chunk rest old now) where
   -- stopped before a chunk
   pub read_stop : Stopped key file old now

@@ -1,30 +1,15 @@
--- The length of what a sealed file of version 2 gives.
-use Rattle.std.proofs.Common.{◌≡◌, ℕ, inl, inr, ◌+◌, ◌-◌, ◌*◌, ◌^◌, ◌<◌, List, length, drop, sym, ap, subst, ◌∙◌, arith, length-drop, length-take, take-take}
-use Rattle.std.proofs.lemmas.Bool.{cases_lt}
+-- The length of what a sealed file gives.
+use Rattle.std.proofs.Common.{◌≡◌, ℕ, ◌+◌, ◌-◌, ◌*◌, ◌^◌, ◌<◌, List, length, drop, sym, ap, subst, ◌∙◌, arith, length-drop, length-take}
 use Rattle.sealed_file.specs
-use specs.declared.error.FileError.TheVariants.{EndsEarly}
-use specs.Format.{chunk_len, last_piece, sealed_chunk_len}
-use specs.Opening.{IsSealed, IsSealedLen, body_of, header_len, header_of, last_chunk, opened_file}
-use specs.Refusals.{IsVersion2}
+use specs.Format.{Secret, chunk_len, last_piece, sealed_chunk_len}
+use specs.Opening.{IsSealed, IsSealedLen, body_of, header_len, last_chunk, opened_file}
 use Rattle.sealed_file.proofs
-use proofs.HeaderLemmas.{header_len-2, refused_is_none, version_at}
+use proofs.HeaderLemmas.{header_fits}
 use proofs.InMemoryLemmas.{length-opened_file}
 
-module _ (key file : List ℕ) (version : IsVersion2 file) (accepted : IsSealed key file) where
-  sixty : header_len file ≡ 60
-  sixty = header_len-2 file (version_at file 2 version.front)
-
-  length-header : length (header_of file) ≡ 60
-  length-header = elim (cases_lt (length (header_of file)) 60) [
-    | inl short ↦ absurd (refused_is_none key (header_of file) EndsEarly (inr (
-      record { front = take-take 9 (header_len file) file (omega (arith, sixty)) ∙ version.front },
-      short,
-    )) accepted.front)
-    | inr long ↦ omega (arith, sixty, length-take (header_len file) file)
-  ]
-
+module _ (key : Secret) (file : List ℕ) (accepted : IsSealed key file) where
   length-body : length (body_of file) ≡ length file - 60
-  length-body = length-drop (header_len file) file ∙ ap (λ n. length file - n) sixty
+  length-body = length-drop header_len file
 
   -- its length is one of a sealed file
   pub has_sealed_len : IsSealedLen (length file)
@@ -33,7 +18,7 @@ module _ (key file : List ℕ) (version : IsVersion2 file) (accepted : IsSealed 
       let tag = (accepted.tags.each last (omega arith)).size in
       let same : last_piece sealed_chunk_len (length file - 60) ≡ last = ap (last_piece sealed_chunk_len) (sym length-body) in
       record {
-        header = omega (arith, length-header, length-take (header_len file) file);
+        header = header_fits key file accepted.front;
         tag =
             omega (
               arith,

@@ -23,38 +23,46 @@ piece size bytes i = take size (drop (size * i) bytes)
 abbrev pub last_piece : ℕ → ℕ → ℕ
 last_piece size n = (n - 1) / size
 
--- the key of a file's chunks: an AES-256-GCM key, the prefix of the nonces, and the file's header, which is the AAD of every
--- chunk
+-- what a file is sealed under: the user's key, and the AAD that the caller binds it to, which is not in it
+pub record Secret : Type 0 where
+  pub key : List ℕ
+  pub aad : List ℕ
+
+abbrev pub secret : (key aad : List ℕ) → Secret
+secret key aad = record { key = key; aad = aad }
+
+-- the key of a file's chunks: an AES-256-GCM key, the prefix of the nonces, the file's header, and the AAD of every chunk, which
+-- is the header and then the caller's
 pub record ChunkKey : Type 0 where
   pub key : List ℕ
   pub prefix : List ℕ
   pub header : List ℕ
+  pub aad : List ℕ
 
 -- the magic and a version
 abbrev pub magic_and_version : ℕ → List ℕ
 magic_and_version version = codes "SEALFILE" ++ version ∷ []
 
--- version 1: the user's key, and a header with the prefix
-unfoldable pub version_1 : (key prefix : List ℕ) → ChunkKey
-version_1 key prefix = record { key = key; prefix = prefix; header = magic_and_version 1 ++ prefix }
-
 -- version 2, with 19 random bytes: the key derived for the first 12 as the context, the other 7 as the prefix, and a header
 -- with the random bytes and the commitment to the user's key
-unfoldable pub version_2 : (key random : List ℕ) → ChunkKey
-version_2 key random = let context = take 12 random in record {
-  key = derived_key key context;
-  prefix = take 7 (drop 12 random);
-  header = magic_and_version 2 ++ (random ++ commitment key context);
-}
+unfoldable pub version_2 : (s : Secret) (random : List ℕ) → ChunkKey
+version_2 s random =
+    let context = take 12 random in
+    let header = magic_and_version 2 ++ (random ++ commitment s.key context) in record {
+      key = derived_key s.key context;
+      prefix = take 7 (drop 12 random);
+      header = header;
+      aad = header ++ s.aad;
+    }
 
 -- the nonce of a chunk: the prefix, the chunk's number in four big-endian bytes, and a byte that is 1 for the last chunk and 0
 -- otherwise
 unfoldable pub chunk_nonce : List ℕ → ℕ → Bool → List ℕ
 chunk_nonce prefix number is_last = prefix ++ to_be_bytes w32 number ++ (if is_last then 1 else 0) ∷ []
 
--- a chunk, sealed with the header as AAD
+-- a chunk, sealed
 unfoldable pub sealed_chunk : (k : ChunkKey) (number : ℕ) (is_last : Bool) (chunk : List ℕ) → List ℕ
-sealed_chunk k number is_last chunk = gcm_sealed (aes k.key) (chunk_nonce k.prefix number is_last) k.header chunk
+sealed_chunk k number is_last chunk = gcm_sealed (aes k.key) (chunk_nonce k.prefix number is_last) k.aad chunk
 
 -- chunk i of a file, sealed
 abbrev pub sealed_chunk_of : (k : ChunkKey) (file : List ℕ) (i : ℕ) → List ℕ

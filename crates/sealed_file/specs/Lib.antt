@@ -1,6 +1,6 @@
 pub mod Derivation
 pub mod Format
-pub mod Header
 pub mod Opening
+pub mod Reader
 pub mod Refusals
 pub mod Streams

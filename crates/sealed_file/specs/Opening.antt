@@ -1,10 +1,10 @@
 -- The sealed files that opening accepts, and the files that they open to.
-use Rattle.std.specs.Prelude.{◌≡◌, ℕ, Bool, ◌+◌, ◌-◌, ◌*◌, ◌^◌, ◌<◌, ◌≤◌, List, length, take, drop, slice_index, ◌==◌, if◌then◌else◌}
+use Rattle.std.specs.Prelude.{◌≡◌, ℕ, Bool, ◌+◌, ◌-◌, ◌*◌, ◌^◌, ◌<◌, ◌≤◌, List, length, take, drop, ◌==◌}
 use Rattle.std.specs.List.{concat}
 use Rattle.aead_ciphers_base.specs.Bytes.{each_below}
 use Rattle.aead_ciphers_base.specs.Aes.{aes}
 use Rattle.aead_ciphers.specs.Gcm.{gcm_decrypted, gcm_tag}
-use Rattle.sealed_file.specs.Format.{ChunkKey, chunk_len, chunk_nonce, last_piece, piece, sealed_chunk_len, sealed_chunk_of, version_1, version_2}
+use Rattle.sealed_file.specs.Format.{ChunkKey, Secret, chunk_len, chunk_nonce, last_piece, piece, sealed_chunk_len, sealed_chunk_of, version_2}
 
 -- the bytes before the last 16, which are the tag
 abbrev pub ciphertext_of : List ℕ → List ℕ
@@ -12,7 +12,7 @@ ciphertext_of sealed = take (length sealed - 16) sealed
 
 -- the tag defined for the ciphertext of the chunk with this number that is the last, or is not
 abbrev pub chunk_tag : (k : ChunkKey) (number : ℕ) (is_last : Bool) (ciphertext : List ℕ) → List ℕ
-chunk_tag k number is_last ciphertext = gcm_tag (aes k.key) (chunk_nonce k.prefix number is_last) k.header ciphertext
+chunk_tag k number is_last ciphertext = gcm_tag (aes k.key) (chunk_nonce k.prefix number is_last) k.aad ciphertext
 
 -- the bytes end with the tag defined for the chunk with this number that is the last, or is not
 pub record HasTag (k : ChunkKey) (number : ℕ) (is_last : Bool) (sealed : List ℕ) : Type 0 where
@@ -24,32 +24,33 @@ unfoldable pub opened_chunk : (k : ChunkKey) (number : ℕ) (is_last : Bool) (se
 opened_chunk k number is_last sealed =
     gcm_decrypted (aes k.key) (chunk_nonce k.prefix number is_last) (ciphertext_of sealed)
 
--- the length of a header: 60 if byte 8, the version, is 2, and 16 otherwise
-unfoldable pub header_len : List ℕ → ℕ
-header_len file = if slice_index file 8 == 2 then 60 else 16
+-- the length of a header: the magic, the version, 19 random bytes and the commitment
+abbrev pub header_len : ℕ
+header_len = 60
 
 -- a file's header, or the part of it that the file has
 abbrev pub header_of : List ℕ → List ℕ
-header_of file = take (header_len file) file
+header_of file = take header_len file
+
+-- the context in a file's header
+abbrev pub context_of : List ℕ → List ℕ
+context_of file = take 12 (drop 9 file)
 
 -- the bytes after the header
 abbrev pub body_of : List ℕ → List ℕ
-body_of file = drop (header_len file) file
+body_of file = drop header_len file
 
--- the key of the chunks after a header, given the bytes after its magic and version
-unfoldable pub chunk_key : (key header : List ℕ) → ChunkKey
-chunk_key key header =
-    let bytes = drop 9 header in
-    if slice_index header 8 == 2 then version_2 key (take 19 bytes) else version_1 key (take 7 bytes)
+-- the key of the chunks after a header, from the 19 random bytes after its magic and version
+abbrev pub chunk_key : (s : Secret) (header : List ℕ) → ChunkKey
+chunk_key s header = version_2 s (take 19 (drop 9 header))
 
--- the bytes are a header under this key: the one defined for its random bytes
-pub record HasHeader (key header : List ℕ) : Type 0 where
-  pub size : 16 ≤ length header
-  pub right : header ≡ (chunk_key key header).header
+-- the bytes are a header under this key: the one defined for its random bytes, with the commitment to this key
+pub record HasHeader (s : Secret) (header : List ℕ) : Type 0 where
+  pub right : header ≡ (chunk_key s header).header
 
 -- the key of the chunks of a file
-abbrev pub key_of : (key file : List ℕ) → ChunkKey
-key_of key file = chunk_key key (header_of file)
+abbrev pub key_of : (s : Secret) (file : List ℕ) → ChunkKey
+key_of s file = chunk_key s (header_of file)
 
 -- the number of the last chunk
 abbrev pub last_chunk : List ℕ → ℕ
@@ -60,29 +61,29 @@ abbrev pub chunk_of : (file : List ℕ) → ℕ → List ℕ
 chunk_of file i = piece sealed_chunk_len (body_of file) i
 
 -- chunk i of a sealed file has its tag
-abbrev pub HasRightTag : (key file : List ℕ) → ℕ → Type 0
-HasRightTag key file i = HasTag (key_of key file) i (i == last_chunk file) (chunk_of file i)
+abbrev pub HasRightTag : (s : Secret) (file : List ℕ) → ℕ → Type 0
+HasRightTag s file i = HasTag (key_of s file) i (i == last_chunk file) (chunk_of file i)
 
 -- the first n chunks have their tags
-pub record AreRight (key file : List ℕ) (n : ℕ) : Type 0 where
-  pub each : (i : ℕ) → i < n → HasRightTag key file i
+pub record AreRight (s : Secret) (file : List ℕ) (n : ℕ) : Type 0 where
+  pub each : (i : ℕ) → i < n → HasRightTag s file i
 
 -- the header is right, and every chunk has the tag defined for the header, its number and whether it is the last
-pub record IsSealed (key file : List ℕ) : Type 0 where
-  pub front : HasHeader key (header_of file)
+pub record IsSealed (s : Secret) (file : List ℕ) : Type 0 where
+  pub front : HasHeader s (header_of file)
   pub few : last_chunk file < 2 ^ 32 - 1
-  pub tags : AreRight key file (last_chunk file + 1)
+  pub tags : AreRight s file (last_chunk file + 1)
 
 -- the messages of the first n chunks, in order
-unfoldable pub opened_chunks : (key file : List ℕ) (n : ℕ) → List ℕ
-opened_chunks key file n =
-    concat (each_below n (λ i. opened_chunk (key_of key file) i (i == last_chunk file) (chunk_of file i)))
+unfoldable pub opened_chunks : (s : Secret) (file : List ℕ) (n : ℕ) → List ℕ
+opened_chunks s file n =
+    concat (each_below n (λ i. opened_chunk (key_of s file) i (i == last_chunk file) (chunk_of file i)))
 
 -- the messages of all chunks, in order
-abbrev pub opened_file : (key file : List ℕ) → List ℕ
-opened_file key file = opened_chunks key file (last_chunk file + 1)
+abbrev pub opened_file : (s : Secret) (file : List ℕ) → List ℕ
+opened_file s file = opened_chunks s file (last_chunk file + 1)
 
--- the length of a sealed file of version 2: a header, and fewer than 2^32 chunks that each hold a tag
+-- the length of a sealed file: a header, and fewer than 2^32 chunks that each hold a tag
 pub record IsSealedLen (n : ℕ) : Type 0 where
   pub header : 60 ≤ n
   pub tag : sealed_chunk_len * last_piece sealed_chunk_len (n - 60) + 16 ≤ n - 60

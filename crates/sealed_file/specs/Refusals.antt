@@ -3,7 +3,7 @@ use Rattle.std.specs.Prelude.{◌≡◌, ◌≢◌, ℕ, Bool, true, false, ◌-
 use Rattle.sealed_file.specs.declared.error.FileError.{FileError}
 use Rattle.sealed_file.specs.declared.error.FileError.TheVariants.{AnotherMagic, AnotherVersion, WrongKey, EndsEarly, TrailingBytes, Refused, TooLong, OutOfMemory, Io}
 use Rattle.sealed_file.specs.Derivation.{commitment}
-use Rattle.sealed_file.specs.Format.{ChunkKey, chunk_len, last_piece, magic_and_version}
+use Rattle.sealed_file.specs.Format.{ChunkKey, Secret, chunk_len, last_piece, magic_and_version}
 use Rattle.sealed_file.specs.Opening.{HasTag, HasHeader, AreRight, chunk_of, header_of, key_of, last_chunk}
 
 -- why a file is not sealed
@@ -17,19 +17,19 @@ pub record IsVersion2 (header : List ℕ) : Type 0 where
   pub front : take 9 header ≡ magic_and_version 2
 
 -- a whole header of version 2 whose commitment is not that of this key for its random bytes
-pub record IsOfAnotherKey (key header : List ℕ) : Type 0 where
+pub record IsOfAnotherKey (s : Secret) (header : List ℕ) : Type 0 where
   pub version : IsVersion2 header
   pub size : length header ≡ 60
-  pub other : drop 28 header ≢ commitment key (take 12 (drop 9 header))
+  pub other : drop 28 header ≢ commitment s.key (take 12 (drop 9 header))
 
 -- why the bytes are not a header under this key
-abbrev pub HeaderRefuses : (key header : List ℕ) → FileError → Type 0
-HeaderRefuses key header EndsEarly = (length header < 16) ⊎ (IsVersion2 header × (length header < 60))
-HeaderRefuses key header AnotherMagic = (16 ≤ length header) × (take 8 header ≢ codes "SEALFILE")
-HeaderRefuses key header (AnotherVersion version) = (16 ≤ length header) × (take 8 header ≡ codes "SEALFILE")
-    × (slice_index header 8 ≡ version) × (version ≢ 1) × (version ≢ 2)
-HeaderRefuses key header WrongKey = IsOfAnotherKey key header
-HeaderRefuses key header error = ⊥
+abbrev pub HeaderRefuses : (s : Secret) (header : List ℕ) → FileError → Type 0
+HeaderRefuses s header EndsEarly = (length header < 9) ⊎ (IsVersion2 header × (length header < 60))
+HeaderRefuses s header AnotherMagic = (9 ≤ length header) × (take 8 header ≢ codes "SEALFILE")
+HeaderRefuses s header (AnotherVersion version) = (9 ≤ length header) × (take 8 header ≡ codes "SEALFILE")
+    × (slice_index header 8 ≡ version) × (version ≢ 2)
+HeaderRefuses s header WrongKey = IsOfAnotherKey s header
+HeaderRefuses s header error = ⊥
 
 -- why a sealed chunk does not open: the tag of the other kind of chunk shows that the file was cut after the chunk, or goes on
 -- after it
@@ -42,25 +42,25 @@ ChunkRefuses k number is_last sealed (Refused at) =
 ChunkRefuses k number is_last sealed error = ⊥
 
 -- the header and the first n chunks are right, and the next chunk is not
-pub record RefusesAt (key file : List ℕ) (error : FileError) (n : ℕ) : Type 0 where
-  pub front : HasHeader key (header_of file)
-  pub right : AreRight key file n
+pub record RefusesAt (s : Secret) (file : List ℕ) (error : FileError) (n : ℕ) : Type 0 where
+  pub front : HasHeader s (header_of file)
+  pub right : AreRight s file n
   pub in_range : n ≤ last_chunk file
   pub wrong : let is_last = n == last_chunk file in
-      (¬ HasTag (key_of key file) n is_last (chunk_of file n)) × ChunkRefuses (key_of key file) n is_last (chunk_of file n) error
+      (¬ HasTag (key_of s file) n is_last (chunk_of file n)) × ChunkRefuses (key_of s file) n is_last (chunk_of file n) error
 
 -- why a file does not open
-abbrev pub OpenRefuses : (key file : List ℕ) → FileError → Type 0
-OpenRefuses key file TooLong =
-    HasHeader key (header_of file) × AreRight key file (2 ^ 32 - 1) × (2 ^ 32 - 1 ≤ last_chunk file)
-OpenRefuses key file (Io error) = ⊤
-OpenRefuses key file error = HeaderRefuses key (header_of file) error ⊎ ((n : ℕ) × RefusesAt key file error n)
+abbrev pub OpenRefuses : (s : Secret) (file : List ℕ) → FileError → Type 0
+OpenRefuses s file TooLong =
+    HasHeader s (header_of file) × AreRight s file (2 ^ 32 - 1) × (2 ^ 32 - 1 ≤ last_chunk file)
+OpenRefuses s file (Io error) = ⊤
+OpenRefuses s file error = HeaderRefuses s (header_of file) error ⊎ ((n : ℕ) × RefusesAt s file error n)
 
 -- why one chunk does not open
-abbrev pub ChunkAtRefuses : (key header : List ℕ) (number : ℕ) (is_last : Bool) (sealed : List ℕ) → FileError → Type 0
-ChunkAtRefuses key header number is_last sealed error = HeaderRefuses key (header_of header) error
-    ⊎ (HasHeader key (header_of header) × (¬ HasTag (key_of key header) number is_last sealed)
-    × ChunkRefuses (key_of key header) number is_last sealed error)
+abbrev pub ChunkAtRefuses : (s : Secret) (header : List ℕ) (number : ℕ) (is_last : Bool) (sealed : List ℕ) → FileError → Type 0
+ChunkAtRefuses s header number is_last sealed error = HeaderRefuses s (header_of header) error
+    ⊎ (HasHeader s (header_of header) × (¬ HasTag (key_of s header) number is_last sealed)
+    × ChunkRefuses (key_of s header) number is_last sealed error)
 
 -- why a call over slices fails: it needed memory, or it rejects its input, but never with `Io`
 abbrev pub FailsInMemory : (lacks_room : Type 0) (Refuses : FileError → Type 0) → FileError → Type 0

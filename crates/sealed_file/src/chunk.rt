@@ -36,7 +36,7 @@ pub(crate) fn seal_slice(cipher: &ChunkCipher, number: u32, is_last: bool, chunk
     ensures { chunk.new ++ result ≡ sealed_chunk cipher.now number is_last chunk.old }
 {
     let nonce = nonce_of(&cipher.prefix, number, is_last);
-    let aad = Aad::from(cipher.header());
+    let aad = Aad::from(cipher.aad());
     match cipher.key.seal_in_place_separate_tag(nonce, aad, chunk) {
         Ok(tag) => tag,
         Err(_) => unreachable!(),
@@ -75,7 +75,7 @@ fn has_opened(
     ensures kept { OnFalse result (ciphertext.new ≡ ciphertext.old) }
 {
     let nonce = nonce_of(&cipher.prefix, number, is_last);
-    let aad = Aad::from(cipher.header());
+    let aad = Aad::from(cipher.aad());
     cipher
         .key
         .open_in_place_separate_tag_to_front(nonce, aad, Tag::from(*tag), ciphertext, 0..)

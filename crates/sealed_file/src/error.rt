@@ -11,16 +11,15 @@ pub enum FileError {
     KeyLength,
     /// The file does not begin with the magic of a sealed file.
     AnotherMagic,
-    /// The file has this version of the format, which is neither 1 nor 2.
+    /// The file has this version of the format, which is not 2.
     AnotherVersion(u8),
-    /// The header commits to another key, or was changed. Files of version 1 have no commitment.
+    /// The header commits to another key, or was changed.
     WrongKey,
     /// The file ends within its header, within a tag, or after a chunk that is not the last.
     EndsEarly,
     /// There are bytes after the last chunk.
     TrailingBytes,
-    /// The chunk with this number, counted from 0, has a wrong tag: it was changed, or the file is of version 1 and the key is
-    /// another one.
+    /// The chunk with this number, counted from 0, has a wrong tag: it or the prefix in the header was changed.
     Refused(u32),
     /// The file has more than `MAX_CHUNKS` chunks.
     TooLong,
@@ -35,17 +34,13 @@ impl fmt::Display for FileError {
         match self {
             FileError::KeyLength => write!(f, "the key is not 32 bytes long"),
             FileError::AnotherMagic => write!(f, "not a sealed file"),
-            FileError::AnotherVersion(version) => write!(
-                f,
-                "a sealed file of version {version}, which is neither 1 nor 2"
-            ),
+            FileError::AnotherVersion(version) => {
+                write!(f, "a sealed file of version {version}, which is not 2")
+            }
             FileError::WrongKey => write!(f, "the key is wrong, or the header was changed"),
             FileError::EndsEarly => write!(f, "the sealed file ends early"),
             FileError::TrailingBytes => write!(f, "bytes after the last chunk"),
-            FileError::Refused(number) => write!(
-                f,
-                "chunk {number} was changed or cut, or (version 1) the key is wrong"
-            ),
+            FileError::Refused(number) => write!(f, "chunk {number} was changed or cut"),
             FileError::TooLong => write!(f, "the file is too long: it has 2^32 chunks or more"),
             FileError::OutOfMemory => write!(f, "out of memory"),
             FileError::Io(error) => write!(f, "{error}"),

@@ -1,12 +1,14 @@
 //! The header of a sealed file, and the key that follows from it.
 
 ghost use Rattle.std.specs.Prelude.{ℕ, List, ◌≡◌, ◌+◌, ◌≤◌, ◌↔◌, ◌++◌, length, take, drop, IsOk, IfOk, IfErr};
-ghost use Rattle.sealed_file.specs.Format.{magic_and_version, version_1, version_2};
-ghost use Rattle.sealed_file.specs.Opening.{HasHeader, chunk_key, header_len, header_of};
+ghost use Rattle.sealed_file.specs.Format.{Secret, magic_and_version, secret, version_2};
+ghost use Rattle.sealed_file.specs.Opening.{HasHeader, chunk_key, header_of};
 ghost use Rattle.sealed_file.specs.Refusals.{HeaderRefuses, IsVersion2};
 
+use crate::aad::ChunkAad;
 use crate::error::FileError;
 use crate::key::FileKey;
+use crate::random::FileRandom;
 use aead_ciphers::aead::AES_256_GCM;
 use aead_ciphers_base::aes::AES_256_KEY_LEN;
 use aead_ciphers_base::bb;
@@ -16,11 +18,8 @@ use std::marker::Model;
 /// The first bytes of a sealed file.
 pub const MAGIC: [u8; 8] = *b"SEALFILE";
 
-/// The version that sealing writes, after the magic. Opening also accepts version 1.
+/// The version of the format, after the magic.
 pub const VERSION: u8 = 2;
-
-/// The version whose files are sealed under the key itself.
-const VERSION_1: u8 = 1;
 
 /// The position of the version.
 const VERSION_AT: usize = 8;
@@ -34,16 +33,13 @@ pub const CONTEXT_LEN: usize = 12;
 /// The length in bytes of the prefix of a file's nonces.
 pub const PREFIX_LEN: usize = 7;
 
-/// The length in bytes of the random part of a header of version 2: a context and a prefix.
+/// The length in bytes of the random part of a header: a context and a prefix.
 pub const RANDOM_LEN: usize = CONTEXT_LEN + PREFIX_LEN;
 
 /// The length in bytes of the commitment to the key.
 const COMMITMENT_LEN: usize = AES_256_KEY_LEN;
 
-/// The length in bytes of a header of version 1: the magic, the version and the prefix.
-pub(crate) const HEADER_1_LEN: usize = FRONT_LEN + PREFIX_LEN;
-
-/// The length in bytes of a header of version 2: the magic, the version, the random bytes and the commitment to the key.
+/// The length in bytes of a header: the magic, the version, the random bytes and the commitment to the key.
 pub const HEADER_LEN: usize = FRONT_LEN + RANDOM_LEN + COMMITMENT_LEN;
 
 /// The context that the key of a file is derived from, along with the user's key.
@@ -52,46 +48,26 @@ pub type Context = [u8; CONTEXT_LEN];
 /// The prefix of a file's nonces.
 pub(crate) type Prefix = [u8; PREFIX_LEN];
 
-/// The bytes of a header, of either version.
-#[derive(Drop)]
-enum Header {
-    Version1([u8; HEADER_1_LEN]),
-    Version2([u8; HEADER_LEN]),
-}
-
-impl Header {
-    ghost use Rattle.sealed_file.specs.Header.{header_bytes};
-
-    /// Returns the bytes of the header.
-    fn as_slice(&self) -> &[u8]
-        ensures bytes { result.now ≡ header_bytes self.now }
-        ensures len { length result.now ≤ 60 }
-    {
-        match self {
-            Header::Version1(bytes) => bytes,
-            Header::Version2(bytes) => bytes,
-        }
-    }
-}
-
-/// The key of a file's chunks: an AES-256-GCM key, the prefix of the nonces, and the header, which is the AAD of every chunk.
+/// The key of a file's chunks: an AES-256-GCM key, the prefix of the nonces, the header, and the AAD of
+/// every chunk.
 #[derive(Drop)]
 pub(crate) struct ChunkCipher {
     pub(crate) key: LessSafeKey,
     pub(crate) prefix: Prefix,
-    header: Header,
+    header: [u8; HEADER_LEN],
+    aad: ChunkAad,
 }
 
 impl Model for ChunkCipher {
     ghost use Rattle.sealed_file.specs.Format.{ChunkKey};
-    ghost use Rattle.sealed_file.specs.Header.{header_bytes};
 
     ghost Value = { ChunkKey };
 
     ghost view = { λ cipher. record {
       key = cipher.key.bytes;
       prefix = cipher.prefix;
-      header = header_bytes cipher.header;
+      header = cipher.header;
+      aad = cipher.aad;
     } };
 }
 
@@ -99,35 +75,33 @@ impl ChunkCipher {
     /// Returns the file's header.
     pub(crate) fn header(&self) -> &[u8]
         ensures bytes { result.now ≡ self.now.header }
-        ensures len { length result.now ≤ 60 }
+        ensures len { length result.now ≡ 60 }
     {
-        self.header.as_slice()
+        &self.header
     }
 
-    /// The key of a file of version 1 with this prefix.
-    fn version_1(key: &FileKey, prefix: &Prefix) -> ChunkCipher
-        ensures { result ≡ version_1 key.now prefix.now }
+    /// Returns the AAD of each chunk.
+    pub(crate) fn aad(&self) -> &[u8]
+        ensures bytes { result.now ≡ self.now.aad }
+        ensures len { length result.now ≤ 4156 }
     {
-        let [m0, m1, m2, m3, m4, m5, m6, m7] = MAGIC;
-        let [p0, p1, p2, p3, p4, p5, p6] = *prefix;
-        ChunkCipher {
-            key: aead_key(&key.bytes),
-            prefix: *prefix,
-            header: Header::Version1([
-                m0, m1, m2, m3, m4, m5, m6, m7, VERSION_1, p0, p1, p2, p3, p4, p5, p6,
-            ]),
-        }
+        self.aad.as_slice()
     }
 
-    /// The key of a file of version 2 with these random bytes.
-    pub(crate) fn new(key: &FileKey, random: &[u8; RANDOM_LEN]) -> ChunkCipher
-        ensures { result ≡ version_2 key.now random.now }
+    /// The key of a file with this AAD of the caller and these random bytes.
+    pub(crate) fn new(key: &FileKey, aad: &[u8], random: &FileRandom) -> ChunkCipher
+        requires { length aad.now ≤ 4096 }
+        ensures made { result ≡ version_2 (secret key.now aad.now) random.now }
+        ensures size { length result.header ≡ 60 }
     {
+        let random = random.as_bytes();
         let context = context_of(random);
+        let header = header_with(random, &key.commitment(&context));
         ChunkCipher {
             key: aead_key(&key.derived_key(&context)),
             prefix: prefix_of(random),
-            header: Header::Version2(header_2_of(random, &key.commitment(&context))),
+            header,
+            aad: ChunkAad::new(&header, aad),
         }
     }
 }
@@ -168,8 +142,8 @@ pub(crate) fn put(bytes: &[u8], all: &mut [u8], at: usize)
     all[at..at + bytes.len()].copy_from_slice(bytes);
 }
 
-/// The header of version 2 with these random bytes and this commitment.
-fn header_2_of(random: &[u8; RANDOM_LEN], commitment: &[u8; COMMITMENT_LEN]) -> [u8; HEADER_LEN]
+/// The header with these random bytes and this commitment.
+fn header_with(random: &[u8; RANDOM_LEN], commitment: &[u8; COMMITMENT_LEN]) -> [u8; HEADER_LEN]
     ensures { result ≡ magic_and_version 2 ++ (random.now ++ commitment.now) }
 {
     let mut header = [0; HEADER_LEN];
@@ -180,115 +154,96 @@ fn header_2_of(random: &[u8; RANDOM_LEN], commitment: &[u8; COMMITMENT_LEN]) -> 
     header
 }
 
-/// The length of the header of a file that begins with these bytes.
-pub(crate) fn header_len(file: &[u8]) -> usize
-    ensures value { result ≡ header_len file.now }
-    ensures least { 16 ≤ result }
-    ensures most { result ≤ 60 }
-{
-    if file.len() >= FRONT_LEN && file[VERSION_AT] == VERSION {
-        HEADER_LEN
-    } else {
-        HEADER_1_LEN
-    }
-}
-
 /// The header of a file that begins with these bytes, or the part of it that they hold.
 fn header_of(file: &[u8]) -> &[u8]
     ensures { result.now ≡ header_of file.now }
 {
-    let len = header_len(file);
-    if file.len() < len { file } else { &file[..len] }
+    if file.len() < HEADER_LEN {
+        file
+    } else {
+        &file[..HEADER_LEN]
+    }
 }
 
-/// The random bytes of a header of version 2.
-fn random_in(header: &[u8; HEADER_LEN]) -> [u8; RANDOM_LEN]
+/// The random bytes of a header.
+fn random_in(header: &[u8; HEADER_LEN]) -> FileRandom
     ensures { result ≡ take 19 (drop 9 header.now) }
 {
     let mut random = [0; RANDOM_LEN];
     random.copy_from_slice(&header[FRONT_LEN..FRONT_LEN + RANDOM_LEN]);
-    random
+    FileRandom::of_bytes(random)
 }
 
-/// The key of the chunks after a header of version 2. The whole header is compared with the one that the key defines for its
-/// random bytes.
-fn version_2_in(key: &FileKey, header: &[u8]) -> Result<ChunkCipher, FileError>
+/// Fails unless a header begins with the magic and the version.
+fn check_front(header: &[u8]) -> Result<(), FileError>
+    ensures front { IsOk result → IsVersion2 header.now }
+    ensures refused { (s : Secret) → IfErr result (λ error. HeaderRefuses s header.now error) }
+{
+    let Some(front) = header.first_chunk::<FRONT_LEN>() else {
+        return Err(FileError::EndsEarly);
+    };
+    let [m0, m1, m2, m3, m4, m5, m6, m7, version] = *front;
+    if [m0, m1, m2, m3, m4, m5, m6, m7] != MAGIC {
+        return Err(FileError::AnotherMagic);
+    }
+    if version != VERSION {
+        return Err(FileError::AnotherVersion(version));
+    }
+    Ok(())
+}
+
+/// Fails unless these bytes begin with the magic, the version and a whole header. The commitment is not compared.
+pub fn check_header(file: &[u8]) -> Result<(), FileError>
+    ensures accepted { IsOk result → IsVersion2 (header_of file.now) }
+    ensures whole { IsOk result → 60 ≤ length file.now }
+    ensures refused { (s : Secret) → IfErr result (λ error. HeaderRefuses s (header_of file.now) error) }
+{
+    match check_front(header_of(file)) {
+        Ok(()) if file.len() < HEADER_LEN => Err(FileError::EndsEarly),
+        checked => checked,
+    }
+}
+
+/// The key of the chunks after a header that begins as one. The whole header is compared with the one that the key defines for
+/// its random bytes.
+fn version_2_in(key: &FileKey, aad: &[u8], header: &[u8]) -> Result<ChunkCipher, FileError>
     requires version { IsVersion2 header.now }
-    requires least { 16 ≤ length header.now }
     requires most { length header.now ≤ 60 }
-    ensures accepted { IsOk result ↔ HasHeader key.now header.now }
-    ensures cipher { IfOk result (λ cipher. cipher ≡ chunk_key key.now header.now) }
-    ensures refused { IfErr result (λ error. HeaderRefuses key.now header.now error) }
+    requires aad { length aad.now ≤ 4096 }
+    ensures accepted { IsOk result ↔ HasHeader (secret key.now aad.now) header.now }
+    ensures cipher { IfOk result (λ cipher. cipher ≡ chunk_key (secret key.now aad.now) header.now) }
+    ensures refused { IfErr result (λ error. HeaderRefuses (secret key.now aad.now) header.now error) }
 {
     let Some(header) = header.as_array::<HEADER_LEN>() else {
         return Err(FileError::EndsEarly);
     };
-    let cipher = ChunkCipher::new(key, &random_in(header));
+    let cipher = ChunkCipher::new(key, aad, &random_in(header));
     match bb::verify_slices_are_equal(header, cipher.header()) {
         Ok(()) => Ok(cipher),
         Err(_) => Err(FileError::WrongKey),
     }
 }
 
-/// The version of a header, and its prefix if the version is 1.
-fn front_in(header: &[u8]) -> Result<(u8, Prefix), FileError>
-    ensures size { IsOk result → 16 ≤ length header.now }
-    ensures front { IfOk result (λ front. take 9 header.now ≡ magic_and_version front.0) }
-    ensures prefix { IfOk result (λ front. front.1 ≡ take 7 (drop 9 header.now)) }
-    ensures refused { (key : List ℕ) → IfErr result (λ error. HeaderRefuses key header.now error) }
-{
-    let Some(front) = header.first_chunk::<HEADER_1_LEN>() else {
-        return Err(FileError::EndsEarly);
-    };
-    let [
-        m0,
-        m1,
-        m2,
-        m3,
-        m4,
-        m5,
-        m6,
-        m7,
-        version,
-        p0,
-        p1,
-        p2,
-        p3,
-        p4,
-        p5,
-        p6,
-    ] = *front;
-    if [m0, m1, m2, m3, m4, m5, m6, m7] != MAGIC {
-        return Err(FileError::AnotherMagic);
-    }
-    Ok((version, [p0, p1, p2, p3, p4, p5, p6]))
-}
-
 /// The key of the chunks after this header.
-fn cipher_in(key: &FileKey, header: &[u8]) -> Result<ChunkCipher, FileError>
-    requires { length header.now ≤ header_len header.now }
-    ensures accepted { IsOk result ↔ HasHeader key.now header.now }
-    ensures cipher { IfOk result (λ cipher. cipher ≡ chunk_key key.now header.now) }
-    ensures refused { IfErr result (λ error. HeaderRefuses key.now header.now error) }
+fn cipher_in(key: &FileKey, aad: &[u8], header: &[u8]) -> Result<ChunkCipher, FileError>
+    requires header { length header.now ≤ 60 }
+    requires aad { length aad.now ≤ 4096 }
+    ensures accepted { IsOk result ↔ HasHeader (secret key.now aad.now) header.now }
+    ensures cipher { IfOk result (λ cipher. cipher ≡ chunk_key (secret key.now aad.now) header.now) }
+    ensures refused { IfErr result (λ error. HeaderRefuses (secret key.now aad.now) header.now error) }
 {
-    let (version, prefix) = match front_in(header) {
-        Ok(front) => front,
-        Err(error) => return Err(error),
-    };
-    if version == VERSION {
-        return version_2_in(key, header);
+    match check_front(header) {
+        Ok(()) => version_2_in(key, aad, header),
+        Err(error) => Err(error),
     }
-    if version != VERSION_1 {
-        return Err(FileError::AnotherVersion(version));
-    }
-    Ok(ChunkCipher::version_1(key, &prefix))
 }
 
 /// The key of the chunks of a file that begins with these bytes.
-pub(crate) fn cipher_of(key: &FileKey, file: &[u8]) -> Result<ChunkCipher, FileError>
-    ensures accepted { IsOk result ↔ HasHeader key.now (header_of file.now) }
-    ensures cipher { IfOk result (λ cipher. cipher ≡ chunk_key key.now (header_of file.now)) }
-    ensures refused { IfErr result (λ error. HeaderRefuses key.now (header_of file.now) error) }
+pub(crate) fn cipher_of(key: &FileKey, aad: &[u8], file: &[u8]) -> Result<ChunkCipher, FileError>
+    requires { length aad.now ≤ 4096 }
+    ensures accepted { IsOk result ↔ HasHeader (secret key.now aad.now) (header_of file.now) }
+    ensures cipher { IfOk result (λ cipher. cipher ≡ chunk_key (secret key.now aad.now) (header_of file.now)) }
+    ensures refused { IfErr result (λ error. HeaderRefuses (secret key.now aad.now) (header_of file.now) error) }
 {
-    cipher_in(key, header_of(file))
+    cipher_in(key, aad, header_of(file))
 }

@@ -1,14 +1,15 @@
 //! Sealing and opening files in memory.
 
-ghost use Rattle.std.specs.Prelude.{ℕ, List, ◌≡◌, ◌+◌, ◌-◌, ◌*◌, ◌^◌, ◌<◌, ◌≤◌, ◌↔◌, ◌++◌, length, vec_capacity, vec_len, take, drop, IsOk, IfErr, OnOk, OnErr};
-ghost use Rattle.sealed_file.specs.Format.{chunk_len, sealed_chunk_len, last_piece, piece, sealed_chunk, sealed_file, version_2};
-ghost use Rattle.sealed_file.specs.Opening.{HasTag, IsSealed, chunk_of, header_len, last_chunk, opened_chunk, opened_file};
+ghost use Rattle.std.specs.Prelude.{[], ◌≡◌, ◌+◌, ◌-◌, ◌*◌, ◌^◌, ◌<◌, ◌≤◌, ◌↔◌, ◌++◌, length, vec_capacity, vec_len, take, drop, IsOk, IfErr, OnOk, OnErr};
+ghost use Rattle.sealed_file.specs.Format.{Secret, chunk_len, sealed_chunk_len, last_piece, piece, sealed_chunk, sealed_file, secret, version_2};
+ghost use Rattle.sealed_file.specs.Opening.{HasTag, IsSealed, body_of, chunk_of, last_chunk, opened_chunk, opened_file};
 ghost use Rattle.sealed_file.specs.Refusals.{ChunkRefuses, FailsInMemory, OpenRefuses, SealRefuses};
 
 use crate::chunk::{CHUNK_LEN, MAX_CHUNKS, SEALED_CHUNK_LEN, open_ciphertext, seal_slice};
 use crate::error::FileError;
-use crate::header::{ChunkCipher, HEADER_LEN, RANDOM_LEN, cipher_of, header_len};
+use crate::header::{ChunkCipher, HEADER_LEN, cipher_of};
 use crate::key::FileKey;
+use crate::random::FileRandom;
 use aead_ciphers::aead::{MAX_TAG_LEN, Tag};
 
 /// The number of the last piece when `len` bytes are cut into pieces of `size` bytes.
@@ -75,23 +76,22 @@ fn append_sealed(cipher: &ChunkCipher, number: u32, is_last: bool, chunk: &[u8],
     append(tag.as_ref(), out);
 }
 
-/// Seals `file` as version 2, and appends the sealed file to `out`.
-///
-/// Each file under a key needs its own 19 random bytes.
+/// Seals `file`, and appends the sealed file to `out`.
 ///
 /// Fails with `TooLong` if the file has more than `MAX_CHUNKS` chunks, and otherwise with `OutOfMemory` only if `out` has no
 /// room for the sealed file and cannot grow. `out` then holds the bytes that it held before.
 ///
 /// # Examples
 ///
-/// Seals files, and opens them again. From `crates/aead_ciphers_tests/src/sealed_files.rt`:
+/// Seals files, and opens them again. From `crates/sealed_file_tests/src/sealed_files.rt`:
 ///
 /// ```
 /// let key = FileKey::new(&KEY)?;
 /// for (len, digest) in &SEALED {
 ///     let file = file_of(rt.alloc(), *len)?;
 ///     let mut sealed = Vec::new(rt.alloc());
-///     seal_bytes(&key, RANDOM, &file, &mut sealed)?;
+///     let random = FileRandom::from_bytes_for_tests(RANDOM);
+///     seal_bytes(&key, random, &file, &mut sealed)?;
 ///     same(&rt, &Md5::digest(&sealed), digest, "sealed in memory");
 ///     let mut opened = Vec::new(rt.alloc());
 ///     open_bytes(&key, &sealed, &mut opened)?;
@@ -100,24 +100,24 @@ fn append_sealed(cipher: &ChunkCipher, number: u32, is_last: bool, chunk: &[u8],
 /// ```
 pub fn seal_bytes(
     key: &FileKey,
-    random: [u8; RANDOM_LEN],
+    random: FileRandom,
     file: &[u8],
     out: &mut Vec<u8>,
 ) -> Result<(), FileError>
     ensures few { IsOk result → last_piece chunk_len (length file.now) < 2 ^ 32 - 1 }
     ensures sealed { OnOk result (out.new.items
-        ≡ out.old.items ++ sealed_file (version_2 key.now random) file.now) }
-    ensures accepted { let sealed = sealed_file (version_2 key.now random) file.now in
+        ≡ out.old.items ++ sealed_file (version_2 (secret key.now []) random) file.now) }
+    ensures accepted { let sealed = sealed_file (version_2 (secret key.now []) random) file.now in
         let grown = vec_len out.old + length sealed in
         grown ≤ vec_capacity out.old
         → (IsOk result ↔ (last_piece chunk_len (length file.now) < 2 ^ 32 - 1)) }
-    ensures refused { let sealed = sealed_file (version_2 key.now random) file.now in
+    ensures refused { let sealed = sealed_file (version_2 (secret key.now []) random) file.now in
         let grown = vec_len out.old + length sealed in
         IfErr result (λ error.
         FailsInMemory (vec_capacity out.old < grown) (SealRefuses file.now) error) }
     ensures kept { OnErr result (out.new.items ≡ out.old.items) }
 {
-    let cipher = ChunkCipher::new(key, &random);
+    let cipher = ChunkCipher::new(key, &[], &random);
     let last = last_piece_of(file.len(), CHUNK_LEN);
     if last >= MAX_CHUNKS as usize {
         return Err(FileError::TooLong);
@@ -181,45 +181,55 @@ pub(crate) fn append_opened(
     open_from(cipher, number, is_last, tag, out, start)
 }
 
+/// The bytes from `at` on, or none if there are fewer.
+fn rest_from(bytes: &[u8], at: usize) -> &[u8]
+    ensures { result.now ≡ drop at bytes.now }
+{
+    if bytes.len() < at { &[] } else { &bytes[at..] }
+}
+
+/// The bytes after the header of a sealed file.
+fn body_of(sealed: &[u8]) -> &[u8]
+    ensures { result.now ≡ body_of sealed.now }
+{
+    rest_from(sealed, HEADER_LEN)
+}
+
 /// The number of the last chunk of a sealed file.
 fn last_chunk_of(sealed: &[u8]) -> usize
     ensures { result ≡ last_chunk sealed.now }
 {
-    last_piece_of(
-        sealed.len().saturating_sub(header_len(sealed)),
-        SEALED_CHUNK_LEN,
-    )
+    last_piece_of(body_of(sealed).len(), SEALED_CHUNK_LEN)
 }
 
 /// The chunk with this number of a sealed file.
 fn chunk_of(sealed: &[u8], number: u32) -> &[u8]
-    requires header { header_len sealed.now ≤ length sealed.now }
-    requires in_range { number ≤ last_chunk sealed.now }
+    requires { number ≤ last_chunk sealed.now }
     ensures { result.now ≡ chunk_of sealed.now number }
 {
-    piece_of(&sealed[header_len(sealed)..], SEALED_CHUNK_LEN, number)
+    piece_of(body_of(sealed), SEALED_CHUNK_LEN, number)
 }
 
 /// The length of the file that a sealed file opens to.
 fn opened_len(sealed: &[u8]) -> usize
-    ensures { (key : List ℕ) → result ≡ length (opened_file key sealed.now) }
+    ensures { (s : Secret) → result ≡ length (opened_file s sealed.now) }
 {
     let last = last_chunk_of(sealed);
-    let body = sealed.len().saturating_sub(header_len(sealed));
+    let body = body_of(sealed).len();
     last * CHUNK_LEN + (body - last * SEALED_CHUNK_LEN).saturating_sub(MAX_TAG_LEN)
 }
 
 /// `open_bytes`, except that on an error bytes may follow those that `out` held.
 fn append_file(key: &FileKey, sealed: &[u8], out: &mut Vec<u8>) -> Result<(), FileError>
     ensures front { take (vec_len out.old) out.new.items ≡ out.old.items }
-    ensures accepted { IsOk result → IsSealed key.now sealed.now }
+    ensures accepted { IsOk result → IsSealed (secret key.now []) sealed.now }
     ensures opened { OnOk result (out.new.items
-        ≡ out.old.items ++ opened_file key.now sealed.now) }
-    ensures refused { let grown = vec_len out.old + length (opened_file key.now sealed.now) in
+        ≡ out.old.items ++ opened_file (secret key.now []) sealed.now) }
+    ensures refused { let grown = vec_len out.old + length (opened_file (secret key.now []) sealed.now) in
         IfErr result (λ error.
-        FailsInMemory (vec_capacity out.old < grown) (OpenRefuses key.now sealed.now) error) }
+        FailsInMemory (vec_capacity out.old < grown) (OpenRefuses (secret key.now []) sealed.now) error) }
 {
-    let cipher = cipher_of(key, sealed)?;
+    let cipher = cipher_of(key, &[], sealed)?;
     let last = last_chunk_of(sealed);
     out.reserve(opened_len(sealed))?;
     for number in 0..MAX_CHUNKS {
@@ -233,19 +243,19 @@ fn append_file(key: &FileKey, sealed: &[u8], out: &mut Vec<u8>) -> Result<(), Fi
     Err(FileError::TooLong)
 }
 
-/// Opens a sealed file of version 1 or 2, and appends the file to `out`.
+/// Opens a sealed file, and appends the file to `out`.
 ///
 /// Fails with the errors of `open`, except `Io`, and with `OutOfMemory` only if `out` has no room for the file and cannot grow.
 /// `out` then holds the bytes that it held before.
 pub fn open_bytes(key: &FileKey, sealed: &[u8], out: &mut Vec<u8>) -> Result<(), FileError>
-    ensures authentic { IsOk result → IsSealed key.now sealed.now }
+    ensures authentic { IsOk result → IsSealed (secret key.now []) sealed.now }
     ensures opened { OnOk result (out.new.items
-        ≡ out.old.items ++ opened_file key.now sealed.now) }
-    ensures accepted { let grown = vec_len out.old + length (opened_file key.now sealed.now) in
-        grown ≤ vec_capacity out.old → (IsOk result ↔ IsSealed key.now sealed.now) }
-    ensures refused { let grown = vec_len out.old + length (opened_file key.now sealed.now) in
+        ≡ out.old.items ++ opened_file (secret key.now []) sealed.now) }
+    ensures accepted { let grown = vec_len out.old + length (opened_file (secret key.now []) sealed.now) in
+        grown ≤ vec_capacity out.old → (IsOk result ↔ IsSealed (secret key.now []) sealed.now) }
+    ensures refused { let grown = vec_len out.old + length (opened_file (secret key.now []) sealed.now) in
         IfErr result (λ error.
-        FailsInMemory (vec_capacity out.old < grown) (OpenRefuses key.now sealed.now) error) }
+        FailsInMemory (vec_capacity out.old < grown) (OpenRefuses (secret key.now []) sealed.now) error) }
     ensures kept { OnErr result (out.new.items ≡ out.old.items) }
 {
     let len = out.len();

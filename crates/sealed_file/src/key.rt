@@ -1,10 +1,10 @@
 //! The key that files are sealed under.
 
-ghost use Rattle.std.specs.Prelude.{◌≡◌, ◌↔◌, length, IsOk, IfOk, IfErr};
+ghost use Rattle.std.specs.Prelude.{[], ◌≡◌, ◌↔◌, length, IsOk, IsTrue, IfOk, IfErr};
 
 use crate::derivation::derived_pair;
 use crate::error::FileError;
-use crate::header::Context;
+use crate::header::{Context, cipher_of};
 use aead_ciphers_base::aes::AES_256_KEY_LEN;
 use std::marker::Model;
 
@@ -24,6 +24,8 @@ impl Model for FileKey {
 
 impl FileKey {
     ghost use Rattle.sealed_file.specs.Derivation.{commitment, derived_key};
+    ghost use Rattle.sealed_file.specs.Format.{secret};
+    ghost use Rattle.sealed_file.specs.Opening.{HasHeader, header_of};
 
     /// Creates a key from 32 bytes.
     ///
@@ -39,12 +41,20 @@ impl FileKey {
         }
     }
 
-    /// Returns the AES-256-GCM key of the files of version 2 whose random bytes begin with this context. It is the key that
+    /// Returns the AES-256-GCM key of the files whose random bytes begin with this context. It is the key that
     /// XAES-256-GCM derives for a nonce that begins with the context.
     pub fn derived_key(&self, context: &Context) -> [u8; AES_256_KEY_LEN]
         ensures { result ≡ derived_key self.now context.now }
     {
         derived_pair(&self.bytes, context, 1)
+    }
+
+    /// Returns whether the file that begins with these bytes has the header that is defined for this key: its commitment is that of
+    /// the key. The chunks are not opened.
+    pub fn is_of(&self, header: &[u8]) -> bool
+        ensures { IsTrue result ↔ HasHeader (secret self.now []) (header_of header.now) }
+    {
+        cipher_of(self, &[], header).is_ok()
     }
 
     /// Returns the commitment to this key, in the headers of the same files.

@@ -2,6 +2,7 @@
 //! nonce is the file's prefix, the chunk's number and whether it is the last (STREAM). `docs/SEALED_FILE.md` has the format.
 #![tactic(auto)]
 
+mod aad;
 mod chunk;
 mod derivation;
 mod error;
@@ -10,15 +11,22 @@ mod in_memory;
 mod key;
 pub mod laws;
 mod opening;
+mod random;
 mod random_access;
+mod reader;
 mod sealing;
 mod stream;
 
+pub use self::aad::MAX_AAD_LEN;
 pub use self::chunk::{CHUNK_LEN, MAX_CHUNKS, SEALED_CHUNK_LEN};
 pub use self::error::FileError;
-pub use self::header::{CONTEXT_LEN, Context, HEADER_LEN, MAGIC, PREFIX_LEN, RANDOM_LEN, VERSION};
+pub use self::header::{
+    CONTEXT_LEN, Context, HEADER_LEN, MAGIC, PREFIX_LEN, RANDOM_LEN, VERSION, check_header,
+};
 pub use self::in_memory::{open_bytes, seal_bytes};
 pub use self::key::FileKey;
-pub use self::opening::open;
+pub use self::opening::{open, open_with_aad};
+pub use self::random::FileRandom;
 pub use self::random_access::{open_chunk_at, plaintext_len};
-pub use self::sealing::seal;
+pub use self::reader::SealedReader;
+pub use self::sealing::{seal, seal_with_aad};

@@ -1,7 +1,8 @@
 //! Opening a sealed file.
 
-ghost use Rattle.std.specs.Prelude.{ℕ, IfErr, IfSome, OnOk, OnErr};
+ghost use Rattle.std.specs.Prelude.{ℕ, [], ◌≤◌, length, IfErr, IfSome, OnOk, OnErr};
 ghost use Rattle.std.specs.Io.KnownBytes.{Appends};
+ghost use Rattle.sealed_file.specs.Format.{secret};
 ghost use Rattle.sealed_file.specs.Opening.{AreRight, IsSealed, opened_chunks, opened_file};
 ghost use Rattle.sealed_file.specs.Refusals.{OpenRefuses};
 ghost use Rattle.sealed_file.specs.Streams.{AppendsBeginning};
@@ -15,20 +16,20 @@ use std::alloc::Global;
 use std::io::{Read, Write};
 use std::mem;
 
-/// Opens the sealed file of version 1 or 2 in `input`, and writes the file to `output`.
+/// Opens the sealed file in `input`, and writes the file to `output`.
 ///
 /// It keeps two chunks in memory, and writes the message of a chunk only after its tag is verified. What was written before an
 /// error is authentic, but may be only the beginning of the file.
 ///
 /// Fails with `Io` if reading, writing or allocating memory fails. Every other error says what is wrong with the file:
-/// `AnotherMagic` and `AnotherVersion`; `WrongKey`, if the header of version 2 commits to another key or was changed, before
-/// any chunk is read; `EndsEarly`, if the file ends within the header or a tag, or after a chunk that is not the last;
+/// `AnotherMagic` and `AnotherVersion`; `WrongKey`, if the header commits to another key or was changed, before any chunk is
+/// read; `EndsEarly`, if the file ends within the header or a tag, or after a chunk that is not the last;
 /// `TrailingBytes`, if there are bytes after a last chunk of `CHUNK_LEN` bytes; `Refused`, if any other chunk has a wrong tag;
 /// and `TooLong`, if there are more than `MAX_CHUNKS` chunks.
 ///
 /// # Examples
 ///
-/// Opens the sealed file in the slice `sealed`. From `crates/aead_ciphers_tests/src/sealed_files.rt`:
+/// Opens the sealed file in the slice `sealed`. From `crates/sealed_file_tests/src/sealed_files.rt`:
 ///
 /// ```
 /// let mut opened = Vec::new(alloc);
@@ -44,17 +45,38 @@ pub fn open<R: Read, W: Write>(
     input: &mut R,
     output: &mut W,
 ) -> Result<(), FileError>
-    ensures accepted { OnOk result (IfSome (R.remaining input.old) (λ file. IsSealed key.now file)) }
+    ensures accepted { OnOk result (IfSome (R.remaining input.old) (λ file. IsSealed (secret key.now []) file)) }
     ensures opened { OnOk result (IfSome (R.remaining input.old) (λ file.
-        Appends (W.contents output.old) (W.contents output.new) (opened_file key.now file))) }
+        Appends (W.contents output.old) (W.contents output.new) (opened_file (secret key.now []) file))) }
     ensures refused { IfErr result (λ error. IfSome (R.remaining input.old) (λ file.
-        OpenRefuses key.now file error)) }
-    ensures nothing_past { OnErr result (IfSome (R.remaining input.old) (λ file. (n : ℕ) × AreRight key.now file n
-        × AppendsBeginning (W.contents output.old) (W.contents output.new) (opened_chunks key.now file n))) }
+        OpenRefuses (secret key.now []) file error)) }
+    ensures nothing_past { OnErr result (IfSome (R.remaining input.old) (λ file. (n : ℕ) × AreRight (secret key.now []) file n
+        × AppendsBeginning (W.contents output.old) (W.contents output.new) (opened_chunks (secret key.now []) file n))) }
+{
+    open_with_aad(alloc, key, &[], input, output)
+}
+
+/// `open` of a file that is bound to `aad`, at most `MAX_AAD_LEN` bytes. With other bytes than it was sealed with, the first chunk
+/// is refused.
+pub fn open_with_aad<R: Read, W: Write>(
+    alloc: Global,
+    key: &FileKey,
+    aad: &[u8],
+    input: &mut R,
+    output: &mut W,
+) -> Result<(), FileError>
+    requires { length aad.now ≤ 4096 }
+    ensures accepted { OnOk result (IfSome (R.remaining input.old) (λ file. IsSealed (secret key.now aad.now) file)) }
+    ensures opened { OnOk result (IfSome (R.remaining input.old) (λ file.
+        Appends (W.contents output.old) (W.contents output.new) (opened_file (secret key.now aad.now) file))) }
+    ensures refused { IfErr result (λ error. IfSome (R.remaining input.old) (λ file.
+        OpenRefuses (secret key.now aad.now) file error)) }
+    ensures nothing_past { OnErr result (IfSome (R.remaining input.old) (λ file. (n : ℕ) × AreRight (secret key.now aad.now) file n
+        × AppendsBeginning (W.contents output.old) (W.contents output.new) (opened_chunks (secret key.now aad.now) file n))) }
 {
     let (mut chunk, mut next) = buffers(alloc)?;
-    read_header(input, &mut chunk, &mut next)?;
-    let cipher = cipher_of(key, &chunk)?;
+    read_header(input, &mut chunk)?;
+    let cipher = cipher_of(key, aad, &chunk)?;
     read_piece(input, SEALED_CHUNK_LEN, &mut chunk)?;
     for number in 0..MAX_CHUNKS {
         read_piece(input, SEALED_CHUNK_LEN, &mut next)?;

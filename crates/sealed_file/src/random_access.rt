@@ -1,46 +1,49 @@
 //! Opening one chunk of a sealed file without the others.
 
 ghost use Rattle.std.specs.Prelude.{ℕ, List, ◌≡◌, ◌+◌, ◌-◌, ◌^◌, ◌<◌, ◌≤◌, ◌↔◌, ◌++◌, length, vec_capacity, vec_len, take, IsOk, IsSome, IfErr, IfSome, OnOk, OnErr};
-ghost use Rattle.sealed_file.specs.Format.{sealed_chunk_len};
+ghost use Rattle.sealed_file.specs.Format.{Secret, sealed_chunk_len, secret};
 ghost use Rattle.sealed_file.specs.Opening.{HasHeader, HasTag, IsSealed, IsSealedLen, header_of, key_of, opened_chunk, opened_file};
-ghost use Rattle.sealed_file.specs.Refusals.{ChunkAtRefuses, FailsInMemory, IsVersion2};
+ghost use Rattle.sealed_file.specs.Refusals.{ChunkAtRefuses, FailsInMemory};
 
-use crate::chunk::{CHUNK_LEN, MAX_CHUNKS, SEALED_CHUNK_LEN};
+use crate::chunk::CHUNK_LEN;
 use crate::error::FileError;
-use crate::header::{HEADER_LEN, cipher_of};
+use crate::header::cipher_of;
 use crate::in_memory::append_opened;
 use crate::key::FileKey;
+use crate::reader::last_of;
 use aead_ciphers::aead::MAX_TAG_LEN;
 
 /// `open_chunk_at`, except that on an error bytes may follow those that `out` held.
 fn append_chunk_at(
     key: &FileKey,
+    aad: &[u8],
     header: &[u8],
     number: u32,
     is_last: bool,
     sealed: &[u8],
     out: &mut Vec<u8>,
 ) -> Result<(), FileError>
-    requires { length sealed.now ≤ sealed_chunk_len }
+    requires aad { length aad.now ≤ 4096 }
+    requires chunk { length sealed.now ≤ sealed_chunk_len }
     ensures front { take (vec_len out.old) out.new.items ≡ out.old.items }
-    ensures header { IsOk result → HasHeader key.now (header_of header.now) }
-    ensures tag { IsOk result → HasTag (key_of key.now header.now) number is_last sealed.now }
+    ensures header { IsOk result → HasHeader (secret key.now aad.now) (header_of header.now) }
+    ensures tag { IsOk result → HasTag (key_of (secret key.now aad.now) header.now) number is_last sealed.now }
     ensures opened { OnOk result (out.new.items
-        ≡ out.old.items ++ opened_chunk (key_of key.now header.now) number is_last sealed.now) }
+        ≡ out.old.items ++ opened_chunk (key_of (secret key.now aad.now) header.now) number is_last sealed.now) }
     ensures refused { let grown = vec_len out.old + (length sealed.now - 16) in
         IfErr result (λ error. FailsInMemory (vec_capacity out.old < grown)
-        (ChunkAtRefuses key.now header.now number is_last sealed.now) error) }
+        (ChunkAtRefuses (secret key.now aad.now) header.now number is_last sealed.now) error) }
 {
-    let cipher = cipher_of(key, header)?;
+    let cipher = cipher_of(key, aad, header)?;
     out.reserve(sealed.len().saturating_sub(MAX_TAG_LEN))?;
     append_opened(&cipher, number, is_last, sealed, out)
 }
 
 /// Opens one chunk of a sealed file, and appends its message to `out`.
 ///
-/// `header` is at least the file's first `HEADER_LEN` bytes, or 16 bytes for version 1. `number` counts the chunks from 0, and
-/// `is_last` says that the chunk ends the file. Chunk `n` of a file of version 2 begins at byte `HEADER_LEN + n *
-/// SEALED_CHUNK_LEN`, and has `SEALED_CHUNK_LEN` bytes unless it is the last.
+/// `aad` is what the file is bound to, at most `MAX_AAD_LEN` bytes. `header` is at least the file's first `HEADER_LEN` bytes. `number` counts the chunks from 0, and `is_last` says that the chunk
+/// ends the file. Chunk `n` begins at byte `HEADER_LEN + n * SEALED_CHUNK_LEN`, and has `SEALED_CHUNK_LEN` bytes unless it is the
+/// last.
 ///
 /// The other chunks are not checked: the file may lack them, or have others in their place. Only opening the last chunk with
 /// `is_last` shows that the file ends where it ended when it was sealed.
@@ -50,7 +53,7 @@ fn append_chunk_at(
 ///
 /// # Examples
 ///
-/// Opens the chunks of a sealed file one by one. From `crates/aead_ciphers_tests/src/sealed_files.rt`:
+/// Opens the chunks of a sealed file one by one. From `crates/sealed_file_tests/src/sealed_files.rt`:
 ///
 /// ```
 /// let body = sealed.get(HEADER_LEN..).ok_or("a body")?;
@@ -60,53 +63,52 @@ fn append_chunk_at(
 /// for chunk in body.chunks(SEALED_CHUNK_LEN) {
 ///     let is_last = number as usize == last;
 ///     assert!(rt; chunk.len() <= SEALED_CHUNK_LEN);
-///     open_chunk_at(&key, &sealed, number, is_last, chunk, &mut opened)?;
+///     open_chunk_at(&key, &[], &sealed, number, is_last, chunk, &mut opened)?;
 ///     number = number.wrapping_add(1);
 /// }
 /// ```
 pub fn open_chunk_at(
     key: &FileKey,
+    aad: &[u8],
     header: &[u8],
     number: u32,
     is_last: bool,
     sealed: &[u8],
     out: &mut Vec<u8>,
 ) -> Result<(), FileError>
-    requires { length sealed.now ≤ sealed_chunk_len }
-    ensures header { IsOk result → HasHeader key.now (header_of header.now) }
-    ensures tag { IsOk result → HasTag (key_of key.now header.now) number is_last sealed.now }
+    requires aad { length aad.now ≤ 4096 }
+    requires chunk { length sealed.now ≤ sealed_chunk_len }
+    ensures header { IsOk result → HasHeader (secret key.now aad.now) (header_of header.now) }
+    ensures tag { IsOk result → HasTag (key_of (secret key.now aad.now) header.now) number is_last sealed.now }
     ensures opened { OnOk result (out.new.items
-        ≡ out.old.items ++ opened_chunk (key_of key.now header.now) number is_last sealed.now) }
+        ≡ out.old.items ++ opened_chunk (key_of (secret key.now aad.now) header.now) number is_last sealed.now) }
     ensures accepted { let grown = vec_len out.old + (length sealed.now - 16) in
-        grown ≤ vec_capacity out.old → (IsOk result ↔ (HasHeader key.now (header_of header.now)
-        × HasTag (key_of key.now header.now) number is_last sealed.now)) }
+        grown ≤ vec_capacity out.old → (IsOk result ↔ (HasHeader (secret key.now aad.now) (header_of header.now)
+        × HasTag (key_of (secret key.now aad.now) header.now) number is_last sealed.now)) }
     ensures refused { let grown = vec_len out.old + (length sealed.now - 16) in
         IfErr result (λ error. FailsInMemory (vec_capacity out.old < grown)
-        (ChunkAtRefuses key.now header.now number is_last sealed.now) error) }
+        (ChunkAtRefuses (secret key.now aad.now) header.now number is_last sealed.now) error) }
     ensures kept { OnErr result (out.new.items ≡ out.old.items) }
 {
     let len = out.len();
-    let opened = append_chunk_at(key, header, number, is_last, sealed, out);
+    let opened = append_chunk_at(key, aad, header, number, is_last, sealed, out);
     if opened.is_err() {
         out.truncate(len);
     }
     opened
 }
 
-/// Returns the length of a file from the length of its sealed file of version 2.
+/// Returns the length of a file from the length of its sealed file.
 ///
 /// Returns `None` if no sealed file has this length: it would end within the header or a tag, or have more than `MAX_CHUNKS`
 /// chunks.
 pub fn plaintext_len(sealed_len: u64) -> Option<u64>
     ensures known { IsSome result ↔ IsSealedLen sealed_len }
-    ensures opened { (key file : List ℕ) → length file ≡ sealed_len → IsVersion2 file
-        → IsSealed key file → result ≡ Some (length (opened_file key file)) }
+    ensures opened { (s : Secret) (file : List ℕ) → length file ≡ sealed_len
+        → IsSealed s file → result ≡ Some (length (opened_file s file)) }
 {
-    let body = sealed_len.checked_sub(HEADER_LEN as u64)?;
-    let last = body.saturating_sub(1) / SEALED_CHUNK_LEN as u64;
-    let in_last = body - last * SEALED_CHUNK_LEN as u64;
-    if last >= u64::from(MAX_CHUNKS) || in_last < MAX_TAG_LEN as u64 {
-        return None;
+    match last_of(sealed_len) {
+        Ok((last, last_len)) => Some(u64::from(last) * CHUNK_LEN as u64 + last_len as u64),
+        Err(_) => None,
     }
-    Some(last * CHUNK_LEN as u64 + (in_last - MAX_TAG_LEN as u64))
 }

@@ -1,30 +1,31 @@
 //! Sealing a file.
 
-ghost use Rattle.std.specs.Prelude.{◌-◌, ◌^◌, ◌<◌, length, IfErr, IfSome, OnOk, OnErr};
+ghost use Rattle.std.specs.Prelude.{[], ◌-◌, ◌^◌, ◌<◌, ◌≤◌, length, IfErr, IfSome, OnOk, OnErr};
 ghost use Rattle.std.specs.Io.KnownBytes.{Appends};
-ghost use Rattle.sealed_file.specs.Format.{chunk_len, last_piece, sealed_file, version_2};
+ghost use Rattle.sealed_file.specs.Format.{chunk_len, last_piece, sealed_file, secret, version_2};
 ghost use Rattle.sealed_file.specs.Refusals.{SealRefuses};
 ghost use Rattle.sealed_file.specs.Streams.{AppendsBeginning};
 
 use crate::chunk::{CHUNK_LEN, MAX_CHUNKS, seal_chunk};
 use crate::error::FileError;
-use crate::header::{ChunkCipher, RANDOM_LEN};
+use crate::header::ChunkCipher;
 use crate::key::FileKey;
+use crate::random::FileRandom;
 use crate::stream::{buffers, read_piece, write_bytes};
 use std::alloc::Global;
 use std::io::{Read, Write};
 use std::mem;
 
-/// Seals the bytes of `input` as version 2, and writes the sealed file to `output`.
+/// Seals the bytes of `input`, and writes the sealed file to `output`.
 ///
-/// Each file under a key needs its own 19 random bytes. It keeps two chunks in memory.
+/// It keeps two chunks in memory.
 ///
 /// Fails with `TooLong` if the file has more than `MAX_CHUNKS` chunks, and with `Io` if reading, writing or allocating memory
 /// fails. What was written by then is the beginning of the sealed file.
 ///
 /// # Examples
 ///
-/// From `crates/aead_ciphers_tests/src/sealed_files.rt`:
+/// From `crates/sealed_file_tests/src/sealed_files.rt`:
 ///
 /// ```
 /// fn sealed_of(alloc: Global, len: usize) -> Result<Vec<u8>, Fail> {
@@ -33,7 +34,7 @@ use std::mem;
 ///     seal(
 ///         alloc,
 ///         &FileKey::new(&KEY)?,
-///         RANDOM,
+///         FileRandom::from_bytes_for_tests(RANDOM),
 ///         &mut file.as_slice(),
 ///         &mut sealed,
 ///     )?;
@@ -43,7 +44,7 @@ use std::mem;
 pub fn seal<R: Read, W: Write>(
     alloc: Global,
     key: &FileKey,
-    random: [u8; RANDOM_LEN],
+    random: FileRandom,
     input: &mut R,
     output: &mut W,
 ) -> Result<(), FileError>
@@ -51,15 +52,40 @@ pub fn seal<R: Read, W: Write>(
         last_piece chunk_len (length file) < 2 ^ 32 - 1)) }
     ensures sealed { OnOk result (IfSome (R.remaining input.old) (λ file.
         Appends (W.contents output.old) (W.contents output.new)
-        (sealed_file (version_2 key.now random) file))) }
+        (sealed_file (version_2 (secret key.now []) random) file))) }
     ensures refused { IfErr result (λ error. IfSome (R.remaining input.old) (λ file.
         SealRefuses file error)) }
     ensures beginning { OnErr result (IfSome (R.remaining input.old) (λ file.
         AppendsBeginning (W.contents output.old) (W.contents output.new)
-        (sealed_file (version_2 key.now random) file))) }
+        (sealed_file (version_2 (secret key.now []) random) file))) }
+{
+    seal_with_aad(alloc, key, random, &[], input, output)
+}
+
+/// `seal`, except that the file is bound to `aad`, at most `MAX_AAD_LEN` bytes: it opens only with the same bytes, which are not in
+/// it. With none it is the same sealed file.
+pub fn seal_with_aad<R: Read, W: Write>(
+    alloc: Global,
+    key: &FileKey,
+    random: FileRandom,
+    aad: &[u8],
+    input: &mut R,
+    output: &mut W,
+) -> Result<(), FileError>
+    requires { length aad.now ≤ 4096 }
+    ensures few { OnOk result (IfSome (R.remaining input.old) (λ file.
+        last_piece chunk_len (length file) < 2 ^ 32 - 1)) }
+    ensures sealed { OnOk result (IfSome (R.remaining input.old) (λ file.
+        Appends (W.contents output.old) (W.contents output.new)
+        (sealed_file (version_2 (secret key.now aad.now) random) file))) }
+    ensures refused { IfErr result (λ error. IfSome (R.remaining input.old) (λ file.
+        SealRefuses file error)) }
+    ensures beginning { OnErr result (IfSome (R.remaining input.old) (λ file.
+        AppendsBeginning (W.contents output.old) (W.contents output.new)
+        (sealed_file (version_2 (secret key.now aad.now) random) file))) }
 {
     let (mut chunk, mut next) = buffers(alloc)?;
-    let cipher = ChunkCipher::new(key, &random);
+    let cipher = ChunkCipher::new(key, aad, &random);
     write_bytes(output, cipher.header())?;
     read_piece(input, CHUNK_LEN, &mut chunk)?;
     for number in 0..MAX_CHUNKS {

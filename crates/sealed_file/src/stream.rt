@@ -8,7 +8,7 @@ ghost use Rattle.sealed_file.specs.Opening.{header_len};
 ghost use Rattle.sealed_file.specs.Streams.{AppendsBeginning, TakesFront};
 
 use crate::chunk::SEALED_CHUNK_LEN;
-use crate::header::{HEADER_1_LEN, header_len};
+use crate::header::HEADER_LEN;
 use std::alloc::Global;
 use std::io::{self, ErrorKind, Read, Write};
 
@@ -74,19 +74,12 @@ pub(crate) fn read_piece<R: Read>(input: &mut R, len: usize, piece: &mut Vec<u8>
     Ok(())
 }
 
-/// Reads the header of a sealed file into `header`, or the part of it that the file has. `rest` is a buffer.
-pub(crate) fn read_header<R: Read>(
-    input: &mut R,
-    header: &mut Vec<u8>,
-    rest: &mut Vec<u8>,
-) -> io::Result<()>
+/// Reads the header of a sealed file, or the part of it that the file has.
+pub(crate) fn read_header<R: Read>(input: &mut R, header: &mut Vec<u8>) -> io::Result<()>
     ensures { OnOk result (IfSome (R.remaining input.old) (λ file.
-        TakesFront (header_len file) file header.new.items (R.remaining input.new))) }
+        TakesFront header_len file header.new.items (R.remaining input.new))) }
 {
-    read_piece(input, HEADER_1_LEN, header)?;
-    read_piece(input, header_len(header) - HEADER_1_LEN, rest)?;
-    header.extend_from_slice(rest)?;
-    Ok(())
+    read_piece(input, HEADER_LEN, header)
 }
 
 /// Writes all of the bytes, or the beginning of them if that fails.

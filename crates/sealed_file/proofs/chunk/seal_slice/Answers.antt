@@ -9,5 +9,5 @@ returns c =
     let prefix_is = ap (λ (k : ChunkKey). k.prefix) c.cipher.view_is in
     let nonce_is = c.nonce_of-nonce.ensures in
     let ciphertext = rw (nonce_is, key_is, prefix_is) at c.in-Ok.ensures.ciphertext in
-    let tag = rw (nonce_is, key_is, prefix_is, c.from-aad.ensures, c.header.ensures.bytes, ciphertext) at c.in-Ok.ensures.tag in
+    let tag = rw (nonce_is, key_is, prefix_is, c.from-aad.ensures, c.aad.ensures.bytes, ciphertext) at c.in-Ok.ensures.tag in
     ap₂ (λ xs ys. xs ++ ys) ciphertext tag

@@ -1,8 +1,8 @@
-use Rattle.std.proofs.Common.{◌≡◌, true, false, Some, length, arith, ap, refl, ◌==◌, eq-eqb, ne_eqb, length-append}
+use Rattle.std.proofs.Common.{◌≡◌, true, false, Some, length, arith, ap, refl, ◌==◌, eq-eqb, ne_eqb, length-append, []}
 use Rattle.std.proofs.lemmas.Result.{err_from_is_err_and}
 use Rattle.sealed_file.specs.Opening.{opened_chunks}
+use Rattle.sealed_file.specs.Format.{secret}
 use Rattle.sealed_file.proofs
-use proofs.HeaderLemmas.{header_fits}
 use proofs.InMemoryLemmas.{chunk_fails, front_through, open_fits}
 use proofs.OpenLemmas.{chunk_refused, open_accepted, open_end, open_next, open_start}
 use proofs.PieceLemmas.{length-piece-le}
@@ -11,18 +11,15 @@ use proofs.in_memory.append_file.Goals as goal
 pub returns-in_err-reserve-clause-refused : goal.returns-in_err-reserve-clause-refused
 returns-in_err-reserve-clause-refused c =
     let p = err_from_is_err_and c.from_residual-in_err-reserve.result c.from_residual-in_err-reserve.ensures.1 in
-    rw (p.1, p.2) (omega (arith, c.in_err-reserve.ensures.full, c.opened_len.ensures c.args.key.now))
+    rw (p.1, p.2) (omega (arith, c.in_err-reserve.ensures.full, c.opened_len.ensures (secret c.args.key.now [])))
 
 pub loop-number-init : goal.loop-number-init
 loop-number-init c = record {
-  at = open_start c.args.key.now _ c.args.sealed.now (Some c.args.out.now.items) (Some c.reserve.new.self.items)
+  at = open_start (secret c.args.key.now []) _ c.args.sealed.now (Some c.args.out.now.items) (Some c.reserve.new.self.items)
       c.in_ok-reserve.ensures.items (c.in_ok-cipher.ensures.accepted.0 refl) c.in_ok-cipher.ensures.cipher;
   room =
-      omega (arith, c.opened_len.ensures c.args.key.now, c.in_ok-reserve.ensures.ok, c.in_ok-reserve.ensures.len);
+      omega (arith, c.opened_len.ensures (secret c.args.key.now []), c.in_ok-reserve.ensures.ok, c.in_ok-reserve.ensures.len);
 }
-
-pub chunk_of-chunk-requires-clause-header : goal.chunk_of-chunk-requires-clause-header
-chunk_of-chunk-requires-clause-header c = header_fits c.args.key.now c.args.sealed.now c.loop-number.invariant.at.front
 
 pub append_opened-requires-clause-chunk : goal.append_opened-requires-clause-chunk
 append_opened-requires-clause-chunk c = rw c.chunk_of-chunk.ensures (length-piece-le _ _ c.loop-number.number)
@@ -30,10 +27,10 @@ append_opened-requires-clause-chunk c = rw c.chunk_of-chunk.ensures (length-piec
 pub append_opened-requires-clause-room : goal.append_opened-requires-clause-room
 append_opened-requires-clause-room c =
     let s = c.loop-number.invariant.at in
-    let more = length-append c.args.out.now.items (opened_chunks c.args.key.now c.args.sealed.now c.loop-number.number) in
+    let more = length-append c.args.out.now.items (opened_chunks (secret c.args.key.now []) c.args.sealed.now c.loop-number.number) in
     omega (
       arith,
-      open_fits c.args.key.now c.args.sealed.now c.loop-number.number s.in_range,
+      open_fits (secret c.args.key.now []) c.args.sealed.now c.loop-number.number s.in_range,
       ap length s.written,
       more,
       ap length c.chunk_of-chunk.ensures,

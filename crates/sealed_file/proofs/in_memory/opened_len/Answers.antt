@@ -1,14 +1,13 @@
-use Rattle.std.proofs.Common.{arith, length-drop}
-use Rattle.sealed_file.specs.Opening.{header_len}
+use Rattle.std.proofs.Common.{length, arith, ap}
 use Rattle.sealed_file.proofs
 use proofs.InMemoryLemmas.{length-opened_file}
 use proofs.in_memory.opened_len.Goals as goal
 
 pub returns : goal.returns
-returns c = λ key.
+returns c = λ s.
     omega (
       arith,
-      length-opened_file key c.args.sealed.now,
-      length-drop (header_len c.args.sealed.now) c.args.sealed.now,
+      length-opened_file s c.args.sealed.now,
+      ap length c.body_of-body.ensures,
       c.last_chunk_of-last.ensures,
     )

@@ -1,51 +1,44 @@
-use Rattle.std.proofs.Common.{◌≡◌, rules, Some, ◌++◌, length, arith, ap, ◌∙◌, ◌==◌, length-append}
+use Rattle.std.proofs.Common.{◌≡◌, Some, sym, ◌++◌, length, arith, ap, ◌∙◌, ◌==◌, length-append, []}
 use Rattle.std.proofs.lemmas.Result.{err_from_is_err_and}
-use Rattle.sealed_file.specs.Format.{version_2}
+use Rattle.sealed_file.specs.Format.{ChunkKey, secret, version_2}
 use Rattle.sealed_file.proofs
 use proofs.FileLemmas.{length-sealed_file}
-use proofs.HeaderLemmas.{length-header_2}
 use proofs.PieceLemmas.{length-piece-le}
 use proofs.SealLemmas.{header_written, seal_fits, seal_more, sealed_before, sealed_is}
 use proofs.in_memory.seal_bytes.Goals as goal
 
 pub returns-in_err-reserve-clause-accepted : goal.returns-in_err-reserve-clause-accepted
 returns-in_err-reserve-clause-accepted c = λ room.
-    let nineteen : length c.args.random ≡ 19 = search rules in
     absurd (omega (
       arith,
       room,
       c.in_err-reserve.ensures.full,
       c.last_piece_of-last.ensures,
-      length-sealed_file (version_2 c.args.key.now c.args.random) c.args.file.now,
-      length-header_2 c.args.key.now c.args.random,
-      nineteen,
+      length-sealed_file (version_2 (secret c.args.key.now []) c.args.random) c.args.file.now,
+      sym (ap (λ (k : ChunkKey). length k.header) c.new-cipher.ensures.made) ∙ c.new-cipher.ensures.size,
     ))
 
 pub returns-in_err-reserve-clause-refused : goal.returns-in_err-reserve-clause-refused
 returns-in_err-reserve-clause-refused c =
-    let nineteen : length c.args.random ≡ 19 = search rules in
     let p = err_from_is_err_and c.from_residual.result c.from_residual.ensures.1 in
     rw (p.1, p.2) (omega (
       arith,
       c.in_err-reserve.ensures.full,
       c.last_piece_of-last.ensures,
-      length-sealed_file (version_2 c.args.key.now c.args.random) c.args.file.now,
-      length-header_2 c.args.key.now c.args.random,
-      nineteen,
+      length-sealed_file (version_2 (secret c.args.key.now []) c.args.random) c.args.file.now,
+      sym (ap (λ (k : ChunkKey). length k.header) c.new-cipher.ensures.made) ∙ c.new-cipher.ensures.size,
     ))
 
 pub loop-number-init : goal.loop-number-init
 loop-number-init c = record {
   appended = header_written _ c.args.file.now _ (Some c.args.out.now.items)
-      (Some c.append.new.out.items) (c.header.ensures.bytes ∙ ap (λ k. k.header) c.new-cipher.ensures)
+      (Some c.append.new.out.items) (c.header.ensures.bytes ∙ ap (λ k. k.header) c.new-cipher.ensures.made)
       (c.append.ensures.appended ∙ ap (λ l. l ++ c.header.result.now) c.in_ok-reserve.ensures.items);
   room =
-      let nineteen : length c.args.random ≡ 19 = search rules in
       omega (
         arith,
-        length-sealed_file (version_2 c.args.key.now c.args.random) c.args.file.now,
-        length-header_2 c.args.key.now c.args.random,
-        nineteen,
+        length-sealed_file (version_2 (secret c.args.key.now []) c.args.random) c.args.file.now,
+        sym (ap (λ (k : ChunkKey). length k.header) c.new-cipher.ensures.made) ∙ c.new-cipher.ensures.size,
         c.last_piece_of-last.ensures,
         c.in_ok-reserve.ensures.ok,
         c.in_ok-reserve.ensures.len,
@@ -58,9 +51,9 @@ append_sealed-requires-clause-chunk c = rw c.piece_of-chunk.ensures (length-piec
 
 pub append_sealed-requires-clause-room : goal.append_sealed-requires-clause-room
 append_sealed-requires-clause-room c =
-    let fits = seal_fits (version_2 c.args.key.now c.args.random) c.args.file.now c.loop-number.number
+    let fits = seal_fits (version_2 (secret c.args.key.now []) c.args.random) c.args.file.now c.loop-number.number
     (omega (arith, c.last_piece_of-last.ensures, c.loop-number-test.true)) in
-    let more = length-append c.args.out.now.items (sealed_before (version_2 c.args.key.now c.args.random) c.args.file.now c.loop-number.number) in
+    let more = length-append c.args.out.now.items (sealed_before (version_2 (secret c.args.key.now []) c.args.random) c.args.file.now c.loop-number.number) in
     omega (
       arith,
       fits,
@@ -74,9 +67,9 @@ append_sealed-requires-clause-room c =
 
 pub loop-number-preserved : goal.loop-number-preserved
 loop-number-preserved c = record {
-  appended = seal_more (version_2 c.args.key.now c.args.random) c.args.file.now c.loop-number.number
+  appended = seal_more (version_2 (secret c.args.key.now []) c.args.random) c.args.file.now c.loop-number.number
       (Some c.args.out.now.items) (Some c.loop-number.out.items) (Some c.append_sealed.new.out.items)
-      (rw (← c.new-cipher.ensures) (sealed_is _ _ _ (ap (λ k. c.loop-number.number == k) c.last_piece_of-last.ensures) c.piece_of-chunk.ensures))
+      (rw (← c.new-cipher.ensures.made) (sealed_is _ _ _ (ap (λ k. c.loop-number.number == k) c.last_piece_of-last.ensures) c.piece_of-chunk.ensures))
       c.loop-number.invariant.appended c.append_sealed.ensures.sealed;
   room = omega (arith, c.loop-number.invariant.room, c.append_sealed.ensures.capacity);
 }

@@ -1,13 +1,13 @@
-use Rattle.sealed_file.specs.Format.{version_2}
+use Rattle.sealed_file.specs.Format.{secret, version_2}
 use Rattle.sealed_file.proofs
 use proofs.FileLemmas.{opened_sealed_file, sealed_is_sealed}
 use proofs.HeaderLemmas.{header_of_2}
 use proofs.laws.opens_again.Goals as goal
 
 pub returns-clause-accepted : goal.returns-clause-accepted
-returns-clause-accepted c = sealed_is_sealed (version_2 c.args.key.now c.args.random.now) c.args.file.now c.args.key.now
-    (header_of_2 c.args.key.now c.args.random.now c.told-random) c.requires
+returns-clause-accepted c = sealed_is_sealed (version_2 (secret c.args.key.now c.args.aad.now) c.args.random.now) c.args.file.now (secret c.args.key.now c.args.aad.now)
+    (header_of_2 (secret c.args.key.now c.args.aad.now) c.args.random.now c.told-random) c.requires
 
 pub returns-clause-comes_back : goal.returns-clause-comes_back
-returns-clause-comes_back c = opened_sealed_file (version_2 c.args.key.now c.args.random.now) c.args.file.now c.args.key.now
-    (header_of_2 c.args.key.now c.args.random.now c.told-random)
+returns-clause-comes_back c = opened_sealed_file (version_2 (secret c.args.key.now c.args.aad.now) c.args.random.now) c.args.file.now (secret c.args.key.now c.args.aad.now)
+    (header_of_2 (secret c.args.key.now c.args.aad.now) c.args.random.now c.told-random)

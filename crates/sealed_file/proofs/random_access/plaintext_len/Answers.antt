@@ -1,26 +1,13 @@
-use Rattle.std.proofs.Common.{Some, inl, inr, ap, arith}
+use Rattle.std.proofs.Common.{◌≡◌, Some, true, false, ap, arith, subst}
+use Rattle.sealed_file.specs.Opening.{IsSealedLen}
 use Rattle.sealed_file.proofs
 use proofs.RandomAccessLemmas.{has_sealed_len, length-opened}
 use proofs.random_access.plaintext_len.Goals as goal
 
-pub returns-in_err-body-clause-opened : goal.returns-in_err-body-clause-opened
-returns-in_err-body-clause-opened c = λ key file len version accepted.
-    let known = has_sealed_len key file version accepted in absurd (c.in_err-body.ensures (omega (arith, known.header, len)))
+pub returns-in-Ok-clause-opened : goal.returns-in-Ok-clause-opened
+returns-in-Ok-clause-opened c = λ s file len accepted.
+    ap (λ n. Some n) (omega (arith, length-opened s file accepted, len, c.in-Ok.ensures.last, c.in-Ok.ensures.len))
 
-pub returns-then-last-from-clause-opened : goal.returns-then-last-from-clause-opened
-returns-then-last-from-clause-opened c = λ key file len version accepted.
-    let known = has_sealed_len key file version accepted in
-    absurd (elim c.then-last-from.either [
-      | inl many ↦ omega (arith, known.few, len, many, c.from.ensures, c.saturating_sub.ensures, c.in_ok-body.ensures)
-      | inr short ↦ omega (arith, known.tag, len, short, c.saturating_sub.ensures, c.in_ok-body.ensures)
-    ])
-
-pub returns-clause-opened : goal.returns-clause-opened
-returns-clause-opened c = λ key file len version accepted.
-    ap (λ n. Some n) (omega (
-      arith,
-      length-opened key file version accepted,
-      len,
-      c.saturating_sub.ensures,
-      c.in_ok-body.ensures,
-    ))
+pub returns-in-Err-clause-opened : goal.returns-in-Err-clause-opened
+returns-in-Err-clause-opened c = λ s file len accepted.
+    let never : false ≡ true = c.in-Err.ensures.accepted.1 (subst IsSealedLen len (has_sealed_len s file accepted)) in absurd (cc never)

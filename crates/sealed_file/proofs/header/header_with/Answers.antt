@@ -1,0 +1,21 @@
+use Rattle.std.proofs.Common.{ℕ, List, [], ◌∷◌, ◌++◌, arith, refl, ◌∙◌, replicate, append_assoc, length-append}
+use Rattle.std.specs.Prelude.{codes}
+use Rattle.sealed_file.specs.Format.{magic_and_version}
+use Rattle.sealed_file.proofs
+use proofs.ChunkLemmas.{put_end, put_next}
+use proofs.header.header_with.Goals as goal
+
+pub returns : goal.returns
+returns c =
+    let zeros : List ℕ = replicate 60 0 in
+    let random = c.args.random.now in
+    let commitment = c.args.commitment.now in
+    let front = magic_and_version 2 ++ random in
+    let one = put_next zeros [] (codes "SEALFILE") _ _ 0 refl refl c.put.ensures in
+    let two = put_next zeros (codes "SEALFILE") (2 ∷ []) _ _ 8 refl one c.put-2.ensures in
+    let three = put_next zeros (magic_and_version 2) random _ _ 9 refl two c.put-3.ensures in
+    let at = length-append (magic_and_version 2) random in
+    let four = put_next zeros front commitment _ _ 28 (omega (arith, at, c.told-random)) three c.put-4.ensures in
+    put_end zeros (front ++ commitment) _ four
+    (omega (arith, length-append front commitment, at, c.told-random, c.told-commitment))
+    ∙ append_assoc (magic_and_version 2) random commitment

@@ -1,0 +1,94 @@
+use Rattle.std.proofs.Common.{◌≡◌, vec_len, arith, refl, true, false, ◌∙◌}
+use Rattle.std.proofs.lemmas
+use lemmas.Option.{IfSome_then}
+use lemmas.Result.{err_from_is_err_and}
+use Rattle.sealed_file.proofs
+use proofs.OpenLemmas.{header_fails, read_accepted, read_end, read_long, read_next, read_refused, read_start, read_stop, read_stop_in, stop_at_start}
+use proofs.StreamLemmas.{says_nothing, stop, stop_then}
+use proofs.opening.open_with_aad.Goals as goal
+
+pub returns-in_err-chunk-clause-nothing_past : goal.returns-in_err-chunk-clause-nothing_past
+returns-in_err-chunk-clause-nothing_past g c = stop _ _ (λ file. stop_at_start _ _ _)
+
+pub returns-in_err-read_header-clause-nothing_past : goal.returns-in_err-read_header-clause-nothing_past
+returns-in_err-read_header-clause-nothing_past g c = stop _ _ (λ file. stop_at_start _ _ _)
+
+pub returns-in_err-cipher-clause-refused : goal.returns-in_err-cipher-clause-refused
+returns-in_err-cipher-clause-refused g c =
+    let p = err_from_is_err_and c.from_residual-in_err-cipher.result c.from_residual-in_err-cipher.ensures.1 in
+    rw (p.1, p.2) (IfSome_then _ c.in_ok-read_header.ensures (λ file read.
+    header_fails _ _ _ _ _ _ c.deref.ensures.value read c.in_err-cipher.ensures.refused))
+
+pub returns-in_err-cipher-clause-nothing_past : goal.returns-in_err-cipher-clause-nothing_past
+returns-in_err-cipher-clause-nothing_past g c = stop _ _ (λ file. stop_at_start _ _ _)
+
+pub returns-in_err-read_piece-clause-nothing_past : goal.returns-in_err-read_piece-clause-nothing_past
+returns-in_err-read_piece-clause-nothing_past g c = stop _ _ (λ file. stop_at_start _ _ _)
+
+pub loop-number-init : goal.loop-number-init
+loop-number-init g c = (
+  c.in_ok-read_piece.ensures.size,
+  IfSome_then _ c.in_ok-read_header.ensures (λ file read.
+      read_start _ _ _ _ _ _ _ _ _ c.deref.ensures.value read (c.in_ok-cipher.ensures.accepted.0 refl)
+      c.in_ok-cipher.ensures.cipher c.in_ok-read_piece.ensures.bytes),
+)
+
+pub returns-in_err-read_piece-2-clause-nothing_past : goal.returns-in_err-read_piece-2-clause-nothing_past
+returns-in_err-read_piece-2-clause-nothing_past g c = stop_then _ _ c.loop-number.invariant.1 (λ file s. read_stop s)
+
+pub returns-in_err-open_chunk-clause-refused : goal.returns-in_err-open_chunk-clause-refused
+returns-in_err-open_chunk-clause-refused g c =
+    let p = err_from_is_err_and c.from_residual-in_err-open_chunk.result c.from_residual-in_err-open_chunk.ensures.1 in
+    rw (p.1, p.2) (IfSome_then _ c.loop-number.invariant.1 (λ file s.
+    read_refused s _ _ c.in_ok-read_piece-2.ensures.bytes c.is_empty-is_last.ensures c.read_piece-in-loop-number.new.piece.ok.0 _
+    (λ had. let opened : false ≡ true = c.in_err-open_chunk.ensures.accepted.1 had in cc) c.in_err-open_chunk.ensures.refused))
+
+pub returns-in_err-open_chunk-clause-nothing_past : goal.returns-in_err-open_chunk-clause-nothing_past
+returns-in_err-open_chunk-clause-nothing_past g c = stop_then _ _ c.loop-number.invariant.1 (λ file s. read_stop s)
+
+pub returns-in_err-write_bytes-clause-nothing_past : goal.returns-in_err-write_bytes-clause-nothing_past
+returns-in_err-write_bytes-clause-nothing_past g c = stop_then _ _ c.loop-number.invariant.1 (λ file s.
+    read_stop_in s _ _ c.in_ok-read_piece-2.ensures.bytes c.is_empty-is_last.ensures c.read_piece-in-loop-number.new.piece.ok.0
+    (c.in_ok-open_chunk.ensures.accepted.0 refl)
+    (c.deref-in-loop-number.ensures.value ∙ c.in_ok-open_chunk.ensures.opened) _ c.in_err-write_bytes.ensures.err)
+
+pub returns-then-is_last-clause-accepted : goal.returns-then-is_last-clause-accepted
+returns-then-is_last-clause-accepted g c = IfSome_then _ c.loop-number.invariant.1 (λ file s.
+    read_accepted s _ _ c.in_ok-read_piece-2.ensures.bytes c.is_empty-is_last.ensures c.read_piece-in-loop-number.new.piece.ok.0
+    (c.in_ok-open_chunk.ensures.accepted.0 refl) c.if-is_last.true c.loop-number-test.true)
+
+pub returns-then-is_last-clause-opened : goal.returns-then-is_last-clause-opened
+returns-then-is_last-clause-opened g c = IfSome_then _ c.loop-number.invariant.1 (λ file s.
+    read_end s _ _ c.in_ok-read_piece-2.ensures.bytes c.is_empty-is_last.ensures c.read_piece-in-loop-number.new.piece.ok.0
+    (c.in_ok-open_chunk.ensures.accepted.0 refl) (c.deref-in-loop-number.ensures.value ∙ c.in_ok-open_chunk.ensures.opened) _
+    c.if-is_last.true c.in_ok-write_bytes.ensures.ok)
+
+pub loop-number-preserved : goal.loop-number-preserved
+loop-number-preserved g c =
+    let next = c.read_piece-in-loop-number.new.piece in
+    let swapped : vec_len c.swap.new.x ≡ vec_len next = cc in
+    let same : c.swap.new.x.items ≡ next.items = cc in (
+      omega (arith, c.in_ok-read_piece-2.ensures.size, swapped),
+      IfSome_then _ c.loop-number.invariant.1 (λ file s.
+          read_next s _ _ c.in_ok-read_piece-2.ensures.bytes c.is_empty-is_last.ensures next.ok.0
+          (c.in_ok-open_chunk.ensures.accepted.0 refl) (c.deref-in-loop-number.ensures.value ∙ c.in_ok-open_chunk.ensures.opened) _
+          same c.if-is_last.false c.in_ok-write_bytes.ensures.ok),
+    )
+
+pub returns-clause-refused : goal.returns-clause-refused
+returns-clause-refused g c = IfSome_then _ c.loop-number.invariant.1 (λ file s.
+    let in_range = c.loop-number.auto.number-end in
+    read_long s (omega arith))
+
+pub returns-clause-nothing_past : goal.returns-clause-nothing_past
+returns-clause-nothing_past g c = IfSome_then _ c.loop-number.invariant.1 (λ file s. read_stop s)
+
+pub returns-in_err-read_piece-2-clause-refused : goal.returns-in_err-read_piece-2-clause-refused
+returns-in_err-read_piece-2-clause-refused g c =
+    let p = err_from_is_err_and c.from_residual-in_err-read_piece-2.result c.from_residual-in_err-read_piece-2.ensures.1 in
+    rw (p.1, p.2) (says_nothing _)
+
+pub returns-in_err-write_bytes-clause-refused : goal.returns-in_err-write_bytes-clause-refused
+returns-in_err-write_bytes-clause-refused g c =
+    let p = err_from_is_err_and c.from_residual-in_err-write_bytes.result c.from_residual-in_err-write_bytes.ensures.1 in
+    rw (p.1, p.2) (says_nothing _)

@@ -1,0 +1,12 @@
+//! Tests of the public interface of `sealed_file`: files that python's `cryptography` sealed, files that do not open, streams
+//! that fail, and printed text.
+#![tactic(auto)]
+
+#[cfg(test)]
+mod checks;
+#[cfg(test)]
+mod failing_streams;
+#[cfg(test)]
+mod reader;
+#[cfg(test)]
+mod sealed_files;
