@@ -1,6 +1,6 @@
 -- Headers, and what the chunks after one were sealed under.
 use Rattle.std.proofs
-use proofs.Common.{◌≡◌, ℕ, inl, inr, ◌+◌, ◌<◌, ◌≤◌, ◌⊎◌, List, [], ◌∷◌, ◌++◌, length, take, drop, refl, sym, ap, ◌∙◌, arith, ◌==◌, drop_at, drop-drop, eq-eqb, get_or-take, length-append, length-drop, length-take, ne_eqb, take-append-drop, take-take, take_all, take_at, if◌then◌else◌}
+use proofs.Common.{◌≡◌, ℕ, inl, inr, ◌+◌, ◌≤◌, List, [], ◌∷◌, ◌++◌, length, take, drop, refl, sym, ap, ◌∙◌, arith, drop_at, drop-drop, get_or-take, length-append, length-drop, length-take, take-append-drop, take-take, take_at}
 use Rattle.std.specs.Prelude.{codes, slice_index}
 use proofs.lemmas.List.{drop-take}
 use Rattle.std.specs.Int.{to_be_bytes, w16}

@@ -1,5 +1,5 @@
 -- A sealed file that is read at any position.
-use Rattle.std.specs.Prelude.{◌≡◌, ℕ, Bool, ◌+◌, ◌-◌, ◌*◌, ◌/◌, ◌%◌, ◌^◌, ◌<◌, ◌≤◌, List, length, true, ⊤, ◌⊎◌, ◌==◌, if◌then◌else◌}
+use Rattle.std.specs.Prelude.{◌≡◌, ℕ, Bool, ◌+◌, ◌-◌, ◌*◌, ◌^◌, ◌<◌, ◌≤◌, List, length, true, ⊤, ◌⊎◌, ◌==◌, if◌then◌else◌}
 use Rattle.sealed_file.specs.declared.error.FileError.{FileError}
 use Rattle.sealed_file.specs.declared.error.FileError.TheVariants.{EndsEarly, TooLong, Io}
 use Rattle.sealed_file.specs.Format.{ChunkKey, Secret, chunk_len}

@@ -1,4 +1,4 @@
-use Rattle.std.proofs.Common.{◌≡◌, Some, sym, ◌++◌, length, arith, ap, ◌∙◌, ◌==◌, length-append, []}
+use Rattle.std.proofs.Common.{Some, sym, ◌++◌, length, arith, ap, ◌∙◌, ◌==◌, length-append, []}
 use Rattle.std.proofs.lemmas.Result.{err_from_is_err_and}
 use Rattle.sealed_file.specs.Format.{ChunkKey, secret, version_2}
 use Rattle.sealed_file.proofs

@@ -1,4 +1,4 @@
-use Rattle.std.proofs.Common.{◌≡◌, ℕ, ◌+◌, List, [], ◌++◌, length, arith, refl, sym, ap, ◌∙◌, replicate, length-append, take, take_at}
+use Rattle.std.proofs.Common.{ℕ, ◌+◌, List, [], ◌++◌, length, arith, refl, ap, ◌∙◌, replicate, length-append, take, take_at}
 use Rattle.sealed_file.proofs
 use proofs.ChunkLemmas.{put_next}
 use proofs.aad.ChunkAad.new.Goals as goal

@@ -1,4 +1,4 @@
-use Rattle.std.proofs.Common.{length, ap, refl, sym, subst, ◌∙◌}
+use Rattle.std.proofs.Common.{length, ap, refl, sym, ◌∙◌}
 use Rattle.sealed_file.specs.Reader.{file_len, message_len}
 use Rattle.sealed_file.proofs
 use proofs.ReaderLemmas.{count_there}
