@@ -77,7 +77,7 @@ fn next_protected(stream: &[u8], from: usize) -> Result<(usize, usize), Fail> {
 pub(crate) fn end_of_handshake(stream: &[u8], direction: &Direction) -> Result<usize, Fail> {
     let epoch = direction.epochs.first().ok_or("no epoch")?;
     let mut at = 0;
-    for _ in epoch.records {
+    for _ in 0..epoch.records.len() {
         let (start, len) = next_protected(stream, at)?;
         at = start.saturating_add(len);
     }

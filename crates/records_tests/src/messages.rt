@@ -2,7 +2,7 @@
 
 use crate::captured::CAPTURED;
 use crate::checks::{displays, equal, holds};
-use crate::connection::{Direction, bytes_of};
+use crate::connection::{Carried, Direction, bytes_of};
 use records::{Begins, RecordKind, classify};
 use std::alloc::Global;
 use std::process::Abort;
@@ -75,13 +75,16 @@ const CONTENTS: [(Stage, &[&[u8]], Result<usize, MessageError>); 30] = [
     ),
 ];
 
-/// Appends the types of the messages in a content.
+/// Appends the types of the messages in a content, each of which has bytes of its own.
 fn read_types(
     messages: &mut MessageReader<'_>,
     mut content: &[u8],
     types: &mut Vec<u8>,
 ) -> Result<(), MessageError> {
-    while let Some(message) = messages.next(&mut content)? {
+    for _ in 0..content.len() {
+        let Some(message) = messages.next(&mut content)? else {
+            break;
+        };
         if types.push(message[0]).is_err() {
             return Err(TooLong(0));
         }
@@ -177,6 +180,20 @@ fn texts_and_alerts(rt: HostRuntime) -> Result<(), Fail> {
     Ok(())
 }
 
+/// Appends the types of the messages in records.
+fn read_contents(
+    messages: &mut MessageReader<'_>,
+    alloc: Global,
+    records: &[Carried],
+    types: &mut Vec<u8>,
+) -> Result<(), Fail> {
+    for carried in records {
+        let content = bytes_of(alloc, carried.content)?;
+        read_types(messages, &content, types)?;
+    }
+    Ok(())
+}
+
 /// Returns the types of the messages of a handshake: of the plaintext record that the stream begins with, and of the first
 /// epoch.
 fn handshake_types(alloc: Global, direction: &Direction) -> Result<Vec<u8>, Fail> {
@@ -190,10 +207,7 @@ fn handshake_types(alloc: Global, direction: &Direction) -> Result<Vec<u8>, Fail
     let hello = stream.get(5..len).unwrap_or(&[]);
     read_types(&mut messages, hello, &mut types)?;
     let epoch = direction.epochs.first().ok_or("no epoch")?;
-    for carried in epoch.records {
-        let content = bytes_of(alloc, carried.content)?;
-        read_types(&mut messages, &content, &mut types)?;
-    }
+    read_contents(&mut messages, alloc, epoch.records, &mut types)?;
     Ok(types)
 }
 
