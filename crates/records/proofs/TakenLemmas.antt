@@ -1,4 +1,4 @@
--- Records that are taken off the front of a stream, in a buffer that changes behind them.
+-- Records that are taken off the front of a stream, in a buffer whose earlier bytes change.
 use Rattle.std.proofs.Common.{◌≡◌, ℕ, ◌+◌, ◌-◌, ◌≤◌, List, length, take, drop, arith, ap, sym, subst, ◌∙◌, drop-drop}
 use Rattle.records.specs.Stream.{Taken, nothing, one_more}
 

@@ -24,8 +24,8 @@ pub fn reading_undoes_writing(writer: &Writer, reader: &Reader)
 {}
 
 /// Joined reading gives back what was written: application data as one stream of bytes, and each handshake message whole, in the
-/// order between them, however records cut them. It rejects nothing that a writer is asked to write, where the stage allows each
-/// message and none is longer than the bound, and it knows from the messages when to continue with the next key.
+/// order between them, however records cut them. It rejects nothing that a writer is asked to write, where each message may come
+/// (RFC 8446 section 4.6) and none is longer than the bound, and it knows from the messages when to continue with the next key.
 #[tactic(auto, using(crate::proofs::JoinedLemmas::joining_undoes_writing))]
 pub fn joining_undoes_writing(writer: &Writer, reader: &Reader)
     requires { Follows writer.now reader.now }

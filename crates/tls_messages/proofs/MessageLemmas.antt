@@ -32,7 +32,7 @@ len_of_take n bytes there inside =
     let long : 4 ≤ length (take n bytes) = omega (arith, length-take-le n bytes inside) in
     sym (len_of_start (take n bytes) (drop n bytes) long) ∙ ap message_len (take-append-drop n bytes)
 
--- more bytes behind the header leave the length
+-- more bytes after the header do not change the length
 pub len_stays : (m n : ℕ) (was now content rest : List ℕ) → 4 ≤ m → m ≤ length was → m ≤ n → n ≤ length now
     → take n now ++ rest ≡ take m was ++ content → message_len (take n now) ≡ message_len was
 len_stays m n was now content rest there inside more within joined =

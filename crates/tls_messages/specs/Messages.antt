@@ -72,7 +72,7 @@ messages_read part [] = []
 messages_read part (content ∷ later) = messages_of (part ++ content) ++ messages_read (part_of (part ++ content)) later
 
 -- a reader: the message that it gives, which is empty if it gives none, the part of a message that it keeps, the most bytes that
--- a message may have, the stage of the connection, and whether it has rejected a message
+-- a message may have, which messages may come, and whether it has rejected one
 pub record Joining : Type 0 where
   pub message : List ℕ
   pub part : List ℕ

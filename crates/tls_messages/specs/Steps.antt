@@ -43,7 +43,7 @@ Refuses stage bound kept rest KeyUpdateRequest = IsMessage kept × RefusesMessag
 Refuses stage bound kept rest DataAfterKeys = IsMessage kept × RefusesMessage kept rest DataAfterKeys
 Refuses stage bound kept rest error = (4 ≤ length kept) × RefusesHeader stage bound kept error
 
--- the bound and the stage stay
+-- neither the bound changes nor which messages may come
 abbrev pub KeepsRules : Joining → Joining → Type 0
 KeepsRules was now = (now.bound ≡ was.bound) × (now.stage ≡ was.stage)
 
