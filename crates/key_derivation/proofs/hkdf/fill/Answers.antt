@@ -35,7 +35,9 @@ rounds-preserved g c =
     let is_block : block ≡ hkdf_block h prk info (i + 1) = c.as_slice-bytes.ensures ∙ next in
     let block_len : length block ≡ l = ap length (c.as_slice-bytes.ensures ∙ digest) ∙ length-hmac h l laws.digest_len prk _ in
     let turn : i < (len + l - 1) / l =
-    let P : ℕ → Type 0 = λ x. i < x in subst P (same_count _ len c.OUTPUT_LEN.result c.OUTPUT_LEN-2.result l c.OUTPUT_LEN.ensures c.OUTPUT_LEN-2.ensures refl) c.rounds-test.true in
+    let P : ℕ → Type 0 = λ x. i < x in
+    subst P (same_count _ len c.OUTPUT_LEN.result c.OUTPUT_LEN-2.result l c.OUTPUT_LEN.ensures c.OUTPUT_LEN-2.ensures refl)
+    c.rounds-test.true in
     let below : i * l < len = needed i l len laws.some_output turn in
     let out_len = c.rounds.auto.out in
     let is_n : n ≡ min (length block) (len - c.rounds.filled) = c.min-n.ensures in
@@ -60,5 +62,5 @@ returns g c =
     let l = g.H.Hash.OUTPUT_LEN in
     let len = length c.args.out.now in
     let count = same_count c.rounds.i len c.OUTPUT_LEN.result c.OUTPUT_LEN-2.result l c.OUTPUT_LEN.ensures c.OUTPUT_LEN-2.ensures (omega arith) in
-    filled_all (hkdf_block h c.args.prk.now c.args.info.now) c.rounds.out c.rounds.i l h.output_len len c.rounds.filled laws.some_output laws.output_len (omega arith) count
-    c.rounds.invariant.so_far c.rounds.invariant.written
+    filled_all (hkdf_block h c.args.prk.now c.args.info.now) c.rounds.out c.rounds.i l h.output_len len c.rounds.filled
+    laws.some_output laws.output_len (omega arith) count c.rounds.invariant.so_far c.rounds.invariant.written

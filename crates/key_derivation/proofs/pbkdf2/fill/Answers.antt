@@ -23,7 +23,9 @@ rounds-preserved g c =
     let long = λ (k : ℕ). length-pbkdf2_sum h l laws.digest_len laws.output_len password salt k c.args.count in
     let block_len : length block ≡ l = ap length is_block ∙ long (i + 1) in
     let turn : i < (len + l - 1) / l =
-    let P : ℕ → Type 0 = λ x. i < x in subst P (same_count _ len c.OUTPUT_LEN.result c.OUTPUT_LEN-2.result l c.OUTPUT_LEN.ensures c.OUTPUT_LEN-2.ensures refl) c.rounds-test.true in
+    let P : ℕ → Type 0 = λ x. i < x in
+    subst P (same_count _ len c.OUTPUT_LEN.result c.OUTPUT_LEN-2.result l c.OUTPUT_LEN.ensures c.OUTPUT_LEN-2.ensures refl)
+    c.rounds-test.true in
     let below : i * l < len = needed i l len laws.some_output turn in
     let out_len = c.rounds.auto.out in
     let is_n : n ≡ min a (len - c.rounds.filled) = c.min-n.ensures in
