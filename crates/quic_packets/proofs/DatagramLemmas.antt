@@ -76,7 +76,12 @@ whole_placed start d p laid =
 short_laid : (id_len : ℕ) (d : List ℕ) (start : ℕ) → IsLaid start (short_layout id_len d start)
 short_laid id_len d start =
     let most = le-max_left (start + 1 + id_len) (length d) in
-    record { begins = refl; some = omega (arith, most); number = (omega arith, most); ranges = ((omega arith, omega arith, most), (omega arith, omega arith, most), (omega arith, omega arith, most)) }
+    record {
+      begins = refl;
+      some = omega (arith, most);
+      number = (omega arith, most);
+      ranges = ((omega arith, omega arith, most), (omega arith, omega arith, most), (omega arith, omega arith, most));
+    }
 
 opaque_laid : (d : List ℕ) (start : ℕ) (kind : PacketType) → IsLaid start (opaque_layout d start kind)
 opaque_laid d start kind =

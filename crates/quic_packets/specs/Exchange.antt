@@ -66,7 +66,8 @@ pub data HasSent : Sender → Life → List Sent → Type 0 where
           first = s.next;
         } ∷ life.updates;
       }) sent
-  hears : (s : Sender) (life : Life) (sent : List Sent) (number : ℕ) → number < s.next → HasSent s life sent → HasSent (after_acknowledgement s number) life sent
+  hears : (s : Sender) (life : Life) (sent : List Sent) (number : ℕ) → number < s.next → HasSent s life sent
+      → HasSent (after_acknowledgement s number) life sent
   confirms : (s : Sender) (life : Life) (sent : List Sent) → HasSent s life sent → HasSent (record s { confirmed = true }) life sent
   lowers : (s : Sender) (life : Life) (sent : List Sent) (limit : ℕ) → HasSent s life sent
       → HasSent (record s { limit = min s.limit limit }) life sent
