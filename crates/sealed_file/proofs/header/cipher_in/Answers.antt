@@ -4,10 +4,11 @@ use proofs.HeaderLemmas.{refused_is_none}
 use proofs.header.cipher_in.Goals as goal
 
 pub returns-in-Err-clause-accepted : goal.returns-in-Err-clause-accepted
-returns-in-Err-clause-accepted c = (
-  λ e. cc,
-  λ has. absurd (refused_is_none (secret c.args.key.now c.args.aad.now) c.args.header.now c.in-Err.error (c.in-Err.ensures.refused (secret c.args.key.now c.args.aad.now)) has),
-)
+returns-in-Err-clause-accepted c =
+    let key = secret c.args.key.now c.args.aad.now in (
+      λ e. cc,
+      λ has. absurd (refused_is_none key c.args.header.now c.in-Err.error (c.in-Err.ensures.refused key) has),
+    )
 
 pub returns-in-Err-clause-refused : goal.returns-in-Err-clause-refused
 returns-in-Err-clause-refused c = c.in-Err.ensures.refused (secret c.args.key.now c.args.aad.now)

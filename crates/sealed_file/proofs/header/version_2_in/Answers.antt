@@ -16,19 +16,22 @@ returns-in_default-clause-accepted c = (
 pub returns-in-Ok-clause-accepted : goal.returns-in-Ok-clause-accepted
 returns-in-Ok-clause-accepted c =
     let whole = c.in-Some.ensures.cases.same in
-    let cipher_is = c.new-cipher.ensures.made ∙ ap (version_2 (secret c.args.key.now c.args.aad.now)) (c.random_in.ensures ∙ ap (λ l. take 19 (drop 9 l)) whole) in (
+    let cipher_is = c.new-cipher.ensures.made ∙ ap (version_2 (secret c.args.key.now c.args.aad.now))
+    (c.random_in.ensures ∙ ap (λ l. take 19 (drop 9 l)) whole) in (
       λ _. record { right = sym whole ∙ c.in-Ok.ensures.0 refl ∙ c.header.ensures.bytes ∙ ap (λ (k : ChunkKey). k.header) cipher_is },
       λ _. refl,
     )
 
 pub returns-in-Ok-clause-cipher : goal.returns-in-Ok-clause-cipher
 returns-in-Ok-clause-cipher c =
-    c.new-cipher.ensures.made ∙ ap (version_2 (secret c.args.key.now c.args.aad.now)) (c.random_in.ensures ∙ ap (λ l. take 19 (drop 9 l)) c.in-Some.ensures.cases.same)
+    c.new-cipher.ensures.made ∙ ap (version_2 (secret c.args.key.now c.args.aad.now))
+    (c.random_in.ensures ∙ ap (λ l. take 19 (drop 9 l)) c.in-Some.ensures.cases.same)
 
 pub returns-in-Err-clause-accepted : goal.returns-in-Err-clause-accepted
 returns-in-Err-clause-accepted c =
     let whole = c.in-Some.ensures.cases.same in
-    let cipher_is = c.new-cipher.ensures.made ∙ ap (version_2 (secret c.args.key.now c.args.aad.now)) (c.random_in.ensures ∙ ap (λ l. take 19 (drop 9 l)) whole) in (
+    let cipher_is = c.new-cipher.ensures.made ∙ ap (version_2 (secret c.args.key.now c.args.aad.now))
+    (c.random_in.ensures ∙ ap (λ l. take 19 (drop 9 l)) whole) in (
       λ e. cc,
       λ has. c.in-Err.ensures.1 (whole ∙ has.right
           ∙ sym (ap (λ (k : ChunkKey). k.header) cipher_is) ∙ sym c.header.ensures.bytes),
@@ -37,7 +40,8 @@ returns-in-Err-clause-accepted c =
 pub returns-in-Err-clause-refused : goal.returns-in-Err-clause-refused
 returns-in-Err-clause-refused c =
     let whole = c.in-Some.ensures.cases.same in
-    let cipher_is = c.new-cipher.ensures.made ∙ ap (version_2 (secret c.args.key.now c.args.aad.now)) (c.random_in.ensures ∙ ap (λ l. take 19 (drop 9 l)) whole) in
+    let cipher_is = c.new-cipher.ensures.made ∙ ap (version_2 (secret c.args.key.now c.args.aad.now))
+    (c.random_in.ensures ∙ ap (λ l. take 19 (drop 9 l)) whole) in
     another_key (secret c.args.key.now c.args.aad.now) c.args.header.now c.requires.version (c.in-Some.ensures.variant.0 refl)
     (λ made.
     let accepted : false ≡ true = c.in-Err.ensures.1 (whole ∙ made

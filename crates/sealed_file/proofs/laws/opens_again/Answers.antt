@@ -5,9 +5,11 @@ use proofs.HeaderLemmas.{header_of_2}
 use proofs.laws.opens_again.Goals as goal
 
 pub returns-clause-accepted : goal.returns-clause-accepted
-returns-clause-accepted c = sealed_is_sealed (version_2 (secret c.args.key.now c.args.aad.now) c.args.random.now) c.args.file.now (secret c.args.key.now c.args.aad.now)
-    (header_of_2 (secret c.args.key.now c.args.aad.now) c.args.random.now c.told-random) c.requires
+returns-clause-accepted c =
+    let key = secret c.args.key.now c.args.aad.now in
+    sealed_is_sealed (version_2 key c.args.random.now) c.args.file.now key (header_of_2 key c.args.random.now c.told-random) c.requires
 
 pub returns-clause-comes_back : goal.returns-clause-comes_back
-returns-clause-comes_back c = opened_sealed_file (version_2 (secret c.args.key.now c.args.aad.now) c.args.random.now) c.args.file.now (secret c.args.key.now c.args.aad.now)
-    (header_of_2 (secret c.args.key.now c.args.aad.now) c.args.random.now c.told-random)
+returns-clause-comes_back c =
+    let key = secret c.args.key.now c.args.aad.now in
+    opened_sealed_file (version_2 key c.args.random.now) c.args.file.now key (header_of_2 key c.args.random.now c.told-random)
