@@ -9,8 +9,6 @@ mod bb;
 #[cfg(test)]
 mod chacha;
 #[cfg(test)]
-mod checks;
-#[cfg(test)]
 mod chunks;
 #[cfg(test)]
 mod errors;

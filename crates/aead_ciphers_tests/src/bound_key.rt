@@ -1,16 +1,16 @@
 //! Tests of keys with a counter and with another nonce sequence.
 
 use crate::cases::{aad, key, opened_at_4, packet, sealed, unbound_key};
-use crate::checks::{holds, prints, same};
 use aead_ciphers::aead::{
     AES_128_GCM, Aad, BoundKey, CounterSequence, Nonce, NonceSequence, OpeningKey, SealingKey,
     Unspecified,
 };
 use aead_vectors::gcm_spec::{CASE_1, CASE_4, CASE_13, Case};
 use arrayvec::ArrayVec;
+use examples::one_nonce::OneNonce;
 use std::process::Abort;
 use std::test::Fail;
-use uses::one_nonce::OneNonce;
+use test_support::checks::{holds, prints, same};
 
 fn sealing_once(case: &Case) -> Result<SealingKey<OneNonce>, Fail> {
     Ok(SealingKey::new(unbound_key(case)?, OneNonce::new(case.nonce)))

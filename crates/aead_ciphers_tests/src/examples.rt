@@ -1,16 +1,16 @@
-//! Tests of the crate `uses` with test vectors of the standards.
+//! Tests of the crate `examples` with test vectors of the standards.
 
 use crate::cases::{aad, key, nonce, sealed};
-use crate::checks::{holds, same};
 use aead_ciphers::aead::{
     AES_256_GCM, Aad, CounterSequence, LessSafeKey, NONCE_LEN, OpeningKey, SealingKey, Tag,
 };
 use aead_vectors::gcm_spec::{CASE_1, CASE_2, CASE_2_CIPHERTEXT, CASE_4, CASE_16, Case};
 use aead_vectors::{rfc_8439, rfc_9001};
 use arrayvec::ArrayVec;
+use examples::{connection, messages, one_message, streams};
 use std::process::Abort;
 use std::test::Fail;
-use uses::{connection, messages, one_message, streams};
+use test_support::checks::{holds, same};
 
 /// Asserts that a case is sealed, is rejected and unchanged with another AAD, and is opened with its own.
 fn seals_and_opens(

@@ -15,15 +15,11 @@ mod callers;
 #[cfg(test)]
 mod cases;
 #[cfg(test)]
-mod checks;
-#[cfg(test)]
 mod counting;
 #[cfg(test)]
 mod errors;
 #[cfg(test)]
 mod examples;
-#[cfg(test)]
-mod failing_streams;
 #[cfg(test)]
 mod gcm;
 #[cfg(test)]

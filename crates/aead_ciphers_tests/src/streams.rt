@@ -2,13 +2,13 @@
 
 ghost use Rattle.std.specs.Prelude.{◌<◌};
 
-use crate::checks::{holds, same};
-use crate::failing_streams::FailingStream;
 use aead_ciphers::aeadrun::{FAULT, lines};
 use std::alloc::Global;
 use std::io::{BufReader, BufWriter};
 use std::process::Abort;
 use std::test::Fail;
+use test_support::checks::{holds, same};
+use test_support::failing_streams::FailingStream;
 
 /// Lines of each kind: test case 2, the mask of RFC 9001 appendix A.2, commands that fail, and a bad line.
 const LINES: &[u8] = b"keys 128 00000000000000000000000000000000 00000000 0000000000000000 1\n\

@@ -9,8 +9,6 @@ mod aes;
 #[cfg(test)]
 mod both_keys;
 #[cfg(test)]
-mod checks;
-#[cfg(test)]
 mod gcm;
 #[cfg(test)]
 mod quic;

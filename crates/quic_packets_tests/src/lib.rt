@@ -1,9 +1,7 @@
 //! Tests of `quic_packets`, one module for each of its modules, except that `keys` tests `key` and `header`, and `connection`
-//! the callers of `uses`. `rows` contains packets made by `tools/quic-packets`.
+//! the callers of `examples`. `rows` contains packets made by `tools/quic-packets`.
 #![tactic(auto)]
 
-#[cfg(test)]
-mod checks;
 #[cfg(test)]
 mod connection;
 #[cfg(test)]

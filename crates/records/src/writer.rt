@@ -18,7 +18,7 @@ use std::marker::Model;
 ///
 /// # Examples
 ///
-/// Writes a KeyUpdate, and continues under the next key. From `crates/uses/src/tls_connection.rt`:
+/// Writes a KeyUpdate, and continues under the next key. From `crates/examples/src/tls_connection.rt`:
 ///
 /// ```
 /// self.writer

@@ -1,11 +1,9 @@
-//! Tests of the public interfaces of `records` and `tls_messages`, and of the loop in `uses` over both: records of
+//! Tests of the public interfaces of `records` and `tls_messages`, and of the loop in `examples` over both: records of
 //! OpenSSL and of Python's `cryptography`, printed text, and properties that no contract states.
 #![tactic(auto)]
 
 #[cfg(test)]
 mod captured;
-#[cfg(test)]
-mod checks;
 #[cfg(test)]
 mod connection;
 #[cfg(test)]

@@ -1,17 +1,17 @@
-//! Tests of `uses::tls_connection`: the loop that receives, on what it must follow, reject and pass over, and on connections of
+//! Tests of `examples::tls_connection`: the loop that receives, on what it must follow, reject and pass over, and on connections of
 //! OpenSSL.
 
 use crate::captured::CAPTURED;
-use crate::checks::{equal, holds, same};
 use crate::connection::{Direction, bytes_of, end_of_handshake};
+use examples::tls_connection::{Incoming, Outgoing, ReceiveError, Received, receive, send};
 use key_derivation::{Secret, Suite};
 use records::ContentType::{Alert, ApplicationData, Handshake};
 use records::{ContentType, RecordError};
 use std::alloc::Global;
 use std::process::Abort;
 use std::test::Fail;
+use test_support::checks::{equal, holds, same};
 use tls_messages::{MessageError, MessageReader, Stage};
-use uses::tls_connection::{Incoming, Outgoing, ReceiveError, Received, receive, send};
 
 /// What a peer does.
 #[derive(Clone, Copy)]

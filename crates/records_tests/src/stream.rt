@@ -1,10 +1,10 @@
-//! Tests of `classify`, and of `uses::record_stream`.
+//! Tests of `classify`, and of `examples::record_stream`.
 
-use crate::checks::equal;
 use aead_ciphers::aead::AES_128_GCM;
+use examples::record_stream;
 use records::{Begins, ContentType, Reader, RecordError, RecordKind, Writer, classify};
 use std::test::Fail;
-use uses::record_stream;
+use test_support::checks::equal;
 
 const IV: [u8; 12] = [3; 12];
 
@@ -62,7 +62,7 @@ fn what_streams_begin_with(rt: HostRuntime) -> Result<(), Fail> {
     Ok(())
 }
 
-/// Tests that `uses::record_stream` sends data, drops a ChangeCipherSpec, and receives the data.
+/// Tests that `examples::record_stream` sends data, drops a ChangeCipherSpec, and receives the data.
 #[test]
 fn sends_and_receives(rt: HostRuntime) -> Result<(), Fail> {
     let mut writer = Writer::new(&AES_128_GCM, &[1; 16], IV)?;

@@ -3,10 +3,6 @@
 #![tactic(auto)]
 
 #[cfg(test)]
-mod checks;
-#[cfg(test)]
-mod failing_streams;
-#[cfg(test)]
 mod reader;
 #[cfg(test)]
 mod sealed_files;

@@ -22,7 +22,7 @@ use std::marker::Model;
 ///
 /// # Examples
 ///
-/// Takes the messages of one record: follows each KeyUpdate, and appends the others. From `crates/uses/src/tls_connection.rt`:
+/// Takes the messages of one record: follows each KeyUpdate, and appends the others. From `crates/examples/src/tls_connection.rt`:
 ///
 /// ```
 /// while let Some(message) = messages.next(&mut content)? {

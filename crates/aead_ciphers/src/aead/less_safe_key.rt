@@ -26,7 +26,7 @@ use std::ops::RangeFrom;
 ///
 /// # Examples
 ///
-/// From `crates/uses/src/one_message.rt`:
+/// From `crates/examples/src/one_message.rt`:
 ///
 /// ```
 /// pub fn seal(

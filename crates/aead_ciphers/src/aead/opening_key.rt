@@ -20,14 +20,14 @@ use std::ops::RangeFrom;
 ///
 /// # Examples
 ///
-/// Creates a key that counts its nonces. From `crates/uses/src/connection.rt`:
+/// Creates a key that counts its nonces. From `crates/examples/src/connection.rt`:
 ///
 /// ```
 /// let sequence = CounterSequence::new(prefix, 0, NONCES)?;
 /// Ok(OpeningKey::new(UnboundKey::new(algorithm, key_bytes)?, sequence))
 /// ```
 ///
-/// Opens the next message. A rejected message consumes its nonce too. From `crates/uses/src/connection.rt`:
+/// Opens the next message. A rejected message consumes its nonce too. From `crates/examples/src/connection.rt`:
 ///
 /// ```
 /// key.open_in_place_to_front(Aad::from(aad), message)

@@ -19,7 +19,7 @@ use std::marker::Model;
 ///
 /// # Examples
 ///
-/// From `crates/uses/src/connection.rt`:
+/// From `crates/examples/src/connection.rt`:
 ///
 /// ```
 /// pub fn send_apart(

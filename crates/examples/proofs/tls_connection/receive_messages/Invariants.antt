@@ -1,7 +1,7 @@
 use Rattle.std.proofs.Common.{◌≡◌, ◌++◌, map, length}
 use Rattle.tls_messages.specs.Messages.{messages_of, part_of}
-use Rattle.uses.specs.Connection.{IsOf, handed_over, updated_by}
-use Rattle.uses.proofs.tls_connection.receive_messages.Given as goal
+use Rattle.examples.specs.Connection.{IsOf, handed_over, updated_by}
+use Rattle.examples.proofs.tls_connection.receive_messages.Given as goal
 
 -- what was received, and what is still to come, is the same all along
 abbrev pub invariant-loop-message : goal.invariant-loop-message

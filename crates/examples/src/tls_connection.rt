@@ -9,7 +9,7 @@ ghost use Rattle.records.specs.Record.{record_at};
 ghost use Rattle.records.specs.Refusals.{alert_of as record_alert};
 ghost use Rattle.tls_messages.specs.Steps.{alert_of as message_alert};
 ghost use Rattle.records.specs.Stream.{NeedsMore, Taken};
-ghost use Rattle.uses.specs.Connection.{IsOf, Step, data_record, handed_over, key_update_record, next_outgoing, receiving, updated, updated_by};
+ghost use Rattle.examples.specs.Connection.{IsOf, Step, data_record, handed_over, key_update_record, next_outgoing, receiving, updated, updated_by};
 ghost use Rattle.tls_messages.specs.Messages.{messages_of, part_of};
 
 use aead_ciphers::aead::{AES_128_GCM, AES_256_GCM, Algorithm};
@@ -43,7 +43,7 @@ pub enum ReceiveError {
 
 impl From<RecordError> for ReceiveError {
     ghost use Rattle.std.specs.Prelude.{◌≡◌};
-    ghost use Rattle.uses.specs.declared.tls_connection.ReceiveError.TheVariants.{Record};
+    ghost use Rattle.examples.specs.declared.tls_connection.ReceiveError.TheVariants.{Record};
 
     ghost from_gives = { λ from error. error ≡ Record from };
 
@@ -54,7 +54,7 @@ impl From<RecordError> for ReceiveError {
 
 impl From<MessageError> for ReceiveError {
     ghost use Rattle.std.specs.Prelude.{◌≡◌};
-    ghost use Rattle.uses.specs.declared.tls_connection.ReceiveError.TheVariants.{Message};
+    ghost use Rattle.examples.specs.declared.tls_connection.ReceiveError.TheVariants.{Message};
 
     ghost from_gives = { λ from error. error ≡ Message from };
 
@@ -65,7 +65,7 @@ impl From<MessageError> for ReceiveError {
 
 impl From<AllocError> for ReceiveError {
     ghost use Rattle.std.specs.Prelude.{◌≡◌};
-    ghost use Rattle.uses.specs.declared.tls_connection.ReceiveError.TheVariants.{OutOfMemory};
+    ghost use Rattle.examples.specs.declared.tls_connection.ReceiveError.TheVariants.{OutOfMemory};
 
     ghost from_gives = { λ _ error. error ≡ OutOfMemory };
 
@@ -76,7 +76,7 @@ impl From<AllocError> for ReceiveError {
 
 impl<T: Drop> From<AllocFailed<T>> for ReceiveError {
     ghost use Rattle.std.specs.Prelude.{◌≡◌};
-    ghost use Rattle.uses.specs.declared.tls_connection.ReceiveError.TheVariants.{OutOfMemory};
+    ghost use Rattle.examples.specs.declared.tls_connection.ReceiveError.TheVariants.{OutOfMemory};
 
     ghost from_gives = { λ _ error. error ≡ OutOfMemory };
 

@@ -1,7 +1,7 @@
 use Rattle.std.proofs.Common.{◌≡◌, ◌-◌, ◌≤◌, drop, length, false}
 use Rattle.records.specs.Stream.{Taken}
-use Rattle.uses.specs.Connection.{IsOf, Step, receiving}
-use Rattle.uses.proofs.tls_connection.receive_records.Given as goal
+use Rattle.examples.specs.Connection.{IsOf, Step, receiving}
+use Rattle.examples.proofs.tls_connection.receive_records.Given as goal
 
 -- the records before `at` are received, and the bytes from there on are as they were
 abbrev pub invariant-loop-len : goal.invariant-loop-len

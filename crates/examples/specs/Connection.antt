@@ -9,9 +9,9 @@ use Rattle.records.specs.declared.content_type.ContentType.{ContentType}
 use Rattle.records.specs.declared.content_type.ContentType.TheVariants.{Alert, ApplicationData, Handshake}
 use Rattle.tls_messages.specs.Messages.{Joining, messages_of, part_of}
 use Rattle.records.specs.Record.{Inner}
-use Rattle.uses.specs.declared.tls_connection.Incoming.{Incoming}
-use Rattle.uses.specs.declared.tls_connection.Outgoing.{Outgoing}
-use Rattle.uses.specs.declared.tls_connection.Received.{Received}
+use Rattle.examples.specs.declared.tls_connection.Incoming.{Incoming}
+use Rattle.examples.specs.declared.tls_connection.Outgoing.{Outgoing}
+use Rattle.examples.specs.declared.tls_connection.Received.{Received}
 
 -- a key is that of a traffic secret (section 7.3)
 pub record IsOf (secret : SecretState) (key : KeyState) : Type 0 where
