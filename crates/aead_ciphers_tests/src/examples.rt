@@ -1,13 +1,17 @@
 //! Tests of the crate `examples` with test vectors of the standards.
 
-use crate::cases::{aad, key, nonce, sealed};
+ghost use Rattle.aead_ciphers_wide.specs.ExpandedKey.{IsExpanded};
+
+use crate::cases::{aad, key, key_bytes, nonce, sealed};
 use aead_ciphers::aead::{
     AES_256_GCM, Aad, CounterSequence, LessSafeKey, NONCE_LEN, OpeningKey, SealingKey, Tag,
 };
+use aead_ciphers_base::aes::Work;
+use aead_ciphers_wide::aes_gcm::ExpandedKey;
 use aead_vectors::gcm_spec::{CASE_1, CASE_2, CASE_2_CIPHERTEXT, CASE_4, CASE_16, Case};
 use aead_vectors::{rfc_8439, rfc_9001};
 use arrayvec::ArrayVec;
-use examples::{connection, messages, one_message, streams};
+use examples::{connection, messages, one_message, pieces, streams};
 use std::process::Abort;
 use std::test::Fail;
 use test_support::checks::{holds, same};
@@ -107,6 +111,36 @@ fn gcm_spec_case_4_to_an_array_vec(rt: HostRuntime) -> Result<(), Fail> {
     let key = key(&case)?;
     appends_to(&rt, &key, &case, &mut ArrayVec::<u8, 76>::new(), true)?;
     appends_to(&rt, &key, &case, &mut ArrayVec::<u8, 75>::new(), false)
+}
+
+#[test]
+fn gcm_spec_case_4_to_a_vec(rt: HostRuntime) -> Result<(), Fail> {
+    let case = Case::parse(rt.alloc(), CASE_4)?;
+    let mut in_out = case.message.clone()?;
+    messages::append(&key(&case)?, nonce(&case), &case.aad, &mut in_out)?;
+    same(&rt, &in_out, &sealed(rt.alloc(), &case, &[])?, case.name);
+    Ok(())
+}
+
+/// Asserts that a case is sealed in pieces of 1 to 17 bytes.
+fn seals_in_pieces(rt: &impl Abort, key: &ExpandedKey, case: &Case) -> Result<(), Fail>
+    requires { IsExpanded key.now }
+{
+    for piece_len in 1..18 {
+        let mut in_out = case.message.clone()?;
+        let tag = pieces::seal_in_pieces(key, nonce(case), aad(case), &mut in_out, piece_len)?;
+        same(rt, &in_out, &case.ciphertext, case.name);
+        same(rt, tag.as_ref(), &case.tag, case.name);
+    }
+    Ok(())
+}
+
+#[test]
+fn gcm_spec_case_4_in_pieces(rt: HostRuntime) -> Result<(), Fail> {
+    let case = Case::parse(rt.alloc(), CASE_4)?;
+    let mut key = ExpandedKey::zeros();
+    key.expand(key_bytes(&case)?, &mut Work::new());
+    seals_in_pieces(&rt, &key, &case)
 }
 
 /// Asserts that a message is sent and received.
