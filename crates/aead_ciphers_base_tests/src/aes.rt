@@ -4,6 +4,7 @@
 ghost use Rattle.std.specs.Prelude.{◌≡◌};
 ghost use Rattle.aead_ciphers_base.specs.ByteField.{mul8, inv, affine, sbox};
 
+use crate::checks::{holds, same};
 use aead_ciphers_base::aes::{
     BLOCK_LEN, Block, Counter, EncryptBlock, EncryptCtr32, Key, KeyBytes, Overlapping, Work,
     ZERO_BLOCK, sub_planes,
@@ -15,7 +16,6 @@ use aead_vectors::sp_800_38a::{CTR, CtrCase, ECB};
 use aead_vectors::words::Words;
 use std::process::Abort;
 use std::test::Fail;
-use test_support::checks::{holds, same};
 
 // The definitions yield the values that FIPS 197 gives for its field (section 4) and S-box (section 5.1.1).
 #[tactic(auto, unfolding(aead_ciphers_base::proofs::ByteFieldLaws::field))]

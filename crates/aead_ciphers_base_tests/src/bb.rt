@@ -1,8 +1,8 @@
 //! Tests of `bb`: equality of slices, and XOR.
 
+use crate::checks::{holds, same};
 use aead_ciphers_base::bb::{verify_slices_are_equal, xor_16, xor_assign, xor_assign_at_start};
 use std::process::Abort;
-use test_support::checks::{holds, same};
 
 /// Asserts that two slices compare equal if and only if `are_equal`.
 fn compares(rt: &impl Abort, a: &[u8], b: &[u8], are_equal: bool) {

@@ -5,6 +5,7 @@ ghost use Rattle.std.specs.Prelude.{◌≡◌};
 ghost use Rattle.aead_ciphers_base.specs.ChaCha20.{quarter_round, chacha20_block};
 ghost use Rattle.aead_vectors.specs.declared.rfc_8439.TheConstants.{BLOCK, BLOCK_NONCE, KEY};
 
+use crate::checks::{holds, same};
 use aead_ciphers_base::chacha::{BLOCK_LEN, Counter, KEY_LEN, Key, Overlapping};
 use aead_ciphers_base::values::{NONCE_LEN, Nonce};
 use aead_vectors::rfc_8439::{A_1_VECTOR_1, BLOCK_NONCE, CASES, Case, KEY};
@@ -12,7 +13,6 @@ use aead_vectors::rfc_9001;
 use std::alloc::Global;
 use std::process::Abort;
 use std::test::Fail;
-use test_support::checks::{holds, same};
 
 // The definition yields the vector of section 2.1.1.
 #[tactic(auto, unfolding(aead_ciphers_base::specs::ChaCha20::quarter_round))]

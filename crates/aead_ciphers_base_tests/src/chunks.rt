@@ -2,11 +2,11 @@
 
 ghost use Rattle.std.specs.Prelude.{◌<◌};
 
+use crate::checks::{holds, same};
 use crate::items::{Item, hold};
 use aead_ciphers_base::polyfill::slice::{AsChunks, AsChunksMut, as_chunks, as_chunks_mut};
 use std::process::Abort;
 use std::test::Fail;
-use test_support::checks::{holds, same};
 
 /// Asserts that a slice is split into `blocks` blocks of `N` items, and `rest` items after them.
 fn splits<const N: usize>(rt: &impl Abort, items: &[u8], blocks: usize, rest: usize)

@@ -1,8 +1,8 @@
 //! Tests of the texts of the errors.
 
+use crate::checks::reads;
 use aead_ciphers_base::error::{IndexError, InputTooLongError, LenMismatchError, Unspecified};
 use std::test::Fail;
-use test_support::checks::reads;
 
 #[test]
 fn texts(rt: HostRuntime) -> Result<(), Fail> {

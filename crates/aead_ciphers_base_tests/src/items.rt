@@ -1,7 +1,7 @@
 //! Items that aren't bytes.
 
+use crate::checks::holds;
 use std::process::Abort;
-use test_support::checks::holds;
 
 /// An item that isn't `Copy`.
 #[derive(PartialEq, Eq, Debug, Drop)]

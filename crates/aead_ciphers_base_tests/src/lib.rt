@@ -9,6 +9,8 @@ mod bb;
 #[cfg(test)]
 mod chacha;
 #[cfg(test)]
+mod checks;
+#[cfg(test)]
 mod chunks;
 #[cfg(test)]
 mod errors;

@@ -1,12 +1,12 @@
 //! Tests of `overlapping` and `shift`, which read from an offset on and write to the front.
 
+use crate::checks::{holds, same};
 use crate::items::{Item, hold};
 use aead_ciphers_base::error::{IndexError, InputTooLongError, LenMismatchError};
 use aead_ciphers_base::overlapping::{Array, Overlapping, PartialBlock};
 use aead_ciphers_base::shift::shift_full_blocks;
 use std::process::Abort;
 use std::test::Fail;
-use test_support::checks::{holds, same};
 
 #[test]
 fn input_begins_at_the_start(rt: HostRuntime) -> Result<(), Fail> {

@@ -1,9 +1,9 @@
 //! Tests of `values`: lengths that are rejected, and the printed text of an AAD.
 
+use crate::checks::{holds, reads, same};
 use aead_ciphers_base::values::{Aad, Nonce, Tag};
 use std::process::Abort;
 use std::test::Fail;
-use test_support::checks::{holds, reads, same};
 
 #[test]
 fn nonces_have_twelve_bytes(rt: HostRuntime) -> Result<(), Fail> {

@@ -1,12 +1,12 @@
 //! Tests of `aead`: keys to which the caller passes a nonce.
 
 use crate::cases::{aad, key, nonce, opened_at_4, packet, sealed};
+use crate::checks::{holds, prints, same};
 use aead_ciphers::aead::{AES_128_GCM, AES_256_GCM, Aad, Algorithm, LessSafeKey, UnboundKey};
 use aead_ciphers::laws;
 use aead_vectors::gcm_spec::{CASE_4, CASES, Case};
 use std::process::Abort;
 use std::test::Fail;
-use test_support::checks::{holds, prints, same};
 
 #[test]
 fn debug_texts(rt: HostRuntime) -> Result<(), Fail> {

@@ -1,10 +1,10 @@
 //! Tests of `aeadrun`: short inputs, each with its own status, and a long line.
 
+use crate::checks::{holds, same};
 use aead_ciphers::aeadrun::lines;
 use std::alloc::{AllocError, Global};
 use std::process::Abort;
 use std::test::Fail;
-use test_support::checks::{holds, same};
 
 /// Asserts that `lines` prints this output for the input, and returns this status.
 fn answers(rt: &impl Abort, alloc: Global, input: &[u8], printed: &[u8], status: u8) {

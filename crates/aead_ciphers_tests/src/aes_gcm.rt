@@ -2,6 +2,7 @@
 
 use crate::callers::seal_where_room;
 use crate::cases::{false_tag, key_bytes};
+use crate::checks::{holds, same};
 use crate::reference;
 use aead_ciphers::aes_gcm::{Key, open};
 use aead_ciphers_base::aes::{self, KeyBytes, Work};
@@ -10,7 +11,6 @@ use aead_vectors::gcm_spec::{CASE_1, CASE_4, CASE_16, Case};
 use std::alloc::Global;
 use std::process::Abort;
 use std::test::Fail;
-use test_support::checks::{holds, same};
 
 /// Expands the key of a test case.
 fn key(case: &Case) -> Result<Key, Fail> {

@@ -1,6 +1,7 @@
 //! Tests of keys with a counter and with another nonce sequence.
 
 use crate::cases::{aad, key, opened_at_4, packet, sealed, unbound_key};
+use crate::checks::{holds, prints, same};
 use aead_ciphers::aead::{
     AES_128_GCM, Aad, BoundKey, CounterSequence, Nonce, NonceSequence, OpeningKey, SealingKey,
     Unspecified,
@@ -10,7 +11,6 @@ use arrayvec::ArrayVec;
 use examples::one_nonce::OneNonce;
 use std::process::Abort;
 use std::test::Fail;
-use test_support::checks::{holds, prints, same};
 
 fn sealing_once(case: &Case) -> Result<SealingKey<OneNonce>, Fail> {
     Ok(SealingKey::new(unbound_key(case)?, OneNonce::new(case.nonce)))

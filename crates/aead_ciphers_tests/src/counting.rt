@@ -4,6 +4,7 @@ ghost use Rattle.std.specs.Prelude.{◌≡◌};
 ghost use Rattle.aead_ciphers_base.specs.Aes.{aes as aes_cipher, length_aes};
 ghost use Rattle.aead_ciphers_base.specs.Bytes.{zero_block};
 
+use crate::checks::holds;
 use aead_ciphers::aes_gcm::{open_with, seal_with};
 use aead_ciphers::gcm::{self, UpdateBlock, UpdateBlocks, Xi};
 use aead_ciphers_base::aes::{
@@ -16,7 +17,6 @@ use std::alloc::Global;
 use std::cell::Cell;
 use std::process::Abort;
 use std::test::Fail;
-use test_support::checks::holds;
 
 /// Adds `more` to `count`.
 fn add(count: &Cell<u64>, more: usize) {

@@ -1,8 +1,8 @@
 //! Tests of the conversion of errors to `anyhow::Error` by `?`.
 
+use crate::checks::{displays, holds};
 use aead_ciphers::aead::{AES_128_GCM, UnboundKey};
 use std::test::Fail;
-use test_support::checks::{displays, holds};
 
 /// Creates a key of AES-128-GCM.
 fn unbound(bytes: &[u8]) -> anyhow::Result<UnboundKey> {

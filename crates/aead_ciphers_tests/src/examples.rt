@@ -3,6 +3,7 @@
 ghost use Rattle.aead_ciphers_wide.specs.ExpandedKey.{IsExpanded};
 
 use crate::cases::{aad, key, key_bytes, nonce, sealed};
+use crate::checks::{holds, same};
 use aead_ciphers::aead::{
     AES_256_GCM, Aad, CounterSequence, LessSafeKey, NONCE_LEN, OpeningKey, SealingKey, Tag,
 };
@@ -14,7 +15,6 @@ use arrayvec::ArrayVec;
 use examples::{connection, messages, one_message, pieces, streams};
 use std::process::Abort;
 use std::test::Fail;
-use test_support::checks::{holds, same};
 
 /// Asserts that a case is sealed, is rejected and unchanged with another AAD, and is opened with its own.
 fn seals_and_opens(

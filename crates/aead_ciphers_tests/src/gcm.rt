@@ -5,6 +5,7 @@ ghost use Rattle.aead_vectors.specs.declared.gcm_spec.TheConstants.{CASE_2_CIPHE
 ghost use Rattle.std.specs.Int.{to_be_bytes, w128};
 ghost use Rattle.aead_ciphers.specs.Ghash.{IsBlock, ◌•◌, unit_block};
 
+use crate::checks::{holds, same};
 use aead_ciphers::gcm::{Context, Key, KeyValue, MAX_IN_OUT_LEN, UpdateBlock, UpdateBlocks, Xi};
 use aead_ciphers_base::aes::{self, BLOCK_LEN, EncryptBlock, KeyBytes, Work, ZERO_BLOCK};
 use aead_ciphers_base::polyfill::slice::as_chunks;
@@ -12,7 +13,6 @@ use aead_ciphers_base::values::Aad;
 use aead_vectors::gcm_spec;
 use std::process::Abort;
 use std::test::Fail;
-use test_support::checks::{holds, same};
 
 // The unit block, 80 00 .. 00, is the identity of the product.
 fn unit_of_the_product()

@@ -7,13 +7,13 @@ ghost use Rattle.aead_ciphers.specs.Different.{DifferInOneBlock, DifferWhenPadde
 ghost use Rattle.aead_ciphers.specs.Gcm.{Fits, hashed, gcm_tag};
 ghost use Rattle.aead_ciphers.specs.Ghash.{IsBlock, ghash, unit_block};
 
+use crate::checks::{holds, same};
 use aead_ciphers::aead::{AES_128_GCM, Aad, LessSafeKey, Nonce, Tag, UnboundKey, Unspecified};
 use aead_ciphers::laws;
 use aead_ciphers_base::aes::{self, Block, EncryptBlock, KeyBytes, Work, ZERO_BLOCK};
 use aead_vectors::gcm_spec::{CASE_4, Case};
 use std::process::Abort;
 use std::test::Fail;
-use test_support::checks::{holds, same};
 
 // The unit block, which is the identity of the product.
 const UNIT_BLOCK: Block = [0x80, 0, 0, 0, 0, 0, 0, 0, 0, 0, 0, 0, 0, 0, 0, 0];

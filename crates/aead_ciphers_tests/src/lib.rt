@@ -15,6 +15,8 @@ mod callers;
 #[cfg(test)]
 mod cases;
 #[cfg(test)]
+mod checks;
+#[cfg(test)]
 mod counting;
 #[cfg(test)]
 mod errors;

@@ -7,6 +7,7 @@ ghost use Rattle.aead_ciphers.specs.Gcm.{OpenedAttached};
 ghost use Rattle.aead_ciphers.specs.Values.{aad_bytes};
 
 use crate::cases::{aad, key, nonce, sealed, unbound_key};
+use crate::checks::{holds, same};
 use aead_ciphers::aead::{Aad, BoundKey, LessSafeKey, Nonce, OpeningKey, Tag, Unspecified};
 use aead_vectors::gcm_spec::{CASE_4, Case};
 use examples::one_nonce::OneNonce;
@@ -14,7 +15,6 @@ use std::alloc::Global;
 use std::ops::RangeFrom;
 use std::process::Abort;
 use std::test::Fail;
-use test_support::checks::{holds, same};
 
 /// Opens a message, and ends the borrow of the plaintext. The contract describes every byte of the buffer.
 fn opens(

@@ -6,6 +6,7 @@ ghost use Rattle.aead_ciphers_base.specs.Work.{Adds, CanAdd};
 ghost use Rattle.aead_ciphers.specs.Ghash.{unit_block};
 ghost use Rattle.aead_ciphers_tests.specs.FirstBitFlipped.{first_bit_flipped, length-first_bit_flipped};
 
+use crate::checks::{holds, same};
 use aead_ciphers::aes_gcm::{open_with, seal_with};
 use aead_ciphers::gcm::{UpdateBlock, UpdateBlocks, Xi};
 use aead_ciphers_base::aes::{
@@ -17,7 +18,6 @@ use aead_ciphers_base::values::{Aad, Nonce, Tag};
 use aead_vectors::words::Words;
 use std::process::Abort;
 use std::test::Fail;
-use test_support::checks::{holds, same};
 
 /// The block of the polynomial 1 (SP 800-38D section 6.3).
 const UNIT_BLOCK: Block = [0x80, 0, 0, 0, 0, 0, 0, 0, 0, 0, 0, 0, 0, 0, 0, 0];

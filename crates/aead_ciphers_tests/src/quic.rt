@@ -5,6 +5,7 @@ ghost use Rattle.aead_ciphers_base.specs.Mask.{chacha_mask};
 ghost use Rattle.aead_vectors.specs.declared.rfc_9001.TheConstants.{A_5_KEY, A_5_MASK, A_5_SAMPLE};
 
 use crate::callers::same_quic_algorithm;
+use crate::checks::{holds, prints, same};
 use crate::masks::{MASKS, Mask};
 use aead_ciphers::aead::quic::{AES_128, AES_256, Algorithm, CHACHA20, HeaderProtectionKey};
 use aead_ciphers_base::chacha::{self, Overlapping};
@@ -12,7 +13,6 @@ use aead_ciphers_base::values::Nonce;
 use aead_vectors::rfc_9001::A_5_KEY;
 use std::process::Abort;
 use std::test::Fail;
-use test_support::checks::{holds, prints, same};
 
 // The definition yields the mask of appendix A.5.
 fn rfc_9001_a_5_mask()

@@ -1,12 +1,12 @@
 //! Tests that modified messages are rejected and the buffer is unchanged.
 
 use crate::cases::{aad, false_tag, key, nonce, sealed};
+use crate::checks::{holds, same};
 use aead_ciphers::aead::{Aad, LessSafeKey};
 use aead_vectors::gcm_spec::{CASE_1, CASE_2, CASE_4, Case};
 use std::alloc::Global;
 use std::process::Abort;
 use std::test::Fail;
-use test_support::checks::{holds, same};
 
 /// Flips one bit.
 fn flip(bytes: &mut [u8], bit: usize) {

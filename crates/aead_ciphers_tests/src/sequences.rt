@@ -1,11 +1,11 @@
 //! Tests of nonce sequences without a key.
 
+use crate::checks::{holds, same};
 use aead_ciphers::aead::{
     CounterSequence, NONCE_LEN, NonceSequence, Unspecified, XoredSequence, nonce_of,
 };
 use std::process::Abort;
 use std::test::Fail;
-use test_support::checks::{holds, same};
 
 /// Asserts that a counter of `count` numbers, starting at `first`, is created if and only if `is_made`.
 fn counts(rt: &impl Abort, first: u64, count: u64, is_made: bool) {

@@ -1,13 +1,13 @@
 //! Tests of `session`: runs of jobs with the bytes of test case 2.
 
 use crate::cases::{sealed, unbound_key};
+use crate::checks::{holds, same};
 use aead_ciphers::aead::{BoundKey, CounterSequence, OpeningKey, SealingKey};
 use aead_ciphers::session::{Job, Operation, Outcome, run};
 use aead_vectors::gcm_spec::{CASE_2, Case};
 use std::alloc::Global;
 use std::process::Abort;
 use std::test::Fail;
-use test_support::checks::{holds, same};
 
 fn sealing(case: &Case, count: u64) -> Result<SealingKey<CounterSequence>, Fail> {
     let sequence = CounterSequence::new([0; 4], 0, count)?;

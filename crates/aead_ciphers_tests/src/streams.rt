@@ -2,12 +2,12 @@
 
 ghost use Rattle.std.specs.Prelude.{◌<◌};
 
+use crate::checks::{holds, same};
 use aead_ciphers::aeadrun::{FAULT, lines};
 use std::alloc::Global;
 use std::io::{BufReader, BufWriter};
 use std::process::Abort;
 use std::test::Fail;
-use test_support::checks::{holds, same};
 use test_support::failing_streams::FailingStream;
 
 /// Lines of each kind: test case 2, the mask of RFC 9001 appendix A.2, commands that fail, and a bad line.

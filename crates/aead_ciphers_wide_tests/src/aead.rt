@@ -1,12 +1,12 @@
 //! Tests of `aead`: the test cases of the GCM specification.
 
+use crate::checks::{holds, same};
 use aead_ciphers::aead::{AES_128_GCM, AES_256_GCM, Aad, Algorithm, Nonce, Tag};
 use aead_ciphers_base::aes::AES_128_KEY_LEN;
 use aead_ciphers_wide::aead::LessSafeKey;
 use aead_vectors::gcm_spec::{CASES, Case};
 use std::process::Abort;
 use std::test::Fail;
-use test_support::checks::{holds, same};
 
 /// Returns the algorithm for the length of the key.
 fn algorithm(case: &Case) -> &'static Algorithm {

@@ -1,6 +1,7 @@
 //! Tests of `aes`: the cipher and counter mode on the vectors of FIPS 197, SP 800-38A and RFC 9001, and counter mode when the
 //! number of a block wraps in a pass of eight.
 
+use crate::checks::{holds, same};
 use aead_ciphers_base::aes::{
     self, BLOCK_LEN, Counter, EncryptBlock, EncryptCtr32, KeyBytes, Overlapping, Work,
 };
@@ -11,7 +12,6 @@ use aead_vectors::rfc_9001;
 use aead_vectors::sp_800_38a::{CTR, CtrCase, ECB};
 use std::process::Abort;
 use std::test::Fail;
-use test_support::checks::{holds, same};
 
 /// A key of 16 or 32 bytes.
 fn key_bytes(key: &[u8]) -> Result<KeyBytes<'_>, Fail> {

@@ -1,6 +1,7 @@
 //! Tests that the `LessSafeKey` of this crate and the one of `aead_ciphers` seal to the same bytes, and that the one opens at
 //! each start what the other sealed.
 
+use crate::checks::{holds, same};
 use aead_ciphers::aead::{
     AES_128_GCM, AES_256_GCM, Aad, Algorithm, LessSafeKey, Nonce, UnboundKey,
 };
@@ -9,7 +10,6 @@ use std::alloc::Global;
 use std::ops::Range;
 use std::process::Abort;
 use std::test::Fail;
-use test_support::checks::{holds, same};
 
 /// Where the ciphertext begins in the buffers that are opened.
 const STARTS: [usize; 9] = [0, 1, 4, 15, 16, 17, 3071, 3072, 3073];

@@ -1,11 +1,11 @@
 //! Tests of `gcm`: a hash of the GCM specification, and blocks that are hashed in pieces.
 
+use crate::checks::same;
 use aead_ciphers::gcm::{UpdateBlock, UpdateBlocks, Xi};
 use aead_ciphers_base::aes::{BLOCK_LEN, Work};
 use aead_ciphers_base::polyfill::slice::as_chunks;
 use aead_ciphers_wide::gcm::Key;
 use aead_vectors::gcm_spec;
-use test_support::checks::same;
 
 #[test]
 fn gcm_spec_case_2(rt: HostRuntime) {

@@ -9,6 +9,8 @@ mod aes;
 #[cfg(test)]
 mod both_keys;
 #[cfg(test)]
+mod checks;
+#[cfg(test)]
 mod gcm;
 #[cfg(test)]
 mod quic;

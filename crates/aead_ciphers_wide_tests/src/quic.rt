@@ -1,11 +1,11 @@
 //! Tests of `aead::quic`: masks of RFC 9001 and FIPS 197.
 
+use crate::checks::{holds, same};
 use aead_ciphers::aead::quic::{AES_128, AES_256, Algorithm, CHACHA20};
 use aead_ciphers_wide::aead::quic::HeaderProtectionKey;
 use aead_vectors::{fips_197, rfc_9001};
 use std::process::Abort;
 use std::test::Fail;
-use test_support::checks::{holds, same};
 
 /// Asserts that the key yields the mask, and refuses a sample of another length.
 fn masks_so(

@@ -1,10 +1,10 @@
 //! Tests of `examples::quic_connection`: datagrams of two packets.
 
+use crate::checks::{equal, same};
 use examples::quic_connection::{self, Connection, Level, NextKey};
 use quic_packets::{Failures, PacketError, Receiver, Sender, Space, Suite};
 use std::process::Abort;
 use std::test::Fail;
-use test_support::checks::{equal, same};
 
 const IV: [u8; 12] = [2; 12];
 

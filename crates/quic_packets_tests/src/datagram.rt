@@ -1,5 +1,6 @@
 //! Tests of `packet_at`: the packets of RFC 9001 appendix A, and handwritten datagrams.
 
+use crate::checks::{equal, holds};
 use crate::retry::A_4_RETRY;
 use aead_vectors::rfc_9001::{A_2_PACKET, A_3_PACKET, A_5_PROTECTED, Packet as Vector};
 use aead_vectors::words::BadLine;
@@ -8,7 +9,6 @@ use std::alloc::Global;
 use std::ops::Range;
 use std::process::Abort;
 use std::test::Fail;
-use test_support::checks::{equal, holds};
 
 /// A Version Negotiation packet with connection IDs of one and two bytes, and one version.
 const NEGOTIATION: [u8; 14] = [0x80, 0, 0, 0, 0, 1, 9, 2, 8, 8, 0, 0, 0, 1];

@@ -1,8 +1,8 @@
 //! What the errors print.
 
+use crate::checks::displays;
 use quic_packets::{DatagramError, PacketError, RetryError};
 use std::test::Fail;
-use test_support::checks::displays;
 
 const PACKET_ERRORS: [(PacketError, &str); 22] = [
     (

@@ -1,9 +1,9 @@
 //! The example in README.md of `quic_packets`: one end of a connection sends a packet, and the other end receives it.
 
+use crate::checks::same;
 use quic_packets::{Failures, PacketError, Receiver, Sender, Space, Suite, packet_at};
 use std::alloc::Global;
 use std::test::Fail;
-use test_support::checks::same;
 
 /// The key of one direction, which both ends have, like the IV and the header key. TLS derives them from a secret with HKDF
 /// (RFC 9001 section 5.1).

@@ -4,6 +4,7 @@
 ghost use Rattle.std.specs.Prelude.{◌≡◌, ◌-◌, length, take, OnOk};
 ghost use Rattle.quic_packets.specs.Packet.{HasNumber};
 
+use crate::checks::{equal, holds, same};
 use aead_ciphers::aead::{AES_128_GCM, AES_256_GCM, Tag, quic};
 use aead_vectors::rfc_9001::{A_5_KEY, A_5_PROTECTED, A_5_SEALED, PACKETS, Packet};
 use quic_packets::{HeaderKey, PacketError, PacketKey, laws};
@@ -11,7 +12,6 @@ use std::alloc::{AllocError, Global};
 use std::ops::Range;
 use std::process::Abort;
 use std::test::Fail;
-use test_support::checks::{equal, holds, same};
 
 /// Returns the header and the payload.
 pub(crate) fn plain(row: &Packet) -> Result<Vec<u8>, AllocError> {

@@ -1,7 +1,7 @@
 //! Tests of `quic_packets::numbers`: the examples of RFC 9000 appendices A.2 and A.3, and the limits of lengths and windows.
 
+use crate::checks::equal;
 use quic_packets::numbers::{decode, number_len, truncated};
-use test_support::checks::equal;
 
 /// The largest packet number.
 const LAST: u64 = (1 << 62) - 1;

@@ -1,6 +1,7 @@
 //! Tests of `Receiver`, `Space` and `Failures`: packets of RFC 9001 appendix A, flipped bits, duplicates, key updates and
 //! limits.
 
+use crate::checks::{equal, holds, same};
 use crate::rows::{IV as ROW_IV, ROWS, Row};
 use aead_ciphers::aead::{AES_128_GCM, quic};
 use aead_vectors::rfc_9001::{PACKETS, Packet};
@@ -11,7 +12,6 @@ use quic_packets::{
 use std::alloc::Global;
 use std::process::Abort;
 use std::test::Fail;
-use test_support::checks::{equal, holds, same};
 
 const IV: [u8; 12] = [5; 12];
 

@@ -1,9 +1,9 @@
 //! Tests of `retry_tag` and `is_genuine_retry`: the packet of RFC 9001 appendix A.4, and modified packets.
 
+use crate::checks::equal;
 use quic_packets::{is_genuine_retry, retry_tag};
 use std::process::Abort;
 use std::test::Fail;
-use test_support::checks::equal;
 
 /// RFC 9001 appendix A.4: the destination connection ID of the client's first packet.
 const A_4_ID: [u8; 8] = [0x83, 0x94, 0xc8, 0xf0, 0x3e, 0x51, 0x57, 0x08];

@@ -1,5 +1,6 @@
 //! Tests of `quic_packets::Sender`: packets of RFC 9001 appendix A and of another implementation, each error, skipped numbers, limits and key updates.
 
+use crate::checks::{equal, holds, same};
 use crate::keys::plain;
 use crate::rows::{HEADER_KEY, IV, KEY, ROWS, Row};
 use aead_vectors::rfc_9001::{PACKETS, Packet};
@@ -8,7 +9,6 @@ use std::alloc::Global;
 use std::ops::Range;
 use std::process::Abort;
 use std::test::Fail;
-use test_support::checks::{equal, holds, same};
 
 /// Returns the row's packet before it is sent, with ones in the bits that `send` writes.
 fn before(rt: &impl Abort, alloc: Global, row: &Row) -> Result<Vec<u8>, Fail> {

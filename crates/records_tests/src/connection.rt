@@ -1,13 +1,13 @@
 //! Tests with TLS 1.3 connections of OpenSSL, whose records are read and written again.
 
 use crate::captured::CAPTURED;
+use crate::checks::{equal, holds, same};
 use aead_ciphers::aead::{AES_128_GCM, AES_256_GCM, Algorithm};
 use hex::FromHex;
 use records::{Begins, ContentType, Reader, RecordKind, Writer, classify};
 use std::alloc::Global;
 use std::process::Abort;
 use std::test::Fail;
-use test_support::checks::{equal, holds, same};
 
 /// What one side sent: its bytes in hex, and the contents of its records under each key.
 pub(crate) struct Direction {

@@ -5,6 +5,8 @@
 #[cfg(test)]
 mod captured;
 #[cfg(test)]
+mod checks;
+#[cfg(test)]
 mod connection;
 #[cfg(test)]
 mod messages;

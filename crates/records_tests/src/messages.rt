@@ -1,12 +1,12 @@
 //! Tests of `tls_messages`: the rules by type, its errors, and the handshakes of OpenSSL.
 
 use crate::captured::CAPTURED;
+use crate::checks::{displays, equal, holds};
 use crate::connection::{Carried, Direction, bytes_of};
 use records::{Begins, RecordKind, classify};
 use std::alloc::Global;
 use std::process::Abort;
 use std::test::Fail;
-use test_support::checks::{displays, equal, holds};
 use tls_messages::MessageError::{
     Closed, DataAfterKeys, Interrupted, KeyUpdateLength, KeyUpdateRequest, TooLong, UnexpectedType,
 };

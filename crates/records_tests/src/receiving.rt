@@ -2,6 +2,7 @@
 //! OpenSSL.
 
 use crate::captured::CAPTURED;
+use crate::checks::{equal, holds, same};
 use crate::connection::{Direction, bytes_of, end_of_handshake};
 use examples::tls_connection::{Incoming, Outgoing, ReceiveError, Received, receive, send};
 use key_derivation::{Secret, Suite};
@@ -10,7 +11,6 @@ use records::{ContentType, RecordError};
 use std::alloc::Global;
 use std::process::Abort;
 use std::test::Fail;
-use test_support::checks::{equal, holds, same};
 use tls_messages::{MessageError, MessageReader, Stage};
 
 /// What a peer does.

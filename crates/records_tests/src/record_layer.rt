@@ -1,6 +1,7 @@
 //! Tests with records of Python's `cryptography`, which are written and read, and with records that are
 //! rejected.
 
+use crate::checks::{displays, equal, holds, same};
 use aead_ciphers::aead::{AES_128_GCM, AES_256_GCM, Algorithm};
 use hex::FromHex;
 use records::ContentType::{Alert, ApplicationData, Handshake};
@@ -8,7 +9,6 @@ use records::{ContentType, MAX_CONTENT_LEN, Reader, RecordError, RecordKey, Writ
 use std::alloc::Global;
 use std::process::Abort;
 use std::test::Fail;
-use test_support::checks::{displays, equal, holds, same};
 
 /// A record that `tools/read-records make` printed.
 struct Case {

@@ -1,10 +1,10 @@
 //! Tests of `classify`, and of `examples::record_stream`.
 
+use crate::checks::equal;
 use aead_ciphers::aead::AES_128_GCM;
 use examples::record_stream;
 use records::{Begins, ContentType, Reader, RecordError, RecordKind, Writer, classify};
 use std::test::Fail;
-use test_support::checks::equal;
 
 const IV: [u8; 12] = [3; 12];
 

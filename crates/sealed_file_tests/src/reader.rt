@@ -1,5 +1,6 @@
 //! Reading at any position, over a file in memory.
 
+use crate::checks::{displays, holds, same};
 use crate::sealed_files::{KEY, file_of};
 use sealed_file::{
     CHUNK_LEN, FileKey, FileRandom, HEADER_LEN, SEALED_CHUNK_LEN, SealedReader, seal_bytes,
@@ -8,7 +9,6 @@ use std::alloc::Global;
 use std::io::Cursor;
 use std::process::Abort;
 use std::test::Fail;
-use test_support::checks::{displays, holds, same};
 
 /// The length of the test file: two whole chunks, and a short one.
 const LEN: usize = 2 * CHUNK_LEN + 5;

@@ -2,6 +2,7 @@
 
 ghost use Rattle.std.specs.Prelude.{◌≤◌, length};
 
+use crate::checks::{displays, holds, same};
 use aead_ciphers::aead::{AES_256_GCM, Aad, LessSafeKey, Nonce, UnboundKey};
 use md5::{Digest, Md5};
 use sealed_file::{
@@ -13,7 +14,6 @@ use std::io::{self, ErrorKind};
 use std::process::Abort;
 use std::random::RandomSource;
 use std::test::Fail;
-use test_support::checks::{displays, holds, same};
 use test_support::failing_streams::FailingStream;
 
 /// The key: the bytes 0 to 31.

@@ -1,5 +1,5 @@
-//! What the test crates share: assertions, and a stream that fails.
+//! What the test crates share: a stream that fails, and bytes that print in hex.
 #![tactic(auto)]
 
-pub mod checks;
 pub mod failing_streams;
+pub mod hex;
