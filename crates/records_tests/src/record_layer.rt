@@ -210,7 +210,7 @@ fn every_flipped_bit_is_refused(rt: HostRuntime) -> Result<(), Fail> {
 fn is_closed(rt: &impl Abort, reader: &mut Reader, record: &mut [u8]) {
     let closed = RecordError::Closed;
     holds(rt, reader.read(record).err() == Some(closed), "read");
-    holds(rt, reader.update(&KEY[..16], IV) == Err(closed), "update");
+    holds(rt, reader.update_with(&KEY[..16], IV) == Err(closed), "update");
     holds(rt, reader.set_size_limit(64) == Err(closed), "a size limit");
 }
 
@@ -437,8 +437,8 @@ impl Ends {
     }
 
     fn update(&mut self) -> Result<(), RecordError> {
-        self.writer.update(&KEY[16..], IV)?;
-        self.reader.update(&KEY[16..], IV)
+        self.writer.update_with(&KEY[16..], IV)?;
+        self.reader.update_with(&KEY[16..], IV)
     }
 
     fn meets(&mut self, rt: &impl Abort, alloc: Global, event: Event) -> Result<(), RecordError> {
