@@ -1,7 +1,7 @@
 //! One end of a TLS 1.3 connection after the handshake: what it receives, over the peer's key updates, and what it sends.
 
-ghost use Rattle.std.specs.Prelude.{◌≡◌, ◌≢◌, ◌↔◌, ◌+◌, ◌<◌, ◌≤◌, ◌++◌, ℕ, List, [], ◌∷◌, map, length, take, drop, slice_range, slice_index, false, true, IsTrue, IsFalse, IsSome, IsOk, IfOk, IfErr, IfSome, IsErrOf, OnOk, OnErr, Ok, Err, None, cond, vec_len};
-ghost use Rattle.records.specs.Keys.{next_writer, reader_of};
+ghost use Rattle.std.specs.Prelude.{◌≡◌, ◌≢◌, ◌↔◌, ◌+◌, ◌<◌, ◌≤◌, ◌++◌, ℕ, List, [], ◌∷◌, map, length, take, drop, slice_range, slice_index, false, true, IsTrue, IsFalse, IsOk, IfOk, IfErr, IfSome, IsErrOf, OnOk, OnErr, Ok, Err, None, cond, vec_len};
+ghost use Rattle.records.specs.Keys.{IsOfSecret, next_writer, reader_of};
 ghost use Rattle.records.specs.Record.{record_at};
 ghost use Rattle.records.specs.Refusals.{alert_of as record_alert};
 ghost use Rattle.tls_messages.specs.Steps.{alert_of as message_alert};
@@ -96,7 +96,7 @@ impl ReceiveError {
     }
 }
 
-/// What is known of what the peer sends.
+/// The state of what the peer sends.
 #[derive(Drop)]
 pub struct Incoming {
     pub reader: Reader,
@@ -128,9 +128,10 @@ impl Incoming {
 
     /// Continues under the next traffic secret, after a KeyUpdate with this byte (RFC 8446 section 4.6.3).
     fn update(&mut self, request: u8) -> Result<(), RecordError>
-        ensures accepted { IsOk result
-            ↔ (IsFalse self.old.reader.is_closed × IsSome self.old.reader.secret) }
+        requires { IsOfSecret self.old.reader.secret self.old.reader.key }
+        ensures accepted { IsOk result ↔ IsFalse self.old.reader.is_closed }
         ensures updated { OnOk result (self.new ≡ updated self.old request) }
+        ensures is_of { IsOfSecret self.new.reader.secret self.new.reader.key }
     {
         self.reader.update()?;
         self.owes_update = self.owes_update || request == 1;
@@ -146,11 +147,13 @@ fn receive_messages(
     mut content: &[u8],
     handed: &mut Vec<Vec<u8>>,
 ) -> Result<(), ReceiveError>
+    requires { IsOfSecret incoming.old.reader.secret incoming.old.reader.key }
     ensures updated { OnOk result (incoming.new
         ≡ updated_by (messages_of (messages.old.part ++ content.entry.now)) incoming.old) }
     ensures handed { OnOk result (map (λ v. v.items) handed.new.items ≡ map (λ v. v.items) handed.old.items
         ++ handed_over (messages_of (messages.old.part ++ content.entry.now))) }
     ensures part { OnOk result (messages.new.part ≡ part_of (messages.old.part ++ content.entry.now)) }
+    ensures is_of { IsOfSecret incoming.new.reader.secret incoming.new.reader.key }
 {
     while let Some(message) = messages.next(&mut content)? {
         if message[0] == KEY_UPDATE {
@@ -184,9 +187,11 @@ fn receive_record(
     bytes: &mut [u8],
     received: &mut Received,
 ) -> Result<(), ReceiveError>
+    requires is_of { IsOfSecret incoming.old.reader.secret incoming.old.reader.key }
     requires going { IsFalse incoming.old.is_ended }
     ensures step { OnOk result (Step (receiving incoming.old messages.old received.old) bytes.old
         (receiving incoming.new messages.new received.new)) }
+    ensures is_of { IsOfSecret incoming.new.reader.secret incoming.new.reader.key }
 {
     let end = bytes.len();
     let (content_type, len) = incoming.reader.gather(bytes, 0, 0, end)?;
@@ -216,10 +221,12 @@ fn receive_at(
     received: &mut Received,
 ) -> Result<(), ReceiveError>
     requires range { (at ≤ end) × (end ≤ length bytes.old) }
+    requires is_of { IsOfSecret incoming.old.reader.secret incoming.old.reader.key }
     requires going { IsFalse incoming.old.is_ended }
     ensures step { OnOk result (Step (receiving incoming.old messages.old received.old)
         (slice_range bytes.old at end) (receiving incoming.new messages.new received.new)) }
     ensures kept { drop end bytes.new ≡ drop end bytes.old }
+    ensures is_of { IsOfSecret incoming.new.reader.secret incoming.new.reader.key }
 {
     receive_record(alloc, incoming, messages, &mut bytes[at..end], received)
 }
@@ -246,12 +253,14 @@ fn receive_records(
     bytes: &mut [u8],
     received: &mut Received,
 ) -> Result<usize, ReceiveError>
+    requires is_of { IsOfSecret incoming.old.reader.secret incoming.old.reader.key }
     requires going { IsFalse incoming.old.is_ended }
     ensures taken { IfOk result (λ n. Taken Step bytes.old (receiving incoming.old messages.old received.old)
         n (receiving incoming.new messages.new received.new)) }
     ensures within { IfOk result (λ n. n ≤ length bytes.old) }
     ensures kept { IfOk result (λ n. drop n bytes.new ≡ drop n bytes.old) }
     ensures more { IfOk result (λ n. IsFalse incoming.new.is_ended → NeedsMore (drop n bytes.new)) }
+    ensures is_of { IsOfSecret incoming.new.reader.secret incoming.new.reader.key }
 {
     let mut at = 0;
     while let Some(len) = protected_len(&bytes[at..])? {
@@ -277,11 +286,13 @@ pub fn receive(
     bytes: &mut [u8],
     received: &mut Received,
 ) -> Result<usize, ReceiveError>
+    requires { IsOfSecret incoming.old.reader.secret incoming.old.reader.key }
     ensures taken { IfOk result (λ n. Taken Step bytes.old (receiving incoming.old messages.old received.old)
         n (receiving incoming.new messages.new received.new)) }
     ensures within { IfOk result (λ n. n ≤ length bytes.old) }
     ensures kept { IfOk result (λ n. drop n bytes.new ≡ drop n bytes.old) }
     ensures more { IfOk result (λ n. IsFalse incoming.new.is_ended → NeedsMore (drop n bytes.new)) }
+    ensures is_of { IsOfSecret incoming.new.reader.secret incoming.new.reader.key }
     ensures ends { OnErr result (IsTrue incoming.new.is_ended) }
     ensures ended { IsTrue incoming.old.is_ended → IsErrOf result ReceiveError.Ended
         × (incoming.new ≡ incoming.old) × (messages.new ≡ messages.old) × (bytes.new ≡ bytes.old)
@@ -302,7 +313,7 @@ const KEY_UPDATE_MESSAGE: [u8; 5] = [KEY_UPDATE, 0, 0, 1, 0];
 
 /// Appends a KeyUpdate under the old key, and continues under the next traffic secret (RFC 8446 section 4.6.3).
 pub fn send_key_update(writer: &mut Writer, out: &mut Vec<u8>) -> Result<(), RecordError>
-    requires { IsSome writer.old.secret }
+    requires { IsOfSecret writer.old.secret writer.old.key }
     ensures sent { OnOk result (out.new.items ≡ out.old.items
         ++ record_at writer.old.key writer.old.number key_update_record) }
     ensures updated { OnOk result (writer.new ≡ next_writer writer.old) }
@@ -319,14 +330,14 @@ pub fn send(
     content: &[u8],
     out: &mut Vec<u8>,
 ) -> Result<(), RecordError>
-    requires { IsSome writer.old.secret }
+    requires { IsOfSecret writer.old.secret writer.old.key }
     ensures sent { IsFalse incoming.old.owes_update → OnOk result (out.new.items ≡ out.old.items
         ++ record_at writer.old.key writer.old.number (data_record content.now)) }
     ensures answered { IsTrue incoming.old.owes_update → OnOk result (out.new.items ≡ (out.old.items
         ++ record_at writer.old.key writer.old.number key_update_record)
         ++ record_at (next_writer writer.old).key 0 (data_record content.now)) }
     ensures settled { OnOk result (incoming.new ≡ record incoming.old { owes_update = false }) }
-    ensures has_secret { IsSome writer.new.secret }
+    ensures is_of { IsOfSecret writer.new.secret writer.new.key }
 {
     if incoming.owes_update {
         send_key_update(writer, out)?;

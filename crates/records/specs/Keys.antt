@@ -1,5 +1,5 @@
 -- Keys, writers and readers as contracts see them.
-use Rattle.std.specs.Prelude.{◌≡◌, ℕ, zero, suc, ◌+◌, ◌-◌, ◌^◌, Bool, false, List, Option, Some, None}
+use Rattle.std.specs.Prelude.{◌≡◌, ℕ, zero, suc, ◌+◌, ◌-◌, ◌^◌, Bool, false, List, Option, Some, None, IfSome, IsSome}
 use Rattle.aead_ciphers.specs.declared.aead.algorithm.Algorithm.{Algorithm}
 use Rattle.aead_ciphers.specs.declared.aead.algorithm.AlgorithmId.TheVariants.{AES_128_GCM, AES_256_GCM}
 use Rattle.key_derivation.specs.Secret.{SecretState}
@@ -57,6 +57,11 @@ pub record IsKeyOf (s : SecretState) (key : KeyState) : Type 0 where
 pub record Holds (s : SecretState) (secret : Option SecretState) (key : KeyState) : Type 0 where
   pub secret_is : secret ≡ Some s
   pub key_is : IsKeyOf s key
+
+-- a traffic secret is held, and the key is that of this secret
+pub record IsOfSecret (secret : Option SecretState) (key : KeyState) : Type 0 where
+  pub held : IsSome secret
+  pub key_is : IfSome secret (λ s. IsKeyOf s key)
 
 -- the ends of a secret, before their first record
 abbrev pub writer_of : SecretState → WriterState

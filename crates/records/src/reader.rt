@@ -2,7 +2,7 @@
 
 ghost use Rattle.std.specs.Prelude.{◌≡◌, ◌≢◌, ◌+◌, ◌-◌, ◌^◌, ◌≤◌, ◌↔◌, min, length, slice_range, None, IsTrue, IsFalse, IsSome, IsNone, IfSome, IsOk, IfOk, IsOkUnless, IsErrOf, IfErr, OnOk, OnErr, false};
 ghost use Rattle.aead_ciphers.specs.Algorithm.{key_len};
-ghost use Rattle.records.specs.Keys.{IsKeyOf, new_key, next_reader, reader_of, rekeyed};
+ghost use Rattle.records.specs.Keys.{IsKeyOf, IsOfSecret, new_key, next_reader, reader_of, rekeyed};
 ghost use Rattle.records.specs.Steps.{content_at, lent_content, after_error, LeavesInner, LeavesRefused, Reads};
 
 use crate::content_type::ContentType;
@@ -178,6 +178,7 @@ impl Reader {
         ensures closed { IsTrue self.old.is_closed → IsErrOf result RecordError.Closed }
         ensures refused { IsFalse self.old.is_closed → IsOkUnless result RecordError.NoSecret }
         ensures updated { OnOk result (self.new ≡ next_reader self.old) }
+        ensures is_of { IsSome self.old.secret → IsOfSecret self.new.secret self.new.key }
         ensures kept { OnErr result (self.new ≡ self.old) }
     {
         if self.is_closed {

@@ -2,7 +2,7 @@
 
 ghost use Rattle.std.specs.Prelude.{◌≡◌, ◌+◌, ◌-◌, ◌^◌, ◌<◌, ◌≤◌, ◌↔◌, ◌++◌, min, length, drop, replicate, slice_range, vec_len, vec_capacity, None, IsSome, IsNone, IfSome, IsOk, IfOk, IsOkUnless, OnOk, IfErr, OnErr, IsErrOf};
 ghost use Rattle.aead_ciphers.specs.Algorithm.{key_len};
-ghost use Rattle.records.specs.Keys.{IsKeyOf, new_key, next_writer, rekeyed, writer_of};
+ghost use Rattle.records.specs.Keys.{IsKeyOf, IsOfSecret, new_key, next_writer, rekeyed, writer_of};
 ghost use Rattle.records.specs.Record.{IsAllowed, record_at};
 ghost use Rattle.records.specs.Refusals.{RefusesContent, RefusesToSeal};
 
@@ -143,6 +143,7 @@ impl Writer {
         ensures accepted { IsOk result ↔ IsSome self.old.secret }
         ensures refused { IsOkUnless result RecordError.NoSecret }
         ensures updated { OnOk result (self.new ≡ next_writer self.old) }
+        ensures is_of { IsSome self.old.secret → IsOfSecret self.new.secret self.new.key }
         ensures kept { OnErr result (self.new ≡ self.old) }
     {
         let Some(secret) = &self.secret else {
