@@ -1,4 +1,5 @@
 pub mod DatagramLemmas
+pub mod FieldLemmas
 pub mod HeaderLemmas
 pub mod LaterBytes
 pub mod NumberBytes

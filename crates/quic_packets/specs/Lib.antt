@@ -4,6 +4,7 @@ pub mod Errors
 pub mod Exchange
 pub mod Failures
 pub mod Header
+pub mod HeaderBytes
 pub mod Keys
 pub mod Laws
 pub mod Numbers

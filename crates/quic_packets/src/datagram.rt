@@ -12,7 +12,7 @@ use thiserror::Error;
 /// The longest connection ID of version 1, in bytes (RFC 9000 section 17.2).
 pub(crate) const MAX_ID_LEN: usize = 20;
 
-const TAG_LEN: usize = 16;
+pub(crate) const TAG_LEN: usize = 16;
 
 /// The type of a packet, by the form of its header, its version and its type field (RFC 9000 sections 17.2 and 17.3).
 #[derive(Clone, Copy, PartialEq, Eq, Debug)]
