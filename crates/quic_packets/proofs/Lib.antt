@@ -14,3 +14,4 @@ pub mod RunLemmas
 pub mod SenderRuns
 pub mod SentLemmas
 pub mod SpaceLemmas
+pub mod WrittenLemmas

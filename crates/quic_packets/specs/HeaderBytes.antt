@@ -1,6 +1,9 @@
 -- The bytes of a header of version 1 up to its packet number, before protection (RFC 9000 section 17).
-use Rattle.std.specs.Prelude.{◌≡◌, ℕ, ◌+◌, ◌-◌, ◌*◌, ◌^◌, ◌<◌, ◌≤◌, Bool, nat_lt, if◌then◌else◌, List, [], ◌∷◌, ◌++◌, length, take, drop}
+use Rattle.std.specs.Prelude.{◌≡◌, ℕ, ◌+◌, ◌-◌, ◌*◌, ◌^◌, ◌<◌, ◌≤◌, Bool, nat_lt, if◌then◌else◌, List, [], ◌∷◌, ◌++◌, length, take, drop, slice_range, None, Some}
 use Rattle.std.specs.Int.{bytes_high_first}
+use Rattle.quic_packets.specs.declared.datagram.Packet.{Packet}
+use Rattle.quic_packets.specs.declared.datagram.PacketType.{PacketType}
+use Rattle.quic_packets.specs.declared.datagram.PacketType.TheVariants.{Initial as InitialPacket, ZeroRtt as ZeroRttPacket, Handshake as HandshakePacket, OneRtt}
 use Rattle.quic_packets.specs.declared.header_writer.LongHeader.{LongHeader}
 use Rattle.quic_packets.specs.declared.header_writer.LongType.{LongType}
 use Rattle.quic_packets.specs.declared.header_writer.LongType.TheVariants.{Initial, ZeroRtt, Handshake}
@@ -94,3 +97,32 @@ pub record IsShortHeader (header : ShortHeader) : Type 0 where
 -- a buffer with a field from a byte on
 abbrev pub with_field : ℕ → List ℕ → List ℕ → List ℕ
 with_field at field buffer = take at buffer ++ (field ++ drop (at + length field) buffer)
+
+-- the type of a packet with this header
+abbrev pub packet_type_of : LongType → PacketType
+packet_type_of (Initial token) = InitialPacket
+packet_type_of ZeroRtt = ZeroRttPacket
+packet_type_of Handshake = HandshakePacket
+
+-- The parts of a packet with this header that begins at the first byte of a datagram: its type and its version, the bytes of its
+-- connection IDs and its token, the position of its number, and its end, to which Length counts from the number on (section 17.2).
+pub record HasLongParts (header : LongHeader) (datagram : List ℕ) (packet : Packet) : Type 0 where
+  pub start : packet.start ≡ 0
+  pub packet_type : packet.packet_type ≡ packet_type_of header.packet_type
+  pub version : packet.version ≡ Some 1
+  pub destination_id : slice_range datagram packet.destination_id.start packet.destination_id.end ≡ header.destination_id.now
+  pub source_id : slice_range datagram packet.source_id.start packet.source_id.end ≡ header.source_id.now
+  pub token : slice_range datagram packet.token.start packet.token.end ≡ token_of header.packet_type
+  pub number_at : packet.number_at ≡ Some (length (long_header header))
+  pub end : packet.end ≡ length (long_header header) + length_of header
+
+-- The same for a short header. Such a packet is the rest of the datagram (sections 12.2 and 17.3.1).
+pub record HasShortParts (header : ShortHeader) (datagram : List ℕ) (packet : Packet) : Type 0 where
+  pub start : packet.start ≡ 0
+  pub packet_type : packet.packet_type ≡ OneRtt
+  pub version : packet.version ≡ None
+  pub destination_id : slice_range datagram packet.destination_id.start packet.destination_id.end ≡ header.destination_id.now
+  pub source_id : slice_range datagram packet.source_id.start packet.source_id.end ≡ []
+  pub token : slice_range datagram packet.token.start packet.token.end ≡ []
+  pub number_at : packet.number_at ≡ Some (length (short_header header))
+  pub end : packet.end ≡ length datagram

@@ -1,21 +1,24 @@
 //! Laws of the definitions: functions without a body, each of whose contracts states a law for its arguments.
 
-ghost use Rattle.std.specs.Prelude.{◌≡◌, ◌≢◌, ℕ, ◌+◌, ◌*◌, ◌%◌, ◌^◌, ◌<◌, ◌≤◌, List, length, slice_index, flat_map, All, AllPairs, Contains, IsFalse, IsTrue, Result};
+ghost use Rattle.std.specs.Prelude.{◌≡◌, ◌≢◌, ℕ, ◌+◌, ◌*◌, ◌%◌, ◌^◌, ◌<◌, ◌≤◌, List, ◌++◌, length, slice_index, flat_map, All, AllPairs, Contains, IsFalse, IsTrue, Result};
 ghost use Rattle.std.specs.Int.Digits.{number_from_digits};
 ghost use Rattle.aead_ciphers.specs.Counting.{xored_nonce};
 ghost use Rattle.aead_ciphers.specs.Packet.{PacketFits, sealed_packet};
 ghost use Rattle.quic_packets.specs.Datagram.{packet_of};
 ghost use Rattle.quic_packets.specs.Header.{HasSample, Protected, Unprotected, number_len};
+ghost use Rattle.quic_packets.specs.HeaderBytes.{HasLongParts, HasShortParts, IsLongHeader, IsShortHeader, length_of, long_header, short_header};
 ghost use Rattle.quic_packets.specs.Exchange.{Counts, Follows, GivesBack, HasSent, Holds, Life, Sent, WasSentInPhase};
 ghost use Rattle.quic_packets.specs.Laws.{OpensTo};
 ghost use Rattle.quic_packets.specs.Numbers.{InWindow, IsAbove, IsDecoded, Represents, expected, unacknowledged};
 ghost use Rattle.quic_packets.specs.Sending.{Runs, after_acknowledgement};
 ghost use Rattle.quic_packets.specs.Packet.{HasNumber, IsNumber, low_bytes};
 ghost use Rattle.quic_packets.specs.Receiving.{Outcome, Reads, Receiver as ReceiverState};
+ghost use Rattle.quic_packets.specs.declared.datagram.Packet.{Packet};
 ghost use Rattle.quic_packets.specs.declared.error.PacketError.{PacketError};
 ghost use Rattle.quic_packets.specs.declared.receiver.Received.{Received};
 
 use crate::header::HeaderKey;
+use crate::header_writer::{LongHeader, ShortHeader};
 use crate::key::PacketKey;
 use crate::receiver::Receiver;
 use crate::sender::Sender;
@@ -139,6 +142,24 @@ pub fn received_as_sent(sender: &Sender, receiver: &Receiver, space: &Space)
         → Reads receiver.now.header space.now.next packet.number_at packet.wire plain number
         → (start : ℕ) → Outcome receiver.now space.now start packet.number_at plain number result after opened
         → GivesBack space.now start packet result opened }
+{}
+
+/// A long header that is written is parsed as it was given, with what follows it: its type, its connection IDs and its token, the
+/// packet number behind it, and the end of the packet, to which Length counts (RFC 9000 sections 17.2.2 to 17.2.4).
+pub fn long_header_is_parsed(header: &LongHeader<'_>, connection_id_len: usize)
+    requires { IsLongHeader header.now }
+    ensures { (rest : List ℕ) → length_of header.now ≤ length rest → (packet : Packet)
+        × (packet_of connection_id_len (long_header header.now ++ rest) 0 ≡ Ok packet)
+        × HasLongParts header.now (long_header header.now ++ rest) packet }
+{}
+
+/// A short header that is written is parsed as it was given, with what follows it. The packet is the rest of the datagram (RFC 9000
+/// section 17.3.1).
+pub fn short_header_is_parsed(header: &ShortHeader<'_>)
+    requires { IsShortHeader header.now }
+    ensures { (rest : List ℕ) → (packet : Packet)
+        × (packet_of (length header.now.destination_id.now) (short_header header.now ++ rest) 0 ≡ Ok packet)
+        × HasShortParts header.now (short_header header.now ++ rest) packet }
 {}
 
 /// The parts of a packet depend on the bytes from its first one on alone. So `Receiver::receive`, which changes no byte outside
