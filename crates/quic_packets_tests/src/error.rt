@@ -1,6 +1,6 @@
 //! What the errors print.
 
-use quic_packets::{DatagramError, PacketError, RetryError};
+use quic_packets::{DatagramError, HeaderError, PacketError, RetryError};
 use std::test::Fail;
 use test_support::checks::displays;
 
@@ -94,6 +94,25 @@ const DATAGRAM_ERRORS: [(DatagramError, &str); 2] = [
     ),
 ];
 
+const HEADER_ERRORS: [(HeaderError, &str); 4] = [
+    (
+        HeaderError::NumberLength,
+        "a packet number has 1 to 4 bytes",
+    ),
+    (
+        HeaderError::IdTooLong,
+        "a connection ID of version 1 has at most 20 bytes",
+    ),
+    (
+        HeaderError::TooLong,
+        "the token or the packet has 2^30 bytes or more",
+    ),
+    (
+        HeaderError::NoRoom,
+        "the buffer is shorter than the header",
+    ),
+];
+
 const RETRY_ERRORS: [(RetryError, &str); 2] = [
     (
         RetryError::IdTooLong,
@@ -124,6 +143,14 @@ fn datagram_errors(rt: HostRuntime) -> Result<(), Fail> {
 #[test]
 fn retry_errors(rt: HostRuntime) -> Result<(), Fail> {
     for (error, text) in &RETRY_ERRORS {
+        displays(&rt, error, text)?;
+    }
+    Ok(())
+}
+
+#[test]
+fn header_errors(rt: HostRuntime) -> Result<(), Fail> {
+    for (error, text) in &HEADER_ERRORS {
         displays(&rt, error, text)?;
     }
     Ok(())
