@@ -4,7 +4,7 @@ ghost use Rattle.std.specs.Prelude.{◌≤◌, length};
 
 use crate::initial_keys::client_initial_keys;
 use key_derivation::DerivationError;
-use quic_packets::{HeaderError, LongHeader, LongType, PacketError, Sender, Suite};
+use quic_packets::{FixedBit, HeaderError, LongHeader, LongType, PacketError, Sender, Suite};
 use thiserror::Error;
 
 /// The length of the datagram, which has to be 1200 or more (RFC 9000 section 14.1).
@@ -48,6 +48,6 @@ pub fn first_packet(
     let mut packet = [0; DATAGRAM_LEN];
     let room = header.write(&mut packet)?;
     packet[room.end..room.end + frames.len()].copy_from_slice(frames);
-    sender.send(&mut packet, room)?;
+    sender.send(&mut packet, room, FixedBit::Required)?;
     Ok(packet)
 }

@@ -1,18 +1,22 @@
 -- The parts of a header that was written.
 use Rattle.std.proofs.Common.{◌≡◌, ℕ, zero, suc, ◌+◌, ◌-◌, ◌*◌, ◌/◌, ◌%◌, ◌^◌, ◌<◌, ◌≤◌, List, [], ◌∷◌, ◌++◌, length, get_or, take, drop, refl, sym, ap, ap₂, subst, ◌∙◌, arith, add-zero, append_assoc, drop_at, length-append, take_at, Ok, Err, Result, Some, None, Option, Bool, false, true}
+use Rattle.std.proofs.Math.Bool.{and-false}
 use Rattle.std.proofs.Math.Seq.{get_or-append_seam}
 use Rattle.std.proofs.lemmas.Bool.{cond_both, le-ltb, lt-ltb, ltb-true}
 use Rattle.std.proofs.lemmas.List.{append-nil, get_or-append-add, get_or_append_left}
 use Rattle.std.proofs.lemmas.Nat.{pow_pos}
 use Rattle.std.specs.Int.{bytes_high_first}
 use Rattle.std.specs.Int.Digits.{number_from_digits}
-use Rattle.std.specs.Prelude.{nat_lt, slice_range, ◌==◌, ◌||◌, if◌then◌else◌}
+use Rattle.std.specs.Prelude.{nat_lt, slice_range, ◌==◌, ◌&&◌, ◌||◌, if◌then◌else◌}
 use Rattle.std.specs.declared.ops.Range.{Range}
-use Rattle.quic_packets.specs.Datagram.{has_long_id, initial_token, long_packet, numbered_layout, packet_of, retry_layout, short_layout, source_end, span, varint, varint_end, version_1_layout, versioned_layout, whole}
-use Rattle.quic_packets.specs.declared.datagram.DatagramError.TheVariants.{Cut, IdTooLong}
+use Rattle.quic_packets.specs.Datagram.{has_long_id, initial_token, long_packet, numbered_layout, packet_of, parts_of, retry_layout, short_layout, source_end, span, varint, varint_end, version_1_layout, versioned_layout, whole, with_fixed_bit}
+use Rattle.quic_packets.specs.declared.datagram.DatagramError.TheVariants.{Cut, IdTooLong, NoFixedBit}
 use Rattle.quic_packets.specs.declared.datagram.Packet.{Packet}
 use Rattle.quic_packets.specs.declared.datagram.PacketType.{PacketType}
 use Rattle.quic_packets.specs.declared.datagram.PacketType.TheVariants.{Initial as InitialPacket, ZeroRtt as ZeroRttPacket, Handshake as HandshakePacket, OneRtt}
+use Rattle.quic_packets.specs.declared.fixed_bit.FixedBit.{FixedBit}
+use Rattle.quic_packets.specs.declared.fixed_bit.FixedBit.TheVariants.{Required, Greased}
+use Rattle.quic_packets.specs.FixedBit.{lacks_fixed_bit}
 use Rattle.quic_packets.specs.declared.header_writer.LongHeader.{LongHeader}
 use Rattle.quic_packets.specs.declared.header_writer.LongType.{LongType}
 use Rattle.quic_packets.specs.declared.header_writer.LongType.TheVariants.{Initial, ZeroRtt, Handshake}
@@ -99,7 +103,7 @@ record HasParts (datagram : List ℕ) (packet : Packet) (kind : PacketType) (id 
 
 abbrev IsParsed : (id_len : ℕ) (datagram : List ℕ) (kind : PacketType) (id source text : List ℕ) (at to : ℕ) → Type 0
 IsParsed id_len datagram kind id source text at to =
-    (p : Packet) × (packet_of id_len datagram 0 ≡ Ok p) × HasParts datagram p kind id source text at to
+    (p : Packet) × (parts_of id_len datagram 0 ≡ Ok p) × HasParts datagram p kind id source text at to
 
 -- a long header with its fields, and what follows it
 module _ (first : ℕ) (id source token : List ℕ) (log n : ℕ) (rest : List ℕ) (long : 0x80 ≤ first) (short_id : length id ≤ 20)
@@ -159,7 +163,7 @@ module _ (first : ℕ) (id source token : List ℕ) (log n : ℕ) (rest : List �
     abbrev packet : Packet
     packet = numbered_layout datagram 0 kind place
 
-    parsed : (id_len : ℕ) → packet_of id_len datagram 0 ≡ Ok packet
+    parsed : (id_len : ℕ) → parts_of id_len datagram 0 ≡ Ok packet
     parsed id_len =
         ap (λ b. if b then whole datagram (short_layout id_len datagram 0) else long_packet datagram 0) (le-ltb first 0x80 long)
         ∙ ap (λ b. if b then Err IdTooLong else whole datagram (versioned_layout datagram 0)) short_ids
@@ -274,14 +278,38 @@ by_type Handshake id source m n rest is short_id short_source short_token short_
     handshake (long_first_byte 2 m) id source [] (length_log n) n rest (omega arith) short_id short_source encodes.0 encodes.1 whole id_len refl
     (omega (arith, is.some, is.few))
 
-pub long_parsed : (header : LongHeader) → IsLongHeader header → (rest : List ℕ) → length_of header ≤ length rest → (id_len : ℕ)
-    → (p : Packet) × (packet_of id_len (long_header header ++ rest) 0 ≡ Ok p) × HasLongParts header (long_header header ++ rest) p
-long_parsed header is rest whole id_len =
+-- the fixed bit
+with_bit : (fixed_bit : FixedBit) (version : Option ℕ) (byte : ℕ) → byte / 2 ^ 6 % 2 ≡ 1 → lacks_fixed_bit fixed_bit version byte ≡ false
+with_bit Required None byte is = ap (λ b. b == 0) is
+with_bit Required (Some version) byte is = ap (λ b. (version == 1) && (b == 0)) is ∙ and-false (version == 1)
+with_bit Greased version byte is = refl
+
+first_bit : (bits m : ℕ) → bits < 4 → IsNumberLen m → long_first_byte bits m / 2 ^ 6 % 2 ≡ 1
+first_bit bits m few is = omega (arith, is.some, is.few)
+
+type_few : (kind : LongType) → type_bits kind < 4
+type_few (Initial token) = omega arith
+type_few ZeroRtt = omega arith
+type_few Handshake = omega arith
+
+long_first : (header : LongHeader) → IsNumberLen header.number_len
+    → long_first_byte (type_bits header.packet_type) header.number_len / 2 ^ 6 % 2 ≡ 1
+long_first header is = first_bit (type_bits header.packet_type) header.number_len (type_few header.packet_type) is
+
+short_first : (phase : Bool) (m : ℕ) → IsNumberLen m → short_first_byte phase m / 2 ^ 6 % 2 ≡ 1
+short_first true m is = omega (arith, is.some, is.few)
+short_first false m is = omega (arith, is.some, is.few)
+
+pub long_parsed : (header : LongHeader) → IsLongHeader header → (rest : List ℕ) → length_of header ≤ length rest
+    → (fixed_bit : FixedBit) (id_len : ℕ) → (p : Packet) × (packet_of fixed_bit id_len (long_header header ++ rest) 0 ≡ Ok p) × HasLongParts header (long_header header ++ rest) p
+long_parsed header is rest whole fixed_bit id_len =
     let found =
     by_type header.packet_type header.destination_id.now header.source_id.now header.number_len (length_of header) rest is.number
     is.ids.destination is.ids.source is.fields.token is.fields.payload whole id_len in (
       found.0,
-      found.1,
+      ap (with_fixed_bit fixed_bit _) found.1
+      ∙ ap (λ b. if b then Err NoFixedBit else Ok found.0) (with_bit fixed_bit found.0.version
+      (long_first_byte (type_bits header.packet_type) header.number_len) (long_first header is.number)),
       record {
         start = found.2.start;
         packet_type = found.2.packet_type;
@@ -298,10 +326,10 @@ short_form : (phase : Bool) (m : ℕ) → m ≤ 4 → short_first_byte phase m <
 short_form true m few = omega arith
 short_form false m few = omega arith
 
-pub short_parsed : (header : ShortHeader) → IsShortHeader header → (rest : List ℕ)
-    → (p : Packet) × (packet_of (length header.destination_id.now) (short_header header ++ rest) 0 ≡ Ok p)
+pub short_parsed : (header : ShortHeader) → IsShortHeader header → (rest : List ℕ) → (fixed_bit : FixedBit)
+    → (p : Packet) × (packet_of fixed_bit (length header.destination_id.now) (short_header header ++ rest) 0 ≡ Ok p)
     × HasShortParts header (short_header header ++ rest) p
-short_parsed header is rest =
+short_parsed header is rest fixed_bit =
     let id : List ℕ = header.destination_id.now in
     let first : ℕ = short_first_byte header.phase header.number_len in
     let d : List ℕ = short_header header ++ rest in
@@ -310,8 +338,10 @@ short_parsed header is rest =
     let end : p.end ≡ length d = omega (arith, len) in
     let at : 0 + 1 + length id ≡ length (first ∷ id) = omega arith in (
       p,
-      ap (λ b. if b then whole d p else long_packet d 0) (lt-ltb first 0x80 (short_form header.phase header.number_len is.number.few))
-      ∙ ap (λ b. if b then Err Cut else Ok p) (le-ltb (length d) p.end (omega (arith, end))),
+      ap (λ b. with_fixed_bit fixed_bit first (if b then whole d p else long_packet d 0))
+      (lt-ltb first 0x80 (short_form header.phase header.number_len is.number.few))
+      ∙ ap (λ b. with_fixed_bit fixed_bit first (if b then Err Cut else Ok p)) (le-ltb (length d) p.end (omega (arith, end)))
+      ∙ ap (λ b. if b then Err NoFixedBit else Ok p) (with_bit fixed_bit None first (short_first header.phase header.number_len is.number)),
       record {
         start = refl;
         packet_type = refl;

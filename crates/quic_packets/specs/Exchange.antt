@@ -9,6 +9,7 @@ use Rattle.quic_packets.specs.Space.{IsNew, Marks, Space}
 use Rattle.quic_packets.specs.Suite.{algorithm}
 use Rattle.quic_packets.specs.declared.error.PacketError.{PacketError}
 use Rattle.quic_packets.specs.declared.error.PacketError.TheVariants.{Duplicate}
+use Rattle.quic_packets.specs.declared.fixed_bit.FixedBit.{FixedBit}
 use Rattle.quic_packets.specs.declared.receiver.Received.{Received}
 use Rattle.quic_packets.specs.declared.suite.Suite.{Suite}
 
@@ -47,8 +48,8 @@ updates_before (update ∷ earlier) number = (if nat_le update.first number then
 pub data HasSent : Sender → Life → List Sent → Type 0 where
   begins : (suite : Suite) (key iv header_key : List ℕ) (first : ℕ) → HasSent (new_sender suite key iv header_key first)
       (record { key = record { algorithm = algorithm suite; bytes = key; iv = iv }; updates = [] }) []
-  sends : (s : Sender) (life : Life) (sent : List Sent) (start end : ℕ) (packet wire : List ℕ)
-      → IsSealable start end packet → IsInTurn s start end → IsSent s start end packet wire → HasSent s life sent
+  sends : (s : Sender) (life : Life) (sent : List Sent) (fixed_bit : FixedBit) (start end : ℕ) (packet wire : List ℕ)
+      → IsSealable fixed_bit start end packet → IsInTurn s start end → IsSent s start end packet wire → HasSent s life sent
       → HasSent (after_send s) life (record {
         number = s.next;
         number_at = start;

@@ -17,6 +17,7 @@ ghost use Rattle.quic_packets.specs.declared.datagram.Packet.{Packet};
 ghost use Rattle.quic_packets.specs.declared.error.PacketError.{PacketError};
 ghost use Rattle.quic_packets.specs.declared.receiver.Received.{Received};
 
+use crate::fixed_bit::FixedBit;
 use crate::header::HeaderKey;
 use crate::header_writer::{LongHeader, ShortHeader};
 use crate::key::PacketKey;
@@ -146,28 +147,35 @@ pub fn received_as_sent(sender: &Sender, receiver: &Receiver, space: &Space)
 
 /// A long header that is written is parsed as it was given, with what follows it: its type, its connection IDs and its token, the
 /// packet number behind it, and the end of the packet, to which Length counts (RFC 9000 sections 17.2.2 to 17.2.4).
-pub fn long_header_is_parsed(header: &LongHeader<'_>, connection_id_len: usize)
+pub fn long_header_is_parsed(header: &LongHeader<'_>, connection_id_len: usize, fixed_bit: FixedBit)
     requires { IsLongHeader header.now }
     ensures { (rest : List ℕ) → length_of header.now ≤ length rest → (packet : Packet)
-        × (packet_of connection_id_len (long_header header.now ++ rest) 0 ≡ Ok packet)
+        × (packet_of fixed_bit connection_id_len (long_header header.now ++ rest) 0 ≡ Ok packet)
         × HasLongParts header.now (long_header header.now ++ rest) packet }
 {}
 
 /// A short header that is written is parsed as it was given, with what follows it. The packet is the rest of the datagram (RFC 9000
 /// section 17.3.1).
-pub fn short_header_is_parsed(header: &ShortHeader<'_>)
+pub fn short_header_is_parsed(header: &ShortHeader<'_>, fixed_bit: FixedBit)
     requires { IsShortHeader header.now }
     ensures { (rest : List ℕ) → (packet : Packet)
-        × (packet_of (length header.now.destination_id.now) (short_header header.now ++ rest) 0 ≡ Ok packet)
+        × (packet_of fixed_bit (length header.now.destination_id.now) (short_header header.now ++ rest) 0 ≡ Ok packet)
         × HasShortParts header.now (short_header header.now ++ rest) packet }
 {}
 
 /// The parts of a packet depend on the bytes from its first one on alone. So `Receiver::receive`, which changes no byte outside
 /// its packet, leaves each later packet of the datagram as it came (RFC 9000 section 12.2).
-pub fn parts_of_its_bytes(datagram: &[u8], changed: &[u8], start: usize, connection_id_len: usize)
+pub fn parts_of_its_bytes(
+    datagram: &[u8],
+    changed: &[u8],
+    start: usize,
+    connection_id_len: usize,
+    fixed_bit: FixedBit,
+)
     requires len { length changed.now ≡ length datagram.now }
     requires same { (i : ℕ) → start ≤ i → slice_index changed.now i ≡ slice_index datagram.now i }
-    ensures { packet_of connection_id_len changed.now start ≡ packet_of connection_id_len datagram.now start }
+    ensures { packet_of fixed_bit connection_id_len changed.now start
+        ≡ packet_of fixed_bit connection_id_len datagram.now start }
 {}
 
 /// Over every run of packets that are received in one space, no number is received twice (RFC 9000 section 12.3).

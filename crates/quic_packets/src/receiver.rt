@@ -46,7 +46,7 @@ pub struct Received {
 /// let mut receiver = Receiver::new(Suite::Aes128Gcm, &KEY, IV, &HEADER_KEY)?;
 /// let mut space = Space::new();
 /// let mut failures = Failures::new();
-/// let parts = packet_at(&datagram, 0, CONNECTION_ID.len())?;
+/// let parts = packet_at(&datagram, 0, CONNECTION_ID.len(), FixedBit::Required)?;
 /// let received = receiver.receive(&mut space, &mut failures, &mut datagram, &parts)?;
 /// let payload = &datagram[received.payload];
 /// ```

@@ -4,7 +4,7 @@ use aead_vectors::rfc_9001::{A_2_PACKET, Packet};
 use examples::first_initial::first_packet;
 use examples::initial_keys::client_initial_keys;
 use examples::quic_connection::{self, Connection, Level, NextKey};
-use quic_packets::{Failures, PacketError, Receiver, Sender, Space, Suite};
+use quic_packets::{Failures, FixedBit, PacketError, Receiver, Sender, Space, Suite};
 use std::process::Abort;
 use std::test::Fail;
 use test_support::checks::{equal, same};
@@ -48,7 +48,7 @@ fn coalesced() -> Result<[u8; 80], PacketError> {
     let mut datagram = [4; 80];
     datagram[..16].copy_from_slice(&HANDSHAKE);
     let mut sender = sender()?;
-    sender.send(&mut datagram[..40], 16..20)?;
+    sender.send(&mut datagram[..40], 16..20, FixedBit::Required)?;
     quic_connection::send(&mut sender, &mut datagram[40..])?;
     Ok(datagram)
 }

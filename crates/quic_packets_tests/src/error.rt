@@ -4,7 +4,7 @@ use quic_packets::{DatagramError, HeaderError, PacketError, RetryError};
 use std::test::Fail;
 use test_support::checks::displays;
 
-const PACKET_ERRORS: [(PacketError, &str); 22] = [
+const PACKET_ERRORS: [(PacketError, &str); 23] = [
     (
         PacketError::KeyLength,
         "the key does not have the length of the algorithm's keys",
@@ -64,6 +64,10 @@ const PACKET_ERRORS: [(PacketError, &str); 22] = [
         "the packet is longer than AES-GCM allows",
     ),
     (
+        PacketError::NoFixedBit,
+        "the fixed bit of the packet is 0",
+    ),
+    (
         PacketError::NumbersEnded,
         "the packet number is not below 2^62",
     ),
@@ -86,11 +90,15 @@ const PACKET_ERRORS: [(PacketError, &str); 22] = [
     ),
 ];
 
-const DATAGRAM_ERRORS: [(DatagramError, &str); 2] = [
+const DATAGRAM_ERRORS: [(DatagramError, &str); 3] = [
     (DatagramError::Cut, "the datagram ends before the packet"),
     (
         DatagramError::IdTooLong,
         "a connection ID of version 1 has at most 20 bytes",
+    ),
+    (
+        DatagramError::NoFixedBit,
+        "the fixed bit of the packet is 0",
     ),
 ];
 

@@ -63,8 +63,10 @@ fn writes(
 ) -> Result<(), Fail> {
     let mut written = Vec::from_slice(alloc, wanted)?;
     written.extend_from_slice(&[0xaa; 5])?;
-    let mut buffer = written.clone()?;
-    buffer.as_mut_slice()[..wanted.len()].fill(0xaa);
+    let mut buffer = Vec::new(alloc);
+    for _ in 0..written.len() {
+        buffer.push(0xaa)?;
+    }
     let at = wanted.len();
     equal(
         rt,
