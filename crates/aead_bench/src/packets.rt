@@ -28,7 +28,7 @@ fn suite(key: &[u8]) -> Suite {
 struct Connection {
     sender: Sender,
     receiver: Receiver,
-    space: Space,
+    space: Space<2>,
     failures: Failures,
 }
 

@@ -20,7 +20,7 @@ const INTERNAL_ERROR: u64 = 0x01;
 #[derive(Drop)]
 pub struct Level {
     pub receiver: Receiver,
-    pub space: Space,
+    pub space: Space<2>,
 }
 
 /// The packet key of the sender's next phase.

@@ -5,7 +5,7 @@ use Rattle.quic_packets.specs.Datagram.{span}
 use Rattle.quic_packets.specs.Keys.{PacketKey}
 use Rattle.quic_packets.specs.Receiving.{Receiver, has_phase, received}
 use Rattle.quic_packets.specs.Sending.{IsInTurn, IsSealable, IsSent, Sender, after_acknowledgement, after_send, after_skip, after_update, is_long, new_sender, numbered_packet}
-use Rattle.quic_packets.specs.Space.{IsNew, Marks, Space}
+use Rattle.quic_packets.specs.Space.{IsNew, Marks, Space, new_space}
 use Rattle.quic_packets.specs.Suite.{algorithm}
 use Rattle.quic_packets.specs.declared.error.PacketError.{PacketError}
 use Rattle.quic_packets.specs.declared.error.PacketError.TheVariants.{Duplicate}
@@ -124,7 +124,7 @@ pub record GivesBack (space : Space) (start : ℕ) (packet : Sent) (result : Res
   })
   pub bytes : take (length packet.packet - 16) opened ≡ take (length packet.packet - 16) packet.packet
 
--- the numbers that a space counts as received, last one first: each was new
+-- the numbers that a space of some words counts as received, last one first: each was new
 pub data Counts : Space → List ℕ → Type 0 where
-  none : Counts (record { next = 0; seen = 0 }) []
+  none : (words : ℕ) → Counts (new_space words) []
   marks : (s t : Space) (number : ℕ) (numbers : List ℕ) → IsNew s number → Marks s number t → Counts s numbers → Counts t (number ∷ numbers)

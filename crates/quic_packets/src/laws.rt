@@ -133,7 +133,7 @@ pub fn acknowledged_was_sent(sender: &Sender)
 /// order, as long as the receiver holds the packet's key and the number is in the window around the expected one. Packets may
 /// arrive in any order and any number of times: the first time, the packet is received, with its number, its header and its
 /// payload; after that, it is a duplicate. `plain`, `number`, `result`, `after` and `opened` are those of `Receiver::receive`.
-pub fn received_as_sent(sender: &Sender, receiver: &Receiver, space: &Space)
+pub fn received_as_sent<const W: usize>(sender: &Sender, receiver: &Receiver, space: &Space<W>)
     requires { receiver.now.header ≡ sender.now.header_key }
     ensures { (life : Life) → (sent : List Sent) → (updates : ℕ) → (packet : Sent) → (plain opened : List ℕ) → (number : ℕ)
         → (result : Result Received PacketError) → (after : ReceiverState)
@@ -179,6 +179,6 @@ pub fn parts_of_its_bytes(
 {}
 
 /// Over every run of packets that are received in one space, no number is received twice (RFC 9000 section 12.3).
-pub fn no_number_received_twice(space: &Space)
+pub fn no_number_received_twice<const W: usize>(space: &Space<W>)
     ensures { (numbers : List ℕ) → Counts space.now numbers → AllPairs (λ m n. m ≢ n) numbers }
 {}

@@ -24,7 +24,7 @@ fn sender() -> Result<Sender, PacketError> {
 fn level() -> Result<Level, PacketError> {
     Ok(Level {
         receiver: Receiver::new(Suite::Aes256Gcm, &[1; 32], IV, &[3; 32])?,
-        space: Space::new(),
+        space: Space::<2>::new(),
     })
 }
 

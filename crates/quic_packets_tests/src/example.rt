@@ -35,7 +35,7 @@ fn one_packet(rt: HostRuntime) -> Result<(), Fail> {
     let mut datagram = send(rt.alloc(), &mut sender, b"hello")?;
 
     let mut receiver = Receiver::new(Suite::Aes128Gcm, &KEY, IV, &HEADER_KEY)?;
-    let mut space = Space::new();
+    let mut space = Space::<2>::new();
     let mut failures = Failures::new();
     let parts = packet_at(&datagram, 0, CONNECTION_ID.len(), FixedBit::Required)?;
     let received = receiver.receive(&mut space, &mut failures, &mut datagram, &parts)?;
