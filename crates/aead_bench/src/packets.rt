@@ -5,7 +5,7 @@ use crate::{NONCE, first_bytes};
 use aead_ciphers::aead::nonce_of;
 use aead_ciphers_base::aes::AES_128_KEY_LEN;
 use aead_ciphers_wide::aead::LessSafeKey;
-use quic_packets::{Failures, Packet, PacketError, Receiver, Sender, Space, Suite, packet_at};
+use quic_packets::{Failures, FixedBit, Packet, PacketError, Receiver, Sender, Space, Suite, packet_at};
 
 /// A short header of a QUIC packet: the first byte, a connection ID of 8 bytes, and a packet number of 2 bytes.
 const NUMBER_AT: usize = 9;
@@ -28,7 +28,7 @@ fn suite(key: &[u8]) -> Suite {
 struct Connection {
     sender: Sender,
     receiver: Receiver,
-    space: Space,
+    space: Space<2>,
     failures: Failures,
 }
 
@@ -45,7 +45,7 @@ impl Connection {
     fn send(&mut self, packet: &mut [u8]) -> Result<u64, PacketError> {
         let acknowledged = self.sender.next_number().saturating_sub(UNACKNOWLEDGED);
         self.sender.acknowledged(acknowledged)?;
-        self.sender.send(packet, NUMBER_AT..HEADER_LEN)
+        self.sender.send(packet, NUMBER_AT..HEADER_LEN, FixedBit::Required)
     }
 
     fn receive(&mut self, packet: &mut [u8], parts: &Packet) -> Result<u64, PacketError> {
@@ -95,7 +95,7 @@ pub extern "C" fn bench_send_and_receive(times: u64, key: &[u8], buffer: &mut [u
     let Ok(mut connection) = Connection::new(key) else {
         return 0
     };
-    let Ok(parts) = packet_at(buffer, 0, NUMBER_AT - 1) else {
+    let Ok(parts) = packet_at(buffer, 0, NUMBER_AT - 1, FixedBit::Required) else {
         return 0
     };
     for _ in 0..times {

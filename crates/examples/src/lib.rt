@@ -2,6 +2,7 @@
 #![tactic(auto)]
 
 pub mod connection;
+pub mod first_initial;
 pub mod initial_keys;
 pub mod messages;
 pub mod one_message;

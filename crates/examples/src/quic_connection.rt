@@ -4,9 +4,10 @@ ghost use Rattle.std.specs.Prelude.{◌≡◌, ℕ, ◌+◌, ◌<◌, ◌≤◌,
 ghost use Rattle.quic_packets.specs.Datagram.{KeepsOutside};
 ghost use Rattle.quic_packets.specs.Sending.{IsInTurn, IsSealable, IsSent, after_send};
 ghost use Rattle.quic_packets.specs.Space.{IsNew, Marks};
+ghost use Rattle.quic_packets.specs.declared.fixed_bit.FixedBit.TheVariants.{Required};
 
 use quic_packets::{
-    Failures, Packet, PacketError, PacketType, Received, Receiver, Sender, Space, packet_at,
+    Failures, FixedBit, Packet, PacketError, PacketType, Received, Receiver, Sender, Space, packet_at,
 };
 
 /// The offset of the packet number, which follows the first byte and a connection ID of 8 bytes.
@@ -19,7 +20,7 @@ const INTERNAL_ERROR: u64 = 0x01;
 #[derive(Drop)]
 pub struct Level {
     pub receiver: Receiver,
-    pub space: Space,
+    pub space: Space<2>,
 }
 
 /// The packet key of the sender's next phase.
@@ -44,13 +45,13 @@ pub struct Connection {
 /// Sends a packet with a short header and returns its number. The packet consists of the first byte, the connection ID,
 /// four bytes for the number, the payload, and 16 bytes for the tag.
 pub fn send(sender: &mut Sender, packet: &mut [u8]) -> Result<u64, PacketError>
-    ensures accepted { IsOk result ↔ (IsSealable 9 13 packet.old × IsInTurn sender.old 9 13) }
+    ensures accepted { IsOk result ↔ (IsSealable Required 9 13 packet.old × IsInTurn sender.old 9 13) }
     ensures sent { OnOk result (IsSent sender.old 9 13 packet.old packet.new) }
     ensures number { IfOk result (λ n. n ≡ sender.old.next) }
     ensures counted { OnOk result (sender.new ≡ after_send sender.old) }
     ensures kept { OnErr result ((packet.new ≡ packet.old) × (sender.new ≡ sender.old)) }
 {
-    sender.send(packet, NUMBER_AT..NUMBER_AT + 4)
+    sender.send(packet, NUMBER_AT..NUMBER_AT + 4, FixedBit::Required)
 }
 
 /// Receives the packets of a datagram, the first `len` bytes of a buffer, and returns whether there was one. `id` is the
@@ -104,7 +105,7 @@ pub fn receive_next(
     ensures payload { IfOk result (λ step. IfSome step.1 (λ r. (at < r.payload.start)
         × (r.payload.start ≤ r.payload.end) × (r.payload.end + 16 ≡ step.0))) }
 {
-    let Ok(parts) = packet_at(datagram, at, id.len()) else {
+    let Ok(parts) = packet_at(datagram, at, id.len(), FixedBit::Required) else {
         return Ok((datagram.len(), None));
     };
     if &datagram[parts.destination_id.start..parts.destination_id.end] != id {

@@ -7,7 +7,7 @@ use Rattle.std.specs.Int.Digits.{number_from_digits}
 use Rattle.std.proofs.Math.Nat.{le-max_left}
 use Rattle.std.specs.Prelude.{Err, IfOk, IfSome, Ok, Result, length, nat_lt, ◌==◌, if◌then◌else◌}
 use Rattle.std.specs.declared.ops.Range.{Range}
-use Rattle.quic_packets.specs.Datagram.{IsIn, has_long_id, initial_token, long_packet, numbered_layout, opaque_layout, packet_of, retry_layout, short_layout, source_end, span, varint, version_1_layout, version_of, versioned_layout, whole}
+use Rattle.quic_packets.specs.Datagram.{IsIn, IsPlaced, has_long_id, initial_token, long_packet, numbered_layout, opaque_layout, parts_of, retry_layout, short_layout, source_end, span, varint, version_1_layout, version_of, versioned_layout, whole}
 use Rattle.quic_packets.specs.declared.datagram.DatagramError.{DatagramError}
 use Rattle.quic_packets.specs.declared.datagram.PacketType.{PacketType}
 use Rattle.quic_packets.specs.declared.datagram.PacketType.TheVariants.{Initial, ZeroRtt, Handshake, VersionNegotiation, OtherVersion}
@@ -48,15 +48,6 @@ varint_read d at l n few e =
     let width : 8 * l - 2 ≡ 8 * (at + l - at) - 2 = omega arith in
     ap (λ m. n % m) (mask l few.most) ∙ ap₂ (λ v w. v % 2 ^ w) e width
     ∙ ap (λ v. number_from_digits 256 (take (at + v - at) (drop at d)) % 2 ^ (8 * (at + v - at) - 2)) few.is
-
--- the place of a packet that is read: it begins where it was asked for, has a byte, and ends within the datagram, and its number
--- is in it
-pub record IsPlaced (start : ℕ) (d : List ℕ) (p : Packet) : Type 0 where
-  pub begins : p.start ≡ start
-  pub some : p.start < p.end
-  pub within : p.end ≤ length d
-  pub number : IfSome p.number_at (λ at. (p.start < at) × (at ≤ p.end))
-  pub ranges : IsIn p p.destination_id × IsIn p p.source_id × IsIn p p.token
 
 abbrev pub Placed : ℕ → List ℕ → Result Packet DatagramError → Type 0
 Placed start d read = IfOk read (IsPlaced start d)
@@ -143,15 +134,9 @@ versioned_laid d start =
     (λ e. cond_both (version == 1) (version_1_layout d start) (opaque_layout d start OtherVersion) (IsLaid start)
     (λ e. version_1_laid d start) (λ e. opaque_laid d start OtherVersion))
 
-pub packet_placed : (id_len : ℕ) (d : List ℕ) (start : ℕ) → Placed start d (packet_of id_len d start)
+pub packet_placed : (id_len : ℕ) (d : List ℕ) (start : ℕ) → Placed start d (parts_of id_len d start)
 packet_placed id_len d start =
     cond_both (nat_lt (get_or d start 0) 0x80) (whole d (short_layout id_len d start)) (long_packet d start) (Placed start d)
     (λ e. whole_placed start d (short_layout id_len d start) (short_laid id_len d start))
     (λ e. cond_both (has_long_id d start) (Err IdTooLong) (whole d (versioned_layout d start)) (Placed start d)
     (λ e. tt) (λ e. whole_placed start d (versioned_layout d start) (versioned_laid d start)))
-
--- what each of its facts says of a result
-pub each : (start : ℕ) (d : List ℕ) (Q : Packet → Type 0) (read : Result Packet DatagramError) → Placed start d read
-    → ((p : Packet) → IsPlaced start d p → Q p) → IfOk read Q
-each start d Q (Ok p) is implies = implies p is
-each start d Q (Err e) is implies = tt

@@ -4,11 +4,12 @@ use Rattle.std.proofs.lemmas.List.{ext_get_or, get_or-drop}
 use Rattle.std.specs.Int.Digits.{number_from_digits}
 use Rattle.std.specs.Prelude.{Err, Ok, Option, Some, None, Result, nat_lt, slice_range, ◌==◌, ◌||◌, if◌then◌else◌}
 use Rattle.std.specs.declared.ops.Range.{Range}
-use Rattle.quic_packets.specs.Datagram.{destination_end, has_long_id, initial_token, long_layout, long_packet, longest_id, numbered_layout, opaque_layout, packet_of, retry_layout, short_layout, source_end, span, varint, varint_end, version_1_layout, version_of, versioned_layout, whole}
+use Rattle.quic_packets.specs.Datagram.{destination_end, has_long_id, initial_token, long_layout, long_packet, longest_id, numbered_layout, opaque_layout, packet_of, parts_of, retry_layout, short_layout, source_end, span, with_fixed_bit, varint, varint_end, version_1_layout, version_of, versioned_layout, whole}
 use Rattle.quic_packets.specs.declared.datagram.DatagramError.{DatagramError}
 use Rattle.quic_packets.specs.declared.datagram.DatagramError.TheVariants.{Cut, IdTooLong}
 use Rattle.quic_packets.specs.declared.datagram.Packet.{Packet}
 use Rattle.quic_packets.specs.declared.datagram.PacketType.{PacketType}
+use Rattle.quic_packets.specs.declared.fixed_bit.FixedBit.{FixedBit}
 use Rattle.quic_packets.specs.declared.datagram.PacketType.TheVariants.{Initial, ZeroRtt, Handshake, Retry, VersionNegotiation, OtherVersion}
 
 module _ (d e : List ℕ) (start : ℕ) (len : length e ≡ length d) (same : (i : ℕ) → start ≤ i → get_or e i 0 ≡ get_or d i 0) where
@@ -133,8 +134,11 @@ module _ (d e : List ℕ) (start : ℕ) (len : length e ≡ length d) (same : (i
   short : (id_len : ℕ) → short_layout id_len e start ≡ short_layout id_len d start
   short id_len = rw len refl
 
-  pub same_packet : (id_len : ℕ) → packet_of id_len e start ≡ packet_of id_len d start
-  same_packet id_len =
+  same_parts : (id_len : ℕ) → parts_of id_len e start ≡ parts_of id_len d start
+  same_parts id_len =
       ap₂ (λ b (r : Result Packet DatagramError). if nat_lt b 0x80 then r else long_packet e start) (same start (omega arith))
       (within (short_layout id_len e start) (short_layout id_len d start) (short id_len))
       ∙ ap (λ (r : Result Packet DatagramError). if nat_lt (get_or d start 0) 0x80 then whole d (short_layout id_len d start) else r) long_header
+
+  pub same_packet : (fixed_bit : FixedBit) (id_len : ℕ) → packet_of fixed_bit id_len e start ≡ packet_of fixed_bit id_len d start
+  same_packet fixed_bit id_len = ap₂ (with_fixed_bit fixed_bit) (same start (omega arith)) (same_parts id_len)

@@ -1,4 +1,5 @@
 pub mod DatagramLemmas
+pub mod FieldLemmas
 pub mod HeaderLemmas
 pub mod LaterBytes
 pub mod NumberBytes
@@ -13,3 +14,4 @@ pub mod RunLemmas
 pub mod SenderRuns
 pub mod SentLemmas
 pub mod SpaceLemmas
+pub mod WrittenLemmas

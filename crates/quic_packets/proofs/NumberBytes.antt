@@ -23,7 +23,7 @@ byte_on (suc k) n high =
     let some : 0 < unit = pow-le-pow_right {n = 256} (omega arith) {i = 0} {j = suc k} (omega arith) in
     rw (wider, mod-mul n {m = 256} {c = unit} (omega arith) some) (omega arith)
 
-bytes_read : (k n high : ℕ) → number_from_digits_after 256 high (bytes_high_first k n) ≡ high * 256 ^ k + n % 256 ^ k
+pub bytes_read : (k n high : ℕ) → number_from_digits_after 256 high (bytes_high_first k n) ≡ high * 256 ^ k + n % 256 ^ k
 bytes_read zero n high = omega arith
 bytes_read (suc k) n high = bytes_read k n (high * 256 + byte_at k n) ∙ byte_on k n high
 

@@ -26,7 +26,7 @@ run_of s life sent (begins suite key iv header_key from) = record {
   order = omega arith;
   each = λ n le lt. absurd (omega arith);
 }
-run_of t l ps (sends s life sent start end packet wire sealable turn is before) =
+run_of t l ps (sends s life sent fixed_bit start end packet wire sealable turn is before) =
     let run = run_of s life sent before in
     let p : Sent = record {
       number = s.next;

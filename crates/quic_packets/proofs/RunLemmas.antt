@@ -241,12 +241,12 @@ held sender life sent run r own p has follows holds =
 
 -- a number that was counted isn't new
 counted : (s : Space) (ns : List ℕ) (i d : ℕ) → Counts s ns → i < length ns → IsNew s (get_or ns i d) → ⊥
-counted s [] i d none lt new = absurd (omega arith)
+counted s [] i d (none words) lt new = absurd (omega arith)
 counted t (n ∷ ns) zero d (marks s t' n' ns' fresh m run) lt new = ((m.left n').0 new).1 refl
 counted t (n ∷ ns) (suc i) d (marks s t' n' ns' fresh m run) lt new = counted s ns' i d run (omega arith) ((m.left (get_or ns' i d)).0 new).0
 
 pub counted_once : (s : Space) (ns : List ℕ) (i j d : ℕ) → Counts s ns → i < j → j < length ns → get_or ns i d ≢ get_or ns j d
-counted_once s [] i j d none up lt = absurd (omega arith)
+counted_once s [] i j d (none words) up lt = absurd (omega arith)
 counted_once t (n ∷ ns) i zero d (marks s t' n' ns' fresh m run) up lt = absurd (omega arith)
 counted_once t (n ∷ ns) zero (suc j) d (marks s t' n' ns' fresh m run) up lt =
     λ e. counted s ns' j d run (omega arith) (subst (IsNew s) e fresh)

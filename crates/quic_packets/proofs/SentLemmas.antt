@@ -13,6 +13,7 @@ use Rattle.quic_packets.specs.Header.{HasSample, Protected}
 use Rattle.quic_packets.specs.Keys.{PacketKey}
 use Rattle.quic_packets.specs.Packet.{CarriesNumber, HasNumber, IsNumber, low_bytes}
 use Rattle.quic_packets.specs.Receiving.{reserved_bits}
+use Rattle.quic_packets.specs.declared.fixed_bit.FixedBit.{FixedBit}
 use Rattle.quic_packets.specs.Sending.{IsSealable, IsSent, Sender, first_byte, is_long, numbered_packet}
 use Rattle.quic_packets.proofs.NumberBytes.{length-low_bytes}
 use Rattle.quic_packets.proofs.NumberedLemmas.{carried, has_number, has_phase, here, same_length, unreserved, written}
@@ -105,7 +106,8 @@ record Stands (s : Sender) (life : Life) (sent : List Sent) : Type 0 where
   each : All (λ p. WasSent s.header_key life p) sent
 
 -- a packet that is sent now
-module _ (s : Sender) (life : Life) (sent : List Sent) (start end : ℕ) (packet wire : List ℕ) (sealable : IsSealable start end packet)
+module _ (s : Sender) (life : Life) (sent : List Sent) (fixed_bit : FixedBit) (start end : ℕ) (packet wire : List ℕ)
+    (sealable : IsSealable fixed_bit start end packet)
     (number : IsNumber s.next) (some : start < end) (few : end ≤ start + 4) (is : IsSent s start end packet wire)
     (stands : Stands s life sent) where
   abbrev whole : List ℕ
@@ -164,7 +166,7 @@ state s life sent (begins suite key iv header_key from) = record {
   below = All-nil (λ p. p.number < from);
   each = All-nil _;
 }
-state t l ps (sends s life sent start end packet wire sealable turn is run) =
+state t l ps (sends s life sent fixed_bit start end packet wire sealable turn is run) =
     let stands = state s life sent run in
     record {
       key = stands.key;
@@ -173,7 +175,7 @@ state t l ps (sends s life sent start end packet wire sealable turn is run) =
       below = All-cons (λ p. p.number < s.next + 1) _ sent (omega arith)
           (All-weaker (λ p. p.number < s.next) (λ p. p.number < s.next + 1) (λ p h. omega arith) sent stands.below);
       each = All-cons (λ p. WasSent s.header_key life p) _ sent
-          (was_sent_now s life sent start end packet wire sealable turn.is_open.left turn.room.some turn.room.few is stands)
+          (was_sent_now s life sent fixed_bit start end packet wire sealable turn.is_open.left turn.room.some turn.room.few is stands)
           stands.each;
     }
 state t l ps (skips s life sent number le run) =

@@ -1,71 +1,128 @@
--- The window of the numbers that were received, bit by bit.
-use Rattle.std.proofs.Common.{◌≡◌, ◌≢◌, ℕ, ◌+◌, ◌-◌, ◌*◌, ◌/◌, ◌%◌, ◌^◌, ◌<◌, ◌≤◌, ◌↔◌, max, bit_or, sym, ap, ◌∙◌, arith, add-zero}
-use Rattle.std.proofs.lemmas.Nat.{div-add-mod', pow_pos}
-use Rattle.std.proofs.lemmas.Nat.Bits.{bit_at-lt, bit_at-pow_other, bit_at-zero, bit_at_cat_high, bit_at_cat_low, bit_at_or}
+-- The bits of the numbers that were received: the words take turns.
+use Rattle.std.proofs.Common.{◌≡◌, ◌≢◌, ℕ, suc, ◌+◌, ◌-◌, ◌*◌, ◌/◌, ◌%◌, ◌<◌, ◌≤◌, ◌↔◌, List, length, get_or, inl, inr, max, sym, ap, ap₂, refl, ◌∙◌, arith, set}
+use Rattle.std.proofs.Math.Nat.{mul-le-mul_right}
+use Rattle.std.proofs.lemmas.Bool.{cases_eq, cases_lt}
+use Rattle.std.proofs.lemmas.List.{get_or-set_other, get_or-set_same, length-set}
+use Rattle.std.proofs.lemmas.Nat.{div-add-mod'}
 use Rattle.std.specs.Int.{bit_at}
-use Rattle.quic_packets.specs.Space.{IsNew}
+use Rattle.quic_packets.specs.Space.{IsNew, Marks, ShareBit, Space, bit_of}
 
-below_width : (w n i : ℕ) → i < w → bit_at (n % 2 ^ w) i ≡ bit_at n i
-below_width w n i lt =
-    sym (bit_at_cat_low (n / 2 ^ w) w (n % 2 ^ w) i lt) ∙ ap (λ v. bit_at v i) (div-add-mod' n (2 ^ w))
+-- two numbers with one remainder are as far apart as the divisor
+far : (w a b : ℕ) → a < b → b < a + w → a % w ≡ b % w → ⊥
+far w a b up near same =
+    let of_a : a / w * w + a % w ≡ a = div-add-mod' a w in
+    let of_b : b / w * w + b % w ≡ b = div-add-mod' b w in
+    elim (cases_lt (a / w) (b / w)) [
+      | inl lt ↦
+          let more : (a / w + 1) * w ≤ b / w * w = mul-le-mul_right w (omega arith) in
+          let next : (a / w + 1) * w ≡ a / w * w + w = omega arith in
+          omega (arith, of_a, of_b, more, next)
+      | inr le ↦
+          let less : b / w * w ≤ a / w * w = mul-le-mul_right w le in
+          omega (arith, of_a, of_b, less)
+    ]
 
-shifted_low : (n k i : ℕ) → i < k → bit_at (n * 2 ^ k) i ≡ 0
-shifted_low n k i lt = ap (λ v. bit_at v i) (sym (add-zero (n * 2 ^ k))) ∙ bit_at_cat_low n k 0 i lt ∙ bit_at-zero i
+-- two numbers of one window have bits of their own
+pub apart : (words m n : ℕ) → m < n → n < m + 64 * words → ¬ ShareBit words m n
+apart words m n up near share =
+    let bit = share.bit in
+    far words (m / 64) (n / 64) (omega (arith, bit)) (omega (arith, bit)) share.word
 
-shifted_high : (n k i : ℕ) → k ≤ i → bit_at (n * 2 ^ k) i ≡ bit_at n (i - k)
-shifted_high n k i le = ap (λ v. bit_at v i) (sym (add-zero (n * 2 ^ k))) ∙ bit_at_cat_high n k 0 i (pow_pos k) le
-
--- the number 1 has its lowest bit alone
-pub one_bit : (i : ℕ) → 0 < i → bit_at 1 i ≡ 0
-one_bit i some = let apart : i ≢ 0 = omega arith in bit_at-pow_other 0 i apart
-
-max_zero : (a b c : ℕ) → a ≡ c → b ≡ 0 → max a b ≡ c
-max_zero a b c e z = omega arith
-
-max_one : (a : ℕ) → a < 2 → max a 1 ≡ 1
-max_one a lt = omega arith
-
-pub moved_lowest : (n k : ℕ) → bit_at (bit_or (n * 2 ^ k % 2 ^ 128) 1) 0 ≡ 1
-moved_lowest n k =
-    let shifted = n * 2 ^ k % 2 ^ 128 in
-    bit_at_or shifted 1 0 ∙ max_one (bit_at shifted 0) (bit_at-lt shifted 0)
-
-pub moved_low : (n k i : ℕ) → 0 < i → i < k → i < 128 → bit_at (bit_or (n * 2 ^ k % 2 ^ 128) 1) i ≡ 0
-moved_low n k i some lt within =
-    let shifted = n * 2 ^ k % 2 ^ 128 in
-    bit_at_or shifted 1 i
-    ∙ max_zero (bit_at shifted i) (bit_at 1 i) 0 (below_width 128 (n * 2 ^ k) i within ∙ shifted_low n k i lt) (one_bit i some)
-
-pub moved_high : (n k i : ℕ) → 0 < k → k ≤ i → i < 128 → bit_at (bit_or (n * 2 ^ k % 2 ^ 128) 1) i ≡ bit_at n (i - k)
-moved_high n k i some le within =
-    let shifted = n * 2 ^ k % 2 ^ 128 in
-    bit_at_or shifted 1 i
-    ∙ max_zero (bit_at shifted i) (bit_at 1 i) (bit_at n (i - k)) (below_width 128 (n * 2 ^ k) i within ∙ shifted_high n k i le)
-    (one_bit i (omega arith))
+pub apart_down : (words m n : ℕ) → n < m → m < n + 64 * words → ¬ ShareBit words m n
+apart_down words m n up near share = apart words n m up near (record { word = sym share.word; bit = sym share.bit })
 
 no_bit : (a : ℕ) → a ≡ 1 → a ≡ 0 → ⊥
 no_bit a one none = omega arith
 
+-- two other numbers of the window below `next`
+unshared : (words next m n : ℕ) → m ≢ n → m < next → n < next → next ≤ m + 64 * words → next ≤ n + 64 * words → ¬ ShareBit words m n
+unshared words next m n other below_m below_n in_m in_n =
+    elim (cases_lt m n) [
+      | inl lt ↦ apart words m n lt (omega arith)
+      | inr le ↦ apart_down words m n (omega arith) (omega arith)
+    ]
+
 -- what is left once a number within the window is received
-pub left_within : (next seen number bits n : ℕ) → number < next → bit_at bits (next - 1 - number) ≡ 1
-    → ((i : ℕ) → i ≢ next - 1 - number → bit_at bits i ≡ bit_at seen i)
-    → IsNew (record { next = next; seen = bits }) n ↔ (IsNew (record { next = next; seen = seen }) n × (n ≢ number) × (next ≤ n + 128))
-left_within next seen number bits n below here others = (
+pub left_within : (next number : ℕ) (old new : List ℕ) → length new ≡ length old → number < next → next ≤ number + 64 * length old
+    → bit_of new number ≡ 1 → ((n : ℕ) → ¬ ShareBit (length old) n number → bit_of new n ≡ bit_of old n)
+    → (n : ℕ) → IsNew (record { next = next; seen = new }) n
+    ↔ (IsNew (record { next = next; seen = old }) n × (n ≢ number) × (next ≤ n + 64 * length old))
+left_within next number old new len below inside here others n = (
   λ is.
-      let apart : n ≢ number = λ e.
-      no_bit (bit_at bits (next - 1 - number)) here (ap (λ v. bit_at bits (next - 1 - v)) (sym e) ∙ is.unseen (omega arith)) in (
+      let other : n ≢ number = λ e. no_bit (bit_of new number) here (ap (bit_of new) (sym e) ∙ is.unseen (omega (arith, e))) in
+      let within : next ≤ n + 64 * length old = omega (arith, is.in_window, len) in (
         record {
-          in_window = is.in_window;
-          unseen = λ lt. let other : next - 1 - n ≢ next - 1 - number = omega arith in sym (others (next - 1 - n) other) ∙ is.unseen lt;
+          in_window = within;
+          unseen = λ lt. sym (others n (unshared (length old) next n number other lt below within inside)) ∙ is.unseen lt;
         },
-        apart,
-        is.in_window,
+        other,
+        within,
       ),
   λ was. record {
-    in_window = was.2;
-    unseen = λ lt.
-        let apart : n ≢ number = was.1 in
-        let other : next - 1 - n ≢ next - 1 - number = omega arith in
-        others (next - 1 - n) other ∙ was.0.unseen lt;
+    in_window = omega (arith, was.2, len);
+    unseen = λ lt. others n (unshared (length old) next n number was.1 lt below was.2 inside) ∙ was.0.unseen lt;
   },
 )
+
+-- what is left once a number above all others is received: the bits from `low` up to it are cleared, and then its own is set
+pub left_above : (next number low : ℕ) (old mid new : List ℕ) → length mid ≡ length old → length new ≡ length old → next ≤ number
+    → low ≡ max next (number + 1 - 64 * length old) → ((n : ℕ) → low ≤ n → n < number + 1 → bit_of mid n ≡ 0)
+    → ((n : ℕ) → ((m : ℕ) → low ≤ m → m < number + 1 → ¬ ShareBit (length old) n m) → bit_of mid n ≡ bit_of old n)
+    → bit_of new number ≡ 1 → ((n : ℕ) → ¬ ShareBit (length mid) n number → bit_of new n ≡ bit_of mid n)
+    → (n : ℕ) → IsNew (record { next = number + 1; seen = new }) n
+    ↔ (IsNew (record { next = next; seen = old }) n × (n ≢ number) × (number + 1 ≤ n + 64 * length old))
+left_above next number low old mid new len_mid len_new up is_low cleared kept here others n = (
+  λ is.
+      let other : n ≢ number = λ e. no_bit (bit_of new number) here (ap (bit_of new) (sym e) ∙ is.unseen (omega (arith, e))) in
+      let within : number + 1 ≤ n + 64 * length old = omega (arith, is.in_window, len_new) in (
+        record {
+          in_window = omega arith;
+          unseen = λ lt.
+              sym (kept n (λ m from to. apart (length old) n m (omega arith) (omega arith)))
+              ∙ sym (others n (apart (length mid) n number (omega arith) (omega (arith, len_mid)))) ∙ is.unseen (omega arith);
+        },
+        other,
+        within,
+      ),
+  λ was.
+      let within : number + 1 ≤ n + 64 * length old = was.2 in
+      let other : n ≢ number = was.1 in
+      record {
+        in_window = omega (arith, len_new);
+        unseen = λ lt.
+            others n (apart (length mid) n number (omega arith) (omega (arith, len_mid)))
+            ∙ elim (cases_lt n next) [
+              | inl earlier ↦ kept n (λ m from to. apart (length old) n m (omega arith) (omega arith)) ∙ was.0.unseen earlier
+              | inr later ↦ cleared n (omega arith) (omega arith)
+            ];
+      },
+)
+
+-- a word that is written: the bit of a number, and those that others have
+module _ (seen : List ℕ) (number v : ℕ) (some : 0 < length seen) where
+  abbrev word : ℕ
+  word = number / 64 % length seen
+
+  same_len : length (set seen word v) ≡ length seen
+  same_len = length-set seen word v
+
+  inside : word < length seen
+  inside = omega (arith, some)
+
+  pub its_bit : bit_of (set seen word v) number ≡ bit_at v (number % 64)
+  its_bit =
+      ap (λ l. bit_at (get_or (set seen word v) (number / 64 % l) 0) (number % 64)) same_len
+      ∙ ap (λ x. bit_at x (number % 64)) (get_or-set_same seen word v 0 inside)
+
+  pub other_bits : ((i : ℕ) → i < 64 → i ≢ number % 64 → bit_at v i ≡ bit_at (get_or seen word 0) i)
+      → (n : ℕ) → ¬ ShareBit (length seen) n number → bit_of (set seen word v) n ≡ bit_of seen n
+  other_bits same n unshared =
+      ap (λ l. bit_at (get_or (set seen word v) (n / 64 % l) 0) (n % 64)) same_len
+      ∙ elim (cases_eq (n / 64 % length seen) word) [
+        | inl here ↦
+            let other : n % 64 ≢ number % 64 = λ bit. unshared (record { word = here; bit = bit }) in
+            ap (λ w. bit_at (get_or (set seen word v) w 0) (n % 64)) here
+            ∙ ap (λ x. bit_at x (n % 64)) (get_or-set_same seen word v 0 inside)
+            ∙ same (n % 64) (omega arith) other ∙ ap (λ w. bit_at (get_or seen w 0) (n % 64)) (sym here)
+        | inr there ↦ ap (λ x. bit_at x (n % 64)) (get_or-set_other seen word (n / 64 % length seen) v 0 there)
+      ]

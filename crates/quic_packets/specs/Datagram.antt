@@ -1,12 +1,14 @@
 -- The positions of a packet's parts in a datagram (RFC 9000 sections 12.2 and 17, RFC 8999 section 5). A position counts the
 -- bytes before it. Past its end, a datagram reads as zeros, so a packet that is cut ends past the datagram.
-use Rattle.std.specs.Prelude.{◌≡◌, ℕ, ◌<◌, ◌≤◌, ◌+◌, ◌-◌, ◌*◌, ◌/◌, ◌%◌, ◌^◌, ◌⊎◌, unwrap_or, Bool, ◌==◌, ◌||◌, nat_lt, max, if◌then◌else◌, List, length, slice_index, slice_range, Option, None, Some, Result, Ok, Err}
+use Rattle.std.specs.Prelude.{◌≡◌, ℕ, ◌<◌, ◌≤◌, ◌+◌, ◌-◌, ◌*◌, ◌/◌, ◌%◌, ◌^◌, ◌⊎◌, unwrap_or, Bool, ◌==◌, ◌||◌, nat_lt, max, if◌then◌else◌, List, length, slice_index, slice_range, Option, None, Some, IfSome, Result, Ok, Err}
 use Rattle.std.specs.Int.Digits.{number_from_digits}
 use Rattle.std.specs.declared.ops.Range.{Range}
+use Rattle.quic_packets.specs.FixedBit.{lacks_fixed_bit}
 use Rattle.quic_packets.specs.declared.datagram.DatagramError.{DatagramError}
-use Rattle.quic_packets.specs.declared.datagram.DatagramError.TheVariants.{Cut, IdTooLong}
+use Rattle.quic_packets.specs.declared.datagram.DatagramError.TheVariants.{Cut, IdTooLong, NoFixedBit}
 use Rattle.quic_packets.specs.declared.datagram.Packet.{Packet}
 use Rattle.quic_packets.specs.declared.datagram.PacketType.{PacketType}
+use Rattle.quic_packets.specs.declared.fixed_bit.FixedBit.{FixedBit}
 use Rattle.quic_packets.specs.declared.datagram.PacketType.TheVariants.{Initial, ZeroRtt, Handshake, Retry, VersionNegotiation, OneRtt, OtherVersion}
 
 -- the end of the variable-length integer at a byte: the two highest bits of that byte are the base-2 logarithm of its length
@@ -124,11 +126,21 @@ whole datagram packet = if nat_lt (length datagram) packet.end then Err Cut else
 abbrev pub long_packet : List ℕ → ℕ → Result Packet DatagramError
 long_packet datagram start = if has_long_id datagram start then Err IdTooLong else whole datagram (versioned_layout datagram start)
 
--- the result of parsing the packet at a byte. The highest bit of that byte is set in a long header (RFC 8999 section 5).
-abbrev pub packet_of : ℕ → List ℕ → ℕ → Result Packet DatagramError
-packet_of connection_id_len datagram start =
+-- the parts of the packet at a byte. The highest bit of that byte is set in a long header (RFC 8999 section 5).
+abbrev pub parts_of : ℕ → List ℕ → ℕ → Result Packet DatagramError
+parts_of connection_id_len datagram start =
     if nat_lt (slice_index datagram start) 0x80 then whole datagram (short_layout connection_id_len datagram start)
     else long_packet datagram start
+
+-- a packet with this first byte is rejected if its fixed bit is 0 and must be 1 (sections 17.2 and 17.3.1)
+abbrev pub with_fixed_bit : FixedBit → (first : ℕ) → Result Packet DatagramError → Result Packet DatagramError
+with_fixed_bit fixed_bit first (Err error) = Err error
+with_fixed_bit fixed_bit first (Ok packet) = if lacks_fixed_bit fixed_bit packet.version first then Err NoFixedBit else Ok packet
+
+-- the result of parsing the packet at a byte
+abbrev pub packet_of : FixedBit → ℕ → List ℕ → ℕ → Result Packet DatagramError
+packet_of fixed_bit connection_id_len datagram start =
+    with_fixed_bit fixed_bit (slice_index datagram start) (parts_of connection_id_len datagram start)
 
 -- where the packet number begins in its packet, counted from the packet's first byte. It is 0 if there is no number.
 abbrev pub number_in : Packet → ℕ
@@ -137,6 +149,15 @@ number_in packet = unwrap_or packet.number_at 0 - packet.start
 -- the range is in the packet, after its first byte
 abbrev pub IsIn : Packet → Range ℕ → Type 0
 IsIn packet range = (packet.start < range.start) × (range.start ≤ range.end) × (range.end ≤ packet.end)
+
+-- the place of a packet that is read: it begins where it was asked for, has a byte, and ends within the datagram, and its number
+-- and its ranges are in it
+pub record IsPlaced (start : ℕ) (datagram : List ℕ) (packet : Packet) : Type 0 where
+  pub begins : packet.start ≡ start
+  pub some : packet.start < packet.end
+  pub within : packet.end ≤ length datagram
+  pub number : IfSome packet.number_at (λ at. (packet.start < at) × (at ≤ packet.end))
+  pub ranges : IsIn packet packet.destination_id × IsIn packet packet.source_id × IsIn packet packet.token
 
 -- the bytes of a packet in its datagram
 abbrev pub bytes_of : Packet → List ℕ → List ℕ

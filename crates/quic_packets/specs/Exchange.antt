@@ -5,10 +5,11 @@ use Rattle.quic_packets.specs.Datagram.{span}
 use Rattle.quic_packets.specs.Keys.{PacketKey}
 use Rattle.quic_packets.specs.Receiving.{Receiver, has_phase, received}
 use Rattle.quic_packets.specs.Sending.{IsInTurn, IsSealable, IsSent, Sender, after_acknowledgement, after_send, after_skip, after_update, is_long, new_sender, numbered_packet}
-use Rattle.quic_packets.specs.Space.{IsNew, Marks, Space}
+use Rattle.quic_packets.specs.Space.{IsNew, Marks, Space, new_space}
 use Rattle.quic_packets.specs.Suite.{algorithm}
 use Rattle.quic_packets.specs.declared.error.PacketError.{PacketError}
 use Rattle.quic_packets.specs.declared.error.PacketError.TheVariants.{Duplicate}
+use Rattle.quic_packets.specs.declared.fixed_bit.FixedBit.{FixedBit}
 use Rattle.quic_packets.specs.declared.receiver.Received.{Received}
 use Rattle.quic_packets.specs.declared.suite.Suite.{Suite}
 
@@ -47,8 +48,8 @@ updates_before (update ∷ earlier) number = (if nat_le update.first number then
 pub data HasSent : Sender → Life → List Sent → Type 0 where
   begins : (suite : Suite) (key iv header_key : List ℕ) (first : ℕ) → HasSent (new_sender suite key iv header_key first)
       (record { key = record { algorithm = algorithm suite; bytes = key; iv = iv }; updates = [] }) []
-  sends : (s : Sender) (life : Life) (sent : List Sent) (start end : ℕ) (packet wire : List ℕ)
-      → IsSealable start end packet → IsInTurn s start end → IsSent s start end packet wire → HasSent s life sent
+  sends : (s : Sender) (life : Life) (sent : List Sent) (fixed_bit : FixedBit) (start end : ℕ) (packet wire : List ℕ)
+      → IsSealable fixed_bit start end packet → IsInTurn s start end → IsSent s start end packet wire → HasSent s life sent
       → HasSent (after_send s) life (record {
         number = s.next;
         number_at = start;
@@ -123,7 +124,7 @@ pub record GivesBack (space : Space) (start : ℕ) (packet : Sent) (result : Res
   })
   pub bytes : take (length packet.packet - 16) opened ≡ take (length packet.packet - 16) packet.packet
 
--- the numbers that a space counts as received, last one first: each was new
+-- the numbers that a space of some words counts as received, last one first: each was new
 pub data Counts : Space → List ℕ → Type 0 where
-  none : Counts (record { next = 0; seen = 0 }) []
+  none : (words : ℕ) → Counts (new_space words) []
   marks : (s t : Space) (number : ℕ) (numbers : List ℕ) → IsNew s number → Marks s number t → Counts s numbers → Counts t (number ∷ numbers)

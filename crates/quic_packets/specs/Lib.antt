@@ -3,7 +3,9 @@ pub mod Datagram
 pub mod Errors
 pub mod Exchange
 pub mod Failures
+pub mod FixedBit
 pub mod Header
+pub mod HeaderBytes
 pub mod Keys
 pub mod Laws
 pub mod Numbers

@@ -5,11 +5,14 @@ use Rattle.aead_ciphers.specs.Algorithm.{key_len}
 use Rattle.aead_ciphers.specs.Counting.{xored_nonce}
 use Rattle.aead_ciphers.specs.HeaderProtection.{HeaderKey, key_len as header_key_len}
 use Rattle.aead_ciphers.specs.Packet.{PacketFits, sealed_packet}
+use Rattle.quic_packets.specs.Datagram.{version_of}
+use Rattle.quic_packets.specs.FixedBit.{lacks_fixed_bit}
 use Rattle.quic_packets.specs.Header.{HasSample, Protected}
 use Rattle.quic_packets.specs.Keys.{PacketKey}
 use Rattle.quic_packets.specs.Numbers.{Represents, unacknowledged}
 use Rattle.quic_packets.specs.Packet.{IsNumber, low_bytes}
 use Rattle.quic_packets.specs.Suite.{algorithm, header_algorithm}
+use Rattle.quic_packets.specs.declared.fixed_bit.FixedBit.{FixedBit}
 use Rattle.quic_packets.specs.declared.suite.Suite.{Suite}
 
 -- a sender: its key and header key; the next number, and the largest acknowledged one of its space; the Key Phase bit; how many
@@ -76,11 +79,16 @@ numbered_packet phase number start end packet =
 
 -- One packet.
 
+-- the version in a long header (RFC 8999 section 5.1). A short header has none.
+abbrev pub header_version : List ℕ → Option ℕ
+header_version packet = if is_long (slice_index packet 0) then Some (version_of packet 0) else None
+
 -- a packet that can be sealed and protected, whatever its number
-pub record IsSealable (start end : ℕ) (packet : List ℕ) : Type 0 where
+pub record IsSealable (fixed_bit : FixedBit) (start end : ℕ) (packet : List ℕ) : Type 0 where
   pub fits : PacketFits end (length packet)
   pub sample : HasSample start (length packet)
   pub protected : lacks_protection packet ≡ false
+  pub fixed : lacks_fixed_bit fixed_bit (header_version packet) (slice_index packet 0) ≡ false
 
 -- the key may seal another packet, and a number is left
 pub record IsOpen (s : Sender) : Type 0 where

@@ -4,15 +4,17 @@ ghost use Rattle.std.specs.Prelude.{◌≡◌, ◌+◌, ◌-◌, ◌^◌, ◌<�
 ghost use Rattle.std.specs.Int.Digits.{number_from_digits};
 ghost use Rattle.quic_packets.specs.declared.datagram.DatagramError.TheVariants.{Cut, IdTooLong};
 ghost use Rattle.quic_packets.specs.declared.datagram.PacketType.TheVariants.{Initial};
-ghost use Rattle.quic_packets.specs.Datagram.{IsIn, has_long_id, id_end, initial_token, long_layout, long_packet, numbered_layout, packet_of, retry_layout, short_layout, source_end, varint, varint_end, version_1_layout, version_of, versioned_layout, whole};
+ghost use Rattle.quic_packets.specs.Datagram.{IsIn, IsPlaced, has_long_id, id_end, initial_token, long_layout, long_packet, numbered_layout, packet_of, parts_of, retry_layout, short_layout, source_end, varint, varint_end, version_1_layout, version_of, versioned_layout, whole};
+ghost use Rattle.quic_packets.specs.FixedBit.{lacks_fixed_bit};
 
+use crate::fixed_bit::FixedBit;
 use std::ops::Range;
 use thiserror::Error;
 
 /// The longest connection ID of version 1, in bytes (RFC 9000 section 17.2).
 pub(crate) const MAX_ID_LEN: usize = 20;
 
-const TAG_LEN: usize = 16;
+pub(crate) const TAG_LEN: usize = 16;
 
 /// The type of a packet, by the form of its header, its version and its type field (RFC 9000 sections 17.2 and 17.3).
 #[derive(Clone, Copy, PartialEq, Eq, Debug)]
@@ -63,28 +65,50 @@ pub enum DatagramError {
     /// A connection ID of version 1 has more than 20 bytes (RFC 9000 section 17.2).
     #[error("a connection ID of version 1 has at most 20 bytes")]
     IdTooLong,
+    /// The fixed bit is 0 and must be 1 (RFC 9000 sections 17.2 and 17.3.1).
+    #[error("the fixed bit of the packet is 0")]
+    NoFixedBit,
 }
 
 /// Returns the positions of the parts of the packet that begins at byte `start` of a datagram (RFC 9000 section 17).
 ///
 /// `connection_id_len` is the length in bytes of the receiver's own connection IDs, which a short header does not hold. If the
-/// version is neither 0 nor 1, only the connection IDs are parsed, and the packet is the rest of the datagram. The fixed bit is
-/// not checked.
+/// version is neither 0 nor 1, only the connection IDs are parsed, and the packet is the rest of the datagram.
 ///
-/// Fails with `Cut` if the datagram ends before the packet, and with `IdTooLong` if a connection ID of version 1 has more than
-/// 20 bytes.
+/// Fails with `Cut` if the datagram ends before the packet; with `IdTooLong` if a connection ID of version 1 has more than 20
+/// bytes; and with `NoFixedBit` if the fixed bit of a short header, or of a long one of version 1, is 0 and `fixed_bit` is
+/// `Required`.
 pub fn packet_at(
     datagram: &[u8],
     start: usize,
     connection_id_len: usize,
+    fixed_bit: FixedBit,
 ) -> Result<Packet, DatagramError>
-    ensures packet { result ≡ packet_of connection_id_len datagram.now start }
+    ensures packet { result ≡ packet_of fixed_bit connection_id_len datagram.now start }
+    ensures fixed_bit { IfOk result (λ packet. lacks_fixed_bit fixed_bit packet.version (slice_index datagram.now start)
+        ≡ false) }
     ensures start { IfOk result (λ packet. packet.start ≡ start) }
     ensures some { IfOk result (λ packet. packet.start < packet.end) }
     ensures within { IfOk result (λ packet. packet.end ≤ length datagram.now) }
     ensures number { IfOk result (λ packet. IfSome packet.number_at (λ at. (packet.start < at) × (at ≤ packet.end))) }
     ensures ranges { IfOk result (λ packet. IsIn packet packet.destination_id × IsIn packet packet.source_id
         × IsIn packet packet.token) }
+{
+    let packet = parts_at(datagram, start, connection_id_len)?;
+    if fixed_bit.is_lacking(packet.version, datagram[start]) {
+        return Err(DatagramError::NoFixedBit);
+    }
+    Ok(packet)
+}
+
+// The parts of a packet, whatever its fixed bit.
+fn parts_at(
+    datagram: &[u8],
+    start: usize,
+    connection_id_len: usize,
+) -> Result<Packet, DatagramError>
+    ensures parts { result ≡ parts_of connection_id_len datagram.now start }
+    ensures placed { IfOk result (IsPlaced start datagram.now) }
 {
     read_packet(datagram, start, connection_id_len)
 }
@@ -94,7 +118,7 @@ fn read_packet(
     start: usize,
     connection_id_len: usize,
 ) -> Result<Packet, DatagramError>
-    ensures { result ≡ packet_of connection_id_len datagram.now start }
+    ensures { result ≡ parts_of connection_id_len datagram.now start }
 {
     if start >= datagram.len() {
         return Err(DatagramError::Cut);
@@ -170,6 +194,7 @@ fn id_end(datagram: &[u8], at: usize, longest: usize) -> Result<usize, DatagramE
         ↔ ((slice_index datagram.now at ≤ longest) × (length datagram.now < id_end datagram.now at)) }
     ensures end { IfOk result (λ end. (end ≡ id_end datagram.now at) × (end ≤ length datagram.now)
         × (slice_index datagram.now at ≤ longest)) }
+    ensures others { ¬ IsErrOf result DatagramError.NoFixedBit }
 {
     if at >= datagram.len() {
         return Err(DatagramError::Cut);
@@ -299,8 +324,8 @@ fn long_layout(
     }
 }
 
-// The version in a long header.
-fn version(datagram: &[u8], start: usize) -> u32
+/// The version in a long header.
+pub(crate) fn version(datagram: &[u8], start: usize) -> u32
     requires { start + 5 ≤ length datagram.now }
     ensures { result ≡ version_of datagram.now start }
 {

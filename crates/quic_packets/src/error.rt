@@ -52,6 +52,9 @@ pub enum PacketError {
     /// The packet is of a type without protection: Version Negotiation or Retry (RFC 9000 sections 17.2.1 and 17.2.5).
     #[error("packets of this type have no protection")]
     NoProtection,
+    /// The fixed bit is 0 and must be 1 (RFC 9000 sections 17.2 and 17.3.1).
+    #[error("the fixed bit of the packet is 0")]
+    NoFixedBit,
     /// Packet numbers end at 2^62 (RFC 9000 section 12.3).
     #[error("the packet number is not below 2^62")]
     NumbersEnded,

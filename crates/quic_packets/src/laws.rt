@@ -1,21 +1,25 @@
 //! Laws of the definitions: functions without a body, each of whose contracts states a law for its arguments.
 
-ghost use Rattle.std.specs.Prelude.{◌≡◌, ◌≢◌, ℕ, ◌+◌, ◌*◌, ◌%◌, ◌^◌, ◌<◌, ◌≤◌, List, length, slice_index, flat_map, All, AllPairs, Contains, IsFalse, IsTrue, Result};
+ghost use Rattle.std.specs.Prelude.{◌≡◌, ◌≢◌, ℕ, ◌+◌, ◌*◌, ◌%◌, ◌^◌, ◌<◌, ◌≤◌, List, ◌++◌, length, slice_index, flat_map, All, AllPairs, Contains, IsFalse, IsTrue, Result};
 ghost use Rattle.std.specs.Int.Digits.{number_from_digits};
 ghost use Rattle.aead_ciphers.specs.Counting.{xored_nonce};
 ghost use Rattle.aead_ciphers.specs.Packet.{PacketFits, sealed_packet};
 ghost use Rattle.quic_packets.specs.Datagram.{packet_of};
 ghost use Rattle.quic_packets.specs.Header.{HasSample, Protected, Unprotected, number_len};
+ghost use Rattle.quic_packets.specs.HeaderBytes.{HasLongParts, HasShortParts, IsLongHeader, IsShortHeader, length_of, long_header, short_header};
 ghost use Rattle.quic_packets.specs.Exchange.{Counts, Follows, GivesBack, HasSent, Holds, Life, Sent, WasSentInPhase};
 ghost use Rattle.quic_packets.specs.Laws.{OpensTo};
 ghost use Rattle.quic_packets.specs.Numbers.{InWindow, IsAbove, IsDecoded, Represents, expected, unacknowledged};
 ghost use Rattle.quic_packets.specs.Sending.{Runs, after_acknowledgement};
 ghost use Rattle.quic_packets.specs.Packet.{HasNumber, IsNumber, low_bytes};
 ghost use Rattle.quic_packets.specs.Receiving.{Outcome, Reads, Receiver as ReceiverState};
+ghost use Rattle.quic_packets.specs.declared.datagram.Packet.{Packet};
 ghost use Rattle.quic_packets.specs.declared.error.PacketError.{PacketError};
 ghost use Rattle.quic_packets.specs.declared.receiver.Received.{Received};
 
+use crate::fixed_bit::FixedBit;
 use crate::header::HeaderKey;
+use crate::header_writer::{LongHeader, ShortHeader};
 use crate::key::PacketKey;
 use crate::receiver::Receiver;
 use crate::sender::Sender;
@@ -129,7 +133,7 @@ pub fn acknowledged_was_sent(sender: &Sender)
 /// order, as long as the receiver holds the packet's key and the number is in the window around the expected one. Packets may
 /// arrive in any order and any number of times: the first time, the packet is received, with its number, its header and its
 /// payload; after that, it is a duplicate. `plain`, `number`, `result`, `after` and `opened` are those of `Receiver::receive`.
-pub fn received_as_sent(sender: &Sender, receiver: &Receiver, space: &Space)
+pub fn received_as_sent<const W: usize>(sender: &Sender, receiver: &Receiver, space: &Space<W>)
     requires { receiver.now.header ≡ sender.now.header_key }
     ensures { (life : Life) → (sent : List Sent) → (updates : ℕ) → (packet : Sent) → (plain opened : List ℕ) → (number : ℕ)
         → (result : Result Received PacketError) → (after : ReceiverState)
@@ -141,15 +145,40 @@ pub fn received_as_sent(sender: &Sender, receiver: &Receiver, space: &Space)
         → GivesBack space.now start packet result opened }
 {}
 
+/// A long header that is written is parsed as it was given, with what follows it: its type, its connection IDs and its token, the
+/// packet number behind it, and the end of the packet, to which Length counts (RFC 9000 sections 17.2.2 to 17.2.4).
+pub fn long_header_is_parsed(header: &LongHeader<'_>, connection_id_len: usize, fixed_bit: FixedBit)
+    requires { IsLongHeader header.now }
+    ensures { (rest : List ℕ) → length_of header.now ≤ length rest → (packet : Packet)
+        × (packet_of fixed_bit connection_id_len (long_header header.now ++ rest) 0 ≡ Ok packet)
+        × HasLongParts header.now (long_header header.now ++ rest) packet }
+{}
+
+/// A short header that is written is parsed as it was given, with what follows it. The packet is the rest of the datagram (RFC 9000
+/// section 17.3.1).
+pub fn short_header_is_parsed(header: &ShortHeader<'_>, fixed_bit: FixedBit)
+    requires { IsShortHeader header.now }
+    ensures { (rest : List ℕ) → (packet : Packet)
+        × (packet_of fixed_bit (length header.now.destination_id.now) (short_header header.now ++ rest) 0 ≡ Ok packet)
+        × HasShortParts header.now (short_header header.now ++ rest) packet }
+{}
+
 /// The parts of a packet depend on the bytes from its first one on alone. So `Receiver::receive`, which changes no byte outside
 /// its packet, leaves each later packet of the datagram as it came (RFC 9000 section 12.2).
-pub fn parts_of_its_bytes(datagram: &[u8], changed: &[u8], start: usize, connection_id_len: usize)
+pub fn parts_of_its_bytes(
+    datagram: &[u8],
+    changed: &[u8],
+    start: usize,
+    connection_id_len: usize,
+    fixed_bit: FixedBit,
+)
     requires len { length changed.now ≡ length datagram.now }
     requires same { (i : ℕ) → start ≤ i → slice_index changed.now i ≡ slice_index datagram.now i }
-    ensures { packet_of connection_id_len changed.now start ≡ packet_of connection_id_len datagram.now start }
+    ensures { packet_of fixed_bit connection_id_len changed.now start
+        ≡ packet_of fixed_bit connection_id_len datagram.now start }
 {}
 
 /// Over every run of packets that are received in one space, no number is received twice (RFC 9000 section 12.3).
-pub fn no_number_received_twice(space: &Space)
+pub fn no_number_received_twice<const W: usize>(space: &Space<W>)
     ensures { (numbers : List ℕ) → Counts space.now numbers → AllPairs (λ m n. m ≢ n) numbers }
 {}

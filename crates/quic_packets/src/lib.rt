@@ -1,14 +1,17 @@
 //! Packet protection of QUIC version 1 (RFC 9000 section 17, RFC 9001 sections 5 and 6), under keys that the caller derives.
 //!
 //! A packet is one slice: the header, which ends with the packet number, the payload, and 16 bytes for the tag. `Sender` sends
-//! a packet in one call, `Receiver` receives one, and `packet_at` finds the parts of a packet in its datagram. `PacketKey`,
-//! `HeaderKey` and `numbers` are the parts of both. `laws` states what holds over runs of calls.
+//! a packet in one call, whose header `LongHeader` or `ShortHeader` writes. `Receiver` receives one, and `packet_at` finds the
+//! parts of a packet in its datagram. `PacketKey`, `HeaderKey` and `numbers` are the parts of both. `laws` states what holds over
+//! runs of calls.
 #![tactic(auto)]
 
 mod datagram;
 mod error;
 mod failures;
+mod fixed_bit;
 mod header;
+mod header_writer;
 mod key;
 pub mod laws;
 pub mod numbers;
@@ -22,7 +25,9 @@ mod suite;
 pub use datagram::{DatagramError, Packet, PacketType, packet_at};
 pub use error::PacketError;
 pub use failures::Failures;
+pub use fixed_bit::FixedBit;
 pub use header::HeaderKey;
+pub use header_writer::{HeaderError, LongHeader, LongType, ShortHeader};
 pub use key::PacketKey;
 pub use receiver::{Received, Receiver};
 pub use retry::{RetryError, is_genuine_retry, retry_tag};

@@ -44,9 +44,9 @@ pub struct Received {
 ///
 /// ```
 /// let mut receiver = Receiver::new(Suite::Aes128Gcm, &KEY, IV, &HEADER_KEY)?;
-/// let mut space = Space::new();
+/// let mut space = Space::<2>::new();
 /// let mut failures = Failures::new();
-/// let parts = packet_at(&datagram, 0, CONNECTION_ID.len())?;
+/// let parts = packet_at(&datagram, 0, CONNECTION_ID.len(), FixedBit::Required)?;
 /// let received = receiver.receive(&mut space, &mut failures, &mut datagram, &parts)?;
 /// let payload = &datagram[received.payload];
 /// ```
@@ -163,9 +163,9 @@ impl Receiver {
     ///
     /// Before a packet is known to be authentic, its masked bits only determine the length of the header and the key that opens
     /// it (RFC 9001 section 9.5).
-    pub fn receive(
+    pub fn receive<const W: usize>(
         &mut self,
-        space: &mut Space,
+        space: &mut Space<W>,
         failures: &mut Failures,
         datagram: &mut [u8],
         parts: &Packet,
@@ -211,9 +211,9 @@ impl Receiver {
     }
 
     // Receives a packet that begins at byte `start` of its datagram. `number_at` is counted from the packet.
-    fn receive_packet(
+    fn receive_packet<const W: usize>(
         &mut self,
-        space: &mut Space,
+        space: &mut Space<W>,
         failures: &mut Failures,
         packet: &mut [u8],
         number_at: usize,
@@ -368,7 +368,12 @@ impl Receiver {
     }
 
     // Accepts a packet that was opened, and counts its number as received.
-    fn admit(&mut self, space: &mut Space, first: u8, number: u64) -> Result<(), PacketError>
+    fn admit<const W: usize>(
+        &mut self,
+        space: &mut Space<W>,
+        first: u8,
+        number: u64,
+    ) -> Result<(), PacketError>
         requires { IsNumber number }
         ensures accepted { IsOk result ↔ ((reserved_bits first ≡ 0) × IsNew space.old number
             × IsInTurn self.old first number) }

@@ -1,14 +1,17 @@
 //! Sending packets, each in one call, over key updates (RFC 9001 sections 5 and 6).
 
-ghost use Rattle.std.specs.Prelude.{◌≡◌, ℕ, ◌≢◌, ◌+◌, ◌-◌, ◌^◌, ◌<◌, ◌≤◌, ◌↔◌, true, false, min, length, IsOk, IfOk, IsErrOf, IsOkUnless, IsSome, IfSome, IsTrue, OnOk, OnErr};
+ghost use Rattle.std.specs.Prelude.{◌≡◌, ℕ, ◌≢◌, ◌+◌, ◌-◌, ◌^◌, ◌<◌, ◌≤◌, ◌↔◌, true, false, min, length, slice_index, IsOk, IfOk, IsErrOf, IsOkUnless, IsSome, IfSome, IsFalse, IsTrue, OnOk, OnErr};
 ghost use Rattle.aead_ciphers.specs.Algorithm.{key_len};
 ghost use Rattle.aead_ciphers.specs.Gcm.{Fits};
 ghost use Rattle.aead_ciphers.specs.Packet.{PacketFits};
+ghost use Rattle.quic_packets.specs.FixedBit.{lacks_fixed_bit};
 ghost use Rattle.quic_packets.specs.Header.{HasSample};
 ghost use Rattle.quic_packets.specs.Packet.{IsNumber};
-ghost use Rattle.quic_packets.specs.Sending.{HasKeyLengths, IsEncodable, IsInTurn, IsOpen, IsRoom, IsSealable, IsSent, after_acknowledgement, after_send, after_skip, after_update, first_byte, lacks_protection, new_sender, numbered_packet, with_installed_keys};
+ghost use Rattle.quic_packets.specs.Sending.{HasKeyLengths, IsEncodable, IsInTurn, IsOpen, IsRoom, IsSealable, IsSent, after_acknowledgement, after_send, after_skip, after_update, first_byte, header_version, lacks_protection, new_sender, numbered_packet, with_installed_keys};
 
+use crate::datagram::version;
 use crate::error::PacketError;
+use crate::fixed_bit::FixedBit;
 use crate::header::{HeaderKey, MAX_NUMBER_LEN, SAMPLE_END};
 use crate::key::PacketKey;
 use crate::numbers::number_len;
@@ -38,7 +41,7 @@ const MAX_SEALED: u64 = 1 << 23;
 ///     packet.extend_from_slice(&[0; 4][..number_len])?;
 ///     packet.extend_from_slice(payload)?;
 ///     packet.extend_from_slice(&[0; 16])?;
-///     sender.send(&mut packet, 9..9 + number_len)?;
+///     sender.send(&mut packet, 9..9 + number_len, FixedBit::Required)?;
 ///     Ok(packet)
 /// }
 /// ```
@@ -306,12 +309,18 @@ impl Sender {
     ///
     /// Fails with `TooShort` if the packet has fewer than `number.end + 16` bytes; with `TooLong` if it is longer than AES-GCM
     /// allows; with `NumberAtFirstByte` if `number.start` is 0; with `NoSample` if number and payload together have fewer than
-    /// 4 bytes; with `NoProtection` for a Version Negotiation or a Retry packet; with `KeyUsedUp` if the key has reached its
+    /// 4 bytes; with `NoProtection` for a Version Negotiation or a Retry packet; with `NoFixedBit` if the fixed bit of a short
+    /// header, or of a long one of version 1, is 0 and `fixed_bit` is `Required`; with `KeyUsedUp` if the key has reached its
     /// limit; with `NumbersEnded` if no number is left; with `NumberTooFar` if 4 bytes cannot encode the number; and with
     /// `NumberLength` if the room has fewer bytes than that, or more than 4. The packet and the sender are then
     /// unchanged.
-    pub fn send(&mut self, packet: &mut [u8], number: Range<usize>) -> Result<u64, PacketError>
-        ensures accepted { IsOk result ↔ (IsSealable number.start number.end packet.old
+    pub fn send(
+        &mut self,
+        packet: &mut [u8],
+        number: Range<usize>,
+        fixed_bit: FixedBit,
+    ) -> Result<u64, PacketError>
+        ensures accepted { IsOk result ↔ (IsSealable fixed_bit number.start number.end packet.old
             × IsInTurn self.old number.start number.end) }
         ensures too_short { IsErrOf result PacketError.TooShort ↔ (length packet.old < number.end + 16) }
         ensures too_long { IsErrOf result PacketError.TooLong ↔ ((number.end + 16 ≤ length packet.old)
@@ -323,16 +332,20 @@ impl Sender {
         ensures no_protection { IsErrOf result PacketError.NoProtection
             ↔ (PacketFits number.end (length packet.old) × HasSample number.start (length packet.old)
             × IsTrue (lacks_protection packet.old)) }
+        ensures no_fixed_bit { IsErrOf result PacketError.NoFixedBit
+            ↔ (PacketFits number.end (length packet.old) × HasSample number.start (length packet.old)
+            × IsFalse (lacks_protection packet.old)
+            × IsTrue (lacks_fixed_bit fixed_bit (header_version packet.old) (slice_index packet.old 0))) }
         ensures used_up { IsErrOf result PacketError.KeyUsedUp
-            ↔ (IsSealable number.start number.end packet.old × (self.old.limit ≤ self.old.sealed)) }
+            ↔ (IsSealable fixed_bit number.start number.end packet.old × (self.old.limit ≤ self.old.sealed)) }
         ensures ended { IsErrOf result PacketError.NumbersEnded
-            ↔ (IsSealable number.start number.end packet.old × (self.old.sealed < self.old.limit)
+            ↔ (IsSealable fixed_bit number.start number.end packet.old × (self.old.sealed < self.old.limit)
             × (self.old.next ≡ 2 ^ 62)) }
         ensures too_far { IsErrOf result PacketError.NumberTooFar
-            ↔ (IsSealable number.start number.end packet.old × IsOpen self.old
+            ↔ (IsSealable fixed_bit number.start number.end packet.old × IsOpen self.old
             × ¬ IsEncodable self.old) }
         ensures number_length { IsErrOf result PacketError.NumberLength
-            ↔ (IsSealable number.start number.end packet.old × IsOpen self.old
+            ↔ (IsSealable fixed_bit number.start number.end packet.old × IsOpen self.old
             × IsEncodable self.old
             × ¬ IsRoom self.old.next self.old.largest number.start number.end) }
         ensures sent { OnOk result (IsSent self.old number.start number.end packet.old packet.new) }
@@ -343,7 +356,7 @@ impl Sender {
     {
         let number_at = number.start;
         let header_len = number.end;
-        check_packet(packet, number_at, header_len)?;
+        check_packet(packet, number_at, header_len, fixed_bit)?;
         self.check_number(number_at, header_len)?;
         let next = self.next;
         write_number(packet, number_at, header_len, next, self.phase);
@@ -394,8 +407,13 @@ impl Sender {
 }
 
 // Checks that the packet can be sealed and protected.
-fn check_packet(packet: &[u8], number_at: usize, header_len: usize) -> Result<(), PacketError>
-    ensures accepted { IsOk result ↔ IsSealable number_at header_len packet.now }
+fn check_packet(
+    packet: &[u8],
+    number_at: usize,
+    header_len: usize,
+    fixed_bit: FixedBit,
+) -> Result<(), PacketError>
+    ensures accepted { IsOk result ↔ IsSealable fixed_bit number_at header_len packet.now }
     ensures too_short { IsErrOf result PacketError.TooShort ↔ (length packet.now < header_len + 16) }
     ensures too_long { IsErrOf result PacketError.TooLong ↔ ((header_len + 16 ≤ length packet.now)
         × ¬ Fits header_len (length packet.now - 16 - header_len)) }
@@ -406,6 +424,10 @@ fn check_packet(packet: &[u8], number_at: usize, header_len: usize) -> Result<()
     ensures no_protection { IsErrOf result PacketError.NoProtection
         ↔ (PacketFits header_len (length packet.now) × HasSample number_at (length packet.now)
         × IsTrue (lacks_protection packet.now)) }
+    ensures no_fixed_bit { IsErrOf result PacketError.NoFixedBit
+        ↔ (PacketFits header_len (length packet.now) × HasSample number_at (length packet.now)
+        × IsFalse (lacks_protection packet.now)
+        × IsTrue (lacks_fixed_bit fixed_bit (header_version packet.now) (slice_index packet.now 0))) }
     ensures others { ¬ IsErrOf result PacketError.KeyUsedUp × ¬ IsErrOf result PacketError.NumbersEnded
         × ¬ IsErrOf result PacketError.NumberTooFar × ¬ IsErrOf result PacketError.NumberLength }
 {
@@ -419,7 +441,22 @@ fn check_packet(packet: &[u8], number_at: usize, header_len: usize) -> Result<()
     if lacks_protection(packet) {
         return Err(PacketError::NoProtection);
     }
+    if fixed_bit.is_lacking(header_version(packet), packet[0]) {
+        return Err(PacketError::NoFixedBit);
+    }
     Ok(())
+}
+
+// The version in a long header. `None` for a short one.
+fn header_version(packet: &[u8]) -> Option<u32>
+    requires { 5 ≤ length packet.now }
+    ensures { result ≡ header_version packet.now }
+{
+    if packet[0] & 0x80 == 0x80 {
+        Some(version(packet, 0))
+    } else {
+        None
+    }
 }
 
 // Whether the header is of a type without protection: Version Negotiation or Retry.

@@ -1,26 +1,26 @@
 //! The packet numbers that were received in one space (RFC 9000 section 12.3).
 
-ghost use Rattle.std.specs.Prelude.{◌≡◌, ℕ, ◌+◌, ◌-◌, ◌<◌, ◌≤◌, ◌↔◌, IsTrue};
+ghost use Rattle.std.specs.Prelude.{◌≡◌, ℕ, ◌+◌, ◌-◌, ◌*◌, ◌/◌, ◌%◌, ◌<◌, ◌≤◌, ◌↔◌, length, IsTrue};
 ghost use Rattle.std.specs.Int.{bit_at};
 ghost use Rattle.quic_packets.specs.Numbers.{expected};
 ghost use Rattle.quic_packets.specs.Packet.{IsNumber};
-ghost use Rattle.quic_packets.specs.Space.{IsNew, Marks};
+ghost use Rattle.quic_packets.specs.Space.{IsNew, Marks, ShareBit, bit_of, new_space};
 
 use std::marker::Model;
 
-/// The number of packet numbers in the window.
-const WINDOW: u64 = 128;
+/// The numbers of one word of the window.
+const WORD: u64 = u64::BITS as u64;
 
-/// The largest packet number that was received in one space, and which of the 128 numbers up to it were.
+/// The largest packet number that was received in one space, and which of the `64 * W` numbers up to it were. `W` is from 2 to 64.
 ///
 /// 0-RTT and 1-RTT packets share one space. Initial and Handshake packets have one each (RFC 9000 section 12.3).
 #[derive(Drop)]
-pub struct Space {
+pub struct Space<const W: usize> {
     next: u64,
-    seen: u128,
+    seen: [u64; W],
 }
 
-impl Model for Space {
+impl<const W: usize> Model for Space<W> {
     ghost use Rattle.std.specs.Prelude.{◌^◌, ◌≤◌};
     ghost use Rattle.quic_packets.specs.Space.{Space};
 
@@ -28,15 +28,20 @@ impl Model for Space {
 
     ghost view = { λ space. record { next = space.next; seen = space.seen } };
 
-    ghost invariant = { λ space. space.next ≤ 2 ^ 62 };
+    ghost invariant = { λ space. (space.next ≤ 2 ^ 62) × (2 ≤ W) × (W ≤ 64) };
 }
 
-impl Space {
+impl<const W: usize> Space<W> {
     /// Creates a space in which no number was received.
     pub fn new() -> Self
-        ensures { result ≡ record { next = 0; seen = 0 } }
+        requires some { 2 ≤ W }
+        requires few { W ≤ 64 }
+        ensures { result ≡ new_space W }
     {
-        Space { next: 0, seen: 0 }
+        Space {
+            next: 0,
+            seen: [0; W],
+        }
     }
 
     /// Returns the largest number that was received, or `None` if there is none.
@@ -46,16 +51,15 @@ impl Space {
         self.next.checked_sub(1)
     }
 
-    /// Returns whether a number was not received yet. A number more than 127 below the largest counts as received, because the
-    /// window does not reach it (RFC 9000 section 12.3).
+    /// Returns whether a number was not received yet. A number that is `64 * W` or more below the largest counts as received,
+    /// because the window does not reach it (RFC 9000 section 12.3).
     pub fn is_new(&self, number: u64) -> bool
         ensures { IsTrue result ↔ IsNew self.now number }
     {
         if number >= self.next {
             return true;
         }
-        let below = self.next - 1 - number;
-        below < WINDOW && (self.seen >> below) & 1 == 0
+        self.next - number <= WORD * W as u64 && !is_set(&self.seen, number)
     }
 
     /// Counts a number as received.
@@ -65,20 +69,62 @@ impl Space {
         ensures { Marks self.old number self.new }
     {
         if number < self.next {
-            self.seen |= 1 << (self.next - 1 - number);
-        } else {
-            self.seen = moved(self.seen, number - self.next + 1);
-            self.next = number + 1;
+            set(&mut self.seen, number);
+            return;
         }
+        let lowest = (number + 1).saturating_sub(WORD * W as u64);
+        clear(&mut self.seen, self.next.max(lowest), number + 1);
+        set(&mut self.seen, number);
+        self.next = number + 1;
     }
 }
 
-// The window after its highest number, which is received, moves up by `by`.
-fn moved(seen: u128, by: u64) -> u128
-    requires { 0 < by }
-    ensures highest { bit_at result 0 ≡ 1 }
-    ensures skipped { (i : ℕ) → 0 < i → i < by → i < 128 → bit_at result i ≡ 0 }
-    ensures kept { (i : ℕ) → by ≤ i → i < 128 → bit_at result i ≡ bit_at seen (i - by) }
+// The word with the bit of a number.
+fn word_of(words: usize, number: u64) -> usize
+    requires { 0 < words }
+    ensures is { result ≡ number / 64 % words }
+    ensures within { result < words }
 {
-    if by < WINDOW { (seen << by) | 1 } else { 1 }
+    (number / WORD) as usize % words
+}
+
+// Whether the bit of a number is set.
+fn is_set(seen: &[u64], number: u64) -> bool
+    requires { 0 < length seen.now }
+    ensures { IsTrue result ↔ (bit_of seen.now number ≡ 1) }
+{
+    (seen[word_of(seen.len(), number)] >> (number % WORD)) & 1 == 1
+}
+
+// Sets the bit of a number.
+fn set(seen: &mut [u64], number: u64)
+    requires { 0 < length seen.old }
+    ensures here { bit_of seen.new number ≡ 1 }
+    ensures others { (n : ℕ) → ¬ ShareBit (length seen.old) n number → bit_of seen.new n ≡ bit_of seen.old n }
+{
+    let word = word_of(seen.len(), number);
+    seen[word] |= 1 << (number % WORD);
+}
+
+// Clears the bit of a number.
+fn clear_one(seen: &mut [u64], number: u64)
+    requires { 0 < length seen.old }
+    ensures here { bit_of seen.new number ≡ 0 }
+    ensures others { (n : ℕ) → ¬ ShareBit (length seen.old) n number → bit_of seen.new n ≡ bit_of seen.old n }
+{
+    let word = word_of(seen.len(), number);
+    seen[word] &= !(1 << (number % WORD));
+}
+
+// Clears the bits of the numbers from `from` up to `to`.
+fn clear(seen: &mut [u64], from: u64, to: u64)
+    requires some { 0 < length seen.old }
+    requires ordered { from ≤ to }
+    ensures cleared { (n : ℕ) → from ≤ n → n < to → bit_of seen.new n ≡ 0 }
+    ensures others { (n : ℕ) → ((m : ℕ) → from ≤ m → m < to → ¬ ShareBit (length seen.old) n m)
+        → bit_of seen.new n ≡ bit_of seen.old n }
+{
+    for number in from..to {
+        clear_one(seen, number);
+    }
 }

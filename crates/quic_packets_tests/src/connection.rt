@@ -1,8 +1,11 @@
-//! Tests of `examples::quic_connection`: datagrams of two packets.
+//! Tests of the callers in `examples`: datagrams of two packets, and a client's first packet.
 
 use crate::checks::{equal, same};
+use aead_vectors::rfc_9001::{A_2_PACKET, Packet};
+use examples::first_initial::first_packet;
+use examples::initial_keys::client_initial_keys;
 use examples::quic_connection::{self, Connection, Level, NextKey};
-use quic_packets::{Failures, PacketError, Receiver, Sender, Space, Suite};
+use quic_packets::{Failures, FixedBit, PacketError, Receiver, Sender, Space, Suite};
 use std::process::Abort;
 use std::test::Fail;
 
@@ -21,7 +24,7 @@ fn sender() -> Result<Sender, PacketError> {
 fn level() -> Result<Level, PacketError> {
     Ok(Level {
         receiver: Receiver::new(Suite::Aes256Gcm, &[1; 32], IV, &[3; 32])?,
-        space: Space::new(),
+        space: Space::<2>::new(),
     })
 }
 
@@ -45,7 +48,7 @@ fn coalesced() -> Result<[u8; 80], PacketError> {
     let mut datagram = [4; 80];
     datagram[..16].copy_from_slice(&HANDSHAKE);
     let mut sender = sender()?;
-    sender.send(&mut datagram[..40], 16..20)?;
+    sender.send(&mut datagram[..40], 16..20, FixedBit::Required)?;
     quic_connection::send(&mut sender, &mut datagram[40..])?;
     Ok(datagram)
 }
@@ -102,5 +105,22 @@ fn dropped(rt: HostRuntime) -> Result<(), Fail> {
     received(&rt, &mut connection, false, &ID, Ok(true))?;
     received(&rt, &mut connection, false, &ID, Ok(false))?;
     received(&rt, &mut connection, true, &ID, Err(0x0f))?;
+    Ok(())
+}
+
+/// The connection ID of RFC 9001 appendix A.
+const CLIENT_ID: [u8; 8] = [0x83, 0x94, 0xc8, 0xf0, 0x3e, 0x51, 0x57, 0x08];
+
+// The keys of RFC 9001 appendix A.1, and the packet of A.2.
+#[test]
+fn first_initial(rt: HostRuntime) -> Result<(), Fail> {
+    let row = Packet::parse(rt.alloc(), A_2_PACKET)?;
+    let (key, iv, header_key) = client_initial_keys(&CLIENT_ID)?;
+    same(&rt, key.as_slice(), &row.key, "key");
+    same(&rt, &iv, &row.iv, "iv");
+    same(&rt, header_key.as_slice(), &row.header_key, "hp");
+    assert!(rt; row.frames.len() <= 1162);
+    let packet = first_packet(&CLIENT_ID, row.number, &row.frames)?;
+    same(&rt, &packet, &row.protected, row.name);
     Ok(())
 }

@@ -4,7 +4,7 @@ use crate::checks::{equal, holds};
 use crate::retry::A_4_RETRY;
 use aead_vectors::rfc_9001::{A_2_PACKET, A_3_PACKET, A_5_PROTECTED, Packet as Vector};
 use aead_vectors::words::BadLine;
-use quic_packets::{DatagramError, Packet, PacketType, packet_at};
+use quic_packets::{DatagramError, FixedBit, Packet, PacketType, packet_at};
 use std::alloc::Global;
 use std::ops::Range;
 use std::process::Abort;
@@ -40,7 +40,7 @@ fn is_long(
         number_at,
         end: datagram.len(),
     };
-    equal(rt, &packet_at(datagram, 0, 0), &Ok(packet));
+    equal(rt, &packet_at(datagram, 0, 0, FixedBit::Required), &Ok(packet));
 }
 
 /// Returns the protected packet of a test vector.
@@ -93,7 +93,7 @@ fn coalesced(rt: HostRuntime) -> Result<(), Fail> {
     datagram.extend_from_slice(&A_5_PROTECTED)?;
     let mut parts = Vec::new(rt.alloc());
     for start in [0, 135] {
-        let packet = packet_at(&datagram, start, 0)?;
+        let packet = packet_at(&datagram, start, 0, FixedBit::Required)?;
         parts.push((packet.packet_type, packet.number_at, packet.end))?;
     }
     let wanted = [
@@ -113,11 +113,11 @@ fn cut_anywhere(rt: &impl Abort, packet: &[u8]) {
 
 /// Asserts that the packet at the front of a datagram is rejected with this error.
 fn refused(rt: &impl Abort, datagram: &[u8], id_len: usize, error: DatagramError) {
-    let found = packet_at(datagram, 0, id_len);
+    let found = packet_at(datagram, 0, id_len, FixedBit::Required);
     holds(rt, found == Err(error), "the error");
 }
 
-// Truncated packets, connection IDs of 21 bytes in version 1, and a packet followed by a truncated one.
+// Truncated packets, connection IDs of 21 bytes in version 1, fixed bits of 0, and a packet followed by a truncated one.
 #[test]
 fn refusals(rt: HostRuntime) -> Result<(), Fail> {
     let mut datagram = protected(rt.alloc(), A_3_PACKET)?;
@@ -130,19 +130,27 @@ fn refusals(rt: HostRuntime) -> Result<(), Fail> {
         0,
         DatagramError::IdTooLong,
     );
+    for form in [0x3f, 0xbf] {
+        let mut greased = protected(rt.alloc(), A_3_PACKET)?;
+        if let Some(first) = greased.first_mut() {
+            *first &= form;
+        }
+        refused(&rt, &greased, 0, DatagramError::NoFixedBit);
+        assert!(rt; packet_at(&greased, 0, 0, FixedBit::Greased).is_ok());
+    }
     datagram.push(0xc0)?;
-    let end = packet_at(&datagram, 0, 0)?.end;
-    equal(&rt, &packet_at(&datagram, end, 0), &Err(DatagramError::Cut));
+    let end = packet_at(&datagram, 0, 0, FixedBit::Required)?.end;
+    equal(&rt, &packet_at(&datagram, end, 0, FixedBit::Required), &Err(DatagramError::Cut));
     Ok(())
 }
 
 /// Asserts that a Handshake packet ends 37 bytes after this Length field, which encodes 37.
 fn has_length(rt: &impl Abort, alloc: Global, length: &[u8]) -> Result<(), Fail> {
     let mut datagram = [[0xe0, 0, 0, 0, 1, 0, 0].as_slice(), length, &[0; 37]].concat(alloc)?;
-    let packet = packet_at(&datagram, 0, 0)?;
+    let packet = packet_at(&datagram, 0, 0, FixedBit::Required)?;
     equal(rt, &packet.end, &datagram.len());
     datagram.push(0)?;
-    equal(rt, &packet_at(&datagram, 0, 0)?.end, &packet.end);
+    equal(rt, &packet_at(&datagram, 0, 0, FixedBit::Required)?.end, &packet.end);
     Ok(())
 }
 

@@ -1,10 +1,10 @@
 //! What the errors print.
 
 use crate::checks::displays;
-use quic_packets::{DatagramError, PacketError, RetryError};
+use quic_packets::{DatagramError, HeaderError, PacketError, RetryError};
 use std::test::Fail;
 
-const PACKET_ERRORS: [(PacketError, &str); 22] = [
+const PACKET_ERRORS: [(PacketError, &str); 23] = [
     (
         PacketError::KeyLength,
         "the key does not have the length of the algorithm's keys",
@@ -64,6 +64,10 @@ const PACKET_ERRORS: [(PacketError, &str); 22] = [
         "the packet is longer than AES-GCM allows",
     ),
     (
+        PacketError::NoFixedBit,
+        "the fixed bit of the packet is 0",
+    ),
+    (
         PacketError::NumbersEnded,
         "the packet number is not below 2^62",
     ),
@@ -86,11 +90,34 @@ const PACKET_ERRORS: [(PacketError, &str); 22] = [
     ),
 ];
 
-const DATAGRAM_ERRORS: [(DatagramError, &str); 2] = [
+const DATAGRAM_ERRORS: [(DatagramError, &str); 3] = [
     (DatagramError::Cut, "the datagram ends before the packet"),
     (
         DatagramError::IdTooLong,
         "a connection ID of version 1 has at most 20 bytes",
+    ),
+    (
+        DatagramError::NoFixedBit,
+        "the fixed bit of the packet is 0",
+    ),
+];
+
+const HEADER_ERRORS: [(HeaderError, &str); 4] = [
+    (
+        HeaderError::NumberLength,
+        "a packet number has 1 to 4 bytes",
+    ),
+    (
+        HeaderError::IdTooLong,
+        "a connection ID of version 1 has at most 20 bytes",
+    ),
+    (
+        HeaderError::TooLong,
+        "the token or the packet has 2^30 bytes or more",
+    ),
+    (
+        HeaderError::NoRoom,
+        "the buffer is shorter than the header",
     ),
 ];
 
@@ -124,6 +151,14 @@ fn datagram_errors(rt: HostRuntime) -> Result<(), Fail> {
 #[test]
 fn retry_errors(rt: HostRuntime) -> Result<(), Fail> {
     for (error, text) in &RETRY_ERRORS {
+        displays(&rt, error, text)?;
+    }
+    Ok(())
+}
+
+#[test]
+fn header_errors(rt: HostRuntime) -> Result<(), Fail> {
+    for (error, text) in &HEADER_ERRORS {
         displays(&rt, error, text)?;
     }
     Ok(())

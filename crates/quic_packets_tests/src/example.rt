@@ -1,7 +1,7 @@
 //! The example in README.md of `quic_packets`: one end of a connection sends a packet, and the other end receives it.
 
 use crate::checks::same;
-use quic_packets::{Failures, PacketError, Receiver, Sender, Space, Suite, packet_at};
+use quic_packets::{Failures, FixedBit, PacketError, Receiver, Sender, Space, Suite, packet_at};
 use std::alloc::Global;
 use std::test::Fail;
 
@@ -25,7 +25,7 @@ fn send(alloc: Global, sender: &mut Sender, payload: &[u8]) -> Result<Vec<u8>, F
     packet.extend_from_slice(&[0; 4][..number_len])?;
     packet.extend_from_slice(payload)?;
     packet.extend_from_slice(&[0; 16])?;
-    sender.send(&mut packet, 9..9 + number_len)?;
+    sender.send(&mut packet, 9..9 + number_len, FixedBit::Required)?;
     Ok(packet)
 }
 
@@ -35,9 +35,9 @@ fn one_packet(rt: HostRuntime) -> Result<(), Fail> {
     let mut datagram = send(rt.alloc(), &mut sender, b"hello")?;
 
     let mut receiver = Receiver::new(Suite::Aes128Gcm, &KEY, IV, &HEADER_KEY)?;
-    let mut space = Space::new();
+    let mut space = Space::<2>::new();
     let mut failures = Failures::new();
-    let parts = packet_at(&datagram, 0, CONNECTION_ID.len())?;
+    let parts = packet_at(&datagram, 0, CONNECTION_ID.len(), FixedBit::Required)?;
     let received = receiver.receive(&mut space, &mut failures, &mut datagram, &parts)?;
     let payload = &datagram[received.payload];
     same(&rt, payload, b"hello", "the payload");

@@ -13,6 +13,8 @@ mod error;
 #[cfg(test)]
 mod example;
 #[cfg(test)]
+mod header_writer;
+#[cfg(test)]
 mod keys;
 #[cfg(test)]
 mod numbers;

@@ -4,7 +4,7 @@ use crate::checks::{equal, holds, same};
 use crate::keys::plain;
 use crate::rows::{HEADER_KEY, IV, KEY, ROWS, Row};
 use aead_vectors::rfc_9001::{PACKETS, Packet};
-use quic_packets::{HeaderKey, PacketError, PacketKey, Sender, Suite};
+use quic_packets::{FixedBit, HeaderKey, PacketError, PacketKey, Sender, Suite};
 use std::alloc::Global;
 use std::ops::Range;
 use std::process::Abort;
@@ -39,7 +39,7 @@ fn sender_of(row: &Row) -> Result<Sender, PacketError> {
 fn send(sender: &mut Sender, packet: &mut [u8], row: &Row) -> Result<u64, PacketError> {
     let len = sender.next_number_len().ok_or(PacketError::NumberTooFar)?;
     let end = row.number_at.saturating_add(len);
-    sender.send(packet, row.number_at..end)
+    sender.send(packet, row.number_at..end, FixedBit::Required)
 }
 
 /// Asserts that `send` yields the row's packet, which is from the other implementation.
@@ -76,7 +76,7 @@ fn appendix_a(rt: HostRuntime) -> Result<(), Fail> {
         )?;
         let mut packet = plain(&row)?;
         packet.extend_from_slice(&[0; 16])?;
-        sender.send(&mut packet, row.number_at..row.header.len())?;
+        sender.send(&mut packet, row.number_at..row.header.len(), FixedBit::Required)?;
         same(&rt, &packet, &row.protected, row.name);
     }
     Ok(())
@@ -112,14 +112,14 @@ fn refuses(
 ) {
     let mut sent = *packet;
     let before = (sender.next_number(), sender.sealed());
-    holds(rt, sender.send(&mut sent, room) == Err(wanted), "the error");
+    holds(rt, sender.send(&mut sent, room, FixedBit::Required) == Err(wanted), "the error");
     let after = (sender.next_number(), sender.sealed());
     holds(rt, after == before, "the numbers");
     same(rt, &sent, packet, "refused");
 }
 
 /// A first byte and a version, the start and end of the room for the packet number, and the error.
-const REFUSALS: [(u8, u8, usize, usize, PacketError); 7] = [
+const REFUSALS: [(u8, u8, usize, usize, PacketError); 9] = [
     (0x40, 0, 8, 9, PacketError::TooShort),
     (0x40, 0, 0, 1, PacketError::NumberAtFirstByte),
     (0x40, 0, 5, 6, PacketError::NoSample),
@@ -127,6 +127,8 @@ const REFUSALS: [(u8, u8, usize, usize, PacketError); 7] = [
     (0x40, 0, 2, 1, PacketError::NumberLength),
     (0xf0, 1, 1, 2, PacketError::NoProtection),
     (0xc0, 0, 1, 2, PacketError::NoProtection),
+    (0x00, 0, 1, 2, PacketError::NoFixedBit),
+    (0xa0, 1, 4, 5, PacketError::NoFixedBit),
 ];
 
 #[test]
@@ -143,8 +145,25 @@ fn refusals(rt: HostRuntime) -> Result<(), Fail> {
 fn shortest(rt: HostRuntime) -> Result<(), Fail> {
     let mut sender = sender(0)?;
     for (number, first) in [(0, 0x40), (1, 0xe0)] {
-        let sent = sender.send(&mut packet(first, 1), 4..5);
+        let sent = sender.send(&mut packet(first, 1), 4..5, FixedBit::Required);
         holds(&rt, sent == Ok(number), "sent");
+    }
+    Ok(())
+}
+
+// A fixed bit of 0, which is greased or of another version.
+#[test]
+fn greased(rt: HostRuntime) -> Result<(), Fail> {
+    let mut sender = sender(0)?;
+    for (number, first, version, fixed_bit) in [
+        (0, 0x00, 0, FixedBit::Greased),
+        (1, 0xa0, 1, FixedBit::Greased),
+        (2, 0xa0, 2, FixedBit::Required),
+    ] {
+        let mut packet = packet(first, version);
+        let sent = sender.send(&mut packet, 4..5, fixed_bit);
+        holds(&rt, sent == Ok(number), "sent");
+        holds(&rt, packet[0] & 0x40 == 0, "the fixed bit");
     }
     Ok(())
 }
@@ -208,7 +227,7 @@ fn sends_under(
     phase: bool,
 ) -> Result<(), PacketError> {
     let mut packet = SHORT;
-    let number = sender.send(&mut packet, 1..2)?;
+    let number = sender.send(&mut packet, 1..2, FixedBit::Required)?;
     opens(rt, packet, key, number, phase)
 }
 
@@ -323,9 +342,9 @@ fn short_numbers(rt: HostRuntime) -> Result<(), Fail> {
     equal(&rt, &sender.next_number_len(), &None);
     sender.acknowledged((1 << 40) - 1)?;
     sender.acknowledged(5)?;
-    sender.send(&mut packet(0x40, 0), 1..2)?;
+    sender.send(&mut packet(0x40, 0), 1..2, FixedBit::Required)?;
     sender.follow_update(&[2; 16], IV)?;
-    sender.send(&mut packet(0x40, 0), 1..2)?;
+    sender.send(&mut packet(0x40, 0), 1..2, FixedBit::Required)?;
     install_keys(&mut sender, 32)?;
     equal(&rt, &sender.next_number_len(), &Some(1));
     equal(&rt, &sender.largest_acknowledged(), &Some((1 << 40) - 1));
@@ -346,7 +365,7 @@ fn install_keys(sender: &mut Sender, header_key_len: usize) -> Result<(), Packet
 #[test]
 fn numbers_go_on(rt: HostRuntime) -> Result<(), Fail> {
     let mut sender = sender(0)?.with_limit(1);
-    sender.send(&mut packet(0xd0, 1), 4..5)?;
+    sender.send(&mut packet(0xd0, 1), 4..5, FixedBit::Required)?;
     let refused = install_keys(&mut sender, 16);
     holds(
         &rt,
@@ -355,7 +374,7 @@ fn numbers_go_on(rt: HostRuntime) -> Result<(), Fail> {
     );
     refuses(&rt, &mut sender, &SHORT, 1..2, PacketError::KeyUsedUp);
     install_keys(&mut sender, 32)?;
-    let sent = sender.send(&mut packet(0x40, 0), 1..2);
+    let sent = sender.send(&mut packet(0x40, 0), 1..2, FixedBit::Required);
     holds(&rt, sent == Ok(1), "sent");
     refuses(&rt, &mut sender, &SHORT, 1..2, PacketError::KeyUsedUp);
     Ok(())

@@ -5,7 +5,7 @@ use Rattle.quic_packets.specs.Receiving.{Outcome, Reads, is_of_opened}
 use Rattle.quic_packets.proofs.receiver.Receiver.receive.Goals as goal
 
 pub returns-clause-outcome : goal.returns-clause-outcome
-returns-clause-outcome c left within sample =
+returns-clause-outcome g c left within sample =
     let a = c.args in
     let p = a.parts.now in
     let place = c.in_ok-number_at.ensures.place in
@@ -20,13 +20,13 @@ returns-clause-outcome c left within sample =
     )
 
 pub returns-clause-bytes_kept : goal.returns-clause-bytes_kept
-returns-clause-bytes_kept c =
+returns-clause-bytes_kept g c =
     let p = c.args.parts.now in
     kept (λ e. is_of_opened e ≡ false) p.start (p.end - p.start) c.args.datagram.now c.receive_packet.new.packet c.receive_packet.result
     c.receive_packet.ensures.bytes_kept
 
 pub returns-clause-outside : goal.returns-clause-outside
-returns-clause-outside c =
+returns-clause-outside g c =
     let a = c.args in
     let fits = c.in_ok-number_at.ensures.accepted.0 refl in
     outside a.parts.now.start a.parts.now.end a.datagram.now c.receive_packet.new.packet (omega (arith, fits.1.sampled)) fits.0

@@ -29,7 +29,7 @@ refused r s start at plain number e opened reserved duplicate turn is =
     }
 
 pub returns-in-Err-clause-outcome : goal.returns-in-Err-clause-outcome
-returns-in-Err-clause-outcome c =
+returns-in-Err-clause-outcome g c =
     let a = c.args in
     let it = c.in-Err.ensures in
     let opening = it.opening c.requires.sample in (

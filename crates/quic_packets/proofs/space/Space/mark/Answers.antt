@@ -1,18 +1,30 @@
-use Rattle.std.proofs.Common.{◌-◌, ◌<◌, arith}
-use Rattle.std.proofs.lemmas.Nat.Bits.{bit_at_set_other, bit_at_set_same}
-use Rattle.std.specs.Int.{w128}
-use Rattle.quic_packets.proofs.SpaceLemmas.{left_within}
+use Rattle.std.proofs.Common.{◌≡◌, ◌+◌, ◌-◌, ◌*◌, ◌<◌, ◌≤◌, length, max, sym, ap, ◌∙◌, arith}
+use Rattle.quic_packets.proofs.SpaceLemmas.{left_above, left_within}
 use Rattle.quic_packets.proofs.space.Space.mark.Goals as goal
 
 pub returns-then-number-self : goal.returns-then-number-self
-returns-then-number-self c =
+returns-then-number-self g c =
     let was = c.self.inside in
     let new = rw (← c.self.view_is) at c.requires.unseen in
-    let below : c.args.number < was.next = omega (arith, c.if-number-self.true) in
-    let within : was.next - 1 - c.args.number < 128 = omega (arith, new.in_window) in
+    let len : length c.set.new.seen ≡ length was.seen = omega arith in
     rw (← c.self.view_is) (record {
       next = omega arith;
-      left = λ n.
-          left_within was.next was.seen c.args.number _ n below (bit_at_set_same w128 was.seen (was.next - 1 - c.args.number) within)
-          (λ i other. bit_at_set_other w128 was.seen (was.next - 1 - c.args.number) within i other);
+      words = len;
+      left = left_within was.next c.args.number was.seen c.set.new.seen len c.if-number-self.true new.in_window c.set.ensures.here
+          c.set.ensures.others;
+    })
+
+pub returns : goal.returns
+returns g c =
+    let was = c.self.inside in
+    let number = c.args.number in
+    let len : length c.clear.new.seen ≡ length was.seen = omega arith in
+    let last : length c.set-2.new.seen ≡ length was.seen = omega arith in
+    let low : c.max.result ≡ max was.next (number + 1 - 64 * length was.seen) =
+        c.max.ensures ∙ ap (max was.next) (c.saturating_sub-lowest.ensures ∙ ap (λ w. number + 1 - 64 * w) (sym c.self.told)) in
+    rw (← c.self.view_is) (record {
+      next = omega arith;
+      words = last;
+      left = left_above was.next number c.max.result was.seen c.clear.new.seen c.set-2.new.seen len last c.if-number-self.false low
+          c.clear.ensures.cleared c.clear.ensures.others c.set-2.ensures.here c.set-2.ensures.others;
     })

@@ -1,0 +1,53 @@
+//! A client's first packet, from a connection ID to the bytes of its datagram.
+
+ghost use Rattle.std.specs.Prelude.{◌≤◌, length};
+
+use crate::initial_keys::client_initial_keys;
+use key_derivation::DerivationError;
+use quic_packets::{FixedBit, HeaderError, LongHeader, LongType, PacketError, Sender, Suite};
+use thiserror::Error;
+
+/// The length of the datagram, which has to be 1200 or more (RFC 9000 section 14.1).
+pub const DATAGRAM_LEN: usize = 1200;
+
+/// The length of the payload behind a header of 22 bytes and before a tag of 16.
+const PAYLOAD_LEN: usize = DATAGRAM_LEN - 22 - 16;
+
+/// The error of a step.
+#[derive(Clone, Copy, PartialEq, Eq, Debug, Drop, Error)]
+pub enum FirstPacketError {
+    /// No keys are derived.
+    #[error("{0}")]
+    Keys(#[from] DerivationError),
+    /// No header is written.
+    #[error("{0}")]
+    Header(#[from] HeaderError),
+    /// The packet isn't sent.
+    #[error("{0}")]
+    Packet(#[from] PacketError),
+}
+
+/// Returns a datagram with a client's Initial packet. `id` is the destination connection ID that the client has chosen, and
+/// `frames` are the frames without padding.
+pub fn first_packet(
+    id: &[u8; 8],
+    number: u64,
+    frames: &[u8],
+) -> Result<[u8; DATAGRAM_LEN], FirstPacketError>
+    requires { length frames.now ≤ 1162 }
+{
+    let (key, iv, hp) = client_initial_keys(id)?;
+    let mut sender = Sender::new(Suite::Aes128Gcm, key.as_slice(), iv, hp.as_slice(), number)?;
+    let header = LongHeader {
+        packet_type: LongType::Initial { token: &[] },
+        destination_id: id,
+        source_id: &[],
+        number_len: 4,
+        payload_len: PAYLOAD_LEN,
+    };
+    let mut packet = [0; DATAGRAM_LEN];
+    let room = header.write(&mut packet)?;
+    packet[room.end..room.end + frames.len()].copy_from_slice(frames);
+    sender.send(&mut packet, room, FixedBit::Required)?;
+    Ok(packet)
+}

@@ -1,0 +1,355 @@
+-- The parts of a header that was written.
+use Rattle.std.proofs.Common.{◌≡◌, ℕ, zero, suc, ◌+◌, ◌-◌, ◌*◌, ◌/◌, ◌%◌, ◌^◌, ◌<◌, ◌≤◌, List, [], ◌∷◌, ◌++◌, length, get_or, take, drop, refl, sym, ap, ap₂, subst, ◌∙◌, arith, add-zero, append_assoc, drop_at, length-append, take_at, Ok, Err, Result, Some, None, Option, Bool, false, true}
+use Rattle.std.proofs.Math.Bool.{and-false}
+use Rattle.std.proofs.Math.Seq.{get_or-append_seam}
+use Rattle.std.proofs.lemmas.Bool.{cond_both, le-ltb, lt-ltb, ltb-true}
+use Rattle.std.proofs.lemmas.List.{append-nil, get_or-append-add, get_or_append_left}
+use Rattle.std.proofs.lemmas.Nat.{pow_pos}
+use Rattle.std.specs.Int.{bytes_high_first}
+use Rattle.std.specs.Int.Digits.{number_from_digits}
+use Rattle.std.specs.Prelude.{nat_lt, slice_range, ◌==◌, ◌&&◌, ◌||◌, if◌then◌else◌}
+use Rattle.std.specs.declared.ops.Range.{Range}
+use Rattle.quic_packets.specs.Datagram.{has_long_id, initial_token, long_packet, numbered_layout, packet_of, parts_of, retry_layout, short_layout, source_end, span, varint, varint_end, version_1_layout, versioned_layout, whole, with_fixed_bit}
+use Rattle.quic_packets.specs.declared.datagram.DatagramError.TheVariants.{Cut, IdTooLong, NoFixedBit}
+use Rattle.quic_packets.specs.declared.datagram.Packet.{Packet}
+use Rattle.quic_packets.specs.declared.datagram.PacketType.{PacketType}
+use Rattle.quic_packets.specs.declared.datagram.PacketType.TheVariants.{Initial as InitialPacket, ZeroRtt as ZeroRttPacket, Handshake as HandshakePacket, OneRtt}
+use Rattle.quic_packets.specs.declared.fixed_bit.FixedBit.{FixedBit}
+use Rattle.quic_packets.specs.declared.fixed_bit.FixedBit.TheVariants.{Required, Greased}
+use Rattle.quic_packets.specs.FixedBit.{lacks_fixed_bit}
+use Rattle.quic_packets.specs.declared.header_writer.LongHeader.{LongHeader}
+use Rattle.quic_packets.specs.declared.header_writer.LongType.{LongType}
+use Rattle.quic_packets.specs.declared.header_writer.LongType.TheVariants.{Initial, ZeroRtt, Handshake}
+use Rattle.quic_packets.specs.declared.header_writer.ShortHeader.{ShortHeader}
+use Rattle.quic_packets.specs.HeaderBytes.{HasLongParts, HasShortParts, IsLongHeader, IsNumberLen, IsShortHeader, fewest, id_field, integer, length_log, length_of, long_first_byte, long_header, packet_type_of, short_first_byte, short_header, token_field, token_of, type_bits}
+use Rattle.quic_packets.proofs.FieldLemmas.{length-high_first}
+use Rattle.quic_packets.proofs.NumberBytes.{bytes_read}
+
+-- a list between two others, by its positions
+range : (xs ys zs : List ℕ) (start end : ℕ) → start ≡ length xs → end ≡ start + length ys → slice_range (xs ++ (ys ++ zs)) start end ≡ ys
+range xs ys zs start end from to =
+    ap (take (end - start)) (drop_at xs (ys ++ zs) start (sym from)) ∙ take_at ys zs (end - start) (omega arith)
+
+empty : (at : ℕ) (xs : List ℕ) → slice_range xs at at ≡ []
+empty at xs = let none : at - at ≡ 0 = omega arith in ap (λ n. take n (drop at xs)) none
+
+-- the item behind a list
+behind : (xs ys : List ℕ) (y at : ℕ) → at ≡ length xs → get_or (xs ++ y ∷ ys) at 0 ≡ y
+behind xs ys y at is = ap (λ n. get_or (xs ++ y ∷ ys) n 0) is ∙ get_or-append_seam xs y ys 0
+
+-- the value that 2^log bytes encode
+abbrev Encodes : (log value : ℕ) → Type 0
+Encodes log value = value < 2 ^ (8 * 2 ^ log - 2)
+
+first_byte : (log value : ℕ) → log ≤ 2 → Encodes log value → get_or (integer log value) 0 0 / 2 ^ 6 ≡ log
+first_byte zero value few fits = omega arith
+first_byte (suc zero) value few fits = omega arith
+first_byte (suc (suc zero)) value few fits = omega arith
+first_byte (suc (suc (suc n))) value few fits = absurd (omega arith)
+
+value_of : (log value : ℕ) → log ≤ 2 → Encodes log value → number_from_digits 256 (integer log value) % 2 ^ (8 * 2 ^ log - 2) ≡ value
+value_of zero value few fits = ap (λ n. n % 64) (bytes_read 1 (0 + value) 0) ∙ omega arith
+value_of (suc zero) value few fits = ap (λ n. n % 2 ^ 14) (bytes_read 2 (1 * 2 ^ 14 + value) 0) ∙ omega arith
+value_of (suc (suc zero)) value few fits = ap (λ n. n % 2 ^ 30) (bytes_read 4 (2 * 2 ^ 30 + value) 0) ∙ omega arith
+value_of (suc (suc (suc n))) value few fits = absurd (omega arith)
+
+-- the fewest bytes, and those of a Length field
+pub fewest_encodes : (value : ℕ) → value < 2 ^ 30 → (fewest value ≤ 2) × Encodes (fewest value) value
+fewest_encodes value lt =
+    cond_both (nat_lt value (2 ^ 6)) 0 (if nat_lt value (2 ^ 14) then 1 else 2) (λ log. (log ≤ 2) × Encodes log value)
+    (λ e. (omega arith, ltb-true value (2 ^ 6) e))
+    (λ e. cond_both (nat_lt value (2 ^ 14)) 1 2 (λ log. (log ≤ 2) × Encodes log value)
+    (λ e. (omega arith, ltb-true value (2 ^ 14) e)) (λ e. (omega arith, lt)))
+
+pub length_encodes : (value : ℕ) → value < 2 ^ 30 → (length_log value ≤ 2) × Encodes (length_log value) value
+length_encodes value lt =
+    cond_both (nat_lt value (2 ^ 14)) 1 2 (λ log. (log ≤ 2) × Encodes log value)
+    (λ e. (omega arith, ltb-true value (2 ^ 14) e)) (λ e. (omega arith, lt))
+
+-- an integer in a datagram is read back
+module _ (d xs ys : List ℕ) (log value at : ℕ) (is : d ≡ xs ++ (integer log value ++ ys)) (from : at ≡ length xs) (few : log ≤ 2)
+    (fits : Encodes log value) where
+  its_length : length (integer log value) ≡ 2 ^ log
+  its_length = length-high_first (2 ^ log) (log * 2 ^ (8 * 2 ^ log - 2) + value)
+
+  first : get_or d at 0 ≡ get_or (integer log value) 0 0
+  first =
+      let some : 0 < length (integer log value) = omega (arith, its_length, pow_pos log) in
+      ap₂ (λ l n. get_or l n 0) is (from ∙ sym (add-zero (length xs)))
+      ∙ get_or-append-add xs (integer log value ++ ys) 0 0
+      ∙ get_or_append_left (integer log value) ys 0 0 some
+
+  pub its_end : varint_end d at ≡ at + 2 ^ log
+  its_end = ap (λ b. at + 2 ^ (b / 2 ^ 6)) first ∙ ap (λ l. at + 2 ^ l) (first_byte log value few fits)
+
+  pub its_value : varint d at ≡ value
+  its_value =
+      ap (λ end. number_from_digits 256 (slice_range d at end) % 2 ^ (8 * (end - at) - 2)) its_end
+      ∙ ap₂ (λ l n. number_from_digits 256 l % 2 ^ (8 * n - 2))
+      (ap (λ l. slice_range l at (at + 2 ^ log)) is
+      ∙ range xs (integer log value) ys at (at + 2 ^ log) from (ap (λ n. at + n) (sym its_length))) (omega arith)
+      ∙ value_of log value few fits
+
+-- the parts of a packet with a long header of these fields
+record HasParts (datagram : List ℕ) (packet : Packet) (kind : PacketType) (id source text : List ℕ) (at to : ℕ) : Type 0 where
+  start : packet.start ≡ 0
+  packet_type : packet.packet_type ≡ kind
+  version : packet.version ≡ Some 1
+  destination_id : slice_range datagram packet.destination_id.start packet.destination_id.end ≡ id
+  source_id : slice_range datagram packet.source_id.start packet.source_id.end ≡ source
+  token : slice_range datagram packet.token.start packet.token.end ≡ text
+  number_at : packet.number_at ≡ Some at
+  end : packet.end ≡ to
+
+abbrev IsParsed : (id_len : ℕ) (datagram : List ℕ) (kind : PacketType) (id source text : List ℕ) (at to : ℕ) → Type 0
+IsParsed id_len datagram kind id source text at to =
+    (p : Packet) × (parts_of id_len datagram 0 ≡ Ok p) × HasParts datagram p kind id source text at to
+
+-- a long header with its fields, and what follows it
+module _ (first : ℕ) (id source token : List ℕ) (log n : ℕ) (rest : List ℕ) (long : 0x80 ≤ first) (short_id : length id ≤ 20)
+    (short_source : length source ≤ 20) (few : log ≤ 2) (fits : Encodes log n) (whole_packet : n ≤ length rest) where
+  abbrev with_id : List ℕ
+  with_id = (first ∷ 0 ∷ 0 ∷ 0 ∷ 1 ∷ []) ++ id_field id
+
+  abbrev with_source : List ℕ
+  with_source = with_id ++ id_field source
+
+  abbrev with_token : List ℕ
+  with_token = with_source ++ token
+
+  abbrev header : List ℕ
+  header = with_token ++ integer log n
+
+  abbrev datagram : List ℕ
+  datagram = header ++ rest
+
+  after_token : datagram ≡ with_token ++ (integer log n ++ rest)
+  after_token = append_assoc with_token (integer log n) rest
+
+  pub after_source : datagram ≡ with_source ++ (token ++ (integer log n ++ rest))
+  after_source = after_token ∙ append_assoc with_source token (integer log n ++ rest)
+
+  after_id : datagram ≡ with_id ++ (id_field source ++ (token ++ (integer log n ++ rest)))
+  after_id = after_source ∙ append_assoc with_id (id_field source) (token ++ (integer log n ++ rest))
+
+  source_len : get_or datagram (6 + length id) 0 ≡ length source
+  source_len =
+      ap (λ l. get_or l (6 + length id) 0) after_id
+      ∙ behind with_id (source ++ (token ++ (integer log n ++ rest))) (length source) (6 + length id) (omega arith)
+
+  pub its_source_end : source_end datagram 0 ≡ length with_source
+  its_source_end =
+      ap (λ v. 6 + length id + 1 + v) source_len ∙ omega (arith, length-append with_id (id_field source))
+
+  short_ids : has_long_id datagram 0 ≡ false
+  short_ids = ap₂ (λ a b. a || b) (le-ltb 20 (length id) short_id) (ap (nat_lt 20) source_len ∙ le-ltb 20 (length source) short_source)
+
+  module _ (kind : PacketType) (place : Range ℕ) (text : List ℕ) (layout : version_1_layout datagram 0 ≡ numbered_layout datagram 0 kind place)
+      (ends : place.end ≡ length with_token) (bytes : slice_range datagram place.start place.end ≡ text) where
+    number_is : varint_end datagram place.end ≡ length header
+    number_is =
+        its_end datagram with_token rest log n place.end after_token ends few fits
+        ∙ omega (arith, ends, length-append with_token (integer log n), length-high_first (2 ^ log) (log * 2 ^ (8 * 2 ^ log - 2) + n))
+
+    length_is : varint datagram place.end ≡ n
+    length_is = its_value datagram with_token rest log n place.end after_token ends few fits
+
+    end_is : varint_end datagram place.end + varint datagram place.end ≡ length header + n
+    end_is = ap₂ (λ a b. a + b) number_is length_is
+
+    inside : nat_lt (length datagram) (varint_end datagram place.end + varint datagram place.end) ≡ false
+    inside = le-ltb _ _ (omega (arith, end_is, length-append header rest, whole_packet))
+
+    abbrev packet : Packet
+    packet = numbered_layout datagram 0 kind place
+
+    parsed : (id_len : ℕ) → parts_of id_len datagram 0 ≡ Ok packet
+    parsed id_len =
+        ap (λ b. if b then whole datagram (short_layout id_len datagram 0) else long_packet datagram 0) (le-ltb first 0x80 long)
+        ∙ ap (λ b. if b then Err IdTooLong else whole datagram (versioned_layout datagram 0)) short_ids
+        ∙ ap (whole datagram) layout ∙ ap (λ b. if b then Err Cut else Ok packet) inside
+
+    parts : HasParts datagram packet kind id source text (length header) (length header + n)
+    parts = record {
+      start = refl;
+      packet_type = refl;
+      version = refl;
+      destination_id =
+          ap (λ l. slice_range l 6 (6 + length id)) after_id
+          ∙ range (first ∷ 0 ∷ 0 ∷ 0 ∷ 1 ∷ length id ∷ []) id _ 6 (6 + length id) refl refl;
+      source_id =
+          ap₂ (λ l e. slice_range l (6 + length id + 1) e)
+          (after_id ∙ sym (append_assoc with_id (length source ∷ []) (source ++ (token ++ (integer log n ++ rest))))) its_source_end
+          ∙ range (with_id ++ length source ∷ []) source _ (6 + length id + 1) (length with_source)
+          (omega (arith, length-append with_id (length source ∷ []))) (omega (arith, length-append with_id (id_field source)));
+      token = bytes;
+      number_at = ap (λ v. Some v) number_is;
+      end = end_is;
+    }
+
+    is_parsed : (id_len : ℕ) → IsParsed id_len datagram kind id source text (length header) (length header + n)
+    is_parsed id_len = (packet, parsed id_len, parts)
+
+  -- a type without a token
+  plain : (kind : PacketType) (id_len : ℕ) → token ≡ [] → (let none = span (source_end datagram 0) (source_end datagram 0) in
+      version_1_layout datagram 0 ≡ numbered_layout datagram 0 kind none)
+      → IsParsed id_len datagram kind id source [] (length header) (length header + n)
+  plain kind id_len none layout =
+      let from = source_end datagram 0 in
+      let ends : from ≡ length with_token = its_source_end ∙ sym (ap length (ap (λ t. with_source ++ t) none ∙ append-nil with_source)) in
+      is_parsed kind (span from from) [] layout ends (empty from datagram) id_len
+
+  abbrev by_bits : ℕ → Packet
+  by_bits bits =
+      let none = span (source_end datagram 0) (source_end datagram 0) in
+      if bits == 0 then numbered_layout datagram 0 InitialPacket (initial_token datagram 0)
+      else if bits == 1 then numbered_layout datagram 0 ZeroRttPacket none
+      else if bits == 2 then numbered_layout datagram 0 HandshakePacket none
+      else retry_layout datagram 0
+
+  zero_rtt : (id_len : ℕ) → token ≡ [] → first / 2 ^ 4 % 4 ≡ 1
+      → IsParsed id_len datagram ZeroRttPacket id source [] (length header) (length header + n)
+  zero_rtt id_len none bits = plain ZeroRttPacket id_len none (ap by_bits bits)
+
+  handshake : (id_len : ℕ) → token ≡ [] → first / 2 ^ 4 % 4 ≡ 2
+      → IsParsed id_len datagram HandshakePacket id source [] (length header) (length header + n)
+  handshake id_len none bits = plain HandshakePacket id_len none (ap by_bits bits)
+
+  module _ (text : List ℕ) (is : token ≡ integer (fewest (length text)) (length text) ++ text) (short : length text < 2 ^ 30) where
+    abbrev text_log : ℕ
+    text_log = fewest (length text)
+
+    abbrev from : ℕ
+    from = source_end datagram 0
+
+    at_token : datagram ≡ with_source ++ (integer text_log (length text) ++ (text ++ (integer log n ++ rest)))
+    at_token =
+        after_source ∙ ap (λ l. with_source ++ (l ++ (integer log n ++ rest))) is
+        ∙ ap (λ l. with_source ++ l) (append_assoc (integer text_log (length text)) text (integer log n ++ rest))
+
+    text_at : varint_end datagram from ≡ from + 2 ^ text_log
+    text_at =
+        let encodes = fewest_encodes (length text) short in
+        its_end datagram with_source (text ++ (integer log n ++ rest)) text_log (length text) from at_token its_source_end encodes.0 encodes.1
+
+    text_len : varint datagram from ≡ length text
+    text_len =
+        let encodes = fewest_encodes (length text) short in
+        its_value datagram with_source (text ++ (integer log n ++ rest)) text_log (length text) from at_token its_source_end encodes.0 encodes.1
+
+    integer_len : length (integer text_log (length text)) ≡ 2 ^ text_log
+    integer_len = length-high_first (2 ^ text_log) (text_log * 2 ^ (8 * 2 ^ text_log - 2) + length text)
+
+    begins : varint_end datagram from ≡ length (with_source ++ integer text_log (length text))
+    begins = text_at ∙ omega (arith, its_source_end, integer_len, length-append with_source (integer text_log (length text)))
+
+    ends : varint_end datagram from + varint datagram from ≡ length with_token
+    ends =
+        ap₂ (λ a b. a + b) begins text_len ∙ sym (length-append (with_source ++ integer text_log (length text)) text)
+        ∙ ap length (append_assoc with_source (integer text_log (length text)) text ∙ ap (λ l. with_source ++ l) (sym is))
+
+    bytes : slice_range datagram (varint_end datagram from) (varint_end datagram from + varint datagram from) ≡ text
+    bytes =
+        ap (λ l. slice_range l (varint_end datagram from) (varint_end datagram from + varint datagram from))
+        (at_token ∙ sym (append_assoc with_source (integer text_log (length text)) (text ++ (integer log n ++ rest))))
+        ∙ range (with_source ++ integer text_log (length text)) text (integer log n ++ rest) (varint_end datagram from)
+        (varint_end datagram from + varint datagram from) begins (ap (λ v. varint_end datagram from + v) text_len)
+
+    initial : (id_len : ℕ) → first / 2 ^ 4 % 4 ≡ 0
+        → IsParsed id_len datagram InitialPacket id source text (length header) (length header + n)
+    initial id_len bits = is_parsed InitialPacket (initial_token datagram 0) text (ap by_bits bits) ends bytes id_len
+
+-- a long header of each type
+by_type : (kind : LongType) (id source : List ℕ) (m n : ℕ) (rest : List ℕ) → IsNumberLen m → length id ≤ 20 → length source ≤ 20
+    → length (token_of kind) < 2 ^ 30 → n < 2 ^ 30 → n ≤ length rest → (id_len : ℕ)
+    → (let header = (long_first_byte (type_bits kind) m ∷ 0 ∷ 0 ∷ 0 ∷ 1 ∷ []) ++ id_field id ++ id_field source ++ token_field kind
+        ++ integer (length_log n) n in
+    IsParsed id_len (header ++ rest) (packet_type_of kind) id source (token_of kind) (length header) (length header + n))
+by_type (Initial token) id source m n rest is short_id short_source short_token short_len whole id_len =
+    let encodes = length_encodes n short_len in
+    initial (long_first_byte 0 m) id source (token_field (Initial token)) (length_log n) n rest (omega arith) short_id short_source encodes.0
+    encodes.1 whole token.now refl short_token id_len (omega (arith, is.some, is.few))
+by_type ZeroRtt id source m n rest is short_id short_source short_token short_len whole id_len =
+    let encodes = length_encodes n short_len in
+    zero_rtt (long_first_byte 1 m) id source [] (length_log n) n rest (omega arith) short_id short_source encodes.0 encodes.1 whole id_len refl
+    (omega (arith, is.some, is.few))
+by_type Handshake id source m n rest is short_id short_source short_token short_len whole id_len =
+    let encodes = length_encodes n short_len in
+    handshake (long_first_byte 2 m) id source [] (length_log n) n rest (omega arith) short_id short_source encodes.0 encodes.1 whole id_len refl
+    (omega (arith, is.some, is.few))
+
+-- the fixed bit
+with_bit : (fixed_bit : FixedBit) (version : Option ℕ) (byte : ℕ) → byte / 2 ^ 6 % 2 ≡ 1 → lacks_fixed_bit fixed_bit version byte ≡ false
+with_bit Required None byte is = ap (λ b. b == 0) is
+with_bit Required (Some version) byte is = ap (λ b. (version == 1) && (b == 0)) is ∙ and-false (version == 1)
+with_bit Greased version byte is = refl
+
+first_bit : (bits m : ℕ) → bits < 4 → IsNumberLen m → long_first_byte bits m / 2 ^ 6 % 2 ≡ 1
+first_bit bits m few is = omega (arith, is.some, is.few)
+
+type_few : (kind : LongType) → type_bits kind < 4
+type_few (Initial token) = omega arith
+type_few ZeroRtt = omega arith
+type_few Handshake = omega arith
+
+long_first : (header : LongHeader) → IsNumberLen header.number_len
+    → long_first_byte (type_bits header.packet_type) header.number_len / 2 ^ 6 % 2 ≡ 1
+long_first header is = first_bit (type_bits header.packet_type) header.number_len (type_few header.packet_type) is
+
+short_first : (phase : Bool) (m : ℕ) → IsNumberLen m → short_first_byte phase m / 2 ^ 6 % 2 ≡ 1
+short_first true m is = omega (arith, is.some, is.few)
+short_first false m is = omega (arith, is.some, is.few)
+
+pub long_parsed : (header : LongHeader) → IsLongHeader header → (rest : List ℕ) → length_of header ≤ length rest
+    → (fixed_bit : FixedBit) (id_len : ℕ) → (p : Packet) × (packet_of fixed_bit id_len (long_header header ++ rest) 0 ≡ Ok p) × HasLongParts header (long_header header ++ rest) p
+long_parsed header is rest whole fixed_bit id_len =
+    let found =
+    by_type header.packet_type header.destination_id.now header.source_id.now header.number_len (length_of header) rest is.number
+    is.ids.destination is.ids.source is.fields.token is.fields.payload whole id_len in (
+      found.0,
+      ap (with_fixed_bit fixed_bit _) found.1
+      ∙ ap (λ b. if b then Err NoFixedBit else Ok found.0) (with_bit fixed_bit found.0.version
+      (long_first_byte (type_bits header.packet_type) header.number_len) (long_first header is.number)),
+      record {
+        start = found.2.start;
+        packet_type = found.2.packet_type;
+        version = found.2.version;
+        destination_id = found.2.destination_id;
+        source_id = found.2.source_id;
+        token = found.2.token;
+        number_at = found.2.number_at;
+        end = found.2.end;
+      },
+    )
+
+short_form : (phase : Bool) (m : ℕ) → m ≤ 4 → short_first_byte phase m < 0x80
+short_form true m few = omega arith
+short_form false m few = omega arith
+
+pub short_parsed : (header : ShortHeader) → IsShortHeader header → (rest : List ℕ) → (fixed_bit : FixedBit)
+    → (p : Packet) × (packet_of fixed_bit (length header.destination_id.now) (short_header header ++ rest) 0 ≡ Ok p)
+    × HasShortParts header (short_header header ++ rest) p
+short_parsed header is rest fixed_bit =
+    let id : List ℕ = header.destination_id.now in
+    let first : ℕ = short_first_byte header.phase header.number_len in
+    let d : List ℕ = short_header header ++ rest in
+    let p : Packet = short_layout (length id) d 0 in
+    let len : length d ≡ 1 + length id + length rest = ap suc (length-append id rest) ∙ omega arith in
+    let end : p.end ≡ length d = omega (arith, len) in
+    let at : 0 + 1 + length id ≡ length (first ∷ id) = omega arith in (
+      p,
+      ap (λ b. with_fixed_bit fixed_bit first (if b then whole d p else long_packet d 0))
+      (lt-ltb first 0x80 (short_form header.phase header.number_len is.number.few))
+      ∙ ap (λ b. with_fixed_bit fixed_bit first (if b then Err Cut else Ok p)) (le-ltb (length d) p.end (omega (arith, end)))
+      ∙ ap (λ b. if b then Err NoFixedBit else Ok p) (with_bit fixed_bit None first (short_first header.phase header.number_len is.number)),
+      record {
+        start = refl;
+        packet_type = refl;
+        version = refl;
+        destination_id = range (first ∷ []) id rest 1 (1 + length id) refl refl;
+        source_id = empty (1 + length id) d;
+        token = empty (1 + length id) d;
+        number_at = ap (λ v. Some v) at;
+        end = end;
+      },
+    )

@@ -1,0 +1,14 @@
+-- The fixed bit of a header (RFC 9000 sections 17.2 and 17.3.1), which RFC 9287 calls the QUIC bit.
+use Rattle.std.specs.Prelude.{ℕ, ◌/◌, ◌%◌, ◌^◌, Bool, true, false, ◌==◌, ◌&&◌, Option, None, Some}
+use Rattle.quic_packets.specs.declared.fixed_bit.FixedBit.{FixedBit}
+use Rattle.quic_packets.specs.declared.fixed_bit.FixedBit.TheVariants.{Required, Greased}
+
+-- a short header, which has no version, and a long one of version 1 have the bit
+abbrev pub has_fixed_bit : (version : Option ℕ) → Bool
+has_fixed_bit None = true
+has_fixed_bit (Some version) = version == 1
+
+-- it must be 1, and is 0 in the first byte
+abbrev pub lacks_fixed_bit : FixedBit → (version : Option ℕ) → (first : ℕ) → Bool
+lacks_fixed_bit Required version first = has_fixed_bit version && first / 2 ^ 6 % 2 == 0
+lacks_fixed_bit Greased version first = false

@@ -1,0 +1,28 @@
+//! The fixed bit of a header (RFC 9000 sections 17.2 and 17.3.1).
+
+ghost use Rattle.std.specs.Prelude.{◌≡◌};
+ghost use Rattle.quic_packets.specs.FixedBit.{lacks_fixed_bit};
+
+/// What the fixed bit of a packet must be: bit 0x40 of the first byte, in short headers and in long ones of version 1 (RFC 9000
+/// sections 17.2 and 17.3.1).
+#[derive(Clone, Copy, PartialEq, Eq, Debug)]
+pub enum FixedBit {
+    /// It must be 1.
+    Required,
+    /// It may be 0, because the endpoint that receives the packet has sent the transport parameter `grease_quic_bit` (RFC 9287
+    /// section 3).
+    Greased,
+}
+
+impl FixedBit {
+    /// Whether the bit must be 1 and is 0 in the first byte of a long header of this version, or of a short header, which has
+    /// none.
+    pub(crate) fn is_lacking(self, version: Option<u32>, first: u8) -> bool
+        ensures { result ≡ lacks_fixed_bit self version first }
+    {
+        match (self, version) {
+            (FixedBit::Required, None | Some(1)) => first / 0x40 % 2 == 0,
+            _ => false,
+        }
+    }
+}

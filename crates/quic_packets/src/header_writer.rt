@@ -1,0 +1,338 @@
+//! Writing headers of version 1, before protection (RFC 9000 section 17).
+
+ghost use Rattle.std.specs.Prelude.{◌≡◌, ℕ, ◌+◌, ◌-◌, ◌*◌, ◌^◌, ◌<◌, ◌≤◌, ◌↔◌, ◌∷◌, [], ◌++◌, List, length, take, drop, nat_lt, if◌then◌else◌, IsOk, IfOk, IsErrOf, OnOk, OnErr};
+ghost use Rattle.quic_packets.specs.HeaderBytes.{HasShortFields, HasShortIds, IsLongHeader, IsNumberLen, IsShortHeader, fewest, id_field, integer, length_log, length_of, long_first_byte, long_header, short_first_byte, short_header, token_field, token_of, type_bits, with_field};
+ghost use Rattle.quic_packets.specs.Datagram.{span};
+
+use crate::datagram::{MAX_ID_LEN, TAG_LEN};
+use crate::header::MAX_NUMBER_LEN;
+use std::ops::Range;
+use thiserror::Error;
+
+/// The end of the version in a long header.
+const VERSION_END: usize = 5;
+
+/// Tokens and Length fields end at this value, so that four bytes encode them (RFC 9000 section 16).
+const LENGTHS_END: usize = 1 << 30;
+
+/// A type of packets with a long header and a packet number (RFC 9000 section 17.2, table 5).
+#[derive(Clone, Copy, Drop)]
+pub enum LongType<'a> {
+    /// An Initial packet. It alone has a token (section 17.2.2).
+    Initial {
+        /// The token of a Retry packet or a NEW_TOKEN frame, or an empty one.
+        token: &'a [u8],
+    },
+    /// A 0-RTT packet.
+    ZeroRtt,
+    /// A Handshake packet.
+    Handshake,
+}
+
+/// A long header of version 1 (RFC 9000 sections 17.2.2 to 17.2.4).
+#[derive(Clone, Copy, Drop)]
+pub struct LongHeader<'a> {
+    /// The type of the packet. An Initial packet has a token.
+    pub packet_type: LongType<'a>,
+    /// The destination connection ID, of at most 20 bytes.
+    pub destination_id: &'a [u8],
+    /// The source connection ID, of at most 20 bytes.
+    pub source_id: &'a [u8],
+    /// The number of bytes of the packet number, from 1 to 4.
+    pub number_len: usize,
+    /// The number of bytes of the payload, without the tag.
+    pub payload_len: usize,
+}
+
+/// A short header of version 1 (RFC 9000 section 17.3.1).
+#[derive(Clone, Copy, Drop)]
+pub struct ShortHeader<'a> {
+    /// The destination connection ID, of at most 20 bytes.
+    pub destination_id: &'a [u8],
+    /// The Key Phase bit.
+    pub phase: bool,
+    /// The number of bytes of the packet number, from 1 to 4.
+    pub number_len: usize,
+}
+
+/// The error of writing a header.
+#[derive(Clone, Copy, PartialEq, Eq, Debug, Drop, Error)]
+pub enum HeaderError {
+    /// The packet number has no byte, or more than 4 (RFC 9000 section 17.1).
+    #[error("a packet number has 1 to 4 bytes")]
+    NumberLength,
+    /// A connection ID has more than 20 bytes (RFC 9000 section 17.2).
+    #[error("a connection ID of version 1 has at most 20 bytes")]
+    IdTooLong,
+    /// The token, or packet number, payload and tag together, have 2^30 bytes or more.
+    #[error("the token or the packet has 2^30 bytes or more")]
+    TooLong,
+    /// The buffer is shorter than the header.
+    #[error("the buffer is shorter than the header")]
+    NoRoom,
+}
+
+impl LongHeader<'_> {
+    /// Writes the header to the front of a buffer, and returns where the packet number is to be: behind it. The payload and 16
+    /// bytes for the tag follow the number. The fixed bit is 1, and the reserved bits are 0. The token's length has the fewest
+    /// bytes, and Length has two, or four from 16,384 on. No other byte of the buffer changes, so the number isn't written yet.
+    ///
+    /// Fails, in this order, with `NumberLength` if `number_len` is 0 or above 4; with `IdTooLong` if a connection ID has more than
+    /// 20 bytes; with `TooLong` if the token, or number, payload and tag together, have 2^30 bytes or more; and with `NoRoom` if the
+    /// buffer ends before the packet number does. The buffer is then unchanged.
+    pub fn write(&self, buffer: &mut [u8]) -> Result<Range<usize>, HeaderError>
+        ensures accepted { IsOk result ↔ (IsLongHeader self.now
+            × (length (long_header self.now) + self.now.number_len ≤ length buffer.old)) }
+        ensures number_length { IsErrOf result HeaderError.NumberLength ↔ ¬ IsNumberLen self.now.number_len }
+        ensures id_too_long { IsErrOf result HeaderError.IdTooLong ↔ (IsNumberLen self.now.number_len
+            × ¬ HasShortIds self.now) }
+        ensures too_long { IsErrOf result HeaderError.TooLong ↔ (IsNumberLen self.now.number_len
+            × HasShortIds self.now × ¬ HasShortFields self.now) }
+        ensures no_room { IsErrOf result HeaderError.NoRoom ↔ (IsLongHeader self.now
+            × (length buffer.old < length (long_header self.now) + self.now.number_len)) }
+        ensures written { OnOk result (buffer.new
+            ≡ long_header self.now ++ drop (length (long_header self.now)) buffer.old) }
+        ensures number { IfOk result (λ number. number ≡ span (length (long_header self.now))
+            (length (long_header self.now) + self.now.number_len)) }
+        ensures kept { OnErr result (buffer.new ≡ buffer.old) }
+    {
+        self.check()?;
+        let number_at = self.len();
+        if buffer.len() < number_at + self.number_len {
+            return Err(HeaderError::NoRoom);
+        }
+        self.put(buffer);
+        Ok(number_at..number_at + self.number_len)
+    }
+
+    // Checks the lengths of the fields.
+    fn check(&self) -> Result<(), HeaderError>
+        ensures accepted { IsOk result ↔ IsLongHeader self.now }
+        ensures number_length { IsErrOf result HeaderError.NumberLength ↔ ¬ IsNumberLen self.now.number_len }
+        ensures id_too_long { IsErrOf result HeaderError.IdTooLong ↔ (IsNumberLen self.now.number_len
+            × ¬ HasShortIds self.now) }
+        ensures too_long { IsErrOf result HeaderError.TooLong ↔ (IsNumberLen self.now.number_len
+            × HasShortIds self.now × ¬ HasShortFields self.now) }
+        ensures others { ¬ IsErrOf result HeaderError.NoRoom }
+    {
+        if !(1..=MAX_NUMBER_LEN).contains(&self.number_len) {
+            return Err(HeaderError::NumberLength);
+        }
+        if self.destination_id.len() > MAX_ID_LEN || self.source_id.len() > MAX_ID_LEN {
+            return Err(HeaderError::IdTooLong);
+        }
+        let most = LENGTHS_END - TAG_LEN - self.number_len;
+        if token_of(self.packet_type).len() >= LENGTHS_END || self.payload_len >= most {
+            return Err(HeaderError::TooLong);
+        }
+        Ok(())
+    }
+
+    // The length of the header up to the packet number.
+    fn len(&self) -> usize
+        requires { IsLongHeader self.now }
+        ensures is { result ≡ length (long_header self.now) }
+        ensures few { result ≤ 2 ^ 30 + 100 }
+    {
+        let ids_len = 1 + self.destination_id.len() + 1 + self.source_id.len();
+        let length_len = integer_len(length_log(self.packet_len()));
+        VERSION_END + ids_len + token_field_len(self.packet_type) + length_len
+    }
+
+    // The value of Length.
+    fn packet_len(&self) -> usize
+        requires { IsLongHeader self.now }
+        ensures is { result ≡ length_of self.now }
+        ensures few { result < 2 ^ 30 }
+    {
+        self.number_len + self.payload_len + TAG_LEN
+    }
+
+    // Writes the header to the front of the buffer.
+    fn put(&self, buffer: &mut [u8])
+        requires header { IsLongHeader self.now }
+        requires room { length (long_header self.now) ≤ length buffer.old }
+        ensures { buffer.new ≡ long_header self.now ++ drop (length (long_header self.now)) buffer.old }
+    {
+        let packet_len = self.packet_len();
+        let at = put(buffer, 0, &[self.first_byte(), 0, 0, 0, 1]);
+        let at = put_id(buffer, at, self.destination_id);
+        let at = put_id(buffer, at, self.source_id);
+        let at = put_token(buffer, at, self.packet_type);
+        put_integer(buffer, at, length_log(packet_len), packet_len);
+    }
+
+    fn first_byte(&self) -> u8
+        requires { IsNumberLen self.now.number_len }
+        ensures { result ≡ long_first_byte (type_bits self.now.packet_type) self.now.number_len }
+    {
+        let type_bits = match self.packet_type {
+            LongType::Initial { .. } => 0x00,
+            LongType::ZeroRtt => 0x10,
+            LongType::Handshake => 0x20,
+        };
+        0xc0 + type_bits + (self.number_len as u8 - 1)
+    }
+}
+
+impl ShortHeader<'_> {
+    /// Writes the header to the front of a buffer, and returns where the packet number is to be: behind it. The payload and 16
+    /// bytes for the tag follow the number. The fixed bit is 1, and the spin bit and the reserved bits are 0. No other byte of the
+    /// buffer changes, so the number isn't written yet.
+    ///
+    /// Fails, in this order, with `NumberLength` if `number_len` is 0 or above 4; with `IdTooLong` if the connection ID has more
+    /// than 20 bytes; and with `NoRoom` if the buffer ends before the packet number does. The buffer is then unchanged.
+    pub fn write(&self, buffer: &mut [u8]) -> Result<Range<usize>, HeaderError>
+        ensures accepted { IsOk result ↔ (IsShortHeader self.now
+            × (length (short_header self.now) + self.now.number_len ≤ length buffer.old)) }
+        ensures number_length { IsErrOf result HeaderError.NumberLength ↔ ¬ IsNumberLen self.now.number_len }
+        ensures id_too_long { IsErrOf result HeaderError.IdTooLong ↔ (IsNumberLen self.now.number_len
+            × (20 < length self.now.destination_id.now)) }
+        ensures no_room { IsErrOf result HeaderError.NoRoom ↔ (IsShortHeader self.now
+            × (length buffer.old < length (short_header self.now) + self.now.number_len)) }
+        ensures never { ¬ IsErrOf result HeaderError.TooLong }
+        ensures written { OnOk result (buffer.new
+            ≡ short_header self.now ++ drop (length (short_header self.now)) buffer.old) }
+        ensures number { IfOk result (λ number. number ≡ span (length (short_header self.now))
+            (length (short_header self.now) + self.now.number_len)) }
+        ensures kept { OnErr result (buffer.new ≡ buffer.old) }
+    {
+        if !(1..=MAX_NUMBER_LEN).contains(&self.number_len) {
+            return Err(HeaderError::NumberLength);
+        }
+        if self.destination_id.len() > MAX_ID_LEN {
+            return Err(HeaderError::IdTooLong);
+        }
+        let number_at = 1 + self.destination_id.len();
+        if buffer.len() < number_at + self.number_len {
+            return Err(HeaderError::NoRoom);
+        }
+        self.put(buffer);
+        Ok(number_at..number_at + self.number_len)
+    }
+
+    // Writes the header to the front of the buffer.
+    fn put(&self, buffer: &mut [u8])
+        requires header { IsShortHeader self.now }
+        requires room { length (short_header self.now) ≤ length buffer.old }
+        ensures { buffer.new ≡ short_header self.now ++ drop (length (short_header self.now)) buffer.old }
+    {
+        let at = put(buffer, 0, &[self.first_byte()]);
+        put(buffer, at, self.destination_id);
+    }
+
+    fn first_byte(&self) -> u8
+        requires { IsNumberLen self.now.number_len }
+        ensures { result ≡ short_first_byte self.now.phase self.now.number_len }
+    {
+        let key_phase = if self.phase { 0x04 } else { 0 };
+        0x40 + key_phase + (self.number_len as u8 - 1)
+    }
+}
+
+// The token of an Initial packet. Empty for other types.
+fn token_of(packet_type: LongType<'_>) -> &[u8]
+    ensures { result.now ≡ token_of packet_type.entry }
+{
+    match packet_type {
+        LongType::Initial { token } => token,
+        _ => &[],
+    }
+}
+
+// The length of the token and its length.
+fn token_field_len(packet_type: LongType<'_>) -> usize
+    requires { length (token_of packet_type) < 2 ^ 30 }
+    ensures is { result ≡ length (token_field packet_type.entry) }
+    ensures few { result ≤ 2 ^ 30 + 3 }
+{
+    match packet_type {
+        LongType::Initial { token } => integer_len(fewest(token.len())) + token.len(),
+        _ => 0,
+    }
+}
+
+// The base-2 logarithm of the fewest bytes for a value below 2^30.
+fn fewest(value: usize) -> u8
+    ensures { result ≡ fewest value }
+{
+    if value < 1 << 6 {
+        0
+    } else if value < 1 << 14 {
+        1
+    } else {
+        2
+    }
+}
+
+// The base-2 logarithm of the length of a Length field.
+fn length_log(value: usize) -> u8
+    ensures { result ≡ length_log value }
+{
+    if value < 1 << 14 { 1 } else { 2 }
+}
+
+// The length of a variable-length integer.
+fn integer_len(log: u8) -> usize
+    requires { log ≤ 2 }
+    ensures { result ≡ 2 ^ log }
+{
+    match log {
+        0 => 1,
+        1 => 2,
+        _ => 4,
+    }
+}
+
+// Writes a field at a byte, and returns its end.
+fn put(buffer: &mut [u8], at: usize, field: &[u8]) -> usize
+    requires { at + length field.now ≤ length buffer.old }
+    ensures end { result ≡ at + length field.now }
+    ensures written { buffer.new ≡ with_field at field.now buffer.old }
+{
+    let end = at + field.len();
+    buffer[at..end].copy_from_slice(field);
+    end
+}
+
+// Writes a connection ID after its length.
+fn put_id(buffer: &mut [u8], at: usize, id: &[u8]) -> usize
+    requires short { length id.now ≤ 20 }
+    requires room { at + length (id_field id.now) ≤ length buffer.old }
+    ensures end { result ≡ at + length (id_field id.now) }
+    ensures written { buffer.new ≡ with_field at (id_field id.now) buffer.old }
+{
+    let at = put(buffer, at, &[id.len() as u8]);
+    put(buffer, at, id)
+}
+
+// Writes the token of an Initial packet after its length.
+fn put_token(buffer: &mut [u8], at: usize, packet_type: LongType<'_>) -> usize
+    requires short { length (token_of packet_type) < 2 ^ 30 }
+    requires room { at + length (token_field packet_type) ≤ length buffer.old }
+    ensures end { result ≡ at + length (token_field packet_type.entry) }
+    ensures written { buffer.new ≡ with_field at (token_field packet_type.entry) buffer.old }
+{
+    match packet_type {
+        LongType::Initial { token } => {
+            let at = put_integer(buffer, at, fewest(token.len()), token.len());
+            put(buffer, at, token)
+        }
+        _ => at,
+    }
+}
+
+// Writes a variable-length integer of 2^log bytes.
+fn put_integer(buffer: &mut [u8], at: usize, log: u8, value: usize) -> usize
+    requires few { log ≤ 2 }
+    requires fits { value < 2 ^ (8 * 2 ^ log - 2) }
+    requires room { at + 2 ^ log ≤ length buffer.old }
+    ensures end { result ≡ at + 2 ^ log }
+    ensures written { buffer.new ≡ with_field at (integer log value) buffer.old }
+{
+    match log {
+        0 => put(buffer, at, &[value as u8]),
+        1 => put(buffer, at, &(0x4000 + value as u16).to_be_bytes()),
+        _ => put(buffer, at, &(0x8000_0000 + value as u32).to_be_bytes()),
+    }
+}
