@@ -70,6 +70,7 @@ pub record WasSent (header : HeaderKey) (life : Life) (p : Sent) : Type 0 where
   pub carries : CarriesNumber p.number p.number_at p.header_len p.packet
   pub phase : is_long (get_or p.packet 0 0) ≡ false → HasPhase (get_or p.packet 0 0) (phase_after (updates_before life.updates p.number))
   pub unreserved : reserved_bits (get_or p.packet 0 0) ≡ 0
+  pub payload : p.header_len + 16 < length p.packet
   pub sealed : (let key = key_after life.key life.updates (updates_before life.updates p.number) in
       Protected header p.number_at (sealed_packet key.bytes (xored_nonce key.iv p.number) p.header_len p.packet) p.wire)
 
@@ -88,6 +89,7 @@ moved header key u us p lt was =
       carries = was.carries;
       phase = λ short. subst (λ n. HasPhase (get_or p.packet 0 0) (phase_after n)) (sym count) (was.phase short);
       unreserved = was.unreserved;
+      payload = was.payload;
       sealed = subst (λ k. Protected header p.number_at (sealed_packet k.bytes (xored_nonce k.iv p.number) p.header_len p.packet) p.wire) same was.sealed;
     }
 
@@ -153,6 +155,7 @@ module _ (s : Sender) (life : Life) (sent : List Sent) (start end : ℕ) (packet
         (subst (λ f. HasPhase f s.phase) (sym first)
         (has_phase s.phase (end - start) (get_or packet 0 0) (omega arith) (omega arith) (ap is_long (sym first) ∙ short))));
     unreserved = ap reserved_bits first ∙ unreserved s.phase (end - start) (get_or packet 0 0) (omega arith) (omega arith);
+    payload = omega (arith, sealable.payload, len);
     sealed = subst (λ k. Protected s.header_key start (sealed_packet k.bytes (xored_nonce k.iv s.next) end whole) wire) key_now is;
   }
 

@@ -1,5 +1,5 @@
 -- Receiving packets: the keys of two phases (RFC 9001 section 6), and the outcome of a packet.
-use Rattle.std.specs.Prelude.{◌≡◌, ◌≢◌, ℕ, ◌+◌, ◌-◌, ◌≤◌, ◌==◌, ◌↔◌, if◌then◌else◌, min, max, Bool, true, false, not, nat_lt, IsTrue, List, length, slice_index, slice_range, bit_and, Option, None, Some, IsSome, unwrap_or, Result, IsOk, IfOk, IsErrOf, OnOk}
+use Rattle.std.specs.Prelude.{◌≡◌, ◌≢◌, ℕ, ◌+◌, ◌-◌, ◌<◌, ◌≤◌, ◌==◌, ◌↔◌, if◌then◌else◌, min, max, Bool, true, false, not, nat_lt, IsTrue, List, length, slice_index, slice_range, bit_and, Option, None, Some, IsSome, unwrap_or, Result, IsOk, IfOk, IsErrOf, OnOk}
 use Rattle.std.specs.Int.Digits.{number_from_digits}
 use Rattle.aead_ciphers.specs.Counting.{xored_nonce}
 use Rattle.aead_ciphers.specs.HeaderProtection.{HeaderKey}
@@ -11,7 +11,7 @@ use Rattle.quic_packets.specs.Numbers.{IsDecoded}
 use Rattle.quic_packets.specs.Packet.{IsGenuine}
 use Rattle.quic_packets.specs.Space.{IsNew, Space}
 use Rattle.quic_packets.specs.declared.error.PacketError.{PacketError}
-use Rattle.quic_packets.specs.declared.error.PacketError.TheVariants.{Duplicate, KeyUpdate, Refused, ReservedBits, TooLong}
+use Rattle.quic_packets.specs.declared.error.PacketError.TheVariants.{Duplicate, KeyUpdate, NoFrames, Refused, ReservedBits, TooLong}
 use Rattle.quic_packets.specs.declared.receiver.Received.{Received}
 
 -- a receiver: the header key; the packet key of its phase, the next one if it is given, and the previous one if it is kept; its
@@ -118,7 +118,8 @@ pub record Opening (r : Receiver) (start number_at : ℕ) (plain : List ℕ) (nu
   pub returns : IfOk result (λ packet. packet ≡ (slice_index plain 0, of_packet start number_at plain number))
 
 -- The outcome of a packet that is long enough for a sample, in the order of the checks: it is too long; it is not authentic;
--- or, once it is opened, its reserved bits are set, its number was already received, or its key is not in turn.
+-- or, once it is opened, its reserved bits are set, its number was already received, its key is not in turn, or its payload is
+-- empty.
 pub record Outcome (r : Receiver) (s : Space) (start number_at : ℕ) (plain : List ℕ) (number : ℕ) (result : Result Received PacketError)
     (r' : Receiver) (opened : List ℕ) : Type 0 where
   pub too_long : IsErrOf result TooLong ↔ ¬ PacketFits (header_len number_at plain) (length plain)
@@ -130,9 +131,12 @@ pub record Outcome (r : Receiver) (s : Space) (start number_at : ℕ) (plain : L
   pub out_of_turn : IsErrOf result KeyUpdate
       ↔ (IsAuthentic r number_at plain number × (reserved_bits (slice_index plain 0) ≡ 0) × IsNew s number
       × ¬ IsInTurn r (slice_index plain 0) number)
+  pub no_frames : IsErrOf result NoFrames
+      ↔ (IsAuthentic r number_at plain number × (reserved_bits (slice_index plain 0) ≡ 0) × IsNew s number
+      × IsInTurn r (slice_index plain 0) number × (length plain ≡ header_len number_at plain + 16))
   pub accepted : IsOk result
       ↔ (IsAuthentic r number_at plain number × (reserved_bits (slice_index plain 0) ≡ 0) × IsNew s number
-      × IsInTurn r (slice_index plain 0) number)
+      × IsInTurn r (slice_index plain 0) number × (header_len number_at plain + 16 < length plain))
   pub opens : IsAuthentic r number_at plain number → Opens r number_at plain number opened
   pub returns : IfOk result (λ packet. packet ≡ of_packet start number_at plain number)
   pub moves_on : OnOk result (r' ≡ received r (slice_index plain 0) number)
@@ -142,4 +146,5 @@ abbrev pub is_of_opened : PacketError → Bool
 is_of_opened ReservedBits = true
 is_of_opened Duplicate = true
 is_of_opened KeyUpdate = true
+is_of_opened NoFrames = true
 is_of_opened _ = false

@@ -76,11 +76,12 @@ numbered_packet phase number start end packet =
 
 -- One packet.
 
--- a packet that can be sealed and protected, whatever its number
+-- a packet that can be sealed and protected, whatever its number: its payload is not empty (RFC 9000 section 12.4)
 pub record IsSealable (start end : ℕ) (packet : List ℕ) : Type 0 where
   pub fits : PacketFits end (length packet)
   pub sample : HasSample start (length packet)
   pub protected : lacks_protection packet ≡ false
+  pub payload : end + 16 < length packet
 
 -- the key may seal another packet, and a number is left
 pub record IsOpen (s : Sender) : Type 0 where

@@ -13,8 +13,8 @@ const AEAD_LIMIT_REACHED: u64 = 0x0f;
 
 /// The error of sending or receiving a packet.
 ///
-/// A call that fails leaves the packet and the key unchanged, except with `ReservedBits`, `Duplicate` and `KeyUpdate`: these
-/// come after the packet was opened. After `Refused`, the output of `PacketKey::open_to` is the ciphertext.
+/// A call that fails leaves the packet and the key unchanged, except with `ReservedBits`, `Duplicate`, `KeyUpdate` and `NoFrames`:
+/// these come after the packet was opened. After `Refused`, the output of `PacketKey::open_to` is the ciphertext.
 #[derive(Clone, Copy, PartialEq, Eq, Debug, Drop, Error)]
 pub enum PacketError {
     /// The key is not as long as the algorithm's keys.
@@ -52,6 +52,9 @@ pub enum PacketError {
     /// The packet is of a type without protection: Version Negotiation or Retry (RFC 9000 sections 17.2.1 and 17.2.5).
     #[error("packets of this type have no protection")]
     NoProtection,
+    /// The packet to be sent has no payload, where a payload has at least one frame (RFC 9000 section 12.4).
+    #[error("the packet has no payload")]
+    EmptyPayload,
     /// Packet numbers end at 2^62 (RFC 9000 section 12.3).
     #[error("the packet number is not below 2^62")]
     NumbersEnded,
@@ -86,17 +89,26 @@ pub enum PacketError {
     /// The packet is authentic, but its key phase is out of turn (RFC 9001 section 6.4).
     #[error("the packet's key phase is out of order")]
     KeyUpdate,
+    /// The packet is authentic, but its payload is empty, so it has no frames (RFC 9000 section 12.4).
+    #[error("the packet has no frames")]
+    NoFrames,
 }
 
 impl PacketError {
     /// Returns the code of the transport error that the connection must be closed with (RFC 9000 section 20.1), or `None` if the
-    /// packet is only dropped or not sent: `PROTOCOL_VIOLATION` for `NeverSent` and `ReservedBits`, `KEY_UPDATE_ERROR` for
-    /// `KeyUpdate`, and `AEAD_LIMIT_REACHED` for `TooManyFailures`.
+    /// packet is only dropped or not sent: `PROTOCOL_VIOLATION` for `NeverSent`, `ReservedBits` and `NoFrames`,
+    /// `KEY_UPDATE_ERROR` for `KeyUpdate`, and `AEAD_LIMIT_REACHED` for `TooManyFailures`.
+    ///
+    /// `KeyUsedUp` has none, since a key update follows it. The key cannot seal the packet that closes the connection either, so
+    /// a caller that cannot update closes it with `AEAD_LIMIT_REACHED` (0x0f) while `Sender::remaining` is above 0 (RFC 9001
+    /// section 6.6). After `NumbersEnded`, no packet may be sent at all (RFC 9000 section 12.3).
     pub fn code(self) -> Option<u64>
         ensures { result ≡ error_code self }
     {
         match self {
-            PacketError::NeverSent | PacketError::ReservedBits => Some(PROTOCOL_VIOLATION),
+            PacketError::NeverSent | PacketError::ReservedBits | PacketError::NoFrames => {
+                Some(PROTOCOL_VIOLATION)
+            }
             PacketError::KeyUpdate => Some(KEY_UPDATE_ERROR),
             PacketError::TooManyFailures => Some(AEAD_LIMIT_REACHED),
             _ => None,

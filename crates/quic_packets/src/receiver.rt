@@ -158,8 +158,8 @@ impl Receiver {
     /// after the packet's first byte; with `NoSample` if the packet has fewer than 20 bytes from its number on; with `TooLong`
     /// if it is longer than AES-GCM allows; and with `Refused`, which is counted, if it is not authentic. The packet is then
     /// unchanged. For an authentic packet, which is then opened in place, fails with `ReservedBits` if its reserved bits are
-    /// set, with `Duplicate` if its number was already received or is below the window of `space`, and with `KeyUpdate` if its
-    /// key phase is out of turn.
+    /// set, with `Duplicate` if its number was already received or is below the window of `space`, with `KeyUpdate` if its
+    /// key phase is out of turn, and with `NoFrames` if its payload is empty.
     ///
     /// Before a packet is known to be authentic, its masked bits only determine the length of the header and the key that opens
     /// it (RFC 9001 section 9.5).
@@ -238,7 +238,7 @@ impl Receiver {
             × ¬ IsErrOf result PacketError.NoSample }
     {
         match self.open(space.largest(), packet, number_at, start) {
-            Ok((first, received)) => match self.admit(space, first, received.number) {
+            Ok((first, received)) => match self.admit(space, first, &received) {
                 Ok(()) => Ok(received),
                 Err(error) => Err(error),
             },
@@ -273,7 +273,7 @@ impl Receiver {
         ensures kept { OnErr result (packet.new ≡ packet.old) }
         ensures others { ¬ IsErrOf result PacketError.TooManyFailures × ¬ IsErrOf result PacketError.PastEnd
             × ¬ IsErrOf result PacketError.NoNumber × ¬ IsErrOf result PacketError.ReservedBits × ¬ IsErrOf result PacketError.Duplicate
-            × ¬ IsErrOf result PacketError.KeyUpdate }
+            × ¬ IsErrOf result PacketError.KeyUpdate × ¬ IsErrOf result PacketError.NoFrames }
     {
         let number_len = self.header.unprotect(packet, number_at)?;
         let first = packet[0];
@@ -368,20 +368,29 @@ impl Receiver {
     }
 
     // Accepts a packet that was opened, and counts its number as received.
-    fn admit(&mut self, space: &mut Space, first: u8, number: u64) -> Result<(), PacketError>
-        requires { IsNumber number }
-        ensures accepted { IsOk result ↔ ((reserved_bits first ≡ 0) × IsNew space.old number
-            × IsInTurn self.old first number) }
+    fn admit(
+        &mut self,
+        space: &mut Space,
+        first: u8,
+        opened: &Received,
+    ) -> Result<(), PacketError>
+        requires { IsNumber opened.now.number }
+        ensures accepted { IsOk result ↔ ((reserved_bits first ≡ 0) × IsNew space.old opened.now.number
+            × IsInTurn self.old first opened.now.number × (opened.now.payload.start < opened.now.payload.end)) }
         ensures reserved { IsErrOf result PacketError.ReservedBits ↔ (reserved_bits first ≢ 0) }
         ensures duplicate { IsErrOf result PacketError.Duplicate
-            ↔ ((reserved_bits first ≡ 0) × ¬ IsNew space.old number) }
+            ↔ ((reserved_bits first ≡ 0) × ¬ IsNew space.old opened.now.number) }
         ensures out_of_turn { IsErrOf result PacketError.KeyUpdate ↔ ((reserved_bits first ≡ 0)
-            × IsNew space.old number × ¬ IsInTurn self.old first number) }
+            × IsNew space.old opened.now.number × ¬ IsInTurn self.old first opened.now.number) }
+        ensures no_frames { IsErrOf result PacketError.NoFrames ↔ ((reserved_bits first ≡ 0)
+            × IsNew space.old opened.now.number × IsInTurn self.old first opened.now.number
+            × (opened.now.payload.end ≤ opened.now.payload.start)) }
         ensures others { IfErr result (λ error. is_of_opened error ≡ true) }
-        ensures moved_on { OnOk result (self.new ≡ received self.old first number) }
-        ensures marked { OnOk result (Marks space.old number space.new) }
+        ensures moved_on { OnOk result (self.new ≡ received self.old first opened.now.number) }
+        ensures marked { OnOk result (Marks space.old opened.now.number space.new) }
         ensures kept { OnErr result ((self.new ≡ self.old) × (space.new ≡ space.old)) }
     {
+        let number = opened.number;
         let reserved = if first & 0x80 == 0x80 { 0x0c } else { 0x18 };
         if first & reserved != 0 {
             return Err(PacketError::ReservedBits);
@@ -391,6 +400,9 @@ impl Receiver {
         }
         if !self.is_in_turn(first, number) {
             return Err(PacketError::KeyUpdate);
+        }
+        if opened.payload.start >= opened.payload.end {
+            return Err(PacketError::NoFrames);
         }
         space.mark(number);
         self.move_on(first, number);

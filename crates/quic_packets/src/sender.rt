@@ -147,6 +147,15 @@ impl Sender {
         self.sealed
     }
 
+    /// Returns how many packets can still be sent without a key update: as many as the limit leaves to the current key, or as
+    /// the space leaves numbers, whichever is less.
+    pub fn remaining(&self) -> u64
+        ensures { result ≡ min (self.now.limit - self.now.sealed) (2 ^ 62 - self.now.next) }
+    {
+        let numbers = NUMBERS_END - self.next;
+        self.limit.saturating_sub(self.sealed).min(numbers)
+    }
+
     /// Returns the Key Phase bit of the next packet (RFC 9000 section 17.3.1).
     pub fn phase(&self) -> bool
         ensures { result ≡ self.now.phase }
@@ -306,8 +315,8 @@ impl Sender {
     ///
     /// Fails with `TooShort` if the packet has fewer than `number.end + 16` bytes; with `TooLong` if it is longer than AES-GCM
     /// allows; with `NumberAtFirstByte` if `number.start` is 0; with `NoSample` if number and payload together have fewer than
-    /// 4 bytes; with `NoProtection` for a Version Negotiation or a Retry packet; with `KeyUsedUp` if the key has reached its
-    /// limit; with `NumbersEnded` if no number is left; with `NumberTooFar` if 4 bytes cannot encode the number; and with
+    /// 4 bytes; with `NoProtection` for a Version Negotiation or a Retry packet; with `EmptyPayload` if it has just
+    /// `number.end + 16` bytes; with `KeyUsedUp` if the key has reached its limit; with `NumbersEnded` if no number is left; with `NumberTooFar` if 4 bytes cannot encode the number; and with
     /// `NumberLength` if the room has fewer bytes than that, or more than 4. The packet and the sender are then
     /// unchanged.
     pub fn send(&mut self, packet: &mut [u8], number: Range<usize>) -> Result<u64, PacketError>
@@ -323,6 +332,9 @@ impl Sender {
         ensures no_protection { IsErrOf result PacketError.NoProtection
             ↔ (PacketFits number.end (length packet.old) × HasSample number.start (length packet.old)
             × IsTrue (lacks_protection packet.old)) }
+        ensures empty { IsErrOf result PacketError.EmptyPayload
+            ↔ (PacketFits number.end (length packet.old) × HasSample number.start (length packet.old)
+            × (lacks_protection packet.old ≡ false) × (length packet.old ≡ number.end + 16)) }
         ensures used_up { IsErrOf result PacketError.KeyUsedUp
             ↔ (IsSealable number.start number.end packet.old × (self.old.limit ≤ self.old.sealed)) }
         ensures ended { IsErrOf result PacketError.NumbersEnded
@@ -371,7 +383,7 @@ impl Sender {
             × ¬ IsRoom self.now.next self.now.largest number_at header_len) }
         ensures others { ¬ IsErrOf result PacketError.TooShort × ¬ IsErrOf result PacketError.TooLong
             × ¬ IsErrOf result PacketError.NumberAtFirstByte × ¬ IsErrOf result PacketError.NoSample
-            × ¬ IsErrOf result PacketError.NoProtection }
+            × ¬ IsErrOf result PacketError.NoProtection × ¬ IsErrOf result PacketError.EmptyPayload }
         ensures bound { OnOk result (header_len ≤ number_at + 4) }
     {
         if self.sealed >= self.limit {
@@ -406,10 +418,13 @@ fn check_packet(packet: &[u8], number_at: usize, header_len: usize) -> Result<()
     ensures no_protection { IsErrOf result PacketError.NoProtection
         ↔ (PacketFits header_len (length packet.now) × HasSample number_at (length packet.now)
         × IsTrue (lacks_protection packet.now)) }
+    ensures empty { IsErrOf result PacketError.EmptyPayload
+        ↔ (PacketFits header_len (length packet.now) × HasSample number_at (length packet.now)
+        × (lacks_protection packet.now ≡ false) × (length packet.now ≡ header_len + 16)) }
     ensures others { ¬ IsErrOf result PacketError.KeyUsedUp × ¬ IsErrOf result PacketError.NumbersEnded
         × ¬ IsErrOf result PacketError.NumberTooFar × ¬ IsErrOf result PacketError.NumberLength }
 {
-    payload_len(packet, header_len)?;
+    let payload_len = payload_len(packet, header_len)?;
     if number_at == 0 {
         return Err(PacketError::NumberAtFirstByte);
     }
@@ -418,6 +433,9 @@ fn check_packet(packet: &[u8], number_at: usize, header_len: usize) -> Result<()
     }
     if lacks_protection(packet) {
         return Err(PacketError::NoProtection);
+    }
+    if payload_len == 0 {
+        return Err(PacketError::EmptyPayload);
     }
     Ok(())
 }
