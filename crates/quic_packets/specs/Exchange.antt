@@ -87,6 +87,8 @@ new_receiver header key = record {
   phase = false;
   lowest = 0;
   highest = 0;
+  highest_previous = 0;
+  highest_earlier = 0;
 }
 
 -- After `own` key updates, a receiver holds the key of a packet: it is the current key or, for a short header, which has a Key

@@ -15,8 +15,8 @@ use Rattle.quic_packets.specs.declared.error.PacketError.TheVariants.{Duplicate,
 use Rattle.quic_packets.specs.declared.receiver.Received.{Received}
 
 -- a receiver: the header key; the packet key of its phase, the next one if it is given, and the previous one if it is kept; its
--- Key Phase bit; and the lowest and highest number opened in this phase. In the first phase the lowest is 0, and the highest is
--- 0 until a packet is opened.
+-- Key Phase bit; the lowest and highest number opened in this phase, where the lowest is 0 in the first phase; and the highest
+-- numbers opened under the previous key and under the keys before that one. A highest number is 0 if there is none.
 pub record Receiver : Type 0 where
   pub header : HeaderKey
   pub current : PacketKey
@@ -25,6 +25,8 @@ pub record Receiver : Type 0 where
   pub phase : Bool
   pub lowest : ℕ
   pub highest : ℕ
+  pub highest_previous : ℕ
+  pub highest_earlier : ℕ
 
 -- a short header has a Key Phase bit, and a long one does not (RFC 9000 section 17.3.1)
 abbrev pub has_phase : ℕ → Bool
@@ -44,11 +46,16 @@ key_of r first number = if is_other_phase r first then (if nat_lt number r.lowes
 abbrev pub opening_key : Receiver → ℕ → ℕ → PacketKey
 opening_key r first number = unwrap_or (key_of r first number) r.current
 
--- The packet's key is held. If it is the next key, no packet of this phase has a higher number, since later packets are never
+-- the highest number that was opened under the keys before the packet's key
+abbrev pub highest_before : Receiver → ℕ → ℕ → ℕ
+highest_before r first number =
+    if is_other_phase r first then (if nat_lt number r.lowest then r.highest_earlier else r.highest) else r.highest_previous
+
+-- The packet's key is held, and no packet with a higher number was opened under an earlier key, since later packets are never
 -- under earlier keys (section 6.4).
 pub record IsInTurn (r : Receiver) (first number : ℕ) : Type 0 where
   pub held : IsSome (key_of r first number)
-  pub later : IsTrue (is_other_phase r first) → r.lowest ≤ number → r.highest ≤ number
+  pub later : highest_before r first number ≤ number
 
 -- the receiver after the next key first opened a packet: the keys move on (section 6.2)
 abbrev pub updated : Receiver → ℕ → Option PacketKey → Receiver
@@ -61,13 +68,15 @@ updated r number (Some key) =
       phase = not r.phase;
       lowest = number;
       highest = number;
+      highest_previous = r.highest;
+      highest_earlier = r.highest_previous;
     }
 
 -- the receiver after a packet was received
 abbrev pub received : Receiver → ℕ → ℕ → Receiver
 received r first number =
     if is_other_phase r first
-    then (if nat_lt number r.lowest then r else updated r number r.next)
+    then (if nat_lt number r.lowest then record r { highest_previous = max r.highest_previous number } else updated r number r.next)
     else record r { lowest = min r.lowest number; highest = max r.highest number }
 
 -- the reserved bits of a long header (RFC 9000 section 17.2) and of a short one (section 17.3.1)

@@ -1,6 +1,6 @@
 -- Sending packets in one space of packet numbers: the state of a sender, the packets that it makes, and its runs (RFC 9000
 -- section 17, RFC 9001 sections 5 and 6).
-use Rattle.std.specs.Prelude.{◌≡◌, ℕ, ◌+◌, ◌-◌, ◌^◌, ◌<◌, ◌≤◌, Bool, true, false, not, nat_lt, nat_le, min, max, ◌==◌, ◌&&◌, ◌||◌, if◌then◌else◌, List, [], ◌∷◌, ◌++◌, Option, None, Some, length, take, drop, bit_and, bit_or, slice_index, slice_set}
+use Rattle.std.specs.Prelude.{◌≡◌, ◌≢◌, ℕ, ◌+◌, ◌-◌, ◌^◌, ◌<◌, ◌≤◌, Bool, true, false, not, nat_lt, nat_le, min, max, ◌==◌, ◌&&◌, ◌||◌, if◌then◌else◌, List, [], ◌∷◌, ◌++◌, Option, None, Some, length, take, drop, bit_and, bit_or, slice_index, slice_set}
 use Rattle.aead_ciphers.specs.Algorithm.{key_len}
 use Rattle.aead_ciphers.specs.Counting.{xored_nonce}
 use Rattle.aead_ciphers.specs.HeaderProtection.{HeaderKey, key_len as header_key_len}
@@ -14,8 +14,8 @@ use Rattle.quic_packets.specs.declared.suite.Suite.{Suite}
 
 -- a sender: its key and header key; the next number, and the largest acknowledged one of its space; the Key Phase bit; how many
 -- packets this key has sealed and may seal; the first number of the unbroken run of numbers that were sent in this phase and that
--- ends before the next one, which is the next one if the run is empty; whether the keys were never updated or a packet of this
--- phase is acknowledged; and whether the handshake is confirmed
+-- ends before the next one, which is the next one if the run is empty; the next number when this phase began; whether the keys
+-- were never updated or a packet of this phase is acknowledged; and whether the handshake is confirmed
 pub record Sender : Type 0 where
   pub key : PacketKey
   pub header_key : HeaderKey
@@ -25,6 +25,7 @@ pub record Sender : Type 0 where
   pub sealed : ℕ
   pub limit : ℕ
   pub first : ℕ
+  pub first_of_phase : ℕ
   pub acknowledged : Bool
   pub confirmed : Bool
 
@@ -44,6 +45,7 @@ new_sender suite key iv header_key first = record {
   sealed = 0;
   limit = 2 ^ 23;
   first = first;
+  first_of_phase = first;
   acknowledged = true;
   confirmed = false;
 }
@@ -132,6 +134,12 @@ abbrev pub after_acknowledgement : Sender → ℕ → Sender
 after_acknowledgement s number =
     record s { largest = raised s.largest number; acknowledged = s.acknowledged || nat_le s.first number }
 
+-- An acknowledgment of a packet of this phase came in a packet of the other phase, so of older keys, once this endpoint has
+-- followed the peer's updates (RFC 9001 section 6.2).
+pub record IsUnanswered (s : Sender) (number : ℕ) (phase : Bool) : Type 0 where
+  pub of_phase : s.first_of_phase ≤ number
+  pub older : phase ≢ s.phase
+
 -- after a key update: new keys except the header key, the other phase, and the count 0 again (RFC 9001 sections 6 and 6.6)
 abbrev pub after_update : Sender → (key iv : List ℕ) → Sender
 after_update s key iv = record s {
@@ -139,6 +147,7 @@ after_update s key iv = record s {
   phase = not s.phase;
   sealed = 0;
   first = s.next;
+  first_of_phase = s.next;
   acknowledged = false;
 }
 

@@ -67,6 +67,9 @@ pub enum PacketError {
     /// The peer has acknowledged a packet number that was not sent (RFC 9000 section 13.1).
     #[error("a packet that was not sent was acknowledged")]
     NeverSent,
+    /// The peer has acknowledged a packet of the current keys in a packet of older keys (RFC 9001 section 6.2).
+    #[error("a packet of the current keys was acknowledged under older keys")]
+    UpdateUnanswered,
     /// The handshake is not confirmed, so the keys cannot be updated yet (RFC 9001 section 6.1).
     #[error("the handshake is not confirmed")]
     HandshakeUnconfirmed,
@@ -97,7 +100,7 @@ pub enum PacketError {
 impl PacketError {
     /// Returns the code of the transport error that the connection must be closed with (RFC 9000 section 20.1), or `None` if the
     /// packet is only dropped or not sent: `PROTOCOL_VIOLATION` for `NeverSent`, `ReservedBits` and `NoFrames`,
-    /// `KEY_UPDATE_ERROR` for `KeyUpdate`, and `AEAD_LIMIT_REACHED` for `TooManyFailures`.
+    /// `KEY_UPDATE_ERROR` for `KeyUpdate` and `UpdateUnanswered`, and `AEAD_LIMIT_REACHED` for `TooManyFailures`.
     ///
     /// `KeyUsedUp` has none, since a key update follows it. The key cannot seal the packet that closes the connection either, so
     /// a caller that cannot update closes it with `AEAD_LIMIT_REACHED` (0x0f) while `Sender::remaining` is above 0 (RFC 9001
@@ -109,7 +112,7 @@ impl PacketError {
             PacketError::NeverSent | PacketError::ReservedBits | PacketError::NoFrames => {
                 Some(PROTOCOL_VIOLATION)
             }
-            PacketError::KeyUpdate => Some(KEY_UPDATE_ERROR),
+            PacketError::KeyUpdate | PacketError::UpdateUnanswered => Some(KEY_UPDATE_ERROR),
             PacketError::TooManyFailures => Some(AEAD_LIMIT_REACHED),
             _ => None,
         }

@@ -8,7 +8,7 @@ ghost use Rattle.quic_packets.specs.Datagram.{KeepsOutside, bytes_of, number_in}
 ghost use Rattle.quic_packets.specs.Header.{HasSample};
 ghost use Rattle.quic_packets.specs.Numbers.{expected};
 ghost use Rattle.quic_packets.specs.Packet.{IsNumber};
-ghost use Rattle.quic_packets.specs.Receiving.{IsInTurn, Opening, Outcome, Reads, is_of_opened, is_other_phase, key_of, opening_key, received, reserved_bits, updated};
+ghost use Rattle.quic_packets.specs.Receiving.{IsInTurn, Opening, Outcome, Reads, highest_before, is_of_opened, is_other_phase, key_of, opening_key, received, reserved_bits, updated};
 ghost use Rattle.quic_packets.specs.Space.{IsNew, Marks};
 ghost use Rattle.quic_packets.specs.Suite.{algorithm, header_algorithm};
 
@@ -59,6 +59,8 @@ pub struct Receiver {
     phase: bool,
     lowest: u64,
     highest: u64,
+    highest_previous: u64,
+    highest_earlier: u64,
 }
 
 impl Model for Receiver {
@@ -74,6 +76,8 @@ impl Model for Receiver {
       phase = r.phase;
       lowest = r.lowest;
       highest = r.highest;
+      highest_previous = r.highest_previous;
+      highest_earlier = r.highest_earlier;
     } };
 }
 
@@ -99,6 +103,8 @@ impl Receiver {
           phase = false;
           lowest = 0;
           highest = 0;
+          highest_previous = 0;
+          highest_earlier = 0;
         }) }
     {
         Ok(Receiver {
@@ -109,6 +115,8 @@ impl Receiver {
             phase: false,
             lowest: 0,
             highest: 0,
+            highest_previous: 0,
+            highest_earlier: 0,
         })
     }
 
@@ -140,7 +148,8 @@ impl Receiver {
         self.phase
     }
 
-    /// Drops the key of the previous phase, so that late packets of it are rejected (RFC 9001 section 6.5).
+    /// Drops the key of the previous phase, so that late packets of it are rejected (RFC 9001 section 6.5). The highest number
+    /// that it opened stays: a packet of the current phase with a lower number is still answered with `KeyUpdate`.
     pub fn forget_previous(&mut self)
         ensures { self.new ≡ record self.old { previous = None } }
     {
@@ -159,7 +168,8 @@ impl Receiver {
     /// if it is longer than AES-GCM allows; and with `Refused`, which is counted, if it is not authentic. The packet is then
     /// unchanged. For an authentic packet, which is then opened in place, fails with `ReservedBits` if its reserved bits are
     /// set, with `Duplicate` if its number was already received or is below the window of `space`, with `KeyUpdate` if its
-    /// key phase is out of turn, and with `NoFrames` if its payload is empty.
+    /// key phase is out of turn, which is so if a packet with a higher number was opened under earlier keys (RFC 9001 section
+    /// 6.4), and with `NoFrames` if its payload is empty.
     ///
     /// Before a packet is known to be authentic, its masked bits only determine the length of the header and the key that opens
     /// it (RFC 9001 section 9.5).
@@ -333,14 +343,24 @@ impl Receiver {
         self.key_of(first, number).unwrap_or(&self.current)
     }
 
+    // The highest number that was opened under the keys before a packet's key.
+    fn highest_before(&self, first: u8, number: u64) -> u64
+        ensures { result ≡ highest_before self.now first number }
+    {
+        if !self.is_other_phase(first) {
+            self.highest_previous
+        } else if number < self.lowest {
+            self.highest_earlier
+        } else {
+            self.highest
+        }
+    }
+
     // Whether the key of a packet is held and its number is consistent with the key phase.
     fn is_in_turn(&self, first: u8, number: u64) -> bool
         ensures { IsTrue result ↔ IsInTurn self.now first number }
     {
-        if self.key_of(first, number).is_none() {
-            return false;
-        }
-        !self.is_other_phase(first) || number < self.lowest || number >= self.highest
+        self.key_of(first, number).is_some() && number >= self.highest_before(first, number)
     }
 
     // Updates the state for a packet that was received.
@@ -350,7 +370,9 @@ impl Receiver {
         if !self.is_other_phase(first) {
             self.lowest = self.lowest.min(number);
             self.highest = self.highest.max(number);
-        } else if number >= self.lowest {
+        } else if number < self.lowest {
+            self.highest_previous = self.highest_previous.max(number);
+        } else {
             self.update(number);
         }
     }
@@ -362,6 +384,8 @@ impl Receiver {
         if let Some(next) = self.next.take() {
             self.previous = Some(mem::replace(&mut self.current, next));
             self.phase = !self.phase;
+            self.highest_earlier = self.highest_previous;
+            self.highest_previous = self.highest;
             self.lowest = number;
             self.highest = number;
         }

@@ -6,7 +6,7 @@ ghost use Rattle.aead_ciphers.specs.Gcm.{Fits};
 ghost use Rattle.aead_ciphers.specs.Packet.{PacketFits};
 ghost use Rattle.quic_packets.specs.Header.{HasSample};
 ghost use Rattle.quic_packets.specs.Packet.{IsNumber};
-ghost use Rattle.quic_packets.specs.Sending.{HasKeyLengths, IsEncodable, IsInTurn, IsOpen, IsRoom, IsSealable, IsSent, after_acknowledgement, after_send, after_skip, after_update, first_byte, lacks_protection, new_sender, numbered_packet, with_installed_keys};
+ghost use Rattle.quic_packets.specs.Sending.{HasKeyLengths, IsEncodable, IsInTurn, IsOpen, IsRoom, IsSealable, IsSent, IsUnanswered, after_acknowledgement, after_send, after_skip, after_update, first_byte, lacks_protection, new_sender, numbered_packet, with_installed_keys};
 
 use crate::error::PacketError;
 use crate::header::{HeaderKey, MAX_NUMBER_LEN, SAMPLE_END};
@@ -52,6 +52,7 @@ pub struct Sender {
     sealed: u64,
     limit: u64,
     first: u64,
+    first_of_phase: u64,
     is_acknowledged: bool,
     is_confirmed: bool,
 }
@@ -72,6 +73,7 @@ impl Model for Sender {
       sealed = s.sealed;
       limit = s.limit;
       first = s.first;
+      first_of_phase = s.first_of_phase;
       acknowledged = s.is_acknowledged;
       confirmed = s.is_confirmed;
     } };
@@ -113,6 +115,7 @@ impl Sender {
             sealed: 0,
             limit: MAX_SEALED,
             first,
+            first_of_phase: first,
             is_acknowledged: true,
             is_confirmed: false,
         })
@@ -161,6 +164,15 @@ impl Sender {
         ensures { result ≡ self.now.phase }
     {
         self.phase
+    }
+
+    /// Returns the next number when the current key phase began: that of `new` or `install_keys`, or of the last key update. A
+    /// number that was sent is of the current phase if it isn't below this one, and of an earlier phase otherwise. `skip_to`
+    /// doesn't change it.
+    pub fn first_of_phase(&self) -> u64
+        ensures { result ≡ self.now.first_of_phase }
+    {
+        self.first_of_phase
     }
 
     /// Returns the least length of the next packet number's encoding in bytes, from 1 to 4 (RFC 9000 section 17.1, appendix
@@ -239,6 +251,29 @@ impl Sender {
         Ok(())
     }
 
+    /// Records what `acknowledged` does, for an acknowledgment that came in a packet with this Key Phase bit, which is
+    /// `Received::phase`.
+    ///
+    /// Fails with `NeverSent` as `acknowledged` does, and with `UpdateUnanswered` if `phase` differs from the sender's and
+    /// `number` is not below `first_of_phase`: the peer received a packet of the current keys, and answered it under older ones.
+    /// The sender is then unchanged, and the connection is closed (RFC 9001 section 6.2). So an update of the peer must be
+    /// followed before the acknowledgments of the packet that begins it are recorded. A packet of two phases before has the bit
+    /// of the current one, and isn't told from it: the receiver has to forget the previous key before an update is initiated
+    /// (section 6.5).
+    pub fn acknowledged_in(&mut self, number: u64, phase: bool) -> Result<(), PacketError>
+        ensures accepted { IsOk result ↔ ((number < self.old.next) × ¬ IsUnanswered self.old number phase) }
+        ensures never_sent { IsErrOf result PacketError.NeverSent ↔ (self.old.next ≤ number) }
+        ensures unanswered { IsErrOf result PacketError.UpdateUnanswered
+            ↔ ((number < self.old.next) × IsUnanswered self.old number phase) }
+        ensures acknowledged { OnOk result (self.new ≡ after_acknowledgement self.old number) }
+        ensures kept { OnErr result (self.new ≡ self.old) }
+    {
+        if number < self.next && number >= self.first_of_phase && phase != self.phase {
+            return Err(PacketError::UpdateUnanswered);
+        }
+        self.acknowledged(number)
+    }
+
     /// Initiates a key update: continues with the next key and its IV, in the other key phase (RFC 9001 section 6.1). The
     /// header key is unchanged.
     ///
@@ -279,12 +314,16 @@ impl Sender {
         self.phase = !self.phase;
         self.sealed = 0;
         self.first = self.next;
+        self.first_of_phase = self.next;
         self.is_acknowledged = false;
         Ok(())
     }
 
-    /// Turns the sender of 0-RTT packets into that of 1-RTT packets: continues with new keys. The numbers continue too (RFC 9000
-    /// section 12.3), and the largest acknowledged one and the limit stay. Everything else is as `new` creates it.
+    /// Continues with new keys in the same space of numbers: turns the sender of 0-RTT packets into that of 1-RTT packets (RFC
+    /// 9000 section 12.3), and installs the Initial keys that a client has after a Retry packet, whose Initial packets continue
+    /// with the numbers before it (section 17.2.5.3).
+    ///
+    /// The next number, the largest acknowledged one and the limit stay. Everything else is as `new` creates it.
     ///
     /// Fails with `KeyLength` if a key is not as long as the suite's. The sender is then unchanged.
     pub fn install_keys(
