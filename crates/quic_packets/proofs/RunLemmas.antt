@@ -203,7 +203,7 @@ received_stands sender life sent run r own p has (inr (short, inr h)) s =
 
 stands : (sender : Sender) (life : Life) (sent : List Sent) → HasSent sender life sent → (r : Receiver) (own : ℕ) → Follows life sent r own
     → Stands life r own
-stands sender l ps run r own (begins life sent header) = record {
+stands sender l ps run r own (begins life sent header secret) = record {
   current = first_key life.key life.updates;
   next = λ k none. cc;
   previous = λ k u none e. cc;
@@ -215,7 +215,7 @@ stands sender l ps run r own (begins life sent header) = record {
 }
 stands sender l ps run t o (receives life sent r own p has holds follows) =
     received_stands sender life sent run r own p has holds (stands sender life sent run r own follows)
-stands sender l ps run t o (takes_next life sent r own key is follows) =
+stands sender l ps run t o (takes_next life sent r own key secret is follows) =
     let s = stands sender life sent run r own follows in
     record {
       current = s.current;

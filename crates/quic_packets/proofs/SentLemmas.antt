@@ -160,7 +160,7 @@ module _ (s : Sender) (life : Life) (sent : List Sent) (start end : ℕ) (packet
   }
 
 state : (s : Sender) (life : Life) (sent : List Sent) → HasSent s life sent → Stands s life sent
-state s life sent (begins suite key iv header_key from) = record {
+state s life sent (begins key header_key secret from) = record {
   key = refl;
   phase = refl;
   firsts = All-nil (λ u. u.first ≤ from);
@@ -188,9 +188,9 @@ state t l ps (skips s life sent number le run) =
       below = All-weaker (λ p. p.number < s.next) (λ p. p.number < number) (λ p h. omega arith) sent stands.below;
       each = stands.each;
     }
-state t l ps (updates s life sent key iv run) =
+state t l ps (updates s life sent key secret run) =
     let stands = state s life sent run in
-    let u : Update = record { key = record { algorithm = s.key.algorithm; bytes = key; iv = iv }; first = s.next } in
+    let u : Update = record { key = key; first = s.next } in
     record {
       key = key_last life.key u life.updates;
       phase = ap not stands.phase;

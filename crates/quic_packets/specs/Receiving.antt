@@ -1,12 +1,14 @@
 -- Receiving packets: the keys of two phases (RFC 9001 section 6), and the outcome of a packet.
-use Rattle.std.specs.Prelude.{◌≡◌, ◌≢◌, ℕ, ◌+◌, ◌-◌, ◌<◌, ◌≤◌, ◌==◌, ◌↔◌, if◌then◌else◌, min, max, Bool, true, false, not, nat_lt, IsTrue, List, length, slice_index, slice_range, bit_and, Option, None, Some, IsSome, unwrap_or, Result, IsOk, IfOk, IsErrOf, OnOk}
+use Rattle.std.specs.Prelude.{◌≡◌, ◌≢◌, ℕ, ◌+◌, ◌-◌, ◌<◌, ◌≤◌, ◌==◌, ◌↔◌, if◌then◌else◌, min, max, Bool, true, false, not, nat_lt, IsTrue, List, length, slice_index, slice_range, bit_and, Option, None, Some, IsSome, is_some, unwrap_or, Result, IsOk, IfOk, IsErrOf, OnOk}
 use Rattle.std.specs.Int.Digits.{number_from_digits}
 use Rattle.aead_ciphers.specs.Counting.{xored_nonce}
 use Rattle.aead_ciphers.specs.HeaderProtection.{HeaderKey}
 use Rattle.aead_ciphers.specs.Packet.{OpenedPacket, PacketFits}
+use Rattle.key_derivation.specs.Quic.{next_quic_secret}
+use Rattle.key_derivation.specs.Secret.{SecretState}
 use Rattle.quic_packets.specs.Datagram.{span}
 use Rattle.quic_packets.specs.Header.{HasSample, Unprotected, number_len}
-use Rattle.quic_packets.specs.Keys.{PacketKey}
+use Rattle.quic_packets.specs.Keys.{PacketKey, secret_key}
 use Rattle.quic_packets.specs.Numbers.{IsDecoded}
 use Rattle.quic_packets.specs.Packet.{IsGenuine}
 use Rattle.quic_packets.specs.Space.{IsNew, Space}
@@ -14,11 +16,12 @@ use Rattle.quic_packets.specs.declared.error.PacketError.{PacketError}
 use Rattle.quic_packets.specs.declared.error.PacketError.TheVariants.{Duplicate, KeyUpdate, NoFrames, Refused, ReservedBits, TooLong}
 use Rattle.quic_packets.specs.declared.receiver.Received.{Received}
 
--- a receiver: the header key; the packet key of its phase, the next one if it is given, and the previous one if it is kept; its
+-- a receiver: the header key; the secret that its last key is of, if it is made of one; the packet key of its phase, the next one if it is given, and the previous one if it is kept; its
 -- Key Phase bit; the lowest and highest number opened in this phase, where the lowest is 0 in the first phase; and the highest
 -- numbers opened under the previous key and under the keys before that one. A highest number is 0 if there is none.
 pub record Receiver : Type 0 where
   pub header : HeaderKey
+  pub secret : Option SecretState
   pub current : PacketKey
   pub next : Option PacketKey
   pub previous : Option PacketKey
@@ -27,6 +30,27 @@ pub record Receiver : Type 0 where
   pub highest : ℕ
   pub highest_previous : ℕ
   pub highest_earlier : ℕ
+
+-- a receiver that is created with this key
+abbrev pub new_receiver : HeaderKey → PacketKey → Option SecretState → Receiver
+new_receiver header key secret = record {
+  header = header;
+  secret = secret;
+  current = key;
+  next = None;
+  previous = None;
+  phase = false;
+  lowest = 0;
+  highest = 0;
+  highest_previous = 0;
+  highest_earlier = 0;
+}
+
+-- the receiver with its next key, which is of the secret after the one that is held (RFC 9001 section 6.1), unless it is set
+abbrev pub with_next : Receiver → SecretState → Receiver
+with_next r held =
+    let next = next_quic_secret held in
+    if is_some r.next then r else record r { secret = Some next; next = Some (secret_key next) }
 
 -- a short header has a Key Phase bit, and a long one does not (RFC 9000 section 17.3.1)
 abbrev pub has_phase : ℕ → Bool

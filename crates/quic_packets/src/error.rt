@@ -20,6 +20,12 @@ pub enum PacketError {
     /// The key is not as long as the algorithm's keys.
     #[error("the key does not have the length of the algorithm's keys")]
     KeyLength,
+    /// The keys derive from a secret, so the caller's are not taken.
+    #[error("the keys derive from a secret")]
+    KeysDerived,
+    /// There is no secret from which keys derive: the sender or the receiver is made of keys.
+    #[error("there is no secret from which keys derive")]
+    NoSecret,
     /// The packet number is said to begin at byte 0, which is the first byte of every header.
     #[error("the packet number cannot begin at the header's first byte")]
     NumberAtFirstByte,

@@ -1,4 +1,5 @@
-//! Packet protection of QUIC version 1 (RFC 9000 section 17, RFC 9001 sections 5 and 6), under keys that the caller derives.
+//! Packet protection of QUIC version 1 (RFC 9000 section 17, RFC 9001 sections 5 and 6), under the keys of a secret, or under keys
+//! that the caller derives.
 //!
 //! A packet is one slice: the header, which ends with the packet number, the payload, and 16 bytes for the tag. `Sender` sends
 //! a packet in one call, `Receiver` receives one, and `packet_at` finds the parts of a packet in its datagram. `PacketKey`,
@@ -10,6 +11,7 @@ mod error;
 mod failures;
 mod header;
 mod key;
+mod keys;
 pub mod laws;
 pub mod numbers;
 mod packet;
@@ -24,6 +26,7 @@ pub use error::PacketError;
 pub use failures::Failures;
 pub use header::HeaderKey;
 pub use key::PacketKey;
+pub use keys::Keys;
 pub use receiver::{Received, Receiver};
 pub use retry::{RetryError, is_genuine_retry, retry_tag};
 pub use sender::Sender;

@@ -1,26 +1,28 @@
 //! Receiving packets, over key updates (RFC 9001 sections 5.3, 5.4, 6.2 to 6.6 and 9.5).
 
-ghost use Rattle.std.specs.Prelude.{◌≡◌, ◌≢◌, ℕ, ◌+◌, ◌-◌, ◌<◌, ◌≤◌, ◌↔◌, false, true, length, List, slice_index, ◌^◌, IsTrue, IsOk, IfOk, IfErr, IsErrOf, IsOkUnless, IsSome, OnOk, OnErr};
+ghost use Rattle.std.specs.Prelude.{◌≡◌, ◌≢◌, ℕ, ◌+◌, ◌-◌, ◌<◌, ◌≤◌, ◌↔◌, false, true, length, List, slice_index, ◌^◌, IsTrue, IsOk, IfOk, IfErr, IsErrOf, IsOkUnless, Some, None, IsSome, IfSome, OnOk, OnErr};
 ghost use Rattle.std.specs.Option.{option_copied};
 ghost use Rattle.aead_ciphers.specs.Algorithm.{key_len};
-ghost use Rattle.aead_ciphers.specs.HeaderProtection.{key_len as header_key_len};
 ghost use Rattle.quic_packets.specs.Datagram.{KeepsOutside, bytes_of, number_in};
 ghost use Rattle.quic_packets.specs.Header.{HasSample};
+ghost use Rattle.quic_packets.specs.Keys.{header_key, packet_key, secret_header_key, secret_key};
 ghost use Rattle.quic_packets.specs.Numbers.{expected};
 ghost use Rattle.quic_packets.specs.Packet.{IsNumber};
-ghost use Rattle.quic_packets.specs.Receiving.{IsInTurn, Opening, Outcome, Reads, highest_before, is_of_opened, is_other_phase, key_of, opening_key, received, reserved_bits, updated};
+ghost use Rattle.quic_packets.specs.Receiving.{IsInTurn, Opening, Outcome, Reads, highest_before, is_of_opened, is_other_phase, key_of, new_receiver, opening_key, received, reserved_bits, updated, with_next};
+ghost use Rattle.quic_packets.specs.Sending.{HasKeyLengths};
 ghost use Rattle.quic_packets.specs.Space.{IsNew, Marks};
-ghost use Rattle.quic_packets.specs.Suite.{algorithm, header_algorithm};
 
 use crate::datagram::Packet;
 use crate::error::PacketError;
 use crate::failures::Failures;
 use crate::header::{HeaderKey, SAMPLE_END};
 use crate::key::PacketKey;
+use crate::keys::Keys;
 use crate::numbers::{decode, truncated};
 use crate::space::Space;
 use crate::suite::Suite;
 use aead_ciphers::aead::NONCE_LEN;
+use key_derivation::Secret;
 use std::marker::Model;
 use std::mem;
 use std::ops::Range;
@@ -53,6 +55,7 @@ pub struct Received {
 #[derive(Drop)]
 pub struct Receiver {
     header: HeaderKey,
+    secret: Option<Secret>,
     current: PacketKey,
     next: Option<PacketKey>,
     previous: Option<PacketKey>,
@@ -70,6 +73,7 @@ impl Model for Receiver {
 
     ghost view = { λ r. record {
       header = r.header;
+      secret = r.secret;
       current = r.current;
       next = r.next;
       previous = r.previous;
@@ -82,34 +86,38 @@ impl Model for Receiver {
 }
 
 impl Receiver {
-    /// Creates a receiver with keys of the suite: `key` and `header_key` have 16 or 32 bytes each. `iv` is the IV of the packet
-    /// protection keys (RFC 9001 section 5.1).
+    /// Creates a receiver of a secret, which it keeps: its keys and those after each key update derive from it (RFC 9001
+    /// sections 5.1 and 6.1).
+    pub fn from_secret(secret: Secret) -> Self
+        ensures { result ≡ new_receiver (secret_header_key secret) (secret_key secret) (Some secret) }
+    {
+        let header = HeaderKey::of_secret(&secret);
+        let current = PacketKey::of_secret(&secret);
+        Receiver::with_keys(header, current, Some(secret))
+    }
+
+    /// Creates a receiver with keys of the caller's, which have the lengths of the suite.
     ///
     /// Fails with `KeyLength` if a key is not as long as the suite's.
-    pub fn new(
-        suite: Suite,
-        key: &[u8],
-        iv: [u8; NONCE_LEN],
-        header_key: &[u8],
-    ) -> Result<Self, PacketError>
-        ensures accepted { IsOk result ↔ ((length key.now ≡ key_len (algorithm suite))
-            × (length header_key.now ≡ header_key_len (header_algorithm suite))) }
+    pub fn new(suite: Suite, keys: Keys<'_>) -> Result<Self, PacketError>
+        ensures accepted { IsOk result ↔ HasKeyLengths suite keys.entry.key.now keys.entry.header_key.now }
         ensures refused { IsOkUnless result PacketError.KeyLength }
-        ensures made { IfOk result (λ made. made ≡ record {
-          header = record { algorithm = header_algorithm suite; bytes = header_key.now };
-          current = record { algorithm = algorithm suite; bytes = key.now; iv = iv };
-          next = None;
-          previous = None;
-          phase = false;
-          lowest = 0;
-          highest = 0;
-          highest_previous = 0;
-          highest_earlier = 0;
-        }) }
+        ensures made { IfOk result (λ made. made ≡ new_receiver (header_key suite keys.entry.header_key.now)
+            (packet_key suite keys.entry.key.now keys.entry.iv) None) }
     {
-        Ok(Receiver {
-            current: PacketKey::new(suite.algorithm(), key, iv)?,
-            header: HeaderKey::new(suite.header_algorithm(), header_key)?,
+        let header = HeaderKey::new(suite.header_algorithm(), keys.header_key)?;
+        let current = PacketKey::new(suite.algorithm(), keys.key, keys.iv)?;
+        Ok(Receiver::with_keys(header, current, None))
+    }
+
+    // Creates a receiver with these keys, which are those of the secret if there is one.
+    fn with_keys(header: HeaderKey, current: PacketKey, secret: Option<Secret>) -> Self
+        ensures { result ≡ new_receiver header current secret }
+    {
+        Receiver {
+            header,
+            secret,
+            current,
             next: None,
             previous: None,
             phase: false,
@@ -117,25 +125,52 @@ impl Receiver {
             highest: 0,
             highest_previous: 0,
             highest_earlier: 0,
-        })
+        }
     }
 
-    /// Sets the key of the next phase, which becomes the current key when it first opens a packet. The header key is unchanged
-    /// (RFC 9001 section 6).
+    /// Sets the key of the next phase, unless it is set: that of the next secret (RFC 9001 section 6.1). It becomes the current
+    /// key when it first opens a packet. The header key is unchanged (section 6).
     ///
     /// A peer may initiate an update only after a packet of the current phase is acknowledged (section 6.1); one that follows
     /// an update needs no acknowledgment. So set the next key once such an acknowledgment is sent, or once this endpoint
     /// initiates an update. Until then, a packet of the next phase is rejected as a forged one is.
     ///
-    /// Fails with `KeyLength` if `key` is not as long as the suite's keys. The receiver is then unchanged.
-    pub fn set_next(&mut self, key: &[u8], iv: [u8; NONCE_LEN]) -> Result<(), PacketError>
-        ensures accepted { IsOk result ↔ (length key.now ≡ key_len self.old.current.algorithm) }
-        ensures refused { IsOkUnless result PacketError.KeyLength }
+    /// Fails with `NoSecret` if the receiver is not made of a secret. The receiver is then unchanged.
+    pub fn set_next(&mut self) -> Result<(), PacketError>
+        ensures accepted { IsOk result ↔ IsSome self.old.secret }
+        ensures refused { IsOkUnless result PacketError.NoSecret }
+        ensures given { OnOk result (IfSome self.old.secret (λ held. self.new ≡ with_next self.old held)) }
+        ensures kept { OnErr result (self.new ≡ self.old) }
+    {
+        let Some(secret) = &self.secret else {
+            return Err(PacketError::NoSecret);
+        };
+        if self.next.is_none() {
+            let next = secret.next_quic();
+            self.next = Some(PacketKey::of_secret(&next));
+            self.secret = Some(next);
+        }
+        Ok(())
+    }
+
+    /// Sets the key and the IV of the next phase to those of the caller's, at the time that `set_next` names.
+    ///
+    /// Fails with `KeysDerived` if the receiver is made of a secret, and with `KeyLength` if `key` is not as long as the suite's
+    /// keys. The receiver is then unchanged.
+    pub fn set_next_with(&mut self, key: &[u8], iv: [u8; NONCE_LEN]) -> Result<(), PacketError>
+        ensures accepted { IsOk result
+            ↔ (¬ IsSome self.old.secret × (length key.now ≡ key_len self.old.current.algorithm)) }
+        ensures derived { IsErrOf result PacketError.KeysDerived ↔ IsSome self.old.secret }
+        ensures key_len { IsErrOf result PacketError.KeyLength
+            ↔ (¬ IsSome self.old.secret × (length key.now ≢ key_len self.old.current.algorithm)) }
         ensures given { OnOk result (self.new ≡ record self.old {
-          next = Some (record { algorithm = self.old.current.algorithm; bytes = key.now; iv = iv });
+          next = Some (record self.old.current { bytes = key.now; iv = iv });
         }) }
         ensures kept { OnErr result (self.new ≡ self.old) }
     {
+        if self.secret.is_some() {
+            return Err(PacketError::KeysDerived);
+        }
         self.next = Some(PacketKey::new(self.current.algorithm(), key, iv)?);
         Ok(())
     }
@@ -392,12 +427,7 @@ impl Receiver {
     }
 
     // Accepts a packet that was opened, and counts its number as received.
-    fn admit(
-        &mut self,
-        space: &mut Space,
-        first: u8,
-        opened: &Received,
-    ) -> Result<(), PacketError>
+    fn admit(&mut self, space: &mut Space, first: u8, opened: &Received) -> Result<(), PacketError>
         requires { IsNumber opened.now.number }
         ensures accepted { IsOk result ↔ ((reserved_bits first ≡ 0) × IsNew space.old opened.now.number
             × IsInTurn self.old first opened.now.number × (opened.now.payload.start < opened.now.payload.end)) }
