@@ -45,7 +45,7 @@ pub struct Received {
 /// Receives the first packet of a datagram. From `crates/quic_packets_tests/src/example.rt`:
 ///
 /// ```
-/// let mut receiver = Receiver::new(Suite::Aes128Gcm, &KEY, IV, &HEADER_KEY)?;
+/// let mut receiver = Receiver::from_secret(Secret::aes_128_gcm(SECRET));
 /// let mut space = Space::new();
 /// let mut failures = Failures::new();
 /// let parts = packet_at(&datagram, 0, CONNECTION_ID.len())?;
