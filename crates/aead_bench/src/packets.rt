@@ -5,7 +5,7 @@ use crate::{NONCE, first_bytes};
 use aead_ciphers::aead::nonce_of;
 use aead_ciphers_base::aes::AES_128_KEY_LEN;
 use aead_ciphers_wide::aead::LessSafeKey;
-use quic_packets::{Failures, FixedBit, Packet, PacketError, Receiver, Sender, Space, Suite, packet_at};
+use quic_packets::{Failures, FixedBit, Packet, PacketError, Receiver, Sender, Space, Suite, packet_at, Keys};
 
 /// A short header of a QUIC packet: the first byte, a connection ID of 8 bytes, and a packet number of 2 bytes.
 const NUMBER_AT: usize = 9;
@@ -23,7 +23,16 @@ fn suite(key: &[u8]) -> Suite {
     }
 }
 
-/// One end of a QUIC connection that sends to itself. The key also masks headers.
+/// The keys of a key, which also masks headers.
+fn keys(key: &[u8]) -> Keys<'_> {
+    Keys {
+        key,
+        iv: NONCE,
+        header_key: key,
+    }
+}
+
+/// One end of a QUIC connection that sends to itself.
 #[derive(Drop)]
 struct Connection {
     sender: Sender,
@@ -35,8 +44,8 @@ struct Connection {
 impl Connection {
     fn new(key: &[u8]) -> Result<Self, PacketError> {
         Ok(Connection {
-            sender: Sender::new(suite(key), key, NONCE, key, UNACKNOWLEDGED)?,
-            receiver: Receiver::new(suite(key), key, NONCE, key)?,
+            sender: Sender::new(suite(key), keys(key), UNACKNOWLEDGED)?,
+            receiver: Receiver::new(suite(key), keys(key))?,
             space: Space::new(),
             failures: Failures::new(),
         })

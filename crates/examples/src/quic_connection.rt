@@ -1,11 +1,14 @@
 //! One end of a QUIC connection. One call sends a packet, and one call receives the packets of a datagram.
 
-ghost use Rattle.std.specs.Prelude.{◌≡◌, ℕ, ◌+◌, ◌<◌, ◌≤◌, ◌↔◌, ◌⊎◌, length, slice_index, IsOk, IfOk, IfSome, IsSome, OnOk, OnErr, IsErrOf};
+ghost use Rattle.std.specs.Prelude.{◌≡◌, ℕ, ◌+◌, ◌<◌, ◌≤◌, ◌↔◌, ◌⊎◌, length, slice_index, Some, IsOk, IfOk, IfSome, IsSome, OnOk, OnErr, IsErrOf};
 ghost use Rattle.quic_packets.specs.Datagram.{KeepsOutside};
-ghost use Rattle.quic_packets.specs.Sending.{IsInTurn, IsSealable, IsSent, after_send};
+ghost use Rattle.quic_packets.specs.Keys.{secret_header_key, secret_key};
+ghost use Rattle.quic_packets.specs.Receiving.{new_receiver, with_next};
+ghost use Rattle.quic_packets.specs.Sending.{IsInTurn, IsSealable, IsSent, after_derived_update, after_send, new_sender};
 ghost use Rattle.quic_packets.specs.Space.{IsNew, Marks};
 ghost use Rattle.quic_packets.specs.declared.fixed_bit.FixedBit.TheVariants.{Required};
 
+use key_derivation::Secret;
 use quic_packets::{
     Failures, FixedBit, Packet, PacketError, PacketType, Received, Receiver, Sender, Space, packet_at,
 };
@@ -23,15 +26,8 @@ pub struct Level {
     pub space: Space<2>,
 }
 
-/// The packet key of the sender's next phase.
-#[derive(Drop)]
-pub struct NextKey {
-    pub key: [u8; 16],
-    pub iv: [u8; 12],
-}
-
-/// One end of a connection: the levels whose keys it has, the count of packets that failed authentication, the sender of 1-RTT
-/// packets, and its next key.
+/// One end of a connection: the levels whose keys it has, the count of packets that failed authentication, and the sender of
+/// 1-RTT packets.
 #[derive(Drop)]
 pub struct Connection {
     pub initial: Option<Level>,
@@ -39,7 +35,26 @@ pub struct Connection {
     pub one_rtt: Option<Level>,
     pub failures: Failures,
     pub sender: Sender,
-    pub next: NextKey,
+}
+
+/// Creates the sender and the receiver of 1-RTT packets from the secrets of both directions (RFC 9001 section 5.1).
+pub fn one_rtt(own: Secret, peer: Secret) -> Result<(Sender, Receiver), PacketError>
+    ensures accepted { IsOk result }
+    ensures sender { IfOk result (λ ends. ends.0 ≡ new_sender (secret_key own) (secret_header_key own) (Some own) 0) }
+    ensures receiver { IfOk result (λ ends. ends.1 ≡ new_receiver (secret_header_key peer) (secret_key peer) (Some peer)) }
+{
+    let sender = Sender::from_secret(own, 0)?;
+    let receiver = Receiver::from_secret(peer);
+    Ok((sender, receiver))
+}
+
+/// Initiates a key update, after which the peer answers under its next keys (RFC 9001 section 6.1).
+pub fn update_keys(sender: &mut Sender, receiver: &mut Receiver) -> Result<(), PacketError>
+    ensures sends { OnOk result (IfSome sender.old.secret (λ held. sender.new ≡ after_derived_update sender.old held)) }
+    ensures receives { OnOk result (IfSome receiver.old.secret (λ held. receiver.new ≡ with_next receiver.old held)) }
+{
+    sender.initiate_update()?;
+    receiver.set_next()
 }
 
 /// Sends a packet with a short header and returns its number. The packet consists of the first byte, the connection ID,
@@ -136,7 +151,7 @@ pub fn receive_packet(
             let phase = phase_of(&connection.one_rtt);
             let received = receive_at(&mut connection.one_rtt, failures, datagram, parts);
             if phase_of(&connection.one_rtt) != phase {
-                answer_update(&mut connection.sender, !phase, &connection.next)?;
+                answer_update(&mut connection.sender, !phase)?;
             }
             received
         }
@@ -154,13 +169,13 @@ fn phase_of(level: &Option<Level>) -> bool {
 
 /// Follows a key update of the peer, unless the sender is in that phase already because it initiated the update (RFC 9001
 /// section 6.2).
-pub fn answer_update(sender: &mut Sender, phase: bool, next: &NextKey) -> Result<(), u64>
+pub fn answer_update(sender: &mut Sender, phase: bool) -> Result<(), u64>
     ensures answered { OnOk result (sender.new.phase ≡ phase) }
 {
     if sender.phase() == phase {
         return Ok(());
     }
-    match sender.follow_update(&next.key, next.iv) {
+    match sender.follow_update() {
         Ok(()) => Ok(()),
         Err(_) => Err(INTERNAL_ERROR),
     }

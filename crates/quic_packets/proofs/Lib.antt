@@ -11,6 +11,7 @@ pub mod PhaseLemmas
 pub mod ReceivingLemmas
 pub mod RoomLemmas
 pub mod RunLemmas
+pub mod SecretLemmas
 pub mod SenderRuns
 pub mod SentLemmas
 pub mod SpaceLemmas

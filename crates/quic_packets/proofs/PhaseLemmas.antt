@@ -21,7 +21,7 @@ record Run (first next : ℕ) (life : Life) (sent : List Sent) : Type 0 where
   each : (n : ℕ) → first ≤ n → n < next → Has n sent
 
 run_of : (s : Sender) (life : Life) (sent : List Sent) → HasSent s life sent → Run s.first s.next life sent
-run_of s life sent (begins suite key iv header_key from) = record {
+run_of s life sent (begins key header_key secret from) = record {
   begun = All-nil (λ u. u.first ≤ from);
   order = omega arith;
   each = λ n le lt. absurd (omega arith);
@@ -57,7 +57,7 @@ run_of t l ps (skips s life sent number le before) =
         each = λ n from lt. run.each n from (omega arith);
       })
     ]
-run_of t l ps (updates s life sent key iv before) =
+run_of t l ps (updates s life sent key secret before) =
     let run = run_of s life sent before in
     record {
       begun = All-cons (λ u. u.first ≤ s.next) _ life.updates (omega arith)

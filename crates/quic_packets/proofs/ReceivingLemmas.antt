@@ -134,12 +134,15 @@ module _ (sender : Sender) (life : Life) (sent : List Sent) (run : HasSent sende
       subst (λ f. IsInTurn r f n) (sym read.same_first)
       (subst (λ m. IsInTurn r (get_or p.packet 0 0) m) (sym read.same_number) takes.turn)
 
+  has_frames : header_len p.number_at plain + 16 < length plain
+  has_frames = omega (arith, was.payload, read.same_header_len, read.same_len)
+
   pub gives_back : (result : Result Received PacketError) (r' : Receiver) (opened : List ℕ) (start : ℕ)
       → Outcome r space start p.number_at plain n result r' opened → GivesBack space start p result opened
   gives_back result r' opened start outcome = record {
     accepted = (
       λ ok. subst (IsNew space) read.same_number (outcome.accepted.0 ok).2,
-      λ new. outcome.accepted.1 (read.authentic, unreserved, subst (IsNew space) (sym read.same_number) new, in_turn),
+      λ new. outcome.accepted.1 (read.authentic, unreserved, subst (IsNew space) (sym read.same_number) new, in_turn, has_frames),
     );
     duplicate = (
       λ err new. (outcome.duplicate.0 err).2 (subst (IsNew space) (sym read.same_number) new),

@@ -5,7 +5,7 @@ use Rattle.std.proofs.lemmas.Nat.{and_assoc}
 use Rattle.std.specs.Prelude.{Contains}
 use Rattle.quic_packets.specs.Exchange.{Counts, Follows, HasSent, Holds, Life, Sent, Update, begins, forgets, key_after, marks, none, receives, takes_next, updates_before}
 use Rattle.quic_packets.specs.Keys.{PacketKey}
-use Rattle.quic_packets.specs.Receiving.{IsInTurn, Receiver, is_other_phase, key_of, received}
+use Rattle.quic_packets.specs.Receiving.{IsInTurn, Receiver, highest_before, is_other_phase, key_of, received}
 use Rattle.quic_packets.specs.Sending.{Sender, is_long}
 use Rattle.quic_packets.specs.Space.{IsNew, Space}
 use Rattle.quic_packets.proofs.SentLemmas.{HasPhase, before-le, before_in_order, phase_after, was_sent}
@@ -18,6 +18,8 @@ record Stands (life : Life) (r : Receiver) (own : ℕ) : Type 0 where
   phase : r.phase ≡ phase_after own
   earlier : (n : ℕ) → updates_before life.updates n < own → n < r.lowest
   later : (n : ℕ) → own < updates_before life.updates n → (r.lowest ≤ n) × (r.highest ≤ n)
+  after_previous : (n : ℕ) → own ≤ updates_before life.updates n → r.highest_previous ≤ n
+  after_earlier : (n : ℕ) → own ≤ updates_before life.updates n + 1 → r.highest_earlier ≤ n
 
 -- a long header has no Key Phase bit
 not_that : (first v : ℕ) → is_long first ≡ true → bit_and v 0x80 ≡ 0 → (bit_and first 0x84 == v) ≡ false
@@ -106,6 +108,8 @@ module _ (life : Life) (r : Receiver) (own first number : ℕ)
           | inl under ↦ absurd (omega (arith, before_in_order life.updates n number (omega arith)))
           | inr from ↦ (omega (arith, (s.later n lt).0), omega (arith, (s.later n lt).1))
         ];
+    after_previous = s.after_previous;
+    after_earlier = s.after_earlier;
   }
 
   moves : (k : PacketKey) → its ≡ own + 1 → r.next ≡ Some k
@@ -116,6 +120,8 @@ module _ (life : Life) (r : Receiver) (own first number : ℕ)
         phase = not r.phase;
         lowest = number;
         highest = number;
+        highest_previous = r.highest;
+        highest_earlier = r.highest_previous;
       }) (own + 1)
   moves k e is = record {
     current = s.next k is (more e);
@@ -135,6 +141,24 @@ module _ (life : Life) (r : Receiver) (own first number : ℕ)
           | inl under ↦ absurd (omega (arith, before_in_order life.updates n number (omega arith)))
           | inr from ↦ (from, from)
         ];
+    after_previous = λ n le. (s.later n (omega arith)).1;
+    after_earlier = λ n le. s.after_previous n (omega arith);
+  }
+
+  late : its + 1 ≡ own → Stands life (record r { highest_previous = max r.highest_previous number }) own
+  late e = record {
+    current = s.current;
+    next = s.next;
+    previous = s.previous;
+    phase = s.phase;
+    earlier = s.earlier;
+    later = s.later;
+    after_previous = λ n le.
+        elim (cases_lt n number) [
+          | inl under ↦ absurd (omega (arith, before_in_order life.updates n number (omega arith)))
+          | inr from ↦ omega (arith, s.after_previous n le)
+        ];
+    after_earlier = s.after_earlier;
   }
 
   stays_received : its ≡ own → Stands life (received r first number) (max own its)
@@ -151,7 +175,7 @@ module _ (life : Life) (r : Receiver) (own first number : ℕ)
   late_received : is_long first ≡ false → its + 1 ≡ own → Stands life (received r first number) (max own its)
   late_received short e =
       let top : own ≡ max own its = omega arith in
-      subst (λ o. Stands life (received r first number) o) top (rw (before short e, below e) s)
+      subst (λ o. Stands life (received r first number) o) top (rw (before short e, below e) (late e))
 
 some_of : {X : Type 0} {P : Type 0} (o : Option X) → IsSome o → ((x : X) → o ≡ Some x → P) → P
 some_of None some f = absurd cc
@@ -179,17 +203,19 @@ received_stands sender life sent run r own p has (inr (short, inr h)) s =
 
 stands : (sender : Sender) (life : Life) (sent : List Sent) → HasSent sender life sent → (r : Receiver) (own : ℕ) → Follows life sent r own
     → Stands life r own
-stands sender l ps run r own (begins life sent header) = record {
+stands sender l ps run r own (begins life sent header secret) = record {
   current = first_key life.key life.updates;
   next = λ k none. cc;
   previous = λ k u none e. cc;
   phase = refl;
   earlier = λ n lt. absurd (omega arith);
   later = λ n lt. (omega arith, omega arith);
+  after_previous = λ n le. omega arith;
+  after_earlier = λ n le. omega arith;
 }
 stands sender l ps run t o (receives life sent r own p has holds follows) =
     received_stands sender life sent run r own p has holds (stands sender life sent run r own follows)
-stands sender l ps run t o (takes_next life sent r own key is follows) =
+stands sender l ps run t o (takes_next life sent r own key secret is follows) =
     let s = stands sender life sent run r own follows in
     record {
       current = s.current;
@@ -198,6 +224,8 @@ stands sender l ps run t o (takes_next life sent r own key is follows) =
       phase = s.phase;
       earlier = s.earlier;
       later = s.later;
+      after_previous = s.after_previous;
+      after_earlier = s.after_earlier;
     }
 stands sender l ps run t o (forgets life sent r own follows) =
     let s = stands sender life sent run r own follows in
@@ -208,6 +236,8 @@ stands sender l ps run t o (forgets life sent r own follows) =
       phase = s.phase;
       earlier = s.earlier;
       later = s.later;
+      after_previous = s.after_previous;
+      after_earlier = s.after_earlier;
     }
 
 -- what a receiver knows of a packet whose key it holds
@@ -221,18 +251,31 @@ takes sender life sent run r own p has (inl e) s =
     let first = get_or p.packet 0 0 in
     let marked = marked_of sender life sent run p has in
     let key = key_now life r own first p.number marked s e in
-    let none = same life r own first p.number marked s e in
-    record { key = key; turn = record { held = ap is_some key; later = λ other le. cc } }
+    record {
+      key = key;
+      turn = record {
+        held = ap is_some key;
+        later = rw (same life r own first p.number marked s e) (s.after_previous p.number (omega (arith, e)));
+      };
+    }
 takes sender life sent run r own p has (inr (short, inl h)) s =
     let marked = marked_of sender life sent run p has in
     some_of r.next h.1 (λ k is.
-    let key = key_next life r own (get_or p.packet 0 0) p.number marked s short h.0 k is in
-    record { key = key; turn = record { held = ap is_some key; later = λ other le. (s.later p.number (omega (arith, h.0))).1 } })
+    let first = get_or p.packet 0 0 in
+    let key = key_next life r own first p.number marked s short h.0 k is in
+    let turn : highest_before r first p.number ≤ p.number =
+    rw (after life r own first p.number marked s short h.0, above life r own first p.number marked s h.0)
+    ((s.later p.number (omega (arith, h.0))).1) in
+    record { key = key; turn = record { held = ap is_some key; later = turn } })
 takes sender life sent run r own p has (inr (short, inr h)) s =
     let marked = marked_of sender life sent run p has in
     some_of r.previous h.1 (λ k is.
-    let key = key_previous life r own (get_or p.packet 0 0) p.number marked s short h.0 k is in
-    record { key = key; turn = record { held = ap is_some key; later = λ other le. absurd (omega (arith, s.earlier p.number (omega (arith, h.0)))) } })
+    let first = get_or p.packet 0 0 in
+    let key = key_previous life r own first p.number marked s short h.0 k is in
+    let turn : highest_before r first p.number ≤ p.number =
+    rw (before life r own first p.number marked s short h.0, below life r own first p.number marked s h.0)
+    (s.after_earlier p.number (omega (arith, h.0))) in
+    record { key = key; turn = record { held = ap is_some key; later = turn } })
 
 pub held : (sender : Sender) (life : Life) (sent : List Sent) → HasSent sender life sent → (r : Receiver) (own : ℕ) (p : Sent)
     → Contains sent p → Follows life sent r own → Holds r own life p → Takes life r (get_or p.packet 0 0) p.number

@@ -71,6 +71,7 @@ pub record WasSent (header : HeaderKey) (life : Life) (p : Sent) : Type 0 where
   pub carries : CarriesNumber p.number p.number_at p.header_len p.packet
   pub phase : is_long (get_or p.packet 0 0) ≡ false → HasPhase (get_or p.packet 0 0) (phase_after (updates_before life.updates p.number))
   pub unreserved : reserved_bits (get_or p.packet 0 0) ≡ 0
+  pub payload : p.header_len + 16 < length p.packet
   pub sealed : (let key = key_after life.key life.updates (updates_before life.updates p.number) in
       Protected header p.number_at (sealed_packet key.bytes (xored_nonce key.iv p.number) p.header_len p.packet) p.wire)
 
@@ -89,6 +90,7 @@ moved header key u us p lt was =
       carries = was.carries;
       phase = λ short. subst (λ n. HasPhase (get_or p.packet 0 0) (phase_after n)) (sym count) (was.phase short);
       unreserved = was.unreserved;
+      payload = was.payload;
       sealed = subst (λ k. Protected header p.number_at (sealed_packet k.bytes (xored_nonce k.iv p.number) p.header_len p.packet) p.wire) same was.sealed;
     }
 
@@ -155,11 +157,12 @@ module _ (s : Sender) (life : Life) (sent : List Sent) (fixed_bit : FixedBit) (s
         (subst (λ f. HasPhase f s.phase) (sym first)
         (has_phase s.phase (end - start) (get_or packet 0 0) (omega arith) (omega arith) (ap is_long (sym first) ∙ short))));
     unreserved = ap reserved_bits first ∙ unreserved s.phase (end - start) (get_or packet 0 0) (omega arith) (omega arith);
+    payload = omega (arith, sealable.payload, len);
     sealed = subst (λ k. Protected s.header_key start (sealed_packet k.bytes (xored_nonce k.iv s.next) end whole) wire) key_now is;
   }
 
 state : (s : Sender) (life : Life) (sent : List Sent) → HasSent s life sent → Stands s life sent
-state s life sent (begins suite key iv header_key from) = record {
+state s life sent (begins key header_key secret from) = record {
   key = refl;
   phase = refl;
   firsts = All-nil (λ u. u.first ≤ from);
@@ -187,9 +190,9 @@ state t l ps (skips s life sent number le run) =
       below = All-weaker (λ p. p.number < s.next) (λ p. p.number < number) (λ p h. omega arith) sent stands.below;
       each = stands.each;
     }
-state t l ps (updates s life sent key iv run) =
+state t l ps (updates s life sent key secret run) =
     let stands = state s life sent run in
-    let u : Update = record { key = record { algorithm = s.key.algorithm; bytes = key; iv = iv }; first = s.next } in
+    let u : Update = record { key = key; first = s.next } in
     record {
       key = key_last life.key u life.updates;
       phase = ap not stands.phase;

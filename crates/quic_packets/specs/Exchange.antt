@@ -1,9 +1,10 @@
 -- The packets that a sender sends over its life, and the packets that a receiver returns, for the laws.
-use Rattle.std.specs.Prelude.{◌≡◌, ℕ, ◌+◌, ◌-◌, ◌<◌, ◌≤◌, ◌↔◌, ◌⊎◌, if◌then◌else◌, max, min, true, nat_lt, nat_le, false, List, [], ◌∷◌, length, take, slice_index, None, Some, IsSome, Contains, Result, IsOk, IfOk, IsErrOf}
+use Rattle.std.specs.Prelude.{◌≡◌, ℕ, ◌+◌, ◌-◌, ◌<◌, ◌≤◌, ◌↔◌, ◌⊎◌, if◌then◌else◌, max, min, true, nat_lt, nat_le, false, List, [], ◌∷◌, length, take, slice_index, Option, None, Some, IsSome, Contains, Result, IsOk, IfOk, IsErrOf}
 use Rattle.aead_ciphers.specs.HeaderProtection.{HeaderKey}
+use Rattle.key_derivation.specs.Secret.{SecretState}
 use Rattle.quic_packets.specs.Datagram.{span}
 use Rattle.quic_packets.specs.Keys.{PacketKey}
-use Rattle.quic_packets.specs.Receiving.{Receiver, has_phase, received}
+use Rattle.quic_packets.specs.Receiving.{Receiver, has_phase, new_receiver, received}
 use Rattle.quic_packets.specs.Sending.{IsInTurn, IsSealable, IsSent, Sender, after_acknowledgement, after_send, after_skip, after_update, is_long, new_sender, numbered_packet}
 use Rattle.quic_packets.specs.Space.{IsNew, Marks, Space, new_space}
 use Rattle.quic_packets.specs.Suite.{algorithm}
@@ -11,7 +12,6 @@ use Rattle.quic_packets.specs.declared.error.PacketError.{PacketError}
 use Rattle.quic_packets.specs.declared.error.PacketError.TheVariants.{Duplicate}
 use Rattle.quic_packets.specs.declared.fixed_bit.FixedBit.{FixedBit}
 use Rattle.quic_packets.specs.declared.receiver.Received.{Received}
-use Rattle.quic_packets.specs.declared.suite.Suite.{Suite}
 
 -- a packet that was sent: its number, the position of the number, the length of the header, and the packet before sealing and
 -- after protection
@@ -46,8 +46,8 @@ updates_before (update ∷ earlier) number = (if nat_le update.first number then
 -- skips numbers and updates its keys, and learns of acknowledgments, of the confirmed handshake and of a lower limit. A call
 -- that fails changes nothing.
 pub data HasSent : Sender → Life → List Sent → Type 0 where
-  begins : (suite : Suite) (key iv header_key : List ℕ) (first : ℕ) → HasSent (new_sender suite key iv header_key first)
-      (record { key = record { algorithm = algorithm suite; bytes = key; iv = iv }; updates = [] }) []
+  begins : (key : PacketKey) (header_key : HeaderKey) (secret : Option SecretState) (first : ℕ)
+      → HasSent (new_sender key header_key secret first) (record { key = key; updates = [] }) []
   sends : (s : Sender) (life : Life) (sent : List Sent) (fixed_bit : FixedBit) (start end : ℕ) (packet wire : List ℕ)
       → IsSealable fixed_bit start end packet → IsInTurn s start end → IsSent s start end packet wire → HasSent s life sent
       → HasSent (after_send s) life (record {
@@ -59,14 +59,8 @@ pub data HasSent : Sender → Life → List Sent → Type 0 where
       } ∷ sent)
   skips : (s : Sender) (life : Life) (sent : List Sent) (number : ℕ) → s.next ≤ number → HasSent s life sent
       → HasSent (after_skip s number) life sent
-  updates : (s : Sender) (life : Life) (sent : List Sent) (key iv : List ℕ) → HasSent s life sent → HasSent (after_update s key iv)
-      (record {
-        key = life.key;
-        updates = record {
-          key = record { algorithm = s.key.algorithm; bytes = key; iv = iv };
-          first = s.next;
-        } ∷ life.updates;
-      }) sent
+  updates : (s : Sender) (life : Life) (sent : List Sent) (key : PacketKey) (secret : Option SecretState) → HasSent s life sent
+      → HasSent (after_update s key secret) (record { key = life.key; updates = record { key = key; first = s.next } ∷ life.updates }) sent
   hears : (s : Sender) (life : Life) (sent : List Sent) (number : ℕ) → number < s.next → HasSent s life sent
       → HasSent (after_acknowledgement s number) life sent
   confirms : (s : Sender) (life : Life) (sent : List Sent) → HasSent s life sent → HasSent (record s { confirmed = true }) life sent
@@ -77,18 +71,6 @@ pub data HasSent : Sender → Life → List Sent → Type 0 where
 pub record WasSentInPhase (life : Life) (sent : List Sent) (number : ℕ) : Type 0 where
   pub was_sent : (packet : Sent) × Contains sent packet × (packet.number ≡ number)
   pub in_phase : updates_before life.updates number ≡ length life.updates
-
--- a receiver that is created with this key
-abbrev pub new_receiver : HeaderKey → PacketKey → Receiver
-new_receiver header key = record {
-  header = header;
-  current = key;
-  next = None;
-  previous = None;
-  phase = false;
-  lowest = 0;
-  highest = 0;
-}
 
 -- After `own` key updates, a receiver holds the key of a packet: it is the current key or, for a short header, which has a Key
 -- Phase bit, the next or the previous key.
@@ -102,13 +84,14 @@ Holds r own life packet =
 -- receives packets that were sent, in any order, while it holds their keys. It is given the next key, which is the sender's if
 -- the sender has one, and it forgets the previous key. A packet that is rejected changes nothing.
 pub data Follows : Life → List Sent → Receiver → ℕ → Type 0 where
-  begins : (life : Life) (sent : List Sent) (header : HeaderKey) → Follows life sent (new_receiver header life.key) 0
+  begins : (life : Life) (sent : List Sent) (header : HeaderKey) (secret : Option SecretState)
+      → Follows life sent (new_receiver header life.key secret) 0
   receives : (life : Life) (sent : List Sent) (r : Receiver) (own : ℕ) (packet : Sent) → Contains sent packet → Holds r own life packet
       → Follows life sent r own
       → Follows life sent (received r (slice_index packet.packet 0) packet.number) (max own (updates_before life.updates packet.number))
-  takes_next : (life : Life) (sent : List Sent) (r : Receiver) (own : ℕ) (key : PacketKey)
+  takes_next : (life : Life) (sent : List Sent) (r : Receiver) (own : ℕ) (key : PacketKey) (secret : Option SecretState)
       → (own < length life.updates → key ≡ key_after life.key life.updates (own + 1)) → Follows life sent r own
-      → Follows life sent (record r { next = Some key }) own
+      → Follows life sent (record r { next = Some key; secret = secret }) own
   forgets : (life : Life) (sent : List Sent) (r : Receiver) (own : ℕ) → Follows life sent r own
       → Follows life sent (record r { previous = None }) own
 

@@ -1,9 +1,28 @@
--- Packet protection keys as contracts see them.
+-- Packet protection keys as contracts see them, and the keys of a secret.
 use Rattle.std.specs.Prelude.{ℕ, List}
 use Rattle.aead_ciphers.specs.declared.aead.algorithm.Algorithm.{Algorithm}
+use Rattle.aead_ciphers.specs.HeaderProtection.{HeaderKey}
+use Rattle.key_derivation.specs.Quic.{quic_header_key, quic_iv, quic_key}
+use Rattle.key_derivation.specs.Secret.{SecretState}
+use Rattle.quic_packets.specs.Suite.{algorithm, header_algorithm, suite_of}
+use Rattle.quic_packets.specs.declared.suite.Suite.{Suite}
 
 -- a packet protection key: its algorithm, its bytes and its IV (RFC 9001 section 5.1)
 pub record PacketKey : Type 0 where
   pub algorithm : Algorithm
   pub bytes : List ℕ
   pub iv : List ℕ
+
+-- a packet key and a header key of a suite, by their bytes
+abbrev pub packet_key : Suite → (key iv : List ℕ) → PacketKey
+packet_key suite key iv = record { algorithm = algorithm suite; bytes = key; iv = iv }
+
+abbrev pub header_key : Suite → List ℕ → HeaderKey
+header_key suite bytes = record { algorithm = header_algorithm suite; bytes = bytes }
+
+-- the packet key and the header key of a secret (RFC 9001 section 5.1)
+unfoldable pub secret_key : SecretState → PacketKey
+secret_key s = packet_key (suite_of s.suite) (quic_key s) (quic_iv s)
+
+unfoldable pub secret_header_key : SecretState → HeaderKey
+secret_header_key s = header_key (suite_of s.suite) (quic_header_key s)

@@ -12,6 +12,7 @@ pub mod Numbers
 pub mod Packet
 pub mod Receiving
 pub mod Retry
+pub mod Secrets
 pub mod Sending
 pub mod Space
 pub mod Suite

@@ -1,30 +1,56 @@
 -- Receiving packets: the keys of two phases (RFC 9001 section 6), and the outcome of a packet.
-use Rattle.std.specs.Prelude.{◌≡◌, ◌≢◌, ℕ, ◌+◌, ◌-◌, ◌≤◌, ◌==◌, ◌↔◌, if◌then◌else◌, min, max, Bool, true, false, not, nat_lt, IsTrue, List, length, slice_index, slice_range, bit_and, Option, None, Some, IsSome, unwrap_or, Result, IsOk, IfOk, IsErrOf, OnOk}
+use Rattle.std.specs.Prelude.{◌≡◌, ◌≢◌, ℕ, ◌+◌, ◌-◌, ◌<◌, ◌≤◌, ◌==◌, ◌↔◌, if◌then◌else◌, min, max, Bool, true, false, not, nat_lt, IsTrue, List, length, slice_index, slice_range, bit_and, Option, None, Some, IsSome, is_some, unwrap_or, Result, IsOk, IfOk, IsErrOf, OnOk}
 use Rattle.std.specs.Int.Digits.{number_from_digits}
 use Rattle.aead_ciphers.specs.Counting.{xored_nonce}
 use Rattle.aead_ciphers.specs.HeaderProtection.{HeaderKey}
 use Rattle.aead_ciphers.specs.Packet.{OpenedPacket, PacketFits}
+use Rattle.key_derivation.specs.Quic.{next_quic_secret}
+use Rattle.key_derivation.specs.Secret.{SecretState}
 use Rattle.quic_packets.specs.Datagram.{span}
 use Rattle.quic_packets.specs.Header.{HasSample, Unprotected, number_len}
-use Rattle.quic_packets.specs.Keys.{PacketKey}
+use Rattle.quic_packets.specs.Keys.{PacketKey, secret_key}
 use Rattle.quic_packets.specs.Numbers.{IsDecoded}
 use Rattle.quic_packets.specs.Packet.{IsGenuine}
 use Rattle.quic_packets.specs.Space.{IsNew, Space}
 use Rattle.quic_packets.specs.declared.error.PacketError.{PacketError}
-use Rattle.quic_packets.specs.declared.error.PacketError.TheVariants.{Duplicate, KeyUpdate, Refused, ReservedBits, TooLong}
+use Rattle.quic_packets.specs.declared.error.PacketError.TheVariants.{Duplicate, KeyUpdate, NoFrames, Refused, ReservedBits, TooLong}
 use Rattle.quic_packets.specs.declared.receiver.Received.{Received}
 
--- a receiver: the header key; the packet key of its phase, the next one if it is given, and the previous one if it is kept; its
--- Key Phase bit; and the lowest and highest number opened in this phase. In the first phase the lowest is 0, and the highest is
--- 0 until a packet is opened.
+-- a receiver: the header key; the secret that its last key is of, if it is made of one; the packet key of its phase, the next one if it is given, and the previous one if it is kept; its
+-- Key Phase bit; the lowest and highest number opened in this phase, where the lowest is 0 in the first phase; and the highest
+-- numbers opened under the previous key and under the keys before that one. A highest number is 0 if there is none.
 pub record Receiver : Type 0 where
   pub header : HeaderKey
+  pub secret : Option SecretState
   pub current : PacketKey
   pub next : Option PacketKey
   pub previous : Option PacketKey
   pub phase : Bool
   pub lowest : ℕ
   pub highest : ℕ
+  pub highest_previous : ℕ
+  pub highest_earlier : ℕ
+
+-- a receiver that is created with this key
+abbrev pub new_receiver : HeaderKey → PacketKey → Option SecretState → Receiver
+new_receiver header key secret = record {
+  header = header;
+  secret = secret;
+  current = key;
+  next = None;
+  previous = None;
+  phase = false;
+  lowest = 0;
+  highest = 0;
+  highest_previous = 0;
+  highest_earlier = 0;
+}
+
+-- the receiver with its next key, which is of the secret after the one that is held (RFC 9001 section 6.1), unless it is set
+abbrev pub with_next : Receiver → SecretState → Receiver
+with_next r held =
+    let next = next_quic_secret held in
+    if is_some r.next then r else record r { secret = Some next; next = Some (secret_key next) }
 
 -- a short header has a Key Phase bit, and a long one does not (RFC 9000 section 17.3.1)
 abbrev pub has_phase : ℕ → Bool
@@ -44,11 +70,16 @@ key_of r first number = if is_other_phase r first then (if nat_lt number r.lowes
 abbrev pub opening_key : Receiver → ℕ → ℕ → PacketKey
 opening_key r first number = unwrap_or (key_of r first number) r.current
 
--- The packet's key is held. If it is the next key, no packet of this phase has a higher number, since later packets are never
+-- the highest number that was opened under the keys before the packet's key
+abbrev pub highest_before : Receiver → ℕ → ℕ → ℕ
+highest_before r first number =
+    if is_other_phase r first then (if nat_lt number r.lowest then r.highest_earlier else r.highest) else r.highest_previous
+
+-- The packet's key is held, and no packet with a higher number was opened under an earlier key, since later packets are never
 -- under earlier keys (section 6.4).
 pub record IsInTurn (r : Receiver) (first number : ℕ) : Type 0 where
   pub held : IsSome (key_of r first number)
-  pub later : IsTrue (is_other_phase r first) → r.lowest ≤ number → r.highest ≤ number
+  pub later : highest_before r first number ≤ number
 
 -- the receiver after the next key first opened a packet: the keys move on (section 6.2)
 abbrev pub updated : Receiver → ℕ → Option PacketKey → Receiver
@@ -61,13 +92,15 @@ updated r number (Some key) =
       phase = not r.phase;
       lowest = number;
       highest = number;
+      highest_previous = r.highest;
+      highest_earlier = r.highest_previous;
     }
 
 -- the receiver after a packet was received
 abbrev pub received : Receiver → ℕ → ℕ → Receiver
 received r first number =
     if is_other_phase r first
-    then (if nat_lt number r.lowest then r else updated r number r.next)
+    then (if nat_lt number r.lowest then record r { highest_previous = max r.highest_previous number } else updated r number r.next)
     else record r { lowest = min r.lowest number; highest = max r.highest number }
 
 -- the reserved bits of a long header (RFC 9000 section 17.2) and of a short one (section 17.3.1)
@@ -118,7 +151,8 @@ pub record Opening (r : Receiver) (start number_at : ℕ) (plain : List ℕ) (nu
   pub returns : IfOk result (λ packet. packet ≡ (slice_index plain 0, of_packet start number_at plain number))
 
 -- The outcome of a packet that is long enough for a sample, in the order of the checks: it is too long; it is not authentic;
--- or, once it is opened, its reserved bits are set, its number was already received, or its key is not in turn.
+-- or, once it is opened, its reserved bits are set, its number was already received, its key is not in turn, or its payload is
+-- empty.
 pub record Outcome (r : Receiver) (s : Space) (start number_at : ℕ) (plain : List ℕ) (number : ℕ) (result : Result Received PacketError)
     (r' : Receiver) (opened : List ℕ) : Type 0 where
   pub too_long : IsErrOf result TooLong ↔ ¬ PacketFits (header_len number_at plain) (length plain)
@@ -130,9 +164,12 @@ pub record Outcome (r : Receiver) (s : Space) (start number_at : ℕ) (plain : L
   pub out_of_turn : IsErrOf result KeyUpdate
       ↔ (IsAuthentic r number_at plain number × (reserved_bits (slice_index plain 0) ≡ 0) × IsNew s number
       × ¬ IsInTurn r (slice_index plain 0) number)
+  pub no_frames : IsErrOf result NoFrames
+      ↔ (IsAuthentic r number_at plain number × (reserved_bits (slice_index plain 0) ≡ 0) × IsNew s number
+      × IsInTurn r (slice_index plain 0) number × (length plain ≡ header_len number_at plain + 16))
   pub accepted : IsOk result
       ↔ (IsAuthentic r number_at plain number × (reserved_bits (slice_index plain 0) ≡ 0) × IsNew s number
-      × IsInTurn r (slice_index plain 0) number)
+      × IsInTurn r (slice_index plain 0) number × (header_len number_at plain + 16 < length plain))
   pub opens : IsAuthentic r number_at plain number → Opens r number_at plain number opened
   pub returns : IfOk result (λ packet. packet ≡ of_packet start number_at plain number)
   pub moves_on : OnOk result (r' ≡ received r (slice_index plain 0) number)
@@ -142,4 +179,5 @@ abbrev pub is_of_opened : PacketError → Bool
 is_of_opened ReservedBits = true
 is_of_opened Duplicate = true
 is_of_opened KeyUpdate = true
+is_of_opened NoFrames = true
 is_of_opened _ = false

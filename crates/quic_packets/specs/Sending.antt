@@ -1,33 +1,37 @@
 -- Sending packets in one space of packet numbers: the state of a sender, the packets that it makes, and its runs (RFC 9000
 -- section 17, RFC 9001 sections 5 and 6).
-use Rattle.std.specs.Prelude.{◌≡◌, ℕ, ◌+◌, ◌-◌, ◌^◌, ◌<◌, ◌≤◌, Bool, true, false, not, nat_lt, nat_le, min, max, ◌==◌, ◌&&◌, ◌||◌, if◌then◌else◌, List, [], ◌∷◌, ◌++◌, Option, None, Some, length, take, drop, bit_and, bit_or, slice_index, slice_set}
+use Rattle.std.specs.Prelude.{◌≡◌, ◌≢◌, ℕ, ◌+◌, ◌-◌, ◌^◌, ◌<◌, ◌≤◌, Bool, true, false, not, nat_lt, nat_le, min, max, ◌==◌, ◌&&◌, ◌||◌, if◌then◌else◌, List, [], ◌∷◌, ◌++◌, Option, None, Some, length, take, drop, bit_and, bit_or, slice_index, slice_set}
 use Rattle.aead_ciphers.specs.Algorithm.{key_len}
 use Rattle.aead_ciphers.specs.Counting.{xored_nonce}
 use Rattle.aead_ciphers.specs.HeaderProtection.{HeaderKey, key_len as header_key_len}
 use Rattle.aead_ciphers.specs.Packet.{PacketFits, sealed_packet}
+use Rattle.key_derivation.specs.Quic.{next_quic_secret}
+use Rattle.key_derivation.specs.Secret.{SecretState}
 use Rattle.quic_packets.specs.Datagram.{version_of}
 use Rattle.quic_packets.specs.FixedBit.{lacks_fixed_bit}
 use Rattle.quic_packets.specs.Header.{HasSample, Protected}
-use Rattle.quic_packets.specs.Keys.{PacketKey}
+use Rattle.quic_packets.specs.Keys.{PacketKey, secret_key}
 use Rattle.quic_packets.specs.Numbers.{Represents, unacknowledged}
 use Rattle.quic_packets.specs.Packet.{IsNumber, low_bytes}
 use Rattle.quic_packets.specs.Suite.{algorithm, header_algorithm}
 use Rattle.quic_packets.specs.declared.fixed_bit.FixedBit.{FixedBit}
 use Rattle.quic_packets.specs.declared.suite.Suite.{Suite}
 
--- a sender: its key and header key; the next number, and the largest acknowledged one of its space; the Key Phase bit; how many
+-- a sender: its key and header key, and the secret that they are of, if it is made of one; the next number, and the largest acknowledged one of its space; the Key Phase bit; how many
 -- packets this key has sealed and may seal; the first number of the unbroken run of numbers that were sent in this phase and that
--- ends before the next one, which is the next one if the run is empty; whether the keys were never updated or a packet of this
--- phase is acknowledged; and whether the handshake is confirmed
+-- ends before the next one, which is the next one if the run is empty; the next number when this phase began; whether the keys
+-- were never updated or a packet of this phase is acknowledged; and whether the handshake is confirmed
 pub record Sender : Type 0 where
   pub key : PacketKey
   pub header_key : HeaderKey
+  pub secret : Option SecretState
   pub next : ℕ
   pub largest : Option ℕ
   pub phase : Bool
   pub sealed : ℕ
   pub limit : ℕ
   pub first : ℕ
+  pub first_of_phase : ℕ
   pub acknowledged : Bool
   pub confirmed : Bool
 
@@ -37,16 +41,18 @@ pub record HasKeyLengths (suite : Suite) (key header_key : List ℕ) : Type 0 wh
   pub header_key_len : length header_key ≡ header_key_len (header_algorithm suite)
 
 -- a sender with its first key, which may seal 2^23 packets (RFC 9001 section 6.6)
-abbrev pub new_sender : Suite → (key iv header_key : List ℕ) → ℕ → Sender
-new_sender suite key iv header_key first = record {
-  key = record { algorithm = algorithm suite; bytes = key; iv = iv };
-  header_key = record { algorithm = header_algorithm suite; bytes = header_key };
+abbrev pub new_sender : PacketKey → HeaderKey → Option SecretState → ℕ → Sender
+new_sender key header_key secret first = record {
+  key = key;
+  header_key = header_key;
+  secret = secret;
   next = first;
   largest = None;
   phase = false;
   sealed = 0;
   limit = 2 ^ 23;
   first = first;
+  first_of_phase = first;
   acknowledged = true;
   confirmed = false;
 }
@@ -83,12 +89,13 @@ numbered_packet phase number start end packet =
 abbrev pub header_version : List ℕ → Option ℕ
 header_version packet = if is_long (slice_index packet 0) then Some (version_of packet 0) else None
 
--- a packet that can be sealed and protected, whatever its number
+-- a packet that can be sealed and protected, whatever its number: its payload is not empty (RFC 9000 section 12.4)
 pub record IsSealable (fixed_bit : FixedBit) (start end : ℕ) (packet : List ℕ) : Type 0 where
   pub fits : PacketFits end (length packet)
   pub sample : HasSample start (length packet)
   pub protected : lacks_protection packet ≡ false
   pub fixed : lacks_fixed_bit fixed_bit (header_version packet) (slice_index packet 0) ≡ false
+  pub payload : end + 16 < length packet
 
 -- the key may seal another packet, and a number is left
 pub record IsOpen (s : Sender) : Type 0 where
@@ -139,20 +146,33 @@ abbrev pub after_acknowledgement : Sender → ℕ → Sender
 after_acknowledgement s number =
     record s { largest = raised s.largest number; acknowledged = s.acknowledged || nat_le s.first number }
 
+-- An acknowledgment of a packet of this phase came in a packet of the other phase, so of older keys, once this endpoint has
+-- followed the peer's updates (RFC 9001 section 6.2).
+pub record IsUnanswered (s : Sender) (number : ℕ) (phase : Bool) : Type 0 where
+  pub of_phase : s.first_of_phase ≤ number
+  pub older : phase ≢ s.phase
+
 -- after a key update: new keys except the header key, the other phase, and the count 0 again (RFC 9001 sections 6 and 6.6)
-abbrev pub after_update : Sender → (key iv : List ℕ) → Sender
-after_update s key iv = record s {
-  key = record s.key { bytes = key; iv = iv };
+abbrev pub after_update : Sender → PacketKey → Option SecretState → Sender
+after_update s key secret = record s {
+  key = key;
+  secret = secret;
   phase = not s.phase;
   sealed = 0;
   first = s.next;
+  first_of_phase = s.next;
   acknowledged = false;
 }
 
--- with the keys of 1-RTT after those of 0-RTT, whose space of numbers continues (RFC 9000 section 12.3)
-abbrev pub with_installed_keys : Sender → Suite → (key iv header_key : List ℕ) → Sender
-with_installed_keys s suite key iv header_key =
-    record (new_sender suite key iv header_key s.next) { largest = s.largest; limit = s.limit }
+-- after a key update to the secret after the one that is held (RFC 9001 section 6.1)
+abbrev pub after_derived_update : Sender → SecretState → Sender
+after_derived_update s held = let next = next_quic_secret held in after_update s (secret_key next) (Some next)
+
+-- with the keys of 1-RTT after those of 0-RTT, or of the Initial packets after a Retry, whose space of numbers continues (RFC 9000
+-- sections 12.3 and 17.2.5.3)
+abbrev pub with_installed_keys : Sender → PacketKey → HeaderKey → Option SecretState → Sender
+with_installed_keys s key header_key secret =
+    record (new_sender key header_key secret s.next) { largest = s.largest; limit = s.limit }
 
 -- The state of a sender after any calls, and the numbers that it sealed under, in one list for each key. A call leaves one of
 -- the states above, or fails and leaves the sender unchanged.
@@ -164,6 +184,7 @@ pub data Runs : Sender → Sender → List (List ℕ) → Type 0 where
   hears : (s t : Sender) (by_key : List (List ℕ)) (number : ℕ) → number < s.next → Runs (after_acknowledgement s number) t by_key → Runs s t by_key
   confirms : (s t : Sender) (by_key : List (List ℕ)) → Runs (record s { confirmed = true }) t by_key → Runs s t by_key
   lowers : (s t : Sender) (by_key : List (List ℕ)) (limit : ℕ) → Runs (record s { limit = min s.limit limit }) t by_key → Runs s t by_key
-  updates : (s t : Sender) (by_key : List (List ℕ)) (key iv : List ℕ) → Runs (after_update s key iv) t by_key → Runs s t ([] ∷ by_key)
-  goes_on : (s t : Sender) (by_key : List (List ℕ)) (suite : Suite) (key iv header_key : List ℕ)
-      → Runs (with_installed_keys s suite key iv header_key) t by_key → Runs s t ([] ∷ by_key)
+  updates : (s t : Sender) (by_key : List (List ℕ)) (key : PacketKey) (secret : Option SecretState)
+      → Runs (after_update s key secret) t by_key → Runs s t ([] ∷ by_key)
+  goes_on : (s t : Sender) (by_key : List (List ℕ)) (key : PacketKey) (header_key : HeaderKey) (secret : Option SecretState)
+      → Runs (with_installed_keys s key header_key secret) t by_key → Runs s t ([] ∷ by_key)

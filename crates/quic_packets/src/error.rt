@@ -13,13 +13,19 @@ const AEAD_LIMIT_REACHED: u64 = 0x0f;
 
 /// The error of sending or receiving a packet.
 ///
-/// A call that fails leaves the packet and the key unchanged, except with `ReservedBits`, `Duplicate` and `KeyUpdate`: these
-/// come after the packet was opened. After `Refused`, the output of `PacketKey::open_to` is the ciphertext.
+/// A call that fails leaves the packet and the key unchanged, except with `ReservedBits`, `Duplicate`, `KeyUpdate` and `NoFrames`:
+/// these come after the packet was opened. After `Refused`, the output of `PacketKey::open_to` is the ciphertext.
 #[derive(Clone, Copy, PartialEq, Eq, Debug, Drop, Error)]
 pub enum PacketError {
     /// The key is not as long as the algorithm's keys.
     #[error("the key does not have the length of the algorithm's keys")]
     KeyLength,
+    /// The keys derive from a secret, so the caller's are not taken.
+    #[error("the keys derive from a secret")]
+    KeysDerived,
+    /// There is no secret from which keys derive: the sender or the receiver is made of keys.
+    #[error("there is no secret from which keys derive")]
+    NoSecret,
     /// The packet number is said to begin at byte 0, which is the first byte of every header.
     #[error("the packet number cannot begin at the header's first byte")]
     NumberAtFirstByte,
@@ -55,6 +61,9 @@ pub enum PacketError {
     /// The fixed bit is 0 and must be 1 (RFC 9000 sections 17.2 and 17.3.1).
     #[error("the fixed bit of the packet is 0")]
     NoFixedBit,
+    /// The packet to be sent has no payload, where a payload has at least one frame (RFC 9000 section 12.4).
+    #[error("the packet has no payload")]
+    EmptyPayload,
     /// Packet numbers end at 2^62 (RFC 9000 section 12.3).
     #[error("the packet number is not below 2^62")]
     NumbersEnded,
@@ -67,6 +76,9 @@ pub enum PacketError {
     /// The peer has acknowledged a packet number that was not sent (RFC 9000 section 13.1).
     #[error("a packet that was not sent was acknowledged")]
     NeverSent,
+    /// The peer has acknowledged a packet of the current keys in a packet of older keys (RFC 9001 section 6.2).
+    #[error("a packet of the current keys was acknowledged under older keys")]
+    UpdateUnanswered,
     /// The handshake is not confirmed, so the keys cannot be updated yet (RFC 9001 section 6.1).
     #[error("the handshake is not confirmed")]
     HandshakeUnconfirmed,
@@ -89,18 +101,27 @@ pub enum PacketError {
     /// The packet is authentic, but its key phase is out of turn (RFC 9001 section 6.4).
     #[error("the packet's key phase is out of order")]
     KeyUpdate,
+    /// The packet is authentic, but its payload is empty, so it has no frames (RFC 9000 section 12.4).
+    #[error("the packet has no frames")]
+    NoFrames,
 }
 
 impl PacketError {
     /// Returns the code of the transport error that the connection must be closed with (RFC 9000 section 20.1), or `None` if the
-    /// packet is only dropped or not sent: `PROTOCOL_VIOLATION` for `NeverSent` and `ReservedBits`, `KEY_UPDATE_ERROR` for
-    /// `KeyUpdate`, and `AEAD_LIMIT_REACHED` for `TooManyFailures`.
+    /// packet is only dropped or not sent: `PROTOCOL_VIOLATION` for `NeverSent`, `ReservedBits` and `NoFrames`,
+    /// `KEY_UPDATE_ERROR` for `KeyUpdate` and `UpdateUnanswered`, and `AEAD_LIMIT_REACHED` for `TooManyFailures`.
+    ///
+    /// `KeyUsedUp` has none, since a key update follows it. The key cannot seal the packet that closes the connection either, so
+    /// a caller that cannot update closes it with `AEAD_LIMIT_REACHED` (0x0f) while `Sender::remaining` is above 0 (RFC 9001
+    /// section 6.6). After `NumbersEnded`, no packet may be sent at all (RFC 9000 section 12.3).
     pub fn code(self) -> Option<u64>
         ensures { result ≡ error_code self }
     {
         match self {
-            PacketError::NeverSent | PacketError::ReservedBits => Some(PROTOCOL_VIOLATION),
-            PacketError::KeyUpdate => Some(KEY_UPDATE_ERROR),
+            PacketError::NeverSent | PacketError::ReservedBits | PacketError::NoFrames => {
+                Some(PROTOCOL_VIOLATION)
+            }
+            PacketError::KeyUpdate | PacketError::UpdateUnanswered => Some(KEY_UPDATE_ERROR),
             PacketError::TooManyFailures => Some(AEAD_LIMIT_REACHED),
             _ => None,
         }

@@ -2,11 +2,14 @@
 
 ghost use Rattle.std.specs.Prelude.{◌≡◌, ℕ, ◌+◌, ◌<◌, ◌≤◌, ◌↔◌, ◌⊎◌, length, IsOk, IfOk, OnOk, OnErr, IsErrOf, IsOkUnless, bit_xor, slice_index};
 ghost use Rattle.aead_ciphers.specs.HeaderProtection.{key_len};
+ghost use Rattle.quic_packets.specs.Keys.{secret_header_key};
 ghost use Rattle.quic_packets.specs.Header.{HasSample, Protected, Unprotected, first_mask, mask_of, number_len};
 
 use crate::error::PacketError;
+use crate::suite::Suite;
 use aead_ciphers::aead::quic::Algorithm;
 use aead_ciphers_wide::aead::quic::HeaderProtectionKey;
+use key_derivation::Secret;
 use std::marker::Model;
 
 /// The sample begins this many bytes after the start of the packet number, as if the number had four bytes.
@@ -43,6 +46,19 @@ impl HeaderKey {
             Ok(key) => Ok(HeaderKey { key }),
             Err(_) => Err(PacketError::KeyLength),
         }
+    }
+
+    /// Creates the header protection key of a secret (RFC 9001 section 5.1).
+    #[tactic(auto, unfolding(crate::specs::Keys::secret_header_key))]
+    pub(crate) fn of_secret(secret: &Secret) -> Self
+        ensures { result ≡ secret_header_key secret.now }
+    {
+        let bytes = secret.quic_header_key();
+        let algorithm = Suite::of_secret(secret).header_algorithm();
+        let Ok(key) = HeaderKey::new(algorithm, bytes.as_slice()) else {
+            unreachable!();
+        };
+        key
     }
 
     /// Masks the header of a sealed packet whose packet number begins at byte `number_at` (RFC 9001 section 5.4.1).

@@ -6,12 +6,15 @@ ghost use Rattle.aead_ciphers.specs.Algorithm.{key_len};
 ghost use Rattle.aead_ciphers.specs.Counting.{xored_nonce};
 ghost use Rattle.aead_ciphers.specs.Gcm.{Fits, Opened, OpenedAttached, gcm_decrypted, gcm_encrypted, gcm_sealed, gcm_tag};
 ghost use Rattle.aead_ciphers.specs.Packet.{OpenedPacket, PacketFits, sealed_packet};
+ghost use Rattle.quic_packets.specs.Keys.{secret_key};
 ghost use Rattle.quic_packets.specs.Packet.{EndsWithTag, IsGenuine, IsNumber};
 
 use crate::error::PacketError;
 use crate::packet::{NUMBERS_END, check_lengths, payload_len};
+use crate::suite::Suite;
 use aead_ciphers::aead::{Aad, Algorithm, MAX_TAG_LEN, NONCE_LEN, Nonce, Tag, nonce_of};
 use aead_ciphers_wide::aead::LessSafeKey;
+use key_derivation::Secret;
 use std::marker::Model;
 
 /// A key and IV of one direction, which seals and opens packets by their numbers, in any order and without allocating.
@@ -52,6 +55,19 @@ impl PacketKey {
             Ok(key) => Ok(PacketKey { key, iv }),
             Err(_) => Err(PacketError::KeyLength),
         }
+    }
+
+    /// Creates the key of a secret, with its IV (RFC 9001 section 5.1).
+    #[tactic(auto, unfolding(crate::specs::Keys::secret_key))]
+    pub(crate) fn of_secret(secret: &Secret) -> Self
+        ensures { result ≡ secret_key secret.now }
+    {
+        let bytes = secret.quic_key();
+        let algorithm = Suite::of_secret(secret).algorithm();
+        let Ok(key) = PacketKey::new(algorithm, bytes.as_slice(), secret.quic_iv()) else {
+            unreachable!();
+        };
+        key
     }
 
     /// Returns the key's algorithm.

@@ -1,18 +1,21 @@
 //! Laws of the definitions: functions without a body, each of whose contracts states a law for its arguments.
 
-ghost use Rattle.std.specs.Prelude.{◌≡◌, ◌≢◌, ℕ, ◌+◌, ◌*◌, ◌%◌, ◌^◌, ◌<◌, ◌≤◌, List, ◌++◌, length, slice_index, flat_map, All, AllPairs, Contains, IsFalse, IsTrue, Result};
+ghost use Rattle.std.specs.Prelude.{◌≡◌, ◌≢◌, ℕ, ◌+◌, ◌*◌, ◌%◌, ◌^◌, ◌<◌, ◌≤◌, List, ◌++◌, length, slice_index, flat_map, All, AllPairs, Contains, IsFalse, IsTrue, Result, Some};
 ghost use Rattle.std.specs.Int.Digits.{number_from_digits};
 ghost use Rattle.aead_ciphers.specs.Counting.{xored_nonce};
 ghost use Rattle.aead_ciphers.specs.Packet.{PacketFits, sealed_packet};
+ghost use Rattle.key_derivation.specs.Secret.{SecretState};
 ghost use Rattle.quic_packets.specs.Datagram.{packet_of};
 ghost use Rattle.quic_packets.specs.Header.{HasSample, Protected, Unprotected, number_len};
 ghost use Rattle.quic_packets.specs.HeaderBytes.{HasLongParts, HasShortParts, IsLongHeader, IsShortHeader, length_of, long_header, short_header};
 ghost use Rattle.quic_packets.specs.Exchange.{Counts, Follows, GivesBack, HasSent, Holds, Life, Sent, WasSentInPhase};
 ghost use Rattle.quic_packets.specs.Laws.{OpensTo};
+ghost use Rattle.quic_packets.specs.Keys.{PacketKey as PacketKeyState, secret_key};
 ghost use Rattle.quic_packets.specs.Numbers.{InWindow, IsAbove, IsDecoded, Represents, expected, unacknowledged};
 ghost use Rattle.quic_packets.specs.Sending.{Runs, after_acknowledgement};
 ghost use Rattle.quic_packets.specs.Packet.{HasNumber, IsNumber, low_bytes};
 ghost use Rattle.quic_packets.specs.Receiving.{Outcome, Reads, Receiver as ReceiverState};
+ghost use Rattle.quic_packets.specs.Secrets.{ReceiverOf, SenderOf, secret_after};
 ghost use Rattle.quic_packets.specs.declared.datagram.Packet.{Packet};
 ghost use Rattle.quic_packets.specs.declared.error.PacketError.{PacketError};
 ghost use Rattle.quic_packets.specs.declared.receiver.Received.{Received};
@@ -161,6 +164,17 @@ pub fn short_header_is_parsed(header: &ShortHeader<'_>, fixed_bit: FixedBit)
     ensures { (rest : List ℕ) → (packet : Packet)
         × (packet_of fixed_bit (length header.now.destination_id.now) (short_header header.now ++ rest) 0 ≡ Ok packet)
         × HasShortParts header.now (short_header header.now ++ rest) packet }
+{}
+
+/// A sender and a receiver that are made of one secret hold the same keys after the same number of key updates, those of the
+/// secret after as many steps of `quic ku`. The receiver's next key, if it is set, is that of one step more (RFC 9001 sections 5.1
+/// and 6.1).
+pub fn one_secret(sender: &Sender, receiver: &Receiver)
+    ensures same { (secret : SecretState) → (updates : ℕ) → SenderOf secret sender.now updates
+        → ReceiverOf secret receiver.now updates → (sender.now.key ≡ secret_key (secret_after secret updates))
+        × (receiver.now.current ≡ sender.now.key) × (receiver.now.header ≡ sender.now.header_key) }
+    ensures next { (secret : SecretState) → (updates : ℕ) → (key : PacketKeyState) → ReceiverOf secret receiver.now updates
+        → receiver.now.next ≡ Some key → key ≡ secret_key (secret_after secret (updates + 1)) }
 {}
 
 /// The parts of a packet depend on the bytes from its first one on alone. So `Receiver::receive`, which changes no byte outside

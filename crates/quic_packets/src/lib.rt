@@ -1,4 +1,5 @@
-//! Packet protection of QUIC version 1 (RFC 9000 section 17, RFC 9001 sections 5 and 6), under keys that the caller derives.
+//! Packet protection of QUIC version 1 (RFC 9000 section 17, RFC 9001 sections 5 and 6), under the keys of a secret, or under keys
+//! that the caller derives.
 //!
 //! A packet is one slice: the header, which ends with the packet number, the payload, and 16 bytes for the tag. `Sender` sends
 //! a packet in one call, whose header `LongHeader` or `ShortHeader` writes. `Receiver` receives one, and `packet_at` finds the
@@ -13,6 +14,7 @@ mod fixed_bit;
 mod header;
 mod header_writer;
 mod key;
+mod keys;
 pub mod laws;
 pub mod numbers;
 mod packet;
@@ -29,6 +31,7 @@ pub use fixed_bit::FixedBit;
 pub use header::HeaderKey;
 pub use header_writer::{HeaderError, LongHeader, LongType, ShortHeader};
 pub use key::PacketKey;
+pub use keys::Keys;
 pub use receiver::{Received, Receiver};
 pub use retry::{RetryError, is_genuine_retry, retry_tag};
 pub use sender::Sender;

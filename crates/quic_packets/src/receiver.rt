@@ -1,26 +1,28 @@
 //! Receiving packets, over key updates (RFC 9001 sections 5.3, 5.4, 6.2 to 6.6 and 9.5).
 
-ghost use Rattle.std.specs.Prelude.{◌≡◌, ◌≢◌, ℕ, ◌+◌, ◌-◌, ◌<◌, ◌≤◌, ◌↔◌, false, true, length, List, slice_index, ◌^◌, IsTrue, IsOk, IfOk, IfErr, IsErrOf, IsOkUnless, IsSome, OnOk, OnErr};
+ghost use Rattle.std.specs.Prelude.{◌≡◌, ◌≢◌, ℕ, ◌+◌, ◌-◌, ◌<◌, ◌≤◌, ◌↔◌, false, true, length, List, slice_index, ◌^◌, IsTrue, IsOk, IfOk, IfErr, IsErrOf, IsOkUnless, Some, None, IsSome, IfSome, OnOk, OnErr};
 ghost use Rattle.std.specs.Option.{option_copied};
 ghost use Rattle.aead_ciphers.specs.Algorithm.{key_len};
-ghost use Rattle.aead_ciphers.specs.HeaderProtection.{key_len as header_key_len};
 ghost use Rattle.quic_packets.specs.Datagram.{KeepsOutside, bytes_of, number_in};
 ghost use Rattle.quic_packets.specs.Header.{HasSample};
+ghost use Rattle.quic_packets.specs.Keys.{header_key, packet_key, secret_header_key, secret_key};
 ghost use Rattle.quic_packets.specs.Numbers.{expected};
 ghost use Rattle.quic_packets.specs.Packet.{IsNumber};
-ghost use Rattle.quic_packets.specs.Receiving.{IsInTurn, Opening, Outcome, Reads, is_of_opened, is_other_phase, key_of, opening_key, received, reserved_bits, updated};
+ghost use Rattle.quic_packets.specs.Receiving.{IsInTurn, Opening, Outcome, Reads, highest_before, is_of_opened, is_other_phase, key_of, new_receiver, opening_key, received, reserved_bits, updated, with_next};
+ghost use Rattle.quic_packets.specs.Sending.{HasKeyLengths};
 ghost use Rattle.quic_packets.specs.Space.{IsNew, Marks};
-ghost use Rattle.quic_packets.specs.Suite.{algorithm, header_algorithm};
 
 use crate::datagram::Packet;
 use crate::error::PacketError;
 use crate::failures::Failures;
 use crate::header::{HeaderKey, SAMPLE_END};
 use crate::key::PacketKey;
+use crate::keys::Keys;
 use crate::numbers::{decode, truncated};
 use crate::space::Space;
 use crate::suite::Suite;
 use aead_ciphers::aead::NONCE_LEN;
+use key_derivation::Secret;
 use std::marker::Model;
 use std::mem;
 use std::ops::Range;
@@ -43,7 +45,7 @@ pub struct Received {
 /// Receives the first packet of a datagram. From `crates/quic_packets_tests/src/example.rt`:
 ///
 /// ```
-/// let mut receiver = Receiver::new(Suite::Aes128Gcm, &KEY, IV, &HEADER_KEY)?;
+/// let mut receiver = Receiver::from_secret(Secret::aes_128_gcm(SECRET));
 /// let mut space = Space::<2>::new();
 /// let mut failures = Failures::new();
 /// let parts = packet_at(&datagram, 0, CONNECTION_ID.len(), FixedBit::Required)?;
@@ -53,12 +55,15 @@ pub struct Received {
 #[derive(Drop)]
 pub struct Receiver {
     header: HeaderKey,
+    secret: Option<Secret>,
     current: PacketKey,
     next: Option<PacketKey>,
     previous: Option<PacketKey>,
     phase: bool,
     lowest: u64,
     highest: u64,
+    highest_previous: u64,
+    highest_earlier: u64,
 }
 
 impl Model for Receiver {
@@ -68,66 +73,104 @@ impl Model for Receiver {
 
     ghost view = { λ r. record {
       header = r.header;
+      secret = r.secret;
       current = r.current;
       next = r.next;
       previous = r.previous;
       phase = r.phase;
       lowest = r.lowest;
       highest = r.highest;
+      highest_previous = r.highest_previous;
+      highest_earlier = r.highest_earlier;
     } };
 }
 
 impl Receiver {
-    /// Creates a receiver with keys of the suite: `key` and `header_key` have 16 or 32 bytes each. `iv` is the IV of the packet
-    /// protection keys (RFC 9001 section 5.1).
+    /// Creates a receiver of a secret, which it keeps: its keys and those after each key update derive from it (RFC 9001
+    /// sections 5.1 and 6.1).
+    pub fn from_secret(secret: Secret) -> Self
+        ensures { result ≡ new_receiver (secret_header_key secret) (secret_key secret) (Some secret) }
+    {
+        let header = HeaderKey::of_secret(&secret);
+        let current = PacketKey::of_secret(&secret);
+        Receiver::with_keys(header, current, Some(secret))
+    }
+
+    /// Creates a receiver with keys of the caller's, which have the lengths of the suite.
     ///
     /// Fails with `KeyLength` if a key is not as long as the suite's.
-    pub fn new(
-        suite: Suite,
-        key: &[u8],
-        iv: [u8; NONCE_LEN],
-        header_key: &[u8],
-    ) -> Result<Self, PacketError>
-        ensures accepted { IsOk result ↔ ((length key.now ≡ key_len (algorithm suite))
-            × (length header_key.now ≡ header_key_len (header_algorithm suite))) }
+    pub fn new(suite: Suite, keys: Keys<'_>) -> Result<Self, PacketError>
+        ensures accepted { IsOk result ↔ HasKeyLengths suite keys.entry.key.now keys.entry.header_key.now }
         ensures refused { IsOkUnless result PacketError.KeyLength }
-        ensures made { IfOk result (λ made. made ≡ record {
-          header = record { algorithm = header_algorithm suite; bytes = header_key.now };
-          current = record { algorithm = algorithm suite; bytes = key.now; iv = iv };
-          next = None;
-          previous = None;
-          phase = false;
-          lowest = 0;
-          highest = 0;
-        }) }
+        ensures made { IfOk result (λ made. made ≡ new_receiver (header_key suite keys.entry.header_key.now)
+            (packet_key suite keys.entry.key.now keys.entry.iv) None) }
     {
-        Ok(Receiver {
-            current: PacketKey::new(suite.algorithm(), key, iv)?,
-            header: HeaderKey::new(suite.header_algorithm(), header_key)?,
+        let header = HeaderKey::new(suite.header_algorithm(), keys.header_key)?;
+        let current = PacketKey::new(suite.algorithm(), keys.key, keys.iv)?;
+        Ok(Receiver::with_keys(header, current, None))
+    }
+
+    // Creates a receiver with these keys, which are those of the secret if there is one.
+    fn with_keys(header: HeaderKey, current: PacketKey, secret: Option<Secret>) -> Self
+        ensures { result ≡ new_receiver header current secret }
+    {
+        Receiver {
+            header,
+            secret,
+            current,
             next: None,
             previous: None,
             phase: false,
             lowest: 0,
             highest: 0,
-        })
+            highest_previous: 0,
+            highest_earlier: 0,
+        }
     }
 
-    /// Sets the key of the next phase, which becomes the current key when it first opens a packet. The header key is unchanged
-    /// (RFC 9001 section 6).
+    /// Sets the key of the next phase, unless it is set: that of the next secret (RFC 9001 section 6.1). It becomes the current
+    /// key when it first opens a packet. The header key is unchanged (section 6).
     ///
     /// A peer may initiate an update only after a packet of the current phase is acknowledged (section 6.1); one that follows
     /// an update needs no acknowledgment. So set the next key once such an acknowledgment is sent, or once this endpoint
     /// initiates an update. Until then, a packet of the next phase is rejected as a forged one is.
     ///
-    /// Fails with `KeyLength` if `key` is not as long as the suite's keys. The receiver is then unchanged.
-    pub fn set_next(&mut self, key: &[u8], iv: [u8; NONCE_LEN]) -> Result<(), PacketError>
-        ensures accepted { IsOk result ↔ (length key.now ≡ key_len self.old.current.algorithm) }
-        ensures refused { IsOkUnless result PacketError.KeyLength }
+    /// Fails with `NoSecret` if the receiver is not made of a secret. The receiver is then unchanged.
+    pub fn set_next(&mut self) -> Result<(), PacketError>
+        ensures accepted { IsOk result ↔ IsSome self.old.secret }
+        ensures refused { IsOkUnless result PacketError.NoSecret }
+        ensures given { OnOk result (IfSome self.old.secret (λ held. self.new ≡ with_next self.old held)) }
+        ensures kept { OnErr result (self.new ≡ self.old) }
+    {
+        let Some(secret) = &self.secret else {
+            return Err(PacketError::NoSecret);
+        };
+        if self.next.is_none() {
+            let next = secret.next_quic();
+            self.next = Some(PacketKey::of_secret(&next));
+            self.secret = Some(next);
+        }
+        Ok(())
+    }
+
+    /// Sets the key and the IV of the next phase to those of the caller's, at the time that `set_next` names.
+    ///
+    /// Fails with `KeysDerived` if the receiver is made of a secret, and with `KeyLength` if `key` is not as long as the suite's
+    /// keys. The receiver is then unchanged.
+    pub fn set_next_with(&mut self, key: &[u8], iv: [u8; NONCE_LEN]) -> Result<(), PacketError>
+        ensures accepted { IsOk result
+            ↔ (¬ IsSome self.old.secret × (length key.now ≡ key_len self.old.current.algorithm)) }
+        ensures derived { IsErrOf result PacketError.KeysDerived ↔ IsSome self.old.secret }
+        ensures key_len { IsErrOf result PacketError.KeyLength
+            ↔ (¬ IsSome self.old.secret × (length key.now ≢ key_len self.old.current.algorithm)) }
         ensures given { OnOk result (self.new ≡ record self.old {
-          next = Some (record { algorithm = self.old.current.algorithm; bytes = key.now; iv = iv });
+          next = Some (record self.old.current { bytes = key.now; iv = iv });
         }) }
         ensures kept { OnErr result (self.new ≡ self.old) }
     {
+        if self.secret.is_some() {
+            return Err(PacketError::KeysDerived);
+        }
         self.next = Some(PacketKey::new(self.current.algorithm(), key, iv)?);
         Ok(())
     }
@@ -140,7 +183,8 @@ impl Receiver {
         self.phase
     }
 
-    /// Drops the key of the previous phase, so that late packets of it are rejected (RFC 9001 section 6.5).
+    /// Drops the key of the previous phase, so that late packets of it are rejected (RFC 9001 section 6.5). The highest number
+    /// that it opened stays: a packet of the current phase with a lower number is still answered with `KeyUpdate`.
     pub fn forget_previous(&mut self)
         ensures { self.new ≡ record self.old { previous = None } }
     {
@@ -158,8 +202,9 @@ impl Receiver {
     /// after the packet's first byte; with `NoSample` if the packet has fewer than 20 bytes from its number on; with `TooLong`
     /// if it is longer than AES-GCM allows; and with `Refused`, which is counted, if it is not authentic. The packet is then
     /// unchanged. For an authentic packet, which is then opened in place, fails with `ReservedBits` if its reserved bits are
-    /// set, with `Duplicate` if its number was already received or is below the window of `space`, and with `KeyUpdate` if its
-    /// key phase is out of turn.
+    /// set, with `Duplicate` if its number was already received or is below the window of `space`, with `KeyUpdate` if its
+    /// key phase is out of turn, which is so if a packet with a higher number was opened under earlier keys (RFC 9001 section
+    /// 6.4), and with `NoFrames` if its payload is empty.
     ///
     /// Before a packet is known to be authentic, its masked bits only determine the length of the header and the key that opens
     /// it (RFC 9001 section 9.5).
@@ -238,7 +283,7 @@ impl Receiver {
             × ¬ IsErrOf result PacketError.NoSample }
     {
         match self.open(space.largest(), packet, number_at, start) {
-            Ok((first, received)) => match self.admit(space, first, received.number) {
+            Ok((first, received)) => match self.admit(space, first, &received) {
                 Ok(()) => Ok(received),
                 Err(error) => Err(error),
             },
@@ -273,7 +318,7 @@ impl Receiver {
         ensures kept { OnErr result (packet.new ≡ packet.old) }
         ensures others { ¬ IsErrOf result PacketError.TooManyFailures × ¬ IsErrOf result PacketError.PastEnd
             × ¬ IsErrOf result PacketError.NoNumber × ¬ IsErrOf result PacketError.ReservedBits × ¬ IsErrOf result PacketError.Duplicate
-            × ¬ IsErrOf result PacketError.KeyUpdate }
+            × ¬ IsErrOf result PacketError.KeyUpdate × ¬ IsErrOf result PacketError.NoFrames }
     {
         let number_len = self.header.unprotect(packet, number_at)?;
         let first = packet[0];
@@ -333,14 +378,24 @@ impl Receiver {
         self.key_of(first, number).unwrap_or(&self.current)
     }
 
+    // The highest number that was opened under the keys before a packet's key.
+    fn highest_before(&self, first: u8, number: u64) -> u64
+        ensures { result ≡ highest_before self.now first number }
+    {
+        if !self.is_other_phase(first) {
+            self.highest_previous
+        } else if number < self.lowest {
+            self.highest_earlier
+        } else {
+            self.highest
+        }
+    }
+
     // Whether the key of a packet is held and its number is consistent with the key phase.
     fn is_in_turn(&self, first: u8, number: u64) -> bool
         ensures { IsTrue result ↔ IsInTurn self.now first number }
     {
-        if self.key_of(first, number).is_none() {
-            return false;
-        }
-        !self.is_other_phase(first) || number < self.lowest || number >= self.highest
+        self.key_of(first, number).is_some() && number >= self.highest_before(first, number)
     }
 
     // Updates the state for a packet that was received.
@@ -350,7 +405,9 @@ impl Receiver {
         if !self.is_other_phase(first) {
             self.lowest = self.lowest.min(number);
             self.highest = self.highest.max(number);
-        } else if number >= self.lowest {
+        } else if number < self.lowest {
+            self.highest_previous = self.highest_previous.max(number);
+        } else {
             self.update(number);
         }
     }
@@ -362,6 +419,8 @@ impl Receiver {
         if let Some(next) = self.next.take() {
             self.previous = Some(mem::replace(&mut self.current, next));
             self.phase = !self.phase;
+            self.highest_earlier = self.highest_previous;
+            self.highest_previous = self.highest;
             self.lowest = number;
             self.highest = number;
         }
@@ -372,21 +431,25 @@ impl Receiver {
         &mut self,
         space: &mut Space<W>,
         first: u8,
-        number: u64,
+        opened: &Received,
     ) -> Result<(), PacketError>
-        requires { IsNumber number }
-        ensures accepted { IsOk result ↔ ((reserved_bits first ≡ 0) × IsNew space.old number
-            × IsInTurn self.old first number) }
+        requires { IsNumber opened.now.number }
+        ensures accepted { IsOk result ↔ ((reserved_bits first ≡ 0) × IsNew space.old opened.now.number
+            × IsInTurn self.old first opened.now.number × (opened.now.payload.start < opened.now.payload.end)) }
         ensures reserved { IsErrOf result PacketError.ReservedBits ↔ (reserved_bits first ≢ 0) }
         ensures duplicate { IsErrOf result PacketError.Duplicate
-            ↔ ((reserved_bits first ≡ 0) × ¬ IsNew space.old number) }
+            ↔ ((reserved_bits first ≡ 0) × ¬ IsNew space.old opened.now.number) }
         ensures out_of_turn { IsErrOf result PacketError.KeyUpdate ↔ ((reserved_bits first ≡ 0)
-            × IsNew space.old number × ¬ IsInTurn self.old first number) }
+            × IsNew space.old opened.now.number × ¬ IsInTurn self.old first opened.now.number) }
+        ensures no_frames { IsErrOf result PacketError.NoFrames ↔ ((reserved_bits first ≡ 0)
+            × IsNew space.old opened.now.number × IsInTurn self.old first opened.now.number
+            × (opened.now.payload.end ≤ opened.now.payload.start)) }
         ensures others { IfErr result (λ error. is_of_opened error ≡ true) }
-        ensures moved_on { OnOk result (self.new ≡ received self.old first number) }
-        ensures marked { OnOk result (Marks space.old number space.new) }
+        ensures moved_on { OnOk result (self.new ≡ received self.old first opened.now.number) }
+        ensures marked { OnOk result (Marks space.old opened.now.number space.new) }
         ensures kept { OnErr result ((self.new ≡ self.old) × (space.new ≡ space.old)) }
     {
+        let number = opened.number;
         let reserved = if first & 0x80 == 0x80 { 0x0c } else { 0x18 };
         if first & reserved != 0 {
             return Err(PacketError::ReservedBits);
@@ -396,6 +459,9 @@ impl Receiver {
         }
         if !self.is_in_turn(first, number) {
             return Err(PacketError::KeyUpdate);
+        }
+        if opened.payload.start >= opened.payload.end {
+            return Err(PacketError::NoFrames);
         }
         space.mark(number);
         self.move_on(first, number);

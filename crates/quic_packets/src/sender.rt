@@ -1,23 +1,26 @@
 //! Sending packets, each in one call, over key updates (RFC 9001 sections 5 and 6).
 
-ghost use Rattle.std.specs.Prelude.{◌≡◌, ℕ, ◌≢◌, ◌+◌, ◌-◌, ◌^◌, ◌<◌, ◌≤◌, ◌↔◌, true, false, min, length, slice_index, IsOk, IfOk, IsErrOf, IsOkUnless, IsSome, IfSome, IsFalse, IsTrue, OnOk, OnErr};
+ghost use Rattle.std.specs.Prelude.{◌≡◌, ℕ, ◌≢◌, ◌+◌, ◌-◌, ◌^◌, ◌<◌, ◌≤◌, ◌↔◌, true, false, min, length, slice_index, IsOk, IfOk, IsErrOf, IsOkUnless, IsSome, IfSome, IsFalse, IsTrue, OnOk, OnErr, Some, None};
 ghost use Rattle.aead_ciphers.specs.Algorithm.{key_len};
 ghost use Rattle.aead_ciphers.specs.Gcm.{Fits};
 ghost use Rattle.aead_ciphers.specs.Packet.{PacketFits};
 ghost use Rattle.quic_packets.specs.FixedBit.{lacks_fixed_bit};
 ghost use Rattle.quic_packets.specs.Header.{HasSample};
+ghost use Rattle.quic_packets.specs.Keys.{header_key, packet_key, secret_header_key, secret_key};
 ghost use Rattle.quic_packets.specs.Packet.{IsNumber};
-ghost use Rattle.quic_packets.specs.Sending.{HasKeyLengths, IsEncodable, IsInTurn, IsOpen, IsRoom, IsSealable, IsSent, after_acknowledgement, after_send, after_skip, after_update, first_byte, header_version, lacks_protection, new_sender, numbered_packet, with_installed_keys};
+ghost use Rattle.quic_packets.specs.Sending.{HasKeyLengths, IsEncodable, IsInTurn, IsOpen, IsRoom, IsSealable, IsSent, after_acknowledgement, after_send, after_skip, after_update, first_byte, header_version, lacks_protection, new_sender, numbered_packet, with_installed_keys, IsUnanswered, after_derived_update};
 
 use crate::datagram::version;
 use crate::error::PacketError;
 use crate::fixed_bit::FixedBit;
 use crate::header::{HeaderKey, MAX_NUMBER_LEN, SAMPLE_END};
 use crate::key::PacketKey;
+use crate::keys::Keys;
 use crate::numbers::number_len;
 use crate::packet::{NUMBERS_END, payload_len};
 use crate::suite::Suite;
 use aead_ciphers::aead::NONCE_LEN;
+use key_derivation::Secret;
 use std::marker::Model;
 use std::ops::Range;
 
@@ -49,12 +52,14 @@ const MAX_SEALED: u64 = 1 << 23;
 pub struct Sender {
     key: PacketKey,
     header_key: HeaderKey,
+    secret: Option<Secret>,
     next: u64,
     largest_acknowledged: Option<u64>,
     phase: bool,
     sealed: u64,
     limit: u64,
     first: u64,
+    first_of_phase: u64,
     is_acknowledged: bool,
     is_confirmed: bool,
 }
@@ -69,12 +74,14 @@ impl Model for Sender {
     ghost view = { λ s. record {
       key = s.key;
       header_key = s.header_key;
+      secret = s.secret;
       next = s.next;
       largest = s.largest_acknowledged;
       phase = s.phase;
       sealed = s.sealed;
       limit = s.limit;
       first = s.first;
+      first_of_phase = s.first_of_phase;
       acknowledged = s.is_acknowledged;
       confirmed = s.is_confirmed;
     } };
@@ -83,39 +90,68 @@ impl Model for Sender {
 }
 
 impl Sender {
-    /// Creates a sender with keys of the suite: `key` and `header_key` have 16 or 32 bytes each. The first packet has the
-    /// number `first`. `iv` is the IV of the packet protection keys (RFC 9001 section 5.1).
+    /// Creates a sender of a secret, which it keeps: its keys and those after each key update derive from it (RFC 9001 sections
+    /// 5.1 and 6.1). The first packet has the number `first`.
+    ///
+    /// The Key Phase bit is 0, and the handshake is not confirmed.
+    ///
+    /// Fails with `NumbersEnded` if `first` is above 2^62.
+    pub fn from_secret(secret: Secret, first: u64) -> Result<Self, PacketError>
+        ensures accepted { IsOk result ↔ (first ≤ 2 ^ 62) }
+        ensures refused { IsOkUnless result PacketError.NumbersEnded }
+        ensures made { IfOk result (λ made. made
+            ≡ new_sender (secret_key secret) (secret_header_key secret) (Some secret) first) }
+    {
+        let key = PacketKey::of_secret(&secret);
+        let header_key = HeaderKey::of_secret(&secret);
+        Sender::with_keys(key, header_key, Some(secret), first)
+    }
+
+    /// Creates a sender with keys of the caller's, which have the lengths of the suite. The first packet has the number `first`.
     ///
     /// The Key Phase bit is 0, and the handshake is not confirmed.
     ///
     /// Fails with `KeyLength` if a key is not as long as the suite's, and with `NumbersEnded` if `first` is above 2^62.
-    pub fn new(
-        suite: Suite,
-        key: &[u8],
-        iv: [u8; NONCE_LEN],
-        header_key: &[u8],
+    pub fn new(suite: Suite, keys: Keys<'_>, first: u64) -> Result<Self, PacketError>
+        ensures accepted { IsOk result
+            ↔ (HasKeyLengths suite keys.entry.key.now keys.entry.header_key.now × (first ≤ 2 ^ 62)) }
+        ensures key_len { IsErrOf result PacketError.KeyLength
+            ↔ ¬ HasKeyLengths suite keys.entry.key.now keys.entry.header_key.now }
+        ensures ended { IsErrOf result PacketError.NumbersEnded
+            ↔ (HasKeyLengths suite keys.entry.key.now keys.entry.header_key.now × (2 ^ 62 < first)) }
+        ensures made { IfOk result (λ made. made ≡ new_sender (packet_key suite keys.entry.key.now keys.entry.iv)
+            (header_key suite keys.entry.header_key.now) None first) }
+    {
+        let header_key = HeaderKey::new(suite.header_algorithm(), keys.header_key)?;
+        let key = PacketKey::new(suite.algorithm(), keys.key, keys.iv)?;
+        Sender::with_keys(key, header_key, None, first)
+    }
+
+    // Creates a sender with these keys, which are those of the secret if there is one.
+    fn with_keys(
+        key: PacketKey,
+        header_key: HeaderKey,
+        secret: Option<Secret>,
         first: u64,
     ) -> Result<Self, PacketError>
-        ensures accepted { IsOk result ↔ (HasKeyLengths suite key.now header_key.now × (first ≤ 2 ^ 62)) }
-        ensures key_len { IsErrOf result PacketError.KeyLength ↔ ¬ HasKeyLengths suite key.now header_key.now }
-        ensures ended { IsErrOf result PacketError.NumbersEnded
-            ↔ (HasKeyLengths suite key.now header_key.now × (2 ^ 62 < first)) }
-        ensures made { IfOk result (λ made. made ≡ new_sender suite key.now iv header_key.now first) }
+        ensures accepted { IsOk result ↔ (first ≤ 2 ^ 62) }
+        ensures refused { IsOkUnless result PacketError.NumbersEnded }
+        ensures made { IfOk result (λ made. made ≡ new_sender key header_key secret first) }
     {
-        let header_key = HeaderKey::new(suite.header_algorithm(), header_key)?;
-        let key = PacketKey::new(suite.algorithm(), key, iv)?;
         if first > NUMBERS_END {
             return Err(PacketError::NumbersEnded);
         }
         Ok(Sender {
             key,
             header_key,
+            secret,
             next: first,
             largest_acknowledged: None,
             phase: false,
             sealed: 0,
             limit: MAX_SEALED,
             first,
+            first_of_phase: first,
             is_acknowledged: true,
             is_confirmed: false,
         })
@@ -150,11 +186,29 @@ impl Sender {
         self.sealed
     }
 
+    /// Returns how many packets can still be sent without a key update: as many as the limit leaves to the current key, or as
+    /// the space leaves numbers, whichever is less.
+    pub fn remaining(&self) -> u64
+        ensures { result ≡ min (self.now.limit - self.now.sealed) (2 ^ 62 - self.now.next) }
+    {
+        let numbers = NUMBERS_END - self.next;
+        self.limit.saturating_sub(self.sealed).min(numbers)
+    }
+
     /// Returns the Key Phase bit of the next packet (RFC 9000 section 17.3.1).
     pub fn phase(&self) -> bool
         ensures { result ≡ self.now.phase }
     {
         self.phase
+    }
+
+    /// Returns the next number when the current key phase began: when the keys were made or installed, or at the last key update. A
+    /// number that was sent is of the current phase if it isn't below this one, and of an earlier phase otherwise. `skip_to`
+    /// doesn't change it.
+    pub fn first_of_phase(&self) -> u64
+        ensures { result ≡ self.now.first_of_phase }
+    {
+        self.first_of_phase
     }
 
     /// Returns the least length of the next packet number's encoding in bytes, from 1 to 4 (RFC 9000 section 17.1, appendix
@@ -206,7 +260,7 @@ impl Sender {
     }
 
     /// Records that the peer has acknowledged the packet with this number. The largest acknowledged number of the space, which
-    /// stays over key updates and `install_keys`, determines how many bytes later numbers need (RFC 9000 section 17.1). A peer
+    /// stays over key updates and installed keys, determines how many bytes later numbers need (RFC 9000 section 17.1). A peer
     /// that acknowledges what it didn't receive shortens only numbers that it must decode itself.
     ///
     /// A number allows the next key update if it is in the unbroken run of numbers that were sent in the current key phase and
@@ -233,22 +287,85 @@ impl Sender {
         Ok(())
     }
 
-    /// Initiates a key update: continues with the next key and its IV, in the other key phase (RFC 9001 section 6.1). The
+    /// Records what `acknowledged` does, for an acknowledgment that came in a packet with this Key Phase bit, which is
+    /// `Received::phase`.
+    ///
+    /// Fails with `NeverSent` as `acknowledged` does, and with `UpdateUnanswered` if `phase` differs from the sender's and
+    /// `number` is not below `first_of_phase`: the peer received a packet of the current keys, and answered it under older ones.
+    /// The sender is then unchanged, and the connection is closed (RFC 9001 section 6.2). So an update of the peer must be
+    /// followed before the acknowledgments of the packet that begins it are recorded. A packet of two phases before has the bit
+    /// of the current one, and isn't told from it: the receiver has to forget the previous key before an update is initiated
+    /// (section 6.5).
+    pub fn acknowledged_in(&mut self, number: u64, phase: bool) -> Result<(), PacketError>
+        ensures accepted { IsOk result ↔ ((number < self.old.next) × ¬ IsUnanswered self.old number phase) }
+        ensures never_sent { IsErrOf result PacketError.NeverSent ↔ (self.old.next ≤ number) }
+        ensures unanswered { IsErrOf result PacketError.UpdateUnanswered
+            ↔ ((number < self.old.next) × IsUnanswered self.old number phase) }
+        ensures acknowledged { OnOk result (self.new ≡ after_acknowledgement self.old number) }
+        ensures kept { OnErr result (self.new ≡ self.old) }
+    {
+        if number < self.next && number >= self.first_of_phase && phase != self.phase {
+            return Err(PacketError::UpdateUnanswered);
+        }
+        self.acknowledged(number)
+    }
+
+    /// Initiates a key update: continues with the keys of the next secret, in the other key phase (RFC 9001 section 6.1). The
     /// header key is unchanged.
     ///
     /// Fails with `HandshakeUnconfirmed` if the handshake is not confirmed, with `PhaseUnacknowledged` if there was an update
-    /// and no packet of its phase is acknowledged yet, and with `KeyLength` if `key` is not as long as the suite's keys. The
-    /// sender is then unchanged.
-    pub fn initiate_update(&mut self, key: &[u8], iv: [u8; NONCE_LEN]) -> Result<(), PacketError>
-        ensures accepted { IsOk result ↔ (IsTrue self.old.confirmed × IsTrue self.old.acknowledged
-            × (length key.now ≡ key_len self.old.key.algorithm)) }
+    /// and no packet of its phase is acknowledged yet, and with `NoSecret` if the sender is not made of a secret. The sender is
+    /// then unchanged.
+    pub fn initiate_update(&mut self) -> Result<(), PacketError>
+        ensures accepted { IsOk result
+            ↔ (IsTrue self.old.confirmed × IsTrue self.old.acknowledged × IsSome self.old.secret) }
         ensures unconfirmed { IsErrOf result PacketError.HandshakeUnconfirmed ↔ ¬ IsTrue self.old.confirmed }
         ensures unacknowledged { IsErrOf result PacketError.PhaseUnacknowledged
             ↔ (IsTrue self.old.confirmed × ¬ IsTrue self.old.acknowledged) }
-        ensures key_len { IsErrOf result PacketError.KeyLength ↔ (IsTrue self.old.confirmed
-            × IsTrue self.old.acknowledged × (length key.now ≢ key_len self.old.key.algorithm)) }
-        ensures updated { OnOk result (self.new ≡ after_update self.old key.now iv) }
+        ensures no_secret { IsErrOf result PacketError.NoSecret
+            ↔ (IsTrue self.old.confirmed × IsTrue self.old.acknowledged × ¬ IsSome self.old.secret) }
+        ensures updated { OnOk result (IfSome self.old.secret (λ held. self.new ≡ after_derived_update self.old held)) }
         ensures kept { OnErr result (self.new ≡ self.old) }
+    {
+        self.check_update()?;
+        self.follow_update()
+    }
+
+    /// Initiates a key update to a packet key and an IV of the caller's, as `initiate_update` does to those of the next secret.
+    ///
+    /// Fails with `HandshakeUnconfirmed` and `PhaseUnacknowledged` as `initiate_update` does, with `KeysDerived` if the sender is
+    /// made of a secret, and with `KeyLength` if `key` is not as long as the suite's keys. The sender is then unchanged.
+    pub fn initiate_update_with(
+        &mut self,
+        key: &[u8],
+        iv: [u8; NONCE_LEN],
+    ) -> Result<(), PacketError>
+        ensures accepted { IsOk result ↔ (IsTrue self.old.confirmed × IsTrue self.old.acknowledged
+            × ¬ IsSome self.old.secret × (length key.now ≡ key_len self.old.key.algorithm)) }
+        ensures unconfirmed { IsErrOf result PacketError.HandshakeUnconfirmed ↔ ¬ IsTrue self.old.confirmed }
+        ensures unacknowledged { IsErrOf result PacketError.PhaseUnacknowledged
+            ↔ (IsTrue self.old.confirmed × ¬ IsTrue self.old.acknowledged) }
+        ensures derived { IsErrOf result PacketError.KeysDerived
+            ↔ (IsTrue self.old.confirmed × IsTrue self.old.acknowledged × IsSome self.old.secret) }
+        ensures key_len { IsErrOf result PacketError.KeyLength
+            ↔ (IsTrue self.old.confirmed × IsTrue self.old.acknowledged × ¬ IsSome self.old.secret
+            × (length key.now ≢ key_len self.old.key.algorithm)) }
+        ensures updated { OnOk result (self.new
+            ≡ after_update self.old (record self.old.key { bytes = key.now; iv = iv }) None) }
+        ensures kept { OnErr result (self.new ≡ self.old) }
+    {
+        self.check_update()?;
+        self.follow_update_with(key, iv)
+    }
+
+    // Checks that this endpoint may initiate a key update.
+    fn check_update(&self) -> Result<(), PacketError>
+        ensures accepted { IsOk result ↔ (IsTrue self.now.confirmed × IsTrue self.now.acknowledged) }
+        ensures unconfirmed { IsErrOf result PacketError.HandshakeUnconfirmed ↔ ¬ IsTrue self.now.confirmed }
+        ensures unacknowledged { IsErrOf result PacketError.PhaseUnacknowledged
+            ↔ (IsTrue self.now.confirmed × ¬ IsTrue self.now.acknowledged) }
+        ensures others { ¬ IsErrOf result PacketError.NoSecret × ¬ IsErrOf result PacketError.KeysDerived
+            × ¬ IsErrOf result PacketError.KeyLength }
     {
         if !self.is_confirmed {
             return Err(PacketError::HandshakeUnconfirmed);
@@ -256,47 +373,125 @@ impl Sender {
         if !self.is_acknowledged {
             return Err(PacketError::PhaseUnacknowledged);
         }
-        self.follow_update(key, iv)
+        Ok(())
     }
 
-    /// Follows a key update of the peer: continues with the next key and its IV, in the other key phase (RFC 9001 section 6.2).
-    /// The header key is unchanged.
+    /// Follows a key update of the peer: continues with the keys of the next secret, in the other key phase (RFC 9001 section
+    /// 6.2). The header key is unchanged.
     ///
-    /// Fails with `KeyLength` if `key` is not as long as the suite's keys. The sender is then unchanged.
-    pub fn follow_update(&mut self, key: &[u8], iv: [u8; NONCE_LEN]) -> Result<(), PacketError>
-        ensures accepted { IsOk result ↔ (length key.now ≡ key_len self.old.key.algorithm) }
-        ensures refused { IsOkUnless result PacketError.KeyLength }
-        ensures updated { OnOk result (self.new ≡ after_update self.old key.now iv) }
+    /// Fails with `NoSecret` if the sender is not made of a secret. The sender is then unchanged.
+    pub fn follow_update(&mut self) -> Result<(), PacketError>
+        ensures accepted { IsOk result ↔ IsSome self.old.secret }
+        ensures refused { IsOkUnless result PacketError.NoSecret }
+        ensures updated { OnOk result (IfSome self.old.secret (λ held. self.new ≡ after_derived_update self.old held)) }
         ensures kept { OnErr result (self.new ≡ self.old) }
     {
-        self.key = PacketKey::new(self.key.algorithm(), key, iv)?;
+        let Some(secret) = &self.secret else {
+            return Err(PacketError::NoSecret);
+        };
+        let next = secret.next_quic();
+        let key = PacketKey::of_secret(&next);
+        self.update(key, Some(next));
+        Ok(())
+    }
+
+    /// Follows a key update of the peer with a packet key and an IV of the caller's, as `follow_update` does with those of the
+    /// next secret.
+    ///
+    /// Fails with `KeysDerived` if the sender is made of a secret, and with `KeyLength` if `key` is not as long as the suite's
+    /// keys. The sender is then unchanged.
+    pub fn follow_update_with(&mut self, key: &[u8], iv: [u8; NONCE_LEN]) -> Result<(), PacketError>
+        ensures accepted { IsOk result
+            ↔ (¬ IsSome self.old.secret × (length key.now ≡ key_len self.old.key.algorithm)) }
+        ensures derived { IsErrOf result PacketError.KeysDerived ↔ IsSome self.old.secret }
+        ensures key_len { IsErrOf result PacketError.KeyLength
+            ↔ (¬ IsSome self.old.secret × (length key.now ≢ key_len self.old.key.algorithm)) }
+        ensures updated { OnOk result (self.new
+            ≡ after_update self.old (record self.old.key { bytes = key.now; iv = iv }) None) }
+        ensures kept { OnErr result (self.new ≡ self.old) }
+    {
+        if self.secret.is_some() {
+            return Err(PacketError::KeysDerived);
+        }
+        let key = PacketKey::new(self.key.algorithm(), key, iv)?;
+        self.update(key, None);
+        Ok(())
+    }
+
+    // Continues with this key, in the other key phase.
+    fn update(&mut self, key: PacketKey, secret: Option<Secret>)
+        ensures { self.new ≡ after_update self.old key secret }
+    {
+        self.key = key;
+        self.secret = secret;
         self.phase = !self.phase;
         self.sealed = 0;
         self.first = self.next;
+        self.first_of_phase = self.next;
         self.is_acknowledged = false;
+    }
+
+    /// Continues with the keys of another secret in the same space of numbers: turns the sender of 0-RTT packets into that of
+    /// 1-RTT packets (RFC 9000 section 12.3), and gives a client the Initial keys that it has after a Retry packet, when its
+    /// Initial packets continue with their numbers (section 17.2.5.3).
+    ///
+    /// The next number, the largest acknowledged one and the limit stay. Everything else is as `from_secret` creates it.
+    ///
+    /// Fails with `NoSecret` if the sender is not made of a secret. The sender is then unchanged.
+    pub fn install_secret(&mut self, secret: Secret) -> Result<(), PacketError>
+        ensures accepted { IsOk result ↔ IsSome self.old.secret }
+        ensures refused { IsOkUnless result PacketError.NoSecret }
+        ensures installed { OnOk result (self.new
+            ≡ with_installed_keys self.old (secret_key secret) (secret_header_key secret) (Some secret)) }
+        ensures kept { OnErr result (self.new ≡ self.old) }
+    {
+        if self.secret.is_none() {
+            return Err(PacketError::NoSecret);
+        }
+        let key = PacketKey::of_secret(&secret);
+        let header_key = HeaderKey::of_secret(&secret);
+        self.install(key, header_key, Some(secret));
         Ok(())
     }
 
-    /// Turns the sender of 0-RTT packets into that of 1-RTT packets: continues with new keys. The numbers continue too (RFC 9000
-    /// section 12.3), and the largest acknowledged one and the limit stay. Everything else is as `new` creates it.
+    /// Continues with keys of the caller's, as `install_secret` does with those of a secret: after 0-RTT packets, and after a
+    /// Retry packet, with the numbers of the Initial packets before it (RFC 9000 section 17.2.5.3).
     ///
-    /// Fails with `KeyLength` if a key is not as long as the suite's. The sender is then unchanged.
-    pub fn install_keys(
-        &mut self,
-        suite: Suite,
-        key: &[u8],
-        iv: [u8; NONCE_LEN],
-        header_key: &[u8],
-    ) -> Result<(), PacketError>
-        ensures accepted { IsOk result ↔ HasKeyLengths suite key.now header_key.now }
-        ensures refused { IsOkUnless result PacketError.KeyLength }
-        ensures installed { OnOk result (self.new ≡ with_installed_keys self.old suite key.now iv header_key.now) }
+    /// Fails with `KeysDerived` if the sender is made of a secret, and with `KeyLength` if a key is not as long as the suite's.
+    /// The sender is then unchanged.
+    pub fn install_keys(&mut self, suite: Suite, keys: Keys<'_>) -> Result<(), PacketError>
+        ensures accepted { IsOk result ↔ (¬ IsSome self.old.secret
+            × HasKeyLengths suite keys.entry.key.now keys.entry.header_key.now) }
+        ensures derived { IsErrOf result PacketError.KeysDerived ↔ IsSome self.old.secret }
+        ensures key_len { IsErrOf result PacketError.KeyLength ↔ (¬ IsSome self.old.secret
+            × ¬ HasKeyLengths suite keys.entry.key.now keys.entry.header_key.now) }
+        ensures installed { OnOk result (self.new
+            ≡ with_installed_keys self.old (packet_key suite keys.entry.key.now keys.entry.iv)
+            (header_key suite keys.entry.header_key.now) None) }
         ensures kept { OnErr result (self.new ≡ self.old) }
     {
-        let mut next = Sender::new(suite, key, iv, header_key, self.next)?;
-        next.largest_acknowledged = self.largest_acknowledged;
-        *self = next.with_limit(self.limit);
+        if self.secret.is_some() {
+            return Err(PacketError::KeysDerived);
+        }
+        let header_key = HeaderKey::new(suite.header_algorithm(), keys.header_key)?;
+        let key = PacketKey::new(suite.algorithm(), keys.key, keys.iv)?;
+        self.install(key, header_key, None);
         Ok(())
+    }
+
+    // Continues with these keys, in the first key phase.
+    fn install(&mut self, key: PacketKey, header_key: HeaderKey, secret: Option<Secret>)
+        ensures { self.new ≡ with_installed_keys self.old key header_key secret }
+    {
+        self.key = key;
+        self.header_key = header_key;
+        self.secret = secret;
+        self.phase = false;
+        self.sealed = 0;
+        self.first = self.next;
+        self.first_of_phase = self.next;
+        self.is_acknowledged = true;
+        self.is_confirmed = false;
     }
 
     /// Sends a packet, and returns its number: writes the number to the range `number`, and its length and the key phase to the
@@ -310,8 +505,9 @@ impl Sender {
     /// Fails with `TooShort` if the packet has fewer than `number.end + 16` bytes; with `TooLong` if it is longer than AES-GCM
     /// allows; with `NumberAtFirstByte` if `number.start` is 0; with `NoSample` if number and payload together have fewer than
     /// 4 bytes; with `NoProtection` for a Version Negotiation or a Retry packet; with `NoFixedBit` if the fixed bit of a short
-    /// header, or of a long one of version 1, is 0 and `fixed_bit` is `Required`; with `KeyUsedUp` if the key has reached its
-    /// limit; with `NumbersEnded` if no number is left; with `NumberTooFar` if 4 bytes cannot encode the number; and with
+    /// header, or of a long one of version 1, is 0 and `fixed_bit` is `Required`; with `EmptyPayload` if it has just
+    /// `number.end + 16` bytes; with `KeyUsedUp` if the key has reached its limit; with `NumbersEnded` if no number is left; with
+    /// `NumberTooFar` if 4 bytes cannot encode the number; and with
     /// `NumberLength` if the room has fewer bytes than that, or more than 4. The packet and the sender are then
     /// unchanged.
     pub fn send(
@@ -336,6 +532,11 @@ impl Sender {
             ↔ (PacketFits number.end (length packet.old) × HasSample number.start (length packet.old)
             × IsFalse (lacks_protection packet.old)
             × IsTrue (lacks_fixed_bit fixed_bit (header_version packet.old) (slice_index packet.old 0))) }
+        ensures empty { IsErrOf result PacketError.EmptyPayload
+            ↔ (PacketFits number.end (length packet.old) × HasSample number.start (length packet.old)
+            × IsFalse (lacks_protection packet.old)
+            × IsFalse (lacks_fixed_bit fixed_bit (header_version packet.old) (slice_index packet.old 0))
+            × (length packet.old ≡ number.end + 16)) }
         ensures used_up { IsErrOf result PacketError.KeyUsedUp
             ↔ (IsSealable fixed_bit number.start number.end packet.old × (self.old.limit ≤ self.old.sealed)) }
         ensures ended { IsErrOf result PacketError.NumbersEnded
@@ -384,7 +585,7 @@ impl Sender {
             × ¬ IsRoom self.now.next self.now.largest number_at header_len) }
         ensures others { ¬ IsErrOf result PacketError.TooShort × ¬ IsErrOf result PacketError.TooLong
             × ¬ IsErrOf result PacketError.NumberAtFirstByte × ¬ IsErrOf result PacketError.NoSample
-            × ¬ IsErrOf result PacketError.NoProtection }
+            × ¬ IsErrOf result PacketError.NoProtection × ¬ IsErrOf result PacketError.EmptyPayload }
         ensures bound { OnOk result (header_len ≤ number_at + 4) }
     {
         if self.sealed >= self.limit {
@@ -428,10 +629,15 @@ fn check_packet(
         ↔ (PacketFits header_len (length packet.now) × HasSample number_at (length packet.now)
         × IsFalse (lacks_protection packet.now)
         × IsTrue (lacks_fixed_bit fixed_bit (header_version packet.now) (slice_index packet.now 0))) }
+    ensures empty { IsErrOf result PacketError.EmptyPayload
+        ↔ (PacketFits header_len (length packet.now) × HasSample number_at (length packet.now)
+        × IsFalse (lacks_protection packet.now)
+        × IsFalse (lacks_fixed_bit fixed_bit (header_version packet.now) (slice_index packet.now 0))
+        × (length packet.now ≡ header_len + 16)) }
     ensures others { ¬ IsErrOf result PacketError.KeyUsedUp × ¬ IsErrOf result PacketError.NumbersEnded
         × ¬ IsErrOf result PacketError.NumberTooFar × ¬ IsErrOf result PacketError.NumberLength }
 {
-    payload_len(packet, header_len)?;
+    let payload_len = payload_len(packet, header_len)?;
     if number_at == 0 {
         return Err(PacketError::NumberAtFirstByte);
     }
@@ -443,6 +649,9 @@ fn check_packet(
     }
     if fixed_bit.is_lacking(header_version(packet), packet[0]) {
         return Err(PacketError::NoFixedBit);
+    }
+    if payload_len == 0 {
+        return Err(PacketError::EmptyPayload);
     }
     Ok(())
 }

@@ -1,9 +1,10 @@
 //! The algorithms for payloads and headers (RFC 9001 sections 5.3 and 5.4.3).
 
 ghost use Rattle.std.specs.Prelude.{◌≡◌};
-ghost use Rattle.quic_packets.specs.Suite.{algorithm, header_algorithm};
+ghost use Rattle.quic_packets.specs.Suite.{algorithm, header_algorithm, suite_of};
 
 use aead_ciphers::aead::{AES_128_GCM, AES_256_GCM, Algorithm, quic};
+use key_derivation::{Secret, Suite as SecretSuite};
 
 /// An algorithm for payloads, and the matching one for headers.
 #[derive(Clone, Copy, PartialEq, Eq, Debug)]
@@ -15,6 +16,16 @@ pub enum Suite {
 }
 
 impl Suite {
+    /// The suite of the keys that a secret gives.
+    pub(crate) fn of_secret(secret: &Secret) -> Self
+        ensures { result ≡ suite_of secret.now.suite }
+    {
+        match secret.suite() {
+            SecretSuite::Aes128Gcm => Suite::Aes128Gcm,
+            SecretSuite::Aes256Gcm => Suite::Aes256Gcm,
+        }
+    }
+
     /// Returns the algorithm for payloads.
     pub fn algorithm(self) -> &'static Algorithm
         ensures { result.now ≡ algorithm self }

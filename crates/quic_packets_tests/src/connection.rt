@@ -1,15 +1,14 @@
 //! Tests of the callers in `examples`: datagrams of two packets, and a client's first packet.
 
-use crate::checks::{equal, same};
 use aead_vectors::rfc_9001::{A_2_PACKET, Packet};
+use crate::checks::{equal, same};
 use examples::first_initial::first_packet;
 use examples::initial_keys::client_initial_keys;
-use examples::quic_connection::{self, Connection, Level, NextKey};
-use quic_packets::{Failures, FixedBit, PacketError, Receiver, Sender, Space, Suite};
+use examples::quic_connection::{self, Connection, Level, NextKey, one_rtt, update_keys};
+use key_derivation::Secret;
+use quic_packets::{Failures, FixedBit, PacketError, Receiver, Sender, Space, Suite, packet_at};
 use std::process::Abort;
 use std::test::Fail;
-
-const IV: [u8; 12] = [2; 12];
 
 /// The connection ID chosen by the receiver.
 const ID: [u8; 8] = [4; 8];
@@ -17,29 +16,30 @@ const ID: [u8; 8] = [4; 8];
 /// The header of a Handshake packet of 40 bytes, up to its number of four bytes.
 const HANDSHAKE: [u8; 16] = [0xe0, 0, 0, 0, 1, 8, 4, 4, 4, 4, 4, 4, 4, 4, 0, 24];
 
-fn sender() -> Result<Sender, PacketError> {
-    Sender::new(Suite::Aes256Gcm, &[1; 32], IV, &[3; 32], 7)
+/// The secret of both directions.
+fn secret() -> Secret {
+    Secret::aes_256_gcm([1; 48])
 }
 
-fn level() -> Result<Level, PacketError> {
-    Ok(Level {
-        receiver: Receiver::new(Suite::Aes256Gcm, &[1; 32], IV, &[3; 32])?,
-        space: Space::<2>::new(),
-    })
+fn sender() -> Result<Sender, PacketError> {
+    Sender::from_secret(secret(), 7)
+}
+
+fn level() -> Level {
+    Level {
+        receiver: Receiver::from_secret(secret()),
+        space: Space::new(),
+    }
 }
 
 /// Creates a connection without Initial keys.
 fn connection(max_failures: u64) -> Result<Connection, PacketError> {
     Ok(Connection {
         initial: None,
-        handshake: Some(level()?),
-        one_rtt: Some(level()?),
+        handshake: Some(level()),
+        one_rtt: Some(level()),
         failures: Failures::new().with_limit(max_failures),
         sender: sender()?,
-        next: NextKey {
-            key: [1; 16],
-            iv: IV,
-        },
     })
 }
 
@@ -122,5 +122,30 @@ fn first_initial(rt: HostRuntime) -> Result<(), Fail> {
     assert!(rt; row.frames.len() <= 1162);
     let packet = first_packet(&CLIENT_ID, row.number, &row.frames)?;
     same(&rt, &packet, &row.protected, row.name);
+    Ok(())
+}
+
+// A key update of the peer is answered under the next keys.
+#[test]
+fn key_update(rt: HostRuntime) -> Result<(), Fail> {
+    let (mut peer, mut answers) = one_rtt(secret(), secret())?;
+    peer.confirm_handshake();
+    update_keys(&mut peer, &mut answers)?;
+    let mut connection = connection(1)?;
+    if let Some(level) = &mut connection.one_rtt {
+        level.receiver.set_next()?;
+    }
+    let mut datagram = [4; 40];
+    datagram[0] = 0x40;
+    quic_connection::send(&mut peer, &mut datagram)?;
+    let found = quic_connection::receive(&mut connection, &mut datagram, 40, &ID);
+    equal(&rt, &found, &Ok(true));
+    equal(&rt, &connection.sender.phase(), &true);
+    let mut answer = [4; 40];
+    answer[0] = 0x40;
+    quic_connection::send(&mut connection.sender, &mut answer)?;
+    let parts = packet_at(&answer, 0, ID.len(), FixedBit::Required)?;
+    let received = answers.receive(&mut Space::<2>::new(), &mut Failures::new(), &mut answer, &parts)?;
+    equal(&rt, &(received.number, received.phase), &(7, true));
     Ok(())
 }

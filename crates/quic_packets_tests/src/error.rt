@@ -1,13 +1,25 @@
-//! What the errors print.
+//! What the errors print, and the codes that close a connection.
 
 use crate::checks::displays;
 use quic_packets::{DatagramError, HeaderError, PacketError, RetryError};
 use std::test::Fail;
+use crate::checks::{displays, equal};
 
-const PACKET_ERRORS: [(PacketError, &str); 23] = [
+const PACKET_ERRORS: [(PacketError, &str); 28] = [
     (
         PacketError::KeyLength,
         "the key does not have the length of the algorithm's keys",
+    ),
+    (PacketError::KeysDerived, "the keys derive from a secret"),
+    (
+        PacketError::NoSecret,
+        "there is no secret from which keys derive",
+    ),
+    (PacketError::EmptyPayload, "the packet has no payload"),
+    (PacketError::NoFrames, "the packet has no frames"),
+    (
+        PacketError::UpdateUnanswered,
+        "a packet of the current keys was acknowledged under older keys",
     ),
     (
         PacketError::NumberAtFirstByte,
@@ -136,6 +148,34 @@ const RETRY_ERRORS: [(RetryError, &str); 2] = [
 fn packet_errors(rt: HostRuntime) -> Result<(), Fail> {
     for (error, text) in &PACKET_ERRORS {
         displays(&rt, error, text)?;
+    }
+    Ok(())
+}
+
+/// The errors that close a connection, with the codes of RFC 9000 section 20.1 and RFC 9001 section 6.6. All others have none.
+const CODES: [(PacketError, u64); 6] = [
+    (PacketError::NeverSent, 0x0a),
+    (PacketError::ReservedBits, 0x0a),
+    (PacketError::NoFrames, 0x0a),
+    (PacketError::KeyUpdate, 0x0e),
+    (PacketError::UpdateUnanswered, 0x0e),
+    (PacketError::TooManyFailures, 0x0f),
+];
+
+/// Returns the error's code by the table.
+fn code(error: PacketError) -> Option<u64> {
+    for (closing, code) in CODES {
+        if closing == error {
+            return Some(code);
+        }
+    }
+    None
+}
+
+#[test]
+fn codes(rt: HostRuntime) -> Result<(), Fail> {
+    for (error, _) in &PACKET_ERRORS {
+        equal(&rt, &error.code(), &code(*error));
     }
     Ok(())
 }

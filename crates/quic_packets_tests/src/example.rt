@@ -1,17 +1,13 @@
 //! The example in README.md of `quic_packets`: one end of a connection sends a packet, and the other end receives it.
 
 use crate::checks::same;
+use key_derivation::Secret;
 use quic_packets::{Failures, FixedBit, PacketError, Receiver, Sender, Space, Suite, packet_at};
 use std::alloc::Global;
 use std::test::Fail;
 
-/// The key of one direction, which both ends have, like the IV and the header key. TLS derives them from a secret with HKDF
-/// (RFC 9001 section 5.1).
-const KEY: [u8; 16] = [1; 16];
-
-const IV: [u8; 12] = [2; 12];
-
-const HEADER_KEY: [u8; 16] = [3; 16];
+/// The secret of one direction, which both ends have from TLS (RFC 9001 section 5.1).
+const SECRET: [u8; 32] = [1; 32];
 
 /// The connection ID chosen by the receiver.
 const CONNECTION_ID: [u8; 8] = [4; 8];
@@ -31,10 +27,10 @@ fn send(alloc: Global, sender: &mut Sender, payload: &[u8]) -> Result<Vec<u8>, F
 
 #[test]
 fn one_packet(rt: HostRuntime) -> Result<(), Fail> {
-    let mut sender = Sender::new(Suite::Aes128Gcm, &KEY, IV, &HEADER_KEY, 0)?;
+    let mut sender = Sender::from_secret(Secret::aes_128_gcm(SECRET), 0)?;
     let mut datagram = send(rt.alloc(), &mut sender, b"hello")?;
 
-    let mut receiver = Receiver::new(Suite::Aes128Gcm, &KEY, IV, &HEADER_KEY)?;
+    let mut receiver = Receiver::from_secret(Secret::aes_128_gcm(SECRET));
     let mut space = Space::<2>::new();
     let mut failures = Failures::new();
     let parts = packet_at(&datagram, 0, CONNECTION_ID.len(), FixedBit::Required)?;

@@ -25,4 +25,6 @@ mod retry;
 #[cfg(test)]
 mod rows;
 #[cfg(test)]
+mod secrets;
+#[cfg(test)]
 mod sender;

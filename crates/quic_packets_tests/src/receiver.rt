@@ -6,8 +6,8 @@ use crate::rows::{IV as ROW_IV, ROWS, Row};
 use aead_ciphers::aead::{AES_128_GCM, quic};
 use aead_vectors::rfc_9001::{PACKETS, Packet};
 use quic_packets::{
-    Failures, HeaderKey, Packet as Parts, PacketError, PacketKey, PacketType, Received, Receiver,
-    Space, Suite,
+    Failures, HeaderKey, Keys, Packet as Parts, PacketError, PacketKey, PacketType, Received,
+    Receiver, Space, Suite,
 };
 use std::alloc::Global;
 use std::process::Abort;
@@ -34,9 +34,18 @@ fn sent(key: u8, first: u8, number: u16) -> Result<[u8; 40], PacketError> {
     Ok(packet)
 }
 
+/// The keys of a packet key.
+fn keys(key: &[u8]) -> Keys<'_> {
+    Keys {
+        key,
+        iv: IV,
+        header_key: &HEADER_KEY,
+    }
+}
+
 /// Creates a receiver with a key whose bytes are all `key`.
 fn receiver(key: u8) -> Result<Receiver, PacketError> {
-    Receiver::new(Suite::Aes128Gcm, &[key; 16], IV, &HEADER_KEY)
+    Receiver::new(Suite::Aes128Gcm, keys(&[key; 16]))
 }
 
 /// A receiving end, with the state that its packets share.
@@ -111,7 +120,7 @@ impl End {
             Rejected(key, first, number, error) => {
                 equal(rt, &self.takes(key, first, number), &Err(error));
             }
-            NextKey(key) => self.receiver.set_next(&[key; 16], IV)?,
+            NextKey(key) => self.receiver.set_next_with(&[key; 16], IV)?,
             ForgetPrevious => self.receiver.forget_previous(),
             OtherKey(key) => self.receiver = receiver(key)?,
         }
@@ -131,7 +140,12 @@ fn happen(rt: &impl Abort, limit: u64, events: &[Event], failures: u64) -> Resul
 
 /// Asserts that a packet of RFC 9001 appendix A is received with its header and the length of its payload.
 fn receives(rt: &impl Abort, row: &Packet) -> Result<(), Fail> {
-    let receiver = Receiver::new(Suite::Aes128Gcm, &row.key, row.iv, &row.header_key)?;
+    let keys = Keys {
+        key: &row.key,
+        iv: row.iv,
+        header_key: &row.header_key,
+    };
+    let receiver = Receiver::new(Suite::Aes128Gcm, keys)?;
     let mut packet = row.protected.clone()?;
     let received = End::new(receiver, 1).receive(&mut packet, row.number_at)?;
     let wanted = Received {
@@ -154,8 +168,8 @@ fn appendix_a(rt: HostRuntime) -> Result<(), Fail> {
 
 /// Creates the end that receives a row's packet, in either key phase.
 fn row_end(row: &Row) -> Result<End, PacketError> {
-    let mut receiver = Receiver::new(row.suite, row.key(), ROW_IV, row.header_key())?;
-    receiver.set_next(row.key(), ROW_IV)?;
+    let mut receiver = Receiver::new(row.suite, row.keys())?;
+    receiver.set_next_with(row.key(), ROW_IV)?;
     Ok(End::new(receiver, 10_000))
 }
 
@@ -238,6 +252,38 @@ const PHASES: [Event; 13] = [
     Rejected(2, SECOND, 2, PacketError::Refused),
 ];
 
+/// Packets under earlier keys than those of a lower number: under the next, the current and the previous keys, also once the
+/// previous key is forgotten, and after late packets of theirs.
+const EARLIER_KEYS: [Event; 18] = [
+    Accepted(1, FIRST, 10),
+    NextKey(2),
+    Rejected(2, SECOND, 9, PacketError::KeyUpdate),
+    Accepted(2, SECOND, 20),
+    Rejected(2, SECOND, 9, PacketError::KeyUpdate),
+    Accepted(2, SECOND, 19),
+    Accepted(1, FIRST, 8),
+    Accepted(2, SECOND, 11),
+    Accepted(1, FIRST, 9),
+    Rejected(1, FIRST, 10, PacketError::Duplicate),
+    Accepted(2, SECOND, 14),
+    NextKey(3),
+    Accepted(3, FIRST, 30),
+    Rejected(2, SECOND, 7, PacketError::KeyUpdate),
+    Accepted(2, SECOND, 25),
+    ForgetPrevious,
+    Rejected(3, FIRST, 24, PacketError::KeyUpdate),
+    Accepted(3, FIRST, 26),
+];
+
+/// A late packet of the previous key raises its highest number.
+const LATE_PACKETS: [Event; 5] = [
+    NextKey(2),
+    Accepted(2, SECOND, 20),
+    Accepted(1, FIRST, 15),
+    Rejected(2, SECOND, 14, PacketError::KeyUpdate),
+    Accepted(2, SECOND, 16),
+];
+
 /// Once the limit of 2 failures is reached, every packet is rejected and none is counted.
 const FAILURES: [Event; 4] = [
     Rejected(2, FIRST, 0, PacketError::Refused),
@@ -265,6 +311,8 @@ const RESERVED_BITS: [Event; 3] = [
 fn events(rt: HostRuntime) -> Result<(), Fail> {
     happen(&rt, 9, &EACH_NUMBER_ONCE, 0)?;
     happen(&rt, 9, &PHASES, 3)?;
+    happen(&rt, 9, &EARLIER_KEYS, 0)?;
+    happen(&rt, 9, &LATE_PACKETS, 0)?;
     happen(&rt, 2, &FAILURES, 2)?;
     happen(&rt, 9, &ONE_SPACE, 0)?;
     happen(&rt, 9, &RESERVED_BITS, 0)
@@ -277,6 +325,25 @@ fn reserved_bits(rt: HostRuntime) -> Result<(), Fail> {
     let outcome = End::new(receiver(1)?, 1).receive(&mut packet, 9);
     equal(&rt, &outcome, &Err(PacketError::ReservedBits));
     same(&rt, &packet[11..24], &[7; 13], "opened");
+    Ok(())
+}
+
+// An authentic packet without a payload: a number of four bytes, and the tag.
+#[test]
+fn no_frames(rt: HostRuntime) -> Result<(), Fail> {
+    let mut packet = [0; 29];
+    packet[0] = 0x43;
+    packet[12] = 5;
+    PacketKey::new(&AES_128_GCM, &[1; 16], IV)?.seal(5, &mut packet, 13)?;
+    HeaderKey::new(&quic::AES_128, &HEADER_KEY)?.protect(&mut packet, 9)?;
+    let mut end = End::new(receiver(1)?, 1);
+    let came = packet;
+    for _ in 0..2 {
+        packet = came;
+        let outcome = end.receive(&mut packet, 9);
+        equal(&rt, &outcome, &Err(PacketError::NoFrames));
+    }
+    equal(&rt, &end.failures.count(), &0);
     Ok(())
 }
 
@@ -337,8 +404,9 @@ fn parts(rt: HostRuntime) -> Result<(), Fail> {
 // A key of the wrong length, and a key of the wrong length for the next phase.
 #[test]
 fn key_lengths(rt: HostRuntime) -> Result<(), Fail> {
-    assert!(rt; Receiver::new(Suite::Aes256Gcm, &[1; 16], IV, &[1; 32]).is_err());
-    let outcome = receiver(1)?.set_next(&[1; 32], IV);
+    assert!(rt; Receiver::new(Suite::Aes256Gcm, keys(&[1; 32])).is_err());
+    assert!(rt; Receiver::new(Suite::Aes128Gcm, keys(&[1; 32])).is_err());
+    let outcome = receiver(1)?.set_next_with(&[1; 32], IV);
     equal(&rt, &outcome, &Err(PacketError::KeyLength));
     Ok(())
 }

@@ -1,6 +1,6 @@
 //! QUIC packets printed by `tools/quic-packets`.
 
-use quic_packets::Suite;
+use quic_packets::{Keys, Suite};
 
 /// The key. A suite uses a prefix as long as its keys.
 pub(crate) const KEY: [u8; 32] = [
@@ -34,6 +34,15 @@ pub(crate) struct Row {
 }
 
 impl Row {
+    /// Returns the keys of the suite's lengths.
+    pub(crate) fn keys(&self) -> Keys<'static> {
+        Keys {
+            key: self.key(),
+            iv: IV,
+            header_key: self.header_key(),
+        }
+    }
+
     /// Returns the key of the suite's length.
     pub(crate) fn key(&self) -> &'static [u8] {
         match self.suite {
@@ -115,7 +124,23 @@ pub(crate) const ROWS: [Row; 6] = [
         acknowledged: Some((1 << 62) - 0x0080_0001),
         phase: false,
         header: "638394c8f03e515708ffffffff",
-        payload: "",
-        protected: "6e8394c8f03e515708fd5160a5abb8eba43408356b33959805b710c718",
+        payload: "00",
+        protected: "7f8394c8f03e515708ef1fe8d640a659e6183ab420552cde176b9fcacaf5",
     },
+];
+
+/// The packets of a secret of bytes 0, 1, .. in hex, one after each key update: the numbers 0 to 3 in one byte after the first
+/// byte, and a payload of six zeros.
+pub(crate) const UPDATED_AES_128: [&str; 4] = [
+    "4dde8a89b37534bcd0882006f0297b66723b054fa0f1d66e",
+    "51f43ec4d3e8488df2ae539e98903e2efd17b00357aaa825",
+    "53783e1cdcf1ed574d90c0d27219fb21a8420e5373dbc217",
+    "446fc95f4c6f34da1e9861c75a527557bf194177f323bd2b",
+];
+
+pub(crate) const UPDATED_AES_256: [&str; 4] = [
+    "492345c706c780ad4e1a2ce612dbd26cea2dc6924be224ce",
+    "4f5b4f8e05645a58c6b7599092df50e6eee5448512834790",
+    "49183aee17f4f0f99c8a899923c7735a3ee8fef4f4b07866",
+    "504fed104ff849aefff8f5161b310c0d62a37bf06829be62",
 ];

@@ -4,7 +4,7 @@ use crate::checks::{equal, holds, same};
 use crate::keys::plain;
 use crate::rows::{HEADER_KEY, IV, KEY, ROWS, Row};
 use aead_vectors::rfc_9001::{PACKETS, Packet};
-use quic_packets::{FixedBit, HeaderKey, PacketError, PacketKey, Sender, Suite};
+use quic_packets::{FixedBit, HeaderKey, PacketError, PacketKey, Sender, Suite, Keys};
 use std::alloc::Global;
 use std::ops::Range;
 use std::process::Abort;
@@ -25,12 +25,12 @@ fn before(rt: &impl Abort, alloc: Global, row: &Row) -> Result<Vec<u8>, Fail> {
 
 /// Creates the sender of the row's packet.
 fn sender_of(row: &Row) -> Result<Sender, PacketError> {
-    let mut sender = Sender::new(row.suite, row.key(), IV, row.header_key(), row.number)?;
+    let mut sender = Sender::new(row.suite, row.keys(), row.number)?;
     if let Some(number) = row.acknowledged {
         sender.acknowledged(number)?;
     }
     if row.phase {
-        sender.follow_update(row.key(), IV)?;
+        sender.follow_update_with(row.key(), IV)?;
     }
     Ok(sender)
 }
@@ -67,13 +67,12 @@ fn packets_of_another_implementation(rt: HostRuntime) -> Result<(), Fail> {
 fn appendix_a(rt: HostRuntime) -> Result<(), Fail> {
     for line in PACKETS {
         let row = Packet::parse(rt.alloc(), line)?;
-        let mut sender = Sender::new(
-            Suite::Aes128Gcm,
-            &row.key,
-            row.iv,
-            &row.header_key,
-            row.number,
-        )?;
+        let keys = Keys {
+            key: &row.key,
+            iv: row.iv,
+            header_key: &row.header_key,
+        };
+        let mut sender = Sender::new(Suite::Aes128Gcm, keys, row.number)?;
         let mut packet = plain(&row)?;
         packet.extend_from_slice(&[0; 16])?;
         sender.send(&mut packet, row.number_at..row.header.len(), FixedBit::Required)?;
@@ -89,7 +88,12 @@ const SHORT: [u8; 24] = [
 
 /// Creates a sender with a key of ones, whose first packet has the number `first`.
 fn sender(first: u64) -> Result<Sender, PacketError> {
-    Sender::new(Suite::Aes128Gcm, &[1; 16], IV, &HEADER_KEY[..16], first)
+    let keys = Keys {
+        key: &[1; 16],
+        iv: IV,
+        header_key: &HEADER_KEY[..16],
+    };
+    Sender::new(Suite::Aes128Gcm, keys, first)
 }
 
 /// Returns a packet with this first byte and version.
@@ -119,7 +123,7 @@ fn refuses(
 }
 
 /// A first byte and a version, the start and end of the room for the packet number, and the error.
-const REFUSALS: [(u8, u8, usize, usize, PacketError); 9] = [
+const REFUSALS: [(u8, u8, usize, usize, PacketError); 10] = [
     (0x40, 0, 8, 9, PacketError::TooShort),
     (0x40, 0, 0, 1, PacketError::NumberAtFirstByte),
     (0x40, 0, 5, 6, PacketError::NoSample),
@@ -129,6 +133,7 @@ const REFUSALS: [(u8, u8, usize, usize, PacketError); 9] = [
     (0xc0, 0, 1, 2, PacketError::NoProtection),
     (0x00, 0, 1, 2, PacketError::NoFixedBit),
     (0xa0, 1, 4, 5, PacketError::NoFixedBit),
+    (0x40, 0, 4, 8, PacketError::EmptyPayload),
 ];
 
 #[test]
@@ -195,12 +200,19 @@ enum Event {
     Acknowledged(u64),
     /// The peer acknowledges a number that is not below the next one.
     NeverSent(u64),
+    /// The peer acknowledges a number in a packet with this key phase.
+    AcknowledgedIn(u64, bool, Result<(), PacketError>),
+    /// The first number of the phase, and how many packets can still be sent.
+    Stands(u64, u64),
     /// Initiates an update to a key of this byte and length.
     Initiated(u8, usize, Result<(), PacketError>),
     Followed(u8, usize, Result<(), PacketError>),
 }
 
-use Event::{Acknowledged, Confirmed, Followed, Initiated, NeverSent, Refused, Sent, Skipped};
+use Event::{
+    Acknowledged, AcknowledgedIn, Confirmed, Followed, Initiated, NeverSent, Refused, Sent,
+    Skipped, Stands,
+};
 
 /// Asserts that the packet opens with this key, and has this number and key phase.
 fn opens(
@@ -242,17 +254,24 @@ fn meets(rt: &impl Abort, sender: &mut Sender, event: Event) -> Result<(), Packe
             let outcome = sender.acknowledged(number);
             equal(rt, &outcome, &Err(PacketError::NeverSent));
         }
+        AcknowledgedIn(number, phase, outcome) => {
+            equal(rt, &sender.acknowledged_in(number, phase), &outcome);
+        }
+        Stands(first, remaining) => {
+            let found = (sender.first_of_phase(), sender.remaining());
+            equal(rt, &found, &(first, remaining));
+        }
         Initiated(key, len, outcome) => {
             equal(
                 rt,
-                &sender.initiate_update(&[key; 32][..len.min(32)], IV),
+                &sender.initiate_update_with(&[key; 32][..len.min(32)], IV),
                 &outcome,
             );
         }
         Followed(key, len, outcome) => {
             equal(
                 rt,
-                &sender.follow_update(&[key; 32][..len.min(32)], IV),
+                &sender.follow_update_with(&[key; 32][..len.min(32)], IV),
                 &outcome,
             );
         }
@@ -335,6 +354,38 @@ fn skips_and_updates(rt: HostRuntime) -> Result<(), Fail> {
     Ok(())
 }
 
+/// Acknowledgments that come under the keys of each phase: under older keys, only a number of an earlier phase is acknowledged. A
+/// skip leaves the first number of the phase.
+const OLDER_KEYS: [Event; 17] = [
+    Stands(0, 9),
+    Sent(1, false),
+    AcknowledgedIn(0, false, Ok(())),
+    AcknowledgedIn(1, true, Err(PacketError::NeverSent)),
+    Confirmed,
+    Initiated(2, 16, Ok(())),
+    Stands(1, 9),
+    Sent(2, true),
+    Skipped(5),
+    Sent(2, true),
+    Stands(1, 7),
+    AcknowledgedIn(0, false, Ok(())),
+    AcknowledgedIn(1, false, Err(PacketError::UpdateUnanswered)),
+    AcknowledgedIn(5, false, Err(PacketError::UpdateUnanswered)),
+    AcknowledgedIn(6, false, Err(PacketError::NeverSent)),
+    Initiated(3, 16, Err(PacketError::PhaseUnacknowledged)),
+    AcknowledgedIn(5, true, Ok(())),
+];
+
+#[test]
+fn older_keys(rt: HostRuntime) -> Result<(), Fail> {
+    let mut first = sender(0)?.with_limit(9);
+    for event in OLDER_KEYS {
+        meets(&rt, &mut first, event)?;
+    }
+    meets(&rt, &mut sender((1 << 62) - 3)?, Stands((1 << 62) - 3, 3))?;
+    Ok(())
+}
+
 // Acknowledgments keep the numbers of a sender short. The largest one counts, over key updates and installed keys.
 #[test]
 fn short_numbers(rt: HostRuntime) -> Result<(), Fail> {
@@ -343,7 +394,7 @@ fn short_numbers(rt: HostRuntime) -> Result<(), Fail> {
     sender.acknowledged((1 << 40) - 1)?;
     sender.acknowledged(5)?;
     sender.send(&mut packet(0x40, 0), 1..2, FixedBit::Required)?;
-    sender.follow_update(&[2; 16], IV)?;
+    sender.follow_update_with(&[2; 16], IV)?;
     sender.send(&mut packet(0x40, 0), 1..2, FixedBit::Required)?;
     install_keys(&mut sender, 32)?;
     equal(&rt, &sender.next_number_len(), &Some(1));
@@ -353,12 +404,12 @@ fn short_numbers(rt: HostRuntime) -> Result<(), Fail> {
 
 /// Turns a sender of 0-RTT packets into one of 1-RTT packets.
 fn install_keys(sender: &mut Sender, header_key_len: usize) -> Result<(), PacketError> {
-    sender.install_keys(
-        Suite::Aes256Gcm,
-        &[5; 32],
-        IV,
-        &HEADER_KEY[..header_key_len.min(32)],
-    )
+    let keys = Keys {
+        key: &[5; 32],
+        iv: IV,
+        header_key: &HEADER_KEY[..header_key_len.min(32)],
+    };
+    sender.install_keys(Suite::Aes256Gcm, keys)
 }
 
 // A refused key leaves those of 0-RTT. The numbers and the limit of 0-RTT continue under the 1-RTT keys.
