@@ -6,8 +6,8 @@ use crate::rows::{IV as ROW_IV, ROWS, Row};
 use aead_ciphers::aead::{AES_128_GCM, quic};
 use aead_vectors::rfc_9001::{PACKETS, Packet};
 use quic_packets::{
-    Failures, HeaderKey, Keys, Packet as Parts, PacketError, PacketKey, PacketType, Received,
-    Receiver, Space, Suite,
+    Failures, FixedBit, HeaderKey, Keys, Packet as Parts, PacketError, PacketKey, PacketType, Received, Receiver,
+    Space, Suite, packet_at,
 };
 use std::alloc::Global;
 use std::process::Abort;
@@ -52,7 +52,7 @@ fn receiver(key: u8) -> Result<Receiver, PacketError> {
 #[derive(Drop)]
 struct End {
     receiver: Receiver,
-    space: Space,
+    space: Space<2>,
     failures: Failures,
 }
 
@@ -316,6 +316,37 @@ fn events(rt: HostRuntime) -> Result<(), Fail> {
     happen(&rt, 2, &FAILURES, 2)?;
     happen(&rt, 9, &ONE_SPACE, 0)?;
     happen(&rt, 9, &RESERVED_BITS, 0)
+}
+
+/// Numbers, and whether each is received in a window of 64 words. The last two that aren't are a duplicate, and one that is 4096
+/// below the largest.
+const IN_64_WORDS: [(u16, bool); 10] = [
+    (0, true),
+    (4095, true),
+    (0, false),
+    (4096, true),
+    (0, false),
+    (1, true),
+    (4160, true),
+    (65, true),
+    (65, false),
+    (64, false),
+];
+
+#[test]
+fn window_of_64_words(rt: HostRuntime) -> Result<(), Fail> {
+    let mut receiver = receiver(1)?;
+    let mut space = Space::<64>::new();
+    let mut failures = Failures::new();
+    for (number, is_new) in IN_64_WORDS {
+        let mut packet = sent(1, FIRST, number)?;
+        let parts = packet_at(&packet, 0, 8, FixedBit::Required)?;
+        let outcome = receiver.receive(&mut space, &mut failures, &mut packet, &parts);
+        let is_duplicate = outcome == Err(PacketError::Duplicate);
+        holds(&rt, outcome.is_ok() == is_new, "received");
+        holds(&rt, is_duplicate != is_new, "a duplicate");
+    }
+    Ok(())
 }
 
 // An authentic packet with reserved bits set is rejected with that error, and its payload is then decrypted.
