@@ -1,12 +1,11 @@
 -- A sender and a receiver that are made of one secret hold the keys of the same secret after as many key updates.
-use Rattle.std.proofs.Common.{◌≡◌, ℕ, zero, suc, ◌+◌, is_some, Option, None, Some, refl, sym, ap, ◌∙◌, add-one}
-use Rattle.aead_ciphers.specs.HeaderProtection.{HeaderKey}
+use Rattle.std.proofs.Common.{◌≡◌, ℕ, ◌+◌, is_some, Option, None, Some, refl, sym, ap, ◌∙◌, add-one}
 use Rattle.key_derivation.specs.Quic.{next_quic_secret}
 use Rattle.key_derivation.specs.Secret.{SecretState}
 use Rattle.quic_packets.specs.Keys.{PacketKey, secret_header_key, secret_key}
-use Rattle.quic_packets.specs.Receiving.{Receiver, updated, with_next}
+use Rattle.quic_packets.specs.Receiving.{Receiver, with_next}
 use Rattle.quic_packets.specs.Secrets.{ReceiverOf, SenderOf, begins, others, secret_after, takes_next, updates}
-use Rattle.quic_packets.specs.Sending.{Sender, after_derived_update}
+use Rattle.quic_packets.specs.Sending.{Sender}
 
 -- the secret that is held after n updates, and the one after it
 held_is : (secret held : SecretState) (n : ℕ) (o : Option SecretState) → o ≡ Some held → o ≡ Some (secret_after secret n)

@@ -1,5 +1,5 @@
 -- Receiving packets: the keys of two phases (RFC 9001 section 6), and the outcome of a packet.
-use Rattle.std.specs.Prelude.{◌≡◌, ◌≢◌, ℕ, ◌+◌, ◌-◌, ◌<◌, ◌≤◌, ◌==◌, ◌↔◌, if◌then◌else◌, min, max, Bool, true, false, not, nat_lt, IsTrue, List, length, slice_index, slice_range, bit_and, Option, None, Some, IsSome, is_some, unwrap_or, Result, IsOk, IfOk, IsErrOf, OnOk}
+use Rattle.std.specs.Prelude.{◌≡◌, ◌≢◌, ℕ, ◌+◌, ◌-◌, ◌<◌, ◌≤◌, ◌==◌, ◌↔◌, if◌then◌else◌, min, max, Bool, true, false, not, nat_lt, List, length, slice_index, slice_range, bit_and, Option, None, Some, IsSome, is_some, unwrap_or, Result, IsOk, IfOk, IsErrOf, OnOk}
 use Rattle.std.specs.Int.Digits.{number_from_digits}
 use Rattle.aead_ciphers.specs.Counting.{xored_nonce}
 use Rattle.aead_ciphers.specs.HeaderProtection.{HeaderKey}

@@ -1,5 +1,5 @@
 -- Keys from a secret over key updates (RFC 9001 sections 5.1 and 6.1).
-use Rattle.std.specs.Prelude.{◌≡◌, ℕ, zero, suc, ◌+◌, Option, None, Some}
+use Rattle.std.specs.Prelude.{◌≡◌, ℕ, zero, suc, ◌+◌, Some}
 use Rattle.key_derivation.specs.Quic.{next_quic_secret}
 use Rattle.key_derivation.specs.Secret.{SecretState}
 use Rattle.quic_packets.specs.Keys.{PacketKey, secret_header_key, secret_key}

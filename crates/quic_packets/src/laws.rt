@@ -1,14 +1,14 @@
 //! Laws of the definitions: functions without a body, each of whose contracts states a law for its arguments.
 
-ghost use Rattle.std.specs.Prelude.{◌≡◌, ◌≢◌, ℕ, ◌+◌, ◌*◌, ◌%◌, ◌^◌, ◌<◌, ◌≤◌, List, ◌++◌, length, slice_index, flat_map, All, AllPairs, Contains, IsFalse, IsTrue, Result, Some};
+ghost use Rattle.std.specs.Prelude.{◌≡◌, ◌≢◌, ℕ, ◌+◌, ◌*◌, ◌%◌, ◌^◌, ◌<◌, ◌≤◌, List, ◌++◌, length, slice_index, flat_map, All, AllPairs, Contains, IsFalse, IsTrue, Result, Some, ◌↔◌};
 ghost use Rattle.std.specs.Int.Digits.{number_from_digits};
 ghost use Rattle.aead_ciphers.specs.Counting.{xored_nonce};
 ghost use Rattle.aead_ciphers.specs.Packet.{PacketFits, sealed_packet};
 ghost use Rattle.key_derivation.specs.Secret.{SecretState};
 ghost use Rattle.quic_packets.specs.Datagram.{packet_of};
 ghost use Rattle.quic_packets.specs.Header.{HasSample, Protected, Unprotected, number_len};
+ghost use Rattle.quic_packets.specs.Exchange.{Counts, Follows, GivesBack, HasSent, Holds, Life, Sent, WasSentInPhase, updates_before};
 ghost use Rattle.quic_packets.specs.HeaderBytes.{HasLongParts, HasShortParts, IsLongHeader, IsShortHeader, length_of, long_header, short_header};
-ghost use Rattle.quic_packets.specs.Exchange.{Counts, Follows, GivesBack, HasSent, Holds, Life, Sent, WasSentInPhase};
 ghost use Rattle.quic_packets.specs.Laws.{OpensTo};
 ghost use Rattle.quic_packets.specs.Keys.{PacketKey as PacketKeyState, secret_key};
 ghost use Rattle.quic_packets.specs.Numbers.{InWindow, IsAbove, IsDecoded, Represents, expected, unacknowledged};
@@ -128,6 +128,14 @@ pub fn acknowledged_was_sent(sender: &Sender)
         → IsFalse sender.now.acknowledged → number < sender.now.next
         → IsTrue (after_acknowledgement sender.now number).acknowledged
         → WasSentInPhase life sent number }
+{}
+
+/// A packet that was sent is of the current key phase, after all key updates, exactly if its number is not below the first number
+/// of the phase. This holds over every run of sends, skips and key updates of the sender.
+pub fn sent_in_phase(sender: &Sender)
+    ensures { (life : Life) → (sent : List Sent) → (packet : Sent) → HasSent sender.now life sent
+        → Contains sent packet → (updates_before life.updates packet.number ≡ length life.updates)
+        ↔ (sender.now.first_of_phase ≤ packet.number) }
 {}
 
 /// A receiver returns every packet that a sender sent, as it was sent (RFC 9001 sections 5 and 6).
