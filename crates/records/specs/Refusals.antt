@@ -85,3 +85,8 @@ RefusesToOpen key number bytes UnexpectedType = SealsRefused key number bytes Un
 RefusesToOpen key number bytes EmptyContent = SealsRefused key number bytes EmptyContent
 RefusesToOpen key number bytes AlertLength = SealsRefused key number bytes AlertLength
 RefusesToOpen key number bytes error = RefusesBytes key.size_limit bytes error
+
+-- why a record does not open to a buffer that has no room for its inner plaintext
+abbrev pub RefusesToOpenTo : (size_limit : ℕ) → List ℕ → RecordError → Type 0
+RefusesToOpenTo size_limit bytes NoRoom = IsWhole size_limit bytes
+RefusesToOpenTo size_limit bytes error = RefusesBytes size_limit bytes error

@@ -5,6 +5,7 @@
 //! byte by byte.
 #![tactic(auto)]
 
+mod cipher;
 mod content_type;
 mod header;
 mod inner;

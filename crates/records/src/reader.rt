@@ -194,7 +194,7 @@ impl Reader {
         if self.number >= self.limit {
             return Err(RecordError::KeyUsedUp);
         }
-        match self.key.open_to(self.number, bytes, filled, at, end) {
+        match self.key.open_within(self.number, bytes, filled, at, end) {
             Ok(read) => {
                 self.number += 1;
                 Ok(read)

@@ -606,6 +606,61 @@ fn opened_by_number(rt: HostRuntime) -> Result<(), Fail> {
     Ok(())
 }
 
+/// Seals a content of four bytes under the last number to another buffer.
+fn seal_last_to(key: &RecordKey, out: &mut [u8]) -> Result<usize, RecordError> {
+    key.seal_to(u64::MAX, ApplicationData, b"last", 0, out)
+}
+
+/// From one buffer to another, a record has only the bytes that it needs, and a failure writes none.
+#[test]
+fn sealed_and_opened_to_another_buffer(rt: HostRuntime) -> Result<(), Fail> {
+    let key = RecordKey::new(&AES_128_GCM, &KEY[..16], IV)?;
+    let wanted = <[u8; 26]>::from_hex(LAST)?;
+    let mut out = [9; 28];
+    let no_room = seal_last_to(&key, &mut out[..25]);
+    holds(&rt, no_room == Err(RecordError::NoRoom), "no room");
+    same(&rt, &out, &[9; 28], "nothing written");
+    holds(&rt, seal_last_to(&key, &mut out) == Ok(26), "the length");
+    begins_with(&rt, &out, &wanted, &[9; 28]);
+    let mut out = [9; 8];
+    let no_room = key.open_to(u64::MAX, &wanted, &mut out[..4]);
+    holds(&rt, no_room == Err(RecordError::NoRoom), "no room to open");
+    same(&rt, &out, &[9; 8], "nothing opened");
+    let opened = key.open_to(u64::MAX, &wanted, &mut out);
+    holds(&rt, opened == Ok((ApplicationData, 4)), "the type");
+    begins_with(&rt, &out, b"last\x17", &[9; 8]);
+    Ok(())
+}
+
+/// Asserts that a record is not opened to another buffer, which then begins with `inner`, and is unchanged after it.
+fn rejects_to(
+    rt: &impl Abort,
+    record: &[u8],
+    inner: &[u8],
+    error: RecordError,
+) -> Result<(), RecordError> {
+    let key = RecordKey::new(&AES_128_GCM, &KEY[..16], IV)?;
+    let mut out = [9; 32];
+    holds(
+        rt,
+        key.open_to(0, record, &mut out) == Err(error),
+        "the error",
+    );
+    begins_with(rt, &out, inner, &[9; 32]);
+    Ok(())
+}
+
+#[test]
+fn rejected_to_another_buffer(rt: HostRuntime) -> Result<(), Fail> {
+    for (text, error) in REFUSED {
+        rejects_to(&rt, &hex::decode(rt.alloc(), text)?, &[], error)?;
+    }
+    for (text, inner, error) in AUTHENTIC {
+        rejects_to(&rt, &hex::decode(rt.alloc(), text)?, inner, error)?;
+    }
+    Ok(())
+}
+
 /// Numbers, and the records that `tools/read-records make` printed for them: one past the writer's default limit, and the last
 /// that a reader reads.
 const NUMBERED: [(u64, &str); 2] = [
