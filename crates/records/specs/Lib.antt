@@ -1,4 +1,5 @@
 -- The definitions that the contracts use.
+pub mod Content
 pub mod Joined
 pub mod Keys
 pub mod Record

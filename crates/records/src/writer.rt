@@ -6,6 +6,8 @@ ghost use Rattle.records.specs.Keys.{new_key, rekeyed};
 ghost use Rattle.records.specs.Record.{IsAllowed, record_at};
 ghost use Rattle.records.specs.Refusals.{RefusesContent, RefusesToSeal};
 
+mod content;
+
 use crate::content_type::ContentType;
 use crate::key::RecordKey;
 use crate::record_error::RecordError;
