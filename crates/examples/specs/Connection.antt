@@ -1,33 +1,18 @@
 -- One end of a TLS 1.3 connection after the handshake (RFC 8446 sections 4.6, 5.1, 6 and 7.2).
 use Rattle.std.specs.Prelude.{◌≡◌, ℕ, Bool, false, cond, ◌==◌, ◌||◌, List, [], ◌∷◌, ◌++◌, map, slice_index, Ok}
-use Rattle.aead_ciphers.specs.Algorithm.{key_len}
-use Rattle.key_derivation.specs.Secret.{SecretState, suite_key_len}
-use Rattle.key_derivation.specs.Tls.{next_traffic_secret, record_iv, record_key}
-use Rattle.records.specs.Keys.{KeyState, ReaderState, rekeyed}
+use Rattle.records.specs.Keys.{ReaderState, next_reader}
 use Rattle.records.specs.Steps.{Reads}
 use Rattle.records.specs.declared.content_type.ContentType.{ContentType}
 use Rattle.records.specs.declared.content_type.ContentType.TheVariants.{Alert, ApplicationData, Handshake}
 use Rattle.tls_messages.specs.Messages.{Joining, messages_of, part_of}
 use Rattle.records.specs.Record.{Inner}
 use Rattle.examples.specs.declared.tls_connection.Incoming.{Incoming}
-use Rattle.examples.specs.declared.tls_connection.Outgoing.{Outgoing}
 use Rattle.examples.specs.declared.tls_connection.Received.{Received}
 
--- a key is that of a traffic secret (section 7.3)
-pub record IsOf (secret : SecretState) (key : KeyState) : Type 0 where
-  pub algorithm : key_len key.algorithm ≡ suite_key_len secret.suite
-  pub bytes : key.bytes ≡ record_key secret
-  pub iv : key.iv ≡ record_iv secret
-
--- the keys after a KeyUpdate, whose byte 1 asks for one in turn (sections 4.6.3 and 7.2)
+-- the reader after a KeyUpdate, whose byte 1 asks for one in turn (section 4.6.3), under the next traffic secret (section 7.2)
 abbrev pub updated : Incoming → (request : ℕ) → Incoming
 updated incoming request =
-    let next = next_traffic_secret incoming.secret in
-    record incoming {
-      reader = record incoming.reader { key = rekeyed incoming.reader.key (record_key next) (record_iv next); number = 0 };
-      secret = next;
-      owes_update = incoming.owes_update || request == 1;
-    }
+    record incoming { reader = next_reader incoming.reader; owes_update = incoming.owes_update || request == 1 }
 
 abbrev pub is_key_update : List ℕ → Bool
 is_key_update message = slice_index message 0 == 24
@@ -83,12 +68,3 @@ data_record content = record { content_type = ApplicationData; content = content
 
 abbrev pub key_update_record : Inner
 key_update_record = record { content_type = Handshake; content = 24 ∷ 0 ∷ 0 ∷ 1 ∷ 0 ∷ []; padding = 0 }
-
--- the keys of a sender after its KeyUpdate (section 7.2)
-abbrev pub next_outgoing : Outgoing → Outgoing
-next_outgoing outgoing =
-    let next = next_traffic_secret outgoing.secret in
-    record outgoing {
-      writer = record outgoing.writer { key = rekeyed outgoing.writer.key (record_key next) (record_iv next); number = 0 };
-      secret = next;
-    }

@@ -1,19 +1,15 @@
 //! One end of a TLS 1.3 connection after the handshake: what it receives, over the peer's key updates, and what it sends.
 
 ghost use Rattle.std.specs.Prelude.{◌≡◌, ◌≢◌, ◌↔◌, ◌+◌, ◌<◌, ◌≤◌, ◌++◌, ℕ, List, [], ◌∷◌, map, length, take, drop, slice_range, slice_index, false, true, IsTrue, IsFalse, IsOk, IfOk, IfErr, IfSome, IsErrOf, OnOk, OnErr, Ok, Err, None, cond, vec_len};
-ghost use Rattle.aead_ciphers.specs.Algorithm.{key_len};
-ghost use Rattle.key_derivation.specs.Secret.{suite_key_len};
-ghost use Rattle.key_derivation.specs.Tls.{next_traffic_secret, record_iv, record_key};
-ghost use Rattle.records.specs.Keys.{new_key, rekeyed};
+ghost use Rattle.records.specs.Keys.{IsOfSecret, next_writer, reader_of};
 ghost use Rattle.records.specs.Record.{record_at};
 ghost use Rattle.records.specs.Refusals.{alert_of as record_alert};
 ghost use Rattle.tls_messages.specs.Steps.{alert_of as message_alert};
 ghost use Rattle.records.specs.Stream.{NeedsMore, Taken};
-ghost use Rattle.examples.specs.Connection.{IsOf, Step, data_record, handed_over, key_update_record, next_outgoing, receiving, updated, updated_by};
+ghost use Rattle.examples.specs.Connection.{Step, data_record, handed_over, key_update_record, receiving, updated, updated_by};
 ghost use Rattle.tls_messages.specs.Messages.{messages_of, part_of};
 
-use aead_ciphers::aead::{AES_128_GCM, AES_256_GCM, Algorithm};
-use key_derivation::{Secret, Suite};
+use key_derivation::Secret;
 use records::{
     AlertDescription, Begins, ContentType, Reader, RecordError, RecordKind, Writer, classify,
 };
@@ -100,12 +96,10 @@ impl ReceiveError {
     }
 }
 
-/// The keys of what the peer sends.
+/// The state of what the peer sends.
 #[derive(Drop)]
 pub struct Incoming {
     pub reader: Reader,
-    /// The traffic secret of the reader's key.
-    pub secret: Secret,
     /// Whether the peer has asked for a KeyUpdate that is not sent yet.
     pub owes_update: bool,
     /// Whether nothing more is received, after close_notify or an error.
@@ -119,49 +113,27 @@ pub struct Received {
     pub messages: Vec<Vec<u8>>,
 }
 
-/// The algorithm of a suite.
-fn algorithm_of(suite: Suite) -> &'static Algorithm
-    ensures { key_len result.now ≡ suite_key_len suite }
-{
-    match suite {
-        Suite::Aes128Gcm => &AES_128_GCM,
-        Suite::Aes256Gcm => &AES_256_GCM,
-    }
-}
-
 impl Incoming {
     /// The end that receives under the peer's first application traffic secret.
-    pub fn new(secret: Secret) -> Result<Self, RecordError>
-        ensures accepted { IsOk result }
-        ensures made { IfOk result (λ made. (made.secret ≡ secret) × IsOf secret made.reader.key
-            × (made.reader.number ≡ 0) × IsFalse made.reader.is_closed
-            × IsFalse made.owes_update × IsFalse made.is_ended) }
+    pub fn new(secret: Secret) -> Self
+        ensures reader { result.reader ≡ reader_of secret }
+        ensures begun { IsFalse result.owes_update × IsFalse result.is_ended }
     {
-        let key = secret.record_key();
-        let reader = Reader::new(
-            algorithm_of(secret.suite()),
-            key.as_slice(),
-            secret.record_iv(),
-        )?;
-        Ok(Incoming {
-            reader,
-            secret,
+        Incoming {
+            reader: Reader::from_secret(secret),
             owes_update: false,
             is_ended: false,
-        })
+        }
     }
 
     /// Continues under the next traffic secret, after a KeyUpdate with this byte (RFC 8446 section 4.6.3).
     fn update(&mut self, request: u8) -> Result<(), RecordError>
-        requires { IsOf self.old.secret self.old.reader.key }
+        requires { IsOfSecret self.old.reader.secret self.old.reader.key }
         ensures accepted { IsOk result ↔ IsFalse self.old.reader.is_closed }
         ensures updated { OnOk result (self.new ≡ updated self.old request) }
-        ensures is_of { IsOf self.new.secret self.new.reader.key }
+        ensures is_of { IsOfSecret self.new.reader.secret self.new.reader.key }
     {
-        let next = self.secret.next_traffic();
-        let key = next.record_key();
-        self.reader.update(key.as_slice(), next.record_iv())?;
-        self.secret = next;
+        self.reader.update()?;
         self.owes_update = self.owes_update || request == 1;
         Ok(())
     }
@@ -175,13 +147,13 @@ fn receive_messages(
     mut content: &[u8],
     handed: &mut Vec<Vec<u8>>,
 ) -> Result<(), ReceiveError>
-    requires { IsOf incoming.old.secret incoming.old.reader.key }
+    requires { IsOfSecret incoming.old.reader.secret incoming.old.reader.key }
     ensures updated { OnOk result (incoming.new
         ≡ updated_by (messages_of (messages.old.part ++ content.entry.now)) incoming.old) }
     ensures handed { OnOk result (map (λ v. v.items) handed.new.items ≡ map (λ v. v.items) handed.old.items
         ++ handed_over (messages_of (messages.old.part ++ content.entry.now))) }
     ensures part { OnOk result (messages.new.part ≡ part_of (messages.old.part ++ content.entry.now)) }
-    ensures is_of { IsOf incoming.new.secret incoming.new.reader.key }
+    ensures is_of { IsOfSecret incoming.new.reader.secret incoming.new.reader.key }
 {
     while let Some(message) = messages.next(&mut content)? {
         if message[0] == KEY_UPDATE {
@@ -215,11 +187,11 @@ fn receive_record(
     bytes: &mut [u8],
     received: &mut Received,
 ) -> Result<(), ReceiveError>
-    requires is_of { IsOf incoming.old.secret incoming.old.reader.key }
+    requires is_of { IsOfSecret incoming.old.reader.secret incoming.old.reader.key }
     requires going { IsFalse incoming.old.is_ended }
     ensures step { OnOk result (Step (receiving incoming.old messages.old received.old) bytes.old
         (receiving incoming.new messages.new received.new)) }
-    ensures is_of { IsOf incoming.new.secret incoming.new.reader.key }
+    ensures is_of { IsOfSecret incoming.new.reader.secret incoming.new.reader.key }
 {
     let end = bytes.len();
     let (content_type, len) = incoming.reader.gather(bytes, 0, 0, end)?;
@@ -249,12 +221,12 @@ fn receive_at(
     received: &mut Received,
 ) -> Result<(), ReceiveError>
     requires range { (at ≤ end) × (end ≤ length bytes.old) }
-    requires is_of { IsOf incoming.old.secret incoming.old.reader.key }
+    requires is_of { IsOfSecret incoming.old.reader.secret incoming.old.reader.key }
     requires going { IsFalse incoming.old.is_ended }
     ensures step { OnOk result (Step (receiving incoming.old messages.old received.old)
         (slice_range bytes.old at end) (receiving incoming.new messages.new received.new)) }
     ensures kept { drop end bytes.new ≡ drop end bytes.old }
-    ensures is_of { IsOf incoming.new.secret incoming.new.reader.key }
+    ensures is_of { IsOfSecret incoming.new.reader.secret incoming.new.reader.key }
 {
     receive_record(alloc, incoming, messages, &mut bytes[at..end], received)
 }
@@ -281,14 +253,14 @@ fn receive_records(
     bytes: &mut [u8],
     received: &mut Received,
 ) -> Result<usize, ReceiveError>
-    requires is_of { IsOf incoming.old.secret incoming.old.reader.key }
+    requires is_of { IsOfSecret incoming.old.reader.secret incoming.old.reader.key }
     requires going { IsFalse incoming.old.is_ended }
     ensures taken { IfOk result (λ n. Taken Step bytes.old (receiving incoming.old messages.old received.old)
         n (receiving incoming.new messages.new received.new)) }
     ensures within { IfOk result (λ n. n ≤ length bytes.old) }
     ensures kept { IfOk result (λ n. drop n bytes.new ≡ drop n bytes.old) }
     ensures more { IfOk result (λ n. IsFalse incoming.new.is_ended → NeedsMore (drop n bytes.new)) }
-    ensures is_of { IsOf incoming.new.secret incoming.new.reader.key }
+    ensures is_of { IsOfSecret incoming.new.reader.secret incoming.new.reader.key }
 {
     let mut at = 0;
     while let Some(len) = protected_len(&bytes[at..])? {
@@ -314,13 +286,13 @@ pub fn receive(
     bytes: &mut [u8],
     received: &mut Received,
 ) -> Result<usize, ReceiveError>
-    requires { IsOf incoming.old.secret incoming.old.reader.key }
+    requires { IsOfSecret incoming.old.reader.secret incoming.old.reader.key }
     ensures taken { IfOk result (λ n. Taken Step bytes.old (receiving incoming.old messages.old received.old)
         n (receiving incoming.new messages.new received.new)) }
     ensures within { IfOk result (λ n. n ≤ length bytes.old) }
     ensures kept { IfOk result (λ n. drop n bytes.new ≡ drop n bytes.old) }
     ensures more { IfOk result (λ n. IsFalse incoming.new.is_ended → NeedsMore (drop n bytes.new)) }
-    ensures is_of { IsOf incoming.new.secret incoming.new.reader.key }
+    ensures is_of { IsOfSecret incoming.new.reader.secret incoming.new.reader.key }
     ensures ends { OnErr result (IsTrue incoming.new.is_ended) }
     ensures ended { IsTrue incoming.old.is_ended → IsErrOf result ReceiveError.Ended
         × (incoming.new ≡ incoming.old) × (messages.new ≡ messages.old) × (bytes.new ≡ bytes.old)
@@ -336,72 +308,40 @@ pub fn receive(
     taken
 }
 
-/// The keys of what this end sends.
-#[derive(Drop)]
-pub struct Outgoing {
-    pub writer: Writer,
-    /// The traffic secret of the writer's key.
-    pub secret: Secret,
-}
-
 /// A KeyUpdate that asks for none in turn (RFC 8446 section 4.6.3).
 const KEY_UPDATE_MESSAGE: [u8; 5] = [KEY_UPDATE, 0, 0, 1, 0];
 
-impl Outgoing {
-    /// The end that sends under its first application traffic secret.
-    pub fn new(secret: Secret) -> Result<Self, RecordError>
-        ensures accepted { IsOk result }
-        ensures made { IfOk result (λ made. (made.secret ≡ secret) × IsOf secret made.writer.key
-            × (made.writer.number ≡ 0)) }
-    {
-        let key = secret.record_key();
-        let writer = Writer::new(
-            algorithm_of(secret.suite()),
-            key.as_slice(),
-            secret.record_iv(),
-        )?;
-        Ok(Outgoing { writer, secret })
-    }
-
-    /// Appends a KeyUpdate under the old key, and continues under the next (RFC 8446 section 4.6.3).
-    pub fn update(&mut self, out: &mut Vec<u8>) -> Result<(), RecordError>
-        requires { IsOf self.old.secret self.old.writer.key }
-        ensures sent { OnOk result (out.new.items ≡ out.old.items
-            ++ record_at self.old.writer.key self.old.writer.number key_update_record) }
-        ensures updated { OnOk result (self.new ≡ next_outgoing self.old) }
-        ensures kept { OnErr result ((self.new ≡ self.old) × (out.new.items ≡ out.old.items)) }
-    {
-        self.writer
-            .write(ContentType::Handshake, &KEY_UPDATE_MESSAGE, 0, out)?;
-        let next = self.secret.next_traffic();
-        let key = next.record_key();
-        self.writer.update(key.as_slice(), next.record_iv())?;
-        self.secret = next;
-        Ok(())
-    }
+/// Appends a KeyUpdate under the old key, and continues under the next traffic secret (RFC 8446 section 4.6.3).
+pub fn send_key_update(writer: &mut Writer, out: &mut Vec<u8>) -> Result<(), RecordError>
+    requires { IsOfSecret writer.old.secret writer.old.key }
+    ensures sent { OnOk result (out.new.items ≡ out.old.items
+        ++ record_at writer.old.key writer.old.number key_update_record) }
+    ensures updated { OnOk result (writer.new ≡ next_writer writer.old) }
+    ensures kept { OnErr result ((writer.new ≡ writer.old) × (out.new.items ≡ out.old.items)) }
+{
+    writer.write(ContentType::Handshake, &KEY_UPDATE_MESSAGE, 0, out)?;
+    writer.update()
 }
 
 /// Appends a record of application data to `out`, and before it, under the old key, the KeyUpdate that the peer has asked for.
 pub fn send(
-    outgoing: &mut Outgoing,
+    writer: &mut Writer,
     incoming: &mut Incoming,
     content: &[u8],
     out: &mut Vec<u8>,
 ) -> Result<(), RecordError>
-    requires { IsOf outgoing.old.secret outgoing.old.writer.key }
+    requires { IsOfSecret writer.old.secret writer.old.key }
     ensures sent { IsFalse incoming.old.owes_update → OnOk result (out.new.items ≡ out.old.items
-        ++ record_at outgoing.old.writer.key outgoing.old.writer.number (data_record content.now)) }
+        ++ record_at writer.old.key writer.old.number (data_record content.now)) }
     ensures answered { IsTrue incoming.old.owes_update → OnOk result (out.new.items ≡ (out.old.items
-        ++ record_at outgoing.old.writer.key outgoing.old.writer.number key_update_record)
-        ++ record_at (next_outgoing outgoing.old).writer.key 0 (data_record content.now)) }
+        ++ record_at writer.old.key writer.old.number key_update_record)
+        ++ record_at (next_writer writer.old).key 0 (data_record content.now)) }
     ensures settled { OnOk result (incoming.new ≡ record incoming.old { owes_update = false }) }
-    ensures is_of { IsOf outgoing.new.secret outgoing.new.writer.key }
+    ensures is_of { IsOfSecret writer.new.secret writer.new.key }
 {
     if incoming.owes_update {
-        outgoing.update(out)?;
+        send_key_update(writer, out)?;
         incoming.owes_update = false;
     }
-    outgoing
-        .writer
-        .write(ContentType::ApplicationData, content, 0, out)
+    writer.write(ContentType::ApplicationData, content, 0, out)
 }

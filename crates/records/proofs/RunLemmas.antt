@@ -1,12 +1,16 @@
--- Reading undoes writing, and no number comes twice under a key.
-use Rattle.std.proofs.Common.{◌≡◌, ℕ, zero, suc, ◌+◌, ◌-◌, ◌<◌, ◌≤◌, min, List, [], ◌∷◌, length, get_or, false, true, map, refl, ap₂, ◌∙◌, arith, rules, Ok, Err}
+-- Reading undoes writing, the ends of one secret agree, and no number comes twice under a key.
+use Rattle.std.proofs.Common.{◌≡◌, ℕ, zero, suc, ◌+◌, ◌-◌, ◌<◌, ◌≤◌, min, List, [], ◌∷◌, length, get_or, false, true, map, refl, ap₂, sym, ◌∙◌, arith, rules, Option, Some, None, Ok, Err}
 use Rattle.std.specs.Prelude.{All, AllPairs}
 use Rattle.aead_ciphers.specs.Runs.{Runs}
+use Rattle.key_derivation.specs.Secret.{SecretState}
+use Rattle.key_derivation.specs.Tls.{next_traffic_secret}
 use Rattle.records.specs
-use specs.Keys.{KeyState, ReaderState, WriterState, rekeyed}
+use specs.Keys.{Holds, KeyState, ReaderState, WriterState, next_of, nth_secret, reader_of, rekeyed, secret_key, writer_of}
 use specs.Record.{Carries, Inner}
-use specs.Runs.{Answer, Event, Follows, ReadStep, WriteStep, WriterRuns, as_asked, carries, ends, lowers, rekeys, resizes, seals, updates}
+use specs.Runs.{Answer, Event, Follows, IsNextKey, ReadStep, WriteStep, WriterRuns, as_asked, carries, ends, lowers, rekeys, resizes, seals}
+use specs.Runs.{updates, updates_in}
 use specs.Steps.{Reads, Writes}
+use Rattle.std.proofs.lemmas.Option.{none-some, same_Some}
 use Rattle.records.proofs.RecordLemmas.{same_content}
 
 -- a record carries the same under a key of the same bytes and IV that allows for longer ones
@@ -43,8 +47,8 @@ one_record was w reader r inner bytes (Err error) f s t =
 
 -- one key update
 one_update : (was w : WriterState) (reader r : ReaderState) (key iv key' iv' : List ℕ) → key' ≡ key → iv' ≡ iv → Follows was reader
-    → w ≡ record was { key = rekeyed was.key key iv; number = 0 } → r ≡ record reader { key = rekeyed reader.key key' iv'; number = 0 }
-    → Follows w r
+    → w ≡ record was { key = rekeyed was.key key iv; secret = next_of was.secret; number = 0 }
+    → r ≡ record reader { key = rekeyed reader.key key' iv'; secret = next_of reader.secret; number = 0 } → Follows w r
 one_update was w reader r key iv key' iv' same_key same_iv f now now' =
     rw (now, now', same_key, same_iv) (record {
       bytes = refl;
@@ -75,6 +79,57 @@ reading_undoes_writing writer reader f (updates key iv ∷ asked) (updates key' 
       rest.1,
     )
 reading_undoes_writing writer reader f asked sent read written stands w r = search rules
+
+-- ---- secrets
+
+-- one update of what is held
+holds_next : (s : SecretState) (secret : Option SecretState) (key : KeyState) (bytes iv : List ℕ) → Holds s secret key
+    → IsNextKey secret bytes iv → Holds (next_traffic_secret s) (next_of secret) (rekeyed key bytes iv)
+holds_next s None key bytes iv holds next = absurd (none-some s holds.secret_is)
+holds_next s (Some t) key bytes iv holds next =
+    let same : t ≡ s = same_Some t s holds.secret_is in record {
+      secret_is = rw same refl;
+      key_is = record { algorithm = holds.key_is.algorithm; bytes = rw (sym same) next.0; iv = rw (sym same) next.1 };
+    }
+
+pub writer_at_nth_secret : (writer written : WriterState) (s : SecretState) → Holds s writer.secret writer.key
+    → (asked : List (Event Inner)) (sent : List (Event (List ℕ))) → Runs WriteStep writer written asked sent
+    → Holds (nth_secret s (updates_in asked)) written.secret written.key
+writer_at_nth_secret writer written s holds [] [] w = rw w holds
+writer_at_nth_secret writer written s holds (carries inner ∷ asked) (carries bytes ∷ sent) w =
+    writer_at_nth_secret w.0 written s (rw w.1.counted holds) asked sent w.2
+writer_at_nth_secret writer written s holds (updates key iv ∷ asked) (updates key' iv' ∷ sent) w =
+    writer_at_nth_secret w.0 written (next_traffic_secret s)
+    (rw w.1.0 (holds_next s writer.secret writer.key key iv holds w.1.3)) asked sent w.2
+writer_at_nth_secret writer written s holds asked sent w = search rules
+
+pub reader_at_nth_secret : (reader stands : ReaderState) (s : SecretState) → Holds s reader.secret reader.key
+    → (sent : List (Event (List ℕ))) (read : List (Event Answer)) → Runs ReadStep reader stands sent read
+    → Holds (nth_secret s (updates_in sent)) stands.secret stands.key
+reader_at_nth_secret reader stands s holds [] [] r = rw r holds
+reader_at_nth_secret reader stands s holds (carries bytes ∷ sent) (carries (Ok read) ∷ later) r =
+    reader_at_nth_secret r.0 stands s (rw r.1.counted holds) sent later r.2
+reader_at_nth_secret reader stands s holds (carries bytes ∷ sent) (carries (Err error) ∷ later) r =
+    reader_at_nth_secret r.0 stands s (rw r.1.stands holds) sent later r.2
+reader_at_nth_secret reader stands s holds (updates key iv ∷ sent) (updates key' iv' ∷ later) r =
+    reader_at_nth_secret r.0 stands (next_traffic_secret s)
+    (rw r.1.0 (holds_next s reader.secret reader.key key iv holds r.1.3)) sent later r.2
+reader_at_nth_secret reader stands s holds sent read r = search rules
+
+pub ends_agree : (s : SecretState) (asked : List (Event Inner)) (sent received : List (Event (List ℕ))) (read : List (Event Answer))
+    (written : WriterState) (stands : ReaderState) → Runs WriteStep (writer_of s) written asked sent
+    → Runs ReadStep (reader_of s) stands received read → updates_in received ≡ updates_in asked
+    → (stands.key.bytes ≡ written.key.bytes) × (stands.key.iv ≡ written.key.iv) × (stands.secret ≡ written.secret)
+ends_agree s asked sent received read written stands w r same =
+    let first : Holds s (Some s) (secret_key s) =
+    record { secret_is = refl; key_is = record { algorithm = refl; bytes = refl; iv = refl } } in
+    let writer = writer_at_nth_secret (writer_of s) written s first asked sent w in
+    let reader : Holds (nth_secret s (updates_in asked)) stands.secret stands.key =
+    rw (sym same) (reader_at_nth_secret (reader_of s) stands s first received read r) in (
+      reader.key_is.bytes ∙ sym writer.key_is.bytes,
+      reader.key_is.iv ∙ sym writer.key_is.iv,
+      reader.secret_is ∙ sym writer.secret_is,
+    )
 
 -- ---- numbers
 
@@ -114,7 +169,8 @@ rise s t by_key (seals x y ns later lt rest) = one_more x.number x.limit ns late
 rise s t by_key (resizes x y ks size_limit rest) = rise (record x { key = record x.key { size_limit = size_limit } }) y ks rest
 rise s t by_key (lowers x y ks limit rest) =
     looser x.number (min x.limit limit) x.limit ks (omega arith) (rise (record x { limit = min x.limit limit }) y ks rest)
-rise s t by_key (rekeys x y ks key iv rest) = (tt, omega arith, rise (record x { key = rekeyed x.key key iv; number = 0 }) y ks rest)
+rise s t by_key (rekeys x y ks key iv secret rest) =
+    (tt, omega arith, rise (record x { key = rekeyed x.key key iv; secret = secret; number = 0 }) y ks rest)
 
 each_rises : (from limit : ℕ) (by_key : List (List ℕ)) (k : ℕ) (d : List ℕ) → RisingByKey from limit by_key → k < length by_key
     → AllPairs (λ m n. m < n) (get_or by_key k d)

@@ -1,6 +1,11 @@
 -- Keys, writers and readers as contracts see them.
-use Rattle.std.specs.Prelude.{ℕ, ◌+◌, ◌^◌, Bool, List}
+use Rattle.std.specs.Prelude.{◌≡◌, ℕ, zero, suc, ◌+◌, ◌-◌, ◌^◌, Bool, false, List, Option, Some, None, IfSome, IsSome}
 use Rattle.aead_ciphers.specs.declared.aead.algorithm.Algorithm.{Algorithm}
+use Rattle.aead_ciphers.specs.declared.aead.algorithm.AlgorithmId.TheVariants.{AES_128_GCM, AES_256_GCM}
+use Rattle.key_derivation.specs.Secret.{SecretState}
+use Rattle.key_derivation.specs.Tls.{next_traffic_secret, record_iv, record_key}
+use Rattle.key_derivation.specs.declared.suite.Suite.{Suite}
+use Rattle.key_derivation.specs.declared.suite.Suite.TheVariants.{Aes128Gcm, Aes256Gcm}
 
 -- a key: its algorithm, its bytes, its IV, and the most bytes that an inner plaintext may have (RFC 8449 section 4)
 pub record KeyState : Type 0 where
@@ -9,15 +14,18 @@ pub record KeyState : Type 0 where
   pub iv : List ℕ
   pub size_limit : ℕ
 
--- a writer: its key, the number of the next record, and the number at which its limit is reached
+-- a writer: its key, the traffic secret of this key, unless the caller gave the key, the number of the next record, and the number
+-- at which its limit is reached
 pub record WriterState : Type 0 where
   pub key : KeyState
+  pub secret : Option SecretState
   pub number : ℕ
   pub limit : ℕ
 
 -- a reader: also whether it is closed
 pub record ReaderState : Type 0 where
   pub key : KeyState
+  pub secret : Option SecretState
   pub number : ℕ
   pub limit : ℕ
   pub is_closed : Bool
@@ -29,3 +37,60 @@ new_key algorithm bytes iv = record { algorithm = algorithm; bytes = bytes; iv =
 -- the next key of the same direction (RFC 8446 section 7.2): other bytes and another IV
 abbrev pub rekeyed : KeyState → (bytes iv : List ℕ) → KeyState
 rekeyed key bytes iv = record key { bytes = bytes; iv = iv }
+
+-- the AEAD algorithm of a cipher suite (RFC 8446 section B.4)
+abbrev pub suite_algorithm : Suite → Algorithm
+suite_algorithm Aes128Gcm = record { id = AES_128_GCM }
+suite_algorithm Aes256Gcm = record { id = AES_256_GCM }
+
+-- the key of a traffic secret (RFC 8446 section 7.3)
+abbrev pub secret_key : SecretState → KeyState
+secret_key s = new_key (suite_algorithm s.suite) (record_key s) (record_iv s)
+
+-- a key is that of this traffic secret
+pub record IsKeyOf (s : SecretState) (key : KeyState) : Type 0 where
+  pub algorithm : key.algorithm ≡ suite_algorithm s.suite
+  pub bytes : key.bytes ≡ record_key s
+  pub iv : key.iv ≡ record_iv s
+
+-- this traffic secret is held, and its key
+pub record Holds (s : SecretState) (secret : Option SecretState) (key : KeyState) : Type 0 where
+  pub secret_is : secret ≡ Some s
+  pub key_is : IsKeyOf s key
+
+-- a traffic secret is held, and the key is that of this secret
+pub record IsOfSecret (secret : Option SecretState) (key : KeyState) : Type 0 where
+  pub held : IsSome secret
+  pub key_is : IfSome secret (λ s. IsKeyOf s key)
+
+-- the ends of a secret, before their first record
+abbrev pub writer_of : SecretState → WriterState
+writer_of s = record { key = secret_key s; secret = Some s; number = 0; limit = 2 ^ 24 }
+
+abbrev pub reader_of : SecretState → ReaderState
+reader_of s = record { key = secret_key s; secret = Some s; number = 0; limit = 2 ^ 64 - 1; is_closed = false }
+
+-- the secret after a key update (RFC 8446 section 7.2), and after n of them
+abbrev pub next_of : Option SecretState → Option SecretState
+next_of None = None
+next_of (Some s) = Some (next_traffic_secret s)
+
+abbrev pub nth_secret : SecretState → ℕ → SecretState
+nth_secret s zero = s
+nth_secret s (suc n) = nth_secret (next_traffic_secret s) n
+
+-- the ends that continue under this secret, if there is one
+abbrev pub writer_under : Option SecretState → WriterState → WriterState
+writer_under None w = w
+writer_under (Some s) w = record w { key = rekeyed w.key (record_key s) (record_iv s); secret = Some s; number = 0 }
+
+abbrev pub reader_under : Option SecretState → ReaderState → ReaderState
+reader_under None r = r
+reader_under (Some s) r = record r { key = rekeyed r.key (record_key s) (record_iv s); secret = Some s; number = 0 }
+
+-- the ends after a key update
+abbrev pub next_writer : WriterState → WriterState
+next_writer w = writer_under (next_of w.secret) w
+
+abbrev pub next_reader : ReaderState → ReaderState
+next_reader r = reader_under (next_of r.secret) r

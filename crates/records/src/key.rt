@@ -2,7 +2,8 @@
 
 ghost use Rattle.std.specs.Prelude.{◌≡◌, ℕ, List, ◌+◌, ◌-◌, ◌^◌, ◌<◌, ◌≤◌, ◌↔◌, ◌++◌, length, drop, take, slice_range, IsOk, IfOk, IsOkUnless, IfErr, IsErrOf, OnOk, OnErr};
 ghost use Rattle.aead_ciphers.specs.Algorithm.{key_len};
-ghost use Rattle.records.specs.Keys.{new_key, rekeyed};
+ghost use Rattle.key_derivation.specs.Tls.{record_iv, record_key};
+ghost use Rattle.records.specs.Keys.{new_key, rekeyed, secret_key, suite_algorithm};
 ghost use Rattle.records.specs.Record.{record_at, Carries, Inner, IsAllowed, IsWhole, Seals};
 ghost use Rattle.records.specs.Refusals.{RefusesContent, RefusesToOpenTo, RefusesToSeal};
 ghost use Rattle.records.specs.Steps.{content_at, LeavesInner, LeavesRefused, Opens, OpensMessage, RefusesMessage};
@@ -13,8 +14,19 @@ use crate::header::header_in;
 use crate::inner::{content_of, frame, inner_len};
 use crate::record_error::RecordError;
 use crate::{HEADER_LEN, MAX_SIZE_LIMIT, MIN_SIZE_LIMIT, TAG_LEN};
-use aead_ciphers::aead::{Aad, Algorithm, NONCE_LEN, Tag, nonce_of};
+use aead_ciphers::aead::{AES_128_GCM, AES_256_GCM, Aad, Algorithm, NONCE_LEN, Tag, nonce_of};
+use key_derivation::{Secret, Suite};
 use std::marker::Model;
+
+/// The AEAD algorithm of a suite.
+fn algorithm_of(suite: Suite) -> &'static Algorithm
+    ensures { result.now ≡ suite_algorithm suite }
+{
+    match suite {
+        Suite::Aes128Gcm => &AES_128_GCM,
+        Suite::Aes256Gcm => &AES_256_GCM,
+    }
+}
 
 /// A key and IV of one direction, which seals and opens records by their numbers, in place or from one buffer to another, and
 /// without allocating.
@@ -65,6 +77,28 @@ impl RecordKey {
             }),
             Err(_) => Err(RecordError::KeyLength),
         }
+    }
+
+    /// The key of a traffic secret (RFC 8446 section 7.3).
+    pub(crate) fn from_secret(secret: &Secret) -> Self
+        ensures { result ≡ secret_key secret.now }
+    {
+        let algorithm = algorithm_of(secret.suite());
+        let key = secret.record_key();
+        let Ok(key) = RecordKey::new(algorithm, key.as_slice(), secret.record_iv()) else {
+            unreachable!();
+        };
+        key
+    }
+
+    /// The key of the next traffic secret of the direction, with the same size limit.
+    pub(crate) fn next_from_secret(&self, secret: &Secret) -> Self
+        requires { self.now.algorithm ≡ suite_algorithm secret.now.suite }
+        ensures { result ≡ rekeyed self.now (record_key secret.now) (record_iv secret.now) }
+    {
+        let mut next = RecordKey::from_secret(secret);
+        next.size_limit = self.size_limit;
+        next
     }
 
     /// The next key of the direction, with the same algorithm and size limit.

@@ -5,13 +5,14 @@ ghost use Rattle.std.specs.List.{concat, range_with_len};
 ghost use Rattle.aead_ciphers.specs.Runs.{Runs};
 ghost use Rattle.records.specs.Content.{IsWritable, after_content, piece_room, pieces, record_count, records_of};
 ghost use Rattle.records.specs.Joined.{Joins, Says, Token};
-ghost use Rattle.records.specs.Keys.{ReaderState, WriterState};
+ghost use Rattle.records.specs.Keys.{Holds, ReaderState, WriterState, nth_secret, reader_of, writer_of};
 ghost use Rattle.records.specs.Record.{Inner};
-ghost use Rattle.records.specs.Runs.{Answer, Event, Follows, ReadStep, WriteStep, WriterRuns, as_asked, carries};
+ghost use Rattle.records.specs.Runs.{Answer, Event, Follows, ReadStep, WriteStep, WriterRuns, as_asked, carries, updates_in};
 ghost use Rattle.records.specs.declared.content_type.ContentType.{ContentType};
 ghost use Rattle.tls_messages.specs.declared.stage.Stage.{Stage};
 
 use crate::{Reader, Writer};
+use key_derivation::Secret;
 
 /// Reading restores what was written, for every list of contents and over key updates. Whatever calls of `write`, `seal` and
 /// `update` made records of the contents, and whatever calls of `gather`, `read` and `update` read these records under the same
@@ -73,6 +74,26 @@ pub fn reading_undoes_writing_content(writer: &Writer, reader: &Reader)
         → (read ≡ map as_asked
         (map carries (pieces content_type writer.now.key.size_limit padding content)))
         × Follows (after_content writer.now padding (length content)) stands }
+{}
+
+/// Both ends of one secret agree after any number of updates. Whatever calls of `write`, `seal` and `update` followed
+/// `Writer::from_secret`, and whatever calls of `gather`, `read` and `update` followed `Reader::from_secret`: after n updates each
+/// holds the secret that is n updates after the first (RFC 8446 section 7.2), and its key and IV (section 7.3).
+#[tactic(auto, using(crate::proofs::RunLemmas::writer_at_nth_secret, crate::proofs::RunLemmas::reader_at_nth_secret, crate::proofs::RunLemmas::ends_agree))]
+pub fn ends_of_one_secret_agree(secret: &Secret)
+    ensures writer { (asked : List (Event Inner)) (sent : List (Event (List ℕ)))
+        (written : WriterState) → Runs WriteStep (writer_of secret.now) written asked sent
+        → Holds (nth_secret secret.now (updates_in asked)) written.secret written.key }
+    ensures reader { (sent : List (Event (List ℕ))) (read : List (Event Answer))
+        (stands : ReaderState) → Runs ReadStep (reader_of secret.now) stands sent read
+        → Holds (nth_secret secret.now (updates_in sent)) stands.secret stands.key }
+    ensures agree { (asked : List (Event Inner)) (sent received : List (Event (List ℕ)))
+        (read : List (Event Answer)) (written : WriterState) (stands : ReaderState)
+        → Runs WriteStep (writer_of secret.now) written asked sent
+        → Runs ReadStep (reader_of secret.now) stands received read
+        → updates_in received ≡ updates_in asked
+        → (stands.key.bytes ≡ written.key.bytes) × (stands.key.iv ≡ written.key.iv)
+        × (stands.secret ≡ written.secret) }
 {}
 
 /// No pair of key and number is used twice: over every run of calls of a writer, the numbers that it seals under increase under

@@ -1,15 +1,19 @@
 //! Reading records.
 
-ghost use Rattle.std.specs.Prelude.{◌≡◌, ◌≢◌, ◌+◌, ◌-◌, ◌^◌, ◌≤◌, ◌↔◌, min, length, slice_range, IsTrue, IsFalse, IsOk, IfOk, IsOkUnless, IsErrOf, IfErr, OnOk, OnErr, false};
+ghost use Rattle.std.specs.Prelude.{◌≡◌, ◌≢◌, ◌+◌, ◌-◌, ◌^◌, ◌≤◌, ◌↔◌, min, length, slice_range, None, IsTrue, IsFalse, IsSome, IsNone, IfSome, IsOk, IfOk, IsOkUnless, IsErrOf, IfErr, OnOk, OnErr, false};
 ghost use Rattle.aead_ciphers.specs.Algorithm.{key_len};
-ghost use Rattle.records.specs.Keys.{new_key, rekeyed};
+ghost use Rattle.records.specs.Keys.{IsKeyOf, IsOfSecret, new_key, next_reader, reader_of, rekeyed};
 ghost use Rattle.records.specs.Steps.{content_at, lent_content, after_error, LeavesInner, LeavesRefused, Reads};
 
 use crate::content_type::ContentType;
 use crate::key::RecordKey;
 use crate::record_error::RecordError;
 use aead_ciphers::aead::{Algorithm, NONCE_LEN};
+use key_derivation::Secret;
 use std::marker::Model;
+
+/// The most records that a reader takes under one key: as many as there are numbers.
+const MAX_RECORDS: u64 = u64::MAX;
 
 /// Reads records, each under the next number, over key updates.
 ///
@@ -32,25 +36,47 @@ use std::marker::Model;
 #[derive(Drop)]
 pub struct Reader {
     key: RecordKey,
+    /// The traffic secret of the key, unless the caller gave the key.
+    secret: Option<Secret>,
     number: u64,
     limit: u64,
     is_closed: bool,
 }
 
 impl Model for Reader {
-    ghost use Rattle.records.specs.Keys.{ReaderState};
+    ghost use Rattle.std.specs.Prelude.{IfSome};
+    ghost use Rattle.records.specs.Keys.{IsKeyOf, ReaderState};
 
     ghost Value = { ReaderState };
 
     ghost view = { λ r. record {
       key = r.key;
+      secret = r.secret;
       number = r.number;
       limit = r.limit;
       is_closed = r.is_closed;
     } };
+
+    ghost invariant = { λ r. IfSome r.secret (λ s. IsKeyOf s r.key) };
 }
 
 impl Reader {
+    /// Creates a reader of a traffic secret, which gives the key and the IV, and those after each `update` (RFC 8446 sections 7.2
+    /// and 7.3). Its next record is record 0, with the limit of `new`.
+    ///
+    /// A secret that is not the next of this one, as that of application data after the handshake's, begins another reader.
+    pub fn from_secret(secret: Secret) -> Self
+        ensures { result ≡ reader_of secret }
+    {
+        Reader {
+            key: RecordKey::from_secret(&secret),
+            secret: Some(secret),
+            number: 0,
+            limit: MAX_RECORDS,
+            is_closed: false,
+        }
+    }
+
     /// Creates a reader whose next record is record 0, with a limit of 2^64 - 1 records under each key: RFC 8446 section 5.5
     /// limits what is sealed. `key` has 16 or 32 bytes, and `iv` is the write_iv (section 7.3).
     ///
@@ -64,6 +90,7 @@ impl Reader {
         ensures refused { IsOkUnless result RecordError.KeyLength }
         ensures made { IfOk result (λ made. made ≡ record {
           key = new_key algorithm.now key.now iv;
+          secret = None;
           number = 0;
           limit = 2 ^ 64 - 1;
           is_closed = false;
@@ -71,8 +98,9 @@ impl Reader {
     {
         Ok(Reader {
             key: RecordKey::new(algorithm, key, iv)?,
+            secret: None,
             number: 0,
-            limit: u64::MAX,
+            limit: MAX_RECORDS,
             is_closed: false,
         })
     }
@@ -141,15 +169,43 @@ impl Reader {
         self.key.set_size_limit(size_limit)
     }
 
+    /// Continues under the next traffic secret, after a KeyUpdate was read. The number and the count of records start again at 0
+    /// (RFC 8446 sections 5.3 and 7.2).
+    ///
+    /// Fails with `Closed` if the reader is closed, and with `NoSecret` if it was made of a key. It is then unchanged.
+    pub fn update(&mut self) -> Result<(), RecordError>
+        ensures accepted { IsOk result ↔ (IsFalse self.old.is_closed × IsSome self.old.secret) }
+        ensures closed { IsTrue self.old.is_closed → IsErrOf result RecordError.Closed }
+        ensures refused { IsFalse self.old.is_closed → IsOkUnless result RecordError.NoSecret }
+        ensures updated { OnOk result (self.new ≡ next_reader self.old) }
+        ensures is_of { IsSome self.old.secret → IsOfSecret self.new.secret self.new.key }
+        ensures kept { OnErr result (self.new ≡ self.old) }
+    {
+        if self.is_closed {
+            return Err(RecordError::Closed);
+        }
+        let Some(secret) = &self.secret else {
+            return Err(RecordError::NoSecret);
+        };
+        let next = secret.next_traffic();
+        let key = self.key.next_from_secret(&next);
+        self.continue_with(key, Some(next));
+        Ok(())
+    }
+
     /// Continues with the next key and IV of this direction, after a KeyUpdate or the last record of the handshake was read.
     /// The number and the count of records start again at 0 (RFC 8446 sections 5.3 and 7.2).
     ///
-    /// Fails with `KeyLength` if `key` is not as long as the algorithm's keys, and with `Closed` if the reader is closed.
-    pub fn update(&mut self, key: &[u8], iv: [u8; NONCE_LEN]) -> Result<(), RecordError>
-        ensures accepted { IsOk result
-            ↔ (IsFalse self.old.is_closed × (length key.now ≡ key_len self.old.key.algorithm)) }
+    /// Fails with `Closed` if the reader is closed, with `HasSecret` if it was made of a secret, and with `KeyLength` if `key` is
+    /// not as long as the algorithm's keys. The reader is then unchanged.
+    pub fn update_with(&mut self, key: &[u8], iv: [u8; NONCE_LEN]) -> Result<(), RecordError>
+        ensures accepted { IsOk result ↔ (IsFalse self.old.is_closed × IsNone self.old.secret
+            × (length key.now ≡ key_len self.old.key.algorithm)) }
         ensures closed { IsTrue self.old.is_closed → IsErrOf result RecordError.Closed }
-        ensures refused { IsFalse self.old.is_closed → IsOkUnless result RecordError.KeyLength }
+        ensures has_secret { IsFalse self.old.is_closed → IsSome self.old.secret
+            → IsErrOf result RecordError.HasSecret }
+        ensures refused { IsFalse self.old.is_closed → IsNone self.old.secret
+            → IsOkUnless result RecordError.KeyLength }
         ensures updated { OnOk result (self.new
             ≡ record self.old { key = rekeyed self.old.key key.now iv; number = 0 }) }
         ensures kept { OnErr result (self.new ≡ self.old) }
@@ -157,9 +213,22 @@ impl Reader {
         if self.is_closed {
             return Err(RecordError::Closed);
         }
-        self.key = self.key.next(key, iv)?;
-        self.number = 0;
+        if self.secret.is_some() {
+            return Err(RecordError::HasSecret);
+        }
+        let key = self.key.next(key, iv)?;
+        self.continue_with(key, None);
         Ok(())
+    }
+
+    /// Continues with this key and its secret, from number 0 (RFC 8446 section 5.3).
+    fn continue_with(&mut self, key: RecordKey, secret: Option<Secret>)
+        requires { IfSome secret (λ s. IsKeyOf s key) }
+        ensures { self.new ≡ record self.old { key = key; secret = secret; number = 0 } }
+    {
+        self.key = key;
+        self.secret = secret;
+        self.number = 0;
     }
 
     /// Opens the next record, which is `bytes[at..end]`, into the bytes from `filled` on, and returns the type of its content

@@ -13,6 +13,12 @@ pub enum RecordError {
     /// The key is not as long as the algorithm's keys.
     #[error("the key does not have the length of the algorithm's keys")]
     KeyLength,
+    /// The reader or writer was made of a key and an IV, so it has no secret that gives the next ones.
+    #[error("there is no secret that gives the next key")]
+    NoSecret,
+    /// The reader or writer was made of a secret, which gives the next key and IV.
+    #[error("the next key is given by the secret")]
+    HasSecret,
     /// The size limit is not from 64 to 2^14 + 1 bytes (RFC 8449 section 4).
     #[error("the size limit is not between 64 and 2^14 + 1")]
     SizeLimit,

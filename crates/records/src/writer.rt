@@ -1,8 +1,8 @@
 //! Writing records.
 
-ghost use Rattle.std.specs.Prelude.{◌≡◌, ◌+◌, ◌-◌, ◌^◌, ◌<◌, ◌≤◌, ◌↔◌, ◌++◌, min, length, drop, replicate, slice_range, vec_len, vec_capacity, IsOk, IfOk, IsOkUnless, OnOk, IfErr, OnErr, IsErrOf};
+ghost use Rattle.std.specs.Prelude.{◌≡◌, ◌+◌, ◌-◌, ◌^◌, ◌<◌, ◌≤◌, ◌↔◌, ◌++◌, min, length, drop, replicate, slice_range, vec_len, vec_capacity, None, IsSome, IsNone, IfSome, IsOk, IfOk, IsOkUnless, OnOk, IfErr, OnErr, IsErrOf};
 ghost use Rattle.aead_ciphers.specs.Algorithm.{key_len};
-ghost use Rattle.records.specs.Keys.{new_key, rekeyed};
+ghost use Rattle.records.specs.Keys.{IsKeyOf, IsOfSecret, new_key, next_writer, rekeyed, writer_of};
 ghost use Rattle.records.specs.Record.{IsAllowed, record_at};
 ghost use Rattle.records.specs.Refusals.{RefusesContent, RefusesToSeal};
 
@@ -13,6 +13,7 @@ use crate::key::RecordKey;
 use crate::record_error::RecordError;
 use crate::{DEFAULT_LIMIT, HEADER_LEN, TAG_LEN};
 use aead_ciphers::aead::{Algorithm, NONCE_LEN};
+use key_derivation::Secret;
 use std::alloc::AllocError;
 use std::marker::Model;
 
@@ -23,30 +24,50 @@ use std::marker::Model;
 /// Writes a KeyUpdate, and continues under the next key. From `crates/examples/src/tls_connection.rt`:
 ///
 /// ```
-/// self.writer
-///     .write(ContentType::Handshake, &KEY_UPDATE_MESSAGE, 0, out)?;
-/// let next = self.secret.next_traffic();
-/// let key = next.record_key();
-/// self.writer.update(key.as_slice(), next.record_iv())?;
-/// self.secret = next;
-/// Ok(())
+/// writer.write(ContentType::Handshake, &KEY_UPDATE_MESSAGE, 0, out)?;
+/// writer.update()
 /// ```
 #[derive(Drop)]
 pub struct Writer {
     key: RecordKey,
+    /// The traffic secret of the key, unless the caller gave the key.
+    secret: Option<Secret>,
     number: u64,
     limit: u64,
 }
 
 impl Model for Writer {
-    ghost use Rattle.records.specs.Keys.{WriterState};
+    ghost use Rattle.std.specs.Prelude.{IfSome};
+    ghost use Rattle.records.specs.Keys.{IsKeyOf, WriterState};
 
     ghost Value = { WriterState };
 
-    ghost view = { λ w. record { key = w.key; number = w.number; limit = w.limit } };
+    ghost view = { λ w. record {
+      key = w.key;
+      secret = w.secret;
+      number = w.number;
+      limit = w.limit;
+    } };
+
+    ghost invariant = { λ w. IfSome w.secret (λ s. IsKeyOf s w.key) };
 }
 
 impl Writer {
+    /// Creates a writer of a traffic secret, which gives the key and the IV, and those after each `update` (RFC 8446 sections 7.2
+    /// and 7.3). Its next record is record 0, with the limit of `new`.
+    ///
+    /// A secret that is not the next of this one, as that of application data after the handshake's, begins another writer.
+    pub fn from_secret(secret: Secret) -> Self
+        ensures { result ≡ writer_of secret }
+    {
+        Writer {
+            key: RecordKey::from_secret(&secret),
+            secret: Some(secret),
+            number: 0,
+            limit: DEFAULT_LIMIT,
+        }
+    }
+
     /// Creates a writer whose next record is record 0, with a limit of 2^24 records under each key (RFC 8446 section 5.5).
     /// `key` has 16 or 32 bytes, and `iv` is the write_iv (section 7.3).
     ///
@@ -60,12 +81,14 @@ impl Writer {
         ensures refused { IsOkUnless result RecordError.KeyLength }
         ensures made { IfOk result (λ made. made ≡ record {
           key = new_key algorithm.now key.now iv;
+          secret = None;
           number = 0;
           limit = 2 ^ 24;
         }) }
     {
         Ok(Writer {
             key: RecordKey::new(algorithm, key, iv)?,
+            secret: None,
             number: 0,
             limit: DEFAULT_LIMIT,
         })
@@ -114,20 +137,56 @@ impl Writer {
         self.key.set_size_limit(size_limit)
     }
 
+    /// Continues under the next traffic secret, after a KeyUpdate was written. The number and the count of records start again at 0
+    /// (RFC 8446 sections 5.3 and 7.2).
+    ///
+    /// Fails with `NoSecret` if the writer was made of a key. It is then unchanged.
+    pub fn update(&mut self) -> Result<(), RecordError>
+        ensures accepted { IsOk result ↔ IsSome self.old.secret }
+        ensures refused { IsOkUnless result RecordError.NoSecret }
+        ensures updated { OnOk result (self.new ≡ next_writer self.old) }
+        ensures is_of { IsSome self.old.secret → IsOfSecret self.new.secret self.new.key }
+        ensures kept { OnErr result (self.new ≡ self.old) }
+    {
+        let Some(secret) = &self.secret else {
+            return Err(RecordError::NoSecret);
+        };
+        let next = secret.next_traffic();
+        let key = self.key.next_from_secret(&next);
+        self.continue_with(key, Some(next));
+        Ok(())
+    }
+
     /// Continues with the next key and IV of this direction, after a KeyUpdate or the last record of the handshake was written.
     /// The number and the count of records start again at 0 (RFC 8446 sections 5.3 and 7.2).
     ///
-    /// Fails with `KeyLength` if `key` is not as long as the algorithm's keys. The writer is then unchanged.
-    pub fn update(&mut self, key: &[u8], iv: [u8; NONCE_LEN]) -> Result<(), RecordError>
-        ensures accepted { IsOk result ↔ (length key.now ≡ key_len self.old.key.algorithm) }
-        ensures refused { IsOkUnless result RecordError.KeyLength }
+    /// Fails with `HasSecret` if the writer was made of a secret, and with `KeyLength` if `key` is not as long as the algorithm's
+    /// keys. The writer is then unchanged.
+    pub fn update_with(&mut self, key: &[u8], iv: [u8; NONCE_LEN]) -> Result<(), RecordError>
+        ensures accepted { IsOk result
+            ↔ (IsNone self.old.secret × (length key.now ≡ key_len self.old.key.algorithm)) }
+        ensures has_secret { IsSome self.old.secret → IsErrOf result RecordError.HasSecret }
+        ensures refused { IsNone self.old.secret → IsOkUnless result RecordError.KeyLength }
         ensures updated { OnOk result (self.new
             ≡ record self.old { key = rekeyed self.old.key key.now iv; number = 0 }) }
         ensures kept { OnErr result (self.new ≡ self.old) }
     {
-        self.key = self.key.next(key, iv)?;
-        self.number = 0;
+        if self.secret.is_some() {
+            return Err(RecordError::HasSecret);
+        }
+        let key = self.key.next(key, iv)?;
+        self.continue_with(key, None);
         Ok(())
+    }
+
+    /// Continues with this key and its secret, from number 0 (RFC 8446 section 5.3).
+    fn continue_with(&mut self, key: RecordKey, secret: Option<Secret>)
+        requires { IfSome secret (λ s. IsKeyOf s key) }
+        ensures { self.new ≡ record self.old { key = key; secret = secret; number = 0 } }
+    {
+        self.key = key;
+        self.secret = secret;
+        self.number = 0;
     }
 
     /// Seals the next record in place, as `RecordKey::seal_at` does, and returns its length in bytes.

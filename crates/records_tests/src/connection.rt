@@ -114,8 +114,8 @@ fn there_and_back(rt: &impl Abort, alloc: Global, direction: &Direction) -> Resu
         let iv = <[u8; 12]>::from_hex(epoch.iv)?;
         let (mut reader, mut writer) = match ends {
             Some((mut reader, mut writer)) => {
-                reader.update(&key, iv)?;
-                writer.update(&key, iv)?;
+                reader.update_with(&key, iv)?;
+                writer.update_with(&key, iv)?;
                 (reader, writer)
             }
             None => (

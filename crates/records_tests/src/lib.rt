@@ -13,4 +13,6 @@ mod receiving;
 #[cfg(test)]
 mod record_layer;
 #[cfg(test)]
+mod secrets;
+#[cfg(test)]
 mod stream;

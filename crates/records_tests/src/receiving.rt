@@ -3,10 +3,10 @@
 
 use crate::captured::CAPTURED;
 use crate::connection::{Direction, bytes_of, end_of_handshake};
-use examples::tls_connection::{Incoming, Outgoing, ReceiveError, Received, receive, send};
+use examples::tls_connection::{Incoming, ReceiveError, Received, receive, send};
 use key_derivation::{Secret, Suite};
 use records::ContentType::{Alert, ApplicationData, Handshake};
-use records::{ContentType, RecordError};
+use records::{ContentType, RecordError, Writer};
 use std::alloc::Global;
 use std::process::Abort;
 use std::test::Fail;
@@ -236,19 +236,12 @@ fn first_secret() -> Secret {
 
 /// Returns the records that a peer writes.
 fn written(alloc: Global, sent: &[Sent]) -> Result<Vec<u8>, Fail> {
-    let mut peer = Outgoing::new(first_secret())?;
+    let mut peer = Writer::from_secret(first_secret());
     let mut bytes = Vec::new(alloc);
     for &sent in sent {
         match sent {
-            Content(content_type, content) => peer
-                .writer
-                .write(content_type, content, 3, &mut bytes)?,
-            Updated => {
-                let next = peer.secret.next_traffic();
-                let key = next.record_key();
-                peer.writer.update(key.as_slice(), next.record_iv())?;
-                peer.secret = next;
-            }
+            Content(content_type, content) => peer.write(content_type, content, 3, &mut bytes)?,
+            Updated => peer.update()?,
         }
     }
     Ok(bytes)
@@ -280,7 +273,7 @@ fn received_is(
 fn meets(rt: &impl Abort, alloc: Global, case: &Case) -> Result<(), Fail> {
     let mut buffer = [0; 1024];
     let mut messages = MessageReader::new(&mut buffer, case.stage);
-    let mut incoming = Incoming::new(first_secret())?;
+    let mut incoming = Incoming::new(first_secret());
     let mut received = nothing(alloc);
     let mut bytes = written(alloc, case.sent)?;
     let taken = receive(
@@ -334,15 +327,15 @@ fn what_peers_do(rt: HostRuntime) -> Result<(), Fail> {
 /// A KeyUpdate that the peer asks for is sent before the next application data, under the old key.
 #[test]
 fn answers_a_key_update(rt: HostRuntime) -> Result<(), Fail> {
-    let mut outgoing = Outgoing::new(first_secret())?;
-    let mut incoming = Incoming::new(first_secret())?;
+    let mut writer = Writer::from_secret(first_secret());
+    let mut incoming = Incoming::new(first_secret());
     let mut bytes = Vec::new(rt.alloc());
-    send(&mut outgoing, &mut incoming, b"before", &mut bytes)?;
+    send(&mut writer, &mut incoming, b"before", &mut bytes)?;
     incoming.owes_update = true;
-    send(&mut outgoing, &mut incoming, b", and ", &mut bytes)?;
+    send(&mut writer, &mut incoming, b", and ", &mut bytes)?;
     holds(&rt, !incoming.owes_update, "answered");
-    send(&mut outgoing, &mut incoming, b"after", &mut bytes)?;
-    equal(&rt, &outgoing.writer.number(), &2);
+    send(&mut writer, &mut incoming, b"after", &mut bytes)?;
+    equal(&rt, &writer.number(), &2);
     let mut buffer = [0; 16];
     let mut messages = MessageReader::new(&mut buffer, Stage::Server);
     let mut received = nothing(rt.alloc());
@@ -393,7 +386,7 @@ fn is_received(
     } else {
         Suite::Aes256Gcm
     };
-    let mut incoming = Incoming::new(Secret::new(suite, &secret)?)?;
+    let mut incoming = Incoming::new(Secret::new(suite, &secret)?);
     let mut buffer = [0; 1024];
     let mut messages = MessageReader::new(&mut buffer, stage);
     let mut received = nothing(alloc);

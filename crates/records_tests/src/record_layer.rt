@@ -123,8 +123,8 @@ fn begins_with(rt: &impl Abort, bytes: &[u8], front: &[u8], before: &[u8]) {
     holds(rt, bytes.ends_with(rest), "the bytes after the front");
 }
 
-/// Asserts that the records of a run are written, and read again. Once the borrow of a content ends, the
-/// inner plaintext is at the front of the buffer, and every byte after it is unchanged.
+/// Asserts that the records of a run are written, and read again, whatever updates are refused between them for want of a secret.
+/// Once the borrow of a content ends, the inner plaintext is at the front of the buffer, and every byte after it is unchanged.
 fn there_and_back(
     rt: &impl Abort,
     alloc: Global,
@@ -140,6 +140,16 @@ fn there_and_back(
         let before = record.clone()?;
         is_read(rt, &mut reader, case, &mut record)?;
         begins_with(rt, &record, &inner_plaintext(alloc, case)?, &before);
+        holds(
+            rt,
+            writer.update() == Err(RecordError::NoSecret),
+            "a writer",
+        );
+        holds(
+            rt,
+            reader.update() == Err(RecordError::NoSecret),
+            "a reader",
+        );
     }
     Ok(())
 }
@@ -210,7 +220,12 @@ fn every_flipped_bit_is_refused(rt: HostRuntime) -> Result<(), Fail> {
 fn is_closed(rt: &impl Abort, reader: &mut Reader, record: &mut [u8]) {
     let closed = RecordError::Closed;
     holds(rt, reader.read(record).err() == Some(closed), "read");
-    holds(rt, reader.update(&KEY[..16], IV) == Err(closed), "update");
+    holds(rt, reader.update() == Err(closed), "update");
+    holds(
+        rt,
+        reader.update_with(&KEY[..16], IV) == Err(closed),
+        "update_with",
+    );
     holds(rt, reader.set_size_limit(64) == Err(closed), "a size limit");
 }
 
@@ -437,8 +452,8 @@ impl Ends {
     }
 
     fn update(&mut self) -> Result<(), RecordError> {
-        self.writer.update(&KEY[16..], IV)?;
-        self.reader.update(&KEY[16..], IV)
+        self.writer.update_with(&KEY[16..], IV)?;
+        self.reader.update_with(&KEY[16..], IV)
     }
 
     fn meets(&mut self, rt: &impl Abort, alloc: Global, event: Event) -> Result<(), RecordError> {
@@ -696,10 +711,20 @@ fn starting_at(rt: HostRuntime) -> Result<(), Fail> {
 }
 
 /// Each error with its text, and the number of its alert (RFC 8446 section 6).
-const TEXTS: [(RecordError, &str, u8); 18] = [
+const TEXTS: [(RecordError, &str, u8); 20] = [
     (
         RecordError::KeyLength,
         "the key does not have the length of the algorithm's keys",
+        0,
+    ),
+    (
+        RecordError::NoSecret,
+        "there is no secret that gives the next key",
+        0,
+    ),
+    (
+        RecordError::HasSecret,
+        "the next key is given by the secret",
         0,
     ),
     (

@@ -1,6 +1,7 @@
 use Rattle.std.proofs.Common.{◌≡◌, ◌-◌, ◌≤◌, drop, length, false}
 use Rattle.records.specs.Stream.{Taken}
-use Rattle.examples.specs.Connection.{IsOf, Step, receiving}
+use Rattle.records.specs.Keys.{IsOfSecret}
+use Rattle.examples.specs.Connection.{Step, receiving}
 use Rattle.examples.proofs.tls_connection.receive_records.Given as goal
 
 -- the records before `at` are received, and the bytes from there on are as they were
@@ -11,7 +12,7 @@ invariant-loop-len l = record {
   taken : Taken Step l.fn.bytes (receiving l.initial.incoming l.initial.messages l.initial.received) l.at
       (receiving l.incoming l.messages l.received);
   kept : drop l.at l.bytes ≡ drop l.at l.fn.bytes;
-  is_of : IsOf l.incoming.secret l.incoming.reader.key;
+  is_of : IsOfSecret l.incoming.reader.secret l.incoming.reader.key;
   going : l.incoming.is_ended ≡ false;
 }
 
