@@ -7,6 +7,10 @@ mod captured;
 #[cfg(test)]
 mod connection;
 #[cfg(test)]
+mod content;
+#[cfg(test)]
+mod early_data;
+#[cfg(test)]
 mod messages;
 #[cfg(test)]
 mod receiving;

@@ -711,7 +711,7 @@ fn starting_at(rt: HostRuntime) -> Result<(), Fail> {
 }
 
 /// Each error with its text, and the number of its alert (RFC 8446 section 6).
-const TEXTS: [(RecordError, &str, u8); 20] = [
+const TEXTS: [(RecordError, &str, u8); 22] = [
     (
         RecordError::KeyLength,
         "the key does not have the length of the algorithm's keys",
@@ -731,6 +731,11 @@ const TEXTS: [(RecordError, &str, u8); 20] = [
         RecordError::SizeLimit,
         "the size limit is not between 64 and 2^14 + 1",
         0,
+    ),
+    (
+        RecordError::PeerSizeLimit,
+        "the peer's size limit is not an allowed one",
+        47,
     ),
     (
         RecordError::ContentTooLong,
@@ -784,6 +789,11 @@ const TEXTS: [(RecordError, &str, u8); 20] = [
         20,
     ),
     (RecordError::Refused, "the record is not authentic", 20),
+    (
+        RecordError::TooMuchEarlyData,
+        "there is more early data than the server allows",
+        10,
+    ),
     (
         RecordError::NoContentType,
         "the inner plaintext has no content type",
