@@ -28,13 +28,14 @@ pub enum RecordError {
     /// The content, its type and its padding exceed the size limit (RFC 8446 section 5.4, RFC 8449 section 4).
     #[error("the content and its padding are longer than the size limit allows")]
     ContentTooLong,
-    /// The buffer has no room for the record: its content and padding, and 22 bytes more.
+    /// The buffer has no room for the record: its content and padding, and 22 bytes more. To open to it, it has no room for the
+    /// inner plaintext.
     #[error("the buffer has no room for the record")]
     NoRoom,
     /// Allocating memory for the record failed.
     #[error("no memory for the record")]
     OutOfMemory,
-    /// The limit on records under this key is reached (RFC 8446 section 5.5).
+    /// The limit on records under this key is reached, or would be passed by the records of a content (RFC 8446 section 5.5).
     #[error("the limit of records under this key is reached")]
     KeyUsedUp,
     /// The reader has rejected a record before, which ended the connection.
