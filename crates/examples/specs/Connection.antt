@@ -62,9 +62,6 @@ Step was bytes now = (was.incoming.is_ended ≡ false)
     × Reads was.incoming.reader read bytes (Ok (content_type, content))
     × Brings content_type content (record was { incoming = record was.incoming { reader = read } }) now
 
--- what a sender writes without padding: application data, and a KeyUpdate that asks for none in turn (section 4.6.3)
-abbrev pub data_record : List ℕ → Inner
-data_record content = record { content_type = ApplicationData; content = content; padding = 0 }
-
+-- a KeyUpdate that asks for none in turn (section 4.6.3)
 abbrev pub key_update_record : Inner
 key_update_record = record { content_type = Handshake; content = 24 ∷ 0 ∷ 0 ∷ 1 ∷ 0 ∷ []; padding = 0 }

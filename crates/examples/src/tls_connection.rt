@@ -1,12 +1,14 @@
 //! One end of a TLS 1.3 connection after the handshake: what it receives, over the peer's key updates, and what it sends.
 
 ghost use Rattle.std.specs.Prelude.{◌≡◌, ◌≢◌, ◌↔◌, ◌+◌, ◌<◌, ◌≤◌, ◌++◌, ℕ, List, [], ◌∷◌, map, length, take, drop, slice_range, slice_index, false, true, IsTrue, IsFalse, IsOk, IfOk, IfErr, IfSome, IsErrOf, OnOk, OnErr, Ok, Err, None, cond, vec_len};
+ghost use Rattle.std.specs.List.{concat};
+ghost use Rattle.records.specs.Content.{records_of};
 ghost use Rattle.records.specs.Keys.{IsOfSecret, next_writer, reader_of};
 ghost use Rattle.records.specs.Record.{record_at};
 ghost use Rattle.records.specs.Refusals.{alert_of as record_alert};
 ghost use Rattle.tls_messages.specs.Steps.{alert_of as message_alert};
 ghost use Rattle.records.specs.Stream.{NeedsMore, Taken};
-ghost use Rattle.examples.specs.Connection.{Step, data_record, handed_over, key_update_record, receiving, updated, updated_by};
+ghost use Rattle.examples.specs.Connection.{Step, handed_over, key_update_record, receiving, updated, updated_by};
 ghost use Rattle.tls_messages.specs.Messages.{messages_of, part_of};
 
 use key_derivation::Secret;
@@ -323,7 +325,8 @@ pub fn send_key_update(writer: &mut Writer, out: &mut Vec<u8>) -> Result<(), Rec
     writer.update()
 }
 
-/// Appends a record of application data to `out`, and before it, under the old key, the KeyUpdate that the peer has asked for.
+/// Appends the records of application data of any length to `out`, and before them, under the old key, the KeyUpdate that the peer
+/// has asked for.
 pub fn send(
     writer: &mut Writer,
     incoming: &mut Incoming,
@@ -332,10 +335,10 @@ pub fn send(
 ) -> Result<(), RecordError>
     requires { IsOfSecret writer.old.secret writer.old.key }
     ensures sent { IsFalse incoming.old.owes_update → OnOk result (out.new.items ≡ out.old.items
-        ++ record_at writer.old.key writer.old.number (data_record content.now)) }
+        ++ concat (records_of writer.old ContentType.ApplicationData 0 content.now)) }
     ensures answered { IsTrue incoming.old.owes_update → OnOk result (out.new.items ≡ (out.old.items
         ++ record_at writer.old.key writer.old.number key_update_record)
-        ++ record_at (next_writer writer.old).key 0 (data_record content.now)) }
+        ++ concat (records_of (next_writer writer.old) ContentType.ApplicationData 0 content.now)) }
     ensures settled { OnOk result (incoming.new ≡ record incoming.old { owes_update = false }) }
     ensures is_of { IsOfSecret writer.new.secret writer.new.key }
 {
@@ -343,5 +346,5 @@ pub fn send(
         send_key_update(writer, out)?;
         incoming.owes_update = false;
     }
-    writer.write(ContentType::ApplicationData, content, 0, out)
+    writer.write_content(ContentType::ApplicationData, content, 0, out)
 }

@@ -6,12 +6,12 @@ use lemmas.Nat.{be_bytes_2}
 use lemmas.Slice.{between_is}
 use Rattle.aead_ciphers_base.specs.Aes.{aes}
 use Rattle.aead_ciphers.specs.Counting.{xored_nonce}
-use Rattle.aead_ciphers.specs.Gcm.{gcm_decrypted, gcm_encrypted, gcm_sealed, gcm_tag, OpenedAttached}
+use Rattle.aead_ciphers.specs.Gcm.{Fits, gcm_decrypted, gcm_encrypted, gcm_sealed, gcm_tag, OpenedAttached}
 use Rattle.aead_ciphers.proofs.MessageLaws.{decrypted-encrypted, length-aes_encrypted, length-aes_sealed, length-aes_tag, encrypted-decrypted, length-aes_decrypted}
 use Rattle.records.specs
 use specs.Keys.{KeyState}
 use specs.Record.{Carries, Inner, IsHeader, IsWhole, Seals, body_len, header, inner_plaintext, type_code}
-use specs.Refusals.{RefusesInner, RefusesToOpen, SealsRefused}
+use specs.Refusals.{RefusesBytes, RefusesInner, RefusesToOpen, SealsRefused}
 use specs.Steps.{Opens, OpensMessage, RefusesMessage, overwritten}
 use specs.declared.record_error.RecordError.{RecordError}
 use specs.declared.record_error.RecordError.TheVariants.{AlertLength, EmptyContent, NoContentType, Refused, UnexpectedType, WrongLength}
@@ -92,6 +92,11 @@ module _ (key : KeyState) (number : ℕ) (bytes : List ℕ) where
     content = tt;
     refused = refuses_to_open error r;
   }
+
+  pub bytes_refused : (error : RecordError) → RefusesBytes key.size_limit bytes error → RefusesMessage key number bytes error
+  bytes_refused WrongLength r = r
+  bytes_refused Refused r = absurd r.1
+  bytes_refused error r = search rules
 
   opened_refuses : (error : RecordError) → SealsRefused key number bytes error → RefusesToOpen key number bytes error
   opened_refuses NoContentType r = r
@@ -230,3 +235,52 @@ module _ (old : List ℕ) (filled at end : ℕ) (order : (filled ≤ at + 5) × 
       sealed = rw there seals;
       left = put ∙ ap (overwritten old filled) (sym there);
     }
+
+-- ---- a record that is opened to another buffer
+
+module _ (key : KeyState) (number : ℕ) (bytes : List ℕ) (small : key.size_limit ≤ 2 ^ 14 + 1) (w : IsWhole key.size_limit bytes) where
+  abbrev count : ℕ
+  count = length bytes - 5 - 16
+
+  abbrev apart_nonce : List ℕ
+  apart_nonce = xored_nonce key.iv number
+
+  abbrev apart_text : List ℕ
+  apart_text = take count (drop 5 bytes)
+
+  abbrev apart_tag : List ℕ
+  apart_tag = drop count (drop 5 bytes)
+
+  length-apart_text : length apart_text ≡ count
+  length-apart_text = length-take-le count (drop 5 bytes) (omega (arith, length-drop 5 bytes))
+
+  apart : bytes ≡ take 5 bytes ++ (apart_text ++ apart_tag)
+  apart = sym (take-append-drop 5 bytes) ∙ ap (λ ys. take 5 bytes ++ ys) (sym (take-append-drop count (drop 5 bytes)))
+
+  -- its tag is false
+  pub refused_to : ¬ (Fits (length (take 5 bytes)) (length apart_text)
+      × (apart_tag ≡ gcm_tag (aes key.bytes) apart_nonce (take 5 bytes) apart_text)) → (message : List ℕ) → ¬ Seals key number bytes message
+  refused_to false_one m s =
+      let right = sealed_parts key.bytes apart_nonce (take 5 bytes) apart_text apart_tag m
+      (length-drop count (drop 5 bytes) ∙ omega (arith, length-drop 5 bytes, w.shortest))
+      (append_cancel_left (take 5 bytes) _ _ (sym apart ∙ s)) in
+      let head = length-take-le 5 bytes (omega (arith, w.shortest)) in
+      false_one (record { aad = omega arith; message = omega (arith, length-apart_text, w.longest, small) }, right.1)
+
+  -- its tag is right
+  pub opened_to : (old new : List ℕ) → apart_tag ≡ gcm_tag (aes key.bytes) apart_nonce (take 5 bytes) apart_text
+      → new ≡ gcm_decrypted (aes key.bytes) apart_nonce apart_text ++ drop count old → OpensMessage key number bytes 0 old new count
+  opened_to old new right e =
+      let opened : List ℕ = gcm_decrypted (aes key.bytes) apart_nonce apart_text in
+      let size : length opened ≡ count = length-aes_decrypted key.bytes apart_nonce apart_text ∙ length-apart_text in
+      let there : take count new ≡ opened = ap (take count) e ∙ take_at opened (drop count old) count size in
+      let sealed : Seals key number bytes opened =
+      rw (encrypted-decrypted key.bytes apart_nonce apart_text)
+      (apart ∙ ap (λ t. take 5 bytes ++ (apart_text ++ t)) right) in
+      let behind : count ≡ 0 + length opened = omega (arith, size) in
+      record {
+        whole = w;
+        len = omega (arith, w.shortest);
+        sealed = rw there sealed;
+        left = e ∙ ap (λ k. opened ++ drop k old) behind ∙ ap (overwritten old 0) (sym there);
+      }

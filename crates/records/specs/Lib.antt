@@ -1,4 +1,7 @@
 -- The definitions that the contracts use.
+pub mod Alerts
+pub mod Content
+pub mod EarlyData
 pub mod Joined
 pub mod Keys
 pub mod Record

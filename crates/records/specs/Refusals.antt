@@ -5,15 +5,15 @@ use Rattle.records.specs.Record.{IsAllowed, IsHeader, IsUnknown, IsWhole, Seals,
 use Rattle.records.specs.declared.content_type.ContentType.{ContentType}
 use Rattle.records.specs.declared.content_type.ContentType.TheVariants.{Alert, ApplicationData}
 use Rattle.tls_messages.specs.declared.alert.AlertDescription.{AlertDescription}
-use Rattle.tls_messages.specs.declared.alert.AlertDescription.TheVariants.{BadRecordMac, DecodeError, RecordOverflow, UnexpectedMessage}
+use Rattle.tls_messages.specs.declared.alert.AlertDescription.TheVariants.{BadRecordMac, DecodeError, IllegalParameter, RecordOverflow, UnexpectedMessage}
 use Rattle.records.specs.declared.record_error.RecordError.{RecordError}
 use Rattle.records.specs.declared.record_error.RecordError.TheVariants.{AlertLength, ContentTooLong, EmptyContent, EncryptedRecordTooLong}
 use Rattle.records.specs.declared.record_error.RecordError.TheVariants.{EncryptedRecordTooShort, InnerPlaintextTooLong, NoContentType}
-use Rattle.records.specs.declared.record_error.RecordError.TheVariants.{NoRoom, PlaintextTooLong, Refused, UnexpectedRecord}
+use Rattle.records.specs.declared.record_error.RecordError.TheVariants.{NoRoom, PeerSizeLimit, PlaintextTooLong, Refused, TooMuchEarlyData, UnexpectedRecord}
 use Rattle.records.specs.declared.record_error.RecordError.TheVariants.{UnexpectedType, WrongLength}
 
--- the alert that ends the connection when a record is rejected (sections 5, 5.1, 5.2, 5.4 and 6.2), or none if the record is not the
--- cause
+-- the alert that ends the connection when a record is rejected (sections 4.6.1, 5, 5.1, 5.2, 5.4 and 6.2), or a size limit (RFC 8449
+-- section 4), or none if the peer is not the cause
 abbrev pub alert_of : RecordError → Option AlertDescription
 alert_of EncryptedRecordTooShort = Some BadRecordMac
 alert_of Refused = Some BadRecordMac
@@ -21,10 +21,12 @@ alert_of EncryptedRecordTooLong = Some RecordOverflow
 alert_of InnerPlaintextTooLong = Some RecordOverflow
 alert_of PlaintextTooLong = Some RecordOverflow
 alert_of UnexpectedRecord = Some UnexpectedMessage
+alert_of TooMuchEarlyData = Some UnexpectedMessage
 alert_of UnexpectedType = Some UnexpectedMessage
 alert_of NoContentType = Some UnexpectedMessage
 alert_of EmptyContent = Some UnexpectedMessage
 alert_of AlertLength = Some DecodeError
+alert_of PeerSizeLimit = Some IllegalParameter
 alert_of error = None
 
 -- why n bytes of content and this padding make no record
@@ -85,3 +87,8 @@ RefusesToOpen key number bytes UnexpectedType = SealsRefused key number bytes Un
 RefusesToOpen key number bytes EmptyContent = SealsRefused key number bytes EmptyContent
 RefusesToOpen key number bytes AlertLength = SealsRefused key number bytes AlertLength
 RefusesToOpen key number bytes error = RefusesBytes key.size_limit bytes error
+
+-- why a record does not open to a buffer that has no room for its inner plaintext
+abbrev pub RefusesToOpenTo : (size_limit : ℕ) → List ℕ → RecordError → Type 0
+RefusesToOpenTo size_limit bytes NoRoom = IsWhole size_limit bytes
+RefusesToOpenTo size_limit bytes error = RefusesBytes size_limit bytes error

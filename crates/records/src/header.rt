@@ -1,6 +1,6 @@
 //! The header of a protected record.
 
-ghost use Rattle.std.specs.Prelude.{◌≡◌, ◌+◌, ◌^◌, ◌<◌, ◌≤◌, ◌↔◌, take, IsOk, IfOk, IfErr};
+ghost use Rattle.std.specs.Prelude.{◌≡◌, ◌+◌, ◌-◌, ◌^◌, ◌<◌, ◌≤◌, ◌↔◌, take, IsOk, IfOk, IfErr};
 ghost use Rattle.records.specs.Record.{header, body_len, IsHeader, IsWhole};
 ghost use Rattle.records.specs.Refusals.{RefusesBytes, RefusesHeader};
 
@@ -8,7 +8,7 @@ use crate::record_error::RecordError;
 use crate::{HEADER_LEN, TAG_LEN};
 
 /// The longest encrypted record that a header may announce, for any cipher (RFC 8446 section 5.2).
-const MAX_ENCRYPTED_LEN: usize = 16640;
+pub(crate) const MAX_ENCRYPTED_LEN: usize = 16640;
 
 pub(crate) const APPLICATION_DATA: u8 = 23;
 
@@ -23,7 +23,7 @@ pub(crate) fn header_of(len: usize) -> [u8; HEADER_LEN]
 
 /// The length of the protected record that begins with this header, including the header.
 pub(crate) fn record_len(size_limit: usize, header: &[u8; HEADER_LEN]) -> Result<usize, RecordError>
-    requires { size_limit ≤ 2 ^ 14 + 1 }
+    requires { size_limit ≤ 2 ^ 14 + 256 - 16 }
     ensures accepted { IsOk result ↔ IsHeader size_limit header.now }
     ensures len { IfOk result (λ n. n ≡ HEADER_LEN + body_len header.now) }
     ensures refused { IfErr result (RefusesHeader size_limit header.now) }
@@ -47,7 +47,7 @@ pub(crate) fn record_len(size_limit: usize, header: &[u8; HEADER_LEN]) -> Result
 
 /// The header of these bytes, if they are one whole record.
 pub(crate) fn header_in(size_limit: usize, bytes: &[u8]) -> Result<[u8; HEADER_LEN], RecordError>
-    requires { size_limit ≤ 2 ^ 14 + 1 }
+    requires { size_limit ≤ 2 ^ 14 + 256 - 16 }
     ensures accepted { IsOk result ↔ IsWhole size_limit bytes.now }
     ensures header { IfOk result (λ header. header ≡ take HEADER_LEN bytes.now) }
     ensures refused { IfErr result (RefusesBytes size_limit bytes.now) }

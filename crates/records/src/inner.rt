@@ -5,13 +5,11 @@ ghost use Rattle.aead_ciphers.specs.Packet.{packet_message};
 ghost use Rattle.records.specs.Record.{header, inner_plaintext, plaintext, type_code, IsAllowed};
 ghost use Rattle.records.specs.Refusals.{RefusesContent, RefusesInner};
 
+use crate::alert::ALERT_LEN;
 use crate::content_type::ContentType;
 use crate::header::header_of;
 use crate::record_error::RecordError;
 use crate::{HEADER_LEN, TAG_LEN};
-
-/// The length of an alert in bytes (RFC 8446 section 6).
-const ALERT_LEN: usize = 2;
 
 /// The length of the inner plaintext of a content of this type and length.
 pub(crate) fn inner_len(

@@ -1,20 +1,20 @@
 //! A key that seals and opens records by their numbers.
 
-ghost use Rattle.std.specs.Prelude.{◌≡◌, ◌+◌, ◌-◌, ◌^◌, ◌≤◌, ◌↔◌, ◌++◌, length, drop, take, slice_range, IsOk, IfOk, IsOkUnless, IfErr, OnOk, OnErr};
+ghost use Rattle.std.specs.Prelude.{◌≡◌, ℕ, List, ◌+◌, ◌-◌, ◌^◌, ◌<◌, ◌≤◌, ◌↔◌, ◌++◌, length, drop, take, slice_range, IsOk, IfOk, IsOkUnless, IfErr, IsErrOf, OnOk, OnErr};
 ghost use Rattle.aead_ciphers.specs.Algorithm.{key_len};
 ghost use Rattle.key_derivation.specs.Tls.{record_iv, record_key};
 ghost use Rattle.records.specs.Keys.{new_key, rekeyed, secret_key, suite_algorithm};
-ghost use Rattle.records.specs.Record.{record_at, Carries, Inner, IsAllowed};
-ghost use Rattle.records.specs.Refusals.{RefusesContent, RefusesToSeal};
+ghost use Rattle.records.specs.Record.{record_at, Carries, Inner, IsAllowed, IsWhole, Seals};
+ghost use Rattle.records.specs.Refusals.{RefusesContent, RefusesToOpenTo, RefusesToSeal};
 ghost use Rattle.records.specs.Steps.{content_at, LeavesInner, LeavesRefused, Opens, OpensMessage, RefusesMessage};
 
+use crate::cipher::Cipher;
 use crate::content_type::ContentType;
 use crate::header::header_in;
 use crate::inner::{content_of, frame, inner_len};
 use crate::record_error::RecordError;
 use crate::{HEADER_LEN, MAX_SIZE_LIMIT, MIN_SIZE_LIMIT, TAG_LEN};
-use aead_ciphers::aead::{AES_128_GCM, AES_256_GCM, Aad, Algorithm, NONCE_LEN, nonce_of};
-use aead_ciphers_wide::aead::LessSafeKey;
+use aead_ciphers::aead::{AES_128_GCM, AES_256_GCM, Aad, Algorithm, NONCE_LEN, Tag, nonce_of};
 use key_derivation::{Secret, Suite};
 use std::marker::Model;
 
@@ -28,12 +28,13 @@ fn algorithm_of(suite: Suite) -> &'static Algorithm
     }
 }
 
-/// A key and IV of one direction, which seals and opens records by their numbers, in place and without allocating.
+/// A key and IV of one direction, which seals and opens records by their numbers, in place or from one buffer to another, and
+/// without allocating.
 ///
 /// It keeps no count: not using a number twice for sealing is the caller's responsibility. A `Writer` and a `Reader` count.
 #[derive(Drop)]
 pub struct RecordKey {
-    key: LessSafeKey,
+    key: Cipher,
     iv: [u8; NONCE_LEN],
     size_limit: usize,
 }
@@ -68,7 +69,7 @@ impl RecordKey {
         ensures refused { IsOkUnless result RecordError.KeyLength }
         ensures made { IfOk result (λ made. made ≡ new_key algorithm.now key.now iv) }
     {
-        match LessSafeKey::new(algorithm, key) {
+        match Cipher::new(algorithm, key) {
             Ok(key) => Ok(RecordKey {
                 key,
                 iv,
@@ -172,6 +173,41 @@ impl RecordKey {
         Ok(len)
     }
 
+    /// Like `seal_at` from one buffer to another: writes the record of this content to the front of `out`. The bytes after it
+    /// are unchanged.
+    ///
+    /// Fails as `seal_at` does, with `NoRoom` if `out` is too short for the record. `out` is then unchanged.
+    pub fn seal_to(
+        &self,
+        number: u64,
+        content_type: ContentType,
+        content: &[u8],
+        padding: usize,
+        out: &mut [u8],
+    ) -> Result<usize, RecordError>
+        ensures accepted { IsOk result
+            ↔ (IsAllowed self.now.size_limit content_type (length content.now) padding
+            × (length content.now + padding + 22 ≤ length out.old)) }
+        ensures refused { IfErr result (RefusesToSeal
+            self.now.size_limit content_type (length content.now) padding (length out.old)) }
+        ensures len { IfOk result (λ n. n ≡ length content.now + padding + 22) }
+        ensures sealed { OnOk result (out.new ≡ record_at self.now number (record {
+          content_type = content_type;
+          content = content.now;
+          padding = padding;
+        }) ++ drop (length content.now + padding + 22) out.old) }
+        ensures kept { OnErr result (out.new ≡ out.old) }
+    {
+        let len = HEADER_LEN + self.inner_len(content_type, content.len(), padding)? + TAG_LEN;
+        if out.len() < len {
+            return Err(RecordError::NoRoom);
+        }
+        let record = &mut out[..len];
+        record[HEADER_LEN..HEADER_LEN + content.len()].copy_from_slice(content);
+        self.seal_whole(number, content_type, record, content.len());
+        Ok(len)
+    }
+
     /// The length of the inner plaintext of a content of this type and length.
     pub(crate) fn inner_len(
         &self,
@@ -206,10 +242,7 @@ impl RecordKey {
         }) }
     {
         frame(bytes, content_type, content_len);
-        let nonce = nonce_of(&self.iv, number);
-        let Ok(()) = self.key.seal_packet_in_place(nonce, bytes, HEADER_LEN) else {
-            unreachable!();
-        };
+        self.key.seal_record(nonce_of(&self.iv, number), bytes);
     }
 
     /// Opens the record with this number, which is the whole of `bytes`, in place, and returns the type of its content and its
@@ -230,11 +263,77 @@ impl RecordKey {
             (LeavesRefused self.now number bytes.old HEADER_LEN bytes.old bytes.new) }
     {
         let end = bytes.len();
-        self.open_to(number, bytes, HEADER_LEN, 0, end)
+        self.open_within(number, bytes, HEADER_LEN, 0, end)
+    }
+
+    /// Like `open_at` from one buffer to another: the content is then `out[..length]`. `out` has room for the inner plaintext,
+    /// 21 bytes fewer than the record has, and the bytes after that are unchanged.
+    ///
+    /// Fails with `NoRoom` if `out` is shorter. Nothing is written before the record is authenticated. After `NoContentType`,
+    /// `UnexpectedType`, `EmptyContent` and `AlertLength`, its inner plaintext is at the front of `out`; any other failure leaves
+    /// `out` unchanged.
+    pub fn open_to(
+        &self,
+        number: u64,
+        bytes: &[u8],
+        out: &mut [u8],
+    ) -> Result<(ContentType, usize), RecordError>
+        ensures opens { length bytes.now ≤ length out.old + 21
+            → Opens self.now number bytes.now (content_at 0 out.new result) }
+        ensures no_room { length out.old + 21 < length bytes.now → (error : RecordError)
+            × IsErrOf result error × RefusesToOpenTo self.now.size_limit bytes.now error }
+        ensures within { IfOk result (λ read. read.1 + 22 ≤ length bytes.now) }
+        ensures put { IfOk result (LeavesInner (length bytes.now) 0 out.old out.new) }
+        ensures kept { IfErr result
+            (LeavesRefused self.now number bytes.now 0 out.old out.new) }
+    {
+        let header = header_in(self.size_limit, bytes)?;
+        if out.len() < bytes.len() - HEADER_LEN - TAG_LEN {
+            return Err(RecordError::NoRoom);
+        }
+        let len = self.open_message_to(number, &header, bytes, out)?;
+        match content_of(&out[..len]) {
+            Ok(found) => Ok(found),
+            Err(error) => Err(error),
+        }
+    }
+
+    /// Opens the inner plaintext of a whole record to the front of `out`, and returns its length.
+    fn open_message_to(
+        &self,
+        number: u64,
+        header: &[u8; HEADER_LEN],
+        bytes: &[u8],
+        out: &mut [u8],
+    ) -> Result<usize, RecordError>
+        requires whole { IsWhole self.now.size_limit bytes.now }
+        requires header { header.now ≡ take HEADER_LEN bytes.now }
+        requires room { length bytes.now ≤ length out.old + 21 }
+        ensures opened { IfOk result
+            (OpensMessage self.now number bytes.now 0 out.old out.new) }
+        ensures len { IfOk result (λ n. n + 21 ≡ length bytes.now) }
+        ensures refused { IsOkUnless result RecordError.Refused }
+        ensures none { OnErr result ((message : List ℕ) → ¬ Seals self.now number bytes.now message) }
+        ensures kept { OnErr result (out.new ≡ out.old) }
+    {
+        let len = bytes.len() - HEADER_LEN - TAG_LEN;
+        let (ciphertext, tag) = bytes[HEADER_LEN..].split_at(len);
+        let Ok(tag) = Tag::try_from(tag) else {
+            unreachable!();
+        };
+        let nonce = nonce_of(&self.iv, number);
+        let aad = Aad::from(header.as_slice());
+        match self
+            .key
+            .open_to(nonce, aad, tag, ciphertext, &mut out[..len])
+        {
+            Ok(()) => Ok(len),
+            Err(_) => Err(RecordError::Refused),
+        }
     }
 
     /// Opens the record `bytes[at..end]` into the bytes from `filled` on.
-    pub(crate) fn open_to(
+    pub(crate) fn open_within(
         &self,
         number: u64,
         bytes: &mut [u8],

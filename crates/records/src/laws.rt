@@ -1,11 +1,14 @@
 //! Laws of the definitions: functions that do nothing, each of whose contracts states a law for its arguments.
 
-ghost use Rattle.std.specs.Prelude.{◌≡◌, [], false, ℕ, ◌<◌, ◌≤◌, All, AllPairs, List, length, map};
+ghost use Rattle.std.specs.Prelude.{◌≡◌, [], ◌∷◌, false, ℕ, ◌<◌, ◌≤◌, All, AllPairs, List, length, map};
+ghost use Rattle.std.specs.List.{concat, range_with_len};
 ghost use Rattle.aead_ciphers.specs.Runs.{Runs};
+ghost use Rattle.records.specs.Content.{IsWritable, after_content, piece_room, pieces, record_count, records_of};
 ghost use Rattle.records.specs.Joined.{Joins, Says, Token};
 ghost use Rattle.records.specs.Keys.{Holds, ReaderState, WriterState, nth_secret, reader_of, writer_of};
 ghost use Rattle.records.specs.Record.{Inner};
-ghost use Rattle.records.specs.Runs.{Answer, Event, Follows, ReadStep, WriteStep, WriterRuns, as_asked, updates_in};
+ghost use Rattle.records.specs.Runs.{Answer, Event, Follows, ReadStep, WriteStep, WriterRuns, as_asked, carries, updates_in};
+ghost use Rattle.records.specs.declared.content_type.ContentType.{ContentType};
 ghost use Rattle.tls_messages.specs.declared.stage.Stage.{Stage};
 
 use crate::{Reader, Writer};
@@ -37,6 +40,40 @@ pub fn joining_undoes_writing(writer: &Writer, reader: &Reader)
         → Runs WriteStep writer.now written asked sent
         → Runs ReadStep reader.now stands sent read
         → Joins stage bound [] false read tokens }
+{}
+
+/// A content of any length that `write_content` or `seal_content` writes is written as by calls of `write`, one for each of its
+/// pieces, which joined are the content. Their numbers are consecutive, so that `no_number_twice_under_a_key` holds of them.
+#[tactic(auto, using(crate::proofs::ContentLemmas::runs, crate::proofs::ContentLemmas::joined, crate::proofs::ContentLemmas::numbers))]
+pub fn content_is_written_in_pieces(writer: &Writer)
+    ensures runs { (content_type : ContentType) (content : List ℕ) (padding : ℕ)
+        → IsWritable writer.now content_type (length content) padding
+        → Runs WriteStep writer.now (after_content writer.now padding (length content))
+        (map carries (pieces content_type writer.now.key.size_limit padding content))
+        (map carries (records_of writer.now content_type padding content)) }
+    ensures joined { (content_type : ContentType) (content : List ℕ) (padding : ℕ)
+        → IsWritable writer.now content_type (length content) padding
+        → concat (map (λ inner. inner.content)
+        (pieces content_type writer.now.key.size_limit padding content)) ≡ content }
+    ensures numbers { (content_type : ContentType) (n padding : ℕ)
+        → IsWritable writer.now content_type n padding
+        → WriterRuns writer.now (after_content writer.now padding n)
+        (range_with_len writer.now.number
+        (record_count (piece_room writer.now.key.size_limit padding) n) ∷ []) }
+{}
+
+/// What is written of a content of any length, reading gives back in order: each of its pieces, under its type.
+#[tactic(auto, using(crate::proofs::ContentLemmas::read_back))]
+pub fn reading_undoes_writing_content(writer: &Writer, reader: &Reader)
+    requires { Follows writer.now reader.now }
+    ensures { (content_type : ContentType) (content : List ℕ) (padding : ℕ)
+        (read : List (Event Answer)) (stands : ReaderState)
+        → IsWritable writer.now content_type (length content) padding
+        → Runs ReadStep reader.now stands
+        (map carries (records_of writer.now content_type padding content)) read
+        → (read ≡ map as_asked
+        (map carries (pieces content_type writer.now.key.size_limit padding content)))
+        × Follows (after_content writer.now padding (length content)) stands }
 {}
 
 /// Both ends of one secret agree after any number of updates. Whatever calls of `write`, `seal` and `update` followed

@@ -5,6 +5,8 @@
 //! byte by byte.
 #![tactic(auto)]
 
+mod alert;
+mod cipher;
 mod content_type;
 mod header;
 mod inner;
@@ -12,14 +14,17 @@ mod key;
 pub mod laws;
 mod reader;
 mod record_error;
+mod side;
 mod stream;
 mod writer;
 
 use aead_ciphers::aead::MAX_TAG_LEN;
+pub use alert::{CLOSE_NOTIFY, fatal_alert, plaintext_alert};
 pub use content_type::ContentType;
 pub use key::RecordKey;
-pub use reader::Reader;
+pub use reader::{EarlyData, Reader};
 pub use record_error::RecordError;
+pub use side::Side;
 pub use stream::{Begins, RecordKind, classify};
 pub use tls_messages::AlertDescription;
 pub use writer::Writer;

@@ -5,10 +5,13 @@ ghost use Rattle.aead_ciphers.specs.Algorithm.{key_len};
 ghost use Rattle.records.specs.Keys.{IsKeyOf, IsOfSecret, new_key, next_reader, reader_of, rekeyed};
 ghost use Rattle.records.specs.Steps.{content_at, lent_content, after_error, LeavesInner, LeavesRefused, Reads};
 
+mod early_data;
+
 use crate::content_type::ContentType;
 use crate::key::RecordKey;
 use crate::record_error::RecordError;
 use aead_ciphers::aead::{Algorithm, NONCE_LEN};
+pub use early_data::EarlyData;
 use key_derivation::Secret;
 use std::marker::Model;
 
@@ -263,7 +266,7 @@ impl Reader {
         if self.number >= self.limit {
             return Err(RecordError::KeyUsedUp);
         }
-        match self.key.open_to(self.number, bytes, filled, at, end) {
+        match self.key.open_within(self.number, bytes, filled, at, end) {
             Ok(read) => {
                 self.number += 1;
                 Ok(read)

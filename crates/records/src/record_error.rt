@@ -22,16 +22,20 @@ pub enum RecordError {
     /// The size limit is not from 64 to 2^14 + 1 bytes (RFC 8449 section 4).
     #[error("the size limit is not between 64 and 2^14 + 1")]
     SizeLimit,
+    /// The RecordSizeLimit that the peer sent is below 64 or, from a server, above 2^14 + 1 bytes (RFC 8449 section 4).
+    #[error("the peer's size limit is not an allowed one")]
+    PeerSizeLimit,
     /// The content, its type and its padding exceed the size limit (RFC 8446 section 5.4, RFC 8449 section 4).
     #[error("the content and its padding are longer than the size limit allows")]
     ContentTooLong,
-    /// The buffer has no room for the record: its content and padding, and 22 bytes more.
+    /// The buffer has no room for the record: its content and padding, and 22 bytes more. To open to it, it has no room for the
+    /// inner plaintext.
     #[error("the buffer has no room for the record")]
     NoRoom,
     /// Allocating memory for the record failed.
     #[error("no memory for the record")]
     OutOfMemory,
-    /// The limit on records under this key is reached (RFC 8446 section 5.5).
+    /// The limit on records under this key is reached, or would be passed by the records of a content (RFC 8446 section 5.5).
     #[error("the limit of records under this key is reached")]
     KeyUsedUp,
     /// The reader has rejected a record before, which ended the connection.
@@ -60,6 +64,10 @@ pub enum RecordError {
     /// The tag is wrong: the record was changed, or is of another key or number.
     #[error("the record is not authentic")]
     Refused,
+    /// The record is taken as rejected early data, and there is more of it than the server allows (RFC 8446 sections 4.2.10 and
+    /// 4.6.1).
+    #[error("there is more early data than the server allows")]
+    TooMuchEarlyData,
     /// The record is authentic, but its inner plaintext is all zeros (RFC 8446 section 5.4).
     #[error("the inner plaintext has no content type")]
     NoContentType,
@@ -89,10 +97,12 @@ impl RecordError {
             | RecordError::InnerPlaintextTooLong
             | RecordError::PlaintextTooLong => Some(AlertDescription::RecordOverflow),
             RecordError::UnexpectedRecord
+            | RecordError::TooMuchEarlyData
             | RecordError::UnexpectedType
             | RecordError::NoContentType
             | RecordError::EmptyContent => Some(AlertDescription::UnexpectedMessage),
             RecordError::AlertLength => Some(AlertDescription::DecodeError),
+            RecordError::PeerSizeLimit => Some(AlertDescription::IllegalParameter),
             _ => None,
         }
     }

@@ -6,6 +6,8 @@ ghost use Rattle.records.specs.Keys.{IsKeyOf, IsOfSecret, new_key, next_writer, 
 ghost use Rattle.records.specs.Record.{IsAllowed, record_at};
 ghost use Rattle.records.specs.Refusals.{RefusesContent, RefusesToSeal};
 
+mod content;
+
 use crate::content_type::ContentType;
 use crate::key::RecordKey;
 use crate::record_error::RecordError;
@@ -121,8 +123,9 @@ impl Writer {
         self.key.size_limit()
     }
 
-    /// Sets the size limit, from 64 to 2^14 + 1 bytes: the RecordSizeLimit that the peer sent (RFC 8449 section 4). A longer
-    /// content is rejected, not split. The limit stays over key updates.
+    /// Sets the size limit, from 64 to 2^14 + 1 bytes: the RecordSizeLimit that the peer sent (RFC 8449 section 4), as
+    /// `Side::size_limit_of` gives it. A longer content is cut by `write_content` and `seal_content`, and rejected by `write` and
+    /// `seal`. The limit stays over key updates.
     ///
     /// Fails with `SizeLimit` for any other limit, and the writer is then unchanged.
     pub fn set_size_limit(&mut self, size_limit: usize) -> Result<(), RecordError>

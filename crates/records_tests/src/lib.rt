@@ -9,6 +9,10 @@ mod checks;
 #[cfg(test)]
 mod connection;
 #[cfg(test)]
+mod content;
+#[cfg(test)]
+mod early_data;
+#[cfg(test)]
 mod messages;
 #[cfg(test)]
 mod receiving;

@@ -621,6 +621,61 @@ fn opened_by_number(rt: HostRuntime) -> Result<(), Fail> {
     Ok(())
 }
 
+/// Seals a content of four bytes under the last number to another buffer.
+fn seal_last_to(key: &RecordKey, out: &mut [u8]) -> Result<usize, RecordError> {
+    key.seal_to(u64::MAX, ApplicationData, b"last", 0, out)
+}
+
+/// From one buffer to another, a record has only the bytes that it needs, and a failure writes none.
+#[test]
+fn sealed_and_opened_to_another_buffer(rt: HostRuntime) -> Result<(), Fail> {
+    let key = RecordKey::new(&AES_128_GCM, &KEY[..16], IV)?;
+    let wanted = <[u8; 26]>::from_hex(LAST)?;
+    let mut out = [9; 28];
+    let no_room = seal_last_to(&key, &mut out[..25]);
+    holds(&rt, no_room == Err(RecordError::NoRoom), "no room");
+    same(&rt, &out, &[9; 28], "nothing written");
+    holds(&rt, seal_last_to(&key, &mut out) == Ok(26), "the length");
+    begins_with(&rt, &out, &wanted, &[9; 28]);
+    let mut out = [9; 8];
+    let no_room = key.open_to(u64::MAX, &wanted, &mut out[..4]);
+    holds(&rt, no_room == Err(RecordError::NoRoom), "no room to open");
+    same(&rt, &out, &[9; 8], "nothing opened");
+    let opened = key.open_to(u64::MAX, &wanted, &mut out);
+    holds(&rt, opened == Ok((ApplicationData, 4)), "the type");
+    begins_with(&rt, &out, b"last\x17", &[9; 8]);
+    Ok(())
+}
+
+/// Asserts that a record is not opened to another buffer, which then begins with `inner`, and is unchanged after it.
+fn rejects_to(
+    rt: &impl Abort,
+    record: &[u8],
+    inner: &[u8],
+    error: RecordError,
+) -> Result<(), RecordError> {
+    let key = RecordKey::new(&AES_128_GCM, &KEY[..16], IV)?;
+    let mut out = [9; 32];
+    holds(
+        rt,
+        key.open_to(0, record, &mut out) == Err(error),
+        "the error",
+    );
+    begins_with(rt, &out, inner, &[9; 32]);
+    Ok(())
+}
+
+#[test]
+fn rejected_to_another_buffer(rt: HostRuntime) -> Result<(), Fail> {
+    for (text, error) in REFUSED {
+        rejects_to(&rt, &hex::decode(rt.alloc(), text)?, &[], error)?;
+    }
+    for (text, inner, error) in AUTHENTIC {
+        rejects_to(&rt, &hex::decode(rt.alloc(), text)?, inner, error)?;
+    }
+    Ok(())
+}
+
 /// Numbers, and the records that `tools/read-records make` printed for them: one past the writer's default limit, and the last
 /// that a reader reads.
 const NUMBERED: [(u64, &str); 2] = [
@@ -656,7 +711,7 @@ fn starting_at(rt: HostRuntime) -> Result<(), Fail> {
 }
 
 /// Each error with its text, and the number of its alert (RFC 8446 section 6).
-const TEXTS: [(RecordError, &str, u8); 20] = [
+const TEXTS: [(RecordError, &str, u8); 22] = [
     (
         RecordError::KeyLength,
         "the key does not have the length of the algorithm's keys",
@@ -676,6 +731,11 @@ const TEXTS: [(RecordError, &str, u8); 20] = [
         RecordError::SizeLimit,
         "the size limit is not between 64 and 2^14 + 1",
         0,
+    ),
+    (
+        RecordError::PeerSizeLimit,
+        "the peer's size limit is not an allowed one",
+        47,
     ),
     (
         RecordError::ContentTooLong,
@@ -729,6 +789,11 @@ const TEXTS: [(RecordError, &str, u8); 20] = [
         20,
     ),
     (RecordError::Refused, "the record is not authentic", 20),
+    (
+        RecordError::TooMuchEarlyData,
+        "there is more early data than the server allows",
+        10,
+    ),
     (
         RecordError::NoContentType,
         "the inner plaintext has no content type",

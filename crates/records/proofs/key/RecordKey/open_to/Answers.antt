@@ -1,14 +1,21 @@
-use Rattle.std.proofs.Common.{◌≡◌, ◌+◌, ◌-◌, arith}
 use Rattle.std.proofs.lemmas.Result.{err_from_is_err_and}
-use Rattle.records.proofs.RecordLemmas.{opens_none, refused_opens}
+use Rattle.records.specs.Keys.{KeyState}
+use Rattle.records.proofs.RecordLemmas.{bytes_refused, carried_whole, opens_none, refused_opens}
 use Rattle.records.proofs.key.RecordKey.open_to.Goals as goal
 
-pub returns-in_err-len-clause-opens : goal.returns-in_err-len-clause-opens
-returns-in_err-len-clause-opens c =
+pub returns-in_err-header-clause-opens : goal.returns-in_err-header-clause-opens
+returns-in_err-header-clause-opens c = λ room.
     let p = err_from_is_err_and c.from_residual.result c.from_residual.ensures.1 in
-    rw (p.1, p.2) (opens_none c.args.self.now c.args.number _ _ c.in_err-len.ensures.none c.in_err-len.ensures.refused)
+    let key : KeyState = record {
+      algorithm = c.self.inside.key.algorithm;
+      bytes = c.self.inside.key.bytes;
+      iv = c.self.inside.iv;
+      size_limit = c.self.inside.size_limit;
+    } in
+    rw (p.1, p.2, ← c.self.view_is) (opens_none key c.args.number _ _
+    (λ inner carried. let no = c.in_err-header.ensures.accepted.1 (carried_whole _ _ _ inner carried) in cc)
+    (bytes_refused key c.args.number _ _ c.in_err-header.ensures.refused))
 
 pub returns-in-Err-clause-opens : goal.returns-in-Err-clause-opens
-returns-in-Err-clause-opens c =
-    let same : c.args.filled + c.in_ok-len.len - c.args.filled ≡ c.in_ok-len.len = omega arith in
-    refused_opens _ _ _ _ _ _ _ c.in_ok-len.ensures.opened _ (rw same at c.in-Err.ensures.refused)
+returns-in-Err-clause-opens c = λ room.
+    refused_opens _ _ _ _ _ _ _ c.in_ok-len.ensures.opened _ c.in-Err.ensures.refused

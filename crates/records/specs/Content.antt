@@ -1,0 +1,76 @@
+-- A content of any length, as the contents of as many records as it takes (RFC 8446 section 5.1).
+use Rattle.std.specs.Prelude.{ℕ, zero, ◌+◌, ◌*◌, ◌-◌, ◌<◌, ◌≤◌, min, List, [], ◌∷◌, length, take, drop, map}
+use Rattle.std.specs.Int.{div_ceil}
+use Rattle.std.specs.List.{range_with_len}
+use Rattle.records.specs.Keys.{KeyState, WriterState}
+use Rattle.records.specs.Record.{Inner, IsAllowed, record_at}
+use Rattle.records.specs.Refusals.{RefusesContent}
+use Rattle.records.specs.declared.content_type.ContentType.{ContentType}
+use Rattle.records.specs.declared.content_type.ContentType.TheVariants.{Alert}
+use Rattle.records.specs.declared.record_error.RecordError.{RecordError}
+use Rattle.records.specs.declared.record_error.RecordError.TheVariants.{KeyUsedUp, NoRoom}
+
+-- the least that a record has of a content of n bytes: the whole of an alert, which is never cut, and otherwise a byte, if there is
+-- one (sections 5.1 and 5.4)
+abbrev pub least_piece : ContentType → ℕ → ℕ
+least_piece Alert n = n
+least_piece content_type n = min n 1
+
+-- the bytes of content that a record has room for beside its type and its padding (section 5.4, RFC 8449 section 4)
+abbrev pub piece_room : (size_limit padding : ℕ) → ℕ
+piece_room size_limit padding = size_limit - 1 - padding
+
+-- the number of records of a content of n bytes: as few as have room for it, and one for an empty content
+abbrev pub record_count : (room n : ℕ) → ℕ
+record_count room zero = 1
+record_count room n = div_ceil n room
+
+-- the i-th record has the next bytes of the content, as many as there is room for
+abbrev pub piece : ContentType → (room padding : ℕ) → List ℕ → ℕ → Inner
+piece content_type room padding content i =
+    record { content_type = content_type; content = take room (drop (i * room) content); padding = padding }
+
+-- the contents of all records, in order
+abbrev pub pieces : ContentType → (size_limit padding : ℕ) → List ℕ → List Inner
+pieces content_type size_limit padding content =
+    let room = piece_room size_limit padding in
+    map (piece content_type room padding content) (range_with_len 0 (record_count room (length content)))
+
+-- records with these contents, under consecutive numbers
+abbrev pub consecutive_records : KeyState → ℕ → List Inner → List (List ℕ)
+consecutive_records key number [] = []
+consecutive_records key number (inner ∷ later) = record_at key number inner ∷ consecutive_records key (number + 1) later
+
+-- the records that a writer makes of a content
+abbrev pub records_of : WriterState → ContentType → (padding : ℕ) → List ℕ → List (List ℕ)
+records_of writer content_type padding content =
+    consecutive_records writer.key writer.number (pieces content_type writer.key.size_limit padding content)
+
+-- the writer after n bytes of content: each record has used a number
+abbrev pub after_content : WriterState → (padding n : ℕ) → WriterState
+after_content writer padding n =
+    record writer { number = writer.number + record_count (piece_room writer.key.size_limit padding) n }
+
+-- the length of the records of n bytes of content
+abbrev pub records_len : (size_limit padding n : ℕ) → ℕ
+records_len size_limit padding n = n + record_count (piece_room size_limit padding) n * (padding + 22)
+
+-- a writer may write n bytes of content with this padding in each record: a record may have the least of it, and as many numbers as
+-- it takes are left
+pub record IsWritable (writer : WriterState) (content_type : ContentType) (n padding : ℕ) : Type 0 where
+  pub fits : IsAllowed writer.key.size_limit content_type (least_piece content_type n) padding
+  pub numbers : writer.number + record_count (piece_room writer.key.size_limit padding) n ≤ writer.limit
+
+-- why it may not
+abbrev pub RefusesToWrite : WriterState → ContentType → (n padding : ℕ) → RecordError → Type 0
+RefusesToWrite writer content_type n padding KeyUsedUp =
+    IsAllowed writer.key.size_limit content_type (least_piece content_type n) padding
+    × (writer.limit < writer.number + record_count (piece_room writer.key.size_limit padding) n)
+RefusesToWrite writer content_type n padding error =
+    RefusesContent writer.key.size_limit content_type (least_piece content_type n) padding error
+
+-- why it may not write it to a buffer of `room` bytes
+abbrev pub RefusesToSealAll : WriterState → ContentType → (n padding room : ℕ) → RecordError → Type 0
+RefusesToSealAll writer content_type n padding room NoRoom =
+    IsWritable writer content_type n padding × (room < records_len writer.key.size_limit padding n)
+RefusesToSealAll writer content_type n padding room error = RefusesToWrite writer content_type n padding error

@@ -1,0 +1,54 @@
+-- Early data that a server has rejected, and passes over (RFC 8446 section 4.2.10).
+use Rattle.std.specs.Prelude.{◌≡◌, ◌⊎◌, ℕ, ◌+◌, ◌-◌, ◌^◌, ◌<◌, ◌≤◌, Bool, true, IsFalse, IsTrue, List, length, take, drop, Option, Some, None, Result, Ok, Err}
+use Rattle.records.specs.Keys.{ReaderState}
+use Rattle.records.specs.Record.{IsWhole, Seals}
+use Rattle.records.specs.Refusals.{RefusesBytes}
+use Rattle.records.specs.Steps.{Reads}
+use Rattle.records.specs.declared.content_type.ContentType.{ContentType}
+use Rattle.records.specs.declared.record_error.RecordError.{RecordError}
+use Rattle.records.specs.declared.record_error.RecordError.TheVariants.{TooMuchEarlyData}
+
+-- whether no more is passed over, and how many bytes still may be
+pub record EarlyDataState : Type 0 where
+  pub remaining : ℕ
+  pub is_over : Bool
+
+-- a whole record of any cipher: at most 2^14 + 256 bytes follow its header (section 5.2)
+abbrev pub IsEncryptedRecord : List ℕ → Type 0
+IsEncryptedRecord bytes = IsWhole (2 ^ 14 + 256 - 16) bytes
+
+-- a record counts as the encrypted record without a content type and a tag, 17 bytes; its header has 5
+abbrev pub counted_len : List ℕ → ℕ
+counted_len bytes = length bytes - 5 - 17
+
+-- why a record is not passed over
+abbrev pub RefusesToSkip : EarlyDataState → List ℕ → RecordError → Type 0
+RefusesToSkip early bytes TooMuchEarlyData =
+    IsEncryptedRecord bytes × (IsTrue early.is_over ⊎ (early.remaining < counted_len bytes))
+RefusesToSkip early bytes error = RefusesBytes (2 ^ 14 + 256 - 16) bytes error
+
+-- A record that a reader passes over, if the bound allows it: one of any cipher that isn't authentic under the next number, or is
+-- longer than the size limit, which the client did not know when it sent early data
+pub record IsPassedOver (reader : ReaderState) (early : EarlyDataState) (bytes : List ℕ) : Type 0 where
+  pub goes_on : IsFalse early.is_over
+  pub is_open : IsFalse reader.is_closed
+  pub has_number : reader.number < reader.limit
+  pub whole : IsEncryptedRecord bytes
+  pub fails : (5 + reader.key.size_limit + 16 < length bytes) ⊎ ((message : List ℕ) → ¬ Seals reader.key reader.number bytes message)
+
+-- One read by a server that has rejected early data. `Ok None` is a record that was passed over. The first record that opens ends
+-- the early data; more than the bound is an error (section 4.6.1), and so is all else that is an error without early data.
+abbrev pub ReadsPast : (was now : ReaderState) (early later : EarlyDataState) (bytes : List ℕ)
+    → Result (Option (ContentType × List ℕ)) RecordError → Type 0
+ReadsPast was now early later bytes (Ok (Some read)) = Reads was now bytes (Ok read) × (later ≡ record early { is_over = true })
+ReadsPast was now early later bytes (Ok None) = IsPassedOver was early bytes × (counted_len bytes ≤ early.remaining)
+    × (now ≡ was) × (later ≡ record early { remaining = early.remaining - counted_len bytes })
+ReadsPast was now early later bytes (Err TooMuchEarlyData) = IsPassedOver was early bytes × (early.remaining < counted_len bytes)
+    × (now ≡ record was { is_closed = true }) × (later ≡ early)
+ReadsPast was now early later bytes (Err error) = ¬ IsPassedOver was early bytes × Reads was now bytes (Err error) × (later ≡ early)
+
+-- the content, given its length, in a buffer from `at` on
+abbrev pub past_at : ℕ → List ℕ → Result (Option (ContentType × ℕ)) RecordError → Result (Option (ContentType × List ℕ)) RecordError
+past_at at buffer (Ok (Some (content_type, len))) = Ok (Some (content_type, take len (drop at buffer)))
+past_at at buffer (Ok None) = Ok None
+past_at at buffer (Err error) = Err error

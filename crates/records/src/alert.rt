@@ -1,0 +1,59 @@
+//! Alerts that an endpoint sends (RFC 8446 section 6).
+
+ghost use Rattle.std.specs.Prelude.{◌≡◌, ◌+◌, ◌<◌, ◌≤◌, ◌++◌, ◌∷◌, [], vec_len, vec_capacity, IsOkUnless, IsErrOf, IfErr, OnOk, OnErr};
+ghost use Rattle.records.specs.Alerts.{alert_code, close_notify, plaintext_alert_record};
+ghost use Rattle.records.specs.Record.{IsAllowed, record_at};
+ghost use Rattle.records.specs.Refusals.{RefusesContent};
+
+use crate::content_type::ContentType;
+use crate::record_error::RecordError;
+use crate::writer::Writer;
+use tls_messages::AlertDescription;
+
+/// The length of an alert in bytes: its level and its description.
+pub(crate) const ALERT_LEN: usize = 2;
+
+/// The content of close_notify, after which an endpoint sends nothing more (RFC 8446 section 6.1).
+pub const CLOSE_NOTIFY: [u8; ALERT_LEN] = [1, 0];
+
+/// Returns the content of a fatal alert, after which an endpoint sends nothing more (RFC 8446 section 6.2).
+pub fn fatal_alert(description: AlertDescription) -> [u8; ALERT_LEN]
+    ensures { result ≡ 2 ∷ alert_code description ∷ [] }
+{
+    [2, description as u8]
+}
+
+/// Returns the record of an alert in plaintext, for an endpoint that has no keys yet (RFC 8446 section 5.1).
+pub fn plaintext_alert(alert: [u8; ALERT_LEN]) -> [u8; 7]
+    ensures { result ≡ plaintext_alert_record alert }
+{
+    let [level, description] = alert;
+    [21, 3, 3, 0, 2, level, description]
+}
+
+impl Writer {
+    /// Appends the record of close_notify, after which this side sends nothing more (RFC 8446 section 6.1).
+    ///
+    /// Fails as `write` does, and then appends nothing and uses no number.
+    pub fn close_notify(&mut self, out: &mut Vec<u8>) -> Result<(), RecordError>
+        ensures accepted { OnOk result ((self.old.number < self.old.limit)
+            × IsAllowed self.old.key.size_limit ContentType.Alert 2 0) }
+        ensures ended { self.old.limit ≤ self.old.number
+            → IsErrOf result RecordError.KeyUsedUp }
+        ensures refused { self.old.number < self.old.limit
+            → ¬ IsAllowed self.old.key.size_limit ContentType.Alert 2 0
+            → IfErr result (RefusesContent self.old.key.size_limit ContentType.Alert 2 0) }
+        ensures memory { self.old.number < self.old.limit
+            → IsAllowed self.old.key.size_limit ContentType.Alert 2 0
+            → IsOkUnless result RecordError.OutOfMemory }
+        ensures room { IsErrOf result RecordError.OutOfMemory
+            → vec_capacity out.old < vec_len out.old + 24 }
+        ensures written { OnOk result (out.new.items ≡ out.old.items
+            ++ record_at self.old.key self.old.number close_notify) }
+        ensures counted { OnOk result
+            (self.new ≡ record self.old { number = self.old.number + 1 }) }
+        ensures kept { OnErr result ((self.new ≡ self.old) × (out.new.items ≡ out.old.items)) }
+    {
+        self.write(ContentType::Alert, &CLOSE_NOTIFY, 0, out)
+    }
+}

@@ -1,0 +1,134 @@
+//! Early data that a server has rejected (RFC 8446 section 4.2.10).
+
+ghost use Rattle.std.specs.Prelude.{◌≡◌, ◌+◌, ◌-◌, ◌≤◌, ◌↔◌, length, slice_range, IsFalse, IsTrue, IsOk, IfOk, IfErr, IfNone, IfSome, OnOk, OnErr, false};
+ghost use Rattle.records.specs.EarlyData.{IsEncryptedRecord, ReadsPast, RefusesToSkip, counted_len, past_at};
+ghost use Rattle.records.specs.Steps.{LeavesInner, LeavesRefused};
+
+use super::Reader;
+use crate::content_type::ContentType;
+use crate::header::{MAX_ENCRYPTED_LEN, header_in};
+use crate::record_error::RecordError;
+use crate::{HEADER_LEN, TAG_LEN};
+use std::marker::Model;
+
+/// The bytes of a record that aren't counted: its header, a content type and a tag.
+const OVERHEAD: usize = HEADER_LEN + 1 + TAG_LEN;
+
+/// What a server that has rejected early data still passes over (RFC 8446 section 4.2.10).
+///
+/// Each record counts as its encrypted length less 17 bytes, those of a content type and a tag; padding counts, since it can't be
+/// told from content (section 4.6.1).
+#[derive(Drop)]
+pub struct EarlyData {
+    remaining: u64,
+    is_over: bool,
+}
+
+impl Model for EarlyData {
+    ghost use Rattle.records.specs.EarlyData.{EarlyDataState};
+
+    ghost Value = { EarlyDataState };
+
+    ghost view = { λ e. record { remaining = e.remaining; is_over = e.is_over } };
+}
+
+impl EarlyData {
+    /// Early data of which at most `max_early_data_size` bytes are passed over: those of the ticket that the client offers.
+    pub fn rejected(max_early_data_size: u32) -> Self
+        ensures { result ≡ record { remaining = max_early_data_size; is_over = false } }
+    {
+        EarlyData {
+            remaining: u64::from(max_early_data_size),
+            is_over: false,
+        }
+    }
+
+    /// Returns how many bytes may still be passed over.
+    pub fn remaining(&self) -> u64
+        ensures { result ≡ self.now.remaining }
+    {
+        self.remaining
+    }
+
+    /// Returns whether the early data is over, because a record was opened.
+    pub fn is_over(&self) -> bool
+        ensures { result ≡ self.now.is_over }
+    {
+        self.is_over
+    }
+
+    /// Passes over the protected record that is the whole of `bytes`, without a key: after a HelloRetryRequest, a server passes
+    /// over the records of type 23 until the second ClientHello.
+    ///
+    /// Fails with `TooMuchEarlyData` if the record counts as more than `remaining` bytes, or if the early data is over, and as
+    /// `classify` does if `bytes` is not one protected record, of up to 2^14 + 256 bytes. Nothing is then counted.
+    pub fn skip(&mut self, bytes: &[u8]) -> Result<(), RecordError>
+        ensures accepted { IsOk result ↔ (IsEncryptedRecord bytes.now × IsFalse self.old.is_over
+            × (counted_len bytes.now ≤ self.old.remaining)) }
+        ensures refused { IfErr result (RefusesToSkip self.old bytes.now) }
+        ensures counted { OnOk result (self.new ≡ record self.old {
+          remaining = self.old.remaining - counted_len bytes.now;
+        }) }
+        ensures kept { OnErr result (self.new ≡ self.old) }
+    {
+        header_in(MAX_ENCRYPTED_LEN - TAG_LEN, bytes)?;
+        let counted = (bytes.len() - OVERHEAD) as u64;
+        if self.is_over || counted > self.remaining {
+            return Err(RecordError::TooMuchEarlyData);
+        }
+        self.remaining -= counted;
+        Ok(())
+    }
+}
+
+impl Reader {
+    /// Like `gather` at a server that has rejected early data, before the client's second flight (RFC 8446 section 4.2.10).
+    ///
+    /// Returns `None` if the record is passed over: it is not authentic, or it is longer than the size limit, which the client
+    /// had not seen, but at most 2^14 + 256 bytes long. It uses no number, `early_data` counts it, and the buffer is unchanged.
+    /// The first record that opens ends the early data: from then on this call does the same as `gather`.
+    ///
+    /// Fails with `TooMuchEarlyData` if the record counts as more than `early_data.remaining()` bytes, and in any other case as
+    /// `gather` does.
+    pub fn gather_past_early_data(
+        &mut self,
+        early_data: &mut EarlyData,
+        bytes: &mut [u8],
+        filled: usize,
+        at: usize,
+        end: usize,
+    ) -> Result<Option<(ContentType, usize)>, RecordError>
+        requires { (filled ≤ at + 5) × (at ≤ end) × (end ≤ length bytes.old) }
+        ensures reads { ReadsPast self.old self.new early_data.old early_data.new
+            (slice_range bytes.old at end) (past_at filled bytes.new result) }
+        ensures within { IfOk result (λ found. IfSome found (λ read. filled + read.1 + 17 ≤ end)) }
+        ensures put { IfOk result (λ found. IfSome found
+            (LeavesInner (end - at) filled bytes.old bytes.new)) }
+        ensures passed { IfOk result (λ found. IfNone found (bytes.new ≡ bytes.old)) }
+        ensures kept { IfErr result (LeavesRefused self.old.key self.old.number
+            (slice_range bytes.old at end) filled bytes.old bytes.new) }
+    {
+        let error = match self.gather(bytes, filled, at, end) {
+            Ok(read) => {
+                early_data.is_over = true;
+                return Ok(Some(read));
+            }
+            Err(error) => error,
+        };
+        let may_be_skipped = matches!(
+            error,
+            RecordError::Refused | RecordError::InnerPlaintextTooLong
+        );
+        if early_data.is_over || !may_be_skipped {
+            return Err(error);
+        }
+        match early_data.skip(&bytes[at..end]) {
+            Ok(()) => {
+                self.is_closed = false;
+                Ok(None)
+            }
+            Err(RecordError::TooMuchEarlyData) => Err(RecordError::TooMuchEarlyData),
+            Err(_) => Err(error),
+        }
+    }
+}
