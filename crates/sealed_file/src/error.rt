@@ -53,7 +53,7 @@ impl fmt::Display for FileError {
             FileError::WrongKey => {
                 write!(
                     f,
-                    "the key or the passphrase is wrong, or the header was changed"
+                    "the key or passphrase is wrong, or the header was changed"
                 )
             }
             FileError::Iterations(count) => {

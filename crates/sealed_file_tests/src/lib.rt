@@ -3,6 +3,8 @@
 #![tactic(auto)]
 
 #[cfg(test)]
+mod passphrase;
+#[cfg(test)]
 mod reader;
 #[cfg(test)]
 mod sealed_files;
