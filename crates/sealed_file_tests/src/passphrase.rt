@@ -33,11 +33,12 @@ const TWO_CHUNKS: [u8; 16] = *b"\xc8\x6c\xd1\x26\x66\x5a\xc1\x12\x93\x37\xdb\x46
 fn opens(
     rt: &(impl Abort + AllocGlobal),
     sealed: &[u8],
-    (passphrase, aad): (&[u8], &[u8]),
+    secret: (&[u8], &[u8]),
     text: &str,
 ) -> Result<(), Fail>
-    requires { length aad.now ≤ 4096 }
+    requires { length secret.1.now ≤ 4096 }
 {
+    let (passphrase, aad) = secret;
     let mut opened = Vec::new(rt.alloc());
     let mut input = sealed;
     match open_with_passphrase(rt.alloc(), passphrase, aad, &mut input, &mut opened) {
