@@ -7,6 +7,7 @@ use std::io;
 #[derive(Clone, Copy)]
 pub enum Place {
     KeyFile,
+    PassphraseFile,
     Input,
     Output,
     Random,
@@ -20,6 +21,8 @@ pub enum Failure {
     Use(anyhow::Error),
     /// The key file does not have 32 bytes.
     KeyLength,
+    /// The passphrase is empty or too long.
+    PassphraseLength,
     /// OUT exists, and `--force` is not given.
     Exists,
     /// The key file to be created already exists.

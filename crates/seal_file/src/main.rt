@@ -1,4 +1,4 @@
-//! The program `seal_file`: seals a file or opens a sealed one, under the key in a file, and creates keys.
+//! The program `seal_file`: seals a file or opens a sealed one, under the key or the passphrase in a file, and creates keys.
 #![tactic(auto)]
 
 mod failure;
@@ -13,13 +13,14 @@ ghost use Rattle.std.specs.Prelude.{◌≤◌, length};
 
 use failure::{Failure, Place};
 use name::Name;
-use options::{Action, Conversion, HELP, Request, VERSION};
+use options::{Action, Conversion, HELP, Request, SecretFile, VERSION};
 use output::{NUMBER_LEN, NewFile, check_target};
 use progress::Source;
 use range::{Range, RangeWriter};
 use sealed_file::{
-    CHUNK_LEN, FileError, FileKey, FileRandom, HEADER_LEN, MAX_AAD_LEN, SealedReader, check_header,
-    open_with_aad, plaintext_len, seal_with_aad,
+    CHUNK_LEN, FileError, FileKey, FileRandom, HEADER_LEN, ITERATIONS, MAX_AAD_LEN,
+    PASSPHRASE_HEADER_LEN, PASSPHRASE_VERSION, SealedReader, check_header, iterations_in,
+    open_with_aad, open_with_passphrase, plaintext_len, seal_with_aad, seal_with_passphrase,
 };
 use std::alloc::Global;
 use std::fmt::Display;
@@ -30,6 +31,9 @@ use std::random::RandomSource;
 
 /// The length of a key in bytes.
 const KEY_LEN: usize = 32;
+
+/// The most bytes that a passphrase may have.
+const MAX_PASSPHRASE_LEN: usize = 4096;
 
 /// The mode of a key file: only its owner reads and writes it.
 const KEY_MODE: u32 = 0o600;
@@ -58,6 +62,10 @@ fn report(rt: &HostRuntime, request: &Request, failure: &Failure) -> ExitCode {
     let _ = match failure {
         Failure::Use(error) => eprintln!(rt; "seal_file: {error}; see --help"),
         Failure::KeyLength => say(rt, request, Place::KeyFile, &"the key is not 32 bytes long"),
+        Failure::PassphraseLength => {
+            let text = "the passphrase is empty, or longer than 4096 bytes";
+            say(rt, request, Place::PassphraseFile, &text)
+        }
         Failure::KeyExists => say(rt, request, Place::KeyFile, &"the file exists"),
         Failure::Exists => say(rt, request, Place::Output, &"the file exists"),
         Failure::SameFile => say(
@@ -84,7 +92,9 @@ fn say<D: Display>(rt: &HostRuntime, request: &Request, place: Place, text: &D) 
         return eprintln!(rt; "seal_file: {name}: {text}");
     }
     match place {
-        Place::Input => eprintln!(rt; "seal_file: standard input: {text}"),
+        Place::Input | Place::PassphraseFile => {
+            eprintln!(rt; "seal_file: standard input: {text}")
+        }
         Place::Output => eprintln!(rt; "seal_file: standard output: {text}"),
         Place::Random => eprintln!(rt; "seal_file: random bytes: {text}"),
         Place::KeyFile | Place::Console => eprintln!(rt; "seal_file: {text}"),
@@ -132,10 +142,17 @@ fn inspect(rt: &HostRuntime, name: &Name, key_file: Option<&Name>) -> Result<(),
     let mut header = Vec::new(rt.alloc());
     at(
         Place::Input,
-        file.take(HEADER_LEN as u64).read_to_end(&mut header),
+        file.take(PASSPHRASE_HEADER_LEN as u64)
+            .read_to_end(&mut header),
     )?;
-    check_header(&header).map_err(Failure::Refused)?;
-    at(Place::Output, print_len(rt, &metadata))?;
+    match check_header(&header) {
+        Ok(()) => at(Place::Output, print_len(rt, &metadata, None))?,
+        Err(FileError::AnotherVersion(PASSPHRASE_VERSION)) if key_file.is_none() => {
+            let iterations = iterations_in(&header).map_err(Failure::Refused)?;
+            at(Place::Output, print_len(rt, &metadata, Some(iterations)))?;
+        }
+        Err(error) => return Err(Failure::Refused(error)),
+    }
     if let Some(key_file) = key_file {
         if !read_key(rt, key_file)?.is_of(&header) {
             return Err(Failure::Refused(FileError::WrongKey));
@@ -148,13 +165,23 @@ fn inspect(rt: &HostRuntime, name: &Name, key_file: Option<&Name>) -> Result<(),
     at(Place::Output, println!(rt; "nothing else was checked"))
 }
 
-/// Prints the version, and the length of the file that a sealed file of this length has.
-fn print_len(rt: &HostRuntime, metadata: &Metadata) -> io::Result<()> {
-    println!(rt; "version {}", sealed_file::VERSION)?;
+/// Prints the version, the iterations if it is the one of passphrases, and the length of the file that a sealed file of this length
+/// has.
+fn print_len(rt: &HostRuntime, metadata: &Metadata, iterations: Option<u32>) -> io::Result<()> {
+    let more = match iterations {
+        Some(count) => {
+            println!(rt; "version {PASSPHRASE_VERSION}, a passphrase, {count} iterations")?;
+            PASSPHRASE_HEADER_LEN - HEADER_LEN
+        }
+        None => {
+            println!(rt; "version {}", sealed_file::VERSION)?;
+            0
+        }
+    };
     if !metadata.is_file() {
         return println!(rt; "length unknown: not a regular file");
     }
-    match plaintext_len(metadata.len()) {
+    match plaintext_len(metadata.len().saturating_sub(more as u64)) {
         Some(len) => println!(rt; "length {len}, unless the file was cut"),
         None => println!(rt; "no sealed file has this length: the file was cut"),
     }
@@ -165,32 +192,37 @@ fn convert(rt: &HostRuntime, conversion: &Conversion) -> Result<(), Failure> {
     if conversion.seals_to_unnamed_stdout() && rt.stdout().is_terminal() {
         return Err(Failure::Terminal);
     }
-    let key = read_key(rt, &conversion.key_file)?;
+    let secret = match &conversion.secret_file {
+        SecretFile::Key(name) => Secret::Key(read_key(rt, name)?),
+        SecretFile::Passphrase(name) => Secret::Passphrase(read_passphrase(rt, name.as_ref())?),
+    };
     match &conversion.input {
         Some(name) => {
             let file = at(Place::Input, files::open(rt, name))?;
             let metadata = file.metadata().ok();
-            convert_file(rt, conversion, &key, file, metadata.as_ref())
+            convert_file(rt, conversion, &secret, file, metadata.as_ref())
         }
         None => {
             let metadata = files::stdin_metadata(rt).ok();
             let source = source_of(rt, conversion, rt.reader(), metadata.as_ref());
-            convert_from(
-                rt,
-                conversion,
-                &key,
-                Input::Stream(source),
-                metadata.as_ref(),
-            )
+            let input = Input::Stream(source, &secret);
+            convert_from(rt, conversion, input, metadata.as_ref())
         }
     }
+}
+
+/// What a file is sealed under.
+#[derive(Drop)]
+enum Secret {
+    Key(FileKey),
+    Passphrase(Vec<u8>),
 }
 
 /// What is sealed or opened: the bytes of a stream, or a part of a sealed file that can be read at any position.
 #[derive(Drop)]
 enum Input<'a, R: Read + Drop> {
-    Stream(Source<'a, R>),
-    Part(File, Range),
+    Stream(Source<'a, R>, &'a Secret),
+    Part(File, Range, &'a FileKey),
 }
 
 /// Returns a reader that can show how much of a file or a stream with this metadata was read.
@@ -208,39 +240,38 @@ fn source_of<'a, R: Read + Drop>(
     Source::new(rt, input, len, is_shown)
 }
 
-/// Converts from an open file with this metadata. A part of a regular file is read at its place.
+/// Converts from an open file with this metadata. A part of a regular file is read at its place, if it is sealed under a key.
 fn convert_file(
     rt: &HostRuntime,
     conversion: &Conversion,
-    key: &FileKey,
+    secret: &Secret,
     file: File,
     metadata: Option<&Metadata>,
 ) -> Result<(), Failure> {
-    let input = match conversion.range {
-        Some(range) if metadata.is_some_and(|metadata| metadata.is_file()) => {
-            Input::Part(file, range)
+    let input = match (conversion.range, secret) {
+        (Some(range), Secret::Key(key)) if metadata.is_some_and(|metadata| metadata.is_file()) => {
+            Input::Part(file, range, key)
         }
-        _ => Input::Stream(source_of(rt, conversion, file, metadata)),
+        _ => Input::Stream(source_of(rt, conversion, file, metadata), secret),
     };
-    convert_from(rt, conversion, key, input, metadata)
+    convert_from(rt, conversion, input, metadata)
 }
 
 /// Converts from a file or a stream with this metadata.
 fn convert_from<R: Read + Drop>(
     rt: &HostRuntime,
     conversion: &Conversion,
-    key: &FileKey,
     input: Input<'_, R>,
     metadata: Option<&Metadata>,
 ) -> Result<(), Failure> {
     match &conversion.output {
         Some(name) => {
             let mode = check_target(rt, name, metadata, conversion.has_force)?;
-            convert_to(rt, conversion, key, input, (name, mode))
+            convert_to(rt, conversion, input, (name, mode))
         }
         None => {
             let mut output = io::writer(rt);
-            pass(rt, conversion, key, input, &mut output)?;
+            pass(rt, conversion, input, &mut output)?;
             at(Place::Output, output.flush())
         }
     }
@@ -250,14 +281,13 @@ fn convert_from<R: Read + Drop>(
 fn convert_to<R: Read + Drop>(
     rt: &HostRuntime,
     conversion: &Conversion,
-    key: &FileKey,
     input: Input<'_, R>,
     (target, mode): (&Name, Option<u32>),
 ) -> Result<(), Failure> {
     let mut number = [0; NUMBER_LEN];
     at(Place::Random, rt.fill_bytes(&mut number))?;
     let mut file = at(Place::Output, NewFile::create(rt, target, number, mode))?;
-    if let Err(failure) = pass(rt, conversion, key, input, &mut file) {
+    if let Err(failure) = pass(rt, conversion, input, &mut file) {
         file.discard(rt);
         return Err(failure);
     }
@@ -269,7 +299,6 @@ fn convert_to<R: Read + Drop>(
 fn pass<R: Read + Drop, W: Write>(
     rt: &HostRuntime,
     conversion: &Conversion,
-    key: &FileKey,
     input: Input<'_, R>,
     output: &mut W,
 ) -> Result<(), Failure> {
@@ -278,8 +307,8 @@ fn pass<R: Read + Drop, W: Write>(
         return Err(Failure::AadTooLong);
     }
     match input {
-        Input::Stream(source) => pass_stream(rt, conversion, key, aad, source, output),
-        Input::Part(file, range) => pass_part(rt, key, aad, file, range, output),
+        Input::Stream(source, secret) => pass_stream(rt, conversion, secret, aad, source, output),
+        Input::Part(file, range, key) => pass_part(rt, key, aad, file, range, output),
     }
 }
 
@@ -287,7 +316,7 @@ fn pass<R: Read + Drop, W: Write>(
 fn pass_stream<R: Read + Drop, W: Write>(
     rt: &HostRuntime,
     conversion: &Conversion,
-    key: &FileKey,
+    secret: &Secret,
     aad: &[u8],
     mut source: Source<'_, R>,
     output: &mut W,
@@ -297,12 +326,12 @@ fn pass_stream<R: Read + Drop, W: Write>(
     let passed = match (conversion.action, conversion.range) {
         (Action::Seal, _) => {
             let random = at(Place::Random, FileRandom::draw(rt))?;
-            seal_with_aad(rt.alloc(), key, random, aad, &mut source, output)
+            seal_under(rt.alloc(), secret, random, aad, &mut source, output)
         }
-        (Action::Open, None) => open_with_aad(rt.alloc(), key, aad, &mut source, output),
+        (Action::Open, None) => open_under(rt.alloc(), secret, aad, &mut source, output),
         (Action::Open, Some(range)) => {
             let mut part = RangeWriter::new(output, range);
-            open_with_aad(rt.alloc(), key, aad, &mut source, &mut part)
+            open_under(rt.alloc(), secret, aad, &mut source, &mut part)
         }
     };
     source.end();
@@ -311,6 +340,41 @@ fn pass_stream<R: Read + Drop, W: Write>(
         Err(FileError::Io(error)) if source.has_failed() => Err(Failure::Io(Place::Input, error)),
         Err(FileError::Io(error)) => Err(Failure::Io(Place::Output, error)),
         Err(error) => Err(Failure::Refused(error)),
+    }
+}
+
+/// Seals the bytes of `input`, with the iterations that passphrases have.
+fn seal_under<R: Read, W: Write>(
+    alloc: Global,
+    secret: &Secret,
+    random: FileRandom,
+    aad: &[u8],
+    input: &mut R,
+    output: &mut W,
+) -> Result<(), FileError>
+    requires { length aad.now ≤ 4096 }
+{
+    match secret {
+        Secret::Key(key) => seal_with_aad(alloc, key, random, aad, input, output),
+        Secret::Passphrase(text) => {
+            seal_with_passphrase(alloc, text, ITERATIONS, random, aad, input, output)
+        }
+    }
+}
+
+/// Opens the sealed file in `input`.
+fn open_under<R: Read, W: Write>(
+    alloc: Global,
+    secret: &Secret,
+    aad: &[u8],
+    input: &mut R,
+    output: &mut W,
+) -> Result<(), FileError>
+    requires { length aad.now ≤ 4096 }
+{
+    match secret {
+        Secret::Key(key) => open_with_aad(alloc, key, aad, input, output),
+        Secret::Passphrase(text) => open_with_passphrase(alloc, text, aad, input, output),
     }
 }
 
@@ -357,14 +421,41 @@ fn of_reading(error: FileError) -> Failure {
     }
 }
 
+/// Warns if others may read the file with the key or the passphrase.
+fn warn(rt: &HostRuntime, name: &Name, file: &File, what: &str) {
+    if let Ok(metadata) = file.metadata() {
+        if files::others_may_read(&metadata) {
+            let _ = eprintln!(rt; "seal_file: {name}: warning: others may read this {what}");
+        }
+    }
+}
+
+/// Returns the passphrase in a file, or on standard input: its bytes without one newline at their end.
+fn read_passphrase(rt: &HostRuntime, name: Option<&Name>) -> Result<Vec<u8>, Failure> {
+    let mut bytes = Vec::new(rt.alloc());
+    let most = MAX_PASSPHRASE_LEN as u64 + 2;
+    let read = match name {
+        Some(name) => {
+            let file = at(Place::PassphraseFile, files::open(rt, name))?;
+            warn(rt, name, &file, "passphrase");
+            file.take(most).read_to_end(&mut bytes)
+        }
+        None => rt.reader().take(most).read_to_end(&mut bytes),
+    };
+    at(Place::PassphraseFile, read)?;
+    if bytes.last() == Some(&b'\n') {
+        bytes.pop();
+    }
+    if bytes.is_empty() || bytes.len() > MAX_PASSPHRASE_LEN {
+        return Err(Failure::PassphraseLength);
+    }
+    Ok(bytes)
+}
+
 /// Returns the key in a file of 32 bytes. Warns if others may read the file.
 fn read_key(rt: &HostRuntime, name: &Name) -> Result<FileKey, Failure> {
     let file = at(Place::KeyFile, files::open(rt, name))?;
-    if let Ok(metadata) = file.metadata() {
-        if files::others_may_read(&metadata) {
-            let _ = eprintln!(rt; "seal_file: {name}: warning: others may read this key");
-        }
-    }
+    warn(rt, name, &file, "key");
     let mut bytes = Vec::new(rt.alloc());
     at(
         Place::KeyFile,

@@ -13,17 +13,21 @@ pub const VERSION: &str = "seal_file 0.1.0";
 
 /// The text that `--help` prints.
 pub const HELP: &str = "\
-usage: seal_file seal -k KEYFILE [-o OUT] [-f] [--aad TEXT] [--progress] [IN]
-       seal_file open -k KEYFILE [-o OUT] [-f] [--aad TEXT] [--progress]
+usage: seal_file seal KEY [-o OUT] [-f] [--aad TEXT] [--progress] [IN]
+       seal_file open KEY [-o OUT] [-f] [--aad TEXT] [--progress]
                       [--range START LEN] [IN]
        seal_file inspect [-k KEYFILE] FILE
        seal_file keygen -o KEYFILE
+KEY is -k KEYFILE or --passphrase-file FILE.
 
 Seal a file with AES-256-GCM in chunks of 64 KiB, open or inspect a sealed file,
 or generate a key. KEYFILE holds the 32 bytes of the key. IN and OUT default to
 standard input and output, which are also named -.
 
   -k, --key KEYFILE    the key
+  --passphrase-file FILE
+                       the passphrase: the bytes of FILE without one newline at
+                       their end, at most 4096; - is standard input
   -o, --output OUT     write OUT, whole or not at all; OUT must not exist
   -f, --force          replace OUT if it exists
   --aad TEXT           bind the file to TEXT: it opens with the same TEXT alone
@@ -32,8 +36,8 @@ standard input and output, which are also named -.
   -h, --help           print this help
   -V, --version        print the version
 
-exit status: 0 success; 1 the file does not open (another key, another TEXT, or
-the file was changed or cut); 2 wrong usage; 3 reading or writing failed.
+exit status: 0 success; 1 the file does not open (another key, passphrase or TEXT,
+or the file was changed or cut); 2 wrong usage; 3 reading or writing failed.
 If opening fails, what was written to standard output is authentic, but may be
 only a beginning of what was asked for: discard it.";
 
@@ -44,13 +48,22 @@ pub enum Action {
     Open,
 }
 
+/// Where the key or the passphrase is.
+#[derive(Drop)]
+pub enum SecretFile {
+    /// The name of a key file.
+    Key(Name),
+    /// The name of a file with a passphrase, or `None` for standard input.
+    Passphrase(Option<Name>),
+}
+
 /// A file to be sealed or opened.
 #[derive(Drop)]
 pub struct Conversion {
     /// Whether to seal or to open.
     pub action: Action,
-    /// The name of the key file.
-    pub key_file: Name,
+    /// Where the key or the passphrase is.
+    pub secret_file: SecretFile,
     /// IN, or `None` for standard input.
     pub input: Option<Name>,
     /// OUT, or `None` for standard output.
@@ -105,6 +118,7 @@ enum Verb {
 #[derive(Clone, Copy)]
 enum Valued {
     Key,
+    Passphrase,
     Output,
     Aad,
     RangeStart,
@@ -116,6 +130,7 @@ enum Valued {
 struct Words {
     verb: Option<Verb>,
     key_file: Option<Name>,
+    passphrase_file: Option<Name>,
     input: Option<Name>,
     output: Option<Name>,
     aad: Option<Name>,
@@ -187,6 +202,7 @@ impl Words {
         Words {
             verb: None,
             key_file: None,
+            passphrase_file: None,
             input: None,
             output: None,
             aad: None,
@@ -215,6 +231,7 @@ impl Words {
     fn take_value(&mut self, option: Valued, word: Name) -> Result<Option<Valued>, Failure> {
         match option {
             Valued::Key => set(&mut self.key_file, word)?,
+            Valued::Passphrase => set(&mut self.passphrase_file, word)?,
             Valued::Output => set(&mut self.output, word)?,
             Valued::Aad => set(&mut self.aad, word)?,
             Valued::RangeStart => {
@@ -272,7 +289,11 @@ impl Words {
 
     /// Returns whether an option is given that only sealing or opening takes.
     fn has_conversion_options(&self) -> bool {
-        self.aad.is_some() || self.range().is_some() || self.has_force || self.has_progress
+        self.passphrase_file.is_some()
+            || self.aad.is_some()
+            || self.range().is_some()
+            || self.has_force
+            || self.has_progress
     }
 
     /// Returns the request.
@@ -302,6 +323,7 @@ impl Words {
         }
         let Words {
             key_file,
+            passphrase_file,
             input,
             output,
             aad,
@@ -309,9 +331,11 @@ impl Words {
             has_progress,
             ..
         } = self;
-        let Some(key_file) = key_file else {
-            return Err(Failure::Use(anyhow!("missing -k KEYFILE")));
-        };
+        let secret_file = secret_file_of(key_file, passphrase_file)?;
+        let input = input.filter(|name| !is_stream(name));
+        if input.is_none() && matches!(secret_file, SecretFile::Passphrase(None)) {
+            return Err(Failure::Use(anyhow!("standard input is both IN and the passphrase")));
+        }
         let has_named_stdout = output.as_ref().is_some_and(is_stream);
         let output = output.filter(|name| !is_stream(name));
         if has_force && output.is_none() {
@@ -319,8 +343,8 @@ impl Words {
         }
         Ok(Request::Convert(Conversion {
             action,
-            key_file,
-            input: input.filter(|name| !is_stream(name)),
+            secret_file,
+            input,
             output,
             has_named_stdout,
             aad,
@@ -388,10 +412,39 @@ impl Request {
             (Request::Keygen(name), Place::KeyFile) => Some(name),
             (Request::Inspect { file, .. }, Place::Input) => Some(file),
             (Request::Inspect { key_file, .. }, Place::KeyFile) => key_file.as_ref(),
-            (Request::Convert(conversion), Place::KeyFile) => Some(&conversion.key_file),
+            (Request::Convert(conversion), Place::KeyFile | Place::PassphraseFile) => {
+                conversion.secret_file.name()
+            }
             (Request::Convert(conversion), Place::Input) => conversion.input.as_ref(),
             (Request::Convert(conversion), Place::Output) => conversion.output.as_ref(),
             _ => None,
+        }
+    }
+}
+
+impl SecretFile {
+    /// Returns the name of the file, or `None` for standard input.
+    fn name(&self) -> Option<&Name> {
+        match self {
+            SecretFile::Key(name) => Some(name),
+            SecretFile::Passphrase(name) => name.as_ref(),
+        }
+    }
+}
+
+/// Where the key or the passphrase is: one of the two is given.
+fn secret_file_of(
+    key_file: Option<Name>,
+    passphrase_file: Option<Name>,
+) -> Result<SecretFile, Failure> {
+    match (key_file, passphrase_file) {
+        (Some(name), None) => Ok(SecretFile::Key(name)),
+        (None, Some(name)) if is_stream(&name) => Ok(SecretFile::Passphrase(None)),
+        (None, Some(name)) => Ok(SecretFile::Passphrase(Some(name))),
+        (None, None) => Err(Failure::Use(anyhow!("missing -k KEYFILE or --passphrase-file FILE"))),
+        (Some(_), Some(_)) => {
+            let text = anyhow!("-k and --passphrase-file are given, of which a file takes one");
+            Err(Failure::Use(text))
         }
     }
 }
@@ -426,6 +479,7 @@ fn parts_of(word: &[u8]) -> (&[u8], Option<&[u8]>) {
 fn valued_of(name: &[u8]) -> Option<Valued> {
     match name {
         b"-k" | b"--key" => Some(Valued::Key),
+        b"--passphrase-file" => Some(Valued::Passphrase),
         b"-o" | b"--output" => Some(Valued::Output),
         b"--aad" => Some(Valued::Aad),
         b"--range" => Some(Valued::RangeStart),

@@ -66,7 +66,7 @@ module _ (ciphertext received : List ℕ) (sixteen : length received ≡ 16) whe
     tag_is had = sym back_is ∙ had.tag ∙ ap (chunk_tag k number is_last) front_is
 
     -- the ciphertext is opened exactly if it has the tag, and becomes the message
-    pub opens_tagged : (accepts : Bool) (new : List ℕ) → length k.aad ≤ 4156 → length ciphertext ≤ chunk_len
+    pub opens_tagged : (accepts : Bool) (new : List ℕ) → length k.aad ≤ 4160 → length ciphertext ≤ chunk_len
         → Opened (aes k.key) (chunk_nonce k.prefix number is_last) k.aad received 0 ciphertext accepts new
         → ((accepts ≡ true) ↔ HasTag k number is_last (ciphertext ++ received))
         × (accepts ≡ true → new ≡ opened_chunk k number is_last (ciphertext ++ received))

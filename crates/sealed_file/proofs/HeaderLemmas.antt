@@ -10,9 +10,9 @@ use Rattle.sealed_file.specs
 use specs.declared.error.FileError.{FileError}
 use specs.declared.error.FileError.TheVariants.{AnotherMagic, AnotherVersion, WrongKey, EndsEarly}
 use specs.Derivation.{cmac_of_block, commitment, derived_block, first_subkey}
-use specs.Format.{ChunkKey, Secret, magic_and_version, version_2}
+use specs.Format.{ChunkKey, Secret, magic_and_version, fresh_key}
 use specs.Opening.{HasHeader, chunk_key, context_of, header_len, header_of}
-use specs.Refusals.{HeaderRefuses, IsOfAnotherKey, IsVersion2}
+use specs.Refusals.{HeaderRefuses, IsOfAnotherKey, IsVersion}
 
 -- a header's header is the header
 pub header_of-header_of : (file : List ℕ) → header_of (header_of file) ≡ header_of file
@@ -38,36 +38,36 @@ length-commitment key context =
 
 module _ (s : Secret) (random : List ℕ) where
   abbrev header : List ℕ
-  header = (version_2 s random).header
+  header = (fresh_key s random).header
 
   -- the random bytes and the commitment
   abbrev tail : List ℕ
   tail = random ++ commitment s.key (take 12 random)
 
-  header_is : header ≡ magic_and_version 2 ++ tail
-  unfolding version_2
+  header_is : header ≡ magic_and_version s.version ++ tail
+  unfolding fresh_key
   header_is = refl
 
-  pub front_2 : take 9 header ≡ magic_and_version 2
-  front_2 = ap (take 9) header_is ∙ take_at (magic_and_version 2) tail 9 refl
+  pub front_fresh : take 9 header ≡ magic_and_version s.version
+  front_fresh = ap (take 9) header_is ∙ take_at (magic_and_version s.version) tail 9 refl
 
-  pub length-header_2 : length header ≡ 41 + length random
-  length-header_2 = ap length header_is
+  pub length-header_fresh : length header ≡ 41 + length random
+  length-header_fresh = ap length header_is
       ∙ omega (
         arith,
-        length-append (magic_and_version 2) tail,
+        length-append (magic_and_version s.version) tail,
         length-append random (commitment s.key (take 12 random)),
         length-commitment s.key (take 12 random),
       )
 
   module _ (size : length random ≡ 19) where
-    pub random_2 : take 19 (drop 9 header) ≡ random
-    random_2 = ap (λ l. take 19 (drop 9 l)) header_is ∙ ap (take 19) (drop_at (magic_and_version 2) tail 9 refl)
+    pub random_fresh : take 19 (drop 9 header) ≡ random
+    random_fresh = ap (λ l. take 19 (drop 9 l)) header_is ∙ ap (take 19) (drop_at (magic_and_version s.version) tail 9 refl)
         ∙ take_at random (commitment s.key (take 12 random)) 19 size
 
-    pub commitment_2 : drop 28 header ≡ commitment s.key (take 12 random)
-    commitment_2 = sym (drop-drop 19 9 header) ∙ ap (λ l. drop 19 (drop 9 l)) header_is
-        ∙ ap (drop 19) (drop_at (magic_and_version 2) tail 9 refl)
+    pub commitment_fresh : drop 28 header ≡ commitment s.key (take 12 random)
+    commitment_fresh = sym (drop-drop 19 9 header) ∙ ap (λ l. drop 19 (drop 9 l)) header_is
+        ∙ ap (drop 19) (drop_at (magic_and_version s.version) tail 9 refl)
         ∙ drop_at random (commitment s.key (take 12 random)) 19 size
 
 -- the version behind the magic
@@ -86,42 +86,42 @@ module _ (s : Secret) (header : List ℕ) where
 
   -- the header with these random bytes
   abbrev made : List ℕ
-  made = (version_2 s random).header
+  made = (fresh_key s random).header
 
   -- a header is whole
   pub size_of : HasHeader s header → length header ≡ 60
   size_of has =
-      let e = ap length has.right ∙ length-header_2 s random in
+      let e = ap length has.right ∙ length-header_fresh s random in
       omega (arith, e, length-take 19 (drop 9 header), length-drop 9 header)
 
-  front_of : HasHeader s header → take 9 header ≡ magic_and_version 2
-  front_of has = ap (take 9) has.right ∙ front_2 s random
+  pub front_of : HasHeader s header → take 9 header ≡ magic_and_version s.version
+  front_of has = ap (take 9) has.right ∙ front_fresh s random
 
   -- and ends with the commitment to the key
   pub commitment_of : HasHeader s header → drop 28 header ≡ commitment s.key (take 12 (drop 9 header))
   commitment_of has =
       let size : length random ≡ 19 = omega (arith, size_of has, length-take 19 (drop 9 header), length-drop 9 header) in
-      ap (drop 28) has.right ∙ commitment_2 s random size
+      ap (drop 28) has.right ∙ commitment_fresh s random size
       ∙ ap (commitment s.key) (take-take 12 19 (drop 9 header) (omega arith))
 
   -- what is refused is no header
   pub refused_is_none : (error : FileError) → HeaderRefuses s header error → ¬ HasHeader s header
   refused_is_none EndsEarly (inl short) has = omega (arith, size_of has)
   refused_is_none EndsEarly (inr (version, short)) has = omega (arith, size_of has)
-  refused_is_none AnotherMagic (size, other) has = other (magic_at header 2 (front_of has))
-  refused_is_none (AnotherVersion version) (size, magic, is, not_2) has = not_2 (sym is ∙ version_at header 2 (front_of has))
+  refused_is_none AnotherMagic (size, other) has = other (magic_at header s.version (front_of has))
+  refused_is_none (AnotherVersion version) (size, magic, is, not_it) has = not_it (sym is ∙ version_at header s.version (front_of has))
   refused_is_none WrongKey wrong has = wrong.other (commitment_of has)
   refused_is_none error h has = absurd h
 
   -- a header that isn't the one that is made of its random bytes has another commitment
-  pub another_key : IsVersion2 header → length header ≡ 60 → ¬ (header ≡ made) → IsOfAnotherKey s header
+  pub another_key : IsVersion s.version header → length header ≡ 60 → ¬ (header ≡ made) → IsOfAnotherKey s header
   another_key version size differs = record {
     version = version;
     size = size;
     other = λ same. differs (
         sym (take-append-drop 9 header)
         ∙ ap (λ l. l ++ drop 9 header) version.front
-        ∙ ap (λ l. magic_and_version 2 ++ l) (
+        ∙ ap (λ l. magic_and_version s.version ++ l) (
         sym (take-append-drop 19 (drop 9 header))
         ∙ ap (λ l. random ++ l) (
         drop-drop 19 9 header ∙ same ∙ ap (commitment s.key) (sym (take-take 12 19 (drop 9 header) (omega arith)))
@@ -151,8 +151,8 @@ pub record IsHeaderOf (s : Secret) (k : ChunkKey) : Type 0 where
   pub len : length k.header ≡ header_len
   pub back : chunk_key s k.header ≡ k
 
-pub header_of_2 : (s : Secret) (random : List ℕ) → length random ≡ 19 → IsHeaderOf s (version_2 s random)
-header_of_2 s random size = record {
-  len = omega (arith, length-header_2 s random);
-  back = ap (version_2 s) (random_2 s random size);
+pub header_of_fresh : (s : Secret) (random : List ℕ) → length random ≡ 19 → IsHeaderOf s (fresh_key s random)
+header_of_fresh s random size = record {
+  len = omega (arith, length-header_fresh s random);
+  back = ap (fresh_key s) (random_fresh s random size);
 }

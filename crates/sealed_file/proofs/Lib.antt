@@ -5,6 +5,8 @@ pub mod ForgedLemmas
 pub mod HeaderLemmas
 pub mod InMemoryLemmas
 pub mod OpenLemmas
+pub mod PassphraseLaws
+pub mod PassphraseLemmas
 pub mod PieceLemmas
 pub mod RandomAccessLemmas
 pub mod ReaderLemmas

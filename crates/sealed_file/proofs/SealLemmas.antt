@@ -1,15 +1,21 @@
 -- The steps of sealing.
-use Rattle.std.proofs.Common.{◌≡◌, ℕ, Bool, true, false, IfSome, ◌+◌, ◌-◌, ◌*◌, ◌^◌, ◌<◌, ◌≤◌, List, [], ◌++◌, length, drop, sym, ap, subst, ◌∙◌, arith, append_assoc, append-nil, ◌==◌, Option, eqb-true, length-append}
+use Rattle.std.proofs.Common.{◌≡◌, ℕ, Bool, true, false, IfSome, ◌+◌, ◌-◌, ◌*◌, ◌^◌, ◌<◌, ◌≤◌, List, [], ◌++◌, length, drop, refl, sym, ap, subst, ◌∙◌, arith, append_assoc, append-nil, ◌==◌, Option, eqb-true, length-append}
 use Rattle.std.specs.Io.KnownBytes.{Appends}
 use Rattle.std.proofs.KnownBytes.{Appends-nil, Appends-trans}
 use Rattle.std.proofs.lemmas.Bool.{eqb-false}
 use Rattle.sealed_file.specs
-use specs.Format.{ChunkKey, chunk_len, piece, sealed_chunk, sealed_chunk_of, sealed_chunks, sealed_file}
+use specs.Format.{ChunkKey, chunk_len, piece, sealed_chunk, sealed_chunk_of, sealed_chunks, sealed_file, with_header}
 use specs.Streams.{AppendsBeginning, TakesFront}
 use Rattle.sealed_file.proofs
 use proofs.FileLemmas.{last_of, length-sealed_chunk_of}
 use proofs.PieceLemmas.{joined_more, joined_parts, length-parts-le}
 use proofs.StreamLemmas.{begins_more, flag_is, next_read}
+
+-- the chunks don't depend on the header beside their AAD
+pub same_chunk : (header : List ℕ) (k : ChunkKey) (n : ℕ) (is_last : Bool) (chunk : List ℕ)
+    → sealed_chunk k n is_last chunk ≡ sealed_chunk (with_header header k) n is_last chunk
+unfolding sealed_chunk
+same_chunk header k n is_last chunk = refl
 
 -- what stands before chunk n
 abbrev pub sealed_before : (k : ChunkKey) (file : List ℕ) (n : ℕ) → List ℕ

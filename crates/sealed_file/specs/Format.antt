@@ -23,13 +23,19 @@ piece size bytes i = take size (drop (size * i) bytes)
 abbrev pub last_piece : ℕ → ℕ → ℕ
 last_piece size n = (n - 1) / size
 
--- what a file is sealed under: the user's key, and the AAD that the caller binds it to, which is not in it
+-- what a file is sealed under: the version of the format, the key of 32 bytes that the file's key is derived from, and the AAD
+-- after the first 60 bytes of the header
 pub record Secret : Type 0 where
+  pub version : ℕ
   pub key : List ℕ
   pub aad : List ℕ
 
+abbrev pub secret_of : (version : ℕ) (key aad : List ℕ) → Secret
+secret_of version key aad = record { version = version; key = key; aad = aad }
+
+-- version 2: the user's key, and the AAD that the caller binds the file to, which is not in it
 abbrev pub secret : (key aad : List ℕ) → Secret
-secret key aad = record { key = key; aad = aad }
+secret key aad = secret_of 2 key aad
 
 -- the key of a file's chunks: an AES-256-GCM key, the prefix of the nonces, the file's header, and the AAD of every chunk, which
 -- is the header and then the caller's
@@ -39,16 +45,20 @@ pub record ChunkKey : Type 0 where
   pub header : List ℕ
   pub aad : List ℕ
 
+-- the key of the same chunks in a file with this header
+abbrev pub with_header : (header : List ℕ) (k : ChunkKey) → ChunkKey
+with_header header k = record { key = k.key; prefix = k.prefix; header = header; aad = k.aad }
+
 -- the magic and a version
 abbrev pub magic_and_version : ℕ → List ℕ
 magic_and_version version = codes "SEALFILE" ++ version ∷ []
 
--- version 2, with 19 random bytes: the key derived for the first 12 as the context, the other 7 as the prefix, and a header
--- with the random bytes and the commitment to the user's key
-unfoldable pub version_2 : (s : Secret) (random : List ℕ) → ChunkKey
-version_2 s random =
+-- what is made with 19 random bytes: the key derived for the first 12 as the context, the other 7 as the prefix, and a header
+-- with the random bytes and the commitment to the key
+unfoldable pub fresh_key : (s : Secret) (random : List ℕ) → ChunkKey
+fresh_key s random =
     let context = take 12 random in
-    let header = magic_and_version 2 ++ (random ++ commitment s.key context) in record {
+    let header = magic_and_version s.version ++ (random ++ commitment s.key context) in record {
       key = derived_key s.key context;
       prefix = take 7 (drop 12 random);
       header = header;

@@ -4,7 +4,7 @@ use Rattle.std.specs.List.{concat}
 use Rattle.aead_ciphers_base.specs.Bytes.{each_below}
 use Rattle.aead_ciphers_base.specs.Aes.{aes}
 use Rattle.aead_ciphers.specs.Gcm.{gcm_decrypted, gcm_tag}
-use Rattle.sealed_file.specs.Format.{ChunkKey, Secret, chunk_len, chunk_nonce, last_piece, piece, sealed_chunk_len, sealed_chunk_of, version_2}
+use Rattle.sealed_file.specs.Format.{ChunkKey, Secret, chunk_len, chunk_nonce, last_piece, piece, sealed_chunk_len, sealed_chunk_of, fresh_key}
 
 -- the bytes before the last 16, which are the tag
 abbrev pub ciphertext_of : List ℕ → List ℕ
@@ -42,7 +42,7 @@ body_of file = drop header_len file
 
 -- the key of the chunks after a header, from the 19 random bytes after its magic and version
 abbrev pub chunk_key : (s : Secret) (header : List ℕ) → ChunkKey
-chunk_key s header = version_2 s (take 19 (drop 9 header))
+chunk_key s header = fresh_key s (take 19 (drop 9 header))
 
 -- the bytes are a header under this key: the one defined for its random bytes, with the commitment to this key
 pub record HasHeader (s : Secret) (header : List ℕ) : Type 0 where

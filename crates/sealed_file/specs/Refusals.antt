@@ -12,22 +12,22 @@ SealRefuses file TooLong = 2 ^ 32 - 1 ≤ last_piece chunk_len (length file)
 SealRefuses file (Io error) = ⊤
 SealRefuses file error = ⊥
 
--- the bytes begin with the magic and version 2
-pub record IsVersion2 (header : List ℕ) : Type 0 where
-  pub front : take 9 header ≡ magic_and_version 2
+-- the bytes begin with the magic and this version
+pub record IsVersion (version : ℕ) (header : List ℕ) : Type 0 where
+  pub front : take 9 header ≡ magic_and_version version
 
--- a whole header of version 2 whose commitment is not that of this key for its random bytes
+-- a whole header of the version whose commitment is not that of this key for its random bytes
 pub record IsOfAnotherKey (s : Secret) (header : List ℕ) : Type 0 where
-  pub version : IsVersion2 header
+  pub version : IsVersion s.version header
   pub size : length header ≡ 60
   pub other : drop 28 header ≢ commitment s.key (take 12 (drop 9 header))
 
 -- why the bytes are not a header under this key
 abbrev pub HeaderRefuses : (s : Secret) (header : List ℕ) → FileError → Type 0
-HeaderRefuses s header EndsEarly = (length header < 9) ⊎ (IsVersion2 header × (length header < 60))
+HeaderRefuses s header EndsEarly = (length header < 9) ⊎ (IsVersion s.version header × (length header < 60))
 HeaderRefuses s header AnotherMagic = (9 ≤ length header) × (take 8 header ≢ codes "SEALFILE")
 HeaderRefuses s header (AnotherVersion version) = (9 ≤ length header) × (take 8 header ≡ codes "SEALFILE")
-    × (slice_index header 8 ≡ version) × (version ≢ 2)
+    × (slice_index header 8 ≡ version) × (version ≢ s.version)
 HeaderRefuses s header WrongKey = IsOfAnotherKey s header
 HeaderRefuses s header error = ⊥
 

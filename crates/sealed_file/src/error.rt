@@ -1,5 +1,6 @@
 //! The error of sealing and opening files.
 
+use crate::passphrase::MAX_ITERATIONS;
 use std::alloc::AllocError;
 use std::error::Error;
 use std::{fmt, io};
@@ -11,10 +12,12 @@ pub enum FileError {
     KeyLength,
     /// The file does not begin with the magic of a sealed file.
     AnotherMagic,
-    /// The file has this version of the format, which is not 2.
+    /// The file has this version of the format: not 2, for a call that takes a key, or not 3, for one that takes a passphrase.
     AnotherVersion(u8),
-    /// The header commits to another key, or was changed.
+    /// The header commits to another key or another passphrase, or was changed.
     WrongKey,
+    /// The header has this number of iterations, which is 0 or more than `MAX_ITERATIONS`.
+    Iterations(u32),
     /// The file ends within its header, within a tag, or after a chunk that is not the last.
     EndsEarly,
     /// There are bytes after the last chunk.
@@ -34,10 +37,31 @@ impl fmt::Display for FileError {
         match self {
             FileError::KeyLength => write!(f, "the key is not 32 bytes long"),
             FileError::AnotherMagic => write!(f, "not a sealed file"),
-            FileError::AnotherVersion(version) => {
-                write!(f, "a sealed file of version {version}, which is not 2")
+            FileError::AnotherVersion(2) => write!(
+                f,
+                "a sealed file of version 2, which a key opens"
+            ),
+            FileError::AnotherVersion(3) => {
+                write!(f, "a sealed file of version 3, which a passphrase opens")
             }
-            FileError::WrongKey => write!(f, "the key is wrong, or the header was changed"),
+            FileError::AnotherVersion(version) => {
+                write!(
+                    f,
+                    "a sealed file of version {version}, which is neither 2 nor 3"
+                )
+            }
+            FileError::WrongKey => {
+                write!(
+                    f,
+                    "the key or passphrase is wrong, or the header was changed"
+                )
+            }
+            FileError::Iterations(count) => {
+                write!(
+                    f,
+                    "{count} iterations, which are not from 1 to {MAX_ITERATIONS}"
+                )
+            }
             FileError::EndsEarly => write!(f, "the sealed file ends early"),
             FileError::TrailingBytes => write!(f, "bytes after the last chunk"),
             FileError::Refused(number) => write!(f, "chunk {number} was changed or cut"),

@@ -1,9 +1,9 @@
 //! The header of a sealed file, and the key that follows from it.
 
 ghost use Rattle.std.specs.Prelude.{ℕ, List, ◌≡◌, ◌+◌, ◌≤◌, ◌↔◌, ◌++◌, length, take, drop, IsOk, IfOk, IfErr};
-ghost use Rattle.sealed_file.specs.Format.{Secret, magic_and_version, secret, version_2};
+ghost use Rattle.sealed_file.specs.Format.{Secret, fresh_key, magic_and_version, secret, secret_of};
 ghost use Rattle.sealed_file.specs.Opening.{HasHeader, chunk_key, header_of};
-ghost use Rattle.sealed_file.specs.Refusals.{HeaderRefuses, IsVersion2};
+ghost use Rattle.sealed_file.specs.Refusals.{HeaderRefuses, IsVersion};
 
 use crate::aad::ChunkAad;
 use crate::error::FileError;
@@ -18,14 +18,14 @@ use std::marker::Model;
 /// The first bytes of a sealed file.
 pub const MAGIC: [u8; 8] = *b"SEALFILE";
 
-/// The version of the format, after the magic.
+/// The version of the format of a file that is sealed under a key, after the magic.
 pub const VERSION: u8 = 2;
 
 /// The position of the version.
 const VERSION_AT: usize = 8;
 
 /// The length of the magic and the version, in bytes.
-const FRONT_LEN: usize = VERSION_AT + 1;
+pub(crate) const FRONT_LEN: usize = VERSION_AT + 1;
 
 /// The length in bytes of the context, which the key of a file is derived from.
 pub const CONTEXT_LEN: usize = 12;
@@ -83,20 +83,20 @@ impl ChunkCipher {
     /// Returns the AAD of each chunk.
     pub(crate) fn aad(&self) -> &[u8]
         ensures bytes { result.now ≡ self.now.aad }
-        ensures len { length result.now ≤ 4156 }
+        ensures len { length result.now ≤ 4160 }
     {
         self.aad.as_slice()
     }
 
-    /// The key of a file with this AAD of the caller and these random bytes.
-    pub(crate) fn new(key: &FileKey, aad: &[u8], random: &FileRandom) -> ChunkCipher
-        requires { length aad.now ≤ 4096 }
-        ensures made { result ≡ version_2 (secret key.now aad.now) random.now }
+    /// The key of a file of this version with these random bytes. `aad` is the AAD after the header.
+    pub(crate) fn new(version: u8, key: &FileKey, aad: &[u8], random: &FileRandom) -> ChunkCipher
+        requires { length aad.now ≤ 4100 }
+        ensures made { result ≡ fresh_key (secret_of version key.now aad.now) random.now }
         ensures size { length result.header ≡ 60 }
     {
         let random = random.as_bytes();
         let context = context_of(random);
-        let header = header_with(random, &key.commitment(&context));
+        let header = header_with(version, random, &key.commitment(&context));
         ChunkCipher {
             key: aead_key(&key.derived_key(&context)),
             prefix: prefix_of(random),
@@ -142,20 +142,24 @@ pub(crate) fn put(bytes: &[u8], all: &mut [u8], at: usize)
     all[at..at + bytes.len()].copy_from_slice(bytes);
 }
 
-/// The header with these random bytes and this commitment.
-fn header_with(random: &[u8; RANDOM_LEN], commitment: &[u8; COMMITMENT_LEN]) -> [u8; HEADER_LEN]
-    ensures { result ≡ magic_and_version 2 ++ (random.now ++ commitment.now) }
+/// The header of this version with these random bytes and this commitment.
+fn header_with(
+    version: u8,
+    random: &[u8; RANDOM_LEN],
+    commitment: &[u8; COMMITMENT_LEN],
+) -> [u8; HEADER_LEN]
+    ensures { result ≡ magic_and_version version ++ (random.now ++ commitment.now) }
 {
     let mut header = [0; HEADER_LEN];
     put(&MAGIC, &mut header, 0);
-    put(&[VERSION], &mut header, VERSION_AT);
+    put(&[version], &mut header, VERSION_AT);
     put(random, &mut header, FRONT_LEN);
     put(commitment, &mut header, FRONT_LEN + RANDOM_LEN);
     header
 }
 
 /// The header of a file that begins with these bytes, or the part of it that they hold.
-fn header_of(file: &[u8]) -> &[u8]
+pub(crate) fn header_of(file: &[u8]) -> &[u8]
     ensures { result.now ≡ header_of file.now }
 {
     if file.len() < HEADER_LEN {
@@ -174,76 +178,93 @@ fn random_in(header: &[u8; HEADER_LEN]) -> FileRandom
     FileRandom::of_bytes(random)
 }
 
-/// Fails unless a header begins with the magic and the version.
-fn check_front(header: &[u8]) -> Result<(), FileError>
-    ensures front { IsOk result → IsVersion2 header.now }
-    ensures refused { (s : Secret) → IfErr result (λ error. HeaderRefuses s header.now error) }
+/// Fails unless a header begins with the magic and this version.
+pub(crate) fn check_front(version: u8, header: &[u8]) -> Result<(), FileError>
+    ensures front { IsOk result → IsVersion version header.now }
+    ensures refused { (s : Secret) → s.version ≡ version
+        → IfErr result (λ error. HeaderRefuses s header.now error) }
 {
     let Some(front) = header.first_chunk::<FRONT_LEN>() else {
         return Err(FileError::EndsEarly);
     };
-    let [m0, m1, m2, m3, m4, m5, m6, m7, version] = *front;
+    let [m0, m1, m2, m3, m4, m5, m6, m7, found] = *front;
     if [m0, m1, m2, m3, m4, m5, m6, m7] != MAGIC {
         return Err(FileError::AnotherMagic);
     }
-    if version != VERSION {
-        return Err(FileError::AnotherVersion(version));
+    if found != version {
+        return Err(FileError::AnotherVersion(found));
     }
     Ok(())
 }
 
-/// Fails unless these bytes begin with the magic, the version and a whole header. The commitment is not compared.
+/// Fails unless these bytes begin with the magic, version 2 and a whole header. The commitment is not compared.
 pub fn check_header(file: &[u8]) -> Result<(), FileError>
-    ensures accepted { IsOk result → IsVersion2 (header_of file.now) }
+    ensures accepted { IsOk result → IsVersion 2 (header_of file.now) }
     ensures whole { IsOk result → 60 ≤ length file.now }
-    ensures refused { (s : Secret) → IfErr result (λ error. HeaderRefuses s (header_of file.now) error) }
+    ensures refused { (key aad : List ℕ) → IfErr result (λ error.
+        HeaderRefuses (secret key aad) (header_of file.now) error) }
 {
-    match check_front(header_of(file)) {
+    match check_front(VERSION, header_of(file)) {
         Ok(()) if file.len() < HEADER_LEN => Err(FileError::EndsEarly),
         checked => checked,
     }
 }
 
-/// The key of the chunks after a header that begins as one. The whole header is compared with the one that the key defines for
+/// The key of the chunks after a header that begins as one of this version. The whole header is compared with the one that the key defines for
 /// its random bytes.
-fn version_2_in(key: &FileKey, aad: &[u8], header: &[u8]) -> Result<ChunkCipher, FileError>
-    requires version { IsVersion2 header.now }
+fn whole_cipher_in(
+    version: u8,
+    key: &FileKey,
+    aad: &[u8],
+    header: &[u8],
+) -> Result<ChunkCipher, FileError>
+    requires front { IsVersion version header.now }
     requires most { length header.now ≤ 60 }
-    requires aad { length aad.now ≤ 4096 }
-    ensures accepted { IsOk result ↔ HasHeader (secret key.now aad.now) header.now }
-    ensures cipher { IfOk result (λ cipher. cipher ≡ chunk_key (secret key.now aad.now) header.now) }
-    ensures refused { IfErr result (λ error. HeaderRefuses (secret key.now aad.now) header.now error) }
+    requires aad { length aad.now ≤ 4100 }
+    ensures accepted { IsOk result ↔ HasHeader (secret_of version key.now aad.now) header.now }
+    ensures cipher { IfOk result (λ cipher. cipher ≡ chunk_key (secret_of version key.now aad.now) header.now) }
+    ensures refused { IfErr result (λ error. HeaderRefuses (secret_of version key.now aad.now) header.now error) }
 {
     let Some(header) = header.as_array::<HEADER_LEN>() else {
         return Err(FileError::EndsEarly);
     };
-    let cipher = ChunkCipher::new(key, aad, &random_in(header));
+    let cipher = ChunkCipher::new(version, key, aad, &random_in(header));
     match bb::verify_slices_are_equal(header, cipher.header()) {
         Ok(()) => Ok(cipher),
         Err(_) => Err(FileError::WrongKey),
     }
 }
 
-/// The key of the chunks after this header.
-fn cipher_in(key: &FileKey, aad: &[u8], header: &[u8]) -> Result<ChunkCipher, FileError>
+/// The key of the chunks after this header, if it is one of this version. `aad` is the AAD after it.
+fn cipher_in(
+    version: u8,
+    key: &FileKey,
+    aad: &[u8],
+    header: &[u8],
+) -> Result<ChunkCipher, FileError>
     requires header { length header.now ≤ 60 }
-    requires aad { length aad.now ≤ 4096 }
-    ensures accepted { IsOk result ↔ HasHeader (secret key.now aad.now) header.now }
-    ensures cipher { IfOk result (λ cipher. cipher ≡ chunk_key (secret key.now aad.now) header.now) }
-    ensures refused { IfErr result (λ error. HeaderRefuses (secret key.now aad.now) header.now error) }
+    requires aad { length aad.now ≤ 4100 }
+    ensures accepted { IsOk result ↔ HasHeader (secret_of version key.now aad.now) header.now }
+    ensures cipher { IfOk result (λ cipher. cipher ≡ chunk_key (secret_of version key.now aad.now) header.now) }
+    ensures refused { IfErr result (λ error. HeaderRefuses (secret_of version key.now aad.now) header.now error) }
 {
-    match check_front(header) {
-        Ok(()) => version_2_in(key, aad, header),
+    match check_front(version, header) {
+        Ok(()) => whole_cipher_in(version, key, aad, header),
         Err(error) => Err(error),
     }
 }
 
-/// The key of the chunks of a file that begins with these bytes.
-pub(crate) fn cipher_of(key: &FileKey, aad: &[u8], file: &[u8]) -> Result<ChunkCipher, FileError>
-    requires { length aad.now ≤ 4096 }
-    ensures accepted { IsOk result ↔ HasHeader (secret key.now aad.now) (header_of file.now) }
-    ensures cipher { IfOk result (λ cipher. cipher ≡ chunk_key (secret key.now aad.now) (header_of file.now)) }
-    ensures refused { IfErr result (λ error. HeaderRefuses (secret key.now aad.now) (header_of file.now) error) }
+/// The key of the chunks of a file that begins with these bytes, if it has this version. `aad` is the AAD after the header.
+pub(crate) fn cipher_of(
+    version: u8,
+    key: &FileKey,
+    aad: &[u8],
+    file: &[u8],
+) -> Result<ChunkCipher, FileError>
+    requires { length aad.now ≤ 4100 }
+    ensures accepted { IsOk result ↔ HasHeader (secret_of version key.now aad.now) (header_of file.now) }
+    ensures cipher { IfOk result (λ cipher. cipher ≡ chunk_key (secret_of version key.now aad.now) (header_of file.now)) }
+    ensures refused { IfErr result (λ error. HeaderRefuses (secret_of version key.now aad.now) (header_of file.now) error) }
 {
-    cipher_in(key, aad, header_of(file))
+    cipher_in(version, key, aad, header_of(file))
 }

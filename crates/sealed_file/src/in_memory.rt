@@ -1,13 +1,13 @@
 //! Sealing and opening files in memory.
 
 ghost use Rattle.std.specs.Prelude.{[], ◌≡◌, ◌+◌, ◌-◌, ◌*◌, ◌^◌, ◌<◌, ◌≤◌, ◌↔◌, ◌++◌, length, vec_capacity, vec_len, take, drop, IsOk, IfErr, OnOk, OnErr};
-ghost use Rattle.sealed_file.specs.Format.{Secret, chunk_len, sealed_chunk_len, last_piece, piece, sealed_chunk, sealed_file, secret, version_2};
+ghost use Rattle.sealed_file.specs.Format.{Secret, chunk_len, sealed_chunk_len, last_piece, piece, sealed_chunk, sealed_file, secret, fresh_key};
 ghost use Rattle.sealed_file.specs.Opening.{HasTag, IsSealed, body_of, chunk_of, last_chunk, opened_chunk, opened_file};
 ghost use Rattle.sealed_file.specs.Refusals.{ChunkRefuses, FailsInMemory, OpenRefuses, SealRefuses};
 
 use crate::chunk::{CHUNK_LEN, MAX_CHUNKS, SEALED_CHUNK_LEN, open_ciphertext, seal_slice};
 use crate::error::FileError;
-use crate::header::{ChunkCipher, HEADER_LEN, cipher_of};
+use crate::header::{ChunkCipher, HEADER_LEN, VERSION, cipher_of};
 use crate::key::FileKey;
 use crate::random::FileRandom;
 use aead_ciphers::aead::{MAX_TAG_LEN, Tag};
@@ -106,18 +106,18 @@ pub fn seal_bytes(
 ) -> Result<(), FileError>
     ensures few { IsOk result → last_piece chunk_len (length file.now) < 2 ^ 32 - 1 }
     ensures sealed { OnOk result (out.new.items
-        ≡ out.old.items ++ sealed_file (version_2 (secret key.now []) random) file.now) }
-    ensures accepted { let sealed = sealed_file (version_2 (secret key.now []) random) file.now in
+        ≡ out.old.items ++ sealed_file (fresh_key (secret key.now []) random) file.now) }
+    ensures accepted { let sealed = sealed_file (fresh_key (secret key.now []) random) file.now in
         let grown = vec_len out.old + length sealed in
         grown ≤ vec_capacity out.old
         → (IsOk result ↔ (last_piece chunk_len (length file.now) < 2 ^ 32 - 1)) }
-    ensures refused { let sealed = sealed_file (version_2 (secret key.now []) random) file.now in
+    ensures refused { let sealed = sealed_file (fresh_key (secret key.now []) random) file.now in
         let grown = vec_len out.old + length sealed in
         IfErr result (λ error.
         FailsInMemory (vec_capacity out.old < grown) (SealRefuses file.now) error) }
     ensures kept { OnErr result (out.new.items ≡ out.old.items) }
 {
-    let cipher = ChunkCipher::new(key, &[], &random);
+    let cipher = ChunkCipher::new(VERSION, key, &[], &random);
     let last = last_piece_of(file.len(), CHUNK_LEN);
     if last >= MAX_CHUNKS as usize {
         return Err(FileError::TooLong);
@@ -229,7 +229,7 @@ fn append_file(key: &FileKey, sealed: &[u8], out: &mut Vec<u8>) -> Result<(), Fi
         IfErr result (λ error.
         FailsInMemory (vec_capacity out.old < grown) (OpenRefuses (secret key.now []) sealed.now) error) }
 {
-    let cipher = cipher_of(key, &[], sealed)?;
+    let cipher = cipher_of(VERSION, key, &[], sealed)?;
     let last = last_chunk_of(sealed);
     out.reserve(opened_len(sealed))?;
     for number in 0..MAX_CHUNKS {

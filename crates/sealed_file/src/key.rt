@@ -4,7 +4,7 @@ ghost use Rattle.std.specs.Prelude.{[], ◌≡◌, ◌↔◌, length, IsOk, IsTr
 
 use crate::derivation::derived_pair;
 use crate::error::FileError;
-use crate::header::{Context, cipher_of};
+use crate::header::{Context, VERSION, cipher_of};
 use aead_ciphers_base::aes::AES_256_KEY_LEN;
 use std::marker::Model;
 
@@ -54,7 +54,7 @@ impl FileKey {
     pub fn is_of(&self, header: &[u8]) -> bool
         ensures { IsTrue result ↔ HasHeader (secret self.now []) (header_of header.now) }
     {
-        cipher_of(self, &[], header).is_ok()
+        cipher_of(VERSION, self, &[], header).is_ok()
     }
 
     /// Returns the commitment to this key, in the headers of the same files.

@@ -11,6 +11,7 @@ mod in_memory;
 mod key;
 pub mod laws;
 mod opening;
+mod passphrase;
 mod random;
 mod random_access;
 mod reader;
@@ -26,6 +27,10 @@ pub use self::header::{
 pub use self::in_memory::{open_bytes, seal_bytes};
 pub use self::key::FileKey;
 pub use self::opening::{open, open_with_aad};
+pub use self::passphrase::{
+    ITERATIONS, MAX_ITERATIONS, PASSPHRASE_HEADER_LEN, PASSPHRASE_VERSION, iterations_in,
+    open_with_passphrase, seal_with_passphrase,
+};
 pub use self::random::FileRandom;
 pub use self::random_access::{open_chunk_at, plaintext_len};
 pub use self::reader::SealedReader;

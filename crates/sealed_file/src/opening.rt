@@ -2,14 +2,14 @@
 
 ghost use Rattle.std.specs.Prelude.{ℕ, [], ◌≤◌, length, IfErr, IfSome, OnOk, OnErr};
 ghost use Rattle.std.specs.Io.KnownBytes.{Appends};
-ghost use Rattle.sealed_file.specs.Format.{secret};
+ghost use Rattle.sealed_file.specs.Format.{secret, secret_of};
 ghost use Rattle.sealed_file.specs.Opening.{AreRight, IsSealed, opened_chunks, opened_file};
 ghost use Rattle.sealed_file.specs.Refusals.{OpenRefuses};
 ghost use Rattle.sealed_file.specs.Streams.{AppendsBeginning};
 
 use crate::chunk::{MAX_CHUNKS, SEALED_CHUNK_LEN, open_chunk};
 use crate::error::FileError;
-use crate::header::cipher_of;
+use crate::header::{VERSION, cipher_of};
 use crate::key::FileKey;
 use crate::stream::{buffers, read_header, read_piece, write_bytes};
 use std::alloc::Global;
@@ -74,9 +74,30 @@ pub fn open_with_aad<R: Read, W: Write>(
     ensures nothing_past { OnErr result (IfSome (R.remaining input.old) (λ file. (n : ℕ) × AreRight (secret key.now aad.now) file n
         × AppendsBeginning (W.contents output.old) (W.contents output.new) (opened_chunks (secret key.now aad.now) file n))) }
 {
+    open_version(alloc, VERSION, key, aad, input, output)
+}
+
+/// Opens a file of this version, as `open_with_aad` does. `aad` is the AAD after the first `HEADER_LEN` bytes of the header.
+pub(crate) fn open_version<R: Read, W: Write>(
+    alloc: Global,
+    version: u8,
+    key: &FileKey,
+    aad: &[u8],
+    input: &mut R,
+    output: &mut W,
+) -> Result<(), FileError>
+    requires { length aad.now ≤ 4100 }
+    ensures accepted { OnOk result (IfSome (R.remaining input.old) (λ file. IsSealed (secret_of version key.now aad.now) file)) }
+    ensures opened { OnOk result (IfSome (R.remaining input.old) (λ file.
+        Appends (W.contents output.old) (W.contents output.new) (opened_file (secret_of version key.now aad.now) file))) }
+    ensures refused { IfErr result (λ error. IfSome (R.remaining input.old) (λ file.
+        OpenRefuses (secret_of version key.now aad.now) file error)) }
+    ensures nothing_past { OnErr result (IfSome (R.remaining input.old) (λ file. (n : ℕ) × AreRight (secret_of version key.now aad.now) file n
+        × AppendsBeginning (W.contents output.old) (W.contents output.new) (opened_chunks (secret_of version key.now aad.now) file n))) }
+{
     let (mut chunk, mut next) = buffers(alloc)?;
     read_header(input, &mut chunk)?;
-    let cipher = cipher_of(key, aad, &chunk)?;
+    let cipher = cipher_of(version, key, aad, &chunk)?;
     read_piece(input, SEALED_CHUNK_LEN, &mut chunk)?;
     for number in 0..MAX_CHUNKS {
         read_piece(input, SEALED_CHUNK_LEN, &mut next)?;

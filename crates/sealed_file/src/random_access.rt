@@ -7,7 +7,7 @@ ghost use Rattle.sealed_file.specs.Refusals.{ChunkAtRefuses, FailsInMemory};
 
 use crate::chunk::CHUNK_LEN;
 use crate::error::FileError;
-use crate::header::cipher_of;
+use crate::header::{VERSION, cipher_of};
 use crate::in_memory::append_opened;
 use crate::key::FileKey;
 use crate::reader::last_of;
@@ -34,7 +34,7 @@ fn append_chunk_at(
         IfErr result (λ error. FailsInMemory (vec_capacity out.old < grown)
         (ChunkAtRefuses (secret key.now aad.now) header.now number is_last sealed.now) error) }
 {
-    let cipher = cipher_of(key, aad, header)?;
+    let cipher = cipher_of(VERSION, key, aad, header)?;
     out.reserve(sealed.len().saturating_sub(MAX_TAG_LEN))?;
     append_opened(&cipher, number, is_last, sealed, out)
 }

@@ -7,7 +7,7 @@ ghost use Rattle.sealed_file.specs.Reader.{IsMessage, MessageRefuses, ReaderRefu
 
 use crate::chunk::{CHUNK_LEN, MAX_CHUNKS, SEALED_CHUNK_LEN, open_chunk};
 use crate::error::FileError;
-use crate::header::{ChunkCipher, HEADER_LEN, cipher_of};
+use crate::header::{ChunkCipher, HEADER_LEN, VERSION, cipher_of};
 use crate::key::FileKey;
 use crate::stream::{read_header, read_piece};
 use aead_ciphers::aead::MAX_TAG_LEN;
@@ -152,7 +152,7 @@ fn begin<R: Read + Seek>(
     let mut header = Vec::new(alloc);
     input.seek(SeekFrom::Start(start))?;
     read_header(input, &mut header)?;
-    let cipher = cipher_of(key, aad, &header)?;
+    let cipher = cipher_of(VERSION, key, aad, &header)?;
     let end = input.seek(SeekFrom::End(0))?;
     Ok((cipher, end.saturating_sub(start)))
 }

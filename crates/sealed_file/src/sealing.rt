@@ -2,13 +2,13 @@
 
 ghost use Rattle.std.specs.Prelude.{[], ◌-◌, ◌^◌, ◌<◌, ◌≤◌, length, IfErr, IfSome, OnOk, OnErr};
 ghost use Rattle.std.specs.Io.KnownBytes.{Appends};
-ghost use Rattle.sealed_file.specs.Format.{chunk_len, last_piece, sealed_file, secret, version_2};
+ghost use Rattle.sealed_file.specs.Format.{chunk_len, fresh_key, last_piece, sealed_file, secret, with_header};
 ghost use Rattle.sealed_file.specs.Refusals.{SealRefuses};
 ghost use Rattle.sealed_file.specs.Streams.{AppendsBeginning};
 
 use crate::chunk::{CHUNK_LEN, MAX_CHUNKS, seal_chunk};
 use crate::error::FileError;
-use crate::header::ChunkCipher;
+use crate::header::{ChunkCipher, VERSION};
 use crate::key::FileKey;
 use crate::random::FileRandom;
 use crate::stream::{buffers, read_piece, write_bytes};
@@ -52,12 +52,12 @@ pub fn seal<R: Read, W: Write>(
         last_piece chunk_len (length file) < 2 ^ 32 - 1)) }
     ensures sealed { OnOk result (IfSome (R.remaining input.old) (λ file.
         Appends (W.contents output.old) (W.contents output.new)
-        (sealed_file (version_2 (secret key.now []) random) file))) }
+        (sealed_file (fresh_key (secret key.now []) random) file))) }
     ensures refused { IfErr result (λ error. IfSome (R.remaining input.old) (λ file.
         SealRefuses file error)) }
     ensures beginning { OnErr result (IfSome (R.remaining input.old) (λ file.
         AppendsBeginning (W.contents output.old) (W.contents output.new)
-        (sealed_file (version_2 (secret key.now []) random) file))) }
+        (sealed_file (fresh_key (secret key.now []) random) file))) }
 {
     seal_with_aad(alloc, key, random, &[], input, output)
 }
@@ -77,21 +77,43 @@ pub fn seal_with_aad<R: Read, W: Write>(
         last_piece chunk_len (length file) < 2 ^ 32 - 1)) }
     ensures sealed { OnOk result (IfSome (R.remaining input.old) (λ file.
         Appends (W.contents output.old) (W.contents output.new)
-        (sealed_file (version_2 (secret key.now aad.now) random) file))) }
+        (sealed_file (fresh_key (secret key.now aad.now) random) file))) }
     ensures refused { IfErr result (λ error. IfSome (R.remaining input.old) (λ file.
         SealRefuses file error)) }
     ensures beginning { OnErr result (IfSome (R.remaining input.old) (λ file.
         AppendsBeginning (W.contents output.old) (W.contents output.new)
-        (sealed_file (version_2 (secret key.now aad.now) random) file))) }
+        (sealed_file (fresh_key (secret key.now aad.now) random) file))) }
+{
+    let cipher = ChunkCipher::new(VERSION, key, aad, &random);
+    seal_under(alloc, cipher.header(), &cipher, input, output)
+}
+
+/// Writes a header, and then the chunks of the bytes of `input`.
+pub(crate) fn seal_under<R: Read, W: Write>(
+    alloc: Global,
+    header: &[u8],
+    cipher: &ChunkCipher,
+    input: &mut R,
+    output: &mut W,
+) -> Result<(), FileError>
+    ensures few { OnOk result (IfSome (R.remaining input.old) (λ file.
+        last_piece chunk_len (length file) < 2 ^ 32 - 1)) }
+    ensures sealed { OnOk result (IfSome (R.remaining input.old) (λ file.
+        Appends (W.contents output.old) (W.contents output.new)
+        (sealed_file (with_header header.now cipher.now) file))) }
+    ensures refused { IfErr result (λ error. IfSome (R.remaining input.old) (λ file.
+        SealRefuses file error)) }
+    ensures beginning { OnErr result (IfSome (R.remaining input.old) (λ file.
+        AppendsBeginning (W.contents output.old) (W.contents output.new)
+        (sealed_file (with_header header.now cipher.now) file))) }
 {
     let (mut chunk, mut next) = buffers(alloc)?;
-    let cipher = ChunkCipher::new(key, aad, &random);
-    write_bytes(output, cipher.header())?;
+    write_bytes(output, header)?;
     read_piece(input, CHUNK_LEN, &mut chunk)?;
     for number in 0..MAX_CHUNKS {
         read_piece(input, CHUNK_LEN, &mut next)?;
         let is_last = next.is_empty();
-        seal_chunk(&cipher, number, is_last, &mut chunk)?;
+        seal_chunk(cipher, number, is_last, &mut chunk)?;
         write_bytes(output, &chunk)?;
         if is_last {
             return Ok(());

@@ -5,6 +5,8 @@
 #[cfg(test)]
 mod checks;
 #[cfg(test)]
+mod passphrase;
+#[cfg(test)]
 mod reader;
 #[cfg(test)]
 mod sealed_files;

@@ -115,7 +115,7 @@ fn cut_files(rt: HostRuntime) -> Result<(), Fail> {
         &rt,
         &[7; 32],
         &sealed,
-        "the key is wrong, or the header was changed",
+        "the key or passphrase is wrong, or the header was changed",
     )
 }
 

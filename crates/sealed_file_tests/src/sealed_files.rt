@@ -23,7 +23,7 @@ pub(crate) const KEY: [u8; 32] = [
 ];
 
 /// The random bytes: 1 to 19.
-const RANDOM: [u8; 19] = [
+pub(crate) const RANDOM: [u8; 19] = [
     1, 2, 3, 4, 5, 6, 7, 8, 9, 10, 11, 12, 13, 14, 15, 16, 17, 18, 19,
 ];
 
@@ -56,19 +56,19 @@ const SEALED: [(usize, [u8; 16]); 6] = [
 ];
 
 /// The message for a wrong first chunk.
-const FIRST_REFUSED: &str = "chunk 0 was changed or cut";
+pub(crate) const FIRST_REFUSED: &str = "chunk 0 was changed or cut";
 
 const SECOND_REFUSED: &str = "chunk 1 was changed or cut";
 
-const ENDS_EARLY: &str = "the sealed file ends early";
+pub(crate) const ENDS_EARLY: &str = "the sealed file ends early";
 
 const TRAILING_BYTES: &str = "bytes after the last chunk";
 
-const VERSION_ONE: &str = "a sealed file of version 1, which is not 2";
+const VERSION_ONE: &str = "a sealed file of version 1, which is neither 2 nor 3";
 
-const VERSION_FOUR: &str = "a sealed file of version 4, which is not 2";
+const VERSION_FOUR: &str = "a sealed file of version 4, which is neither 2 nor 3";
 
-const ANOTHER_KEY: &str = "the key is wrong, or the header was changed";
+pub(crate) const ANOTHER_KEY: &str = "the key or passphrase is wrong, or the header was changed";
 
 /// The test file of this length: byte i is i modulo 251.
 pub(crate) fn file_of(alloc: Global, len: usize) -> Result<Vec<u8>, Fail> {

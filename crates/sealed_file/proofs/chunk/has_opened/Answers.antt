@@ -7,7 +7,7 @@ use proofs.chunk.has_opened.Goals as goal
 
 pub returns-clause-accepted : goal.returns-clause-accepted
 returns-clause-accepted c = rw c.is_ok.ensures.value (opens_tagged _ _ c.told-tag c.args.cipher.now _ _ _ _
-    (subst (λ l. length l ≤ 4156) c.aad.ensures.bytes c.aad.ensures.len) c.requires
+    (subst (λ l. length l ≤ 4160) c.aad.ensures.bytes c.aad.ensures.len) c.requires
     (rw (
       c.nonce_of-nonce.ensures,
       ap (λ (k : ChunkKey). k.key) c.cipher.view_is,
@@ -19,7 +19,7 @@ returns-clause-accepted c = rw c.is_ok.ensures.value (opens_tagged _ _ c.told-ta
 
 pub returns-clause-opened : goal.returns-clause-opened
 returns-clause-opened c = rw c.is_ok.ensures.value (OnTrue_from _ _ (opens_tagged _ _ c.told-tag c.args.cipher.now _ _ _ _
-    (subst (λ l. length l ≤ 4156) c.aad.ensures.bytes c.aad.ensures.len) c.requires
+    (subst (λ l. length l ≤ 4160) c.aad.ensures.bytes c.aad.ensures.len) c.requires
     (rw (
       c.nonce_of-nonce.ensures,
       ap (λ (k : ChunkKey). k.key) c.cipher.view_is,

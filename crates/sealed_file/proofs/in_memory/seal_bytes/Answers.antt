@@ -1,6 +1,6 @@
 use Rattle.std.proofs.Common.{Some, sym, ◌++◌, length, arith, ap, ◌∙◌, ◌==◌, length-append, []}
 use Rattle.std.proofs.lemmas.Result.{err_from_is_err_and}
-use Rattle.sealed_file.specs.Format.{ChunkKey, secret, version_2}
+use Rattle.sealed_file.specs.Format.{ChunkKey, secret, fresh_key}
 use Rattle.sealed_file.proofs
 use proofs.FileLemmas.{length-sealed_file}
 use proofs.PieceLemmas.{length-piece-le}
@@ -14,7 +14,7 @@ returns-in_err-reserve-clause-accepted c = λ room.
       room,
       c.in_err-reserve.ensures.full,
       c.last_piece_of-last.ensures,
-      length-sealed_file (version_2 (secret c.args.key.now []) c.args.random) c.args.file.now,
+      length-sealed_file (fresh_key (secret c.args.key.now []) c.args.random) c.args.file.now,
       sym (ap (λ (k : ChunkKey). length k.header) c.new-cipher.ensures.made) ∙ c.new-cipher.ensures.size,
     ))
 
@@ -25,7 +25,7 @@ returns-in_err-reserve-clause-refused c =
       arith,
       c.in_err-reserve.ensures.full,
       c.last_piece_of-last.ensures,
-      length-sealed_file (version_2 (secret c.args.key.now []) c.args.random) c.args.file.now,
+      length-sealed_file (fresh_key (secret c.args.key.now []) c.args.random) c.args.file.now,
       sym (ap (λ (k : ChunkKey). length k.header) c.new-cipher.ensures.made) ∙ c.new-cipher.ensures.size,
     ))
 
@@ -37,7 +37,7 @@ loop-number-init c = record {
   room =
       omega (
         arith,
-        length-sealed_file (version_2 (secret c.args.key.now []) c.args.random) c.args.file.now,
+        length-sealed_file (fresh_key (secret c.args.key.now []) c.args.random) c.args.file.now,
         sym (ap (λ (k : ChunkKey). length k.header) c.new-cipher.ensures.made) ∙ c.new-cipher.ensures.size,
         c.last_piece_of-last.ensures,
         c.in_ok-reserve.ensures.ok,
@@ -51,9 +51,9 @@ append_sealed-requires-clause-chunk c = rw c.piece_of-chunk.ensures (length-piec
 
 pub append_sealed-requires-clause-room : goal.append_sealed-requires-clause-room
 append_sealed-requires-clause-room c =
-    let fits = seal_fits (version_2 (secret c.args.key.now []) c.args.random) c.args.file.now c.loop-number.number
+    let fits = seal_fits (fresh_key (secret c.args.key.now []) c.args.random) c.args.file.now c.loop-number.number
     (omega (arith, c.last_piece_of-last.ensures, c.loop-number-test.true)) in
-    let more = length-append c.args.out.now.items (sealed_before (version_2 (secret c.args.key.now []) c.args.random) c.args.file.now c.loop-number.number) in
+    let more = length-append c.args.out.now.items (sealed_before (fresh_key (secret c.args.key.now []) c.args.random) c.args.file.now c.loop-number.number) in
     omega (
       arith,
       fits,
@@ -67,7 +67,7 @@ append_sealed-requires-clause-room c =
 
 pub loop-number-preserved : goal.loop-number-preserved
 loop-number-preserved c = record {
-  appended = seal_more (version_2 (secret c.args.key.now []) c.args.random) c.args.file.now c.loop-number.number
+  appended = seal_more (fresh_key (secret c.args.key.now []) c.args.random) c.args.file.now c.loop-number.number
       (Some c.args.out.now.items) (Some c.loop-number.out.items) (Some c.append_sealed.new.out.items)
       (rw (← c.new-cipher.ensures.made) (sealed_is _ _ _ (ap (λ k. c.loop-number.number == k) c.last_piece_of-last.ensures) c.piece_of-chunk.ensures))
       c.loop-number.invariant.appended c.append_sealed.ensures.sealed;

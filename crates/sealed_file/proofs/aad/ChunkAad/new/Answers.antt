@@ -5,7 +5,7 @@ use proofs.aad.ChunkAad.new.Goals as goal
 
 pub returns : goal.returns
 returns c =
-    let zeros : List ℕ = replicate 4156 0 in
+    let zeros : List ℕ = replicate 4160 0 in
     let header = c.args.header.now in
     let bytes = c.args.bytes.now in
     let len : ℕ = 60 + length bytes in

@@ -1,16 +1,16 @@
 use Rattle.std.proofs.Common.{◌++◌, ap, ◌∙◌}
 use Rattle.sealed_file.specs.Derivation.{commitment, derived_key}
-use Rattle.sealed_file.specs.Format.{magic_and_version, secret, version_2}
+use Rattle.sealed_file.specs.Format.{magic_and_version, secret_of, fresh_key}
 use Rattle.sealed_file.proofs
 use proofs.ChunkLemmas.{same_key}
 use proofs.header.ChunkCipher.new.Goals as goal
 
 pub returns-clause-made : goal.returns-clause-made
-unfolding version_2
+unfolding fresh_key
 returns-clause-made c =
     let context_is = c.context_of-context.ensures in
     let header_is = c.header_with-header.ensures
-    ∙ ap (λ l. magic_and_version 2 ++ (c.as_bytes-random.result.now ++ l)) (c.commitment.ensures ∙ ap (commitment c.args.key.now) context_is) in
+    ∙ ap (λ l. magic_and_version c.args.version ++ (c.as_bytes-random.result.now ++ l)) (c.commitment.ensures ∙ ap (commitment c.args.key.now) context_is) in
     same_key (c.aead_key.ensures ∙ c.derived_key.ensures ∙ ap (derived_key c.args.key.now) context_is) c.prefix_of.ensures header_is
     (c.new.ensures ∙ ap (λ l. l ++ c.args.aad.now) header_is)
-    ∙ ap (version_2 (secret c.args.key.now c.args.aad.now)) c.as_bytes-random.ensures
+    ∙ ap (fresh_key (secret_of c.args.version c.args.key.now c.args.aad.now)) c.as_bytes-random.ensures

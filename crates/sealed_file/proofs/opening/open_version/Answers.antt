@@ -5,7 +5,7 @@ use lemmas.Result.{err_from_is_err_and}
 use Rattle.sealed_file.proofs
 use proofs.OpenLemmas.{header_fails, read_accepted, read_end, read_long, read_next, read_refused, read_start, read_stop, read_stop_in, stop_at_start}
 use proofs.StreamLemmas.{says_nothing, stop, stop_then}
-use proofs.opening.open_with_aad.Goals as goal
+use proofs.opening.open_version.Goals as goal
 
 pub returns-in_err-chunk-clause-nothing_past : goal.returns-in_err-chunk-clause-nothing_past
 returns-in_err-chunk-clause-nothing_past g c = stop _ _ (λ file. stop_at_start _ _ _)

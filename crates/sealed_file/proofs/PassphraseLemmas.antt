@@ -1,0 +1,121 @@
+-- Files that are sealed under a passphrase.
+use Rattle.std.proofs.Common.{◌≡◌, ℕ, Result, Ok, Err, IfErr, OnOk, OnErr, IfSome, None, Some, inl, inr, ◌≤◌, ◌<◌, List, ◌++◌, length, take, drop, refl, sym, ap, ap₂, subst, ◌∙◌, arith, Option, length-take, take-take}
+use Rattle.std.proofs.lemmas.List.{drop-take}
+use Rattle.std.specs.Fmt.{option_append}
+use Rattle.std.specs.Int.{to_be_bytes, w32}
+use Rattle.std.specs.Io.KnownBytes.{Appends}
+use Rattle.sealed_file.specs
+use specs.declared.error.FileError.{FileError}
+use specs.declared.error.FileError.TheVariants.{EndsEarly, Iterations}
+use specs.Format.{ChunkKey, Secret, fresh_key, secret_of, with_header}
+use specs.Opening.{AreRight, IsSealed, header_of, opened_chunks, opened_file}
+use specs.Passphrase.{AreAllowed, FrontRefuses, OpensBy, PassphraseRefuses, core_of, fresh_passphrase_key, iteration_bytes, iterations_of, opened_by, passphrase_key, random_of, unlocked}
+use specs.Refusals.{HeaderRefuses, OpenRefuses}
+use specs.Streams.{AppendsBeginning, TakesFront}
+
+-- ---- what a result says of known bytes
+
+pub ok_then : {X T E : Type 0} (r : Result T E) (known : Option X) {P : X → Type 0} (Q : X → Type 0) → IfSome known P
+    → ((x : X) → P x → OnOk r (Q x)) → OnOk r (IfSome known Q)
+ok_then (Err e) known Q h step = tt
+ok_then (Ok v) None Q h step = tt
+ok_then (Ok v) (Some x) Q h step = step x h
+
+pub err_then : {X T E : Type 0} (r : Result T E) (known : Option X) {P : X → Type 0} (Q : X → Type 0) → IfSome known P
+    → ((x : X) → P x → OnErr r (Q x)) → OnErr r (IfSome known Q)
+err_then (Ok v) known Q h step = tt
+err_then (Err e) None Q h step = tt
+err_then (Err e) (Some x) Q h step = step x h
+
+pub error_then : {X T E : Type 0} (r : Result T E) (known : Option X) {P : X → Type 0} (Q : E → X → Type 0) → IfSome known P
+    → ((x : X) → P x → IfErr r (λ e. Q e x)) → IfErr r (λ e. IfSome known (Q e))
+error_then (Ok v) known Q h step = tt
+error_then (Err e) None Q h step = tt
+error_then (Err e) (Some x) Q h step = step x h
+
+-- ---- a header that was read
+
+-- the bytes that were read as a file's header hold what the file's header holds
+module _ (passphrase aad file seen read_bytes : List ℕ) (rest : Option (List ℕ)) (same : seen ≡ read_bytes)
+    (read : TakesFront 64 file read_bytes rest) where
+  seen_is : seen ≡ take 64 file
+  seen_is = same ∙ read.piece_is
+
+  random_same : random_of seen ≡ random_of file
+  random_same = ap random_of seen_is ∙ ap (take 19) (drop-take 9 55 file) ∙ take-take 19 55 (drop 9 file) (omega arith)
+
+  bytes_same : iteration_bytes seen ≡ iteration_bytes file
+  bytes_same = ap iteration_bytes seen_is ∙ ap (take 4) (drop-take 60 4 file) ∙ take-take 4 4 (drop 60 file) (omega arith)
+
+  header_same : header_of seen ≡ header_of file
+  header_same = ap header_of seen_is ∙ take-take 60 64 file (omega arith)
+
+  unlocked_same : unlocked passphrase aad seen ≡ unlocked passphrase aad file
+  unlocked_same = rw (random_same, bytes_same) refl
+
+  whole_same : 64 ≤ length seen → 64 ≤ length file
+  whole_same whole = omega (arith, whole, ap length seen_is, length-take 64 file)
+
+  front_fails : (error : FileError) → FrontRefuses passphrase aad seen error → FrontRefuses passphrase aad file error
+  front_fails EndsEarly short = omega (arith, short, ap length seen_is, length-take 64 file)
+  front_fails (Iterations n) (whole, is, wrong) = (whole_same whole, rw bytes_same at is, rw bytes_same at wrong)
+  front_fails error h = subst (λ s. HeaderRefuses s (header_of file) error) unlocked_same
+      (subst (λ l. HeaderRefuses (unlocked passphrase aad seen) l error) header_same h)
+
+  pub front_refused : (error : FileError) → FrontRefuses passphrase aad seen error → PassphraseRefuses passphrase aad file error
+  front_refused error h = inl (front_fails error h)
+
+  -- what the first bytes and the others are together
+  pub core_is : {first : List ℕ} {known : Option (List ℕ)} → first ≡ header_of seen → known ≡ option_append (Some first) rest
+      → known ≡ Some (core_of file)
+  core_is first_is known_is = known_is ∙ rw (first_is, header_same, read.left) refl
+
+  -- the core, which was opened
+  module _ {known : Option (List ℕ)} (k : known ≡ Some (core_of file)) {s : Secret} (s_is : s ≡ unlocked passphrase aad seen) where
+    of_file : (P : Secret → List ℕ → Type 0) → IfSome known (P s) → P (unlocked passphrase aad file) (core_of file)
+    of_file P h = subst (λ s. P s (core_of file)) (s_is ∙ unlocked_same) (subst (λ k. IfSome k (P s)) k h)
+
+    pub accepted_by : {T E : Type 0} (r : Result T E) → 64 ≤ length seen → AreAllowed (iterations_of seen)
+        → OnOk r (IfSome known (λ core. IsSealed s core)) → OnOk r (OpensBy passphrase aad file)
+    accepted_by (Err e) whole allowed h = tt
+    accepted_by (Ok v) whole allowed h = record {
+      whole = whole_same whole;
+      allowed = rw bytes_same at allowed;
+      sealed = of_file (λ s core. IsSealed s core) h;
+    }
+
+    pub gives : {T E : Type 0} (r : Result T E) (old now : Option (List ℕ))
+        → OnOk r (IfSome known (λ core. Appends old now (opened_file s core))) → OnOk r (Appends old now (opened_by passphrase aad file))
+    gives (Err e) old now h = tt
+    gives (Ok v) old now h = of_file (λ s core. Appends old now (opened_file s core)) h
+
+    pub refused_by : {T : Type 0} (r : Result T FileError) → IfErr r (λ error. IfSome known (λ core. OpenRefuses s core error))
+        → IfErr r (λ error. PassphraseRefuses passphrase aad file error)
+    refused_by (Ok v) h = tt
+    refused_by (Err error) h = inr (of_file (λ s core. OpenRefuses s core error) h)
+
+    pub stopped_by : {T E : Type 0} (r : Result T E) (old now : Option (List ℕ))
+        → OnErr r (IfSome known (λ core. (n : ℕ) × AreRight s core n × AppendsBeginning old now (opened_chunks s core n)))
+        → OnErr r (let s = unlocked passphrase aad file in
+        (n : ℕ) × AreRight s (core_of file) n × AppendsBeginning old now (opened_chunks s (core_of file) n))
+    stopped_by (Ok v) old now h = tt
+    stopped_by (Err e) old now h =
+        of_file (λ s core. (n : ℕ) × AreRight s core n × AppendsBeginning old now (opened_chunks s core n)) h
+
+-- a header that doesn't begin as one of version 3
+pub front_of_header : (passphrase aad file header : List ℕ) → header ≡ header_of file → (error : FileError)
+    → HeaderRefuses (unlocked passphrase aad file) header error → FrontRefuses passphrase aad file error
+front_of_header passphrase aad file header is EndsEarly (inl short) = omega (arith, short, ap length is, length-take 60 file)
+front_of_header passphrase aad file header is EndsEarly (inr (front, short)) = omega (arith, short, ap length is, length-take 60 file)
+front_of_header passphrase aad file header is (Iterations n) h = absurd h
+front_of_header passphrase aad file header is error h = subst (λ l. HeaderRefuses (unlocked passphrase aad file) l error) is h
+
+-- ---- sealing
+
+-- a header that ends with the iterations, and the chunks under the key of the passphrase
+pub fresh_is : {header first bytes key after : List ℕ} {k : ChunkKey} (passphrase aad random : List ℕ) (iterations : ℕ)
+    → header ≡ first ++ bytes → first ≡ k.header → bytes ≡ to_be_bytes w32 iterations → k ≡ fresh_key (secret_of 3 key after) random
+    → key ≡ passphrase_key passphrase random iterations → after ≡ bytes ++ aad
+    → with_header header k ≡ fresh_passphrase_key passphrase aad random iterations
+fresh_is passphrase aad random iterations header_is first_is bytes_is k_is key_is after_is =
+    rw (header_is, first_is, k_is, key_is, after_is, bytes_is) refl

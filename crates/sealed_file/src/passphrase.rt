@@ -1,0 +1,191 @@
+//! Sealing and opening files under a passphrase: version 3 of the format.
+
+ghost use Rattle.std.specs.Prelude.{ℕ, List, ◌≡◌, ◌-◌, ◌^◌, ◌<◌, ◌≤◌, ◌++◌, length, take, drop, IsOk, IfOk, IfErr, IfSome, OnOk, OnErr};
+ghost use Rattle.std.specs.Int.{to_be_bytes, w32};
+ghost use Rattle.std.specs.Io.KnownBytes.{Appends};
+ghost use Rattle.sealed_file.specs.Format.{chunk_len, last_piece, sealed_file, secret_of};
+ghost use Rattle.sealed_file.specs.Opening.{AreRight, header_of, opened_chunks};
+ghost use Rattle.sealed_file.specs.Passphrase.{AreAllowed, FrontRefuses, OpensBy, PassphraseRefuses, core_of, fresh_passphrase_key, iteration_bytes, iterations_of, locked, opened_by, passphrase_key, unlocked};
+ghost use Rattle.sealed_file.specs.Refusals.{IsVersion, SealRefuses};
+ghost use Rattle.sealed_file.specs.Streams.{AppendsBeginning};
+
+use crate::error::FileError;
+use crate::header::{ChunkCipher, FRONT_LEN, HEADER_LEN, RANDOM_LEN, check_front, header_of};
+use crate::key::FileKey;
+use crate::opening::open_version;
+use crate::random::FileRandom;
+use crate::sealing::seal_under;
+use crate::stream::read_piece;
+use aead_ciphers_base::aes::AES_256_KEY_LEN;
+use key_derivation::pbkdf2::pbkdf2;
+use sha2::Sha256;
+use std::alloc::Global;
+use std::io::{self, Read, Write};
+
+/// The version of the format of a file that is sealed under a passphrase.
+pub const PASSPHRASE_VERSION: u8 = 3;
+
+/// The length in bytes of the iterations in the header.
+pub(crate) const ITERATIONS_LEN: usize = 4;
+
+/// The length in bytes of the header of a file that is sealed under a passphrase: that of any file, and the iterations.
+pub const PASSPHRASE_HEADER_LEN: usize = HEADER_LEN + ITERATIONS_LEN;
+
+/// The iterations of PBKDF2 to seal a file with.
+pub const ITERATIONS: u32 = 600_000;
+
+/// The most iterations that a file may have.
+pub const MAX_ITERATIONS: u32 = 10_000_000;
+
+/// The key that a passphrase has for a file with these random bytes.
+fn passphrase_key(passphrase: &[u8], random: &[u8], iterations: u32) -> FileKey
+    requires { 0 < iterations }
+    ensures { result ≡ passphrase_key passphrase.now random.now iterations }
+{
+    let mut bytes = [0; AES_256_KEY_LEN];
+    match pbkdf2::<Sha256>(passphrase, random, iterations, &mut bytes) {
+        Ok(()) => FileKey { bytes },
+        Err(_) => unreachable!(),
+    }
+}
+
+/// Both, one after the other.
+fn joined(alloc: Global, first: &[u8], second: &[u8]) -> io::Result<Vec<u8>>
+    ensures { IfOk result (λ both. both.items ≡ first.now ++ second.now) }
+{
+    let mut both = Vec::new(alloc);
+    both.extend_from_slice(first)?;
+    both.extend_from_slice(second)?;
+    Ok(both)
+}
+
+/// Seals the bytes of `input` under a passphrase, and writes the sealed file to `output`.
+///
+/// The key is derived by PBKDF2 with HMAC-SHA-256 from the passphrase, the random bytes and the iterations, which are 1 to
+/// `MAX_ITERATIONS`: `ITERATIONS`, unless the passphrase is as hard to guess as a key. The file is bound to `aad`, at most
+/// `MAX_AAD_LEN` bytes, as by `seal_with_aad`.
+///
+/// Fails with the errors of `seal`. What was written by then is the beginning of the sealed file.
+pub fn seal_with_passphrase<R: Read, W: Write>(
+    alloc: Global,
+    passphrase: &[u8],
+    iterations: u32,
+    random: FileRandom,
+    aad: &[u8],
+    input: &mut R,
+    output: &mut W,
+) -> Result<(), FileError>
+    requires iterations { AreAllowed iterations }
+    requires aad { length aad.now ≤ 4096 }
+    ensures few { OnOk result (IfSome (R.remaining input.old) (λ file.
+        last_piece chunk_len (length file) < 2 ^ 32 - 1)) }
+    ensures sealed { OnOk result (IfSome (R.remaining input.old) (λ file.
+        Appends (W.contents output.old) (W.contents output.new)
+        (sealed_file (fresh_passphrase_key passphrase.now aad.now random iterations) file))) }
+    ensures refused { IfErr result (λ error. IfSome (R.remaining input.old) (λ file.
+        SealRefuses file error)) }
+    ensures beginning { OnErr result (IfSome (R.remaining input.old) (λ file.
+        AppendsBeginning (W.contents output.old) (W.contents output.new)
+        (sealed_file (fresh_passphrase_key passphrase.now aad.now random iterations) file))) }
+{
+    let bytes = iterations.to_be_bytes();
+    let aad = joined(alloc, &bytes, aad)?;
+    let key = passphrase_key(passphrase, random.as_bytes(), iterations);
+    let cipher = ChunkCipher::new(PASSPHRASE_VERSION, &key, &aad, &random);
+    let header = joined(alloc, cipher.header(), &bytes)?;
+    seal_under(alloc, &header, &cipher, input, output)
+}
+
+/// Returns the iterations in the header of a file of version 3 that begins with these bytes. The commitment is not compared.
+///
+/// Fails with `AnotherMagic`, `AnotherVersion`, `EndsEarly` if there is no whole header, and `Iterations` if they are 0 or more
+/// than `MAX_ITERATIONS`.
+pub fn iterations_in(file: &[u8]) -> Result<u32, FileError>
+    ensures front { IsOk result → IsVersion 3 (header_of file.now) }
+    ensures whole { IsOk result → 64 ≤ length file.now }
+    ensures iterations { IfOk result (λ iterations. iterations ≡ iterations_of file.now) }
+    ensures allowed { IfOk result (λ iterations. AreAllowed iterations) }
+    ensures refused { (passphrase aad : List ℕ) → IfErr result (λ error.
+        FrontRefuses passphrase aad file.now error) }
+{
+    check_front(PASSPHRASE_VERSION, header_of(file))?;
+    if file.len() < PASSPHRASE_HEADER_LEN {
+        return Err(FileError::EndsEarly);
+    }
+    let mut bytes = [0; ITERATIONS_LEN];
+    bytes.copy_from_slice(&file[HEADER_LEN..PASSPHRASE_HEADER_LEN]);
+    let iterations = u32::from_be_bytes(bytes);
+    if iterations == 0 || iterations > MAX_ITERATIONS {
+        return Err(FileError::Iterations(iterations));
+    }
+    Ok(iterations)
+}
+
+/// What a file of version 3 is sealed under: the key of the passphrase, and the AAD after the first `HEADER_LEN` bytes of the
+/// header.
+#[derive(Drop)]
+struct Unlocked {
+    key: FileKey,
+    aad: Vec<u8>,
+}
+
+/// What the file that begins with these bytes and has these iterations is sealed under, if it is under this passphrase.
+fn unlock(
+    alloc: Global,
+    passphrase: &[u8],
+    aad: &[u8],
+    file: &[u8],
+    iterations: u32,
+) -> io::Result<Unlocked>
+    requires whole { 64 ≤ length file.now }
+    requires iterations { iterations ≡ iterations_of file.now }
+    requires some { 0 < iterations }
+    requires aad { length aad.now ≤ 4096 }
+    ensures made { IfOk result (λ made. secret_of 3 made.key made.aad.items
+        ≡ unlocked passphrase.now aad.now file.now) }
+    ensures aad { IfOk result (λ made. length made.aad.items ≤ 4100) }
+{
+    let random = &file[FRONT_LEN..FRONT_LEN + RANDOM_LEN];
+    let key = passphrase_key(passphrase, random, iterations);
+    let aad = joined(alloc, &file[HEADER_LEN..PASSPHRASE_HEADER_LEN], aad)?;
+    Ok(Unlocked { key, aad })
+}
+
+/// Opens the file in `input` that is sealed under a passphrase, and writes the file to `output`, as `open_with_aad` does.
+///
+/// Fails with the errors of `open`: `AnotherVersion` for a file that is sealed under a key, and `WrongKey` for another passphrase.
+/// Fails with `Iterations` if the iterations in the header are 0 or more than `MAX_ITERATIONS`, before it derives the key.
+pub fn open_with_passphrase<R: Read, W: Write>(
+    alloc: Global,
+    passphrase: &[u8],
+    aad: &[u8],
+    input: &mut R,
+    output: &mut W,
+) -> Result<(), FileError>
+    requires { length aad.now ≤ 4096 }
+    ensures accepted { OnOk result (IfSome (R.remaining input.old) (λ file.
+        OpensBy passphrase.now aad.now file)) }
+    ensures opened { OnOk result (IfSome (R.remaining input.old) (λ file.
+        Appends (W.contents output.old) (W.contents output.new)
+        (opened_by passphrase.now aad.now file))) }
+    ensures refused { IfErr result (λ error. IfSome (R.remaining input.old) (λ file.
+        PassphraseRefuses passphrase.now aad.now file error)) }
+    ensures nothing_past { OnErr result (IfSome (R.remaining input.old) (λ file.
+        let s = unlocked passphrase.now aad.now file in
+        (n : ℕ) × AreRight s (core_of file) n × AppendsBeginning (W.contents output.old)
+        (W.contents output.new) (opened_chunks s (core_of file) n))) }
+{
+    let mut header = Vec::new(alloc);
+    read_piece(input, PASSPHRASE_HEADER_LEN, &mut header)?;
+    let iterations = iterations_in(&header)?;
+    let unlocked = unlock(alloc, passphrase, aad, &header, iterations)?;
+    let mut core = header_of(&header).chain(input);
+    open_version(
+        alloc,
+        PASSPHRASE_VERSION,
+        &unlocked.key,
+        &unlocked.aad,
+        &mut core,
+        output,
+    )
+}
