@@ -2,7 +2,7 @@
 
 use crate::checks::same;
 use key_derivation::Secret;
-use quic_packets::{Failures, FixedBit, PacketError, Receiver, Sender, Space, Suite, packet_at};
+use quic_packets::{Failures, FixedBit, PacketError, Receiver, Sender, Space, packet_at};
 use std::alloc::Global;
 use std::test::Fail;
 
