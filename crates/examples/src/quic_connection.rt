@@ -7,7 +7,8 @@ ghost use Rattle.quic_packets.specs.Space.{IsNew, Marks};
 ghost use Rattle.quic_packets.specs.declared.fixed_bit.FixedBit.TheVariants.{Required};
 
 use quic_packets::{
-    Failures, FixedBit, Packet, PacketError, PacketType, Received, Receiver, Sender, Space, packet_at,
+    Failures, FixedBit, Packet, PacketError, PacketType, Received, Receiver, Sender, Space,
+    packet_at,
 };
 
 /// The offset of the packet number, which follows the first byte and a connection ID of 8 bytes.

@@ -1,11 +1,10 @@
 -- The parts of a header that was written.
-use Rattle.std.proofs.Common.{◌≡◌, ℕ, zero, suc, ◌+◌, ◌-◌, ◌*◌, ◌/◌, ◌%◌, ◌^◌, ◌<◌, ◌≤◌, List, [], ◌∷◌, ◌++◌, length, get_or, take, drop, refl, sym, ap, ap₂, subst, ◌∙◌, arith, add-zero, append_assoc, drop_at, length-append, take_at, Ok, Err, Result, Some, None, Option, Bool, false, true}
+use Rattle.std.proofs.Common.{◌≡◌, ℕ, zero, suc, ◌+◌, ◌-◌, ◌*◌, ◌/◌, ◌%◌, ◌^◌, ◌<◌, ◌≤◌, List, [], ◌∷◌, ◌++◌, length, get_or, take, drop, refl, sym, ap, ap₂, ◌∙◌, arith, add-zero, append_assoc, drop_at, length-append, take_at, Ok, Err, Some, None, Option, Bool, false, true}
 use Rattle.std.proofs.Math.Bool.{and-false}
 use Rattle.std.proofs.Math.Seq.{get_or-append_seam}
 use Rattle.std.proofs.lemmas.Bool.{cond_both, le-ltb, lt-ltb, ltb-true}
 use Rattle.std.proofs.lemmas.List.{append-nil, get_or-append-add, get_or_append_left}
 use Rattle.std.proofs.lemmas.Nat.{pow_pos}
-use Rattle.std.specs.Int.{bytes_high_first}
 use Rattle.std.specs.Int.Digits.{number_from_digits}
 use Rattle.std.specs.Prelude.{nat_lt, slice_range, ◌==◌, ◌&&◌, ◌||◌, if◌then◌else◌}
 use Rattle.std.specs.declared.ops.Range.{Range}
@@ -13,7 +12,7 @@ use Rattle.quic_packets.specs.Datagram.{has_long_id, initial_token, long_packet,
 use Rattle.quic_packets.specs.declared.datagram.DatagramError.TheVariants.{Cut, IdTooLong, NoFixedBit}
 use Rattle.quic_packets.specs.declared.datagram.Packet.{Packet}
 use Rattle.quic_packets.specs.declared.datagram.PacketType.{PacketType}
-use Rattle.quic_packets.specs.declared.datagram.PacketType.TheVariants.{Initial as InitialPacket, ZeroRtt as ZeroRttPacket, Handshake as HandshakePacket, OneRtt}
+use Rattle.quic_packets.specs.declared.datagram.PacketType.TheVariants.{Initial as InitialPacket, ZeroRtt as ZeroRttPacket, Handshake as HandshakePacket}
 use Rattle.quic_packets.specs.declared.fixed_bit.FixedBit.{FixedBit}
 use Rattle.quic_packets.specs.declared.fixed_bit.FixedBit.TheVariants.{Required, Greased}
 use Rattle.quic_packets.specs.FixedBit.{lacks_fixed_bit}
@@ -263,7 +262,7 @@ module _ (first : ℕ) (id source token : List ℕ) (log n : ℕ) (rest : List �
 by_type : (kind : LongType) (id source : List ℕ) (m n : ℕ) (rest : List ℕ) → IsNumberLen m → length id ≤ 20 → length source ≤ 20
     → length (token_of kind) < 2 ^ 30 → n < 2 ^ 30 → n ≤ length rest → (id_len : ℕ)
     → (let header = (long_first_byte (type_bits kind) m ∷ 0 ∷ 0 ∷ 0 ∷ 1 ∷ []) ++ id_field id ++ id_field source ++ token_field kind
-        ++ integer (length_log n) n in
+    ++ integer (length_log n) n in
     IsParsed id_len (header ++ rest) (packet_type_of kind) id source (token_of kind) (length header) (length header + n))
 by_type (Initial token) id source m n rest is short_id short_source short_token short_len whole id_len =
     let encodes = length_encodes n short_len in
@@ -308,8 +307,8 @@ long_parsed header is rest whole fixed_bit id_len =
     is.ids.destination is.ids.source is.fields.token is.fields.payload whole id_len in (
       found.0,
       ap (with_fixed_bit fixed_bit _) found.1
-      ∙ ap (λ b. if b then Err NoFixedBit else Ok found.0) (with_bit fixed_bit found.0.version
-      (long_first_byte (type_bits header.packet_type) header.number_len) (long_first header is.number)),
+          ∙ ap (λ b. if b then Err NoFixedBit else Ok found.0) (with_bit fixed_bit found.0.version
+          (long_first_byte (type_bits header.packet_type) header.number_len) (long_first header is.number)),
       record {
         start = found.2.start;
         packet_type = found.2.packet_type;
@@ -339,9 +338,9 @@ short_parsed header is rest fixed_bit =
     let at : 0 + 1 + length id ≡ length (first ∷ id) = omega arith in (
       p,
       ap (λ b. with_fixed_bit fixed_bit first (if b then whole d p else long_packet d 0))
-      (lt-ltb first 0x80 (short_form header.phase header.number_len is.number.few))
-      ∙ ap (λ b. with_fixed_bit fixed_bit first (if b then Err Cut else Ok p)) (le-ltb (length d) p.end (omega (arith, end)))
-      ∙ ap (λ b. if b then Err NoFixedBit else Ok p) (with_bit fixed_bit None first (short_first header.phase header.number_len is.number)),
+          (lt-ltb first 0x80 (short_form header.phase header.number_len is.number.few))
+          ∙ ap (λ b. with_fixed_bit fixed_bit first (if b then Err Cut else Ok p)) (le-ltb (length d) p.end (omega (arith, end)))
+          ∙ ap (λ b. if b then Err NoFixedBit else Ok p) (with_bit fixed_bit None first (short_first header.phase header.number_len is.number)),
       record {
         start = refl;
         packet_type = refl;

@@ -76,7 +76,11 @@ fn appendix_a(rt: HostRuntime) -> Result<(), Fail> {
         )?;
         let mut packet = plain(&row)?;
         packet.extend_from_slice(&[0; 16])?;
-        sender.send(&mut packet, row.number_at..row.header.len(), FixedBit::Required)?;
+        sender.send(
+            &mut packet,
+            row.number_at..row.header.len(),
+            FixedBit::Required,
+        )?;
         same(&rt, &packet, &row.protected, row.name);
     }
     Ok(())
@@ -112,7 +116,11 @@ fn refuses(
 ) {
     let mut sent = *packet;
     let before = (sender.next_number(), sender.sealed());
-    holds(rt, sender.send(&mut sent, room, FixedBit::Required) == Err(wanted), "the error");
+    holds(
+        rt,
+        sender.send(&mut sent, room, FixedBit::Required) == Err(wanted),
+        "the error",
+    );
     let after = (sender.next_number(), sender.sealed());
     holds(rt, after == before, "the numbers");
     same(rt, &sent, packet, "refused");
