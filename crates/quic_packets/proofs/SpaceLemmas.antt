@@ -23,12 +23,12 @@ far w a b up near same =
     ]
 
 -- two numbers of one window have bits of their own
-pub apart : (words m n : ℕ) → m < n → n < m + 64 * words → ¬ ShareBit words m n
+apart : (words m n : ℕ) → m < n → n < m + 64 * words → ¬ ShareBit words m n
 apart words m n up near share =
     let bit = share.bit in
     far words (m / 64) (n / 64) (omega (arith, bit)) (omega (arith, bit)) share.word
 
-pub apart_down : (words m n : ℕ) → n < m → m < n + 64 * words → ¬ ShareBit words m n
+apart_down : (words m n : ℕ) → n < m → m < n + 64 * words → ¬ ShareBit words m n
 apart_down words m n up near share = apart words n m up near (record { word = sym share.word; bit = sym share.bit })
 
 no_bit : (a : ℕ) → a ≡ 1 → a ≡ 0 → ⊥

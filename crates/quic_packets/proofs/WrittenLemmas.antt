@@ -53,14 +53,14 @@ value_of (suc (suc zero)) value few fits = ap (λ n. n % 2 ^ 30) (bytes_read 4 (
 value_of (suc (suc (suc n))) value few fits = absurd (omega arith)
 
 -- the fewest bytes, and those of a Length field
-pub fewest_encodes : (value : ℕ) → value < 2 ^ 30 → (fewest value ≤ 2) × Encodes (fewest value) value
+fewest_encodes : (value : ℕ) → value < 2 ^ 30 → (fewest value ≤ 2) × Encodes (fewest value) value
 fewest_encodes value lt =
     cond_both (nat_lt value (2 ^ 6)) 0 (if nat_lt value (2 ^ 14) then 1 else 2) (λ log. (log ≤ 2) × Encodes log value)
     (λ e. (omega arith, ltb-true value (2 ^ 6) e))
     (λ e. cond_both (nat_lt value (2 ^ 14)) 1 2 (λ log. (log ≤ 2) × Encodes log value)
     (λ e. (omega arith, ltb-true value (2 ^ 14) e)) (λ e. (omega arith, lt)))
 
-pub length_encodes : (value : ℕ) → value < 2 ^ 30 → (length_log value ≤ 2) × Encodes (length_log value) value
+length_encodes : (value : ℕ) → value < 2 ^ 30 → (length_log value ≤ 2) × Encodes (length_log value) value
 length_encodes value lt =
     cond_both (nat_lt value (2 ^ 14)) 1 2 (λ log. (log ≤ 2) × Encodes log value)
     (λ e. (omega arith, ltb-true value (2 ^ 14) e)) (λ e. (omega arith, lt))
@@ -78,10 +78,10 @@ module _ (d xs ys : List ℕ) (log value at : ℕ) (is : d ≡ xs ++ (integer lo
       ∙ get_or-append-add xs (integer log value ++ ys) 0 0
       ∙ get_or_append_left (integer log value) ys 0 0 some
 
-  pub its_end : varint_end d at ≡ at + 2 ^ log
+  its_end : varint_end d at ≡ at + 2 ^ log
   its_end = ap (λ b. at + 2 ^ (b / 2 ^ 6)) first ∙ ap (λ l. at + 2 ^ l) (first_byte log value few fits)
 
-  pub its_value : varint d at ≡ value
+  its_value : varint d at ≡ value
   its_value =
       ap (λ end. number_from_digits 256 (slice_range d at end) % 2 ^ (8 * (end - at) - 2)) its_end
       ∙ ap₂ (λ l n. number_from_digits 256 l % 2 ^ (8 * n - 2))
@@ -125,7 +125,7 @@ module _ (first : ℕ) (id source token : List ℕ) (log n : ℕ) (rest : List �
   after_token : datagram ≡ with_token ++ (integer log n ++ rest)
   after_token = append_assoc with_token (integer log n) rest
 
-  pub after_source : datagram ≡ with_source ++ (token ++ (integer log n ++ rest))
+  after_source : datagram ≡ with_source ++ (token ++ (integer log n ++ rest))
   after_source = after_token ∙ append_assoc with_source token (integer log n ++ rest)
 
   after_id : datagram ≡ with_id ++ (id_field source ++ (token ++ (integer log n ++ rest)))
@@ -136,7 +136,7 @@ module _ (first : ℕ) (id source token : List ℕ) (log n : ℕ) (rest : List �
       ap (λ l. get_or l (6 + length id) 0) after_id
       ∙ behind with_id (source ++ (token ++ (integer log n ++ rest))) (length source) (6 + length id) (omega arith)
 
-  pub its_source_end : source_end datagram 0 ≡ length with_source
+  its_source_end : source_end datagram 0 ≡ length with_source
   its_source_end =
       ap (λ v. 6 + length id + 1 + v) source_len ∙ omega (arith, length-append with_id (id_field source))
 
@@ -300,7 +300,8 @@ short_first true m is = omega (arith, is.some, is.few)
 short_first false m is = omega (arith, is.some, is.few)
 
 pub long_parsed : (header : LongHeader) → IsLongHeader header → (rest : List ℕ) → length_of header ≤ length rest
-    → (fixed_bit : FixedBit) (id_len : ℕ) → (p : Packet) × (packet_of fixed_bit id_len (long_header header ++ rest) 0 ≡ Ok p) × HasLongParts header (long_header header ++ rest) p
+    → (fixed_bit : FixedBit) (id_len : ℕ) → (p : Packet) × (packet_of fixed_bit id_len (long_header header ++ rest) 0 ≡ Ok p)
+    × HasLongParts header (long_header header ++ rest) p
 long_parsed header is rest whole fixed_bit id_len =
     let found =
     by_type header.packet_type header.destination_id.now header.source_id.now header.number_len (length_of header) rest is.number
