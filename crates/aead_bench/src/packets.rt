@@ -54,7 +54,8 @@ impl Connection {
     fn send(&mut self, packet: &mut [u8]) -> Result<u64, PacketError> {
         let acknowledged = self.sender.next_number().saturating_sub(UNACKNOWLEDGED);
         self.sender.acknowledged(acknowledged)?;
-        self.sender.send(packet, NUMBER_AT..HEADER_LEN, FixedBit::Required)
+        self.sender
+            .send(packet, NUMBER_AT..HEADER_LEN, FixedBit::Required)
     }
 
     fn receive(&mut self, packet: &mut [u8], parts: &Packet) -> Result<u64, PacketError> {

@@ -10,7 +10,8 @@ ghost use Rattle.quic_packets.specs.declared.fixed_bit.FixedBit.TheVariants.{Req
 
 use key_derivation::Secret;
 use quic_packets::{
-    Failures, FixedBit, Packet, PacketError, PacketType, Received, Receiver, Sender, Space, packet_at,
+    Failures, FixedBit, Packet, PacketError, PacketType, Received, Receiver, Sender, Space,
+    packet_at,
 };
 
 /// The offset of the packet number, which follows the first byte and a connection ID of 8 bytes.

@@ -1,11 +1,11 @@
 -- The bits of the numbers that were received: the words take turns.
-use Rattle.std.proofs.Common.{◌≡◌, ◌≢◌, ℕ, suc, ◌+◌, ◌-◌, ◌*◌, ◌/◌, ◌%◌, ◌<◌, ◌≤◌, ◌↔◌, List, length, get_or, inl, inr, max, sym, ap, ap₂, refl, ◌∙◌, arith, set}
+use Rattle.std.proofs.Common.{◌≡◌, ◌≢◌, ℕ, ◌+◌, ◌-◌, ◌*◌, ◌/◌, ◌%◌, ◌<◌, ◌≤◌, ◌↔◌, List, length, get_or, inl, inr, max, sym, ap, ◌∙◌, arith, set}
 use Rattle.std.proofs.Math.Nat.{mul-le-mul_right}
 use Rattle.std.proofs.lemmas.Bool.{cases_eq, cases_lt}
 use Rattle.std.proofs.lemmas.List.{get_or-set_other, get_or-set_same, length-set}
 use Rattle.std.proofs.lemmas.Nat.{div-add-mod'}
 use Rattle.std.specs.Int.{bit_at}
-use Rattle.quic_packets.specs.Space.{IsNew, Marks, ShareBit, Space, bit_of}
+use Rattle.quic_packets.specs.Space.{IsNew, ShareBit, bit_of}
 
 -- two numbers with one remainder are as far apart as the divisor
 far : (w a b : ℕ) → a < b → b < a + w → a % w ≡ b % w → ⊥
@@ -23,12 +23,12 @@ far w a b up near same =
     ]
 
 -- two numbers of one window have bits of their own
-pub apart : (words m n : ℕ) → m < n → n < m + 64 * words → ¬ ShareBit words m n
+apart : (words m n : ℕ) → m < n → n < m + 64 * words → ¬ ShareBit words m n
 apart words m n up near share =
     let bit = share.bit in
     far words (m / 64) (n / 64) (omega (arith, bit)) (omega (arith, bit)) share.word
 
-pub apart_down : (words m n : ℕ) → n < m → m < n + 64 * words → ¬ ShareBit words m n
+apart_down : (words m n : ℕ) → n < m → m < n + 64 * words → ¬ ShareBit words m n
 apart_down words m n up near share = apart words n m up near (record { word = sym share.word; bit = sym share.bit })
 
 no_bit : (a : ℕ) → a ≡ 1 → a ≡ 0 → ⊥

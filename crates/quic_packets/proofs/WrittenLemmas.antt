@@ -1,11 +1,10 @@
 -- The parts of a header that was written.
-use Rattle.std.proofs.Common.{◌≡◌, ℕ, zero, suc, ◌+◌, ◌-◌, ◌*◌, ◌/◌, ◌%◌, ◌^◌, ◌<◌, ◌≤◌, List, [], ◌∷◌, ◌++◌, length, get_or, take, drop, refl, sym, ap, ap₂, subst, ◌∙◌, arith, add-zero, append_assoc, drop_at, length-append, take_at, Ok, Err, Result, Some, None, Option, Bool, false, true}
+use Rattle.std.proofs.Common.{◌≡◌, ℕ, zero, suc, ◌+◌, ◌-◌, ◌*◌, ◌/◌, ◌%◌, ◌^◌, ◌<◌, ◌≤◌, List, [], ◌∷◌, ◌++◌, length, get_or, take, drop, refl, sym, ap, ap₂, ◌∙◌, arith, add-zero, append_assoc, drop_at, length-append, take_at, Ok, Err, Some, None, Option, Bool, false, true}
 use Rattle.std.proofs.Math.Bool.{and-false}
 use Rattle.std.proofs.Math.Seq.{get_or-append_seam}
 use Rattle.std.proofs.lemmas.Bool.{cond_both, le-ltb, lt-ltb, ltb-true}
 use Rattle.std.proofs.lemmas.List.{append-nil, get_or-append-add, get_or_append_left}
 use Rattle.std.proofs.lemmas.Nat.{pow_pos}
-use Rattle.std.specs.Int.{bytes_high_first}
 use Rattle.std.specs.Int.Digits.{number_from_digits}
 use Rattle.std.specs.Prelude.{nat_lt, slice_range, ◌==◌, ◌&&◌, ◌||◌, if◌then◌else◌}
 use Rattle.std.specs.declared.ops.Range.{Range}
@@ -13,7 +12,7 @@ use Rattle.quic_packets.specs.Datagram.{has_long_id, initial_token, long_packet,
 use Rattle.quic_packets.specs.declared.datagram.DatagramError.TheVariants.{Cut, IdTooLong, NoFixedBit}
 use Rattle.quic_packets.specs.declared.datagram.Packet.{Packet}
 use Rattle.quic_packets.specs.declared.datagram.PacketType.{PacketType}
-use Rattle.quic_packets.specs.declared.datagram.PacketType.TheVariants.{Initial as InitialPacket, ZeroRtt as ZeroRttPacket, Handshake as HandshakePacket, OneRtt}
+use Rattle.quic_packets.specs.declared.datagram.PacketType.TheVariants.{Initial as InitialPacket, ZeroRtt as ZeroRttPacket, Handshake as HandshakePacket}
 use Rattle.quic_packets.specs.declared.fixed_bit.FixedBit.{FixedBit}
 use Rattle.quic_packets.specs.declared.fixed_bit.FixedBit.TheVariants.{Required, Greased}
 use Rattle.quic_packets.specs.FixedBit.{lacks_fixed_bit}
@@ -54,14 +53,14 @@ value_of (suc (suc zero)) value few fits = ap (λ n. n % 2 ^ 30) (bytes_read 4 (
 value_of (suc (suc (suc n))) value few fits = absurd (omega arith)
 
 -- the fewest bytes, and those of a Length field
-pub fewest_encodes : (value : ℕ) → value < 2 ^ 30 → (fewest value ≤ 2) × Encodes (fewest value) value
+fewest_encodes : (value : ℕ) → value < 2 ^ 30 → (fewest value ≤ 2) × Encodes (fewest value) value
 fewest_encodes value lt =
     cond_both (nat_lt value (2 ^ 6)) 0 (if nat_lt value (2 ^ 14) then 1 else 2) (λ log. (log ≤ 2) × Encodes log value)
     (λ e. (omega arith, ltb-true value (2 ^ 6) e))
     (λ e. cond_both (nat_lt value (2 ^ 14)) 1 2 (λ log. (log ≤ 2) × Encodes log value)
     (λ e. (omega arith, ltb-true value (2 ^ 14) e)) (λ e. (omega arith, lt)))
 
-pub length_encodes : (value : ℕ) → value < 2 ^ 30 → (length_log value ≤ 2) × Encodes (length_log value) value
+length_encodes : (value : ℕ) → value < 2 ^ 30 → (length_log value ≤ 2) × Encodes (length_log value) value
 length_encodes value lt =
     cond_both (nat_lt value (2 ^ 14)) 1 2 (λ log. (log ≤ 2) × Encodes log value)
     (λ e. (omega arith, ltb-true value (2 ^ 14) e)) (λ e. (omega arith, lt))
@@ -79,10 +78,10 @@ module _ (d xs ys : List ℕ) (log value at : ℕ) (is : d ≡ xs ++ (integer lo
       ∙ get_or-append-add xs (integer log value ++ ys) 0 0
       ∙ get_or_append_left (integer log value) ys 0 0 some
 
-  pub its_end : varint_end d at ≡ at + 2 ^ log
+  its_end : varint_end d at ≡ at + 2 ^ log
   its_end = ap (λ b. at + 2 ^ (b / 2 ^ 6)) first ∙ ap (λ l. at + 2 ^ l) (first_byte log value few fits)
 
-  pub its_value : varint d at ≡ value
+  its_value : varint d at ≡ value
   its_value =
       ap (λ end. number_from_digits 256 (slice_range d at end) % 2 ^ (8 * (end - at) - 2)) its_end
       ∙ ap₂ (λ l n. number_from_digits 256 l % 2 ^ (8 * n - 2))
@@ -126,7 +125,7 @@ module _ (first : ℕ) (id source token : List ℕ) (log n : ℕ) (rest : List �
   after_token : datagram ≡ with_token ++ (integer log n ++ rest)
   after_token = append_assoc with_token (integer log n) rest
 
-  pub after_source : datagram ≡ with_source ++ (token ++ (integer log n ++ rest))
+  after_source : datagram ≡ with_source ++ (token ++ (integer log n ++ rest))
   after_source = after_token ∙ append_assoc with_source token (integer log n ++ rest)
 
   after_id : datagram ≡ with_id ++ (id_field source ++ (token ++ (integer log n ++ rest)))
@@ -137,7 +136,7 @@ module _ (first : ℕ) (id source token : List ℕ) (log n : ℕ) (rest : List �
       ap (λ l. get_or l (6 + length id) 0) after_id
       ∙ behind with_id (source ++ (token ++ (integer log n ++ rest))) (length source) (6 + length id) (omega arith)
 
-  pub its_source_end : source_end datagram 0 ≡ length with_source
+  its_source_end : source_end datagram 0 ≡ length with_source
   its_source_end =
       ap (λ v. 6 + length id + 1 + v) source_len ∙ omega (arith, length-append with_id (id_field source))
 
@@ -263,7 +262,7 @@ module _ (first : ℕ) (id source token : List ℕ) (log n : ℕ) (rest : List �
 by_type : (kind : LongType) (id source : List ℕ) (m n : ℕ) (rest : List ℕ) → IsNumberLen m → length id ≤ 20 → length source ≤ 20
     → length (token_of kind) < 2 ^ 30 → n < 2 ^ 30 → n ≤ length rest → (id_len : ℕ)
     → (let header = (long_first_byte (type_bits kind) m ∷ 0 ∷ 0 ∷ 0 ∷ 1 ∷ []) ++ id_field id ++ id_field source ++ token_field kind
-        ++ integer (length_log n) n in
+    ++ integer (length_log n) n in
     IsParsed id_len (header ++ rest) (packet_type_of kind) id source (token_of kind) (length header) (length header + n))
 by_type (Initial token) id source m n rest is short_id short_source short_token short_len whole id_len =
     let encodes = length_encodes n short_len in
@@ -301,15 +300,16 @@ short_first true m is = omega (arith, is.some, is.few)
 short_first false m is = omega (arith, is.some, is.few)
 
 pub long_parsed : (header : LongHeader) → IsLongHeader header → (rest : List ℕ) → length_of header ≤ length rest
-    → (fixed_bit : FixedBit) (id_len : ℕ) → (p : Packet) × (packet_of fixed_bit id_len (long_header header ++ rest) 0 ≡ Ok p) × HasLongParts header (long_header header ++ rest) p
+    → (fixed_bit : FixedBit) (id_len : ℕ) → (p : Packet) × (packet_of fixed_bit id_len (long_header header ++ rest) 0 ≡ Ok p)
+    × HasLongParts header (long_header header ++ rest) p
 long_parsed header is rest whole fixed_bit id_len =
     let found =
     by_type header.packet_type header.destination_id.now header.source_id.now header.number_len (length_of header) rest is.number
     is.ids.destination is.ids.source is.fields.token is.fields.payload whole id_len in (
       found.0,
       ap (with_fixed_bit fixed_bit _) found.1
-      ∙ ap (λ b. if b then Err NoFixedBit else Ok found.0) (with_bit fixed_bit found.0.version
-      (long_first_byte (type_bits header.packet_type) header.number_len) (long_first header is.number)),
+          ∙ ap (λ b. if b then Err NoFixedBit else Ok found.0) (with_bit fixed_bit found.0.version
+          (long_first_byte (type_bits header.packet_type) header.number_len) (long_first header is.number)),
       record {
         start = found.2.start;
         packet_type = found.2.packet_type;
@@ -339,9 +339,9 @@ short_parsed header is rest fixed_bit =
     let at : 0 + 1 + length id ≡ length (first ∷ id) = omega arith in (
       p,
       ap (λ b. with_fixed_bit fixed_bit first (if b then whole d p else long_packet d 0))
-      (lt-ltb first 0x80 (short_form header.phase header.number_len is.number.few))
-      ∙ ap (λ b. with_fixed_bit fixed_bit first (if b then Err Cut else Ok p)) (le-ltb (length d) p.end (omega (arith, end)))
-      ∙ ap (λ b. if b then Err NoFixedBit else Ok p) (with_bit fixed_bit None first (short_first header.phase header.number_len is.number)),
+          (lt-ltb first 0x80 (short_form header.phase header.number_len is.number.few))
+          ∙ ap (λ b. with_fixed_bit fixed_bit first (if b then Err Cut else Ok p)) (le-ltb (length d) p.end (omega (arith, end)))
+          ∙ ap (λ b. if b then Err NoFixedBit else Ok p) (with_bit fixed_bit None first (short_first header.phase header.number_len is.number)),
       record {
         start = refl;
         packet_type = refl;

@@ -47,6 +47,7 @@ fn connection(max_failures: u64) -> Result<Connection, PacketError> {
 fn coalesced() -> Result<[u8; 80], PacketError> {
     let mut datagram = [4; 80];
     datagram[..16].copy_from_slice(&HANDSHAKE);
+    datagram[40] = 0x40;
     let mut sender = sender()?;
     sender.send(&mut datagram[..40], 16..20, FixedBit::Required)?;
     quic_connection::send(&mut sender, &mut datagram[40..])?;

@@ -40,7 +40,11 @@ fn is_long(
         number_at,
         end: datagram.len(),
     };
-    equal(rt, &packet_at(datagram, 0, 0, FixedBit::Required), &Ok(packet));
+    equal(
+        rt,
+        &packet_at(datagram, 0, 0, FixedBit::Required),
+        &Ok(packet),
+    );
 }
 
 /// Returns the protected packet of a test vector.
@@ -140,7 +144,11 @@ fn refusals(rt: HostRuntime) -> Result<(), Fail> {
     }
     datagram.push(0xc0)?;
     let end = packet_at(&datagram, 0, 0, FixedBit::Required)?.end;
-    equal(&rt, &packet_at(&datagram, end, 0, FixedBit::Required), &Err(DatagramError::Cut));
+    equal(
+        &rt,
+        &packet_at(&datagram, end, 0, FixedBit::Required),
+        &Err(DatagramError::Cut),
+    );
     Ok(())
 }
 
@@ -150,7 +158,11 @@ fn has_length(rt: &impl Abort, alloc: Global, length: &[u8]) -> Result<(), Fail>
     let packet = packet_at(&datagram, 0, 0, FixedBit::Required)?;
     equal(rt, &packet.end, &datagram.len());
     datagram.push(0)?;
-    equal(rt, &packet_at(&datagram, 0, 0, FixedBit::Required)?.end, &packet.end);
+    equal(
+        rt,
+        &packet_at(&datagram, 0, 0, FixedBit::Required)?.end,
+        &packet.end,
+    );
     Ok(())
 }
 

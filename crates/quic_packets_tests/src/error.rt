@@ -75,10 +75,7 @@ const PACKET_ERRORS: [(PacketError, &str); 28] = [
         PacketError::TooLong,
         "the packet is longer than AES-GCM allows",
     ),
-    (
-        PacketError::NoFixedBit,
-        "the fixed bit of the packet is 0",
-    ),
+    (PacketError::NoFixedBit, "the fixed bit of the packet is 0"),
     (
         PacketError::NumbersEnded,
         "the packet number is not below 2^62",
@@ -127,10 +124,7 @@ const HEADER_ERRORS: [(HeaderError, &str); 4] = [
         HeaderError::TooLong,
         "the token or the packet has 2^30 bytes or more",
     ),
-    (
-        HeaderError::NoRoom,
-        "the buffer is shorter than the header",
-    ),
+    (HeaderError::NoRoom, "the buffer is shorter than the header"),
 ];
 
 const RETRY_ERRORS: [(RetryError, &str); 2] = [

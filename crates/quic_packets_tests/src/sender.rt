@@ -75,7 +75,11 @@ fn appendix_a(rt: HostRuntime) -> Result<(), Fail> {
         let mut sender = Sender::new(Suite::Aes128Gcm, keys, row.number)?;
         let mut packet = plain(&row)?;
         packet.extend_from_slice(&[0; 16])?;
-        sender.send(&mut packet, row.number_at..row.header.len(), FixedBit::Required)?;
+        sender.send(
+            &mut packet,
+            row.number_at..row.header.len(),
+            FixedBit::Required,
+        )?;
         same(&rt, &packet, &row.protected, row.name);
     }
     Ok(())
@@ -116,7 +120,11 @@ fn refuses(
 ) {
     let mut sent = *packet;
     let before = (sender.next_number(), sender.sealed());
-    holds(rt, sender.send(&mut sent, room, FixedBit::Required) == Err(wanted), "the error");
+    holds(
+        rt,
+        sender.send(&mut sent, room, FixedBit::Required) == Err(wanted),
+        "the error",
+    );
     let after = (sender.next_number(), sender.sealed());
     holds(rt, after == before, "the numbers");
     same(rt, &sent, packet, "refused");

@@ -1,4 +1,4 @@
-use Rattle.std.proofs.Common.{◌+◌, ◌≤◌, [], ◌∷◌, length, ap, ◌∙◌, arith}
+use Rattle.std.proofs.Common.{[], ◌∷◌, length, ap, ◌∙◌, arith}
 use Rattle.quic_packets.specs.HeaderBytes.{with_field}
 use Rattle.quic_packets.proofs.FieldLemmas.{both}
 use Rattle.quic_packets.proofs.header_writer.put_id.Goals as goal

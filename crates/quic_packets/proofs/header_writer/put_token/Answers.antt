@@ -1,5 +1,5 @@
-use Rattle.std.proofs.Common.{◌+◌, ◌≤◌, ◌^◌, [], ◌∷◌, ◌++◌, length, sym, ap, ◌∙◌, arith}
-use Rattle.quic_packets.specs.HeaderBytes.{fewest, integer, token_field, with_field}
+use Rattle.std.proofs.Common.{◌+◌, ◌^◌, ◌++◌, length, sym, ap, ◌∙◌, arith}
+use Rattle.quic_packets.specs.HeaderBytes.{integer, token_field, with_field}
 use Rattle.quic_packets.proofs.FieldLemmas.{both, length-high_first}
 use Rattle.quic_packets.proofs.header_writer.put_token.Goals as goal
 

@@ -1,4 +1,4 @@
-use Rattle.std.proofs.Common.{◌≡◌, ℕ, List, [], ◌∷◌, ◌++◌, drop, length, ap, ap₂, ◌∙◌}
+use Rattle.std.proofs.Common.{ℕ, List, [], ◌∷◌, ◌++◌, drop, length, ap, ◌∙◌}
 use Rattle.quic_packets.specs.HeaderBytes.{id_field, integer, length_log, long_first_byte, token_field, type_bits}
 use Rattle.quic_packets.proofs.FieldLemmas.{five_fields}
 use Rattle.quic_packets.proofs.header_writer.LongHeader.put.Goals as goal
@@ -9,7 +9,7 @@ returns c =
     let first : ℕ → List ℕ = λ b. b ∷ 0 ∷ 0 ∷ 0 ∷ 1 ∷ [] in
     let byte : ℕ = long_first_byte (type_bits header.packet_type) header.number_len in
     let whole : ℕ → ℕ → ℕ → List ℕ =
-        λ b log n. first b ++ id_field header.destination_id.now ++ id_field header.source_id.now ++ token_field header.packet_type ++ integer log n in
+    λ b log n. first b ++ id_field header.destination_id.now ++ id_field header.source_id.now ++ token_field header.packet_type ++ integer log n in
     let filled : ℕ → ℕ → ℕ → List ℕ = λ b log n. whole b log n ++ drop (length (whole b log n)) c.args.buffer.now in
     five_fields (first c.first_byte.result) (id_field header.destination_id.now) (id_field header.source_id.now) (token_field header.packet_type)
     (integer c.length_log.result c.packet_len-packet_len.result) c.args.buffer.now _ _ _ _ _ _ _ _ _

@@ -1,5 +1,4 @@
-use Rattle.std.proofs.Common.{suc, ◌+◌, ◌≤◌, [], ◌∷◌, ◌++◌, drop, length, ap, ◌∙◌, arith, refl}
-use Rattle.quic_packets.specs.HeaderBytes.{with_field}
+use Rattle.std.proofs.Common.{suc, [], ◌∷◌, ◌++◌, drop, length, ap, ◌∙◌}
 use Rattle.quic_packets.proofs.FieldLemmas.{at_front, next_field}
 use Rattle.quic_packets.proofs.header_writer.ShortHeader.put.Goals as goal
 

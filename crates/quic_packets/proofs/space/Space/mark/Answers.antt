@@ -1,4 +1,4 @@
-use Rattle.std.proofs.Common.{◌≡◌, ◌+◌, ◌-◌, ◌*◌, ◌<◌, ◌≤◌, length, max, sym, ap, ◌∙◌, arith}
+use Rattle.std.proofs.Common.{◌≡◌, ◌+◌, ◌-◌, ◌*◌, length, max, sym, ap, ◌∙◌, arith}
 use Rattle.quic_packets.proofs.SpaceLemmas.{left_above, left_within}
 use Rattle.quic_packets.proofs.space.Space.mark.Goals as goal
 
@@ -21,7 +21,7 @@ returns g c =
     let len : length c.clear.new.seen ≡ length was.seen = omega arith in
     let last : length c.set-2.new.seen ≡ length was.seen = omega arith in
     let low : c.max.result ≡ max was.next (number + 1 - 64 * length was.seen) =
-        c.max.ensures ∙ ap (max was.next) (c.saturating_sub-lowest.ensures ∙ ap (λ w. number + 1 - 64 * w) (sym c.self.told)) in
+    c.max.ensures ∙ ap (max was.next) (c.saturating_sub-lowest.ensures ∙ ap (λ w. number + 1 - 64 * w) (sym c.self.told)) in
     rw (← c.self.view_is) (record {
       next = omega arith;
       words = last;
