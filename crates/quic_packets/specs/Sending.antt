@@ -17,10 +17,11 @@ use Rattle.quic_packets.specs.Suite.{algorithm, header_algorithm}
 use Rattle.quic_packets.specs.declared.fixed_bit.FixedBit.{FixedBit}
 use Rattle.quic_packets.specs.declared.suite.Suite.{Suite}
 
--- a sender: its key and header key, and the secret that they are of, if it is made of one; the next number, and the largest acknowledged one of its space; the Key Phase bit; how many
--- packets this key has sealed and may seal; the first number of the unbroken run of numbers that were sent in this phase and that
--- ends before the next one, which is the next one if the run is empty; the next number when this phase began; whether the keys
--- were never updated or a packet of this phase is acknowledged; and whether the handshake is confirmed
+-- a sender: its key and header key, and the secret of the key, if it is made of one; the next number, and the largest acknowledged
+-- one of its space; the Key Phase bit; how many packets this key has sealed and may seal; the first number of the unbroken run of
+-- numbers that were sent in this phase and that ends before the next one, which is the next one if the run is empty; the next
+-- number when this phase began; whether the keys were never updated or a packet of this phase is acknowledged; and whether the
+-- handshake is confirmed
 pub record Sender : Type 0 where
   pub key : PacketKey
   pub header_key : HeaderKey
@@ -168,8 +169,8 @@ after_update s key secret = record s {
 abbrev pub after_derived_update : Sender → SecretState → Sender
 after_derived_update s held = let next = next_quic_secret held in after_update s (secret_key next) (Some next)
 
--- with the keys of 1-RTT after those of 0-RTT, or of the Initial packets after a Retry, whose space of numbers continues (RFC 9000
--- sections 12.3 and 17.2.5.3)
+-- with the keys of 1-RTT after those of 0-RTT, or those of Initial packets after a Retry, whose space of numbers continues (RFC
+-- 9000 sections 12.3 and 17.2.5.3)
 abbrev pub with_installed_keys : Sender → PacketKey → HeaderKey → Option SecretState → Sender
 with_installed_keys s key header_key secret =
     record (new_sender key header_key secret s.next) { largest = s.largest; limit = s.limit }

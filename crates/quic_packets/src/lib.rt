@@ -1,5 +1,5 @@
-//! Packet protection of QUIC version 1 (RFC 9000 section 17, RFC 9001 sections 5 and 6), under the keys of a secret, or under keys
-//! that the caller derives.
+//! Packet protection of QUIC version 1 (RFC 9000 section 17, RFC 9001 sections 5 and 6), under the keys of a secret or keys that
+//! the caller derives.
 //!
 //! A packet is one slice: the header, which ends with the packet number, the payload, and 16 bytes for the tag. `Sender` sends
 //! a packet in one call, whose header `LongHeader` or `ShortHeader` writes. `Receiver` receives one, and `packet_at` finds the

@@ -202,9 +202,9 @@ impl Sender {
         self.phase
     }
 
-    /// Returns the next number when the current key phase began: when the keys were made or installed, or at the last key update. A
-    /// number that was sent is of the current phase if it isn't below this one, and of an earlier phase otherwise. `skip_to`
-    /// doesn't change it.
+    /// Returns the first number of the current key phase: the next number when the sender was created, keys were installed, or
+    /// the keys were last updated. A number that was sent is of the current phase if it isn't below this one, and of an earlier
+    /// phase otherwise. `skip_to` doesn't change it.
     pub fn first_of_phase(&self) -> u64
         ensures { result ≡ self.now.first_of_phase }
     {
@@ -507,9 +507,8 @@ impl Sender {
     /// 4 bytes; with `NoProtection` for a Version Negotiation or a Retry packet; with `NoFixedBit` if the fixed bit of a short
     /// header, or of a long one of version 1, is 0 and `fixed_bit` is `Required`; with `EmptyPayload` if it has just
     /// `number.end + 16` bytes; with `KeyUsedUp` if the key has reached its limit; with `NumbersEnded` if no number is left; with
-    /// `NumberTooFar` if 4 bytes cannot encode the number; and with
-    /// `NumberLength` if the room has fewer bytes than that, or more than 4. The packet and the sender are then
-    /// unchanged.
+    /// `NumberTooFar` if 4 bytes cannot encode the number; and with `NumberLength` if the room has fewer bytes than that, or more
+    /// than 4. The packet and the sender are then unchanged.
     pub fn send(
         &mut self,
         packet: &mut [u8],

@@ -14,7 +14,8 @@ same_error e f is = let same : e ≡ f = cc in ap Err same
 -- what comes of a packet that isn't opened
 refused : (r : Receiver) (s : Space) (start at : ℕ) (plain : List ℕ) (number : ℕ) (e : PacketError) (opened : List ℕ)
     → (IsErrOf {T = ℕ × Received} (Err e) ReservedBits → ⊥) → (IsErrOf {T = ℕ × Received} (Err e) Duplicate → ⊥)
-    → (IsErrOf {T = ℕ × Received} (Err e) KeyUpdate → ⊥) → (IsErrOf {T = ℕ × Received} (Err e) NoFrames → ⊥) → Opening r start at plain number (Err e) opened → Outcome r s start at plain number (Err e) r opened
+    → (IsErrOf {T = ℕ × Received} (Err e) KeyUpdate → ⊥)
+    → (IsErrOf {T = ℕ × Received} (Err e) NoFrames → ⊥) → Opening r start at plain number (Err e) opened → Outcome r s start at plain number (Err e) r opened
 refused r s start at plain number e opened reserved duplicate turn frames is =
     let none : IsAuthentic r at plain number → ⊥ = λ authentic. (let ok = is.accepted.1 authentic in cc) in
     record {
