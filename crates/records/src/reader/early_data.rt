@@ -1,6 +1,6 @@
 //! Early data that a server has rejected (RFC 8446 section 4.2.10).
 
-ghost use Rattle.std.specs.Prelude.{◌≡◌, ◌+◌, ◌-◌, ◌≤◌, ◌↔◌, length, slice_range, IsFalse, IsTrue, IsOk, IfOk, IfErr, IfNone, IfSome, OnOk, OnErr, false};
+ghost use Rattle.std.specs.Prelude.{◌≡◌, ◌+◌, ◌-◌, ◌≤◌, ◌↔◌, length, slice_range, IsFalse, IsOk, IfOk, IfErr, IfNone, IfSome, OnOk, OnErr, false};
 ghost use Rattle.records.specs.EarlyData.{IsEncryptedRecord, ReadsPast, RefusesToSkip, counted_len, past_at};
 ghost use Rattle.records.specs.Steps.{LeavesInner, LeavesRefused};
 
