@@ -1,5 +1,5 @@
 -- The laws of files that are sealed under a passphrase, from those of version 2.
-use Rattle.std.proofs.Common.{◌≡◌, ℕ, ◌+◌, ◌-◌, ◌^◌, ◌<◌, ◌≤◌, List, ◌++◌, length, take, drop, refl, sym, ap, subst, ◌∙◌, arith, append_assoc, drop-drop, drop_at, length-append, length-take, take-append-drop, take-take, take_all, take_at}
+use Rattle.std.proofs.Common.{◌≡◌, ℕ, ◌+◌, ◌-◌, ◌^◌, ◌<◌, ◌≤◌, List, ◌++◌, length, take, drop, refl, sym, ap, subst, ◌∙◌, arith, drop_at, length-append, length-take, take-append-drop, take-take, take_at}
 use Rattle.std.proofs.lemmas.List.{drop-take}
 use Rattle.std.proofs.lemmas.Nat.{from_be_bytes-to_be_bytes_4}
 use Rattle.std.specs.Int.{to_be_bytes, w32}
@@ -7,7 +7,7 @@ use Rattle.std.specs.Prelude.{slice_index}
 use Rattle.sealed_file.specs
 use specs.Derivation.{commitment}
 use specs.Format.{ChunkKey, Secret, chunk_len, fresh_key, last_piece, sealed_chunk, sealed_chunks, sealed_file, secret, with_header}
-use specs.Opening.{HasHeader, IsForged, IsSealed, context_of, header_of, opened_file}
+use specs.Opening.{IsForged, IsSealed, context_of, header_of}
 use specs.Passphrase.{AreAllowed, OpensBy, core_of, fresh_passphrase_key, iteration_bytes, iterations_of, locked, opened_by, random_of, unlocked}
 use Rattle.sealed_file.proofs
 use proofs.FileLemmas.{last_of, opened_sealed_file, sealed_is_sealed}

@@ -1,5 +1,5 @@
 -- Files that are sealed under a passphrase.
-use Rattle.std.proofs.Common.{◌≡◌, ℕ, Result, Ok, Err, IfErr, OnOk, OnErr, IfSome, None, Some, inl, inr, ◌≤◌, ◌<◌, List, ◌++◌, length, take, drop, refl, sym, ap, ap₂, subst, ◌∙◌, arith, Option, length-take, take-take}
+use Rattle.std.proofs.Common.{◌≡◌, ℕ, Result, Ok, Err, IfErr, OnOk, OnErr, IfSome, None, Some, inl, inr, ◌≤◌, List, ◌++◌, length, take, drop, refl, ap, subst, ◌∙◌, arith, Option, length-take, take-take}
 use Rattle.std.proofs.lemmas.List.{drop-take}
 use Rattle.std.specs.Fmt.{option_append}
 use Rattle.std.specs.Int.{to_be_bytes, w32}

@@ -1,11 +1,10 @@
 //! Sealing and opening files under a passphrase: version 3 of the format.
 
-ghost use Rattle.std.specs.Prelude.{ℕ, List, ◌≡◌, ◌-◌, ◌^◌, ◌<◌, ◌≤◌, ◌++◌, length, take, drop, IsOk, IfOk, IfErr, IfSome, OnOk, OnErr};
-ghost use Rattle.std.specs.Int.{to_be_bytes, w32};
+ghost use Rattle.std.specs.Prelude.{ℕ, List, ◌≡◌, ◌-◌, ◌^◌, ◌<◌, ◌≤◌, ◌++◌, length, IsOk, IfOk, IfErr, IfSome, OnOk, OnErr};
 ghost use Rattle.std.specs.Io.KnownBytes.{Appends};
 ghost use Rattle.sealed_file.specs.Format.{chunk_len, last_piece, sealed_file, secret_of};
 ghost use Rattle.sealed_file.specs.Opening.{AreRight, header_of, opened_chunks};
-ghost use Rattle.sealed_file.specs.Passphrase.{AreAllowed, FrontRefuses, OpensBy, PassphraseRefuses, core_of, fresh_passphrase_key, iteration_bytes, iterations_of, locked, opened_by, passphrase_key, unlocked};
+ghost use Rattle.sealed_file.specs.Passphrase.{AreAllowed, FrontRefuses, OpensBy, PassphraseRefuses, core_of, fresh_passphrase_key, iterations_of, opened_by, passphrase_key, unlocked};
 ghost use Rattle.sealed_file.specs.Refusals.{IsVersion, SealRefuses};
 ghost use Rattle.sealed_file.specs.Streams.{AppendsBeginning};
 

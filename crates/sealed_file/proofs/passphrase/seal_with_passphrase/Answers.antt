@@ -1,5 +1,5 @@
 use Rattle.std.proofs.Common.{OnErr, IfSome, ap, subst, ◌∙◌}
-use Rattle.sealed_file.specs.Format.{fresh_key, sealed_file, secret_of}
+use Rattle.sealed_file.specs.Format.{sealed_file}
 use Rattle.sealed_file.specs.Passphrase.{passphrase_key}
 use Rattle.sealed_file.specs.Streams.{AppendsBeginning}
 use Rattle.sealed_file.proofs
