@@ -103,7 +103,7 @@ begins_at s life sent (begins key header_key secret from) = record {
   below = All-nil (λ p. p.number < from);
   each = All-nil _;
 }
-begins_at t l ps (sends s life sent start end packet wire sealable turn is before) =
+begins_at t l ps (sends s life sent fixed_bit start end packet wire sealable turn is before) =
     let was = begins_at s life sent before in
     record {
       begun = was.begun;

@@ -74,7 +74,7 @@ unadmitted T r s start at plain number first o e opened is judged =
     }
 
 pub returns-in-Err-admit-clause-outcome : goal.returns-in-Err-admit-clause-outcome
-returns-in-Err-admit-clause-outcome c =
+returns-in-Err-admit-clause-outcome g c =
     let a = c.args in
     let opening = c.in-Ok.ensures.opening c.requires.sample in
     let it = c.in-Err-admit.ensures in (
