@@ -2,9 +2,8 @@
 
 ghost use Rattle.std.specs.Prelude.{◌≤◌, length};
 
-use crate::initial_keys::client_initial_keys;
-use key_derivation::DerivationError;
-use quic_packets::{FixedBit, HeaderError, LongHeader, LongType, PacketError, Sender, Suite};
+use key_derivation::{DerivationError, Secret};
+use quic_packets::{FixedBit, HeaderError, LongHeader, LongType, PacketError, Sender};
 use thiserror::Error;
 
 /// The length of the datagram, which has to be 1200 or more (RFC 9000 section 14.1).
@@ -36,8 +35,7 @@ pub fn first_packet(
 ) -> Result<[u8; DATAGRAM_LEN], FirstPacketError>
     requires { length frames.now ≤ 1162 }
 {
-    let (key, iv, hp) = client_initial_keys(id)?;
-    let mut sender = Sender::new(Suite::Aes128Gcm, key.as_slice(), iv, hp.as_slice(), number)?;
+    let mut sender = Sender::from_secret(Secret::client_initial(id)?, number)?;
     let header = LongHeader {
         packet_type: LongType::Initial { token: &[] },
         destination_id: id,

@@ -1,12 +1,12 @@
 //! Tests of the callers in `examples`: datagrams of two packets, and a client's first packet.
 
-use aead_vectors::rfc_9001::{A_2_PACKET, Packet};
 use crate::checks::{equal, same};
+use aead_vectors::rfc_9001::{A_2_PACKET, Packet};
 use examples::first_initial::first_packet;
 use examples::initial_keys::client_initial_keys;
-use examples::quic_connection::{self, Connection, Level, NextKey, one_rtt, update_keys};
+use examples::quic_connection::{self, Connection, Level, one_rtt, update_keys};
 use key_derivation::Secret;
-use quic_packets::{Failures, FixedBit, PacketError, Receiver, Sender, Space, Suite, packet_at};
+use quic_packets::{Failures, FixedBit, PacketError, Receiver, Sender, Space, packet_at};
 use std::process::Abort;
 use std::test::Fail;
 

@@ -1,9 +1,8 @@
 //! What the errors print, and the codes that close a connection.
 
-use crate::checks::displays;
+use crate::checks::{displays, equal};
 use quic_packets::{DatagramError, HeaderError, PacketError, RetryError};
 use std::test::Fail;
-use crate::checks::{displays, equal};
 
 const PACKET_ERRORS: [(PacketError, &str); 28] = [
     (

@@ -4,7 +4,7 @@
 use crate::rows::{IV, ROWS, UPDATED_AES_128, UPDATED_AES_256};
 use examples::quic_connection::update_keys;
 use key_derivation::{Secret, Suite};
-use quic_packets::{Failures, PacketError, Receiver, Sender, Space, packet_at};
+use quic_packets::{Failures, FixedBit, PacketError, Receiver, Sender, Space, packet_at};
 use std::alloc::Global;
 use std::process::Abort;
 use std::test::Fail;
@@ -33,7 +33,7 @@ fn sends(
 ) -> Result<[u8; 24], Fail> {
     let mut packet = [0; 24];
     packet[0] = 0x40;
-    sender.send(&mut packet, 1..2)?;
+    sender.send(&mut packet, 1..2, FixedBit::Required)?;
     same(rt, &packet, &hex::decode(alloc, wanted)?, "sent");
     Ok(packet)
 }
@@ -53,12 +53,12 @@ fn update(sender: &mut Sender, receiver: &mut Receiver) -> Result<(), PacketErro
 fn updates(rt: &impl Abort, alloc: Global, suite: Suite, packets: [&str; 4]) -> Result<(), Fail> {
     let mut sender = Sender::from_secret(secret(suite)?, 0)?;
     let mut receiver = Receiver::from_secret(secret(suite)?);
-    let mut space = Space::new();
+    let mut space = Space::<2>::new();
     let mut failures = Failures::new();
     sender.confirm_handshake();
     for wanted in packets {
         let mut packet = sends(rt, alloc, &mut sender, wanted)?;
-        let parts = packet_at(&packet, 0, 0)?;
+        let parts = packet_at(&packet, 0, 0, FixedBit::Required)?;
         let received = receiver.receive(&mut space, &mut failures, &mut packet, &parts)?;
         same(rt, &packet[received.payload], &[0; 6], "received");
         equal(rt, &received.phase, &sender.phase());

@@ -4,7 +4,7 @@ use crate::checks::{equal, holds, same};
 use crate::keys::plain;
 use crate::rows::{HEADER_KEY, IV, KEY, ROWS, Row};
 use aead_vectors::rfc_9001::{PACKETS, Packet};
-use quic_packets::{FixedBit, HeaderKey, PacketError, PacketKey, Sender, Suite, Keys};
+use quic_packets::{FixedBit, HeaderKey, Keys, PacketError, PacketKey, Sender, Suite};
 use std::alloc::Global;
 use std::ops::Range;
 use std::process::Abort;
