@@ -5,7 +5,9 @@ use crate::{NONCE, first_bytes};
 use aead_ciphers::aead::nonce_of;
 use aead_ciphers_base::aes::AES_128_KEY_LEN;
 use aead_ciphers_wide::aead::LessSafeKey;
-use quic_packets::{Failures, FixedBit, Packet, PacketError, Receiver, Sender, Space, Suite, packet_at, Keys};
+use quic_packets::{
+    Failures, FixedBit, Keys, Packet, PacketError, Receiver, Sender, Space, Suite, packet_at,
+};
 
 /// A short header of a QUIC packet: the first byte, a connection ID of 8 bytes, and a packet number of 2 bytes.
 const NUMBER_AT: usize = 9;

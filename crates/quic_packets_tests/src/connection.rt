@@ -146,7 +146,12 @@ fn key_update(rt: HostRuntime) -> Result<(), Fail> {
     answer[0] = 0x40;
     quic_connection::send(&mut connection.sender, &mut answer)?;
     let parts = packet_at(&answer, 0, ID.len(), FixedBit::Required)?;
-    let received = answers.receive(&mut Space::<2>::new(), &mut Failures::new(), &mut answer, &parts)?;
+    let received = answers.receive(
+        &mut Space::<2>::new(),
+        &mut Failures::new(),
+        &mut answer,
+        &parts,
+    )?;
     equal(&rt, &(received.number, received.phase), &(7, true));
     Ok(())
 }

@@ -1,11 +1,11 @@
 //! Tests of `LongHeader` and `ShortHeader`: headers of RFC 9001 appendix A, integers of RFC 9000 appendix A.1, and each error.
 
+use crate::checks::{equal, holds, same};
 use quic_packets::{HeaderError, LongHeader, LongType, ShortHeader};
 use std::alloc::Global;
 use std::ops::Range;
 use std::process::Abort;
 use std::test::Fail;
-use crate::checks::{equal, holds, same};
 
 /// A connection ID of one byte more than version 1 allows.
 const ID: [u8; 21] = [7; 21];

@@ -6,8 +6,8 @@ use crate::rows::{IV as ROW_IV, ROWS, Row};
 use aead_ciphers::aead::{AES_128_GCM, quic};
 use aead_vectors::rfc_9001::{PACKETS, Packet};
 use quic_packets::{
-    Failures, FixedBit, HeaderKey, Keys, Packet as Parts, PacketError, PacketKey, PacketType, Received, Receiver,
-    Space, Suite, packet_at,
+    Failures, FixedBit, HeaderKey, Keys, Packet as Parts, PacketError, PacketKey, PacketType,
+    Received, Receiver, Space, Suite, packet_at,
 };
 use std::alloc::Global;
 use std::process::Abort;

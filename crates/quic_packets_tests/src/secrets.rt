@@ -1,6 +1,7 @@
 //! Tests of senders and receivers that are made of a secret: packets of another implementation over key updates, and what is
 //! refused.
 
+use crate::checks::{equal, holds, same};
 use crate::rows::{IV, ROWS, UPDATED_AES_128, UPDATED_AES_256};
 use examples::quic_connection::update_keys;
 use key_derivation::{Secret, Suite};
@@ -8,7 +9,6 @@ use quic_packets::{Failures, FixedBit, PacketError, Receiver, Sender, Space, pac
 use std::alloc::Global;
 use std::process::Abort;
 use std::test::Fail;
-use crate::checks::{equal, holds, same};
 
 /// The bytes of the secrets. A suite uses a prefix as long as its secrets.
 const BYTES: [u8; 48] = [

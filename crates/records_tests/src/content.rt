@@ -1,5 +1,6 @@
 //! Tests of contents of any length, of alerts that are sent, and of the size limits of peers.
 
+use crate::checks::{holds, same};
 use aead_ciphers::aead::AES_128_GCM;
 use records::ContentType::{Alert, ApplicationData, Handshake};
 use records::{
@@ -9,7 +10,6 @@ use records::{
 use std::alloc::Global;
 use std::process::Abort;
 use std::test::Fail;
-use crate::checks::{holds, same};
 
 const KEY: [u8; 16] = [0, 1, 2, 3, 4, 5, 6, 7, 8, 9, 10, 11, 12, 13, 14, 15];
 

@@ -1,5 +1,6 @@
 //! Tests of rejected early data (RFC 8446 section 4.2.10).
 
+use crate::checks::{holds, same};
 use aead_ciphers::aead::AES_128_GCM;
 use hex::FromHex;
 use records::ContentType::{ApplicationData, Handshake};
@@ -7,7 +8,6 @@ use records::{EarlyData, Reader, RecordError, Writer};
 use std::alloc::Global;
 use std::process::Abort;
 use std::test::Fail;
-use crate::checks::{holds, same};
 
 const KEY: [u8; 16] = [0, 1, 2, 3, 4, 5, 6, 7, 8, 9, 10, 11, 12, 13, 14, 15];
 

@@ -1,12 +1,12 @@
 //! Tests of readers and writers of traffic secrets.
 
+use crate::checks::{holds, same};
 use key_derivation::{Secret, Suite};
 use records::ContentType::ApplicationData;
 use records::{Reader, RecordError, Writer};
 use std::alloc::Global;
 use std::process::Abort;
 use std::test::Fail;
-use crate::checks::{holds, same};
 
 const BYTES: [u8; 48] = [
     0, 1, 2, 3, 4, 5, 6, 7, 8, 9, 10, 11, 12, 13, 14, 15, 16, 17, 18, 19, 20, 21, 22, 23, 24, 25,

@@ -2,6 +2,7 @@
 
 ghost use Rattle.std.specs.Prelude.{◌≤◌, length};
 
+use crate::checks::{displays, holds, same};
 use crate::sealed_files::{ANOTHER_KEY, ENDS_EARLY, FIRST_REFUSED, KEY, RANDOM, file_of};
 use md5::{Digest, Md5};
 use sealed_file::{
@@ -10,7 +11,6 @@ use sealed_file::{
 };
 use std::process::Abort;
 use std::test::Fail;
-use crate::checks::{displays, holds, same};
 
 const PASSPHRASE: &[u8] = b"correct horse";
 
