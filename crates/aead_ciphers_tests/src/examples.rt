@@ -12,7 +12,9 @@ use aead_ciphers_wide::aes_gcm::ExpandedKey;
 use aead_vectors::gcm_spec::{CASE_1, CASE_2, CASE_2_CIPHERTEXT, CASE_4, CASE_16, Case};
 use aead_vectors::{rfc_8439, rfc_9001};
 use arrayvec::ArrayVec;
-use examples::{connection, messages, one_message, pieces, streams};
+use examples::{connection, messages, one_message, pieces, sealed_files, streams};
+use sealed_file::{FileKey, FileRandom};
+use std::io::Cursor;
 use std::process::Abort;
 use std::test::Fail;
 
@@ -192,5 +194,26 @@ fn rfc_8439_2_4_2_stream(rt: HostRuntime) -> Result<(), Fail> {
 fn rfc_9001_a_2_mask(rt: HostRuntime) -> Result<(), Fail> {
     let mask = streams::mask(&rfc_9001::A_2_KEY, &rfc_9001::A_2_SAMPLE)?;
     same(&rt, &mask, &rfc_9001::A_2_MASK, "the mask");
+    Ok(())
+}
+
+/// The sealed file of the byte `a` under a key of bytes 7, with random bytes 1, by python's `cryptography`.
+const SEALED: &str = "5345414c46494c450201010101010101010101010101010101010101\
+    3ac5048d5c00f0550363582baf61fbe83cf4f4870c461b5928756adae73df622\
+    85957c7bf0da74a6c0389c0ba26cea6630";
+
+#[test]
+fn sealed_file_of_one_byte(rt: HostRuntime) -> Result<(), Fail> {
+    let key = FileKey::new(&[7; 32])?;
+    let wanted = hex::decode(rt.alloc(), SEALED)?;
+    let random = FileRandom::from_bytes_for_tests([1; 19]);
+    let sealed = sealed_files::seal(rt.alloc(), &key, random, b"a")?;
+    same(&rt, &sealed, &wanted, "sealed");
+    let opened = sealed_files::open(rt.alloc(), &key, &sealed)?;
+    same(&rt, &opened, b"a", "opened");
+    let mut buf = [0; 2];
+    let input = Cursor::new(sealed.as_slice());
+    let count = sealed_files::read_part(rt.alloc(), &key, input, 0, 0, &mut buf)?;
+    same(&rt, &buf[..count], b"a", "read");
     Ok(())
 }

@@ -10,5 +10,6 @@ pub mod one_nonce;
 pub mod pieces;
 pub mod quic_connection;
 pub mod record_stream;
+pub mod sealed_files;
 pub mod streams;
 pub mod tls_connection;
