@@ -21,7 +21,7 @@ mod counting;
 #[cfg(test)]
 mod errors;
 #[cfg(test)]
-mod examples;
+mod example_callers;
 #[cfg(test)]
 mod gcm;
 #[cfg(test)]

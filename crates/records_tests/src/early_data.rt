@@ -90,7 +90,7 @@ fn goes_on(
     holds(rt, read == Ok(Some((Handshake, 5))), "the second flight");
     holds(rt, early_data.is_over(), "the early data is over");
     let end = early.len();
-    let error = if end > reader.size_limit() + 21 {
+    let error = if end.saturating_sub(21) > reader.size_limit() {
         RecordError::InnerPlaintextTooLong
     } else {
         RecordError::Refused
