@@ -214,6 +214,7 @@ fn sealed_file_of_one_byte(rt: HostRuntime) -> Result<(), Fail> {
     let mut buf = [0; 2];
     let input = Cursor::new(sealed.as_slice());
     let count = sealed_files::read_part(rt.alloc(), &key, input, 0, 0, &mut buf)?;
-    same(&rt, &buf[..count], b"a", "read");
+    holds(&rt, count == 1, "a byte is read");
+    same(&rt, &buf, b"a\0", "the byte");
     Ok(())
 }
