@@ -9,7 +9,7 @@ use thiserror::Error;
 /// The length of the datagram, which has to be 1200 or more (RFC 9000 section 14.1).
 pub const DATAGRAM_LEN: usize = 1200;
 
-/// The length of the payload behind a header of 22 bytes and before a tag of 16.
+/// The length of the payload, which comes after a header of 22 bytes and before a tag of 16.
 const PAYLOAD_LEN: usize = DATAGRAM_LEN - 22 - 16;
 
 /// The error of a step.

@@ -49,7 +49,7 @@ pub fn one_rtt(own: Secret, peer: Secret) -> Result<(Sender, Receiver), PacketEr
     Ok((sender, receiver))
 }
 
-/// Initiates a key update, after which the peer answers under its next keys (RFC 9001 section 6.1).
+/// Initiates a key update, and lets the receiver accept the peer's packets under its next keys (RFC 9001 section 6.1).
 pub fn update_keys(sender: &mut Sender, receiver: &mut Receiver) -> Result<(), PacketError>
     ensures sends { OnOk result (IfSome sender.old.secret (λ held. sender.new ≡ after_derived_update sender.old held)) }
     ensures receives { OnOk result (IfSome receiver.old.secret (λ held. receiver.new ≡ with_next receiver.old held)) }

@@ -27,7 +27,7 @@ pub length-high_first : (k n : ℕ) → length (bytes_high_first k n) ≡ k
 length-high_first zero n = refl
 length-high_first (suc k) n = ap suc (length-high_first k n)
 
--- a field behind those at the front
+-- a field that comes after those at the front
 pub next_field : (front field was buffer new : List ℕ) (at : ℕ) → buffer ≡ with_field 0 front was → at ≡ length front
     → new ≡ with_field at field buffer → new ≡ with_field 0 (front ++ field) was
 next_field front field was buffer new at is end written =

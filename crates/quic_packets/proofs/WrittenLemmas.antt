@@ -32,7 +32,7 @@ range xs ys zs start end from to =
 empty : (at : ℕ) (xs : List ℕ) → slice_range xs at at ≡ []
 empty at xs = let none : at - at ≡ 0 = omega arith in ap (λ n. take n (drop at xs)) none
 
--- the item behind a list
+-- the item after a list
 behind : (xs ys : List ℕ) (y at : ℕ) → at ≡ length xs → get_or (xs ++ y ∷ ys) at 0 ≡ y
 behind xs ys y at is = ap (λ n. get_or (xs ++ y ∷ ys) n 0) is ∙ get_or-append_seam xs y ys 0
 

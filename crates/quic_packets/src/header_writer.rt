@@ -73,8 +73,8 @@ pub enum HeaderError {
 }
 
 impl LongHeader<'_> {
-    /// Writes the header to the front of a buffer, and returns where the packet number is to be: behind it. The payload and 16
-    /// bytes for the tag follow the number. The fixed bit is 1, and the reserved bits are 0. The token's length has the fewest
+    /// Writes the header to the front of a buffer, and returns the range of the packet number, which comes after it. The payload
+    /// and 16 bytes for the tag follow the number. The fixed bit is 1, and the reserved bits are 0. The token's length has the fewest
     /// bytes, and Length has two, or four from 16,384 on. No other byte of the buffer changes, so the number isn't written yet.
     ///
     /// Fails, in this order, with `NumberLength` if `number_len` is 0 or above 4; with `IdTooLong` if a connection ID has more than
@@ -176,8 +176,8 @@ impl LongHeader<'_> {
 }
 
 impl ShortHeader<'_> {
-    /// Writes the header to the front of a buffer, and returns where the packet number is to be: behind it. The payload and 16
-    /// bytes for the tag follow the number. The fixed bit is 1, and the spin bit and the reserved bits are 0. No other byte of the
+    /// Writes the header to the front of a buffer, and returns the range of the packet number, which comes after it. The payload
+    /// and 16 bytes for the tag follow the number. The fixed bit is 1, and the spin bit and the reserved bits are 0. No other byte of the
     /// buffer changes, so the number isn't written yet.
     ///
     /// Fails, in this order, with `NumberLength` if `number_len` is 0 or above 4; with `IdTooLong` if the connection ID has more

@@ -157,7 +157,7 @@ pub fn received_as_sent<const W: usize>(sender: &Sender, receiver: &Receiver, sp
 {}
 
 /// A long header that is written is parsed as it was given, with what follows it: its type, its connection IDs and its token, the
-/// packet number behind it, and the end of the packet, to which Length counts (RFC 9000 sections 17.2.2 to 17.2.4).
+/// packet number after it, and the end of the packet by Length (RFC 9000 sections 17.2.2 to 17.2.4).
 pub fn long_header_is_parsed(header: &LongHeader<'_>, connection_id_len: usize, fixed_bit: FixedBit)
     requires { IsLongHeader header.now }
     ensures { (rest : List ℕ) → length_of header.now ≤ length rest → (packet : Packet)

@@ -112,7 +112,8 @@ module _ (file : List ℕ) (whole : 64 ≤ length file) where
 
   context_of_core : context_of (core_of file) ≡ context_of file
   context_of_core =
-      let of_header : (l : List ℕ) → context_of (header_of l) ≡ context_of l = λ l. ap (take 12) (drop-take 9 51 l) ∙ take-take 12 51 (drop 9 l) (omega arith) in
+      let of_header : (l : List ℕ) → context_of (header_of l) ≡ context_of l = λ l.
+      ap (take 12) (drop-take 9 51 l) ∙ take-take 12 51 (drop 9 l) (omega arith) in
       sym (of_header (core_of file)) ∙ ap context_of header_of_core ∙ of_header file
 
 -- a file that opens under two passphrases

@@ -25,7 +25,8 @@ loop-i-preserved c =
         arith,
         ap length same,
         length-piece room content i,
-        left_more (length content) room c.args.cut.count (c.args.padding + 22) i c.loop-i.filled (length (take room (drop (i * room) content))) c.loop-i-test.true (length-piece room content i)
+        left_more (length content) room c.args.cut.count (c.args.padding + 22) i c.loop-i.filled
+            (length (take room (drop (i * room) content))) c.loop-i-test.true (length-piece room content i)
             c.loop-i.invariant.left,
       );
     }
