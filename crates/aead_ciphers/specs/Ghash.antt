@@ -1,6 +1,7 @@
 -- The product of blocks, and GHASH (SP 800-38D section 6).
 use Rattle.std.specs.Prelude.{◌≡◌, ℕ, zero, suc, ◌<◌, Bool, List, [], ◌∷◌, length, replicate, reverse, flat_map, All}
 use Rattle.std.specs.Int.{to_be_bytes, w128}
+use Rattle.std.specs.Simd.Lanes.{zip2}
 use Rattle.aead_ciphers_base.specs.Polynomial.{field_product}
 use Rattle.aead_ciphers_base.specs.ByteField.{bits_of, value_of}
 use Rattle.aead_ciphers_base.specs.Bytes.{◌⊕◌, zero_block}
@@ -48,6 +49,4 @@ ghash h (x ∷ xs) = x • power h (length xs) ⊕ ghash h xs
 
 -- the XOR of two lists of blocks, block by block (section 4.2.2)
 abbrev pub xor_blocks : List (List ℕ) → List (List ℕ) → List (List ℕ)
-xor_blocks [] ys = []
-xor_blocks (x ∷ xs) [] = []
-xor_blocks (x ∷ xs) (y ∷ ys) = (x ⊕ y) ∷ xor_blocks xs ys
+xor_blocks xs ys = zip2 ◌⊕◌ xs ys
