@@ -5,7 +5,7 @@ use Rattle.std.proofs.lemmas
 use lemmas.Bool.{false_from_ne_true}
 use lemmas.Nat.{xor_lt}
 use Rattle.aead_ciphers_base.specs
-use specs.Polynomial.{coefficient, field_product, polynomial_product, reduced, without_highests, without_highest}
+use specs.Polynomial.{coefficient, field_product, polynomial_product, remainder}
 use specs.ByteField.{bits_of, value_of, mul8, inv, affine, sbox}
 use Rattle.aead_ciphers_base.proofs
 use proofs.PolynomialBits.{Series, add, same_series}
@@ -15,7 +15,7 @@ use proofs.NumberBits.{bits_of-xor, bits_of-value_of, value_of-bits_of, value_of
 
 -- `unfolding field` lets `refl` compute in the field
 unfoldable pub field : Unit {0}
-unfolding field_product polynomial_product reduced without_highests without_highest mul8 inv affine sbox
+unfolding field_product polynomial_product remainder mul8 inv affine sbox
 field = tt
 
 abbrev taps : List ℕ

@@ -1,5 +1,5 @@
 -- Counter mode of a text in pieces.
-use Rattle.std.proofs.Common.{◌≡◌, ℕ, ◌+◌, ◌-◌, ◌*◌, ◌/◌, ◌%◌, ◌≤◌, List, [], ◌∷◌, ◌++◌, length, take, drop, refl, sym, ap, ap₂, ◌∙◌, arith, append-nil, append_assoc, length-append, length-take-le, length-drop, take_at, drop-drop, take-append-drop}
+use Rattle.std.proofs.Common.{◌≡◌, ℕ, ◌+◌, ◌-◌, ◌*◌, ◌/◌, ◌%◌, ◌≤◌, List, [], ◌++◌, length, take, drop, refl, sym, ap, ap₂, ◌∙◌, arith, append-nil, append_assoc, length-append, length-take-le, length-drop, take_at, drop-drop, take-append-drop}
 use Rattle.std.proofs.lemmas.List.{nil_from_length, drop-append-le, drop-take}
 use Rattle.aead_ciphers_base.specs
 use specs.Bytes.{xored, ◌⊕◌}

@@ -1,17 +1,17 @@
--- Multiplication of coefficients by a polynomial, modulo another: Horner's rule, one step of x at a time. What reduction leaves:
--- the same multiple of one, and as many coefficients as the degree.
+-- Multiplication of coefficients by a polynomial, modulo another: Horner's rule, one step of x at a time. A remainder is
+-- the same multiple of one, and has as many coefficients as the degree.
 use Rattle.std.proofs.Common.{◌≡◌, ℕ, zero, suc, ◌+◌, ◌-◌, ◌<◌, ◌≤◌, Bool, true, false, ◌&&◌, List, [], ◌∷◌, length, map, refl, sym, ap, ap₂, ◌∙◌, arith, ext_get_or, zero-add, add-zero, ◌==◌, ◌||◌, suc-add, ne_eqb}
 use Rattle.std.proofs.Math.Bool.{and_assoc, and-false, and-true}
 use Rattle.std.proofs.Math.ListN.{get_or-eq_default}
 use Rattle.std.proofs.Math.Nat.{suc-sub-suc, sub-zero}
 use Rattle.std.specs.List.{range_with_len, list_any}
 use Rattle.aead_ciphers_base.specs
-use specs.Polynomial.{◌xor◌, xor_sum, coefficient, polynomial_product, without_highest, without_highests, reduced, field_product}
+use specs.Polynomial.{◌xor◌, xor_sum, coefficient, polynomial_product, remainder, field_product}
 use Rattle.aead_ciphers_base.proofs
 use proofs.PolynomialBits.{xor_comm, xor_assoc, xor_zero, xor_exchange, and_xor, xor_and, Series, same_series, same_steps, none, add, scale, shift, add_comm, add_assoc, add_exchange, scale_add, scale_xor, scale_none, scale_swap, add_self}
 use specs.Bytes.{each_below}
 use Rattle.std.proofs.Math.Dec.{eqb-suc-suc, eqb-suc-zero}
-use proofs.PolynomialSums.{length-polynomial_product, length-reduced}
+use proofs.PolynomialSums.{length-polynomial_product, length-remainder}
 use proofs.EachLemmas.{length-each}
 
 -- ---- the coefficients of a product, by the first factor's first coefficient
@@ -298,10 +298,10 @@ module _ (taps : List ℕ) (top : ℕ) (low : AllBelow (suc top) taps) where
 
   -- ---- reduction
 
-  times_without_highest : (n : ℕ) (p : List Bool) → length p ≡ suc (suc top + n)
-      → times top m (without_highest taps (suc top) n p) one ≡ times top m p one
-  unfolding without_highest
-  times_without_highest n p e =
+  -- the highest coefficient removed
+  times_removed : (n : ℕ) (p : List Bool) → length p ≡ suc (suc top + n) → let k = suc top + n in
+      times top m (each_below k (λ j. coefficient p j xor (coefficient p k && list_any (λ t. n + t == j) taps))) one ≡ times top m p one
+  times_removed n p e =
       let k = suc top + n in
       let h = coefficient p k in
       let c : Series = λ j. list_any (λ t. n + t == j) taps in
@@ -311,30 +311,29 @@ module _ (taps : List ℕ) (top : ℕ) (low : AllBelow (suc top) taps) where
       ∙ sym (horner_push top m k _ one)
       ∙ ap (λ j. horner top m j (coefficient p) one) (sym e)
 
-  times_without_highests : (n : ℕ) (p : List Bool) → length p ≡ suc top + n
-      → times top m (without_highests taps (suc top) n p) one ≡ times top m p one
-  unfolding without_highest without_highests
-  times_without_highests zero p e = refl
-  times_without_highests (suc n) p e =
-      times_without_highests n _ (length-each (suc top + n) _) ∙ times_without_highest n p (omega arith)
+  times_remainder : (n : ℕ) (p : List Bool) → length p ≡ suc top + n
+      → times top m (remainder taps (suc top) n p) one ≡ times top m p one
+  unfolding remainder
+  times_remainder zero p e = refl
+  times_remainder (suc n) p e =
+      times_remainder n _ (length-each (suc top + n) _) ∙ times_removed n p (omega arith)
 
-  pub coefficient-reduced : (p : List Bool) → suc top ≤ length p → coefficient (reduced taps (suc top) p) ≡ times top m p one
-  unfolding reduced
-  coefficient-reduced p long =
-      sym (times_one (reduced taps _ p) (let e = length-reduced taps _ p long in omega arith))
-      ∙ times_without_highests _ p (omega arith)
+  coefficient-remainder : (n : ℕ) (p : List Bool) → length p ≡ suc top + n → coefficient (remainder taps (suc top) n p) ≡ times top m p one
+  coefficient-remainder n p e =
+      sym (times_one (remainder taps _ n p) (let same = length-remainder taps _ n p e in omega arith))
+      ∙ times_remainder n p e
 
   -- ---- the product of polynomials of `suc top` coefficients
 
   pub length-field_product : (a b : List Bool) → length a ≡ suc top → length b ≡ suc top → length (field_product taps (suc top) a b) ≡ suc top
   unfolding field_product
-  length-field_product a b la lb = let e = length-polynomial_product a b in length-reduced taps _ _ (omega arith)
+  length-field_product a b la lb = let e = length-polynomial_product a b in length-remainder taps _ _ _ (omega arith)
 
   pub field_product_is : (a b : List Bool) → length a ≡ suc top → length b ≡ suc top → coefficient (field_product taps (suc top) a b)
       ≡ times top m a (coefficient b)
   unfolding field_product
   field_product_is a b la lb =
       let e = length-polynomial_product a b in
-      coefficient-reduced _ (omega arith)
+      coefficient-remainder _ _ (omega arith)
       ∙ product_times top m a b one (omega arith)
       ∙ ap (times top m a) (times_one b (omega arith))

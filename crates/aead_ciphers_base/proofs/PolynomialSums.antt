@@ -1,6 +1,6 @@
--- Sums of polynomials, and the lengths of a product and of what reduction leaves.
-use Rattle.std.proofs.Common.{◌≡◌, ℕ, zero, suc, ◌+◌, ◌-◌, ◌≤◌, Bool, List, [], ◌∷◌, length, refl, sym, arith}
-use Rattle.aead_ciphers_base.specs.Polynomial.{◌xor◌, coefficient, polynomial_product, without_highest, without_highests, reduced}
+-- Sums of polynomials, and the lengths of a product and of a remainder.
+use Rattle.std.proofs.Common.{◌≡◌, ℕ, zero, suc, ◌+◌, ◌-◌, Bool, List, [], ◌∷◌, length, refl, sym, arith}
+use Rattle.aead_ciphers_base.specs.Polynomial.{◌xor◌, coefficient, polynomial_product, remainder}
 use Rattle.aead_ciphers_base.proofs
 use proofs.EachLemmas.{length-each}
 use proofs.PolynomialBits.{xor_zero}
@@ -20,11 +20,7 @@ pub length-polynomial_product : (a b : List Bool) → length (polynomial_product
 unfolding polynomial_product
 length-polynomial_product a b = length-each _ _
 
-length-without_highests : (taps : List ℕ) (d n : ℕ) (p : List Bool) → length p ≡ d + n → length (without_highests taps d n p) ≡ d
-unfolding without_highests without_highest
-length-without_highests taps d zero p e = omega arith
-length-without_highests taps d (suc n) p e = length-without_highests taps d n _ (length-each (d + n) _)
-
-pub length-reduced : (taps : List ℕ) (d : ℕ) (p : List Bool) → d ≤ length p → length (reduced taps d p) ≡ d
-unfolding reduced
-length-reduced taps d p h = length-without_highests taps d _ p (omega arith)
+pub length-remainder : (taps : List ℕ) (d n : ℕ) (p : List Bool) → length p ≡ d + n → length (remainder taps d n p) ≡ d
+unfolding remainder
+length-remainder taps d zero p e = omega arith
+length-remainder taps d (suc n) p e = length-remainder taps d n _ (length-each (d + n) _)

@@ -24,22 +24,17 @@ unfoldable pub polynomial_product : List Bool → List Bool → List Bool
 polynomial_product a b = each_below (length a + length b - 1)
     (λ k. xor_sum (suc k) (λ i. coefficient a i && coefficient b (k - i)))
 
--- p without its highest coefficient, that of x^(d + n): if it is one, the coefficient of x^(n + t) is flipped for each
--- tap t, since x^d is the sum of x^t over the taps t (FIPS 197 section 4.2, SP 800-38D section 6.3)
-unfoldable pub without_highest : List ℕ → ℕ → ℕ → List Bool → List Bool
-without_highest taps d n p = each_below (d + n)
-    (λ j. coefficient p j xor (coefficient p (d + n) && list_any (λ t. n + t == j) taps))
+-- The remainder of p, which has d + n coefficients, modulo x^d plus the sum of x^t over the numbers t in `taps`. The highest
+-- coefficient, that of x^m, is removed; if it is one, the coefficient of x^(n + t) is flipped for each t, since x^m is x^n times
+-- x^d, and x^d has the same remainder as the sum of the x^t. So n times, and d coefficients are left (FIPS 197 section 4.2,
+-- SP 800-38D section 6.3).
+unfoldable pub remainder : List ℕ → ℕ → ℕ → List Bool → List Bool
+remainder taps d zero p = p
+remainder taps d (suc n) p =
+    let m = d + n in
+    remainder taps d n (each_below m (λ j. coefficient p j xor (coefficient p m && list_any (λ t. n + t == j) taps)))
 
--- p, which has d + n coefficients, without its n highest, removed one after another
-unfoldable pub without_highests : List ℕ → ℕ → ℕ → List Bool → List Bool
-without_highests taps d zero p = p
-without_highests taps d (suc n) p = without_highests taps d n (without_highest taps d n p)
-
--- p modulo x^d plus the sum of x^t over the taps t (FIPS 197 section 4.2, SP 800-38D section 6.3)
-unfoldable pub reduced : List ℕ → ℕ → List Bool → List Bool
-reduced taps d p = without_highests taps d (length p - d) p
-
--- the product of two polynomials modulo x^d plus the sum of x^t over the taps t (FIPS 197 section 4.2, SP 800-38D
--- section 6.3)
+-- the product of two polynomials modulo x^d plus the sum of x^t over the numbers t in `taps` (FIPS 197 section 4.2,
+-- SP 800-38D section 6.3)
 unfoldable pub field_product : List ℕ → ℕ → List Bool → List Bool → List Bool
-field_product taps d a b = reduced taps d (polynomial_product a b)
+field_product taps d a b = let p = polynomial_product a b in remainder taps d (length p - d) p
