@@ -1,7 +1,7 @@
 -- A polynomial over blocks that isn't zero has few roots: where the differences of as many blocks as it has coefficients have
 -- inverses, one is no root. So two lists of blocks that differ when padded have GHASHes with a given XOR under few hash
 -- subkeys, and few hash subkeys accept two messages that differ.
-use Rattle.std.proofs.Common.{◌≡◌, ℕ, suc, ◌<◌, ◌≤◌, List, [], ◌∷◌, length, get_or, AllPairs, refl, sym, ap, ap₂, ◌∙◌, arith, zero, ◌-◌, ⊎_elim, max, ◌++◌, replicate, reverse, All, subst, length-append, ◌≢◌}
+use Rattle.std.proofs.Common.{◌≡◌, ℕ, suc, ◌+◌, ◌<◌, ◌≤◌, List, [], ◌∷◌, length, get_or, AllPairs, refl, sym, ap, ap₂, ◌∙◌, arith, zero, ◌-◌, ⊎_elim, max, ◌++◌, replicate, reverse, All, subst, length-append, ◌≢◌}
 use Rattle.std.specs.List.{AllByRecursion}
 use Rattle.aead_ciphers_base.proofs.XorLemmas.{xor_assoc, xor_comm, xor_exchange}
 use Rattle.aead_ciphers.specs
@@ -118,8 +118,9 @@ ghash-zeros : (h : List ℕ) (n : ℕ) (xs : List (List ℕ)) → Sized h → Bl
 unfolding ghash
 ghash-zeros h zero xs sh all = refl
 ghash-zeros h (suc n) xs sh all =
-    let p = power h (length (replicate n zero_block ++ xs)) in
-    let sp = Sized-power h _ sh in
+    let k = length (replicate n zero_block ++ xs) + 1 in
+    let p = power h k in
+    let sp = Sized-power h k sh in
     ap₂ ◌⊕◌ (product_comm zero_block p refl sp ∙ product_zero p sp) (ghash-zeros h n xs sh all)
     ∙ xor_comm zero_block _ ∙ xor_zero _ (Sized-ghash h xs sh (AllSized-blocks xs all))
 

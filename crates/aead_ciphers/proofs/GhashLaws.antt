@@ -1,6 +1,6 @@
 -- The ring of blocks: blocks that cancel, in a sum, and in a product with a block that has an inverse; GHASH of one block more,
 -- and as a polynomial in the hash subkey: the blocks are its coefficients, the last that of the first power.
-use Rattle.std.proofs.Common.{◌≡◌, ℕ, zero, suc, ◌<◌, Bool, true, false, List, [], ◌∷◌, ◌++◌, length, get_or, replicate, flat_map, refl, sym, ap, ap₂, ◌∙◌, arith, length-append, add-one, reverse}
+use Rattle.std.proofs.Common.{◌≡◌, ℕ, zero, suc, ◌+◌, ◌-◌, ◌<◌, Bool, true, false, List, [], ◌∷◌, ◌++◌, length, get_or, replicate, flat_map, refl, sym, ap, ap₂, ◌∙◌, arith, length-append, reverse}
 use Rattle.aead_ciphers_base.proofs
 use proofs.XorLemmas.{bytes-xor, length-xor, xor_assoc, xor_comm, xor_exchange, xor_zeros, xor-xor}
 use Rattle.aead_ciphers_base.specs.Polynomial.{◌xor◌, coefficient}
@@ -13,6 +13,7 @@ use Rattle.aead_ciphers.proofs.GhashBlocks.{block_bits-is, series, block_times, 
 use Rattle.aead_ciphers.proofs.GhashBits.{bits-xor, length-bits, bits_high_first}
 use proofs.PolynomialSums.{polynomial_sum, coefficient-polynomial_sum}
 use Rattle.aead_ciphers.proofs.ProductLoop.{block_low, zeros_end}
+use Rattle.std.specs.Fn.{iterate}
 use Rattle.std.specs.Int.Bits.{xor_self as number_self}
 use specs.Different.{HasInverse}
 use Rattle.std.proofs.lemmas.List.{reverse-append, reverse-reverse}
@@ -114,9 +115,26 @@ pub AllSized-append : (xs ys : List (List ℕ)) → AllSized xs → AllSized ys 
 AllSized-append [] ys h j = j
 AllSized-append (x ∷ xs) ys h j = (h.0, AllSized-append xs ys h.1 j)
 
+-- p, multiplied n times by h
+abbrev times_power : List ℕ → ℕ → List ℕ → List ℕ
+times_power h n p = iterate (λ q. q • h) n p
+
+Sized-times_power : (h : List ℕ) (n : ℕ) (p : List ℕ) → Sized p → Sized (times_power h n p)
+Sized-times_power h zero p is_p = is_p
+Sized-times_power h (suc n) p is_p = Sized-times_power h n (p • h) (Sized-product p h)
+
 pub Sized-power : (h : List ℕ) (k : ℕ) → Sized h → Sized (power h k)
-Sized-power h zero is_h = is_h
-Sized-power h (suc k) is_h = Sized-product _ h
+Sized-power h k is_h = Sized-times_power h (k - 1) h is_h
+
+times_power-last : (h : List ℕ) (n : ℕ) (p : List ℕ) → times_power h (suc n) p ≡ times_power h n p • h
+times_power-last h zero p = refl
+times_power-last h (suc n) p = times_power-last h n (p • h)
+
+power-next : (h : List ℕ) (n : ℕ) → power h (n + 1 + 1) ≡ power h (n + 1) • h
+power-next h n =
+    let more : n + 1 + 1 - 1 ≡ suc n = omega arith in
+    let same : n ≡ n + 1 - 1 = omega arith in
+    ap (λ k. times_power h k h) more ∙ times_power-last h n h ∙ ap (λ k. times_power h k h • h) same
 
 pub Sized-ghash : (h : List ℕ) (xs : List (List ℕ)) → Sized h → AllSized xs → Sized (ghash h xs)
 unfolding ghash
@@ -132,14 +150,14 @@ ghash_more h [] x is_h all is_x =
     ∙ ap (λ y. y • h) (sym (xor_comm zero_block x ∙ xor_zero x is_x))
 ghash_more h (y ∷ ys) x is_h all is_x =
     let n = length ys in
-    let p = power h n in
-    let is_p = Sized-power h n is_h in
+    let p = power h (n + 1) in
+    let is_p = Sized-power h (n + 1) is_h in
     let g = ghash h ys in
     let is_g = Sized-ghash h ys is_h all.1 in
     let is_yp = Sized-product y p in
-    let count = length-append ys (x ∷ []) ∙ add-one n in
-    ap₂ (λ k r. (y • power h k) ⊕ r) count (ghash_more h ys x is_h all.1 is_x)
-    ∙ ap (λ r. r ⊕ ((g ⊕ x) • h)) (sym (product_assoc y p h all.0 is_p is_h))
+    let count : length (ys ++ (x ∷ [])) ≡ n + 1 = length-append ys (x ∷ []) in
+    ap₂ (λ k r. (y • power h (k + 1)) ⊕ r) count (ghash_more h ys x is_h all.1 is_x)
+    ∙ ap (λ r. r ⊕ ((g ⊕ x) • h)) (ap (λ q. y • q) (power-next h n) ∙ sym (product_assoc y p h all.0 is_p is_h))
     ∙ sym (product_xor_left (y • p) _ h is_yp (Sized-xor g x is_g is_x) is_h)
     ∙ ap (λ r. r • h) (sym (xor_assoc (y • p) g x))
 
@@ -154,12 +172,12 @@ unfolding ghash
 ghash_xor h [] [] is_h all_x all_y e = sym (xor_zero zero_block refl)
 ghash_xor h (x ∷ xs) (y ∷ ys) is_h all_x all_y e =
     let same : length xs ≡ length ys = omega arith in
-    let p = power h (length xs) in
-    let is_p = Sized-power h (length xs) is_h in
-    ap₂ (λ k r. ((x ⊕ y) • power h k) ⊕ r) (length-xor_blocks xs ys same) (ghash_xor h xs ys is_h all_x.1 all_y.1 same)
+    let p = power h (length xs + 1) in
+    let is_p = Sized-power h (length xs + 1) is_h in
+    ap₂ (λ k r. ((x ⊕ y) • power h (k + 1)) ⊕ r) (length-xor_blocks xs ys same) (ghash_xor h xs ys is_h all_x.1 all_y.1 same)
     ∙ ap (λ r. r ⊕ (ghash h xs ⊕ ghash h ys)) (product_xor_left x y p all_x.0 all_y.0 is_p)
     ∙ xor_exchange (x • p) (y • p) (ghash h xs) (ghash h ys)
-    ∙ ap (λ k. ((x • p) ⊕ ghash h xs) ⊕ ((y • power h k) ⊕ ghash h ys)) same
+    ∙ ap (λ k. ((x • p) ⊕ ghash h xs) ⊕ ((y • power h (k + 1)) ⊕ ghash h ys)) same
 ghash_xor h _ _ is_h all_x all_y e = absurd (omega arith)
 
 pub AllSized-from : (xs : List (List ℕ)) → ((i : ℕ) → i < length xs → length (get_or xs i []) ≡ 16) → AllSized xs

@@ -1,5 +1,6 @@
 -- The product of blocks, and GHASH (SP 800-38D section 6).
-use Rattle.std.specs.Prelude.{◌≡◌, ℕ, zero, suc, ◌<◌, Bool, List, [], ◌∷◌, length, replicate, reverse, flat_map, All}
+use Rattle.std.specs.Prelude.{◌≡◌, ℕ, ◌+◌, ◌-◌, ◌<◌, Bool, List, [], ◌∷◌, length, replicate, reverse, flat_map, All}
+use Rattle.std.specs.Fn.{iterate}
 use Rattle.std.specs.Int.{to_be_bytes, w128}
 use Rattle.std.specs.Simd.Lanes.{zip2}
 use Rattle.aead_ciphers_base.specs.Polynomial.{field_product}
@@ -37,15 +38,14 @@ x • y = block_of (field_product block_taps 128 (block_bits x) (block_bits y))
 abbrev pub unit_block : List ℕ
 unit_block = 0x80 ∷ replicate 15 0
 
--- section 6.3: the power h^(k + 1), where h^2 = h • h
+-- section 4.2.2: the power h^k for k above 0, which is h multiplied k - 1 times by h
 abbrev pub power : List ℕ → ℕ → List ℕ
-power h zero = h
-power h (suc k) = power h k • h
+power h k = iterate (λ p. p • h) (k - 1) h
 
 -- section 6.4: GHASH of the blocks X_1, .., X_m is X_1 • H^m ⊕ X_2 • H^(m - 1) ⊕ .. ⊕ X_m • H
 unfoldable pub ghash : List ℕ → List (List ℕ) → List ℕ
 ghash h [] = zero_block
-ghash h (x ∷ xs) = x • power h (length xs) ⊕ ghash h xs
+ghash h (x ∷ xs) = x • power h (length xs + 1) ⊕ ghash h xs
 
 -- the XOR of two lists of blocks, block by block (section 4.2.2)
 abbrev pub xor_blocks : List (List ℕ) → List (List ℕ) → List (List ℕ)
