@@ -48,25 +48,27 @@ abbrev pub gcm_sealed : (List ℕ → List ℕ) → List ℕ → List ℕ → Li
 gcm_sealed cipher nonce aad message =
     let ciphertext = gcm_encrypted cipher nonce message in ciphertext ++ gcm_tag cipher nonce aad ciphertext
 
--- Whether opening accepts, and what the buffer then holds (section 7.2). It accepts exactly if the ciphertext is in
--- range, the lengths are within the limits, and the received tag is the tag of the ciphertext. The plaintext is then at
--- the front of the buffer, and the bytes after it are unchanged. If it rejects, the buffer is unchanged.
-pub record Opens (cipher : List ℕ → List ℕ) (nonce aad received ciphertext : List ℕ) (in_range : Type 0)
-    (old : List ℕ) (accepts : Bool) (new : List ℕ) : Type 0 where
-  pub accepted : IsTrue accepts
-      ↔ (in_range × Fits (length aad) (length ciphertext) × (received ≡ gcm_tag cipher nonce aad ciphertext))
-  pub buffer : new ≡ (if accepts then gcm_decrypted cipher nonce ciphertext ++ drop (length ciphertext) old else old)
+module _ (cipher : List ℕ → List ℕ) (nonce aad : List ℕ) where
+  -- Whether opening accepts, and what the buffer then holds (section 7.2). It accepts exactly if the ciphertext is in
+  -- range, the lengths are within the limits, and the received tag is the tag of the ciphertext. The plaintext is then at
+  -- the front of the buffer, and the bytes after it are unchanged. If it rejects, the buffer is unchanged.
+  pub record Opens (tag ciphertext : List ℕ) (in_range : Type 0) (old : List ℕ) (accepts : Bool)
+      (new : List ℕ) : Type 0 where
+    pub accepted : IsTrue accepts ↔ (in_range × Fits (length aad) (length ciphertext)
+        × (tag ≡ gcm_tag cipher nonce aad ciphertext))
+    pub buffer : new ≡ (if accepts
+        then gcm_decrypted cipher nonce ciphertext ++ drop (length ciphertext) old else old)
 
--- the ciphertext is the buffer from `start` on
-abbrev pub Opened : (cipher : List ℕ → List ℕ) (nonce aad received : List ℕ) (start : ℕ) (old : List ℕ) (accepts : Bool) (new : List ℕ) → Type 0
-Opened cipher nonce aad received start old accepts new =
-    Opens cipher nonce aad received (drop start old) (start ≤ length old) old accepts new
+  -- the tag is received separately, and the ciphertext is the buffer from `start` on
+  abbrev pub Opened : List ℕ → ℕ → List ℕ → Bool → List ℕ → Type 0
+  Opened tag start old accepts new = Opens tag (drop start old) (start ≤ length old) old accepts new
 
--- the same with the tag attached, which is the last 16 bytes of the buffer and is unchanged
-abbrev pub OpenedAttached : (cipher : List ℕ → List ℕ) (nonce aad : List ℕ) (start : ℕ) (old : List ℕ) (accepts : Bool) (new : List ℕ) → Type 0
-OpenedAttached cipher nonce aad start old accepts new =
-    let n = length old - 16 in
-    Opens cipher nonce aad (drop n old) (drop start (take n old)) (start + 16 ≤ length old) old accepts new
+  -- the tag is the last 16 bytes of the buffer and is unchanged, and the ciphertext is before it, from `start` on; a buffer
+  -- of less than 16 bytes, of which n would be 0, is never in range
+  abbrev pub OpenedAttached : ℕ → List ℕ → Bool → List ℕ → Type 0
+  OpenedAttached start old accepts new =
+      let n = length old - 16 in
+      Opens (drop n old) (drop start (take n old)) (start + 16 ≤ length old) old accepts new
 
 -- the cipher blocks of sealing n bytes of plaintext, or of opening them with success: one for each block of the
 -- plaintext, and one for the tag (section 7.1 steps 3 and 6)
