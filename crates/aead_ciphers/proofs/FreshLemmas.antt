@@ -11,7 +11,7 @@ use Rattle.aead_ciphers.specs
 use specs.BoundState.{BoundState}
 use specs.FreshNonces.{GrewFresh, SealCalls}
 use specs.NonceSequence.{Appends}
-use specs.Runs.{Performs, Run}
+use specs.Runs.{JobStep, Performs, Runs}
 use specs.declared.session.Job.{Job}
 use specs.declared.session.Operation.{Operation}
 use specs.declared.session.Operation.TheVariants.{Seal, Open}
@@ -85,7 +85,7 @@ module _ {S O : Type 0} (s_spent : S → List (List ℕ)) (s_closed : S → Bool
   fresh_job (Open start) was now old new p = fresh_none _ _ (ap (λ (k : BoundState S). s_spent k.sequence) p.0)
 
   pub fresh_run : (first last : BoundState S × BoundState O) (olds news : List Job)
-      → Run s_spent s_closed s_origin o_spent o_closed o_origin first last olds news → GrewFresh (s_spent first.0.sequence) (s_spent last.0.sequence)
+      → Runs (JobStep s_spent s_closed s_origin o_spent o_closed o_origin) first last olds news → GrewFresh (s_spent first.0.sequence) (s_spent last.0.sequence)
   fresh_run first last [] [] e = fresh_none _ _ (ap (λ (k : BoundState S × BoundState O). s_spent k.0.sequence) e)
   fresh_run first last (old ∷ olds) (new ∷ news) r =
       fresh_more _ _ _ (fresh_job old.operation first r.0 old new r.1.performs) (fresh_run r.0 last olds news r.2)

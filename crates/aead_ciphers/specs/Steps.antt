@@ -14,7 +14,8 @@ module _ {N : Type 0} (spent : N → List (List ℕ)) (is_closed : N → Bool) w
   abbrev pub Refuses : BoundState N → BoundState N → Type 0
   Refuses was now = Closes (spent was.sequence) (spent now.sequence) (is_closed now.sequence)
 
-  -- Sealing with the tag appended, and whether it succeeds. Room for the tag is reserved first.
+  -- Sealing with the tag appended, and whether it succeeds. Room for the tag is reserved first: `may_refuse` holds if there
+  -- is none, and `may_grant` if there is.
   pub data SealStep (may_refuse may_grant : Type 0) (was now : BoundState N) (aad old new : List ℕ) : Bool → Type 0 where
     no_room : may_refuse → now ≡ was → new ≡ old → SealStep may_refuse may_grant was now aad old new false
     no_nonce : may_grant → Refuses was now → new ≡ old → SealStep may_refuse may_grant was now aad old new false
@@ -23,7 +24,7 @@ module _ {N : Type 0} (spent : N → List (List ℕ)) (is_closed : N → Bool) w
     sealed : may_grant → (nonce : List ℕ) → Spends was now nonce → Fits (length aad) (length old)
         → new ≡ gcm_sealed (aes was.key.bytes) nonce aad old → SealStep may_refuse may_grant was now aad old new true
 
-  -- Opening with the tag attached, and whether it succeeds.
+  -- Opening with the tag attached, and whether it succeeds. A nonce is spent even if it fails.
   pub data OpenStep (was now : BoundState N) (aad : List ℕ) (start : ℕ) (old new : List ℕ) : Bool → Type 0 where
     no_nonce : Refuses was now → new ≡ old → OpenStep was now aad start old new false
     opened : (nonce : List ℕ) (accepts : Bool) → Spends was now nonce

@@ -2,7 +2,7 @@
 ghost use Rattle.std.specs.Prelude.{◌≡◌, ◌≢◌, vec_capacity};
 ghost use Rattle.std.specs.List.{AllZip};
 ghost use Rattle.aead_ciphers.specs.FreshNonces.{GrewFresh};
-ghost use Rattle.aead_ciphers.specs.Runs.{JobStep, Run};
+ghost use Rattle.aead_ciphers.specs.Runs.{JobStep, Runs};
 
 use crate::aead::{Aad, NonceSequence, OpeningKey, SealingKey};
 
@@ -108,7 +108,7 @@ pub fn run<S: NonceSequence, O: NonceSequence>(
     opening: &mut OpeningKey<O>,
     jobs: &mut [Job],
 )
-    ensures ran { Run S.spent S.is_closed S.origin O.spent O.is_closed O.origin
+    ensures ran { Runs (JobStep S.spent S.is_closed S.origin O.spent O.is_closed O.origin)
         (sealing.old, opening.old) (sealing.new, opening.new) jobs.old jobs.new }
     ensures capacity_kept { AllZip (λ old new. old.operation ≢ Operation.Seal
         → vec_capacity new.buffer ≡ vec_capacity old.buffer) jobs.old jobs.new }
