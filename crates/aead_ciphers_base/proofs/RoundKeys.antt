@@ -91,6 +91,5 @@ unfolding aes key_of
 aes_of_schedule round_keys rounds b h =
     let size = length-each (4 * (rounds - 6)) (λ j. plane_byte (slice_index_or round_keys (j / 16) []) (j % 16)) in
     let nk : length (key_of round_keys rounds) / 4 ≡ rounds - 6 = omega (arith, size) in
-    let last : 4 * (rounds - 6 + 7) ≡ 4 * (rounds + 1) = omega arith in
     let count : rounds - 6 + 6 ≡ rounds = omega arith in
-    rw (nk, last, count)
+    rw (nk, count)

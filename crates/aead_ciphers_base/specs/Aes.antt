@@ -50,7 +50,8 @@ sub_word a = each_below 4 (λ k. sbox (slice_index a k))
 unfoldable pub power_of_x : ℕ → ℕ
 power_of_x n = iterate (mul8 2) n 1
 
--- word i of the key schedule of a key of nk words, from the words w before it (section 5.2)
+-- word i of the key schedule of a key of nk words, from the words w before it: the sum of word i - nk and of word i - 1, which
+-- is transformed if i is a multiple of nk and, for nk = 8, if i - 4 is one (section 5.2)
 unfoldable pub next_word : ℕ → List (List ℕ) → ℕ → List ℕ
 next_word nk w i =
     let t = word_at w (i - 1) in
@@ -58,7 +59,7 @@ next_word nk w i =
     ⊕ (if i % nk == 0 then sub_word (rot_word t) ⊕ (power_of_x (i / nk - 1) ∷ 0 ∷ 0 ∷ 0 ∷ [])
     else (if nat_lt 6 nk && (i % nk == 4) then sub_word t else t))
 
--- KeyExpansion: the nk words of the key, and the n words after them (section 5.2)
+-- KeyExpansion: the nk words of the key, then n further words, each from those before it (section 5.2)
 unfoldable pub key_words : ℕ → List ℕ → ℕ → List (List ℕ)
 key_words nk key zero = each_below nk (λ i. each_below 4 (λ k. slice_index key (4 * i + k)))
 key_words nk key (suc n) = let w = key_words nk key n in w ++ next_word nk w (nk + n) ∷ []
@@ -76,12 +77,13 @@ rounds w b (suc n) = add_round_key w (suc n) (mix_columns (shift_rows (sub_bytes
 unfoldable pub cipher : List (List ℕ) → ℕ → List ℕ → List ℕ
 cipher w nr b = add_round_key w nr (shift_rows (sub_bytes (rounds w b (nr - 1))))
 
--- AES: the block b is encrypted under a key of nk words, 4 or 8, in nr = nk + 6 rounds with 4 (nr + 1) words
--- (section 5)
+-- AES: the block b is encrypted under a key of nk words, 4 or 8, in nr rounds with 4 (nr + 1) words, the nk of the key
+-- included (section 5)
 unfoldable pub aes : List ℕ → List ℕ → List ℕ
 aes key b =
     let nk = length key / 4 in
-    cipher (key_words nk key (4 * (nk + 7) - nk)) (nk + 6) b
+    let nr = nk + 6 in
+    cipher (key_words nk key (4 * (nr + 1) - nk)) nr b
 
 -- an encrypted block has 16 bytes (section 3.4)
 pub length_aes : (key b : List ℕ) → length (aes key b) ≡ 16

@@ -24,17 +24,17 @@ unfoldable pub polynomial_product : List Bool → List Bool → List Bool
 polynomial_product a b = each_below (length a + length b - 1)
     (λ k. xor_sum (suc k) (λ i. coefficient a i && coefficient b (k - i)))
 
--- The remainder of p, which has d + n coefficients, modulo x^d plus the sum of x^t over the numbers t in `taps`. The highest
--- coefficient, that of x^m, is removed; if it is one, the coefficient of x^(n + t) is flipped for each t, since x^m is x^n times
--- x^d, and x^d has the same remainder as the sum of the x^t. So n times, and d coefficients are left (FIPS 197 section 4.2,
--- SP 800-38D section 6.3).
+-- The remainder of p modulo x^d plus the sum of x^t over the numbers t in `taps`: for bytes d is 8 and the taps are 0, 1, 3, 4,
+-- for blocks 128 and 0, 1, 2, 7 (FIPS 197 section 4.2, SP 800-38D section 6.3). p has d coefficients and n more, which are
+-- removed, the highest first. In the last clause that is the coefficient of x^m: if it is one, the coefficient of x^(n + t) is
+-- flipped for each tap t, since x^m is x^n times x^d, and x^d has the same remainder as the sum of the x^t.
 unfoldable pub remainder : List ℕ → ℕ → ℕ → List Bool → List Bool
 remainder taps d zero p = p
 remainder taps d (suc n) p =
     let m = d + n in
     remainder taps d n (each_below m (λ j. coefficient p j xor (coefficient p m && list_any (λ t. n + t == j) taps)))
 
--- the product of two polynomials modulo x^d plus the sum of x^t over the numbers t in `taps` (FIPS 197 section 4.2,
--- SP 800-38D section 6.3)
+-- the product of two polynomials modulo x^d plus the sum of x^t over the taps t (FIPS 197 section 4.2, SP 800-38D
+-- section 6.3)
 unfoldable pub field_product : List ℕ → ℕ → List Bool → List Bool → List Bool
 field_product taps d a b = let p = polynomial_product a b in remainder taps d (length p - d) p
