@@ -81,7 +81,7 @@ module _ {S O : Type 0} (s_spent : S → List (List ℕ)) (s_closed : S → Bool
   fresh_job : (operation : Operation) (was now : BoundState S × BoundState O) (old new : Job)
       → Performs s_spent s_closed s_origin o_spent o_closed o_origin operation was now old new
       → GrewFresh (s_spent was.0.sequence) (s_spent now.0.sequence)
-  fresh_job Seal was now old new p = fresh_step s_spent s_closed _ _ was.0 now.0 _ _ _ _ p.1.step
+  fresh_job Seal was now old new p = fresh_step s_spent s_closed _ _ was.0 now.0 _ _ _ _ p.2.1
   fresh_job (Open start) was now old new p = fresh_none _ _ (ap (λ (k : BoundState S). s_spent k.sequence) p.0)
 
   pub fresh_run : (first last : BoundState S × BoundState O) (olds news : List Job)

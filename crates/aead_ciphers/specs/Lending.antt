@@ -7,8 +7,8 @@ abbrev pub count_of : {E : Type 0} → Result ℕ E → ℕ
 count_of (Ok n) = n
 count_of (Err e) = 0
 
--- When the loan ends, the buffer s holds the final bytes of the result, then its own bytes from n on. After an error it
--- is unchanged.
+-- When the loan ends, the buffer s holds what the lent bytes, those of the result r, are then, and after them its own bytes
+-- from n on. After an error it is unchanged.
 abbrev pub LendsFront : {E : Type 0} → MutBor (List ℕ) → Result (MutBor (List ℕ)) E → ℕ → Fml
 LendsFront s r n = LendsIfOk (Array u8 0) (Array u8 0) s r (λ w. w ++ drop n s.now) s.now
 
