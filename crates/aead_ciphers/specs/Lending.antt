@@ -1,5 +1,5 @@
--- What a call that opens a buffer lends: the plaintext, at the front of the buffer or after a header.
-use Rattle.std.specs.Prelude.{◌≡◌, ℕ, ◌+◌, ◌≤◌, List, ◌++◌, length, take, drop, Result, Ok, Err}
+-- What a call that opens a buffer lends: the plaintext, at the front of the buffer.
+use Rattle.std.specs.Prelude.{◌≡◌, ℕ, ◌≤◌, List, ◌++◌, length, drop, Result, Ok, Err}
 use Rattle.std.specs.Borrow.{LendsIfOk, MutBor, Fml, Array, u8}
 
 -- the number in a result, or 0 if the result is an error
@@ -17,17 +17,7 @@ abbrev pub lent_buffer : {E : Type 0} → Result (MutBor (List ℕ)) E → List 
 lent_buffer (Ok front) old = front.now ++ drop (length front.now) old
 lent_buffer (Err e) old = old
 
--- the same if h bytes come before the result, which are unchanged
-abbrev pub LendsAfter : {E : Type 0} → ℕ → MutBor (List ℕ) → Result (MutBor (List ℕ)) E → ℕ → Fml
-LendsAfter h s r n = LendsIfOk (Array u8 0) (Array u8 0) s r (λ w. take h s.now ++ (w ++ drop n (drop h s.now))) s.now
-
--- the buffer at the return, if h bytes come before the result
-abbrev pub lent_after : {E : Type 0} → ℕ → Result (MutBor (List ℕ)) E → List ℕ → List ℕ
-lent_after h r old = take h old ++ lent_buffer r (drop h old)
-
--- The result is the length of a plaintext that comes after h bytes, and all other bytes are unchanged. After an error
--- all are.
-abbrev pub Stands : {E : Type 0} → ℕ → ℕ → List ℕ → List ℕ → Result ℕ E → Type 0
-Stands h m old new (Ok n) =
-    (n ≡ m) × (h + n ≤ length new) × (take h new ≡ take h old) × (drop n (drop h new) ≡ drop m (drop h old))
-Stands h m old new (Err e) = new ≡ old
+-- The result is the length of a plaintext at the front, and the bytes after it are unchanged. After an error all are.
+abbrev pub Stands : {E : Type 0} → ℕ → List ℕ → List ℕ → Result ℕ E → Type 0
+Stands m old new (Ok n) = (n ≡ m) × (n ≤ length new) × (drop n new ≡ drop m old)
+Stands m old new (Err e) = new ≡ old

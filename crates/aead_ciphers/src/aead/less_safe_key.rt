@@ -207,7 +207,7 @@ impl LessSafeKey {
             ≡ gcm_decrypted (aes self.now.bytes) nonce (drop ciphertext.start in_out.old)) }
     {
         let opened = self.open_in_place_separate_tag_to_front(nonce, aad, tag, in_out, ciphertext);
-        lend_plaintext(in_out, 0, opened)
+        lend_plaintext(in_out, opened)
     }
 
     /// Like `open_in_place_separate_tag`, but returns the length of the plaintext in bytes. The plaintext is at the
@@ -256,7 +256,7 @@ impl LessSafeKey {
             (drop ciphertext_and_tag.start (take (length in_out.old - 16) in_out.old))) }
     {
         let opened = self.open_within_to_front(nonce, aad, in_out, ciphertext_and_tag);
-        lend_plaintext(in_out, 0, opened)
+        lend_plaintext(in_out, opened)
     }
 
     /// Like `open_within`, but returns the length of the plaintext in bytes. The plaintext is at the front of `in_out`.
@@ -291,7 +291,7 @@ impl LessSafeKey {
             ≡ gcm_decrypted (aes self.now.bytes) nonce (take (length in_out.old - 16) in_out.old)) }
     {
         let opened = self.open_in_place_to_front(nonce, aad, in_out);
-        lend_plaintext(in_out, 0, opened)
+        lend_plaintext(in_out, opened)
     }
 
     /// Like `open_in_place`, but returns the length of the plaintext in bytes. The plaintext is at the front of

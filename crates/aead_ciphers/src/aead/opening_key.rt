@@ -163,7 +163,7 @@ impl<N: NonceSequence> OpeningKey<N> {
             (N.refuses self.old.sequence self.new.sequence ⊎ N.gives self.old.sequence self.new.sequence) }
     {
         let opened = self.open_within_to_front(aad, in_out, ciphertext_and_tag);
-        lend_plaintext(in_out, 0, opened)
+        lend_plaintext(in_out, opened)
     }
 
     /// Opens the whole of `in_out` under the next nonce, like `open_within` with the range `0..`.
@@ -187,6 +187,6 @@ impl<N: NonceSequence> OpeningKey<N> {
             (N.refuses self.old.sequence self.new.sequence ⊎ N.gives self.old.sequence self.new.sequence) }
     {
         let opened = self.open_in_place_to_front(aad, in_out);
-        lend_plaintext(in_out, 0, opened)
+        lend_plaintext(in_out, opened)
     }
 }
