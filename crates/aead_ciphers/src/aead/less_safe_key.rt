@@ -136,14 +136,14 @@ impl LessSafeKey {
         aad: Aad<'_>,
         in_out: &mut B,
     ) -> Result<(), Unspecified>
-        ensures granted { IsOk result → B.may_grant in_out.old }
-        ensures fits { IsOk result → Fits (length (aad_bytes aad.entry)) (length (B.bytes in_out.old)) }
         ensures sealed { OnOk result (B.bytes in_out.new
             ≡ gcm_sealed (aes self.now.bytes) nonce (aad_bytes aad.entry) (B.bytes in_out.old)) }
+        ensures refused { OnErr result (B.bytes in_out.new ≡ B.bytes in_out.old) }
         ensures length { OnOk result (length (B.bytes in_out.new) ≡ length (B.bytes in_out.old) + 16) }
-        ensures refused { OnErr result (Fits (length (aad_bytes aad.entry)) (length (B.bytes in_out.old))
+        ensures granted { IsOk result → B.may_grant in_out.old }
+        ensures fits { IsOk result → Fits (length (aad_bytes aad.entry)) (length (B.bytes in_out.old)) }
+        ensures refuses { OnErr result (Fits (length (aad_bytes aad.entry)) (length (B.bytes in_out.old))
             → B.may_refuse in_out.old) }
-        ensures kept { OnErr result (B.bytes in_out.new ≡ B.bytes in_out.old) }
     {
         in_out.grow_by_tag()?;
         self.seal_with_room(nonce, aad, in_out)

@@ -101,14 +101,14 @@ impl<N: NonceSequence> SealingKey<N> {
         aad: Aad<'_>,
         in_out: &mut B,
     ) -> Result<(), Unspecified>
+        ensures sealed { OnOk result (UnderNext (N.is_next self.old.sequence) (λ nonce. B.bytes in_out.new
+            ≡ gcm_sealed (aes self.old.key.bytes) nonce (aad_bytes aad.entry) (B.bytes in_out.old))) }
+        ensures refused { OnErr result (B.bytes in_out.new ≡ B.bytes in_out.old) }
         ensures kept { Keeps N.origin self.old self.new }
         ensures step { SealStep N.spent N.is_closed (B.may_refuse in_out.old) (B.may_grant in_out.old)
             self.old self.new (aad_bytes aad.entry) (B.bytes in_out.old) (B.bytes in_out.new)
             (is_ok result) }
-        ensures sealed { OnOk result (UnderNext (N.is_next self.old.sequence) (λ nonce. B.bytes in_out.new
-            ≡ gcm_sealed (aes self.old.key.bytes) nonce (aad_bytes aad.entry) (B.bytes in_out.old))) }
         ensures length { OnOk result (length (B.bytes in_out.new) ≡ length (B.bytes in_out.old) + 16) }
-        ensures refused { OnErr result (B.bytes in_out.new ≡ B.bytes in_out.old) }
         ensures granted { IsOk result → B.may_grant in_out.old }
         ensures fits { IsOk result → Fits (length (aad_bytes aad.entry)) (length (B.bytes in_out.old)) }
         ensures gives { OnOk result (N.gives self.old.sequence self.new.sequence) }
