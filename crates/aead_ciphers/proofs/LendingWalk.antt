@@ -6,8 +6,8 @@
 --     relends, regains      the buffer is lent to the core for a new lifetime, and is back as `lend_plaintext` wants it
 --     lends                 `lend_plaintext` gave the plaintext
 --     says_next             what an opening key's call says beside what it lends
-use Rattle.aead_ciphers_base.proofs.WalkNames.{Result, IfOk, Ura, named, w64, Val, vint, sep, id⊢, Lft, GName, Share, flft, Logic, Item, ‵, ◌⊛◌, raw, some, later, drop, split, fsplit, use1, use2, use3, await, pick, Step, Seq, Goal, fact, usize, yes, Is, shows, MutBor, MutSlice, Room, slice_val, mut_slice_Lawful, peeks}
-use Rattle.std.specs.Prelude.{◌≡◌, ◌≤◌, ◌<◌, ◌^◌, ℕ, zero, suc, List, take, drop as drop_list, Bool, true, is_ok, OnOk, OnErr}
+use Rattle.aead_ciphers_base.proofs.WalkNames.{Result, IfOk, Ura, named, Val, sep, id⊢, Lft, GName, Share, flft, Logic, Item, ‵, ◌⊛◌, raw, some, later, drop, split, fsplit, use1, use2, use3, await, pick, Step, Seq, Goal, fact, yes, Is, shows, MutBor, MutSlice, Room, slice_val, mut_slice_Lawful, peeks}
+use Rattle.std.specs.Prelude.{◌≡◌, ℕ, zero, suc, List, take, Bool, is_ok, OnOk, OnErr}
 use mir.Syntax.{Body, Callee, Opd, Place, seq, call}
 use mir.Val.{WT}
 use types.Tokens.{lft_new, lft_end}
@@ -21,21 +21,19 @@ use denote.Builtin.{u8}
 use denote.Exit.{left}
 use denote.Laws.{Typed}
 use denote.Signature.{Slot}
-use denote.Plain.{uint_Makes}
-use denote.Steps.{owned}
 use denote.Triple.Call.{calls_at}
 use denote.Triple.Spec.{triple_of}
 use denote.Triple.Statement.{Contract, Triple}
 use borrow.Rule.Slice.Lend.{sl_relend, sl_relent_backˡ, kept_f}
 use Rattle.aead_ciphers.specs
-use specs.Lending.{LendsAfter, Stands, lent_after}
+use specs.Lending.{LendsFront, Stands, lent_buffer}
 use Rattle.aead_ciphers.proofs
 use proofs.Lending.{Answer, answer_Lawful, Out, out_Lawful, Own, as_own, as_slice}
 use Rattle.aead_ciphers_base.proofs.Walks.{answers, readies, takes}
 use proofs.NextNonce.{lent_next, on_ok, on_err}
 use specs.BoundState.{BoundState}
 use specs.NonceSequence.{UnderNext}
-use proofs.LentPlaintext.{LentAfter, after_header}
+use proofs.LentPlaintext.{Lent}
 use specs.Steps.{OpenStep}
 pub use mathlib.Core.Path.{refl}
 pub use Prim.Native.Nat.{◌-◌}
@@ -57,8 +55,7 @@ pub use proofs.Lending.{nonce_word, aad_word, tag_word, range_word}
 pub use Rattle.aead_ciphers_base.proofs.WalkLocals.{gets, alone, reborrows}
 pub use Rattle.aead_ciphers_base.proofs.Walks.{at_words, Words, words_vals, words_typed, slice_typed, table_of, dropped, goes}
 pub use Rattle.aead_ciphers_base.proofs.Walks.{walked, consults, learns, tell, tells, says, ends}
-pub use proofs.LentPlaintext.{as_lent, lent_plain, opened_fronts, step_fronts, step_range}
-pub use proofs.LentPlaintext.{after_header, stands_after, same_length, length-before_tag}
+pub use proofs.LentPlaintext.{as_lent, lent_plain, opened_fronts, step_fronts, length-before_tag}
 pub use Rattle.aead_ciphers_base.specs.Values.{aad_bytes}
 pub use specs.Gcm.{Opened, OpenedAttached}
 pub use Rattle.std.proofs.Common.{arith, lit<, length-drop}
@@ -104,26 +101,24 @@ module _ {M : Type 1} {𝓤 : Ura M} (𝓛 : Logic 𝓤) where
   -- what an opening key's call says beside what it lends, from what its core said
   pub says_next : {K : Type 0} {Γ : List (Item 𝓤)} {G : Goal 𝓤 𝓛.H} → K → (A B : Type 0) (plain : List ℕ → List ℕ)
       (Opens : List ℕ → Bool → List ℕ → Type 0) {φ R N E : Type 0} {spent : N → List (List ℕ)} {is_closed : N → Bool}
-      {was after : BoundState N} {aad : List ℕ} {start h m : ℕ} {old new : List ℕ} {u : Result ℕ E}
-      {r : Result (MutBor (List ℕ)) E} {next : List ℕ → Type 0} → LentAfter h m old new u r
-      → (is_ok u ≡ true → h ≤ length old) → φ
-      → OpenStep spent is_closed was after aad start (drop_list h old) (drop_list h new) (is_ok u)
+      {was after : BoundState N} {aad : List ℕ} {start m : ℕ} {old new : List ℕ} {u : Result ℕ E}
+      {r : Result (MutBor (List ℕ)) E} {next : List ℕ → Type 0} → Lent m old new u r → φ
+      → OpenStep spent is_closed was after aad start old new (is_ok u)
       → (¬ R → UnderNext next (λ nonce. Opens nonce (is_ok u) new))
-      → OnOk u (UnderNext next (λ nonce. take m (drop_list h new) ≡ plain nonce))
-      → OnOk u A → OnErr u B → (let buffer = lent_after h r old in Step K 𝓛 (raw (sep 𝓤 (fact 𝓤 φ)
-      (sep 𝓤 (fact 𝓤 (OpenStep spent is_closed was after aad start (drop_list h old) (drop_list h buffer) (is_ok r)))
+      → OnOk u (UnderNext next (λ nonce. take m new ≡ plain nonce))
+      → OnOk u A → OnErr u B → (let buffer = lent_buffer r old in Step K 𝓛 (raw (sep 𝓤 (fact 𝓤 φ)
+      (sep 𝓤 (fact 𝓤 (OpenStep spent is_closed was after aad start old buffer (is_ok r)))
       (sep 𝓤 (fact 𝓤 (IfOk r (λ lent. length lent.now ≡ m)))
       (sep 𝓤 (fact 𝓤 (¬ R → UnderNext next (λ nonce. Opens nonce (is_ok r) buffer)))
       (sep 𝓤 (fact 𝓤 (IfOk r (λ lent. UnderNext next (λ nonce. lent.now ≡ plain nonce))))
       (sep 𝓤 (fact 𝓤 (OnOk r A)) (fact 𝓤 (OnErr r B)))))))) ∷ Γ) G Γ G)
-  says_next t A B plain Opens {R = R} {spent = spent} {is_closed} {was} {after} {aad} {start} {h} {old = old} {u = u}
-      {r} {next} end fits stays step-done opened plaintext gives stands = step (λ k.
+  says_next t A B plain Opens {R = R} {spent = spent} {is_closed} {was} {after} {aad} {start} {old = old} {u = u}
+      {r} {next} end stays step-done opened plaintext gives stands = step (λ k.
       tell t (on_err B u r end.accepts stands) $ tells t (on_ok A u r end.accepts gives) $
-      tells t (lent_next next plain u r (after_header u r fits end) plaintext) $
+      tells t (lent_next next plain u r end plaintext) $
       tells t (as_lent (λ accepts buffer. ¬ R → UnderNext next (λ nonce. Opens nonce accepts buffer)) end opened) $
       tells t end.count $
-      tells t (as_lent (λ accepts buffer. OpenStep spent is_closed was after aad start (drop_list h old)
-      (drop_list h buffer) accepts) end step-done) $
+      tells t (as_lent (λ accepts buffer. OpenStep spent is_closed was after aad start old buffer accepts) end step-done) $
       tells t stays $ k)
 
   -- ---- the buffer
@@ -155,15 +150,15 @@ module _ {M : Type 1} {𝓤 : Ura M} (𝓛 : Logic 𝓤) where
       abbrev pub Lend : Contract 𝓤
       Lend = triple_of 𝓛 L.signature (L.spec 𝓛 𝓜.mem 𝓡.returns)
 
-      module _ (h m : ℕ) (v : Val) (u : Answer.Denot) (ys : List ℕ) where
+      module _ (m : ℕ) (v : Val) (u : Answer.Denot) (ys : List ℕ) where
         abbrev pub lend : Lend.Ghost
-        lend = (((B.lft, tt), (B.share, tt), tt, (record B.arg { now = ys }, (h, (u, tt))), (word B, (vint w64 h ∷ [], (v ∷ [], tt)))), (B.arg.now, m))
+        lend = (((B.lft, tt), (B.share, tt), tt, (record B.arg { now = ys }, (u, tt)), (word B, (v ∷ [], tt))), (B.arg.now, m))
 
-        pub regains : {K : Type 0} {Γ : List (Item 𝓤)} {G : Goal 𝓤 𝓛.H} → K → Soaks G → (α : ℕ) (δ : GName) → h < 2 ^ 64
-            → Stands h m B.arg.now ys u → (Typed Answer.mir (v ∷ []) → Seq K 𝓛 (raw (Lend.pre lend) ∷ Γ) G)
+        pub regains : {K : Type 0} {Γ : List (Item 𝓤)} {G : Goal 𝓤 𝓛.H} → K → Soaks G → (α : ℕ) (δ : GName)
+            → Stands m B.arg.now ys u → (Typed Answer.mir (v ∷ []) → Seq K 𝓛 (raw (Lend.pre lend) ∷ Γ) G)
             → Seq K 𝓛 (‵ (flft (α ∷ []) full_share) ∷ ‵ (Answer.own_val u (v ∷ []))
             ∷ ‵ (left ((MutSlice (named B.name) (α ∷ []) u8).exit yes) (renamed B δ) ys) ∷ kept α δ ∷ Γ) G
-        regains t soaks α δ fits stands k =
+        regains t soaks α δ stands k =
             let κ = B.lft in let q = B.share in let b = B.arg.ref_ptr.0 in let o = B.arg.ref_ptr.1 in
             let γ = B.arg.ghost_name in
             let xs = B.arg.now in
@@ -174,9 +169,7 @@ module _ {M : Type 1} {𝓤 : Ura M} (𝓛 : Logic 𝓤) where
             (sl_relent_backˡ 𝓛 u8 κ q (α ∷ []) b o γ δ xs ys) $ await t soaks $ learn t (λ same. split t $
             use1 𝓛 (‵ ((MutSlice (named 0) κ u8).own_val (record B.arg { now = ys }) (word B)))
             (as_slice 𝓛 (named 0) κ b o γ ys (length xs) same B.room) $
-            move t (2 ∷ 3 ∷ []) $ drop t $ drop t $ owned t usize (Is usize) (uint_Makes 𝓛 w64) h (vint w64 h ∷ [])
-            (refl, fits) $
-            tell t stands $ move t (3 ∷ 2 ∷ 1 ∷ 4 ∷ 0 ∷ []) $ readies 𝓛 t L.signature (L.spec 𝓛 𝓜.mem 𝓡.returns) lend $
+            move t (2 ∷ 3 ∷ []) $ drop t $ drop t $ tell t stands $ move t (2 ∷ 1 ∷ 3 ∷ 0 ∷ []) $ readies 𝓛 t L.signature (L.spec 𝓛 𝓜.mem 𝓡.returns) lend $
             k ((answer_Lawful 𝓛).typed u (v ∷ []) is-u)))
 
         -- `lend_plaintext` is called, and gives the plaintext
@@ -184,16 +177,16 @@ module _ {M : Type 1} {𝓤 : Ura M} (𝓛 : Logic 𝓤) where
             {f : Callee} {xs : List Opd} {d : Place} {rest : Body} → K → Triple 𝓤 (calls_of 𝓜 𝓡 f) Lend
             → Opds K 𝓛 (raw (Lend.pre lend) ∷ Γ) E xs (Lend.args lend)
             → (let X = Out (MutSlice (named B.name) B.lft u8) in
-            (w : Val) (r : X.Denot) → Typed X.mir (w ∷ []) → LentAfter h m B.arg.now ys u r
-            → Seq K 𝓛 (‵ (flft B.lft B.share) ∷ ‵ (X.own_val r (w ∷ [])) ∷ ‵ (LendsAfter h B.arg r m) ∷ Γ)
+            (w : Val) (r : X.Denot) → Typed X.mir (w ∷ []) → Lent m B.arg.now ys u r
+            → Seq K 𝓛 (‵ (flft B.lft B.share) ∷ ‵ (X.own_val r (w ∷ [])) ∷ ‵ (LendsFront B.arg r m) ∷ Γ)
             (lands (calls_of 𝓜 𝓡) Λ E d w rest q'))
             → Seq K 𝓛 (raw (Lend.pre lend) ∷ Γ) (runs (calls_of 𝓜 𝓡) Λ E (seq (call f xs d) rest) q')
         lends t met operands k =
             let S = MutSlice (named B.name) B.lft u8 in let X = Out S in
             calls_at t (table_of 𝓛 𝓜 𝓡) Lend met lend operands (λ w. answers 𝓛 L.ended
             (L.clauses 𝓛 𝓜.mem 𝓡.returns) lend w t tt (λ r ws.
-            -- [what it says; the plaintext; the token; nothing of the buffer, the start and the answer]
-            move t (3 ∷ 4 ∷ 5 ∷ []) $ drop t $ drop t $ drop t $ takes t (LendsAfter h B.arg r m) $
+            -- [what it says; the plaintext; the token; nothing of the buffer and the answer]
+            move t (3 ∷ 4 ∷ []) $ drop t $ drop t $ takes t (LendsFront B.arg r m) $
             move t (1 ∷ []) $ learns t (λ same. learns t (λ buffer. heard t _ (λ size. move t (1 ∷ []) $
             use1 𝓛 (‵ (X.own_val r (w ∷ []))) (id⊢ 𝓤 _) $ peeks t X (Is X) (shows 𝓛 X) r (w ∷ []) (λ is-r. move t
             (2 ∷ 0 ∷ 1 ∷ []) $

@@ -1,68 +1,26 @@
--- What a call that opens returns, and what is then lent: the plaintext, at the front of the buffer or after a header.
-use Rattle.std.proofs.Common.{◌≡◌, refl, ◌∙◌, sym, ap, subst, arith, ℕ, List, Bool, true, false, ◌+◌, ◌-◌, ◌≤◌, ◌++◌, length, drop, take, length-append, length-drop, Result, Ok, Err, is_ok, IfOk, OnErr, if◌then◌else◌, append_assoc, take-append-drop, take_at, drop_at, length-take, length-take-le}
+-- What a call that opens returns, and what is then lent: the plaintext, at the front of the buffer.
+use Rattle.std.proofs.Common.{◌≡◌, ◌∙◌, sym, ap, subst, arith, ℕ, List, Bool, true, false, ◌-◌, ◌≤◌, ◌++◌, length, drop, take, length-append, length-drop, Result, Ok, Err, is_ok, IfOk, if◌then◌else◌, append_assoc, take-append-drop, take_at, drop_at, length-take-le}
 use Rattle.std.specs.Borrow.{MutBor}
 use Rattle.std.proofs.lemmas.List.{drop-append-le}
 use Rattle.aead_ciphers_base.proofs.CounterModeLemmas.{length-counter_mode}
 use Rattle.aead_ciphers.specs
 use specs.BoundState.{BoundState}
 use specs.Gcm.{gcm_decrypted, Opened, OpenedAttached, Opens}
-use specs.Lending.{lent_after, Stands}
+use specs.Lending.{lent_buffer, Stands}
 use specs.Steps.{OpenStep, no_nonce, opened}
 
--- the result lends what stands after h bytes of the buffer new, of which the answer says the length, and all other
--- bytes are those of old
-pub record LentAfter {E : Type 0} (h m : ℕ) (old new : List ℕ) (answer : Result ℕ E) (result : Result (MutBor
-    (List ℕ)) E) : Type 0 where
+-- the result lends the front of the buffer new, of which the answer says the length, and all other bytes are those of old
+pub record Lent {E : Type 0} (m : ℕ) (old new : List ℕ) (answer : Result ℕ E) (result : Result (MutBor (List ℕ)) E) : Type 0 where
   pub accepts : is_ok answer ≡ is_ok result
-  pub buffer : new ≡ lent_after h result old
+  pub buffer : new ≡ lent_buffer result old
   pub count : IfOk result (λ part. length part.now ≡ m)
 
--- the same at the front
-abbrev pub Lent : {E : Type 0} → ℕ → List ℕ → List ℕ → Result ℕ E → Result (MutBor (List ℕ)) E → Type 0
-Lent = LentAfter 0
-
 -- what was said of the answer and the buffer, of the result and what it lends
-pub as_lent : {E : Type 0} {h m : ℕ} {old new : List ℕ} (P : Bool → List ℕ → Type 0) {answer : Result ℕ E}
-    {result : Result (MutBor (List ℕ)) E} → LentAfter h m old new answer result → P (is_ok answer) new
-    → P (is_ok result) (lent_after h result old)
+pub as_lent : {E : Type 0} {m : ℕ} {old new : List ℕ} (P : Bool → List ℕ → Type 0) {answer : Result ℕ E}
+    {result : Result (MutBor (List ℕ)) E} → Lent m old new answer result → P (is_ok answer) new
+    → P (is_ok result) (lent_buffer result old)
 as_lent {new = new} P {result = result} end said =
     subst (P (is_ok result)) end.buffer (subst (λ b. P b new) end.accepts said)
-
--- what stands after h bytes is lent at its front
-pub after_header : {E : Type 0} {h m : ℕ} {old new : List ℕ} (answer : Result ℕ E) (result : Result (MutBor (List ℕ)) E)
-    → (is_ok answer ≡ true → h ≤ length old) → LentAfter h m old new answer result
-    → Lent m (drop h old) (drop h new) answer result
-after_header {h = h} {old = old} (Ok n) (Ok part) fits end = record {
-  accepts = refl;
-  buffer = ap (drop h) end.buffer ∙ drop_at (take h old) _ h (length-take-le h old (fits refl));
-  count = end.count;
-}
-after_header {h = h} {old = old} answer (Err f) fits end = record {
-  accepts = end.accepts;
-  buffer = ap (drop h) (end.buffer ∙ take-append-drop h old);
-  count = tt;
-}
-after_header (Err e) (Ok part) fits end = let no = end.accepts in absurd (cc)
-
--- the buffer is known where its first h bytes and what stands after them are
-pub stands_after : {E : Type 0} (h m : ℕ) (old new : List ℕ) (answer : Result ℕ E)
-    → Stands 0 m (drop h old) (drop h new) answer
-    → take h new ≡ take h old → (is_ok answer ≡ true → h ≤ length old) → OnErr answer (new ≡ old)
-    → Stands h m old new answer
-stands_after h m old new (Ok n) (same, fits, _, rest) header long refused =
-    let size = ap length header ∙ length-take-le h old (long refl) in
-    (same, omega (arith, fits, length-drop h new, length-take h new, size), header, rest)
-stands_after h m old new (Err e) _ header long refused = refused
-
--- what stands keeps the buffer's length
-pub same_length : {E : Type 0} (h m : ℕ) (old new : List ℕ) (answer : Result ℕ E) → (is_ok answer ≡ true
-    → h + m ≤ length old)
-    → Stands h m old new answer → length new ≡ length old
-same_length h m old new (Ok n) long (same, fits, _, rest) =
-    let both = ap length rest in let room = long refl in let of-new = length-drop n (drop h new) in
-    let of-old = length-drop m (drop h old) in
-    omega (arith, same, fits, both, room, of-new, of-old, length-drop h new, length-drop h old)
-same_length h m old new (Err e) long stays = ap length stays
 
 -- what is lent is what the buffer begins with
 pub front_of : {E : Type 0} {m : ℕ} {old new : List ℕ} {answer : Result ℕ E} (front : MutBor (List ℕ))
@@ -81,13 +39,12 @@ module _ {cipher : List ℕ → List ℕ} {nonce aad received ciphertext : List 
 
   pub opened_fronts : {E : Type 0} {m : ℕ} → length ciphertext ≡ m → (answer : Result ℕ E)
       → Opens cipher nonce aad received ciphertext in_range old (is_ok answer) new → IfOk answer (λ n. n ≡ m)
-      → Stands 0 m old new answer
+      → Stands m old new answer
   opened_fronts {m = m} size (Ok n) opens count =
       let plain = gcm_decrypted cipher nonce ciphertext in
       let long = length-counter_mode cipher nonce 2 ciphertext ∙ size in (
         count,
         omega (arith, count, long, ap length opens.buffer, length-append plain (drop (length ciphertext) old)),
-        refl,
         ap (λ k. drop k new) count ∙ ap (drop m) opens.buffer ∙ drop_at plain (drop (length ciphertext) old) m long
             ∙ ap (λ k. drop k old) size,
       )
@@ -155,17 +112,8 @@ pub step_fronts : {N : Type 0} (spent : N → List (List ℕ)) (is_closed : N
     → Bool) (was now : BoundState N) (aad : List ℕ) (start : ℕ) (old new : List ℕ)
     {E : Type 0} (m : ℕ) → m ≡ length old - 16 - start → (answer : Result ℕ E)
     → OpenStep spent is_closed was now aad start old new (is_ok answer) → IfOk answer (λ n. n ≡ m)
-    → Stands 0 m old new answer
+    → Stands m old new answer
 step_fronts _ _ _ _ _ start old new {E = E} m is (Ok n) (opened nonce accepts spends it) count =
     opened_fronts {E = E} (length-before_tag start old m is) (Ok n) it count
 step_fronts _ _ _ _ _ start old new m is (Err e) (opened nonce accepts spends it) count = it.buffer
 step_fronts _ _ _ _ _ start old new m is (Err e) (no_nonce closes same) count = same
-
--- a step that accepts has room for the tag
-pub step_range : {N E : Type 0} (spent : N → List (List ℕ)) (is_closed : N
-    → Bool) {was now : BoundState N} {aad : List ℕ} {start : ℕ}
-    {old new : List ℕ} (answer : Result ℕ E) → OpenStep spent is_closed was now aad start old new (is_ok answer)
-    → is_ok answer ≡ true
-    → start + 16 ≤ length old
-step_range _ _ (Ok n) (opened nonce accepts spends it) is = (it.accepted.0 is).0
-step_range _ _ (Err e) step is = let no : false ≡ true = is in absurd (cc)

@@ -17,7 +17,6 @@ pub mod LentPlaintext
 pub mod LinearMaps
 pub mod MessageLaws
 pub mod NextNonce
-pub mod PacketLemmas
 pub mod PaddedBlocks
 pub mod ProductLoop
 pub mod RoundTripLemmas

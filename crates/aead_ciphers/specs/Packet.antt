@@ -1,5 +1,5 @@
 -- A packet that is sealed or opened in place: a header, then the plaintext or ciphertext, then 16 bytes for the tag.
-use Rattle.std.specs.Prelude.{◌≡◌, ℕ, Bool, ◌+◌, ◌-◌, ◌≤◌, List, ◌++◌, length, take, drop, Result, Ok, Err}
+use Rattle.std.specs.Prelude.{◌≡◌, ℕ, Bool, ◌+◌, ◌-◌, ◌≤◌, List, ◌++◌, length, take, drop}
 use Rattle.aead_ciphers_base.specs.Aes.{aes}
 use Rattle.aead_ciphers.specs.Gcm.{Fits, gcm_sealed, OpenedAttached}
 
@@ -15,11 +15,6 @@ packet_message h packet = take (length packet - 16 - h) (drop h packet)
 -- the sealed packet: its header, which is the AAD, then the ciphertext and the tag (SP 800-38D section 7.1)
 abbrev pub sealed_packet : (key nonce : List ℕ) → ℕ → List ℕ → List ℕ
 sealed_packet key nonce h packet = take h packet ++ gcm_sealed (aes key) nonce (take h packet) (packet_message h packet)
-
--- the bytes after the header: the ciphertext and the tag, or, after an error, the plaintext without the room for the tag
-abbrev pub packet_body : {X E : Type 0} → ℕ → List ℕ → Result X E → List ℕ
-packet_body h packet (Ok x) = drop h packet
-packet_body h packet (Err e) = packet_message h packet
 
 -- Whether opening a packet accepts, and what the packet then holds. The header, which is the AAD, is unchanged, and the
 -- bytes after it are opened with the tag attached.

@@ -1,6 +1,6 @@
 //! Tests of `aead`: keys to which the caller passes a nonce.
 
-use crate::cases::{aad, key, nonce, opened_at_4, packet, sealed};
+use crate::cases::{aad, key, nonce, opened_at_4, sealed};
 use crate::checks::{holds, prints, same};
 use aead_ciphers::aead::{AES_128_GCM, AES_256_GCM, Aad, Algorithm, LessSafeKey, UnboundKey};
 use aead_ciphers::laws;
@@ -112,32 +112,5 @@ fn round_trip_of_one(rt: HostRuntime) -> Result<(), Fail> {
     let aad = [1].to_vec(rt.alloc())?;
     let message = [2, 3].to_vec(rt.alloc())?;
     laws::round_trip(&[0; 16], &[[0; 12]], &[aad], &[message]);
-    Ok(())
-}
-
-/// Asserts that a packet is sealed and opened.
-fn seals_packet(
-    rt: &impl Abort,
-    key: &LessSafeKey,
-    case: &Case,
-    in_out: &mut [u8],
-    sealed: &[u8],
-) -> Result<(), Fail> {
-    let header_len = case.aad.len();
-    key.seal_packet_in_place(nonce(case), in_out, header_len)?;
-    same(rt, in_out, sealed, "header, ciphertext and tag");
-    let opened = key.open_packet_in_place_after_header(nonce(case), in_out, header_len);
-    holds(rt, opened == Ok(case.message.len()), "the message's length");
-    Ok(())
-}
-
-#[test]
-fn gcm_spec_case_4_as_a_packet(rt: HostRuntime) -> Result<(), Fail> {
-    let case = Case::parse(rt.alloc(), CASE_4)?;
-    let sealed = sealed(rt.alloc(), &case, &case.aad)?;
-    let mut in_out = packet(&case, [0; 16])?;
-    seals_packet(&rt, &key(&case)?, &case, &mut in_out, &sealed)?;
-    let wanted = packet(&case, case.tag)?;
-    same(&rt, &in_out, &wanted, "header, message and tag");
     Ok(())
 }

@@ -1,6 +1,6 @@
 //! Tests of keys with a counter and with another nonce sequence.
 
-use crate::cases::{aad, key, opened_at_4, packet, sealed, unbound_key};
+use crate::cases::{aad, key, opened_at_4, sealed, unbound_key};
 use crate::checks::{holds, prints, same};
 use aead_ciphers::aead::{
     AES_128_GCM, Aad, BoundKey, CounterSequence, Nonce, NonceSequence, OpeningKey, SealingKey,
@@ -154,22 +154,6 @@ fn gcm_spec_case_4_sealed(rt: HostRuntime) -> Result<(), Fail> {
     Ok(())
 }
 
-/// Sealing fails and uses no nonce if the header reaches into the room for the tag.
-#[test]
-fn gcm_spec_case_4_as_a_packet(rt: HostRuntime) -> Result<(), Fail> {
-    let case = Case::parse(rt.alloc(), CASE_4)?;
-    let mut key = sealing_once(&case)?;
-    let mut packet = packet(&case, [0; 16])?;
-    let refused = key.seal_packet_in_place(&mut packet, 81);
-    holds(&rt, refused.is_err(), "no room");
-    key.seal_packet_in_place(&mut packet, case.aad.len())?;
-    let wanted = sealed(rt.alloc(), &case, &case.aad)?;
-    same(&rt, &packet, &wanted, "header, ciphertext and tag");
-    let refused = key.seal_packet_in_place(&mut packet, 0);
-    holds(&rt, refused.is_err(), "the nonce is spent");
-    Ok(())
-}
-
 /// Asserts that opening a case at offset 4 yields its message.
 fn opens_at_4(
     rt: &impl Abort,
@@ -194,24 +178,5 @@ fn gcm_spec_case_4_opened_once(rt: HostRuntime) -> Result<(), Fail> {
     let opened = key.open_within(aad(&case), &mut packet, 0..);
     holds(&rt, opened.is_err(), "the nonce is spent");
     same(&rt, &packet, &sealed, "the buffer stays");
-    Ok(())
-}
-
-/// Opening fails and uses a nonce if the header is longer than the packet.
-#[test]
-fn gcm_spec_case_4_opened_as_a_packet(rt: HostRuntime) -> Result<(), Fail> {
-    let case = Case::parse(rt.alloc(), CASE_4)?;
-    let mut in_out = sealed(rt.alloc(), &case, &case.aad)?;
-    let mut key = opening_once(&case)?;
-    let opened = key.open_packet_in_place_after_header(&mut in_out, case.aad.len());
-    holds(&rt, opened == Ok(60), "the message's length");
-    let wanted = packet(&case, case.tag)?;
-    same(&rt, &in_out, &wanted, "header, message and tag");
-    let mut key = opening_once(&case)?;
-    let opened = key.open_packet_in_place_after_header(&mut in_out, 97);
-    holds(&rt, opened.is_err(), "too long a header");
-    let mut in_out = sealed(rt.alloc(), &case, &case.aad)?;
-    let opened = key.open_packet_in_place_after_header(&mut in_out, case.aad.len());
-    holds(&rt, opened.is_err(), "the nonce is spent");
     Ok(())
 }

@@ -1,7 +1,7 @@
 //! Arguments of calls, from a test case of the GCM specification.
 
 use aead_ciphers::aead::{
-    AES_128_GCM, AES_256_GCM, Aad, Algorithm, LessSafeKey, MAX_TAG_LEN, Nonce, Tag, UnboundKey,
+    AES_128_GCM, AES_256_GCM, Aad, Algorithm, LessSafeKey, Nonce, Tag, UnboundKey,
 };
 use aead_ciphers_base::aes::{self, KeyBytes};
 use aead_vectors::gcm_spec::Case;
@@ -55,14 +55,6 @@ pub(crate) fn sealed(alloc: Global, case: &Case, front: &[u8]) -> Result<Vec<u8>
     bytes.extend_from_slice(&case.ciphertext)?;
     bytes.extend_from_slice(&case.tag)?;
     Ok(bytes)
-}
-
-/// Returns a packet: the AAD as the header, the message, and the tag or the room for it.
-pub(crate) fn packet(case: &Case, tag: [u8; MAX_TAG_LEN]) -> Result<Vec<u8>, Fail> {
-    let mut packet = case.aad.clone()?;
-    packet.extend_from_slice(&case.message)?;
-    packet.extend_from_slice(&tag)?;
-    Ok(packet)
 }
 
 /// Returns the contents of a buffer of four bytes, the ciphertext and the tag after it is opened at offset 4: the message,

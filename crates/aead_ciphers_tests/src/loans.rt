@@ -1,4 +1,4 @@
-//! Tests of the seven calls that return the plaintext as a mutable slice: the contents of the buffer once the borrow ends.
+//! Tests of the five calls that return the plaintext as a mutable slice: the contents of the buffer once the borrow ends.
 //! The two callers with contracts show what a caller's proof learns from the contracts of the calls.
 
 ghost use Rattle.std.specs.Prelude.{◌≡◌, IsFalse};
@@ -72,21 +72,17 @@ enum Call {
     SeparateTag,
     Within,
     InPlace,
-    Packet,
     NextWithin,
     NextInPlace,
-    NextPacket,
 }
 
-/// Each call, and the offset at which it opens, which for a packet is the length of its header.
-const CALLS: [(Call, usize); 7] = [
+/// Each call, and the offset at which it opens.
+const CALLS: [(Call, usize); 5] = [
     (Call::SeparateTag, 4),
     (Call::Within, 4),
     (Call::InPlace, 0),
-    (Call::Packet, 20),
     (Call::NextWithin, 4),
     (Call::NextInPlace, 0),
-    (Call::NextPacket, 20),
 ];
 
 /// Overwrites the plaintext, if there is one, and returns whether there is.
@@ -111,28 +107,14 @@ fn opens_and_fills(case: &Case, call: Call, in_out: &mut [u8], start: usize) -> 
         }
         Call::Within => fills(key.open_within(nonce, aad, in_out, start..)),
         Call::InPlace => fills(key.open_in_place(nonce, aad, in_out)),
-        Call::Packet => fills(key.open_packet_in_place(nonce, in_out, start)),
         Call::NextWithin => fills(opening.open_within(aad, in_out, start..)),
         Call::NextInPlace => fills(opening.open_in_place(aad, in_out)),
-        Call::NextPacket => fills(opening.open_packet_in_place(in_out, start)),
     })
 }
 
-fn is_packet(call: Call) -> bool {
-    match call {
-        Call::Packet | Call::NextPacket => true,
-        _ => false,
-    }
-}
-
-/// Returns the buffer that a call opens: the bytes before `start` (for a packet, the AAD), the ciphertext, and the tag
-/// unless it is separate.
+/// Returns the buffer that a call opens: the bytes before `start`, the ciphertext, and the tag unless it is separate.
 fn buffer(alloc: Global, case: &Case, call: Call, start: usize) -> Result<Vec<u8>, Fail> {
-    let front: &[u8] = if is_packet(call) {
-        &case.aad
-    } else {
-        &[0xee; 4]
-    };
+    let front = [0xee; 4];
     let mut bytes = sealed(alloc, case, front.get(..start).ok_or("a start")?)?;
     if let Call::SeparateTag = call {
         bytes.truncate(64);
@@ -155,8 +137,7 @@ fn ends_filled(
         opens_and_fills(case, call, &mut in_out, start)?,
         "accepted",
     );
-    let header_len = if is_packet(call) { start } else { 0 };
-    for byte in wanted.iter_mut().skip(header_len).take(60) {
+    for byte in wanted.iter_mut().take(60) {
         *byte = 0x11;
     }
     same(rt, &in_out, &wanted, "the buffer after the loan");

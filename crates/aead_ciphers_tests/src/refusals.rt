@@ -15,30 +15,6 @@ fn flip(bytes: &mut [u8], bit: usize) {
     }
 }
 
-/// Asserts that opening fails and the buffer is unchanged.
-fn is_refused(rt: &impl Abort, key: &LessSafeKey, case: &Case, in_out: &mut [u8], before: &[u8]) {
-    let opened = key.open_packet_in_place_after_header(nonce(case), in_out, case.aad.len());
-    holds(rt, opened.is_err(), "a refusal");
-    same(rt, in_out, before, "the buffer");
-}
-
-/// A packet of 20 bytes of AAD, 60 of ciphertext and 16 of tag.
-#[test]
-fn each_flipped_bit_is_refused(rt: HostRuntime) -> Result<(), Fail> {
-    let case = Case::parse(rt.alloc(), CASE_4)?;
-    let key = key(&case)?;
-    let mut packet = sealed(rt.alloc(), &case, &case.aad)?;
-    let mut before = packet.clone()?;
-    for bit in 0..8 * 96 {
-        flip(&mut packet, bit);
-        flip(&mut before, bit);
-        is_refused(&rt, &key, &case, &mut packet, &before);
-        flip(&mut packet, bit);
-        flip(&mut before, bit);
-    }
-    Ok(())
-}
-
 /// Asserts that opening at `start` with another AAD or another buffer fails and the buffer is unchanged.
 fn is_refused_within(
     rt: &impl Abort,
@@ -160,6 +136,20 @@ fn gcm_spec_case_4_with_a_byte_replaced(rt: HostRuntime) -> Result<(), Fail> {
         let mut bytes = sealed(rt.alloc(), &case, &case.aad)?;
         replace(&rt, &mut bytes, replaced);
         is_refused_in_place(&rt, rt.alloc(), (&key, &case), &bytes)?;
+    }
+    Ok(())
+}
+
+/// 20 bytes of AAD, 60 of ciphertext and 16 of tag.
+#[test]
+fn each_flipped_bit_is_refused(rt: HostRuntime) -> Result<(), Fail> {
+    let case = Case::parse(rt.alloc(), CASE_4)?;
+    let key = key(&case)?;
+    let mut bytes = sealed(rt.alloc(), &case, &case.aad)?;
+    for bit in 0..8 * 96 {
+        flip(&mut bytes, bit);
+        is_refused_in_place(&rt, rt.alloc(), (&key, &case), &bytes)?;
+        flip(&mut bytes, bit);
     }
     Ok(())
 }

@@ -2,27 +2,26 @@
 
 ghost use Rattle.std.specs.Prelude.{◌≡◌, ◌≤◌, ◌++◌, ◌↔◌, ℕ, List, length, drop, take, is_ok, IsOk, IfOk, IsSome, IfSome};
 ghost use Rattle.std.specs.Borrow.{sem, Array, LendsBothIf, LendsIfOk, u8 as byte};
-ghost use Rattle.aead_ciphers.specs.Lending.{count_of, lent_after, Stands};
+ghost use Rattle.aead_ciphers.specs.Lending.{count_of, lent_buffer, Stands};
 
 use aead_ciphers_base::error::Unspecified;
 
-/// Returns the plaintext, which begins at byte `start`, as a mutable slice, or the error of `opened`. `loan` is what
-/// the buffer held before the call that opened it, and the length of the plaintext.
+/// Returns the plaintext, which is at the front of the buffer, as a mutable slice, or the error of `opened`. `loan` is
+/// what the buffer held before the call that opened it, and the length of the plaintext.
 pub(crate) fn lend_plaintext(
     in_out: &mut [u8],
-    start: usize,
     opened: Result<usize, Unspecified>,
 ) -> Result<&mut [u8], Unspecified>
     ghost loan: { List ℕ × ℕ }
-    requires { Stands start loan.1 loan.0 in_out.old opened }
+    requires { Stands loan.1 loan.0 in_out.old opened }
     ensures* writes_back { sem 𝓛 (LendsIfOk (Array byte 0) (Array byte 0) in_out.entry result
-        (λ w. take start loan.0 ++ (w ++ drop loan.1 (drop start loan.0))) loan.0) }
+        (λ w. w ++ drop loan.1 loan.0) loan.0) }
     ensures accepted { is_ok opened ≡ is_ok result }
-    ensures buffer { in_out.old ≡ lent_after start result loan.0 }
+    ensures buffer { in_out.old ≡ lent_buffer result loan.0 }
     ensures length { IfOk result (λ part. length part.now ≡ loan.1) }
 {
     match opened {
-        Ok(count) => Ok(&mut in_out[start..start + count]),
+        Ok(count) => Ok(&mut in_out[..count]),
         Err(error) => Err(error),
     }
 }

@@ -1,12 +1,11 @@
 //! The key whose calls take the nonce as an argument.
 
-ghost use Rattle.std.specs.Prelude.{◌≡◌, ◌+◌, ◌-◌, ◌≤◌, ◌↔◌, length, drop, take, is_ok, IsTrue, IsOk, IfOk, OnOk, OnErr};
+ghost use Rattle.std.specs.Prelude.{◌≡◌, ◌+◌, ◌-◌, ◌≤◌, ◌↔◌, length, drop, take, is_ok, IsOk, IfOk, OnOk, OnErr};
 ghost use Rattle.std.specs.Borrow.{sem};
 ghost use Rattle.aead_ciphers_base.specs.Values.{aad_bytes};
 ghost use Rattle.aead_ciphers_base.specs.Aes.{aes};
 ghost use Rattle.aead_ciphers.specs.Gcm.{Fits, gcm_encrypted, gcm_decrypted, gcm_tag, gcm_sealed, Opened, OpenedAttached};
-ghost use Rattle.aead_ciphers.specs.Lending.{LendsAfter, LendsFront, lent_after, lent_buffer};
-ghost use Rattle.aead_ciphers.specs.Packet.{PacketFits, packet_message, sealed_packet, OpenedPacket};
+ghost use Rattle.aead_ciphers.specs.Lending.{LendsFront, lent_buffer};
 
 use crate::aead::algorithm::Algorithm;
 use crate::aead::in_out::InOut;
@@ -137,47 +136,17 @@ impl LessSafeKey {
         aad: Aad<'_>,
         in_out: &mut B,
     ) -> Result<(), Unspecified>
-        ensures granted { IsOk result → B.may_grant in_out.old }
-        ensures fits { IsOk result → Fits (length (aad_bytes aad.entry)) (length (B.bytes in_out.old)) }
         ensures sealed { OnOk result (B.bytes in_out.new
             ≡ gcm_sealed (aes self.now.bytes) nonce (aad_bytes aad.entry) (B.bytes in_out.old)) }
+        ensures refused { OnErr result (B.bytes in_out.new ≡ B.bytes in_out.old) }
         ensures length { OnOk result (length (B.bytes in_out.new) ≡ length (B.bytes in_out.old) + 16) }
-        ensures refused { OnErr result (Fits (length (aad_bytes aad.entry)) (length (B.bytes in_out.old))
+        ensures granted { IsOk result → B.may_grant in_out.old }
+        ensures fits { IsOk result → Fits (length (aad_bytes aad.entry)) (length (B.bytes in_out.old)) }
+        ensures refuses { OnErr result (Fits (length (aad_bytes aad.entry)) (length (B.bytes in_out.old))
             → B.may_refuse in_out.old) }
-        ensures kept { OnErr result (B.bytes in_out.new ≡ B.bytes in_out.old) }
     {
         in_out.grow_by_tag()?;
         self.seal_with_room(nonce, aad, in_out)
-    }
-
-    /// Seals a packet in place (SP 800-38D algorithm 4). ring has no such method.
-    ///
-    /// The packet is a header of `header_len` bytes, then the plaintext, then 16 bytes of room for the tag. The header
-    /// is the AAD and is unchanged, the ciphertext replaces the plaintext, and the tag is written to the room.
-    ///
-    /// # Errors
-    ///
-    /// Fails with `Unspecified`, and leaves the packet unchanged, if it is shorter than `header_len + 16` bytes, or
-    /// else if the lengths exceed the limits of `seal_in_place_separate_tag`.
-    pub fn seal_packet_in_place(
-        &self,
-        nonce: Nonce,
-        packet: &mut [u8],
-        header_len: usize,
-    ) -> Result<(), Unspecified>
-        ensures accepted { IsOk result ↔ PacketFits header_len (length packet.old) }
-        ensures sealed { OnOk result (packet.new ≡ sealed_packet self.now.bytes nonce header_len packet.old) }
-        ensures refused { OnErr result (packet.new ≡ packet.old) }
-    {
-        if !has_room(packet, header_len) {
-            return Err(Unspecified);
-        }
-        let (header, body) = packet.split_at_mut(header_len);
-        let message_len = body.len() - MAX_TAG_LEN;
-        let (message, tag_bytes) = body.split_at_mut(message_len);
-        let tag = self.seal_in_place_separate_tag(nonce, Aad::from(&*header), message)?;
-        tag_bytes.copy_from_slice(tag.as_ref());
-        Ok(())
     }
 
     /// Encrypts all but the last 16 bytes in place, and overwrites those with the tag. If the lengths exceed the limits
@@ -238,7 +207,7 @@ impl LessSafeKey {
             ≡ gcm_decrypted (aes self.now.bytes) nonce (drop ciphertext.start in_out.old)) }
     {
         let opened = self.open_in_place_separate_tag_to_front(nonce, aad, tag, in_out, ciphertext);
-        lend_plaintext(in_out, 0, opened)
+        lend_plaintext(in_out, opened)
     }
 
     /// Like `open_in_place_separate_tag`, but returns the length of the plaintext in bytes. The plaintext is at the
@@ -287,7 +256,7 @@ impl LessSafeKey {
             (drop ciphertext_and_tag.start (take (length in_out.old - 16) in_out.old))) }
     {
         let opened = self.open_within_to_front(nonce, aad, in_out, ciphertext_and_tag);
-        lend_plaintext(in_out, 0, opened)
+        lend_plaintext(in_out, opened)
     }
 
     /// Like `open_within`, but returns the length of the plaintext in bytes. The plaintext is at the front of `in_out`.
@@ -322,7 +291,7 @@ impl LessSafeKey {
             ≡ gcm_decrypted (aes self.now.bytes) nonce (take (length in_out.old - 16) in_out.old)) }
     {
         let opened = self.open_in_place_to_front(nonce, aad, in_out);
-        lend_plaintext(in_out, 0, opened)
+        lend_plaintext(in_out, opened)
     }
 
     /// Like `open_in_place`, but returns the length of the plaintext in bytes. The plaintext is at the front of
@@ -340,59 +309,6 @@ impl LessSafeKey {
     {
         self.open_within_to_front(nonce, aad, in_out, 0..)
     }
-
-    /// Opens a packet in place, and returns the length of the plaintext in bytes (SP 800-38D algorithm 5). ring has no
-    /// such method.
-    ///
-    /// The packet is a header of `header_len` bytes, then the ciphertext, then the 16-byte tag. The header is the AAD.
-    /// The plaintext replaces the ciphertext, and the header and the tag are unchanged.
-    ///
-    /// # Errors
-    ///
-    /// Fails with `Unspecified`, and leaves the packet unchanged, if it is shorter than `header_len + 16` bytes, if the
-    /// lengths exceed the limits of `seal_in_place_separate_tag`, or if the tag is not that of the ciphertext and the
-    /// header.
-    pub fn open_packet_in_place_after_header(
-        &self,
-        nonce: Nonce,
-        packet: &mut [u8],
-        header_len: usize,
-    ) -> Result<usize, Unspecified>
-        ensures opened { OpenedPacket self.now.bytes nonce header_len packet.old (is_ok result) packet.new }
-        ensures count { IfOk result (λ n. n ≡ length packet.old - 16 - header_len) }
-        ensures refused { OnErr result (packet.new ≡ packet.old) }
-    {
-        let Some((header, body)) = packet.split_at_mut_checked(header_len) else {
-            return Err(Unspecified);
-        };
-        self.open_in_place_to_front(nonce, Aad::from(&*header), body)
-    }
-
-    /// Like `open_packet_in_place_after_header`, but returns the plaintext, which comes after the header, as a mutable
-    /// slice. ring has no such method.
-    pub fn open_packet_in_place<'a>(
-        &self,
-        nonce: Nonce,
-        packet: &'a mut [u8],
-        header_len: usize,
-    ) -> Result<&'a mut [u8], Unspecified>
-        ensures* writes_back { sem 𝓛 (LendsAfter header_len packet.entry result
-            (length packet.old - 16 - header_len)) }
-        ensures opened { OpenedPacket self.now.bytes nonce header_len packet.old
-            (is_ok result) (lent_after header_len result packet.old) }
-        ensures plaintext { IfOk result (λ plaintext. plaintext.now
-            ≡ gcm_decrypted (aes self.now.bytes) nonce (packet_message header_len packet.old)) }
-    {
-        let opened = self.open_packet_in_place_after_header(nonce, packet, header_len);
-        lend_plaintext(packet, header_len, opened)
-    }
-}
-
-/// Returns whether `packet` has room for a header of `header_len` bytes and a tag.
-pub(crate) fn has_room(packet: &[u8], header_len: usize) -> bool
-    ensures { IsTrue result ↔ (header_len + 16 ≤ length packet.now) }
-{
-    packet.len() >= MAX_TAG_LEN && packet.len() - MAX_TAG_LEN >= header_len
 }
 
 impl fmt::Debug for LessSafeKey {

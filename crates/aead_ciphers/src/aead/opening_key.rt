@@ -5,9 +5,8 @@ ghost use Rattle.aead_ciphers_base.specs.Values.{aad_bytes};
 ghost use Rattle.aead_ciphers_base.specs.Aes.{aes};
 ghost use Rattle.aead_ciphers.specs.Gcm.{gcm_decrypted, OpenedAttached};
 ghost use Rattle.aead_ciphers.specs.BoundState.{Keeps};
-ghost use Rattle.aead_ciphers.specs.Lending.{LendsAfter, LendsFront, lent_after, lent_buffer};
+ghost use Rattle.aead_ciphers.specs.Lending.{LendsFront, lent_buffer};
 ghost use Rattle.aead_ciphers.specs.NonceSequence.{UnderNext};
-ghost use Rattle.aead_ciphers.specs.Packet.{packet_message, OpenedPacket};
 ghost use Rattle.aead_ciphers.specs.Steps.{OpenStep};
 
 use crate::aead::lend::lend_plaintext;
@@ -129,41 +128,6 @@ impl<N: NonceSequence> OpeningKey<N> {
         self.open_within_to_front(aad, in_out, 0..)
     }
 
-    /// Opens a packet in place under the next nonce, and returns the length of the plaintext in bytes (SP 800-38D
-    /// algorithm 5). ring has no such method.
-    ///
-    /// The packet is a header of `header_len` bytes, then the ciphertext, then the 16-byte tag. The header is the AAD.
-    /// The plaintext replaces the ciphertext, and the header and the tag are unchanged.
-    ///
-    /// # Errors
-    ///
-    /// Fails with `Unspecified`, and leaves the packet unchanged, if the sequence returns no nonce, which is checked
-    /// first. Otherwise the nonce is consumed, and the call fails in the same way if the packet is shorter than
-    /// `header_len + 16` bytes, if the lengths exceed the limits of `LessSafeKey::seal_in_place_separate_tag`, or if
-    /// the tag is not that of the ciphertext and the header.
-    pub fn open_packet_in_place_after_header(
-        &mut self,
-        packet: &mut [u8],
-        header_len: usize,
-    ) -> Result<usize, Unspecified>
-        ensures kept { Keeps N.origin self.old self.new }
-        ensures step { OpenStep N.spent N.is_closed self.old self.new (take header_len packet.old)
-            0 (drop header_len packet.old) (drop header_len packet.new) (is_ok result) }
-        ensures header { take header_len packet.new ≡ take header_len packet.old }
-        ensures count { IfOk result (λ n. n ≡ length packet.old - 16 - header_len) }
-        ensures opened { ¬ N.refuses self.old.sequence self.new.sequence → UnderNext (N.is_next self.old.sequence) (λ nonce.
-            OpenedPacket self.old.key.bytes nonce header_len packet.old (is_ok result) packet.new) }
-        ensures plaintext { OnOk result (UnderNext (N.is_next self.old.sequence) (λ nonce. packet_message header_len packet.new
-            ≡ gcm_decrypted (aes self.old.key.bytes) nonce (packet_message header_len packet.old))) }
-        ensures refused { OnErr result (packet.new ≡ packet.old) }
-        ensures gives { OnOk result (N.gives self.old.sequence self.new.sequence) }
-        ensures after_error { OnErr result
-            (N.refuses self.old.sequence self.new.sequence ⊎ N.gives self.old.sequence self.new.sequence) }
-    {
-        self.key
-            .open_packet_in_place_after_header(self.nonce_sequence.advance()?, packet, header_len)
-    }
-
     /// Opens a ciphertext in place with its tag attached under the next nonce, and returns the plaintext (SP 800-38D
     /// algorithm 5).
     ///
@@ -199,7 +163,7 @@ impl<N: NonceSequence> OpeningKey<N> {
             (N.refuses self.old.sequence self.new.sequence ⊎ N.gives self.old.sequence self.new.sequence) }
     {
         let opened = self.open_within_to_front(aad, in_out, ciphertext_and_tag);
-        lend_plaintext(in_out, 0, opened)
+        lend_plaintext(in_out, opened)
     }
 
     /// Opens the whole of `in_out` under the next nonce, like `open_within` with the range `0..`.
@@ -223,36 +187,6 @@ impl<N: NonceSequence> OpeningKey<N> {
             (N.refuses self.old.sequence self.new.sequence ⊎ N.gives self.old.sequence self.new.sequence) }
     {
         let opened = self.open_in_place_to_front(aad, in_out);
-        lend_plaintext(in_out, 0, opened)
-    }
-
-    /// Like `open_packet_in_place_after_header`, but returns the plaintext, which comes after the header, as a mutable
-    /// slice. ring has no such method.
-    pub fn open_packet_in_place<'a>(
-        &mut self,
-        packet: &'a mut [u8],
-        header_len: usize,
-    ) -> Result<&'a mut [u8], Unspecified>
-        ensures* writes_back { sem 𝓛 (LendsAfter header_len packet.entry result
-            (length packet.old - 16 - header_len)) }
-        ensures header { take header_len (lent_after header_len result packet.old)
-            ≡ take header_len packet.old }
-        ensures kept { Keeps N.origin self.old self.new }
-        ensures step { OpenStep N.spent N.is_closed self.old self.new (take header_len packet.old) 0
-            (drop header_len packet.old) (drop header_len (lent_after header_len result packet.old))
-            (is_ok result) }
-        ensures count { IfOk result (λ plaintext. length plaintext.now ≡ length packet.old - 16 - header_len) }
-        ensures opened { ¬ N.refuses self.old.sequence self.new.sequence
-            → UnderNext (N.is_next self.old.sequence) (λ nonce.
-            OpenedPacket self.old.key.bytes nonce header_len packet.old
-            (is_ok result) (lent_after header_len result packet.old)) }
-        ensures plaintext { IfOk result (λ plaintext. UnderNext (N.is_next self.old.sequence) (λ nonce. plaintext.now
-            ≡ gcm_decrypted (aes self.old.key.bytes) nonce (packet_message header_len packet.old))) }
-        ensures gives { OnOk result (N.gives self.old.sequence self.new.sequence) }
-        ensures after_error { OnErr result
-            (N.refuses self.old.sequence self.new.sequence ⊎ N.gives self.old.sequence self.new.sequence) }
-    {
-        let opened = self.open_packet_in_place_after_header(packet, header_len);
-        lend_plaintext(packet, header_len, opened)
+        lend_plaintext(in_out, opened)
     }
 }

@@ -1,14 +1,12 @@
 //! The key that seals under the nonces of a sequence.
-ghost use Rattle.std.specs.Prelude.{◌≡◌, ◌+◌, ◌<◌, ◌≤◌, ◌⊎◌, ⊤, length, take, is_ok, IsOk, IfOk, OnOk, OnErr};
+ghost use Rattle.std.specs.Prelude.{◌≡◌, ◌+◌, ◌⊎◌, ⊤, length, is_ok, IsOk, IfOk, OnOk, OnErr};
 ghost use Rattle.aead_ciphers_base.specs.Values.{aad_bytes};
 ghost use Rattle.aead_ciphers_base.specs.Aes.{aes};
 ghost use Rattle.aead_ciphers.specs.BoundState.{Keeps};
 ghost use Rattle.aead_ciphers.specs.Gcm.{Fits, gcm_encrypted, gcm_tag, gcm_sealed};
 ghost use Rattle.aead_ciphers.specs.NonceSequence.{UnderNext};
-ghost use Rattle.aead_ciphers.specs.Packet.{PacketFits, packet_message, packet_body, sealed_packet};
 ghost use Rattle.aead_ciphers.specs.Steps.{SealStep, with_tag};
 
-use crate::aead::less_safe_key::has_room;
 use crate::aead::{
     Aad, Algorithm, BoundKey, InOut, LessSafeKey, NonceSequence, Tag, UnboundKey, Unspecified,
 };
@@ -103,14 +101,14 @@ impl<N: NonceSequence> SealingKey<N> {
         aad: Aad<'_>,
         in_out: &mut B,
     ) -> Result<(), Unspecified>
+        ensures sealed { OnOk result (UnderNext (N.is_next self.old.sequence) (λ nonce. B.bytes in_out.new
+            ≡ gcm_sealed (aes self.old.key.bytes) nonce (aad_bytes aad.entry) (B.bytes in_out.old))) }
+        ensures refused { OnErr result (B.bytes in_out.new ≡ B.bytes in_out.old) }
         ensures kept { Keeps N.origin self.old self.new }
         ensures step { SealStep N.spent N.is_closed (B.may_refuse in_out.old) (B.may_grant in_out.old)
             self.old self.new (aad_bytes aad.entry) (B.bytes in_out.old) (B.bytes in_out.new)
             (is_ok result) }
-        ensures sealed { OnOk result (UnderNext (N.is_next self.old.sequence) (λ nonce. B.bytes in_out.new
-            ≡ gcm_sealed (aes self.old.key.bytes) nonce (aad_bytes aad.entry) (B.bytes in_out.old))) }
         ensures length { OnOk result (length (B.bytes in_out.new) ≡ length (B.bytes in_out.old) + 16) }
-        ensures refused { OnErr result (B.bytes in_out.new ≡ B.bytes in_out.old) }
         ensures granted { IsOk result → B.may_grant in_out.old }
         ensures fits { IsOk result → Fits (length (aad_bytes aad.entry)) (length (B.bytes in_out.old)) }
         ensures gives { OnOk result (N.gives self.old.sequence self.new.sequence) }
@@ -162,45 +160,5 @@ impl<N: NonceSequence> SealingKey<N> {
     {
         let nonce = self.nonce_sequence.advance()?;
         self.key.seal_in_place_separate_tag(nonce, aad, in_out)
-    }
-
-    /// Seals a packet in place under the next nonce (SP 800-38D algorithm 4). ring has no such method.
-    ///
-    /// The packet is a header of `header_len` bytes, then the plaintext, then 16 bytes of room for the tag. The header
-    /// is the AAD and is unchanged, the ciphertext replaces the plaintext, and the tag is written to the room.
-    ///
-    /// # Errors
-    ///
-    /// Fails with `Unspecified`, and leaves the packet unchanged, in these cases, which are checked in this order:
-    ///
-    /// - The packet is shorter than `header_len + 16` bytes.
-    /// - The sequence returns no nonce.
-    /// - The lengths exceed the limits of `seal_in_place_append_tag`. The nonce is consumed.
-    #[tactic(auto, using(crate::proofs::PacketLemmas::packet_no_room, crate::proofs::PacketLemmas::packet_no_nonce))]
-    pub fn seal_packet_in_place(
-        &mut self,
-        packet: &mut [u8],
-        header_len: usize,
-    ) -> Result<(), Unspecified>
-        ensures kept { Keeps N.origin self.old self.new }
-        ensures step { SealStep N.spent N.is_closed (length packet.old < header_len + 16)
-            (header_len + 16 ≤ length packet.old) self.old self.new (take header_len packet.old)
-            (packet_message header_len packet.old) (packet_body header_len packet.new result) (is_ok result) }
-        ensures header { take header_len packet.new ≡ take header_len packet.old }
-        ensures sealed { OnOk result (UnderNext (N.is_next self.old.sequence) (λ nonce. packet.new
-            ≡ sealed_packet self.old.key.bytes nonce header_len packet.old)) }
-        ensures refused { OnErr result (packet.new ≡ packet.old) }
-        ensures fits { IsOk result → PacketFits header_len (length packet.old) }
-        ensures gives { OnOk result (N.gives self.old.sequence self.new.sequence) }
-        ensures refuses { PacketFits header_len (length packet.old)
-            → OnErr result (N.refuses self.old.sequence self.new.sequence) }
-        ensures after_error { OnErr result ((self.new ≡ self.old)
-            ⊎ N.refuses self.old.sequence self.new.sequence ⊎ N.gives self.old.sequence self.new.sequence) }
-    {
-        if !has_room(packet, header_len) {
-            return Err(Unspecified);
-        }
-        self.key
-            .seal_packet_in_place(self.nonce_sequence.advance()?, packet, header_len)
     }
 }

@@ -35,12 +35,11 @@ open_in_place_separate_tag_spec 𝓤 𝓛 𝓜 𝓡 wired =
     (λ v u ws. let new = ws.1.1.1.1.0 in W.learns ! (λ opened. W.learns ! (λ counted. W.heard ! _ (λ refused. let m =
     W.length old - range.start in let size = W.length-drop range.start old in
     -- [the answer; three tokens; nothing of self, nonce, aad, tag; what in_out ends as; nothing of range; what is kept]
-    move ! (3 ∷ 0 ∷ 8 ∷ 10 ∷ []) $ W.regains 𝓛 b 𝓜 𝓡 0 m v u new ! tt α δ (W.lit< tt)
+    move ! (3 ∷ 0 ∷ 8 ∷ 10 ∷ []) $ W.regains 𝓛 b 𝓜 𝓡 m v u new ! tt α δ
     (W.opened_fronts size u opened counted) (λ is-u. W.lands_as ! refl refl is-u.0 $
     W.reborrows ! in_out.ref_ptr (W.length old) refl refl (tt, tt) (W.typed b) $
-    W.lends 𝓛 b 𝓜 𝓡 0 m v u new ! (W.front_met 𝓤 𝓛 𝓜 𝓡
-    (P.Code.calls-aead_ciphers::aead::lend::lend_plaintext 𝓡.env wired)) (W.and_then ! (W.get ! refl) (W.and_then !
-    (W.lit ! tt) (W.alone ! refl))) (λ w r is-r end.
+    W.lends 𝓛 b 𝓜 𝓡 m v u new ! (W.front_met 𝓤 𝓛 𝓜 𝓡
+    (P.Code.calls-aead_ciphers::aead::lend::lend_plaintext 𝓡.env wired)) (W.gets ! tt refl) (λ w r is-r end.
     -- [in_out's token; the plaintext; what is owed of in_out; two tokens; five times nothing]
     W.lands_as ! refl refl is-r.0 $ W.returns ! (W.look_at ! 0 refl) $ W.free_all ! refl $ move ! (2 ∷ []) $
     W.tell ! (W.lent_plain size u r end opened) $

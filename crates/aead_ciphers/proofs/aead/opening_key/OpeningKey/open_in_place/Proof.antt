@@ -38,15 +38,14 @@ open_in_place_spec 𝓤 𝓛 𝓜 𝓡 wired N LN g d met =
     let fronts = W.step_fronts g.spent g.is_closed was after (W.aad_bytes aad) 0 old new m
     (omega W.arith) u step counted in
     -- [the answer; four tokens; self; nothing of aad; what in_out ends as; what is kept]
-    move ! (3 ∷ 0 ∷ 7 ∷ 8 ∷ []) $ W.regains 𝓛 b 𝓜 𝓡 0 m v u new ! tt α δ (W.lit< tt) fronts (λ is-u. W.lands_as !
+    move ! (3 ∷ 0 ∷ 7 ∷ 8 ∷ []) $ W.regains 𝓛 b 𝓜 𝓡 m v u new ! tt α δ fronts (λ is-u. W.lands_as !
     refl refl is-u.0 $ W.reborrows ! in_out.ref_ptr (W.length old) refl refl (tt, tt) (W.typed b) $
-    W.lends 𝓛 b 𝓜 𝓡 0 m v u new ! (W.front_met 𝓤 𝓛 𝓜 𝓡
-    (P.Code.calls-aead_ciphers::aead::lend::lend_plaintext 𝓡.env wired)) (W.and_then ! (W.get ! refl) (W.and_then !
-    (W.lit ! tt) (W.alone ! refl))) (λ w r is-r end.
+    W.lends 𝓛 b 𝓜 𝓡 m v u new ! (W.front_met 𝓤 𝓛 𝓜 𝓡
+    (P.Code.calls-aead_ciphers::aead::lend::lend_plaintext 𝓡.env wired)) (W.gets ! tt refl) (λ w r is-r end.
     -- [in_out's token; the plaintext; what is owed of in_out; three tokens; self; once nothing]
     W.lands_as ! refl refl is-r.0 $ W.returns ! (W.look_at ! 0 refl) $ W.free_all ! refl $ move ! (2 ∷ []) $
-    W.says_next 𝓛 ! _ _ _ (λ nonce. W.OpenedAttached (W.aes was.key.bytes) nonce (W.aad_bytes aad) 0 old) end (λ _.
-    omega W.arith) stays step opened plaintext gave stands $ move ! (1 ∷ 0 ∷ []) $ W.says ! $ W.nothing ! $
+    W.says_next 𝓛 ! _ _ _ (λ nonce. W.OpenedAttached (W.aes was.key.bytes) nonce (W.aad_bytes aad) 0 old) end stays step opened
+    plaintext gave stands $ move ! (1 ∷ 0 ∷ []) $ W.says ! $ W.nothing ! $
     W.keep ! (4 ∷ 5 ∷ 2 ∷ 6 ∷ 7 ∷ 8 ∷ 0 ∷ 3 ∷ 1 ∷ []) $
     W.ends 𝓛 T stayed c ((κs, qs, bounds, a, vals), tt) w r (after, (tt, (tt, tt))) !
     (tt, (tt, (tt, tt))))))))))))))))))
