@@ -26,38 +26,21 @@ pub(super) fn encrypt_within<A: EncryptCtr32>(
     ensures worked { Adds work.old work.new ((length in_out.old - start + 15) / 16) 0 }
 {
     let len = in_out.len() - start;
+    let whole = whole_len(len);
     let mut done = 0;
-    while done < len {
-        let count = (len - done).min(CHUNK_LEN);
-        let window = &mut in_out[done..done + count + start];
-        encrypt_chunk(aes, &mut counter, window, start, work);
+    while done < whole {
+        let count = (whole - done).min(CHUNK_LEN);
+        let chunk = &mut in_out[done..done + count + start];
+        encrypt_blocks(aes, &mut counter, chunk, start, work);
         done += count;
+    }
+    if whole < len {
+        encrypt_rest(aes, counter, &mut in_out[whole..], start, work);
     }
 }
 
-/// Encrypts or decrypts the bytes from `start` on to the front of `in_out`. The counter counts their blocks, of which
-/// the last may be short. Bytes that aren't whole blocks end in less than a batch, which is padded and encrypted at once.
-#[inline(always)]
-pub(super) fn encrypt_chunk<A: EncryptCtr32>(
-    aes: &A,
-    counter: &mut Counter,
-    in_out: &mut [u8],
-    start: usize,
-    work: &mut Work,
-)
-    requires within { start ≤ length in_out.old }
-    requires sums { CanAdd work.old ((length in_out.old - start + 15) / 16) 0 }
-    ensures output { EncryptsToFront (A.cipher aes.now) counter.old start in_out.old in_out.new }
-    ensures counter { Advances counter.old counter.new ((length in_out.old - start + 15) / 16) }
-    ensures worked { Adds work.old work.new ((length in_out.old - start + 15) / 16) 0 }
-{
-    let whole = whole_len(in_out.len() - start);
-    encrypt_blocks(aes, counter, &mut in_out[..whole + start], start, work);
-    encrypt_rest(aes, counter, &mut in_out[whole..], start, work);
-}
-
 /// Returns how many of `len` bytes go to the cipher as they are: all, if they are whole blocks, else whole batches.
-fn whole_len(len: usize) -> usize
+pub(super) fn whole_len(len: usize) -> usize
     ensures aligned { result % 16 ≡ 0 }
     ensures within { result ≤ len }
     ensures rest { len < result + 128 }
@@ -69,7 +52,7 @@ fn whole_len(len: usize) -> usize
     }
 }
 
-/// Encrypts the bytes from `start` on, which are whole blocks, to the front of `in_out`.
+/// Encrypts or decrypts the bytes from `start` on, which are whole blocks, to the front of `in_out`.
 #[inline(always)]
 pub(super) fn encrypt_blocks<A: EncryptCtr32>(
     aes: &A,
@@ -88,12 +71,12 @@ pub(super) fn encrypt_blocks<A: EncryptCtr32>(
     aes.ctr32_encrypt_within(Overlapping::within(in_out, start), counter, work);
 }
 
-/// Encrypts the bytes from `start` on, which are fewer than a batch, to the front of `in_out`: pads them to whole blocks
-/// in a buffer of its own.
+/// Encrypts or decrypts the bytes from `start` on, which are fewer than a batch, to the front of `in_out`: pads them to
+/// whole blocks in a buffer of its own.
 #[inline(always)]
-fn encrypt_rest<A: EncryptCtr32>(
+pub(super) fn encrypt_rest<A: EncryptCtr32>(
     aes: &A,
-    counter: &mut Counter,
+    mut counter: Counter,
     in_out: &mut [u8],
     start: usize,
     work: &mut Work,
@@ -101,16 +84,13 @@ fn encrypt_rest<A: EncryptCtr32>(
     requires within { start ≤ length in_out.old }
     requires short { length in_out.old < start + 128 }
     requires sums { CanAdd work.old ((length in_out.old - start + 15) / 16) 0 }
-    ensures output { EncryptsToFront (A.cipher aes.now) counter.old start in_out.old in_out.new }
-    ensures counter { Advances counter.old counter.new ((length in_out.old - start + 15) / 16) }
+    ensures output { EncryptsToFront (A.cipher aes.now) counter start in_out.old in_out.new }
     ensures worked { Adds work.old work.new ((length in_out.old - start + 15) / 16) 0 }
 {
     let rest = in_out.len() - start;
-    if rest > 0 {
-        let whole = rest.div_ceil(BLOCK_LEN) * BLOCK_LEN;
-        let mut padded = [0; BATCH_LEN];
-        padded[..rest].copy_from_slice(&in_out[start..]);
-        encrypt_blocks(aes, counter, &mut padded[..whole], 0, work);
-        in_out[..rest].copy_from_slice(&padded[..rest]);
-    }
+    let whole = rest.div_ceil(BLOCK_LEN) * BLOCK_LEN;
+    let mut padded = [0; BATCH_LEN];
+    padded[..rest].copy_from_slice(&in_out[start..]);
+    encrypt_blocks(aes, &mut counter, &mut padded[..whole], 0, work);
+    in_out[..rest].copy_from_slice(&padded[..rest]);
 }

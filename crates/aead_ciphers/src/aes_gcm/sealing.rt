@@ -7,7 +7,7 @@ ghost use Rattle.aead_ciphers_base.specs.Values.{aad_bytes};
 ghost use Rattle.aead_ciphers_base.specs.Work.{Adds, CanAdd};
 ghost use Rattle.aead_ciphers.specs.Gcm.{CanSeal, Fits, SealWork, gcm_encrypted, gcm_tag, sealing_blocks};
 
-use super::counter_mode::{CHUNK_LEN, encrypt_blocks, encrypt_chunk};
+use super::counter_mode::{CHUNK_LEN, encrypt_blocks, encrypt_rest, whole_len};
 use super::hash::finish;
 use crate::gcm::{Context, UpdateBlocks};
 use aead_ciphers_base::aes::{BLOCK_LEN, Block, Counter, EncryptCtr32, Work, ZERO_BLOCK};
@@ -47,13 +47,19 @@ pub fn seal_with<A: EncryptCtr32, G: UpdateBlocks>(
     }
     let mut counter = Counter::one(nonce);
     let tag_iv = counter.increment();
+    let whole = whole_len(in_out.len());
     let mut done = 0;
-    while done < in_out.len() {
-        let count = (in_out.len() - done).min(CHUNK_LEN);
+    while done < whole {
+        let count = (whole - done).min(CHUNK_LEN);
         let chunk = &mut in_out[done..done + count];
-        encrypt_chunk(aes, &mut counter, chunk, 0, work);
+        encrypt_blocks(aes, &mut counter, chunk, 0, work);
         auth.absorb(chunk, work);
         done += count;
+    }
+    if whole < in_out.len() {
+        let rest = &mut in_out[whole..];
+        encrypt_rest(aes, counter, rest, 0, work);
+        auth.absorb(rest, work);
     }
     let mask = aes.encrypt_block(tag_iv.into_block_less_safe(), work);
     Ok(finish(auth, mask, work))

@@ -1,4 +1,4 @@
-use Rattle.std.proofs.Common.{◌+◌, ◌-◌, ◌/◌}
+use Rattle.std.proofs.Common.{◌-◌, ◌/◌, ◌≤◌}
 use Rattle.aead_ciphers_base.specs.Work.{Adds}
 use Rattle.aead_ciphers.proofs
 use proofs.CounterModePieces.{Walked}
@@ -6,9 +6,10 @@ use proofs.aes_gcm.counter_mode.encrypt_within.Given as goal
 
 abbrev pub invariant-loop-done : goal.invariant-loop-done
 invariant-loop-done g l = record {
-  worked : Adds l.initial.work l.work ((l.done + 15) / 16) 0;
-  walk : Walked (g.A.EncryptBlock.cipher l.aes) l.initial.counter l.counter l.start l.len l.done l.initial.in_out l.in_out;
+  worked : Adds l.initial.work l.work (l.done / 16) 0;
+  within : l.done ≤ l.whole;
+  walk : Walked (g.A.EncryptBlock.cipher l.aes) l.initial.counter l.counter l.start l.done l.initial.in_out l.in_out;
 }
 
 abbrev pub decreases-loop-done : goal.decreases-loop-done
-decreases-loop-done g l = l.len - l.done
+decreases-loop-done g l = l.whole - l.done
