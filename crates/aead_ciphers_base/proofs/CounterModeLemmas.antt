@@ -116,6 +116,26 @@ pub encrypts_all : (cipher : List ℕ → List ℕ) (counter : List ℕ) (s d : 
 unfolding counter_mode
 encrypts_all cipher counter s d was new done all = λ nonce k at. done nonce k at ∙ all_from _ s d was all
 
+-- i blocks were encrypted: block i is read, XORed with its key stream, and put after them
+pub encrypts_block : (cipher : List ℕ → List ℕ) (counter then pad : List ℕ) (s i n m : ℕ) (was now text written : List ℕ) →
+    s + 16 * i + 16 ≤ length was → length now ≡ length was → n ≡ 16 → m ≡ 16 →
+    EncryptsFirst cipher counter s (16 * i) was now → Advances counter then i → pad ≡ cipher then → length pad ≡ 16 →
+    text ≡ take n (drop (s + 16 * i) now) → written ≡ (text ⊕ pad) ++ drop (length pad) text →
+    EncryptsFirst cipher counter s (16 * (i + 1)) was (take (16 * i) now ++ (written ++ drop m (drop (16 * i) now)))
+encrypts_block cipher counter then pad s i n m was now text written room same ne me done moved pe size te we = λ nonce k at.
+    let d = 16 * i in
+    let next : d + 16 ≡ 16 * (i + 1) = omega arith in
+    let input = te ∙ ap (λ z. take z (drop (s + d) now)) ne in
+    let long = ap length input ∙ length-take-le 16 _ (omega (arith, same, length-drop (s + d) now)) in
+    let none = nil_from_length (drop (length pad) text) (omega (arith, length-drop (length pad) text)) in
+    let short = counter_mode-short cipher nonce _ text pad (omega (arith, long)) (omega (arith, long, size)) (pe ∙ ap cipher (moved nonce k at).value) in
+    let piece =
+    we ∙ ap (λ u. (text ⊕ pad) ++ u) none ∙ append-nil (text ⊕ pad) ∙ short ∙ ap (counter_mode cipher nonce (k + i)) input in
+    ap₂ (λ u v. take d now ++ (u ++ v)) piece (ap (λ z. drop z (drop d now)) me ∙ drop-drop 16 d now)
+    ∙ sym (append_assoc (take d now) _ _)
+    ∙ advance cipher nonce k i d 16 s was now refl room (done nonce k at)
+    ∙ ap (λ z. counter_mode cipher nonce k (take z (drop s was)) ++ drop z was) next
+
 -- a window from d on, of n bytes and s more, was encrypted to its front
 pub encrypts_window : (cipher : List ℕ → List ℕ) (counter : List ℕ) (s d n size : ℕ) (xs w : List ℕ) → s + d + n ≤ length xs → size ≡ n + s →
     EncryptsToFront cipher counter s (take size (drop d xs)) w → EncryptsWindow cipher counter s d n xs (take d xs ++ (w ++ drop size (drop d xs)))

@@ -1,0 +1,11 @@
+use Rattle.std.proofs.Common.{◌≡◌, ◌*◌, length}
+use Rattle.aead_ciphers_base.specs
+use specs.Aes.{aes}
+use specs.CounterMode.{EncryptsFirst}
+use Rattle.aead_ciphers_base.proofs.aes.ctr32.encrypt_batch.Given as goal
+
+abbrev pub invariant-loop-i : goal.invariant-loop-i
+invariant-loop-i l = record {
+  size : length l.in_out ≡ length l.initial.in_out;
+  output : EncryptsFirst (aes l.fn.key) l.fn.counter l.fn.start (16 * l.i) l.initial.in_out l.in_out;
+}
