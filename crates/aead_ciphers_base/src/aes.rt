@@ -174,8 +174,8 @@ impl Key {
         Ok(Key { round_keys, rounds })
     }
 
-    /// Borrows the key as a `KeyRef`.
-    pub fn by_ref(&self) -> KeyRef<'_>
+    // Borrows the key as a `KeyRef`.
+    fn by_ref(&self) -> KeyRef<'_>
         ensures { result ≡ self.now }
     {
         KeyRef {

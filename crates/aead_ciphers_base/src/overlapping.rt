@@ -5,7 +5,8 @@ mod base;
 mod chunk;
 mod partial_block;
 
-pub use array::{Array, first_array};
+pub use array::Array;
 pub use base::Overlapping;
-pub use chunk::{Chunk, chunk_at, map_chunk};
+pub use chunk::Chunk;
+pub(crate) use chunk::{chunk_at, map_chunk};
 pub use partial_block::PartialBlock;

@@ -4,7 +4,7 @@ ghost use Rattle.std.specs.Prelude.{◌<◌};
 
 use crate::checks::{holds, same};
 use crate::items::{Item, hold};
-use aead_ciphers_base::polyfill::slice::{AsChunks, AsChunksMut, as_chunks, as_chunks_mut};
+use aead_ciphers_base::polyfill::slice::{AsChunks, as_chunks, as_chunks_mut};
 use std::process::Abort;
 use std::test::Fail;
 
@@ -74,7 +74,7 @@ fn blocks_are_split(rt: HostRuntime) {
 #[test]
 fn groups_of_blocks_and_a_last_of_fewer(rt: HostRuntime) -> Result<(), Fail> {
     let mut items = [0u8; 14];
-    let mut view = AsChunksMut::<_, 2>::from_whole(items.as_mut_slice());
+    let (mut view, _) = as_chunks_mut::<_, 2>(&mut items);
     let mut groups = view.chunks_mut::<3>();
     for len in [3, 3, 1] {
         let group = groups.next().ok_or("no group")?;
@@ -87,19 +87,18 @@ fn groups_of_blocks_and_a_last_of_fewer(rt: HostRuntime) -> Result<(), Fail> {
 #[test]
 fn writes_reach_the_slice(rt: HostRuntime) {
     let mut items = [1, 2, 3, 4, 5, 6, 7, 8].map(Item);
-    let mut view = AsChunksMut::<_, 2>::from_whole(items.as_mut_slice());
+    let (mut view, _) = as_chunks_mut::<_, 2>(&mut items);
     for (mut group, mark) in view.chunks_mut::<3>().zip([10, 11]) {
         if let Some(first) = group.as_flattened_mut().first_mut() {
             *first = Item(mark);
         }
         let mut part = group.as_mut();
-        part.with_flattened_mut(|items: &mut [Item]| items.reverse());
+        part.as_flattened_mut().reverse();
     }
     hold(
         &rt,
         AsChunks::from(&view).as_flattened(),
         &[6, 5, 4, 3, 2, 10, 8, 11],
     );
-    holds(&rt, view.into_flattened().len() == 8, "the slice's length");
     hold(&rt, &items, &[6, 5, 4, 3, 2, 10, 8, 11]);
 }

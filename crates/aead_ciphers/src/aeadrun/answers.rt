@@ -95,7 +95,6 @@ pub(super) fn keys_answer<W: Write>(output: &mut W, are_made: bool) -> Result<()
     write_str(output, if are_made { "ok" } else { "refused" })
 }
 
-/// Writes `bytes` as a word.
 fn write_word<W: Write>(alloc: Global, output: &mut W, bytes: &[u8]) -> Result<(), Fault>
     ensures { OnOk result (Appends (W.contents output.old) (W.contents output.new)
         (word_of_bytes bytes.now)) }

@@ -67,7 +67,6 @@ pub(super) fn open(
     key.open_within_to_front(nonce, Aad::from(aad), in_out, start..)
 }
 
-/// Returns the mask of a sample.
 pub(super) fn mask(
     algorithm: &quic::Algorithm,
     key: &[u8],

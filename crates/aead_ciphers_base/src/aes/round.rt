@@ -61,7 +61,6 @@ fn planes_two_below(a: Planes) -> Planes
     out
 }
 
-// Adds the bytes of `a` and `b`.
 #[tactic(auto, using(crate::proofs::PlaneShifts::add_plane))]
 #[inline(always)]
 fn add_planes(a: Planes, b: Planes) -> Planes

@@ -67,7 +67,7 @@ impl<'o, T, const N: usize> Array<'o, T, N> {
 }
 
 /// Returns the first `N` items of a slice, for writing.
-pub fn first_array<T, const N: usize>(items: &mut [T]) -> &mut [T; N]
+fn first_array<T, const N: usize>(items: &mut [T]) -> &mut [T; N]
     requires { N ≤ length items.old }
     ensures* writes_back { sem 𝓛 (LendsOutput T.row items.entry result N) }
     ensures value { result.now ≡ take N items.old }

@@ -109,27 +109,18 @@ impl<'o, T> Overlapping<'o, T> {
         &mut in_out[..count]
     }
 
-    /// Copies the input to the front of the slice. The items after the copy are unchanged.
-    pub fn copy_to_front(&mut self)
-    where
-        T: Copy,
-        ensures same_reference { self.new.in_out.ghost_name ≡ self.old.in_out.ghost_name }
-        ensures items { self.new.in_out.now ≡ input_of self.old ++ after_output self.old }
-        ensures start { self.new.start ≡ self.old.start }
-    {
-        self.in_out.copy_within(self.start.., 0);
-    }
-
-    /// Copies the input to the front of the slice, and returns the buffer.
-    fn copied_to_front(mut self) -> Self
+    /// Copies the input to the front of the slice, and returns the buffer. The items after the copy are
+    /// unchanged.
+    fn copied_to_front(self) -> Self
     where
         T: Copy,
         ensures same_reference { result.in_out.ghost_name ≡ self.entry.in_out.ghost_name }
         ensures items { result.in_out.now ≡ input_of self.entry ++ after_output self.entry }
         ensures start { result.start ≡ self.entry.start }
     {
-        self.copy_to_front();
-        self
+        let Overlapping { in_out, start } = self;
+        in_out.copy_within(start.., 0);
+        Self { in_out, start }
     }
 
     /// Copies the input to the front of the slice, and returns that front, for writing.

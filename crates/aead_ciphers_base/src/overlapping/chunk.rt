@@ -4,6 +4,9 @@ ghost use Rattle.std.specs.Prelude.{◌≡◌, ◌↔◌, ℕ, ◌+◌, ◌≤�
 ghost use Rattle.aead_ciphers_base.specs.Overlapping.{MapsChunk, TakesChunk};
 
 /// A chunk of a fixed number of items: `[T; N]`.
+///
+/// Calls that take a closure over chunks are generic over this trait, since a bound such as
+/// `FnOnce(&[T; N]) -> [T; N]` may not name a const parameter.
 pub trait Chunk<T>: Sized {
     ghost chunk_items: { Self → List T };
 
@@ -46,7 +49,7 @@ impl<T: Drop, const N: usize> Chunk<T> for [T; N] {
 }
 
 /// Returns the chunk that starts at `start`.
-pub fn chunk_at<T, C: Chunk<T>>(items: &[T], start: usize) -> &C
+pub(crate) fn chunk_at<T, C: Chunk<T>>(items: &[T], start: usize) -> &C
     requires { start + C.chunk_len ≤ length items.now }
     ensures { C.chunk_items result.now ≡ take C.chunk_len (drop start items.now) }
 {
@@ -58,7 +61,7 @@ pub fn chunk_at<T, C: Chunk<T>>(items: &[T], start: usize) -> &C
 }
 
 /// Maps the chunk that starts at `start` with `f`, and writes the result to the front of the slice.
-pub fn map_chunk<T, C: Chunk<T>, F: FnOnce(&C) -> C>(in_out: &mut [T], start: usize, f: F)
+pub(crate) fn map_chunk<T, C: Chunk<T>, F: FnOnce(&C) -> C>(in_out: &mut [T], start: usize, f: F)
 where
     T: Drop,
     requires callable { TakesChunk C.chunk_items F.FnOnce C.chunk_len f (drop start in_out.old) }

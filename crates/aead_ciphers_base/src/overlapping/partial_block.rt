@@ -7,7 +7,6 @@ ghost use Rattle.aead_ciphers_base.specs.Overlapping.{KeptIfErr, input_len};
 use super::Overlapping;
 use crate::error::InputTooLongError;
 
-/// Returns the error for an input of `len` items.
 fn too_long(len: usize) -> InputTooLongError
     ensures { result ≡ len }
 {
@@ -46,17 +45,6 @@ impl<'i, T, const BLOCK_LEN: usize> PartialBlock<'i, T, BLOCK_LEN> {
             return Err(too_long(len));
         }
         Ok(PartialBlock { in_out, start })
-    }
-
-    /// Creates a `PartialBlock` without a check. The input must have fewer than `BLOCK_LEN` items.
-    pub fn short(in_out: Overlapping<'i, T>) -> Self
-        requires { input_len in_out < BLOCK_LEN }
-        ensures same_reference { result.in_out.ghost_name ≡ in_out.entry.in_out.ghost_name }
-        ensures items { result.in_out.now ≡ in_out.entry.in_out.now }
-        ensures start { result.start ≡ in_out.entry.start }
-    {
-        let Overlapping { in_out, start } = in_out;
-        PartialBlock { in_out, start }
     }
 
     /// Returns the input: the slice from the start on.

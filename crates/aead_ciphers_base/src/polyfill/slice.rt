@@ -4,4 +4,4 @@ mod chunks;
 mod chunks_mut;
 
 pub use chunks::{AsChunks, AsChunksIter, as_chunks};
-pub use chunks_mut::{AsChunksMut, AsChunksMutChunksMutIter, as_chunks_mut, split_whole};
+pub use chunks_mut::{AsChunksMut, AsChunksMutChunksMutIter, as_chunks_mut};

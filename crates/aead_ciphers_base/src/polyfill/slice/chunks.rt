@@ -58,14 +58,6 @@ pub fn as_chunks<T, const N: usize>(items: &[T]) -> (AsChunks<'_, T, N>, &[T])
 }
 
 impl<'a, T, const N: usize> AsChunks<'a, T, N> {
-    /// Creates a view of a slice whose length is a multiple of `N`.
-    pub fn from_whole(items: &'a [T]) -> Self
-        requires { length items.now % N ≡ 0 }
-        ensures { result.items.now ≡ items.now }
-    {
-        AsChunks { items }
-    }
-
     /// Creates a view of one block, or of no block if `N` is zero.
     #[tactic(auto, using(crate::proofs::BlocksLemmas::blocks_one, crate::proofs::BlocksLemmas::whole_one))]
     pub fn from_ref(block: &'a [T; N]) -> Self

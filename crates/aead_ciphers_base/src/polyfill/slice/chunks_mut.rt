@@ -2,7 +2,6 @@
 
 ghost use Rattle.std.specs.Prelude.{◌≡◌, ℕ, ◌*◌, ◌/◌, ◌%◌, ◌<◌, ◌≤◌, ◌^◌, IfSome, MatchOption, drop, length, take};
 ghost use Rattle.std.specs.Borrow.{sem};
-ghost use Rattle.std.specs.Fn.{FnOnceReturnsAtMut, FnOnceTakesAtMut};
 ghost use Rattle.std.specs.Iterator.{UpTo, at_most};
 ghost use Rattle.std.specs.Iterator.SizeHint.{IsWithinCount};
 ghost use Rattle.std.specs.Slice.Iter.{chunks_mut_rest, chunks_mut_size};
@@ -12,7 +11,7 @@ ghost use Rattle.aead_ciphers_base.specs.ChunksMut.{IsNextPart, LendsInTwo, part
 use super::AsChunks;
 
 /// Splits a slice after the first `count` blocks of `N` items.
-fn split_blocks<T, const N: usize>(items: &mut [T], count: usize) -> (&mut [T], &mut [T])
+fn split_after_blocks<T, const N: usize>(items: &mut [T], count: usize) -> (&mut [T], &mut [T])
     requires { count * N ≤ length items.old }
     ensures* writes_back { sem 𝓛 (LendsInTwo T.row items.entry result) }
     ensures front { result.0.now ≡ take (count * N) items.old }
@@ -22,14 +21,14 @@ fn split_blocks<T, const N: usize>(items: &mut [T], count: usize) -> (&mut [T], 
 }
 
 /// Splits a slice after as many whole blocks of `N` items as fit.
-pub fn split_whole<T, const N: usize>(items: &mut [T]) -> (&mut [T], &mut [T])
+fn split_after_whole_blocks<T, const N: usize>(items: &mut [T]) -> (&mut [T], &mut [T])
     requires { 0 < N }
     ensures* writes_back { sem 𝓛 (LendsInTwo T.row items.entry result) }
     ensures whole { result.0.now ≡ take (length items.old / N * N) items.old }
     ensures rest { result.1.now ≡ drop (length items.old / N * N) items.old }
 {
     let count = items.len() / N;
-    split_blocks::<T, N>(items, count)
+    split_after_blocks::<T, N>(items, count)
 }
 
 /// Splits a slice into a view of as many whole blocks of `N` items as fit, and the fewer than `N` items
@@ -56,7 +55,7 @@ pub fn as_chunks_mut<T, const N: usize>(items: &mut [T]) -> (AsChunksMut<'_, T, 
     ensures rest { result.1.now ≡ drop (length items.old / N * N) items.old }
     ensures short { length result.1.now < N }
 {
-    let (whole, rest) = split_whole::<T, N>(items);
+    let (whole, rest) = split_after_whole_blocks::<T, N>(items);
     (AsChunksMut { items: whole }, rest)
 }
 
@@ -80,15 +79,6 @@ impl<'a, 'b, T, const N: usize> From<&'a AsChunksMut<'b, T, N>> for AsChunks<'a,
 impl<'a, T, const N: usize> AsChunksMut<'a, T, N> {
     ghost use Rattle.aead_ciphers_base.specs.AsChunksMut.{KeepsCount, LendsItems, LendsParts};
 
-    /// Creates a view of a slice whose length is a multiple of `N`.
-    pub fn from_whole(items: &'a mut [T]) -> Self
-        requires { length items.old % N ≡ 0 }
-        ensures same_reference { result.items.ghost_name ≡ items.entry.ghost_name }
-        ensures items { result.items.now ≡ items.old }
-    {
-        AsChunksMut { items }
-    }
-
     /// Returns the items of all blocks.
     #[tactic(auto, using(crate::proofs::BlocksLemmas::joined_blocks))]
     pub fn as_flattened(&self) -> &[T]
@@ -102,23 +92,6 @@ impl<'a, T, const N: usize> AsChunksMut<'a, T, N> {
     pub fn as_flattened_mut(&mut self) -> &mut [T]
         ensures* writes_back { sem 𝓛 (LendsItems T.row N.row self.entry result) }
         ensures items { result.now ≡ self.old.items.now }
-    {
-        self.items
-    }
-
-    /// Calls `f` with the items of all blocks, for writing, and returns what `f` returns.
-    pub fn with_flattened_mut<R, F: FnOnce(&mut [T]) -> R>(&mut self, f: F) -> R
-        requires { FnOnceTakesAtMut F.FnOnce f self.old.items.now }
-        ensures same_reference { self.new.items.ghost_name ≡ self.old.items.ghost_name }
-        ensures written { FnOnceReturnsAtMut F.FnOnce f self.old.items.now result self.new.items.now }
-    {
-        f(self.items)
-    }
-
-    /// Consumes the view, and returns the items of all blocks, for writing.
-    pub fn into_flattened(self) -> &'a mut [T]
-        ensures same_reference { result.ghost_name ≡ self.entry.items.ghost_name }
-        ensures items { result.now ≡ self.entry.items.now }
     {
         self.items
     }
@@ -149,7 +122,7 @@ impl<'a, T, const N: usize> AsChunksMut<'a, T, N> {
         ensures front { result.0.items.now ≡ take (mid * N) self.old.items.now }
         ensures back { result.1.items.now ≡ drop (mid * N) self.old.items.now }
     {
-        let (before, after) = split_blocks::<T, N>(self.as_flattened_mut(), mid);
+        let (before, after) = split_after_blocks::<T, N>(self.as_flattened_mut(), mid);
         (AsChunksMut { items: before }, AsChunksMut { items: after })
     }
 
@@ -161,13 +134,13 @@ impl<'a, T, const N: usize> AsChunksMut<'a, T, N> {
         ensures rest { chunks_mut_rest result.chunks ≡ self.old.items.now }
         ensures size { 0 < N → chunks_mut_size result.chunks ≡ CHUNK_LEN * N }
     {
-        in_chunks::<T, N, CHUNK_LEN>(self.as_flattened_mut())
+        chunks_of_blocks::<T, N, CHUNK_LEN>(self.as_flattened_mut())
     }
 }
 
 /// Returns an iterator over views of `CHUNK_LEN` blocks each of a slice of whole blocks, in order.
 #[tactic(auto, using(crate::proofs::BlocksLemmas::whole_size))]
-fn in_chunks<T, const N: usize, const CHUNK_LEN: usize>(
+fn chunks_of_blocks<T, const N: usize, const CHUNK_LEN: usize>(
     items: &mut [T],
 ) -> AsChunksMutChunksMutIter<'_, T, N>
     requires some { 0 < CHUNK_LEN }
@@ -176,6 +149,7 @@ fn in_chunks<T, const N: usize, const CHUNK_LEN: usize>(
     ensures rest { chunks_mut_rest result.chunks ≡ items.old }
     ensures size { 0 < N → chunks_mut_size result.chunks ≡ CHUNK_LEN * N }
 {
+    // If `N` is zero: std takes no size of 0.
     let size = (CHUNK_LEN * N).max(1);
     AsChunksMutChunksMutIter {
         chunks: items.chunks_mut(size),

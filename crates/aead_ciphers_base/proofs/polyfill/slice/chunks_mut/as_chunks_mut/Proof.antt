@@ -39,9 +39,9 @@ as_chunks_mut_spec 𝓤 𝓛 𝓜 𝓡 wired X n L fits =
     N.alloc_all ! (λ l. N.pass_all ! refl (W.words_typed Ts passed words) $
     reborrows ! x.ref_ptr (length xs) refl refl (tt, tt) typed $
     W.tell ! some $ tells ! number-lives $ tells ! lives $ move ! (1 ∷ 2 ∷ 3 ∷ 4 ∷ []) $
-    W.consults 𝓛 (C.split_whole.ended X J) (C.split_whole.clauses X J 𝓛 𝓜.mem 𝓡.returns) ! (W.table_of 𝓛 𝓜 𝓡)
-    (P.split_whole.Met.met 𝓤 𝓛 𝓜 𝓡
-    (P.as_chunks_mut.Code.calls-aead_ciphers_base::polyfill::slice::chunks_mut::split_whole 𝓡.env wired) X n L fits)
+    W.consults 𝓛 (C.split_after_whole_blocks.ended X J) (C.split_after_whole_blocks.clauses X J 𝓛 𝓜.mem 𝓡.returns) ! (W.table_of 𝓛 𝓜 𝓡)
+    (P.split_after_whole_blocks.Met.met 𝓤 𝓛 𝓜 𝓡
+    (P.as_chunks_mut.Code.calls-aead_ciphers_base::polyfill::slice::chunks_mut::split_after_whole_blocks 𝓡.env wired) X n L fits)
     ((κs, qs, bounds, a, vals), tt) (gets ! tt refl) (λ v r ws.
     W.takes ! (N.follows_both (N.Items R 0) (N.Items R 0) (N.Items R 0) x.ghost_name r.0.ghost_name r.1.ghost_name ◌++◌)
     $ move ! (1 ∷ []) $

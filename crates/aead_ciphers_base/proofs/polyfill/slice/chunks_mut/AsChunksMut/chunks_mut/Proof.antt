@@ -65,9 +65,9 @@ chunks_mut_spec 𝓤 𝓛 𝓜 𝓡 wired X n t L fits fits-t =
     W.tell ! (N.ap (λ l. N.length l % n) same ∙ x.now.whole) $ tells ! product-fits $ tells ! some $
     tells ! size-of-iter $ tells ! chunk-lives $
     tells ! number-lives $ tells ! lives $ move ! (3 ∷ 5 ∷ 6 ∷ 8 ∷ 1 ∷ []) $
-    W.consults 𝓛 (C.in_chunks.ended X J I) (C.in_chunks.clauses X J I 𝓛 𝓜.mem 𝓡.returns) ! (W.table_of 𝓛 𝓜 𝓡)
-    (P.in_chunks.Met.met 𝓤 𝓛 𝓜 𝓡
-    (P.AsChunksMut.chunks_mut.Code.calls-aead_ciphers_base::polyfill::slice::chunks_mut::in_chunks 𝓡.env wired) X n t L
+    W.consults 𝓛 (C.chunks_of_blocks.ended X J I) (C.chunks_of_blocks.clauses X J I 𝓛 𝓜.mem 𝓡.returns) ! (W.table_of 𝓛 𝓜 𝓡)
+    (P.chunks_of_blocks.Met.met 𝓤 𝓛 𝓜 𝓡
+    (P.AsChunksMut.chunks_mut.Code.calls-aead_ciphers_base::polyfill::slice::chunks_mut::chunks_of_blocks 𝓡.env wired) X n t L
     fits fits-t)
     (((κs.0, κs.1.1), (qs.0, qs.1.1), (bounds.1.0, tt), (r, tt), (v ∷ [], tt)), tt) (gets ! tt refl) (λ w it ws'.
     learns ! (λ rest. N.heard ! _ (λ sized. N.peeks ! Iter (Is Iter) (N.shows 𝓛 Iter) it (w ∷ []) (λ is-it.

@@ -57,9 +57,9 @@ split_at_mut_spec 𝓤 𝓛 𝓜 𝓡 wired X n L fits =
     let fit = blocks_fit n mid xs inside in let there : mid * n ≤ length r.now = N.subst (λ
     (l : N.List X.Denot). mid * n ≤ length l) (N.sym same) fit in
     W.tell ! there $ tells ! number-lives $ tells ! lives $ move ! (3 ∷ 5 ∷ 6 ∷ 1 ∷ 8 ∷ []) $
-    W.consults 𝓛 (C.split_blocks.ended X J) (C.split_blocks.clauses X J 𝓛 𝓜.mem 𝓡.returns) ! (W.table_of 𝓛 𝓜 𝓡)
-    (P.split_blocks.Met.met 𝓤 𝓛 𝓜 𝓡
-    (P.AsChunksMut.split_at_mut.Code.calls-aead_ciphers_base::polyfill::slice::chunks_mut::split_blocks 𝓡.env wired) X n
+    W.consults 𝓛 (C.split_after_blocks.ended X J) (C.split_after_blocks.clauses X J 𝓛 𝓜.mem 𝓡.returns) ! (W.table_of 𝓛 𝓜 𝓡)
+    (P.split_after_blocks.Met.met 𝓤 𝓛 𝓜 𝓡
+    (P.AsChunksMut.split_at_mut.Code.calls-aead_ciphers_base::polyfill::slice::chunks_mut::split_after_blocks 𝓡.env wired) X n
     L fits)
     (((κs.0, κs.1.1), (qs.0, qs.1.1), (bounds.1.0, tt), (r, (mid, tt)), (v ∷ [], vals.1)), tt) (gets ! tt refl)
     (λ w t ws'.
