@@ -5,13 +5,12 @@
 --     lent_for              the lifetimes and shares of a call that the buffer is lent to
 --     relends, regains      the buffer is lent to the core for a new lifetime, and is back as `lend_plaintext` wants it
 --     lends                 `lend_plaintext` gave the plaintext
---     says_next             what an opening key's call says beside what it lends
-use Rattle.aead_ciphers_base.proofs.WalkNames.{Result, IfOk, Ura, named, Val, sep, id⊢, Lft, GName, Share, flft, Logic, Item, ‵, ◌⊛◌, raw, some, later, drop, split, fsplit, use1, use2, use3, await, pick, Step, Seq, Goal, fact, yes, Is, shows, MutBor, MutSlice, Room, slice_val, mut_slice_Lawful, peeks}
-use Rattle.std.specs.Prelude.{◌≡◌, ℕ, zero, suc, List, take, Bool, is_ok, OnOk, OnErr}
+use Rattle.aead_ciphers_base.proofs.WalkNames.{Ura, named, Val, id⊢, Lft, GName, Share, flft, Logic, Item, ‵, ◌⊛◌, raw, some, later, drop, split, fsplit, use1, use2, use3, await, pick, Seq, Goal, yes, Is, shows, MutBor, MutSlice, Room, slice_val, mut_slice_Lawful, peeks}
+use Rattle.std.specs.Prelude.{◌≡◌, ℕ, zero, suc, List}
 use mir.Syntax.{Body, Callee, Opd, Place, seq, call}
 use mir.Val.{WT}
 use types.Tokens.{lft_new, lft_end}
-use types.Kit.{given, learn, step, Post, Soaks, runs, lands}
+use types.Kit.{given, learn, Post, Soaks, runs, lands}
 use types.Run.{Opds}
 use contract.Lifetimes.{Lfts, Shares}
 use contract.Running.{Running, tables}
@@ -26,15 +25,11 @@ use denote.Triple.Spec.{triple_of}
 use denote.Triple.Statement.{Contract, Triple}
 use borrow.Rule.Slice.Lend.{sl_relend, sl_relent_backˡ, kept_f}
 use Rattle.aead_ciphers.specs
-use specs.Lending.{LendsFront, Stands, lent_buffer}
+use specs.Lending.{LendsFront, Stands}
 use Rattle.aead_ciphers.proofs
 use proofs.Lending.{Answer, answer_Lawful, Out, out_Lawful, Own, as_own, as_slice}
 use Rattle.aead_ciphers_base.proofs.Walks.{answers, readies, takes}
-use proofs.NextNonce.{lent_next, on_ok, on_err}
-use specs.BoundState.{BoundState}
-use specs.NonceSequence.{UnderNext}
 use proofs.LentPlaintext.{Lent}
-use specs.Steps.{OpenStep}
 pub use mathlib.Core.Path.{refl}
 pub use Prim.Native.Nat.{◌-◌}
 pub use mathlib.Core.List.{[], ◌∷◌}
@@ -55,6 +50,7 @@ pub use proofs.Lending.{nonce_word, aad_word, tag_word, range_word}
 pub use Rattle.aead_ciphers_base.proofs.WalkLocals.{gets, alone, reborrows}
 pub use Rattle.aead_ciphers_base.proofs.Walks.{at_words, Words, words_vals, words_typed, slice_typed, table_of, dropped, goes}
 pub use Rattle.aead_ciphers_base.proofs.Walks.{walked, consults, learns, tell, tells, says, ends}
+pub use proofs.NextNonce.{lent_next, call_lent}
 pub use proofs.LentPlaintext.{as_lent, lent_plain, opened_fronts, step_fronts, length-before_tag}
 pub use Rattle.aead_ciphers_base.specs.Values.{aad_bytes}
 pub use specs.Gcm.{Opened, OpenedAttached}
@@ -97,29 +93,6 @@ module _ {M : Type 1} {𝓤 : Ura M} (𝓛 : Logic 𝓤) where
   -- the machine's table of calls
   abbrev pub calls_of : (𝓜 : Model 𝓤 𝓛.H) → Running 𝓤 𝓛.H 𝓜 → Calls 𝓤 𝓛.H
   calls_of 𝓜 𝓡 = (tables 𝓤 𝓛.H 𝓜 𝓡 𝓡.env).C
-
-  -- what an opening key's call says beside what it lends, from what its core said
-  pub says_next : {K : Type 0} {Γ : List (Item 𝓤)} {G : Goal 𝓤 𝓛.H} → K → (A B : Type 0) (plain : List ℕ → List ℕ)
-      (Opens : List ℕ → Bool → List ℕ → Type 0) {φ R N E : Type 0} {spent : N → List (List ℕ)} {is_closed : N → Bool}
-      {was after : BoundState N} {aad : List ℕ} {start m : ℕ} {old new : List ℕ} {u : Result ℕ E}
-      {r : Result (MutBor (List ℕ)) E} {next : List ℕ → Type 0} → Lent m old new u r → φ
-      → OpenStep spent is_closed was after aad start old new (is_ok u)
-      → (¬ R → UnderNext next (λ nonce. Opens nonce (is_ok u) new))
-      → OnOk u (UnderNext next (λ nonce. take m new ≡ plain nonce))
-      → OnOk u A → OnErr u B → (let buffer = lent_buffer r old in Step K 𝓛 (raw (sep 𝓤 (fact 𝓤 φ)
-      (sep 𝓤 (fact 𝓤 (OpenStep spent is_closed was after aad start old buffer (is_ok r)))
-      (sep 𝓤 (fact 𝓤 (IfOk r (λ lent. length lent.now ≡ m)))
-      (sep 𝓤 (fact 𝓤 (¬ R → UnderNext next (λ nonce. Opens nonce (is_ok r) buffer)))
-      (sep 𝓤 (fact 𝓤 (IfOk r (λ lent. UnderNext next (λ nonce. lent.now ≡ plain nonce))))
-      (sep 𝓤 (fact 𝓤 (OnOk r A)) (fact 𝓤 (OnErr r B)))))))) ∷ Γ) G Γ G)
-  says_next t A B plain Opens {R = R} {spent = spent} {is_closed} {was} {after} {aad} {start} {old = old} {u = u}
-      {r} {next} end stays step-done opened plaintext gives stands = step (λ k.
-      tell t (on_err B u r end.accepts stands) $ tells t (on_ok A u r end.accepts gives) $
-      tells t (lent_next next plain u r end plaintext) $
-      tells t (as_lent (λ accepts buffer. ¬ R → UnderNext next (λ nonce. Opens nonce accepts buffer)) end opened) $
-      tells t end.count $
-      tells t (as_lent (λ accepts buffer. OpenStep spent is_closed was after aad start old buffer accepts) end step-done) $
-      tells t stays $ k)
 
   -- ---- the buffer
   module _ (B : Buffer) where

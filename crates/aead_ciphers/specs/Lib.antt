@@ -8,6 +8,7 @@ pub use Rattle.aead_ciphers_base.specs.Values
 pub use Rattle.aead_ciphers_base.specs.Work
 pub mod AeadKey
 pub mod Algorithm
+pub mod BoundCalls
 pub mod BoundState
 pub mod Counting
 pub mod Different

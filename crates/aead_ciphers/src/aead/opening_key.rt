@@ -1,13 +1,12 @@
 //! The key that opens under the nonces of a sequence.
-ghost use Rattle.std.specs.Prelude.{◌≡◌, ◌-◌, ◌⊎◌, length, drop, take, is_ok, IfOk, OnOk, OnErr};
+ghost use Rattle.std.specs.Prelude.{◌≡◌, ◌-◌, length, drop, take, IfOk};
 ghost use Rattle.std.specs.Borrow.{sem};
 ghost use Rattle.aead_ciphers_base.specs.Values.{aad_bytes};
 ghost use Rattle.aead_ciphers_base.specs.Aes.{aes};
-ghost use Rattle.aead_ciphers.specs.Gcm.{gcm_decrypted, OpenedAttached};
-ghost use Rattle.aead_ciphers.specs.BoundState.{Keeps};
+ghost use Rattle.aead_ciphers.specs.BoundCalls.{OpeningCall};
+ghost use Rattle.aead_ciphers.specs.Gcm.{gcm_decrypted};
 ghost use Rattle.aead_ciphers.specs.Lending.{LendsFront, lent_buffer};
 ghost use Rattle.aead_ciphers.specs.NonceSequence.{UnderNext};
-ghost use Rattle.aead_ciphers.specs.Steps.{OpenStep};
 
 use crate::aead::lend::lend_plaintext;
 use crate::aead::{Aad, Algorithm, BoundKey, LessSafeKey, NonceSequence, UnboundKey, Unspecified};
@@ -77,26 +76,16 @@ impl<N: NonceSequence> BoundKey<N> for OpeningKey<N> {
 impl<N: NonceSequence> OpeningKey<N> {
     /// Like `open_within`, but returns the length of the plaintext in bytes. The plaintext is at the front of `in_out`.
     /// ring has no such method.
+    #[tactic(auto, using(crate::proofs::NextNonce::no_nonce_open))]
     pub fn open_within_to_front(
         &mut self,
         aad: Aad<'_>,
         in_out: &mut [u8],
         ciphertext_and_tag: RangeFrom<usize>,
     ) -> Result<usize, Unspecified>
-        ensures kept { Keeps N.origin self.old self.new }
-        ensures step { OpenStep N.spent N.is_closed self.old self.new (aad_bytes aad.entry)
-            ciphertext_and_tag.start in_out.old in_out.new (is_ok result) }
+        ensures call { OpeningCall N.spent N.is_closed N.origin N.gives N.refuses N.is_next self.old self.new
+            (aad_bytes aad.entry) ciphertext_and_tag.start in_out.old in_out.new result }
         ensures count { IfOk result (λ n. n ≡ length in_out.old - 16 - ciphertext_and_tag.start) }
-        ensures opened { ¬ N.refuses self.old.sequence self.new.sequence
-            → UnderNext (N.is_next self.old.sequence) (λ nonce. OpenedAttached (aes self.old.key.bytes) nonce
-            (aad_bytes aad.entry) ciphertext_and_tag.start in_out.old (is_ok result) in_out.new) }
-        ensures plaintext { OnOk result (UnderNext (N.is_next self.old.sequence) (λ nonce.
-            take (length in_out.old - 16 - ciphertext_and_tag.start) in_out.new
-            ≡ gcm_decrypted (aes self.old.key.bytes) nonce (drop ciphertext_and_tag.start (take (length in_out.old - 16) in_out.old)))) }
-        ensures refused { OnErr result (in_out.new ≡ in_out.old) }
-        ensures gives { OnOk result (N.gives self.old.sequence self.new.sequence) }
-        ensures after_error { OnErr result
-            (N.refuses self.old.sequence self.new.sequence ⊎ N.gives self.old.sequence self.new.sequence) }
     {
         let nonce = self.nonce_sequence.advance()?;
         self.key
@@ -110,20 +99,9 @@ impl<N: NonceSequence> OpeningKey<N> {
         aad: Aad<'_>,
         in_out: &mut [u8],
     ) -> Result<usize, Unspecified>
-        ensures kept { Keeps N.origin self.old self.new }
-        ensures step { OpenStep N.spent N.is_closed self.old self.new (aad_bytes aad.entry)
-            0 in_out.old in_out.new (is_ok result) }
+        ensures call { OpeningCall N.spent N.is_closed N.origin N.gives N.refuses N.is_next self.old self.new
+            (aad_bytes aad.entry) 0 in_out.old in_out.new result }
         ensures count { IfOk result (λ n. n ≡ length in_out.old - 16) }
-        ensures opened { ¬ N.refuses self.old.sequence self.new.sequence
-            → UnderNext (N.is_next self.old.sequence) (λ nonce. OpenedAttached (aes self.old.key.bytes) nonce
-            (aad_bytes aad.entry) 0 in_out.old (is_ok result) in_out.new) }
-        ensures plaintext { OnOk result (UnderNext (N.is_next self.old.sequence) (λ nonce.
-            take (length in_out.old - 16) in_out.new
-            ≡ gcm_decrypted (aes self.old.key.bytes) nonce (take (length in_out.old - 16) in_out.old))) }
-        ensures refused { OnErr result (in_out.new ≡ in_out.old) }
-        ensures gives { OnOk result (N.gives self.old.sequence self.new.sequence) }
-        ensures after_error { OnErr result
-            (N.refuses self.old.sequence self.new.sequence ⊎ N.gives self.old.sequence self.new.sequence) }
     {
         self.open_within_to_front(aad, in_out, 0..)
     }
@@ -148,19 +126,13 @@ impl<N: NonceSequence> OpeningKey<N> {
     ) -> Result<&'a mut [u8], Unspecified>
         ensures* writes_back { sem 𝓛 (LendsFront in_out.entry result
             (length in_out.old - 16 - ciphertext_and_tag.start)) }
-        ensures kept { Keeps N.origin self.old self.new }
-        ensures step { OpenStep N.spent N.is_closed self.old self.new (aad_bytes aad.entry)
-            ciphertext_and_tag.start in_out.old (lent_buffer result in_out.old) (is_ok result) }
+        ensures call { OpeningCall N.spent N.is_closed N.origin N.gives N.refuses N.is_next self.old self.new
+            (aad_bytes aad.entry) ciphertext_and_tag.start in_out.old (lent_buffer result in_out.old) result }
         ensures count { IfOk result (λ plaintext.
             length plaintext.now ≡ length in_out.old - 16 - ciphertext_and_tag.start) }
-        ensures opened { ¬ N.refuses self.old.sequence self.new.sequence
-            → UnderNext (N.is_next self.old.sequence) (λ nonce. OpenedAttached (aes self.old.key.bytes) nonce
-            (aad_bytes aad.entry) ciphertext_and_tag.start in_out.old (is_ok result) (lent_buffer result in_out.old)) }
-        ensures plaintext { IfOk result (λ plaintext. UnderNext (N.is_next self.old.sequence) (λ nonce.
-            plaintext.now ≡ gcm_decrypted (aes self.old.key.bytes) nonce (drop ciphertext_and_tag.start (take (length in_out.old - 16) in_out.old)))) }
-        ensures gives { OnOk result (N.gives self.old.sequence self.new.sequence) }
-        ensures after_error { OnErr result
-            (N.refuses self.old.sequence self.new.sequence ⊎ N.gives self.old.sequence self.new.sequence) }
+        ensures plaintext { IfOk result (λ plaintext. UnderNext (N.is_next self.old.sequence) (λ nonce. plaintext.now
+            ≡ gcm_decrypted (aes self.old.key.bytes) nonce
+            (drop ciphertext_and_tag.start (take (length in_out.old - 16) in_out.old)))) }
     {
         let opened = self.open_within_to_front(aad, in_out, ciphertext_and_tag);
         lend_plaintext(in_out, opened)
@@ -173,18 +145,11 @@ impl<N: NonceSequence> OpeningKey<N> {
         in_out: &'a mut [u8],
     ) -> Result<&'a mut [u8], Unspecified>
         ensures* writes_back { sem 𝓛 (LendsFront in_out.entry result (length in_out.old - 16)) }
-        ensures kept { Keeps N.origin self.old self.new }
-        ensures step { OpenStep N.spent N.is_closed self.old self.new (aad_bytes aad.entry)
-            0 in_out.old (lent_buffer result in_out.old) (is_ok result) }
+        ensures call { OpeningCall N.spent N.is_closed N.origin N.gives N.refuses N.is_next self.old self.new
+            (aad_bytes aad.entry) 0 in_out.old (lent_buffer result in_out.old) result }
         ensures count { IfOk result (λ plaintext. length plaintext.now ≡ length in_out.old - 16) }
-        ensures opened { ¬ N.refuses self.old.sequence self.new.sequence
-            → UnderNext (N.is_next self.old.sequence) (λ nonce. OpenedAttached (aes self.old.key.bytes) nonce
-            (aad_bytes aad.entry) 0 in_out.old (is_ok result) (lent_buffer result in_out.old)) }
         ensures plaintext { IfOk result (λ plaintext. UnderNext (N.is_next self.old.sequence) (λ nonce.
             plaintext.now ≡ gcm_decrypted (aes self.old.key.bytes) nonce (take (length in_out.old - 16) in_out.old))) }
-        ensures gives { OnOk result (N.gives self.old.sequence self.new.sequence) }
-        ensures after_error { OnErr result
-            (N.refuses self.old.sequence self.new.sequence ⊎ N.gives self.old.sequence self.new.sequence) }
     {
         let opened = self.open_in_place_to_front(aad, in_out);
         lend_plaintext(in_out, opened)

@@ -1,11 +1,11 @@
 //! The key that seals under the nonces of a sequence.
-ghost use Rattle.std.specs.Prelude.{◌≡◌, ◌+◌, ◌⊎◌, ⊤, length, is_ok, IsOk, IfOk, OnOk, OnErr};
+ghost use Rattle.std.specs.Prelude.{◌≡◌, ◌+◌, ⊤, length, IfOk, OnOk, OnErr};
 ghost use Rattle.aead_ciphers_base.specs.Values.{aad_bytes};
 ghost use Rattle.aead_ciphers_base.specs.Aes.{aes};
-ghost use Rattle.aead_ciphers.specs.BoundState.{Keeps};
-ghost use Rattle.aead_ciphers.specs.Gcm.{Fits, gcm_encrypted, gcm_tag, gcm_sealed};
+ghost use Rattle.aead_ciphers.specs.BoundCalls.{SealingCall};
+ghost use Rattle.aead_ciphers.specs.Gcm.{gcm_encrypted, gcm_tag, gcm_sealed};
 ghost use Rattle.aead_ciphers.specs.NonceSequence.{UnderNext};
-ghost use Rattle.aead_ciphers.specs.Steps.{SealStep, with_tag};
+ghost use Rattle.aead_ciphers.specs.Steps.{with_tag};
 
 use crate::aead::{
     Aad, Algorithm, BoundKey, InOut, LessSafeKey, NonceSequence, Tag, UnboundKey, Unspecified,
@@ -104,18 +104,9 @@ impl<N: NonceSequence> SealingKey<N> {
         ensures sealed { OnOk result (UnderNext (N.is_next self.old.sequence) (λ nonce. B.bytes in_out.new
             ≡ gcm_sealed (aes self.old.key.bytes) nonce (aad_bytes aad.entry) (B.bytes in_out.old))) }
         ensures refused { OnErr result (B.bytes in_out.new ≡ B.bytes in_out.old) }
-        ensures kept { Keeps N.origin self.old self.new }
-        ensures step { SealStep N.spent N.is_closed (B.may_refuse in_out.old) (B.may_grant in_out.old)
-            self.old self.new (aad_bytes aad.entry) (B.bytes in_out.old) (B.bytes in_out.new)
-            (is_ok result) }
         ensures length { OnOk result (length (B.bytes in_out.new) ≡ length (B.bytes in_out.old) + 16) }
-        ensures granted { IsOk result → B.may_grant in_out.old }
-        ensures fits { IsOk result → Fits (length (aad_bytes aad.entry)) (length (B.bytes in_out.old)) }
-        ensures gives { OnOk result (N.gives self.old.sequence self.new.sequence) }
-        ensures refuses { Fits (length (aad_bytes aad.entry)) (length (B.bytes in_out.old))
-            → ¬ B.may_refuse in_out.old → OnErr result (N.refuses self.old.sequence self.new.sequence) }
-        ensures after_error { OnErr result ((self.new ≡ self.old)
-            ⊎ N.refuses self.old.sequence self.new.sequence ⊎ N.gives self.old.sequence self.new.sequence) }
+        ensures call { SealingCall N.spent N.is_closed N.origin N.gives N.refuses (B.may_refuse in_out.old)
+            (B.may_grant in_out.old) self.old self.new (aad_bytes aad.entry) (B.bytes in_out.old) (B.bytes in_out.new) result }
     {
         in_out.grow_by_tag()?;
         match self.nonce_sequence.advance() {
@@ -143,20 +134,13 @@ impl<N: NonceSequence> SealingKey<N> {
         aad: Aad<'_>,
         in_out: &mut [u8],
     ) -> Result<Tag, Unspecified>
-        ensures kept { Keeps N.origin self.old self.new }
-        ensures step { SealStep N.spent N.is_closed ⊥ ⊤ self.old self.new (aad_bytes aad.entry)
-            in_out.old (with_tag in_out.new result) (is_ok result) }
         ensures ciphertext { OnOk result (UnderNext (N.is_next self.old.sequence) (λ nonce. in_out.new
             ≡ gcm_encrypted (aes self.old.key.bytes) nonce in_out.old)) }
         ensures tag { IfOk result (λ tag. UnderNext (N.is_next self.old.sequence) (λ nonce. tag
             ≡ gcm_tag (aes self.old.key.bytes) nonce (aad_bytes aad.entry) in_out.new)) }
         ensures refused { OnErr result (in_out.new ≡ in_out.old) }
-        ensures fits { IsOk result → Fits (length (aad_bytes aad.entry)) (length in_out.old) }
-        ensures gives { OnOk result (N.gives self.old.sequence self.new.sequence) }
-        ensures refuses { Fits (length (aad_bytes aad.entry)) (length in_out.old)
-            → OnErr result (N.refuses self.old.sequence self.new.sequence) }
-        ensures after_error { OnErr result
-            (N.refuses self.old.sequence self.new.sequence ⊎ N.gives self.old.sequence self.new.sequence) }
+        ensures call { SealingCall N.spent N.is_closed N.origin N.gives N.refuses ⊥ ⊤ self.old self.new
+            (aad_bytes aad.entry) in_out.old (with_tag in_out.new result) result }
     {
         let nonce = self.nonce_sequence.advance()?;
         self.key.seal_in_place_separate_tag(nonce, aad, in_out)

@@ -31,12 +31,9 @@ open_in_place_spec 𝓤 𝓛 𝓜 𝓡 wired N LN g d met =
     W.consults 𝓛 (K.open_in_place_to_front.ended N g d) (K.open_in_place_to_front.clauses N g d 𝓛 𝓜.mem 𝓡.returns) !
     (W.table_of 𝓛 𝓜 𝓡) (core_met 𝓤 𝓛 𝓜 𝓡
     (P.Code.calls-aead_ciphers::aead::opening_key::OpeningKey::open_in_place_to_front 𝓡.env wired) N LN g d met)
-    ((κs-lent, qs-lent, bounds, (self, (aad, (W.renamed b δ, tt))), vals), tt) (W.gets ! tt refl) (λ v u ws. let was =
-    self.now in let after = ws.0 in let new = ws.1.1.0 in
-    learns ! (λ stays. learns ! (λ step. learns ! (λ counted. learns ! (λ opened. learns ! (λ plaintext. learns !
-    (λ refused. learns ! (λ gave. W.heard ! _ (λ stands. let m = W.length old - 16 in
-    let fronts = W.step_fronts g.spent g.is_closed was after (W.aad_bytes aad) 0 old new m
-    (omega W.arith) u step counted in
+    ((κs-lent, qs-lent, bounds, (self, (aad, (W.renamed b δ, tt))), vals), tt) (W.gets ! tt refl) (λ v u ws.
+    let after = ws.0 in let new = ws.1.1.0 in learns ! (λ call. W.heard ! _ (λ counted. let m = W.length old - 16 in
+    let fronts = W.step_fronts _ _ _ _ _ _ old new m (omega W.arith) u call.step counted in
     -- [the answer; four tokens; self; nothing of aad; what in_out ends as; what is kept]
     move ! (3 ∷ 0 ∷ 7 ∷ 8 ∷ []) $ W.regains 𝓛 b 𝓜 𝓡 m v u new ! tt α δ fronts (λ is-u. W.lands_as !
     refl refl is-u.0 $ W.reborrows ! in_out.ref_ptr (W.length old) refl refl (tt, tt) (W.typed b) $
@@ -44,8 +41,8 @@ open_in_place_spec 𝓤 𝓛 𝓜 𝓡 wired N LN g d met =
     (P.Code.calls-aead_ciphers::aead::lend::lend_plaintext 𝓡.env wired)) (W.gets ! tt refl) (λ w r is-r end.
     -- [in_out's token; the plaintext; what is owed of in_out; three tokens; self; once nothing]
     W.lands_as ! refl refl is-r.0 $ W.returns ! (W.look_at ! 0 refl) $ W.free_all ! refl $ move ! (2 ∷ []) $
-    W.says_next 𝓛 ! _ _ _ (λ nonce. W.OpenedAttached (W.aes was.key.bytes) nonce (W.aad_bytes aad) 0 old) end stays step opened
-    plaintext gave stands $ move ! (1 ∷ 0 ∷ []) $ W.says ! $ W.nothing ! $
+    W.tell ! (W.lent_next _ _ u r end (omega W.arith) call.plaintext) $ W.tells ! end.count $
+    W.tells ! (W.call_lent _ _ _ _ _ _ _ _ _ _ _ u r end call) $ move ! (1 ∷ 0 ∷ []) $ W.says ! $ W.nothing ! $
     W.keep ! (4 ∷ 5 ∷ 2 ∷ 6 ∷ 7 ∷ 8 ∷ 0 ∷ 3 ∷ 1 ∷ []) $
     W.ends 𝓛 T stayed c ((κs, qs, bounds, a, vals), tt) w r (after, (tt, (tt, tt))) !
-    (tt, (tt, (tt, tt))))))))))))))))))
+    (tt, (tt, (tt, tt))))))))))))

@@ -1,18 +1,18 @@
-use Rattle.std.proofs.Common.{refl}
+use Rattle.std.proofs.Common.{rules}
 use Rattle.aead_ciphers.specs.Steps.{opened}
 use Rattle.aead_ciphers.proofs
-use proofs.NextNonce.{no_nonce_open, plaintext_next}
+use proofs.NextNonce.{plaintext_next}
 use proofs.aead.opening_key.OpeningKey.open_within_to_front.Goals as goal
 
-pub returns-in_err-nonce-clause-step : goal.returns-in_err-nonce-clause-step
-returns-in_err-nonce-clause-step g c =
-    rw (← c.self.view_is) (no_nonce_open _ _ _ _ _ _ _ _ c.from_residual.result c.from_residual.ensures.0 c.in_err-nonce.ensures.err refl)
-
-pub returns-clause-step : goal.returns-clause-step
-returns-clause-step g c =
-    rw (← c.self.view_is) (opened c.in_ok-nonce.nonce _ c.in_ok-nonce.ensures.ok c.open_within_to_front.ensures.opened)
-
-pub returns-clause-plaintext : goal.returns-clause-plaintext
-returns-clause-plaintext g c =
-    rw (← c.self.view_is) (plaintext_next _ _ _ _ _ _ _ c.open_within_to_front.result c.in_ok-nonce.ensures.next c.open_within_to_front.ensures.opened
-    c.open_within_to_front.ensures.count)
+pub returns-clause-call : goal.returns-clause-call
+returns-clause-call g c =
+    let core = c.open_within_to_front in
+    rw (← c.self.view_is) (record {
+      kept = search rules;
+      step = opened c.in_ok-nonce.nonce _ c.in_ok-nonce.ensures.ok core.ensures.opened;
+      opened = search rules;
+      plaintext = plaintext_next _ _ _ _ _ _ _ core.result c.in_ok-nonce.ensures.next core.ensures.opened core.ensures.count;
+      refused = core.ensures.refused;
+      gives = search rules;
+      after_error = search rules;
+    })
