@@ -107,5 +107,6 @@ pub fn open(
         work.old work.new }
 {
     key.expanded
-        .open(nonce, aad, received_tag, in_out, src, work)
+        .open(nonce, aad, received_tag, in_out, src, work)?;
+    Ok(())
 }

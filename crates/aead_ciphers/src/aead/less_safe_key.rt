@@ -225,7 +225,8 @@ impl LessSafeKey {
         ensures count { IfOk result (λ n. n ≡ length in_out.old - ciphertext.start) }
         ensures refused { OnErr result (in_out.new ≡ in_out.old) }
     {
-        self.key.open_to_front(nonce, aad, tag, in_out, ciphertext)
+        self.key
+            .open(nonce, aad, tag, in_out, ciphertext, &mut Work::new())
     }
 
     /// Opens a ciphertext in place with its tag attached, and returns the plaintext (SP 800-38D algorithm 5).
@@ -273,8 +274,18 @@ impl LessSafeKey {
         ensures count { IfOk result (λ n. n ≡ length in_out.old - 16 - ciphertext_and_tag.start) }
         ensures refused { OnErr result (in_out.new ≡ in_out.old) }
     {
-        self.key
-            .open_within_to_front(nonce, aad, in_out, ciphertext_and_tag)
+        let (before_tag, tag) = in_out
+            .split_last_chunk_mut::<MAX_TAG_LEN>()
+            .ok_or(Unspecified)?;
+        let tag = Tag::from(*tag);
+        self.key.open(
+            nonce,
+            aad,
+            tag,
+            before_tag,
+            ciphertext_and_tag,
+            &mut Work::new(),
+        )
     }
 
     /// Opens the whole of `in_out`, like `open_within` with the range `0..`.

@@ -6,13 +6,13 @@ ghost use Rattle.aead_ciphers_base.specs.KeyBytes.{key_bytes};
 ghost use Rattle.aead_ciphers_base.specs.Values.{aad_bytes};
 ghost use Rattle.aead_ciphers_base.specs.Work.{Adds, CanAdd};
 ghost use Rattle.aead_ciphers.specs.ExpandedKey.{IsExpanded, bytes_of, zero_key};
-ghost use Rattle.aead_ciphers.specs.Gcm.{CanOpen, CanSeal, Fits, OpenWork, SealWork, Opened, OpenedAttached, gcm_encrypted, gcm_tag};
+ghost use Rattle.aead_ciphers.specs.Gcm.{CanOpen, CanSeal, Fits, OpenWork, SealWork, Opened, gcm_encrypted, gcm_tag};
 
 use super::{opening, sealing};
 use crate::gcm;
 use aead_ciphers_base::aes::{self, EncryptBlock, KeyBytes, Work, ZERO_BLOCK};
 use aead_ciphers_base::error::Unspecified;
-use aead_ciphers_base::values::{Aad, MAX_TAG_LEN, Nonce, Tag};
+use aead_ciphers_base::values::{Aad, Nonce, Tag};
 use std::ops::RangeFrom;
 
 /// An expanded AES-GCM key, without an invariant, so that it can be expanded in place.
@@ -80,7 +80,7 @@ impl ExpandedKey {
         sealing::seal_with(&aes, &gcm, nonce, aad, in_out, work)
     }
 
-    /// Opens under this key, like `aes_gcm::open`.
+    /// Opens under this key, like `aes_gcm::open`, and returns the length of the plaintext in bytes.
     pub(crate) fn open(
         &self,
         nonce: Nonce,
@@ -89,61 +89,20 @@ impl ExpandedKey {
         in_out: &mut [u8],
         src: RangeFrom<usize>,
         work: &mut Work,
-    ) -> Result<(), Unspecified>
+    ) -> Result<usize, Unspecified>
         requires key { IsExpanded self.now }
         requires sums { CanOpen work.old (length (aad_bytes aad)) src.start (length in_out.old) }
         ensures opened { Opened (aes_cipher (bytes_of self.now)) nonce (aad_bytes aad.entry)
             received_tag src.start in_out.old (is_ok result) in_out.new }
+        ensures count { IfOk result (λ n. n ≡ length in_out.old - src.start) }
         ensures worked { OpenWork (length (aad_bytes aad.entry)) src.start (length in_out.old)
             result work.old work.new }
     {
         let aes = aes::KeyRef::new(&self.round_keys, self.rounds);
         let gcm = gcm::KeyRef::new(&self.multiples);
-        opening::open_with(&aes, &gcm, nonce, aad, received_tag, in_out, src, work)
-    }
-
-    /// Like `open`, but returns the length of the plaintext in bytes.
-    pub(crate) fn open_to_front(
-        &self,
-        nonce: Nonce,
-        aad: Aad<'_>,
-        tag: Tag,
-        in_out: &mut [u8],
-        ciphertext: RangeFrom<usize>,
-    ) -> Result<usize, Unspecified>
-        requires { IsExpanded self.now }
-        ensures opened { Opened (aes_cipher (bytes_of self.now)) nonce (aad_bytes aad.entry) tag
-            ciphertext.start in_out.old (is_ok result) in_out.new }
-        ensures count { IfOk result (λ n. n ≡ length in_out.old - ciphertext.start) }
-        ensures refused { OnErr result (in_out.new ≡ in_out.old) }
-    {
         let len = in_out.len();
-        let start = ciphertext.start;
-        self.open(nonce, aad, tag, in_out, ciphertext, &mut Work::new())?;
+        let start = src.start;
+        opening::open_with(&aes, &gcm, nonce, aad, received_tag, in_out, src, work)?;
         Ok(len - start)
-    }
-
-    /// Like `open_to_front`, but the tag is the last 16 bytes of `in_out`, which are unchanged. Also fails, before
-    /// anything else is checked, if `in_out` is shorter than 16 bytes.
-    pub(crate) fn open_within_to_front(
-        &self,
-        nonce: Nonce,
-        aad: Aad<'_>,
-        in_out: &mut [u8],
-        ciphertext_and_tag: RangeFrom<usize>,
-    ) -> Result<usize, Unspecified>
-        requires { IsExpanded self.now }
-        ensures opened { OpenedAttached (aes_cipher (bytes_of self.now)) nonce (aad_bytes aad.entry)
-            ciphertext_and_tag.start in_out.old (is_ok result) in_out.new }
-        ensures count { IfOk result (λ n. n ≡ length in_out.old - 16 - ciphertext_and_tag.start) }
-        ensures refused { OnErr result (in_out.new ≡ in_out.old) }
-    {
-        match in_out.split_last_chunk_mut::<MAX_TAG_LEN>() {
-            Some((before_tag, tag)) => {
-                let tag = Tag::from(*tag);
-                self.open_to_front(nonce, aad, tag, before_tag, ciphertext_and_tag)
-            }
-            None => Err(Unspecified),
-        }
     }
 }

@@ -1,7 +1,0 @@
-use Rattle.std.proofs.Common.{rules}
-use Rattle.aead_ciphers.proofs
-use proofs.LentPlaintext.{attached}
-use proofs.aes_gcm.expanded.ExpandedKey.open_within_to_front.Goals as goal
-
-pub returns-in-Some-clause-opened : goal.returns-in-Some-clause-opened
-returns-in-Some-clause-opened c = search (rules, attached)
