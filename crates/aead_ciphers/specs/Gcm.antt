@@ -30,7 +30,7 @@ pub record Fits (a n : ℕ) : Type 0 where
   pub aad : a < 2 ^ 61
   pub message : n ≤ 2 ^ 36 - 32
 
--- the ciphertext of a plaintext: counter mode from counter block 2 on (section 7.1 step 3)
+-- the ciphertext of a plaintext: counter mode from counter block 2, which is inc32 of J0, on (section 7.1 step 3)
 abbrev pub gcm_encrypted : (List ℕ → List ℕ) → List ℕ → List ℕ → List ℕ
 gcm_encrypted cipher nonce message = counter_mode cipher nonce 2 message
 
@@ -38,7 +38,7 @@ gcm_encrypted cipher nonce message = counter_mode cipher nonce 2 message
 abbrev pub gcm_decrypted : (List ℕ → List ℕ) → List ℕ → List ℕ → List ℕ
 gcm_decrypted cipher nonce ciphertext = counter_mode cipher nonce 2 ciphertext
 
--- the tag of a ciphertext; the hash subkey is the encrypted zero block (section 7.1 steps 1 and 6)
+-- the tag of a ciphertext; the hash subkey is the encrypted zero block, and J0 is counter block 1 (section 7.1 steps 1, 2 and 6)
 unfoldable pub gcm_tag : (List ℕ → List ℕ) → List ℕ → List ℕ → List ℕ → List ℕ
 gcm_tag cipher nonce aad ciphertext =
     ghash (cipher zero_block) (hashed aad ciphertext) ⊕ cipher (counter_block nonce 1)
