@@ -154,18 +154,6 @@ impl<'k> EncryptBlock for KeyRef<'k> {
     }
 }
 
-impl<'k> EncryptCtr32 for KeyRef<'k> {
-    fn ctr32_encrypt_within(
-        &self,
-        in_out: Overlapping<'_>,
-        counter: &mut Counter,
-        work: &mut Work,
-    ) {
-        let Overlapping { in_out, start } = in_out;
-        ctr32::encrypt_to_front(self, in_out, start, counter, work);
-    }
-}
-
 impl EncryptBlock for Key {
     ghost cipher = { λ key block. aes key block };
 
@@ -188,6 +176,7 @@ impl EncryptCtr32 for Key {
         work: &mut Work,
     ) {
         let Overlapping { in_out, start } = in_out;
-        ctr32::encrypt_to_front(&self.by_ref(), in_out, start, counter, work);
+        let in_out = Overlapping::within(in_out, start);
+        self.by_ref().ctr32_encrypt_within(in_out, counter, work);
     }
 }

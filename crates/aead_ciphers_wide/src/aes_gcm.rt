@@ -8,7 +8,7 @@ ghost use Rattle.aead_ciphers_base.specs.Values.{aad_bytes};
 ghost use Rattle.aead_ciphers_base.specs.Work.{Adds, CanAdd};
 ghost use Rattle.aead_ciphers_wide.specs.ExpandedKey.{IsExpanded, bytes_of, zero_key};
 ghost use Rattle.aead_ciphers_wide.specs.Pieces.{HasSealed, SealsPiece};
-ghost use Rattle.aead_ciphers.specs.Gcm.{CanOpen, CanSeal, Fits, OpenWork, SealWork, Opened, OpenedAttached, gcm_decrypted, gcm_encrypted, gcm_tag};
+ghost use Rattle.aead_ciphers.specs.Gcm.{CanSeal, Fits, SealWork, Opened, OpenedAttached, gcm_decrypted, gcm_encrypted, gcm_tag};
 
 mod pieces;
 
@@ -99,29 +99,7 @@ impl ExpandedKey {
         seal_with(&aes, &gcm, nonce, aad, in_out, work)
     }
 
-    /// Opens under this key, like `aead_ciphers::aes_gcm::open`.
-    pub fn open(
-        &self,
-        nonce: Nonce,
-        aad: Aad<'_>,
-        received_tag: Tag,
-        in_out: &mut [u8],
-        src: RangeFrom<usize>,
-        work: &mut Work,
-    ) -> Result<(), Unspecified>
-        requires key { IsExpanded self.now }
-        requires sums { CanOpen work.old (length (aad_bytes aad)) src.start (length in_out.old) }
-        ensures opened { Opened (aes_cipher (bytes_of self.now)) nonce (aad_bytes aad.entry)
-            received_tag src.start in_out.old (is_ok result) in_out.new }
-        ensures worked { OpenWork (length (aad_bytes aad.entry)) src.start (length in_out.old)
-            result work.old work.new }
-    {
-        let aes = aes::KeyRef::new(&self.round_keys, self.rounds);
-        let gcm = gcm::KeyRef::new(&self.products, &self.squares);
-        open_with(&aes, &gcm, nonce, aad, received_tag, in_out, src, work)
-    }
-
-    /// Like `open`, but returns the length of the plaintext in bytes.
+    /// Opens under this key, like `aead_ciphers::aes_gcm::open`, and returns the length of the plaintext in bytes.
     pub fn open_to_front(
         &self,
         nonce: Nonce,
@@ -136,9 +114,20 @@ impl ExpandedKey {
         ensures count { IfOk result (λ n. n ≡ length in_out.old - ciphertext.start) }
         ensures refused { OnErr result (in_out.new ≡ in_out.old) }
     {
+        let aes = aes::KeyRef::new(&self.round_keys, self.rounds);
+        let gcm = gcm::KeyRef::new(&self.products, &self.squares);
         let len = in_out.len();
         let start = ciphertext.start;
-        self.open(nonce, aad, tag, in_out, ciphertext, &mut Work::new())?;
+        open_with(
+            &aes,
+            &gcm,
+            nonce,
+            aad,
+            tag,
+            in_out,
+            ciphertext,
+            &mut Work::new(),
+        )?;
         Ok(len - start)
     }
 

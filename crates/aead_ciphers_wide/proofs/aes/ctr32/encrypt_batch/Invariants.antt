@@ -1,11 +1,11 @@
-use Rattle.std.proofs.Common.{◌≡◌, ℕ, ◌*◌, List, ◌++◌, length, drop, take}
+use Rattle.std.proofs.Common.{◌≡◌, ◌*◌, length}
 use Rattle.aead_ciphers_base.specs.Aes.{aes}
-use Rattle.aead_ciphers_base.specs.CounterMode.{IsCounter, counter_mode}
-use Rattle.aead_ciphers_wide.proofs.aes.ctr32.xor_keystream.Given as goal
+use Rattle.aead_ciphers_base.specs.CounterMode.{EncryptsFirst}
+use Rattle.aead_ciphers_wide.proofs.aes.ctr32.encrypt_batch.Given as goal
 
 abbrev pub invariant-loop-i : goal.invariant-loop-i
 invariant-loop-i l = record {
+  all : length l.initial.batch ≡ 128;
   size : length l.batch ≡ 128;
-  output : (nonce : List ℕ) (k : ℕ) → IsCounter l.fn.counter nonce k →
-      l.batch ≡ counter_mode (aes l.fn.key) nonce k (take (16 * l.i) l.initial.batch) ++ drop (16 * l.i) l.initial.batch;
+  output : EncryptsFirst (aes l.fn.key) l.fn.counter 0 (16 * l.i) l.initial.batch l.batch;
 }

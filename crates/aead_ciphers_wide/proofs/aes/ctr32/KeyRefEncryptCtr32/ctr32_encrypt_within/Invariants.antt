@@ -2,7 +2,7 @@ use Rattle.std.proofs.Common.{◌≡◌, ◌-◌, ◌/◌, ◌%◌, ◌≤◌, l
 use Rattle.aead_ciphers_base.specs.Aes.{aes}
 use Rattle.aead_ciphers_base.specs.CounterMode.{Advances, EncryptsFirst}
 use Rattle.aead_ciphers_base.specs.Work.{Adds}
-use Rattle.aead_ciphers_wide.proofs.aes.ctr32.encrypt_to_front.Given as goal
+use Rattle.aead_ciphers_wide.proofs.aes.ctr32.KeyRefEncryptCtr32.ctr32_encrypt_within.Given as goal
 
 abbrev pub invariant-loop-done : goal.invariant-loop-done
 invariant-loop-done l = record {
@@ -10,7 +10,7 @@ invariant-loop-done l = record {
   aligned : l.done % 16 ≡ 0;
   within : l.done ≤ l.len;
   size : length l.in_out ≡ length l.initial.in_out;
-  output : EncryptsFirst (aes l.key) l.initial.counter l.start l.done l.initial.in_out l.in_out;
+  output : EncryptsFirst (aes l.fn.self) l.initial.counter l.start l.done l.initial.in_out l.in_out;
   counter : Advances l.initial.counter l.counter (l.done / 16);
 }
 
