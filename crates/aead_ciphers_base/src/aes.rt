@@ -103,7 +103,10 @@ pub trait EncryptBlock {
     fn encrypt_iv_xor_block(&self, iv: Iv, block: Block, work: &mut Work) -> Block
         requires { CanAdd work.old 1 0 }
         ensures value { result ≡ block ⊕ cipher self.now iv }
-        ensures worked { Adds work.old work.new 1 0 };
+        ensures worked { Adds work.old work.new 1 0 }
+    {
+        bb::xor_16(block, self.encrypt_block(iv.into_block_less_safe(), work))
+    }
 
     // An encrypted block has 16 bytes.
     ghost length_cipher: { (key : Self) (block : List ℕ) → length block ≡ 16 → length (cipher key block) ≡ 16 };
@@ -263,10 +266,6 @@ impl<'k> EncryptBlock for KeyRef<'k> {
         work.add_block();
         self.cipher_block(block)
     }
-
-    fn encrypt_iv_xor_block(&self, iv: Iv, block: Block, work: &mut Work) -> Block {
-        bb::xor_16(block, self.encrypt_block(iv.into_block_less_safe(), work))
-    }
 }
 
 impl EncryptBlock for Key {
@@ -276,10 +275,6 @@ impl EncryptBlock for Key {
 
     fn encrypt_block(&self, block: Block, work: &mut Work) -> Block {
         self.by_ref().encrypt_block(block, work)
-    }
-
-    fn encrypt_iv_xor_block(&self, iv: Iv, block: Block, work: &mut Work) -> Block {
-        self.by_ref().encrypt_iv_xor_block(iv, block, work)
     }
 }
 
