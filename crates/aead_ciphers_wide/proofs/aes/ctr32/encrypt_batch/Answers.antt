@@ -50,8 +50,8 @@ loop-i-preserved c =
 pub returns-clause-output : goal.returns-clause-output
 returns-clause-output c = λ nonce k at.
     let a = c.args in
-    let n = a.count in
-    let count : a.start + a.done + n - (a.start + a.done) ≡ n = omega arith in
-    batch_put (aes a.key.now) nonce k a.start a.done n _ a.in_out.now _ _ c.loop-i.batch _ (omega arith) (omega arith)
+    let inv = c.loop-i.invariant in
+    let count : a.start + a.done + a.count - (a.start + a.done) ≡ a.count = omega arith in
+    batch_put (aes a.key.now) nonce k a.start a.done a.count _ a.in_out.now _ _ c.loop-i.batch _ (omega arith) (omega arith)
     (c.copy_from_slice.ensures.after ∙ ap (λ z. take z (drop (a.start + a.done) a.in_out.now)) count)
-    (all_encrypted (aes a.key.now) nonce k (16 * c.loop-i.i) _ c.loop-i.batch (omega (arith, c.loop-i.invariant.all)) c.loop-i.invariant.output at) c.copy_from_slice-2.ensures.after
+    (all_encrypted (aes a.key.now) nonce k (16 * c.loop-i.i) _ c.loop-i.batch (omega (arith, inv.all)) inv.output at) c.copy_from_slice-2.ensures.after
