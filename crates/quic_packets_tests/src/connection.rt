@@ -69,21 +69,6 @@ fn received(
     Ok(datagram)
 }
 
-/// The payload of the first packet.
-fn first_payload(datagram: &[u8; 80]) -> &[u8] {
-    &datagram[20..24]
-}
-
-/// The payload of the second packet.
-fn second_payload(datagram: &[u8; 80]) -> &[u8] {
-    &datagram[53..64]
-}
-
-/// The bytes before the one that is flipped.
-fn front(datagram: &[u8; 80]) -> &[u8] {
-    &datagram[..30]
-}
-
 // A forged packet is dropped and the packet after it is received. The first is then received as it was sent, and the second is a
 // duplicate.
 #[test]
@@ -91,10 +76,10 @@ fn forged_first_packet(rt: HostRuntime) -> Result<(), Fail> {
     let mut connection = connection(2)?;
     let sent = coalesced()?;
     let found = received(&rt, &mut connection, true, &ID, Ok(true))?;
-    same(&rt, front(&found), front(&sent), "the forged packet");
-    same(&rt, second_payload(&found), &[4; 11], "the second payload");
+    same(&rt, &found[..30], &sent[..30], "before the flipped bit");
+    same(&rt, &found[53..64], &[4; 11], "the second payload");
     let found = received(&rt, &mut connection, false, &ID, Ok(true))?;
-    same(&rt, first_payload(&found), &[4; 4], "the first payload");
+    same(&rt, &found[20..24], &[4; 4], "the first payload");
     Ok(())
 }
 

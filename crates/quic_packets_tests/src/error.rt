@@ -2,6 +2,9 @@
 
 use crate::checks::{displays, equal};
 use quic_packets::{DatagramError, HeaderError, PacketError, RetryError};
+use std::alloc::AllocError;
+use std::fmt::Display;
+use std::process::Abort;
 use std::test::Fail;
 
 const PACKET_ERRORS: [(PacketError, &str); 28] = [
@@ -137,11 +140,23 @@ const RETRY_ERRORS: [(RetryError, &str); 2] = [
     ),
 ];
 
-#[test]
-fn packet_errors(rt: HostRuntime) -> Result<(), Fail> {
-    for (error, text) in &PACKET_ERRORS {
-        displays(&rt, error, text)?;
+/// Asserts that each error is displayed as its text.
+fn display<E: Display>(
+    rt: &(impl Abort + AllocGlobal),
+    rows: &[(E, &str)],
+) -> Result<(), AllocError> {
+    for (error, text) in rows {
+        displays(rt, error, text)?;
     }
+    Ok(())
+}
+
+#[test]
+fn texts(rt: HostRuntime) -> Result<(), Fail> {
+    display(&rt, &PACKET_ERRORS)?;
+    display(&rt, &DATAGRAM_ERRORS)?;
+    display(&rt, &RETRY_ERRORS)?;
+    display(&rt, &HEADER_ERRORS)?;
     Ok(())
 }
 
@@ -169,30 +184,6 @@ fn code(error: PacketError) -> Option<u64> {
 fn codes(rt: HostRuntime) -> Result<(), Fail> {
     for (error, _) in &PACKET_ERRORS {
         equal(&rt, &error.code(), &code(*error));
-    }
-    Ok(())
-}
-
-#[test]
-fn datagram_errors(rt: HostRuntime) -> Result<(), Fail> {
-    for (error, text) in &DATAGRAM_ERRORS {
-        displays(&rt, error, text)?;
-    }
-    Ok(())
-}
-
-#[test]
-fn retry_errors(rt: HostRuntime) -> Result<(), Fail> {
-    for (error, text) in &RETRY_ERRORS {
-        displays(&rt, error, text)?;
-    }
-    Ok(())
-}
-
-#[test]
-fn header_errors(rt: HostRuntime) -> Result<(), Fail> {
-    for (error, text) in &HEADER_ERRORS {
-        displays(&rt, error, text)?;
     }
     Ok(())
 }

@@ -308,15 +308,6 @@ const LIMITS_AND_UPDATES: [Event; 17] = [
     Sent(4, true),
 ];
 
-#[test]
-fn limits_and_updates(rt: HostRuntime) -> Result<(), Fail> {
-    let mut sender = sender(0)?.with_limit(2);
-    for event in LIMITS_AND_UPDATES {
-        meets(&rt, &mut sender, event)?;
-    }
-    Ok(())
-}
-
 /// A phase whose first packet comes after a skip, one with a skip between two packets, one with two skips, and one with a skip
 /// that leaves no number unused. Only a packet that was sent after the last other skip allows the next update.
 const SKIPS: [Event; 31] = [
@@ -353,15 +344,6 @@ const SKIPS: [Event; 31] = [
     Initiated(6, 16, Ok(())),
 ];
 
-#[test]
-fn skips_and_updates(rt: HostRuntime) -> Result<(), Fail> {
-    let mut sender = sender(0)?;
-    for event in SKIPS {
-        meets(&rt, &mut sender, event)?;
-    }
-    Ok(())
-}
-
 /// Acknowledgments that come under the keys of each phase: under older keys, only a number of an earlier phase is acknowledged. A
 /// skip leaves the first number of the phase.
 const OLDER_KEYS: [Event; 17] = [
@@ -384,14 +366,24 @@ const OLDER_KEYS: [Event; 17] = [
     AcknowledgedIn(5, true, Ok(())),
 ];
 
-#[test]
-fn older_keys(rt: HostRuntime) -> Result<(), Fail> {
-    let mut first = sender(0)?.with_limit(9);
-    for event in OLDER_KEYS {
-        meets(&rt, &mut first, event)?;
+/// At the last numbers, fewer packets than the limit are left.
+const LAST_NUMBERS: [Event; 1] = [Stands((1 << 62) - 3, 3)];
+
+/// Asserts the result of each event at one sender.
+fn happen(rt: &impl Abort, first: u64, limit: u64, events: &[Event]) -> Result<(), Fail> {
+    let mut sender = sender(first)?.with_limit(limit);
+    for &event in events {
+        meets(rt, &mut sender, event)?;
     }
-    meets(&rt, &mut sender((1 << 62) - 3)?, Stands((1 << 62) - 3, 3))?;
     Ok(())
+}
+
+#[test]
+fn events(rt: HostRuntime) -> Result<(), Fail> {
+    happen(&rt, 0, 2, &LIMITS_AND_UPDATES)?;
+    happen(&rt, 0, 99, &SKIPS)?;
+    happen(&rt, 0, 9, &OLDER_KEYS)?;
+    happen(&rt, (1 << 62) - 3, 9, &LAST_NUMBERS)
 }
 
 // Acknowledgments keep the numbers of a sender short. The largest one counts, over key updates and installed keys.
