@@ -33,11 +33,9 @@ pub fn seal_with<A: EncryptCtr32, G: UpdateBlocks>(
     requires subkey { G.hash_subkey gcm.now ≡ A.cipher aes.now zero_block }
     ensures accepted { IsOk result ↔ Fits (length (aad_bytes aad.entry)) (length in_out.old) }
     ensures ciphertext { OnOk result (in_out.new ≡ gcm_encrypted (A.cipher aes.now) nonce in_out.old) }
-    ensures tag { IfOk result
-        (λ t. t ≡ gcm_tag (A.cipher aes.now) nonce (aad_bytes aad.entry) in_out.new) }
+    ensures tag { IfOk result (λ t. t ≡ gcm_tag (A.cipher aes.now) nonce (aad_bytes aad.entry) in_out.new) }
     ensures refused { OnErr result (in_out.new ≡ in_out.old) }
-    ensures worked { SealWork (length (aad_bytes aad.entry)) (length in_out.old) result
-        work.old work.new }
+    ensures worked { SealWork (length (aad_bytes aad.entry)) (length in_out.old) result work.old work.new }
 {
     let mut auth = Context::new(gcm, aad, in_out.len(), work)?;
     if !in_out.is_empty() && in_out.len() <= SHORT_LEN {
