@@ -1,8 +1,8 @@
 -- The rounds of ChaCha20.
-use Rattle.std.proofs.Common.{◌≡◌, ℕ, zero, suc, ◌+◌, ◌%◌, ◌<◌, List, [], ◌∷◌, ◌++◌, length, take, drop, slice_index, refl, ap, add-one, ◌∙◌, arith}
+use Rattle.std.proofs.Common.{◌≡◌, ℕ, zero, suc, ◌+◌, ◌%◌, ◌<◌, List, [], ◌∷◌, ◌++◌, length, take, drop, slice_index, refl, add-one, ◌∙◌, arith}
 use Rattle.std.specs.Fn.{iterate}
-use Rattle.std.specs.Simd.Lanes.{zip2}
-use Rattle.aead_ciphers_base.specs.ChaCha20.{add32, quarter_round, quarter_round_at, double_round}
+use Rattle.aead_ciphers_base.specs.ChaCha20.{quarter_round, double_round}
+use Rattle.aead_ciphers_base.specs.Lanes.{state_of_rows}
 use Rattle.aead_ciphers_base.proofs.LittleEndian.{drop-elements}
 
 iterate-suc : {A : Type 0} (h : A → A) (n : ℕ) (x : A) → iterate h (suc n) x ≡ h (iterate h n x)
@@ -12,31 +12,28 @@ iterate-suc h (suc n) x = iterate-suc h n (h x)
 pub iterate_more : {A : Type 0} (h : A → A) (n : ℕ) (x : A) → iterate h (n + 1) x ≡ h (iterate h n x)
 iterate_more h n x = rw add-one (iterate-suc h n x)
 
--- eight quarter rounds, one after another
-pub double_round_steps : (s0 s1 s2 s3 s4 s5 s6 s7 s8 : List ℕ)
-    → s1 ≡ quarter_round_at s0 (0, 4, 8, 12) → s2 ≡ quarter_round_at s1 (1, 5, 9, 13)
-    → s3 ≡ quarter_round_at s2 (2, 6, 10, 14) → s4 ≡ quarter_round_at s3 (3, 7, 11, 15)
-    → s5 ≡ quarter_round_at s4 (0, 5, 10, 15) → s6 ≡ quarter_round_at s5 (1, 6, 11, 12)
-    → s7 ≡ quarter_round_at s6 (2, 7, 8, 13) → s8 ≡ quarter_round_at s7 (3, 4, 9, 14)
-    → s8 ≡ double_round s0
+-- a quarter round of each column, and then of each diagonal
+pub double_round_steps : (x0 x1 x2 x3 x4 x5 x6 x7 x8 x9 x10 x11 x12 x13 x14 x15
+    y0 y1 y2 y3 y4 y5 y6 y7 y8 y9 y10 y11 y12 y13 y14 y15
+    z0 z1 z2 z3 z4 z5 z6 z7 z8 z9 z10 z11 z12 z13 z14 z15 : ℕ)
+    → (y0, y4, y8, y12) ≡ quarter_round x0 x4 x8 x12 → (y1, y5, y9, y13) ≡ quarter_round x1 x5 x9 x13
+    → (y2, y6, y10, y14) ≡ quarter_round x2 x6 x10 x14 → (y3, y7, y11, y15) ≡ quarter_round x3 x7 x11 x15
+    → (z0, z5, z10, z15) ≡ quarter_round y0 y5 y10 y15 → (z1, z6, z11, z12) ≡ quarter_round y1 y6 y11 y12
+    → (z2, z7, z8, z13) ≡ quarter_round y2 y7 y8 y13 → (z3, z4, z9, z14) ≡ quarter_round y3 y4 y9 y14
+    → z0 ∷ z1 ∷ z2 ∷ z3 ∷ z4 ∷ z5 ∷ z6 ∷ z7 ∷ z8 ∷ z9 ∷ z10 ∷ z11 ∷ z12 ∷ z13 ∷ z14 ∷ z15 ∷ []
+    ≡ double_round (x0 ∷ x1 ∷ x2 ∷ x3 ∷ x4 ∷ x5 ∷ x6 ∷ x7 ∷ x8 ∷ x9 ∷ x10 ∷ x11 ∷ x12 ∷ x13 ∷ x14 ∷ x15 ∷ [])
 unfolding double_round
-double_round_steps s0 s1 s2 s3 s4 s5 s6 s7 s8 e1 e2 e3 e4 e5 e6 e7 e8 =
-    let step = λ (p : ℕ × ℕ × ℕ × ℕ) (s : List ℕ). quarter_round_at s p in
-    e8 ∙ ap (step (3, 4, 9, 14)) (e7 ∙ ap (step (2, 7, 8, 13)) (e6 ∙ ap (step (1, 6, 11, 12)) (e5 ∙ ap (step (0, 5, 10, 15))
-    (e4 ∙ ap (step (3, 7, 11, 15)) (e3 ∙ ap (step (2, 6, 10, 14)) (e2 ∙ ap (step (1, 5, 9, 13)) e1))))))
-
--- the four rows of a state
-abbrev pub AreRows : List ℕ → List ℕ → List ℕ → List ℕ → Type 0
-AreRows a b c d = (length a ≡ 4) × (length b ≡ 4) × (length c ≡ 4) × (length d ≡ 4)
-
--- a quarter round on each column leaves these rows
-abbrev pub ColumnsTo : List ℕ → List ℕ → List ℕ → List ℕ → List ℕ → List ℕ → List ℕ → List ℕ → Type 0
-ColumnsTo a b c d x y z w = (j : ℕ) → j < 4
-    → (slice_index x j, slice_index y j, slice_index z j, slice_index w j)
-    ≡ quarter_round (slice_index a j) (slice_index b j) (slice_index c j) (slice_index d j)
-
-abbrev pub Rows : Type 0
-Rows = List ℕ × List ℕ × List ℕ × List ℕ
+double_round_steps x0 x1 x2 x3 x4 x5 x6 x7 x8 x9 x10 x11 x12 x13 x14 x15
+    y0 y1 y2 y3 y4 y5 y6 y7 y8 y9 y10 y11 y12 y13 y14 y15
+    z0 z1 z2 z3 z4 z5 z6 z7 z8 z9 z10 z11 z12 z13 z14 z15
+    e1 e2 e3 e4 e5 e6 e7 e8 =
+    let state = λ (q5 q6 q7 q8 : ℕ × ℕ × ℕ × ℕ).
+    q5.0 ∷ q6.0 ∷ q7.0 ∷ q8.0 ∷ q8.1 ∷ q5.1 ∷ q6.1 ∷ q7.1 ∷ q7.2 ∷ q8.2 ∷ q5.2 ∷ q6.2 ∷ q6.3 ∷ q7.3 ∷ q8.3 ∷ q5.3 ∷ [] in
+    (λ i. state (e5 i) (e6 i) (e7 i) (e8 i))
+    ∙ (λ i. state (quarter_round (e1 i).0 (e2 i).1 (e3 i).2 (e4 i).3)
+    (quarter_round (e2 i).0 (e3 i).1 (e4 i).2 (e1 i).3)
+    (quarter_round (e3 i).0 (e4 i).1 (e1 i).2 (e2 i).3)
+    (quarter_round (e4 i).0 (e1 i).1 (e2 i).2 (e3 i).3))
 
 -- a row rotated left by k words
 abbrev pub rotated : ℕ → List ℕ → List ℕ
@@ -44,69 +41,25 @@ rotated k row =
     let word = λ (j : ℕ). slice_index (row ++ row) ((k + j) % 4) in
     word 0 ∷ word 1 ∷ word 2 ∷ word 3 ∷ []
 
-abbrev columns : Rows → Rows
-columns s =
-    let column = λ (j : ℕ). quarter_round (slice_index s.0 j) (slice_index s.1 j) (slice_index s.2 j) (slice_index s.3 j) in
-    let row = λ (word : ℕ × ℕ × ℕ × ℕ → ℕ). word (column 0) ∷ word (column 1) ∷ word (column 2) ∷ word (column 3) ∷ [] in
-    (row (λ q. q.0), row (λ q. q.1), row (λ q. q.2), row (λ q. q.3))
-
--- the diagonals in columns, and back in a state
-abbrev to_columns : Rows → Rows
-to_columns s = (s.0, rotated 1 s.1, rotated 2 s.2, rotated 3 s.3)
-
-abbrev from_columns : Rows → List ℕ
-from_columns s = s.0 ++ rotated 3 s.1 ++ rotated 2 s.2 ++ rotated 1 s.3
-
-row_of : (word : ℕ → ℕ) (row : List ℕ) → length row ≡ 4 → ((j : ℕ) → j < 4 → slice_index row j ≡ word j)
-    → row ≡ word 0 ∷ word 1 ∷ word 2 ∷ word 3 ∷ []
-row_of word row size e =
-    drop-elements 4 0 row size ∙ (λ i. e 0 (omega arith) i ∷ e 1 (omega arith) i ∷ e 2 (omega arith) i ∷ e 3 (omega arith) i ∷ [])
-
-columns_of : (a b c d x y z w : List ℕ) → AreRows x y z w → ColumnsTo a b c d x y z w → (x, y, z, w) ≡ columns (a, b, c, d)
-columns_of a b c d x y z w sizes e =
-    let at = λ (word : ℕ × ℕ × ℕ × ℕ → ℕ) (j : ℕ) (h : j < 4). ap word (e j h) in
-    λ i. (
-      row_of _ x sizes.0 (at (λ q. q.0)) i,
-      row_of _ y sizes.1 (at (λ q. q.1)) i,
-      row_of _ z sizes.2 (at (λ q. q.2)) i,
-      row_of _ w sizes.3 (at (λ q. q.3)) i,
-    )
-
-double_round_columns : (a b c d : List ℕ) → AreRows a b c d
-    → from_columns (columns (to_columns (columns (a, b, c, d)))) ≡ double_round (a ++ b ++ c ++ d)
-unfolding double_round
-double_round_columns (a0 ∷ a1 ∷ a2 ∷ a3 ∷ []) (b0 ∷ b1 ∷ b2 ∷ b3 ∷ []) (c0 ∷ c1 ∷ c2 ∷ c3 ∷ []) (d0 ∷ d1 ∷ d2 ∷ d3 ∷ []) sizes = refl
-double_round_columns _ _ _ _ sizes = absurd (omega arith)
+-- a quarter round on each column leaves these rows
+abbrev pub ColumnsTo : List ℕ → List ℕ → List ℕ → List ℕ → List ℕ → List ℕ → List ℕ → List ℕ → Type 0
+ColumnsTo a b c d x y z w = (j : ℕ) → j < 4
+    → (slice_index x j, slice_index y j, slice_index z j, slice_index w j)
+    ≡ quarter_round (slice_index a j) (slice_index b j) (slice_index c j) (slice_index d j)
 
 -- a quarter round on each column, then one on each diagonal, which stands in a column
-pub double_round_rows : (a b c d a' b' c' d' x y z w : List ℕ) → AreRows a b c d → AreRows a' b' c' d' → AreRows x y z w
+pub double_round_rows : (a b c d a' b' c' d' x y z w : List ℕ)
+    → length b' ≡ 4 → length c' ≡ 4 → length d' ≡ 4 → length y ≡ 4 → length z ≡ 4 → length w ≡ 4
     → ColumnsTo a b c d a' b' c' d' → ColumnsTo a' (rotated 1 b') (rotated 2 c') (rotated 3 d') x y z w
-    → x ++ rotated 3 y ++ rotated 2 z ++ rotated 1 w ≡ double_round (a ++ b ++ c ++ d)
-double_round_rows a b c d a' b' c' d' x y z w r r' r'' first second =
-    ap from_columns (columns_of a' (rotated 1 b') (rotated 2 c') (rotated 3 d') x y z w r'' second)
-    ∙ ap (λ s. from_columns (columns (to_columns s))) (columns_of a b c d a' b' c' d' r' first)
-    ∙ double_round_columns a b c d r
+    → state_of_rows x (rotated 3 y) (rotated 2 z) (rotated 1 w) ≡ double_round (state_of_rows a b c d)
+double_round_rows a b c d a' (f0 ∷ f1 ∷ f2 ∷ f3 ∷ []) (g0 ∷ g1 ∷ g2 ∷ g3 ∷ []) (h0 ∷ h1 ∷ h2 ∷ h3 ∷ [])
+    x (y0 ∷ y1 ∷ y2 ∷ y3 ∷ []) (z0 ∷ z1 ∷ z2 ∷ z3 ∷ []) (w0 ∷ w1 ∷ w2 ∷ w3 ∷ []) lb lc ld ly lz lw first second =
+    double_round_steps _ _ _ _ _ _ _ _ _ _ _ _ _ _ _ _ _ _ _ _ _ _ _ _ _ _ _ _ _ _ _ _ _ _ _ _ _ _ _ _ _ _ _ _ _ _ _ _
+    (first 0 (omega arith)) (first 1 (omega arith)) (first 2 (omega arith)) (first 3 (omega arith))
+    (second 0 (omega arith)) (second 1 (omega arith)) (second 2 (omega arith)) (second 3 (omega arith))
+double_round_rows _ _ _ _ _ _ _ _ _ _ _ _ lb lc ld ly lz lw first second = absurd (omega arith)
 
 -- sixteen words, in rows
 pub rows_of_state : (s : List ℕ) → length s ≡ 16
-    → take 4 (take 4 s) ++ take 4 (take 4 (drop 4 s)) ++ take 4 (take 4 (drop 8 s)) ++ take 4 (take 4 (drop 12 s)) ≡ s
+    → state_of_rows (take 4 (take 4 s)) (take 4 (take 4 (drop 4 s))) (take 4 (take 4 (drop 8 s))) (take 4 (take 4 (drop 12 s))) ≡ s
 rows_of_state s size = rw (drop-elements 16 0 s size) refl
-
-abbrev pub words_before : List ℕ → List ℕ → List ℕ
-words_before words rest = slice_index words 0 ∷ slice_index words 1 ∷ slice_index words 2 ∷ slice_index words 3 ∷ rest
-
--- two states are added row by row
-pub sums_of_rows : (x y z w a b c d : List ℕ) → AreRows x y z w → AreRows a b c d
-    → words_before (zip2 add32 x a) (words_before (zip2 add32 y b) (words_before (zip2 add32 z c) (words_before (zip2 add32 w d) [])))
-    ≡ zip2 add32 (x ++ y ++ z ++ w) (a ++ b ++ c ++ d)
-sums_of_rows x y z w a b c d s r =
-    rw (
-      drop-elements 4 0 x s.0,
-      drop-elements 4 0 y s.1,
-      drop-elements 4 0 z s.2,
-      drop-elements 4 0 w s.3,
-      drop-elements 4 0 a r.0,
-      drop-elements 4 0 b r.1,
-      drop-elements 4 0 c r.2,
-      drop-elements 4 0 d r.3,
-    ) refl

@@ -1,34 +1,45 @@
 -- ChaCha20's key stream, a block at a time.
 use Rattle.std.proofs
-use proofs.Common.{◌≡◌, ℕ, ◌+◌, ◌-◌, ◌*◌, ◌/◌, ◌%◌, ◌<◌, ◌≤◌, List, ◌++◌, length, take, drop, refl, ap, ap₂, sym, ◌∙◌, arith, append_assoc, min, get_or, get_or-drop, length-append, length-drop, append-nil, take_all, drop-drop, get_or-take, length-take-le}
-use proofs.lemmas.List.{drop_all, take_min}
+use proofs.Common.{slice_index, ◌≡◌, ℕ, ◌+◌, ◌-◌, ◌*◌, ◌/◌, ◌%◌, ◌<◌, ◌≤◌, List, ◌++◌, length, take, drop, refl, ap, ap₂, sym, ◌∙◌, arith, min, get_or, length-append, length-drop, length-take-le}
+use proofs.lemmas.List.{take_min}
 use proofs.lemmas.List.FromFn.{fill_by_all}
+use Rattle.std.specs.Fn.{iterate}
+use Rattle.std.specs.Int.{w32, to_le_bytes}
+use Rattle.std.specs.Simd.Lanes.{zip2}
 use Rattle.aead_ciphers_base.specs
 use specs.Bytes.{each_below, xored, ◌⊕◌}
-use specs.ChaCha20.{chacha20_block, stream_byte, chacha20_encrypted}
-use Rattle.aead_ciphers_base.proofs.StreamLemmas.{advance, finish, length-xored, stream_front, xored-is, xored-xored}
+use specs.ChaCha20.{add32, double_round, le_bytes, initial_state, state_block, chacha20_block, stream_byte, chacha20_encrypted}
+use Rattle.aead_ciphers_base.proofs.LittleEndian.{length-le_bytes, get_or-le_bytes}
+use Rattle.aead_ciphers_base.proofs.StreamLemmas.{advance, length-xored, stream_front, xored-is, xored-xored}
 
 module _ (key : List ℕ) (counter : ℕ) (nonce : List ℕ) where
   -- the key stream after j whole blocks
-  stream_byte-later : (j d : ℕ) → d ≡ 64 * j →
-      (i : ℕ) → stream_byte key counter nonce (d + i) ≡ stream_byte key (counter + j) nonce i
+  stream_byte-later : (j i : ℕ) → stream_byte key counter nonce (64 * j + i) ≡ stream_byte key (counter + j) nonce i
   unfolding stream_byte
-  stream_byte-later j d whole i =
-      let row : counter + (d + i) / 64 ≡ counter + j + i / 64 = omega arith in
-      let column : (d + i) % 64 ≡ i % 64 = omega arith in
+  stream_byte-later j i =
+      let row : counter + (64 * j + i) / 64 ≡ counter + j + i / 64 = omega arith in
+      let column : (64 * j + i) % 64 ≡ i % 64 = omega arith in
       rw (row, column) refl
 
-  -- n blocks in a row
-  pub blocks-stream : (bytes : List ℕ) (n : ℕ) → length bytes ≡ 64 * n
-      → ((i : ℕ) → i < n → take 64 (drop (64 * i) bytes) ≡ chacha20_block key (counter + i) nonce)
-      → bytes ≡ each_below (64 * n) (stream_byte key counter nonce)
-  unfolding stream_byte
-  blocks-stream bytes n size blocks =
-      fill_by_all _ bytes _ 0 size (λ k h.
-      let place : 64 * (k / 64) + k % 64 ≡ k = omega arith in
-      sym (ap (λ i. get_or bytes i 0) place)
-      ∙ sym (get_or-take 64 (drop (64 * (k / 64)) bytes) (k % 64) 0 (omega arith) ∙ get_or-drop (64 * (k / 64)) bytes (k % 64) 0)
-      ∙ ap (λ block. get_or block (k % 64) 0) (blocks (k / 64) (omega arith)))
+  -- n blocks, whose words stand in a row
+  pub blocks-stream : (n : ℕ) (words : List ℕ) → length words ≡ 16 * n
+      → ((j k : ℕ) → j < n → k < 16 → slice_index words (16 * j + k) ≡
+      let first = initial_state key (counter + j) nonce in slice_index (zip2 add32 (iterate double_round 10 first) first) k)
+      → le_bytes words ≡ each_below (64 * n) (stream_byte key counter nonce)
+  unfolding stream_byte chacha20_block state_block
+  blocks-stream n words size same =
+      fill_by_all _ (le_bytes words) _ 0 (omega (arith, length-le_bytes words)) (λ i h.
+      let k = i % 64 / 4 in
+      let r = i % 4 in
+      let place : 4 * (16 * (i / 64) + k) + r ≡ i = omega arith in
+      let inside : 4 * k + r ≡ i % 64 = omega arith in
+      let first = initial_state key (counter + i / 64) nonce in
+      let block = zip2 add32 (iterate double_round 10 first) first in
+      sym (ap (λ i. get_or (le_bytes words) i 0) place)
+      ∙ get_or-le_bytes words _ r (omega arith)
+      ∙ ap (λ w. get_or (to_le_bytes w32 w) r 0) (same (i / 64) k (omega arith) (omega arith))
+      ∙ sym (get_or-le_bytes block k r (omega arith))
+      ∙ ap (λ i. get_or (le_bytes block) i 0) inside)
 
   -- the first n bytes of one block
   pub block-stream : (block : List ℕ) (n : ℕ) → block ≡ chacha20_block key counter nonce → length block ≡ 64
@@ -40,15 +51,16 @@ module _ (key : List ℕ) (counter : ℕ) (nonce : List ℕ) where
       let column : k % 64 ≡ k = omega arith in
       rw (row, column, e) refl)
 
-  -- one more piece, of n bytes, of a slice of which the first `at` bytes, j blocks, are written
-  pub written_more : (start at j size n : ℕ) (old was stream : List ℕ)
-      → was ≡ chacha20_encrypted key counter nonce (take at (drop start old)) ++ drop (length (take at (drop start old))) old
-      → take n stream ≡ each_below n (stream_byte key (counter + j) nonce) → at ≡ 64 * j
-      → start + at ≤ length old → n ≡ min size (length old - start - at)
-      → take at was ++ (take n (drop (start + at) was) ⊕ stream) ++ drop (at + n) was
-      ≡ chacha20_encrypted key counter nonce (take (at + size) (drop start old)) ++ drop (length (take (at + size) (drop start old))) old
+  -- n more bytes of a slice, the next m blocks or what is left, after j blocks were written
+  pub written_more : (start j m n : ℕ) (old was stream : List ℕ)
+      → was ≡ chacha20_encrypted key counter nonce (take (64 * j) (drop start old)) ++ drop (length (take (64 * j) (drop start old))) old
+      → take n stream ≡ each_below n (stream_byte key (counter + j) nonce)
+      → start + 64 * j ≤ length old → n ≡ min (64 * m) (length old - start - 64 * j)
+      → take (64 * j) was ++ (take n (drop (start + 64 * j) was) ⊕ stream) ++ drop (64 * j + n) was
+      ≡ chacha20_encrypted key counter nonce (take (64 * (j + m)) (drop start old)) ++ drop (length (take (64 * (j + m)) (drop start old))) old
   unfolding chacha20_encrypted
-  written_more start at j size n old was stream held e whole within short =
+  written_more start j m n old was stream held e within short =
+      let at : ℕ = 64 * j in
       let f = stream_byte key counter nonce in
       let g = stream_byte key (counter + j) nonce in
       let input : List ℕ = drop start old in
@@ -58,41 +70,12 @@ module _ (key : List ℕ) (counter : ℕ) (nonce : List ℕ) where
       let held' = held ∙ ap (λ k. xored f (take at input) ++ drop k old) ld in
       let lw : length was ≡ length old = ap length held' ∙ simp (length-append, length-xored, length-drop) (omega arith) in
       let lp : length piece ≡ n = length-take-le n _ (omega (arith, length-drop (start + at) was)) in
-      let cut : at + n ≡ min (at + size) (length input) = omega arith in
-      let all : take (at + n) input ≡ take (at + size) input = ap (λ k. take k input) cut ∙ take_min _ input in
-      let la : at + n ≡ length (take (at + size) input) = sym (length-take-le (at + n) input (omega arith)) ∙ ap length all in
+      let cut : at + n ≡ min (64 * (j + m)) (length input) = omega arith in
+      let all : take (at + n) input ≡ take (64 * (j + m)) input = ap (λ k. take k input) cut ∙ take_min _ input in
+      let la : at + n ≡ length (take (64 * (j + m)) input) = sym (length-take-le (at + n) input (omega arith)) ∙ ap length all in
       ap (λ u. take at was ++ u ++ drop (at + n) was) (xored-is g piece stream (rw lp e))
-      ∙ advance f g at n start old was (stream_byte-later j at whole) (omega arith) held'
+      ∙ advance f g at n start old was (stream_byte-later j) (omega arith) held'
       ∙ ap₂ (λ (u : List ℕ) (k : ℕ). xored f u ++ drop k old) all la
-
-  -- what stands after j whole blocks of a slice is written after them
-  pub written_rest : (start at j : ℕ) (old was rest : List ℕ)
-      → was ≡ chacha20_encrypted key counter nonce (take at (drop start old)) ++ drop (length (take at (drop start old))) old
-      → at ≡ 64 * j → start + at ≤ length old
-      → rest ≡ chacha20_encrypted key (counter + j) nonce (drop start (take (length was - at) (drop at was)))
-      ++ drop (length (drop start (take (length was - at) (drop at was)))) (take (length was - at) (drop at was))
-      → take at was ++ (rest ++ drop (length was - at) (drop at was))
-      ≡ chacha20_encrypted key counter nonce (drop start old) ++ drop (length (drop start old)) old
-  unfolding chacha20_encrypted
-  written_rest start at j old was rest held whole within e =
-      let f = stream_byte key counter nonce in
-      let g = stream_byte key (counter + j) nonce in
-      let input = drop start old in
-      let li = length-drop start old in
-      let ld = length-take-le at input (omega arith) in
-      let held' = held ∙ ap (λ k. xored f (take at input) ++ drop k old) ld in
-      let lw : length was ≡ length old = ap length held' ∙ simp (length-append, length-xored, length-drop) (omega arith) in
-      let none = drop_all (length was - at) (drop at was) (simp length-drop (omega arith)) in
-      let part = take_all (length was - at) (drop at was) (simp length-drop (omega arith)) in
-      let piece : drop start (drop at was) ≡ drop (start + at) was = drop-drop start at was
-      ∙ ap (λ k. drop k was) (omega arith) in
-      let behind =
-      drop-drop (length (drop (start + at) was)) at was
-      ∙ ap (λ k. drop k was) (omega (arith, length-drop (start + at) was)) in
-      rw (none, append-nil rest, rw (part, piece) at e, behind)
-      (sym (append_assoc (take at was) _ _)
-      ∙ finish f g at start old was (stream_byte-later j at whole) within lw held'
-      ∙ ap (λ k. xored f input ++ drop k old) (sym li))
 
   -- encrypting twice
   pub chacha20_encrypted-chacha20_encrypted : (m : List ℕ)

@@ -1,6 +1,6 @@
 -- Words and bytes in little-endian order.
 use Rattle.std.proofs
-use proofs.Common.{replicate, ◌≡◌, ℕ, zero, suc, ◌+◌, ◌*◌, ◌^◌, ◌<◌, ◌≤◌, List, [], ◌∷◌, ◌++◌, length, take, drop, get_or, slice_index, slice_set, refl, ap, ap₂, sym, ◌∙◌, arith, get_or-drop, take_at, drop_at}
+use proofs.Common.{◌≡◌, ℕ, zero, suc, ◌+◌, ◌*◌, ◌^◌, ◌<◌, ◌≤◌, List, [], ◌∷◌, ◌++◌, length, take, drop, get_or, slice_index, slice_set, refl, ap, ap₂, sym, ◌∙◌, arith, get_or-drop}
 use Rattle.std.specs.Int.{w32, from_le_bytes, to_le_bytes}
 use proofs.lemmas.List.{take_more, drop_all, set_at}
 use proofs.lemmas.Grind.{flat_map-append}
@@ -9,8 +9,8 @@ use proofs.lemmas.Slice.{take-put_mid}
 use borrow.Rule.Slice.PartMut.{put_mid}
 use Rattle.aead_ciphers_base.specs
 use specs.ChaCha20.{le_words, le_bytes, initial_state}
-use specs.declared.chacha.TheConstants.{CONSTANTS}
 use proofs.Math.Seq.{drop-cons}
+use Rattle.aead_ciphers_base.proofs.PlaneBlocks.{by_four}
 
 -- the n elements from index k on
 abbrev pub elements_from : ℕ → ℕ → List ℕ → List ℕ
@@ -23,31 +23,31 @@ drop-elements zero k xs e = drop_all k xs (omega arith)
 drop-elements (suc n) k xs e =
     drop-cons xs k 0 (omega arith) ∙ ap (λ ys. slice_index xs k ∷ ys) (drop-elements n _ xs (omega arith))
 
-pub length-le_words : (n : ℕ) (bytes : List ℕ) → length bytes ≡ 4 * n → length (le_words bytes) ≡ n
-unfolding le_words
-length-le_words zero [] h = refl
-length-le_words (suc n) (a ∷ b ∷ c ∷ d ∷ bytes) h = ap suc (length-le_words n bytes (omega arith))
-length-le_words _ _ h = absurd (omega arith)
-
--- word k
-pub get_or-le_words : (k at : ℕ) (bytes : List ℕ) → at ≡ 4 * k → at + 4 ≤ length bytes
-    → get_or (le_words bytes) k 0
-    ≡ from_le_bytes w32 (get_or bytes at 0 ∷ get_or bytes (at + 1) 0 ∷ get_or bytes (at + 2) 0 ∷ get_or bytes (at + 3) 0 ∷ [])
-unfolding le_words
-get_or-le_words zero at (a ∷ b ∷ c ∷ d ∷ bytes) e h = rw e refl
-get_or-le_words (suc k) at (a ∷ b ∷ c ∷ d ∷ bytes) e h =
-    let next : at ≡ suc (suc (suc (suc (4 * k)))) = omega arith in
-    let e1 : at + 1 ≡ suc (suc (suc (suc (4 * k + 1)))) = omega arith in
-    let e2 : at + 2 ≡ suc (suc (suc (suc (4 * k + 2)))) = omega arith in
-    let e3 : at + 3 ≡ suc (suc (suc (suc (4 * k + 3)))) = omega arith in
-    rw (e1, e2, e3, next) (get_or-le_words k _ bytes refl (omega arith))
-get_or-le_words k at _ e h = absurd (omega arith)
-
 -- the first word, and the words after it
 pub le_words-first : (bytes : List ℕ) → 4 ≤ length bytes → le_words bytes ≡ from_le_bytes w32 (take 4 bytes) ∷ le_words (drop 4 bytes)
 unfolding le_words
 le_words-first (a ∷ b ∷ c ∷ d ∷ bytes) h = refl
 le_words-first _ h = absurd (omega arith)
+
+-- the words from a byte on
+pub le_words-from : (at : ℕ) (bytes : List ℕ) → at + 4 ≤ length bytes → le_words (drop at bytes)
+    ≡ from_le_bytes w32 (get_or bytes at 0 ∷ get_or bytes (at + 1) 0 ∷ get_or bytes (at + 2) 0 ∷ get_or bytes (at + 3) 0 ∷ []) ∷ le_words (drop (at + 4) bytes)
+unfolding le_words
+le_words-from at bytes h =
+    let e1 : at + 1 ≡ suc at = omega arith in
+    let e2 : at + 2 ≡ suc (suc at) = omega arith in
+    let e3 : at + 3 ≡ suc (suc (suc at)) = omega arith in
+    let e4 : at + 4 ≡ suc (suc (suc (suc at))) = omega arith in
+    rw (
+      e1,
+      e2,
+      e3,
+      e4,
+      drop-cons bytes at 0 (omega arith),
+      drop-cons bytes (suc at) 0 (omega arith),
+      drop-cons bytes (suc (suc at)) 0 (omega arith),
+      drop-cons bytes (suc (suc (suc at))) 0 (omega arith),
+    ) refl
 
 -- the words of the bytes of words
 pub le_words-le_bytes : (words : List ℕ) → ((i : ℕ) → get_or words i 0 < 2 ^ 32) → le_words (le_bytes words) ≡ words
@@ -55,6 +55,10 @@ unfolding le_words le_bytes
 le_words-le_bytes [] fits = refl
 le_words-le_bytes (w ∷ words) fits =
     ap₂ (λ (x : ℕ) (xs : List ℕ). x ∷ xs) (from_le_bytes-to_le_bytes_4 w (fits 0)) (le_words-le_bytes words (λ i. fits (suc i)))
+
+-- and of those after the first
+pub le_words-le_bytes_rest : (words : List ℕ) → ((i : ℕ) → get_or words i 0 < 2 ^ 32) → le_words (le_bytes (drop 1 words)) ≡ drop 1 words
+le_words-le_bytes_rest words fits = le_words-le_bytes (drop 1 words) (λ i. rw get_or-drop (fits (1 + i)))
 
 four_fit : (a b c d : ℕ) → a < 256 → b < 256 → c < 256 → d < 256 → (i : ℕ) → get_or (a ∷ b ∷ c ∷ d ∷ []) i 0 < 256
 four_fit a b c d ha hb hc hd zero = ha
@@ -84,23 +88,30 @@ take-le_bytes out words bytes i k h within held e =
     take-put_mid (4 * i) k out bytes (4 * (i + 1)) (omega arith) (omega arith) in
     rw (front, held, e, take_more words i 0 within) (sym (flat_map-append (to_le_bytes w32) _ _))
 
--- the constants of the initial state are the words of "expand 32-byte k"
-pub constants_are : le_words CONSTANTS.now ≡ 0x61707865 ∷ 0x3320646e ∷ 0x79622d32 ∷ 0x6b206574 ∷ []
-unfolding le_words
-constants_are = refl
+pub length-le_bytes : (words : List ℕ) → length (le_bytes words) ≡ 4 * length words
+unfolding le_bytes
+length-le_bytes [] = refl
+length-le_bytes (w ∷ words) = omega (arith, length-le_bytes words)
 
--- the initial state, of words that were copied to their places
-pub initial_state_words : (key counter c k n : List ℕ) (number : ℕ) → length key ≡ 8 → length counter ≡ 4
+-- byte r of word k
+pub get_or-le_bytes : (words : List ℕ) (k r : ℕ) → r < 4 → get_or (le_bytes words) (4 * k + r) 0 ≡ get_or (to_le_bytes w32 (get_or words k 0)) r 0
+unfolding le_bytes
+get_or-le_bytes [] k r h = by_four (λ r. 0 ≡ get_or (to_le_bytes w32 0) r 0) refl refl refl refl r h
+get_or-le_bytes (w ∷ words) zero r h =
+    by_four (λ r. get_or (le_bytes (w ∷ words)) (4 * 0 + r) 0 ≡ get_or (to_le_bytes w32 w) r 0) refl refl refl refl r h
+get_or-le_bytes (w ∷ words) (suc k) r h =
+    let next : 4 * suc k + r ≡ suc (suc (suc (suc (4 * k + r)))) = omega arith in
+    rw next (get_or-le_bytes words k r h)
+
+-- the initial state, word by word
+pub initial_state_words : (key counter : List ℕ) (number : ℕ) → length key ≡ 8 → length counter ≡ 4
     → ((i : ℕ) → get_or key i 0 < 2 ^ 32) → ((i : ℕ) → get_or counter i 0 < 2 ^ 32)
-    → c ≡ 0x61707865 ∷ 0x3320646e ∷ 0x79622d32 ∷ 0x6b206574 ∷ [] → k ≡ key → n ≡ number ∷ elements_from 3 1 counter
-    → put_mid 12 4 (put_mid 4 8 (c ++ replicate 12 0) k) n ≡ initial_state (le_bytes key) number (le_bytes (drop 1 counter))
+    → 0x61707865 ∷ 0x3320646e ∷ 0x79622d32 ∷ 0x6b206574 ∷ elements_from 8 0 key ++ number ∷ elements_from 3 1 counter
+    ≡ initial_state (le_bytes key) number (le_bytes (drop 1 counter))
 unfolding initial_state
-initial_state_words key counter c k n number lk lc fk fc ec ek en =
-    let zeros : List ℕ = replicate 4 0 in
-    let fits : (i : ℕ) → get_or (drop 1 counter) i 0 < 2 ^ 32 = λ i. rw get_or-drop (fc (1 + i)) in
-    rw (ec, ek, en, take_at key zeros 8 lk, drop_at key zeros 8 lk)
-    (sym (ap₂ (λ k n. 0x61707865 ∷ 0x3320646e ∷ 0x79622d32 ∷ 0x6b206574 ∷ k ++ number ∷ n)
-    (le_words-le_bytes key fk) (le_words-le_bytes (drop 1 counter) fits ∙ drop-elements 3 1 counter lc)))
+initial_state_words key counter number lk lc fk fc =
+    sym (ap₂ (λ k n. 0x61707865 ∷ 0x3320646e ∷ 0x79622d32 ∷ 0x6b206574 ∷ k ++ number ∷ n)
+    (le_words-le_bytes key fk ∙ drop-elements 8 0 key lk) (le_words-le_bytes_rest counter fc ∙ drop-elements 3 1 counter lc))
 
 -- the block counter is word 12
 pub counter-initial_state : (key nonce : List ℕ) (m n : ℕ) → length (le_words key) ≡ 8

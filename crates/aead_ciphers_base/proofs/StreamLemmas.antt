@@ -69,16 +69,3 @@ all_from f s d was all =
     ap (λ n. xored f (take n (drop s was)) ++ drop n was) all
     ∙ ap (λ u. xored f u ++ drop (length was - s) was)
     (take_all (length was - s) (drop s was) (omega (arith, length-drop s was)))
-
--- the front up to d was written, and then all that is left
-pub finish : (f g : ℕ → ℕ) (d s : ℕ) (was now : List ℕ) → ((i : ℕ) → f (d + i) ≡ g i) → s + d ≤ length was → length now ≡ length was →
-    now ≡ xored f (take d (drop s was)) ++ drop d was →
-    take d now ++ xored g (drop (s + d) now) ++ drop (length now - s) now ≡ xored f (drop s was) ++ drop (length was - s) was
-finish f g d s was now later room len e =
-    let n = length was - s - d in
-    let all : d + n ≡ length was - s = omega arith in
-    let all' : length now - s ≡ d + n = omega arith in
-    ap₂ (λ (u : List ℕ) (z : ℕ). take d now ++ xored g u ++ drop z now)
-    (sym (take_all n _ (omega (arith, length-drop (s + d) now)))) all'
-    ∙ advance f g d n s was now later (omega arith) e
-    ∙ all_from f s _ was all

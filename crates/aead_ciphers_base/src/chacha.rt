@@ -2,15 +2,13 @@
 
 ghost use Rattle.std.specs.Prelude.{◌≡◌, ℕ, ◌+◌, ◌-◌, ◌*◌, ◌^◌, ◌<◌, ◌≤◌, List, ◌∷◌, ◌++◌, length, take, drop, slice_index, slice_set};
 ghost use Rattle.std.specs.Int.{div_ceil};
-ghost use Rattle.std.specs.Simd.Lanes.{zip2};
 ghost use Rattle.aead_ciphers_base.specs.Bytes.{each_below, ◌⊕◌};
-ghost use Rattle.aead_ciphers_base.specs.ChaCha20.{add32, quarter_round, quarter_round_at, double_round, state_block, le_words, le_bytes, initial_state, stream_byte, chacha20_encrypted, Position};
+ghost use Rattle.aead_ciphers_base.specs.ChaCha20.{chacha20_block, le_words, le_bytes, initial_state, stream_byte, chacha20_encrypted, Position};
 ghost use Rattle.aead_ciphers_base.specs.Mask.{chacha_mask};
 ghost use Rattle.aead_ciphers_base.specs.Overlapping.{input_len, input_of};
 
 use crate::values::{Nonce, Sample};
 use crate::{bb, overlapping};
-use lanes::BATCH_LEN;
 use rows::state_block;
 use std::marker::Model;
 
@@ -23,24 +21,26 @@ pub const KEY_LEN: usize = 32;
 /// The length of a block of the keystream, in bytes.
 pub const BLOCK_LEN: usize = 64;
 
+// The length of four blocks, in bytes.
+const BATCH_LEN: usize = 4 * BLOCK_LEN;
+
 /// A slice of bytes that is read from `start` on and written from the front on.
 pub type Overlapping<'o> = overlapping::Overlapping<'o, u8>;
 
 type State = [u32; 16];
 
-// The first four words of a state (section 2.3), in little-endian order.
-const CONSTANTS: &[u8; 16] = b"expand 32-byte k";
+// The first four words of a state (section 2.3): "expand 32-byte k" in little-endian order.
+const CONSTANTS: [u32; 4] = [0x6170_7865, 0x3320_646e, 0x7962_2d32, 0x6b20_6574];
 
 // Writes words in little-endian order.
 #[tactic(auto, using(crate::proofs::LittleEndian::read_and_written), unfolding(crate::specs::ChaCha20::le_bytes))]
-fn le_bytes(words: &State) -> [u8; BLOCK_LEN]
-    ensures { result ≡ le_bytes words.now }
+fn write_le_bytes(words: &[u32], bytes: &mut [u8])
+    requires { length bytes.old ≡ 4 * length words.now }
+    ensures { bytes.new ≡ le_bytes words.now }
 {
-    let mut bytes = [0; BLOCK_LEN];
-    for i in 0..16 {
+    for i in 0..words.len() {
         bytes[4 * i..4 * i + 4].copy_from_slice(&words[i].to_le_bytes());
     }
-    bytes
 }
 
 // Reads words in little-endian order.
@@ -179,7 +179,6 @@ impl Key {
     ///     chacha::Key::new(key).encrypt(counter, Overlapping::from(message));
     /// }
     /// ```
-    #[tactic(auto, using(crate::proofs::KeyStreamLemmas::written_rest))]
     pub fn encrypt(&self, counter: Counter, in_out: Overlapping<'_>)
         requires { counter.number + div_ceil (input_len in_out) 64 ≤ 2 ^ 32 }
         ensures { let input = input_of in_out.entry in
@@ -187,14 +186,7 @@ impl Key {
             ++ drop (length input) in_out.entry.in_out.now }
     {
         let Overlapping { in_out, start } = in_out;
-        let batches = (in_out.len() - start) / BATCH_LEN;
-        self.encrypt_batches(&counter, in_out, start, batches);
-        self.encrypt_blocks(
-            &counter,
-            4 * batches,
-            &mut in_out[BATCH_LEN * batches..],
-            start,
-        );
+        self.encrypt_within(&counter, in_out, start);
     }
 
     // Encrypts a whole slice in place.
@@ -228,46 +220,43 @@ impl Key {
         let counter = Counter {
             words: le_words(&sample),
         };
-        let block = state_block(&self.initial_state(&counter, 0));
+        let block = self.block(&counter, 0);
         let mut mask = [0; 5];
         mask.copy_from_slice(&block[..5]);
         mask
     }
 
-    // Encrypts the first `batches` batches, the four blocks of each side by side.
-    #[tactic(auto, unfolding(crate::specs::ChaCha20::chacha20_encrypted, crate::specs::Bytes::xored))]
-    fn encrypt_batches(&self, counter: &Counter, in_out: &mut [u8], start: usize, batches: usize)
-        requires within { start + 256 * batches ≤ length in_out.old }
-        requires counted { counter.now.number + 4 * batches ≤ 2 ^ 32 }
-        ensures { let input = take (256 * batches) (drop start in_out.old) in
-            in_out.new
-            ≡ chacha20_encrypted self.now counter.now.number counter.now.nonce input
-            ++ drop (length input) in_out.old }
-    {
-        for j in 0..batches {
-            let stream = self.four_blocks(counter, (4 * j) as u32);
-            xor_stream(in_out, start, BATCH_LEN * j, BATCH_LEN, stream);
-        }
-    }
-
-    // Encrypts one block at a time, from block `first` after the counter on. No counter after that of
-    // the last block is computed.
-    fn encrypt_blocks(&self, counter: &Counter, first: usize, in_out: &mut [u8], start: usize)
+    // Encrypts the bytes from `start` on, and writes the output to the front.
+    fn encrypt_within(&self, counter: &Counter, in_out: &mut [u8], start: usize)
         requires within { start ≤ length in_out.old }
-        requires counted { counter.now.number + first + div_ceil (length in_out.old - start) 64
-            ≤ 2 ^ 32 }
+        requires counted { counter.now.number + div_ceil (length in_out.old - start) 64 ≤ 2 ^ 32 }
         ensures { let input = drop start in_out.old in
-            in_out.new
-            ≡ chacha20_encrypted self.now (counter.now.number + first) counter.now.nonce input
+            in_out.new ≡ chacha20_encrypted self.now counter.now.number counter.now.nonce input
             ++ drop (length input) in_out.old }
     {
         let len = in_out.len() - start;
-        for j in 0..len.div_ceil(BLOCK_LEN) {
+        let mut j = 0;
+        while BLOCK_LEN * j < len {
             let at = BLOCK_LEN * j;
-            let n = BLOCK_LEN.min(len - at);
-            let block = state_block(&self.initial_state(counter, (first + j) as u32));
-            xor_stream(in_out, start, at, n, block);
+            if len - at >= BATCH_LEN {
+                let stream = self.four_blocks(counter, j as u32);
+                xor_stream(in_out, start, at, BATCH_LEN, stream);
+                j += 4;
+            } else {
+                let n = BLOCK_LEN.min(len - at);
+                xor_stream(in_out, start, at, n, self.block(counter, j as u32));
+                j += 1;
+            }
         }
+    }
+
+    // Returns block `j` of the keystream after the counter.
+    #[tactic(auto, unfolding(crate::specs::ChaCha20::chacha20_block))]
+    fn block(&self, counter: &Counter, j: u32) -> [u8; BLOCK_LEN]
+        requires { counter.now.number + j < 2 ^ 32 }
+        ensures { result ≡ chacha20_block self.now (counter.now.number + j) counter.now.nonce }
+    {
+        state_block(&self.initial_state(counter, j))
     }
 
     // Returns four blocks of the keystream, from block `j` after the counter on.
@@ -275,7 +264,10 @@ impl Key {
         requires { counter.now.number + j + 4 ≤ 2 ^ 32 }
         ensures { result ≡ each_below 256 (stream_byte self.now (counter.now.number + j) counter.now.nonce) }
     {
-        lanes::state_blocks(&lanes::four_states(&self.initial_state(counter, j)))
+        let words = lanes::four_blocks(&self.initial_state(counter, j));
+        let mut bytes = [0; BATCH_LEN];
+        write_le_bytes(&words, &mut bytes);
+        bytes
     }
 
     // Returns the initial state of block `j` after the counter.
@@ -283,15 +275,16 @@ impl Key {
         requires { counter.now.number + j < 2 ^ 32 }
         ensures state { result
             ≡ initial_state self.now (counter.now.number + j) counter.now.nonce }
+        ensures word_12 { slice_index result 12 ≡ counter.now.number + j }
         ensures counter_in_word_12 { (n : ℕ) → slice_set result 12 n
             ≡ initial_state self.now n counter.now.nonce }
     {
-        let [c0, c1, c2, c3] = le_words::<4>(CONSTANTS);
+        let [c0, c1, c2, c3] = CONSTANTS;
+        let [k0, k1, k2, k3, k4, k5, k6, k7] = self.words;
         let [number, n0, n1, n2] = counter.words;
-        let mut state = [0; 16];
-        state[..4].copy_from_slice(&[c0, c1, c2, c3]);
-        state[4..12].copy_from_slice(&self.words);
-        state[12..].copy_from_slice(&[number + j, n0, n1, n2]);
-        state
+        let ctr = number + j;
+        [
+            c0, c1, c2, c3, k0, k1, k2, k3, k4, k5, k6, k7, ctr, n0, n1, n2,
+        ]
     }
 }

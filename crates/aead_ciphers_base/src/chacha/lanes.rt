@@ -1,21 +1,19 @@
 //! The block function (RFC 8439 section 2.3) on four states at a time, side by side in vectors.
 
-ghost use Rattle.std.specs.Prelude.{◌≡◌, ◌<◌, ℕ, ◌+◌, ◌*◌, ◌^◌, List, drop, take, slice_index, slice_set};
+ghost use Rattle.std.specs.Prelude.{◌≡◌, ◌<◌, ℕ, ◌+◌, ◌*◌, List, slice_index, slice_set};
+ghost use Rattle.std.specs.Fn.{iterate};
 ghost use Rattle.std.specs.Simd.Lanes.{zip2};
-ghost use Rattle.aead_ciphers_base.specs.ChaCha20.{add32, xor_rotate, quarter_round, quarter_round_at, double_round, le_bytes, state_block};
+ghost use Rattle.aead_ciphers_base.specs.ChaCha20.{add32, xor_rotate, quarter_round, double_round};
 ghost use Rattle.aead_ciphers_base.specs.Lanes.{lane};
 
-use super::{BLOCK_LEN, State, le_bytes};
+use super::State;
 use std::simd::u32x4;
-
-/// The length of four blocks, in bytes.
-pub(super) const BATCH_LEN: usize = 4 * BLOCK_LEN;
 
 /// Four states: word `k` of state `j` is lane `j` of vector `k`.
 type States = [u32x4; 16];
 
 #[inline(always)]
-fn add(a: u32x4, b: u32x4) -> u32x4
+pub(super) fn add(a: u32x4, b: u32x4) -> u32x4
     ensures { (j : ℕ) → j < 4 → slice_index result j ≡ add32 (slice_index a j) (slice_index b j) }
 {
     a + b
@@ -53,94 +51,68 @@ pub(super) fn quarter_round(a: u32x4, b: u32x4, c: u32x4, d: u32x4) -> (u32x4, u
 }
 
 #[inline(always)]
-fn quarter_round_at(states: &mut States, a: usize, b: usize, c: usize, d: usize)
-    requires a_in_state { a < 16 }
-    requires b_in_state { b < 16 }
-    requires c_in_state { c < 16 }
-    requires d_in_state { d < 16 }
-    ensures { (j : ℕ) → j < 4
-        → lane j states.new ≡ quarter_round_at (lane j states.old) (a, b, c, d) }
+fn double_round(x: States) -> States
+    ensures { (j : ℕ) → j < 4 → lane j result ≡ double_round (lane j x) }
 {
-    let (x, y, z, w) = quarter_round(states[a], states[b], states[c], states[d]);
-    states[a] = x;
-    states[b] = y;
-    states[c] = z;
-    states[d] = w;
+    let (x0, x4, x8, x12) = quarter_round(x[0], x[4], x[8], x[12]);
+    let (x1, x5, x9, x13) = quarter_round(x[1], x[5], x[9], x[13]);
+    let (x2, x6, x10, x14) = quarter_round(x[2], x[6], x[10], x[14]);
+    let (x3, x7, x11, x15) = quarter_round(x[3], x[7], x[11], x[15]);
+    let (x0, x5, x10, x15) = quarter_round(x0, x5, x10, x15);
+    let (x1, x6, x11, x12) = quarter_round(x1, x6, x11, x12);
+    let (x2, x7, x8, x13) = quarter_round(x2, x7, x8, x13);
+    let (x3, x4, x9, x14) = quarter_round(x3, x4, x9, x14);
+    [
+        x0, x1, x2, x3, x4, x5, x6, x7, x8, x9, x10, x11, x12, x13, x14, x15,
+    ]
 }
 
-#[tactic(auto, using(crate::proofs::ChaChaRounds::double_round_steps))]
-#[inline(always)]
-fn double_round(states: &mut States)
-    ensures { (j : ℕ) → j < 4 → lane j states.new ≡ double_round (lane j states.old) }
+// Returns four copies of a state, whose block counters (word 12) count up from its own.
+fn four_states(state: &State) -> States
+    ensures { (j : ℕ) → j < 4
+        → lane j result ≡ slice_set state.now 12 (add32 (slice_index state.now 12) j) }
 {
-    quarter_round_at(states, 0, 4, 8, 12);
-    quarter_round_at(states, 1, 5, 9, 13);
-    quarter_round_at(states, 2, 6, 10, 14);
-    quarter_round_at(states, 3, 7, 11, 15);
-    quarter_round_at(states, 0, 5, 10, 15);
-    quarter_round_at(states, 1, 6, 11, 12);
-    quarter_round_at(states, 2, 7, 8, 13);
-    quarter_round_at(states, 3, 4, 9, 14);
+    [
+        u32x4::splat(state[0]),
+        u32x4::splat(state[1]),
+        u32x4::splat(state[2]),
+        u32x4::splat(state[3]),
+        u32x4::splat(state[4]),
+        u32x4::splat(state[5]),
+        u32x4::splat(state[6]),
+        u32x4::splat(state[7]),
+        u32x4::splat(state[8]),
+        u32x4::splat(state[9]),
+        u32x4::splat(state[10]),
+        u32x4::splat(state[11]),
+        add(u32x4::splat(state[12]), u32x4::from_array([0, 1, 2, 3])),
+        u32x4::splat(state[13]),
+        u32x4::splat(state[14]),
+        u32x4::splat(state[15]),
+    ]
 }
 
-fn add_states(states: &mut States, addend: &States)
-    ensures { (j : ℕ) → j < 4
-        → lane j states.new ≡ zip2 add32 (lane j states.old) (lane j addend.now) }
+/// Computes the blocks of a state and of those of the next three block counters, and returns their words,
+/// one block after another.
+#[tactic(auto, using(crate::proofs::ChaChaRounds::iterate_more))]
+pub(super) fn four_blocks(state: &State) -> [u32; 64]
+    ensures { (j k : ℕ) → j < 4 → k < 16 →
+        let counted = slice_set state.now 12 (add32 (slice_index state.now 12) j) in
+        slice_index result (16 * j + k)
+        ≡ slice_index (zip2 add32 (iterate double_round 10 counted) counted) k }
 {
-    for k in 0..16 {
-        states[k] = add(states[k], addend[k]);
+    let states = four_states(state);
+    let mut x = states;
+    for _round in 0..10u32 {
+        x = double_round(x);
     }
-}
-
-// Returns the state in lane `j`.
-fn lane(states: &States, j: usize) -> State
-    requires { j < 4 }
-    ensures { result ≡ lane j states.now }
-{
-    let mut words = [0; 16];
+    let mut words = [0; 64];
     for k in 0..16 {
-        words[k] = states[k].to_array()[j];
+        let [w0, w1, w2, w3] = add(x[k], states[k]).to_array();
+        words[k] = w0;
+        words[16 + k] = w1;
+        words[32 + k] = w2;
+        words[48 + k] = w3;
     }
     words
-}
-
-// Writes the words of the states in little-endian order, one state after another.
-fn four_le_bytes(states: &States) -> [u8; BATCH_LEN]
-    ensures { (j : ℕ) → j < 4
-        → take 64 (drop (64 * j) result) ≡ le_bytes (lane j states.now) }
-{
-    let mut bytes = [0; BATCH_LEN];
-    for j in 0..4 {
-        let at = BLOCK_LEN * j;
-        bytes[at..at + BLOCK_LEN].copy_from_slice(&le_bytes(&lane(states, j)));
-    }
-    bytes
-}
-
-/// Returns four copies of a state, whose block counters (word 12) count up from its own.
-pub(super) fn four_states(state: &State) -> States
-    requires { slice_index state.now 12 + 3 < 2 ^ 32 }
-    ensures { (j : ℕ) → j < 4
-        → lane j result ≡ slice_set state.now 12 (slice_index state.now 12 + j) }
-{
-    let mut states = [u32x4::splat(0); 16];
-    for k in 0..16 {
-        states[k] = u32x4::splat(state[k]);
-    }
-    states[12] = add(states[12], u32x4::from_array([0, 1, 2, 3]));
-    states
-}
-
-/// Computes the blocks of four initial states, and returns them one after another.
-#[tactic(auto, using(crate::proofs::ChaChaRounds::iterate_more), unfolding(crate::specs::ChaCha20::state_block))]
-pub(super) fn state_blocks(states: &States) -> [u8; BATCH_LEN]
-    ensures { (j : ℕ) → j < 4
-        → take 64 (drop (64 * j) result) ≡ state_block (lane j states.now) }
-{
-    let mut words = *states;
-    for _round in 0..10u32 {
-        double_round(&mut words);
-    }
-    add_states(&mut words, states);
-    four_le_bytes(&words)
 }

@@ -1,17 +1,19 @@
 //! The block function (RFC 8439 section 2.3) on one state, whose four rows are vectors.
 
-ghost use Rattle.std.specs.Prelude.{◌≡◌, ◌++◌};
+ghost use Rattle.std.specs.Prelude.{◌≡◌};
 ghost use Rattle.aead_ciphers_base.specs.ChaCha20.{double_round, state_block};
+ghost use Rattle.aead_ciphers_base.specs.Lanes.{state_of_rows};
 
-use super::lanes::quarter_round;
-use super::{BLOCK_LEN, State, le_bytes};
+use super::lanes::{add, quarter_round};
+use super::{BLOCK_LEN, State, write_le_bytes};
 use std::simd::u32x4;
 
 // Applies a quarter round to each column, and then to each diagonal, which becomes a column when the
 // rows are rotated.
 #[inline(always)]
 fn double_round(a: u32x4, b: u32x4, c: u32x4, d: u32x4) -> (u32x4, u32x4, u32x4, u32x4)
-    ensures { result.0 ++ result.1 ++ result.2 ++ result.3 ≡ double_round (a ++ b ++ c ++ d) }
+    ensures { state_of_rows result.0 result.1 result.2 result.3
+        ≡ double_round (state_of_rows a b c d) }
 {
     let (a1, b1, c1, d1) = quarter_round(a, b, c, d);
     let (a2, b2, c2, d2) = quarter_round(
@@ -29,6 +31,7 @@ fn double_round(a: u32x4, b: u32x4, c: u32x4, d: u32x4) -> (u32x4, u32x4, u32x4,
 }
 
 /// Computes the block of an initial state.
+#[tactic(auto, using(crate::proofs::ChaChaRounds::iterate_more))]
 pub(super) fn state_block(state: &State) -> [u8; BLOCK_LEN]
     ensures { result ≡ state_block state.now }
 {
@@ -40,11 +43,14 @@ pub(super) fn state_block(state: &State) -> [u8; BLOCK_LEN]
     for _round in 0..10u32 {
         rows = double_round(rows.0, rows.1, rows.2, rows.3);
     }
-    let [w0, w1, w2, w3] = (rows.0 + a).to_array();
-    let [w4, w5, w6, w7] = (rows.1 + b).to_array();
-    let [w8, w9, w10, w11] = (rows.2 + c).to_array();
-    let [w12, w13, w14, w15] = (rows.3 + d).to_array();
-    le_bytes(&[
+    let [w0, w1, w2, w3] = add(rows.0, a).to_array();
+    let [w4, w5, w6, w7] = add(rows.1, b).to_array();
+    let [w8, w9, w10, w11] = add(rows.2, c).to_array();
+    let [w12, w13, w14, w15] = add(rows.3, d).to_array();
+    let words = [
         w0, w1, w2, w3, w4, w5, w6, w7, w8, w9, w10, w11, w12, w13, w14, w15,
-    ])
+    ];
+    let mut bytes = [0; BLOCK_LEN];
+    write_le_bytes(&words, &mut bytes);
+    bytes
 }

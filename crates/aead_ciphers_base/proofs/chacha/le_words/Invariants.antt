@@ -1,4 +1,4 @@
-use Rattle.std.proofs.Common.{◌≡◌, ℕ, ◌<◌, length, slice_index}
+use Rattle.std.proofs.Common.{◌≡◌, ◌*◌, ◌++◌, length, take, drop}
 use Rattle.aead_ciphers_base.specs.ChaCha20.{le_words}
 use Rattle.aead_ciphers_base.proofs.chacha.le_words.Given as goal
 
@@ -6,5 +6,5 @@ abbrev pub invariant-loop-i : goal.invariant-loop-i
 invariant-loop-i g l =
     record {
       size : length l.words ≡ g.row.N;
-      done : (k : ℕ) → k < l.i → slice_index l.words k ≡ slice_index (le_words l.bytes) k;
+      read : le_words l.bytes ≡ take l.i l.words ++ le_words (drop (4 * l.i) l.bytes);
     }

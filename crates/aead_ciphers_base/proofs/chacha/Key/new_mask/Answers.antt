@@ -1,14 +1,14 @@
 use Rattle.std.proofs.Common.{◌≡◌, ◌<◌, ◌+◌, ℕ, List, length, take, drop, get_or, rules, arith, ap, ap₂, ◌∙◌, add-zero, get_or-drop, length-drop}
 use Rattle.std.specs.Int.{w32, from_le_bytes}
 use Rattle.aead_ciphers_base.specs
-use specs.ChaCha20.{initial_state, chacha20_block, state_block, le_bytes}
+use specs.ChaCha20.{chacha20_block, le_bytes}
 use specs.Mask.{chacha_mask}
 use Rattle.aead_ciphers_base.proofs
 use proofs.LittleEndian.{le_words-first, le_bytes-le_words}
 use proofs.chacha.Key.new_mask.Goals as goal
 
 pub returns : goal.returns
-unfolding chacha20_block chacha_mask
+unfolding chacha_mask
 returns c =
     let size : length c.args.sample ≡ 16 = search rules in
     let words = c.le_words.ensures ∙ le_words-first c.args.sample (omega arith) in
@@ -19,5 +19,4 @@ returns c =
     ap (λ ws. le_bytes (drop 1 ws)) words
     ∙ le_bytes-le_words 3 (drop 4 c.args.sample) (simp length-drop (omega arith)) (λ i. rw get_or-drop (bytes (4 + i))) in
     c.copy_from_slice.ensures.after
-    ∙ ap (take 5) (c.state_block-block.ensures
-    ∙ ap state_block (c.initial_state.ensures.state ∙ ap₂ (λ (k : ℕ) (n : List ℕ). initial_state c.args.self.now k n) number nonce))
+    ∙ ap (take 5) (c.block-block.ensures ∙ ap₂ (λ (k : ℕ) (n : List ℕ). chacha20_block c.args.self.now k n) number nonce)

@@ -5,6 +5,5 @@ use proofs.chacha.rows.double_round.Goals as goal
 
 pub returns : goal.returns
 returns c =
-    double_round_rows _ _ _ _ _ _ _ _ _ _ _ _ (c.fits-a.0, c.fits-b.0, c.fits-c.0, c.fits-d.0)
-    (search rules, search rules, search rules, search rules) (search rules, search rules, search rules, search rules)
+    double_round_rows _ _ _ _ _ _ _ _ _ _ _ _ (search rules) (search rules) (search rules) (search rules) (search rules) (search rules)
     c.quarter_round.ensures c.quarter_round-2.ensures
