@@ -15,7 +15,7 @@ pub use early_data::EarlyData;
 use key_derivation::Secret;
 use std::marker::Model;
 
-/// The most records that a reader takes under one key: as many as there are numbers.
+/// The most records that a reader takes under one key, one fewer than there are numbers.
 const MAX_RECORDS: u64 = u64::MAX;
 
 /// Reads records, each under the next number, over key updates.

@@ -210,8 +210,8 @@ pub fn check_header(file: &[u8]) -> Result<(), FileError>
     }
 }
 
-/// The key of the chunks after a header that begins as one of this version. The whole header is compared with the one that the key defines for
-/// its random bytes.
+/// The key of the chunks after a header that begins as one of this version. The whole header is compared with the one that
+/// the key defines for its random bytes.
 fn whole_cipher_in(
     version: u8,
     key: &FileKey,

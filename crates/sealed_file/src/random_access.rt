@@ -41,9 +41,9 @@ fn append_chunk_at(
 
 /// Opens one chunk of a sealed file, and appends its message to `out`.
 ///
-/// `aad` is what the file is bound to, at most `MAX_AAD_LEN` bytes. `header` is at least the file's first `HEADER_LEN` bytes. `number` counts the chunks from 0, and `is_last` says that the chunk
-/// ends the file. Chunk `n` begins at byte `HEADER_LEN + n * SEALED_CHUNK_LEN`, and has `SEALED_CHUNK_LEN` bytes unless it is the
-/// last.
+/// `aad` is what the file is bound to, at most `MAX_AAD_LEN` bytes. `header` is at least the file's first `HEADER_LEN` bytes.
+/// `number` counts the chunks from 0, and `is_last` says that the chunk ends the file. Chunk `n` begins at byte
+/// `HEADER_LEN + n * SEALED_CHUNK_LEN`, and has `SEALED_CHUNK_LEN` bytes unless it is the last.
 ///
 /// The other chunks are not checked: the file may lack them, or have others in their place. Only opening the last chunk with
 /// `is_last` shows that the file ends where it ended when it was sealed.
