@@ -11,6 +11,6 @@ pub returns : goal.returns
 returns c = λ i h.
     let digit = slice_index c.args.digits i in
     let place : 16 * ((0 + i) / 16) + digit ≡ digit = omega arith in
-    let row = c.args.row in
-    get_or-swz_l_below w8 16 row 0 c.args.digits i (omega (arith, c.fits-digits.0)) (c.requires i h)
+    let products = c.args.row in
+    get_or-swz_l_below w8 16 products 0 c.args.digits i (omega (arith, c.fits-digits.0)) (c.requires i h)
     ∙ ap (slice_index c.args.row) place
