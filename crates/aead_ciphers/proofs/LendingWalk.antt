@@ -36,10 +36,9 @@ pub use mathlib.Core.List.{[], ◌∷◌}
 pub use mir.Syntax.{a_type, dcons, dnil}
 pub use base.Fraction.{full_share}
 pub use types.Kit.{◌$◌, !, move, keep}
-pub use types.Run.{stop, addr, of_opd, returns, and_then, lit}
+pub use types.Run.{stop, addr, of_opd, returns}
 pub use types.ByLocal.{alloc_all, pass_all, free_all, look_at, get, sets, lands_as, through}
 pub use denote.Signature.{plain, named_lft, types_at}
-pub use denote.Slice.{mut_slice_vals}
 pub use denote.Steps.{nothing, heard}
 pub use denote.Triple.Walked.{Stays, AllGo, gave_ref, Goes-gave_ref}
 pub use lib.ListN.{length}
@@ -47,14 +46,14 @@ pub use mir.MapTy.{inst_fn}
 pub use denote.Param.{param, bounded}
 pub use Rattle.aead_ciphers_base.specs.Aes.{aes}
 pub use proofs.Lending.{nonce_word, aad_word, tag_word, range_word}
-pub use Rattle.aead_ciphers_base.proofs.WalkLocals.{gets, alone, reborrows}
+pub use Rattle.aead_ciphers_base.proofs.WalkLocals.{gets, reborrows}
 pub use Rattle.aead_ciphers_base.proofs.Walks.{at_words, Words, words_vals, words_typed, slice_typed, table_of, dropped, goes}
 pub use Rattle.aead_ciphers_base.proofs.Walks.{walked, consults, learns, tell, tells, says, ends}
 pub use proofs.NextNonce.{lent_next, call_lent}
 pub use proofs.LentPlaintext.{as_lent, lent_plain, opened_fronts, step_fronts, length-before_tag}
 pub use Rattle.aead_ciphers_base.specs.Values.{aad_bytes}
 pub use specs.Gcm.{Opened, OpenedAttached}
-pub use Rattle.std.proofs.Common.{arith, lit<, length-drop}
+pub use Rattle.std.proofs.Common.{arith, length-drop}
 use specs.contracts.aead.lend.lend_plaintext as L
 pub use proofs.aead.lend.lend_plaintext.Met.{met as front_met}
 

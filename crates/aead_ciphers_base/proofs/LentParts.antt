@@ -1,10 +1,9 @@
--- A part of a slice is lent: its front, what comes after an item, or n items from m on. Assumes `Logic`.
---     lends_front, lends_back, lends_part      the slice becomes the part and what the slice follows
+-- A part of a slice is lent: its front, or what comes after an item. Assumes `Logic`.
+--     lends_front, lends_back      the slice becomes the part and what the slice follows
 use Rattle.aead_ciphers_base.proofs.WalkNames.{◌≡◌, refl, sym, ap, ◌∙◌, List, [], ◌∷◌, ◌++◌, ℕ, ◌+◌, ◌-◌, ◌*◌, ◌^◌, ◌<◌, ◌≤◌, arith, length, take, drop_list, length-drop, length-append, take-append-drop, Ura, named, Val, SProp, ent, sep, ex, coded_list, Fml, Lft, GName, Share, flft, fobs, fbor, size, Logic, sem, open_ref, Item, ‵, ◌⊛◌, some, later, ◌$◌, ◌∵◌, !, qed, move, drop, split, split3, group, fsplit, fsplit3, fjoin, feq_l, feq_i, use1, use2, await, pick, rewrite, done, updating, now, show, cells, Arr, Body, Items, follows, mem, param, layout, RattleType, MutBor, MutSlice, Room, slice_val}
 use native.Mathlib.Nat.{mul-le-mul_right}
 use base.Stored.{Gv}
 use types.Follow.{takes_part}
-use denote.Follow.{follows_then}
 use denote.FollowSlice.{heres_id, slice_of}
 use borrow.Table.Elements.{at, at_mul, cut_app, join_app, length-take-le}
 
@@ -119,33 +118,3 @@ module _ (X : RattleType) {M : Type 1} {𝓤 : Ura M} (𝓛 : Logic 𝓤) (κ : 
         lends back (λ ws. front ++ ws) (past (length front)) (m * size (layout X) + o) (length xs - m)
         (elements front o) put_back cut_back place count
         (omega arith) rm vs
-
-module _ (X : RattleType) {M : Type 1} {𝓤 : Ura M} (𝓛 : Logic 𝓤) (κ : Lft) (q : Share) (s : MutBor (List X.Denot)) (m n : ℕ) where
-  open 𝓛 use {H, A}
-
-  abbrev pub part : List X.Denot
-  part = take n (drop_list m s.now)
-
-  abbrev pub around : List X.Denot → List X.Denot
-  around ws = take m s.now ++ (ws ++ drop_list n (drop_list m s.now))
-
-  -- the back is lent, and its front on
-  pub lends_part : (p' k : ℕ) → m * size (layout X) + s.ref_ptr.1 ≡ p' → n ≡ k → m + n ≤ length s.now → Room (param 0 X) (length s.now)
-      → (vs : List Val) → ent 𝓤 (sep 𝓤 (sem 𝓛 ((S X 𝓛 κ q s).own_val s vs)) (A.lft κ q)) (H.⇛ (ex 𝓤 (Lent X 𝓛 κ q s part around p' k)))
-  lends_part p' k place count fits rm vs =
-      let p = m * size (layout X) + s.ref_ptr.1 in let b = s.ref_ptr.0 in let ys = drop_list m s.now in let long = length-drop m s.now in
-      let rest = λ (ws : List X.Denot). take m s.now ++ ws in let Xs = Items (param 0 X) 0 in
-      let bytes : length ys * size (layout X) ≤ length s.now * size (layout X) = mul-le-mul_right (size (layout X)) (omega (arith, long)) in
-      let fit : length s.now * size (layout X) < 2 ^ 63 = rm.1 in let short : length s.now < 2 ^ 64 = rm.0 in
-      let room : Room (param 0 X) (length ys) = (omega (arith, long, short), omega (arith, bytes, fit)) in
-      qed 𝓛 (‵ ((S X 𝓛 κ q s).own_val s vs) ∷ ‵ (flft κ q) ∷ []) ∵ updating ! $
-      use2 𝓛 (later (some (lent X 𝓛 κ q s ys rest p (length s.now - m)))) (lends_back X 𝓛 κ q s m (omega (arith, fits)) rm vs) $
-      await ! tt $ pick ! (λ γ. split3 ! $ let back = record s { ref_ptr = (b, p); ghost_name = γ; now = ys } in
-      use2 𝓛 (later (some (lent X 𝓛 κ q back part (λ ws. ws ++ drop_list n ys) p n)))
-      (lends_front X 𝓛 κ q back n (omega (arith, long, fits)) room (slice_val (b, p) (length s.now - m) ∷ [])) $
-      -- [the part; the token; what the back follows; what the slice follows]
-      await ! tt $ pick ! (λ δ. split3 ! $ move ! (3 ∷ 2 ∷ []) $
-      use2 𝓛 (‵ (follows Xs Xs s.ghost_name δ around))
-      (follows_then 𝓛 Xs Xs Xs rest (λ ws. ws ++ drop_list n ys) s.ghost_name γ δ) $
-      move ! (1 ∷ 2 ∷ 0 ∷ []) $ rewrite ! 0 (λ (e : ℕ × ℕ). ‵ (Part X 𝓛 κ q s part around e.0 e.1 δ)) (λ i. (place i, count i)) refl $
-      now ! $ show ! (Lent X 𝓛 κ q s part around p' k) δ $ done !))

@@ -189,14 +189,6 @@ impl Key {
         self.encrypt_within(&counter, in_out, start);
     }
 
-    // Encrypts a whole slice in place.
-    fn encrypt_in_place(&self, counter: Counter, in_out: &mut [u8])
-        requires { counter.number + div_ceil (length in_out.old) 64 ≤ 2 ^ 32 }
-        ensures { in_out.new ≡ chacha20_encrypted self.now counter.number counter.nonce in_out.old }
-    {
-        self.encrypt(counter, Overlapping::from(in_out));
-    }
-
     /// Encrypts at most 64 bytes in place with block 0 of the keystream, and returns the counter of
     /// block 1.
     pub fn encrypt_single_block_with_ctr_0<const N: usize>(
@@ -209,7 +201,7 @@ impl Key {
         ensures one { result ≡ record { number = 1; nonce = nonce } }
     {
         let (zero, one) = Counter::zero_one_less_safe(nonce);
-        self.encrypt_in_place(zero, &mut in_out[..]);
+        self.encrypt_within(&zero, in_out, 0);
         one
     }
 
