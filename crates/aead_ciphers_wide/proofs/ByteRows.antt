@@ -489,7 +489,7 @@ pub pair_end : (h table squares x high low y high' low' first second result : Li
     → IsBlock first → IsBlock second → k ≡ 16
     → pair_value first second ≡ ladder k (λ r. row_sums squares high low table high' low' (16 - k + r))
     → result ≡ first ⊕ u128_times second → result ≡ (x • h ⊕ y) • h
-pair_end h table squares x high low y high' low' first second result k size products products' is_x is_high is_low is_y is_high' is_low' is_first is_second all value e =
+pair_end h table squares x high low y high' low' first second result k size p p' is_x is_high is_low is_y is_high' is_low' is_first is_second all value e =
     let F = row_sum squares high low in
     let G = row_sum table high' low' in
     let sF : (r : ℕ) → Sized (F r) = λ r. Sized-ladder 16 (λ i. first_byte (row_byte squares high low r i)) (λ i. refl) in
@@ -500,7 +500,7 @@ pair_end h table squares x high low y high' low' first second result k size prod
     (λ r lt. (let place : 16 - 16 + r ≡ r = omega arith in ap (λ r. F r ⊕ G r) place))
     ∙ ladder-xor 16 F G sF sG
     ∙ ap₂ (λ a b. a ⊕ b)
-    (product_rows squares (h • h) (Sized-product h h) products' x high low is_x is_high is_low)
-    (product_rows table h size products y high' low' is_y is_high' is_low')
+    (product_rows squares (h • h) (Sized-product h h) p' x high low is_x is_high is_low)
+    (product_rows table h size p y high' low' is_y is_high' is_low')
     ∙ ap (λ a. a ⊕ y • h) (sym (product_assoc x h h is_x.size size size))
     ∙ sym (product_xor_left (x • h) y h (Sized-product x h) is_y.size size)

@@ -15,9 +15,14 @@ returns c = λ p h.
     let pf = c.plane_of-f0 in
     let pg = c.plane_of-g0 in
     let ph = c.plane_of-h0 in
-    let key = pa.result.0 ∷ pa.result.1 ∷ pb.result.0 ∷ pb.result.1 ∷ pc.result.0 ∷ pc.result.1 ∷ pd.result.0 ∷ pd.result.1 ∷ pe.result.0 ∷ pe.result.1 ∷ pf.result.0 ∷ pf.result.1 ∷ pg.result.0 ∷ pg.result.1 ∷ ph.result.0 ∷ ph.result.1 ∷ [] in
+    let key =
+    pa.result.0 ∷ pa.result.1 ∷ pb.result.0 ∷ pb.result.1 ∷ pc.result.0 ∷ pc.result.1 ∷ pd.result.0 ∷ pd.result.1
+    ∷ pe.result.0 ∷ pe.result.1 ∷ pf.result.0 ∷ pf.result.1 ∷ pg.result.0 ∷ pg.result.1 ∷ ph.result.0 ∷ ph.result.1 ∷ [] in
     let v = slice_index c.args.block (p / 8) in
     let small : v < 256 = search rules in
     byte_of_bits v p (planes_of key) small
     (by_eight (λ b. bit_at (slice_index (planes_of key) b) p ≡ bit_at v b)
-    (pa.ensures 0 p (omega arith) refl h) (pb.ensures 1 p (omega arith) refl h) (pc.ensures 2 p (omega arith) refl h) (pd.ensures 3 p (omega arith) refl h) (pe.ensures 4 p (omega arith) refl h) (pf.ensures 5 p (omega arith) refl h) (pg.ensures 6 p (omega arith) refl h) (ph.ensures 7 p (omega arith) refl h))
+    (pa.ensures 0 p (omega arith) refl h) (pb.ensures 1 p (omega arith) refl h)
+    (pc.ensures 2 p (omega arith) refl h) (pd.ensures 3 p (omega arith) refl h)
+    (pe.ensures 4 p (omega arith) refl h) (pf.ensures 5 p (omega arith) refl h)
+    (pg.ensures 6 p (omega arith) refl h) (ph.ensures 7 p (omega arith) refl h))

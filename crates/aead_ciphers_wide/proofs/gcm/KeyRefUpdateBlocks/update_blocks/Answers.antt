@@ -39,7 +39,8 @@ loop-k-preserved c =
           (ap (λ xs. xs ++ second ∷ []) (front_one done bs first (2 * k) (2 * k) (2 * k + 1) refl refl (omega arith) c.index.ensures)
           ∙ front_one done bs second (2 * k + 1) (2 * k + 1) (2 * (k + 1)) refl (omega arith) (omega arith) c.index-second.ensures)
           (hash_two h _ first second c.self.inside.products.now c.loop-k.sum c.number-first.result
-          c.product_pair-sum.result (done ++ take (2 * k) bs) c.self.view_is refl c.number-first.ensures (block_size c.args.input.items.now (2 * k + 1) second (omega arith) c.index-second.ensures)
+          c.product_pair-sum.result (done ++ take (2 * k) bs) c.self.view_is refl c.number-first.ensures
+          (block_size c.args.input.items.now (2 * k + 1) second (omega arith) c.index-second.ensures)
           c.product_pair-sum.ensures (c.loop-k.invariant.hashed done at));
     }
 

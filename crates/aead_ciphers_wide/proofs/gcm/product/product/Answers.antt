@@ -9,10 +9,15 @@ use Rattle.aead_ciphers_wide.proofs.ByteRows.{IsBlock-vector, looked_value, move
 use Rattle.aead_ciphers_wide.proofs.gcm.product.product.Goals as goal
 
 pub looked_up-bytes-requires-clause-high : goal.looked_up-bytes-requires-clause-high
-looked_up-bytes-requires-clause-high c = small_digits c.bytes_of.result c.digits.result.0 (subst IsBlock (sym c.bytes_of.ensures) (IsBlock-number c.args.block)) c.digits.ensures.high
+looked_up-bytes-requires-clause-high c =
+    let block : IsBlock c.bytes_of.result = subst IsBlock (sym c.bytes_of.ensures) (IsBlock-number c.args.block) in
+    small_digits c.bytes_of.result c.digits.result.0 block c.digits.ensures.high
 
 pub loop-k-init : goal.loop-k-init
-loop-k-init c = record { value = start_value (λ r. ladder 16 (λ i. first_byte (row_byte c.args.table.now c.digits.result.0 c.digits.result.1 (16 - 0 + r) i))); zeros = λ i h. zero_at 16 i }
+loop-k-init c = record {
+  value = start_value (λ r. ladder 16 (λ i. first_byte (row_byte c.args.table.now c.digits.result.0 c.digits.result.1 (16 - 0 + r) i)));
+  zeros = λ i h. zero_at 16 i;
+}
 
 pub loop-k-preserved : goal.loop-k-preserved
 loop-k-preserved c =

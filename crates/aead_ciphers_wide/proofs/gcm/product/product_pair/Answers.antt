@@ -9,7 +9,9 @@ use Rattle.aead_ciphers_wide.proofs.ByteRows.{IsBlock-bytes, IsBlock-vector, loo
 use Rattle.aead_ciphers_wide.proofs.gcm.product.product_pair.Goals as goal
 
 pub looked_up-one-requires-clause-high : goal.looked_up-one-requires-clause-high
-looked_up-one-requires-clause-high c = small_digits c.bytes_of.result c.digits.result.0 (subst IsBlock (sym c.bytes_of.ensures) (IsBlock-number c.args.first)) c.digits.ensures.high
+looked_up-one-requires-clause-high c =
+    let block : IsBlock c.bytes_of.result = subst IsBlock (sym c.bytes_of.ensures) (IsBlock-number c.args.first) in
+    small_digits c.bytes_of.result c.digits.result.0 block c.digits.ensures.high
 
 pub looked_up-two-requires-clause-high : goal.looked_up-two-requires-clause-high
 looked_up-two-requires-clause-high c =

@@ -18,8 +18,9 @@ loop-done-preserved g c =
       within = omega arith;
       size = omega arith;
       len = ap (λ (s : SealState). s.len) c.seal_in_batch.ensures.kept ∙ omega arith;
-      front = front_more (g.A.EncryptBlock.cipher c.args.aes.now) c.args.in_out.now c.loop-done.in_out c.seal_in_batch.new.in_out c.loop-done.done n _ (omega arith)
-          (omega arith) c.loop-done.invariant.front c.seal_in_batch.ensures;
+      front =
+          front_more (g.A.EncryptBlock.cipher c.args.aes.now) c.args.in_out.now c.loop-done.in_out c.seal_in_batch.new.in_out
+          c.loop-done.done n _ (omega arith) (omega arith) c.loop-done.invariant.front c.seal_in_batch.ensures;
     }
 
 pub returns-clause-sealed : goal.returns-clause-sealed
