@@ -1,62 +1,14 @@
 -- Bytes encrypted in pieces: what a walk's chunks hold, and the rest.
-use Rattle.std.proofs.Common.{◌≡◌, ℕ, ◌+◌, ◌-◌, ◌/◌, ◌%◌, ◌≤◌, List, ◌++◌, length, take, drop, refl, sym, ap, ap₂, subst, ◌∙◌, arith, append-nil, length-append, length-take, length-take-le, length-drop, take_all, take_at, drop_at, append_assoc}
+use Rattle.std.proofs.Common.{◌≡◌, ℕ, ◌+◌, ◌-◌, ◌≤◌, List, ◌++◌, length, take, drop, refl, sym, ap, ap₂, ◌∙◌, arith, append-nil, length-append, length-take, length-take-le, length-drop, take_all, take_at, drop_at, append_assoc}
 use Rattle.std.proofs.lemmas.List.{drop_all, drop-take, take-append-le, take-take}
 use Rattle.std.proofs.Math.Seq.{take-add}
 use Rattle.aead_ciphers_base.specs
 use specs.Bytes.{zero_block}
-use specs.CounterMode.{Advances, EncryptsFirst, EncryptsToFront, IsCounter, counter_block, counter_mode}
+use specs.CounterMode.{IsCounter, counter_block, counter_mode}
 use Rattle.aead_ciphers_base.proofs
-use proofs.CounterLemmas.{advances_none, advances_more}
-use proofs.CounterModeLemmas.{counter_byte-later, counter_mode-short, encrypts_more, encrypts_none, encrypts_window, length-counter_mode, take-counter_mode}
+use proofs.CounterModeLemmas.{EncryptsFirst, counter_byte-later, counter_mode-short, length-counter_mode, take-counter_mode}
 use proofs.StreamLemmas.{xored-append}
 use proofs.XorLemmas.{xor_comm, xor_zeros}
-
--- a walk over the whole blocks of a buffer from s on: it has encrypted the first d bytes of them to the front
-pub record Walked (cipher : List ℕ → List ℕ) (begun reached : List ℕ) (s d : ℕ) (was now : List ℕ) : Type 0 where
-  pub aligned : d % 16 ≡ 0
-  pub size : length now ≡ length was
-  pub output : EncryptsFirst cipher begun s d was now
-  pub counter : Advances begun reached (d / 16)
-
-pub walked_none : (cipher : List ℕ → List ℕ) (begun : List ℕ) (s : ℕ) (was : List ℕ) → Walked cipher begun begun s 0 was was
-walked_none cipher begun s was = record {
-  aligned = refl;
-  size = refl;
-  output = encrypts_none cipher begun s was;
-  counter = advances_none begun;
-}
-
--- n bytes more from d on, where the walk is; they need not be whole blocks
-pub walked_on : {cipher : List ℕ → List ℕ} {begun counter : List ℕ} {done : ℕ} (s d n size : ℕ) (was now piece : List ℕ)
-    → done ≡ d → s + d + n ≤ length was → size ≡ n + s
-    → Walked cipher begun counter s done was now → EncryptsToFront cipher counter s (take size (drop d now)) piece
-    → EncryptsFirst cipher begun s (d + n) was (take d now ++ (piece ++ drop size (drop d now)))
-walked_on {cipher} {begun} {counter} s d n size was now piece at room es walk front =
-    let here : Walked cipher begun counter s d was now = subst (λ z. Walked cipher begun counter s z was now) at walk in
-    encrypts_more _ _ _ s d n _ _ _ here.aligned room here.output here.counter (encrypts_window _ _ s d n size now piece (omega (arith, walk.size)) es front)
-
--- one chunk more, of n bytes
-pub walked_more : {cipher : List ℕ → List ℕ} {begun counter next : List ℕ} (s d n m size : ℕ) (was now chunk : List ℕ)
-    → s + d + n ≤ length was → n % 16 ≡ 0 → m ≡ n / 16 → size ≡ n + s → length chunk ≡ size
-    → Walked cipher begun counter s d was now → EncryptsToFront cipher counter s (take size (drop d now)) chunk → Advances counter next m
-    → Walked cipher begun next s (d + n) was (take d now ++ (chunk ++ drop size (drop d now)))
-walked_more s d n m size was now chunk room whole em es length_chunk walk front moved =
-    let before = length-take-le d now (omega (arith, walk.size)) in
-    let after = length-drop size (drop d now) in
-    record {
-      aligned = omega (arith, walk.aligned, whole);
-      size = omega (
-        arith,
-        length-append (take d now) (chunk ++ drop size (drop d now)),
-        length-append chunk (drop size (drop d now)),
-        length-drop d now,
-        before,
-        after,
-        walk.size,
-      );
-      output = walked_on s d n size was now chunk refl room es walk front;
-      counter = advances_more _ _ _ _ _ _ walk.counter moved (omega (arith, walk.aligned, whole));
-    }
 
 -- a buffer whose first e bytes were encrypted in place, which are all
 pub all_encrypted : (cipher : List ℕ → List ℕ) (nonce : List ℕ) (k e : ℕ) (was now : List ℕ) {counter : List ℕ} → e ≡ length was

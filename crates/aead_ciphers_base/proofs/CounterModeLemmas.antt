@@ -1,12 +1,12 @@
 -- Counter mode of a text in pieces.
-use Rattle.std.proofs.Common.{◌≡◌, ℕ, ◌+◌, ◌-◌, ◌*◌, ◌/◌, ◌%◌, ◌≤◌, List, [], ◌++◌, length, take, drop, refl, sym, ap, ap₂, ◌∙◌, arith, append-nil, append_assoc, length-append, length-take-le, length-drop, take_at, drop-drop, take-append-drop}
+use Rattle.std.proofs.Common.{◌≡◌, ℕ, ◌+◌, ◌-◌, ◌*◌, ◌/◌, ◌%◌, ◌≤◌, List, [], ◌++◌, length, take, drop, refl, sym, ap, ap₂, subst, ◌∙◌, arith, append-nil, append_assoc, length-append, length-take-le, length-drop, drop-drop, take-append-drop}
 use Rattle.std.proofs.lemmas.List.{nil_from_length, drop-append-le, drop-take}
 use Rattle.aead_ciphers_base.specs
 use specs.Bytes.{xored, ◌⊕◌}
-use specs.CounterMode.{counter_block, counter_byte, counter_mode, Advances, EncryptsFirst, EncryptsToFront, EncryptsWindow}
+use specs.CounterMode.{counter_block, counter_byte, counter_mode, Advances, EncryptsToFront, InCounterMode}
 use Rattle.aead_ciphers_base.proofs
 use proofs.StreamLemmas.{all_from, length-xored, stream_front, take-xored, xored-is, xored-xored, advance as xored_advance}
-use proofs.XorLemmas.{xor_comm, xor-take}
+use proofs.CounterLemmas.{advances_none, advances_more}
 
 module _ (cipher : List ℕ → List ℕ) (nonce : List ℕ) where
   pub length-counter_mode : (k : ℕ) (text : List ℕ) → length (counter_mode cipher nonce k text) ≡ length text
@@ -58,58 +58,85 @@ module _ (cipher : List ℕ → List ℕ) (nonce : List ℕ) where
       let column : i % 16 ≡ i = omega arith in
       rw (row, column, e) refl))
 
-  -- block i of a text whose first i blocks were encrypted in place is encrypted
-  pub block_step : (k i m : ℕ) (was now pad written : List ℕ) →
-      16 * i + 16 ≤ length was → length now ≡ length was → m ≡ length now - 16 * i →
-      now ≡ counter_mode cipher nonce k (take (16 * i) was) ++ drop (16 * i) was →
-      pad ≡ cipher (counter_block nonce (k + i)) → length pad ≡ 16 →
-      written ≡ (drop (16 * i) now ⊕ pad) ++ drop (length pad) (drop (16 * i) now) →
-      take (16 * i) now ++ (written ++ drop m (drop (16 * i) now)) ≡ counter_mode cipher nonce k (take (16 * (i + 1)) was) ++ drop (16 * (i + 1)) was
-  block_step k i m was now pad written room same me e pe size we =
-      let d = 16 * i in
-      let rest = drop d now in
-      let block = take 16 rest in
-      let long = length-drop d now in
-      let len = length-take-le 16 rest (omega arith) in
-      let here : 0 + d ≡ d = omega arith in
-      let next : d + 16 ≡ 16 * (i + 1) = omega arith in
-      let front =
-      xor_comm rest pad ∙ sym (xor-take pad rest) ∙ xor_comm pad _
-      ∙ ap (λ n. take n rest ⊕ pad) size ∙ counter_mode-short _ block pad (omega arith) (omega arith) pe in
-      let none = nil_from_length (drop m rest) (omega (arith, length-drop m rest)) in
-      ap₂ (λ u v. take d now ++ (u ++ v)) (we ∙ ap₂ (λ (u : List ℕ) (n : ℕ). u ++ drop n rest) front size) none
-      ∙ ap (λ u. take d now ++ u) (append-nil (counter_mode cipher nonce _ block ++ drop 16 rest))
-      ∙ sym (append_assoc (take d now) _ (drop 16 rest))
-      ∙ ap₂ (λ u v. take d now ++ counter_mode cipher nonce (k + i) (take 16 u) ++ v) (ap (λ n. drop n now) (sym here))
-      (drop-drop 16 d now)
-      ∙ advance k i d 16 0 was now refl (omega arith) e
-      ∙ ap (λ n. counter_mode cipher nonce k (take n was) ++ drop n was) next
+  -- the front of a window from d on, of n bytes and s more, is counter mode of what comes after its first s bytes
+  window : (k s d n size : ℕ) (xs w : List ℕ) → s + d + n ≤ length xs → size ≡ n + s →
+      (let win = take size (drop d xs) in w ≡ counter_mode cipher nonce k (drop s win) ++ drop (length win - s) win) →
+      take d xs ++ (w ++ drop size (drop d xs)) ≡ take d xs ++ counter_mode cipher nonce k (take n (drop (s + d) xs)) ++ drop (d + n) xs
+  window k s d n size xs w room e front =
+      let rest = drop d xs in
+      let win = take size rest in
+      let long : length win ≡ size = length-take-le size rest (omega (arith, length-drop d xs)) in
+      let part : size ≡ s + n = omega arith in
+      let len : length win - s ≡ n = omega arith in
+      let place : d + s ≡ s + d = omega arith in
+      let text : drop s win ≡ take n (drop (s + d) xs) =
+      ap (λ z. drop s (take z rest)) part ∙ drop-take s n rest
+      ∙ ap (take n) (drop-drop s d xs ∙ ap (λ z. drop z xs) place) in
+      let tail : drop (length win - s) win ++ drop size rest ≡ drop (d + n) xs =
+      ap (λ z. drop z win ++ drop size rest) len ∙ sym (drop-append-le n win (drop size rest) (omega arith))
+      ∙ ap (drop n) (take-append-drop size rest) ∙ drop-drop n d xs in
+      ap (λ u. take d xs ++ (u ++ drop size rest)) front
+      ∙ ap (λ u. take d xs ++ u) (append_assoc (counter_mode cipher nonce k (drop s win)) (drop (length win - s) win)
+      (drop size rest))
+      ∙ ap₂ (λ u v. take d xs ++ (counter_mode cipher nonce k u ++ v)) text tail
+      ∙ sym (append_assoc (take d xs) (counter_mode cipher nonce k (take n (drop (s + d) xs))) (drop (d + n) xs))
 
-  -- the n bytes at s + d were encrypted in a buffer of their own, and put at d
-  pub batch_put : (k s d n m : ℕ) (xs zeros input batch written : List ℕ) → s + d + n ≤ length xs → m ≡ n →
-      input ≡ take n (drop (s + d) xs) →
-      batch ≡ counter_mode cipher nonce k (input ++ zeros) → written ≡ take n batch →
-      take d xs ++ (written ++ drop m (drop d xs)) ≡ take d xs ++ counter_mode cipher nonce k (take n (drop (s + d) xs)) ++ drop (d + n) xs
-  batch_put k s d n m xs zeros input batch written room me ie be we =
-      let text = take n (drop (s + d) xs) in
-      let size = ap length ie ∙ length-take-le n _ (omega (arith, length-drop (s + d) xs)) in
-      let piece =
-      we ∙ ap (take n) be ∙ take-counter_mode k n _ (omega (arith, length-append input zeros))
-      ∙ ap (counter_mode cipher nonce k) (take_at input zeros n size ∙ ie) in
-      ap₂ (λ u v. take d xs ++ (u ++ v)) piece (ap (λ z. drop z (drop d xs)) me ∙ drop-drop n d xs)
-      ∙ sym (append_assoc (take d xs) _ _)
+-- the new buffer begins with `count` old bytes from `start` on, in counter mode; the other bytes are unchanged
+abbrev pub EncryptsFirst : (List ℕ → List ℕ) → List ℕ → ℕ → ℕ → List ℕ → List ℕ → Type 0
+EncryptsFirst cipher counter start count old new =
+    InCounterMode cipher counter (take count (drop start old)) (λ text. new ≡ text ++ drop count old)
 
 -- a buffer of which nothing is encrypted
 pub encrypts_none : (cipher : List ℕ → List ℕ) (counter : List ℕ) (s : ℕ) (was : List ℕ) → EncryptsFirst cipher counter s 0 was was
 encrypts_none cipher counter s was = λ nonce k at. ap (λ u. u ++ was) (sym (counter_mode-nil cipher nonce k [] refl))
 
--- the d bytes that were encrypted, and the n bytes after them
-pub encrypts_more : (cipher : List ℕ → List ℕ) (counter then : List ℕ) (s d n : ℕ) (was now new : List ℕ) → d % 16 ≡ 0 → s + d + n ≤ length was →
-    EncryptsFirst cipher counter s d was now → Advances counter then (d / 16) → EncryptsWindow cipher then s d n now new →
-    EncryptsFirst cipher counter s (d + n) was new
-encrypts_more cipher counter then s d n was now new whole room done moved window = λ nonce k at.
-    window nonce _ (moved nonce k at)
-    ∙ advance cipher nonce k (d / 16) d n s was now (omega (arith, whole)) room (done nonce k at)
+-- a walk over the whole blocks of a buffer from s on: it has encrypted the first d bytes of them to the front
+pub record Walked (cipher : List ℕ → List ℕ) (begun reached : List ℕ) (s d : ℕ) (was now : List ℕ) : Type 0 where
+  pub aligned : d % 16 ≡ 0
+  pub size : length now ≡ length was
+  pub output : EncryptsFirst cipher begun s d was now
+  pub counter : Advances begun reached (d / 16)
+
+pub walked_none : (cipher : List ℕ → List ℕ) (begun : List ℕ) (s : ℕ) (was : List ℕ) → Walked cipher begun begun s 0 was was
+walked_none cipher begun s was = record {
+  aligned = refl;
+  size = refl;
+  output = encrypts_none cipher begun s was;
+  counter = advances_none begun;
+}
+
+-- n bytes more from d on, where the walk is; they need not be whole blocks
+pub walked_on : {cipher : List ℕ → List ℕ} {begun counter : List ℕ} {done : ℕ} (s d n size : ℕ) (was now piece : List ℕ)
+    → done ≡ d → s + d + n ≤ length was → size ≡ n + s
+    → Walked cipher begun counter s done was now → EncryptsToFront cipher counter s (take size (drop d now)) piece
+    → EncryptsFirst cipher begun s (d + n) was (take d now ++ (piece ++ drop size (drop d now)))
+walked_on {cipher} {begun} {counter} s d n size was now piece at room es walk front = λ nonce k h.
+    let here : Walked cipher begun counter s d was now = subst (λ z. Walked cipher begun counter s z was now) at walk in
+    window cipher nonce _ s d n size now piece (omega (arith, here.size)) es (front nonce _ (here.counter nonce k h))
+    ∙ advance cipher nonce k (d / 16) d n s was now (omega (arith, here.aligned)) room (here.output nonce k h)
+
+-- one chunk more, of n bytes
+pub walked_more : {cipher : List ℕ → List ℕ} {begun counter next : List ℕ} (s d n m size : ℕ) (was now chunk : List ℕ)
+    → s + d + n ≤ length was → n % 16 ≡ 0 → m ≡ n / 16 → size ≡ n + s → length chunk ≡ size
+    → Walked cipher begun counter s d was now → EncryptsToFront cipher counter s (take size (drop d now)) chunk → Advances counter next m
+    → Walked cipher begun next s (d + n) was (take d now ++ (chunk ++ drop size (drop d now)))
+walked_more s d n m size was now chunk room whole em es length_chunk walk front moved =
+    let before = length-take-le d now (omega (arith, walk.size)) in
+    let after = length-drop size (drop d now) in
+    record {
+      aligned = omega (arith, walk.aligned, whole);
+      size = omega (
+        arith,
+        length-append (take d now) (chunk ++ drop size (drop d now)),
+        length-append chunk (drop size (drop d now)),
+        length-drop d now,
+        before,
+        after,
+        walk.size,
+      );
+      output = walked_on s d n size was now chunk refl room es walk front;
+      counter = advances_more _ _ _ _ _ _ walk.counter moved (omega (arith, walk.aligned, whole));
+    }
 
 pub encrypts_all : (cipher : List ℕ → List ℕ) (counter : List ℕ) (s d : ℕ) (was new : List ℕ) →
     EncryptsFirst cipher counter s d was new → d ≡ length was - s → EncryptsToFront cipher counter s was new
@@ -135,25 +162,3 @@ encrypts_block cipher counter then pad s i n m was now text written room same ne
     ∙ sym (append_assoc (take d now) _ _)
     ∙ advance cipher nonce k i d 16 s was now refl room (done nonce k at)
     ∙ ap (λ z. counter_mode cipher nonce k (take z (drop s was)) ++ drop z was) next
-
--- a window from d on, of n bytes and s more, was encrypted to its front
-pub encrypts_window : (cipher : List ℕ → List ℕ) (counter : List ℕ) (s d n size : ℕ) (xs w : List ℕ) → s + d + n ≤ length xs → size ≡ n + s →
-    EncryptsToFront cipher counter s (take size (drop d xs)) w → EncryptsWindow cipher counter s d n xs (take d xs ++ (w ++ drop size (drop d xs)))
-encrypts_window cipher counter s d n size xs w room e front = λ nonce k at.
-    let rest = drop d xs in
-    let win = take size rest in
-    let long : length win ≡ size = length-take-le size rest (omega (arith, length-drop d xs)) in
-    let part : size ≡ s + n = omega arith in
-    let len : length win - s ≡ n = omega arith in
-    let place : d + s ≡ s + d = omega arith in
-    let text : drop s win ≡ take n (drop (s + d) xs) =
-    ap (λ z. drop s (take z rest)) part ∙ drop-take s n rest
-    ∙ ap (take n) (drop-drop s d xs ∙ ap (λ z. drop z xs) place) in
-    let tail : drop (length win - s) win ++ drop size rest ≡ drop (d + n) xs =
-    ap (λ z. drop z win ++ drop size rest) len ∙ sym (drop-append-le n win (drop size rest) (omega arith))
-    ∙ ap (drop n) (take-append-drop size rest) ∙ drop-drop n d xs in
-    ap (λ u. take d xs ++ (u ++ drop size rest)) (front nonce k at)
-    ∙ ap (λ u. take d xs ++ u) (append_assoc (counter_mode cipher nonce k (drop s win)) (drop (length win - s) win)
-    (drop size rest))
-    ∙ ap₂ (λ u v. take d xs ++ (counter_mode cipher nonce k u ++ v)) text tail
-    ∙ sym (append_assoc (take d xs) (counter_mode cipher nonce k (take n (drop (s + d) xs))) (drop (d + n) xs))

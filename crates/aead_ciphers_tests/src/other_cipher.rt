@@ -1,8 +1,5 @@
 //! Tests of `aes_gcm::seal_with` and `aes_gcm::open_with` over a cipher that is not AES, and a hash without products.
 
-ghost use Rattle.std.specs.Prelude.{◌≡◌, ◌≤◌, ◌+◌, length};
-ghost use Rattle.aead_ciphers_base.specs.CounterMode.{Advances, EncryptsWindow};
-ghost use Rattle.aead_ciphers_base.specs.Work.{Adds, CanAdd};
 ghost use Rattle.aead_ciphers.specs.Ghash.{unit_block};
 ghost use Rattle.aead_ciphers_tests.specs.FirstBitFlipped.{first_bit_flipped, length-first_bit_flipped};
 
@@ -10,7 +7,7 @@ use crate::checks::{holds, same};
 use aead_ciphers::aes_gcm::{open_with, seal_with};
 use aead_ciphers::gcm::{UpdateBlock, UpdateBlocks, Xi};
 use aead_ciphers_base::aes::{
-    BLOCK_LEN, Block, Counter, EncryptBlock, EncryptCtr32, Iv, Overlapping, Work, ZERO_BLOCK,
+    BLOCK_LEN, Block, Counter, EncryptBlock, EncryptCtr32, Overlapping, Work, ZERO_BLOCK,
 };
 use aead_ciphers_base::bb;
 use aead_ciphers_base::polyfill::slice::AsChunks;
@@ -35,13 +32,10 @@ impl EncryptBlock for FlipFirstBit {
         work.add_blocks(1);
         bb::xor_16(block, UNIT_BLOCK)
     }
-
-    fn encrypt_iv_xor_block(&self, iv: Iv, block: Block, work: &mut Work) -> Block {
-        bb::xor_16(block, self.encrypt_block(iv.into_block_less_safe(), work))
-    }
 }
 
 impl EncryptCtr32 for FlipFirstBit {
+    #[tactic(auto, using(aead_ciphers_base::proofs::CounterModeLemmas::encrypts_all))]
     fn ctr32_encrypt_within(
         &self,
         in_out: Overlapping<'_>,
@@ -49,28 +43,15 @@ impl EncryptCtr32 for FlipFirstBit {
         work: &mut Work,
     ) {
         let Overlapping { in_out, start } = in_out;
-        let len = in_out.len() - start;
-        let mut done = 0;
-        while done < len {
-            encrypt_at(in_out, start, done, counter, work);
-            done += BLOCK_LEN;
+        for i in 0..(in_out.len() - start) / BLOCK_LEN {
+            let at = BLOCK_LEN * i;
+            let from = start + at;
+            let mut block = ZERO_BLOCK;
+            block.copy_from_slice(&in_out[from..from + BLOCK_LEN]);
+            let output = self.encrypt_iv_xor_block(counter.increment(), block, work);
+            in_out[at..at + BLOCK_LEN].copy_from_slice(&output);
         }
     }
-}
-
-/// Encrypts the block at `start + done`, and writes it at `done`.
-fn encrypt_at(in_out: &mut [u8], start: usize, done: usize, counter: &mut Counter, work: &mut Work)
-    requires within { start + done + 16 ≤ length in_out.old }
-    requires sums { CanAdd work.old 1 0 }
-    ensures output { EncryptsWindow first_bit_flipped counter.old start done 16
-        in_out.old in_out.new }
-    ensures counter { Advances counter.old counter.new 1 }
-    ensures worked { Adds work.old work.new 1 0 }
-{
-    let mut block = ZERO_BLOCK;
-    block.copy_from_slice(&in_out[start + done..start + done + BLOCK_LEN]);
-    let output = FlipFirstBit.encrypt_iv_xor_block(counter.increment(), block, work);
-    in_out[done..done + BLOCK_LEN].copy_from_slice(&output);
 }
 
 /// GHASH under the unit block, which is the XOR of the blocks.

@@ -13,10 +13,9 @@ ghost use Rattle.aead_ciphers_base.specs.Overlapping.{input_len};
 ghost use Rattle.aead_ciphers_base.specs.Work.{Adds, CanAdd};
 
 use aead_ciphers_base::aes::{
-    Block, Counter, EncryptBlock, EncryptCtr32, Iv, KeyBytes, Overlapping, Work, ZERO_BLOCK,
+    Block, Counter, EncryptBlock, EncryptCtr32, KeyBytes, Overlapping, Work, ZERO_BLOCK,
     expand_words,
 };
-use aead_ciphers_base::bb;
 use aead_ciphers_base::error::Unspecified;
 use aead_ciphers_base::values::Sample;
 use std::marker::Model;
@@ -148,10 +147,6 @@ impl<'k> EncryptBlock for KeyRef<'k> {
         work.add_block();
         self.cipher_block(block)
     }
-
-    fn encrypt_iv_xor_block(&self, iv: Iv, block: Block, work: &mut Work) -> Block {
-        bb::xor_16(block, self.encrypt_block(iv.into_block_less_safe(), work))
-    }
 }
 
 impl EncryptBlock for Key {
@@ -161,10 +156,6 @@ impl EncryptBlock for Key {
 
     fn encrypt_block(&self, block: Block, work: &mut Work) -> Block {
         self.by_ref().encrypt_block(block, work)
-    }
-
-    fn encrypt_iv_xor_block(&self, iv: Iv, block: Block, work: &mut Work) -> Block {
-        self.by_ref().encrypt_iv_xor_block(iv, block, work)
     }
 }
 

@@ -1,7 +1,6 @@
 use Rattle.std.proofs.Common.{◌≡◌, ◌+◌, ◌-◌, ◌%◌, length, arith}
-use Rattle.aead_ciphers_base.proofs.CounterModeLemmas.{encrypts_all}
+use Rattle.aead_ciphers_base.proofs.CounterModeLemmas.{encrypts_all, walked_none, walked_on, walked_more}
 use Rattle.aead_ciphers.proofs
-use proofs.CounterModePieces.{walked_none, walked_on, walked_more}
 use proofs.aes_gcm.counter_mode.encrypt_within.Goals as goal
 
 pub loop-done-init : goal.loop-done-init

@@ -1,7 +1,7 @@
 use Rattle.std.proofs.Common.{◌-◌, ◌/◌, ◌≤◌}
 use Rattle.aead_ciphers_base.specs.Work.{Adds}
+use Rattle.aead_ciphers_base.proofs.CounterModeLemmas.{Walked}
 use Rattle.aead_ciphers.proofs
-use proofs.CounterModePieces.{Walked}
 use proofs.aes_gcm.counter_mode.encrypt_within.Given as goal
 
 abbrev pub invariant-loop-done : goal.invariant-loop-done

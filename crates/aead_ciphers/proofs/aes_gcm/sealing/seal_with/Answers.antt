@@ -2,10 +2,10 @@ use Rattle.std.proofs.Common.{◌≡◌, ◌+◌, ◌-◌, ◌%◌, ◌++◌, le
 use Rattle.aead_ciphers_base.specs
 use specs.CounterMode.{counter_mode}
 use specs.Values.{aad_bytes}
-use Rattle.aead_ciphers_base.proofs.CounterModeLemmas.{length-counter_mode}
+use Rattle.aead_ciphers_base.proofs.CounterModeLemmas.{length-counter_mode, Walked, walked_none, walked_on, walked_more}
 use Rattle.aead_ciphers.specs.HashOf.{Absorbs}
 use Rattle.aead_ciphers.proofs
-use proofs.CounterModePieces.{Walked, all_encrypted, encrypted_piece, walked_none, walked_on, walked_more}
+use proofs.CounterModePieces.{all_encrypted, encrypted_piece}
 use proofs.RunningHash.{absorbs_none, absorbs_more, tag_found}
 use proofs.aes_gcm.sealing.seal_with.Goals as goal
 use proofs.aes_gcm.sealing.seal_with.Goals.{then-whole-in_out, else-whole-in_out}

@@ -3,8 +3,8 @@ use Rattle.aead_ciphers_base.specs
 use specs.CounterMode.{InCounterMode}
 use specs.Work.{Adds}
 use Rattle.aead_ciphers.specs.HashOf.{Absorbs}
+use Rattle.aead_ciphers_base.proofs.CounterModeLemmas.{Walked}
 use Rattle.aead_ciphers.proofs
-use proofs.CounterModePieces.{Walked}
 use proofs.aes_gcm.sealing.seal_with.Given as goal
 
 abbrev pub invariant-loop-done : goal.invariant-loop-done

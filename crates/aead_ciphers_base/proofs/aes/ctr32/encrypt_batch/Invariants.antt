@@ -1,7 +1,7 @@
 use Rattle.std.proofs.Common.{◌≡◌, ◌*◌, length}
 use Rattle.aead_ciphers_base.specs
 use specs.Aes.{aes}
-use specs.CounterMode.{EncryptsFirst}
+use Rattle.aead_ciphers_base.proofs.CounterModeLemmas.{EncryptsFirst}
 use Rattle.aead_ciphers_base.proofs.aes.ctr32.encrypt_batch.Given as goal
 
 abbrev pub invariant-loop-i : goal.invariant-loop-i

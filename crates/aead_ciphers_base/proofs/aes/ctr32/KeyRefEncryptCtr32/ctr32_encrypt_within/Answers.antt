@@ -1,32 +1,22 @@
-use Rattle.std.proofs.Common.{arith, refl}
+use Rattle.std.proofs.Common.{◌≡◌, ◌%◌, arith}
 use Rattle.aead_ciphers_base.proofs
-use proofs.CounterLemmas.{advances_none, advances_more}
-use proofs.CounterModeLemmas.{encrypts_none, encrypts_more, encrypts_window}
+use proofs.CounterModeLemmas.{walked_none, walked_more}
 use proofs.aes.ctr32.KeyRefEncryptCtr32.ctr32_encrypt_within.Goals as goal
 
 pub loop-done-init : goal.loop-done-init
-loop-done-init c = record {
-  worked = (omega arith, omega arith);
-  aligned = refl;
-  within = omega arith;
-  size = refl;
-  output = encrypts_none _ _ c.args.in_out.start _;
-  counter = advances_none _;
-}
+loop-done-init c = record { worked = (omega arith, omega arith); within = omega arith; walk = walked_none _ _ _ _ }
 
 pub loop-done-preserved : goal.loop-done-preserved
 loop-done-preserved c =
-    let inv = c.loop-done.invariant in
     let s = c.args.in_out.start in
     let d = c.loop-done.done in
     let n = c.min-count.result in
+    let walk = c.loop-done.invariant.walk in
+    let whole : n % 16 ≡ 0 = omega (arith, walk.aligned) in
     record {
-      worked = (omega arith, omega arith);
-      aligned = omega arith;
+      worked = (omega (arith, walk.aligned, whole), omega arith);
       within = omega arith;
-      size = omega arith;
-      output =
-          encrypts_more _ _ _ s d n _ _ _ inv.aligned (omega arith) inv.output inv.counter
-          (encrypts_window _ _ s d n _ _ _ (omega arith) (omega arith) c.encrypt_batch.ensures.output);
-      counter = advances_more _ _ _ _ _ _ inv.counter c.encrypt_batch.ensures.counter (omega arith);
+      walk =
+          walked_more s d n _ _ c.args.in_out.in_out.now c.loop-done.in_out _ (omega arith) whole (omega arith) (omega arith)
+          (omega arith) walk c.encrypt_batch.ensures.output c.encrypt_batch.ensures.counter;
     }

@@ -1,18 +1,16 @@
-use Rattle.std.proofs.Common.{◌≡◌, ◌-◌, ◌/◌, ◌%◌, ◌≤◌, length}
+use Rattle.std.proofs.Common.{◌-◌, ◌/◌, ◌≤◌}
 use Rattle.aead_ciphers_base.specs
 use specs.Aes.{aes}
-use specs.CounterMode.{Advances, EncryptsFirst}
 use specs.Work.{Adds}
-use Rattle.aead_ciphers_base.proofs.aes.ctr32.KeyRefEncryptCtr32.ctr32_encrypt_within.Given as goal
+use Rattle.aead_ciphers_base.proofs
+use proofs.CounterModeLemmas.{Walked}
+use proofs.aes.ctr32.KeyRefEncryptCtr32.ctr32_encrypt_within.Given as goal
 
 abbrev pub invariant-loop-done : goal.invariant-loop-done
 invariant-loop-done l = record {
   worked : Adds l.initial.work l.work (l.done / 16) 0;
-  aligned : l.done % 16 ≡ 0;
   within : l.done ≤ l.len;
-  size : length l.in_out ≡ length l.initial.in_out;
-  output : EncryptsFirst (aes l.fn.self) l.initial.counter l.start l.done l.initial.in_out l.in_out;
-  counter : Advances l.initial.counter l.counter (l.done / 16);
+  walk : Walked (aes l.fn.self) l.initial.counter l.counter l.start l.done l.initial.in_out l.in_out;
 }
 
 abbrev pub decreases-loop-done : goal.decreases-loop-done
