@@ -5,7 +5,7 @@ use aead_vectors::rfc_9001::{A_2_PACKET, Packet};
 use examples::first_initial::first_packet;
 use examples::initial_keys::client_initial_keys;
 use examples::quic_connection::{self, Connection, Level, one_rtt, update_keys};
-use key_derivation::Secret;
+use key_derivation::{DerivationError, Secret};
 use quic_packets::{Failures, FixedBit, PacketError, Receiver, Sender, Space, packet_at};
 use std::process::Abort;
 use std::test::Fail;
@@ -92,28 +92,65 @@ fn forged_first_packet(rt: HostRuntime) -> Result<(), Fail> {
 #[test]
 fn dropped(rt: HostRuntime) -> Result<(), Fail> {
     let mut connection = connection(1)?;
-    received(&rt, &mut connection, false, &[8; 8], Ok(false))?;
-    received(&rt, &mut connection, false, &ID, Ok(true))?;
-    received(&rt, &mut connection, false, &ID, Ok(false))?;
-    received(&rt, &mut connection, true, &ID, Err(0x0f))?;
+    for (is_forged, id, wanted) in [
+        (false, [8; 8], Ok(false)),
+        (false, ID, Ok(true)),
+        (false, ID, Ok(false)),
+        (true, ID, Err(0x0f)),
+    ] {
+        received(&rt, &mut connection, is_forged, &id, wanted)?;
+    }
     Ok(())
 }
 
 /// The connection ID of RFC 9001 appendix A.
 const CLIENT_ID: [u8; 8] = [0x83, 0x94, 0xc8, 0xf0, 0x3e, 0x51, 0x57, 0x08];
 
+/// Asserts that the client's keys are those of a row.
+fn has_keys(rt: &impl Abort, id: &[u8], row: &Packet) -> Result<(), DerivationError> {
+    let (key, iv, header_key) = client_initial_keys(id)?;
+    same(rt, key.as_slice(), &row.key, "key");
+    same(rt, &iv, &row.iv, "iv");
+    same(rt, header_key.as_slice(), &row.header_key, "hp");
+    Ok(())
+}
+
 // The keys of RFC 9001 appendix A.1, and the packet of A.2.
 #[test]
 fn first_initial(rt: HostRuntime) -> Result<(), Fail> {
     let row = Packet::parse(rt.alloc(), A_2_PACKET)?;
-    let (key, iv, header_key) = client_initial_keys(&CLIENT_ID)?;
-    same(&rt, key.as_slice(), &row.key, "key");
-    same(&rt, &iv, &row.iv, "iv");
-    same(&rt, header_key.as_slice(), &row.header_key, "hp");
+    has_keys(&rt, &CLIENT_ID, &row)?;
     assert!(rt; row.frames.len() <= 1162);
     let packet = first_packet(&CLIENT_ID, row.number, &row.frames)?;
     same(&rt, &packet, &row.protected, row.name);
     Ok(())
+}
+
+/// Returns a packet of 40 bytes of this sender.
+fn short_packet(sender: &mut Sender) -> Result<[u8; 40], PacketError> {
+    let mut packet = [4; 40];
+    packet[0] = 0x40;
+    quic_connection::send(sender, &mut packet)?;
+    Ok(packet)
+}
+
+/// Receives a packet under the next keys, and returns one that is sent after it.
+fn answer_to(rt: &impl Abort, packet: &mut [u8; 40]) -> Result<[u8; 40], PacketError> {
+    let mut connection = connection(1)?;
+    if let Some(level) = &mut connection.one_rtt {
+        level.receiver.set_next()?;
+    }
+    let found = quic_connection::receive(&mut connection, packet, 40, &ID);
+    equal(rt, &found, &Ok(true));
+    short_packet(&mut connection.sender)
+}
+
+/// Returns the number and the key phase of such a packet.
+fn number_and_phase(receiver: &mut Receiver, packet: &mut [u8; 40]) -> Result<(u64, bool), Fail> {
+    let mut space = Space::<2>::new();
+    let parts = packet_at(packet, 0, ID.len(), FixedBit::Required)?;
+    let received = receiver.receive(&mut space, &mut Failures::new(), packet, &parts)?;
+    Ok((received.number, received.phase))
 }
 
 // A key update of the peer is answered under the next keys.
@@ -122,26 +159,11 @@ fn key_update(rt: HostRuntime) -> Result<(), Fail> {
     let (mut peer, mut answers) = one_rtt(secret(), secret())?;
     peer.confirm_handshake();
     update_keys(&mut peer, &mut answers)?;
-    let mut connection = connection(1)?;
-    if let Some(level) = &mut connection.one_rtt {
-        level.receiver.set_next()?;
-    }
-    let mut datagram = [4; 40];
-    datagram[0] = 0x40;
-    quic_connection::send(&mut peer, &mut datagram)?;
-    let found = quic_connection::receive(&mut connection, &mut datagram, 40, &ID);
-    equal(&rt, &found, &Ok(true));
-    equal(&rt, &connection.sender.phase(), &true);
-    let mut answer = [4; 40];
-    answer[0] = 0x40;
-    quic_connection::send(&mut connection.sender, &mut answer)?;
-    let parts = packet_at(&answer, 0, ID.len(), FixedBit::Required)?;
-    let received = answers.receive(
-        &mut Space::<2>::new(),
-        &mut Failures::new(),
-        &mut answer,
-        &parts,
-    )?;
-    equal(&rt, &(received.number, received.phase), &(7, true));
+    let mut answer = answer_to(&rt, &mut short_packet(&mut peer)?)?;
+    equal(
+        &rt,
+        &number_and_phase(&mut answers, &mut answer)?,
+        &(7, true),
+    );
     Ok(())
 }

@@ -95,16 +95,15 @@ fn headers_without_a_number(rt: HostRuntime) {
 fn coalesced(rt: HostRuntime) -> Result<(), Fail> {
     let mut datagram = protected(rt.alloc(), A_3_PACKET)?;
     datagram.extend_from_slice(&A_5_PROTECTED)?;
-    let mut parts = Vec::new(rt.alloc());
-    for start in [0, 135] {
+    for (start, packet_type, number_at, end) in [
+        (0, PacketType::Initial, 18, 135),
+        (135, PacketType::OneRtt, 136, 156),
+    ] {
         let packet = packet_at(&datagram, start, 0, FixedBit::Required)?;
-        parts.push((packet.packet_type, packet.number_at, packet.end))?;
+        equal(&rt, &packet.packet_type, &packet_type);
+        equal(&rt, &packet.number_at, &Some(number_at));
+        equal(&rt, &packet.end, &end);
     }
-    let wanted = [
-        (PacketType::Initial, Some(18), 135),
-        (PacketType::OneRtt, Some(136), 156),
-    ];
-    equal(&rt, &parts.as_slice(), &wanted.as_slice());
     Ok(())
 }
 
@@ -121,34 +120,41 @@ fn refused(rt: &impl Abort, datagram: &[u8], id_len: usize, error: DatagramError
     holds(rt, found == Err(error), "the error");
 }
 
-// Truncated packets, connection IDs of 21 bytes in version 1, fixed bits of 0, and a packet followed by a truncated one.
-#[test]
-fn refusals(rt: HostRuntime) -> Result<(), Fail> {
-    let mut datagram = protected(rt.alloc(), A_3_PACKET)?;
-    cut_anywhere(&rt, &datagram);
-    refused(&rt, &A_5_PROTECTED, 21, DatagramError::Cut);
-    refused(&rt, &[0xc0, 0, 0, 0, 1, 21], 0, DatagramError::IdTooLong);
-    refused(
-        &rt,
-        &[0xc0, 0, 0, 0, 1, 1, 9, 21],
-        0,
-        DatagramError::IdTooLong,
-    );
-    for form in [0x3f, 0xbf] {
-        let mut greased = protected(rt.alloc(), A_3_PACKET)?;
-        if let Some(first) = greased.first_mut() {
-            *first &= form;
-        }
-        refused(&rt, &greased, 0, DatagramError::NoFixedBit);
-        assert!(rt; packet_at(&greased, 0, 0, FixedBit::Greased).is_ok());
-    }
+// A packet, and a truncated one after it.
+fn cut_second(rt: &impl Abort, mut datagram: Vec<u8>) -> Result<(), Fail> {
     datagram.push(0xc0)?;
     let end = packet_at(&datagram, 0, 0, FixedBit::Required)?.end;
-    equal(
-        &rt,
-        &packet_at(&datagram, end, 0, FixedBit::Required),
-        &Err(DatagramError::Cut),
-    );
+    let found = packet_at(&datagram, end, 0, FixedBit::Required);
+    holds(rt, found == Err(DatagramError::Cut), "the error");
+    Ok(())
+}
+
+// Truncated packets, and connection IDs of 21 bytes in version 1.
+#[test]
+fn refusals(rt: HostRuntime) -> Result<(), Fail> {
+    let datagram = protected(rt.alloc(), A_3_PACKET)?;
+    cut_anywhere(&rt, &datagram);
+    for (datagram, id_len, error) in [
+        (A_5_PROTECTED.as_slice(), 21, DatagramError::Cut),
+        (&[0xc0, 0, 0, 0, 1, 21], 0, DatagramError::IdTooLong),
+        (&[0xc0, 0, 0, 0, 1, 1, 9, 21], 0, DatagramError::IdTooLong),
+    ] {
+        refused(&rt, datagram, id_len, error);
+    }
+    cut_second(&rt, datagram)
+}
+
+// A fixed bit of 0, in a packet without a version and in one of version 1.
+#[test]
+fn greased(rt: HostRuntime) -> Result<(), Fail> {
+    for form in [0x3f, 0xbf] {
+        let mut datagram = protected(rt.alloc(), A_3_PACKET)?;
+        if let Some(first) = datagram.first_mut() {
+            *first &= form;
+        }
+        refused(&rt, &datagram, 0, DatagramError::NoFixedBit);
+        assert!(rt; packet_at(&datagram, 0, 0, FixedBit::Greased).is_ok());
+    }
     Ok(())
 }
 

@@ -89,18 +89,23 @@ fn to_another(
     Ok(())
 }
 
+/// Returns what comes after the header.
+fn payload<'a>(row: &Packet, packet: &'a [u8]) -> &'a [u8] {
+    &packet[row.header.len().min(packet.len())..]
+}
+
 #[test]
 fn packets(rt: HostRuntime) -> Result<(), Fail> {
     for line in PACKETS {
         let row = Packet::parse(rt.alloc(), line)?;
         let packet = unprotected(&row)?;
         in_one_slice(&rt, &row, &packet)?;
-        let sealed = &packet[row.header.len().min(packet.len())..];
+        let sealed = payload(&row, &packet);
         let whole = plain(&row)?;
-        let payload = &whole[row.header.len().min(whole.len())..];
-        apart(&rt, &row, payload, sealed)?;
-        tag_at_the_end(&rt, &row, payload, sealed)?;
-        to_another(&rt, rt.alloc(), &row, payload, sealed)?;
+        let plain = payload(&row, &whole);
+        apart(&rt, &row, plain, sealed)?;
+        tag_at_the_end(&rt, &row, plain, sealed)?;
+        to_another(&rt, rt.alloc(), &row, plain, sealed)?;
     }
     Ok(())
 }

@@ -62,25 +62,26 @@ fn packets_of_another_implementation(rt: HostRuntime) -> Result<(), Fail> {
     Ok(())
 }
 
+/// Asserts that `send` yields the packet of RFC 9001 appendix A.
+fn sends_vector(rt: &impl Abort, row: &Packet) -> Result<(), Fail> {
+    let keys = Keys {
+        key: &row.key,
+        iv: row.iv,
+        header_key: &row.header_key,
+    };
+    let mut packet = plain(row)?;
+    packet.extend_from_slice(&[0; 16])?;
+    let room = row.number_at..row.header.len();
+    Sender::new(Suite::Aes128Gcm, keys, row.number)?.send(&mut packet, room, FixedBit::Required)?;
+    same(rt, &packet, &row.protected, row.name);
+    Ok(())
+}
+
 // A.2 has its number 2 in four bytes, where one would do.
 #[test]
 fn appendix_a(rt: HostRuntime) -> Result<(), Fail> {
     for line in PACKETS {
-        let row = Packet::parse(rt.alloc(), line)?;
-        let keys = Keys {
-            key: &row.key,
-            iv: row.iv,
-            header_key: &row.header_key,
-        };
-        let mut sender = Sender::new(Suite::Aes128Gcm, keys, row.number)?;
-        let mut packet = plain(&row)?;
-        packet.extend_from_slice(&[0; 16])?;
-        sender.send(
-            &mut packet,
-            row.number_at..row.header.len(),
-            FixedBit::Required,
-        )?;
-        same(&rt, &packet, &row.protected, row.name);
+        sends_vector(&rt, &Packet::parse(rt.alloc(), line)?)?;
     }
     Ok(())
 }
