@@ -150,6 +150,21 @@ const UNWRITTEN: [(ContentType, u8, usize, u64, RecordError); 8] = [
     (Alert, 4, 0, 2, RecordError::AlertLength),
 ];
 
+/// Asserts that `seal_content` fails, and writes nothing.
+fn is_not_sealed(
+    rt: &impl Abort,
+    writer: &mut Writer,
+    content_type: ContentType,
+    content: &[u8],
+    padding: usize,
+    error: RecordError,
+) {
+    let mut sealed = [9; 256];
+    let refused = writer.seal_content(content_type, content, padding, &mut sealed);
+    holds(rt, refused == Err(error), "sealed");
+    same(rt, &sealed, &[9; 256], "nothing sealed");
+}
+
 #[test]
 fn refused_whole(rt: HostRuntime) -> Result<(), Fail> {
     for (content_type, len, padding, limit, error) in UNWRITTEN {
@@ -158,15 +173,9 @@ fn refused_whole(rt: HostRuntime) -> Result<(), Fail> {
         let mut out = Vec::new(rt.alloc());
         let refused = writer.write_content(content_type, &content, padding, &mut out);
         holds(&rt, refused == Err(error), "appended");
-        holds(
-            &rt,
-            out.is_empty() && writer.number() == 0,
-            "nothing written",
-        );
-        let mut sealed = [9; 256];
-        let refused = writer.seal_content(content_type, &content, padding, &mut sealed);
-        holds(&rt, refused == Err(error), "sealed");
-        same(&rt, &sealed, &[9; 256], "nothing sealed");
+        same(&rt, &out, &[], "nothing written");
+        is_not_sealed(&rt, &mut writer, content_type, &content, padding, error);
+        holds(&rt, writer.number() == 0, "no number");
     }
     Ok(())
 }
