@@ -82,10 +82,16 @@ fn opens(rt: &impl Abort, key: &LessSafeKey, case: &Case, in_out: &mut [u8]) -> 
 fn gcm_spec_cases_appended(rt: HostRuntime) -> Result<(), Fail> {
     for line in CASES {
         let case = Case::parse(rt.alloc(), line)?;
-        let sealed = sealed(rt.alloc(), &case, &[])?;
         let mut in_out = case.message.clone()?;
-        appends(&rt, &key(&case)?, &case, &mut in_out, &sealed)?;
-        opens(&rt, &key(&case)?, &case, &mut in_out)?;
+        let key = key(&case)?;
+        appends(
+            &rt,
+            &key,
+            &case,
+            &mut in_out,
+            &sealed(rt.alloc(), &case, &[])?,
+        )?;
+        opens(&rt, &key, &case, &mut in_out)?;
     }
     Ok(())
 }

@@ -4,6 +4,7 @@ use std::alloc::AllocError;
 use std::fmt::{Debug, Display};
 use std::process::Abort;
 use test_support::hex::Hex;
+use test_support::text::displayed;
 
 /// Asserts that two byte slices are equal. A failure prints both in hex.
 pub(crate) fn same(rt: &impl Abort, found: &[u8], wanted: &[u8], what: &str) {
@@ -35,7 +36,7 @@ pub(crate) fn displays(
     value: &impl Display,
     wanted: &str,
 ) -> Result<(), AllocError> {
-    let text = format!(in rt.alloc(); "{value}")?;
+    let text = displayed(rt.alloc(), value)?;
     assert_eq!(rt; text.as_str(), wanted);
     Ok(())
 }
