@@ -183,9 +183,6 @@ series-first_byte x =
     ∙ ap (λ f. add (coefficient (bits_high_first 8 x)) (shifts 8 f)) (zeros_series 15)
     ∙ ap (add (coefficient (bits_high_first 8 x))) (shifts-none 8) ∙ add_none (coefficient (bits_high_first 8 x))
 
-Sized-first_byte : (x : ℕ) → Sized (first_byte x)
-Sized-first_byte x = refl
-
 series-ladder : (n : ℕ) (xs : List ℕ) → length xs ≡ n → n ≤ 16 → series (ladder n (λ i. first_byte (slice_index xs i))) ≡ bytes_series xs
 unfolding ladder
 series-ladder zero [] e le = ap coefficient (block_bits-is zero_block) ∙ zeros_series 16
