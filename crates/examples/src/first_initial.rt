@@ -1,6 +1,6 @@
 //! A client's first packet, from a connection ID to the bytes of its datagram.
 
-ghost use Rattle.std.specs.Prelude.{◌≤◌, length};
+ghost use Rattle.std.specs.Prelude.{◌↔◌, ◌+◌, ◌^◌, ◌<◌, ◌≤◌, length, IsOk};
 
 use key_derivation::{DerivationError, Secret};
 use quic_packets::{FixedBit, HeaderError, LongHeader, LongType, PacketError, Sender};
@@ -28,12 +28,15 @@ pub enum FirstPacketError {
 
 /// Returns a datagram with a client's Initial packet. `id` is the destination connection ID that the client has chosen, and
 /// `frames` are the frames without padding.
+///
+/// Fails if four bytes cannot encode the number, since no number is acknowledged yet (RFC 9000 appendix A.2).
 pub fn first_packet(
     id: &[u8; 8],
     number: u64,
     frames: &[u8],
 ) -> Result<[u8; DATAGRAM_LEN], FirstPacketError>
     requires { length frames.now ≤ 1162 }
+    ensures accepted { IsOk result ↔ (number + 1 < 2 ^ 31) }
 {
     let mut sender = Sender::from_secret(Secret::client_initial(id)?, number)?;
     let header = LongHeader {

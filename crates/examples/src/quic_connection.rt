@@ -1,6 +1,6 @@
 //! One end of a QUIC connection. One call sends a packet, and one call receives the packets of a datagram.
 
-ghost use Rattle.std.specs.Prelude.{◌≡◌, ℕ, ◌+◌, ◌<◌, ◌≤◌, ◌↔◌, ◌⊎◌, length, slice_index, Some, IsOk, IfOk, IfSome, IsSome, OnOk, OnErr, IsErrOf};
+ghost use Rattle.std.specs.Prelude.{◌≡◌, ℕ, ◌+◌, ◌<◌, ◌≤◌, ◌↔◌, ◌⊎◌, length, slice_index, Some, IsOk, IfOk, IfSome, IsSome, OnOk, OnErr, IsErrOf, IsTrue};
 ghost use Rattle.quic_packets.specs.Datagram.{KeepsOutside};
 ghost use Rattle.quic_packets.specs.Keys.{secret_header_key, secret_key};
 ghost use Rattle.quic_packets.specs.Receiving.{new_receiver, with_next};
@@ -51,6 +51,8 @@ pub fn one_rtt(own: Secret, peer: Secret) -> Result<(Sender, Receiver), PacketEr
 
 /// Initiates a key update, and lets the receiver accept the peer's packets under its next keys (RFC 9001 section 6.1).
 pub fn update_keys(sender: &mut Sender, receiver: &mut Receiver) -> Result<(), PacketError>
+    ensures accepted { IsOk result ↔ (IsTrue sender.old.confirmed × IsTrue sender.old.acknowledged
+        × IsSome sender.old.secret × IsSome receiver.old.secret) }
     ensures sends { OnOk result (IfSome sender.old.secret (λ held. sender.new ≡ after_derived_update sender.old held)) }
     ensures receives { OnOk result (IfSome receiver.old.secret (λ held. receiver.new ≡ with_next receiver.old held)) }
 {
