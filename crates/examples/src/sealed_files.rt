@@ -1,8 +1,9 @@
 //! Sealed files in memory, and a part of one.
 
-ghost use Rattle.std.specs.Prelude.{[], ◌≡◌, length, IsOk, IfOk, OnErr};
-ghost use Rattle.sealed_file.specs.Format.{fresh_key, sealed_file, secret};
-ghost use Rattle.sealed_file.specs.Opening.{IsSealed, opened_file};
+ghost use Rattle.std.specs.Prelude.{◌≡◌, ◌<◌, ◌/◌, ◌%◌, ℕ, Bool, List, [], length, take, drop, IsOk, IfOk, OnErr};
+ghost use Rattle.sealed_file.specs.Format.{chunk_len, fresh_key, sealed_file, secret};
+ghost use Rattle.sealed_file.specs.Opening.{HasHeader, IsSealed, chunk_key, opened_file};
+ghost use Rattle.sealed_file.specs.Reader.{IsMessage};
 
 use sealed_file::{FileError, FileKey, FileRandom, SealedReader, open_bytes, seal_bytes};
 use std::alloc::Global;
@@ -42,6 +43,11 @@ pub fn read_part<R: Read + Seek + Drop>(
     at: u64,
     buf: &mut [u8],
 ) -> Result<usize, FileError>
+    ensures authentic { IfOk result (λ n. 0 < n
+        → (header : List ℕ) × (message : List ℕ) × (is_last : Bool) × HasHeader (secret key.now []) header
+        × IsMessage (chunk_key (secret key.now []) header) (at / chunk_len) is_last message
+        × (take n buf.new ≡ take n (drop (at % chunk_len) message))) }
+    ensures rest { IfOk result (λ n. drop n buf.new ≡ drop n buf.old) }
     ensures kept { OnErr result (buf.new ≡ buf.old) }
 {
     let mut reader = SealedReader::new(alloc, key, &[], input, start)?;
