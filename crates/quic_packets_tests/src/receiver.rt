@@ -2,9 +2,10 @@
 //! limits.
 
 use crate::checks::{equal, holds, same};
-use crate::rows::{IV as ROW_IV, ROWS, Row};
+use crate::keys::packets;
+use crate::rows::{IV as ROW_IV, Row, rows};
 use aead_ciphers::aead::{AES_128_GCM, quic};
-use aead_vectors::rfc_9001::{PACKETS, Packet};
+use aead_vectors::rfc_9001::Packet;
 use quic_packets::{
     Failures, FixedBit, HeaderKey, Keys, Packet as Parts, PacketError, PacketKey, PacketType,
     Received, Receiver, Space, Suite, packet_at,
@@ -160,7 +161,7 @@ fn receives(rt: &impl Abort, row: &Packet) -> Result<(), Fail> {
 
 #[test]
 fn appendix_a(rt: HostRuntime) -> Result<(), Fail> {
-    for line in PACKETS {
+    for line in packets() {
         receives(&rt, &Packet::parse(rt.alloc(), line)?)?;
     }
     Ok(())
@@ -211,7 +212,7 @@ fn refuses_flipped(rt: &impl Abort, alloc: Global, row: &Row) -> Result<(), Fail
 // Only the packets whose numbers are decoded correctly if no packet was received before.
 #[test]
 fn each_bit_flipped(rt: HostRuntime) -> Result<(), Fail> {
-    for row in ROWS {
+    for row in rows() {
         if row.number < 1 << 24 && row.name != "two bytes" {
             refuses_flipped(&rt, rt.alloc(), &row)?;
         }

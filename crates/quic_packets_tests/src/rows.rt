@@ -60,7 +60,12 @@ impl Row {
     }
 }
 
-pub(crate) const ROWS: [Row; 6] = [
+/// Returns the packets.
+pub(crate) fn rows() -> [Row; 6] {
+    ROWS
+}
+
+const ROWS: [Row; 6] = [
     Row {
         name: "initial",
         suite: Suite::Aes128Gcm,

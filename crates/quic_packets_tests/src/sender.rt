@@ -1,9 +1,9 @@
 //! Tests of `quic_packets::Sender`: packets of RFC 9001 appendix A and of another implementation, each error, skipped numbers, limits and key updates.
 
 use crate::checks::{equal, holds, same};
-use crate::keys::plain;
-use crate::rows::{HEADER_KEY, IV, KEY, ROWS, Row};
-use aead_vectors::rfc_9001::{PACKETS, Packet};
+use crate::keys::{packets, plain};
+use crate::rows::{HEADER_KEY, IV, Row, rows};
+use aead_vectors::rfc_9001::Packet;
 use quic_packets::{FixedBit, HeaderKey, Keys, PacketError, PacketKey, Sender, Suite};
 use std::alloc::Global;
 use std::ops::Range;
@@ -56,7 +56,7 @@ fn sends(rt: &impl Abort, alloc: Global, row: &Row) -> Result<(), Fail> {
 
 #[test]
 fn packets_of_another_implementation(rt: HostRuntime) -> Result<(), Fail> {
-    for row in ROWS {
+    for row in rows() {
         sends(&rt, rt.alloc(), &row)?;
     }
     Ok(())
@@ -80,7 +80,7 @@ fn sends_vector(rt: &impl Abort, row: &Packet) -> Result<(), Fail> {
 // A.2 has its number 2 in four bytes, where one would do.
 #[test]
 fn appendix_a(rt: HostRuntime) -> Result<(), Fail> {
-    for line in PACKETS {
+    for line in packets() {
         sends_vector(&rt, &Packet::parse(rt.alloc(), line)?)?;
     }
     Ok(())
