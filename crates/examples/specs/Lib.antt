@@ -1,2 +1,3 @@
 -- The definitions that the contracts use.
 pub mod Connection
+pub mod FirstInitial

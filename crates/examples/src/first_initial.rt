@@ -1,6 +1,8 @@
 //! A client's first packet, from a connection ID to the bytes of its datagram.
 
-ghost use Rattle.std.specs.Prelude.{◌↔◌, ◌+◌, ◌^◌, ◌<◌, ◌≤◌, length, IsOk};
+ghost use Rattle.std.specs.Prelude.{◌↔◌, ◌+◌, ◌^◌, ◌<◌, ◌≤◌, length, IsOk, IfOk};
+ghost use Rattle.examples.specs.FirstInitial.{initial_packet, initial_sender};
+ghost use Rattle.quic_packets.specs.Sending.{IsSent};
 
 use key_derivation::{DerivationError, Secret};
 use quic_packets::{FixedBit, HeaderError, LongHeader, LongType, PacketError, Sender};
@@ -37,6 +39,8 @@ pub fn first_packet(
 ) -> Result<[u8; DATAGRAM_LEN], FirstPacketError>
     requires { length frames.now ≤ 1162 }
     ensures accepted { IsOk result ↔ (number + 1 < 2 ^ 31) }
+    ensures sent { IfOk result (λ packet. IsSent (initial_sender id.now number) 18 22
+        (initial_packet id.now frames.now) packet) }
 {
     let mut sender = Sender::from_secret(Secret::client_initial(id)?, number)?;
     let header = LongHeader {
