@@ -134,9 +134,9 @@ fn main() {
     if ["OS", "POINTER_WIDTH", "ENDIAN"].map(target) != linux {
         fail("the library is built for Linux with addresses of 64 bits and little-endian numbers");
     }
-    // This package is crates/deerlapse/bindings/rust of the repository.
+    // This package is bindings/rust of the repository.
     let here = Path::new(env!("CARGO_MANIFEST_DIR"));
-    let top = here.ancestors().nth(4).unwrap_or(here);
+    let top = here.ancestors().nth(2).unwrap_or(here);
     let folder_of_env = env::var_os("DEERLAPSE_LIB_DIR").map(PathBuf::from);
     let named = folder_of_env.is_some();
     let elsewhere = folder_of_env.or_else(folder_of_pkg_config);
