@@ -1,0 +1,543 @@
+/* AES-GCM, the ChaCha20 stream and QUIC's header protection masks, for C and C++. deerlapse.h is C99. The library is
+ * libdeerlapse.a, and libdeerlapse.so is made of it.
+ *
+ * The following holds for every call:
+ *  - It returns true on success. It returns false on failure, and leaves every byte unchanged, except that
+ *    deerlapse_key_init then zeroes the key. A call that cannot fail returns nothing, or the number that it computes.
+ *  - A pointer with a length points to that many bytes, and may be null if the length is 0: the name in the call is that
+ *    of a wrapper, such as deerlapse_key_seal_nullable, at the end of deerlapse.h. No other pointer may be null. A
+ *    parameter such as nonce[12] points to as many bytes.
+ *  - The bytes that a call writes must not overlap any others that it is given. No call checks this. Bytes that it only
+ *    reads may overlap. A tag may come right after its message: `tag` is then `in_out + in_out_len`.
+ *  - It allocates no memory, has no state and starts no thread. Threads may make calls at the same time, as long as no
+ *    call writes bytes that another one is given.
+ *  - It uses at most DEERLAPSE_MAX_STACK bytes of stack, whatever the lengths.
+ *
+ * The library needs Linux, on ARM64 or on an x86-64 processor of the level DEERLAPSE_X86_64_LEVEL. No call checks the
+ * processor: deerlapse_cpu_supported does.
+ */
+#ifndef DEERLAPSE_H
+#define DEERLAPSE_H
+
+#include <stdbool.h>
+#include <stddef.h>
+#include <stdint.h>
+
+#if defined(__GNUC__)
+/* The compiler warns if a null pointer is passed. */
+#define DEERLAPSE_CALL __attribute__((nonnull))
+/* It also warns if the result is ignored. */
+#define DEERLAPSE_NODISCARD __attribute__((nonnull, warn_unused_result))
+/* The same, for a function of which only the parameters with these numbers must not be null. */
+#define DEERLAPSE_WRAPS(...) static inline __attribute__((nonnull(__VA_ARGS__), warn_unused_result))
+#else
+#define DEERLAPSE_CALL
+#define DEERLAPSE_NODISCARD
+#define DEERLAPSE_WRAPS(...) static inline
+#endif
+
+#define DEERLAPSE_VERSION_MAJOR 0
+#define DEERLAPSE_VERSION_MINOR 1
+#define DEERLAPSE_VERSION_PATCH 0
+
+/* The version in one number: 0x010203 for 1.2.3. */
+#define DEERLAPSE_VERSION (DEERLAPSE_VERSION_MAJOR << 16 | DEERLAPSE_VERSION_MINOR << 8 | DEERLAPSE_VERSION_PATCH)
+
+/* The level of x86-64 processors that the library was built for: 2 for x86-64-v2, 3 for x86-64-v3. The deerlapse.h that
+ * comes with a library has its level. A library for ARM64 needs no more than every such processor has. */
+#define DEERLAPSE_X86_64_LEVEL 2
+
+/* The most bytes of stack that a call uses, as measured by the repository's tools/stack. This includes the dynamic linker's,
+ * which may bind memcpy, memmove and memset in the first call. */
+#define DEERLAPSE_MAX_STACK 8192
+
+/* The lengths of arrays, in bytes. */
+#define DEERLAPSE_NONCE_LEN 12
+#define DEERLAPSE_TAG_LEN 16
+#define DEERLAPSE_SAMPLE_LEN 16
+#define DEERLAPSE_MASK_LEN 5
+
+#ifdef __cplusplus
+extern "C" {
+#endif
+
+/* Returns the version of the library that the program was linked with. DEERLAPSE_VERSION is the one of deerlapse.h. */
+uint32_t deerlapse_version(void);
+
+/* A key that is expanded once, for many messages and many threads. deerlapse_key_init initializes it. It is in the caller's
+ * memory: on the stack, in a struct or in a table. It contains no pointer, so a copy by `=` or memcpy is a key as well.
+ * Sealing and opening only read it, so threads may share it once they see it initialized.
+ *
+ * Every call under a key of zeros, such as `deerlapse_key key = {{0}}`, returns false. A key is also all zeros after
+ * deerlapse_key_init returned false and after it is wiped. Any other memory, such as an uninitialized variable, must only be
+ * passed to deerlapse_key_init and deerlapse_key_wipe. */
+typedef struct deerlapse_key {
+    uint64_t words[369]; /* private: neither read nor write them */
+} deerlapse_key;
+
+/* Expands a key. The previous bytes of `key` are not read.
+ *
+ *   bytes   len bytes: 16 for AES-128-GCM, 32 for AES-256-GCM
+ *
+ * Returns false if len is neither 16 nor 32. Every byte of `key` is then zero. */
+DEERLAPSE_NODISCARD
+bool deerlapse_key_init(deerlapse_key *key, const uint8_t *bytes, size_t len);
+
+/* Encrypts in place with AES-128-GCM or AES-256-GCM, and writes the tag (SP 800-38D algorithm 4).
+ *
+ *   key      initialized by deerlapse_key_init, or zeros
+ *   nonce    12 bytes, never used twice under one key: a counter is safe, and a sealer (below) keeps one. A nonce that is
+ *            used twice reveals the XOR of the two messages, and lets others forge tags under the key
+ *   aad      aad_len bytes, which are authenticated but not encrypted
+ *   in_out   in_out_len bytes: the message, which the ciphertext replaces
+ *   tag      16 bytes, which are written
+ *
+ * Returns false if the key is zeros, if in_out_len is above 2^36 - 32, or if aad_len is 2^61 or more. */
+DEERLAPSE_NODISCARD
+bool deerlapse_key_seal(const deerlapse_key *key, const uint8_t nonce[DEERLAPSE_NONCE_LEN], const uint8_t *aad,
+                        size_t aad_len, uint8_t *in_out, size_t in_out_len, uint8_t tag[DEERLAPSE_TAG_LEN]);
+
+/* Opens in place what deerlapse_key_seal sealed: the ciphertext from in_out + start on, and the tag, which is the last 16 of
+ * the in_out_len bytes (SP 800-38D algorithm 5). On success the plaintext is at in_out, and the bytes after it are unchanged.
+ *
+ *   key, nonce, aad   as for deerlapse_key_seal
+ *   in_out            in_out_len bytes: `start` bytes of anything, the ciphertext and the tag
+ *   plaintext_len     written on success: in_out_len - 16 - start
+ *
+ * Returns false if the tag is wrong, if there are fewer than 16 bytes from `start` on, if the key is zeros, or for lengths
+ * for which deerlapse_key_seal does. aad must not be in in_out, not even before `start`. For a header before its
+ * ciphertext, pass the pointer after the header, and 0 for `start`. */
+DEERLAPSE_NODISCARD
+bool deerlapse_key_open(const deerlapse_key *key, const uint8_t nonce[DEERLAPSE_NONCE_LEN], const uint8_t *aad,
+                        size_t aad_len, uint8_t *in_out, size_t in_out_len, size_t start, size_t *plaintext_len);
+
+/* The same for a ciphertext with a separate tag: the ciphertext from in_out + start on. On success the plaintext, of
+ * in_out_len - start bytes, is at in_out, and the bytes after it are unchanged.
+ *
+ *   tag   16 bytes, which are read
+ *
+ * Returns false if the tag is wrong, if `start` is above in_out_len, if the key is zeros, or for lengths for which
+ * deerlapse_key_seal does. */
+DEERLAPSE_NODISCARD
+bool deerlapse_key_open_separate_tag(const deerlapse_key *key, const uint8_t nonce[DEERLAPSE_NONCE_LEN],
+                                     const uint8_t *aad, size_t aad_len, uint8_t *in_out, size_t in_out_len,
+                                     size_t start, const uint8_t tag[DEERLAPSE_TAG_LEN]);
+
+/* Do the same as deerlapse_key_seal and deerlapse_key_open_separate_tag, but from one buffer to another. `in` is unchanged.
+ * No byte of `out` is written before the tag is verified.
+ *
+ *   in    in_len bytes: the message, or the ciphertext
+ *   out   in_len bytes: none of those of `in`, or the same pointer as `in`, for the call in place
+ *
+ * Return false if those calls do. */
+DEERLAPSE_WRAPS(1, 2, 8)
+bool deerlapse_key_seal_to(const deerlapse_key *key, const uint8_t nonce[DEERLAPSE_NONCE_LEN], const uint8_t *aad,
+                           size_t aad_len, const uint8_t *in, size_t in_len, uint8_t *out,
+                           uint8_t tag[DEERLAPSE_TAG_LEN]);
+DEERLAPSE_WRAPS(1, 2, 8)
+bool deerlapse_key_open_to(const deerlapse_key *key, const uint8_t nonce[DEERLAPSE_NONCE_LEN], const uint8_t *aad,
+                           size_t aad_len, const uint8_t *in, size_t in_len, uint8_t *out,
+                           const uint8_t tag[DEERLAPSE_TAG_LEN]);
+
+/* Do the same with the tag after the ciphertext: sealing writes both to `out`, and opening reads both from `in`.
+ *
+ *   in    in_len bytes: the message, or the ciphertext and its tag
+ *   out   in_len + 16 bytes for sealing, in_len - 16 bytes for opening: none of those of `in`, or the same pointer as `in`,
+ *         for the call in place
+ *
+ * Return false if those calls do. Opening also does if in_len is below 16. */
+DEERLAPSE_WRAPS(1, 2, 7)
+bool deerlapse_key_seal_append_tag(const deerlapse_key *key, const uint8_t nonce[DEERLAPSE_NONCE_LEN],
+                                   const uint8_t *aad, size_t aad_len, const uint8_t *in, size_t in_len,
+                                   uint8_t *out);
+DEERLAPSE_WRAPS(1, 2)
+bool deerlapse_key_open_appended_tag(const deerlapse_key *key, const uint8_t nonce[DEERLAPSE_NONCE_LEN],
+                                     const uint8_t *aad, size_t aad_len, const uint8_t *in, size_t in_len,
+                                     uint8_t *out);
+
+/* A message that is sealed in pieces of any lengths: deerlapse_key_begin begins it, deerlapse_key_update encrypts its pieces
+ * in order, and deerlapse_key_finish writes its tag. It is in the caller's memory, and contains no pointer. A message of
+ * zeros has not begun, and any other memory must only be passed to deerlapse_key_begin. Never copy it: pieces that follow the
+ * copy would be encrypted with the same keystream. Only one thread may use it at a time.
+ *
+ * It contains keystream, which is secret, until deerlapse_key_finish overwrites it with zeros. Finish a message that is given
+ * up as well, and discard its tag. No message is opened in pieces: its plaintext would be used before it is verified. */
+typedef struct deerlapse_message {
+    uint64_t words[22]; /* private: neither read nor write them */
+} deerlapse_message;
+
+/* Begins a message, of which no piece is sealed yet. The previous bytes of `message` are not read.
+ *
+ *   key, nonce, aad   as for deerlapse_key_seal
+ *
+ * Returns false if the key is zeros, or if aad_len is 2^61 or more. */
+DEERLAPSE_NODISCARD
+bool deerlapse_key_begin(const deerlapse_key *key, const uint8_t nonce[DEERLAPSE_NONCE_LEN], const uint8_t *aad,
+                         size_t aad_len, deerlapse_message *message);
+
+/* Encrypts the next piece in place. However a message is cut, its ciphertext is that of deerlapse_key_seal.
+ *
+ *   key      the key that the message began with, which no call checks
+ *   in_out   in_out_len bytes: the piece, which its ciphertext replaces
+ *
+ * Returns false if the message has not begun, if it would be longer than 2^36 - 32 bytes, or if the key is zeros. */
+DEERLAPSE_NODISCARD
+bool deerlapse_key_update(const deerlapse_key *key, deerlapse_message *message, uint8_t *in_out, size_t in_out_len);
+
+/* Writes the tag that deerlapse_key_seal writes for all pieces in a row, and overwrites `message` with zeros.
+ *
+ *   key   the key that the message began with, which no call checks
+ *   tag   16 bytes, which are written
+ *
+ * Returns false if the message has not begun, or if the key is zeros. */
+DEERLAPSE_NODISCARD
+bool deerlapse_key_finish(const deerlapse_key *key, deerlapse_message *message, uint8_t tag[DEERLAPSE_TAG_LEN]);
+
+/* Writes QUIC's header protection mask for a sample, with AES under an expanded key (RFC 9001 section 5.4.3).
+ *
+ *   key   initialized by deerlapse_key_init from a header protection key, under which nothing is sealed, or zeros
+ *
+ * Returns false if the key is zeros. */
+DEERLAPSE_NODISCARD
+bool deerlapse_key_mask(const deerlapse_key *key, const uint8_t sample[DEERLAPSE_SAMPLE_LEN],
+                        uint8_t mask[DEERLAPSE_MASK_LEN]);
+
+/* Overwrites a key with zeros. Every call under it then returns false. Nothing else has to be freed. This does not clear
+ * what earlier calls left on the stack. */
+DEERLAPSE_CALL
+void deerlapse_key_wipe(deerlapse_key *key);
+
+/* Do the same as deerlapse_key_seal and deerlapse_key_open under a key of key_len bytes, 16 or 32, which is expanded for
+ * this message only.
+ *
+ * Return false if key_len is neither 16 nor 32, or if those calls do. */
+DEERLAPSE_NODISCARD
+bool deerlapse_seal(const uint8_t *key, size_t key_len, const uint8_t nonce[DEERLAPSE_NONCE_LEN],
+                    const uint8_t *aad, size_t aad_len, uint8_t *in_out, size_t in_out_len,
+                    uint8_t tag[DEERLAPSE_TAG_LEN]);
+DEERLAPSE_NODISCARD
+bool deerlapse_open(const uint8_t *key, size_t key_len, const uint8_t nonce[DEERLAPSE_NONCE_LEN],
+                    const uint8_t *aad, size_t aad_len, uint8_t *in_out, size_t in_out_len, size_t start,
+                    size_t *plaintext_len);
+
+/* A key that seals each message under its own nonce: an IV XOR the message's number, in eight big-endian bytes after four
+ * zeros (RFC 8446 section 5.3, RFC 9001 section 5.3). It is in the caller's memory, and deerlapse_sealer_init initializes
+ * it. A sealer of zeros seals nothing, and any other memory must only be passed to deerlapse_sealer_init and
+ * deerlapse_sealer_wipe. Never copy it: the copy would use the same nonces again. Only one thread may use it at a time. It
+ * has room for the fields of a later version. Nothing has to be freed. */
+typedef struct deerlapse_sealer {
+    uint64_t words[400]; /* private: neither read nor write them */
+} deerlapse_sealer;
+
+/* Initializes a sealer. Its previous bytes are not read.
+ *
+ *   key            key_len bytes: 16 for AES-128-GCM, 32 for AES-256-GCM
+ *   iv             12 bytes, the same at both ends: from the key exchange, or any value if the key is new. Use one key for
+ *                  each direction, because the nonces of two IVs may coincide
+ *   first, limit   the numbers of the messages go from first up to limit, exclusive
+ *
+ * Under the same key, none of its nonces may be used by another sealer or a deerlapse_key_seal. The simplest way is a key
+ * for this sealer alone. The number of messages that a key may seal is chosen by the protocol (TLS 1.3: about 24 million of
+ * full length, RFC 8446 section 5.5).
+ *
+ * Returns false if key_len is neither 16 nor 32, or if first is above limit. The sealer is then unchanged. */
+DEERLAPSE_NODISCARD
+bool deerlapse_sealer_init(deerlapse_sealer *sealer, const uint8_t *key, size_t key_len,
+                           const uint8_t iv[DEERLAPSE_NONCE_LEN], uint64_t first, uint64_t limit);
+
+/* Returns the number of the next message, for example to send it along, or 0 for a sealer of zeros. */
+DEERLAPSE_NODISCARD
+uint64_t deerlapse_sealer_next(const deerlapse_sealer *sealer);
+
+/* Does the same as deerlapse_key_seal under the nonce of the next number, and then counts the number up by one.
+ *
+ * Returns false if the next number is not below limit, if the sealer is zeros, or for lengths for which deerlapse_key_seal
+ * does. The sealer is then unchanged. */
+DEERLAPSE_NODISCARD
+bool deerlapse_sealer_seal(deerlapse_sealer *sealer, const uint8_t *aad, size_t aad_len, uint8_t *in_out,
+                           size_t in_out_len, uint8_t tag[DEERLAPSE_TAG_LEN]);
+
+/* Overwrites a sealer with zeros. It then seals nothing. This does not clear what earlier calls left on the stack. */
+DEERLAPSE_CALL
+void deerlapse_sealer_wipe(deerlapse_sealer *sealer);
+
+/* A key that opens what a sealer with the same key and IV sealed, in order or by number. Zeros, other memory and the room
+ * for a later version are as for a sealer. A copy counts separately. Only one thread at a time may open in order.
+ * Any number of threads may open by number, as long as none initializes it or opens in order at the same time. */
+typedef struct deerlapse_opener {
+    uint64_t words[400]; /* private: neither read nor write them */
+} deerlapse_opener;
+
+/* Initializes an opener, as deerlapse_sealer_init does a sealer. */
+DEERLAPSE_NODISCARD
+bool deerlapse_opener_init(deerlapse_opener *opener, const uint8_t *key, size_t key_len,
+                           const uint8_t iv[DEERLAPSE_NONCE_LEN], uint64_t first, uint64_t limit);
+
+/* Returns the number of the message that is opened next in order. */
+DEERLAPSE_NODISCARD
+uint64_t deerlapse_opener_next(const deerlapse_opener *opener);
+
+/* Does the same as deerlapse_key_open under the nonce of the next number, and then counts the number up by one.
+ *
+ * Returns false if the next number is not below limit, if the opener is zeros, or if deerlapse_key_open does. The opener is
+ * then unchanged, so the message with that number can still be opened. */
+DEERLAPSE_NODISCARD
+bool deerlapse_opener_open(deerlapse_opener *opener, const uint8_t *aad, size_t aad_len, uint8_t *in_out,
+                           size_t in_out_len, size_t start, size_t *plaintext_len);
+
+/* The same under the nonce of a number that the caller knows, for example from a packet. It counts nothing, has no limit,
+ * and only reads the opener. It opens a message any number of times: whether the number was opened before is the caller's
+ * responsibility.
+ *
+ * Returns false if the opener is zeros, or if deerlapse_key_open does. */
+DEERLAPSE_NODISCARD
+bool deerlapse_opener_open_number(const deerlapse_opener *opener, uint64_t number, const uint8_t *aad, size_t aad_len,
+                                  uint8_t *in_out, size_t in_out_len, size_t start, size_t *plaintext_len);
+
+/* Overwrites an opener with zeros. It then opens nothing. */
+DEERLAPSE_CALL
+void deerlapse_opener_wipe(deerlapse_opener *opener);
+
+/* Writes the nonce of a number under an IV, for opening with deerlapse_key_open what a sealer sealed. */
+DEERLAPSE_CALL
+void deerlapse_nonce(const uint8_t iv[DEERLAPSE_NONCE_LEN], uint64_t number, uint8_t nonce[DEERLAPSE_NONCE_LEN]);
+
+/* Does the same as deerlapse_key_mask under a key that is expanded for this sample only.
+ *
+ *   key   key_len bytes: 16 for AES-128, 32 for AES-256
+ *
+ * Returns false if key_len is neither 16 nor 32. */
+DEERLAPSE_NODISCARD
+bool deerlapse_mask_aes(const uint8_t *key, size_t key_len, const uint8_t sample[DEERLAPSE_SAMPLE_LEN],
+                        uint8_t mask[DEERLAPSE_MASK_LEN]);
+
+/* The same with ChaCha20 (RFC 9001 section 5.4.4), which has no key to expand. */
+DEERLAPSE_CALL
+void deerlapse_mask_chacha20(const uint8_t key[32], const uint8_t sample[DEERLAPSE_SAMPLE_LEN],
+                             uint8_t mask[DEERLAPSE_MASK_LEN]);
+
+/* XORs in_out with the ChaCha20 stream from block `counter` on, which both encrypts and decrypts (RFC 8439 section 2.4). It
+ * computes no tag: a changed ciphertext decrypts to a changed plaintext.
+ *
+ *   in_out   in_out_len bytes
+ *
+ * Returns false if the stream would go past the last block, whose counter is 2^32 - 1. */
+DEERLAPSE_NODISCARD
+bool deerlapse_chacha20(const uint8_t key[32], const uint8_t nonce[DEERLAPSE_NONCE_LEN], uint32_t counter,
+                        uint8_t *in_out, size_t in_out_len);
+
+/* Returns whether this processor has the instructions of the archive. Where it returns false, a call of the library may end
+ * the program with SIGILL. Where the compiler doesn't define __GNUC__, it returns true on every processor. */
+static inline bool deerlapse_cpu_supported(void) {
+#if defined(__GNUC__) && defined(__x86_64__) && DEERLAPSE_X86_64_LEVEL >= 3
+    return __builtin_cpu_supports("avx2") && __builtin_cpu_supports("bmi2") && __builtin_cpu_supports("fma");
+#elif defined(__GNUC__) && defined(__x86_64__)
+    return __builtin_cpu_supports("ssse3") && __builtin_cpu_supports("sse4.2") && __builtin_cpu_supports("popcnt");
+#else
+    return true;
+#endif
+}
+
+/* The functions of the library take no null pointer. So from here on, the name of every function that has a pointer with a
+ * length is that of a wrapper, which passes another address if the length is 0. Those from one buffer to another, such as
+ * deerlapse_key_seal_to, are wrappers from the start. */
+
+static inline const uint8_t *deerlapse_to_read(const uint8_t *bytes, size_t len) {
+    static const uint8_t none = 0;
+    return len == 0 ? &none : bytes;
+}
+
+static inline uint8_t *deerlapse_to_write(uint8_t *bytes, size_t len) {
+    static uint8_t none = 0;
+    return len == 0 ? &none : bytes;
+}
+
+DEERLAPSE_WRAPS(1)
+bool deerlapse_key_init_nullable(deerlapse_key *key, const uint8_t *bytes, size_t len) {
+    return deerlapse_key_init(key, deerlapse_to_read(bytes, len), len);
+}
+#define deerlapse_key_init deerlapse_key_init_nullable
+
+DEERLAPSE_WRAPS(1, 2, 7)
+bool deerlapse_key_seal_nullable(const deerlapse_key *key, const uint8_t nonce[DEERLAPSE_NONCE_LEN],
+                                 const uint8_t *aad, size_t aad_len, uint8_t *in_out, size_t in_out_len,
+                                 uint8_t tag[DEERLAPSE_TAG_LEN]) {
+    return deerlapse_key_seal(key, nonce, deerlapse_to_read(aad, aad_len), aad_len,
+                              deerlapse_to_write(in_out, in_out_len), in_out_len, tag);
+}
+#define deerlapse_key_seal deerlapse_key_seal_nullable
+
+DEERLAPSE_WRAPS(1, 2, 8)
+bool deerlapse_key_open_nullable(const deerlapse_key *key, const uint8_t nonce[DEERLAPSE_NONCE_LEN],
+                                 const uint8_t *aad, size_t aad_len, uint8_t *in_out, size_t in_out_len,
+                                 size_t start, size_t *plaintext_len) {
+    return deerlapse_key_open(key, nonce, deerlapse_to_read(aad, aad_len), aad_len,
+                              deerlapse_to_write(in_out, in_out_len), in_out_len, start, plaintext_len);
+}
+#define deerlapse_key_open deerlapse_key_open_nullable
+
+DEERLAPSE_WRAPS(1, 2, 8)
+bool deerlapse_key_open_separate_tag_nullable(const deerlapse_key *key, const uint8_t nonce[DEERLAPSE_NONCE_LEN],
+                                              const uint8_t *aad, size_t aad_len, uint8_t *in_out,
+                                              size_t in_out_len, size_t start,
+                                              const uint8_t tag[DEERLAPSE_TAG_LEN]) {
+    return deerlapse_key_open_separate_tag(key, nonce, deerlapse_to_read(aad, aad_len), aad_len,
+                                           deerlapse_to_write(in_out, in_out_len), in_out_len, start, tag);
+}
+#define deerlapse_key_open_separate_tag deerlapse_key_open_separate_tag_nullable
+
+DEERLAPSE_WRAPS(1, 2, 5)
+bool deerlapse_key_begin_nullable(const deerlapse_key *key, const uint8_t nonce[DEERLAPSE_NONCE_LEN],
+                                  const uint8_t *aad, size_t aad_len, deerlapse_message *message) {
+    return deerlapse_key_begin(key, nonce, deerlapse_to_read(aad, aad_len), aad_len, message);
+}
+#define deerlapse_key_begin deerlapse_key_begin_nullable
+
+DEERLAPSE_WRAPS(1, 2)
+bool deerlapse_key_update_nullable(const deerlapse_key *key, deerlapse_message *message, uint8_t *in_out,
+                                   size_t in_out_len) {
+    return deerlapse_key_update(key, message, deerlapse_to_write(in_out, in_out_len), in_out_len);
+}
+#define deerlapse_key_update deerlapse_key_update_nullable
+
+/* The functions of the library from one buffer to another. They take the length of `out`, and return false if it is another
+ * than the one above; they do not take the same buffer as `in` and `out`. The wrappers then make the call in place. */
+
+DEERLAPSE_NODISCARD
+bool deerlapse_key_seal_to_sized(const deerlapse_key *key, const uint8_t nonce[DEERLAPSE_NONCE_LEN],
+                                 const uint8_t *aad, size_t aad_len, const uint8_t *in, size_t in_len, uint8_t *out,
+                                 size_t out_len, uint8_t tag[DEERLAPSE_TAG_LEN]);
+DEERLAPSE_NODISCARD
+bool deerlapse_key_open_to_sized(const deerlapse_key *key, const uint8_t nonce[DEERLAPSE_NONCE_LEN],
+                                 const uint8_t *aad, size_t aad_len, const uint8_t *in, size_t in_len, uint8_t *out,
+                                 size_t out_len, const uint8_t tag[DEERLAPSE_TAG_LEN]);
+DEERLAPSE_NODISCARD
+bool deerlapse_key_seal_append_tag_sized(const deerlapse_key *key, const uint8_t nonce[DEERLAPSE_NONCE_LEN],
+                                         const uint8_t *aad, size_t aad_len, const uint8_t *in, size_t in_len,
+                                         uint8_t *out, size_t out_len);
+DEERLAPSE_NODISCARD
+bool deerlapse_key_open_appended_tag_sized(const deerlapse_key *key, const uint8_t nonce[DEERLAPSE_NONCE_LEN],
+                                           const uint8_t *aad, size_t aad_len, const uint8_t *in, size_t in_len,
+                                           uint8_t *out, size_t out_len);
+
+DEERLAPSE_WRAPS(1, 2, 8)
+bool deerlapse_key_seal_to(const deerlapse_key *key, const uint8_t nonce[DEERLAPSE_NONCE_LEN], const uint8_t *aad,
+                           size_t aad_len, const uint8_t *in, size_t in_len, uint8_t *out,
+                           uint8_t tag[DEERLAPSE_TAG_LEN]) {
+    if (in == out) return deerlapse_key_seal(key, nonce, aad, aad_len, out, in_len, tag);
+    return deerlapse_key_seal_to_sized(key, nonce, deerlapse_to_read(aad, aad_len), aad_len,
+                                       deerlapse_to_read(in, in_len), in_len, deerlapse_to_write(out, in_len), in_len,
+                                       tag);
+}
+
+DEERLAPSE_WRAPS(1, 2, 8)
+bool deerlapse_key_open_to(const deerlapse_key *key, const uint8_t nonce[DEERLAPSE_NONCE_LEN], const uint8_t *aad,
+                           size_t aad_len, const uint8_t *in, size_t in_len, uint8_t *out,
+                           const uint8_t tag[DEERLAPSE_TAG_LEN]) {
+    if (in == out) return deerlapse_key_open_separate_tag(key, nonce, aad, aad_len, out, in_len, 0, tag);
+    return deerlapse_key_open_to_sized(key, nonce, deerlapse_to_read(aad, aad_len), aad_len,
+                                       deerlapse_to_read(in, in_len), in_len, deerlapse_to_write(out, in_len), in_len,
+                                       tag);
+}
+
+DEERLAPSE_WRAPS(1, 2, 7)
+bool deerlapse_key_seal_append_tag(const deerlapse_key *key, const uint8_t nonce[DEERLAPSE_NONCE_LEN],
+                                   const uint8_t *aad, size_t aad_len, const uint8_t *in, size_t in_len,
+                                   uint8_t *out) {
+    if (in == out) return deerlapse_key_seal(key, nonce, aad, aad_len, out, in_len, out + in_len);
+    return deerlapse_key_seal_append_tag_sized(key, nonce, deerlapse_to_read(aad, aad_len), aad_len,
+                                               deerlapse_to_read(in, in_len), in_len, out,
+                                               in_len + DEERLAPSE_TAG_LEN);
+}
+
+DEERLAPSE_WRAPS(1, 2)
+bool deerlapse_key_open_appended_tag(const deerlapse_key *key, const uint8_t nonce[DEERLAPSE_NONCE_LEN],
+                                     const uint8_t *aad, size_t aad_len, const uint8_t *in, size_t in_len,
+                                     uint8_t *out) {
+    size_t out_len = in_len - DEERLAPSE_TAG_LEN;
+    if (in_len < DEERLAPSE_TAG_LEN) return false;
+    if (in == out) return deerlapse_key_open(key, nonce, aad, aad_len, out, in_len, 0, &out_len);
+    return deerlapse_key_open_appended_tag_sized(key, nonce, deerlapse_to_read(aad, aad_len), aad_len, in, in_len,
+                                                 deerlapse_to_write(out, out_len), out_len);
+}
+
+DEERLAPSE_WRAPS(3, 8)
+bool deerlapse_seal_nullable(const uint8_t *key, size_t key_len, const uint8_t nonce[DEERLAPSE_NONCE_LEN],
+                             const uint8_t *aad, size_t aad_len, uint8_t *in_out, size_t in_out_len,
+                             uint8_t tag[DEERLAPSE_TAG_LEN]) {
+    return deerlapse_seal(deerlapse_to_read(key, key_len), key_len, nonce, deerlapse_to_read(aad, aad_len), aad_len,
+                          deerlapse_to_write(in_out, in_out_len), in_out_len, tag);
+}
+#define deerlapse_seal deerlapse_seal_nullable
+
+DEERLAPSE_WRAPS(3, 9)
+bool deerlapse_open_nullable(const uint8_t *key, size_t key_len, const uint8_t nonce[DEERLAPSE_NONCE_LEN],
+                             const uint8_t *aad, size_t aad_len, uint8_t *in_out, size_t in_out_len, size_t start,
+                             size_t *plaintext_len) {
+    return deerlapse_open(deerlapse_to_read(key, key_len), key_len, nonce, deerlapse_to_read(aad, aad_len), aad_len,
+                          deerlapse_to_write(in_out, in_out_len), in_out_len, start, plaintext_len);
+}
+#define deerlapse_open deerlapse_open_nullable
+
+DEERLAPSE_WRAPS(1, 4)
+bool deerlapse_sealer_init_nullable(deerlapse_sealer *sealer, const uint8_t *key, size_t key_len,
+                                    const uint8_t iv[DEERLAPSE_NONCE_LEN], uint64_t first, uint64_t limit) {
+    return deerlapse_sealer_init(sealer, deerlapse_to_read(key, key_len), key_len, iv, first, limit);
+}
+#define deerlapse_sealer_init deerlapse_sealer_init_nullable
+
+DEERLAPSE_WRAPS(1, 6)
+bool deerlapse_sealer_seal_nullable(deerlapse_sealer *sealer, const uint8_t *aad, size_t aad_len, uint8_t *in_out,
+                                    size_t in_out_len, uint8_t tag[DEERLAPSE_TAG_LEN]) {
+    return deerlapse_sealer_seal(sealer, deerlapse_to_read(aad, aad_len), aad_len,
+                                 deerlapse_to_write(in_out, in_out_len), in_out_len, tag);
+}
+#define deerlapse_sealer_seal deerlapse_sealer_seal_nullable
+
+DEERLAPSE_WRAPS(1, 4)
+bool deerlapse_opener_init_nullable(deerlapse_opener *opener, const uint8_t *key, size_t key_len,
+                                    const uint8_t iv[DEERLAPSE_NONCE_LEN], uint64_t first, uint64_t limit) {
+    return deerlapse_opener_init(opener, deerlapse_to_read(key, key_len), key_len, iv, first, limit);
+}
+#define deerlapse_opener_init deerlapse_opener_init_nullable
+
+DEERLAPSE_WRAPS(1, 7)
+bool deerlapse_opener_open_nullable(deerlapse_opener *opener, const uint8_t *aad, size_t aad_len, uint8_t *in_out,
+                                    size_t in_out_len, size_t start, size_t *plaintext_len) {
+    return deerlapse_opener_open(opener, deerlapse_to_read(aad, aad_len), aad_len,
+                                 deerlapse_to_write(in_out, in_out_len), in_out_len, start, plaintext_len);
+}
+#define deerlapse_opener_open deerlapse_opener_open_nullable
+
+DEERLAPSE_WRAPS(1, 8)
+bool deerlapse_opener_open_number_nullable(const deerlapse_opener *opener, uint64_t number, const uint8_t *aad,
+                                           size_t aad_len, uint8_t *in_out, size_t in_out_len, size_t start,
+                                           size_t *plaintext_len) {
+    return deerlapse_opener_open_number(opener, number, deerlapse_to_read(aad, aad_len), aad_len,
+                                        deerlapse_to_write(in_out, in_out_len), in_out_len, start, plaintext_len);
+}
+#define deerlapse_opener_open_number deerlapse_opener_open_number_nullable
+
+DEERLAPSE_WRAPS(3, 4)
+bool deerlapse_mask_aes_nullable(const uint8_t *key, size_t key_len, const uint8_t sample[DEERLAPSE_SAMPLE_LEN],
+                                 uint8_t mask[DEERLAPSE_MASK_LEN]) {
+    return deerlapse_mask_aes(deerlapse_to_read(key, key_len), key_len, sample, mask);
+}
+#define deerlapse_mask_aes deerlapse_mask_aes_nullable
+
+DEERLAPSE_WRAPS(1, 2)
+bool deerlapse_chacha20_nullable(const uint8_t key[32], const uint8_t nonce[DEERLAPSE_NONCE_LEN], uint32_t counter,
+                                 uint8_t *in_out, size_t in_out_len) {
+    return deerlapse_chacha20(key, nonce, counter, deerlapse_to_write(in_out, in_out_len), in_out_len);
+}
+#define deerlapse_chacha20 deerlapse_chacha20_nullable
+
+#ifdef __cplusplus
+}
+#endif
+
+#undef DEERLAPSE_CALL
+#undef DEERLAPSE_NODISCARD
+#undef DEERLAPSE_WRAPS
+
+#endif
