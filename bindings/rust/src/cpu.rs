@@ -1,12 +1,20 @@
-//! The instructions that the library was built for.
+//! What the library needs of the processor, and what the package needs of an installed library.
 
 #[cfg(target_arch = "x86_64")]
 use core::arch::{asm, x86_64};
 #[cfg(target_arch = "x86_64")]
 use core::sync::atomic::{AtomicU8, Ordering};
 
-/// Returns whether this processor has the instructions that the library was built for. On x86-64 they are those of
-/// level x86-64-v2, or v3 if the header beside the library says so; on ARM64 every processor has them.
+/// Whether the program is compiled for processors of level x86-64-v3, as far as the library uses it.
+#[cfg(target_arch = "x86_64")]
+const V3: bool = cfg!(all(
+    target_feature = "avx2",
+    target_feature = "bmi2",
+    target_feature = "fma"
+));
+
+/// Returns whether this processor has the instructions that the library uses. On x86-64 they are those of level
+/// x86-64-v2, and of v3 if the program is compiled for AVX2, BMI2 and FMA; on ARM64 every processor has them.
 ///
 /// The other functions and methods panic if it returns false, before they call the library.
 ///
@@ -29,18 +37,35 @@ pub fn cpu_supported() -> bool {
     }
 }
 
-/// Returns true, since every processor of this architecture has the instructions that the library was built for.
+/// Returns true, since every processor of this architecture has the instructions that the library uses.
 #[cfg(not(target_arch = "x86_64"))]
 pub fn cpu_supported() -> bool {
     true
 }
 
-/// Panics if the processor lacks instructions, for which the system would end the program.
+/// Panics if the processor lacks instructions, for which the system would end the program, or if an installed library has
+/// another version, whose keys may be longer.
 pub(crate) fn require() {
     assert!(
         cpu_supported(),
-        "this processor lacks instructions that the library was built for"
+        "this processor lacks instructions that the library `deerlapse` uses: on x86-64 it needs level x86-64-v2, or v3 if \
+         the program is compiled for that"
     );
+    #[cfg(feature = "system")]
+    assert!(
+        is_this_version(),
+        "the installed libdeerlapse isn't of the version of the package `deerlapse`, which is {}",
+        env!("CARGO_PKG_VERSION")
+    );
+}
+
+/// Whether the first two numbers of the installed library's version are those of the package's.
+#[cfg(feature = "system")]
+fn is_this_version() -> bool {
+    // SAFETY: it has no parameter.
+    let version = unsafe { crate::ffi::version() };
+    env!("CARGO_PKG_VERSION_MAJOR").parse() == Ok(version >> 16)
+        && env!("CARGO_PKG_VERSION_MINOR").parse() == Ok(version >> 8 & 0xff)
 }
 
 /// Whether the processor and the system have what is asked of them by the header's `deerlapse_cpu_supported`.
@@ -57,7 +82,7 @@ fn has_instructions() -> bool {
     let has = |found: u32, wanted: u32| found & wanted == wanted;
     // SAFETY: every x86-64 processor has CPUID.
     let (leaves, basic) = unsafe { (x86_64::__cpuid(0).eax, x86_64::__cpuid(1).ecx) };
-    if env!("DEERLAPSE_X86_64_LEVEL") != "3" {
+    if !V3 {
         return has(basic, SSSE3 | SSE4_2 | POPCNT);
     }
     leaves >= 7

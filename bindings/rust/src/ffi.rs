@@ -1,5 +1,6 @@
-//! The calls of `include/deerlapse.h`. `tools/package` of the repository uses a C compiler to compare these
-//! declarations with that header, and relies on their layout: a struct `Sealer` for `deerlapse_sealer`.
+//! The calls of `deerlapse.h`. `tools/package` of the repository uses a C compiler to compare these declarations with that
+//! header, and relies on their layout: a struct `Sealer` for `deerlapse_sealer`, a function `sealer_next` for
+//! `deerlapse_sealer_next`.
 
 /// `deerlapse_key`.
 #[repr(C)]
@@ -26,12 +27,31 @@ pub(crate) struct Opener {
     pub(crate) words: [u64; 400],
 }
 
-extern "C" {
-    pub(crate) fn deerlapse_version() -> u32;
+/// Declares functions of the library. In this package's assembly their names have its version, so that two versions in one
+/// program, or a package beside an installed library, are two sets of functions.
+macro_rules! functions {
+    ($(fn $name:ident $parameters:tt $(-> $result:ty)?;)*) => {
+        #[cfg_attr(feature = "system", link(name = "deerlapse"))]
+        extern "C" {$(
+            #[cfg_attr(feature = "system", link_name = concat!("deerlapse_", stringify!($name)))]
+            #[cfg_attr(not(feature = "system"), link_name = concat!(
+                "deerlapse_",
+                env!("CARGO_PKG_VERSION_MAJOR"), "_",
+                env!("CARGO_PKG_VERSION_MINOR"), "_",
+                env!("CARGO_PKG_VERSION_PATCH"), "_",
+                stringify!($name)
+            ))]
+            pub(crate) fn $name $parameters $(-> $result)?;
+        )*}
+    };
+}
 
-    pub(crate) fn deerlapse_key_init(key: &mut Key, bytes: *const u8, len: usize) -> bool;
+functions! {
+    fn version() -> u32;
 
-    pub(crate) fn deerlapse_key_seal(
+    fn key_init(key: &mut Key, bytes: *const u8, len: usize) -> bool;
+
+    fn key_seal(
         key: &Key,
         nonce: &[u8; 12],
         aad: *const u8,
@@ -41,7 +61,7 @@ extern "C" {
         tag: &mut [u8; 16],
     ) -> bool;
 
-    pub(crate) fn deerlapse_key_open(
+    fn key_open(
         key: &Key,
         nonce: &[u8; 12],
         aad: *const u8,
@@ -52,7 +72,7 @@ extern "C" {
         plaintext_len: &mut usize,
     ) -> bool;
 
-    pub(crate) fn deerlapse_key_open_separate_tag(
+    fn key_open_separate_tag(
         key: &Key,
         nonce: &[u8; 12],
         aad: *const u8,
@@ -63,7 +83,7 @@ extern "C" {
         tag: &[u8; 16],
     ) -> bool;
 
-    pub(crate) fn deerlapse_key_seal_to_sized(
+    fn key_seal_to_sized(
         key: &Key,
         nonce: &[u8; 12],
         aad: *const u8,
@@ -75,7 +95,7 @@ extern "C" {
         tag: &mut [u8; 16],
     ) -> bool;
 
-    pub(crate) fn deerlapse_key_open_to_sized(
+    fn key_open_to_sized(
         key: &Key,
         nonce: &[u8; 12],
         aad: *const u8,
@@ -87,7 +107,7 @@ extern "C" {
         tag: &[u8; 16],
     ) -> bool;
 
-    pub(crate) fn deerlapse_key_seal_append_tag_sized(
+    fn key_seal_append_tag_sized(
         key: &Key,
         nonce: &[u8; 12],
         aad: *const u8,
@@ -98,7 +118,7 @@ extern "C" {
         out_len: usize,
     ) -> bool;
 
-    pub(crate) fn deerlapse_key_open_appended_tag_sized(
+    fn key_open_appended_tag_sized(
         key: &Key,
         nonce: &[u8; 12],
         aad: *const u8,
@@ -109,7 +129,7 @@ extern "C" {
         out_len: usize,
     ) -> bool;
 
-    pub(crate) fn deerlapse_key_begin(
+    fn key_begin(
         key: &Key,
         nonce: &[u8; 12],
         aad: *const u8,
@@ -117,24 +137,24 @@ extern "C" {
         message: &mut Message,
     ) -> bool;
 
-    pub(crate) fn deerlapse_key_update(
+    fn key_update(
         key: &Key,
         message: &mut Message,
         in_out: *mut u8,
         in_out_len: usize,
     ) -> bool;
 
-    pub(crate) fn deerlapse_key_finish(
+    fn key_finish(
         key: &Key,
         message: &mut Message,
         tag: &mut [u8; 16],
     ) -> bool;
 
-    pub(crate) fn deerlapse_key_mask(key: &Key, sample: &[u8; 16], mask: &mut [u8; 5]) -> bool;
+    fn key_mask(key: &Key, sample: &[u8; 16], mask: &mut [u8; 5]) -> bool;
 
-    pub(crate) fn deerlapse_key_wipe(key: &mut Key);
+    fn key_wipe(key: &mut Key);
 
-    pub(crate) fn deerlapse_sealer_init(
+    fn sealer_init(
         sealer: &mut Sealer,
         key: *const u8,
         key_len: usize,
@@ -143,9 +163,9 @@ extern "C" {
         limit: u64,
     ) -> bool;
 
-    pub(crate) fn deerlapse_sealer_next(sealer: &Sealer) -> u64;
+    fn sealer_next(sealer: &Sealer) -> u64;
 
-    pub(crate) fn deerlapse_sealer_seal(
+    fn sealer_seal(
         sealer: &mut Sealer,
         aad: *const u8,
         aad_len: usize,
@@ -154,9 +174,9 @@ extern "C" {
         tag: &mut [u8; 16],
     ) -> bool;
 
-    pub(crate) fn deerlapse_sealer_wipe(sealer: &mut Sealer);
+    fn sealer_wipe(sealer: &mut Sealer);
 
-    pub(crate) fn deerlapse_opener_init(
+    fn opener_init(
         opener: &mut Opener,
         key: *const u8,
         key_len: usize,
@@ -165,9 +185,9 @@ extern "C" {
         limit: u64,
     ) -> bool;
 
-    pub(crate) fn deerlapse_opener_next(opener: &Opener) -> u64;
+    fn opener_next(opener: &Opener) -> u64;
 
-    pub(crate) fn deerlapse_opener_open(
+    fn opener_open(
         opener: &mut Opener,
         aad: *const u8,
         aad_len: usize,
@@ -177,7 +197,7 @@ extern "C" {
         plaintext_len: &mut usize,
     ) -> bool;
 
-    pub(crate) fn deerlapse_opener_open_number(
+    fn opener_open_number(
         opener: &Opener,
         number: u64,
         aad: *const u8,
@@ -188,20 +208,20 @@ extern "C" {
         plaintext_len: &mut usize,
     ) -> bool;
 
-    pub(crate) fn deerlapse_opener_wipe(opener: &mut Opener);
+    fn opener_wipe(opener: &mut Opener);
 
-    pub(crate) fn deerlapse_nonce(iv: &[u8; 12], number: u64, nonce: &mut [u8; 12]);
+    fn nonce(iv: &[u8; 12], number: u64, nonce: &mut [u8; 12]);
 
-    pub(crate) fn deerlapse_mask_aes(
+    fn mask_aes(
         key: *const u8,
         key_len: usize,
         sample: &[u8; 16],
         mask: &mut [u8; 5],
     ) -> bool;
 
-    pub(crate) fn deerlapse_mask_chacha20(key: &[u8; 32], sample: &[u8; 16], mask: &mut [u8; 5]);
+    fn mask_chacha20(key: &[u8; 32], sample: &[u8; 16], mask: &mut [u8; 5]);
 
-    pub(crate) fn deerlapse_chacha20(
+    fn chacha20(
         key: &[u8; 32],
         nonce: &[u8; 12],
         counter: u32,

@@ -50,7 +50,7 @@ impl HeaderProtectionKey {
     pub fn new_mask(&self, sample: &[u8; SAMPLE_LEN]) -> [u8; MASK_LEN] {
         let mut mask = [0; MASK_LEN];
         // SAFETY: the parameters are references, and `new` filled the key.
-        let made = unsafe { ffi::deerlapse_key_mask(&self.0, sample, &mut mask) };
+        let made = unsafe { ffi::key_mask(&self.0, sample, &mut mask) };
         accepted(made).expect("the key is not zeros");
         mask
     }

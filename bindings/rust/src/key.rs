@@ -70,7 +70,7 @@ impl LessSafeKey {
         // SAFETY: each pointer and its length are those of one slice, which is borrowed for the call. No pointer of a
         // slice is null. `in_out` and `tag` are borrowed for writing, so they overlap nothing. `new` filled the key.
         let sealed = unsafe {
-            ffi::deerlapse_key_seal(
+            ffi::key_seal(
                 &self.0,
                 nonce.as_ref(),
                 aad.as_ptr(),
@@ -139,7 +139,7 @@ impl LessSafeKey {
         let mut len = 0;
         // SAFETY: as in `seal_in_place_separate_tag`, with `len` in the place of the tag.
         let opened = unsafe {
-            ffi::deerlapse_key_open(
+            ffi::key_open(
                 &self.0,
                 nonce.as_ref(),
                 aad.as_ptr(),
@@ -203,7 +203,7 @@ impl LessSafeKey {
     ) -> Result<&'a mut [u8], Unspecified> {
         // SAFETY: as in `seal_in_place_separate_tag`, and the tag is only read.
         let opened = unsafe {
-            ffi::deerlapse_key_open_separate_tag(
+            ffi::key_open_separate_tag(
                 &self.0,
                 nonce.as_ref(),
                 aad.as_ptr(),
@@ -246,7 +246,7 @@ impl LessSafeKey {
         // SAFETY: each pointer and its length are those of one slice, which is borrowed for the call; `out` and `tag`
         // are borrowed for writing, so they overlap nothing. `new` filled the key.
         let sealed = unsafe {
-            ffi::deerlapse_key_seal_to_sized(
+            ffi::key_seal_to_sized(
                 &self.0,
                 nonce.as_ref(),
                 aad.as_ptr(),
@@ -287,7 +287,7 @@ impl LessSafeKey {
     ) -> Result<(), Unspecified> {
         // SAFETY: as in `seal_to`, and the tag is only read.
         accepted(unsafe {
-            ffi::deerlapse_key_open_to_sized(
+            ffi::key_open_to_sized(
                 &self.0,
                 nonce.as_ref(),
                 aad.as_ptr(),
@@ -326,7 +326,7 @@ impl LessSafeKey {
     ) -> Result<(), Unspecified> {
         // SAFETY: as in `seal_to`.
         accepted(unsafe {
-            ffi::deerlapse_key_seal_append_tag_sized(
+            ffi::key_seal_append_tag_sized(
                 &self.0,
                 nonce.as_ref(),
                 aad.as_ptr(),
@@ -363,7 +363,7 @@ impl LessSafeKey {
     ) -> Result<(), Unspecified> {
         // SAFETY: as in `seal_to`.
         accepted(unsafe {
-            ffi::deerlapse_key_open_appended_tag_sized(
+            ffi::key_open_appended_tag_sized(
                 &self.0,
                 nonce.as_ref(),
                 aad.as_ptr(),
@@ -389,7 +389,7 @@ impl ffi::Key {
     pub(crate) fn new(bytes: &[u8]) -> Result<Self, Unspecified> {
         let mut key = ffi::Key { words: [0; 369] };
         // SAFETY: the pointer and its length are those of one slice, and the key is borrowed for writing.
-        accepted(unsafe { ffi::deerlapse_key_init(&mut key, bytes.as_ptr(), bytes.len()) })?;
+        accepted(unsafe { ffi::key_init(&mut key, bytes.as_ptr(), bytes.len()) })?;
         Ok(key)
     }
 }
@@ -398,6 +398,6 @@ impl ffi::Key {
 impl Drop for ffi::Key {
     fn drop(&mut self) {
         // SAFETY: the parameter is a reference.
-        unsafe { ffi::deerlapse_key_wipe(self) };
+        unsafe { ffi::key_wipe(self) };
     }
 }

@@ -5,6 +5,8 @@
 #[cfg(feature = "alloc")]
 extern crate alloc;
 
+#[cfg(not(feature = "system"))]
+mod asm;
 mod cpu;
 mod ffi;
 mod header_key;
@@ -70,7 +72,7 @@ pub const MASK_LEN: usize = 5;
 pub fn version() -> u32 {
     cpu::require();
     // SAFETY: it has no parameter.
-    unsafe { ffi::deerlapse_version() }
+    unsafe { ffi::version() }
 }
 
 /// The error of every call. It does not say why the call failed: the documentation of each call lists the reasons.

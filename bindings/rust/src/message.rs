@@ -61,7 +61,7 @@ impl LessSafeKey {
         // SAFETY: the pointer and its length are those of one slice, the others are references, and `state` is borrowed
         // for writing. `LessSafeKey::new` filled the key.
         accepted(unsafe {
-            ffi::deerlapse_key_begin(key, nonce.as_ref(), aad.as_ptr(), aad.len(), &mut state)
+            ffi::key_begin(key, nonce.as_ref(), aad.as_ptr(), aad.len(), &mut state)
         })?;
         Ok(SealingMessage { key, state })
     }
@@ -90,7 +90,7 @@ impl SealingMessage<'_> {
         // SAFETY: the pointer and its length are those of one slice, and both it and the state are borrowed for writing.
         // `begin` filled the state, under this key.
         accepted(unsafe {
-            ffi::deerlapse_key_update(self.key, &mut self.state, in_out.as_mut_ptr(), in_out.len())
+            ffi::key_update(self.key, &mut self.state, in_out.as_mut_ptr(), in_out.len())
         })
     }
 
@@ -118,7 +118,7 @@ impl SealingMessage<'_> {
     /// Writes the tag and overwrites the state with zeros, or returns false if it is zeros.
     fn write_tag(&mut self, tag: &mut [u8; TAG_LEN]) -> bool {
         // SAFETY: the parameters are references, and the state is one that `begin` filled under this key, or zeros.
-        unsafe { ffi::deerlapse_key_finish(self.key, &mut self.state, tag) }
+        unsafe { ffi::key_finish(self.key, &mut self.state, tag) }
     }
 }
 

@@ -64,6 +64,6 @@ pub fn nonce_of(iv: &[u8; NONCE_LEN], number: u64) -> Nonce {
     cpu::require();
     let mut nonce = [0; NONCE_LEN];
     // SAFETY: the parameters are references.
-    unsafe { ffi::deerlapse_nonce(iv, number, &mut nonce) };
+    unsafe { ffi::nonce(iv, number, &mut nonce) };
     Nonce(nonce)
 }

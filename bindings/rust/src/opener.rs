@@ -50,7 +50,7 @@ impl Opener {
         };
         // SAFETY: the pointer and its length are those of one slice, and the others are references.
         accepted(unsafe {
-            ffi::deerlapse_opener_init(
+            ffi::opener_init(
                 &mut opener.state,
                 key_bytes.as_ptr(),
                 key_bytes.len(),
@@ -71,7 +71,7 @@ impl Opener {
     /// ```
     pub fn numbers_left(&self) -> Range<u64> {
         // SAFETY: the parameter is a reference.
-        let next = unsafe { ffi::deerlapse_opener_next(&self.state) };
+        let next = unsafe { ffi::opener_next(&self.state) };
         next..self.limit
     }
 
@@ -101,7 +101,7 @@ impl Opener {
         // SAFETY: each pointer and its length are those of one slice, which is borrowed for the call; the opener,
         // `in_out` and `len` are borrowed for writing. `new` filled the opener.
         accepted(unsafe {
-            ffi::deerlapse_opener_open(
+            ffi::opener_open(
                 &mut self.state,
                 aad.as_ptr(),
                 aad.len(),
@@ -162,7 +162,7 @@ impl Opener {
         let mut len = 0;
         // SAFETY: as in `open_within`, and the opener is only read.
         accepted(unsafe {
-            ffi::deerlapse_opener_open_number(
+            ffi::opener_open_number(
                 &self.state,
                 number,
                 aad.as_ptr(),
@@ -202,7 +202,7 @@ impl Opener {
 impl Drop for Opener {
     fn drop(&mut self) {
         // SAFETY: the parameter is a reference.
-        unsafe { ffi::deerlapse_opener_wipe(&mut self.state) };
+        unsafe { ffi::opener_wipe(&mut self.state) };
     }
 }
 

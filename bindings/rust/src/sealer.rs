@@ -63,7 +63,7 @@ impl Sealer {
         };
         // SAFETY: the pointer and its length are those of one slice, and the others are references.
         accepted(unsafe {
-            ffi::deerlapse_sealer_init(
+            ffi::sealer_init(
                 &mut sealer.state,
                 key_bytes.as_ptr(),
                 key_bytes.len(),
@@ -85,7 +85,7 @@ impl Sealer {
     /// ```
     pub fn numbers_left(&self) -> Range<u64> {
         // SAFETY: the parameter is a reference.
-        let next = unsafe { ffi::deerlapse_sealer_next(&self.state) };
+        let next = unsafe { ffi::sealer_next(&self.state) };
         next..self.limit
     }
 
@@ -113,7 +113,7 @@ impl Sealer {
         // SAFETY: each pointer and its length are those of one slice, which is borrowed for the call; the sealer,
         // `in_out` and `tag` are borrowed for writing. `new` filled the sealer.
         accepted(unsafe {
-            ffi::deerlapse_sealer_seal(
+            ffi::sealer_seal(
                 &mut self.state,
                 aad.as_ptr(),
                 aad.len(),
@@ -151,7 +151,7 @@ impl Sealer {
 impl Drop for Sealer {
     fn drop(&mut self) {
         // SAFETY: the parameter is a reference.
-        unsafe { ffi::deerlapse_sealer_wipe(&mut self.state) };
+        unsafe { ffi::sealer_wipe(&mut self.state) };
     }
 }
 

@@ -19,7 +19,7 @@ pub fn mask_aes(key: &[u8], sample: &[u8; SAMPLE_LEN]) -> Result<[u8; MASK_LEN],
     cpu::require();
     let mut mask = [0; MASK_LEN];
     // SAFETY: the pointer and its length are those of one slice, and the others are references.
-    let made = unsafe { ffi::deerlapse_mask_aes(key.as_ptr(), key.len(), sample, &mut mask) };
+    let made = unsafe { ffi::mask_aes(key.as_ptr(), key.len(), sample, &mut mask) };
     accepted(made)?;
     Ok(mask)
 }
@@ -40,7 +40,7 @@ pub fn mask_chacha20(key: &[u8; 32], sample: &[u8; SAMPLE_LEN]) -> [u8; MASK_LEN
     cpu::require();
     let mut mask = [0; MASK_LEN];
     // SAFETY: the parameters are references.
-    unsafe { ffi::deerlapse_mask_chacha20(key, sample, &mut mask) };
+    unsafe { ffi::mask_chacha20(key, sample, &mut mask) };
     mask
 }
 
@@ -66,7 +66,5 @@ pub fn chacha20(
 ) -> Result<(), Unspecified> {
     cpu::require();
     // SAFETY: the pointer and its length are those of one slice, borrowed for writing, and the others are references.
-    accepted(unsafe {
-        ffi::deerlapse_chacha20(key, nonce, counter, in_out.as_mut_ptr(), in_out.len())
-    })
+    accepted(unsafe { ffi::chacha20(key, nonce, counter, in_out.as_mut_ptr(), in_out.len()) })
 }

@@ -1,0 +1,60 @@
+//! The assembly of the library's functions for the program's target.
+
+/// Includes the text in the folder `asm` for which the condition holds, with these options of `global_asm!`.
+macro_rules! texts {
+    ($($name:literal for $processors:literal ($($option:ident),*) if $condition:meta;)*) => {
+        $(
+            #[cfg(all(target_pointer_width = "64", target_endian = "little", $condition))]
+            core::arch::global_asm!(include_str!(concat!("../asm/", $name, ".s")), options($($option),*));
+
+            #[cfg(all(test, target_pointer_width = "64", target_endian = "little", $condition))]
+            const TEXT: &str = concat!("asm/", $name, ".s, for ", $processors);
+        )*
+
+        #[cfg(not(all(target_pointer_width = "64", target_endian = "little", any($($condition),*))))]
+        compile_error!(
+            "the package `deerlapse` has no assembly for this target: it has x86-64 and ARM64, with addresses of 64 bits \
+             and little-endian, for Linux, Android, FreeBSD and macOS, and x86-64 for Windows; where libdeerlapse is \
+             installed, the feature `system` links that"
+        );
+    };
+}
+
+texts! {
+    "x86_64-v2" for "x86-64-v2" (att_syntax, raw) if all(
+        target_arch = "x86_64",
+        any(target_os = "linux", target_os = "android", target_os = "freebsd"),
+        not(all(target_feature = "avx2", target_feature = "bmi2", target_feature = "fma"))
+    );
+    "x86_64-v3" for "x86-64-v3" (att_syntax, raw) if all(
+        target_arch = "x86_64",
+        any(target_os = "linux", target_os = "android", target_os = "freebsd"),
+        all(target_feature = "avx2", target_feature = "bmi2", target_feature = "fma")
+    );
+    "x86_64-windows" for "x86-64-v2" (att_syntax, raw) if all(target_arch = "x86_64", target_os = "windows");
+    "x86_64-macos" for "x86-64-v2" (att_syntax, raw) if all(target_arch = "x86_64", target_os = "macos");
+    "aarch64" for "ARM64" (raw) if all(
+        target_arch = "aarch64",
+        any(target_os = "linux", target_os = "android", target_os = "freebsd")
+    );
+    "aarch64-macos" for "ARM64" (raw) if all(target_arch = "aarch64", target_os = "macos");
+}
+
+#[cfg(test)]
+mod tests {
+    extern crate std;
+
+    use super::TEXT;
+    use std::env::consts::{ARCH, OS};
+    use std::io::{stderr, Result, Write};
+
+    /// Writes to the stream itself, which `cargo test` shows even of a test that passes.
+    #[test]
+    fn says_the_target() -> Result<()> {
+        writeln!(
+            stderr(),
+            "\ndeerlapse {} on {ARCH} {OS}: {TEXT}",
+            env!("CARGO_PKG_VERSION")
+        )
+    }
+}
