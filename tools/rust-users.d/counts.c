@@ -1,7 +1,8 @@
 /* Counts the calls of the library that seal, open and make masks. When the program ends, a line with the counts is appended to
  * the file that DEERLAPSE_COUNTS names: the seals, the openings, those among them that were refused, and the masks.
  *
- * tools/rust-users compiles it into an archive whose own functions of these names are called uncounted_deerlapse_... */
+ * tools/rust-users compiles it into the assembly of the package `deerlapse`, whose own functions of these names are there called
+ * uncounted_deerlapse_... */
 
 #include <fcntl.h>
 #include <stdatomic.h>
