@@ -1,5 +1,5 @@
-/* AES-GCM, the ChaCha20 stream and QUIC's header protection masks, for C and C++. deerlapse.h is C99. The library is
- * libdeerlapse.a, and libdeerlapse.so is made of it.
+/* AES-GCM, the ChaCha20 stream and QUIC's header protection masks, for C and C++. deerlapse.h is C99. The library is a file
+ * of assembly for each target, such as deerlapse-x86_64-v2.s, of which libdeerlapse.a and libdeerlapse.so are made.
  *
  * The following holds for every call:
  *  - It returns true on success. It returns false on failure, and leaves every byte unchanged, except that
@@ -13,8 +13,9 @@
  *    call writes bytes that another one is given.
  *  - It uses at most DEERLAPSE_MAX_STACK bytes of stack, whatever the lengths.
  *
- * The library needs Linux, on ARM64 or on an x86-64 processor of the level DEERLAPSE_X86_64_LEVEL. No call checks the
- * processor: deerlapse_cpu_supported does.
+ * The library is for Linux, FreeBSD and macOS, on ARM64 or on an x86-64 processor of the level DEERLAPSE_X86_64_LEVEL, and
+ * for Windows on such an x86-64 processor. On Linux it ran on x86-64, and on ARM64 under QEMU; for Windows it ran under Wine;
+ * for FreeBSD and macOS it was built, and not run. No call checks the processor: deerlapse_cpu_supported does.
  */
 #ifndef DEERLAPSE_H
 #define DEERLAPSE_H
@@ -22,6 +23,10 @@
 #include <stdbool.h>
 #include <stddef.h>
 #include <stdint.h>
+
+#if defined(_MSC_VER) && defined(_M_X64) && !defined(__GNUC__)
+#include <intrin.h>
+#endif
 
 #if defined(__GNUC__)
 /* The compiler warns if a null pointer is passed. */
@@ -43,12 +48,15 @@
 /* The version in one number: 0x010203 for 1.2.3. */
 #define DEERLAPSE_VERSION (DEERLAPSE_VERSION_MAJOR << 16 | DEERLAPSE_VERSION_MINOR << 8 | DEERLAPSE_VERSION_PATCH)
 
-/* The level of x86-64 processors that the library was built for: 2 for x86-64-v2, 3 for x86-64-v3. The deerlapse.h that
- * comes with a library has its level. A library for ARM64 needs no more than every such processor has. */
+/* The level of x86-64 processors that the library was built for: 2 for x86-64-v2, 3 for x86-64-v3. It is the level of the
+ * installed library in an installed deerlapse.h, and 2 in any other: a program with deerlapse-x86_64-v3.s is compiled with
+ * -DDEERLAPSE_X86_64_LEVEL=3. For Windows and macOS there is level 2 alone. On ARM64 every processor will do. */
+#ifndef DEERLAPSE_X86_64_LEVEL
 #define DEERLAPSE_X86_64_LEVEL 2
+#endif
 
-/* The most bytes of stack that a call uses, as measured by the repository's tools/stack. This includes the dynamic linker's,
- * which may bind memcpy, memmove and memset in the first call. */
+/* The most bytes of stack that a call uses, as measured by the repository's tools/stack on Linux. This includes the dynamic
+ * linker's, which may bind memcpy, memmove and memset in the first call. */
 #define DEERLAPSE_MAX_STACK 8192
 
 /* The lengths of arrays, in bytes. */
@@ -326,13 +334,28 @@ DEERLAPSE_NODISCARD
 bool deerlapse_chacha20(const uint8_t key[32], const uint8_t nonce[DEERLAPSE_NONCE_LEN], uint32_t counter,
                         uint8_t *in_out, size_t in_out_len);
 
-/* Returns whether this processor has the instructions of the archive. Where it returns false, a call of the library may end
- * the program with SIGILL. Where the compiler doesn't define __GNUC__, it returns true on every processor. */
+/* Returns whether this processor has the instructions of the library. Where it returns false, a call of the library may end
+ * the program with SIGILL, or on Windows with an illegal instruction. With a compiler that defines neither __GNUC__ nor
+ * _MSC_VER, it returns true on every processor. */
 static inline bool deerlapse_cpu_supported(void) {
 #if defined(__GNUC__) && defined(__x86_64__) && DEERLAPSE_X86_64_LEVEL >= 3
     return __builtin_cpu_supports("avx2") && __builtin_cpu_supports("bmi2") && __builtin_cpu_supports("fma");
 #elif defined(__GNUC__) && defined(__x86_64__)
     return __builtin_cpu_supports("ssse3") && __builtin_cpu_supports("sse4.2") && __builtin_cpu_supports("popcnt");
+#elif defined(_MSC_VER) && defined(_M_X64) && DEERLAPSE_X86_64_LEVEL >= 3
+    const int fma_and_osxsave = 1 << 12 | 1 << 27, avx2_and_bmi2 = 1 << 5 | 1 << 8; /* of ECX, and of EBX */
+    int first[4], seventh[4];
+    __cpuid(first, 0);
+    if (first[0] < 7) return false;
+    __cpuid(first, 1);
+    __cpuidex(seventh, 7, 0);
+    return (first[2] & fma_and_osxsave) == fma_and_osxsave && (seventh[1] & avx2_and_bmi2) == avx2_and_bmi2 &&
+           (_xgetbv(0) & 6) == 6; /* the system keeps XMM and YMM registers */
+#elif defined(_MSC_VER) && defined(_M_X64)
+    const int ssse3_sse42_and_popcnt = 1 << 9 | 1 << 20 | 1 << 23; /* of ECX */
+    int first[4];
+    __cpuid(first, 1);
+    return (first[2] & ssse3_sse42_and_popcnt) == ssse3_sse42_and_popcnt;
 #else
     return true;
 #endif
