@@ -1,4 +1,3 @@
-	.build_version macos, 11, 0
 	.section	__TEXT,__text,regular,pure_instructions
 	.p2align	2                               ; -- Begin function aead_ciphers_wide::aes_gcm::ExpandedKey::expand
 "_deerlapse_0_1_0::aead_ciphers_wide::aes_gcm::ExpandedKey::expand": ; @"aead_ciphers_wide::aes_gcm::ExpandedKey::expand"

@@ -1,4 +1,3 @@
-	.build_version macos, 11, 0
 	.section	__TEXT,__text,regular,pure_instructions
 	.section	__TEXT,__literal16,16byte_literals
 	.p2align	4, 0x0                          ## -- Begin function aead_ciphers_wide::aes_gcm::ExpandedKey::expand
