@@ -7,7 +7,7 @@ use Rattle.aead_ciphers_base.proofs.EachLemmas.{each-same}
 use specs.Aes.{aes}
 use Rattle.aead_ciphers.specs.Gcm.{gcm_encrypted, gcm_decrypted}
 use Rattle.sealed_file.specs.Format.{ChunkKey, Secret, chunk_len, sealed_chunk_len, piece, last_piece, chunk_nonce, sealed_chunk, sealed_chunk_of, sealed_chunks, sealed_file}
-use Rattle.sealed_file.specs.Opening.{HasHeader, HasTag, IsSealed, body_of, chunk_key, chunk_of, chunk_tag, header_of, key_of, last_chunk, opened_chunk, opened_chunks, opened_file}
+use Rattle.sealed_file.specs.Opening.{HasHeader, HasTag, IsSealed, body_of, chunk_key, chunk_of, chunk_tag, header_of, key_of, last_chunk, messages_under, opened_chunk, opened_file}
 use Rattle.sealed_file.proofs
 use proofs.ChunkLemmas.{front_is, has_tag, of_same}
 use proofs.HeaderLemmas.{IsHeaderOf}
@@ -113,7 +113,7 @@ module _ (k : ChunkKey) (file : List ℕ) where
     }
 
     pub opened_sealed_file : opened_file key whole ≡ file
-    unfolding opened_chunks
+    unfolding messages_under
     opened_sealed_file =
         ap concat (each-same (last_chunk whole + 1)
         (λ i. opened_chunk (key_of key whole) i (i == last_chunk whole) (chunk_of whole i))

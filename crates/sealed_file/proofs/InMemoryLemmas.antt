@@ -4,12 +4,12 @@ use Rattle.aead_ciphers.proofs.MessageLaws.{length-aes_decrypted}
 use Rattle.sealed_file.specs
 use specs.declared.error.FileError.{FileError}
 use specs.declared.error.FileError.TheVariants.{OutOfMemory, Io}
-use specs.Format.{Secret, chunk_len, sealed_chunk_len, chunk_nonce}
-use specs.Opening.{body_of, chunk_of, ciphertext_of, key_of, last_chunk, opened_chunk, opened_chunks, opened_file}
+use specs.Format.{ChunkKey, Secret, chunk_len, sealed_chunk_len, chunk_nonce, piece}
+use specs.Opening.{body_of, chunk_of, ciphertext_of, last_chunk, messages_under, opened_chunk, plaintext_under}
 use specs.Refusals.{RefusesAt, OpenRefuses, FailsInMemory}
 use Rattle.sealed_file.proofs
 use proofs.OpenLemmas.{message_at, refused_at}
-use proofs.PieceLemmas.{length-all, length-parts-le, length-piece}
+use proofs.PieceLemmas.{length-all, length-parts-le, length-piece, length-piece-le, piece_of_joined}
 
 -- what was written from the end of a list on
 pub written_behind : (f : List ℕ → List ℕ) (old chunk all new tag : List ℕ) (start : ℕ) → length old ≡ start → all ≡ old ++ chunk
@@ -34,35 +34,45 @@ chunk_fails lacks_room key file n OutOfMemory h = absurd h.wrong.1
 chunk_fails lacks_room key file n (Io e) h = absurd h.wrong.1
 chunk_fails lacks_room key file n error h = refused_at key file n error h
 
-module _ (key : Secret) (file : List ℕ) where
+module _ (k : ChunkKey) (file : List ℕ) where
   abbrev last : ℕ
   last = last_chunk file
 
-  length-message_at : (i : ℕ) → length (message_at key file i) ≡ length (chunk_of file i) - 16
+  pub length-message_at : (i : ℕ) → length (message_at k file i) ≡ length (chunk_of file i) - 16
   unfolding opened_chunk
   length-message_at i =
-      let sealed = chunk_of file i in let k = key_of key file in
+      let sealed = chunk_of file i in
       length-aes_decrypted k.key (chunk_nonce k.prefix i (i == last)) (ciphertext_of sealed)
       ∙ (omega (arith, length-take (length sealed - 16) sealed))
 
+  -- the messages before the last are whole
+  whole_before : (i : ℕ) → i < last → length (message_at k file i) ≡ chunk_len
+  whole_before i before =
+      length-message_at i ∙ (let h = length-piece sealed_chunk_len (body_of file) i (omega arith) before in omega (arith, h))
+
   -- what a sealed file of this length gives
-  pub length-opened_file : length (opened_file key file) ≡ chunk_len * last + (length (body_of file) - sealed_chunk_len * last - 16)
-  unfolding opened_chunks
-  length-opened_file =
-      let whole : (i : ℕ) → i < last → length (message_at key file i) ≡ chunk_len =
-      λ i before. length-message_at i ∙ (let h = length-piece sealed_chunk_len (body_of file) i (omega arith) before in omega (arith, h)) in
+  pub length-plaintext : length (plaintext_under k file) ≡ chunk_len * last + (length (body_of file) - sealed_chunk_len * last - 16)
+  unfolding messages_under
+  length-plaintext =
       omega (
         arith,
-        length-all chunk_len (message_at key file) last whole,
+        length-all chunk_len (message_at k file) last whole_before,
         length-message_at last,
         length-take sealed_chunk_len (drop (sealed_chunk_len * last) (body_of file)),
         length-drop (sealed_chunk_len * last) (body_of file),
       )
 
+  -- and where a message is in it
+  pub piece_of_plaintext : (i : ℕ) → i ≤ last → piece chunk_len (plaintext_under k file) i ≡ message_at k file i
+  unfolding messages_under
+  piece_of_plaintext i within =
+      piece_of_joined chunk_len (message_at k file) last whole_before i
+      (omega (arith, length-message_at last, length-piece-le sealed_chunk_len (body_of file) last)) within
+
   -- the next message fits in what it gives
   pub open_fits : (n : ℕ) → n ≤ last
-      → length (opened_chunks key file n) + (length (chunk_of file n) - 16) ≤ length (opened_file key file)
-  unfolding opened_chunks
+      → length (messages_under k file n) + (length (chunk_of file n) - 16) ≤ length (plaintext_under k file)
+  unfolding messages_under
   open_fits n within =
-      let p = length-parts-le (message_at key file) n (last + 1) (omega arith) in
+      let p = length-parts-le (message_at k file) n (last + 1) (omega arith) in
       omega (arith, p, length-message_at n)

@@ -7,9 +7,9 @@ use Rattle.sealed_file.specs
 use specs.declared.error.FileError.{FileError}
 use specs.declared.error.FileError.TheVariants.{TooLong, OutOfMemory, Io}
 use specs.Format.{ChunkKey, Secret, sealed_chunk_len}
-use specs.Opening.{HasTag, HasRightTag, HasHeader, AreRight, IsSealed, body_of, chunk_key, chunk_of, header_len, header_of, key_of, last_chunk, opened_chunk, opened_chunks, opened_file}
+use specs.Opening.{HasTag, HasRightTag, HasHeader, AreRight, IsSealed, body_of, chunk_key, chunk_of, header_len, header_of, key_of, last_chunk, messages_under, opened_chunk, opened_chunks, opened_file}
 use specs.Refusals.{HeaderRefuses, ChunkAtRefuses, ChunkRefuses, FailsInMemory, RefusesAt, OpenRefuses}
-use specs.Streams.{AppendsBeginning, TakesFront}
+use specs.Streams.{AppendsBeginning, AppendsRight, TakesFront}
 use Rattle.sealed_file.proofs
 use proofs.ChunkLemmas.{of_same}
 use proofs.HeaderLemmas.{header_of-header_of, refused_is_none}
@@ -17,12 +17,12 @@ use proofs.PieceLemmas.{joined_more}
 use proofs.StreamLemmas.{flag_is, next_read, begins_more, begins_none}
 
 -- chunk i of a sealed file, opened
-abbrev pub message_at : (key : Secret) (file : List ℕ) → ℕ → List ℕ
-message_at key file i = opened_chunk (key_of key file) i (i == last_chunk file) (chunk_of file i)
+abbrev pub message_at : (k : ChunkKey) (file : List ℕ) → ℕ → List ℕ
+message_at k file i = opened_chunk k i (i == last_chunk file) (chunk_of file i)
 
-pub messages_more : (key : Secret) (file : List ℕ) (n : ℕ) → opened_chunks key file (n + 1) ≡ opened_chunks key file n ++ message_at key file n
-unfolding opened_chunks
-messages_more key file n = joined_more (message_at key file) n
+pub messages_more : (k : ChunkKey) (file : List ℕ) (n : ℕ) → messages_under k file (n + 1) ≡ messages_under k file n ++ message_at k file n
+unfolding messages_under
+messages_more k file n = joined_more (message_at k file) n
 
 none_right : (key : Secret) (file : List ℕ) → AreRight key file 0
 none_right key file = record { each = λ i h. absurd (omega arith) }
@@ -104,7 +104,7 @@ pub record Opening (key : Secret) (k : ChunkKey) (file : List ℕ) (n : ℕ) (ol
 -- the header was right
 pub open_start : (key : Secret) (k : ChunkKey) (file : List ℕ) (old now : Option (List ℕ)) → Keeps old now
     → HasHeader key (header_of file) → k ≡ key_of key file → Opening key k file 0 old now
-unfolding opened_chunks
+unfolding messages_under
 open_start key k file old now kept has key_is = record {
   front = has;
   key_is = key_is;
@@ -114,11 +114,8 @@ open_start key k file old now kept has key_is = record {
 }
 
 -- what was written until a call failed
-abbrev Stopped : (key : Secret) (file : List ℕ) (old now : Option (List ℕ)) → Type 0
-Stopped key file old now = (n : ℕ) × AreRight key file n × AppendsBeginning old now (opened_chunks key file n)
-
-pub stop_at_start : (key : Secret) (file : List ℕ) (old : Option (List ℕ)) → Stopped key file old old
-stop_at_start key file old = (0, none_right key file, begins_none old (opened_chunks key file 0))
+pub stop_at_start : (key : Secret) (file : List ℕ) (old : Option (List ℕ)) → AppendsRight key file old old
+stop_at_start key file old = (0, λ some. absurd (omega (arith, some)), none_right key file, begins_none old (opened_chunks key file 0))
 
 module _ {key : Secret} {k : ChunkKey} {file : List ℕ} {n : ℕ} {old now : Option (List ℕ)} (s : Opening key k file n old now) where
   module _ {flag : Bool} {chunk : List ℕ} (flag_right : flag ≡ (n == last_chunk file))
@@ -152,12 +149,12 @@ module _ {key : Secret} {k : ChunkKey} {file : List ℕ} {n : ℕ} {old now : Op
 
       module _ {message : List ℕ} (message_is : message ≡ opened_chunk k n flag chunk) (now' : Option (List ℕ)) where
         more_is : opened_chunks key file (n + 1) ≡ opened_chunks key file n ++ message
-        more_is = messages_more key file n ∙ ap (λ l. opened_chunks key file n ++ l)
+        more_is = messages_more (key_of key file) file n ∙ ap (λ l. opened_chunks key file n ++ l)
             (sym (of_same (λ p b l. message ≡ opened_chunk p n b l) s.key_is flag_right chunk_is message_is))
 
         -- stopped within its message
-        pub open_stop_in : AppendsBeginning now now' message → Stopped key file old now'
-        open_stop_in part = (n + 1, right_more, begins_more old now now' _ message [] _ s.written part (more_is ∙ simp append-nil))
+        pub open_stop_in : AppendsBeginning now now' message → AppendsRight key file old now'
+        open_stop_in part = (n + 1, λ _. s.front, right_more, begins_more old now now' _ message [] _ s.written part (more_is ∙ simp append-nil))
 
         written_more : Appends now now' message → Appends old now' (opened_chunks key file (n + 1))
         written_more more = subst (Appends old now') (sym more_is) (Appends-trans old now now' _ _ s.written more)
@@ -197,8 +194,8 @@ read_start key k file bytes read_bytes chunk between rest old same first has key
 module _ {key : Secret} {k : ChunkKey} {file chunk : List ℕ} {n : ℕ} {rest old now : Option (List ℕ)}
     (s : Reading key k file n chunk rest old now) where
   -- stopped before a chunk
-  pub read_stop : Stopped key file old now
-  read_stop = (n, s.so_far.right, (_, [], sym (append-nil (opened_chunks key file n)), s.so_far.written))
+  pub read_stop : AppendsRight key file old now
+  read_stop = (n, λ _. s.so_far.front, s.so_far.right, (_, [], sym (append-nil (opened_chunks key file n)), s.so_far.written))
 
   -- too many chunks
   pub read_long : n ≡ 2 ^ 32 - 1 → OpenRefuses key file TooLong
@@ -223,7 +220,7 @@ module _ {key : Secret} {k : ChunkKey} {file chunk : List ℕ} {n : ℕ} {rest o
       read_accepted = open_accepted s.so_far flag_right s.at.piece_is had
 
       module _ {message : List ℕ} (message_is : message ≡ opened_chunk k n flag chunk) (now' : Option (List ℕ)) where
-        pub read_stop_in : AppendsBeginning now now' message → Stopped key file old now'
+        pub read_stop_in : AppendsBeginning now now' message → AppendsRight key file old now'
         read_stop_in = open_stop_in s.so_far flag_right s.at.piece_is had message_is now'
 
         pub read_end : flag ≡ true → Appends now now' message → Appends old now' (opened_file key file)

@@ -1,5 +1,5 @@
 -- Files that are sealed under a passphrase.
-use Rattle.std.proofs.Common.{◌≡◌, ℕ, Result, Ok, Err, IfErr, OnOk, OnErr, IfSome, None, Some, inl, inr, ◌≤◌, List, ◌++◌, length, take, drop, refl, ap, subst, ◌∙◌, arith, Option, length-take, take-take}
+use Rattle.std.proofs.Common.{◌≡◌, ℕ, Result, Ok, Err, IfErr, OnOk, OnErr, IfSome, None, Some, inl, inr, ◌≤◌, List, ◌++◌, length, take, drop, refl, sym, ap, subst, ◌∙◌, arith, Option, length-take, take-take}
 use Rattle.std.proofs.lemmas.List.{drop-take}
 use Rattle.std.specs.Fmt.{option_append}
 use Rattle.std.specs.Int.{to_be_bytes, w32}
@@ -8,10 +8,10 @@ use Rattle.sealed_file.specs
 use specs.declared.error.FileError.{FileError}
 use specs.declared.error.FileError.TheVariants.{EndsEarly, Iterations}
 use specs.Format.{ChunkKey, Secret, fresh_key, secret_of, with_header}
-use specs.Opening.{AreRight, IsSealed, header_of, opened_chunks, opened_file}
+use specs.Opening.{IsSealed, header_of, opened_file}
 use specs.Passphrase.{AreAllowed, FrontRefuses, OpensBy, PassphraseRefuses, core_of, fresh_passphrase_key, iteration_bytes, iterations_of, opened_by, passphrase_key, random_of, unlocked}
 use specs.Refusals.{HeaderRefuses, OpenRefuses}
-use specs.Streams.{AppendsBeginning, TakesFront}
+use specs.Streams.{AppendsRight, TakesFront}
 
 -- ---- what a result says of known bytes
 
@@ -57,7 +57,11 @@ module _ (passphrase aad file seen read_bytes : List ℕ) (rest : Option (List �
   whole_same whole = omega (arith, whole, ap length seen_is, length-take 64 file)
 
   front_fails : (error : FileError) → FrontRefuses passphrase aad seen error → FrontRefuses passphrase aad file error
-  front_fails EndsEarly short = omega (arith, short, ap length seen_is, length-take 64 file)
+  front_fails EndsEarly (inl short) = inl (omega (arith, short, ap length seen_is, length-take 64 file))
+  front_fails EndsEarly (inr (version, short)) = inr (
+    record { front = sym (ap (take 9) seen_is ∙ take-take 9 64 file (omega arith)) ∙ version.front },
+    omega (arith, short, ap length seen_is, length-take 64 file),
+  )
   front_fails (Iterations n) (whole, is, wrong) = (whole_same whole, rw bytes_same at is, rw bytes_same at wrong)
   front_fails error h = subst (λ s. HeaderRefuses s (header_of file) error) unlocked_same
       (subst (λ l. HeaderRefuses (unlocked passphrase aad seen) l error) header_same h)
@@ -95,18 +99,18 @@ module _ (passphrase aad file seen read_bytes : List ℕ) (rest : Option (List �
     refused_by (Err error) h = inr (of_file (λ s core. OpenRefuses s core error) h)
 
     pub stopped_by : {T E : Type 0} (r : Result T E) (old now : Option (List ℕ))
-        → OnErr r (IfSome known (λ core. (n : ℕ) × AreRight s core n × AppendsBeginning old now (opened_chunks s core n)))
-        → OnErr r (let s = unlocked passphrase aad file in
-        (n : ℕ) × AreRight s (core_of file) n × AppendsBeginning old now (opened_chunks s (core_of file) n))
+        → OnErr r (IfSome known (λ core. AppendsRight s core old now)) → OnErr r (AppendsRight (unlocked passphrase aad file) (core_of file) old now)
     stopped_by (Ok v) old now h = tt
-    stopped_by (Err e) old now h =
-        of_file (λ s core. (n : ℕ) × AreRight s core n × AppendsBeginning old now (opened_chunks s core n)) h
+    stopped_by (Err e) old now h = of_file (λ s core. AppendsRight s core old now) h
 
 -- a header that doesn't begin as one of version 3
 pub front_of_header : (passphrase aad file header : List ℕ) → header ≡ header_of file → (error : FileError)
     → HeaderRefuses (unlocked passphrase aad file) header error → FrontRefuses passphrase aad file error
-front_of_header passphrase aad file header is EndsEarly (inl short) = omega (arith, short, ap length is, length-take 60 file)
-front_of_header passphrase aad file header is EndsEarly (inr (front, short)) = omega (arith, short, ap length is, length-take 60 file)
+front_of_header passphrase aad file header is EndsEarly (inl short) = inl (omega (arith, short, ap length is, length-take 60 file))
+front_of_header passphrase aad file header is EndsEarly (inr (version, short)) = inr (
+  record { front = sym (ap (take 9) is ∙ take-take 9 60 file (omega arith)) ∙ version.front },
+  omega (arith, short, ap length is, length-take 60 file),
+)
 front_of_header passphrase aad file header is (Iterations n) h = absurd h
 front_of_header passphrase aad file header is error h = subst (λ l. HeaderRefuses (unlocked passphrase aad file) l error) is h
 

@@ -2,10 +2,10 @@
 use Rattle.std.proofs.Common.{◌≡◌, ℕ, ◌+◌, ◌-◌, ◌*◌, ◌^◌, ◌<◌, List, length, drop, sym, ap, subst, ◌∙◌, arith, length-drop, length-take}
 use Rattle.sealed_file.specs
 use specs.Format.{Secret, chunk_len, last_piece, sealed_chunk_len}
-use specs.Opening.{IsSealed, IsSealedLen, body_of, header_len, last_chunk, opened_file}
+use specs.Opening.{IsSealed, IsSealedLen, body_of, header_len, key_of, last_chunk, opened_file}
 use Rattle.sealed_file.proofs
 use proofs.HeaderLemmas.{header_fits}
-use proofs.InMemoryLemmas.{length-opened_file}
+use proofs.InMemoryLemmas.{length-plaintext}
 
 module _ (key : Secret) (file : List ℕ) (accepted : IsSealed key file) where
   length-body : length (body_of file) ≡ length file - 60
@@ -33,5 +33,5 @@ module _ (key : Secret) (file : List ℕ) (accepted : IsSealed key file) where
 
   pub length-opened : let last = last_piece sealed_chunk_len (length file - 60) in
       length (opened_file key file) ≡ chunk_len * last + (length file - 60 - sealed_chunk_len * last - 16)
-  length-opened = length-opened_file key file
+  length-opened = length-plaintext (key_of key file) file
       ∙ ap (λ n. chunk_len * last_piece sealed_chunk_len n + (n - sealed_chunk_len * last_piece sealed_chunk_len n - 16)) length-body

@@ -60,9 +60,13 @@ last_chunk file = last_piece sealed_chunk_len (length (body_of file))
 abbrev pub chunk_of : (file : List ℕ) → ℕ → List ℕ
 chunk_of file i = piece sealed_chunk_len (body_of file) i
 
+-- chunk i of a sealed file has its tag under this key
+abbrev pub HasTagUnder : (k : ChunkKey) (file : List ℕ) → ℕ → Type 0
+HasTagUnder k file i = HasTag k i (i == last_chunk file) (chunk_of file i)
+
 -- chunk i of a sealed file has its tag
 abbrev pub HasRightTag : (s : Secret) (file : List ℕ) → ℕ → Type 0
-HasRightTag s file i = HasTag (key_of s file) i (i == last_chunk file) (chunk_of file i)
+HasRightTag s file i = HasTagUnder (key_of s file) file i
 
 -- the first n chunks have their tags
 pub record AreRight (s : Secret) (file : List ℕ) (n : ℕ) : Type 0 where
@@ -74,14 +78,22 @@ pub record IsSealed (s : Secret) (file : List ℕ) : Type 0 where
   pub few : last_chunk file < 2 ^ 32 - 1
   pub tags : AreRight s file (last_chunk file + 1)
 
+-- the messages of the first n chunks under this key, in order
+unfoldable pub messages_under : (k : ChunkKey) (file : List ℕ) (n : ℕ) → List ℕ
+messages_under k file n =
+    concat (each_below n (λ i. opened_chunk k i (i == last_chunk file) (chunk_of file i)))
+
+-- the messages of all chunks under this key, in order
+abbrev pub plaintext_under : (k : ChunkKey) (file : List ℕ) → List ℕ
+plaintext_under k file = messages_under k file (last_chunk file + 1)
+
 -- the messages of the first n chunks, in order
-unfoldable pub opened_chunks : (s : Secret) (file : List ℕ) (n : ℕ) → List ℕ
-opened_chunks s file n =
-    concat (each_below n (λ i. opened_chunk (key_of s file) i (i == last_chunk file) (chunk_of file i)))
+abbrev pub opened_chunks : (s : Secret) (file : List ℕ) (n : ℕ) → List ℕ
+opened_chunks s file n = messages_under (key_of s file) file n
 
 -- the messages of all chunks, in order
 abbrev pub opened_file : (s : Secret) (file : List ℕ) → List ℕ
-opened_file s file = opened_chunks s file (last_chunk file + 1)
+opened_file s file = plaintext_under (key_of s file) file
 
 -- the length of a sealed file: a header, and fewer than 2^32 chunks that each hold a tag
 pub record IsSealedLen (n : ℕ) : Type 0 where

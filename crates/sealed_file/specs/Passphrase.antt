@@ -8,7 +8,7 @@ use specs.declared.error.FileError.{FileError}
 use specs.declared.error.FileError.TheVariants.{EndsEarly, Iterations}
 use specs.Format.{ChunkKey, Secret, fresh_key, secret_of, with_header}
 use specs.Opening.{IsSealed, header_of, opened_file}
-use specs.Refusals.{HeaderRefuses, OpenRefuses}
+use specs.Refusals.{HeaderRefuses, IsVersion, OpenRefuses}
 
 -- the key of 32 bytes that a passphrase has for a file: PBKDF2 with HMAC-SHA-256 (RFC 8018 section 5.2)
 abbrev pub passphrase_key : (passphrase random : List ℕ) (iterations : ℕ) → List ℕ
@@ -62,7 +62,7 @@ opened_by passphrase aad file = opened_file (unlocked passphrase aad file) (core
 
 -- why bytes don't begin as a file of version 3
 abbrev pub FrontRefuses : (passphrase aad file : List ℕ) → FileError → Type 0
-FrontRefuses passphrase aad file EndsEarly = length file < 64
+FrontRefuses passphrase aad file EndsEarly = (length file < 9) ⊎ (IsVersion 3 file × (length file < 64))
 FrontRefuses passphrase aad file (Iterations n) =
     (64 ≤ length file) × (n ≡ iterations_of file) × ¬ AreAllowed (iterations_of file)
 FrontRefuses passphrase aad file error = HeaderRefuses (unlocked passphrase aad file) (header_of file) error

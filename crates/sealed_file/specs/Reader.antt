@@ -1,50 +1,62 @@
 -- A sealed file that is read at any position.
-use Rattle.std.specs.Prelude.{◌≡◌, ℕ, Bool, ◌+◌, ◌-◌, ◌*◌, ◌^◌, ◌<◌, ◌≤◌, List, length, true, ⊤, ◌⊎◌, ◌==◌, if◌then◌else◌}
+use Rattle.std.specs.Prelude.{◌≡◌, ℕ, ◌+◌, ◌-◌, ◌*◌, ◌^◌, ◌<◌, ◌≤◌, List, length, take, drop, ◌⊎◌, Option, IfSome, ◌==◌, if◌then◌else◌}
+use Rattle.std.specs.Option.{option_map}
 use Rattle.sealed_file.specs.declared.error.FileError.{FileError}
-use Rattle.sealed_file.specs.declared.error.FileError.TheVariants.{EndsEarly, TooLong, Io}
-use Rattle.sealed_file.specs.Format.{ChunkKey, Secret, chunk_len}
-use Rattle.sealed_file.specs.Opening.{HasTag, chunk_key, opened_chunk}
-use Rattle.sealed_file.specs.Refusals.{ChunkRefuses, HeaderRefuses}
+use Rattle.sealed_file.specs.declared.error.FileError.TheVariants.{EndsEarly, TooLong}
+use Rattle.sealed_file.specs.Format.{ChunkKey, Secret, chunk_len, last_piece, sealed_chunk_len}
+use Rattle.sealed_file.specs.Opening.{HasHeader, HasRightTag, HasTagUnder, IsSealedLen, chunk_of, header_of, key_of, last_chunk, opened_chunk}
+use Rattle.sealed_file.specs.Refusals.{HeaderRefuses, RefusesChunk}
 
--- what a reader knows of its file: the key of the chunks, the number of the last chunk, and the length of its message
+-- what a reader is of: the key of the chunks, the sealed file where its bytes are known, and the length of the file
 pub record ReaderState : Type 0 where
   pub key : ChunkKey
-  pub last : ℕ
-  pub last_len : ℕ
+  pub file : Option (List ℕ)
+  pub len : ℕ
 
--- the length of the file
-abbrev pub file_len : ReaderState → ℕ
-file_len r = chunk_len * r.last + r.last_len
+-- the sealed file that an input has from byte `start` on, where its bytes are known
+abbrev pub file_from : (start : ℕ) → Option (List ℕ) → Option (List ℕ)
+file_from start bytes = option_map (λ all. drop start all) bytes
 
 -- the length of the message of chunk i
 unfoldable pub message_len : (last last_len i : ℕ) → ℕ
 message_len last last_len i = if i == last then last_len else chunk_len
 
--- the message of bytes with the tag defined for the chunk with this number that is the last, or is not
-pub record IsMessage (k : ChunkKey) (number : ℕ) (is_last : Bool) (message : List ℕ) : Type 0 where
-  pub sealed : List ℕ
-  pub tag : HasTag k number is_last sealed
-  pub opened : message ≡ opened_chunk k number is_last sealed
+-- a sealed file has its last chunk at `last`, with a message of `last_len` bytes
+pub record EndsAt (file : List ℕ) (last last_len : ℕ) : Type 0 where
+  pub last_is : last ≡ last_chunk file
+  pub size : length file ≡ 60 + sealed_chunk_len * last + last_len + 16
 
--- what holds of every reader: the last chunk had its tag, and so had the one whose message it holds
-pub record IsReader (k : ChunkKey) (last last_len number : ℕ) (message : List ℕ) : Type 0 where
+-- chunk i of a sealed file has its tag under this key, and this message
+pub record IsMessageOf (k : ChunkKey) (file : List ℕ) (i : ℕ) (message : List ℕ) : Type 0 where
+  pub tag : HasTagUnder k file i
+  pub opened : message ≡ opened_chunk k i (i == last_chunk file) (chunk_of file i)
+
+-- what holds of every reader: the file ends where its length says, the last chunk has its tag, and the buffer begins with the
+-- message of the chunk that the reader holds
+pub record IsReader (k : ChunkKey) (file : Option (List ℕ)) (start last last_len : ℕ) (held : Option ℕ) (buffer : List ℕ) : Type 0 where
   pub few : last < 2 ^ 32 - 1
   pub short : last_len ≤ chunk_len
-  pub at_end : (end : List ℕ) × IsMessage k last true end × (length end ≡ last_len)
-  pub in_range : number ≤ last
-  pub held : IsMessage k number (number == last) message
-  pub size : length message ≡ message_len last last_len number
+  pub fits : start + 60 + sealed_chunk_len * last + last_len + 16 < 2 ^ 64
+  pub room : length buffer ≡ sealed_chunk_len
+  pub ends : IfSome file (λ file. EndsAt file last last_len)
+  pub tag : IfSome file (λ file. HasTagUnder k file (last_chunk file))
+  pub in_range : IfSome held (λ i. i ≤ last)
+  pub message : IfSome held (λ i. IfSome file (λ file. IsMessageOf k file i (take (message_len last last_len i) buffer)))
 
--- why a chunk is not read: its bytes are refused, or they end early, or reading fails
-abbrev pub MessageRefuses : (k : ChunkKey) (number : ℕ) (is_last : Bool) → FileError → Type 0
-MessageRefuses k number is_last EndsEarly = ⊤
-MessageRefuses k number is_last (Io error) = ⊤
-MessageRefuses k number is_last error = (sealed : List ℕ) × ChunkRefuses k number is_last sealed error
+-- a file that can be read at any position: its header is right, its length is one of a sealed file, and its last chunk has its tag
+pub record IsReadable (s : Secret) (file : List ℕ) : Type 0 where
+  pub header : HasHeader s (header_of file)
+  pub size : IsSealedLen (length file)
+  pub tag : HasRightTag s file (last_chunk file)
 
--- why a reader is not made: its header is refused, the file's length is none of a sealed file, or the last chunk is not read
-abbrev pub ReaderRefuses : (s : Secret) → FileError → Type 0
-ReaderRefuses s EndsEarly = ⊤
-ReaderRefuses s TooLong = ⊤
-ReaderRefuses s (Io error) = ⊤
-ReaderRefuses s error = (header : List ℕ) × (HeaderRefuses s header error
-    ⊎ ((last : ℕ) × MessageRefuses (chunk_key s header) last true error))
+-- why no sealed file has this length
+abbrev pub LengthRefuses : ℕ → FileError → Type 0
+LengthRefuses n TooLong = 2 ^ 32 - 1 ≤ last_piece sealed_chunk_len (n - 60)
+LengthRefuses n EndsEarly = (last_piece sealed_chunk_len (n - 60) < 2 ^ 32 - 1) × ¬ IsSealedLen n
+LengthRefuses n error = ⊥
+
+-- why a file can't be read: the first of its header, its length and its last chunk that is wrong
+abbrev pub ReaderRefuses : (s : Secret) (file : List ℕ) → FileError → Type 0
+ReaderRefuses s file error = HeaderRefuses s (header_of file) error
+    ⊎ ((HasHeader s (header_of file) × LengthRefuses (length file) error)
+    ⊎ (HasHeader s (header_of file) × IsSealedLen (length file) × RefusesChunk (key_of s file) file (last_chunk file) error))

@@ -4,7 +4,7 @@ use Rattle.sealed_file.specs.declared.error.FileError.{FileError}
 use Rattle.sealed_file.specs.declared.error.FileError.TheVariants.{AnotherMagic, AnotherVersion, WrongKey, EndsEarly, TrailingBytes, Refused, TooLong, OutOfMemory, Io}
 use Rattle.sealed_file.specs.Derivation.{commitment}
 use Rattle.sealed_file.specs.Format.{ChunkKey, Secret, chunk_len, last_piece, magic_and_version}
-use Rattle.sealed_file.specs.Opening.{HasTag, HasHeader, AreRight, chunk_of, header_of, key_of, last_chunk}
+use Rattle.sealed_file.specs.Opening.{HasTag, HasTagUnder, HasHeader, AreRight, chunk_of, header_of, key_of, last_chunk}
 
 -- why a file is not sealed
 abbrev pub SealRefuses : List ℕ → FileError → Type 0
@@ -41,13 +41,17 @@ ChunkRefuses k number is_last sealed (Refused at) =
     (at ≡ number) × (16 ≤ length sealed) × ¬ HasTag k number true sealed × ¬ HasTag k number false sealed
 ChunkRefuses k number is_last sealed error = ⊥
 
+-- chunk i of a sealed file has not its tag under this key, and why
+abbrev pub RefusesChunk : (k : ChunkKey) (file : List ℕ) (i : ℕ) → FileError → Type 0
+RefusesChunk k file i error =
+    (¬ HasTagUnder k file i) × ChunkRefuses k i (i == last_chunk file) (chunk_of file i) error
+
 -- the header and the first n chunks are right, and the next chunk is not
 pub record RefusesAt (s : Secret) (file : List ℕ) (error : FileError) (n : ℕ) : Type 0 where
   pub front : HasHeader s (header_of file)
   pub right : AreRight s file n
   pub in_range : n ≤ last_chunk file
-  pub wrong : let is_last = n == last_chunk file in
-      (¬ HasTag (key_of s file) n is_last (chunk_of file n)) × ChunkRefuses (key_of s file) n is_last (chunk_of file n) error
+  pub wrong : RefusesChunk (key_of s file) file n error
 
 -- why a file does not open
 abbrev pub OpenRefuses : (s : Secret) (file : List ℕ) → FileError → Type 0

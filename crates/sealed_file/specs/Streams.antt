@@ -1,6 +1,8 @@
--- What reading a piece and writing bytes do to a reader and a writer whose bytes are known.
-use Rattle.std.specs.Prelude.{◌≡◌, ℕ, List, ◌++◌, take, drop, Option, Some}
+-- What reading a piece, writing bytes and opening do to a reader and a writer whose bytes are known.
+use Rattle.std.specs.Prelude.{◌≡◌, ℕ, ◌<◌, List, ◌++◌, take, drop, Option, Some}
 use Rattle.std.specs.Io.KnownBytes.{Appends}
+use Rattle.sealed_file.specs.Format.{Secret}
+use Rattle.sealed_file.specs.Opening.{AreRight, HasHeader, header_of, opened_chunks}
 
 -- the writer's known bytes grow by a beginning of `all`
 abbrev pub AppendsBeginning : Option (List ℕ) → Option (List ℕ) → List ℕ → Type 0
@@ -10,3 +12,9 @@ AppendsBeginning old new all = (front : List ℕ) × (rest : List ℕ) × (all �
 pub record TakesFront (len : ℕ) (bytes piece : List ℕ) (new : Option (List ℕ)) : Type 0 where
   pub piece_is : piece ≡ take len bytes
   pub left : new ≡ Some (drop len bytes)
+
+-- the writer's known bytes grow by a beginning of the messages of n chunks, which have their tags, after a header that is right
+-- unless n is 0
+abbrev pub AppendsRight : (s : Secret) (file : List ℕ) (old new : Option (List ℕ)) → Type 0
+AppendsRight s file old new = (n : ℕ) × (0 < n → HasHeader s (header_of file)) × AreRight s file n
+    × AppendsBeginning old new (opened_chunks s file n)

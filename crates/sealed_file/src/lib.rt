@@ -14,6 +14,7 @@ mod opening;
 mod passphrase;
 mod random;
 mod random_access;
+mod read_at;
 mod reader;
 mod sealing;
 mod stream;
@@ -33,5 +34,6 @@ pub use self::passphrase::{
 };
 pub use self::random::FileRandom;
 pub use self::random_access::{open_chunk_at, plaintext_len};
+pub use self::read_at::ReadAt;
 pub use self::reader::SealedReader;
 pub use self::sealing::{seal, seal_with_aad};

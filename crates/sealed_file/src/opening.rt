@@ -1,11 +1,11 @@
 //! Opening a sealed file.
 
-ghost use Rattle.std.specs.Prelude.{ℕ, [], ◌≤◌, length, IfErr, IfSome, OnOk, OnErr};
+ghost use Rattle.std.specs.Prelude.{[], ◌≤◌, length, IfErr, IfSome, OnOk, OnErr};
 ghost use Rattle.std.specs.Io.KnownBytes.{Appends};
 ghost use Rattle.sealed_file.specs.Format.{secret, secret_of};
-ghost use Rattle.sealed_file.specs.Opening.{AreRight, IsSealed, opened_chunks, opened_file};
+ghost use Rattle.sealed_file.specs.Opening.{IsSealed, opened_file};
 ghost use Rattle.sealed_file.specs.Refusals.{OpenRefuses};
-ghost use Rattle.sealed_file.specs.Streams.{AppendsBeginning};
+ghost use Rattle.sealed_file.specs.Streams.{AppendsRight};
 
 use crate::chunk::{MAX_CHUNKS, SEALED_CHUNK_LEN, open_chunk};
 use crate::error::FileError;
@@ -50,8 +50,8 @@ pub fn open<R: Read, W: Write>(
         Appends (W.contents output.old) (W.contents output.new) (opened_file (secret key.now []) file))) }
     ensures refused { IfErr result (λ error. IfSome (R.remaining input.old) (λ file.
         OpenRefuses (secret key.now []) file error)) }
-    ensures nothing_past { OnErr result (IfSome (R.remaining input.old) (λ file. (n : ℕ) × AreRight (secret key.now []) file n
-        × AppendsBeginning (W.contents output.old) (W.contents output.new) (opened_chunks (secret key.now []) file n))) }
+    ensures nothing_past { OnErr result (IfSome (R.remaining input.old) (λ file.
+        AppendsRight (secret key.now []) file (W.contents output.old) (W.contents output.new))) }
 {
     open_with_aad(alloc, key, &[], input, output)
 }
@@ -71,8 +71,8 @@ pub fn open_with_aad<R: Read, W: Write>(
         Appends (W.contents output.old) (W.contents output.new) (opened_file (secret key.now aad.now) file))) }
     ensures refused { IfErr result (λ error. IfSome (R.remaining input.old) (λ file.
         OpenRefuses (secret key.now aad.now) file error)) }
-    ensures nothing_past { OnErr result (IfSome (R.remaining input.old) (λ file. (n : ℕ) × AreRight (secret key.now aad.now) file n
-        × AppendsBeginning (W.contents output.old) (W.contents output.new) (opened_chunks (secret key.now aad.now) file n))) }
+    ensures nothing_past { OnErr result (IfSome (R.remaining input.old) (λ file.
+        AppendsRight (secret key.now aad.now) file (W.contents output.old) (W.contents output.new))) }
 {
     open_version(alloc, VERSION, key, aad, input, output)
 }
@@ -92,8 +92,8 @@ pub(crate) fn open_version<R: Read, W: Write>(
         Appends (W.contents output.old) (W.contents output.new) (opened_file (secret_of version key.now aad.now) file))) }
     ensures refused { IfErr result (λ error. IfSome (R.remaining input.old) (λ file.
         OpenRefuses (secret_of version key.now aad.now) file error)) }
-    ensures nothing_past { OnErr result (IfSome (R.remaining input.old) (λ file. (n : ℕ) × AreRight (secret_of version key.now aad.now) file n
-        × AppendsBeginning (W.contents output.old) (W.contents output.new) (opened_chunks (secret_of version key.now aad.now) file n))) }
+    ensures nothing_past { OnErr result (IfSome (R.remaining input.old) (λ file.
+        AppendsRight (secret_of version key.now aad.now) file (W.contents output.old) (W.contents output.new))) }
 {
     let (mut chunk, mut next) = buffers(alloc)?;
     read_header(input, &mut chunk)?;

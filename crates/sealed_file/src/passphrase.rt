@@ -3,10 +3,10 @@
 ghost use Rattle.std.specs.Prelude.{ℕ, List, ◌≡◌, ◌-◌, ◌^◌, ◌<◌, ◌≤◌, ◌++◌, length, IsOk, IfOk, IfErr, IfSome, OnOk, OnErr};
 ghost use Rattle.std.specs.Io.KnownBytes.{Appends};
 ghost use Rattle.sealed_file.specs.Format.{chunk_len, last_piece, sealed_file, secret_of};
-ghost use Rattle.sealed_file.specs.Opening.{AreRight, header_of, opened_chunks};
+ghost use Rattle.sealed_file.specs.Opening.{header_of};
 ghost use Rattle.sealed_file.specs.Passphrase.{AreAllowed, FrontRefuses, OpensBy, PassphraseRefuses, core_of, fresh_passphrase_key, iterations_of, opened_by, passphrase_key, unlocked};
 ghost use Rattle.sealed_file.specs.Refusals.{IsVersion, SealRefuses};
-ghost use Rattle.sealed_file.specs.Streams.{AppendsBeginning};
+ghost use Rattle.sealed_file.specs.Streams.{AppendsBeginning, AppendsRight};
 
 use crate::error::FileError;
 use crate::header::{ChunkCipher, FRONT_LEN, HEADER_LEN, RANDOM_LEN, check_front, header_of};
@@ -170,9 +170,7 @@ pub fn open_with_passphrase<R: Read, W: Write>(
     ensures refused { IfErr result (λ error. IfSome (R.remaining input.old) (λ file.
         PassphraseRefuses passphrase.now aad.now file error)) }
     ensures nothing_past { OnErr result (IfSome (R.remaining input.old) (λ file.
-        let s = unlocked passphrase.now aad.now file in
-        (n : ℕ) × AreRight s (core_of file) n × AppendsBeginning (W.contents output.old)
-        (W.contents output.new) (opened_chunks s (core_of file) n))) }
+        AppendsRight (unlocked passphrase.now aad.now file) (core_of file) (W.contents output.old) (W.contents output.new))) }
 {
     let mut header = Vec::new(alloc);
     read_piece(input, PASSPHRASE_HEADER_LEN, &mut header)?;

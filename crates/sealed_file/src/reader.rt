@@ -1,19 +1,30 @@
 //! Reading a sealed file at any position.
 
-ghost use Rattle.std.specs.Prelude.{ℕ, List, ◌≡◌, ◌+◌, ◌-◌, ◌*◌, ◌/◌, ◌%◌, ◌<◌, ◌≤◌, ◌↔◌, ◌==◌, true, length, vec_len, min, take, drop, IsOk, IsSome, IfOk, IfSome, IfErr, OnOk, OnErr};
-ghost use Rattle.sealed_file.specs.Format.{Secret, chunk_len, last_piece, sealed_chunk_len, secret};
-ghost use Rattle.sealed_file.specs.Opening.{HasHeader, IsSealedLen, chunk_key};
-ghost use Rattle.sealed_file.specs.Reader.{IsMessage, MessageRefuses, ReaderRefuses, file_len, message_len};
+ghost use Rattle.std.specs.Prelude.{ℕ, List, ◌≡◌, ◌+◌, ◌-◌, ◌*◌, ◌/◌, ◌%◌, ◌^◌, ◌<◌, ◌≤◌, ◌⊎◌, ◌↔◌, ◌==◌, ⊤, length, vec_capacity, min, take, drop, IsOk, IsSome, IfOk, IfSome, IfErr, OnOk, OnErr};
+ghost use Rattle.sealed_file.specs.Format.{chunk_len, last_piece, sealed_chunk_len, secret};
+ghost use Rattle.sealed_file.specs.Opening.{HasHeader, HasTag, HasTagUnder, IsSealedLen, chunk_of, header_of, key_of, last_chunk, opened_chunk, opened_file, plaintext_under};
+ghost use Rattle.sealed_file.specs.Reader.{EndsAt, IsMessageOf, IsReadable, LengthRefuses, ReaderRefuses, file_from, message_len};
+ghost use Rattle.sealed_file.specs.Refusals.{ChunkRefuses, FailsInMemory, HeaderRefuses, RefusesChunk};
 
-use crate::chunk::{CHUNK_LEN, MAX_CHUNKS, SEALED_CHUNK_LEN, open_chunk};
+use crate::chunk::{CHUNK_LEN, MAX_CHUNKS, SEALED_CHUNK_LEN, open_ciphertext};
 use crate::error::FileError;
 use crate::header::{ChunkCipher, HEADER_LEN, VERSION, cipher_of};
 use crate::key::FileKey;
-use crate::stream::{read_header, read_piece};
+use crate::read_at::{ReadAt, copy_from};
 use aead_ciphers::aead::MAX_TAG_LEN;
 use std::alloc::Global;
-use std::io::{Read, Seek, SeekFrom};
 use std::marker::Model;
+
+/// Where the chunks of a sealed file are in the input.
+#[derive(Clone, Copy)]
+struct Layout {
+    /// The position of the sealed file.
+    start: u64,
+    /// The number of the last chunk.
+    last: u32,
+    /// The length of the last chunk's message.
+    last_len: usize,
+}
 
 /// A sealed file that is read at any position.
 ///
@@ -28,25 +39,30 @@ use std::marker::Model;
 /// assert_eq!(rt; reader.len(), LEN as u64);
 /// ```
 #[derive(Drop)]
-pub struct SealedReader<R> {
-    alloc: Global,
+pub struct SealedReader<R: ReadAt> {
     input: R,
-    start: u64,
     cipher: ChunkCipher,
-    last: u32,
-    last_len: usize,
-    number: u32,
-    message: Vec<u8>,
+    layout: Layout,
+    /// The number of the chunk whose message is at the front of the buffer.
+    held: Option<u32>,
+    buffer: Vec<u8>,
 }
 
-impl<R> Model for SealedReader<R> {
-    ghost use Rattle.sealed_file.specs.Reader.{IsReader, ReaderState};
+impl<R: ReadAt> Model for SealedReader<R> {
+    ghost use Rattle.std.specs.Prelude.{◌+◌, ◌*◌};
+    ghost use Rattle.sealed_file.specs.Format.{chunk_len};
+    ghost use Rattle.sealed_file.specs.Reader.{IsReader, ReaderState, file_from};
 
     ghost Value = { ReaderState };
 
-    ghost view = { λ r. record { key = r.cipher; last = r.last; last_len = r.last_len } };
+    ghost view = { λ r. record {
+      key = r.cipher;
+      file = file_from r.layout.start (R.bytes r.input);
+      len = chunk_len * r.layout.last + r.layout.last_len;
+    } };
 
-    ghost invariant = { λ r. IsReader r.cipher r.last r.last_len r.number r.message.items };
+    ghost invariant = { λ r.
+        IsReader r.cipher (file_from r.layout.start (R.bytes r.input)) r.layout.start r.layout.last r.layout.last_len r.held r.buffer.items };
 }
 
 /// The number of the last chunk of a sealed file of this length, and the length of its message.
@@ -55,7 +71,7 @@ pub(crate) fn last_of(sealed_len: u64) -> Result<(u32, usize), FileError>
     ensures last { IfOk result (λ last. last.0 ≡ last_piece sealed_chunk_len (sealed_len - 60)) }
     ensures len { IfOk result (λ last. last.1 ≡ sealed_len - 60 - sealed_chunk_len * last.0 - 16) }
     ensures short { IfOk result (λ last. last.1 ≤ chunk_len) }
-    ensures refused { (s : Secret) → IfErr result (λ error. ReaderRefuses s error) }
+    ensures refused { IfErr result (λ error. LengthRefuses sealed_len error) }
 {
     let Some(body) = sealed_len.checked_sub(HEADER_LEN as u64) else {
         return Err(FileError::EndsEarly);
@@ -81,7 +97,7 @@ fn len_of(number: u32, last: u32, last_len: usize) -> usize
 }
 
 /// The number of the chunk that has a byte of the file, and its place in the chunk's message. Returns `None` past the end.
-fn place_of(offset: u64, last: u32, last_len: usize) -> Option<(u32, usize)>
+fn place_of(offset: u64, last: u32, last_len: usize) -> Option<(u32, u64)>
     requires { last_len ≤ chunk_len }
     ensures known { IsSome result ↔ (offset < chunk_len * last + last_len) }
     ensures number { IfSome result (λ place. place.0 ≡ offset / chunk_len) }
@@ -93,151 +109,268 @@ fn place_of(offset: u64, last: u32, last_len: usize) -> Option<(u32, usize)>
         return None;
     }
     let number = offset / CHUNK_LEN as u64;
-    Some((number as u32, (offset % CHUNK_LEN as u64) as usize))
+    Some((number as u32, offset % CHUNK_LEN as u64))
 }
 
-/// Copies the bytes from `at` on into the front of `buf`, as many as there are and fit, and returns how many.
-fn copy_from(bytes: &[u8], at: usize, buf: &mut [u8]) -> usize
-    requires { at ≤ length bytes.now }
-    ensures count { result ≡ min (length buf.old) (length bytes.now - at) }
-    ensures copied { take result buf.new ≡ take result (drop at bytes.now) }
-    ensures rest { drop result buf.new ≡ drop result buf.old }
-{
-    let rest = &bytes[at..];
-    let count = rest.len().min(buf.len());
-    buf[..count].copy_from_slice(&rest[..count]);
-    count
-}
-
-/// Reads and opens the chunk with this number of the file that begins at `start`, whose message has `len` bytes.
-fn read_message<R: Read + Seek>(
-    alloc: Global,
-    input: &mut R,
-    start: u64,
-    cipher: &ChunkCipher,
-    number: u32,
-    is_last: bool,
-    len: usize,
-) -> Result<Vec<u8>, FileError>
-    requires { len ≤ chunk_len }
-    ensures opened { IfOk result (λ message. IsMessage cipher.now number is_last message.items) }
-    ensures size { IfOk result (λ message. length message.items ≡ len) }
-    ensures refused { IfErr result (λ error. MessageRefuses cipher.now number is_last error) }
-{
-    let place = HEADER_LEN as u64 + u64::from(number) * SEALED_CHUNK_LEN as u64;
-    let mut chunk = Vec::new(alloc);
-    input.seek(SeekFrom::Start(start.saturating_add(place)))?;
-    read_piece(input, len + MAX_TAG_LEN, &mut chunk)?;
-    open_chunk(cipher, number, is_last, &mut chunk)?;
-    if chunk.len() != len {
-        return Err(FileError::EndsEarly);
-    }
-    Ok(chunk)
-}
-
-/// Reads the header of the file that begins at `start`. Returns the key of its chunks, and the length of the sealed file.
-fn begin<R: Read + Seek>(
-    alloc: Global,
+/// Reads the header of the file that begins at `start`, and returns the key of its chunks.
+fn begin<R: ReadAt>(
     input: &mut R,
     start: u64,
     key: &FileKey,
     aad: &[u8],
-) -> Result<(ChunkCipher, u64), FileError>
+) -> Result<ChunkCipher, FileError>
     requires { length aad.now ≤ 4096 }
-    ensures header { IfOk result (λ begun. (header : List ℕ)
-        × HasHeader (secret key.now aad.now) header
-        × (begun.0 ≡ chunk_key (secret key.now aad.now) header)) }
-    ensures refused { IfErr result (λ error. ReaderRefuses (secret key.now aad.now) error) }
+    ensures accepted { IfSome (file_from start (R.bytes input.old)) (λ file.
+        IsOk result ↔ HasHeader (secret key.now aad.now) (header_of file)) }
+    ensures key { IfSome (file_from start (R.bytes input.old)) (λ file.
+        IfOk result (λ cipher. cipher ≡ key_of (secret key.now aad.now) file)) }
+    ensures refused { IfSome (file_from start (R.bytes input.old)) (λ file.
+        IfErr result (λ error. HeaderRefuses (secret key.now aad.now) (header_of file) error)) }
+    ensures same { R.bytes input.new ≡ R.bytes input.old }
 {
-    let mut header = Vec::new(alloc);
-    input.seek(SeekFrom::Start(start))?;
-    read_header(input, &mut header)?;
-    let cipher = cipher_of(VERSION, key, aad, &header)?;
-    let end = input.seek(SeekFrom::End(0))?;
-    Ok((cipher, end.saturating_sub(start)))
+    let mut header = [0; HEADER_LEN];
+    let count = input.read_at(start, &mut header)?;
+    cipher_of(VERSION, key, aad, &header[..count])
 }
 
-impl<R: Read + Seek + Drop> SealedReader<R> {
+/// The length of the sealed file that begins at `start`.
+fn sealed_len_of<R: ReadAt>(input: &mut R, start: u64) -> Result<u64, FileError>
+    ensures known { IfSome (file_from start (R.bytes input.old)) (λ file. IsOk result) }
+    ensures value { IfSome (file_from start (R.bytes input.old)) (λ file. IfOk result (λ n. n ≡ length file)) }
+    ensures fits { IfOk result (λ n. 0 < n → start + n < 2 ^ 64) }
+    ensures same { R.bytes input.new ≡ R.bytes input.old }
+{
+    let end = input.size()?;
+    Ok(end.saturating_sub(start))
+}
+
+/// Where the chunks are of the sealed file that begins at `start`, by its length.
+fn layout_of<R: ReadAt>(input: &mut R, start: u64) -> Result<Layout, FileError>
+    ensures accepted { IfSome (file_from start (R.bytes input.old)) (λ file. IsOk result ↔ IsSealedLen (length file)) }
+    ensures ends { IfSome (file_from start (R.bytes input.old)) (λ file.
+        IfOk result (λ layout. EndsAt file layout.last layout.last_len)) }
+    ensures start { IfOk result (λ layout. layout.start ≡ start) }
+    ensures few { IfOk result (λ layout. layout.last < 2 ^ 32 - 1) }
+    ensures short { IfOk result (λ layout. layout.last_len ≤ chunk_len) }
+    ensures fits { IfOk result (λ layout. start + 60 + sealed_chunk_len * layout.last + layout.last_len + 16 < 2 ^ 64) }
+    ensures refused { IfSome (file_from start (R.bytes input.old)) (λ file.
+        IfErr result (λ error. LengthRefuses (length file) error)) }
+    ensures same { R.bytes input.new ≡ R.bytes input.old }
+{
+    let sealed_len = sealed_len_of(input, start)?;
+    let (last, last_len) = last_of(sealed_len)?;
+    Ok(Layout {
+        start,
+        last,
+        last_len,
+    })
+}
+
+/// Fills `buf` with the bytes from `at` on. Fails with `EndsEarly` if there are fewer.
+fn fill_from<R: ReadAt>(input: &mut R, at: u64, buf: &mut [u8]) -> Result<(), FileError>
+    ensures len { length buf.new ≡ length buf.old }
+    ensures known { IfSome (R.bytes input.old) (λ all. length buf.old ≤ length all - at → IsOk result) }
+    ensures value { IfSome (R.bytes input.old) (λ all. OnOk result (buf.new ≡ take (length buf.old) (drop at all))) }
+    ensures same { R.bytes input.new ≡ R.bytes input.old }
+{
+    let count = input.read_at(at, buf)?;
+    if count < buf.len() {
+        return Err(FileError::EndsEarly);
+    }
+    Ok(())
+}
+
+/// Opens a sealed chunk of at most `CHUNK_LEN` bytes and its tag, whose message is then in front.
+fn open_slice(
+    cipher: &ChunkCipher,
+    number: u32,
+    is_last: bool,
+    sealed: &mut [u8],
+) -> Result<(), FileError>
+    requires { length sealed.old ≤ sealed_chunk_len }
+    ensures accepted { IsOk result ↔ HasTag cipher.now number is_last sealed.old }
+    ensures opened { OnOk result (take (length sealed.old - 16) sealed.new ≡ opened_chunk cipher.now number is_last sealed.old) }
+    ensures refused { IfErr result (λ error. ChunkRefuses cipher.now number is_last sealed.old error) }
+    ensures len { length sealed.new ≡ length sealed.old }
+{
+    let Some(tag) = sealed.last_chunk::<MAX_TAG_LEN>() else {
+        return Err(FileError::EndsEarly);
+    };
+    let tag = *tag;
+    let len = sealed.len() - MAX_TAG_LEN;
+    open_ciphertext(cipher, number, is_last, &tag, &mut sealed[..len])
+}
+
+/// Reads a sealed chunk of at most `SEALED_CHUNK_LEN` bytes from `at` on and opens it, so that its message is in front.
+fn open_from<R: ReadAt>(
+    input: &mut R,
+    at: u64,
+    cipher: &ChunkCipher,
+    number: u32,
+    is_last: bool,
+    sealed: &mut [u8],
+) -> Result<(), FileError>
+    requires { length sealed.old ≤ sealed_chunk_len }
+    ensures accepted { IfSome (R.bytes input.old) (λ all. length sealed.old ≤ length all - at
+        → (IsOk result ↔ HasTag cipher.now number is_last (take (length sealed.old) (drop at all)))) }
+    ensures opened { IfSome (R.bytes input.old) (λ all. length sealed.old ≤ length all - at → OnOk result
+        (take (length sealed.old - 16) sealed.new ≡ opened_chunk cipher.now number is_last (take (length sealed.old) (drop at all)))) }
+    ensures refused { IfSome (R.bytes input.old) (λ all. length sealed.old ≤ length all - at → IfErr result (λ error.
+        ChunkRefuses cipher.now number is_last (take (length sealed.old) (drop at all)) error)) }
+    ensures len { length sealed.new ≡ length sealed.old }
+    ensures same { R.bytes input.new ≡ R.bytes input.old }
+{
+    fill_from(input, at, sealed)?;
+    open_slice(cipher, number, is_last, sealed)
+}
+
+/// Reads and opens the chunk with this number, so that its message is at the front of `buffer`.
+fn open_chunk_of<R: ReadAt>(
+    input: &mut R,
+    layout: Layout,
+    cipher: &ChunkCipher,
+    number: u32,
+    buffer: &mut [u8],
+) -> Result<(), FileError>
+    requires in_range { number ≤ layout.last }
+    requires short { layout.last_len ≤ chunk_len }
+    requires fits { layout.start + 60 + sealed_chunk_len * layout.last + layout.last_len + 16 < 2 ^ 64 }
+    requires room { length buffer.old ≡ sealed_chunk_len }
+    requires ends { IfSome (file_from layout.start (R.bytes input.old)) (λ file. EndsAt file layout.last layout.last_len) }
+    ensures accepted { IfSome (file_from layout.start (R.bytes input.old)) (λ file.
+        IsOk result ↔ HasTagUnder cipher.now file number) }
+    ensures message { IfSome (file_from layout.start (R.bytes input.old)) (λ file. OnOk result
+        (IsMessageOf cipher.now file number (take (message_len layout.last layout.last_len number) buffer.new))) }
+    ensures refused { IfSome (file_from layout.start (R.bytes input.old)) (λ file.
+        IfErr result (λ error. RefusesChunk cipher.now file number error)) }
+    ensures len { length buffer.new ≡ sealed_chunk_len }
+    ensures same { R.bytes input.new ≡ R.bytes input.old }
+{
+    let len = len_of(number, layout.last, layout.last_len) + MAX_TAG_LEN;
+    let at = layout.start + HEADER_LEN as u64 + u64::from(number) * SEALED_CHUNK_LEN as u64;
+    open_from(
+        input,
+        at,
+        cipher,
+        number,
+        number == layout.last,
+        &mut buffer[..len],
+    )
+}
+
+impl<R: ReadAt + Drop> SealedReader<R> {
     /// Begins to read the sealed file that `input` has from byte `start` on, up to its end.
     ///
     /// Compares the commitment in the header, and opens the last chunk as the last, so that a file that was cut is refused here
     /// and its length is authentic. The other chunks are opened as they are read.
     ///
     /// `aad` is what the file is bound to, at most `MAX_AAD_LEN` bytes. Fails with the errors of `open` for the header and the last
-    /// chunk.
+    /// chunk, with `TooLong` or `EndsEarly` if no sealed file has this length, with `Io` if reading fails, and with `OutOfMemory`.
     pub fn new(
         alloc: Global,
         key: &FileKey,
         aad: &[u8],
-        mut input: R,
+        input: R,
         start: u64,
     ) -> Result<SealedReader<R>, FileError>
         requires { length aad.now ≤ 4096 }
-        ensures header { IfOk result (λ reader. (header : List ℕ)
-            × HasHeader (secret key.now aad.now) header
-            × (reader.key ≡ chunk_key (secret key.now aad.now) header)) }
-        ensures refused { IfErr result (λ error. ReaderRefuses (secret key.now aad.now) error) }
+        ensures file { IfOk result (λ reader. reader.file ≡ file_from start (R.bytes input)) }
+        ensures accepted { IfSome (file_from start (R.bytes input)) (λ file.
+            IsOk result → IsReadable (secret key.now aad.now) file) }
+        ensures key { IfSome (file_from start (R.bytes input)) (λ file. IfOk result (λ reader.
+            reader.key ≡ key_of (secret key.now aad.now) file)) }
+        ensures len { IfSome (file_from start (R.bytes input)) (λ file. IfOk result (λ reader.
+            reader.len ≡ length (opened_file (secret key.now aad.now) file))) }
+        ensures refused { IfSome (file_from start (R.bytes input)) (λ file. IfErr result (λ error.
+            FailsInMemory ⊤ (ReaderRefuses (secret key.now aad.now) file) error)) }
     {
-        let (cipher, sealed_len) = begin(alloc, &mut input, start, key, aad)?;
-        let (last, last_len) = last_of(sealed_len)?;
-        let message = read_message(alloc, &mut input, start, &cipher, last, true, last_len)?;
+        let buffer = Vec::with_capacity(alloc, SEALED_CHUNK_LEN)?;
+        SealedReader::with_buffer(key, aad, input, start, buffer)
+    }
+
+    /// `new`, except that the reader works in `buffer`, whose bytes it overwrites: it allocates nothing if the capacity of `buffer`
+    /// is at least `SEALED_CHUNK_LEN`, and fails with `OutOfMemory` only if it is less and cannot grow.
+    pub fn with_buffer(
+        key: &FileKey,
+        aad: &[u8],
+        mut input: R,
+        start: u64,
+        mut buffer: Vec<u8>,
+    ) -> Result<SealedReader<R>, FileError>
+        requires { length aad.now ≤ 4096 }
+        ensures file { IfOk result (λ reader. reader.file ≡ file_from start (R.bytes input)) }
+        ensures readable { IfSome (file_from start (R.bytes input)) (λ file.
+            IsOk result → IsReadable (secret key.now aad.now) file) }
+        ensures accepted { IfSome (file_from start (R.bytes input)) (λ file. sealed_chunk_len ≤ vec_capacity buffer
+            → (IsOk result ↔ IsReadable (secret key.now aad.now) file)) }
+        ensures key { IfSome (file_from start (R.bytes input)) (λ file. IfOk result (λ reader.
+            reader.key ≡ key_of (secret key.now aad.now) file)) }
+        ensures len { IfSome (file_from start (R.bytes input)) (λ file. IfOk result (λ reader.
+            reader.len ≡ length (opened_file (secret key.now aad.now) file))) }
+        ensures refused { IfSome (file_from start (R.bytes input)) (λ file. IfErr result (λ error.
+            FailsInMemory (vec_capacity buffer < sealed_chunk_len) (ReaderRefuses (secret key.now aad.now) file) error)) }
+    {
+        let cipher = begin(&mut input, start, key, aad)?;
+        let layout = layout_of(&mut input, start)?;
+        buffer.resize(SEALED_CHUNK_LEN, 0)?;
+        open_chunk_of(&mut input, layout, &cipher, layout.last, &mut buffer)?;
         Ok(SealedReader {
-            alloc,
             input,
-            start,
             cipher,
-            last,
-            last_len,
-            number: last,
-            message,
+            layout,
+            held: Some(layout.last),
+            buffer,
         })
     }
 
     /// Returns the length of the file.
     pub fn len(&self) -> u64
-        ensures value { result ≡ file_len self.now }
-        ensures authentic { (message : List ℕ) × IsMessage self.now.key self.now.last true message
-            × (length message ≡ self.now.last_len) }
+        ensures value { result ≡ self.now.len }
+        ensures opened { IfSome self.now.file (λ file. result ≡ length (plaintext_under self.now.key file)) }
+        ensures authentic { IfSome self.now.file (λ file. HasTagUnder self.now.key file (last_chunk file)) }
     {
-        u64::from(self.last) * CHUNK_LEN as u64 + self.last_len as u64
+        u64::from(self.layout.last) * CHUNK_LEN as u64 + self.layout.last_len as u64
     }
 
     /// Reads bytes of the file from `offset` on into the front of `buf`, and returns how many: at least one, unless `offset` is
     /// at or past the end or `buf` is empty, and at most up to the end of a chunk.
     ///
-    /// Fails with the errors of `open` for the chunk, and with `EndsEarly` if the input has become shorter. `buf` is then
-    /// unchanged, and the reader can still be used.
+    /// It allocates nothing. Fails with the errors of `open` for the chunk, with `EndsEarly` if the input has become shorter, and
+    /// with `Io` if reading fails. `buf` is then unchanged, and the reader can still be used.
     pub fn read_at(&mut self, offset: u64, buf: &mut [u8]) -> Result<usize, FileError>
+        ensures nothing { (length buf.old ≡ 0) ⊎ (self.old.len ≤ offset) → IsOk result }
         ensures count { IfOk result (λ n. n ≡ min (length buf.old)
-            (min (file_len self.old - offset) (chunk_len - offset % chunk_len))) }
-        ensures authentic { IfOk result (λ n. 0 < n → (message : List ℕ)
-            × IsMessage self.old.key (offset / chunk_len) (offset / chunk_len == self.old.last) message
-            × (take n buf.new ≡ take n (drop (offset % chunk_len) message))) }
+            (min (self.old.len - offset) (chunk_len - offset % chunk_len))) }
+        ensures accepted { IfSome self.old.file (λ file. 0 < length buf.old → offset < self.old.len
+            → (IsOk result ↔ HasTagUnder self.old.key file (offset / chunk_len))) }
+        ensures opened { IfSome self.old.file (λ file. IfOk result (λ n.
+            take n buf.new ≡ take n (drop offset (plaintext_under self.old.key file)))) }
         ensures rest { IfOk result (λ n. drop n buf.new ≡ drop n buf.old) }
-        ensures refused { IfErr result (λ error. MessageRefuses self.old.key (offset / chunk_len)
-            (offset / chunk_len == self.old.last) error) }
+        ensures refused { IfSome self.old.file (λ file. IfErr result (λ error.
+            RefusesChunk self.old.key file (offset / chunk_len) error)) }
         ensures kept { OnErr result (buf.new ≡ buf.old) }
         ensures same { self.new ≡ self.old }
     {
-        let Some((number, at)) = place_of(offset, self.last, self.last_len) else {
+        let Layout { last, last_len, .. } = self.layout;
+        let Some((number, at)) = place_of(offset, last, last_len) else {
             return Ok(0);
         };
-        if number == self.number {
-            return Ok(copy_from(&self.message, at, buf));
+        if buf.is_empty() {
+            return Ok(0);
         }
-        let len = len_of(number, self.last, self.last_len);
-        let message = read_message(
-            self.alloc,
+        let len = len_of(number, last, last_len);
+        if self.held == Some(number) {
+            return Ok(copy_from(&self.buffer[..len], at, buf));
+        }
+        self.held = None;
+        open_chunk_of(
             &mut self.input,
-            self.start,
+            self.layout,
             &self.cipher,
             number,
-            number == self.last,
-            len,
+            &mut self.buffer,
         )?;
-        let count = copy_from(&message, at, buf);
-        self.number = number;
-        self.message = message;
-        Ok(count)
+        self.held = Some(number);
+        Ok(copy_from(&self.buffer[..len], at, buf))
     }
 }

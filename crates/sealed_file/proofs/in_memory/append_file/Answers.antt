@@ -1,6 +1,6 @@
 use Rattle.std.proofs.Common.{◌≡◌, true, false, Some, length, arith, ap, refl, ◌==◌, eq-eqb, ne_eqb, length-append, []}
 use Rattle.std.proofs.lemmas.Result.{err_from_is_err_and}
-use Rattle.sealed_file.specs.Opening.{opened_chunks}
+use Rattle.sealed_file.specs.Opening.{key_of, opened_chunks}
 use Rattle.sealed_file.specs.Format.{secret}
 use Rattle.sealed_file.proofs
 use proofs.InMemoryLemmas.{chunk_fails, front_through, open_fits}
@@ -30,7 +30,7 @@ append_opened-requires-clause-room c =
     let more = length-append c.args.out.now.items (opened_chunks (secret c.args.key.now []) c.args.sealed.now c.loop-number.number) in
     omega (
       arith,
-      open_fits (secret c.args.key.now []) c.args.sealed.now c.loop-number.number s.in_range,
+      open_fits (key_of (secret c.args.key.now []) c.args.sealed.now) c.args.sealed.now c.loop-number.number s.in_range,
       ap length s.written,
       more,
       ap length c.chunk_of-chunk.ensures,

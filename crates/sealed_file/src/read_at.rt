@@ -1,0 +1,119 @@
+//! Inputs that are read at any position.
+
+ghost use Rattle.std.specs.Prelude.{ℕ, List, ◌≡◌, ◌-◌, ◌≤◌, Option, length, min, take, drop, IsOk, IfOk, IfSome};
+
+use crate::stream::fill;
+use std::fs::File;
+use std::io::{self, AsBytes, Cursor, Read, Seek, SeekFrom};
+use std::os::unix::fs::FileExt;
+
+/// Bytes that can be read at any position, such as a file or a slice.
+///
+/// A type of which a contract can say what bytes it has defines `bytes`, the ghost member. For another, as a file, it is `None`,
+/// and the clauses say only how many bytes are read at most.
+///
+/// # Examples
+///
+/// Bytes that a program downloads as they are read. From `crates/sealed_file_tests/src/reader.rt`:
+///
+/// ```
+/// ```
+pub trait ReadAt {
+    // The bytes, where they are known.
+    ghost bytes: { Self → Option (List ℕ) };
+
+    /// Returns how many bytes there are.
+    fn size(&mut self) -> io::Result<u64>
+        ensures known { IfSome (bytes self.old) (λ all. IsOk result) }
+        ensures value { IfSome (bytes self.old) (λ all. IfOk result (λ n. n ≡ length all)) }
+        ensures same { bytes self.new ≡ bytes self.old };
+
+    /// Reads the bytes from `at` on into the front of `buf`, and returns how many: fewer than `buf` has only at the end.
+    fn read_at(&mut self, at: u64, buf: &mut [u8]) -> io::Result<usize>
+        ensures within { IfOk result (λ n. n ≤ length buf.new) }
+        ensures known { IfSome (bytes self.old) (λ all. IsOk result) }
+        ensures count { IfSome (bytes self.old) (λ all. IfOk result (λ n. n ≡ min (length buf.old) (length all - at))) }
+        ensures value { IfSome (bytes self.old) (λ all. IfOk result (λ n. take n buf.new ≡ take n (drop at all))) }
+        ensures same { bytes self.new ≡ bytes self.old };
+}
+
+/// The bytes from `at` on, or none if there are fewer.
+fn rest_from(bytes: &[u8], at: u64) -> &[u8]
+    ensures { result.now ≡ drop at bytes.now }
+{
+    if bytes.len() as u64 <= at {
+        &[]
+    } else {
+        &bytes[at as usize..]
+    }
+}
+
+/// Copies the bytes from `at` on into the front of `buf`, as many as there are and fit, and returns how many.
+pub(crate) fn copy_from(bytes: &[u8], at: u64, buf: &mut [u8]) -> usize
+    ensures count { result ≡ min (length buf.old) (length bytes.now - at) }
+    ensures copied { take result buf.new ≡ take result (drop at bytes.now) }
+    ensures rest { drop result buf.new ≡ drop result buf.old }
+{
+    let rest = rest_from(bytes, at);
+    let count = rest.len().min(buf.len());
+    buf[..count].copy_from_slice(&rest[..count]);
+    count
+}
+
+impl ReadAt for &[u8] {
+    ghost use Rattle.std.specs.Prelude.{Some};
+
+    ghost bytes = { λ slice. Some slice.now };
+
+    fn size(&mut self) -> io::Result<u64> {
+        Ok(self.len() as u64)
+    }
+
+    fn read_at(&mut self, at: u64, buf: &mut [u8]) -> io::Result<usize> {
+        let all: &[u8] = *self;
+        Ok(copy_from(all, at, buf))
+    }
+}
+
+impl<T: AsBytes> ReadAt for Cursor<T> {
+    ghost use Rattle.std.specs.Io.Cursor.{cursor_inner};
+
+    ghost bytes = { λ cursor. T.bytes (cursor_inner cursor) };
+
+    fn size(&mut self) -> io::Result<u64> {
+        Ok(self.get_ref().as_byte_slice().len() as u64)
+    }
+
+    fn read_at(&mut self, at: u64, buf: &mut [u8]) -> io::Result<usize> {
+        Ok(copy_from(self.get_ref().as_byte_slice(), at, buf))
+    }
+}
+
+/// The bytes of a file from a position on.
+#[derive(Drop)]
+struct FileFrom<'a> {
+    file: &'a File,
+    at: u64,
+}
+
+impl Read for FileFrom<'_> {
+    fn read(&mut self, buf: &mut [u8]) -> io::Result<usize> {
+        let count = self.file.read_at(buf, self.at)?;
+        self.at = self.at.saturating_add(count as u64);
+        Ok(count)
+    }
+}
+
+impl ReadAt for File {
+    ghost use Rattle.std.specs.Prelude.{None};
+
+    ghost bytes = { λ _. None };
+
+    fn size(&mut self) -> io::Result<u64> {
+        self.seek(SeekFrom::End(0))
+    }
+
+    fn read_at(&mut self, at: u64, buf: &mut [u8]) -> io::Result<usize> {
+        fill(&mut FileFrom { file: self, at }, buf)
+    }
+}
