@@ -1,13 +1,12 @@
 //! Sealed files in memory, and a part of one.
 
-ghost use Rattle.std.specs.Prelude.{◌≡◌, ◌<◌, ◌/◌, ◌%◌, ℕ, Bool, List, [], length, take, drop, IsOk, IfOk, OnErr};
+ghost use Rattle.std.specs.Prelude.{◌≡◌, ◌-◌, ◌%◌, [], length, min, take, drop, IsOk, IfOk, IfSome, OnErr};
 ghost use Rattle.sealed_file.specs.Format.{chunk_len, fresh_key, sealed_file, secret};
-ghost use Rattle.sealed_file.specs.Opening.{HasHeader, IsSealed, chunk_key, opened_file};
-ghost use Rattle.sealed_file.specs.Reader.{IsMessage};
+ghost use Rattle.sealed_file.specs.Opening.{IsSealed, opened_file};
+ghost use Rattle.sealed_file.specs.Reader.{IsReadable, file_from};
 
-use sealed_file::{FileError, FileKey, FileRandom, SealedReader, open_bytes, seal_bytes};
+use sealed_file::{FileError, FileKey, FileRandom, ReadAt, SealedReader, open_bytes, seal_bytes};
 use std::alloc::Global;
-use std::io::{Read, Seek};
 
 /// Seals a file, and returns the sealed file.
 pub fn seal(
@@ -35,7 +34,7 @@ pub fn open(alloc: Global, key: &FileKey, sealed: &[u8]) -> Result<Vec<u8>, File
 
 /// Reads the file whose sealed form begins at byte `start` of `input`, from byte `at` on into the front of `buf`, and returns
 /// how many bytes were read.
-pub fn read_part<R: Read + Seek + Drop>(
+pub fn read_part<R: ReadAt + Drop>(
     alloc: Global,
     key: &FileKey,
     input: R,
@@ -43,10 +42,11 @@ pub fn read_part<R: Read + Seek + Drop>(
     at: u64,
     buf: &mut [u8],
 ) -> Result<usize, FileError>
-    ensures authentic { IfOk result (λ n. 0 < n
-        → (header : List ℕ) × (message : List ℕ) × (is_last : Bool) × HasHeader (secret key.now []) header
-        × IsMessage (chunk_key (secret key.now []) header) (at / chunk_len) is_last message
-        × (take n buf.new ≡ take n (drop (at % chunk_len) message))) }
+    ensures readable { IfSome (file_from start (R.bytes input)) (λ file. IsOk result → IsReadable (secret key.now []) file) }
+    ensures read { IfSome (file_from start (R.bytes input)) (λ file. IfOk result (λ n.
+        take n buf.new ≡ take n (drop at (opened_file (secret key.now []) file)))) }
+    ensures count { IfSome (file_from start (R.bytes input)) (λ file. IfOk result (λ n. n ≡ min (length buf.old)
+        (min (length (opened_file (secret key.now []) file) - at) (chunk_len - at % chunk_len)))) }
     ensures rest { IfOk result (λ n. drop n buf.new ≡ drop n buf.old) }
     ensures kept { OnErr result (buf.new ≡ buf.old) }
 {

@@ -417,6 +417,9 @@ fn pass_part<W: Write>(
 fn of_reading(error: FileError) -> Failure {
     match error {
         FileError::Io(error) => Failure::Io(Place::Input, error),
+        FileError::OutOfMemory => {
+            Failure::Io(Place::Input, io::Error::from(ErrorKind::OutOfMemory))
+        }
         error => Failure::Refused(error),
     }
 }

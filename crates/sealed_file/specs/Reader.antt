@@ -33,7 +33,8 @@ pub record IsMessageOf (k : ChunkKey) (file : List ℕ) (i : ℕ) (message : Lis
 
 -- what holds of every reader: the file ends where its length says, the last chunk has its tag, and the buffer begins with the
 -- message of the chunk that the reader holds
-pub record IsReader (k : ChunkKey) (file : Option (List ℕ)) (start last last_len : ℕ) (held : Option ℕ) (buffer : List ℕ) : Type 0 where
+pub record IsReader (k : ChunkKey) (file : Option (List ℕ)) (start last last_len : ℕ) (held : Option ℕ)
+    (buffer : List ℕ) : Type 0 where
   pub few : last < 2 ^ 32 - 1
   pub short : last_len ≤ chunk_len
   pub fits : start + 60 + sealed_chunk_len * last + last_len + 16 < 2 ^ 64
@@ -43,7 +44,8 @@ pub record IsReader (k : ChunkKey) (file : Option (List ℕ)) (start last last_l
   pub in_range : IfSome held (λ i. i ≤ last)
   pub message : IfSome held (λ i. IfSome file (λ file. IsMessageOf k file i (take (message_len last last_len i) buffer)))
 
--- a file that can be read at any position: its header is right, its length is one of a sealed file, and its last chunk has its tag
+-- a file that can be read at any position: its header is right, its length is one of a sealed file, and its last chunk has its
+-- tag
 pub record IsReadable (s : Secret) (file : List ℕ) : Type 0 where
   pub header : HasHeader s (header_of file)
   pub size : IsSealedLen (length file)

@@ -26,7 +26,7 @@ pub enum FileError {
     Refused(u32),
     /// The file has more than `MAX_CHUNKS` chunks.
     TooLong,
-    /// Allocating memory failed in `seal_bytes`, `open_bytes` or `open_chunk_at`.
+    /// Allocating memory failed in `seal_bytes`, `open_bytes`, `open_chunk_at`, or in making a `SealedReader`.
     OutOfMemory,
     /// Reading or writing failed, or allocating memory failed in `seal` or `open`.
     Io(io::Error),

@@ -9,14 +9,29 @@ use std::os::unix::fs::FileExt;
 
 /// Bytes that can be read at any position, such as a file or a slice.
 ///
-/// A type of which a contract can say what bytes it has defines `bytes`, the ghost member. For another, as a file, it is `None`,
-/// and the clauses say only how many bytes are read at most.
+/// The ghost member `bytes` is the bytes, for a type of which a contract can say what they are. For another, such as a file, it
+/// is `None`: then no clause says what is read, nor that a call succeeds.
 ///
 /// # Examples
 ///
-/// Bytes that a program downloads as they are read. From `crates/sealed_file_tests/src/reader.rt`:
+/// An input that counts its calls. From `crates/sealed_file_tests/src/reader.rt`:
 ///
 /// ```
+/// impl ReadAt for FailingInput<'_> {
+///     ghost use Rattle.std.specs.Prelude.{None};
+///
+///     ghost bytes = { λ _. None };
+///
+///     fn size(&mut self) -> io::Result<u64> {
+///         self.count()?;
+///         self.bytes.size()
+///     }
+///
+///     fn read_at(&mut self, at: u64, buf: &mut [u8]) -> io::Result<usize> {
+///         self.count()?;
+///         self.bytes.read_at(at, buf)
+///     }
+/// }
 /// ```
 pub trait ReadAt {
     // The bytes, where they are known.

@@ -61,8 +61,8 @@ impl<R: ReadAt> Model for SealedReader<R> {
       len = chunk_len * r.layout.last + r.layout.last_len;
     } };
 
-    ghost invariant = { λ r.
-        IsReader r.cipher (file_from r.layout.start (R.bytes r.input)) r.layout.start r.layout.last r.layout.last_len r.held r.buffer.items };
+    ghost invariant = { λ r. IsReader r.cipher (file_from r.layout.start (R.bytes r.input))
+        r.layout.start r.layout.last r.layout.last_len r.held r.buffer.items };
 }
 
 /// The number of the last chunk of a sealed file of this length, and the length of its message.
@@ -213,8 +213,9 @@ fn open_from<R: ReadAt>(
     requires { length sealed.old ≤ sealed_chunk_len }
     ensures accepted { IfSome (R.bytes input.old) (λ all. length sealed.old ≤ length all - at
         → (IsOk result ↔ HasTag cipher.now number is_last (take (length sealed.old) (drop at all)))) }
-    ensures opened { IfSome (R.bytes input.old) (λ all. length sealed.old ≤ length all - at → OnOk result
-        (take (length sealed.old - 16) sealed.new ≡ opened_chunk cipher.now number is_last (take (length sealed.old) (drop at all)))) }
+    ensures opened { IfSome (R.bytes input.old) (λ all. length sealed.old ≤ length all - at
+        → OnOk result (take (length sealed.old - 16) sealed.new
+        ≡ opened_chunk cipher.now number is_last (take (length sealed.old) (drop at all)))) }
     ensures refused { IfSome (R.bytes input.old) (λ all. length sealed.old ≤ length all - at → IfErr result (λ error.
         ChunkRefuses cipher.now number is_last (take (length sealed.old) (drop at all)) error)) }
     ensures len { length sealed.new ≡ length sealed.old }
@@ -264,8 +265,10 @@ impl<R: ReadAt + Drop> SealedReader<R> {
     /// Compares the commitment in the header, and opens the last chunk as the last, so that a file that was cut is refused here
     /// and its length is authentic. The other chunks are opened as they are read.
     ///
-    /// `aad` is what the file is bound to, at most `MAX_AAD_LEN` bytes. Fails with the errors of `open` for the header and the last
-    /// chunk, with `TooLong` or `EndsEarly` if no sealed file has this length, with `Io` if reading fails, and with `OutOfMemory`.
+    /// `aad` is what the file is bound to, at most `MAX_AAD_LEN` bytes.
+    ///
+    /// Fails with the errors of `open` for the header, with `TooLong` or `EndsEarly` if no sealed file has this length, with the
+    /// errors of `open` for the last chunk, with `Io` if reading fails, and with `OutOfMemory` if memory cannot be allocated.
     pub fn new(
         alloc: Global,
         key: &FileKey,
@@ -275,7 +278,7 @@ impl<R: ReadAt + Drop> SealedReader<R> {
     ) -> Result<SealedReader<R>, FileError>
         requires { length aad.now ≤ 4096 }
         ensures file { IfOk result (λ reader. reader.file ≡ file_from start (R.bytes input)) }
-        ensures accepted { IfSome (file_from start (R.bytes input)) (λ file.
+        ensures readable { IfSome (file_from start (R.bytes input)) (λ file.
             IsOk result → IsReadable (secret key.now aad.now) file) }
         ensures key { IfSome (file_from start (R.bytes input)) (λ file. IfOk result (λ reader.
             reader.key ≡ key_of (secret key.now aad.now) file)) }
@@ -288,8 +291,8 @@ impl<R: ReadAt + Drop> SealedReader<R> {
         SealedReader::with_buffer(key, aad, input, start, buffer)
     }
 
-    /// `new`, except that the reader works in `buffer`, whose bytes it overwrites: it allocates nothing if the capacity of `buffer`
-    /// is at least `SEALED_CHUNK_LEN`, and fails with `OutOfMemory` only if it is less and cannot grow.
+    /// `new`, except that the reader works in `buffer`, whose bytes it overwrites. It allocates nothing if the capacity of
+    /// `buffer` is at least `SEALED_CHUNK_LEN`, and fails with `OutOfMemory` only if it is less and cannot grow.
     pub fn with_buffer(
         key: &FileKey,
         aad: &[u8],

@@ -1,12 +1,13 @@
-//! Reading at any position, over a file in memory.
+//! Reading at any position, over a file in memory, and over an input that fails.
 
 use crate::checks::{displays, holds, same};
 use crate::sealed_files::{KEY, file_of};
 use sealed_file::{
-    CHUNK_LEN, FileKey, FileRandom, HEADER_LEN, SEALED_CHUNK_LEN, SealedReader, seal_bytes,
+    CHUNK_LEN, FileError, FileKey, FileRandom, HEADER_LEN, ReadAt, SEALED_CHUNK_LEN, SealedReader,
+    seal_bytes,
 };
 use std::alloc::Global;
-use std::io::Cursor;
+use std::io::{self, Cursor, ErrorKind};
 use std::process::Abort;
 use std::test::Fail;
 
@@ -65,7 +66,6 @@ fn reads(
     Ok(())
 }
 
-// No clause says what a stream gives at a position.
 #[test]
 fn bytes_at_any_place(rt: HostRuntime) -> Result<(), Fail> {
     let file = file_of(rt.alloc(), LEN)?;
@@ -136,4 +136,75 @@ fn a_changed_chunk(rt: HostRuntime) -> Result<(), Fail> {
     same(&rt, &buf, &[0; 4], "the buffer");
     let file = file_of(rt.alloc(), LEN)?;
     reads(&rt, &mut reader, &file, (0, &mut buf), 4)
+}
+
+/// An input of which one call fails with `BrokenPipe`. Later calls succeed.
+#[derive(Drop)]
+struct FailingInput<'a> {
+    bytes: &'a [u8],
+    made: u32,
+    failing: u32,
+}
+
+impl FailingInput<'_> {
+    /// Counts a call, and fails if it is the one that must fail.
+    fn count(&mut self) -> io::Result<()> {
+        let number = self.made;
+        self.made = number.wrapping_add(1);
+        if number == self.failing {
+            return Err(io::Error::from(ErrorKind::BrokenPipe));
+        }
+        Ok(())
+    }
+}
+
+impl ReadAt for FailingInput<'_> {
+    ghost use Rattle.std.specs.Prelude.{None};
+
+    ghost bytes = { λ _. None };
+
+    fn size(&mut self) -> io::Result<u64> {
+        self.count()?;
+        self.bytes.size()
+    }
+
+    fn read_at(&mut self, at: u64, buf: &mut [u8]) -> io::Result<usize> {
+        self.count()?;
+        self.bytes.read_at(at, buf)
+    }
+}
+
+/// Asserts that a call failed with the error of the input.
+fn is_of_the_call<T>(rt: &impl Abort, outcome: &Result<T, FileError>) {
+    let fails =
+        matches!(outcome, Err(FileError::Io(error)) if error.kind() == ErrorKind::BrokenPipe);
+    holds(rt, fails, "the error");
+}
+
+// No clause says which error a call has that fails.
+#[test]
+fn each_failed_call_ends_it(rt: HostRuntime) -> Result<(), Fail> {
+    let sealed = sealed_test_file(rt.alloc())?;
+    let key = FileKey::new(&KEY)?;
+    for failing in 0..3u32 {
+        let input = FailingInput {
+            bytes: &sealed,
+            made: 0,
+            failing,
+        };
+        is_of_the_call(&rt, &SealedReader::new(rt.alloc(), &key, &[], input, 0));
+    }
+    let input = FailingInput {
+        bytes: &sealed,
+        made: 0,
+        failing: 3,
+    };
+    let mut reader = SealedReader::new(rt.alloc(), &key, &[], input, 0)?;
+    let mut buf = [7; 4];
+    is_of_the_call(&rt, &reader.read_at(0, &mut buf));
+    same(&rt, &buf, &[7; 4], "the buffer");
+    let count = reader.read_at(1, &mut buf)?;
+    assert_eq!(rt; count, 4);
+    same(&rt, &buf, &[1, 2, 3, 4], "read");
+    Ok(())
 }
