@@ -32,13 +32,16 @@ pub(crate) fn displays(
     Ok(())
 }
 
-/// Asserts what `{:?}` prints of a value.
+/// Asserts that a value is printed as this text for debugging, also in the alternate form.
 pub(crate) fn prints(
     rt: &(impl Abort + AllocGlobal),
     value: &impl Debug,
     wanted: &str,
 ) -> Result<(), AllocError> {
-    let text = format!(in rt.alloc(); "{value:?}")?;
-    assert_eq!(rt; text.as_str(), wanted);
+    let text = format!(in rt.alloc(); "{value:?} {value:#?}")?;
+    assert_eq!(rt;
+        text.as_str(),
+        format!(in rt.alloc(); "{wanted} {wanted}")?.as_str()
+    );
     Ok(())
 }
