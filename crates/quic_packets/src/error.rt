@@ -14,7 +14,7 @@ const AEAD_LIMIT_REACHED: u64 = 0x0f;
 /// The error of sending or receiving a packet.
 ///
 /// A call that fails leaves the packet and the key unchanged, except with `ReservedBits`, `Duplicate`, `KeyUpdate` and
-/// `NoFrames`: these come after the packet was opened. After `Refused`, the output of `PacketKey::open_to` is the ciphertext.
+/// `NoFrames`: these come after the packet was opened.
 #[derive(Clone, Copy, PartialEq, Eq, Debug, Drop, Error)]
 pub enum PacketError {
     /// The key is not as long as the algorithm's keys.

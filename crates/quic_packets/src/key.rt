@@ -1,6 +1,6 @@
 //! A key that seals and opens packets by their numbers (RFC 9001 section 5.3).
 
-ghost use Rattle.std.specs.Prelude.{◌≡◌, ◌≢◌, ◌+◌, ◌-◌, ◌^◌, ◌<◌, ◌≤◌, ◌↔◌, true, length, take, IsOk, IfOk, IfErr, IsOkUnless, IsErrOf, OnOk, OnErr};
+ghost use Rattle.std.specs.Prelude.{◌≡◌, ◌≢◌, ◌+◌, ◌-◌, ◌^◌, ◌<◌, ◌≤◌, ◌↔◌, true, length, take, IsOk, IfOk, IsOkUnless, IsErrOf, OnOk, OnErr};
 ghost use Rattle.aead_ciphers_base.specs.Aes.{aes};
 ghost use Rattle.aead_ciphers.specs.Algorithm.{key_len};
 ghost use Rattle.aead_ciphers.specs.Counting.{xored_nonce};
@@ -287,8 +287,8 @@ impl PacketKey {
     /// Like `open` from one buffer to another: `sealed` is the ciphertext and its tag, and the payload is written to `out`, which
     /// has 16 bytes fewer.
     ///
-    /// Fails with `OutputLength` if `out` does not have that length, with `TooLong` and `NumbersEnded` as `open` does, and `out`
-    /// is then unchanged. Fails with `Refused` if the tag is wrong, and `out` is then the ciphertext.
+    /// Fails with `OutputLength` if `out` does not have that length, and with `TooLong`, `NumbersEnded` and `Refused` as `open`
+    /// does. `out` is then unchanged.
     pub fn open_to(
         &self,
         number: u64,
@@ -309,8 +309,7 @@ impl PacketKey {
             × ¬ EndsWithTag self.now.bytes (xored_nonce self.now.iv number) header.now sealed.now) }
         ensures opened { OnOk result (out.new ≡ gcm_decrypted (aes self.now.bytes)
             (xored_nonce self.now.iv number) (take (length out.old) sealed.now)) }
-        ensures ciphertext { IsErrOf result PacketError.Refused → out.new ≡ take (length out.old) sealed.now }
-        ensures kept { IfErr result (λ error. error ≢ PacketError.Refused → out.new ≡ out.old) }
+        ensures kept { OnErr result (out.new ≡ out.old) }
     {
         let Some((ciphertext, tag)) = sealed.split_last_chunk::<MAX_TAG_LEN>() else {
             return Err(PacketError::OutputLength);
@@ -319,9 +318,15 @@ impl PacketKey {
             return Err(PacketError::OutputLength);
         }
         check_lengths(header.len(), out.len())?;
-        self.nonce(number)?;
-        out.copy_from_slice(ciphertext);
-        self.open_separate_tag(number, header, out, Tag::from(*tag))
+        let nonce = self.nonce(number)?;
+        let tag = Tag::from(*tag);
+        match self
+            .key
+            .open_to(nonce, Aad::from(header), tag, ciphertext, out)
+        {
+            Ok(()) => Ok(()),
+            Err(_) => Err(PacketError::Refused),
+        }
     }
 
     // The nonce of a packet (RFC 9001 section 5.3).

@@ -16,7 +16,7 @@ use aead_ciphers_wide::aes_gcm::ExpandedKey;
 use std::marker::Model;
 use std::ops::RangeFrom;
 
-/// An AES-GCM key. Unlike a `LessSafeKey` it opens from one buffer to another as well.
+/// An AES-GCM key, whose records have lengths that always fit.
 #[derive(Drop)]
 pub(crate) struct Cipher {
     key: ExpandedKey,

@@ -5,7 +5,7 @@ ghost use Rattle.aead_ciphers_base.specs.Aes.{aes};
 ghost use Rattle.aead_ciphers_base.specs.KeyBytes.{key_bytes};
 ghost use Rattle.aead_ciphers_base.specs.Values.{aad_bytes};
 ghost use Rattle.aead_ciphers.specs.Algorithm.{key_len};
-ghost use Rattle.aead_ciphers.specs.Gcm.{Fits, gcm_encrypted, gcm_tag, Opened, OpenedAttached};
+ghost use Rattle.aead_ciphers.specs.Gcm.{Fits, gcm_decrypted, gcm_encrypted, gcm_tag, Opened, OpenedAttached};
 ghost use Rattle.aead_ciphers.specs.Packet.{PacketFits, sealed_packet, OpenedPacket};
 
 use crate::aes_gcm::ExpandedKey;
@@ -20,7 +20,7 @@ use std::ops::RangeFrom;
 /// An AEAD key whose calls take the nonce as an argument. It is the caller's responsibility that no nonce is used twice
 /// under one key (SP 800-38D section 8).
 ///
-/// Its calls are those of `aead_ciphers::aead::LessSafeKey` with the same names and results.
+/// Its calls with names of `aead_ciphers::aead::LessSafeKey` have the results of those.
 #[derive(Drop)]
 pub struct LessSafeKey {
     key: ExpandedKey,
@@ -175,6 +175,30 @@ impl LessSafeKey {
     {
         self.key
             .open_within_to_front(nonce, aad, in_out, ciphertext_and_tag)
+    }
+
+    /// Opens `ciphertext` with a separate tag, and writes the plaintext to `out`, which must be equally long (SP 800-38D
+    /// algorithm 5).
+    ///
+    /// # Errors
+    ///
+    /// Fails with `Unspecified`, and leaves `out` unchanged, if the lengths exceed the limits of
+    /// `seal_in_place_separate_tag`, or if `tag` is not the tag of the ciphertext and `aad`.
+    pub fn open_to(
+        &self,
+        nonce: Nonce,
+        aad: Aad<'_>,
+        tag: Tag,
+        ciphertext: &[u8],
+        out: &mut [u8],
+    ) -> Result<(), Unspecified>
+        requires { length out.old ≡ length ciphertext.now }
+        ensures accepted { IsOk result ↔ (Fits (length (aad_bytes aad.entry)) (length ciphertext.now)
+            × (tag ≡ gcm_tag (aes self.now.bytes) nonce (aad_bytes aad.entry) ciphertext.now)) }
+        ensures plaintext { OnOk result (out.new ≡ gcm_decrypted (aes self.now.bytes) nonce ciphertext.now) }
+        ensures refused { OnErr result (out.new ≡ out.old) }
+    {
+        self.key.open_to(nonce, aad, tag, ciphertext, out)
     }
 
     /// Opens a packet in place, and returns the length of the plaintext in bytes (SP 800-38D algorithm 5). The packet is
