@@ -79,8 +79,11 @@ pub fn append_to_array<const CAP: usize>(
     aad: Aad<'_>,
     in_out: &mut ArrayVec<u8, CAP>,
 ) -> Result<(), Unspecified>
-    ensures { IsOk result ↔ (Fits (length (aad_bytes aad.entry)) (array_vec_len in_out.old)
+    ensures accepted { IsOk result ↔ (Fits (length (aad_bytes aad.entry)) (array_vec_len in_out.old)
         × (array_vec_len in_out.old + 16 ≤ CAP)) }
+    ensures sealed { OnOk result (in_out.new.items
+        ≡ gcm_sealed (aes key.now.bytes) nonce (aad_bytes aad.entry) in_out.old.items) }
+    ensures refused { OnErr result (in_out.new.items ≡ in_out.old.items) }
 {
     key.seal_in_place_append_tag(nonce, aad, in_out)
 }

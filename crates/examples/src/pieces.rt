@@ -1,16 +1,16 @@
 //! A message that is sealed in pieces of one length, as a stream of chunks is.
 
-ghost use Rattle.std.specs.Prelude.{◌≡◌, ◌↔◌, ◌<◌, length, OnOk, IfOk, IsOk};
+ghost use Rattle.std.specs.Prelude.{◌≡◌, ◌↔◌, ◌<◌, length, OnOk, OnErr, IfOk, IsOk};
 ghost use Rattle.aead_ciphers.specs.Aes.{aes};
 ghost use Rattle.aead_ciphers.specs.Gcm.{Fits, gcm_encrypted, gcm_tag};
 ghost use Rattle.aead_ciphers_base.specs.Values.{aad_bytes};
 ghost use Rattle.aead_ciphers_wide.specs.ExpandedKey.{IsExpanded, bytes_of};
 
 use aead_ciphers::aead::{Aad, Nonce, Tag, Unspecified};
-use aead_ciphers_wide::aes_gcm::ExpandedKey;
+use aead_ciphers_wide::aes_gcm::{ExpandedKey, fits};
 
 /// Seals `in_out` in pieces of `piece_len` bytes, the last of which may be shorter. The ciphertext and the tag are those of
-/// one call.
+/// one call. If the lengths exceed the limits, nothing is sealed.
 pub fn seal_in_pieces(
     key: &ExpandedKey,
     nonce: Nonce,
@@ -25,7 +25,11 @@ pub fn seal_in_pieces(
         (in_out.new ≡ gcm_encrypted (aes (bytes_of key.now)) nonce in_out.old) }
     ensures tag { IfOk result (λ tag. tag
         ≡ gcm_tag (aes (bytes_of key.now)) nonce (aad_bytes aad.entry) in_out.new) }
+    ensures refused { OnErr result (in_out.new ≡ in_out.old) }
 {
+    if !fits(aad.as_ref().len(), in_out.len()) {
+        return Err(Unspecified);
+    }
     let mut state = key.begin(nonce, aad)?;
     let mut done = 0;
     while done < in_out.len() {

@@ -1,8 +1,8 @@
 //! One end of a TLS 1.3 connection, which sends application data and receives the records of a stream.
 
-ghost use Rattle.std.specs.Prelude.{◌≡◌, ◌≢◌, ◌⊎◌, ◌+◌, ◌<◌, ◌≤◌, ◌++◌, ℕ, length, take, slice_range, Err, None, IsTrue, IsOk, IfOk, IfErr, IfSome, OnOk, OnErr, vec_len, vec_capacity};
+ghost use Rattle.std.specs.Prelude.{◌≡◌, ◌≢◌, ◌⊎◌, ◌+◌, ◌<◌, ◌≤◌, ◌++◌, ℕ, length, take, drop, slice_range, Err, None, IsTrue, IsOk, IfOk, IfErr, IfSome, OnOk, OnErr, vec_len, vec_capacity};
 ghost use Rattle.records.specs.Record.{Carries, record_at};
-ghost use Rattle.records.specs.Steps.{Reads};
+ghost use Rattle.records.specs.Steps.{LeavesRefused, Reads};
 ghost use Rattle.records.specs.Stream.{BeginsWith, RefusesToClassify};
 
 use records::{Begins, ContentType, Reader, RecordError, RecordKind, Writer, classify};
@@ -28,6 +28,8 @@ pub fn send(writer: &mut Writer, message: &[u8], out: &mut Vec<u8>) -> Result<()
 /// Receives the first record of a stream, before the peer's Finished message. Opens a protected record to the
 /// front of the buffer, and drops a ChangeCipherSpec. Returns the number of bytes taken, which is 0 if more are
 /// needed, and the content type and length of a record that was opened.
+///
+/// The bytes after those taken are unchanged. Without a protected record, the reader and all bytes are unchanged.
 pub fn receive(
     reader: &mut Reader,
     bytes: &mut [u8],
@@ -51,6 +53,12 @@ pub fn receive(
         → ((received.0 ≡ 0) × (n : ℕ) × BeginsWith bytes.old (Begins.MoreNeeded n))
         ⊎ BeginsWith bytes.old (Begins.Record RecordKind.ChangeCipherSpec received.0)) }
     ensures closed { IsTrue reader.old.is_closed → reader.new ≡ reader.old }
+    ensures unread { ((reader.new ≡ reader.old) × (bytes.new ≡ bytes.old))
+        ⊎ ((len : ℕ) × BeginsWith bytes.old (Begins.Record RecordKind.Protected len)) }
+    ensures kept { IfErr result (λ error. (bytes.new ≡ bytes.old)
+        ⊎ ((len : ℕ) × BeginsWith bytes.old (Begins.Record RecordKind.Protected len)
+        × LeavesRefused reader.old.key reader.old.number (slice_range bytes.old 0 len) 0 bytes.old bytes.new error)) }
+    ensures rest { IfOk result (λ received. drop received.0 bytes.new ≡ drop received.0 bytes.old) }
 {
     match classify(bytes)? {
         Begins::Record(RecordKind::Protected, len) => {

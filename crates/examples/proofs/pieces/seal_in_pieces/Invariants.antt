@@ -10,7 +10,7 @@ invariant-loop-done l = record {
   within : l.done ≤ length l.initial.in_out;
   size : length l.in_out ≡ length l.initial.in_out;
   sealed : (out : List ℕ) × (l.in_out ≡ out ++ drop l.done l.initial.in_out) × (length out ≡ l.done)
-      × HasSealed (aes (bytes_of l.key)) l.fn.nonce (aad_bytes l.aad) (take l.done l.initial.in_out) out l.state;
+      × HasSealed (aes (bytes_of l.key)) l.fn.nonce (aad_bytes l.fn.aad) (take l.done l.initial.in_out) out l.state;
 }
 
 abbrev pub decreases-loop-done : goal.decreases-loop-done
