@@ -1,3 +1,4 @@
 -- The definitions that the contracts use.
+pub mod BoundKey
 pub mod Connection
 pub mod FirstInitial

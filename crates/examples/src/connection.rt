@@ -1,10 +1,11 @@
 //! Two ends of a connection, each with a key that counts its own nonces.
 
-ghost use Rattle.std.specs.Prelude.{◌≡◌, ◌+◌, ◌-◌, ◌^◌, ◌<◌, ◌≤◌, ◌↔◌, [], length, take, vec_capacity, vec_len, is_ok, IsOk, IfOk, OnOk, OnErr};
+ghost use Rattle.std.specs.Prelude.{◌≡◌, ◌+◌, ◌-◌, ◌^◌, ◌<◌, ◌≤◌, ◌↔◌, ◌⊎◌, [], length, take, vec_capacity, vec_len, is_ok, IsOk, IfOk, OnOk, OnErr};
 ghost use Rattle.aead_ciphers.specs.Aes.{aes};
 ghost use Rattle.aead_ciphers.specs.Algorithm.{key_len};
 ghost use Rattle.aead_ciphers.specs.Counting.{next_nonce, prefixed_nonce};
 ghost use Rattle.aead_ciphers.specs.Gcm.{Fits, gcm_decrypted, gcm_encrypted, gcm_sealed, gcm_tag, OpenedAttached};
+ghost use Rattle.examples.specs.BoundKey.{advanced};
 
 use aead_ciphers::aead::{
     Aad, Algorithm, BoundKey, CounterSequence, OpeningKey, SealingKey, Tag, UnboundKey, Unspecified,
@@ -50,8 +51,9 @@ pub fn send(
     ensures sealed { OnOk result (message.new.items ≡ gcm_sealed (aes key.old.key.bytes)
         (next_nonce prefixed_nonce key.old.sequence) aad.now message.old.items) }
     ensures grown { OnOk result (length message.new.items ≡ length message.old.items + 16) }
-    ensures counted { OnOk result (key.new.sequence.used ≡ key.old.sequence.used + 1) }
+    ensures counted { OnOk result (key.new ≡ advanced key.old) }
     ensures refused { OnErr result (message.new.items ≡ message.old.items) }
+    ensures after_error { OnErr result ((key.new ≡ key.old) ⊎ (key.new ≡ advanced key.old)) }
     ensures accepted { key.old.sequence.used < key.old.sequence.count
         → Fits (length aad.now) (vec_len message.old)
         → vec_len message.old + 16 ≤ vec_capacity message.old → IsOk result }
@@ -66,12 +68,12 @@ pub fn send_apart(
 ) -> Result<Tag, Unspecified>
     requires { length message.old ≤ 1000000 }
     ensures accepted { IsOk result ↔ (key.old.sequence.used < key.old.sequence.count) }
-    ensures counted { OnOk result (key.new.sequence.used ≡ key.old.sequence.used + 1) }
+    ensures counted { OnOk result (key.new ≡ advanced key.old) }
     ensures ciphertext { OnOk result (message.new ≡ gcm_encrypted (aes key.old.key.bytes)
         (next_nonce prefixed_nonce key.old.sequence) message.old) }
     ensures tag { IfOk result (λ tag. tag ≡ gcm_tag (aes key.old.key.bytes)
         (next_nonce prefixed_nonce key.old.sequence) [] message.new) }
-    ensures refused { OnErr result (message.new ≡ message.old) }
+    ensures refused { OnErr result ((key.new ≡ key.old) × (message.new ≡ message.old)) }
 {
     key.seal_in_place_separate_tag(Aad::empty(), message)
 }
@@ -90,7 +92,7 @@ pub fn receive(
     ensures plaintext { OnOk result (take (length message.old - 16) message.new ≡ gcm_decrypted (aes key.old.key.bytes)
         (next_nonce prefixed_nonce key.old.sequence) (take (length message.old - 16) message.old)) }
     ensures counted { key.old.sequence.used < key.old.sequence.count
-        → key.new.sequence.used ≡ key.old.sequence.used + 1 }
+        → key.new ≡ advanced key.old }
     ensures used_up { key.old.sequence.count ≤ key.old.sequence.used → key.new ≡ key.old }
     ensures refused { OnErr result (message.new ≡ message.old) }
 {

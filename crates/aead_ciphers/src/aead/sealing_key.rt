@@ -26,12 +26,12 @@ use std::marker::Model;
 /// ) -> Result<Tag, Unspecified>
 ///     requires { length message.old ≤ 1000000 }
 ///     ensures accepted { IsOk result ↔ (key.old.sequence.used < key.old.sequence.count) }
-///     ensures counted { OnOk result (key.new.sequence.used ≡ key.old.sequence.used + 1) }
+///     ensures counted { OnOk result (key.new ≡ advanced key.old) }
 ///     ensures ciphertext { OnOk result (message.new ≡ gcm_encrypted (aes key.old.key.bytes)
 ///         (next_nonce prefixed_nonce key.old.sequence) message.old) }
 ///     ensures tag { IfOk result (λ tag. tag ≡ gcm_tag (aes key.old.key.bytes)
 ///         (next_nonce prefixed_nonce key.old.sequence) [] message.new) }
-///     ensures refused { OnErr result (message.new ≡ message.old) }
+///     ensures refused { OnErr result ((key.new ≡ key.old) × (message.new ≡ message.old)) }
 /// {
 ///     key.seal_in_place_separate_tag(Aad::empty(), message)
 /// }
