@@ -207,9 +207,11 @@ fn sealed_file_of_one_byte(rt: HostRuntime) -> Result<(), Fail> {
     let key = FileKey::new(&[7; 32])?;
     let wanted = hex::decode(rt.alloc(), SEALED)?;
     let random = FileRandom::from_bytes_for_tests([1; 19]);
-    let sealed = sealed_files::seal(rt.alloc(), &key, random, b"a")?;
+    let mut sealed = Vec::new(rt.alloc());
+    sealed_files::seal(&key, random, b"a", &mut sealed)?;
     same(&rt, &sealed, &wanted, "sealed");
-    let opened = sealed_files::open(rt.alloc(), &key, &sealed)?;
+    let mut opened = Vec::new(rt.alloc());
+    sealed_files::open(&key, &sealed, &mut opened)?;
     same(&rt, &opened, b"a", "opened");
     let mut buf = [0; 2];
     let input = Cursor::new(sealed.as_slice());

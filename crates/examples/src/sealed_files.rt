@@ -1,35 +1,40 @@
 //! Sealed files in memory, and a part of one.
 
-ghost use Rattle.std.specs.Prelude.{◌≡◌, ◌-◌, ◌%◌, [], length, min, take, drop, IsOk, IfOk, IfSome, OnErr};
-ghost use Rattle.sealed_file.specs.Format.{chunk_len, fresh_key, sealed_file, secret};
+ghost use Rattle.std.specs.Prelude.{◌≡◌, ◌↔◌, ◌+◌, ◌-◌, ◌^◌, ◌<◌, ◌≤◌, ◌%◌, [], ◌++◌, length, min, take, drop, vec_len, vec_capacity, IsOk, IfOk, IfSome, OnOk, OnErr};
+ghost use Rattle.sealed_file.specs.Format.{chunk_len, fresh_key, last_piece, sealed_file, secret};
 ghost use Rattle.sealed_file.specs.Opening.{IsSealed, opened_file};
 ghost use Rattle.sealed_file.specs.Reader.{IsReadable, file_from};
 
 use sealed_file::{FileError, FileKey, FileRandom, ReadAt, SealedReader, open_bytes, seal_bytes};
 use std::alloc::Global;
 
-/// Seals a file, and returns the sealed file.
+/// Seals a file, and appends the sealed file to `out`. If `out` has room, a file of fewer than 2^32 chunks is sealed.
 pub fn seal(
-    alloc: Global,
     key: &FileKey,
     random: FileRandom,
     file: &[u8],
-) -> Result<Vec<u8>, FileError>
-    ensures sealed { IfOk result (λ sealed. sealed.items ≡ sealed_file (fresh_key (secret key.now []) random) file.now) }
+    out: &mut Vec<u8>,
+) -> Result<(), FileError>
+    ensures accepted { let sealed = sealed_file (fresh_key (secret key.now []) random) file.now in
+        vec_len out.old + length sealed ≤ vec_capacity out.old
+        → (IsOk result ↔ (last_piece chunk_len (length file.now) < 2 ^ 32 - 1)) }
+    ensures sealed { OnOk result (out.new.items
+        ≡ out.old.items ++ sealed_file (fresh_key (secret key.now []) random) file.now) }
+    ensures kept { OnErr result (out.new.items ≡ out.old.items) }
 {
-    let mut sealed = Vec::new(alloc);
-    seal_bytes(key, random, file, &mut sealed)?;
-    Ok(sealed)
+    seal_bytes(key, random, file, out)
 }
 
-/// Opens a sealed file, and returns the file.
-pub fn open(alloc: Global, key: &FileKey, sealed: &[u8]) -> Result<Vec<u8>, FileError>
+/// Opens a sealed file, and appends the file to `out`. If `out` has room, every sealed file is opened.
+pub fn open(key: &FileKey, sealed: &[u8], out: &mut Vec<u8>) -> Result<(), FileError>
+    ensures accepted { let file = opened_file (secret key.now []) sealed.now in
+        vec_len out.old + length file ≤ vec_capacity out.old
+        → (IsOk result ↔ IsSealed (secret key.now []) sealed.now) }
     ensures authentic { IsOk result → IsSealed (secret key.now []) sealed.now }
-    ensures opened { IfOk result (λ file. file.items ≡ opened_file (secret key.now []) sealed.now) }
+    ensures opened { OnOk result (out.new.items ≡ out.old.items ++ opened_file (secret key.now []) sealed.now) }
+    ensures kept { OnErr result (out.new.items ≡ out.old.items) }
 {
-    let mut file = Vec::new(alloc);
-    open_bytes(key, sealed, &mut file)?;
-    Ok(file)
+    open_bytes(key, sealed, out)
 }
 
 /// Reads the file whose sealed form begins at byte `start` of `input`, from byte `at` on into the front of `buf`, and returns
