@@ -373,7 +373,8 @@ impl<R: ReadAt + Drop> SealedReader<R> {
             number,
             &mut self.buffer,
         )?;
+        let count = copy_from(&self.buffer[..len], at, buf);
         self.held = Some(number);
-        Ok(copy_from(&self.buffer[..len], at, buf))
+        Ok(count)
     }
 }

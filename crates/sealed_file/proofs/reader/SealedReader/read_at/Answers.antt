@@ -48,7 +48,7 @@ returns-clause-count g c =
     count_there l.last l.last_len c.args.offset c.self.invariant.short (place.known.0 refl) _ _ _ _ _ (take c.len_of-len.result c.deref-2.result.now)
     (sym (ap (λ (r : ReaderState). r.len) c.self.view_is)) place.number place.at place.in_range
     (omega (arith, length-take c.len_of-len.result c.deref-2.result.now, ap length c.deref-2.ensures.value, c.in_ok-open_chunk_of.ensures.len, short, c.len_of-len.ensures.value))
-    c.copy_from-2.ensures.count
+    c.copy_from-count.ensures.count
 
 pub returns-clause-accepted : goal.returns-clause-accepted
 returns-clause-accepted g c =
@@ -61,15 +61,15 @@ returns-clause-opened g c =
     let l = c.self.inside.layout in
     let place = c.in-Some.ensures in
     let short = c.len_of-len.ensures.short in
-    let n = c.copy_from-2.result in
+    let n = c.copy_from-count.result in
     let new = c.open_chunk_of.new.buffer in
     let own = c.self.inside.buffer in
     let items : take own.len (new ++ drop (length new) own.items) ≡ new =
     take_at new (drop (length new) own.items) own.len (omega (arith, own.ok.0, c.self.invariant.room, c.in_ok-open_chunk_of.ensures.len)) in
-    subst (λ (r : ReaderState). IfSome r.file (λ file. take n c.copy_from-2.new.buf ≡ take n (drop c.args.offset (plaintext_under r.key file))))
+    subst (λ (r : ReaderState). IfSome r.file (λ file. take n c.copy_from-count.new.buf ≡ take n (drop c.args.offset (plaintext_under r.key file))))
     c.self.view_is
     (copied_of _ _ l.last l.last_len c.in-Some.number c.in-Some.at c.args.offset _ (take c.len_of-len.result c.deref-2.result.now) _
     c.self.invariant.ends (rw (c.len_of-len.ensures.value, c.deref-2.ensures.value, items) c.in_ok-open_chunk_of.ensures.message)
     place.number place.at place.in_range
-    (omega (arith, c.copy_from-2.ensures.count, length-take c.len_of-len.result c.deref-2.result.now, short))
-    c.copy_from-2.ensures.copied)
+    (omega (arith, c.copy_from-count.ensures.count, length-take c.len_of-len.result c.deref-2.result.now, short))
+    c.copy_from-count.ensures.copied)
