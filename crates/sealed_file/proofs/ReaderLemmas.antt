@@ -100,7 +100,8 @@ header_read start count all seen count_is seen_is =
           ap (λ n. header_of (take n file)) e ∙ take-take header_len header_len file (omega arith)
     ]
 
-pub of_header : (start count : ℕ) (bytes : Option (List ℕ)) (seen : List ℕ) (Q : List ℕ → Type 0) → IfSome bytes (λ all. count ≡ min header_len (length all - start))
+pub of_header : (start count : ℕ) (bytes : Option (List ℕ)) (seen : List ℕ) (Q : List ℕ → Type 0)
+    → IfSome bytes (λ all. count ≡ min header_len (length all - start))
     → IfSome bytes (λ all. seen ≡ take count (drop start all)) → Q (header_of seen) → IfSome (file_from start bytes) (λ file. Q (header_of file))
 of_header start count None seen Q count_is seen_is q = tt
 of_header start count (Some all) seen Q count_is seen_is q = subst Q (header_read start count all seen count_is seen_is) q
@@ -159,7 +160,8 @@ module _ (all : List ℕ) (start last last_len number len at : ℕ) (ends : Ends
   kind_is = ap (λ n. number == n) ends.last_is
 
   -- what is said of the bytes that were read is said of the chunk
-  pub of_read : (Q : Bool → List ℕ → Type 0) → (len ≤ length all - at → Q (number == last) (take len rest)) → Q (number == last_chunk file) (chunk_of file number)
+  pub of_read : (Q : Bool → List ℕ → Type 0) → (len ≤ length all - at → Q (number == last) (take len rest))
+      → Q (number == last_chunk file) (chunk_of file number)
   of_read Q q = subst (λ l. Q (number == last_chunk file) l) chunk_is (subst (λ b. Q b (take len rest)) kind_is (q enough))
 
 -- and so where the bytes are known
