@@ -14,8 +14,14 @@ returns-then-eq-clause-count g c =
     let short = c.len_of-len.ensures.short in
     count_there l.last l.last_len c.args.offset c.self.invariant.short (place.known.0 refl) _ _ _ _ _ (take c.len_of-len.result c.deref.result.now)
     (sym (ap (λ (r : ReaderState). r.len) c.self.view_is)) place.number place.at place.in_range
-    (omega (arith, length-take c.len_of-len.result c.deref.result.now, ap length c.deref.ensures.value, c.self.invariant.room, short,
-    c.len_of-len.ensures.value))
+    (omega (
+      arith,
+      length-take c.len_of-len.result c.deref.result.now,
+      ap length c.deref.ensures.value,
+      c.self.invariant.room,
+      short,
+      c.len_of-len.ensures.value,
+    ))
     c.copy_from.ensures.count
 
 pub returns-then-eq-clause-opened : goal.returns-then-eq-clause-opened
@@ -48,8 +54,14 @@ returns-clause-count g c =
     let short = c.len_of-len.ensures.short in
     count_there l.last l.last_len c.args.offset c.self.invariant.short (place.known.0 refl) _ _ _ _ _ (take c.len_of-len.result c.deref-2.result.now)
     (sym (ap (λ (r : ReaderState). r.len) c.self.view_is)) place.number place.at place.in_range
-    (omega (arith, length-take c.len_of-len.result c.deref-2.result.now, ap length c.deref-2.ensures.value, c.in_ok-open_chunk_of.ensures.len,
-    short, c.len_of-len.ensures.value))
+    (omega (
+      arith,
+      length-take c.len_of-len.result c.deref-2.result.now,
+      ap length c.deref-2.ensures.value,
+      c.in_ok-open_chunk_of.ensures.len,
+      short,
+      c.len_of-len.ensures.value,
+    ))
     c.copy_from-count.ensures.count
 
 pub returns-clause-accepted : goal.returns-clause-accepted
