@@ -5,8 +5,8 @@ use Rattle.std.proofs.lemmas.Slice.{take-put_mid}
 use borrow.Rule.Slice.PartMut.{put_mid}
 use Rattle.std.proofs.Common.{inl, inr}
 use Rattle.std.proofs.lemmas.Bool.{cases_lt}
-use Rattle.std.proofs.Common.{rules}
-use Rattle.tls_messages.specs.Messages.{message_len, IsMessage, IsPart}
+use Rattle.std.proofs.Common.{max, rules, length-append, subst, IsTrue}
+use Rattle.tls_messages.specs.Messages.{may_come, message_len, Begins, IsExpected, IsMessage, IsPart}
 use Rattle.tls_messages.specs.Steps.{Refuses, RefusesHeader, RefusesMessage}
 use Rattle.tls_messages.specs.declared.stage.Stage.{Stage}
 use Rattle.tls_messages.specs.declared.message_error.MessageError.{MessageError}
@@ -74,8 +74,23 @@ refused_start stage bound n bytes error there inside refused =
     same_header stage bound bytes (take n bytes) error first (len_of_take n bytes there inside) refused
 
 -- so is a whole message
-pub refused_whole : (stage : Stage) (bound : ℕ) (message rest : List ℕ) (error : MessageError) → IsMessage message
-    → RefusesMessage message rest error → Refuses stage bound message rest error
-refused_whole stage bound message rest KeyUpdateRequest whole refused = (whole, refused)
-refused_whole stage bound message rest DataAfterKeys whole refused = (whole, refused)
-refused_whole stage bound message rest error whole refused = absurd refused
+pub refused_whole : (stage : Stage) (bound : ℕ) (part message rest : List ℕ) (error : MessageError) → IsMessage message
+    → IsExpected stage bound message → RefusesMessage message rest error → Refuses stage bound part message rest error
+refused_whole stage bound part message rest KeyUpdateRequest whole expected refused = (whole, expected, refused)
+refused_whole stage bound part message rest DataAfterKeys whole expected refused = (whole, expected, refused)
+refused_whole stage bound part message rest error whole expected refused = absurd refused
+
+-- a message may come if the bytes that it is the front of begin with a header that may
+pub expected_front : (stage : Stage) (bound : ℕ) (bytes message rest : List ℕ) → IsMessage message → bytes ≡ message ++ rest
+    → Begins stage bound bytes → IsExpected stage bound message
+expected_front stage bound bytes message rest whole joined begins =
+    let there : 4 ≤ length (message ++ rest) = omega (arith, length-append message rest, whole.header) in
+    let expected : IsExpected stage bound (message ++ rest) = subst (Begins stage bound) joined begins there in
+    let first : get_or (message ++ rest) 0 0 ≡ get_or message 0 0
+    = get_or_append_left message rest 0 0 (omega (arith, whole.header)) in
+    let len : message_len (message ++ rest) ≡ message_len message = len_of_start message rest whole.header in
+    record {
+      type = subst (λ t. IsTrue (may_come stage t)) first expected.type;
+      update = λ is. sym len ∙ expected.update (first ∙ is);
+      fits = omega (arith, len, expected.fits);
+    }

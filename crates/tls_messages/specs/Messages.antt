@@ -1,9 +1,10 @@
 -- Handshake messages (RFC 8446 section 4), and how they are joined from the contents of records (section 5.1).
 use Rattle.std.specs.Prelude.{◌≡◌, ℕ, zero, suc, ◌+◌, ◌*◌, ◌<◌, ◌≤◌, Bool, cond, leb, ◌&&◌, List, [], ◌∷◌, ◌++◌, length, take, drop, slice_index, ◌==◌, ◌||◌, IsTrue}
-use Rattle.std.specs.Prelude.{not}
+use Rattle.std.specs.Prelude.{false, not}
 use Rattle.std.specs.List.{All, concat}
 use Rattle.tls_messages.specs.declared.stage.Stage.{Stage}
 use Rattle.tls_messages.specs.declared.stage.Stage.TheVariants.{AuthenticatingClient, AuthenticatingServer, Client, Handshake, Server}
+use Rattle.tls_messages.specs.declared.stage.Stage.TheVariants.{QuicClient, QuicHandshake, QuicServer}
 
 -- the length of the message that begins with these 4 bytes: its type, the length of its body in 3 bytes, its body
 abbrev pub message_len : List ℕ → ℕ
@@ -20,13 +21,17 @@ IsPart bytes = 4 ≤ length bytes → length bytes < message_len bytes
 
 -- A message of this type may come at a stage: no KeyUpdate during the handshake (section 4.6.3), and after it NewSessionTicket
 -- from a server, KeyUpdate from both, and with post-handshake authentication CertificateRequest from a server, and Certificate,
--- CertificateVerify and Finished from a client (section 4.6.2)
+-- CertificateVerify and Finished from a client (section 4.6.2). In QUIC, there is no KeyUpdate (RFC 9001 section 6), no
+-- EndOfEarlyData (section 8.3) and no post-handshake authentication (section 4.4)
 abbrev pub may_come : Stage → ℕ → Bool
 may_come Handshake type = not (type == 24)
 may_come Client type = type == 4 || type == 24
 may_come AuthenticatingClient type = type == 4 || type == 24 || type == 13
 may_come Server type = type == 24
 may_come AuthenticatingServer type = type == 24 || type == 11 || type == 15 || type == 20
+may_come QuicHandshake type = not (type == 24) && not (type == 5)
+may_come QuicClient type = type == 4
+may_come QuicServer type = false
 
 -- the header of a message that may come, with a KeyUpdate's body of one byte (section 4.6.3), and no longer than the bound
 pub record IsExpected (stage : Stage) (bound : ℕ) (bytes : List ℕ) : Type 0 where

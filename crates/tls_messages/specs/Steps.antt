@@ -1,9 +1,11 @@
--- One call of a reader, and the alert that an error calls for.
-use Rattle.std.specs.Prelude.{◌≡◌, ◌≢◌, ◌<◌, ◌≤◌, ◌++◌, length, List, [], ℕ, Option, Some, None, Result, Ok, Err, IsFalse, IsTrue, slice_index}
+-- One call of a reader, and the alert and the code that an error calls for.
+use Rattle.std.specs.Prelude.{◌≡◌, ◌≢◌, ◌+◌, ◌^◌, ◌<◌, ◌≤◌, ◌==◌, ◌++◌, max, cond, length, List, [], ℕ, Option, Some, None, Result, Ok, Err}
+use Rattle.std.specs.Prelude.{IsFalse, IsTrue, slice_index}
 use Rattle.std.specs.Borrow.{Bor}
-use Rattle.tls_messages.specs.Messages.{Joining, IsMessage, ChangesKeys, may_come, message_len, part_of}
+use Rattle.tls_messages.specs.Messages.{Joining, IsExpected, IsMessage, ChangesKeys, may_come, message_len, part_of}
 use Rattle.tls_messages.specs.declared.alert.AlertDescription.{AlertDescription}
-use Rattle.tls_messages.specs.declared.alert.AlertDescription.TheVariants.{DecodeError, IllegalParameter, InternalError, UnexpectedMessage}
+use Rattle.tls_messages.specs.declared.alert.AlertDescription.TheVariants.{BadRecordMac, DecodeError, IllegalParameter, InternalError}
+use Rattle.tls_messages.specs.declared.alert.AlertDescription.TheVariants.{RecordOverflow, UnexpectedMessage}
 use Rattle.tls_messages.specs.declared.message_error.MessageError.{MessageError}
 use Rattle.tls_messages.specs.declared.message_error.MessageError.TheVariants.{Closed, DataAfterKeys, Interrupted, KeyUpdateLength}
 use Rattle.tls_messages.specs.declared.message_error.MessageError.TheVariants.{KeyUpdateRequest, TooLong, UnexpectedType}
@@ -18,6 +20,38 @@ alert_of KeyUpdateRequest = Some IllegalParameter
 alert_of DataAfterKeys = Some UnexpectedMessage
 alert_of Interrupted = Some UnexpectedMessage
 alert_of Closed = None
+
+-- the value of a description (section 6)
+abbrev pub alert_code : AlertDescription → ℕ
+alert_code UnexpectedMessage = 10
+alert_code BadRecordMac = 20
+alert_code RecordOverflow = 22
+alert_code IllegalParameter = 47
+alert_code DecodeError = 50
+alert_code InternalError = 80
+
+-- the codes of QUIC: PROTOCOL_VIOLATION and CRYPTO_BUFFER_EXCEEDED (RFC 9000 section 20.1), and CRYPTO_ERROR with an alert
+-- (RFC 9001 section 4.8)
+abbrev pub protocol_violation : ℕ
+protocol_violation = 10
+
+abbrev pub crypto_buffer_exceeded : ℕ
+crypto_buffer_exceeded = 13
+
+abbrev pub crypto_error : AlertDescription → ℕ
+crypto_error alert = 2 ^ 8 + alert_code alert
+
+-- the code that closes a connection of QUIC: bytes of a message after a change of keys (RFC 9001 section 4.1.3) and a
+-- CertificateRequest after the handshake, whose type is 13 (section 4.4), are no error of TLS, and a message that is longer than the
+-- buffer has a code of its own (RFC 9000 section 7.5)
+abbrev pub quic_code_of : MessageError → Option ℕ
+quic_code_of (TooLong len) = Some crypto_buffer_exceeded
+quic_code_of (UnexpectedType type) = Some (cond (type == 13) protocol_violation (crypto_error UnexpectedMessage))
+quic_code_of KeyUpdateLength = Some (crypto_error DecodeError)
+quic_code_of KeyUpdateRequest = Some (crypto_error IllegalParameter)
+quic_code_of DataAfterKeys = Some protocol_violation
+quic_code_of Interrupted = Some (crypto_error UnexpectedMessage)
+quic_code_of Closed = None
 
 -- why a header is rejected
 abbrev pub RefusesHeader : Stage → (bound : ℕ) → List ℕ → MessageError → Type 0
@@ -37,11 +71,14 @@ RefusesMessage message rest DataAfterKeys =
     (slice_index message 0 ≡ 24 → slice_index message 4 ≤ 1) × ChangesKeys message × (rest ≢ [])
 RefusesMessage message rest error = ⊥
 
--- why a reader rejects a content, whose first bytes it keeps, before `rest`: with its part, the header of a message, or a message
-abbrev pub Refuses : Stage → (bound : ℕ) → (kept rest : List ℕ) → MessageError → Type 0
-Refuses stage bound kept rest KeyUpdateRequest = IsMessage kept × RefusesMessage kept rest KeyUpdateRequest
-Refuses stage bound kept rest DataAfterKeys = IsMessage kept × RefusesMessage kept rest DataAfterKeys
-Refuses stage bound kept rest error = (4 ≤ length kept) × RefusesHeader stage bound kept error
+-- Why a reader rejects a content after this part, whose first bytes it keeps with the part, before `rest`: the header of a message,
+-- for which it takes nothing beyond the 4 bytes of the header, or a whole message that may come
+abbrev pub Refuses : Stage → (bound : ℕ) → (part kept rest : List ℕ) → MessageError → Type 0
+Refuses stage bound part kept rest KeyUpdateRequest =
+    IsMessage kept × IsExpected stage bound kept × RefusesMessage kept rest KeyUpdateRequest
+Refuses stage bound part kept rest DataAfterKeys =
+    IsMessage kept × IsExpected stage bound kept × RefusesMessage kept rest DataAfterKeys
+Refuses stage bound part kept rest error = (length kept ≡ max 4 (length part)) × RefusesHeader stage bound kept error
 
 -- neither the bound changes nor which messages may come
 abbrev pub KeepsRules : Joining → Joining → Type 0
@@ -55,4 +92,4 @@ Leaves was content (Ok None) rest now =
     KeepsRules was now × IsFalse now.is_closed × (now.part ≡ part_of (was.part ++ content))
 Leaves was content (Err Closed) rest now = IsTrue was.is_closed × (now ≡ was) × (rest ≡ content)
 Leaves was content (Err error) rest now = KeepsRules was now × IsTrue now.is_closed
-    × Refuses was.stage was.bound now.part rest error × (was.part ++ content ≡ now.part ++ rest)
+    × Refuses was.stage was.bound was.part now.part rest error × (was.part ++ content ≡ now.part ++ rest)

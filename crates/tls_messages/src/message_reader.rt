@@ -1,6 +1,6 @@
 //! Joining messages.
 
-ghost use Rattle.std.specs.Prelude.{◌≡◌, ◌↔◌, ◌+◌, ◌<◌, ◌≤◌, ◌++◌, ◌∷◌, [], length, take, false, IsOk, IfOk, IfErr, IfSome, IsErrOf, IsTrue, IsFalse, IsErr, OnErr, OnOk, IsOkUnless, List, None, slice_index, true, ℕ, ◌≢◌, ⊤};
+ghost use Rattle.std.specs.Prelude.{◌≡◌, ◌↔◌, ◌+◌, ◌<◌, ◌≤◌, ◌++◌, ◌∷◌, [], length, take, false, IsOk, IfOk, IfErr, IfSome, IsErrOf, IsTrue, IsFalse, IsErr, OnErr, OnOk, IsOkUnless, List, None, max, slice_index, true, ℕ, ◌≢◌, ⊤};
 ghost use Rattle.std.specs.Borrow.{sem, follows_so};
 ghost use mathlib.Core.Option.{none};
 ghost use mir.Syntax.{named};
@@ -102,8 +102,8 @@ impl<'b> MessageReader<'b> {
         self.is_closed
     }
 
-    /// Admits a record that is neither a handshake record nor an alert: no message may be cut (RFC 8446 section 5.1). An alert
-    /// may come at any time.
+    /// Admits a record that is not a handshake record: no message may be cut (RFC 8446 section 5.1). An alert is such a record, and
+    /// a ChangeCipherSpec that is dropped (section 5) is none.
     ///
     /// Fails with `Interrupted` if a message is cut, which closes the reader.
     pub fn admit_other_record(&mut self) -> Result<(), MessageError>
@@ -129,7 +129,7 @@ impl<'b> MessageReader<'b> {
     /// continues.
     ///
     /// As soon as the type and the length of a message are there, fails with `UnexpectedType` if a message of this type may
-    /// not come (RFC 8446 sections 4.6.2 and 4.6.3), with `KeyUpdateLength` if it is a KeyUpdate of another length, and with
+    /// not come (RFC 8446 sections 4.6.2 and 4.6.3, RFC 9001 sections 4.4, 6 and 8.3), with `KeyUpdateLength` if it is a KeyUpdate of another length, and with
     /// `TooLong` if it is longer than the buffer. When it is whole, fails with `KeyUpdateRequest` if it is a KeyUpdate whose
     /// byte is neither 0 nor 1, and with `DataAfterKeys` if the content continues after a ClientHello, ServerHello,
     /// EndOfEarlyData, Finished or KeyUpdate.
@@ -172,7 +172,7 @@ impl<'b> MessageReader<'b> {
         ensures begins { IsOk result
             → Begins self.old.stage self.old.bound (self.old.part ++ content.old.now) }
         ensures refused { IsFalse self.old.is_closed → IfErr result (λ error. (self.new.message ≡ [])
-            × Refuses self.old.stage self.old.bound self.new.part content.new.now error) }
+            × Refuses self.old.stage self.old.bound self.old.part self.new.part content.new.now error) }
         ensures closed { IsTrue self.old.is_closed → IsErrOf result MessageError.Closed
             × (self.new ≡ self.old) × (content.new.now ≡ content.old.now) }
         ensures closes { IsTrue self.new.is_closed ↔ IsErr result }
@@ -227,8 +227,8 @@ fn next_message(
         × (messages_of (take filled.old buffer.old ++ content.old.now) ≡ [])
         × (part_of (take filled.old buffer.old ++ content.old.now) ≡ take filled.new buffer.new)) }
     ensures begins { IsOk result → Begins stage (length buffer.old) (take filled.old buffer.old ++ content.old.now) }
-    ensures refused { IfErr result
-        (Refuses stage (length buffer.old) (take filled.new buffer.new) content.new.now) }
+    ensures refused { IfErr result (Refuses stage (length buffer.old) (take filled.old buffer.old)
+        (take filled.new buffer.new) content.new.now) }
 {
     let is_whole = join(stage, buffer, filled, content)?;
     if is_whole {
@@ -275,8 +275,8 @@ fn join(
         × (messages_of (take filled.old buffer.old ++ content.old.now) ≡ [])
         × (part_of (take filled.old buffer.old ++ content.old.now) ≡ take filled.new buffer.new)) }
     ensures accepted { IsOk result ↔ Begins stage (length buffer.old) (take filled.old buffer.old ++ content.old.now) }
-    ensures refused { IfErr result (λ error. (4 ≤ length (take filled.new buffer.new))
-        × RefusesHeader stage (length buffer.old) (take filled.new buffer.new) error) }
+    ensures refused { IfErr result (RefusesHeader stage (length buffer.old) (take filled.new buffer.new)) }
+    ensures kept { OnErr result (length (take filled.new buffer.new) ≡ max 4 (length (take filled.old buffer.old))) }
 {
     let header_end = MESSAGE_HEADER_LEN.max(*filled);
     *filled += fill(buffer, *filled, header_end, content);

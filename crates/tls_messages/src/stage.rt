@@ -4,10 +4,12 @@ ghost use Rattle.std.specs.Prelude.{◌≡◌};
 ghost use Rattle.tls_messages.specs.Messages.{may_come};
 
 use crate::message_type::{
-    CERTIFICATE, CERTIFICATE_REQUEST, CERTIFICATE_VERIFY, FINISHED, KEY_UPDATE, NEW_SESSION_TICKET,
+    CERTIFICATE, CERTIFICATE_REQUEST, CERTIFICATE_VERIFY, END_OF_EARLY_DATA, FINISHED, KEY_UPDATE,
+    NEW_SESSION_TICKET,
 };
 
-/// A stage of a connection at one end, which decides on the messages that the end may receive.
+/// A stage of a connection at one end, which decides on the messages that the end may receive. Those whose names begin with `Quic`
+/// are for the CRYPTO frames of QUIC.
 #[derive(Clone, Copy, Debug, PartialEq, Eq)]
 pub enum Stage {
     /// The handshake: every message but a KeyUpdate, which must not precede the Finished (RFC 8446 section 4.6.3). In which
@@ -22,6 +24,13 @@ pub enum Stage {
     /// After the handshake, at a server that asks for post-handshake authentication: Certificate, CertificateVerify and
     /// Finished too (section 4.6.2).
     AuthenticatingServer,
+    /// The handshake in QUIC: every message but a KeyUpdate (RFC 9001 section 6) and an EndOfEarlyData (section 8.3).
+    QuicHandshake,
+    /// After the handshake, at a client in QUIC: NewSessionTicket. There is no KeyUpdate (RFC 9001 section 6), and no post-handshake
+    /// authentication (section 4.4).
+    QuicClient,
+    /// After the handshake, at a server in QUIC: no message.
+    QuicServer,
 }
 
 impl Stage {
@@ -44,6 +53,11 @@ impl Stage {
                     || message_type == CERTIFICATE_VERIFY
                     || message_type == FINISHED
             }
+            Stage::QuicHandshake => {
+                message_type != KEY_UPDATE && message_type != END_OF_EARLY_DATA
+            }
+            Stage::QuicClient => message_type == NEW_SESSION_TICKET,
+            Stage::QuicServer => false,
         }
     }
 }

@@ -89,8 +89,7 @@ returns-in_err-len-clause-refused c =
     let m = c.args.filled.now + c.fill.result in
     let there : 4 ≤ m = c.if-filled-lt-MESSAGE_HEADER_LEN.false in
     let inside : m ≤ length c.fill.new.buffer = search rules in
-    let len : length (take m c.fill.new.buffer) ≡ m = length-take-le m c.fill.new.buffer inside in
     let same : length c.fill.new.buffer ≡ length c.args.buffer.now = search rules in
     let refused : RefusesHeader c.args.stage (length c.args.buffer.now) c.fill.new.buffer c.in_err-len.field-0.0
     = subst (λ n. RefusesHeader c.args.stage n c.fill.new.buffer c.in_err-len.field-0.0) same c.in_err-len.ensures.refused in
-    rw (p.1, p.2) (omega (arith, len, there), refused_start _ _ m c.fill.new.buffer _ there inside refused)
+    rw (p.1, p.2) (refused_start _ _ m c.fill.new.buffer _ there inside refused)
