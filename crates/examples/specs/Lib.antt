@@ -1,4 +1,3 @@
 -- The definitions that the contracts use.
 pub mod BoundKey
-pub mod Connection
 pub mod FirstInitial

@@ -12,4 +12,3 @@ pub mod quic_connection;
 pub mod record_stream;
 pub mod sealed_files;
 pub mod streams;
-pub mod tls_connection;

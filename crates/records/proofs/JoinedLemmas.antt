@@ -36,8 +36,8 @@ joins_asked stage bound part is_due asked tokens (says_messages was content left
     let same = of_splits (was ++ content) messages left splits in
     joins_split stage bound was content left messages (map as_asked later) rest same.0 same.1 accepted
     (joins_asked stage bound left (ends_in_update messages) later rest says)
-joins_asked stage bound part is_due asked tokens (says_alert was content padding later rest says) =
-    joins_alert was content (map as_asked later) rest (joins_asked stage bound was false later rest says)
+joins_asked stage bound part is_due asked tokens (says_alert content padding later rest says) =
+    joins_alert content (map as_asked later) rest (joins_asked stage bound [] false later rest says)
 joins_asked stage bound part is_due asked tokens (says_update key iv later rest says) =
     joins_update key iv (map as_asked later) rest (joins_asked stage bound [] false later rest says)
 

@@ -1,3 +1,4 @@
+pub mod ConnectionLemmas
 pub mod ContentLemmas
 mod InnerLemmas
 pub mod JoinedLemmas

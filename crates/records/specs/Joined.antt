@@ -26,8 +26,8 @@ ends_in_update (last ∷ []) = slice_index last 0 == 24
 ends_in_update (first ∷ next ∷ later) = ends_in_update (next ∷ later)
 
 -- A writer is asked to write these bytes and messages. Each handshake content, after the part of a message that was left before it,
--- is whole messages that are accepted, and a part of the next. Only alerts come between the parts of a message. The next key comes
--- after each KeyUpdate, and nowhere else.
+-- is whole messages that are accepted, and a part of the next. No other record comes between the parts of a message. The next key
+-- comes after each KeyUpdate, and nowhere else.
 pub data Says (stage : Stage) (bound : ℕ) : (part : List ℕ) → (is_due : Bool) → List (Event Inner) → List Token → Type 0 where
   says_nothing : Says stage bound [] false [] []
   says_data : (content : List ℕ) (padding : ℕ) (later : List (Event Inner)) (rest : List Token)
@@ -39,8 +39,8 @@ pub data Says (stage : Stage) (bound : ℕ) : (part : List ℕ) → (is_due : Bo
       → Says stage bound left (ends_in_update messages) later rest → Says stage bound part false
       (carries (record { content_type = Handshake; content = content; padding = padding }) ∷ later)
       (map message messages ++ rest)
-  says_alert : (part content : List ℕ) (padding : ℕ) (later : List (Event Inner)) (rest : List Token)
-      → Says stage bound part false later rest → Says stage bound part false
+  says_alert : (content : List ℕ) (padding : ℕ) (later : List (Event Inner)) (rest : List Token)
+      → Says stage bound [] false later rest → Says stage bound [] false
       (carries (record { content_type = Alert; content = content; padding = padding }) ∷ later) rest
   says_update : (key iv : List ℕ) (later : List (Event Inner)) (rest : List Token)
       → Says stage bound [] false later rest → Says stage bound [] true (updates key iv ∷ later) rest
@@ -56,8 +56,8 @@ pub data Joins (stage : Stage) (bound : ℕ) : (part : List ℕ) → (is_due : B
       → Joins stage bound (part_of (part ++ content)) (ends_in_update (messages_of (part ++ content))) later rest
       → Joins stage bound part false (carries (Ok (Handshake, content)) ∷ later)
       (map message (messages_of (part ++ content)) ++ rest)
-  joins_alert : (part content : List ℕ) (later : List (Event Answer)) (rest : List Token)
-      → Joins stage bound part false later rest
-      → Joins stage bound part false (carries (Ok (Alert, content)) ∷ later) rest
+  joins_alert : (content : List ℕ) (later : List (Event Answer)) (rest : List Token)
+      → Joins stage bound [] false later rest
+      → Joins stage bound [] false (carries (Ok (Alert, content)) ∷ later) rest
   joins_update : (key iv : List ℕ) (later : List (Event Answer)) (rest : List Token)
       → Joins stage bound [] false later rest → Joins stage bound [] true (updates key iv ∷ later) rest

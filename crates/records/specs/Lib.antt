@@ -1,7 +1,9 @@
 -- The definitions that the contracts use.
 pub mod Alerts
+pub mod Connection
 pub mod Content
 pub mod EarlyData
+pub mod Handling
 pub mod Joined
 pub mod Keys
 pub mod Record

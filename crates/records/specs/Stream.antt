@@ -33,6 +33,10 @@ BeginsWith bytes (MoreNeeded n) = (length bytes < n) × (length bytes < 5 → n 
 unfoldable pub NeedsMore : List ℕ → Type 0
 NeedsMore bytes = (n : ℕ) × BeginsWith bytes (MoreNeeded n)
 
+-- the bytes begin with a whole protected record of n bytes
+abbrev pub BeginsProtected : List ℕ → (n : ℕ) → Type 0
+BeginsProtected bytes n = BeginsWith bytes (Record Protected n)
+
 -- the first bytes of a stream are records, which are received one after another
 pub data Taken {S : Type 0} (Next : S → List ℕ → S → Type 0) (stream : List ℕ) (first : S) : ℕ → S → Type 0 where
   nothing : Taken Next stream first 0 first
@@ -53,3 +57,8 @@ abbrev pub RefusesToClassify : List ℕ → RecordError → Type 0
 RefusesToClassify bytes UnexpectedRecord = (5 ≤ length bytes) × (RefusesStart (take 5 bytes) UnexpectedRecord
     ⊎ (IsHeaderOf ChangeCipherSpec (take 5 bytes) × (6 ≤ length bytes) × (slice_index bytes 5 ≢ 1)))
 RefusesToClassify bytes error = (5 ≤ length bytes) × RefusesStart (take 5 bytes) error
+
+-- why the bytes begin with no protected record: a connection has no such record, or it is in plaintext
+abbrev pub RefusesProtected : List ℕ → RecordError → Type 0
+RefusesProtected bytes error = RefusesToClassify bytes error
+    ⊎ ((error ≡ UnexpectedRecord) × (kind : RecordKind) × (n : ℕ) × (kind ≢ Protected) × BeginsWith bytes (Record kind n))

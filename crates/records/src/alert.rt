@@ -1,7 +1,7 @@
 //! Alerts that an endpoint sends (RFC 8446 section 6).
 
 ghost use Rattle.std.specs.Prelude.{◌≡◌, ◌+◌, ◌<◌, ◌≤◌, ◌++◌, ◌∷◌, [], vec_len, vec_capacity, IsOkUnless, IsErrOf, IfErr, OnOk, OnErr};
-ghost use Rattle.records.specs.Alerts.{alert_code, close_notify, plaintext_alert_record};
+ghost use Rattle.records.specs.Alerts.{close_notify, fatal_content, plaintext_alert_record};
 ghost use Rattle.records.specs.Record.{IsAllowed, record_at};
 ghost use Rattle.records.specs.Refusals.{RefusesContent};
 
@@ -18,7 +18,7 @@ pub const CLOSE_NOTIFY: [u8; ALERT_LEN] = [1, 0];
 
 /// Returns the content of a fatal alert, after which an endpoint sends nothing more (RFC 8446 section 6.2).
 pub fn fatal_alert(description: AlertDescription) -> [u8; ALERT_LEN]
-    ensures { result ≡ 2 ∷ alert_code description ∷ [] }
+    ensures { result ≡ fatal_content description }
 {
     [2, description as u8]
 }

@@ -7,6 +7,7 @@
 
 mod alert;
 mod cipher;
+pub mod connection;
 mod content_type;
 mod header;
 mod inner;

@@ -81,6 +81,9 @@ pub enum RecordError {
     /// sections 5.1 and 6).
     #[error("an alert does not have 2 bytes")]
     AlertLength,
+    /// The connection has sent close_notify or a fatal alert, after which it sends nothing (RFC 8446 sections 6.1 and 6.2).
+    #[error("the connection has sent its last record")]
+    Ended,
 }
 
 impl RecordError {

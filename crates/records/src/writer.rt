@@ -21,10 +21,10 @@ use std::marker::Model;
 ///
 /// # Examples
 ///
-/// Writes a KeyUpdate, and continues under the next key. From `crates/examples/src/tls_connection.rt`:
+/// Writes a KeyUpdate, and continues under the next key. From `crates/records/src/connection.rt`:
 ///
 /// ```
-/// writer.write(ContentType::Handshake, &KEY_UPDATE_MESSAGE, 0, out)?;
+/// writer.write(ContentType::Handshake, &request.message(), 0, out)?;
 /// writer.update()
 /// ```
 #[derive(Drop)]
@@ -95,6 +95,9 @@ impl Writer {
     }
 
     /// Lowers the number of records under each key to `limit`. A higher limit has no effect.
+    ///
+    /// At its limit, a writer can send neither a KeyUpdate nor close_notify, so the caller keeps the last two numbers of a key for
+    /// them. A [`Connection`](crate::connection::Connection) does so.
     pub fn with_limit(mut self, limit: u64) -> Self
         ensures { result ≡ record self { limit = min self.limit limit } }
     {
@@ -107,6 +110,13 @@ impl Writer {
         ensures { result ≡ self.now.number }
     {
         self.number
+    }
+
+    /// Returns the number of records that may be written under each key.
+    pub fn limit(&self) -> u64
+        ensures { result ≡ self.now.limit }
+    {
+        self.limit
     }
 
     /// Returns how many more records may be written under this key.
@@ -253,6 +263,9 @@ impl Writer {
             → IsOkUnless result RecordError.OutOfMemory }
         ensures room { IsErrOf result RecordError.OutOfMemory
             → vec_capacity out.old < vec_len out.old + length content.now + padding + 22 }
+        ensures capacity { vec_capacity out.old ≤ vec_capacity out.new }
+        ensures len { OnOk result (vec_len out.new
+            ≡ vec_len out.old + length content.now + padding + 22) }
         ensures written { OnOk result (out.new.items ≡ out.old.items
             ++ record_at self.old.key self.old.number
             (record { content_type = content_type; content = content.now; padding = padding })) }
@@ -282,6 +295,9 @@ fn append_unsealed(out: &mut Vec<u8>, content: &[u8], padding: usize) -> Result<
     ensures err { OnErr result (out.new.items ≡ out.old.items) }
     ensures full { OnErr result
         (vec_capacity out.old < vec_len out.old + length content.now + padding + 22) }
+    ensures capacity { vec_capacity out.old ≤ vec_capacity out.new }
+    ensures len { OnOk result
+        (vec_len out.new ≡ vec_len out.old + length content.now + padding + 22) }
 {
     let rest = padding + 1 + TAG_LEN;
     out.reserve(HEADER_LEN + content.len() + rest)?;

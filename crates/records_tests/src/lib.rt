@@ -1,5 +1,5 @@
-//! Tests of the public interfaces of `records` and `tls_messages`, and of the loop in `examples` over both: records of
-//! OpenSSL and of Python's `cryptography`, printed text, and properties that no contract states.
+//! Tests of the public interfaces of `records` and `tls_messages`: records of OpenSSL and of Python's `cryptography`, whole
+//! connections, printed text, and properties that no contract states.
 #![tactic(auto)]
 
 #[cfg(test)]
@@ -20,5 +20,7 @@ mod receiving;
 mod record_layer;
 #[cfg(test)]
 mod secrets;
+#[cfg(test)]
+mod sending;
 #[cfg(test)]
 mod stream;

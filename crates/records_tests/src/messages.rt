@@ -10,11 +10,14 @@ use std::test::Fail;
 use tls_messages::MessageError::{
     Closed, DataAfterKeys, Interrupted, KeyUpdateLength, KeyUpdateRequest, TooLong, UnexpectedType,
 };
-use tls_messages::Stage::{AuthenticatingClient, AuthenticatingServer, Client, Handshake, Server};
+use tls_messages::Stage::{
+    AuthenticatingClient, AuthenticatingServer, Client, Handshake, QuicClient, QuicHandshake,
+    QuicServer, Server,
+};
 use tls_messages::{MessageError, MessageReader, Stage};
 
 /// A stage, the contents of records, and how many messages they are or why they are rejected. The buffer has 16 bytes.
-const CONTENTS: [(Stage, &[&[u8]], Result<usize, MessageError>); 30] = [
+const CONTENTS: [(Stage, &[&[u8]], Result<usize, MessageError>); 37] = [
     (Handshake, &[], Ok(0)),
     (Handshake, &[&[8, 0, 0, 1, 9, 11, 0, 0, 0]], Ok(2)),
     (Handshake, &[&[8], &[0, 0], &[1], &[9], &[11]], Ok(1)),
@@ -73,6 +76,17 @@ const CONTENTS: [(Stage, &[&[u8]], Result<usize, MessageError>); 30] = [
         &[&[13, 0, 0, 0]],
         Err(UnexpectedType(13)),
     ),
+    (
+        QuicHandshake,
+        &[&[8, 0, 0, 0, 13, 0, 0, 0], &[4, 0, 0, 0]],
+        Ok(3),
+    ),
+    (QuicHandshake, &[&[24, 0, 0, 1, 0]], Err(UnexpectedType(24))),
+    (QuicHandshake, &[&[5, 0, 0, 0]], Err(UnexpectedType(5))),
+    (QuicClient, &[&[4, 0, 0, 1, 9, 4, 0, 0, 0]], Ok(2)),
+    (QuicClient, &[&[24, 0, 0, 1, 0]], Err(UnexpectedType(24))),
+    (QuicClient, &[&[13, 0, 0, 0]], Err(UnexpectedType(13))),
+    (QuicServer, &[&[24, 0, 0, 1, 0]], Err(UnexpectedType(24))),
 ];
 
 /// Appends the types of the messages in a content, each of which has bytes of its own.
@@ -139,43 +153,65 @@ fn records_between_parts(rt: HostRuntime) {
     holds(&rt, messages.admit_other_record() == Err(Closed), "closed");
 }
 
-/// Each error with its text, and the number of its alert (RFC 8446 section 6).
-const TEXTS: [(MessageError, &str, u8); 7] = [
+/// Each error with its text, the number of its alert (RFC 8446 section 6), and its code in QUIC.
+const TEXTS: [(MessageError, &str, u8, u64); 8] = [
     (
         TooLong(70000),
         "a handshake message of 70000 bytes is longer than the buffer",
         80,
+        0x0d,
     ),
     (
         UnexpectedType(24),
         "a handshake message of type 24 is not expected",
         10,
+        0x010a,
     ),
-    (KeyUpdateLength, "a KeyUpdate does not have one byte", 50),
-    (KeyUpdateRequest, "a KeyUpdate has an unknown request", 47),
+    (
+        UnexpectedType(13),
+        "a handshake message of type 13 is not expected",
+        10,
+        0x0a,
+    ),
+    (
+        KeyUpdateLength,
+        "a KeyUpdate does not have one byte",
+        50,
+        0x0132,
+    ),
+    (
+        KeyUpdateRequest,
+        "a KeyUpdate has an unknown request",
+        47,
+        0x012f,
+    ),
     (
         DataAfterKeys,
         "a record goes on after a handshake message that changes the keys",
         10,
+        0x0a,
     ),
     (
         Interrupted,
         "a record of another type is between the parts of a handshake message",
         10,
+        0x010a,
     ),
     (
         Closed,
         "the reader is closed, since it has rejected a message",
+        0,
         0,
     ),
 ];
 
 #[test]
 fn texts_and_alerts(rt: HostRuntime) -> Result<(), Fail> {
-    for (error, text, alert) in &TEXTS {
+    for (error, text, alert, code) in &TEXTS {
         displays(&rt, error, text)?;
         let found = error.alert().map_or(0, |alert| alert as u8);
         holds(&rt, found == *alert, text);
+        holds(&rt, error.quic_code().unwrap_or(0) == *code, text);
     }
     Ok(())
 }

@@ -1,17 +1,17 @@
-//! Tests of `examples::tls_connection`: the loop that receives, on what it must follow, reject and pass over, and on connections of
+//! Tests of `records::connection`: what an end receives, on what it must follow, reject and pass over, and on connections of
 //! OpenSSL.
 
 use crate::captured::CAPTURED;
 use crate::checks::{equal, holds, same};
 use crate::connection::{Direction, bytes_of, end_of_handshake};
-use examples::tls_connection::{Incoming, ReceiveError, Received, receive, send};
 use key_derivation::{Secret, Suite};
 use records::ContentType::{Alert, ApplicationData, Handshake};
-use records::{ContentType, RecordError, Writer};
+use records::connection::{Connection, ReceiveError, Received};
+use records::{ContentType, Reader, RecordError, Writer};
 use std::alloc::Global;
 use std::process::Abort;
 use std::test::Fail;
-use tls_messages::{MessageError, MessageReader, Stage};
+use tls_messages::{MessageError, Stage};
 
 /// What a peer does.
 #[derive(Clone, Copy)]
@@ -38,7 +38,7 @@ struct Case {
 
 const TICKET: [u8; 6] = [4, 0, 0, 2, 7, 7];
 
-const CASES: [Case; 16] = [
+const CASES: [Case; 17] = [
     Case {
         what: "a ticket and a KeyUpdate in one record",
         stage: Stage::Client,
@@ -145,7 +145,7 @@ const CASES: [Case; 16] = [
         result: Ok(true),
     },
     Case {
-        what: "an alert between the parts of a message",
+        what: "user_canceled between the parts of a message",
         stage: Stage::Client,
         sent: &[
             Content(Handshake, &[4, 0]),
@@ -153,9 +153,23 @@ const CASES: [Case; 16] = [
             Content(Handshake, &[0, 2, 7, 7]),
         ],
         application_data: b"",
-        messages: &[&TICKET],
+        messages: &[],
         owes_update: false,
-        result: Ok(false),
+        result: Err(ReceiveError::Message(MessageError::Interrupted)),
+    },
+    Case {
+        what: "close_notify between the parts of a message, after a KeyUpdate",
+        stage: Stage::Client,
+        sent: &[
+            Content(Handshake, &[24, 0, 0, 1, 1]),
+            Updated,
+            Content(Handshake, &[4, 0]),
+            Content(Alert, &[1, 0]),
+        ],
+        application_data: b"",
+        messages: &[],
+        owes_update: true,
+        result: Err(ReceiveError::Message(MessageError::Interrupted)),
     },
     Case {
         what: "a fatal alert between the parts of a message",
@@ -247,13 +261,6 @@ fn written(alloc: Global, sent: &[Sent]) -> Result<Vec<u8>, Fail> {
     Ok(bytes)
 }
 
-fn nothing(alloc: Global) -> Received {
-    Received {
-        application_data: Vec::new(alloc),
-        messages: Vec::new(alloc),
-    }
-}
-
 /// Asserts that this was received.
 fn received_is(
     rt: &impl Abort,
@@ -272,23 +279,21 @@ fn received_is(
 /// Receives what the peer of a case does, in one piece, and the same records once more if the connection has ended.
 fn meets(rt: &impl Abort, alloc: Global, case: &Case) -> Result<(), Fail> {
     let mut buffer = [0; 1024];
-    let mut messages = MessageReader::new(&mut buffer, case.stage);
-    let mut incoming = Incoming::new(first_secret());
-    let mut received = nothing(alloc);
-    let mut bytes = written(alloc, case.sent)?;
-    let taken = receive(
-        alloc,
-        &mut incoming,
-        &mut messages,
-        &mut bytes,
-        &mut received,
+    let mut end = Connection::new(
+        Reader::from_secret(first_secret()),
+        Writer::from_secret(first_secret()),
+        &mut buffer,
+        case.stage,
     );
+    let mut received = Received::new(alloc);
+    let mut bytes = written(alloc, case.sent)?;
+    let taken = end.receive(alloc, &mut bytes, &mut received);
     let result = match taken {
-        Ok(_) => Ok(incoming.is_ended),
+        Ok(_) => Ok(end.is_ended()),
         Err(error) => Err(error),
     };
     holds(rt, result == case.result, case.what);
-    holds(rt, incoming.owes_update == case.owes_update, case.what);
+    holds(rt, end.owes_update() == case.owes_update, case.what);
     received_is(
         rt,
         &received,
@@ -296,14 +301,8 @@ fn meets(rt: &impl Abort, alloc: Global, case: &Case) -> Result<(), Fail> {
         case.messages,
         case.what,
     );
-    if incoming.is_ended {
-        let again = receive(
-            alloc,
-            &mut incoming,
-            &mut messages,
-            &mut bytes,
-            &mut received,
-        );
+    if end.is_ended() {
+        let again = end.receive(alloc, &mut bytes, &mut received);
         holds(rt, again == Err(ReceiveError::Ended), "ended");
         received_is(
             rt,
@@ -324,36 +323,9 @@ fn what_peers_do(rt: HostRuntime) -> Result<(), Fail> {
     Ok(())
 }
 
-/// A KeyUpdate that the peer asks for is sent before the next application data, under the old key.
-#[test]
-fn answers_a_key_update(rt: HostRuntime) -> Result<(), Fail> {
-    let mut writer = Writer::from_secret(first_secret());
-    let mut incoming = Incoming::new(first_secret());
-    let mut bytes = Vec::new(rt.alloc());
-    send(&mut writer, &mut incoming, b"before", &mut bytes)?;
-    incoming.owes_update = true;
-    send(&mut writer, &mut incoming, b", and ", &mut bytes)?;
-    holds(&rt, !incoming.owes_update, "answered");
-    send(&mut writer, &mut incoming, b"after", &mut bytes)?;
-    equal(&rt, &writer.number(), &2);
-    let mut buffer = [0; 16];
-    let mut messages = MessageReader::new(&mut buffer, Stage::Server);
-    let mut received = nothing(rt.alloc());
-    receive(
-        rt.alloc(),
-        &mut incoming,
-        &mut messages,
-        &mut bytes,
-        &mut received,
-    )?;
-    received_is(&rt, &received, b"before, and after", &[], "the data");
-    equal(&rt, &incoming.reader.number(), &2);
-    Ok(())
-}
-
 /// Returns what a direction carries after its handshake, without its KeyUpdates.
 fn carried_after_handshake(alloc: Global, direction: &Direction) -> Result<Received, Fail> {
-    let mut wanted = nothing(alloc);
+    let mut wanted = Received::new(alloc);
     for epoch in direction.epochs.get(1..).unwrap_or(&[]) {
         for carried in epoch.records {
             let content = bytes_of(alloc, carried.content)?;
@@ -367,7 +339,7 @@ fn carried_after_handshake(alloc: Global, direction: &Direction) -> Result<Recei
     Ok(wanted)
 }
 
-/// Asserts that the loop receives what one side of a connection sent after its handshake, given its first application traffic
+/// Asserts that an end receives what one side of a connection sent after its handshake, given its first application traffic
 /// secret.
 fn is_received(
     rt: &impl Abort,
@@ -386,21 +358,19 @@ fn is_received(
     } else {
         Suite::Aes256Gcm
     };
-    let mut incoming = Incoming::new(Secret::new(suite, &secret)?);
     let mut buffer = [0; 1024];
-    let mut messages = MessageReader::new(&mut buffer, stage);
-    let mut received = nothing(alloc);
+    let mut end = Connection::new(
+        Reader::from_secret(Secret::new(suite, &secret)?),
+        Writer::from_secret(first_secret()),
+        &mut buffer,
+        stage,
+    );
+    let mut received = Received::new(alloc);
     let from = end_of_handshake(&stream, direction)?;
     let mut rest = stream.get(from..).unwrap_or(&[]).to_vec(alloc)?;
-    let taken = receive(
-        alloc,
-        &mut incoming,
-        &mut messages,
-        &mut rest,
-        &mut received,
-    )?;
+    let taken = end.receive(alloc, &mut rest, &mut received)?;
     equal(rt, &taken, &rest.len());
-    holds(rt, incoming.is_ended, "close_notify");
+    holds(rt, end.is_ended(), "close_notify");
     let wanted = carried_after_handshake(alloc, direction)?;
     same(
         rt,

@@ -711,7 +711,7 @@ fn starting_at(rt: HostRuntime) -> Result<(), Fail> {
 }
 
 /// Each error with its text, and the number of its alert (RFC 8446 section 6).
-const TEXTS: [(RecordError, &str, u8); 22] = [
+const TEXTS: [(RecordError, &str, u8); 23] = [
     (
         RecordError::KeyLength,
         "the key does not have the length of the algorithm's keys",
@@ -813,6 +813,11 @@ const TEXTS: [(RecordError, &str, u8); 22] = [
         RecordError::AlertLength,
         "an alert does not have 2 bytes",
         50,
+    ),
+    (
+        RecordError::Ended,
+        "the connection has sent its last record",
+        0,
     ),
 ];
 

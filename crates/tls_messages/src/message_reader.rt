@@ -22,12 +22,13 @@ use std::marker::Model;
 ///
 /// # Examples
 ///
-/// Takes the messages of one record: follows each KeyUpdate, and appends the others. From `crates/examples/src/tls_connection.rt`:
+/// Takes the messages of one record: follows each KeyUpdate, and appends the others.
+/// From `crates/records/src/connection/receiving.rt`:
 ///
 /// ```
 /// while let Some(message) = messages.next(&mut content)? {
 ///     if message[0] == KEY_UPDATE {
-///         incoming.update(message[4])?;
+///         incoming.update(message[4]);
 ///     } else {
 ///         handed.push(message.to_vec(alloc)?)?;
 ///     }

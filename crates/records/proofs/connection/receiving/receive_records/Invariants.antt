@@ -1,8 +1,8 @@
-use Rattle.std.proofs.Common.{◌≡◌, ◌-◌, ◌≤◌, drop, length, false}
-use Rattle.records.specs.Stream.{Taken}
+use Rattle.std.proofs.Common.{◌≡◌, ◌-◌, ◌≤◌, drop, length, false, IsFalse, vec_capacity}
+use Rattle.records.specs.Connection.{Step, receiving}
 use Rattle.records.specs.Keys.{IsOfSecret}
-use Rattle.examples.specs.Connection.{Step, receiving}
-use Rattle.examples.proofs.tls_connection.receive_records.Given as goal
+use Rattle.records.specs.Stream.{Taken}
+use Rattle.records.proofs.connection.receiving.receive_records.Given as goal
 
 -- the records before `at` are received, and the bytes from there on are as they were
 abbrev pub invariant-loop-len : goal.invariant-loop-len
@@ -14,6 +14,8 @@ invariant-loop-len l = record {
   kept : drop l.at l.bytes ≡ drop l.at l.fn.bytes;
   is_of : IsOfSecret l.incoming.reader.secret l.incoming.reader.key;
   going : l.incoming.is_ended ≡ false;
+  is_open : IsFalse l.messages.is_closed;
+  capacity : vec_capacity l.initial.received.application_data ≤ vec_capacity l.received.application_data;
 }
 
 abbrev pub decreases-loop-len : goal.decreases-loop-len

@@ -1,0 +1,198 @@
+-- What one end of a connection receives and sends.
+use Rattle.std.proofs.Common.{◌≡◌, ◌≢◌, ◌≤◌, ◌+◌, ℕ, Bool, false, ◌||◌, ◌==◌, List, [], ◌∷◌, ◌++◌, length, get_or, take, drop, ◌-◌, ap, sym, subst, ◌∙◌, refl, arith, drop-drop, length-drop, append_assoc, inl, inr, true≢false, IsFalse, Ok, Err}
+use Rattle.std.proofs.lemmas.Bool.{cases_lt, cond-false, cond-true, eq-eqb, eqb-true, false_from_ne_true}
+use Rattle.std.proofs.lemmas.List.{take_rest}
+use Rattle.std.specs.Prelude.{is_ok}
+use Rattle.std.specs.List.{concat}
+use Rattle.records.specs.Connection.{Fails, LeavesRecord, Receiving, Rejects, Step}
+use Rattle.records.specs.Handling.{Handled, Handles, HandlesAll, RejectsData, RejectsMessages, Takes, handle, is_key_update, one_handled}
+use Rattle.records.specs.Keys.{ReaderState, next_reader}
+use Rattle.records.specs.Steps.{Reads}
+use Rattle.records.specs.Stream.{BeginsProtected, RefusesProtected, Taken}
+use Rattle.records.specs.declared.connection.receive_error.ReceiveError.{ReceiveError}
+use Rattle.records.specs.declared.connection.receive_error.ReceiveError.TheVariants.{Message, OutOfMemory, Record}
+use Rattle.records.specs.declared.content_type.ContentType.{ContentType}
+use Rattle.records.specs.declared.record_error.RecordError.{RecordError}
+use Rattle.records.specs.declared.content_type.ContentType.TheVariants.{Alert, ApplicationData}
+use Rattle.std.specs.Borrow.{Bor}
+use Rattle.std.proofs.Common.{Option, Result}
+use Rattle.tls_messages.specs.Messages.{Begins, Joining, IsExpected, IsMessage, IsPart, IsTaken, messages_of, part_of}
+use Rattle.tls_messages.specs.Steps.{Leaves}
+use Rattle.tls_messages.specs.declared.message_error.MessageError.{MessageError}
+use Rattle.tls_messages.specs.declared.message_error.MessageError.TheVariants.{Interrupted}
+use Rattle.tls_messages.specs.declared.stage.Stage.{Stage}
+use Rattle.records.proofs.TakenLemmas.{taken_more}
+use Rattle.tls_messages.proofs.StreamLemmas.{splits_of}
+
+-- a message that a stream begins with
+pub front_message : (stream message rest : List ℕ) → messages_of stream ≡ message ∷ messages_of rest → part_of stream ≡ part_of rest
+    → stream ≡ message ++ rest
+front_message stream message rest first same =
+    (splits_of stream).joined ∙ ap (λ m. concat m ++ part_of stream) first
+    ∙ ap (λ p. (message ++ concat (messages_of rest)) ++ p) same
+    ∙ append_assoc message (concat (messages_of rest)) (part_of rest)
+    ∙ ap (λ r. message ++ r) (sym (splits_of rest).joined)
+
+ok_is_not_err : {T E : Type 0} {value : T} {error : E} → Ok value ≡ Err error → ⊥
+ok_is_not_err same = true≢false (ap is_ok same)
+
+no_update : (message : List ℕ) → get_or message 0 0 ≢ 24 → is_key_update message ≡ false
+no_update message isnt = false_from_ne_true _ (λ is. isnt (eqb-true _ _ is))
+
+-- a stream without a whole message is a part of one
+pub all_part : (stream : List ℕ) → messages_of stream ≡ [] → (part_of stream ≡ stream) × IsPart stream
+all_part stream none =
+    let same : stream ≡ part_of stream = (splits_of stream).joined ∙ ap (λ m. concat m ++ part_of stream) none in
+    (sym same, subst IsPart (sym same) (splits_of stream).rest)
+
+-- what a reader of messages leaves
+pub leaves_ok : (was now : Joining) (content rest : List ℕ) (found : Option (Bor (List ℕ))) (result : Result (Option (Bor (List ℕ))) MessageError)
+    → result ≡ Ok found → Leaves was content result rest now → Leaves was content (Ok found) rest now
+leaves_ok was now content rest found result same leaves = subst (λ r. Leaves was content r rest now) same leaves
+
+-- one message more
+module _ (stage : Stage) (bound : ℕ) (part content left rest message later kept : List ℕ) (first was : Handled) (joining : Joining)
+    (same_stage : joining.stage ≡ stage) (same_bound : joining.bound ≡ bound)
+    (handles : Handles stage bound part content first left rest was) (whole : IsMessage message)
+    (next : messages_of (left ++ rest) ≡ message ∷ messages_of later) (last : part_of (left ++ rest) ≡ part_of later)
+    (taken : IsTaken message later) (expected : IsExpected joining.stage joining.bound message) where
+  takes : Takes stage bound (left ++ rest) message later
+  takes = record {
+    joined = front_message (left ++ rest) message later next last;
+    whole = whole;
+    expected = subst (λ n. IsExpected stage n message) same_bound (subst (λ s. IsExpected s joining.bound message) same_stage expected);
+    taken = taken;
+  }
+
+  one_more : kept ≡ [] → (now : Handled) → handle was message ≡ now → Handles stage bound part content first kept later now
+  one_more none now same =
+      subst (λ h. Handles stage bound part content first kept later h) same
+      (subst (λ k. Handles stage bound part content first k later (handle was message)) (sym none)
+      (one_handled left rest message later was handles takes))
+
+  pub handles_update : kept ≡ [] → (reader : ReaderState) (owes_update : Bool) → get_or message 0 0 ≡ 24
+      → reader ≡ next_reader was.reader → owes_update ≡ (was.owes_update || get_or message 4 0 == 1)
+      → Handles stage bound part content first kept later
+      (record { reader = reader; owes_update = owes_update; messages = was.messages })
+  handles_update none reader owes_update is next owes =
+      rw (next, owes) (one_more none _ (cond-true _ _ _ (eq-eqb _ _ is)))
+
+  pub handles_other : kept ≡ [] → (messages : List (List ℕ)) → get_or message 0 0 ≢ 24 → messages ≡ was.messages ++ message ∷ []
+      → Handles stage bound part content first kept later
+      (record { reader = was.reader; owes_update = was.owes_update; messages = messages })
+  handles_other none messages isnt more = rw more (one_more none _ (cond-false _ _ _ (no_update message isnt)))
+
+  pub lacks_memory : kept ≡ [] → get_or message 0 0 ≢ 24 → RejectsMessages stage bound part content first OutOfMemory kept was
+  lacks_memory none isnt = (
+    none,
+    record {
+      left = left;
+      rest = rest;
+      message = message;
+      later = later;
+      handles = handles;
+      takes = takes;
+      handed = no_update message isnt;
+    },
+  )
+
+-- no message more
+pub handles_all : (stage : Stage) (bound : ℕ) (part content left rest kept : List ℕ) (first now : Handled) (joining : Joining)
+    → joining.stage ≡ stage → joining.bound ≡ bound → Handles stage bound part content first left rest now
+    → messages_of (left ++ rest) ≡ [] → kept ≡ part_of (left ++ rest) → Begins joining.stage joining.bound (left ++ rest)
+    → HandlesAll stage bound part content first kept now
+handles_all stage bound part content left rest kept first now joining same_stage same_bound handles none end begins =
+    let all = all_part (left ++ rest) none in
+    let same : kept ≡ left ++ rest = end ∙ all.0 in
+    let may : Begins stage bound (left ++ rest)
+    = subst (λ n. Begins stage n (left ++ rest)) same_bound (subst (λ s. Begins s joining.bound (left ++ rest)) same_stage begins) in
+    record {
+      left = left;
+      rest = rest;
+      handles = handles;
+      joined = same;
+      is_part = subst IsPart (sym same) all.1;
+      begins = subst (Begins stage bound) (sym same) may;
+    }
+
+-- a record that is read: its reader is open, and an alert has two bytes
+read_begins : (was now : ReaderState) (bytes : List ℕ) (read : ContentType × List ℕ) → Reads was now bytes (Ok read)
+    → IsFalse was.is_closed
+read_begins was now bytes read r = false_from_ne_true was.is_closed (λ closed. absurd (ok_is_not_err (r.closed closed)))
+
+pub read_open : (was now : ReaderState) (bytes : List ℕ) (read : ContentType × List ℕ) → Reads was now bytes (Ok read)
+    → IsFalse now.is_closed
+read_open was now bytes read r = ap (λ s. s.is_closed) r.counted ∙ read_begins was now bytes read r
+
+pub alert_len : (was now : ReaderState) (bytes content : List ℕ) → Reads was now bytes (Ok (Alert, content)) → length content ≡ 2
+alert_len was now bytes content r =
+    let is_open = read_begins was now bytes (Alert, content) r in
+    elim (cases_lt was.number was.limit) [
+      | inl more ↦ (r.opens is_open more).content.1.allowed.alert refl
+      | inr ended ↦ absurd (ok_is_not_err (r.ended is_open ended))
+    ]
+
+-- less room is lacking all the more
+pub lacks_more : (more less : ℕ) (part before content : List ℕ) (error : ReceiveError) → less ≤ more
+    → RejectsData more part before content error → RejectsData less part before content error
+lacks_more more less part before content OutOfMemory order (none, lacks) = (none, omega (arith, lacks, order))
+lacks_more more less part before content (Message Interrupted) order rejects = rejects
+lacks_more more less part before content error order rejects = absurd rejects
+
+pub fails_more : (more less : ℕ) (was now : Receiving) (bytes : List ℕ) (error : ReceiveError) → less ≤ more
+    → Fails more was bytes error now → Fails less was bytes error now
+fails_more more less was now bytes (Record error) order fails = fails
+fails_more more less was now bytes error order (ApplicationData, content, read, reads, fails) =
+    (ApplicationData, content, read, reads, (lacks_more more less was.part was.application_data content error order fails.0, fails.1))
+fails_more more less was now bytes error order (content_type, content, read, reads, fails) = (content_type, content, read, reads, fails)
+
+-- the bytes of a buffer from `at` on, which are those of the stream
+rest_of : (stream buffer : List ℕ) (at : ℕ) → drop at buffer ≡ drop at stream → take (length buffer - at) (drop at buffer) ≡ drop at stream
+rest_of stream buffer at same = take_rest buffer at ∙ same
+
+-- they begin with no record, or with one that is rejected
+pub rejects_header : (capacity : ℕ) (stream buffer : List ℕ) (first was : Receiving) (at : ℕ) (refusal : RecordError)
+    → Taken Step stream first at was → drop at buffer ≡ drop at stream
+    → RefusesProtected (take (length buffer - at) (drop at buffer)) refusal
+    → Rejects capacity stream buffer first (Record refusal) was
+rejects_header capacity stream buffer first was at refusal taken same refuses = record {
+  at = at;
+  was = was;
+  taken = taken;
+  front = inl (refusal, refl, subst (λ t. RefusesProtected t refusal) (rest_of stream buffer at same) refuses, refl, same);
+}
+
+pub rejects_record : (capacity more : ℕ) (stream buffer left : List ℕ) (first was now : Receiving) (at len : ℕ) (error : ReceiveError)
+    → Taken Step stream first at was → drop at buffer ≡ drop at stream
+    → BeginsProtected (take (length buffer - at) (drop at buffer)) len → capacity ≤ more
+    → Fails more was (take (at + len - at) (drop at buffer)) error now
+    → LeavesRecord was (take (at + len - at) (drop at buffer)) (take (at + len - at) (drop at left)) error
+    → drop (at + len) left ≡ drop (at + len) buffer → Rejects capacity stream left first error now
+rejects_record capacity more stream buffer left first was now at len error taken same begins order fails leaves kept =
+    let back : at + len - at ≡ len = omega arith in
+    let bytes : take (at + len - at) (drop at buffer) ≡ take len (drop at stream)
+    = ap (λ n. take n (drop at buffer)) back ∙ ap (take len) same in
+    let there : take (at + len - at) (drop at left) ≡ take len (drop at left) = ap (λ n. take n (drop at left)) back in
+    record {
+      at = at;
+      was = was;
+      taken = taken;
+      front = inr (
+        len,
+        subst (λ t. BeginsProtected t len) (rest_of stream buffer at same) begins,
+        subst (λ t. Fails capacity was t error now) bytes (fails_more more capacity was now _ error order fails),
+        subst (λ t. LeavesRecord was (take len (drop at stream)) t error) there
+            (subst (λ t. LeavesRecord was t (take (at + len - at) (drop at left)) error) bytes leaves),
+        drop-drop len at left ∙ kept ∙ sym (drop-drop len at buffer) ∙ ap (drop len) same,
+      );
+    }
+
+-- one record more is taken
+pub takes_record : (stream buffer : List ℕ) (first was now : Receiving) (at len : ℕ) → Taken Step stream first at was
+    → drop at buffer ≡ drop at stream → length buffer ≡ length stream → at ≤ length buffer
+    → len ≤ length (take (length buffer - at) (drop at buffer)) → Step was (take (at + len - at) (drop at buffer)) now
+    → Taken Step stream first (at + len) now
+takes_record stream buffer first was now at len taken same size within inside step =
+    let rest : length (take (length buffer - at) (drop at buffer)) ≡ length (drop at stream) = ap length (rest_of stream buffer at same) in
+    taken_more Step stream buffer first was now at (at + len) taken same (omega arith)
+    (omega (arith, rest, inside, length-drop at stream, size, within)) step

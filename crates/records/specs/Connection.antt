@@ -1,0 +1,221 @@
+-- One end of a TLS 1.3 connection after the handshake (RFC 8446 sections 4.6.3, 5.1, 5.5, 6 and 7.2).
+use Rattle.std.specs.Prelude.{◌≡◌, ◌⊎◌, ℕ, ◌+◌, ◌-◌, ◌<◌, ◌≤◌, Bool, true, false, cond, nat_lt, ◌||◌, IsTrue, List, [], ◌∷◌, ◌++◌}
+use Rattle.std.specs.Prelude.{take, drop, map, slice_index, Ok, Err}
+use Rattle.records.specs.Content.{after_content, piece_room, record_count}
+use Rattle.records.specs.Handling.{Handled, HandlesAll, RejectsAlert, RejectsData, RejectsMessages}
+use Rattle.records.specs.Keys.{ReaderState, WriterState, next_writer}
+use Rattle.records.specs.Record.{Inner, record_at}
+use Rattle.records.specs.Steps.{LeavesRefused, Reads}
+use Rattle.records.specs.Stream.{BeginsProtected, RefusesProtected, Taken}
+use Rattle.records.specs.declared.connection.KeyUpdateRequest.{KeyUpdateRequest}
+use Rattle.records.specs.declared.connection.KeyUpdateRequest.TheVariants.{NotRequested, Requested}
+use Rattle.records.specs.declared.connection.receive_error.ReceiveError.{ReceiveError}
+use Rattle.records.specs.declared.connection.receive_error.ReceiveError.TheVariants.{Record}
+use Rattle.records.specs.declared.connection.receiving.Incoming.{Incoming}
+use Rattle.records.specs.declared.connection.receiving.Received.{Received}
+use Rattle.records.specs.declared.content_type.ContentType.{ContentType}
+use Rattle.records.specs.declared.content_type.ContentType.TheVariants.{Alert, ApplicationData, Handshake}
+use Rattle.records.specs.declared.record_error.RecordError.{RecordError}
+use Rattle.records.specs.declared.record_error.RecordError.TheVariants.{OutOfMemory}
+use Rattle.tls_messages.specs.Messages.{Joining}
+use Rattle.tls_messages.specs.declared.stage.Stage.{Stage}
+
+-- an end: the reader, whether the peer has asked for a KeyUpdate that is not sent yet, and whether nothing more is received; which
+-- messages may come, the most bytes that one may have, and the part of one that came; the writer, and whether nothing more is sent
+pub record ConnectionState : Type 0 where
+  pub reader : ReaderState
+  pub owes_update : Bool
+  pub is_ended : Bool
+  pub stage : Stage
+  pub bound : ℕ
+  pub part : List ℕ
+  pub writer : WriterState
+  pub is_closed : Bool
+
+-- an end that has received and sent nothing
+abbrev pub new_connection : ReaderState → WriterState → Stage → (bound : ℕ) → ConnectionState
+new_connection reader writer stage bound = record {
+  reader = reader;
+  owes_update = false;
+  is_ended = false;
+  stage = stage;
+  bound = bound;
+  part = [];
+  writer = writer;
+  is_closed = false;
+}
+
+-- the byte of a KeyUpdate: update_not_requested or update_requested (section 4.6.3)
+abbrev pub request_code : KeyUpdateRequest → ℕ
+request_code NotRequested = 0
+request_code Requested = 1
+
+-- a KeyUpdate (section 4.6.3)
+abbrev pub key_update : KeyUpdateRequest → Inner
+key_update request = record { content_type = Handshake; content = 24 ∷ 0 ∷ 0 ∷ 1 ∷ request_code request ∷ []; padding = 0 }
+
+-- the next record, which is a KeyUpdate
+abbrev pub update_record : WriterState → KeyUpdateRequest → List ℕ
+update_record writer request = record_at writer.key writer.number (key_update request)
+
+-- an end that has sent a KeyUpdate, and so all that it owed (sections 4.6.3 and 7.2)
+abbrev pub key_updated : ConnectionState → ConnectionState
+key_updated was = record was { writer = next_writer was.writer; owes_update = false }
+
+-- the last two numbers of a key are kept: one for a KeyUpdate, and the last for an alert
+abbrev pub content_limit : WriterState → ℕ
+content_limit writer = writer.limit - 2
+
+-- a KeyUpdate may be sent
+abbrev pub MayUpdate : WriterState → Type 0
+MayUpdate writer = writer.number + 1 < writer.limit
+
+-- how many more records of content may be sent under this key
+abbrev pub content_left : WriterState → ℕ
+content_left writer = content_limit writer - writer.number
+
+-- the number of records of a content of n bytes
+abbrev pub content_records : WriterState → (n : ℕ) → ℕ
+content_records writer n = record_count (piece_room writer.key.size_limit 0) n
+
+-- a KeyUpdate comes before a content of n bytes: one that is owed, or one for a key that has numbers for it
+abbrev pub updates_before : ConnectionState → (n : ℕ) → Bool
+updates_before was n = was.owes_update || nat_lt (content_left was.writer) (content_records was.writer n)
+
+-- the end that sends the content, and the records before it
+abbrev pub before_content : ConnectionState → (n : ℕ) → ConnectionState
+before_content was n = cond (updates_before was n) (key_updated was) was
+
+abbrev pub records_before : ConnectionState → (n : ℕ) → List ℕ
+records_before was n = cond (updates_before was n) (update_record was.writer NotRequested) []
+
+-- the end that has sent it
+abbrev pub after_send : ConnectionState → (n : ℕ) → ConnectionState
+after_send was n = let sender = before_content was n in record sender { writer = after_content sender.writer 0 n }
+
+-- a content of n bytes may be sent: a fresh key has numbers for it, and the KeyUpdate before it may be sent, if there is one
+pub record MaySend (was : ConnectionState) (n : ℕ) : Type 0 where
+  pub fits : content_records was.writer n ≤ content_limit was.writer
+  pub update : IsTrue (updates_before was n) → MayUpdate was.writer
+
+-- the KeyUpdate that is owed comes before another
+abbrev pub after_answer : ConnectionState → ConnectionState
+after_answer was = cond was.owes_update (key_updated was) was
+
+abbrev pub answer_of : ConnectionState → List ℕ
+answer_of was = cond was.owes_update (update_record was.writer NotRequested) []
+
+-- what an end that fails to send leaves: all as it was or, for lack of memory for what comes after a KeyUpdate, this KeyUpdate sent
+abbrev pub LeavesUnsent : (updates : Bool) → (was now : ConnectionState) → (old new : List ℕ) → RecordError → Type 0
+LeavesUnsent updates was now old new OutOfMemory = ((now ≡ was) × (new ≡ old))
+    ⊎ (IsTrue updates × (now ≡ key_updated was) × (new ≡ old ++ update_record was.writer NotRequested))
+LeavesUnsent updates was now old new error = (now ≡ was) × (new ≡ old)
+
+-- an end that has sent an alert, after which it sends nothing (sections 6.1 and 6.2)
+abbrev pub after_alert : ConnectionState → ConnectionState
+after_alert was = record was { writer = record was.writer { number = was.writer.number + 1 }; is_closed = true }
+
+-- what an end has received: its state, the application data, and the messages that are handed over
+pub record Receiving : Type 0 where
+  pub reader : ReaderState
+  pub owes_update : Bool
+  pub is_ended : Bool
+  pub stage : Stage
+  pub bound : ℕ
+  pub part : List ℕ
+  pub application_data : List ℕ
+  pub messages : List (List ℕ)
+
+abbrev pub received_by : ConnectionState → Received → Receiving
+received_by end received = record {
+  reader = end.reader;
+  owes_update = end.owes_update;
+  is_ended = end.is_ended;
+  stage = end.stage;
+  bound = end.bound;
+  part = end.part;
+  application_data = received.application_data.items;
+  messages = map (λ v. v.items) received.messages.items;
+}
+
+abbrev pub receiving : Incoming → Joining → Received → Receiving
+receiving incoming joining received = record {
+  reader = incoming.reader;
+  owes_update = incoming.owes_update;
+  is_ended = incoming.is_ended;
+  stage = joining.stage;
+  bound = joining.bound;
+  part = joining.part;
+  application_data = received.application_data.items;
+  messages = map (λ v. v.items) received.messages.items;
+}
+
+abbrev pub handled : Receiving → Handled
+handled was = record { reader = was.reader; owes_update = was.owes_update; messages = was.messages }
+
+abbrev pub handling : Incoming → List (List ℕ) → Handled
+handling incoming messages = record { reader = incoming.reader; owes_update = incoming.owes_update; messages = messages }
+
+-- handshake messages have changed this, and nothing else
+abbrev pub with_handled : Receiving → (part : List ℕ) → Handled → Receiving
+with_handled was part now =
+    record was { reader = now.reader; owes_update = now.owes_update; part = part; messages = now.messages }
+
+-- what a record with this content brings: application data, which is no part of a message, or handshake messages, or an alert that
+-- ends the data if it is close_notify, 0, and nothing if it is user_canceled, 90 (sections 5.1, 6 and 6.1)
+abbrev pub Brings : ContentType → (content : List ℕ) → Receiving → Receiving → Type 0
+Brings ApplicationData content was now =
+    (was.part ≡ []) × (now ≡ record was { application_data = was.application_data ++ content })
+Brings Handshake content was now = HandlesAll was.stage was.bound was.part content (handled was) now.part (handled now)
+    × (now ≡ with_handled was now.part (handled now))
+Brings Alert content was now = (was.part ≡ []) × (now ≡ record was { is_ended = now.is_ended })
+    × (slice_index content 1 ≡ cond now.is_ended 0 90)
+
+-- one record: what it carries under the key and the number of the reader, and what that brings, unless the data has ended
+abbrev pub Step : Receiving → (bytes : List ℕ) → Receiving → Type 0
+Step was bytes now = (was.is_ended ≡ false)
+    × (content_type : ContentType) × (content : List ℕ) × (read : ReaderState)
+    × Reads was.reader read bytes (Ok (content_type, content))
+    × Brings content_type content (record was { reader = read }) now
+
+-- why a record with this content brings nothing, where `capacity` bytes of application data have room
+abbrev pub FailsToBring : (capacity : ℕ) → ContentType → (content : List ℕ) → Receiving → ReceiveError → Receiving → Type 0
+FailsToBring capacity ApplicationData content was error now =
+    RejectsData capacity was.part was.application_data content error × (now ≡ was)
+FailsToBring capacity Handshake content was error now =
+    RejectsMessages was.stage was.bound was.part content (handled was) error now.part (handled now)
+    × (now ≡ with_handled was now.part (handled now))
+FailsToBring capacity Alert content was error now = RejectsAlert was.part content error × (now ≡ was)
+
+-- one record that is rejected, or whose content is
+abbrev pub Fails : (capacity : ℕ) → Receiving → (bytes : List ℕ) → ReceiveError → Receiving → Type 0
+Fails capacity was bytes (Record error) now =
+    (read : ReaderState) × Reads was.reader read bytes (Err error) × (now ≡ record was { reader = read })
+Fails capacity was bytes error now = (content_type : ContentType) × (content : List ℕ) × (read : ReaderState)
+    × Reads was.reader read bytes (Ok (content_type, content))
+    × FailsToBring capacity content_type content (record was { reader = read }) error now
+
+-- what a record that is rejected leaves where it stood: unless it is authentic, its bytes
+abbrev pub LeavesRecord : Receiving → (old new : List ℕ) → ReceiveError → Type 0
+LeavesRecord was old new (Record error) = LeavesRefused was.reader.key was.reader.number old 0 old new error
+LeavesRecord was old new error = Unit {0}
+
+-- these bytes begin with a record that is rejected, or with none that is expected, and `left` is left in their place
+abbrev pub RejectsFront : (capacity : ℕ) → Receiving → (bytes left : List ℕ) → ReceiveError → Receiving → Type 0
+RejectsFront capacity was bytes left error now =
+    ((refusal : RecordError) × (error ≡ Record refusal) × RefusesProtected bytes refusal × (now ≡ was) × (left ≡ bytes))
+    ⊎ ((len : ℕ) × BeginsProtected bytes len × Fails capacity was (take len bytes) error now
+    × LeavesRecord was (take len bytes) (take len left) error × (drop len left ≡ drop len bytes))
+
+-- the first records of a stream are taken, and the next is rejected
+pub record Rejects (capacity : ℕ) (stream left : List ℕ) (first : Receiving) (error : ReceiveError) (now : Receiving) : Type 0 where
+  pub at : ℕ
+  pub was : Receiving
+  pub taken : Taken Step stream first at was
+  pub front : RejectsFront capacity was (drop at stream) (drop at left) error now
+
+-- an error has ended the data
+pub record EndsWith (capacity : ℕ) (stream left : List ℕ) (first : Receiving) (error : ReceiveError) (now : Receiving) : Type 0 where
+  pub last : Receiving
+  pub rejects : Rejects capacity stream left first error last
+  pub ended : now ≡ record last { is_ended = true }

@@ -1,0 +1,363 @@
+//! One end of a TLS 1.3 connection after the handshake: what it receives, over the peer's key updates, and what it sends, over its
+//! own.
+
+ghost use Rattle.std.specs.Prelude.{◌≡◌, ◌≢◌, ◌↔◌, ◌+◌, ◌<◌, ◌≤◌, ◌++◌, ℕ, length, drop, IsTrue, IsFalse, IsErr, IsErrOf, IsOkUnless, IfOk, IfErr, OnOk, OnErr, cond, vec_len, vec_capacity};
+ghost use Rattle.std.specs.List.{concat};
+ghost use Rattle.records.specs.Alerts.{close_notify, fatal_record};
+ghost use Rattle.records.specs.Connection.{EndsWith, LeavesUnsent, MaySend, MayUpdate, Step};
+ghost use Rattle.records.specs.Connection.{after_alert, after_answer, after_send, answer_of, before_content, content_left, content_records, key_update, key_updated, new_connection, received_by, records_before, update_record, updates_before};
+ghost use Rattle.records.specs.Content.{records_len, records_of};
+ghost use Rattle.records.specs.Keys.{IsOfSecret, next_writer};
+ghost use Rattle.records.specs.Record.{record_at};
+ghost use Rattle.records.specs.Stream.{NeedsMore, Taken};
+
+mod receive_error;
+mod receiving;
+
+use crate::alert::fatal_alert;
+use crate::content_type::ContentType;
+use crate::reader::Reader;
+use crate::record_error::RecordError;
+use crate::writer::Writer;
+pub use receive_error::ReceiveError;
+pub use receiving::Received;
+use receiving::{Incoming, receive_records};
+use std::alloc::Global;
+use std::marker::Model;
+use tls_messages::message_type::KEY_UPDATE;
+use tls_messages::{AlertDescription, KEY_UPDATE_LEN, MessageReader, Stage};
+
+/// The numbers of each key that are kept: one for a KeyUpdate, and the last for an alert.
+const KEPT: u64 = 2;
+
+/// Whether a KeyUpdate asks the peer for one in turn (RFC 8446 section 4.6.3). `as u8` gives its value.
+#[derive(Clone, Copy, Debug, PartialEq, Eq)]
+pub enum KeyUpdateRequest {
+    /// `update_not_requested`
+    NotRequested = 0,
+    /// `update_requested`
+    Requested = 1,
+}
+
+impl KeyUpdateRequest {
+    /// The KeyUpdate with this request.
+    fn message(self) -> [u8; KEY_UPDATE_LEN]
+        ensures { result ≡ (key_update self).content }
+    {
+        [KEY_UPDATE, 0, 0, 1, self as u8]
+    }
+}
+
+/// One end of a TLS 1.3 connection after the handshake.
+///
+/// It receives the records of a stream, follows the peer's KeyUpdates, and answers those that ask for one (RFC 8446 section 4.6.3)
+/// before it sends the next content. It keeps the last two numbers of a key for a KeyUpdate and an alert (section 5.5), and sends a
+/// KeyUpdate by itself if a content needs more numbers than are left.
+///
+/// Each direction ends by itself: what is received by close_notify or an error of `receive`, and what is sent by `close` or `abort`.
+/// After an error of `receive`, the caller sends the alert that it calls for by `abort`, if there is one (section 6.2).
+#[derive(Drop)]
+pub struct Connection<'b> {
+    incoming: Incoming,
+    messages: MessageReader<'b>,
+    writer: Writer,
+    /// Whether nothing more is sent, after an alert.
+    is_closed: bool,
+}
+
+impl<'b> Model for Connection<'b> {
+    ghost use Rattle.std.specs.Prelude.{◌≤◌, IsFalse};
+    ghost use Rattle.records.specs.Connection.{ConnectionState};
+    ghost use Rattle.records.specs.Keys.{IsOfSecret};
+
+    ghost Value = { ConnectionState };
+
+    ghost view = { λ c. record {
+      reader = c.incoming.reader;
+      owes_update = c.incoming.owes_update;
+      is_ended = c.incoming.is_ended;
+      stage = c.messages.stage;
+      bound = c.messages.bound;
+      part = c.messages.part;
+      writer = c.writer;
+      is_closed = c.is_closed;
+    } };
+
+    ghost invariant = { λ c. IsOfSecret c.incoming.reader.secret c.incoming.reader.key
+        × IsOfSecret c.writer.secret c.writer.key
+        × (64 ≤ c.writer.key.size_limit)
+        × (IsFalse c.incoming.is_ended → IsFalse c.messages.is_closed) };
+}
+
+impl<'b> Connection<'b> {
+    /// Creates the end that receives by `reader` and sends by `writer`, each of the first application traffic secret of its
+    /// direction. `stage` says which handshake messages may come, each of at most as many bytes as the buffer.
+    ///
+    /// The limit of the writer bounds the records under each key, and its size limit, and that of the reader, the records.
+    pub fn new(reader: Reader, writer: Writer, buffer: &'b mut [u8], stage: Stage) -> Self
+        requires reader { IsOfSecret reader.secret reader.key }
+        requires writer { IsOfSecret writer.secret writer.key × (64 ≤ writer.key.size_limit) }
+        requires buffer { 4 ≤ length buffer.old }
+        ensures { result ≡ new_connection reader writer stage (length buffer.old) }
+    {
+        Connection {
+            incoming: Incoming {
+                reader,
+                owes_update: false,
+                is_ended: false,
+            },
+            messages: MessageReader::new(buffer, stage),
+            writer,
+            is_closed: false,
+        }
+    }
+
+    /// Returns whether the peer has asked for a KeyUpdate that is not sent yet.
+    pub fn owes_update(&self) -> bool
+        ensures { result ≡ self.now.owes_update }
+    {
+        self.incoming.owes_update
+    }
+
+    /// Returns whether nothing more is received, after close_notify or an error.
+    pub fn is_ended(&self) -> bool
+        ensures { result ≡ self.now.is_ended }
+    {
+        self.incoming.is_ended
+    }
+
+    /// Returns whether nothing more is sent, after `close` or `abort`.
+    pub fn is_closed(&self) -> bool
+        ensures { result ≡ self.now.is_closed }
+    {
+        self.is_closed
+    }
+
+    /// Returns how many more records of content may be sent under this key.
+    pub fn remaining(&self) -> u64
+        ensures { result ≡ content_left self.now.writer }
+    {
+        self.writer.remaining().saturating_sub(KEPT)
+    }
+
+    /// Receives the whole records at the front of `bytes`, up to close_notify, and returns their length. The caller keeps the bytes
+    /// after them until more arrive. Only protected records may come after the handshake.
+    ///
+    /// Appends application data and handshake messages to `received`. Follows KeyUpdates, and notes if the peer asks for one.
+    ///
+    /// Each error but `Ended` ends the direction, with what came before it in `received`: `Record` if a record is rejected, `Message`
+    /// if a handshake message is, or a record that is between its parts, `Alert` for an alert other than close_notify and
+    /// user_canceled, and `OutOfMemory` if the capacity of `received.application_data` is too small for a record, or if a handshake
+    /// message that is handed over finds no memory. Bytes that are not authentic are as they came. After close_notify or an error,
+    /// every call fails with `Ended` and changes nothing.
+    pub fn receive(
+        &mut self,
+        alloc: Global,
+        bytes: &mut [u8],
+        received: &mut Received,
+    ) -> Result<usize, ReceiveError>
+        ensures taken { IfOk result (λ n. Taken Step bytes.old (received_by self.old received.old)
+            n (received_by self.new received.new)) }
+        ensures within { IfOk result (λ n. n ≤ length bytes.old) }
+        ensures kept { IfOk result (λ n. drop n bytes.new ≡ drop n bytes.old) }
+        ensures more { IfOk result (λ n. IsFalse self.new.is_ended → NeedsMore (drop n bytes.new)) }
+        ensures rejected { IsFalse self.old.is_ended → IfErr result (λ error.
+            EndsWith (vec_capacity received.old.application_data) bytes.old bytes.new
+            (received_by self.old received.old) error (received_by self.new received.new)) }
+        ensures ended { IsTrue self.old.is_ended → IsErrOf result ReceiveError.Ended
+            × (self.new ≡ self.old) × (bytes.new ≡ bytes.old) × (received.new ≡ received.old) }
+        ensures sender { (self.new.writer ≡ self.old.writer) × (self.new.is_closed ≡ self.old.is_closed) }
+    {
+        if self.incoming.is_ended {
+            return Err(ReceiveError::Ended);
+        }
+        let taken = receive_records(
+            alloc,
+            &mut self.incoming,
+            &mut self.messages,
+            bytes,
+            received,
+        );
+        if taken.is_err() {
+            self.incoming.is_ended = true;
+        }
+        taken
+    }
+
+    /// Appends the records of application data of any length to `out`, and before them, under the old key, a KeyUpdate that asks for
+    /// none, if the peer has asked for one or if the content has more records than `remaining`.
+    ///
+    /// Fails with `Ended` after `close` or `abort`, and with `KeyUsedUp` if the content has more records than a fresh key has numbers
+    /// for, all but two of its limit, or if a KeyUpdate is to come first and not even its number is left. Nothing is then written.
+    /// Fails with `OutOfMemory` only if the capacity of `out` is too small; then either nothing is written, or the whole KeyUpdate
+    /// alone, which is then no longer owed.
+    pub fn send(&mut self, content: &[u8], out: &mut Vec<u8>) -> Result<(), RecordError>
+        ensures accepted { OnOk result (IsFalse self.old.is_closed × MaySend self.old (length content.now)) }
+        ensures closed { IsTrue self.old.is_closed → IsErrOf result RecordError.Ended }
+        ensures used_up { IsFalse self.old.is_closed → ¬ MaySend self.old (length content.now)
+            → IsErrOf result RecordError.KeyUsedUp }
+        ensures memory { IsFalse self.old.is_closed → MaySend self.old (length content.now)
+            → IsOkUnless result RecordError.OutOfMemory }
+        ensures room { IsErrOf result RecordError.OutOfMemory
+            → vec_capacity out.old < vec_len out.old + cond (updates_before self.old (length content.now)) 27 0
+            + records_len self.old.writer.key.size_limit 0 (length content.now) }
+        ensures sent { OnOk result (out.new.items ≡ out.old.items ++ records_before self.old (length content.now)
+            ++ concat (records_of (before_content self.old (length content.now)).writer
+            ContentType.ApplicationData 0 content.now)) }
+        ensures counted { OnOk result (self.new ≡ after_send self.old (length content.now)) }
+        ensures kept { IfErr result (LeavesUnsent (updates_before self.old (length content.now))
+            self.old self.new out.old.items out.new.items) }
+    {
+        if self.is_closed {
+            return Err(RecordError::Ended);
+        }
+        let count = record_count(&self.writer, content.len());
+        if count > self.writer.limit().saturating_sub(KEPT) {
+            return Err(RecordError::KeyUsedUp);
+        }
+        if self.incoming.owes_update || count > self.remaining() {
+            self.update(KeyUpdateRequest::NotRequested, out)?;
+        }
+        self.writer
+            .write_content(ContentType::ApplicationData, content, 0, out)
+    }
+
+    /// Appends a KeyUpdate with this request to `out`, under the old key, and continues under the next traffic secret (RFC 8446
+    /// sections 4.6.3 and 7.2). If the peer has asked for a KeyUpdate, one that answers comes first.
+    ///
+    /// Fails with `Ended` after `close` or `abort`, and with `KeyUsedUp` if only the number for an alert is left under this key.
+    /// Nothing is then written. Fails with `OutOfMemory` only if the capacity of `out` is too small; then either nothing is
+    /// written, or the whole answer alone.
+    pub fn send_key_update(
+        &mut self,
+        request: KeyUpdateRequest,
+        out: &mut Vec<u8>,
+    ) -> Result<(), RecordError>
+        ensures accepted { OnOk result (IsFalse self.old.is_closed × MayUpdate self.old.writer) }
+        ensures closed { IsTrue self.old.is_closed → IsErrOf result RecordError.Ended }
+        ensures used_up { IsFalse self.old.is_closed → ¬ MayUpdate self.old.writer
+            → IsErrOf result RecordError.KeyUsedUp }
+        ensures memory { IsFalse self.old.is_closed → MayUpdate self.old.writer
+            → IsOkUnless result RecordError.OutOfMemory }
+        ensures room { IsErrOf result RecordError.OutOfMemory
+            → vec_capacity out.old < vec_len out.old + cond self.old.owes_update 27 0 + 27 }
+        ensures sent { OnOk result (out.new.items ≡ out.old.items ++ answer_of self.old
+            ++ update_record (after_answer self.old).writer request) }
+        ensures updated { OnOk result (self.new ≡ key_updated (after_answer self.old)) }
+        ensures kept { IfErr result (LeavesUnsent self.old.owes_update
+            self.old self.new out.old.items out.new.items) }
+    {
+        if self.is_closed {
+            return Err(RecordError::Ended);
+        }
+        if self.incoming.owes_update {
+            self.update(KeyUpdateRequest::NotRequested, out)?;
+        }
+        self.update(request, out)
+    }
+
+    /// Appends close_notify to `out`, after which nothing more is sent (RFC 8446 section 6.1). What the peer sends is still received.
+    ///
+    /// Fails with `Ended` after `close` or `abort`, with `KeyUsedUp` if no number is left, and with `OutOfMemory` only if the capacity
+    /// of `out` is too small. Nothing is then written.
+    pub fn close(&mut self, out: &mut Vec<u8>) -> Result<(), RecordError>
+        ensures accepted { OnOk result (IsFalse self.old.is_closed × (self.old.writer.number < self.old.writer.limit)) }
+        ensures closed { IsTrue self.old.is_closed → IsErrOf result RecordError.Ended }
+        ensures used_up { IsFalse self.old.is_closed → self.old.writer.limit ≤ self.old.writer.number
+            → IsErrOf result RecordError.KeyUsedUp }
+        ensures memory { IsFalse self.old.is_closed → self.old.writer.number < self.old.writer.limit
+            → IsOkUnless result RecordError.OutOfMemory }
+        ensures room { IsErrOf result RecordError.OutOfMemory → vec_capacity out.old < vec_len out.old + 24 }
+        ensures written { OnOk result (out.new.items ≡ out.old.items
+            ++ record_at self.old.writer.key self.old.writer.number close_notify) }
+        ensures ended { OnOk result (self.new ≡ after_alert self.old) }
+        ensures kept { OnErr result ((self.new ≡ self.old) × (out.new.items ≡ out.old.items)) }
+    {
+        if self.is_closed {
+            return Err(RecordError::Ended);
+        }
+        self.writer.close_notify(out)?;
+        self.is_closed = true;
+        Ok(())
+    }
+
+    /// Appends a fatal alert to `out`, after which nothing more is sent (RFC 8446 section 6.2).
+    ///
+    /// Fails as `close` does. Nothing is then written.
+    pub fn abort(&mut self, alert: AlertDescription, out: &mut Vec<u8>) -> Result<(), RecordError>
+        ensures accepted { OnOk result (IsFalse self.old.is_closed × (self.old.writer.number < self.old.writer.limit)) }
+        ensures closed { IsTrue self.old.is_closed → IsErrOf result RecordError.Ended }
+        ensures used_up { IsFalse self.old.is_closed → self.old.writer.limit ≤ self.old.writer.number
+            → IsErrOf result RecordError.KeyUsedUp }
+        ensures memory { IsFalse self.old.is_closed → self.old.writer.number < self.old.writer.limit
+            → IsOkUnless result RecordError.OutOfMemory }
+        ensures room { IsErrOf result RecordError.OutOfMemory → vec_capacity out.old < vec_len out.old + 24 }
+        ensures written { OnOk result (out.new.items ≡ out.old.items
+            ++ record_at self.old.writer.key self.old.writer.number (fatal_record alert)) }
+        ensures ended { OnOk result (self.new ≡ after_alert self.old) }
+        ensures kept { OnErr result ((self.new ≡ self.old) × (out.new.items ≡ out.old.items)) }
+    {
+        if self.is_closed {
+            return Err(RecordError::Ended);
+        }
+        self.writer
+            .write(ContentType::Alert, &fatal_alert(alert), 0, out)?;
+        self.is_closed = true;
+        Ok(())
+    }
+
+    /// Appends a KeyUpdate, which settles what is owed.
+    fn update(&mut self, request: KeyUpdateRequest, out: &mut Vec<u8>) -> Result<(), RecordError>
+        ensures accepted { OnOk result (MayUpdate self.old.writer) }
+        ensures used_up { ¬ MayUpdate self.old.writer → IsErrOf result RecordError.KeyUsedUp }
+        ensures memory { MayUpdate self.old.writer → IsOkUnless result RecordError.OutOfMemory }
+        ensures room { IsErrOf result RecordError.OutOfMemory → vec_capacity out.old < vec_len out.old + 27 }
+        ensures capacity { vec_capacity out.old ≤ vec_capacity out.new }
+        ensures len { OnOk result (vec_len out.new ≡ vec_len out.old + 27) }
+        ensures sent { OnOk result (out.new.items ≡ out.old.items ++ update_record self.old.writer request) }
+        ensures updated { OnOk result (self.new ≡ key_updated self.old) }
+        ensures kept { OnErr result ((self.new ≡ self.old) × (out.new.items ≡ out.old.items)) }
+    {
+        write_key_update(&mut self.writer, request, out)?;
+        self.incoming.owes_update = false;
+        Ok(())
+    }
+}
+
+/// The number of records as which a writer writes `len` bytes of application data.
+fn record_count(writer: &Writer, len: usize) -> u64
+    requires { 64 ≤ writer.now.key.size_limit }
+    ensures { result ≡ content_records writer.now len }
+{
+    if len == 0 {
+        1
+    } else {
+        len.div_ceil(writer.size_limit() - 1) as u64
+    }
+}
+
+/// Appends a KeyUpdate under the old key, and continues under the next traffic secret.
+fn write_key_update(
+    writer: &mut Writer,
+    request: KeyUpdateRequest,
+    out: &mut Vec<u8>,
+) -> Result<(), RecordError>
+    requires is_of { IsOfSecret writer.old.secret writer.old.key }
+    requires size { 64 ≤ writer.old.key.size_limit }
+    ensures accepted { OnOk result (MayUpdate writer.old) }
+    ensures used_up { ¬ MayUpdate writer.old → IsErrOf result RecordError.KeyUsedUp }
+    ensures memory { MayUpdate writer.old → IsOkUnless result RecordError.OutOfMemory }
+    ensures room { IsErrOf result RecordError.OutOfMemory → vec_capacity out.old < vec_len out.old + 27 }
+    ensures capacity { vec_capacity out.old ≤ vec_capacity out.new }
+    ensures len { OnOk result (vec_len out.new ≡ vec_len out.old + 27) }
+    ensures sent { OnOk result (out.new.items ≡ out.old.items ++ update_record writer.old request) }
+    ensures updated { OnOk result (writer.new ≡ next_writer writer.old) }
+    ensures kept { OnErr result ((writer.new ≡ writer.old) × (out.new.items ≡ out.old.items)) }
+    ensures is_of { IsOfSecret writer.new.secret writer.new.key }
+{
+    if writer.remaining() < KEPT {
+        return Err(RecordError::KeyUsedUp);
+    }
+    writer.write(ContentType::Handshake, &request.message(), 0, out)?;
+    writer.update()
+}

@@ -1,0 +1,236 @@
+//! What an end receives, one record after another.
+
+ghost use Rattle.std.specs.Prelude.{◌≡◌, ◌≢◌, ◌||◌, ◌==◌, ◌≤◌, ◌<◌, List, ℕ, [], length, take, drop, map, slice_range, slice_index, false, IsFalse, IfOk, IfErr, IfSome, IsErrOf, OnOk, OnErr, None, cond, vec_len, vec_capacity};
+ghost use Rattle.records.specs.Connection.{Fails, LeavesRecord, Rejects, Step, handling, receiving};
+ghost use Rattle.records.specs.Handling.{HandlesAll, RejectsMessages};
+ghost use Rattle.records.specs.Keys.{IsOfSecret, next_reader};
+ghost use Rattle.records.specs.Stream.{BeginsProtected, NeedsMore, RefusesProtected, Taken};
+
+use super::receive_error::ReceiveError;
+use crate::content_type::ContentType;
+use crate::reader::Reader;
+use crate::record_error::RecordError;
+use crate::stream::{Begins, RecordKind, classify};
+use std::alloc::Global;
+use tls_messages::MessageReader;
+use tls_messages::message_type::KEY_UPDATE;
+
+/// The alerts that are no errors (RFC 8446 section 6.1).
+const CLOSE_NOTIFY: u8 = 0;
+
+const USER_CANCELED: u8 = 90;
+
+/// What was received: application data, and the handshake messages but for KeyUpdates, as tickets.
+#[derive(Drop)]
+pub struct Received {
+    /// The bytes of the application data, in order.
+    pub application_data: Vec<u8>,
+    /// The messages, each with its type and its length.
+    pub messages: Vec<Vec<u8>>,
+}
+
+impl Received {
+    /// Nothing was received yet.
+    pub fn new(alloc: Global) -> Self
+        ensures { (result.application_data.items ≡ []) × (result.messages.items ≡ []) }
+    {
+        Received {
+            application_data: Vec::new(alloc),
+            messages: Vec::new(alloc),
+        }
+    }
+}
+
+/// The state of what the peer sends.
+#[derive(Drop)]
+pub(super) struct Incoming {
+    pub(super) reader: Reader,
+    /// Whether the peer has asked for a KeyUpdate that is not sent yet.
+    pub(super) owes_update: bool,
+    /// Whether nothing more is received, after close_notify or an error.
+    pub(super) is_ended: bool,
+}
+
+impl Incoming {
+    /// Continues under the next traffic secret, after a KeyUpdate with this byte (RFC 8446 section 4.6.3).
+    fn update(&mut self, request: u8)
+        requires is_of { IsOfSecret self.old.reader.secret self.old.reader.key }
+        requires open { IsFalse self.old.reader.is_closed }
+        ensures reader { self.new.reader ≡ next_reader self.old.reader }
+        ensures owes_update { self.new.owes_update ≡ (self.old.owes_update || request == 1) }
+        ensures is_ended { self.new.is_ended ≡ self.old.is_ended }
+        ensures is_of { IsOfSecret self.new.reader.secret self.new.reader.key }
+        ensures open { IsFalse self.new.reader.is_closed }
+    {
+        let Ok(()) = self.reader.update() else {
+            unreachable!();
+        };
+        self.owes_update = self.owes_update || request == 1;
+    }
+}
+
+/// Takes the messages of a handshake record: follows each KeyUpdate, and appends the others.
+fn receive_messages(
+    alloc: Global,
+    incoming: &mut Incoming,
+    messages: &mut MessageReader<'_>,
+    mut content: &[u8],
+    handed: &mut Vec<Vec<u8>>,
+) -> Result<(), ReceiveError>
+    requires is_of { IsOfSecret incoming.old.reader.secret incoming.old.reader.key }
+    requires open { IsFalse incoming.old.reader.is_closed × IsFalse messages.old.is_closed }
+    ensures handled { OnOk result (HandlesAll messages.old.stage messages.old.bound messages.old.part content.entry.now
+        (handling incoming.old (map (λ v. v.items) handed.old.items)) messages.new.part
+        (handling incoming.new (map (λ v. v.items) handed.new.items))) }
+    ensures rejected { IfErr result (λ error. RejectsMessages messages.old.stage messages.old.bound messages.old.part
+        content.entry.now (handling incoming.old (map (λ v. v.items) handed.old.items)) error messages.new.part
+        (handling incoming.new (map (λ v. v.items) handed.new.items))) }
+    ensures is_ended { incoming.new.is_ended ≡ incoming.old.is_ended }
+    ensures rules { (messages.new.stage ≡ messages.old.stage) × (messages.new.bound ≡ messages.old.bound) }
+    ensures open { OnOk result (IsFalse messages.new.is_closed) }
+    ensures is_of { IsOfSecret incoming.new.reader.secret incoming.new.reader.key }
+{
+    while let Some(message) = messages.next(&mut content)? {
+        if message[0] == KEY_UPDATE {
+            incoming.update(message[4]);
+        } else {
+            handed.push(message.to_vec(alloc)?)?;
+        }
+    }
+    Ok(())
+}
+
+/// Returns whether an alert is close_notify, the end of the data. Passes over user_canceled.
+fn is_close_notify(alert: &[u8]) -> Result<bool, ReceiveError>
+    requires { length alert.now ≡ 2 }
+    ensures close_notify { IfOk result (λ is_end. slice_index alert.now 1 ≡ cond is_end 0 90) }
+    ensures error { IfErr result (λ error. (error ≡ ReceiveError.Alert (slice_index alert.now 1))
+        × (slice_index alert.now 1 ≢ 0) × (slice_index alert.now 1 ≢ 90)) }
+{
+    match alert[1] {
+        CLOSE_NOTIFY => Ok(true),
+        USER_CANCELED => Ok(false),
+        number => Err(ReceiveError::Alert(number)),
+    }
+}
+
+/// Receives one protected record, which is the whole of `bytes`.
+fn receive_record(
+    alloc: Global,
+    incoming: &mut Incoming,
+    messages: &mut MessageReader<'_>,
+    bytes: &mut [u8],
+    received: &mut Received,
+) -> Result<(), ReceiveError>
+    requires is_of { IsOfSecret incoming.old.reader.secret incoming.old.reader.key }
+    requires going { IsFalse incoming.old.is_ended × IsFalse messages.old.is_closed }
+    ensures step { OnOk result (Step (receiving incoming.old messages.old received.old) bytes.old
+        (receiving incoming.new messages.new received.new)) }
+    ensures failed { IfErr result (λ error. Fails (vec_capacity received.old.application_data)
+        (receiving incoming.old messages.old received.old) bytes.old error
+        (receiving incoming.new messages.new received.new)) }
+    ensures left { IfErr result (LeavesRecord (receiving incoming.old messages.old received.old)
+        bytes.old bytes.new) }
+    ensures open { OnOk result (IsFalse messages.new.is_closed) }
+    ensures capacity { vec_capacity received.old.application_data
+        ≤ vec_capacity received.new.application_data }
+    ensures is_of { IsOfSecret incoming.new.reader.secret incoming.new.reader.key }
+{
+    let end = bytes.len();
+    let (content_type, len) = incoming.reader.gather(bytes, 0, 0, end)?;
+    let content = &bytes[..len];
+    match content_type {
+        ContentType::ApplicationData => {
+            messages.admit_other_record()?;
+            received.application_data.extend_from_slice(content)?;
+        }
+        ContentType::Handshake => {
+            receive_messages(alloc, incoming, messages, content, &mut received.messages)?;
+        }
+        ContentType::Alert => {
+            let is_end = is_close_notify(content)?;
+            messages.admit_other_record()?;
+            incoming.is_ended = is_end;
+        }
+    }
+    Ok(())
+}
+
+/// Receives the record `bytes[at..end]`.
+#[tactic(auto, using(std::proofs::lemmas::Slice::overwrites))]
+fn receive_at(
+    alloc: Global,
+    incoming: &mut Incoming,
+    messages: &mut MessageReader<'_>,
+    bytes: &mut [u8],
+    at: usize,
+    end: usize,
+    received: &mut Received,
+) -> Result<(), ReceiveError>
+    requires range { (at ≤ end) × (end ≤ length bytes.old) }
+    requires is_of { IsOfSecret incoming.old.reader.secret incoming.old.reader.key }
+    requires going { IsFalse incoming.old.is_ended × IsFalse messages.old.is_closed }
+    ensures step { OnOk result (Step (receiving incoming.old messages.old received.old)
+        (slice_range bytes.old at end) (receiving incoming.new messages.new received.new)) }
+    ensures failed { IfErr result (λ error. Fails (vec_capacity received.old.application_data)
+        (receiving incoming.old messages.old received.old) (slice_range bytes.old at end) error
+        (receiving incoming.new messages.new received.new)) }
+    ensures left { IfErr result (LeavesRecord (receiving incoming.old messages.old received.old)
+        (slice_range bytes.old at end) (slice_range bytes.new at end)) }
+    ensures kept { drop end bytes.new ≡ drop end bytes.old }
+    ensures open { OnOk result (IsFalse messages.new.is_closed) }
+    ensures capacity { vec_capacity received.old.application_data
+        ≤ vec_capacity received.new.application_data }
+    ensures is_of { IsOfSecret incoming.new.reader.secret incoming.new.reader.key }
+{
+    receive_record(alloc, incoming, messages, &mut bytes[at..end], received)
+}
+
+/// The length of the protected record at the front of these bytes, or `None` if it is not whole.
+#[tactic(auto, unfolding(crate::specs::Stream::NeedsMore))]
+fn protected_len(bytes: &[u8]) -> Result<Option<usize>, RecordError>
+    ensures len { IfOk result (λ found. IfSome found (λ n. (0 < n) × (n ≤ length bytes.now)
+        × BeginsProtected bytes.now n)) }
+    ensures more { IfOk result (λ found. found ≡ None → NeedsMore bytes.now) }
+    ensures refused { IfErr result (RefusesProtected bytes.now) }
+{
+    match classify(bytes)? {
+        Begins::Record(RecordKind::Protected, len) => Ok(Some(len)),
+        Begins::Record(_, _) => Err(RecordError::UnexpectedRecord),
+        Begins::MoreNeeded(_) => Ok(None),
+    }
+}
+
+/// Receives the whole records at the front of `bytes`, up to close_notify, and returns their length.
+#[tactic(auto, using(crate::proofs::TakenLemmas::taken_more, crate::proofs::TakenLemmas::taken_none, crate::proofs::TakenLemmas::kept_more))]
+pub(super) fn receive_records(
+    alloc: Global,
+    incoming: &mut Incoming,
+    messages: &mut MessageReader<'_>,
+    bytes: &mut [u8],
+    received: &mut Received,
+) -> Result<usize, ReceiveError>
+    requires is_of { IsOfSecret incoming.old.reader.secret incoming.old.reader.key }
+    requires going { IsFalse incoming.old.is_ended × IsFalse messages.old.is_closed }
+    ensures taken { IfOk result (λ n. Taken Step bytes.old (receiving incoming.old messages.old received.old)
+        n (receiving incoming.new messages.new received.new)) }
+    ensures within { IfOk result (λ n. n ≤ length bytes.old) }
+    ensures kept { IfOk result (λ n. drop n bytes.new ≡ drop n bytes.old) }
+    ensures more { IfOk result (λ n. IsFalse incoming.new.is_ended → NeedsMore (drop n bytes.new)) }
+    ensures rejected { IfErr result (λ error. Rejects (vec_capacity received.old.application_data) bytes.old bytes.new
+        (receiving incoming.old messages.old received.old) error
+        (receiving incoming.new messages.new received.new)) }
+    ensures open { OnOk result (IsFalse messages.new.is_closed) }
+    ensures is_of { IsOfSecret incoming.new.reader.secret incoming.new.reader.key }
+{
+    let mut at = 0;
+    while let Some(len) = protected_len(&bytes[at..])? {
+        let end = at + len;
+        receive_at(alloc, incoming, messages, bytes, at, end, received)?;
+        if incoming.is_ended {
+            return Ok(end);
+        }
+        at = end;
+    }
+    Ok(at)
+}
