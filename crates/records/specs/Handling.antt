@@ -1,4 +1,4 @@
--- The handshake messages that come after the handshake (RFC 8446 sections 4.6 and 7.2), and why an end rejects what a record carries.
+-- The messages that come after the handshake (RFC 8446 sections 4.6 and 7.2), and why an end rejects what a record carries.
 use Rattle.std.specs.Prelude.{◌≡◌, ◌≢◌, ◌⊎◌, ℕ, ◌+◌, ◌<◌, Bool, false, cond, ◌==◌, ◌||◌, List, [], ◌∷◌, ◌++◌, length, slice_index}
 use Rattle.records.specs.Keys.{ReaderState, next_reader}
 use Rattle.records.specs.Refusals.{alert_of as record_alert}
@@ -94,8 +94,8 @@ RejectsMessages stage bound part content first OutOfMemory kept now =
     (kept ≡ []) × LacksMemory stage bound part content first now
 RejectsMessages stage bound part content first error kept now = ⊥
 
--- Why an alert ends the connection: it is an error whatever its level (section 6), unless its second byte is that of close_notify, 0,
--- or of user_canceled, 90 (section 6.1), and these may not come between the parts of a message (section 5.1)
+-- Why an alert ends the connection: it is an error whatever its level (section 6), unless its second byte is that of close_notify,
+-- 0, or of user_canceled, 90 (section 6.1), and these may not come between the parts of a message (section 5.1)
 abbrev pub RejectsAlert : (part alert : List ℕ) → ReceiveError → Type 0
 RejectsAlert part alert (Alert number) = (number ≡ slice_index alert 1) × (number ≢ 0) × (number ≢ 90)
 RejectsAlert part alert (Message Interrupted) =

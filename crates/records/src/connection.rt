@@ -1,5 +1,5 @@
-//! One end of a TLS 1.3 connection after the handshake: what it receives, over the peer's key updates, and what it sends, over its
-//! own.
+//! One end of a TLS 1.3 connection after the handshake: what it receives, over the peer's key updates, and what it sends, over
+//! its own.
 
 ghost use Rattle.std.specs.Prelude.{◌≡◌, ◌≢◌, ◌↔◌, ◌+◌, ◌<◌, ◌≤◌, ◌++◌, ℕ, length, drop, IsTrue, IsFalse, IsErr, IsErrOf, IsOkUnless, IfOk, IfErr, OnOk, OnErr, cond, vec_len, vec_capacity};
 ghost use Rattle.std.specs.List.{concat};
@@ -50,12 +50,34 @@ impl KeyUpdateRequest {
 
 /// One end of a TLS 1.3 connection after the handshake.
 ///
-/// It receives the records of a stream, follows the peer's KeyUpdates, and answers those that ask for one (RFC 8446 section 4.6.3)
-/// before it sends the next content. It keeps the last two numbers of a key for a KeyUpdate and an alert (section 5.5), and sends a
-/// KeyUpdate by itself if a content needs more numbers than are left.
+/// It receives the records of a stream, follows the peer's KeyUpdates, and answers those that ask for one (RFC 8446 section
+/// 4.6.3) before it sends the next content. It keeps the last two numbers of a key for a KeyUpdate and an alert (section 5.5),
+/// and sends a KeyUpdate by itself if a content needs more numbers than are left.
 ///
-/// Each direction ends by itself: what is received by close_notify or an error of `receive`, and what is sent by `close` or `abort`.
-/// After an error of `receive`, the caller sends the alert that it calls for by `abort`, if there is one (section 6.2).
+/// Each direction ends by itself: what is received by close_notify or an error of `receive`, and what is sent by `close` or
+/// `abort`. After an error of `receive`, the caller sends the alert that it calls for by `abort`, if there is one (section 6.2).
+///
+/// # Examples
+///
+/// Sends back what is received. From `crates/records_tests/src/sending.rt`:
+///
+/// ```
+/// let mut received = Received::new(alloc);
+/// match connection.receive(alloc, arrived, &mut received) {
+///     Ok(taken) => *arrived = arrived[taken..].to_vec(alloc)?,
+///     Err(error) => {
+///         if let Some(alert) = error.alert() {
+///             connection.abort(alert, out)?;
+///         }
+///         return Err(error.into());
+///     }
+/// }
+/// connection.send(&received.application_data, out)?;
+/// if connection.is_ended() {
+///     connection.close(out)?;
+/// }
+/// Ok(())
+/// ```
 #[derive(Drop)]
 pub struct Connection<'b> {
     incoming: Incoming,
@@ -140,16 +162,16 @@ impl<'b> Connection<'b> {
         self.writer.remaining().saturating_sub(KEPT)
     }
 
-    /// Receives the whole records at the front of `bytes`, up to close_notify, and returns their length. The caller keeps the bytes
-    /// after them until more arrive. Only protected records may come after the handshake.
+    /// Receives the whole records at the front of `bytes`, up to close_notify, and returns their length. The caller keeps the
+    /// bytes after them until more arrive. Only protected records may come after the handshake.
     ///
     /// Appends application data and handshake messages to `received`. Follows KeyUpdates, and notes if the peer asks for one.
     ///
-    /// Each error but `Ended` ends the direction, with what came before it in `received`: `Record` if a record is rejected, `Message`
-    /// if a handshake message is, or a record that is between its parts, `Alert` for an alert other than close_notify and
-    /// user_canceled, and `OutOfMemory` if the capacity of `received.application_data` is too small for a record, or if a handshake
-    /// message that is handed over finds no memory. Bytes that are not authentic are as they came. After close_notify or an error,
-    /// every call fails with `Ended` and changes nothing.
+    /// Each error but `Ended` ends the direction, with what came before it in `received`: `Record` if a record is rejected,
+    /// `Message` if a handshake message is, or a record that is between its parts, `Alert` for an alert other than close_notify
+    /// and user_canceled, and `OutOfMemory` if the capacity of `received.application_data` is too small for a record, or if a
+    /// handshake message that is handed over finds no memory. Bytes that are not authentic are as they came. After close_notify
+    /// or an error, every call fails with `Ended` and changes nothing.
     pub fn receive(
         &mut self,
         alloc: Global,
@@ -184,13 +206,13 @@ impl<'b> Connection<'b> {
         taken
     }
 
-    /// Appends the records of application data of any length to `out`, and before them, under the old key, a KeyUpdate that asks for
-    /// none, if the peer has asked for one or if the content has more records than `remaining`.
+    /// Appends the records of application data of any length to `out`, and before them, under the old key, a KeyUpdate that asks
+    /// for none, if the peer has asked for one or if the content has more records than `remaining`.
     ///
-    /// Fails with `Ended` after `close` or `abort`, and with `KeyUsedUp` if the content has more records than a fresh key has numbers
-    /// for, all but two of its limit, or if a KeyUpdate is to come first and not even its number is left. Nothing is then written.
-    /// Fails with `OutOfMemory` only if the capacity of `out` is too small; then either nothing is written, or the whole KeyUpdate
-    /// alone, which is then no longer owed.
+    /// Fails with `Ended` after `close` or `abort`, and with `KeyUsedUp` if the content has more records than a fresh key has
+    /// numbers for, all but two of its limit, or if a KeyUpdate is to come first and not even its number is left. Nothing is then
+    /// written. Fails with `OutOfMemory` only if the capacity of `out` is too small; then either nothing is written, or the whole
+    /// KeyUpdate alone, which is then no longer owed.
     pub fn send(&mut self, content: &[u8], out: &mut Vec<u8>) -> Result<(), RecordError>
         ensures accepted { OnOk result (IsFalse self.old.is_closed × MaySend self.old (length content.now)) }
         ensures closed { IsTrue self.old.is_closed → IsErrOf result RecordError.Ended }
@@ -256,10 +278,11 @@ impl<'b> Connection<'b> {
         self.update(request, out)
     }
 
-    /// Appends close_notify to `out`, after which nothing more is sent (RFC 8446 section 6.1). What the peer sends is still received.
+    /// Appends close_notify to `out`, after which nothing more is sent (RFC 8446 section 6.1). What the peer sends is still
+    /// received.
     ///
-    /// Fails with `Ended` after `close` or `abort`, with `KeyUsedUp` if no number is left, and with `OutOfMemory` only if the capacity
-    /// of `out` is too small. Nothing is then written.
+    /// Fails with `Ended` after `close` or `abort`, with `KeyUsedUp` if no number is left, and with `OutOfMemory` only if the
+    /// capacity of `out` is too small. Nothing is then written.
     pub fn close(&mut self, out: &mut Vec<u8>) -> Result<(), RecordError>
         ensures accepted { OnOk result (IsFalse self.old.is_closed × (self.old.writer.number < self.old.writer.limit)) }
         ensures closed { IsTrue self.old.is_closed → IsErrOf result RecordError.Ended }

@@ -96,8 +96,8 @@ impl Writer {
 
     /// Lowers the number of records under each key to `limit`. A higher limit has no effect.
     ///
-    /// At its limit, a writer can send neither a KeyUpdate nor close_notify, so the caller keeps the last two numbers of a key for
-    /// them. A [`Connection`](crate::connection::Connection) does so.
+    /// At its limit, a writer can send neither a KeyUpdate nor close_notify, so the caller keeps the last two numbers of a key
+    /// for them. A [`Connection`](crate::connection::Connection) does so.
     pub fn with_limit(mut self, limit: u64) -> Self
         ensures { result ≡ record self { limit = min self.limit limit } }
     {
@@ -148,8 +148,8 @@ impl Writer {
         self.key.set_size_limit(size_limit)
     }
 
-    /// Continues under the next traffic secret, after a KeyUpdate was written. The number and the count of records start again at 0
-    /// (RFC 8446 sections 5.3 and 7.2).
+    /// Continues under the next traffic secret, after a KeyUpdate was written. The number and the count of records start again at
+    /// 0 (RFC 8446 sections 5.3 and 7.2).
     ///
     /// Fails with `NoSecret` if the writer was made of a key. It is then unchanged.
     pub fn update(&mut self) -> Result<(), RecordError>

@@ -3,7 +3,7 @@
 use crate::checks::{equal, holds, same};
 use key_derivation::Secret;
 use records::connection::KeyUpdateRequest::{NotRequested, Requested};
-use records::connection::{Connection, ReceiveError, Received};
+use records::connection::{Connection, KeyUpdateRequest, ReceiveError, Received};
 use records::{AlertDescription, Reader, RecordError, Writer};
 use std::alloc::Global;
 use std::process::Abort;
@@ -34,8 +34,8 @@ fn server(buffer: &mut [u8; 64]) -> Connection<'_> {
     )
 }
 
-/// Receives the records that have arrived, sends their data back, and closes after the peer has. Keeps the bytes of a record that is
-/// not whole.
+/// Receives the records that have arrived, sends their data back, and closes after the peer has. Keeps the bytes of a record that
+/// is not whole.
 fn echo(
     connection: &mut Connection<'_>,
     alloc: Global,
@@ -59,7 +59,46 @@ fn echo(
     Ok(())
 }
 
-/// Asserts that a content comes back from a server that echoes, in bytes that arrive in two pieces.
+/// The records of a content.
+fn sent(end: &mut Connection<'_>, alloc: Global, content: &[u8]) -> Result<Vec<u8>, Fail> {
+    let mut out = Vec::new(alloc);
+    end.send(content, &mut out)?;
+    Ok(out)
+}
+
+/// The record of a KeyUpdate, after the one that is owed.
+fn updated(
+    end: &mut Connection<'_>,
+    alloc: Global,
+    request: KeyUpdateRequest,
+) -> Result<Vec<u8>, Fail> {
+    let mut out = Vec::new(alloc);
+    end.send_key_update(request, &mut out)?;
+    Ok(out)
+}
+
+/// What whole records bring.
+fn received(end: &mut Connection<'_>, alloc: Global, bytes: &mut [u8]) -> Result<Received, Fail> {
+    let mut received = Received::new(alloc);
+    let taken = end.receive(alloc, bytes, &mut received)?;
+    if taken != bytes.len() {
+        return Err("part of a record is left".into());
+    }
+    Ok(received)
+}
+
+/// What a server that echoes sends back, if the records arrive in two pieces.
+fn echoed(server: &mut Connection<'_>, alloc: Global, records: &[u8]) -> Result<Vec<u8>, Fail> {
+    let (first, second) = records.split_at(records.len() / 2);
+    let mut back = Vec::new(alloc);
+    let mut arrived = first.to_vec(alloc)?;
+    echo(server, alloc, &mut arrived, &mut back)?;
+    arrived.extend_from_slice(second)?;
+    echo(server, alloc, &mut arrived, &mut back)?;
+    Ok(back)
+}
+
+/// Asserts that a content comes back from a server that echoes.
 fn comes_back(
     rt: &impl Abort,
     alloc: Global,
@@ -67,62 +106,88 @@ fn comes_back(
     server: &mut Connection<'_>,
     content: &[u8],
 ) -> Result<(), Fail> {
-    let mut out = Vec::new(alloc);
-    client.send(content, &mut out)?;
-    let mut arrived = out.get(..out.len() / 2).unwrap_or(&[]).to_vec(alloc)?;
-    let mut back = Vec::new(alloc);
-    echo(server, alloc, &mut arrived, &mut back)?;
-    arrived.extend_from_slice(out.get(out.len() / 2..).unwrap_or(&[]))?;
-    echo(server, alloc, &mut arrived, &mut back)?;
-    holds(rt, arrived.is_empty(), "all has arrived");
-    let mut received = Received::new(alloc);
-    let taken = client.receive(alloc, &mut back, &mut received)?;
-    equal(rt, &taken, &back.len());
-    same(rt, &received.application_data, content, "the content");
+    let records = sent(client, alloc, content)?;
+    let mut back = echoed(server, alloc, &records)?;
+    let found = received(client, alloc, &mut back)?;
+    same(rt, &found.application_data, content, "the content");
     Ok(())
 }
 
-/// Sends a KeyUpdate, which the other end follows.
-fn updates(
+/// What the ends of a connection do.
+#[derive(Clone, Copy)]
+enum Move {
+    /// The client sends a content, and the server sends it back.
+    Echo(&'static [u8]),
+    /// The client sends a KeyUpdate.
+    Client(KeyUpdateRequest),
+    /// The server does.
+    Server(KeyUpdateRequest),
+}
+
+use Move::{Client, Echo, Server};
+
+/// Key updates of both ends, and whether the client and the server owe one afterwards.
+const MOVES: [(Move, bool, bool); 12] = [
+    (Echo(b"first"), false, false),
+    (Client(NotRequested), false, false),
+    (Echo(b"second"), false, false),
+    (Server(NotRequested), false, false),
+    (Echo(b"third"), false, false),
+    (Client(Requested), false, true),
+    (Client(Requested), false, true),
+    (Echo(b"fourth"), false, false),
+    (Server(Requested), true, false),
+    (Server(Requested), true, false),
+    (Client(NotRequested), false, false),
+    (Echo(b"fifth"), false, false),
+];
+
+fn make(
+    rt: &impl Abort,
     alloc: Global,
-    from: &mut Connection<'_>,
-    to: &mut Connection<'_>,
-    request: records::connection::KeyUpdateRequest,
+    client: &mut Connection<'_>,
+    server: &mut Connection<'_>,
+    what: Move,
+) -> Result<(), Fail> {
+    match what {
+        Echo(content) => comes_back(rt, alloc, client, server, content)?,
+        Client(request) => {
+            received(server, alloc, &mut updated(client, alloc, request)?)?;
+        }
+        Server(request) => {
+            received(client, alloc, &mut updated(server, alloc, request)?)?;
+        }
+    }
+    Ok(())
+}
+
+/// Asserts that close_notify of a client that sends it ends both directions.
+fn ends(
+    rt: &impl Abort,
+    alloc: Global,
+    client: &mut Connection<'_>,
+    server: &mut Connection<'_>,
 ) -> Result<(), Fail> {
     let mut out = Vec::new(alloc);
-    from.send_key_update(request, &mut out)?;
-    to.receive(alloc, &mut out, &mut Received::new(alloc))?;
+    client.close(&mut out)?;
+    let mut back = Vec::new(alloc);
+    echo(server, alloc, &mut out, &mut back)?;
+    received(client, alloc, &mut back)?;
+    holds(rt, client.is_ended() && client.is_closed(), "the client");
+    holds(rt, server.is_ended() && server.is_closed(), "the server");
     Ok(())
 }
 
-/// Two key updates of each end, of which one asks for another, and the end of both directions.
 #[test]
 fn a_whole_connection(rt: HostRuntime) -> Result<(), Fail> {
-    let alloc = rt.alloc();
     let (mut of_client, mut of_server) = ([0; 64], [0; 64]);
     let (mut client, mut server) = (client(&mut of_client, 1000), server(&mut of_server));
-    comes_back(&rt, alloc, &mut client, &mut server, b"first")?;
-    updates(alloc, &mut client, &mut server, NotRequested)?;
-    holds(&rt, !server.owes_update(), "not asked");
-    comes_back(&rt, alloc, &mut client, &mut server, b"second")?;
-    updates(alloc, &mut server, &mut client, NotRequested)?;
-    comes_back(&rt, alloc, &mut client, &mut server, b"third")?;
-    updates(alloc, &mut client, &mut server, Requested)?;
-    updates(alloc, &mut client, &mut server, Requested)?;
-    holds(&rt, server.owes_update(), "asked twice");
-    comes_back(&rt, alloc, &mut client, &mut server, b"fourth")?;
-    holds(&rt, !server.owes_update(), "answered");
-    updates(alloc, &mut server, &mut client, Requested)?;
-    updates(alloc, &mut client, &mut server, NotRequested)?;
-    holds(&rt, !client.owes_update(), "answered");
-    comes_back(&rt, alloc, &mut client, &mut server, b"fifth")?;
-    let (mut out, mut back) = (Vec::new(alloc), Vec::new(alloc));
-    client.close(&mut out)?;
-    echo(&mut server, alloc, &mut out, &mut back)?;
-    client.receive(alloc, &mut back, &mut Received::new(alloc))?;
-    holds(&rt, client.is_ended() && client.is_closed(), "the client");
-    holds(&rt, server.is_ended() && server.is_closed(), "the server");
-    Ok(())
+    for (what, client_owes, server_owes) in MOVES {
+        make(&rt, rt.alloc(), &mut client, &mut server, what)?;
+        holds(&rt, client.owes_update() == client_owes, "the client owes");
+        holds(&rt, server.owes_update() == server_owes, "the server owes");
+    }
+    ends(&rt, rt.alloc(), &mut client, &mut server)
 }
 
 /// A limit, and which calls succeed of a new end: `send` of one record, `send_key_update` and `close`.
@@ -157,22 +222,43 @@ fn updates_at_the_limit(rt: HostRuntime) -> Result<(), Fail> {
     let alloc = rt.alloc();
     let (mut of_client, mut of_server) = ([0; 64], [0; 64]);
     let (mut client, mut server) = (client(&mut of_client, 4), server(&mut of_server));
-    for remaining in [1, 0, 1, 0, 1] {
-        comes_back(&rt, alloc, &mut client, &mut server, b"one record")?;
+    let content = vec![in alloc; 9; 32769]?;
+    let (two, _) = content.split_at(32768);
+    let contents: [(&[u8], u64); 6] = [
+        (b"one record", 1),
+        (b"one record", 0),
+        (b"one record", 1),
+        (b"one record", 0),
+        (two, 0),
+        (b"one record", 1),
+    ];
+    for (content, remaining) in contents {
+        comes_back(&rt, alloc, &mut client, &mut server, content)?;
         equal(&rt, &client.remaining(), &remaining);
     }
-    let content = [9; 32769];
     let mut out = Vec::new(alloc);
     let refused = client.send(&content, &mut out);
     equal(&rt, &refused, &Err(RecordError::KeyUsedUp));
     holds(&rt, out.is_empty(), "nothing is written");
-    let two = content.get(..32768).unwrap_or(&[]);
-    comes_back(&rt, alloc, &mut client, &mut server, two)?;
-    equal(&rt, &client.remaining(), &0);
     Ok(())
 }
 
-/// After an alert nothing is sent, and what the peer sends is still received.
+/// After an alert every call that sends fails, and nothing is written.
+fn sends_nothing(rt: &impl Abort, end: &mut Connection<'_>, out: &mut Vec<u8>) {
+    let len = out.len();
+    let results = [
+        end.send(b"x", out),
+        end.send_key_update(Requested, out),
+        end.close(out),
+        end.abort(AlertDescription::DecodeError, out),
+    ];
+    for result in &results {
+        equal(rt, result, &Err(RecordError::Ended));
+    }
+    equal(rt, &out.len(), &len);
+}
+
+/// What the peer sends is still received.
 #[test]
 fn nothing_after_an_alert(rt: HostRuntime) -> Result<(), Fail> {
     let alloc = rt.alloc();
@@ -180,23 +266,11 @@ fn nothing_after_an_alert(rt: HostRuntime) -> Result<(), Fail> {
     let (mut client, mut server) = (client(&mut of_client, 1000), server(&mut of_server));
     let mut out = Vec::new(alloc);
     client.abort(AlertDescription::InternalError, &mut out)?;
-    let len = out.len();
-    let ended = Err(RecordError::Ended);
-    equal(&rt, &client.send(b"x", &mut out), &ended);
-    equal(&rt, &client.send_key_update(Requested, &mut out), &ended);
-    equal(&rt, &client.close(&mut out), &ended);
-    equal(
-        &rt,
-        &client.abort(AlertDescription::DecodeError, &mut out),
-        &ended,
-    );
-    equal(&rt, &out.len(), &len);
+    sends_nothing(&rt, &mut client, &mut out);
     let found = server.receive(alloc, &mut out, &mut Received::new(alloc));
     equal(&rt, &found, &Err(ReceiveError::Alert(80)));
-    let mut back = Vec::new(alloc);
-    server.send(b"still", &mut back)?;
-    let mut received = Received::new(alloc);
-    client.receive(alloc, &mut back, &mut received)?;
-    same(&rt, &received.application_data, b"still", "the content");
+    let mut still = sent(&mut server, alloc, b"still")?;
+    let found = received(&mut client, alloc, &mut still)?;
+    same(&rt, &found.application_data, b"still", "the content");
     Ok(())
 }

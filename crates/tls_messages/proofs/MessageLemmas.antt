@@ -5,7 +5,7 @@ use Rattle.std.proofs.lemmas.Slice.{take-put_mid}
 use borrow.Rule.Slice.PartMut.{put_mid}
 use Rattle.std.proofs.Common.{inl, inr}
 use Rattle.std.proofs.lemmas.Bool.{cases_lt}
-use Rattle.std.proofs.Common.{max, rules, length-append, subst, IsTrue}
+use Rattle.std.proofs.Common.{rules, length-append, subst, IsTrue}
 use Rattle.tls_messages.specs.Messages.{may_come, message_len, Begins, IsExpected, IsMessage, IsPart}
 use Rattle.tls_messages.specs.Steps.{Refuses, RefusesHeader, RefusesMessage}
 use Rattle.tls_messages.specs.declared.stage.Stage.{Stage}

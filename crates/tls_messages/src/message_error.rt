@@ -59,9 +59,10 @@ impl MessageError {
         }
     }
 
-    /// Returns the code of the error with which a connection of QUIC is closed, or `None` for `Closed`. It is CRYPTO_BUFFER_EXCEEDED
-    /// for `TooLong` (RFC 9000 section 7.5), PROTOCOL_VIOLATION for `DataAfterKeys` (RFC 9001 section 4.1.3) and for
-    /// `UnexpectedType` of a CertificateRequest (section 4.4), and for the others CRYPTO_ERROR with the alert (section 4.8).
+    /// Returns the code of the error with which a connection of QUIC is closed, or `None` for `Closed`. It is
+    /// CRYPTO_BUFFER_EXCEEDED for `TooLong` (RFC 9000 section 7.5), PROTOCOL_VIOLATION for `DataAfterKeys` (RFC 9001 section
+    /// 4.1.3) and for `UnexpectedType` of a CertificateRequest (section 4.4), and for the others CRYPTO_ERROR with the alert
+    /// (section 4.8).
     pub fn quic_code(self) -> Option<u64>
         ensures { result ≡ quic_code_of self }
     {

@@ -103,8 +103,8 @@ impl<'b> MessageReader<'b> {
         self.is_closed
     }
 
-    /// Admits a record that is not a handshake record: no message may be cut (RFC 8446 section 5.1). An alert is such a record, and
-    /// a ChangeCipherSpec that is dropped (section 5) is none.
+    /// Admits a record that is not a handshake record: no message may be cut (RFC 8446 section 5.1). An alert is such a record,
+    /// and a ChangeCipherSpec that is dropped (section 5) is none.
     ///
     /// Fails with `Interrupted` if a message is cut, which closes the reader.
     pub fn admit_other_record(&mut self) -> Result<(), MessageError>
@@ -129,11 +129,11 @@ impl<'b> MessageReader<'b> {
     /// `None` if the content ends before a message does. It is then used up, and the content of the next handshake record
     /// continues.
     ///
-    /// As soon as the type and the length of a message are there, fails with `UnexpectedType` if a message of this type may
-    /// not come (RFC 8446 sections 4.6.2 and 4.6.3, RFC 9001 sections 4.4, 6 and 8.3), with `KeyUpdateLength` if it is a KeyUpdate of another length, and with
-    /// `TooLong` if it is longer than the buffer. When it is whole, fails with `KeyUpdateRequest` if it is a KeyUpdate whose
-    /// byte is neither 0 nor 1, and with `DataAfterKeys` if the content continues after a ClientHello, ServerHello,
-    /// EndOfEarlyData, Finished or KeyUpdate.
+    /// As soon as the type and the length of a message are there, fails with `UnexpectedType` if a message of this type may not
+    /// come (RFC 8446 sections 4.6.2 and 4.6.3, RFC 9001 sections 4.4, 6 and 8.3), with `KeyUpdateLength` if it is a KeyUpdate of
+    /// another length, and with `TooLong` if it is longer than the buffer. When it is whole, fails with `KeyUpdateRequest` if it
+    /// is a KeyUpdate whose byte is neither 0 nor 1, and with `DataAfterKeys` if the content continues after a ClientHello,
+    /// ServerHello, EndOfEarlyData, Finished or KeyUpdate.
     pub fn next<'s>(&'s mut self, content: &mut &[u8]) -> Result<Option<&'s [u8]>, MessageError>
         ensures* leaves { sem 𝓛 (follows_so (the_row (record { mir = named 1; lft = [] })) (the_row (record { mir = named 1; lft = [] }))
             self.entry.ghost_name none (λ _ _. ⊤)

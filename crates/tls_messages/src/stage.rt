@@ -8,8 +8,8 @@ use crate::message_type::{
     NEW_SESSION_TICKET,
 };
 
-/// A stage of a connection at one end, which decides on the messages that the end may receive. Those whose names begin with `Quic`
-/// are for the CRYPTO frames of QUIC.
+/// A stage of a connection at one end, which decides on the messages that the end may receive. Those whose names begin with
+/// `Quic` are for the CRYPTO frames of QUIC.
 #[derive(Clone, Copy, Debug, PartialEq, Eq)]
 pub enum Stage {
     /// The handshake: every message but a KeyUpdate, which must not precede the Finished (RFC 8446 section 4.6.3). In which
@@ -26,8 +26,8 @@ pub enum Stage {
     AuthenticatingServer,
     /// The handshake in QUIC: every message but a KeyUpdate (RFC 9001 section 6) and an EndOfEarlyData (section 8.3).
     QuicHandshake,
-    /// After the handshake, at a client in QUIC: NewSessionTicket. There is no KeyUpdate (RFC 9001 section 6), and no post-handshake
-    /// authentication (section 4.4).
+    /// After the handshake, at a client in QUIC: NewSessionTicket. There is no KeyUpdate (RFC 9001 section 6), and no
+    /// post-handshake authentication (section 4.4).
     QuicClient,
     /// After the handshake, at a server in QUIC: no message.
     QuicServer,
