@@ -15,4 +15,5 @@ pub mod SecretLemmas
 pub mod SenderRuns
 pub mod SentLemmas
 pub mod SpaceLemmas
+pub mod StepLemmas
 pub mod WrittenLemmas

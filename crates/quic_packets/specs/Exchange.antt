@@ -7,7 +7,6 @@ use Rattle.quic_packets.specs.Keys.{PacketKey}
 use Rattle.quic_packets.specs.Receiving.{Receiver, has_phase, new_receiver, received}
 use Rattle.quic_packets.specs.Sending.{IsInTurn, IsSealable, IsSent, Sender, after_acknowledgement, after_send, after_skip, after_update, is_long, new_sender, numbered_packet}
 use Rattle.quic_packets.specs.Space.{IsNew, Marks, Space, new_space}
-use Rattle.quic_packets.specs.Suite.{algorithm}
 use Rattle.quic_packets.specs.declared.error.PacketError.{PacketError}
 use Rattle.quic_packets.specs.declared.error.PacketError.TheVariants.{Duplicate}
 use Rattle.quic_packets.specs.declared.fixed_bit.FixedBit.{FixedBit}

@@ -1,5 +1,7 @@
 -- The definitions that the contracts use.
+pub mod Connection
 pub mod Datagram
+pub mod Ends
 pub mod Errors
 pub mod Exchange
 pub mod Failures

@@ -26,6 +26,9 @@ pub enum PacketError {
     /// There is no secret from which keys derive: the sender or the receiver is made of keys.
     #[error("there is no secret from which keys derive")]
     NoSecret,
+    /// The connection does not have the keys of the level.
+    #[error("the keys of the level are not there")]
+    NoKeys,
     /// The packet number is said to begin at byte 0, which is the first byte of every header.
     #[error("the packet number cannot begin at the header's first byte")]
     NumberAtFirstByte,

@@ -3,10 +3,11 @@
 //!
 //! A packet is one slice: the header, which ends with the packet number, the payload, and 16 bytes for the tag. `Sender` sends
 //! a packet in one call, whose header `LongHeader` or `ShortHeader` writes. `Receiver` receives one, and `packet_at` finds the
-//! parts of a packet in its datagram. `PacketKey`, `HeaderKey` and `numbers` are the parts of both. `laws` states what holds over
-//! runs of calls.
+//! parts of a packet in its datagram. `connection` has both for each level of a connection. `PacketKey`, `HeaderKey` and `numbers`
+//! are the parts of both. `laws` states what holds over runs of calls.
 #![tactic(auto)]
 
+pub mod connection;
 mod datagram;
 mod error;
 mod failures;

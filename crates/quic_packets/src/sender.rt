@@ -186,6 +186,13 @@ impl Sender {
         self.sealed
     }
 
+    /// Returns the number of packets that each key may seal.
+    pub fn limit(&self) -> u64
+        ensures { result ≡ self.now.limit }
+    {
+        self.limit
+    }
+
     /// Returns how many packets can still be sent without a key update: as many as the limit leaves to the current key, or as
     /// the space leaves numbers, whichever is less.
     pub fn remaining(&self) -> u64
@@ -356,6 +363,14 @@ impl Sender {
     {
         self.check_update()?;
         self.follow_update_with(key, iv)
+    }
+
+    /// Returns whether `initiate_update` would succeed.
+    pub fn can_update(&self) -> bool
+        ensures { IsTrue result
+            ↔ (IsTrue self.now.confirmed × IsTrue self.now.acknowledged × IsSome self.now.secret) }
+    {
+        self.is_confirmed && self.is_acknowledged && self.secret.is_some()
     }
 
     // Checks that this endpoint may initiate a key update.
@@ -551,6 +566,7 @@ impl Sender {
         ensures sent { OnOk result (IsSent self.old number.start number.end packet.old packet.new) }
         ensures number { IfOk result (λ n. n ≡ self.old.next) }
         ensures counted { OnOk result (self.new ≡ after_send self.old) }
+        ensures with_keys { ¬ IsErrOf result PacketError.NoKeys }
         ensures kept { OnErr result (packet.new ≡ packet.old) }
         ensures sender_kept { OnErr result (self.new ≡ self.old) }
     {
@@ -584,7 +600,8 @@ impl Sender {
             × ¬ IsRoom self.now.next self.now.largest number_at header_len) }
         ensures others { ¬ IsErrOf result PacketError.TooShort × ¬ IsErrOf result PacketError.TooLong
             × ¬ IsErrOf result PacketError.NumberAtFirstByte × ¬ IsErrOf result PacketError.NoSample
-            × ¬ IsErrOf result PacketError.NoProtection × ¬ IsErrOf result PacketError.EmptyPayload }
+            × ¬ IsErrOf result PacketError.NoProtection × ¬ IsErrOf result PacketError.EmptyPayload
+            × ¬ IsErrOf result PacketError.NoKeys }
         ensures bound { OnOk result (header_len ≤ number_at + 4) }
     {
         if self.sealed >= self.limit {
@@ -634,7 +651,8 @@ fn check_packet(
         × IsFalse (lacks_fixed_bit fixed_bit (header_version packet.now) (slice_index packet.now 0))
         × (length packet.now ≡ header_len + 16)) }
     ensures others { ¬ IsErrOf result PacketError.KeyUsedUp × ¬ IsErrOf result PacketError.NumbersEnded
-        × ¬ IsErrOf result PacketError.NumberTooFar × ¬ IsErrOf result PacketError.NumberLength }
+        × ¬ IsErrOf result PacketError.NumberTooFar × ¬ IsErrOf result PacketError.NumberLength
+        × ¬ IsErrOf result PacketError.NoKeys }
 {
     let payload_len = payload_len(packet, header_len)?;
     if number_at == 0 {

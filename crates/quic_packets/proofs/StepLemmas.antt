@@ -1,0 +1,149 @@
+-- The packet at a byte of a datagram, and the step past one that a receiver has tried.
+use Rattle.std.proofs.Common.{◌≡◌, ℕ, ◌+◌, ◌-◌, ◌<◌, ◌≤◌, ◌↔◌, ◌⊎◌, Bool, true, false, List, length, Option, None, Some, Ok, Err, Result, OnErr, IsErrOf, IfErr, IfSome, IsSome, is_some, if◌then◌else◌, unwrap_or, slice_index, refl, sym, ap, subst, ◌∙◌}
+use Rattle.quic_packets.specs.Connection.{Connection, IsGiven, IsOpening, IsOwn, IsPacketAt, IsTried, end_of, incoming_of, is_opened, opened_of, receiver_of, space_of, step_of}
+use Rattle.quic_packets.specs.Datagram.{bytes_of, number_in, packet_of}
+use Rattle.quic_packets.specs.Errors.{error_code}
+use Rattle.quic_packets.specs.Header.{HasSample}
+use Rattle.quic_packets.specs.Receiving.{Outcome, Reads, Receiver, is_of_opened}
+use Rattle.quic_packets.specs.declared.connection.incoming.Incoming.TheVariants.{Packet as PacketOf, Dropped, Ignored}
+use Rattle.quic_packets.specs.declared.connection.incoming.Step.{Step}
+use Rattle.quic_packets.specs.declared.datagram.Packet.{Packet}
+use Rattle.quic_packets.specs.declared.datagram.PacketType.{PacketType}
+use Rattle.quic_packets.specs.declared.error.PacketError.{PacketError}
+use Rattle.quic_packets.specs.declared.error.PacketError.TheVariants.{NoSample, Refused}
+use Rattle.quic_packets.specs.declared.receiver.Received.{Received}
+
+-- a fact about the step, by what the receiver returned
+pub step_cases : (P : Result Received PacketError → Result Step PacketError → Type 0) (next : ℕ) (t : PacketType) (o : Result Received PacketError)
+    → ((r : Received) → P (Ok r) (Ok (record { next = next; incoming = PacketOf t r })))
+    → ((e : PacketError) → is_some (error_code e) ≡ true → P (Err e) (Err e))
+    → ((e : PacketError) → is_some (error_code e) ≡ false → P (Err e) (Ok (record { next = next; incoming = Dropped e })))
+    → P o (step_of next (incoming_of t o))
+step_cases P next t (Ok r) received closed dropped = received r
+step_cases P next t (Err e) received closed dropped =
+    let cases : (b : Bool) → is_some (error_code e) ≡ b → P (Err e) (step_of next (if b then Err e else Ok (Dropped e))) =
+    λ b. elim b as (λ v. is_some (error_code e) ≡ v → P (Err e) (step_of next (if v then Err e else Ok (Dropped e)))) [
+      | true ↦ λ some. closed e some
+      | false ↦ λ none. dropped e none
+    ] in
+    cases (is_some (error_code e)) refl
+
+pub opened_is : (next : ℕ) (t : PacketType) (o : Result Received PacketError) → opened_of (step_of next (incoming_of t o)) ≡ Some o
+opened_is next t o = step_cases (λ o step. opened_of step ≡ Some o) next t o (λ r. refl) (λ e some. refl) (λ e none. refl)
+
+-- a packet that was tried isn't ignored
+pub not_ignored : (next : ℕ) (t : PacketType) (o : Result Received PacketError) → IsGiven (step_of next (incoming_of t o)) Ignored → ⊥
+not_ignored next t o =
+    step_cases (λ o step. IsGiven step Ignored → ⊥) next t o (λ r is. absurd cc) (λ e some is. absurd is) (λ e none is. absurd cc)
+
+-- an error without a code drops the packet
+pub dropped_as : (next : ℕ) (t : PacketType) (o : Result Received PacketError) (error : PacketError) → is_some (error_code error) ≡ false
+    → IsGiven (step_of next (incoming_of t o)) (Dropped error) ↔ IsErrOf o error
+dropped_as next t o error none =
+    step_cases (λ o step. IsGiven step (Dropped error) ↔ IsErrOf o error) next t o
+    (λ r. (λ is. absurd cc, λ is. absurd cc))
+    (λ e some. (λ is. absurd is, λ is. (let same : e ≡ error = cc in absurd cc)))
+    (λ e no_code. (λ is. ap Err (the_error e error is), λ is. (let same : e ≡ error = cc in ap Dropped same)))
+  where
+    the_error : (e f : PacketError) → Dropped e ≡ Dropped f → e ≡ f
+    the_error e f is = cc
+
+some_of : (o : Option Receiver) → IsSome o → (r : Receiver) × (o ≡ Some r)
+some_of (Some r) is = (r, refl)
+some_of None is = absurd cc
+
+-- a result of a receiver that is there before and after
+pub tried_at : (T : Receiver → Receiver → Type 0) (o o' : Option Receiver) (r : Receiver) → o ≡ Some r → IsSome o'
+    → IfSome o (λ r. IfSome o' (λ r'. T r r')) → T r (unwrap_or o' r)
+tried_at T o (Some r') r is some tried = subst (λ o. IfSome o (λ r. T r r')) is tried
+tried_at T o None r is some tried = absurd cc
+
+module _ (c : Connection) (id_len : ℕ) (id datagram : List ℕ) (at : ℕ) (parts : Packet)
+    (parsed : packet_of c.fixed_bit id_len datagram at ≡ Ok parts) where
+  -- there is one packet at a byte
+  pub same_parts : (p : Packet) → IsPacketAt c id_len id datagram at p → p ≡ parts
+  same_parts p is = let its : packet_of c.fixed_bit id_len datagram at ≡ Ok p = is.parsed in cc
+
+  pub not_own : (IsOwn id datagram parts → ⊥) → (p : Packet) → IsPacketAt c id_len id datagram at p → ⊥
+  not_own other p is = other (subst (IsOwn id datagram) (same_parts p is) is.own)
+
+  -- what a receiver has tried
+  module _ (c' : Connection) (new : List ℕ) (o : Result Received PacketError) (result : Result Step PacketError)
+      (within : parts.end ≤ length datagram) (stepped : result ≡ step_of parts.end (incoming_of parts.packet_type o))
+      (some : IsSome (receiver_of c' parts.packet_type))
+      (tried : IfSome (receiver_of c parts.packet_type) (λ r. IfSome (receiver_of c' parts.packet_type) (λ r'.
+      IsTried r (space_of c parts.packet_type) c.failures parts datagram o r' (space_of c' parts.packet_type) c'.failures new))) where
+    abbrev Tried : Receiver → Receiver → Type 0
+    Tried r r' = IsTried r (space_of c parts.packet_type) c.failures parts datagram o r' (space_of c' parts.packet_type) c'.failures new
+
+    -- the receiver, and what it did
+    its : (p : Packet) (r : Receiver) → IsOpening c id_len id datagram at p r → Tried r (unwrap_or (receiver_of c' parts.packet_type) r)
+    its p r opening =
+        tried_at Tried (receiver_of c parts.packet_type) (receiver_of c' parts.packet_type) r
+        (subst (λ q. receiver_of c q.packet_type ≡ Some r) (same_parts p opening.packet) opening.receiver) some tried
+
+    pub sampled : (p : Packet) (r : Receiver) → IsOpening c id_len id datagram at p r
+        → IsGiven result (Dropped NoSample) ↔ ((0 < number_in p) × (p.end - p.start < number_in p + 20))
+    sampled p r opening =
+        let same = same_parts p opening.packet in
+        let it = its p r opening in
+        let is = dropped_as parts.end parts.packet_type o NoSample refl in
+        subst (λ q. IsGiven result (Dropped NoSample) ↔ ((0 < number_in q) × (q.end - q.start < number_in q + 20))) (sym same)
+        (subst (λ step. IsGiven step (Dropped NoSample) ↔ ((0 < number_in parts) × (parts.end - parts.start < number_in parts + 20))) (sym stepped) (
+          λ given. (let d = it.no_sample.0 (is.0 given) in (d.2, d.3)),
+          λ d. is.1 (it.no_sample.1 (opening.receiving, within, d.0, d.1)),
+        ))
+
+    -- what becomes of a packet that is long enough for a sample
+    abbrev Becomes : Receiver → Packet → Result Received PacketError → Type 0
+    Becomes r p opened =
+        (plain : List ℕ) × (number : ℕ) × Reads r.header (space_of c p.packet_type).next (number_in p) (bytes_of p datagram) plain number
+        × Outcome r (space_of c p.packet_type) p.start (number_in p) plain number opened (unwrap_or (receiver_of c' p.packet_type) r)
+        (bytes_of p new)
+
+    pub outcome : (p : Packet) (r : Receiver) → IsOpening c id_len id datagram at p r → HasSample (number_in p) (p.end - p.start)
+        → IfSome (opened_of result) (Becomes r p)
+    outcome p r opening sample =
+        let same = same_parts p opening.packet in
+        let it = its p r opening in
+        let has : HasSample (number_in parts) (parts.end - parts.start) = subst (λ q. HasSample (number_in q) (q.end - q.start)) same sample in
+        subst (λ q. IfSome (opened_of result) (Becomes r q)) (sym same)
+        (subst (λ opened. IfSome opened (Becomes r parts)) (sym (ap opened_of stepped ∙ opened_is parts.end parts.packet_type o))
+        (it.outcome opening.receiving within has))
+
+    module _ (held : IsSome (receiver_of c parts.packet_type)) where
+      abbrev there : (r : Receiver) × (receiver_of c parts.packet_type ≡ Some r)
+      there = some_of (receiver_of c parts.packet_type) held
+
+      at_it : Tried there.0 (unwrap_or (receiver_of c' parts.packet_type) there.0)
+      at_it = tried_at Tried (receiver_of c parts.packet_type) (receiver_of c' parts.packet_type) there.0 there.1 some tried
+
+      pub not_failed : (IsGiven result (Dropped Refused) → ⊥) → c'.failures ≡ c.failures
+      not_failed other =
+          let is = dropped_as parts.end parts.packet_type o Refused refl in
+          at_it.not_failed (λ refused. other (subst (λ step. IsGiven step (Dropped Refused)) (sym stepped) (is.1 refused)))
+
+      pub bytes_kept : is_opened (opened_of result) ≡ false → new ≡ datagram
+      bytes_kept unopened =
+          let it : is_opened (Some o) ≡ false = subst (λ x. is_opened x ≡ false) (ap opened_of stepped ∙ opened_is parts.end parts.packet_type o) unopened in
+          same_bytes o at_it.bytes_kept it
+        where
+          same_bytes : (o : Result Received PacketError) → IfErr o (λ error. is_of_opened error ≡ false → new ≡ datagram)
+              → is_opened (Some o) ≡ false → new ≡ datagram
+          same_bytes (Ok p) kept is = absurd cc
+          same_bytes (Err e) kept is = kept is
+
+      pub outside : parts.start ≡ at → (i : ℕ) → (i < at) ⊎ (end_of (packet_of c.fixed_bit id_len datagram at) (length datagram) ≤ i)
+          → slice_index new i ≡ slice_index datagram i
+      outside starts i apart =
+          at_it.outside i (subst (λ s. (i < s) ⊎ (parts.end ≤ i)) (sym starts)
+          (subst (λ p. (i < at) ⊎ (end_of p (length datagram) ≤ i)) parsed apart))
+
+      pub kept : OnErr o (c' ≡ record c { failures = c'.failures }) → OnErr result (c' ≡ c)
+      kept but =
+          subst (λ step. OnErr step (c' ≡ c)) (sym stepped)
+          (step_cases (λ o step. ((IsErrOf o Refused → ⊥) → c'.failures ≡ c.failures) → OnErr o (c' ≡ record c { failures = c'.failures })
+          → OnErr step (c' ≡ c)) parts.end parts.packet_type o
+          (λ r same but. tt)
+          (λ e code same but. but ∙ ap (λ f. record c { failures = f }) (same (λ refused. absurd cc)))
+          (λ e none same but. tt) at_it.not_failed but)

@@ -1,0 +1,4 @@
+use Rattle.quic_packets.proofs.connection.Connection.send.Goals as goal
+
+pub returns-in-OneRtt-clause-used_up : goal.returns-in-OneRtt-clause-used_up
+returns-in-OneRtt-clause-used_up c = rw (← c.self.view_is, c.in-OneRtt.is) c.send_one_rtt.ensures.used_up

@@ -1,0 +1,185 @@
+-- One end of a connection: its levels, and what becomes of a packet that it receives (RFC 9000 sections 12.2 and 12.3, RFC 9001
+-- sections 4.9, 5.7 and 6).
+use Rattle.std.specs.Prelude.{◌≡◌, ℕ, ◌+◌, ◌-◌, ◌<◌, ◌≤◌, ◌↔◌, Bool, true, false, if◌then◌else◌, List, length, slice_range, Option, None, Some, is_some, IfSome, Result, Ok, Err, IsOkAnd, IfOk, IfErr, IsErrOf, OnErr}
+use Rattle.quic_packets.specs.Datagram.{KeepsOutside, bytes_of, number_in, packet_of}
+use Rattle.quic_packets.specs.Ends.{Ends, following, kept_back, phase_of, renewed, sent, with_next_key}
+use Rattle.quic_packets.specs.Errors.{error_code}
+use Rattle.quic_packets.specs.Failures.{Failures}
+use Rattle.quic_packets.specs.Header.{HasSample}
+use Rattle.quic_packets.specs.Receiving.{Outcome, Reads, Receiver, is_of_opened}
+use Rattle.quic_packets.specs.Sending.{Sender}
+use Rattle.quic_packets.specs.Space.{IsNew, Marks, Space}
+use Rattle.quic_packets.specs.declared.connection.Level.{Level}
+use Rattle.quic_packets.specs.declared.connection.Level.TheVariants.{Initial as InitialLevel, Handshake as HandshakeLevel, OneRtt as OneRttLevel}
+use Rattle.quic_packets.specs.declared.connection.incoming.Incoming.{Incoming}
+use Rattle.quic_packets.specs.declared.connection.incoming.Incoming.TheVariants.{Packet as PacketOf, Dropped}
+use Rattle.quic_packets.specs.declared.connection.incoming.Step.{Step}
+use Rattle.quic_packets.specs.declared.datagram.DatagramError.{DatagramError}
+use Rattle.quic_packets.specs.declared.datagram.Packet.{Packet}
+use Rattle.quic_packets.specs.declared.datagram.PacketType.{PacketType}
+use Rattle.quic_packets.specs.declared.datagram.PacketType.TheVariants.{Initial, ZeroRtt, Handshake, OneRtt}
+use Rattle.quic_packets.specs.declared.error.PacketError.{PacketError}
+use Rattle.quic_packets.specs.declared.error.PacketError.TheVariants.{NoSample, Refused, TooManyFailures}
+use Rattle.quic_packets.specs.declared.fixed_bit.FixedBit.{FixedBit}
+use Rattle.quic_packets.specs.declared.receiver.Received.{Received}
+
+-- an end: its three levels; the receiver of 0-RTT packets, which shares the space of 1-RTT; the packets that have failed
+-- authentication; how many packets a new sender may seal; and what the fixed bit of a packet must be
+pub record Connection : Type 0 where
+  pub initial : Ends
+  pub handshake : Ends
+  pub one_rtt : Ends
+  pub zero_rtt : Option Receiver
+  pub failures : Failures
+  pub limit : ℕ
+  pub fixed_bit : FixedBit
+
+abbrev pub ends_of : Connection → Level → Ends
+ends_of c InitialLevel = c.initial
+ends_of c HandshakeLevel = c.handshake
+ends_of c OneRttLevel = c.one_rtt
+
+abbrev pub with_ends : Connection → Level → Ends → Connection
+with_ends c InitialLevel ends = record c { initial = ends }
+with_ends c HandshakeLevel ends = record c { handshake = ends }
+with_ends c OneRttLevel ends = record c { one_rtt = ends }
+
+abbrev pub is_one_rtt : Level → Bool
+is_one_rtt OneRttLevel = true
+is_one_rtt _ = false
+
+-- how many packets of a level's key are kept for the one that closes the connection (RFC 9001 section 6.6)
+abbrev pub kept_at : Connection → Level → ℕ
+kept_at c OneRttLevel = kept_back c.one_rtt
+kept_at c _ = 1
+
+-- a level after its sender has sent a packet. After a 1-RTT packet, a key update that is due is initiated where it may be, and
+-- the receiver has its next key (RFC 9001 section 6.1).
+abbrev pub after_sending : Level → Ends → Sender → Ends
+after_sending OneRttLevel e s = with_next_key (renewed (sent e s))
+after_sending _ e s = sent e s
+
+-- The packets of a type: the receiver that opens them, if it is there, and the space of their numbers (RFC 9000 section 12.3).
+
+abbrev pub has_keys : PacketType → Bool
+has_keys Initial = true
+has_keys ZeroRtt = true
+has_keys Handshake = true
+has_keys OneRtt = true
+has_keys _ = false
+
+abbrev pub receiver_of : Connection → PacketType → Option Receiver
+receiver_of c Initial = c.initial.receiver
+receiver_of c ZeroRtt = c.zero_rtt
+receiver_of c Handshake = c.handshake.receiver
+receiver_of c OneRtt = c.one_rtt.receiver
+receiver_of c _ = None
+
+abbrev pub space_of : Connection → PacketType → Space
+space_of c Initial = c.initial.space
+space_of c Handshake = c.handshake.space
+space_of c _ = c.one_rtt.space
+
+-- the connection with another receiver and another space for packets of this type
+abbrev pub with_receiver : Connection → PacketType → Option Receiver → Space → Connection
+with_receiver c Initial r s = record c { initial = record c.initial { receiver = r; space = s } }
+with_receiver c ZeroRtt r s = record c { zero_rtt = r; one_rtt = record c.one_rtt { space = s } }
+with_receiver c Handshake r s = record c { handshake = record c.handshake { receiver = r; space = s } }
+with_receiver c OneRtt r s = record c { one_rtt = record c.one_rtt { receiver = r; space = s } }
+with_receiver c _ r s = c
+
+-- the sender of 1-RTT packets, after a packet of this type left the receiver of 1-RTT packets so
+abbrev pub sender_after : PacketType → Ends → Option Receiver → Option Sender
+sender_after OneRtt e r = following e.sender (phase_of e.receiver) (phase_of r)
+sender_after _ e r = e.sender
+
+-- the connection with another sender of 1-RTT packets
+abbrev pub with_sender : Connection → Option Sender → Connection
+with_sender c sender = record c { one_rtt = record c.one_rtt { sender = sender } }
+
+-- A packet of a datagram.
+
+-- it is the connection's: it has the destination ID of the datagram's first packet (RFC 9000 section 12.2), and its type has keys
+pub record IsOwn (id datagram : List ℕ) (parts : Packet) : Type 0 where
+  pub addressed : slice_range datagram parts.destination_id.start parts.destination_id.end ≡ id
+  pub keyed : has_keys parts.packet_type ≡ true
+
+-- the packet at a byte is the connection's, and has these parts
+pub record IsPacketAt (c : Connection) (id_len : ℕ) (id datagram : List ℕ) (at : ℕ) (parts : Packet) : Type 0 where
+  pub parsed : packet_of c.fixed_bit id_len datagram at ≡ Ok parts
+  pub own : IsOwn id datagram parts
+
+-- the limit of failures is not reached
+abbrev pub IsReceiving : Connection → Type 0
+IsReceiving c = c.failures.count < c.failures.limit
+
+-- the connection is to open the packet with these parts, with this receiver
+pub record IsOpening (c : Connection) (id_len : ℕ) (id datagram : List ℕ) (at : ℕ) (parts : Packet) (r : Receiver) : Type 0 where
+  pub receiving : IsReceiving c
+  pub packet : IsPacketAt c id_len id datagram at parts
+  pub receiver : receiver_of c parts.packet_type ≡ Some r
+
+-- where the packet after one that is parsed, or that isn't, begins
+abbrev pub end_of : Result Packet DatagramError → (len : ℕ) → ℕ
+end_of (Ok parts) len = parts.end
+end_of (Err error) len = len
+
+-- The result.
+
+-- this became of the packet
+abbrev pub IsGiven : Result Step PacketError → Incoming → Type 0
+IsGiven result incoming = IsOkAnd result (λ step. step.incoming ≡ incoming)
+
+-- the type of a packet that is returned, and what was received
+abbrev pub packet_in : Incoming → Option (PacketType × Received)
+packet_in (PacketOf packet_type received) = Some (packet_type, received)
+packet_in _ = None
+
+-- the packet that is returned fulfils this
+abbrev pub IfPacket : Result Step PacketError → (PacketType → Received → Type 0) → Type 0
+IfPacket result P = IfOk result (λ step. IfSome (packet_in step.incoming) (λ p. P p.0 p.1))
+
+-- what the receiver returned: an error with a code closes the connection, and after any other one the packet is dropped
+abbrev pub incoming_of : PacketType → Result Received PacketError → Result Incoming PacketError
+incoming_of packet_type (Ok received) = Ok (PacketOf packet_type received)
+incoming_of packet_type (Err error) = if is_some (error_code error) then Err error else Ok (Dropped error)
+
+abbrev pub opened_as : Incoming → Option (Result Received PacketError)
+opened_as (PacketOf packet_type received) = Some (Ok received)
+opened_as (Dropped error) = Some (Err error)
+opened_as _ = None
+
+abbrev pub opened_of : Result Step PacketError → Option (Result Received PacketError)
+opened_of (Ok step) = opened_as step.incoming
+opened_of (Err error) = Some (Err error)
+
+-- the step past a packet
+abbrev pub step_of : (next : ℕ) → Result Incoming PacketError → Result Step PacketError
+step_of next (Ok incoming) = Ok (record { next = next; incoming = incoming })
+step_of next (Err error) = Err error
+
+-- the packet was opened in place, since it is authentic
+abbrev pub is_opened : Option (Result Received PacketError) → Bool
+is_opened None = false
+is_opened (Some (Ok received)) = true
+is_opened (Some (Err error)) = is_of_opened error
+
+-- A receiver has tried a packet of a datagram: what it returns, and the receiver, the space, the failures and the datagram after
+-- it.
+pub record IsTried (r : Receiver) (s : Space) (f : Failures) (parts : Packet) (old : List ℕ)
+    (opened : Result Received PacketError) (r' : Receiver) (s' : Space) (f' : Failures) (new : List ℕ) : Type 0 where
+  pub used_up : IsErrOf opened TooManyFailures ↔ (f.limit ≤ f.count)
+  pub no_sample : IsErrOf opened NoSample
+      ↔ ((f.count < f.limit) × (parts.end ≤ length old) × (0 < number_in parts)
+      × (parts.end - parts.start < number_in parts + 20))
+  pub outcome : f.count < f.limit → parts.end ≤ length old → HasSample (number_in parts) (parts.end - parts.start)
+      → (plain : List ℕ) × (number : ℕ) × Reads r.header s.next (number_in parts) (bytes_of parts old) plain number
+      × Outcome r s parts.start (number_in parts) plain number opened r' (bytes_of parts new)
+  pub payload : IfOk opened (λ p. (parts.start < p.payload.start) × (p.payload.start ≤ p.payload.end)
+      × (p.payload.end + 16 ≡ parts.end) × (parts.end ≤ length old))
+  pub marked : IfOk opened (λ p. IsNew s p.number × Marks s p.number s')
+  pub failed : IsErrOf opened Refused → f' ≡ record f { count = f.count + 1 }
+  pub not_failed : ¬ IsErrOf opened Refused → f' ≡ f
+  pub kept : OnErr opened ((r' ≡ r) × (s' ≡ s))
+  pub bytes_kept : IfErr opened (λ error. is_of_opened error ≡ false → new ≡ old)
+  pub outside : KeepsOutside parts.start parts.end old new

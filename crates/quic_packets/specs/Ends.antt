@@ -1,0 +1,159 @@
+-- What an end of a connection has of an encryption level: its keys for both directions, and one space of packet numbers (RFC 9000
+-- section 12.3, RFC 9001 sections 4.9, 5.7 and 6).
+use Rattle.std.specs.Prelude.{◌≡◌, ℕ, ◌+◌, ◌-◌, ◌*◌, ◌^◌, ◌<◌, ◌≤◌, ◌↔◌, Bool, true, false, not, ◌&&◌, nat_lt, min, if◌then◌else◌, IsTrue, IsFalse, List, length, slice_index, Option, None, Some, is_some, Result, IsErrOf}
+use Rattle.aead_ciphers.specs.Gcm.{Fits}
+use Rattle.aead_ciphers.specs.Packet.{PacketFits}
+use Rattle.key_derivation.specs.Secret.{SecretState}
+use Rattle.quic_packets.specs.FixedBit.{lacks_fixed_bit}
+use Rattle.quic_packets.specs.Header.{HasSample}
+use Rattle.quic_packets.specs.Keys.{secret_header_key, secret_key}
+use Rattle.quic_packets.specs.Receiving.{Receiver, with_next}
+use Rattle.quic_packets.specs.Sending.{IsEncodable, IsRoom, IsSealable, Sender, after_derived_update, after_send, header_version, lacks_protection, new_sender, with_installed_keys}
+use Rattle.quic_packets.specs.Space.{Space, new_space}
+use Rattle.quic_packets.specs.declared.error.PacketError.{PacketError}
+use Rattle.quic_packets.specs.declared.error.PacketError.TheVariants.{EmptyPayload, NoFixedBit, NoProtection, NoSample, NumberAtFirstByte, NumberLength, NumberTooFar, NumbersEnded, TooLong, TooShort}
+use Rattle.quic_packets.specs.declared.fixed_bit.FixedBit.{FixedBit}
+
+-- a sender and a receiver, each of which is there or not, and the numbers that were received
+pub record Ends : Type 0 where
+  pub sender : Option Sender
+  pub receiver : Option Receiver
+  pub space : Space
+
+-- a level without keys, of which nothing was received
+abbrev pub no_ends : Ends
+no_ends = record { sender = None; receiver = None; space = new_space 2 }
+
+-- the sender, if there is one, is made of a secret
+abbrev pub is_derived : Option Sender → Bool
+is_derived None = true
+is_derived (Some s) = is_some s.secret
+
+-- Installing keys.
+
+-- the sender of a secret, with a limit: a new one that begins with number 0, or the one that is there, which continues with its
+-- numbers and its limit (RFC 9000 sections 12.3 and 17.2.5.3)
+abbrev pub installed : Option Sender → SecretState → (limit : ℕ) → Sender
+installed None secret limit =
+    record (new_sender (secret_key secret) (secret_header_key secret) (Some secret) 0) { limit = min (2 ^ 23) limit }
+installed (Some s) secret limit = with_installed_keys s (secret_key secret) (secret_header_key secret) (Some secret)
+
+-- the receiver with the key of the next secret, unless its next key is set (RFC 9001 section 6.1)
+abbrev pub prepared_by : Receiver → Option SecretState → Receiver
+prepared_by r None = r
+prepared_by r (Some held) = with_next r held
+
+abbrev pub prepared : Option Receiver → Option Receiver
+prepared None = None
+prepared (Some r) = Some (prepared_by r r.secret)
+
+-- Updating keys.
+
+-- the sender after a key update to the secret after its own (RFC 9001 section 6.1)
+abbrev pub updated_by : Sender → Option SecretState → Sender
+updated_by s None = s
+updated_by s (Some held) = after_derived_update s held
+
+abbrev pub next_phase : Option Sender → Option Sender
+next_phase None = None
+next_phase (Some s) = Some (updated_by s s.secret)
+
+-- the receiver without the key of the previous phase (RFC 9001 section 6.5)
+abbrev pub forgotten : Option Receiver → Option Receiver
+forgotten None = None
+forgotten (Some r) = Some (record r { previous = None })
+
+-- the sender knows that the handshake is confirmed (RFC 9001 section 4.1.2)
+abbrev pub knows_confirmed : Option Sender → Bool
+knows_confirmed None = false
+knows_confirmed (Some s) = s.confirmed
+
+-- the handshake is confirmed, and the keys of both directions are there (RFC 9001 section 6.1)
+abbrev pub is_confirmed : Ends → Bool
+is_confirmed e = is_some e.receiver && knows_confirmed e.sender
+
+-- a packet of the sender's phase is acknowledged, or its keys were never updated (RFC 9001 section 6.1)
+abbrev pub is_acknowledged : Option Sender → Bool
+is_acknowledged None = false
+is_acknowledged (Some s) = s.acknowledged
+
+-- a key update may be initiated (RFC 9001 section 6.1)
+abbrev pub may_update : Ends → Bool
+may_update e = is_confirmed e && is_acknowledged e.sender
+
+-- how many packets of a 1-RTT key are kept for the one that closes the connection: one, unless the keys may be updated (RFC 9001
+-- section 6.6)
+abbrev pub kept_back : Ends → ℕ
+kept_back e = if may_update e then 0 else 1
+
+-- the level once a key update is initiated: an end has at most two keys to receive with, so the previous one is dropped (RFC 9001
+-- sections 6.1 and 6.5)
+abbrev pub initiated : Ends → Ends
+initiated e = record e { sender = next_phase e.sender; receiver = forgotten e.receiver }
+
+-- the sender once the handshake is confirmed (RFC 9001 section 4.1.2)
+abbrev pub confirmed : Option Sender → Option Sender
+confirmed None = None
+confirmed (Some s) = Some (record s { confirmed = true })
+
+-- two Key Phase bits differ
+abbrev pub differ : Bool → Bool → Bool
+differ a b = if a then not b else b
+
+abbrev pub phase_of : Option Receiver → Bool
+phase_of None = false
+phase_of (Some r) = r.phase
+
+-- the sender in this phase, which it enters by a key update unless it is in it (RFC 9001 section 6.2)
+abbrev pub in_phase : Option Sender → (phase : Bool) → Option Sender
+in_phase None phase = None
+in_phase (Some s) phase = if differ s.phase phase then Some (updated_by s s.secret) else Some s
+
+-- the sender after a packet was received: it follows a key update of the peer, by which the receiver's phase changes
+abbrev pub following : Option Sender → (was now : Bool) → Option Sender
+following sender was now = if differ was now then in_phase sender now else sender
+
+-- Sending.
+
+-- how many packets the key may still seal (RFC 9001 section 6.6)
+abbrev pub left : Sender → ℕ
+left s = s.limit - s.sealed
+
+-- fewer than 2^16 packets are left to the key, or fewer than half of a lower limit
+abbrev pub is_due : Option Sender → Bool
+is_due None = false
+is_due (Some s) = nat_lt (left s) (2 ^ 16) && nat_lt (2 * left s) s.limit
+
+-- the level after its sender has sent a packet
+abbrev pub sent : Ends → Sender → Ends
+sent e s = record e { sender = Some (after_send s) }
+
+-- the level with a key update, if one is due and may be initiated
+abbrev pub renewed : Ends → Ends
+renewed e = if may_update e && is_due e.sender then initiated e else e
+
+-- the level with the next key of its receiver
+abbrev pub with_next_key : Ends → Ends
+with_next_key e = record e { receiver = prepared e.receiver }
+
+-- When a packet with this room for its number isn't sent, while its key isn't used up: the packet can't be sealed and protected,
+-- no number is left, or the room doesn't fit the number.
+pub record Refuses (s : Sender) (fixed_bit : FixedBit) (start end : ℕ) (packet : List ℕ) (result : Result ℕ PacketError)
+    : Type 0 where
+  pub too_short : IsErrOf result TooShort ↔ (length packet < end + 16)
+  pub too_long : IsErrOf result TooLong ↔ ((end + 16 ≤ length packet) × ¬ Fits end (length packet - 16 - end))
+  pub first_byte : IsErrOf result NumberAtFirstByte ↔ (PacketFits end (length packet) × (start ≡ 0))
+  pub no_sample : IsErrOf result NoSample ↔ (PacketFits end (length packet) × (0 < start) × (length packet < start + 20))
+  pub no_protection : IsErrOf result NoProtection
+      ↔ (PacketFits end (length packet) × HasSample start (length packet) × IsTrue (lacks_protection packet))
+  pub no_fixed_bit : IsErrOf result NoFixedBit
+      ↔ (PacketFits end (length packet) × HasSample start (length packet) × IsFalse (lacks_protection packet)
+      × IsTrue (lacks_fixed_bit fixed_bit (header_version packet) (slice_index packet 0)))
+  pub empty : IsErrOf result EmptyPayload
+      ↔ (PacketFits end (length packet) × HasSample start (length packet) × IsFalse (lacks_protection packet)
+      × IsFalse (lacks_fixed_bit fixed_bit (header_version packet) (slice_index packet 0)) × (length packet ≡ end + 16))
+  pub ended : IsErrOf result NumbersEnded ↔ (IsSealable fixed_bit start end packet × (s.next ≡ 2 ^ 62))
+  pub too_far : IsErrOf result NumberTooFar
+      ↔ (IsSealable fixed_bit start end packet × (s.next < 2 ^ 62) × ¬ IsEncodable s)
+  pub number_length : IsErrOf result NumberLength
+      ↔ (IsSealable fixed_bit start end packet × (s.next < 2 ^ 62) × IsEncodable s × ¬ IsRoom s.next s.largest start end)

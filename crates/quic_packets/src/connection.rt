@@ -1,0 +1,492 @@
+//! One end of a connection, client or server: the keys of its levels, over key updates, and one count of failures (RFC 9000
+//! section 12, RFC 9001 sections 4.9, 5.7 and 6).
+//!
+//! The caller installs the secrets that TLS gives, writes headers and frames, and passes on acknowledgments, the confirmation of
+//! the handshake and its timer.
+
+ghost use Rattle.std.specs.Prelude.{◌≡◌, ℕ, List, ◌+◌, ◌-◌, ◌^◌, ◌<◌, ◌≤◌, ◌↔◌, ◌⊎◌, ◌&&◌, false, true, min, length, slice_index, if◌then◌else◌, Some, None, IsTrue, IsSome, IfSome, IsOk, IfOk, IfErr, IsErrOf, OnOk, OnErr, unwrap_or, is_some};
+ghost use Rattle.std.specs.Option.{option_copied};
+ghost use Rattle.quic_packets.specs.Connection.{IfPacket, IsGiven, IsOpening, IsOwn, IsPacketAt, IsReceiving, IsTried, end_of, ends_of, has_keys, after_sending, kept_at, is_one_rtt, is_opened, opened_of, packet_in, receiver_of, sender_after, space_of, with_ends, with_receiver, with_sender};
+ghost use Rattle.quic_packets.specs.Datagram.{bytes_of, number_in, packet_of};
+ghost use Rattle.quic_packets.specs.Ends.{Refuses, confirmed, forgotten, initiated, installed, is_confirmed, left, may_update, no_ends, prepared, sent};
+ghost use Rattle.quic_packets.specs.Errors.{error_code};
+ghost use Rattle.quic_packets.specs.Header.{HasSample};
+ghost use Rattle.quic_packets.specs.Keys.{secret_header_key, secret_key};
+ghost use Rattle.quic_packets.specs.Receiving.{Outcome, Reads, new_receiver};
+ghost use Rattle.quic_packets.specs.Sending.{IsInTurn, IsSealable, IsSent, IsUnanswered, after_acknowledgement};
+ghost use Rattle.quic_packets.specs.Space.{IsNew, Marks};
+ghost use Rattle.quic_packets.specs.declared.fixed_bit.FixedBit.TheVariants.{Required};
+
+mod ends;
+mod incoming;
+
+use crate::datagram::{Packet, PacketType, packet_at};
+use crate::error::PacketError;
+use crate::failures::Failures;
+use crate::fixed_bit::FixedBit;
+use crate::receiver::{Received, Receiver};
+use crate::sender::Sender;
+use ends::Ends;
+use incoming::step_of;
+pub use incoming::{Incoming, Step};
+use key_derivation::Secret;
+use std::marker::Model;
+use std::ops::Range;
+
+/// The limit of a new sender, which is that of AES-GCM (RFC 9001 section 6.6).
+const MAX_SEALED: u64 = 1 << 23;
+
+/// An encryption level with a space of packet numbers (RFC 9000 section 12.3). 0-RTT packets share the space of 1-RTT packets.
+#[derive(Clone, Copy, PartialEq, Eq, Debug)]
+pub enum Level {
+    /// Initial packets.
+    Initial,
+    /// Handshake packets.
+    Handshake,
+    /// 0-RTT and 1-RTT packets.
+    OneRtt,
+}
+
+/// One end of a connection: for each level a sender and a receiver, which are there or not, and the numbers received.
+///
+/// An error of `receive` or `acknowledged` with a code (`PacketError::code`) closes the connection.
+#[derive(Drop)]
+pub struct Connection {
+    initial: Ends,
+    handshake: Ends,
+    one_rtt: Ends,
+    zero_rtt: Option<Receiver>,
+    failures: Failures,
+    limit: u64,
+    fixed_bit: FixedBit,
+}
+
+impl Model for Connection {
+    ghost use Rattle.quic_packets.specs.Connection.{Connection};
+
+    ghost Value = { Connection };
+
+    ghost view = { λ c. record {
+      initial = c.initial;
+      handshake = c.handshake;
+      one_rtt = c.one_rtt;
+      zero_rtt = c.zero_rtt;
+      failures = c.failures;
+      limit = c.limit;
+      fixed_bit = c.fixed_bit;
+    } };
+}
+
+impl Connection {
+    /// Creates an end without keys, whose keys may each seal 2^23 packets, and which takes 2^52 failures (RFC 9001 section 6.6).
+    ///
+    /// `fixed_bit` is what the fixed bit of a packet that arrives must be: `Greased` if this end sends the transport parameter
+    /// `grease_quic_bit` (RFC 9287 section 3).
+    pub fn new(fixed_bit: FixedBit) -> Self
+        ensures { result ≡ record {
+          initial = no_ends;
+          handshake = no_ends;
+          one_rtt = no_ends;
+          zero_rtt = None;
+          failures = record { count = 0; limit = 2 ^ 52 };
+          limit = 2 ^ 23;
+          fixed_bit = fixed_bit;
+        } }
+    {
+        Connection {
+            initial: Ends::new(),
+            handshake: Ends::new(),
+            one_rtt: Ends::new(),
+            zero_rtt: None,
+            failures: Failures::new(),
+            limit: MAX_SEALED,
+            fixed_bit,
+        }
+    }
+
+    /// Lowers the number of packets that each key may seal to `limit`, for senders that are created after it. A higher limit has
+    /// no effect.
+    pub fn with_limit(mut self, limit: u64) -> Self
+        ensures { result ≡ record self { limit = min self.limit limit } }
+    {
+        self.limit = self.limit.min(limit);
+        self
+    }
+
+    /// Lowers the limit on packets that fail authentication to `limit`. A higher limit has no effect.
+    pub fn with_max_failures(mut self, limit: u64) -> Self
+        ensures { result ≡ record self { failures = record self.failures { limit = min self.failures.limit limit } } }
+    {
+        self.failures = self.failures.with_limit(limit);
+        self
+    }
+
+    /// Returns the number of packets that have failed authentication, over all levels and key updates.
+    pub fn failures(&self) -> u64
+        ensures { result ≡ self.now.failures.count }
+    {
+        self.failures.count()
+    }
+
+    /// Returns the sender of a level, if it is there, for the number of the next packet and its length (`Sender::next_number`,
+    /// `next_number_len`).
+    pub fn sender(&self, level: Level) -> Option<&Sender>
+        ensures { option_copied result ≡ (ends_of self.now level).sender }
+    {
+        match level {
+            Level::Initial => self.initial.sender(),
+            Level::Handshake => self.handshake.sender(),
+            Level::OneRtt => self.one_rtt.sender(),
+        }
+    }
+
+    /// Installs the keys that a level sends with. Its first packet has the number 0.
+    ///
+    /// If the sender is there already, it continues with its numbers and its limit: the 0-RTT sender of a client becomes that of
+    /// 1-RTT packets (RFC 9000 section 12.3), and the one of Initial packets gets the keys of the connection ID that a Retry
+    /// packet brings (section 17.2.5.3).
+    pub fn install_sender(&mut self, level: Level, secret: Secret)
+        ensures { self.new ≡ with_ends self.old level (record (ends_of self.old level) {
+          sender = Some (installed (ends_of self.old level).sender secret self.old.limit);
+        }) }
+    {
+        match level {
+            Level::Initial => self.initial.install_sender(secret, self.limit),
+            Level::Handshake => self.handshake.install_sender(secret, self.limit),
+            Level::OneRtt => self.one_rtt.install_sender(secret, self.limit),
+        }
+    }
+
+    /// Installs the keys that open the packets of a level, in place of those that are there. The numbers received stay. For 1-RTT
+    /// packets the key after the next key update is set too, so that the peer may update once the handshake is confirmed (RFC
+    /// 9001 section 6.1).
+    pub fn install_receiver(&mut self, level: Level, secret: Secret)
+        ensures { let made = new_receiver (secret_header_key secret) (secret_key secret) (Some secret) in
+            self.new ≡ with_ends self.old level (record (ends_of self.old level) {
+              receiver = if is_one_rtt level then prepared (Some made) else Some made;
+            }) }
+    {
+        match level {
+            Level::Initial => self.initial.install_receiver(secret),
+            Level::Handshake => self.handshake.install_receiver(secret),
+            Level::OneRtt => {
+                self.one_rtt.install_receiver(secret);
+                self.one_rtt.set_next_key();
+            }
+        }
+    }
+
+    /// Installs the keys that open 0-RTT packets, which share the space of 1-RTT packets.
+    pub fn install_zero_rtt_receiver(&mut self, secret: Secret)
+        ensures { self.new ≡ record self.old {
+          zero_rtt = Some (new_receiver (secret_header_key secret) (secret_key secret) (Some secret));
+        } }
+    {
+        self.zero_rtt = Some(Receiver::from_secret(secret));
+    }
+
+    /// Drops the keys of a level, for both directions (RFC 9001 sections 4.9.1 and 4.9.2). The numbers received stay.
+    ///
+    /// A secret whose sender was dropped must not be installed again, since its numbers would begin anew.
+    pub fn discard(&mut self, level: Level)
+        ensures { self.new ≡ with_ends self.old level (record (ends_of self.old level) { sender = None; receiver = None }) }
+    {
+        match level {
+            Level::Initial => self.initial.discard(),
+            Level::Handshake => self.handshake.discard(),
+            Level::OneRtt => self.one_rtt.discard(),
+        }
+    }
+
+    /// Drops the keys that open 0-RTT packets (RFC 9001 section 4.9.3).
+    pub fn discard_zero_rtt(&mut self)
+        ensures { self.new ≡ record self.old { zero_rtt = None } }
+    {
+        self.zero_rtt = None;
+    }
+
+    /// Records that the handshake is confirmed: at a server when it is complete, at a client when HANDSHAKE_DONE arrives (RFC
+    /// 9001 section 4.1.2). It has no effect before the sender of 1-RTT packets is there.
+    pub fn confirm_handshake(&mut self)
+        ensures { self.new ≡ with_sender self.old (confirmed self.old.one_rtt.sender) }
+    {
+        self.one_rtt.confirm_handshake();
+    }
+
+    /// Drops the receiver's key of the previous phase, so that late packets of it are rejected. For the caller's timer: three
+    /// times the probe timeout after a packet of the current phase was received (RFC 9001 section 6.5).
+    pub fn forget_previous(&mut self)
+        ensures { self.new ≡ record self.old {
+          one_rtt = record self.old.one_rtt { receiver = forgotten self.old.one_rtt.receiver };
+        } }
+    {
+        self.one_rtt.forget_previous();
+    }
+
+    /// Initiates a key update, and drops the receiver's key of the previous phase (RFC 9001 sections 6.1 and 6.5).
+    ///
+    /// Fails with `HandshakeUnconfirmed` if the handshake is not confirmed or the keys of 1-RTT packets are not there in both
+    /// directions, and with `PhaseUnacknowledged` if there was an update and no packet of its phase is acknowledged yet. The
+    /// connection is then unchanged.
+    pub fn update_keys(&mut self) -> Result<(), PacketError>
+        ensures accepted { IsOk result ↔ IsTrue (may_update self.old.one_rtt) }
+        ensures unconfirmed { IsErrOf result PacketError.HandshakeUnconfirmed
+            ↔ ¬ IsTrue (is_confirmed self.old.one_rtt) }
+        ensures unacknowledged { IsErrOf result PacketError.PhaseUnacknowledged
+            ↔ (IsTrue (is_confirmed self.old.one_rtt) × ¬ IsTrue (may_update self.old.one_rtt)) }
+        ensures initiated { OnOk result (self.new ≡ record self.old { one_rtt = initiated self.old.one_rtt }) }
+        ensures kept { OnErr result (self.new ≡ self.old) }
+    {
+        self.one_rtt.update_keys()
+    }
+
+    /// Records that the peer has acknowledged the packet of a level with this number, in a packet with this Key Phase bit
+    /// (`Received::phase`), as `Sender::acknowledged_in` does.
+    ///
+    /// Fails with `NoKeys` if the level has no sender, with `NeverSent` if the number was not sent, and with `UpdateUnanswered` if
+    /// a packet of the current keys is acknowledged under older ones (RFC 9001 section 6.2). The connection is then unchanged; the
+    /// last two close it.
+    pub fn acknowledged(
+        &mut self,
+        level: Level,
+        number: u64,
+        phase: bool,
+    ) -> Result<(), PacketError>
+        ensures no_keys { IsErrOf result PacketError.NoKeys ↔ ¬ IsSome (ends_of self.old level).sender }
+        ensures never_sent { IfSome (ends_of self.old level).sender (λ s. IsErrOf result PacketError.NeverSent
+            ↔ (s.next ≤ number)) }
+        ensures unanswered { IfSome (ends_of self.old level).sender (λ s. IsErrOf result PacketError.UpdateUnanswered
+            ↔ ((number < s.next) × IsUnanswered s number phase)) }
+        ensures accepted { IfSome (ends_of self.old level).sender (λ s. IsOk result
+            ↔ ((number < s.next) × ¬ IsUnanswered s number phase)) }
+        ensures acknowledged { IfSome (ends_of self.old level).sender (λ s. OnOk result (self.new
+            ≡ with_ends self.old level (record (ends_of self.old level) { sender = Some (after_acknowledgement s number) }))) }
+        ensures kept { OnErr result (self.new ≡ self.old) }
+    {
+        match level {
+            Level::Initial => self.initial.acknowledged(number, phase),
+            Level::Handshake => self.handshake.acknowledged(number, phase),
+            Level::OneRtt => self.one_rtt.acknowledged(number, phase),
+        }
+    }
+
+    /// Sends a packet of a level, as `Sender::send` does, and returns its number. The packet is the header, which ends with room
+    /// for the number, the payload, and 16 bytes for the tag. Its fixed bit is 1.
+    ///
+    /// After a 1-RTT packet, the keys are updated where they may be (see `update_keys`) once fewer than 2^16 packets are left to
+    /// the key, or fewer than half of a lower limit; and the receiver's next key is set, since the packet may bring the
+    /// acknowledgment after which the peer may update (RFC 9001 section 6.1).
+    ///
+    /// Fails with `NoKeys` if the level has no sender; with `KeyUsedUp` if no packet is left to the key, or just one, which is
+    /// kept for `send_close`, and the keys may not be updated; and as `Sender::send` otherwise. The packet and the connection are
+    /// then unchanged.
+    pub fn send(
+        &mut self,
+        level: Level,
+        packet: &mut [u8],
+        number: Range<usize>,
+    ) -> Result<u64, PacketError>
+        ensures no_keys { IsErrOf result PacketError.NoKeys ↔ ¬ IsSome (ends_of self.old level).sender }
+        ensures used_up { IfSome (ends_of self.old level).sender (λ s. IsErrOf result PacketError.KeyUsedUp
+            ↔ (left s ≤ kept_at self.old level)) }
+        ensures accepted { IfSome (ends_of self.old level).sender (λ s. IsOk result ↔ ((kept_at self.old level < left s)
+            × IsSealable Required number.start number.end packet.old × IsInTurn s number.start number.end)) }
+        ensures refused { IfSome (ends_of self.old level).sender (λ s. kept_at self.old level < left s
+            → Refuses s Required number.start number.end packet.old result) }
+        ensures sent { IfSome (ends_of self.old level).sender (λ s. OnOk result
+            (IsSent s number.start number.end packet.old packet.new)) }
+        ensures number { IfSome (ends_of self.old level).sender (λ s. IfOk result (λ n. n ≡ s.next)) }
+        ensures counted { IfSome (ends_of self.old level).sender (λ s. OnOk result
+            (self.new ≡ with_ends self.old level (after_sending level (ends_of self.old level) s))) }
+        ensures kept { OnErr result ((packet.new ≡ packet.old) × (self.new ≡ self.old)) }
+    {
+        match level {
+            Level::Initial => self.initial.send(packet, number, 1),
+            Level::Handshake => self.handshake.send(packet, number, 1),
+            Level::OneRtt => self.one_rtt.send_one_rtt(packet, number),
+        }
+    }
+
+    /// Sends the packet that closes the connection, as `send` does, but up to the limit of the key, and without a key update.
+    ///
+    /// Fails with `NoKeys` if the level has no sender; with `KeyUsedUp` if no packet is left to the key; and as `Sender::send`
+    /// otherwise. The packet and the connection are then unchanged.
+    pub fn send_close(
+        &mut self,
+        level: Level,
+        packet: &mut [u8],
+        number: Range<usize>,
+    ) -> Result<u64, PacketError>
+        ensures no_keys { IsErrOf result PacketError.NoKeys ↔ ¬ IsSome (ends_of self.old level).sender }
+        ensures used_up { IfSome (ends_of self.old level).sender (λ s. IsErrOf result PacketError.KeyUsedUp ↔ (left s ≤ 0)) }
+        ensures accepted { IfSome (ends_of self.old level).sender (λ s. IsOk result ↔ ((0 < left s)
+            × IsSealable Required number.start number.end packet.old × IsInTurn s number.start number.end)) }
+        ensures refused { IfSome (ends_of self.old level).sender (λ s. 0 < left s
+            → Refuses s Required number.start number.end packet.old result) }
+        ensures sent { IfSome (ends_of self.old level).sender (λ s. OnOk result
+            (IsSent s number.start number.end packet.old packet.new)) }
+        ensures number { IfSome (ends_of self.old level).sender (λ s. IfOk result (λ n. n ≡ s.next)) }
+        ensures counted { IfSome (ends_of self.old level).sender (λ s. OnOk result
+            (self.new ≡ with_ends self.old level (sent (ends_of self.old level) s))) }
+        ensures kept { OnErr result ((packet.new ≡ packet.old) × (self.new ≡ self.old)) }
+    {
+        match level {
+            Level::Initial => self.initial.send(packet, number, 0),
+            Level::Handshake => self.handshake.send(packet, number, 0),
+            Level::OneRtt => self.one_rtt.send(packet, number, 0),
+        }
+    }
+
+    /// Receives the packet that begins at byte `at` of a datagram, with the keys of its type. The caller passes each packet of
+    /// the datagram in turn, so that keys which the payload of one gives are there for the next (RFC 9000 section 12.2). No byte
+    /// outside the packet changes.
+    ///
+    /// `id_len` is the length of this end's own connection IDs, and `id` the destination ID of the datagram's first packet, which
+    /// the caller knows as the connection's: an own one or, at a server, the one that the client chose for its first packets.
+    ///
+    /// A key update of the peer is followed before the call returns, so before anything of the packet is acknowledged (RFC 9001
+    /// section 6.2).
+    ///
+    /// Fails with `TooManyFailures` once the limit on packets that fail authentication is reached, whatever the packet (section
+    /// 6.6); and for an authentic packet with `ReservedBits`, `KeyUpdate` and `NoFrames`, as `Receiver::receive` does. The
+    /// connection is then unchanged, and has to be closed with the error's code.
+    pub fn receive(
+        &mut self,
+        datagram: &mut [u8],
+        at: usize,
+        id_len: usize,
+        id: &[u8],
+    ) -> Result<Step, PacketError>
+        ensures at_limit { IsErrOf result PacketError.TooManyFailures ↔ (self.old.failures.limit ≤ self.old.failures.count) }
+        ensures closes { IfErr result (λ error. IsSome (error_code error)) }
+        ensures next { IfOk result (λ step. step.next
+            ≡ end_of (packet_of self.old.fixed_bit id_len datagram.old at) (length datagram.old)) }
+        ensures moves_on { at < length datagram.old → IfOk result (λ step. (at < step.next) × (step.next ≤ length datagram.old)) }
+        ensures ignored { IsGiven result Incoming.Ignored ↔ (IsReceiving self.old
+            × ((parts : Packet) → ¬ IsPacketAt self.old id_len id.now datagram.old at parts)) }
+        ensures no_keys { (packet_type : PacketType) → IsGiven result (Incoming.NoKeys packet_type) ↔ (IsReceiving self.old
+            × ((parts : Packet) × IsPacketAt self.old id_len id.now datagram.old at parts × (parts.packet_type ≡ packet_type)
+            × ¬ IsSome (receiver_of self.old packet_type))) }
+        ensures no_sample { (parts : Packet) → (r : Receiver) → IsOpening self.old id_len id.now datagram.old at parts r
+            → IsGiven result (Incoming.Dropped PacketError.NoSample)
+            ↔ ((0 < number_in parts) × (parts.end - parts.start < number_in parts + 20)) }
+        ensures outcome { (parts : Packet) → (r : Receiver) → IsOpening self.old id_len id.now datagram.old at parts r
+            → HasSample (number_in parts) (parts.end - parts.start) → IfSome (opened_of result) (λ opened.
+            (plain : List ℕ) × (number : ℕ) × Reads r.header (space_of self.old parts.packet_type).next (number_in parts)
+            (bytes_of parts datagram.old) plain number
+            × Outcome r (space_of self.old parts.packet_type) parts.start (number_in parts) plain number opened
+            (unwrap_or (receiver_of self.new parts.packet_type) r) (bytes_of parts datagram.new)) }
+        ensures packet_type { (parts : Packet) → IsPacketAt self.old id_len id.now datagram.old at parts
+            → IfPacket result (λ packet_type _. packet_type ≡ parts.packet_type) }
+        ensures payload { IfPacket result (λ _ r. (at < r.payload.start) × (r.payload.start ≤ r.payload.end)
+            × (r.payload.end + 16 ≤ length datagram.old)) }
+        ensures marked { IfPacket result (λ packet_type r. IsNew (space_of self.old packet_type) r.number
+            × Marks (space_of self.old packet_type) r.number (space_of self.new packet_type)) }
+        ensures followed { IfPacket result (λ packet_type _. self.new.one_rtt.sender
+            ≡ sender_after packet_type self.old.one_rtt self.new.one_rtt.receiver) }
+        ensures received { IfPacket result (λ packet_type _. self.new
+            ≡ with_sender (with_receiver self.old packet_type (receiver_of self.new packet_type) (space_of self.new packet_type))
+            self.new.one_rtt.sender) }
+        ensures failed { IsGiven result (Incoming.Dropped PacketError.Refused)
+            → self.new.failures ≡ record self.old.failures { count = self.old.failures.count + 1 } }
+        ensures not_failed { ¬ IsGiven result (Incoming.Dropped PacketError.Refused) → self.new.failures ≡ self.old.failures }
+        ensures dropped { IfOk result (λ step. ¬ IsSome (packet_in step.incoming)
+            → self.new ≡ record self.old { failures = self.new.failures }) }
+        ensures kept { OnErr result (self.new ≡ self.old) }
+        ensures bytes_kept { is_opened (opened_of result) ≡ false → datagram.new ≡ datagram.old }
+        ensures outside { (i : ℕ) → (i < at) ⊎ (end_of (packet_of self.old.fixed_bit id_len datagram.old at)
+            (length datagram.old) ≤ i) → slice_index datagram.new i ≡ slice_index datagram.old i }
+    {
+        if self.failures.is_at_limit() {
+            return Err(PacketError::TooManyFailures);
+        }
+        let Ok(parts) = packet_at(datagram, at, id_len, self.fixed_bit) else {
+            let next = datagram.len();
+            return Ok(Step {
+                next,
+                incoming: Incoming::Ignored,
+            });
+        };
+        let next = parts.end;
+        if !is_own(datagram, &parts, id) {
+            return Ok(Step {
+                next,
+                incoming: Incoming::Ignored,
+            });
+        }
+        let packet_type = parts.packet_type;
+        if !self.has_receiver(packet_type) {
+            return Ok(Step {
+                next,
+                incoming: Incoming::NoKeys(packet_type),
+            });
+        }
+        let opened = self.open(datagram, &parts);
+        step_of(next, packet_type, opened)
+    }
+
+    // Whether the receiver of packets of a type is there.
+    fn has_receiver(&self, packet_type: PacketType) -> bool
+        ensures { IsTrue result ↔ IsSome (receiver_of self.now packet_type) }
+    {
+        match packet_type {
+            PacketType::Initial => self.initial.has_receiver(),
+            PacketType::ZeroRtt => self.zero_rtt.is_some(),
+            PacketType::Handshake => self.handshake.has_receiver(),
+            PacketType::OneRtt => self.one_rtt.has_receiver(),
+            _ => false,
+        }
+    }
+
+    // Opens a packet with the receiver of its type.
+    fn open(&mut self, datagram: &mut [u8], parts: &Packet) -> Result<Received, PacketError>
+        requires { IsSome (receiver_of self.old parts.now.packet_type) }
+        ensures tried { IfSome (receiver_of self.old parts.now.packet_type) (λ r.
+            IfSome (receiver_of self.new parts.now.packet_type) (λ r'. IsTried r (space_of self.old parts.now.packet_type)
+            self.old.failures parts.now datagram.old result r' (space_of self.new parts.now.packet_type) self.new.failures
+            datagram.new)) }
+        ensures some { IsSome (receiver_of self.new parts.now.packet_type) }
+        ensures followed { self.new.one_rtt.sender
+            ≡ sender_after parts.now.packet_type self.old.one_rtt self.new.one_rtt.receiver }
+        ensures received { self.new ≡ record (with_sender (with_receiver self.old parts.now.packet_type
+            (receiver_of self.new parts.now.packet_type) (space_of self.new parts.now.packet_type)) self.new.one_rtt.sender) {
+              failures = self.new.failures;
+            } }
+        ensures kept { OnErr result (self.new ≡ record self.old { failures = self.new.failures }) }
+    {
+        let failures = &mut self.failures;
+        match parts.packet_type {
+            PacketType::Initial => self.initial.open(failures, datagram, parts),
+            PacketType::Handshake => self.handshake.open(failures, datagram, parts),
+            PacketType::OneRtt => self.one_rtt.open_one_rtt(failures, datagram, parts),
+            PacketType::ZeroRtt => {
+                let Some(receiver) = &mut self.zero_rtt else {
+                    unreachable!();
+                };
+                self.one_rtt.open_with(receiver, failures, datagram, parts)
+            }
+            _ => unreachable!(),
+        }
+    }
+}
+
+// Whether a packet has this destination ID, and is of a type that has keys.
+fn is_own(datagram: &[u8], parts: &Packet, id: &[u8]) -> bool
+    requires { (parts.now.destination_id.start ≤ parts.now.destination_id.end)
+        × (parts.now.destination_id.end ≤ length datagram.now) }
+    ensures { IsTrue result ↔ IsOwn id.now datagram.now parts.now }
+{
+    let destination_id = &datagram[parts.destination_id.start..parts.destination_id.end];
+    destination_id == id && has_keys(parts.packet_type)
+}
+
+// Whether packets of a type have keys.
+fn has_keys(packet_type: PacketType) -> bool
+    ensures { result ≡ has_keys packet_type }
+{
+    match packet_type {
+        PacketType::Initial | PacketType::ZeroRtt | PacketType::Handshake | PacketType::OneRtt =>
+            true,
+        _ => false,
+    }
+}

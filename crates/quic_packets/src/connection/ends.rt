@@ -1,0 +1,343 @@
+//! The keys of an encryption level, for both directions, and its space of packet numbers.
+
+ghost use Rattle.std.specs.Prelude.{◌≡◌, ◌<◌, ◌≤◌, ◌↔◌, Some, None, IsTrue, IsSome, IfSome, IsOk, IfOk, IsErrOf, OnOk, OnErr};
+ghost use Rattle.std.specs.Option.{option_copied};
+ghost use Rattle.quic_packets.specs.Connection.{IsTried};
+ghost use Rattle.quic_packets.specs.Ends.{Refuses, confirmed, following, forgotten, in_phase, initiated, installed, is_confirmed, is_due, kept_back, left, may_update, no_ends, phase_of, renewed, sent, with_next_key};
+ghost use Rattle.quic_packets.specs.Keys.{secret_header_key, secret_key};
+ghost use Rattle.quic_packets.specs.Receiving.{new_receiver};
+ghost use Rattle.quic_packets.specs.Sending.{IsInTurn, IsSealable, IsSent, IsUnanswered, after_acknowledgement};
+ghost use Rattle.quic_packets.specs.declared.fixed_bit.FixedBit.TheVariants.{Required};
+
+use crate::datagram::Packet;
+use crate::error::PacketError;
+use crate::failures::Failures;
+use crate::fixed_bit::FixedBit;
+use crate::receiver::{Received, Receiver};
+use crate::sender::Sender;
+use crate::space::Space;
+use key_derivation::Secret;
+use std::marker::Model;
+use std::ops::Range;
+
+/// The packets that are left to a key when it is updated, unless half of its limit is fewer.
+const LEFT_AT_UPDATE: u64 = 1 << 16;
+
+/// What an end has of a level.
+#[derive(Drop)]
+pub(crate) struct Ends {
+    sender: Option<Sender>,
+    receiver: Option<Receiver>,
+    space: Space<2>,
+}
+
+impl Model for Ends {
+    ghost use Rattle.std.specs.Prelude.{◌≡◌, true};
+    ghost use Rattle.quic_packets.specs.Ends.{Ends, is_derived};
+
+    ghost Value = { Ends };
+
+    ghost view = { λ e. record { sender = e.sender; receiver = e.receiver; space = e.space } };
+
+    ghost invariant = { λ e. is_derived e.sender ≡ true };
+}
+
+impl Ends {
+    /// A level without keys.
+    pub(crate) fn new() -> Self
+        ensures { result ≡ no_ends }
+    {
+        Ends {
+            sender: None,
+            receiver: None,
+            space: Space::new(),
+        }
+    }
+
+    /// The sender, if it is there.
+    pub(crate) fn sender(&self) -> Option<&Sender>
+        ensures { option_copied result ≡ self.now.sender }
+    {
+        self.sender.as_ref()
+    }
+
+    /// Whether the receiver is there.
+    pub(crate) fn has_receiver(&self) -> bool
+        ensures { IsTrue result ↔ IsSome self.now.receiver }
+    {
+        self.receiver.is_some()
+    }
+
+    /// Creates the sender, or continues with the keys of this secret.
+    pub(crate) fn install_sender(&mut self, secret: Secret, limit: u64)
+        ensures { self.new ≡ record self.old { sender = Some (installed self.old.sender secret limit) } }
+    {
+        if let Some(sender) = &mut self.sender {
+            let Ok(()) = sender.install_secret(secret) else {
+                unreachable!();
+            };
+            return;
+        }
+        let Ok(sender) = Sender::from_secret(secret, 0) else {
+            unreachable!();
+        };
+        self.sender = Some(sender.with_limit(limit));
+    }
+
+    /// Creates the receiver, in place of the one that is there.
+    pub(crate) fn install_receiver(&mut self, secret: Secret)
+        ensures { self.new ≡ record self.old {
+          receiver = Some (new_receiver (secret_header_key secret) (secret_key secret) (Some secret));
+        } }
+    {
+        self.receiver = Some(Receiver::from_secret(secret));
+    }
+
+    /// Sets the receiver's next key, unless it is set.
+    pub(crate) fn set_next_key(&mut self)
+        ensures { self.new ≡ with_next_key self.old }
+    {
+        if let Some(receiver) = &mut self.receiver {
+            let _ = receiver.set_next();
+        }
+    }
+
+    /// Drops the keys of both directions.
+    pub(crate) fn discard(&mut self)
+        ensures { self.new ≡ record self.old { sender = None; receiver = None } }
+    {
+        self.sender = None;
+        self.receiver = None;
+    }
+
+    /// Sends a packet, if more than `kept_back` packets are left to the key.
+    pub(crate) fn send(
+        &mut self,
+        packet: &mut [u8],
+        number: Range<usize>,
+        kept_back: u64,
+    ) -> Result<u64, PacketError>
+        ensures no_keys { IsErrOf result PacketError.NoKeys ↔ ¬ IsSome self.old.sender }
+        ensures used_up { IfSome self.old.sender (λ s. IsErrOf result PacketError.KeyUsedUp ↔ (left s ≤ kept_back)) }
+        ensures accepted { IfSome self.old.sender (λ s. IsOk result ↔ ((kept_back < left s)
+            × IsSealable Required number.start number.end packet.old × IsInTurn s number.start number.end)) }
+        ensures refused { IfSome self.old.sender (λ s. kept_back < left s
+            → Refuses s Required number.start number.end packet.old result) }
+        ensures sent { IfSome self.old.sender (λ s. OnOk result (IsSent s number.start number.end packet.old packet.new)) }
+        ensures number { IfSome self.old.sender (λ s. IfOk result (λ n. n ≡ s.next)) }
+        ensures counted { IfSome self.old.sender (λ s. OnOk result (self.new ≡ sent self.old s)) }
+        ensures kept { OnErr result ((packet.new ≡ packet.old) × (self.new ≡ self.old)) }
+    {
+        let Some(sender) = &mut self.sender else {
+            return Err(PacketError::NoKeys);
+        };
+        if sender.limit().saturating_sub(sender.sealed()) <= kept_back {
+            return Err(PacketError::KeyUsedUp);
+        }
+        sender.send(packet, number, FixedBit::Required)
+    }
+
+    /// Sends a 1-RTT packet, updates the keys if that is due, and sets the receiver's next key.
+    pub(crate) fn send_one_rtt(
+        &mut self,
+        packet: &mut [u8],
+        number: Range<usize>,
+    ) -> Result<u64, PacketError>
+        ensures no_keys { IsErrOf result PacketError.NoKeys ↔ ¬ IsSome self.old.sender }
+        ensures used_up { IfSome self.old.sender (λ s. IsErrOf result PacketError.KeyUsedUp
+            ↔ (left s ≤ kept_back self.old)) }
+        ensures accepted { IfSome self.old.sender (λ s. IsOk result ↔ ((kept_back self.old < left s)
+            × IsSealable Required number.start number.end packet.old × IsInTurn s number.start number.end)) }
+        ensures refused { IfSome self.old.sender (λ s. kept_back self.old < left s
+            → Refuses s Required number.start number.end packet.old result) }
+        ensures sent { IfSome self.old.sender (λ s. OnOk result (IsSent s number.start number.end packet.old packet.new)) }
+        ensures number { IfSome self.old.sender (λ s. IfOk result (λ n. n ≡ s.next)) }
+        ensures counted { IfSome self.old.sender (λ s. OnOk result (self.new ≡ with_next_key (renewed (sent self.old s)))) }
+        ensures kept { OnErr result ((packet.new ≡ packet.old) × (self.new ≡ self.old)) }
+    {
+        let kept_back = self.kept_back();
+        match self.send(packet, number, kept_back) {
+            Ok(sent) => {
+                self.renew();
+                self.set_next_key();
+                Ok(sent)
+            }
+            Err(error) => Err(error),
+        }
+    }
+
+    /// How many packets of a 1-RTT key are kept for the one that closes the connection.
+    fn kept_back(&self) -> u64
+        ensures { result ≡ kept_back self.now }
+    {
+        if self.may_update() { 0 } else { 1 }
+    }
+
+    /// Whether a key update may be initiated.
+    fn may_update(&self) -> bool
+        ensures { result ≡ may_update self.now }
+    {
+        match &self.sender {
+            Some(sender) => self.receiver.is_some() && sender.can_update(),
+            None => false,
+        }
+    }
+
+    /// Whether few packets are left to the sender's key.
+    fn is_due(&self) -> bool
+        ensures { result ≡ is_due self.now.sender }
+    {
+        match &self.sender {
+            Some(sender) => {
+                let left = sender.limit().saturating_sub(sender.sealed());
+                left < LEFT_AT_UPDATE && 2 * left < sender.limit()
+            }
+            None => false,
+        }
+    }
+
+    /// Initiates a key update, and drops the receiver's previous key.
+    pub(crate) fn update_keys(&mut self) -> Result<(), PacketError>
+        ensures accepted { IsOk result ↔ IsTrue (may_update self.old) }
+        ensures unconfirmed { IsErrOf result PacketError.HandshakeUnconfirmed ↔ ¬ IsTrue (is_confirmed self.old) }
+        ensures unacknowledged { IsErrOf result PacketError.PhaseUnacknowledged
+            ↔ (IsTrue (is_confirmed self.old) × ¬ IsTrue (may_update self.old)) }
+        ensures initiated { OnOk result (self.new ≡ initiated self.old) }
+        ensures kept { OnErr result (self.new ≡ self.old) }
+    {
+        if self.receiver.is_none() {
+            return Err(PacketError::HandshakeUnconfirmed);
+        }
+        let Some(sender) = &mut self.sender else {
+            return Err(PacketError::HandshakeUnconfirmed);
+        };
+        sender.initiate_update()?;
+        self.forget_previous();
+        Ok(())
+    }
+
+    /// Initiates a key update if one is due and may be initiated.
+    pub(crate) fn renew(&mut self)
+        ensures { self.new ≡ renewed self.old }
+    {
+        if self.is_due() {
+            let _ = self.update_keys();
+        }
+    }
+
+    /// Records an acknowledgment.
+    pub(crate) fn acknowledged(&mut self, number: u64, phase: bool) -> Result<(), PacketError>
+        ensures no_keys { IsErrOf result PacketError.NoKeys ↔ ¬ IsSome self.old.sender }
+        ensures never_sent { IfSome self.old.sender (λ s. IsErrOf result PacketError.NeverSent ↔ (s.next ≤ number)) }
+        ensures unanswered { IfSome self.old.sender (λ s. IsErrOf result PacketError.UpdateUnanswered
+            ↔ ((number < s.next) × IsUnanswered s number phase)) }
+        ensures accepted { IfSome self.old.sender (λ s. IsOk result
+            ↔ ((number < s.next) × ¬ IsUnanswered s number phase)) }
+        ensures acknowledged { IfSome self.old.sender (λ s. OnOk result
+            (self.new ≡ record self.old { sender = Some (after_acknowledgement s number) })) }
+        ensures kept { OnErr result (self.new ≡ self.old) }
+    {
+        match &mut self.sender {
+            Some(sender) => sender.acknowledged_in(number, phase),
+            None => Err(PacketError::NoKeys),
+        }
+    }
+
+    /// Records that the handshake is confirmed.
+    pub(crate) fn confirm_handshake(&mut self)
+        ensures { self.new ≡ record self.old { sender = confirmed self.old.sender } }
+    {
+        if let Some(sender) = &mut self.sender {
+            sender.confirm_handshake();
+        }
+    }
+
+    /// Drops the receiver's previous key.
+    pub(crate) fn forget_previous(&mut self)
+        ensures { self.new ≡ record self.old { receiver = forgotten self.old.receiver } }
+    {
+        if let Some(receiver) = &mut self.receiver {
+            receiver.forget_previous();
+        }
+    }
+
+    /// Opens a packet with the receiver.
+    pub(crate) fn open(
+        &mut self,
+        failures: &mut Failures,
+        datagram: &mut [u8],
+        parts: &Packet,
+    ) -> Result<Received, PacketError>
+        requires { IsSome self.old.receiver }
+        ensures tried { IfSome self.old.receiver (λ r. IfSome self.new.receiver (λ r'. IsTried r self.old.space failures.old
+            parts.now datagram.old result r' self.new.space failures.new datagram.new)) }
+        ensures some { IsSome self.new.receiver }
+        ensures sender { self.new.sender ≡ self.old.sender }
+        ensures kept { OnErr result (self.new ≡ self.old) }
+    {
+        let Some(receiver) = &mut self.receiver else {
+            unreachable!();
+        };
+        receiver.receive(&mut self.space, failures, datagram, parts)
+    }
+
+    /// Opens a packet with another receiver, which shares the space.
+    pub(crate) fn open_with(
+        &mut self,
+        receiver: &mut Receiver,
+        failures: &mut Failures,
+        datagram: &mut [u8],
+        parts: &Packet,
+    ) -> Result<Received, PacketError>
+        ensures tried { IsTried receiver.old self.old.space failures.old parts.now datagram.old result receiver.new
+            self.new.space failures.new datagram.new }
+        ensures ends { self.new ≡ record self.old { space = self.new.space } }
+        ensures kept { OnErr result ((self.new ≡ self.old) × (receiver.new ≡ receiver.old)) }
+    {
+        receiver.receive(&mut self.space, failures, datagram, parts)
+    }
+
+    /// Opens a packet with the receiver, and follows a key update of the peer.
+    pub(crate) fn open_one_rtt(
+        &mut self,
+        failures: &mut Failures,
+        datagram: &mut [u8],
+        parts: &Packet,
+    ) -> Result<Received, PacketError>
+        requires { IsSome self.old.receiver }
+        ensures tried { IfSome self.old.receiver (λ r. IfSome self.new.receiver (λ r'. IsTried r self.old.space failures.old
+            parts.now datagram.old result r' self.new.space failures.new datagram.new)) }
+        ensures some { IsSome self.new.receiver }
+        ensures followed { self.new.sender ≡ following self.old.sender (phase_of self.old.receiver) (phase_of self.new.receiver) }
+        ensures kept { OnErr result (self.new ≡ self.old) }
+    {
+        let before = self.phase();
+        let opened = self.open(failures, datagram, parts);
+        let after = self.phase();
+        if before != after {
+            self.enter(after);
+        }
+        opened
+    }
+
+    /// The receiver's key phase.
+    fn phase(&self) -> bool
+        ensures { result ≡ phase_of self.now.receiver }
+    {
+        match &self.receiver {
+            Some(receiver) => receiver.phase(),
+            None => false,
+        }
+    }
+
+    /// Updates the sender's keys, unless it is in this phase.
+    fn enter(&mut self, phase: bool)
+        ensures { self.new ≡ record self.old { sender = in_phase self.old.sender phase } }
+    {
+        if let Some(sender) = &mut self.sender {
+            if sender.phase() != phase {
+                let _ = sender.follow_update();
+            }
+        }
+    }
+}

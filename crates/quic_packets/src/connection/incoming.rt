@@ -1,0 +1,48 @@
+//! What becomes of a packet that arrives.
+
+ghost use Rattle.std.specs.Prelude.{◌≡◌};
+ghost use Rattle.quic_packets.specs.Connection.{incoming_of, step_of};
+
+use crate::datagram::PacketType;
+use crate::error::PacketError;
+use crate::receiver::Received;
+
+/// One packet of a datagram, and where the next one begins.
+#[derive(Clone, PartialEq, Eq, Debug, Drop)]
+pub struct Step {
+    /// The position after the packet, where the next one begins. It is the length of the datagram if there is none.
+    pub next: usize,
+    /// What became of the packet.
+    pub incoming: Incoming,
+}
+
+/// What became of a packet.
+#[derive(Clone, PartialEq, Eq, Debug, Drop)]
+pub enum Incoming {
+    /// A packet of this type was received, and its payload is decrypted in the datagram.
+    Packet(PacketType, Received),
+    /// The keys of packets of this type are not there. Nothing has changed, so the caller may keep the packet until they are (RFC
+    /// 9001 section 5.7).
+    NoKeys(PacketType),
+    /// The packet is dropped for this error, which does not close the connection.
+    Dropped(PacketError),
+    /// The packet cannot be parsed, has another destination ID than the first one of the datagram (RFC 9000 section 12.2), or is
+    /// of a type without keys: Retry, Version Negotiation or another version. Nothing has changed.
+    Ignored,
+}
+
+/// The step past a packet that a receiver has tried, or the error that closes the connection.
+pub(crate) fn step_of(
+    next: usize,
+    packet_type: PacketType,
+    opened: Result<Received, PacketError>,
+) -> Result<Step, PacketError>
+    ensures { result ≡ step_of next (incoming_of packet_type opened) }
+{
+    let incoming = match opened {
+        Ok(received) => Incoming::Packet(packet_type, received),
+        Err(error) if error.code().is_some() => return Err(error),
+        Err(error) => Incoming::Dropped(error),
+    };
+    Ok(Step { next, incoming })
+}
