@@ -8,7 +8,6 @@ pub mod messages;
 pub mod one_message;
 pub mod one_nonce;
 pub mod pieces;
-pub mod quic_connection;
 pub mod record_stream;
 pub mod sealed_files;
 pub mod streams;

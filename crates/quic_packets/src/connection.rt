@@ -387,6 +387,7 @@ impl Connection {
         ensures received { IfPacket result (λ packet_type _. self.new
             ≡ with_sender (with_receiver self.old packet_type (receiver_of self.new packet_type) (space_of self.new packet_type))
             self.new.one_rtt.sender) }
+        ensures receiver { IfPacket result (λ packet_type _. IsSome (receiver_of self.new packet_type)) }
         ensures failed { IsGiven result (Incoming.Dropped PacketError.Refused)
             → self.new.failures ≡ record self.old.failures { count = self.old.failures.count + 1 } }
         ensures not_failed { ¬ IsGiven result (Incoming.Dropped PacketError.Refused) → self.new.failures ≡ self.old.failures }

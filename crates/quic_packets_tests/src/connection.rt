@@ -1,169 +1,508 @@
-//! Tests of the callers in `examples`: datagrams of two packets, and a client's first packet.
+//! Tests of `connection`: a whole connection of a client and a server, which stands in README.md, and what each call does with
+//! packets that are forged, late, or of another connection, and at its limits.
 
-use crate::checks::{equal, same};
-use aead_vectors::rfc_9001::{A_2_PACKET, Packet};
-use examples::first_initial::first_packet;
-use examples::initial_keys::client_initial_keys;
-use examples::quic_connection::{self, Connection, Level, one_rtt, update_keys};
-use key_derivation::{DerivationError, Secret};
-use quic_packets::{Failures, FixedBit, PacketError, Receiver, Sender, Space, packet_at};
+use crate::checks::{equal, holds};
+use key_derivation::Secret;
+use quic_packets::connection::{Connection, Incoming, Level};
+use quic_packets::{FixedBit, PacketError, PacketType};
+use std::alloc::Global;
+use std::mem;
 use std::process::Abort;
 use std::test::Fail;
 
-/// The connection ID chosen by the receiver.
+/// The connection ID of both ends.
 const ID: [u8; 8] = [4; 8];
 
-/// The header of a Handshake packet of 40 bytes, up to its number of four bytes.
+/// The headers of packets with 24 bytes from their number on, which is the payload of 4 bytes between the number and the tag.
+const INITIAL: [u8; 17] = [0xc0, 0, 0, 0, 1, 8, 4, 4, 4, 4, 4, 4, 4, 4, 0, 0, 24];
+
+const ZERO_RTT: [u8; 16] = [0xd0, 0, 0, 0, 1, 8, 4, 4, 4, 4, 4, 4, 4, 4, 0, 24];
+
 const HANDSHAKE: [u8; 16] = [0xe0, 0, 0, 0, 1, 8, 4, 4, 4, 4, 4, 4, 4, 4, 0, 24];
 
-/// The secret of both directions.
-fn secret() -> Secret {
-    Secret::aes_256_gcm([1; 48])
+const ONE_RTT: [u8; 9] = [0x40, 4, 4, 4, 4, 4, 4, 4, 4];
+
+/// What a payload begins with, in place of the messages of TLS and the frames of QUIC: the hello and the finished message of each
+/// end, HANDSHAKE_DONE, and a frame that does nothing. An acknowledgment follows.
+const CLIENT_HELLO: u8 = 1;
+
+const SERVER_HELLO: u8 = 2;
+
+const SERVER_FINISHED: u8 = 3;
+
+const CLIENT_FINISHED: u8 = 4;
+
+const HANDSHAKE_DONE: u8 = 5;
+
+const PING: u8 = 6;
+
+/// No acknowledgment.
+const NONE: u8 = 0xff;
+
+/// The secrets of the client's 0-RTT packets, and of the packets of both ends.
+const EARLY: [u8; 32] = [1; 32];
+
+const CLIENT_HANDSHAKE: [u8; 32] = [2; 32];
+
+const SERVER_HANDSHAKE: [u8; 32] = [3; 32];
+
+const CLIENT: [u8; 32] = [4; 32];
+
+const SERVER: [u8; 32] = [5; 32];
+
+/// One end, the packets that it keeps until their keys are there, and what it has received: how many packets, and the last number
+/// of a 1-RTT packet.
+#[derive(Drop)]
+struct End {
+    connection: Connection,
+    kept: Vec<Vec<u8>>,
+    count: u8,
+    last: u8,
 }
 
-fn sender() -> Result<Sender, PacketError> {
-    Sender::from_secret(secret(), 7)
-}
-
-fn level() -> Level {
-    Level {
-        receiver: Receiver::from_secret(secret()),
-        space: Space::new(),
+/// Creates an end whose Initial packets have these secrets.
+fn make_end(alloc: Global, own: Secret, peer: Secret) -> End {
+    let mut connection = Connection::new(FixedBit::Required);
+    connection.install_sender(Level::Initial, own);
+    connection.install_receiver(Level::Initial, peer);
+    End {
+        connection,
+        kept: Vec::new(alloc),
+        count: 0,
+        last: NONE,
     }
 }
 
-/// Creates a connection without Initial keys.
-fn connection(max_failures: u64) -> Result<Connection, PacketError> {
-    Ok(Connection {
-        initial: None,
-        handshake: Some(level()),
-        one_rtt: Some(level()),
-        failures: Failures::new().with_limit(max_failures),
-        sender: sender()?,
-    })
-}
-
-/// Returns a datagram of a Handshake packet and a 1-RTT packet, of 40 bytes each.
-fn coalesced() -> Result<[u8; 80], PacketError> {
-    let mut datagram = [4; 80];
-    datagram[..16].copy_from_slice(&HANDSHAKE);
-    datagram[40] = 0x40;
-    let mut sender = sender()?;
-    sender.send(&mut datagram[..40], 16..20, FixedBit::Required)?;
-    quic_connection::send(&mut sender, &mut datagram[40..])?;
-    Ok(datagram)
-}
-
-/// Asserts the result of receiving a datagram, with one bit of byte 30 flipped if `is_forged`, and returns what it then is.
-fn received(
-    rt: &impl Abort,
-    connection: &mut Connection,
-    is_forged: bool,
-    id: &[u8; 8],
-    wanted: Result<bool, u64>,
-) -> Result<[u8; 80], PacketError> {
-    let mut datagram = coalesced()?;
-    datagram[30] ^= u8::from(is_forged);
-    let found = quic_connection::receive(connection, &mut datagram, 80, id);
-    equal(rt, &found, &wanted);
-    Ok(datagram)
-}
-
-/// The bytes before the one that is flipped.
-fn front(datagram: &[u8; 80]) -> &[u8] {
-    &datagram[..30]
-}
-
-// A forged packet is dropped and the packet after it is received. The first is then received as it was sent, and the second is a
-// duplicate.
-#[test]
-fn forged_first_packet(rt: HostRuntime) -> Result<(), Fail> {
-    let mut connection = connection(2)?;
-    let sent = coalesced()?;
-    let found = received(&rt, &mut connection, true, &ID, Ok(true))?;
-    same(&rt, front(&found), front(&sent), "the forged packet");
-    same(&rt, &found[53..64], &[4; 11], "the second payload");
-    let found = received(&rt, &mut connection, false, &ID, Ok(true))?;
-    same(&rt, &found[20..24], &[4; 4], "the first payload");
-    Ok(())
-}
-
-// Packets with another ID are ignored, duplicates are dropped, and the limit of failures closes the connection.
-#[test]
-fn dropped(rt: HostRuntime) -> Result<(), Fail> {
-    let mut connection = connection(1)?;
-    for (is_forged, id, wanted) in [
-        (false, [8; 8], Ok(false)),
-        (false, ID, Ok(true)),
-        (false, ID, Ok(false)),
-        (true, ID, Err(0x0f)),
-    ] {
-        received(&rt, &mut connection, is_forged, &id, wanted)?;
+/// Receives the packets of a datagram.
+fn receive(alloc: Global, end: &mut End, datagram: &mut [u8], id: &[u8]) -> Result<(), Fail> {
+    let mut at = 0;
+    while at < datagram.len() {
+        let step = end.connection.receive(datagram, at, ID.len(), id)?;
+        match step.incoming {
+            Incoming::Packet(packet_type, received) => {
+                let payload = &datagram[received.payload.start..received.payload.end];
+                frames(end, packet_type, received.number, received.phase, payload)?;
+            }
+            Incoming::NoKeys(_) => {
+                let packet = Vec::from_slice(alloc, &datagram[at..step.next])?;
+                end.kept.push(packet)?;
+            }
+            Incoming::Dropped(_) | Incoming::Ignored => {}
+        }
+        at = step.next;
     }
     Ok(())
 }
 
-/// The connection ID of RFC 9001 appendix A.
-const CLIENT_ID: [u8; 8] = [0x83, 0x94, 0xc8, 0xf0, 0x3e, 0x51, 0x57, 0x08];
-
-/// Asserts that the client's keys are those of a row.
-fn has_keys(rt: &impl Abort, id: &[u8], row: &Packet) -> Result<(), DerivationError> {
-    let (key, iv, header_key) = client_initial_keys(id)?;
-    same(rt, key.as_slice(), &row.key, "key");
-    same(rt, &iv, &row.iv, "iv");
-    same(rt, header_key.as_slice(), &row.header_key, "hp");
+/// Receives the packets that were kept.
+fn receive_kept(alloc: Global, end: &mut End) -> Result<(), Fail> {
+    let mut kept = mem::replace(&mut end.kept, Vec::new(alloc));
+    for packet in &mut kept {
+        receive(alloc, end, packet, &ID)?;
+    }
     Ok(())
 }
 
-// The keys of RFC 9001 appendix A.1, and the packet of A.2.
-#[test]
-fn first_initial(rt: HostRuntime) -> Result<(), Fail> {
-    let row = Packet::parse(rt.alloc(), A_2_PACKET)?;
-    has_keys(&rt, &CLIENT_ID, &row)?;
-    assert!(rt; row.frames.len() <= 1162);
-    let packet = first_packet(&CLIENT_ID, row.number, &row.frames)?;
-    same(&rt, &packet, &row.protected, row.name);
+/// Takes what a packet carries.
+fn frames(
+    end: &mut End,
+    packet_type: PacketType,
+    number: u64,
+    phase: bool,
+    payload: &[u8],
+) -> Result<(), PacketError> {
+    end.count = end.count.saturating_add(1);
+    if packet_type == PacketType::OneRtt {
+        end.last = (number % 0x80) as u8;
+    }
+    if let [message, acknowledged, ..] = payload {
+        take_message(&mut end.connection, *message);
+        if *acknowledged != NONE {
+            end.connection
+                .acknowledged(Level::OneRtt, u64::from(*acknowledged), phase)?;
+        }
+    }
     Ok(())
 }
 
-/// Returns a packet of 40 bytes of this sender.
-fn short_packet(sender: &mut Sender) -> Result<[u8; 40], PacketError> {
-    let mut packet = [4; 40];
-    packet[0] = 0x40;
-    quic_connection::send(sender, &mut packet)?;
+/// Takes a message, which may bring keys.
+fn take_message(connection: &mut Connection, message: u8) {
+    match message {
+        CLIENT_HELLO => {
+            connection.install_zero_rtt_receiver(Secret::aes_128_gcm(EARLY));
+            connection.install_sender(Level::Handshake, Secret::aes_128_gcm(SERVER_HANDSHAKE));
+            connection.install_receiver(Level::Handshake, Secret::aes_128_gcm(CLIENT_HANDSHAKE));
+            connection.install_sender(Level::OneRtt, Secret::aes_128_gcm(SERVER));
+        }
+        SERVER_HELLO => {
+            connection.install_sender(Level::Handshake, Secret::aes_128_gcm(CLIENT_HANDSHAKE));
+            connection.install_receiver(Level::Handshake, Secret::aes_128_gcm(SERVER_HANDSHAKE));
+        }
+        SERVER_FINISHED => {
+            connection.install_sender(Level::OneRtt, Secret::aes_128_gcm(CLIENT));
+            connection.install_receiver(Level::OneRtt, Secret::aes_128_gcm(SERVER));
+        }
+        CLIENT_FINISHED => {
+            connection.install_receiver(Level::OneRtt, Secret::aes_128_gcm(CLIENT));
+            connection.discard_zero_rtt();
+            finish(connection);
+        }
+        HANDSHAKE_DONE => finish(connection),
+        _ => {}
+    }
+}
+
+/// The handshake is confirmed, so that its keys are dropped (RFC 9001 sections 4.9.1 and 4.9.2).
+fn finish(connection: &mut Connection) {
+    connection.confirm_handshake();
+    connection.discard(Level::Initial);
+    connection.discard(Level::Handshake);
+}
+
+/// The header and the level of packets of a type.
+fn header(packet_type: PacketType) -> (&'static [u8], Level) {
+    match packet_type {
+        PacketType::Initial => (&INITIAL, Level::Initial),
+        PacketType::ZeroRtt => (&ZERO_RTT, Level::OneRtt),
+        PacketType::Handshake => (&HANDSHAKE, Level::Handshake),
+        _ => (&ONE_RTT, Level::OneRtt),
+    }
+}
+
+/// A packet with this payload, before it is sent.
+fn unsent(alloc: Global, header: &[u8], payload: [u8; 4]) -> Result<Vec<u8>, Fail> {
+    let mut packet = Vec::from_slice(alloc, header)?;
+    packet.extend_from_slice(&[0; 4])?;
+    packet.extend_from_slice(&payload)?;
+    packet.extend_from_slice(&[0; 16])?;
     Ok(packet)
 }
 
-/// Receives a packet under the next keys, and returns one that is sent after it.
-fn answer_to(rt: &impl Abort, packet: &mut [u8; 40]) -> Result<[u8; 40], PacketError> {
-    let mut connection = connection(1)?;
-    if let Some(level) = &mut connection.one_rtt {
-        level.receiver.set_next()?;
+/// Sends a packet with a message, which acknowledges the last 1-RTT packet.
+fn send(
+    alloc: Global,
+    end: &mut End,
+    packet_type: PacketType,
+    message: u8,
+) -> Result<Vec<u8>, Fail> {
+    let (header, level) = header(packet_type);
+    let mut packet = unsent(alloc, header, [message, end.last, 0, 0])?;
+    let at = header.len();
+    end.connection
+        .send(level, &mut packet, at..at.saturating_add(4))?;
+    Ok(packet)
+}
+
+/// A datagram: whether the client sends it, whether its end updates the keys before it, and the packets.
+#[derive(Clone, Copy)]
+struct Flight {
+    is_client: bool,
+    is_update: bool,
+    packets: &'static [(PacketType, u8)],
+}
+
+/// The datagrams from the first Initial packet to 1-RTT packets. The first comes before its keys, and the second brings them.
+const HANDSHAKES: [Flight; 5] = [
+    Flight {
+        is_client: true,
+        is_update: false,
+        packets: &[(PacketType::ZeroRtt, PING)],
+    },
+    Flight {
+        is_client: true,
+        is_update: false,
+        packets: &[
+            (PacketType::Initial, CLIENT_HELLO),
+            (PacketType::ZeroRtt, PING),
+        ],
+    },
+    Flight {
+        is_client: false,
+        is_update: false,
+        packets: &[
+            (PacketType::Initial, SERVER_HELLO),
+            (PacketType::Handshake, SERVER_FINISHED),
+            (PacketType::OneRtt, PING),
+        ],
+    },
+    Flight {
+        is_client: true,
+        is_update: false,
+        packets: &[
+            (PacketType::Handshake, CLIENT_FINISHED),
+            (PacketType::OneRtt, PING),
+        ],
+    },
+    Flight {
+        is_client: false,
+        is_update: false,
+        packets: &[(PacketType::OneRtt, HANDSHAKE_DONE)],
+    },
+];
+
+/// The ends of 1-RTT packets that follow, and whether the end updates its keys before it: a key update of the client, the answer, one
+/// packet between, and an update of the server, with an acknowledgment of each; twice.
+const UPDATES: [(bool, bool); 12] = [
+    (true, true),
+    (false, false),
+    (true, false),
+    (false, true),
+    (true, false),
+    (false, false),
+    (true, true),
+    (false, false),
+    (true, false),
+    (false, true),
+    (true, false),
+    (false, false),
+];
+
+/// Sends a datagram from one end to the other.
+fn fly(alloc: Global, from: &mut End, to: &mut End, flight: &Flight) -> Result<(), Fail> {
+    if flight.is_update {
+        from.connection.update_keys()?;
     }
-    let found = quic_connection::receive(&mut connection, packet, 40, &ID);
-    equal(rt, &found, &Ok(true));
-    short_packet(&mut connection.sender)
+    let mut datagram = Vec::new(alloc);
+    for (packet_type, message) in flight.packets {
+        let packet = send(alloc, from, *packet_type, *message)?;
+        datagram.extend_from_slice(&packet)?;
+    }
+    receive(alloc, to, &mut datagram, &ID)?;
+    receive_kept(alloc, to)
 }
 
-/// Returns the number and the key phase of such a packet.
-fn number_and_phase(receiver: &mut Receiver, packet: &mut [u8; 40]) -> Result<(u64, bool), Fail> {
-    let mut space = Space::<2>::new();
-    let parts = packet_at(packet, 0, ID.len(), FixedBit::Required)?;
-    let received = receiver.receive(&mut space, &mut Failures::new(), packet, &parts)?;
-    Ok((received.number, received.phase))
+/// A client with the keys of 0-RTT packets, and a server.
+fn ends(alloc: Global) -> Result<(End, End), Fail> {
+    let mut client = make_end(
+        alloc,
+        Secret::client_initial(&ID)?,
+        Secret::server_initial(&ID)?,
+    );
+    client
+        .connection
+        .install_sender(Level::OneRtt, Secret::aes_128_gcm(EARLY));
+    let server = make_end(
+        alloc,
+        Secret::server_initial(&ID)?,
+        Secret::client_initial(&ID)?,
+    );
+    Ok((client, server))
 }
 
-// A key update of the peer is answered under the next keys.
+/// Sends a datagram from the end that it names to the other.
+fn exchange(
+    alloc: Global,
+    client: &mut End,
+    server: &mut End,
+    flight: &Flight,
+) -> Result<(), Fail> {
+    if flight.is_client {
+        fly(alloc, client, server, flight)
+    } else {
+        fly(alloc, server, client, flight)
+    }
+}
+
+/// Sends the datagrams of two key updates of each end.
+fn update_twice(alloc: Global, client: &mut End, server: &mut End) -> Result<(), Fail> {
+    for (is_client, is_update) in UPDATES {
+        let flight = Flight {
+            is_client,
+            is_update,
+            packets: &[(PacketType::OneRtt, PING)],
+        };
+        exchange(alloc, client, server, &flight)?;
+    }
+    Ok(())
+}
+
+// Each packet is received, over two key updates of each end.
 #[test]
-fn key_update(rt: HostRuntime) -> Result<(), Fail> {
-    let (mut peer, mut answers) = one_rtt(secret(), secret())?;
-    peer.confirm_handshake();
-    update_keys(&mut peer, &mut answers)?;
-    let mut answer = answer_to(&rt, &mut short_packet(&mut peer)?)?;
+fn whole_connection(rt: HostRuntime) -> Result<(), Fail> {
+    let (mut client, mut server) = ends(rt.alloc())?;
+    for flight in &HANDSHAKES {
+        exchange(rt.alloc(), &mut client, &mut server, flight)?;
+    }
+    update_twice(rt.alloc(), &mut client, &mut server)?;
+    equal(&rt, &(client.count, server.count), &(10, 11));
+    Ok(())
+}
+
+/// An end that sends and receives under these secrets at the levels of Handshake and 1-RTT packets.
+fn established(own: [u8; 32], peer: [u8; 32]) -> Connection {
+    let mut connection = Connection::new(FixedBit::Required)
+        .with_limit(4)
+        .with_max_failures(2);
+    for level in [Level::Handshake, Level::OneRtt] {
+        connection.install_sender(level, Secret::aes_128_gcm(own));
+        connection.install_receiver(level, Secret::aes_128_gcm(peer));
+    }
+    connection
+}
+
+/// Sends a packet of this type, and returns it.
+fn sent(
+    alloc: Global,
+    connection: &mut Connection,
+    packet_type: PacketType,
+) -> Result<Vec<u8>, Fail> {
+    let (header, level) = header(packet_type);
+    let mut packet = unsent(alloc, header, [PING, NONE, 0, 0])?;
+    let at = header.len();
+    connection.send(level, &mut packet, at..at.saturating_add(4))?;
+    Ok(packet)
+}
+
+/// Asserts what becomes of a packet that is alone in its datagram.
+fn becomes(
+    rt: &impl Abort,
+    connection: &mut Connection,
+    packet: &mut [u8],
+    id: &[u8; 8],
+    wanted: Result<&str, PacketError>,
+) {
+    let found = match connection.receive(packet, 0, ID.len(), id) {
+        Ok(step) => match step.incoming {
+            Incoming::Packet(_, _) => Ok("received"),
+            Incoming::NoKeys(_) => Ok("no keys"),
+            Incoming::Dropped(_) => Ok("dropped"),
+            Incoming::Ignored => Ok("ignored"),
+        },
+        Err(error) => Err(error),
+    };
+    equal(rt, &found, &wanted);
+}
+
+/// The packet with one bit of its tag flipped.
+fn forged(packet: &Vec<u8>) -> Result<Vec<u8>, Fail> {
+    let mut forged = packet.clone()?;
+    if let Some(byte) = forged.last_mut() {
+        *byte ^= 1;
+    }
+    Ok(forged)
+}
+
+// A packet with another ID and one that can't be parsed are ignored, forged ones and duplicates are dropped, and one without keys is
+// kept. At the limit of failures nothing is opened, and the end still sends.
+#[test]
+fn what_becomes_of_packets(rt: HostRuntime) -> Result<(), Fail> {
+    let mut peer = established(CLIENT, SERVER);
+    let mut end = established(SERVER, CLIENT);
+    let packet = sent(rt.alloc(), &mut peer, PacketType::Handshake)?;
+    let mut one_rtt = sent(rt.alloc(), &mut peer, PacketType::OneRtt)?;
+    becomes(&rt, &mut end, &mut packet.clone()?, &[8; 8], Ok("ignored"));
+    becomes(&rt, &mut end, &mut [0xe0; 9], &ID, Ok("ignored"));
+    becomes(
+        &rt,
+        &mut end,
+        &mut unsent(rt.alloc(), &INITIAL, [0; 4])?,
+        &ID,
+        Ok("no keys"),
+    );
+    becomes(&rt, &mut end, &mut forged(&packet)?, &ID, Ok("dropped"));
+    becomes(&rt, &mut end, &mut packet.clone()?, &ID, Ok("received"));
+    becomes(&rt, &mut end, &mut packet.clone()?, &ID, Ok("dropped"));
+    equal(&rt, &end.failures(), &1);
+    becomes(&rt, &mut end, &mut forged(&one_rtt)?, &ID, Ok("dropped"));
+    let closed = Err(PacketError::TooManyFailures);
+    becomes(&rt, &mut end, &mut one_rtt, &ID, closed);
+    becomes(&rt, &mut end, &mut [], &[8; 8], closed);
     equal(
         &rt,
-        &number_and_phase(&mut answers, &mut answer)?,
-        &(7, true),
+        &sent(rt.alloc(), &mut end, PacketType::OneRtt)?.len(),
+        &33,
     );
+    Ok(())
+}
+
+// A forged packet is dropped and left as it was, and the packet after it is received.
+#[test]
+fn forged_first_packet(rt: HostRuntime) -> Result<(), Fail> {
+    let mut peer = established(CLIENT, SERVER);
+    let mut end = End {
+        connection: established(SERVER, CLIENT),
+        kept: Vec::new(rt.alloc()),
+        count: 0,
+        last: NONE,
+    };
+    let first = forged(&sent(rt.alloc(), &mut peer, PacketType::Handshake)?)?;
+    let mut datagram = first.clone()?;
+    datagram.extend_from_slice(&sent(rt.alloc(), &mut peer, PacketType::OneRtt)?)?;
+    receive(rt.alloc(), &mut end, &mut datagram, &ID)?;
+    equal(&rt, &(end.count, end.connection.failures()), &(1, 1));
+    holds(&rt, datagram.starts_with(&first), "the forged packet");
+    Ok(())
+}
+
+/// Sends packets of 1-RTT until the key is used up, and returns their number.
+fn sends_until_used_up(alloc: Global, connection: &mut Connection) -> Result<u8, Fail> {
+    for count in 0..9 {
+        let mut packet = unsent(alloc, &ONE_RTT, [PING, NONE, 0, 0])?;
+        match connection.send(Level::OneRtt, &mut packet, 9..13) {
+            Ok(_) => {}
+            Err(PacketError::KeyUsedUp) => return Ok(count),
+            Err(error) => return Err(error.into()),
+        }
+    }
+    Ok(9)
+}
+
+// Before the handshake is confirmed, the last packet of a key is kept for the one that closes the connection. After that, the keys
+// are updated when fewer than half of them are left, and again after an acknowledgment.
+#[test]
+fn last_packets_of_a_key(rt: HostRuntime) -> Result<(), Fail> {
+    let mut end = established(SERVER, CLIENT);
+    equal(&rt, &sends_until_used_up(rt.alloc(), &mut end)?, &3);
+    let mut close = unsent(rt.alloc(), &ONE_RTT, [PING, NONE, 0, 0])?;
+    equal(
+        &rt,
+        &end.send_close(Level::OneRtt, &mut close, 9..13),
+        &Ok(3),
+    );
+    let mut end = established(SERVER, CLIENT);
+    end.confirm_handshake();
+    equal(&rt, &sends_until_used_up(rt.alloc(), &mut end)?, &6);
+    equal(
+        &rt,
+        &end.update_keys(),
+        &Err(PacketError::PhaseUnacknowledged),
+    );
+    equal(
+        &rt,
+        &end.acknowledged(Level::OneRtt, 5, false),
+        &Err(PacketError::UpdateUnanswered),
+    );
+    equal(
+        &rt,
+        &end.acknowledged(Level::OneRtt, 6, true),
+        &Err(PacketError::NeverSent),
+    );
+    end.acknowledged(Level::OneRtt, 5, true)?;
+    equal(&rt, &sends_until_used_up(rt.alloc(), &mut end)?, &4);
+    Ok(())
+}
+
+// An end without keys neither sends nor updates.
+#[test]
+fn no_keys(rt: HostRuntime) -> Result<(), Fail> {
+    let mut end = Connection::new(FixedBit::Required);
+    let mut packet = unsent(rt.alloc(), &INITIAL, [PING, NONE, 0, 0])?;
+    equal(
+        &rt,
+        &end.send(Level::Initial, &mut packet, 17..21),
+        &Err(PacketError::NoKeys),
+    );
+    equal(
+        &rt,
+        &end.acknowledged(Level::Initial, 0, false),
+        &Err(PacketError::NoKeys),
+    );
+    end.confirm_handshake();
+    equal(
+        &rt,
+        &end.update_keys(),
+        &Err(PacketError::HandshakeUnconfirmed),
+    );
+    holds(&rt, end.sender(Level::OneRtt).is_none(), "no sender");
     Ok(())
 }

@@ -7,7 +7,7 @@ use std::fmt::Display;
 use std::process::Abort;
 use std::test::Fail;
 
-const PACKET_ERRORS: [(PacketError, &str); 28] = [
+const PACKET_ERRORS: [(PacketError, &str); 29] = [
     (
         PacketError::KeyLength,
         "the key does not have the length of the algorithm's keys",
@@ -17,6 +17,7 @@ const PACKET_ERRORS: [(PacketError, &str); 28] = [
         PacketError::NoSecret,
         "there is no secret from which keys derive",
     ),
+    (PacketError::NoKeys, "the keys of the level are not there"),
     (PacketError::EmptyPayload, "the packet has no payload"),
     (PacketError::NoFrames, "the packet has no frames"),
     (

@@ -1,4 +1,4 @@
-//! Tests of `quic_packets`, one module for each of its modules, except that `keys` tests `key` and `header`, and `connection`
+//! Tests of `quic_packets`, one module for each of its modules, except that `keys` tests `key` and `header`, and `first_packets`
 //! the callers of `examples`. `rows` contains packets made by `tools/quic-packets`.
 #![tactic(auto)]
 
@@ -12,6 +12,8 @@ mod datagram;
 mod error;
 #[cfg(test)]
 mod example;
+#[cfg(test)]
+mod first_packets;
 #[cfg(test)]
 mod header_writer;
 #[cfg(test)]

@@ -3,7 +3,6 @@
 
 use crate::checks::{equal, holds, same};
 use crate::rows::{HEADER_KEY, IV, KEY, UPDATED_AES_128, UPDATED_AES_256};
-use examples::quic_connection::update_keys;
 use key_derivation::{Secret, Suite};
 use quic_packets::{Failures, FixedBit, Keys, PacketError, Receiver, Sender, Space, packet_at};
 use std::alloc::Global;
@@ -45,7 +44,8 @@ fn update(sender: &mut Sender, receiver: &mut Receiver) -> Result<(), PacketErro
         receiver.set_next()?;
         receiver.set_next()
     } else {
-        update_keys(sender, receiver)
+        sender.initiate_update()?;
+        receiver.set_next()
     }
 }
 
