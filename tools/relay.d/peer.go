@@ -4,7 +4,7 @@
 //	peer client ADDRESS PATH FILE OUT RESUMED    sends FILE to PATH, and writes what comes back to OUT; then resumes the
 //	                                             session, gets /file by a request in 0-RTT packets, and writes it to RESUMED
 //
-// Secrets go to the file of SSLKEYLOGFILE.
+// The client's secrets go to the file of SSLKEYLOGFILE.
 package main
 
 import (
@@ -31,7 +31,7 @@ func must[T any](value T, err error) T {
 	return value
 }
 
-func serve(keylog io.Writer, address, cert, key, file string, retries bool) error {
+func serve(address, cert, key, file string, retries bool) error {
 	content := must(os.ReadFile(file))
 	mux := http.NewServeMux()
 	mux.HandleFunc("/file", func(out http.ResponseWriter, _ *http.Request) { out.Write(content) })
@@ -41,7 +41,6 @@ func serve(keylog io.Writer, address, cert, key, file string, retries bool) erro
 		Handler: mux,
 		TLSConfig: &tls.Config{
 			Certificates: []tls.Certificate{must(tls.LoadX509KeyPair(cert, key))},
-			KeyLogWriter: keylog,
 		},
 		QuicConfig: config(),
 	}
@@ -72,14 +71,13 @@ func get(tlsConfig *tls.Config, method, url string, content []byte, out string) 
 
 func main() {
 	keyUpdateInterval = 60
-	keylog := must(os.OpenFile(os.Getenv("SSLKEYLOGFILE"), os.O_APPEND|os.O_CREATE|os.O_WRONLY, 0o600))
 	words := os.Args[1:]
 	if words[0] == "server" {
-		log.Fatal(serve(keylog, words[1], words[2], words[3], words[4], len(words) > 5))
+		log.Fatal(serve(words[1], words[2], words[3], words[4], len(words) > 5))
 	}
 	tlsConfig := &tls.Config{
 		InsecureSkipVerify: true,
-		KeyLogWriter:       keylog,
+		KeyLogWriter:       must(os.OpenFile(os.Getenv("SSLKEYLOGFILE"), os.O_APPEND|os.O_CREATE|os.O_WRONLY, 0o600)),
 		ClientSessionCache: tls.NewLRUClientSessionCache(1),
 	}
 	server := "https://" + words[1]
