@@ -1,5 +1,5 @@
-/* Loaded before gnutls-serv (LD_PRELOAD), which has no command for a key update: initiates two in each session, with the fourth and
- * with the eighth content that it receives. The second asks the peer for one. It also has the server listen on the loopback. */
+/* Loaded before gnutls-serv (LD_PRELOAD), which has no command for a key update: initiates two in each session, with the fourth
+ * and the eighth content that it receives. The second asks the peer for one. It also has the server listen on the loopback. */
 #define _GNU_SOURCE
 #include <dlfcn.h>
 #include <gnutls/gnutls.h>

@@ -1,4 +1,4 @@
-// A server and a client of HTTP/3 over quic-go, which update their keys after each 60 packets:
+// A server and a client of HTTP/3 over quic-go, which update their keys after each 80 packets:
 //
 //	peer server ADDRESS CERT KEY FILE [retry]    serves FILE at /file, and each request's content at /echo
 //	peer client ADDRESS PATH FILE OUT RESUMED    sends FILE to PATH, and writes what comes back to OUT; then resumes the
@@ -70,7 +70,7 @@ func get(tlsConfig *tls.Config, method, url string, content []byte, out string) 
 }
 
 func main() {
-	keyUpdateInterval = 60
+	keyUpdateInterval = 80
 	words := os.Args[1:]
 	if words[0] == "server" {
 		log.Fatal(serve(words[1], words[2], words[3], words[4], len(words) > 5))
