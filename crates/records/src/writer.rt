@@ -97,7 +97,7 @@ impl Writer {
     /// Lowers the number of records under each key to `limit`. A higher limit has no effect.
     ///
     /// At its limit, a writer can send neither a KeyUpdate nor close_notify, so the caller keeps the last two numbers of a key
-    /// for them. A [`Connection`](crate::connection::Connection) does so.
+    /// for them. `connection::Connection` does so.
     pub fn with_limit(mut self, limit: u64) -> Self
         ensures { result ≡ record self { limit = min self.limit limit } }
     {
