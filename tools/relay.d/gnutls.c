@@ -1,5 +1,5 @@
-/* Loaded before gnutls-serv (LD_PRELOAD), which has no command for a key update: initiates two in each session, with the fourth
- * and the eighth content that it receives. The second asks the peer for one. It also has the server listen on the loopback. */
+/* Loaded before gnutls-serv (LD_PRELOAD), which has no command for a key update: initiates two in each session, with the third
+ * and the sixth content that it receives. The second asks the peer for one. It also has the server listen on the loopback. */
 #define _GNU_SOURCE
 #include <dlfcn.h>
 #include <gnutls/gnutls.h>
@@ -20,8 +20,8 @@ ssize_t gnutls_record_recv(gnutls_session_t session, void *content, size_t len)
     }
     if (received > 0) {
         contents++;
-        if (contents == 4 || contents == 8)
-            gnutls_session_key_update(session, contents == 8 ? GNUTLS_KU_PEER : 0);
+        if (contents == 3 || contents == 6)
+            gnutls_session_key_update(session, contents == 6 ? GNUTLS_KU_PEER : 0);
     }
     return received;
 }
