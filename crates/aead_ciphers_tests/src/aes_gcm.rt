@@ -3,6 +3,7 @@
 use crate::callers::seal_where_room;
 use crate::cases::{false_tag, key_bytes};
 use crate::checks::{holds, same};
+use crate::counting::WORK;
 use crate::reference;
 use aead_ciphers::aes_gcm::{Key, open};
 use aead_ciphers_base::aes::{self, KeyBytes, Work};
@@ -93,6 +94,18 @@ fn works(
 fn work_of_gcm_spec_cases(rt: HostRuntime) -> Result<(), Fail> {
     for (line, blocks, products) in [(CASE_1, 1, 1), (CASE_4, 5, 7)] {
         let case = Case::parse(rt.alloc(), line)?;
+        works(&rt, rt.alloc(), &case, blocks, products)?;
+    }
+    Ok(())
+}
+
+/// The key and the nonce of test case 4, and zeros.
+#[test]
+fn work_of_each_length(rt: HostRuntime) -> Result<(), Fail> {
+    let mut case = Case::parse(rt.alloc(), CASE_4)?;
+    for ((len, aad_len), (blocks, products)) in WORK {
+        case.message = vec![in rt.alloc(); 0; len]?;
+        case.aad = vec![in rt.alloc(); 0; aad_len]?;
         works(&rt, rt.alloc(), &case, blocks, products)?;
     }
     Ok(())

@@ -167,24 +167,27 @@ fn work_at(
     Ok(())
 }
 
+/// The lengths of a message and an AAD, and the cipher blocks and products of sealing or of opening them.
+pub(crate) const WORK: [((usize, usize), (u64, u64)); 10] = [
+    ((0, 0), (1, 1)),
+    ((1, 1), (2, 3)),
+    ((16, 0), (2, 2)),
+    ((17, 0), (3, 3)),
+    ((64, 0), (5, 5)),
+    ((111, 5), (8, 9)),
+    ((112, 0), (8, 8)),
+    ((113, 0), (9, 9)),
+    ((129, 0), (10, 10)),
+    ((3073, 20), (194, 196)),
+];
+
 // The tallies of the generic bodies are what a counting cipher and a counting hash were asked for.
 #[test]
 fn work_that_is_asked_for(rt: HostRuntime) -> Result<(), Fail> {
     let key = aes::Key::new(KeyBytes::AES_128(&[7; 16]))?;
     let subkey = key.encrypt_block(ZERO_BLOCK, &mut Work::new());
     let gcm_key = gcm::Key::new(gcm::KeyValue::new(subkey));
-    for (lens, tallies) in [
-        ((0, 0), (1, 1)),
-        ((1, 1), (2, 3)),
-        ((16, 0), (2, 2)),
-        ((17, 0), (3, 3)),
-        ((64, 0), (5, 5)),
-        ((111, 5), (8, 9)),
-        ((112, 0), (8, 8)),
-        ((113, 0), (9, 9)),
-        ((129, 0), (10, 10)),
-        ((3073, 20), (194, 196)),
-    ] {
+    for (lens, tallies) in WORK {
         work_at(&rt, rt.alloc(), &key, &gcm_key, lens, tallies)?;
     }
     Ok(())
