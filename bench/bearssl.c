@@ -140,7 +140,7 @@ static uint64_t chacha(uint64_t times, const uint8_t *key, size_t key_len, uint8
 }
 
 /* The cipher of a sample is the stream of counter mode that begins there. */
-static void aes_mask(const br_aes_ct64_ctr_keys *k, uint8_t *sample) {
+static void write_mask(const br_aes_ct64_ctr_keys *k, uint8_t *sample) {
     const uint8_t *last = sample + NONCE_LEN;
     uint32_t counter = (uint32_t)last[0] << 24 | (uint32_t)last[1] << 16 | (uint32_t)last[2] << 8 | last[3];
     uint8_t mask[MASK_LEN] = {0};
@@ -148,7 +148,7 @@ static void aes_mask(const br_aes_ct64_ctr_keys *k, uint8_t *sample) {
     memcpy(sample, mask, sizeof mask);
 }
 
-static void chacha_mask(const uint8_t *key, uint8_t *sample) {
+static void write_chacha_mask(const uint8_t *key, uint8_t *sample) {
     uint32_t counter = (uint32_t)sample[3] << 24 | (uint32_t)sample[2] << 16 | (uint32_t)sample[1] << 8 | sample[0];
     uint8_t mask[MASK_LEN] = {0};
     br_chacha20_ct_run(key, sample + 4, counter, mask, sizeof mask);
@@ -158,11 +158,8 @@ static void chacha_mask(const uint8_t *key, uint8_t *sample) {
 static uint64_t mask(uint64_t times, const uint8_t *key, size_t key_len, uint8_t *buffer, size_t len) {
     br_aes_ct64_ctr_keys k;
     (void)len;
-    if (key_len == 16) br_aes_ct64_ctr_init(&k, key, key_len);
-    for (uint64_t i = 0; i < times; i++) {
-        if (key_len == 16) aes_mask(&k, buffer);
-        else chacha_mask(key, buffer);
-    }
+    br_aes_ct64_ctr_init(&k, key, key_len);
+    for (uint64_t i = 0; i < times; i++) write_mask(&k, buffer);
     return first_bytes(buffer);
 }
 
@@ -170,13 +167,15 @@ static uint64_t mask_once(uint64_t times, const uint8_t *key, size_t key_len, ui
     br_aes_ct64_ctr_keys k;
     (void)len;
     for (uint64_t i = 0; i < times; i++) {
-        if (key_len == 16) {
-            br_aes_ct64_ctr_init(&k, key, key_len);
-            aes_mask(&k, buffer);
-        } else {
-            chacha_mask(key, buffer);
-        }
+        br_aes_ct64_ctr_init(&k, key, key_len);
+        write_mask(&k, buffer);
     }
+    return first_bytes(buffer);
+}
+
+static uint64_t chacha_mask(uint64_t times, const uint8_t *key, size_t key_len, uint8_t *buffer, size_t len) {
+    (void)key_len, (void)len;
+    for (uint64_t i = 0; i < times; i++) write_chacha_mask(key, buffer);
     return first_bytes(buffer);
 }
 
@@ -192,6 +191,8 @@ const side bearssl = {{
     [CHACHA] = chacha,
     [MASK] = mask,
     [MASK_ONCE] = mask_once,
+    [CHACHA_MASK] = chacha_mask,
+    [CHACHA_MASK_ONCE] = chacha_mask,
     [AES_KEY] = aes_init,
     [GCM_KEY] = gcm_init,
 }};

@@ -50,6 +50,8 @@ static const row rows[] = {
     {"sealing, 32 bytes, wide", &wide, SEAL, {16, 32}, 32, SPEED, 0},
     {"sealing, 64 bytes", &library, SEAL, {16, 32}, 64, SPEED, 2.4},
     {"sealing, 64 bytes, wide", &wide, SEAL, {16, 32}, 64, SPEED, 0},
+    {"sealing, 250 bytes", &library, SEAL, {16, 32}, 250, SPEED, 0},
+    {"sealing, 250 bytes, wide", &wide, SEAL, {16, 32}, 250, SPEED, 0},
     {"sealing, 1350 bytes", &library, SEAL, {16, 32}, 1350, SPEED, 2.4},
     {"sealing, 1350 bytes, wide", &wide, SEAL, {16, 32}, 1350, SPEED, 0},
     {"sealing, 16 KiB", &library, SEAL, {16, 32}, 16 * KIB, SPEED, 2.7},
@@ -64,6 +66,8 @@ static const row rows[] = {
     {"opening, 32 bytes, wide", &wide, OPEN, {16, 32}, 32, SPEED, 0},
     {"opening, 64 bytes", &library, OPEN, {16, 32}, 64, SPEED, 0},
     {"opening, 64 bytes, wide", &wide, OPEN, {16, 32}, 64, SPEED, 0},
+    {"opening, 250 bytes", &library, OPEN, {16, 32}, 250, SPEED, 0},
+    {"opening, 250 bytes, wide", &wide, OPEN, {16, 32}, 250, SPEED, 0},
     {"opening, 1350 bytes", &library, OPEN, {16, 32}, 1350, SPEED, 0},
     {"opening, 1350 bytes, wide", &wide, OPEN, {16, 32}, 1350, SPEED, 0},
     {"opening, 16 KiB", &library, OPEN, {16, 32}, 16 * KIB, SPEED, 2.7},
@@ -77,6 +81,10 @@ static const row rows[] = {
     {"making an AES key", &library, AES_KEY, {16, 32}, OF_KEY, TIME, 0},
     {"making an AES key, wide", &wide, AES_KEY, {16, 32}, OF_KEY, TIME, 0},
     {"AES, four blocks", &library, ENCRYPT_FOUR, {16, 32}, 64, SPEED, 2.5},
+    {"counter mode, 16 bytes, wide", &wide, CTR32, {16, 32}, 16, SPEED, 0},
+    {"counter mode, 32 bytes, wide", &wide, CTR32, {16, 32}, 32, SPEED, 0},
+    {"counter mode, 48 bytes, wide", &wide, CTR32, {16, 32}, 48, SPEED, 0},
+    {"counter mode, 64 bytes, wide", &wide, CTR32, {16, 32}, 64, SPEED, 0},
     {"counter mode, 16 KiB", &library, CTR32, {16, 32}, 16 * KIB, SPEED, 2.5},
     {"counter mode, 16 KiB, wide", &wide, CTR32, {16, 32}, 16 * KIB, SPEED, 0},
     {"GHASH, one block", &library, UPDATE_BLOCK, {16}, 16, SPEED, 3.0},
@@ -87,7 +95,9 @@ static const row rows[] = {
     {"ChaCha20, 16 KiB", &library, CHACHA, {32}, 16 * KIB, SPEED, 2.0},
     {"a mask by AES-128", &library, MASK, {16}, SAMPLE_LEN, TIME, 0},
     {"a mask by AES-128, wide", &wide, MASK, {16}, SAMPLE_LEN, TIME, 0},
-    {"a mask by ChaCha20", &library, MASK, {32}, SAMPLE_LEN, TIME, 0},
+    {"a mask by AES-256", &library, MASK, {32}, SAMPLE_LEN, TIME, 0},
+    {"a mask by AES-256, wide", &wide, MASK, {32}, SAMPLE_LEN, TIME, 0},
+    {"a mask by ChaCha20", &library, CHACHA_MASK, {32}, SAMPLE_LEN, TIME, 0},
     {"sending a QUIC packet, 1350 bytes", &library, SEND, {16, 32}, 1350, SPEED, 0},
     {"sending and receiving it", &library, SEND_AND_RECEIVE, {16, 32}, 1350, SPEED, 0},
     {"sealing a record, 1350 bytes", &wide, SEAL_RECORD, {16, 32}, 1350, SPEED, 0},
@@ -106,7 +116,7 @@ static const row rows[] = {
     {"`deerlapse_chacha20`, 1350 bytes", &calls, CHACHA, {32}, 1350, SPEED, 0},
     {"`deerlapse_key_mask`, AES-128", &calls, MASK, {16}, SAMPLE_LEN, TIME, 0},
     {"`deerlapse_mask_aes`, AES-128", &calls, MASK_ONCE, {16}, SAMPLE_LEN, TIME, 0},
-    {"`deerlapse_mask_chacha20`", &calls, MASK_ONCE, {32}, SAMPLE_LEN, TIME, 0},
+    {"`deerlapse_mask_chacha20`", &calls, CHACHA_MASK_ONCE, {32}, SAMPLE_LEN, TIME, 0},
 };
 
 typedef struct {
@@ -129,7 +139,8 @@ static const peer all_peers[] = {
     {"OpenSSL", &openssl, {0}},
 #endif
 #ifdef WITH_BEFORE
-    {"Before", &before, {&library, &wide}},
+    {"Before", &before_library, {&library}},
+    {"Before", &before_wide, {&wide}},
 #endif
 };
 

@@ -23,9 +23,10 @@ typedef enum {
     UPDATE_BLOCK, /* takes one block into a hash: the first of the key, which is the hash subkey as well */
     UPDATE_BLOCKS, /* takes the whole blocks of the buffer into a hash, whose subkey is the key */
     CHACHA,       /* encrypts the buffer by ChaCha20 */
-    MASK,         /* makes a mask of the buffer, a sample, and writes it over its front: AES for a key of 16 bytes, ChaCha20
-                     for one of 32 */
+    MASK,         /* makes a mask of the buffer, a sample, by AES, and writes it over its front */
     MASK_ONCE,    /* makes the key and the mask */
+    CHACHA_MASK,  /* the same by ChaCha20 */
+    CHACHA_MASK_ONCE,
     AES_KEY,      /* makes an AES key of the buffer */
     GCM_KEY,      /* makes an AES-GCM key of the buffer */
     CLONE,        /* copies an AES-GCM key */
@@ -45,14 +46,15 @@ typedef struct {
 } side;
 
 extern const side library;       /* the loops of crates/aead_bench over the keys of the libraries, and over packets */
-extern const side before;        /* those of an older crates/aead_bench */
+extern const side before_library; /* those of an older crates/aead_bench */
 extern const side wide;          /* those over the keys of crates/aead_ciphers_wide, and over records */
+extern const side before_wide;   /* those of an older crates/aead_bench */
 extern const side libraries;     /* those over the keys of the libraries that `wide` has too */
 extern const side less_safe_key; /* those that seal and open what a packet or a record holds, without making it */
 extern const side calls;         /* the calls for C of crates/deerlapse */
 extern const side plain;         /* plain C */
 extern const side bearssl;       /* BearSSL as the system has it */
-extern const side bearssl_clang; /* BearSSL's sources, by the compiler that makes the plain C */
+extern const side bearssl_clang; /* BearSSL's sources, by the compiler of the plain C and of the library */
 extern const side openssl;
 
 static const uint8_t nonce[NONCE_LEN] = {1, 1, 1, 1, 1, 1, 1, 1, 1, 1, 1, 1};

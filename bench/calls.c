@@ -68,12 +68,6 @@ static uint64_t chacha(uint64_t times, const uint8_t *key, size_t key_len, uint8
     return first_bytes(buffer);
 }
 
-static bool mask_of(const uint8_t *key, size_t key_len, const uint8_t *sample, uint8_t *mask) {
-    if (key_len == 16) return deerlapse_mask_aes(key, key_len, sample, mask);
-    deerlapse_mask_chacha20(key, sample, mask);
-    return true;
-}
-
 static uint64_t key_mask(uint64_t times, const uint8_t *key, size_t key_len, uint8_t *buffer, size_t len) {
     deerlapse_key k;
     uint8_t mask[MASK_LEN];
@@ -90,7 +84,17 @@ static uint64_t mask_once(uint64_t times, const uint8_t *key, size_t key_len, ui
     uint8_t mask[MASK_LEN];
     (void)len;
     for (uint64_t i = 0; i < times; i++) {
-        if (!mask_of(key, key_len, buffer, mask)) return 0;
+        if (!deerlapse_mask_aes(key, key_len, buffer, mask)) return 0;
+        memcpy(buffer, mask, MASK_LEN);
+    }
+    return first_bytes(buffer);
+}
+
+static uint64_t chacha_mask_once(uint64_t times, const uint8_t *key, size_t key_len, uint8_t *buffer, size_t len) {
+    uint8_t mask[MASK_LEN];
+    (void)key_len, (void)len;
+    for (uint64_t i = 0; i < times; i++) {
+        deerlapse_mask_chacha20(key, buffer, mask);
         memcpy(buffer, mask, MASK_LEN);
     }
     return first_bytes(buffer);
@@ -105,4 +109,5 @@ const side calls = {{
     [CHACHA] = chacha,
     [MASK] = key_mask,
     [MASK_ONCE] = mask_once,
+    [CHACHA_MASK_ONCE] = chacha_mask_once,
 }};

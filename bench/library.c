@@ -1,8 +1,8 @@
 /* The loops of crates/aead_bench over the keys of the two libraries, and over packets. */
 #include "bench.h"
 
-loop bench_seal, bench_open, bench_ctr32, bench_encrypt_four, bench_update_block, bench_chacha, bench_mask, bench_aes_key,
-    bench_less_safe_key, bench_clone, bench_send, bench_send_and_receive;
+loop bench_seal, bench_open, bench_ctr32, bench_encrypt_four, bench_update_block, bench_chacha, bench_mask, bench_chacha_mask,
+    bench_aes_key, bench_less_safe_key, bench_clone, bench_send, bench_send_and_receive;
 
 const side library = {{
     [SEAL] = bench_seal,
@@ -12,6 +12,7 @@ const side library = {{
     [UPDATE_BLOCK] = bench_update_block,
     [CHACHA] = bench_chacha,
     [MASK] = bench_mask,
+    [CHACHA_MASK] = bench_chacha_mask,
     [AES_KEY] = bench_aes_key,
     [GCM_KEY] = bench_less_safe_key,
     [CLONE] = bench_clone,

@@ -163,33 +163,50 @@ static uint64_t chacha(uint64_t times, const uint8_t *key, size_t key_len, uint8
     return answer_of(context, buffer);
 }
 
-/* By AES of a block, or by the stream that begins at the sample, in the context of such a key. */
-static void write_mask(EVP_CIPHER_CTX *context, size_t key_len, uint8_t *sample) {
-    uint8_t mask[BLOCK_LEN] = {0};
-    if (key_len == 16) {
-        update(context, mask, sample, SAMPLE_LEN);
-    } else {
-        set_iv(context, sample);
-        update(context, mask, mask, MASK_LEN);
-    }
+static void write_mask(EVP_CIPHER_CTX *context, uint8_t *sample) {
+    uint8_t mask[BLOCK_LEN];
+    update(context, mask, sample, SAMPLE_LEN);
     memcpy(sample, mask, MASK_LEN);
 }
 
-static const EVP_CIPHER *mask_cipher(size_t key_len) { return key_len == 16 ? EVP_aes_128_ecb() : EVP_chacha20(); }
-
 static uint64_t mask(uint64_t times, const uint8_t *key, size_t key_len, uint8_t *buffer, size_t len) {
-    EVP_CIPHER_CTX *context = new_context(mask_cipher(key_len), key, ENCRYPT);
+    EVP_CIPHER_CTX *context = new_context(ecb(key_len), key, ENCRYPT);
     (void)len;
-    for (uint64_t i = 0; i < times; i++) write_mask(context, key_len, buffer);
+    for (uint64_t i = 0; i < times; i++) write_mask(context, buffer);
     return answer_of(context, buffer);
 }
 
 static uint64_t mask_once(uint64_t times, const uint8_t *key, size_t key_len, uint8_t *buffer, size_t len) {
-    EVP_CIPHER_CTX *context = new_context(mask_cipher(key_len), NULL, ENCRYPT);
+    EVP_CIPHER_CTX *context = new_context(ecb(key_len), NULL, ENCRYPT);
     (void)len;
     for (uint64_t i = 0; i < times; i++) {
         set_key(context, key);
-        write_mask(context, key_len, buffer);
+        write_mask(context, buffer);
+    }
+    return answer_of(context, buffer);
+}
+
+/* The stream begins at the sample. */
+static void write_chacha_mask(EVP_CIPHER_CTX *context, uint8_t *sample) {
+    uint8_t mask[MASK_LEN] = {0};
+    set_iv(context, sample);
+    update(context, mask, mask, sizeof mask);
+    memcpy(sample, mask, sizeof mask);
+}
+
+static uint64_t chacha_mask(uint64_t times, const uint8_t *key, size_t key_len, uint8_t *buffer, size_t len) {
+    EVP_CIPHER_CTX *context = new_context(EVP_chacha20(), key, ENCRYPT);
+    (void)key_len, (void)len;
+    for (uint64_t i = 0; i < times; i++) write_chacha_mask(context, buffer);
+    return answer_of(context, buffer);
+}
+
+static uint64_t chacha_mask_once(uint64_t times, const uint8_t *key, size_t key_len, uint8_t *buffer, size_t len) {
+    EVP_CIPHER_CTX *context = new_context(EVP_chacha20(), NULL, ENCRYPT);
+    (void)key_len, (void)len;
+    for (uint64_t i = 0; i < times; i++) {
+        set_key(context, key);
+        write_chacha_mask(context, buffer);
     }
     return answer_of(context, buffer);
 }
@@ -205,6 +222,8 @@ const side openssl = {{
     [CHACHA] = chacha,
     [MASK] = mask,
     [MASK_ONCE] = mask_once,
+    [CHACHA_MASK] = chacha_mask,
+    [CHACHA_MASK_ONCE] = chacha_mask_once,
     [AES_KEY] = aes_key,
     [GCM_KEY] = gcm_key,
 }};

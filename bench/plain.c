@@ -389,7 +389,7 @@ static void chacha_xor(const u8 key[32], u32 counter, u8 *data, size_t n) {
     }
 }
 
-static void chacha_mask(u8 out[64], const u8 key[32], const u8 sample[SAMPLE_LEN]) {
+static void chacha_at_sample(u8 out[64], const u8 key[32], const u8 sample[SAMPLE_LEN]) {
     u32 state[16], counter;
     memcpy(&counter, sample, 4);
     chacha_start(state, key, counter, sample + 4);
@@ -495,12 +495,11 @@ static u64 chacha(u64 times, const u8 *key, size_t key_len, u8 *buffer, size_t l
 
 static u64 mask(u64 times, const u8 *key, size_t key_len, u8 *buffer, size_t len) {
     aes_key k;
-    u8 b[64];
+    u8 b[16];
     (void)len;
-    if (key_len == 16) aes_init(&k, key, key_len);
+    aes_init(&k, key, key_len);
     for (u64 i = 0; i < times; i++) {
-        if (key_len == 16) aes_one(&k, b, buffer);
-        else chacha_mask(b, key, buffer);
+        aes_one(&k, b, buffer);
         memcpy(buffer, b, MASK_LEN);
     }
     return first_bytes(buffer);
@@ -508,6 +507,16 @@ static u64 mask(u64 times, const u8 *key, size_t key_len, u8 *buffer, size_t len
 
 static u64 mask_once(u64 times, const u8 *key, size_t key_len, u8 *buffer, size_t len) {
     for (u64 i = 0; i < times; i++) mask(1, key, key_len, buffer, len);
+    return first_bytes(buffer);
+}
+
+static u64 chacha_mask(u64 times, const u8 *key, size_t key_len, u8 *buffer, size_t len) {
+    u8 b[64];
+    (void)key_len, (void)len;
+    for (u64 i = 0; i < times; i++) {
+        chacha_at_sample(b, key, buffer);
+        memcpy(buffer, b, MASK_LEN);
+    }
     return first_bytes(buffer);
 }
 
@@ -561,6 +570,8 @@ const side plain = {{
     [CHACHA] = chacha,
     [MASK] = mask,
     [MASK_ONCE] = mask_once,
+    [CHACHA_MASK] = chacha_mask,
+    [CHACHA_MASK_ONCE] = chacha_mask,
     [AES_KEY] = make_aes_key,
     [GCM_KEY] = make_gcm_key,
     [CLONE] = clone,

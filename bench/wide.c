@@ -1,5 +1,4 @@
-/* The loops of crates/aead_bench over the keys of crates/aead_ciphers_wide, and over what is made of them. They
- * are not looked for in an older archive. */
+/* The loops of crates/aead_bench over the keys of crates/aead_ciphers_wide, and over what is made of them. */
 #include "bench.h"
 
 loop bench_wide_seal, bench_wide_open, bench_wide_authenticate, bench_wide_ctr32, bench_wide_update_block,

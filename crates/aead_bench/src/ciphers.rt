@@ -1,12 +1,12 @@
 //! Loops over AES, GHASH and AES-GCM, of `aead_ciphers` and of `aead_ciphers_wide`, and over ChaCha20.
 
-use crate::keys::{AeadKey, key_bytes};
+use crate::keys::{AeadKey, MASK_LEN, MaskKey, aes_of, key_bytes};
 use crate::{NONCE, first_bytes, nonce, set_first_bytes};
 use aead_ciphers::aead::quic::{self, HeaderProtectionKey};
 use aead_ciphers::aead::{Aad, LessSafeKey};
 use aead_ciphers::gcm::{self, KeyValue, UpdateBlock, UpdateBlocks, Xi};
 use aead_ciphers_base::aes::{
-    self, AES_128_KEY_LEN, BLOCK_LEN, Block, Counter, EncryptBlock, EncryptCtr32, Work, ZERO_BLOCK,
+    self, BLOCK_LEN, Block, Counter, EncryptBlock, EncryptCtr32, Work, ZERO_BLOCK,
 };
 use aead_ciphers_base::chacha;
 use aead_ciphers_base::overlapping::Overlapping;
@@ -329,39 +329,39 @@ pub extern "C" fn bench_chacha(times: u64, key: &[u8], buffer: &mut [u8]) -> u64
     first_bytes(buffer)
 }
 
-/// The header protection algorithm for a key of 16 bytes, AES-128, or of 32, ChaCha20.
-fn header_algorithm(key: &[u8]) -> &'static quic::Algorithm {
-    match key.len() {
-        AES_128_KEY_LEN => &quic::AES_128,
-        _ => &quic::CHACHA20,
+/// Computes the header protection mask of the sample in the buffer in each turn, and writes it to the front of the sample.
+fn mask<K: MaskKey>(times: u64, key: &K, buffer: &mut [u8]) -> u64 {
+    for _ in 0..times {
+        if let (Ok(mask), Some(front)) = (key.mask(buffer), buffer.first_chunk_mut::<MASK_LEN>()) {
+            *front = mask;
+        }
     }
+    first_bytes(buffer)
 }
 
-/// Computes the header protection mask of the sample in the buffer in each turn, and writes it to the front of the sample: with
-/// AES-128 for a key of 16 bytes, and with ChaCha20 for one of 32.
+/// `mask` by AES, with a key of `aead_ciphers`.
 #[unsafe(no_mangle)]
 pub extern "C" fn bench_mask(times: u64, key: &[u8], buffer: &mut [u8]) -> u64 {
-    let Ok(key) = HeaderProtectionKey::new(header_algorithm(key), key) else {
-        return 0;
-    };
-    for _ in 0..times {
-        if let (Ok(mask), Some(front)) = (key.new_mask(buffer), buffer.first_chunk_mut::<5>()) {
-            *front = mask;
-        }
+    match HeaderProtectionKey::new(aes_of(key), key) {
+        Ok(key) => mask(times, &key, buffer),
+        Err(_) => 0,
     }
-    first_bytes(buffer)
 }
 
-/// The same as `bench_mask`, with the key of `aead_ciphers_wide`.
+/// `mask` by AES, with a key of `aead_ciphers_wide`.
 #[unsafe(no_mangle)]
 pub extern "C" fn bench_wide_mask(times: u64, key: &[u8], buffer: &mut [u8]) -> u64 {
-    let Ok(key) = WideHeaderKey::new(header_algorithm(key), key) else {
-        return 0;
-    };
-    for _ in 0..times {
-        if let (Ok(mask), Some(front)) = (key.new_mask(buffer), buffer.first_chunk_mut::<5>()) {
-            *front = mask;
-        }
+    match WideHeaderKey::new(aes_of(key), key) {
+        Ok(key) => mask(times, &key, buffer),
+        Err(_) => 0,
     }
-    first_bytes(buffer)
+}
+
+/// `mask` by ChaCha20, with a key of `aead_ciphers`.
+#[unsafe(no_mangle)]
+pub extern "C" fn bench_chacha_mask(times: u64, key: &[u8], buffer: &mut [u8]) -> u64 {
+    match HeaderProtectionKey::new(&quic::CHACHA20, key) {
+        Ok(key) => mask(times, &key, buffer),
+        Err(_) => 0,
+    }
 }
