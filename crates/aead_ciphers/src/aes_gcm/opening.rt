@@ -67,6 +67,7 @@ pub fn open_to_with<A: EncryptCtr32, G: UpdateBlocks>(
     ensures plaintext { OnOk result
         (out.new ≡ gcm_decrypted (A.cipher aes.now) nonce ciphertext.now) }
     ensures refused { OnErr result (out.new ≡ out.old) }
+    ensures worked { OpenWork (length (aad_bytes aad.entry)) 0 (length ciphertext.now) result work.old work.new }
 {
     let counter = authenticate(aes, gcm, nonce, aad, received_tag, ciphertext, work)?;
     out.copy_from_slice(ciphertext);
