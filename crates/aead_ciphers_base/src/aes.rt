@@ -1,7 +1,8 @@
 //! AES (FIPS 197), bit-sliced over four blocks, and its counter mode (SP 800-38D section 6.5).
 //!
 //! Eight planes of 64 bits hold four blocks: bit `16 * block + byte` of plane `b` is bit `b` of that
-//! byte. No step reads a table or branches on a byte. Read `Key` and `EncryptBlock` first.
+//! byte. No step branches on a byte or reads at an index that depends on one: the one table is that
+//! of the round constants. Read `Key` and `EncryptBlock` first.
 
 ghost use Rattle.std.specs.Prelude.{◌≡◌, ◌<◌, ◌⊎◌, ℕ, ◌/◌, ◌%◌, List, [], length, slice_index_or, IsOk, IfOk};
 ghost use Rattle.aead_ciphers_base.specs.Aes.{aes, length_aes};

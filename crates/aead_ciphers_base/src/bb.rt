@@ -7,7 +7,7 @@ use crate::error::Unspecified;
 
 /// Verifies that two slices are equal. Fails with `Unspecified` if they differ.
 ///
-/// If their lengths are equal, every byte of both is read, whatever they hold.
+/// If their lengths are equal, the loop goes on to the last byte wherever they differ. No clause says so.
 #[tactic(auto, using(crate::proofs::BytesLemmas::same_more))]
 pub fn verify_slices_are_equal(a: &[u8], b: &[u8]) -> Result<(), Unspecified>
     ensures { IsOk result ↔ (a.now ≡ b.now) }

@@ -1,4 +1,5 @@
-//! The record layer of TLS 1.3 (RFC 8446 section 5), with AES-GCM and keys that the caller derives.
+//! The record layer of TLS 1.3 (RFC 8446 section 5), with AES-GCM, under a key and IV or the traffic secret of which both
+//! are derived.
 //!
 //! A protected record is a header of 5 bytes and the encrypted record: the content, its type and zeros as padding, sealed under
 //! the number of the record with the header as AAD. `Writer` and `Reader` are the two ends; `docs/RECORDS.md` has the format
