@@ -2,7 +2,11 @@ pub mod ByteLadder
 pub mod ByteReduction
 pub mod ByteRows
 pub mod EightPacking
+pub mod PermutedBlocks
+pub mod PermutedBytes
+pub mod PermutedRounds
 pub mod PieceLemmas
+pub mod ScheduleColumns
 pub mod WideBits
 pub mod WideBlocks
 pub mod WideHash

@@ -5,8 +5,13 @@ use Rattle.aead_ciphers_base.specs.ByteField.{sbox, mul8}
 use Rattle.aead_ciphers_base.specs.Aes.{at, sub_bytes, shift_rows, mixed, mix_columns, add_round_key, word_at}
 use Rattle.aead_ciphers_base.specs.Planes.{plane_byte}
 use Rattle.aead_ciphers_wide.specs.WidePlanes.{wide_block, below, shifted_from}
-use Rattle.aead_ciphers_wide.specs.WideSchedule.{HoldsWords, planes_of}
+use Rattle.aead_ciphers_wide.specs.WideSchedule.{planes_of}
 use Rattle.aead_ciphers_base.proofs.PlaneBlocks.{state_same, at_state, by_four}
+
+-- the planes of the first n round keys hold the words, four words each, in each of the eight blocks
+abbrev pub PlanesHoldWords : List (List ℕ) → List (List ℕ) → ℕ → Type 0
+PlanesHoldWords planes words n = (j p : ℕ) → j < n → p < 128
+    → plane_byte (planes_of (slice_index_or planes j [])) p ≡ slice_index (word_at words (4 * j + p / 32)) (p / 8 % 4)
 
 module _ (old new : List ℕ) (k : ℕ) (hk : k < 8) where
   at_old : (r c : ℕ) → r < 4 → c < 4 → at (wide_block old k) r c ≡ plane_byte old (8 * (r + 4 * c) + k)
@@ -42,7 +47,7 @@ module _ (old new : List ℕ) (k : ℕ) (hk : k < 8) where
       h (8 * (r + 4 * c) + k) (omega arith) ∙ ap₂ bit_xor
       (ap₂ bit_xor (ap₂ (λ s t. bit_xor (mul8 2 s) (mul8 3 t)) (sym (at_old r c hr hc)) (there 1)) (there 2)) (there 3))
 
-  pub add_block : (keys w : List (List ℕ)) (j n : ℕ) → HoldsWords keys w n → j < n → ((p : ℕ)
+  pub add_block : (keys w : List (List ℕ)) (j n : ℕ) → PlanesHoldWords keys w n → j < n → ((p : ℕ)
       → p < 128 → plane_byte new p ≡ bit_xor (plane_byte old p) (plane_byte (planes_of (slice_index_or keys j [])) p))
       → wide_block new k ≡ add_round_key w j (wide_block old k)
   unfolding add_round_key wide_block

@@ -1,12 +1,17 @@
--- The round keys of a key in eight blocks, and the key with which they begin.
-use Rattle.std.proofs.Common.{◌≡◌, ℕ, ◌+◌, ◌-◌, ◌*◌, ◌/◌, ◌%◌, ◌≤◌, List, [], length, take, sym, ◌∙◌, ap, ap₂, arith, slice_index, slice_index_or}
-use Rattle.std.proofs.lemmas
-use lemmas.List.FromFn.{fill_by_all}
-use Rattle.aead_ciphers_base.specs.Aes.{word_at, key_words, cipher, aes, rounds}
-use Rattle.aead_ciphers_base.specs.Planes.{plane_byte}
-use Rattle.aead_ciphers_wide.specs.WideSchedule.{HoldsWords, key_of, IsSchedule, planes_of}
+-- The round keys of a key, the key with which they begin, and their planes.
+use Rattle.std.proofs.Common.{◌≡◌, ℕ, ◌+◌, ◌-◌, ◌*◌, ◌/◌, ◌%◌, ◌≤◌, List, [], length, sym, ◌∙◌, ap, ap₂, arith, slice_index, slice_index_or, ◌<◌, set, subst, below_more, get_or-set_same, get_or-set_other}
+use Rattle.std.proofs.lemmas.List.FromFn.{fill_by_all}
+use Rattle.aead_ciphers_base.specs.Aes.{at, word_at, key_words, cipher, aes}
+use Rattle.aead_ciphers_wide.specs.WideSchedule.{HoldsPlanes, HoldsWords, IsSchedule, column, key_at, key_of, schedule_words}
 use Rattle.aead_ciphers_base.proofs.EachLemmas.{get_or-each, length-each}
-use Rattle.aead_ciphers_base.proofs.RoundKeys.{key_words_front, length-key_words}
+use Rattle.aead_ciphers_base.proofs.RoundKeys.{key_words_front}
+use Rattle.aead_ciphers_wide.proofs.WideBlocks.{PlanesHoldWords}
+
+-- byte k of a block, in its column
+byte_of_column : (b : List ℕ) (k : ℕ) → slice_index b k ≡ slice_index (column b (k / 4)) (k % 4)
+byte_of_column b k =
+    let place : k ≡ k % 4 + 4 * (k / 4) = omega arith in
+    ap (slice_index b) place ∙ sym (get_or-each 4 (λ r. at b r (k / 4)) (k % 4) 0 (omega arith))
 
 -- the round keys of a key begin with it
 key_of_schedule : (key : List ℕ) (round_keys : List (List ℕ)) (nk m n : ℕ) → length key ≡ 4 * nk → nk ≤ 8 → 2 ≤ n
@@ -14,54 +19,58 @@ key_of_schedule : (key : List ℕ) (round_keys : List (List ℕ)) (nk m n : ℕ)
 unfolding key_of
 key_of_schedule key round_keys nk m n len hk hn holds =
     let size : length key ≡ 4 * (nk + 6 - 6) = omega arith in
-    sym (fill_by_all (λ j. plane_byte (planes_of (slice_index_or round_keys (j / 16) [])) (8 * (j % 16))) key _ 0 size
+    sym (fill_by_all (λ j. slice_index (key_at round_keys (j / 16)) (j % 16)) key _ 0 size
     (λ j lt.
-    let row : 4 * (j / 16) + 8 * (j % 16) / 32 ≡ j / 4 = omega arith in
-    let column : 8 * (j % 16) / 8 % 4 ≡ j % 4 = omega arith in
+    let word : 4 * (j / 16) + j % 16 / 4 ≡ j / 4 = omega arith in
+    let row : j % 16 % 4 ≡ j % 4 = omega arith in
     let place : 4 * (j / 4) + j % 4 ≡ j = omega arith in
-    sym (holds (j / 16) (8 * (j % 16)) (omega arith) (omega arith)
-    ∙ ap₂ (λ i t. slice_index (word_at (key_words nk key m) i) t) row column
+    sym (byte_of_column (key_at round_keys (j / 16)) (j % 16)
+    ∙ ap₂ (λ w t. slice_index w t) (holds (j / 16) (j % 16 / 4) (omega arith) (omega arith)) row
+    ∙ ap (λ i. slice_index (word_at (key_words nk key m) i) (j % 4)) word
     ∙ ap (λ w. slice_index w (j % 4)) (key_words_front nk key m (j / 4) (omega arith))
     ∙ get_or-each 4 (λ k. slice_index key (4 * (j / 4) + k)) (j % 4) 0 (omega arith)
     ∙ ap (slice_index key) place)))
 
-module _ (key : List ℕ) (w round_keys : List (List ℕ)) (nk : ℕ) (len : length key ≡ 4 * nk) (least : 4 ≤ nk) (most : nk ≤ 8)
-    (whole : take (4 * (nk + 7)) w ≡ key_words nk key (4 * (nk + 7) - nk))
-    (holds : HoldsWords round_keys (take (4 * (nk + 6 + 1)) w) (length (take (4 * (nk + 6 + 1)) w) / 4)) where
-  abbrev words : List (List ℕ)
-  words = key_words nk key (4 * (nk + 6 + 1) - nk)
-
-  words_is : take (4 * (nk + 6 + 1)) w ≡ words
-  words_is = let last : 4 * (nk + 6 + 1) ≡ 4 * (nk + 7) = omega arith in rw last whole
-
-  holds_key : HoldsWords round_keys words (nk + 6 + 1)
-  holds_key j p hj hp =
-      let size = ap length words_is ∙ length-key_words nk key _ in
-      holds j p (omega arith) hp ∙ ap (λ t. slice_index (word_at t (4 * j + p / 32)) (p / 8 % 4)) words_is
-
+module _ (key : List ℕ) (round_keys : List (List ℕ)) (nk : ℕ) (len : length key ≡ 4 * nk) (least : 4 ≤ nk) (most : nk ≤ 8)
+    (holds : HoldsWords round_keys (key_words nk key (4 * (nk + 7) - nk)) (nk + 7)) where
   pub key_of_is : key_of round_keys (nk + 6) ≡ key
-  key_of_is = key_of_schedule key round_keys nk _ _ len most (omega arith) holds_key
+  key_of_is = key_of_schedule key round_keys nk _ _ len most (omega arith) holds
 
   pub is_schedule : IsSchedule round_keys (nk + 6)
   is_schedule = record {
     enough = omega arith;
     in_range = omega arith;
-    expanded = λ j p hj hp.
+    expanded = λ j c hj hc.
         let n : nk ≡ nk + 6 - 6 = omega arith in
-        holds_key j p (omega arith) hp
-        ∙ ap₂ (λ t k. slice_index (word_at (key_words t k (4 * (nk + 6 + 1) - t)) (4 * j + p / 32)) (p / 8 % 4)) n (sym key_of_is);
+        let count : 4 * (nk + 7) - nk ≡ 4 * (nk + 6 + 1) - (nk + 6 - 6) = omega arith in
+        holds j c (omega arith) hc
+        ∙ ap₂ (λ t k. word_at (key_words t k (4 * (nk + 7) - nk)) (4 * j + c)) n (sym key_of_is)
+        ∙ ap (λ m. word_at (key_words (nk + 6 - 6) (key_of round_keys (nk + 6)) m) (4 * j + c)) count;
   }
-
--- the words that the round keys of a schedule hold
-abbrev pub schedule_words : List (List ℕ) → ℕ → List (List ℕ)
-schedule_words round_keys rounds = key_words (rounds - 6) (key_of round_keys rounds) (4 * (rounds + 1) - (rounds - 6))
 
 -- the cipher under the words of a schedule is AES under its key
 pub aes_of_schedule : (round_keys : List (List ℕ)) (rounds : ℕ) (b : List ℕ) → 10 ≤ rounds
     → cipher (schedule_words round_keys rounds) rounds b ≡ aes (key_of round_keys rounds) b
 unfolding aes key_of
 aes_of_schedule round_keys rounds b h =
-    let size = length-each (4 * (rounds - 6)) (λ j. plane_byte (planes_of (slice_index_or round_keys (j / 16) [])) (8 * (j % 16))) in
+    let size = length-each (4 * (rounds - 6)) (λ j. slice_index (key_at round_keys (j / 16)) (j % 16)) in
     let nk : length (key_of round_keys rounds) / 4 ≡ rounds - 6 = omega (arith, size) in
     let count : rounds - 6 + 6 ≡ rounds = omega arith in
     rw (nk, count)
+
+-- the planes of round keys hold the words that these hold
+pub planes_hold : (planes round_keys words : List (List ℕ)) (n : ℕ) → HoldsPlanes planes round_keys n → HoldsWords round_keys words n
+    → PlanesHoldWords planes words n
+planes_hold planes round_keys words n is_planes holds j p hj hp =
+    let place : p / 8 / 4 ≡ p / 32 = omega arith in
+    is_planes j p hj hp ∙ byte_of_column (key_at round_keys j) (p / 8)
+    ∙ ap (λ c. slice_index (column (key_at round_keys j) c) (p / 8 % 4)) place
+    ∙ ap (λ w. slice_index w (p / 8 % 4)) (holds j (p / 32) hj (omega arith))
+
+-- one more round key written
+pub keys_more : (P : ℕ → List ℕ → Type 0) (keys : List (List ℕ)) (j : ℕ) (v : List ℕ) → j < length keys
+    → ((i : ℕ) → i < j → P i (slice_index_or keys i [])) → P j v → (i : ℕ) → i < j + 1 → P i (slice_index_or (set keys j v) i [])
+keys_more P keys j v fits before here =
+    below_more (λ i. P i (slice_index_or (set keys j v) i [])) j
+    (λ i less. subst (P i) (sym (get_or-set_other keys j i v [] (λ e. absurd (omega arith)))) (before i less))
+    (subst (P j) (sym (get_or-set_same keys j v [] fits)) here)

@@ -1,8 +1,8 @@
 -- What a contract sees of an expanded AES-GCM key that is plain data.
-use Rattle.std.specs.Prelude.{◌≡◌, ℕ, List, replicate}
+use Rattle.std.specs.Prelude.{◌≡◌, ℕ, ◌+◌, List, replicate}
 use Rattle.aead_ciphers_base.specs.Aes.{aes}
 use Rattle.aead_ciphers_base.specs.Bytes.{zero_block}
-use Rattle.aead_ciphers_wide.specs.WideSchedule.{key_of, IsSchedule}
+use Rattle.aead_ciphers_wide.specs.WideSchedule.{HoldsPlanes, IsSchedule, key_of}
 use Rattle.aead_ciphers_wide.specs.Products.{ArePowers, subkey as products_subkey}
 use Rattle.aead_ciphers_wide.specs.declared.aes_gcm.ExpandedKey.{ExpandedKey}
 
@@ -10,13 +10,14 @@ use Rattle.aead_ciphers_wide.specs.declared.aes_gcm.ExpandedKey.{ExpandedKey}
 abbrev pub bytes_of : ExpandedKey → List ℕ
 bytes_of key = key_of key.round_keys key.rounds
 
--- the fields are those of a key: its round keys (FIPS 197 section 5.2), and the products of its hash subkey and of the
+-- the fields are those of a key: its round keys (FIPS 197 section 5.2) and their planes, and the products of its hash subkey and of the
 -- square of it, where the subkey is the encrypted zero block (SP 800-38D sections 6.3 and 7.1 step 1)
 pub record IsExpanded (key : ExpandedKey) : Type 0 where
   pub schedule : IsSchedule key.round_keys key.rounds
+  pub planes : HoldsPlanes key.planes key.round_keys (key.rounds + 1)
   pub subkey : products_subkey key.products ≡ aes (bytes_of key) zero_block
   pub products : ArePowers key.products key.squares
 
 -- the fields before a key is expanded: all zeros, which no key has
 abbrev pub zero_key : ExpandedKey
-zero_key = record { round_keys = replicate 15 (replicate 16 0); rounds = 0; products = replicate 512 0; squares = replicate 512 0 }
+zero_key = record { planes = replicate 15 (replicate 16 0); round_keys = replicate 15 (replicate 16 0); rounds = 0; products = replicate 512 0; squares = replicate 512 0 }

@@ -1,51 +1,57 @@
-//! AES (FIPS 197), bit-sliced over eight blocks, and its counter mode (SP 800-38D section 6.5).
+//! AES (FIPS 197), of eight blocks on bit planes, and of one block or two by byte permutes, and its counter mode (SP 800-38D
+//! section 6.5).
 //!
 //! Eight planes of 128 bits hold eight blocks: bit `8 * byte + block` of plane `b` is bit `b` of that byte.
 
-ghost use Rattle.std.specs.Prelude.{◌≡◌, ◌<◌, ◌⊎◌, ℕ, ◌/◌, ◌%◌, List, [], length, slice_index_or, IsOk, IfOk};
+ghost use Rattle.std.specs.Prelude.{◌≡◌, ◌+◌, ◌<◌, ◌⊎◌, ℕ, ◌/◌, ◌%◌, List, [], length, slice_index_or, IsOk, IfOk};
 ghost use Rattle.aead_ciphers_base.specs.Aes.{aes, length_aes};
 ghost use Rattle.aead_ciphers_base.specs.Bytes.{◌⊕◌};
 ghost use Rattle.aead_ciphers_base.specs.CounterMode.{Advances, EncryptsToFront};
 ghost use Rattle.aead_ciphers_base.specs.KeyBytes.{key_bytes};
-ghost use Rattle.aead_ciphers_wide.specs.WideSchedule.{IsSchedule, key_of};
+ghost use Rattle.aead_ciphers_wide.specs.WideSchedule.{HoldsPlanes, IsSchedule, key_of};
 ghost use Rattle.aead_ciphers_base.specs.Mask.{aes_mask};
 ghost use Rattle.aead_ciphers_base.specs.Overlapping.{input_len};
 ghost use Rattle.aead_ciphers_base.specs.Work.{Adds, CanAdd};
 
 use aead_ciphers_base::aes::{
-    Block, Counter, EncryptBlock, EncryptCtr32, KeyBytes, Overlapping, Work, ZERO_BLOCK,
-    expand_words,
+    Block, Counter, EncryptBlock, EncryptCtr32, KeyBytes, Overlapping, Work,
 };
 use aead_ciphers_base::error::Unspecified;
 use aead_ciphers_base::values::Sample;
 use std::marker::Model;
 
 mod bit_sliced;
+mod block_key;
 mod ctr32;
+mod key_schedule;
 mod pack_eight;
+mod permuted;
 mod planes;
 mod round;
 mod round_keys;
 mod word;
 
-pub use round_keys::{RoundKey, RoundKeys};
+pub use block_key::{BlockKey, BlockKeyRef};
+pub use round_keys::{RoundKeys, RoundPlanes, write_planes};
 
-/// An expanded AES key: its round keys (FIPS 197 section 5.2), each in all eight blocks of eight planes.
+/// An expanded AES key: its round keys (FIPS 197 section 5.2), and the planes that hold each in all eight blocks.
 #[derive(Clone, Drop)]
 pub struct Key {
+    planes: RoundPlanes,
     round_keys: RoundKeys,
     rounds: usize,
 }
 
 impl Model for Key {
-    ghost use Rattle.std.specs.Prelude.{ℕ, List};
-    ghost use Rattle.aead_ciphers_wide.specs.WideSchedule.{key_of, IsSchedule};
+    ghost use Rattle.std.specs.Prelude.{ℕ, ◌+◌, List};
+    ghost use Rattle.aead_ciphers_wide.specs.WideSchedule.{HoldsPlanes, IsSchedule, key_of};
 
     ghost Value = { List ℕ };
 
     ghost view = { λ key. key_of key.round_keys key.rounds };
 
-    ghost invariant = { λ key. IsSchedule key.round_keys key.rounds };
+    ghost invariant = { λ key. IsSchedule key.round_keys key.rounds
+        × HoldsPlanes key.planes key.round_keys (key.rounds + 1) };
 }
 
 impl Key {
@@ -56,7 +62,13 @@ impl Key {
     {
         let mut round_keys = [[0; 16]; 15];
         let rounds = expand(&mut round_keys, bytes);
-        Ok(Key { round_keys, rounds })
+        let mut planes = [[0; 16]; 15];
+        write_planes(&mut planes, &round_keys, rounds);
+        Ok(Key {
+            planes,
+            round_keys,
+            rounds,
+        })
     }
 
     /// Borrows the key as a `KeyRef`.
@@ -64,6 +76,7 @@ impl Key {
         ensures { result ≡ self.now }
     {
         KeyRef {
+            planes: &self.planes,
             round_keys: &self.round_keys,
             rounds: self.rounds,
         }
@@ -85,56 +98,57 @@ pub fn expand(round_keys: &mut RoundKeys, bytes: KeyBytes<'_>) -> usize
 {
     let key = bytes.as_slice();
     let rounds = key.len() / 4 + 6;
-    let words = expand_words(key);
-    round_keys::write_round_keys(round_keys, &words[..4 * (rounds + 1)]);
+    key_schedule::expand(round_keys, key);
     rounds
 }
 
 /// An expanded AES key that borrows its round keys, for example from memory that the caller owns.
 #[derive(Drop)]
 pub struct KeyRef<'k> {
+    planes: &'k RoundPlanes,
     round_keys: &'k RoundKeys,
     rounds: usize,
 }
 
 impl<'k> Model for KeyRef<'k> {
-    ghost use Rattle.std.specs.Prelude.{ℕ, List};
-    ghost use Rattle.aead_ciphers_wide.specs.WideSchedule.{key_of, IsSchedule};
+    ghost use Rattle.std.specs.Prelude.{ℕ, ◌+◌, List};
+    ghost use Rattle.aead_ciphers_wide.specs.WideSchedule.{HoldsPlanes, IsSchedule, key_of};
 
     ghost Value = { List ℕ };
 
     ghost view = { λ key. key_of key.round_keys.now key.rounds };
 
-    ghost invariant = { λ key. IsSchedule key.round_keys.now key.rounds };
+    ghost invariant = { λ key. IsSchedule key.round_keys.now key.rounds
+        × HoldsPlanes key.planes.now key.round_keys.now (key.rounds + 1) };
 }
 
 impl<'k> KeyRef<'k> {
-    /// Creates a key from round keys and the number of rounds, as `expand` writes and returns them.
-    pub fn new(round_keys: &'k RoundKeys, rounds: usize) -> Self
-        requires { IsSchedule round_keys.now rounds }
+    /// Creates a key from round keys and the number of rounds, as `expand` writes and returns them, and their planes, as
+    /// `write_planes` writes them.
+    pub fn new(planes: &'k RoundPlanes, round_keys: &'k RoundKeys, rounds: usize) -> Self
+        requires schedule { IsSchedule round_keys.now rounds }
+        requires planes { HoldsPlanes planes.now round_keys.now (rounds + 1) }
         ensures { result ≡ key_of round_keys.now rounds }
     {
-        KeyRef { round_keys, rounds }
+        KeyRef {
+            planes,
+            round_keys,
+            rounds,
+        }
+    }
+
+    /// Borrows the round keys, for one block at a time.
+    fn by_block(&self) -> BlockKeyRef<'k>
+        ensures { result ≡ self.now }
+    {
+        BlockKeyRef::new(self.round_keys, self.rounds)
     }
 
     /// Computes the header protection mask of a sample (RFC 9001 section 5.4.3): 16 bytes in, 5 bytes out.
-    #[tactic(auto, unfolding(aead_ciphers_base::specs::Mask::aes_mask))]
     pub fn new_mask(&self, sample: Sample) -> [u8; 5]
         ensures { result ≡ aes_mask self.now sample }
     {
-        let block = self.cipher_block(sample);
-        let mut mask = [0; 5];
-        mask.copy_from_slice(&block[..5]);
-        mask
-    }
-
-    // Encrypts one block, as the first of eight.
-    fn cipher_block(&self, block: Block) -> Block
-        ensures { result ≡ aes self.now block }
-    {
-        let z = ZERO_BLOCK;
-        let [first, ..] = self.encrypt_eight([block, z, z, z, z, z, z, z]);
-        first
+        self.by_block().new_mask(sample)
     }
 }
 
@@ -144,8 +158,7 @@ impl<'k> EncryptBlock for KeyRef<'k> {
     ghost length_cipher = { λ key block _. length_aes key block };
 
     fn encrypt_block(&self, block: Block, work: &mut Work) -> Block {
-        work.add_block();
-        self.cipher_block(block)
+        self.by_block().encrypt_block(block, work)
     }
 }
 

@@ -36,8 +36,10 @@ pub fn fits(aad_len: usize, in_out_len: usize) -> bool
 #[repr(C)]
 #[derive(Clone, Drop)]
 pub struct ExpandedKey {
-    /// The round keys, as eight planes of 128 bits each (FIPS 197 section 5.2).
-    pub round_keys: [[u64; 16]; 15],
+    /// The round keys, as eight planes of 128 bits each.
+    pub planes: [[u64; 16]; 15],
+    /// The round keys (FIPS 197 section 5.2).
+    pub round_keys: [[u8; 16]; 15],
     /// The number of rounds: 10 for AES-128, 14 for AES-256.
     pub rounds: usize,
     /// The products of the hash subkey (SP 800-38D section 6.3).
@@ -53,6 +55,7 @@ impl ExpandedKey {
         ensures { result ≡ zero_key }
     {
         ExpandedKey {
+            planes: [[0; 16]; 15],
             round_keys: [[0; 16]; 15],
             rounds: 0,
             products: [0; 512],
@@ -69,7 +72,8 @@ impl ExpandedKey {
         ensures worked { Adds work.old work.new 1 0 }
     {
         self.rounds = aes::expand(&mut self.round_keys, bytes);
-        let aes = aes::KeyRef::new(&self.round_keys, self.rounds);
+        aes::write_planes(&mut self.planes, &self.round_keys, self.rounds);
+        let aes = aes::BlockKeyRef::new(&self.round_keys, self.rounds);
         let subkey = aes.encrypt_block(ZERO_BLOCK, work);
         gcm::expand(&mut self.products, &mut self.squares, subkey);
     }
@@ -94,7 +98,7 @@ impl ExpandedKey {
         ensures worked { SealWork (length (aad_bytes aad.entry)) (length in_out.old) result
             work.old work.new }
     {
-        let aes = aes::KeyRef::new(&self.round_keys, self.rounds);
+        let aes = aes::KeyRef::new(&self.planes, &self.round_keys, self.rounds);
         let gcm = gcm::KeyRef::new(&self.products, &self.squares);
         seal_with(&aes, &gcm, nonce, aad, in_out, work)
     }
@@ -114,7 +118,7 @@ impl ExpandedKey {
         ensures count { IfOk result (λ n. n ≡ length in_out.old - ciphertext.start) }
         ensures refused { OnErr result (in_out.new ≡ in_out.old) }
     {
-        let aes = aes::KeyRef::new(&self.round_keys, self.rounds);
+        let aes = aes::KeyRef::new(&self.planes, &self.round_keys, self.rounds);
         let gcm = gcm::KeyRef::new(&self.products, &self.squares);
         let len = in_out.len();
         let start = ciphertext.start;
@@ -182,7 +186,7 @@ impl ExpandedKey {
             (out.new ≡ gcm_decrypted (aes_cipher (bytes_of self.now)) nonce ciphertext.now) }
         ensures refused { OnErr result (out.new ≡ out.old) }
     {
-        let aes = aes::KeyRef::new(&self.round_keys, self.rounds);
+        let aes = aes::KeyRef::new(&self.planes, &self.round_keys, self.rounds);
         let gcm = gcm::KeyRef::new(&self.products, &self.squares);
         open_to_with(
             &aes,
@@ -224,7 +228,7 @@ impl ExpandedKey {
             in_out.old in_out.new state.new) }
         ensures refused { OnErr result ((state.new ≡ state.old) × (in_out.new ≡ in_out.old)) }
     {
-        let aes = aes::KeyRef::new(&self.round_keys, self.rounds);
+        let aes = aes::KeyRef::new(&self.planes, &self.round_keys, self.rounds);
         let gcm = gcm::KeyRef::new(&self.products, &self.squares);
         state.update_with(&aes, &gcm, in_out)
     }
@@ -238,7 +242,7 @@ impl ExpandedKey {
             → HasSealed (aes_cipher (bytes_of self.now)) nonce aad message ciphertext state
             → result ≡ gcm_tag (aes_cipher (bytes_of self.now)) nonce aad ciphertext }
     {
-        let aes = aes::KeyRef::new(&self.round_keys, self.rounds);
+        let aes = aes::KeyRef::new(&self.planes, &self.round_keys, self.rounds);
         let gcm = gcm::KeyRef::new(&self.products, &self.squares);
         state.finish_with(&aes, &gcm)
     }
@@ -249,6 +253,6 @@ impl ExpandedKey {
         requires { IsExpanded self.now }
         ensures { result ≡ aes_mask (bytes_of self.now) sample }
     {
-        aes::KeyRef::new(&self.round_keys, self.rounds).new_mask(sample)
+        aes::BlockKeyRef::new(&self.round_keys, self.rounds).new_mask(sample)
     }
 }

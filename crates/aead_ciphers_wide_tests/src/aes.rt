@@ -6,7 +6,7 @@ use aead_ciphers_base::aes::{
     self, BLOCK_LEN, Counter, EncryptBlock, EncryptCtr32, KeyBytes, Overlapping, Work,
 };
 use aead_ciphers_base::values::Nonce;
-use aead_ciphers_wide::aes::Key;
+use aead_ciphers_wide::aes::{BlockKey, Key};
 use aead_vectors::fips_197::{CASES, Case};
 use aead_vectors::rfc_9001;
 use aead_vectors::sp_800_38a::{CTR, CtrCase, ECB};
@@ -47,6 +47,16 @@ fn new_mask(rt: HostRuntime) -> Result<(), Fail> {
     let key = Key::new(KeyBytes::AES_128(&rfc_9001::A_2_KEY))?;
     let mask = key.new_mask(rfc_9001::A_2_SAMPLE);
     same(&rt, &mask, &rfc_9001::A_2_MASK, "the mask");
+    let key = BlockKey::new(KeyBytes::AES_128(&rfc_9001::A_2_KEY));
+    let mask = key.new_mask(rfc_9001::A_2_SAMPLE);
+    same(
+        &rt,
+        &mask,
+        &rfc_9001::A_2_MASK,
+        "the mask of a key for one block",
+    );
+    let mask = key.clone()?.new_mask(rfc_9001::A_2_SAMPLE);
+    same(&rt, &mask, &rfc_9001::A_2_MASK, "the mask of its clone");
     Ok(())
 }
 
@@ -104,6 +114,27 @@ fn counter_mode_wraps(rt: HostRuntime) -> Result<(), Fail> {
         same(&rt, &found, &wanted, "the key stream");
         same(&rt, &next, &wanted_next, "the next counter block");
         holds(&rt, blocks == 20, "the tally");
+    }
+    Ok(())
+}
+
+// Each number of blocks up to a pass of eight.
+#[test]
+fn counter_mode_of_few(rt: HostRuntime) -> Result<(), Fail> {
+    let key = Key::new(KeyBytes::AES_128(&[7; 16]))?;
+    let narrow = aes::Key::new(KeyBytes::AES_128(&[7; 16]))?;
+    let first = [1, 2, 3, 4, 5, 6, 7, 8, 9, 10, 11, 12, 0, 0, 0, 2];
+    let (wanted, _, _) = keystream(&narrow, &first);
+    for count in 1..=8 {
+        let mut bytes = [0; 128];
+        let in_out = Overlapping::from(&mut bytes[..BLOCK_LEN * count]);
+        key.ctr32_encrypt_within(in_out, &mut counter_of(&first), &mut Work::new());
+        same(
+            &rt,
+            &bytes[..BLOCK_LEN * count],
+            &wanted[..BLOCK_LEN * count],
+            "few blocks",
+        );
     }
     Ok(())
 }

@@ -1,4 +1,4 @@
-//! Header protection keys of QUIC (RFC 9001 section 5.4), whose AES runs on eight planes of 128 bits.
+//! Header protection keys of QUIC (RFC 9001 section 5.4), whose AES encrypts the sample by byte permutes.
 
 ghost use Rattle.std.specs.Prelude.{◌≡◌, ◌↔◌, length, IsOk, IfOk};
 
@@ -17,8 +17,8 @@ pub struct HeaderProtectionKey {
 
 #[derive(Drop)]
 enum KeyInner {
-    Aes128(aes::Key),
-    Aes256(aes::Key),
+    Aes128(aes::BlockKey),
+    Aes256(aes::BlockKey),
     ChaCha20(chacha::Key),
 }
 
@@ -46,10 +46,10 @@ impl HeaderProtectionKey {
     {
         let inner = if *algorithm == AES_128 {
             let bytes = key_bytes.as_array().ok_or(Unspecified)?;
-            KeyInner::Aes128(aes::Key::new(KeyBytes::AES_128(bytes))?)
+            KeyInner::Aes128(aes::BlockKey::new(KeyBytes::AES_128(bytes)))
         } else if *algorithm == AES_256 {
             let bytes = key_bytes.as_array().ok_or(Unspecified)?;
-            KeyInner::Aes256(aes::Key::new(KeyBytes::AES_256(bytes))?)
+            KeyInner::Aes256(aes::BlockKey::new(KeyBytes::AES_256(bytes)))
         } else {
             let bytes = key_bytes.as_array().ok_or(Unspecified)?;
             KeyInner::ChaCha20(chacha::Key::new(*bytes))

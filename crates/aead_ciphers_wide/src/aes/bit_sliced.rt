@@ -12,16 +12,17 @@ use aead_ciphers_base::aes::Block;
 impl<'k> KeyRef<'k> {
     /// Encrypts each of eight blocks (FIPS 197 section 5.1), in one pass over the planes. No `Work`
     /// counts them.
+    #[inline(never)]
     pub(crate) fn encrypt_eight(&self, blocks: [Block; 8]) -> [Block; 8]
         ensures { (k : ℕ) → k < 8
             → slice_index_or result k [] ≡ aes self.now (slice_index_or blocks k []) }
     {
-        let round_keys = self.round_keys;
+        let planes = self.planes;
         let rounds = self.rounds;
-        let mut state = add_round_key(pack_eight(blocks), &round_keys[0]);
+        let mut state = add_round_key(pack_eight(blocks), &planes[0]);
         for round in 1..rounds {
-            state = add_round_key(mix_columns(shift_rows(sub_wide(state))), &round_keys[round]);
+            state = add_round_key(mix_columns(shift_rows(sub_wide(state))), &planes[round]);
         }
-        unpack_eight(add_round_key(shift_rows(sub_wide(state)), &round_keys[rounds]))
+        unpack_eight(add_round_key(shift_rows(sub_wide(state)), &planes[rounds]))
     }
 }

@@ -53,7 +53,7 @@ fn encrypt_batch(
     ensures worked { Adds work.old work.new ((length in_out.old - start) / 16) 0 }
 {
     let blocks = (in_out.len() - start) / BLOCK_LEN;
-    let keystream = key.encrypt_eight(next_eight(counter));
+    let keystream = key.encrypt_first(next_eight(counter), blocks);
     for i in 0..blocks {
         let at = BLOCK_LEN * i;
         let from = start + at;
@@ -64,6 +64,46 @@ fn encrypt_batch(
     }
     counter.increment_by_less_safe(blocks as u32);
     work.add_blocks(blocks as u64);
+}
+
+impl<'k> KeyRef<'k> {
+    /// Encrypts each of the first `count` of eight blocks: up to four by byte permutes, which take less time than a pass over
+    /// planes. No `Work` counts them.
+    #[inline(always)]
+    fn encrypt_first(&self, blocks: [Block; 8], count: usize) -> [Block; 8]
+        requires { count ≤ 8 }
+        ensures { (k : ℕ) → k < count
+            → slice_index_or result k [] ≡ aes self.now (slice_index_or blocks k []) }
+    {
+        if count > 4 {
+            self.encrypt_eight(blocks)
+        } else {
+            self.encrypt_few(blocks, count)
+        }
+    }
+
+    /// Encrypts each of the first `count` blocks, at most four, two at a time.
+    #[inline(never)]
+    fn encrypt_few(&self, blocks: [Block; 8], count: usize) -> [Block; 8]
+        requires { count ≤ 4 }
+        ensures { (k : ℕ) → k < count
+            → slice_index_or result k [] ≡ aes self.now (slice_index_or blocks k []) }
+    {
+        let key = self.by_block();
+        let z = ZERO_BLOCK;
+        if count <= 1 {
+            return [key.encrypt_one(blocks[0]), z, z, z, z, z, z, z];
+        }
+        let (a, b) = key.encrypt_two(blocks[0], blocks[1]);
+        if count <= 2 {
+            return [a, b, z, z, z, z, z, z];
+        }
+        if count <= 3 {
+            return [a, b, key.encrypt_one(blocks[2]), z, z, z, z, z];
+        }
+        let (c, d) = key.encrypt_two(blocks[2], blocks[3]);
+        [a, b, c, d, z, z, z, z]
+    }
 }
 
 /// Returns the counter block and the next seven.

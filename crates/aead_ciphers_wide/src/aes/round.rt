@@ -8,7 +8,7 @@ ghost use Rattle.aead_ciphers_wide.specs.WidePlanes.{below, shifted_from};
 ghost use Rattle.aead_ciphers_wide.specs.WideSchedule.{planes_of};
 
 use super::planes::{WidePlanes, times_x};
-use super::round_keys::{RoundKey, planes_of};
+use super::round_keys::{KeyPlanes, planes_of};
 use super::word::Word;
 
 // Moves the byte of each row up by one row, cyclically.
@@ -109,7 +109,7 @@ pub fn mix_columns(a: WidePlanes) -> WidePlanes
 
 /// Applies AddRoundKey (FIPS 197 section 5.1.4) to each of the eight blocks.
 #[inline(always)]
-pub fn add_round_key(a: WidePlanes, round_key: &RoundKey) -> WidePlanes
+pub fn add_round_key(a: WidePlanes, round_key: &KeyPlanes) -> WidePlanes
     ensures { (p : ℕ) → p < 128 → plane_byte result p
         ≡ bit_xor (plane_byte a p) (plane_byte (planes_of round_key.now) p) }
 {

@@ -1,25 +1,27 @@
-//! Round keys as the planes that a pass adds, which hold a round key eight times, once for each block.
+//! Round keys as blocks, and as the planes that a pass adds, which hold a round key eight times, once for each block.
 
-ghost use Rattle.std.specs.Prelude.{◌≡◌, ◌<◌, ◌≤◌, ◌+◌, ◌*◌, ◌/◌, ◌%◌, ◌^◌, ℕ, length, slice_index};
+ghost use Rattle.std.specs.Prelude.{◌≡◌, ◌<◌, ◌≤◌, ◌+◌, ◌*◌, ◌/◌, ◌^◌, ℕ, slice_index, slice_index_or, []};
 ghost use Rattle.std.specs.Int.{bit_at};
 ghost use Rattle.aead_ciphers_base.specs.Planes.{plane_byte};
-ghost use Rattle.aead_ciphers_base.specs.Aes.{word_at};
-ghost use Rattle.aead_ciphers_wide.specs.WideSchedule.{HoldsWords, planes_of};
+ghost use Rattle.aead_ciphers_wide.specs.WideSchedule.{HoldsPlanes, planes_of};
 
 use super::planes::WidePlanes;
 use super::word::Word;
-use aead_ciphers_base::aes::{Block, ZERO_BLOCK};
+use aead_ciphers_base::aes::Block;
 use std::simd::u8x16;
 
-/// Eight planes of 128 bits, in two words each, the lower word first.
-pub type RoundKey = [u64; 16];
-
 /// The round keys of a key.
-pub type RoundKeys = [RoundKey; 15];
+pub type RoundKeys = [Block; 15];
+
+/// The eight planes of a round key, of 128 bits each, in two words each, the lower word first.
+pub type KeyPlanes = [u64; 16];
+
+/// The planes of the round keys of a key.
+pub type RoundPlanes = [KeyPlanes; 15];
 
 /// Returns the planes of a round key.
 #[inline(always)]
-pub fn planes_of(key: &RoundKey) -> WidePlanes
+pub fn planes_of(key: &KeyPlanes) -> WidePlanes
     ensures { result ≡ planes_of key.now }
 {
     [
@@ -43,8 +45,8 @@ fn plane_of(bytes: u8x16, bit: u8) -> (u64, u64)
     Word::filled(bytes, bit).lanes()
 }
 
-/// Returns the round key of 16 bytes.
-fn round_key(block: Block) -> RoundKey
+// Packs a round key into each of the eight blocks.
+fn pack_round_key(block: Block) -> KeyPlanes
     ensures { (p : ℕ) → p < 128
         → plane_byte (planes_of result) p ≡ slice_index block (p / 8) }
 {
@@ -62,25 +64,12 @@ fn round_key(block: Block) -> RoundKey
     ]
 }
 
-// Packs a round key into each of the eight blocks.
-fn pack_round_key(words: &[[u8; 4]], round: usize) -> RoundKey
-    requires { 4 * round + 4 ≤ length words.now }
-    ensures { (p : ℕ) → p < 128 → plane_byte (planes_of result) p
-        ≡ slice_index (word_at words.now (4 * round + p / 32)) (p / 8 % 4) }
+/// Writes the planes of the first `rounds + 1` round keys.
+pub fn write_planes(planes: &mut RoundPlanes, round_keys: &RoundKeys, rounds: usize)
+    requires { rounds ≤ 14 }
+    ensures { HoldsPlanes planes.new round_keys.now (rounds + 1) }
 {
-    let mut block = ZERO_BLOCK;
-    for k in 0..16 {
-        block[k] = words[4 * round + k / 4][k % 4];
-    }
-    round_key(block)
-}
-
-/// Writes the round keys that consist of `words`, four words each.
-pub fn write_round_keys(round_keys: &mut RoundKeys, words: &[[u8; 4]])
-    requires { length words.now ≤ 60 }
-    ensures { HoldsWords round_keys.new words.now (length words.now / 4) }
-{
-    for j in 0..words.len() / 4 {
-        round_keys[j] = pack_round_key(words, j);
+    for j in 0..rounds + 1 {
+        planes[j] = pack_round_key(round_keys[j]);
     }
 }

@@ -13,13 +13,13 @@ loop-i-preserved c =
     let i = c.loop-i.i in
     let inv = c.loop-i.invariant in
     let here : i < 8 = omega arith in
-    let pad : List ℕ = get_or c.encrypt_eight-keystream.result i [] in
+    let pad : List ℕ = get_or c.encrypt_first-keystream.result i [] in
     let size : length pad ≡ 16 = search rules in
     record {
       size = omega (arith, inv.size);
       output =
           encrypts_block _ _ (get_or c.next_eight.result i []) pad c.args.start i _ _ _ c.loop-i.in_out _ _
           (omega (arith, inv.size)) inv.size (omega arith) (omega arith) inv.output (λ nonce k at. c.next_eight.ensures nonce k at i here)
-          (c.encrypt_eight-keystream.ensures i here) size c.copy_from_slice.ensures.after
+          (c.encrypt_first-keystream.ensures i (omega arith)) size c.copy_from_slice.ensures.after
           (c.copy_from_slice-in-loop-i.ensures.after ∙ c.xor_assign_at_start.ensures);
     }

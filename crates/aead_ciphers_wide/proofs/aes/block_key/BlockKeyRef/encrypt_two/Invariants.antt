@@ -1,0 +1,10 @@
+use Rattle.std.proofs.Common.{◌≡◌, ◌-◌}
+use Rattle.aead_ciphers_base.specs.Aes.{rounds}
+use Rattle.aead_ciphers_wide.specs.WideSchedule.{schedule_words}
+use Rattle.aead_ciphers_wide.proofs.aes.block_key.BlockKeyRef.encrypt_two.Given as goal
+
+abbrev pub invariant-loop-n : goal.invariant-loop-n
+invariant-loop-n l = record {
+  one : l.one ≡ rounds (schedule_words l.round_keys l.rounds) l.fn.first (l.n - 1);
+  two : l.two ≡ rounds (schedule_words l.round_keys l.rounds) l.fn.second (l.n - 1);
+}

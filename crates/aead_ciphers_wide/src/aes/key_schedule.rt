@@ -1,0 +1,142 @@
+//! The key schedule (FIPS 197 section 5.2), a round key at a time: the columns of a vector are its four words.
+
+ghost use Rattle.std.specs.Prelude.{◌≡◌, ◌+◌, ◌-◌, ◌*◌, ◌/◌, ◌%◌, ◌<◌, ◌≤◌, ◌≢◌, ◌⊎◌, ◌==◌, nat_lt, if◌then◌else◌, ℕ, [], ◌∷◌, length, slice_index};
+ghost use Rattle.aead_ciphers_base.specs.Bytes.{◌⊕◌};
+ghost use Rattle.aead_ciphers_base.specs.Aes.{at, state, rot_word, sub_word, key_words, power_of_x};
+ghost use Rattle.aead_ciphers_wide.specs.WideSchedule.{HoldsWords, column, key_at};
+
+use super::permuted::{look_up, sub_each};
+use super::round_keys::RoundKeys;
+use aead_ciphers_base::aes::{BLOCK_LEN, ZERO_BLOCK};
+use std::simd::u8x16;
+
+/// The first byte of each round constant Rcon.
+const ROUND_CONSTANTS: [u8; 10] = [0x01, 0x02, 0x04, 0x08, 0x10, 0x20, 0x40, 0x80, 0x1b, 0x36];
+
+/// Returns a round constant in each column.
+#[inline(always)]
+fn round_constant(n: usize) -> u8x16
+    requires { n < 10 }
+    ensures { result ≡ state (λ r c. if r == 0 then power_of_x n else 0) }
+{
+    let x = ROUND_CONSTANTS[n];
+    u8x16::from_array([x, 0, 0, 0, x, 0, 0, 0, x, 0, 0, 0, x, 0, 0, 0])
+}
+
+/// Moves each column to the next place. The first becomes zero.
+#[inline(always)]
+fn one_on(block: u8x16) -> u8x16
+    ensures { result ≡ state (λ r c. if c == 0 then 0 else at block r (c - 1)) }
+{
+    look_up(
+        block.to_array(),
+        u8x16::from_array([128, 128, 128, 128, 0, 1, 2, 3, 4, 5, 6, 7, 8, 9, 10, 11]),
+    )
+}
+
+/// Moves each column by two places. The first two become zero.
+#[inline(always)]
+fn two_on(block: u8x16) -> u8x16
+    ensures { result ≡ state (λ r c. if nat_lt c 2 then 0 else at block r (c - 2)) }
+{
+    look_up(
+        block.to_array(),
+        u8x16::from_array([
+            128, 128, 128, 128, 128, 128, 128, 128, 0, 1, 2, 3, 4, 5, 6, 7,
+        ]),
+    )
+}
+
+/// Returns the last column in each column.
+#[inline(always)]
+fn last_column(block: u8x16) -> u8x16
+    ensures { result ≡ state (λ r c. at block r 3) }
+{
+    block.swizzle([
+        12, 13, 14, 15, 12, 13, 14, 15, 12, 13, 14, 15, 12, 13, 14, 15,
+    ])
+}
+
+/// Returns RotWord of the last column in each column.
+#[inline(always)]
+fn rotated_column(block: u8x16) -> u8x16
+    ensures { result ≡ state (λ r c. at block ((r + 1) % 4) 3) }
+{
+    block.swizzle([
+        13, 14, 15, 12, 13, 14, 15, 12, 13, 14, 15, 12, 13, 14, 15, 12,
+    ])
+}
+
+/// Returns SubWord of RotWord of the last column, with round constant `i` added, in each column.
+#[inline(always)]
+fn turned(last: u8x16, i: usize) -> u8x16
+    requires { i < 10 }
+    ensures { (c : ℕ) → c < 4 → column result c
+        ≡ sub_word (rot_word (column last 3)) ⊕ (power_of_x i ∷ 0 ∷ 0 ∷ 0 ∷ []) }
+{
+    sub_each(rotated_column(last)) ^ round_constant(i)
+}
+
+/// Returns SubWord of the last column in each column.
+#[inline(always)]
+fn middle(last: u8x16) -> u8x16
+    ensures { (c : ℕ) → c < 4 → column result c ≡ sub_word (column last 3) }
+{
+    sub_each(last_column(last))
+}
+
+/// Returns, in each column, what the last word before round key `n` of a key of `m` blocks becomes before it is added.
+#[inline(always)]
+fn transformed(last: u8x16, n: usize, m: usize) -> u8x16
+    requires blocks { 0 < m }
+    requires from { m ≤ n }
+    requires below { n / m ≤ 10 }
+    ensures turned { n % m ≡ 0 → (c : ℕ) → c < 4 → column result c
+        ≡ sub_word (rot_word (column last 3)) ⊕ (power_of_x (n / m - 1) ∷ 0 ∷ 0 ∷ 0 ∷ []) }
+    ensures middle { n % m ≢ 0 → (c : ℕ) → c < 4 → column result c ≡ sub_word (column last 3) }
+{
+    if n % m == 0 {
+        turned(last, n / m - 1)
+    } else {
+        middle(last)
+    }
+}
+
+/// Returns the words each of which is the sum of the word in `back` and of the word before it, which is `word` for the first.
+#[inline(always)]
+fn next_round_key(back: u8x16, word: u8x16) -> u8x16
+    requires { (c : ℕ) → c < 4 → column word c ≡ column word 0 }
+    ensures first { column result 0 ≡ column back 0 ⊕ column word 0 }
+    ensures others { (c : ℕ) → c < 3 → column result (c + 1) ≡ column back (c + 1) ⊕ column result c }
+{
+    let two = back ^ one_on(back);
+    let four = two ^ two_on(two);
+    four ^ word
+}
+
+/// Copies the key to the first round keys.
+fn copy_key(round_keys: &mut RoundKeys, key: &[u8])
+    requires { length key.now ≤ 240 }
+    ensures { (j k : ℕ) → j < length key.now / 16 → k < 16
+        → slice_index (key_at round_keys.new j) k ≡ slice_index key.now (16 * j + k) }
+{
+    for n in 0..key.len() / BLOCK_LEN {
+        let mut block = ZERO_BLOCK;
+        block.copy_from_slice(&key[BLOCK_LEN * n..BLOCK_LEN * n + BLOCK_LEN]);
+        round_keys[n] = block;
+    }
+}
+
+/// Expands a key of 16 or 32 bytes: writes the first 11 or 15 of its round keys.
+pub fn expand(round_keys: &mut RoundKeys, key: &[u8])
+    requires { (length key.now ≡ 16) ⊎ (length key.now ≡ 32) }
+    ensures { let nk = length key.now / 4 in
+        HoldsWords round_keys.new (key_words nk key.now (4 * (nk + 7) - nk)) (nk + 7) }
+{
+    copy_key(round_keys, key);
+    let m = key.len() / BLOCK_LEN;
+    for n in m..4 * m + 7 {
+        let word = transformed(u8x16::from_array(round_keys[n - 1]), n, m);
+        round_keys[n] = next_round_key(u8x16::from_array(round_keys[n - m]), word).to_array();
+    }
+}
