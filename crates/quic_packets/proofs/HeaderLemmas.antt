@@ -5,7 +5,7 @@ use proofs.lemmas.Bool.{cases_lt}
 use proofs.lemmas.Nat.{and_assoc, and_le_r, and_xor_apart}
 use Rattle.std.specs.Int.Bits.{and_zero_r, xor_assoc, xor_self, xor_zero_r}
 use Rattle.aead_ciphers.specs.HeaderProtection.{HeaderKey, header_protection}
-use Rattle.quic_packets.specs.Header.{HasSample, Masked, Protected, Unprotected, first_mask, mask_of, number_len}
+use Rattle.quic_packets.specs.Header.{HasMaskedBytes, HasSample, Masked, Protected, Unprotected, first_mask, mask_of, number_len}
 
 xor_twice : (a b : ℕ) → bit_xor (bit_xor a b) b ≡ a
 xor_twice a b = xor_assoc a b b ∙ ap (λ v. bit_xor a v) (xor_self b) ∙ xor_zero_r a
@@ -93,18 +93,24 @@ unprotected_back key at packet wire back h p u =
     subst (λ k. Masked (mask_of key at packet) at k wire back) (ap number_len first) v in
     masked_twice (mask_of key at packet) at n packet wire back p w
 
--- and masking undoes unmasking: what is unmasked has the same sample too
-pub protected_back : (key : HeaderKey) (at : ℕ) (wire packet back : List ℕ) → HasSample at (length wire) → Unprotected key at wire packet
-    → Protected key at packet back → back ≡ wire
-protected_back key at wire packet back h u p =
-    let n = number_len (get_or packet 0 0) in
-    let few : number_len (get_or packet 0 0) ≤ 4 = number_len-le (get_or packet 0 0) in
-    let width : at + 20 - (at + 4) ≡ 16 = omega arith in
-    let sampled : at + 4 + 16 ≤ length wire = omega (arith, h.sampled) in
-    let same : take 16 (drop (at + 4) packet) ≡ take 16 (drop (at + 4) wire) =
-    same_range (at + 4) 16 packet wire sampled u.len (λ i le. u.others i (omega arith) (inr (omega arith))) in
-    let mask : mask_of key at packet ≡ mask_of key at wire =
-    ap (header_protection key.algorithm key.bytes)
-    (ap (λ k. take k (drop (at + 4) packet)) width ∙ same ∙ sym (ap (λ k. take k (drop (at + 4) wire)) width)) in
-    let q : Masked (mask_of key at wire) at n packet back = subst (λ m. Masked m at n packet back) mask p in
-    masked_twice (mask_of key at wire) at n wire packet back u q
+-- and so does writing the masked bytes back
+module _ (key : HeaderKey) (at : ℕ) (wire packet back bytes : List ℕ) (u : Unprotected key at wire packet) (kept : HasMaskedBytes bytes at wire)
+    (written : HasMaskedBytes bytes at back)
+    (others : (i : ℕ) → 0 < i → (i < at) ⊎ (at + 4 ≤ i) → get_or back i 0 ≡ get_or packet i 0) where
+  byte_back : (i : ℕ) → get_or back i 0 ≡ get_or wire i 0
+  byte_back zero = sym written.first ∙ kept.first
+  byte_back (suc i) = elim (cases_lt (suc i) at) [
+    | inl before ↦ others (suc i) (omega arith) (inl before) ∙ u.others (suc i) (omega arith) (inl before)
+    | inr from ↦ elim (cases_lt (suc i) (at + 4)) [
+      | inl within ↦
+          let j = suc i - at in
+          let place : at + j ≡ suc i = omega arith in
+          subst (λ k. get_or back k 0 ≡ get_or wire k 0) place (sym (written.number j (omega arith)) ∙ kept.number j (omega arith))
+      | inr behind ↦
+          others (suc i) (omega arith) (inr behind)
+          ∙ u.others (suc i) (omega arith) (inr (omega (arith, number_len-le (get_or packet 0 0))))
+    ]
+  ]
+
+  pub written_back : length back ≡ length packet → back ≡ wire
+  written_back size = ext_get_or 0 back wire (size ∙ u.len) (λ i h. byte_back i)

@@ -35,3 +35,8 @@ Protected key number_at old new = Masked (mask_of key number_at old) number_at (
 -- unprotecting: the length is read after the first byte is unmasked (section 5.4.1)
 abbrev pub Unprotected : HeaderKey → ℕ → List ℕ → List ℕ → Type 0
 Unprotected key number_at old new = Masked (mask_of key number_at old) number_at (number_len (slice_index new 0)) old new
+
+-- these are the bytes that a mask may change: the first byte, and the four from the start of the packet number on (section 5.4.1)
+pub record HasMaskedBytes (bytes : List ℕ) (number_at : ℕ) (packet : List ℕ) : Type 0 where
+  pub first : slice_index bytes 0 ≡ slice_index packet 0
+  pub number : (i : ℕ) → i < 4 → slice_index bytes (i + 1) ≡ slice_index packet (number_at + i)

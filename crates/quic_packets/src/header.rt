@@ -3,7 +3,7 @@
 ghost use Rattle.std.specs.Prelude.{◌≡◌, ℕ, ◌+◌, ◌<◌, ◌≤◌, ◌↔◌, ◌⊎◌, length, IsOk, IfOk, OnOk, OnErr, IsErrOf, IsOkUnless, bit_xor, slice_index};
 ghost use Rattle.aead_ciphers.specs.HeaderProtection.{key_len};
 ghost use Rattle.quic_packets.specs.Keys.{secret_header_key};
-ghost use Rattle.quic_packets.specs.Header.{HasSample, Protected, Unprotected, first_mask, mask_of, number_len};
+ghost use Rattle.quic_packets.specs.Header.{HasMaskedBytes, HasSample, Protected, Unprotected, first_mask, mask_of, number_len};
 
 use crate::error::PacketError;
 use crate::suite::Suite;
@@ -115,12 +115,7 @@ impl HeaderKey {
             ↔ ((0 < number_at) × (length packet.now < number_at + 20)) }
         ensures mask { IfOk result (λ mask. mask ≡ mask_of self.now number_at packet.now) }
     {
-        if number_at == 0 {
-            return Err(PacketError::NumberAtFirstByte);
-        }
-        if packet.len() < SAMPLE_END || packet.len() - SAMPLE_END < number_at {
-            return Err(PacketError::NoSample);
-        }
+        check_sample(packet, number_at)?;
         let sample_at = number_at + MAX_NUMBER_LEN;
         match self
             .key
@@ -129,6 +124,56 @@ impl HeaderKey {
             Ok(mask) => Ok(mask),
             Err(_) => unreachable!(),
         }
+    }
+}
+
+// Checks that the packet has a first byte before its number, and is long enough for a sample.
+fn check_sample(packet: &[u8], number_at: usize) -> Result<(), PacketError>
+    ensures accepted { IsOk result ↔ HasSample number_at (length packet.now) }
+    ensures first_byte { IsErrOf result PacketError.NumberAtFirstByte ↔ (number_at ≡ 0) }
+    ensures no_sample { IsErrOf result PacketError.NoSample
+        ↔ ((0 < number_at) × (length packet.now < number_at + 20)) }
+{
+    if number_at == 0 {
+        return Err(PacketError::NumberAtFirstByte);
+    }
+    if packet.len() < SAMPLE_END || packet.len() - SAMPLE_END < number_at {
+        return Err(PacketError::NoSample);
+    }
+    Ok(())
+}
+
+/// The bytes of a header that `unprotect` may change: the first byte, and four from the packet number on.
+///
+/// Fails as `unprotect` does.
+pub(crate) fn masked_bytes(packet: &[u8], number_at: usize) -> Result<[u8; 5], PacketError>
+    ensures accepted { IsOk result ↔ HasSample number_at (length packet.now) }
+    ensures first_byte { IsErrOf result PacketError.NumberAtFirstByte ↔ (number_at ≡ 0) }
+    ensures no_sample { IsErrOf result PacketError.NoSample
+        ↔ ((0 < number_at) × (length packet.now < number_at + 20)) }
+    ensures bytes { IfOk result (λ bytes. HasMaskedBytes bytes number_at packet.now) }
+{
+    check_sample(packet, number_at)?;
+    Ok([
+        packet[0],
+        packet[number_at],
+        packet[number_at + 1],
+        packet[number_at + 2],
+        packet[number_at + 3],
+    ])
+}
+
+/// Writes back what `masked_bytes` returned.
+pub(crate) fn write_back(packet: &mut [u8], number_at: usize, bytes: &[u8; 5])
+    requires first_byte { 0 < number_at }
+    requires within { number_at + 4 ≤ length packet.old }
+    ensures bytes { HasMaskedBytes bytes.now number_at packet.new }
+    ensures others { (i : ℕ) → 0 < i → (i < number_at) ⊎ (number_at + 4 ≤ i)
+        → slice_index packet.new i ≡ slice_index packet.old i }
+{
+    packet[0] = bytes[0];
+    for i in 0..MAX_NUMBER_LEN {
+        packet[number_at + i] = bytes[i + 1];
     }
 }
 

@@ -15,7 +15,7 @@ ghost use Rattle.quic_packets.specs.Space.{IsNew, Marks};
 use crate::datagram::Packet;
 use crate::error::PacketError;
 use crate::failures::Failures;
-use crate::header::{HeaderKey, SAMPLE_END};
+use crate::header::{HeaderKey, SAMPLE_END, masked_bytes, write_back};
 use crate::key::PacketKey;
 use crate::keys::Keys;
 use crate::numbers::{decode, truncated};
@@ -294,8 +294,8 @@ impl Receiver {
         }
     }
 
-    // Unmasks the header, decodes the number and opens the packet. Masks the header again if it fails. Also returns the
-    // header's first byte.
+    // Unmasks the header, decodes the number and opens the packet. Writes the header's masked bytes back if it fails. Also
+    // returns the header's first byte.
     fn open(
         &self,
         largest: Option<u64>,
@@ -320,6 +320,7 @@ impl Receiver {
             × ¬ IsErrOf result PacketError.NoNumber × ¬ IsErrOf result PacketError.ReservedBits × ¬ IsErrOf result PacketError.Duplicate
             × ¬ IsErrOf result PacketError.KeyUpdate × ¬ IsErrOf result PacketError.NoFrames }
     {
+        let masked = masked_bytes(packet, number_at)?;
         let number_len = self.header.unprotect(packet, number_at)?;
         let first = packet[0];
         let header_len = number_at + number_len;
@@ -342,9 +343,7 @@ impl Receiver {
                 Ok((first, received))
             }
             Err(error) => {
-                let Ok(()) = self.header.protect(packet, number_at) else {
-                    unreachable!();
-                };
+                write_back(packet, number_at, &masked);
                 Err(error)
             }
         }
