@@ -6,7 +6,7 @@
 #[repr(C)]
 #[derive(Clone)]
 pub(crate) struct Key {
-    pub(crate) words: [u64; 369],
+    pub(crate) words: [u64; 399],
 }
 
 /// `deerlapse_message`.
@@ -18,13 +18,13 @@ pub(crate) struct Message {
 /// `deerlapse_sealer`.
 #[repr(C)]
 pub(crate) struct Sealer {
-    pub(crate) words: [u64; 400],
+    pub(crate) words: [u64; 430],
 }
 
 /// `deerlapse_opener`.
 #[repr(C)]
 pub(crate) struct Opener {
-    pub(crate) words: [u64; 400],
+    pub(crate) words: [u64; 430],
 }
 
 /// Declares functions of the library. In this package's assembly their names have its version, so that two versions in one

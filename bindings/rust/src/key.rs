@@ -387,7 +387,7 @@ impl fmt::Debug for LessSafeKey {
 impl ffi::Key {
     /// Expands a key of 16 or 32 bytes.
     pub(crate) fn new(bytes: &[u8]) -> Result<Self, Unspecified> {
-        let mut key = ffi::Key { words: [0; 369] };
+        let mut key = ffi::Key { words: [0; 399] };
         // SAFETY: the pointer and its length are those of one slice, and the key is borrowed for writing.
         accepted(unsafe { ffi::key_init(&mut key, bytes.as_ptr(), bytes.len()) })?;
         Ok(key)

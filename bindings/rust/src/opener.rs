@@ -45,7 +45,7 @@ impl Opener {
     ) -> Result<Self, Unspecified> {
         cpu::require();
         let mut opener = Opener {
-            state: ffi::Opener { words: [0; 400] },
+            state: ffi::Opener { words: [0; 430] },
             limit: numbers.end,
         };
         // SAFETY: the pointer and its length are those of one slice, and the others are references.

@@ -58,7 +58,7 @@ impl Sealer {
     ) -> Result<Self, Unspecified> {
         cpu::require();
         let mut sealer = Sealer {
-            state: ffi::Sealer { words: [0; 400] },
+            state: ffi::Sealer { words: [0; 430] },
             limit: numbers.end,
         };
         // SAFETY: the pointer and its length are those of one slice, and the others are references.

@@ -13,7 +13,7 @@ use aead_ciphers_wide::aes_gcm::{ExpandedKey, fits};
 use std::mem::size_of;
 
 // The `words` of the type in the header have as many bytes.
-const _: () = prove!(size_of::<ExpandedKey>() == 2952);
+const _: () = prove!(size_of::<ExpandedKey>() == 3192);
 
 /// A key of 16 bytes for AES-128-GCM, or of 32 bytes for AES-256-GCM.
 pub(crate) fn aes_key(bytes: &[u8]) -> Option<KeyBytes<'_>>

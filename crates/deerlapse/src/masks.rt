@@ -8,7 +8,7 @@ ghost use Rattle.deerlapse.specs.AesKey.{HasRounds, IsAesKeyLen, IsKeyOrNone};
 use crate::key::{aes_key, has_rounds};
 use aead_ciphers::aead::quic::Sample;
 use aead_ciphers_base::chacha;
-use aead_ciphers_wide::aes::{self, KeyRef};
+use aead_ciphers_wide::aes::BlockKey;
 use aead_ciphers_wide::aes_gcm::ExpandedKey;
 
 /// Writes the header protection mask for a sample of 16 bytes, with AES-128 for a key of 16 bytes and with AES-256 for one of
@@ -24,9 +24,7 @@ pub extern "C" fn deerlapse_mask_aes(key: &[u8], sample: &Sample, mask: &mut [u8
     let Some(key) = aes_key(key) else {
         return false
     };
-    let mut round_keys = [[0; 16]; 15];
-    let rounds = aes::expand(&mut round_keys, key);
-    *mask = KeyRef::new(&round_keys, rounds).new_mask(*sample);
+    *mask = BlockKey::new(key).new_mask(*sample);
     true
 }
 

@@ -27,7 +27,7 @@ pub struct NumberedKey {
 }
 
 // The `words` of the types in the header have room for more fields.
-const _: () = prove!(size_of::<NumberedKey>() <= 3200);
+const _: () = prove!(size_of::<NumberedKey>() <= 3440);
 
 /// Initializes a key whose first message gets the number `first`. Its previous bytes are not read.
 ///
