@@ -6,6 +6,7 @@ pub mod PermutedBlocks
 pub mod PermutedBytes
 pub mod PermutedRounds
 pub mod PieceLemmas
+pub mod Places
 pub mod ScheduleColumns
 pub mod WideBits
 pub mod WideBlocks

@@ -5,8 +5,9 @@
 //! order of their bytes: a look-up in a row gives one byte of the products of all 16 digits at once. The rows'
 //! bytes are added up from the last row on, moved by one place for each row.
 
-ghost use Rattle.std.specs.Prelude.{◌≡◌, ℕ, ◌+◌, ◌*◌, ◌/◌, ◌%◌, ◌<◌, ◌≤◌, bit_xor, if◌then◌else◌, [], ◌∷◌, slice_index, slice_index_or};
+ghost use Rattle.std.specs.Prelude.{◌≡◌, ℕ, ◌+◌, ◌*◌, ◌/◌, ◌%◌, ◌<◌, ◌≤◌, ◌⊎◌, ◌==◌, bit_xor, if◌then◌else◌, [], ◌∷◌, slice_index, slice_index_or};
 ghost use Rattle.std.specs.Int.{to_be_bytes, w128};
+ghost use Rattle.std.specs.Simd.Lanes.{put_chunk};
 ghost use Rattle.aead_ciphers_base.specs.Bytes.{◌⊕◌, each_below};
 ghost use Rattle.aead_ciphers.specs.Ghash.{◌•◌};
 ghost use Rattle.aead_ciphers_wide.specs.Products.{AreProducts, ArePowers, chosen_sum, subkey, u128_times};
@@ -117,13 +118,13 @@ fn row(table: &[u8; 512], at: usize) -> u8x16
     u8x16::from_slice(&table[at..])
 }
 
-/// Returns the bytes of `row` at the places `digits`, which are below 16. No memory is read at a place.
+/// Returns the bytes of `row` at `places`, of which each is below 16, or at least 128 for a zero. No memory is read at a place.
 #[inline(always)]
-fn look_up(row: u8x16, digits: u8x16) -> u8x16
-    requires { (i : ℕ) → i < 16 → slice_index digits i < 16 }
-    ensures { (i : ℕ) → i < 16 → slice_index result i ≡ slice_index row (slice_index digits i) }
+fn look_up(row: u8x16, places: u8x16) -> u8x16
+    requires { (i : ℕ) → i < 16 → (slice_index places i < 16) ⊎ (128 ≤ slice_index places i) }
+    ensures { (i : ℕ) → i < 16 → slice_index result i ≡ slice_index row (slice_index places i) }
 {
-    row.swizzle_dyn(digits)
+    row.swizzle_dyn(places)
 }
 
 /// Adds the bytes.
@@ -171,12 +172,22 @@ pub(crate) fn write_products(table: &mut [u8; 512], block: u128)
     ensures subkey { subkey table.new ≡ to_be_bytes w128 block }
 {
     let multiples = blocks(multiples(block));
-    for r in 0..32 {
-        let sums = sums_at(&multiples, r);
-        for n in 0..16 {
-            table[16 * r + n] = sums[n];
-        }
+    for r in 0..16 {
+        let at = r as u8;
+        let high = sums_at(multiples[0], multiples[1], multiples[2], multiples[3], at);
+        let low = sums_at(multiples[4], multiples[5], multiples[6], multiples[7], at);
+        write_row(table, 16 * r, high);
+        write_row(table, 256 + 16 * r, low);
     }
+}
+
+/// Writes `row` to the 16 bytes of `table` from index `at` on.
+#[inline(always)]
+fn write_row(table: &mut [u8; 512], at: usize, row: u8x16)
+    requires { at + 16 ≤ 512 }
+    ensures { table.new ≡ put_chunk at table.old row }
+{
+    row.copy_to_slice(&mut table[at..]);
 }
 
 /// Returns u^0, .., u^7 times `block`, each computed by a shift of the one before.
@@ -194,58 +205,54 @@ fn multiples(block: u128) -> [u128; 8]
 }
 
 /// Returns the bytes of each number, the most significant first.
-fn blocks(numbers: [u128; 8]) -> [[u8; 16]; 8]
+#[inline(always)]
+fn blocks(numbers: [u128; 8]) -> [u8x16; 8]
     ensures { (k : ℕ) → k < 8
         → slice_index_or result k [] ≡ to_be_bytes w128 (slice_index numbers k) }
 {
     let [n0, n1, n2, n3, n4, n5, n6, n7] = numbers;
     [
-        n0.to_be_bytes(),
-        n1.to_be_bytes(),
-        n2.to_be_bytes(),
-        n3.to_be_bytes(),
-        n4.to_be_bytes(),
-        n5.to_be_bytes(),
-        n6.to_be_bytes(),
-        n7.to_be_bytes(),
+        bytes_of(n0),
+        bytes_of(n1),
+        bytes_of(n2),
+        bytes_of(n3),
+        bytes_of(n4),
+        bytes_of(n5),
+        bytes_of(n6),
+        bytes_of(n7),
     ]
 }
 
-/// Returns byte `r % 16` of the sums of the first four blocks, or of the others, for each digit.
+/// Returns byte `at` of the sum of those of the blocks at which a digit has a one, its highest bit first, for each digit.
 #[inline(always)]
-fn sums_at(blocks: &[[u8; 16]; 8], r: usize) -> [u8; 16]
-    requires { r < 32 }
-    ensures { (n : ℕ) → n < 16 → slice_index result n ≡ chosen_sum n 0
-        (each_below 4 (λ k. slice_index (slice_index_or blocks.now (r / 16 * 4 + k) []) (r % 16))) }
-{
-    let from = r / 16 * 4;
-    let at = r % 16;
-    sums(
-        blocks[from][at],
-        blocks[from + 1][at],
-        blocks[from + 2][at],
-        blocks[from + 3][at],
-    )
-}
-
-/// Returns the sum of those of the bytes at which a digit has a one, its highest bit first, for each digit.
-#[inline(always)]
-fn sums(a: u8, b: u8, c: u8, d: u8) -> [u8; 16]
-    ensures { (n : ℕ) → n < 16
-        → slice_index result n ≡ chosen_sum n 0 (a ∷ b ∷ c ∷ d ∷ []) }
+fn sums_at(a: u8x16, b: u8x16, c: u8x16, d: u8x16, at: u8) -> u8x16
+    requires { at < 16 }
+    ensures { (n : ℕ) → n < 16 → slice_index result n
+        ≡ chosen_sum n 0 (slice_index a at ∷ slice_index b at ∷ slice_index c at ∷ slice_index d at ∷ []) }
 {
     let eights = u8x16::from_array([
-        0, 0, 0, 0, 0, 0, 0, 0, 255, 255, 255, 255, 255, 255, 255, 255,
+        128, 128, 128, 128, 128, 128, 128, 128, 0, 0, 0, 0, 0, 0, 0, 0,
     ]);
     let fours = u8x16::from_array([
-        0, 0, 0, 0, 255, 255, 255, 255, 0, 0, 0, 0, 255, 255, 255, 255,
+        128, 128, 128, 128, 0, 0, 0, 0, 128, 128, 128, 128, 0, 0, 0, 0,
     ]);
     let twos = u8x16::from_array([
-        0, 0, 255, 255, 0, 0, 255, 255, 0, 0, 255, 255, 0, 0, 255, 255,
+        128, 128, 0, 0, 128, 128, 0, 0, 128, 128, 0, 0, 128, 128, 0, 0,
     ]);
     let ones = u8x16::from_array([
-        0, 255, 0, 255, 0, 255, 0, 255, 0, 255, 0, 255, 0, 255, 0, 255,
+        128, 0, 128, 0, 128, 0, 128, 0, 128, 0, 128, 0, 128, 0, 128, 0,
     ]);
-    let high = (u8x16::splat(a) & eights) ^ (u8x16::splat(b) & fours);
-    (high ^ (u8x16::splat(c) & twos) ^ (u8x16::splat(d) & ones)).to_array()
+    let high = add(chosen(a, eights, at), chosen(b, fours, at));
+    add(add(high, chosen(c, twos, at)), chosen(d, ones, at))
+}
+
+/// Returns byte `at` of `block` at the places at which `others` is 0, and a zero at those at which it is 128.
+#[inline(always)]
+fn chosen(block: u8x16, others: u8x16, at: u8) -> u8x16
+    requires at { at < 16 }
+    requires others { (i : ℕ) → i < 16 → slice_index others i % 128 ≡ 0 }
+    ensures { (i : ℕ) → i < 16
+        → slice_index result i ≡ (if slice_index others i == 0 then slice_index block at else 0) }
+{
+    look_up(block, others + u8x16::splat(at))
 }

@@ -1,0 +1,12 @@
+use Rattle.std.proofs.Common.{◌-◌, sym, drop, arith, append-nil, length-drop, take_all}
+use Rattle.std.proofs.lemmas.List.{drop_all}
+use Rattle.std.proofs.lemmas.Simd.{put_chunk_is}
+use Rattle.aead_ciphers_wide.proofs.gcm.product.write_row.Goals as goal
+
+pub returns : goal.returns
+returns c =
+    let table = c.args.table.now in
+    let at = c.args.at in
+    let long = length-drop at table in
+    rw (take_all (512 - at) (drop at table) (omega arith), put_chunk_is 0 (drop at table) c.args.row (omega (arith, c.fits-row.0)), drop_all (512 - at) (drop at table) (omega arith), append-nil)
+    (sym (put_chunk_is at table c.args.row (omega (arith, c.fits-row.0))))
