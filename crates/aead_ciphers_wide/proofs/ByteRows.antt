@@ -1,12 +1,11 @@
 -- The table of `product`, and the look-ups in its rows.
-use Rattle.std.proofs.Common.{◌≡◌, ℕ, zero, suc, ◌+◌, ◌-◌, ◌*◌, ◌/◌, ◌%◌, ◌^◌, ◌<◌, ◌≤◌, Bool, true, false, List, [], ◌∷◌, ◌++◌, length, replicate, slice_index, slice_index_or, if◌then◌else◌, ◌==◌, bit_xor, bit_and, refl, sym, ap, ap₂, subst, ◌∙◌, arith, ◌⊎◌, inl, inr, length-append, reverse, Fits, w8}
+use Rattle.std.proofs.Common.{◌≡◌, ℕ, zero, suc, ◌+◌, ◌-◌, ◌*◌, ◌/◌, ◌%◌, ◌^◌, ◌<◌, ◌≤◌, ◌⊎◌, Bool, true, false, List, [], ◌∷◌, ◌++◌, length, replicate, slice_index, slice_index_or, if◌then◌else◌, ◌==◌, bit_xor, refl, sym, ap, ap₂, subst, ◌∙◌, arith, inl, inr, length-append, reverse, Fits, w8}
 use Rattle.std.specs.Int.{to_be_bytes, w128}
 use Rattle.aead_ciphers_base.specs.ByteField.{value_of}
 use Rattle.std.specs.Int.Bits.{xor_shifted}
 use Rattle.std.specs.Simd.Lanes.{Each1, put_chunk}
 use Rattle.std.proofs.lemmas.Simd.{Each1-get_or, get_or-put_chunk_above, get_or-put_chunk_at, get_or-put_chunk_below, length-put_chunk}
 use Rattle.std.proofs.lemmas.Bool.{cases_lt}
-use Rattle.std.proofs.lemmas.Nat.{and_mask, and_le_r}
 use Rattle.std.proofs.lemmas.List.{get_or_default, get_or_append_left, get_or-append_right, get_or_past, length-replicate}
 use Rattle.std.proofs.lemmas.List.FromFn.{fill_by_all}
 use Rattle.aead_ciphers_base.specs.Bytes.{◌⊕◌, zero_block, each_below}

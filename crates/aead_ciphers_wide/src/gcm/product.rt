@@ -5,7 +5,7 @@
 //! order of their bytes: a look-up in a row gives one byte of the products of all 16 digits at once. The rows'
 //! bytes are added up from the last row on, moved by one place for each row.
 
-ghost use Rattle.std.specs.Prelude.{◌≡◌, ℕ, ◌+◌, ◌*◌, ◌/◌, ◌%◌, ◌<◌, ◌≤◌, ◌⊎◌, ◌==◌, bit_xor, if◌then◌else◌, [], ◌∷◌, slice_index, slice_index_or};
+ghost use Rattle.std.specs.Prelude.{◌≡◌, ℕ, ◌+◌, ◌/◌, ◌%◌, ◌<◌, ◌≤◌, ◌⊎◌, ◌==◌, bit_xor, if◌then◌else◌, [], ◌∷◌, slice_index, slice_index_or};
 ghost use Rattle.std.specs.Int.{to_be_bytes, w128};
 ghost use Rattle.std.specs.Simd.Lanes.{put_chunk};
 ghost use Rattle.aead_ciphers_base.specs.Bytes.{◌⊕◌, each_below};

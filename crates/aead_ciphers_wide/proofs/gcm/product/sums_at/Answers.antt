@@ -1,4 +1,4 @@
-use Rattle.std.proofs.Common.{◌≡◌, ◌∙◌, ◌<◌, ℕ, [], ◌∷◌, if◌then◌else◌, ◌==◌, bit_xor, slice_index, length, ap₂, arith}
+use Rattle.std.proofs.Common.{◌≡◌, ◌∙◌, ◌<◌, ℕ, [], ◌∷◌, bit_xor, slice_index, length, ap₂, arith}
 use Rattle.std.proofs.Math.Dec.{lit<}
 use Rattle.aead_ciphers_wide.specs.Products.{chosen_sum}
 use Rattle.aead_ciphers_wide.proofs.ByteRows.{by_sixteen, sum_byte}
