@@ -9,3 +9,4 @@ pub mod aead;
 pub mod aes;
 pub mod aes_gcm;
 pub mod gcm;
+mod permute;

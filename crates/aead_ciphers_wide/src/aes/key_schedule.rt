@@ -5,8 +5,9 @@ ghost use Rattle.aead_ciphers_base.specs.Bytes.{◌⊕◌};
 ghost use Rattle.aead_ciphers_base.specs.Aes.{at, state, rot_word, sub_word, key_words, power_of_x};
 ghost use Rattle.aead_ciphers_wide.specs.WideSchedule.{HoldsWords, column, key_at};
 
-use super::permuted::{look_up, sub_each};
+use super::permuted::sub_each;
 use super::round_keys::RoundKeys;
+use crate::permute::look_up;
 use aead_ciphers_base::aes::{BLOCK_LEN, ZERO_BLOCK};
 use std::simd::u8x16;
 

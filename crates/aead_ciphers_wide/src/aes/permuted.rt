@@ -13,10 +13,11 @@
 //! 1 / 0 is infinite, as is its sum with an element, and 1 / infinite is 0: a number from 128 on stands for it, at which a
 //! look-up gives 0.
 
-ghost use Rattle.std.specs.Prelude.{◌≡◌, ◌<◌, ◌≤◌, ◌⊎◌, ◌+◌, ◌%◌, ℕ, map, slice_index};
+ghost use Rattle.std.specs.Prelude.{◌≡◌, ◌+◌, ◌%◌, map};
 ghost use Rattle.aead_ciphers_base.specs.Aes.{◌⊻◌, at, mix_columns, shift_rows, state, sub_bytes};
 ghost use Rattle.aead_ciphers_base.specs.ByteField.{mul8, sbox};
 
+use crate::permute::look_up;
 use aead_ciphers_base::aes::Block;
 use std::simd::u8x16;
 
@@ -45,15 +46,6 @@ const FROM_IO: [u8; 16] = [
 const FROM_JO: [u8; 16] = [
     0, 129, 153, 118, 10, 253, 239, 124, 100, 24, 18, 147, 229, 247, 139, 110,
 ];
-
-/// Returns the bytes of `table` at `places`, and 0 for each place from 128 on. No memory is read at a place.
-#[inline(always)]
-pub(crate) fn look_up(table: [u8; 16], places: u8x16) -> u8x16
-    requires { (i : ℕ) → i < 16 → (slice_index places i < 16) ⊎ (128 ≤ slice_index places i) }
-    ensures { result ≡ map (slice_index table) places }
-{
-    u8x16::from_array(table).swizzle_dyn(places)
-}
 
 /// Replaces each byte by its S-box value (FIPS 197 section 5.1.1).
 #[inline(always)]

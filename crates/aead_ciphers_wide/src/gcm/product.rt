@@ -5,7 +5,7 @@
 //! order of their bytes: a look-up in a row gives one byte of the products of all 16 digits at once. The rows'
 //! bytes are added up from the last row on, moved by one place for each row.
 
-ghost use Rattle.std.specs.Prelude.{◌≡◌, ℕ, ◌+◌, ◌/◌, ◌%◌, ◌<◌, ◌≤◌, ◌⊎◌, ◌==◌, bit_xor, if◌then◌else◌, [], ◌∷◌, slice_index, slice_index_or};
+ghost use Rattle.std.specs.Prelude.{◌≡◌, ℕ, ◌+◌, ◌/◌, ◌%◌, ◌<◌, ◌≤◌, ◌==◌, bit_xor, if◌then◌else◌, [], ◌∷◌, slice_index, slice_index_or};
 ghost use Rattle.std.specs.Int.{to_be_bytes, w128};
 ghost use Rattle.std.specs.Simd.Lanes.{put_chunk};
 ghost use Rattle.aead_ciphers_base.specs.Bytes.{◌⊕◌, each_below};
@@ -13,6 +13,7 @@ ghost use Rattle.aead_ciphers.specs.Ghash.{◌•◌};
 ghost use Rattle.aead_ciphers_wide.specs.Products.{AreProducts, ArePowers, chosen_sum, subkey, u128_times};
 ghost use Rattle.aead_ciphers.specs.Multiples.{monomial_block};
 
+use crate::permute::look_up;
 use aead_ciphers_base::aes::Block;
 use std::simd::{u8x16, u64x2};
 
@@ -77,8 +78,8 @@ fn looked_up(table: &[u8; 512], at: usize, high: u8x16, low: u8x16) -> u8x16
         ≡ bit_xor (slice_index table.now (at + slice_index high i)) (slice_index table.now (256 + at + slice_index low i)) }
 {
     add(
-        look_up(row(table, at), high),
-        look_up(row(table, 256 + at), low),
+        look_up(row(table, at).to_array(), high),
+        look_up(row(table, 256 + at).to_array(), low),
     )
 }
 
@@ -116,15 +117,6 @@ fn row(table: &[u8; 512], at: usize) -> u8x16
     ensures { (n : ℕ) → n < 16 → slice_index result n ≡ slice_index table.now (at + n) }
 {
     u8x16::from_slice(&table[at..])
-}
-
-/// Returns the bytes of `row` at `places`, of which each is below 16, or at least 128 for a zero. No memory is read at a place.
-#[inline(always)]
-fn look_up(row: u8x16, places: u8x16) -> u8x16
-    requires { (i : ℕ) → i < 16 → (slice_index places i < 16) ⊎ (128 ≤ slice_index places i) }
-    ensures { (i : ℕ) → i < 16 → slice_index result i ≡ slice_index row (slice_index places i) }
-{
-    row.swizzle_dyn(places)
 }
 
 /// Adds the bytes.
@@ -254,5 +246,5 @@ fn chosen(block: u8x16, others: u8x16, at: u8) -> u8x16
     ensures { (i : ℕ) → i < 16
         → slice_index result i ≡ (if slice_index others i == 0 then slice_index block at else 0) }
 {
-    look_up(block, others + u8x16::splat(at))
+    look_up(block.to_array(), others + u8x16::splat(at))
 }

@@ -1,6 +1,6 @@
 use Rattle.std.proofs.Common.{arith}
 use Rattle.aead_ciphers_wide.proofs.PermutedBytes.{look_up_fits, look_up_is}
-use Rattle.aead_ciphers_wide.proofs.aes.permuted.look_up.Goals as goal
+use Rattle.aead_ciphers_wide.proofs.permute.look_up.Goals as goal
 
 pub swizzle : goal.swizzle
 swizzle c = look_up_fits c.args.places c.fits-places.0 c.requires
