@@ -80,7 +80,7 @@ uint32_t deerlapse_version(void);
  * deerlapse_key_init returned false and after it is wiped. Any other memory, such as an uninitialized variable, must only be
  * passed to deerlapse_key_init and deerlapse_key_wipe. */
 typedef struct deerlapse_key {
-    uint64_t words[369]; /* private: neither read nor write them */
+    uint64_t words[399]; /* private: neither read nor write them */
 } deerlapse_key;
 
 /* Expands a key. The previous bytes of `key` are not read.
@@ -234,7 +234,7 @@ bool deerlapse_open(const uint8_t *key, size_t key_len, const uint8_t nonce[DEER
  * deerlapse_sealer_wipe. Never copy it: the copy would use the same nonces again. Only one thread may use it at a time. It
  * has room for the fields of a later version. Nothing has to be freed. */
 typedef struct deerlapse_sealer {
-    uint64_t words[400]; /* private: neither read nor write them */
+    uint64_t words[430]; /* private: neither read nor write them */
 } deerlapse_sealer;
 
 /* Initializes a sealer. Its previous bytes are not read.
@@ -273,7 +273,7 @@ void deerlapse_sealer_wipe(deerlapse_sealer *sealer);
  * for a later version are as for a sealer. A copy counts separately. Only one thread at a time may open in order.
  * Any number of threads may open by number, as long as none initializes it or opens in order at the same time. */
 typedef struct deerlapse_opener {
-    uint64_t words[400]; /* private: neither read nor write them */
+    uint64_t words[430]; /* private: neither read nor write them */
 } deerlapse_opener;
 
 /* Initializes an opener, as deerlapse_sealer_init does a sealer. */
