@@ -14,6 +14,9 @@ const NUMBER_AT: usize = 9;
 
 const HEADER_LEN: usize = 11;
 
+/// The first byte of a short header (RFC 9000 section 17.3.1), without the bits that `Sender::send` writes.
+const SHORT_HEADER: u8 = 0x40;
+
 /// The number of unacknowledged packets. Their packet numbers take 2 bytes.
 const UNACKNOWLEDGED: u64 = 1000;
 
@@ -68,6 +71,13 @@ impl Connection {
     }
 }
 
+/// Writes the first byte of a short header.
+fn write_first_byte(packet: &mut [u8]) {
+    if let Some(header) = packet.first_chunk_mut::<HEADER_LEN>() {
+        header[0] = SHORT_HEADER;
+    }
+}
+
 /// Zeroes the header, and returns the first eight bytes of the payload.
 fn without_header(packet: &mut [u8]) -> u64 {
     if packet.len() < HEADER_LEN {
@@ -77,11 +87,11 @@ fn without_header(packet: &mut [u8]) -> u64 {
     first_bytes(&packet[HEADER_LEN..])
 }
 
-/// Writes the first byte and the low bytes of a number into the header.
+/// Writes the first byte, for a packet number of 2 bytes, and the low bytes of a number into the header.
 fn write_header(packet: &mut [u8], number: u64) {
     if let Some(header) = packet.first_chunk_mut::<HEADER_LEN>() {
         let [.., high, low] = number.to_be_bytes();
-        header[0] = header[0] & 0xe0 | 1;
+        header[0] = SHORT_HEADER | 1;
         header[NUMBER_AT] = high;
         header[NUMBER_AT + 1] = low;
     }
@@ -93,6 +103,7 @@ pub extern "C" fn bench_send(times: u64, key: &[u8], buffer: &mut [u8]) -> u64 {
     let Ok(mut connection) = Connection::new(key) else {
         return 0
     };
+    write_first_byte(buffer);
     for _ in 0..times {
         if connection.send(buffer).is_err() {
             return 0;
@@ -107,6 +118,7 @@ pub extern "C" fn bench_send_and_receive(times: u64, key: &[u8], buffer: &mut [u
     let Ok(mut connection) = Connection::new(key) else {
         return 0
     };
+    write_first_byte(buffer);
     let Ok(parts) = packet_at(buffer, 0, NUMBER_AT - 1, FixedBit::Required) else {
         return 0
     };
