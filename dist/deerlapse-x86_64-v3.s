@@ -177,17 +177,17 @@
 	subq	$32, %rsp
 	movq	%rcx, %r15
 	movq	%rdi, %rbx
-	leaq	1920(%rdi), %r14
+	leaq	1928(%rdi), %r14
 	movq	%r14, %rdi
 	callq	"aead_ciphers_wide::aes::expand"
-	movq	%rax, 2160(%rbx)
+	movq	%rax, 1920(%rbx)
 	shlq	$4, %rax
 	addq	$16, %rax
 	xorl	%ecx, %ecx
 	.p2align	4
 .Ldeerlapse_BB0_1:                                # %join.5.i
                                         # =>This Inner Loop Header: Depth=1
-	vbroadcasti128	1920(%rbx,%rcx), %ymm1  # ymm1 = mem[0,1,0,1]
+	vbroadcasti128	1928(%rbx,%rcx), %ymm1  # ymm1 = mem[0,1,0,1]
 	vpand	.Ldeerlapse_CPI0_0(%rip), %xmm1, %xmm2
 	vpxor	%xmm0, %xmm0, %xmm0
 	vpsllw	$6, %xmm1, %xmm3
@@ -214,7 +214,7 @@
 	jne	.Ldeerlapse_BB0_1
 # %bb.2:                                # %"aead_ciphers_wide::aes::round_keys::write_planes.exit"
 	movabsq	$-2233785415175766016, %r12     # imm = 0xE100000000000000
-	movq	2160(%rbx), %rdx
+	movq	1920(%rbx), %rdx
 	vmovdqa	%xmm0, 16(%rsp)
 	vmovdqa	%xmm0, (%rsp)
 	xorl	%r13d, %r13d
@@ -783,129 +783,135 @@
 	.type	"aead_ciphers_wide::aes::expand",@function
 "aead_ciphers_wide::aes::expand":       # @"aead_ciphers_wide::aes::expand"
 # %bb.0:                                # %start
-	xorl	%ecx, %ecx
-	testb	%sil, %sil
-	setne	%cl
-	shll	$4, %ecx
-	addq	$16, %rcx
-	movl	%ecx, %r8d
-	shrl	$4, %r8d
 	xorl	%eax, %eax
-	movq	%r8, %r9
+	testb	%sil, %sil
+	setne	%al
+	shll	$4, %eax
+	addq	$16, %rax
+	movl	%eax, %ecx
+	shrl	$4, %ecx
+	xorl	%r8d, %r8d
+	movq	%rcx, %r9
 	.p2align	4
 .Ldeerlapse_BB1_1:                                # %join.5.i.i.epil
                                         # =>This Inner Loop Header: Depth=1
-	vmovdqu	(%rdx,%rax), %xmm0
-	vmovdqu	%xmm0, (%rdi,%rax)
-	addq	$16, %rax
+	vmovups	(%rdx,%r8), %xmm0
+	vmovups	%xmm0, (%rdi,%r8)
+	addq	$16, %r8
 	decq	%r9
 	jne	.Ldeerlapse_BB1_1
-# %bb.2:                                # %join.5.preheader.i
+# %bb.2:                                # %join.5.lr.ph.i
 	xorl	%edx, %edx
 	testb	%sil, %sil
 	setne	%dl
-	movl	%ecx, %esi
-	shrl	$2, %esi
-	leaq	6(%rsi), %rax
-	leaq	-1(%r8), %r9
-	addq	$7, %rsi
+	movl	%eax, %r8d
+	shrl	$2, %r8d
+	vmovdqu	(%rdi), %xmm1
+	leaq	(%rdi,%rax), %r9
+	vmovdqu	-16(%rdi,%rax), %xmm0
+	leaq	6(%r8), %rax
+	leaq	-1(%rcx), %rdi
+	addq	$7, %r8
 	jmp	.Ldeerlapse_BB1_3
 	.p2align	4
-.Ldeerlapse_BB1_5:                                # %else.4.i.i
+.Ldeerlapse_BB1_8:                                # %"aead_ciphers_wide::aes::key_schedule::transformed.exit.i"
                                         #   in Loop: Header=BB1_3 Depth=1
-	vpshufd	$255, %xmm0, %xmm0              # xmm0 = xmm0[3,3,3,3]
-	vpbroadcastd	.Ldeerlapse_CPI1_10(%rip), %xmm1  # xmm1 = [15,15,15,15,15,15,15,15,15,15,15,15,15,15,15,15]
-	vpand	%xmm1, %xmm0, %xmm2
-	vmovdqa	.Ldeerlapse_CPI1_1(%rip), %xmm3           # xmm3 = [0,1,39,38,192,193,231,230,195,194,228,229,3,2,36,37]
-	vpshufb	%xmm2, %xmm3, %xmm2
-	vpsrlw	$4, %xmm0, %xmm0
-	vpand	%xmm1, %xmm0, %xmm0
-	vmovdqa	.Ldeerlapse_CPI1_2(%rip), %xmm3           # xmm3 = [0,170,122,208,175,5,213,127,216,114,162,8,119,221,13,167]
-	vpshufb	%xmm0, %xmm3, %xmm0
-	vpxor	%xmm2, %xmm0, %xmm0
-	vpand	%xmm1, %xmm0, %xmm2
-	vpsrlw	$4, %xmm0, %xmm0
-	vpand	%xmm1, %xmm0, %xmm0
-	vpxor	%xmm2, %xmm0, %xmm1
-	vmovdqa	.Ldeerlapse_CPI1_3(%rip), %xmm3           # xmm3 = [128,3,13,1,10,8,12,11,5,14,4,7,6,2,9,15]
-	vpshufb	%xmm2, %xmm3, %xmm2
-	vmovdqa	.Ldeerlapse_CPI1_4(%rip), %xmm3           # xmm3 = [128,1,12,8,6,15,4,14,3,13,11,10,2,9,7,5]
-	vpshufb	%xmm0, %xmm3, %xmm4
-	vpxor	%xmm2, %xmm4, %xmm4
-	vpshufb	%xmm1, %xmm3, %xmm5
-	vpxor	%xmm2, %xmm5, %xmm2
-	vpshufb	%xmm4, %xmm3, %xmm4
-	vpxor	%xmm1, %xmm4, %xmm1
-	vpshufb	%xmm2, %xmm3, %xmm2
-	vpxor	%xmm0, %xmm2, %xmm0
-	vmovdqa	.Ldeerlapse_CPI1_5(%rip), %xmm2           # xmm2 = [0,250,53,106,43,187,95,65,142,207,228,30,116,144,209,165]
-	vpshufb	%xmm1, %xmm2, %xmm1
-	vmovdqa	.Ldeerlapse_CPI1_6(%rip), %xmm2           # xmm2 = [0,129,153,118,10,253,239,124,100,24,18,147,229,247,139,110]
-	vpshufb	%xmm0, %xmm2, %xmm0
-.Ldeerlapse_BB1_6:                                # %"aead_ciphers_wide::aes::key_schedule::transformed.exit.i"
-                                        #   in Loop: Header=BB1_3 Depth=1
-	vpxor	%xmm1, %xmm0, %xmm0
-	vmovd	(%rdi), %xmm1                   # xmm1 = mem[0],zero,zero,zero
-	vmovq	4(%rdi), %xmm2                  # xmm2 = mem[0],zero
-	vmovq	%xmm1, %xmm1                    # xmm1 = xmm1[0],zero
-	vpshufd	$80, %xmm2, %xmm2               # xmm2 = xmm2[0,0,1,1]
-	vpblendd	$6, %xmm2, %xmm1, %xmm1         # xmm1 = xmm1[0],xmm2[1,2],xmm1[3]
-	vpbroadcastd	12(%rdi), %xmm2
-	vpblendd	$8, %xmm2, %xmm1, %xmm2         # xmm2 = xmm1[0,1,2],xmm2[3]
-	vpslldq	$4, %xmm1, %xmm1                # xmm1 = zero,zero,zero,zero,xmm1[0,1,2,3,4,5,6,7,8,9,10,11]
-	vpxor	%xmm1, %xmm2, %xmm1
-	vpslldq	$8, %xmm1, %xmm2                # xmm2 = zero,zero,zero,zero,zero,zero,zero,zero,xmm1[0,1,2,3,4,5,6,7]
-	vpxor	%xmm1, %xmm2, %xmm1
-	vpxor	%xmm1, %xmm0, %xmm0
-	vpxor	.Ldeerlapse_CPI1_9(%rip), %xmm0, %xmm0
-	vmovdqu	%xmm0, (%rdi,%rcx)
-	incq	%r8
-	addq	$16, %rdi
-	cmpq	%r8, %rsi
-	je	.Ldeerlapse_BB1_7
+	incq	%rcx
+	addq	$16, %r9
+	vmovdqa	%xmm0, %xmm1
+	vmovdqa	%xmm2, %xmm0
+	cmpq	%rcx, %r8
+	je	.Ldeerlapse_BB1_9
 .Ldeerlapse_BB1_3:                                # %join.5.i
                                         # =>This Inner Loop Header: Depth=1
-	vmovdqu	-16(%rdi,%rcx), %xmm0
-	testq	%r9, %r8
-	jne	.Ldeerlapse_BB1_5
-# %bb.4:                                # %ok.6.i.i
+	testq	%rdi, %rcx
+	je	.Ldeerlapse_BB1_4
+# %bb.5:                                # %else.4.i.i
                                         #   in Loop: Header=BB1_3 Depth=1
-	shrxq	%rdx, %r8, %r10
-	vpshufb	.Ldeerlapse_CPI1_7(%rip), %xmm0, %xmm0    # xmm0 = xmm0[13,14,15,12,13,14,15,12,13,14,15,12,13,14,15,12]
-	vpbroadcastd	.Ldeerlapse_CPI1_10(%rip), %xmm1  # xmm1 = [15,15,15,15,15,15,15,15,15,15,15,15,15,15,15,15]
-	vpand	%xmm1, %xmm0, %xmm2
-	vmovdqa	.Ldeerlapse_CPI1_1(%rip), %xmm3           # xmm3 = [0,1,39,38,192,193,231,230,195,194,228,229,3,2,36,37]
-	vpshufb	%xmm2, %xmm3, %xmm2
-	vpsrlw	$4, %xmm0, %xmm0
-	vpand	%xmm1, %xmm0, %xmm0
-	vmovdqa	.Ldeerlapse_CPI1_2(%rip), %xmm3           # xmm3 = [0,170,122,208,175,5,213,127,216,114,162,8,119,221,13,167]
-	vpshufb	%xmm0, %xmm3, %xmm0
-	vpxor	%xmm2, %xmm0, %xmm0
-	vpand	%xmm1, %xmm0, %xmm2
-	vpsrlw	$4, %xmm0, %xmm0
-	vpand	%xmm1, %xmm0, %xmm0
-	vpxor	%xmm2, %xmm0, %xmm1
-	vmovdqa	.Ldeerlapse_CPI1_3(%rip), %xmm3           # xmm3 = [128,3,13,1,10,8,12,11,5,14,4,7,6,2,9,15]
-	vpshufb	%xmm2, %xmm3, %xmm2
-	vmovdqa	.Ldeerlapse_CPI1_4(%rip), %xmm3           # xmm3 = [128,1,12,8,6,15,4,14,3,13,11,10,2,9,7,5]
-	vpshufb	%xmm0, %xmm3, %xmm4
-	vpxor	%xmm2, %xmm4, %xmm4
-	vpshufb	%xmm1, %xmm3, %xmm5
-	vpxor	%xmm2, %xmm5, %xmm2
-	vpshufb	%xmm4, %xmm3, %xmm4
-	vpxor	%xmm1, %xmm4, %xmm1
-	vpshufb	%xmm2, %xmm3, %xmm2
-	vpxor	%xmm0, %xmm2, %xmm0
-	vmovdqa	.Ldeerlapse_CPI1_5(%rip), %xmm2           # xmm2 = [0,250,53,106,43,187,95,65,142,207,228,30,116,144,209,165]
-	vpshufb	%xmm1, %xmm2, %xmm1
-	vmovdqa	.Ldeerlapse_CPI1_6(%rip), %xmm2           # xmm2 = [0,129,153,118,10,253,239,124,100,24,18,147,229,247,139,110]
-	vpshufb	%xmm0, %xmm2, %xmm0
-	leaq	.Ldeerlapse_static.0(%rip), %r11
-	vpbroadcastb	-1(%r10,%r11), %xmm2
-	vpand	.Ldeerlapse_CPI1_8(%rip), %xmm2, %xmm2
-	vpxor	%xmm2, %xmm1, %xmm1
+	vpshufd	$255, %xmm0, %xmm2              # xmm2 = xmm0[3,3,3,3]
+	vpbroadcastd	.Ldeerlapse_CPI1_10(%rip), %xmm3  # xmm3 = [15,15,15,15,15,15,15,15,15,15,15,15,15,15,15,15]
+	vpand	%xmm3, %xmm2, %xmm4
+	vmovdqa	.Ldeerlapse_CPI1_1(%rip), %xmm5           # xmm5 = [0,1,39,38,192,193,231,230,195,194,228,229,3,2,36,37]
+	vpshufb	%xmm4, %xmm5, %xmm4
+	vpsrlw	$4, %xmm2, %xmm2
+	vpand	%xmm3, %xmm2, %xmm2
+	vmovdqa	.Ldeerlapse_CPI1_2(%rip), %xmm5           # xmm5 = [0,170,122,208,175,5,213,127,216,114,162,8,119,221,13,167]
+	vpshufb	%xmm2, %xmm5, %xmm2
+	vpxor	%xmm4, %xmm2, %xmm2
+	vpand	%xmm3, %xmm2, %xmm4
+	vpsrlw	$4, %xmm2, %xmm2
+	vpand	%xmm3, %xmm2, %xmm2
+	vpxor	%xmm4, %xmm2, %xmm3
+	vmovdqa	.Ldeerlapse_CPI1_3(%rip), %xmm5           # xmm5 = [128,3,13,1,10,8,12,11,5,14,4,7,6,2,9,15]
+	vpshufb	%xmm4, %xmm5, %xmm4
+	vmovdqa	.Ldeerlapse_CPI1_4(%rip), %xmm5           # xmm5 = [128,1,12,8,6,15,4,14,3,13,11,10,2,9,7,5]
+	vpshufb	%xmm2, %xmm5, %xmm6
+	vpxor	%xmm4, %xmm6, %xmm6
+	vpshufb	%xmm3, %xmm5, %xmm7
+	vpxor	%xmm4, %xmm7, %xmm4
+	vpshufb	%xmm6, %xmm5, %xmm6
+	vpxor	%xmm3, %xmm6, %xmm3
+	vpshufb	%xmm4, %xmm5, %xmm4
+	vpxor	%xmm2, %xmm4, %xmm2
+	vmovdqa	.Ldeerlapse_CPI1_5(%rip), %xmm4           # xmm4 = [0,250,53,106,43,187,95,65,142,207,228,30,116,144,209,165]
+	vpshufb	%xmm3, %xmm4, %xmm3
+	vmovdqa	.Ldeerlapse_CPI1_6(%rip), %xmm4           # xmm4 = [0,129,153,118,10,253,239,124,100,24,18,147,229,247,139,110]
+	vpshufb	%xmm2, %xmm4, %xmm2
 	jmp	.Ldeerlapse_BB1_6
-.Ldeerlapse_BB1_7:                                # %"aead_ciphers_wide::aes::key_schedule::expand.exit"
+	.p2align	4
+.Ldeerlapse_BB1_4:                                # %ok.6.i.i
+                                        #   in Loop: Header=BB1_3 Depth=1
+	shrxq	%rdx, %rcx, %r10
+	vpshufb	.Ldeerlapse_CPI1_7(%rip), %xmm0, %xmm2    # xmm2 = xmm0[13,14,15,12,13,14,15,12,13,14,15,12,13,14,15,12]
+	vpbroadcastd	.Ldeerlapse_CPI1_10(%rip), %xmm3  # xmm3 = [15,15,15,15,15,15,15,15,15,15,15,15,15,15,15,15]
+	vpand	%xmm3, %xmm2, %xmm4
+	vmovdqa	.Ldeerlapse_CPI1_1(%rip), %xmm5           # xmm5 = [0,1,39,38,192,193,231,230,195,194,228,229,3,2,36,37]
+	vpshufb	%xmm4, %xmm5, %xmm4
+	vpsrlw	$4, %xmm2, %xmm2
+	vpand	%xmm3, %xmm2, %xmm2
+	vmovdqa	.Ldeerlapse_CPI1_2(%rip), %xmm5           # xmm5 = [0,170,122,208,175,5,213,127,216,114,162,8,119,221,13,167]
+	vpshufb	%xmm2, %xmm5, %xmm2
+	vpxor	%xmm4, %xmm2, %xmm2
+	vpand	%xmm3, %xmm2, %xmm4
+	vpsrlw	$4, %xmm2, %xmm2
+	vpand	%xmm3, %xmm2, %xmm2
+	vpxor	%xmm4, %xmm2, %xmm3
+	vmovdqa	.Ldeerlapse_CPI1_3(%rip), %xmm5           # xmm5 = [128,3,13,1,10,8,12,11,5,14,4,7,6,2,9,15]
+	vpshufb	%xmm4, %xmm5, %xmm4
+	vmovdqa	.Ldeerlapse_CPI1_4(%rip), %xmm5           # xmm5 = [128,1,12,8,6,15,4,14,3,13,11,10,2,9,7,5]
+	vpshufb	%xmm2, %xmm5, %xmm6
+	vpxor	%xmm4, %xmm6, %xmm6
+	vpshufb	%xmm3, %xmm5, %xmm7
+	vpxor	%xmm4, %xmm7, %xmm4
+	vpshufb	%xmm6, %xmm5, %xmm6
+	vpxor	%xmm3, %xmm6, %xmm3
+	vpshufb	%xmm4, %xmm5, %xmm4
+	vpxor	%xmm2, %xmm4, %xmm2
+	vmovdqa	.Ldeerlapse_CPI1_5(%rip), %xmm4           # xmm4 = [0,250,53,106,43,187,95,65,142,207,228,30,116,144,209,165]
+	vpshufb	%xmm3, %xmm4, %xmm3
+	vmovdqa	.Ldeerlapse_CPI1_6(%rip), %xmm4           # xmm4 = [0,129,153,118,10,253,239,124,100,24,18,147,229,247,139,110]
+	vpshufb	%xmm2, %xmm4, %xmm2
+	leaq	.Ldeerlapse_static.0(%rip), %r11
+	vpbroadcastb	-1(%r10,%r11), %xmm4
+	vpand	.Ldeerlapse_CPI1_8(%rip), %xmm4, %xmm4
+	vpxor	%xmm4, %xmm3, %xmm3
+.Ldeerlapse_BB1_6:                                # %"aead_ciphers_wide::aes::key_schedule::transformed.exit.i"
+                                        #   in Loop: Header=BB1_3 Depth=1
+	vpxor	%xmm3, %xmm2, %xmm2
+	vpslldq	$4, %xmm1, %xmm3                # xmm3 = zero,zero,zero,zero,xmm1[0,1,2,3,4,5,6,7,8,9,10,11]
+	vpxor	%xmm1, %xmm3, %xmm1
+	vpslldq	$8, %xmm1, %xmm3                # xmm3 = zero,zero,zero,zero,zero,zero,zero,zero,xmm1[0,1,2,3,4,5,6,7]
+	vpxor	%xmm1, %xmm3, %xmm1
+	vpxor	%xmm2, %xmm1, %xmm1
+	vpxor	.Ldeerlapse_CPI1_9(%rip), %xmm1, %xmm2
+	vmovdqu	%xmm2, (%r9)
+	testb	%sil, %sil
+	jne	.Ldeerlapse_BB1_8
+# %bb.7:                                # %"aead_ciphers_wide::aes::key_schedule::transformed.exit.i"
+                                        #   in Loop: Header=BB1_3 Depth=1
+	vmovdqa	%xmm2, %xmm0
+	jmp	.Ldeerlapse_BB1_8
+.Ldeerlapse_BB1_9:                                # %"aead_ciphers_wide::aes::key_schedule::expand.exit"
 	retq
 .Ldeerlapse_func_end1:
 	.size	"aead_ciphers_wide::aes::expand", .Ldeerlapse_func_end1-"aead_ciphers_wide::aes::expand"
@@ -4224,7 +4230,7 @@
 	vxorps	%xmm0, %xmm0, %xmm0
 	vmovaps	%xmm0, 432(%rsp)
 	movq	%r8, %rbx
-	movq	2160(%rdi), %r8
+	movq	1920(%rdi), %r8
 	leaq	-10(%r8), %rax
 	cmpq	$5, %rax
 	jae	.Ldeerlapse_BB13_1
@@ -4233,7 +4239,7 @@
 	vmovaps	%xmm0, (%rsp)
 	movabsq	$68719476608, %r11              # imm = 0xFFFFFFF80
 	vmovaps	%xmm0, 192(%rsp)
-	leaq	1920(%rdi), %r10
+	leaq	1928(%rdi), %r10
 	movq	%rdi, 232(%rsp)
 	movq	%r10, 240(%rsp)
 	movq	%r8, 248(%rsp)
@@ -4636,7 +4642,7 @@
 	vpxor	%xmm1, %xmm2, %xmm1
 	vmovq	%xmm0, 40(%rsp)
 	vmovd	%xmm1, 48(%rsp)
-	movq	2160(%rdi), %rax
+	movq	1920(%rdi), %rax
 	leaq	-15(%rax), %rsi
 	cmpq	$-5, %rsi
 	setb	%sil
@@ -4664,7 +4670,7 @@
 	addq	$-16, %rsi
 	vmovdqu	(%rsi), %xmm0
 	vmovdqa	%xmm0, 144(%rsp)
-	leaq	1920(%rdi), %rsi
+	leaq	1928(%rdi), %rsi
 	movq	%rdi, 56(%rsp)
 	movq	%rsi, 64(%rsp)
 	movq	%rax, 72(%rsp)
@@ -5837,7 +5843,7 @@ deerlapse_key_begin:                    # @deerlapse_key_begin
 	xorl	%eax, %eax
 	testq	%rdx, %rdx
 	sete	%cl
-	movq	2160(%rdi), %r9
+	movq	1920(%rdi), %r9
 	addq	$-10, %r9
 	cmpq	$4, %r9
 	ja	.Ldeerlapse_BB26_3
@@ -5968,7 +5974,7 @@ deerlapse_key_begin:                    # @deerlapse_key_begin
 	.type	deerlapse_key_finish,@function
 deerlapse_key_finish:                   # @deerlapse_key_finish
 # %bb.0:                                # %start
-	movq	2160(%rdi), %rax
+	movq	1920(%rdi), %rax
 	addq	$-10, %rax
 	cmpq	$4, %rax
 	ja	.Ldeerlapse_BB27_6
@@ -6004,7 +6010,7 @@ deerlapse_key_finish:                   # @deerlapse_key_finish
 	vmovups	%ymm0, 96(%rsi)
 	vmovups	%ymm0, 128(%rsi)
 	vmovups	%ymm0, 144(%rsi)
-	movq	2160(%rdi), %rax
+	movq	1920(%rdi), %rax
 	movq	%rax, 80(%rsp)                  # 8-byte Spill
 	leaq	2168(%rdi), %r15
 	leaq	2680(%rdi), %rax
@@ -6100,7 +6106,7 @@ deerlapse_key_finish:                   # @deerlapse_key_finish
 	movb	%al, 14(%rsp)
 	shlb	$3, %r14b
 	movb	%r14b, 15(%rsp)
-	addq	$1920, %rbx                     # imm = 0x780
+	addq	$1928, %rbx                     # imm = 0x788
 	vmovaps	16(%rsp), %xmm0
 	vmovaps	%xmm0, 64(%rsp)
 	vxorps	%xmm0, %xmm0, %xmm0
@@ -6163,14 +6169,14 @@ deerlapse_key_mask:                     # @deerlapse_key_mask
 	pushq	%rbx
 	subq	$40, %rsp
 	movq	%rdx, %rbx
-	movq	2160(%rdi), %rdx
+	movq	1920(%rdi), %rdx
 	leaq	-10(%rdx), %r14
 	cmpq	$4, %r14
 	ja	.Ldeerlapse_BB28_2
 # %bb.1:                                # %join.3.i
 	movq	%rsi, %rcx
 	movq	%rdi, %rsi
-	addq	$1920, %rsi                     # imm = 0x780
+	addq	$1928, %rsi                     # imm = 0x788
 	vxorps	%xmm0, %xmm0, %xmm0
 	vmovaps	%xmm0, 16(%rsp)
 	leaq	16(%rsp), %rdi
@@ -6210,7 +6216,7 @@ deerlapse_key_open:                     # @deerlapse_key_open
 	xorl	%r10d, %r10d
 	testq	%r8, %r8
 	sete	%bpl
-	movq	2160(%rdi), %rax
+	movq	1920(%rdi), %rax
 	leaq	-15(%rax), %rbx
 	cmpq	$-5, %rbx
 	setb	%bl
@@ -6247,7 +6253,7 @@ deerlapse_key_open:                     # @deerlapse_key_open
 	movq	%rsi, 40(%rsp)
 	vmovups	(%r9), %xmm0
 	vmovaps	%xmm0, 144(%rsp)
-	leaq	1920(%rdi), %rsi
+	leaq	1928(%rdi), %rsi
 	movq	%rdi, 56(%rsp)
 	movq	%rsi, 64(%rsp)
 	movq	%rax, 72(%rsp)
@@ -6331,7 +6337,7 @@ deerlapse_key_open_separate_tag:        # @deerlapse_key_open_separate_tag
 	cmovaeq	%rcx, %r13
 	jb	.Ldeerlapse_BB30_7
 # %bb.1:                                # %arm.3.i
-	movq	2160(%rdi), %r11
+	movq	1920(%rdi), %r11
 	leaq	-10(%r11), %rax
 	cmpq	$4, %rax
 	ja	.Ldeerlapse_BB30_2
@@ -6361,7 +6367,7 @@ deerlapse_key_open_separate_tag:        # @deerlapse_key_open_separate_tag
 	movq	%rsi, 40(%rsp)
 	vmovups	(%rax), %xmm0
 	vmovaps	%xmm0, 144(%rsp)
-	leaq	1920(%rdi), %rax
+	leaq	1928(%rdi), %rax
 	movq	%rdi, 56(%rsp)
 	movq	%rax, 64(%rsp)
 	movq	%r11, 72(%rsp)
@@ -6438,7 +6444,7 @@ deerlapse_key_open_to_sized:            # @deerlapse_key_open_to_sized
 	sete	%r11b
 	cmpq	$0, 240(%rsp)
 	sete	%r14b
-	movq	2160(%rdi), %rax
+	movq	1920(%rdi), %rax
 	leaq	-10(%rax), %r13
 	cmpq	$5, %r13
 	setae	%r13b
@@ -6471,7 +6477,7 @@ deerlapse_key_open_to_sized:            # @deerlapse_key_open_to_sized
 	vmovaps	%xmm0, 160(%rsp)
 	movq	%r8, 48(%rsp)                   # 8-byte Spill
 	leaq	(%r8,%rbp), %r12
-	leaq	1920(%rdi), %rsi
+	leaq	1928(%rdi), %rsi
 	movq	%rdi, 72(%rsp)
 	movq	%rsi, 80(%rsp)
 	movq	%rax, 88(%rsp)
@@ -6678,7 +6684,7 @@ deerlapse_key_open_appended_tag_sized:  # @deerlapse_key_open_appended_tag_sized
 # %bb.2:                                # %arm.1.i
 	movq	248(%rsp), %r12
 	leaq	-16(%r9), %rbx
-	movq	2160(%rdi), %r10
+	movq	1920(%rdi), %r10
 	leaq	-10(%r10), %r13
 	cmpq	$5, %r13
 	setae	%r13b
@@ -6711,7 +6717,7 @@ deerlapse_key_open_appended_tag_sized:  # @deerlapse_key_open_appended_tag_sized
 	vmovups	(%r8), %xmm0
 	vmovaps	%xmm0, 160(%rsp)
 	addq	%rax, %rdx
-	leaq	1920(%rdi), %rax
+	leaq	1928(%rdi), %rax
 	movq	%rdi, 72(%rsp)
 	movq	%rax, 80(%rsp)
 	movq	%r10, 88(%rsp)
@@ -6946,7 +6952,7 @@ deerlapse_key_seal_to_sized:            # @deerlapse_key_seal_to_sized
 	cmpq	%r9, %rbx
 	jne	.Ldeerlapse_BB34_26
 # %bb.1:                                # %start
-	movq	2160(%rdi), %r9
+	movq	1920(%rdi), %r9
 	addq	$-10, %r9
 	cmpq	$4, %r9
 	ja	.Ldeerlapse_BB34_26
@@ -7165,7 +7171,7 @@ deerlapse_key_seal_append_tag_sized:    # @deerlapse_key_seal_append_tag_sized
 	cmpq	%r9, %r10
 	jne	.Ldeerlapse_BB35_2
 # %bb.4:                                # %arm.1.i
-	movq	2160(%rdi), %r10
+	movq	1920(%rdi), %r10
 	addq	$-10, %r10
 	cmpq	$4, %r10
 	ja	.Ldeerlapse_BB35_2
@@ -7349,7 +7355,7 @@ deerlapse_key_update:                   # @deerlapse_key_update
 	xorl	%r9d, %r9d
 	testq	%rdx, %rdx
 	sete	%sil
-	movq	2160(%rdi), %rax
+	movq	1920(%rdi), %rax
 	leaq	-10(%rax), %r8
 	cmpq	$4, %r8
 	ja	.Ldeerlapse_BB36_51
@@ -7357,7 +7363,7 @@ deerlapse_key_update:                   # @deerlapse_key_update
 	cmpl	$0, 172(%r14)
 	je	.Ldeerlapse_BB36_51
 # %bb.2:                                # %then.4.i
-	leaq	1920(%rdi), %r8
+	leaq	1928(%rdi), %r8
 	movq	%rdi, 120(%rsp)
 	movq	%r8, 128(%rsp)
 	movq	%rax, 136(%rsp)
@@ -7816,7 +7822,7 @@ deerlapse_open:                         # @deerlapse_open
 	movq	%r14, %rdi
 	movq	%rbp, %rdx
 	callq	"aead_ciphers_wide::aes_gcm::ExpandedKey::expand"
-	movq	2352(%rsp), %rax
+	movq	2112(%rsp), %rax
 	leaq	-15(%rax), %rcx
 	cmpq	$-5, %rcx
 	setb	%cl
@@ -7825,7 +7831,7 @@ deerlapse_open:                         # @deerlapse_open
 	orb	%cl, %dl
 	jne	.Ldeerlapse_BB37_4
 # %bb.5:                                # %arm.1.i.i.i
-	movq	%r14, %r10
+	movq	%r14, %r11
 	movq	3448(%rsp), %r12
 	leaq	-16(%r13), %r14
 	movq	%r14, %rbp
@@ -7852,23 +7858,23 @@ deerlapse_open:                         # @deerlapse_open
 	movb	%dl, %cl
 	shll	$12, %ecx
 	addq	%rcx, %rbx
-	leaq	2360(%rsp), %rcx
-	leaq	2872(%rsp), %rdx
-	leaq	(%rbx,%r13), %rsi
-	addq	$-16, %rsi
-	movq	80(%rsp), %r8                   # 8-byte Reload
-	movl	8(%r8), %edi
-	movl	%edi, 104(%rsp)
-	movq	(%r8), %rdi
-	movq	%rdi, 96(%rsp)
-	vmovups	(%rsi), %xmm0
+	leaq	2120(%rsp), %rcx
+	leaq	2360(%rsp), %rdx
+	leaq	2872(%rsp), %rsi
+	leaq	(%rbx,%r13), %rdi
+	addq	$-16, %rdi
+	movq	80(%rsp), %r10                  # 8-byte Reload
+	movl	8(%r10), %r8d
+	movl	%r8d, 104(%rsp)
+	movq	(%r10), %r8
+	movq	%r8, 96(%rsp)
+	vmovups	(%rdi), %xmm0
 	vmovaps	%xmm0, 176(%rsp)
-	leaq	2112(%rsp), %rsi
-	movq	%r10, 48(%rsp)
-	movq	%rsi, 56(%rsp)
+	movq	%r11, 48(%rsp)
+	movq	%rcx, 56(%rsp)
 	movq	%rax, 64(%rsp)
-	movq	%rcx, 136(%rsp)
-	movq	%rdx, 144(%rsp)
+	movq	%rdx, 136(%rsp)
+	movq	%rsi, 144(%rsp)
 	vxorps	%xmm0, %xmm0, %xmm0
 	vmovaps	%xmm0, 112(%rsp)
 	leaq	(%rbx,%r12), %rax

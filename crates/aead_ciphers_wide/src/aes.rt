@@ -38,8 +38,9 @@ pub use round_keys::{RoundKeys, RoundPlanes, write_planes};
 #[derive(Clone, Drop)]
 pub struct Key {
     planes: RoundPlanes,
-    round_keys: RoundKeys,
+    // Between the arrays: the compiler copies two that are next to each other as one, by way of the stack.
     rounds: usize,
+    round_keys: RoundKeys,
 }
 
 impl Model for Key {
@@ -66,8 +67,8 @@ impl Key {
         write_planes(&mut planes, &round_keys, rounds);
         Ok(Key {
             planes,
-            round_keys,
             rounds,
+            round_keys,
         })
     }
 

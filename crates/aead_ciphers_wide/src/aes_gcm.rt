@@ -38,10 +38,11 @@ pub fn fits(aad_len: usize, in_out_len: usize) -> bool
 pub struct ExpandedKey {
     /// The round keys, as eight planes of 128 bits each.
     pub planes: [[u64; 16]; 15],
-    /// The round keys (FIPS 197 section 5.2).
-    pub round_keys: [[u8; 16]; 15],
+    // Between the arrays, as in `aes::Key`.
     /// The number of rounds: 10 for AES-128, 14 for AES-256.
     pub rounds: usize,
+    /// The round keys (FIPS 197 section 5.2).
+    pub round_keys: [[u8; 16]; 15],
     /// The products of the hash subkey (SP 800-38D section 6.3).
     pub products: [u8; 512],
     /// The products of the square of the hash subkey.
@@ -56,8 +57,8 @@ impl ExpandedKey {
     {
         ExpandedKey {
             planes: [[0; 16]; 15],
-            round_keys: [[0; 16]; 15],
             rounds: 0,
+            round_keys: [[0; 16]; 15],
             products: [0; 512],
             squares: [0; 512],
         }

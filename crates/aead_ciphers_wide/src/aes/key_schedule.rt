@@ -136,8 +136,14 @@ pub fn expand(round_keys: &mut RoundKeys, key: &[u8])
 {
     copy_key(round_keys, key);
     let m = key.len() / BLOCK_LEN;
+    // The round keys that the next one is made of. To load them from `round_keys` would wait for what was just stored.
+    let mut back = u8x16::from_array(round_keys[0]);
+    let mut last = u8x16::from_array(round_keys[m - 1]);
     for n in m..4 * m + 7 {
-        let word = transformed(u8x16::from_array(round_keys[n - 1]), n, m);
-        round_keys[n] = next_round_key(u8x16::from_array(round_keys[n - m]), word).to_array();
+        let word = transformed(last, n, m);
+        let next = next_round_key(back, word);
+        round_keys[n] = next.to_array();
+        back = if m == 1 { next } else { last };
+        last = next;
     }
 }
