@@ -245,7 +245,7 @@ impl<'b> Connection<'b> {
     }
 
     /// Appends a KeyUpdate with this request to `out`, under the old key, and continues under the next traffic secret (RFC 8446
-    /// sections 4.6.3 and 7.2). If the peer has asked for a KeyUpdate, the one that answers comes first.
+    /// sections 4.6.3 and 7.2). If the peer has asked for a KeyUpdate, the answer is appended first.
     ///
     /// Fails with `Ended` after `close` or `abort`, and with `KeyUsedUp` if only the number for an alert is left under this key.
     /// Nothing is then written. Fails with `OutOfMemory` only if the capacity of `out` is too small; then either nothing is
