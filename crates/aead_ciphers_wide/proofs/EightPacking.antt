@@ -53,12 +53,18 @@ transposed_bit words planes h p b hp hb =
     ∙ bit_of_word j words (p % 8) (8 * (q / 8) + b) (bits_from (64 * b + q)) (omega arith) (omega arith)
     ∙ ap (bit_at (slice_index words (p % 8))) there
 
-pub packed_eight : (words planes : List ℕ) (blocks : List (List ℕ)) → AreTransposed words planes
-    → ((k : ℕ) → k < 8 → to_le_bytes w128 (slice_index words k) ≡ slice_index_or blocks k [])
-    → (p : ℕ) → p < 128 → plane_byte planes p ≡ slice_index (slice_index_or blocks (p % 8) []) (p / 8)
-packed_eight words planes blocks h held p hp =
-    sym (byte_of_planes (slice_index words (p % 8)) (p / 8) p planes (omega arith) (λ b hb. sym (transposed_bit words planes h p b hp hb)))
-    ∙ ap (λ b. slice_index b (p / 8)) (held (p % 8) (omega arith))
+pub packed_eight : (words planes : List ℕ) → AreTransposed words planes → (k : ℕ) → k < 8
+    → wide_block planes k ≡ to_le_bytes w128 (slice_index words k)
+unfolding wide_block
+packed_eight words planes h k hk =
+    sym (state_is (λ r c. plane_byte planes (8 * (r + 4 * c) + k)) (to_le_bytes w128 (slice_index words k)) refl
+    (λ j hj.
+    let p = 8 * (j % 4 + 4 * (j / 4)) + k in
+    byte_of_planes (slice_index words k) j p planes hj
+    (λ b hb.
+    let word : p % 8 ≡ k = omega arith in
+    let place : 8 * (p / 8) + b ≡ 8 * j + b = omega arith in
+    sym (transposed_bit words planes h p b (omega arith) hb ∙ ap₂ (λ i t. bit_at (slice_index words i) t) word place))))
 
 pub unpacked_eight : (planes words : List ℕ) (blocks : List (List ℕ)) → AreTransposed planes words
     → ((k : ℕ) → k < 8 → slice_index_or blocks k [] ≡ to_le_bytes w128 (slice_index words k))

@@ -2,6 +2,7 @@ pub mod ByteLadder
 pub mod ByteReduction
 pub mod ByteRows
 pub mod EightPacking
+pub mod KeystreamLemmas
 pub mod PermutedBlocks
 pub mod PermutedBytes
 pub mod PermutedRounds
@@ -10,6 +11,7 @@ pub mod Places
 pub mod ScheduleColumns
 pub mod WideBits
 pub mod WideBlocks
+pub mod WideCounters
 pub mod WideHash
 pub mod WideRoundKeys
 pub mod WideShifts

@@ -58,22 +58,6 @@ module _ (old new : List ℕ) (k : ℕ) (hk : k < 8) where
       let row : (8 * (r + 4 * c) + k) / 8 % 4 ≡ r = omega arith in
       holds j (8 * (r + 4 * c) + k) hj (omega arith) ∙ ap₂ (λ i t. slice_index (word_at w i) t) column row))
 
--- packed blocks
-pub packed_block : (planes : List ℕ) (blocks : List (List ℕ)) (w : List (List ℕ)) (k : ℕ) → k < 8
-    → ((p : ℕ) → p < 128 → plane_byte planes p ≡ slice_index (slice_index_or blocks (p % 8) []) (p / 8))
-    → add_round_key w 0 (wide_block planes k) ≡ add_round_key w 0 (slice_index_or blocks k [])
-unfolding wide_block add_round_key
-packed_block planes blocks w k hk h =
-    let b = slice_index_or blocks k [] in
-    state_same (λ r c. bit_xor (at (wide_block planes k) r c) (slice_index (word_at w _) r)) (λ r c. bit_xor (at b r c)
-    (slice_index (word_at w _) r))
-    (λ r c hr hc.
-    let block : (8 * (r + 4 * c) + k) % 8 ≡ k = omega arith in
-    let place : (8 * (r + 4 * c) + k) / 8 ≡ r + 4 * c = omega arith in
-    ap (λ t. bit_xor t (slice_index (word_at w (4 * 0 + c)) r))
-    (at_state (λ r c. plane_byte planes (8 * (r + 4 * c) + k)) r c hr hc ∙ h (8 * (r + 4 * c) + k) (omega arith)
-    ∙ ap₂ (λ i t. slice_index (slice_index_or blocks i []) t) block place))
-
 pub by_eight : (P : ℕ → Type 0) → P 0 → P 1 → P 2 → P 3 → P 4 → P 5 → P 6 → P 7 → (k : ℕ) → k < 8 → P k
 by_eight P a b c d e f g h k lt = elim (cases_lt k 4) [
   | inl less ↦ by_four P a b c d k less

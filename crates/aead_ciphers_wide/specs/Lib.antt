@@ -1,5 +1,7 @@
+pub mod Counters
 pub mod ExpandedKey
 pub mod HeaderKey
+pub mod Keystream
 pub mod Pieces
 pub mod Products
 pub mod WidePlanes

@@ -3,15 +3,11 @@
 //!
 //! Eight planes of 128 bits hold eight blocks: bit `8 * byte + block` of plane `b` is bit `b` of that byte.
 
-ghost use Rattle.std.specs.Prelude.{◌≡◌, ◌+◌, ◌<◌, ◌⊎◌, ℕ, ◌/◌, ◌%◌, List, [], length, slice_index_or, IsOk, IfOk};
+ghost use Rattle.std.specs.Prelude.{◌≡◌, ◌+◌, IsOk, IfOk};
 ghost use Rattle.aead_ciphers_base.specs.Aes.{aes, length_aes};
-ghost use Rattle.aead_ciphers_base.specs.Bytes.{◌⊕◌};
-ghost use Rattle.aead_ciphers_base.specs.CounterMode.{Advances, EncryptsToFront};
 ghost use Rattle.aead_ciphers_base.specs.KeyBytes.{key_bytes};
-ghost use Rattle.aead_ciphers_wide.specs.WideSchedule.{HoldsPlanes, IsSchedule, key_of};
 ghost use Rattle.aead_ciphers_base.specs.Mask.{aes_mask};
-ghost use Rattle.aead_ciphers_base.specs.Overlapping.{input_len};
-ghost use Rattle.aead_ciphers_base.specs.Work.{Adds, CanAdd};
+ghost use Rattle.aead_ciphers_wide.specs.WideSchedule.{HoldsPlanes, IsSchedule, key_of};
 
 use aead_ciphers_base::aes::{
     Block, Counter, EncryptBlock, EncryptCtr32, KeyBytes, Overlapping, Work,
@@ -22,6 +18,7 @@ use std::marker::Model;
 
 mod bit_sliced;
 mod block_key;
+mod counters;
 mod ctr32;
 mod key_schedule;
 mod pack_eight;

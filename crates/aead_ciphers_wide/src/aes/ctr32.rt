@@ -1,18 +1,23 @@
 //! Counter mode in batches of eight blocks (SP 800-38D section 6.5).
 
-ghost use Rattle.std.specs.Prelude.{◌≡◌, ◌<◌, ◌≤◌, ℕ, ◌+◌, ◌-◌, ◌/◌, ◌%◌, List, [], length, slice_index_or};
+ghost use Rattle.std.specs.Prelude.{◌≡◌, ◌<◌, ◌≤◌, ℕ, ◌+◌, ◌-◌, ◌*◌, ◌/◌, ◌%◌, [], length, slice_index_or};
+ghost use Rattle.std.specs.Simd.Lanes.{chunk, put_chunk};
 ghost use Rattle.aead_ciphers_base.specs.Aes.{aes};
-ghost use Rattle.aead_ciphers_base.specs.CounterMode.{IsCounter, Advances, EncryptsToFront};
+ghost use Rattle.aead_ciphers_base.specs.Bytes.{◌⊕◌};
+ghost use Rattle.aead_ciphers_base.specs.CounterMode.{Advances, EncryptsToFront};
 ghost use Rattle.aead_ciphers_base.specs.Work.{Adds, CanAdd};
+ghost use Rattle.aead_ciphers_wide.specs.Keystream.{IsKeystream};
 
-use super::KeyRef;
-use aead_ciphers_base::aes::{
-    BLOCK_LEN, Block, Counter, EncryptCtr32, Overlapping, Work, ZERO_BLOCK,
-};
-use aead_ciphers_base::bb;
+use super::counters::counters;
+use super::{BlockKeyRef, KeyRef};
+use aead_ciphers_base::aes::{BLOCK_LEN, Block, Counter, EncryptCtr32, Overlapping, Work};
+use std::simd::u8x16;
 
 /// The length of a batch, in bytes: the eight blocks that one pass of the cipher encrypts.
 const BATCH_LEN: usize = 8 * BLOCK_LEN;
+
+/// The number of blocks up to which byte permutes take less time than a pass over planes.
+const FEW: usize = 4;
 
 impl<'k> EncryptCtr32 for KeyRef<'k> {
     #[tactic(auto, using(aead_ciphers_base::proofs::CounterModeLemmas::encrypts_all))]
@@ -35,7 +40,6 @@ impl<'k> EncryptCtr32 for KeyRef<'k> {
 }
 
 /// Encrypts the one to eight blocks from `start` on, and writes them to the front.
-#[tactic(auto, using(aead_ciphers_base::proofs::CounterModeLemmas::encrypts_all))]
 #[inline(always)]
 fn encrypt_batch(
     key: &KeyRef<'_>,
@@ -53,72 +57,90 @@ fn encrypt_batch(
     ensures worked { Adds work.old work.new ((length in_out.old - start) / 16) 0 }
 {
     let blocks = (in_out.len() - start) / BLOCK_LEN;
-    let keystream = key.encrypt_first(next_eight(counter), blocks);
-    for i in 0..blocks {
-        let at = BLOCK_LEN * i;
-        let from = start + at;
-        let mut block = ZERO_BLOCK;
-        block.copy_from_slice(&in_out[from..from + BLOCK_LEN]);
-        bb::xor_assign_at_start(&mut block, &keystream[i]);
-        in_out[at..at + BLOCK_LEN].copy_from_slice(&block);
+    if blocks > FEW {
+        encrypt_many(key, in_out, start, counter, blocks);
+    } else {
+        encrypt_few(&key.by_block(), in_out, start, counter, blocks);
     }
     counter.increment_by_less_safe(blocks as u32);
     work.add_blocks(blocks as u64);
 }
 
-impl<'k> KeyRef<'k> {
-    /// Encrypts each of the first `count` of eight blocks: up to four by byte permutes, which take less time than a pass over
-    /// planes. No `Work` counts them.
-    #[inline(always)]
-    fn encrypt_first(&self, blocks: [Block; 8], count: usize) -> [Block; 8]
-        requires { count ≤ 8 }
-        ensures { (k : ℕ) → k < count
-            → slice_index_or result k [] ≡ aes self.now (slice_index_or blocks k []) }
-    {
-        if count > 4 {
-            self.encrypt_eight(blocks)
-        } else {
-            self.encrypt_few(blocks, count)
-        }
-    }
-
-    /// Encrypts each of the first `count` blocks, at most four, two at a time.
-    #[inline(never)]
-    fn encrypt_few(&self, blocks: [Block; 8], count: usize) -> [Block; 8]
-        requires { count ≤ 4 }
-        ensures { (k : ℕ) → k < count
-            → slice_index_or result k [] ≡ aes self.now (slice_index_or blocks k []) }
-    {
-        let key = self.by_block();
-        let z = ZERO_BLOCK;
-        if count <= 1 {
-            return [key.encrypt_one(blocks[0]), z, z, z, z, z, z, z];
-        }
-        let (a, b) = key.encrypt_two(blocks[0], blocks[1]);
-        if count <= 2 {
-            return [a, b, z, z, z, z, z, z];
-        }
-        if count <= 3 {
-            return [a, b, key.encrypt_one(blocks[2]), z, z, z, z, z];
-        }
-        let (c, d) = key.encrypt_two(blocks[2], blocks[3]);
-        [a, b, c, d, z, z, z, z]
+/// Encrypts the `count` blocks from `start` on, at most eight, in one pass over planes, and writes them to the front.
+#[inline(never)]
+fn encrypt_many(key: &KeyRef<'_>, in_out: &mut [u8], start: usize, counter: &Counter, count: usize)
+    requires within { length in_out.old ≡ start + 16 * count }
+    requires count { count ≤ 8 }
+    ensures { EncryptsToFront (aes key.now) counter.now start in_out.old in_out.new }
+{
+    let keystream = key.encrypt_eight(counters(counter));
+    // With a constant for the number, the keystream of a whole batch stays in registers.
+    if count == 8 {
+        add_keystream(key, in_out, start, counter, keystream, 8);
+    } else {
+        add_keystream(key, in_out, start, counter, keystream, count);
     }
 }
 
-/// Returns the counter block and the next seven.
-fn next_eight(counter: &Counter) -> [Block; 8]
-    ensures { (nonce : List ℕ) (k : ℕ) → IsCounter counter.now nonce k → (i : ℕ) → i < 8 →
-        IsCounter (slice_index_or result i []) nonce (k + i) }
+/// Encrypts the `count` blocks from `start` on, at most four, two at a time, by byte permutes, and writes them to the front.
+#[tactic(auto, using(aead_ciphers_base::proofs::CounterModeLemmas::encrypts_all))]
+#[inline(never)]
+fn encrypt_few(
+    key: &BlockKeyRef<'_>,
+    in_out: &mut [u8],
+    start: usize,
+    counter: &Counter,
+    count: usize,
+)
+    requires within { length in_out.old ≡ start + 16 * count }
+    requires few { count ≤ 4 }
+    ensures { EncryptsToFront (aes key.now) counter.now start in_out.old in_out.new }
 {
-    [
-        counter.plus(0),
-        counter.plus(1),
-        counter.plus(2),
-        counter.plus(3),
-        counter.plus(4),
-        counter.plus(5),
-        counter.plus(6),
-        counter.plus(7),
-    ]
+    for i in 0..count / 2 {
+        let at = 2 * BLOCK_LEN * i;
+        let first = counter.plus((2 * i) as u32);
+        let second = counter.plus((2 * i + 1) as u32);
+        let (first, second) = key.encrypt_two(first, second);
+        add_block(in_out, at, start + at, first);
+        add_block(in_out, at + BLOCK_LEN, start + at + BLOCK_LEN, second);
+    }
+    if count % 2 == 1 {
+        let at = BLOCK_LEN * (count - 1);
+        let last = key.encrypt_one(counter.plus((count - 1) as u32));
+        add_block(in_out, at, start + at, last);
+    }
+}
+
+/// Adds the first `count` blocks of keystream to those from `start` on, and writes the sums to the front.
+#[tactic(auto, using(aead_ciphers_base::proofs::CounterModeLemmas::encrypts_all))]
+#[inline(always)]
+fn add_keystream(
+    key: &KeyRef<'_>,
+    in_out: &mut [u8],
+    start: usize,
+    counter: &Counter,
+    keystream: [Block; 8],
+    count: usize,
+)
+    requires within { length in_out.old ≡ start + 16 * count }
+    requires count { count ≤ 8 }
+    requires keystream { (i : ℕ) → i < count
+        → IsKeystream (aes key.now) counter.now (slice_index_or keystream i []) i }
+    ensures { EncryptsToFront (aes key.now) counter.now start in_out.old in_out.new }
+{
+    for i in 0..count {
+        let at = BLOCK_LEN * i;
+        add_block(in_out, at, start + at, keystream[i]);
+    }
+}
+
+/// Adds `block` to the block at `from`, and writes the sum to `at`.
+#[inline(always)]
+fn add_block(in_out: &mut [u8], at: usize, from: usize, block: Block)
+    requires read { from + 16 ≤ length in_out.old }
+    requires written { at + 16 ≤ length in_out.old }
+    ensures { in_out.new ≡ put_chunk at in_out.old (chunk from 16 in_out.old ⊕ block) }
+{
+    let sum = u8x16::from_slice(&in_out[from..]) ^ u8x16::from_array(block);
+    sum.copy_to_slice(&mut in_out[at..]);
 }

@@ -3,8 +3,8 @@
 //! Word `i` has the bytes of block `i`. Bit `b` of its byte `j` moves to bit `i` of byte `j` of plane `b`.
 
 ghost use Rattle.std.specs.Prelude.{◌≡◌, ◌+◌, ◌-◌, ◌*◌, ◌/◌, ◌%◌, ◌^◌, ◌<◌, ◌==◌, ℕ, [], slice_index, slice_index_or, if◌then◌else◌};
-ghost use Rattle.std.specs.Int.{bit_at};
-ghost use Rattle.aead_ciphers_base.specs.Planes.{plane_byte, word_bit, exchanged_from};
+ghost use Rattle.std.specs.Int.{bit_at, to_le_bytes, w128};
+ghost use Rattle.aead_ciphers_base.specs.Planes.{word_bit, exchanged_from};
 ghost use Rattle.aead_ciphers_wide.specs.WidePlanes.{wide_block};
 ghost use Rattle.aead_ciphers_wide.specs.Word.{lane_of, lanes_of};
 
@@ -54,23 +54,13 @@ fn transpose_bits(words: WidePlanes) -> WidePlanes
     exchange_digits(exchange_digits(exchange_digits(words, 2), 1), 0)
 }
 
-/// Packs eight blocks into eight planes: bit `8 * byte + block` of plane `b` is bit `b` of that byte.
+/// Packs the eight blocks of the bytes of eight words into eight planes: bit `8 * byte + block` of plane `b` is bit `b` of that
+/// byte.
 #[inline(always)]
-pub fn pack_eight(blocks: [Block; 8]) -> WidePlanes
-    ensures { (p : ℕ) → p < 128
-        → plane_byte result p ≡ slice_index (slice_index_or blocks (p % 8) []) (p / 8) }
+pub fn pack_eight(words: WidePlanes) -> WidePlanes
+    ensures { (k : ℕ) → k < 8 → wide_block result k ≡ to_le_bytes w128 (slice_index words k) }
 {
-    let [b0, b1, b2, b3, b4, b5, b6, b7] = blocks;
-    transpose_bits([
-        Word::from_block(b0),
-        Word::from_block(b1),
-        Word::from_block(b2),
-        Word::from_block(b3),
-        Word::from_block(b4),
-        Word::from_block(b5),
-        Word::from_block(b6),
-        Word::from_block(b7),
-    ])
+    transpose_bits(words)
 }
 
 /// Unpacks the eight blocks that the planes hold.

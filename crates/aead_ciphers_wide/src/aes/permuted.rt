@@ -10,8 +10,8 @@
 //!
 //! io = j + 1 / (1 / i + a / k) and jo = i + 1 / (1 / j + a / k).
 //!
-//! 1 / 0 is infinite, as is its sum with an element, and 1 / infinite is 0: a number from 128 on stands for it, at which a
-//! look-up gives 0.
+//! 1 / 0 is infinity, as is its sum with an element, and 1 / infinity is 0: in its place the tables have a number from 128 on, at
+//! which a look-up gives 0.
 
 ghost use Rattle.std.specs.Prelude.{◌≡◌, ◌+◌, ◌%◌, map};
 ghost use Rattle.aead_ciphers_base.specs.Aes.{◌⊻◌, at, mix_columns, shift_rows, state, sub_bytes};

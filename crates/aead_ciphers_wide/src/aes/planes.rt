@@ -1,6 +1,6 @@
 //! Planes: bit `p` of plane `b` is bit `b` of byte `p` (FIPS 197 section 5.1.1 for SubBytes).
 
-ghost use Rattle.std.specs.Prelude.{◌≡◌, ◌<◌, ◌+◌, ℕ};
+ghost use Rattle.std.specs.Prelude.{◌≡◌, ◌<◌, ℕ};
 ghost use Rattle.aead_ciphers_base.specs.ByteField.{mul8, sbox};
 ghost use Rattle.aead_ciphers_base.specs.Planes.{plane_byte};
 

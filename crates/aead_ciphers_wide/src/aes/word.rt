@@ -52,14 +52,6 @@ impl Word {
         (low, high)
     }
 
-    /// Returns the number with the bytes of a block, the least significant first.
-    #[inline(always)]
-    pub fn from_block(block: Block) -> Self
-        ensures { to_le_bytes w128 result ≡ block }
-    {
-        Word::from_bytes(u8x16::from_array(block))
-    }
-
     /// Returns the block of the bytes, the least significant first.
     #[inline(always)]
     pub fn to_block(self) -> Block
