@@ -1,7 +1,8 @@
 /* AES-128-GCM and AES-256-GCM for OpenSSL 3: the functions that provider-cipher(7) names, over the calls of deerlapse.h.
  *
- * A message is sealed in one update or in several. It is opened in one, with the tag set before, so that no byte of
- * plaintext is written before the tag is verified. Nonces have 12 bytes, and tags 16. README.md lists what is refused.
+ * A message is sealed in one update or in several. It is opened in one, with the tag set before, or, if the configuration
+ * has `late-tag = yes`, by `final`, in the memory to which the updates have copied the ciphertext: no byte of plaintext is
+ * written before the tag is verified. Nonces have 12 bytes, and tags 16. README.md lists what is refused.
  *
  * A function returns 1, or 0 for a refusal, whose reason is then in OpenSSL's error queue. For a false tag there is none, as
  * with OpenSSL's own ciphers: libssl goes on after some records that it can't open, and an error that was left in the queue
@@ -17,6 +18,7 @@
 enum {
     NONCE = DEERLAPSE_NONCE_LEN,
     TAG = DEERLAPSE_TAG_LEN,
+    SHORTEST_TAG = 12,
     FIXED = EVP_GCM_TLS_FIXED_IV_LEN,
     EXPLICIT = EVP_GCM_TLS_EXPLICIT_IV_LEN,
     RECORD_AAD = EVP_AEAD_TLS1_AAD_LEN
@@ -27,6 +29,7 @@ typedef enum {
     UNNAMED, /* no nonce is set */
     NAMED,   /* one is, and no byte was sealed or opened under it */
     SEALING, /* `message` has begun */
+    WAITING, /* its ciphertext is in `late`, and `final` opens it there */
     OPENED,  /* the message was opened */
     REFUSED, /* it wasn't, which `final` says */
     OVER     /* another nonce is needed */
@@ -44,6 +47,8 @@ typedef struct {
     uint64_t number, left; /* the number of the next, and how many there are */
     bool has_record; /* the next update is a record of TLS 1.2 with this AAD */
     uint8_t record_aad[RECORD_AAD];
+    uint8_t *late; /* of WAITING: what the updates have written, the caller's memory */
+    size_t late_len;
     uint8_t *aad;
     size_t aad_len, aad_room;
     deerlapse_key key;
@@ -100,7 +105,7 @@ static bool append_aad(context *c, const uint8_t *in, size_t len) {
     return true;
 }
 
-/* For EVP_CIPHER_CTX_copy and _dup. */
+/* For EVP_CIPHER_CTX_copy and _dup. A message that waits for its tag is opened by the first context alone. */
 static OSSL_FUNC_cipher_dupctx_fn copy_context;
 static void *copy_context(void *v) {
     const context *from = v;
@@ -113,6 +118,10 @@ static void *copy_context(void *v) {
     if (c == NULL) return NULL;
     c->aad = NULL;
     c->aad_len = c->aad_room = 0;
+    if (c->stage == WAITING) {
+        c->stage = REFUSED;
+        c->why = NO_TAG;
+    }
     if (append_aad(c, from->aad, from->aad_len)) return c;
     free_context(c);
     return NULL;
@@ -131,6 +140,7 @@ static int init(context *c, const uint8_t *key, size_t key_len, const uint8_t *n
     if (key != NULL) {
         c->has_key = key_len == c->key_len && deerlapse_key_init(&c->key, key, key_len);
         if (!c->has_key) return refuse(c->provider, KEY_LENGTH);
+        report_first_key(c->provider);
     }
     if (nonce != NULL) {
         if (nonce_len != NONCE) return refuse(c->provider, NONCE_LENGTH);
@@ -202,19 +212,49 @@ static int give_none(context *c, int why, uint8_t *out, const uint8_t *in, size_
     return 1;
 }
 
-/* Opens the message, which is `in` as a whole. */
-static int open(context *c, uint8_t *out, size_t *out_len, const uint8_t *in, size_t len) {
-    if (c->stage == REFUSED && c->why == NO_TAG) return give_none(c, NO_TAG, out, in, len);
-    if (c->stage != NAMED) return give_none(c, OPENING_IN_PIECES, out, in, len);
-    if (overlap(out, in, len)) return refuse(c->provider, OVERLAP);
-    if (!c->has_tag) return give_none(c, NO_TAG, out, in, len);
-    c->has_tag = false;
-    if (!deerlapse_key_open_to(&c->key, c->nonce, c->aad, c->aad_len, in, len, out, c->tag)) {
-        return give_none(c, 0, out, in, len);
+/* Keeps ciphertext in the caller's memory, after what it continues, until there is a tag. */
+static int wait_for_tag(context *c, uint8_t *out, size_t *out_len, const uint8_t *in, size_t len) {
+    if (c->stage == NAMED) {
+        c->late = out;
+        c->late_len = 0;
     }
-    c->stage = OPENED;
+    c->stage = WAITING;
+    memmove(out, in, len);
+    c->late_len += len;
     *out_len = len;
     return 1;
+}
+
+/* Opens the message, which is `in` as a whole, or keeps a piece of it. For a false tag, zeros are written and their number
+ * is returned, since OpenSSL's own cipher returns that length and some programs abort at another. */
+static int open(context *c, uint8_t *out, size_t *out_len, const uint8_t *in, size_t len) {
+    bool continues = c->stage == WAITING && out == c->late + c->late_len;
+    if (c->stage == REFUSED && c->why == NO_TAG) return give_none(c, NO_TAG, out, in, len);
+    if (c->stage != NAMED && !continues) return give_none(c, OPENING_IN_PIECES, out, in, len);
+    if (overlap(out, in, len)) return refuse(c->provider, OVERLAP);
+    if (continues) return wait_for_tag(c, out, out_len, in, len);
+    if (!c->has_tag && c->provider->late_tag && len > 0) return wait_for_tag(c, out, out_len, in, len);
+    if (!c->has_tag) return give_none(c, NO_TAG, out, in, len);
+    c->has_tag = false;
+    if (deerlapse_key_open_to(&c->key, c->nonce, c->aad, c->aad_len, in, len, out, c->tag)) {
+        c->stage = OPENED;
+    } else {
+        c->stage = REFUSED;
+        c->why = 0;
+        memset(out, 0, len);
+    }
+    *out_len = len;
+    return 1;
+}
+
+/* Opens the message that waits, in place, if there is a tag. Otherwise, or if it is false, its bytes become zeros. */
+static void open_late(context *c) {
+    bool opened = c->has_tag && deerlapse_key_open_separate_tag(&c->key, c->nonce, c->aad, c->aad_len, c->late,
+                                                                c->late_len, 0, c->tag);
+    if (!opened) memset(c->late, 0, c->late_len);
+    c->stage = opened ? OPENED : REFUSED;
+    c->why = c->has_tag ? 0 : NO_TAG;
+    c->has_tag = false;
 }
 
 /* A record of TLS 1.2 or DTLS 1.2, in place: eight bytes of the nonce, the text and the tag (RFC 5288 section 3). */
@@ -283,6 +323,7 @@ static int final(void *v, unsigned char *out, size_t *out_len, size_t out_room) 
         return c->has_tag || refuse(c->provider, TOO_LONG);
     }
     if (c->stage == NAMED) open(c, &none, out_len, &none, 0);
+    if (c->stage == WAITING) open_late(c);
     opened = c->stage == OPENED;
     c->stage = OVER;
     return opened || (c->why != 0 && refuse(c->provider, c->why));
@@ -364,13 +405,15 @@ static bool gives_nonce(const context *c, OSSL_PARAM params[], const char *name)
     return OSSL_PARAM_set_octet_string(param, c->nonce, NONCE) || OSSL_PARAM_set_octet_ptr(param, c->nonce, NONCE);
 }
 
-/* EVP_CTRL_AEAD_GET_TAG, after a message was sealed. */
+/* EVP_CTRL_AEAD_GET_TAG, after a message was sealed: the tag, or its first 12 to 15 bytes (SP 800-38D section 5.2.1.2). */
 static bool gives_tag(const context *c, OSSL_PARAM params[]) {
     OSSL_PARAM *param = OSSL_PARAM_locate(params, OSSL_CIPHER_PARAM_AEAD_TAG);
+    size_t len;
     if (param == NULL) return true;
     if (!c->encrypting || !c->has_tag) return refuse(c->provider, TAG_OF_NO_MESSAGE);
-    if (param->data != NULL && param->data_size != TAG) return refuse(c->provider, TAG_LENGTH);
-    return OSSL_PARAM_set_octet_string(param, c->tag, TAG);
+    len = param->data == NULL ? TAG : param->data_size;
+    if (len < SHORTEST_TAG || len > TAG) return refuse(c->provider, TAG_LENGTH);
+    return OSSL_PARAM_set_octet_string(param, c->tag, len);
 }
 
 /* EVP_CTRL_GCM_IV_GEN: the next nonce is taken, and its last bytes are written, or all if the length is 0. */
@@ -421,7 +464,7 @@ static bool takes_nonce_len(const context *c, const OSSL_PARAM params[]) {
     return param == NULL || (OSSL_PARAM_get_size_t(param, &len) && len == NONCE) || refuse(c->provider, NONCE_LENGTH);
 }
 
-/* EVP_CTRL_AEAD_SET_TAG, before the update that opens the message. */
+/* EVP_CTRL_AEAD_SET_TAG, before the update that opens the message, or before `final` if the message waits for it. */
 static bool takes_tag(context *c, const OSSL_PARAM params[]) {
     const OSSL_PARAM *param = OSSL_PARAM_locate_const(params, OSSL_CIPHER_PARAM_AEAD_TAG);
     const uint8_t *tag;

@@ -6,28 +6,38 @@
 #include <openssl/err.h>
 #include <openssl/params.h>
 #include <openssl/proverr.h>
+#include <stdatomic.h>
+#include <stdio.h>
+#include <strings.h>
 
 #define TEXT_OF(number) #number
 #define DOTTED(major, minor, patch) TEXT_OF(major) "." TEXT_OF(minor) "." TEXT_OF(patch)
 #define VERSION DOTTED(DEERLAPSE_VERSION_MAJOR, DEERLAPSE_VERSION_MINOR, DEERLAPSE_VERSION_PATCH)
 
+#ifdef __x86_64__
+#define LEVEL_OF(number) "x86-64-v" TEXT_OF(number)
+#define PROCESSOR LEVEL_OF(DEERLAPSE_X86_64_LEVEL)
+#else
+#define PROCESSOR "aarch64"
+#endif
+
 static const OSSL_ITEM texts[] = {
-    {KEY_LENGTH, "the key has another length than the cipher's"},
-    {NONCE_LENGTH, "a nonce has 12 bytes"},
-    {TAG_LENGTH, "a tag has 16 bytes, and is set to open a message"},
-    {NO_KEY, "no key is set"},
-    {NO_NONCE, "no nonce is set"},
-    {SECOND_MESSAGE, "a second message before a new nonce"},
-    {LATE_AAD, "AAD after the message has begun"},
-    {OPENING_IN_PIECES, "opening in pieces: a message is opened in one update"},
-    {NO_TAG, "no tag is set before the message is opened"},
-    {LATE_TAG, "a tag is set after the update, and not before"},
-    {TAG_OF_NO_MESSAGE, "no message was sealed to its end, which makes the tag"},
-    {COPY, "a context that seals isn't copied: both would use one nonce"},
-    {SHORT_OUTPUT, "the output is shorter than the input"},
-    {OVERLAP, "the output overlaps the input, and isn't the same"},
-    {TOO_LONG, "the message is too long"},
-    {NO_RECORD, "not a record in place, under a nonce of which the first 4 bytes are fixed"},
+    {KEY_LENGTH, "deerlapse: the key has another length than the cipher's"},
+    {NONCE_LENGTH, "deerlapse: a nonce has 12 bytes"},
+    {TAG_LENGTH, "deerlapse: a tag has 16 bytes, and is set to open a message"},
+    {NO_KEY, "deerlapse: no key is set"},
+    {NO_NONCE, "deerlapse: no nonce is set"},
+    {SECOND_MESSAGE, "deerlapse: a second message before a new nonce"},
+    {LATE_AAD, "deerlapse: AAD after the message has begun"},
+    {OPENING_IN_PIECES, "deerlapse: opening in pieces: a message is opened in one update"},
+    {NO_TAG, "deerlapse: no tag is set before the message is opened"},
+    {LATE_TAG, "deerlapse: a tag is set after the update, and not before"},
+    {TAG_OF_NO_MESSAGE, "deerlapse: no message was sealed to its end, which makes the tag"},
+    {COPY, "deerlapse: a context that seals isn't copied: both would use one nonce"},
+    {SHORT_OUTPUT, "deerlapse: the output is shorter than the input"},
+    {OVERLAP, "deerlapse: the output overlaps the input, and isn't the same"},
+    {TOO_LONG, "deerlapse: the message is too long"},
+    {NO_RECORD, "deerlapse: not a record in place, under a nonce of which the first 4 bytes are fixed"},
     {0, NULL},
 };
 
@@ -40,6 +50,19 @@ int refuse_at(const provider *by, const char *file, int line, const char *functi
     by->vset_error(by->core, (uint32_t)why, format, arguments);
     va_end(arguments);
     return 0;
+}
+
+void report_first_key(const provider *by) {
+    static atomic_flag reported = ATOMIC_FLAG_INIT;
+    if (!by->trace || atomic_flag_test_and_set(&reported)) return;
+    fprintf(stderr, "deerlapse: this process has made a key by deerlapse " VERSION " for " PROCESSOR "\n");
+}
+
+/* Whether a name in the provider's section of the configuration has the value `yes`. */
+static bool is_set(const OSSL_CORE_HANDLE *core, OSSL_FUNC_core_get_params_fn *get, const char *name) {
+    char *value = NULL;
+    OSSL_PARAM asked[] = {OSSL_PARAM_utf8_ptr(name, &value, 0), OSSL_PARAM_END};
+    return get != NULL && get(core, asked) && value != NULL && strcasecmp(value, "yes") == 0;
 }
 
 /* OpenSSL calls it once for each kind of algorithm: the provider has ciphers alone. */
@@ -105,11 +128,13 @@ int OSSL_provider_init(const OSSL_CORE_HANDLE *core, const OSSL_DISPATCH *in, co
         {OSSL_FUNC_PROVIDER_TEARDOWN, (void (*)(void))teardown},
         {0, NULL},
     };
+    OSSL_FUNC_core_get_params_fn *get_configuration = NULL;
     provider *made = OPENSSL_zalloc(sizeof *made);
     if (made == NULL) return 0;
     made->core = core;
     for (; in->function_id != 0; in++) {
         switch (in->function_id) {
+        case OSSL_FUNC_CORE_GET_PARAMS: get_configuration = OSSL_FUNC_core_get_params(in); break;
         case OSSL_FUNC_CORE_NEW_ERROR: made->new_error = OSSL_FUNC_core_new_error(in); break;
         case OSSL_FUNC_CORE_SET_ERROR_DEBUG: made->set_error_debug = OSSL_FUNC_core_set_error_debug(in); break;
         case OSSL_FUNC_CORE_VSET_ERROR: made->vset_error = OSSL_FUNC_core_vset_error(in); break;
@@ -122,6 +147,8 @@ int OSSL_provider_init(const OSSL_CORE_HANDLE *core, const OSSL_DISPATCH *in, co
         OPENSSL_free(made);
         return 0;
     }
+    made->late_tag = is_set(core, get_configuration, "late-tag");
+    made->trace = is_set(core, get_configuration, "trace");
     *out = functions;
     *context = made;
     return 1;

@@ -4,13 +4,17 @@
 
 #include <openssl/core_dispatch.h>
 #include <openssl/crypto.h>
+#include <stdbool.h>
 
-/* A loaded provider: OpenSSL's handle of it, and the functions that put an error into OpenSSL's queue. */
+/* A loaded provider: OpenSSL's handle of it, the functions that put an error into OpenSSL's queue, and what the provider's
+ * section of the configuration says. */
 typedef struct {
     const OSSL_CORE_HANDLE *core;
     OSSL_FUNC_core_new_error_fn *new_error;
     OSSL_FUNC_core_set_error_debug_fn *set_error_debug;
     OSSL_FUNC_core_vset_error_fn *vset_error;
+    bool late_tag; /* late-tag = yes: text may come before its tag */
+    bool trace;    /* trace = yes: the first key of the process is reported */
 } provider;
 
 /* Why a call is refused. The texts, which OpenSSL prints, are in provider.c. */
@@ -36,6 +40,9 @@ typedef enum {
 /* Puts a reason into the queue, and returns 0. The text `format`, if it isn't null, is printed after it. */
 int refuse_at(const provider *by, const char *file, int line, const char *function, int why, const char *format, ...);
 #define refuse(by, why) refuse_at(by, OPENSSL_FILE, OPENSSL_LINE, OPENSSL_FUNC, why, NULL)
+
+/* With `trace = yes`, prints a line to standard error at the first key of the process. */
+void report_first_key(const provider *by);
 
 /* The functions of the two ciphers, in cipher.c. */
 extern const OSSL_DISPATCH aes_128_gcm[], aes_256_gcm[];

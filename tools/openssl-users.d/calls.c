@@ -1,7 +1,8 @@
 /* Calls of EVP on the provider deerlapse, which the configuration of OpenSSL prefers, beside OpenSSL's own cipher: messages,
  * records of TLS 1.2, nonces that are made, and each call that is refused, with the reason in the error queue.
  *
- * Use: calls ROUNDS. It prints how many there were. */
+ * Use: calls ROUNDS [late]. It prints how many there were. With `late`, the configuration has `late-tag = yes`, and the
+ * calls are those that it allows. */
 #include <openssl/core_names.h>
 #include <openssl/err.h>
 #include <openssl/evp.h>
@@ -113,7 +114,8 @@ static bool opens(const EVP_CIPHER *cipher, uint8_t *to, const uint8_t *from) {
     bool opened;
     CHECK(ctrl(ctx, EVP_CTRL_AEAD_SET_TAG, TAG, it.tag));
     add_aad(ctx);
-    opened = update(ctx, to, from, it.len) && final(ctx);
+    CHECK(update(ctx, to, from, it.len));
+    opened = final(ctx);
     EVP_CIPHER_CTX_free(ctx);
     return opened;
 }
@@ -124,16 +126,27 @@ static bool reason_is(const char *text) {
     for (unsigned long error = ERR_get_error(); error != 0; error = ERR_get_error()) {
         const char *by = ERR_lib_error_string(error), *found = ERR_reason_error_string(error);
         if (by == NULL || found == NULL || strcmp(by, "deerlapse") != 0) continue;
-        is = strcmp(found, text) == 0;
+        is = strncmp(found, "deerlapse: ", 11) == 0 && strcmp(found + 11, text) == 0;
         if (!is) fprintf(stderr, "%s, and not: %s\n", found, text);
     }
     return is;
 }
 
-/* Both seal the same, in place too, and each opens it. With a bit flipped, ours doesn't, writes zeros alone, and leaves no
- * error. */
-static void a_message(const pair *by) {
-    uint8_t tag[TAG], *flipped;
+static bool are_zeros(const uint8_t *bytes, size_t len) {
+    for (size_t i = 0; i < len; i++) {
+        if (bytes[i] != 0) return false;
+    }
+    return true;
+}
+
+/* Flips a bit of the sealed text or of the tag. */
+static void forge(void) {
+    uint8_t *flipped = it.len > 0 && some(2) == 0 ? &it.sealed[some((uint32_t)it.len)] : &it.tag[some(TAG)];
+    *flipped ^= (uint8_t)(1 << some(8));
+}
+
+/* Another message, sealed by OpenSSL's own. */
+static void some_message(const pair *by) {
     fill(it.key, sizeof it.key);
     fill(it.nonce, NONCE);
     it.aad_len = some(4) == 0 ? 0 : some(MAX_AAD);
@@ -141,6 +154,13 @@ static void a_message(const pair *by) {
     fill(it.aad, it.aad_len);
     fill(it.text, it.len);
     seal(by->theirs, it.sealed, it.tag, it.text, 1);
+}
+
+/* Both seal the same, in place too, and each opens it. With a bit flipped, ours writes as many zeros, in place too, and the
+ * end is refused without an error. */
+static void a_message(const pair *by) {
+    uint8_t tag[TAG];
+    some_message(by);
     seal(by->ours, out, tag, it.text, 1 + some(MAX_PIECES));
     CHECK(memcmp(out, it.sealed, it.len) == 0 && memcmp(tag, it.tag, TAG) == 0);
     memcpy(out, it.text, it.len);
@@ -151,11 +171,11 @@ static void a_message(const pair *by) {
     CHECK(opens(by->ours, out, it.sealed) && memcmp(out, it.text, it.len) == 0 && out[it.len] == 0xa7);
     CHECK(opens(by->theirs, out, it.sealed) && memcmp(out, it.text, it.len) == 0);
     CHECK(ERR_peek_error() == 0);
-    flipped = it.len > 0 && some(2) == 0 ? &it.sealed[some((uint32_t)it.len)] : &it.tag[some(TAG)];
-    *flipped ^= (uint8_t)(1 << some(8));
+    forge();
     memset(out, 0xa7, it.len);
-    CHECK(!opens(by->ours, out, it.sealed) && ERR_peek_error() == 0);
-    for (size_t i = 0; i < it.len; i++) CHECK(out[i] == 0);
+    CHECK(!opens(by->ours, out, it.sealed) && ERR_peek_error() == 0 && are_zeros(out, it.len));
+    memcpy(out, it.sealed, it.len);
+    CHECK(!opens(by->ours, out, out) && ERR_peek_error() == 0 && are_zeros(out, it.len));
     messages++;
 }
 
@@ -218,9 +238,14 @@ static bool other_nonce_len(EVP_CIPHER_CTX *ctx) { return ctrl(ctx, EVP_CTRL_AEA
 
 static bool short_tag(EVP_CIPHER_CTX *ctx) { return ctrl(ctx, EVP_CTRL_AEAD_SET_TAG, 12, it.tag); }
 
+/* The first 12 to 15 bytes of a tag are given, and no fewer. */
 static bool short_tag_of_sealing(EVP_CIPHER_CTX *ctx) {
-    CHECK(final(ctx));
-    return ctrl(ctx, EVP_CTRL_AEAD_GET_TAG, 12, out);
+    uint8_t tag[TAG], part[TAG];
+    CHECK(final(ctx) && ctrl(ctx, EVP_CTRL_AEAD_GET_TAG, TAG, tag));
+    for (int len = 12; len < TAG; len++) {
+        CHECK(ctrl(ctx, EVP_CTRL_AEAD_GET_TAG, len, part) && memcmp(part, tag, (size_t)len) == 0);
+    }
+    return ctrl(ctx, EVP_CTRL_AEAD_GET_TAG, 11, out);
 }
 
 static bool tag_while_sealing(EVP_CIPHER_CTX *ctx) { return ctrl(ctx, EVP_CTRL_AEAD_SET_TAG, TAG, it.tag); }
@@ -302,8 +327,7 @@ static void give_none(EVP_CIPHER_CTX *ctx, size_t from, size_t to) {
     memset(out, 0xa7, sizeof out);
     CHECK(EVP_DecryptUpdate(ctx, out, &written, it.sealed + from, (int)(to - from)) && written == 0);
     CHECK(ERR_peek_error() == 0);
-    for (size_t i = 0; i < to - from; i++) CHECK(out[i] == 0);
-    CHECK(out[to - from] == 0xa7);
+    CHECK(are_zeros(out, to - from) && out[to - from] == 0xa7);
 }
 
 static bool no_tag(EVP_CIPHER_CTX *ctx) {
@@ -330,9 +354,10 @@ static bool second_tag(EVP_CIPHER_CTX *ctx) {
     return ctrl(ctx, EVP_CTRL_AEAD_SET_TAG, TAG, it.tag);
 }
 
+/* The first piece has a false tag, as of a whole message. */
 static bool pieces(EVP_CIPHER_CTX *ctx) {
     CHECK(ctrl(ctx, EVP_CTRL_AEAD_SET_TAG, TAG, it.tag));
-    give_none(ctx, 0, it.len / 2);
+    CHECK(update(ctx, out, it.sealed, it.len / 2) && are_zeros(out, it.len / 2));
     give_none(ctx, it.len / 2, it.len);
     return final(ctx);
 }
@@ -448,19 +473,84 @@ static void copies(const pair *by) {
     EVP_CIPHER_CTX_free(to);
 }
 
+/* With `late-tag = yes`: so many pieces of ciphertext, one after the other, in place too, are given out as they are. */
+static EVP_CIPHER_CTX *waiting(const pair *by, unsigned pieces) {
+    EVP_CIPHER_CTX *ctx = context(by->ours, false);
+    const uint8_t *from = some(2) == 0 ? out : it.sealed;
+    size_t done = 0, len;
+    memset(out, 0xa7, sizeof out);
+    if (from == out) memcpy(out, it.sealed, it.len);
+    add_aad(ctx);
+    for (; pieces > 0; pieces--, done += len) {
+        len = pieces == 1 ? it.len - done : some((uint32_t)(it.len - done) + 1);
+        CHECK(update(ctx, out + done, from + done, len));
+    }
+    CHECK(memcmp(out, it.sealed, it.len) == 0);
+    return ctx;
+}
+
+static bool set_tag(EVP_CIPHER_CTX *ctx) { return ctrl(ctx, EVP_CTRL_AEAD_SET_TAG, TAG, it.tag); }
+
+/* The end opens the message where its ciphertext was given out; for a false tag, and for none, zeros are left. */
+static void late_tags(const pair *by) {
+    EVP_CIPHER_CTX *ctx;
+    some_message(by);
+    ctx = waiting(by, 1 + some(MAX_PIECES));
+    CHECK(set_tag(ctx) && final(ctx) && memcmp(out, it.text, it.len) == 0 && out[it.len] == 0xa7);
+    CHECK(!final(ctx) && reason_is("a second message before a new nonce"));
+    EVP_CIPHER_CTX_free(ctx);
+    ctx = waiting(by, 1 + some(MAX_PIECES));
+    CHECK(!final(ctx) && reason_is("no tag is set before the message is opened") && are_zeros(out, it.len));
+    EVP_CIPHER_CTX_free(ctx);
+    forge();
+    ctx = waiting(by, 1 + some(MAX_PIECES));
+    CHECK(set_tag(ctx) && !final(ctx) && ERR_peek_error() == 0 && are_zeros(out, it.len) && out[it.len] == 0xa7);
+    EVP_CIPHER_CTX_free(ctx);
+    messages++;
+}
+
+/* What is refused with `late-tag = yes` too, and a tag that is set between two pieces, which isn't. */
+static void late_refusals(const pair *by) {
+    EVP_CIPHER_CTX *ctx = context(by->ours, false), *copy = EVP_CIPHER_CTX_new();
+    int written = -1;
+    it.aad_len = 0;
+    it.len = 100;
+    seal(by->theirs, it.sealed, it.tag, it.text, 1);
+    CHECK(update(ctx, out, it.sealed, 40) && copy != NULL && EVP_CIPHER_CTX_copy(copy, ctx));
+    CHECK(!set_tag(copy) && reason_is("a tag is set after the update, and not before"));
+    CHECK(!final(copy) && reason_is("no tag is set before the message is opened"));
+    CHECK(set_tag(ctx) && update(ctx, out + 40, it.sealed + 40, 60) && final(ctx) && memcmp(out, it.text, 100) == 0);
+    EVP_CIPHER_CTX_free(copy);
+    EVP_CIPHER_CTX_free(ctx);
+    ctx = context(by->ours, false);
+    CHECK(update(ctx, out, it.sealed, 40));
+    CHECK(EVP_DecryptUpdate(ctx, out + 41, &written, it.sealed + 40, 60) && written == 0 && are_zeros(out + 41, 60));
+    CHECK(!final(ctx) && reason_is("opening in pieces: a message is opened in one update"));
+    EVP_CIPHER_CTX_free(ctx);
+    ctx = context(by->ours, false);
+    CHECK(!pieces(ctx) && reason_is("opening in pieces: a message is opened in one update"));
+    EVP_CIPHER_CTX_free(ctx);
+    refusals += 4;
+}
+
 int main(int argc, char **argv) {
-    long rounds = argc == 2 ? strtol(argv[1], NULL, 10) : 0;
-    CHECK(rounds > 0);
+    long rounds = argc == 2 || argc == 3 ? strtol(argv[1], NULL, 10) : 0;
+    bool late = argc == 3 && strcmp(argv[2], "late") == 0;
+    CHECK(rounds > 0 && late == (argc == 3));
     fetch(&pairs[0], "AES-128-GCM", "id-aes128-GCM", "2.16.840.1.101.3.4.1.6", 16);
     fetch(&pairs[1], "AES-256-GCM", "id-aes256-GCM", "2.16.840.1.101.3.4.1.46", 32);
     for (int i = 0; i < 2; i++) {
-        for (long round = 0; round < rounds; round++) a_message(&pairs[i]);
+        for (long round = 0; round < rounds; round++) {
+            a_message(&pairs[i]);
+            if (late) late_tags(&pairs[i]);
+        }
         fill(it.text, sizeof it.text);
         some_records(pairs[i].ours, pairs[i].theirs, false);
         some_records(pairs[i].theirs, pairs[i].ours, true);
         some_records(pairs[i].ours, pairs[i].ours, true);
         made_nonces(&pairs[i]);
-        refuses(&pairs[i]);
+        if (late) late_refusals(&pairs[i]);
+        else refuses(&pairs[i]);
         copies(&pairs[i]);
         one_after_the_other(&pairs[i]);
         EVP_CIPHER_free(pairs[i].ours);
