@@ -29,6 +29,10 @@ pub enum Failure {
     KeyExists,
     /// OUT is the same file as IN.
     SameFile,
+    /// OUT is the file with the key or the passphrase.
+    SecretFile,
+    /// OUT exists, and it is not known whether it is IN or the file with the key or the passphrase.
+    Unidentified,
     /// OUT exists, and is not a regular file.
     NotRegular,
     /// The AAD has more than `MAX_AAD_LEN` bytes.

@@ -14,7 +14,7 @@ ghost use Rattle.std.specs.Prelude.{◌≤◌, length};
 use failure::{Failure, Place};
 use name::Name;
 use options::{Action, Conversion, HELP, Request, SecretFile, VERSION};
-use output::{NUMBER_LEN, NewFile, check_target};
+use output::{Inputs, NUMBER_LEN, NewFile, check_target};
 use progress::Source;
 use range::{Range, RangeWriter};
 use sealed_file::{
@@ -74,6 +74,14 @@ fn report(rt: &HostRuntime, request: &Request, failure: &Failure) -> ExitCode {
             Place::Output,
             &"input and output are the same file",
         ),
+        Failure::SecretFile => {
+            let text = "the key or the passphrase is in this file";
+            say(rt, request, Place::Output, &text)
+        }
+        Failure::Unidentified => {
+            let text = "this may be the file on standard input, which cannot be identified";
+            say(rt, request, Place::Output, &text)
+        }
         Failure::AadTooLong => eprintln!(rt; "seal_file: --aad takes at most {MAX_AAD_LEN} bytes"),
         Failure::Terminal => {
             let text = "a sealed file is not written to a terminal: give -o OUT, or -o -";
@@ -154,7 +162,8 @@ fn inspect(rt: &HostRuntime, name: &Name, key_file: Option<&Name>) -> Result<(),
         Err(error) => return Err(Failure::Refused(error)),
     }
     if let Some(key_file) = key_file {
-        if !read_key(rt, key_file)?.is_of(&header) {
+        let (key, _) = read_key(rt, key_file)?;
+        if !key.is_of(&header) {
             return Err(Failure::Refused(FileError::WrongKey));
         }
         at(
@@ -183,7 +192,7 @@ fn print_len(rt: &HostRuntime, metadata: &Metadata, iterations: Option<u32>) -> 
     }
     match plaintext_len(metadata.len().saturating_sub(more as u64)) {
         Some(len) => println!(rt; "length {len}, unless the file was cut"),
-        None => println!(rt; "no sealed file has this length: the file was cut"),
+        None => println!(rt; "no sealed file has this length: bytes were cut off or appended"),
     }
 }
 
@@ -192,21 +201,25 @@ fn convert(rt: &HostRuntime, conversion: &Conversion) -> Result<(), Failure> {
     if conversion.seals_to_unnamed_stdout() && rt.stdout().is_terminal() {
         return Err(Failure::Terminal);
     }
-    let secret = match &conversion.secret_file {
-        SecretFile::Key(name) => Secret::Key(read_key(rt, name)?),
-        SecretFile::Passphrase(name) => Secret::Passphrase(read_passphrase(rt, name.as_ref())?),
-    };
+    let (secret, of_secret) = read_secret(rt, &conversion.secret_file)?;
     match &conversion.input {
         Some(name) => {
             let file = at(Place::Input, files::open(rt, name))?;
             let metadata = file.metadata().ok();
-            convert_file(rt, conversion, &secret, file, metadata.as_ref())
+            let inputs = Inputs {
+                input: metadata.as_ref(),
+                secret: of_secret.as_ref(),
+            };
+            convert_file(rt, conversion, &secret, file, inputs)
         }
         None => {
             let metadata = files::stdin_metadata(rt).ok();
-            let source = source_of(rt, conversion, rt.reader(), metadata.as_ref());
-            let input = Input::Stream(source, &secret);
-            convert_from(rt, conversion, input, metadata.as_ref())
+            let inputs = Inputs {
+                input: metadata.as_ref(),
+                secret: of_secret.as_ref(),
+            };
+            let source = source_of(rt, conversion, rt.reader(), inputs.input);
+            convert_from(rt, conversion, Input::Stream(source, &secret), inputs)
         }
     }
 }
@@ -240,33 +253,32 @@ fn source_of<'a, R: Read + Drop>(
     Source::new(rt, input, len, is_shown)
 }
 
-/// Converts from an open file with this metadata. A part of a regular file is read at its place, if it is sealed under a key.
+/// Converts from an open file. A part of a regular file is read at its place, if it is sealed under a key.
 fn convert_file(
     rt: &HostRuntime,
     conversion: &Conversion,
     secret: &Secret,
     file: File,
-    metadata: Option<&Metadata>,
+    inputs: Inputs<'_>,
 ) -> Result<(), Failure> {
+    let is_file = inputs.input.is_some_and(|metadata| metadata.is_file());
     let input = match (conversion.range, secret) {
-        (Some(range), Secret::Key(key)) if metadata.is_some_and(|metadata| metadata.is_file()) => {
-            Input::Part(file, range, key)
-        }
-        _ => Input::Stream(source_of(rt, conversion, file, metadata), secret),
+        (Some(range), Secret::Key(key)) if is_file => Input::Part(file, range, key),
+        _ => Input::Stream(source_of(rt, conversion, file, inputs.input), secret),
     };
-    convert_from(rt, conversion, input, metadata)
+    convert_from(rt, conversion, input, inputs)
 }
 
-/// Converts from a file or a stream with this metadata.
+/// Converts from a file or a stream.
 fn convert_from<R: Read + Drop>(
     rt: &HostRuntime,
     conversion: &Conversion,
     input: Input<'_, R>,
-    metadata: Option<&Metadata>,
+    inputs: Inputs<'_>,
 ) -> Result<(), Failure> {
     match &conversion.output {
         Some(name) => {
-            let mode = check_target(rt, name, metadata, conversion.has_force)?;
+            let mode = check_target(rt, name, inputs, conversion.has_force)?;
             convert_to(rt, conversion, input, (name, mode))
         }
         None => {
@@ -424,48 +436,75 @@ fn of_reading(error: FileError) -> Failure {
     }
 }
 
-/// Warns if others may read the file with the key or the passphrase.
-fn warn(rt: &HostRuntime, name: &Name, file: &File, what: &str) {
-    if let Ok(metadata) = file.metadata() {
-        if files::others_may_read(&metadata) {
-            let _ = eprintln!(rt; "seal_file: {name}: warning: others may read this {what}");
+/// Returns the key or the passphrase, and the metadata of its file.
+fn read_secret(
+    rt: &HostRuntime,
+    secret_file: &SecretFile,
+) -> Result<(Secret, Option<Metadata>), Failure> {
+    match secret_file {
+        SecretFile::Key(name) => {
+            let (key, metadata) = read_key(rt, name)?;
+            Ok((Secret::Key(key), metadata))
+        }
+        SecretFile::Passphrase(name) => {
+            let (text, metadata) = read_passphrase(rt, name.as_ref())?;
+            Ok((Secret::Passphrase(text), metadata))
         }
     }
 }
 
-/// Returns the passphrase in a file, or on standard input: its bytes without one newline at their end.
-fn read_passphrase(rt: &HostRuntime, name: Option<&Name>) -> Result<Vec<u8>, Failure> {
+/// Returns the metadata of the file with the key or the passphrase. Warns if it is a regular file that others may read.
+fn examine(rt: &HostRuntime, name: &Name, file: &File, what: &str) -> Option<Metadata> {
+    let metadata = file.metadata().ok()?;
+    if metadata.is_file() && files::others_may_read(&metadata) {
+        let _ = eprintln!(rt; "seal_file: {name}: warning: others may read this {what}");
+    }
+    Some(metadata)
+}
+
+/// Returns the passphrase in a file, or on standard input: its bytes without one newline at their end. Warns if a carriage return
+/// comes before that.
+fn read_passphrase(
+    rt: &HostRuntime,
+    name: Option<&Name>,
+) -> Result<(Vec<u8>, Option<Metadata>), Failure> {
     let mut bytes = Vec::new(rt.alloc());
     let most = MAX_PASSPHRASE_LEN as u64 + 2;
-    let read = match name {
+    let (read, metadata) = match name {
         Some(name) => {
             let file = at(Place::PassphraseFile, files::open(rt, name))?;
-            warn(rt, name, &file, "passphrase");
-            file.take(most).read_to_end(&mut bytes)
+            let metadata = examine(rt, name, &file, "passphrase");
+            (file.take(most).read_to_end(&mut bytes), metadata)
         }
-        None => rt.reader().take(most).read_to_end(&mut bytes),
+        None => {
+            let metadata = files::stdin_metadata(rt).ok();
+            (rt.reader().take(most).read_to_end(&mut bytes), metadata)
+        }
     };
     at(Place::PassphraseFile, read)?;
     if bytes.last() == Some(&b'\n') {
         bytes.pop();
+        if bytes.last() == Some(&b'\r') {
+            let _ = eprintln!(rt; "seal_file: warning: the passphrase ends with a carriage return");
+        }
     }
     if bytes.is_empty() || bytes.len() > MAX_PASSPHRASE_LEN {
         return Err(Failure::PassphraseLength);
     }
-    Ok(bytes)
+    Ok((bytes, metadata))
 }
 
-/// Returns the key in a file of 32 bytes. Warns if others may read the file.
-fn read_key(rt: &HostRuntime, name: &Name) -> Result<FileKey, Failure> {
+/// Returns the key in a file of 32 bytes, and the metadata of the file.
+fn read_key(rt: &HostRuntime, name: &Name) -> Result<(FileKey, Option<Metadata>), Failure> {
     let file = at(Place::KeyFile, files::open(rt, name))?;
-    warn(rt, name, &file, "key");
+    let metadata = examine(rt, name, &file, "key");
     let mut bytes = Vec::new(rt.alloc());
     at(
         Place::KeyFile,
         file.take(KEY_LEN as u64 + 1).read_to_end(&mut bytes),
     )?;
     match FileKey::new(&bytes) {
-        Ok(key) => Ok(key),
+        Ok(key) => Ok((key, metadata)),
         Err(_) => Err(Failure::KeyLength),
     }
 }

@@ -20,15 +20,46 @@ pub struct SyncedFile {
     name: Name,
 }
 
+/// The files that are read, of which OUT is to be none. One is `None` if it cannot be identified: standard input, if /proc is not
+/// mounted.
+#[derive(Clone, Copy)]
+pub struct Inputs<'a> {
+    /// IN.
+    pub input: Option<&'a Metadata>,
+    /// The file with the key or the passphrase.
+    pub secret: Option<&'a Metadata>,
+}
+
+impl Inputs<'_> {
+    /// Checks that a file is none of these.
+    fn check_apart(self, there: &Metadata) -> Result<(), Failure> {
+        if self.input.is_some_and(|from| files::are_same(from, there)) {
+            return Err(Failure::SameFile);
+        }
+        if self.secret.is_some_and(|from| files::are_same(from, there)) {
+            return Err(Failure::SecretFile);
+        }
+        Ok(())
+    }
+
+    /// Checks that each can be identified.
+    fn check_known(self) -> Result<(), Failure> {
+        if self.input.is_none() || self.secret.is_none() {
+            return Err(Failure::Unidentified);
+        }
+        Ok(())
+    }
+}
+
 /// The mode of a file that replaces none, less the process's umask.
 const NEW_MODE: u32 = 0o666;
 
-/// Checks that OUT is not IN, a directory or a device and, unless forced, does not exist. Returns the mode of the file that
-/// is replaced, if there is one.
+/// Checks that OUT is not a file that is read, a directory or a device and, unless forced, does not exist. Returns the mode of
+/// the file that is replaced, if there is one.
 pub fn check_target(
     rt: &HostRuntime,
     target: &Name,
-    input: Option<&Metadata>,
+    inputs: Inputs<'_>,
     has_force: bool,
 ) -> Result<Option<u32>, Failure> {
     let there = match files::metadata_of(rt, target) {
@@ -38,12 +69,11 @@ pub fn check_target(
         }
         Err(error) => return Err(Failure::Io(Place::Output, error)),
     };
-    if input.is_some_and(|from| files::are_same(from, &there)) {
-        return Err(Failure::SameFile);
-    }
+    inputs.check_apart(&there)?;
     if !has_force {
         return Err(Failure::Exists);
     }
+    inputs.check_known()?;
     if !there.is_file() {
         return Err(Failure::NotRegular);
     }
