@@ -55,9 +55,10 @@ typedef struct {
     deerlapse_message message;
 } context;
 
-/* Gives up a message whose nonce is used, with the keystream that is kept of it. */
+/* Gives up a message whose nonce is used, with the keystream that is kept of it, or with the tag for which it waited. */
 static void give_up(context *c) {
     if (c->stage == SEALING) OPENSSL_cleanse(&c->message, sizeof c->message);
+    if (c->stage == WAITING) c->has_tag = false;
     if (c->stage != UNNAMED && c->stage != NAMED) c->stage = OVER;
     c->aad_len = 0;
 }

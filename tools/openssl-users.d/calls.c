@@ -531,6 +531,11 @@ static void late_refusals(const pair *by) {
     CHECK(!pieces(ctx) && reason_is("opening in pieces: a message is opened in one update"));
     EVP_CIPHER_CTX_free(ctx);
     refusals += 4;
+    /* a message that is given up, with its tag, before the next one */
+    ctx = context(by->ours, false);
+    CHECK(update(ctx, out, it.sealed, 40) && set_tag(ctx) && EVP_DecryptInit_ex(ctx, NULL, NULL, NULL, it.nonce));
+    CHECK(update(ctx, out, it.sealed, 100) && set_tag(ctx) && final(ctx) && memcmp(out, it.text, 100) == 0);
+    EVP_CIPHER_CTX_free(ctx);
 }
 
 int main(int argc, char **argv) {
