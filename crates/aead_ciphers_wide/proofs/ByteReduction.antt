@@ -1,11 +1,13 @@
 -- Sixteen multiplications by u^8 at once, as the code makes them on a number.
 use Rattle.std.proofs.Common.{◌≡◌, ℕ, zero, suc, ◌+◌, ◌*◌, ◌/◌, ◌%◌, ◌^◌, ◌<◌, true, refl, sym, ap, ap₂, ◌∙◌, arith, ◌==◌, bit_xor, bit_and}
 use Rattle.std.specs.Int.{to_be_bytes, w128}
-use Rattle.std.proofs.lemmas.Nat.{and_mask, xor_lt, and_le_l}
+use Rattle.std.proofs.Math.Nat.{div-le_self}
+use Rattle.std.proofs.lemmas.Nat.{and_mask, xor_block, xor_lt, xor_mod, xor_shr, and_le_l}
 use Rattle.aead_ciphers_base.proofs.NumberBits.{IsAdditive, same_additive, all_below, same_below, by_digits}
 use Rattle.aead_ciphers_base.proofs.AdditiveLemmas.{additive_and, additive_shr, additive_shl, additive_xor, additive_after, xor_four}
 use Rattle.aead_ciphers.specs.Ghash.{◌•◌}
 use Rattle.aead_ciphers_wide.specs.Products.{stepped}
+use Rattle.aead_ciphers_wide.specs.Word.{each_lane}
 use Rattle.aead_ciphers.proofs.GhashBits.{mask}
 use Rattle.aead_ciphers.proofs.ProductLoop.{next_multiple, reduction}
 use Rattle.aead_ciphers.proofs.SubkeyMultiples.{IsRaised, raised_next, block_of-multiple}
@@ -48,44 +50,58 @@ pub further_fits : (n v : ℕ) → v < 2 ^ 128 → further n v < 2 ^ 128
 further_fits zero v h = h
 further_fits (suc n) v h = next_fits (further n v) (further_fits n v h)
 
--- ---- u^128 times a number, by shifts
+-- ---- u^128 times a number, by shifts of its lanes
 
 abbrev left : ℕ → ℕ → ℕ
-left k s = s * 2 ^ k % 2 ^ 128
+left k s = each_lane (λ x. x * 2 ^ k % 2 ^ 64) s
 
--- the number and what its shifts to the right lose
-abbrev pub kept : ℕ → ℕ
-kept s = bit_xor s (bit_xor (bit_xor (left 127 s) (left 126 s)) (left 121 s))
+abbrev right : ℕ → ℕ → ℕ
+right k s = each_lane (λ x. x / 2 ^ k) s
 
-abbrev spread : ℕ → ℕ
-spread t = bit_xor (bit_xor (bit_xor t (t / 2 ^ 1)) (t / 2 ^ 2)) (t / 2 ^ 7)
-
--- what the code adds
+-- what the code adds: a number shifted to the right by 0, 1, 2 and 7 bits, where the high lane's lowest bits are the low lane's highest
 abbrev pub folded : ℕ → ℕ
-folded s = spread (kept s)
+folded s =
+    let high = s / 2 ^ 64 in
+    bit_xor (bit_xor (bit_xor (bit_xor (bit_xor (bit_xor s (right 1 s)) (right 2 s)) (right 7 s)) (left 63 high)) (left 62 high)) (left 57 high)
 
-kept_additive : IsAdditive kept
-kept_additive =
-    additive_xor (λ s. s) (λ s. bit_xor _ (left 121 s)) (λ a b. refl)
-    (additive_xor (λ s. bit_xor _ (left 126 s)) (left 121)
-    (additive_xor (left 127) (left 126) (additive_shl 127 128) (additive_shl 126 128)) (additive_shl 121 128))
+each_lane_additive : (f : ℕ → ℕ) → ((x : ℕ) → x < 2 ^ 64 → f x < 2 ^ 64) → IsAdditive f → IsAdditive (each_lane f)
+unfolding each_lane
+each_lane_additive f fits additive a b =
+    ap₂ (λ x y. f x * 2 ^ 64 + f y) (xor_shr a b 64) (xor_mod a b 64)
+    ∙ ap₂ (λ x y. x * 2 ^ 64 + y) (additive (a / 2 ^ 64) (b / 2 ^ 64)) (additive (a % 2 ^ 64) (b % 2 ^ 64))
+    ∙ sym (xor_block 64 (f (a / 2 ^ 64)) (f (b / 2 ^ 64)) (f (a % 2 ^ 64)) (f (b % 2 ^ 64)) (fits (a % 2 ^ 64) (omega arith)) (fits (b % 2 ^ 64) (omega arith)))
 
-spread_additive : IsAdditive spread
-spread_additive =
-    additive_xor (λ t. bit_xor (bit_xor t (t / 2 ^ 1)) (t / 2 ^ 2)) (λ t. t / 2 ^ 7)
-    (additive_xor (λ t. bit_xor t (t / 2 ^ 1)) (λ t. t / 2 ^ 2) (additive_xor (λ t. t) (λ t. t / 2 ^ 1) (λ a b. refl) (additive_shr 1)) (additive_shr 2))
-    (additive_shr 7)
+left_additive : (k : ℕ) → IsAdditive (left k)
+left_additive k = each_lane_additive (λ x. x * 2 ^ k % 2 ^ 64) (λ x h. omega arith) (additive_shl k 64)
+
+right_additive : (k : ℕ) → IsAdditive (right k)
+right_additive k = each_lane_additive (λ x. x / 2 ^ k) (λ x h. omega (arith, div-le_self x (2 ^ k))) (additive_shr k)
 
 folded_additive : IsAdditive folded
-folded_additive = additive_after spread kept spread_additive kept_additive
+folded_additive =
+    let shifted = λ (k : ℕ) (f : ℕ → ℕ) (hf : IsAdditive f). additive_xor f (right k) hf (right_additive k) in
+    let lowest = λ (k : ℕ) (f : ℕ → ℕ) (hf : IsAdditive f).
+    additive_xor f (λ s. left k (s / 2 ^ 64)) hf (additive_after (left k) (λ s. s / 2 ^ 64) (left_additive k) (additive_shr 64)) in
+    lowest 57 _ (lowest 62 _ (lowest 63 _ (shifted 7 _ (shifted 2 _ (shifted 1 (λ s. s) (λ a b. refl))))))
 
-folded_test : all_below (λ j. further 128 (2 ^ j) == folded (2 ^ j)) 128 ≡ true
+-- a number whose lowest byte is 0
+abbrev without_byte : ℕ → ℕ
+without_byte t = t * 2 ^ 8 % 2 ^ 128
+
+folded_test : all_below (λ j. further 128 (without_byte (2 ^ j)) == folded (without_byte (2 ^ j))) 120 ≡ true
+unfolding each_lane
 folded_test = refl
 
-pub folded_is : (s : ℕ) → s < 2 ^ 128 → further 128 s ≡ folded s
-folded_is s h =
-    same_additive (further 128) folded (further_additive 128) folded_additive 128
-    (λ i lt. same_below (λ j. further 128 (2 ^ j)) (λ j. folded (2 ^ j)) 128 i folded_test lt) s h
+pub folded_is : (s : ℕ) → s < 2 ^ 128 → s % 256 ≡ 0 → further 128 s ≡ folded s
+folded_is s h none =
+    let same : without_byte (s / 256) ≡ s = omega arith in
+    let below : s / 256 < 2 ^ 120 = omega arith in
+    let shl = additive_shl 8 128 in
+    sym (ap (further 128) same)
+    ∙ same_additive (λ t. further 128 (without_byte t)) (λ t. folded (without_byte t))
+    (additive_after (further 128) without_byte (further_additive 128) shl) (additive_after folded without_byte folded_additive shl) 120
+    (λ i lt. same_below (λ j. further 128 (without_byte (2 ^ j))) (λ j. folded (without_byte (2 ^ j))) 120 i folded_test lt) (s / 256) below
+    ∙ ap folded same
 
 -- ---- blocks
 

@@ -6,7 +6,7 @@ use Rattle.std.specs.Int.Bits.{xor_shifted}
 use Rattle.std.specs.Simd.Lanes.{Each1, put_chunk}
 use Rattle.std.proofs.lemmas.Simd.{Each1-get_or, get_or-put_chunk_above, get_or-put_chunk_at, get_or-put_chunk_below, length-put_chunk}
 use Rattle.std.proofs.lemmas.Bool.{cases_lt}
-use Rattle.std.proofs.lemmas.List.{get_or_default, get_or_append_left, get_or-append_right, get_or_past, length-replicate}
+use Rattle.std.proofs.lemmas.List.{get_or_append_left, get_or-append_right, get_or_past, length-replicate}
 use Rattle.std.proofs.lemmas.List.FromFn.{fill_by_all}
 use Rattle.aead_ciphers_base.specs.Bytes.{◌⊕◌, zero_block, each_below}
 use Rattle.aead_ciphers_base.proofs.EachLemmas.{each-same, get_or-each, length-each}
@@ -352,9 +352,6 @@ turn first second bytes W k size size' size'' within last before here =
 pub IsBlock-vector : (xs : List ℕ) → length xs ≡ 16 → Each1 (Fits w8) xs → IsBlock xs
 IsBlock-vector xs size fits = record { size = size; bytes = λ k d lt. (Each1-get_or (Fits w8) xs k d lt fits).fits }
 
-pub IsBlock-bytes : (xs : List ℕ) → length xs ≡ 16 → ((k : ℕ) → k < length xs → slice_index xs k < 256) → IsBlock xs
-IsBlock-bytes xs size small = record { size = size; bytes = λ k d lt. subst (λ byte. byte < 256) (get_or_default xs k 0 d lt) (small k lt) }
-
 -- the two halves of the sum
 pair_is : (first second : List ℕ) → IsBlock first → IsBlock second → pair_value first second ≡ first ⊕ u128_times second
 unfolding u128_times
@@ -435,10 +432,10 @@ pub start_value : (W : ℕ → List ℕ) → pair_value (replicate 16 0) (replic
 unfolding ladder
 start_value W = padded_value (replicate 16 0) refl ∙ block_ladder zero_block IsBlock-zero
 
-pub moved_zeros : (x k : ℕ) (second : List ℕ) → ((i : ℕ) → k ≤ i → slice_index second i ≡ 0)
-    → (i : ℕ) → k + 1 ≤ i → slice_index (x ∷ each_below 15 (λ i. slice_index second i)) i ≡ 0
-moved_zeros x k second zeros zero h = absurd (omega arith)
-moved_zeros x k second zeros (suc i) h = elim (cases_lt i 15) [
+pub moved_zeros : (x k : ℕ) (second : List ℕ) → (k ≡ 0 → x ≡ 0) → ((i : ℕ) → k ≤ i + 1 → slice_index second i ≡ 0)
+    → (i : ℕ) → k + 1 ≤ i + 1 → slice_index (x ∷ each_below 15 (λ i. slice_index second i)) i ≡ 0
+moved_zeros x k second empty zeros zero h = empty (omega arith)
+moved_zeros x k second empty zeros (suc i) h = elim (cases_lt i 15) [
   | inl less ↦ get_or-each 15 (λ i. slice_index second i) i 0 less ∙ zeros i (omega arith)
   | inr past ↦ get_or_past (each_below 15 (λ i. slice_index second i)) i 0 (omega (arith, length-each 15 (λ i. slice_index second i)))
 ]

@@ -1,13 +1,11 @@
 -- Counter blocks in the bytes of words.
-use Rattle.std.proofs.Common.{◌≡◌, ℕ, suc, ◌+◌, ◌-◌, ◌*◌, ◌/◌, ◌%◌, ◌^◌, ◌<◌, List, [], ◌∷◌, ◌++◌, length, take, drop, slice_index, append-nil, refl, ap, ap₂, ◌∙◌, subst, arith, length-drop, length-take-le}
+use Rattle.std.proofs.Common.{◌≡◌, ℕ, suc, ◌+◌, ◌-◌, ◌*◌, ◌/◌, ◌%◌, ◌^◌, ◌<◌, List, [], ◌∷◌, ◌++◌, length, take, slice_index, refl, sym, ap, ap₂, ◌∙◌, arith, length-take-le, take_all}
 use Rattle.std.specs.Int.{to_be_bytes, w32}
 use Rattle.std.specs.Simd.Lanes.{number_l, digits_l, pick_l, Each1}
-use Rattle.std.proofs.lemmas.List.{get_or-take, nil_from_length}
+use Rattle.std.proofs.lemmas.List.{get_or-take, take-append-le}
 use Rattle.std.proofs.lemmas.List.FromFn.{fill_by_all}
-use Rattle.aead_ciphers_base.specs.CounterMode.{IsCounter}
-use Rattle.aead_ciphers_base.proofs.CounterLemmas.{counter_more}
+use Rattle.aead_ciphers_base.specs.CounterMode.{IsCounter, counter_block}
 use Rattle.aead_ciphers_base.specs.Bytes.{each_below}
-use Rattle.aead_ciphers_wide.specs.Counters.{numbered}
 
 -- byte i of a lane of 32 bits
 abbrev byte : ℕ → ℕ → ℕ
@@ -44,22 +42,22 @@ lanes_bytes (x ∷ xs) h =
 pub is_numbered : (block bytes : List ℕ) (x m : ℕ) → length block ≡ 16 → x < 2 ^ 32 → m < 2 ^ 32
     → bytes ≡ pick_l 0 (block ++ digits_l 256 16 (number_l (2 ^ 32) (x ∷ x ∷ x ∷ m ∷ [])))
     (0 ∷ 1 ∷ 2 ∷ 3 ∷ 4 ∷ 5 ∷ 6 ∷ 7 ∷ 8 ∷ 9 ∷ 10 ∷ 11 ∷ 31 ∷ 30 ∷ 29 ∷ 28 ∷ [])
-    → bytes ≡ numbered block m
+    → bytes ≡ take 12 block ++ to_be_bytes w32 m
 unfolding bytes_of_lanes
 is_numbered block bytes x m size hx hm e =
     let places = 0 ∷ 1 ∷ 2 ∷ 3 ∷ 4 ∷ 5 ∷ 6 ∷ 7 ∷ 8 ∷ 9 ∷ 10 ∷ 11 ∷ 31 ∷ 30 ∷ 29 ∷ 28 ∷ [] in
+    let front : take 12 block ≡ each_below 12 (slice_index block) =
+    fill_by_all (slice_index block) (take 12 block) 12 0 (length-take-le 12 block (omega arith)) (λ j h. get_or-take 12 block j 0 h) in
     e ∙ ap₂ (λ (b d : List ℕ). pick_l 0 (b ++ d) places)
     (fill_by_all (slice_index block) block 16 0 size (λ j h. refl))
     (lanes_bytes (x ∷ x ∷ x ∷ m ∷ []) (hx, (hx, (hx, (hm, tt)))))
+    ∙ ap (λ b. b ++ to_be_bytes w32 m) (sym front)
 
 -- the block with its number enlarged
-pub counter_numbered : (block nonce : List ℕ) (k by number : ℕ) → length block ≡ 16 → IsCounter block nonce k → number ≡ k % 2 ^ 32
-    → IsCounter (numbered block ((number + by) % 2 ^ 32)) nonce (k + by)
-counter_numbered block nonce k by number size at is =
-    let bytes = to_be_bytes w32 ((number + by) % 2 ^ 32) in
-    let front : take 12 block ≡ each_below 12 (slice_index block) =
-    fill_by_all (slice_index block) (take 12 block) 12 0 (length-take-le 12 block (omega arith)) (λ j h. get_or-take 12 block j 0 h) in
-    let none = nil_from_length (drop 4 (drop 12 block)) (omega (arith, length-drop 4 (drop 12 block), length-drop 12 block)) in
-    subst (λ b. IsCounter b nonce (k + by))
-    (ap₂ (λ u v. u ++ (bytes ++ v)) front none ∙ ap (λ b. each_below 12 (slice_index block) ++ b) (append-nil bytes))
-    (counter_more block nonce bytes k by number at is refl)
+pub counter_numbered : (block nonce : List ℕ) (k by number : ℕ) → IsCounter block nonce k → number ≡ k % 2 ^ 32
+    → IsCounter (counter_block (take 12 block) (number + by)) nonce (k + by)
+unfolding counter_block
+counter_numbered block nonce k by number at is =
+    let front : take 12 block ≡ nonce = ap (take 12) at.value ∙ take-append-le 12 nonce _ (omega (arith, at.size)) ∙ take_all 12 nonce (omega (arith, at.size)) in
+    let same : (number + by) % 2 ^ 32 ≡ (k + by) % 2 ^ 32 = omega (arith, is) in
+    record { size = at.size; value = ap₂ (λ f n. f ++ to_be_bytes w32 n) front same }

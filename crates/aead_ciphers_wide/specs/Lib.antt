@@ -1,4 +1,3 @@
-pub mod Counters
 pub mod ExpandedKey
 pub mod HeaderKey
 pub mod Keystream

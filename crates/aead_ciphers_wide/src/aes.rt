@@ -26,7 +26,6 @@ mod permuted;
 mod planes;
 mod round;
 mod round_keys;
-mod word;
 
 pub use block_key::{BlockKey, BlockKeyRef};
 pub use round_keys::{RoundKeys, RoundPlanes, write_planes};

@@ -11,6 +11,7 @@ use aead_ciphers::gcm::{UpdateBlock, UpdateBlocks, Xi};
 use aead_ciphers_base::aes::{BLOCK_LEN, Block, Work};
 use aead_ciphers_base::polyfill::slice::AsChunks;
 use std::marker::Model;
+use std::simd::u8x16;
 
 /// A key for GHASH: a hash subkey with its products.
 #[derive(Clone, Drop)]
@@ -23,7 +24,6 @@ pub struct Key {
 
 impl Model for Key {
     ghost use Rattle.std.specs.Prelude.{ℕ, List};
-    ghost use Rattle.std.specs.Int.{to_be_bytes, w128};
     ghost use Rattle.aead_ciphers_wide.specs.Products.{ArePowers, subkey};
 
     ghost Value = { List ℕ };
@@ -61,10 +61,16 @@ pub fn expand(products: &mut [u8; 512], squares: &mut [u8; 512], block: Block)
     ensures products { ArePowers products.new squares.new }
     ensures subkey { subkey products.new ≡ block }
 {
-    let subkey = number(block);
-    product::write_products(products, subkey);
-    let square = product::product(products, subkey);
-    product::write_products(squares, square);
+    product::write_products(products, number(block));
+    let square = product::product(products, u8x16::from_array(block));
+    product::write_products(squares, number(square.to_array()));
+}
+
+/// Returns the number whose big-endian bytes are `block`.
+fn number(block: Block) -> u128
+    ensures { to_be_bytes w128 result ≡ block }
+{
+    u128::from_be_bytes(block)
 }
 
 /// A key for GHASH that borrows the products of its hash subkey and of the square of it.
@@ -76,7 +82,6 @@ pub struct KeyRef<'k> {
 
 impl<'k> Model for KeyRef<'k> {
     ghost use Rattle.std.specs.Prelude.{ℕ, List};
-    ghost use Rattle.std.specs.Int.{to_be_bytes, w128};
     ghost use Rattle.aead_ciphers_wide.specs.Products.{ArePowers, subkey};
 
     ghost Value = { List ℕ };
@@ -97,19 +102,12 @@ impl<'k> KeyRef<'k> {
     }
 }
 
-/// Returns the number whose big-endian bytes are `block`.
-fn number(block: Block) -> u128
-    ensures { to_be_bytes w128 result ≡ block }
-{
-    u128::from_be_bytes(block)
-}
-
 impl<'k> UpdateBlock for KeyRef<'k> {
     ghost hash_subkey = { λ key. key };
 
     fn update_block(&self, xi: &mut Xi, block: Block, work: &mut Work) {
-        let sum = number(*xi.as_ref()) ^ number(block);
-        xi.set(product::product(self.products, sum).to_be_bytes());
+        let sum = product::add(u8x16::from_array(*xi.as_ref()), u8x16::from_array(block));
+        xi.set(product::product(self.products, sum).to_array());
         work.add_product();
     }
 }
@@ -117,20 +115,20 @@ impl<'k> UpdateBlock for KeyRef<'k> {
 impl<'k> UpdateBlocks for KeyRef<'k> {
     fn update_blocks(&self, xi: &mut Xi, input: AsChunks<'_, u8, BLOCK_LEN>, work: &mut Work) {
         let count = input.len();
-        let mut sum = number(*xi.as_ref());
+        let mut sum = u8x16::from_array(*xi.as_ref());
         for k in 0..count / 2 {
-            let first = number(input[2 * k]);
-            let second = input[2 * k + 1];
-            sum = product::product_pair(self.products, self.squares, sum ^ first, second);
+            let first = product::add(sum, u8x16::from_array(input[2 * k]));
+            let second = u8x16::from_array(input[2 * k + 1]);
+            sum = product::product_pair(self.products, self.squares, first, second);
             work.add_product();
             work.add_product();
         }
         if count % 2 == 1 {
-            let last = number(input[count - 1]);
-            sum = product::product(self.products, sum ^ last);
+            let last = product::add(sum, u8x16::from_array(input[count - 1]));
+            sum = product::product(self.products, last);
             work.add_product();
         }
-        xi.set(sum.to_be_bytes());
+        xi.set(sum.to_array());
     }
 }
 

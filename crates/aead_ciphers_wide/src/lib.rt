@@ -10,3 +10,4 @@ pub mod aes;
 pub mod aes_gcm;
 pub mod gcm;
 mod permute;
+mod word;

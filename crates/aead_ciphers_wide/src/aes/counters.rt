@@ -1,12 +1,11 @@
 //! Counter blocks in the bytes of words.
 
-ghost use Rattle.std.specs.Prelude.{◌≡◌, ◌<◌, ◌+◌, ◌%◌, ◌^◌, ℕ, List, slice_index};
+ghost use Rattle.std.specs.Prelude.{◌≡◌, ◌<◌, ◌+◌, ℕ, List, slice_index, take};
 ghost use Rattle.std.specs.Int.{to_le_bytes, w128};
-ghost use Rattle.aead_ciphers_base.specs.CounterMode.{IsCounter};
-ghost use Rattle.aead_ciphers_wide.specs.Counters.{numbered};
+ghost use Rattle.aead_ciphers_base.specs.CounterMode.{IsCounter, counter_block};
 
 use super::planes::WidePlanes;
-use super::word::Word;
+use crate::word::Word;
 use aead_ciphers_base::aes::{Block, Counter};
 use std::simd::{u8x16, u32x4};
 
@@ -33,7 +32,7 @@ pub fn counters(counter: &Counter) -> WidePlanes
 /// Returns the word whose bytes are the block with its number enlarged by `more`.
 #[inline(always)]
 fn counter_more(block: Block, number: u32, more: u32) -> Word
-    ensures { to_le_bytes w128 result ≡ numbered block ((number + more) % 2 ^ 32) }
+    ensures { to_le_bytes w128 result ≡ counter_block (take 12 block) (number + more) }
 {
     let numbers = (u32x4::splat(number) + u32x4::from_array([0, 0, 0, more])).to_le_bytes();
     Word::from_bytes(u8x16::from_array(block).shuffle(

@@ -9,7 +9,7 @@ ghost use Rattle.aead_ciphers_wide.specs.WidePlanes.{wide_block};
 ghost use Rattle.aead_ciphers_wide.specs.Word.{lane_of, lanes_of};
 
 use super::planes::WidePlanes;
-use super::word::Word;
+use crate::word::Word;
 use aead_ciphers_base::aes::{Block, LOW};
 
 // A delta swap in each lane: exchanges the bits of `a` at places whose digit `k` is one with the bits of `b` at

@@ -4,7 +4,7 @@ ghost use Rattle.std.specs.Prelude.{◌≡◌, ◌<◌, ℕ};
 ghost use Rattle.aead_ciphers_base.specs.ByteField.{mul8, sbox};
 ghost use Rattle.aead_ciphers_base.specs.Planes.{plane_byte};
 
-use super::word::Word;
+use crate::word::Word;
 use aead_ciphers_base::aes::sub_bytes;
 
 /// Eight planes of 128 bits.

@@ -9,7 +9,7 @@ ghost use Rattle.aead_ciphers_wide.specs.WideSchedule.{planes_of};
 
 use super::planes::{WidePlanes, times_x};
 use super::round_keys::{KeyPlanes, planes_of};
-use super::word::Word;
+use crate::word::Word;
 
 // Moves the byte of each row up by one row, cyclically.
 #[inline(always)]

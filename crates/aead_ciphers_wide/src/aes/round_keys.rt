@@ -6,7 +6,7 @@ ghost use Rattle.aead_ciphers_base.specs.Planes.{plane_byte};
 ghost use Rattle.aead_ciphers_wide.specs.WideSchedule.{HoldsPlanes, planes_of};
 
 use super::planes::WidePlanes;
-use super::word::Word;
+use crate::word::Word;
 use aead_ciphers_base::aes::Block;
 use std::simd::u8x16;
 

@@ -14,18 +14,18 @@ ghost use Rattle.aead_ciphers_wide.specs.Products.{AreProducts, ArePowers, chose
 ghost use Rattle.aead_ciphers.specs.Multiples.{monomial_block};
 
 use crate::permute::look_up;
-use aead_ciphers_base::aes::Block;
-use std::simd::{u8x16, u64x2};
+use crate::word::Word;
+use std::simd::u8x16;
 
 /// The block R of SP 800-38D section 6.3: 11100001 followed by 120 zero bits.
 const R: u128 = 0xe1 << 120;
 
 /// Returns the product of `block` and the block whose products are in `table`.
-pub(crate) fn product(table: &[u8; 512], block: u128) -> u128
+pub(crate) fn product(table: &[u8; 512], block: u8x16) -> u8x16
     requires { AreProducts (subkey table.now) table.now }
-    ensures { to_be_bytes w128 result ≡ to_be_bytes w128 block • subkey table.now }
+    ensures { result ≡ block • subkey table.now }
 {
-    let (high, low) = digits(bytes_of(block));
+    let (high, low) = digits(block);
     let mut first = u8x16::splat(0);
     let mut second = u8x16::splat(0);
     for k in 0..16 {
@@ -35,7 +35,7 @@ pub(crate) fn product(table: &[u8; 512], block: u128) -> u128
         first = add(front, bytes);
         second = back;
     }
-    reduced(number_of(first), number_of(second))
+    reduced(first, second)
 }
 
 /// Returns the product of `first` and the block H whose products are in `table`, added to `second`, times H. That is the
@@ -44,15 +44,14 @@ pub(crate) fn product(table: &[u8; 512], block: u128) -> u128
 pub(crate) fn product_pair(
     table: &[u8; 512],
     squares: &[u8; 512],
-    first: u128,
-    second: Block,
-) -> u128
+    first: u8x16,
+    second: u8x16,
+) -> u8x16
     requires { ArePowers table.now squares.now }
-    ensures { to_be_bytes w128 result
-        ≡ (to_be_bytes w128 first • subkey table.now ⊕ second) • subkey table.now }
+    ensures { result ≡ (first • subkey table.now ⊕ second) • subkey table.now }
 {
-    let (first_high, first_low) = digits(bytes_of(first));
-    let (second_high, second_low) = digits(u8x16::from_array(second));
+    let (first_high, first_low) = digits(first);
+    let (second_high, second_low) = digits(second);
     let mut sum = u8x16::splat(0);
     let mut over = u8x16::splat(0);
     for k in 0..16 {
@@ -64,7 +63,7 @@ pub(crate) fn product_pair(
         sum = add(front, bytes);
         over = back;
     }
-    reduced(number_of(sum), number_of(over))
+    reduced(sum, over)
 }
 
 /// Returns the bytes of the two rows of `table` from the indices `at` and `256 + at` on, at the places `high` and `low`,
@@ -81,24 +80,6 @@ fn looked_up(table: &[u8; 512], at: usize, high: u8x16, low: u8x16) -> u8x16
         look_up(row(table, at).to_array(), high),
         look_up(row(table, 256 + at).to_array(), low),
     )
-}
-
-/// Returns the bytes of `block`, the most significant first.
-#[inline(always)]
-fn bytes_of(block: u128) -> u8x16
-    ensures { result ≡ to_be_bytes w128 block }
-{
-    let low = (block & 0xffff_ffff_ffff_ffff) as u64;
-    let high = (block >> 64) as u64;
-    u64x2::from_array([low, high]).to_le_bytes().reverse()
-}
-
-/// Returns the number with these bytes, the most significant first.
-#[inline(always)]
-fn number_of(bytes: u8x16) -> u128
-    ensures { to_be_bytes w128 result ≡ bytes }
-{
-    u128::from_be_bytes(bytes.to_array())
 }
 
 /// Returns the high and the low digit of each byte, in base 16.
@@ -121,7 +102,7 @@ fn row(table: &[u8; 512], at: usize) -> u8x16
 
 /// Adds the bytes.
 #[inline(always)]
-fn add(a: u8x16, b: u8x16) -> u8x16
+pub(crate) fn add(a: u8x16, b: u8x16) -> u8x16
     ensures { result ≡ a ⊕ b }
 {
     a ^ b
@@ -149,13 +130,34 @@ fn moved(first: u8x16, second: u8x16) -> (u8x16, u8x16)
     )
 }
 
-/// Returns the sum of `first` and u^128 times `second`.
+/// Returns the sum of `first` and u^128 times `second`, that is, its sum with u^0, u, u^2 and u^7 times `second`, of which the
+/// last byte is 0.
 #[inline(always)]
-fn reduced(first: u128, second: u128) -> u128
-    ensures { to_be_bytes w128 result ≡ to_be_bytes w128 first ⊕ u128_times (to_be_bytes w128 second) }
+fn reduced(first: u8x16, second: u8x16) -> u8x16
+    requires { slice_index second 15 ≡ 0 }
+    ensures { result ≡ first ⊕ u128_times second }
 {
-    let kept = second ^ ((second << 127) ^ (second << 126) ^ (second << 121));
-    first ^ (kept ^ (kept >> 1) ^ (kept >> 2) ^ (kept >> 7))
+    let over = number_of(second);
+    let lanes = over ^ (over >> 1) ^ (over >> 2) ^ (over >> 7);
+    let high = over.lane_down();
+    let raised = lanes ^ (high << 63) ^ (high << 62) ^ (high << 57);
+    add(first, bytes_of(raised))
+}
+
+/// Returns the number with these bytes, the most significant first.
+#[inline(always)]
+fn number_of(bytes: u8x16) -> Word
+    ensures { to_be_bytes w128 result ≡ bytes }
+{
+    Word::from_bytes(bytes.reverse())
+}
+
+/// Returns the bytes of `number`, the most significant first.
+#[inline(always)]
+fn bytes_of(number: Word) -> u8x16
+    ensures { result ≡ to_be_bytes w128 number }
+{
+    number.bytes().reverse()
 }
 
 /// Writes the products of `block` and each digit of a byte to `table`.
@@ -196,6 +198,17 @@ fn multiples(block: u128) -> [u128; 8]
     multiples
 }
 
+/// Returns the number, in a vector.
+#[inline(always)]
+fn word_of(number: u128) -> Word
+    ensures { result ≡ number }
+{
+    Word::new(
+        (number & 0xffff_ffff_ffff_ffff) as u64,
+        (number >> 64) as u64,
+    )
+}
+
 /// Returns the bytes of each number, the most significant first.
 #[inline(always)]
 fn blocks(numbers: [u128; 8]) -> [u8x16; 8]
@@ -204,14 +217,14 @@ fn blocks(numbers: [u128; 8]) -> [u8x16; 8]
 {
     let [n0, n1, n2, n3, n4, n5, n6, n7] = numbers;
     [
-        bytes_of(n0),
-        bytes_of(n1),
-        bytes_of(n2),
-        bytes_of(n3),
-        bytes_of(n4),
-        bytes_of(n5),
-        bytes_of(n6),
-        bytes_of(n7),
+        bytes_of(word_of(n0)),
+        bytes_of(word_of(n1)),
+        bytes_of(word_of(n2)),
+        bytes_of(word_of(n3)),
+        bytes_of(word_of(n4)),
+        bytes_of(word_of(n5)),
+        bytes_of(word_of(n6)),
+        bytes_of(word_of(n7)),
     ]
 }
 

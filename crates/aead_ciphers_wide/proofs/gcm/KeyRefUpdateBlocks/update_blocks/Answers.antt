@@ -1,9 +1,11 @@
-use Rattle.std.proofs.Common.{◌≡◌, ◌+◌, ◌*◌, ◌-◌, ◌++◌, ◌∷◌, [], ◌∙◌, length, ap, sym, subst, refl, arith, take, take_all}
-use Rattle.std.specs.Int.{to_be_bytes, w128}
+use Rattle.std.proofs.Common.{◌≡◌, ℕ, List, ◌+◌, ◌*◌, ◌-◌, ◌++◌, ◌∷◌, [], ◌∙◌, length, ap, sym, subst, refl, arith, take, take_all}
 use Rattle.aead_ciphers_base.specs.Blocks.{blocks}
+use Rattle.aead_ciphers_base.specs.Bytes.{◌⊕◌}
 use Rattle.aead_ciphers_base.specs.Work.{Tallies}
 use Rattle.aead_ciphers_base.proofs.BlocksLemmas.{length_blocks}
+use Rattle.aead_ciphers.specs.Ghash.{◌•◌}
 use Rattle.aead_ciphers.specs.HashOf.{IsHashOf}
+use Rattle.aead_ciphers_wide.specs.Products.{subkey}
 use Rattle.aead_ciphers_wide.proofs.WideHash.{block_size, front_one, hash_one, hash_two}
 use Rattle.aead_ciphers_wide.proofs.gcm.KeyRefUpdateBlocks.update_blocks.Goals as goal
 use Rattle.aead_ciphers_wide.proofs.gcm.KeyRefUpdateBlocks.update_blocks.Goals.{then-count-eq1, else-count-eq1}
@@ -29,19 +31,21 @@ loop-k-preserved c =
     let h = c.args.self.now in
     let k = c.loop-k.k in
     let first = c.index.result.now in
-    let second = c.index-second.result.now in
+    let second = c.index-in-loop-k.result.now in
+    let table = c.self.inside.products.now in
     let count : c.len-count.result ≡ length bs = c.len-count.ensures in
+    let size = λ (i : ℕ) (block : List ℕ). block_size c.args.input.items.now i block in
     record {
       no_block = omega arith;
       products = omega arith;
       hashed = λ done at.
-          subst (λ xs. IsHashOf h xs (to_be_bytes w128 c.product_pair-sum.result))
+          subst (λ xs. IsHashOf h xs c.product_pair-sum.result)
           (ap (λ xs. xs ++ second ∷ []) (front_one done bs first (2 * k) (2 * k) (2 * k + 1) refl refl (omega arith) c.index.ensures)
-          ∙ front_one done bs second (2 * k + 1) (2 * k + 1) (2 * (k + 1)) refl (omega arith) (omega arith) c.index-second.ensures)
-          (hash_two h _ first second c.self.inside.products.now c.loop-k.sum c.number-first.result
-          c.product_pair-sum.result (done ++ take (2 * k) bs) c.self.view_is refl c.number-first.ensures
-          (block_size c.args.input.items.now (2 * k + 1) second (omega arith) c.index-second.ensures)
-          c.product_pair-sum.ensures (c.loop-k.invariant.hashed done at));
+          ∙ front_one done bs second (2 * k + 1) (2 * k + 1) (2 * (k + 1)) refl (omega arith) (omega arith) c.index-in-loop-k.ensures)
+          (hash_two h c.loop-k.sum first second table c.product_pair-sum.result (done ++ take (2 * k) bs) c.self.view_is
+          (size (2 * k) first (omega arith) c.index.ensures) (size (2 * k + 1) second (omega arith) c.index-in-loop-k.ensures)
+          (c.product_pair-sum.ensures ∙ ap (λ x. (x • subkey table ⊕ second) • subkey table) c.add-first.ensures)
+          (c.loop-k.invariant.hashed done at));
     }
 
 pub returns-clause-hashed : goal.returns-clause-hashed
@@ -52,19 +56,21 @@ returns-clause-hashed c = λ done at.
     let n = c.len-count.result in
     let count : n ≡ length bs = c.len-count.ensures in
     let before = c.loop-k.invariant.hashed done at in
-    subst (λ xi. IsHashOf h (done ++ bs) xi) (sym (c.set.ensures ∙ c.to_be_bytes.ensures))
+    let table = c.self.inside.products.now in
+    subst (λ xi. IsHashOf h (done ++ bs) xi) (sym c.set.ensures)
     (elim c.if-count-eq1.branch [
       | then-count-eq1 w ↦
           let last = w.index-then-count-eq1.result.now in
-          subst (λ sum. IsHashOf h (done ++ bs) (to_be_bytes w128 sum)) (sym w.sum-is)
-          (subst (λ xs. IsHashOf h xs (to_be_bytes w128 w.product-sum.result))
+          subst (λ sum. IsHashOf h (done ++ bs) sum) (sym w.sum-is)
+          (subst (λ xs. IsHashOf h xs w.product-sum.result)
           (front_one done bs last (2 * k) (n - 1) n (omega arith) (omega arith) (omega arith) w.index-then-count-eq1.ensures
           ∙ ap (λ xs. done ++ xs) (take_all n bs (omega arith)))
-          (hash_one h _ last c.self.inside.products.now c.loop-k.sum w.number-last.result w.product-sum.result (done ++ take (2 * k) bs)
-          c.self.view_is refl w.number-last.ensures w.product-sum.ensures before))
+          (hash_one h c.loop-k.sum last table w.product-sum.result (done ++ take (2 * k) bs) c.self.view_is
+          (block_size c.args.input.items.now (n - 1) last (omega arith) w.index-then-count-eq1.ensures)
+          (w.product-sum.ensures ∙ ap (λ x. x • subkey table) w.add-last.ensures) before))
       | else-count-eq1 w ↦
-          subst (λ sum. IsHashOf h (done ++ bs) (to_be_bytes w128 sum)) (sym w.sum-is)
-          (subst (λ xs. IsHashOf h (done ++ xs) (to_be_bytes w128 c.loop-k.sum)) (take_all (2 * k) bs (omega arith)) before)
+          subst (λ sum. IsHashOf h (done ++ bs) sum) (sym w.sum-is)
+          (subst (λ xs. IsHashOf h (done ++ xs) c.loop-k.sum) (take_all (2 * k) bs (omega arith)) before)
     ])
 
 pub returns-clause-worked : goal.returns-clause-worked

@@ -1,9 +1,9 @@
-use Rattle.std.proofs.Common.{Fits, w8}
-use Rattle.std.proofs.lemmas.Simd.{Each1-get_or}
-use Rattle.aead_ciphers.proofs.GhashBlocks.{to_be_bytes-from_be_bytes}
+use Rattle.std.proofs.Common.{◌∙◌, ap, reverse}
+use Rattle.std.specs.List.{range_with_len}
+use Rattle.std.proofs.lemmas.Simd.{pick_l_left, pick_l_whole}
 use Rattle.aead_ciphers_wide.proofs.gcm.product.number_of.Goals as goal
 
 pub returns : goal.returns
 returns c =
-    to_be_bytes-from_be_bytes c.args.bytes c.from_be_bytes.result c.fits-bytes.0
-    (λ k h. (Each1-get_or (Fits w8) c.args.bytes k 0 h c.fits-bytes.1).fits) c.from_be_bytes.ensures
+    let bytes = c.args.bytes in
+    ap reverse c.from_bytes.ensures ∙ pick_l_left 0 bytes bytes 16 (range_with_len 0 16) c.fits-bytes.0 tt ∙ pick_l_whole 0 bytes 16 c.fits-bytes.0

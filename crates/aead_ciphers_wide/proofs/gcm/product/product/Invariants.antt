@@ -8,5 +8,6 @@ abbrev pub invariant-loop-k : goal.invariant-loop-k
 invariant-loop-k l = record {
   value : ladder 32 (λ i. first_byte (slice_index (l.first ++ l.second) i))
       ≡ ladder l.k (λ r. ladder 16 (λ i. first_byte (row_byte l.table l.high l.low (16 - l.k + r) i)));
-  zeros : (i : ℕ) → l.k ≤ i → slice_index l.second i ≡ 0;
+  zeros : (i : ℕ) → l.k ≤ i + 1 → slice_index l.second i ≡ 0;
+  empty : l.k ≡ 0 → slice_index l.first 15 ≡ 0;
 }

@@ -1,27 +1,22 @@
-use Rattle.std.proofs.Common.{◌≡◌, ◌+◌, ◌-◌, ◌/◌, ◌%◌, length, slice_index, ap, ap₂, sym, subst, refl, ◌∙◌, arith, rules}
-use Rattle.std.specs.Int.{to_be_bytes, w128}
+use Rattle.std.proofs.Common.{◌≡◌, ◌+◌, ◌-◌, length, slice_index, ap, ap₂, refl, ◌∙◌, arith}
 use Rattle.aead_ciphers_base.specs.Bytes.{◌⊕◌}
-use Rattle.aead_ciphers.specs.Ghash.{IsBlock}
-use Rattle.aead_ciphers_wide.specs.Products.{first_byte, subkey, u128_times}
-use Rattle.aead_ciphers.proofs.GhashBlocks.{IsBlock-number}
+use Rattle.aead_ciphers_wide.specs.Products.{first_byte, subkey}
 use Rattle.aead_ciphers_wide.proofs.ByteLadder.{ladder}
-use Rattle.aead_ciphers_wide.proofs.ByteRows.{IsBlock-bytes, IsBlock-vector, looked_value, moved_zeros, pair_end, pair_value, row_sums, small_digits, start_value, sum_value, turn, zero_at}
+use Rattle.aead_ciphers_wide.proofs.ByteRows.{IsBlock-vector, looked_value, moved_zeros, pair_end, pair_value, row_sums, small_digits, start_value, sum_value, turn, zero_at}
 use Rattle.aead_ciphers_wide.proofs.gcm.product.product_pair.Goals as goal
 
 pub looked_up-one-requires-clause-high : goal.looked_up-one-requires-clause-high
 looked_up-one-requires-clause-high c =
-    let block : IsBlock c.bytes_of.result = subst IsBlock (sym c.bytes_of.ensures) (IsBlock-number c.args.first) in
-    small_digits c.bytes_of.result c.digits.result.0 block c.digits.ensures.high
+    small_digits c.args.first c.digits.result.0 (IsBlock-vector c.args.first c.fits-first.0 c.fits-first.1) c.digits.ensures.high
 
 pub looked_up-two-requires-clause-high : goal.looked_up-two-requires-clause-high
 looked_up-two-requires-clause-high c =
-    let block : IsBlock c.args.second = IsBlock-bytes c.args.second (search rules) (search rules) in
-    small_digits c.args.second c.digits-2.result.0 block c.digits-2.ensures.high
+    small_digits c.args.second c.digits-2.result.0 (IsBlock-vector c.args.second c.fits-second.0 c.fits-second.1) c.digits-2.ensures.high
 
 pub loop-k-init : goal.loop-k-init
 loop-k-init c =
     let W = row_sums c.args.squares.now c.digits.result.0 c.digits.result.1 c.args.table.now c.digits-2.result.0 c.digits-2.result.1 in
-    record { value = start_value (λ r. W (16 - 0 + r)); zeros = λ i h. zero_at 16 i }
+    record { value = start_value (λ r. W (16 - 0 + r)); zeros = λ i h. zero_at 16 i; empty = λ h. zero_at 16 15 }
 
 pub loop-k-preserved : goal.loop-k-preserved
 loop-k-preserved c =
@@ -47,7 +42,8 @@ loop-k-preserved c =
           ∙ ap₂ (λ x y. x ⊕ y)
           (looked_value squares c.digits.result.0 c.digits.result.1 one (15 - k) c.looked_up-one.ensures)
           (looked_value table c.digits-2.result.0 c.digits-2.result.1 two (15 - k) c.looked_up-two.ensures));
-      zeros = λ i h. ap (λ b. slice_index b i) c.moved.ensures.second ∙ moved_zeros (slice_index sum 15) k over c.loop-k.invariant.zeros i h;
+      zeros = λ i h. ap (λ b. slice_index b i) c.moved.ensures.second ∙ moved_zeros (slice_index sum 15) k over c.loop-k.invariant.empty c.loop-k.invariant.zeros i h;
+      empty = λ h. absurd (omega arith);
     }
 
 pub returns : goal.returns
@@ -55,14 +51,10 @@ unfolding subkey
 returns c =
     let table = c.args.table.now in
     let at = c.loop-k.auto in
-    let block : IsBlock c.args.second = IsBlock-bytes c.args.second (search rules) (search rules) in
-    pair_end (subkey table) table c.args.squares.now (to_be_bytes w128 c.args.first) c.digits.result.0 c.digits.result.1
+    pair_end (subkey table) table c.args.squares.now c.args.first c.digits.result.0 c.digits.result.1
     c.args.second c.digits-2.result.0 c.digits-2.result.1 c.loop-k.sum c.loop-k.over _ c.loop-k.k refl
     c.requires.first c.requires.second
-    (IsBlock-number c.args.first)
-    (λ i h. c.digits.ensures.high i h ∙ ap (λ b. slice_index b i / 16) c.bytes_of.ensures)
-    (λ i h. c.digits.ensures.low i h ∙ ap (λ b. slice_index b i % 16) c.bytes_of.ensures)
-    block c.digits-2.ensures.high c.digits-2.ensures.low
+    (IsBlock-vector c.args.first c.fits-first.0 c.fits-first.1) c.digits.ensures.high c.digits.ensures.low
+    (IsBlock-vector c.args.second c.fits-second.0 c.fits-second.1) c.digits-2.ensures.high c.digits-2.ensures.low
     (IsBlock-vector c.loop-k.sum at.sum.0 at.sum.1) (IsBlock-vector c.loop-k.over at.over.0 at.over.1) (omega arith)
-    c.loop-k.invariant.value
-    (c.reduced.ensures ∙ ap₂ (λ a b. a ⊕ u128_times b) c.number_of.ensures c.number_of-2.ensures)
+    c.loop-k.invariant.value c.reduced.ensures

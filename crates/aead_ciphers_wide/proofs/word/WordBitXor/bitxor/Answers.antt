@@ -1,6 +1,6 @@
 use Rattle.std.proofs.Common.{ap₂, ◌∙◌, bit_xor}
 use Rattle.aead_ciphers_wide.proofs.WordOperators.{xor_lanes, xor_number}
-use Rattle.aead_ciphers_wide.proofs.aes.word.WordBitXor.bitxor.Goals as goal
+use Rattle.aead_ciphers_wide.proofs.word.WordBitXor.bitxor.Goals as goal
 
 pub invariant_of-result : goal.invariant_of-result
 invariant_of-result c = xor_lanes _ _ c.self.invariant c.rhs.invariant

@@ -1,6 +1,6 @@
 use Rattle.std.proofs.Common.{ap₂, ◌∙◌, bit_and}
 use Rattle.aead_ciphers_wide.proofs.WordOperators.{and_lanes, and_number}
-use Rattle.aead_ciphers_wide.proofs.aes.word.WordBitAnd.bitand.Goals as goal
+use Rattle.aead_ciphers_wide.proofs.word.WordBitAnd.bitand.Goals as goal
 
 pub invariant_of-result : goal.invariant_of-result
 invariant_of-result c = and_lanes _ _ c.self.invariant c.rhs.invariant

@@ -1,5 +1,5 @@
 use Rattle.aead_ciphers_wide.proofs.WordMoves.{filled_word}
-use Rattle.aead_ciphers_wide.proofs.aes.word.Word.filled.Goals as goal
+use Rattle.aead_ciphers_wide.proofs.word.Word.filled.Goals as goal
 
 pub returns : goal.returns
 returns c = λ b p hb is h.
