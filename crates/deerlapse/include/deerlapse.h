@@ -467,6 +467,8 @@ DEERLAPSE_WRAPS(1, 2, 7)
 bool deerlapse_key_seal_append_tag(const deerlapse_key *key, const uint8_t nonce[DEERLAPSE_NONCE_LEN],
                                    const uint8_t *aad, size_t aad_len, const uint8_t *in, size_t in_len,
                                    uint8_t *out) {
+    /* Above 2^36 - 32, the call in place would refuse the length, and out + in_len may be no pointer. */
+    if (in == out && in_len > 0xfffffffe0) return false;
     if (in == out) return deerlapse_key_seal(key, nonce, aad, aad_len, out, in_len, out + in_len);
     return deerlapse_key_seal_append_tag_sized(key, nonce, deerlapse_to_read(aad, aad_len), aad_len,
                                                deerlapse_to_read(in, in_len), in_len, out,
