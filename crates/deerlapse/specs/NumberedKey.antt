@@ -12,6 +12,6 @@ key_of numbered = bytes_of numbered.key
 abbrev pub next_nonce : NumberedKey → List ℕ
 next_nonce numbered = xored_nonce numbered.iv numbered.next
 
--- the fields of one that is wiped: all zeros, so that it has no number left
+-- one that is wiped: every byte is zero, so that it has no number left
 abbrev pub zero_numbered_key : NumberedKey
-zero_numbered_key = record { key = zero_key; next = 0; limit = 0; iv = replicate 12 0 }
+zero_numbered_key = record { key = zero_key; next = 0; limit = 0; iv = replicate 12 0; room = replicate 220 0 }

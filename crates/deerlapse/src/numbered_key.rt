@@ -1,6 +1,6 @@
 //! A key with an IV and the numbers of its messages, each with its own nonce (RFC 8446 section 5.3, RFC 9001 section 5.3).
 
-ghost use Rattle.std.specs.Prelude.{◌≡◌, ◌≤◌, ◌↔◌, length, IsTrue, IsFalse};
+ghost use Rattle.std.specs.Prelude.{◌≡◌, ◌≤◌, ◌↔◌, length, replicate, IsTrue, IsFalse};
 ghost use Rattle.aead_ciphers_wide.specs.ExpandedKey.{IsExpanded, bytes_of};
 ghost use Rattle.aead_ciphers.specs.Counting.{xored_nonce};
 ghost use Rattle.deerlapse.specs.AesKey.{IsAesKeyLen};
@@ -24,10 +24,14 @@ pub struct NumberedKey {
     pub limit: u64,
     /// The IV, which is XORed with each number.
     pub iv: [u8; NONCE_LEN],
+    /// Zeros, in the place of a later version's fields.
+    pub room: [u8; ROOM_LEN],
 }
 
-// The `words` of the types in the header have room for more fields.
-const _: () = prove!(size_of::<NumberedKey>() <= 3440);
+const ROOM_LEN: usize = 220;
+
+// The `words` of the types in the header have as many bytes.
+const _: () = prove!(size_of::<NumberedKey>() == 3440);
 
 /// Initializes a key whose first message gets the number `first`. Its previous bytes are not read.
 ///
@@ -45,6 +49,7 @@ pub(crate) fn fill(
     ensures iv { IsTrue result → numbered.new.iv ≡ iv.now }
     ensures numbers { IsTrue result
         → (numbered.new.next ≡ first) × (numbered.new.limit ≡ limit) }
+    ensures room { IsTrue result → numbered.new.room ≡ replicate 220 0 }
     ensures refused { IsFalse result → numbered.new ≡ numbered.old }
 {
     let Some(key) = aes_key(key) else {
@@ -57,6 +62,7 @@ pub(crate) fn fill(
     numbered.next = first;
     numbered.limit = limit;
     numbered.iv = *iv;
+    numbered.room = [0; ROOM_LEN];
     true
 }
 
@@ -68,6 +74,7 @@ pub(crate) fn wipe(numbered: &mut NumberedKey)
     numbered.next = 0;
     numbered.limit = 0;
     numbered.iv = [0; NONCE_LEN];
+    numbered.room = [0; ROOM_LEN];
 }
 
 /// Writes the nonce of 12 bytes for a number under an IV (RFC 8446 section 5.3), for opening what a sealer sealed.

@@ -1,6 +1,6 @@
 //! A key that opens what a sealer sealed, in order or by number.
 
-ghost use Rattle.std.specs.Prelude.{◌≡◌, ◌+◌, ◌-◌, ◌<◌, ◌≤◌, ◌↔◌, length, IsTrue, IsFalse};
+ghost use Rattle.std.specs.Prelude.{◌≡◌, ◌+◌, ◌-◌, ◌<◌, ◌≤◌, ◌↔◌, length, replicate, IsTrue, IsFalse};
 ghost use Rattle.aead_ciphers_base.specs.Aes.{aes};
 ghost use Rattle.aead_ciphers.specs.Counting.{xored_nonce};
 ghost use Rattle.aead_ciphers_wide.specs.ExpandedKey.{IsExpanded};
@@ -27,6 +27,7 @@ pub extern "C" fn deerlapse_opener_init(
     ensures key { IsTrue result → IsExpanded opener.new.key × (key_of opener.new ≡ key.now) }
     ensures iv { IsTrue result → opener.new.iv ≡ iv.now }
     ensures numbers { IsTrue result → (opener.new.next ≡ first) × (opener.new.limit ≡ limit) }
+    ensures room { IsTrue result → opener.new.room ≡ replicate 220 0 }
     ensures refused { IsFalse result → opener.new ≡ opener.old }
 {
     fill(opener, key, iv, first, limit)

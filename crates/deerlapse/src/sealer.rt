@@ -1,6 +1,6 @@
 //! A key that seals each message under its own nonce.
 
-ghost use Rattle.std.specs.Prelude.{◌≡◌, ◌+◌, ◌<◌, ◌≤◌, ◌↔◌, length, IsTrue, IsFalse};
+ghost use Rattle.std.specs.Prelude.{◌≡◌, ◌+◌, ◌<◌, ◌≤◌, ◌↔◌, length, replicate, IsTrue, IsFalse};
 ghost use Rattle.aead_ciphers_base.specs.Aes.{aes};
 ghost use Rattle.aead_ciphers_wide.specs.ExpandedKey.{IsExpanded};
 ghost use Rattle.aead_ciphers.specs.Gcm.{Fits, gcm_encrypted, gcm_tag};
@@ -27,6 +27,7 @@ pub extern "C" fn deerlapse_sealer_init(
     ensures key { IsTrue result → IsExpanded sealer.new.key × (key_of sealer.new ≡ key.now) }
     ensures iv { IsTrue result → sealer.new.iv ≡ iv.now }
     ensures numbers { IsTrue result → (sealer.new.next ≡ first) × (sealer.new.limit ≡ limit) }
+    ensures room { IsTrue result → sealer.new.room ≡ replicate 220 0 }
     ensures refused { IsFalse result → sealer.new ≡ sealer.old }
 {
     fill(sealer, key, iv, first, limit)

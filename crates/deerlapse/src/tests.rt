@@ -174,6 +174,7 @@ fn no_numbers() -> NumberedKey {
         next: 0,
         limit: 0,
         iv: [0; 12],
+        room: [0; 220],
     }
 }
 
