@@ -22,6 +22,7 @@ const V3: bool = cfg!(all(
 /// assert!(deerlapse::cpu_supported());
 /// ```
 #[cfg(target_arch = "x86_64")]
+#[must_use]
 pub fn cpu_supported() -> bool {
     const UNKNOWN: u8 = 0;
     const YES: u8 = 1;
@@ -39,6 +40,7 @@ pub fn cpu_supported() -> bool {
 
 /// Returns true, since every processor of this architecture has the instructions that the library uses.
 #[cfg(not(target_arch = "x86_64"))]
+#[must_use]
 pub fn cpu_supported() -> bool {
     true
 }

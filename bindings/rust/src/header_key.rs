@@ -24,7 +24,11 @@ pub struct HeaderProtectionKey(ffi::Key);
 impl HeaderProtectionKey {
     /// Creates a key from 16 bytes, for AES-128, or 32, for AES-256.
     ///
+    /// # Errors
+    ///
     /// Fails if `key_bytes` has any other length.
+    ///
+    /// # Examples
     ///
     /// ```
     /// use deerlapse::HeaderProtectionKey;
@@ -47,6 +51,7 @@ impl HeaderProtectionKey {
     /// assert_eq!(mask, mask_aes(&[7; 32], &[0; 16])?);
     /// # Ok::<(), deerlapse::Unspecified>(())
     /// ```
+    #[must_use]
     pub fn new_mask(&self, sample: &[u8; SAMPLE_LEN]) -> [u8; MASK_LEN] {
         let mut mask = [0; MASK_LEN];
         // SAFETY: the parameters are references, and `new` filled the key.

@@ -33,7 +33,11 @@ pub struct LessSafeKey(pub(crate) ffi::Key);
 impl LessSafeKey {
     /// Creates a key from 16 bytes, for AES-128-GCM, or 32, for AES-256-GCM.
     ///
+    /// # Errors
+    ///
     /// Fails if `key_bytes` has any other length.
+    ///
+    /// # Examples
     ///
     /// ```
     /// use deerlapse::LessSafeKey;
@@ -49,7 +53,11 @@ impl LessSafeKey {
 
     /// Encrypts `in_out` in place, and returns the tag of the ciphertext and the AAD.
     ///
+    /// # Errors
+    ///
     /// Fails if the message is longer than 2^36 - 32 bytes.
+    ///
+    /// # Examples
     ///
     /// ```
     /// use deerlapse::{LessSafeKey, Nonce};
@@ -86,7 +94,11 @@ impl LessSafeKey {
 
     /// Encrypts `in_out` in place, and appends the tag: n bytes become n + 16.
     ///
+    /// # Errors
+    ///
     /// Fails as [`seal_in_place_separate_tag`](Self::seal_in_place_separate_tag) does.
+    ///
+    /// # Examples
     ///
     /// ```
     /// use deerlapse::{LessSafeKey, Nonce};
@@ -115,8 +127,12 @@ impl LessSafeKey {
     /// If the AAD is a header before the ciphertext in the same buffer, use `split_at_mut` and
     /// [`open_in_place`](Self::open_in_place).
     ///
+    /// # Errors
+    ///
     /// Fails if the tag is wrong, if there are fewer than 16 bytes after the start, or if a length is not one that
     /// [`seal_in_place_separate_tag`](Self::seal_in_place_separate_tag) takes.
+    ///
+    /// # Examples
     ///
     /// ```
     /// use deerlapse::{LessSafeKey, Nonce};
@@ -156,6 +172,12 @@ impl LessSafeKey {
 
     /// Opens the ciphertext and tag in the whole of `in_out`, as [`open_within`](Self::open_within) does.
     ///
+    /// # Errors
+    ///
+    /// Fails as [`open_within`](Self::open_within) does.
+    ///
+    /// # Examples
+    ///
     /// ```
     /// use deerlapse::{LessSafeKey, Nonce, Unspecified};
     ///
@@ -179,8 +201,12 @@ impl LessSafeKey {
     /// Opens the ciphertext in `in_out` from `ciphertext.start` on, whose tag is `tag`, and returns the plaintext,
     /// which is then at the front of `in_out`. The bytes after it are unchanged.
     ///
+    /// # Errors
+    ///
     /// Fails if the tag is wrong, if the start is after the end, or if a length is not one that
     /// [`seal_in_place_separate_tag`](Self::seal_in_place_separate_tag) takes.
+    ///
+    /// # Examples
     ///
     /// ```
     /// use deerlapse::{LessSafeKey, Nonce};
@@ -221,8 +247,12 @@ impl LessSafeKey {
 
     /// Encrypts `message` to `out`, and returns the tag of the ciphertext and the AAD.
     ///
+    /// # Errors
+    ///
     /// Fails if `out` is not as long as `message`, or if the message is longer than 2^36 - 32 bytes. `out` is then
     /// unchanged.
+    ///
+    /// # Examples
     ///
     /// ```
     /// use deerlapse::{LessSafeKey, Nonce};
@@ -264,8 +294,12 @@ impl LessSafeKey {
 
     /// Opens `ciphertext`, whose tag is `tag`, to `out`.
     ///
+    /// # Errors
+    ///
     /// Fails if the tag is wrong, if `out` is not as long as `ciphertext`, or if a length is not one that
     /// [`seal_to`](Self::seal_to) takes. `out` is then unchanged.
+    ///
+    /// # Examples
     ///
     /// ```
     /// use deerlapse::{LessSafeKey, Nonce, Unspecified};
@@ -303,8 +337,12 @@ impl LessSafeKey {
 
     /// Encrypts `message` to `out`, and writes the tag after the ciphertext: n bytes become n + 16.
     ///
+    /// # Errors
+    ///
     /// Fails if `out` does not have 16 bytes more than `message`, or if the message is longer than 2^36 - 32 bytes. `out`
     /// is then unchanged.
+    ///
+    /// # Examples
     ///
     /// ```
     /// use deerlapse::{LessSafeKey, Nonce};
@@ -341,8 +379,12 @@ impl LessSafeKey {
 
     /// Opens the ciphertext and the tag after it to `out`: n bytes become n - 16.
     ///
+    /// # Errors
+    ///
     /// Fails if the tag is wrong, if `out` does not have 16 bytes less than `ciphertext_and_tag`, or if a length is not
     /// one that [`seal_append_tag_to`](Self::seal_append_tag_to) takes. `out` is then unchanged.
+    ///
+    /// # Examples
     ///
     /// ```
     /// use deerlapse::{LessSafeKey, Nonce, Unspecified};

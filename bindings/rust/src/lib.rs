@@ -69,6 +69,7 @@ pub const MASK_LEN: usize = 5;
 /// ```
 /// assert_eq!(deerlapse::version(), 0x000100);
 /// ```
+#[must_use]
 pub fn version() -> u32 {
     cpu::require();
     // SAFETY: it has no parameter.

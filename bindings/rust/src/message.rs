@@ -44,7 +44,11 @@ pub struct SealingMessage<'k> {
 impl LessSafeKey {
     /// Begins a message that is sealed in pieces.
     ///
+    /// # Errors
+    ///
     /// Fails if the AAD has 2^61 bytes or more.
+    ///
+    /// # Examples
     ///
     /// ```
     /// use deerlapse::{LessSafeKey, Nonce};
@@ -70,8 +74,12 @@ impl LessSafeKey {
 impl SealingMessage<'_> {
     /// Encrypts the next piece in place.
     ///
+    /// # Errors
+    ///
     /// Fails if the message would be longer than 2^36 - 32 bytes. The piece is then unchanged, and is not part of the
     /// message.
+    ///
+    /// # Examples
     ///
     /// ```
     /// use deerlapse::{LessSafeKey, Nonce};
@@ -108,6 +116,7 @@ impl SealingMessage<'_> {
     /// assert_eq!(key.open_in_place_separate_tag(nonce(), b"v1", tag, &mut piece, 0..)?, b"hello");
     /// # Ok::<(), deerlapse::Unspecified>(())
     /// ```
+    #[must_use]
     pub fn finish(mut self) -> [u8; TAG_LEN] {
         let mut tag = [0; TAG_LEN];
         let finished = self.write_tag(&mut tag);

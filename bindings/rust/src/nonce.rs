@@ -26,13 +26,18 @@ impl Nonce {
     ///
     /// assert_eq!(Nonce::assume_unique_for_key([7; 12]).as_ref(), &[7; 12]);
     /// ```
+    #[must_use]
     pub fn assume_unique_for_key(value: [u8; NONCE_LEN]) -> Self {
         Nonce(value)
     }
 
     /// Makes a nonce as [`assume_unique_for_key`](Self::assume_unique_for_key) does.
     ///
+    /// # Errors
+    ///
     /// Fails if `value` does not have 12 bytes.
+    ///
+    /// # Examples
     ///
     /// ```
     /// use deerlapse::Nonce;
@@ -60,6 +65,7 @@ impl AsRef<[u8; NONCE_LEN]> for Nonce {
 /// let nonce = [0xe0, 0x45, 0x9b, 0x34, 0x74, 0xbd, 0xd0, 0xe4, 0x6d, 0x41, 0x7e, 0xb0];
 /// assert_eq!(deerlapse::nonce_of(&iv, 654_360_564).as_ref(), &nonce);
 /// ```
+#[must_use]
 pub fn nonce_of(iv: &[u8; NONCE_LEN], number: u64) -> Nonce {
     cpu::require();
     let mut nonce = [0; NONCE_LEN];

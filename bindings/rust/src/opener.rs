@@ -29,7 +29,11 @@ pub struct Opener {
 impl Opener {
     /// Creates an opener for messages with these numbers, in order.
     ///
+    /// # Errors
+    ///
     /// Fails if the key does not have 16 or 32 bytes, or if the range starts after its end.
+    ///
+    /// # Examples
     ///
     /// ```
     /// use deerlapse::Opener;
@@ -69,6 +73,7 @@ impl Opener {
     /// assert_eq!(opener.numbers_left(), 7..9);
     /// # Ok::<(), deerlapse::Unspecified>(())
     /// ```
+    #[must_use]
     pub fn numbers_left(&self) -> Range<u64> {
         // SAFETY: the parameter is a reference.
         let next = unsafe { ffi::opener_next(&self.state) };
@@ -78,8 +83,12 @@ impl Opener {
     /// Opens the next message in order, whose ciphertext and tag are in `in_out` from `ciphertext_and_tag.start` on,
     /// and returns the plaintext, which is then at the front of `in_out`. The bytes after it are unchanged.
     ///
+    /// # Errors
+    ///
     /// Fails if no number is left, or if [`LessSafeKey::open_within`](crate::LessSafeKey::open_within) does. The number
     /// is then not counted, so the message with this number can still be opened.
+    ///
+    /// # Examples
     ///
     /// ```
     /// use deerlapse::{Opener, Sealer};
@@ -116,6 +125,12 @@ impl Opener {
 
     /// Opens the ciphertext and tag in the whole of `in_out`, as [`open_within`](Self::open_within) does.
     ///
+    /// # Errors
+    ///
+    /// Fails as [`open_within`](Self::open_within) does.
+    ///
+    /// # Examples
+    ///
     /// ```
     /// use deerlapse::{Opener, Sealer};
     ///
@@ -140,7 +155,11 @@ impl Opener {
     /// It counts nothing and has no limit, and threads may share the opener. It opens a message any number of times:
     /// whether a number was opened before is the caller's responsibility.
     ///
+    /// # Errors
+    ///
     /// Fails if [`LessSafeKey::open_within`](crate::LessSafeKey::open_within) does.
+    ///
+    /// # Examples
     ///
     /// ```
     /// use deerlapse::{Opener, Sealer};
@@ -177,6 +196,12 @@ impl Opener {
     }
 
     /// Opens the ciphertext and tag in the whole of `in_out`, as [`open_number_within`](Self::open_number_within) does.
+    ///
+    /// # Errors
+    ///
+    /// Fails as [`open_number_within`](Self::open_number_within) does.
+    ///
+    /// # Examples
     ///
     /// ```
     /// use deerlapse::{Opener, Sealer};

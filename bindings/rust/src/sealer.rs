@@ -42,7 +42,11 @@ impl Sealer {
     /// Under the same key, none of its nonces may be used by another sealer, or for sealing with a `LessSafeKey`. The
     /// simplest way is a key for this sealer alone.
     ///
+    /// # Errors
+    ///
     /// Fails if the key does not have 16 or 32 bytes, or if the range starts after its end.
+    ///
+    /// # Examples
     ///
     /// ```
     /// use deerlapse::Sealer;
@@ -83,6 +87,7 @@ impl Sealer {
     /// assert_eq!(sealer.numbers_left(), 8..9);
     /// # Ok::<(), deerlapse::Unspecified>(())
     /// ```
+    #[must_use]
     pub fn numbers_left(&self) -> Range<u64> {
         // SAFETY: the parameter is a reference.
         let next = unsafe { ffi::sealer_next(&self.state) };
@@ -92,8 +97,12 @@ impl Sealer {
     /// Encrypts `in_out` in place under the nonce of the next number, and returns the tag of the ciphertext and the
     /// AAD.
     ///
+    /// # Errors
+    ///
     /// Fails if no number is left, or if the message is longer than 2^36 - 32 bytes. No number is then used, and the
     /// buffer is unchanged.
+    ///
+    /// # Examples
     ///
     /// ```
     /// use deerlapse::{Sealer, Unspecified};
@@ -127,6 +136,12 @@ impl Sealer {
 
     /// Encrypts `in_out` in place as [`seal_in_place_separate_tag`](Self::seal_in_place_separate_tag) does, and appends
     /// the tag: n bytes become n + 16.
+    ///
+    /// # Errors
+    ///
+    /// Fails as [`seal_in_place_separate_tag`](Self::seal_in_place_separate_tag) does.
+    ///
+    /// # Examples
     ///
     /// ```
     /// let mut sealer = deerlapse::Sealer::new(&[0; 16], &[0; 12], 0..1)?;

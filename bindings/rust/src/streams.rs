@@ -5,7 +5,11 @@ use crate::{accepted, cpu, ffi, Unspecified, MASK_LEN, NONCE_LEN, SAMPLE_LEN};
 /// Returns the header protection mask for a sample, with AES-128 for a key of 16 bytes and with AES-256 for one of 32
 /// (RFC 9001 section 5.4.3).
 ///
+/// # Errors
+///
 /// Fails if the key has any other length.
+///
+/// # Examples
 ///
 /// ```
 /// // RFC 9001 appendix A.2
@@ -36,6 +40,7 @@ pub fn mask_aes(key: &[u8], sample: &[u8; SAMPLE_LEN]) -> Result<[u8; MASK_LEN],
 /// let mask = deerlapse::mask_chacha20(&key, &sample.to_be_bytes());
 /// assert_eq!(mask, [0xae, 0xfe, 0xfe, 0x7d, 0x03]);
 /// ```
+#[must_use]
 pub fn mask_chacha20(key: &[u8; 32], sample: &[u8; SAMPLE_LEN]) -> [u8; MASK_LEN] {
     cpu::require();
     let mut mask = [0; MASK_LEN];
@@ -49,7 +54,11 @@ pub fn mask_chacha20(key: &[u8; 32], sample: &[u8; SAMPLE_LEN]) -> [u8; MASK_LEN
 ///
 /// It computes no tag: a changed ciphertext decrypts to a changed plaintext.
 ///
+/// # Errors
+///
 /// Fails if the stream would go past the last block, whose counter is 2^32 - 1.
+///
+/// # Examples
 ///
 /// ```
 /// let mut bytes = *b"hello";

@@ -28,6 +28,7 @@ use rustls::{CipherSuite, CipherSuiteCommon, SupportedCipherSuite, Tls13CipherSu
 /// assert_eq!(provider.cipher_suites, default_provider().cipher_suites);
 /// provider.install_default().expect("the first provider of this process");
 /// ```
+#[must_use]
 pub fn with_deerlapse(provider: CryptoProvider) -> CryptoProvider {
     let replaced = |suite: &SupportedCipherSuite| match gcm_of(suite.suite()) {
         Some(gcm) => with_gcm(*suite, gcm),

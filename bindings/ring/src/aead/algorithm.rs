@@ -40,18 +40,21 @@ impl Algorithm {
 
     /// Returns the length of a key, in bytes: K_LEN of RFC 5116 section 5.
     #[inline]
+    #[must_use]
     pub fn key_len(&self) -> usize {
         self.key_len
     }
 
     /// Returns the length of a tag, 16 bytes (RFC 5116 sections 5.1 and 5.2).
     #[inline]
+    #[must_use]
     pub fn tag_len(&self) -> usize {
         MAX_TAG_LEN
     }
 
     /// Returns the length of a nonce, 12 bytes: N_MIN and N_MAX of RFC 5116 section 5.
     #[inline]
+    #[must_use]
     pub fn nonce_len(&self) -> usize {
         NONCE_LEN
     }

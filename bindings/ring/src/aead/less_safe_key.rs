@@ -31,6 +31,7 @@ pub struct LessSafeKey {
 impl LessSafeKey {
     /// Makes a key whose calls take the nonce (RFC 5116 section 2).
     #[inline]
+    #[must_use]
     pub fn new(key: UnboundKey) -> Self {
         key.into_inner()
     }
@@ -46,8 +47,12 @@ impl LessSafeKey {
     /// Opens the ciphertext in `in_out` from `ciphertext.start` on, whose tag is `tag`, and returns the plaintext, which is
     /// then at the front of `in_out` (GCM-AD of SP 800-38D section 7.2). The bytes after it are unchanged.
     ///
+    /// # Errors
+    ///
     /// Fails if the tag is wrong, if the start is after the end, or if a length is not one that
     /// [`seal_in_place_separate_tag`](Self::seal_in_place_separate_tag) takes. `in_out` is then unchanged.
+    ///
+    /// # Examples
     ///
     /// ```
     /// use deerlapse_ring::aead::{Aad, LessSafeKey, Nonce, UnboundKey, AES_128_GCM};
@@ -77,6 +82,10 @@ impl LessSafeKey {
 
     /// Opens the ciphertext and tag in the whole of `in_out`, as [`open_within`](Self::open_within) does (SP 800-38D
     /// section 7.2).
+    ///
+    /// # Errors
+    ///
+    /// Fails as [`open_within`](Self::open_within) does.
     pub fn open_in_place<'in_out, A>(
         &self,
         nonce: Nonce,
@@ -91,6 +100,8 @@ impl LessSafeKey {
 
     /// Opens the ciphertext and tag in `in_out` from `ciphertext_and_tag.start` on, and returns the plaintext, which is
     /// then at the front of `in_out` (GCM-AD of SP 800-38D section 7.2). The bytes after it are unchanged.
+    ///
+    /// # Errors
     ///
     /// Fails if the tag is wrong, if there are fewer than 16 bytes after the start, or if a length is not one that
     /// [`seal_in_place_separate_tag`](Self::seal_in_place_separate_tag) takes. `in_out` is then unchanged.
@@ -110,6 +121,8 @@ impl LessSafeKey {
 
     /// Seals `in_out` in place, and appends the tag: n bytes become n + 16 (GCM-AE of SP 800-38D section 7.1).
     ///
+    /// # Errors
+    ///
     /// Fails as [`seal_in_place_separate_tag`](Self::seal_in_place_separate_tag) does.
     pub fn seal_in_place_append_tag<A, InOut>(
         &self,
@@ -127,6 +140,8 @@ impl LessSafeKey {
     }
 
     /// Seals `in_out` in place, and returns the tag of the ciphertext and the AAD (GCM-AE of SP 800-38D section 7.1).
+    ///
+    /// # Errors
     ///
     /// Fails if the message is longer than 2^36 - 32 bytes or the AAD than 2^61 - 1 (SP 800-38D section 5.2.1.1). `in_out`
     /// is then unchanged.
@@ -146,6 +161,7 @@ impl LessSafeKey {
 
     /// Returns the algorithm of the key (RFC 5116 section 5).
     #[inline]
+    #[must_use]
     pub fn algorithm(&self) -> &'static Algorithm {
         self.algorithm
     }

@@ -49,7 +49,9 @@ pub const MAX_TAG_LEN: usize = deerlapse::TAG_LEN;
 pub trait NonceSequence {
     /// Returns the next nonce, which it has never returned before (RFC 5116 section 3.1).
     ///
-    /// It fails when there is none, for example after as many messages as a key may seal (SP 800-38D section 8.3), and
+    /// # Errors
+    ///
+    /// Fails when there is none, for example after as many messages as a key may seal (SP 800-38D section 8.3), and
     /// then in each later call too.
     fn advance(&mut self) -> Result<Nonce, Unspecified>;
 }
@@ -82,6 +84,7 @@ pub struct Aad<A>(A);
 impl<A: AsRef<[u8]>> Aad<A> {
     /// Makes the AAD of these bytes (A of SP 800-38D section 5.2.1.1).
     #[inline]
+    #[must_use]
     pub fn from(aad: A) -> Self {
         Aad(aad)
     }
@@ -90,6 +93,7 @@ impl<A: AsRef<[u8]>> Aad<A> {
 impl Aad<[u8; 0]> {
     /// Makes the AAD of no byte, for a message that has none (SP 800-38D section 5.2.1.1).
     #[inline]
+    #[must_use]
     pub fn empty() -> Self {
         Aad([])
     }

@@ -19,7 +19,11 @@ pub struct Nonce(deerlapse::Nonce);
 impl Nonce {
     /// Makes a nonce of a slice, assuming that no other is the same under its key (SP 800-38D section 8).
     ///
+    /// # Errors
+    ///
     /// Fails if the slice doesn't have [`NONCE_LEN`] bytes.
+    ///
+    /// # Examples
     ///
     /// ```
     /// use deerlapse_ring::aead::Nonce;
@@ -41,6 +45,7 @@ impl Nonce {
     /// assert_eq!(nonce.as_ref(), &[7; 12]);
     /// ```
     #[inline]
+    #[must_use]
     pub fn assume_unique_for_key(value: [u8; NONCE_LEN]) -> Self {
         Nonce(deerlapse::Nonce::assume_unique_for_key(value))
     }

@@ -38,6 +38,10 @@ impl<N: NonceSequence> fmt::Debug for OpeningKey<N> {
 impl<N: NonceSequence> OpeningKey<N> {
     /// Opens the ciphertext and tag in the whole of `in_out`, as [`open_within`](Self::open_within) does (SP 800-38D
     /// section 7.2).
+    ///
+    /// # Errors
+    ///
+    /// Fails as [`open_within`](Self::open_within) does.
     pub fn open_in_place<'in_out, A>(
         &mut self,
         aad: Aad<A>,
@@ -52,6 +56,8 @@ impl<N: NonceSequence> OpeningKey<N> {
     /// Opens with the next nonce the ciphertext and tag in `in_out` from `ciphertext_and_tag.start` on, and returns the
     /// plaintext, which is then at the front of `in_out` (GCM-AD of SP 800-38D section 7.2). The bytes after it are
     /// unchanged, so that packets with headers can be put together in place.
+    ///
+    /// # Errors
     ///
     /// Fails if the sequence does, or as [`LessSafeKey::open_within`] does. `in_out` is then unchanged.
     pub fn open_within<'in_out, A>(

@@ -55,12 +55,14 @@ pub static CHACHA20: Algorithm = Algorithm {
 impl Algorithm {
     /// Returns the length of a key, in bytes (RFC 9001 sections 5.4.3 and 5.4.4).
     #[inline]
+    #[must_use]
     pub fn key_len(&self) -> usize {
         self.key_len
     }
 
     /// Returns the length of a sample, 16 bytes (RFC 9001 section 5.4.2).
     #[inline]
+    #[must_use]
     pub fn sample_len(&self) -> usize {
         SAMPLE_LEN
     }
@@ -89,8 +91,15 @@ enum Key {
 impl HeaderProtectionKey {
     /// Makes a key of bytes that were derived with the label "quic hp" (RFC 9001 section 5.1).
     ///
-    /// Fails if `key_bytes` doesn't have `algorithm.key_len()` bytes. Panics as
-    /// [`UnboundKey::new`](super::UnboundKey::new) does.
+    /// # Errors
+    ///
+    /// Fails if `key_bytes` doesn't have `algorithm.key_len()` bytes.
+    ///
+    /// # Panics
+    ///
+    /// Panics as [`UnboundKey::new`](super::UnboundKey::new) does.
+    ///
+    /// # Examples
     ///
     /// ```
     /// use deerlapse_ring::aead::quic::{HeaderProtectionKey, AES_128};
@@ -114,7 +123,11 @@ impl HeaderProtectionKey {
     /// Returns the mask for a sample, of which the first byte is for the packet's first byte, and the others for its
     /// number (RFC 9001 sections 5.4.1, 5.4.3 and 5.4.4).
     ///
+    /// # Errors
+    ///
     /// Fails if the sample doesn't have 16 bytes.
+    ///
+    /// # Examples
     ///
     /// ```
     /// use deerlapse_ring::aead::quic::{HeaderProtectionKey, AES_128};
@@ -136,6 +149,7 @@ impl HeaderProtectionKey {
 
     /// Returns the algorithm of the key (RFC 9001 section 5.4.1).
     #[inline]
+    #[must_use]
     pub fn algorithm(&self) -> &'static Algorithm {
         self.algorithm
     }

@@ -65,6 +65,8 @@ impl<N: NonceSequence> SealingKey<N> {
     /// Seals `in_out` in place under the next nonce, and appends the tag: n bytes become n + 16 (GCM-AE of SP 800-38D
     /// section 7.1).
     ///
+    /// # Errors
+    ///
     /// Fails if the sequence does, or as [`LessSafeKey::seal_in_place_separate_tag`] does. `in_out` is then unchanged.
     pub fn seal_in_place_append_tag<A, InOut>(
         &mut self,
@@ -81,6 +83,8 @@ impl<N: NonceSequence> SealingKey<N> {
 
     /// Seals `in_out` in place under the next nonce, and returns the tag of the ciphertext and the AAD (GCM-AE of SP
     /// 800-38D section 7.1).
+    ///
+    /// # Errors
     ///
     /// Fails if the sequence does, or as [`LessSafeKey::seal_in_place_separate_tag`] does. `in_out` is then unchanged.
     pub fn seal_in_place_separate_tag<A>(

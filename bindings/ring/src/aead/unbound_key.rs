@@ -11,8 +11,15 @@ pub struct UnboundKey(LessSafeKey);
 impl UnboundKey {
     /// Expands a key (K of RFC 5116 section 2.1; FIPS 197 section 5.2).
     ///
-    /// Fails if `key_bytes` doesn't have `algorithm.key_len()` bytes. Panics if the processor lacks an instruction that
-    /// the library was built for, as `deerlapse::cpu_supported` tells.
+    /// # Errors
+    ///
+    /// Fails if `key_bytes` doesn't have `algorithm.key_len()` bytes.
+    ///
+    /// # Panics
+    ///
+    /// Panics if the processor lacks an instruction that the library was built for, as `deerlapse::cpu_supported` tells.
+    ///
+    /// # Examples
     ///
     /// ```
     /// use deerlapse_ring::aead::{UnboundKey, AES_128_GCM};
@@ -28,6 +35,7 @@ impl UnboundKey {
 
     /// Returns the algorithm of the key (RFC 5116 section 5).
     #[inline]
+    #[must_use]
     pub fn algorithm(&self) -> &'static Algorithm {
         self.0.algorithm()
     }
