@@ -1,10 +1,12 @@
 //! Every public item, on standard vectors. RustCrypto's `aes-gcm` passes it too.
 
-use aes_gcm::aead::consts::U12;
+use aes_gcm::aead::consts::{U12, U16};
 use aes_gcm::aead::generic_array::typenum::Unsigned;
 use aes_gcm::aead::{Aead, Payload};
+use aes_gcm::aes::Aes192;
 use aes_gcm::{
-    AeadCore, AeadInPlace, Aes128Gcm, Aes256Gcm, Error, Key, KeyInit, KeySizeUser, Nonce, Tag,
+    AeadCore, AeadInPlace, Aes128Gcm, Aes256Gcm, AesGcm, Error, Key, KeyInit, KeySizeUser, Nonce,
+    Tag, TagSize, A_MAX, C_MAX, P_MAX,
 };
 
 fn hex(digits: &str) -> Vec<u8> {
@@ -14,7 +16,7 @@ fn hex(digits: &str) -> Vec<u8> {
         .collect()
 }
 
-// McGrew and Viega, "The Galois/Counter Mode of Operation (GCM)", appendix B, test cases 4 and 16.
+// McGrew and Viega, "The Galois/Counter Mode of Operation (GCM)", appendix B, test cases 4, 10 and 16.
 const NONCE: &str = "cafebabefacedbaddecaf888";
 const AAD: &str = "feedfacedeadbeeffeedfacedeadbeefabaddad2";
 const MESSAGE: &str = "d9313225f88406e5a55909c5aff5269a86a7a9531534f7da2e4c303d8a318a72\
@@ -64,10 +66,30 @@ fn aes_128_gcm() -> Result<(), Error> {
     run::<Aes128Gcm>("feffe9928665731c6d6a8f9467308308", sealed)
 }
 
+/// A cipher that is RustCrypto's on both.
+#[test]
+fn aes_192_gcm() -> Result<(), Error> {
+    let key = "feffe9928665731c6d6a8f9467308308feffe9928665731c";
+    let sealed = "3980ca0b3c00e841eb06fac4872a2757859e1ceaa6efd984628593b40ca1e19c\
+        7d773d00c144c525ac619d18c84a3f4718e2448b2fe324d9ccda27102519498e80f1478f37ba55bd6d27618c";
+    run::<AesGcm<Aes192, U12>>(key, sealed)
+}
+
 #[test]
 fn aes_256_gcm() -> Result<(), Error> {
     let key = "feffe9928665731c6d6a8f9467308308feffe9928665731c6d6a8f9467308308";
     let sealed = "522dc1f099567d07f47f37a32a84427d643a8cdcbfe5c0c97598a2bd2555d1aa\
         8cb08e48590dbb3da7b08b1056828838c5f61e6393ba7a0abcc9f66276fc6ece0f4e1768cddf8853bb2d551b";
     run::<Aes256Gcm>(key, sealed)
+}
+
+/// The length of a tag that `AesGcm` takes.
+fn len_of_tag<T: TagSize>() -> usize {
+    T::to_usize()
+}
+
+#[test]
+fn lengths() {
+    assert_eq!((len_of_tag::<U12>(), len_of_tag::<U16>()), (12, 16));
+    assert_eq!((A_MAX, P_MAX, C_MAX), (1 << 36, 1 << 36, (1 << 36) + 16));
 }
