@@ -1,5 +1,5 @@
-/* Says on standard error when the program calls fsync, link or rename, and lets the call named by FAILING fail. If that is `proc`,
- * no file of /proc has metadata. */
+/* Says on standard error when the program calls fsync, link or rename, and lets the call named by FAILING fail. If that is
+ * `read`, each second read is interrupted, from the first on. If it is `proc`, no file of /proc has metadata. */
 #define _GNU_SOURCE
 #include <dlfcn.h>
 #include <errno.h>
@@ -7,17 +7,32 @@
 #include <stdlib.h>
 #include <string.h>
 #include <sys/stat.h>
+#include <unistd.h>
+
+static int is_failing(const char *name) {
+    const char *failing = getenv("FAILING");
+    return failing != NULL && strcmp(failing, name) == 0;
+}
 
 static int fails(const char *name) {
-    const char *failing = getenv("FAILING");
     fprintf(stderr, "call %s\n", name);
     errno = EIO;
-    return failing != NULL && strcmp(failing, name) == 0;
+    return is_failing(name);
 }
 
 int fsync(int fd) {
     int (*next)(int) = (int (*)(int))dlsym(RTLD_NEXT, "fsync");
     return fails("fsync") ? -1 : next(fd);
+}
+
+ssize_t read(int fd, void *to, size_t len) {
+    ssize_t (*next)(int, void *, size_t) = (ssize_t (*)(int, void *, size_t))dlsym(RTLD_NEXT, "read");
+    static int reads;
+    if (is_failing("read") && reads++ % 2 == 0) {
+        errno = EINTR;
+        return -1;
+    }
+    return next(fd, to, len);
 }
 
 int link(const char *from, const char *to) {
@@ -33,8 +48,7 @@ int rename(const char *from, const char *to) {
 int statx(int folder, const char *path, int flags, unsigned mask, struct statx *out) {
     int (*next)(int, const char *, int, unsigned, struct statx *) =
         (int (*)(int, const char *, int, unsigned, struct statx *))dlsym(RTLD_NEXT, "statx");
-    const char *failing = getenv("FAILING");
-    if (failing != NULL && strcmp(failing, "proc") == 0 && strncmp(path, "/proc/", 6) == 0) {
+    if (is_failing("proc") && strncmp(path, "/proc/", 6) == 0) {
         errno = ENOENT;
         return -1;
     }

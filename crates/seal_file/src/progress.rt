@@ -1,4 +1,4 @@
-//! A reader that shows how much was read, and records whether a call failed.
+//! A reader that shows how much was read, and records whether the last call failed.
 
 ghost use Rattle.std.specs.Prelude.{◌≡◌, ◌≤◌};
 
@@ -14,7 +14,7 @@ const MIB: u64 = 1 << 20;
 /// The number of marks in a full bar.
 const WIDTH: u64 = 50;
 
-/// A reader that can write to standard error how much was read, and records whether a call failed.
+/// A reader that can write to standard error how much was read, and records whether the last call failed.
 #[derive(Drop)]
 pub struct Source<'a, R: Read + Drop> {
     rt: &'a HostRuntime,
@@ -43,7 +43,7 @@ impl<'a, R: Read + Drop> Source<'a, R> {
         }
     }
 
-    /// Returns whether a call has failed.
+    /// Returns whether the last call failed. One that is interrupted, and so repeated, is not the last.
     pub fn has_failed(&self) -> bool
         ensures { result ≡ self.now.has_failed }
     {
@@ -115,6 +115,7 @@ impl<R: Read + Drop> Read for Source<'_, R> {
     fn read(&mut self, buf: &mut [u8]) -> io::Result<usize> {
         match self.input.read(buf) {
             Ok(count) => {
+                self.has_failed = false;
                 let before = self.read / STEP;
                 self.read = self.read.saturating_add(count as u64);
                 if self.read / STEP != before {
