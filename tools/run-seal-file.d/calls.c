@@ -22,7 +22,9 @@ static int fails(const char *name) {
 
 int fsync(int fd) {
     int (*next)(int) = (int (*)(int))dlsym(RTLD_NEXT, "fsync");
-    return fails("fsync") ? -1 : next(fd);
+    struct stat of;
+    int is_folder = fstat(fd, &of) == 0 && S_ISDIR(of.st_mode);
+    return fails(is_folder ? "fsync folder" : "fsync") ? -1 : next(fd);
 }
 
 ssize_t read(int fd, void *to, size_t len) {

@@ -1,7 +1,7 @@
 //! Why the program ends early.
 
-use sealed_file::FileError;
-use std::io;
+use sealed_file::{FileError, MAX_AAD_LEN};
+use std::{fmt, io};
 
 /// A file or stream that the program reads or writes.
 #[derive(Clone, Copy)]
@@ -23,10 +23,8 @@ pub enum Failure {
     KeyLength,
     /// The passphrase is empty or too long.
     PassphraseLength,
-    /// OUT exists, and `--force` is not given.
+    /// OUT or the key file to be created exists, and `--force` is not given.
     Exists,
-    /// The key file to be created already exists.
-    KeyExists,
     /// OUT is the same file as IN.
     SameFile,
     /// OUT is the file with the key or the passphrase.
@@ -39,19 +37,81 @@ pub enum Failure {
     AadTooLong,
     /// A sealed file would be written to a terminal.
     Terminal,
+    /// A key would be written to a terminal.
+    KeyTerminal,
     /// The file cannot be sealed or opened.
     Refused(FileError),
+    /// The first chunk to be opened, which has this number, was changed or cut, or the file was sealed with another AAD.
+    FirstRefused(u32),
     /// Reading or writing failed, or allocating memory failed.
     Io(Place, io::Error),
+    /// OUT or the key file is in place, but its folder may not have reached the device.
+    NotSynced(io::Error),
 }
 
 impl Failure {
     /// Returns the exit status: 1 for a file that cannot be sealed or opened, 2 for wrong use, 3 for reading and writing.
     pub fn status(&self) -> u8 {
         match self {
-            Failure::Refused(_) => 1,
-            Failure::Io(_, _) => 3,
+            Failure::Refused(_) | Failure::FirstRefused(_) => 1,
+            Failure::Io(_, _) | Failure::NotSynced(_) => 3,
             _ => 2,
+        }
+    }
+
+    /// Returns the file or stream that the message is about, unless it is about the command line.
+    pub fn place(&self) -> Option<Place> {
+        match self {
+            Failure::Use(_) | Failure::AadTooLong => None,
+            Failure::KeyLength => Some(Place::KeyFile),
+            Failure::PassphraseLength => Some(Place::PassphraseFile),
+            Failure::Refused(_) | Failure::FirstRefused(_) => Some(Place::Input),
+            Failure::Io(place, _) => Some(*place),
+            _ => Some(Place::Output),
+        }
+    }
+}
+
+impl fmt::Display for Failure {
+    fn fmt<W: fmt::Write>(&self, f: &mut fmt::Formatter<W>) -> fmt::Result {
+        match self {
+            Failure::Use(error) => write!(f, "{error}; see --help"),
+            Failure::KeyLength => write!(f, "the key is not 32 bytes long"),
+            Failure::PassphraseLength => {
+                write!(f, "the passphrase is empty, or longer than 4096 bytes")
+            }
+            Failure::Exists => write!(f, "the file exists"),
+            Failure::SameFile => write!(f, "input and output are the same file"),
+            Failure::SecretFile => write!(f, "the key or the passphrase is in this file"),
+            Failure::Unidentified => {
+                write!(
+                    f,
+                    "this may be the file on standard input, which cannot be identified"
+                )
+            }
+            Failure::NotRegular => write!(f, "not a regular file"),
+            Failure::AadTooLong => write!(f, "--aad takes at most {MAX_AAD_LEN} bytes"),
+            Failure::Terminal => {
+                write!(
+                    f,
+                    "a sealed file is not written to a terminal: give -o OUT, or -o -"
+                )
+            }
+            Failure::KeyTerminal => write!(f, "a key is not written to a terminal"),
+            Failure::Refused(error) => write!(f, "{error}"),
+            Failure::FirstRefused(number) => {
+                write!(
+                    f,
+                    "chunk {number} was changed or cut, or the file was sealed with another --aad"
+                )
+            }
+            Failure::Io(_, error) => write!(f, "{error}"),
+            Failure::NotSynced(error) => {
+                write!(
+                    f,
+                    "the file is in place, but its folder could not be synced: {error}"
+                )
+            }
         }
     }
 }

@@ -11,7 +11,7 @@ pub fn others_may_read(metadata: &Metadata) -> bool {
     metadata.permissions().mode() & 0o044 != 0
 }
 
-/// Returns who may read, write and run the file.
+/// Returns who may read, write and run the file: of its mode, the bits 0777.
 pub fn mode_of(metadata: &Metadata) -> u32 {
     metadata.permissions().mode() & 0o777
 }
@@ -22,6 +22,11 @@ pub fn set_mode(file: &File, mode: u32) -> io::Result<()> {
         return Ok(());
     }
     file.set_permissions(Permissions::from_mode(mode))
+}
+
+/// Returns the group of the file.
+pub fn group_of(metadata: &Metadata) -> u32 {
+    metadata.gid()
 }
 
 /// Returns whether both metadata are of the same file.
@@ -83,4 +88,10 @@ pub fn link(rt: &HostRuntime, from: &Name, to: &Name) -> io::Result<()> {
 /// Removes a file's name.
 pub fn remove(rt: &HostRuntime, name: &Name) -> io::Result<()> {
     fs::remove_file(rt, text_of(name)?)
+}
+
+/// Waits until the folder of a file has reached the device, with the file's name.
+pub fn sync_folder_of(rt: &HostRuntime, name: &Name) -> io::Result<()> {
+    let folder = name.folder(rt.alloc())?;
+    open(rt, &folder)?.sync_all()
 }

@@ -13,8 +13,8 @@ ghost use Rattle.std.specs.Prelude.{◌≤◌, length};
 
 use failure::{Failure, Place};
 use name::Name;
-use options::{Action, Conversion, HELP, Request, SecretFile, VERSION};
-use output::{Inputs, NUMBER_LEN, NewFile, check_target};
+use options::{Action, Conversion, HELP, KeyFile, Request, SecretFile, VERSION};
+use output::{Access, Inputs, NUMBER_LEN, NewFile, check_free, check_target};
 use progress::Source;
 use range::{Range, RangeWriter};
 use sealed_file::{
@@ -23,7 +23,6 @@ use sealed_file::{
     open_with_aad, open_with_passphrase, plaintext_len, seal_with_aad, seal_with_passphrase,
 };
 use std::alloc::Global;
-use std::fmt::Display;
 use std::fs::{File, Metadata};
 use std::io::{self, ErrorKind, IsTerminal, Read, Write};
 use std::process::ExitCode;
@@ -34,9 +33,6 @@ const KEY_LEN: usize = 32;
 
 /// The most bytes that a passphrase may have.
 const MAX_PASSPHRASE_LEN: usize = 4096;
-
-/// The mode of a key file: only its owner reads and writes it.
-const KEY_MODE: u32 = 0o600;
 
 fn main(rt: HostRuntime) -> ExitCode {
     let request = match request_of(&rt) {
@@ -59,53 +55,25 @@ fn request_of(rt: &HostRuntime) -> Result<Request, Failure> {
 
 /// Writes to standard error why the program ends early, and returns its exit status.
 fn report(rt: &HostRuntime, request: &Request, failure: &Failure) -> ExitCode {
-    let _ = match failure {
-        Failure::Use(error) => eprintln!(rt; "seal_file: {error}; see --help"),
-        Failure::KeyLength => say(rt, request, Place::KeyFile, &"the key is not 32 bytes long"),
-        Failure::PassphraseLength => {
-            let text = "the passphrase is empty, or longer than 4096 bytes";
-            say(rt, request, Place::PassphraseFile, &text)
-        }
-        Failure::KeyExists => say(rt, request, Place::KeyFile, &"the file exists"),
-        Failure::Exists => say(rt, request, Place::Output, &"the file exists"),
-        Failure::SameFile => say(
-            rt,
-            request,
-            Place::Output,
-            &"input and output are the same file",
-        ),
-        Failure::SecretFile => {
-            let text = "the key or the passphrase is in this file";
-            say(rt, request, Place::Output, &text)
-        }
-        Failure::Unidentified => {
-            let text = "this may be the file on standard input, which cannot be identified";
-            say(rt, request, Place::Output, &text)
-        }
-        Failure::AadTooLong => eprintln!(rt; "seal_file: --aad takes at most {MAX_AAD_LEN} bytes"),
-        Failure::Terminal => {
-            let text = "a sealed file is not written to a terminal: give -o OUT, or -o -";
-            say(rt, request, Place::Output, &text)
-        }
-        Failure::NotRegular => say(rt, request, Place::Output, &"not a regular file"),
-        Failure::Refused(error) => say(rt, request, Place::Input, error),
-        Failure::Io(place, error) => say(rt, request, *place, error),
+    let _ = match failure.place() {
+        Some(place) => say(rt, request, place, failure),
+        None => eprintln!(rt; "seal_file: {failure}"),
     };
     ExitCode::from(failure.status())
 }
 
 /// Writes a message about a file or a stream to standard error.
-fn say<D: Display>(rt: &HostRuntime, request: &Request, place: Place, text: &D) -> io::Result<()> {
+fn say(rt: &HostRuntime, request: &Request, place: Place, failure: &Failure) -> io::Result<()> {
     if let Some(name) = request.name_of(place) {
-        return eprintln!(rt; "seal_file: {name}: {text}");
+        return eprintln!(rt; "seal_file: {name}: {failure}");
     }
     match place {
-        Place::Input | Place::PassphraseFile => {
-            eprintln!(rt; "seal_file: standard input: {text}")
+        Place::Input | Place::KeyFile | Place::PassphraseFile => {
+            eprintln!(rt; "seal_file: standard input: {failure}")
         }
-        Place::Output => eprintln!(rt; "seal_file: standard output: {text}"),
-        Place::Random => eprintln!(rt; "seal_file: random bytes: {text}"),
-        Place::KeyFile | Place::Console => eprintln!(rt; "seal_file: {text}"),
+        Place::Output => eprintln!(rt; "seal_file: standard output: {failure}"),
+        Place::Random => eprintln!(rt; "seal_file: random bytes: {failure}"),
+        Place::Console => eprintln!(rt; "seal_file: {failure}"),
     }
 }
 
@@ -113,8 +81,8 @@ fn run(rt: &HostRuntime, request: &Request) -> Result<(), Failure> {
     match request {
         Request::Help => at(Place::Output, println!(rt; "{HELP}")),
         Request::Version => at(Place::Output, println!(rt; "{VERSION}")),
-        Request::Inspect { file, key_file } => inspect(rt, file, key_file.as_ref()),
-        Request::Keygen(name) => keygen(rt, name),
+        Request::Inspect { file, key_file } => inspect(rt, file.as_ref(), key_file.as_ref()),
+        Request::Keygen(name) => keygen(rt, name.as_ref()),
         Request::Convert(conversion) => convert(rt, conversion),
     }
 }
@@ -127,37 +95,67 @@ fn at<T>(place: Place, outcome: io::Result<T>) -> Result<T, Failure> {
     }
 }
 
-/// Creates a key in a new file.
-fn keygen(rt: &HostRuntime, name: &Name) -> Result<(), Failure> {
+/// Creates a key in a new file, or writes it to standard output if that is no terminal.
+fn keygen(rt: &HostRuntime, name: Option<&Name>) -> Result<(), Failure> {
+    if name.is_none() && rt.stdout().is_terminal() {
+        return Err(Failure::KeyTerminal);
+    }
     let mut key = [0; KEY_LEN];
     at(Place::Random, rt.fill_bytes(&mut key))?;
-    let mut file = match files::create_new(rt, name, KEY_MODE) {
-        Ok(file) => file,
-        Err(error) if error.kind() == ErrorKind::AlreadyExists => return Err(Failure::KeyExists),
-        Err(error) => return Err(Failure::Io(Place::KeyFile, error)),
+    let Some(name) = name else {
+        let mut output = io::writer(rt);
+        at(Place::Output, output.write_all(&key))?;
+        return at(Place::Output, output.flush());
     };
-    let written = file.write_all(&key).and_then(|()| file.sync_all());
-    if written.is_err() {
-        let _ = files::remove(rt, name);
-    }
-    at(Place::KeyFile, written)
+    check_free(rt, name)?;
+    let mut file = new_file(rt, name, Access::Owner)?;
+    let written = at(Place::Output, file.write_all(&key));
+    file.finish(rt, name, written, false)
+}
+
+/// Creates the file that is to become the one with this name.
+fn new_file(rt: &HostRuntime, target: &Name, access: Access) -> Result<NewFile, Failure> {
+    let mut number = [0; NUMBER_LEN];
+    at(Place::Random, rt.fill_bytes(&mut number))?;
+    at(Place::Output, NewFile::create(rt, target, number, access))
+}
+
+/// Returns the first bytes of a file or of standard input, at most this many, and its metadata if it can be identified.
+fn read_front(
+    rt: &HostRuntime,
+    name: Option<&Name>,
+    most: usize,
+) -> io::Result<(Vec<u8>, Option<Metadata>)> {
+    let mut bytes = Vec::new(rt.alloc());
+    let metadata = match name {
+        Some(name) => {
+            let file = files::open(rt, name)?;
+            let metadata = file.metadata().ok();
+            file.take(most as u64).read_to_end(&mut bytes)?;
+            metadata
+        }
+        None => {
+            rt.reader().take(most as u64).read_to_end(&mut bytes)?;
+            files::stdin_metadata(rt).ok()
+        }
+    };
+    Ok((bytes, metadata))
 }
 
 /// Prints what a header and the length of a file say, and whether the commitment is that of a key.
-fn inspect(rt: &HostRuntime, name: &Name, key_file: Option<&Name>) -> Result<(), Failure> {
-    let file = at(Place::Input, files::open(rt, name))?;
-    let metadata = at(Place::Input, file.metadata())?;
-    let mut header = Vec::new(rt.alloc());
-    at(
-        Place::Input,
-        file.take(PASSPHRASE_HEADER_LEN as u64)
-            .read_to_end(&mut header),
-    )?;
+fn inspect(
+    rt: &HostRuntime,
+    name: Option<&Name>,
+    key_file: Option<&KeyFile>,
+) -> Result<(), Failure> {
+    let front = read_front(rt, name, PASSPHRASE_HEADER_LEN);
+    let (header, metadata) = at(Place::Input, front)?;
+    let metadata = metadata.as_ref();
     match check_header(&header) {
-        Ok(()) => at(Place::Output, print_len(rt, &metadata, None))?,
+        Ok(()) => at(Place::Output, print_len(rt, metadata, None))?,
         Err(FileError::AnotherVersion(PASSPHRASE_VERSION)) if key_file.is_none() => {
             let iterations = iterations_in(&header).map_err(Failure::Refused)?;
-            at(Place::Output, print_len(rt, &metadata, Some(iterations)))?;
+            at(Place::Output, print_len(rt, metadata, Some(iterations)))?;
         }
         Err(error) => return Err(Failure::Refused(error)),
     }
@@ -174,9 +172,13 @@ fn inspect(rt: &HostRuntime, name: &Name, key_file: Option<&Name>) -> Result<(),
     at(Place::Output, println!(rt; "nothing else was checked"))
 }
 
-/// Prints the version, the iterations if it is the one of passphrases, and the length of the file that a sealed file of this length
-/// has.
-fn print_len(rt: &HostRuntime, metadata: &Metadata, iterations: Option<u32>) -> io::Result<()> {
+/// Prints the version, the iterations if it is the one of passphrases, and the length of the file that a sealed file of this
+/// length has.
+fn print_len(
+    rt: &HostRuntime,
+    metadata: Option<&Metadata>,
+    iterations: Option<u32>,
+) -> io::Result<()> {
     let more = match iterations {
         Some(count) => {
             println!(rt; "version {PASSPHRASE_VERSION}, a passphrase, {count} iterations")?;
@@ -186,6 +188,9 @@ fn print_len(rt: &HostRuntime, metadata: &Metadata, iterations: Option<u32>) -> 
             println!(rt; "version {}", sealed_file::VERSION)?;
             0
         }
+    };
+    let Some(metadata) = metadata else {
+        return println!(rt; "length unknown: standard input cannot be identified");
     };
     if !metadata.is_file() {
         return println!(rt; "length unknown: not a regular file");
@@ -278,8 +283,10 @@ fn convert_from<R: Read + Drop>(
 ) -> Result<(), Failure> {
     match &conversion.output {
         Some(name) => {
-            let mode = check_target(rt, name, inputs, conversion.has_force)?;
-            convert_to(rt, conversion, input, (name, mode))
+            let access = check_target(rt, name, inputs, conversion.has_force)?;
+            let mut file = new_file(rt, name, access)?;
+            let written = pass(rt, conversion, input, &mut file);
+            file.finish(rt, name, written, conversion.has_force)
         }
         None => {
             let mut output = io::writer(rt);
@@ -287,24 +294,6 @@ fn convert_from<R: Read + Drop>(
             at(Place::Output, output.flush())
         }
     }
-}
-
-/// Converts to a file with this name and mode, which is written whole or not at all.
-fn convert_to<R: Read + Drop>(
-    rt: &HostRuntime,
-    conversion: &Conversion,
-    input: Input<'_, R>,
-    (target, mode): (&Name, Option<u32>),
-) -> Result<(), Failure> {
-    let mut number = [0; NUMBER_LEN];
-    at(Place::Random, rt.fill_bytes(&mut number))?;
-    let mut file = at(Place::Output, NewFile::create(rt, target, number, mode))?;
-    if let Err(failure) = pass(rt, conversion, input, &mut file) {
-        file.discard(rt);
-        return Err(failure);
-    }
-    let synced = at(Place::Output, file.synced(rt))?;
-    synced.name_as(rt, target, conversion.has_force)
 }
 
 /// Seals or opens what is read.
@@ -351,6 +340,7 @@ fn pass_stream<R: Read + Drop, W: Write>(
         Ok(()) => Ok(()),
         Err(FileError::Io(error)) if source.has_failed() => Err(Failure::Io(Place::Input, error)),
         Err(FileError::Io(error)) => Err(Failure::Io(Place::Output, error)),
+        Err(FileError::Refused(0)) => Err(Failure::FirstRefused(0)),
         Err(error) => Err(Failure::Refused(error)),
     }
 }
@@ -408,7 +398,11 @@ fn pass_part<W: Write>(
 ) -> Result<(), Failure>
     requires { length aad.now ≤ 4096 }
 {
-    let mut reader = SealedReader::new(rt.alloc(), key, aad, file, 0).map_err(of_reading)?;
+    let mut reader = match SealedReader::new(rt.alloc(), key, aad, file, 0) {
+        Ok(reader) => reader,
+        Err(FileError::Refused(last)) => return Err(Failure::FirstRefused(last)),
+        Err(error) => return Err(of_reading(error)),
+    };
     let mut buf = at(Place::Input, buffer(rt.alloc()))?;
     let mut range = range;
     for _ in 0..u64::MAX {
@@ -442,8 +436,8 @@ fn read_secret(
     secret_file: &SecretFile,
 ) -> Result<(Secret, Option<Metadata>), Failure> {
     match secret_file {
-        SecretFile::Key(name) => {
-            let (key, metadata) = read_key(rt, name)?;
+        SecretFile::Key(key_file) => {
+            let (key, metadata) = read_key(rt, key_file)?;
             Ok((Secret::Key(key), metadata))
         }
         SecretFile::Passphrase(name) => {
@@ -453,13 +447,15 @@ fn read_secret(
     }
 }
 
-/// Returns the metadata of the file with the key or the passphrase. Warns if it is a regular file that others may read.
-fn examine(rt: &HostRuntime, name: &Name, file: &File, what: &str) -> Option<Metadata> {
-    let metadata = file.metadata().ok()?;
-    if metadata.is_file() && files::others_may_read(&metadata) {
-        let _ = eprintln!(rt; "seal_file: {name}: warning: others may read this {what}");
+/// Warns if the key or the passphrase is in a regular file that others may read.
+fn warn_of_others(rt: &HostRuntime, name: Option<&Name>, metadata: Option<&Metadata>, what: &str) {
+    if !metadata.is_some_and(|it| it.is_file() && files::others_may_read(it)) {
+        return;
     }
-    Some(metadata)
+    let _ = match name {
+        Some(name) => eprintln!(rt; "seal_file: {name}: warning: others may read this {what}"),
+        None => eprintln!(rt; "seal_file: standard input: warning: others may read this {what}"),
+    };
 }
 
 /// Returns the passphrase in a file, or on standard input: its bytes without one newline at their end. Warns if a carriage return
@@ -468,20 +464,9 @@ fn read_passphrase(
     rt: &HostRuntime,
     name: Option<&Name>,
 ) -> Result<(Vec<u8>, Option<Metadata>), Failure> {
-    let mut bytes = Vec::new(rt.alloc());
-    let most = MAX_PASSPHRASE_LEN as u64 + 2;
-    let (read, metadata) = match name {
-        Some(name) => {
-            let file = at(Place::PassphraseFile, files::open(rt, name))?;
-            let metadata = examine(rt, name, &file, "passphrase");
-            (file.take(most).read_to_end(&mut bytes), metadata)
-        }
-        None => {
-            let metadata = files::stdin_metadata(rt).ok();
-            (rt.reader().take(most).read_to_end(&mut bytes), metadata)
-        }
-    };
-    at(Place::PassphraseFile, read)?;
+    let front = read_front(rt, name, MAX_PASSPHRASE_LEN + 2);
+    let (mut bytes, metadata) = at(Place::PassphraseFile, front)?;
+    warn_of_others(rt, name, metadata.as_ref(), "passphrase");
     if bytes.last() == Some(&b'\n') {
         bytes.pop();
         if bytes.last() == Some(&b'\r') {
@@ -494,15 +479,11 @@ fn read_passphrase(
     Ok((bytes, metadata))
 }
 
-/// Returns the key in a file of 32 bytes, and the metadata of the file.
-fn read_key(rt: &HostRuntime, name: &Name) -> Result<(FileKey, Option<Metadata>), Failure> {
-    let file = at(Place::KeyFile, files::open(rt, name))?;
-    let metadata = examine(rt, name, &file, "key");
-    let mut bytes = Vec::new(rt.alloc());
-    at(
-        Place::KeyFile,
-        file.take(KEY_LEN as u64 + 1).read_to_end(&mut bytes),
-    )?;
+/// Returns the key in a file of 32 bytes, or on standard input, and the metadata of the file.
+fn read_key(rt: &HostRuntime, key_file: &KeyFile) -> Result<(FileKey, Option<Metadata>), Failure> {
+    let name = key_file.name.as_ref();
+    let (bytes, metadata) = at(Place::KeyFile, read_front(rt, name, KEY_LEN + 1))?;
+    warn_of_others(rt, name, metadata.as_ref(), "key");
     match FileKey::new(&bytes) {
         Ok(key) => Ok((key, metadata)),
         Err(_) => Err(Failure::KeyLength),

@@ -3,6 +3,9 @@
 use std::alloc::{AllocError, Global};
 use std::{fmt, str};
 
+/// The most bytes that a file's name has in its folder.
+const MAX_LEN_IN_FOLDER: usize = 255;
+
 /// The name of a file, as bytes.
 #[derive(Drop)]
 pub struct Name {
@@ -20,9 +23,35 @@ impl Name {
         &self.bytes
     }
 
-    /// Returns the name followed by these bytes.
-    pub fn with_end(&self, alloc: Global, end: &[u8]) -> Result<Name, AllocError> {
+    /// How many bytes of the name are that of its folder, with the `/` after it.
+    fn folder_len(&self) -> usize {
+        match self.bytes.iter().rposition(|byte| *byte == b'/') {
+            Some(at) => at + 1,
+            None => 0,
+        }
+    }
+
+    /// Returns the name of the folder that the file is in.
+    pub fn folder(&self, alloc: Global) -> Result<Name, AllocError> {
         let mut bytes = self.bytes.to_vec(alloc)?;
+        bytes.truncate(self.folder_len());
+        if bytes.is_empty() {
+            bytes.push(b'.')?;
+        }
+        Ok(Name { bytes })
+    }
+
+    /// Returns the name followed by these bytes. If that is too long for a file, the name is cut before them, at the end of a
+    /// character.
+    pub fn with_end(&self, alloc: Global, end: &[u8]) -> Result<Name, AllocError> {
+        let room = MAX_LEN_IN_FOLDER.saturating_sub(end.len());
+        let most = self.folder_len().saturating_add(room);
+        let kept = match str::from_utf8(&self.bytes) {
+            Ok(text) => text.floor_char_boundary(most),
+            Err(_) => most,
+        };
+        let mut bytes = self.bytes.to_vec(alloc)?;
+        bytes.truncate(kept);
         bytes.extend_from_slice(end)?;
         Ok(Name { bytes })
     }

@@ -21,13 +21,13 @@ usage: seal_file seal KEY [-o OUT] [-f] [--aad TEXT] [--progress] [IN]
 KEY is -k KEYFILE or --passphrase-file FILE.
 
 Seal a file with AES-256-GCM in chunks of 64 KiB, open or inspect a sealed file,
-or generate a key. KEYFILE holds the 32 bytes of the key. IN and OUT default to
-standard input and output, which are also named -.
+or generate a key. KEYFILE holds the 32 bytes of the key. Any file that is named -
+is standard input or output, and so are IN and OUT if they are not given.
 
   -k, --key KEYFILE    the key
   --passphrase-file FILE
                        the passphrase: the bytes of FILE without one newline at
-                       their end, at most 4096; - is standard input
+                       their end, at most 4096
   -o, --output OUT     write OUT, whole or not at all; OUT must not exist
   -f, --force          replace OUT if it exists
   --aad TEXT           bind the file to TEXT: it opens with the same TEXT alone
@@ -48,11 +48,18 @@ pub enum Action {
     Open,
 }
 
+/// A file with a key.
+#[derive(Drop)]
+pub struct KeyFile {
+    /// The name of the file, or `None` for standard input.
+    pub name: Option<Name>,
+}
+
 /// Where the key or the passphrase is.
 #[derive(Drop)]
 pub enum SecretFile {
-    /// The name of a key file.
-    Key(Name),
+    /// A file with a key.
+    Key(KeyFile),
     /// The name of a file with a passphrase, or `None` for standard input.
     Passphrase(Option<Name>),
 }
@@ -100,8 +107,13 @@ impl Conversion {
 pub enum Request {
     Help,
     Version,
-    Keygen(Name),
-    Inspect { file: Name, key_file: Option<Name> },
+    /// The key file to be created, or `None` for standard output.
+    Keygen(Option<Name>),
+    /// The sealed file, or `None` for standard input, and the file with the key that it is compared with.
+    Inspect {
+        file: Option<Name>,
+        key_file: Option<KeyFile>,
+    },
     Convert(Conversion),
 }
 
@@ -332,12 +344,13 @@ impl Words {
             ..
         } = self;
         let secret_file = secret_file_of(key_file, passphrase_file)?;
-        let input = input.filter(|name| !is_stream(name));
-        if input.is_none() && matches!(secret_file, SecretFile::Passphrase(None)) {
-            return Err(Failure::Use(anyhow!("standard input is both IN and the passphrase")));
+        let input = input.and_then(file_of);
+        if input.is_none() && secret_file.name().is_none() {
+            let what = secret_file.what();
+            return Err(Failure::Use(anyhow!("standard input is both IN and the {what}")));
         }
         let has_named_stdout = output.as_ref().is_some_and(is_stream);
-        let output = output.filter(|name| !is_stream(name));
+        let output = output.and_then(file_of);
         if has_force && output.is_none() {
             return Err(Failure::Use(anyhow!("--force needs -o OUT")));
         }
@@ -367,6 +380,11 @@ impl Words {
         let Some(file) = input else {
             return Err(Failure::Use(anyhow!("missing FILE")));
         };
+        let file = file_of(file);
+        let key_file = key_file.map(key_file_of);
+        if file.is_none() && key_file.as_ref().is_some_and(|key| key.name.is_none()) {
+            return Err(Failure::Use(anyhow!("standard input is both FILE and the key")));
+        }
         Ok(Request::Inspect { file, key_file })
     }
 
@@ -379,7 +397,7 @@ impl Words {
         let Some(output) = output else {
             return Err(Failure::Use(anyhow!("missing -o KEYFILE")));
         };
-        Ok(Request::Keygen(output))
+        Ok(Request::Keygen(file_of(output)))
     }
 }
 
@@ -409,9 +427,12 @@ impl Request {
     /// Returns the name of a file, if it is given.
     pub fn name_of(&self, place: Place) -> Option<&Name> {
         match (self, place) {
-            (Request::Keygen(name), Place::KeyFile) => Some(name),
-            (Request::Inspect { file, .. }, Place::Input) => Some(file),
-            (Request::Inspect { key_file, .. }, Place::KeyFile) => key_file.as_ref(),
+            (Request::Keygen(name), Place::Output) => name.as_ref(),
+            (Request::Inspect { file, .. }, Place::Input) => file.as_ref(),
+            (Request::Inspect { key_file, .. }, Place::KeyFile) => match key_file {
+                Some(key_file) => key_file.name.as_ref(),
+                None => None,
+            },
             (Request::Convert(conversion), Place::KeyFile | Place::PassphraseFile) => {
                 conversion.secret_file.name()
             }
@@ -426,8 +447,16 @@ impl SecretFile {
     /// Returns the name of the file, or `None` for standard input.
     fn name(&self) -> Option<&Name> {
         match self {
-            SecretFile::Key(name) => Some(name),
+            SecretFile::Key(key_file) => key_file.name.as_ref(),
             SecretFile::Passphrase(name) => name.as_ref(),
+        }
+    }
+
+    /// Returns what the file has.
+    fn what(&self) -> &'static str {
+        match self {
+            SecretFile::Key(_) => "key",
+            SecretFile::Passphrase(_) => "passphrase",
         }
     }
 }
@@ -438,9 +467,8 @@ fn secret_file_of(
     passphrase_file: Option<Name>,
 ) -> Result<SecretFile, Failure> {
     match (key_file, passphrase_file) {
-        (Some(name), None) => Ok(SecretFile::Key(name)),
-        (None, Some(name)) if is_stream(&name) => Ok(SecretFile::Passphrase(None)),
-        (None, Some(name)) => Ok(SecretFile::Passphrase(Some(name))),
+        (Some(name), None) => Ok(SecretFile::Key(key_file_of(name))),
+        (None, Some(name)) => Ok(SecretFile::Passphrase(file_of(name))),
         (None, None) => Err(Failure::Use(anyhow!("missing -k KEYFILE or --passphrase-file FILE"))),
         (Some(_), Some(_)) => {
             let text = anyhow!("-k and --passphrase-file are given, of which a file takes one");
@@ -458,6 +486,18 @@ fn is_option(word: &Name) -> bool {
 /// Whether the name is `-`, which names a standard stream.
 fn is_stream(name: &Name) -> bool {
     name.as_bytes() == b"-".as_slice()
+}
+
+/// The file with this name, or `None` if the name is that of a standard stream.
+fn file_of(name: Name) -> Option<Name> {
+    if is_stream(&name) { None } else { Some(name) }
+}
+
+/// The key file with this name.
+fn key_file_of(name: Name) -> KeyFile {
+    KeyFile {
+        name: file_of(name),
+    }
 }
 
 /// The name of an option, and its value if that is in the same word: `--output=OUT`, `-oOUT`.

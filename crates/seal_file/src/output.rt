@@ -51,21 +51,62 @@ impl Inputs<'_> {
     }
 }
 
-/// The mode of a file that replaces none, less the process's umask.
-const NEW_MODE: u32 = 0o666;
+/// Who may read, write and run a new file.
+#[derive(Clone, Copy)]
+pub enum Access {
+    /// Whoever the process's umask lets read and write it.
+    New,
+    /// Its owner alone, who reads and writes it.
+    Owner,
+    /// Who may do so with the file that it replaces, which has this mode and this group.
+    Replaced { mode: u32, group: u32 },
+}
 
-/// Checks that OUT is not a file that is read, a directory or a device and, unless forced, does not exist. Returns the mode of
-/// the file that is replaced, if there is one.
+impl Access {
+    /// The mode that the file is created with, less the process's umask. It gives the group and others nothing that `give` takes
+    /// back.
+    fn first_mode(self) -> u32 {
+        match self {
+            Access::New => 0o666,
+            Access::Owner => 0o600,
+            Access::Replaced { mode, .. } => mode & 0o700,
+        }
+    }
+
+    /// Gives a file that was created with `first_mode` its mode.
+    ///
+    /// If its group is not that of the file that it replaces, whoever was of the group may now be one of the others, and the other
+    /// way round: group and others get what both had.
+    fn give(self, file: &File) -> io::Result<()> {
+        match self {
+            Access::New => Ok(()),
+            Access::Owner => files::set_mode(file, self.first_mode()),
+            Access::Replaced { mode, group } => {
+                if files::group_of(&file.metadata()?) == group {
+                    return files::set_mode(file, mode);
+                }
+                let both = (mode >> 3) & mode & 0o7;
+                files::set_mode(file, (mode & 0o700) | (both << 3) | both)
+            }
+        }
+    }
+}
+
+/// Checks that OUT is not a file that is read, a directory or a device and, unless forced, does not exist. Returns who may access
+/// the new file.
 pub fn check_target(
     rt: &HostRuntime,
     target: &Name,
     inputs: Inputs<'_>,
     has_force: bool,
-) -> Result<Option<u32>, Failure> {
+) -> Result<Access, Failure> {
     let there = match files::metadata_of(rt, target) {
         Ok(metadata) => metadata,
         Err(error) if error.kind() == ErrorKind::NotFound => {
-            return check_no_link(rt, target, has_force);
+            if !has_force {
+                check_free(rt, target)?;
+            }
+            return Ok(Access::New);
         }
         Err(error) => return Err(Failure::Io(Place::Output, error)),
     };
@@ -77,41 +118,62 @@ pub fn check_target(
     if !there.is_file() {
         return Err(Failure::NotRegular);
     }
-    Ok(Some(files::mode_of(&there)))
+    Ok(Access::Replaced {
+        mode: files::mode_of(&there),
+        group: files::group_of(&there),
+    })
 }
 
-/// Checks that OUT, which is no file, is no link that leads to none, unless forced.
-fn check_no_link(rt: &HostRuntime, target: &Name, has_force: bool) -> Result<Option<u32>, Failure> {
+/// Checks that no file has this name, and no link, which may lead to no file.
+pub fn check_free(rt: &HostRuntime, target: &Name) -> Result<(), Failure> {
     match files::exists(rt, target) {
-        Ok(is_link) if is_link && !has_force => Err(Failure::Exists),
-        Ok(_) => Ok(None),
+        Ok(true) => Err(Failure::Exists),
+        Ok(false) => Ok(()),
         Err(error) => Err(Failure::Io(Place::Output, error)),
     }
 }
 
 impl NewFile {
-    /// Creates the file, whose name is the target's followed by this number. It has this mode, or that of any new file.
+    /// Creates the file, whose name is the target's followed by this number.
     pub fn create(
         rt: &HostRuntime,
         target: &Name,
         number: [u8; NUMBER_LEN],
-        mode: Option<u32>,
+        access: Access,
     ) -> io::Result<NewFile> {
         let number = u64::from_be_bytes(number);
         let end = format!(in rt.alloc(); ".part-{number:016x}")?;
         let name = target.with_end(rt.alloc(), end.as_bytes())?;
-        let file = files::create_new(rt, &name, mode.unwrap_or(NEW_MODE))?;
-        if let Some(mode) = mode {
-            if let Err(error) = files::set_mode(&file, mode) {
-                let _ = files::remove(rt, &name);
-                return Err(error);
-            }
+        let file = files::create_new(rt, &name, access.first_mode())?;
+        if let Err(error) = access.give(&file) {
+            let _ = files::remove(rt, &name);
+            return Err(error);
         }
         Ok(NewFile { file, name })
     }
 
+    /// Gives the file its name, as `SyncedFile::name_as` does, and waits until the name has reached the device. Removes the file if
+    /// writing it failed.
+    pub fn finish(
+        self,
+        rt: &HostRuntime,
+        target: &Name,
+        written: Result<(), Failure>,
+        has_force: bool,
+    ) -> Result<(), Failure> {
+        if let Err(failure) = written {
+            self.discard(rt);
+            return Err(failure);
+        }
+        match self.synced(rt) {
+            Ok(synced) => synced.name_as(rt, target, has_force)?,
+            Err(error) => return Err(Failure::Io(Place::Output, error)),
+        }
+        files::sync_folder_of(rt, target).map_err(Failure::NotSynced)
+    }
+
     /// Waits until the file has reached the device. Removes it if that fails.
-    pub fn synced(self, rt: &HostRuntime) -> io::Result<SyncedFile> {
+    fn synced(self, rt: &HostRuntime) -> io::Result<SyncedFile> {
         let NewFile { file, name } = self;
         match file.sync_all() {
             Ok(()) => Ok(SyncedFile { name }),
@@ -123,7 +185,7 @@ impl NewFile {
     }
 
     /// Removes the file.
-    pub fn discard(self, rt: &HostRuntime) {
+    fn discard(self, rt: &HostRuntime) {
         let NewFile { file: _file, name } = self;
         let _ = files::remove(rt, &name);
     }
@@ -141,26 +203,41 @@ impl Write for NewFile {
 
 impl SyncedFile {
     /// Gives the file its name. It replaces another file only if forced. If this fails, the file is removed.
-    ///
-    /// Unless forced, the file first gets it as a second name, which fails if another file has it. If the file system has no
-    /// second names, the file is renamed: a file that got the name after `check_target` is then lost.
-    pub fn name_as(self, rt: &HostRuntime, target: &Name, has_force: bool) -> Result<(), Failure> {
+    fn name_as(self, rt: &HostRuntime, target: &Name, has_force: bool) -> Result<(), Failure> {
         let SyncedFile { name } = self;
         let named = if has_force {
             files::rename(rt, &name, target)
         } else {
-            match files::link(rt, &name, target) {
-                Ok(()) => files::remove(rt, &name),
-                Err(error) if error.kind() == ErrorKind::AlreadyExists => {
-                    let _ = files::remove(rt, &name);
+            name_once(rt, &name, target)
+        };
+        match named {
+            Ok(()) => Ok(()),
+            Err(error) => {
+                let _ = files::remove(rt, &name);
+                if !has_force && error.kind() == ErrorKind::AlreadyExists {
                     return Err(Failure::Exists);
                 }
-                Err(_) => files::rename(rt, &name, target),
+                Err(Failure::Io(Place::Output, error))
             }
-        };
-        named.map_err(|error| {
-            let _ = files::remove(rt, &name);
-            Failure::Io(Place::Output, error)
-        })
+        }
+    }
+}
+
+/// Renames a file. Fails if another file or a link has the new name.
+///
+/// The file first gets it as a second name. If the file system has no second names, an empty file takes the name, which is then
+/// replaced.
+fn name_once(rt: &HostRuntime, from: &Name, to: &Name) -> io::Result<()> {
+    match files::link(rt, from, to) {
+        Ok(()) => files::remove(rt, from),
+        Err(error) if error.kind() == ErrorKind::AlreadyExists => Err(error),
+        Err(_) => {
+            let _empty = files::create_new(rt, to, 0o600)?;
+            let renamed = files::rename(rt, from, to);
+            if renamed.is_err() {
+                let _ = files::remove(rt, to);
+            }
+            renamed
+        }
     }
 }
