@@ -163,6 +163,26 @@ bool deerlapse_key_open_appended_tag(const deerlapse_key *key, const uint8_t non
                                      const uint8_t *aad, size_t aad_len, const uint8_t *in, size_t in_len,
                                      uint8_t *out);
 
+/* The functions of the library that make these four calls, unless `in` and `out` are the same pointer: then a call in place
+ * does. They take the length of `out`, and also return false if it is another than the one above. No pointer may be null. A
+ * program without deerlapse.h calls these. */
+DEERLAPSE_NODISCARD
+bool deerlapse_key_seal_to_sized(const deerlapse_key *key, const uint8_t nonce[DEERLAPSE_NONCE_LEN],
+                                 const uint8_t *aad, size_t aad_len, const uint8_t *in, size_t in_len, uint8_t *out,
+                                 size_t out_len, uint8_t tag[DEERLAPSE_TAG_LEN]);
+DEERLAPSE_NODISCARD
+bool deerlapse_key_open_to_sized(const deerlapse_key *key, const uint8_t nonce[DEERLAPSE_NONCE_LEN],
+                                 const uint8_t *aad, size_t aad_len, const uint8_t *in, size_t in_len, uint8_t *out,
+                                 size_t out_len, const uint8_t tag[DEERLAPSE_TAG_LEN]);
+DEERLAPSE_NODISCARD
+bool deerlapse_key_seal_append_tag_sized(const deerlapse_key *key, const uint8_t nonce[DEERLAPSE_NONCE_LEN],
+                                         const uint8_t *aad, size_t aad_len, const uint8_t *in, size_t in_len,
+                                         uint8_t *out, size_t out_len);
+DEERLAPSE_NODISCARD
+bool deerlapse_key_open_appended_tag_sized(const deerlapse_key *key, const uint8_t nonce[DEERLAPSE_NONCE_LEN],
+                                           const uint8_t *aad, size_t aad_len, const uint8_t *in, size_t in_len,
+                                           uint8_t *out, size_t out_len);
+
 /* A message that is sealed in pieces of any lengths: deerlapse_key_begin begins it, deerlapse_key_update encrypts its pieces
  * in order, and deerlapse_key_finish writes its tag. It is in the caller's memory, and contains no pointer. A message of
  * zeros has not begun, and any other memory must only be passed to deerlapse_key_begin. Never copy it: pieces that follow the
@@ -336,8 +356,17 @@ bool deerlapse_chacha20(const uint8_t key[32], const uint8_t nonce[DEERLAPSE_NON
 
 /* Returns whether this processor has the instructions of the library. Where it returns false, a call of the library may end
  * the program with SIGILL, or on Windows with an illegal instruction. With a compiler that defines neither __GNUC__ nor
- * _MSC_VER, it returns true on every processor. */
-static inline bool deerlapse_cpu_supported(void) {
+ * _MSC_VER, it returns true on every processor.
+ *
+ * The name in the call is that of an inline function, so a program of deerlapse.h and the assembly has it too. libdeerlapse.a
+ * and libdeerlapse.so also have a function of this name, for callers without deerlapse.h. */
+bool deerlapse_cpu_supported(void);
+
+/* The functions of the library take no null pointer. So from here on, the name of every function that has a pointer with a
+ * length is that of a wrapper, which passes another address if the length is 0. Those from one buffer to another, such as
+ * deerlapse_key_seal_to, are wrappers from the start. The test of the processor comes first. */
+
+static inline bool deerlapse_cpu_supported_inline(void) {
 #if defined(__GNUC__) && defined(__x86_64__) && DEERLAPSE_X86_64_LEVEL >= 3
     return __builtin_cpu_supports("avx2") && __builtin_cpu_supports("bmi2") && __builtin_cpu_supports("fma");
 #elif defined(__GNUC__) && defined(__x86_64__)
@@ -360,10 +389,7 @@ static inline bool deerlapse_cpu_supported(void) {
     return true;
 #endif
 }
-
-/* The functions of the library take no null pointer. So from here on, the name of every function that has a pointer with a
- * length is that of a wrapper, which passes another address if the length is 0. Those from one buffer to another, such as
- * deerlapse_key_seal_to, are wrappers from the start. */
+#define deerlapse_cpu_supported deerlapse_cpu_supported_inline
 
 static inline const uint8_t *deerlapse_to_read(const uint8_t *bytes, size_t len) {
     static const uint8_t none = 0;
@@ -423,26 +449,6 @@ bool deerlapse_key_update_nullable(const deerlapse_key *key, deerlapse_message *
 }
 #define deerlapse_key_update deerlapse_key_update_nullable
 
-/* The functions of the library from one buffer to another. They take the length of `out`, and return false if it is another
- * than the one above; they do not take the same buffer as `in` and `out`. The wrappers then make the call in place. */
-
-DEERLAPSE_NODISCARD
-bool deerlapse_key_seal_to_sized(const deerlapse_key *key, const uint8_t nonce[DEERLAPSE_NONCE_LEN],
-                                 const uint8_t *aad, size_t aad_len, const uint8_t *in, size_t in_len, uint8_t *out,
-                                 size_t out_len, uint8_t tag[DEERLAPSE_TAG_LEN]);
-DEERLAPSE_NODISCARD
-bool deerlapse_key_open_to_sized(const deerlapse_key *key, const uint8_t nonce[DEERLAPSE_NONCE_LEN],
-                                 const uint8_t *aad, size_t aad_len, const uint8_t *in, size_t in_len, uint8_t *out,
-                                 size_t out_len, const uint8_t tag[DEERLAPSE_TAG_LEN]);
-DEERLAPSE_NODISCARD
-bool deerlapse_key_seal_append_tag_sized(const deerlapse_key *key, const uint8_t nonce[DEERLAPSE_NONCE_LEN],
-                                         const uint8_t *aad, size_t aad_len, const uint8_t *in, size_t in_len,
-                                         uint8_t *out, size_t out_len);
-DEERLAPSE_NODISCARD
-bool deerlapse_key_open_appended_tag_sized(const deerlapse_key *key, const uint8_t nonce[DEERLAPSE_NONCE_LEN],
-                                           const uint8_t *aad, size_t aad_len, const uint8_t *in, size_t in_len,
-                                           uint8_t *out, size_t out_len);
-
 DEERLAPSE_WRAPS(1, 2, 8)
 bool deerlapse_key_seal_to(const deerlapse_key *key, const uint8_t nonce[DEERLAPSE_NONCE_LEN], const uint8_t *aad,
                            size_t aad_len, const uint8_t *in, size_t in_len, uint8_t *out,
@@ -467,6 +473,8 @@ DEERLAPSE_WRAPS(1, 2, 7)
 bool deerlapse_key_seal_append_tag(const deerlapse_key *key, const uint8_t nonce[DEERLAPSE_NONCE_LEN],
                                    const uint8_t *aad, size_t aad_len, const uint8_t *in, size_t in_len,
                                    uint8_t *out) {
+    /* Above 2^36 - 32, the call in place would refuse the length, and out + in_len may be no pointer. */
+    if (in == out && in_len > 0xfffffffe0) return false;
     if (in == out) return deerlapse_key_seal(key, nonce, aad, aad_len, out, in_len, out + in_len);
     return deerlapse_key_seal_append_tag_sized(key, nonce, deerlapse_to_read(aad, aad_len), aad_len,
                                                deerlapse_to_read(in, in_len), in_len, out,
