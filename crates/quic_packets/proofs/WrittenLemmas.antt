@@ -308,7 +308,7 @@ long_parsed header is rest whole fixed_bit id_len =
     is.ids.destination is.ids.source is.fields.token is.fields.payload whole id_len in (
       found.0,
       ap (with_fixed_bit fixed_bit _) found.1
-          ∙ ap (λ b. if b then Err NoFixedBit else Ok found.0) (with_bit fixed_bit found.0.version
+          ∙ ap (λ b. if b then Err (NoFixedBit found.0.end) else Ok found.0) (with_bit fixed_bit found.0.version
           (long_first_byte (type_bits header.packet_type) header.number_len) (long_first header is.number)),
       record {
         start = found.2.start;
@@ -341,7 +341,7 @@ short_parsed header is rest fixed_bit =
       ap (λ b. with_fixed_bit fixed_bit first (if b then whole d p else long_packet d 0))
           (lt-ltb first 0x80 (short_form header.phase header.number_len is.number.few))
           ∙ ap (λ b. with_fixed_bit fixed_bit first (if b then Err Cut else Ok p)) (le-ltb (length d) p.end (omega (arith, end)))
-          ∙ ap (λ b. if b then Err NoFixedBit else Ok p) (with_bit fixed_bit None first (short_first header.phase header.number_len is.number)),
+          ∙ ap (λ b. if b then Err (NoFixedBit p.end) else Ok p) (with_bit fixed_bit None first (short_first header.phase header.number_len is.number)),
       record {
         start = refl;
         packet_type = refl;

@@ -1,7 +1,7 @@
 -- One end of a connection: its levels, and what becomes of a packet that it receives (RFC 9000 sections 12.2 and 12.3, RFC 9001
 -- sections 4.9, 5.7 and 6).
 use Rattle.std.specs.Prelude.{◌≡◌, ℕ, ◌+◌, ◌-◌, ◌<◌, ◌≤◌, ◌↔◌, Bool, true, false, if◌then◌else◌, List, length, slice_range, Option, None, Some, is_some, IfSome, Result, Ok, Err, IsOkAnd, IfOk, IfErr, IsErrOf, OnErr}
-use Rattle.quic_packets.specs.Datagram.{KeepsOutside, bytes_of, number_in, packet_of}
+use Rattle.quic_packets.specs.Datagram.{KeepsOutside, bytes_of, next_after, number_in, packet_of}
 use Rattle.quic_packets.specs.Ends.{Ends, following, kept_back, phase_of, renewed, sent, with_next_key}
 use Rattle.quic_packets.specs.Errors.{error_code}
 use Rattle.quic_packets.specs.Failures.{Failures}
@@ -122,7 +122,7 @@ pub record IsOpening (c : Connection) (id_len : ℕ) (id datagram : List ℕ) (a
 -- where the packet after one that is parsed, or that isn't, begins
 abbrev pub end_of : Result Packet DatagramError → (len : ℕ) → ℕ
 end_of (Ok parts) len = parts.end
-end_of (Err error) len = len
+end_of (Err error) len = next_after error len
 
 -- The result.
 

@@ -132,15 +132,21 @@ parts_of connection_id_len datagram start =
     if nat_lt (slice_index datagram start) 0x80 then whole datagram (short_layout connection_id_len datagram start)
     else long_packet datagram start
 
--- a packet with this first byte is rejected if its fixed bit is 0 and must be 1 (sections 17.2 and 17.3.1)
+-- a packet with this first byte is rejected if its fixed bit is 0 and must be 1 (sections 17.2 and 17.3.1). The error has its end.
 abbrev pub with_fixed_bit : FixedBit → (first : ℕ) → Result Packet DatagramError → Result Packet DatagramError
 with_fixed_bit fixed_bit first (Err error) = Err error
-with_fixed_bit fixed_bit first (Ok packet) = if lacks_fixed_bit fixed_bit packet.version first then Err NoFixedBit else Ok packet
+with_fixed_bit fixed_bit first (Ok packet) =
+    if lacks_fixed_bit fixed_bit packet.version first then Err (NoFixedBit packet.end) else Ok packet
 
 -- the result of parsing the packet at a byte
 abbrev pub packet_of : FixedBit → ℕ → List ℕ → ℕ → Result Packet DatagramError
 packet_of fixed_bit connection_id_len datagram start =
     with_fixed_bit fixed_bit (slice_index datagram start) (parts_of connection_id_len datagram start)
+
+-- where the packet after one that is rejected begins: at the end that the error has, or else at that of the datagram
+abbrev pub next_after : DatagramError → (len : ℕ) → ℕ
+next_after (NoFixedBit end) len = end
+next_after _ len = len
 
 -- where the packet number begins in its packet, counted from the packet's first byte. It is 0 if there is no number.
 abbrev pub number_in : Packet → ℕ

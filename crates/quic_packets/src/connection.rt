@@ -20,7 +20,7 @@ ghost use Rattle.quic_packets.specs.declared.fixed_bit.FixedBit.TheVariants.{Req
 mod ends;
 mod incoming;
 
-use crate::datagram::{Packet, PacketType, packet_at};
+use crate::datagram::{DatagramError, Packet, PacketType, packet_at};
 use crate::error::PacketError;
 use crate::failures::Failures;
 use crate::fixed_bit::FixedBit;
@@ -401,8 +401,9 @@ impl Connection {
         if self.failures.is_at_limit() {
             return Err(PacketError::TooManyFailures);
         }
-        let Ok(parts) = packet_at(datagram, at, id_len, self.fixed_bit) else {
-            let next = datagram.len();
+        let packet = packet_at(datagram, at, id_len, self.fixed_bit);
+        let Ok(parts) = packet else {
+            let next = end_of(&packet, datagram.len());
             return Ok(Step {
                 next,
                 incoming: Incoming::Ignored,
@@ -468,6 +469,17 @@ impl Connection {
             }
             _ => unreachable!(),
         }
+    }
+}
+
+// Where the packet after one that is parsed, or that isn't, begins in a datagram of this length.
+fn end_of(packet: &Result<Packet, DatagramError>, len: usize) -> usize
+    ensures { result ≡ end_of packet.now len }
+{
+    match packet {
+        Ok(parts) => parts.end,
+        Err(DatagramError::NoFixedBit { end }) => *end,
+        Err(_) => len,
     }
 }
 

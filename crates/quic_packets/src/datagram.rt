@@ -1,6 +1,6 @@
 //! The packets of a datagram: the position of each part, before any protection is removed (RFC 9000 sections 12.2 and 17).
 
-ghost use Rattle.std.specs.Prelude.{◌≡◌, ◌+◌, ◌-◌, ◌^◌, ◌<◌, ◌≤◌, ◌↔◌, false, if◌then◌else◌, length, slice_index, IsOk, IsErr, IfOk, IfErr, IsErrOf, IfSome, MatchOption};
+ghost use Rattle.std.specs.Prelude.{◌≡◌, ℕ, ◌+◌, ◌-◌, ◌^◌, ◌<◌, ◌≤◌, ◌↔◌, false, if◌then◌else◌, length, slice_index, IsOk, IsErr, IfOk, IfErr, IsErrOf, IfSome, MatchOption};
 ghost use Rattle.std.specs.Int.Digits.{number_from_digits};
 ghost use Rattle.quic_packets.specs.declared.datagram.DatagramError.TheVariants.{Cut, IdTooLong};
 ghost use Rattle.quic_packets.specs.declared.datagram.PacketType.TheVariants.{Initial};
@@ -67,7 +67,11 @@ pub enum DatagramError {
     IdTooLong,
     /// The fixed bit is 0 and must be 1 (RFC 9000 sections 17.2 and 17.3.1).
     #[error("the fixed bit of the packet is 0")]
-    NoFixedBit,
+    NoFixedBit {
+        /// The position after the packet, where the next one begins. A packet without a Length field, as one with a short header,
+        /// is the rest of the datagram.
+        end: usize,
+    },
 }
 
 /// Returns the positions of the parts of the packet that begins at byte `start` of a datagram (RFC 9000 section 17).
@@ -76,8 +80,8 @@ pub enum DatagramError {
 /// version is neither 0 nor 1, only the connection IDs are parsed, and the packet is the rest of the datagram.
 ///
 /// Fails with `Cut` if the datagram ends before the packet; with `IdTooLong` if a connection ID of version 1 has more than 20
-/// bytes; and with `NoFixedBit` if the fixed bit of a short header, or of a long one of version 1, is 0 and `fixed_bit` is
-/// `Required`.
+/// bytes; and with `NoFixedBit`, which has the end of the packet, if the fixed bit of a short header, or of a long one of version
+/// 1, is 0 and `fixed_bit` is `Required`.
 pub fn packet_at(
     datagram: &[u8],
     start: usize,
@@ -87,6 +91,8 @@ pub fn packet_at(
     ensures packet { result ≡ packet_of fixed_bit connection_id_len datagram.now start }
     ensures fixed_bit { IfOk result (λ packet. lacks_fixed_bit fixed_bit packet.version (slice_index datagram.now start)
         ≡ false) }
+    ensures refused { (end : ℕ) → IsErrOf result (DatagramError.NoFixedBit end)
+        → (start < end) × (end ≤ length datagram.now) }
     ensures start { IfOk result (λ packet. packet.start ≡ start) }
     ensures some { IfOk result (λ packet. packet.start < packet.end) }
     ensures within { IfOk result (λ packet. packet.end ≤ length datagram.now) }
@@ -96,7 +102,7 @@ pub fn packet_at(
 {
     let packet = parts_at(datagram, start, connection_id_len)?;
     if fixed_bit.is_lacking(packet.version, datagram[start]) {
-        return Err(DatagramError::NoFixedBit);
+        return Err(DatagramError::NoFixedBit { end: packet.end });
     }
     Ok(packet)
 }
@@ -194,7 +200,7 @@ fn id_end(datagram: &[u8], at: usize, longest: usize) -> Result<usize, DatagramE
         ↔ ((slice_index datagram.now at ≤ longest) × (length datagram.now < id_end datagram.now at)) }
     ensures end { IfOk result (λ end. (end ≡ id_end datagram.now at) × (end ≤ length datagram.now)
         × (slice_index datagram.now at ≤ longest)) }
-    ensures others { ¬ IsErrOf result DatagramError.NoFixedBit }
+    ensures others { (end : ℕ) → ¬ IsErrOf result (DatagramError.NoFixedBit end) }
 {
     if at >= datagram.len() {
         return Err(DatagramError::Cut);

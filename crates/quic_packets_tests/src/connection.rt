@@ -415,16 +415,39 @@ fn what_becomes_of_packets(rt: HostRuntime) -> Result<(), Fail> {
     Ok(())
 }
 
+/// An end with these keys that has received nothing.
+fn with_nothing_received(alloc: Global, connection: Connection) -> End {
+    End {
+        connection,
+        kept: Vec::new(alloc),
+        count: 0,
+        last: NONE,
+    }
+}
+
+// An Initial packet whose fixed bit is 0 is ignored, and the Handshake packet after it is received.
+#[test]
+fn no_fixed_bit_in_first_packet(rt: HostRuntime) -> Result<(), Fail> {
+    let mut peer = established(CLIENT, SERVER);
+    peer.install_sender(Level::Initial, Secret::client_initial(&ID)?);
+    let mut connection = established(SERVER, CLIENT);
+    connection.install_receiver(Level::Initial, Secret::client_initial(&ID)?);
+    let mut end = with_nothing_received(rt.alloc(), connection);
+    let mut datagram = sent(rt.alloc(), &mut peer, PacketType::Initial)?;
+    if let Some(first) = datagram.first_mut() {
+        *first &= 0xbf;
+    }
+    datagram.extend_from_slice(&sent(rt.alloc(), &mut peer, PacketType::Handshake)?)?;
+    receive(rt.alloc(), &mut end, &mut datagram, &ID)?;
+    equal(&rt, &(end.count, end.connection.failures()), &(1, 0));
+    Ok(())
+}
+
 // A forged packet is dropped and left as it was, and the packet after it is received.
 #[test]
 fn forged_first_packet(rt: HostRuntime) -> Result<(), Fail> {
     let mut peer = established(CLIENT, SERVER);
-    let mut end = End {
-        connection: established(SERVER, CLIENT),
-        kept: Vec::new(rt.alloc()),
-        count: 0,
-        last: NONE,
-    };
+    let mut end = with_nothing_received(rt.alloc(), established(SERVER, CLIENT));
     let first = forged(&sent(rt.alloc(), &mut peer, PacketType::Handshake)?)?;
     let mut datagram = first.clone()?;
     datagram.extend_from_slice(&sent(rt.alloc(), &mut peer, PacketType::OneRtt)?)?;

@@ -144,16 +144,30 @@ fn refusals(rt: HostRuntime) -> Result<(), Fail> {
     cut_second(&rt, datagram)
 }
 
-// A fixed bit of 0, in a packet without a version and in one of version 1.
+/// Asserts that the packet at the front of a datagram, with a fixed bit of 0 in this first byte, is rejected unless greased, and
+/// that it ends here.
+fn lacks_fixed_bit(
+    rt: &impl Abort,
+    datagram: &mut [u8],
+    first: u8,
+    end: usize,
+) -> Result<(), DatagramError> {
+    if let Some(byte) = datagram.first_mut() {
+        *byte = first;
+    }
+    refused(rt, datagram, 0, DatagramError::NoFixedBit { end });
+    equal(rt, &packet_at(datagram, 0, 0, FixedBit::Greased)?.end, &end);
+    Ok(())
+}
+
+// A fixed bit of 0, in a packet without a version, in one with a Length field, which ends before the next packet, and in a Retry
+// packet.
 #[test]
 fn greased(rt: HostRuntime) -> Result<(), Fail> {
-    for form in [0x3f, 0xbf] {
-        let mut datagram = protected(rt.alloc(), A_3_PACKET)?;
-        if let Some(first) = datagram.first_mut() {
-            *first &= form;
-        }
-        refused(&rt, &datagram, 0, DatagramError::NoFixedBit);
-        assert!(rt; packet_at(&datagram, 0, 0, FixedBit::Greased).is_ok());
+    let mut datagram = protected(rt.alloc(), A_3_PACKET)?;
+    datagram.extend_from_slice(&A_5_PROTECTED)?;
+    for (first, end) in [(0x0f, 156), (0x8f, 135), (0xbf, 156)] {
+        lacks_fixed_bit(&rt, &mut datagram, first, end)?;
     }
     Ok(())
 }

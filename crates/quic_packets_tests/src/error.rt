@@ -109,7 +109,7 @@ const DATAGRAM_ERRORS: [(DatagramError, &str); 3] = [
         "a connection ID of version 1 has at most 20 bytes",
     ),
     (
-        DatagramError::NoFixedBit,
+        DatagramError::NoFixedBit { end: 9 },
         "the fixed bit of the packet is 0",
     ),
 ];
