@@ -14,6 +14,7 @@ pub mod RunLemmas
 pub mod SecretLemmas
 pub mod SenderRuns
 pub mod SentLemmas
+pub mod SkippedLemmas
 pub mod SpaceLemmas
 pub mod StepLemmas
 pub mod WrittenLemmas

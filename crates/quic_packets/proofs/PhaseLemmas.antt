@@ -1,11 +1,14 @@
 -- The numbers that a sender counts acknowledgments of: each was sent in the current key phase. And the first number of the phase.
-use Rattle.std.proofs.Common.{◌≡◌, ℕ, suc, ◌+◌, ◌<◌, ◌≤◌, inl, inr, true, List, ◌∷◌, refl, subst, arith}
-use Rattle.std.proofs.lemmas.Bool.{cases_lt, le-ltb, leb-true, lt-leb, lt-ltb}
+use Rattle.std.proofs.Common.{◌≡◌, ℕ, suc, ◌+◌, ◌<◌, ◌≤◌, inl, inr, true, false, max, List, ◌∷◌, get_or, refl, subst, arith}
+use Rattle.std.proofs.lemmas.Bool.{cases_lt, le-ltb, leb-false, leb-true, lt-leb, lt-ltb, or_from, or_parts}
 use Rattle.std.proofs.lemmas.List.Elements.{All-cons, All-contains, All-nil, All-weaker}
 use Rattle.std.specs.Prelude.{All, Contains, IsFalse, IsTrue, length, nat_le, ◌↔◌, ◌⊎◌, ◌||◌}
 use Rattle.quic_packets.specs.Exchange.{HasSent, Life, Sent, Update, WasSentInPhase, begins, confirms, hears, lowers, sends, skips, updates, updates_before}
-use Rattle.quic_packets.specs.Sending.{Sender, after_acknowledgement, numbered_packet}
+use Rattle.quic_packets.specs.Sending.{Sender, after_acknowledgement, is_unsent, numbered_packet}
+use Rattle.quic_packets.specs.Skipped.{forgotten, is_skipped, no_gaps}
+use Rattle.quic_packets.specs.declared.skipped.Gap.{Gap}
 use Rattle.quic_packets.proofs.SentLemmas.{before-le, before_all}
+use Rattle.quic_packets.proofs.SkippedLemmas.{IsBelow, below_more, below_with, forgotten_below, free_above, none_below, still_free, unskipped}
 
 -- a packet with this number was sent
 abbrev Has : ℕ → List Sent → Type 0
@@ -14,17 +17,24 @@ Has n sent = (p : Sent) × Contains sent p × (p.number ≡ n)
 has_more : (n : ℕ) (p : Sent) (sent : List Sent) → Has n sent → Has n (p ∷ sent)
 has_more n p sent h = (h.0, (suc h.1.0, omega (arith, h.1.1), h.1.2), h.2)
 
--- the unbroken run of the numbers from `first` up to `next`: it came after all key updates, and each number was sent
-record Run (first next : ℕ) (life : Life) (sent : List Sent) : Type 0 where
+-- The numbers from `first` up to `next` came after all key updates, and each was sent unless it is skipped. No number that was
+-- sent is skipped.
+record Run (first next : ℕ) (gaps : List Gap) (life : Life) (sent : List Sent) : Type 0 where
   begun : All (λ u. u.first ≤ first) life.updates
   order : first ≤ next
-  each : (n : ℕ) → first ≤ n → n < next → Has n sent
+  ranges : IsBelow next gaps
+  below : All (λ p. p.number < next) sent
+  used : All (λ p. is_skipped gaps p.number ≡ false) sent
+  each : (n : ℕ) → first ≤ n → n < next → is_skipped gaps n ≡ false → Has n sent
 
-run_of : (s : Sender) (life : Life) (sent : List Sent) → HasSent s life sent → Run s.first s.next life sent
+run_of : (s : Sender) (life : Life) (sent : List Sent) → HasSent s life sent → Run s.first s.next s.skipped life sent
 run_of s life sent (begins key header_key secret from) = record {
   begun = All-nil (λ u. u.first ≤ from);
   order = omega arith;
-  each = λ n le lt. absurd (omega arith);
+  ranges = none_below from;
+  below = All-nil (λ p. p.number < from);
+  used = All-nil (λ p. is_skipped no_gaps p.number ≡ false);
+  each = λ n le lt free. absurd (omega arith);
 }
 run_of t l ps (sends s life sent fixed_bit start end packet wire sealable turn is before) =
     let run = run_of s life sent before in
@@ -38,8 +48,12 @@ run_of t l ps (sends s life sent fixed_bit start end packet wire sealable turn i
     record {
       begun = run.begun;
       order = omega (arith, run.order);
-      each = λ n le lt. elim (cases_lt n s.next) [
-        | inl earlier ↦ has_more n p sent (run.each n le earlier)
+      ranges = below_more s.next (s.next + 1) s.skipped (omega arith) run.ranges;
+      below = All-cons (λ q. q.number < s.next + 1) p sent (omega arith)
+          (All-weaker (λ q. q.number < s.next) (λ q. q.number < s.next + 1) (λ q h. omega arith) sent run.below);
+      used = All-cons (λ q. is_skipped s.skipped q.number ≡ false) p sent (free_above s.next s.next s.skipped (omega arith) run.ranges) run.used;
+      each = λ n le lt free. elim (cases_lt n s.next) [
+        | inl earlier ↦ has_more n p sent (run.each n le earlier free)
         | inr last ↦ (p, (0, omega arith, refl), omega arith)
       ];
     }
@@ -47,14 +61,24 @@ run_of t l ps (skips s life sent number le before) =
     let run = run_of s life sent before in
     elim (cases_lt s.next number) [
       | inl gap ↦ rw (lt-ltb s.next number gap) (record {
-        begun = All-weaker (λ u. u.first ≤ s.first) (λ u. u.first ≤ number) (λ u h. omega (arith, run.order)) life.updates run.begun;
-        order = omega arith;
-        each = λ n from lt. absurd (omega arith);
+        begun = All-weaker (λ u. u.first ≤ s.first) (λ u. u.first ≤ max s.first (forgotten s.skipped s.next)) (λ u h. omega arith)
+            life.updates run.begun;
+        order = omega (arith, run.order, forgotten_below s.next s.skipped run.ranges);
+        ranges = below_with s.next number s.skipped le run.ranges;
+        below = All-weaker (λ p. p.number < s.next) (λ p. p.number < number) (λ p h. omega arith) sent run.below;
+        used = λ i d at. still_free s.next number (get_or sent i d).number s.skipped (run.below i d at) (run.used i d at);
+        each = λ n from lt free. (
+            let was = unskipped s.next number n s.skipped run.ranges lt (omega (arith, from)) free in
+            run.each n (omega (arith, from)) was.0 was.1
+            );
       })
       | inr none ↦ rw (le-ltb s.next number none) (record {
         begun = run.begun;
         order = omega (arith, run.order);
-        each = λ n from lt. run.each n from (omega arith);
+        ranges = below_more s.next number s.skipped le run.ranges;
+        below = All-weaker (λ p. p.number < s.next) (λ p. p.number < number) (λ p h. omega arith) sent run.below;
+        used = run.used;
+        each = λ n from lt free. run.each n from (omega arith) free;
       })
     ]
 run_of t l ps (updates s life sent key secret before) =
@@ -63,28 +87,34 @@ run_of t l ps (updates s life sent key secret before) =
       begun = All-cons (λ u. u.first ≤ s.next) _ life.updates (omega arith)
           (All-weaker (λ u. u.first ≤ s.first) (λ u. u.first ≤ s.next) (λ u h. omega (arith, run.order)) life.updates run.begun);
       order = omega arith;
-      each = λ n le lt. absurd (omega arith);
+      ranges = run.ranges;
+      below = run.below;
+      used = run.used;
+      each = λ n le lt free. absurd (omega arith);
     }
-run_of t l ps (hears s life sent number below before) =
-    let run = run_of s life sent before in
-    record { begun = run.begun; order = run.order; each = run.each }
-run_of t l ps (confirms s life sent before) =
-    let run = run_of s life sent before in
-    record { begun = run.begun; order = run.order; each = run.each }
-run_of t l ps (lowers s life sent limit before) =
-    let run = run_of s life sent before in
-    record { begun = run.begun; order = run.order; each = run.each }
+run_of t l ps (hears s life sent number below before) = run_of s life sent before
+run_of t l ps (confirms s life sent before) = run_of s life sent before
+run_of t l ps (lowers s life sent limit before) = run_of s life sent before
 
 pub acknowledged_was_sent : (s : Sender) (life : Life) (sent : List Sent) (number : ℕ) → HasSent s life sent → IsFalse s.acknowledged
-    → number < s.next → IsTrue (after_acknowledgement s number).acknowledged → WasSentInPhase life sent number
-acknowledged_was_sent s life sent number calls was below now =
+    → IsFalse (is_unsent s number) → IsTrue (after_acknowledgement s number).acknowledged → WasSentInPhase life sent number
+acknowledged_was_sent s life sent number calls was taken now =
     let run = run_of s life sent calls in
     let from : s.first ≤ number = leb-true s.first number (subst (λ b. (b || nat_le s.first number) ≡ true) was now) in
+    let parts = or_parts (nat_le s.next number) (is_skipped s.skipped number) taken in
     record {
-      was_sent = run.each number from below;
+      was_sent = run.each number from (leb-false s.next number parts.0) parts.1;
       in_phase = before_all life.updates number
           (All-weaker (λ u. u.first ≤ s.first) (λ u. u.first ≤ number) (λ u h. omega arith) life.updates run.begun);
     }
+
+pub sent_is_acknowledged : (s : Sender) (life : Life) (sent : List Sent) (p : Sent) → HasSent s life sent → Contains sent p
+    → IsFalse (is_unsent s p.number)
+sent_is_acknowledged s life sent p calls has =
+    let run = run_of s life sent calls in
+    or_from (nat_le s.next p.number) (is_skipped s.skipped p.number)
+    (lt-leb s.next p.number (All-contains (λ q. q.number < s.next) sent p run.below has))
+    (All-contains (λ q. is_skipped s.skipped q.number ≡ false) sent p run.used has)
 
 -- Where the phase begins: no update is later, and each packet is from there on, or before the last update.
 record Begins (s : Sender) (life : Life) (sent : List Sent) : Type 0 where

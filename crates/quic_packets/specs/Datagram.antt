@@ -132,7 +132,8 @@ parts_of connection_id_len datagram start =
     if nat_lt (slice_index datagram start) 0x80 then whole datagram (short_layout connection_id_len datagram start)
     else long_packet datagram start
 
--- a packet with this first byte is rejected if its fixed bit is 0 and must be 1 (sections 17.2 and 17.3.1). The error has its end.
+-- a packet with this first byte is rejected if its fixed bit is 0 and must be 1 (sections 17.2 and 17.3.1), and the error has its
+-- end
 abbrev pub with_fixed_bit : FixedBit → (first : ℕ) → Result Packet DatagramError → Result Packet DatagramError
 with_fixed_bit fixed_bit first (Err error) = Err error
 with_fixed_bit fixed_bit first (Ok packet) =

@@ -16,5 +16,6 @@ pub mod Receiving
 pub mod Retry
 pub mod Secrets
 pub mod Sending
+pub mod Skipped
 pub mod Space
 pub mod Suite

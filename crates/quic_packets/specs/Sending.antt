@@ -13,21 +13,24 @@ use Rattle.quic_packets.specs.Header.{HasSample, Protected}
 use Rattle.quic_packets.specs.Keys.{PacketKey, secret_key}
 use Rattle.quic_packets.specs.Numbers.{Represents, unacknowledged}
 use Rattle.quic_packets.specs.Packet.{IsNumber, low_bytes}
+use Rattle.quic_packets.specs.Skipped.{forgotten, is_skipped, no_gaps, with_gap}
 use Rattle.quic_packets.specs.Suite.{algorithm, header_algorithm}
 use Rattle.quic_packets.specs.declared.fixed_bit.FixedBit.{FixedBit}
+use Rattle.quic_packets.specs.declared.skipped.Gap.{Gap}
 use Rattle.quic_packets.specs.declared.suite.Suite.{Suite}
 
 -- a sender: its key and header key, and the secret of the key, if it is made of one; the next number, and the largest acknowledged
--- one of its space; the Key Phase bit; how many packets this key has sealed and may seal; the first number of the unbroken run of
--- numbers that were sent in this phase and that ends before the next one, which is the next one if the run is empty; the next
--- number when this phase began; whether the keys were never updated or a packet of this phase is acknowledged; and whether the
--- handshake is confirmed
+-- one of its space; the ranges of skipped numbers that are kept; the Key Phase bit; how many packets this key has sealed and may
+-- seal; the first number of this phase from which on each skipped number is in one of these ranges; the next number when this
+-- phase began; whether the keys were never updated or a packet of this phase is acknowledged; and whether the handshake is
+-- confirmed
 pub record Sender : Type 0 where
   pub key : PacketKey
   pub header_key : HeaderKey
   pub secret : Option SecretState
   pub next : ℕ
   pub largest : Option ℕ
+  pub skipped : List Gap
   pub phase : Bool
   pub sealed : ℕ
   pub limit : ℕ
@@ -49,6 +52,7 @@ new_sender key header_key secret first = record {
   secret = secret;
   next = first;
   largest = None;
+  skipped = no_gaps;
   phase = false;
   sealed = 0;
   limit = 2 ^ 23;
@@ -131,18 +135,26 @@ IsSent s start end old new =
 abbrev pub after_send : Sender → Sender
 after_send s = record s { next = s.next + 1; sealed = s.sealed + 1 }
 
--- after a skip: the run of sent numbers is broken if a number is left unused
+-- after a skip: the numbers that are left unused, if there are any, are kept as a range, for which one may be forgotten
 abbrev pub after_skip : Sender → ℕ → Sender
-after_skip s number =
-    record s { next = number; first = if nat_lt s.next number then number else s.first }
+after_skip s number = record s {
+  next = number;
+  skipped = if nat_lt s.next number then with_gap s.skipped s.next number else s.skipped;
+  first = if nat_lt s.next number then max s.first (forgotten s.skipped s.next) else s.first;
+}
 
 -- the largest acknowledged number once this one is acknowledged too
 abbrev pub raised : Option ℕ → ℕ → Option ℕ
 raised None number = Some number
 raised (Some largest) number = Some (max largest number)
 
--- After an acknowledgment of a number below the next one. It allows an update if the number is in the unbroken run of numbers that
--- were sent in this phase (RFC 9001 section 6.1).
+-- the number was not sent: it is not below the next one, or it is in a range of skipped numbers that is kept (RFC 9000 section
+-- 13.1)
+abbrev pub is_unsent : Sender → ℕ → Bool
+is_unsent s number = nat_le s.next number || is_skipped s.skipped number
+
+-- After an acknowledgment of a number that is not known as unsent. It allows an update if the number is of this phase, and not so
+-- low that a range which was forgotten may have it (RFC 9001 section 6.1).
 abbrev pub after_acknowledgement : Sender → ℕ → Sender
 after_acknowledgement s number =
     record s { largest = raised s.largest number; acknowledged = s.acknowledged || nat_le s.first number }
@@ -173,7 +185,7 @@ after_derived_update s held = let next = next_quic_secret held in after_update s
 -- 9000 sections 12.3 and 17.2.5.3)
 abbrev pub with_installed_keys : Sender → PacketKey → HeaderKey → Option SecretState → Sender
 with_installed_keys s key header_key secret =
-    record (new_sender key header_key secret s.next) { largest = s.largest; limit = s.limit }
+    record (new_sender key header_key secret s.next) { largest = s.largest; skipped = s.skipped; limit = s.limit }
 
 -- The state of a sender after any calls, and the numbers that it sealed under, in one list for each key. A call leaves one of
 -- the states above, or fails and leaves the sender unchanged.

@@ -4,7 +4,7 @@
 //! The caller installs the secrets that TLS gives, writes headers and frames, and passes on acknowledgments, the confirmation of
 //! the handshake and its timer.
 
-ghost use Rattle.std.specs.Prelude.{◌≡◌, ℕ, List, ◌+◌, ◌-◌, ◌^◌, ◌<◌, ◌≤◌, ◌↔◌, ◌⊎◌, ◌&&◌, false, true, min, length, slice_index, if◌then◌else◌, Some, None, IsTrue, IsSome, IfSome, IsOk, IfOk, IfErr, IsErrOf, OnOk, OnErr, unwrap_or, is_some};
+ghost use Rattle.std.specs.Prelude.{◌≡◌, ℕ, List, ◌+◌, ◌-◌, ◌^◌, ◌<◌, ◌≤◌, ◌↔◌, ◌⊎◌, ◌&&◌, false, true, min, length, slice_index, if◌then◌else◌, Some, None, IsFalse, IsTrue, IsSome, IfSome, IsOk, IfOk, IfErr, IsErrOf, OnOk, OnErr, unwrap_or, is_some};
 ghost use Rattle.std.specs.Option.{option_copied};
 ghost use Rattle.quic_packets.specs.Connection.{IfPacket, IsGiven, IsOpening, IsOwn, IsPacketAt, IsReceiving, IsTried, end_of, ends_of, has_keys, after_sending, kept_at, is_one_rtt, is_opened, opened_of, packet_in, receiver_of, sender_after, space_of, with_ends, with_receiver, with_sender};
 ghost use Rattle.quic_packets.specs.Datagram.{bytes_of, number_in, packet_of};
@@ -13,7 +13,7 @@ ghost use Rattle.quic_packets.specs.Errors.{error_code};
 ghost use Rattle.quic_packets.specs.Header.{HasSample};
 ghost use Rattle.quic_packets.specs.Keys.{secret_header_key, secret_key};
 ghost use Rattle.quic_packets.specs.Receiving.{Outcome, Reads, new_receiver};
-ghost use Rattle.quic_packets.specs.Sending.{IsInTurn, IsSealable, IsSent, IsUnanswered, after_acknowledgement};
+ghost use Rattle.quic_packets.specs.Sending.{IsInTurn, IsSealable, IsSent, IsUnanswered, after_acknowledgement, is_unsent};
 ghost use Rattle.quic_packets.specs.Space.{IsNew, Marks};
 ghost use Rattle.quic_packets.specs.declared.fixed_bit.FixedBit.TheVariants.{Required};
 
@@ -254,11 +254,11 @@ impl Connection {
     ) -> Result<(), PacketError>
         ensures no_keys { IsErrOf result PacketError.NoKeys ↔ ¬ IsSome (ends_of self.old level).sender }
         ensures never_sent { IfSome (ends_of self.old level).sender (λ s. IsErrOf result PacketError.NeverSent
-            ↔ (s.next ≤ number)) }
+            ↔ IsTrue (is_unsent s number)) }
         ensures unanswered { IfSome (ends_of self.old level).sender (λ s. IsErrOf result PacketError.UpdateUnanswered
-            ↔ ((number < s.next) × IsUnanswered s number phase)) }
+            ↔ (IsFalse (is_unsent s number) × IsUnanswered s number phase)) }
         ensures accepted { IfSome (ends_of self.old level).sender (λ s. IsOk result
-            ↔ ((number < s.next) × ¬ IsUnanswered s number phase)) }
+            ↔ (IsFalse (is_unsent s number) × ¬ IsUnanswered s number phase)) }
         ensures acknowledged { IfSome (ends_of self.old level).sender (λ s. OnOk result (self.new
             ≡ with_ends self.old level (record (ends_of self.old level) { sender = Some (after_acknowledgement s number) }))) }
         ensures kept { OnErr result (self.new ≡ self.old) }

@@ -76,7 +76,8 @@ pub enum PacketError {
     /// The output does not have the length of the result.
     #[error("the output does not have the length of the result")]
     OutputLength,
-    /// The peer has acknowledged a packet number that was not sent (RFC 9000 section 13.1).
+    /// The peer has acknowledged a packet number that was not sent (RFC 9000 section 13.1): one that is not below the next number,
+    /// or that was skipped and is in a range that is kept (see `Sender::skip_to`).
     #[error("a packet that was not sent was acknowledged")]
     NeverSent,
     /// The peer has acknowledged a packet of the current keys in a packet of older keys (RFC 9001 section 6.2).

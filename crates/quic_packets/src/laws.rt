@@ -12,7 +12,7 @@ ghost use Rattle.quic_packets.specs.HeaderBytes.{HasLongParts, HasShortParts, Is
 ghost use Rattle.quic_packets.specs.Laws.{OpensTo};
 ghost use Rattle.quic_packets.specs.Keys.{PacketKey as PacketKeyState, secret_key};
 ghost use Rattle.quic_packets.specs.Numbers.{InWindow, IsAbove, IsDecoded, Represents, expected, unacknowledged};
-ghost use Rattle.quic_packets.specs.Sending.{Runs, after_acknowledgement};
+ghost use Rattle.quic_packets.specs.Sending.{Runs, after_acknowledgement, is_unsent};
 ghost use Rattle.quic_packets.specs.Packet.{HasNumber, IsNumber, low_bytes};
 ghost use Rattle.quic_packets.specs.Receiving.{Outcome, Reads, Receiver as ReceiverState};
 ghost use Rattle.quic_packets.specs.Secrets.{ReceiverOf, SenderOf, secret_after};
@@ -125,9 +125,16 @@ pub fn no_number_twice_over_keys(first: &Sender, last: &Sender)
 /// 9001 section 6.1). This holds over every run of sends, skips and key updates of the sender.
 pub fn acknowledged_was_sent(sender: &Sender)
     ensures { (life : Life) → (sent : List Sent) → (number : ℕ) → HasSent sender.now life sent
-        → IsFalse sender.now.acknowledged → number < sender.now.next
+        → IsFalse sender.now.acknowledged → IsFalse (is_unsent sender.now number)
         → IsTrue (after_acknowledgement sender.now number).acknowledged
         → WasSentInPhase life sent number }
+{}
+
+/// An acknowledgment of a packet that was sent is not taken for one of a packet that was not sent (RFC 9000 section 13.1). This
+/// holds over every run of sends, skips and key updates of the sender.
+pub fn sent_is_acknowledged(sender: &Sender)
+    ensures { (life : Life) → (sent : List Sent) → (packet : Sent) → HasSent sender.now life sent
+        → Contains sent packet → IsFalse (is_unsent sender.now packet.number) }
 {}
 
 /// A packet that was sent is of the current key phase, after all key updates, exactly if its number is not below the first number

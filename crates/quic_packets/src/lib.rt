@@ -22,6 +22,7 @@ mod packet;
 mod receiver;
 mod retry;
 mod sender;
+mod skipped;
 mod space;
 mod suite;
 

@@ -8,7 +8,7 @@ ghost use Rattle.quic_packets.specs.FixedBit.{lacks_fixed_bit};
 ghost use Rattle.quic_packets.specs.Header.{HasSample};
 ghost use Rattle.quic_packets.specs.Keys.{header_key, packet_key, secret_header_key, secret_key};
 ghost use Rattle.quic_packets.specs.Packet.{IsNumber};
-ghost use Rattle.quic_packets.specs.Sending.{HasKeyLengths, IsEncodable, IsInTurn, IsOpen, IsRoom, IsSealable, IsSent, after_acknowledgement, after_send, after_skip, after_update, first_byte, header_version, lacks_protection, new_sender, numbered_packet, with_installed_keys, IsUnanswered, after_derived_update};
+ghost use Rattle.quic_packets.specs.Sending.{HasKeyLengths, IsEncodable, IsInTurn, IsOpen, IsRoom, IsSealable, IsSent, after_acknowledgement, after_send, after_skip, after_update, first_byte, header_version, lacks_protection, new_sender, numbered_packet, with_installed_keys, IsUnanswered, after_derived_update, is_unsent};
 
 use crate::datagram::version;
 use crate::error::PacketError;
@@ -18,6 +18,7 @@ use crate::key::PacketKey;
 use crate::keys::Keys;
 use crate::numbers::number_len;
 use crate::packet::{NUMBERS_END, payload_len};
+use crate::skipped::Skipped;
 use crate::suite::Suite;
 use aead_ciphers::aead::NONCE_LEN;
 use key_derivation::Secret;
@@ -55,6 +56,7 @@ pub struct Sender {
     secret: Option<Secret>,
     next: u64,
     largest_acknowledged: Option<u64>,
+    skipped: Skipped,
     phase: bool,
     sealed: u64,
     limit: u64,
@@ -77,6 +79,7 @@ impl Model for Sender {
       secret = s.secret;
       next = s.next;
       largest = s.largest_acknowledged;
+      skipped = s.skipped;
       phase = s.phase;
       sealed = s.sealed;
       limit = s.limit;
@@ -147,6 +150,7 @@ impl Sender {
             secret,
             next: first,
             largest_acknowledged: None,
+            skipped: Skipped::new(),
             phase: false,
             sealed: 0,
             limit: MAX_SEALED,
@@ -232,10 +236,11 @@ impl Sender {
         number_len(self.next, self.largest_acknowledged)
     }
 
-    /// Leaves the numbers below `number` unused, so that `number` is the next one.
+    /// Leaves the numbers below `number` unused, so that `number` is the next one. A peer that acknowledges one of them has not
+    /// received it (RFC 9000 section 21.4), and `acknowledged` rejects that.
     ///
-    /// If no packet of the current key phase is acknowledged yet, the next `initiate_update` needs an acknowledgment of a packet
-    /// that is sent after the last skip (see `acknowledged`).
+    /// Up to eight ranges of skipped numbers are kept, over key updates and installed keys. A skip that needs a ninth forgets the
+    /// lowest one, whose numbers are acknowledged from then on as if they were sent.
     ///
     /// Fails with `NumberUsed` if the next number is already above `number`, and with `NumbersEnded` if `number` is above 2^62.
     /// The sender is then unchanged.
@@ -253,7 +258,8 @@ impl Sender {
             return Err(PacketError::NumbersEnded);
         }
         if number > self.next {
-            self.first = number;
+            let forgotten = self.skipped.add(self.next, number);
+            self.first = self.first.max(forgotten);
         }
         self.next = number;
         Ok(())
@@ -270,18 +276,18 @@ impl Sender {
     /// stays over key updates and installed keys, determines how many bytes later numbers need (RFC 9000 section 17.1). A peer
     /// that acknowledges what it didn't receive shortens only numbers that it must decode itself.
     ///
-    /// A number allows the next key update if it is in the unbroken run of numbers that were sent in the current key phase and
-    /// that ends before the next number (RFC 9001 section 6.1). One from before the last skip or the last key update does not.
+    /// A number of the current key phase allows the next key update (RFC 9001 section 6.1), unless it is below the end of a range
+    /// of skipped numbers that was forgotten.
     ///
-    /// Fails with `NeverSent` if `number` is not below the next number. The sender is then unchanged, and the connection must be
-    /// closed (RFC 9000 section 13.1).
+    /// Fails with `NeverSent` if `number` is not below the next number, or is in a range of skipped numbers that is kept (see
+    /// `skip_to`). The sender is then unchanged, and the connection must be closed (RFC 9000 section 13.1).
     pub fn acknowledged(&mut self, number: u64) -> Result<(), PacketError>
-        ensures accepted { IsOk result ↔ (number < self.old.next) }
+        ensures accepted { IsOk result ↔ IsFalse (is_unsent self.old number) }
         ensures refused { IsOkUnless result PacketError.NeverSent }
         ensures acknowledged { OnOk result (self.new ≡ after_acknowledgement self.old number) }
         ensures kept { OnErr result (self.new ≡ self.old) }
     {
-        if number >= self.next {
+        if self.is_unsent(number) {
             return Err(PacketError::NeverSent);
         }
         self.largest_acknowledged = match self.largest_acknowledged {
@@ -304,17 +310,25 @@ impl Sender {
     /// of the current one, and isn't told from it: the receiver has to forget the previous key before an update is initiated
     /// (section 6.5).
     pub fn acknowledged_in(&mut self, number: u64, phase: bool) -> Result<(), PacketError>
-        ensures accepted { IsOk result ↔ ((number < self.old.next) × ¬ IsUnanswered self.old number phase) }
-        ensures never_sent { IsErrOf result PacketError.NeverSent ↔ (self.old.next ≤ number) }
+        ensures accepted { IsOk result
+            ↔ (IsFalse (is_unsent self.old number) × ¬ IsUnanswered self.old number phase) }
+        ensures never_sent { IsErrOf result PacketError.NeverSent ↔ IsTrue (is_unsent self.old number) }
         ensures unanswered { IsErrOf result PacketError.UpdateUnanswered
-            ↔ ((number < self.old.next) × IsUnanswered self.old number phase) }
+            ↔ (IsFalse (is_unsent self.old number) × IsUnanswered self.old number phase) }
         ensures acknowledged { OnOk result (self.new ≡ after_acknowledgement self.old number) }
         ensures kept { OnErr result (self.new ≡ self.old) }
     {
-        if number < self.next && number >= self.first_of_phase && phase != self.phase {
+        if !self.is_unsent(number) && number >= self.first_of_phase && phase != self.phase {
             return Err(PacketError::UpdateUnanswered);
         }
         self.acknowledged(number)
+    }
+
+    // Whether this number was not sent, so far as the ranges of skipped numbers tell.
+    fn is_unsent(&self, number: u64) -> bool
+        ensures { result ≡ is_unsent self.now number }
+    {
+        number >= self.next || self.skipped.contains(number)
     }
 
     /// Initiates a key update: continues with the keys of the next secret, in the other key phase (RFC 9001 section 6.1). The

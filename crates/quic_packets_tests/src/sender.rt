@@ -207,7 +207,7 @@ enum Event {
     Confirmed,
     Skipped(u64),
     Acknowledged(u64),
-    /// The peer acknowledges a number that is not below the next one.
+    /// The peer acknowledges a number that is not below the next one, or that was skipped.
     NeverSent(u64),
     /// The peer acknowledges a number in a packet with this key phase.
     AcknowledgedIn(u64, bool, Result<(), PacketError>),
@@ -309,45 +309,41 @@ const LIMITS_AND_UPDATES: [Event; 17] = [
     Sent(4, true),
 ];
 
-/// A phase whose first packet comes after a skip, one with a skip between two packets, one with two skips, and one with a skip
-/// that leaves no number unused. Only a packet that was sent after the last other skip allows the next update.
-const SKIPS: [Event; 31] = [
+/// A phase whose first packet comes after a skip, one with a skip after its packet, whose acknowledgment allows the next update,
+/// and one with two skips before its packet and one after it that leaves no number unused. No skipped number was sent.
+const SKIPS: [Event; 27] = [
     Confirmed,
     Initiated(2, 16, Ok(())),
     Skipped(50),
-    Acknowledged(20),
+    NeverSent(0),
+    NeverSent(49),
     Initiated(3, 16, Err(PacketError::PhaseUnacknowledged)),
     Sent(2, true),
-    Acknowledged(49),
+    NeverSent(49),
     NeverSent(51),
     Initiated(3, 16, Err(PacketError::PhaseUnacknowledged)),
     Acknowledged(50),
     Initiated(3, 16, Ok(())),
     Sent(3, false),
     Skipped(60),
-    Sent(3, false),
-    Acknowledged(51),
-    Acknowledged(59),
+    NeverSent(52),
+    NeverSent(59),
     Initiated(4, 16, Err(PacketError::PhaseUnacknowledged)),
-    Acknowledged(60),
+    Acknowledged(51),
     Initiated(4, 16, Ok(())),
     Skipped(70),
-    Sent(4, true),
     Skipped(80),
-    Acknowledged(70),
-    Initiated(5, 16, Err(PacketError::PhaseUnacknowledged)),
+    NeverSent(69),
+    NeverSent(70),
     Sent(4, true),
+    Skipped(81),
     Acknowledged(80),
     Initiated(5, 16, Ok(())),
-    Sent(5, false),
-    Skipped(82),
-    Acknowledged(81),
-    Initiated(6, 16, Ok(())),
 ];
 
 /// Acknowledgments that come under the keys of each phase: under older keys, only a number of an earlier phase is acknowledged. A
 /// skip leaves the first number of the phase.
-const OLDER_KEYS: [Event; 17] = [
+const OLDER_KEYS: [Event; 18] = [
     Stands(0, 9),
     Sent(1, false),
     AcknowledgedIn(0, false, Ok(())),
@@ -362,6 +358,7 @@ const OLDER_KEYS: [Event; 17] = [
     AcknowledgedIn(0, false, Ok(())),
     AcknowledgedIn(1, false, Err(PacketError::UpdateUnanswered)),
     AcknowledgedIn(5, false, Err(PacketError::UpdateUnanswered)),
+    AcknowledgedIn(4, false, Err(PacketError::NeverSent)),
     AcknowledgedIn(6, false, Err(PacketError::NeverSent)),
     Initiated(3, 16, Err(PacketError::PhaseUnacknowledged)),
     AcknowledgedIn(5, true, Ok(())),
@@ -385,6 +382,48 @@ fn events(rt: HostRuntime) -> Result<(), Fail> {
     happen(&rt, 0, 99, &SKIPS)?;
     happen(&rt, 0, 9, &OLDER_KEYS)?;
     happen(&rt, (1 << 62) - 3, 9, &LAST_NUMBERS)
+}
+
+/// Skips a number before each of these, and sends a packet.
+fn send_after_skips(sender: &mut Sender, numbers: &[u64]) -> Result<(), PacketError> {
+    for &number in numbers {
+        sender.skip_to(number)?;
+        sender.send(&mut packet(0x40, 0), 1..2, FixedBit::Required)?;
+    }
+    Ok(())
+}
+
+/// Asserts the result of an acknowledgment of each of these.
+fn acknowledges(
+    rt: &impl Abort,
+    sender: &mut Sender,
+    numbers: &[u64],
+    wanted: Result<(), PacketError>,
+) {
+    for &number in numbers {
+        equal(rt, &sender.acknowledged(number), &wanted);
+    }
+}
+
+// Eight ranges of skipped numbers are kept, over a key update. A ninth forgets the lowest one, which then is acknowledged, and
+// allows no update.
+#[test]
+fn skipped_ranges(rt: HostRuntime) -> Result<(), Fail> {
+    let never_sent = Err(PacketError::NeverSent);
+    let mut sender = sender(0)?;
+    sender.confirm_handshake();
+    send_after_skips(&mut sender, &[1, 3, 5])?;
+    sender.follow_update_with(&[2; 16], IV)?;
+    send_after_skips(&mut sender, &[7, 9, 11, 13, 15])?;
+    acknowledges(&rt, &mut sender, &[0, 2, 4, 6, 14, 16], never_sent);
+    send_after_skips(&mut sender, &[17, 19, 21, 23])?;
+    acknowledges(&rt, &mut sender, &[0, 2, 4, 6], Ok(()));
+    acknowledges(&rt, &mut sender, &[8, 10, 22, 24], never_sent);
+    let updated = sender.initiate_update_with(&[3; 16], IV);
+    equal(&rt, &updated, &Err(PacketError::PhaseUnacknowledged));
+    sender.acknowledged(7)?;
+    sender.initiate_update_with(&[3; 16], IV)?;
+    Ok(())
 }
 
 // Acknowledgments keep the numbers of a sender short. The largest one counts, over key updates and installed keys.

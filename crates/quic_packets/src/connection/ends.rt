@@ -1,12 +1,12 @@
 //! The keys of an encryption level, for both directions, and its space of packet numbers.
 
-ghost use Rattle.std.specs.Prelude.{◌≡◌, ◌<◌, ◌≤◌, ◌↔◌, Some, None, IsTrue, IsSome, IfSome, IsOk, IfOk, IsErrOf, OnOk, OnErr};
+ghost use Rattle.std.specs.Prelude.{◌≡◌, ◌<◌, ◌≤◌, ◌↔◌, Some, None, IsFalse, IsTrue, IsSome, IfSome, IsOk, IfOk, IsErrOf, OnOk, OnErr};
 ghost use Rattle.std.specs.Option.{option_copied};
 ghost use Rattle.quic_packets.specs.Connection.{IsTried};
 ghost use Rattle.quic_packets.specs.Ends.{Refuses, confirmed, following, forgotten, in_phase, initiated, installed, is_confirmed, is_due, kept_back, left, may_update, no_ends, phase_of, renewed, sent, with_next_key};
 ghost use Rattle.quic_packets.specs.Keys.{secret_header_key, secret_key};
 ghost use Rattle.quic_packets.specs.Receiving.{new_receiver};
-ghost use Rattle.quic_packets.specs.Sending.{IsInTurn, IsSealable, IsSent, IsUnanswered, after_acknowledgement};
+ghost use Rattle.quic_packets.specs.Sending.{IsInTurn, IsSealable, IsSent, IsUnanswered, after_acknowledgement, is_unsent};
 ghost use Rattle.quic_packets.specs.declared.fixed_bit.FixedBit.TheVariants.{Required};
 
 use crate::datagram::Packet;
@@ -228,11 +228,12 @@ impl Ends {
     /// Records an acknowledgment.
     pub(crate) fn acknowledged(&mut self, number: u64, phase: bool) -> Result<(), PacketError>
         ensures no_keys { IsErrOf result PacketError.NoKeys ↔ ¬ IsSome self.old.sender }
-        ensures never_sent { IfSome self.old.sender (λ s. IsErrOf result PacketError.NeverSent ↔ (s.next ≤ number)) }
+        ensures never_sent { IfSome self.old.sender (λ s. IsErrOf result PacketError.NeverSent
+            ↔ IsTrue (is_unsent s number)) }
         ensures unanswered { IfSome self.old.sender (λ s. IsErrOf result PacketError.UpdateUnanswered
-            ↔ ((number < s.next) × IsUnanswered s number phase)) }
+            ↔ (IsFalse (is_unsent s number) × IsUnanswered s number phase)) }
         ensures accepted { IfSome self.old.sender (λ s. IsOk result
-            ↔ ((number < s.next) × ¬ IsUnanswered s number phase)) }
+            ↔ (IsFalse (is_unsent s number) × ¬ IsUnanswered s number phase)) }
         ensures acknowledged { IfSome self.old.sender (λ s. OnOk result
             (self.new ≡ record self.old { sender = Some (after_acknowledgement s number) })) }
         ensures kept { OnErr result (self.new ≡ self.old) }

@@ -1,0 +1,34 @@
+-- The packet numbers that a sender has skipped: the highest eight ranges of them, the last one first. Before there are eight, the
+-- others are empty.
+use Rattle.std.specs.Prelude.{ℕ, Bool, nat_le, nat_lt, max, ◌==◌, ◌&&◌, if◌then◌else◌, List, [], ◌∷◌, replicate, take, drop}
+use Rattle.std.specs.List.{list_any}
+use Rattle.quic_packets.specs.declared.skipped.Gap.{Gap}
+
+-- no number is skipped
+abbrev pub no_gaps : List Gap
+no_gaps = replicate 8 (record { start = 0; end = 0 })
+
+-- the number is in the range
+abbrev pub is_in_gap : ℕ → Gap → Bool
+is_in_gap number gap = nat_le gap.start number && nat_lt number gap.end
+
+-- the number is in one of the ranges
+abbrev pub is_skipped : List Gap → ℕ → Bool
+is_skipped gaps number = list_any (is_in_gap number) gaps
+
+-- The ranges once the numbers from `start` up to `end` are skipped too. The last range is longer if it ends at `start`. Otherwise
+-- there is another one, and the lowest of eight is forgotten.
+abbrev pub with_gap : List Gap → (start end : ℕ) → List Gap
+with_gap [] start end = record { start = start; end = end } ∷ []
+with_gap (last ∷ lower) start end =
+    if last.end == start then record last { end = end } ∷ lower else record { start = start; end = end } ∷ take 7 (last ∷ lower)
+
+-- the highest end of these ranges, or 0
+abbrev pub highest_end : List Gap → ℕ
+highest_end [] = 0
+highest_end (gap ∷ gaps) = max gap.end (highest_end gaps)
+
+-- the end of the range that is forgotten then, or 0
+abbrev pub forgotten : List Gap → (start : ℕ) → ℕ
+forgotten [] start = 0
+forgotten (last ∷ lower) start = if last.end == start then 0 else highest_end (drop 7 (last ∷ lower))

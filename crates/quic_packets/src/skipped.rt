@@ -1,0 +1,69 @@
+//! The packet numbers that a sender has skipped.
+
+ghost use Rattle.std.specs.Prelude.{◌≡◌};
+ghost use Rattle.quic_packets.specs.Skipped.{forgotten, is_skipped, no_gaps, with_gap};
+
+use std::marker::Model;
+
+/// The number of ranges that are kept.
+const GAPS: usize = 8;
+
+/// A range of numbers.
+#[derive(Clone, Copy)]
+pub(crate) struct Gap {
+    /// The first number.
+    pub(crate) start: u64,
+    /// The number after the last one.
+    pub(crate) end: u64,
+}
+
+/// The highest ranges of the numbers that were skipped, the last one first. Before eight are kept, the others are empty.
+#[derive(Drop)]
+pub(crate) struct Skipped {
+    gaps: [Gap; GAPS],
+}
+
+impl Model for Skipped {
+    ghost use Rattle.std.specs.Prelude.{List};
+    ghost use Rattle.quic_packets.specs.declared.skipped.Gap.{Gap};
+
+    ghost Value = { List Gap };
+
+    ghost view = { λ skipped. skipped.gaps };
+}
+
+impl Skipped {
+    /// No number is skipped.
+    pub(crate) fn new() -> Self
+        ensures { result ≡ no_gaps }
+    {
+        Skipped {
+            gaps: [Gap { start: 0, end: 0 }; GAPS],
+        }
+    }
+
+    /// Whether the number is in a range that is kept.
+    pub(crate) fn contains(&self, number: u64) -> bool
+        ensures { result ≡ is_skipped self.now number }
+    {
+        self.gaps
+            .iter()
+            .any(|gap| gap.start <= number && number < gap.end)
+    }
+
+    /// Adds the numbers from `start` up to `end`, which are above the others, and returns the end of the range that is forgotten
+    /// for them, or 0.
+    pub(crate) fn add(&mut self, start: u64, end: u64) -> u64
+        ensures gaps { self.new ≡ with_gap self.old start end }
+        ensures forgotten { result ≡ forgotten self.old start }
+    {
+        if self.gaps[0].end == start {
+            self.gaps[0].end = end;
+            return 0;
+        }
+        let forgotten = self.gaps[GAPS - 1].end;
+        self.gaps.rotate_right(1);
+        self.gaps[0] = Gap { start, end };
+        forgotten
+    }
+}
