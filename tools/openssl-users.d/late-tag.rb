@@ -1,28 +1,44 @@
-# Opens by Ruby's OpenSSL::Cipher with the tag set after the text: 8 MB, equal, and a forged message, which is refused.
+# Opens by Ruby's OpenSSL::Cipher with the tag set after the text: 8 MB, equal, an empty message, and forged ones and one of
+# another AAD, which are refused.
 require 'openssl'
 
-def opened(name, key, nonce, sealed, tag)
+AAD = 'header'
+
+def sealed(name, key, nonce, text)
+  cipher = OpenSSL::Cipher.new(name).encrypt
+  cipher.key = key
+  cipher.iv = nonce
+  cipher.auth_data = AAD
+  # Ruby takes no empty text.
+  [(text.empty? ? '' : cipher.update(text)) + cipher.final, cipher.auth_tag]
+end
+
+def opened(name, key, nonce, sealed, tag, aad = AAD)
   cipher = OpenSSL::Cipher.new(name).decrypt
   cipher.key = key
   cipher.iv = nonce
-  text = cipher.update(sealed)
+  cipher.auth_data = aad
+  text = sealed.empty? ? '' : cipher.update(sealed)
   cipher.auth_tag = tag
   text + cipher.final
 end
 
-%w[aes-128-gcm aes-256-gcm].each do |name|
-  cipher = OpenSSL::Cipher.new(name).encrypt
-  key = cipher.random_key
-  nonce = cipher.random_iv
-  text = OpenSSL::Random.random_bytes(8 << 20)
-  sealed = cipher.update(text) + cipher.final
-  tag = cipher.auth_tag
-  raise "#{name}: another text" unless opened(name, key, nonce, sealed, tag) == text
-  tag.setbyte(0, tag.getbyte(0) ^ 1)
-  begin
-    opened(name, key, nonce, sealed, tag)
-  rescue OpenSSL::Cipher::CipherError
-    next
+def refused(*message)
+  opened(*message)
+rescue OpenSSL::Cipher::CipherError
+  nil
+else
+  raise "#{message[0]}: a forged message was opened"
+end
+
+[['aes-128-gcm', 16], ['aes-256-gcm', 32]].each do |name, length|
+  key = OpenSSL::Random.random_bytes(length)
+  nonce = OpenSSL::Random.random_bytes(12)
+  [OpenSSL::Random.random_bytes(8 << 20), ''].each do |text|
+    message, tag = sealed(name, key, nonce, text)
+    raise "#{name}: another text" unless opened(name, key, nonce, message, tag) == text
+    refused(name, key, nonce, message, tag, 'other') unless text.empty?
+    tag.setbyte(0, tag.getbyte(0) ^ 1)
+    refused(name, key, nonce, message, tag)
   end
-  raise "#{name}: a forged message was opened"
 end
