@@ -141,7 +141,7 @@ static int init(context *c, const uint8_t *key, size_t key_len, const uint8_t *n
     if (key != NULL) {
         c->has_key = key_len == c->key_len && deerlapse_key_init(&c->key, key, key_len);
         if (!c->has_key) return refuse(c->provider, KEY_LENGTH);
-        report_first_key(c->provider);
+        report(c->provider, MAKES_KEY);
     }
     if (nonce != NULL) {
         if (nonce_len != NONCE) return refuse(c->provider, NONCE_LENGTH);
@@ -236,6 +236,7 @@ static int open(context *c, uint8_t *out, size_t *out_len, const uint8_t *in, si
     if (continues) return wait_for_tag(c, out, out_len, in, len);
     if (!c->has_tag && c->provider->late_tag && len > 0) return wait_for_tag(c, out, out_len, in, len);
     if (!c->has_tag) return give_none(c, NO_TAG, out, in, len);
+    if (len > 0) report(c->provider, TAG_BEFORE_TEXT);
     c->has_tag = false;
     if (deerlapse_key_open_to(&c->key, c->nonce, c->aad, c->aad_len, in, len, out, c->tag)) {
         c->stage = OPENED;
@@ -472,6 +473,7 @@ static bool takes_tag(context *c, const OSSL_PARAM params[]) {
     if (param == NULL) return true;
     tag = bytes_of(param, TAG);
     if (c->encrypting || tag == NULL) return refuse(c->provider, TAG_LENGTH);
+    if (c->stage == WAITING || (c->stage == REFUSED && c->why == NO_TAG)) report(c->provider, TAG_AFTER_TEXT);
     if (c->stage == OPENED || c->stage == REFUSED) return refuse(c->provider, LATE_TAG);
     memcpy(c->tag, tag, TAG);
     c->has_tag = true;

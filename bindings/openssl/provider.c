@@ -52,10 +52,15 @@ int refuse_at(const provider *by, const char *file, int line, const char *functi
     return 0;
 }
 
-void report_first_key(const provider *by) {
-    static atomic_flag reported = ATOMIC_FLAG_INIT;
-    if (!by->trace || atomic_flag_test_and_set(&reported)) return;
-    fprintf(stderr, "deerlapse: this process has made a key by deerlapse " VERSION " for " PROCESSOR "\n");
+void report(const provider *by, event what) {
+    static const char *const lines[] = {
+        [MAKES_KEY] = "has made a key by deerlapse " VERSION " for " PROCESSOR,
+        [TAG_BEFORE_TEXT] = "sets the tag before the text",
+        [TAG_AFTER_TEXT] = "sets the tag after the text, which needs late-tag = yes",
+    };
+    static atomic_flag reported[] = {ATOMIC_FLAG_INIT, ATOMIC_FLAG_INIT, ATOMIC_FLAG_INIT};
+    if (!by->trace || atomic_flag_test_and_set(&reported[what])) return;
+    fprintf(stderr, "deerlapse: this process %s\n", lines[what]);
 }
 
 /* Whether a name in the provider's section of the configuration has the value `yes`. */

@@ -14,7 +14,7 @@ typedef struct {
     OSSL_FUNC_core_set_error_debug_fn *set_error_debug;
     OSSL_FUNC_core_vset_error_fn *vset_error;
     bool late_tag; /* late-tag = yes: text may come before its tag */
-    bool trace;    /* trace = yes: the first key of the process is reported */
+    bool trace;    /* trace = yes: what the process does is reported */
 } provider;
 
 /* Why a call is refused. The texts, which OpenSSL prints, are in provider.c. */
@@ -41,8 +41,11 @@ typedef enum {
 int refuse_at(const provider *by, const char *file, int line, const char *function, int why, const char *format, ...);
 #define refuse(by, why) refuse_at(by, OPENSSL_FILE, OPENSSL_LINE, OPENSSL_FUNC, why, NULL)
 
-/* With `trace = yes`, prints a line to standard error at the first key of the process. */
-void report_first_key(const provider *by);
+/* What a process is seen to do. */
+typedef enum { MAKES_KEY, TAG_BEFORE_TEXT, TAG_AFTER_TEXT } event;
+
+/* With `trace = yes`, prints a line to standard error at the first event of its kind in the process. */
+void report(const provider *by, event what);
 
 /* The functions of the two ciphers, in cipher.c. */
 extern const OSSL_DISPATCH aes_128_gcm[], aes_256_gcm[];
