@@ -3,7 +3,6 @@
 %%   crypto                                8 MB, equal, an empty message, and forged ones and one of another AAD, refused
 %%   ssl CERT KEY FILE [VERSION SUITE]..   a file each way by each suite of TLS, between two ends that are both Erlang's `ssl`
 %%   get PORT FILE VERSION SUITE           a file from a server of 127.0.0.1
--mode(compile).
 
 main(["crypto"]) ->
     [crypto(Name, Length) || {Name, Length} <- [{aes_128_gcm, 16}, {aes_256_gcm, 32}]];
