@@ -3,6 +3,7 @@
  *
  * Use: calls ROUNDS [late]. It prints how many there were. With `late`, the configuration has `late-tag = yes`, and the
  * calls are those that it allows. */
+#include "check.h"
 #include <openssl/core_names.h>
 #include <openssl/err.h>
 #include <openssl/evp.h>
@@ -15,15 +16,6 @@
 #include <string.h>
 
 enum { NONCE = 12, TAG = 16, MAX_LEN = 70000, MAX_AAD = 300, MAX_PIECES = 5, EXPLICIT = 8, RECORD_AAD = 13 };
-
-#define CHECK(is)                                                    \
-    do {                                                             \
-        if (!(is)) {                                                 \
-            fprintf(stderr, "failed: line %d, %s\n", __LINE__, #is); \
-            ERR_print_errors_fp(stderr);                             \
-            exit(1);                                                 \
-        }                                                            \
-    } while (0)
 
 /* One of the two ciphers, by the provider and by OpenSSL. */
 typedef struct {

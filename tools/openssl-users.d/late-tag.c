@@ -1,24 +1,13 @@
 /* Opens with the calls in the order of the example of OpenSSL's wiki for AES-GCM, where the tag is set after the text: 8 MB,
  * equal, an empty message, and forged ones and one of another AAD, which are refused. */
-#include <openssl/err.h>
+#include "check.h"
 #include <openssl/evp.h>
 #include <openssl/rand.h>
 #include <stdbool.h>
 #include <stdint.h>
-#include <stdio.h>
-#include <stdlib.h>
 #include <string.h>
 
 enum { NONCE = 12, TAG = 16, LEN = 8 << 20 };
-
-#define CHECK(is)                                                    \
-    do {                                                             \
-        if (!(is)) {                                                 \
-            fprintf(stderr, "failed: line %d, %s\n", __LINE__, #is); \
-            ERR_print_errors_fp(stderr);                             \
-            exit(1);                                                 \
-        }                                                            \
-    } while (0)
 
 static uint8_t key[32], nonce[NONCE], aad[] = "header", tag[TAG], text[LEN], sealed[LEN], out[LEN];
 
