@@ -1,7 +1,7 @@
 -- Operations on planes, seen at one byte.
 use Rattle.std.proofs.Common.{◌≡◌, ℕ, zero, suc, ◌+◌, ◌/◌, ◌%◌, ◌^◌, ◌<◌, min, Bool, true, ◌&&◌, List, [], ◌∷◌, refl, sym, ap, ◌∙◌, arith, bit_xor, bit_and, slice_index, div-one, ◌==◌, shr-shr}
 use Rattle.std.specs.Int.{bit_at}
-use Rattle.std.proofs.lemmas.Nat.Bits.{bit_at_xor, bit_at_and, bit_at-lt, bit_at_ones}
+use Rattle.std.proofs.lemmas.Nat.Bits.{bit_at_xor, bit_at_and, bit_at-lt}
 use Rattle.aead_ciphers_base.specs
 use specs.Polynomial.{◌xor◌, coefficient}
 use specs.ByteField.{bits_of, value_of, mul8}
@@ -70,8 +70,3 @@ times_x_plane a p =
     let n = plane_byte a p in
     let test = same_below (λ t. value_of (times_x_bits (bits_of 8 t))) (mul8 2) 256 n times_x_test (plane_byte_lt a p) in
     rw (at0, at2, at3) (ap (λ q. value_of (times_x_bits q)) (sym (plane_byte_bits a p)) ∙ test)
-
--- ---- ones
-
-pub ones_bit : (p : ℕ) → p < 64 → (bit_at 0xffffffffffffffff p == 1) ≡ true
-ones_bit p h = ap (λ t. t == 1) (bit_at_ones 64 p h)

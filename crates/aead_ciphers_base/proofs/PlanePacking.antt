@@ -11,7 +11,7 @@ use lemmas.Bool.{cases_lt}
 use lemmas.Bool.Decides.{nat_tests}
 use Rattle.aead_ciphers_base.specs
 use specs.ByteField.{bits_of, value_of}
-use specs.Planes.{plane_byte, plane_block, word_bit, exchanged_from}
+use specs.Planes.{plane_byte, plane_block, block_at, word_bit, exchanged_from}
 use specs.declared.aes.pack.TheConstants.{LOW, EIGHTHS}
 use Rattle.aead_ciphers_base.proofs
 use proofs.NumberBits.{bit_at-mod, bit_at-shr, by_digits, all_below, all_below_at, same_below, same_in_table, value_of-bits_of}
@@ -214,7 +214,7 @@ module _ (words turned planes : List ℕ) (blocks : List (List ℕ)) where
 
   pub unpacked_block : Moved planes turned bits_from → Moved turned words bytes_from → HoldsBlocks words blocks
       → (k : ℕ) → k < 4 → slice_index_or blocks k [] ≡ plane_block planes k
-  unfolding plane_block
+  unfolding block_at
   unpacked_block bits bytes held k hk =
       let packed : IsPacked words planes = λ q b hq hb. sym (bytes _ (omega arith) ∙ bits _ (omega arith)
       ∙ ap (word_bit planes) (same_in_table (λ q b. bits_from (bytes_from (8 * q + b))) (λ q b. 64 * b + q) 64 8 q b refl hq hb)) in

@@ -5,7 +5,7 @@ use lemmas.List.{get_or_append_left}
 use lemmas.List.FromFn.{fill_by_all}
 use Rattle.aead_ciphers_base.specs
 use specs.Aes.{word_at, key_words, cipher, aes, next_word, add_round_key, mix_columns, shift_rows, sub_bytes, rounds}
-use specs.Planes.{plane_byte}
+use specs.Planes.{plane_byte, place_of_four, HoldsRound}
 use specs.KeySchedule.{HoldsWords, key_of, IsSchedule}
 use Rattle.aead_ciphers_base.proofs
 use proofs.EachLemmas.{get_or-each, length-each}
@@ -83,6 +83,14 @@ module _ (key : List ℕ) (w round_keys : List (List ℕ)) (nk : ℕ) (len : len
 -- the words that the round keys of a schedule hold
 abbrev pub schedule_words : List (List ℕ) → ℕ → List (List ℕ)
 schedule_words round_keys rounds = key_words (rounds - 6) (key_of round_keys rounds) (4 * (rounds + 1) - (rounds - 6))
+
+-- a round key of them, in the planes of a pass
+pub holds_round : (round_keys w : List (List ℕ)) (n j : ℕ) → HoldsWords round_keys w n → j < n
+    → HoldsRound place_of_four 4 w j (slice_index_or round_keys j [])
+holds_round round_keys w n j holds hj k r c hk hr hc =
+    let column : 4 * j + place_of_four k (r + 4 * c) % 16 / 4 ≡ 4 * j + c = omega arith in
+    let row : place_of_four k (r + 4 * c) % 4 ≡ r = omega arith in
+    holds j (place_of_four k (r + 4 * c)) hj (omega arith) ∙ ap₂ (λ i t. slice_index (word_at w i) t) column row
 
 -- the cipher under the words of a schedule is AES under its key
 pub aes_of_schedule : (round_keys : List (List ℕ)) (rounds : ℕ) (b : List ℕ) → 10 ≤ rounds

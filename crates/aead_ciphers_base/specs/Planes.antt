@@ -1,8 +1,9 @@
--- Four blocks in eight planes of 64 bits: bit 16 block + byte of plane b is bit b of that byte.
-use Rattle.std.specs.Prelude.{ℕ, ◌+◌, ◌-◌, ◌*◌, ◌/◌, ◌%◌, ◌^◌, ◌==◌, Bool, List, slice_index}
+-- Blocks in eight planes, and four of them in planes of 64 bits: bit 16 block + byte of plane b is bit b of that byte.
+use Rattle.std.specs.Prelude.{◌≡◌, ◌<◌, ℕ, ◌+◌, ◌-◌, ◌*◌, ◌/◌, ◌%◌, ◌^◌, ◌==◌, Bool, List, slice_index}
 use Rattle.std.specs.Int.{bit_at}
+use Rattle.std.proofs.Common.{arith}
 use Rattle.aead_ciphers_base.specs.ByteField.{value_of}
-use Rattle.aead_ciphers_base.specs.Aes.{state}
+use Rattle.aead_ciphers_base.specs.Aes.{state, word_at}
 use Rattle.aead_ciphers_base.specs.Bytes.{each_below}
 
 -- byte p: its bit b is bit p of plane b
@@ -13,17 +14,43 @@ plane_byte planes p = value_of (each_below 8 (λ b. bit_at (slice_index planes b
 unfoldable pub plane_polynomial : ℕ → List ℕ → ℕ → List Bool
 plane_polynomial n planes p = each_below n (λ b. bit_at (slice_index planes b) p == 1)
 
+-- block k of planes that hold byte j of block k at place k j
+unfoldable pub block_at : (ℕ → ℕ → ℕ) → List ℕ → ℕ → List ℕ
+block_at place planes k = state (λ r c. plane_byte planes (place k (r + 4 * c)))
+
+-- where planes of 64 bits hold byte j of block k
+abbrev pub place_of_four : ℕ → ℕ → ℕ
+place_of_four k j = 16 * k + j
+
+pub place_of_four_within : (k j : ℕ) → k < 64 / 16 → j < 16 → place_of_four k j < 64
+place_of_four_within k j hk hj = omega arith
+
 -- block k: its byte j is byte 16 k + j of the planes
-unfoldable pub plane_block : List ℕ → ℕ → List ℕ
-plane_block planes k = state (λ r c. plane_byte planes (16 * k + (r + 4 * c)))
+abbrev pub plane_block : List ℕ → ℕ → List ℕ
+plane_block = block_at place_of_four
 
--- the place i rows below place p in its column, with row numbers modulo 4
-abbrev pub below : ℕ → ℕ → ℕ
-below p i = p / 4 * 4 + (p + i) % 4
+-- byte j of a block that is i rows below that in row r and column c, with row numbers modulo 4
+abbrev pub below : ℕ → ℕ → ℕ → ℕ
+below i r c = (r + i) % 4 + 4 * c
 
--- the place whose byte ShiftRows moves to place p (FIPS 197 section 5.1.2)
-abbrev pub shifted_from : ℕ → ℕ
-shifted_from p = p / 16 * 16 + (p % 4 + 4 * ((p / 4 + p) % 4))
+-- the byte that ShiftRows moves to row r and column c (FIPS 197 section 5.1.2)
+abbrev pub shifted_from : ℕ → ℕ → ℕ
+shifted_from r c = r + 4 * ((c + r) % 4)
+
+-- the bit of each byte of n blocks is moved, in the plane new, to row r and column c from the byte `from r c` of the plane old
+abbrev pub Moves : (ℕ → ℕ → ℕ) → ℕ → (ℕ → ℕ → ℕ) → ℕ → ℕ → Type 0
+Moves place n from old new =
+    (k r c : ℕ) → k < n → r < 4 → c < 4 → bit_at new (place k (r + 4 * c)) ≡ bit_at old (place k (from r c))
+
+-- the same, of each byte in planes
+abbrev pub MovesBytes : (ℕ → ℕ → ℕ) → ℕ → (ℕ → ℕ → ℕ) → List ℕ → List ℕ → Type 0
+MovesBytes place n from old new =
+    (k r c : ℕ) → k < n → r < 4 → c < 4 → plane_byte new (place k (r + 4 * c)) ≡ plane_byte old (place k (from r c))
+
+-- the planes hold round key j of the words w in each of n blocks
+abbrev pub HoldsRound : (ℕ → ℕ → ℕ) → ℕ → List (List ℕ) → ℕ → List ℕ → Type 0
+HoldsRound place n w j planes =
+    (k r c : ℕ) → k < n → r < 4 → c < 4 → plane_byte planes (place k (r + 4 * c)) ≡ slice_index (word_at w (4 * j + c)) r
 
 -- bit n of 64-bit words, the least significant bit of word 0 first
 unfoldable pub word_bit : List ℕ → ℕ → ℕ

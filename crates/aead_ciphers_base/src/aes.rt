@@ -30,6 +30,7 @@ mod round;
 mod tower;
 mod work;
 
+pub use bit_sliced::{RoundKeyPlanes, first_rounds, last_round};
 pub use counter::{Counter, Iv};
 pub use key_schedule::expand as expand_words;
 pub use pack::LOW;

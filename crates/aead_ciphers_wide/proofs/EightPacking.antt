@@ -3,7 +3,7 @@ use Rattle.std.proofs.Common.{◌≡◌, ℕ, zero, suc, ◌+◌, ◌*◌, ◌/�
 use Rattle.std.specs.Int.{bit_at, to_le_bytes, w128}
 use Rattle.std.proofs.lemmas.List.FromFn.{fill_by_all}
 use Rattle.aead_ciphers_base.specs.ByteField.{bits_of, value_of}
-use Rattle.aead_ciphers_base.specs.Planes.{plane_byte, word_bit}
+use Rattle.aead_ciphers_base.specs.Planes.{block_at, plane_byte, word_bit}
 use Rattle.aead_ciphers_wide.specs.WidePlanes.{wide_block}
 use Rattle.aead_ciphers_wide.specs.Word.{lane_of, lanes_of}
 use Rattle.aead_ciphers_base.proofs.NumberBits.{bit_at-mod, bit_at-shr, value_of-bits_of}
@@ -55,7 +55,7 @@ transposed_bit words planes h p b hp hb =
 
 pub packed_eight : (words planes : List ℕ) → AreTransposed words planes → (k : ℕ) → k < 8
     → wide_block planes k ≡ to_le_bytes w128 (slice_index words k)
-unfolding wide_block
+unfolding block_at
 packed_eight words planes h k hk =
     sym (state_is (λ r c. plane_byte planes (8 * (r + 4 * c) + k)) (to_le_bytes w128 (slice_index words k)) refl
     (λ j hj.
@@ -69,7 +69,7 @@ packed_eight words planes h k hk =
 pub unpacked_eight : (planes words : List ℕ) (blocks : List (List ℕ)) → AreTransposed planes words
     → ((k : ℕ) → k < 8 → slice_index_or blocks k [] ≡ to_le_bytes w128 (slice_index words k))
     → (k : ℕ) → k < 8 → slice_index_or blocks k [] ≡ wide_block planes k
-unfolding wide_block
+unfolding block_at
 unpacked_eight planes words blocks h held k hk =
     held k hk
     ∙ state_is (λ r c. plane_byte planes (8 * (r + 4 * c) + k)) _ refl

@@ -14,7 +14,6 @@ pub mod WideBlocks
 pub mod WideCounters
 pub mod WideHash
 pub mod WideRoundKeys
-pub mod WideShifts
 pub mod WordBytes
 pub mod WordLanes
 pub mod WordMoves

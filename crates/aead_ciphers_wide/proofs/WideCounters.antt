@@ -58,6 +58,7 @@ pub counter_numbered : (block nonce : List ℕ) (k by number : ℕ) → IsCounte
     → IsCounter (counter_block (take 12 block) (number + by)) nonce (k + by)
 unfolding counter_block
 counter_numbered block nonce k by number at is =
-    let front : take 12 block ≡ nonce = ap (take 12) at.value ∙ take-append-le 12 nonce _ (omega (arith, at.size)) ∙ take_all 12 nonce (omega (arith, at.size)) in
+    let front : take 12 block ≡ nonce =
+    ap (take 12) at.value ∙ take-append-le 12 nonce _ (omega (arith, at.size)) ∙ take_all 12 nonce (omega (arith, at.size)) in
     let same : (number + by) % 2 ^ 32 ≡ (k + by) % 2 ^ 32 = omega (arith, is) in
     record { size = at.size; value = ap₂ (λ f n. f ++ to_be_bytes w32 n) front same }

@@ -2,10 +2,11 @@
 use Rattle.std.proofs.Common.{◌≡◌, ℕ, ◌+◌, ◌-◌, ◌*◌, ◌/◌, ◌%◌, ◌≤◌, List, [], length, sym, ◌∙◌, ap, ap₂, arith, slice_index, slice_index_or, ◌<◌, set, subst, below_more, get_or-set_same, get_or-set_other}
 use Rattle.std.proofs.lemmas.List.FromFn.{fill_by_all}
 use Rattle.aead_ciphers_base.specs.Aes.{at, word_at, key_words, cipher, aes}
-use Rattle.aead_ciphers_wide.specs.WideSchedule.{HoldsPlanes, HoldsWords, IsSchedule, column, key_at, key_of, schedule_words}
+use Rattle.aead_ciphers_base.specs.Planes.{HoldsRound}
+use Rattle.aead_ciphers_wide.specs.WidePlanes.{place_of_eight}
+use Rattle.aead_ciphers_wide.specs.WideSchedule.{HoldsPlanes, HoldsWords, IsSchedule, column, key_at, key_of, planes_of, schedule_words}
 use Rattle.aead_ciphers_base.proofs.EachLemmas.{get_or-each, length-each}
 use Rattle.aead_ciphers_base.proofs.RoundKeys.{key_words_front}
-use Rattle.aead_ciphers_wide.proofs.WideBlocks.{PlanesHoldWords}
 
 -- byte k of a block, in its column
 byte_of_column : (b : List ℕ) (k : ℕ) → slice_index b k ≡ slice_index (column b (k / 4)) (k % 4)
@@ -58,14 +59,14 @@ aes_of_schedule round_keys rounds b h =
     let count : rounds - 6 + 6 ≡ rounds = omega arith in
     rw (nk, count)
 
--- the planes of round keys hold the words that these hold
-pub planes_hold : (planes round_keys words : List (List ℕ)) (n : ℕ) → HoldsPlanes planes round_keys n → HoldsWords round_keys words n
-    → PlanesHoldWords planes words n
-planes_hold planes round_keys words n is_planes holds j p hj hp =
-    let place : p / 8 / 4 ≡ p / 32 = omega arith in
-    is_planes j p hj hp ∙ byte_of_column (key_at round_keys j) (p / 8)
-    ∙ ap (λ c. slice_index (column (key_at round_keys j) c) (p / 8 % 4)) place
-    ∙ ap (λ w. slice_index w (p / 8 % 4)) (holds j (p / 32) hj (omega arith))
+-- the planes of round key j hold it in each of the eight blocks
+pub holds_round : (planes round_keys words : List (List ℕ)) (n j : ℕ) → HoldsPlanes planes round_keys n
+    → HoldsWords round_keys words n → j < n → HoldsRound place_of_eight 8 words j (planes_of (slice_index_or planes j []))
+holds_round planes round_keys words n j is_planes holds hj k r c hk hr hc =
+    let byte : (8 * (r + 4 * c) + k) / 8 ≡ r + 4 * c = omega arith in
+    is_planes j (8 * (r + 4 * c) + k) hj (omega arith) ∙ ap (slice_index (key_at round_keys j)) byte
+    ∙ sym (get_or-each 4 (λ r. at (key_at round_keys j) r c) r 0 hr)
+    ∙ ap (λ w. slice_index w r) (holds j c hj hc)
 
 -- one more round key written
 pub keys_more : (P : ℕ → List ℕ → Type 0) (keys : List (List ℕ)) (j : ℕ) (v : List ℕ) → j < length keys

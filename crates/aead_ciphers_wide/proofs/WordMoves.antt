@@ -1,38 +1,18 @@
 -- Bytes of a word that change places, and bits that fill them.
-use Rattle.std.proofs.Common.{◌≡◌, ℕ, zero, suc, ◌+◌, ◌*◌, ◌/◌, ◌%◌, ◌^◌, ◌<◌, Bool, false, List, length, map, replicate, slice_index, bit_and, cond, eqb, ◌==◌, Fits, w8, refl, sym, ap, ap₂, ◌∙◌, arith}
+use Rattle.std.proofs.Common.{◌≡◌, ℕ, ◌+◌, ◌*◌, ◌/◌, ◌%◌, ◌^◌, ◌<◌, Bool, false, List, length, map, replicate, slice_index, bit_and, cond, eqb, ◌==◌, Fits, w8, refl, sym, ap, ap₂, ◌∙◌, arith}
 use Rattle.std.specs.Int.{bit_at, to_le_bytes, w128}
 use Rattle.std.specs.Simd.Lanes.{zip2, Each1, sel_l, top}
 use Rattle.std.proofs.lemmas.Nat.Bits.{bit_at-lt}
 use Rattle.std.proofs.lemmas.Simd.{Each1-get_or, tops_compared, get_or-sel_l, get_or-zip2, get_or-replicate, length-zip2}
 use Rattle.std.proofs.lemmas.List.FromFn.{fill_by_all}
 use Rattle.aead_ciphers_base.specs.ByteField.{bits_of, value_of}
-use Rattle.aead_ciphers_base.specs.Planes.{plane_byte}
+use Rattle.aead_ciphers_base.specs.Bytes.{each_below}
+use Rattle.aead_ciphers_base.specs.Planes.{plane_byte, Moves}
+use Rattle.aead_ciphers_base.proofs.EachLemmas.{get_or-each}
+use Rattle.aead_ciphers_wide.specs.WidePlanes.{place_of_eight}
 use Rattle.aead_ciphers_base.proofs.NumberBits.{bit_at-mod, bit_at-shr, same_in_table, value_of-bits_of}
 use Rattle.aead_ciphers_base.proofs.PlaneBits.{bits_of_at}
 use Rattle.aead_ciphers_wide.proofs.EightPacking.{byte_is}
-
--- what holds at each place of a block
-pub by_sixteen : (P : ℕ → Type 0) → P 0 → P 1 → P 2 → P 3 → P 4 → P 5 → P 6 → P 7 → P 8 → P 9 → P 10 → P 11 → P 12 → P 13 → P 14 → P 15
-    → (n : ℕ) → n < 16 → P n
-by_sixteen P p0 p1 p2 p3 p4 p5 p6 p7 p8 p9 p10 p11 p12 p13 p14 p15 n h = elim n as (λ n. n < 16 → P n) [
-  | zero ↦ λ _. p0
-  | suc zero ↦ λ _. p1
-  | suc (suc zero) ↦ λ _. p2
-  | suc (suc (suc zero)) ↦ λ _. p3
-  | suc (suc (suc (suc zero))) ↦ λ _. p4
-  | suc (suc (suc (suc (suc zero)))) ↦ λ _. p5
-  | suc (suc (suc (suc (suc (suc zero))))) ↦ λ _. p6
-  | suc (suc (suc (suc (suc (suc (suc zero)))))) ↦ λ _. p7
-  | suc (suc (suc (suc (suc (suc (suc (suc zero))))))) ↦ λ _. p8
-  | suc (suc (suc (suc (suc (suc (suc (suc (suc zero)))))))) ↦ λ _. p9
-  | suc (suc (suc (suc (suc (suc (suc (suc (suc (suc zero))))))))) ↦ λ _. p10
-  | suc (suc (suc (suc (suc (suc (suc (suc (suc (suc (suc zero)))))))))) ↦ λ _. p11
-  | suc (suc (suc (suc (suc (suc (suc (suc (suc (suc (suc (suc zero))))))))))) ↦ λ _. p12
-  | suc (suc (suc (suc (suc (suc (suc (suc (suc (suc (suc (suc (suc zero)))))))))))) ↦ λ _. p13
-  | suc (suc (suc (suc (suc (suc (suc (suc (suc (suc (suc (suc (suc (suc zero))))))))))))) ↦ λ _. p14
-  | suc (suc (suc (suc (suc (suc (suc (suc (suc (suc (suc (suc (suc (suc (suc zero)))))))))))))) ↦ λ _. p15
-  | suc (suc (suc (suc (suc (suc (suc (suc (suc (suc (suc (suc (suc (suc (suc (suc k))))))))))))))) ↦ λ h. absurd (omega arith)
-] h
 
 pub bit_of_byte : (x p : ℕ) → p < 128 → bit_at x p ≡ bit_at (slice_index (to_le_bytes w128 x) (p / 8)) (p % 8)
 bit_of_byte x p h =
@@ -40,16 +20,26 @@ bit_of_byte x p h =
     sym (ap (λ b. bit_at b (p % 8)) (byte_is x (p / 8) (omega arith)) ∙ bit_at-mod _ 8 (p % 8) (omega arith)
     ∙ bit_at-shr x (8 * (p / 8)) (p % 8) ∙ ap (bit_at x) place)
 
-pub bytes_move : (x y : ℕ) (source : ℕ → ℕ) → ((j : ℕ) → j < 16 → slice_index (to_le_bytes w128 y) j ≡ slice_index (to_le_bytes w128 x) (source j))
-    → ((j : ℕ) → j < 16 → source j < 16) → (p : ℕ) → p < 128 → bit_at y p ≡ bit_at x (8 * source (p / 8) + p % 8)
-bytes_move x y source moved within p h =
-    let j = p / 8 in
-    let b = p % 8 in
-    let below = within j (omega arith) in
-    let byte : (8 * source j + b) / 8 ≡ source j = omega arith in
-    let bit : (8 * source j + b) % 8 ≡ b = omega arith in
-    bit_of_byte y p h ∙ ap (λ t. bit_at t b) (moved j (omega arith))
-    ∙ sym (bit_of_byte x (8 * source j + b) (omega arith) ∙ ap₂ (λ i t. bit_at (slice_index (to_le_bytes w128 x) i) t) byte bit)
+-- bytes that change places move the bits of eight blocks
+pub bytes_move : (from : ℕ → ℕ → ℕ) → ((r c : ℕ) → r < 4 → c < 4 → from r c < 16)
+    → (x y : ℕ) → to_le_bytes w128 y ≡ each_below 16 (λ j. slice_index (to_le_bytes w128 x) (from (j % 4) (j / 4)))
+    → Moves place_of_eight 8 from x y
+bytes_move from within x y e k r c hk hr hc =
+    let j = r + 4 * c in
+    let below = within r c hr hc in
+    let byte : (8 * (r + 4 * c) + k) / 8 ≡ r + 4 * c = omega arith in
+    let bit : (8 * (r + 4 * c) + k) % 8 ≡ k = omega arith in
+    let byte' : (8 * from r c + k) / 8 ≡ from r c = omega arith in
+    let bit' : (8 * from r c + k) % 8 ≡ k = omega arith in
+    let row : (r + 4 * c) % 4 ≡ r = omega arith in
+    let column : (r + 4 * c) / 4 ≡ c = omega arith in
+    let at = λ (i t : ℕ). bit_at (slice_index (to_le_bytes w128 x) i) t in
+    bit_of_byte y (8 * (r + 4 * c) + k) (omega arith)
+    ∙ ap₂ (λ i t. bit_at (slice_index (to_le_bytes w128 y) i) t) byte bit
+    ∙ ap (λ b. bit_at b k) (ap (λ b. slice_index b j) e
+    ∙ get_or-each 16 (λ j. slice_index (to_le_bytes w128 x) (from (j % 4) (j / 4))) j 0 (omega arith))
+    ∙ ap (λ i. at i k) (ap₂ from row column)
+    ∙ sym (bit_of_byte x (8 * from r c + k) (omega arith) ∙ ap₂ at byte' bit')
 
 -- ---- bits that fill bytes
 

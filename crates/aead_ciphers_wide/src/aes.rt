@@ -24,7 +24,6 @@ mod key_schedule;
 mod pack_eight;
 mod permuted;
 mod planes;
-mod round;
 mod round_keys;
 
 pub use block_key::{BlockKey, BlockKeyRef};

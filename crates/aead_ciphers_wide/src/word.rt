@@ -2,6 +2,7 @@
 
 ghost use Rattle.std.specs.Prelude.{◌≡◌, ◌<◌, ◌+◌, ◌*◌, ◌/◌, ◌%◌, ◌^◌, ℕ, bit_xor, bit_and, slice_index};
 ghost use Rattle.std.specs.Int.{bit_at, to_le_bytes, w128};
+ghost use Rattle.aead_ciphers_wide.specs.WidePlanes.{place_of_eight, place_of_eight_within};
 ghost use Rattle.aead_ciphers_wide.specs.Word.{each_lane};
 
 use aead_ciphers_base::aes::{Block, Plane};
@@ -151,6 +152,10 @@ impl Plane for Word {
 
     ghost width = { 128 };
 
+    ghost place = { place_of_eight };
+
+    ghost place_within = { place_of_eight_within };
+
     ghost can_xor = { λ a b. tt };
 
     ghost can_and = { λ a b. tt };
@@ -162,6 +167,30 @@ impl Plane for Word {
     #[inline(always)]
     fn ones() -> Word {
         Word::splat(u64::MAX)
+    }
+
+    #[inline(always)]
+    fn rows_shifted(self) -> Word {
+        Word::from_bytes(
+            self.bytes()
+                .swizzle([0, 5, 10, 15, 4, 9, 14, 3, 8, 13, 2, 7, 12, 1, 6, 11]),
+        )
+    }
+
+    #[inline(always)]
+    fn one_below(self) -> Word {
+        Word::from_bytes(
+            self.bytes()
+                .swizzle([1, 2, 3, 0, 5, 6, 7, 4, 9, 10, 11, 8, 13, 14, 15, 12]),
+        )
+    }
+
+    #[inline(always)]
+    fn two_below(self) -> Word {
+        Word::from_bytes(
+            self.bytes()
+                .swizzle([2, 3, 0, 1, 6, 7, 4, 5, 10, 11, 8, 9, 14, 15, 12, 13]),
+        )
     }
 }
 

@@ -1,12 +1,69 @@
-//! The AES cipher (FIPS 197 section 5.1) on four blocks at a time.
+//! The AES cipher (FIPS 197 section 5.1) on planes, and on four blocks at a time.
 
-ghost use Rattle.std.specs.Prelude.{◌≡◌, ◌<◌, ℕ, [], slice_index_or};
-ghost use Rattle.aead_ciphers_base.specs.Aes.{aes};
+ghost use Rattle.std.specs.Prelude.{◌≡◌, ◌<◌, ◌≤◌, ◌-◌, ◌/◌, ℕ, List, [], length, map, slice_index_or};
+ghost use Rattle.aead_ciphers_base.specs.Aes.{add_round_key, aes, rounds, shift_rows, sub_bytes};
+ghost use Rattle.aead_ciphers_base.specs.Planes.{block_at, HoldsRound};
 
 use super::pack::{pack, unpack};
-use super::planes::sub_planes;
+use super::plane::Plane;
 use super::round::{add_round_key, mix_columns, shift_rows};
+use super::tower::sub_bytes;
 use super::{Block, KeyRef};
+
+/// A round key, in each block of eight planes.
+pub trait RoundKeyPlanes<P: Plane> {
+    // The numbers of the planes.
+    ghost held: { Self → List ℕ };
+
+    /// Returns the planes.
+    fn planes(&self) -> [P; 8]
+        ensures { map P.number result ≡ held self.now };
+}
+
+impl RoundKeyPlanes<u64> for [u64; 8] {
+    ghost held = { λ key. key };
+
+    #[inline(always)]
+    fn planes(&self) -> [u64; 8] {
+        *self
+    }
+}
+
+/// Applies AddRoundKey and the rounds before round `last` to each block (FIPS 197 section 5.1), by the round keys of any words
+/// `w` that they hold.
+#[inline(always)]
+pub fn first_rounds<P: Plane, K: RoundKeyPlanes<P>>(
+    planes: [P; 8],
+    round_keys: &[K],
+    last: usize,
+) -> [P; 8]
+    requires some { 1 ≤ last }
+    requires enough { last ≤ length round_keys.now }
+    ensures { (w : List (List ℕ))
+        → ((j : ℕ) → j < last
+        → HoldsRound P.place (P.width / 16) w j (slice_index_or (map K.held round_keys.now) j []))
+        → (k : ℕ) → k < P.width / 16 → block_at P.place (map P.number result) k
+        ≡ rounds w (block_at P.place (map P.number planes) k) (last - 1) }
+{
+    let mut state = add_round_key(planes, round_keys[0].planes());
+    for round in 1..last {
+        state = add_round_key(
+            mix_columns(shift_rows(sub_bytes(state))),
+            round_keys[round].planes(),
+        );
+    }
+    state
+}
+
+/// Applies the last round, which has no MixColumns, to each block (FIPS 197 section 5.1).
+#[inline(always)]
+pub fn last_round<P: Plane, K: RoundKeyPlanes<P>>(planes: [P; 8], round_key: &K) -> [P; 8]
+    ensures { (w : List (List ℕ)) (j : ℕ) → HoldsRound P.place (P.width / 16) w j (K.held round_key.now)
+        → (k : ℕ) → k < P.width / 16 → block_at P.place (map P.number result) k
+        ≡ add_round_key w j (shift_rows (sub_bytes (block_at P.place (map P.number planes) k))) }
+{
+    add_round_key(shift_rows(sub_bytes(planes)), round_key.planes())
+}
 
 impl<'k> KeyRef<'k> {
     /// Encrypts each of four blocks (FIPS 197 section 5.1), in one pass over the planes. No `Work`
@@ -16,13 +73,8 @@ impl<'k> KeyRef<'k> {
             → slice_index_or result k [] ≡ aes self.now (slice_index_or blocks k []) }
     {
         let round_keys = self.round_keys;
-        let rounds = self.rounds;
-        let mut state = add_round_key(pack(blocks), &round_keys[0]);
-        for round in 1..rounds {
-            sub_planes(&mut state);
-            state = add_round_key(mix_columns(shift_rows(state)), &round_keys[round]);
-        }
-        sub_planes(&mut state);
-        unpack(add_round_key(shift_rows(state), &round_keys[rounds]))
+        let last = self.rounds;
+        let state = first_rounds(pack(blocks), round_keys, last);
+        unpack(last_round(state, &round_keys[last]))
     }
 }

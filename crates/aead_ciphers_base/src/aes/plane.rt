@@ -1,20 +1,39 @@
 //! The words that planes consist of.
 
-ghost use Rattle.std.specs.Prelude.{◌≡◌, ◌<◌, ℕ, bit_xor, bit_and};
+ghost use Rattle.std.specs.Prelude.{◌≡◌, ◌<◌, ◌/◌, ℕ, bit_xor, bit_and};
 ghost use Rattle.std.specs.Int.{bit_at};
+ghost use Rattle.aead_ciphers_base.specs.Planes.{Moves, below, place_of_four, place_of_four_within, shifted_from};
 
 use std::ops::{BitAnd, BitXor};
 
-/// A word of bits.
+/// A word of bits, one of each byte of some blocks.
 pub trait Plane: Copy + BitXor<Self, Output = Self> + BitAnd<Self, Output = Self> {
     // The number with these bits.
     ghost number: { Self → ℕ };
     // The number of bits.
     ghost width: { ℕ };
 
+    // The bit of byte `j` of block `k` is at place `place k j`.
+    ghost place: { ℕ → ℕ → ℕ };
+
     /// Returns the word all of whose bits are one.
     fn ones() -> Self
         ensures { (p : ℕ) → p < width → bit_at (number result) p ≡ 1 };
+
+    /// Shifts the rows of each block (FIPS 197 section 5.1.2).
+    fn rows_shifted(self) -> Self
+        ensures { Moves place (width / 16) shifted_from (number self) (number result) };
+
+    /// Moves the bit of each row up by one row, cyclically.
+    fn one_below(self) -> Self
+        ensures { Moves place (width / 16) (below 1) (number self) (number result) };
+
+    /// Moves the bit of each row up by two rows, cyclically.
+    fn two_below(self) -> Self
+        ensures { Moves place (width / 16) (below 2) (number self) (number result) };
+
+    // The places of the blocks are within the word.
+    ghost place_within: { (k j : ℕ) → k < width / 16 → j < 16 → place k j < width };
 
     // Any two words can be added and multiplied, bit by bit.
     ghost can_xor: { (a b : Self) → Self.can_bitxor a b };
@@ -33,6 +52,10 @@ impl Plane for u64 {
 
     ghost width = { 64 };
 
+    ghost place = { place_of_four };
+
+    ghost place_within = { place_of_four_within };
+
     ghost can_xor = { λ a b. tt };
 
     ghost can_and = { λ a b. tt };
@@ -44,5 +67,27 @@ impl Plane for u64 {
     #[inline(always)]
     fn ones() -> u64 {
         u64::MAX
+    }
+
+    // Shifts rows 2 and 3 by two columns of four bits, with a delta swap, and then rows 1 and 3 by one.
+    #[tactic(auto, using(crate::proofs::PlaneShifts::rows_shifted_moves))]
+    #[inline(always)]
+    fn rows_shifted(self) -> u64 {
+        let delta = ((self >> 8) ^ self) & 0x00cc_00cc_00cc_00cc;
+        let by_two = self ^ delta ^ (delta << 8);
+        (by_two & 0x5555_5555_5555_5555)
+            ^ (((by_two >> 4) & 0x0aaa_0aaa_0aaa_0aaa) ^ ((by_two << 12) & 0xa000_a000_a000_a000))
+    }
+
+    #[tactic(auto, using(crate::proofs::PlaneShifts::one_below_moves))]
+    #[inline(always)]
+    fn one_below(self) -> u64 {
+        ((self >> 1) & 0x7777_7777_7777_7777) ^ ((self << 3) & 0x8888_8888_8888_8888)
+    }
+
+    #[tactic(auto, using(crate::proofs::PlaneShifts::two_below_moves))]
+    #[inline(always)]
+    fn two_below(self) -> u64 {
+        ((self >> 2) & 0x3333_3333_3333_3333) ^ ((self << 2) & 0xcccc_cccc_cccc_cccc)
     }
 }

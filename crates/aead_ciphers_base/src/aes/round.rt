@@ -1,97 +1,73 @@
 //! The steps of a round on planes (FIPS 197 section 5.1), except SubBytes.
 
-ghost use Rattle.std.specs.Prelude.{◌≡◌, ◌<◌, ℕ, bit_xor};
-ghost use Rattle.std.specs.Int.{bit_at};
-ghost use Rattle.aead_ciphers_base.specs.Aes.{mixed};
-ghost use Rattle.aead_ciphers_base.specs.Planes.{plane_byte, below, shifted_from};
+ghost use Rattle.std.specs.Prelude.{◌≡◌, ◌<◌, ◌/◌, ℕ, List, map, bit_xor};
+ghost use Rattle.aead_ciphers_base.specs.Aes.{add_round_key, mix_columns, shift_rows};
+ghost use Rattle.aead_ciphers_base.specs.ByteField.{mul8};
+ghost use Rattle.aead_ciphers_base.specs.Planes.{plane_byte, block_at, below, shifted_from, HoldsRound, MovesBytes};
 
-use super::planes::{Planes, times_x};
+use super::plane::Plane;
 
-// Moves the bit of each row up by one row, cyclically.
-#[tactic(auto, using(crate::proofs::PlaneShifts::one_below_moves))]
+// Multiplies each byte by {02}, the polynomial x (FIPS 197 section 4.2).
 #[inline(always)]
-fn one_below(x: u64) -> u64
-    ensures { (p : ℕ) → p < 64 → bit_at result p ≡ bit_at x (below p 1) }
+fn times_x<P: Plane>(a: [P; 8]) -> [P; 8]
+    ensures { (p : ℕ) → plane_byte (map P.number result) p ≡ mul8 2 (plane_byte (map P.number a) p) }
 {
-    ((x >> 1) & 0x7777_7777_7777_7777) ^ ((x << 3) & 0x8888_8888_8888_8888)
+    let [a0, a1, a2, a3, a4, a5, a6, top] = a;
+    [top, a0 ^ top, a1, a2 ^ top, a3 ^ top, a4, a5, a6]
 }
 
-// Moves the bit of each row up by two rows, cyclically.
-#[tactic(auto, using(crate::proofs::PlaneShifts::two_below_moves))]
 #[inline(always)]
-fn two_below(x: u64) -> u64
-    ensures { (p : ℕ) → p < 64 → bit_at result p ≡ bit_at x (below p 2) }
+fn planes_one_below<P: Plane>(a: [P; 8]) -> [P; 8]
+    ensures { MovesBytes P.place (P.width / 16) (below 1) (map P.number a) (map P.number result) }
 {
-    ((x >> 2) & 0x3333_3333_3333_3333) ^ ((x << 2) & 0xcccc_cccc_cccc_cccc)
-}
-
-// Shifts rows 2 and 3 by two columns of four bits, with a delta swap, and then rows 1 and 3 by one.
-#[tactic(auto, using(crate::proofs::PlaneShifts::rows_shifted_moves))]
-#[inline(always)]
-fn rows_shifted(x: u64) -> u64
-    ensures { (p : ℕ) → p < 64 → bit_at result p ≡ bit_at x (shifted_from p) }
-{
-    let delta = ((x >> 8) ^ x) & 0x00cc_00cc_00cc_00cc;
-    let by_two = x ^ delta ^ (delta << 8);
-    (by_two & 0x5555_5555_5555_5555)
-        ^ (((by_two >> 4) & 0x0aaa_0aaa_0aaa_0aaa) ^ ((by_two << 12) & 0xa000_a000_a000_a000))
-}
-
-#[tactic(auto, using(crate::proofs::PlaneShifts::planes_moved, crate::proofs::PlaneShifts::moves_more))]
-#[inline(always)]
-fn planes_one_below(a: Planes) -> Planes
-    ensures { (p : ℕ) → p < 64 → plane_byte result p ≡ plane_byte a (below p 1) }
-{
-    let mut out = [0; 8];
+    let mut out = [a[0]; 8];
     for k in 0..8 {
-        out[k] = one_below(a[k]);
+        out[k] = a[k].one_below();
     }
     out
 }
 
-#[tactic(auto, using(crate::proofs::PlaneShifts::planes_moved, crate::proofs::PlaneShifts::moves_more))]
 #[inline(always)]
-fn planes_two_below(a: Planes) -> Planes
-    ensures { (p : ℕ) → p < 64 → plane_byte result p ≡ plane_byte a (below p 2) }
+fn planes_two_below<P: Plane>(a: [P; 8]) -> [P; 8]
+    ensures { MovesBytes P.place (P.width / 16) (below 2) (map P.number a) (map P.number result) }
 {
-    let mut out = [0; 8];
+    let mut out = [a[0]; 8];
     for k in 0..8 {
-        out[k] = two_below(a[k]);
+        out[k] = a[k].two_below();
     }
     out
 }
 
-#[tactic(auto, using(crate::proofs::PlaneShifts::add_plane))]
 #[inline(always)]
-fn add_planes(a: Planes, b: Planes) -> Planes
-    ensures { (p : ℕ) → plane_byte result p ≡ bit_xor (plane_byte a p) (plane_byte b p) }
+fn add_planes<P: Plane>(a: [P; 8], b: [P; 8]) -> [P; 8]
+    ensures { (p : ℕ) → plane_byte (map P.number result) p
+        ≡ bit_xor (plane_byte (map P.number a) p) (plane_byte (map P.number b) p) }
 {
-    let mut out = [0; 8];
+    let mut out = [a[0]; 8];
     for k in 0..8 {
         out[k] = a[k] ^ b[k];
     }
     out
 }
 
-/// Applies ShiftRows (FIPS 197 section 5.1.2) to each of the four blocks.
-#[tactic(auto, using(crate::proofs::PlaneShifts::planes_moved))]
+/// Applies ShiftRows (FIPS 197 section 5.1.2) to each block.
 #[inline(always)]
-pub fn shift_rows(a: Planes) -> Planes
-    ensures { (p : ℕ) → p < 64 → plane_byte result p ≡ plane_byte a (shifted_from p) }
+pub fn shift_rows<P: Plane>(a: [P; 8]) -> [P; 8]
+    ensures { (k : ℕ) → k < P.width / 16 → block_at P.place (map P.number result) k
+        ≡ shift_rows (block_at P.place (map P.number a) k) }
 {
-    let mut out = [0; 8];
+    let mut out = [a[0]; 8];
     for k in 0..8 {
-        out[k] = rows_shifted(a[k]);
+        out[k] = a[k].rows_shifted();
     }
     out
 }
 
-/// Applies MixColumns (FIPS 197 section 5.1.3) to each of the four blocks.
+/// Applies MixColumns (FIPS 197 section 5.1.3) to each block.
 #[inline(always)]
-pub fn mix_columns(a: Planes) -> Planes
-    ensures { (p : ℕ) → p < 64 → plane_byte result p
-        ≡ mixed (plane_byte a p) (plane_byte a (below p 1))
-        (plane_byte a (below p 2)) (plane_byte a (below p 3)) }
+pub fn mix_columns<P: Plane>(a: [P; 8]) -> [P; 8]
+    ensures { (k : ℕ) → k < P.width / 16 → block_at P.place (map P.number result) k
+        ≡ mix_columns (block_at P.place (map P.number a) k) }
 {
     let b = planes_one_below(a);
     let sum = add_planes(a, b);
@@ -99,11 +75,12 @@ pub fn mix_columns(a: Planes) -> Planes
     add_planes(doubled, planes_two_below(sum))
 }
 
-/// Applies AddRoundKey (FIPS 197 section 5.1.4) to each of the four blocks.
+/// Applies AddRoundKey (FIPS 197 section 5.1.4) to each block.
 #[inline(always)]
-pub fn add_round_key(a: Planes, round_key: &Planes) -> Planes
-    ensures { (p : ℕ) → plane_byte result p
-        ≡ bit_xor (plane_byte a p) (plane_byte round_key.now p) }
+pub fn add_round_key<P: Plane>(a: [P; 8], round_key: [P; 8]) -> [P; 8]
+    ensures { (w : List (List ℕ)) (j : ℕ) → HoldsRound P.place (P.width / 16) w j (map P.number round_key)
+        → (k : ℕ) → k < P.width / 16 → block_at P.place (map P.number result) k
+        ≡ add_round_key w j (block_at P.place (map P.number a) k) }
 {
-    add_planes(a, *round_key)
+    add_planes(a, round_key)
 }

@@ -7,7 +7,7 @@ ghost use Rattle.aead_ciphers_wide.specs.WideSchedule.{HoldsPlanes, planes_of};
 
 use super::planes::WidePlanes;
 use crate::word::Word;
-use aead_ciphers_base::aes::Block;
+use aead_ciphers_base::aes::{Block, RoundKeyPlanes};
 use std::simd::u8x16;
 
 /// The round keys of a key.
@@ -19,21 +19,22 @@ pub type KeyPlanes = [u64; 16];
 /// The planes of the round keys of a key.
 pub type RoundPlanes = [KeyPlanes; 15];
 
-/// Returns the planes of a round key.
-#[inline(always)]
-pub fn planes_of(key: &KeyPlanes) -> WidePlanes
-    ensures { result ≡ planes_of key.now }
-{
-    [
-        Word::new(key[0], key[1]),
-        Word::new(key[2], key[3]),
-        Word::new(key[4], key[5]),
-        Word::new(key[6], key[7]),
-        Word::new(key[8], key[9]),
-        Word::new(key[10], key[11]),
-        Word::new(key[12], key[13]),
-        Word::new(key[14], key[15]),
-    ]
+impl RoundKeyPlanes<Word> for KeyPlanes {
+    ghost held = { planes_of };
+
+    #[inline(always)]
+    fn planes(&self) -> WidePlanes {
+        [
+            Word::new(self[0], self[1]),
+            Word::new(self[2], self[3]),
+            Word::new(self[4], self[5]),
+            Word::new(self[6], self[7]),
+            Word::new(self[8], self[9]),
+            Word::new(self[10], self[11]),
+            Word::new(self[12], self[13]),
+            Word::new(self[14], self[15]),
+        ]
+    }
 }
 
 // The plane of one bit of each byte, in two words, the lower word first.

@@ -1,46 +1,32 @@
-use Rattle.std.proofs.Common.{arith, ap, sym, ◌∙◌, ◌≡◌, ◌+◌, ◌-◌, slice_index_or, []}
-use Rattle.aead_ciphers_base.specs.Aes.{add_round_key, aes, cipher, mix_columns, shift_rows, sub_bytes, rounds}
+use Rattle.std.proofs.Common.{arith, ap, ap₂, sym, ◌∙◌, ◌≡◌, ◌+◌, ◌/◌, ◌%◌, slice_index, slice_index_or, []}
+use Rattle.std.proofs.lemmas.List.{map-id}
+use Rattle.aead_ciphers_base.specs.Aes.{add_round_key, aes, cipher, shift_rows, sub_bytes}
+use Rattle.aead_ciphers_base.specs.Planes.{block_at, place_of_four}
 use Rattle.aead_ciphers_base.proofs
-use proofs.RoundKeys.{rounds_more, aes_of_schedule, schedule_words}
-use proofs.PlaneBlocks.{sub_block, shift_block, mix_block, add_block, packed_block}
+use proofs.RoundKeys.{aes_of_schedule, holds_round, schedule_words}
+use proofs.PlaneBlocks.{packed_block}
 use proofs.aes.KeyRef.encrypt_four.Goals as goal
-
-pub loop-round-init : goal.loop-round-init
-unfolding rounds
-loop-round-init c = λ k hk.
-    let key = c.self.inside in
-    let words = schedule_words key.round_keys.now key.rounds in
-    add_block c.pack.result c.add_round_key-state.result k hk key.round_keys.now words 0 (key.rounds + 1)
-    c.self.invariant.expanded (omega arith) c.add_round_key-state.ensures
-    ∙ packed_block c.pack.result c.args.blocks words k hk c.pack.ensures
-
-pub loop-round-preserved : goal.loop-round-preserved
-loop-round-preserved c = λ k hk.
-    let key = c.self.inside in
-    let words = schedule_words key.round_keys.now key.rounds in
-    add_block c.mix_columns.result c.add_round_key-state-in-loop-round.result k hk key.round_keys.now words c.loop-round.round (key.rounds + 1)
-    c.self.invariant.expanded (omega arith) c.add_round_key-state-in-loop-round.ensures
-    ∙ ap (add_round_key words c.loop-round.round)
-    (mix_block c.shift_rows.result c.mix_columns.result k hk c.mix_columns.ensures
-    ∙ ap mix_columns (shift_block c.sub_planes.new.planes c.shift_rows.result k hk c.shift_rows.ensures
-    ∙ ap shift_rows (sub_block c.loop-round.state c.sub_planes.new.planes k hk c.sub_planes.ensures
-    ∙ ap sub_bytes (c.loop-round.invariant k hk))))
-    ∙ sym (rounds_more words (slice_index_or c.args.blocks k []) c.loop-round.round (omega arith))
 
 pub returns : goal.returns
 unfolding cipher
 returns c = λ k hk.
     let key = c.self.inside in
-    let words = schedule_words key.round_keys.now key.rounds in
     let nr = key.rounds in
+    let words = schedule_words key.round_keys.now nr in
     let block = slice_index_or c.args.blocks k [] in
-    let whole : c.loop-round.round - 1 ≡ nr - 1 = omega arith in
+    let expanded = c.self.invariant.expanded in
+    let holds = holds_round key.round_keys.now words (nr + 1) in
+    let same_keys = map-id key.round_keys.now in
     c.unpack.ensures k hk
-    ∙ add_block c.shift_rows-2.result c.add_round_key.result k hk key.round_keys.now words nr (nr + 1)
-    c.self.invariant.expanded (omega arith) c.add_round_key.ensures
-    ∙ ap (add_round_key words nr)
-    (shift_block c.sub_planes-2.new.planes c.shift_rows-2.result k hk c.shift_rows-2.ensures
-    ∙ ap shift_rows (sub_block c.loop-round.state c.sub_planes-2.new.planes k hk c.sub_planes-2.ensures
-    ∙ ap sub_bytes (c.loop-round.invariant k hk ∙ ap (rounds words block) whole)))
+    ∙ sym (ap (λ ps. block_at place_of_four ps k) (map-id c.last_round.result))
+    ∙ c.last_round.ensures words nr (holds nr expanded (omega arith)) k hk
+    ∙ ap (λ s. add_round_key words nr (shift_rows (sub_bytes s)))
+    (c.first_rounds-state.ensures words (λ j lt. rw same_keys (holds j expanded (omega arith))) k hk)
+    ∙ ap (λ ps. cipher words nr (block_at place_of_four ps k)) (map-id c.pack.result)
+    ∙ packed_block place_of_four c.pack.result block words nr k (λ j lt.
+    let at_block : place_of_four k j / 16 ≡ k = omega arith in
+    let at_byte : place_of_four k j % 16 ≡ j = omega arith in
+    c.pack.ensures (place_of_four k j) (omega arith)
+    ∙ ap₂ (λ i t. slice_index (slice_index_or c.args.blocks i []) t) at_block at_byte)
     ∙ aes_of_schedule key.round_keys.now nr block c.self.invariant.enough
     ∙ ap (λ key. aes key block) c.self.view_is

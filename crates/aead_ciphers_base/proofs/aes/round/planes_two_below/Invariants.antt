@@ -1,8 +1,10 @@
-use Rattle.std.proofs.Common.{◌≡◌, ◌<◌, ℕ, slice_index, length}
-use Rattle.std.specs.Int.{bit_at}
-use Rattle.aead_ciphers_base.specs.Planes.{below}
+use Rattle.std.proofs.Common.{◌≡◌, ◌<◌, ◌/◌, ℕ, slice_index, length, map}
+use Rattle.aead_ciphers_base.specs.Planes.{below, Moves}
 use Rattle.aead_ciphers_base.proofs.aes.round.planes_two_below.Given as goal
 
 abbrev pub invariant-loop-k : goal.invariant-loop-k
-invariant-loop-k l =
-    (length l.out ≡ 8) × ((j : ℕ) → j < l.k → (p : ℕ) → p < 64 → bit_at (slice_index l.out j) p ≡ bit_at (slice_index l.a j) (below p 2))
+invariant-loop-k g l =
+    let t = g.P.Plane in
+    (length l.out ≡ 8)
+    × ((j : ℕ) → j < l.k
+    → Moves t.place (t.width / 16) (below 2) (slice_index (map t.number l.a) j) (slice_index (map t.number l.out) j))

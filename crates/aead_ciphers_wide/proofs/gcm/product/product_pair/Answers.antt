@@ -42,7 +42,9 @@ loop-k-preserved c =
           ∙ ap₂ (λ x y. x ⊕ y)
           (looked_value squares c.digits.result.0 c.digits.result.1 one (15 - k) c.looked_up-one.ensures)
           (looked_value table c.digits-2.result.0 c.digits-2.result.1 two (15 - k) c.looked_up-two.ensures));
-      zeros = λ i h. ap (λ b. slice_index b i) c.moved.ensures.second ∙ moved_zeros (slice_index sum 15) k over c.loop-k.invariant.empty c.loop-k.invariant.zeros i h;
+      zeros = λ i h.
+          ap (λ b. slice_index b i) c.moved.ensures.second
+          ∙ moved_zeros (slice_index sum 15) k over c.loop-k.invariant.empty c.loop-k.invariant.zeros i h;
       empty = λ h. absurd (omega arith);
     }
 
