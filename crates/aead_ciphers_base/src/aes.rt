@@ -36,7 +36,6 @@ pub use key_schedule::expand as expand_words;
 pub use pack::LOW;
 pub use plane::Plane;
 pub use planes::sub_planes;
-pub use tower::sub_bytes;
 pub use work::Work;
 
 /// The length of an AES-128 key, in bytes.
