@@ -141,7 +141,7 @@ fn reduced(first: u8x16, second: u8x16) -> u8x16
     let lanes = over ^ (over >> 1) ^ (over >> 2) ^ (over >> 7);
     let high = over.lane_down();
     let raised = lanes ^ (high << 63) ^ (high << 62) ^ (high << 57);
-    add(first, bytes_of(raised))
+    add(first, raised.bytes().reverse())
 }
 
 /// Returns the number with these bytes, the most significant first.
@@ -150,14 +150,6 @@ fn number_of(bytes: u8x16) -> Word
     ensures { to_be_bytes w128 result ≡ bytes }
 {
     Word::from_bytes(bytes.reverse())
-}
-
-/// Returns the bytes of `number`, the most significant first.
-#[inline(always)]
-fn bytes_of(number: Word) -> u8x16
-    ensures { result ≡ to_be_bytes w128 number }
-{
-    number.bytes().reverse()
 }
 
 /// Writes the products of `block` and each digit of a byte to `table`.
@@ -209,6 +201,15 @@ fn word_of(number: u128) -> Word
     )
 }
 
+/// Returns the bytes of `number`, the most significant first. They are exchanged in the number, not in the vector: there
+/// the compiler would move them one by one.
+#[inline(always)]
+fn bytes_of(number: u128) -> u8x16
+    ensures { result ≡ to_be_bytes w128 number }
+{
+    word_of(number.swap_bytes()).bytes()
+}
+
 /// Returns the bytes of each number, the most significant first.
 #[inline(always)]
 fn blocks(numbers: [u128; 8]) -> [u8x16; 8]
@@ -217,14 +218,14 @@ fn blocks(numbers: [u128; 8]) -> [u8x16; 8]
 {
     let [n0, n1, n2, n3, n4, n5, n6, n7] = numbers;
     [
-        bytes_of(word_of(n0)),
-        bytes_of(word_of(n1)),
-        bytes_of(word_of(n2)),
-        bytes_of(word_of(n3)),
-        bytes_of(word_of(n4)),
-        bytes_of(word_of(n5)),
-        bytes_of(word_of(n6)),
-        bytes_of(word_of(n7)),
+        bytes_of(n0),
+        bytes_of(n1),
+        bytes_of(n2),
+        bytes_of(n3),
+        bytes_of(n4),
+        bytes_of(n5),
+        bytes_of(n6),
+        bytes_of(n7),
     ]
 }
 

@@ -14,7 +14,7 @@ returns c =
     c.add.ensures
     ∙ ap (λ b. c.args.first ⊕ b)
     (simp (
-      c.bytes_of.ensures,
+      c.bytes.ensures,
       c.bitxor-raised.ensures,
       c.shl-3.ensures,
       c.bitxor-4.ensures,
