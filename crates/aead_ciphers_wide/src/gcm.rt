@@ -13,6 +13,9 @@ use aead_ciphers_base::polyfill::slice::AsChunks;
 use std::marker::Model;
 use std::simd::u8x16;
 
+/// The length of two blocks.
+const PAIR_LEN: usize = 2 * BLOCK_LEN;
+
 /// A key for GHASH: a hash subkey with its products.
 #[derive(Clone, Drop)]
 pub struct Key {
@@ -114,17 +117,18 @@ impl<'k> UpdateBlock for KeyRef<'k> {
 
 impl<'k> UpdateBlocks for KeyRef<'k> {
     fn update_blocks(&self, xi: &mut Xi, input: AsChunks<'_, u8, BLOCK_LEN>, work: &mut Work) {
-        let count = input.len();
         let mut sum = u8x16::from_array(*xi.as_ref());
-        for k in 0..count / 2 {
-            let first = product::add(sum, u8x16::from_array(input[2 * k]));
-            let second = u8x16::from_array(input[2 * k + 1]);
+        let mut rest = input.as_flattened();
+        while let Some((pair, after)) = rest.split_first_chunk::<PAIR_LEN>() {
+            let first = product::add(sum, u8x16::from_slice(&pair[..BLOCK_LEN]));
+            let second = u8x16::from_slice(&pair[BLOCK_LEN..]);
             sum = product::product_pair(self.products, self.squares, first, second);
             work.add_product();
             work.add_product();
+            rest = after;
         }
-        if count % 2 == 1 {
-            let last = product::add(sum, u8x16::from_array(input[count - 1]));
+        if let Some(last) = rest.first_chunk::<BLOCK_LEN>() {
+            let last = product::add(sum, u8x16::from_array(*last));
             sum = product::product(self.products, last);
             work.add_product();
         }

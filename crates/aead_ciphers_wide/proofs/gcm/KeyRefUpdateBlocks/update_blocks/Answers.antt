@@ -1,90 +1,51 @@
-use Rattle.std.proofs.Common.{◌≡◌, ℕ, List, ◌+◌, ◌*◌, ◌-◌, ◌++◌, ◌∷◌, [], ◌∙◌, length, ap, sym, subst, refl, arith, take, take_all}
+use Rattle.std.proofs.Common.{◌≡◌, ◌+◌, ◌<◌, ◌++◌, length, take, drop, length-drop, ap, sym, subst, ◌∙◌, arith}
 use Rattle.aead_ciphers_base.specs.Blocks.{blocks}
 use Rattle.aead_ciphers_base.specs.Bytes.{◌⊕◌}
-use Rattle.aead_ciphers_base.specs.Work.{Tallies}
-use Rattle.aead_ciphers_base.proofs.BlocksLemmas.{length_blocks}
 use Rattle.aead_ciphers.specs.Ghash.{◌•◌}
 use Rattle.aead_ciphers.specs.HashOf.{IsHashOf}
 use Rattle.aead_ciphers_wide.specs.Products.{subkey}
-use Rattle.aead_ciphers_wide.proofs.WideHash.{block_size, front_one, hash_one, hash_two}
+use Rattle.aead_ciphers_wide.proofs.WideHash.{IsHashOfTaken, taken_all, taken_one, taken_two}
 use Rattle.aead_ciphers_wide.proofs.gcm.KeyRefUpdateBlocks.update_blocks.Goals as goal
-use Rattle.aead_ciphers_wide.proofs.gcm.KeyRefUpdateBlocks.update_blocks.Goals.{then-count-eq1, else-count-eq1}
+use Rattle.aead_ciphers_wide.proofs.gcm.KeyRefUpdateBlocks.update_blocks.Goals.{in-Some-first_chunk, in_default-first_chunk}
 
-pub add_product-requires : goal.add_product-requires
-add_product-requires c =
-    let count = length_blocks 16 c.args.input.items.now in
-    (omega arith, omega arith)
-
-pub add_product-requires-in-loop-k : goal.add_product-requires-in-loop-k
-add_product-requires-in-loop-k c =
-    let count = length_blocks 16 c.args.input.items.now in
-    (omega arith, omega arith)
-
-pub add_product-requires-then-count-eq1 : goal.add_product-requires-then-count-eq1
-add_product-requires-then-count-eq1 c =
-    let count = length_blocks 16 c.args.input.items.now in
-    (omega arith, omega arith)
-
-pub loop-k-preserved : goal.loop-k-preserved
-loop-k-preserved c =
-    let bs = blocks 16 c.args.input.items.now in
+pub loop-pair-preserved : goal.loop-pair-preserved
+loop-pair-preserved c =
     let h = c.args.self.now in
-    let k = c.loop-k.k in
-    let first = c.index.result.now in
-    let second = c.index-in-loop-k.result.now in
     let table = c.self.inside.products.now in
-    let count : c.len-count.result ≡ length bs = c.len-count.ensures in
-    let size = λ (i : ℕ) (block : List ℕ). block_size c.args.input.items.now i block in
+    let rest = c.loop-pair.rest.now in
+    let pair = c.in-Some.pair.now in
+    let next = c.product_pair-sum.result in
+    let second = take 16 (take 16 (drop 16 pair)) in
+    let left : length c.in-Some.after.now + 32 ≡ length rest = c.in-Some.ensures.cases.2 in
     record {
       no_block = omega arith;
       products = omega arith;
       hashed = λ done at.
-          subst (λ xs. IsHashOf h xs c.product_pair-sum.result)
-          (ap (λ xs. xs ++ second ∷ []) (front_one done bs first (2 * k) (2 * k) (2 * k + 1) refl refl (omega arith) c.index.ensures)
-          ∙ front_one done bs second (2 * k + 1) (2 * k + 1) (2 * (k + 1)) refl (omega arith) (omega arith) c.index-in-loop-k.ensures)
-          (hash_two h c.loop-k.sum first second table c.product_pair-sum.result (done ++ take (2 * k) bs) c.self.view_is
-          (size (2 * k) first (omega arith) c.index.ensures) (size (2 * k + 1) second (omega arith) c.index-in-loop-k.ensures)
+          subst (λ xs. IsHashOfTaken h done c.args.input.items.now xs next) (sym c.in-Some.ensures.cases.1)
+          (taken_two h c.loop-pair.sum c.args.input.items.now rest pair table next done c.self.view_is (omega arith) c.in-Some.ensures.cases.0
           (c.product_pair-sum.ensures ∙ ap (λ x. (x • subkey table ⊕ second) • subkey table) c.add-first.ensures)
-          (c.loop-k.invariant.hashed done at));
+          (c.loop-pair.invariant.hashed done at));
     }
 
 pub returns-clause-hashed : goal.returns-clause-hashed
 returns-clause-hashed c = λ done at.
-    let bs = blocks 16 c.args.input.items.now in
     let h = c.args.self.now in
-    let k = c.loop-k.k in
-    let n = c.len-count.result in
-    let count : n ≡ length bs = c.len-count.ensures in
-    let before = c.loop-k.invariant.hashed done at in
+    let items = c.args.input.items.now in
+    let rest = c.loop-pair.rest.now in
+    let sum = c.loop-pair.sum in
     let table = c.self.inside.products.now in
-    subst (λ xi. IsHashOf h (done ++ bs) xi) (sym c.set.ensures)
-    (elim c.if-count-eq1.branch [
-      | then-count-eq1 w ↦
-          let last = w.index-then-count-eq1.result.now in
-          subst (λ sum. IsHashOf h (done ++ bs) sum) (sym w.sum-is)
-          (subst (λ xs. IsHashOf h xs w.product-sum.result)
-          (front_one done bs last (2 * k) (n - 1) n (omega arith) (omega arith) (omega arith) w.index-then-count-eq1.ensures
-          ∙ ap (λ xs. done ++ xs) (take_all n bs (omega arith)))
-          (hash_one h c.loop-k.sum last table w.product-sum.result (done ++ take (2 * k) bs) c.self.view_is
-          (block_size c.args.input.items.now (n - 1) last (omega arith) w.index-then-count-eq1.ensures)
-          (w.product-sum.ensures ∙ ap (λ x. x • subkey table) w.add-last.ensures) before))
-      | else-count-eq1 w ↦
-          subst (λ sum. IsHashOf h (done ++ bs) sum) (sym w.sum-is)
-          (subst (λ xs. IsHashOf h (done ++ xs) c.loop-k.sum) (take_all (2 * k) bs (omega arith)) before)
+    let before = c.loop-pair.invariant.hashed done at in
+    let few : length rest < 32 = c.in_default.ensures.cases in
+    subst (λ xi. IsHashOf h (done ++ blocks 16 items) xi) (sym c.set.ensures)
+    (elim c.match-first_chunk.branch [
+      | in-Some-first_chunk w ↦
+          let chunk = w.in-Some-first_chunk.ensures.cases in
+          let next = w.product-sum.result in
+          subst (λ sum. IsHashOf h (done ++ blocks 16 items) sum) (sym w.sum-is)
+          (taken_all h next items (drop 16 rest) done (omega (arith, length-drop 16 rest))
+          (taken_one h sum items rest table next done c.self.view_is chunk.enough
+          (w.product-sum.ensures ∙ ap (λ x. x • subkey table) (w.add-last.ensures ∙ ap (λ x. sum ⊕ x) chunk.same)) before))
+      | in_default-first_chunk w ↦
+          subst (λ sum. IsHashOf h (done ++ blocks 16 items) sum) (sym w.sum-is)
+          (taken_all h sum items rest done w.in_default-first_chunk.ensures.cases before)
     ])
-
-pub returns-clause-worked : goal.returns-clause-worked
-returns-clause-worked c =
-    let bs = blocks 16 c.args.input.items.now in
-    let size = length_blocks 16 c.args.input.items.now in
-    let count : c.len-count.result ≡ length bs = c.len-count.ensures in
-    elim c.if-count-eq1.branch [
-      | then-count-eq1 w ↦
-          let none = ap (λ (t : Tallies). t.blocks) w.work-is in
-          let some = ap (λ (t : Tallies). t.products) w.work-is in
-          (omega arith, omega arith)
-      | else-count-eq1 w ↦
-          let none = ap (λ (t : Tallies). t.blocks) w.work-is in
-          let some = ap (λ (t : Tallies). t.products) w.work-is in
-          (omega arith, omega arith)
-    ]

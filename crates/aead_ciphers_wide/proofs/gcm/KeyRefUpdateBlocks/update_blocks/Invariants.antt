@@ -1,12 +1,14 @@
-use Rattle.std.proofs.Common.{◌≡◌, ℕ, ◌+◌, ◌*◌, List, ◌++◌, take}
-use Rattle.aead_ciphers_base.specs.Blocks.{blocks}
+use Rattle.std.proofs.Common.{◌≡◌, ℕ, ◌+◌, ◌/◌, ◌%◌, List, length}
 use Rattle.aead_ciphers.specs.HashOf.{IsHashOf}
+use Rattle.aead_ciphers_wide.proofs.WideHash.{IsHashOfTaken}
 use Rattle.aead_ciphers_wide.proofs.gcm.KeyRefUpdateBlocks.update_blocks.Given as goal
 
-abbrev pub invariant-loop-k : goal.invariant-loop-k
-invariant-loop-k l = record {
+abbrev pub invariant-loop-pair : goal.invariant-loop-pair
+invariant-loop-pair l = record {
   no_block : l.work.blocks ≡ l.initial.work.blocks;
-  products : l.work.products ≡ l.initial.work.products + 2 * l.k;
-  hashed : (done : List (List ℕ)) → IsHashOf l.self done l.fn.xi →
-      IsHashOf l.self (done ++ take (2 * l.k) (blocks 16 l.fn.input.items.now)) l.sum;
+  products : l.work.products + length l.rest / 16 ≡ l.initial.work.products + length l.fn.input.items.now / 16;
+  hashed : (done : List (List ℕ)) → IsHashOf l.self done l.fn.xi → IsHashOfTaken l.self done l.fn.input.items.now l.rest l.sum;
 }
+
+abbrev pub decreases-loop-pair : goal.decreases-loop-pair
+decreases-loop-pair l = length l.rest
