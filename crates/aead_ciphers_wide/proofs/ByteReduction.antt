@@ -1,17 +1,20 @@
--- Sixteen multiplications by u^8 at once, as the code makes them on a number.
-use Rattle.std.proofs.Common.{◌≡◌, ℕ, zero, suc, ◌+◌, ◌*◌, ◌/◌, ◌%◌, ◌^◌, ◌<◌, true, refl, sym, ap, ap₂, ◌∙◌, arith, ◌==◌, bit_xor, bit_and}
-use Rattle.std.specs.Int.{to_be_bytes, w128}
-use Rattle.std.proofs.Math.Nat.{div-le_self}
-use Rattle.std.proofs.lemmas.Nat.{and_mask, xor_block, xor_lt, xor_mod, xor_shr, and_le_l}
-use Rattle.aead_ciphers_base.proofs.NumberBits.{IsAdditive, same_additive, all_below, same_below, by_digits}
+-- Sixteen multiplications by u^8 at once, as the code makes them on bytes.
+use Rattle.std.proofs.Common.{◌≡◌, ℕ, zero, suc, ◌+◌, ◌-◌, ◌*◌, ◌/◌, ◌%◌, ◌^◌, ◌<◌, true, List, ◌∷◌, length, slice_index, refl, sym, ap, ap₂, ◌∙◌, arith, ◌==◌, bit_xor, bit_and}
+use Rattle.std.specs.Int.{to_be_bytes, from_be_bytes, w128}
+use Rattle.std.proofs.lemmas.Nat.{and_mask, xor_lt, xor_mod, xor_shr, and_le_l}
+use Rattle.std.proofs.lemmas.List.FromFn.{fill_by_all}
+use Rattle.aead_ciphers_base.specs.Bytes.{each_below}
+use Rattle.aead_ciphers_base.proofs.EachLemmas.{get_or-each}
+use Rattle.aead_ciphers_base.proofs.NumberBits.{IsAdditive, same_additive, all_below, same_in_table, by_digits}
 use Rattle.aead_ciphers_base.proofs.AdditiveLemmas.{additive_and, additive_shr, additive_shl, additive_xor, additive_after, xor_four}
-use Rattle.aead_ciphers.specs.Ghash.{◌•◌}
-use Rattle.aead_ciphers_wide.specs.Products.{stepped}
-use Rattle.aead_ciphers_wide.specs.Word.{each_lane}
+use Rattle.aead_ciphers.specs.Ghash.{◌•◌, IsBlock}
+use Rattle.aead_ciphers_wide.specs.Products.{stepped, u128_times}
 use Rattle.aead_ciphers.proofs.GhashBits.{mask}
+use Rattle.aead_ciphers.proofs.GhashBlocks.{byte_at_is, to_be_bytes-from_be_bytes}
 use Rattle.aead_ciphers.proofs.ProductLoop.{next_multiple, reduction}
 use Rattle.aead_ciphers.proofs.SubkeyMultiples.{IsRaised, raised_next, block_of-multiple}
 use Rattle.aead_ciphers_wide.proofs.ByteLadder.{step}
+use Rattle.aead_ciphers_wide.proofs.ByteRows.{by_sixteen}
 
 -- ---- the next multiple keeps sums
 
@@ -50,58 +53,70 @@ pub further_fits : (n v : ℕ) → v < 2 ^ 128 → further n v < 2 ^ 128
 further_fits zero v h = h
 further_fits (suc n) v h = next_fits (further n v) (further_fits n v h)
 
--- ---- u^128 times a number, by shifts of its lanes
+-- ---- u^128 times a number, byte by byte
 
-abbrev left : ℕ → ℕ → ℕ
-left k s = each_lane (λ x. x * 2 ^ k % 2 ^ 64) s
+-- byte i of the block of a number
+abbrev byte : ℕ → ℕ → ℕ
+byte i s = s / 2 ^ (8 * (15 - i)) % 2 ^ 8
 
-abbrev right : ℕ → ℕ → ℕ
-right k s = each_lane (λ x. x / 2 ^ k) s
+-- the byte before byte i
+abbrev pub before : ℕ → (ℕ → ℕ) → ℕ
+before zero bytes = 0
+before (suc i) bytes = bytes i
 
--- what the code adds: a number shifted to the right by 0, 1, 2 and 7 bits, where the high lane's lowest bits are the low lane's highest
-abbrev pub folded : ℕ → ℕ
-folded s =
-    let high = s / 2 ^ 64 in
-    bit_xor (bit_xor (bit_xor (bit_xor (bit_xor (bit_xor s (right 1 s)) (right 2 s)) (right 7 s)) (left 63 high)) (left 62 high)) (left 57 high)
+-- byte i after a shift to the right by n bits
+abbrev pub shifted : ℕ → ℕ → ℕ → ℕ
+shifted n b above = bit_xor (b / 2 ^ n) (above * 2 ^ (8 - n) % 2 ^ 8)
 
-each_lane_additive : (f : ℕ → ℕ) → ((x : ℕ) → x < 2 ^ 64 → f x < 2 ^ 64) → IsAdditive f → IsAdditive (each_lane f)
-unfolding each_lane
-each_lane_additive f fits additive a b =
-    ap₂ (λ x y. f x * 2 ^ 64 + f y) (xor_shr a b 64) (xor_mod a b 64)
-    ∙ ap₂ (λ x y. x * 2 ^ 64 + y) (additive (a / 2 ^ 64) (b / 2 ^ 64)) (additive (a % 2 ^ 64) (b % 2 ^ 64))
-    ∙ sym (xor_block 64 (f (a / 2 ^ 64)) (f (b / 2 ^ 64)) (f (a % 2 ^ 64)) (f (b % 2 ^ 64)) (fits (a % 2 ^ 64) (omega arith)) (fits (b % 2 ^ 64) (omega arith)))
+-- byte i of the sum of a block and its shifts by 1, 2 and 7 bits
+abbrev pub folded : ℕ → (ℕ → ℕ) → ℕ
+folded i bytes =
+    let part = λ (n : ℕ). shifted n (bytes i) (before i bytes) in
+    bit_xor (bit_xor (bit_xor (bytes i) (part 1)) (part 2)) (part 7)
 
-left_additive : (k : ℕ) → IsAdditive (left k)
-left_additive k = each_lane_additive (λ x. x * 2 ^ k % 2 ^ 64) (λ x h. omega arith) (additive_shl k 64)
+byte_additive : (i : ℕ) → IsAdditive (byte i)
+byte_additive i a b = ap (λ x. x % 2 ^ 8) (xor_shr a b (8 * (15 - i))) ∙ xor_mod _ _ 8
 
-right_additive : (k : ℕ) → IsAdditive (right k)
-right_additive k = each_lane_additive (λ x. x / 2 ^ k) (λ x h. omega (arith, div-le_self x (2 ^ k))) (additive_shr k)
+before_additive : (i : ℕ) → IsAdditive (λ s. before i (λ k. byte k s))
+before_additive zero a b = refl
+before_additive (suc i) a b = byte_additive i a b
 
-folded_additive : IsAdditive folded
-folded_additive =
-    let shifted = λ (k : ℕ) (f : ℕ → ℕ) (hf : IsAdditive f). additive_xor f (right k) hf (right_additive k) in
-    let lowest = λ (k : ℕ) (f : ℕ → ℕ) (hf : IsAdditive f).
-    additive_xor f (λ s. left k (s / 2 ^ 64)) hf (additive_after (left k) (λ s. s / 2 ^ 64) (left_additive k) (additive_shr 64)) in
-    lowest 57 _ (lowest 62 _ (lowest 63 _ (shifted 7 _ (shifted 2 _ (shifted 1 (λ s. s) (λ a b. refl))))))
+folded_additive : (i : ℕ) → IsAdditive (λ s. folded i (λ k. byte k s))
+folded_additive i =
+    let above = λ (s : ℕ). before i (λ k. byte k s) in
+    let low = λ (n : ℕ). additive_after (λ x. x / 2 ^ n) (byte i) (additive_shr n) (byte_additive i) in
+    let high = λ (n : ℕ). additive_after (λ x. x * 2 ^ (8 - n) % 2 ^ 8) above (additive_shl (8 - n) 8) (before_additive i) in
+    let more = λ (n : ℕ) (f : ℕ → ℕ) (hf : IsAdditive f).
+    additive_xor f (λ s. shifted n (byte i s) (above s)) hf
+    (additive_xor (λ s. byte i s / 2 ^ n) (λ s. above s * 2 ^ (8 - n) % 2 ^ 8) (low n) (high n)) in
+    more 7 _ (more 2 _ (more 1 (byte i) (byte_additive i)))
 
 -- a number whose lowest byte is 0
 abbrev without_byte : ℕ → ℕ
 without_byte t = t * 2 ^ 8 % 2 ^ 128
 
-folded_test : all_below (λ j. further 128 (without_byte (2 ^ j)) == folded (without_byte (2 ^ j))) 120 ≡ true
-unfolding each_lane
+abbrev further_byte : ℕ → ℕ → ℕ
+further_byte i t = byte i (further 128 (without_byte t))
+
+abbrev folded_byte : ℕ → ℕ → ℕ
+folded_byte i t = folded i (λ k. byte k (without_byte t))
+
+folded_test : all_below (λ i. all_below (λ j. further_byte i (2 ^ j) == folded_byte i (2 ^ j)) 120) 16 ≡ true
 folded_test = refl
 
-pub folded_is : (s : ℕ) → s < 2 ^ 128 → s % 256 ≡ 0 → further 128 s ≡ folded s
-folded_is s h none =
+byte_further : (i s : ℕ) → i < 16 → s < 2 ^ 128 → s % 256 ≡ 0 → byte i (further 128 s) ≡ folded i (λ k. byte k s)
+byte_further i s within h none =
     let same : without_byte (s / 256) ≡ s = omega arith in
     let below : s / 256 < 2 ^ 120 = omega arith in
     let shl = additive_shl 8 128 in
-    sym (ap (further 128) same)
-    ∙ same_additive (λ t. further 128 (without_byte t)) (λ t. folded (without_byte t))
-    (additive_after (further 128) without_byte (further_additive 128) shl) (additive_after folded without_byte folded_additive shl) 120
-    (λ i lt. same_below (λ j. further 128 (without_byte (2 ^ j))) (λ j. folded (without_byte (2 ^ j))) 120 i folded_test lt) (s / 256) below
-    ∙ ap folded same
+    sym (ap (λ t. byte i (further 128 t)) same)
+    ∙ same_additive (further_byte i) (folded_byte i)
+    (additive_after (byte i) (λ t. further 128 (without_byte t)) (byte_additive i)
+    (additive_after (further 128) without_byte (further_additive 128) shl))
+    (additive_after (λ t. folded i (λ k. byte k t)) without_byte (folded_additive i) shl) 120
+    (λ j lt. same_in_table (λ i j. further_byte i (2 ^ j)) (λ i j. folded_byte i (2 ^ j)) 16 120 i j folded_test within lt)
+    (s / 256) below
+    ∙ ap (λ t. folded i (λ k. byte k t)) same
 
 -- ---- blocks
 
@@ -127,3 +142,46 @@ stepped_number (suc n) v h =
     let e : 8 + 8 * n ≡ 8 * suc n = omega arith in
     ap (λ y. step • y) (stepped_number n v h) ∙ step_number (further (8 * n) v) (further_fits (8 * n) v h)
     ∙ ap (to_be_bytes w128) (further-add 8 (8 * n) v ∙ ap (λ k. further k v) e)
+
+byte_is : (s i : ℕ) → i < 16 → slice_index (to_be_bytes w128 s) i ≡ byte i s
+byte_is s = by_sixteen (λ i. slice_index (to_be_bytes w128 s) i ≡ byte i s)
+    (byte_at_is 15 s) (byte_at_is 14 s) (byte_at_is 13 s) (byte_at_is 12 s) (byte_at_is 11 s) (byte_at_is 10 s) (byte_at_is 9 s) (byte_at_is 8 s)
+    (byte_at_is 7 s) (byte_at_is 6 s) (byte_at_is 5 s) (byte_at_is 4 s) (byte_at_is 3 s) (byte_at_is 2 s) (byte_at_is 1 s) (byte_at_is 0 s)
+
+-- the number of a block
+number_of : (block : List ℕ) → IsBlock block → (n : ℕ) × (n < 2 ^ 128) × (to_be_bytes w128 n ≡ block)
+number_of block is =
+    let n = from_be_bytes w128 block in
+    let small : (k : ℕ) → k < 16 → slice_index block k < 256 = λ k h. is.bytes k 0 (omega (arith, is.size)) in
+    let below : n < 2 ^ 128 = omega (arith, small) in
+    (n, below, to_be_bytes-from_be_bytes block n is.size (λ k h. is.bytes k 0 h) refl)
+
+before-same : (f g : ℕ → ℕ) → ((i : ℕ) → i < 16 → f i ≡ g i) → (i : ℕ) → i < 16 → before i f ≡ before i g
+before-same f g same zero h = refl
+before-same f g same (suc i) h = same i (omega arith)
+
+folded-same : (f g : ℕ → ℕ) → ((i : ℕ) → i < 16 → f i ≡ g i) → (i : ℕ) → i < 16 → folded i f ≡ folded i g
+folded-same f g same i h =
+    ap₂ (λ b above. bit_xor (bit_xor (bit_xor b (shifted 1 b above)) (shifted 2 b above)) (shifted 7 b above)) (same i h) (before-same f g same i h)
+
+-- a block whose byte i is such a sum
+pub folded_is : (block sum : List ℕ) → IsBlock block → slice_index block 15 ≡ 0 → length sum ≡ 16
+    → ((i : ℕ) → i < 16 → slice_index sum i ≡ folded i (slice_index block)) → sum ≡ u128_times block
+unfolding u128_times
+folded_is block sum is none size folds =
+    let n = number_of block is in
+    let s = n.0 in
+    let last : s % 256 ≡ 0 = ap (λ b. slice_index b 15) n.2 ∙ none in
+    let bytes = λ (i : ℕ) (h : i < 16). ap (λ b. slice_index b i) (sym n.2) ∙ byte_is s i h in
+    let after = λ (i : ℕ). byte i (further 128 s) in
+    fill_by_all after sum 16 0 size
+    (λ i h. folds i h ∙ folded-same (slice_index block) (λ k. byte k s) bytes i h ∙ sym (byte_further i s h n.1 last))
+    ∙ sym (fill_by_all after (to_be_bytes w128 (further 128 s)) 16 0 refl (byte_is (further 128 s)))
+    ∙ sym (stepped_number 16 s n.1) ∙ ap (stepped 16) n.2
+
+-- the bytes of a block moved by one place
+pub before_is : (block moved : List ℕ) → moved ≡ 0 ∷ each_below 15 (λ i. slice_index block i)
+    → (i : ℕ) → i < 16 → slice_index moved i ≡ before i (slice_index block)
+before_is block moved is zero h = ap (λ b. slice_index b 0) is
+before_is block moved is (suc i) h =
+    ap (λ b. slice_index b (suc i)) is ∙ get_or-each 15 (λ i. slice_index block i) i 0 (omega arith)

@@ -88,16 +88,6 @@ impl Word {
         Word::from_bytes(filled(bytes, bit))
     }
 
-    /// Shifts the number to the right by 64 bits. Its low lane is lost.
-    #[inline(always)]
-    pub fn lane_down(self) -> Self
-        ensures { result ≡ self / 2 ^ 64 }
-    {
-        Word {
-            lanes: self.lanes.shuffle(u64x2::splat(0), [1, 2]),
-        }
-    }
-
     /// Returns the number both of whose lanes are `word`.
     #[inline(always)]
     pub fn splat(word: u64) -> Self

@@ -5,7 +5,7 @@
 //! order of their bytes: a look-up in a row gives one byte of the products of all 16 digits at once. The rows'
 //! bytes are added up from the last row on, moved by one place for each row.
 
-ghost use Rattle.std.specs.Prelude.{◌≡◌, ℕ, ◌+◌, ◌/◌, ◌%◌, ◌<◌, ◌≤◌, ◌==◌, bit_xor, if◌then◌else◌, [], ◌∷◌, slice_index, slice_index_or};
+ghost use Rattle.std.specs.Prelude.{◌≡◌, ℕ, ◌+◌, ◌-◌, ◌*◌, ◌/◌, ◌%◌, ◌^◌, ◌<◌, ◌≤◌, ◌==◌, bit_xor, if◌then◌else◌, [], ◌∷◌, slice_index, slice_index_or};
 ghost use Rattle.std.specs.Int.{to_be_bytes, w128};
 ghost use Rattle.std.specs.Simd.Lanes.{put_chunk};
 ghost use Rattle.aead_ciphers_base.specs.Bytes.{◌⊕◌, each_below};
@@ -137,19 +137,21 @@ fn reduced(first: u8x16, second: u8x16) -> u8x16
     requires { slice_index second 15 ≡ 0 }
     ensures { result ≡ first ⊕ u128_times second }
 {
-    let over = number_of(second);
-    let lanes = over ^ (over >> 1) ^ (over >> 2) ^ (over >> 7);
-    let high = over.lane_down();
-    let raised = lanes ^ (high << 63) ^ (high << 62) ^ (high << 57);
-    add(first, raised.bytes().reverse())
+    let (before, _) = moved(second, u8x16::splat(0));
+    let sum = add(second, shifted(second, before, 1));
+    let sum = add(sum, shifted(second, before, 2));
+    add(first, add(sum, shifted(second, before, 7)))
 }
 
-/// Returns the number with these bytes, the most significant first.
+/// Shifts each byte to the right by `count` bits. The bits above are the lowest of the byte at its place in `before`.
 #[inline(always)]
-fn number_of(bytes: u8x16) -> Word
-    ensures { to_be_bytes w128 result ≡ bytes }
+fn shifted(bytes: u8x16, before: u8x16, count: u8) -> u8x16
+    requires some { 0 < count }
+    requires few { count < 8 }
+    ensures { (i : ℕ) → i < 16 → slice_index result i
+        ≡ bit_xor (slice_index bytes i / 2 ^ count) (slice_index before i * 2 ^ (8 - count) % 2 ^ 8) }
 {
-    Word::from_bytes(bytes.reverse())
+    (bytes >> u8x16::splat(count)) ^ (before << u8x16::splat(8 - count))
 }
 
 /// Writes the products of `block` and each digit of a byte to `table`.

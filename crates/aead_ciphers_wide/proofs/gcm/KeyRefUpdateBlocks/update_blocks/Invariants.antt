@@ -1,4 +1,4 @@
-use Rattle.std.proofs.Common.{◌≡◌, ℕ, ◌+◌, ◌/◌, ◌%◌, List, length}
+use Rattle.std.proofs.Common.{◌≡◌, ℕ, ◌+◌, ◌/◌, List, length}
 use Rattle.aead_ciphers.specs.HashOf.{IsHashOf}
 use Rattle.aead_ciphers_wide.proofs.WideHash.{IsHashOfTaken}
 use Rattle.aead_ciphers_wide.proofs.gcm.KeyRefUpdateBlocks.update_blocks.Given as goal

@@ -1,33 +1,34 @@
-use Rattle.std.proofs.Common.{◌≡◌, ◌%◌, ◌<◌, ◌^◌, ◌∙◌, ap, sym, rules, slice_index}
-use Rattle.std.specs.Int.{to_be_bytes, w128}
+use Rattle.std.proofs.Common.{◌≡◌, ℕ, ◌<◌, length, bit_xor, slice_index, ap, ap₂, ◌∙◌, arith}
 use Rattle.aead_ciphers_base.specs.Bytes.{◌⊕◌}
-use Rattle.aead_ciphers_wide.specs.Products.{stepped, u128_times}
-use Rattle.aead_ciphers_wide.proofs.ByteReduction.{folded_is, stepped_number}
+use Rattle.aead_ciphers_wide.proofs.ByteReduction.{before_is, folded_is, shifted}
+use Rattle.aead_ciphers_wide.proofs.ByteRows.{IsBlock-vector, sum_byte}
 use Rattle.aead_ciphers_wide.proofs.gcm.product.reduced.Goals as goal
 
 pub returns : goal.returns
-unfolding u128_times
 returns c =
-    let s = c.number_of-over.result in
-    let below : s < 2 ^ 128 = search rules in
-    let none : s % 256 ≡ 0 = ap (λ b. slice_index b 15) c.number_of-over.ensures ∙ c.requires in
-    c.add.ensures
+    let over = c.args.second in
+    let size : length over ≡ 16 = omega arith in
+    let one = c.shifted.result in
+    let size_one : length one ≡ 16 = omega arith in
+    let two = c.shifted-2.result in
+    let size_two : length two ≡ 16 = omega arith in
+    let seven = c.shifted-3.result in
+    let size_seven : length seven ≡ 16 = omega arith in
+    let first = c.add-sum.result in
+    let size_first : length first ≡ 16 = omega arith in
+    let second = c.add-sum-2.result in
+    let size_second : length second ≡ 16 = omega arith in
+    let size_all : length c.add.result ≡ 16 = omega arith in
+    let part = λ (n i : ℕ) (h : i < 16).
+    ap (shifted n (slice_index over i)) (before_is over c.moved.result.0 c.moved.ensures.first i h) in
+    c.add-2.ensures
     ∙ ap (λ b. c.args.first ⊕ b)
-    (simp (
-      c.bytes.ensures,
-      c.bitxor-raised.ensures,
-      c.shl-3.ensures,
-      c.bitxor-4.ensures,
-      c.shl-2.ensures,
-      c.bitxor-3.ensures,
-      c.shl.ensures,
-      c.lane_down-high.ensures,
-      c.bitxor-lanes.ensures,
-      c.shr-3.ensures,
-      c.bitxor-2.ensures,
-      c.shr-2.ensures,
-      c.bitxor.ensures,
-      c.shr.ensures,
-    )
-    (ap (to_be_bytes w128) (sym (folded_is s below none)))
-    ∙ sym (stepped_number 16 s below) ∙ ap (stepped 16) c.number_of-over.ensures)
+    (folded_is over c.add.result (IsBlock-vector over c.fits-second.0 c.fits-second.1) c.requires size_all
+    (λ i h.
+    sum_byte second seven c.add.result i size_second size_seven c.add.ensures h
+    ∙ ap₂ bit_xor
+    (sum_byte first two second i size_first size_two c.add-sum-2.ensures h
+    ∙ ap₂ bit_xor
+    (sum_byte over one first i size size_one c.add-sum.ensures h ∙ ap (bit_xor (slice_index over i)) (c.shifted.ensures i h ∙ part 1 i h))
+    (c.shifted-2.ensures i h ∙ part 2 i h))
+    (c.shifted-3.ensures i h ∙ part 7 i h)))
