@@ -155,6 +155,7 @@ fn shifted(bytes: u8x16, before: u8x16, count: u8) -> u8x16
 }
 
 /// Writes the products of `block` and each digit of a byte to `table`.
+#[inline(never)]
 pub(crate) fn write_products(table: &mut [u8; 512], block: u128)
     ensures products { AreProducts (to_be_bytes w128 block) table.new }
     ensures subkey { subkey table.new ≡ to_be_bytes w128 block }
