@@ -1,14 +1,14 @@
 -- Sixteen multiplications by u^8 at once, as the code makes them on bytes.
 use Rattle.std.proofs.Common.{◌≡◌, ℕ, zero, suc, ◌+◌, ◌-◌, ◌*◌, ◌/◌, ◌%◌, ◌^◌, ◌<◌, true, List, ◌∷◌, length, slice_index, refl, sym, ap, ap₂, ◌∙◌, arith, ◌==◌, bit_xor, bit_and}
 use Rattle.std.specs.Int.{to_be_bytes, from_be_bytes, w128}
-use Rattle.std.proofs.lemmas.Nat.{and_mask, xor_lt, xor_mod, xor_shr, and_le_l}
+use Rattle.std.proofs.lemmas.Nat.{and_mask, xor_block, xor_lt, xor_mod, xor_shr, and_le_l}
 use Rattle.std.proofs.lemmas.List.FromFn.{fill_by_all}
 use Rattle.aead_ciphers_base.specs.Bytes.{each_below}
 use Rattle.aead_ciphers_base.proofs.EachLemmas.{get_or-each}
 use Rattle.aead_ciphers_base.proofs.NumberBits.{IsAdditive, same_additive, all_below, same_in_table, by_digits}
 use Rattle.aead_ciphers_base.proofs.AdditiveLemmas.{additive_and, additive_shr, additive_shl, additive_xor, additive_after, xor_four}
 use Rattle.aead_ciphers.specs.Ghash.{◌•◌, IsBlock}
-use Rattle.aead_ciphers_wide.specs.Products.{stepped, u128_times}
+use Rattle.aead_ciphers_wide.specs.Products.{folded_byte, shifted_byte, stepped, u128_times}
 use Rattle.aead_ciphers.proofs.GhashBits.{mask}
 use Rattle.aead_ciphers.proofs.GhashBlocks.{byte_at_is, to_be_bytes-from_be_bytes}
 use Rattle.aead_ciphers.proofs.ProductLoop.{next_multiple, reduction}
@@ -64,15 +64,9 @@ abbrev pub before : ℕ → (ℕ → ℕ) → ℕ
 before zero bytes = 0
 before (suc i) bytes = bytes i
 
--- byte i after a shift to the right by n bits
-abbrev pub shifted : ℕ → ℕ → ℕ → ℕ
-shifted n b above = bit_xor (b / 2 ^ n) (above * 2 ^ (8 - n) % 2 ^ 8)
-
--- byte i of the sum of a block and its shifts by 1, 2 and 7 bits
-abbrev pub folded : ℕ → (ℕ → ℕ) → ℕ
-folded i bytes =
-    let part = λ (n : ℕ). shifted n (bytes i) (before i bytes) in
-    bit_xor (bit_xor (bit_xor (bytes i) (part 1)) (part 2)) (part 7)
+-- what the code adds at the place i
+abbrev folded : ℕ → (ℕ → ℕ) → ℕ
+folded i bytes = folded_byte (before i bytes) (bytes i)
 
 byte_additive : (i : ℕ) → IsAdditive (byte i)
 byte_additive i a b = ap (λ x. x % 2 ^ 8) (xor_shr a b (8 * (15 - i))) ∙ xor_mod _ _ 8
@@ -81,14 +75,18 @@ before_additive : (i : ℕ) → IsAdditive (λ s. before i (λ k. byte k s))
 before_additive zero a b = refl
 before_additive (suc i) a b = byte_additive i a b
 
+shifted_additive : (n i : ℕ) → IsAdditive (λ s. shifted_byte n (before i (λ k. byte k s)) (byte i s))
+shifted_additive n i a b =
+    let above = λ (s : ℕ). before i (λ k. byte k s) in
+    let whole = λ (s : ℕ). above s * 2 ^ 8 + byte i s in
+    ap₂ (λ x y. (x * 2 ^ 8 + y) / 2 ^ n % 2 ^ 8) (before_additive i a b) (byte_additive i a b)
+    ∙ ap (λ x. x / 2 ^ n % 2 ^ 8) (sym (xor_block 8 (above a) (above b) (byte i a) (byte i b) (omega arith) (omega arith)))
+    ∙ ap (λ x. x % 2 ^ 8) (xor_shr (whole a) (whole b) n) ∙ xor_mod _ _ 8
+
 folded_additive : (i : ℕ) → IsAdditive (λ s. folded i (λ k. byte k s))
 folded_additive i =
-    let above = λ (s : ℕ). before i (λ k. byte k s) in
-    let low = λ (n : ℕ). additive_after (λ x. x / 2 ^ n) (byte i) (additive_shr n) (byte_additive i) in
-    let high = λ (n : ℕ). additive_after (λ x. x * 2 ^ (8 - n) % 2 ^ 8) above (additive_shl (8 - n) 8) (before_additive i) in
     let more = λ (n : ℕ) (f : ℕ → ℕ) (hf : IsAdditive f).
-    additive_xor f (λ s. shifted n (byte i s) (above s)) hf
-    (additive_xor (λ s. byte i s / 2 ^ n) (λ s. above s * 2 ^ (8 - n) % 2 ^ 8) (low n) (high n)) in
+    additive_xor f (λ s. shifted_byte n (before i (λ k. byte k s)) (byte i s)) hf (shifted_additive n i) in
     more 7 _ (more 2 _ (more 1 (byte i) (byte_additive i)))
 
 -- a number whose lowest byte is 0
@@ -98,10 +96,10 @@ without_byte t = t * 2 ^ 8 % 2 ^ 128
 abbrev further_byte : ℕ → ℕ → ℕ
 further_byte i t = byte i (further 128 (without_byte t))
 
-abbrev folded_byte : ℕ → ℕ → ℕ
-folded_byte i t = folded i (λ k. byte k (without_byte t))
+abbrev folded_part : ℕ → ℕ → ℕ
+folded_part i t = folded i (λ k. byte k (without_byte t))
 
-folded_test : all_below (λ i. all_below (λ j. further_byte i (2 ^ j) == folded_byte i (2 ^ j)) 120) 16 ≡ true
+folded_test : all_below (λ i. all_below (λ j. further_byte i (2 ^ j) == folded_part i (2 ^ j)) 120) 16 ≡ true
 folded_test = refl
 
 byte_further : (i s : ℕ) → i < 16 → s < 2 ^ 128 → s % 256 ≡ 0 → byte i (further 128 s) ≡ folded i (λ k. byte k s)
@@ -110,11 +108,11 @@ byte_further i s within h none =
     let below : s / 256 < 2 ^ 120 = omega arith in
     let shl = additive_shl 8 128 in
     sym (ap (λ t. byte i (further 128 t)) same)
-    ∙ same_additive (further_byte i) (folded_byte i)
+    ∙ same_additive (further_byte i) (folded_part i)
     (additive_after (byte i) (λ t. further 128 (without_byte t)) (byte_additive i)
     (additive_after (further 128) without_byte (further_additive 128) shl))
     (additive_after (λ t. folded i (λ k. byte k t)) without_byte (folded_additive i) shl) 120
-    (λ j lt. same_in_table (λ i j. further_byte i (2 ^ j)) (λ i j. folded_byte i (2 ^ j)) 16 120 i j folded_test within lt)
+    (λ j lt. same_in_table (λ i j. further_byte i (2 ^ j)) (λ i j. folded_part i (2 ^ j)) 16 120 i j folded_test within lt)
     (s / 256) below
     ∙ ap (λ t. folded i (λ k. byte k t)) same
 
@@ -145,8 +143,9 @@ stepped_number (suc n) v h =
 
 byte_is : (s i : ℕ) → i < 16 → slice_index (to_be_bytes w128 s) i ≡ byte i s
 byte_is s = by_sixteen (λ i. slice_index (to_be_bytes w128 s) i ≡ byte i s)
-    (byte_at_is 15 s) (byte_at_is 14 s) (byte_at_is 13 s) (byte_at_is 12 s) (byte_at_is 11 s) (byte_at_is 10 s) (byte_at_is 9 s) (byte_at_is 8 s)
-    (byte_at_is 7 s) (byte_at_is 6 s) (byte_at_is 5 s) (byte_at_is 4 s) (byte_at_is 3 s) (byte_at_is 2 s) (byte_at_is 1 s) (byte_at_is 0 s)
+    (byte_at_is 15 s) (byte_at_is 14 s) (byte_at_is 13 s) (byte_at_is 12 s) (byte_at_is 11 s) (byte_at_is 10 s)
+    (byte_at_is 9 s) (byte_at_is 8 s) (byte_at_is 7 s) (byte_at_is 6 s) (byte_at_is 5 s) (byte_at_is 4 s)
+    (byte_at_is 3 s) (byte_at_is 2 s) (byte_at_is 1 s) (byte_at_is 0 s)
 
 -- the number of a block
 number_of : (block : List ℕ) → IsBlock block → (n : ℕ) × (n < 2 ^ 128) × (to_be_bytes w128 n ≡ block)
@@ -162,11 +161,12 @@ before-same f g same (suc i) h = same i (omega arith)
 
 folded-same : (f g : ℕ → ℕ) → ((i : ℕ) → i < 16 → f i ≡ g i) → (i : ℕ) → i < 16 → folded i f ≡ folded i g
 folded-same f g same i h =
-    ap₂ (λ b above. bit_xor (bit_xor (bit_xor b (shifted 1 b above)) (shifted 2 b above)) (shifted 7 b above)) (same i h) (before-same f g same i h)
+    ap₂ folded_byte (before-same f g same i h) (same i h)
 
--- a block whose byte i is such a sum
+-- a block of such bytes
 pub folded_is : (block sum : List ℕ) → IsBlock block → slice_index block 15 ≡ 0 → length sum ≡ 16
-    → ((i : ℕ) → i < 16 → slice_index sum i ≡ folded i (slice_index block)) → sum ≡ u128_times block
+    → ((i : ℕ) → i < 16 → slice_index sum i ≡ folded_byte (before i (slice_index block)) (slice_index block i))
+    → sum ≡ u128_times block
 unfolding u128_times
 folded_is block sum is none size folds =
     let n = number_of block is in

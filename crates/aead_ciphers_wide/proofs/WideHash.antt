@@ -31,7 +31,8 @@ taken_none h xi items done at = record { taken = []; whole = refl; hashed = rw a
 
 -- the next block is taken
 pub taken_one : (h sum items rest table next : List ℕ) (done : List (List ℕ)) → subkey table ≡ h → 16 ≤ length rest
-    → next ≡ (sum ⊕ take 16 rest) • subkey table → IsHashOfTaken h done items rest sum → IsHashOfTaken h done items (drop 16 rest) next
+    → next ≡ (sum ⊕ take 16 rest) • subkey table → IsHashOfTaken h done items rest sum
+    → IsHashOfTaken h done items (drop 16 rest) next
 taken_one h sum items rest table next done is_h enough is_next at =
     let block = take 16 rest in
     record {
@@ -48,10 +49,12 @@ taken_one h sum items rest table next done is_h enough is_next at =
 pub taken_all : (h sum items rest : List ℕ) (done : List (List ℕ)) → length rest < 16
     → IsHashOfTaken h done items rest sum → IsHashOf h (done ++ blocks 16 items) sum
 taken_all h sum items rest done short at =
-    subst (λ xs. IsHashOf h (done ++ xs) sum) (sym (append-nil at.taken) ∙ ap (λ xs. at.taken ++ xs) (sym (blocks_short 16 rest short)) ∙ at.whole) at.hashed
+    let none = ap (λ xs. at.taken ++ xs) (sym (blocks_short 16 rest short)) in
+    subst (λ xs. IsHashOf h (done ++ xs) sum) (sym (append-nil at.taken) ∙ none ∙ at.whole) at.hashed
 
 -- the next two blocks are taken, by one product each, of which the code computes the sum
-pub taken_two : (h sum items rest pair table next : List ℕ) (done : List (List ℕ)) → subkey table ≡ h → 32 ≤ length rest → pair ≡ take 32 rest
+pub taken_two : (h sum items rest pair table next : List ℕ) (done : List (List ℕ))
+    → subkey table ≡ h → 32 ≤ length rest → pair ≡ take 32 rest
     → next ≡ ((sum ⊕ take 16 (take 16 pair)) • subkey table ⊕ take 16 (take 16 (drop 16 pair))) • subkey table
     → IsHashOfTaken h done items rest sum → IsHashOfTaken h done items (drop 32 rest) next
 taken_two h sum items rest pair table next done is_h enough is_pair is_next at =
@@ -61,6 +64,7 @@ taken_two h sum items rest pair table next done is_h enough is_pair is_next at =
     take-take 16 16 (drop 16 pair) (omega arith) ∙ ap (λ xs. take 16 (drop 16 xs)) is_pair ∙ ap (take 16) (drop-take 16 16 rest)
     ∙ take-take 16 16 (drop 16 rest) (omega arith) in
     subst (λ xs. IsHashOfTaken h done items xs next) (drop-drop 16 16 rest)
-    (taken_one h ((sum ⊕ take 16 rest) • subkey table) items (drop 16 rest) table next done is_h (omega (arith, length-drop 16 rest))
+    (taken_one h ((sum ⊕ take 16 rest) • subkey table) items (drop 16 rest) table next done is_h
+    (omega (arith, length-drop 16 rest))
     (is_next ∙ ap₂ (λ x y. ((sum ⊕ x) • subkey table ⊕ y) • subkey table) first second)
     (taken_one h sum items rest table ((sum ⊕ take 16 rest) • subkey table) done is_h (omega arith) refl at))

@@ -1,5 +1,5 @@
 -- The products of a hash subkey and the digits of a byte; a product of blocks is a sum of them (SP 800-38D section 6.3).
-use Rattle.std.specs.Prelude.{◌≡◌, ℕ, zero, suc, ◌+◌, ◌*◌, ◌/◌, ◌%◌, ◌<◌, ◌==◌, if◌then◌else◌, bit_xor, List, ◌∷◌, replicate, slice_index}
+use Rattle.std.specs.Prelude.{◌≡◌, ℕ, zero, suc, ◌+◌, ◌*◌, ◌/◌, ◌%◌, ◌^◌, ◌<◌, ◌==◌, if◌then◌else◌, bit_xor, List, ◌∷◌, replicate, slice_index}
 use Rattle.aead_ciphers_base.specs.Bytes.{each_below}
 use Rattle.aead_ciphers.specs.Ghash.{◌•◌}
 use Rattle.aead_ciphers.specs.Multiples.{monomial_block}
@@ -12,6 +12,15 @@ stepped (suc n) block = monomial_block 8 • stepped n block
 -- u^128 times a block
 unfoldable pub u128_times : List ℕ → List ℕ
 u128_times block = stepped 16 block
+
+-- a byte shifted to the right by n bits, under the byte before it: that is its product with u^n
+abbrev pub shifted_byte : ℕ → ℕ → ℕ → ℕ
+shifted_byte n before b = (before * 2 ^ 8 + b) / 2 ^ n % 2 ^ 8
+
+-- a byte, under the byte before it, times 1 + u + u^2 + u^7 (SP 800-38D section 6.3)
+abbrev pub folded_byte : ℕ → ℕ → ℕ
+folded_byte before b =
+    bit_xor (bit_xor (bit_xor b (shifted_byte 1 before b)) (shifted_byte 2 before b)) (shifted_byte 7 before b)
 
 -- the block whose first byte is b, and whose other bytes are zero
 abbrev pub first_byte : ℕ → List ℕ

@@ -5,12 +5,12 @@
 //! order of their bytes: a look-up in a row gives one byte of the products of all 16 digits at once. The rows'
 //! bytes are added up from the last row on, moved by one place for each row.
 
-ghost use Rattle.std.specs.Prelude.{◌≡◌, ℕ, ◌+◌, ◌-◌, ◌*◌, ◌/◌, ◌%◌, ◌^◌, ◌<◌, ◌≤◌, ◌==◌, bit_xor, if◌then◌else◌, [], ◌∷◌, slice_index, slice_index_or};
+ghost use Rattle.std.specs.Prelude.{◌≡◌, ℕ, ◌+◌, ◌/◌, ◌%◌, ◌<◌, ◌≤◌, ◌==◌, bit_xor, if◌then◌else◌, [], ◌∷◌, slice_index, slice_index_or};
 ghost use Rattle.std.specs.Int.{to_be_bytes, w128};
 ghost use Rattle.std.specs.Simd.Lanes.{put_chunk};
 ghost use Rattle.aead_ciphers_base.specs.Bytes.{◌⊕◌, each_below};
 ghost use Rattle.aead_ciphers.specs.Ghash.{◌•◌};
-ghost use Rattle.aead_ciphers_wide.specs.Products.{AreProducts, ArePowers, chosen_sum, subkey, u128_times};
+ghost use Rattle.aead_ciphers_wide.specs.Products.{AreProducts, ArePowers, chosen_sum, folded_byte, subkey, u128_times};
 ghost use Rattle.aead_ciphers.specs.Multiples.{monomial_block};
 
 use crate::permute::look_up;
@@ -138,20 +138,19 @@ fn reduced(first: u8x16, second: u8x16) -> u8x16
     ensures { result ≡ first ⊕ u128_times second }
 {
     let (before, _) = moved(second, u8x16::splat(0));
-    let sum = add(second, shifted(second, before, 1));
-    let sum = add(sum, shifted(second, before, 2));
-    add(first, add(sum, shifted(second, before, 7)))
+    add(first, folded(second, before))
 }
 
-/// Shifts each byte to the right by `count` bits. The bits above are the lowest of the byte at its place in `before`.
+/// Returns the sum of each byte and of its shifts to the right by 1, 2 and 7 bits, into which the lowest bits of the byte at
+/// its place in `before` come from above. Those of the shifts by 1 and 2 bits are added first, and shifted once.
 #[inline(always)]
-fn shifted(bytes: u8x16, before: u8x16, count: u8) -> u8x16
-    requires some { 0 < count }
-    requires few { count < 8 }
-    ensures { (i : ℕ) → i < 16 → slice_index result i
-        ≡ bit_xor (slice_index bytes i / 2 ^ count) (slice_index before i * 2 ^ (8 - count) % 2 ^ 8) }
+fn folded(bytes: u8x16, before: u8x16) -> u8x16
+    ensures { (i : ℕ) → i < 16 → slice_index result i ≡ folded_byte (slice_index before i) (slice_index bytes i) }
 {
-    (bytes >> u8x16::splat(count)) ^ (before << u8x16::splat(8 - count))
+    let doubled = before << u8x16::splat(1);
+    let by_two = ((before ^ doubled) << u8x16::splat(6)) ^ (bytes >> u8x16::splat(2));
+    let by_seven = doubled ^ (bytes >> u8x16::splat(7));
+    bytes ^ (bytes >> u8x16::splat(1)) ^ by_two ^ by_seven
 }
 
 /// Writes the products of `block` and each digit of a byte to `table`.

@@ -22,7 +22,8 @@ loop-pair-preserved c =
       products = omega arith;
       hashed = λ done at.
           subst (λ xs. IsHashOfTaken h done c.args.input.items.now xs next) (sym c.in-Some.ensures.cases.1)
-          (taken_two h c.loop-pair.sum c.args.input.items.now rest pair table next done c.self.view_is (omega arith) c.in-Some.ensures.cases.0
+          (taken_two h c.loop-pair.sum c.args.input.items.now rest pair table next done c.self.view_is (omega arith)
+          c.in-Some.ensures.cases.0
           (c.product_pair-sum.ensures ∙ ap (λ x. (x • subkey table ⊕ second) • subkey table) c.add-first.ensures)
           (c.loop-pair.invariant.hashed done at));
     }

@@ -1,0 +1,57 @@
+use Rattle.std.proofs.Common.{◌≡◌, ℕ, ◌*◌, ◌/◌, ◌%◌, ◌^◌, ◌==◌, true, bit_xor, slice_index, refl, ap, ◌∙◌, arith}
+use Rattle.std.specs.List.{range_with_len}
+use Rattle.std.proofs.lemmas.List.FromFn.{fill_by_all}
+use Rattle.std.proofs.lemmas.Simd.{zip2_of_maps}
+use Rattle.aead_ciphers_base.proofs.EachLemmas.{get_or-each}
+use Rattle.aead_ciphers_base.proofs.NumberBits.{all_below, same_in_table}
+use Rattle.aead_ciphers_wide.specs.Products.{folded_byte}
+use Rattle.aead_ciphers_wide.proofs.ByteRows.{IsBlock-vector}
+use Rattle.aead_ciphers_wide.proofs.gcm.product.folded.Goals as goal
+
+abbrev left : ℕ → ℕ → ℕ
+left x n = x * 2 ^ n % 2 ^ 8
+
+abbrev right : ℕ → ℕ → ℕ
+right x n = x / 2 ^ n
+
+abbrev by_two : ℕ → ℕ → ℕ
+by_two before b = bit_xor (left (bit_xor before (left before 1)) 6) (right b 2)
+
+abbrev by_seven : ℕ → ℕ → ℕ
+by_seven before b = bit_xor (left before 1) (right b 7)
+
+-- what the code computes of two bytes
+abbrev computed : ℕ → ℕ → ℕ
+computed before b = bit_xor (bit_xor (bit_xor b (right b 1)) (by_two before b)) (by_seven before b)
+
+computed_test : all_below (λ before. all_below (λ b. computed before b == folded_byte before b) 256) 256 ≡ true
+computed_test = refl
+
+pub returns : goal.returns
+returns c = λ i h.
+    let bytes = c.args.bytes in
+    let before = c.args.before in
+    let size = c.fits-bytes.0 in
+    let size_before = c.fits-before.0 in
+    let block = IsBlock-vector bytes size c.fits-bytes.1 in
+    let block_before = IsBlock-vector before size_before c.fits-before.1 in
+    let places = range_with_len 0 16 in
+    let byte = slice_index bytes in
+    let above = slice_index before in
+    let is_bytes = fill_by_all byte bytes 16 0 size (λ i h. refl) in
+    let is_before = fill_by_all above before 16 0 size_before (λ i h. refl) in
+    let shifted = λ (n : ℕ). zip2_of_maps right byte (λ i. n) places is_bytes refl in
+    let doubled = zip2_of_maps left above (λ i. 1) places is_before refl in
+    let added = zip2_of_maps bit_xor above (λ i. left (above i) 1) places is_before doubled in
+    let raised = zip2_of_maps left (λ i. bit_xor (above i) (left (above i) 1)) (λ i. 6) places added refl in
+    let two =
+    zip2_of_maps bit_xor (λ i. left (bit_xor (above i) (left (above i) 1)) 6) (λ i. right (byte i) 2) places raised (shifted 2) in
+    let seven = zip2_of_maps bit_xor (λ i. left (above i) 1) (λ i. right (byte i) 7) places doubled (shifted 7) in
+    let one = zip2_of_maps bit_xor byte (λ i. right (byte i) 1) places is_bytes (shifted 1) in
+    let most = zip2_of_maps bit_xor (λ i. bit_xor (byte i) (right (byte i) 1)) (λ i. by_two (above i) (byte i)) places one two in
+    let all =
+    zip2_of_maps bit_xor (λ i. bit_xor (bit_xor (byte i) (right (byte i) 1)) (by_two (above i) (byte i)))
+    (λ i. by_seven (above i) (byte i)) places most seven in
+    ap (λ v. slice_index v i) all ∙ get_or-each 16 (λ i. computed (above i) (byte i)) i 0 h
+    ∙ same_in_table computed folded_byte 256 256 (above i) (byte i) computed_test
+    (block_before.bytes i 0 (omega arith)) (block.bytes i 0 (omega arith))
