@@ -26,9 +26,6 @@ pub record IsHashOfTaken (h : List ℕ) (done : List (List ℕ)) (items rest sum
   pub whole : taken ++ blocks 16 rest ≡ blocks 16 items
   pub hashed : IsHashOf h (done ++ taken) sum
 
-pub taken_none : (h xi items : List ℕ) (done : List (List ℕ)) → IsHashOf h done xi → IsHashOfTaken h done items items xi
-taken_none h xi items done at = record { taken = []; whole = refl; hashed = rw append-nil at }
-
 -- the next block is taken
 pub taken_one : (h sum items rest table next : List ℕ) (done : List (List ℕ)) → subkey table ≡ h → 16 ≤ length rest
     → next ≡ (sum ⊕ take 16 rest) • subkey table → IsHashOfTaken h done items rest sum
