@@ -5,4 +5,5 @@ use Rattle.aead_ciphers_wide.proofs.word.WordPlane.rows_shifted.Goals as goal
 
 pub returns : goal.returns
 returns c =
-    bytes_move shifted_from (λ r c hr hc. omega arith) c.args.self c.from_bytes.result (rw c.bytes.ensures at c.from_bytes.ensures)
+    bytes_move shifted_from (λ r c hr hc. omega arith) c.args.self c.from_bytes.result
+    (rw c.bytes.ensures at c.from_bytes.ensures)
