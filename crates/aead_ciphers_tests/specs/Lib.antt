@@ -1,1 +1,2 @@
+pub mod BoundKey
 pub mod FirstBitFlipped

@@ -2,13 +2,13 @@
 
 use crate::cases::{aad, key, opened_at_4, sealed, unbound_key};
 use crate::checks::{holds, prints, same};
+use crate::examples::one_nonce::OneNonce;
 use aead_ciphers::aead::{
     AES_128_GCM, Aad, BoundKey, CounterSequence, Nonce, NonceSequence, OpeningKey, SealingKey,
     Unspecified,
 };
 use aead_vectors::gcm_spec::{CASE_1, CASE_4, CASE_13, Case};
 use arrayvec::ArrayVec;
-use examples::one_nonce::OneNonce;
 use std::process::Abort;
 use std::test::Fail;
 

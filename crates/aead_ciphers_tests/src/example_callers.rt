@@ -1,20 +1,14 @@
-//! Tests of the crate `examples` with test vectors of the standards.
+//! Tests of `examples` with test vectors of the standards.
 
-ghost use Rattle.aead_ciphers_wide.specs.ExpandedKey.{IsExpanded};
-
-use crate::cases::{aad, key, key_bytes, nonce, sealed};
+use crate::cases::{aad, key, nonce, sealed};
 use crate::checks::{holds, same};
+use crate::examples::{connection, messages, one_message, streams};
 use aead_ciphers::aead::{
     AES_256_GCM, Aad, CounterSequence, LessSafeKey, NONCE_LEN, OpeningKey, SealingKey, Tag,
 };
-use aead_ciphers_base::aes::Work;
-use aead_ciphers_wide::aes_gcm::ExpandedKey;
 use aead_vectors::gcm_spec::{CASE_1, CASE_2, CASE_2_CIPHERTEXT, CASE_4, CASE_16, Case};
 use aead_vectors::{rfc_8439, rfc_9001};
 use arrayvec::ArrayVec;
-use examples::{connection, messages, one_message, pieces, sealed_files, streams};
-use sealed_file::{FileKey, FileRandom};
-use std::io::Cursor;
 use std::process::Abort;
 use std::test::Fail;
 
@@ -124,27 +118,6 @@ fn gcm_spec_case_4_to_a_vec(rt: HostRuntime) -> Result<(), Fail> {
     Ok(())
 }
 
-/// Asserts that a case is sealed in pieces of 1 to 17 bytes.
-fn seals_in_pieces(rt: &impl Abort, key: &ExpandedKey, case: &Case) -> Result<(), Fail>
-    requires { IsExpanded key.now }
-{
-    for piece_len in 1..18 {
-        let mut in_out = case.message.clone()?;
-        let tag = pieces::seal_in_pieces(key, nonce(case), aad(case), &mut in_out, piece_len)?;
-        same(rt, &in_out, &case.ciphertext, case.name);
-        same(rt, tag.as_ref(), &case.tag, case.name);
-    }
-    Ok(())
-}
-
-#[test]
-fn gcm_spec_case_4_in_pieces(rt: HostRuntime) -> Result<(), Fail> {
-    let case = Case::parse(rt.alloc(), CASE_4)?;
-    let mut key = ExpandedKey::zeros();
-    key.expand(key_bytes(&case)?, &mut Work::new());
-    seals_in_pieces(&rt, &key, &case)
-}
-
 /// Asserts that a message is sent and received.
 fn carries(
     rt: &impl Abort,
@@ -194,29 +167,5 @@ fn rfc_8439_2_4_2_stream(rt: HostRuntime) -> Result<(), Fail> {
 fn rfc_9001_a_2_mask(rt: HostRuntime) -> Result<(), Fail> {
     let mask = streams::mask(&rfc_9001::A_2_KEY, &rfc_9001::A_2_SAMPLE)?;
     same(&rt, &mask, &rfc_9001::A_2_MASK, "the mask");
-    Ok(())
-}
-
-/// The sealed file of the byte `a` under a key of bytes 7, with random bytes 1, by python's `cryptography`.
-const SEALED: &str = "5345414c46494c450201010101010101010101010101010101010101\
-    3ac5048d5c00f0550363582baf61fbe83cf4f4870c461b5928756adae73df622\
-    85957c7bf0da74a6c0389c0ba26cea6630";
-
-#[test]
-fn sealed_file_of_one_byte(rt: HostRuntime) -> Result<(), Fail> {
-    let key = FileKey::new(&[7; 32])?;
-    let wanted = hex::decode(rt.alloc(), SEALED)?;
-    let random = FileRandom::from_bytes_for_tests([1; 19]);
-    let mut sealed = Vec::new(rt.alloc());
-    sealed_files::seal(&key, random, b"a", &mut sealed)?;
-    same(&rt, &sealed, &wanted, "sealed");
-    let mut opened = Vec::new(rt.alloc());
-    sealed_files::open(&key, &sealed, &mut opened)?;
-    same(&rt, &opened, b"a", "opened");
-    let mut buf = [0; 2];
-    let input = Cursor::new(sealed.as_slice());
-    let count = sealed_files::read_part(rt.alloc(), &key, input, 0, 0, &mut buf)?;
-    holds(&rt, count == 1, "a byte is read");
-    same(&rt, &buf, b"a\0", "the byte");
     Ok(())
 }

@@ -1,5 +1,5 @@
-//! Tests of the public interface of `aead_ciphers` and of the crates that use it: external test vectors, printed text, and
-//! properties that no contract states.
+//! Tests of the public interface of `aead_ciphers`: external test vectors, printed text, and properties that no contract
+//! states. `examples` has callers, and `example_callers` their tests.
 #![tactic(auto)]
 
 #[cfg(test)]
@@ -22,6 +22,8 @@ mod counting;
 mod errors;
 #[cfg(test)]
 mod example_callers;
+#[cfg(test)]
+mod examples;
 #[cfg(test)]
 mod gcm;
 #[cfg(test)]

@@ -8,9 +8,9 @@ ghost use Rattle.aead_ciphers.specs.Values.{aad_bytes};
 
 use crate::cases::{aad, key, nonce, sealed, unbound_key};
 use crate::checks::{holds, same};
+use crate::examples::one_nonce::OneNonce;
 use aead_ciphers::aead::{Aad, BoundKey, LessSafeKey, Nonce, OpeningKey, Tag, Unspecified};
 use aead_vectors::gcm_spec::{CASE_4, Case};
-use examples::one_nonce::OneNonce;
 use std::alloc::Global;
 use std::ops::RangeFrom;
 use std::process::Abort;

@@ -1,5 +1,5 @@
 //! Tests of the public interface of `aead_ciphers_wide`: external test vectors, and that its keys make the same bytes as
-//! those of `aead_ciphers`.
+//! those of `aead_ciphers`. `examples` has a caller, and `example_callers` its test.
 #![tactic(auto)]
 
 #[cfg(test)]
@@ -10,6 +10,10 @@ mod aes;
 mod both_keys;
 #[cfg(test)]
 mod checks;
+#[cfg(test)]
+mod example_callers;
+#[cfg(test)]
+mod examples;
 #[cfg(test)]
 mod gcm;
 #[cfg(test)]

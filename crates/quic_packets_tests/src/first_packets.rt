@@ -1,9 +1,9 @@
 //! Tests of the callers in `examples`: the keys of a client's first packet, and that packet.
 
 use crate::checks::same;
+use crate::examples::first_initial::first_packet;
+use crate::examples::initial_keys::client_initial_keys;
 use aead_vectors::rfc_9001::{A_2_PACKET, Packet};
-use examples::first_initial::first_packet;
-use examples::initial_keys::client_initial_keys;
 use key_derivation::DerivationError;
 use std::process::Abort;
 use std::test::Fail;

@@ -1,5 +1,5 @@
 //! Tests of `quic_packets`, one module for each of its modules, except that `keys` tests `key` and `header`, and `first_packets`
-//! the callers of `examples`. `rows` contains packets made by `tools/quic-packets`.
+//! the callers in `examples`. `rows` contains packets made by `tools/quic-packets`.
 #![tactic(auto)]
 
 #[cfg(test)]
@@ -12,6 +12,8 @@ mod datagram;
 mod error;
 #[cfg(test)]
 mod example;
+#[cfg(test)]
+mod examples;
 #[cfg(test)]
 mod first_packets;
 #[cfg(test)]

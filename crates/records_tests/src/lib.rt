@@ -1,5 +1,5 @@
 //! Tests of the public interfaces of `records` and `tls_messages`: records of OpenSSL and of Python's `cryptography`, whole
-//! connections, printed text, and properties that no contract states.
+//! connections, printed text, and properties that no contract states. `examples` has callers, which `stream` tests.
 #![tactic(auto)]
 
 #[cfg(test)]
@@ -12,6 +12,8 @@ mod connection;
 mod content;
 #[cfg(test)]
 mod early_data;
+#[cfg(test)]
+mod examples;
 #[cfg(test)]
 mod messages;
 #[cfg(test)]

@@ -1,8 +1,8 @@
 //! Tests of `classify`, and of `examples::record_stream`.
 
 use crate::checks::equal;
+use crate::examples::record_stream;
 use aead_ciphers::aead::AES_128_GCM;
-use examples::record_stream;
 use records::{Begins, ContentType, Reader, RecordError, RecordKind, Writer, classify};
 use std::test::Fail;
 

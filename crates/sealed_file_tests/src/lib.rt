@@ -1,9 +1,13 @@
 //! Tests of the public interface of `sealed_file`: files that python's `cryptography` sealed, files that do not open, streams
-//! that fail, and printed text.
+//! that fail, and printed text. `examples` has callers, and `example_callers` their test.
 #![tactic(auto)]
 
 #[cfg(test)]
 mod checks;
+#[cfg(test)]
+mod example_callers;
+#[cfg(test)]
+mod examples;
 #[cfg(test)]
 mod passphrase;
 #[cfg(test)]

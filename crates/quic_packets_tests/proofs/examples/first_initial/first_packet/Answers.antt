@@ -1,12 +1,12 @@
 use Rattle.std.proofs.lemmas.List.{drop-replicate, replicate-append-replicate}
-use Rattle.examples.specs.FirstInitial.{initial_header}
+use Rattle.quic_packets_tests.specs.FirstInitial.{initial_header}
 use Rattle.std.proofs.Common.{rules, replicate, append_assoc, take_at, drop_at, sym, ◌≡◌, ℕ, ◌+◌, ◌^◌, ◌<◌, true, false, suc, ◌-◌, List, [], ◌∷◌, ◌++◌, drop, Some, length, length-append, take, Option, Result, Ok, Err, IsOk, IsErr, refl, ap, ap₂, ◌∙◌, arith}
 use Rattle.aead_ciphers.specs.HeaderProtection.{HeaderKey}
 use Rattle.key_derivation.specs.Secret.{SecretState}
 use Rattle.quic_packets.specs.Keys.{PacketKey, secret_header_key, secret_key}
 use Rattle.quic_packets.specs.Sending.{IsInTurn, IsSealable, IsSent, Sender, new_sender}
 use Rattle.quic_packets.specs.declared.fixed_bit.FixedBit.TheVariants.{Required}
-use Rattle.examples.proofs.first_initial.first_packet.Goals as goal
+use Rattle.quic_packets_tests.proofs.examples.first_initial.first_packet.Goals as goal
 
 -- a packet of 1200 bytes that begins with the first byte and the version of an Initial packet
 sealable : (packet rest : List ℕ) (start end : ℕ) → packet ≡ 0xc3 ∷ 0 ∷ 0 ∷ 0 ∷ 1 ∷ rest → length packet ≡ 1200 → start ≡ 18 → end ≡ 22

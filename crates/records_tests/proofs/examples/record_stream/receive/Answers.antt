@@ -3,7 +3,7 @@ use Rattle.std.proofs.lemmas.List.{length-replicate, length-take}
 use Rattle.std.proofs.lemmas.Slice.{drop-append-drop}
 use Rattle.records.specs.Record.{plaintext}
 use Rattle.records.specs.Steps.{overwritten}
-use Rattle.examples.proofs.record_stream.receive.Goals as goal
+use Rattle.records_tests.proofs.examples.record_stream.receive.Goals as goal
 
 length-plaintext : (content : List ℕ) (code padding : ℕ) → length (plaintext content code padding) ≡ length content + 1 + padding
 length-plaintext content code padding = simp (length-append, length-replicate) (omega arith)

@@ -6,7 +6,7 @@ use Rattle.aead_ciphers_base.specs.Values.{aad_bytes}
 use Rattle.aead_ciphers.specs.Gcm.{gcm_tag}
 use Rattle.aead_ciphers_wide.specs.ExpandedKey.{bytes_of}
 use Rattle.aead_ciphers_wide.specs.Pieces.{HasSealed}
-use Rattle.examples.proofs.pieces.seal_in_pieces.Goals as goal
+use Rattle.aead_ciphers_wide_tests.proofs.examples.pieces.seal_in_pieces.Goals as goal
 
 pub loop-done-preserved : goal.loop-done-preserved
 loop-done-preserved c =

@@ -3,7 +3,7 @@ use Rattle.aead_ciphers_base.specs.Aes.{aes}
 use Rattle.aead_ciphers_base.specs.Values.{aad_bytes}
 use Rattle.aead_ciphers_wide.specs.ExpandedKey.{bytes_of}
 use Rattle.aead_ciphers_wide.specs.Pieces.{HasSealed}
-use Rattle.examples.proofs.pieces.seal_in_pieces.Given as goal
+use Rattle.aead_ciphers_wide_tests.proofs.examples.pieces.seal_in_pieces.Given as goal
 
 abbrev pub invariant-loop-done : goal.invariant-loop-done
 invariant-loop-done l = record {

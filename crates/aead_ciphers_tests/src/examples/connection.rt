@@ -5,7 +5,7 @@ ghost use Rattle.aead_ciphers.specs.Aes.{aes};
 ghost use Rattle.aead_ciphers.specs.Algorithm.{key_len};
 ghost use Rattle.aead_ciphers.specs.Counting.{next_nonce, prefixed_nonce};
 ghost use Rattle.aead_ciphers.specs.Gcm.{Fits, gcm_decrypted, gcm_encrypted, gcm_sealed, gcm_tag, OpenedAttached};
-ghost use Rattle.examples.specs.BoundKey.{advanced};
+ghost use Rattle.aead_ciphers_tests.specs.BoundKey.{advanced};
 
 use aead_ciphers::aead::{
     Aad, Algorithm, BoundKey, CounterSequence, OpeningKey, SealingKey, Tag, UnboundKey, Unspecified,

@@ -1,7 +1,7 @@
 //! A client's first packet, from a connection ID to the bytes of its datagram.
 
 ghost use Rattle.std.specs.Prelude.{◌↔◌, ◌+◌, ◌^◌, ◌<◌, ◌≤◌, length, IsOk, IfOk};
-ghost use Rattle.examples.specs.FirstInitial.{initial_packet, initial_sender};
+ghost use Rattle.quic_packets_tests.specs.FirstInitial.{initial_packet, initial_sender};
 ghost use Rattle.quic_packets.specs.Sending.{IsSent};
 
 use key_derivation::{DerivationError, Secret};

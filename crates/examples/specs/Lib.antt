@@ -1,3 +1,0 @@
--- The definitions that the contracts use.
-pub mod BoundKey
-pub mod FirstInitial
