@@ -55,13 +55,13 @@ module _ (place : ℕ → ℕ → ℕ) (n : ℕ) (old new : List ℕ) (k : ℕ) 
       h r c hr hc ∙ ap₂ bit_xor
       (ap₂ bit_xor (ap₂ (λ s t. bit_xor (mul8 2 s) (mul8 3 t)) (sym (at_old r c hr hc)) (there 1)) (there 2)) (there 3))
 
-  pub add_block : (key : List ℕ) (w : List (List ℕ)) (j : ℕ) → HoldsRound place n w j key
+  pub add_block : (key : List ℕ) (w : List (List ℕ)) (j : ℕ) → HoldsRound place k w j key
       → ((p : ℕ) → plane_byte new p ≡ bit_xor (plane_byte old p) (plane_byte key p))
       → block_at place new k ≡ add_round_key w j (block_at place old k)
   unfolding add_round_key block_at
   add_block key w j holds h =
       state_same (λ r c. plane_byte new _) (λ r c. bit_xor (at (block_at place old k) r c) (slice_index (word_at w _) r))
-      (λ r c hr hc. h _ ∙ ap₂ bit_xor (sym (at_old r c hr hc)) (holds k r c hk hr hc))
+      (λ r c hr hc. h _ ∙ ap₂ bit_xor (sym (at_old r c hr hc)) (holds r c hr hc))
 
 -- rounds tell blocks apart by their sums with the first round key alone
 rounds_same : (w : List (List ℕ)) (a b : List ℕ) → add_round_key w 0 a ≡ add_round_key w 0 b

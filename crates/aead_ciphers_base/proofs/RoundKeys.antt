@@ -84,10 +84,10 @@ module _ (key : List ℕ) (w round_keys : List (List ℕ)) (nk : ℕ) (len : len
 abbrev pub schedule_words : List (List ℕ) → ℕ → List (List ℕ)
 schedule_words round_keys rounds = key_words (rounds - 6) (key_of round_keys rounds) (4 * (rounds + 1) - (rounds - 6))
 
--- a round key of them, in the planes of a pass
-pub holds_round : (round_keys w : List (List ℕ)) (n j : ℕ) → HoldsWords round_keys w n → j < n
-    → HoldsRound place_of_four 4 w j (slice_index_or round_keys j [])
-holds_round round_keys w n j holds hj k r c hk hr hc =
+-- a round key of words, in a block of the planes of a pass
+pub holds_round : (round_keys w : List (List ℕ)) (n k j : ℕ) → HoldsWords round_keys w n → k < 4 → j < n
+    → HoldsRound place_of_four k w j (slice_index_or round_keys j [])
+holds_round round_keys w n k j holds hk hj r c hr hc =
     let column : 4 * j + place_of_four k (r + 4 * c) % 16 / 4 ≡ 4 * j + c = omega arith in
     let row : place_of_four k (r + 4 * c) % 4 ≡ r = omega arith in
     holds j (place_of_four k (r + 4 * c)) hj (omega arith) ∙ ap₂ (λ i t. slice_index (word_at w i) t) column row

@@ -47,10 +47,10 @@ abbrev pub MovesBytes : (ℕ → ℕ → ℕ) → ℕ → (ℕ → ℕ → ℕ) 
 MovesBytes place n from old new =
     (k r c : ℕ) → k < n → r < 4 → c < 4 → plane_byte new (place k (r + 4 * c)) ≡ plane_byte old (place k (from r c))
 
--- the planes hold round key j of the words w in each of n blocks
+-- block k of the planes is round key j of the words w
 abbrev pub HoldsRound : (ℕ → ℕ → ℕ) → ℕ → List (List ℕ) → ℕ → List ℕ → Type 0
-HoldsRound place n w j planes =
-    (k r c : ℕ) → k < n → r < 4 → c < 4 → plane_byte planes (place k (r + 4 * c)) ≡ slice_index (word_at w (4 * j + c)) r
+HoldsRound place k w j planes =
+    (r c : ℕ) → r < 4 → c < 4 → plane_byte planes (place k (r + 4 * c)) ≡ slice_index (word_at w (4 * j + c)) r
 
 -- bit n of 64-bit words, the least significant bit of word 0 first
 unfoldable pub word_bit : List ℕ → ℕ → ℕ

@@ -60,9 +60,9 @@ aes_of_schedule round_keys rounds b h =
     rw (nk, count)
 
 -- the planes of round key j hold it in each of the eight blocks
-pub holds_round : (planes round_keys words : List (List ℕ)) (n j : ℕ) → HoldsPlanes planes round_keys n
-    → HoldsWords round_keys words n → j < n → HoldsRound place_of_eight 8 words j (planes_of (slice_index_or planes j []))
-holds_round planes round_keys words n j is_planes holds hj k r c hk hr hc =
+pub holds_round : (planes round_keys words : List (List ℕ)) (n k j : ℕ) → HoldsPlanes planes round_keys n
+    → HoldsWords round_keys words n → k < 8 → j < n → HoldsRound place_of_eight k words j (planes_of (slice_index_or planes j []))
+holds_round planes round_keys words n k j is_planes holds hk hj r c hr hc =
     let byte : (8 * (r + 4 * c) + k) / 8 ≡ r + 4 * c = omega arith in
     is_planes j (8 * (r + 4 * c) + k) hj (omega arith) ∙ ap (slice_index (key_at round_keys j)) byte
     ∙ sym (get_or-each 4 (λ r. at (key_at round_keys j) r c) r 0 hr)

@@ -23,7 +23,6 @@ mod ctr32;
 mod key_schedule;
 mod pack_eight;
 mod permuted;
-mod planes;
 mod round_keys;
 
 pub use block_key::{BlockKey, BlockKeyRef};

@@ -29,8 +29,8 @@ impl RoundKeyPlanes<u64> for [u64; 8] {
     }
 }
 
-/// Applies AddRoundKey and the rounds before round `last` to each block (FIPS 197 section 5.1), by the round keys of any words
-/// `w` that they hold.
+/// Applies AddRoundKey and the rounds before round `last` to each block (FIPS 197 section 5.1), by the round keys of the words
+/// `w` that the planes of the round keys hold in that block.
 #[inline(always)]
 pub fn first_rounds<P: Plane, K: RoundKeyPlanes<P>>(
     planes: [P; 8],
@@ -39,10 +39,9 @@ pub fn first_rounds<P: Plane, K: RoundKeyPlanes<P>>(
 ) -> [P; 8]
     requires some { 1 ≤ last }
     requires enough { last ≤ length round_keys.now }
-    ensures { (w : List (List ℕ))
-        → ((j : ℕ) → j < last
-        → HoldsRound P.place (P.width / 16) w j (slice_index_or (map K.held round_keys.now) j []))
-        → (k : ℕ) → k < P.width / 16 → block_at P.place (map P.number result) k
+    ensures { (k : ℕ) → k < P.width / 16 → (w : List (List ℕ))
+        → ((j : ℕ) → j < last → HoldsRound P.place k w j (slice_index_or (map K.held round_keys.now) j []))
+        → block_at P.place (map P.number result) k
         ≡ rounds w (block_at P.place (map P.number planes) k) (last - 1) }
 {
     let mut state = add_round_key(planes, round_keys[0].planes());
@@ -58,8 +57,8 @@ pub fn first_rounds<P: Plane, K: RoundKeyPlanes<P>>(
 /// Applies the last round, which has no MixColumns, to each block (FIPS 197 section 5.1).
 #[inline(always)]
 pub fn last_round<P: Plane, K: RoundKeyPlanes<P>>(planes: [P; 8], round_key: &K) -> [P; 8]
-    ensures { (w : List (List ℕ)) (j : ℕ) → HoldsRound P.place (P.width / 16) w j (K.held round_key.now)
-        → (k : ℕ) → k < P.width / 16 → block_at P.place (map P.number result) k
+    ensures { (k : ℕ) → k < P.width / 16 → (w : List (List ℕ)) (j : ℕ) → HoldsRound P.place k w j (K.held round_key.now)
+        → block_at P.place (map P.number result) k
         ≡ add_round_key w j (shift_rows (sub_bytes (block_at P.place (map P.number planes) k))) }
 {
     add_round_key(shift_rows(sub_bytes(planes)), round_key.planes())

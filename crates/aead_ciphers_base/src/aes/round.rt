@@ -78,9 +78,8 @@ pub fn mix_columns<P: Plane>(a: [P; 8]) -> [P; 8]
 /// Applies AddRoundKey (FIPS 197 section 5.1.4) to each block.
 #[inline(always)]
 pub fn add_round_key<P: Plane>(a: [P; 8], round_key: [P; 8]) -> [P; 8]
-    ensures { (w : List (List ℕ)) (j : ℕ) → HoldsRound P.place (P.width / 16) w j (map P.number round_key)
-        → (k : ℕ) → k < P.width / 16 → block_at P.place (map P.number result) k
-        ≡ add_round_key w j (block_at P.place (map P.number a) k) }
+    ensures { (k : ℕ) → k < P.width / 16 → (w : List (List ℕ)) (j : ℕ) → HoldsRound P.place k w j (map P.number round_key)
+        → block_at P.place (map P.number result) k ≡ add_round_key w j (block_at P.place (map P.number a) k) }
 {
     add_planes(a, round_key)
 }

@@ -6,14 +6,14 @@ ghost use Rattle.aead_ciphers_base.specs.Aes.{aes};
 
 use super::KeyRef;
 use super::pack_eight::{pack_eight, unpack_eight};
-use super::planes::WidePlanes;
+use crate::word::Word;
 use aead_ciphers_base::aes::{Block, first_rounds, last_round};
 
 impl<'k> KeyRef<'k> {
     /// Encrypts each of the eight blocks that are the bytes of eight words (FIPS 197 section 5.1), in one pass over the planes.
     /// No `Work` counts them.
     #[inline(always)]
-    pub(crate) fn encrypt_eight(&self, words: WidePlanes) -> [Block; 8]
+    pub(crate) fn encrypt_eight(&self, words: [Word; 8]) -> [Block; 8]
         ensures { (k : ℕ) → k < 8 → slice_index_or result k []
             ≡ aes self.now (to_le_bytes w128 (slice_index words k)) }
     {

@@ -4,14 +4,13 @@ ghost use Rattle.std.specs.Prelude.{◌≡◌, ◌<◌, ◌+◌, ℕ, List, slic
 ghost use Rattle.std.specs.Int.{to_le_bytes, w128};
 ghost use Rattle.aead_ciphers_base.specs.CounterMode.{IsCounter, counter_block};
 
-use super::planes::WidePlanes;
 use crate::word::Word;
 use aead_ciphers_base::aes::{Block, Counter};
 use std::simd::{u8x16, u32x4};
 
 /// Returns the words whose bytes are the counter block and the next seven.
 #[inline(always)]
-pub fn counters(counter: &Counter) -> WidePlanes
+pub fn counters(counter: &Counter) -> [Word; 8]
     ensures { (nonce : List ℕ) (k : ℕ) → IsCounter counter.now nonce k → (i : ℕ) → i < 8
         → IsCounter (to_le_bytes w128 (slice_index result i)) nonce (k + i) }
 {

@@ -8,7 +8,6 @@ ghost use Rattle.aead_ciphers_base.specs.Planes.{word_bit, exchanged_from};
 ghost use Rattle.aead_ciphers_wide.specs.WidePlanes.{wide_block};
 ghost use Rattle.aead_ciphers_wide.specs.Word.{lane_of, lanes_of};
 
-use super::planes::WidePlanes;
 use crate::word::Word;
 use aead_ciphers_base::aes::{Block, LOW};
 
@@ -32,7 +31,7 @@ fn delta_swap(a: Word, b: Word, k: usize) -> (Word, Word)
 // Exchanges digit `k` of each place with the highest digit of the word's number, and then rotates the
 // digits of the number: the highest becomes the lowest.
 #[inline(always)]
-fn exchange_digits(words: WidePlanes, k: usize) -> WidePlanes
+fn exchange_digits(words: [Word; 8], k: usize) -> [Word; 8]
     requires { k < 6 }
     ensures { (j n : ℕ) → j < 2 → n < 512
         → word_bit (lanes_of j result) n ≡ word_bit (lanes_of j words) (exchanged_from k n) }
@@ -47,7 +46,7 @@ fn exchange_digits(words: WidePlanes, k: usize) -> WidePlanes
 
 // Bit `b` of each byte of word `i` becomes bit `i` of that byte of word `b`.
 #[inline(always)]
-fn transpose_bits(words: WidePlanes) -> WidePlanes
+fn transpose_bits(words: [Word; 8]) -> [Word; 8]
     ensures { (j n : ℕ) → j < 2 → n < 512 → word_bit (lanes_of j result) n
         ≡ word_bit (lanes_of j words) (n % 8 * 64 + n / 8 % 8 * 8 + n / 64) }
 {
@@ -57,7 +56,7 @@ fn transpose_bits(words: WidePlanes) -> WidePlanes
 /// Packs the eight blocks of the bytes of eight words into eight planes: bit `8 * byte + block` of plane `b` is bit `b` of that
 /// byte.
 #[inline(always)]
-pub fn pack_eight(words: WidePlanes) -> WidePlanes
+pub fn pack_eight(words: [Word; 8]) -> [Word; 8]
     ensures { (k : ℕ) → k < 8 → wide_block result k ≡ to_le_bytes w128 (slice_index words k) }
 {
     transpose_bits(words)
@@ -65,7 +64,7 @@ pub fn pack_eight(words: WidePlanes) -> WidePlanes
 
 /// Unpacks the eight blocks that the planes hold.
 #[inline(always)]
-pub fn unpack_eight(planes: WidePlanes) -> [Block; 8]
+pub fn unpack_eight(planes: [Word; 8]) -> [Block; 8]
     ensures { (k : ℕ) → k < 8 → slice_index_or result k [] ≡ wide_block planes k }
 {
     let [w0, w1, w2, w3, w4, w5, w6, w7] = transpose_bits(planes);

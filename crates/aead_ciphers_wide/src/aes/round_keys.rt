@@ -5,7 +5,6 @@ ghost use Rattle.std.specs.Int.{bit_at};
 ghost use Rattle.aead_ciphers_base.specs.Planes.{plane_byte};
 ghost use Rattle.aead_ciphers_wide.specs.WideSchedule.{HoldsPlanes, planes_of};
 
-use super::planes::WidePlanes;
 use crate::word::Word;
 use aead_ciphers_base::aes::{Block, RoundKeyPlanes};
 use std::simd::u8x16;
@@ -23,7 +22,7 @@ impl RoundKeyPlanes<Word> for KeyPlanes {
     ghost held = { planes_of };
 
     #[inline(always)]
-    fn planes(&self) -> WidePlanes {
+    fn planes(&self) -> [Word; 8] {
         [
             Word::new(self[0], self[1]),
             Word::new(self[2], self[3]),

@@ -15,13 +15,13 @@ returns c = λ k hk.
     let words = schedule_words key.round_keys.now nr in
     let block = slice_index_or c.args.blocks k [] in
     let expanded = c.self.invariant.expanded in
-    let holds = holds_round key.round_keys.now words (nr + 1) in
+    let holds = holds_round key.round_keys.now words (nr + 1) k in
     let same_keys = map-id key.round_keys.now in
     c.unpack.ensures k hk
     ∙ sym (ap (λ ps. block_at place_of_four ps k) (map-id c.last_round.result))
-    ∙ c.last_round.ensures words nr (holds nr expanded (omega arith)) k hk
+    ∙ c.last_round.ensures k hk words nr (holds nr expanded (omega arith) (omega arith))
     ∙ ap (λ s. add_round_key words nr (shift_rows (sub_bytes s)))
-    (c.first_rounds-state.ensures words (λ j lt. rw same_keys (holds j expanded (omega arith))) k hk)
+    (c.first_rounds-state.ensures k hk words (λ j lt. rw same_keys (holds j expanded (omega arith) (omega arith))))
     ∙ ap (λ ps. cipher words nr (block_at place_of_four ps k)) (map-id c.pack.result)
     ∙ packed_block place_of_four c.pack.result block words nr k (λ j lt.
     let at_block : place_of_four k j / 16 ≡ k = omega arith in

@@ -7,6 +7,6 @@ abbrev pub invariant-loop-round : goal.invariant-loop-round
 invariant-loop-round g l =
     let t = g.P.Plane in
     let keys = map g.K.RoundKeyPlanes.held l.round_keys in
-    (w : List (List ℕ)) → ((j : ℕ) → j < l.last → HoldsRound t.place (t.width / 16) w j (slice_index_or keys j []))
-    → (k : ℕ) → k < t.width / 16
+    (k : ℕ) → k < t.width / 16 → (w : List (List ℕ))
+    → ((j : ℕ) → j < l.last → HoldsRound t.place k w j (slice_index_or keys j []))
     → block_at t.place (map t.number l.state) k ≡ rounds w (block_at t.place (map t.number l.fn.planes) k) (l.round - 1)
