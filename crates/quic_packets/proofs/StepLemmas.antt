@@ -1,11 +1,12 @@
--- The packet at a byte of a datagram, and the step past one that a receiver has tried.
-use Rattle.std.proofs.Common.{◌≡◌, ℕ, ◌+◌, ◌-◌, ◌<◌, ◌≤◌, ◌↔◌, ◌⊎◌, Bool, true, false, List, length, Option, None, Some, Ok, Err, Result, OnErr, IsErrOf, IfErr, IfSome, IsSome, is_some, if◌then◌else◌, unwrap_or, slice_index, refl, sym, ap, subst, ◌∙◌}
-use Rattle.quic_packets.specs.Connection.{Connection, IsGiven, IsOpening, IsOwn, IsPacketAt, IsTried, end_of, incoming_of, is_opened, opened_of, receiver_of, space_of, step_of}
+-- The packet at a byte of a datagram, and the step past it, whether a receiver has tried it or not.
+use Rattle.std.proofs.Common.{◌≡◌, ℕ, ◌+◌, ◌-◌, ◌<◌, ◌≤◌, ◌↔◌, ◌⊎◌, Bool, true, false, inl, inr, List, length, Option, None, Some, Ok, Err, Result, OnErr, IsErrOf, IfErr, IfSome, IsSome, is_some, if◌then◌else◌, unwrap_or, slice_index, refl, sym, ap, subst, arith, ◌∙◌}
+use Rattle.quic_packets.specs.Connection.{Connection, IfPacket, IsGiven, IsOpening, IsOwn, IsPacketAt, IsStranger, IsTried, IsUnopened, IsWithoutKeys, end_of, incoming_of, is_opened, opened_as, opened_of, packet_in, receiver_of, space_of, step_of}
 use Rattle.quic_packets.specs.Datagram.{bytes_of, number_in, packet_of}
 use Rattle.quic_packets.specs.Errors.{error_code}
 use Rattle.quic_packets.specs.Header.{HasSample}
 use Rattle.quic_packets.specs.Receiving.{Outcome, Reads, Receiver, is_of_opened}
-use Rattle.quic_packets.specs.declared.connection.incoming.Incoming.TheVariants.{Packet as PacketOf, Dropped, Ignored}
+use Rattle.quic_packets.specs.declared.connection.incoming.Incoming.{Incoming}
+use Rattle.quic_packets.specs.declared.connection.incoming.Incoming.TheVariants.{Packet as PacketOf, NoKeys, Dropped, Ignored}
 use Rattle.quic_packets.specs.declared.connection.incoming.Step.{Step}
 use Rattle.quic_packets.specs.declared.datagram.Packet.{Packet}
 use Rattle.quic_packets.specs.declared.datagram.PacketType.{PacketType}
@@ -66,6 +67,23 @@ module _ (c : Connection) (id_len : ℕ) (id datagram : List ℕ) (at : ℕ) (pa
 
   pub not_own : (IsOwn id datagram parts → ⊥) → (p : Packet) → IsPacketAt c id_len id datagram at p → ⊥
   not_own other p is = other (subst (IsOwn id datagram) (same_parts p is) is.own)
+
+  -- a packet that isn't opened
+  module _ (begins : parts.start ≡ at) (some : parts.start < parts.end) (within : parts.end ≤ length datagram) where
+    past : (i : Incoming) → IsStranger c id_len id datagram at i ⊎ IsWithoutKeys c id_len id datagram at i
+        → IsUnopened c id_len id datagram at (record { next = parts.end; incoming = i })
+    past i why = record {
+      next = sym (ap (λ p. end_of p (length datagram)) parsed);
+      moves_on = λ inside. (omega (arith, begins, some), within);
+      incoming = why;
+    }
+
+    pub past_stranger : (IsOwn id datagram parts → ⊥) → IsUnopened c id_len id datagram at (record { next = parts.end; incoming = Ignored })
+    past_stranger other = past Ignored (inl (refl, not_own other))
+
+    pub past_keyless : IsOwn id datagram parts → (IsSome (receiver_of c parts.packet_type) → ⊥)
+        → IsUnopened c id_len id datagram at (record { next = parts.end; incoming = NoKeys parts.packet_type })
+    past_keyless own none = past (NoKeys parts.packet_type) (inr (parts, record { parsed = parsed; own = own }, refl, none))
 
   -- what a receiver has tried
   module _ (c' : Connection) (new : List ℕ) (o : Result Received PacketError) (result : Result Step PacketError)
@@ -147,3 +165,58 @@ module _ (c : Connection) (id_len : ℕ) (id datagram : List ℕ) (at : ℕ) (pa
           (λ r same but. tt)
           (λ e code same but. but ∙ ap (λ f. record c { failures = f }) (same (λ refused. absurd cc)))
           (λ e none same but. tt) at_it.not_failed but)
+
+-- the step past a packet that is not opened
+module _ (c : Connection) (id_len : ℕ) (id datagram : List ℕ) (at : ℕ) (step : Step) (it : IsUnopened c id_len id datagram at step) where
+  cases : (P : Incoming → Type 0) → P Ignored → ((t : PacketType) → P (NoKeys t)) → P step.incoming
+  cases P ignored no_keys =
+      elim it.incoming [
+        | inl stranger ↦ subst P (sym stranger.0) ignored
+        | inr keyless ↦ subst P (sym keyless.2) (no_keys keyless.0.packet_type)
+      ]
+
+  pub no_packet : (P : PacketType → Received → Type 0) → IfPacket (Ok step) P
+  no_packet P = cases (λ i. IfSome (packet_in i) (λ p. P p.0 p.1)) tt (λ t. tt)
+
+  pub not_dropped : (error : PacketError) → IsGiven (Ok step) (Dropped error) → ⊥
+  not_dropped error = cases (λ i. i ≡ Dropped error → ⊥) (λ is. absurd cc) (λ t is. absurd cc)
+
+  pub not_opened : is_opened (opened_of (Ok step)) ≡ false
+  not_opened = cases (λ i. is_opened (opened_as i) ≡ false) refl (λ t. refl)
+
+  pub is_ignored : IsGiven (Ok step) Ignored ↔ ((parts : Packet) → IsPacketAt c id_len id datagram at parts → ⊥)
+  is_ignored =
+      elim it.incoming [
+        | inl stranger ↦ (λ is. stranger.1, λ none. stranger.0)
+        | inr keyless ↦ (λ is. absurd (let both : NoKeys keyless.0.packet_type ≡ Ignored = sym keyless.2 ∙ is in cc), λ none. absurd (none keyless.0 keyless.1))
+      ]
+
+  pub has_no_keys : (t : PacketType) → IsGiven (Ok step) (NoKeys t)
+      ↔ ((parts : Packet) × IsPacketAt c id_len id datagram at parts × (parts.packet_type ≡ t) × (IsSome (receiver_of c t) → ⊥))
+  has_no_keys t =
+      elim it.incoming [
+        | inl stranger ↦ (
+          λ is. absurd (let both : Ignored ≡ NoKeys t = sym stranger.0 ∙ is in cc),
+          λ d. absurd (stranger.1 d.0 d.1),
+        )
+        | inr keyless ↦ (
+          λ is. (
+            let both : NoKeys keyless.0.packet_type ≡ NoKeys t = sym keyless.2 ∙ is in
+            let same : keyless.0.packet_type ≡ t = cc in
+            (keyless.0, keyless.1, same, subst (λ t. IsSome (receiver_of c t) → ⊥) same keyless.3)
+          ),
+          λ d. (
+            let same = same_parts c id_len id datagram at keyless.0 keyless.1.parsed d.0 d.1 in
+            keyless.2 ∙ ap NoKeys (sym (ap (λ p. p.packet_type) same) ∙ d.2)
+          ),
+        )
+      ]
+
+  pub not_opening : (parts : Packet) (r : Receiver) → IsOpening c id_len id datagram at parts r → ⊥
+  not_opening parts r opening =
+      elim it.incoming [
+        | inl stranger ↦ stranger.1 parts opening.packet
+        | inr keyless ↦
+          let same = same_parts c id_len id datagram at keyless.0 keyless.1.parsed parts opening.packet in
+          keyless.3 (subst (λ p. IsSome (receiver_of c p.packet_type)) same (subst IsSome (sym opening.receiver) refl))
+      ]

@@ -1,6 +1,6 @@
 -- One end of a connection: its levels, and what becomes of a packet that it receives (RFC 9000 sections 12.2 and 12.3, RFC 9001
 -- sections 4.9, 5.7 and 6).
-use Rattle.std.specs.Prelude.{◌≡◌, ℕ, ◌+◌, ◌-◌, ◌<◌, ◌≤◌, ◌↔◌, Bool, true, false, if◌then◌else◌, List, length, slice_range, Option, None, Some, is_some, IfSome, Result, Ok, Err, IsOkAnd, IfOk, IfErr, IsErrOf, OnErr}
+use Rattle.std.specs.Prelude.{◌≡◌, ℕ, ◌+◌, ◌-◌, ◌<◌, ◌≤◌, ◌↔◌, ◌⊎◌, Bool, true, false, if◌then◌else◌, List, length, slice_range, Option, None, Some, is_some, IsSome, IfSome, Result, Ok, Err, IsOkAnd, IfOk, IfErr, IsErrOf, OnErr}
 use Rattle.quic_packets.specs.Datagram.{KeepsOutside, bytes_of, next_after, number_in, packet_of}
 use Rattle.quic_packets.specs.Ends.{Ends, following, kept_back, phase_of, renewed, sent, with_next_key}
 use Rattle.quic_packets.specs.Errors.{error_code}
@@ -12,7 +12,7 @@ use Rattle.quic_packets.specs.Space.{IsNew, Marks, Space}
 use Rattle.quic_packets.specs.declared.connection.Level.{Level}
 use Rattle.quic_packets.specs.declared.connection.Level.TheVariants.{Initial as InitialLevel, Handshake as HandshakeLevel, OneRtt as OneRttLevel}
 use Rattle.quic_packets.specs.declared.connection.incoming.Incoming.{Incoming}
-use Rattle.quic_packets.specs.declared.connection.incoming.Incoming.TheVariants.{Packet as PacketOf, Dropped}
+use Rattle.quic_packets.specs.declared.connection.incoming.Incoming.TheVariants.{Packet as PacketOf, NoKeys, Dropped, Ignored}
 use Rattle.quic_packets.specs.declared.connection.incoming.Step.{Step}
 use Rattle.quic_packets.specs.declared.datagram.DatagramError.{DatagramError}
 use Rattle.quic_packets.specs.declared.datagram.Packet.{Packet}
@@ -119,10 +119,34 @@ pub record IsOpening (c : Connection) (id_len : ℕ) (id datagram : List ℕ) (a
   pub packet : IsPacketAt c id_len id datagram at parts
   pub receiver : receiver_of c parts.packet_type ≡ Some r
 
+-- the packet with these parts is the connection's, and the receiver of its type is there. Its place is that of each packet that is
+-- read.
+pub record IsToOpen (c : Connection) (id_len : ℕ) (id datagram : List ℕ) (at : ℕ) (parts : Packet) : Type 0 where
+  pub packet : IsPacketAt c id_len id datagram at parts
+  pub receiver : IsSome (receiver_of c parts.packet_type)
+  pub begins : parts.start ≡ at
+  pub some : parts.start < parts.end
+  pub within : parts.end ≤ length datagram
+
 -- where the packet after one that is parsed, or that isn't, begins
 abbrev pub end_of : Result Packet DatagramError → (len : ℕ) → ℕ
 end_of (Ok parts) len = parts.end
 end_of (Err error) len = next_after error len
+
+-- a packet that is not the connection's is ignored
+abbrev pub IsStranger : (c : Connection) (id_len : ℕ) (id datagram : List ℕ) (at : ℕ) → Incoming → Type 0
+IsStranger c id_len id datagram at incoming = (incoming ≡ Ignored) × ((parts : Packet) → ¬ IsPacketAt c id_len id datagram at parts)
+
+-- the keys of a packet of the connection are not there
+abbrev pub IsWithoutKeys : (c : Connection) (id_len : ℕ) (id datagram : List ℕ) (at : ℕ) → Incoming → Type 0
+IsWithoutKeys c id_len id datagram at incoming = (parts : Packet) × IsPacketAt c id_len id datagram at parts
+    × (incoming ≡ NoKeys parts.packet_type) × ¬ IsSome (receiver_of c parts.packet_type)
+
+-- the step past a packet that is not opened
+pub record IsUnopened (c : Connection) (id_len : ℕ) (id datagram : List ℕ) (at : ℕ) (step : Step) : Type 0 where
+  pub next : step.next ≡ end_of (packet_of c.fixed_bit id_len datagram at) (length datagram)
+  pub moves_on : at < length datagram → (at < step.next) × (step.next ≤ length datagram)
+  pub incoming : IsStranger c id_len id datagram at step.incoming ⊎ IsWithoutKeys c id_len id datagram at step.incoming
 
 -- The result.
 

@@ -6,7 +6,7 @@
 
 ghost use Rattle.std.specs.Prelude.{◌≡◌, ℕ, List, ◌+◌, ◌-◌, ◌^◌, ◌<◌, ◌≤◌, ◌↔◌, ◌⊎◌, ◌&&◌, false, true, min, length, slice_index, if◌then◌else◌, Some, None, IsFalse, IsTrue, IsSome, IfSome, IsOk, IfOk, IfErr, IsErrOf, OnOk, OnErr, unwrap_or, is_some};
 ghost use Rattle.std.specs.Option.{option_copied};
-ghost use Rattle.quic_packets.specs.Connection.{IfPacket, IsGiven, IsOpening, IsOwn, IsPacketAt, IsReceiving, IsTried, end_of, ends_of, has_keys, after_sending, kept_at, is_one_rtt, is_opened, opened_of, packet_in, receiver_of, sender_after, space_of, with_ends, with_receiver, with_sender};
+ghost use Rattle.quic_packets.specs.Connection.{IfPacket, IsGiven, IsOpening, IsOwn, IsPacketAt, IsReceiving, IsToOpen, IsTried, IsUnopened, end_of, ends_of, has_keys, after_sending, kept_at, is_one_rtt, is_opened, opened_of, packet_in, receiver_of, sender_after, space_of, with_ends, with_receiver, with_sender};
 ghost use Rattle.quic_packets.specs.Datagram.{bytes_of, number_in, packet_of};
 ghost use Rattle.quic_packets.specs.Ends.{Refuses, confirmed, forgotten, initiated, installed, is_confirmed, left, may_update, no_ends, prepared, sent};
 ghost use Rattle.quic_packets.specs.Errors.{error_code};
@@ -401,30 +401,49 @@ impl Connection {
         if self.failures.is_at_limit() {
             return Err(PacketError::TooManyFailures);
         }
+        match self.parts_to_open(datagram, at, id_len, id) {
+            Ok(parts) => {
+                let opened = self.open(datagram, &parts);
+                step_of(parts.end, parts.packet_type, opened)
+            }
+            Err(step) => Ok(step),
+        }
+    }
+
+    // The parts of the packet to open, or else the step past it.
+    fn parts_to_open(
+        &self,
+        datagram: &[u8],
+        at: usize,
+        id_len: usize,
+        id: &[u8],
+    ) -> Result<Packet, Step>
+        ensures to_open { IfOk result (IsToOpen self.now id_len id.now datagram.now at) }
+        ensures unopened { IfErr result (IsUnopened self.now id_len id.now datagram.now at) }
+    {
         let packet = packet_at(datagram, at, id_len, self.fixed_bit);
         let Ok(parts) = packet else {
             let next = end_of(&packet, datagram.len());
-            return Ok(Step {
+            return Err(Step {
                 next,
                 incoming: Incoming::Ignored,
             });
         };
         let next = parts.end;
         if !is_own(datagram, &parts, id) {
-            return Ok(Step {
+            return Err(Step {
                 next,
                 incoming: Incoming::Ignored,
             });
         }
         let packet_type = parts.packet_type;
         if !self.has_receiver(packet_type) {
-            return Ok(Step {
+            return Err(Step {
                 next,
                 incoming: Incoming::NoKeys(packet_type),
             });
         }
-        let opened = self.open(datagram, &parts);
-        step_of(next, packet_type, opened)
+        Ok(parts)
     }
 
     // Whether the receiver of packets of a type is there.

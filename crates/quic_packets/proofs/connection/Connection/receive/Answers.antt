@@ -1,138 +1,124 @@
-use Rattle.std.proofs.Common.{rules, ◌≡◌, length, Ok, Some, IsSome, refl, sym, ap, subst, ◌∙◌}
-use Rattle.quic_packets.specs.Connection.{IsOwn, IsReceiving, end_of, receiver_of}
-use Rattle.quic_packets.specs.Datagram.{packet_of}
-use Rattle.quic_packets.specs.declared.connection.incoming.Incoming.TheVariants.{NoKeys as NoKeysOf}
+use Rattle.std.proofs.Common.{rules, ◌≡◌, ◌<◌, refl}
 use Rattle.quic_packets.proofs.StepLemmas as lemmas
 use Rattle.quic_packets.proofs.connection.Connection.receive.Goals as goal
 
-pub returns-then-not-is_own-clause-ignored : goal.returns-then-not-is_own-clause-ignored
-returns-then-not-is_own-clause-ignored c =
+pub returns-in-Err-clause-ignored : goal.returns-in-Err-clause-ignored
+returns-in-Err-clause-ignored c =
     let a = c.args in
-    let parsed : packet_of a.self.now.fixed_bit a.id_len a.datagram.now a.at ≡ Ok c.in-Ok.parts = rw (← c.self.view_is) (sym c.in-Ok.ensures.packet) in
-    let receiving : IsReceiving a.self.now = search rules in
-    let no : IsOwn a.id.now a.datagram.now c.in-Ok.parts → ⊥ = search rules in
-    (λ _. (receiving, lemmas.not_own a.self.now a.id_len a.id.now a.datagram.now a.at c.in-Ok.parts parsed no), λ _. refl)
+    let it = lemmas.is_ignored a.self.now a.id_len a.id.now a.datagram.now a.at c.in-Err.step c.in-Err.ensures.unopened in
+    (λ e. (search rules, it.0 e), λ d. it.1 d.1)
 
-pub returns-then-not-is_own-clause-no_keys : goal.returns-then-not-is_own-clause-no_keys
-returns-then-not-is_own-clause-no_keys c t =
+pub returns-in-Err-clause-no_keys : goal.returns-in-Err-clause-no_keys
+returns-in-Err-clause-no_keys c t =
     let a = c.args in
-    let parsed : packet_of a.self.now.fixed_bit a.id_len a.datagram.now a.at ≡ Ok c.in-Ok.parts = rw (← c.self.view_is) (sym c.in-Ok.ensures.packet) in
-    let no : IsOwn a.id.now a.datagram.now c.in-Ok.parts → ⊥ = search rules in
-    (λ e. absurd cc, λ d. absurd (lemmas.not_own a.self.now a.id_len a.id.now a.datagram.now a.at c.in-Ok.parts parsed no d.1.0 d.1.1))
+    let it = lemmas.has_no_keys a.self.now a.id_len a.id.now a.datagram.now a.at c.in-Err.step c.in-Err.ensures.unopened t in
+    (λ e. (search rules, it.0 e), λ d. it.1 d.1)
 
-pub returns-then-not-is_own-clause-no_sample : goal.returns-then-not-is_own-clause-no_sample
-returns-then-not-is_own-clause-no_sample c p r opening =
+pub returns-in-Err-clause-no_sample : goal.returns-in-Err-clause-no_sample
+returns-in-Err-clause-no_sample c parts r opening =
     let a = c.args in
-    let parsed : packet_of a.self.now.fixed_bit a.id_len a.datagram.now a.at ≡ Ok c.in-Ok.parts = rw (← c.self.view_is) (sym c.in-Ok.ensures.packet) in
-    let no : IsOwn a.id.now a.datagram.now c.in-Ok.parts → ⊥ = search rules in
-    absurd (lemmas.not_own a.self.now a.id_len a.id.now a.datagram.now a.at c.in-Ok.parts parsed no p opening.packet)
+    absurd (lemmas.not_opening a.self.now a.id_len a.id.now a.datagram.now a.at c.in-Err.step c.in-Err.ensures.unopened parts r opening)
 
-pub returns-then-not-has_receiver-clause-next : goal.returns-then-not-has_receiver-clause-next
-returns-then-not-has_receiver-clause-next c =
+pub returns-in-Err-clause-outcome : goal.returns-in-Err-clause-outcome
+returns-in-Err-clause-outcome c parts r opening sample =
     let a = c.args in
-    let parsed : packet_of a.self.now.fixed_bit a.id_len a.datagram.now a.at ≡ Ok c.in-Ok.parts = rw (← c.self.view_is) (sym c.in-Ok.ensures.packet) in
-    sym (ap (λ p. end_of p (length a.datagram.now)) parsed)
+    absurd (lemmas.not_opening a.self.now a.id_len a.id.now a.datagram.now a.at c.in-Err.step c.in-Err.ensures.unopened parts r opening)
 
-pub returns-then-not-has_receiver-clause-ignored : goal.returns-then-not-has_receiver-clause-ignored
-returns-then-not-has_receiver-clause-ignored c =
+pub returns-in-Err-clause-packet_type : goal.returns-in-Err-clause-packet_type
+returns-in-Err-clause-packet_type c parts is =
     let a = c.args in
-    let parsed : packet_of a.self.now.fixed_bit a.id_len a.datagram.now a.at ≡ Ok c.in-Ok.parts = rw (← c.self.view_is) (sym c.in-Ok.ensures.packet) in
-    let own : IsOwn a.id.now a.datagram.now c.in-Ok.parts = search rules in
-    (λ e. absurd cc, λ d. absurd (d.1 c.in-Ok.parts (record { parsed = parsed; own = own })))
+    lemmas.no_packet a.self.now a.id_len a.id.now a.datagram.now a.at c.in-Err.step c.in-Err.ensures.unopened _
 
-pub returns-then-not-has_receiver-clause-no_keys : goal.returns-then-not-has_receiver-clause-no_keys
-returns-then-not-has_receiver-clause-no_keys c t =
+pub returns-in-Err-clause-payload : goal.returns-in-Err-clause-payload
+returns-in-Err-clause-payload c =
+    let a = c.args in
+    lemmas.no_packet a.self.now a.id_len a.id.now a.datagram.now a.at c.in-Err.step c.in-Err.ensures.unopened _
+
+pub returns-in-Err-clause-marked : goal.returns-in-Err-clause-marked
+returns-in-Err-clause-marked c =
+    let a = c.args in
+    lemmas.no_packet a.self.now a.id_len a.id.now a.datagram.now a.at c.in-Err.step c.in-Err.ensures.unopened _
+
+pub returns-in-Err-clause-followed : goal.returns-in-Err-clause-followed
+returns-in-Err-clause-followed c =
+    let a = c.args in
+    lemmas.no_packet a.self.now a.id_len a.id.now a.datagram.now a.at c.in-Err.step c.in-Err.ensures.unopened _
+
+pub returns-in-Err-clause-received : goal.returns-in-Err-clause-received
+returns-in-Err-clause-received c =
+    let a = c.args in
+    lemmas.no_packet a.self.now a.id_len a.id.now a.datagram.now a.at c.in-Err.step c.in-Err.ensures.unopened _
+
+pub returns-in-Err-clause-receiver : goal.returns-in-Err-clause-receiver
+returns-in-Err-clause-receiver c =
+    let a = c.args in
+    lemmas.no_packet a.self.now a.id_len a.id.now a.datagram.now a.at c.in-Err.step c.in-Err.ensures.unopened _
+
+pub returns-in-Err-clause-failed : goal.returns-in-Err-clause-failed
+returns-in-Err-clause-failed c is =
+    let a = c.args in
+    absurd (lemmas.not_dropped a.self.now a.id_len a.id.now a.datagram.now a.at c.in-Err.step c.in-Err.ensures.unopened _ is)
+
+pub returns-in-Ok-clause-ignored : goal.returns-in-Ok-clause-ignored
+returns-in-Ok-clause-ignored c =
     let a = c.args in
     let p = c.in-Ok.parts in
-    let parsed : packet_of a.self.now.fixed_bit a.id_len a.datagram.now a.at ≡ Ok p = rw (← c.self.view_is) (sym c.in-Ok.ensures.packet) in
-    let receiving : IsReceiving a.self.now = search rules in
-    let own : IsOwn a.id.now a.datagram.now p = search rules in
-    let none : IsSome (receiver_of a.self.now p.packet_type) → ⊥ = search rules in (
-      λ e. (
-          let same : p.packet_type ≡ t = cc in
-          (receiving, (p, record { parsed = parsed; own = own }, same, subst (λ u. IsSome (receiver_of a.self.now u) → ⊥) same none))
-          ),
-      λ d. (
-          let same = lemmas.same_parts a.self.now a.id_len a.id.now a.datagram.now a.at p parsed d.1.0 d.1.1 in
-          ap NoKeysOf (sym (ap (λ q. q.packet_type) same) ∙ d.1.2)
-          ),
-    )
-
-pub returns-then-not-has_receiver-clause-no_sample : goal.returns-then-not-has_receiver-clause-no_sample
-returns-then-not-has_receiver-clause-no_sample c p r opening =
-    let a = c.args in
-    let parts = c.in-Ok.parts in
-    let parsed : packet_of a.self.now.fixed_bit a.id_len a.datagram.now a.at ≡ Ok parts = rw (← c.self.view_is) (sym c.in-Ok.ensures.packet) in
-    let none : IsSome (receiver_of a.self.now parts.packet_type) → ⊥ = search rules in
-    let same = lemmas.same_parts a.self.now a.id_len a.id.now a.datagram.now a.at parts parsed p opening.packet in
-    let there = subst (λ q. receiver_of a.self.now q.packet_type ≡ Some r) same opening.receiver in
-    absurd (none (subst IsSome (sym there) refl))
-
-pub returns-clause-ignored : goal.returns-clause-ignored
-returns-clause-ignored c =
-    let a = c.args in
-    let p = c.in-Ok.parts in
-    let parsed : packet_of a.self.now.fixed_bit a.id_len a.datagram.now a.at ≡ Ok p = rw (← c.self.view_is) (sym c.in-Ok.ensures.packet) in
-    let own : IsOwn a.id.now a.datagram.now p = search rules in
+    let it = c.in-Ok.ensures.to_open in
     rw c.step_of.ensures (
       λ e. absurd (lemmas.not_ignored p.end p.packet_type c.open-opened.result e),
-      λ d. absurd (d.1 p (record { parsed = parsed; own = own })),
+      λ d. absurd (d.1 p it.packet),
     )
 
-pub returns-clause-no_sample : goal.returns-clause-no_sample
-returns-clause-no_sample c =
+pub returns-in-Ok-clause-no_sample : goal.returns-in-Ok-clause-no_sample
+returns-in-Ok-clause-no_sample c =
     let a = c.args in
     let p = c.in-Ok.parts in
     let o = c.open-opened in
-    let parsed : packet_of a.self.now.fixed_bit a.id_len a.datagram.now a.at ≡ Ok p = rw (← c.self.view_is) (sym c.in-Ok.ensures.packet) in
-    lemmas.sampled a.self.now a.id_len a.id.now a.datagram.now a.at p parsed o.new.self o.new.datagram o.result c.step_of.result
-    c.in-Ok.ensures.within c.step_of.ensures o.ensures.some o.ensures.tried
+    let it = c.in-Ok.ensures.to_open in
+    lemmas.sampled a.self.now a.id_len a.id.now a.datagram.now a.at p it.packet.parsed o.new.self o.new.datagram o.result c.step_of.result
+    it.within c.step_of.ensures o.ensures.some o.ensures.tried
 
-pub returns-clause-outcome : goal.returns-clause-outcome
-returns-clause-outcome c =
+pub returns-in-Ok-clause-outcome : goal.returns-in-Ok-clause-outcome
+returns-in-Ok-clause-outcome c =
     let a = c.args in
     let p = c.in-Ok.parts in
     let o = c.open-opened in
-    let parsed : packet_of a.self.now.fixed_bit a.id_len a.datagram.now a.at ≡ Ok p = rw (← c.self.view_is) (sym c.in-Ok.ensures.packet) in
-    lemmas.outcome a.self.now a.id_len a.id.now a.datagram.now a.at p parsed o.new.self o.new.datagram o.result c.step_of.result
-    c.in-Ok.ensures.within c.step_of.ensures o.ensures.some o.ensures.tried
+    let it = c.in-Ok.ensures.to_open in
+    lemmas.outcome a.self.now a.id_len a.id.now a.datagram.now a.at p it.packet.parsed o.new.self o.new.datagram o.result c.step_of.result
+    it.within c.step_of.ensures o.ensures.some o.ensures.tried
 
-pub returns-clause-not_failed : goal.returns-clause-not_failed
-returns-clause-not_failed c =
+pub returns-in-Ok-clause-not_failed : goal.returns-in-Ok-clause-not_failed
+returns-in-Ok-clause-not_failed c =
     let a = c.args in
     let p = c.in-Ok.parts in
     let o = c.open-opened in
-    let parsed : packet_of a.self.now.fixed_bit a.id_len a.datagram.now a.at ≡ Ok p = rw (← c.self.view_is) (sym c.in-Ok.ensures.packet) in
-    let held : IsSome (receiver_of a.self.now p.packet_type) = search rules in
-    lemmas.not_failed a.self.now a.id_len a.id.now a.datagram.now a.at p parsed o.new.self o.new.datagram o.result c.step_of.result
-    c.in-Ok.ensures.within c.step_of.ensures o.ensures.some o.ensures.tried held
+    let it = c.in-Ok.ensures.to_open in
+    lemmas.not_failed a.self.now a.id_len a.id.now a.datagram.now a.at p it.packet.parsed o.new.self o.new.datagram o.result c.step_of.result
+    it.within c.step_of.ensures o.ensures.some o.ensures.tried it.receiver
 
-pub returns-clause-kept : goal.returns-clause-kept
-returns-clause-kept c =
+pub returns-in-Ok-clause-kept : goal.returns-in-Ok-clause-kept
+returns-in-Ok-clause-kept c =
     let a = c.args in
     let p = c.in-Ok.parts in
     let o = c.open-opened in
-    let parsed : packet_of a.self.now.fixed_bit a.id_len a.datagram.now a.at ≡ Ok p = rw (← c.self.view_is) (sym c.in-Ok.ensures.packet) in
-    let held : IsSome (receiver_of a.self.now p.packet_type) = search rules in
-    lemmas.kept a.self.now a.id_len a.id.now a.datagram.now a.at p parsed o.new.self o.new.datagram o.result c.step_of.result
-    c.in-Ok.ensures.within c.step_of.ensures o.ensures.some o.ensures.tried held o.ensures.kept
+    let it = c.in-Ok.ensures.to_open in
+    lemmas.kept a.self.now a.id_len a.id.now a.datagram.now a.at p it.packet.parsed o.new.self o.new.datagram o.result c.step_of.result
+    it.within c.step_of.ensures o.ensures.some o.ensures.tried it.receiver o.ensures.kept
 
-pub returns-clause-bytes_kept : goal.returns-clause-bytes_kept
-returns-clause-bytes_kept c =
+pub returns-in-Ok-clause-bytes_kept : goal.returns-in-Ok-clause-bytes_kept
+returns-in-Ok-clause-bytes_kept c =
     let a = c.args in
     let p = c.in-Ok.parts in
     let o = c.open-opened in
-    let parsed : packet_of a.self.now.fixed_bit a.id_len a.datagram.now a.at ≡ Ok p = rw (← c.self.view_is) (sym c.in-Ok.ensures.packet) in
-    let held : IsSome (receiver_of a.self.now p.packet_type) = search rules in
-    lemmas.bytes_kept a.self.now a.id_len a.id.now a.datagram.now a.at p parsed o.new.self o.new.datagram o.result c.step_of.result
-    c.in-Ok.ensures.within c.step_of.ensures o.ensures.some o.ensures.tried held
+    let it = c.in-Ok.ensures.to_open in
+    lemmas.bytes_kept a.self.now a.id_len a.id.now a.datagram.now a.at p it.packet.parsed o.new.self o.new.datagram o.result c.step_of.result
+    it.within c.step_of.ensures o.ensures.some o.ensures.tried it.receiver
 
-pub returns-clause-outside : goal.returns-clause-outside
-returns-clause-outside c =
+pub returns-in-Ok-clause-outside : goal.returns-in-Ok-clause-outside
+returns-in-Ok-clause-outside c =
     let a = c.args in
     let p = c.in-Ok.parts in
     let o = c.open-opened in
-    let parsed : packet_of a.self.now.fixed_bit a.id_len a.datagram.now a.at ≡ Ok p = rw (← c.self.view_is) (sym c.in-Ok.ensures.packet) in
-    let held : IsSome (receiver_of a.self.now p.packet_type) = search rules in
-    lemmas.outside a.self.now a.id_len a.id.now a.datagram.now a.at p parsed o.new.self o.new.datagram o.result c.step_of.result
-    c.in-Ok.ensures.within c.step_of.ensures o.ensures.some o.ensures.tried held c.in-Ok.ensures.start
+    let it = c.in-Ok.ensures.to_open in
+    lemmas.outside a.self.now a.id_len a.id.now a.datagram.now a.at p it.packet.parsed o.new.self o.new.datagram o.result c.step_of.result
+    it.within c.step_of.ensures o.ensures.some o.ensures.tried it.receiver it.begins
