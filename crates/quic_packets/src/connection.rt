@@ -475,19 +475,36 @@ impl Connection {
             } }
         ensures kept { OnErr result (self.new ≡ record self.old { failures = self.new.failures }) }
     {
-        let failures = &mut self.failures;
         match parts.packet_type {
-            PacketType::Initial => self.initial.open(failures, datagram, parts),
-            PacketType::Handshake => self.handshake.open(failures, datagram, parts),
-            PacketType::OneRtt => self.one_rtt.open_one_rtt(failures, datagram, parts),
-            PacketType::ZeroRtt => {
-                let Some(receiver) = &mut self.zero_rtt else {
-                    unreachable!();
-                };
-                self.one_rtt.open_with(receiver, failures, datagram, parts)
-            }
+            PacketType::Initial => self.initial.open(&mut self.failures, datagram, parts),
+            PacketType::Handshake => self.handshake.open(&mut self.failures, datagram, parts),
+            PacketType::OneRtt => self.one_rtt.open_one_rtt(&mut self.failures, datagram, parts),
+            PacketType::ZeroRtt => self.open_zero_rtt(datagram, parts),
             _ => unreachable!(),
         }
+    }
+
+    // Opens a packet with the receiver of 0-RTT packets, which shares the space of 1-RTT packets.
+    fn open_zero_rtt(
+        &mut self,
+        datagram: &mut [u8],
+        parts: &Packet,
+    ) -> Result<Received, PacketError>
+        requires { IsSome self.old.zero_rtt }
+        ensures tried { IfSome self.old.zero_rtt (λ r. IfSome self.new.zero_rtt (λ r'. IsTried r self.old.one_rtt.space
+            self.old.failures parts.now datagram.old result r' self.new.one_rtt.space self.new.failures datagram.new)) }
+        ensures some { IsSome self.new.zero_rtt }
+        ensures received { self.new ≡ record self.old {
+          zero_rtt = self.new.zero_rtt;
+          one_rtt = record self.old.one_rtt { space = self.new.one_rtt.space };
+          failures = self.new.failures;
+        } }
+        ensures kept { OnErr result (self.new ≡ record self.old { failures = self.new.failures }) }
+    {
+        let Some(receiver) = &mut self.zero_rtt else {
+            unreachable!();
+        };
+        self.one_rtt.open_with(receiver, &mut self.failures, datagram, parts)
     }
 }
 
