@@ -5,13 +5,15 @@ use Rattle.std.proofs.lemmas.Nat.{one_shl, pow_pos}
 use Rattle.std.proofs.lemmas.Bool.{cond_both, ltb-false}
 use Rattle.std.specs.Int.Digits.{number_from_digits}
 use Rattle.std.proofs.Math.Nat.{le-max_left}
-use Rattle.std.specs.Prelude.{Err, IfOk, IfSome, Ok, Result, length, nat_lt, ◌==◌, if◌then◌else◌}
+use Rattle.std.specs.Prelude.{Err, IfOk, IfSome, IsErrOf, Ok, Result, false, length, nat_lt, slice_index, ◌==◌, if◌then◌else◌}
 use Rattle.std.specs.declared.ops.Range.{Range}
-use Rattle.quic_packets.specs.Datagram.{IsIn, IsPlaced, has_long_id, initial_token, long_packet, numbered_layout, opaque_layout, parts_of, retry_layout, short_layout, source_end, span, varint, version_1_layout, version_of, versioned_layout, whole}
+use Rattle.quic_packets.specs.Datagram.{IsIn, IsPlaced, has_long_id, initial_token, long_packet, numbered_layout, opaque_layout, parts_of, retry_layout, short_layout, source_end, span, varint, version_1_layout, version_of, versioned_layout, whole, with_fixed_bit}
 use Rattle.quic_packets.specs.declared.datagram.DatagramError.{DatagramError}
 use Rattle.quic_packets.specs.declared.datagram.PacketType.{PacketType}
 use Rattle.quic_packets.specs.declared.datagram.PacketType.TheVariants.{Initial, ZeroRtt, Handshake, VersionNegotiation, OtherVersion}
-use Rattle.quic_packets.specs.declared.datagram.DatagramError.TheVariants.{Cut, IdTooLong}
+use Rattle.quic_packets.specs.FixedBit.{lacks_fixed_bit}
+use Rattle.quic_packets.specs.declared.fixed_bit.FixedBit.{FixedBit}
+use Rattle.quic_packets.specs.declared.datagram.DatagramError.TheVariants.{Cut, IdTooLong, NoFixedBit}
 use Rattle.quic_packets.specs.declared.datagram.Packet.{Packet}
 
 pub power_below : (i j : ℕ) → i ≤ j → 256 ^ i ≤ 256 ^ j
@@ -140,3 +142,29 @@ packet_placed id_len d start =
     (λ e. whole_placed start d (short_layout id_len d start) (short_laid id_len d start))
     (λ e. cond_both (has_long_id d start) (Err IdTooLong) (whole d (versioned_layout d start)) (Placed start d)
     (λ e. tt) (λ e. whole_placed start d (versioned_layout d start) (versioned_laid d start)))
+
+-- a packet that is rejected if its fixed bit is 0 and must be 1
+module _ (fixed_bit : FixedBit) (start : ℕ) (d : List ℕ) (p : Packet) (read : Result Packet DatagramError) (placed : IsPlaced start d p)
+    (is : read ≡ with_fixed_bit fixed_bit (slice_index d p.start) (Ok p)) where
+  cases : (P : Result Packet DatagramError → Type 0) → P (Err (NoFixedBit p.end))
+      → (lacks_fixed_bit fixed_bit p.version (slice_index d p.start) ≡ false → P (Ok p)) → P read
+  cases P lacking passed =
+      subst P (sym is)
+      (cond_both (lacks_fixed_bit fixed_bit p.version (slice_index d p.start)) (Err (NoFixedBit p.end)) (Ok p) P (λ lacks. lacking) passed)
+
+  pub checked : IfOk read (λ packet. lacks_fixed_bit fixed_bit packet.version (slice_index d start) ≡ false)
+  checked =
+      subst (λ s. IfOk read (λ packet. lacks_fixed_bit fixed_bit packet.version (slice_index d s) ≡ false)) placed.begins
+      (cases (λ read. IfOk read (λ packet. lacks_fixed_bit fixed_bit packet.version (slice_index d p.start) ≡ false)) tt (λ none. none))
+
+  pub passed : (P : Packet → Type 0) → P p → IfOk read P
+  passed P it = cases (λ read. IfOk read P) tt (λ none. it)
+
+  pub end_within : (end : ℕ) → IsErrOf read (NoFixedBit end) → (start < end) × (end ≤ length d)
+  end_within end =
+      cases (λ read. IsErrOf read (NoFixedBit end) → (start < end) × (end ≤ length d))
+      (λ is. (let same : p.end ≡ end = cc in (omega (arith, same, placed.begins, placed.some), omega (arith, same, placed.within))))
+      (λ none is. absurd cc)
+
+  pub of_parts : (parts : Result Packet DatagramError) → Ok p ≡ parts → read ≡ with_fixed_bit fixed_bit (slice_index d start) parts
+  of_parts parts same = is ∙ ap (λ s. with_fixed_bit fixed_bit (slice_index d s) (Ok p)) placed.begins ∙ ap (with_fixed_bit fixed_bit (slice_index d start)) same

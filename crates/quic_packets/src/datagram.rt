@@ -1,10 +1,10 @@
 //! The packets of a datagram: the position of each part, before any protection is removed (RFC 9000 sections 12.2 and 17).
 
-ghost use Rattle.std.specs.Prelude.{◌≡◌, ℕ, ◌+◌, ◌-◌, ◌^◌, ◌<◌, ◌≤◌, ◌↔◌, false, if◌then◌else◌, length, slice_index, IsOk, IsErr, IfOk, IfErr, IsErrOf, IfSome, MatchOption};
+ghost use Rattle.std.specs.Prelude.{◌≡◌, ℕ, ◌+◌, ◌-◌, ◌^◌, ◌<◌, ◌≤◌, ◌↔◌, false, if◌then◌else◌, length, slice_index, Ok, IsOk, IsErr, IfOk, IfErr, IsErrOf, IfSome, MatchOption};
 ghost use Rattle.std.specs.Int.Digits.{number_from_digits};
 ghost use Rattle.quic_packets.specs.declared.datagram.DatagramError.TheVariants.{Cut, IdTooLong};
 ghost use Rattle.quic_packets.specs.declared.datagram.PacketType.TheVariants.{Initial};
-ghost use Rattle.quic_packets.specs.Datagram.{IsIn, IsPlaced, has_long_id, id_end, initial_token, long_layout, long_packet, numbered_layout, packet_of, parts_of, retry_layout, short_layout, source_end, varint, varint_end, version_1_layout, version_of, versioned_layout, whole};
+ghost use Rattle.quic_packets.specs.Datagram.{IsIn, IsPlaced, has_long_id, id_end, initial_token, long_layout, long_packet, numbered_layout, packet_of, parts_of, retry_layout, short_layout, source_end, varint, varint_end, version_1_layout, version_of, versioned_layout, whole, with_fixed_bit};
 ghost use Rattle.quic_packets.specs.FixedBit.{lacks_fixed_bit};
 
 use crate::fixed_bit::FixedBit;
@@ -101,7 +101,19 @@ pub fn packet_at(
         × IsIn packet packet.token) }
 {
     let packet = parts_at(datagram, start, connection_id_len)?;
-    if fixed_bit.is_lacking(packet.version, datagram[start]) {
+    with_fixed_bit(datagram, packet, fixed_bit)
+}
+
+// The packet, unless its fixed bit is 0 and must be 1.
+fn with_fixed_bit(
+    datagram: &[u8],
+    packet: Packet,
+    fixed_bit: FixedBit,
+) -> Result<Packet, DatagramError>
+    requires { packet.start < length datagram.now }
+    ensures { result ≡ with_fixed_bit fixed_bit (slice_index datagram.now packet.start) (Ok packet) }
+{
+    if fixed_bit.is_lacking(packet.version, datagram[packet.start]) {
         return Err(DatagramError::NoFixedBit { end: packet.end });
     }
     Ok(packet)
