@@ -2,7 +2,6 @@
 
 use crate::checks::displays;
 use key_derivation::DerivationError;
-use std::test::Fail;
 
 const ERRORS: [(DerivationError, &str); 7] = [
     (
@@ -36,9 +35,8 @@ const ERRORS: [(DerivationError, &str); 7] = [
 ];
 
 #[test]
-fn errors(rt: HostRuntime) -> Result<(), Fail> {
+fn errors(rt: HostRuntime) {
     for (error, text) in &ERRORS {
-        displays(&rt, error, text)?;
+        displays(&rt, error, text);
     }
-    Ok(())
 }

@@ -1,6 +1,7 @@
 //! HKDF by the vectors of RFC 5869, the key schedule of RFC 8448, and limits.
 
-use crate::checks::{equal, same};
+use crate::checks::{bytes_of, equal, same};
+use crate::hmac::cut;
 use key_derivation::DerivationError;
 use key_derivation::hash::Hash;
 use key_derivation::hkdf::{derive_secret, expand, expand_label, extract};
@@ -45,19 +46,27 @@ const RFC_5869: [Row; 3] = [
     },
 ];
 
+/// The output keying material of so many bytes, at most 82.
+fn okm_of(prk: &[u8], info: &[u8], len: usize) -> Result<[u8; 82], DerivationError> {
+    let mut okm = [0; 82];
+    expand::<Sha256>(prk, info, &mut okm[..usize::min(len, 82)])?;
+    Ok(okm)
+}
+
 #[test]
 fn rfc_5869(rt: HostRuntime) -> Result<(), Fail> {
     for row in &RFC_5869 {
-        let salt = hex::decode(rt.alloc(), row.salt)?;
-        let info = hex::decode(rt.alloc(), row.info)?;
-        let prk = extract::<Sha256>(&salt, &hex::decode(rt.alloc(), row.ikm)?);
-        same(&rt, &prk, row.prk, row.name)?;
-        let mut okm = [0; 82];
-        let len = usize::min(row.okm.len() / 2, 82);
-        expand::<Sha256>(&prk, &info, &mut okm[..len])?;
-        same(&rt, &okm[..len], row.okm, row.name)?;
+        let prk = extract::<Sha256>(&bytes_of(&rt, row.salt), &bytes_of(&rt, row.ikm));
+        same(&rt, &prk, row.prk, row.name);
+        let okm = okm_of(&prk, &bytes_of(&rt, row.info), row.okm.len() / 2)?;
+        same(&rt, cut(&okm, row.okm), row.okm, row.name);
     }
     Ok(())
+}
+
+/// The secret that a label gives, over SHA-256.
+fn derived(secret: &[u8], label: &[u8], messages: &[u8]) -> Result<[u8; 32], DerivationError> {
+    derive_secret::<Sha256>(secret, label, messages)
 }
 
 /// The secrets of RFC 8448 section 3, each derived from the one before it.
@@ -70,26 +79,26 @@ fn rfc_8448(rt: HostRuntime) -> Result<(), Fail> {
         &early,
         "33ad0a1c607ec03b09e6cd9893680ce210adf300aa1f2660e1b22e10f170f92a",
         "the early secret",
-    )?;
-    let derived = derive_secret::<Sha256>(&early, b"derived", &no_messages)?;
-    let shared = hex::decode(
-        rt.alloc(),
+    );
+    let salt = derived(&early, b"derived", &no_messages)?;
+    let shared = bytes_of(
+        &rt,
         "8bd4054fb55b9d63fdfbacf9f04b9f0d35e6d63f537563efd46272900f89492d",
-    )?;
-    let handshake = extract::<Sha256>(&derived, &shared);
+    );
+    let handshake = extract::<Sha256>(&salt, &shared);
     same(
         &rt,
         &handshake,
         "1dc826e93606aa6fdc0aadc12f741b01046aa6b99f691ed221a9f0ca043fbeac",
         "the handshake secret",
-    )?;
-    let derived = derive_secret::<Sha256>(&handshake, b"derived", &no_messages)?;
+    );
+    let salt = derived(&handshake, b"derived", &no_messages)?;
     same(
         &rt,
-        &extract::<Sha256>(&derived, &[0; 32]),
+        &extract::<Sha256>(&salt, &[0; 32]),
         "18df06843d13a08bf2a449844c5f8a478001bc4d4c627984d5a41da8d0402919",
         "the master secret",
-    )?;
+    );
     Ok(())
 }
 
@@ -131,10 +140,9 @@ const TRAFFIC: [(&str, &str, &str, &str); 5] = [
 #[test]
 fn rfc_8448_traffic(rt: HostRuntime) -> Result<(), Fail> {
     for (secret, label, messages, wanted) in &TRAFFIC {
-        let secret = hex::decode(rt.alloc(), secret)?;
-        let messages = hex::decode(rt.alloc(), messages)?;
-        let derived = derive_secret::<Sha256>(&secret, label.as_bytes(), &messages)?;
-        same(&rt, &derived, wanted, label)?;
+        let (secret, messages) = (bytes_of(&rt, secret), bytes_of(&rt, messages));
+        let found = derived(&secret, label.as_bytes(), &messages)?;
+        same(&rt, &found, wanted, label);
     }
     Ok(())
 }
@@ -152,7 +160,7 @@ fn derive_secret_by_sha_384(rt: HostRuntime) -> Result<(), Fail> {
         &derived,
         "85672c80162b3076b4a14618cbbf66e53d55d61cdb683aba9f7c48d5b65a6a3b1c9d6c2638eed961d9f80878eca9fb56",
         "the secret",
-    )?;
+    );
     Ok(())
 }
 
@@ -172,13 +180,13 @@ fn longest_outputs(rt: HostRuntime) -> Result<(), Fail> {
         &digest_of_output::<Sha256>(8160)?,
         "cdbd0062e571637170aa4931c64fbe7f22f262c6ec21d36f42a9175ad1797681",
         "8160 bytes",
-    )?;
+    );
     same(
         &rt,
         &digest_of_output::<Sha384>(12240)?,
         "ef4e9110aa9e2766dfb9a7b7326076c4c0c747a4635ce3b0daf8f89e448cf50c",
         "12240 bytes",
-    )?;
+    );
     let refused = Err(DerivationError::TooLong);
     equal(&rt, &digest_of_output::<Sha256>(8161), &refused);
     equal(&rt, &digest_of_output::<Sha384>(12241), &refused);
@@ -199,7 +207,7 @@ fn output_lengths(rt: HostRuntime) -> Result<(), Fail> {
         &digest.finalize(),
         "32e69dd249b1158ddd8cb190654812f21b0660ada0b95c907c19071de502c040",
         "0 to 100 bytes",
-    )?;
+    );
     Ok(())
 }
 
@@ -213,7 +221,7 @@ fn longest_label(rt: HostRuntime) -> Result<(), Fail> {
         &out,
         "f8f9c2b03db94d073165f6f0d5d0d6a2fe8b4c7a",
         "the output",
-    )?;
+    );
     Ok(())
 }
 

@@ -1,10 +1,10 @@
 //! HMAC by the vectors of RFC 4231, and at many lengths beside python's `hmac`.
 
-use crate::checks::same;
+use crate::checks::{bytes_of, same};
 use crate::rfc_4231::{ROWS, Row};
 use key_derivation::hmac::{HmacKey, hmac};
 use sha2::{Digest, Sha256, Sha384};
-use std::test::Fail;
+use std::process::Abort;
 
 /// The SHA-256 of the HMACs, one after the other, of the texts of 0 to 200 bytes under a key of so many bytes, in hex. Byte i of
 /// the key is 7 i + 1, and of the texts 7 i + 2, modulo 256. By python's `hmac` and `hashlib`.
@@ -53,25 +53,25 @@ const DIGESTS: [Digests; 7] = [
 ];
 
 /// The first bytes of an HMAC, as many as a row has digits for.
-fn cut<'a>(code: &'a [u8], wanted: &str) -> &'a [u8] {
+pub(crate) fn cut<'a>(code: &'a [u8], wanted: &str) -> &'a [u8] {
     &code[..usize::min(wanted.len() / 2, code.len())]
 }
 
+/// Asserts the HMACs of a row under both hash functions.
+fn has_codes(rt: &(impl Abort + AllocGlobal), row: &Row) {
+    let key = bytes_of(rt, row.key);
+    let text = bytes_of(rt, row.text);
+    let code = hmac::<Sha256>(&key, &text);
+    same(rt, cut(&code, row.sha256), row.sha256, row.name);
+    let code = hmac::<Sha384>(&key, &text);
+    same(rt, cut(&code, row.sha384), row.sha384, row.name);
+}
+
 #[test]
-fn rfc_4231(rt: HostRuntime) -> Result<(), Fail> {
+fn rfc_4231(rt: HostRuntime) {
     for row in &ROWS {
-        let Row {
-            name,
-            sha256,
-            sha384,
-            ..
-        } = row;
-        let key = hex::decode(rt.alloc(), row.key)?;
-        let text = hex::decode(rt.alloc(), row.text)?;
-        same(&rt, cut(&hmac::<Sha256>(&key, &text), sha256), sha256, name)?;
-        same(&rt, cut(&hmac::<Sha384>(&key, &text), sha384), sha384, name)?;
+        has_codes(&rt, row);
     }
-    Ok(())
 }
 
 /// 200 bytes, of which byte i is 7 i + `start`, modulo 256.
@@ -98,13 +98,12 @@ fn digests_of_lengths(key_len: usize) -> ([u8; 32], [u8; 32]) {
 }
 
 #[test]
-fn lengths(rt: HostRuntime) -> Result<(), Fail> {
+fn lengths(rt: HostRuntime) {
     for row in &DIGESTS {
         let (sha256, sha384) = digests_of_lengths(row.key_len);
-        same(&rt, &sha256, row.sha256, "SHA-256")?;
-        same(&rt, &sha384, row.sha384, "SHA-384")?;
+        same(&rt, &sha256, row.sha256, "SHA-256");
+        same(&rt, &sha384, row.sha384, "SHA-384");
     }
-    Ok(())
 }
 
 /// The HMAC of a text in two pieces, cut after `at` bytes.
@@ -118,11 +117,10 @@ fn of_pieces(key: &HmacKey<Sha256>, text: &[u8], at: usize) -> [u8; 32] {
 
 /// RFC 4231 section 4.3, under one key that is kept, in pieces.
 #[test]
-fn kept_key(rt: HostRuntime) -> Result<(), Fail> {
+fn kept_key(rt: HostRuntime) {
     let key = HmacKey::<Sha256>::new(b"Jefe");
     for at in 0..28 {
         let code = of_pieces(&key, b"what do ya want for nothing?", at);
-        same(&rt, &code, ROWS[1].sha256, "in pieces")?;
+        same(&rt, &code, ROWS[1].sha256, "in pieces");
     }
-    Ok(())
 }
