@@ -1,6 +1,6 @@
 -- The packet at a byte of a datagram, and the step past it, whether a receiver has tried it or not.
-use Rattle.std.proofs.Common.{◌≡◌, ℕ, ◌+◌, ◌-◌, ◌<◌, ◌≤◌, ◌↔◌, ◌⊎◌, Bool, true, false, inl, inr, List, length, Option, None, Some, Ok, Err, Result, OnErr, IsErrOf, IfErr, IfSome, IsSome, is_some, if◌then◌else◌, unwrap_or, slice_index, refl, sym, ap, subst, arith, ◌∙◌}
-use Rattle.quic_packets.specs.Connection.{Connection, IfPacket, IsGiven, IsOpening, IsOwn, IsPacketAt, IsStranger, IsTried, IsUnopened, IsWithoutKeys, end_of, incoming_of, is_opened, opened_as, opened_of, packet_in, receiver_of, space_of, step_of}
+use Rattle.std.proofs.Common.{◌≡◌, ℕ, ◌+◌, ◌-◌, ◌<◌, ◌≤◌, ◌↔◌, ◌⊎◌, Bool, true, false, inl, inr, List, length, Option, None, Some, Ok, Err, Result, OnErr, IsErrOf, IfErr, IfSome, IsSome, IsTrue, is_some, if◌then◌else◌, unwrap_or, slice_index, refl, sym, ap, subst, arith, ◌∙◌}
+use Rattle.quic_packets.specs.Connection.{Connection, IfPacket, IsGiven, IsOpening, IsOwn, IsPacketAt, IsStranger, IsTried, IsUnopened, IsWithoutKeys, end_of, incoming_of, is_opened, opened_as, opened_of, packet_in, receiver_of, space_of, step_of, with_receiver, with_sender}
 use Rattle.quic_packets.specs.Datagram.{bytes_of, number_in, packet_of}
 use Rattle.quic_packets.specs.Errors.{error_code}
 use Rattle.quic_packets.specs.Header.{HasSample}
@@ -9,7 +9,10 @@ use Rattle.quic_packets.specs.declared.connection.incoming.Incoming.{Incoming}
 use Rattle.quic_packets.specs.declared.connection.incoming.Incoming.TheVariants.{Packet as PacketOf, NoKeys, Dropped, Ignored}
 use Rattle.quic_packets.specs.declared.connection.incoming.Step.{Step}
 use Rattle.quic_packets.specs.declared.datagram.Packet.{Packet}
+use Rattle.quic_packets.specs.Sending.{Sender}
+use Rattle.quic_packets.specs.Space.{Space}
 use Rattle.quic_packets.specs.declared.datagram.PacketType.{PacketType}
+use Rattle.quic_packets.specs.declared.datagram.PacketType.TheVariants.{Initial, ZeroRtt, Handshake, Retry, VersionNegotiation, OneRtt, OtherVersion}
 use Rattle.quic_packets.specs.declared.error.PacketError.{PacketError}
 use Rattle.quic_packets.specs.declared.error.PacketError.TheVariants.{NoSample, Refused}
 use Rattle.quic_packets.specs.declared.receiver.Received.{Received}
@@ -49,6 +52,12 @@ dropped_as next t o error none =
     the_error : (e f : PacketError) → Dropped e ≡ Dropped f → e ≡ f
     the_error e f is = cc
 
+-- a test of the limit that answers no
+pub is_below : (test : Bool) (count limit : ℕ) → IsTrue test ↔ (limit ≤ count) → test ≡ false → count < limit
+is_below test count limit is unmet =
+    let below : (limit ≤ count) → ⊥ = λ most. (let yes : test ≡ true = is.1 most in absurd cc) in
+    omega (arith, below)
+
 some_of : (o : Option Receiver) → IsSome o → (r : Receiver) × (o ≡ Some r)
 some_of (Some r) is = (r, refl)
 some_of None is = absurd cc
@@ -61,6 +70,16 @@ tried_at T o None r is some tried = absurd cc
 
 module _ (c : Connection) (id_len : ℕ) (id datagram : List ℕ) (at : ℕ) (parts : Packet)
     (parsed : packet_of c.fixed_bit id_len datagram at ≡ Ok parts) where
+  its_failures : (t : PacketType) (r : Option Receiver) (s : Space) (sender : Option Sender)
+      → record (with_sender (with_receiver c t r s) sender) { failures = c.failures } ≡ with_sender (with_receiver c t r s) sender
+  its_failures Initial r s sender = refl
+  its_failures ZeroRtt r s sender = refl
+  its_failures Handshake r s sender = refl
+  its_failures OneRtt r s sender = refl
+  its_failures Retry r s sender = refl
+  its_failures VersionNegotiation r s sender = refl
+  its_failures OtherVersion r s sender = refl
+
   -- there is one packet at a byte
   pub same_parts : (p : Packet) → IsPacketAt c id_len id datagram at p → p ≡ parts
   same_parts p is = let its : packet_of c.fixed_bit id_len datagram at ≡ Ok p = is.parsed in cc
@@ -141,6 +160,23 @@ module _ (c : Connection) (id_len : ℕ) (id datagram : List ℕ) (at : ℕ) (pa
           let is = dropped_as parts.end parts.packet_type o Refused refl in
           at_it.not_failed (λ refused. other (subst (λ step. IsGiven step (Dropped Refused)) (sym stepped) (is.1 refused)))
 
+      pub failed : IsGiven result (Dropped Refused) → c'.failures ≡ record c.failures { count = c.failures.count + 1 }
+      failed given =
+          let is = dropped_as parts.end parts.packet_type o Refused refl in
+          at_it.failed (is.0 (subst (λ step. IsGiven step (Dropped Refused)) stepped given))
+
+      abbrev after : PacketType → Connection
+      after t = with_sender (with_receiver c t (receiver_of c' t) (space_of c' t)) c'.one_rtt.sender
+
+      pub is_received : c' ≡ record (after parts.packet_type) { failures = c'.failures } → IfPacket result (λ t r. c' ≡ after t)
+      is_received but =
+          subst (λ step. IfPacket step (λ t r. c' ≡ after t)) (sym stepped)
+          (step_cases (λ o step. ((IsErrOf o Refused → ⊥) → c'.failures ≡ c.failures) → IfPacket step (λ t r. c' ≡ after t))
+          parts.end parts.packet_type o
+          (λ r same. but ∙ ap (λ f. record (after parts.packet_type) { failures = f }) (same (λ refused. absurd cc))
+          ∙ its_failures parts.packet_type (receiver_of c' parts.packet_type) (space_of c' parts.packet_type) c'.one_rtt.sender)
+          (λ e some same. tt) (λ e none same. tt) at_it.not_failed)
+
       pub bytes_kept : is_opened (opened_of result) ≡ false → new ≡ datagram
       bytes_kept unopened =
           let it : is_opened (Some o) ≡ false = subst (λ x. is_opened x ≡ false) (ap opened_of stepped ∙ opened_is parts.end parts.packet_type o) unopened in
@@ -201,14 +237,14 @@ module _ (c : Connection) (id_len : ℕ) (id datagram : List ℕ) (at : ℕ) (st
         )
         | inr keyless ↦ (
           λ is. (
-            let both : NoKeys keyless.0.packet_type ≡ NoKeys t = sym keyless.2 ∙ is in
-            let same : keyless.0.packet_type ≡ t = cc in
-            (keyless.0, keyless.1, same, subst (λ t. IsSome (receiver_of c t) → ⊥) same keyless.3)
-          ),
+              let both : NoKeys keyless.0.packet_type ≡ NoKeys t = sym keyless.2 ∙ is in
+              let same : keyless.0.packet_type ≡ t = cc in
+              (keyless.0, keyless.1, same, subst (λ t. IsSome (receiver_of c t) → ⊥) same keyless.3)
+              ),
           λ d. (
-            let same = same_parts c id_len id datagram at keyless.0 keyless.1.parsed d.0 d.1 in
-            keyless.2 ∙ ap NoKeys (sym (ap (λ p. p.packet_type) same) ∙ d.2)
-          ),
+              let same = same_parts c id_len id datagram at keyless.0 keyless.1.parsed d.0 d.1 in
+              keyless.2 ∙ ap NoKeys (sym (ap (λ p. p.packet_type) same) ∙ d.2)
+              ),
         )
       ]
 
@@ -217,6 +253,6 @@ module _ (c : Connection) (id_len : ℕ) (id datagram : List ℕ) (at : ℕ) (st
       elim it.incoming [
         | inl stranger ↦ stranger.1 parts opening.packet
         | inr keyless ↦
-          let same = same_parts c id_len id datagram at keyless.0 keyless.1.parsed parts opening.packet in
-          keyless.3 (subst (λ p. IsSome (receiver_of c p.packet_type)) same (subst IsSome (sym opening.receiver) refl))
+            let same = same_parts c id_len id datagram at keyless.0 keyless.1.parsed parts opening.packet in
+            keyless.3 (subst (λ p. IsSome (receiver_of c p.packet_type)) same (subst IsSome (sym opening.receiver) refl))
       ]

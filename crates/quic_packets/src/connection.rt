@@ -478,7 +478,9 @@ impl Connection {
         match parts.packet_type {
             PacketType::Initial => self.initial.open(&mut self.failures, datagram, parts),
             PacketType::Handshake => self.handshake.open(&mut self.failures, datagram, parts),
-            PacketType::OneRtt => self.one_rtt.open_one_rtt(&mut self.failures, datagram, parts),
+            PacketType::OneRtt => self
+                .one_rtt
+                .open_one_rtt(&mut self.failures, datagram, parts),
             PacketType::ZeroRtt => self.open_zero_rtt(datagram, parts),
             _ => unreachable!(),
         }
@@ -504,7 +506,8 @@ impl Connection {
         let Some(receiver) = &mut self.zero_rtt else {
             unreachable!();
         };
-        self.one_rtt.open_with(receiver, &mut self.failures, datagram, parts)
+        let failures = &mut self.failures;
+        self.one_rtt.open_with(receiver, failures, datagram, parts)
     }
 }
 

@@ -1,18 +1,33 @@
-use Rattle.std.proofs.Common.{rules, ◌≡◌, ◌<◌, refl}
+use Rattle.std.proofs.Common.{arith, ◌<◌}
+use Rattle.quic_packets.specs.Connection.{IsReceiving}
 use Rattle.quic_packets.proofs.StepLemmas as lemmas
 use Rattle.quic_packets.proofs.connection.Connection.receive.Goals as goal
+
+pub returns-in-Err-clause-at_limit : goal.returns-in-Err-clause-at_limit
+returns-in-Err-clause-at_limit c =
+    let a = c.args in
+    let f = c.self.inside.failures in
+    let below : f.count < f.limit = lemmas.is_below c.is_at_limit.result f.count f.limit c.is_at_limit.ensures c.if-is_at_limit.false in
+    let receiving : IsReceiving a.self.now = rw (← c.self.view_is) below in
+    (λ e. absurd cc, λ most. absurd (omega (arith, most, receiving)))
 
 pub returns-in-Err-clause-ignored : goal.returns-in-Err-clause-ignored
 returns-in-Err-clause-ignored c =
     let a = c.args in
     let it = lemmas.is_ignored a.self.now a.id_len a.id.now a.datagram.now a.at c.in-Err.step c.in-Err.ensures.unopened in
-    (λ e. (search rules, it.0 e), λ d. it.1 d.1)
+    let f = c.self.inside.failures in
+    let below : f.count < f.limit = lemmas.is_below c.is_at_limit.result f.count f.limit c.is_at_limit.ensures c.if-is_at_limit.false in
+    let receiving : IsReceiving a.self.now = rw (← c.self.view_is) below in
+    (λ e. (receiving, it.0 e), λ d. it.1 d.1)
 
 pub returns-in-Err-clause-no_keys : goal.returns-in-Err-clause-no_keys
 returns-in-Err-clause-no_keys c t =
     let a = c.args in
     let it = lemmas.has_no_keys a.self.now a.id_len a.id.now a.datagram.now a.at c.in-Err.step c.in-Err.ensures.unopened t in
-    (λ e. (search rules, it.0 e), λ d. it.1 d.1)
+    let f = c.self.inside.failures in
+    let below : f.count < f.limit = lemmas.is_below c.is_at_limit.result f.count f.limit c.is_at_limit.ensures c.if-is_at_limit.false in
+    let receiving : IsReceiving a.self.now = rw (← c.self.view_is) below in
+    (λ e. (receiving, it.0 e), λ d. it.1 d.1)
 
 pub returns-in-Err-clause-no_sample : goal.returns-in-Err-clause-no_sample
 returns-in-Err-clause-no_sample c parts r opening =
@@ -86,6 +101,24 @@ returns-in-Ok-clause-outcome c =
     let it = c.in-Ok.ensures.to_open in
     lemmas.outcome a.self.now a.id_len a.id.now a.datagram.now a.at p it.packet.parsed o.new.self o.new.datagram o.result c.step_of.result
     it.within c.step_of.ensures o.ensures.some o.ensures.tried
+
+pub returns-in-Ok-clause-failed : goal.returns-in-Ok-clause-failed
+returns-in-Ok-clause-failed c =
+    let a = c.args in
+    let p = c.in-Ok.parts in
+    let o = c.open-opened in
+    let it = c.in-Ok.ensures.to_open in
+    lemmas.failed a.self.now a.id_len a.id.now a.datagram.now a.at p it.packet.parsed o.new.self o.new.datagram o.result c.step_of.result
+    it.within c.step_of.ensures o.ensures.some o.ensures.tried it.receiver
+
+pub returns-in-Ok-clause-received : goal.returns-in-Ok-clause-received
+returns-in-Ok-clause-received c =
+    let a = c.args in
+    let p = c.in-Ok.parts in
+    let o = c.open-opened in
+    let it = c.in-Ok.ensures.to_open in
+    lemmas.is_received a.self.now a.id_len a.id.now a.datagram.now a.at p it.packet.parsed o.new.self o.new.datagram o.result c.step_of.result
+    it.within c.step_of.ensures o.ensures.some o.ensures.tried it.receiver o.ensures.received
 
 pub returns-in-Ok-clause-not_failed : goal.returns-in-Ok-clause-not_failed
 returns-in-Ok-clause-not_failed c =

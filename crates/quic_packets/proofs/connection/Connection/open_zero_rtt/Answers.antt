@@ -1,0 +1,21 @@
+use Rattle.std.proofs.Common.{Some, ap}
+use Rattle.quic_packets.specs.Connection.{Connection}
+use Rattle.quic_packets.specs.Ends.{Ends}
+use Rattle.quic_packets.proofs.connection.Connection.open_zero_rtt.Goals as goal
+
+pub returns-clause-tried : goal.returns-clause-tried
+returns-clause-tried c = rw (← c.self.view_is, c.in-Some.is) c.open_with.ensures.tried
+
+pub returns-clause-received : goal.returns-clause-received
+returns-clause-received c =
+    let was = c.self.inside in
+    let with_one_rtt : Ends → Connection = λ ends. record {
+      initial = was.initial;
+      handshake = was.handshake;
+      one_rtt = ends;
+      zero_rtt = Some c.open_with.new.receiver;
+      failures = c.open_with.new.failures;
+      limit = was.limit;
+      fixed_bit = was.fixed_bit;
+    } in
+    rw (← c.self.view_is) (ap with_one_rtt c.open_with.ensures.ends)
