@@ -1,19 +1,19 @@
 -- What one end of a connection receives and sends.
-use Rattle.std.proofs.Common.{◌≡◌, ◌≢◌, ◌≤◌, ◌+◌, ℕ, Bool, false, ◌||◌, ◌==◌, List, [], ◌∷◌, ◌++◌, length, get_or, take, drop, ◌-◌, ap, sym, subst, ◌∙◌, refl, arith, drop-drop, length-drop, append_assoc, inl, inr, true≢false, IsFalse, Ok, Err}
-use Rattle.std.proofs.lemmas.Bool.{cases_lt, cond-false, cond-true, eq-eqb, eqb-true, false_from_ne_true}
+use Rattle.std.proofs.Common.{◌≡◌, ◌≤◌, ◌+◌, ℕ, false, List, [], ◌∷◌, ◌++◌, length, take, drop, ◌-◌, ap, sym, subst, ◌∙◌, refl, arith, drop-drop, length-drop, append_assoc, inl, inr, true≢false, IsFalse, Ok, Err}
+use Rattle.std.proofs.lemmas.Bool.{cases_lt, false_from_ne_true}
 use Rattle.std.proofs.lemmas.List.{take_rest}
 use Rattle.std.specs.Prelude.{is_ok}
 use Rattle.std.specs.List.{concat}
-use Rattle.records.specs.Connection.{Fails, LeavesRecord, Receiving, Rejects, Step}
+use Rattle.records.specs.Connection.{Fails, FailsToBring, LeavesRecord, Receiving, Rejects, Step}
 use Rattle.records.specs.Handling.{Handled, Handles, HandlesAll, RejectsData, RejectsMessages, Takes, handle, is_key_update, one_handled}
-use Rattle.records.specs.Keys.{ReaderState, next_reader}
+use Rattle.records.specs.Keys.{ReaderState}
 use Rattle.records.specs.Steps.{Reads}
 use Rattle.records.specs.Stream.{BeginsProtected, RefusesProtected, Taken}
 use Rattle.records.specs.declared.connection.receive_error.ReceiveError.{ReceiveError}
 use Rattle.records.specs.declared.connection.receive_error.ReceiveError.TheVariants.{Message, OutOfMemory, Record}
 use Rattle.records.specs.declared.content_type.ContentType.{ContentType}
 use Rattle.records.specs.declared.record_error.RecordError.{RecordError}
-use Rattle.records.specs.declared.content_type.ContentType.TheVariants.{Alert, ApplicationData}
+use Rattle.records.specs.declared.content_type.ContentType.TheVariants.{Alert, ApplicationData, Handshake}
 use Rattle.std.specs.Borrow.{Bor}
 use Rattle.std.proofs.Common.{Option, Result}
 use Rattle.tls_messages.specs.Messages.{Begins, Joining, IsExpected, IsMessage, IsPart, IsTaken, messages_of, part_of}
@@ -35,9 +35,6 @@ front_message stream message rest first same =
 
 ok_is_not_err : {T E : Type 0} {value : T} {error : E} → Ok value ≡ Err error → ⊥
 ok_is_not_err same = true≢false (ap is_ok same)
-
-no_update : (message : List ℕ) → get_or message 0 0 ≢ 24 → is_key_update message ≡ false
-no_update message isnt = false_from_ne_true _ (λ is. isnt (eqb-true _ _ is))
 
 -- a stream without a whole message is a part of one
 pub all_part : (stream : List ℕ) → messages_of stream ≡ [] → (part_of stream ≡ stream) × IsPart stream
@@ -64,26 +61,15 @@ module _ (stage : Stage) (bound : ℕ) (part content left rest message later kep
     taken = taken;
   }
 
-  one_more : kept ≡ [] → (now : Handled) → handle was message ≡ now → Handles stage bound part content first kept later now
-  one_more none now same =
-      subst (λ h. Handles stage bound part content first kept later h) same
+  pub handles_one : kept ≡ [] → (now : Handled) → now ≡ handle was message → Handles stage bound part content first kept later now
+  handles_one none now same =
+      subst (λ h. Handles stage bound part content first kept later h) (sym same)
       (subst (λ k. Handles stage bound part content first k later (handle was message)) (sym none)
       (one_handled left rest message later was handles takes))
 
-  pub handles_update : kept ≡ [] → (reader : ReaderState) (owes_update : Bool) → get_or message 0 0 ≡ 24
-      → reader ≡ next_reader was.reader → owes_update ≡ (was.owes_update || get_or message 4 0 == 1)
-      → Handles stage bound part content first kept later
-      (record { reader = reader; owes_update = owes_update; messages = was.messages })
-  handles_update none reader owes_update is next owes =
-      rw (next, owes) (one_more none _ (cond-true _ _ _ (eq-eqb _ _ is)))
-
-  pub handles_other : kept ≡ [] → (messages : List (List ℕ)) → get_or message 0 0 ≢ 24 → messages ≡ was.messages ++ message ∷ []
-      → Handles stage bound part content first kept later
-      (record { reader = was.reader; owes_update = was.owes_update; messages = messages })
-  handles_other none messages isnt more = rw more (one_more none _ (cond-false _ _ _ (no_update message isnt)))
-
-  pub lacks_memory : kept ≡ [] → get_or message 0 0 ≢ 24 → RejectsMessages stage bound part content first OutOfMemory kept was
-  lacks_memory none isnt = (
+  pub lacks_memory : kept ≡ [] → is_key_update message ≡ false
+      → RejectsMessages stage bound part content first OutOfMemory kept was
+  lacks_memory none handed = (
     none,
     record {
       left = left;
@@ -92,7 +78,7 @@ module _ (stage : Stage) (bound : ℕ) (part content left rest message later kep
       later = later;
       handles = handles;
       takes = takes;
-      handed = no_update message isnt;
+      handed = handed;
     },
   )
 
@@ -131,6 +117,26 @@ alert_len was now bytes content r =
       | inl more ↦ (r.opens is_open more).content.1.allowed.alert refl
       | inr ended ↦ absurd (ok_is_not_err (r.ended is_open ended))
     ]
+
+-- a content that brings nothing is no rejected record
+no_record : (capacity : ℕ) (content_type : ContentType) (content : List ℕ) (was now : Receiving) (error : RecordError)
+    → FailsToBring capacity content_type content was (Record error) now → ⊥
+no_record capacity ApplicationData content was now error fails = fails.0
+no_record capacity Handshake content was now error fails = fails.0
+no_record capacity Alert content was now error fails = fails.0
+
+pub fails_to_bring : (capacity : ℕ) (was now : Receiving) (bytes content : List ℕ) (content_type : ContentType) (read : ReaderState)
+    (error : ReceiveError) → Reads was.reader read bytes (Ok (content_type, content))
+    → FailsToBring capacity content_type content (record was { reader = read }) error now → Fails capacity was bytes error now
+fails_to_bring capacity was now bytes content content_type read (Record error) reads fails =
+    absurd (no_record capacity content_type content (record was { reader = read }) now error fails)
+fails_to_bring capacity was now bytes content content_type read error reads fails = (content_type, content, read, reads, fails)
+
+pub leaves_content : (capacity : ℕ) (first was now : Receiving) (content old new : List ℕ) (content_type : ContentType)
+    (error : ReceiveError) → FailsToBring capacity content_type content was error now → LeavesRecord first old new error
+leaves_content capacity first was now content old new content_type (Record error) fails =
+    absurd (no_record capacity content_type content was now error fails)
+leaves_content capacity first was now content old new content_type error fails = tt
 
 -- less room is lacking all the more
 pub lacks_more : (more less : ℕ) (part before content : List ℕ) (error : ReceiveError) → less ≤ more

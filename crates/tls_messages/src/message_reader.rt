@@ -22,16 +22,12 @@ use std::marker::Model;
 ///
 /// # Examples
 ///
-/// Takes the messages of one record: follows each KeyUpdate, and appends the others.
+/// Takes the messages of one record: `handle` follows a KeyUpdate, and appends another message.
 /// From `crates/records/src/connection/receiving.rt`:
 ///
 /// ```
 /// while let Some(message) = messages.next(&mut content)? {
-///     if message[0] == KEY_UPDATE {
-///         incoming.update(message[4]);
-///     } else {
-///         handed.push(message.to_vec(alloc)?)?;
-///     }
+///     handle(alloc, incoming, message, handed)?;
 /// }
 /// ```
 #[derive(Drop)]

@@ -1,8 +1,8 @@
 //! What an end receives, one record after another.
 
 ghost use Rattle.std.specs.Prelude.{◌≡◌, ◌≢◌, ◌||◌, ◌==◌, ◌≤◌, ◌<◌, List, ℕ, [], length, take, drop, map, slice_range, slice_index, false, IsFalse, IfOk, IfErr, IfSome, IsErrOf, OnOk, OnErr, None, cond, vec_len, vec_capacity};
-ghost use Rattle.records.specs.Connection.{Fails, LeavesRecord, Rejects, Step, handling, receiving};
-ghost use Rattle.records.specs.Handling.{HandlesAll, RejectsMessages};
+ghost use Rattle.records.specs.Connection.{Brings, Fails, FailsToBring, LeavesRecord, Rejects, Step, handling, receiving};
+ghost use Rattle.records.specs.Handling.{HandlesAll, RejectsMessages, handle as handle_lem, is_key_update};
 ghost use Rattle.records.specs.Keys.{IsOfSecret, next_reader};
 ghost use Rattle.records.specs.Stream.{BeginsProtected, NeedsMore, RefusesProtected, Taken};
 
@@ -69,6 +69,32 @@ impl Incoming {
     }
 }
 
+/// Follows a KeyUpdate, and appends another message.
+fn handle(
+    alloc: Global,
+    incoming: &mut Incoming,
+    message: &[u8],
+    handed: &mut Vec<Vec<u8>>,
+) -> Result<(), ReceiveError>
+    requires is_of { IsOfSecret incoming.old.reader.secret incoming.old.reader.key }
+    requires open { IsFalse incoming.old.reader.is_closed }
+    requires len { (0 < length message.now) × (slice_index message.now 0 ≡ 24 → 4 < length message.now) }
+    ensures handled { OnOk result (handling incoming.new (map (λ v. v.items) handed.new.items)
+        ≡ handle_lem (handling incoming.old (map (λ v. v.items) handed.old.items)) message.now) }
+    ensures memory { IfErr result (λ error. (error ≡ ReceiveError.OutOfMemory) × IsFalse (is_key_update message.now)) }
+    ensures kept { OnErr result ((incoming.new ≡ incoming.old) × (handed.new.items ≡ handed.old.items)) }
+    ensures is_ended { incoming.new.is_ended ≡ incoming.old.is_ended }
+    ensures is_of { IsOfSecret incoming.new.reader.secret incoming.new.reader.key }
+    ensures open { IsFalse incoming.new.reader.is_closed }
+{
+    if message[0] == KEY_UPDATE {
+        incoming.update(message[4]);
+    } else {
+        handed.push(message.to_vec(alloc)?)?;
+    }
+    Ok(())
+}
+
 /// Takes the messages of a handshake record: follows each KeyUpdate, and appends the others.
 fn receive_messages(
     alloc: Global,
@@ -91,11 +117,7 @@ fn receive_messages(
     ensures is_of { IsOfSecret incoming.new.reader.secret incoming.new.reader.key }
 {
     while let Some(message) = messages.next(&mut content)? {
-        if message[0] == KEY_UPDATE {
-            incoming.update(message[4]);
-        } else {
-            handed.push(message.to_vec(alloc)?)?;
-        }
+        handle(alloc, incoming, message, handed)?;
     }
     Ok(())
 }
@@ -112,6 +134,45 @@ fn is_close_notify(alert: &[u8]) -> Result<bool, ReceiveError>
         USER_CANCELED => Ok(false),
         number => Err(ReceiveError::Alert(number)),
     }
+}
+
+/// Takes the content of a record.
+fn receive_content(
+    alloc: Global,
+    incoming: &mut Incoming,
+    messages: &mut MessageReader<'_>,
+    content_type: ContentType,
+    content: &[u8],
+    received: &mut Received,
+) -> Result<(), ReceiveError>
+    requires is_of { IsOfSecret incoming.old.reader.secret incoming.old.reader.key }
+    requires open { IsFalse incoming.old.reader.is_closed × IsFalse messages.old.is_closed }
+    requires alert { content_type ≡ ContentType.Alert → length content.now ≡ 2 }
+    ensures brings { OnOk result (Brings content_type content.now (receiving incoming.old messages.old received.old)
+        (receiving incoming.new messages.new received.new)) }
+    ensures failed { IfErr result (λ error. FailsToBring (vec_capacity received.old.application_data)
+        content_type content.now (receiving incoming.old messages.old received.old) error
+        (receiving incoming.new messages.new received.new)) }
+    ensures open { OnOk result (IsFalse messages.new.is_closed) }
+    ensures capacity { vec_capacity received.old.application_data
+        ≤ vec_capacity received.new.application_data }
+    ensures is_of { IsOfSecret incoming.new.reader.secret incoming.new.reader.key }
+{
+    match content_type {
+        ContentType::ApplicationData => {
+            messages.admit_other_record()?;
+            received.application_data.extend_from_slice(content)?;
+        }
+        ContentType::Handshake => {
+            receive_messages(alloc, incoming, messages, content, &mut received.messages)?;
+        }
+        ContentType::Alert => {
+            let is_end = is_close_notify(content)?;
+            messages.admit_other_record()?;
+            incoming.is_ended = is_end;
+        }
+    }
+    Ok(())
 }
 
 /// Receives one protected record, which is the whole of `bytes`.
@@ -138,22 +199,14 @@ fn receive_record(
 {
     let end = bytes.len();
     let (content_type, len) = incoming.reader.gather(bytes, 0, 0, end)?;
-    let content = &bytes[..len];
-    match content_type {
-        ContentType::ApplicationData => {
-            messages.admit_other_record()?;
-            received.application_data.extend_from_slice(content)?;
-        }
-        ContentType::Handshake => {
-            receive_messages(alloc, incoming, messages, content, &mut received.messages)?;
-        }
-        ContentType::Alert => {
-            let is_end = is_close_notify(content)?;
-            messages.admit_other_record()?;
-            incoming.is_ended = is_end;
-        }
-    }
-    Ok(())
+    receive_content(
+        alloc,
+        incoming,
+        messages,
+        content_type,
+        &bytes[..len],
+        received,
+    )
 }
 
 /// Receives the record `bytes[at..end]`.
