@@ -104,33 +104,57 @@ fn record_there_and_back(
     Ok(())
 }
 
+/// Returns a reader and a writer of the key of an epoch, which go on from those of the epoch before it.
+fn next_ends(
+    alloc: Global,
+    before: Option<(Reader, Writer)>,
+    epoch: &Epoch,
+) -> Result<(Reader, Writer), Fail> {
+    let key = hex::decode(alloc, epoch.key)?;
+    let iv = <[u8; 12]>::from_hex(epoch.iv)?;
+    match before {
+        Some((mut reader, mut writer)) => {
+            reader.update_with(&key, iv)?;
+            writer.update_with(&key, iv)?;
+            Ok((reader, writer))
+        }
+        None => Ok((
+            Reader::new(algorithm_of(&key), &key, iv)?,
+            Writer::new(algorithm_of(&key), &key, iv)?,
+        )),
+    }
+}
+
+/// Asserts the same for the records of an epoch, which begin at an offset in the stream, and returns the offset of what follows.
+fn epoch_there_and_back(
+    rt: &impl Abort,
+    alloc: Global,
+    epoch: &Epoch,
+    reader: &mut Reader,
+    writer: &mut Writer,
+    stream: &[u8],
+    from: usize,
+) -> Result<usize, Fail> {
+    let mut at = from;
+    for carried in epoch.records {
+        let (start, len) = next_protected(stream, at)?;
+        let Some(record) = stream.get(start..).and_then(|rest| rest.get(..len)) else {
+            return Err(Fail::from("past the end"));
+        };
+        record_there_and_back(rt, alloc, carried, reader, writer, record)?;
+        at = start.saturating_add(len);
+    }
+    Ok(at)
+}
+
 /// Asserts the same for every record that one side sent, across its key updates.
 fn there_and_back(rt: &impl Abort, alloc: Global, direction: &Direction) -> Result<(), Fail> {
     let stream = bytes_of(alloc, direction.stream)?;
     let mut at = 0;
-    let mut ends: Option<(Reader, Writer)> = None;
+    let mut ends = None;
     for epoch in direction.epochs {
-        let key = hex::decode(alloc, epoch.key)?;
-        let iv = <[u8; 12]>::from_hex(epoch.iv)?;
-        let (mut reader, mut writer) = match ends {
-            Some((mut reader, mut writer)) => {
-                reader.update_with(&key, iv)?;
-                writer.update_with(&key, iv)?;
-                (reader, writer)
-            }
-            None => (
-                Reader::new(algorithm_of(&key), &key, iv)?,
-                Writer::new(algorithm_of(&key), &key, iv)?,
-            ),
-        };
-        for carried in epoch.records {
-            let (start, len) = next_protected(&stream, at)?;
-            let Some(record) = stream.get(start..).and_then(|rest| rest.get(..len)) else {
-                return Err(Fail::from("past the end"));
-            };
-            record_there_and_back(rt, alloc, carried, &mut reader, &mut writer, record)?;
-            at = start + len;
-        }
+        let (mut reader, mut writer) = next_ends(alloc, ends, epoch)?;
+        at = epoch_there_and_back(rt, alloc, epoch, &mut reader, &mut writer, &stream, at)?;
         ends = Some((reader, writer));
     }
     equal(rt, &at, &stream.len());

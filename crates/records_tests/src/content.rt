@@ -1,6 +1,7 @@
 //! Tests of contents of any length, of alerts that are sent, and of the size limits of peers.
 
 use crate::checks::{holds, same};
+use crate::connection::bytes_of;
 use aead_ciphers::aead::AES_128_GCM;
 use records::ContentType::{Alert, ApplicationData, Handshake};
 use records::{
@@ -97,31 +98,50 @@ fn bytes_from_zero(alloc: Global, len: u8) -> Result<Vec<u8>, Fail> {
     Ok(bytes)
 }
 
+/// Returns the records of a content, appended to nothing.
+fn appended(alloc: Global, case: &Content, content: &[u8]) -> Result<Vec<u8>, Fail> {
+    let mut written = Vec::new(alloc);
+    new_writer(4)?.write_content(case.content_type, content, case.padding, &mut written)?;
+    Ok(written)
+}
+
+/// Seals the content of a case in a slice.
+fn seal(
+    writer: &mut Writer,
+    case: &Content,
+    content: &[u8],
+    out: &mut [u8],
+) -> Result<usize, RecordError> {
+    writer.seal_content(case.content_type, content, case.padding, out)
+}
+
+/// Asserts that a content is sealed as these records, in a slice that has room for them, and that nothing is written in one that
+/// has not.
+fn is_sealed(
+    rt: &impl Abort,
+    alloc: Global,
+    case: &Content,
+    content: &[u8],
+    wanted: &[u8],
+) -> Result<(), Fail> {
+    let mut writer = new_writer(4)?;
+    let mut short = Vec::from_elem(alloc, 9, wanted.len().saturating_sub(1))?;
+    let refused = seal(&mut writer, case, content, &mut short);
+    holds(rt, refused == Err(RecordError::NoRoom), "no room");
+    holds(rt, short.iter().all(|byte| *byte == 9), "nothing sealed");
+    let mut sealed = Vec::from_elem(alloc, 9, wanted.len())?;
+    let len = seal(&mut writer, case, content, &mut sealed)?;
+    holds(rt, len == wanted.len(), "the length");
+    same(rt, &sealed, wanted, "sealed");
+    Ok(())
+}
+
 /// Asserts that a content is written as these records, in a `Vec` and in a slice.
 fn is_written(rt: &impl Abort, alloc: Global, case: &Content) -> Result<(), Fail> {
     let content = bytes_from_zero(alloc, case.len)?;
-    let mut wanted = Vec::new(alloc);
-    for part in case.records {
-        wanted.extend_from_slice(&hex::decode(alloc, part)?)?;
-    }
-    let mut written = Vec::new(alloc);
-    new_writer(4)?.write_content(case.content_type, &content, case.padding, &mut written)?;
-    same(rt, &written, &wanted, "appended");
-    let mut writer = new_writer(4)?;
-    let mut sealed = Vec::from_elem(alloc, 9, wanted.len())?;
-    let short = wanted.len().saturating_sub(1);
-    let refused = writer.seal_content(
-        case.content_type,
-        &content,
-        case.padding,
-        &mut sealed.as_mut_slice()[..short],
-    );
-    holds(rt, refused == Err(RecordError::NoRoom), "no room");
-    holds(rt, sealed.iter().all(|byte| *byte == 9), "nothing sealed");
-    let len = writer.seal_content(case.content_type, &content, case.padding, &mut sealed)?;
-    holds(rt, len == wanted.len(), "the length");
-    same(rt, &sealed, &wanted, "sealed");
-    Ok(())
+    let wanted = bytes_of(alloc, case.records)?;
+    same(rt, &appended(alloc, case, &content)?, &wanted, "appended");
+    is_sealed(rt, alloc, case, &content, &wanted)
 }
 
 #[test]

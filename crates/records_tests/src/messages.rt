@@ -119,18 +119,32 @@ fn count(
     Ok(types.len())
 }
 
+/// Reads contents at a stage, and one more if the reader is closed then. Returns how many messages they have, and it has.
+fn read_at(
+    alloc: Global,
+    stage: Stage,
+    contents: &[&[u8]],
+) -> (
+    Result<usize, MessageError>,
+    Option<Result<usize, MessageError>>,
+) {
+    let mut buffer = [0; 16];
+    let mut messages = MessageReader::new(&mut buffer, stage);
+    let found = count(&mut messages, alloc, contents);
+    if messages.is_closed() {
+        let again = count(&mut messages, alloc, &[&[4, 0, 0, 0]]);
+        (found, Some(again))
+    } else {
+        (found, None)
+    }
+}
+
 #[test]
 fn messages_by_stage(rt: HostRuntime) {
-    for (stage, contents, expected) in CONTENTS {
-        let mut buffer = [0; 16];
-        let mut messages = MessageReader::new(&mut buffer, stage);
-        let found = count(&mut messages, rt.alloc(), contents);
-        assert!(rt; found == expected, "{stage:?} {contents:?} {found:?}");
-        assert!(rt; messages.is_closed() == expected.is_err(), "closed");
-        if messages.is_closed() {
-            let again = count(&mut messages, rt.alloc(), &[&[4, 0, 0, 0]]);
-            assert!(rt; again == Err(Closed), "{again:?}");
-        }
+    for (stage, contents, expected) in &CONTENTS {
+        let (found, again) = read_at(rt.alloc(), *stage, contents);
+        equal(&rt, &(contents, found), &(contents, *expected));
+        holds(&rt, again == expected.err().map(|_| Err(Closed)), "closed");
     }
 }
 

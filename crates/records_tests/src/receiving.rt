@@ -262,55 +262,50 @@ fn written(alloc: Global, sent: &[Sent]) -> Result<Vec<u8>, Fail> {
 }
 
 /// Asserts that this was received.
-fn received_is(
-    rt: &impl Abort,
-    found: &Received,
-    application_data: &[u8],
-    messages: &[&[u8]],
-    what: &str,
-) {
-    same(rt, &found.application_data, application_data, what);
-    holds(rt, found.messages.len() == messages.len(), what);
-    for (found, wanted) in found.messages.iter().zip(messages) {
-        same(rt, found, wanted, what);
+fn received_is(rt: &impl Abort, found: &Received, case: &Case) {
+    same(
+        rt,
+        &found.application_data,
+        case.application_data,
+        case.what,
+    );
+    holds(rt, found.messages.len() == case.messages.len(), case.what);
+    for (found, wanted) in found.messages.iter().zip(case.messages) {
+        same(rt, found, wanted, case.what);
     }
+}
+
+/// Returns an end that receives from a peer with this first secret.
+fn new_end(secret: Secret, buffer: &mut [u8; 1024], stage: Stage) -> Connection<'_> {
+    let writer = Writer::from_secret(first_secret());
+    Connection::new(Reader::from_secret(secret), writer, buffer, stage)
+}
+
+/// Receives records, and returns whether the connection has ended.
+fn receive(
+    end: &mut Connection<'_>,
+    alloc: Global,
+    bytes: &mut [u8],
+    received: &mut Received,
+) -> Result<bool, ReceiveError> {
+    end.receive(alloc, bytes, received)?;
+    Ok(end.is_ended())
 }
 
 /// Receives what the peer of a case does, in one piece, and the same records once more if the connection has ended.
 fn meets(rt: &impl Abort, alloc: Global, case: &Case) -> Result<(), Fail> {
-    let mut buffer = [0; 1024];
-    let mut end = Connection::new(
-        Reader::from_secret(first_secret()),
-        Writer::from_secret(first_secret()),
-        &mut buffer,
-        case.stage,
-    );
-    let mut received = Received::new(alloc);
     let mut bytes = written(alloc, case.sent)?;
-    let taken = end.receive(alloc, &mut bytes, &mut received);
-    let result = match taken {
-        Ok(_) => Ok(end.is_ended()),
-        Err(error) => Err(error),
-    };
+    let mut buffer = [0; 1024];
+    let mut end = new_end(first_secret(), &mut buffer, case.stage);
+    let mut received = Received::new(alloc);
+    let result = receive(&mut end, alloc, &mut bytes, &mut received);
     holds(rt, result == case.result, case.what);
     holds(rt, end.owes_update() == case.owes_update, case.what);
-    received_is(
-        rt,
-        &received,
-        case.application_data,
-        case.messages,
-        case.what,
-    );
+    received_is(rt, &received, case);
     if end.is_ended() {
-        let again = end.receive(alloc, &mut bytes, &mut received);
+        let again = receive(&mut end, alloc, &mut bytes, &mut received);
         holds(rt, again == Err(ReceiveError::Ended), "ended");
-        received_is(
-            rt,
-            &received,
-            case.application_data,
-            case.messages,
-            case.what,
-        );
+        received_is(rt, &received, case);
     }
     Ok(())
 }
@@ -339,15 +334,8 @@ fn carried_after_handshake(alloc: Global, direction: &Direction) -> Result<Recei
     Ok(wanted)
 }
 
-/// Asserts that an end receives what one side of a connection sent after its handshake, given its first application traffic
-/// secret.
-fn is_received(
-    rt: &impl Abort,
-    alloc: Global,
-    direction: &Direction,
-    stage: Stage,
-) -> Result<(), Fail> {
-    let stream = bytes_of(alloc, direction.stream)?;
+/// Returns the first application traffic secret of a direction.
+fn secret_of(alloc: Global, direction: &Direction) -> Result<Secret, Fail> {
     let first = direction
         .epochs
         .get(1)
@@ -358,19 +346,44 @@ fn is_received(
     } else {
         Suite::Aes256Gcm
     };
-    let mut buffer = [0; 1024];
-    let mut end = Connection::new(
-        Reader::from_secret(Secret::new(suite, &secret)?),
-        Writer::from_secret(first_secret()),
-        &mut buffer,
-        stage,
-    );
-    let mut received = Received::new(alloc);
+    Ok(Secret::new(suite, &secret)?)
+}
+
+/// Returns the records of a direction after its handshake.
+fn records_after_handshake(alloc: Global, direction: &Direction) -> Result<Vec<u8>, Fail> {
+    let stream = bytes_of(alloc, direction.stream)?;
     let from = end_of_handshake(&stream, direction)?;
-    let mut rest = stream.get(from..).unwrap_or(&[]).to_vec(alloc)?;
-    let taken = end.receive(alloc, &mut rest, &mut received)?;
-    equal(rt, &taken, &rest.len());
+    Ok(stream.get(from..).unwrap_or(&[]).to_vec(alloc)?)
+}
+
+/// Asserts that records are received up to close_notify, the last of them, and returns what they bring.
+fn received_to_the_end(
+    rt: &impl Abort,
+    alloc: Global,
+    secret: Secret,
+    stage: Stage,
+    bytes: &mut [u8],
+) -> Result<Received, Fail> {
+    let mut buffer = [0; 1024];
+    let mut end = new_end(secret, &mut buffer, stage);
+    let mut received = Received::new(alloc);
+    let taken = end.receive(alloc, bytes, &mut received)?;
+    equal(rt, &taken, &bytes.len());
     holds(rt, end.is_ended(), "close_notify");
+    Ok(received)
+}
+
+/// Asserts that an end receives what one side of a connection sent after its handshake, given its first application traffic
+/// secret.
+fn is_received(
+    rt: &impl Abort,
+    alloc: Global,
+    direction: &Direction,
+    stage: Stage,
+) -> Result<(), Fail> {
+    let mut records = records_after_handshake(alloc, direction)?;
+    let secret = secret_of(alloc, direction)?;
+    let received = received_to_the_end(rt, alloc, secret, stage, &mut records)?;
     let wanted = carried_after_handshake(alloc, direction)?;
     same(
         rt,

@@ -647,31 +647,30 @@ fn sealed_and_opened_to_another_buffer(rt: HostRuntime) -> Result<(), Fail> {
     Ok(())
 }
 
-/// Asserts that a record is not opened to another buffer, which then begins with `inner`, and is unchanged after it.
+/// Asserts that a record in hex is not opened to another buffer, which then begins with `inner`, and is unchanged after it.
 fn rejects_to(
     rt: &impl Abort,
-    record: &[u8],
+    alloc: Global,
+    text: &str,
     inner: &[u8],
     error: RecordError,
-) -> Result<(), RecordError> {
+) -> Result<(), Fail> {
+    let record = hex::decode(alloc, text)?;
     let key = RecordKey::new(&AES_128_GCM, &KEY[..16], IV)?;
     let mut out = [9; 32];
-    holds(
-        rt,
-        key.open_to(0, record, &mut out) == Err(error),
-        "the error",
-    );
+    let opened = key.open_to(0, &record, &mut out);
+    holds(rt, opened == Err(error), "the error");
     begins_with(rt, &out, inner, &[9; 32]);
     Ok(())
 }
 
 #[test]
 fn rejected_to_another_buffer(rt: HostRuntime) -> Result<(), Fail> {
-    for (text, error) in REFUSED {
-        rejects_to(&rt, &hex::decode(rt.alloc(), text)?, &[], error)?;
+    for (text, error) in &REFUSED {
+        rejects_to(&rt, rt.alloc(), text, &[], *error)?;
     }
-    for (text, inner, error) in AUTHENTIC {
-        rejects_to(&rt, &hex::decode(rt.alloc(), text)?, inner, error)?;
+    for (text, inner, error) in &AUTHENTIC {
+        rejects_to(&rt, rt.alloc(), text, inner, *error)?;
     }
     Ok(())
 }

@@ -74,28 +74,41 @@ fn takes_no_key(rt: &impl Abort, writer: &mut Writer, reader: &mut Reader) {
     }
 }
 
+/// Asserts that no update of a reader succeeds once a record has closed it.
+fn is_closed_by_a_record(rt: &impl Abort, reader: &mut Reader) {
+    let closing = reader.read(&mut [23, 3, 3, 0, 16]).err();
+    holds(rt, closing.is_some() && reader.is_closed(), "closed");
+    let closed = Err(RecordError::Closed);
+    holds(rt, reader.update() == closed, "update");
+    let refused = reader.update_with(&BYTES[..16], [1; 12]);
+    holds(rt, refused == closed, "update_with");
+}
+
+/// Continues both ends under the next secret.
+fn update(writer: &mut Writer, reader: &mut Reader) -> Result<(), RecordError> {
+    writer.update()?;
+    reader.update()
+}
+
+/// Asserts that the ends of a row's secret agree over its updates.
+fn agree(rt: &impl Abort, alloc: Global, row: &Row) -> Result<(), Fail> {
+    let mut writer = Writer::from_secret(secret_of(row)?);
+    let mut reader = Reader::from_secret(secret_of(row)?);
+    for record in &row.records {
+        carries(rt, alloc, &mut writer, &mut reader, record)?;
+        takes_no_key(rt, &mut writer, &mut reader);
+        update(&mut writer, &mut reader)?;
+    }
+    is_closed_by_a_record(rt, &mut reader);
+    Ok(())
+}
+
 /// The two ends of a secret agree over its updates, and a refused call changes neither. Once the reader is closed, no update
 /// succeeds.
 #[test]
 fn over_updates(rt: HostRuntime) -> Result<(), Fail> {
     for row in &ROWS {
-        let mut writer = Writer::from_secret(secret_of(row)?);
-        let mut reader = Reader::from_secret(secret_of(row)?);
-        for record in row.records {
-            carries(&rt, rt.alloc(), &mut writer, &mut reader, record)?;
-            takes_no_key(&rt, &mut writer, &mut reader);
-            writer.update()?;
-            reader.update()?;
-        }
-        let closing = reader.read(&mut [23, 3, 3, 0, 16]).err();
-        holds(&rt, closing.is_some() && reader.is_closed(), "closed");
-        let closed = Err(RecordError::Closed);
-        holds(&rt, reader.update() == closed, "update");
-        holds(
-            &rt,
-            reader.update_with(&BYTES[..16], [1; 12]) == closed,
-            "update_with",
-        );
+        agree(&rt, rt.alloc(), row)?;
     }
     Ok(())
 }
