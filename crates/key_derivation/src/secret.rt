@@ -34,7 +34,7 @@ enum SecretBytes {
 ///
 /// # Examples
 ///
-/// The keys of a client's Initial packets. From `crates/examples/src/initial_keys.rt`:
+/// The keys of a client's Initial packets. From `crates/quic_packets_tests/src/examples/initial_keys.rt`:
 ///
 /// ```
 /// let secret = Secret::client_initial(id)?;

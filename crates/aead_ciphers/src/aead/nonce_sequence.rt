@@ -9,7 +9,7 @@ use crate::aead::{Nonce, Unspecified};
 ///
 /// # Examples
 ///
-/// A sequence that returns one nonce, once. From `crates/examples/src/one_nonce.rt`:
+/// A sequence that returns one nonce, once. From `crates/aead_ciphers_tests/src/examples/one_nonce.rt`:
 ///
 /// ```
 /// impl NonceSequence for OneNonce {

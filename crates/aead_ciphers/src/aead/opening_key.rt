@@ -18,14 +18,15 @@ use std::ops::RangeFrom;
 ///
 /// # Examples
 ///
-/// Creates a key that counts its nonces. From `crates/examples/src/connection.rt`:
+/// Creates a key that counts its nonces. From `crates/aead_ciphers_tests/src/examples/connection.rt`:
 ///
 /// ```
 /// let sequence = CounterSequence::new(prefix, 0, NONCES)?;
 /// Ok(OpeningKey::new(UnboundKey::new(algorithm, key_bytes)?, sequence))
 /// ```
 ///
-/// Opens the next message. A rejected message consumes its nonce too. From `crates/examples/src/connection.rt`:
+/// Opens the next message. A rejected message consumes its nonce too.
+/// From `crates/aead_ciphers_tests/src/examples/connection.rt`:
 ///
 /// ```
 /// key.open_in_place_to_front(Aad::from(aad), message)
