@@ -10,6 +10,7 @@ use crate::error::FileError;
 use crate::header::{ChunkCipher, HEADER_LEN, VERSION, cipher_of};
 use crate::key::FileKey;
 use crate::random::FileRandom;
+use crate::read_at::rest_from;
 use aead_ciphers::aead::{MAX_TAG_LEN, Tag};
 
 /// The number of the last piece when `len` bytes are cut into pieces of `size` bytes.
@@ -181,18 +182,11 @@ pub(crate) fn append_opened(
     open_from(cipher, number, is_last, tag, out, start)
 }
 
-/// The bytes from `at` on, or none if there are fewer.
-fn rest_from(bytes: &[u8], at: usize) -> &[u8]
-    ensures { result.now ≡ drop at bytes.now }
-{
-    if bytes.len() < at { &[] } else { &bytes[at..] }
-}
-
 /// The bytes after the header of a sealed file.
 fn body_of(sealed: &[u8]) -> &[u8]
     ensures { result.now ≡ body_of sealed.now }
 {
-    rest_from(sealed, HEADER_LEN)
+    rest_from(sealed, HEADER_LEN as u64)
 }
 
 /// The number of the last chunk of a sealed file.

@@ -53,7 +53,7 @@ pub trait ReadAt {
 }
 
 /// The bytes from `at` on, or none if there are fewer.
-fn rest_from(bytes: &[u8], at: u64) -> &[u8]
+pub(crate) fn rest_from(bytes: &[u8], at: u64) -> &[u8]
     ensures { result.now ≡ drop at bytes.now }
 {
     if bytes.len() as u64 <= at {
