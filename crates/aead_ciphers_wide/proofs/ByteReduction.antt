@@ -14,7 +14,7 @@ use Rattle.aead_ciphers.proofs.GhashBlocks.{byte_at_is, to_be_bytes-from_be_byte
 use Rattle.aead_ciphers.proofs.ProductLoop.{next_multiple, reduction}
 use Rattle.aead_ciphers.proofs.SubkeyMultiples.{IsRaised, raised_next, block_of-multiple}
 use Rattle.aead_ciphers_wide.proofs.ByteLadder.{step}
-use Rattle.aead_ciphers_wide.proofs.ByteRows.{by_sixteen}
+use Rattle.aead_ciphers_wide.proofs.WideBlocks.{by_sixteen}
 
 -- ---- the next multiple keeps sums
 

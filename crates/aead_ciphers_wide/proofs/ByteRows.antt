@@ -16,6 +16,7 @@ use Rattle.aead_ciphers_wide.specs.Products.{AreProducts, chosen_sum, column, fi
 use Rattle.aead_ciphers.specs.Multiples.{monomial_block}
 use Rattle.aead_ciphers.proofs.GhashBlocks.{to_be_bytes-xor, IsBlock-number, IsBlock-product}
 use Rattle.aead_ciphers.proofs.GhashLaws.{Sized, Sized-product, Sized-xor, xor_zero, product_zero, product_assoc, product_comm, product_xor_left, product_unit, IsBlock-zero}
+use Rattle.aead_ciphers_wide.proofs.WideBlocks.{by_sixteen}
 use Rattle.aead_ciphers_wide.proofs.ByteLadder.{step, ladder, ladder-same, ladder-xor, ladder-times, ladder-swap, ladder-append, ladder-zero, Sized-ladder, Sized-step, block_ladder}
 
 -- ---- the table
@@ -66,28 +67,6 @@ chosen_is h m n from size multiples within =
     ∙ sym (product_xor_left (a ⊕ b) c h (Sized-xor a b sa sb) sc size))
     (at (digit n 1) (from + 3) (omega arith))
     ∙ sym (product_xor_left ((a ⊕ b) ⊕ c) d h (Sized-xor (a ⊕ b) c (Sized-xor a b sa sb) sc) sd size)
-
-pub by_sixteen : (P : ℕ → Type 0) → P 0 → P 1 → P 2 → P 3 → P 4 → P 5 → P 6 → P 7 → P 8 → P 9 → P 10 → P 11 → P 12 → P 13 → P 14 → P 15
-    → (n : ℕ) → n < 16 → P n
-by_sixteen P p0 p1 p2 p3 p4 p5 p6 p7 p8 p9 p10 p11 p12 p13 p14 p15 n h = elim n as (λ n. n < 16 → P n) [
-  | zero ↦ λ _. p0
-  | suc zero ↦ λ _. p1
-  | suc (suc zero) ↦ λ _. p2
-  | suc (suc (suc zero)) ↦ λ _. p3
-  | suc (suc (suc (suc zero))) ↦ λ _. p4
-  | suc (suc (suc (suc (suc zero)))) ↦ λ _. p5
-  | suc (suc (suc (suc (suc (suc zero))))) ↦ λ _. p6
-  | suc (suc (suc (suc (suc (suc (suc zero)))))) ↦ λ _. p7
-  | suc (suc (suc (suc (suc (suc (suc (suc zero))))))) ↦ λ _. p8
-  | suc (suc (suc (suc (suc (suc (suc (suc (suc zero)))))))) ↦ λ _. p9
-  | suc (suc (suc (suc (suc (suc (suc (suc (suc (suc zero))))))))) ↦ λ _. p10
-  | suc (suc (suc (suc (suc (suc (suc (suc (suc (suc (suc zero)))))))))) ↦ λ _. p11
-  | suc (suc (suc (suc (suc (suc (suc (suc (suc (suc (suc (suc zero))))))))))) ↦ λ _. p12
-  | suc (suc (suc (suc (suc (suc (suc (suc (suc (suc (suc (suc (suc zero)))))))))))) ↦ λ _. p13
-  | suc (suc (suc (suc (suc (suc (suc (suc (suc (suc (suc (suc (suc (suc zero))))))))))))) ↦ λ _. p14
-  | suc (suc (suc (suc (suc (suc (suc (suc (suc (suc (suc (suc (suc (suc (suc zero)))))))))))))) ↦ λ _. p15
-  | suc (suc (suc (suc (suc (suc (suc (suc (suc (suc (suc (suc (suc (suc (suc (suc k))))))))))))))) ↦ λ h. absurd (omega arith)
-] h
 
 high_digit : (n : ℕ) → n < 16 → digit_block n 0 ≡ first_byte (16 * n)
 unfolding block_of

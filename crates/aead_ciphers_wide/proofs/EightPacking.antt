@@ -1,17 +1,17 @@
 -- Eight blocks as planes of 128 bits.
-use Rattle.std.proofs.Common.{◌≡◌, ℕ, zero, suc, ◌+◌, ◌*◌, ◌/◌, ◌%◌, ◌^◌, ◌<◌, List, [], slice_index, slice_index_or, refl, sym, ap, ap₂, ◌∙◌, arith, div-one, ◌==◌, false}
+use Rattle.std.proofs.Common.{◌≡◌, ℕ, zero, suc, ◌+◌, ◌*◌, ◌/◌, ◌%◌, ◌^◌, ◌<◌, List, slice_index, refl, sym, ap, ap₂, ◌∙◌, arith, div-one, ◌==◌, false}
 use Rattle.std.specs.Int.{bit_at, to_le_bytes, w128}
 use Rattle.std.proofs.lemmas.List.FromFn.{fill_by_all}
 use Rattle.aead_ciphers_base.specs.ByteField.{bits_of, value_of}
 use Rattle.aead_ciphers_base.specs.Planes.{block_at, plane_byte, word_bit}
 use Rattle.aead_ciphers_wide.specs.WidePlanes.{wide_block}
-use Rattle.aead_ciphers_wide.specs.Word.{lane_of, lanes_of}
+use Rattle.aead_ciphers_wide.specs.Word.{lanes_of}
 use Rattle.aead_ciphers_base.proofs.NumberBits.{bit_at-mod, bit_at-shr, value_of-bits_of}
 use Rattle.aead_ciphers_base.proofs.PlaneBits.{bits_of_at}
 use Rattle.aead_ciphers_base.proofs.PlaneBlocks.{state_is}
 use Rattle.aead_ciphers_base.proofs.EachLemmas.{get_or-each}
 use Rattle.aead_ciphers_base.proofs.PlanePacking.{bits_from, word_bit-at}
-use Rattle.aead_ciphers_wide.proofs.WordLanes.{lanes_at}
+use Rattle.aead_ciphers_wide.proofs.WordLanes.{lane_bit, lanes_at}
 
 pub byte_is : (n j : ℕ) → j < 16 → slice_index (to_le_bytes w128 n) j ≡ n / 2 ^ (8 * j) % 2 ^ 8
 byte_is n zero h = ap (λ t. t % 256) (sym (div-one n))
@@ -28,9 +28,6 @@ byte_of_planes word j p planes hj same =
     (λ b hb.
     let place : b + 8 * j ≡ 8 * j + b = omega arith in
     bits_of_at 8 n b hb ∙ ap (λ t. t == 1) (bit_at-mod _ 8 b hb ∙ bit_at-shr word (8 * j) b ∙ ap (bit_at word) place ∙ same b hb)))
-
-lane_bit : (j w q : ℕ) → q < 64 → bit_at (lane_of j w) q ≡ bit_at w (64 * j + q)
-lane_bit j w q h = let place : q + 64 * j ≡ 64 * j + q = omega arith in bit_at-mod _ 64 q h ∙ bit_at-shr w (64 * j) q ∙ ap (bit_at w) place
 
 -- in each lane, bit b of each byte of word i is bit i of that byte of plane b
 abbrev pub AreTransposed : List ℕ → List ℕ → Type 0
@@ -66,13 +63,11 @@ packed_eight words planes h k hk =
     let place : 8 * (p / 8) + b ≡ 8 * j + b = omega arith in
     sym (transposed_bit words planes h p b (omega arith) hb ∙ ap₂ (λ i t. bit_at (slice_index words i) t) word place))))
 
-pub unpacked_eight : (planes words : List ℕ) (blocks : List (List ℕ)) → AreTransposed planes words
-    → ((k : ℕ) → k < 8 → slice_index_or blocks k [] ≡ to_le_bytes w128 (slice_index words k))
-    → (k : ℕ) → k < 8 → slice_index_or blocks k [] ≡ wide_block planes k
+pub unpacked_eight : (planes words : List ℕ) → AreTransposed planes words → (k : ℕ) → k < 8
+    → to_le_bytes w128 (slice_index words k) ≡ wide_block planes k
 unfolding block_at
-unpacked_eight planes words blocks h held k hk =
-    held k hk
-    ∙ state_is (λ r c. plane_byte planes (8 * (r + 4 * c) + k)) _ refl
+unpacked_eight planes words h k hk =
+    state_is (λ r c. plane_byte planes (8 * (r + 4 * c) + k)) _ refl
     (λ j hj.
     let place : 8 * j + k ≡ 8 * (j % 4 + 4 * (j / 4)) + k = omega arith in
     byte_of_planes (slice_index words k) j (8 * j + k) planes hj

@@ -2,6 +2,7 @@ pub mod ByteLadder
 pub mod ByteReduction
 pub mod ByteRows
 pub mod EightPacking
+pub mod Halves
 pub mod KeystreamLemmas
 pub mod PermutedBlocks
 pub mod PermutedBytes

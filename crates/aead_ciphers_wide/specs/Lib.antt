@@ -5,4 +5,5 @@ pub mod Pieces
 pub mod Products
 pub mod WidePlanes
 pub mod WideSchedule
+pub mod Width
 pub mod Word

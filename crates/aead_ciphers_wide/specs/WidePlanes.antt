@@ -1,9 +1,10 @@
--- Eight blocks in eight planes of 128 bits: bit 8 byte + block of plane b is bit b of that byte.
-use Rattle.std.specs.Prelude.{ℕ, ◌+◌, ◌*◌, ◌/◌, ◌<◌, List}
+-- Blocks in eight planes: eight in planes of 128 bits, where bit 8 byte + block of plane b is bit b of that byte, and sixteen in
+-- planes of 256 bits, whose halves are such planes of the blocks with even numbers and of those with odd ones.
+use Rattle.std.specs.Prelude.{ℕ, ◌+◌, ◌*◌, ◌/◌, ◌%◌, ◌<◌, List}
 use Rattle.std.proofs.Common.{arith}
 use Rattle.aead_ciphers_base.specs.Planes.{block_at}
 
--- where the planes hold byte j of block k
+-- where planes of 128 bits hold byte j of block k
 abbrev pub place_of_eight : ℕ → ℕ → ℕ
 place_of_eight k j = 8 * j + k
 
@@ -13,3 +14,14 @@ place_of_eight_within k j hk hj = omega arith
 -- block k: its byte j is byte 8 j + k of the planes
 abbrev pub wide_block : List ℕ → ℕ → List ℕ
 wide_block = block_at place_of_eight
+
+-- where planes of 256 bits hold byte j of block k
+abbrev pub place_of_sixteen : ℕ → ℕ → ℕ
+place_of_sixteen k j = 128 * (k % 2) + (8 * j + k / 2)
+
+pub place_of_sixteen_within : (k j : ℕ) → k < 256 / 16 → j < 16 → place_of_sixteen k j < 256
+place_of_sixteen_within k j hk hj = omega arith
+
+-- block k: its byte j is byte 128 (k % 2) + 8 j + k / 2 of the planes
+abbrev pub wider_block : List ℕ → ℕ → List ℕ
+wider_block = block_at place_of_sixteen

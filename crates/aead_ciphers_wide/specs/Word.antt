@@ -1,10 +1,6 @@
--- Numbers of 128 bits as two lanes of 64.
-use Rattle.std.proofs.Common.{◌≡◌, ℕ, ◌+◌, ◌*◌, ◌/◌, ◌%◌, ◌^◌, ◌<◌, List, [], ◌∷◌, length, map, ap₂, arith}
+-- Numbers as lanes of 64 bits, and those of 256 bits as two halves.
+use Rattle.std.proofs.Common.{◌≡◌, ℕ, ◌+◌, ◌*◌, ◌/◌, ◌%◌, ◌^◌, ◌<◌, List, [], ◌∷◌, length, map, refl, sym, ap, ap₂, ◌∙◌, arith}
 use Rattle.std.specs.Simd.Lanes.{number_l, digits_l, Each1}
-
--- the number whose lanes f makes of those of x
-unfoldable pub each_lane : (ℕ → ℕ) → ℕ → ℕ
-each_lane f x = f (x / 2 ^ 64) * 2 ^ 64 + f (x % 2 ^ 64)
 
 -- lane j of a number
 abbrev pub lane_of : ℕ → ℕ → ℕ
@@ -14,9 +10,22 @@ lane_of j x = x / 2 ^ (64 * j) % 2 ^ 64
 abbrev pub lanes_of : ℕ → List ℕ → List ℕ
 lanes_of j xs = map (lane_of j) xs
 
-pub digits_back : (lanes : List ℕ) → length lanes ≡ 2 → Each1 (λ x. x < 2 ^ 64) lanes → digits_l (2 ^ 64) 2 (number_l (2 ^ 64) lanes) ≡ lanes
-digits_back (x ∷ y ∷ []) size small =
-    let low : (x + 2 ^ 64 * (y + 2 ^ 64 * 0)) % 2 ^ 64 ≡ x = omega (arith, small.0, small.1.0) in
-    let high : (x + 2 ^ 64 * (y + 2 ^ 64 * 0)) / 2 ^ 64 % 2 ^ 64 ≡ y = omega (arith, small.0, small.1.0) in
-    ap₂ (λ (a b : ℕ). a ∷ b ∷ []) low high
-digits_back _ size small = absurd (omega arith)
+-- half h of a number of 256 bits
+abbrev pub half_of : ℕ → ℕ → ℕ
+half_of h x = x / 2 ^ (128 * h) % 2 ^ 128
+
+-- the number of 256 bits each of whose halves is a number of 128 bits
+abbrev pub twice : ℕ → ℕ
+twice n = n % 2 ^ 128 * 2 ^ 128 + n % 2 ^ 128
+
+digits_of : (lanes : List ℕ) → Each1 (λ x. x < 2 ^ 64) lanes
+    → digits_l (2 ^ 64) (length lanes) (number_l (2 ^ 64) lanes) ≡ lanes
+digits_of [] small = refl
+digits_of (x ∷ xs) small =
+    let low : (x + 2 ^ 64 * number_l (2 ^ 64) xs) % 2 ^ 64 ≡ x = omega (arith, small.0) in
+    let high : (x + 2 ^ 64 * number_l (2 ^ 64) xs) / 2 ^ 64 ≡ number_l (2 ^ 64) xs = omega (arith, small.0) in
+    ap₂ (λ (y : ℕ) (ys : List ℕ). y ∷ ys) low (ap (digits_l (2 ^ 64) (length xs)) high ∙ digits_of xs small.1)
+
+pub digits_back : (n : ℕ) (lanes : List ℕ) → length lanes ≡ n → Each1 (λ x. x < 2 ^ 64) lanes
+    → digits_l (2 ^ 64) n (number_l (2 ^ 64) lanes) ≡ lanes
+digits_back n lanes size small = ap (λ k. digits_l (2 ^ 64) k (number_l (2 ^ 64) lanes)) (sym size) ∙ digits_of lanes small

@@ -1,13 +1,15 @@
-//! AES (FIPS 197), of eight blocks on bit planes, and of one block or two by byte permutes, and its counter mode (SP 800-38D
-//! section 6.5).
+//! AES (FIPS 197), of eight or sixteen blocks on bit planes, and of one block or two by byte permutes, and its counter mode
+//! (SP 800-38D section 6.5).
 //!
-//! Eight planes of 128 bits hold eight blocks: bit `8 * byte + block` of plane `b` is bit `b` of that byte.
+//! Eight planes of 128 bits hold eight blocks: bit `8 * byte + block` of plane `b` is bit `b` of that byte. Eight planes of 256
+//! bits hold sixteen: their halves are planes of 128 bits, of the blocks with even numbers and of those with odd ones.
 
 ghost use Rattle.std.specs.Prelude.{◌≡◌, ◌+◌, IsOk, IfOk};
 ghost use Rattle.aead_ciphers_base.specs.Aes.{aes, length_aes};
 ghost use Rattle.aead_ciphers_base.specs.KeyBytes.{key_bytes};
 ghost use Rattle.aead_ciphers_base.specs.Mask.{aes_mask};
 ghost use Rattle.aead_ciphers_wide.specs.WideSchedule.{HoldsPlanes, IsSchedule, key_of};
+ghost use Rattle.aead_ciphers_wide.specs.Width.{width_bits};
 
 use aead_ciphers_base::aes::{
     Block, Counter, EncryptBlock, EncryptCtr32, KeyBytes, Overlapping, Work,
@@ -22,18 +24,45 @@ mod counters;
 mod ctr32;
 mod key_schedule;
 mod pack_eight;
+mod pack_sixteen;
 mod permuted;
 mod round_keys;
+mod transpose;
 
 pub use block_key::{BlockKey, BlockKeyRef};
 pub use round_keys::{RoundKeys, RoundPlanes, write_planes};
+
+/// The width of the planes on which a key encrypts batches of blocks. It changes no result.
+#[derive(Clone, Copy)]
+pub enum Width {
+    /// Eight blocks on planes of 128 bits. The faster where vectors have 128 bits, such as SSE2 and NEON.
+    Bits128,
+    /// Sixteen blocks on planes of 256 bits. The faster where vectors have 256 bits, such as AVX2.
+    Bits256,
+}
+
+/// The number of bits for planes of 256 bits. Each other number stands for planes of 128 bits.
+const PLANES_OF_256_BITS: u32 = 256;
+
+impl Width {
+    /// Returns the number of bits.
+    pub fn bits(self) -> u32
+        ensures { result ≡ width_bits self }
+    {
+        match self {
+            Width::Bits128 => 128,
+            Width::Bits256 => PLANES_OF_256_BITS,
+        }
+    }
+}
 
 /// An expanded AES key: its round keys (FIPS 197 section 5.2), and the planes that hold each in all eight blocks.
 #[derive(Clone, Drop)]
 pub struct Key {
     planes: RoundPlanes,
     // Between the arrays: the compiler copies two that are next to each other as one, by way of the stack.
-    rounds: usize,
+    rounds: u32,
+    width: u32,
     round_keys: RoundKeys,
 }
 
@@ -50,8 +79,16 @@ impl Model for Key {
 }
 
 impl Key {
-    /// Expands a key of 16 or 32 bytes (FIPS 197 section 5.2). Never fails.
+    /// Expands a key of 16 or 32 bytes (FIPS 197 section 5.2), with planes of 128 bits. Never fails.
     pub fn new(bytes: KeyBytes<'_>) -> Result<Key, Unspecified>
+        ensures accepted { IsOk result }
+        ensures made { IfOk result (λ key. key ≡ key_bytes bytes.entry) }
+    {
+        Key::new_with_width(bytes, Width::Bits128)
+    }
+
+    /// Expands a key of 16 or 32 bytes (FIPS 197 section 5.2), with planes of this width. Never fails.
+    pub fn new_with_width(bytes: KeyBytes<'_>, width: Width) -> Result<Key, Unspecified>
         ensures accepted { IsOk result }
         ensures made { IfOk result (λ key. key ≡ key_bytes bytes.entry) }
     {
@@ -61,7 +98,8 @@ impl Key {
         write_planes(&mut planes, &round_keys, rounds);
         Ok(Key {
             planes,
-            rounds,
+            rounds: rounds as u32,
+            width: width.bits(),
             round_keys,
         })
     }
@@ -73,7 +111,8 @@ impl Key {
         KeyRef {
             planes: &self.planes,
             round_keys: &self.round_keys,
-            rounds: self.rounds,
+            rounds: self.rounds as usize,
+            width: self.width,
         }
     }
 
@@ -103,6 +142,7 @@ pub struct KeyRef<'k> {
     planes: &'k RoundPlanes,
     round_keys: &'k RoundKeys,
     rounds: usize,
+    width: u32,
 }
 
 impl<'k> Model for KeyRef<'k> {
@@ -119,8 +159,13 @@ impl<'k> Model for KeyRef<'k> {
 
 impl<'k> KeyRef<'k> {
     /// Creates a key from round keys and the number of rounds, as `expand` writes and returns them, and their planes, as
-    /// `write_planes` writes them.
-    pub fn new(planes: &'k RoundPlanes, round_keys: &'k RoundKeys, rounds: usize) -> Self
+    /// `write_planes` writes them. Batches take planes of 256 bits if that is `width`, and of 128 bits under each other number.
+    pub fn new(
+        planes: &'k RoundPlanes,
+        round_keys: &'k RoundKeys,
+        rounds: usize,
+        width: u32,
+    ) -> Self
         requires schedule { IsSchedule round_keys.now rounds }
         requires planes { HoldsPlanes planes.now round_keys.now (rounds + 1) }
         ensures { result ≡ key_of round_keys.now rounds }
@@ -129,6 +174,7 @@ impl<'k> KeyRef<'k> {
             planes,
             round_keys,
             rounds,
+            width,
         }
     }
 

@@ -8,10 +8,12 @@ ghost use Rattle.aead_ciphers_base.specs.Values.{aad_bytes};
 ghost use Rattle.aead_ciphers_base.specs.Work.{Adds, CanAdd};
 ghost use Rattle.aead_ciphers_wide.specs.ExpandedKey.{IsExpanded, bytes_of, zero_key};
 ghost use Rattle.aead_ciphers_wide.specs.Pieces.{HasSealed, SealsPiece};
+ghost use Rattle.aead_ciphers_wide.specs.Width.{width_bits};
 ghost use Rattle.aead_ciphers.specs.Gcm.{CanSeal, Fits, SealWork, Opened, OpenedAttached, gcm_decrypted, gcm_encrypted, gcm_tag};
 
 mod pieces;
 
+use crate::aes::Width;
 use crate::{aes, gcm};
 use aead_ciphers::aes_gcm::{open_to_with, open_with, seal_with};
 use aead_ciphers::gcm::MAX_IN_OUT_LEN;
@@ -40,7 +42,9 @@ pub struct ExpandedKey {
     pub planes: [[u64; 16]; 15],
     // Between the arrays, as in `aes::Key`.
     /// The number of rounds: 10 for AES-128, 14 for AES-256.
-    pub rounds: usize,
+    pub rounds: u32,
+    /// The width of the planes on which batches are encrypted, in bits: 256, or 128 for each other number. It changes no result.
+    pub width: u32,
     /// The round keys (FIPS 197 section 5.2).
     pub round_keys: [[u8; 16]; 15],
     /// The products of the hash subkey (SP 800-38D section 6.3).
@@ -58,6 +62,7 @@ impl ExpandedKey {
         ExpandedKey {
             planes: [[0; 16]; 15],
             rounds: 0,
+            width: 0,
             round_keys: [[0; 16]; 15],
             products: [0; 512],
             squares: [0; 512],
@@ -65,18 +70,44 @@ impl ExpandedKey {
     }
 
     /// Overwrites the fields with the expansion of a key of 16 or 32 bytes, whose hash subkey is computed by one cipher
-    /// block (SP 800-38D section 7.1 step 1).
+    /// block (SP 800-38D section 7.1 step 1), with planes of 128 bits.
     pub fn expand(&mut self, bytes: KeyBytes<'_>, work: &mut Work)
         requires { CanAdd work.old 1 0 }
         ensures expanded { IsExpanded self.new }
         ensures bytes { bytes_of self.new ≡ key_bytes bytes.entry }
         ensures worked { Adds work.old work.new 1 0 }
     {
-        self.rounds = aes::expand(&mut self.round_keys, bytes);
-        aes::write_planes(&mut self.planes, &self.round_keys, self.rounds);
-        let aes = aes::BlockKeyRef::new(&self.round_keys, self.rounds);
+        self.expand_with_width(bytes, Width::Bits128, work);
+    }
+
+    /// Does the same as `expand`, with planes of this width.
+    pub fn expand_with_width(&mut self, bytes: KeyBytes<'_>, width: Width, work: &mut Work)
+        requires { CanAdd work.old 1 0 }
+        ensures expanded { IsExpanded self.new }
+        ensures bytes { bytes_of self.new ≡ key_bytes bytes.entry }
+        ensures width { self.new.width ≡ width_bits width }
+        ensures worked { Adds work.old work.new 1 0 }
+    {
+        let rounds = aes::expand(&mut self.round_keys, bytes);
+        aes::write_planes(&mut self.planes, &self.round_keys, rounds);
+        self.rounds = rounds as u32;
+        self.width = width.bits();
+        let aes = aes::BlockKeyRef::new(&self.round_keys, rounds);
         let subkey = aes.encrypt_block(ZERO_BLOCK, work);
         gcm::expand(&mut self.products, &mut self.squares, subkey);
+    }
+
+    // Borrows the AES key.
+    fn aes(&self) -> aes::KeyRef<'_>
+        requires { IsExpanded self.now }
+        ensures { result ≡ bytes_of self.now }
+    {
+        aes::KeyRef::new(
+            &self.planes,
+            &self.round_keys,
+            self.rounds as usize,
+            self.width,
+        )
     }
 
     /// Seals under this key, like `aead_ciphers::aes_gcm::seal`.
@@ -99,7 +130,7 @@ impl ExpandedKey {
         ensures worked { SealWork (length (aad_bytes aad.entry)) (length in_out.old) result
             work.old work.new }
     {
-        let aes = aes::KeyRef::new(&self.planes, &self.round_keys, self.rounds);
+        let aes = self.aes();
         let gcm = gcm::KeyRef::new(&self.products, &self.squares);
         seal_with(&aes, &gcm, nonce, aad, in_out, work)
     }
@@ -119,7 +150,7 @@ impl ExpandedKey {
         ensures count { IfOk result (λ n. n ≡ length in_out.old - ciphertext.start) }
         ensures refused { OnErr result (in_out.new ≡ in_out.old) }
     {
-        let aes = aes::KeyRef::new(&self.planes, &self.round_keys, self.rounds);
+        let aes = self.aes();
         let gcm = gcm::KeyRef::new(&self.products, &self.squares);
         let len = in_out.len();
         let start = ciphertext.start;
@@ -187,7 +218,7 @@ impl ExpandedKey {
             (out.new ≡ gcm_decrypted (aes_cipher (bytes_of self.now)) nonce ciphertext.now) }
         ensures refused { OnErr result (out.new ≡ out.old) }
     {
-        let aes = aes::KeyRef::new(&self.planes, &self.round_keys, self.rounds);
+        let aes = self.aes();
         let gcm = gcm::KeyRef::new(&self.products, &self.squares);
         open_to_with(
             &aes,
@@ -229,7 +260,7 @@ impl ExpandedKey {
             in_out.old in_out.new state.new) }
         ensures refused { OnErr result ((state.new ≡ state.old) × (in_out.new ≡ in_out.old)) }
     {
-        let aes = aes::KeyRef::new(&self.planes, &self.round_keys, self.rounds);
+        let aes = self.aes();
         let gcm = gcm::KeyRef::new(&self.products, &self.squares);
         state.update_with(&aes, &gcm, in_out)
     }
@@ -243,7 +274,7 @@ impl ExpandedKey {
             → HasSealed (aes_cipher (bytes_of self.now)) nonce aad message ciphertext state
             → result ≡ gcm_tag (aes_cipher (bytes_of self.now)) nonce aad ciphertext }
     {
-        let aes = aes::KeyRef::new(&self.planes, &self.round_keys, self.rounds);
+        let aes = self.aes();
         let gcm = gcm::KeyRef::new(&self.products, &self.squares);
         state.finish_with(&aes, &gcm)
     }
@@ -254,6 +285,6 @@ impl ExpandedKey {
         requires { IsExpanded self.now }
         ensures { result ≡ aes_mask (bytes_of self.now) sample }
     {
-        aes::BlockKeyRef::new(&self.round_keys, self.rounds).new_mask(sample)
+        aes::BlockKeyRef::new(&self.round_keys, self.rounds as usize).new_mask(sample)
     }
 }

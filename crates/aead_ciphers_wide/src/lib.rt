@@ -9,5 +9,6 @@ pub mod aead;
 pub mod aes;
 pub mod aes_gcm;
 pub mod gcm;
+mod lanes;
 mod permute;
 mod word;

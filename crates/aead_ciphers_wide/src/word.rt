@@ -3,12 +3,16 @@
 ghost use Rattle.std.specs.Prelude.{◌≡◌, ◌<◌, ◌+◌, ◌*◌, ◌/◌, ◌%◌, ◌^◌, ℕ, bit_xor, bit_and, slice_index};
 ghost use Rattle.std.specs.Int.{bit_at, to_le_bytes, w128};
 ghost use Rattle.aead_ciphers_wide.specs.WidePlanes.{place_of_eight, place_of_eight_within};
-ghost use Rattle.aead_ciphers_wide.specs.Word.{each_lane};
 
+use crate::lanes::Lanes;
 use aead_ciphers_base::aes::{Block, Plane};
 use std::marker::Model;
-use std::ops::{BitAnd, BitXor, Shl, Shr};
+use std::ops::{BitAnd, BitXor};
 use std::simd::{u8x16, u64x2};
+
+mod wider;
+
+pub use wider::WiderWord;
 
 /// A number of 128 bits.
 #[derive(Clone, Copy)]
@@ -30,7 +34,7 @@ impl Model for Word {
 
     ghost inverse = { λ n. record { lanes = digits_l (2 ^ 64) 2 n } };
 
-    ghost inverse_ok = { λ word h. ap (λ lanes. record { lanes = lanes }) (digits_back word.lanes h.0 h.1) };
+    ghost inverse_ok = { λ word h. ap (λ lanes. record { lanes = lanes }) (digits_back 2 word.lanes h.0 h.1) };
 }
 
 impl Word {
@@ -86,16 +90,6 @@ impl Word {
             → bit_at result p ≡ bit_at (slice_index bytes (p / 8)) b }
     {
         Word::from_bytes(filled(bytes, bit))
-    }
-
-    /// Returns the number both of whose lanes are `word`.
-    #[inline(always)]
-    pub fn splat(word: u64) -> Self
-        ensures { result ≡ word * 2 ^ 64 + word }
-    {
-        Word {
-            lanes: u64x2::splat(word),
-        }
     }
 }
 
@@ -184,34 +178,25 @@ impl Plane for Word {
     }
 }
 
-/// Shifts each lane to the left.
-impl Shl<u32> for Word {
-    type Output = Word;
-
-    ghost can_shl = { λ a n. n < 64 };
-
-    ghost shl_gives = { λ a n result. result ≡ each_lane (λ x. x * 2 ^ n % 2 ^ 64) a };
-
+impl Lanes for Word {
     #[inline(always)]
-    fn shl(self, rhs: u32) -> Word {
+    fn splat(lane: u64) -> Word {
         Word {
-            lanes: self.lanes << u64x2::splat(u64::from(rhs)),
+            lanes: u64x2::splat(lane),
         }
     }
-}
-
-/// Shifts each lane to the right.
-impl Shr<u32> for Word {
-    type Output = Word;
-
-    ghost can_shr = { λ a n. n < 64 };
-
-    ghost shr_gives = { λ a n result. result ≡ each_lane (λ x. x / 2 ^ n) a };
 
     #[inline(always)]
-    fn shr(self, rhs: u32) -> Word {
+    fn lanes_left(self, n: u32) -> Word {
         Word {
-            lanes: self.lanes >> u64x2::splat(u64::from(rhs)),
+            lanes: self.lanes << u64x2::splat(u64::from(n)),
+        }
+    }
+
+    #[inline(always)]
+    fn lanes_right(self, n: u32) -> Word {
+        Word {
+            lanes: self.lanes >> u64x2::splat(u64::from(n)),
         }
     }
 }

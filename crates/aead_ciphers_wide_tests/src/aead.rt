@@ -4,6 +4,7 @@ use crate::checks::{holds, same};
 use aead_ciphers::aead::{AES_128_GCM, AES_256_GCM, Aad, Algorithm, Nonce, Tag};
 use aead_ciphers_base::aes::AES_128_KEY_LEN;
 use aead_ciphers_wide::aead::LessSafeKey;
+use aead_ciphers_wide::aes::Width;
 use aead_vectors::gcm_spec::{CASES, Case};
 use std::process::Abort;
 use std::test::Fail;
@@ -59,16 +60,23 @@ fn seals_packet(rt: &impl Abort, key: &LessSafeKey, case: &Case) -> Result<(), F
 }
 
 /// Asserts the same with a key and with its clone.
-fn seals_by_key_and_clone(rt: &impl Abort, case: &Case) -> Result<(), Fail> {
-    let key = LessSafeKey::new(algorithm(case), &case.key)?;
-    seals(rt, &key, case)?;
+fn seals_by_key_and_clone(rt: &impl Abort, key: &LessSafeKey, case: &Case) -> Result<(), Fail> {
+    seals(rt, key, case)?;
     seals_packet(rt, &key.clone()?, case)
+}
+
+/// Asserts the same with planes of both widths.
+fn seals_by_both(rt: &impl Abort, case: &Case) -> Result<(), Fail> {
+    let key = LessSafeKey::new(algorithm(case), &case.key)?;
+    seals_by_key_and_clone(rt, &key, case)?;
+    let key = LessSafeKey::new_with_width(algorithm(case), &case.key, Width::Bits256)?;
+    seals_by_key_and_clone(rt, &key, case)
 }
 
 #[test]
 fn gcm_spec_cases(rt: HostRuntime) -> Result<(), Fail> {
     for line in CASES {
-        seals_by_key_and_clone(&rt, &Case::parse(rt.alloc(), line)?)?;
+        seals_by_both(&rt, &Case::parse(rt.alloc(), line)?)?;
     }
     Ok(())
 }

@@ -1,12 +1,12 @@
 //! Tests of `aes`: the cipher and counter mode on the vectors of FIPS 197, SP 800-38A and RFC 9001, and counter mode when the
-//! number of a block wraps in a pass of eight.
+//! number of a block wraps in a pass of eight or of sixteen.
 
 use crate::checks::{holds, same};
 use aead_ciphers_base::aes::{
     self, BLOCK_LEN, Counter, EncryptBlock, EncryptCtr32, KeyBytes, Overlapping, Work,
 };
 use aead_ciphers_base::values::Nonce;
-use aead_ciphers_wide::aes::{BlockKey, Key};
+use aead_ciphers_wide::aes::{BlockKey, Key, Width};
 use aead_vectors::fips_197::{CASES, Case};
 use aead_vectors::rfc_9001;
 use aead_vectors::sp_800_38a::{CTR, CtrCase, ECB};
@@ -72,12 +72,13 @@ fn counter_of(block: &[u8; 16]) -> Counter {
 }
 
 /// Asserts the encryption of four blocks, starting at the initial counter block.
-fn encrypts(rt: &impl Abort, case: &CtrCase) -> Result<(), Fail> {
+fn encrypts(rt: &impl Abort, case: &CtrCase, width: Width) -> Result<(), Fail> {
     let mut bytes = case.plaintext.clone()?;
     let whole = bytes.len() / BLOCK_LEN * BLOCK_LEN;
     let in_out = Overlapping::from(&mut bytes[..whole]);
     let mut counter = counter_of(&case.counter);
-    Key::new(key_bytes(&case.key)?)?.ctr32_encrypt_within(in_out, &mut counter, &mut Work::new());
+    let key = Key::new_with_width(key_bytes(&case.key)?, width)?;
+    key.ctr32_encrypt_within(in_out, &mut counter, &mut Work::new());
     same(rt, &bytes, &case.ciphertext, case.name);
     Ok(())
 }
@@ -85,7 +86,9 @@ fn encrypts(rt: &impl Abort, case: &CtrCase) -> Result<(), Fail> {
 #[test]
 fn ctr32_encrypt_within(rt: HostRuntime) -> Result<(), Fail> {
     for line in CTR {
-        encrypts(&rt, &CtrCase::parse(rt.alloc(), line)?)?;
+        let case = CtrCase::parse(rt.alloc(), line)?;
+        encrypts(&rt, &case, Width::Bits128)?;
+        encrypts(&rt, &case, Width::Bits256)?;
     }
     Ok(())
 }
@@ -100,10 +103,9 @@ fn keystream<K: EncryptCtr32>(key: &K, first: &[u8; 16]) -> ([u8; 320], [u8; 16]
     (bytes, *counter.as_ref(), work.blocks())
 }
 
-// At each place of a pass.
-#[test]
-fn counter_mode_wraps(rt: HostRuntime) -> Result<(), Fail> {
-    let key = Key::new(KeyBytes::AES_256(&[7; 32]))?;
+/// Asserts the keystream when the number wraps at each place of a pass.
+fn wraps(rt: &impl Abort, width: Width) -> Result<(), Fail> {
+    let key = Key::new_with_width(KeyBytes::AES_256(&[7; 32]), width)?;
     let narrow = aes::Key::new(KeyBytes::AES_256(&[7; 32]))?;
     for last in 0xf0..=0xffu8 {
         let first = [
@@ -111,30 +113,41 @@ fn counter_mode_wraps(rt: HostRuntime) -> Result<(), Fail> {
         ];
         let (found, next, blocks) = keystream(&key, &first);
         let (wanted, wanted_next, _) = keystream(&narrow, &first);
-        same(&rt, &found, &wanted, "the key stream");
-        same(&rt, &next, &wanted_next, "the next counter block");
-        holds(&rt, blocks == 20, "the tally");
+        same(rt, &found, &wanted, "the key stream");
+        same(rt, &next, &wanted_next, "the next counter block");
+        holds(rt, blocks == 20, "the tally");
     }
     Ok(())
 }
 
-// Each number of blocks up to a pass of eight.
 #[test]
-fn counter_mode_of_few(rt: HostRuntime) -> Result<(), Fail> {
-    let key = Key::new(KeyBytes::AES_128(&[7; 16]))?;
+fn counter_mode_wraps(rt: HostRuntime) -> Result<(), Fail> {
+    wraps(&rt, Width::Bits128)?;
+    wraps(&rt, Width::Bits256)
+}
+
+/// Asserts each number of blocks up to a pass of sixteen.
+fn encrypts_few(rt: &impl Abort, width: Width) -> Result<(), Fail> {
+    let key = Key::new_with_width(KeyBytes::AES_128(&[7; 16]), width)?;
     let narrow = aes::Key::new(KeyBytes::AES_128(&[7; 16]))?;
     let first = [1, 2, 3, 4, 5, 6, 7, 8, 9, 10, 11, 12, 0, 0, 0, 2];
     let (wanted, _, _) = keystream(&narrow, &first);
-    for count in 1..=8 {
-        let mut bytes = [0; 128];
+    for count in 1..=16 {
+        let mut bytes = [0; 256];
         let in_out = Overlapping::from(&mut bytes[..BLOCK_LEN * count]);
         key.ctr32_encrypt_within(in_out, &mut counter_of(&first), &mut Work::new());
         same(
-            &rt,
+            rt,
             &bytes[..BLOCK_LEN * count],
             &wanted[..BLOCK_LEN * count],
             "few blocks",
         );
     }
     Ok(())
+}
+
+#[test]
+fn counter_mode_of_few(rt: HostRuntime) -> Result<(), Fail> {
+    encrypts_few(&rt, Width::Bits128)?;
+    encrypts_few(&rt, Width::Bits256)
 }

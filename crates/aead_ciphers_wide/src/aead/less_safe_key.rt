@@ -8,6 +8,7 @@ ghost use Rattle.aead_ciphers.specs.Algorithm.{key_len};
 ghost use Rattle.aead_ciphers.specs.Gcm.{Fits, gcm_decrypted, gcm_encrypted, gcm_tag, Opened, OpenedAttached};
 ghost use Rattle.aead_ciphers.specs.Packet.{PacketFits, sealed_packet, OpenedPacket};
 
+use crate::aes::Width;
 use crate::aes_gcm::ExpandedKey;
 use aead_ciphers::aead::{AES_128_GCM, Algorithm};
 use aead_ciphers_base::aes::{KeyBytes, Work};
@@ -56,7 +57,7 @@ impl Clone for LessSafeKey {
 
 impl LessSafeKey {
     /// Creates a key for `algorithm` from `key_bytes`, and for nonces of the caller's choice. The round keys (FIPS 197
-    /// section 5.2) and the hash subkey (SP 800-38D section 7.1 step 1) are computed here, once.
+    /// section 5.2) and the hash subkey (SP 800-38D section 7.1 step 1) are computed here, once. The planes have 128 bits.
     ///
     /// # Errors
     ///
@@ -65,12 +66,28 @@ impl LessSafeKey {
         ensures accepted { IsOk result ↔ (length key_bytes.now ≡ key_len algorithm.now) }
         ensures made { IfOk result (λ key. key ≡ record { algorithm = algorithm.now; bytes = key_bytes.now }) }
     {
+        LessSafeKey::new_with_width(algorithm, key_bytes, Width::Bits128)
+    }
+
+    /// Does the same as `new`, with planes of this width.
+    ///
+    /// # Errors
+    ///
+    /// Fails with `Unspecified` if `key_bytes` is not `algorithm.key_len()` bytes long.
+    pub fn new_with_width(
+        algorithm: &'static Algorithm,
+        key_bytes: &[u8],
+        width: Width,
+    ) -> Result<Self, Unspecified>
+        ensures accepted { IsOk result ↔ (length key_bytes.now ≡ key_len algorithm.now) }
+        ensures made { IfOk result (λ key. key ≡ record { algorithm = algorithm.now; bytes = key_bytes.now }) }
+    {
         let bytes = bytes_for(algorithm, key_bytes)?;
         let mut made = LessSafeKey {
             key: ExpandedKey::zeros(),
             algorithm,
         };
-        made.key.expand(bytes, &mut Work::new());
+        made.key.expand_with_width(bytes, width, &mut Work::new());
         Ok(made)
     }
 

@@ -1,4 +1,4 @@
-//! Counter mode in batches of eight blocks (SP 800-38D section 6.5).
+//! Counter mode in batches of eight or sixteen blocks (SP 800-38D section 6.5).
 
 ghost use Rattle.std.specs.Prelude.{◌≡◌, ◌<◌, ◌≤◌, ℕ, ◌+◌, ◌-◌, ◌*◌, ◌/◌, ◌%◌, [], length, slice_index_or};
 ghost use Rattle.std.specs.Simd.Lanes.{chunk, put_chunk};
@@ -8,13 +8,19 @@ ghost use Rattle.aead_ciphers_base.specs.CounterMode.{Advances, EncryptsToFront}
 ghost use Rattle.aead_ciphers_base.specs.Work.{Adds, CanAdd};
 ghost use Rattle.aead_ciphers_wide.specs.Keystream.{IsKeystream};
 
-use super::counters::counters;
-use super::{BlockKeyRef, KeyRef};
+use super::counters::{counters, sixteen_counters};
+use super::{BlockKeyRef, KeyRef, PLANES_OF_256_BITS};
 use aead_ciphers_base::aes::{BLOCK_LEN, Block, Counter, EncryptCtr32, Overlapping, Work};
 use std::simd::u8x16;
 
-/// The length of a batch, in bytes: the eight blocks that one pass of the cipher encrypts.
-const BATCH_LEN: usize = 8 * BLOCK_LEN;
+/// The number of blocks that one pass of the cipher encrypts on planes of 128 bits.
+const MANY: usize = 8;
+
+/// The length of a batch of these blocks, in bytes.
+const BATCH_LEN: usize = MANY * BLOCK_LEN;
+
+/// The length of a batch of the sixteen blocks that one pass encrypts on planes of 256 bits.
+const LONG_BATCH_LEN: usize = 16 * BLOCK_LEN;
 
 /// The number of blocks up to which byte permutes take less time than a pass over planes.
 const FEW: usize = 4;
@@ -29,9 +35,14 @@ impl<'k> EncryptCtr32 for KeyRef<'k> {
     ) {
         let Overlapping { in_out, start } = in_out;
         let len = in_out.len() - start;
+        let batch_len = if self.width == PLANES_OF_256_BITS {
+            LONG_BATCH_LEN
+        } else {
+            BATCH_LEN
+        };
         let mut done = 0;
         while done < len {
-            let count = BATCH_LEN.min(len - done);
+            let count = batch_len.min(len - done);
             let batch = &mut in_out[done..done + count + start];
             encrypt_batch(self, batch, start, counter, work);
             done += count;
@@ -39,7 +50,7 @@ impl<'k> EncryptCtr32 for KeyRef<'k> {
     }
 }
 
-/// Encrypts the one to eight blocks from `start` on, and writes them to the front.
+/// Encrypts the one to sixteen blocks from `start` on, and writes them to the front.
 #[inline(always)]
 fn encrypt_batch(
     key: &KeyRef<'_>,
@@ -50,25 +61,33 @@ fn encrypt_batch(
 )
     requires within { start ≤ length in_out.old }
     requires whole { (length in_out.old - start) % 16 ≡ 0 }
-    requires short { length in_out.old - start ≤ 128 }
+    requires short { length in_out.old - start ≤ 256 }
     requires sums { CanAdd work.old ((length in_out.old - start) / 16) 0 }
     ensures output { EncryptsToFront (aes key.now) counter.old start in_out.old in_out.new }
     ensures counter { Advances counter.old counter.new ((length in_out.old - start) / 16) }
     ensures worked { Adds work.old work.new ((length in_out.old - start) / 16) 0 }
 {
     let blocks = (in_out.len() - start) / BLOCK_LEN;
-    if blocks > FEW {
-        encrypt_many(key, in_out, start, counter, blocks);
-    } else {
+    if blocks <= FEW {
         encrypt_few(&key.by_block(), in_out, start, counter, blocks);
+    } else if blocks <= MANY {
+        encrypt_up_to_eight(key, in_out, start, counter, blocks);
+    } else {
+        encrypt_up_to_sixteen(key, in_out, start, counter, blocks);
     }
     counter.increment_by_less_safe(blocks as u32);
     work.add_blocks(blocks as u64);
 }
 
-/// Encrypts the `count` blocks from `start` on, at most eight, in one pass over planes, and writes them to the front.
+/// Encrypts the `count` blocks from `start` on in one pass over planes of 128 bits, and writes them to the front.
 #[inline(never)]
-fn encrypt_many(key: &KeyRef<'_>, in_out: &mut [u8], start: usize, counter: &Counter, count: usize)
+fn encrypt_up_to_eight(
+    key: &KeyRef<'_>,
+    in_out: &mut [u8],
+    start: usize,
+    counter: &Counter,
+    count: usize,
+)
     requires within { length in_out.old ≡ start + 16 * count }
     requires count { count ≤ 8 }
     ensures { EncryptsToFront (aes key.now) counter.now start in_out.old in_out.new }
@@ -77,6 +96,27 @@ fn encrypt_many(key: &KeyRef<'_>, in_out: &mut [u8], start: usize, counter: &Cou
     // With a constant for the number, the keystream of a whole batch stays in registers.
     if count == 8 {
         add_keystream(key, in_out, start, counter, keystream, 8);
+    } else {
+        add_keystream(key, in_out, start, counter, keystream, count);
+    }
+}
+
+/// Encrypts the `count` blocks from `start` on in one pass over planes of 256 bits, and writes them to the front.
+#[inline(never)]
+fn encrypt_up_to_sixteen(
+    key: &KeyRef<'_>,
+    in_out: &mut [u8],
+    start: usize,
+    counter: &Counter,
+    count: usize,
+)
+    requires within { length in_out.old ≡ start + 16 * count }
+    requires count { count ≤ 16 }
+    ensures { EncryptsToFront (aes key.now) counter.now start in_out.old in_out.new }
+{
+    let keystream = key.encrypt_sixteen(sixteen_counters(counter));
+    if count == 16 {
+        add_keystream(key, in_out, start, counter, keystream, 16);
     } else {
         add_keystream(key, in_out, start, counter, keystream, count);
     }
@@ -114,16 +154,16 @@ fn encrypt_few(
 /// Adds the first `count` blocks of keystream to those from `start` on, and writes the sums to the front.
 #[tactic(auto, using(aead_ciphers_base::proofs::CounterModeLemmas::encrypts_all))]
 #[inline(always)]
-fn add_keystream(
+fn add_keystream<const N: usize>(
     key: &KeyRef<'_>,
     in_out: &mut [u8],
     start: usize,
     counter: &Counter,
-    keystream: [Block; 8],
+    keystream: [Block; N],
     count: usize,
 )
     requires within { length in_out.old ≡ start + 16 * count }
-    requires count { count ≤ 8 }
+    requires count { count ≤ N }
     requires keystream { (i : ℕ) → i < count
         → IsKeystream (aes key.now) counter.now (slice_index_or keystream i []) i }
     ensures { EncryptsToFront (aes key.now) counter.now start in_out.old in_out.new }

@@ -1,11 +1,12 @@
 //! Round keys as blocks, and as the planes that a pass adds, which hold a round key eight times, once for each block.
 
-ghost use Rattle.std.specs.Prelude.{◌≡◌, ◌<◌, ◌≤◌, ◌+◌, ◌*◌, ◌/◌, ◌^◌, ℕ, slice_index};
+ghost use Rattle.std.specs.Prelude.{◌≡◌, ◌<◌, ◌≤◌, ◌+◌, ◌*◌, ◌/◌, ◌^◌, ℕ, map, slice_index};
 ghost use Rattle.std.specs.Int.{bit_at};
 ghost use Rattle.aead_ciphers_base.specs.Planes.{plane_byte};
 ghost use Rattle.aead_ciphers_wide.specs.WideSchedule.{HoldsPlanes, planes_of};
+ghost use Rattle.aead_ciphers_wide.specs.Word.{twice};
 
-use crate::word::Word;
+use crate::word::{WiderWord, Word};
 use aead_ciphers_base::aes::{Block, RoundKeyPlanes};
 use std::simd::u8x16;
 
@@ -32,6 +33,33 @@ impl RoundKeyPlanes<Word> for KeyPlanes {
             Word::new(self[10], self[11]),
             Word::new(self[12], self[13]),
             Word::new(self[14], self[15]),
+        ]
+    }
+}
+
+// The word both of whose halves have these lanes, the least significant first.
+#[inline(always)]
+fn both_halves(low: u64, high: u64) -> WiderWord
+    ensures { result ≡ twice (high * 2 ^ 64 + low) }
+{
+    let half = Word::new(low, high);
+    WiderWord::new(half, half)
+}
+
+impl RoundKeyPlanes<WiderWord> for KeyPlanes {
+    ghost held = { λ key. map twice (planes_of key) };
+
+    #[inline(always)]
+    fn planes(&self) -> [WiderWord; 8] {
+        [
+            both_halves(self[0], self[1]),
+            both_halves(self[2], self[3]),
+            both_halves(self[4], self[5]),
+            both_halves(self[6], self[7]),
+            both_halves(self[8], self[9]),
+            both_halves(self[10], self[11]),
+            both_halves(self[12], self[13]),
+            both_halves(self[14], self[15]),
         ]
     }
 }

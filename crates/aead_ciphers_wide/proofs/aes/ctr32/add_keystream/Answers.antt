@@ -5,10 +5,10 @@ use Rattle.aead_ciphers_wide.proofs.KeystreamLemmas.{adds_block}
 use Rattle.aead_ciphers_wide.proofs.aes.ctr32.add_keystream.Goals as goal
 
 pub loop-i-init : goal.loop-i-init
-loop-i-init c = record { size = refl; output = encrypts_none _ _ c.args.start _ }
+loop-i-init g c = record { size = refl; output = encrypts_none _ _ c.args.start _ }
 
 pub loop-i-preserved : goal.loop-i-preserved
-loop-i-preserved c =
+loop-i-preserved g c =
     let i = c.loop-i.i in
     let inv = c.loop-i.invariant in
     let is = c.requires.keystream i c.loop-i-test.true in

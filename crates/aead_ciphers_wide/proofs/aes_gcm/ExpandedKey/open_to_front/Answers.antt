@@ -9,10 +9,10 @@ returns-in_err-open_with-clause-opened c =
     let a = c.args in
     let failed : is_ok c.from_residual.result ≡ false = search rules in
     rw failed (subst (λ key. Opened (aes key) a.nonce (aad_bytes a.aad) a.tag a.ciphertext.start a.in_out.now false c.open_with.new.in_out)
-    c.new-aes.ensures c.in_err-open_with.ensures.opened)
+    c.aes-aes.ensures c.in_err-open_with.ensures.opened)
 
 pub returns-clause-opened : goal.returns-clause-opened
 returns-clause-opened c =
     let a = c.args in
     subst (λ key. Opened (aes key) a.nonce (aad_bytes a.aad) a.tag a.ciphertext.start a.in_out.now true c.open_with.new.in_out)
-    c.new-aes.ensures c.in_ok-open_with.ensures.opened
+    c.aes-aes.ensures c.in_ok-open_with.ensures.opened

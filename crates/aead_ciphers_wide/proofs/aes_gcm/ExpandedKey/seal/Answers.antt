@@ -8,4 +8,4 @@ pub returns-clause-tag : goal.returns-clause-tag
 returns-clause-tag c =
     let a = c.args in
     subst (λ key. IfOk c.seal_with.result (λ t. t ≡ gcm_tag (aes key) a.nonce (aad_bytes a.aad) c.seal_with.new.in_out))
-    c.new-aes.ensures c.seal_with.ensures.tag
+    c.aes-aes.ensures c.seal_with.ensures.tag

@@ -1,7 +1,8 @@
 use Rattle.std.proofs.Common.{◌≡◌, ◌∙◌, ◌<◌, ℕ, [], ◌∷◌, bit_xor, slice_index, length, ap₂, arith}
 use Rattle.std.proofs.Math.Dec.{lit<}
 use Rattle.aead_ciphers_wide.specs.Products.{chosen_sum}
-use Rattle.aead_ciphers_wide.proofs.ByteRows.{by_sixteen, sum_byte}
+use Rattle.aead_ciphers_wide.proofs.WideBlocks.{by_sixteen}
+use Rattle.aead_ciphers_wide.proofs.ByteRows.{sum_byte}
 use Rattle.aead_ciphers_wide.proofs.gcm.product.sums_at.Goals as goal
 
 pub returns : goal.returns

@@ -1,0 +1,43 @@
+use Rattle.std.proofs.Common.{◌≡◌, ℕ, ◌/◌, ◌%◌, ◌∷◌, [], ap, ◌∙◌, slice_index, slice_index_or, arith}
+use Rattle.std.specs.Int.{to_le_bytes, w128}
+use Rattle.std.proofs.lemmas.List.{map-id}
+use Rattle.std.proofs.lemmas.Grind.{get_or_default_zero}
+use Rattle.aead_ciphers_wide.specs.Word.{half_of}
+use Rattle.aead_ciphers_wide.proofs.WideBlocks.{by_sixteen}
+use Rattle.aead_ciphers_wide.proofs.Halves.{unpacked_sixteen}
+use Rattle.aead_ciphers_wide.proofs.aes.pack_sixteen.unpack_sixteen.Goals as goal
+
+pub returns : goal.returns
+returns c =
+    let words = c.transpose_bits.result in
+    let at = get_or_default_zero words in
+    let low = λ (w : ℕ). to_le_bytes w128 (half_of 0 w) in
+    let high = λ (w : ℕ). to_le_bytes w128 (half_of 1 w) in
+    let blocks =
+    c.to_blocks.result.0 ∷ c.to_blocks.result.1
+    ∷ c.to_blocks-2.result.0 ∷ c.to_blocks-2.result.1
+    ∷ c.to_blocks-3.result.0 ∷ c.to_blocks-3.result.1
+    ∷ c.to_blocks-4.result.0 ∷ c.to_blocks-4.result.1
+    ∷ c.to_blocks-5.result.0 ∷ c.to_blocks-5.result.1
+    ∷ c.to_blocks-6.result.0 ∷ c.to_blocks-6.result.1
+    ∷ c.to_blocks-7.result.0 ∷ c.to_blocks-7.result.1
+    ∷ c.to_blocks-8.result.0 ∷ c.to_blocks-8.result.1 ∷ [] in
+    let held =
+    by_sixteen (λ k. slice_index_or blocks k [] ≡ to_le_bytes w128 (half_of (k % 2) (slice_index words (k / 2))))
+    (c.to_blocks.ensures.low ∙ ap low (at 0 c.index-transpose_bits-0.result (omega arith)))
+    (c.to_blocks.ensures.high ∙ ap high (at 0 c.index-transpose_bits-0.result (omega arith)))
+    (c.to_blocks-2.ensures.low ∙ ap low (at 1 c.index-transpose_bits-1.result (omega arith)))
+    (c.to_blocks-2.ensures.high ∙ ap high (at 1 c.index-transpose_bits-1.result (omega arith)))
+    (c.to_blocks-3.ensures.low ∙ ap low (at 2 c.index-transpose_bits-2.result (omega arith)))
+    (c.to_blocks-3.ensures.high ∙ ap high (at 2 c.index-transpose_bits-2.result (omega arith)))
+    (c.to_blocks-4.ensures.low ∙ ap low (at 3 c.index-transpose_bits-3.result (omega arith)))
+    (c.to_blocks-4.ensures.high ∙ ap high (at 3 c.index-transpose_bits-3.result (omega arith)))
+    (c.to_blocks-5.ensures.low ∙ ap low (at 4 c.index-transpose_bits-4.result (omega arith)))
+    (c.to_blocks-5.ensures.high ∙ ap high (at 4 c.index-transpose_bits-4.result (omega arith)))
+    (c.to_blocks-6.ensures.low ∙ ap low (at 5 c.index-transpose_bits-5.result (omega arith)))
+    (c.to_blocks-6.ensures.high ∙ ap high (at 5 c.index-transpose_bits-5.result (omega arith)))
+    (c.to_blocks-7.ensures.low ∙ ap low (at 6 c.index-transpose_bits-6.result (omega arith)))
+    (c.to_blocks-7.ensures.high ∙ ap high (at 6 c.index-transpose_bits-6.result (omega arith)))
+    (c.to_blocks-8.ensures.low ∙ ap low (at 7 c.index-transpose_bits-7.result (omega arith)))
+    (c.to_blocks-8.ensures.high ∙ ap high (at 7 c.index-transpose_bits-7.result (omega arith))) in
+    λ k hk. held k hk ∙ unpacked_sixteen c.args.planes words (rw (map-id c.args.planes, map-id words) at c.transpose_bits.ensures) k hk

@@ -1,0 +1,51 @@
+//! Packing sixteen blocks into eight planes of 256 bits, and unpacking them.
+//!
+//! Word `i` has the bytes of blocks `2 * i` and `2 * i + 1`. Bit `b` of its byte `j` moves to bit `i` of byte `j` of plane `b`.
+
+ghost use Rattle.std.specs.Prelude.{◌≡◌, ◌<◌, ◌/◌, ◌%◌, ℕ, [], slice_index, slice_index_or};
+ghost use Rattle.std.specs.Int.{to_le_bytes, w128};
+ghost use Rattle.aead_ciphers_wide.specs.WidePlanes.{wider_block};
+ghost use Rattle.aead_ciphers_wide.specs.Word.{half_of};
+
+use super::transpose::transpose_bits;
+use crate::word::WiderWord;
+use aead_ciphers_base::aes::Block;
+
+/// Packs the sixteen blocks of the bytes of the halves of eight words into eight planes, whose bit
+/// `128 * (block % 2) + 8 * byte + block / 2` is a bit of that byte.
+#[inline(always)]
+pub fn pack_sixteen(words: [WiderWord; 8]) -> [WiderWord; 8]
+    ensures { (k : ℕ) → k < 16
+        → wider_block result k ≡ to_le_bytes w128 (half_of (k % 2) (slice_index words (k / 2))) }
+{
+    transpose_bits(words)
+}
+
+// The blocks of the bytes of the two halves of a word.
+#[inline(always)]
+fn to_blocks(word: WiderWord) -> (Block, Block)
+    ensures low { result.0 ≡ to_le_bytes w128 (half_of 0 word) }
+    ensures high { result.1 ≡ to_le_bytes w128 (half_of 1 word) }
+{
+    let (low, high) = word.halves();
+    (low.to_block(), high.to_block())
+}
+
+/// Unpacks the sixteen blocks that the planes hold.
+#[inline(always)]
+pub fn unpack_sixteen(planes: [WiderWord; 8]) -> [Block; 16]
+    ensures { (k : ℕ) → k < 16 → slice_index_or result k [] ≡ wider_block planes k }
+{
+    let [w0, w1, w2, w3, w4, w5, w6, w7] = transpose_bits(planes);
+    let (b0, b1) = to_blocks(w0);
+    let (b2, b3) = to_blocks(w1);
+    let (b4, b5) = to_blocks(w2);
+    let (b6, b7) = to_blocks(w3);
+    let (b8, b9) = to_blocks(w4);
+    let (b10, b11) = to_blocks(w5);
+    let (b12, b13) = to_blocks(w6);
+    let (b14, b15) = to_blocks(w7);
+    [
+        b0, b1, b2, b3, b4, b5, b6, b7, b8, b9, b10, b11, b12, b13, b14, b15,
+    ]
+}
