@@ -27,6 +27,7 @@ const FEW: usize = 4;
 
 impl<'k> EncryptCtr32 for KeyRef<'k> {
     #[tactic(auto, using(aead_ciphers_base::proofs::CounterModeLemmas::encrypts_all))]
+    #[inline(always)]
     fn ctr32_encrypt_within(
         &self,
         in_out: Overlapping<'_>,
