@@ -27,8 +27,8 @@ typedef struct {
     bool has_lens;
 } traced_call;
 
-/* Each length up to a block's, and both sides of the limits of a batch, of four blocks or eight, of a message whose tag is
- * in its batch, of a chunk of 192 blocks, and of four blocks of ChaCha20. */
+/* Each length up to a block's, and both sides of the limits of a batch, of four, eight or sixteen blocks, of a message whose
+ * tag is in its batch, of a chunk of 192 blocks, and of four blocks of ChaCha20. */
 static const size_t lens[] = {0,   1,   15,  16,  17,   31,   32,   33,   47,   48,   49,   63,   64,  65,
                               79,  80,  81,  95,  96,   97,   111,  112,  113,  127,  128,  129,  143, 144,
                               145, 191, 192, 193, 239,  240,  241,  255,  256,  257,  271,  272,  273, 300,

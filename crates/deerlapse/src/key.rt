@@ -9,6 +9,7 @@ ghost use Rattle.deerlapse.specs.AesKey.{HasRounds, IsAesKeyLen, IsKeyOrNone};
 
 use aead_ciphers::aead::{Aad, MAX_TAG_LEN, NONCE_LEN, Nonce, Tag, Unspecified};
 use aead_ciphers_base::aes::{AES_256_KEY_LEN, KeyBytes, Work};
+use aead_ciphers_wide::aes::Width;
 use aead_ciphers_wide::aes_gcm::{ExpandedKey, fits};
 use std::mem::size_of;
 
@@ -42,9 +43,28 @@ pub extern "C" fn deerlapse_key_init(key: &mut ExpandedKey, bytes: &[u8]) -> boo
     ensures made { IsTrue result → IsExpanded key.new × (bytes_of key.new ≡ bytes.now) }
     ensures refused { IsFalse result → key.new ≡ zero_key }
 {
+    expand(key, bytes, Width::Bits128)
+}
+
+/// Does the same as `deerlapse_key_init`, for batches of sixteen blocks on planes of 256 bits.
+#[unsafe(no_mangle)]
+pub extern "C" fn deerlapse_key_init_256(key: &mut ExpandedKey, bytes: &[u8]) -> bool
+    ensures accepted { IsTrue result ↔ IsAesKeyLen (length bytes.now) }
+    ensures made { IsTrue result → IsExpanded key.new × (bytes_of key.new ≡ bytes.now) }
+    ensures refused { IsFalse result → key.new ≡ zero_key }
+{
+    expand(key, bytes, Width::Bits256)
+}
+
+/// Expands a key whose batches take planes of this width.
+pub(crate) fn expand(key: &mut ExpandedKey, bytes: &[u8], width: Width) -> bool
+    ensures accepted { IsTrue result ↔ IsAesKeyLen (length bytes.now) }
+    ensures made { IsTrue result → IsExpanded key.new × (bytes_of key.new ≡ bytes.now) }
+    ensures refused { IsFalse result → key.new ≡ zero_key }
+{
     match aes_key(bytes) {
         Some(bytes) => {
-            key.expand(bytes, &mut Work::new());
+            key.expand_with_width(bytes, width, &mut Work::new());
             true
         }
         None => {

@@ -9,6 +9,7 @@ ghost use Rattle.deerlapse.specs.NumberedKey.{zero_numbered_key};
 use crate::key::{aes_key, deerlapse_key_wipe};
 use aead_ciphers::aead::{NONCE_LEN, nonce_of};
 use aead_ciphers_base::aes::Work;
+use aead_ciphers_wide::aes::Width;
 use aead_ciphers_wide::aes_gcm::ExpandedKey;
 use std::mem::size_of;
 
@@ -33,7 +34,8 @@ const ROOM_LEN: usize = 220;
 // The `words` of the types in the header have as many bytes.
 const _: () = prove!(size_of::<NumberedKey>() == 3440);
 
-/// Initializes a key whose first message gets the number `first`. Its previous bytes are not read.
+/// Initializes a key whose first message gets the number `first`, and whose batches take planes of this width. Its previous
+/// bytes are not read.
 ///
 /// Returns false if the key does not have 16 or 32 bytes, or if `first` is above `limit`.
 pub(crate) fn fill(
@@ -42,6 +44,7 @@ pub(crate) fn fill(
     iv: &[u8; NONCE_LEN],
     first: u64,
     limit: u64,
+    width: Width,
 ) -> bool
     ensures accepted { IsTrue result ↔ (IsAesKeyLen (length key.now) × (first ≤ limit)) }
     ensures key { IsTrue result
@@ -58,7 +61,7 @@ pub(crate) fn fill(
     if first > limit {
         return false;
     }
-    numbered.key.expand(key, &mut Work::new());
+    numbered.key.expand_with_width(key, width, &mut Work::new());
     numbered.next = first;
     numbered.limit = limit;
     numbered.iv = *iv;

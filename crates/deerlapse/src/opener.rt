@@ -11,6 +11,7 @@ ghost use Rattle.deerlapse.specs.NumberedKey.{key_of, next_nonce, zero_numbered_
 use crate::key::deerlapse_key_open;
 use crate::numbered_key::{NumberedKey, fill, wipe};
 use aead_ciphers::aead::{NONCE_LEN, nonce_of};
+use aead_ciphers_wide::aes::Width;
 
 /// Initializes an opener whose first message has the number `first`. Its previous bytes are not read.
 ///
@@ -30,7 +31,26 @@ pub extern "C" fn deerlapse_opener_init(
     ensures room { IsTrue result → opener.new.room ≡ replicate 220 0 }
     ensures refused { IsFalse result → opener.new ≡ opener.old }
 {
-    fill(opener, key, iv, first, limit)
+    fill(opener, key, iv, first, limit, Width::Bits128)
+}
+
+/// Does the same as `deerlapse_opener_init`, for batches of sixteen blocks on planes of 256 bits.
+#[unsafe(no_mangle)]
+pub extern "C" fn deerlapse_opener_init_256(
+    opener: &mut NumberedKey,
+    key: &[u8],
+    iv: &[u8; NONCE_LEN],
+    first: u64,
+    limit: u64,
+) -> bool
+    ensures accepted { IsTrue result ↔ (IsAesKeyLen (length key.now) × (first ≤ limit)) }
+    ensures key { IsTrue result → IsExpanded opener.new.key × (key_of opener.new ≡ key.now) }
+    ensures iv { IsTrue result → opener.new.iv ≡ iv.now }
+    ensures numbers { IsTrue result → (opener.new.next ≡ first) × (opener.new.limit ≡ limit) }
+    ensures room { IsTrue result → opener.new.room ≡ replicate 220 0 }
+    ensures refused { IsFalse result → opener.new ≡ opener.old }
+{
+    fill(opener, key, iv, first, limit, Width::Bits256)
 }
 
 /// Returns the number of the next message.

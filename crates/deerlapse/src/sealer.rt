@@ -10,6 +10,7 @@ ghost use Rattle.deerlapse.specs.NumberedKey.{key_of, next_nonce, zero_numbered_
 use crate::key::deerlapse_key_seal;
 use crate::numbered_key::{NumberedKey, fill, wipe};
 use aead_ciphers::aead::{MAX_TAG_LEN, NONCE_LEN, nonce_of};
+use aead_ciphers_wide::aes::Width;
 
 /// Initializes a sealer whose first message gets the number `first`. Its previous bytes are not read. A copy of it would use
 /// its nonces again.
@@ -30,7 +31,26 @@ pub extern "C" fn deerlapse_sealer_init(
     ensures room { IsTrue result → sealer.new.room ≡ replicate 220 0 }
     ensures refused { IsFalse result → sealer.new ≡ sealer.old }
 {
-    fill(sealer, key, iv, first, limit)
+    fill(sealer, key, iv, first, limit, Width::Bits128)
+}
+
+/// Does the same as `deerlapse_sealer_init`, for batches of sixteen blocks on planes of 256 bits.
+#[unsafe(no_mangle)]
+pub extern "C" fn deerlapse_sealer_init_256(
+    sealer: &mut NumberedKey,
+    key: &[u8],
+    iv: &[u8; NONCE_LEN],
+    first: u64,
+    limit: u64,
+) -> bool
+    ensures accepted { IsTrue result ↔ (IsAesKeyLen (length key.now) × (first ≤ limit)) }
+    ensures key { IsTrue result → IsExpanded sealer.new.key × (key_of sealer.new ≡ key.now) }
+    ensures iv { IsTrue result → sealer.new.iv ≡ iv.now }
+    ensures numbers { IsTrue result → (sealer.new.next ≡ first) × (sealer.new.limit ≡ limit) }
+    ensures room { IsTrue result → sealer.new.room ≡ replicate 220 0 }
+    ensures refused { IsFalse result → sealer.new ≡ sealer.old }
+{
+    fill(sealer, key, iv, first, limit, Width::Bits256)
 }
 
 /// Returns the number of the next message.

@@ -2,16 +2,16 @@
 
 ghost use Rattle.deerlapse.specs.AesKey.{IsKeyOrNone};
 
-use crate::aes_gcm::{deerlapse_open, deerlapse_seal};
+use crate::aes_gcm::{deerlapse_open, deerlapse_open_256, deerlapse_seal, deerlapse_seal_256};
 use crate::chacha20::deerlapse_chacha20;
 use crate::key::{
-    deerlapse_key_init, deerlapse_key_open, deerlapse_key_open_separate_tag, deerlapse_key_seal,
-    deerlapse_key_wipe,
+    deerlapse_key_init, deerlapse_key_init_256, deerlapse_key_open,
+    deerlapse_key_open_separate_tag, deerlapse_key_seal, deerlapse_key_wipe,
 };
 use crate::masks::{deerlapse_key_mask, deerlapse_mask_aes, deerlapse_mask_chacha20};
 use crate::numbered_key::{NumberedKey, deerlapse_nonce};
 use crate::opener::{
-    deerlapse_opener_init, deerlapse_opener_next, deerlapse_opener_open,
+    deerlapse_opener_init, deerlapse_opener_init_256, deerlapse_opener_next, deerlapse_opener_open,
     deerlapse_opener_open_number,
 };
 use crate::out_of_place::{
@@ -19,13 +19,22 @@ use crate::out_of_place::{
     deerlapse_key_seal_append_tag_sized, deerlapse_key_seal_to_sized,
 };
 use crate::pieces::{deerlapse_key_begin, deerlapse_key_finish, deerlapse_key_update};
-use crate::sealer::{deerlapse_sealer_init, deerlapse_sealer_next, deerlapse_sealer_seal};
+use crate::sealer::{
+    deerlapse_sealer_init, deerlapse_sealer_init_256, deerlapse_sealer_next, deerlapse_sealer_seal,
+};
+use aead_ciphers_wide::aes::Width;
 use aead_ciphers_wide::aes_gcm::{ExpandedKey, SealState};
 use aead_vectors::gcm_spec::{CASES, Case};
 use aead_vectors::{fips_197, rfc_8439, rfc_9001};
 use std::alloc::Global;
 use std::process::Abort;
 use std::test::Fail;
+
+/// Each width with the other.
+const WIDTHS: [(Width, Width); 2] = [
+    (Width::Bits128, Width::Bits256),
+    (Width::Bits256, Width::Bits128),
+];
 
 /// Two lists of bytes are equal.
 fn same(rt: &impl Abort, found: &[u8], wanted: &[u8], what: &str) {
@@ -37,11 +46,21 @@ fn accepted(rt: &impl Abort, answer: bool, what: &str) {
     assert!(rt; answer, "{what}");
 }
 
-/// Seals a case's message, and opens it after three other bytes.
-fn seals_and_opens(rt: &impl Abort, alloc: Global, case: &Case) -> Result<(), Fail> {
+/// Seals a case's message with planes of one width, and opens it after three other bytes with planes of another.
+fn seals_and_opens(
+    rt: &impl Abort,
+    alloc: Global,
+    case: &Case,
+    sealing: Width,
+    opening: Width,
+) -> Result<(), Fail> {
+    let (key, nonce, aad) = (case.key.as_slice(), &case.nonce, case.aad.as_slice());
     let mut bytes = case.message.clone()?;
     let mut tag = [0; 16];
-    let sealed = deerlapse_seal(&case.key, &case.nonce, &case.aad, &mut bytes, &mut tag);
+    let sealed = match sealing {
+        Width::Bits128 => deerlapse_seal(key, nonce, aad, &mut bytes, &mut tag),
+        Width::Bits256 => deerlapse_seal_256(key, nonce, aad, &mut bytes, &mut tag),
+    };
     accepted(rt, sealed, case.name);
     same(rt, &bytes, &case.ciphertext, case.name);
     same(rt, &tag, &case.tag, case.name);
@@ -50,7 +69,10 @@ fn seals_and_opens(rt: &impl Abort, alloc: Global, case: &Case) -> Result<(), Fa
     bytes.extend_from_slice(&case.ciphertext)?;
     bytes.extend_from_slice(&case.tag)?;
     let mut len = 0;
-    let opened = deerlapse_open(&case.key, &case.nonce, &case.aad, &mut bytes, 3, &mut len);
+    let opened = match opening {
+        Width::Bits128 => deerlapse_open(key, nonce, aad, &mut bytes, 3, &mut len),
+        Width::Bits256 => deerlapse_open_256(key, nonce, aad, &mut bytes, 3, &mut len),
+    };
     accepted(rt, opened, case.name);
     same(
         rt,
@@ -61,22 +83,49 @@ fn seals_and_opens(rt: &impl Abort, alloc: Global, case: &Case) -> Result<(), Fa
     Ok(())
 }
 
-/// Seals a case's message under an expanded key, and opens it. After the key is wiped, it seals nothing.
-fn seals_and_opens_by_a_key(rt: &impl Abort, case: &Case) -> Result<(), Fail> {
+/// Tries a case under a key with planes of each width.
+fn by_both_keys(rt: &impl Abort, alloc: Global, case: &Case) -> Result<(), Fail> {
     let mut key = ExpandedKey::zeros();
-    if !deerlapse_key_init(&mut key, &case.key) {
+    let mut wider = ExpandedKey::zeros();
+    if !deerlapse_key_init(&mut key, &case.key) || !deerlapse_key_init_256(&mut wider, &case.key) {
         return Err("a key".into());
     }
+    accepted(rt, key.width == 128 && wider.width == 256, case.name);
+    seals_and_opens_by_keys(rt, alloc, &key, &wider, case)?;
+    seals_and_opens_by_keys(rt, alloc, &wider, &key, case)?;
+    seals_nothing_when_wiped(rt, &mut key, case);
+    seals_nothing_when_wiped(rt, &mut wider, case);
+    Ok(())
+}
+
+/// After a key is wiped, it seals nothing.
+fn seals_nothing_when_wiped(rt: &impl Abort, key: &mut ExpandedKey, case: &Case) {
+    deerlapse_key_wipe(key);
+    let sealed = deerlapse_key_seal(key, &case.nonce, &case.aad, &mut [0; 5], &mut [0; 16]);
+    accepted(rt, !sealed, case.name);
+}
+
+/// Seals a case's message under an expanded key by each call, and opens it under another one of the same bytes.
+fn seals_and_opens_by_keys(
+    rt: &impl Abort,
+    alloc: Global,
+    sealing: &ExpandedKey,
+    opening: &ExpandedKey,
+    case: &Case,
+) -> Result<(), Fail>
+    requires sealing { IsKeyOrNone sealing.now }
+    requires opening { IsKeyOrNone opening.now }
+{
     let mut bytes = case.message.clone()?;
     let mut tag = [0; 16];
-    let sealed = deerlapse_key_seal(&key, &case.nonce, &case.aad, &mut bytes, &mut tag);
+    let sealed = deerlapse_key_seal(sealing, &case.nonce, &case.aad, &mut bytes, &mut tag);
     accepted(rt, sealed, case.name);
     same(rt, &bytes, &case.ciphertext, case.name);
     same(rt, &tag, &case.tag, case.name);
 
     bytes.extend_from_slice(&tag)?;
     let mut len = 0;
-    let opened = deerlapse_key_open(&key, &case.nonce, &case.aad, &mut bytes, 0, &mut len);
+    let opened = deerlapse_key_open(opening, &case.nonce, &case.aad, &mut bytes, 0, &mut len);
     accepted(rt, opened, case.name);
     same(
         rt,
@@ -84,37 +133,38 @@ fn seals_and_opens_by_a_key(rt: &impl Abort, case: &Case) -> Result<(), Fail> {
         &case.message,
         case.name,
     );
-    deerlapse_key_wipe(&mut key);
-    let again = deerlapse_key_seal(&key, &case.nonce, &case.aad, &mut bytes, &mut tag);
-    accepted(rt, !again, case.name);
-    Ok(())
+    seals_and_opens_apart(rt, alloc, sealing, case)?;
+    seals_in_pieces(rt, sealing, case, 17)
 }
 
 /// Seals a case's message with a separate tag, from one buffer to another and back, and opens it in place.
-fn seals_and_opens_apart(rt: &impl Abort, alloc: Global, case: &Case) -> Result<(), Fail> {
-    let mut key = ExpandedKey::zeros();
-    if !deerlapse_key_init(&mut key, &case.key) {
-        return Err("a key".into());
-    }
+fn seals_and_opens_apart(
+    rt: &impl Abort,
+    alloc: Global,
+    key: &ExpandedKey,
+    case: &Case,
+) -> Result<(), Fail>
+    requires { IsKeyOrNone key.now }
+{
     let (nonce, aad) = (&case.nonce, case.aad.as_slice());
     let mut sealed = vec![in alloc; 0; case.message.len()]?;
     let mut tag = [0; 16];
-    let made = deerlapse_key_seal_to_sized(&key, nonce, aad, &case.message, &mut sealed, &mut tag);
+    let made = deerlapse_key_seal_to_sized(key, nonce, aad, &case.message, &mut sealed, &mut tag);
     accepted(rt, made, case.name);
     same(rt, &sealed, &case.ciphertext, case.name);
     same(rt, &tag, &case.tag, case.name);
 
     let mut message = vec![in alloc; 0; case.message.len()]?;
-    let false_tag = deerlapse_key_open_to_sized(&key, nonce, aad, &sealed, &mut message, &[0; 16]);
+    let false_tag = deerlapse_key_open_to_sized(key, nonce, aad, &sealed, &mut message, &[0; 16]);
     accepted(rt, !false_tag, case.name);
-    let opened = deerlapse_key_open_to_sized(&key, nonce, aad, &sealed, &mut message, &tag);
+    let opened = deerlapse_key_open_to_sized(key, nonce, aad, &sealed, &mut message, &tag);
     accepted(rt, opened, case.name);
     same(rt, &message, &case.message, case.name);
 
-    let opened = deerlapse_key_open_separate_tag(&key, nonce, aad, &mut sealed, 0, &tag);
+    let opened = deerlapse_key_open_separate_tag(key, nonce, aad, &mut sealed, 0, &tag);
     accepted(rt, opened, case.name);
     same(rt, &sealed, &case.message, case.name);
-    appends_and_opens(rt, alloc, &key, case)
+    appends_and_opens(rt, alloc, key, case)
 }
 
 /// Seals a case's message with the tag after the ciphertext, from one buffer to another and back.
@@ -141,28 +191,27 @@ fn appends_and_opens(
 }
 
 /// Seals a case's message in two pieces, the first of at most `len` bytes.
-fn seals_in_pieces(rt: &impl Abort, case: &Case, len: usize) -> Result<(), Fail> {
-    let mut key = ExpandedKey::zeros();
+fn seals_in_pieces(rt: &impl Abort, key: &ExpandedKey, case: &Case, len: usize) -> Result<(), Fail>
+    requires { IsKeyOrNone key.now }
+{
     let mut message = SealState::zeros();
     let mut bytes = case.message.clone()?;
     let mut tag = [0; 16];
-    if !deerlapse_key_init(&mut key, &case.key)
-        || !deerlapse_key_begin(&key, &case.nonce, &case.aad, &mut message)
-    {
+    if !deerlapse_key_begin(key, &case.nonce, &case.aad, &mut message) {
         return Err("a message".into());
     }
     let count = bytes.len().min(len);
     let (first, second) = bytes.split_at_mut(count);
-    if !deerlapse_key_update(&key, &mut message, first)
-        || !deerlapse_key_update(&key, &mut message, second)
+    if !deerlapse_key_update(key, &mut message, first)
+        || !deerlapse_key_update(key, &mut message, second)
     {
         return Err("a piece".into());
     }
-    let sealed = deerlapse_key_finish(&key, &mut message, &mut tag);
+    let sealed = deerlapse_key_finish(key, &mut message, &mut tag);
     accepted(rt, sealed, case.name);
     same(rt, &bytes, &case.ciphertext, case.name);
     same(rt, &tag, &case.tag, case.name);
-    let again = deerlapse_key_finish(&key, &mut message, &mut tag);
+    let again = deerlapse_key_finish(key, &mut message, &mut tag);
     accepted(rt, !again, case.name);
     Ok(())
 }
@@ -179,9 +228,13 @@ fn no_numbers() -> NumberedKey {
 }
 
 /// A sealer with one number, 0, whose nonce is the IV: it seals a case's message, and then no other.
-fn seals_once(rt: &impl Abort, case: &Case) -> Result<(), Fail> {
+fn seals_once(rt: &impl Abort, case: &Case, width: Width) -> Result<(), Fail> {
     let mut sealer = no_numbers();
-    if !deerlapse_sealer_init(&mut sealer, &case.key, &case.nonce, 0, 1) {
+    let made = match width {
+        Width::Bits128 => deerlapse_sealer_init(&mut sealer, &case.key, &case.nonce, 0, 1),
+        Width::Bits256 => deerlapse_sealer_init_256(&mut sealer, &case.key, &case.nonce, 0, 1),
+    };
+    if !made {
         return Err("a sealer".into());
     }
     let mut bytes = case.message.clone()?;
@@ -204,9 +257,13 @@ fn sealed_bytes(case: &Case) -> Result<Vec<u8, Global>, Fail> {
 }
 
 /// An opener with one number, 0: it opens a sealed message twice by number, once in order, and then no more.
-fn opens_once(rt: &impl Abort, case: &Case) -> Result<(), Fail> {
+fn opens_once(rt: &impl Abort, case: &Case, width: Width) -> Result<(), Fail> {
     let mut opener = no_numbers();
-    if !deerlapse_opener_init(&mut opener, &case.key, &case.nonce, 0, 1) {
+    let made = match width {
+        Width::Bits128 => deerlapse_opener_init(&mut opener, &case.key, &case.nonce, 0, 1),
+        Width::Bits256 => deerlapse_opener_init_256(&mut opener, &case.key, &case.nonce, 0, 1),
+    };
+    if !made {
         return Err("an opener".into());
     }
     let mut len = 0;
@@ -239,12 +296,45 @@ fn opens_once(rt: &impl Abort, case: &Case) -> Result<(), Fail> {
 fn gcm_spec(rt: HostRuntime) -> Result<(), Fail> {
     for line in CASES {
         let case = Case::parse(rt.alloc(), line)?;
-        seals_and_opens(&rt, rt.alloc(), &case)?;
-        seals_and_opens_by_a_key(&rt, &case)?;
-        seals_and_opens_apart(&rt, rt.alloc(), &case)?;
-        seals_in_pieces(&rt, &case, 17)?;
-        seals_once(&rt, &case)?;
-        opens_once(&rt, &case)?;
+        by_both_keys(&rt, rt.alloc(), &case)?;
+        for (width, other) in WIDTHS {
+            seals_and_opens(&rt, rt.alloc(), &case, width, other)?;
+            seals_once(&rt, &case, width)?;
+            opens_once(&rt, &case, width)?;
+        }
+    }
+    Ok(())
+}
+
+/// A message of two batches of sixteen blocks and a rest is sealed with planes of each width, and opened with the other's.
+#[test]
+fn long(rt: HostRuntime) -> Result<(), Fail> {
+    let (key, nonce, aad) = ([7; 32], [1; 12], [2; 20]);
+    let mut sealed = vec![in rt.alloc(); 3; 600]?;
+    let mut tag = [0; 16];
+    accepted(
+        &rt,
+        deerlapse_seal(&key, &nonce, &aad, &mut sealed, &mut tag),
+        "128 bits",
+    );
+    let mut wider = vec![in rt.alloc(); 3; 600]?;
+    let mut other_tag = [0; 16];
+    accepted(
+        &rt,
+        deerlapse_seal_256(&key, &nonce, &aad, &mut wider, &mut other_tag),
+        "256 bits",
+    );
+    same(&rt, &wider, &sealed, "256 bits");
+    same(&rt, &other_tag, &tag, "256 bits");
+    sealed.extend_from_slice(&tag)?;
+    wider.extend_from_slice(&tag)?;
+    let mut len = 0;
+    let opened = deerlapse_open_256(&key, &nonce, &aad, &mut sealed, 0, &mut len)
+        && deerlapse_open(&key, &nonce, &aad, &mut wider, 0, &mut len);
+    accepted(&rt, opened, "the other width");
+    for bytes in [&sealed, &wider] {
+        let plaintext = bytes.get(..600).ok_or("a plaintext's length")?;
+        same(&rt, plaintext, &[3; 600], "the other width");
     }
     Ok(())
 }
@@ -259,6 +349,12 @@ fn masks_a_block(rt: &impl Abort, case: &fips_197::Case) {
     let mut key = ExpandedKey::zeros();
     let mut mask = [0; 5];
     let answer = deerlapse_key_init(&mut key, &case.key)
+        && deerlapse_key_mask(&key, &case.plaintext, &mut mask);
+    accepted(rt, answer, case.name);
+    same(rt, &mask, &case.ciphertext[..5], case.name);
+
+    let mut mask = [0; 5];
+    let answer = deerlapse_key_init_256(&mut key, &case.key)
         && deerlapse_key_mask(&key, &case.plaintext, &mut mask);
     accepted(rt, answer, case.name);
     same(rt, &mask, &case.ciphertext[..5], case.name);
