@@ -6,10 +6,14 @@ macro_rules! texts {
         $(
             #[cfg(all(target_pointer_width = "64", target_endian = "little", $condition))]
             core::arch::global_asm!(include_str!(concat!("../asm/", $name, ".s")), options($($option),*));
-
-            #[cfg(all(test, target_pointer_width = "64", target_endian = "little", $condition))]
-            const TEXT: &str = concat!("asm/", $name, ".s, for ", $processors);
         )*
+
+        /// The texts that are included.
+        #[cfg(test)]
+        pub(crate) const TEXTS: &[&str] = &[$(
+            #[cfg(all(target_pointer_width = "64", target_endian = "little", $condition))]
+            concat!("asm/", $name, ".s, for ", $processors)
+        ),*];
 
         #[cfg(not(all(target_pointer_width = "64", target_endian = "little", any($($condition),*))))]
         compile_error!(
@@ -23,13 +27,15 @@ macro_rules! texts {
 texts! {
     "x86_64-v2" for "x86-64-v2" (att_syntax, raw) if all(
         target_arch = "x86_64",
-        any(target_os = "linux", target_os = "android", target_os = "freebsd"),
-        not(all(target_feature = "avx2", target_feature = "bmi2", target_feature = "fma"))
+        any(target_os = "linux", target_os = "android", target_os = "freebsd")
     );
     "x86_64-v3" for "x86-64-v3" (att_syntax, raw) if all(
         target_arch = "x86_64",
         any(target_os = "linux", target_os = "android", target_os = "freebsd"),
-        all(target_feature = "avx2", target_feature = "bmi2", target_feature = "fma")
+        any(
+            feature = "x86-64-v3",
+            all(target_feature = "avx2", target_feature = "bmi2", target_feature = "fma")
+        )
     );
     "x86_64-windows" for "x86-64-v2" (att_syntax, raw) if all(target_arch = "x86_64", target_os = "windows");
     "x86_64-macos" for "x86-64-v2" (att_syntax, raw) if all(target_arch = "x86_64", target_os = "macos");
@@ -42,9 +48,7 @@ texts! {
 
 #[cfg(test)]
 mod tests {
-    extern crate std;
-
-    use super::TEXT;
+    use super::TEXTS;
     use std::env::consts::{ARCH, OS};
     use std::io::{stderr, Result, Write};
 
@@ -53,8 +57,9 @@ mod tests {
     fn says_the_target() -> Result<()> {
         writeln!(
             stderr(),
-            "\ndeerlapse {} on {ARCH} {OS}: {TEXT}",
-            env!("CARGO_PKG_VERSION")
+            "\ndeerlapse {} on {ARCH} {OS}: {}",
+            env!("CARGO_PKG_VERSION"),
+            TEXTS.join("; ")
         )
     }
 }

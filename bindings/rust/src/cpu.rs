@@ -7,11 +7,18 @@ use core::sync::atomic::{AtomicU8, Ordering};
 
 /// Whether the program is compiled for processors of level x86-64-v3, as far as the library uses it.
 #[cfg(target_arch = "x86_64")]
-const V3: bool = cfg!(all(
+pub(crate) const V3: bool = cfg!(all(
     target_feature = "avx2",
     target_feature = "bmi2",
     target_feature = "fma"
 ));
+
+#[cfg(target_arch = "x86_64")]
+const UNKNOWN: u8 = 0;
+
+/// The level of this processor, as `asked_level` returns it.
+#[cfg(target_arch = "x86_64")]
+pub(crate) static LEVEL: AtomicU8 = AtomicU8::new(UNKNOWN);
 
 /// Returns whether this processor has the instructions that the library uses. On x86-64 they are those of level
 /// x86-64-v2, and of v3 if the program is compiled for AVX2, BMI2 and FMA; on ARM64 every processor has them.
@@ -24,18 +31,16 @@ const V3: bool = cfg!(all(
 #[cfg(target_arch = "x86_64")]
 #[must_use]
 pub fn cpu_supported() -> bool {
-    const UNKNOWN: u8 = 0;
-    const YES: u8 = 1;
-    const NO: u8 = 2;
-    static FOUND: AtomicU8 = AtomicU8::new(UNKNOWN);
-    match FOUND.load(Ordering::Relaxed) {
+    let level = match LEVEL.load(Ordering::Relaxed) {
         UNKNOWN => {
-            let is = has_instructions();
-            FOUND.store(if is { YES } else { NO }, Ordering::Relaxed);
-            is
+            let level = asked_level();
+            // The first answer stays, in whose place a test may have put another.
+            let _ = LEVEL.compare_exchange(UNKNOWN, level, Ordering::Relaxed, Ordering::Relaxed);
+            level
         }
-        found => found == YES,
-    }
+        level => level,
+    };
+    level >= if V3 { 3 } else { 2 }
 }
 
 /// Returns true, since every processor of this architecture has the instructions that the library uses.
@@ -70,10 +75,18 @@ fn is_this_version() -> bool {
         && env!("CARGO_PKG_VERSION_MINOR").parse() == Ok(version >> 8 & 0xff)
 }
 
-/// Whether the processor and the system have what is asked of them by the header's `deerlapse_cpu_supported`.
+/// Whether the functions of level x86-64-v3 are called, by which a key was made. The processor was asked by then.
+#[cfg(target_arch = "x86_64")]
+#[allow(dead_code)] // where the package has one level's text
+pub(crate) fn takes_v3() -> bool {
+    V3 || LEVEL.load(Ordering::Relaxed) == 3
+}
+
+/// Asks the processor and the system for what the header's `deerlapse_cpu_supported` asks for at each level: returns 3 for
+/// x86-64-v3, 2 for x86-64-v2, or 1.
 #[cfg(target_arch = "x86_64")]
 #[allow(unused_unsafe)] // `__cpuid` is a safe function in later versions of Rust
-fn has_instructions() -> bool {
+pub(crate) fn asked_level() -> u8 {
     const FMA: u32 = 1 << 12;
     const SSSE3: u32 = 1 << 9;
     const SSE4_2: u32 = 1 << 20;
@@ -84,14 +97,19 @@ fn has_instructions() -> bool {
     let has = |found: u32, wanted: u32| found & wanted == wanted;
     // SAFETY: every x86-64 processor has CPUID.
     let (leaves, basic) = unsafe { (x86_64::__cpuid(0).eax, x86_64::__cpuid(1).ecx) };
-    if !V3 {
-        return has(basic, SSSE3 | SSE4_2 | POPCNT);
+    if !has(basic, SSSE3 | SSE4_2 | POPCNT) {
+        return 1;
     }
-    leaves >= 7
+    let v3 = leaves >= 7
         && has(basic, FMA | OSXSAVE)
         // SAFETY: as above, and there is a leaf 7.
         && has(unsafe { x86_64::__cpuid_count(7, 0).ebx }, AVX2 | BMI2)
-        && saves_wide_registers()
+        && saves_wide_registers();
+    if v3 {
+        3
+    } else {
+        2
+    }
 }
 
 /// Whether the system keeps the 32 bytes of a wide register for each thread, where the processor has OSXSAVE.

@@ -27,27 +27,56 @@ pub(crate) struct Opener {
     pub(crate) words: [u64; 430],
 }
 
-/// Declares functions of the library. In this package's assembly their names have its version, so that two versions in one
-/// program, or a package beside an installed library, are two sets of functions.
-macro_rules! functions {
-    ($(fn $name:ident $parameters:tt $(-> $result:ty)?;)*) => {
-        #[cfg_attr(feature = "system", link(name = "deerlapse"))]
-        extern "C" {$(
+#[cfg(feature = "system")]
+#[link(name = "deerlapse")]
+extern "C" {}
+
+/// A function of the library. In this package's assembly its name has the version, so that two versions in one program, or a
+/// package beside an installed library, are two sets of functions. In the text of x86-64-v3 the level comes after it.
+macro_rules! of_library {
+    ($level:literal $name:ident($($parameter:ident: $type:ty),*) $(-> $result:ty)?) => {{
+        extern "C" {
             #[cfg_attr(feature = "system", link_name = concat!("deerlapse_", stringify!($name)))]
             #[cfg_attr(not(feature = "system"), link_name = concat!(
                 "deerlapse_",
                 env!("CARGO_PKG_VERSION_MAJOR"), "_",
                 env!("CARGO_PKG_VERSION_MINOR"), "_",
-                env!("CARGO_PKG_VERSION_PATCH"), "_",
+                env!("CARGO_PKG_VERSION_PATCH"), $level, "_",
                 stringify!($name)
             ))]
-            pub(crate) fn $name $parameters $(-> $result)?;
-        )*}
-    };
+            fn $name($($parameter: $type),*) $(-> $result)?;
+        }
+        $name
+    }};
 }
 
+/// Defines functions that call the library's. Where the package has the text of x86-64-v3 beside that of v2, they are those of
+/// v3 if the condition holds.
+macro_rules! functions {
+    (if $v3:expr; $(fn $name:ident($($parameter:ident: $type:ty),* $(,)?) $(-> $result:ty)?;)*) => {$(
+        #[inline]
+        #[allow(clippy::too_many_arguments)] // they are the header's
+        pub(crate) unsafe fn $name($($parameter: $type),*) $(-> $result)? {
+            #[cfg(all(
+                not(feature = "system"),
+                target_arch = "x86_64",
+                any(target_os = "linux", target_os = "android", target_os = "freebsd"),
+                any(
+                    feature = "x86-64-v3",
+                    all(target_feature = "avx2", target_feature = "bmi2", target_feature = "fma")
+                )
+            ))]
+            if $v3 {
+                return of_library!("_v3" $name($($parameter: $type),*) $(-> $result)?)($($parameter),*);
+            }
+            of_library!("" $name($($parameter: $type),*) $(-> $result)?)($($parameter),*)
+        }
+    )*};
+}
+
+// Those that take the width of a key's planes, which is the level's that made it, or that hash: by the processor.
 functions! {
-    fn version() -> u32;
+    if crate::cpu::takes_v3();
 
     fn key_init(key: &mut Key, bytes: *const u8, len: usize) -> bool;
 
@@ -150,10 +179,6 @@ functions! {
         tag: &mut [u8; 16],
     ) -> bool;
 
-    fn key_mask(key: &Key, sample: &[u8; 16], mask: &mut [u8; 5]) -> bool;
-
-    fn key_wipe(key: &mut Key);
-
     fn sealer_init(
         sealer: &mut Sealer,
         key: *const u8,
@@ -162,8 +187,6 @@ functions! {
         first: u64,
         limit: u64,
     ) -> bool;
-
-    fn sealer_next(sealer: &Sealer) -> u64;
 
     fn sealer_seal(
         sealer: &mut Sealer,
@@ -174,8 +197,6 @@ functions! {
         tag: &mut [u8; 16],
     ) -> bool;
 
-    fn sealer_wipe(sealer: &mut Sealer);
-
     fn opener_init(
         opener: &mut Opener,
         key: *const u8,
@@ -184,8 +205,6 @@ functions! {
         first: u64,
         limit: u64,
     ) -> bool;
-
-    fn opener_next(opener: &Opener) -> u64;
 
     fn opener_open(
         opener: &mut Opener,
@@ -207,6 +226,23 @@ functions! {
         start: usize,
         plaintext_len: &mut usize,
     ) -> bool;
+}
+
+// The others, which do as much at either level: by what the program is compiled for.
+functions! {
+    if crate::cpu::V3;
+
+    fn version() -> u32;
+
+    fn key_mask(key: &Key, sample: &[u8; 16], mask: &mut [u8; 5]) -> bool;
+
+    fn key_wipe(key: &mut Key);
+
+    fn sealer_next(sealer: &Sealer) -> u64;
+
+    fn sealer_wipe(sealer: &mut Sealer);
+
+    fn opener_next(opener: &Opener) -> u64;
 
     fn opener_wipe(opener: &mut Opener);
 

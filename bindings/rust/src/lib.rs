@@ -1,9 +1,11 @@
 #![doc = include_str!("../README.md")]
-#![no_std]
+#![cfg_attr(not(test), no_std)]
 #![warn(missing_docs)]
 
 #[cfg(feature = "alloc")]
 extern crate alloc;
+#[cfg(test)]
+extern crate self as deerlapse; // by which the tests of the package name it
 
 #[cfg(not(feature = "system"))]
 mod asm;
@@ -11,6 +13,13 @@ mod cpu;
 mod ffi;
 mod header_key;
 mod key;
+#[cfg(all(
+    test,
+    target_arch = "x86_64",
+    feature = "alloc",
+    not(feature = "system")
+))]
+mod levels;
 mod message;
 mod nonce;
 mod opener;

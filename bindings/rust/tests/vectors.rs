@@ -1,4 +1,5 @@
-//! The functions on standard vectors, and the calls that fail.
+//! The functions on standard vectors, and the calls that fail. `src/levels.rs` calls those that are public at each level of
+//! x86-64.
 
 use deerlapse::{
     chacha20, mask_aes, mask_chacha20, nonce_of, HeaderProtectionKey, LessSafeKey, Nonce, Opener,
@@ -34,7 +35,7 @@ const SEALED: &str = "42831ec2217774244b7221b784d0d49ce3aa212f2c02a4e035c17e2329
     21d514b25466931c7d8f6a5aac84aa051ba30b396a0aac973d58e0915bc94fbc3221a5db94fae95ae7121a47";
 
 #[test]
-fn seals_and_opens() -> Result<(), Unspecified> {
+pub fn seals_and_opens() -> Result<(), Unspecified> {
     let key = LessSafeKey::new(&hex(KEY))?;
     let (aad, message, sealed) = (hex(AAD), hex(MESSAGE), hex(SEALED));
     let mut buffer = message.clone();
@@ -62,7 +63,7 @@ fn seals_and_opens() -> Result<(), Unspecified> {
 }
 
 #[test]
-fn seals_and_opens_with_the_tag_after_the_ciphertext() -> Result<(), Unspecified> {
+pub fn seals_and_opens_with_the_tag_after_the_ciphertext() -> Result<(), Unspecified> {
     let key = LessSafeKey::new(&hex(KEY))?;
     let (aad, message, sealed) = (hex(AAD), hex(MESSAGE), hex(SEALED));
     let mut out = vec![7; sealed.len()];
@@ -97,7 +98,7 @@ fn seals_and_opens_with_the_tag_after_the_ciphertext() -> Result<(), Unspecified
 }
 
 #[test]
-fn seals_and_opens_from_one_buffer_to_another() -> Result<(), Unspecified> {
+pub fn seals_and_opens_from_one_buffer_to_another() -> Result<(), Unspecified> {
     let key = LessSafeKey::new(&hex(KEY))?;
     let (aad, message, sealed) = (hex(AAD), hex(MESSAGE), hex(SEALED));
     let (ciphertext, tag) = sealed.split_at(message.len());
@@ -123,7 +124,7 @@ fn seals_and_opens_from_one_buffer_to_another() -> Result<(), Unspecified> {
 }
 
 #[test]
-fn seals_in_pieces() -> Result<(), Unspecified> {
+pub fn seals_in_pieces() -> Result<(), Unspecified> {
     let key = LessSafeKey::new(&hex(KEY))?;
     let (aad, message, sealed) = (hex(AAD), hex(MESSAGE), hex(SEALED));
     for len in 1..=message.len() {
@@ -141,7 +142,7 @@ fn seals_in_pieces() -> Result<(), Unspecified> {
 
 // Test case 4 by eight threads that share a key, and by clones of it.
 #[test]
-fn threads_share_a_key() -> Result<(), Unspecified> {
+pub fn threads_share_a_key() -> Result<(), Unspecified> {
     let key = LessSafeKey::new(&hex(KEY))?;
     let (aad, message, sealed) = (hex(AAD), hex(MESSAGE), hex(SEALED));
     let work = |key: &LessSafeKey| {
@@ -166,7 +167,7 @@ fn threads_share_a_key() -> Result<(), Unspecified> {
 }
 
 #[test]
-fn a_refusal_leaves_the_buffer() -> Result<(), Unspecified> {
+pub fn a_refusal_leaves_the_buffer() -> Result<(), Unspecified> {
     let key = LessSafeKey::new(&hex(KEY))?;
     let sealed = hex(SEALED);
     for start in [1, sealed.len(), sealed.len() + 1, usize::MAX] {
@@ -209,7 +210,7 @@ const PAYLOAD: &str =
     020304";
 
 #[test]
-fn a_sealer_counts() -> Result<(), Unspecified> {
+pub fn a_sealer_counts() -> Result<(), Unspecified> {
     let (header, payload, iv) = (hex(HEADER), hex(PAYLOAD), array(IV));
     let mut sealer = Sealer::new(&hex(PACKET_KEY), &iv, 1..2)?;
     let mut buffer = payload.clone();
@@ -233,7 +234,7 @@ fn a_sealer_counts() -> Result<(), Unspecified> {
 }
 
 #[test]
-fn an_opener_counts_what_it_opens() -> Result<(), Unspecified> {
+pub fn an_opener_counts_what_it_opens() -> Result<(), Unspecified> {
     let (header, payload, key, iv) = (hex(HEADER), hex(PAYLOAD), hex(PACKET_KEY), array(IV));
     let mut sealed = payload.clone();
     Sealer::new(&key, &iv, 1..2)?.seal_in_place_append_tag(&header, &mut sealed)?;
@@ -285,7 +286,7 @@ fn dropped<T>(value: T) -> Vec<u8> {
 }
 
 #[test]
-fn a_dropped_key_is_wiped() -> Result<(), Unspecified> {
+pub fn a_dropped_key_is_wiped() -> Result<(), Unspecified> {
     let key = LessSafeKey::new(&[7; 32])?;
     assert!(dropped(key.clone()).iter().all(|&byte| byte == 0));
     let mut buffer = *b"hello";
@@ -321,7 +322,7 @@ fn threads_may_have_each_type() {
 }
 
 #[test]
-fn masks_and_streams() -> Result<(), Unspecified> {
+pub fn masks_and_streams() -> Result<(), Unspecified> {
     // RFC 9001 appendices A.2 and A.5, FIPS 197 appendix C.3
     let key = hex("9f50449e04a0e810283a1e9933adedd2");
     let sample = array("d1b1c98dd7689fb8ec11d242b123dc9b");
