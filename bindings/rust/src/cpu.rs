@@ -34,7 +34,7 @@ pub fn cpu_supported() -> bool {
     let level = match LEVEL.load(Ordering::Relaxed) {
         UNKNOWN => {
             let level = asked_level();
-            // The first answer stays, in whose place a test may have put another.
+            // Nothing is changed if there is an answer by now, as a test puts one there.
             let _ = LEVEL.compare_exchange(UNKNOWN, level, Ordering::Relaxed, Ordering::Relaxed);
             level
         }
@@ -122,4 +122,18 @@ fn saves_wide_registers() -> bool {
         asm!("xgetbv", in("ecx") 0, out("eax") kept, out("edx") _, options(nomem, nostack, preserves_flags));
     }
     kept & BOTH_HALVES == BOTH_HALVES
+}
+
+#[cfg(all(test, target_arch = "x86_64"))]
+mod tests {
+    #[test]
+    fn asks_the_processor_as_std_does() {
+        let v2 = is_x86_feature_detected!("ssse3")
+            && is_x86_feature_detected!("sse4.2")
+            && is_x86_feature_detected!("popcnt");
+        let v3 = is_x86_feature_detected!("avx2")
+            && is_x86_feature_detected!("bmi2")
+            && is_x86_feature_detected!("fma");
+        assert_eq!(super::asked_level(), 1 + u8::from(v2) + u8::from(v2 && v3));
+    }
 }

@@ -93,14 +93,3 @@ fn each_level() -> Result<(), Unspecified> {
     }
     Ok(())
 }
-
-#[test]
-fn asks_the_processor_as_std_does() {
-    let v2 = is_x86_feature_detected!("ssse3")
-        && is_x86_feature_detected!("sse4.2")
-        && is_x86_feature_detected!("popcnt");
-    let v3 = is_x86_feature_detected!("avx2")
-        && is_x86_feature_detected!("bmi2")
-        && is_x86_feature_detected!("fma");
-    assert_eq!(cpu::asked_level(), 1 + u8::from(v2) + u8::from(v2 && v3));
-}
