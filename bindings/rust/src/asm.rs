@@ -47,19 +47,26 @@ texts! {
 }
 
 #[cfg(test)]
-mod tests {
+pub(crate) mod tests {
     use super::TEXTS;
     use std::env::consts::{ARCH, OS};
     use std::io::{stderr, Result, Write};
 
-    /// Writes to the stream itself, which `cargo test` shows even of a test that passes.
+    /// Writes a line about the package to the stream itself, which `cargo test` shows even of a test that passes. It is
+    /// written at once, so that it isn't mixed with those of other tests.
+    pub(crate) fn say(text: &str) -> Result<()> {
+        let version = env!("CARGO_PKG_VERSION");
+        stderr().write_all(format!("\ndeerlapse {version} on {ARCH} {OS}: {text}\n").as_bytes())
+    }
+
     #[test]
     fn says_the_target() -> Result<()> {
-        writeln!(
-            stderr(),
-            "\ndeerlapse {} on {ARCH} {OS}: {}",
-            env!("CARGO_PKG_VERSION"),
-            TEXTS.join("; ")
-        )
+        let for_v3 = cfg!(all(
+            target_feature = "avx2",
+            target_feature = "bmi2",
+            target_feature = "fma"
+        ));
+        let unused = if for_v3 { TEXTS.len() - 1 } else { 0 };
+        say(&TEXTS[unused..].join("; "))
     }
 }

@@ -1,8 +1,8 @@
 //! Tests of both levels of x86-64 on one machine.
 
-use crate::asm::TEXTS;
+use crate::asm::{tests::say, TEXTS};
 use crate::{cpu, nonce_of, LessSafeKey, Opener, Sealer, Unspecified};
-use std::io::{stderr, Write};
+use std::error::Error;
 use std::sync::atomic::Ordering;
 
 #[path = "../tests/vectors.rs"]
@@ -60,12 +60,9 @@ fn sealed(made: u8, used: u8, key_bytes: &[u8], message: &[u8]) -> Result<Vec<u8
 }
 
 #[test]
-fn each_level() -> Result<(), Unspecified> {
+fn each_level() -> Result<(), Box<dyn Error>> {
     if let Some(text) = obstacle() {
-        let _ = writeln!(
-            stderr(),
-            "\ndeerlapse: not tried at each level, since {text}"
-        );
+        say(&format!("keys of two levels were not tried, since {text}"))?;
         return Ok(());
     }
     for level in [2, 3] {
