@@ -65,6 +65,14 @@ fn each_level() -> Result<(), Box<dyn Error>> {
         say(&format!("keys of two levels were not tried, since {text}"))?;
         return Ok(());
     }
+    take(2);
+    let narrow = LessSafeKey::new(&[7; 16])?;
+    take(3);
+    let wide = LessSafeKey::new(&[7; 16])?;
+    assert!(
+        narrow.0.words != wide.0.words,
+        "a key says the width of its planes, which is the level's"
+    );
     for level in [2, 3] {
         take(level);
         vectors::seals_and_opens()?;
