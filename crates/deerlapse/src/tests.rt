@@ -256,28 +256,31 @@ fn sealed_bytes(case: &Case) -> Result<Vec<u8, Global>, Fail> {
     Ok(bytes)
 }
 
-/// An opener with one number, 0: it opens a sealed message twice by number, once in order, and then no more.
-fn opens_once(rt: &impl Abort, case: &Case, width: Width) -> Result<(), Fail> {
-    let mut opener = no_numbers();
-    let made = match width {
-        Width::Bits128 => deerlapse_opener_init(&mut opener, &case.key, &case.nonce, 0, 1),
-        Width::Bits256 => deerlapse_opener_init_256(&mut opener, &case.key, &case.nonce, 0, 1),
-    };
-    if !made {
-        return Err("an opener".into());
-    }
+/// An opener with one number, 0, opens a sealed message by it twice, and not by another number.
+fn opens_by_number(rt: &impl Abort, opener: &NumberedKey, case: &Case) -> Result<(), Fail>
+    requires { IsKeyOrNone opener.now.key }
+{
     let mut len = 0;
     for (number, answer) in [(0, true), (1, false), (0, true)] {
         let mut bytes = sealed_bytes(case)?;
         let opened = deerlapse_opener_open_number(
-            &opener, number, &case.aad, &mut bytes, 0, &mut len,
+            opener, number, &case.aad, &mut bytes, 0, &mut len,
         );
         accepted(rt, opened == answer, case.name);
     }
+    Ok(())
+}
+
+/// An opener with one number, 0: it opens a sealed message twice by number, once in order, and then no more.
+fn opens_once(rt: &impl Abort, opener: &mut NumberedKey, case: &Case) -> Result<(), Fail>
+    requires { IsKeyOrNone opener.old.key }
+{
+    opens_by_number(rt, opener, case)?;
+    let mut len = 0;
     let mut bytes = sealed_bytes(case)?;
-    let early = deerlapse_opener_open(&mut opener, &[1, 2, 3], &mut bytes, 0, &mut len);
+    let early = deerlapse_opener_open(opener, &[1, 2, 3], &mut bytes, 0, &mut len);
     accepted(rt, !early, case.name);
-    let opened = deerlapse_opener_open(&mut opener, &case.aad, &mut bytes, 0, &mut len);
+    let opened = deerlapse_opener_open(opener, &case.aad, &mut bytes, 0, &mut len);
     accepted(rt, opened, case.name);
     same(
         rt,
@@ -285,11 +288,24 @@ fn opens_once(rt: &impl Abort, case: &Case, width: Width) -> Result<(), Fail> {
         &case.message,
         case.name,
     );
-    accepted(rt, deerlapse_opener_next(&opener) == 1, case.name);
+    accepted(rt, deerlapse_opener_next(opener) == 1, case.name);
     let mut bytes = sealed_bytes(case)?;
-    let again = deerlapse_opener_open(&mut opener, &case.aad, &mut bytes, 0, &mut len);
+    let again = deerlapse_opener_open(opener, &case.aad, &mut bytes, 0, &mut len);
     accepted(rt, !again, case.name);
     Ok(())
+}
+
+/// Opens a sealed message by an opener of each width.
+fn opens_under_each_width(rt: &impl Abort, case: &Case) -> Result<(), Fail> {
+    let mut opener = no_numbers();
+    let mut wider = no_numbers();
+    if !deerlapse_opener_init(&mut opener, &case.key, &case.nonce, 0, 1)
+        || !deerlapse_opener_init_256(&mut wider, &case.key, &case.nonce, 0, 1)
+    {
+        return Err("an opener".into());
+    }
+    opens_once(rt, &mut opener, case)?;
+    opens_once(rt, &mut wider, case)
 }
 
 #[test]
@@ -300,8 +316,8 @@ fn gcm_spec(rt: HostRuntime) -> Result<(), Fail> {
         for (width, other) in WIDTHS {
             seals_and_opens(&rt, rt.alloc(), &case, width, other)?;
             seals_once(&rt, &case, width)?;
-            opens_once(&rt, &case, width)?;
         }
+        opens_under_each_width(&rt, &case)?;
     }
     Ok(())
 }
