@@ -20,4 +20,11 @@ pub record IsExpanded (key : ExpandedKey) : Type 0 where
 
 -- the fields before a key is expanded: all zeros, which no key has
 abbrev pub zero_key : ExpandedKey
-zero_key = record { planes = replicate 15 (replicate 16 0); round_keys = replicate 15 (replicate 16 0); rounds = 0; width = 0; products = replicate 512 0; squares = replicate 512 0 }
+zero_key = record {
+  planes = replicate 15 (replicate 16 0);
+  round_keys = replicate 15 (replicate 16 0);
+  rounds = 0;
+  width = 0;
+  products = replicate 512 0;
+  squares = replicate 512 0;
+}

@@ -41,7 +41,7 @@ pub enum Width {
     Bits256,
 }
 
-/// The number of bits for planes of 256 bits. Each other number stands for planes of 128 bits.
+/// The number of bits for planes of 256 bits. Any other number means planes of 128 bits.
 const PLANES_OF_256_BITS: u32 = 256;
 
 impl Width {
@@ -159,7 +159,7 @@ impl<'k> Model for KeyRef<'k> {
 
 impl<'k> KeyRef<'k> {
     /// Creates a key from round keys and the number of rounds, as `expand` writes and returns them, and their planes, as
-    /// `write_planes` writes them. Batches take planes of 256 bits if that is `width`, and of 128 bits under each other number.
+    /// `write_planes` writes them. Batches take planes of 256 bits if `width` is 256, else planes of 128 bits.
     pub fn new(
         planes: &'k RoundPlanes,
         round_keys: &'k RoundKeys,

@@ -43,7 +43,7 @@ pub struct ExpandedKey {
     // Between the arrays, as in `aes::Key`.
     /// The number of rounds: 10 for AES-128, 14 for AES-256.
     pub rounds: u32,
-    /// The width of the planes on which batches are encrypted, in bits: 256, or 128 for each other number. It changes no result.
+    /// The width of the planes on which batches are encrypted, in bits: 256, or 128 for any other number. It changes no result.
     pub width: u32,
     /// The round keys (FIPS 197 section 5.2).
     pub round_keys: [[u8; 16]; 15],

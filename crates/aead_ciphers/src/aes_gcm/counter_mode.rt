@@ -9,8 +9,8 @@ use aead_ciphers_base::aes::{BLOCK_LEN, Counter, EncryptCtr32, Overlapping, Work
 /// The length of a chunk, in bytes: 192 blocks.
 pub(super) const CHUNK_LEN: usize = 192 * BLOCK_LEN;
 
-/// The length of a batch, in bytes: eight blocks, which are one or two passes of the ciphers here.
-const BATCH_LEN: usize = 8 * BLOCK_LEN;
+/// The length of a batch, in bytes: sixteen blocks, which are whole passes of every cipher that is called here.
+const BATCH_LEN: usize = 16 * BLOCK_LEN;
 
 /// Encrypts or decrypts the bytes from `start` on to the front of `in_out`, chunk by chunk.
 pub(super) fn encrypt_within<A: EncryptCtr32>(
@@ -43,7 +43,7 @@ pub(super) fn encrypt_within<A: EncryptCtr32>(
 pub(super) fn whole_len(len: usize) -> usize
     ensures aligned { result % 16 ≡ 0 }
     ensures within { result ≤ len }
-    ensures rest { len < result + 128 }
+    ensures rest { len < result + 256 }
 {
     if len % BLOCK_LEN == 0 {
         len
@@ -82,7 +82,7 @@ pub(super) fn encrypt_rest<A: EncryptCtr32>(
     work: &mut Work,
 )
     requires within { start ≤ length in_out.old }
-    requires short { length in_out.old < start + 128 }
+    requires short { length in_out.old < start + 256 }
     requires sums { CanAdd work.old ((length in_out.old - start + 15) / 16) 0 }
     ensures output { EncryptsToFront (A.cipher aes.now) counter start in_out.old in_out.new }
     ensures worked { Adds work.old work.new ((length in_out.old - start + 15) / 16) 0 }

@@ -14,8 +14,8 @@ use aead_ciphers_base::aes::{BLOCK_LEN, Block, Counter, EncryptCtr32, Work, ZERO
 use aead_ciphers_base::error::Unspecified;
 use aead_ciphers_base::values::{Aad, Nonce, Tag};
 
-/// The length of the longest plaintext that is encrypted together with the mask of the tag, in bytes: seven blocks.
-const SHORT_LEN: usize = 7 * BLOCK_LEN;
+/// The length of the longest plaintext that is encrypted together with the mask of the tag, in bytes: fifteen blocks.
+const SHORT_LEN: usize = 15 * BLOCK_LEN;
 
 /// Seals as `aes_gcm::seal` does, with any cipher of 16-byte blocks (SP 800-38D section 7.1). The hash subkey of `gcm` must be
 /// the encryption of the zero block.
@@ -63,16 +63,16 @@ pub fn seal_with<A: EncryptCtr32, G: UpdateBlocks>(
     Ok(finish(auth, mask, work))
 }
 
-/// Encrypts a plaintext of at most 112 bytes in place, and returns the mask of the tag, which is the encrypted first
+/// Encrypts a plaintext of at most 240 bytes in place, and returns the mask of the tag, which is the encrypted first
 /// counter block. The counter blocks of the plaintext follow that one, so counter mode of a zero block followed by the
-/// plaintext computes both at once, of at most eight blocks.
+/// plaintext computes both at once, of at most sixteen blocks.
 fn encrypt_short<A: EncryptCtr32>(
     aes: &A,
     nonce: Nonce,
     in_out: &mut [u8],
     work: &mut Work,
 ) -> Block
-    requires short { length in_out.old ≤ 112 }
+    requires short { length in_out.old ≤ 240 }
     requires sums { CanAdd work.old (sealing_blocks (length in_out.old)) 0 }
     ensures ciphertext { in_out.new ≡ gcm_encrypted (A.cipher aes.now) nonce in_out.old }
     ensures mask { result ≡ A.cipher aes.now (counter_block nonce 1) }
