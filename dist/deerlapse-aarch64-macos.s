@@ -1710,21 +1710,21 @@ Ldeerlapse_BB6_9:                                 ; %arm.2
 	.p2align	2                               ; -- Begin function aead_ciphers::aes_gcm::counter_mode::encrypt_within::<#6fa349fe97f872a2>
 "_aead_ciphers::aes_gcm::counter_mode::encrypt_within::<#6fa349fe97f872a2>": ; @"aead_ciphers::aes_gcm::counter_mode::encrypt_within::<#6fa349fe97f872a2>"
 ; %bb.0:                                ; %start
-	sub	sp, sp, #320
+	sub	sp, sp, #448
 	sub	x9, x3, x4
 	ldr	q0, [x1]
-	stp	x22, x21, [sp, #272]            ; 16-byte Folded Spill
-	and	x8, x9, #0xffffffffffffff80
+	stp	x22, x21, [sp, #400]            ; 16-byte Folded Spill
+	and	x8, x9, #0xffffffffffffff00
 	tst	x9, #0xf
-	stp	x20, x19, [sp, #288]            ; 16-byte Folded Spill
+	stp	x20, x19, [sp, #416]            ; 16-byte Folded Spill
 	mov	x21, x5
 	mov	x22, x0
 	csel	x20, x9, x8, eq
-	stp	x28, x27, [sp, #224]            ; 16-byte Folded Spill
-	stp	x26, x25, [sp, #240]            ; 16-byte Folded Spill
-	stp	x24, x23, [sp, #256]            ; 16-byte Folded Spill
-	stp	x29, x30, [sp, #304]            ; 16-byte Folded Spill
-	add	x29, sp, #304
+	stp	x28, x27, [sp, #352]            ; 16-byte Folded Spill
+	stp	x26, x25, [sp, #368]            ; 16-byte Folded Spill
+	stp	x24, x23, [sp, #384]            ; 16-byte Folded Spill
+	stp	x29, x30, [sp, #432]            ; 16-byte Folded Spill
+	add	x29, sp, #432
 	stp	x2, x4, [sp, #32]               ; 16-byte Folded Spill
 	stp	x3, x9, [sp, #8]                ; 16-byte Folded Spill
 	str	q0, [sp, #48]
@@ -1816,31 +1816,35 @@ Ldeerlapse_BB9_12:                                ; %after.1
 	cmp	x20, x8
 	b.hs	Ldeerlapse_BB9_25
 ; %bb.13:                               ; %then.6
-	ldp	x8, x11, [sp, #32]              ; 16-byte Folded Reload
+	ldp	x9, x11, [sp, #32]              ; 16-byte Folded Reload
 	movi.2d	v0, #0000000000000000
-	mov	w9, #16                         ; =0x10
+	ldr	x8, [sp, #8]                    ; 8-byte Reload
 	ldr	q1, [sp, #48]
 	add	x10, sp, #64
 	add	x0, sp, #64
-	add	x12, x8, x20
-	ldr	x8, [sp, #8]                    ; 8-byte Reload
-	stur	q1, [x29, #-112]
-	add	x1, x12, x11
-	stp	q0, q0, [sp, #64]
 	sub	x8, x8, x11
-	stp	q0, q0, [sp, #96]
+	add	x12, x9, x20
+	stur	q1, [x29, #-112]
 	sub	x24, x8, x20
-	add	x8, x12, x11
-	stp	q0, q0, [sp, #128]
+	mov	w8, #16                         ; =0x10
+	add	x9, x12, x11
 	tst	x24, #0xf
-	sub	x8, x10, x8
+	sub	x9, x10, x9
+	add	x1, x12, x11
+	csel	x8, xzr, x8, eq
 	mov	x2, x24
-	csel	x9, xzr, x9, eq
+	stp	q0, q0, [sp, #64]
+	add	x8, x8, x24
+	stp	q0, q0, [sp, #96]
+	cmp	x9, x24
+	stp	q0, q0, [sp, #128]
+	and	x27, x8, #0xfffffffffffffff0
 	stp	q0, q0, [sp, #160]
-	cmp	x8, x24
-	add	x9, x9, x24
+	stp	q0, q0, [sp, #192]
+	stp	q0, q0, [sp, #224]
+	stp	q0, q0, [sp, #256]
+	stp	q0, q0, [sp, #288]
 	str	x12, [sp, #32]                  ; 8-byte Spill
-	and	x27, x9, #0xfffffffffffffff0
 	bl	_memcpy
 	ldr	w8, [x22, #24]
 	mov	w9, #256                        ; =0x100
@@ -1921,13 +1925,13 @@ Ldeerlapse_BB9_23:                                ; %apart.2.i.i.i.i.i.i51
 Ldeerlapse_BB9_24:                                ; %"core::slice::edits::slice+T::copy_from_slice::<i8,20'core::clone::U8Clone{}>.exit59"
 	bl	_memcpy
 Ldeerlapse_BB9_25:                                ; %join.8
-	ldp	x29, x30, [sp, #304]            ; 16-byte Folded Reload
-	ldp	x20, x19, [sp, #288]            ; 16-byte Folded Reload
-	ldp	x22, x21, [sp, #272]            ; 16-byte Folded Reload
-	ldp	x24, x23, [sp, #256]            ; 16-byte Folded Reload
-	ldp	x26, x25, [sp, #240]            ; 16-byte Folded Reload
-	ldp	x28, x27, [sp, #224]            ; 16-byte Folded Reload
-	add	sp, sp, #320
+	ldp	x29, x30, [sp, #432]            ; 16-byte Folded Reload
+	ldp	x20, x19, [sp, #416]            ; 16-byte Folded Reload
+	ldp	x22, x21, [sp, #400]            ; 16-byte Folded Reload
+	ldp	x24, x23, [sp, #384]            ; 16-byte Folded Reload
+	ldp	x26, x25, [sp, #368]            ; 16-byte Folded Reload
+	ldp	x28, x27, [sp, #352]            ; 16-byte Folded Reload
+	add	sp, sp, #448
 	ret
                                         ; -- End function
 	.section	__TEXT,__literal16,16byte_literals
@@ -4562,7 +4566,7 @@ Ldeerlapse_BB13_22:                               ; %common.ret
 	stp	x20, x19, [sp, #64]             ; 16-byte Folded Spill
 	stp	x29, x30, [sp, #80]             ; 16-byte Folded Spill
 	add	x29, sp, #80
-	sub	sp, sp, #544
+	sub	sp, sp, #672
 	ldr	w8, [x0, #1920]
 	stp	xzr, xzr, [sp, #80]
 	str	x8, [sp, #56]                   ; 8-byte Spill
@@ -4588,7 +4592,7 @@ Ldeerlapse_BB13_22:                               ; %common.ret
 	add	x8, sp, #96
 	and	x24, x3, #0x1ffffffffffffff0
 	mov	x27, x4
-	mov	x22, x1
+	mov	x26, x1
 	stp	x8, x3, [sp, #320]
 	and	x23, x3, #0xf
 	add	x0, sp, #96
@@ -4596,9 +4600,9 @@ Ldeerlapse_BB13_22:                               ; %common.ret
 	add	x4, sp, #64
 	mov	x3, x24
 	str	x6, [sp, #32]                   ; 8-byte Spill
-	add	x26, sp, #224
+	add	x21, sp, #224
 	stp	xzr, xzr, [sp, #304]
-	mov	x21, x5
+	mov	x22, x5
 	mov	x20, x2
 	str	x5, [sp, #336]
 	bl	"_aead_ciphers_wide::gcm::KeyRefUpdateBlocks::update_blocks"
@@ -4621,22 +4625,23 @@ Ldeerlapse_BB13_22:                               ; %common.ret
 	bl	"_aead_ciphers_wide::gcm::KeyRefUpdateBlock::update_block"
 Ldeerlapse_BB14_5:                                ; %arm.1.i.i
 	ldr	x8, [sp, #336]
-	ldur	q0, [x26, #97]
-	sub	x9, x21, #1
-	ldur	q1, [x26, #81]
-	mov	x2, x21
-	cmp	x9, #111
+	ldur	q0, [x21, #97]
+	sub	x9, x22, #1
+	ldur	q1, [x21, #81]
+	mov	x2, x22
+	cmp	x9, #239
 	stur	x8, [sp, #191]
 	ldrb	w8, [sp, #304]
+	sub	x20, x29, #192
 	stp	q1, q0, [sp, #160]
 	ldr	q0, [sp, #176]
 	strb	w8, [sp, #264]
 	ldur	x8, [sp, #191]
-	stur	q1, [x26, #41]
-	stur	q0, [x26, #57]
+	stur	q1, [x21, #41]
+	stur	q0, [x21, #57]
 	str	x8, [sp, #296]
 	str	x27, [sp, #48]                  ; 8-byte Spill
-	str	x21, [sp, #24]                  ; 8-byte Spill
+	str	x22, [sp, #24]                  ; 8-byte Spill
 	b.hi	Ldeerlapse_BB14_14
 ; %bb.6:                                ; %then.9.i.i
 	movi.2d	v0, #0000000000000000
@@ -4646,15 +4651,19 @@ Ldeerlapse_BB14_5:                                ; %arm.1.i.i
 	csel	w8, wzr, w8, eq
 	mov	x1, x27
 	add	x0, x25, #16
-	add	w20, w2, w8
+	add	w21, w2, w8
 	stp	q0, q0, [sp, #304]
 	stp	q0, q0, [sp, #336]
 	stp	q0, q0, [sp, #368]
 	stp	q0, q0, [sp, #400]
+	stp	q0, q0, [sp, #432]
+	stp	q0, q0, [sp, #464]
+	stp	q0, q0, [sp, #496]
+	stp	q0, q0, [sp, #528]
 	bl	_memcpy
-	ldr	x8, [x22]
-	ldr	w9, [x22, #8]
-	mov	w10, #1                         ; =0x1
+	ldr	x8, [x26]
+	ldr	w9, [x26, #8]
+	add	w10, w21, #16
 	sturb	wzr, [x29, #-178]
 	cmp	w28, #256
 	mov	w11, #256                       ; =0x100
@@ -4662,16 +4671,16 @@ Ldeerlapse_BB14_5:                                ; %arm.1.i.i
 	ldr	x21, [sp, #64]
 	mov	x27, xzr
 	stur	x8, [x29, #-192]
+	and	x26, x10, #0x3f0
 	stur	w9, [x29, #-184]
-	ldur	x9, [x26, #215]
-	sturb	w10, [x29, #-129]
-	mov	w10, #128                       ; =0x80
-	csel	x22, x11, x10, eq
-	stur	x9, [x29, #-137]
-	add	w9, w20, #16
+	ldur	x9, [x20, #7]
+	stur	x9, [x20, #55]
+	mov	w9, #1                          ; =0x1
+	sturb	w9, [x29, #-129]
+	mov	w9, #128                        ; =0x80
 	stur	x8, [x29, #-144]
 	ldur	w8, [x29, #-132]
-	and	x26, x9, #0x1f0
+	csel	x22, x11, x9, eq
 	rev	w28, w8
 	b	Ldeerlapse_BB14_9
 Ldeerlapse_BB14_7:                                ; %then.1.i.i67.i.i
@@ -4726,22 +4735,22 @@ Ldeerlapse_BB14_13:
 	mov	w0, wzr
 	b	Ldeerlapse_BB14_45
 Ldeerlapse_BB14_14:                               ; %after.5.i.i
-	ldr	x8, [x22]
-	ldr	w9, [x22, #8]
+	ldr	x8, [x26]
+	ldr	w9, [x26, #8]
 	sturb	wzr, [x29, #-146]
 	sturh	wzr, [x29, #-148]
 	stur	x8, [x29, #-160]
 	stur	w9, [x29, #-152]
-	ldur	x9, [x26, #247]
+	ldur	x9, [x20, #39]
 	str	x8, [sp, #224]
 	mov	w8, #1                          ; =0x1
 	strb	w8, [sp, #239]
-	stur	x9, [x26, #7]
+	stur	x9, [x21, #7]
 	ands	x9, x2, #0xf
 	ldr	w8, [sp, #236]
 	ldr	q0, [sp, #224]
 	str	x9, [sp, #16]                   ; 8-byte Spill
-	and	x9, x2, #0xfffffff80
+	and	x9, x2, #0xfffffff00
 	str	w28, [sp, #12]                  ; 4-byte Spill
 	rev	w8, w8
 	csel	x24, x2, x9, eq
@@ -4874,7 +4883,7 @@ Ldeerlapse_BB14_28:                               ; %"aead_ciphers::aes_gcm::sea
 	bl	_memcpy
 	ldr	q0, [sp, #304]
 	ldr	x0, [sp, #280]
-	and	x19, x19, #0x70
+	and	x19, x19, #0xf0
 	add	x1, sp, #264
 	add	x4, sp, #64
 	mov	x2, x20
@@ -4928,6 +4937,10 @@ Ldeerlapse_BB14_31:                               ; %after.14.i.i
 	and	x23, x8, #0x1ffffffff0
 	stp	q0, q0, [sp, #368]
 	stp	q0, q0, [sp, #400]
+	stp	q0, q0, [sp, #432]
+	stp	q0, q0, [sp, #464]
+	stp	q0, q0, [sp, #496]
+	stp	q0, q0, [sp, #528]
 	bl	_memcpy
 	ldr	w8, [sp, #12]                   ; 4-byte Reload
 	mov	w9, #256                        ; =0x100
@@ -5046,7 +5059,7 @@ Ldeerlapse_BB14_44:                               ; %arm.4
 	str	q0, [sp, #80]
 	str	q0, [x8]
 Ldeerlapse_BB14_45:                               ; %common.ret
-	add	sp, sp, #544
+	add	sp, sp, #672
 	ldp	x29, x30, [sp, #80]             ; 16-byte Folded Reload
 	ldp	x20, x19, [sp, #64]             ; 16-byte Folded Reload
 	ldp	x22, x21, [sp, #48]             ; 16-byte Folded Reload

@@ -2085,7 +2085,7 @@
 	pushq	%r13
 	pushq	%r12
 	pushq	%rbx
-	subq	$248, %rsp
+	subq	$376, %rsp                      # imm = 0x178
 	movq	%r9, 64(%rsp)                   # 8-byte Spill
 	movq	%r8, %r9
 	movq	%rdx, 16(%rsp)                  # 8-byte Spill
@@ -2095,7 +2095,7 @@
 	movq	%rcx, 24(%rsp)                  # 8-byte Spill
 	subq	%r8, %rcx
 	movq	%rcx, %rsi
-	andq	$-128, %rsi
+	andq	$-256, %rsi
 	testb	$15, %cl
 	movq	%rcx, 72(%rsp)                  # 8-byte Spill
 	cmoveq	%rcx, %rsi
@@ -2208,12 +2208,12 @@
 	addq	%r9, %rsi
 	movq	24(%rsp), %rdx                  # 8-byte Reload
 	subq	%rsi, %rdx
-	xorl	%r14d, %r14d
+	xorl	%ebx, %ebx
 	testb	$15, %dl
-	setne	%r14b
-	shll	$4, %r14d
-	addq	%rdx, %r14
-	andq	$-16, %r14
+	setne	%bl
+	shll	$4, %ebx
+	addq	%rdx, %rbx
+	andq	$-16, %rbx
 	addq	%rcx, %r9
 	leaq	112(%rsp), %rax
 	subq	%r9, %rax
@@ -2226,6 +2226,14 @@
 	movaps	%xmm0, 192(%rsp)
 	movaps	%xmm0, 208(%rsp)
 	movaps	%xmm0, 224(%rsp)
+	movaps	%xmm0, 240(%rsp)
+	movaps	%xmm0, 256(%rsp)
+	movaps	%xmm0, 272(%rsp)
+	movaps	%xmm0, 288(%rsp)
+	movaps	%xmm0, 304(%rsp)
+	movaps	%xmm0, 320(%rsp)
+	movaps	%xmm0, 336(%rsp)
+	movaps	%xmm0, 352(%rsp)
 	cmpq	%rdx, %rax
 	movq	%rcx, 16(%rsp)                  # 8-byte Spill
 	movq	%rdx, 24(%rsp)                  # 8-byte Spill
@@ -2236,15 +2244,15 @@
 	movq	8(%rsp), %rax                   # 8-byte Reload
 	cmpl	$256, 24(%rax)                  # imm = 0x100
 	sete	%al
-	testq	%r14, %r14
+	testq	%rbx, %rbx
 	je	.Ldeerlapse_BB9_20
 # %bb.13:                               # %join.8.i.i.lr.ph
 	movb	%al, %bpl
 	shll	$7, %ebp
 	subq	$-128, %rbp
-	movl	60(%rsp), %r15d
-	bswapl	%r15d
-	xorl	%ebx, %ebx
+	movl	60(%rsp), %r14d
+	bswapl	%r14d
+	xorl	%r15d, %r15d
 	jmp	.Ldeerlapse_BB9_14
 	.p2align	4
 .Ldeerlapse_BB9_15:                               # %then.1.i.i
@@ -2258,27 +2266,27 @@
 	callq	"aead_ciphers_wide::aes::ctr32::encrypt_few"
 .Ldeerlapse_BB9_19:                               # %"aead_ciphers_wide::aes::ctr32::encrypt_batch.exit.i"
                                         #   in Loop: Header=BB9_14 Depth=1
-	addq	%r14, %rbx
-	addl	%r13d, %r15d
-	movl	%r15d, %eax
+	addq	%rbx, %r15
+	addl	%r13d, %r14d
+	movl	%r14d, %eax
 	bswapl	%eax
 	movl	%eax, 60(%rsp)
 	movq	64(%rsp), %rax                  # 8-byte Reload
 	addq	%r13, (%rax)
-	movq	%r12, %r14
-	cmpq	%r12, %rbx
+	movq	%r12, %rbx
+	cmpq	%r12, %r15
 	jae	.Ldeerlapse_BB9_20
 .Ldeerlapse_BB9_14:                               # %join.8.i.i
                                         # =>This Inner Loop Header: Depth=1
-	movq	%r14, %r12
-	movq	%r14, %rax
-	subq	%rbx, %rax
+	movq	%rbx, %r12
+	movq	%rbx, %rax
+	subq	%r15, %rax
 	cmpq	%rbp, %rax
-	movq	%rbp, %r14
-	cmovbq	%rax, %r14
-	leaq	(%rsp,%rbx), %rdx
+	movq	%rbp, %rbx
+	cmovbq	%rax, %rbx
+	leaq	(%rsp,%r15), %rdx
 	addq	$112, %rdx
-	movl	%r14d, %r13d
+	movl	%ebx, %r13d
 	shrl	$4, %r13d
 	cmpq	$79, %rax
 	jbe	.Ldeerlapse_BB9_15
@@ -2290,7 +2298,7 @@
 	leaq	48(%rsp), %r8
 	xorl	%ecx, %ecx
 	movq	%r13, %r9
-	cmpq	$143, %r14
+	cmpq	$143, %rbx
 	ja	.Ldeerlapse_BB9_18
 # %bb.17:                               # %then.4.i.i
                                         #   in Loop: Header=BB9_14 Depth=1
@@ -2311,7 +2319,7 @@
 	leaq	112(%rsp), %rsi
 	callq	memcpy@PLT
 .Ldeerlapse_BB9_21:                               # %join.8
-	addq	$248, %rsp
+	addq	$376, %rsp                      # imm = 0x178
 	popq	%rbx
 	popq	%r12
 	popq	%r13
@@ -6069,9 +6077,9 @@
 	pushq	%r13
 	pushq	%r12
 	pushq	%rbx
-	subq	$568, %rsp                      # imm = 0x238
+	subq	$696, %rsp                      # imm = 0x2B8
 	xorps	%xmm0, %xmm0
-	movaps	%xmm0, 432(%rsp)
+	movaps	%xmm0, 560(%rsp)
 	movl	1920(%rdi), %eax
 	movq	%rax, 8(%rsp)                   # 8-byte Spill
 	addl	$-10, %eax
@@ -6081,16 +6089,16 @@
 	movq	%r9, %r13
 	movq	%rsi, %rbp
 	movabsq	$2305843009213693936, %r15      # imm = 0x1FFFFFFFFFFFFFF0
-	movabsq	$68719476608, %r10              # imm = 0xFFFFFFF80
+	movabsq	$68719476480, %r10              # imm = 0xFFFFFFF00
 	movaps	%xmm0, 16(%rsp)
 	movl	1924(%rdi), %r9d
 	leaq	2168(%rdi), %rax
 	leaq	2680(%rdi), %rsi
-	movq	%rax, 416(%rsp)
-	movq	%rsi, 424(%rsp)
-	movaps	%xmm0, 400(%rsp)
-	movaps	%xmm0, 384(%rsp)
-	leaq	96(%r10), %rax
+	movq	%rax, 544(%rsp)
+	movq	%rsi, 552(%rsp)
+	movaps	%xmm0, 528(%rsp)
+	movaps	%xmm0, 512(%rsp)
+	leaq	224(%r10), %rax
 	cmpq	%rax, %r13
 	seta	%al
 	leaq	15(%r15), %rsi
@@ -6105,13 +6113,13 @@
 	movq	%r8, %r12
 	movl	%r9d, 68(%rsp)                  # 4-byte Spill
 	movq	%rdi, 48(%rsp)                  # 8-byte Spill
-	movaps	%xmm0, 224(%rsp)
-	leaq	416(%rsp), %rdi
-	movq	%rdi, 240(%rsp)
-	movq	%rcx, 248(%rsp)
-	movq	%r13, 256(%rsp)
+	movaps	%xmm0, 240(%rsp)
+	leaq	544(%rsp), %rdi
+	movq	%rdi, 256(%rsp)
+	movq	%rcx, 264(%rsp)
+	movq	%r13, 272(%rsp)
 	andq	%rcx, %r15
-	leaq	224(%rsp), %rsi
+	leaq	240(%rsp), %rsi
 	leaq	16(%rsp), %r8
 	movq	%rdx, %rbx
 	movq	%rcx, %r14
@@ -6135,9 +6143,9 @@
 	movq	%rbx, %rsi
 	movq	%r15, %rdx
 	callq	memcpy@PLT
-	movq	240(%rsp), %rax
+	movq	256(%rsp), %rax
 	movq	(%rax), %rdi
-	leaq	224(%rsp), %rsi
+	leaq	240(%rsp), %rsi
 	leaq	16(%rsp), %rcx
 	movq	%r13, %rdx
 	movq	88(%rsp), %r13                  # 8-byte Reload
@@ -6146,23 +6154,22 @@
 	movq	48(%rsp), %rax                  # 8-byte Reload
 	addq	$1928, %rax                     # imm = 0x788
 	movq	%rax, 104(%rsp)                 # 8-byte Spill
-	movq	256(%rsp), %rax
-	movq	%rax, 560(%rsp)
-	movaps	224(%rsp), %xmm0
-	movaps	240(%rsp), %xmm1
-	movups	%xmm1, 544(%rsp)
-	movups	%xmm0, 528(%rsp)
+	movq	272(%rsp), %rax
+	movq	%rax, 688(%rsp)
+	movaps	240(%rsp), %xmm0
+	movaps	256(%rsp), %xmm1
+	movups	%xmm1, 672(%rsp)
+	movups	%xmm0, 656(%rsp)
 	movaps	%xmm0, 128(%rsp)
 	movaps	%xmm1, 144(%rsp)
 	movq	%rax, 160(%rsp)
 	leaq	-1(%r13), %rax
-	cmpq	$111, %rax
+	cmpq	$239, %rax
 	movq	%r12, %rbx
 	movq	%r12, 96(%rsp)                  # 8-byte Spill
 	ja	.Ldeerlapse_BB14_17
 # %bb.7:                                # %then.9.i.i
 	xorps	%xmm0, %xmm0
-	movaps	%xmm0, 224(%rsp)
 	movaps	%xmm0, 240(%rsp)
 	movaps	%xmm0, 256(%rsp)
 	movaps	%xmm0, 272(%rsp)
@@ -6170,7 +6177,16 @@
 	movaps	%xmm0, 304(%rsp)
 	movaps	%xmm0, 320(%rsp)
 	movaps	%xmm0, 336(%rsp)
-	leaq	240(%rsp), %rdi
+	movaps	%xmm0, 352(%rsp)
+	movaps	%xmm0, 368(%rsp)
+	movaps	%xmm0, 384(%rsp)
+	movaps	%xmm0, 400(%rsp)
+	movaps	%xmm0, 416(%rsp)
+	movaps	%xmm0, 432(%rsp)
+	movaps	%xmm0, 448(%rsp)
+	movaps	%xmm0, 464(%rsp)
+	movaps	%xmm0, 480(%rsp)
+	leaq	256(%rsp), %rdi
 	movq	%rbx, %rsi
 	movq	%r13, %rdx
 	callq	memcpy@PLT
@@ -6182,7 +6198,7 @@
 	shll	$4, %eax
 	leal	(%rax,%r13), %edx
 	addl	$16, %edx
-	andl	$496, %edx                      # imm = 0x1F0
+	andl	$1008, %edx                     # imm = 0x3F0
 	movw	$0, 204(%rsp)
 	movb	$0, 206(%rsp)
 	movl	8(%rbp), %eax
@@ -6233,7 +6249,7 @@
 	cmpq	%r14, %rax
 	cmovbq	%rax, %r14
 	leaq	(%rsp,%r12), %rdx
-	addq	$224, %rdx
+	addq	$240, %rdx
 	movl	%r14d, %ebp
 	shrl	$4, %ebp
 	leaq	32(%rsp), %r8
@@ -6288,7 +6304,7 @@
 	bswapl	%r13d
 	movl	%r13d, 84(%rsp)
 	movq	%rax, %rbp
-	movabsq	$68719476608, %rcx              # imm = 0xFFFFFFF80
+	movabsq	$68719476480, %rcx              # imm = 0xFFFFFFF00
 	andq	%rcx, %rbp
 	movq	%rax, %rcx
 	andq	$15, %rcx
@@ -6305,12 +6321,12 @@
 	subq	$-128, %rax
 	movq	%rax, 120(%rsp)                 # 8-byte Spill
 	xorl	%ecx, %ecx
-	movq	%rbp, 352(%rsp)                 # 8-byte Spill
+	movq	%rbp, 224(%rsp)                 # 8-byte Spill
 	jmp	.Ldeerlapse_BB14_19
 	.p2align	4
 .Ldeerlapse_BB14_30:                              # %"aead_ciphers::gcm::context::Context::absorb::<#3f2567b24793e466>.exit95.i.i"
                                         #   in Loop: Header=BB14_19 Depth=1
-	movq	360(%rsp), %rcx                 # 8-byte Reload
+	movq	232(%rsp), %rcx                 # 8-byte Reload
 	addq	%rax, %rcx
 	cmpq	%rbp, %rcx
 	jae	.Ldeerlapse_BB14_31
@@ -6323,7 +6339,7 @@
 	movl	$3072, %edx                     # imm = 0xC00
 	cmovbq	%rax, %rdx
 	leaq	(%rbx,%rcx), %r15
-	movq	%rcx, 360(%rsp)                 # 8-byte Spill
+	movq	%rcx, 232(%rsp)                 # 8-byte Spill
 	cmpq	%rcx, %rbp
 	movq	%rdx, 56(%rsp)                  # 8-byte Spill
 	je	.Ldeerlapse_BB14_28
@@ -6395,7 +6411,7 @@
                                         #   in Loop: Header=BB14_19 Depth=1
 	movq	%r14, 16(%rsp)
 	movq	96(%rsp), %rbx                  # 8-byte Reload
-	movq	352(%rsp), %rbp                 # 8-byte Reload
+	movq	224(%rsp), %rbp                 # 8-byte Reload
 .Ldeerlapse_BB14_28:                              # %"aead_ciphers_wide::aes::ctr32::KeyRefEncryptCtr32::ctr32_encrypt_within.exit.i.i"
                                         #   in Loop: Header=BB14_19 Depth=1
 	movl	%edx, %r14d
@@ -6417,14 +6433,14 @@
 	movl	$16, %edx
 	subq	%r15, %rdx
 	leaq	(%rsp,%r15), %rdi
-	addq	$224, %rdi
+	addq	$240, %rdi
 	xorl	%esi, %esi
 	callq	memset@PLT
-	leaq	224(%rsp), %rdi
+	leaq	240(%rsp), %rdi
 	movq	%r12, %rsi
 	movq	%r15, %rdx
 	callq	memcpy@PLT
-	movups	224(%rsp), %xmm0
+	movups	240(%rsp), %xmm0
 	movaps	%xmm0, 32(%rsp)
 	movq	144(%rsp), %rax
 	movq	(%rax), %rdi
@@ -6438,13 +6454,13 @@
 	movq	%r13, 16(%rsp)
 	movq	96(%rsp), %r14                  # 8-byte Reload
 	movq	%r14, %rdi
-	leaq	240(%rsp), %rsi
+	leaq	256(%rsp), %rsi
 	movq	88(%rsp), %rbx                  # 8-byte Reload
 	movq	%rbx, %rdx
 	callq	memcpy@PLT
-	movaps	224(%rsp), %xmm0
-	movaps	%xmm0, 448(%rsp)
-	andl	$112, %ebx
+	movaps	240(%rsp), %xmm0
+	movaps	%xmm0, 576(%rsp)
+	andl	$240, %ebx
 	movq	144(%rsp), %rdi
 	leaq	128(%rsp), %rsi
 	leaq	16(%rsp), %r8
@@ -6459,10 +6475,10 @@
 	movl	$16, %edx
 	subq	%r15, %rdx
 	leaq	(%rsp,%r15), %rdi
-	addq	$489, %rdi                      # imm = 0x1E9
+	addq	$617, %rdi                      # imm = 0x269
 	xorl	%esi, %esi
 	callq	memset@PLT
-	leaq	489(%rsp), %rbx
+	leaq	617(%rsp), %rbx
 	movq	%rbx, %rdi
 	movq	%r14, %rsi
 	movq	%r15, %rdx
@@ -6474,12 +6490,12 @@
 	movq	%rbx, %rdx
 	callq	"aead_ciphers_wide::gcm::KeyRefUpdateBlock::update_block"
 .Ldeerlapse_BB14_16:                              # %"aead_ciphers::gcm::context::Context::absorb::<#3f2567b24793e466>.exit.i.i"
-	leaq	400(%rsp), %rdi
+	leaq	528(%rsp), %rdi
 	leaq	128(%rsp), %rsi
-	leaq	448(%rsp), %rdx
+	leaq	576(%rsp), %rdx
 	leaq	16(%rsp), %rcx
 	callq	"aead_ciphers::aes_gcm::hash::finish::<#0f83097016d41fe1>"
-	movaps	400(%rsp), %xmm0
+	movaps	528(%rsp), %xmm0
 	jmp	.Ldeerlapse_BB14_44
 .Ldeerlapse_BB14_31:                              # %after.14.i.i
 	movq	88(%rsp), %r15                  # 8-byte Reload
@@ -6496,7 +6512,6 @@
 	shll	$4, %ebx
 	addq	%r15, %rbx
 	xorps	%xmm0, %xmm0
-	movaps	%xmm0, 224(%rsp)
 	movaps	%xmm0, 240(%rsp)
 	movaps	%xmm0, 256(%rsp)
 	movaps	%xmm0, 272(%rsp)
@@ -6504,7 +6519,16 @@
 	movaps	%xmm0, 304(%rsp)
 	movaps	%xmm0, 320(%rsp)
 	movaps	%xmm0, 336(%rsp)
-	leaq	224(%rsp), %rdi
+	movaps	%xmm0, 352(%rsp)
+	movaps	%xmm0, 368(%rsp)
+	movaps	%xmm0, 384(%rsp)
+	movaps	%xmm0, 400(%rsp)
+	movaps	%xmm0, 416(%rsp)
+	movaps	%xmm0, 432(%rsp)
+	movaps	%xmm0, 448(%rsp)
+	movaps	%xmm0, 464(%rsp)
+	movaps	%xmm0, 480(%rsp)
+	leaq	240(%rsp), %rdi
 	movq	%r12, %rsi
 	movq	%r15, %rdx
 	callq	memcpy@PLT
@@ -6554,7 +6578,7 @@
 	movq	%r14, %rbx
 	cmovbq	%rax, %rbx
 	leaq	(%rsp,%r13), %rdx
-	addq	$224, %rdx
+	addq	$240, %rdx
 	movl	%ebx, %r15d
 	shrl	$4, %r15d
 	leaq	32(%rsp), %r8
@@ -6586,12 +6610,12 @@
 	movq	96(%rsp), %r12                  # 8-byte Reload
 	movq	88(%rsp), %r15                  # 8-byte Reload
 .Ldeerlapse_BB14_41:                              # %"aead_ciphers::aes_gcm::counter_mode::encrypt_rest::<#6fa349fe97f872a2>.exit.i.i"
-	leaq	224(%rsp), %rsi
+	leaq	240(%rsp), %rsi
 	movq	%r12, %rdi
 	movq	%r15, %rdx
 	callq	memcpy@PLT
-	movabsq	$68719476608, %rcx              # imm = 0xFFFFFFF80
-	addq	$112, %rcx
+	movabsq	$68719476480, %rcx              # imm = 0xFFFFFFF00
+	addq	$240, %rcx
 	andq	%r15, %rcx
 	movq	144(%rsp), %rdi
 	leaq	128(%rsp), %rsi
@@ -6608,10 +6632,10 @@
 	movq	112(%rsp), %r14                 # 8-byte Reload
 	subq	%r14, %rdx
 	leaq	(%rsp,%r14), %rdi
-	addq	$505, %rdi                      # imm = 0x1F9
+	addq	$633, %rdi                      # imm = 0x279
 	xorl	%esi, %esi
 	callq	memset@PLT
-	leaq	505(%rsp), %rbx
+	leaq	633(%rsp), %rbx
 	movq	%rbx, %rdi
 	movq	%r15, %rsi
 	movq	%r14, %rdx
@@ -6624,30 +6648,30 @@
 	callq	"aead_ciphers_wide::gcm::KeyRefUpdateBlock::update_block"
 .Ldeerlapse_BB14_43:                              # %join.21.i.i
 	xorps	%xmm0, %xmm0
-	movaps	%xmm0, 464(%rsp)
+	movaps	%xmm0, 592(%rsp)
 	incq	16(%rsp)
-	leaq	464(%rsp), %rbx
+	leaq	592(%rsp), %rbx
 	leaq	176(%rsp), %rcx
 	movq	%rbx, %rdi
 	movq	104(%rsp), %rsi                 # 8-byte Reload
 	movq	8(%rsp), %rdx                   # 8-byte Reload
 	callq	"aead_ciphers_wide::aes::block_key::BlockKeyRef::encrypt_one"
-	leaq	384(%rsp), %rdi
+	leaq	512(%rsp), %rdi
 	leaq	128(%rsp), %rsi
 	leaq	16(%rsp), %rcx
 	movq	%rbx, %rdx
 	callq	"aead_ciphers::aes_gcm::hash::finish::<#0f83097016d41fe1>"
-	movaps	384(%rsp), %xmm0
+	movaps	512(%rsp), %xmm0
 .Ldeerlapse_BB14_44:                              # %arm.4
-	movaps	%xmm0, 368(%rsp)
-	movaps	368(%rsp), %xmm0
-	movaps	%xmm0, 432(%rsp)
-	movq	624(%rsp), %rax
+	movaps	%xmm0, 496(%rsp)
+	movaps	496(%rsp), %xmm0
+	movaps	%xmm0, 560(%rsp)
+	movq	752(%rsp), %rax
 	movups	%xmm0, (%rax)
 	movb	$1, %al
 .Ldeerlapse_BB14_2:                               # %common.ret
                                         # kill: def $al killed $al killed $eax
-	addq	$568, %rsp                      # imm = 0x238
+	addq	$696, %rsp                      # imm = 0x2B8
 	popq	%rbx
 	popq	%r12
 	popq	%r13

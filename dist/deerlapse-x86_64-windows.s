@@ -2171,16 +2171,16 @@
 	pushq	%rdi
 	pushq	%rbp
 	pushq	%rbx
-	subq	$280, %rsp                      # imm = 0x118
+	subq	$408, %rsp                      # imm = 0x198
 	movq	%r8, 56(%rsp)                   # 8-byte Spill
 	movq	%rcx, %rbx
-	movq	384(%rsp), %r14
+	movq	512(%rsp), %r14
 	movups	(%rdx), %xmm0
 	movaps	%xmm0, 64(%rsp)
 	movq	%r9, 104(%rsp)                  # 8-byte Spill
 	subq	%r14, %r9
 	movq	%r9, %rdx
-	andq	$-128, %rdx
+	andq	$-256, %rdx
 	testb	$15, %r9b
 	movq	%r9, 112(%rsp)                  # 8-byte Spill
 	cmoveq	%r9, %rdx
@@ -2242,7 +2242,7 @@
 	movl	%r15d, %eax
 	bswapl	%eax
 	movl	%eax, 76(%rsp)
-	movq	392(%rsp), %rcx
+	movq	520(%rsp), %rcx
 	addq	%rbp, (%rcx)
 	cmpq	%rsi, %r12
 	jae	.Ldeerlapse_BB9_2
@@ -2311,6 +2311,14 @@
 	movaps	%xmm0, 224(%rsp)
 	movaps	%xmm0, 240(%rsp)
 	movaps	%xmm0, 256(%rsp)
+	movaps	%xmm0, 272(%rsp)
+	movaps	%xmm0, 288(%rsp)
+	movaps	%xmm0, 304(%rsp)
+	movaps	%xmm0, 320(%rsp)
+	movaps	%xmm0, 336(%rsp)
+	movaps	%xmm0, 352(%rsp)
+	movaps	%xmm0, 368(%rsp)
+	movaps	%xmm0, 384(%rsp)
 	cmpq	%r8, %rax
 	movq	%rcx, 56(%rsp)                  # 8-byte Spill
 	leaq	144(%rsp), %rcx
@@ -2347,7 +2355,7 @@
 	movl	%edi, %eax
 	bswapl	%eax
 	movl	%eax, 92(%rsp)
-	movq	392(%rsp), %rax
+	movq	520(%rsp), %rax
 	addq	%r15, (%rax)
 	cmpq	%r12, %r14
 	jae	.Ldeerlapse_BB9_20
@@ -2395,7 +2403,7 @@
 	movq	%r13, %r8
 	callq	memcpy
 .Ldeerlapse_BB9_21:                               # %join.8
-	addq	$280, %rsp                      # imm = 0x118
+	addq	$408, %rsp                      # imm = 0x198
 	popq	%rbx
 	popq	%rbp
 	popq	%rdi
@@ -6218,9 +6226,9 @@
 	pushq	%rdi
 	pushq	%rbp
 	pushq	%rbx
-	subq	$600, %rsp                      # imm = 0x258
+	subq	$728, %rsp                      # imm = 0x2D8
 	xorps	%xmm0, %xmm0
-	movaps	%xmm0, 464(%rsp)
+	movaps	%xmm0, 592(%rsp)
 	movl	1920(%rcx), %eax
 	movq	%rax, 56(%rsp)                  # 8-byte Spill
 	addl	$-10, %eax
@@ -6228,19 +6236,19 @@
 	jae	.Ldeerlapse_BB14_1
 # %bb.3:                                # %join.3
 	movq	%rcx, %r13
-	movq	712(%rsp), %rdi
+	movq	840(%rsp), %r14
 	movabsq	$2305843009213693936, %rbx      # imm = 0x1FFFFFFFFFFFFFF0
-	movabsq	$68719476608, %rbp              # imm = 0xFFFFFFF80
+	movabsq	$68719476480, %rbp              # imm = 0xFFFFFFF00
 	movaps	%xmm0, 64(%rsp)
 	movl	1924(%rcx), %r10d
 	leaq	2168(%rcx), %rax
 	addq	$2680, %rcx                     # imm = 0xA78
-	movq	%rax, 448(%rsp)
-	movq	%rcx, 456(%rsp)
-	movaps	%xmm0, 432(%rsp)
-	movaps	%xmm0, 416(%rsp)
-	leaq	96(%rbp), %rax
-	cmpq	%rax, %rdi
+	movq	%rax, 576(%rsp)
+	movq	%rcx, 584(%rsp)
+	movaps	%xmm0, 560(%rsp)
+	movaps	%xmm0, 544(%rsp)
+	leaq	224(%rbp), %rax
+	cmpq	%rax, %r14
 	seta	%al
 	leaq	15(%rbx), %rcx
 	cmpq	%rcx, %r9
@@ -6252,16 +6260,16 @@
 	jmp	.Ldeerlapse_BB14_2
 .Ldeerlapse_BB14_4:                               # %after.1.i.i.i
 	movl	%r10d, 108(%rsp)                # 4-byte Spill
-	movq	%rdx, %r14
-	movaps	%xmm0, 256(%rsp)
-	leaq	448(%rsp), %rcx
-	movq	%rcx, 272(%rsp)
-	movq	%r9, 280(%rsp)
-	movq	%rdi, 288(%rsp)
+	movq	%rdx, %rdi
+	movaps	%xmm0, 272(%rsp)
+	leaq	576(%rsp), %rcx
+	movq	%rcx, 288(%rsp)
+	movq	%r9, 296(%rsp)
+	movq	%r14, 304(%rsp)
 	andq	%r9, %rbx
 	leaq	64(%rsp), %rax
 	movq	%rax, 32(%rsp)
-	leaq	256(%rsp), %rdx
+	leaq	272(%rsp), %rdx
 	movq	%r8, %r15
 	movq	%r9, %rsi
 	movq	%rbx, %r9
@@ -6283,32 +6291,31 @@
 	movq	%r15, %rdx
 	movq	%rbx, %r8
 	callq	memcpy
-	movq	272(%rsp), %rax
+	movq	288(%rsp), %rax
 	movq	(%rax), %rcx
-	leaq	256(%rsp), %rdx
+	leaq	272(%rsp), %rdx
 	leaq	64(%rsp), %r9
 	movq	%r12, %r8
 	callq	"aead_ciphers_wide::gcm::KeyRefUpdateBlock::update_block"
 .Ldeerlapse_BB14_6:                               # %arm.1.i.i
-	movq	704(%rsp), %rdx
+	movq	832(%rsp), %r15
 	movq	%r13, 112(%rsp)                 # 8-byte Spill
 	leaq	1928(%r13), %rax
 	movq	%rax, 136(%rsp)                 # 8-byte Spill
-	movq	288(%rsp), %rax
-	movq	%rax, 592(%rsp)
-	movaps	256(%rsp), %xmm0
-	movaps	272(%rsp), %xmm1
-	movups	%xmm1, 576(%rsp)
-	movups	%xmm0, 560(%rsp)
+	movq	304(%rsp), %rax
+	movq	%rax, 720(%rsp)
+	movaps	272(%rsp), %xmm0
+	movaps	288(%rsp), %xmm1
+	movups	%xmm1, 704(%rsp)
+	movups	%xmm0, 688(%rsp)
 	movaps	%xmm0, 160(%rsp)
 	movaps	%xmm1, 176(%rsp)
 	movq	%rax, 192(%rsp)
-	leaq	-1(%rdi), %rax
-	cmpq	$111, %rax
+	leaq	-1(%r14), %rax
+	cmpq	$239, %rax
 	ja	.Ldeerlapse_BB14_17
 # %bb.7:                                # %then.9.i.i
 	xorps	%xmm0, %xmm0
-	movaps	%xmm0, 256(%rsp)
 	movaps	%xmm0, 272(%rsp)
 	movaps	%xmm0, 288(%rsp)
 	movaps	%xmm0, 304(%rsp)
@@ -6316,24 +6323,34 @@
 	movaps	%xmm0, 336(%rsp)
 	movaps	%xmm0, 352(%rsp)
 	movaps	%xmm0, 368(%rsp)
-	leaq	272(%rsp), %rcx
-	movq	%rdi, %r8
+	movaps	%xmm0, 384(%rsp)
+	movaps	%xmm0, 400(%rsp)
+	movaps	%xmm0, 416(%rsp)
+	movaps	%xmm0, 432(%rsp)
+	movaps	%xmm0, 448(%rsp)
+	movaps	%xmm0, 464(%rsp)
+	movaps	%xmm0, 480(%rsp)
+	movaps	%xmm0, 496(%rsp)
+	movaps	%xmm0, 512(%rsp)
+	leaq	288(%rsp), %rcx
+	movq	%r15, %rdx
+	movq	%r14, %r8
 	callq	memcpy
 	xorl	%eax, %eax
-	movq	%rdi, %r12
+	movq	%r14, %r12
 	andq	$15, %r12
 	setne	%al
 	shll	$4, %eax
-	addl	%eax, %edi
-	addl	$16, %edi
-	andl	$496, %edi                      # imm = 0x1F0
-	movw	$0, 236(%rsp)
-	movb	$0, 238(%rsp)
-	movl	8(%r14), %eax
-	movl	%eax, 232(%rsp)
-	movq	(%r14), %rax
-	movq	%rax, 224(%rsp)
-	movq	231(%rsp), %rcx
+	leal	(%r14,%rax), %ebx
+	addl	$16, %ebx
+	andl	$1008, %ebx                     # imm = 0x3F0
+	movw	$0, 244(%rsp)
+	movb	$0, 246(%rsp)
+	movl	8(%rdi), %eax
+	movl	%eax, 240(%rsp)
+	movq	(%rdi), %rax
+	movq	%rax, 232(%rsp)
+	movq	239(%rsp), %rcx
 	movq	%rcx, 87(%rsp)
 	movq	%rax, 80(%rsp)
 	movb	$1, 95(%rsp)
@@ -6360,30 +6377,30 @@
 	callq	"aead_ciphers_wide::aes::ctr32::encrypt_few"
 .Ldeerlapse_BB14_13:                              # %"aead_ciphers_wide::aes::ctr32::encrypt_batch.exit.i63.i.i"
                                         #   in Loop: Header=BB14_8 Depth=1
-	addq	%rbx, %r14
+	addq	%rdi, %r14
 	addl	%esi, %ebp
 	movl	%ebp, %eax
 	bswapl	%eax
 	movl	%eax, 92(%rsp)
 	addq	%rsi, %r15
-	cmpq	%rdi, %r14
+	cmpq	%rbx, %r14
 	jae	.Ldeerlapse_BB14_14
 .Ldeerlapse_BB14_8:                               # %join.8.i.i55.i.i
                                         # =>This Inner Loop Header: Depth=1
-	movq	%rdi, %rax
+	movq	%rbx, %rax
 	subq	%r14, %rax
 	cmpq	%r13, %rax
-	movq	%r13, %rbx
-	cmovbq	%rax, %rbx
+	movq	%r13, %rdi
+	cmovbq	%rax, %rdi
 	leaq	(%rsp,%r14), %r8
-	addq	$256, %r8                       # imm = 0x100
-	movl	%ebx, %esi
+	addq	$272, %r8                       # imm = 0x110
+	movl	%edi, %esi
 	shrl	$4, %esi
 	cmpq	$79, %rax
 	jbe	.Ldeerlapse_BB14_9
 # %bb.10:                               # %else.2.i.i60.i.i
                                         #   in Loop: Header=BB14_8 Depth=1
-	cmpl	$143, %ebx
+	cmpl	$143, %edi
 	ja	.Ldeerlapse_BB14_12
 # %bb.11:                               # %then.4.i.i66.i.i
                                         #   in Loop: Header=BB14_8 Depth=1
@@ -6407,14 +6424,14 @@
 	callq	"aead_ciphers_wide::aes::ctr32::encrypt_up_to_sixteen"
 	jmp	.Ldeerlapse_BB14_13
 .Ldeerlapse_BB14_17:                              # %after.5.i.i
-	movb	$0, 254(%rsp)
-	movw	$0, 252(%rsp)
-	movq	(%r14), %rax
-	movq	%rax, 240(%rsp)
-	movl	8(%r14), %ecx
-	movl	%ecx, 248(%rsp)
+	movb	$0, 262(%rsp)
+	movw	$0, 260(%rsp)
+	movq	(%rdi), %rax
+	movq	%rax, 248(%rsp)
+	movl	8(%rdi), %ecx
+	movl	%ecx, 256(%rsp)
 	movq	%rax, 120(%rsp)
-	movq	247(%rsp), %rax
+	movq	255(%rsp), %rax
 	movq	%rax, 127(%rsp)
 	movb	$1, 135(%rsp)
 	movq	120(%rsp), %rax
@@ -6432,14 +6449,14 @@
 	incl	%esi
 	bswapl	%esi
 	movl	%esi, 132(%rsp)
-	movq	%rdi, %r14
-	andq	%rbp, %r14
-	movq	%rdi, %rax
+	movq	%r14, %rcx
+	andq	%rbp, %rcx
+	movq	%r14, %rax
 	andq	$15, %rax
 	movq	%rax, 144(%rsp)                 # 8-byte Spill
-	cmoveq	%rdi, %r14
-	testq	%r14, %r14
-	movq	%rdx, %rdi
+	cmoveq	%r14, %rcx
+	movq	%rcx, %r14
+	testq	%rcx, %rcx
 	je	.Ldeerlapse_BB14_31
 # %bb.18:                               # %join.18.lr.ph.i.i
 	xorl	%ebx, %ebx
@@ -6449,7 +6466,7 @@
 	shll	$7, %ebx
 	subq	$-128, %rbx
 	xorl	%ecx, %ecx
-	movq	%r14, 392(%rsp)                 # 8-byte Spill
+	movq	%r14, 264(%rsp)                 # 8-byte Spill
 	jmp	.Ldeerlapse_BB14_19
 	.p2align	4
 .Ldeerlapse_BB14_30:                              # %"aead_ciphers::gcm::context::Context::absorb::<#3f2567b24793e466>.exit95.i.i"
@@ -6466,21 +6483,21 @@
 	cmpq	$3072, %rax                     # imm = 0xC00
 	movl	$3072, %r12d                    # imm = 0xC00
 	cmovbq	%rax, %r12
-	leaq	(%rdi,%rcx), %rbp
+	leaq	(%r15,%rcx), %rbp
 	movq	%rcx, 152(%rsp)                 # 8-byte Spill
 	cmpq	%rcx, %r14
 	je	.Ldeerlapse_BB14_28
 # %bb.20:                               # %join.8.i.preheader.i.i
                                         #   in Loop: Header=BB14_19 Depth=1
 	bswapl	%esi
-	movq	64(%rsp), %r15
+	movq	64(%rsp), %rdi
 	xorl	%r13d, %r13d
 	movl	%esi, %r14d
 	jmp	.Ldeerlapse_BB14_21
 	.p2align	4
 .Ldeerlapse_BB14_22:                              # %then.1.i.i.i
                                         #   in Loop: Header=BB14_21 Depth=2
-	movq	%rdi, 40(%rsp)
+	movq	%r15, 40(%rsp)
 	movq	%rax, 32(%rsp)
 	movq	136(%rsp), %rcx                 # 8-byte Reload
 	movq	56(%rsp), %rdx                  # 8-byte Reload
@@ -6489,11 +6506,11 @@
 .Ldeerlapse_BB14_26:                              # %"aead_ciphers_wide::aes::ctr32::encrypt_batch.exit.i.i"
                                         #   in Loop: Header=BB14_21 Depth=2
 	addq	%rsi, %r13
-	addl	%edi, %r14d
+	addl	%r15d, %r14d
 	movl	%r14d, %esi
 	bswapl	%esi
 	movl	%esi, 132(%rsp)
-	addq	%rdi, %r15
+	addq	%r15, %rdi
 	cmpq	%r12, %r13
 	jae	.Ldeerlapse_BB14_27
 .Ldeerlapse_BB14_21:                              # %join.8.i.i.i
@@ -6506,8 +6523,8 @@
 	cmovbq	%rcx, %rsi
 	movq	%rbp, %r8
 	addq	%r13, %r8
-	movl	%esi, %edi
-	shrl	$4, %edi
+	movl	%esi, %r15d
+	shrl	$4, %r15d
 	leaq	120(%rsp), %rax
 	cmpq	$79, %rcx
 	jbe	.Ldeerlapse_BB14_22
@@ -6517,7 +6534,7 @@
 	ja	.Ldeerlapse_BB14_25
 # %bb.24:                               # %then.4.i.i.i
                                         #   in Loop: Header=BB14_21 Depth=2
-	movq	%rdi, 40(%rsp)
+	movq	%r15, 40(%rsp)
 	movq	%rax, 32(%rsp)
 	movq	112(%rsp), %rcx                 # 8-byte Reload
 	movq	56(%rsp), %rdx                  # 8-byte Reload
@@ -6527,7 +6544,7 @@
 	.p2align	4
 .Ldeerlapse_BB14_25:                              # %else.5.i.i.i
                                         #   in Loop: Header=BB14_21 Depth=2
-	movq	%rdi, 40(%rsp)
+	movq	%r15, 40(%rsp)
 	movq	%rax, 32(%rsp)
 	movq	112(%rsp), %rcx                 # 8-byte Reload
 	movq	56(%rsp), %rdx                  # 8-byte Reload
@@ -6537,37 +6554,37 @@
 	.p2align	4
 .Ldeerlapse_BB14_27:                              # %"aead_ciphers_wide::aes::ctr32::KeyRefEncryptCtr32::ctr32_encrypt_within.exit.i.i.loopexit"
                                         #   in Loop: Header=BB14_19 Depth=1
-	movq	%r15, 64(%rsp)
-	movq	704(%rsp), %rdi
-	movq	392(%rsp), %r14                 # 8-byte Reload
+	movq	%rdi, 64(%rsp)
+	movq	832(%rsp), %r15
+	movq	264(%rsp), %r14                 # 8-byte Reload
 .Ldeerlapse_BB14_28:                              # %"aead_ciphers_wide::aes::ctr32::KeyRefEncryptCtr32::ctr32_encrypt_within.exit.i.i"
                                         #   in Loop: Header=BB14_19 Depth=1
-	movl	%r12d, %r15d
-	andl	$4080, %r15d                    # imm = 0xFF0
+	movl	%r12d, %edi
+	andl	$4080, %edi                     # imm = 0xFF0
 	movq	176(%rsp), %rcx
 	leaq	64(%rsp), %rax
 	movq	%rax, 32(%rsp)
 	leaq	160(%rsp), %rdx
 	movq	%rbp, %r8
-	movq	%r15, %r9
+	movq	%rdi, %r9
 	callq	"aead_ciphers_wide::gcm::KeyRefUpdateBlocks::update_blocks"
 	movq	%r12, %r13
 	andq	$15, %r13
 	je	.Ldeerlapse_BB14_30
 # %bb.29:                               # %then.1.i91.i.i
                                         #   in Loop: Header=BB14_19 Depth=1
-	addq	%r15, %rbp
+	addq	%rdi, %rbp
 	movl	$16, %r8d
 	subq	%r13, %r8
 	leaq	(%rsp,%r13), %rcx
-	addq	$256, %rcx                      # imm = 0x100
+	addq	$272, %rcx                      # imm = 0x110
 	xorl	%edx, %edx
 	callq	memset
-	leaq	256(%rsp), %rcx
+	leaq	272(%rsp), %rcx
 	movq	%rbp, %rdx
 	movq	%r13, %r8
 	callq	memcpy
-	movups	256(%rsp), %xmm0
+	movups	272(%rsp), %xmm0
 	movaps	%xmm0, 80(%rsp)
 	movq	176(%rsp), %rax
 	movq	(%rax), %rcx
@@ -6578,15 +6595,15 @@
 	jmp	.Ldeerlapse_BB14_30
 .Ldeerlapse_BB14_14:                              # %"aead_ciphers::aes_gcm::sealing::encrypt_short::<#6fa349fe97f872a2>.exit.i.i"
 	movq	%r15, 64(%rsp)
-	movq	704(%rsp), %rdi
+	movq	832(%rsp), %rdi
 	movq	%rdi, %rcx
-	leaq	272(%rsp), %rdx
-	movq	712(%rsp), %rsi
+	leaq	288(%rsp), %rdx
+	movq	840(%rsp), %rsi
 	movq	%rsi, %r8
 	callq	memcpy
-	movaps	256(%rsp), %xmm0
-	movaps	%xmm0, 480(%rsp)
-	andl	$112, %esi
+	movaps	272(%rsp), %xmm0
+	movaps	%xmm0, 608(%rsp)
+	andl	$240, %esi
 	movq	176(%rsp), %rcx
 	leaq	64(%rsp), %rax
 	movq	%rax, 32(%rsp)
@@ -6601,10 +6618,10 @@
 	movl	$16, %r8d
 	subq	%r12, %r8
 	leaq	(%rsp,%r12), %rcx
-	addq	$521, %rcx                      # imm = 0x209
+	addq	$649, %rcx                      # imm = 0x289
 	xorl	%edx, %edx
 	callq	memset
-	leaq	521(%rsp), %rsi
+	leaq	649(%rsp), %rsi
 	movq	%rsi, %rcx
 	movq	%rdi, %rdx
 	movq	%r12, %r8
@@ -6616,30 +6633,29 @@
 	movq	%rsi, %r8
 	callq	"aead_ciphers_wide::gcm::KeyRefUpdateBlock::update_block"
 .Ldeerlapse_BB14_16:                              # %"aead_ciphers::gcm::context::Context::absorb::<#3f2567b24793e466>.exit.i.i"
-	leaq	432(%rsp), %rcx
+	leaq	560(%rsp), %rcx
 	leaq	160(%rsp), %rdx
-	leaq	480(%rsp), %r8
+	leaq	608(%rsp), %r8
 	leaq	64(%rsp), %r9
 	callq	"aead_ciphers::aes_gcm::hash::finish::<#0f83097016d41fe1>"
-	movaps	432(%rsp), %xmm0
+	movaps	560(%rsp), %xmm0
 	jmp	.Ldeerlapse_BB14_44
 .Ldeerlapse_BB14_31:                              # %after.14.i.i
 	movq	%r14, %rax
-	movq	712(%rsp), %r14
+	movq	840(%rsp), %r14
 	subq	%rax, %r14
-	movabsq	$68719476608, %r15              # imm = 0xFFFFFFF80
+	movabsq	$68719476480, %r12              # imm = 0xFFFFFFF00
 	jbe	.Ldeerlapse_BB14_43
 # %bb.32:                               # %then.19.i.i
 	xorl	%esi, %esi
 	cmpq	$0, 144(%rsp)                   # 8-byte Folded Reload
 	setne	%sil
-	addq	%rax, %rdi
+	addq	%rax, %r15
 	movups	120(%rsp), %xmm0
 	movaps	%xmm0, 80(%rsp)
 	shll	$4, %esi
 	addq	%r14, %rsi
 	xorps	%xmm0, %xmm0
-	movaps	%xmm0, 256(%rsp)
 	movaps	%xmm0, 272(%rsp)
 	movaps	%xmm0, 288(%rsp)
 	movaps	%xmm0, 304(%rsp)
@@ -6647,9 +6663,17 @@
 	movaps	%xmm0, 336(%rsp)
 	movaps	%xmm0, 352(%rsp)
 	movaps	%xmm0, 368(%rsp)
-	leaq	256(%rsp), %rcx
-	movq	%rdi, %r13
-	movq	%rdi, %rdx
+	movaps	%xmm0, 384(%rsp)
+	movaps	%xmm0, 400(%rsp)
+	movaps	%xmm0, 416(%rsp)
+	movaps	%xmm0, 432(%rsp)
+	movaps	%xmm0, 448(%rsp)
+	movaps	%xmm0, 464(%rsp)
+	movaps	%xmm0, 480(%rsp)
+	movaps	%xmm0, 496(%rsp)
+	movaps	%xmm0, 512(%rsp)
+	leaq	272(%rsp), %rcx
+	movq	%r15, %rdx
 	movq	%r14, %r8
 	callq	memcpy
 	xorl	%edi, %edi
@@ -6660,7 +6684,8 @@
 	andq	%rsi, %rbx
 	je	.Ldeerlapse_BB14_41
 # %bb.33:                               # %join.8.i.i.lr.ph.i.i
-	movq	%r14, 152(%rsp)                 # 8-byte Spill
+	movq	%r15, 152(%rsp)                 # 8-byte Spill
+	movq	%r14, %r13
 	movb	%al, %dil
 	shll	$7, %edi
 	subq	$-128, %rdi
@@ -6697,7 +6722,7 @@
 	movq	%rdi, %r12
 	cmovbq	%rax, %r12
 	leaq	(%rsp,%r15), %r8
-	addq	$256, %r8                       # imm = 0x100
+	addq	$272, %r8                       # imm = 0x110
 	movl	%r12d, %esi
 	shrl	$4, %esi
 	cmpq	$79, %rax
@@ -6729,37 +6754,38 @@
 	jmp	.Ldeerlapse_BB14_39
 .Ldeerlapse_BB14_40:                              # %"aead_ciphers::aes_gcm::counter_mode::encrypt_rest::<#6fa349fe97f872a2>.exit.i.i.loopexit"
 	movq	%r14, 64(%rsp)
-	movq	152(%rsp), %r14                 # 8-byte Reload
-	movabsq	$68719476608, %r15              # imm = 0xFFFFFFF80
+	movq	%r13, %r14
+	movq	152(%rsp), %r15                 # 8-byte Reload
+	movabsq	$68719476480, %r12              # imm = 0xFFFFFFF00
 .Ldeerlapse_BB14_41:                              # %"aead_ciphers::aes_gcm::counter_mode::encrypt_rest::<#6fa349fe97f872a2>.exit.i.i"
-	leaq	256(%rsp), %rdx
-	movq	%r13, %rcx
+	leaq	272(%rsp), %rdx
+	movq	%r15, %rcx
 	movq	%r14, %r8
 	callq	memcpy
-	addq	$112, %r15
-	andq	%r14, %r15
+	addq	$240, %r12
+	andq	%r14, %r12
 	movq	176(%rsp), %rcx
 	leaq	64(%rsp), %rax
 	movq	%rax, 32(%rsp)
 	leaq	160(%rsp), %rdx
-	movq	%r13, %r8
-	movq	%r15, %r9
+	movq	%r15, %r8
+	movq	%r12, %r9
 	callq	"aead_ciphers_wide::gcm::KeyRefUpdateBlocks::update_blocks"
 	cmpq	$0, 144(%rsp)                   # 8-byte Folded Reload
 	je	.Ldeerlapse_BB14_43
 # %bb.42:                               # %then.1.i130.i.i
-	addq	%r15, %r13
+	addq	%r12, %r15
 	movl	$16, %r8d
-	movq	144(%rsp), %rbx                 # 8-byte Reload
-	subq	%rbx, %r8
-	leaq	(%rsp,%rbx), %rcx
-	addq	$537, %rcx                      # imm = 0x219
+	movq	144(%rsp), %rsi                 # 8-byte Reload
+	subq	%rsi, %r8
+	leaq	(%rsp,%rsi), %rcx
+	addq	$665, %rcx                      # imm = 0x299
 	xorl	%edx, %edx
 	callq	memset
-	leaq	537(%rsp), %rdi
+	leaq	665(%rsp), %rdi
 	movq	%rdi, %rcx
-	movq	%r13, %rdx
-	movq	%rbx, %r8
+	movq	%r15, %rdx
+	movq	%rsi, %r8
 	callq	memcpy
 	movq	176(%rsp), %rax
 	movq	(%rax), %rcx
@@ -6769,30 +6795,30 @@
 	callq	"aead_ciphers_wide::gcm::KeyRefUpdateBlock::update_block"
 .Ldeerlapse_BB14_43:                              # %join.21.i.i
 	xorps	%xmm0, %xmm0
-	movaps	%xmm0, 496(%rsp)
+	movaps	%xmm0, 624(%rsp)
 	incq	64(%rsp)
-	leaq	496(%rsp), %rdi
+	leaq	624(%rsp), %rdi
 	leaq	208(%rsp), %r9
 	movq	%rdi, %rcx
 	movq	136(%rsp), %rdx                 # 8-byte Reload
 	movq	56(%rsp), %r8                   # 8-byte Reload
 	callq	"aead_ciphers_wide::aes::block_key::BlockKeyRef::encrypt_one"
-	leaq	416(%rsp), %rcx
+	leaq	544(%rsp), %rcx
 	leaq	160(%rsp), %rdx
 	leaq	64(%rsp), %r9
 	movq	%rdi, %r8
 	callq	"aead_ciphers::aes_gcm::hash::finish::<#0f83097016d41fe1>"
-	movaps	416(%rsp), %xmm0
+	movaps	544(%rsp), %xmm0
 .Ldeerlapse_BB14_44:                              # %arm.4
-	movaps	%xmm0, 400(%rsp)
-	movaps	400(%rsp), %xmm0
-	movaps	%xmm0, 464(%rsp)
-	movq	720(%rsp), %rax
+	movaps	%xmm0, 528(%rsp)
+	movaps	528(%rsp), %xmm0
+	movaps	%xmm0, 592(%rsp)
+	movq	848(%rsp), %rax
 	movups	%xmm0, (%rax)
 	movb	$1, %al
 .Ldeerlapse_BB14_2:                               # %common.ret
                                         # kill: def $al killed $al killed $eax
-	addq	$600, %rsp                      # imm = 0x258
+	addq	$728, %rsp                      # imm = 0x2D8
 	popq	%rbx
 	popq	%rbp
 	popq	%rdi

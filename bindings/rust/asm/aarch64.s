@@ -1708,21 +1708,21 @@
 	.type	"deerlapse_0_1_0::aead_ciphers::aes_gcm::counter_mode::encrypt_within::<#6fa349fe97f872a2>",@function
 "deerlapse_0_1_0::aead_ciphers::aes_gcm::counter_mode::encrypt_within::<#6fa349fe97f872a2>": // @"deerlapse_0_1_0::aead_ciphers::aes_gcm::counter_mode::encrypt_within::<#6fa349fe97f872a2>"
 // %bb.0:                               // %start
-	sub	sp, sp, #320
+	sub	sp, sp, #448
 	sub	x9, x3, x4
 	ldr	q0, [x1]
-	stp	x22, x21, [sp, #288]            // 16-byte Folded Spill
-	and	x8, x9, #0xffffffffffffff80
+	stp	x22, x21, [sp, #416]            // 16-byte Folded Spill
+	and	x8, x9, #0xffffffffffffff00
 	tst	x9, #0xf
-	stp	x20, x19, [sp, #304]            // 16-byte Folded Spill
+	stp	x20, x19, [sp, #432]            // 16-byte Folded Spill
 	mov	x21, x5
 	mov	x22, x0
 	csel	x20, x9, x8, eq
-	stp	x29, x30, [sp, #224]            // 16-byte Folded Spill
-	add	x29, sp, #224
-	stp	x28, x27, [sp, #240]            // 16-byte Folded Spill
-	stp	x26, x25, [sp, #256]            // 16-byte Folded Spill
-	stp	x24, x23, [sp, #272]            // 16-byte Folded Spill
+	stp	x29, x30, [sp, #352]            // 16-byte Folded Spill
+	add	x29, sp, #352
+	stp	x28, x27, [sp, #368]            // 16-byte Folded Spill
+	stp	x26, x25, [sp, #384]            // 16-byte Folded Spill
+	stp	x24, x23, [sp, #400]            // 16-byte Folded Spill
 	stp	x2, x4, [sp, #32]               // 16-byte Folded Spill
 	stp	x3, x9, [sp, #8]                // 16-byte Folded Spill
 	str	q0, [sp, #48]
@@ -1814,31 +1814,35 @@
 	cmp	x20, x8
 	b.hs	.Ldeerlapse_0_1_0_BB9_25
 // %bb.13:                              // %then.6
-	ldp	x8, x11, [sp, #32]              // 16-byte Folded Reload
+	ldp	x9, x11, [sp, #32]              // 16-byte Folded Reload
 	movi	v0.2d, #0000000000000000
-	mov	w9, #16                         // =0x10
+	ldr	x8, [sp, #8]                    // 8-byte Reload
 	ldr	q1, [sp, #48]
 	add	x10, sp, #64
 	add	x0, sp, #64
-	add	x12, x8, x20
-	ldr	x8, [sp, #8]                    // 8-byte Reload
-	stur	q1, [x29, #-32]
-	add	x1, x12, x11
-	stp	q0, q0, [sp, #64]
 	sub	x8, x8, x11
-	stp	q0, q0, [sp, #96]
+	add	x12, x9, x20
+	stur	q1, [x29, #-32]
 	sub	x24, x8, x20
-	add	x8, x12, x11
-	stp	q0, q0, [sp, #128]
+	mov	w8, #16                         // =0x10
+	add	x9, x12, x11
 	tst	x24, #0xf
-	sub	x8, x10, x8
+	sub	x9, x10, x9
+	add	x1, x12, x11
+	csel	x8, xzr, x8, eq
 	mov	x2, x24
-	csel	x9, xzr, x9, eq
+	stp	q0, q0, [sp, #64]
+	add	x8, x8, x24
+	stp	q0, q0, [sp, #96]
+	cmp	x9, x24
+	stp	q0, q0, [sp, #128]
+	and	x27, x8, #0xfffffffffffffff0
 	stp	q0, q0, [sp, #160]
-	cmp	x8, x24
-	add	x9, x9, x24
+	stp	q0, q0, [sp, #192]
+	stp	q0, q0, [sp, #224]
+	stp	q0, q0, [sp, #256]
+	stp	q0, q0, [sp, #288]
 	str	x12, [sp, #32]                  // 8-byte Spill
-	and	x27, x9, #0xfffffffffffffff0
 	bl	memcpy
 	ldr	w8, [x22, #24]
 	mov	w9, #256                        // =0x100
@@ -1919,13 +1923,13 @@
 .Ldeerlapse_0_1_0_BB9_24:                               // %"core::slice::edits::slice+T::copy_from_slice::<i8,20'core::clone::U8Clone{}>.exit59"
 	bl	memcpy
 .Ldeerlapse_0_1_0_BB9_25:                               // %join.8
-	ldp	x20, x19, [sp, #304]            // 16-byte Folded Reload
-	ldp	x22, x21, [sp, #288]            // 16-byte Folded Reload
-	ldp	x24, x23, [sp, #272]            // 16-byte Folded Reload
-	ldp	x26, x25, [sp, #256]            // 16-byte Folded Reload
-	ldp	x28, x27, [sp, #240]            // 16-byte Folded Reload
-	ldp	x29, x30, [sp, #224]            // 16-byte Folded Reload
-	add	sp, sp, #320
+	ldp	x20, x19, [sp, #432]            // 16-byte Folded Reload
+	ldp	x22, x21, [sp, #416]            // 16-byte Folded Reload
+	ldp	x24, x23, [sp, #400]            // 16-byte Folded Reload
+	ldp	x26, x25, [sp, #384]            // 16-byte Folded Reload
+	ldp	x28, x27, [sp, #368]            // 16-byte Folded Reload
+	ldp	x29, x30, [sp, #352]            // 16-byte Folded Reload
+	add	sp, sp, #448
 	ret
 .Ldeerlapse_0_1_0_func_end9:
 	.size	"deerlapse_0_1_0::aead_ciphers::aes_gcm::counter_mode::encrypt_within::<#6fa349fe97f872a2>", .Ldeerlapse_0_1_0_func_end9-"deerlapse_0_1_0::aead_ciphers::aes_gcm::counter_mode::encrypt_within::<#6fa349fe97f872a2>"
@@ -4555,7 +4559,7 @@
 	stp	x24, x23, [sp, #48]             // 16-byte Folded Spill
 	stp	x22, x21, [sp, #64]             // 16-byte Folded Spill
 	stp	x20, x19, [sp, #80]             // 16-byte Folded Spill
-	sub	sp, sp, #544
+	sub	sp, sp, #672
 	ldr	w8, [x0, #1920]
 	stp	xzr, xzr, [sp, #80]
 	str	x8, [sp, #56]                   // 8-byte Spill
@@ -4581,19 +4585,19 @@
 	add	x8, sp, #96
 	and	x24, x3, #0x1ffffffffffffff0
 	mov	x27, x4
-	mov	x22, x1
-	stp	x8, x3, [x29, #-224]
+	mov	x26, x1
+	stp	x8, x3, [sp, #320]
 	and	x23, x3, #0xf
 	add	x0, sp, #96
-	sub	x1, x29, #240
+	add	x1, sp, #304
 	add	x4, sp, #64
 	mov	x3, x24
 	str	x6, [sp, #32]                   // 8-byte Spill
-	add	x26, sp, #224
-	stp	xzr, xzr, [x29, #-240]
+	add	x22, sp, #224
+	stp	xzr, xzr, [sp, #304]
 	mov	x21, x5
 	mov	x20, x2
-	stur	x5, [x29, #-208]
+	str	x5, [sp, #336]
 	bl	"deerlapse_0_1_0::aead_ciphers_wide::gcm::KeyRefUpdateBlocks::update_blocks"
 	cbz	x23, .Ldeerlapse_0_1_0_BB14_5
 // %bb.4:                               // %then.1.i.i44.i.i
@@ -4607,48 +4611,53 @@
 	add	x1, x20, x24
 	mov	x2, x23
 	bl	memcpy
-	ldur	x8, [x29, #-224]
-	sub	x1, x29, #240
+	ldr	x8, [sp, #320]
+	add	x1, sp, #304
 	sub	x2, x29, #64
 	add	x3, sp, #64
 	ldr	x0, [x8]
 	bl	"deerlapse_0_1_0::aead_ciphers_wide::gcm::KeyRefUpdateBlock::update_block"
 .Ldeerlapse_0_1_0_BB14_5:                               // %arm.1.i.i
-	ldur	x8, [x29, #-208]
-	ldur	q0, [x26, #97]
+	ldr	x8, [sp, #336]
+	ldur	q0, [x22, #97]
+	sub	x9, x21, #1
+	ldur	q1, [x22, #81]
 	mov	x2, x21
-	ldur	q1, [x26, #81]
-	str	x27, [sp, #48]                  // 8-byte Spill
+	cmp	x9, #239
 	stur	x8, [sp, #191]
-	ldurb	w8, [x29, #-240]
+	ldrb	w8, [sp, #304]
+	sub	x20, x29, #112
 	stp	q1, q0, [sp, #160]
-	strb	w8, [sp, #264]
 	ldr	q0, [sp, #176]
-	sub	x8, x21, #1
-	ldur	x9, [sp, #191]
-	cmp	x8, #111
-	stur	q1, [x26, #41]
-	stur	q0, [x26, #57]
-	str	x9, [sp, #296]
+	strb	w8, [sp, #264]
+	ldur	x8, [sp, #191]
+	stur	q1, [x22, #41]
+	stur	q0, [x22, #57]
+	str	x8, [sp, #296]
+	str	x27, [sp, #48]                  // 8-byte Spill
 	str	x21, [sp, #24]                  // 8-byte Spill
 	b.hi	.Ldeerlapse_0_1_0_BB14_14
 // %bb.6:                               // %then.9.i.i
 	movi	v0.2d, #0000000000000000
 	ands	x23, x2, #0xf
 	mov	w8, #16                         // =0x10
-	sub	x25, x29, #240
+	add	x25, sp, #304
 	csel	w8, wzr, w8, eq
 	mov	x1, x27
 	add	x0, x25, #16
-	add	w20, w2, w8
-	stp	q0, q0, [x29, #-240]
-	stp	q0, q0, [x29, #-208]
-	stp	q0, q0, [x29, #-176]
-	stp	q0, q0, [x29, #-144]
+	add	w21, w2, w8
+	stp	q0, q0, [sp, #304]
+	stp	q0, q0, [sp, #336]
+	stp	q0, q0, [sp, #368]
+	stp	q0, q0, [sp, #400]
+	stp	q0, q0, [sp, #432]
+	stp	q0, q0, [sp, #464]
+	stp	q0, q0, [sp, #496]
+	stp	q0, q0, [sp, #528]
 	bl	memcpy
-	ldr	x8, [x22]
-	ldr	w9, [x22, #8]
-	mov	w10, #1                         // =0x1
+	ldr	x8, [x26]
+	ldr	w9, [x26, #8]
+	add	w10, w21, #16
 	sturb	wzr, [x29, #-98]
 	cmp	w28, #256
 	mov	w11, #256                       // =0x100
@@ -4656,16 +4665,16 @@
 	ldr	x21, [sp, #64]
 	mov	x27, xzr
 	stur	x8, [x29, #-112]
+	and	x26, x10, #0x3f0
 	stur	w9, [x29, #-104]
-	ldur	x9, [x26, #215]
-	sturb	w10, [x29, #-49]
-	mov	w10, #128                       // =0x80
-	csel	x22, x11, x10, eq
-	stur	x9, [x29, #-57]
-	add	w9, w20, #16
+	ldur	x9, [x20, #7]
+	stur	x9, [x20, #55]
+	mov	w9, #1                          // =0x1
+	sturb	w9, [x29, #-49]
+	mov	w9, #128                        // =0x80
 	stur	x8, [x29, #-64]
 	ldur	w8, [x29, #-52]
-	and	x26, x9, #0x1f0
+	csel	x22, x11, x9, eq
 	rev	w28, w8
 	b	.Ldeerlapse_0_1_0_BB14_9
 .Ldeerlapse_0_1_0_BB14_7:                               // %then.1.i.i67.i.i
@@ -4720,22 +4729,22 @@
 	mov	w0, wzr
 	b	.Ldeerlapse_0_1_0_BB14_45
 .Ldeerlapse_0_1_0_BB14_14:                              // %after.5.i.i
-	ldr	x8, [x22]
-	ldr	w9, [x22, #8]
+	ldr	x8, [x26]
+	ldr	w9, [x26, #8]
 	sturb	wzr, [x29, #-66]
 	sturh	wzr, [x29, #-68]
 	stur	x8, [x29, #-80]
 	stur	w9, [x29, #-72]
-	ldur	x9, [x26, #247]
+	ldur	x9, [x20, #39]
 	str	x8, [sp, #224]
 	mov	w8, #1                          // =0x1
 	strb	w8, [sp, #239]
-	stur	x9, [x26, #7]
+	stur	x9, [x22, #7]
 	ands	x9, x2, #0xf
 	ldr	w8, [sp, #236]
 	ldr	q0, [sp, #224]
 	str	x9, [sp, #16]                   // 8-byte Spill
-	and	x9, x2, #0xfffffff80
+	and	x9, x2, #0xfffffff00
 	str	w28, [sp, #12]                  // 4-byte Spill
 	rev	w8, w8
 	csel	x24, x2, x9, eq
@@ -4843,15 +4852,15 @@
 	mov	w8, #16                         // =0x10
 	mov	w1, wzr
 	sub	x2, x8, x21
-	sub	x8, x29, #240
+	add	x8, sp, #304
 	add	x0, x8, x21
 	bl	memset
-	sub	x0, x29, #240
+	add	x0, sp, #304
 	add	x1, x26, x20
 	and	x2, x23, #0xf
 	bl	memcpy
 	ldr	x8, [sp, #280]
-	ldur	q0, [x29, #-240]
+	ldr	q0, [sp, #304]
 	add	x1, sp, #264
 	sub	x2, x29, #64
 	add	x3, sp, #64
@@ -4867,9 +4876,9 @@
 	mov	x0, x20
 	mov	x2, x19
 	bl	memcpy
-	ldur	q0, [x29, #-240]
+	ldr	q0, [sp, #304]
 	ldr	x0, [sp, #280]
-	and	x19, x19, #0x70
+	and	x19, x19, #0xf0
 	add	x1, sp, #264
 	add	x4, sp, #64
 	mov	x2, x20
@@ -4911,7 +4920,7 @@
 	movi	v0.2d, #0000000000000000
 	ldr	q1, [sp, #224]
 	add	x21, x27, x24
-	sub	x0, x29, #240
+	add	x0, sp, #304
 	mov	x2, x22
 	cmp	x8, #0
 	mov	w8, #16                         // =0x10
@@ -4919,11 +4928,15 @@
 	csel	x8, xzr, x8, eq
 	stur	q1, [x29, #-64]
 	add	x8, x22, x8
-	stp	q0, q0, [x29, #-240]
-	stp	q0, q0, [x29, #-208]
+	stp	q0, q0, [sp, #304]
+	stp	q0, q0, [sp, #336]
 	and	x23, x8, #0x1ffffffff0
-	stp	q0, q0, [x29, #-176]
-	stp	q0, q0, [x29, #-144]
+	stp	q0, q0, [sp, #368]
+	stp	q0, q0, [sp, #400]
+	stp	q0, q0, [sp, #432]
+	stp	q0, q0, [sp, #464]
+	stp	q0, q0, [sp, #496]
+	stp	q0, q0, [sp, #528]
 	bl	memcpy
 	ldr	w8, [sp, #12]                   // 4-byte Reload
 	mov	w9, #256                        // =0x100
@@ -4962,7 +4975,7 @@
 	cmp	x8, x25
 	csel	x20, x8, x25, lo
 	cmp	x8, #79
-	sub	x8, x29, #240
+	add	x8, sp, #304
 	lsr	x24, x20, #4
 	b.ls	.Ldeerlapse_0_1_0_BB14_34
 // %bb.37:                              // %else.2.i.i.i.i
@@ -4989,7 +5002,7 @@
 .Ldeerlapse_0_1_0_BB14_40:                              // %"aead_ciphers::aes_gcm::counter_mode::encrypt_rest::<#6fa349fe97f872a2>.exit.i.i.loopexit"
 	str	x27, [sp, #64]
 .Ldeerlapse_0_1_0_BB14_41:                              // %"aead_ciphers::aes_gcm::counter_mode::encrypt_rest::<#6fa349fe97f872a2>.exit.i.i"
-	sub	x1, x29, #240
+	add	x1, sp, #304
 	mov	x0, x21
 	mov	x2, x22
 	bl	memcpy
@@ -5043,7 +5056,7 @@
 	str	q0, [sp, #80]
 	str	q0, [x8]
 .Ldeerlapse_0_1_0_BB14_45:                              // %common.ret
-	add	sp, sp, #544
+	add	sp, sp, #672
 	ldp	x20, x19, [sp, #80]             // 16-byte Folded Reload
 	ldp	x22, x21, [sp, #64]             // 16-byte Folded Reload
 	ldp	x24, x23, [sp, #48]             // 16-byte Folded Reload

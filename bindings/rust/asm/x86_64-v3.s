@@ -2072,45 +2072,44 @@
 	pushq	%r13
 	pushq	%r12
 	pushq	%rbx
-	subq	$248, %rsp
+	subq	$376, %rsp                      # imm = 0x178
 	movq	%r9, 64(%rsp)                   # 8-byte Spill
 	movq	%r8, %r9
 	movq	%rdi, 8(%rsp)                   # 8-byte Spill
 	vmovups	(%rsi), %xmm0
 	vmovaps	%xmm0, 32(%rsp)
 	movq	%rcx, 16(%rsp)                  # 8-byte Spill
-	movq	%rcx, %rax
-	subq	%r8, %rax
-	movq	%rax, %rcx
-	andq	$-128, %rcx
-	testb	$15, %al
-	movq	%rax, 72(%rsp)                  # 8-byte Spill
-	cmoveq	%rax, %rcx
-	testq	%rcx, %rcx
+	subq	%r8, %rcx
+	movq	%rcx, %rsi
+	andq	$-256, %rsi
+	testb	$15, %cl
+	movq	%rcx, 72(%rsp)                  # 8-byte Spill
+	cmoveq	%rcx, %rsi
+	testq	%rsi, %rsi
 	je	.Ldeerlapse_0_1_0_v3_BB9_12
 # %bb.1:                                # %join.5.lr.ph
 	movl	44(%rsp), %r14d
-	xorl	%esi, %esi
+	xorl	%ecx, %ecx
 	movq	%r9, 96(%rsp)                   # 8-byte Spill
 	movq	%rdx, 24(%rsp)                  # 8-byte Spill
-	movq	%rcx, 80(%rsp)                  # 8-byte Spill
+	movq	%rsi, 80(%rsp)                  # 8-byte Spill
 	jmp	.Ldeerlapse_0_1_0_v3_BB9_3
 	.p2align	4
 .Ldeerlapse_0_1_0_v3_BB9_11:                               #   in Loop: Header=BB9_3 Depth=1
 	bswapl	%r14d
 	movq	24(%rsp), %rdx                  # 8-byte Reload
-	movq	80(%rsp), %rcx                  # 8-byte Reload
-	movq	88(%rsp), %rsi                  # 8-byte Reload
+	movq	80(%rsp), %rsi                  # 8-byte Reload
+	movq	88(%rsp), %rcx                  # 8-byte Reload
 .Ldeerlapse_0_1_0_v3_BB9_2:                                # %loop.2.loopexit
                                         #   in Loop: Header=BB9_3 Depth=1
-	addq	%r15, %rsi
-	cmpq	%rcx, %rsi
+	addq	%r15, %rcx
+	cmpq	%rsi, %rcx
 	jae	.Ldeerlapse_0_1_0_v3_BB9_12
 .Ldeerlapse_0_1_0_v3_BB9_3:                                # %join.5
                                         # =>This Loop Header: Depth=1
                                         #     Child Loop BB9_5 Depth 2
-	movq	%rcx, %rax
-	subq	%rsi, %rax
+	movq	%rsi, %rax
+	subq	%rcx, %rax
 	cmpq	$3072, %rax                     # imm = 0xC00
 	movl	$3072, %r15d                    # imm = 0xC00
 	cmovbq	%rax, %r15
@@ -2118,12 +2117,12 @@
 	movq	8(%rsp), %rax                   # 8-byte Reload
 	cmpl	$256, 24(%rax)                  # imm = 0x100
 	sete	%al
-	cmpq	%rsi, %rcx
+	cmpq	%rcx, %rsi
 	je	.Ldeerlapse_0_1_0_v3_BB9_2
 # %bb.4:                                # %join.8.i.preheader
                                         #   in Loop: Header=BB9_3 Depth=1
-	movq	%rsi, 88(%rsp)                  # 8-byte Spill
-	leaq	(%rdx,%rsi), %rcx
+	movq	%rcx, 88(%rsp)                  # 8-byte Spill
+	addq	%rdx, %rcx
 	movq	%rcx, 104(%rsp)                 # 8-byte Spill
 	movb	%al, %r12b
 	shll	$7, %r12d
@@ -2185,49 +2184,53 @@
 	callq	"deerlapse_0_1_0_v3::aead_ciphers_wide::aes::ctr32::encrypt_up_to_sixteen"
 	jmp	.Ldeerlapse_0_1_0_v3_BB9_10
 .Ldeerlapse_0_1_0_v3_BB9_12:                               # %after.1
-	cmpq	72(%rsp), %rcx                  # 8-byte Folded Reload
+	cmpq	72(%rsp), %rsi                  # 8-byte Folded Reload
 	jae	.Ldeerlapse_0_1_0_v3_BB9_22
 # %bb.13:                               # %then.6
-	addq	%rcx, %rdx
+	addq	%rsi, %rdx
 	vmovaps	32(%rsp), %xmm0
 	vmovaps	%xmm0, 48(%rsp)
-	addq	%r9, %rcx
-	movq	16(%rsp), %r8                   # 8-byte Reload
-	subq	%rcx, %r8
-	xorl	%r15d, %r15d
-	testb	$15, %r8b
-	setne	%r15b
-	shll	$4, %r15d
-	addq	%r8, %r15
-	andq	$-16, %r15
+	addq	%r9, %rsi
+	movq	16(%rsp), %rcx                  # 8-byte Reload
+	subq	%rsi, %rcx
+	xorl	%r14d, %r14d
+	testb	$15, %cl
+	setne	%r14b
+	shll	$4, %r14d
+	addq	%rcx, %r14
+	andq	$-16, %r14
 	addq	%rdx, %r9
 	leaq	112(%rsp), %rax
 	vxorps	%xmm0, %xmm0, %xmm0
 	vmovups	%ymm0, 112(%rsp)
 	vmovups	%ymm0, 144(%rsp)
 	vmovups	%ymm0, 176(%rsp)
-	subq	%r9, %rax
 	vmovups	%ymm0, 208(%rsp)
-	cmpq	%r8, %rax
+	vmovups	%ymm0, 240(%rsp)
+	vmovups	%ymm0, 272(%rsp)
+	vmovups	%ymm0, 304(%rsp)
+	subq	%r9, %rax
+	vmovups	%ymm0, 336(%rsp)
+	cmpq	%rcx, %rax
 	movq	%rdx, 24(%rsp)                  # 8-byte Spill
-	movq	%r8, 16(%rsp)                   # 8-byte Spill
+	movq	%rcx, 16(%rsp)                  # 8-byte Spill
 	leaq	112(%rsp), %rdi
 	movq	%r9, %rsi
-	movq	%r8, %rdx
+	movq	%rcx, %rdx
 	vzeroupper
 	callq	memcpy@PLT
-	xorl	%ebx, %ebx
+	xorl	%ebp, %ebp
 	movq	8(%rsp), %rax                   # 8-byte Reload
 	cmpl	$256, 24(%rax)                  # imm = 0x100
 	sete	%al
-	testq	%r15, %r15
+	testq	%r14, %r14
 	je	.Ldeerlapse_0_1_0_v3_BB9_21
 # %bb.14:                               # %join.8.i.i.lr.ph
-	movb	%al, %bl
-	shll	$7, %ebx
-	subq	$-128, %rbx
-	movbel	60(%rsp), %ebp
-	xorl	%r14d, %r14d
+	movb	%al, %bpl
+	shll	$7, %ebp
+	subq	$-128, %rbp
+	movbel	60(%rsp), %r15d
+	xorl	%ebx, %ebx
 	jmp	.Ldeerlapse_0_1_0_v3_BB9_15
 	.p2align	4
 .Ldeerlapse_0_1_0_v3_BB9_16:                               # %then.1.i.i
@@ -2241,25 +2244,25 @@
 	callq	"deerlapse_0_1_0_v3::aead_ciphers_wide::aes::ctr32::encrypt_few"
 .Ldeerlapse_0_1_0_v3_BB9_20:                               # %"aead_ciphers_wide::aes::ctr32::encrypt_batch.exit.i"
                                         #   in Loop: Header=BB9_15 Depth=1
-	addq	%r15, %r14
-	addl	%r13d, %ebp
-	movbel	%ebp, 60(%rsp)
+	addq	%r14, %rbx
+	addl	%r13d, %r15d
+	movbel	%r15d, 60(%rsp)
 	movq	64(%rsp), %rax                  # 8-byte Reload
 	addq	%r13, (%rax)
-	movq	%r12, %r15
-	cmpq	%r12, %r14
+	movq	%r12, %r14
+	cmpq	%r12, %rbx
 	jae	.Ldeerlapse_0_1_0_v3_BB9_21
 .Ldeerlapse_0_1_0_v3_BB9_15:                               # %join.8.i.i
                                         # =>This Inner Loop Header: Depth=1
-	movq	%r15, %r12
-	movq	%r15, %rax
-	subq	%r14, %rax
-	cmpq	%rbx, %rax
-	movq	%rbx, %r15
-	cmovbq	%rax, %r15
-	leaq	(%rsp,%r14), %rdx
+	movq	%r14, %r12
+	movq	%r14, %rax
+	subq	%rbx, %rax
+	cmpq	%rbp, %rax
+	movq	%rbp, %r14
+	cmovbq	%rax, %r14
+	leaq	(%rsp,%rbx), %rdx
 	addq	$112, %rdx
-	movl	%r15d, %r13d
+	movl	%r14d, %r13d
 	shrl	$4, %r13d
 	cmpq	$79, %rax
 	jbe	.Ldeerlapse_0_1_0_v3_BB9_16
@@ -2271,7 +2274,7 @@
 	leaq	48(%rsp), %r8
 	xorl	%ecx, %ecx
 	movq	%r13, %r9
-	cmpq	$143, %r15
+	cmpq	$143, %r14
 	ja	.Ldeerlapse_0_1_0_v3_BB9_19
 # %bb.18:                               # %then.4.i.i
                                         #   in Loop: Header=BB9_15 Depth=1
@@ -2292,7 +2295,7 @@
 	leaq	112(%rsp), %rsi
 	callq	memcpy@PLT
 .Ldeerlapse_0_1_0_v3_BB9_22:                               # %join.8
-	addq	$248, %rsp
+	addq	$376, %rsp                      # imm = 0x178
 	popq	%rbx
 	popq	%r12
 	popq	%r13
@@ -4721,9 +4724,9 @@
 	pushq	%r13
 	pushq	%r12
 	pushq	%rbx
-	subq	$568, %rsp                      # imm = 0x238
+	subq	$696, %rsp                      # imm = 0x2B8
 	vxorps	%xmm0, %xmm0, %xmm0
-	vmovaps	%xmm0, 432(%rsp)
+	vmovaps	%xmm0, 560(%rsp)
 	movl	1920(%rdi), %eax
 	movq	%rax, 8(%rsp)                   # 8-byte Spill
 	addl	$-10, %eax
@@ -4733,16 +4736,16 @@
 	movq	%r9, %r13
 	movq	%rsi, %rbp
 	movabsq	$2305843009213693936, %r15      # imm = 0x1FFFFFFFFFFFFFF0
-	movabsq	$68719476608, %r10              # imm = 0xFFFFFFF80
+	movabsq	$68719476480, %r10              # imm = 0xFFFFFFF00
 	vmovaps	%xmm0, 16(%rsp)
 	movl	1924(%rdi), %r9d
 	leaq	2168(%rdi), %rax
 	leaq	2680(%rdi), %rsi
-	movq	%rax, 416(%rsp)
-	vmovaps	%xmm0, 400(%rsp)
-	movq	%rsi, 424(%rsp)
-	vmovaps	%xmm0, 384(%rsp)
-	leaq	96(%r10), %rax
+	movq	%rax, 288(%rsp)
+	vmovaps	%xmm0, 272(%rsp)
+	movq	%rsi, 296(%rsp)
+	vmovaps	%xmm0, 256(%rsp)
+	leaq	224(%r10), %rax
 	cmpq	%rax, %r13
 	seta	%al
 	leaq	15(%r15), %rsi
@@ -4757,13 +4760,13 @@
 	movq	%r8, %r12
 	movl	%r9d, 60(%rsp)                  # 4-byte Spill
 	movq	%rdi, 48(%rsp)                  # 8-byte Spill
-	vmovaps	%xmm0, 240(%rsp)
-	leaq	416(%rsp), %rdi
-	movq	%rdi, 256(%rsp)
-	movq	%rcx, 264(%rsp)
-	movq	%r13, 272(%rsp)
+	vmovaps	%xmm0, 304(%rsp)
+	leaq	288(%rsp), %rdi
+	movq	%rdi, 320(%rsp)
+	movq	%rcx, 328(%rsp)
+	movq	%r13, 336(%rsp)
 	andq	%rcx, %r15
-	leaq	240(%rsp), %rsi
+	leaq	304(%rsp), %rsi
 	leaq	16(%rsp), %r8
 	movq	%rdx, %rbx
 	movq	%rcx, %r14
@@ -4787,9 +4790,9 @@
 	movq	%rbx, %rsi
 	movq	%r15, %rdx
 	callq	memcpy@PLT
-	movq	256(%rsp), %rax
+	movq	320(%rsp), %rax
 	movq	(%rax), %rdi
-	leaq	240(%rsp), %rsi
+	leaq	304(%rsp), %rsi
 	leaq	16(%rsp), %rcx
 	movq	%r13, %rdx
 	movq	88(%rsp), %r13                  # 8-byte Reload
@@ -4798,24 +4801,28 @@
 	movq	48(%rsp), %rax                  # 8-byte Reload
 	addq	$1928, %rax                     # imm = 0x788
 	movq	%rax, 104(%rsp)                 # 8-byte Spill
-	movq	272(%rsp), %rax
-	vmovups	240(%rsp), %ymm0
-	vmovups	%ymm0, 528(%rsp)
+	movq	336(%rsp), %rax
+	vmovups	304(%rsp), %ymm0
+	vmovups	%ymm0, 656(%rsp)
 	vmovups	%ymm0, 128(%rsp)
-	movq	%rax, 560(%rsp)
+	movq	%rax, 688(%rsp)
 	movq	%rax, 160(%rsp)
 	leaq	-1(%r13), %rax
-	cmpq	$111, %rax
+	cmpq	$239, %rax
 	movq	%r12, %rbx
 	movq	%r12, 96(%rsp)                  # 8-byte Spill
 	ja	.Ldeerlapse_0_1_0_v3_BB14_17
 # %bb.7:                                # %then.9.i.i
 	vxorps	%xmm0, %xmm0, %xmm0
-	vmovups	%ymm0, 240(%rsp)
-	vmovups	%ymm0, 272(%rsp)
 	vmovups	%ymm0, 304(%rsp)
 	vmovups	%ymm0, 336(%rsp)
-	leaq	256(%rsp), %rdi
+	vmovups	%ymm0, 368(%rsp)
+	vmovups	%ymm0, 400(%rsp)
+	vmovups	%ymm0, 432(%rsp)
+	vmovups	%ymm0, 464(%rsp)
+	vmovups	%ymm0, 496(%rsp)
+	vmovups	%ymm0, 528(%rsp)
+	leaq	320(%rsp), %rdi
 	movq	%rbx, %rsi
 	movq	%r13, %rdx
 	vzeroupper
@@ -4828,7 +4835,7 @@
 	shll	$4, %eax
 	leal	(%rax,%r13), %edx
 	addl	$16, %edx
-	andl	$496, %edx                      # imm = 0x1F0
+	andl	$1008, %edx                     # imm = 0x3F0
 	movw	$0, 204(%rsp)
 	movb	$0, 206(%rsp)
 	movl	8(%rbp), %eax
@@ -4876,7 +4883,7 @@
 	cmpq	%r14, %rax
 	cmovbq	%rax, %r14
 	leaq	(%rsp,%r12), %rdx
-	addq	$240, %rdx
+	addq	$304, %rdx                      # imm = 0x130
 	movl	%r14d, %ebp
 	shrl	$4, %ebp
 	leaq	32(%rsp), %r8
@@ -4929,7 +4936,7 @@
 	incl	%r13d
 	movbel	%r13d, 76(%rsp)
 	movq	%rax, %rbp
-	movabsq	$68719476608, %rcx              # imm = 0xFFFFFFF80
+	movabsq	$68719476480, %rcx              # imm = 0xFFFFFFF00
 	andq	%rcx, %rbp
 	movq	%rax, %rcx
 	andq	$15, %rcx
@@ -5061,14 +5068,14 @@
 	movl	$16, %edx
 	subq	%r15, %rdx
 	leaq	(%rsp,%r15), %rdi
-	addq	$240, %rdi
+	addq	$304, %rdi                      # imm = 0x130
 	xorl	%esi, %esi
 	callq	memset@PLT
-	leaq	240(%rsp), %rdi
+	leaq	304(%rsp), %rdi
 	movq	%r12, %rsi
 	movq	%r15, %rdx
 	callq	memcpy@PLT
-	vmovups	240(%rsp), %xmm0
+	vmovups	304(%rsp), %xmm0
 	vmovaps	%xmm0, 32(%rsp)
 	movq	144(%rsp), %rax
 	movq	(%rax), %rdi
@@ -5081,13 +5088,13 @@
 	movq	%r13, 16(%rsp)
 	movq	96(%rsp), %r14                  # 8-byte Reload
 	movq	%r14, %rdi
-	leaq	256(%rsp), %rsi
+	leaq	320(%rsp), %rsi
 	movq	88(%rsp), %rbx                  # 8-byte Reload
 	movq	%rbx, %rdx
 	callq	memcpy@PLT
-	vmovaps	240(%rsp), %xmm0
-	vmovaps	%xmm0, 448(%rsp)
-	andl	$112, %ebx
+	vmovaps	304(%rsp), %xmm0
+	vmovaps	%xmm0, 576(%rsp)
+	andl	$240, %ebx
 	movq	144(%rsp), %rdi
 	leaq	128(%rsp), %rsi
 	leaq	16(%rsp), %r8
@@ -5102,10 +5109,10 @@
 	movl	$16, %edx
 	subq	%r15, %rdx
 	leaq	(%rsp,%r15), %rdi
-	addq	$489, %rdi                      # imm = 0x1E9
+	addq	$617, %rdi                      # imm = 0x269
 	xorl	%esi, %esi
 	callq	memset@PLT
-	leaq	489(%rsp), %rbx
+	leaq	617(%rsp), %rbx
 	movq	%rbx, %rdi
 	movq	%r14, %rsi
 	movq	%r15, %rdx
@@ -5117,12 +5124,12 @@
 	movq	%rbx, %rdx
 	callq	"deerlapse_0_1_0_v3::aead_ciphers_wide::gcm::KeyRefUpdateBlock::update_block"
 .Ldeerlapse_0_1_0_v3_BB14_16:                              # %"aead_ciphers::gcm::context::Context::absorb::<#3f2567b24793e466>.exit.i.i"
-	leaq	400(%rsp), %rdi
+	leaq	272(%rsp), %rdi
 	leaq	128(%rsp), %rsi
-	leaq	448(%rsp), %rdx
+	leaq	576(%rsp), %rdx
 	leaq	16(%rsp), %rcx
 	callq	"deerlapse_0_1_0_v3::aead_ciphers::aes_gcm::hash::finish::<#0f83097016d41fe1>"
-	vmovaps	400(%rsp), %xmm0
+	vmovaps	272(%rsp), %xmm0
 	jmp	.Ldeerlapse_0_1_0_v3_BB14_44
 .Ldeerlapse_0_1_0_v3_BB14_31:                              # %after.14.i.i
 	movq	88(%rsp), %r15                  # 8-byte Reload
@@ -5139,11 +5146,15 @@
 	shll	$4, %ebx
 	addq	%r15, %rbx
 	vxorps	%xmm0, %xmm0, %xmm0
-	vmovups	%ymm0, 240(%rsp)
-	vmovups	%ymm0, 272(%rsp)
 	vmovups	%ymm0, 304(%rsp)
 	vmovups	%ymm0, 336(%rsp)
-	leaq	240(%rsp), %rdi
+	vmovups	%ymm0, 368(%rsp)
+	vmovups	%ymm0, 400(%rsp)
+	vmovups	%ymm0, 432(%rsp)
+	vmovups	%ymm0, 464(%rsp)
+	vmovups	%ymm0, 496(%rsp)
+	vmovups	%ymm0, 528(%rsp)
+	leaq	304(%rsp), %rdi
 	movq	%r12, %rsi
 	movq	%r15, %rdx
 	vzeroupper
@@ -5191,7 +5202,7 @@
 	movq	%r14, %rbx
 	cmovbq	%rax, %rbx
 	leaq	(%rsp,%r13), %rdx
-	addq	$240, %rdx
+	addq	$304, %rdx                      # imm = 0x130
 	movl	%ebx, %r15d
 	shrl	$4, %r15d
 	leaq	32(%rsp), %r8
@@ -5223,12 +5234,12 @@
 	movq	96(%rsp), %r12                  # 8-byte Reload
 	movq	88(%rsp), %r15                  # 8-byte Reload
 .Ldeerlapse_0_1_0_v3_BB14_41:                              # %"aead_ciphers::aes_gcm::counter_mode::encrypt_rest::<#6fa349fe97f872a2>.exit.i.i"
-	leaq	240(%rsp), %rsi
+	leaq	304(%rsp), %rsi
 	movq	%r12, %rdi
 	movq	%r15, %rdx
 	callq	memcpy@PLT
-	movabsq	$68719476608, %rcx              # imm = 0xFFFFFFF80
-	addq	$112, %rcx
+	movabsq	$68719476480, %rcx              # imm = 0xFFFFFFF00
+	addq	$240, %rcx
 	andq	%r15, %rcx
 	movq	144(%rsp), %rdi
 	leaq	128(%rsp), %rsi
@@ -5245,10 +5256,10 @@
 	movq	112(%rsp), %r14                 # 8-byte Reload
 	subq	%r14, %rdx
 	leaq	(%rsp,%r14), %rdi
-	addq	$505, %rdi                      # imm = 0x1F9
+	addq	$633, %rdi                      # imm = 0x279
 	xorl	%esi, %esi
 	callq	memset@PLT
-	leaq	505(%rsp), %rbx
+	leaq	633(%rsp), %rbx
 	movq	%rbx, %rdi
 	movq	%r15, %rsi
 	movq	%r14, %rdx
@@ -5261,31 +5272,31 @@
 	callq	"deerlapse_0_1_0_v3::aead_ciphers_wide::gcm::KeyRefUpdateBlock::update_block"
 .Ldeerlapse_0_1_0_v3_BB14_43:                              # %join.21.i.i
 	vxorps	%xmm0, %xmm0, %xmm0
-	vmovaps	%xmm0, 464(%rsp)
+	vmovaps	%xmm0, 592(%rsp)
 	incq	16(%rsp)
-	leaq	464(%rsp), %rbx
+	leaq	592(%rsp), %rbx
 	leaq	176(%rsp), %rcx
 	movq	%rbx, %rdi
 	movq	104(%rsp), %rsi                 # 8-byte Reload
 	movq	8(%rsp), %rdx                   # 8-byte Reload
 	vzeroupper
 	callq	"deerlapse_0_1_0_v3::aead_ciphers_wide::aes::block_key::BlockKeyRef::encrypt_one"
-	leaq	384(%rsp), %rdi
+	leaq	256(%rsp), %rdi
 	leaq	128(%rsp), %rsi
 	leaq	16(%rsp), %rcx
 	movq	%rbx, %rdx
 	callq	"deerlapse_0_1_0_v3::aead_ciphers::aes_gcm::hash::finish::<#0f83097016d41fe1>"
-	vmovaps	384(%rsp), %xmm0
+	vmovaps	256(%rsp), %xmm0
 .Ldeerlapse_0_1_0_v3_BB14_44:                              # %arm.4
-	vmovaps	%xmm0, 368(%rsp)
-	vmovaps	368(%rsp), %xmm0
-	vmovaps	%xmm0, 432(%rsp)
-	movq	624(%rsp), %rax
+	vmovaps	%xmm0, 240(%rsp)
+	vmovaps	240(%rsp), %xmm0
+	vmovaps	%xmm0, 560(%rsp)
+	movq	752(%rsp), %rax
 	vmovups	%xmm0, (%rax)
 	movb	$1, %al
 .Ldeerlapse_0_1_0_v3_BB14_2:                               # %common.ret
                                         # kill: def $al killed $al killed $eax
-	addq	$568, %rsp                      # imm = 0x238
+	addq	$696, %rsp                      # imm = 0x2B8
 	popq	%rbx
 	popq	%r12
 	popq	%r13
