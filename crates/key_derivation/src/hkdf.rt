@@ -1,7 +1,8 @@
 //! HKDF (RFC 5869), and HKDF-Expand-Label and Derive-Secret of TLS 1.3 (RFC 8446 section 7.1).
 
-ghost use Rattle.std.specs.Prelude.{◌≡◌, ◌≢◌, ◌++◌, ◌*◌, ◌+◌, ◌<◌, ◌≤◌, ◌↔◌, length, take, IsOk, IfOk, IsOkUnless, IsErrOf, IsTrue, OnOk, OnErr};
+ghost use Rattle.std.specs.Prelude.{◌≡◌, ◌≢◌, ℕ, ◌++◌, ◌*◌, ◌+◌, ◌<◌, ◌≤◌, ◌↔◌, List, length, take, IsOk, IfOk, IsOkUnless, IsErrOf, IsTrue, OnOk, OnErr};
 ghost use Rattle.key_derivation.specs.Hkdf.{IsLabel, derive_secret, hkdf_expand, hkdf_expand_label, hkdf_extract, hkdf_label};
+ghost use Rattle.key_derivation.specs.HmacState.{IsExpander, joined_pieces};
 
 use crate::error::DerivationError;
 use crate::hash::Hash;
@@ -35,9 +36,95 @@ pub fn expand<H: Hash>(prk: &[u8], info: &[u8], out: &mut [u8]) -> Result<(), De
         (out.new ≡ hkdf_expand H.function prk.now info.now (length out.old)) }
     ensures kept { OnErr result (out.new ≡ out.old) }
 {
-    check_len::<H>(out.len())?;
-    fill::<H>(prk, info, out);
-    Ok(())
+    Expander::<H>::new(prk).expand(&[info], out)
+}
+
+/// A pseudorandom key from which HKDF-Expand makes any number of outputs (RFC 5869 section 2.3), by one key of HMAC.
+#[derive(Drop)]
+pub struct Expander<H> {
+    key: HmacKey<H>,
+}
+
+impl<H: Hash> Expander<H> {
+    /// Creates an expander from a pseudorandom key of any length.
+    pub fn new(prk: &[u8]) -> Self
+        ensures { IsExpander H.function H.holds prk.now result }
+    {
+        Expander {
+            key: HmacKey::new(prk),
+        }
+    }
+
+    /// Fills `out` with output keying material. The info is the pieces of `info`, one after another.
+    ///
+    /// Fails with `TooLong` if `out` is longer than 255 digests. It is then unchanged.
+    pub fn expand(&self, info: &[&[u8]], out: &mut [u8]) -> Result<(), DerivationError>
+        ensures accepted { IsOk result ↔ (length out.old ≤ 255 * H.OUTPUT_LEN) }
+        ensures refused { IsOkUnless result DerivationError.TooLong }
+        ensures expanded { OnOk result ((prk : List ℕ) → IsExpander H.function H.holds prk self.now
+            → out.new ≡ hkdf_expand H.function prk (joined_pieces info.now) (length out.old)) }
+        ensures kept { OnErr result (out.new ≡ out.old) }
+    {
+        check_len::<H>(out.len())?;
+        self.fill(info, out);
+        Ok(())
+    }
+
+    /// Returns the output keying material that is as long as a digest.
+    pub fn expand_block(&self, info: &[&[u8]]) -> H::Output
+        ensures { (prk : List ℕ) → IsExpander H.function H.holds prk self.now
+            → H.Output.items result ≡ hkdf_expand H.function prk (joined_pieces info.now) H.OUTPUT_LEN }
+    {
+        let mut hasher = update_all(self.key.start(), info);
+        hasher.update(&[1]);
+        self.key.finish(hasher)
+    }
+
+    // Fills `out`, which is not too long.
+    fn fill(&self, info: &[&[u8]], out: &mut [u8])
+        requires { length out.old ≤ 255 * H.OUTPUT_LEN }
+        ensures { (prk : List ℕ) → IsExpander H.function H.holds prk self.now
+            → out.new ≡ hkdf_expand H.function prk (joined_pieces info.now) (length out.old) }
+    {
+        let len = out.len();
+        let count = (len + H::OUTPUT_LEN - 1) / H::OUTPUT_LEN;
+        let mut hasher = self.key.start();
+        let mut filled = 0;
+        'rounds: for i in 0..count {
+            hasher = update_all(hasher, info);
+            hasher.update(&[(i + 1) as u8]);
+            let block = self.key.finish(hasher);
+            let bytes = block.as_slice();
+            let n = usize::min(bytes.len(), len - filled);
+            out[filled..filled + n].copy_from_slice(&bytes[..n]);
+            filled += n;
+            hasher = self.key.start();
+            hasher.update(block);
+        }
+    }
+
+    // Fills `out` by a label, where no length is above its limit.
+    pub(crate) fn fill_labeled(&self, label: &[u8], context: &[u8], out: &mut [u8])
+        requires label { length label.now ≤ 249 }
+        requires context { length context.now ≤ 255 }
+        requires out { length out.old ≤ 255 * H.OUTPUT_LEN }
+        ensures { (secret : List ℕ) → IsExpander H.function H.holds secret self.now
+            → out.new ≡ hkdf_expand_label H.function secret label.now context.now (length out.old) }
+    {
+        let mut info = [0u8; MAX_INFO_LEN];
+        let len = write_label(&mut info, label, context, out.len() as u16);
+        self.fill(&[&info[..len]], out);
+    }
+}
+
+// Adds the pieces to the message of a hasher.
+fn update_all<H: Hash>(mut hasher: H, pieces: &[&[u8]]) -> H
+    ensures { (m : List ℕ) → H.holds hasher m → H.holds result (m ++ joined_pieces pieces.now) }
+{
+    for piece in pieces {
+        hasher.update(piece);
+    }
+    hasher
 }
 
 /// HKDF-Expand-Label (RFC 8446 section 7.1): fills `out` from a secret. `label` is without its prefix `tls13 `.
@@ -66,7 +153,7 @@ pub fn expand_label<H: Hash>(
         return Err(DerivationError::ContextLength);
     }
     check_len::<H>(out.len())?;
-    fill_labeled::<H>(secret, label, context, out);
+    Expander::<H>::new(secret).fill_labeled(label, context, out);
     Ok(())
 }
 
@@ -95,7 +182,7 @@ pub fn derive_secret<H: Hash>(
     }
     let mut info = [0u8; MAX_INFO_LEN];
     let len = write_label(&mut info, label, transcript_hash, H::OUTPUT_LEN as u16);
-    Ok(first_block::<H>(secret, &info[..len]))
+    Ok(Expander::<H>::new(secret).expand_block(&[&info[..len]]))
 }
 
 // Checks that a label has a length that is allowed.
@@ -118,53 +205,6 @@ fn check_len<H: Hash>(len: usize) -> Result<(), DerivationError>
         return Err(DerivationError::TooLong);
     }
     Ok(())
-}
-
-// Fills `out`, which is not too long.
-fn fill<H: Hash>(prk: &[u8], info: &[u8], out: &mut [u8])
-    requires { length out.old ≤ 255 * H.OUTPUT_LEN }
-    ensures { out.new ≡ hkdf_expand H.function prk.now info.now (length out.old) }
-{
-    let key = HmacKey::<H>::new(prk);
-    let len = out.len();
-    let count = (len + H::OUTPUT_LEN - 1) / H::OUTPUT_LEN;
-    let mut hasher = key.start();
-    let mut filled = 0;
-    'rounds: for i in 0..count {
-        hasher.update(info);
-        hasher.update(&[(i + 1) as u8]);
-        let block = key.finish(hasher);
-        let bytes = block.as_slice();
-        let n = usize::min(bytes.len(), len - filled);
-        out[filled..filled + n].copy_from_slice(&bytes[..n]);
-        filled += n;
-        hasher = key.start();
-        hasher.update(block);
-    }
-}
-
-// The output that is as long as a digest: the first block.
-fn first_block<H: Hash>(prk: &[u8], info: &[u8]) -> H::Output
-    ensures { H.Output.items result ≡ hkdf_expand H.function prk.now info.now H.OUTPUT_LEN }
-{
-    let key = HmacKey::<H>::new(prk);
-    let mut hasher = key.start();
-    hasher.update(info);
-    hasher.update(&[1]);
-    key.finish(hasher)
-}
-
-// Fills `out` by a label, where no length is above its limit.
-pub(crate) fn fill_labeled<H: Hash>(secret: &[u8], label: &[u8], context: &[u8], out: &mut [u8])
-    requires label { length label.now ≤ 249 }
-    requires context { length context.now ≤ 255 }
-    requires out { length out.old ≤ 255 * H.OUTPUT_LEN }
-    ensures { out.new
-        ≡ hkdf_expand_label H.function secret.now label.now context.now (length out.old) }
-{
-    let mut info = [0u8; MAX_INFO_LEN];
-    let len = write_label(&mut info, label, context, out.len() as u16);
-    fill::<H>(secret, &info[..len], out);
 }
 
 // Writes the HkdfLabel, and returns its length.

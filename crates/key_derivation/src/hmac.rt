@@ -5,6 +5,7 @@ ghost use Rattle.key_derivation.specs.Hmac.{hmac, block_key, inner_block, outer_
 ghost use Rattle.key_derivation.specs.HmacState.{IsKey};
 
 use crate::hash::{Hash, MAX_BLOCK_LEN};
+use aead_ciphers_base::bb;
 use sha2::Digest;
 use std::convert::AsSlice;
 
@@ -45,6 +46,18 @@ impl<H: Hash> HmacKey<H> {
         let mut outer = self.outer.fork();
         outer.update(hasher.finalize());
         outer.finalize()
+    }
+
+    /// Returns whether `code` is the code of the message whose bytes were added to `hasher`.
+    ///
+    /// A code of another length is not. One of the same length is compared to its last byte, wherever it differs.
+    pub fn verify(&self, hasher: H, code: &[u8]) -> bool
+        ensures { (key text : List ℕ) → IsKey H.function H.holds key self.now
+            → H.holds «hasher» (inner_block H.function key ++ text)
+            → (IsTrue result ↔ (code.now ≡ hmac H.function key text)) }
+    {
+        let made = self.finish(hasher);
+        bb::verify_slices_are_equal(made.as_slice(), code).is_ok()
     }
 }
 

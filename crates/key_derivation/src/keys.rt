@@ -27,6 +27,46 @@ impl KeyBytes {
     }
 }
 
+/// The keys of one direction of QUIC (RFC 9001 section 5.1).
+#[derive(Drop)]
+pub struct QuicKeys {
+    /// The key for payloads.
+    pub key: AeadKeyBytes,
+    /// The IV of the nonces.
+    pub iv: [u8; IV_LEN],
+    /// The key that masks headers.
+    pub header_key: HeaderKeyBytes,
+}
+
+impl fmt::Debug for QuicKeys {
+    ghost use Rattle.std.specs.Prelude.{Some, codes};
+
+    ghost debug_output = { λ keys. Some (codes "QuicKeys { .. }") };
+
+    fn fmt<W: fmt::Write>(&self, f: &mut fmt::Formatter<W>) -> fmt::Result {
+        f.write_str("QuicKeys { .. }")
+    }
+}
+
+/// The key of one direction of TLS 1.3's records (RFC 8446 section 7.3).
+#[derive(Drop)]
+pub struct RecordKeys {
+    /// The key for contents.
+    pub key: AeadKeyBytes,
+    /// The IV of the nonces.
+    pub iv: [u8; IV_LEN],
+}
+
+impl fmt::Debug for RecordKeys {
+    ghost use Rattle.std.specs.Prelude.{Some, codes};
+
+    ghost debug_output = { λ keys. Some (codes "RecordKeys { .. }") };
+
+    fn fmt<W: fmt::Write>(&self, f: &mut fmt::Formatter<W>) -> fmt::Result {
+        f.write_str("RecordKeys { .. }")
+    }
+}
+
 /// The 16 or 32 bytes of an AEAD key, which seals or opens payloads: a `quic key`, or a `key` of TLS 1.3.
 #[derive(Drop)]
 pub struct AeadKeyBytes {

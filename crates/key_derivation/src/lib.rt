@@ -15,6 +15,6 @@ mod secret;
 mod suite;
 
 pub use error::DerivationError;
-pub use keys::{AeadKeyBytes, HeaderKeyBytes, IV_LEN};
+pub use keys::{AeadKeyBytes, HeaderKeyBytes, IV_LEN, QuicKeys, RecordKeys};
 pub use secret::{MAX_CONNECTION_ID_LEN, Secret};
 pub use suite::Suite;

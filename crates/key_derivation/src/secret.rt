@@ -1,14 +1,16 @@
 //! Secrets of TLS 1.3 and QUIC, and the keys that they give (RFC 8446 sections 7.2 and 7.3, RFC 9001 sections 5.1, 5.2 and
 //! 6.1).
 
-ghost use Rattle.std.specs.Prelude.{◌≡◌, ◌≤◌, ◌↔◌, length, IsOk, IfOk, IsOkUnless};
+ghost use Rattle.std.specs.Prelude.{◌≡◌, ◌≤◌, ◌↔◌, [], codes, length, IsOk, IfOk, IsOkUnless};
+ghost use Rattle.key_derivation.specs.Hkdf.{hkdf_expand_label};
 ghost use Rattle.key_derivation.specs.Quic.{client_initial_secret, endpoint_secret, next_quic_secret, quic_header_key, quic_iv, quic_key, server_initial_secret};
-ghost use Rattle.key_derivation.specs.Secret.{key_bytes, labeled, next_secret, suite_key_len, suite_secret_len};
+ghost use Rattle.key_derivation.specs.Secret.{labeled, next_secret, suite_key_len, suite_secret_len};
 ghost use Rattle.key_derivation.specs.Tls.{next_traffic_secret, record_iv, record_key};
 
 use crate::error::DerivationError;
-use crate::hkdf::{extract, fill_labeled};
-use crate::keys::{AeadKeyBytes, HeaderKeyBytes, IV_LEN, KeyBytes};
+use crate::hash::Hash;
+use crate::hkdf::{Expander, extract};
+use crate::keys::{AeadKeyBytes, HeaderKeyBytes, IV_LEN, KeyBytes, QuicKeys, RecordKeys};
 use crate::suite::Suite;
 use sha2::{Sha256, Sha384};
 use std::fmt;
@@ -37,12 +39,7 @@ enum SecretBytes {
 /// The keys of a client's Initial packets. From `crates/quic_packets_tests/src/examples/initial_keys.rt`:
 ///
 /// ```
-/// let secret = Secret::client_initial(id)?;
-/// Ok((
-///     secret.quic_key(),
-///     secret.quic_iv(),
-///     secret.quic_header_key(),
-/// ))
+/// Ok(Secret::client_initial(id)?.quic_keys())
 /// ```
 #[derive(Drop)]
 pub struct Secret {
@@ -151,32 +148,31 @@ impl Secret {
         }
     }
 
-    /// Returns the key for payloads of QUIC, by the label `quic key` (RFC 9001 section 5.1).
-    pub fn quic_key(&self) -> AeadKeyBytes
-        ensures key { result ≡ quic_key self.now }
-        ensures len { length result ≡ suite_key_len self.now.suite }
+    /// Returns the keys of QUIC, by the labels `quic key`, `quic iv` and `quic hp` (RFC 9001 section 5.1).
+    pub fn quic_keys(&self) -> QuicKeys
+        ensures key { result.key ≡ quic_key self.now }
+        ensures iv { result.iv ≡ quic_iv self.now }
+        ensures header_key { result.header_key ≡ quic_header_key self.now }
+        ensures key_len { length result.key ≡ suite_key_len self.now.suite }
+        ensures header_key_len { length result.header_key ≡ suite_key_len self.now.suite }
     {
-        AeadKeyBytes {
-            inner: self.key(b"quic key"),
-        }
-    }
-
-    /// Returns the IV of QUIC, by the label `quic iv` (RFC 9001 section 5.1).
-    pub fn quic_iv(&self) -> [u8; IV_LEN]
-        ensures { result ≡ quic_iv self.now }
-    {
-        let mut iv = [0u8; IV_LEN];
-        self.fill(b"quic iv", &mut iv);
-        iv
-    }
-
-    /// Returns the key that masks headers of QUIC, by the label `quic hp` (RFC 9001 section 5.1).
-    pub fn quic_header_key(&self) -> HeaderKeyBytes
-        ensures key { result ≡ quic_header_key self.now }
-        ensures len { length result ≡ suite_key_len self.now.suite }
-    {
-        HeaderKeyBytes {
-            inner: self.key(b"quic hp"),
+        let mut iv = [0; IV_LEN];
+        let (key, header_key) = match &self.inner {
+            SecretBytes::Sha256(bytes) => {
+                let (mut key, mut header_key) = ([0; 16], [0; 16]);
+                fill_quic_keys::<Sha256>(bytes, &mut key, &mut iv, &mut header_key);
+                (KeyBytes::Aes128(key), KeyBytes::Aes128(header_key))
+            }
+            SecretBytes::Sha384(bytes) => {
+                let (mut key, mut header_key) = ([0; 32], [0; 32]);
+                fill_quic_keys::<Sha384>(bytes, &mut key, &mut iv, &mut header_key);
+                (KeyBytes::Aes256(key), KeyBytes::Aes256(header_key))
+            }
+        };
+        QuicKeys {
+            key: AeadKeyBytes { inner: key },
+            iv,
+            header_key: HeaderKeyBytes { inner: header_key },
         }
     }
 
@@ -188,23 +184,29 @@ impl Secret {
         self.next(b"quic ku")
     }
 
-    /// Returns the key of TLS 1.3's records, by the label `key` (RFC 8446 section 7.3).
-    pub fn record_key(&self) -> AeadKeyBytes
-        ensures key { result ≡ record_key self.now }
-        ensures len { length result ≡ suite_key_len self.now.suite }
+    /// Returns the key of TLS 1.3's records, by the labels `key` and `iv` (RFC 8446 section 7.3).
+    pub fn record_keys(&self) -> RecordKeys
+        ensures key { result.key ≡ record_key self.now }
+        ensures iv { result.iv ≡ record_iv self.now }
+        ensures key_len { length result.key ≡ suite_key_len self.now.suite }
     {
-        AeadKeyBytes {
-            inner: self.key(b"key"),
+        let mut iv = [0; IV_LEN];
+        let key = match &self.inner {
+            SecretBytes::Sha256(bytes) => {
+                let mut key = [0; 16];
+                fill_record_keys::<Sha256>(bytes, &mut key, &mut iv);
+                KeyBytes::Aes128(key)
+            }
+            SecretBytes::Sha384(bytes) => {
+                let mut key = [0; 32];
+                fill_record_keys::<Sha384>(bytes, &mut key, &mut iv);
+                KeyBytes::Aes256(key)
+            }
+        };
+        RecordKeys {
+            key: AeadKeyBytes { inner: key },
+            iv,
         }
-    }
-
-    /// Returns the IV of TLS 1.3's records, by the label `iv` (RFC 8446 section 7.3).
-    pub fn record_iv(&self) -> [u8; IV_LEN]
-        ensures { result ≡ record_iv self.now }
-    {
-        let mut iv = [0u8; IV_LEN];
-        self.fill(b"iv", &mut iv);
-        iv
     }
 
     /// Returns the traffic secret after a KeyUpdate of TLS 1.3, by the label `traffic upd` (RFC 8446 section 7.2).
@@ -233,26 +235,6 @@ impl Secret {
         }
     }
 
-    // A key by its label.
-    fn key(&self, label: &[u8]) -> KeyBytes
-        requires { length label.now ≤ 249 }
-        ensures key { key_bytes result ≡ labeled self.now label.now (suite_key_len self.now.suite) }
-        ensures len { length (key_bytes result) ≡ suite_key_len self.now.suite }
-    {
-        match self.suite() {
-            Suite::Aes128Gcm => {
-                let mut key = [0u8; 16];
-                self.fill(label, &mut key);
-                KeyBytes::Aes128(key)
-            }
-            Suite::Aes256Gcm => {
-                let mut key = [0u8; 32];
-                self.fill(label, &mut key);
-                KeyBytes::Aes256(key)
-            }
-        }
-    }
-
     // Fills `out` by a label.
     fn fill(&self, label: &[u8], out: &mut [u8])
         requires label { length label.now ≤ 249 }
@@ -260,10 +242,42 @@ impl Secret {
         ensures { out.new ≡ labeled self.now label.now (length out.old) }
     {
         match &self.inner {
-            SecretBytes::Sha256(bytes) => fill_labeled::<Sha256>(bytes, label, b"", out),
-            SecretBytes::Sha384(bytes) => fill_labeled::<Sha384>(bytes, label, b"", out),
+            SecretBytes::Sha256(bytes) => Expander::<Sha256>::new(bytes).fill_labeled(
+                label, b"", out,
+            ),
+            SecretBytes::Sha384(bytes) => Expander::<Sha384>::new(bytes).fill_labeled(
+                label, b"", out,
+            ),
         }
     }
+}
+
+// Fills the parts of the keys of QUIC, by one key of HMAC.
+fn fill_quic_keys<H: Hash>(secret: &[u8], key: &mut [u8], iv: &mut [u8], header_key: &mut [u8])
+    requires key { length key.old ≤ 32 }
+    requires iv { length iv.old ≤ 32 }
+    requires header_key { length header_key.old ≤ 32 }
+    ensures key { key.new ≡ hkdf_expand_label H.function secret.now (codes "quic key") [] (length key.old) }
+    ensures iv { iv.new ≡ hkdf_expand_label H.function secret.now (codes "quic iv") [] (length iv.old) }
+    ensures header_key { header_key.new
+        ≡ hkdf_expand_label H.function secret.now (codes "quic hp") [] (length header_key.old) }
+{
+    let from = Expander::<H>::new(secret);
+    from.fill_labeled(b"quic key", b"", key);
+    from.fill_labeled(b"quic iv", b"", iv);
+    from.fill_labeled(b"quic hp", b"", header_key);
+}
+
+// Fills the parts of the keys of records, by one key of HMAC.
+fn fill_record_keys<H: Hash>(secret: &[u8], key: &mut [u8], iv: &mut [u8])
+    requires key { length key.old ≤ 32 }
+    requires iv { length iv.old ≤ 32 }
+    ensures key { key.new ≡ hkdf_expand_label H.function secret.now (codes "key") [] (length key.old) }
+    ensures iv { iv.new ≡ hkdf_expand_label H.function secret.now (codes "iv") [] (length iv.old) }
+{
+    let from = Expander::<H>::new(secret);
+    from.fill_labeled(b"key", b"", key);
+    from.fill_labeled(b"iv", b"", iv);
 }
 
 // The secret of an endpoint by its label.
@@ -278,6 +292,6 @@ fn initial(id: &[u8], label: &[u8]) -> Result<Secret, DerivationError>
     }
     let secret = extract::<Sha256>(&INITIAL_SALT, id);
     let mut bytes = [0u8; 32];
-    fill_labeled::<Sha256>(&secret, label, b"", &mut bytes);
+    Expander::<Sha256>::new(&secret).fill_labeled(label, b"", &mut bytes);
     Ok(Secret::aes_128_gcm(bytes))
 }

@@ -4,7 +4,7 @@ use crate::checks::{bytes_of, equal, same};
 use crate::hmac::cut;
 use key_derivation::DerivationError;
 use key_derivation::hash::Hash;
-use key_derivation::hkdf::{derive_secret, expand, expand_label, extract};
+use key_derivation::hkdf::{Expander, derive_secret, expand, expand_label, extract};
 use sha2::{Digest, Sha256, Sha384};
 use std::process::Abort;
 use std::test::Fail;
@@ -60,6 +60,40 @@ fn rfc_5869(rt: HostRuntime) -> Result<(), Fail> {
         same(&rt, &prk, row.prk, row.name);
         let okm = okm_of(&prk, &bytes_of(&rt, row.info), row.okm.len() / 2)?;
         same(&rt, cut(&okm, row.okm), row.okm, row.name);
+    }
+    Ok(())
+}
+
+/// The output keying material of a kept key, of so many bytes, at most 82, from an info in two pieces that is cut after `at`.
+fn okm_of_pieces(
+    from: &Expander<Sha256>,
+    info: &[u8],
+    at: usize,
+    len: usize,
+) -> Result<[u8; 82], DerivationError> {
+    let (front, rest) = info.split_at(usize::min(at, info.len()));
+    let mut okm = [0; 82];
+    from.expand(&[front, rest], &mut okm[..usize::min(len, 82)])?;
+    Ok(okm)
+}
+
+/// Asserts the outputs of a row from one key that is kept, and the output that is as long as a digest.
+fn has_outputs(rt: &(impl Abort + AllocGlobal), row: &Row) -> Result<(), Fail> {
+    let from = Expander::<Sha256>::new(&bytes_of(rt, row.prk));
+    let info = bytes_of(rt, row.info);
+    for at in [0, 1, 5, info.len()] {
+        let okm = okm_of_pieces(&from, &info, at, row.okm.len() / 2)?;
+        same(rt, cut(&okm, row.okm), row.okm, row.name);
+    }
+    let block = from.expand_block(&[&info]);
+    equal(rt, &bytes_of(rt, row.okm).starts_with(&block), &true);
+    Ok(())
+}
+
+#[test]
+fn kept_key(rt: HostRuntime) -> Result<(), Fail> {
+    for row in &RFC_5869 {
+        has_outputs(&rt, row)?;
     }
     Ok(())
 }

@@ -1,6 +1,6 @@
 //! HMAC by the vectors of RFC 4231, and at many lengths beside python's `hmac`.
 
-use crate::checks::{bytes_of, same};
+use crate::checks::{bytes_of, equal, same};
 use crate::rfc_4231::{ROWS, Row};
 use key_derivation::hmac::{HmacKey, hmac};
 use sha2::{Digest, Sha256, Sha384};
@@ -113,6 +113,32 @@ fn of_pieces(key: &HmacKey<Sha256>, text: &[u8], at: usize) -> [u8; 32] {
     hasher.update(&text[..at]);
     hasher.update(&text[at..]);
     key.finish(hasher)
+}
+
+/// Whether a key takes `code` for that of a text.
+fn verifies(key: &HmacKey<Sha256>, text: &[u8], code: &[u8]) -> bool {
+    let mut hasher = key.start();
+    hasher.update(text);
+    key.verify(hasher, code)
+}
+
+/// RFC 4231 section 4.3: its code, the code with a bit changed in each of its bytes, and codes of other lengths.
+#[test]
+fn verified(rt: HostRuntime) {
+    let key = HmacKey::<Sha256>::new(b"Jefe");
+    let text = b"what do ya want for nothing?";
+    let code = bytes_of(&rt, ROWS[1].sha256);
+    equal(&rt, &verifies(&key, text, &code), &true);
+    equal(&rt, &verifies(&key, b"what", &code), &false);
+    for i in 0..code.len() {
+        let mut changed = bytes_of(&rt, ROWS[1].sha256);
+        if let Some(byte) = changed.get_mut(i) {
+            *byte ^= 1;
+        }
+        equal(&rt, &verifies(&key, text, &changed), &false);
+        equal(&rt, &verifies(&key, text, &code[..i]), &false);
+    }
+    equal(&rt, &verifies(&key, text, &[0; 33]), &false);
 }
 
 /// RFC 4231 section 4.3, under one key that is kept, in pieces.

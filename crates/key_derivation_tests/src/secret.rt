@@ -13,14 +13,10 @@ fn has_quic_keys(
     iv: &str,
     header_key: &str,
 ) {
-    same(rt, secret.quic_key().as_slice(), key, "the key");
-    same(rt, &secret.quic_iv(), iv, "the IV");
-    same(
-        rt,
-        secret.quic_header_key().as_slice(),
-        header_key,
-        "the header key",
-    );
+    let keys = secret.quic_keys();
+    same(rt, keys.key.as_slice(), key, "the key");
+    same(rt, &keys.iv, iv, "the IV");
+    same(rt, keys.header_key.as_slice(), header_key, "the header key");
 }
 
 /// RFC 9001 A.1.
@@ -88,7 +84,12 @@ fn quic_update(rt: HostRuntime) -> Result<(), Fail> {
         "9ac312a7f877468ebe69422748ad00a15443f18203a07d6060f688f30f21632b",
     );
     let secret = Secret::new(Suite::Aes128Gcm, &bytes)?;
-    same(&rt, &secret.quic_iv(), "e0459b3474bdd0e44a41c144", "the IV");
+    same(
+        &rt,
+        &secret.quic_keys().iv,
+        "e0459b3474bdd0e44a41c144",
+        "the IV",
+    );
     same(
         &rt,
         secret.next_quic().as_slice(),
@@ -212,8 +213,9 @@ const CAPTURED: [Traffic; 4] = [
 
 /// Asserts the record keys of a secret, and the secret after it.
 fn has_record_keys(rt: &(impl Abort + AllocGlobal), secret: &Secret, row: &Traffic) {
-    same(rt, secret.record_key().as_slice(), row.key, row.name);
-    same(rt, &secret.record_iv(), row.iv, row.name);
+    let keys = secret.record_keys();
+    same(rt, keys.key.as_slice(), row.key, row.name);
+    same(rt, &keys.iv, row.iv, row.name);
     if let Some(next) = row.next {
         same(rt, secret.next_traffic().as_slice(), next, row.name);
     }
@@ -258,6 +260,9 @@ fn secret_lengths(rt: HostRuntime) {
 fn no_byte_is_printed(rt: HostRuntime) {
     let secret = Secret::aes_128_gcm([7; 32]);
     prints(&rt, &secret, "Secret { .. }");
-    prints(&rt, &secret.quic_key(), "AeadKeyBytes { .. }");
-    prints(&rt, &secret.quic_header_key(), "HeaderKeyBytes { .. }");
+    prints(&rt, &secret.record_keys(), "RecordKeys { .. }");
+    let keys = secret.quic_keys();
+    prints(&rt, &keys, "QuicKeys { .. }");
+    prints(&rt, &keys.key, "AeadKeyBytes { .. }");
+    prints(&rt, &keys.header_key, "HeaderKeyBytes { .. }");
 }

@@ -25,16 +25,13 @@ use crate::error::PacketError;
 use crate::failures::Failures;
 use crate::fixed_bit::FixedBit;
 use crate::receiver::{Received, Receiver};
-use crate::sender::Sender;
+use crate::sender::{CONFIDENTIALITY_LIMIT, Sender};
 use ends::Ends;
 use incoming::step_of;
 pub use incoming::{Incoming, Step};
 use key_derivation::Secret;
 use std::marker::Model;
 use std::ops::Range;
-
-/// The limit of a new sender, which is that of AES-GCM (RFC 9001 section 6.6).
-const MAX_SEALED: u64 = 1 << 23;
 
 /// An encryption level with a space of packet numbers (RFC 9000 section 12.3). 0-RTT packets share the space of 1-RTT packets.
 #[derive(Clone, Copy, PartialEq, Eq, Debug)]
@@ -99,7 +96,7 @@ impl Connection {
             one_rtt: Ends::new(),
             zero_rtt: None,
             failures: Failures::new(),
-            limit: MAX_SEALED,
+            limit: CONFIDENTIALITY_LIMIT,
             fixed_bit,
         }
     }

@@ -5,8 +5,8 @@ ghost use Rattle.std.specs.Prelude.{◌≡◌, ◌≢◌, ◌+◌, ◌^◌, ◌<
 use crate::error::PacketError;
 use std::marker::Model;
 
-/// The limit on packets that fail authentication, over all AES-GCM keys of a connection (RFC 9001 section 6.6).
-const MAX_FAILURES: u64 = 1 << 52;
+/// The integrity limit of AES-GCM: the packets that may fail authentication, over all keys of a connection (RFC 9001 section 6.6).
+pub const INTEGRITY_LIMIT: u64 = 1 << 52;
 
 /// The number of packets that have failed authentication, over all keys of a connection, and its limit.
 ///
@@ -35,7 +35,7 @@ impl Failures {
     {
         Failures {
             count: 0,
-            limit: MAX_FAILURES,
+            limit: INTEGRITY_LIMIT,
         }
     }
 

@@ -6,7 +6,7 @@ ghost use Rattle.quic_packets.specs.Keys.{secret_header_key};
 ghost use Rattle.quic_packets.specs.Header.{HasMaskedBytes, HasSample, Protected, Unprotected, first_mask, mask_of, number_len};
 
 use crate::error::PacketError;
-use crate::suite::Suite;
+use crate::keys::keys_of;
 use aead_ciphers::aead::quic::Algorithm;
 use aead_ciphers_wide::aead::quic::HeaderProtectionKey;
 use key_derivation::Secret;
@@ -15,7 +15,8 @@ use std::marker::Model;
 /// The sample begins this many bytes after the start of the packet number, as if the number had four bytes.
 pub(crate) const MAX_NUMBER_LEN: usize = 4;
 
-const SAMPLE_LEN: usize = 16;
+/// The length of a sample in bytes (RFC 9001 section 5.4.2).
+pub const SAMPLE_LEN: usize = 16;
 
 /// The sample ends this many bytes after the start of the packet number.
 pub(crate) const SAMPLE_END: usize = MAX_NUMBER_LEN + SAMPLE_LEN;
@@ -49,15 +50,10 @@ impl HeaderKey {
     }
 
     /// Creates the header protection key of a secret (RFC 9001 section 5.1).
-    #[tactic(auto, unfolding(crate::specs::Keys::secret_header_key))]
-    pub(crate) fn of_secret(secret: &Secret) -> Self
+    pub fn from_secret(secret: &Secret) -> Self
         ensures { result ≡ secret_header_key secret.now }
     {
-        let bytes = secret.quic_header_key();
-        let algorithm = Suite::of_secret(secret).header_algorithm();
-        let Ok(key) = HeaderKey::new(algorithm, bytes.as_slice()) else {
-            unreachable!();
-        };
+        let (_, key) = keys_of(secret);
         key
     }
 

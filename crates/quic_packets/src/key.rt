@@ -10,12 +10,15 @@ ghost use Rattle.quic_packets.specs.Keys.{secret_key};
 ghost use Rattle.quic_packets.specs.Packet.{EndsWithTag, IsGenuine, IsNumber};
 
 use crate::error::PacketError;
+use crate::keys::keys_of;
 use crate::packet::{NUMBERS_END, check_lengths, payload_len};
-use crate::suite::Suite;
 use aead_ciphers::aead::{Aad, Algorithm, MAX_TAG_LEN, NONCE_LEN, Nonce, Tag, nonce_of};
 use aead_ciphers_wide::aead::LessSafeKey;
 use key_derivation::Secret;
 use std::marker::Model;
+
+/// The length of a tag in bytes.
+pub const TAG_LEN: usize = MAX_TAG_LEN;
 
 /// A key and IV of one direction, which seals and opens packets by their numbers, in any order and without allocating.
 ///
@@ -58,15 +61,10 @@ impl PacketKey {
     }
 
     /// Creates the key of a secret, with its IV (RFC 9001 section 5.1).
-    #[tactic(auto, unfolding(crate::specs::Keys::secret_key))]
-    pub(crate) fn of_secret(secret: &Secret) -> Self
+    pub fn from_secret(secret: &Secret) -> Self
         ensures { result ≡ secret_key secret.now }
     {
-        let bytes = secret.quic_key();
-        let algorithm = Suite::of_secret(secret).algorithm();
-        let Ok(key) = PacketKey::new(algorithm, bytes.as_slice(), secret.quic_iv()) else {
-            unreachable!();
-        };
+        let (key, _) = keys_of(secret);
         key
     }
 

@@ -1,6 +1,13 @@
-//! Keys that the caller derives.
+//! The keys of one direction: those that the caller derives, and those of a secret.
 
+ghost use Rattle.std.specs.Prelude.{◌≡◌};
+ghost use Rattle.quic_packets.specs.Keys.{secret_header_key, secret_key};
+
+use crate::header::HeaderKey;
+use crate::key::PacketKey;
+use crate::suite::Suite;
 use aead_ciphers::aead::NONCE_LEN;
+use key_derivation::Secret;
 
 /// The keys of one direction that the caller derives, by their names (RFC 9001 section 5.1).
 #[derive(Clone, Copy)]
@@ -11,4 +18,21 @@ pub struct Keys<'a> {
     pub iv: [u8; NONCE_LEN],
     /// The key that masks headers, of 16 or 32 bytes: `quic hp`.
     pub header_key: &'a [u8],
+}
+
+// The packet key and the header key of a secret, by one key of HMAC.
+#[tactic(auto, unfolding(crate::specs::Keys::secret_key, crate::specs::Keys::secret_header_key))]
+pub(crate) fn keys_of(secret: &Secret) -> (PacketKey, HeaderKey)
+    ensures packet { result.0 ≡ secret_key secret.now }
+    ensures header { result.1 ≡ secret_header_key secret.now }
+{
+    let suite = Suite::of_secret(secret);
+    let keys = secret.quic_keys();
+    let Ok(packet) = PacketKey::new(suite.algorithm(), keys.key.as_slice(), keys.iv) else {
+        unreachable!();
+    };
+    let Ok(header) = HeaderKey::new(suite.header_algorithm(), keys.header_key.as_slice()) else {
+        unreachable!();
+    };
+    (packet, header)
 }

@@ -28,14 +28,14 @@ mod suite;
 
 pub use datagram::{DatagramError, Packet, PacketType, packet_at};
 pub use error::PacketError;
-pub use failures::Failures;
+pub use failures::{Failures, INTEGRITY_LIMIT};
 pub use fixed_bit::FixedBit;
-pub use header::HeaderKey;
+pub use header::{HeaderKey, SAMPLE_LEN};
 pub use header_writer::{HeaderError, LongHeader, LongType, ShortHeader};
-pub use key::PacketKey;
+pub use key::{PacketKey, TAG_LEN};
 pub use keys::Keys;
 pub use receiver::{Received, Receiver};
 pub use retry::{RetryError, is_genuine_retry, retry_tag};
-pub use sender::Sender;
+pub use sender::{CONFIDENTIALITY_LIMIT, Sender};
 pub use space::Space;
 pub use suite::Suite;

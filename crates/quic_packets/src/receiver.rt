@@ -17,7 +17,7 @@ use crate::error::PacketError;
 use crate::failures::Failures;
 use crate::header::{HeaderKey, SAMPLE_END, masked_bytes, write_back};
 use crate::key::PacketKey;
-use crate::keys::Keys;
+use crate::keys::{Keys, keys_of};
 use crate::numbers::{decode, truncated};
 use crate::space::Space;
 use crate::suite::Suite;
@@ -91,8 +91,7 @@ impl Receiver {
     pub fn from_secret(secret: Secret) -> Self
         ensures { result ≡ new_receiver (secret_header_key secret) (secret_key secret) (Some secret) }
     {
-        let header = HeaderKey::of_secret(&secret);
-        let current = PacketKey::of_secret(&secret);
+        let (current, header) = keys_of(&secret);
         Receiver::with_keys(header, current, Some(secret))
     }
 
@@ -147,7 +146,7 @@ impl Receiver {
         };
         if self.next.is_none() {
             let next = secret.next_quic();
-            self.next = Some(PacketKey::of_secret(&next));
+            self.next = Some(PacketKey::from_secret(&next));
             self.secret = Some(next);
         }
         Ok(())

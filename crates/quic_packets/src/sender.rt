@@ -15,7 +15,7 @@ use crate::error::PacketError;
 use crate::fixed_bit::FixedBit;
 use crate::header::{HeaderKey, MAX_NUMBER_LEN, SAMPLE_END};
 use crate::key::PacketKey;
-use crate::keys::Keys;
+use crate::keys::{Keys, keys_of};
 use crate::numbers::number_len;
 use crate::packet::{NUMBERS_END, payload_len};
 use crate::skipped::Skipped;
@@ -26,7 +26,7 @@ use std::marker::Model;
 use std::ops::Range;
 
 /// The confidentiality limit of AES-GCM: the packets that one key may seal (RFC 9001 section 6.6).
-const MAX_SEALED: u64 = 1 << 23;
+pub const CONFIDENTIALITY_LIMIT: u64 = 1 << 23;
 
 /// Sends the packets of one number space in one direction, under one key after another.
 ///
@@ -105,8 +105,7 @@ impl Sender {
         ensures made { IfOk result (λ made. made
             ≡ new_sender (secret_key secret) (secret_header_key secret) (Some secret) first) }
     {
-        let key = PacketKey::of_secret(&secret);
-        let header_key = HeaderKey::of_secret(&secret);
+        let (key, header_key) = keys_of(&secret);
         Sender::with_keys(key, header_key, Some(secret), first)
     }
 
@@ -153,7 +152,7 @@ impl Sender {
             skipped: Skipped::new(),
             phase: false,
             sealed: 0,
-            limit: MAX_SEALED,
+            limit: CONFIDENTIALITY_LIMIT,
             first,
             first_of_phase: first,
             is_acknowledged: true,
@@ -419,7 +418,7 @@ impl Sender {
             return Err(PacketError::NoSecret);
         };
         let next = secret.next_quic();
-        let key = PacketKey::of_secret(&next);
+        let key = PacketKey::from_secret(&next);
         self.update(key, Some(next));
         Ok(())
     }
@@ -477,8 +476,7 @@ impl Sender {
         if self.secret.is_none() {
             return Err(PacketError::NoSecret);
         }
-        let key = PacketKey::of_secret(&secret);
-        let header_key = HeaderKey::of_secret(&secret);
+        let (key, header_key) = keys_of(&secret);
         self.install(key, header_key, Some(secret));
         Ok(())
     }

@@ -13,10 +13,10 @@ const CLIENT_ID: [u8; 8] = [0x83, 0x94, 0xc8, 0xf0, 0x3e, 0x51, 0x57, 0x08];
 
 /// Asserts that the client's keys are those of a row.
 fn has_keys(rt: &impl Abort, id: &[u8], row: &Packet) -> Result<(), DerivationError> {
-    let (key, iv, header_key) = client_initial_keys(id)?;
-    same(rt, key.as_slice(), &row.key, "key");
-    same(rt, &iv, &row.iv, "iv");
-    same(rt, header_key.as_slice(), &row.header_key, "hp");
+    let keys = client_initial_keys(id)?;
+    same(rt, keys.key.as_slice(), &row.key, "key");
+    same(rt, &keys.iv, &row.iv, "iv");
+    same(rt, keys.header_key.as_slice(), &row.header_key, "hp");
     Ok(())
 }
 

@@ -84,8 +84,8 @@ impl RecordKey {
         ensures { result ≡ secret_key secret.now }
     {
         let algorithm = algorithm_of(secret.suite());
-        let key = secret.record_key();
-        let Ok(key) = RecordKey::new(algorithm, key.as_slice(), secret.record_iv()) else {
+        let keys = secret.record_keys();
+        let Ok(key) = RecordKey::new(algorithm, keys.key.as_slice(), keys.iv) else {
             unreachable!();
         };
         key
