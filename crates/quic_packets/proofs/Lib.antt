@@ -2,6 +2,7 @@ pub mod DatagramLemmas
 pub mod FieldLemmas
 pub mod HeaderLemmas
 pub mod LaterBytes
+pub mod MaskedPacket
 pub mod NumberBytes
 pub mod NumberLemmas
 pub mod NumberedLemmas

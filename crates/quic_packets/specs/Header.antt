@@ -28,6 +28,15 @@ pub record Masked (mask : List ℕ) (number_at n : ℕ) (old new : List ℕ) : T
   pub others : (i : ℕ) → 0 < i → (i < number_at) ⊎ (number_at + n ≤ i) → slice_index new i ≡ slice_index old i
   pub len : length new ≡ length old
 
+-- Masking a header by its parts (section 5.4.1): the first byte, and the bytes of the packet number, of which the first n are
+-- masked.
+pub record MaskedParts (mask : List ℕ) (n was : ℕ) (number_was : List ℕ) (now : ℕ) (number_now : List ℕ) : Type 0 where
+  pub first : now ≡ bit_xor was (first_mask was (slice_index mask 0))
+  pub number : (i : ℕ) → i < n → i < length number_was
+      → slice_index number_now i ≡ bit_xor (slice_index number_was i) (slice_index mask (i + 1))
+  pub others : (i : ℕ) → n ≤ i → slice_index number_now i ≡ slice_index number_was i
+  pub len : length number_now ≡ length number_was
+
 -- protecting: the length of the packet number is read before the first byte is masked (section 5.4.1)
 abbrev pub Protected : HeaderKey → ℕ → List ℕ → List ℕ → Type 0
 Protected key number_at old new = Masked (mask_of key number_at old) number_at (number_len (slice_index old 0)) old new

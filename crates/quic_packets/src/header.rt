@@ -1,9 +1,9 @@
 //! Header protection (RFC 9001 section 5.4).
 
-ghost use Rattle.std.specs.Prelude.{◌≡◌, ℕ, ◌+◌, ◌<◌, ◌≤◌, ◌↔◌, ◌⊎◌, length, IsOk, IfOk, OnOk, OnErr, IsErrOf, IsOkUnless, bit_xor, slice_index};
-ghost use Rattle.aead_ciphers.specs.HeaderProtection.{key_len};
+ghost use Rattle.std.specs.Prelude.{◌≡◌, ◌≢◌, ℕ, ◌+◌, ◌<◌, ◌≤◌, ◌↔◌, ◌⊎◌, length, IsOk, IfOk, OnOk, OnErr, IsErrOf, IsOkUnless, bit_xor, slice_index, slice_range};
+ghost use Rattle.aead_ciphers.specs.HeaderProtection.{header_protection, key_len};
 ghost use Rattle.quic_packets.specs.Keys.{secret_header_key};
-ghost use Rattle.quic_packets.specs.Header.{HasMaskedBytes, HasSample, Protected, Unprotected, first_mask, mask_of, number_len};
+ghost use Rattle.quic_packets.specs.Header.{HasMaskedBytes, HasSample, MaskedParts, Protected, Unprotected, first_mask, number_len};
 
 use crate::error::PacketError;
 use crate::keys::keys_of;
@@ -57,6 +57,60 @@ impl HeaderKey {
         key
     }
 
+    /// Masks the first byte of a header and its packet number, by a sample of the sealed packet (RFC 9001 section 5.4.1).
+    ///
+    /// It masks four bits of the first byte of a long header or five of a short one, and as many bytes of the packet number as
+    /// the first byte says, or all of `number` if these are fewer.
+    ///
+    /// Fails with `NoSample` if `sample` does not have 16 bytes, and with `NumberLength` if `number` has more than 4. Both are
+    /// then unchanged.
+    pub fn encrypt_in_place(
+        &self,
+        sample: &[u8],
+        first: &mut u8,
+        number: &mut [u8],
+    ) -> Result<(), PacketError>
+        ensures accepted { IsOk result ↔ ((length sample.now ≡ 16) × (length number.old ≤ 4)) }
+        ensures no_sample { IsErrOf result PacketError.NoSample ↔ (length sample.now ≢ 16) }
+        ensures number_len { IsErrOf result PacketError.NumberLength
+            ↔ ((length sample.now ≡ 16) × (4 < length number.old)) }
+        ensures masked { OnOk result (MaskedParts (header_protection self.now.algorithm self.now.bytes sample.now)
+            (number_len first.old) first.old number.old first.new number.new) }
+        ensures kept { OnErr result ((first.new ≡ first.old) × (number.new ≡ number.old)) }
+    {
+        let mask = self.mask(sample, number)?;
+        let number_len = number_len(*first);
+        *first ^= first_mask(*first, mask[0]);
+        mask_number(number, number_len, &mask);
+        Ok(())
+    }
+
+    /// Unmasks the first byte of a header and its packet number, by a sample of the sealed packet (RFC 9001 section 5.4.1).
+    ///
+    /// It unmasks as many bytes of the packet number as the first byte then says, or all of `number` if these are fewer. Give
+    /// four bytes, of which the ones after the packet number are unchanged.
+    ///
+    /// Fails as `encrypt_in_place` does.
+    pub fn decrypt_in_place(
+        &self,
+        sample: &[u8],
+        first: &mut u8,
+        number: &mut [u8],
+    ) -> Result<(), PacketError>
+        ensures accepted { IsOk result ↔ ((length sample.now ≡ 16) × (length number.old ≤ 4)) }
+        ensures no_sample { IsErrOf result PacketError.NoSample ↔ (length sample.now ≢ 16) }
+        ensures number_len { IsErrOf result PacketError.NumberLength
+            ↔ ((length sample.now ≡ 16) × (4 < length number.old)) }
+        ensures masked { OnOk result (MaskedParts (header_protection self.now.algorithm self.now.bytes sample.now)
+            (number_len first.new) first.old number.old first.new number.new) }
+        ensures kept { OnErr result ((first.new ≡ first.old) × (number.new ≡ number.old)) }
+    {
+        let mask = self.mask(sample, number)?;
+        *first ^= first_mask(*first, mask[0]);
+        mask_number(number, number_len(*first), &mask);
+        Ok(())
+    }
+
     /// Masks the header of a sealed packet whose packet number begins at byte `number_at` (RFC 9001 section 5.4.1).
     ///
     /// It masks four bits of the first byte of a long header or five of a short one, and every byte of the packet number.
@@ -71,10 +125,14 @@ impl HeaderKey {
         ensures protected { OnOk result (Protected self.now number_at packet.old packet.new) }
         ensures kept { OnErr result (packet.new ≡ packet.old) }
     {
-        let mask = self.mask(packet, number_at)?;
-        let first = packet[0];
-        packet[0] = first ^ first_mask(first, mask[0]);
-        mask_number(packet, number_at, number_len(first), &mask);
+        let sample = sample_of(packet, number_at)?;
+        let mut first = packet[0];
+        let number = &mut packet[number_at..number_at + MAX_NUMBER_LEN];
+        match self.encrypt_in_place(&sample, &mut first, number) {
+            Ok(()) => {}
+            Err(_) => unreachable!(),
+        }
+        packet[0] = first;
         Ok(())
     }
 
@@ -95,32 +153,48 @@ impl HeaderKey {
         ensures few { IfOk result (λ n. (0 < n) × (n ≤ 4)) }
         ensures kept { OnErr result (packet.new ≡ packet.old) }
     {
-        let mask = self.mask(packet, number_at)?;
-        let first = packet[0] ^ first_mask(packet[0], mask[0]);
-        packet[0] = first;
-        let number_len = number_len(first);
-        mask_number(packet, number_at, number_len, &mask);
-        Ok(number_len)
-    }
-
-    // The mask for the packet's sample.
-    fn mask(&self, packet: &[u8], number_at: usize) -> Result<[u8; 5], PacketError>
-        ensures accepted { IsOk result ↔ HasSample number_at (length packet.now) }
-        ensures first_byte { IsErrOf result PacketError.NumberAtFirstByte ↔ (number_at ≡ 0) }
-        ensures no_sample { IsErrOf result PacketError.NoSample
-            ↔ ((0 < number_at) × (length packet.now < number_at + 20)) }
-        ensures mask { IfOk result (λ mask. mask ≡ mask_of self.now number_at packet.now) }
-    {
-        check_sample(packet, number_at)?;
-        let sample_at = number_at + MAX_NUMBER_LEN;
-        match self
-            .key
-            .new_mask(&packet[sample_at..sample_at + SAMPLE_LEN])
-        {
-            Ok(mask) => Ok(mask),
+        let sample = sample_of(packet, number_at)?;
+        let mut first = packet[0];
+        let number = &mut packet[number_at..number_at + MAX_NUMBER_LEN];
+        match self.decrypt_in_place(&sample, &mut first, number) {
+            Ok(()) => {}
             Err(_) => unreachable!(),
         }
+        packet[0] = first;
+        Ok(number_len(first))
     }
+
+    // The mask for a sample, with a packet number that is not too long.
+    fn mask(&self, sample: &[u8], number: &[u8]) -> Result<[u8; 5], PacketError>
+        ensures accepted { IsOk result ↔ ((length sample.now ≡ 16) × (length number.now ≤ 4)) }
+        ensures no_sample { IsErrOf result PacketError.NoSample ↔ (length sample.now ≢ 16) }
+        ensures number_len { IsErrOf result PacketError.NumberLength
+            ↔ ((length sample.now ≡ 16) × (4 < length number.now)) }
+        ensures mask { IfOk result (λ mask. mask
+            ≡ header_protection self.now.algorithm self.now.bytes sample.now) }
+    {
+        let Ok(mask) = self.key.new_mask(sample) else {
+            return Err(PacketError::NoSample);
+        };
+        if number.len() > MAX_NUMBER_LEN {
+            return Err(PacketError::NumberLength);
+        }
+        Ok(mask)
+    }
+}
+
+// The sample of a packet, which has to have a first byte before its number, and to be long enough.
+fn sample_of(packet: &[u8], number_at: usize) -> Result<[u8; SAMPLE_LEN], PacketError>
+    ensures accepted { IsOk result ↔ HasSample number_at (length packet.now) }
+    ensures first_byte { IsErrOf result PacketError.NumberAtFirstByte ↔ (number_at ≡ 0) }
+    ensures no_sample { IsErrOf result PacketError.NoSample
+        ↔ ((0 < number_at) × (length packet.now < number_at + 20)) }
+    ensures sample { IfOk result (λ sample. sample ≡ slice_range packet.now (number_at + 4) (number_at + 20)) }
+{
+    check_sample(packet, number_at)?;
+    let mut sample = [0; SAMPLE_LEN];
+    sample.copy_from_slice(&packet[number_at + MAX_NUMBER_LEN..number_at + SAMPLE_END]);
+    Ok(sample)
 }
 
 // Checks that the packet has a first byte before its number, and is long enough for a sample.
@@ -192,20 +266,20 @@ fn first_mask(first: u8, mask: u8) -> u8
     }
 }
 
-// XORs the packet number with the mask's bytes after the first.
+// XORs the first `number_len` bytes of `number` with the mask's bytes after the first.
 //
-// It reads and writes four bytes, whatever the length, because the length in a received header is not authenticated before the
+// It reads and writes every byte, whatever the length, because the length in a received header is not authenticated before the
 // packet is opened (RFC 9001 section 9.5).
-fn mask_number(packet: &mut [u8], number_at: usize, number_len: usize, mask: &[u8; 5])
-    requires within { number_at + 4 ≤ length packet.old }
+fn mask_number(number: &mut [u8], number_len: usize, mask: &[u8; 5])
+    requires room { length number.old ≤ 4 }
     requires few { number_len ≤ 4 }
-    ensures number { (i : ℕ) → i < number_len → slice_index packet.new (number_at + i)
-        ≡ bit_xor (slice_index packet.old (number_at + i)) (slice_index mask.now (i + 1)) }
-    ensures others { (i : ℕ) → (i < number_at) ⊎ (number_at + number_len ≤ i)
-        → slice_index packet.new i ≡ slice_index packet.old i }
+    ensures number { (i : ℕ) → i < number_len → i < length number.old
+        → slice_index number.new i ≡ bit_xor (slice_index number.old i) (slice_index mask.now (i + 1)) }
+    ensures others { (i : ℕ) → number_len ≤ i → slice_index number.new i ≡ slice_index number.old i }
+    ensures len { length number.new ≡ length number.old }
 {
-    for i in 0..MAX_NUMBER_LEN {
-        packet[number_at + i] ^= kept_below(mask[i + 1], i, number_len);
+    for i in 0..number.len() {
+        number[i] ^= kept_below(mask[i + 1], i, number_len);
     }
 }
 

@@ -219,3 +219,68 @@ fn chacha20_header(rt: HostRuntime) -> Result<(), Fail> {
     same(&rt, &packet, &A_5_SEALED, "unprotected");
     Ok(())
 }
+
+/// Asserts that the parts of a header are masked as those of the protected packet are, and unmasked again.
+fn masks_parts(rt: &impl Abort, row: &Packet) -> Result<(), Fail> {
+    let key = HeaderKey::new(&quic::AES_128, &row.header_key)?;
+    let from_number = row.protected.get(row.number_at..).ok_or("a number")?;
+    let sample = from_number.get(4..20).ok_or("a sample")?;
+    let mut header = row.header.clone()?;
+    let (front, number) = header
+        .split_at_mut_checked(row.number_at)
+        .ok_or("a number")?;
+    let first = front.first_mut().ok_or("a first byte")?;
+    key.encrypt_in_place(sample, first, number)?;
+    let protected = row.protected.get(..row.header.len()).ok_or("a header")?;
+    same(rt, &header, protected, row.name);
+    let (front, number) = header
+        .split_at_mut_checked(row.number_at)
+        .ok_or("a number")?;
+    let first = front.first_mut().ok_or("a first byte")?;
+    key.decrypt_in_place(sample, first, number)?;
+    same(rt, &header, &row.header, row.name);
+    Ok(())
+}
+
+// The headers of RFC 9001 appendix A, by their parts.
+#[test]
+fn parts_of_headers(rt: HostRuntime) -> Result<(), Fail> {
+    for line in packets() {
+        masks_parts(&rt, &Packet::parse(rt.alloc(), line)?)?;
+    }
+    Ok(())
+}
+
+/// Asserts that both calls on the parts of a header fail with this error, and leave the parts.
+fn refuses_parts(
+    rt: &impl Abort,
+    sample: &[u8],
+    number: &[u8; 5],
+    len: usize,
+    error: PacketError,
+) -> Result<(), Fail> {
+    let key = HeaderKey::new(&quic::AES_128, &[3; 16])?;
+    let (mut first, mut left) = (0xc3, *number);
+    let part = &mut left[..len.min(5)];
+    holds(
+        rt,
+        key.encrypt_in_place(sample, &mut first, part) == Err(error),
+        "encrypt_in_place",
+    );
+    holds(
+        rt,
+        key.decrypt_in_place(sample, &mut first, part) == Err(error),
+        "decrypt_in_place",
+    );
+    equal(rt, &first, &0xc3);
+    same(rt, &left, number, "the number");
+    Ok(())
+}
+
+// Samples of 15 and of 17 bytes, and a packet number of 5.
+#[test]
+fn refused_parts(rt: HostRuntime) -> Result<(), Fail> {
+    refuses_parts(&rt, &[7; 15], &[9; 5], 4, PacketError::NoSample)?;
+    refuses_parts(&rt, &[7; 17], &[9; 5], 5, PacketError::NoSample)?;
+    refuses_parts(&rt, &[7; 16], &[9; 5], 5, PacketError::NumberLength)
+}
