@@ -167,4 +167,6 @@ module _ (fixed_bit : FixedBit) (start : ℕ) (d : List ℕ) (p : Packet) (read 
       (λ none is. absurd cc)
 
   pub of_parts : (parts : Result Packet DatagramError) → Ok p ≡ parts → read ≡ with_fixed_bit fixed_bit (slice_index d start) parts
-  of_parts parts same = is ∙ ap (λ s. with_fixed_bit fixed_bit (slice_index d s) (Ok p)) placed.begins ∙ ap (with_fixed_bit fixed_bit (slice_index d start)) same
+  of_parts parts same =
+      is ∙ ap (λ s. with_fixed_bit fixed_bit (slice_index d s) (Ok p)) placed.begins
+      ∙ ap (with_fixed_bit fixed_bit (slice_index d start)) same

@@ -52,7 +52,7 @@ dropped_as next t o error none =
     the_error : (e f : PacketError) → Dropped e ≡ Dropped f → e ≡ f
     the_error e f is = cc
 
--- a test of the limit that answers no
+-- a test of the limit that returns false
 pub is_below : (test : Bool) (count limit : ℕ) → IsTrue test ↔ (limit ≤ count) → test ≡ false → count < limit
 is_below test count limit is unmet =
     let below : (limit ≤ count) → ⊥ = λ most. (let yes : test ≡ true = is.1 most in absurd cc) in

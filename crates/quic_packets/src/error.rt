@@ -3,7 +3,8 @@
 ghost use Rattle.std.specs.Prelude.{◌≡◌};
 ghost use Rattle.quic_packets.specs.Errors.{error_code};
 
-use thiserror::Error;
+use std::error::Error;
+use std::fmt;
 
 const PROTOCOL_VIOLATION: u64 = 0x0a;
 
@@ -15,98 +16,69 @@ const AEAD_LIMIT_REACHED: u64 = 0x0f;
 ///
 /// A call that fails leaves the packet and the key unchanged, except with `ReservedBits`, `Duplicate`, `KeyUpdate` and
 /// `NoFrames`: these come after the packet was opened.
-#[derive(Clone, Copy, PartialEq, Eq, Debug, Drop, Error)]
+#[derive(Clone, Copy, PartialEq, Eq, Debug, Drop)]
 pub enum PacketError {
     /// The key is not as long as the algorithm's keys.
-    #[error("the key does not have the length of the algorithm's keys")]
     KeyLength,
     /// The keys derive from a secret, so the caller's are not taken.
-    #[error("the keys derive from a secret")]
     KeysDerived,
     /// There is no secret from which keys derive: the sender or the receiver is made of keys.
-    #[error("there is no secret from which keys derive")]
     NoSecret,
     /// The connection does not have the keys of the level.
-    #[error("the keys of the level are not there")]
     NoKeys,
     /// The packet number is said to begin at byte 0, which is the first byte of every header.
-    #[error("the packet number cannot begin at the header's first byte")]
     NumberAtFirstByte,
     /// The packet ends after the datagram.
-    #[error("the datagram ends before the packet")]
     PastEnd,
     /// The packet has no packet number, as its type or its version says.
-    #[error("the packet has no packet number")]
     NoNumber,
     /// The room for the packet number has fewer bytes than `Sender::next_number_len` returns, or more than 4 (RFC 9000 section
     /// 17.1).
-    #[error("the packet number does not fit the room for it")]
     NumberLength,
     /// The next packet number is already above this one.
-    #[error("the packet number is below the next one")]
     NumberUsed,
     /// The packet number is too far above the largest acknowledged one for 4 bytes (RFC 9000 section 17.1).
-    #[error("4 bytes cannot encode the packet number after the largest acknowledged one")]
     NumberTooFar,
     /// The packet ends before the 16-byte sample, which begins 4 bytes after the start of the packet number (RFC 9001 section
     /// 5.4.2).
-    #[error("the packet is too short for a sample of header protection")]
     NoSample,
     /// The packet has fewer bytes than its header and a tag.
-    #[error("the packet is shorter than its header and a tag")]
     TooShort,
     /// The payload has more than 2^36 - 32 bytes, or the header has 2^61 bytes or more (SP 800-38D section 5.2.1.1).
-    #[error("the packet is longer than AES-GCM allows")]
     TooLong,
     /// The packet is of a type without protection: Version Negotiation or Retry (RFC 9000 sections 17.2.1 and 17.2.5).
-    #[error("packets of this type have no protection")]
     NoProtection,
     /// The fixed bit is 0 and must be 1 (RFC 9000 sections 17.2 and 17.3.1).
-    #[error("the fixed bit of the packet is 0")]
     NoFixedBit,
     /// The packet to be sent has no payload, where a payload has at least one frame (RFC 9000 section 12.4).
-    #[error("the packet has no payload")]
     EmptyPayload,
     /// Packet numbers end at 2^62 (RFC 9000 section 12.3).
-    #[error("the packet number is not below 2^62")]
     NumbersEnded,
     /// The key has sealed as many packets as its limit allows (RFC 9001 section 6.6).
-    #[error("the key has reached its limit of packets")]
     KeyUsedUp,
     /// The output does not have the length of the result.
-    #[error("the output does not have the length of the result")]
     OutputLength,
     /// The peer has acknowledged a packet number that was not sent (RFC 9000 section 13.1): one that is not below the next number,
     /// or that was skipped and is in a range that is kept (see `Sender::skip_to`).
-    #[error("a packet that was not sent was acknowledged")]
     NeverSent,
     /// The peer has acknowledged a packet of the current keys in a packet of older keys (RFC 9001 section 6.2).
-    #[error("a packet of the current keys was acknowledged under older keys")]
     UpdateUnanswered,
     /// The handshake is not confirmed, so the keys cannot be updated yet (RFC 9001 section 6.1).
-    #[error("the handshake is not confirmed")]
     HandshakeUnconfirmed,
     /// No packet of this key phase is acknowledged, so the keys cannot be updated again yet (RFC 9001 section 6.1).
-    #[error("no packet of this key phase was acknowledged")]
     PhaseUnacknowledged,
     /// The tag does not match the header, the payload and the number under this key.
-    #[error("the packet is not authentic")]
     Refused,
     /// The limit on packets that fail authentication is reached (RFC 9001 section 6.6).
-    #[error("too many packets have failed authentication")]
     TooManyFailures,
     /// The packet is authentic, but its reserved bits are set (RFC 9000 sections 17.2 and 17.3.1).
-    #[error("the packet's reserved bits are set")]
     ReservedBits,
     /// The packet is authentic, but its number was already received, or is too low for the window to tell (RFC 9000 section
     /// 12.3).
-    #[error("the packet number was already received, or is below the window")]
     Duplicate,
     /// The packet is authentic, but its key phase is out of turn (RFC 9001 section 6.4).
-    #[error("the packet's key phase is out of order")]
     KeyUpdate,
     /// The packet is authentic, but its payload is empty, so it has no frames (RFC 9000 section 12.4).
-    #[error("the packet has no frames")]
     NoFrames,
 }
 
@@ -130,4 +102,55 @@ impl PacketError {
             _ => None,
         }
     }
+
+    // What the error displays.
+    const fn text(&self) -> &'static str {
+        match self {
+            PacketError::KeyLength => "the key does not have the length of the algorithm's keys",
+            PacketError::KeysDerived => "the keys derive from a secret",
+            PacketError::NoSecret => "there is no secret from which keys derive",
+            PacketError::NoKeys => "the keys of the level are not there",
+            PacketError::NumberAtFirstByte => {
+                "the packet number cannot begin at the header's first byte"
+            }
+            PacketError::PastEnd => "the datagram ends before the packet",
+            PacketError::NoNumber => "the packet has no packet number",
+            PacketError::NumberLength => "the packet number does not fit the room for it",
+            PacketError::NumberUsed => "the packet number is below the next one",
+            PacketError::NumberTooFar => {
+                "4 bytes cannot encode the packet number after the largest acknowledged one"
+            }
+            PacketError::NoSample => "the packet is too short for a sample of header protection",
+            PacketError::TooShort => "the packet is shorter than its header and a tag",
+            PacketError::TooLong => "the packet is longer than AES-GCM allows",
+            PacketError::NoProtection => "packets of this type have no protection",
+            PacketError::NoFixedBit => "the fixed bit of the packet is 0",
+            PacketError::EmptyPayload => "the packet has no payload",
+            PacketError::NumbersEnded => "the packet number is not below 2^62",
+            PacketError::KeyUsedUp => "the key has reached its limit of packets",
+            PacketError::OutputLength => "the output does not have the length of the result",
+            PacketError::NeverSent => "a packet that was not sent was acknowledged",
+            PacketError::UpdateUnanswered => {
+                "a packet of the current keys was acknowledged under older keys"
+            }
+            PacketError::HandshakeUnconfirmed => "the handshake is not confirmed",
+            PacketError::PhaseUnacknowledged => "no packet of this key phase was acknowledged",
+            PacketError::Refused => "the packet is not authentic",
+            PacketError::TooManyFailures => "too many packets have failed authentication",
+            PacketError::ReservedBits => "the packet's reserved bits are set",
+            PacketError::Duplicate => {
+                "the packet number was already received, or is below the window"
+            }
+            PacketError::KeyUpdate => "the packet's key phase is out of order",
+            PacketError::NoFrames => "the packet has no frames",
+        }
+    }
 }
+
+impl fmt::Display for PacketError {
+    fn fmt<W: fmt::Write>(&self, f: &mut fmt::Formatter<W>) -> fmt::Result {
+        f.write_str(self.text())
+    }
+}
+
+impl Error for PacketError {}

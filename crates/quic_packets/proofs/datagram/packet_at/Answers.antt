@@ -10,25 +10,62 @@ with_fixed_bit-requires c =
     omega (arith, placed.some, placed.within)
 
 pub returns-clause-packet : goal.returns-clause-packet
-returns-clause-packet c = lemmas.of_parts c.args.fixed_bit c.args.start c.args.datagram.now c.in_ok-packet.packet c.with_fixed_bit.result c.in_ok-packet.ensures.placed c.with_fixed_bit.ensures _ c.in_ok-packet.ensures.parts
+returns-clause-packet c =
+    let a = c.args in
+    let it = c.in_ok-packet in
+    let read = c.with_fixed_bit in
+    lemmas.of_parts a.fixed_bit a.start a.datagram.now it.packet read.result it.ensures.placed read.ensures _ it.ensures.parts
 
 pub returns-clause-fixed_bit : goal.returns-clause-fixed_bit
-returns-clause-fixed_bit c = lemmas.checked c.args.fixed_bit c.args.start c.args.datagram.now c.in_ok-packet.packet c.with_fixed_bit.result c.in_ok-packet.ensures.placed c.with_fixed_bit.ensures
+returns-clause-fixed_bit c =
+    let a = c.args in
+    let it = c.in_ok-packet in
+    let read = c.with_fixed_bit in
+    lemmas.checked a.fixed_bit a.start a.datagram.now it.packet read.result it.ensures.placed read.ensures
 
 pub returns-clause-refused : goal.returns-clause-refused
-returns-clause-refused c = lemmas.end_within c.args.fixed_bit c.args.start c.args.datagram.now c.in_ok-packet.packet c.with_fixed_bit.result c.in_ok-packet.ensures.placed c.with_fixed_bit.ensures
+returns-clause-refused c =
+    let a = c.args in
+    let it = c.in_ok-packet in
+    let read = c.with_fixed_bit in
+    lemmas.end_within a.fixed_bit a.start a.datagram.now it.packet read.result it.ensures.placed read.ensures
 
 pub returns-clause-start : goal.returns-clause-start
-returns-clause-start c = lemmas.passed c.args.fixed_bit c.args.start c.args.datagram.now c.in_ok-packet.packet c.with_fixed_bit.result c.in_ok-packet.ensures.placed c.with_fixed_bit.ensures (λ p. p.start ≡ c.args.start) c.in_ok-packet.ensures.placed.begins
+returns-clause-start c =
+    let a = c.args in
+    let it = c.in_ok-packet in
+    let read = c.with_fixed_bit in
+    lemmas.passed a.fixed_bit a.start a.datagram.now it.packet read.result it.ensures.placed read.ensures
+    (λ p. p.start ≡ a.start) it.ensures.placed.begins
 
 pub returns-clause-some : goal.returns-clause-some
-returns-clause-some c = lemmas.passed c.args.fixed_bit c.args.start c.args.datagram.now c.in_ok-packet.packet c.with_fixed_bit.result c.in_ok-packet.ensures.placed c.with_fixed_bit.ensures (λ p. p.start < p.end) c.in_ok-packet.ensures.placed.some
+returns-clause-some c =
+    let a = c.args in
+    let it = c.in_ok-packet in
+    let read = c.with_fixed_bit in
+    lemmas.passed a.fixed_bit a.start a.datagram.now it.packet read.result it.ensures.placed read.ensures
+    (λ p. p.start < p.end) it.ensures.placed.some
 
 pub returns-clause-within : goal.returns-clause-within
-returns-clause-within c = lemmas.passed c.args.fixed_bit c.args.start c.args.datagram.now c.in_ok-packet.packet c.with_fixed_bit.result c.in_ok-packet.ensures.placed c.with_fixed_bit.ensures (λ p. p.end ≤ length c.args.datagram.now) c.in_ok-packet.ensures.placed.within
+returns-clause-within c =
+    let a = c.args in
+    let it = c.in_ok-packet in
+    let read = c.with_fixed_bit in
+    lemmas.passed a.fixed_bit a.start a.datagram.now it.packet read.result it.ensures.placed read.ensures
+    (λ p. p.end ≤ length a.datagram.now) it.ensures.placed.within
 
 pub returns-clause-number : goal.returns-clause-number
-returns-clause-number c = lemmas.passed c.args.fixed_bit c.args.start c.args.datagram.now c.in_ok-packet.packet c.with_fixed_bit.result c.in_ok-packet.ensures.placed c.with_fixed_bit.ensures (λ p. IfSome p.number_at (λ at. (p.start < at) × (at ≤ p.end))) c.in_ok-packet.ensures.placed.number
+returns-clause-number c =
+    let a = c.args in
+    let it = c.in_ok-packet in
+    let read = c.with_fixed_bit in
+    lemmas.passed a.fixed_bit a.start a.datagram.now it.packet read.result it.ensures.placed read.ensures
+    (λ p. IfSome p.number_at (λ at. (p.start < at) × (at ≤ p.end))) it.ensures.placed.number
 
 pub returns-clause-ranges : goal.returns-clause-ranges
-returns-clause-ranges c = lemmas.passed c.args.fixed_bit c.args.start c.args.datagram.now c.in_ok-packet.packet c.with_fixed_bit.result c.in_ok-packet.ensures.placed c.with_fixed_bit.ensures (λ p. IsIn p p.destination_id × IsIn p p.source_id × IsIn p p.token) c.in_ok-packet.ensures.placed.ranges
+returns-clause-ranges c =
+    let a = c.args in
+    let it = c.in_ok-packet in
+    let read = c.with_fixed_bit in
+    lemmas.passed a.fixed_bit a.start a.datagram.now it.packet read.result it.ensures.placed read.ensures
+    (λ p. IsIn p p.destination_id × IsIn p p.source_id × IsIn p p.token) it.ensures.placed.ranges
