@@ -5,7 +5,7 @@ use Rattle.std.proofs.lemmas.List.{take_rest}
 use Rattle.std.specs.Prelude.{is_ok}
 use Rattle.std.specs.List.{concat}
 use Rattle.records.specs.Connection.{Fails, FailsToBring, LeavesRecord, Receiving, Rejects, Step}
-use Rattle.records.specs.Handling.{Handled, Handles, HandlesAll, RejectsData, RejectsMessages, Takes, handle, is_key_update, one_handled}
+use Rattle.records.specs.Handling.{Handled, Handles, HandlesAll, RejectsData, RejectsMessages, Takes, after_message, is_key_update, one_handled}
 use Rattle.records.specs.Keys.{ReaderState}
 use Rattle.records.specs.Steps.{Reads}
 use Rattle.records.specs.Stream.{BeginsProtected, RefusesProtected, Taken}
@@ -61,10 +61,10 @@ module _ (stage : Stage) (bound : ℕ) (part content left rest message later kep
     taken = taken;
   }
 
-  pub handles_one : kept ≡ [] → (now : Handled) → now ≡ handle was message → Handles stage bound part content first kept later now
+  pub handles_one : kept ≡ [] → (now : Handled) → now ≡ after_message was message → Handles stage bound part content first kept later now
   handles_one none now same =
       subst (λ h. Handles stage bound part content first kept later h) (sym same)
-      (subst (λ k. Handles stage bound part content first k later (handle was message)) (sym none)
+      (subst (λ k. Handles stage bound part content first k later (after_message was message)) (sym none)
       (one_handled left rest message later was handles takes))
 
   pub lacks_memory : kept ≡ [] → is_key_update message ≡ false

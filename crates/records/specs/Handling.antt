@@ -33,8 +33,8 @@ is_key_update message = slice_index message 0 == 24
 
 -- a KeyUpdate, whose byte 1 asks for one in turn (section 4.6.3), is followed by the next traffic secret (section 7.2), and another
 -- message is handed over
-abbrev pub handle : Handled → List ℕ → Handled
-handle was message = cond (is_key_update message)
+abbrev pub after_message : Handled → List ℕ → Handled
+after_message was message = cond (is_key_update message)
     (record {
       reader = next_reader was.reader;
       owes_update = was.owes_update || slice_index message 4 == 1;
@@ -54,7 +54,7 @@ pub record Takes (stage : Stage) (bound : ℕ) (bytes message later : List ℕ) 
 pub data Handles (stage : Stage) (bound : ℕ) (part content : List ℕ) (first : Handled) : (left rest : List ℕ) → Handled → Type 0 where
   none_handled : Handles stage bound part content first part content first
   one_handled : (left rest message later : List ℕ) (was : Handled) → Handles stage bound part content first left rest was
-      → Takes stage bound (left ++ rest) message later → Handles stage bound part content first [] later (handle was message)
+      → Takes stage bound (left ++ rest) message later → Handles stage bound part content first [] later (after_message was message)
 
 -- all messages of a record are handled, and this part of the next is left
 pub record HandlesAll (stage : Stage) (bound : ℕ) (part content : List ℕ) (first : Handled) (kept : List ℕ) (now : Handled) : Type 0 where

@@ -2,7 +2,7 @@
 
 ghost use Rattle.std.specs.Prelude.{◌≡◌, ◌≢◌, ◌||◌, ◌==◌, ◌≤◌, ◌<◌, List, ℕ, [], length, take, drop, map, slice_range, slice_index, false, IsFalse, IfOk, IfErr, IfSome, IsErrOf, OnOk, OnErr, None, cond, vec_len, vec_capacity};
 ghost use Rattle.records.specs.Connection.{Brings, Fails, FailsToBring, LeavesRecord, Rejects, Step, handling, receiving};
-ghost use Rattle.records.specs.Handling.{HandlesAll, RejectsMessages, handle as handle_lem, is_key_update};
+ghost use Rattle.records.specs.Handling.{HandlesAll, RejectsMessages, after_message, is_key_update};
 ghost use Rattle.records.specs.Keys.{IsOfSecret, next_reader};
 ghost use Rattle.records.specs.Stream.{BeginsProtected, NeedsMore, RefusesProtected, Taken};
 
@@ -80,7 +80,7 @@ fn handle(
     requires open { IsFalse incoming.old.reader.is_closed }
     requires len { (0 < length message.now) × (slice_index message.now 0 ≡ 24 → 4 < length message.now) }
     ensures handled { OnOk result (handling incoming.new (map (λ v. v.items) handed.new.items)
-        ≡ handle_lem (handling incoming.old (map (λ v. v.items) handed.old.items)) message.now) }
+        ≡ after_message (handling incoming.old (map (λ v. v.items) handed.old.items)) message.now) }
     ensures memory { IfErr result (λ error. (error ≡ ReceiveError.OutOfMemory) × IsFalse (is_key_update message.now)) }
     ensures kept { OnErr result ((incoming.new ≡ incoming.old) × (handed.new.items ≡ handed.old.items)) }
     ensures is_ended { incoming.new.is_ended ≡ incoming.old.is_ended }
