@@ -4,7 +4,7 @@ use crate::checks::{holds, same};
 use aead_ciphers::aead::AES_128_GCM;
 use hex::FromHex;
 use records::ContentType::{ApplicationData, Handshake};
-use records::{EarlyData, Reader, RecordError, Writer};
+use records::{ContentType, EarlyData, Reader, RecordError, Writer};
 use std::alloc::Global;
 use std::process::Abort;
 use std::test::Fail;
@@ -78,6 +78,16 @@ fn early_record(alloc: Global, client: &mut Writer, len: usize) -> Result<Vec<u8
     Ok(out)
 }
 
+/// Gathers a record, which is the whole of a buffer, past early data.
+fn gather(
+    reader: &mut Reader,
+    early_data: &mut EarlyData,
+    record: &mut [u8],
+) -> Result<Option<(ContentType, usize)>, RecordError> {
+    let end = record.len();
+    reader.gather_past_early_data(early_data, record, 0, 0, end)
+}
+
 /// Asserts that the second flight is read after early data, which is then over.
 fn goes_on(
     rt: &impl Abort,
@@ -86,16 +96,15 @@ fn goes_on(
     early: &mut [u8],
 ) -> Result<(), Fail> {
     let mut flight = <[u8; 27]>::from_hex(FLIGHT)?;
-    let read = reader.gather_past_early_data(early_data, &mut flight, 0, 0, 27);
+    let read = gather(reader, early_data, &mut flight);
     holds(rt, read == Ok(Some((Handshake, 5))), "the second flight");
     holds(rt, early_data.is_over(), "the early data is over");
-    let end = early.len();
-    let error = if end.saturating_sub(21) > reader.size_limit() {
+    let error = if early.len().saturating_sub(21) > reader.size_limit() {
         RecordError::InnerPlaintextTooLong
     } else {
         RecordError::Refused
     };
-    let refused = reader.gather_past_early_data(early_data, early, 0, 0, end);
+    let refused = gather(reader, early_data, early);
     holds(rt, refused == Err(error), "no more of it");
     holds(rt, reader.is_closed(), "closed");
     Ok(())
@@ -113,8 +122,7 @@ fn is_passed_over(rt: &impl Abort, alloc: Global, case: &Case) -> Result<(), Fai
     for &len in case.sent {
         record = early_record(alloc, &mut client, len)?;
         let before = record.clone()?;
-        let end = record.len();
-        let read = reader.gather_past_early_data(&mut early_data, &mut record, 0, 0, end);
+        let read = gather(&mut reader, &mut early_data, &mut record);
         same(rt, &record, &before, "the record stays");
         last = without_key.skip(&record);
         holds(rt, read == last.map(|()| None), "the same without a key");
@@ -162,8 +170,7 @@ fn nothing_else_is_passed_over(rt: HostRuntime) -> Result<(), Fail> {
         let mut early_data = EarlyData::rejected(1000);
         holds(&rt, early_data.skip(&bytes) == Err(error), "without a key");
         let mut reader = Reader::new(&AES_128_GCM, &KEY, IV)?;
-        let end = bytes.len();
-        let read = reader.gather_past_early_data(&mut early_data, &mut bytes, 0, 0, end);
+        let read = gather(&mut reader, &mut early_data, &mut bytes);
         holds(&rt, read == Err(error), "with a key");
         holds(&rt, reader.is_closed() == error.alert().is_some(), "closed");
         holds(&rt, early_data.remaining() == 1000, "nothing counted");

@@ -349,11 +349,16 @@ fn secret_of(alloc: Global, direction: &Direction) -> Result<Secret, Fail> {
     Ok(Secret::new(suite, &secret)?)
 }
 
+/// Returns what follows the handshake in the stream of a direction.
+fn after_handshake(alloc: Global, stream: &[u8], direction: &Direction) -> Result<Vec<u8>, Fail> {
+    let from = end_of_handshake(stream, direction)?;
+    Ok(stream.get(from..).unwrap_or(&[]).to_vec(alloc)?)
+}
+
 /// Returns the records of a direction after its handshake.
 fn records_after_handshake(alloc: Global, direction: &Direction) -> Result<Vec<u8>, Fail> {
     let stream = bytes_of(alloc, direction.stream)?;
-    let from = end_of_handshake(&stream, direction)?;
-    Ok(stream.get(from..).unwrap_or(&[]).to_vec(alloc)?)
+    after_handshake(alloc, &stream, direction)
 }
 
 /// Asserts that records are received up to close_notify, the last of them, and returns what they bring.

@@ -90,17 +90,11 @@ fn write(
     Ok(record)
 }
 
-/// Writes the record of a case, and asserts its bytes.
-fn written(
-    rt: &impl Abort,
-    alloc: Global,
-    writer: &mut Writer,
-    case: &Case,
-) -> Result<Vec<u8>, Fail> {
+/// Asserts that these bytes are the record of a case.
+fn is_record(rt: &impl Abort, alloc: Global, case: &Case, bytes: &[u8]) -> Result<(), Fail> {
     let wanted = hex::decode(alloc, case.record)?;
-    let record = write(alloc, writer, case.content_type, case.content, case.padding)?;
-    same(rt, &record, &wanted, "the record");
-    Ok(record)
+    same(rt, bytes, &wanted, "the record");
+    Ok(())
 }
 
 /// Asserts that the record of a case is read as its content.
@@ -136,7 +130,9 @@ fn there_and_back(
     let mut writer = Writer::new(algorithm, key, iv)?;
     let mut reader = Reader::new(algorithm, key, iv)?;
     for case in cases {
-        let mut record = written(rt, alloc, &mut writer, case)?;
+        let (content_type, content) = (case.content_type, case.content);
+        let mut record = write(alloc, &mut writer, content_type, content, case.padding)?;
+        is_record(rt, alloc, case, &record)?;
         let before = record.clone()?;
         is_read(rt, &mut reader, case, &mut record)?;
         begins_with(rt, &record, &inner_plaintext(alloc, case)?, &before);
@@ -169,13 +165,16 @@ fn appends(
     writer.write(ApplicationData, content, padding, bytes)
 }
 
+/// The contents and the paddings of three records.
+const THREE: [(&[u8], usize); 3] = [(b"to", 0), (b"get", 5), (b"her", 1)];
+
 /// Returns three records, followed by five bytes.
 fn three_records(alloc: Global) -> Result<Vec<u8>, Fail> {
     let mut writer = Writer::new(&AES_128_GCM, &KEY[..16], IV)?;
     let mut bytes = Vec::new(alloc);
-    appends(&mut writer, b"to", 0, &mut bytes)?;
-    appends(&mut writer, b"get", 5, &mut bytes)?;
-    appends(&mut writer, b"her", 1, &mut bytes)?;
+    for (content, padding) in THREE {
+        appends(&mut writer, content, padding, &mut bytes)?;
+    }
     bytes.extend_from_slice(b"later")?;
     Ok(bytes)
 }
@@ -201,6 +200,11 @@ fn gathered_in_one_buffer(rt: HostRuntime) -> Result<(), Fail> {
     Ok(())
 }
 
+/// Returns the error with which a reader rejects a record, or `None` if it reads it.
+fn error_of(reader: &mut Reader, record: &mut [u8]) -> Option<RecordError> {
+    reader.read(record).err()
+}
+
 /// A record with any one bit flipped is rejected and unchanged.
 #[test]
 fn every_flipped_bit_is_refused(rt: HostRuntime) -> Result<(), Fail> {
@@ -210,7 +214,8 @@ fn every_flipped_bit_is_refused(rt: HostRuntime) -> Result<(), Fail> {
         changed[bit / 8] ^= 1 << (bit % 8);
         let before = changed;
         let mut reader = Reader::new(&AES_128_GCM, &KEY[..16], IV)?;
-        holds(&rt, reader.read(&mut changed).is_err(), "a flipped bit");
+        let error = error_of(&mut reader, &mut changed);
+        holds(&rt, error.is_some(), "a flipped bit");
         same(&rt, &changed, &before, "the record stays");
     }
     Ok(())
@@ -219,7 +224,7 @@ fn every_flipped_bit_is_refused(rt: HostRuntime) -> Result<(), Fail> {
 /// Asserts that each call of a closed reader fails with `Closed`.
 fn is_closed(rt: &impl Abort, reader: &mut Reader, record: &mut [u8]) {
     let closed = RecordError::Closed;
-    holds(rt, reader.read(record).err() == Some(closed), "read");
+    holds(rt, error_of(reader, record) == Some(closed), "read");
     holds(rt, reader.update() == Err(closed), "update");
     holds(
         rt,
@@ -238,7 +243,7 @@ fn rejects(
     error: RecordError,
 ) -> Result<(), RecordError> {
     let mut reader = Reader::new(&AES_128_GCM, &KEY[..16], IV)?;
-    let found = reader.read(bytes).err();
+    let found = error_of(&mut reader, bytes);
     holds(rt, found == Some(error), "the error");
     same(rt, bytes, before, "the bytes stay");
     holds(rt, reader.is_closed() == error.alert().is_some(), "closed");
@@ -354,7 +359,7 @@ fn rejects_inner(
     error: RecordError,
 ) -> Result<(), Fail> {
     let mut reader = Reader::new(&AES_128_GCM, &KEY[..16], IV)?;
-    assert!(rt; reader.read(bytes).err() == Some(error));
+    assert!(rt; error_of(&mut reader, bytes) == Some(error));
     begins_with(rt, bytes, inner, record);
     assert!(rt; reader.is_closed());
     Ok(())
@@ -530,7 +535,7 @@ fn the_end_of_the_sequence(rt: HostRuntime) -> Result<(), Fail> {
     happen(&rt, rt.alloc(), 2, &END_OF_THE_SEQUENCE)?;
     let mut reader = Ends::new(0)?.reader;
     let mut bytes = <[u8; 27]>::from_hex(OF_AES_128[0].record)?;
-    assert!(rt; reader.read(&mut bytes).err() == Some(RecordError::KeyUsedUp));
+    assert!(rt; error_of(&mut reader, &mut bytes) == Some(RecordError::KeyUsedUp));
     Ok(())
 }
 
@@ -626,39 +631,55 @@ fn seal_last_to(key: &RecordKey, out: &mut [u8]) -> Result<usize, RecordError> {
     key.seal_to(u64::MAX, ApplicationData, b"last", 0, out)
 }
 
-/// From one buffer to another, a record has only the bytes that it needs, and a failure writes none.
+/// Opens the record of the last number to another buffer.
+fn open_last_to(
+    key: &RecordKey,
+    record: &[u8],
+    out: &mut [u8],
+) -> Result<(ContentType, usize), RecordError> {
+    key.open_to(u64::MAX, record, out)
+}
+
+/// Asserts that this record is sealed to another buffer, in only the bytes that it needs, and that a failure writes none.
+fn is_sealed_to(rt: &impl Abort, key: &RecordKey, record: &[u8]) {
+    let mut out = [9; 28];
+    let no_room = seal_last_to(key, &mut out[..25]);
+    holds(rt, no_room == Err(RecordError::NoRoom), "no room");
+    same(rt, &out, &[9; 28], "nothing written");
+    holds(rt, seal_last_to(key, &mut out) == Ok(26), "the length");
+    begins_with(rt, &out, record, &[9; 28]);
+}
+
+/// Asserts that this record is opened to another buffer, in only the bytes that it needs, and that a failure writes none.
+fn is_opened_to(rt: &impl Abort, key: &RecordKey, record: &[u8]) {
+    let mut out = [9; 8];
+    let no_room = open_last_to(key, record, &mut out[..4]);
+    holds(rt, no_room == Err(RecordError::NoRoom), "no room to open");
+    same(rt, &out, &[9; 8], "nothing opened");
+    let opened = open_last_to(key, record, &mut out);
+    holds(rt, opened == Ok((ApplicationData, 4)), "the type");
+    begins_with(rt, &out, b"last\x17", &[9; 8]);
+}
+
 #[test]
 fn sealed_and_opened_to_another_buffer(rt: HostRuntime) -> Result<(), Fail> {
     let key = RecordKey::new(&AES_128_GCM, &KEY[..16], IV)?;
-    let wanted = <[u8; 26]>::from_hex(LAST)?;
-    let mut out = [9; 28];
-    let no_room = seal_last_to(&key, &mut out[..25]);
-    holds(&rt, no_room == Err(RecordError::NoRoom), "no room");
-    same(&rt, &out, &[9; 28], "nothing written");
-    holds(&rt, seal_last_to(&key, &mut out) == Ok(26), "the length");
-    begins_with(&rt, &out, &wanted, &[9; 28]);
-    let mut out = [9; 8];
-    let no_room = key.open_to(u64::MAX, &wanted, &mut out[..4]);
-    holds(&rt, no_room == Err(RecordError::NoRoom), "no room to open");
-    same(&rt, &out, &[9; 8], "nothing opened");
-    let opened = key.open_to(u64::MAX, &wanted, &mut out);
-    holds(&rt, opened == Ok((ApplicationData, 4)), "the type");
-    begins_with(&rt, &out, b"last\x17", &[9; 8]);
+    let record = <[u8; 26]>::from_hex(LAST)?;
+    is_sealed_to(&rt, &key, &record);
+    is_opened_to(&rt, &key, &record);
     Ok(())
 }
 
-/// Asserts that a record in hex is not opened to another buffer, which then begins with `inner`, and is unchanged after it.
+/// Asserts that a record is not opened to another buffer, which then begins with `inner`, and is unchanged after it.
 fn rejects_to(
     rt: &impl Abort,
-    alloc: Global,
-    text: &str,
+    record: &[u8],
     inner: &[u8],
     error: RecordError,
-) -> Result<(), Fail> {
-    let record = hex::decode(alloc, text)?;
+) -> Result<(), RecordError> {
     let key = RecordKey::new(&AES_128_GCM, &KEY[..16], IV)?;
     let mut out = [9; 32];
-    let opened = key.open_to(0, &record, &mut out);
+    let opened = key.open_to(0, record, &mut out);
     holds(rt, opened == Err(error), "the error");
     begins_with(rt, &out, inner, &[9; 32]);
     Ok(())
@@ -667,10 +688,12 @@ fn rejects_to(
 #[test]
 fn rejected_to_another_buffer(rt: HostRuntime) -> Result<(), Fail> {
     for (text, error) in &REFUSED {
-        rejects_to(&rt, rt.alloc(), text, &[], *error)?;
+        let record = hex::decode(rt.alloc(), text)?;
+        rejects_to(&rt, &record, &[], *error)?;
     }
     for (text, inner, error) in &AUTHENTIC {
-        rejects_to(&rt, rt.alloc(), text, inner, *error)?;
+        let record = hex::decode(rt.alloc(), text)?;
+        rejects_to(&rt, &record, inner, *error)?;
     }
     Ok(())
 }
@@ -703,7 +726,7 @@ fn starting_at(rt: HostRuntime) -> Result<(), Fail> {
     let mut record = <[u8; 26]>::from_hex(LAST)?;
     holds(
         &rt,
-        ended.read(&mut record).err() == Some(RecordError::KeyUsedUp),
+        error_of(&mut ended, &mut record) == Some(RecordError::KeyUsedUp),
         "no record after them",
     );
     Ok(())
