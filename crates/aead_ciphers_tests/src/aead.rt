@@ -1,7 +1,7 @@
 //! Tests of `aead`: keys to which the caller passes a nonce.
 
 use crate::cases::{aad, key, nonce, opened_at_4, sealed};
-use crate::checks::{holds, prints, same};
+use crate::checks::{holds, lends, prints, same};
 use aead_ciphers::aead::{AES_128_GCM, AES_256_GCM, Aad, Algorithm, LessSafeKey, UnboundKey};
 use aead_ciphers::laws;
 use aead_vectors::gcm_spec::{CASE_4, CASES, Case};
@@ -44,8 +44,8 @@ fn seals(rt: &impl Abort, key: &LessSafeKey, case: &Case) -> Result<(), Fail> {
     let tag = key.seal_in_place_separate_tag(nonce(case), aad(case), &mut in_out)?;
     same(rt, &in_out, &case.ciphertext, case.name);
     same(rt, tag.as_ref(), &case.tag, case.name);
-    let plaintext = key.open_in_place_separate_tag(nonce(case), aad(case), tag, &mut in_out, 0..)?;
-    same(rt, plaintext, &case.message, case.name);
+    let opened = key.open_in_place_separate_tag(nonce(case), aad(case), tag, &mut in_out, 0..);
+    lends(rt, opened, &case.message, case.name);
     Ok(())
 }
 
@@ -72,10 +72,9 @@ fn appends(
 }
 
 /// Asserts that a case is opened with its tag after the ciphertext.
-fn opens(rt: &impl Abort, key: &LessSafeKey, case: &Case, in_out: &mut [u8]) -> Result<(), Fail> {
-    let plaintext = key.open_in_place(nonce(case), aad(case), in_out)?;
-    same(rt, plaintext, &case.message, case.name);
-    Ok(())
+fn opens(rt: &impl Abort, key: &LessSafeKey, case: &Case, in_out: &mut [u8]) {
+    let opened = key.open_in_place(nonce(case), aad(case), in_out);
+    lends(rt, opened, &case.message, case.name);
 }
 
 #[test]
@@ -91,7 +90,7 @@ fn gcm_spec_cases_appended(rt: HostRuntime) -> Result<(), Fail> {
             &mut in_out,
             &sealed(rt.alloc(), &case, &[])?,
         )?;
-        opens(&rt, &key, &case, &mut in_out)?;
+        opens(&rt, &key, &case, &mut in_out);
     }
     Ok(())
 }
@@ -99,8 +98,8 @@ fn gcm_spec_cases_appended(rt: HostRuntime) -> Result<(), Fail> {
 /// Asserts that opening a case at offset 4 yields its message.
 fn opens_at_4(rt: &impl Abort, case: &Case, in_out: &mut [u8]) -> Result<(), Fail> {
     let key = key(case)?;
-    let plaintext = key.open_within(nonce(case), aad(case), in_out, 4..)?;
-    same(rt, plaintext, &case.message, "the plaintext");
+    let opened = key.open_within(nonce(case), aad(case), in_out, 4..);
+    lends(rt, opened, &case.message, "the plaintext");
     Ok(())
 }
 

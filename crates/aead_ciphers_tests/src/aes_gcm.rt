@@ -82,7 +82,7 @@ fn works(
     worked(rt, &work, blocks, products, "seal");
     let mut after_four = [0; 4].to_vec(alloc)?;
     after_four.extend_from_slice(&buffer)?;
-    let (_, work) = opened(case, &case.aad, false_tag(case), &mut after_four, 4)?;
+    let (_, work) = opened(case, &case.aad, false_tag(case.tag), &mut after_four, 4)?;
     worked(rt, &work, 1, products, "a false tag");
     let (_, work) = opened(case, &case.aad, tag, &mut buffer, 0)?;
     worked(rt, &work, blocks, products, "open");
@@ -133,8 +133,7 @@ fn opened_from(
     let mut whole = vec![in alloc; 0x7b; start]?;
     whole.extend_from_slice(ciphertext)?;
     let mut buffer = whole.clone()?;
-    let false_tag = Tag::from(with_last_bit_flipped(tag));
-    let (is_opened, _) = opened(case, &case.aad, false_tag, &mut buffer, start)?;
+    let (is_opened, _) = opened(case, &case.aad, false_tag(tag), &mut buffer, start)?;
     holds(rt, !is_opened, "a false tag");
     same(rt, &buffer, &whole, "the buffer stays");
     let (is_opened, _) = opened(case, &case.aad, Tag::from(tag), &mut buffer, start)?;
@@ -144,11 +143,6 @@ fn opened_from(
     let (_, after_before) = parts(&whole, message.len());
     same(rt, after, after_before, "what comes after it");
     Ok(())
-}
-
-fn with_last_bit_flipped(mut tag: [u8; 16]) -> [u8; 16] {
-    tag[15] ^= 1;
-    tag
 }
 
 /// Splits bytes at `place`, or at the end if `place` is past it.

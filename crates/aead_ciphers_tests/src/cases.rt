@@ -1,7 +1,9 @@
 //! Arguments of calls, from a test case of the GCM specification.
 
+use crate::examples::one_nonce::OneNonce;
 use aead_ciphers::aead::{
-    AES_128_GCM, AES_256_GCM, Aad, Algorithm, LessSafeKey, Nonce, Tag, UnboundKey,
+    AES_128_GCM, AES_256_GCM, Aad, Algorithm, BoundKey, CounterSequence, LessSafeKey, Nonce,
+    OpeningKey, SealingKey, Tag, UnboundKey,
 };
 use aead_ciphers_base::aes::{self, KeyBytes};
 use aead_vectors::gcm_spec::Case;
@@ -34,6 +36,23 @@ pub(crate) fn key(case: &Case) -> Result<LessSafeKey, Fail> {
     Ok(LessSafeKey::new(unbound_key(case)?))
 }
 
+/// Creates a sealing key with `count` nonces, of which the first is zero.
+pub(crate) fn sealing(case: &Case, count: u64) -> Result<SealingKey<CounterSequence>, Fail> {
+    let sequence = CounterSequence::new([0; 4], 0, count)?;
+    Ok(SealingKey::new(unbound_key(case)?, sequence))
+}
+
+/// Creates an opening key with the nonces of `sealing`.
+pub(crate) fn opening(case: &Case, count: u64) -> Result<OpeningKey<CounterSequence>, Fail> {
+    let sequence = CounterSequence::new([0; 4], 0, count)?;
+    Ok(OpeningKey::new(unbound_key(case)?, sequence))
+}
+
+/// Creates an opening key with the nonce of the case alone.
+pub(crate) fn opening_once(case: &Case) -> Result<OpeningKey<OneNonce>, Fail> {
+    Ok(OpeningKey::new(unbound_key(case)?, OneNonce::new(case.nonce)))
+}
+
 pub(crate) fn nonce(case: &Case) -> Nonce {
     Nonce::assume_unique_for_key(case.nonce)
 }
@@ -42,9 +61,8 @@ pub(crate) fn aad(case: &Case) -> Aad<'_> {
     Aad::from(case.aad.as_slice())
 }
 
-/// Returns the tag with its last bit flipped.
-pub(crate) fn false_tag(case: &Case) -> Tag {
-    let mut tag = case.tag;
+/// Returns a tag with its last bit flipped.
+pub(crate) fn false_tag(mut tag: [u8; 16]) -> Tag {
     tag[15] ^= 1;
     Tag::from(tag)
 }

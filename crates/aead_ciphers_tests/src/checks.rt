@@ -1,5 +1,6 @@
 //! Assertions for tests. They have no contract clauses, so a caller's proof learns nothing about the bytes and stays short.
 
+use aead_ciphers::aead::Unspecified;
 use std::alloc::AllocError;
 use std::fmt::{Debug, Display};
 use std::process::Abort;
@@ -16,17 +17,32 @@ pub(crate) fn holds(rt: &impl Abort, test: bool, what: &str) {
     assert!(rt; test, "{what}");
 }
 
+/// Asserts that a call lends this plaintext.
+pub(crate) fn lends(
+    rt: &impl Abort,
+    opened: Result<&mut [u8], Unspecified>,
+    wanted: &[u8],
+    what: &str,
+) {
+    match opened {
+        Ok(plaintext) => same(rt, plaintext, wanted, what),
+        Err(Unspecified) => holds(rt, false, what),
+    }
+}
+
+/// Asserts that a text is the expected one.
+fn reads(rt: &impl Abort, text: &str, wanted: &str) {
+    assert_eq!(rt; text, wanted);
+}
+
 /// Asserts that a value is printed as this text for debugging, also in the alternate form.
 pub(crate) fn prints(
     rt: &(impl Abort + AllocGlobal),
     value: &impl Debug,
     wanted: &str,
 ) -> Result<(), AllocError> {
-    let text = format!(in rt.alloc(); "{value:?} {value:#?}")?;
-    assert_eq!(rt;
-        text.as_str(),
-        format!(in rt.alloc(); "{wanted} {wanted}")?.as_str()
-    );
+    reads(rt, format!(in rt.alloc(); "{value:?}")?.as_str(), wanted);
+    reads(rt, format!(in rt.alloc(); "{value:#?}")?.as_str(), wanted);
     Ok(())
 }
 
@@ -36,7 +52,6 @@ pub(crate) fn displays(
     value: &impl Display,
     wanted: &str,
 ) -> Result<(), AllocError> {
-    let text = displayed(rt.alloc(), value)?;
-    assert_eq!(rt; text.as_str(), wanted);
+    reads(rt, displayed(rt.alloc(), value)?.as_str(), wanted);
     Ok(())
 }

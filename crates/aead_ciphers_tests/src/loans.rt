@@ -6,10 +6,9 @@ ghost use Rattle.aead_ciphers.specs.Aes.{aes};
 ghost use Rattle.aead_ciphers.specs.Gcm.{OpenedAttached};
 ghost use Rattle.aead_ciphers.specs.Values.{aad_bytes};
 
-use crate::cases::{aad, key, nonce, sealed, unbound_key};
+use crate::cases::{aad, key, nonce, opening_once, sealed};
 use crate::checks::{holds, same};
-use crate::examples::one_nonce::OneNonce;
-use aead_ciphers::aead::{Aad, BoundKey, LessSafeKey, Nonce, OpeningKey, Tag, Unspecified};
+use aead_ciphers::aead::{Aad, LessSafeKey, Nonce, Tag, Unspecified};
 use aead_vectors::gcm_spec::{CASE_4, Case};
 use std::alloc::Global;
 use std::ops::RangeFrom;
@@ -48,10 +47,6 @@ fn opens_to_front(
 {
     key.open_within_to_front(nonce, aad, in_out, ciphertext_and_tag)
         .is_ok()
-}
-
-fn opening_once(case: &Case) -> Result<OpeningKey<OneNonce>, Fail> {
-    Ok(OpeningKey::new(unbound_key(case)?, OneNonce::new(case.nonce)))
 }
 
 #[test]
@@ -156,7 +151,8 @@ fn a_loan_ends_with_what_was_written(rt: HostRuntime) -> Result<(), Fail> {
 /// Asserts that a call fails and the buffer is unchanged.
 fn stays(
     rt: &impl Abort,
-    (alloc, case): (Global, &Case),
+    alloc: Global,
+    case: &Case,
     call: Call,
     before: &[u8],
     start: usize,
@@ -171,19 +167,20 @@ fn stays(
 /// Asserts the same for a buffer shorter than a tag, a start past the last one if the call takes one, and a wrong tag.
 fn stays_whatever_is_wrong(
     rt: &impl Abort,
-    (alloc, case): (Global, &Case),
+    alloc: Global,
+    case: &Case,
     call: Call,
     bytes: &mut [u8],
     start: usize,
 ) -> Result<(), Fail> {
-    stays(rt, (alloc, case), call, &[7; 15], 0)?;
+    stays(rt, alloc, case, call, &[7; 15], 0)?;
     if start != 0 {
-        stays(rt, (alloc, case), call, bytes, 65)?;
+        stays(rt, alloc, case, call, bytes, 65)?;
     }
     if let Some(last) = bytes.last_mut() {
         *last ^= 1;
     }
-    stays(rt, (alloc, case), call, bytes, start)
+    stays(rt, alloc, case, call, bytes, start)
 }
 
 #[test]
@@ -191,7 +188,7 @@ fn a_refused_call_leaves_the_buffer(rt: HostRuntime) -> Result<(), Fail> {
     let case = Case::parse(rt.alloc(), CASE_4)?;
     for (call, start) in CALLS {
         let mut bytes = buffer(rt.alloc(), &case, call, start)?;
-        stays_whatever_is_wrong(&rt, (rt.alloc(), &case), call, &mut bytes, start)?;
+        stays_whatever_is_wrong(&rt, rt.alloc(), &case, call, &mut bytes, start)?;
     }
     Ok(())
 }

@@ -1,23 +1,12 @@
 //! Tests of `session`: runs of jobs with the bytes of test case 2.
 
-use crate::cases::{sealed, unbound_key};
+use crate::cases::{opening, sealed, sealing};
 use crate::checks::{holds, same};
-use aead_ciphers::aead::{BoundKey, CounterSequence, OpeningKey, SealingKey};
 use aead_ciphers::session::{Job, Operation, Outcome, run};
 use aead_vectors::gcm_spec::{CASE_2, Case};
 use std::alloc::Global;
 use std::process::Abort;
 use std::test::Fail;
-
-fn sealing(case: &Case, count: u64) -> Result<SealingKey<CounterSequence>, Fail> {
-    let sequence = CounterSequence::new([0; 4], 0, count)?;
-    Ok(SealingKey::new(unbound_key(case)?, sequence))
-}
-
-fn opening(case: &Case, count: u64) -> Result<OpeningKey<CounterSequence>, Fail> {
-    let sequence = CounterSequence::new([0; 4], 0, count)?;
-    Ok(OpeningKey::new(unbound_key(case)?, sequence))
-}
 
 /// Returns a job with this buffer, and with an outcome that no run sets.
 fn job(alloc: Global, operation: Operation, buffer: &[u8]) -> Result<Job, Fail> {
