@@ -1,7 +1,7 @@
 //! Tests of `tls_messages`: the rules by type, its errors, and the handshakes of OpenSSL.
 
 use crate::captured::CAPTURED;
-use crate::checks::{displays, equal, holds};
+use crate::checks::{displays, equal, holds, same};
 use crate::connection::{Carried, Direction, bytes_of};
 use records::{Begins, RecordKind, classify};
 use std::alloc::Global;
@@ -264,13 +264,12 @@ fn handshake_types(alloc: Global, direction: &Direction) -> Result<Vec<u8>, Fail
 #[test]
 fn handshakes_of_openssl(rt: HostRuntime) -> Result<(), Fail> {
     for (name, direction) in CAPTURED {
-        let types = handshake_types(rt.alloc(), direction)?;
         let wanted: &[u8] = if name.ends_with("CLIENT") {
             &[1, 20]
         } else {
             &[2, 8, 11, 15, 20]
         };
-        equal(&rt, &types.as_slice(), &wanted);
+        same(&rt, &handshake_types(rt.alloc(), direction)?, wanted, name);
     }
     Ok(())
 }
