@@ -76,7 +76,8 @@ impl HeaderKey {
             ↔ ((length sample.now ≡ 16) × (4 < length number.old)) }
         ensures masked { OnOk result (MaskedParts (header_protection self.now.algorithm self.now.bytes sample.now)
             (number_len first.old) first.old number.old first.new number.new) }
-        ensures kept { OnErr result ((first.new ≡ first.old) × (number.new ≡ number.old)) }
+        ensures first_kept { OnErr result (first.new ≡ first.old) }
+        ensures number_kept { OnErr result (number.new ≡ number.old) }
     {
         let mask = self.mask(sample, number)?;
         let number_len = number_len(*first);
@@ -103,7 +104,8 @@ impl HeaderKey {
             ↔ ((length sample.now ≡ 16) × (4 < length number.old)) }
         ensures masked { OnOk result (MaskedParts (header_protection self.now.algorithm self.now.bytes sample.now)
             (number_len first.new) first.old number.old first.new number.new) }
-        ensures kept { OnErr result ((first.new ≡ first.old) × (number.new ≡ number.old)) }
+        ensures first_kept { OnErr result (first.new ≡ first.old) }
+        ensures number_kept { OnErr result (number.new ≡ number.old) }
     {
         let mask = self.mask(sample, number)?;
         *first ^= first_mask(*first, mask[0]);
