@@ -220,25 +220,29 @@ fn chacha20_header(rt: HostRuntime) -> Result<(), Fail> {
     Ok(())
 }
 
-/// Asserts that the parts of a header are masked as those of the protected packet are, and unmasked again.
-fn masks_parts(rt: &impl Abort, row: &Packet) -> Result<(), Fail> {
+/// Masks or unmasks the parts of a header by the sample of its packet.
+fn mask_parts(row: &Packet, header: &mut [u8], is_masked: bool) -> Result<(), Fail> {
     let key = HeaderKey::new(&quic::AES_128, &row.header_key)?;
     let from_number = row.protected.get(row.number_at..).ok_or("a number")?;
     let sample = from_number.get(4..20).ok_or("a sample")?;
-    let mut header = row.header.clone()?;
     let (front, number) = header
         .split_at_mut_checked(row.number_at)
         .ok_or("a number")?;
     let first = front.first_mut().ok_or("a first byte")?;
-    key.encrypt_in_place(sample, first, number)?;
-    let protected = row.protected.get(..row.header.len()).ok_or("a header")?;
-    same(rt, &header, protected, row.name);
-    let (front, number) = header
-        .split_at_mut_checked(row.number_at)
-        .ok_or("a number")?;
-    let first = front.first_mut().ok_or("a first byte")?;
-    key.decrypt_in_place(sample, first, number)?;
-    same(rt, &header, &row.header, row.name);
+    if is_masked {
+        key.decrypt_in_place(sample, first, number)?;
+    } else {
+        key.encrypt_in_place(sample, first, number)?;
+    }
+    Ok(())
+}
+
+/// Asserts that the parts of a header are masked as those of the protected packet are, and unmasked again.
+fn masks_parts(rt: &impl Abort, row: &Packet, header: &mut [u8]) -> Result<(), Fail> {
+    mask_parts(row, header, false)?;
+    holds(rt, row.protected.starts_with(header), row.name);
+    mask_parts(row, header, true)?;
+    same(rt, header, &row.header, row.name);
     Ok(())
 }
 
@@ -246,7 +250,8 @@ fn masks_parts(rt: &impl Abort, row: &Packet) -> Result<(), Fail> {
 #[test]
 fn parts_of_headers(rt: HostRuntime) -> Result<(), Fail> {
     for line in packets() {
-        masks_parts(&rt, &Packet::parse(rt.alloc(), line)?)?;
+        let row = Packet::parse(rt.alloc(), line)?;
+        masks_parts(&rt, &row, &mut row.header.clone()?)?;
     }
     Ok(())
 }
