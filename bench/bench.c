@@ -117,6 +117,19 @@ static const row rows[] = {
     {"`deerlapse_key_mask`, AES-128", &calls, MASK, {16}, SAMPLE_LEN, TIME, 0},
     {"`deerlapse_mask_aes`, AES-128", &calls, MASK_ONCE, {16}, SAMPLE_LEN, TIME, 0},
     {"`deerlapse_mask_chacha20`", &calls, CHACHA_MASK_ONCE, {32}, SAMPLE_LEN, TIME, 0},
+#ifdef WITH_V3
+    {"`deerlapse_seal`, 1350 bytes, v3", &calls_v3, SEAL_ONCE, {16, 32}, 1350, SPEED, 0},
+    {"`deerlapse_key_init`, v3", &calls_v3, GCM_KEY, {16, 32}, OF_KEY, TIME, 0},
+    {"`deerlapse_key_seal`, 16 bytes, v3", &calls_v3, SEAL, {16, 32}, 16, SPEED, 0},
+    {"`deerlapse_key_seal`, 64 bytes, v3", &calls_v3, SEAL, {16, 32}, 64, SPEED, 0},
+    {"`deerlapse_key_seal`, 250 bytes, v3", &calls_v3, SEAL, {16, 32}, 250, SPEED, 0},
+    {"`deerlapse_key_seal`, 1350 bytes, v3", &calls_v3, SEAL, {16, 32}, 1350, SPEED, 0},
+    {"`deerlapse_key_seal`, 16 KiB, v3", &calls_v3, SEAL, {16, 32}, 16 * KIB, SPEED, 0},
+    {"`deerlapse_key_open_separate_tag`, 250 bytes, v3", &calls_v3, OPEN, {16, 32}, 250, SPEED, 0},
+    {"`deerlapse_key_open_separate_tag`, 1350 bytes, v3", &calls_v3, OPEN, {16, 32}, 1350, SPEED, 0},
+    {"`deerlapse_key_open_separate_tag`, 16 KiB, v3", &calls_v3, OPEN, {16, 32}, 16 * KIB, SPEED, 0},
+    {"`deerlapse_key_mask`, AES-128, v3", &calls_v3, MASK, {16}, SAMPLE_LEN, TIME, 0},
+#endif
 };
 
 typedef struct {
@@ -137,6 +150,9 @@ static const peer all_peers[] = {
 #endif
 #ifdef WITH_OPENSSL
     {"OpenSSL", &openssl, {0}},
+#endif
+#ifdef WITH_V3
+    {"x86-64-v2", &calls, {&calls_v3}},
 #endif
 #ifdef WITH_BEFORE
     {"Before", &before_library, {&library}},
