@@ -84,7 +84,16 @@ impl Key {
         ensures accepted { IsOk result }
         ensures made { IfOk result (λ key. key ≡ key_bytes bytes.entry) }
     {
-        Key::new_with_width(bytes, Width::Bits128)
+        let mut round_keys = [[0; 16]; 15];
+        let rounds = expand(&mut round_keys, bytes);
+        let mut planes = [[0; 16]; 15];
+        write_planes(&mut planes, &round_keys, rounds);
+        Ok(Key {
+            planes,
+            rounds: rounds as u32,
+            width: Width::Bits128.bits(),
+            round_keys,
+        })
     }
 
     /// Expands a key of 16 or 32 bytes (FIPS 197 section 5.2), with planes of this width. Never fails.
@@ -92,6 +101,7 @@ impl Key {
         ensures accepted { IsOk result }
         ensures made { IfOk result (λ key. key ≡ key_bytes bytes.entry) }
     {
+        // The body of `new` once more, since a call of one from the other copies both arrays.
         let mut round_keys = [[0; 16]; 15];
         let rounds = expand(&mut round_keys, bytes);
         let mut planes = [[0; 16]; 15];

@@ -66,7 +66,13 @@ impl LessSafeKey {
         ensures accepted { IsOk result ↔ (length key_bytes.now ≡ key_len algorithm.now) }
         ensures made { IfOk result (λ key. key ≡ record { algorithm = algorithm.now; bytes = key_bytes.now }) }
     {
-        LessSafeKey::new_with_width(algorithm, key_bytes, Width::Bits128)
+        let bytes = bytes_for(algorithm, key_bytes)?;
+        let mut made = LessSafeKey {
+            key: ExpandedKey::zeros(),
+            algorithm,
+        };
+        made.key.expand(bytes, &mut Work::new());
+        Ok(made)
     }
 
     /// Does the same as `new`, with planes of this width.
@@ -82,6 +88,7 @@ impl LessSafeKey {
         ensures accepted { IsOk result ↔ (length key_bytes.now ≡ key_len algorithm.now) }
         ensures made { IfOk result (λ key. key ≡ record { algorithm = algorithm.now; bytes = key_bytes.now }) }
     {
+        // The body of `new` once more, since a call of one from the other copies the key.
         let bytes = bytes_for(algorithm, key_bytes)?;
         let mut made = LessSafeKey {
             key: ExpandedKey::zeros(),
