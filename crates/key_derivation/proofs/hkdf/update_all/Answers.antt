@@ -9,5 +9,6 @@ loop-piece-init g c = λ m held. held_as g.H.Digest.holds _ _ _ held (sym (appen
 
 pub loop-piece-preserved : goal.loop-piece-preserved
 loop-piece-preserved g c = λ m held.
-    rw (take_more c.args.pieces.now c.loop-piece.piece-index (record { ref_ptr = (0, 0); now = [] }) c.loop-piece-test.true, map-append, concat-append, append-nil)
+    let front = take_more c.args.pieces.now c.loop-piece.piece-index (record { ref_ptr = (0, 0); now = [] }) c.loop-piece-test.true in
+    rw (front, map-append, concat-append, append-nil)
     (held_as g.H.Digest.holds _ _ _ (c.update.ensures _ (c.loop-piece.invariant m held)) (append_assoc m _ _))
