@@ -1,6 +1,7 @@
 -- The packet numbers that were received in one space (RFC 9000 section 12.3).
-use Rattle.std.specs.Prelude.{◌≡◌, ◌≢◌, ℕ, ◌+◌, ◌*◌, ◌/◌, ◌%◌, ◌<◌, ◌≤◌, ◌↔◌, max, List, length, replicate, slice_index}
+use Rattle.std.specs.Prelude.{◌≡◌, ◌≢◌, ℕ, ◌+◌, ◌*◌, ◌/◌, ◌%◌, ◌<◌, ◌≤◌, ◌↔◌, max, List, length, replicate, slice_index, Option, None, Some}
 use Rattle.std.specs.Int.{bit_at}
+use Rattle.std.specs.declared.ops.Range.{Range}
 
 -- the expected number, one more than the largest that was received, or 0 (RFC 9000 appendix A.3); and which of the numbers below
 -- it were received: there are 64 for each word
@@ -32,3 +33,28 @@ pub record Marks (old : Space) (number : ℕ) (new : Space) : Type 0 where
   pub next : new.next ≡ max old.next (number + 1)
   pub words : length new.seen ≡ length old.seen
   pub left : (n : ℕ) → IsNew new n ↔ (IsNew old n × (n ≢ number) × (new.next ≤ n + 64 * length old.seen))
+
+-- the number was received, and the window reaches it
+pub record IsReceived (space : Space) (number : ℕ) : Type 0 where
+  pub below : number < space.next
+  pub in_window : space.next ≤ number + 64 * length space.seen
+  pub not_new : ¬ IsNew space number
+
+-- the ranges of received numbers that are left: those below a number
+pub record RangesBelow : Type 0 where
+  pub space : Space
+  pub below : ℕ
+
+-- the highest range of received numbers below this one: it has a number, each of its numbers was received, and neither the one
+-- before it nor any from its end up to `below` was
+pub record IsHighestRange (space : Space) (below : ℕ) (range : Range ℕ) : Type 0 where
+  pub some : range.start < range.end
+  pub under : range.end ≤ below
+  pub received : (n : ℕ) → range.start ≤ n → n < range.end → IsReceived space n
+  pub before : (n : ℕ) → n + 1 ≡ range.start → ¬ IsReceived space n
+  pub after : (n : ℕ) → range.end ≤ n → n < below → ¬ IsReceived space n
+
+-- one step over the ranges: the highest that is left, or none if no number is
+abbrev pub GivesRange : RangesBelow → Option (Range ℕ) → RangesBelow → Type 0
+GivesRange was None now = (now ≡ was) × ((n : ℕ) → n < was.below → ¬ IsReceived was.space n)
+GivesRange was (Some range) now = (now ≡ record was { below = range.start }) × IsHighestRange was.space was.below range

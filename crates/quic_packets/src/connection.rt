@@ -26,6 +26,7 @@ use crate::failures::Failures;
 use crate::fixed_bit::FixedBit;
 use crate::receiver::{Received, Receiver};
 use crate::sender::{CONFIDENTIALITY_LIMIT, Sender};
+use crate::space::Space;
 use ends::Ends;
 use incoming::step_of;
 pub use incoming::{Incoming, Step};
@@ -134,6 +135,17 @@ impl Connection {
             Level::Initial => self.initial.sender(),
             Level::Handshake => self.handshake.sender(),
             Level::OneRtt => self.one_rtt.sender(),
+        }
+    }
+
+    /// Returns the numbers that were received at a level, for an ACK frame (`Space::ranges`). They stay when its keys are dropped.
+    pub fn space(&self, level: Level) -> &Space<2>
+        ensures { result.now ≡ (ends_of self.now level).space }
+    {
+        match level {
+            Level::Initial => self.initial.space(),
+            Level::Handshake => self.handshake.space(),
+            Level::OneRtt => self.one_rtt.space(),
         }
     }
 

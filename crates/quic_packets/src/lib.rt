@@ -37,5 +37,5 @@ pub use keys::Keys;
 pub use receiver::{Received, Receiver};
 pub use retry::{RetryError, is_genuine_retry, retry_tag};
 pub use sender::{CONFIDENTIALITY_LIMIT, Sender};
-pub use space::Space;
+pub use space::{Ranges, Space};
 pub use suite::Suite;

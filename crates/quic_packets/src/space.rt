@@ -1,12 +1,13 @@
 //! The packet numbers that were received in one space (RFC 9000 section 12.3).
 
-ghost use Rattle.std.specs.Prelude.{◌≡◌, ℕ, ◌+◌, ◌-◌, ◌*◌, ◌/◌, ◌%◌, ◌<◌, ◌≤◌, ◌↔◌, length, IsTrue};
+ghost use Rattle.std.specs.Prelude.{◌≡◌, ℕ, ◌+◌, ◌-◌, ◌*◌, ◌/◌, ◌%◌, ◌<◌, ◌≤◌, ◌↔◌, length, IsTrue, MatchOption};
 ghost use Rattle.std.specs.Int.{bit_at};
 ghost use Rattle.quic_packets.specs.Numbers.{expected};
 ghost use Rattle.quic_packets.specs.Packet.{IsNumber};
-ghost use Rattle.quic_packets.specs.Space.{IsNew, Marks, ShareBit, bit_of, new_space};
+ghost use Rattle.quic_packets.specs.Space.{IsNew, IsReceived, Marks, ShareBit, bit_of, new_space};
 
 use std::marker::Model;
+use std::ops::Range;
 
 /// The numbers of one word of the window.
 const WORD: u64 = u64::BITS as u64;
@@ -62,6 +63,18 @@ impl<const W: usize> Space<W> {
         self.next - number <= WORD * W as u64 && !is_set(&self.seen, number)
     }
 
+    /// Returns the ranges of the numbers that were received, among those that the window reaches, from the highest down: the
+    /// ranges of an ACK frame (RFC 9000 section 19.3.1). Each is as long as it can be, so a number that was not received lies
+    /// between two of them.
+    pub fn ranges(&self) -> Ranges<'_, W>
+        ensures { result ≡ record { space = self.now; below = self.now.next } }
+    {
+        Ranges {
+            space: self,
+            below: self.next,
+        }
+    }
+
     /// Counts a number as received.
     pub(crate) fn mark(&mut self, number: u64)
         requires number { IsNumber number }
@@ -76,6 +89,81 @@ impl<const W: usize> Space<W> {
         clear(&mut self.seen, self.next.max(lowest), number + 1);
         set(&mut self.seen, number);
         self.next = number + 1;
+    }
+
+    // The lowest number that the window reaches.
+    fn lowest(&self) -> u64
+        ensures { result ≡ self.now.next - 64 * length self.now.seen }
+    {
+        self.next.saturating_sub(WORD * W as u64)
+    }
+
+    // The highest number below `below` that was received.
+    fn last_below(&self, below: u64) -> Option<u64>
+        ensures { MatchOption result ((n : ℕ) → n < below → ¬ IsReceived self.now n)
+            (λ last. (last < below) × IsReceived self.now last × ((n : ℕ) → last < n → n < below
+            → ¬ IsReceived self.now n)) }
+    {
+        let lowest = self.lowest();
+        let mut end = below.min(self.next);
+        while end > lowest {
+            end -= 1;
+            if !self.is_new(end) {
+                return Some(end);
+            }
+        }
+        None
+    }
+
+    // The first number of the range of received numbers that has `last`.
+    fn first_of(&self, last: u64) -> u64
+        requires { IsReceived self.now last }
+        ensures within { result ≤ last }
+        ensures received { (n : ℕ) → result ≤ n → n ≤ last → IsReceived self.now n }
+        ensures whole { (n : ℕ) → n + 1 ≡ result → ¬ IsReceived self.now n }
+    {
+        let lowest = self.lowest();
+        let mut first = last;
+        while first > lowest && !self.is_new(first - 1) {
+            first -= 1;
+        }
+        first
+    }
+}
+
+/// An iterator over the ranges of received numbers, from the highest down. `Space::ranges` makes it.
+#[derive(Drop)]
+pub struct Ranges<'a, const W: usize> {
+    space: &'a Space<W>,
+    below: u64,
+}
+
+impl<'a, const W: usize> Model for Ranges<'a, W> {
+    ghost use Rattle.std.specs.Prelude.{◌≤◌};
+    ghost use Rattle.quic_packets.specs.Space.{RangesBelow};
+
+    ghost Value = { RangesBelow };
+
+    ghost view = { λ ranges. record { space = ranges.space.now; below = ranges.below } };
+
+    ghost invariant = { λ ranges. W ≤ 64 };
+}
+
+impl<'a, const W: usize> Iterator for Ranges<'a, W> {
+    type Item = Range<u64>;
+
+    ghost use Rattle.std.specs.Iterator.{at_most};
+    ghost use Rattle.quic_packets.specs.Space.{GivesRange};
+
+    ghost next_gives = { GivesRange };
+
+    ghost remaining = { λ ranges. at_most ranges.below };
+
+    fn next(&mut self) -> Option<Range<u64>> {
+        let last = self.space.last_below(self.below)?;
+        let first = self.space.first_of(last);
+        self.below = first;
+        Some(first..last + 1)
     }
 }
 

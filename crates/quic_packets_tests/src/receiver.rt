@@ -347,7 +347,17 @@ fn window_of_64_words(rt: HostRuntime) -> Result<(), Fail> {
         holds(&rt, outcome.is_ok() == is_new, "received");
         holds(&rt, is_duplicate != is_new, "a duplicate");
     }
+    has_ranges(&rt, &space, &[(4160, 4161), (4095, 4097), (65, 66)]);
     Ok(())
+}
+
+/// Asserts that these are the ranges of a space, from the highest down.
+fn has_ranges(rt: &impl Abort, space: &Space<64>, wanted: &[(u64, u64)]) {
+    let mut ranges = space.ranges();
+    for (start, end) in wanted {
+        equal(rt, &ranges.next(), &Some(*start..*end));
+    }
+    equal(rt, &ranges.next(), &None);
 }
 
 // An authentic packet with reserved bits set is rejected with that error, and its payload is then decrypted.

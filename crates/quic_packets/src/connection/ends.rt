@@ -61,6 +61,13 @@ impl Ends {
         self.sender.as_ref()
     }
 
+    /// The numbers that were received.
+    pub(crate) fn space(&self) -> &Space<2>
+        ensures { result.now ≡ self.now.space }
+    {
+        &self.space
+    }
+
     /// Whether the receiver is there.
     pub(crate) fn has_receiver(&self) -> bool
         ensures { IsTrue result ↔ IsSome self.now.receiver }
