@@ -16,7 +16,8 @@ use Rattle.aead_ciphers.specs.Ghash.{ghash}
 use Rattle.aead_ciphers.specs.HashOf.{IsHashOf}
 use Rattle.aead_ciphers.proofs.PaddedBlocks.{padded_blocks-append, padded_blocks_none, padded_blocks_short, padded_is}
 use Rattle.aead_ciphers.proofs.RunningHash.{hash_with}
-use Rattle.aead_ciphers_wide.specs.Pieces.{HasSealed, SealsPiece, keystream}
+use Rattle.aead_ciphers_wide.specs.Pieces.{HasSealed, HasTaken, SealsPiece, keystream}
+use Rattle.aead_ciphers_wide.specs.declared.aes_gcm.pieces.PartialHash.{PartialHash}
 use Rattle.aead_ciphers_wide.specs.declared.aes_gcm.pieces.SealState.{SealState}
 
 -- a hash took in the padded blocks of a part
@@ -236,16 +237,16 @@ front_all cipher {s} {t} xs ys d size front =
     let all = front.is ∙ ap (λ w. front.out ++ w) (drop_all d xs (omega arith)) ∙ append-nil front.out in
     subst (λ p. SealsPiece cipher s p ys t) (take_all d xs (omega arith)) (subst (λ w. SealsPiece cipher s (take d xs) w t) (sym all) front.seals)
 
--- no piece yet; the AAD was taken in
-pub begins : (cipher : List ℕ → List ℕ) (nonce aad part : List ℕ) (s : SealState) {h : List ℕ} → part ≡ aad → s.nonce ≡ nonce
-    → s.aad_len ≡ length part → s.len ≡ 0 → s.begun ≡ 1 → length part < 2 ^ 61 → h ≡ cipher zero_block → TakesIn h part zero_block s.xi
+-- no piece yet; the AAD is hashed
+pub begins : (cipher : List ℕ → List ℕ) (nonce aad : List ℕ) (s : SealState) {h : List ℕ} → s.nonce ≡ nonce → s.aad_len ≡ length aad
+    → s.len ≡ 0 → s.begun ≡ 1 → length aad < 2 ^ 61 → h ≡ cipher zero_block → IsHashOf h (padded_blocks aad) s.xi
     → HasSealed cipher nonce aad [] [] s
-begins cipher nonce aad part s ep en ea el eb fits eh taken = record {
+begins cipher nonce aad s en ea el eb fits eh is = record {
   encrypted = sym (counter_mode-nil cipher nonce 2 [] refl);
   begun = omega (arith, eb);
   fits = record { aad = omega (arith, fits, ea); message = omega (arith, el) };
   nonce_is = en;
-  aad_len = ea ∙ ap length ep;
+  aad_len = ea;
   len = el;
   whole = [];
   rest = [];
@@ -253,10 +254,15 @@ begins cipher nonce aad part s ep en ea el eb fits eh taken = record {
   aligned = refl;
   short = omega arith;
   hashed =
-      hash_with eh (ap padded_blocks ep ∙ sym (append-nil (padded_blocks aad)) ∙ ap (λ bs. padded_blocks aad ++ bs) (sym (padded_blocks_none [] refl)))
-      taken (hash_none (cipher zero_block));
+      let all : padded_blocks aad ≡ padded_blocks aad ++ padded_blocks [] =
+      sym (append-nil (padded_blocks aad)) ∙ ap (λ bs. padded_blocks aad ++ bs) (sym (padded_blocks_none [] refl)) in
+      subst (λ bs. IsHashOf (cipher zero_block) bs s.xi) all (subst (λ k. IsHashOf k (padded_blocks aad) s.xi) eh is);
   kept = λ some. absurd (omega arith);
 }
+
+-- the hash of a part alone
+pub hash_of_part : (h part xi : List ℕ) → TakesIn h part zero_block xi → IsHashOf h (padded_blocks part) xi
+hash_of_part h part xi taken = taken [] (hash_none h)
 
 -- the tag of all pieces: the hash took in the rest and the block of the lengths
 pub ends : (cipher : List ℕ → List ℕ) (nonce aad message ciphertext : List ℕ) (s : SealState) {h xi lengths_of pre iv result : List ℕ}
@@ -277,3 +283,40 @@ ends cipher nonce aad message ciphertext s {h} {xi} {lengths_of} at eh first siz
     let last = padded_one lengths_of size ∙ ap (λ b. b ∷ []) (el ∙ ap₂ length_block at.aad_len many) in
     let all = hash_with eh (ap (λ more. bs ++ more) last) second text in
     er ∙ ap₂ (λ x b. x ⊕ cipher b) (sym all.value) (ei ∙ ap (λ m. counter_block m 1) at.nonce_is)
+
+-- A hash of parts: none yet.
+pub takes_none : (h : List ℕ) (s : PartialHash) → s.len ≡ 0 → s.xi ≡ zero_block → HasTaken h [] s
+takes_none h s none zero_xi = record {
+  whole = [];
+  parts = ap (λ k. take k s.batch) (sym none);
+  aligned = refl;
+  short = omega (arith, none);
+  hashed = subst (λ bs. IsHashOf h bs s.xi) (sym (padded_blocks_none [] refl)) (subst (IsHashOf h []) (sym zero_xi) (hash_none h));
+}
+
+-- A part that fills the batch, after which it is hashed.
+pub takes_full : (h before bytes now xi : List ℕ) (s : PartialHash) (n len : ℕ) → n ≡ length bytes → len ≡ 0 → s.len + length bytes ≡ 128
+    → length s.batch ≡ 128 → now ≡ take s.len s.batch ++ (bytes ++ drop n (drop s.len s.batch)) → TakesIn h now s.xi xi → HasTaken h before s
+    → HasTaken h (before ++ bytes) (record s { xi = xi; batch = now; len = len })
+takes_full h before bytes now xi s n len many none_left full long is taken at =
+    let front = take s.len s.batch in
+    let none = drop_all n (drop s.len s.batch) (omega (arith, length-drop s.len s.batch)) in
+    let all : now ≡ front ++ bytes = is ∙ ap (λ u. front ++ (bytes ++ u)) none ∙ ap (λ u. front ++ u) (append-nil bytes) in
+    let size : length now ≡ 128 = omega (arith, ap length all, length-append front bytes, length-take-le s.len s.batch (omega arith)) in
+    record {
+      whole = at.whole ++ now;
+      parts =
+          ap (λ u. u ++ bytes) at.parts ∙ append_assoc at.whole front bytes ∙ ap (λ u. at.whole ++ u) (sym all)
+          ∙ sym (ap (λ k. (at.whole ++ now) ++ take k now) none_left ∙ append-nil (at.whole ++ now));
+      aligned = omega (arith, at.aligned, size, length-append at.whole now);
+      short = omega arith;
+      hashed = hash_with refl (sym (padded_blocks-append (length at.whole / 16) at.whole now (omega (arith, at.aligned)))) taken at.hashed;
+    }
+
+-- and the end, where what is kept is padded
+pub takes_rest : (h bytes xi : List ℕ) (s : PartialHash) → TakesIn h (take s.len s.batch) s.xi xi → HasTaken h bytes s
+    → IsHashOf h (padded_blocks bytes) xi
+takes_rest h bytes xi s taken at =
+    hash_with refl
+    (sym (padded_blocks-append (length at.whole / 16) at.whole (take s.len s.batch) (omega (arith, at.aligned))) ∙ ap padded_blocks (sym at.parts))
+    taken at.hashed

@@ -1,9 +1,12 @@
 -- A message that is sealed in pieces (SP 800-38D section 7.1).
-use Rattle.std.specs.Prelude.{◌≡◌, ℕ, ◌+◌, ◌/◌, ◌%◌, ◌<◌, List, ◌++◌, length, drop, replicate}
+use Rattle.std.specs.Prelude.{◌≡◌, ℕ, ◌+◌, ◌/◌, ◌%◌, ◌<◌, List, ◌++◌, map, length, take, drop, replicate}
+use Rattle.std.specs.Borrow.{Bor}
+use Rattle.std.specs.List.{concat}
 use Rattle.aead_ciphers_base.specs.Bytes.{zero_block}
 use Rattle.aead_ciphers_base.specs.CounterMode.{counter_mode}
 use Rattle.aead_ciphers.specs.Gcm.{Fits, gcm_encrypted, padded_blocks}
 use Rattle.aead_ciphers.specs.HashOf.{IsHashOf}
+use Rattle.aead_ciphers_wide.specs.declared.aes_gcm.pieces.PartialHash.{PartialHash}
 use Rattle.aead_ciphers_wide.specs.declared.aes_gcm.pieces.SealState.{SealState}
 
 -- the 128 bytes of keystream after n bytes of plaintext, which are whole blocks (section 6.5)
@@ -37,3 +40,15 @@ pub record SealsPiece (cipher : List ℕ → List ℕ) (was : SealState) (piece 
 -- the fields of a message that has not begun, or that is finished: all zeros
 abbrev pub zero_state : SealState
 zero_state = record { xi = replicate 16 0; batch = replicate 128 0; aad_len = 0; len = 0; nonce = replicate 12 0; begun = 0 }
+
+-- the parts, one after another
+abbrev pub joined : List (Bor (List ℕ)) → List ℕ
+joined parts = concat (map (λ part. part.now) parts)
+
+-- The hash of bytes that came in parts, under the subkey h: those in whole batches are hashed, and those after them are kept.
+pub record HasTaken (h bytes : List ℕ) (s : PartialHash) : Type 0 where
+  pub whole : List ℕ
+  pub parts : bytes ≡ whole ++ take s.len s.batch
+  pub aligned : length whole % 128 ≡ 0
+  pub short : s.len < 128
+  pub hashed : IsHashOf h (padded_blocks whole) s.xi

@@ -7,7 +7,7 @@ ghost use Rattle.aead_ciphers_base.specs.Mask.{aes_mask};
 ghost use Rattle.aead_ciphers_base.specs.Values.{aad_bytes};
 ghost use Rattle.aead_ciphers_base.specs.Work.{Adds, CanAdd};
 ghost use Rattle.aead_ciphers_wide.specs.ExpandedKey.{IsExpanded, bytes_of, zero_key};
-ghost use Rattle.aead_ciphers_wide.specs.Pieces.{HasSealed, SealsPiece};
+ghost use Rattle.aead_ciphers_wide.specs.Pieces.{HasSealed, SealsPiece, joined};
 ghost use Rattle.aead_ciphers_wide.specs.Width.{width_bits};
 ghost use Rattle.aead_ciphers.specs.Gcm.{CanSeal, Fits, SealWork, Opened, OpenedAttached, gcm_decrypted, gcm_encrypted, gcm_tag};
 
@@ -245,6 +245,21 @@ impl ExpandedKey {
     {
         let gcm = gcm::KeyRef::new(&self.products, &self.squares);
         SealState::begin_with(&gcm, nonce, aad)
+    }
+
+    /// Begins a message as `begin` does, with AAD that is given in parts, one after another.
+    ///
+    /// # Errors
+    ///
+    /// Fails with `Unspecified` if the parts together have 2^61 bytes or more (SP 800-38D section 5.2.1.1).
+    pub fn begin_with_parts(&self, nonce: Nonce, aad: &[&[u8]]) -> Result<SealState, Unspecified>
+        requires { IsExpanded self.now }
+        ensures accepted { IsOk result ↔ Fits (length (joined aad.now)) 0 }
+        ensures begun { IfOk result (λ state. HasSealed (aes_cipher (bytes_of self.now)) nonce
+            (joined aad.now) [] [] state) }
+    {
+        let gcm = gcm::KeyRef::new(&self.products, &self.squares);
+        SealState::begin_with_parts(&gcm, nonce, aad)
     }
 
     /// Encrypts the next piece of a message in place, under the key that the message began with.

@@ -1,11 +1,11 @@
 //! Sealing a message in pieces of any lengths, with any cipher and hash (SP 800-38D section 7.1).
 
-ghost use Rattle.std.specs.Prelude.{◌≡◌, ◌↔◌, ◌≤◌, ◌<◌, ◌+◌, ◌%◌, ◌^◌, ◌-◌, ℕ, List, [], ◌++◌, length, IsOk, IfOk, OnOk, OnErr};
+ghost use Rattle.std.specs.Prelude.{◌≡◌, ◌↔◌, ◌≤◌, ◌<◌, ◌+◌, ◌%◌, ◌^◌, ◌-◌, ℕ, List, [], ◌++◌, length, min, IsOk, IfOk, OnOk, OnErr};
 ghost use Rattle.aead_ciphers_base.specs.Bytes.{zero_block};
 ghost use Rattle.aead_ciphers_base.specs.Values.{aad_bytes};
 ghost use Rattle.aead_ciphers.specs.Gcm.{Fits, gcm_tag, length_block, padded_block, padded_blocks};
 ghost use Rattle.aead_ciphers.specs.HashOf.{IsHashOf};
-ghost use Rattle.aead_ciphers_wide.specs.Pieces.{HasSealed, SealsPiece, keystream, zero_state};
+ghost use Rattle.aead_ciphers_wide.specs.Pieces.{HasSealed, HasTaken, SealsPiece, joined, keystream, zero_state};
 
 use aead_ciphers::gcm::{MAX_IN_OUT_LEN, UpdateBlocks, Xi};
 use aead_ciphers_base::aes::{
@@ -76,6 +76,38 @@ impl SealState {
             xi: absorb(gcm, ZERO_BLOCK, aad),
             batch: [0; BATCH_LEN],
             aad_len: aad.len(),
+            len: 0,
+            nonce: *nonce.as_ref(),
+            begun: 1,
+        })
+    }
+
+    /// Begins a message as `begin_with` does, with AAD that is given in parts, one after another.
+    ///
+    /// # Errors
+    ///
+    /// Fails with `Unspecified` if the parts together have 2^61 bytes or more (SP 800-38D section 5.2.1.1).
+    pub fn begin_with_parts<G: UpdateBlocks>(
+        gcm: &G,
+        nonce: Nonce,
+        aad: &[&[u8]],
+    ) -> Result<SealState, Unspecified>
+        ensures accepted { IsOk result ↔ Fits (length (joined aad.now)) 0 }
+        ensures begun { IfOk result (λ s. (cipher : List ℕ → List ℕ)
+            → G.hash_subkey gcm.now ≡ cipher zero_block
+            → HasSealed cipher nonce (joined aad.now) [] [] s) }
+    {
+        let mut hash = PartialHash::new();
+        for part in aad {
+            hash.take_in(gcm, part);
+        }
+        if hash.total >= 1 << 61 {
+            return Err(Unspecified);
+        }
+        Ok(SealState {
+            xi: hash.finish(gcm),
+            batch: [0; BATCH_LEN],
+            aad_len: hash.total,
             len: 0,
             nonce: *nonce.as_ref(),
             begun: 1,
@@ -168,6 +200,76 @@ impl SealState {
             &mut Work::new(),
         );
         batch
+    }
+}
+
+/// The hash of bytes that come in parts of any lengths.
+#[derive(Drop)]
+struct PartialHash {
+    /// The hash of the whole batches.
+    xi: Block,
+    /// The bytes after them, at the front.
+    batch: [u8; BATCH_LEN],
+    /// How many these are.
+    len: usize,
+    /// The length of all parts in bytes, or the largest number if they are longer.
+    total: usize,
+}
+
+impl PartialHash {
+    fn new() -> Self
+        ensures taken { (h : List ℕ) → HasTaken h [] result }
+        ensures none { (result.len ≡ 0) × (result.total ≡ 0) }
+    {
+        PartialHash {
+            xi: ZERO_BLOCK,
+            batch: [0; BATCH_LEN],
+            len: 0,
+            total: 0,
+        }
+    }
+
+    /// Hashes the next part.
+    fn take_in<G: UpdateBlocks>(&mut self, gcm: &G, part: &[u8])
+        requires { self.old.len < 128 }
+        ensures short { self.new.len < 128 }
+        ensures taken { (bytes : List ℕ) → HasTaken (G.hash_subkey gcm.now) bytes self.old
+            → HasTaken (G.hash_subkey gcm.now) (bytes ++ part.now) self.new }
+        ensures total { self.new.total ≡ min (self.old.total + length part.now) (2 ^ 64 - 1) }
+    {
+        self.total = self.total.saturating_add(part.len());
+        let mut done = 0;
+        while done < part.len() {
+            let count = (part.len() - done).min(BATCH_LEN - self.len);
+            self.take_in_batch(gcm, &part[done..done + count]);
+            done += count;
+        }
+    }
+
+    /// Hashes bytes that end in the batch of their first byte.
+    fn take_in_batch<G: UpdateBlocks>(&mut self, gcm: &G, bytes: &[u8])
+        requires short { self.old.len < 128 }
+        requires room { self.old.len + length bytes.now ≤ 128 }
+        ensures len { self.new.len ≡ (self.old.len + length bytes.now) % 128 }
+        ensures taken { (before : List ℕ) → HasTaken (G.hash_subkey gcm.now) before self.old
+            → HasTaken (G.hash_subkey gcm.now) (before ++ bytes.now) self.new }
+        ensures total { self.new.total ≡ self.old.total }
+    {
+        let end = self.len + bytes.len();
+        self.batch[self.len..end].copy_from_slice(bytes);
+        self.len = end % BATCH_LEN;
+        if end == BATCH_LEN {
+            self.xi = absorb(gcm, self.xi, &self.batch);
+        }
+    }
+
+    /// Returns the hash of all parts, whose last block is padded with zeros.
+    fn finish<G: UpdateBlocks>(&self, gcm: &G) -> Block
+        requires { self.now.len < 128 }
+        ensures { (bytes : List ℕ) → HasTaken (G.hash_subkey gcm.now) bytes self.now
+            → IsHashOf (G.hash_subkey gcm.now) (padded_blocks bytes) result }
+    {
+        absorb(gcm, self.xi, &self.batch[..self.len])
     }
 }
 

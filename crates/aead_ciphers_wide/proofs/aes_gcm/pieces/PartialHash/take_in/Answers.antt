@@ -1,0 +1,35 @@
+use Rattle.std.proofs.Common.{◌+◌, ◌-◌, ◌≡◌, ◌++◌, take, drop, ap, arith, subst, sym, append-nil, append_assoc, ◌∙◌}
+use Rattle.std.proofs.Math.Seq.{take-add}
+use Rattle.aead_ciphers_wide.specs.Pieces.{HasTaken}
+use Rattle.aead_ciphers_wide.proofs.aes_gcm.pieces.PartialHash.take_in.Goals as goal
+
+pub loop-done-init : goal.loop-done-init
+loop-done-init g c = record {
+  within = omega arith;
+  short = c.requires;
+  total = c.saturating_add-self.ensures;
+  taken = λ bytes at. record {
+    whole = at.whole;
+    parts = append-nil bytes ∙ at.parts;
+    aligned = at.aligned;
+    short = at.short;
+    hashed = at.hashed;
+  };
+}
+
+pub loop-done-preserved : goal.loop-done-preserved
+loop-done-preserved g c =
+    let part = c.args.part.now in
+    let done = c.loop-done.done in
+    let n = c.min-count.result in
+    let many : done + n - done ≡ n = omega arith in
+    record {
+      within = omega arith;
+      short = omega (arith, c.take_in_batch.ensures.len);
+      total = c.take_in_batch.ensures.total ∙ c.loop-done.invariant.total;
+      taken = λ bytes at.
+          subst (λ xs. HasTaken (g.G.UpdateBlock.hash_subkey c.args.gcm.now) xs c.take_in_batch.new.self)
+          (append_assoc bytes (take done part) _
+          ∙ ap (λ xs. bytes ++ xs) (ap (λ k. take done part ++ take k (drop done part)) many ∙ sym (take-add done n part)))
+          (c.take_in_batch.ensures.taken _ (c.loop-done.invariant.taken bytes at));
+    }
