@@ -10,6 +10,7 @@ pub mod PacketLemmas
 pub mod PartLemmas
 pub mod PhaseLemmas
 pub mod ReceivingLemmas
+pub mod RetryLemmas
 pub mod RoomLemmas
 pub mod RunLemmas
 pub mod SecretLemmas

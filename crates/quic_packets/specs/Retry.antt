@@ -1,5 +1,5 @@
 -- The integrity of Retry packets (RFC 9001 section 5.8). A Retry packet ends with its tag of 16 bytes.
-use Rattle.std.specs.Prelude.{◌≡◌, ℕ, ◌-◌, ◌≤◌, List, [], ◌∷◌, ◌++◌, length, take, drop}
+use Rattle.std.specs.Prelude.{◌≡◌, ℕ, ◌-◌, ◌^◌, ◌<◌, ◌≤◌, List, [], ◌∷◌, ◌++◌, length, take, drop}
 use Rattle.aead_ciphers_base.specs.Aes.{aes}
 use Rattle.aead_ciphers.specs.Gcm.{gcm_tag}
 
@@ -21,7 +21,12 @@ pseudo_packet original_id retry = (length original_id ∷ original_id) ++ retry
 abbrev pub integrity_tag : (original_id retry : List ℕ) → List ℕ
 integrity_tag original_id retry = gcm_tag (aes retry_key) retry_nonce (pseudo_packet original_id retry) []
 
+-- the pseudo-packet is shorter than the limit of an AAD (SP 800-38D section 5.2.1.1)
+abbrev pub IsShortPseudoPacket : (original_id retry : List ℕ) → Type 0
+IsShortPseudoPacket original_id retry = length (pseudo_packet original_id retry) < 2 ^ 61
+
 -- the packet ends with the tag of the bytes before it
 pub record IsGenuineRetry (original_id packet : List ℕ) : Type 0 where
   pub tagged : 16 ≤ length packet
+  pub short : IsShortPseudoPacket original_id (take (length packet - 16) packet)
   pub tag : drop (length packet - 16) packet ≡ integrity_tag original_id (take (length packet - 16) packet)

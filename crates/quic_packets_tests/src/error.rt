@@ -137,7 +137,7 @@ const RETRY_ERRORS: [(RetryError, &str); 2] = [
     ),
     (
         RetryError::TooLong,
-        "the Retry packet has more than 2048 bytes before its tag",
+        "the Retry packet has 2^61 bytes or more",
     ),
 ];
 

@@ -1,7 +1,7 @@
 //! Tests of `retry_tag` and `is_genuine_retry`: the packet of RFC 9001 appendix A.4, and modified packets.
 
 use crate::checks::equal;
-use quic_packets::{is_genuine_retry, retry_tag};
+use quic_packets::{RetryError, is_genuine_retry, retry_tag};
 use std::process::Abort;
 use std::test::Fail;
 
@@ -15,21 +15,52 @@ pub(crate) const A_4_RETRY: [u8; 36] = [
     0x0f, 0x24, 0x96, 0xba,
 ];
 
-/// Asserts that a Retry packet is genuine if and only if `wanted`.
-fn is_genuine(rt: &impl Abort, original_id: &[u8], packet: &[u8], wanted: bool) {
-    equal(rt, &is_genuine_retry(original_id, packet), &wanted);
+/// Returns whether a packet that is cut at a byte is genuine.
+fn is_genuine(original_id: &[u8], packet: &[u8], cut: usize) -> bool {
+    let (header, payload) = packet.split_at(cut);
+    is_genuine_retry(original_id, header, payload)
+}
+
+/// Asserts that the tag of a packet that is cut at each of these bytes is `tag`.
+fn has_tag(rt: &impl Abort, packet: &[u8], cuts: &[usize], tag: &[u8]) -> Result<(), RetryError> {
+    for cut in cuts {
+        let (header, token) = packet.split_at(*cut);
+        equal(rt, &retry_tag(&A_4_ID, header, token)?.as_ref(), &tag);
+    }
+    Ok(())
+}
+
+/// RFC 9001 appendix A.4, cut before and after each part of its header, and in its token.
+#[test]
+fn rfc_9001_a_4(rt: HostRuntime) -> Result<(), Fail> {
+    let (retry, tag) = A_4_RETRY.split_at(20);
+    has_tag(&rt, retry, &[0, 1, 5, 6, 7, 15, 17, 20], tag)?;
+    for cut in [0, 1, 15, 20] {
+        equal(&rt, &is_genuine(&A_4_ID, &A_4_RETRY, cut), &true);
+    }
+    Ok(())
+}
+
+/// The tag by python's `cryptography` of a packet with the header of A.4 and a token of 5,000 bytes, each 0x5a.
+const OF_A_LONG_TOKEN: [u8; 16] = [
+    0x56, 0xdb, 0x1f, 0xa7, 0xfd, 0xbd, 0xb1, 0x39, 0x41, 0x04, 0xf1, 0x99, 0xe6, 0xee, 0x99, 0x8b,
+];
+
+#[test]
+fn long_token(rt: HostRuntime) -> Result<(), Fail> {
+    let mut packet = [0x5a; 5015];
+    packet[..15].copy_from_slice(&A_4_RETRY[..15]);
+    has_tag(&rt, &packet, &[0, 15, 16, 127, 128, 5015], &OF_A_LONG_TOKEN)?;
+    Ok(())
 }
 
 #[test]
-fn retry(rt: HostRuntime) -> Result<(), Fail> {
+fn modified_packets(rt: HostRuntime) {
     let mut packet = A_4_RETRY;
-    let (retry, tag) = packet.split_at(20);
-    equal(&rt, &retry_tag(&A_4_ID, retry)?.as_ref(), &tag);
-    is_genuine(&rt, &A_4_ID, &packet, true);
-    is_genuine(&rt, &A_4_ID[1..], &packet, false);
-    is_genuine(&rt, &[0; 21], &packet, false);
-    is_genuine(&rt, &A_4_ID, &packet[..15], false);
+    equal(&rt, &is_genuine(&A_4_ID[1..], &packet, 15), &false);
+    equal(&rt, &is_genuine(&[0; 21], &packet, 15), &false);
+    equal(&rt, &is_genuine(&A_4_ID, &packet, 21), &false);
+    equal(&rt, &is_genuine(&A_4_ID, &packet[..15], 0), &false);
     packet[16] ^= 1;
-    is_genuine(&rt, &A_4_ID, &packet, false);
-    Ok(())
+    equal(&rt, &is_genuine(&A_4_ID, &packet, 15), &false);
 }
