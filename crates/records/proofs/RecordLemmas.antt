@@ -95,7 +95,7 @@ module _ (key : KeyState) (number : ℕ) (bytes : List ℕ) where
 
   pub bytes_refused : (error : RecordError) → RefusesBytes key.size_limit bytes error → RefusesMessage key number bytes error
   bytes_refused WrongLength r = r
-  bytes_refused Refused r = absurd r.1
+  bytes_refused Refused r = absurd r.1.1
   bytes_refused error r = search rules
 
   opened_refuses : (error : RecordError) → SealsRefused key number bytes error → RefusesToOpen key number bytes error
@@ -284,3 +284,53 @@ module _ (key : KeyState) (number : ℕ) (bytes : List ℕ) (small : key.size_li
         sealed = rw there sealed;
         left = e ∙ ap (λ k. opened ++ drop k old) behind ∙ ap (overwritten old 0) (sym there);
       }
+
+-- ---- the payload of a record, whose length gives the header
+
+module _ (key : KeyState) (number : ℕ) (payload : List ℕ) (small : key.size_limit ≤ 2 ^ 14 + 1) (shortest : 17 ≤ length payload)
+    (longest : length payload ≤ key.size_limit + 16) where
+  abbrev headed : List ℕ
+  headed = header (length payload) ++ payload
+
+  abbrev payload_nonce : List ℕ
+  payload_nonce = xored_nonce key.iv number
+
+  abbrev OpensPayload : Bool → List ℕ → Type 0
+  OpensPayload accepts new = OpenedAttached (aes key.bytes) payload_nonce (header (length payload)) 0 payload accepts new
+
+  length-headed : length headed ≡ 5 + length payload
+  length-headed = length-append (header (length payload)) payload
+
+  pub payload_whole : IsWhole key.size_limit headed
+  payload_whole = record {
+    start = ap header (omega (arith, length-headed));
+    shortest = omega (arith, length-headed);
+    longest = omega (arith, length-headed);
+  }
+
+  abbrev text_len : ℕ
+  text_len = length payload - 16
+
+  count_is : length headed - 5 - 16 ≡ text_len
+  count_is = omega (arith, length-headed)
+
+  length-payload_text : length (take text_len payload) ≡ text_len
+  length-payload_text = length-take-le text_len payload (omega arith)
+
+  -- its tag is false
+  pub payload_refused : (new : List ℕ) → OpensPayload false new → (message : List ℕ) → ¬ Seals key number headed message
+  payload_refused new o =
+      refused_to key number headed small payload_whole
+      (rw count_is
+      (λ right.
+      let wrong : false ≡ true = o.accepted.1 (omega arith, right.0, right.1) in
+      cc))
+
+  -- its tag is right
+  pub payload_opened : (new : List ℕ) → OpensPayload true new → (len : ℕ) → len ≡ length payload - 16 - 0
+      → OpensMessage key number headed 0 payload new len
+  payload_opened new o len is =
+      let right = (o.accepted.0 refl).2 in
+      let opened = o.buffer ∙ ap (λ n. gcm_decrypted (aes key.bytes) payload_nonce (take text_len payload) ++ drop n payload) length-payload_text in
+      rw (let same : len ≡ length headed - 5 - 16 = omega (arith, is, count_is) in same)
+      (opened_to key number headed small payload_whole payload new (rw count_is right) (rw count_is opened))

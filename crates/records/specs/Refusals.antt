@@ -43,15 +43,18 @@ RefusesToSeal size_limit content_type n padding room NoRoom =
     IsAllowed size_limit content_type n padding × (room < n + padding + 22)
 RefusesToSeal size_limit content_type n padding room error = RefusesContent size_limit content_type n padding error
 
--- why a header is rejected. 2^14 + 256 bytes is the limit of section 5.2 for any cipher; `size_limit` bounds the inner
--- plaintext, so its tag adds 16 bytes
+-- why the length of an encrypted record is rejected. 2^14 + 256 bytes is the limit of section 5.2 for any cipher; `size_limit` bounds
+-- the inner plaintext, so its tag adds 16 bytes
+abbrev pub RefusesLen : (size_limit len : ℕ) → RecordError → Type 0
+RefusesLen size_limit len EncryptedRecordTooLong = 2 ^ 14 + 256 < len
+RefusesLen size_limit len InnerPlaintextTooLong = (size_limit + 16 < len) × (len ≤ 2 ^ 14 + 256)
+RefusesLen size_limit len EncryptedRecordTooShort = len < 17
+RefusesLen size_limit len error = ⊥
+
+-- why a header is rejected
 abbrev pub RefusesHeader : (size_limit : ℕ) → List ℕ → RecordError → Type 0
 RefusesHeader size_limit bytes UnexpectedRecord = take 3 bytes ≢ record_start
-RefusesHeader size_limit bytes EncryptedRecordTooLong = (take 3 bytes ≡ record_start) × (2 ^ 14 + 256 < body_len bytes)
-RefusesHeader size_limit bytes InnerPlaintextTooLong =
-    (take 3 bytes ≡ record_start) × (size_limit + 16 < body_len bytes) × (body_len bytes ≤ 2 ^ 14 + 256)
-RefusesHeader size_limit bytes EncryptedRecordTooShort = (take 3 bytes ≡ record_start) × (body_len bytes < 17)
-RefusesHeader size_limit bytes error = ⊥
+RefusesHeader size_limit bytes error = (take 3 bytes ≡ record_start) × RefusesLen size_limit (body_len bytes) error
 
 -- why bytes are not one whole record
 abbrev pub RefusesBytes : (size_limit : ℕ) → List ℕ → RecordError → Type 0

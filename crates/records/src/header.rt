@@ -2,7 +2,7 @@
 
 ghost use Rattle.std.specs.Prelude.{◌≡◌, ◌+◌, ◌-◌, ◌^◌, ◌<◌, ◌≤◌, ◌↔◌, take, IsOk, IfOk, IfErr};
 ghost use Rattle.records.specs.Record.{header, body_len, IsHeader, IsWhole};
-ghost use Rattle.records.specs.Refusals.{RefusesBytes, RefusesHeader};
+ghost use Rattle.records.specs.Refusals.{RefusesBytes, RefusesHeader, RefusesLen};
 
 use crate::record_error::RecordError;
 use crate::{HEADER_LEN, TAG_LEN};
@@ -33,6 +33,16 @@ pub(crate) fn record_len(size_limit: usize, header: &[u8; HEADER_LEN]) -> Result
         return Err(RecordError::UnexpectedRecord);
     }
     let len = usize::from(u16::from_be_bytes([high, low]));
+    check_len(size_limit, len)?;
+    Ok(HEADER_LEN + len)
+}
+
+/// Checks the length of an encrypted record.
+pub(crate) fn check_len(size_limit: usize, len: usize) -> Result<(), RecordError>
+    requires { size_limit ≤ 2 ^ 14 + 256 - 16 }
+    ensures accepted { IsOk result ↔ ((17 ≤ len) × (len ≤ size_limit + 16)) }
+    ensures refused { IfErr result (RefusesLen size_limit len) }
+{
     if len > MAX_ENCRYPTED_LEN {
         return Err(RecordError::EncryptedRecordTooLong);
     }
@@ -42,7 +52,7 @@ pub(crate) fn record_len(size_limit: usize, header: &[u8; HEADER_LEN]) -> Result
     if len < 1 + TAG_LEN {
         return Err(RecordError::EncryptedRecordTooShort);
     }
-    Ok(HEADER_LEN + len)
+    Ok(())
 }
 
 /// The header of these bytes, if they are one whole record.

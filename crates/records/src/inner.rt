@@ -1,15 +1,12 @@
 //! The inner plaintext of a record.
 
-ghost use Rattle.std.specs.Prelude.{◌≡◌, ◌≢◌, ◌+◌, ◌-◌, ◌<◌, ◌≤◌, ◌^◌, ◌↔◌, ℕ, length, take, drop, replicate, IfSome, IfNone, IsOk, IfOk, IfErr};
-ghost use Rattle.aead_ciphers.specs.Packet.{packet_message};
-ghost use Rattle.records.specs.Record.{header, inner_plaintext, plaintext, type_code, IsAllowed};
+ghost use Rattle.std.specs.Prelude.{◌≡◌, ◌≢◌, ◌+◌, ◌-◌, ◌<◌, ◌≤◌, ◌^◌, ◌↔◌, ℕ, length, take, replicate, IfSome, IfNone, IsOk, IfOk, IfErr};
+ghost use Rattle.records.specs.Record.{inner_plaintext, plaintext, type_code, IsAllowed};
 ghost use Rattle.records.specs.Refusals.{RefusesContent, RefusesInner};
 
 use crate::alert::ALERT_LEN;
 use crate::content_type::ContentType;
-use crate::header::header_of;
 use crate::record_error::RecordError;
-use crate::{HEADER_LEN, TAG_LEN};
 
 /// The length of the inner plaintext of a content of this type and length.
 pub(crate) fn inner_len(
@@ -35,21 +32,14 @@ pub(crate) fn inner_len(
     Ok(content_len + 1 + padding)
 }
 
-/// Writes a header, the type and the padding around a content, in place. The last 16 bytes are room for the tag.
-pub(crate) fn frame(bytes: &mut [u8], content_type: ContentType, content_len: usize)
-    requires room { content_len + 22 ≤ length bytes.old }
-    requires fits { length bytes.old ≤ 2 ^ 15 }
-    ensures header { take HEADER_LEN bytes.new ≡ header (length bytes.old - HEADER_LEN) }
-    ensures message { packet_message HEADER_LEN bytes.new
-        ≡ plaintext (take content_len (drop HEADER_LEN bytes.old)) (type_code content_type)
-        (length bytes.old - 22 - content_len) }
+/// Writes the type and the padding after a content, in place, so that the whole is an inner plaintext.
+pub(crate) fn pad(inner: &mut [u8], content_type: ContentType, content_len: usize)
+    requires { content_len < length inner.old }
+    ensures { inner.new ≡ plaintext (take content_len inner.old) (type_code content_type)
+        (length inner.old - 1 - content_len) }
 {
-    let content_end = HEADER_LEN + content_len;
-    let tag_at = bytes.len() - TAG_LEN;
-    let header = header_of(bytes.len() - HEADER_LEN);
-    bytes[..HEADER_LEN].copy_from_slice(&header);
-    bytes[content_end] = content_type.code();
-    bytes[content_end + 1..tag_at].fill(0);
+    inner[content_len] = content_type.code();
+    inner[content_len + 1..].fill(0);
 }
 
 /// The type and the length of the content of an inner plaintext.

@@ -4,17 +4,17 @@ ghost use Rattle.std.specs.Prelude.{◌≡◌, ℕ, List, ◌+◌, ◌-◌, ◌^
 ghost use Rattle.aead_ciphers.specs.Algorithm.{key_len};
 ghost use Rattle.key_derivation.specs.Tls.{record_iv, record_key};
 ghost use Rattle.records.specs.Keys.{new_key, rekeyed, secret_key, suite_algorithm};
-ghost use Rattle.records.specs.Record.{record_at, Carries, Inner, IsAllowed, IsWhole, Seals};
+ghost use Rattle.records.specs.Record.{header, record_at, Carries, Inner, IsAllowed, IsWhole, Seals};
 ghost use Rattle.records.specs.Refusals.{RefusesContent, RefusesToOpenTo, RefusesToSeal};
 ghost use Rattle.records.specs.Steps.{content_at, LeavesInner, LeavesRefused, Opens, OpensMessage, RefusesMessage};
 
-use crate::cipher::Cipher;
 use crate::content_type::ContentType;
-use crate::header::header_in;
-use crate::inner::{content_of, frame, inner_len};
+use crate::header::{check_len, header_in, header_of};
+use crate::inner::{content_of, inner_len, pad};
 use crate::record_error::RecordError;
 use crate::{HEADER_LEN, MAX_SIZE_LIMIT, MIN_SIZE_LIMIT, TAG_LEN};
 use aead_ciphers::aead::{AES_128_GCM, AES_256_GCM, Aad, Algorithm, NONCE_LEN, Tag, nonce_of};
+use aead_ciphers_wide::aead::LessSafeKey;
 use key_derivation::{Secret, Suite};
 use std::marker::Model;
 
@@ -34,7 +34,7 @@ fn algorithm_of(suite: Suite) -> &'static Algorithm
 /// It keeps no count: not using a number twice for sealing is the caller's responsibility. A `Writer` and a `Reader` count.
 #[derive(Drop)]
 pub struct RecordKey {
-    key: Cipher,
+    key: LessSafeKey,
     iv: [u8; NONCE_LEN],
     size_limit: usize,
 }
@@ -69,7 +69,7 @@ impl RecordKey {
         ensures refused { IsOkUnless result RecordError.KeyLength }
         ensures made { IfOk result (λ made. made ≡ new_key algorithm.now key.now iv) }
     {
-        match Cipher::new(algorithm, key) {
+        match LessSafeKey::new(algorithm, key) {
             Ok(key) => Ok(RecordKey {
                 key,
                 iv,
@@ -225,6 +225,43 @@ impl RecordKey {
         inner_len(self.size_limit, content_type, content_len, padding)
     }
 
+    /// Seals the payload of the record with this number in place, the bytes after its header, and returns its length,
+    /// `content_len + padding + 17` bytes (RFC 8446 sections 5.2 and 5.4). That length gives the header, which is the AAD.
+    ///
+    /// The content is the first `content_len` bytes of `payload`. Its type, `padding` zeros and the tag are written after it.
+    /// The bytes after the tag are unchanged. Each number may be used only once.
+    ///
+    /// Fails as `seal_at` does, with `NoRoom` if `payload` is too short. `payload` is then unchanged.
+    pub fn seal_payload(
+        &self,
+        number: u64,
+        content_type: ContentType,
+        payload: &mut [u8],
+        content_len: usize,
+        padding: usize,
+    ) -> Result<usize, RecordError>
+        ensures accepted { IsOk result
+            ↔ (IsAllowed self.now.size_limit content_type content_len padding
+            × (content_len + padding + 17 ≤ length payload.old)) }
+        ensures refused { IfErr result (RefusesToSeal
+            self.now.size_limit content_type content_len padding (length payload.old + 5)) }
+        ensures len { IfOk result (λ n. n ≡ content_len + padding + 17) }
+        ensures sealed { OnOk result (header (content_len + padding + 17) ++ payload.new
+            ≡ record_at self.now number (record {
+              content_type = content_type;
+              content = take content_len payload.old;
+              padding = padding;
+            }) ++ drop (content_len + padding + 17) payload.old) }
+        ensures kept { OnErr result (payload.new ≡ payload.old) }
+    {
+        let len = self.inner_len(content_type, content_len, padding)? + TAG_LEN;
+        if payload.len() < len {
+            return Err(RecordError::NoRoom);
+        }
+        self.seal_body(number, content_type, &mut payload[..len], content_len);
+        Ok(len)
+    }
+
     /// Seals the record that is the whole of these bytes.
     pub(crate) fn seal_whole(
         &self,
@@ -241,8 +278,33 @@ impl RecordKey {
           padding = length bytes.old - 22 - content_len;
         }) }
     {
-        frame(bytes, content_type, content_len);
-        self.key.seal_record(nonce_of(&self.iv, number), bytes);
+        let (head, body) = bytes.split_at_mut(HEADER_LEN);
+        head.copy_from_slice(&header_of(body.len()));
+        self.seal_body(number, content_type, body, content_len);
+    }
+
+    /// Seals the payload of a record that is the whole of these bytes.
+    fn seal_body(&self, number: u64, content_type: ContentType, body: &mut [u8], content_len: usize)
+        requires room { content_len + 17 ≤ length body.old }
+        requires fits { length body.old ≤ 2 ^ 15 }
+        ensures { header (length body.old) ++ body.new ≡ record_at self.now number (record {
+          content_type = content_type;
+          content = take content_len body.old;
+          padding = length body.old - 17 - content_len;
+        }) }
+    {
+        let header = header_of(body.len());
+        let message_len = body.len() - TAG_LEN;
+        let (message, tag_bytes) = body.split_at_mut(message_len);
+        pad(message, content_type, content_len);
+        let nonce = nonce_of(&self.iv, number);
+        let Ok(tag) = self
+            .key
+            .seal_in_place_separate_tag(nonce, Aad::from(header.as_slice()), message)
+        else {
+            unreachable!();
+        };
+        tag_bytes.copy_from_slice(tag.as_ref());
     }
 
     /// Opens the record with this number, which is the whole of `bytes`, in place, and returns the type of its content and its
@@ -264,6 +326,61 @@ impl RecordKey {
     {
         let end = bytes.len();
         self.open_within(number, bytes, HEADER_LEN, 0, end)
+    }
+
+    /// Opens the payload of the record with this number in place, the bytes after its header, and returns the type of its content
+    /// and its length in bytes. The content is then `payload[..length]`. The length of `payload` gives the header, which is the
+    /// AAD.
+    ///
+    /// The tag is unchanged. Fails as `open_at` does for the record with that header, with `EncryptedRecordTooLong` for any
+    /// payload of more than 2^14 + 256 bytes. Unless the record is authentic, a failure leaves every byte unchanged. After
+    /// `NoContentType`, `UnexpectedType`, `EmptyContent` and `AlertLength`, its inner plaintext is at the front of `payload`.
+    pub fn open_payload(
+        &self,
+        number: u64,
+        payload: &mut [u8],
+    ) -> Result<(ContentType, usize), RecordError>
+        ensures opens { length payload.old ≤ 2 ^ 14 + 256
+            → Opens self.now number (header (length payload.old) ++ payload.old)
+            (content_at 0 payload.new result) }
+        ensures too_long { IsErrOf result RecordError.EncryptedRecordTooLong
+            ↔ (2 ^ 14 + 256 < length payload.old) }
+        ensures within { IfOk result (λ read. read.1 + 17 ≤ length payload.old) }
+        ensures put { IfOk result
+            (LeavesInner (length payload.old + 5) 0 payload.old payload.new) }
+        ensures kept { IfErr result (LeavesRefused self.now number
+            (header (length payload.old) ++ payload.old) 0 payload.old payload.new) }
+    {
+        let len = self.open_body(number, payload)?;
+        match content_of(&payload[..len]) {
+            Ok(found) => Ok(found),
+            Err(error) => Err(error),
+        }
+    }
+
+    /// Opens the inner plaintext of a payload to its front, and returns its length.
+    fn open_body(&self, number: u64, payload: &mut [u8]) -> Result<usize, RecordError>
+        ensures opened { IfOk result (OpensMessage
+            self.now number (header (length payload.old) ++ payload.old) 0 payload.old payload.new) }
+        ensures within { IfOk result (λ n. n + 16 ≡ length payload.old) }
+        ensures refused { length payload.old ≤ 2 ^ 14 + 256 → IfErr result (RefusesMessage
+            self.now number (header (length payload.old) ++ payload.old)) }
+        ensures too_long { IsErrOf result RecordError.EncryptedRecordTooLong
+            ↔ (2 ^ 14 + 256 < length payload.old) }
+        ensures none { OnErr result ((inner : Inner)
+            → ¬ Carries self.now number (header (length payload.old) ++ payload.old) inner) }
+        ensures kept { OnErr result (payload.new ≡ payload.old) }
+    {
+        check_len(self.size_limit, payload.len())?;
+        let header = header_of(payload.len());
+        let nonce = nonce_of(&self.iv, number);
+        match self
+            .key
+            .open_within_to_front(nonce, Aad::from(header.as_slice()), payload, 0..)
+        {
+            Ok(len) => Ok(len),
+            Err(_) => Err(RecordError::Refused),
+        }
     }
 
     /// Like `open_at` from one buffer to another: the content is then `out[..length]`. `out` has room for the inner plaintext,

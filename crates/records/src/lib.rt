@@ -7,7 +7,6 @@
 #![tactic(auto)]
 
 mod alert;
-mod cipher;
 pub mod connection;
 mod content_type;
 mod header;

@@ -698,6 +698,72 @@ fn rejected_to_another_buffer(rt: HostRuntime) -> Result<(), Fail> {
     Ok(())
 }
 
+/// Seals a content of four bytes under the last number, without a header.
+fn seal_last_payload(key: &RecordKey, payload: &mut [u8]) -> Result<usize, RecordError> {
+    key.seal_payload(u64::MAX, ApplicationData, payload, 4, 0)
+}
+
+/// Opens a payload.
+fn open_payload(
+    key: &RecordKey,
+    number: u64,
+    payload: &mut [u8],
+) -> Result<(ContentType, usize), RecordError> {
+    key.open_payload(number, payload)
+}
+
+/// A payload is the record after its header, sealed in only the bytes that it needs.
+#[test]
+fn sealed_and_opened_without_a_header(rt: HostRuntime) -> Result<(), Fail> {
+    let key = RecordKey::new(&AES_128_GCM, &KEY[..16], IV)?;
+    let record = <[u8; 26]>::from_hex(LAST)?;
+    let mut payload = [9; 23];
+    payload[..4].copy_from_slice(b"last");
+    let no_room = seal_last_payload(&key, &mut payload[..20]);
+    holds(&rt, no_room == Err(RecordError::NoRoom), "no room");
+    let sealed = seal_last_payload(&key, &mut payload);
+    holds(&rt, sealed == Ok(21), "the length");
+    begins_with(&rt, &payload, &record[5..], &[9; 23]);
+    let opened = open_payload(&key, u64::MAX, &mut payload[..21]);
+    holds(&rt, opened == Ok((ApplicationData, 4)), "the type");
+    same(&rt, &payload[..5], b"last\x17", "the content");
+    Ok(())
+}
+
+/// An authentic record is rejected without its header for the same reason as with it.
+#[test]
+fn rejected_without_a_header(rt: HostRuntime) -> Result<(), Fail> {
+    let key = RecordKey::new(&AES_128_GCM, &KEY[..16], IV)?;
+    for (text, inner, error) in &AUTHENTIC {
+        let mut record = hex::decode(rt.alloc(), text)?;
+        let opened = open_payload(&key, 0, &mut record[5..]);
+        holds(&rt, opened == Err(*error), "the error");
+        same(&rt, &record[5..5 + inner.len()], inner, "the inner plaintext");
+    }
+    Ok(())
+}
+
+/// The lengths of payloads, and why each is rejected.
+const PAYLOAD_LENGTHS: [(usize, RecordError); 5] = [
+    (0, RecordError::EncryptedRecordTooShort),
+    (16, RecordError::EncryptedRecordTooShort),
+    (17, RecordError::Refused),
+    (16402, RecordError::InnerPlaintextTooLong),
+    (16641, RecordError::EncryptedRecordTooLong),
+];
+
+#[test]
+fn payloads_of_other_lengths(rt: HostRuntime) -> Result<(), Fail> {
+    let key = RecordKey::new(&AES_128_GCM, &KEY[..16], IV)?;
+    let mut payload = [7; 16641];
+    for (len, error) in PAYLOAD_LENGTHS {
+        let opened = open_payload(&key, 0, &mut payload[..len]);
+        holds(&rt, opened == Err(error), "the error");
+    }
+    same(&rt, &payload, &[7; 16641], "unchanged");
+    Ok(())
+}
+
 /// Numbers, and the records that `tools/read-records make` printed for them: one past the writer's default limit, and the last
 /// that a reader reads.
 const NUMBERED: [(u64, &str); 2] = [
