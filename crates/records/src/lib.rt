@@ -2,8 +2,8 @@
 //! are derived.
 //!
 //! A protected record is a header of 5 bytes and the encrypted record: the content, its type and zeros as padding, sealed under
-//! the number of the record with the header as AAD. `Writer` and `Reader` are the two ends; `docs/RECORDS.md` has the format
-//! byte by byte. `connection::Connection` is one end of a connection after the handshake, over both.
+//! the number of the record with the header as AAD. `Writer` and `Reader` are the two ends; `RECORDS.md`, beside the README, has
+//! the format byte by byte. `connection::Connection` is one end of a connection after the handshake, over both.
 #![tactic(auto)]
 
 mod alert;

@@ -1,4 +1,4 @@
--- Sealed files, as docs/SEALED_FILE.md defines them.
+-- Sealed files, as SEALED_FILE.md defines them.
 use Rattle.std.specs.Prelude.{ℕ, Bool, ◌+◌, ◌-◌, ◌*◌, ◌/◌, List, [], ◌∷◌, ◌++◌, length, take, drop, codes, ◌==◌, if◌then◌else◌}
 use Rattle.std.specs.List.{concat}
 use Rattle.std.specs.Int.{to_be_bytes, w32}

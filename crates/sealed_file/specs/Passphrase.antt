@@ -1,4 +1,4 @@
--- Files that are sealed under a passphrase: version 3, as docs/SEALED_FILE.md defines it.
+-- Files that are sealed under a passphrase: version 3, as SEALED_FILE.md defines it.
 use Rattle.std.specs.Prelude.{◌≡◌, ℕ, ◌<◌, ◌≤◌, ◌⊎◌, List, ◌++◌, length, take, drop}
 use Rattle.std.specs.Int.{from_be_bytes, to_be_bytes, w32}
 use Rattle.key_derivation.specs.Hash.{sha_256}

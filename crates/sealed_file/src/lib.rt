@@ -1,5 +1,6 @@
 //! Sealed files: a header and the file in chunks of 64 KiB, each sealed by AES-256-GCM under a key derived for the file. The
-//! nonce is the file's prefix, the chunk's number and whether it is the last (STREAM). `docs/SEALED_FILE.md` has the format.
+//! nonce is the file's prefix, the chunk's number and whether it is the last (STREAM). `SEALED_FILE.md`, beside the README, has
+//! the format.
 #![tactic(auto)]
 
 mod aad;
