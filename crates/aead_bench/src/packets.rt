@@ -6,7 +6,8 @@ use aead_ciphers::aead::nonce_of;
 use aead_ciphers_base::aes::AES_128_KEY_LEN;
 use aead_ciphers_wide::aead::LessSafeKey;
 use quic_packets::{
-    Failures, FixedBit, Keys, Packet, PacketError, Receiver, Sender, Space, Suite, packet_at,
+    Failures, FixedBit, Keys, Packet, PacketError, Receiver, Sender, Space, Suite, Version,
+    packet_at,
 };
 
 /// A short header of a QUIC packet: the first byte, a connection ID of 8 bytes, and a packet number of 2 bytes.
@@ -31,6 +32,7 @@ fn suite(key: &[u8]) -> Suite {
 /// The keys of a key, which also masks headers.
 fn keys(key: &[u8]) -> Keys<'_> {
     Keys {
+        version: Version::One,
         key,
         iv: NONCE,
         header_key: key,

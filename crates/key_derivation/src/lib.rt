@@ -1,8 +1,9 @@
-//! Keys from secrets and passwords, over SHA-256 and SHA-384: HMAC, HKDF, the keys of TLS 1.3's records and of QUIC version
-//! 1, and PBKDF2.
+//! Keys from secrets and passwords, over SHA-256 and SHA-384: HMAC, HKDF, the keys of TLS 1.3's records and of QUIC versions
+//! 1 and 2, and PBKDF2.
 //!
-//! A `Secret` gives the keys of one direction of a connection, and the secret after it. The functions of `hmac`, `hkdf` and
-//! `pbkdf2` are generic over the hash function. Nothing allocates, and nothing is wiped from memory.
+//! A `Secret` gives the keys of one direction of a connection, and the secret after it, and a `quic::QuicSecret` those of QUIC.
+//! The functions of `hmac`, `hkdf` and `pbkdf2` are generic over the hash function. Nothing allocates, and nothing is wiped
+//! from memory.
 #![tactic(auto)]
 
 mod error;
@@ -11,10 +12,11 @@ pub mod hkdf;
 pub mod hmac;
 mod keys;
 pub mod pbkdf2;
+pub mod quic;
 mod secret;
 mod suite;
 
 pub use error::DerivationError;
 pub use keys::{AeadKeyBytes, HeaderKeyBytes, IV_LEN, QuicKeys, RecordKeys};
-pub use secret::{MAX_CONNECTION_ID_LEN, Secret};
+pub use secret::Secret;
 pub use suite::Suite;

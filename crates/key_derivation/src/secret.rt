@@ -1,49 +1,31 @@
-//! Secrets of TLS 1.3 and QUIC, and the keys that they give (RFC 8446 sections 7.2 and 7.3, RFC 9001 sections 5.1, 5.2 and
-//! 6.1).
+//! Secrets of TLS 1.3, and the keys of records that they give (RFC 8446 sections 7.2 and 7.3).
 
 ghost use Rattle.std.specs.Prelude.{◌≡◌, ◌≤◌, ◌↔◌, [], codes, length, IsOk, IfOk, IsOkUnless};
 ghost use Rattle.key_derivation.specs.Hkdf.{hkdf_expand_label};
-ghost use Rattle.key_derivation.specs.Quic.{client_initial_secret, endpoint_secret, next_quic_secret, quic_header_key, quic_iv, quic_key, server_initial_secret};
 ghost use Rattle.key_derivation.specs.Secret.{labeled, next_secret, suite_key_len, suite_secret_len};
 ghost use Rattle.key_derivation.specs.Tls.{next_traffic_secret, record_iv, record_key};
 
 use crate::error::DerivationError;
 use crate::hash::Hash;
-use crate::hkdf::{Expander, extract};
-use crate::keys::{AeadKeyBytes, HeaderKeyBytes, IV_LEN, KeyBytes, QuicKeys, RecordKeys};
+use crate::hkdf::Expander;
+use crate::keys::{AeadKeyBytes, IV_LEN, KeyBytes, RecordKeys};
 use crate::suite::Suite;
 use sha2::{Sha256, Sha384};
 use std::fmt;
 use std::marker::Model;
 
-/// The length of the longest connection ID in bytes (RFC 9000 section 17.2).
-pub const MAX_CONNECTION_ID_LEN: usize = 20;
-
-// The salt of version 1 (RFC 9001 section 5.2).
-const INITIAL_SALT: [u8; 20] = [
-    0x38, 0x76, 0x2c, 0xf7, 0xf5, 0x59, 0x34, 0xb3, 0x4d, 0x17, 0x9a, 0xe6, 0xa4, 0xc8, 0x0c, 0xad,
-    0xcc, 0xbb, 0x7f, 0x0a,
-];
-
 // The bytes of a secret, as many as a digest of its hash function has.
 #[derive(Drop)]
-enum SecretBytes {
+pub(crate) enum SecretBytes {
     Sha256([u8; 32]),
     Sha384([u8; 48]),
 }
 
-/// A secret of one direction of a connection of TLS 1.3 or QUIC, which gives the keys of this direction and the next secret.
-///
-/// # Examples
-///
-/// The keys of a client's Initial packets. From `crates/quic_packets_tests/src/examples/initial_keys.rt`:
-///
-/// ```
-/// Ok(Secret::client_initial(id)?.quic_keys())
-/// ```
+/// A secret of one direction of a connection of TLS 1.3, which gives the keys of this direction and the next secret. A
+/// `QuicSecret` gives the keys of QUIC.
 #[derive(Drop)]
 pub struct Secret {
-    inner: SecretBytes,
+    pub(crate) inner: SecretBytes,
 }
 
 impl Model for Secret {
@@ -103,30 +85,6 @@ impl Secret {
         }
     }
 
-    /// Creates the secret of the Initial packets that a client sends, from the Destination Connection ID of its first one
-    /// (RFC 9001 section 5.2).
-    ///
-    /// Fails with `ConnectionIdLength` if `id` has more than 20 bytes.
-    pub fn client_initial(id: &[u8]) -> Result<Self, DerivationError>
-        ensures accepted { IsOk result ↔ (length id.now ≤ 20) }
-        ensures refused { IsOkUnless result DerivationError.ConnectionIdLength }
-        ensures made { IfOk result (λ s. s ≡ client_initial_secret id.now) }
-    {
-        initial(id, b"client in")
-    }
-
-    /// Creates the secret of the Initial packets that a server sends, from the Destination Connection ID of the client's
-    /// first Initial packet (RFC 9001 section 5.2).
-    ///
-    /// Fails with `ConnectionIdLength` if `id` has more than 20 bytes.
-    pub fn server_initial(id: &[u8]) -> Result<Self, DerivationError>
-        ensures accepted { IsOk result ↔ (length id.now ≤ 20) }
-        ensures refused { IsOkUnless result DerivationError.ConnectionIdLength }
-        ensures made { IfOk result (λ s. s ≡ server_initial_secret id.now) }
-    {
-        initial(id, b"server in")
-    }
-
     /// Returns the secret's suite.
     pub fn suite(&self) -> Suite
         ensures { result ≡ self.now.suite }
@@ -146,42 +104,6 @@ impl Secret {
             SecretBytes::Sha256(bytes) => bytes,
             SecretBytes::Sha384(bytes) => bytes,
         }
-    }
-
-    /// Returns the keys of QUIC, by the labels `quic key`, `quic iv` and `quic hp` (RFC 9001 section 5.1).
-    pub fn quic_keys(&self) -> QuicKeys
-        ensures key { result.key ≡ quic_key self.now }
-        ensures iv { result.iv ≡ quic_iv self.now }
-        ensures header_key { result.header_key ≡ quic_header_key self.now }
-        ensures key_len { length result.key ≡ suite_key_len self.now.suite }
-        ensures header_key_len { length result.header_key ≡ suite_key_len self.now.suite }
-    {
-        let mut iv = [0; IV_LEN];
-        let (key, header_key) = match &self.inner {
-            SecretBytes::Sha256(bytes) => {
-                let (mut key, mut header_key) = ([0; 16], [0; 16]);
-                fill_quic_keys::<Sha256>(bytes, &mut key, &mut iv, &mut header_key);
-                (KeyBytes::Aes128(key), KeyBytes::Aes128(header_key))
-            }
-            SecretBytes::Sha384(bytes) => {
-                let (mut key, mut header_key) = ([0; 32], [0; 32]);
-                fill_quic_keys::<Sha384>(bytes, &mut key, &mut iv, &mut header_key);
-                (KeyBytes::Aes256(key), KeyBytes::Aes256(header_key))
-            }
-        };
-        QuicKeys {
-            key: AeadKeyBytes { inner: key },
-            iv,
-            header_key: HeaderKeyBytes { inner: header_key },
-        }
-    }
-
-    /// Returns the secret after a key update of QUIC, by the label `quic ku` (RFC 9001 section 6.1). The header key does not
-    /// change at an update: it stays that of the first secret.
-    pub fn next_quic(&self) -> Self
-        ensures { result ≡ next_quic_secret self.now }
-    {
-        self.next(b"quic ku")
     }
 
     /// Returns the key of TLS 1.3's records, by the labels `key` and `iv` (RFC 8446 section 7.3).
@@ -217,7 +139,7 @@ impl Secret {
     }
 
     // The next secret by its label.
-    fn next(&self, label: &[u8]) -> Self
+    pub(crate) fn next(&self, label: &[u8]) -> Self
         requires { length label.now ≤ 249 }
         ensures { result ≡ next_secret self.now label.now }
     {
@@ -252,22 +174,6 @@ impl Secret {
     }
 }
 
-// Fills the parts of the keys of QUIC, by one key of HMAC.
-fn fill_quic_keys<H: Hash>(secret: &[u8], key: &mut [u8], iv: &mut [u8], header_key: &mut [u8])
-    requires key { length key.old ≤ 32 }
-    requires iv { length iv.old ≤ 32 }
-    requires header_key { length header_key.old ≤ 32 }
-    ensures key { key.new ≡ hkdf_expand_label H.function secret.now (codes "quic key") [] (length key.old) }
-    ensures iv { iv.new ≡ hkdf_expand_label H.function secret.now (codes "quic iv") [] (length iv.old) }
-    ensures header_key { header_key.new
-        ≡ hkdf_expand_label H.function secret.now (codes "quic hp") [] (length header_key.old) }
-{
-    let from = Expander::<H>::new(secret);
-    from.fill_labeled(b"quic key", b"", key);
-    from.fill_labeled(b"quic iv", b"", iv);
-    from.fill_labeled(b"quic hp", b"", header_key);
-}
-
 // Fills the parts of the keys of records, by one key of HMAC.
 fn fill_record_keys<H: Hash>(secret: &[u8], key: &mut [u8], iv: &mut [u8])
     requires key { length key.old ≤ 32 }
@@ -278,20 +184,4 @@ fn fill_record_keys<H: Hash>(secret: &[u8], key: &mut [u8], iv: &mut [u8])
     let from = Expander::<H>::new(secret);
     from.fill_labeled(b"key", b"", key);
     from.fill_labeled(b"iv", b"", iv);
-}
-
-// The secret of an endpoint by its label.
-fn initial(id: &[u8], label: &[u8]) -> Result<Secret, DerivationError>
-    requires { length label.now ≤ 249 }
-    ensures accepted { IsOk result ↔ (length id.now ≤ 20) }
-    ensures refused { IsOkUnless result DerivationError.ConnectionIdLength }
-    ensures made { IfOk result (λ s. s ≡ endpoint_secret id.now label.now) }
-{
-    if id.len() > MAX_CONNECTION_ID_LEN {
-        return Err(DerivationError::ConnectionIdLength);
-    }
-    let secret = extract::<Sha256>(&INITIAL_SALT, id);
-    let mut bytes = [0u8; 32];
-    Expander::<Sha256>::new(&secret).fill_labeled(label, b"", &mut bytes);
-    Ok(Secret::aes_128_gcm(bytes))
 }

@@ -12,6 +12,8 @@ mod hmac;
 #[cfg(test)]
 mod pbkdf2;
 #[cfg(test)]
+mod quic;
+#[cfg(test)]
 mod rfc_4231;
 #[cfg(test)]
 mod secret;

@@ -1,126 +1,9 @@
-//! The keys of secrets: RFC 9001 appendix A, RFC 8448 section 3, and a connection of OpenSSL.
+//! The keys of records of secrets: RFC 8448 section 3, and a connection of OpenSSL.
 
 use crate::checks::{bytes_of, equal, prints, same};
 use key_derivation::{DerivationError, Secret, Suite};
 use std::process::Abort;
 use std::test::Fail;
-
-/// Asserts the keys of QUIC that a secret gives.
-fn has_quic_keys(
-    rt: &(impl Abort + AllocGlobal),
-    secret: &Secret,
-    key: &str,
-    iv: &str,
-    header_key: &str,
-) {
-    let keys = secret.quic_keys();
-    same(rt, keys.key.as_slice(), key, "the key");
-    same(rt, &keys.iv, iv, "the IV");
-    same(rt, keys.header_key.as_slice(), header_key, "the header key");
-}
-
-/// RFC 9001 A.1.
-#[test]
-fn initial_secrets(rt: HostRuntime) -> Result<(), Fail> {
-    let id = bytes_of(&rt, "8394c8f03e515708");
-    let client = Secret::client_initial(&id)?;
-    same(
-        &rt,
-        client.as_slice(),
-        "c00cf151ca5be075ed0ebfb5c80323c42d6b7db67881289af4008f1f6c357aea",
-        "client_initial_secret",
-    );
-    has_quic_keys(
-        &rt,
-        &client,
-        "1f369613dd76d5467730efcbe3b1a22d",
-        "fa044b2f42a3fd3b46fb255c",
-        "9f50449e04a0e810283a1e9933adedd2",
-    );
-    let server = Secret::server_initial(&id)?;
-    same(
-        &rt,
-        server.as_slice(),
-        "3c199828fd139efd216c155ad844cc81fb82fa8d7446fa7d78be803acdda951b",
-        "server_initial_secret",
-    );
-    has_quic_keys(
-        &rt,
-        &server,
-        "cf3a5331653c364c88f0f379b6067e37",
-        "0ac1493ca1905853b0bba03e",
-        "c206b8d9b9f0f37644430b490eeaa314",
-    );
-    Ok(())
-}
-
-/// By python's `hmac`: the connection ID of no bytes, and of 20, whose byte i is i.
-#[test]
-fn connection_ids(rt: HostRuntime) -> Result<(), Fail> {
-    let id = bytes_of(&rt, "000102030405060708090a0b0c0d0e0f10111213");
-    same(
-        &rt,
-        Secret::client_initial(b"")?.as_slice(),
-        "594cb3b06a53f6d6e1c3af415ec6b91a5b97c13c4f38d3008cd4c50c224a8288",
-        "of no bytes",
-    );
-    same(
-        &rt,
-        Secret::server_initial(&id)?.as_slice(),
-        "a53a124c1b622b0fa517738d49dc215caf01fd3c5731202b39116346a97c37cb",
-        "of 20 bytes",
-    );
-    let refused = Some(DerivationError::ConnectionIdLength);
-    equal(&rt, &Secret::client_initial(&[0; 21]).err(), &refused);
-    equal(&rt, &Secret::server_initial(&[0; 21]).err(), &refused);
-    Ok(())
-}
-
-/// RFC 9001 A.5, `quic ku`.
-#[test]
-fn quic_update(rt: HostRuntime) -> Result<(), Fail> {
-    let bytes = bytes_of(
-        &rt,
-        "9ac312a7f877468ebe69422748ad00a15443f18203a07d6060f688f30f21632b",
-    );
-    let secret = Secret::new(Suite::Aes128Gcm, &bytes)?;
-    same(
-        &rt,
-        &secret.quic_keys().iv,
-        "e0459b3474bdd0e44a41c144",
-        "the IV",
-    );
-    same(
-        &rt,
-        secret.next_quic().as_slice(),
-        "1223504755036d556342ee9361d253421a826c9ecdf3c7148684b36b714881f9",
-        "the next secret",
-    );
-    Ok(())
-}
-
-/// By python's `hmac`: the keys of QUIC of a secret of 48 bytes, whose byte i is i.
-#[test]
-fn quic_keys_by_sha_384(rt: HostRuntime) {
-    let mut bytes = [0; 48];
-    for i in 0..48 {
-        bytes[i] = i as u8;
-    }
-    let secret = Secret::aes_256_gcm(bytes);
-    has_quic_keys(
-        &rt,
-        &secret,
-        "95c517eea81b6469ff8f27a065fd04c1a27b3023591b93e273a9df5f921d1f68",
-        "a8d8316bf5bb0bbfa74cbf17",
-        "307135de335efef95873468a03d3dfa1e38050df7cc6ab7f22fd7aced73b66e5",
-    );
-    same(
-        &rt,
-        secret.next_quic().as_slice(),
-        "d21f524277390ba96b86484d9c687f850f1e4d1f997033bba06051129179a762a94067d065f3f715e83d65a7bf8c79b9",
-        "the next secret",
-    );
-}
 
 /// A traffic secret, its record key and IV, and the traffic secret after a KeyUpdate, in hex.
 struct Traffic {
@@ -260,9 +143,7 @@ fn secret_lengths(rt: HostRuntime) {
 fn no_byte_is_printed(rt: HostRuntime) {
     let secret = Secret::aes_128_gcm([7; 32]);
     prints(&rt, &secret, "Secret { .. }");
-    prints(&rt, &secret.record_keys(), "RecordKeys { .. }");
-    let keys = secret.quic_keys();
-    prints(&rt, &keys, "QuicKeys { .. }");
+    let keys = secret.record_keys();
+    prints(&rt, &keys, "RecordKeys { .. }");
     prints(&rt, &keys.key, "AeadKeyBytes { .. }");
-    prints(&rt, &keys.header_key, "HeaderKeyBytes { .. }");
 }

@@ -5,13 +5,16 @@ use Rattle.std.proofs.lemmas.Nat.{one_shl, pow_pos}
 use Rattle.std.proofs.lemmas.Bool.{cond_both, ltb-false}
 use Rattle.std.specs.Int.Digits.{number_from_digits}
 use Rattle.std.proofs.Math.Nat.{le-max_left}
-use Rattle.std.specs.Prelude.{Err, IfOk, IfSome, IsErrOf, Ok, Result, false, length, nat_lt, slice_index, ◌==◌, if◌then◌else◌}
+use Rattle.std.specs.Prelude.{Err, IfOk, IfSome, IsErrOf, None, Ok, Option, Result, Some, false, length, nat_lt, slice_index, ◌==◌}
 use Rattle.std.specs.declared.ops.Range.{Range}
-use Rattle.quic_packets.specs.Datagram.{IsIn, IsPlaced, has_long_id, initial_token, long_packet, numbered_layout, opaque_layout, parts_of, retry_layout, short_layout, source_end, span, varint, version_1_layout, version_of, versioned_layout, whole, with_fixed_bit}
+use Rattle.quic_packets.specs.Datagram.{IsIn, IsPlaced, has_long_id, initial_token, known_layout, long_packet, numbered_layout, opaque_layout, parts_of, retry_layout, short_layout, source_end, span, typed_layout, varint, version_of, versioned_layout, whole, with_fixed_bit}
 use Rattle.quic_packets.specs.declared.datagram.DatagramError.{DatagramError}
 use Rattle.quic_packets.specs.declared.datagram.PacketType.{PacketType}
-use Rattle.quic_packets.specs.declared.datagram.PacketType.TheVariants.{Initial, ZeroRtt, Handshake, VersionNegotiation, OtherVersion}
+use Rattle.quic_packets.specs.declared.datagram.PacketType.TheVariants.{Initial, ZeroRtt, Handshake, Retry, VersionNegotiation, OneRtt, OtherVersion}
+use Rattle.key_derivation.specs.Quic.{numbered_version}
+use Rattle.key_derivation.specs.declared.quic.Version.{Version}
 use Rattle.quic_packets.specs.FixedBit.{lacks_fixed_bit}
+use Rattle.quic_packets.specs.Versions.{bits_of, type_of}
 use Rattle.quic_packets.specs.declared.fixed_bit.FixedBit.{FixedBit}
 use Rattle.quic_packets.specs.declared.datagram.DatagramError.TheVariants.{Cut, IdTooLong, NoFixedBit}
 use Rattle.quic_packets.specs.declared.datagram.Packet.{Packet}
@@ -114,27 +117,28 @@ numbered_laid d start kind token after ordered =
       );
     }
 
-version_1_laid : (d : List ℕ) (start : ℕ) → IsLaid start (version_1_layout d start)
-version_1_laid d start =
-    let bits = get_or d start 0 / 2 ^ 4 % 4 in
-    let none : Range ℕ = span (source_end d start) (source_end d start) in
-    cond_both (bits == 0) (numbered_layout d start Initial (initial_token d start))
-    (if bits == 1 then numbered_layout d start ZeroRtt none else if bits == 2 then numbered_layout d start Handshake none else retry_layout d start)
-    (IsLaid start) (λ e. numbered_laid d start Initial (initial_token d start) (omega arith) (omega arith))
-    (λ e. cond_both (bits == 1) (numbered_layout d start ZeroRtt none)
-    (if bits == 2 then numbered_layout d start Handshake none else retry_layout d start)
-    (IsLaid start) (λ e. numbered_laid d start ZeroRtt none (omega arith) (omega arith))
-    (λ e. cond_both (bits == 2) (numbered_layout d start Handshake none) (retry_layout d start)
-    (IsLaid start) (λ e. numbered_laid d start Handshake none (omega arith) (omega arith)) (λ e. retry_laid d start)))
+plain_laid : (d : List ℕ) (start : ℕ) (kind : PacketType)
+    → IsLaid start (numbered_layout d start kind (span (source_end d start) (source_end d start)))
+plain_laid d start kind = numbered_laid d start kind (span (source_end d start) (source_end d start)) (omega arith) (omega arith)
+
+typed_laid : (d : List ℕ) (start : ℕ) (kind : PacketType) → IsLaid start (typed_layout kind d start)
+typed_laid d start Initial = numbered_laid d start Initial (initial_token d start) (omega arith) (omega arith)
+typed_laid d start Retry = retry_laid d start
+typed_laid d start ZeroRtt = plain_laid d start ZeroRtt
+typed_laid d start Handshake = plain_laid d start Handshake
+typed_laid d start VersionNegotiation = plain_laid d start VersionNegotiation
+typed_laid d start OneRtt = plain_laid d start OneRtt
+typed_laid d start OtherVersion = plain_laid d start OtherVersion
+
+known_laid : (d : List ℕ) (start : ℕ) (version : Option Version) → IsLaid start (known_layout version d start)
+known_laid d start (Some version) = typed_laid d start (type_of version (bits_of (get_or d start 0)))
+known_laid d start None = opaque_laid d start OtherVersion
 
 versioned_laid : (d : List ℕ) (start : ℕ) → IsLaid start (versioned_layout d start)
 versioned_laid d start =
     let version = version_of d start in
-    cond_both (version == 0) (opaque_layout d start VersionNegotiation)
-    (if version == 1 then version_1_layout d start else opaque_layout d start OtherVersion) (IsLaid start)
-    (λ e. opaque_laid d start VersionNegotiation)
-    (λ e. cond_both (version == 1) (version_1_layout d start) (opaque_layout d start OtherVersion) (IsLaid start)
-    (λ e. version_1_laid d start) (λ e. opaque_laid d start OtherVersion))
+    cond_both (version == 0) (opaque_layout d start VersionNegotiation) (known_layout (numbered_version version) d start) (IsLaid start)
+    (λ e. opaque_laid d start VersionNegotiation) (λ e. known_laid d start (numbered_version version))
 
 pub packet_placed : (id_len : ℕ) (d : List ℕ) (start : ℕ) → Placed start d (parts_of id_len d start)
 packet_placed id_len d start =

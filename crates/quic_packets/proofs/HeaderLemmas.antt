@@ -15,10 +15,12 @@ no_form_bit true m = and_assoc 0x80 m 0x0f ∙ and_zero_r m
 no_form_bit false m = and_assoc 0x80 m 0x1f ∙ and_zero_r m
 
 -- masked, the first byte has the same form, and so the same mask
+pub same_form_masked : (first m : ℕ) → bit_and (bit_xor first (first_mask first m)) 0x80 ≡ bit_and first 0x80
+same_form_masked first m = and_xor_apart 0x80 first (first_mask first m) (no_form_bit (eqb (bit_and first 0x80) 0x80) m)
+
 same_first_mask : (first m : ℕ) → first_mask (bit_xor first (first_mask first m)) m ≡ first_mask first m
 same_first_mask first m =
-    ap (λ v. cond (eqb v 0x80) (bit_and m 0x0f) (bit_and m 0x1f))
-    (and_xor_apart 0x80 first (first_mask first m) (no_form_bit (eqb (bit_and first 0x80) 0x80) m))
+    ap (λ v. cond (eqb v 0x80) (bit_and m 0x0f) (bit_and m 0x1f)) (same_form_masked first m)
 
 first_back : (mask : List ℕ) (at n n' : ℕ) (old mid new : List ℕ) → Masked mask at n old mid → Masked mask at n' mid new
     → get_or new 0 0 ≡ get_or old 0 0

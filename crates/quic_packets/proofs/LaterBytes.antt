@@ -4,13 +4,16 @@ use Rattle.std.proofs.lemmas.List.{ext_get_or, get_or-drop}
 use Rattle.std.specs.Int.Digits.{number_from_digits}
 use Rattle.std.specs.Prelude.{Err, Ok, Option, Some, None, Result, nat_lt, slice_range, ◌==◌, ◌||◌, if◌then◌else◌}
 use Rattle.std.specs.declared.ops.Range.{Range}
-use Rattle.quic_packets.specs.Datagram.{destination_end, has_long_id, initial_token, long_layout, long_packet, longest_id, numbered_layout, opaque_layout, packet_of, parts_of, retry_layout, short_layout, source_end, span, with_fixed_bit, varint, varint_end, version_1_layout, version_of, versioned_layout, whole}
+use Rattle.quic_packets.specs.Datagram.{destination_end, has_long_id, initial_token, known_layout, long_layout, long_packet, longest_id, numbered_layout, opaque_layout, packet_of, parts_of, retry_layout, short_layout, source_end, span, with_fixed_bit, typed_layout, varint, varint_end, version_of, versioned_layout, whole}
 use Rattle.quic_packets.specs.declared.datagram.DatagramError.{DatagramError}
 use Rattle.quic_packets.specs.declared.datagram.DatagramError.TheVariants.{Cut, IdTooLong}
 use Rattle.quic_packets.specs.declared.datagram.Packet.{Packet}
 use Rattle.quic_packets.specs.declared.datagram.PacketType.{PacketType}
 use Rattle.quic_packets.specs.declared.fixed_bit.FixedBit.{FixedBit}
-use Rattle.quic_packets.specs.declared.datagram.PacketType.TheVariants.{Initial, ZeroRtt, Handshake, Retry, VersionNegotiation, OtherVersion}
+use Rattle.quic_packets.specs.declared.datagram.PacketType.TheVariants.{Initial, ZeroRtt, Handshake, Retry, VersionNegotiation, OneRtt, OtherVersion}
+use Rattle.key_derivation.specs.Quic.{numbered_version}
+use Rattle.key_derivation.specs.declared.quic.Version.{Version}
+use Rattle.quic_packets.specs.Versions.{bits_of, type_of}
 
 module _ (d e : List ℕ) (start : ℕ) (len : length e ≡ length d) (same : (i : ℕ) → start ≤ i → get_or e i 0 ≡ get_or d i 0) where
   tail : (a : ℕ) → start ≤ a → drop a e ≡ drop a d
@@ -88,9 +91,6 @@ module _ (d e : List ℕ) (start : ℕ) (len : length e ≡ length d) (same : (i
       long Retry (span s (max (s + 16) (length e) - 16)) None (max (s + 16) (length e))
       ∙ ap₂ (λ s n. long_layout d start Retry (span s (max (s + 16) n - 16)) None (max (s + 16) n)) source len
 
-  abbrev bits : ℕ
-  bits = get_or d start 0 / 2 ^ 4 % 4
-
   -- the layout of a packet without a token
   abbrev without_token : List ℕ → PacketType → Packet
   without_token xs kind = numbered_layout xs start kind (span (source_end xs start) (source_end xs start))
@@ -100,21 +100,26 @@ module _ (d e : List ℕ) (start : ℕ) (len : length e ≡ length d) (same : (i
       numbered kind (span (source_end e start) (source_end e start)) (omega arith)
       ∙ ap (λ s. numbered_layout d start kind (span s s)) source
 
-  version_1 : version_1_layout e start ≡ version_1_layout d start
-  version_1 =
-      ap₂ (λ b x. if b / 2 ^ 4 % 4 == 0 then x else if b / 2 ^ 4 % 4 == 1 then without_token e ZeroRtt
-      else if b / 2 ^ 4 % 4 == 2 then without_token e Handshake else retry_layout e start) (same start (omega arith)) initial
-      ∙ ap₂ (λ x y. if bits == 0 then numbered_layout d start Initial (initial_token d start) else if bits == 1 then x
-      else if bits == 2 then y else retry_layout e start) (plain ZeroRtt) (plain Handshake)
-      ∙ ap (λ x. if bits == 0 then numbered_layout d start Initial (initial_token d start) else if bits == 1 then without_token d ZeroRtt
-      else if bits == 2 then without_token d Handshake else x) retry
+  typed : (kind : PacketType) → typed_layout kind e start ≡ typed_layout kind d start
+  typed Initial = initial
+  typed Retry = retry
+  typed ZeroRtt = plain ZeroRtt
+  typed Handshake = plain Handshake
+  typed VersionNegotiation = plain VersionNegotiation
+  typed OneRtt = plain OneRtt
+  typed OtherVersion = plain OtherVersion
+
+  known : (number : Option Version) → known_layout number e start ≡ known_layout number d start
+  known (Some number) =
+      ap (λ b. typed_layout (type_of number (bits_of b)) e start) (same start (omega arith))
+      ∙ typed (type_of number (bits_of (get_or d start 0)))
+  known None = opaque OtherVersion
 
   versioned : versioned_layout e start ≡ versioned_layout d start
   versioned =
-      ap₂ (λ v x. if v == 0 then x else if v == 1 then version_1_layout e start else opaque_layout e start OtherVersion) version
-      (opaque VersionNegotiation)
-      ∙ ap₂ (λ x y. if version_of d start == 0 then opaque_layout d start VersionNegotiation else if version_of d start == 1 then x else y)
-      version_1 (opaque OtherVersion)
+      ap₂ (λ v x. if v == 0 then x else known_layout (numbered_version v) e start) version (opaque VersionNegotiation)
+      ∙ ap (λ x. if version_of d start == 0 then opaque_layout d start VersionNegotiation else x)
+      (known (numbered_version (version_of d start)))
 
   within : (p q : Packet) → p ≡ q → whole e p ≡ whole d q
   within p q is = ap₂ (λ n (x : Packet). if nat_lt n x.end then Err Cut else Ok x) len is

@@ -19,4 +19,5 @@ pub mod SentLemmas
 pub mod SkippedLemmas
 pub mod SpaceLemmas
 pub mod StepLemmas
+pub mod VersionLemmas
 pub mod WrittenLemmas

@@ -28,7 +28,7 @@ record Run (first next : ℕ) (gaps : List Gap) (life : Life) (sent : List Sent)
   each : (n : ℕ) → first ≤ n → n < next → is_skipped gaps n ≡ false → Has n sent
 
 run_of : (s : Sender) (life : Life) (sent : List Sent) → HasSent s life sent → Run s.first s.next s.skipped life sent
-run_of s life sent (begins key header_key secret from) = record {
+run_of s life sent (begins version key header_key secret from) = record {
   begun = All-nil (λ u. u.first ≤ from);
   order = omega arith;
   ranges = none_below from;
@@ -127,7 +127,7 @@ earlier : (u : Update) (us : List Update) (n : ℕ) → n < u.first → updates_
 earlier u us n lt = rw (lt-leb u.first n lt) (omega (arith, before-le us n))
 
 begins_at : (s : Sender) (life : Life) (sent : List Sent) → HasSent s life sent → Begins s life sent
-begins_at s life sent (begins key header_key secret from) = record {
+begins_at s life sent (begins version key header_key secret from) = record {
   begun = All-nil (λ u. u.first ≤ from);
   order = omega arith;
   below = All-nil (λ p. p.number < from);

@@ -203,7 +203,7 @@ received_stands sender life sent run r own p has (inr (short, inr h)) s =
 
 stands : (sender : Sender) (life : Life) (sent : List Sent) → HasSent sender life sent → (r : Receiver) (own : ℕ) → Follows life sent r own
     → Stands life r own
-stands sender l ps run r own (begins life sent header secret) = record {
+stands sender l ps run r own (begins life sent version header secret) = record {
   current = first_key life.key life.updates;
   next = λ k none. cc;
   previous = λ k u none e. cc;

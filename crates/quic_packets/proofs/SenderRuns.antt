@@ -34,7 +34,7 @@ rises s t by_key (hears x y ks n below rest) = rises (after_acknowledgement x n)
 rises s t by_key (confirms x y ks rest) = rises (record x { confirmed = true }) y ks rest
 rises s t by_key (lowers x y ks limit rest) = rises (record x { limit = min x.limit limit }) y ks rest
 rises s t by_key (updates x y ks key secret rest) = rises (after_update x key secret) y ks rest
-rises s t by_key (goes_on x y ks key hk secret rest) = rises (with_installed_keys x key hk secret) y ks rest
+rises s t by_key (goes_on x y ks version key hk secret rest) = rises (with_installed_keys x version key hk secret) y ks rest
 
 pub fresh : (s t : Sender) (by_key : List (List ℕ)) → Runs s t by_key → AllPairs (λ m n. m < n) (all_of by_key)
 fresh s t by_key run = λ i j d lt within. in_order s.next (all_of by_key) i j d (rises s t by_key run) lt within
@@ -64,10 +64,10 @@ capped s t by_key (lowers x y ks limit rest) =
     (capped (record x { limit = min x.limit limit }) y ks rest)
 capped s t by_key (updates x y ks key secret rest) =
     (omega arith, looser (x.limit - 0) x.limit x.limit x.limit ks (omega arith) (omega arith) (capped (after_update x key secret) y ks rest))
-capped s t by_key (goes_on x y ks key hk secret rest) = (
+capped s t by_key (goes_on x y ks version key hk secret rest) = (
   omega arith,
   looser (x.limit - 0) x.limit x.limit x.limit ks (omega arith) (omega arith)
-      (capped (with_installed_keys x key hk secret) y ks rest),
+      (capped (with_installed_keys x version key hk secret) y ks rest),
 )
 
 each : (a b : ℕ) (by_key : List (List ℕ)) (k : ℕ) (d : List ℕ) → a ≤ b → Capped a b by_key → k < length by_key → length (get_or by_key k d) ≤ b

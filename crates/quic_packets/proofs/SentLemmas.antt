@@ -109,7 +109,7 @@ record Stands (s : Sender) (life : Life) (sent : List Sent) : Type 0 where
 
 -- a packet that is sent now
 module _ (s : Sender) (life : Life) (sent : List Sent) (fixed_bit : FixedBit) (start end : ℕ) (packet wire : List ℕ)
-    (sealable : IsSealable fixed_bit start end packet)
+    (sealable : IsSealable s.version fixed_bit start end packet)
     (number : IsNumber s.next) (some : start < end) (few : end ≤ start + 4) (is : IsSent s start end packet wire)
     (stands : Stands s life sent) where
   abbrev whole : List ℕ
@@ -162,7 +162,7 @@ module _ (s : Sender) (life : Life) (sent : List Sent) (fixed_bit : FixedBit) (s
   }
 
 state : (s : Sender) (life : Life) (sent : List Sent) → HasSent s life sent → Stands s life sent
-state s life sent (begins key header_key secret from) = record {
+state s life sent (begins version key header_key secret from) = record {
   key = refl;
   phase = refl;
   firsts = All-nil (λ u. u.first ≤ from);

@@ -1,5 +1,5 @@
 -- The packet at a byte of a datagram, and the step past it, whether a receiver has tried it or not.
-use Rattle.std.proofs.Common.{◌≡◌, ℕ, ◌+◌, ◌-◌, ◌<◌, ◌≤◌, ◌↔◌, ◌⊎◌, Bool, true, false, inl, inr, List, length, Option, None, Some, Ok, Err, Result, OnErr, IsErrOf, IfErr, IfSome, IsSome, IsTrue, is_some, if◌then◌else◌, unwrap_or, slice_index, refl, sym, ap, subst, arith, ◌∙◌}
+use Rattle.std.proofs.Common.{◌≡◌, ℕ, ◌+◌, ◌-◌, ◌<◌, ◌≤◌, ◌↔◌, ◌⊎◌, Bool, true, false, inl, inr, List, length, Option, None, Some, Ok, Err, Result, OnErr, IsErrOf, IfErr, IfSome, IsSome, IsFalse, IsTrue, is_some, if◌then◌else◌, unwrap_or, slice_index, refl, sym, ap, subst, arith, ◌∙◌}
 use Rattle.quic_packets.specs.Connection.{Connection, IfPacket, IsGiven, IsOpening, IsOwn, IsPacketAt, IsStranger, IsTried, IsUnopened, IsWithoutKeys, end_of, incoming_of, is_opened, opened_as, opened_of, packet_in, receiver_of, space_of, step_of, with_receiver, with_sender}
 use Rattle.quic_packets.specs.Datagram.{bytes_of, number_in, packet_of}
 use Rattle.quic_packets.specs.Errors.{error_code}
@@ -11,10 +11,11 @@ use Rattle.quic_packets.specs.declared.connection.incoming.Step.{Step}
 use Rattle.quic_packets.specs.declared.datagram.Packet.{Packet}
 use Rattle.quic_packets.specs.Sending.{Sender}
 use Rattle.quic_packets.specs.Space.{Space}
+use Rattle.quic_packets.specs.Versions.{is_other_version}
 use Rattle.quic_packets.specs.declared.datagram.PacketType.{PacketType}
 use Rattle.quic_packets.specs.declared.datagram.PacketType.TheVariants.{Initial, ZeroRtt, Handshake, Retry, VersionNegotiation, OneRtt, OtherVersion}
 use Rattle.quic_packets.specs.declared.error.PacketError.{PacketError}
-use Rattle.quic_packets.specs.declared.error.PacketError.TheVariants.{NoSample, Refused}
+use Rattle.quic_packets.specs.declared.error.PacketError.TheVariants.{NoSample, Refused, OtherVersion as OtherVersionError}
 use Rattle.quic_packets.specs.declared.receiver.Received.{Received}
 
 -- a fact about the step, by what the receiver returned
@@ -119,16 +120,32 @@ module _ (c : Connection) (id_len : ℕ) (id datagram : List ℕ) (at : ℕ) (pa
         tried_at Tried (receiver_of c parts.packet_type) (receiver_of c' parts.packet_type) r
         (subst (λ q. receiver_of c q.packet_type ≡ Some r) (same_parts p opening.packet) opening.receiver) some tried
 
+    pub other_version : (p : Packet) (r : Receiver) → IsOpening c id_len id datagram at p r
+        → IsGiven result (Dropped OtherVersionError) ↔ IsTrue (is_other_version r.version p.version)
+    other_version p r opening =
+        let same = same_parts p opening.packet in
+        let it = its p r opening in
+        let is = dropped_as parts.end parts.packet_type o OtherVersionError refl in
+        subst (λ q. IsGiven result (Dropped OtherVersionError) ↔ IsTrue (is_other_version r.version q.version)) (sym same)
+        (subst (λ step. IsGiven step (Dropped OtherVersionError) ↔ IsTrue (is_other_version r.version parts.version)) (sym stepped) (
+          λ given. (let d = it.other_version.0 (is.0 given) in d.2),
+          λ d. is.1 (it.other_version.1 (opening.receiving, within, d)),
+        ))
+
     pub sampled : (p : Packet) (r : Receiver) → IsOpening c id_len id datagram at p r
-        → IsGiven result (Dropped NoSample) ↔ ((0 < number_in p) × (p.end - p.start < number_in p + 20))
+        → IsGiven result (Dropped NoSample)
+        ↔ (IsFalse (is_other_version r.version p.version) × (0 < number_in p) × (p.end - p.start < number_in p + 20))
     sampled p r opening =
         let same = same_parts p opening.packet in
         let it = its p r opening in
         let is = dropped_as parts.end parts.packet_type o NoSample refl in
-        subst (λ q. IsGiven result (Dropped NoSample) ↔ ((0 < number_in q) × (q.end - q.start < number_in q + 20))) (sym same)
-        (subst (λ step. IsGiven step (Dropped NoSample) ↔ ((0 < number_in parts) × (parts.end - parts.start < number_in parts + 20))) (sym stepped) (
-          λ given. (let d = it.no_sample.0 (is.0 given) in (d.2, d.3)),
-          λ d. is.1 (it.no_sample.1 (opening.receiving, within, d.0, d.1)),
+        subst (λ q. IsGiven result (Dropped NoSample)
+        ↔ (IsFalse (is_other_version r.version q.version) × (0 < number_in q) × (q.end - q.start < number_in q + 20))) (sym same)
+        (subst (λ step. IsGiven step (Dropped NoSample)
+        ↔ (IsFalse (is_other_version r.version parts.version) × (0 < number_in parts) × (parts.end - parts.start < number_in parts + 20)))
+        (sym stepped) (
+          λ given. (let d = it.no_sample.0 (is.0 given) in (d.2, d.3, d.4)),
+          λ d. is.1 (it.no_sample.1 (opening.receiving, within, d.0, d.1, d.2)),
         ))
 
     -- what becomes of a packet that is long enough for a sample
@@ -138,15 +155,17 @@ module _ (c : Connection) (id_len : ℕ) (id datagram : List ℕ) (at : ℕ) (pa
         × Outcome r (space_of c p.packet_type) p.start (number_in p) plain number opened (unwrap_or (receiver_of c' p.packet_type) r)
         (bytes_of p new)
 
-    pub outcome : (p : Packet) (r : Receiver) → IsOpening c id_len id datagram at p r → HasSample (number_in p) (p.end - p.start)
+    pub outcome : (p : Packet) (r : Receiver) → IsOpening c id_len id datagram at p r
+        → IsFalse (is_other_version r.version p.version) → HasSample (number_in p) (p.end - p.start)
         → IfSome (opened_of result) (Becomes r p)
-    outcome p r opening sample =
+    outcome p r opening own sample =
         let same = same_parts p opening.packet in
         let it = its p r opening in
         let has : HasSample (number_in parts) (parts.end - parts.start) = subst (λ q. HasSample (number_in q) (q.end - q.start)) same sample in
+        let of_it : IsFalse (is_other_version r.version parts.version) = subst (λ q. IsFalse (is_other_version r.version q.version)) same own in
         subst (λ q. IfSome (opened_of result) (Becomes r q)) (sym same)
         (subst (λ opened. IfSome opened (Becomes r parts)) (sym (ap opened_of stepped ∙ opened_is parts.end parts.packet_type o))
-        (it.outcome opening.receiving within has))
+        (it.outcome opening.receiving within of_it has))
 
     module _ (held : IsSome (receiver_of c parts.packet_type)) where
       abbrev there : (r : Receiver) × (receiver_of c parts.packet_type ≡ Some r)

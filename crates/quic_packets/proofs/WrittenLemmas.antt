@@ -6,21 +6,25 @@ use Rattle.std.proofs.lemmas.Bool.{cond_both, le-ltb, lt-ltb, ltb-true}
 use Rattle.std.proofs.lemmas.List.{append-nil, get_or-append-add, get_or_append_left}
 use Rattle.std.proofs.lemmas.Nat.{pow_pos}
 use Rattle.std.specs.Int.Digits.{number_from_digits}
-use Rattle.std.specs.Prelude.{nat_lt, slice_range, ◌==◌, ◌&&◌, ◌||◌, if◌then◌else◌}
+use Rattle.std.specs.Prelude.{is_some, nat_lt, slice_range, ◌==◌, ◌&&◌, ◌||◌, if◌then◌else◌}
 use Rattle.std.specs.declared.ops.Range.{Range}
-use Rattle.quic_packets.specs.Datagram.{has_long_id, initial_token, long_packet, numbered_layout, packet_of, parts_of, retry_layout, short_layout, source_end, span, varint, varint_end, version_1_layout, versioned_layout, whole, with_fixed_bit}
+use Rattle.quic_packets.specs.Datagram.{has_long_id, initial_token, known_layout, long_packet, numbered_layout, opaque_layout, packet_of, parts_of, short_layout, source_end, span, typed_layout, varint, varint_end, versioned_layout, whole, with_fixed_bit}
 use Rattle.quic_packets.specs.declared.datagram.DatagramError.TheVariants.{Cut, IdTooLong, NoFixedBit}
 use Rattle.quic_packets.specs.declared.datagram.Packet.{Packet}
 use Rattle.quic_packets.specs.declared.datagram.PacketType.{PacketType}
-use Rattle.quic_packets.specs.declared.datagram.PacketType.TheVariants.{Initial as InitialPacket, ZeroRtt as ZeroRttPacket, Handshake as HandshakePacket}
+use Rattle.quic_packets.specs.declared.datagram.PacketType.TheVariants.{Initial as InitialPacket, ZeroRtt as ZeroRttPacket, Handshake as HandshakePacket, VersionNegotiation}
 use Rattle.quic_packets.specs.declared.fixed_bit.FixedBit.{FixedBit}
 use Rattle.quic_packets.specs.declared.fixed_bit.FixedBit.TheVariants.{Required, Greased}
+use Rattle.key_derivation.specs.Quic.{numbered_version, version_number}
+use Rattle.key_derivation.specs.declared.quic.Version.{Version}
+use Rattle.key_derivation.specs.declared.quic.Version.TheVariants.{One, Two}
 use Rattle.quic_packets.specs.FixedBit.{lacks_fixed_bit}
+use Rattle.quic_packets.specs.Versions.{bits_of, type_of}
 use Rattle.quic_packets.specs.declared.header_writer.LongHeader.{LongHeader}
 use Rattle.quic_packets.specs.declared.header_writer.LongType.{LongType}
 use Rattle.quic_packets.specs.declared.header_writer.LongType.TheVariants.{Initial, ZeroRtt, Handshake}
 use Rattle.quic_packets.specs.declared.header_writer.ShortHeader.{ShortHeader}
-use Rattle.quic_packets.specs.HeaderBytes.{HasLongParts, HasShortParts, IsLongHeader, IsNumberLen, IsShortHeader, fewest, id_field, integer, length_log, length_of, long_first_byte, long_header, packet_type_of, short_first_byte, short_header, token_field, token_of, type_bits}
+use Rattle.quic_packets.specs.HeaderBytes.{HasLongParts, HasShortParts, IsLongHeader, IsNumberLen, IsShortHeader, fewest, header_bits, id_field, integer, length_log, length_of, long_first_byte, long_header, packet_type_of, short_first_byte, short_header, token_field, token_of, version_field}
 use Rattle.quic_packets.proofs.FieldLemmas.{length-high_first}
 use Rattle.quic_packets.proofs.NumberBytes.{bytes_read}
 
@@ -90,25 +94,33 @@ module _ (d xs ys : List ℕ) (log value at : ℕ) (is : d ≡ xs ++ (integer lo
       ∙ value_of log value few fits
 
 -- the parts of a packet with a long header of these fields
-record HasParts (datagram : List ℕ) (packet : Packet) (kind : PacketType) (id source text : List ℕ) (at to : ℕ) : Type 0 where
+record HasParts (number : ℕ) (datagram : List ℕ) (packet : Packet) (kind : PacketType) (id source text : List ℕ) (at to : ℕ) : Type 0 where
   start : packet.start ≡ 0
   packet_type : packet.packet_type ≡ kind
-  version : packet.version ≡ Some 1
+  version : packet.version ≡ Some number
   destination_id : slice_range datagram packet.destination_id.start packet.destination_id.end ≡ id
   source_id : slice_range datagram packet.source_id.start packet.source_id.end ≡ source
   token : slice_range datagram packet.token.start packet.token.end ≡ text
   number_at : packet.number_at ≡ Some at
   end : packet.end ≡ to
 
-abbrev IsParsed : (id_len : ℕ) (datagram : List ℕ) (kind : PacketType) (id source text : List ℕ) (at to : ℕ) → Type 0
-IsParsed id_len datagram kind id source text at to =
-    (p : Packet) × (parts_of id_len datagram 0 ≡ Ok p) × HasParts datagram p kind id source text at to
+abbrev IsParsed : (number id_len : ℕ) (datagram : List ℕ) (kind : PacketType) (id source text : List ℕ) (at to : ℕ) → Type 0
+IsParsed number id_len datagram kind id source text at to =
+    (p : Packet) × (parts_of id_len datagram 0 ≡ Ok p) × HasParts number datagram p kind id source text at to
+
+-- these four bytes are the version
+abbrev number_of : (a b c d : ℕ) → ℕ
+number_of a b c d = number_from_digits 256 (a ∷ b ∷ c ∷ d ∷ [])
+
+record IsVersion (version : Version) (a b c d : ℕ) : Type 0 where
+  some : (number_of a b c d == 0) ≡ false
+  known : numbered_version (number_of a b c d) ≡ Some version
 
 -- a long header with its fields, and what follows it
-module _ (first : ℕ) (id source token : List ℕ) (log n : ℕ) (rest : List ℕ) (long : 0x80 ≤ first) (short_id : length id ≤ 20)
-    (short_source : length source ≤ 20) (few : log ≤ 2) (fits : Encodes log n) (whole_packet : n ≤ length rest) where
+module _ (version : Version) (a b c d : ℕ) (is_version : IsVersion version a b c d) (first : ℕ) (id source token : List ℕ) (log n : ℕ)
+    (rest : List ℕ) (long : 0x80 ≤ first) (short_id : length id ≤ 20) (short_source : length source ≤ 20) (few : log ≤ 2) (fits : Encodes log n) (whole_packet : n ≤ length rest) where
   abbrev with_id : List ℕ
-  with_id = (first ∷ 0 ∷ 0 ∷ 0 ∷ 1 ∷ []) ++ id_field id
+  with_id = (first ∷ a ∷ b ∷ c ∷ d ∷ []) ++ id_field id
 
   abbrev with_source : List ℕ
   with_source = with_id ++ id_field source
@@ -141,9 +153,17 @@ module _ (first : ℕ) (id source token : List ℕ) (log n : ℕ) (rest : List �
       ap (λ v. 6 + length id + 1 + v) source_len ∙ omega (arith, length-append with_id (id_field source))
 
   short_ids : has_long_id datagram 0 ≡ false
-  short_ids = ap₂ (λ a b. a || b) (le-ltb 20 (length id) short_id) (ap (nat_lt 20) source_len ∙ le-ltb 20 (length source) short_source)
+  short_ids =
+      ap (λ v. nat_lt (if is_some v then 20 else 255) (length id) || nat_lt (if is_some v then 20 else 255) (get_or datagram (6 + length id) 0))
+      is_version.known
+      ∙ ap₂ (λ a b. a || b) (le-ltb 20 (length id) short_id) (ap (nat_lt 20) source_len ∙ le-ltb 20 (length source) short_source)
 
-  module _ (kind : PacketType) (place : Range ℕ) (text : List ℕ) (layout : version_1_layout datagram 0 ≡ numbered_layout datagram 0 kind place)
+  typed : (kind : PacketType) → type_of version (bits_of first) ≡ kind → versioned_layout datagram 0 ≡ typed_layout kind datagram 0
+  typed kind is =
+      ap₂ (λ none v. if none then opaque_layout datagram 0 VersionNegotiation else known_layout v datagram 0) is_version.some is_version.known
+      ∙ ap (λ k. typed_layout k datagram 0) is
+
+  module _ (kind : PacketType) (place : Range ℕ) (text : List ℕ) (layout : versioned_layout datagram 0 ≡ numbered_layout datagram 0 kind place)
       (ends : place.end ≡ length with_token) (bytes : slice_range datagram place.start place.end ≡ text) where
     number_is : varint_end datagram place.end ≡ length header
     number_is =
@@ -168,14 +188,14 @@ module _ (first : ℕ) (id source token : List ℕ) (log n : ℕ) (rest : List �
         ∙ ap (λ b. if b then Err IdTooLong else whole datagram (versioned_layout datagram 0)) short_ids
         ∙ ap (whole datagram) layout ∙ ap (λ b. if b then Err Cut else Ok packet) inside
 
-    parts : HasParts datagram packet kind id source text (length header) (length header + n)
+    parts : HasParts (number_of a b c d) datagram packet kind id source text (length header) (length header + n)
     parts = record {
       start = refl;
       packet_type = refl;
       version = refl;
       destination_id =
           ap (λ l. slice_range l 6 (6 + length id)) after_id
-          ∙ range (first ∷ 0 ∷ 0 ∷ 0 ∷ 1 ∷ length id ∷ []) id _ 6 (6 + length id) refl refl;
+          ∙ range (first ∷ a ∷ b ∷ c ∷ d ∷ length id ∷ []) id _ 6 (6 + length id) refl refl;
       source_id =
           ap₂ (λ l e. slice_range l (6 + length id + 1) e)
           (after_id ∙ sym (append_assoc with_id (length source ∷ []) (source ++ (token ++ (integer log n ++ rest))))) its_source_end
@@ -186,33 +206,25 @@ module _ (first : ℕ) (id source token : List ℕ) (log n : ℕ) (rest : List �
       end = end_is;
     }
 
-    is_parsed : (id_len : ℕ) → IsParsed id_len datagram kind id source text (length header) (length header + n)
+    is_parsed : (id_len : ℕ) → IsParsed (number_of a b c d) id_len datagram kind id source text (length header) (length header + n)
     is_parsed id_len = (packet, parsed id_len, parts)
 
   -- a type without a token
   plain : (kind : PacketType) (id_len : ℕ) → token ≡ [] → (let none = span (source_end datagram 0) (source_end datagram 0) in
-      version_1_layout datagram 0 ≡ numbered_layout datagram 0 kind none)
-      → IsParsed id_len datagram kind id source [] (length header) (length header + n)
+      versioned_layout datagram 0 ≡ numbered_layout datagram 0 kind none)
+      → IsParsed (number_of a b c d) id_len datagram kind id source [] (length header) (length header + n)
   plain kind id_len none layout =
       let from = source_end datagram 0 in
       let ends : from ≡ length with_token = its_source_end ∙ sym (ap length (ap (λ t. with_source ++ t) none ∙ append-nil with_source)) in
       is_parsed kind (span from from) [] layout ends (empty from datagram) id_len
 
-  abbrev by_bits : ℕ → Packet
-  by_bits bits =
-      let none = span (source_end datagram 0) (source_end datagram 0) in
-      if bits == 0 then numbered_layout datagram 0 InitialPacket (initial_token datagram 0)
-      else if bits == 1 then numbered_layout datagram 0 ZeroRttPacket none
-      else if bits == 2 then numbered_layout datagram 0 HandshakePacket none
-      else retry_layout datagram 0
+  zero_rtt : (id_len : ℕ) → token ≡ [] → type_of version (bits_of first) ≡ ZeroRttPacket
+      → IsParsed (number_of a b c d) id_len datagram ZeroRttPacket id source [] (length header) (length header + n)
+  zero_rtt id_len none is = plain ZeroRttPacket id_len none (typed ZeroRttPacket is)
 
-  zero_rtt : (id_len : ℕ) → token ≡ [] → first / 2 ^ 4 % 4 ≡ 1
-      → IsParsed id_len datagram ZeroRttPacket id source [] (length header) (length header + n)
-  zero_rtt id_len none bits = plain ZeroRttPacket id_len none (ap by_bits bits)
-
-  handshake : (id_len : ℕ) → token ≡ [] → first / 2 ^ 4 % 4 ≡ 2
-      → IsParsed id_len datagram HandshakePacket id source [] (length header) (length header + n)
-  handshake id_len none bits = plain HandshakePacket id_len none (ap by_bits bits)
+  handshake : (id_len : ℕ) → token ≡ [] → type_of version (bits_of first) ≡ HandshakePacket
+      → IsParsed (number_of a b c d) id_len datagram HandshakePacket id source [] (length header) (length header + n)
+  handshake id_len none is = plain HandshakePacket id_len none (typed HandshakePacket is)
 
   module _ (text : List ℕ) (is : token ≡ integer (fewest (length text)) (length text) ++ text) (short : length text < 2 ^ 30) where
     abbrev text_log : ℕ
@@ -254,46 +266,78 @@ module _ (first : ℕ) (id source token : List ℕ) (log n : ℕ) (rest : List �
         ∙ range (with_source ++ integer text_log (length text)) text (integer log n ++ rest) (varint_end datagram from)
         (varint_end datagram from + varint datagram from) begins (ap (λ v. varint_end datagram from + v) text_len)
 
-    initial : (id_len : ℕ) → first / 2 ^ 4 % 4 ≡ 0
-        → IsParsed id_len datagram InitialPacket id source text (length header) (length header + n)
-    initial id_len bits = is_parsed InitialPacket (initial_token datagram 0) text (ap by_bits bits) ends bytes id_len
+    initial : (id_len : ℕ) → type_of version (bits_of first) ≡ InitialPacket
+        → IsParsed (number_of a b c d) id_len datagram InitialPacket id source text (length header) (length header + n)
+    initial id_len type_is = is_parsed InitialPacket (initial_token datagram 0) text (typed InitialPacket type_is) ends bytes id_len
+
+-- the type bits of a first byte
+first_bits : (bits m : ℕ) → bits < 4 → IsNumberLen m → bits_of (long_first_byte bits m) ≡ bits
+first_bits bits m few is = omega (arith, is.some, is.few)
+
+header_few : (version : Version) (kind : LongType) → header_bits version kind < 4
+header_few One (Initial token) = omega arith
+header_few One ZeroRtt = omega arith
+header_few One Handshake = omega arith
+header_few Two (Initial token) = omega arith
+header_few Two ZeroRtt = omega arith
+header_few Two Handshake = omega arith
+
+type_back : (version : Version) (kind : LongType) → type_of version (header_bits version kind) ≡ packet_type_of kind
+type_back One (Initial token) = refl
+type_back One ZeroRtt = refl
+type_back One Handshake = refl
+type_back Two (Initial token) = refl
+type_back Two ZeroRtt = refl
+type_back Two Handshake = refl
+
+type_is : (version : Version) (kind : LongType) (m : ℕ) → IsNumberLen m
+    → type_of version (bits_of (long_first_byte (header_bits version kind) m)) ≡ packet_type_of kind
+type_is version kind m is =
+    ap (type_of version) (first_bits (header_bits version kind) m (header_few version kind) is) ∙ type_back version kind
 
 -- a long header of each type
-by_type : (kind : LongType) (id source : List ℕ) (m n : ℕ) (rest : List ℕ) → IsNumberLen m → length id ≤ 20 → length source ≤ 20
-    → length (token_of kind) < 2 ^ 30 → n < 2 ^ 30 → n ≤ length rest → (id_len : ℕ)
-    → (let header = (long_first_byte (type_bits kind) m ∷ 0 ∷ 0 ∷ 0 ∷ 1 ∷ []) ++ id_field id ++ id_field source ++ token_field kind
-    ++ integer (length_log n) n in
-    IsParsed id_len (header ++ rest) (packet_type_of kind) id source (token_of kind) (length header) (length header + n))
-by_type (Initial token) id source m n rest is short_id short_source short_token short_len whole id_len =
-    let encodes = length_encodes n short_len in
-    initial (long_first_byte 0 m) id source (token_field (Initial token)) (length_log n) n rest (omega arith) short_id short_source encodes.0
-    encodes.1 whole token.now refl short_token id_len (omega (arith, is.some, is.few))
-by_type ZeroRtt id source m n rest is short_id short_source short_token short_len whole id_len =
-    let encodes = length_encodes n short_len in
-    zero_rtt (long_first_byte 1 m) id source [] (length_log n) n rest (omega arith) short_id short_source encodes.0 encodes.1 whole id_len refl
-    (omega (arith, is.some, is.few))
-by_type Handshake id source m n rest is short_id short_source short_token short_len whole id_len =
-    let encodes = length_encodes n short_len in
-    handshake (long_first_byte 2 m) id source [] (length_log n) n rest (omega arith) short_id short_source encodes.0 encodes.1 whole id_len refl
-    (omega (arith, is.some, is.few))
+module _ (version : Version) (a b c d : ℕ) (is_version : IsVersion version a b c d) where
+  by_type : (kind : LongType) (id source : List ℕ) (m n : ℕ) (rest : List ℕ) → IsNumberLen m → length id ≤ 20 → length source ≤ 20
+      → length (token_of kind) < 2 ^ 30 → n < 2 ^ 30 → n ≤ length rest → (id_len : ℕ)
+      → (let header = (long_first_byte (header_bits version kind) m ∷ a ∷ b ∷ c ∷ d ∷ []) ++ id_field id ++ id_field source
+      ++ token_field kind ++ integer (length_log n) n in
+      IsParsed (number_of a b c d) id_len (header ++ rest) (packet_type_of kind) id source (token_of kind) (length header) (length header + n))
+  by_type (Initial token) id source m n rest is short_id short_source short_token short_len whole id_len =
+      let encodes = length_encodes n short_len in
+      initial version a b c d is_version (long_first_byte (header_bits version (Initial token)) m) id source (token_field (Initial token))
+      (length_log n) n rest (omega arith) short_id short_source encodes.0 encodes.1 whole token.now refl short_token id_len
+      (type_is version (Initial token) m is)
+  by_type ZeroRtt id source m n rest is short_id short_source short_token short_len whole id_len =
+      let encodes = length_encodes n short_len in
+      zero_rtt version a b c d is_version (long_first_byte (header_bits version ZeroRtt) m) id source [] (length_log n) n rest (omega arith)
+      short_id short_source encodes.0 encodes.1 whole id_len refl (type_is version ZeroRtt m is)
+  by_type Handshake id source m n rest is short_id short_source short_token short_len whole id_len =
+      let encodes = length_encodes n short_len in
+      handshake version a b c d is_version (long_first_byte (header_bits version Handshake) m) id source [] (length_log n) n rest (omega arith)
+      short_id short_source encodes.0 encodes.1 whole id_len refl (type_is version Handshake m is)
+
+by_version : (version : Version) (kind : LongType) (id source : List ℕ) (m n : ℕ) (rest : List ℕ) → IsNumberLen m → length id ≤ 20
+    → length source ≤ 20 → length (token_of kind) < 2 ^ 30 → n < 2 ^ 30 → n ≤ length rest → (id_len : ℕ)
+    → (let header = (long_first_byte (header_bits version kind) m ∷ version_field version) ++ id_field id ++ id_field source
+    ++ token_field kind ++ integer (length_log n) n in
+    IsParsed (version_number version) id_len (header ++ rest) (packet_type_of kind) id source (token_of kind) (length header) (length header + n))
+by_version One = by_type One 0 0 0 1 (record { some = refl; known = refl })
+by_version Two = by_type Two 0x6b 0x33 0x43 0xcf (record { some = refl; known = refl })
 
 -- the fixed bit
 with_bit : (fixed_bit : FixedBit) (version : Option ℕ) (byte : ℕ) → byte / 2 ^ 6 % 2 ≡ 1 → lacks_fixed_bit fixed_bit version byte ≡ false
 with_bit Required None byte is = ap (λ b. b == 0) is
-with_bit Required (Some version) byte is = ap (λ b. (version == 1) && (b == 0)) is ∙ and-false (version == 1)
+with_bit Required (Some version) byte is =
+    ap (λ b. is_some (numbered_version version) && (b == 0)) is ∙ and-false (is_some (numbered_version version))
 with_bit Greased version byte is = refl
 
 first_bit : (bits m : ℕ) → bits < 4 → IsNumberLen m → long_first_byte bits m / 2 ^ 6 % 2 ≡ 1
 first_bit bits m few is = omega (arith, is.some, is.few)
 
-type_few : (kind : LongType) → type_bits kind < 4
-type_few (Initial token) = omega arith
-type_few ZeroRtt = omega arith
-type_few Handshake = omega arith
-
 long_first : (header : LongHeader) → IsNumberLen header.number_len
-    → long_first_byte (type_bits header.packet_type) header.number_len / 2 ^ 6 % 2 ≡ 1
-long_first header is = first_bit (type_bits header.packet_type) header.number_len (type_few header.packet_type) is
+    → long_first_byte (header_bits header.version header.packet_type) header.number_len / 2 ^ 6 % 2 ≡ 1
+long_first header is =
+    first_bit (header_bits header.version header.packet_type) header.number_len (header_few header.version header.packet_type) is
 
 short_first : (phase : Bool) (m : ℕ) → IsNumberLen m → short_first_byte phase m / 2 ^ 6 % 2 ≡ 1
 short_first true m is = omega (arith, is.some, is.few)
@@ -304,12 +348,12 @@ pub long_parsed : (header : LongHeader) → IsLongHeader header → (rest : List
     × HasLongParts header (long_header header ++ rest) p
 long_parsed header is rest whole fixed_bit id_len =
     let found =
-    by_type header.packet_type header.destination_id.now header.source_id.now header.number_len (length_of header) rest is.number
+    by_version header.version header.packet_type header.destination_id.now header.source_id.now header.number_len (length_of header) rest is.number
     is.ids.destination is.ids.source is.fields.token is.fields.payload whole id_len in (
       found.0,
       ap (with_fixed_bit fixed_bit _) found.1
           ∙ ap (λ b. if b then Err (NoFixedBit found.0.end) else Ok found.0) (with_bit fixed_bit found.0.version
-          (long_first_byte (type_bits header.packet_type) header.number_len) (long_first header is.number)),
+          (long_first_byte (header_bits header.version header.packet_type) header.number_len) (long_first header is.number)),
       record {
         start = found.2.start;
         packet_type = found.2.packet_type;

@@ -1,6 +1,6 @@
 -- One end of a connection: its levels, and what becomes of a packet that it receives (RFC 9000 sections 12.2 and 12.3, RFC 9001
 -- sections 4.9, 5.7 and 6).
-use Rattle.std.specs.Prelude.{◌≡◌, ℕ, ◌+◌, ◌-◌, ◌<◌, ◌≤◌, ◌↔◌, ◌⊎◌, Bool, true, false, if◌then◌else◌, List, length, slice_range, Option, None, Some, is_some, IsSome, IfSome, Result, Ok, Err, IsOkAnd, IfOk, IfErr, IsErrOf, OnErr}
+use Rattle.std.specs.Prelude.{◌≡◌, ℕ, ◌+◌, ◌-◌, ◌<◌, ◌≤◌, ◌↔◌, ◌⊎◌, Bool, true, false, IsFalse, IsTrue, if◌then◌else◌, List, length, slice_range, Option, None, Some, is_some, IsSome, IfSome, Result, Ok, Err, IsOkAnd, IfOk, IfErr, IsErrOf, OnErr}
 use Rattle.quic_packets.specs.Datagram.{KeepsOutside, bytes_of, next_after, number_in, packet_of}
 use Rattle.quic_packets.specs.Ends.{Ends, following, kept_back, phase_of, renewed, sent, with_next_key}
 use Rattle.quic_packets.specs.Errors.{error_code}
@@ -9,6 +9,7 @@ use Rattle.quic_packets.specs.Header.{HasSample}
 use Rattle.quic_packets.specs.Receiving.{Outcome, Reads, Receiver, is_of_opened}
 use Rattle.quic_packets.specs.Sending.{Sender}
 use Rattle.quic_packets.specs.Space.{IsNew, Marks, Space}
+use Rattle.quic_packets.specs.Versions.{is_other_version}
 use Rattle.quic_packets.specs.declared.connection.Level.{Level}
 use Rattle.quic_packets.specs.declared.connection.Level.TheVariants.{Initial as InitialLevel, Handshake as HandshakeLevel, OneRtt as OneRttLevel}
 use Rattle.quic_packets.specs.declared.connection.incoming.Incoming.{Incoming}
@@ -19,7 +20,7 @@ use Rattle.quic_packets.specs.declared.datagram.Packet.{Packet}
 use Rattle.quic_packets.specs.declared.datagram.PacketType.{PacketType}
 use Rattle.quic_packets.specs.declared.datagram.PacketType.TheVariants.{Initial, ZeroRtt, Handshake, OneRtt}
 use Rattle.quic_packets.specs.declared.error.PacketError.{PacketError}
-use Rattle.quic_packets.specs.declared.error.PacketError.TheVariants.{NoSample, Refused, TooManyFailures}
+use Rattle.quic_packets.specs.declared.error.PacketError.TheVariants.{NoSample, OtherVersion, Refused, TooManyFailures}
 use Rattle.quic_packets.specs.declared.fixed_bit.FixedBit.{FixedBit}
 use Rattle.quic_packets.specs.declared.receiver.Received.{Received}
 
@@ -193,10 +194,12 @@ is_opened (Some (Err error)) = is_of_opened error
 pub record IsTried (r : Receiver) (s : Space) (f : Failures) (parts : Packet) (old : List ℕ)
     (opened : Result Received PacketError) (r' : Receiver) (s' : Space) (f' : Failures) (new : List ℕ) : Type 0 where
   pub used_up : IsErrOf opened TooManyFailures ↔ (f.limit ≤ f.count)
+  pub other_version : IsErrOf opened OtherVersion
+      ↔ ((f.count < f.limit) × (parts.end ≤ length old) × IsTrue (is_other_version r.version parts.version))
   pub no_sample : IsErrOf opened NoSample
-      ↔ ((f.count < f.limit) × (parts.end ≤ length old) × (0 < number_in parts)
-      × (parts.end - parts.start < number_in parts + 20))
-  pub outcome : f.count < f.limit → parts.end ≤ length old → HasSample (number_in parts) (parts.end - parts.start)
+      ↔ ((f.count < f.limit) × (parts.end ≤ length old) × IsFalse (is_other_version r.version parts.version)
+      × (0 < number_in parts) × (parts.end - parts.start < number_in parts + 20))
+  pub outcome : f.count < f.limit → parts.end ≤ length old → IsFalse (is_other_version r.version parts.version) → HasSample (number_in parts) (parts.end - parts.start)
       → (plain : List ℕ) × (number : ℕ) × Reads r.header s.next (number_in parts) (bytes_of parts old) plain number
       × Outcome r s parts.start (number_in parts) plain number opened r' (bytes_of parts new)
   pub payload : IfOk opened (λ p. (parts.start < p.payload.start) × (p.payload.start ≤ p.payload.end)

@@ -1,15 +1,18 @@
 -- The positions of a packet's parts in a datagram (RFC 9000 sections 12.2 and 17, RFC 8999 section 5). A position counts the
 -- bytes before it. Past its end, a datagram reads as zeros, so a packet that is cut ends past the datagram.
-use Rattle.std.specs.Prelude.{◌≡◌, ℕ, ◌<◌, ◌≤◌, ◌+◌, ◌-◌, ◌*◌, ◌/◌, ◌%◌, ◌^◌, ◌⊎◌, unwrap_or, Bool, ◌==◌, ◌||◌, nat_lt, max, if◌then◌else◌, List, length, slice_index, slice_range, Option, None, Some, IfSome, Result, Ok, Err}
+use Rattle.std.specs.Prelude.{◌≡◌, ℕ, ◌<◌, ◌≤◌, ◌+◌, ◌-◌, ◌*◌, ◌/◌, ◌%◌, ◌^◌, ◌⊎◌, unwrap_or, Bool, ◌==◌, ◌||◌, nat_lt, max, if◌then◌else◌, List, length, slice_index, slice_range, Option, None, Some, is_some, IfSome, Result, Ok, Err}
 use Rattle.std.specs.Int.Digits.{number_from_digits}
 use Rattle.std.specs.declared.ops.Range.{Range}
+use Rattle.key_derivation.specs.Quic.{numbered_version}
+use Rattle.key_derivation.specs.declared.quic.Version.{Version}
 use Rattle.quic_packets.specs.FixedBit.{lacks_fixed_bit}
+use Rattle.quic_packets.specs.Versions.{bits_of, type_of}
 use Rattle.quic_packets.specs.declared.datagram.DatagramError.{DatagramError}
 use Rattle.quic_packets.specs.declared.datagram.DatagramError.TheVariants.{Cut, IdTooLong, NoFixedBit}
 use Rattle.quic_packets.specs.declared.datagram.Packet.{Packet}
 use Rattle.quic_packets.specs.declared.datagram.PacketType.{PacketType}
 use Rattle.quic_packets.specs.declared.fixed_bit.FixedBit.{FixedBit}
-use Rattle.quic_packets.specs.declared.datagram.PacketType.TheVariants.{Initial, ZeroRtt, Handshake, Retry, VersionNegotiation, OneRtt, OtherVersion}
+use Rattle.quic_packets.specs.declared.datagram.PacketType.TheVariants.{Initial, Retry, VersionNegotiation, OneRtt, OtherVersion}
 
 -- the end of the variable-length integer at a byte: the two highest bits of that byte are the base-2 logarithm of its length
 -- (section 16)
@@ -77,14 +80,12 @@ retry_layout datagram start =
     let from = source_end datagram start in let end = max (from + 16) (length datagram) in
     long_layout datagram start Retry (span from (end - 16)) None end
 
--- a packet of version 1, by the type in bits 4 and 5 of the first byte (section 17.2, table 5)
-abbrev pub version_1_layout : List ℕ → ℕ → Packet
-version_1_layout datagram start =
-    let bits = slice_index datagram start / 2 ^ 4 % 4 in let none = span (source_end datagram start) (source_end datagram start) in
-    if bits == 0 then numbered_layout datagram start Initial (initial_token datagram start)
-    else if bits == 1 then numbered_layout datagram start ZeroRtt none
-    else if bits == 2 then numbered_layout datagram start Handshake none
-    else retry_layout datagram start
+-- a packet of version 1 or 2, by its type. An Initial packet alone has a token before its Length field.
+abbrev pub typed_layout : PacketType → List ℕ → ℕ → Packet
+typed_layout Initial datagram start = numbered_layout datagram start Initial (initial_token datagram start)
+typed_layout Retry datagram start = retry_layout datagram start
+typed_layout packet_type datagram start =
+    let from = source_end datagram start in numbered_layout datagram start packet_type (span from from)
 
 -- a short header: the destination connection ID, whose length the receiver knows, and the packet number. The packet is the rest
 -- of the datagram (sections 12.2 and 17.3.1).
@@ -101,17 +102,22 @@ short_layout connection_id_len datagram start =
       end = max number_at (length datagram);
     }
 
+-- a long header of version 1 or 2, by the type that its bits have in this version (section 17.2, RFC 9369 section 3.2), or of
+-- another one
+abbrev pub known_layout : Option Version → List ℕ → ℕ → Packet
+known_layout (Some version) datagram start = typed_layout (type_of version (bits_of (slice_index datagram start))) datagram start
+known_layout None datagram start = opaque_layout datagram start OtherVersion
+
 -- a long header, by its version. Version 0 is Version Negotiation (section 17.2.1).
 abbrev pub versioned_layout : List ℕ → ℕ → Packet
 versioned_layout datagram start =
     if version_of datagram start == 0 then opaque_layout datagram start VersionNegotiation
-    else if version_of datagram start == 1 then version_1_layout datagram start
-    else opaque_layout datagram start OtherVersion
+    else known_layout (numbered_version (version_of datagram start)) datagram start
 
--- the longest connection ID: 20 bytes in version 1 (section 17.2), and 255 otherwise, as its length is one byte (RFC 8999
--- section 5.1)
+-- the longest connection ID: 20 bytes in versions 1 and 2 (section 17.2), and 255 otherwise, as its length is one byte (RFC
+-- 8999 section 5.1)
 abbrev pub longest_id : ℕ → ℕ
-longest_id version = if version == 1 then 20 else 255
+longest_id version = if is_some (numbered_version version) then 20 else 255
 
 abbrev pub has_long_id : List ℕ → ℕ → Bool
 has_long_id datagram start =

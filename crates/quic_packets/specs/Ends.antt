@@ -3,15 +3,16 @@
 use Rattle.std.specs.Prelude.{◌≡◌, ℕ, ◌+◌, ◌-◌, ◌*◌, ◌^◌, ◌<◌, ◌≤◌, ◌↔◌, Bool, true, false, not, ◌&&◌, nat_lt, min, if◌then◌else◌, IsTrue, IsFalse, List, length, slice_index, Option, None, Some, is_some, Result, IsErrOf}
 use Rattle.aead_ciphers.specs.Gcm.{Fits}
 use Rattle.aead_ciphers.specs.Packet.{PacketFits}
-use Rattle.key_derivation.specs.Secret.{SecretState}
+use Rattle.key_derivation.specs.Quic.{QuicSecretState}
 use Rattle.quic_packets.specs.FixedBit.{lacks_fixed_bit}
 use Rattle.quic_packets.specs.Header.{HasSample}
 use Rattle.quic_packets.specs.Keys.{secret_header_key, secret_key}
 use Rattle.quic_packets.specs.Receiving.{Receiver, with_next}
 use Rattle.quic_packets.specs.Sending.{IsEncodable, IsRoom, IsSealable, Sender, after_derived_update, after_send, header_version, lacks_protection, new_sender, with_installed_keys}
 use Rattle.quic_packets.specs.Space.{Space, new_space}
+use Rattle.quic_packets.specs.Versions.{is_other_version}
 use Rattle.quic_packets.specs.declared.error.PacketError.{PacketError}
-use Rattle.quic_packets.specs.declared.error.PacketError.TheVariants.{EmptyPayload, NoFixedBit, NoProtection, NoSample, NumberAtFirstByte, NumberLength, NumberTooFar, NumbersEnded, TooLong, TooShort}
+use Rattle.quic_packets.specs.declared.error.PacketError.TheVariants.{EmptyPayload, NoFixedBit, NoProtection, NoSample, NumberAtFirstByte, NumberLength, NumberTooFar, NumbersEnded, OtherVersion, TooLong, TooShort}
 use Rattle.quic_packets.specs.declared.fixed_bit.FixedBit.{FixedBit}
 
 -- a sender and a receiver, each of which is there or not, and the numbers that were received
@@ -33,13 +34,13 @@ is_derived (Some s) = is_some s.secret
 
 -- the sender of a secret, with a limit: a new one that begins with number 0, or the one that is there, which continues with its
 -- numbers and its limit (RFC 9000 sections 12.3 and 17.2.5.3)
-abbrev pub installed : Option Sender → SecretState → (limit : ℕ) → Sender
+abbrev pub installed : Option Sender → QuicSecretState → (limit : ℕ) → Sender
 installed None secret limit =
-    record (new_sender (secret_key secret) (secret_header_key secret) (Some secret) 0) { limit = min (2 ^ 23) limit }
-installed (Some s) secret limit = with_installed_keys s (secret_key secret) (secret_header_key secret) (Some secret)
+    record (new_sender secret.version (secret_key secret) (secret_header_key secret) (Some secret) 0) { limit = min (2 ^ 23) limit }
+installed (Some s) secret limit = with_installed_keys s secret.version (secret_key secret) (secret_header_key secret) (Some secret)
 
 -- the receiver with the key of the next secret, unless its next key is set (RFC 9001 section 6.1)
-abbrev pub prepared_by : Receiver → Option SecretState → Receiver
+abbrev pub prepared_by : Receiver → Option QuicSecretState → Receiver
 prepared_by r None = r
 prepared_by r (Some held) = with_next r held
 
@@ -50,7 +51,7 @@ prepared (Some r) = Some (prepared_by r r.secret)
 -- Updating keys.
 
 -- the sender after a key update to the secret after its own (RFC 9001 section 6.1)
-abbrev pub updated_by : Sender → Option SecretState → Sender
+abbrev pub updated_by : Sender → Option QuicSecretState → Sender
 updated_by s None = s
 updated_by s (Some held) = after_derived_update s held
 
@@ -145,15 +146,20 @@ pub record Refuses (s : Sender) (fixed_bit : FixedBit) (start end : ℕ) (packet
   pub first_byte : IsErrOf result NumberAtFirstByte ↔ (PacketFits end (length packet) × (start ≡ 0))
   pub no_sample : IsErrOf result NoSample ↔ (PacketFits end (length packet) × (0 < start) × (length packet < start + 20))
   pub no_protection : IsErrOf result NoProtection
-      ↔ (PacketFits end (length packet) × HasSample start (length packet) × IsTrue (lacks_protection packet))
+      ↔ (PacketFits end (length packet) × HasSample start (length packet) × IsTrue (lacks_protection s.version packet))
+  pub other_version : IsErrOf result OtherVersion
+      ↔ (PacketFits end (length packet) × HasSample start (length packet) × IsFalse (lacks_protection s.version packet)
+      × IsTrue (is_other_version s.version (header_version packet)))
   pub no_fixed_bit : IsErrOf result NoFixedBit
-      ↔ (PacketFits end (length packet) × HasSample start (length packet) × IsFalse (lacks_protection packet)
+      ↔ (PacketFits end (length packet) × HasSample start (length packet) × IsFalse (lacks_protection s.version packet)
+      × IsFalse (is_other_version s.version (header_version packet))
       × IsTrue (lacks_fixed_bit fixed_bit (header_version packet) (slice_index packet 0)))
   pub empty : IsErrOf result EmptyPayload
-      ↔ (PacketFits end (length packet) × HasSample start (length packet) × IsFalse (lacks_protection packet)
+      ↔ (PacketFits end (length packet) × HasSample start (length packet) × IsFalse (lacks_protection s.version packet)
+      × IsFalse (is_other_version s.version (header_version packet))
       × IsFalse (lacks_fixed_bit fixed_bit (header_version packet) (slice_index packet 0)) × (length packet ≡ end + 16))
-  pub ended : IsErrOf result NumbersEnded ↔ (IsSealable fixed_bit start end packet × (s.next ≡ 2 ^ 62))
+  pub ended : IsErrOf result NumbersEnded ↔ (IsSealable s.version fixed_bit start end packet × (s.next ≡ 2 ^ 62))
   pub too_far : IsErrOf result NumberTooFar
-      ↔ (IsSealable fixed_bit start end packet × (s.next < 2 ^ 62) × ¬ IsEncodable s)
+      ↔ (IsSealable s.version fixed_bit start end packet × (s.next < 2 ^ 62) × ¬ IsEncodable s)
   pub number_length : IsErrOf result NumberLength
-      ↔ (IsSealable fixed_bit start end packet × (s.next < 2 ^ 62) × IsEncodable s × ¬ IsRoom s.next s.largest start end)
+      ↔ (IsSealable s.version fixed_bit start end packet × (s.next < 2 ^ 62) × IsEncodable s × ¬ IsRoom s.next s.largest start end)

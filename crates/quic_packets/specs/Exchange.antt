@@ -1,7 +1,8 @@
 -- The packets that a sender sends over its life, and the packets that a receiver returns, for the laws.
 use Rattle.std.specs.Prelude.{◌≡◌, ℕ, ◌+◌, ◌-◌, ◌<◌, ◌≤◌, ◌↔◌, ◌⊎◌, if◌then◌else◌, max, min, true, nat_lt, nat_le, false, List, [], ◌∷◌, length, take, slice_index, Option, None, Some, IsSome, Contains, Result, IsOk, IfOk, IsErrOf}
 use Rattle.aead_ciphers.specs.HeaderProtection.{HeaderKey}
-use Rattle.key_derivation.specs.Secret.{SecretState}
+use Rattle.key_derivation.specs.Quic.{QuicSecretState}
+use Rattle.key_derivation.specs.declared.quic.Version.{Version}
 use Rattle.quic_packets.specs.Datagram.{span}
 use Rattle.quic_packets.specs.Keys.{PacketKey}
 use Rattle.quic_packets.specs.Receiving.{Receiver, has_phase, new_receiver, received}
@@ -45,10 +46,10 @@ updates_before (update ∷ earlier) number = (if nat_le update.first number then
 -- skips numbers and updates its keys, and learns of acknowledgments, of the confirmed handshake and of a lower limit. A call
 -- that fails changes nothing.
 pub data HasSent : Sender → Life → List Sent → Type 0 where
-  begins : (key : PacketKey) (header_key : HeaderKey) (secret : Option SecretState) (first : ℕ)
-      → HasSent (new_sender key header_key secret first) (record { key = key; updates = [] }) []
+  begins : (version : Version) (key : PacketKey) (header_key : HeaderKey) (secret : Option QuicSecretState) (first : ℕ)
+      → HasSent (new_sender version key header_key secret first) (record { key = key; updates = [] }) []
   sends : (s : Sender) (life : Life) (sent : List Sent) (fixed_bit : FixedBit) (start end : ℕ) (packet wire : List ℕ)
-      → IsSealable fixed_bit start end packet → IsInTurn s start end → IsSent s start end packet wire → HasSent s life sent
+      → IsSealable s.version fixed_bit start end packet → IsInTurn s start end → IsSent s start end packet wire → HasSent s life sent
       → HasSent (after_send s) life (record {
         number = s.next;
         number_at = start;
@@ -58,7 +59,7 @@ pub data HasSent : Sender → Life → List Sent → Type 0 where
       } ∷ sent)
   skips : (s : Sender) (life : Life) (sent : List Sent) (number : ℕ) → s.next ≤ number → HasSent s life sent
       → HasSent (after_skip s number) life sent
-  updates : (s : Sender) (life : Life) (sent : List Sent) (key : PacketKey) (secret : Option SecretState) → HasSent s life sent
+  updates : (s : Sender) (life : Life) (sent : List Sent) (key : PacketKey) (secret : Option QuicSecretState) → HasSent s life sent
       → HasSent (after_update s key secret) (record { key = life.key; updates = record { key = key; first = s.next } ∷ life.updates }) sent
   hears : (s : Sender) (life : Life) (sent : List Sent) (number : ℕ) → number < s.next → HasSent s life sent
       → HasSent (after_acknowledgement s number) life sent
@@ -83,12 +84,12 @@ Holds r own life packet =
 -- receives packets that were sent, in any order, while it holds their keys. It is given the next key, which is the sender's if
 -- the sender has one, and it forgets the previous key. A packet that is rejected changes nothing.
 pub data Follows : Life → List Sent → Receiver → ℕ → Type 0 where
-  begins : (life : Life) (sent : List Sent) (header : HeaderKey) (secret : Option SecretState)
-      → Follows life sent (new_receiver header life.key secret) 0
+  begins : (life : Life) (sent : List Sent) (version : Version) (header : HeaderKey) (secret : Option QuicSecretState)
+      → Follows life sent (new_receiver version header life.key secret) 0
   receives : (life : Life) (sent : List Sent) (r : Receiver) (own : ℕ) (packet : Sent) → Contains sent packet → Holds r own life packet
       → Follows life sent r own
       → Follows life sent (received r (slice_index packet.packet 0) packet.number) (max own (updates_before life.updates packet.number))
-  takes_next : (life : Life) (sent : List Sent) (r : Receiver) (own : ℕ) (key : PacketKey) (secret : Option SecretState)
+  takes_next : (life : Life) (sent : List Sent) (r : Receiver) (own : ℕ) (key : PacketKey) (secret : Option QuicSecretState)
       → (own < length life.updates → key ≡ key_after life.key life.updates (own + 1)) → Follows life sent r own
       → Follows life sent (record r { next = Some key; secret = secret }) own
   forgets : (life : Life) (sent : List Sent) (r : Receiver) (own : ℕ) → Follows life sent r own

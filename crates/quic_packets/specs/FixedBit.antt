@@ -1,12 +1,13 @@
 -- The fixed bit of a header (RFC 9000 sections 17.2 and 17.3.1), which RFC 9287 calls the QUIC bit.
-use Rattle.std.specs.Prelude.{ℕ, ◌/◌, ◌%◌, ◌^◌, Bool, true, false, ◌==◌, ◌&&◌, Option, None, Some}
+use Rattle.std.specs.Prelude.{ℕ, ◌/◌, ◌%◌, ◌^◌, Bool, true, false, ◌==◌, ◌&&◌, Option, None, Some, is_some}
+use Rattle.key_derivation.specs.Quic.{numbered_version}
 use Rattle.quic_packets.specs.declared.fixed_bit.FixedBit.{FixedBit}
 use Rattle.quic_packets.specs.declared.fixed_bit.FixedBit.TheVariants.{Required, Greased}
 
--- a short header, which has no version, and a long one of version 1 have the bit
+-- a short header, which has no version, and a long one of version 1 or 2 have the bit
 abbrev pub has_fixed_bit : (version : Option ℕ) → Bool
 has_fixed_bit None = true
-has_fixed_bit (Some version) = version == 1
+has_fixed_bit (Some version) = is_some (numbered_version version)
 
 -- it must be 1, and is 0 in the first byte
 abbrev pub lacks_fixed_bit : FixedBit → (version : Option ℕ) → (first : ℕ) → Bool

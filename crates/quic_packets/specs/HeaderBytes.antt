@@ -1,6 +1,9 @@
--- The bytes of a header of version 1 up to its packet number, before protection (RFC 9000 section 17).
+-- The bytes of a header of version 1 or 2 up to its packet number, before protection (RFC 9000 section 17, RFC 9369 section 3).
 use Rattle.std.specs.Prelude.{◌≡◌, ℕ, ◌+◌, ◌-◌, ◌*◌, ◌^◌, ◌<◌, ◌≤◌, Bool, nat_lt, if◌then◌else◌, List, [], ◌∷◌, ◌++◌, length, take, drop, slice_range, None, Some}
 use Rattle.std.specs.Int.{bytes_high_first}
+use Rattle.key_derivation.specs.Quic.{version_number}
+use Rattle.key_derivation.specs.declared.quic.Version.{Version}
+use Rattle.quic_packets.specs.Versions.{type_bits}
 use Rattle.quic_packets.specs.declared.datagram.Packet.{Packet}
 use Rattle.quic_packets.specs.declared.datagram.PacketType.{PacketType}
 use Rattle.quic_packets.specs.declared.datagram.PacketType.TheVariants.{Initial as InitialPacket, ZeroRtt as ZeroRttPacket, Handshake as HandshakePacket, OneRtt}
@@ -22,11 +25,11 @@ fewest value = if nat_lt value (2 ^ 6) then 0 else if nat_lt value (2 ^ 14) then
 abbrev pub id_field : List ℕ → List ℕ
 id_field id = length id ∷ id
 
--- the type bits (section 17.2, table 5)
-abbrev pub type_bits : LongType → ℕ
-type_bits (Initial token) = 0
-type_bits ZeroRtt = 1
-type_bits Handshake = 2
+-- the type bits (section 17.2, table 5, RFC 9369 section 3.2)
+abbrev pub header_bits : Version → LongType → ℕ
+header_bits version (Initial token) = (type_bits version).initial
+header_bits version ZeroRtt = (type_bits version).zero_rtt
+header_bits version Handshake = (type_bits version).handshake
 
 -- the token, which an Initial packet alone has, after its length (section 17.2.2)
 abbrev pub token_of : LongType → List ℕ
@@ -52,10 +55,14 @@ length_log n = if nat_lt n (2 ^ 14) then 1 else 2
 abbrev pub long_first_byte : (bits number_len : ℕ) → ℕ
 long_first_byte bits number_len = 0x80 + 0x40 + bits * 2 ^ 4 + (number_len - 1)
 
--- a long header: the first byte, the version 1, both connection IDs, the token and Length (sections 17.2.2 to 17.2.4)
+-- the version in four bytes (section 17.2)
+abbrev pub version_field : Version → List ℕ
+version_field version = bytes_high_first 4 (version_number version)
+
+-- a long header: the first byte, the version, both connection IDs, the token and Length (sections 17.2.2 to 17.2.4)
 abbrev pub long_header : LongHeader → List ℕ
 long_header header =
-    (long_first_byte (type_bits header.packet_type) header.number_len ∷ 0 ∷ 0 ∷ 0 ∷ 1 ∷ [])
+    (long_first_byte (header_bits header.version header.packet_type) header.number_len ∷ version_field header.version)
     ++ id_field header.destination_id.now ++ id_field header.source_id.now ++ token_field header.packet_type
     ++ integer (length_log (length_of header)) (length_of header)
 
@@ -73,7 +80,7 @@ pub record IsNumberLen (n : ℕ) : Type 0 where
   pub some : 0 < n
   pub few : n ≤ 4
 
--- a connection ID of version 1 has at most 20 bytes (section 17.2)
+-- a connection ID of version 1 or 2 has at most 20 bytes (section 17.2)
 pub record HasShortIds (header : LongHeader) : Type 0 where
   pub destination : length header.destination_id.now ≤ 20
   pub source : length header.source_id.now ≤ 20
@@ -109,7 +116,7 @@ packet_type_of Handshake = HandshakePacket
 pub record HasLongParts (header : LongHeader) (datagram : List ℕ) (packet : Packet) : Type 0 where
   pub start : packet.start ≡ 0
   pub packet_type : packet.packet_type ≡ packet_type_of header.packet_type
-  pub version : packet.version ≡ Some 1
+  pub version : packet.version ≡ Some (version_number header.version)
   pub destination_id : slice_range datagram packet.destination_id.start packet.destination_id.end ≡ header.destination_id.now
   pub source_id : slice_range datagram packet.source_id.start packet.source_id.end ≡ header.source_id.now
   pub token : slice_range datagram packet.token.start packet.token.end ≡ token_of header.packet_type

@@ -2,8 +2,7 @@
 use Rattle.std.specs.Prelude.{ℕ, List}
 use Rattle.aead_ciphers.specs.declared.aead.algorithm.Algorithm.{Algorithm}
 use Rattle.aead_ciphers.specs.HeaderProtection.{HeaderKey}
-use Rattle.key_derivation.specs.Quic.{quic_header_key, quic_iv, quic_key}
-use Rattle.key_derivation.specs.Secret.{SecretState}
+use Rattle.key_derivation.specs.Quic.{QuicSecretState, quic_header_key, quic_iv, quic_key}
 use Rattle.quic_packets.specs.Suite.{algorithm, header_algorithm, suite_of}
 use Rattle.quic_packets.specs.declared.suite.Suite.{Suite}
 
@@ -21,8 +20,8 @@ abbrev pub header_key : Suite → List ℕ → HeaderKey
 header_key suite bytes = record { algorithm = header_algorithm suite; bytes = bytes }
 
 -- the packet key and the header key of a secret (RFC 9001 section 5.1)
-unfoldable pub secret_key : SecretState → PacketKey
-secret_key s = packet_key (suite_of s.suite) (quic_key s) (quic_iv s)
+unfoldable pub secret_key : QuicSecretState → PacketKey
+secret_key s = packet_key (suite_of s.secret.suite) (quic_key s) (quic_iv s)
 
-unfoldable pub secret_header_key : SecretState → HeaderKey
-secret_header_key s = header_key (suite_of s.suite) (quic_header_key s)
+unfoldable pub secret_header_key : QuicSecretState → HeaderKey
+secret_header_key s = header_key (suite_of s.secret.suite) (quic_header_key s)

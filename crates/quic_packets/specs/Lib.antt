@@ -19,3 +19,4 @@ pub mod Sending
 pub mod Skipped
 pub mod Space
 pub mod Suite
+pub mod Versions

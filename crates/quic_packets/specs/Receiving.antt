@@ -4,8 +4,8 @@ use Rattle.std.specs.Int.Digits.{number_from_digits}
 use Rattle.aead_ciphers.specs.Counting.{xored_nonce}
 use Rattle.aead_ciphers.specs.HeaderProtection.{HeaderKey}
 use Rattle.aead_ciphers.specs.Packet.{OpenedPacket, PacketFits}
-use Rattle.key_derivation.specs.Quic.{next_quic_secret}
-use Rattle.key_derivation.specs.Secret.{SecretState}
+use Rattle.key_derivation.specs.Quic.{QuicSecretState, next_quic_secret}
+use Rattle.key_derivation.specs.declared.quic.Version.{Version}
 use Rattle.quic_packets.specs.Datagram.{span}
 use Rattle.quic_packets.specs.Header.{HasSample, Unprotected, number_len}
 use Rattle.quic_packets.specs.Keys.{PacketKey, secret_key}
@@ -16,13 +16,14 @@ use Rattle.quic_packets.specs.declared.error.PacketError.{PacketError}
 use Rattle.quic_packets.specs.declared.error.PacketError.TheVariants.{Duplicate, KeyUpdate, NoFrames, Refused, ReservedBits, TooLong}
 use Rattle.quic_packets.specs.declared.receiver.Received.{Received}
 
--- a receiver: the header key; if it is made of a secret, that of its next packet key or, until this is set, of its current one; the
+-- a receiver: its version; the header key; if it is made of a secret, that of its next packet key or, until this is set, of its current one; the
 -- packet key of its phase, the next one if it is given, and the previous one if it is kept; its Key Phase bit; the lowest and
 -- highest number opened in this phase, where the lowest is 0 in the first phase; and the highest numbers opened under the
 -- previous key and under the keys before that one. A highest number is 0 if there is none.
 pub record Receiver : Type 0 where
+  pub version : Version
   pub header : HeaderKey
-  pub secret : Option SecretState
+  pub secret : Option QuicSecretState
   pub current : PacketKey
   pub next : Option PacketKey
   pub previous : Option PacketKey
@@ -33,8 +34,9 @@ pub record Receiver : Type 0 where
   pub highest_earlier : ℕ
 
 -- a receiver that is created with this key
-abbrev pub new_receiver : HeaderKey → PacketKey → Option SecretState → Receiver
-new_receiver header key secret = record {
+abbrev pub new_receiver : Version → HeaderKey → PacketKey → Option QuicSecretState → Receiver
+new_receiver version header key secret = record {
+  version = version;
   header = header;
   secret = secret;
   current = key;
@@ -48,7 +50,7 @@ new_receiver header key secret = record {
 }
 
 -- the receiver with its next key, which is of the secret after the one that is held (RFC 9001 section 6.1), unless it is set
-abbrev pub with_next : Receiver → SecretState → Receiver
+abbrev pub with_next : Receiver → QuicSecretState → Receiver
 with_next r held =
     let next = next_quic_secret held in
     if is_some r.next then r else record r { secret = Some next; next = Some (secret_key next) }

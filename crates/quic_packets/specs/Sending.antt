@@ -5,8 +5,8 @@ use Rattle.aead_ciphers.specs.Algorithm.{key_len}
 use Rattle.aead_ciphers.specs.Counting.{xored_nonce}
 use Rattle.aead_ciphers.specs.HeaderProtection.{HeaderKey, key_len as header_key_len}
 use Rattle.aead_ciphers.specs.Packet.{PacketFits, sealed_packet}
-use Rattle.key_derivation.specs.Quic.{next_quic_secret}
-use Rattle.key_derivation.specs.Secret.{SecretState}
+use Rattle.key_derivation.specs.Quic.{QuicSecretState, next_quic_secret}
+use Rattle.key_derivation.specs.declared.quic.Version.{Version}
 use Rattle.quic_packets.specs.Datagram.{version_of}
 use Rattle.quic_packets.specs.FixedBit.{lacks_fixed_bit}
 use Rattle.quic_packets.specs.Header.{HasSample, Protected}
@@ -15,19 +15,21 @@ use Rattle.quic_packets.specs.Numbers.{Represents, unacknowledged}
 use Rattle.quic_packets.specs.Packet.{IsNumber, low_bytes}
 use Rattle.quic_packets.specs.Skipped.{forgotten, is_skipped, no_gaps, with_gap}
 use Rattle.quic_packets.specs.Suite.{algorithm, header_algorithm}
+use Rattle.quic_packets.specs.Versions.{bits_of, is_other_version, type_bits}
 use Rattle.quic_packets.specs.declared.fixed_bit.FixedBit.{FixedBit}
 use Rattle.quic_packets.specs.declared.skipped.Gap.{Gap}
 use Rattle.quic_packets.specs.declared.suite.Suite.{Suite}
 
--- a sender: its key and header key, and the secret of the key, if it is made of one; the next number, and the largest acknowledged
+-- a sender: its version; its key and header key, and the secret of the key, if it is made of one; the next number, and the largest acknowledged
 -- one of its space; the ranges of skipped numbers that are kept; the Key Phase bit; how many packets this key has sealed and may
 -- seal; the first number of this phase from which on each skipped number is in one of these ranges; the next number when this
 -- phase began; whether the keys were never updated or a packet of this phase is acknowledged; and whether the handshake is
 -- confirmed
 pub record Sender : Type 0 where
+  pub version : Version
   pub key : PacketKey
   pub header_key : HeaderKey
-  pub secret : Option SecretState
+  pub secret : Option QuicSecretState
   pub next : ℕ
   pub largest : Option ℕ
   pub skipped : List Gap
@@ -45,8 +47,9 @@ pub record HasKeyLengths (suite : Suite) (key header_key : List ℕ) : Type 0 wh
   pub header_key_len : length header_key ≡ header_key_len (header_algorithm suite)
 
 -- a sender with its first key, which may seal 2^23 packets (RFC 9001 section 6.6)
-abbrev pub new_sender : PacketKey → HeaderKey → Option SecretState → ℕ → Sender
-new_sender key header_key secret first = record {
+abbrev pub new_sender : Version → PacketKey → HeaderKey → Option QuicSecretState → ℕ → Sender
+new_sender version key header_key secret first = record {
+  version = version;
   key = key;
   header_key = header_key;
   secret = secret;
@@ -68,11 +71,11 @@ new_sender key header_key secret first = record {
 abbrev pub is_long : ℕ → Bool
 is_long first = bit_and first 0x80 == 0x80
 
--- a long header of a type without protection: Version Negotiation, whose version is 0, or Retry, whose type is 3 (RFC 9000
--- sections 17.2.1 and 17.2.5)
-abbrev pub lacks_protection : List ℕ → Bool
-lacks_protection packet =
-    is_long (slice_index packet 0) && (bit_and (slice_index packet 0) 0x30 == 0x30
+-- a long header of a type without protection: Version Negotiation, whose version is 0, or Retry, by its type bits in this
+-- version (RFC 9000 sections 17.2.1 and 17.2.5, RFC 9369 section 3.2)
+abbrev pub lacks_protection : Version → List ℕ → Bool
+lacks_protection version packet =
+    is_long (slice_index packet 0) && (bits_of (slice_index packet 0) == (type_bits version).retry
     || (slice_index packet 1 == 0 && slice_index packet 2 == 0 && slice_index packet 3 == 0 && slice_index packet 4 == 0))
 
 -- the first byte before protection: the length of the packet number less one in the low two bits, the reserved bits 0, the key
@@ -94,11 +97,13 @@ numbered_packet phase number start end packet =
 abbrev pub header_version : List ℕ → Option ℕ
 header_version packet = if is_long (slice_index packet 0) then Some (version_of packet 0) else None
 
--- a packet that can be sealed and protected, whatever its number: its payload is not empty (RFC 9000 section 12.4)
-pub record IsSealable (fixed_bit : FixedBit) (start end : ℕ) (packet : List ℕ) : Type 0 where
+-- a packet that can be sealed and protected in this version, whatever its number: its payload is not empty (RFC 9000 section
+-- 12.4)
+pub record IsSealable (version : Version) (fixed_bit : FixedBit) (start end : ℕ) (packet : List ℕ) : Type 0 where
   pub fits : PacketFits end (length packet)
   pub sample : HasSample start (length packet)
-  pub protected : lacks_protection packet ≡ false
+  pub protected : lacks_protection version packet ≡ false
+  pub of_version : is_other_version version (header_version packet) ≡ false
   pub fixed : lacks_fixed_bit fixed_bit (header_version packet) (slice_index packet 0) ≡ false
   pub payload : end + 16 < length packet
 
@@ -166,7 +171,7 @@ pub record IsUnanswered (s : Sender) (number : ℕ) (phase : Bool) : Type 0 wher
   pub older : phase ≢ s.phase
 
 -- after a key update: new keys except the header key, the other phase, and the count 0 again (RFC 9001 sections 6 and 6.6)
-abbrev pub after_update : Sender → PacketKey → Option SecretState → Sender
+abbrev pub after_update : Sender → PacketKey → Option QuicSecretState → Sender
 after_update s key secret = record s {
   key = key;
   secret = secret;
@@ -178,14 +183,14 @@ after_update s key secret = record s {
 }
 
 -- after a key update to the secret after the one that is held (RFC 9001 section 6.1)
-abbrev pub after_derived_update : Sender → SecretState → Sender
+abbrev pub after_derived_update : Sender → QuicSecretState → Sender
 after_derived_update s held = let next = next_quic_secret held in after_update s (secret_key next) (Some next)
 
 -- with the keys of 1-RTT after those of 0-RTT, or those of Initial packets after a Retry, whose space of numbers continues (RFC
 -- 9000 sections 12.3 and 17.2.5.3)
-abbrev pub with_installed_keys : Sender → PacketKey → HeaderKey → Option SecretState → Sender
-with_installed_keys s key header_key secret =
-    record (new_sender key header_key secret s.next) { largest = s.largest; skipped = s.skipped; limit = s.limit }
+abbrev pub with_installed_keys : Sender → Version → PacketKey → HeaderKey → Option QuicSecretState → Sender
+with_installed_keys s version key header_key secret =
+    record (new_sender version key header_key secret s.next) { largest = s.largest; skipped = s.skipped; limit = s.limit }
 
 -- The state of a sender after any calls, and the numbers that it sealed under, in one list for each key. A call leaves one of
 -- the states above, or fails and leaves the sender unchanged.
@@ -197,7 +202,7 @@ pub data Runs : Sender → Sender → List (List ℕ) → Type 0 where
   hears : (s t : Sender) (by_key : List (List ℕ)) (number : ℕ) → number < s.next → Runs (after_acknowledgement s number) t by_key → Runs s t by_key
   confirms : (s t : Sender) (by_key : List (List ℕ)) → Runs (record s { confirmed = true }) t by_key → Runs s t by_key
   lowers : (s t : Sender) (by_key : List (List ℕ)) (limit : ℕ) → Runs (record s { limit = min s.limit limit }) t by_key → Runs s t by_key
-  updates : (s t : Sender) (by_key : List (List ℕ)) (key : PacketKey) (secret : Option SecretState)
+  updates : (s t : Sender) (by_key : List (List ℕ)) (key : PacketKey) (secret : Option QuicSecretState)
       → Runs (after_update s key secret) t by_key → Runs s t ([] ∷ by_key)
-  goes_on : (s t : Sender) (by_key : List (List ℕ)) (key : PacketKey) (header_key : HeaderKey) (secret : Option SecretState)
-      → Runs (with_installed_keys s key header_key secret) t by_key → Runs s t ([] ∷ by_key)
+  goes_on : (s t : Sender) (by_key : List (List ℕ)) (version : Version) (key : PacketKey) (header_key : HeaderKey)
+      (secret : Option QuicSecretState) → Runs (with_installed_keys s version key header_key secret) t by_key → Runs s t ([] ∷ by_key)

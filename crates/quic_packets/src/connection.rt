@@ -15,6 +15,7 @@ ghost use Rattle.quic_packets.specs.Keys.{secret_header_key, secret_key};
 ghost use Rattle.quic_packets.specs.Receiving.{Outcome, Reads, new_receiver};
 ghost use Rattle.quic_packets.specs.Sending.{IsInTurn, IsSealable, IsSent, IsUnanswered, after_acknowledgement, is_unsent};
 ghost use Rattle.quic_packets.specs.Space.{IsNew, Marks};
+ghost use Rattle.quic_packets.specs.Versions.{is_other_version};
 ghost use Rattle.quic_packets.specs.declared.fixed_bit.FixedBit.TheVariants.{Required};
 
 mod ends;
@@ -30,7 +31,7 @@ use crate::space::Space;
 use ends::Ends;
 use incoming::step_of;
 pub use incoming::{Incoming, Step};
-use key_derivation::Secret;
+use key_derivation::quic::QuicSecret;
 use std::marker::Model;
 use std::ops::Range;
 
@@ -154,7 +155,7 @@ impl Connection {
     /// If the sender is there already, it continues with its numbers and its limit: the 0-RTT sender of a client becomes that of
     /// 1-RTT packets (RFC 9000 section 12.3), and the one of Initial packets gets the keys of the connection ID that a Retry
     /// packet brings (section 17.2.5.3).
-    pub fn install_sender(&mut self, level: Level, secret: Secret)
+    pub fn install_sender(&mut self, level: Level, secret: QuicSecret)
         ensures { self.new ≡ with_ends self.old level (record (ends_of self.old level) {
           sender = Some (installed (ends_of self.old level).sender secret self.old.limit);
         }) }
@@ -169,8 +170,8 @@ impl Connection {
     /// Installs the keys that open the packets of a level, in place of those that are there. The numbers received stay. For 1-RTT
     /// packets the key after the next key update is set too, so that the peer may update once the handshake is confirmed (RFC
     /// 9001 section 6.1).
-    pub fn install_receiver(&mut self, level: Level, secret: Secret)
-        ensures { let made = new_receiver (secret_header_key secret) (secret_key secret) (Some secret) in
+    pub fn install_receiver(&mut self, level: Level, secret: QuicSecret)
+        ensures { let made = new_receiver secret.version (secret_header_key secret) (secret_key secret) (Some secret) in
             self.new ≡ with_ends self.old level (record (ends_of self.old level) {
               receiver = if is_one_rtt level then prepared (Some made) else Some made;
             }) }
@@ -186,9 +187,9 @@ impl Connection {
     }
 
     /// Installs the keys that open 0-RTT packets, which share the space of 1-RTT packets.
-    pub fn install_zero_rtt_receiver(&mut self, secret: Secret)
+    pub fn install_zero_rtt_receiver(&mut self, secret: QuicSecret)
         ensures { self.new ≡ record self.old {
-          zero_rtt = Some (new_receiver (secret_header_key secret) (secret_key secret) (Some secret));
+          zero_rtt = Some (new_receiver secret.version (secret_header_key secret) (secret_key secret) (Some secret));
         } }
     {
         self.zero_rtt = Some(Receiver::from_secret(secret));
@@ -299,7 +300,7 @@ impl Connection {
         ensures used_up { IfSome (ends_of self.old level).sender (λ s. IsErrOf result PacketError.KeyUsedUp
             ↔ (left s ≤ kept_at self.old level)) }
         ensures accepted { IfSome (ends_of self.old level).sender (λ s. IsOk result ↔ ((kept_at self.old level < left s)
-            × IsSealable Required number.start number.end packet.old × IsInTurn s number.start number.end)) }
+            × IsSealable s.version Required number.start number.end packet.old × IsInTurn s number.start number.end)) }
         ensures refused { IfSome (ends_of self.old level).sender (λ s. kept_at self.old level < left s
             → Refuses s Required number.start number.end packet.old result) }
         ensures sent { IfSome (ends_of self.old level).sender (λ s. OnOk result
@@ -329,7 +330,7 @@ impl Connection {
         ensures no_keys { IsErrOf result PacketError.NoKeys ↔ ¬ IsSome (ends_of self.old level).sender }
         ensures used_up { IfSome (ends_of self.old level).sender (λ s. IsErrOf result PacketError.KeyUsedUp ↔ (left s ≤ 0)) }
         ensures accepted { IfSome (ends_of self.old level).sender (λ s. IsOk result ↔ ((0 < left s)
-            × IsSealable Required number.start number.end packet.old × IsInTurn s number.start number.end)) }
+            × IsSealable s.version Required number.start number.end packet.old × IsInTurn s number.start number.end)) }
         ensures refused { IfSome (ends_of self.old level).sender (λ s. 0 < left s
             → Refuses s Required number.start number.end packet.old result) }
         ensures sent { IfSome (ends_of self.old level).sender (λ s. OnOk result
@@ -352,6 +353,8 @@ impl Connection {
     ///
     /// `id_len` is the length of this end's own connection IDs, and `id` the destination ID of the datagram's first packet, which
     /// the caller knows as the connection's: an own one or, at a server, the one that the client chose for its first packets.
+    ///
+    /// A packet with a long header of another version than the receiver's is dropped (`PacketError::OtherVersion`).
     ///
     /// A key update of the peer is followed before the call returns, so before anything of the packet is acknowledged (RFC 9001
     /// section 6.2).
@@ -376,11 +379,13 @@ impl Connection {
         ensures no_keys { (packet_type : PacketType) → IsGiven result (Incoming.NoKeys packet_type) ↔ (IsReceiving self.old
             × ((parts : Packet) × IsPacketAt self.old id_len id.now datagram.old at parts × (parts.packet_type ≡ packet_type)
             × ¬ IsSome (receiver_of self.old packet_type))) }
+        ensures other_version { (parts : Packet) → (r : Receiver) → IsOpening self.old id_len id.now datagram.old at parts r
+            → IsGiven result (Incoming.Dropped PacketError.OtherVersion) ↔ IsTrue (is_other_version r.version parts.version) }
         ensures no_sample { (parts : Packet) → (r : Receiver) → IsOpening self.old id_len id.now datagram.old at parts r
-            → IsGiven result (Incoming.Dropped PacketError.NoSample)
-            ↔ ((0 < number_in parts) × (parts.end - parts.start < number_in parts + 20)) }
+            → IsGiven result (Incoming.Dropped PacketError.NoSample) ↔ (IsFalse (is_other_version r.version parts.version)
+            × (0 < number_in parts) × (parts.end - parts.start < number_in parts + 20)) }
         ensures outcome { (parts : Packet) → (r : Receiver) → IsOpening self.old id_len id.now datagram.old at parts r
-            → HasSample (number_in parts) (parts.end - parts.start) → IfSome (opened_of result) (λ opened.
+            → IsFalse (is_other_version r.version parts.version) → HasSample (number_in parts) (parts.end - parts.start) → IfSome (opened_of result) (λ opened.
             (plain : List ℕ) × (number : ℕ) × Reads r.header (space_of self.old parts.packet_type).next (number_in parts)
             (bytes_of parts datagram.old) plain number
             × Outcome r (space_of self.old parts.packet_type) parts.start (number_in parts) plain number opened

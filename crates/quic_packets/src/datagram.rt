@@ -4,28 +4,32 @@ ghost use Rattle.std.specs.Prelude.{◌≡◌, ℕ, ◌+◌, ◌-◌, ◌^◌, �
 ghost use Rattle.std.specs.Int.Digits.{number_from_digits};
 ghost use Rattle.quic_packets.specs.declared.datagram.DatagramError.TheVariants.{Cut, IdTooLong};
 ghost use Rattle.quic_packets.specs.declared.datagram.PacketType.TheVariants.{Initial};
-ghost use Rattle.quic_packets.specs.Datagram.{IsIn, IsPlaced, has_long_id, id_end, initial_token, long_layout, long_packet, numbered_layout, packet_of, parts_of, retry_layout, short_layout, source_end, varint, varint_end, version_1_layout, version_of, versioned_layout, whole, with_fixed_bit};
+ghost use Rattle.quic_packets.specs.Datagram.{IsIn, IsPlaced, has_long_id, id_end, initial_token, long_layout, long_packet, numbered_layout, opaque_layout, packet_of, parts_of, retry_layout, short_layout, source_end, typed_layout, varint, varint_end, version_of, versioned_layout, whole, with_fixed_bit};
 ghost use Rattle.quic_packets.specs.FixedBit.{lacks_fixed_bit};
+ghost use Rattle.quic_packets.specs.Versions.{bits_of, type_of};
 
 use crate::fixed_bit::FixedBit;
+use crate::versions::{bits_of, type_of};
+use key_derivation::quic::Version;
 use std::ops::Range;
 use thiserror::Error;
 
-/// The longest connection ID of version 1, in bytes (RFC 9000 section 17.2).
+/// The longest connection ID of versions 1 and 2, in bytes (RFC 9000 section 17.2).
 pub(crate) const MAX_ID_LEN: usize = 20;
 
 pub(crate) const TAG_LEN: usize = 16;
 
-/// The type of a packet, by the form of its header, its version and its type field (RFC 9000 sections 17.2 and 17.3).
+/// The type of a packet, by the form of its header, its version and its type field, whose values each version has of its own (RFC
+/// 9000 sections 17.2 and 17.3, RFC 9369 section 3.2).
 #[derive(Clone, Copy, PartialEq, Eq, Debug)]
 pub enum PacketType {
-    /// An Initial packet of version 1.
+    /// An Initial packet of version 1 or 2.
     Initial,
-    /// A 0-RTT packet of version 1.
+    /// A 0-RTT packet of version 1 or 2.
     ZeroRtt,
-    /// A Handshake packet of version 1.
+    /// A Handshake packet of version 1 or 2.
     Handshake,
-    /// A Retry packet of version 1. It has no packet number.
+    /// A Retry packet of version 1 or 2. It has no packet number.
     Retry,
     /// A long header of version 0. The server's supported versions follow the source connection ID.
     VersionNegotiation,
@@ -62,8 +66,8 @@ pub enum DatagramError {
     /// The datagram ends before the packet does.
     #[error("the datagram ends before the packet")]
     Cut,
-    /// A connection ID of version 1 has more than 20 bytes (RFC 9000 section 17.2).
-    #[error("a connection ID of version 1 has at most 20 bytes")]
+    /// A connection ID of version 1 or 2 has more than 20 bytes (RFC 9000 section 17.2).
+    #[error("a connection ID of version 1 or 2 has at most 20 bytes")]
     IdTooLong,
     /// The fixed bit is 0 and must be 1 (RFC 9000 sections 17.2 and 17.3.1).
     #[error("the fixed bit of the packet is 0")]
@@ -77,11 +81,11 @@ pub enum DatagramError {
 /// Returns the positions of the parts of the packet that begins at byte `start` of a datagram (RFC 9000 section 17).
 ///
 /// `connection_id_len` is the length in bytes of the receiver's own connection IDs, which a short header does not hold. If the
-/// version is neither 0 nor 1, only the connection IDs are parsed, and the packet is the rest of the datagram.
+/// version is none of 0, 1 and version 2, only the connection IDs are parsed, and the packet is the rest of the datagram.
 ///
-/// Fails with `Cut` if the datagram ends before the packet; with `IdTooLong` if a connection ID of version 1 has more than 20
-/// bytes; and with `NoFixedBit`, which has the end of the packet, if the fixed bit of a short header, or of a long one of version
-/// 1, is 0 and `fixed_bit` is `Required`.
+/// Fails with `Cut` if the datagram ends before the packet; with `IdTooLong` if a connection ID of version 1 or 2 has more than
+/// 20 bytes; and with `NoFixedBit`, which has the end of the packet, if the fixed bit of a short header, or of a long one of
+/// version 1 or 2, is 0 and `fixed_bit` is `Required`.
 pub fn packet_at(
     datagram: &[u8],
     start: usize,
@@ -194,7 +198,7 @@ fn ids_end(datagram: &[u8], start: usize) -> Result<usize, DatagramError>
     if datagram.len() - start < 6 {
         return Err(DatagramError::Cut);
     }
-    let longest = if version(datagram, start) == 1 {
+    let longest = if Version::from_number(version(datagram, start)).is_some() {
         MAX_ID_LEN
     } else {
         255
@@ -233,38 +237,44 @@ fn versioned_packet(datagram: &[u8], start: usize, from: usize) -> Result<Packet
     requires within { from ≤ length datagram.now }
     ensures { result ≡ whole datagram.now (versioned_layout datagram.now start) }
 {
-    let end = datagram.len();
-    match version(datagram, start) {
-        0 => Ok(long_layout(
-            datagram,
-            start,
-            PacketType::VersionNegotiation,
-            from..from,
-            None,
-            end,
-        )),
-        1 => version_1_packet(datagram, start, from),
-        _ => Ok(long_layout(
-            datagram,
-            start,
-            PacketType::OtherVersion,
-            from..from,
-            None,
-            end,
-        )),
+    let number = version(datagram, start);
+    if number == 0 {
+        return Ok(opaque_packet(datagram, start, from, PacketType::VersionNegotiation));
+    }
+    match Version::from_number(number) {
+        Some(version) => {
+            let packet_type = type_of(version, bits_of(datagram[start]));
+            typed_packet(datagram, start, from, packet_type)
+        }
+        None => Ok(opaque_packet(datagram, start, from, PacketType::OtherVersion)),
     }
 }
 
-fn version_1_packet(datagram: &[u8], start: usize, from: usize) -> Result<Packet, DatagramError>
+// A packet of a type that has no Length field and no token.
+fn opaque_packet(datagram: &[u8], start: usize, from: usize, packet_type: PacketType) -> Packet
     requires from { from ≡ source_end datagram.now start }
     requires within { from ≤ length datagram.now }
-    ensures { result ≡ whole datagram.now (version_1_layout datagram.now start) }
+    ensures { result ≡ opaque_layout datagram.now start packet_type }
 {
-    match datagram[start] / 0x10 % 4 {
-        0 => initial_packet(datagram, start, from),
-        1 => numbered_packet(datagram, start, PacketType::ZeroRtt, from..from),
-        2 => numbered_packet(datagram, start, PacketType::Handshake, from..from),
-        _ => retry_packet(datagram, start, from),
+    let end = datagram.len();
+    long_layout(datagram, start, packet_type, from..from, None, end)
+}
+
+// Parses a packet of version 1 or 2.
+fn typed_packet(
+    datagram: &[u8],
+    start: usize,
+    from: usize,
+    packet_type: PacketType,
+) -> Result<Packet, DatagramError>
+    requires from { from ≡ source_end datagram.now start }
+    requires within { from ≤ length datagram.now }
+    ensures { result ≡ whole datagram.now (typed_layout packet_type datagram.now start) }
+{
+    match packet_type {
+        PacketType::Initial => initial_packet(datagram, start, from),
+        PacketType::Retry => retry_packet(datagram, start, from),
+        _ => numbered_packet(datagram, start, packet_type, from..from),
     }
 }
 

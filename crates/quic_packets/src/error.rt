@@ -48,6 +48,8 @@ pub enum PacketError {
     TooLong,
     /// The packet is of a type without protection: Version Negotiation or Retry (RFC 9000 sections 17.2.1 and 17.2.5).
     NoProtection,
+    /// The packet has a long header of another version than the sender's or the receiver's.
+    OtherVersion,
     /// The fixed bit is 0 and must be 1 (RFC 9000 sections 17.2 and 17.3.1).
     NoFixedBit,
     /// The packet to be sent has no payload, where a payload has at least one frame (RFC 9000 section 12.4).
@@ -124,6 +126,7 @@ impl PacketError {
             PacketError::TooShort => "the packet is shorter than its header and a tag",
             PacketError::TooLong => "the packet is longer than AES-GCM allows",
             PacketError::NoProtection => "packets of this type have no protection",
+            PacketError::OtherVersion => "the packet has another version",
             PacketError::NoFixedBit => "the fixed bit of the packet is 0",
             PacketError::EmptyPayload => "the packet has no payload",
             PacketError::NumbersEnded => "the packet number is not below 2^62",

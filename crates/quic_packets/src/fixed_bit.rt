@@ -1,10 +1,12 @@
 //! The fixed bit of a header (RFC 9000 sections 17.2 and 17.3.1).
 
 ghost use Rattle.std.specs.Prelude.{◌≡◌};
-ghost use Rattle.quic_packets.specs.FixedBit.{lacks_fixed_bit};
+ghost use Rattle.quic_packets.specs.FixedBit.{has_fixed_bit, lacks_fixed_bit};
 
-/// What the fixed bit of a packet must be: bit 0x40 of the first byte, in short headers and in long ones of version 1 (RFC 9000
-/// sections 17.2 and 17.3.1).
+use key_derivation::quic::Version;
+
+/// What the fixed bit of a packet must be: bit 0x40 of the first byte, in short headers and in long ones of version 1 or 2 (RFC
+/// 9000 sections 17.2 and 17.3.1, RFC 9369 section 3).
 #[derive(Clone, Copy, PartialEq, Eq, Debug)]
 pub enum FixedBit {
     /// It must be 1.
@@ -20,9 +22,19 @@ impl FixedBit {
     pub(crate) fn is_lacking(self, version: Option<u32>, first: u8) -> bool
         ensures { result ≡ lacks_fixed_bit self version first }
     {
-        match (self, version) {
-            (FixedBit::Required, None | Some(1)) => first / 0x40 % 2 == 0,
-            _ => false,
+        match self {
+            FixedBit::Required => has_fixed_bit(version) && first / 0x40 % 2 == 0,
+            FixedBit::Greased => false,
         }
+    }
+}
+
+// Whether a long header of this version, or a short one, has the bit.
+fn has_fixed_bit(version: Option<u32>) -> bool
+    ensures { result ≡ has_fixed_bit version }
+{
+    match version {
+        Some(number) => Version::from_number(number).is_some(),
+        None => true,
     }
 }

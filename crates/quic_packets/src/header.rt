@@ -9,7 +9,7 @@ use crate::error::PacketError;
 use crate::keys::keys_of;
 use aead_ciphers::aead::quic::Algorithm;
 use aead_ciphers_wide::aead::quic::HeaderProtectionKey;
-use key_derivation::Secret;
+use key_derivation::quic::QuicSecret;
 use std::marker::Model;
 
 /// The sample begins this many bytes after the start of the packet number, as if the number had four bytes.
@@ -50,7 +50,7 @@ impl HeaderKey {
     }
 
     /// Creates the header protection key of a secret (RFC 9001 section 5.1).
-    pub fn from_secret(secret: &Secret) -> Self
+    pub fn from_secret(secret: &QuicSecret) -> Self
         ensures { result ≡ secret_header_key secret.now }
     {
         let (_, key) = keys_of(secret);

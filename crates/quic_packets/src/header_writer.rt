@@ -1,11 +1,13 @@
-//! Writing headers of version 1, before protection (RFC 9000 section 17).
+//! Writing headers of versions 1 and 2, before protection (RFC 9000 section 17, RFC 9369 section 3).
 
 ghost use Rattle.std.specs.Prelude.{◌≡◌, ℕ, ◌+◌, ◌-◌, ◌*◌, ◌^◌, ◌<◌, ◌≤◌, ◌↔◌, ◌∷◌, [], ◌++◌, List, length, take, drop, nat_lt, if◌then◌else◌, IsOk, IfOk, IsErrOf, OnOk, OnErr};
-ghost use Rattle.quic_packets.specs.HeaderBytes.{HasShortFields, HasShortIds, IsLongHeader, IsNumberLen, IsShortHeader, fewest, id_field, integer, length_log, length_of, long_first_byte, long_header, short_first_byte, short_header, token_field, token_of, type_bits, with_field};
+ghost use Rattle.quic_packets.specs.HeaderBytes.{HasShortFields, HasShortIds, IsLongHeader, IsNumberLen, IsShortHeader, fewest, header_bits, id_field, integer, length_log, length_of, long_first_byte, long_header, short_first_byte, short_header, token_field, token_of, version_field, with_field};
 ghost use Rattle.quic_packets.specs.Datagram.{span};
 
 use crate::datagram::{MAX_ID_LEN, TAG_LEN};
 use crate::header::MAX_NUMBER_LEN;
+use crate::versions::type_bits;
+use key_derivation::quic::Version;
 use std::ops::Range;
 use thiserror::Error;
 
@@ -15,7 +17,7 @@ const VERSION_END: usize = 5;
 /// Tokens and Length fields end at this value, so that four bytes encode them (RFC 9000 section 16).
 const LENGTHS_END: usize = 1 << 30;
 
-/// A type of packets with a long header and a packet number (RFC 9000 section 17.2, table 5).
+/// A type of packets with a long header and a packet number (RFC 9000 section 17.2).
 #[derive(Clone, Copy, Drop)]
 pub enum LongType<'a> {
     /// An Initial packet. It alone has a token (section 17.2.2).
@@ -29,9 +31,11 @@ pub enum LongType<'a> {
     Handshake,
 }
 
-/// A long header of version 1 (RFC 9000 sections 17.2.2 to 17.2.4).
+/// A long header of version 1 or 2 (RFC 9000 sections 17.2.2 to 17.2.4, RFC 9369 section 3).
 #[derive(Clone, Copy, Drop)]
 pub struct LongHeader<'a> {
+    /// The version, which determines the bits of the type.
+    pub version: Version,
     /// The type of the packet. An Initial packet has a token.
     pub packet_type: LongType<'a>,
     /// The destination connection ID, of at most 20 bytes.
@@ -44,7 +48,7 @@ pub struct LongHeader<'a> {
     pub payload_len: usize,
 }
 
-/// A short header of version 1 (RFC 9000 section 17.3.1).
+/// A short header of version 1 or 2 (RFC 9000 section 17.3.1).
 #[derive(Clone, Copy, Drop)]
 pub struct ShortHeader<'a> {
     /// The destination connection ID, of at most 20 bytes.
@@ -62,7 +66,7 @@ pub enum HeaderError {
     #[error("a packet number has 1 to 4 bytes")]
     NumberLength,
     /// A connection ID has more than 20 bytes (RFC 9000 section 17.2).
-    #[error("a connection ID of version 1 has at most 20 bytes")]
+    #[error("a connection ID of version 1 or 2 has at most 20 bytes")]
     IdTooLong,
     /// The token, or packet number, payload and tag together, have 2^30 bytes or more.
     #[error("the token or the packet has 2^30 bytes or more")]
@@ -155,7 +159,7 @@ impl LongHeader<'_> {
         ensures { buffer.new ≡ long_header self.now ++ drop (length (long_header self.now)) buffer.old }
     {
         let packet_len = self.packet_len();
-        let at = put(buffer, 0, &[self.first_byte(), 0, 0, 0, 1]);
+        let at = put_front(buffer, self.first_byte(), self.version);
         let at = put_id(buffer, at, self.destination_id);
         let at = put_id(buffer, at, self.source_id);
         let at = put_token(buffer, at, self.packet_type);
@@ -164,14 +168,15 @@ impl LongHeader<'_> {
 
     fn first_byte(&self) -> u8
         requires { IsNumberLen self.now.number_len }
-        ensures { result ≡ long_first_byte (type_bits self.now.packet_type) self.now.number_len }
+        ensures { result ≡ long_first_byte (header_bits self.now.version self.now.packet_type) self.now.number_len }
     {
-        let type_bits = match self.packet_type {
-            LongType::Initial { .. } => 0x00,
-            LongType::ZeroRtt => 0x10,
-            LongType::Handshake => 0x20,
+        let types = type_bits(self.version);
+        let bits = match self.packet_type {
+            LongType::Initial { .. } => types.initial,
+            LongType::ZeroRtt => types.zero_rtt,
+            LongType::Handshake => types.handshake,
         };
-        0xc0 + type_bits + (self.number_len as u8 - 1)
+        0xc0 + bits * 0x10 + (self.number_len as u8 - 1)
     }
 }
 
@@ -293,6 +298,17 @@ fn put(buffer: &mut [u8], at: usize, field: &[u8]) -> usize
     let end = at + field.len();
     buffer[at..end].copy_from_slice(field);
     end
+}
+
+// Writes the first byte and the version to the front of a buffer, and returns their end.
+fn put_front(buffer: &mut [u8], first: u8, version: Version) -> usize
+    requires { 5 ≤ length buffer.old }
+    ensures end { result ≡ 5 }
+    ensures written { buffer.new ≡ with_field 0 (first ∷ version_field version) buffer.old }
+{
+    let number = version.number().to_be_bytes();
+    let bytes = [first, number[0], number[1], number[2], number[3]];
+    put(buffer, 0, &bytes)
 }
 
 // Writes a connection ID after its length.

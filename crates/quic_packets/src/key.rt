@@ -14,7 +14,7 @@ use crate::keys::keys_of;
 use crate::packet::{NUMBERS_END, check_lengths, payload_len};
 use aead_ciphers::aead::{Aad, Algorithm, MAX_TAG_LEN, NONCE_LEN, Nonce, Tag, nonce_of};
 use aead_ciphers_wide::aead::LessSafeKey;
-use key_derivation::Secret;
+use key_derivation::quic::QuicSecret;
 use std::marker::Model;
 
 /// The length of a tag in bytes.
@@ -61,7 +61,7 @@ impl PacketKey {
     }
 
     /// Creates the key of a secret, with its IV (RFC 9001 section 5.1).
-    pub fn from_secret(secret: &Secret) -> Self
+    pub fn from_secret(secret: &QuicSecret) -> Self
         ensures { result ≡ secret_key secret.now }
     {
         let (key, _) = keys_of(secret);

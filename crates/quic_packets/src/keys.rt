@@ -7,27 +7,29 @@ use crate::header::HeaderKey;
 use crate::key::PacketKey;
 use crate::suite::Suite;
 use aead_ciphers::aead::NONCE_LEN;
-use key_derivation::Secret;
+use key_derivation::quic::{QuicSecret, Version};
 
-/// The keys of one direction that the caller derives, by their names (RFC 9001 section 5.1).
+/// The keys of one direction that the caller derives, by their names (RFC 9001 section 5.1, RFC 9369 section 3.3.2).
 #[derive(Clone, Copy)]
 pub struct Keys<'a> {
-    /// The packet key, of 16 or 32 bytes: `quic key`.
+    /// The version of the packets.
+    pub version: Version,
+    /// The packet key, of 16 or 32 bytes: `quic key`, or `quicv2 key` of version 2.
     pub key: &'a [u8],
-    /// The IV: `quic iv`.
+    /// The IV: `quic iv`, or `quicv2 iv`.
     pub iv: [u8; NONCE_LEN],
-    /// The key that masks headers, of 16 or 32 bytes: `quic hp`.
+    /// The key that masks headers, of 16 or 32 bytes: `quic hp`, or `quicv2 hp`.
     pub header_key: &'a [u8],
 }
 
 // The packet key and the header key of a secret, by one key of HMAC.
 #[tactic(auto, unfolding(crate::specs::Keys::secret_key, crate::specs::Keys::secret_header_key))]
-pub(crate) fn keys_of(secret: &Secret) -> (PacketKey, HeaderKey)
+pub(crate) fn keys_of(secret: &QuicSecret) -> (PacketKey, HeaderKey)
     ensures packet { result.0 ≡ secret_key secret.now }
     ensures header { result.1 ≡ secret_header_key secret.now }
 {
     let suite = Suite::of_secret(secret);
-    let keys = secret.quic_keys();
+    let keys = secret.keys();
     let Ok(packet) = PacketKey::new(suite.algorithm(), keys.key.as_slice(), keys.iv) else {
         unreachable!();
     };

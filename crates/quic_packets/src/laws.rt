@@ -4,7 +4,7 @@ ghost use Rattle.std.specs.Prelude.{◌≡◌, ◌≢◌, ℕ, ◌+◌, ◌*◌,
 ghost use Rattle.std.specs.Int.Digits.{number_from_digits};
 ghost use Rattle.aead_ciphers.specs.Counting.{xored_nonce};
 ghost use Rattle.aead_ciphers.specs.Packet.{PacketFits, sealed_packet};
-ghost use Rattle.key_derivation.specs.Secret.{SecretState};
+ghost use Rattle.key_derivation.specs.Quic.{QuicSecretState};
 ghost use Rattle.quic_packets.specs.Datagram.{packet_of};
 ghost use Rattle.quic_packets.specs.Header.{HasSample, Protected, Unprotected, number_len};
 ghost use Rattle.quic_packets.specs.Exchange.{Counts, Follows, GivesBack, HasSent, Holds, Life, Sent, WasSentInPhase, updates_before};
@@ -12,7 +12,8 @@ ghost use Rattle.quic_packets.specs.HeaderBytes.{HasLongParts, HasShortParts, Is
 ghost use Rattle.quic_packets.specs.Laws.{OpensTo};
 ghost use Rattle.quic_packets.specs.Keys.{PacketKey as PacketKeyState, secret_key};
 ghost use Rattle.quic_packets.specs.Numbers.{InWindow, IsAbove, IsDecoded, Represents, expected, unacknowledged};
-ghost use Rattle.quic_packets.specs.Sending.{Runs, after_acknowledgement, is_unsent};
+ghost use Rattle.quic_packets.specs.Sending.{Runs, after_acknowledgement, header_version, is_unsent};
+ghost use Rattle.quic_packets.specs.Versions.{is_other_version};
 ghost use Rattle.quic_packets.specs.Packet.{HasNumber, IsNumber, low_bytes};
 ghost use Rattle.quic_packets.specs.Receiving.{Outcome, Reads, Receiver as ReceiverState};
 ghost use Rattle.quic_packets.specs.Secrets.{ReceiverOf, SenderOf, secret_after};
@@ -145,6 +146,14 @@ pub fn sent_in_phase(sender: &Sender)
         ↔ (sender.now.first_of_phase ≤ packet.number) }
 {}
 
+/// A packet that was sent isn't of another version for a receiver of the sender's version, where its number comes after the
+/// version, as in each header of RFC 9000 section 17.2. This holds over every run of sends, skips and key updates of the sender.
+pub fn sent_in_version(sender: &Sender)
+    ensures { (life : Life) → (sent : List Sent) → (packet : Sent) → HasSent sender.now life sent
+        → Contains sent packet → 5 ≤ packet.number_at
+        → IsFalse (is_other_version sender.now.version (header_version packet.wire)) }
+{}
+
 /// A receiver returns every packet that a sender sent, as it was sent (RFC 9001 sections 5 and 6).
 ///
 /// This holds over every run of sends, skips and key updates of the sender, for a receiver that is given its keys in their
@@ -182,13 +191,16 @@ pub fn short_header_is_parsed(header: &ShortHeader<'_>, fixed_bit: FixedBit)
 {}
 
 /// A sender and a receiver that are made of one secret hold the same keys after the same number of key updates, those of the
-/// secret after as many steps of `quic ku`. The receiver's next key, if it is set, is that of one step more (RFC 9001 sections
+/// secret after as many steps of `quic ku`, or of `quicv2 ku` in version 2, and keep its version. The receiver's next key, if it is set, is that of one step more (RFC 9001 sections
 /// 5.1 and 6.1).
 pub fn one_secret(sender: &Sender, receiver: &Receiver)
-    ensures same { (secret : SecretState) → (updates : ℕ) → SenderOf secret sender.now updates
+    ensures same { (secret : QuicSecretState) → (updates : ℕ) → SenderOf secret sender.now updates
         → ReceiverOf secret receiver.now updates → (sender.now.key ≡ secret_key (secret_after secret updates))
         × (receiver.now.current ≡ sender.now.key) × (receiver.now.header ≡ sender.now.header_key) }
-    ensures next { (secret : SecretState) → (updates : ℕ) → (key : PacketKeyState) → ReceiverOf secret receiver.now updates
+    ensures version { (secret : QuicSecretState) → (updates : ℕ) → SenderOf secret sender.now updates
+        → ReceiverOf secret receiver.now updates → (sender.now.version ≡ secret.version)
+        × (receiver.now.version ≡ secret.version) }
+    ensures next { (secret : QuicSecretState) → (updates : ℕ) → (key : PacketKeyState) → ReceiverOf secret receiver.now updates
         → receiver.now.next ≡ Some key → key ≡ secret_key (secret_after secret (updates + 1)) }
 {}
 

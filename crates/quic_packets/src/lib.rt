@@ -1,5 +1,5 @@
-//! Packet protection of QUIC version 1 (RFC 9000 section 17, RFC 9001 sections 5 and 6), under the keys of a secret or keys that
-//! the caller derives.
+//! Packet protection of QUIC versions 1 and 2 (RFC 9000 section 17, RFC 9001 sections 5 and 6, RFC 9369), under the keys of a
+//! secret or keys that the caller derives.
 //!
 //! A packet is one slice: the header, which ends with the packet number, the payload, and 16 bytes for the tag. `Sender` sends
 //! a packet in one call, whose header `LongHeader` or `ShortHeader` writes. `Receiver` receives one, and `packet_at` finds the
@@ -25,6 +25,7 @@ mod sender;
 mod skipped;
 mod space;
 mod suite;
+mod versions;
 
 pub use datagram::{DatagramError, Packet, PacketType, packet_at};
 pub use error::PacketError;
@@ -33,6 +34,7 @@ pub use fixed_bit::FixedBit;
 pub use header::{HeaderKey, SAMPLE_LEN};
 pub use header_writer::{HeaderError, LongHeader, LongType, ShortHeader};
 pub use key::{PacketKey, TAG_LEN};
+pub use key_derivation::quic::{QuicSecret, Version};
 pub use keys::Keys;
 pub use receiver::{Received, Receiver};
 pub use retry::{RetryError, is_genuine_retry, retry_tag};

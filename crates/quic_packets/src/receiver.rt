@@ -1,6 +1,6 @@
 //! Receiving packets, over key updates (RFC 9001 sections 5.3, 5.4, 6.2 to 6.6 and 9.5).
 
-ghost use Rattle.std.specs.Prelude.{◌≡◌, ◌≢◌, ℕ, ◌+◌, ◌-◌, ◌<◌, ◌≤◌, ◌↔◌, false, true, length, List, slice_index, ◌^◌, IsTrue, IsOk, IfOk, IfErr, IsErrOf, IsOkUnless, Some, None, IsSome, IfSome, OnOk, OnErr};
+ghost use Rattle.std.specs.Prelude.{◌≡◌, ◌≢◌, ℕ, ◌+◌, ◌-◌, ◌<◌, ◌≤◌, ◌↔◌, false, true, length, List, slice_index, ◌^◌, IsFalse, IsTrue, IsOk, IfOk, IfErr, IsErrOf, IsOkUnless, Some, None, IsSome, IfSome, OnOk, OnErr};
 ghost use Rattle.std.specs.Option.{option_copied};
 ghost use Rattle.aead_ciphers.specs.Algorithm.{key_len};
 ghost use Rattle.quic_packets.specs.Datagram.{KeepsOutside, bytes_of, number_in};
@@ -11,6 +11,7 @@ ghost use Rattle.quic_packets.specs.Packet.{IsNumber};
 ghost use Rattle.quic_packets.specs.Receiving.{IsInTurn, Opening, Outcome, Reads, highest_before, is_of_opened, is_other_phase, key_of, new_receiver, opening_key, received, reserved_bits, updated, with_next};
 ghost use Rattle.quic_packets.specs.Sending.{HasKeyLengths};
 ghost use Rattle.quic_packets.specs.Space.{IsNew, Marks};
+ghost use Rattle.quic_packets.specs.Versions.{is_other_version};
 
 use crate::datagram::Packet;
 use crate::error::PacketError;
@@ -21,8 +22,9 @@ use crate::keys::{Keys, keys_of};
 use crate::numbers::{decode, truncated};
 use crate::space::Space;
 use crate::suite::Suite;
+use crate::versions::is_other_version;
 use aead_ciphers::aead::NONCE_LEN;
-use key_derivation::Secret;
+use key_derivation::quic::{QuicSecret, Version};
 use std::marker::Model;
 use std::mem;
 use std::ops::Range;
@@ -38,14 +40,15 @@ pub struct Received {
     pub phase: bool,
 }
 
-/// Receives the packets of one encryption level and, after key updates, those of each key phase in turn.
+/// Receives the packets of one encryption level in one version and, after key updates, those of each key phase in turn.
 ///
 /// # Examples
 ///
 /// Receives the first packet of a datagram. From `crates/quic_packets_tests/src/example.rt`:
 ///
 /// ```
-/// let mut receiver = Receiver::from_secret(Secret::aes_128_gcm(SECRET));
+/// let secret = QuicSecret::new(Version::One, Secret::aes_128_gcm(SECRET));
+/// let mut receiver = Receiver::from_secret(secret);
 /// let mut space = Space::<2>::new();
 /// let mut failures = Failures::new();
 /// let parts = packet_at(&datagram, 0, CONNECTION_ID.len(), FixedBit::Required)?;
@@ -54,8 +57,9 @@ pub struct Received {
 /// ```
 #[derive(Drop)]
 pub struct Receiver {
+    version: Version,
     header: HeaderKey,
-    secret: Option<Secret>,
+    secret: Option<QuicSecret>,
     current: PacketKey,
     next: Option<PacketKey>,
     previous: Option<PacketKey>,
@@ -72,6 +76,7 @@ impl Model for Receiver {
     ghost Value = { Receiver };
 
     ghost view = { λ r. record {
+      version = r.version;
       header = r.header;
       secret = r.secret;
       current = r.current;
@@ -87,12 +92,13 @@ impl Model for Receiver {
 
 impl Receiver {
     /// Creates a receiver of a secret, which it keeps: its keys and those after each key update derive from it (RFC 9001
-    /// sections 5.1 and 6.1).
-    pub fn from_secret(secret: Secret) -> Self
-        ensures { result ≡ new_receiver (secret_header_key secret) (secret_key secret) (Some secret) }
+    /// sections 5.1 and 6.1), and its version is the secret's.
+    pub fn from_secret(secret: QuicSecret) -> Self
+        ensures { result ≡ new_receiver secret.version (secret_header_key secret) (secret_key secret) (Some secret) }
     {
+        let version = secret.version();
         let (current, header) = keys_of(&secret);
-        Receiver::with_keys(header, current, Some(secret))
+        Receiver::with_keys(version, header, current, Some(secret))
     }
 
     /// Creates a receiver with keys of the caller's, which have the lengths of the suite.
@@ -101,19 +107,25 @@ impl Receiver {
     pub fn new(suite: Suite, keys: Keys<'_>) -> Result<Self, PacketError>
         ensures accepted { IsOk result ↔ HasKeyLengths suite keys.entry.key.now keys.entry.header_key.now }
         ensures refused { IsOkUnless result PacketError.KeyLength }
-        ensures made { IfOk result (λ made. made ≡ new_receiver (header_key suite keys.entry.header_key.now)
+        ensures made { IfOk result (λ made. made ≡ new_receiver keys.entry.version (header_key suite keys.entry.header_key.now)
             (packet_key suite keys.entry.key.now keys.entry.iv) None) }
     {
         let header = HeaderKey::new(suite.header_algorithm(), keys.header_key)?;
         let current = PacketKey::new(suite.algorithm(), keys.key, keys.iv)?;
-        Ok(Receiver::with_keys(header, current, None))
+        Ok(Receiver::with_keys(keys.version, header, current, None))
     }
 
     // Creates a receiver with these keys, which are those of the secret if there is one.
-    fn with_keys(header: HeaderKey, current: PacketKey, secret: Option<Secret>) -> Self
-        ensures { result ≡ new_receiver header current secret }
+    fn with_keys(
+        version: Version,
+        header: HeaderKey,
+        current: PacketKey,
+        secret: Option<QuicSecret>,
+    ) -> Self
+        ensures { result ≡ new_receiver version header current secret }
     {
         Receiver {
+            version,
             header,
             secret,
             current,
@@ -145,7 +157,7 @@ impl Receiver {
             return Err(PacketError::NoSecret);
         };
         if self.next.is_none() {
-            let next = secret.next_quic();
+            let next = secret.next();
             self.next = Some(PacketKey::from_secret(&next));
             self.secret = Some(next);
         }
@@ -174,6 +186,13 @@ impl Receiver {
         Ok(())
     }
 
+    /// Returns the version of the packets.
+    pub fn version(&self) -> Version
+        ensures { result ≡ self.now.version }
+    {
+        self.version
+    }
+
     /// Returns the Key Phase bit of the current key (RFC 9000 section 17.3.1). It changes when a packet of the next phase is
     /// received.
     pub fn phase(&self) -> bool
@@ -197,10 +216,10 @@ impl Receiver {
     /// holds the numbers received in the packet's number space, and `failures` is the one count of the connection.
     ///
     /// Fails, in this order, with `TooManyFailures` if the limit of `failures` is reached; with `PastEnd` if the packet ends
-    /// after the datagram; with `NoNumber` if it has no packet number; with `NumberAtFirstByte` if the number does not begin
-    /// after the packet's first byte; with `NoSample` if the packet has fewer than 20 bytes from its number on; with `TooLong`
-    /// if it is longer than AES-GCM allows; and with `Refused`, which is counted, if it is not authentic. The packet is then
-    /// unchanged. For an authentic packet, which is then opened in place, fails with `ReservedBits` if its reserved bits are
+    /// after the datagram; with `OtherVersion` if it has a long header of another version than the receiver's; with `NoNumber`
+    /// if it has no packet number; with `NumberAtFirstByte` if the number does not begin after the packet's first byte; with
+    /// `NoSample` if the packet has fewer than 20 bytes from its number on; with `TooLong` if it is longer than AES-GCM allows;
+    /// and with `Refused`, which is counted, if it is not authentic. The packet is then unchanged. For an authentic packet, which is then opened in place, fails with `ReservedBits` if its reserved bits are
     /// set, with `Duplicate` if its number was already received or is below the window of `space`, with `KeyUpdate` if its
     /// key phase is out of turn, which is so if a packet with a higher number was opened under earlier keys (RFC 9001 section
     /// 6.4), and with `NoFrames` if its payload is empty.
@@ -217,15 +236,20 @@ impl Receiver {
         ensures used_up { IsErrOf result PacketError.TooManyFailures ↔ (failures.old.limit ≤ failures.old.count) }
         ensures past_end { IsErrOf result PacketError.PastEnd
             ↔ ((failures.old.count < failures.old.limit) × (length datagram.old < parts.now.end)) }
+        ensures other_version { IsErrOf result PacketError.OtherVersion ↔ ((failures.old.count < failures.old.limit)
+            × (parts.now.end ≤ length datagram.old) × IsTrue (is_other_version self.old.version parts.now.version)) }
         ensures no_number { IsErrOf result PacketError.NoNumber ↔ ((failures.old.count < failures.old.limit)
-            × (parts.now.end ≤ length datagram.old) × ¬ IsSome parts.now.number_at) }
+            × (parts.now.end ≤ length datagram.old) × IsFalse (is_other_version self.old.version parts.now.version)
+            × ¬ IsSome parts.now.number_at) }
         ensures first_byte { IsErrOf result PacketError.NumberAtFirstByte
             ↔ ((failures.old.count < failures.old.limit) × (parts.now.end ≤ length datagram.old)
+            × IsFalse (is_other_version self.old.version parts.now.version)
             × IsSome parts.now.number_at × (number_in parts.now ≡ 0)) }
         ensures no_sample { IsErrOf result PacketError.NoSample ↔ ((failures.old.count < failures.old.limit)
-            × (parts.now.end ≤ length datagram.old) × (0 < number_in parts.now)
-            × (parts.now.end - parts.now.start < number_in parts.now + 20)) }
+            × (parts.now.end ≤ length datagram.old) × IsFalse (is_other_version self.old.version parts.now.version)
+            × (0 < number_in parts.now) × (parts.now.end - parts.now.start < number_in parts.now + 20)) }
         ensures outcome { failures.old.count < failures.old.limit → parts.now.end ≤ length datagram.old
+            → IsFalse (is_other_version self.old.version parts.now.version)
             → HasSample (number_in parts.now) (parts.now.end - parts.now.start) → (plain : List ℕ) × (number : ℕ)
             × Reads self.old.header space.old.next (number_in parts.now) (bytes_of parts.now datagram.old) plain number
             × Outcome self.old space.old parts.now.start (number_in parts.now) plain number result self.new
@@ -243,7 +267,7 @@ impl Receiver {
         if failures.is_at_limit() {
             return Err(PacketError::TooManyFailures);
         }
-        let number_at = place_of_number(parts, datagram.len())?;
+        let number_at = place_of_number(parts, datagram.len(), self.version)?;
         let start = parts.start;
         self.receive_packet(
             space,
@@ -279,7 +303,7 @@ impl Receiver {
         ensures bytes_kept { IfErr result (λ error. is_of_opened error ≡ false → packet.new ≡ packet.old) }
         ensures others { ¬ IsErrOf result PacketError.TooManyFailures × ¬ IsErrOf result PacketError.PastEnd
             × ¬ IsErrOf result PacketError.NoNumber × ¬ IsErrOf result PacketError.NumberAtFirstByte
-            × ¬ IsErrOf result PacketError.NoSample }
+            × ¬ IsErrOf result PacketError.NoSample × ¬ IsErrOf result PacketError.OtherVersion }
     {
         match self.open(space.largest(), packet, number_at, start) {
             Ok((first, received)) => match self.admit(space, first, &received) {
@@ -317,7 +341,8 @@ impl Receiver {
         ensures kept { OnErr result (packet.new ≡ packet.old) }
         ensures others { ¬ IsErrOf result PacketError.TooManyFailures × ¬ IsErrOf result PacketError.PastEnd
             × ¬ IsErrOf result PacketError.NoNumber × ¬ IsErrOf result PacketError.ReservedBits × ¬ IsErrOf result PacketError.Duplicate
-            × ¬ IsErrOf result PacketError.KeyUpdate × ¬ IsErrOf result PacketError.NoFrames }
+            × ¬ IsErrOf result PacketError.KeyUpdate × ¬ IsErrOf result PacketError.NoFrames
+            × ¬ IsErrOf result PacketError.OtherVersion }
     {
         let masked = masked_bytes(packet, number_at)?;
         let number_len = self.header.unprotect(packet, number_at)?;
@@ -467,17 +492,21 @@ impl Receiver {
     }
 }
 
-// The position of the packet number, counted from the packet, if the packet ends within a datagram of this length and is long
-// enough for a sample.
-fn place_of_number(parts: &Packet, len: usize) -> Result<usize, PacketError>
-    ensures accepted { IsOk result ↔ ((parts.now.end ≤ len)
+// The position of the packet number, counted from the packet, if the packet ends within a datagram of this length, has no other
+// version, and is long enough for a sample.
+fn place_of_number(parts: &Packet, len: usize, version: Version) -> Result<usize, PacketError>
+    ensures accepted { IsOk result ↔ ((parts.now.end ≤ len) × IsFalse (is_other_version version parts.now.version)
         × HasSample (number_in parts.now) (parts.now.end - parts.now.start)) }
     ensures past_end { IsErrOf result PacketError.PastEnd ↔ (len < parts.now.end) }
-    ensures no_number { IsErrOf result PacketError.NoNumber
-        ↔ ((parts.now.end ≤ len) × ¬ IsSome parts.now.number_at) }
+    ensures other_version { IsErrOf result PacketError.OtherVersion
+        ↔ ((parts.now.end ≤ len) × IsTrue (is_other_version version parts.now.version)) }
+    ensures no_number { IsErrOf result PacketError.NoNumber ↔ ((parts.now.end ≤ len)
+        × IsFalse (is_other_version version parts.now.version) × ¬ IsSome parts.now.number_at) }
     ensures first_byte { IsErrOf result PacketError.NumberAtFirstByte ↔ ((parts.now.end ≤ len)
+        × IsFalse (is_other_version version parts.now.version)
         × IsSome parts.now.number_at × (number_in parts.now ≡ 0)) }
-    ensures no_sample { IsErrOf result PacketError.NoSample ↔ ((parts.now.end ≤ len) × (0 < number_in parts.now)
+    ensures no_sample { IsErrOf result PacketError.NoSample ↔ ((parts.now.end ≤ len)
+        × IsFalse (is_other_version version parts.now.version) × (0 < number_in parts.now)
         × (parts.now.end - parts.now.start < number_in parts.now + 20)) }
     ensures place { IfOk result (λ at. at ≡ number_in parts.now) }
     ensures others { ¬ IsErrOf result PacketError.TooManyFailures × ¬ IsErrOf result PacketError.Refused }
@@ -485,6 +514,9 @@ fn place_of_number(parts: &Packet, len: usize) -> Result<usize, PacketError>
 {
     if parts.end > len {
         return Err(PacketError::PastEnd);
+    }
+    if is_other_version(version, parts.version) {
+        return Err(PacketError::OtherVersion);
     }
     let Some(number_at) = parts.number_at else {
         return Err(PacketError::NoNumber);

@@ -9,6 +9,7 @@ ghost use Rattle.quic_packets.specs.Header.{HasSample};
 ghost use Rattle.quic_packets.specs.Keys.{header_key, packet_key, secret_header_key, secret_key};
 ghost use Rattle.quic_packets.specs.Packet.{IsNumber};
 ghost use Rattle.quic_packets.specs.Sending.{HasKeyLengths, IsEncodable, IsInTurn, IsOpen, IsRoom, IsSealable, IsSent, after_acknowledgement, after_send, after_skip, after_update, first_byte, header_version, lacks_protection, new_sender, numbered_packet, with_installed_keys, IsUnanswered, after_derived_update, is_unsent};
+ghost use Rattle.quic_packets.specs.Versions.{is_other_version};
 
 use crate::datagram::version;
 use crate::error::PacketError;
@@ -20,8 +21,9 @@ use crate::numbers::number_len;
 use crate::packet::{NUMBERS_END, payload_len};
 use crate::skipped::Skipped;
 use crate::suite::Suite;
+use crate::versions::{bits_of, is_other_version, type_bits};
 use aead_ciphers::aead::NONCE_LEN;
-use key_derivation::Secret;
+use key_derivation::quic::{QuicSecret, Version};
 use std::marker::Model;
 use std::ops::Range;
 
@@ -51,9 +53,10 @@ pub const CONFIDENTIALITY_LIMIT: u64 = 1 << 23;
 /// ```
 #[derive(Drop)]
 pub struct Sender {
+    version: Version,
     key: PacketKey,
     header_key: HeaderKey,
-    secret: Option<Secret>,
+    secret: Option<QuicSecret>,
     next: u64,
     largest_acknowledged: Option<u64>,
     skipped: Skipped,
@@ -74,6 +77,7 @@ impl Model for Sender {
     ghost Value = { Sender };
 
     ghost view = { λ s. record {
+      version = s.version;
       key = s.key;
       header_key = s.header_key;
       secret = s.secret;
@@ -94,19 +98,20 @@ impl Model for Sender {
 
 impl Sender {
     /// Creates a sender of a secret, which it keeps: its keys and those after each key update derive from it (RFC 9001 sections
-    /// 5.1 and 6.1). The first packet has the number `first`.
+    /// 5.1 and 6.1), and its version is the secret's. The first packet has the number `first`.
     ///
     /// The Key Phase bit is 0, and the handshake is not confirmed.
     ///
     /// Fails with `NumbersEnded` if `first` is above 2^62.
-    pub fn from_secret(secret: Secret, first: u64) -> Result<Self, PacketError>
+    pub fn from_secret(secret: QuicSecret, first: u64) -> Result<Self, PacketError>
         ensures accepted { IsOk result ↔ (first ≤ 2 ^ 62) }
         ensures refused { IsOkUnless result PacketError.NumbersEnded }
         ensures made { IfOk result (λ made. made
-            ≡ new_sender (secret_key secret) (secret_header_key secret) (Some secret) first) }
+            ≡ new_sender secret.version (secret_key secret) (secret_header_key secret) (Some secret) first) }
     {
+        let version = secret.version();
         let (key, header_key) = keys_of(&secret);
-        Sender::with_keys(key, header_key, Some(secret), first)
+        Sender::with_keys(version, key, header_key, Some(secret), first)
     }
 
     /// Creates a sender with keys of the caller's, which have the lengths of the suite. The first packet has the number `first`.
@@ -121,29 +126,31 @@ impl Sender {
             ↔ ¬ HasKeyLengths suite keys.entry.key.now keys.entry.header_key.now }
         ensures ended { IsErrOf result PacketError.NumbersEnded
             ↔ (HasKeyLengths suite keys.entry.key.now keys.entry.header_key.now × (2 ^ 62 < first)) }
-        ensures made { IfOk result (λ made. made ≡ new_sender (packet_key suite keys.entry.key.now keys.entry.iv)
-            (header_key suite keys.entry.header_key.now) None first) }
+        ensures made { IfOk result (λ made. made ≡ new_sender keys.entry.version
+            (packet_key suite keys.entry.key.now keys.entry.iv) (header_key suite keys.entry.header_key.now) None first) }
     {
         let header_key = HeaderKey::new(suite.header_algorithm(), keys.header_key)?;
         let key = PacketKey::new(suite.algorithm(), keys.key, keys.iv)?;
-        Sender::with_keys(key, header_key, None, first)
+        Sender::with_keys(keys.version, key, header_key, None, first)
     }
 
     // Creates a sender with these keys, which are those of the secret if there is one.
     fn with_keys(
+        version: Version,
         key: PacketKey,
         header_key: HeaderKey,
-        secret: Option<Secret>,
+        secret: Option<QuicSecret>,
         first: u64,
     ) -> Result<Self, PacketError>
         ensures accepted { IsOk result ↔ (first ≤ 2 ^ 62) }
         ensures refused { IsOkUnless result PacketError.NumbersEnded }
-        ensures made { IfOk result (λ made. made ≡ new_sender key header_key secret first) }
+        ensures made { IfOk result (λ made. made ≡ new_sender version key header_key secret first) }
     {
         if first > NUMBERS_END {
             return Err(PacketError::NumbersEnded);
         }
         Ok(Sender {
+            version,
             key,
             header_key,
             secret,
@@ -166,6 +173,13 @@ impl Sender {
     {
         self.limit = self.limit.min(limit);
         self
+    }
+
+    /// Returns the version of the packets.
+    pub fn version(&self) -> Version
+        ensures { result ≡ self.now.version }
+    {
+        self.version
     }
 
     /// Returns the number of the next packet, or 2^62 if no number is left.
@@ -417,7 +431,7 @@ impl Sender {
         let Some(secret) = &self.secret else {
             return Err(PacketError::NoSecret);
         };
-        let next = secret.next_quic();
+        let next = secret.next();
         let key = PacketKey::from_secret(&next);
         self.update(key, Some(next));
         Ok(())
@@ -447,7 +461,7 @@ impl Sender {
     }
 
     // Continues with this key, in the other key phase.
-    fn update(&mut self, key: PacketKey, secret: Option<Secret>)
+    fn update(&mut self, key: PacketKey, secret: Option<QuicSecret>)
         ensures { self.new ≡ after_update self.old key secret }
     {
         self.key = key;
@@ -463,21 +477,23 @@ impl Sender {
     /// 1-RTT packets (RFC 9000 section 12.3), and gives a client the Initial keys that it has after a Retry packet, when its
     /// Initial packets continue with their numbers (section 17.2.5.3).
     ///
-    /// The next number, the largest acknowledged one and the limit stay. Everything else is as `from_secret` creates it.
+    /// The next number, the largest acknowledged one and the limit stay. Everything else is as `from_secret` creates it: the
+    /// version is the secret's.
     ///
     /// Fails with `NoSecret` if the sender is not made of a secret. The sender is then unchanged.
-    pub fn install_secret(&mut self, secret: Secret) -> Result<(), PacketError>
+    pub fn install_secret(&mut self, secret: QuicSecret) -> Result<(), PacketError>
         ensures accepted { IsOk result ↔ IsSome self.old.secret }
         ensures refused { IsOkUnless result PacketError.NoSecret }
         ensures installed { OnOk result (self.new
-            ≡ with_installed_keys self.old (secret_key secret) (secret_header_key secret) (Some secret)) }
+            ≡ with_installed_keys self.old secret.version (secret_key secret) (secret_header_key secret) (Some secret)) }
         ensures kept { OnErr result (self.new ≡ self.old) }
     {
         if self.secret.is_none() {
             return Err(PacketError::NoSecret);
         }
+        let version = secret.version();
         let (key, header_key) = keys_of(&secret);
-        self.install(key, header_key, Some(secret));
+        self.install(version, key, header_key, Some(secret));
         Ok(())
     }
 
@@ -493,7 +509,7 @@ impl Sender {
         ensures key_len { IsErrOf result PacketError.KeyLength ↔ (¬ IsSome self.old.secret
             × ¬ HasKeyLengths suite keys.entry.key.now keys.entry.header_key.now) }
         ensures installed { OnOk result (self.new
-            ≡ with_installed_keys self.old (packet_key suite keys.entry.key.now keys.entry.iv)
+            ≡ with_installed_keys self.old keys.entry.version (packet_key suite keys.entry.key.now keys.entry.iv)
             (header_key suite keys.entry.header_key.now) None) }
         ensures kept { OnErr result (self.new ≡ self.old) }
     {
@@ -502,14 +518,21 @@ impl Sender {
         }
         let header_key = HeaderKey::new(suite.header_algorithm(), keys.header_key)?;
         let key = PacketKey::new(suite.algorithm(), keys.key, keys.iv)?;
-        self.install(key, header_key, None);
+        self.install(keys.version, key, header_key, None);
         Ok(())
     }
 
     // Continues with these keys, in the first key phase.
-    fn install(&mut self, key: PacketKey, header_key: HeaderKey, secret: Option<Secret>)
-        ensures { self.new ≡ with_installed_keys self.old key header_key secret }
+    fn install(
+        &mut self,
+        version: Version,
+        key: PacketKey,
+        header_key: HeaderKey,
+        secret: Option<QuicSecret>,
+    )
+        ensures { self.new ≡ with_installed_keys self.old version key header_key secret }
     {
+        self.version = version;
         self.key = key;
         self.header_key = header_key;
         self.secret = secret;
@@ -531,18 +554,19 @@ impl Sender {
     ///
     /// Fails with `TooShort` if the packet has fewer than `number.end + 16` bytes; with `TooLong` if it is longer than AES-GCM
     /// allows; with `NumberAtFirstByte` if `number.start` is 0; with `NoSample` if number and payload together have fewer than
-    /// 4 bytes; with `NoProtection` for a Version Negotiation or a Retry packet; with `NoFixedBit` if the fixed bit of a short
-    /// header, or of a long one of version 1, is 0 and `fixed_bit` is `Required`; with `EmptyPayload` if it has just
-    /// `number.end + 16` bytes; with `KeyUsedUp` if the key has reached its limit; with `NumbersEnded` if no number is left; with
-    /// `NumberTooFar` if 4 bytes cannot encode the number; and with `NumberLength` if the room has fewer bytes than that, or more
-    /// than 4. The packet and the sender are then unchanged.
+    /// 4 bytes; with `NoProtection` for a Version Negotiation packet, or one of the type bits that Retry has in the sender's
+    /// version; with `OtherVersion` for a long header of another version than the sender's; with `NoFixedBit` if the fixed bit is
+    /// 0 and `fixed_bit` is `Required`; with `EmptyPayload` if it has just `number.end + 16` bytes; with `KeyUsedUp` if the key
+    /// has reached its limit; with `NumbersEnded` if no number is left; with `NumberTooFar` if 4 bytes cannot encode the number;
+    /// and with `NumberLength` if the room has fewer bytes than that, or more than 4. The packet and the sender are then
+    /// unchanged.
     pub fn send(
         &mut self,
         packet: &mut [u8],
         number: Range<usize>,
         fixed_bit: FixedBit,
     ) -> Result<u64, PacketError>
-        ensures accepted { IsOk result ↔ (IsSealable fixed_bit number.start number.end packet.old
+        ensures accepted { IsOk result ↔ (IsSealable self.old.version fixed_bit number.start number.end packet.old
             × IsInTurn self.old number.start number.end) }
         ensures too_short { IsErrOf result PacketError.TooShort ↔ (length packet.old < number.end + 16) }
         ensures too_long { IsErrOf result PacketError.TooLong ↔ ((number.end + 16 ≤ length packet.old)
@@ -553,26 +577,32 @@ impl Sender {
             × (0 < number.start) × (length packet.old < number.start + 20)) }
         ensures no_protection { IsErrOf result PacketError.NoProtection
             ↔ (PacketFits number.end (length packet.old) × HasSample number.start (length packet.old)
-            × IsTrue (lacks_protection packet.old)) }
+            × IsTrue (lacks_protection self.old.version packet.old)) }
+        ensures other_version { IsErrOf result PacketError.OtherVersion
+            ↔ (PacketFits number.end (length packet.old) × HasSample number.start (length packet.old)
+            × IsFalse (lacks_protection self.old.version packet.old)
+            × IsTrue (is_other_version self.old.version (header_version packet.old))) }
         ensures no_fixed_bit { IsErrOf result PacketError.NoFixedBit
             ↔ (PacketFits number.end (length packet.old) × HasSample number.start (length packet.old)
-            × IsFalse (lacks_protection packet.old)
+            × IsFalse (lacks_protection self.old.version packet.old)
+            × IsFalse (is_other_version self.old.version (header_version packet.old))
             × IsTrue (lacks_fixed_bit fixed_bit (header_version packet.old) (slice_index packet.old 0))) }
         ensures empty { IsErrOf result PacketError.EmptyPayload
             ↔ (PacketFits number.end (length packet.old) × HasSample number.start (length packet.old)
-            × IsFalse (lacks_protection packet.old)
+            × IsFalse (lacks_protection self.old.version packet.old)
+            × IsFalse (is_other_version self.old.version (header_version packet.old))
             × IsFalse (lacks_fixed_bit fixed_bit (header_version packet.old) (slice_index packet.old 0))
             × (length packet.old ≡ number.end + 16)) }
         ensures used_up { IsErrOf result PacketError.KeyUsedUp
-            ↔ (IsSealable fixed_bit number.start number.end packet.old × (self.old.limit ≤ self.old.sealed)) }
+            ↔ (IsSealable self.old.version fixed_bit number.start number.end packet.old × (self.old.limit ≤ self.old.sealed)) }
         ensures ended { IsErrOf result PacketError.NumbersEnded
-            ↔ (IsSealable fixed_bit number.start number.end packet.old × (self.old.sealed < self.old.limit)
+            ↔ (IsSealable self.old.version fixed_bit number.start number.end packet.old × (self.old.sealed < self.old.limit)
             × (self.old.next ≡ 2 ^ 62)) }
         ensures too_far { IsErrOf result PacketError.NumberTooFar
-            ↔ (IsSealable fixed_bit number.start number.end packet.old × IsOpen self.old
+            ↔ (IsSealable self.old.version fixed_bit number.start number.end packet.old × IsOpen self.old
             × ¬ IsEncodable self.old) }
         ensures number_length { IsErrOf result PacketError.NumberLength
-            ↔ (IsSealable fixed_bit number.start number.end packet.old × IsOpen self.old
+            ↔ (IsSealable self.old.version fixed_bit number.start number.end packet.old × IsOpen self.old
             × IsEncodable self.old
             × ¬ IsRoom self.old.next self.old.largest number.start number.end) }
         ensures sent { OnOk result (IsSent self.old number.start number.end packet.old packet.new) }
@@ -584,7 +614,7 @@ impl Sender {
     {
         let number_at = number.start;
         let header_len = number.end;
-        check_packet(packet, number_at, header_len, fixed_bit)?;
+        check_packet(packet, number_at, header_len, fixed_bit, self.version)?;
         self.check_number(number_at, header_len)?;
         let next = self.next;
         write_number(packet, number_at, header_len, next, self.phase);
@@ -612,8 +642,8 @@ impl Sender {
             × ¬ IsRoom self.now.next self.now.largest number_at header_len) }
         ensures others { ¬ IsErrOf result PacketError.TooShort × ¬ IsErrOf result PacketError.TooLong
             × ¬ IsErrOf result PacketError.NumberAtFirstByte × ¬ IsErrOf result PacketError.NoSample
-            × ¬ IsErrOf result PacketError.NoProtection × ¬ IsErrOf result PacketError.EmptyPayload
-            × ¬ IsErrOf result PacketError.NoKeys }
+            × ¬ IsErrOf result PacketError.NoProtection × ¬ IsErrOf result PacketError.OtherVersion
+            × ¬ IsErrOf result PacketError.EmptyPayload × ¬ IsErrOf result PacketError.NoKeys }
         ensures bound { OnOk result (header_len ≤ number_at + 4) }
     {
         if self.sealed >= self.limit {
@@ -635,14 +665,15 @@ impl Sender {
     }
 }
 
-// Checks that the packet can be sealed and protected.
+// Checks that the packet can be sealed and protected in this version.
 fn check_packet(
     packet: &[u8],
     number_at: usize,
     header_len: usize,
     fixed_bit: FixedBit,
+    version: Version,
 ) -> Result<(), PacketError>
-    ensures accepted { IsOk result ↔ IsSealable fixed_bit number_at header_len packet.now }
+    ensures accepted { IsOk result ↔ IsSealable version fixed_bit number_at header_len packet.now }
     ensures too_short { IsErrOf result PacketError.TooShort ↔ (length packet.now < header_len + 16) }
     ensures too_long { IsErrOf result PacketError.TooLong ↔ ((header_len + 16 ≤ length packet.now)
         × ¬ Fits header_len (length packet.now - 16 - header_len)) }
@@ -652,14 +683,20 @@ fn check_packet(
         × (0 < number_at) × (length packet.now < number_at + 20)) }
     ensures no_protection { IsErrOf result PacketError.NoProtection
         ↔ (PacketFits header_len (length packet.now) × HasSample number_at (length packet.now)
-        × IsTrue (lacks_protection packet.now)) }
+        × IsTrue (lacks_protection version packet.now)) }
+    ensures other_version { IsErrOf result PacketError.OtherVersion
+        ↔ (PacketFits header_len (length packet.now) × HasSample number_at (length packet.now)
+        × IsFalse (lacks_protection version packet.now)
+        × IsTrue (is_other_version version (header_version packet.now))) }
     ensures no_fixed_bit { IsErrOf result PacketError.NoFixedBit
         ↔ (PacketFits header_len (length packet.now) × HasSample number_at (length packet.now)
-        × IsFalse (lacks_protection packet.now)
+        × IsFalse (lacks_protection version packet.now)
+        × IsFalse (is_other_version version (header_version packet.now))
         × IsTrue (lacks_fixed_bit fixed_bit (header_version packet.now) (slice_index packet.now 0))) }
     ensures empty { IsErrOf result PacketError.EmptyPayload
         ↔ (PacketFits header_len (length packet.now) × HasSample number_at (length packet.now)
-        × IsFalse (lacks_protection packet.now)
+        × IsFalse (lacks_protection version packet.now)
+        × IsFalse (is_other_version version (header_version packet.now))
         × IsFalse (lacks_fixed_bit fixed_bit (header_version packet.now) (slice_index packet.now 0))
         × (length packet.now ≡ header_len + 16)) }
     ensures others { ¬ IsErrOf result PacketError.KeyUsedUp × ¬ IsErrOf result PacketError.NumbersEnded
@@ -673,10 +710,14 @@ fn check_packet(
     if packet.len() < SAMPLE_END || packet.len() - SAMPLE_END < number_at {
         return Err(PacketError::NoSample);
     }
-    if lacks_protection(packet) {
+    if lacks_protection(version, packet) {
         return Err(PacketError::NoProtection);
     }
-    if fixed_bit.is_lacking(header_version(packet), packet[0]) {
+    let number = header_version(packet);
+    if is_other_version(version, number) {
+        return Err(PacketError::OtherVersion);
+    }
+    if fixed_bit.is_lacking(number, packet[0]) {
         return Err(PacketError::NoFixedBit);
     }
     if payload_len == 0 {
@@ -697,12 +738,12 @@ fn header_version(packet: &[u8]) -> Option<u32>
     }
 }
 
-// Whether the header is of a type without protection: Version Negotiation or Retry.
-fn lacks_protection(packet: &[u8]) -> bool
+// Whether the header is of a type without protection: Version Negotiation or, by the bits of this version, Retry.
+fn lacks_protection(version: Version, packet: &[u8]) -> bool
     requires { 5 ≤ length packet.now }
-    ensures { result ≡ lacks_protection packet.now }
+    ensures { result ≡ lacks_protection version packet.now }
 {
-    let is_retry = packet[0] & 0x30 == 0x30;
+    let is_retry = bits_of(packet[0]) == type_bits(version).retry;
     let is_version_negotiation = packet[1] == 0
         && packet[2] == 0
         && packet[3] == 0

@@ -4,7 +4,8 @@ ghost use Rattle.std.specs.Prelude.{◌≡◌};
 ghost use Rattle.quic_packets.specs.Suite.{algorithm, header_algorithm, suite_of};
 
 use aead_ciphers::aead::{AES_128_GCM, AES_256_GCM, Algorithm, quic};
-use key_derivation::{Secret, Suite as SecretSuite};
+use key_derivation::Suite as SecretSuite;
+use key_derivation::quic::QuicSecret;
 
 /// An algorithm for payloads, and the matching one for headers.
 #[derive(Clone, Copy, PartialEq, Eq, Debug)]
@@ -17,8 +18,8 @@ pub enum Suite {
 
 impl Suite {
     /// The suite of the keys that a secret gives.
-    pub(crate) fn of_secret(secret: &Secret) -> Self
-        ensures { result ≡ suite_of secret.now.suite }
+    pub(crate) fn of_secret(secret: &QuicSecret) -> Self
+        ensures { result ≡ suite_of secret.now.secret.suite }
     {
         match secret.suite() {
             SecretSuite::Aes128Gcm => Suite::Aes128Gcm,

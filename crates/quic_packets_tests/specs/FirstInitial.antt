@@ -1,6 +1,7 @@
 -- A client's first packet (RFC 9000 section 17.2.2).
 use Rattle.std.specs.Prelude.{ℕ, ◌-◌, List, [], ◌∷◌, ◌++◌, Some, length, replicate}
 use Rattle.key_derivation.specs.Quic.{client_initial_secret}
+use Rattle.key_derivation.specs.declared.quic.Version.TheVariants.{One}
 use Rattle.quic_packets.specs.Keys.{secret_header_key, secret_key}
 use Rattle.quic_packets.specs.Sending.{Sender, new_sender}
 
@@ -17,4 +18,4 @@ initial_packet id frames = initial_header id ++ (replicate 4 0 ++ (frames ++ rep
 -- a sender of Initial packets whose first number is this (RFC 9001 section 5.2)
 abbrev pub initial_sender : (id : List ℕ) (number : ℕ) → Sender
 initial_sender id number =
-    let secret = client_initial_secret id in new_sender (secret_key secret) (secret_header_key secret) (Some secret) number
+    let secret = client_initial_secret One id in new_sender One (secret_key secret) (secret_header_key secret) (Some secret) number

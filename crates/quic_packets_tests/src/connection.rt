@@ -3,6 +3,7 @@
 
 use crate::checks::{equal, holds};
 use key_derivation::Secret;
+use key_derivation::quic::{QuicSecret, Version};
 use quic_packets::connection::{Connection, Incoming, Level};
 use quic_packets::{FixedBit, PacketError, PacketType};
 use std::alloc::Global;
@@ -60,8 +61,13 @@ struct End {
     last: u8,
 }
 
+/// The secret of version 1 with these bytes.
+fn secret(bytes: [u8; 32]) -> QuicSecret {
+    QuicSecret::new(Version::One, Secret::aes_128_gcm(bytes))
+}
+
 /// Creates an end whose Initial packets have these secrets.
-fn make_end(alloc: Global, own: Secret, peer: Secret) -> End {
+fn make_end(alloc: Global, own: QuicSecret, peer: QuicSecret) -> End {
     let mut connection = Connection::new(FixedBit::Required);
     connection.install_sender(Level::Initial, own);
     connection.install_receiver(Level::Initial, peer);
@@ -129,21 +135,21 @@ fn frames(
 fn take_message(connection: &mut Connection, message: u8) {
     match message {
         CLIENT_HELLO => {
-            connection.install_zero_rtt_receiver(Secret::aes_128_gcm(EARLY));
-            connection.install_sender(Level::Handshake, Secret::aes_128_gcm(SERVER_HANDSHAKE));
-            connection.install_receiver(Level::Handshake, Secret::aes_128_gcm(CLIENT_HANDSHAKE));
-            connection.install_sender(Level::OneRtt, Secret::aes_128_gcm(SERVER));
+            connection.install_zero_rtt_receiver(secret(EARLY));
+            connection.install_sender(Level::Handshake, secret(SERVER_HANDSHAKE));
+            connection.install_receiver(Level::Handshake, secret(CLIENT_HANDSHAKE));
+            connection.install_sender(Level::OneRtt, secret(SERVER));
         }
         SERVER_HELLO => {
-            connection.install_sender(Level::Handshake, Secret::aes_128_gcm(CLIENT_HANDSHAKE));
-            connection.install_receiver(Level::Handshake, Secret::aes_128_gcm(SERVER_HANDSHAKE));
+            connection.install_sender(Level::Handshake, secret(CLIENT_HANDSHAKE));
+            connection.install_receiver(Level::Handshake, secret(SERVER_HANDSHAKE));
         }
         SERVER_FINISHED => {
-            connection.install_sender(Level::OneRtt, Secret::aes_128_gcm(CLIENT));
-            connection.install_receiver(Level::OneRtt, Secret::aes_128_gcm(SERVER));
+            connection.install_sender(Level::OneRtt, secret(CLIENT));
+            connection.install_receiver(Level::OneRtt, secret(SERVER));
         }
         CLIENT_FINISHED => {
-            connection.install_receiver(Level::OneRtt, Secret::aes_128_gcm(CLIENT));
+            connection.install_receiver(Level::OneRtt, secret(CLIENT));
             connection.discard_zero_rtt();
             finish(connection);
         }
@@ -275,16 +281,16 @@ fn fly(alloc: Global, from: &mut End, to: &mut End, flight: &Flight) -> Result<(
 fn ends(alloc: Global) -> Result<(End, End), Fail> {
     let mut client = make_end(
         alloc,
-        Secret::client_initial(&ID)?,
-        Secret::server_initial(&ID)?,
+        QuicSecret::client_initial(Version::One, &ID)?,
+        QuicSecret::server_initial(Version::One, &ID)?,
     );
     client
         .connection
-        .install_sender(Level::OneRtt, Secret::aes_128_gcm(EARLY));
+        .install_sender(Level::OneRtt, secret(EARLY));
     let server = make_end(
         alloc,
-        Secret::server_initial(&ID)?,
-        Secret::client_initial(&ID)?,
+        QuicSecret::server_initial(Version::One, &ID)?,
+        QuicSecret::client_initial(Version::One, &ID)?,
     );
     Ok((client, server))
 }
@@ -334,8 +340,8 @@ fn established(own: [u8; 32], peer: [u8; 32]) -> Connection {
         .with_limit(4)
         .with_max_failures(2);
     for level in [Level::Handshake, Level::OneRtt] {
-        connection.install_sender(level, Secret::aes_128_gcm(own));
-        connection.install_receiver(level, Secret::aes_128_gcm(peer));
+        connection.install_sender(level, secret(own));
+        connection.install_receiver(level, secret(peer));
     }
     connection
 }
@@ -429,9 +435,15 @@ fn with_nothing_received(alloc: Global, connection: Connection) -> End {
 #[test]
 fn no_fixed_bit_in_first_packet(rt: HostRuntime) -> Result<(), Fail> {
     let mut peer = established(CLIENT, SERVER);
-    peer.install_sender(Level::Initial, Secret::client_initial(&ID)?);
+    peer.install_sender(
+        Level::Initial,
+        QuicSecret::client_initial(Version::One, &ID)?,
+    );
     let mut connection = established(SERVER, CLIENT);
-    connection.install_receiver(Level::Initial, Secret::client_initial(&ID)?);
+    connection.install_receiver(
+        Level::Initial,
+        QuicSecret::client_initial(Version::One, &ID)?,
+    );
     let mut end = with_nothing_received(rt.alloc(), connection);
     let mut datagram = sent(rt.alloc(), &mut peer, PacketType::Initial)?;
     if let Some(first) = datagram.first_mut() {

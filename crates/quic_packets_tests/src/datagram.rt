@@ -1,7 +1,8 @@
-//! Tests of `packet_at`: the packets of RFC 9001 appendix A, and handwritten datagrams.
+//! Tests of `packet_at`: the packets of RFC 9001 and RFC 9369 appendix A, and handwritten datagrams.
 
 use crate::checks::{equal, holds};
 use crate::retry::A_4_RETRY;
+use crate::rfc_9369;
 use aead_vectors::rfc_9001::{A_2_PACKET, A_3_PACKET, A_5_PROTECTED, Packet as Vector};
 use aead_vectors::words::BadLine;
 use quic_packets::{DatagramError, FixedBit, Packet, PacketType, packet_at};
@@ -13,9 +14,9 @@ use std::test::Fail;
 /// A Version Negotiation packet with connection IDs of one and two bytes, and one version.
 const NEGOTIATION: [u8; 14] = [0x80, 0, 0, 0, 0, 1, 9, 2, 8, 8, 0, 0, 0, 1];
 
-/// A packet of QUIC version 2 with a destination connection ID of 21 bytes.
-const VERSION_2: [u8; 30] = [
-    0xc0, 0x6b, 0x33, 0x43, 0xcf, 21, 7, 7, 7, 7, 7, 7, 7, 7, 7, 7, 7, 7, 7, 7, 7, 7, 7, 7, 7, 7,
+/// A packet of a reserved version (RFC 9000 section 15) with a destination connection ID of 21 bytes.
+const OTHER_VERSION: [u8; 30] = [
+    0xc0, 0x0a, 0x1a, 0x2a, 0x3a, 21, 7, 7, 7, 7, 7, 7, 7, 7, 7, 7, 7, 7, 7, 7, 7, 7, 7, 7, 7, 7,
     7, 0, 1, 2,
 ];
 
@@ -79,15 +80,60 @@ fn headers_without_a_number(rt: HostRuntime) {
             10..10,
         ),
         (
-            &VERSION_2,
-            PacketType::OtherVersion,
+            &rfc_9369::A_4_RETRY,
+            PacketType::Retry,
             0x6b33_43cf,
+            (6..6, 7..15),
+            15..20,
+        ),
+        (
+            &OTHER_VERSION,
+            PacketType::OtherVersion,
+            0x0a1a_2a3a,
             (6..27, 28..28),
             28..28,
         ),
     ] {
         is_long(&rt, datagram, packet_type, version, ids, token, None);
     }
+}
+
+// The headers of RFC 9369 appendices A.2 and A.3.
+#[test]
+fn rfc_9369_a_2_and_a_3(rt: HostRuntime) -> Result<(), Fail> {
+    for (line, ids) in [
+        (rfc_9369::A_2_PACKET, (6..14, 15..15)),
+        (rfc_9369::A_3_PACKET, (6..6, 7..15)),
+    ] {
+        let packet = protected(rt.alloc(), line)?;
+        is_long(
+            &rt,
+            &packet,
+            PacketType::Initial,
+            0x6b33_43cf,
+            ids,
+            16..16,
+            Some(18),
+        );
+    }
+    Ok(())
+}
+
+// The types of version 2 (RFC 9369 section 3.2). The header has no connection IDs, and ends as an empty token and Length would.
+#[test]
+fn types_of_version_2(rt: HostRuntime) -> Result<(), Fail> {
+    for (first, packet_type) in [
+        (0xc0, PacketType::Retry),
+        (0xd0, PacketType::Initial),
+        (0xe0, PacketType::ZeroRtt),
+        (0xf0, PacketType::Handshake),
+    ] {
+        let mut datagram = [0; 32];
+        datagram[..5].copy_from_slice(&[first, 0x6b, 0x33, 0x43, 0xcf]);
+        let packet = packet_at(&datagram, 0, 0, FixedBit::Required)?;
+        equal(&rt, &packet.packet_type, &packet_type);
+    }
+    Ok(())
 }
 
 // Two packets of RFC 9001 appendix A in one datagram. The second has a short header.
@@ -129,7 +175,7 @@ fn cut_second(rt: &impl Abort, mut datagram: Vec<u8>) -> Result<(), Fail> {
     Ok(())
 }
 
-// Truncated packets, and connection IDs of 21 bytes in version 1.
+// Truncated packets, connection IDs of 21 bytes in versions 1 and 2, and a fixed bit of 0 in version 2.
 #[test]
 fn refusals(rt: HostRuntime) -> Result<(), Fail> {
     let datagram = protected(rt.alloc(), A_3_PACKET)?;
@@ -138,6 +184,16 @@ fn refusals(rt: HostRuntime) -> Result<(), Fail> {
         (A_5_PROTECTED.as_slice(), 21, DatagramError::Cut),
         (&[0xc0, 0, 0, 0, 1, 21], 0, DatagramError::IdTooLong),
         (&[0xc0, 0, 0, 0, 1, 1, 9, 21], 0, DatagramError::IdTooLong),
+        (
+            &[0xd0, 0x6b, 0x33, 0x43, 0xcf, 21],
+            0,
+            DatagramError::IdTooLong,
+        ),
+        (
+            &[0xb0, 0x6b, 0x33, 0x43, 0xcf, 0, 0, 0],
+            0,
+            DatagramError::NoFixedBit { end: 8 },
+        ),
     ] {
         refused(&rt, datagram, id_len, error);
     }

@@ -7,7 +7,7 @@ use std::fmt::Display;
 use std::process::Abort;
 use std::test::Fail;
 
-const PACKET_ERRORS: [(PacketError, &str); 29] = [
+const PACKET_ERRORS: [(PacketError, &str); 30] = [
     (
         PacketError::KeyLength,
         "the key does not have the length of the algorithm's keys",
@@ -78,6 +78,7 @@ const PACKET_ERRORS: [(PacketError, &str); 29] = [
         PacketError::TooLong,
         "the packet is longer than AES-GCM allows",
     ),
+    (PacketError::OtherVersion, "the packet has another version"),
     (PacketError::NoFixedBit, "the fixed bit of the packet is 0"),
     (
         PacketError::NumbersEnded,
@@ -106,7 +107,7 @@ const DATAGRAM_ERRORS: [(DatagramError, &str); 3] = [
     (DatagramError::Cut, "the datagram ends before the packet"),
     (
         DatagramError::IdTooLong,
-        "a connection ID of version 1 has at most 20 bytes",
+        "a connection ID of version 1 or 2 has at most 20 bytes",
     ),
     (
         DatagramError::NoFixedBit { end: 9 },
@@ -121,7 +122,7 @@ const HEADER_ERRORS: [(HeaderError, &str); 4] = [
     ),
     (
         HeaderError::IdTooLong,
-        "a connection ID of version 1 has at most 20 bytes",
+        "a connection ID of version 1 or 2 has at most 20 bytes",
     ),
     (
         HeaderError::TooLong,

@@ -2,7 +2,9 @@
 
 use crate::checks::same;
 use key_derivation::Secret;
-use quic_packets::{Failures, FixedBit, PacketError, Receiver, Sender, Space, packet_at};
+use quic_packets::{
+    Failures, FixedBit, PacketError, QuicSecret, Receiver, Sender, Space, Version, packet_at,
+};
 use std::alloc::Global;
 use std::test::Fail;
 
@@ -27,10 +29,12 @@ fn send(alloc: Global, sender: &mut Sender, payload: &[u8]) -> Result<Vec<u8>, F
 
 #[test]
 fn one_packet(rt: HostRuntime) -> Result<(), Fail> {
-    let mut sender = Sender::from_secret(Secret::aes_128_gcm(SECRET), 0)?;
+    let secret = QuicSecret::new(Version::One, Secret::aes_128_gcm(SECRET));
+    let mut sender = Sender::from_secret(secret, 0)?;
     let mut datagram = send(rt.alloc(), &mut sender, b"hello")?;
 
-    let mut receiver = Receiver::from_secret(Secret::aes_128_gcm(SECRET));
+    let secret = QuicSecret::new(Version::One, Secret::aes_128_gcm(SECRET));
+    let mut receiver = Receiver::from_secret(secret);
     let mut space = Space::<2>::new();
     let mut failures = Failures::new();
     let parts = packet_at(&datagram, 0, CONNECTION_ID.len(), FixedBit::Required)?;

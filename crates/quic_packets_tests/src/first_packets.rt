@@ -5,6 +5,7 @@ use crate::examples::first_initial::first_packet;
 use crate::examples::initial_keys::client_initial_keys;
 use aead_vectors::rfc_9001::{A_2_PACKET, Packet};
 use key_derivation::DerivationError;
+use key_derivation::quic::Version;
 use std::process::Abort;
 use std::test::Fail;
 
@@ -13,7 +14,7 @@ const CLIENT_ID: [u8; 8] = [0x83, 0x94, 0xc8, 0xf0, 0x3e, 0x51, 0x57, 0x08];
 
 /// Asserts that the client's keys are those of a row.
 fn has_keys(rt: &impl Abort, id: &[u8], row: &Packet) -> Result<(), DerivationError> {
-    let keys = client_initial_keys(id)?;
+    let keys = client_initial_keys(Version::One, id)?;
     same(rt, keys.key.as_slice(), &row.key, "key");
     same(rt, &keys.iv, &row.iv, "iv");
     same(rt, keys.header_key.as_slice(), &row.header_key, "hp");

@@ -1,13 +1,14 @@
-//! Tests of `LongHeader` and `ShortHeader`: headers of RFC 9001 appendix A, integers of RFC 9000 appendix A.1, and each error.
+//! Tests of `LongHeader` and `ShortHeader`: headers of RFC 9001 and RFC 9369 appendix A, integers of RFC 9000 appendix A.1, and each
+//! error.
 
 use crate::checks::{equal, holds, same};
-use quic_packets::{HeaderError, LongHeader, LongType, ShortHeader};
+use quic_packets::{HeaderError, LongHeader, LongType, ShortHeader, Version};
 use std::alloc::Global;
 use std::ops::Range;
 use std::process::Abort;
 use std::test::Fail;
 
-/// A connection ID of one byte more than version 1 allows.
+/// A connection ID of one byte more than versions 1 and 2 allow.
 const ID: [u8; 21] = [7; 21];
 
 /// An Initial packet without a token.
@@ -20,8 +21,19 @@ enum Header<'a> {
     Short(ShortHeader<'a>),
 }
 
-/// Returns a long header.
+/// Returns a long header of version 1.
 fn long<'a>(
+    packet_type: LongType<'a>,
+    ids: (&'a [u8], &'a [u8]),
+    number_len: usize,
+    payload_len: usize,
+) -> Header<'a> {
+    long_of(Version::One, packet_type, ids, number_len, payload_len)
+}
+
+/// Returns a long header.
+fn long_of<'a>(
+    version: Version,
     packet_type: LongType<'a>,
     ids: (&'a [u8], &'a [u8]),
     number_len: usize,
@@ -29,6 +41,7 @@ fn long<'a>(
 ) -> Header<'a> {
     let (destination_id, source_id) = ids;
     Header::Long(LongHeader {
+        version,
         packet_type,
         destination_id,
         source_id,
@@ -97,6 +110,36 @@ fn headers(rt: HostRuntime) -> Result<(), Fail> {
         (short(&[], true, 4), 4, "47"),
     ] {
         let wanted = hex::decode(rt.alloc(), wanted)?;
+        writes(&rt, rt.alloc(), header, number_len, &wanted)?;
+    }
+    Ok(())
+}
+
+// The first two are those of RFC 9369 appendices A.2 and A.3.
+#[test]
+fn rfc_9369_a_2_and_a_3(rt: HostRuntime) -> Result<(), Fail> {
+    let client_id = hex::decode(rt.alloc(), "8394c8f03e515708")?;
+    let server_id = hex::decode(rt.alloc(), "f067a5502a4262b5")?;
+    for (packet_type, ids, number_len, payload_len, wanted) in [
+        (
+            INITIAL,
+            (client_id.as_slice(), [].as_slice()),
+            4,
+            1162,
+            "d36b3343cf088394c8f03e5157080000449e",
+        ),
+        (
+            INITIAL,
+            (&[], &server_id),
+            2,
+            99,
+            "d16b3343cf0008f067a5502a4262b5004075",
+        ),
+        (LongType::ZeroRtt, (&[], &[]), 1, 20, "e06b3343cf00004025"),
+        (LongType::Handshake, (&[], &[]), 1, 20, "f06b3343cf00004025"),
+    ] {
+        let wanted = hex::decode(rt.alloc(), wanted)?;
+        let header = long_of(Version::Two, packet_type, ids, number_len, payload_len);
         writes(&rt, rt.alloc(), header, number_len, &wanted)?;
     }
     Ok(())

@@ -1,5 +1,5 @@
 //! Tests of `quic_packets`, one module for each of its modules, except that `keys` tests `key` and `header`, and `first_packets`
-//! the callers in `examples`. `rows` contains packets made by `tools/quic-packets`.
+//! the callers in `examples`, and `rfc_9369` version 2. `rows` contains packets made by `tools/quic-packets`.
 #![tactic(auto)]
 
 #[cfg(test)]
@@ -26,6 +26,8 @@ mod numbers;
 mod receiver;
 #[cfg(test)]
 mod retry;
+#[cfg(test)]
+mod rfc_9369;
 #[cfg(test)]
 mod rows;
 #[cfg(test)]

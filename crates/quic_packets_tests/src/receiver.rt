@@ -8,7 +8,7 @@ use aead_ciphers::aead::{AES_128_GCM, quic};
 use aead_vectors::rfc_9001::Packet;
 use quic_packets::{
     Failures, FixedBit, HeaderKey, Keys, Packet as Parts, PacketError, PacketKey, PacketType,
-    Received, Receiver, Space, Suite, packet_at,
+    Received, Receiver, Space, Suite, Version, packet_at,
 };
 use std::alloc::Global;
 use std::process::Abort;
@@ -38,6 +38,7 @@ fn sent(key: u8, first: u8, number: u16) -> Result<[u8; 40], PacketError> {
 /// The keys of a packet key.
 fn keys(key: &[u8]) -> Keys<'_> {
     Keys {
+        version: Version::One,
         key,
         iv: IV,
         header_key: &HEADER_KEY,
@@ -142,6 +143,7 @@ fn happen(rt: &impl Abort, limit: u64, events: &[Event], failures: u64) -> Resul
 /// Asserts that a packet of RFC 9001 appendix A is received with its header and the length of its payload.
 fn receives(rt: &impl Abort, row: &Packet) -> Result<(), Fail> {
     let keys = Keys {
+        version: Version::One,
         key: &row.key,
         iv: row.iv,
         header_key: &row.header_key,

@@ -1,6 +1,6 @@
 //! QUIC packets printed by `tools/quic-packets`.
 
-use quic_packets::{Keys, Suite};
+use quic_packets::{Keys, Suite, Version};
 
 /// The key. A suite uses a prefix as long as its keys.
 pub(crate) const KEY: [u8; 32] = [
@@ -20,6 +20,7 @@ pub(crate) const HEADER_KEY: [u8; 32] = [
 #[derive(Clone, Copy)]
 pub(crate) struct Row {
     pub(crate) name: &'static str,
+    pub(crate) version: Version,
     pub(crate) suite: Suite,
     /// The length of the header before the packet number.
     pub(crate) number_at: usize,
@@ -37,6 +38,7 @@ impl Row {
     /// Returns the keys of the suite's lengths.
     pub(crate) fn keys(&self) -> Keys<'static> {
         Keys {
+            version: self.version,
             key: self.key(),
             iv: IV,
             header_key: self.header_key(),
@@ -61,13 +63,14 @@ impl Row {
 }
 
 /// Returns the packets.
-pub(crate) fn rows() -> [Row; 6] {
+pub(crate) fn rows() -> [Row; 7] {
     ROWS
 }
 
-const ROWS: [Row; 6] = [
+const ROWS: [Row; 7] = [
     Row {
         name: "initial",
+        version: Version::One,
         suite: Suite::Aes128Gcm,
         number_at: 18,
         number: 0,
@@ -79,6 +82,7 @@ const ROWS: [Row; 6] = [
     },
     Row {
         name: "handshake",
+        version: Version::One,
         suite: Suite::Aes256Gcm,
         number_at: 15,
         number: 300,
@@ -90,6 +94,7 @@ const ROWS: [Row; 6] = [
     },
     Row {
         name: "one byte",
+        version: Version::One,
         suite: Suite::Aes128Gcm,
         number_at: 9,
         number: 0x7e,
@@ -101,6 +106,7 @@ const ROWS: [Row; 6] = [
     },
     Row {
         name: "two bytes",
+        version: Version::One,
         suite: Suite::Aes256Gcm,
         number_at: 9,
         number: 0x00ac_5c02,
@@ -112,6 +118,7 @@ const ROWS: [Row; 6] = [
     },
     Row {
         name: "three bytes",
+        version: Version::One,
         suite: Suite::Aes256Gcm,
         number_at: 9,
         number: 0x00ac_e8fe,
@@ -123,6 +130,7 @@ const ROWS: [Row; 6] = [
     },
     Row {
         name: "four bytes",
+        version: Version::One,
         suite: Suite::Aes128Gcm,
         number_at: 9,
         number: (1 << 62) - 1,
@@ -131,6 +139,18 @@ const ROWS: [Row; 6] = [
         header: "638394c8f03e515708ffffffff",
         payload: "00",
         protected: "7f8394c8f03e515708ef1fe8d640a659e6183ab420552cde176b9fcacaf5",
+    },
+    Row {
+        name: "handshake of version 2",
+        version: Version::Two,
+        suite: Suite::Aes256Gcm,
+        number_at: 15,
+        number: 300,
+        acknowledged: None,
+        phase: false,
+        header: "f16b3343cf040a0b0c0d02fefd4033012c",
+        payload: "000102030405060708090a0b0c0d0e0f101112131415161718191a1b1c1d1e1f20",
+        protected: "fc6b3343cf040a0b0c0d02fefd40335a381388c3d1415b71c159e4a87f011abf3b8c8280affc3f59c23ef151e43f7d52a7df42e639435666c6786d12cf489637d25e",
     },
 ];
 
@@ -148,4 +168,19 @@ pub(crate) const UPDATED_AES_256: [&str; 4] = [
     "4f5b4f8e05645a58c6b7599092df50e6eee5448512834790",
     "49183aee17f4f0f99c8a899923c7735a3ee8fef4f4b07866",
     "504fed104ff849aefff8f5161b310c0d62a37bf06829be62",
+];
+
+/// The same with the labels of version 2.
+pub(crate) const UPDATED_AES_128_2: [&str; 4] = [
+    "4224de7520121f868b2ca9326525b1bfbfde938d0832d4f3",
+    "4421406f3743374d5d50e893c48c15c5ef4c9c682a63d11b",
+    "4a8225f0a34c697bc992ae7e1a05b149f6a77748906a0b0a",
+    "4deb2009a254919c6fa595250df1d7d607c078f186a8985c",
+];
+
+pub(crate) const UPDATED_AES_256_2: [&str; 4] = [
+    "4f909f1425aca5c6eb6794bec8101d99103874aaa5c593b5",
+    "4ccd29e2a7557215eeb532f21ac3f21eaf6252d6b17f2c21",
+    "54bfdf72195b01f863bb3f1006006ff5969d40b3aa80d11d",
+    "46a3cba5ad78040917c8296fb99a2d38be8532c4e0888b8b",
 ];

@@ -2,9 +2,13 @@
 //! refused.
 
 use crate::checks::{equal, holds, same};
-use crate::rows::{HEADER_KEY, IV, KEY, UPDATED_AES_128, UPDATED_AES_256};
+use crate::rows::{
+    HEADER_KEY, IV, KEY, UPDATED_AES_128, UPDATED_AES_128_2, UPDATED_AES_256, UPDATED_AES_256_2,
+};
 use key_derivation::{Secret, Suite};
-use quic_packets::{Failures, FixedBit, Keys, PacketError, Receiver, Sender, Space, packet_at};
+use quic_packets::{
+    Failures, FixedBit, Keys, PacketError, QuicSecret, Receiver, Sender, Space, Version, packet_at,
+};
 use std::alloc::Global;
 use std::process::Abort;
 use std::test::Fail;
@@ -15,12 +19,17 @@ const BYTES: [u8; 48] = [
     26, 27, 28, 29, 30, 31, 32, 33, 34, 35, 36, 37, 38, 39, 40, 41, 42, 43, 44, 45, 46, 47,
 ];
 
-fn secret(suite: Suite) -> Result<Secret, Fail> {
+/// A secret of version 1.
+fn secret(suite: Suite) -> Result<QuicSecret, Fail> {
+    secret_of(Version::One, suite)
+}
+
+fn secret_of(version: Version, suite: Suite) -> Result<QuicSecret, Fail> {
     let len = match suite {
         Suite::Aes128Gcm => 32,
         Suite::Aes256Gcm => 48,
     };
-    Ok(Secret::new(suite, &BYTES[..len])?)
+    Ok(QuicSecret::new(version, Secret::new(suite, &BYTES[..len])?))
 }
 
 /// Asserts that the sender sends this packet: a short header without a connection ID, and six zeros.
@@ -50,9 +59,15 @@ fn update(sender: &mut Sender, receiver: &mut Receiver) -> Result<(), PacketErro
 }
 
 /// Asserts that a sender of a secret sends these packets, one after each key update, and that a receiver of it receives them.
-fn updates(rt: &impl Abort, alloc: Global, suite: Suite, packets: [&str; 4]) -> Result<(), Fail> {
-    let mut sender = Sender::from_secret(secret(suite)?, 0)?;
-    let mut receiver = Receiver::from_secret(secret(suite)?);
+fn updates(
+    rt: &impl Abort,
+    alloc: Global,
+    version: Version,
+    suite: Suite,
+    packets: [&str; 4],
+) -> Result<(), Fail> {
+    let mut sender = Sender::from_secret(secret_of(version, suite)?, 0)?;
+    let mut receiver = Receiver::from_secret(secret_of(version, suite)?);
     let mut space = Space::<2>::new();
     let mut failures = Failures::new();
     sender.confirm_handshake();
@@ -69,13 +84,21 @@ fn updates(rt: &impl Abort, alloc: Global, suite: Suite, packets: [&str; 4]) -> 
 
 #[test]
 fn key_updates(rt: HostRuntime) -> Result<(), Fail> {
-    updates(&rt, rt.alloc(), Suite::Aes128Gcm, UPDATED_AES_128)?;
-    updates(&rt, rt.alloc(), Suite::Aes256Gcm, UPDATED_AES_256)
+    for (version, suite, packets) in [
+        (Version::One, Suite::Aes128Gcm, UPDATED_AES_128),
+        (Version::One, Suite::Aes256Gcm, UPDATED_AES_256),
+        (Version::Two, Suite::Aes128Gcm, UPDATED_AES_128_2),
+        (Version::Two, Suite::Aes256Gcm, UPDATED_AES_256_2),
+    ] {
+        updates(&rt, rt.alloc(), version, suite, packets)?;
+    }
+    Ok(())
 }
 
 /// Keys of a caller.
 fn keys() -> Keys<'static> {
     Keys {
+        version: Version::One,
         key: &KEY[..16],
         iv: IV,
         header_key: &HEADER_KEY[..16],
@@ -109,7 +132,7 @@ fn keys_derived(rt: HostRuntime) -> Result<(), Fail> {
 }
 
 /// Has a sender derive keys, by each call.
-fn derives_keys(sender: &mut Sender, secret: Secret) -> [Result<(), PacketError>; 3] {
+fn derives_keys(sender: &mut Sender, secret: QuicSecret) -> [Result<(), PacketError>; 3] {
     [
         sender.initiate_update(),
         sender.follow_update(),

@@ -4,7 +4,7 @@ use crate::checks::{equal, holds, same};
 use crate::keys::{packets, plain};
 use crate::rows::{HEADER_KEY, IV, Row, rows};
 use aead_vectors::rfc_9001::Packet;
-use quic_packets::{FixedBit, HeaderKey, Keys, PacketError, PacketKey, Sender, Suite};
+use quic_packets::{FixedBit, HeaderKey, Keys, PacketError, PacketKey, Sender, Suite, Version};
 use std::alloc::Global;
 use std::ops::Range;
 use std::process::Abort;
@@ -65,6 +65,7 @@ fn packets_of_another_implementation(rt: HostRuntime) -> Result<(), Fail> {
 /// Asserts that `send` yields the packet of RFC 9001 appendix A.
 fn sends_vector(rt: &impl Abort, row: &Packet) -> Result<(), Fail> {
     let keys = Keys {
+        version: Version::One,
         key: &row.key,
         iv: row.iv,
         header_key: &row.header_key,
@@ -94,6 +95,7 @@ const SHORT: [u8; 24] = [
 /// Creates a sender with a key of ones, whose first packet has the number `first`.
 fn sender(first: u64) -> Result<Sender, PacketError> {
     let keys = Keys {
+        version: Version::One,
         key: &[1; 16],
         iv: IV,
         header_key: &HEADER_KEY[..16],
@@ -132,7 +134,7 @@ fn refuses(
 }
 
 /// A first byte and a version, the start and end of the room for the packet number, and the error.
-const REFUSALS: [(u8, u8, usize, usize, PacketError); 10] = [
+const REFUSALS: [(u8, u8, usize, usize, PacketError); 11] = [
     (0x40, 0, 8, 9, PacketError::TooShort),
     (0x40, 0, 0, 1, PacketError::NumberAtFirstByte),
     (0x40, 0, 5, 6, PacketError::NoSample),
@@ -140,6 +142,7 @@ const REFUSALS: [(u8, u8, usize, usize, PacketError); 10] = [
     (0x40, 0, 2, 1, PacketError::NumberLength),
     (0xf0, 1, 1, 2, PacketError::NoProtection),
     (0xc0, 0, 1, 2, PacketError::NoProtection),
+    (0xa0, 2, 4, 5, PacketError::OtherVersion),
     (0x00, 0, 1, 2, PacketError::NoFixedBit),
     (0xa0, 1, 4, 5, PacketError::NoFixedBit),
     (0x40, 0, 4, 8, PacketError::EmptyPayload),
@@ -165,17 +168,13 @@ fn shortest(rt: HostRuntime) -> Result<(), Fail> {
     Ok(())
 }
 
-// A fixed bit of 0, which is greased or of another version.
+// A fixed bit of 0, which is greased.
 #[test]
 fn greased(rt: HostRuntime) -> Result<(), Fail> {
     let mut sender = sender(0)?;
-    for (number, first, version, fixed_bit) in [
-        (0, 0x00, 0, FixedBit::Greased),
-        (1, 0xa0, 1, FixedBit::Greased),
-        (2, 0xa0, 2, FixedBit::Required),
-    ] {
-        let mut packet = packet(first, version);
-        let sent = sender.send(&mut packet, 4..5, fixed_bit);
+    for (number, first) in [(0, 0x00), (1, 0xa0)] {
+        let mut packet = packet(first, 1);
+        let sent = sender.send(&mut packet, 4..5, FixedBit::Greased);
         holds(&rt, sent == Ok(number), "sent");
         holds(&rt, packet[0] & 0x40 == 0, "the fixed bit");
     }
@@ -445,6 +444,7 @@ fn short_numbers(rt: HostRuntime) -> Result<(), Fail> {
 /// Turns a sender of 0-RTT packets into one of 1-RTT packets.
 fn install_keys(sender: &mut Sender, header_key_len: usize) -> Result<(), PacketError> {
     let keys = Keys {
+        version: Version::One,
         key: &[5; 32],
         iv: IV,
         header_key: &HEADER_KEY[..header_key_len.min(32)],

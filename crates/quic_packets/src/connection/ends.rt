@@ -16,7 +16,7 @@ use crate::fixed_bit::FixedBit;
 use crate::receiver::{Received, Receiver};
 use crate::sender::Sender;
 use crate::space::Space;
-use key_derivation::Secret;
+use key_derivation::quic::QuicSecret;
 use std::marker::Model;
 use std::ops::Range;
 
@@ -76,7 +76,7 @@ impl Ends {
     }
 
     /// Creates the sender, or continues with the keys of this secret.
-    pub(crate) fn install_sender(&mut self, secret: Secret, limit: u64)
+    pub(crate) fn install_sender(&mut self, secret: QuicSecret, limit: u64)
         ensures { self.new ≡ record self.old { sender = Some (installed self.old.sender secret limit) } }
     {
         if let Some(sender) = &mut self.sender {
@@ -92,9 +92,9 @@ impl Ends {
     }
 
     /// Creates the receiver, in place of the one that is there.
-    pub(crate) fn install_receiver(&mut self, secret: Secret)
+    pub(crate) fn install_receiver(&mut self, secret: QuicSecret)
         ensures { self.new ≡ record self.old {
-          receiver = Some (new_receiver (secret_header_key secret) (secret_key secret) (Some secret));
+          receiver = Some (new_receiver secret.version (secret_header_key secret) (secret_key secret) (Some secret));
         } }
     {
         self.receiver = Some(Receiver::from_secret(secret));
@@ -127,7 +127,7 @@ impl Ends {
         ensures no_keys { IsErrOf result PacketError.NoKeys ↔ ¬ IsSome self.old.sender }
         ensures used_up { IfSome self.old.sender (λ s. IsErrOf result PacketError.KeyUsedUp ↔ (left s ≤ kept_back)) }
         ensures accepted { IfSome self.old.sender (λ s. IsOk result ↔ ((kept_back < left s)
-            × IsSealable Required number.start number.end packet.old × IsInTurn s number.start number.end)) }
+            × IsSealable s.version Required number.start number.end packet.old × IsInTurn s number.start number.end)) }
         ensures refused { IfSome self.old.sender (λ s. kept_back < left s
             → Refuses s Required number.start number.end packet.old result) }
         ensures sent { IfSome self.old.sender (λ s. OnOk result (IsSent s number.start number.end packet.old packet.new)) }
@@ -154,7 +154,7 @@ impl Ends {
         ensures used_up { IfSome self.old.sender (λ s. IsErrOf result PacketError.KeyUsedUp
             ↔ (left s ≤ kept_back self.old)) }
         ensures accepted { IfSome self.old.sender (λ s. IsOk result ↔ ((kept_back self.old < left s)
-            × IsSealable Required number.start number.end packet.old × IsInTurn s number.start number.end)) }
+            × IsSealable s.version Required number.start number.end packet.old × IsInTurn s number.start number.end)) }
         ensures refused { IfSome self.old.sender (λ s. kept_back self.old < left s
             → Refuses s Required number.start number.end packet.old result) }
         ensures sent { IfSome self.old.sender (λ s. OnOk result (IsSent s number.start number.end packet.old packet.new)) }

@@ -4,8 +4,10 @@ ghost use Rattle.std.specs.Prelude.{◌↔◌, ◌+◌, ◌^◌, ◌<◌, ◌≤
 ghost use Rattle.quic_packets_tests.specs.FirstInitial.{initial_packet, initial_sender};
 ghost use Rattle.quic_packets.specs.Sending.{IsSent};
 
-use key_derivation::{DerivationError, Secret};
-use quic_packets::{FixedBit, HeaderError, LongHeader, LongType, PacketError, Sender};
+use key_derivation::DerivationError;
+use quic_packets::{
+    FixedBit, HeaderError, LongHeader, LongType, PacketError, QuicSecret, Sender, Version,
+};
 use thiserror::Error;
 
 /// The length of the datagram, which has to be 1200 or more (RFC 9000 section 14.1).
@@ -28,7 +30,7 @@ pub enum FirstPacketError {
     Packet(#[from] PacketError),
 }
 
-/// Returns a datagram with a client's Initial packet. `id` is the destination connection ID that the client has chosen, and
+/// Returns a datagram with a client's Initial packet of version 1. `id` is the destination connection ID that the client has chosen, and
 /// `frames` are the frames without padding.
 ///
 /// Fails if four bytes cannot encode the number, since no number is acknowledged yet (RFC 9000 appendix A.2).
@@ -42,8 +44,10 @@ pub fn first_packet(
     ensures sent { IfOk result (λ packet. IsSent (initial_sender id.now number) 18 22
         (initial_packet id.now frames.now) packet) }
 {
-    let mut sender = Sender::from_secret(Secret::client_initial(id)?, number)?;
+    let secret = QuicSecret::client_initial(Version::One, id)?;
+    let mut sender = Sender::from_secret(secret, number)?;
     let header = LongHeader {
+        version: Version::One,
         packet_type: LongType::Initial { token: &[] },
         destination_id: id,
         source_id: &[],

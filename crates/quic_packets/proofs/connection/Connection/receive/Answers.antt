@@ -29,13 +29,18 @@ returns-in-Err-clause-no_keys c t =
     let receiving : IsReceiving a.self.now = rw (← c.self.view_is) below in
     (λ e. (receiving, it.0 e), λ d. it.1 d.1)
 
+pub returns-in-Err-clause-other_version : goal.returns-in-Err-clause-other_version
+returns-in-Err-clause-other_version c parts r opening =
+    let a = c.args in
+    absurd (lemmas.not_opening a.self.now a.id_len a.id.now a.datagram.now a.at c.in-Err.step c.in-Err.ensures.unopened parts r opening)
+
 pub returns-in-Err-clause-no_sample : goal.returns-in-Err-clause-no_sample
 returns-in-Err-clause-no_sample c parts r opening =
     let a = c.args in
     absurd (lemmas.not_opening a.self.now a.id_len a.id.now a.datagram.now a.at c.in-Err.step c.in-Err.ensures.unopened parts r opening)
 
 pub returns-in-Err-clause-outcome : goal.returns-in-Err-clause-outcome
-returns-in-Err-clause-outcome c parts r opening sample =
+returns-in-Err-clause-outcome c parts r opening own sample =
     let a = c.args in
     absurd (lemmas.not_opening a.self.now a.id_len a.id.now a.datagram.now a.at c.in-Err.step c.in-Err.ensures.unopened parts r opening)
 
@@ -83,6 +88,15 @@ returns-in-Ok-clause-ignored c =
       λ e. absurd (lemmas.not_ignored p.end p.packet_type c.open-opened.result e),
       λ d. absurd (d.1 p it.packet),
     )
+
+pub returns-in-Ok-clause-other_version : goal.returns-in-Ok-clause-other_version
+returns-in-Ok-clause-other_version c =
+    let a = c.args in
+    let p = c.in-Ok.parts in
+    let o = c.open-opened in
+    let it = c.in-Ok.ensures.to_open in
+    lemmas.other_version a.self.now a.id_len a.id.now a.datagram.now a.at p it.packet.parsed o.new.self o.new.datagram o.result c.step_of.result
+    it.within c.step_of.ensures o.ensures.some o.ensures.tried
 
 pub returns-in-Ok-clause-no_sample : goal.returns-in-Ok-clause-no_sample
 returns-in-Ok-clause-no_sample c =

@@ -5,7 +5,7 @@ use Rattle.quic_packets.specs.Receiving.{Outcome, Reads, is_of_opened}
 use Rattle.quic_packets.proofs.receiver.Receiver.receive.Goals as goal
 
 pub returns-clause-outcome : goal.returns-clause-outcome
-returns-clause-outcome g c left within sample =
+returns-clause-outcome g c left within own sample =
     let a = c.args in
     let p = a.parts.now in
     let place = c.in_ok-number_at.ensures.place in
@@ -29,5 +29,5 @@ pub returns-clause-outside : goal.returns-clause-outside
 returns-clause-outside g c =
     let a = c.args in
     let fits = c.in_ok-number_at.ensures.accepted.0 refl in
-    outside a.parts.now.start a.parts.now.end a.datagram.now c.receive_packet.new.packet (omega (arith, fits.1.sampled)) fits.0
+    outside a.parts.now.start a.parts.now.end a.datagram.now c.receive_packet.new.packet (omega (arith, fits.2.sampled)) fits.0
     c.receive_packet.auto.packet

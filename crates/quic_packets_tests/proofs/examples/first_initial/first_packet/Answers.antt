@@ -2,7 +2,9 @@ use Rattle.std.proofs.lemmas.List.{drop-replicate, replicate-append-replicate}
 use Rattle.quic_packets_tests.specs.FirstInitial.{initial_header}
 use Rattle.std.proofs.Common.{rules, replicate, append_assoc, take_at, drop_at, sym, ◌≡◌, ℕ, ◌+◌, ◌^◌, ◌<◌, true, false, suc, ◌-◌, List, [], ◌∷◌, ◌++◌, drop, Some, length, length-append, take, Option, Result, Ok, Err, IsOk, IsErr, refl, ap, ap₂, ◌∙◌, arith}
 use Rattle.aead_ciphers.specs.HeaderProtection.{HeaderKey}
-use Rattle.key_derivation.specs.Secret.{SecretState}
+use Rattle.key_derivation.specs.Quic.{QuicSecretState}
+use Rattle.key_derivation.specs.declared.quic.Version.{Version}
+use Rattle.key_derivation.specs.declared.quic.Version.TheVariants.{One}
 use Rattle.quic_packets.specs.Keys.{PacketKey, secret_header_key, secret_key}
 use Rattle.quic_packets.specs.Sending.{IsInTurn, IsSealable, IsSent, Sender, new_sender}
 use Rattle.quic_packets.specs.declared.fixed_bit.FixedBit.TheVariants.{Required}
@@ -10,21 +12,22 @@ use Rattle.quic_packets_tests.proofs.examples.first_initial.first_packet.Goals a
 
 -- a packet of 1200 bytes that begins with the first byte and the version of an Initial packet
 sealable : (packet rest : List ℕ) (start end : ℕ) → packet ≡ 0xc3 ∷ 0 ∷ 0 ∷ 0 ∷ 1 ∷ rest → length packet ≡ 1200 → start ≡ 18 → end ≡ 22
-    → IsSealable Required start end packet
+    → IsSealable One Required start end packet
 sealable packet rest start end e size es ee =
     let long : length rest ≡ 1195 = omega (arith, ap length e, size) in
     rw (e, es, ee) record {
       fits = record { room = omega (arith, long); lengths = record { aad = omega arith; message = omega (arith, long) } };
       sample = record { first_byte = omega arith; sampled = omega (arith, long) };
       protected = refl;
+      of_version = refl;
       fixed = refl;
       payload = omega (arith, long);
     }
 
 -- a new sender sends its first number in four bytes
-in_turn : (s : Sender) (key : PacketKey) (header_key : HeaderKey) (secret : Option SecretState) (number start end : ℕ)
-    → s ≡ new_sender key header_key secret number → number + 1 < 2 ^ 31 → start ≡ 18 → end ≡ 22 → IsInTurn s start end
-in_turn s key header_key secret number start end e small es ee = rw (e, es, ee) record {
+in_turn : (s : Sender) (version : Version) (key : PacketKey) (header_key : HeaderKey) (secret : Option QuicSecretState)
+    (number start end : ℕ) → s ≡ new_sender version key header_key secret number → number + 1 < 2 ^ 31 → start ≡ 18 → end ≡ 22 → IsInTurn s start end
+in_turn s version key header_key secret number start end e small es ee = rw (e, es, ee) record {
   is_open = record { unused = omega arith; left = omega (arith, small) };
   encodable = omega (arith, small);
   room = record { some = omega arith; few = omega arith; represents = omega (arith, small) };
@@ -80,7 +83,7 @@ returns-in_err-send-clause-accepted c =
       λ small.
           let never : false ≡ true =
           c.in_err-send.ensures.accepted.1
-          (sealable (take end buffer ++ after) _ _ _ begins size start_is end_is, in_turn _ _ _ _ _ _ _ c.in_ok-sender.ensures.made small start_is end_is) in
+          (sealable (take end buffer ++ after) _ _ _ begins size start_is end_is, in_turn _ _ _ _ _ _ _ _ c.in_ok-sender.ensures.made small start_is end_is) in
           absurd (cc never),
     )
 
@@ -105,5 +108,5 @@ returns-clause-sent c =
     ∙ laid_out (initial_header id) frames (22 + length frames - 22) header_size count in
     let sender_is =
     c.in_ok-sender.ensures.made
-    ∙ ap (λ (s : SecretState). new_sender (secret_key s) (secret_header_key s) (Some s) c.args.number) c.in_ok-client_initial.ensures.made in
+    ∙ ap (λ (s : QuicSecretState). new_sender s.version (secret_key s) (secret_header_key s) (Some s) c.args.number) c.in_ok-secret.ensures.made in
     same_sent sender_is start_is end_is packet_is c.in_ok-send.ensures.sent

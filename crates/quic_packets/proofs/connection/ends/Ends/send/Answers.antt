@@ -18,6 +18,7 @@ returns-clause-refused c =
       first_byte = it.first_byte;
       no_sample = it.no_sample;
       no_protection = it.no_protection;
+      other_version = it.other_version;
       no_fixed_bit = it.no_fixed_bit;
       empty = it.empty;
       ended = (λ e. (let d = it.ended.0 e in (d.0, d.2)), λ d. it.ended.1 (d.0, unused, d.1));

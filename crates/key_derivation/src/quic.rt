@@ -1,0 +1,281 @@
+//! Secrets of QUIC, and the keys that they give in each version (RFC 9001 sections 5.1, 5.2 and 6.1, RFC 9369 section 3).
+
+ghost use Rattle.std.specs.Prelude.{◌≡◌, ◌≤◌, ◌↔◌, [], length, IsOk, IfOk, IsOkUnless};
+ghost use Rattle.key_derivation.specs.Hkdf.{hkdf_expand_label};
+ghost use Rattle.key_derivation.specs.Quic.{client_initial_secret, endpoint_secret, header_key_label, initial_salt, iv_label, key_label, next_quic_secret, numbered_version, quic_header_key, quic_iv, quic_key, server_initial_secret, update_label, version_number};
+ghost use Rattle.key_derivation.specs.Secret.{suite_key_len, suite_secret_len};
+
+use crate::error::DerivationError;
+use crate::hash::Hash;
+use crate::hkdf::{Expander, extract};
+use crate::keys::{AeadKeyBytes, HeaderKeyBytes, IV_LEN, KeyBytes, QuicKeys};
+use crate::secret::{Secret, SecretBytes};
+use crate::suite::Suite;
+use sha2::{Sha256, Sha384};
+use std::fmt;
+use std::marker::Model;
+
+/// The length of the longest connection ID in bytes (RFC 9000 section 17.2).
+pub const MAX_CONNECTION_ID_LEN: usize = 20;
+
+// The number of version 2 (RFC 9369 section 3.1).
+const VERSION_2: u32 = 0x6b3343cf;
+
+// The salts of version 1 (RFC 9001 section 5.2) and version 2 (RFC 9369 section 3.3.1).
+const INITIAL_SALT_1: [u8; 20] = [
+    0x38, 0x76, 0x2c, 0xf7, 0xf5, 0x59, 0x34, 0xb3, 0x4d, 0x17, 0x9a, 0xe6, 0xa4, 0xc8, 0x0c, 0xad,
+    0xcc, 0xbb, 0x7f, 0x0a,
+];
+
+const INITIAL_SALT_2: [u8; 20] = [
+    0x0d, 0xed, 0xe3, 0xde, 0xf7, 0x00, 0xa6, 0xdb, 0x81, 0x93, 0x81, 0xbe, 0x6e, 0x26, 0x9d, 0xcb,
+    0xf9, 0xbd, 0x2e, 0xd9,
+];
+
+/// A version of QUIC. It determines the salt of the Initial secrets and the labels of all keys.
+#[derive(Clone, Copy, PartialEq, Eq, Debug)]
+pub enum Version {
+    /// QUIC version 1 (RFC 9000, RFC 9001).
+    One,
+    /// QUIC version 2 (RFC 9369).
+    Two,
+}
+
+impl Version {
+    /// Returns the number of the version in a long header: 1 (RFC 9000 section 15), or 0x6b3343cf (RFC 9369 section 3.1).
+    pub fn number(self) -> u32
+        ensures { result ≡ version_number self }
+    {
+        match self {
+            Version::One => 1,
+            Version::Two => VERSION_2,
+        }
+    }
+
+    /// Returns the version with a number, or `None` if it is neither version 1 nor version 2.
+    pub fn from_number(number: u32) -> Option<Self>
+        ensures { result ≡ numbered_version number }
+    {
+        match number {
+            1 => Some(Version::One),
+            VERSION_2 => Some(Version::Two),
+            _ => None,
+        }
+    }
+
+    fn initial_salt(self) -> [u8; 20]
+        ensures { result ≡ initial_salt self }
+    {
+        match self {
+            Version::One => INITIAL_SALT_1,
+            Version::Two => INITIAL_SALT_2,
+        }
+    }
+
+    fn key_label(self) -> &'static [u8]
+        ensures label { result.now ≡ key_label self }
+        ensures len { length result.now ≤ 249 }
+    {
+        match self {
+            Version::One => b"quic key",
+            Version::Two => b"quicv2 key",
+        }
+    }
+
+    fn iv_label(self) -> &'static [u8]
+        ensures label { result.now ≡ iv_label self }
+        ensures len { length result.now ≤ 249 }
+    {
+        match self {
+            Version::One => b"quic iv",
+            Version::Two => b"quicv2 iv",
+        }
+    }
+
+    fn header_key_label(self) -> &'static [u8]
+        ensures label { result.now ≡ header_key_label self }
+        ensures len { length result.now ≤ 249 }
+    {
+        match self {
+            Version::One => b"quic hp",
+            Version::Two => b"quicv2 hp",
+        }
+    }
+
+    fn update_label(self) -> &'static [u8]
+        ensures label { result.now ≡ update_label self }
+        ensures len { length result.now ≤ 249 }
+    {
+        match self {
+            Version::One => b"quic ku",
+            Version::Two => b"quicv2 ku",
+        }
+    }
+}
+
+/// A secret of one direction of a connection of QUIC, with its version, which gives the keys of this direction and the next
+/// secret.
+///
+/// # Examples
+///
+/// The keys of a client's Initial packets. From `crates/quic_packets_tests/src/examples/initial_keys.rt`:
+///
+/// ```
+/// Ok(QuicSecret::client_initial(version, id)?.keys())
+/// ```
+#[derive(Drop)]
+pub struct QuicSecret {
+    version: Version,
+    secret: Secret,
+}
+
+impl Model for QuicSecret {
+    ghost use Rattle.key_derivation.specs.Quic.{QuicSecretState};
+
+    ghost Value = { QuicSecretState };
+
+    ghost view = { λ s. record { version = s.version; secret = s.secret } };
+}
+
+impl fmt::Debug for QuicSecret {
+    ghost use Rattle.std.specs.Prelude.{Some, codes};
+
+    ghost debug_output = { λ s. Some (codes "QuicSecret { .. }") };
+
+    fn fmt<W: fmt::Write>(&self, f: &mut fmt::Formatter<W>) -> fmt::Result {
+        f.write_str("QuicSecret { .. }")
+    }
+}
+
+impl QuicSecret {
+    /// Creates a secret of a version from one that TLS gives.
+    pub fn new(version: Version, secret: Secret) -> Self
+        ensures { result ≡ record { version = version; secret = secret } }
+    {
+        QuicSecret { version, secret }
+    }
+
+    /// Creates the secret of the Initial packets that a client sends, from the Destination Connection ID of its first one
+    /// (RFC 9001 section 5.2).
+    ///
+    /// Fails with `ConnectionIdLength` if `id` has more than 20 bytes.
+    pub fn client_initial(version: Version, id: &[u8]) -> Result<Self, DerivationError>
+        ensures accepted { IsOk result ↔ (length id.now ≤ 20) }
+        ensures refused { IsOkUnless result DerivationError.ConnectionIdLength }
+        ensures made { IfOk result (λ s. s ≡ client_initial_secret version id.now) }
+    {
+        initial(version, id, b"client in")
+    }
+
+    /// Creates the secret of the Initial packets that a server sends, from the Destination Connection ID of the client's
+    /// first Initial packet (RFC 9001 section 5.2).
+    ///
+    /// Fails with `ConnectionIdLength` if `id` has more than 20 bytes.
+    pub fn server_initial(version: Version, id: &[u8]) -> Result<Self, DerivationError>
+        ensures accepted { IsOk result ↔ (length id.now ≤ 20) }
+        ensures refused { IsOkUnless result DerivationError.ConnectionIdLength }
+        ensures made { IfOk result (λ s. s ≡ server_initial_secret version id.now) }
+    {
+        initial(version, id, b"server in")
+    }
+
+    /// Returns the secret's version.
+    pub fn version(&self) -> Version
+        ensures { result ≡ self.now.version }
+    {
+        self.version
+    }
+
+    /// Returns the secret's suite.
+    pub fn suite(&self) -> Suite
+        ensures { result ≡ self.now.secret.suite }
+    {
+        self.secret.suite()
+    }
+
+    /// Returns the secret's bytes.
+    pub fn as_slice(&self) -> &[u8]
+        ensures bytes { result.now ≡ self.now.secret.bytes }
+        ensures len { length result.now ≡ suite_secret_len self.now.secret.suite }
+    {
+        self.secret.as_slice()
+    }
+
+    /// Returns the keys, by the labels `quic key`, `quic iv` and `quic hp` of version 1 (RFC 9001 section 5.1), or `quicv2 key`,
+    /// `quicv2 iv` and `quicv2 hp` of version 2 (RFC 9369 section 3.3.2).
+    pub fn keys(&self) -> QuicKeys
+        ensures key { result.key ≡ quic_key self.now }
+        ensures iv { result.iv ≡ quic_iv self.now }
+        ensures header_key { result.header_key ≡ quic_header_key self.now }
+        ensures key_len { length result.key ≡ suite_key_len self.now.secret.suite }
+        ensures header_key_len { length result.header_key ≡ suite_key_len self.now.secret.suite }
+    {
+        let mut iv = [0; IV_LEN];
+        let (key, header_key) = match &self.secret.inner {
+            SecretBytes::Sha256(bytes) => {
+                let (mut key, mut header_key) = ([0; 16], [0; 16]);
+                fill_keys::<Sha256>(self.version, bytes, &mut key, &mut iv, &mut header_key);
+                (KeyBytes::Aes128(key), KeyBytes::Aes128(header_key))
+            }
+            SecretBytes::Sha384(bytes) => {
+                let (mut key, mut header_key) = ([0; 32], [0; 32]);
+                fill_keys::<Sha384>(self.version, bytes, &mut key, &mut iv, &mut header_key);
+                (KeyBytes::Aes256(key), KeyBytes::Aes256(header_key))
+            }
+        };
+        QuicKeys {
+            key: AeadKeyBytes { inner: key },
+            iv,
+            header_key: HeaderKeyBytes { inner: header_key },
+        }
+    }
+
+    /// Returns the secret after a key update, by the label `quic ku` of version 1 (RFC 9001 section 6.1), or `quicv2 ku` of
+    /// version 2 (RFC 9369 section 3.3.2). The header key does not change at an update: it stays that of the first secret.
+    pub fn next(&self) -> Self
+        ensures { result ≡ next_quic_secret self.now }
+    {
+        QuicSecret {
+            version: self.version,
+            secret: self.secret.next(self.version.update_label()),
+        }
+    }
+}
+
+// Fills the parts of the keys, by one key of HMAC.
+fn fill_keys<H: Hash>(
+    version: Version,
+    secret: &[u8],
+    key: &mut [u8],
+    iv: &mut [u8],
+    header_key: &mut [u8],
+)
+    requires key { length key.old ≤ 32 }
+    requires iv { length iv.old ≤ 32 }
+    requires header_key { length header_key.old ≤ 32 }
+    ensures key { key.new ≡ hkdf_expand_label H.function secret.now (key_label version) [] (length key.old) }
+    ensures iv { iv.new ≡ hkdf_expand_label H.function secret.now (iv_label version) [] (length iv.old) }
+    ensures header_key { header_key.new
+        ≡ hkdf_expand_label H.function secret.now (header_key_label version) [] (length header_key.old) }
+{
+    let from = Expander::<H>::new(secret);
+    from.fill_labeled(version.key_label(), b"", key);
+    from.fill_labeled(version.iv_label(), b"", iv);
+    from.fill_labeled(version.header_key_label(), b"", header_key);
+}
+
+// The secret of an endpoint by its label.
+fn initial(version: Version, id: &[u8], label: &[u8]) -> Result<QuicSecret, DerivationError>
+    requires { length label.now ≤ 249 }
+    ensures accepted { IsOk result ↔ (length id.now ≤ 20) }
+    ensures refused { IsOkUnless result DerivationError.ConnectionIdLength }
+    ensures made { IfOk result (λ s. s ≡ endpoint_secret version id.now label.now) }
+{
+    if id.len() > MAX_CONNECTION_ID_LEN {
+        return Err(DerivationError::ConnectionIdLength);
+    }
+    let secret = extract::<Sha256>(&version.initial_salt(), id);
+    let mut bytes = [0u8; 32];
+    Expander::<Sha256>::new(&secret).fill_labeled(label, b"", &mut bytes);
+    Ok(QuicSecret::new(version, Secret::aes_128_gcm(bytes)))
+}
