@@ -1,8 +1,9 @@
 -- A Retry packet that is cut before its tag.
 use Rattle.std.proofs.Common.{◌≡◌, ℕ, ◌+◌, ◌-◌, ◌↔◌, List, ◌++◌, length, take, drop, sym, ap, ap₂, ◌∙◌, arith, append_assoc, drop_at, length-append, length-take-le, take-append-drop, take_at}
+use Rattle.key_derivation.specs.declared.quic.Version.{Version}
 use Rattle.quic_packets.specs.Retry.{IsGenuineRetry, IsShortPseudoPacket, integrity_tag}
 
-module _ (id header payload token tag : List ℕ) (k : ℕ) (size : k + 16 ≡ length payload) (token_is : token ≡ take k payload)
+module _ (version : Version) (id header payload token tag : List ℕ) (k : ℕ) (size : k + 16 ≡ length payload) (token_is : token ≡ take k payload)
     (tag_is : tag ≡ drop k payload) where
   parts : header ++ payload ≡ (header ++ token) ++ tag
   parts =
@@ -21,8 +22,8 @@ module _ (id header payload token tag : List ℕ) (k : ℕ) (size : k + 16 ≡ l
   back = ap (drop _) parts ∙ drop_at (header ++ token) tag _ retry_len
 
   -- it is genuine if its tag is that of the bytes before it
-  pub genuine : IsGenuineRetry id (header ++ payload)
-      ↔ (IsShortPseudoPacket id (header ++ token) × (tag ≡ integrity_tag id (header ++ token)))
+  pub genuine : IsGenuineRetry version id (header ++ payload)
+      ↔ (IsShortPseudoPacket id (header ++ token) × (tag ≡ integrity_tag version id (header ++ token)))
   genuine = (
     λ is. (rw front at is.short, rw (front, back) at is.tag),
     λ is. record {

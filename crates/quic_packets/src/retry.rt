@@ -1,4 +1,4 @@
-//! The integrity of Retry packets (RFC 9001 section 5.8).
+//! The integrity of Retry packets (RFC 9001 section 5.8, RFC 9369 section 3.3.3).
 
 ghost use Rattle.std.specs.Prelude.{◌≡◌, ◌^◌, ◌<◌, ◌≤◌, ◌↔◌, ◌++◌, [], length, IsOk, IfOk, IsOkUnless, IsErrOf, IsTrue};
 ghost use Rattle.aead_ciphers_base.specs.Aes.{aes};
@@ -9,14 +9,24 @@ use crate::datagram::MAX_ID_LEN;
 use aead_ciphers::aead::{MAX_TAG_LEN, NONCE_LEN, Nonce, Tag};
 use aead_ciphers_base::aes::{KeyBytes, Work};
 use aead_ciphers_wide::aes_gcm::ExpandedKey;
+use key_derivation::quic::Version;
 use thiserror::Error;
 
-const KEY: [u8; 16] = [
+// The keys and the nonces of version 1 (RFC 9001 section 5.8) and version 2 (RFC 9369 section 3.3.3).
+const KEY_1: [u8; 16] = [
     0xbe, 0x0c, 0x69, 0x0b, 0x9f, 0x66, 0x57, 0x5a, 0x1d, 0x76, 0x6b, 0x54, 0xe3, 0x68, 0xc8, 0x4e,
 ];
 
-const NONCE: [u8; NONCE_LEN] = [
+const NONCE_1: [u8; NONCE_LEN] = [
     0x46, 0x15, 0x99, 0xd3, 0x5d, 0x63, 0x2b, 0xf2, 0x23, 0x98, 0x25, 0xbb,
+];
+
+const KEY_2: [u8; 16] = [
+    0x8f, 0xb4, 0xb0, 0x1b, 0x56, 0xac, 0x48, 0xe2, 0x60, 0xfb, 0xcb, 0xce, 0xad, 0x7c, 0xcc, 0x92,
+];
+
+const NONCE_2: [u8; NONCE_LEN] = [
+    0xd8, 0x69, 0x69, 0xbc, 0x2d, 0x7c, 0x6d, 0x99, 0x90, 0xef, 0xb0, 0x4a,
 ];
 
 /// The error of computing the tag of a Retry packet.
@@ -30,51 +40,78 @@ pub enum RetryError {
     TooLong,
 }
 
-/// Returns the integrity tag of a Retry packet, the last 16 bytes of the packet (RFC 9001 section 5.8).
+/// Returns the integrity tag of a Retry packet of a version, the last 16 bytes of the packet (RFC 9001 section 5.8, RFC 9369
+/// section 3.3.3).
 ///
 /// `header` and `token` are the packet without its tag, cut anywhere, and `original_id` the destination connection ID of the
 /// client's first packet. No memory is allocated.
 ///
 /// Fails with `IdTooLong` if `original_id` has more than 20 bytes, and with `TooLong` if the ID, a byte for its length, `header`
 /// and `token` together have 2^61 bytes or more (SP 800-38D section 5.2.1.1).
-pub fn retry_tag(original_id: &[u8], header: &[u8], token: &[u8]) -> Result<Tag, RetryError>
+pub fn retry_tag(
+    version: Version,
+    original_id: &[u8],
+    header: &[u8],
+    token: &[u8],
+) -> Result<Tag, RetryError>
     ensures accepted { IsOk result ↔ ((length original_id.now ≤ 20)
         × IsShortPseudoPacket original_id.now (header.now ++ token.now)) }
     ensures id_too_long { IsErrOf result RetryError.IdTooLong ↔ (20 < length original_id.now) }
     ensures too_long { IsErrOf result RetryError.TooLong ↔ ((length original_id.now ≤ 20)
         × ¬ IsShortPseudoPacket original_id.now (header.now ++ token.now)) }
-    ensures tag { IfOk result (λ tag. tag ≡ integrity_tag original_id.now (header.now ++ token.now)) }
+    ensures tag { IfOk result (λ tag. tag ≡ integrity_tag version original_id.now (header.now ++ token.now)) }
 {
     if original_id.len() > MAX_ID_LEN {
         return Err(RetryError::IdTooLong);
     }
     let id_len = [original_id.len() as u8];
-    tag_of(&id_len, original_id, header, token)
+    tag_of(version, &id_len, original_id, header, token)
 }
 
-/// Returns whether a Retry packet ends with its integrity tag (RFC 9001 section 5.8).
+/// Returns whether a Retry packet of a version ends with its integrity tag (RFC 9001 section 5.8, RFC 9369 section 3.3.3).
 ///
 /// `header` and `payload` are the packet, cut anywhere before its last 16 bytes, which are the tag. `original_id` is the
 /// destination connection ID of the client's first packet.
 ///
 /// Returns `false` as well if `original_id` has more than 20 bytes, or if `payload` has fewer than 16, or as many bytes as make
 /// `retry_tag` fail.
-pub fn is_genuine_retry(original_id: &[u8], header: &[u8], payload: &[u8]) -> bool
+pub fn is_genuine_retry(version: Version, original_id: &[u8], header: &[u8], payload: &[u8]) -> bool
     ensures { IsTrue result ↔ ((length original_id.now ≤ 20) × (16 ≤ length payload.now)
-        × IsGenuineRetry original_id.now (header.now ++ payload.now)) }
+        × IsGenuineRetry version original_id.now (header.now ++ payload.now)) }
 {
     let Some(token_len) = payload.len().checked_sub(MAX_TAG_LEN) else {
         return false;
     };
     let (token, tag) = payload.split_at(token_len);
-    match retry_tag(original_id, header, token) {
+    match retry_tag(version, original_id, header, token) {
         Ok(made) => made.as_ref() == tag,
         Err(_) => false,
     }
 }
 
+// The key of the tag.
+fn retry_key(version: Version) -> [u8; 16]
+    ensures { result ≡ retry_key version }
+{
+    match version {
+        Version::One => KEY_1,
+        Version::Two => KEY_2,
+    }
+}
+
+// Its nonce.
+fn retry_nonce(version: Version) -> [u8; NONCE_LEN]
+    ensures { result ≡ retry_nonce version }
+{
+    match version {
+        Version::One => NONCE_1,
+        Version::Two => NONCE_2,
+    }
+}
+
 // The tag of AES-128-GCM for an empty plaintext, whose AAD is these four parts.
 fn tag_of<'a>(
+    version: Version,
     id_len: &'a [u8],
     id: &'a [u8],
     header: &'a [u8],
@@ -84,11 +121,12 @@ fn tag_of<'a>(
         ↔ (length (id_len.now ++ (id.now ++ (header.now ++ token.now))) < 2 ^ 61) }
     ensures refused { IsOkUnless result RetryError.TooLong }
     ensures tag { IfOk result (λ tag. tag
-        ≡ gcm_tag (aes retry_key) retry_nonce (id_len.now ++ (id.now ++ (header.now ++ token.now))) []) }
+        ≡ gcm_tag (aes (retry_key version)) (retry_nonce version) (id_len.now ++ (id.now ++ (header.now ++ token.now))) []) }
 {
     let mut key = ExpandedKey::zeros();
-    key.expand(KeyBytes::AES_128(&KEY), &mut Work::new());
-    let nonce = Nonce::assume_unique_for_key(NONCE);
+    let bytes = retry_key(version);
+    key.expand(KeyBytes::AES_128(&bytes), &mut Work::new());
+    let nonce = Nonce::assume_unique_for_key(retry_nonce(version));
     match key.begin_with_parts(nonce, &[id_len, id, header, token]) {
         Ok(message) => Ok(key.finish(message)),
         Err(_) => Err(RetryError::TooLong),

@@ -1,7 +1,8 @@
-//! Tests of `retry_tag` and `is_genuine_retry`: the packet of RFC 9001 appendix A.4, and modified packets.
+//! Tests of `retry_tag` and `is_genuine_retry`: the packets of RFC 9001 and RFC 9369 appendix A.4, and modified packets.
 
 use crate::checks::equal;
-use quic_packets::{RetryError, is_genuine_retry, retry_tag};
+use crate::rfc_9369;
+use quic_packets::{RetryError, Version, is_genuine_retry, retry_tag};
 use std::process::Abort;
 use std::test::Fail;
 
@@ -15,17 +16,32 @@ pub(crate) const A_4_RETRY: [u8; 36] = [
     0x0f, 0x24, 0x96, 0xba,
 ];
 
-/// Returns whether a packet that is cut at a byte is genuine.
+/// Returns whether a packet of version 1 that is cut at a byte is genuine.
 fn is_genuine(original_id: &[u8], packet: &[u8], cut: usize) -> bool {
+    is_genuine_in(Version::One, original_id, packet, cut)
+}
+
+/// Returns whether a packet that is cut at a byte is genuine.
+fn is_genuine_in(version: Version, original_id: &[u8], packet: &[u8], cut: usize) -> bool {
     let (header, payload) = packet.split_at(cut);
-    is_genuine_retry(original_id, header, payload)
+    is_genuine_retry(version, original_id, header, payload)
 }
 
 /// Asserts that the tag of a packet that is cut at each of these bytes is `tag`.
-fn has_tag(rt: &impl Abort, packet: &[u8], cuts: &[usize], tag: &[u8]) -> Result<(), RetryError> {
+fn has_tag(
+    rt: &impl Abort,
+    version: Version,
+    packet: &[u8],
+    cuts: &[usize],
+    tag: &[u8],
+) -> Result<(), RetryError> {
     for cut in cuts {
         let (header, token) = packet.split_at(*cut);
-        equal(rt, &retry_tag(&A_4_ID, header, token)?.as_ref(), &tag);
+        equal(
+            rt,
+            &retry_tag(version, &A_4_ID, header, token)?.as_ref(),
+            &tag,
+        );
     }
     Ok(())
 }
@@ -34,9 +50,21 @@ fn has_tag(rt: &impl Abort, packet: &[u8], cuts: &[usize], tag: &[u8]) -> Result
 #[test]
 fn rfc_9001_a_4(rt: HostRuntime) -> Result<(), Fail> {
     let (retry, tag) = A_4_RETRY.split_at(20);
-    has_tag(&rt, retry, &[0, 1, 5, 6, 7, 15, 17, 20], tag)?;
+    has_tag(&rt, Version::One, retry, &[0, 1, 5, 6, 7, 15, 17, 20], tag)?;
     for cut in [0, 1, 15, 20] {
         equal(&rt, &is_genuine(&A_4_ID, &A_4_RETRY, cut), &true);
+    }
+    Ok(())
+}
+
+/// RFC 9369 appendix A.4, which isn't genuine in version 1.
+#[test]
+fn rfc_9369_a_4(rt: HostRuntime) -> Result<(), Fail> {
+    let packet = rfc_9369::A_4_RETRY;
+    let (retry, tag) = packet.split_at(20);
+    has_tag(&rt, Version::Two, retry, &[0, 15, 20], tag)?;
+    for (version, genuine) in [(Version::One, false), (Version::Two, true)] {
+        equal(&rt, &is_genuine_in(version, &A_4_ID, &packet, 15), &genuine);
     }
     Ok(())
 }
@@ -50,7 +78,13 @@ const OF_A_LONG_TOKEN: [u8; 16] = [
 fn long_token(rt: HostRuntime) -> Result<(), Fail> {
     let mut packet = [0x5a; 5015];
     packet[..15].copy_from_slice(&A_4_RETRY[..15]);
-    has_tag(&rt, &packet, &[0, 15, 16, 127, 128, 5015], &OF_A_LONG_TOKEN)?;
+    has_tag(
+        &rt,
+        Version::One,
+        &packet,
+        &[0, 15, 16, 127, 128, 5015],
+        &OF_A_LONG_TOKEN,
+    )?;
     Ok(())
 }
 
