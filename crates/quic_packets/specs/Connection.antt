@@ -199,8 +199,9 @@ pub record IsTried (r : Receiver) (s : Space) (f : Failures) (parts : Packet) (o
   pub no_sample : IsErrOf opened NoSample
       ↔ ((f.count < f.limit) × (parts.end ≤ length old) × IsFalse (is_other_version r.version parts.version)
       × (0 < number_in parts) × (parts.end - parts.start < number_in parts + 20))
-  pub outcome : f.count < f.limit → parts.end ≤ length old → IsFalse (is_other_version r.version parts.version) → HasSample (number_in parts) (parts.end - parts.start)
-      → (plain : List ℕ) × (number : ℕ) × Reads r.header s.next (number_in parts) (bytes_of parts old) plain number
+  pub outcome : f.count < f.limit → parts.end ≤ length old → IsFalse (is_other_version r.version parts.version)
+      → HasSample (number_in parts) (parts.end - parts.start) → (plain : List ℕ) × (number : ℕ)
+      × Reads r.header s.next (number_in parts) (bytes_of parts old) plain number
       × Outcome r s parts.start (number_in parts) plain number opened r' (bytes_of parts new)
   pub payload : IfOk opened (λ p. (parts.start < p.payload.start) × (p.payload.start ≤ p.payload.end)
       × (p.payload.end + 16 ≡ parts.end) × (parts.end ≤ length old))

@@ -16,10 +16,10 @@ use Rattle.quic_packets.specs.declared.error.PacketError.{PacketError}
 use Rattle.quic_packets.specs.declared.error.PacketError.TheVariants.{Duplicate, KeyUpdate, NoFrames, Refused, ReservedBits, TooLong}
 use Rattle.quic_packets.specs.declared.receiver.Received.{Received}
 
--- a receiver: its version; the header key; if it is made of a secret, that of its next packet key or, until this is set, of its current one; the
--- packet key of its phase, the next one if it is given, and the previous one if it is kept; its Key Phase bit; the lowest and
--- highest number opened in this phase, where the lowest is 0 in the first phase; and the highest numbers opened under the
--- previous key and under the keys before that one. A highest number is 0 if there is none.
+-- a receiver: its version; the header key; if it is made of a secret, that of its next packet key or, until this is set, of its
+-- current one; the packet key of its phase, the next one if it is given, and the previous one if it is kept; its Key Phase bit;
+-- the lowest and highest number opened in this phase, where the lowest is 0 in the first phase; and the highest numbers opened
+-- under the previous key and under the keys before that one. A highest number is 0 if there is none.
 pub record Receiver : Type 0 where
   pub version : Version
   pub header : HeaderKey

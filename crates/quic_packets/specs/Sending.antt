@@ -20,11 +20,11 @@ use Rattle.quic_packets.specs.declared.fixed_bit.FixedBit.{FixedBit}
 use Rattle.quic_packets.specs.declared.skipped.Gap.{Gap}
 use Rattle.quic_packets.specs.declared.suite.Suite.{Suite}
 
--- a sender: its version; its key and header key, and the secret of the key, if it is made of one; the next number, and the largest acknowledged
--- one of its space; the ranges of skipped numbers that are kept; the Key Phase bit; how many packets this key has sealed and may
--- seal; the first number of this phase from which on each skipped number is in one of these ranges; the next number when this
--- phase began; whether the keys were never updated or a packet of this phase is acknowledged; and whether the handshake is
--- confirmed
+-- a sender: its version; its key and header key, and the secret of the key, if it is made of one; the next number, and the
+-- largest acknowledged one of its space; the ranges of skipped numbers that are kept; the Key Phase bit; how many packets this
+-- key has sealed and may seal; the first number of this phase from which on each skipped number is in one of these ranges; the
+-- next number when this phase began; whether the keys were never updated or a packet of this phase is acknowledged; and whether
+-- the handshake is confirmed
 pub record Sender : Type 0 where
   pub version : Version
   pub key : PacketKey

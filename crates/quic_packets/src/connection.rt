@@ -385,7 +385,8 @@ impl Connection {
             → IsGiven result (Incoming.Dropped PacketError.NoSample) ↔ (IsFalse (is_other_version r.version parts.version)
             × (0 < number_in parts) × (parts.end - parts.start < number_in parts + 20)) }
         ensures outcome { (parts : Packet) → (r : Receiver) → IsOpening self.old id_len id.now datagram.old at parts r
-            → IsFalse (is_other_version r.version parts.version) → HasSample (number_in parts) (parts.end - parts.start) → IfSome (opened_of result) (λ opened.
+            → IsFalse (is_other_version r.version parts.version)
+            → HasSample (number_in parts) (parts.end - parts.start) → IfSome (opened_of result) (λ opened.
             (plain : List ℕ) × (number : ℕ) × Reads r.header (space_of self.old parts.packet_type).next (number_in parts)
             (bytes_of parts datagram.old) plain number
             × Outcome r (space_of self.old parts.packet_type) parts.start (number_in parts) plain number opened

@@ -191,8 +191,8 @@ pub fn short_header_is_parsed(header: &ShortHeader<'_>, fixed_bit: FixedBit)
 {}
 
 /// A sender and a receiver that are made of one secret hold the same keys after the same number of key updates, those of the
-/// secret after as many steps of `quic ku`, or of `quicv2 ku` in version 2, and keep its version. The receiver's next key, if it is set, is that of one step more (RFC 9001 sections
-/// 5.1 and 6.1).
+/// secret after as many steps of `quic ku`, or of `quicv2 ku` in version 2, and keep its version. The receiver's next key, if it
+/// is set, is that of one step more (RFC 9001 sections 5.1 and 6.1).
 pub fn one_secret(sender: &Sender, receiver: &Receiver)
     ensures same { (secret : QuicSecretState) → (updates : ℕ) → SenderOf secret sender.now updates
         → ReceiverOf secret receiver.now updates → (sender.now.key ≡ secret_key (secret_after secret updates))

@@ -216,13 +216,14 @@ impl Receiver {
     /// holds the numbers received in the packet's number space, and `failures` is the one count of the connection.
     ///
     /// Fails, in this order, with `TooManyFailures` if the limit of `failures` is reached; with `PastEnd` if the packet ends
-    /// after the datagram; with `OtherVersion` if it has a long header of another version than the receiver's; with `NoNumber`
-    /// if it has no packet number; with `NumberAtFirstByte` if the number does not begin after the packet's first byte; with
+    /// after the datagram; with `OtherVersion` if it has a long header of another version than the receiver's; with `NoNumber` if
+    /// it has no packet number; with `NumberAtFirstByte` if the number does not begin after the packet's first byte; with
     /// `NoSample` if the packet has fewer than 20 bytes from its number on; with `TooLong` if it is longer than AES-GCM allows;
-    /// and with `Refused`, which is counted, if it is not authentic. The packet is then unchanged. For an authentic packet, which is then opened in place, fails with `ReservedBits` if its reserved bits are
-    /// set, with `Duplicate` if its number was already received or is below the window of `space`, with `KeyUpdate` if its
-    /// key phase is out of turn, which is so if a packet with a higher number was opened under earlier keys (RFC 9001 section
-    /// 6.4), and with `NoFrames` if its payload is empty.
+    /// and with `Refused`, which is counted, if it is not authentic. The packet is then unchanged. For an authentic packet, which
+    /// is then opened in place, fails with `ReservedBits` if its reserved bits are set, with `Duplicate` if its number was
+    /// already received or is below the window of `space`, with `KeyUpdate` if its key phase is out of turn, which is so if a
+    /// packet with a higher number was opened under earlier keys (RFC 9001 section 6.4), and with `NoFrames` if its payload is
+    /// empty.
     ///
     /// Before a packet is known to be authentic, its masked bits only determine the length of the header and the key that opens
     /// it (RFC 9001 section 9.5).

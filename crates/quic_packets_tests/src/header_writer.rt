@@ -1,5 +1,5 @@
-//! Tests of `LongHeader` and `ShortHeader`: headers of RFC 9001 and RFC 9369 appendix A, integers of RFC 9000 appendix A.1, and each
-//! error.
+//! Tests of `LongHeader` and `ShortHeader`: headers of RFC 9001 and RFC 9369 appendix A, integers of RFC 9000 appendix A.1, and
+//! each error.
 
 use crate::checks::{equal, holds, same};
 use quic_packets::{HeaderError, LongHeader, LongType, ShortHeader, Version};

@@ -738,7 +738,12 @@ fn rejected_without_a_header(rt: HostRuntime) -> Result<(), Fail> {
         let mut record = hex::decode(rt.alloc(), text)?;
         let opened = open_payload(&key, 0, &mut record[5..]);
         holds(&rt, opened == Err(*error), "the error");
-        same(&rt, &record[5..5 + inner.len()], inner, "the inner plaintext");
+        same(
+            &rt,
+            &record[5..5 + inner.len()],
+            inner,
+            "the inner plaintext",
+        );
     }
     Ok(())
 }

@@ -30,8 +30,8 @@ pub enum FirstPacketError {
     Packet(#[from] PacketError),
 }
 
-/// Returns a datagram with a client's Initial packet of version 1. `id` is the destination connection ID that the client has chosen, and
-/// `frames` are the frames without padding.
+/// Returns a datagram with a client's Initial packet of version 1. `id` is the destination connection ID that the client has
+/// chosen, and `frames` are the frames without padding.
 ///
 /// Fails if four bytes cannot encode the number, since no number is acknowledged yet (RFC 9000 appendix A.2).
 pub fn first_packet(

@@ -11,11 +11,11 @@ use Rattle.quic_packets.specs.declared.fixed_bit.FixedBit.TheVariants.{Required}
 use Rattle.quic_packets_tests.proofs.examples.first_initial.first_packet.Goals as goal
 
 -- a packet of 1200 bytes that begins with the first byte and the version of an Initial packet
-sealable : (packet rest : List ℕ) (start end : ℕ) → packet ≡ 0xc3 ∷ 0 ∷ 0 ∷ 0 ∷ 1 ∷ rest → length packet ≡ 1200 → start ≡ 18 → end ≡ 22
-    → IsSealable One Required start end packet
-sealable packet rest start end e size es ee =
+sealable : (version : Version) (packet rest : List ℕ) (start end : ℕ) → version ≡ One → packet ≡ 0xc3 ∷ 0 ∷ 0 ∷ 0 ∷ 1 ∷ rest
+    → length packet ≡ 1200 → start ≡ 18 → end ≡ 22 → IsSealable version Required start end packet
+sealable version packet rest start end ev e size es ee =
     let long : length rest ≡ 1195 = omega (arith, ap length e, size) in
-    rw (e, es, ee) record {
+    rw (ev, e, es, ee) record {
       fits = record { room = omega (arith, long); lengths = record { aad = omega arith; message = omega (arith, long) } };
       sample = record { first_byte = omega arith; sampled = omega (arith, long) };
       protected = refl;
@@ -78,12 +78,15 @@ returns-in_err-send-clause-accepted c =
     let buffer = c.write.new.buffer in
     let after = frames ++ drop (end + length c.args.frames.now - end) (drop end buffer) in
     let size : length (take end buffer ++ after) ≡ 1200 = search rules in
-    let begins = ap₂ (λ n b. take n b ++ after) end_is c.in_ok-room.ensures.written in (
+    let begins = ap₂ (λ n b. take n b ++ after) end_is c.in_ok-room.ensures.written in
+    let version_is =
+    ap (λ (s : Sender). s.version) c.in_ok-sender.ensures.made
+    ∙ ap (λ (s : QuicSecretState). s.version) c.in_ok-secret.ensures.made in (
       not_both _ c.from_residual-in_err-send.ensures.0,
       λ small.
           let never : false ≡ true =
           c.in_err-send.ensures.accepted.1
-          (sealable (take end buffer ++ after) _ _ _ begins size start_is end_is, in_turn _ _ _ _ _ _ _ _ c.in_ok-sender.ensures.made small start_is end_is) in
+          (sealable _ (take end buffer ++ after) _ _ _ version_is begins size start_is end_is, in_turn _ _ _ _ _ _ _ _ c.in_ok-sender.ensures.made small start_is end_is) in
           absurd (cc never),
     )
 
