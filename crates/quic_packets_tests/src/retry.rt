@@ -23,7 +23,7 @@ fn is_genuine(original_id: &[u8], packet: &[u8], cut: usize) -> bool {
 
 /// Returns whether a packet that is cut at a byte is genuine.
 fn is_genuine_in(version: Version, original_id: &[u8], packet: &[u8], cut: usize) -> bool {
-    let (header, payload) = packet.split_at(cut);
+    let (header, payload) = packet.split_at(cut.min(packet.len()));
     is_genuine_retry(version, original_id, header, payload)
 }
 
@@ -36,7 +36,7 @@ fn has_tag(
     tag: &[u8],
 ) -> Result<(), RetryError> {
     for cut in cuts {
-        let (header, token) = packet.split_at(*cut);
+        let (header, token) = packet.split_at(packet.len().min(*cut));
         equal(
             rt,
             &retry_tag(version, &A_4_ID, header, token)?.as_ref(),
