@@ -104,6 +104,7 @@ impl<H: Hash> Expander<H> {
     }
 
     // Fills `out` by a label, where no length is above its limit.
+    #[inline(never)]
     pub(crate) fn fill_labeled(&self, label: &[u8], context: &[u8], out: &mut [u8])
         requires label { length label.now ≤ 249 }
         requires context { length context.now ≤ 255 }
@@ -208,6 +209,7 @@ fn check_len<H: Hash>(len: usize) -> Result<(), DerivationError>
 }
 
 // Writes the HkdfLabel, and returns its length.
+#[inline(never)]
 fn write_label(info: &mut [u8; MAX_INFO_LEN], label: &[u8], context: &[u8], len: u16) -> usize
     requires label { length label.now ≤ 249 }
     requires context { length context.now ≤ 255 }

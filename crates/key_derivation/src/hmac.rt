@@ -1,12 +1,13 @@
 //! HMAC (RFC 2104).
 
 ghost use Rattle.std.specs.Prelude.{◌≡◌, ℕ, ◌++◌, ◌<◌, ◌≤◌, ◌↔◌, List, [], length, map, take, bit_xor, IsTrue};
+ghost use Rattle.key_derivation.specs.Hash.{sha_256, sha_384};
 ghost use Rattle.key_derivation.specs.Hmac.{hmac, block_key, inner_block, outer_block};
 ghost use Rattle.key_derivation.specs.HmacState.{IsKey};
 
 use crate::hash::{Hash, MAX_BLOCK_LEN};
 use aead_ciphers_base::bb;
-use sha2::Digest;
+use sha2::{Digest, Sha256, Sha384};
 use std::convert::AsSlice;
 
 /// A key of HMAC: the two hashers that have absorbed its two blocks.
@@ -17,7 +18,9 @@ pub struct HmacKey<H> {
 }
 
 impl<H: Hash> HmacKey<H> {
-    /// Creates a key from bytes of any length.
+    /// Creates a key from bytes of any length. It is never inlined, and neither is what is long below it, so that the library for C
+    /// has it once for each hash function.
+    #[inline(never)]
     pub fn new(key: &[u8]) -> Self
         ensures { IsKey H.function H.holds key.now result }
     {
@@ -83,6 +86,7 @@ fn is_long<H: Hash>(key: &[u8]) -> bool
 }
 
 // A hasher of the block, each byte XORed with `pad`.
+#[inline(never)]
 fn absorb_xored<H: Hash>(block: &[u8], pad: u8) -> H
     requires { length block.now ≤ 128 }
     ensures { H.holds result (map (bit_xor pad) block.now) }
@@ -104,4 +108,18 @@ pub fn hmac<H: Hash>(key: &[u8], text: &[u8]) -> H::Output
     let mut hasher = key.start();
     hasher.update(text);
     key.finish(hasher)
+}
+
+/// Returns the code of a message under SHA-256.
+pub fn hmac_sha_256(key: &[u8], text: &[u8]) -> [u8; 32]
+    ensures { result ≡ hmac sha_256 key.now text.now }
+{
+    hmac::<Sha256>(key, text)
+}
+
+/// Returns the code of a message under SHA-384.
+pub fn hmac_sha_384(key: &[u8], text: &[u8]) -> [u8; 48]
+    ensures { result ≡ hmac sha_384 key.now text.now }
+{
+    hmac::<Sha384>(key, text)
 }

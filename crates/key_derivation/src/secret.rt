@@ -1,13 +1,13 @@
 //! Secrets of TLS 1.3, and the keys of records that they give (RFC 8446 sections 7.2 and 7.3).
 
-ghost use Rattle.std.specs.Prelude.{◌≡◌, ◌≤◌, ◌↔◌, [], codes, length, IsOk, IfOk, IsOkUnless};
-ghost use Rattle.key_derivation.specs.Hkdf.{hkdf_expand_label};
-ghost use Rattle.key_derivation.specs.Secret.{labeled, next_secret, suite_key_len, suite_secret_len};
+ghost use Rattle.std.specs.Prelude.{◌≡◌, ◌*◌, ◌<◌, ◌≤◌, ◌↔◌, [], codes, length, IsOk, IfOk, IsErrOf, IsOkUnless, OnErr, OnOk};
+ghost use Rattle.key_derivation.specs.Hkdf.{IsLabel, hkdf_expand, hkdf_expand_label};
+ghost use Rattle.key_derivation.specs.Secret.{labeled, next_secret, suite_hash, suite_key_len, suite_secret_len};
 ghost use Rattle.key_derivation.specs.Tls.{next_traffic_secret, record_iv, record_key};
 
 use crate::error::DerivationError;
 use crate::hash::Hash;
-use crate::hkdf::Expander;
+use crate::hkdf::{self, Expander};
 use crate::keys::{AeadKeyBytes, IV_LEN, KeyBytes, RecordKeys};
 use crate::suite::Suite;
 use sha2::{Sha256, Sha384};
@@ -103,6 +103,50 @@ impl Secret {
         match &self.inner {
             SecretBytes::Sha256(bytes) => bytes,
             SecretBytes::Sha384(bytes) => bytes,
+        }
+    }
+
+    /// HKDF-Expand with the suite's hash function and the secret as the pseudorandom key (RFC 5869 section 2.3): fills `out`.
+    ///
+    /// Fails with `TooLong` if `out` is longer than 255 secrets. It is then unchanged.
+    pub fn expand(&self, info: &[u8], out: &mut [u8]) -> Result<(), DerivationError>
+        ensures accepted { IsOk result ↔ (length out.old ≤ 255 * suite_secret_len self.now.suite) }
+        ensures refused { IsOkUnless result DerivationError.TooLong }
+        ensures expanded { OnOk result (out.new
+            ≡ hkdf_expand (suite_hash self.now.suite) self.now.bytes info.now (length out.old)) }
+        ensures kept { OnErr result (out.new ≡ out.old) }
+    {
+        match &self.inner {
+            SecretBytes::Sha256(bytes) => hkdf::expand::<Sha256>(bytes, info, out),
+            SecretBytes::Sha384(bytes) => hkdf::expand::<Sha384>(bytes, info, out),
+        }
+    }
+
+    /// HKDF-Expand-Label with the suite's hash function (RFC 8446 section 7.1): fills `out`. `label` is without its prefix
+    /// `tls13 `.
+    ///
+    /// Fails as `hkdf::expand_label` does. `out` is then unchanged.
+    pub fn expand_label(
+        &self,
+        label: &[u8],
+        context: &[u8],
+        out: &mut [u8],
+    ) -> Result<(), DerivationError>
+        ensures accepted { IsOk result ↔ (IsLabel label.now × (length context.now ≤ 255)
+            × (length out.old ≤ 255 * suite_secret_len self.now.suite)) }
+        ensures label { IsErrOf result DerivationError.LabelLength ↔ ¬ IsLabel label.now }
+        ensures context { IsErrOf result DerivationError.ContextLength
+            ↔ (IsLabel label.now × (255 < length context.now)) }
+        ensures too_long { IsErrOf result DerivationError.TooLong ↔ (IsLabel label.now
+            × (length context.now ≤ 255)
+            × (255 * suite_secret_len self.now.suite < length out.old)) }
+        ensures expanded { OnOk result (out.new ≡ hkdf_expand_label
+            (suite_hash self.now.suite) self.now.bytes label.now context.now (length out.old)) }
+        ensures kept { OnErr result (out.new ≡ out.old) }
+    {
+        match &self.inner {
+            SecretBytes::Sha256(bytes) => hkdf::expand_label::<Sha256>(bytes, label, context, out),
+            SecretBytes::Sha384(bytes) => hkdf::expand_label::<Sha384>(bytes, label, context, out),
         }
     }
 
