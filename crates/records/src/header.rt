@@ -7,13 +7,13 @@ ghost use Rattle.records.specs.Refusals.{RefusesBytes, RefusesHeader, RefusesLen
 use crate::record_error::RecordError;
 use crate::{HEADER_LEN, TAG_LEN};
 
-/// The longest encrypted record that a header may announce, for any cipher (RFC 8446 section 5.2).
-pub(crate) const MAX_ENCRYPTED_LEN: usize = 16640;
+/// The length in bytes of the longest encrypted record that a header may announce, for any cipher (RFC 8446 section 5.2).
+pub const MAX_ENCRYPTED_LEN: usize = 16640;
 
 pub(crate) const APPLICATION_DATA: u8 = 23;
 
-/// The header of a record with `len` bytes after it.
-pub(crate) fn header_of(len: usize) -> [u8; HEADER_LEN]
+/// Returns the header of a record with `len` bytes after it, which is the AAD of these bytes (RFC 8446 section 5.2).
+pub fn header_of(len: usize) -> [u8; HEADER_LEN]
     requires { len < 65536 }
     ensures { result ≡ header len }
 {

@@ -68,9 +68,9 @@ pub(crate) fn content_of(inner: &[u8]) -> Result<(ContentType, usize), RecordErr
     Ok((content_type, len))
 }
 
-/// The last nonzero byte, which is the content type, and its index, which is the length of the content. `None` if all bytes are
-/// zero. It reads every byte, whatever the length of the padding.
-fn last_nonzero(inner: &[u8]) -> Option<(u8, usize)>
+/// Returns the last nonzero byte of an inner plaintext, which is the content type, and its index, which is the length of the
+/// content (RFC 8446 section 5.4). Returns `None` if all bytes are zero. It reads every byte, whatever the length of the padding.
+pub fn last_nonzero(inner: &[u8]) -> Option<(u8, usize)>
     ensures found { IfSome result (λ found. (found.0 ≢ 0)
         × (padding : ℕ) × (found.1 + 1 + padding ≡ length inner.now)
         × (inner.now ≡ plaintext (take found.1 inner.now) found.0 padding)) }

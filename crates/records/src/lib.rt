@@ -22,6 +22,8 @@ mod writer;
 use aead_ciphers::aead::MAX_TAG_LEN;
 pub use alert::{CLOSE_NOTIFY, fatal_alert, plaintext_alert};
 pub use content_type::ContentType;
+pub use header::{MAX_ENCRYPTED_LEN, header_of};
+pub use inner::last_nonzero;
 pub use key::RecordKey;
 pub use reader::{EarlyData, Reader};
 pub use record_error::RecordError;

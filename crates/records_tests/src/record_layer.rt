@@ -727,39 +727,48 @@ fn sealed_without_a_header(rt: HostRuntime) -> Result<(), Fail> {
     Ok(())
 }
 
-#[test]
-fn opened_without_a_header(rt: HostRuntime) -> Result<(), Fail> {
+/// Opens the payload of a record without its header. Asserts what comes of it, and with which bytes the payload then begins.
+fn opens_payload(
+    rt: &impl Abort,
+    number: u64,
+    record: &mut [u8],
+    wanted: Result<(ContentType, usize), RecordError>,
+    inner: &[u8],
+) -> Result<(), Fail> {
     let key = RecordKey::new(&AES_128_GCM, &KEY[..16], IV)?;
-    let mut record = <[u8; 26]>::from_hex(LAST)?;
-    let opened = open_payload(&key, u64::MAX, &mut record[5..]);
-    holds(&rt, opened == Ok((ApplicationData, 4)), "the type");
+    let Some(payload) = record.get_mut(5..) else {
+        holds(rt, false, "a header");
+        return Ok(());
+    };
+    let opened = open_payload(&key, number, payload);
+    holds(
+        rt,
+        opened == wanted,
+        "the type and the length, or the error",
+    );
+    holds(rt, payload.starts_with(inner), "the inner plaintext");
     Ok(())
 }
 
-/// Asserts that a record is rejected without its header, and that its inner plaintext is then in the place of the payload.
-fn rejects_payload(
-    rt: &impl Abort,
-    key: &RecordKey,
-    record: &mut [u8],
-    inner: &[u8],
-    error: RecordError,
-) {
-    let Some(payload) = record.get_mut(5..) else {
-        holds(rt, false, "a header");
-        return;
-    };
-    let opened = open_payload(key, 0, payload);
-    holds(rt, opened == Err(error), "the error");
-    holds(rt, payload.starts_with(inner), "the inner plaintext");
+#[test]
+fn opened_without_a_header(rt: HostRuntime) -> Result<(), Fail> {
+    let mut record = <[u8; 26]>::from_hex(LAST)?;
+    opens_payload(
+        &rt,
+        u64::MAX,
+        &mut record,
+        Ok((ApplicationData, 4)),
+        b"last\x17",
+    )
 }
 
-/// An authentic record is rejected without its header for the same reason as with it.
+/// An authentic record is rejected without its header for the same reason as with it, and its inner plaintext is then in the
+/// place of the payload.
 #[test]
 fn rejected_without_a_header(rt: HostRuntime) -> Result<(), Fail> {
-    let key = RecordKey::new(&AES_128_GCM, &KEY[..16], IV)?;
     for (text, inner, error) in &AUTHENTIC {
         let mut record = hex::decode(rt.alloc(), text)?;
-        rejects_payload(&rt, &key, &mut record, inner, *error);
+        opens_payload(&rt, 0, &mut record, Err(*error), inner)?;
     }
     Ok(())
 }
