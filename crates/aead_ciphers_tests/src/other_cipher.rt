@@ -13,6 +13,7 @@ use aead_ciphers_base::bb;
 use aead_ciphers_base::polyfill::slice::AsChunks;
 use aead_ciphers_base::values::{Aad, Nonce, Tag};
 use aead_vectors::words::Words;
+use std::alloc::Global;
 use std::process::Abort;
 use std::test::Fail;
 
@@ -128,18 +129,42 @@ fn opens_with_its_tag(rt: &impl Abort, aad: &[u8], tag: Tag, buffer: &mut [u8]) 
     holds(rt, opens(rt, aad, tag, buffer, 3), "the tag");
 }
 
+/// Asserts that a message after three bytes is sealed as these bytes with this tag, and opened.
+fn seals_and_opens(
+    rt: &impl Abort,
+    (aad, message, ciphertext): (&[u8], &[u8], &[u8]),
+    tag: [u8; 16],
+    buffer: &mut [u8],
+) -> Result<(), Fail> {
+    let start = buffer.len().min(3);
+    let tag = seals(rt, aad, &mut buffer[start..], ciphertext, tag)?;
+    opens_with_its_tag(rt, aad, tag, buffer);
+    holds(rt, buffer.starts_with(message), "the message");
+    Ok(())
+}
+
+/// Returns three bytes and a message.
+fn after_three(alloc: Global, message: &[u8]) -> Result<Vec<u8>, Fail> {
+    let mut buffer = vec![in alloc; 0; 3]?;
+    buffer.extend_from_slice(message)?;
+    Ok(buffer)
+}
+
+/// Asserts the same of a line.
+fn seals_line(rt: &impl Abort, alloc: Global, line: &'static str) -> Result<(), Fail> {
+    let mut words = Words::new(line);
+    let aad = words.bytes(alloc)?;
+    let message = words.bytes(alloc)?;
+    let ciphertext = words.bytes(alloc)?;
+    let tag = words.array()?;
+    let mut buffer = after_three(alloc, &message)?;
+    seals_and_opens(rt, (&aad, &message, &ciphertext), tag, &mut buffer)
+}
+
 #[test]
 fn another_cipher_and_hash(rt: HostRuntime) -> Result<(), Fail> {
     for line in SEALED {
-        let mut words = Words::new(line);
-        let aad = words.bytes(rt.alloc())?;
-        let message = words.bytes(rt.alloc())?;
-        let ciphertext = words.bytes(rt.alloc())?;
-        let mut buffer = vec![in rt.alloc(); 0; 3]?;
-        buffer.extend_from_slice(&message)?;
-        let tag = seals(&rt, &aad, &mut buffer[3..], &ciphertext, words.array()?)?;
-        opens_with_its_tag(&rt, &aad, tag, &mut buffer);
-        same(&rt, &buffer[..message.len()], &message, "the message");
+        seals_line(&rt, rt.alloc(), line)?;
     }
     Ok(())
 }

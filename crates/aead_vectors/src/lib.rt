@@ -5,6 +5,8 @@
 pub mod fips_197;
 pub mod gcm_spec;
 pub mod rfc_8439;
+pub mod rfc_8448;
 pub mod rfc_9001;
+pub mod rfc_9369;
 pub mod sp_800_38a;
 pub mod words;

@@ -66,17 +66,33 @@ fn secret(bytes: [u8; 32]) -> QuicSecret {
     QuicSecret::new(Version::One, Secret::aes_128_gcm(bytes))
 }
 
-/// Creates an end whose Initial packets have these secrets.
-fn make_end(alloc: Global, own: QuicSecret, peer: QuicSecret) -> End {
-    let mut connection = Connection::new(FixedBit::Required);
-    connection.install_sender(Level::Initial, own);
-    connection.install_receiver(Level::Initial, peer);
+/// An end with these keys that has received nothing.
+fn with_nothing_received(alloc: Global, connection: Connection) -> End {
     End {
         connection,
         kept: Vec::new(alloc),
         count: 0,
         last: NONE,
     }
+}
+
+/// Gives an end the secrets of its Initial packets and of the peer's.
+fn install_initial(connection: &mut Connection, own: QuicSecret, peer: QuicSecret) {
+    connection.install_sender(Level::Initial, own);
+    connection.install_receiver(Level::Initial, peer);
+}
+
+/// Creates the client or the server, with the keys of Initial packets.
+fn make_end(alloc: Global, is_client: bool) -> Result<End, Fail> {
+    let client = QuicSecret::client_initial(Version::One, &ID)?;
+    let server = QuicSecret::server_initial(Version::One, &ID)?;
+    let mut connection = Connection::new(FixedBit::Required);
+    if is_client {
+        install_initial(&mut connection, client, server);
+    } else {
+        install_initial(&mut connection, server, client);
+    }
+    Ok(with_nothing_received(alloc, connection))
 }
 
 /// Receives the packets of a datagram.
@@ -277,24 +293,6 @@ fn fly(alloc: Global, from: &mut End, to: &mut End, flight: &Flight) -> Result<(
     receive_kept(alloc, to)
 }
 
-/// A client with the keys of 0-RTT packets, and a server.
-fn ends(alloc: Global) -> Result<(End, End), Fail> {
-    let mut client = make_end(
-        alloc,
-        QuicSecret::client_initial(Version::One, &ID)?,
-        QuicSecret::server_initial(Version::One, &ID)?,
-    );
-    client
-        .connection
-        .install_sender(Level::OneRtt, secret(EARLY));
-    let server = make_end(
-        alloc,
-        QuicSecret::server_initial(Version::One, &ID)?,
-        QuicSecret::client_initial(Version::One, &ID)?,
-    );
-    Ok((client, server))
-}
-
 /// Sends a datagram from the end that it names to the other.
 fn exchange(
     alloc: Global,
@@ -322,16 +320,35 @@ fn update_twice(alloc: Global, client: &mut End, server: &mut End) -> Result<(),
     Ok(())
 }
 
+/// Sends the datagrams up to the first 1-RTT packets.
+fn shake_hands(alloc: Global, client: &mut End, server: &mut End) -> Result<(), Fail> {
+    for flight in &HANDSHAKES {
+        exchange(alloc, client, server, flight)?;
+    }
+    Ok(())
+}
+
+/// Asserts that each packet is received. The client begins with the keys of 0-RTT packets.
+fn receive_all(
+    rt: &impl Abort,
+    alloc: Global,
+    client: &mut End,
+    server: &mut End,
+) -> Result<(), Fail> {
+    let early = secret(EARLY);
+    client.connection.install_sender(Level::OneRtt, early);
+    shake_hands(alloc, client, server)?;
+    update_twice(alloc, client, server)?;
+    equal(rt, &(client.count, server.count), &(10, 11));
+    Ok(())
+}
+
 // Each packet is received, over two key updates of each end.
 #[test]
 fn whole_connection(rt: HostRuntime) -> Result<(), Fail> {
-    let (mut client, mut server) = ends(rt.alloc())?;
-    for flight in &HANDSHAKES {
-        exchange(rt.alloc(), &mut client, &mut server, flight)?;
-    }
-    update_twice(rt.alloc(), &mut client, &mut server)?;
-    equal(&rt, &(client.count, server.count), &(10, 11));
-    Ok(())
+    let mut client = make_end(rt.alloc(), true)?;
+    let mut server = make_end(rt.alloc(), false)?;
+    receive_all(&rt, rt.alloc(), &mut client, &mut server)
 }
 
 /// An end that sends and receives under these secrets at the levels of Handshake and 1-RTT packets.
@@ -379,92 +396,138 @@ fn becomes(
     equal(rt, &found, &wanted);
 }
 
-/// The packet with one bit of its tag flipped.
-fn forged(packet: &Vec<u8>) -> Result<Vec<u8>, Fail> {
-    let mut forged = packet.clone()?;
-    if let Some(byte) = forged.last_mut() {
+/// Flips one bit of a packet's tag.
+fn forge(packet: &mut [u8]) {
+    if let Some(byte) = packet.last_mut() {
         *byte ^= 1;
     }
-    Ok(forged)
+}
+
+/// What comes to an end.
+#[derive(Clone, Copy)]
+enum Arrival {
+    /// The peer's first packet of this type.
+    First(PacketType),
+    /// The same with one bit of its tag flipped.
+    Forged(PacketType),
+    Bytes(&'static [u8]),
+}
+
+use Arrival::{Bytes, First, Forged};
+
+/// Returns the peer's first packet of this type.
+fn first_packet(alloc: Global, packet_type: PacketType) -> Result<Vec<u8>, Fail> {
+    sent(alloc, &mut established(CLIENT, SERVER), packet_type)
+}
+
+/// Returns the bytes that come.
+fn bytes_of(alloc: Global, arrival: Arrival) -> Result<Vec<u8>, Fail> {
+    match arrival {
+        First(packet_type) => first_packet(alloc, packet_type),
+        Forged(packet_type) => {
+            let mut packet = first_packet(alloc, packet_type)?;
+            forge(&mut packet);
+            Ok(packet)
+        }
+        Bytes(bytes) => Ok(Vec::from_slice(alloc, bytes)?),
+    }
+}
+
+/// An Initial packet for which there are no keys.
+const WITHOUT_KEYS: [u8; 41] = [
+    0xc0, 0, 0, 0, 1, 8, 4, 4, 4, 4, 4, 4, 4, 4, 0, 0, 24, 0, 0, 0, 0, 0, 0, 0, 0, 0, 0, 0, 0, 0,
+    0, 0, 0, 0, 0, 0, 0, 0, 0, 0, 0,
+];
+
+/// What comes to an end, each alone in its datagram, the ID that it asks for, what becomes of it, and the failures after it.
+const ARRIVALS: [(Arrival, [u8; 8], Result<&str, PacketError>, u64); 9] = [
+    (First(PacketType::Handshake), [8; 8], Ok("ignored"), 0),
+    (Bytes(&[0xe0; 9]), ID, Ok("ignored"), 0),
+    (Bytes(&WITHOUT_KEYS), ID, Ok("no keys"), 0),
+    (Forged(PacketType::Handshake), ID, Ok("dropped"), 1),
+    (First(PacketType::Handshake), ID, Ok("received"), 1),
+    (First(PacketType::Handshake), ID, Ok("dropped"), 1),
+    (Forged(PacketType::OneRtt), ID, Ok("dropped"), 2),
+    (
+        First(PacketType::OneRtt),
+        ID,
+        Err(PacketError::TooManyFailures),
+        2,
+    ),
+    (Bytes(&[]), [8; 8], Err(PacketError::TooManyFailures), 2),
+];
+
+/// Asserts what becomes of each packet.
+fn arrive(rt: &impl Abort, alloc: Global, end: &mut Connection) -> Result<(), Fail> {
+    for (arrival, id, wanted, failures) in &ARRIVALS {
+        let mut packet = bytes_of(alloc, *arrival)?;
+        becomes(rt, end, &mut packet, id, *wanted);
+        equal(rt, &end.failures(), failures);
+    }
+    let packet = sent(alloc, end, PacketType::OneRtt)?;
+    equal(rt, &packet.len(), &33);
+    Ok(())
 }
 
 // A packet with another ID and one that can't be parsed are ignored, forged ones and duplicates are dropped, and one without keys is
 // kept. At the limit of failures nothing is opened, and the end still sends.
 #[test]
 fn what_becomes_of_packets(rt: HostRuntime) -> Result<(), Fail> {
-    let mut peer = established(CLIENT, SERVER);
-    let mut end = established(SERVER, CLIENT);
-    let packet = sent(rt.alloc(), &mut peer, PacketType::Handshake)?;
-    let mut one_rtt = sent(rt.alloc(), &mut peer, PacketType::OneRtt)?;
-    becomes(&rt, &mut end, &mut packet.clone()?, &[8; 8], Ok("ignored"));
-    becomes(&rt, &mut end, &mut [0xe0; 9], &ID, Ok("ignored"));
-    becomes(
-        &rt,
-        &mut end,
-        &mut unsent(rt.alloc(), &INITIAL, [0; 4])?,
-        &ID,
-        Ok("no keys"),
-    );
-    becomes(&rt, &mut end, &mut forged(&packet)?, &ID, Ok("dropped"));
-    becomes(&rt, &mut end, &mut packet.clone()?, &ID, Ok("received"));
-    becomes(&rt, &mut end, &mut packet.clone()?, &ID, Ok("dropped"));
-    equal(&rt, &end.failures(), &1);
-    becomes(&rt, &mut end, &mut forged(&one_rtt)?, &ID, Ok("dropped"));
-    let closed = Err(PacketError::TooManyFailures);
-    becomes(&rt, &mut end, &mut one_rtt, &ID, closed);
-    becomes(&rt, &mut end, &mut [], &[8; 8], closed);
-    equal(
-        &rt,
-        &sent(rt.alloc(), &mut end, PacketType::OneRtt)?.len(),
-        &33,
-    );
+    arrive(&rt, rt.alloc(), &mut established(SERVER, CLIENT))
+}
+
+/// Asserts that one packet of a datagram is received, and how many fail.
+fn receives_one(
+    rt: &impl Abort,
+    alloc: Global,
+    connection: Connection,
+    datagram: &mut [u8],
+    failures: u64,
+) -> Result<(), Fail> {
+    let mut end = with_nothing_received(alloc, connection);
+    receive(alloc, &mut end, datagram, &ID)?;
+    equal(rt, &end.count, &1);
+    equal(rt, &end.connection.failures(), &failures);
     Ok(())
 }
 
-/// An end with these keys that has received nothing.
-fn with_nothing_received(alloc: Global, connection: Connection) -> End {
-    End {
-        connection,
-        kept: Vec::new(alloc),
-        count: 0,
-        last: NONE,
+/// A datagram of the peer: an Initial packet whose fixed bit is 0, and a Handshake packet.
+fn first_without_fixed_bit(alloc: Global) -> Result<Vec<u8>, Fail> {
+    let mut peer = established(CLIENT, SERVER);
+    let initial = QuicSecret::client_initial(Version::One, &ID)?;
+    peer.install_sender(Level::Initial, initial);
+    let mut datagram = sent(alloc, &mut peer, PacketType::Initial)?;
+    if let Some(first) = datagram.first_mut() {
+        *first &= 0xbf;
     }
+    datagram.extend_from_slice(&first_packet(alloc, PacketType::Handshake)?)?;
+    Ok(datagram)
 }
 
 // An Initial packet whose fixed bit is 0 is ignored, and the Handshake packet after it is received.
 #[test]
 fn no_fixed_bit_in_first_packet(rt: HostRuntime) -> Result<(), Fail> {
-    let mut peer = established(CLIENT, SERVER);
-    peer.install_sender(
-        Level::Initial,
-        QuicSecret::client_initial(Version::One, &ID)?,
-    );
+    let mut datagram = first_without_fixed_bit(rt.alloc())?;
+    let initial = QuicSecret::client_initial(Version::One, &ID)?;
     let mut connection = established(SERVER, CLIENT);
-    connection.install_receiver(
-        Level::Initial,
-        QuicSecret::client_initial(Version::One, &ID)?,
-    );
-    let mut end = with_nothing_received(rt.alloc(), connection);
-    let mut datagram = sent(rt.alloc(), &mut peer, PacketType::Initial)?;
-    if let Some(first) = datagram.first_mut() {
-        *first &= 0xbf;
-    }
-    datagram.extend_from_slice(&sent(rt.alloc(), &mut peer, PacketType::Handshake)?)?;
-    receive(rt.alloc(), &mut end, &mut datagram, &ID)?;
-    equal(&rt, &(end.count, end.connection.failures()), &(1, 0));
-    Ok(())
+    connection.install_receiver(Level::Initial, initial);
+    receives_one(&rt, rt.alloc(), connection, &mut datagram, 0)
+}
+
+/// A datagram of the peer: a forged Handshake packet, and a 1-RTT packet.
+fn forged_first(alloc: Global) -> Result<Vec<u8>, Fail> {
+    let mut datagram = bytes_of(alloc, Forged(PacketType::Handshake))?;
+    datagram.extend_from_slice(&first_packet(alloc, PacketType::OneRtt)?)?;
+    Ok(datagram)
 }
 
 // A forged packet is dropped and left as it was, and the packet after it is received.
 #[test]
 fn forged_first_packet(rt: HostRuntime) -> Result<(), Fail> {
-    let mut peer = established(CLIENT, SERVER);
-    let mut end = with_nothing_received(rt.alloc(), established(SERVER, CLIENT));
-    let first = forged(&sent(rt.alloc(), &mut peer, PacketType::Handshake)?)?;
-    let mut datagram = first.clone()?;
-    datagram.extend_from_slice(&sent(rt.alloc(), &mut peer, PacketType::OneRtt)?)?;
-    receive(rt.alloc(), &mut end, &mut datagram, &ID)?;
-    equal(&rt, &(end.count, end.connection.failures()), &(1, 1));
+    let mut datagram = forged_first(rt.alloc())?;
+    let connection = established(SERVER, CLIENT);
+    receives_one(&rt, rt.alloc(), connection, &mut datagram, 1)?;
+    let first = bytes_of(rt.alloc(), Forged(PacketType::Handshake))?;
     holds(&rt, datagram.starts_with(&first), "the forged packet");
     Ok(())
 }
@@ -482,62 +545,55 @@ fn sends_until_used_up(alloc: Global, connection: &mut Connection) -> Result<u8,
     Ok(9)
 }
 
-// Before the handshake is confirmed, the last packet of a key is kept for the one that closes the connection. After that, the keys
-// are updated when fewer than half of them are left, and again after an acknowledgment.
+/// Asserts that the last packet of a key is kept for the one that closes the connection.
+fn keeps_one_to_close(rt: &impl Abort, alloc: Global, end: &mut Connection) -> Result<(), Fail> {
+    equal(rt, &sends_until_used_up(alloc, end)?, &3);
+    let mut close = unsent(alloc, &ONE_RTT, [PING, NONE, 0, 0])?;
+    let closed = end.send_close(Level::OneRtt, &mut close, 9..13);
+    equal(rt, &closed, &Ok(3));
+    Ok(())
+}
+
+/// Acknowledgments of a number in a packet with a key phase, and the outcomes.
+const ACKNOWLEDGED: [(u64, bool, Result<(), PacketError>); 3] = [
+    (5, false, Err(PacketError::UpdateUnanswered)),
+    (6, true, Err(PacketError::NeverSent)),
+    (5, true, Ok(())),
+];
+
+/// Asserts that the keys are updated when fewer than half of the packets are left, and again after an acknowledgment.
+fn updates_by_itself(rt: &impl Abort, alloc: Global, end: &mut Connection) -> Result<(), Fail> {
+    end.confirm_handshake();
+    equal(rt, &sends_until_used_up(alloc, end)?, &6);
+    let updated = end.update_keys();
+    equal(rt, &updated, &Err(PacketError::PhaseUnacknowledged));
+    for (number, phase, outcome) in &ACKNOWLEDGED {
+        let found = end.acknowledged(Level::OneRtt, *number, *phase);
+        equal(rt, &found, outcome);
+    }
+    equal(rt, &sends_until_used_up(alloc, end)?, &4);
+    Ok(())
+}
+
+// The last packets of a key, before the handshake is confirmed and after that.
 #[test]
 fn last_packets_of_a_key(rt: HostRuntime) -> Result<(), Fail> {
-    let mut end = established(SERVER, CLIENT);
-    equal(&rt, &sends_until_used_up(rt.alloc(), &mut end)?, &3);
-    let mut close = unsent(rt.alloc(), &ONE_RTT, [PING, NONE, 0, 0])?;
-    equal(
-        &rt,
-        &end.send_close(Level::OneRtt, &mut close, 9..13),
-        &Ok(3),
-    );
-    let mut end = established(SERVER, CLIENT);
-    end.confirm_handshake();
-    equal(&rt, &sends_until_used_up(rt.alloc(), &mut end)?, &6);
-    equal(
-        &rt,
-        &end.update_keys(),
-        &Err(PacketError::PhaseUnacknowledged),
-    );
-    equal(
-        &rt,
-        &end.acknowledged(Level::OneRtt, 5, false),
-        &Err(PacketError::UpdateUnanswered),
-    );
-    equal(
-        &rt,
-        &end.acknowledged(Level::OneRtt, 6, true),
-        &Err(PacketError::NeverSent),
-    );
-    end.acknowledged(Level::OneRtt, 5, true)?;
-    equal(&rt, &sends_until_used_up(rt.alloc(), &mut end)?, &4);
-    Ok(())
+    keeps_one_to_close(&rt, rt.alloc(), &mut established(SERVER, CLIENT))?;
+    updates_by_itself(&rt, rt.alloc(), &mut established(SERVER, CLIENT))
 }
 
 // An end without keys neither sends nor updates.
 #[test]
 fn no_keys(rt: HostRuntime) -> Result<(), Fail> {
-    let mut end = Connection::new(FixedBit::Required);
     let mut packet = unsent(rt.alloc(), &INITIAL, [PING, NONE, 0, 0])?;
-    equal(
-        &rt,
-        &end.send(Level::Initial, &mut packet, 17..21),
-        &Err(PacketError::NoKeys),
-    );
-    equal(
-        &rt,
-        &end.acknowledged(Level::Initial, 0, false),
-        &Err(PacketError::NoKeys),
-    );
+    let mut end = Connection::new(FixedBit::Required);
+    let sent = end.send(Level::Initial, &mut packet, 17..21);
+    equal(&rt, &sent, &Err(PacketError::NoKeys));
+    let acknowledged = end.acknowledged(Level::Initial, 0, false);
+    equal(&rt, &acknowledged, &Err(PacketError::NoKeys));
     end.confirm_handshake();
-    equal(
-        &rt,
-        &end.update_keys(),
-        &Err(PacketError::HandshakeUnconfirmed),
-    );
+    let updated = end.update_keys();
+    equal(&rt, &updated, &Err(PacketError::HandshakeUnconfirmed));
     holds(&rt, end.sender(Level::OneRtt).is_none(), "no sender");
     Ok(())
 }

@@ -2,8 +2,8 @@
 
 use crate::checks::{equal, holds};
 use crate::retry::A_4_RETRY;
-use crate::rfc_9369;
 use aead_vectors::rfc_9001::{A_2_PACKET, A_3_PACKET, A_5_PROTECTED, Packet as Vector};
+use aead_vectors::rfc_9369;
 use aead_vectors::words::BadLine;
 use quic_packets::{DatagramError, FixedBit, Packet, PacketType, packet_at};
 use std::alloc::Global;

@@ -11,6 +11,11 @@ use std::test::Fail;
 /// A connection ID of one byte more than versions 1 and 2 allow.
 const ID: [u8; 21] = [7; 21];
 
+/// The connection IDs of RFC 9001 and RFC 9369 appendix A.
+const CLIENT_ID: [u8; 8] = [0x83, 0x94, 0xc8, 0xf0, 0x3e, 0x51, 0x57, 0x08];
+
+const SERVER_ID: [u8; 8] = [0xf0, 0x67, 0xa5, 0x50, 0x2a, 0x42, 0x62, 0xb5];
+
 /// An Initial packet without a token.
 const INITIAL: LongType<'static> = LongType::Initial { token: &[] };
 
@@ -74,110 +79,92 @@ fn writes(
     number_len: usize,
     wanted: &[u8],
 ) -> Result<(), Fail> {
-    let mut written = Vec::from_slice(alloc, wanted)?;
-    written.extend_from_slice(&[0xaa; 5])?;
-    let mut buffer = Vec::new(alloc);
-    for _ in 0..written.len() {
-        buffer.push(0xaa)?;
-    }
     let at = wanted.len();
-    equal(
-        rt,
-        &write(header, &mut buffer),
-        &Ok(at..at.saturating_add(number_len)),
-    );
-    same(rt, &buffer, &written, "the header");
+    let mut buffer = Vec::from_elem(alloc, 0xaa, at.saturating_add(5))?;
+    let room = write(header, &mut buffer);
+    equal(rt, &room, &Ok(at..at.saturating_add(number_len)));
+    holds(rt, buffer.starts_with(wanted), "the header");
+    holds(rt, buffer.ends_with(&[0xaa; 5]), "the bytes after it");
     Ok(())
+}
+
+/// Asserts that a header has these bytes, which are in hex, and then room for a number of this length.
+fn reads(
+    rt: &impl Abort,
+    alloc: Global,
+    header: Header<'_>,
+    number_len: usize,
+    wanted: &str,
+) -> Result<(), Fail> {
+    let wanted = hex::decode(alloc, wanted)?;
+    writes(rt, alloc, header, number_len, &wanted)
 }
 
 // The first two are those of RFC 9001 appendices A.2 and A.3.
 #[test]
 fn headers(rt: HostRuntime) -> Result<(), Fail> {
-    let client_id = hex::decode(rt.alloc(), "8394c8f03e515708")?;
-    let server_id = hex::decode(rt.alloc(), "f067a5502a4262b5")?;
-    for (header, number_len, wanted) in [
-        (
-            long(INITIAL, (&client_id, &[]), 4, 1162),
-            4,
-            "c300000001088394c8f03e5157080000449e",
-        ),
-        (
-            long(INITIAL, (&[], &server_id), 2, 99),
-            2,
-            "c1000000010008f067a5502a4262b5004075",
-        ),
-        (short(&client_id, false, 1), 1, "408394c8f03e515708"),
-        (short(&[], true, 4), 4, "47"),
-    ] {
-        let wanted = hex::decode(rt.alloc(), wanted)?;
-        writes(&rt, rt.alloc(), header, number_len, &wanted)?;
-    }
-    Ok(())
+    let client = long(INITIAL, (&CLIENT_ID, &[]), 4, 1162);
+    reads(
+        &rt,
+        rt.alloc(),
+        client,
+        4,
+        "c300000001088394c8f03e5157080000449e",
+    )?;
+    let server = long(INITIAL, (&[], &SERVER_ID), 2, 99);
+    reads(
+        &rt,
+        rt.alloc(),
+        server,
+        2,
+        "c1000000010008f067a5502a4262b5004075",
+    )?;
+    let first = short(&CLIENT_ID, false, 1);
+    reads(&rt, rt.alloc(), first, 1, "408394c8f03e515708")?;
+    reads(&rt, rt.alloc(), short(&[], true, 4), 4, "47")
 }
 
 // The first two are those of RFC 9369 appendices A.2 and A.3.
 #[test]
 fn rfc_9369_a_2_and_a_3(rt: HostRuntime) -> Result<(), Fail> {
-    let client_id = hex::decode(rt.alloc(), "8394c8f03e515708")?;
-    let server_id = hex::decode(rt.alloc(), "f067a5502a4262b5")?;
-    for (packet_type, ids, number_len, payload_len, wanted) in [
-        (
-            INITIAL,
-            (client_id.as_slice(), [].as_slice()),
-            4,
-            1162,
-            "d36b3343cf088394c8f03e5157080000449e",
-        ),
-        (
-            INITIAL,
-            (&[], &server_id),
-            2,
-            99,
-            "d16b3343cf0008f067a5502a4262b5004075",
-        ),
-        (LongType::ZeroRtt, (&[], &[]), 1, 20, "e06b3343cf00004025"),
-        (LongType::Handshake, (&[], &[]), 1, 20, "f06b3343cf00004025"),
-    ] {
-        let wanted = hex::decode(rt.alloc(), wanted)?;
-        let header = long_of(Version::Two, packet_type, ids, number_len, payload_len);
-        writes(&rt, rt.alloc(), header, number_len, &wanted)?;
-    }
-    Ok(())
+    let client = long_of(Version::Two, INITIAL, (&CLIENT_ID, &[]), 4, 1162);
+    reads(
+        &rt,
+        rt.alloc(),
+        client,
+        4,
+        "d36b3343cf088394c8f03e5157080000449e",
+    )?;
+    let server = long_of(Version::Two, INITIAL, (&[], &SERVER_ID), 2, 99);
+    reads(
+        &rt,
+        rt.alloc(),
+        server,
+        2,
+        "d16b3343cf0008f067a5502a4262b5004075",
+    )?;
+    let zero_rtt = long_of(Version::Two, LongType::ZeroRtt, (&[], &[]), 1, 20);
+    reads(&rt, rt.alloc(), zero_rtt, 1, "e06b3343cf00004025")?;
+    let handshake = long_of(Version::Two, LongType::Handshake, (&[], &[]), 1, 20);
+    reads(&rt, rt.alloc(), handshake, 1, "f06b3343cf00004025")
 }
 
 // The longest Length of two bytes, and the shortest and the longest of four.
 #[test]
 fn lengths(rt: HostRuntime) -> Result<(), Fail> {
-    let ids = (&ID[..20], [].as_slice());
-    for (header, number_len, wanted) in [
-        (
-            long(LongType::ZeroRtt, ids, 3, 16364),
-            3,
-            "d200000001140707070707070707070707070707070707070707007fff",
-        ),
-        (
-            long(LongType::Handshake, (&[], &ID[..20]), 1, 16367),
-            1,
-            "e0000000010014070707070707070707070707070707070707070780004000",
-        ),
-        (
-            long(LongType::Handshake, (&[], &[]), 1, (1 << 30) - 18),
-            1,
-            "e0000000010000bfffffff",
-        ),
-    ] {
-        let wanted = hex::decode(rt.alloc(), wanted)?;
-        writes(&rt, rt.alloc(), header, number_len, &wanted)?;
-    }
-    Ok(())
+    let two = long(LongType::ZeroRtt, (&[7; 20], &[]), 3, 16364);
+    let wanted = "d200000001140707070707070707070707070707070707070707007fff";
+    reads(&rt, rt.alloc(), two, 3, wanted)?;
+    let four = long(LongType::Handshake, (&[], &[7; 20]), 1, 16367);
+    let wanted = "e0000000010014070707070707070707070707070707070707070780004000";
+    reads(&rt, rt.alloc(), four, 1, wanted)?;
+    let longest = long(LongType::Handshake, (&[], &[]), 1, (1 << 30) - 18);
+    reads(&rt, rt.alloc(), longest, 1, "e0000000010000bfffffff")
 }
 
 /// Asserts that a token of this length has these bytes before it.
 fn has_token_len(rt: &impl Abort, alloc: Global, len: usize, encoded: &[u8]) -> Result<(), Fail> {
-    let mut token = Vec::new(alloc);
-    for _ in 0..len {
-        token.push(9)?;
-    }
+    let token = Vec::from_elem(alloc, 9, len)?;
     let front = [0xc0, 0, 0, 0, 1, 0, 0];
     let wanted = [front.as_slice(), encoded, &token, &[0x40, 0x25]].concat(alloc)?;
     let packet_type = LongType::Initial { token: &token };

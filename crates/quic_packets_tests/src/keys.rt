@@ -8,7 +8,7 @@ use crate::checks::{equal, holds, same};
 use aead_ciphers::aead::{AES_128_GCM, AES_256_GCM, Tag, quic};
 use aead_vectors::rfc_9001::{A_5_KEY, A_5_PROTECTED, A_5_SEALED, PACKETS, Packet};
 use quic_packets::{HeaderKey, PacketError, PacketKey, laws};
-use std::alloc::{AllocError, Global};
+use std::alloc::AllocError;
 use std::ops::Range;
 use std::process::Abort;
 use std::test::Fail;
@@ -28,6 +28,13 @@ pub(crate) fn plain(row: &Packet) -> Result<Vec<u8>, AllocError> {
     Ok(packet)
 }
 
+/// Returns the header, the payload and room for the tag.
+pub(crate) fn unsent(row: &Packet) -> Result<Vec<u8>, AllocError> {
+    let mut packet = plain(row)?;
+    packet.extend_from_slice(&[0; 16])?;
+    Ok(packet)
+}
+
 /// Creates the key of a row.
 fn key_of(row: &Packet) -> Result<PacketKey, PacketError> {
     PacketKey::new(&AES_128_GCM, &row.key, row.iv)
@@ -41,36 +48,46 @@ fn unprotected(row: &Packet) -> Result<Vec<u8>, Fail> {
 }
 
 // Header, payload and tag in one slice.
-fn in_one_slice(rt: &impl Abort, row: &Packet, sealed: &[u8]) -> Result<(), Fail> {
-    let key = key_of(row)?;
-    let plain = plain(row)?;
-    let mut packet = plain.clone()?;
-    packet.extend_from_slice(&[0; 16])?;
-    key.seal(row.number, &mut packet, row.header.len())?;
-    same(rt, &packet, sealed, row.name);
-    let len = key.open(row.number, &mut packet, row.header.len())?;
+fn in_one_slice(
+    rt: &impl Abort,
+    row: &Packet,
+    key: &PacketKey,
+    packet: &mut [u8],
+    sealed: &[u8],
+) -> Result<(), Fail> {
+    key.seal(row.number, packet, row.header.len())?;
+    same(rt, packet, sealed, row.name);
+    let len = key.open(row.number, packet, row.header.len())?;
     equal(rt, &len, &row.payload_len);
-    holds(rt, packet.starts_with(&plain), row.name);
+    holds(rt, packet.starts_with(&plain(row)?), row.name);
     Ok(())
 }
 
 // Header, payload and tag apart.
-fn apart(rt: &impl Abort, row: &Packet, plain: &[u8], sealed: &[u8]) -> Result<(), Fail> {
-    let key = key_of(row)?;
+fn apart(
+    rt: &impl Abort,
+    row: &Packet,
+    key: &PacketKey,
+    payload: &mut [u8],
+    sealed: &[u8],
+) -> Result<(), Fail> {
     let (ciphertext, tag) = sealed.split_last_chunk::<16>().ok_or("a tag")?;
-    let mut payload = Vec::from_slice(row.header.allocator(), plain)?;
-    let made = key.seal_separate_tag(row.number, &row.header, &mut payload)?;
-    same(rt, &payload, ciphertext, row.name);
+    let made = key.seal_separate_tag(row.number, &row.header, payload)?;
+    same(rt, payload, ciphertext, row.name);
     same(rt, made.as_ref(), tag, row.name);
-    key.open_separate_tag(row.number, &row.header, &mut payload, Tag::from(*tag))?;
-    same(rt, &payload, plain, row.name);
+    key.open_separate_tag(row.number, &row.header, payload, Tag::from(*tag))?;
     Ok(())
 }
 
 // The header apart, and the tag at the payload's end.
-fn tag_at_the_end(rt: &impl Abort, row: &Packet, plain: &[u8], sealed: &[u8]) -> Result<(), Fail> {
-    let mut payload = Vec::from_slice(row.header.allocator(), sealed)?;
-    let len = key_of(row)?.open_payload(row.number, &row.header, &mut payload)?;
+fn tag_at_the_end(
+    rt: &impl Abort,
+    row: &Packet,
+    key: &PacketKey,
+    payload: &mut [u8],
+    plain: &[u8],
+) -> Result<(), Fail> {
+    let len = key.open_payload(row.number, &row.header, payload)?;
     same(rt, &payload[..len.min(payload.len())], plain, row.name);
     Ok(())
 }
@@ -78,19 +95,16 @@ fn tag_at_the_end(rt: &impl Abort, row: &Packet, plain: &[u8], sealed: &[u8]) ->
 // From one buffer to another.
 fn to_another(
     rt: &impl Abort,
-    alloc: Global,
     row: &Packet,
-    plain: &[u8],
-    sealed: &[u8],
+    key: &PacketKey,
+    (plain, sealed): (&[u8], &[u8]),
+    out: &mut [u8],
 ) -> Result<(), Fail> {
-    let key = key_of(row)?;
-    let mut out = Vec::from_slice(alloc, sealed)?;
-    out.fill(0);
-    key.seal_to(row.number, &row.header, plain, &mut out)?;
-    same(rt, &out, sealed, row.name);
-    out.truncate(plain.len());
-    key.open_to(row.number, &row.header, sealed, &mut out)?;
-    same(rt, &out, plain, row.name);
+    key.seal_to(row.number, &row.header, plain, out)?;
+    same(rt, out, sealed, row.name);
+    let len = plain.len().min(out.len());
+    key.open_to(row.number, &row.header, sealed, &mut out[..len])?;
+    same(rt, &out[..len], plain, row.name);
     Ok(())
 }
 
@@ -99,40 +113,58 @@ fn payload<'a>(row: &Packet, packet: &'a [u8]) -> &'a [u8] {
     &packet[row.header.len().min(packet.len())..]
 }
 
+/// Asserts the same of the calls that take the header apart.
+fn with_the_header_apart(
+    rt: &impl Abort,
+    row: &Packet,
+    key: &PacketKey,
+    plain: &[u8],
+    sealed: &[u8],
+) -> Result<(), Fail> {
+    let alloc = row.header.allocator();
+    let mut buffer = Vec::from_slice(alloc, plain)?;
+    apart(rt, row, key, &mut buffer, sealed)?;
+    same(rt, &buffer, plain, row.name);
+    tag_at_the_end(rt, row, key, &mut Vec::from_slice(alloc, sealed)?, plain)?;
+    let mut out = Vec::from_elem(alloc, 0, sealed.len())?;
+    to_another(rt, row, key, (plain, sealed), &mut out)
+}
+
+/// Asserts that each call seals and opens a row's packet.
+fn by_each_call(rt: &impl Abort, row: &Packet, key: &PacketKey) -> Result<(), Fail> {
+    let sealed = unprotected(row)?;
+    in_one_slice(rt, row, key, &mut unsent(row)?, &sealed)?;
+    let plain = plain(row)?;
+    with_the_header_apart(rt, row, key, payload(row, &plain), payload(row, &sealed))
+}
+
 #[test]
 fn packets_of_appendix_a(rt: HostRuntime) -> Result<(), Fail> {
     for line in packets() {
         let row = Packet::parse(rt.alloc(), line)?;
-        let packet = unprotected(&row)?;
-        in_one_slice(&rt, &row, &packet)?;
-        let sealed = payload(&row, &packet);
-        let whole = plain(&row)?;
-        let plain = payload(&row, &whole);
-        apart(&rt, &row, plain, sealed)?;
-        tag_at_the_end(&rt, &row, plain, sealed)?;
-        to_another(&rt, rt.alloc(), &row, plain, sealed)?;
+        by_each_call(&rt, &row, &key_of(&row)?)?;
     }
     Ok(())
 }
 
-/// Asserts that each call that seals or opens 4 bytes under this number fails with this error.
+/// Returns why each call opens no 4 bytes under this number.
+fn errors(key: &PacketKey, number: u64, bytes: &mut [u8]) -> [Option<PacketError>; 4] {
+    let tag = Tag::from([7; 16]);
+    [
+        key.open(number, bytes, 4).err(),
+        key.open_payload(number, &[7; 4], bytes).err(),
+        key.open_separate_tag(number, &[7; 4], bytes, tag).err(),
+        key.open_to(number, &[7; 4], &[7; 40], bytes).err(),
+    ]
+}
+
+/// Asserts that each call that opens 4 bytes under this number fails with this error.
 fn refuses(rt: &impl Abort, number: u64, error: PacketError) -> Result<(), Fail> {
     let key = PacketKey::new(&AES_128_GCM, &[1; 16], [2; 12])?;
     let mut bytes = [7; 24];
-    holds(rt, key.open(number, &mut bytes, 4) == Err(error), "open");
-    let opened = key.open_payload(number, &[7; 4], &mut bytes);
-    holds(rt, opened == Err(error), "open_payload");
-    let tag = Tag::from([7; 16]);
-    holds(
-        rt,
-        key.open_separate_tag(number, &[7; 4], &mut bytes, tag) == Err(error),
-        "open_separate_tag",
-    );
-    holds(
-        rt,
-        key.open_to(number, &[7; 4], &[7; 40], &mut bytes) == Err(error),
-        "open_to",
-    );
+    for found in errors(&key, number, &mut bytes) {
+        equal(rt, &found, &Some(error));
+    }
     same(rt, &bytes, &[7; 24], "the bytes");
     Ok(())
 }
@@ -144,25 +176,24 @@ fn refusals(rt: HostRuntime) -> Result<(), Fail> {
     refuses(&rt, 1 << 62, PacketError::NumbersEnded)
 }
 
+/// Returns why each call seals no 4 bytes under this number.
+fn errors_of_sealing(key: &PacketKey, number: u64, bytes: &mut [u8]) -> [Option<PacketError>; 3] {
+    [
+        key.seal(number, bytes, 4).err(),
+        key.seal_to(number, &[7; 4], &[7; 8], bytes).err(),
+        key.seal_separate_tag(number, &[7; 4], bytes).err(),
+    ]
+}
+
 // The last number seals, and 2^62 is refused.
 #[test]
 fn numbers_end(rt: HostRuntime) -> Result<(), Fail> {
     let key = PacketKey::new(&AES_128_GCM, &[1; 16], [2; 12])?;
-    let ended = Err(PacketError::NumbersEnded);
-    holds(
-        &rt,
-        key.seal((1 << 62) - 1, &mut [7; 24], 4) == Ok(()),
-        "the last number",
-    );
+    key.seal((1 << 62) - 1, &mut [7; 24], 4)?;
     let mut bytes = [7; 24];
-    holds(&rt, key.seal(1 << 62, &mut bytes, 4) == ended, "seal");
-    holds(
-        &rt,
-        key.seal_to(1 << 62, &[7; 4], &[7; 8], &mut bytes) == ended,
-        "seal_to",
-    );
-    let made = key.seal_separate_tag(1 << 62, &[7; 4], &mut bytes);
-    holds(&rt, made.is_err(), "seal_separate_tag");
+    for found in errors_of_sealing(&key, 1 << 62, &mut bytes) {
+        equal(&rt, &found, &Some(PacketError::NumbersEnded));
+    }
     same(&rt, &bytes, &[7; 24], "the bytes");
     Ok(())
 }
@@ -220,28 +251,38 @@ fn chacha20_header(rt: HostRuntime) -> Result<(), Fail> {
     Ok(())
 }
 
+/// Returns the sample of a row's packet.
+fn sample(row: &Packet) -> &[u8] {
+    let from = row.number_at.saturating_add(4);
+    row.protected
+        .get(from..from.saturating_add(16))
+        .unwrap_or(&[])
+}
+
 /// Masks or unmasks the parts of a header by the sample of its packet.
-fn mask_parts(row: &Packet, header: &mut [u8], is_masked: bool) -> Result<(), Fail> {
-    let key = HeaderKey::new(&quic::AES_128, &row.header_key)?;
-    let from_number = row.protected.get(row.number_at..).ok_or("a number")?;
-    let sample = from_number.get(4..20).ok_or("a sample")?;
-    let (front, number) = header
-        .split_at_mut_checked(row.number_at)
-        .ok_or("a number")?;
-    let first = front.first_mut().ok_or("a first byte")?;
+fn mask_parts(
+    key: &HeaderKey,
+    row: &Packet,
+    header: &mut [u8],
+    is_masked: bool,
+) -> Result<(), PacketError> {
+    let (front, number) = header.split_at_mut(row.number_at.min(header.len()));
+    let [first, ..] = front else {
+        return Err(PacketError::NumberAtFirstByte);
+    };
     if is_masked {
-        key.decrypt_in_place(sample, first, number)?;
+        key.decrypt_in_place(sample(row), first, number)
     } else {
-        key.encrypt_in_place(sample, first, number)?;
+        key.encrypt_in_place(sample(row), first, number)
     }
-    Ok(())
 }
 
 /// Asserts that the parts of a header are masked as those of the protected packet are, and unmasked again.
 fn masks_parts(rt: &impl Abort, row: &Packet, header: &mut [u8]) -> Result<(), Fail> {
-    mask_parts(row, header, false)?;
+    let key = HeaderKey::new(&quic::AES_128, &row.header_key)?;
+    mask_parts(&key, row, header, false)?;
     holds(rt, row.protected.starts_with(header), row.name);
-    mask_parts(row, header, true)?;
+    mask_parts(&key, row, header, true)?;
     same(rt, header, &row.header, row.name);
     Ok(())
 }
@@ -256,36 +297,28 @@ fn parts_of_headers(rt: HostRuntime) -> Result<(), Fail> {
     Ok(())
 }
 
-/// Asserts that both calls on the parts of a header fail with this error, and leave the parts.
+/// Asserts that both calls on the parts of a header fail with this error, and leave the parts. The number is of nines.
 fn refuses_parts(
     rt: &impl Abort,
     sample: &[u8],
-    number: &[u8; 5],
-    len: usize,
+    number: &mut [u8],
     error: PacketError,
 ) -> Result<(), Fail> {
     let key = HeaderKey::new(&quic::AES_128, &[3; 16])?;
-    let (mut first, mut left) = (0xc3, *number);
-    let part = &mut left[..len.min(5)];
-    holds(
-        rt,
-        key.encrypt_in_place(sample, &mut first, part) == Err(error),
-        "encrypt_in_place",
-    );
-    holds(
-        rt,
-        key.decrypt_in_place(sample, &mut first, part) == Err(error),
-        "decrypt_in_place",
-    );
+    let mut first = 0xc3;
+    let found = key.encrypt_in_place(sample, &mut first, number);
+    equal(rt, &found, &Err(error));
+    let found = key.decrypt_in_place(sample, &mut first, number);
+    equal(rt, &found, &Err(error));
     equal(rt, &first, &0xc3);
-    same(rt, &left, number, "the number");
+    same(rt, number, &[9; 5][..number.len().min(5)], "the number");
     Ok(())
 }
 
 // Samples of 15 and of 17 bytes, and a packet number of 5.
 #[test]
 fn refused_parts(rt: HostRuntime) -> Result<(), Fail> {
-    refuses_parts(&rt, &[7; 15], &[9; 5], 4, PacketError::NoSample)?;
-    refuses_parts(&rt, &[7; 17], &[9; 5], 5, PacketError::NoSample)?;
-    refuses_parts(&rt, &[7; 16], &[9; 5], 5, PacketError::NumberLength)
+    refuses_parts(&rt, &[7; 15], &mut [9; 4], PacketError::NoSample)?;
+    refuses_parts(&rt, &[7; 17], &mut [9; 5], PacketError::NoSample)?;
+    refuses_parts(&rt, &[7; 16], &mut [9; 5], PacketError::NumberLength)
 }

@@ -1,7 +1,7 @@
 //! Tests of `retry_tag` and `is_genuine_retry`: the packets of RFC 9001 and RFC 9369 appendix A.4, and modified packets.
 
 use crate::checks::equal;
-use crate::rfc_9369;
+use aead_vectors::rfc_9369;
 use quic_packets::{RetryError, Version, is_genuine_retry, retry_tag};
 use std::process::Abort;
 use std::test::Fail;

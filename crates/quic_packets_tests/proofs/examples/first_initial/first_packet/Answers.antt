@@ -85,8 +85,10 @@ returns-in_err-send-clause-accepted c =
       not_both _ c.from_residual-in_err-send.ensures.0,
       λ small.
           let never : false ≡ true =
-          c.in_err-send.ensures.accepted.1
-          (sealable _ (take end buffer ++ after) _ _ _ version_is begins size start_is end_is, in_turn _ _ _ _ _ _ _ _ c.in_ok-sender.ensures.made small start_is end_is) in
+          c.in_err-send.ensures.accepted.1 (
+            sealable _ (take end buffer ++ after) _ _ _ version_is begins size start_is end_is,
+            in_turn _ _ _ _ _ _ _ _ c.in_ok-sender.ensures.made small start_is end_is,
+          ) in
           absurd (cc never),
     )
 
