@@ -117,8 +117,9 @@ record IsVersion (version : Version) (a b c d : ℕ) : Type 0 where
   known : numbered_version (number_of a b c d) ≡ Some version
 
 -- a long header with its fields, and what follows it
-module _ (version : Version) (a b c d : ℕ) (is_version : IsVersion version a b c d) (first : ℕ) (id source token : List ℕ) (log n : ℕ)
-    (rest : List ℕ) (long : 0x80 ≤ first) (short_id : length id ≤ 20) (short_source : length source ≤ 20) (few : log ≤ 2) (fits : Encodes log n) (whole_packet : n ≤ length rest) where
+module _ (version : Version) (a b c d : ℕ) (is_version : IsVersion version a b c d) (first : ℕ) (id source token : List ℕ)
+    (log n : ℕ) (rest : List ℕ) (long : 0x80 ≤ first) (short_id : length id ≤ 20) (short_source : length source ≤ 20)
+    (few : log ≤ 2) (fits : Encodes log n) (whole_packet : n ≤ length rest) where
   abbrev with_id : List ℕ
   with_id = (first ∷ a ∷ b ∷ c ∷ d ∷ []) ++ id_field id
 

@@ -154,7 +154,7 @@ impl Connection {
     ///
     /// If the sender is there already, it continues with its numbers and its limit: the 0-RTT sender of a client becomes that of
     /// 1-RTT packets (RFC 9000 section 12.3), and the one of Initial packets gets the keys of the connection ID that a Retry
-    /// packet brings (section 17.2.5.3).
+    /// packet brings (section 17.2.5.3). Its version becomes that of the secret.
     pub fn install_sender(&mut self, level: Level, secret: QuicSecret)
         ensures { self.new ≡ with_ends self.old level (record (ends_of self.old level) {
           sender = Some (installed (ends_of self.old level).sender secret self.old.limit);
