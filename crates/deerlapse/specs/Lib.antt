@@ -1,4 +1,5 @@
 -- The definitions that the contracts of the exports use, besides those of the library.
 pub mod AesKey
 pub mod NumberedKey
+pub mod TrafficKey
 pub mod Version

@@ -9,13 +9,19 @@
 
 mod aes_gcm;
 mod chacha20;
+mod hkdf;
 mod key;
 mod masks;
 mod numbered_key;
 mod opener;
 mod out_of_place;
 mod pieces;
+mod quic_key;
+mod record_key;
 mod sealer;
 #[cfg(test)]
+mod secret_tests;
+#[cfg(test)]
 mod tests;
+mod traffic_key;
 mod version;

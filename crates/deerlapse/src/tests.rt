@@ -37,12 +37,12 @@ const WIDTHS: [(Width, Width); 2] = [
 ];
 
 /// Two lists of bytes are equal.
-fn same(rt: &impl Abort, found: &[u8], wanted: &[u8], what: &str) {
+pub(crate) fn same(rt: &impl Abort, found: &[u8], wanted: &[u8], what: &str) {
     assert_eq!(rt; found, wanted, "{what}");
 }
 
 /// A call is accepted.
-fn accepted(rt: &impl Abort, answer: bool, what: &str) {
+pub(crate) fn accepted(rt: &impl Abort, answer: bool, what: &str) {
     assert!(rt; answer, "{what}");
 }
 

@@ -1,7 +1,9 @@
-/* Six functions of ngtcp2's crypto library over GnuTLS, and two of GnuTLS, under their names, so that a finished program
- * runs on callbacks.c: as a shared object in LD_PRELOAD. TLS, key derivation and the other ciphers stay with GnuTLS. */
+/* Eight functions of ngtcp2's crypto library over GnuTLS, and two of GnuTLS, under their names, so that a finished program
+ * runs on callbacks.c and derives its keys by the library: as a shared object in LD_PRELOAD. TLS with its secrets, tokens of
+ * stateless resets, other hash functions and the other ciphers stay with GnuTLS. */
 #define _GNU_SOURCE
 #include "callbacks.h"
+#include <deerlapse.h>
 #include <dlfcn.h>
 #include <gnutls/crypto.h>
 #include <ngtcp2/ngtcp2_crypto.h>
@@ -31,6 +33,34 @@ static size_t header_key_len(gnutls_cipher_algorithm_t cipher) {
     case GNUTLS_CIPHER_AES_256_CBC: return 32;
     default: return 0;
     }
+}
+
+/* The bytes in a digest of a hash function, or 0 if it is GnuTLS's. */
+static size_t digest_len(const ngtcp2_crypto_md *md) {
+    switch ((gnutls_digest_algorithm_t)(intptr_t)md->native_handle) {
+    case GNUTLS_DIG_SHA256: return DEERLAPSE_SHA256_LEN;
+    case GNUTLS_DIG_SHA384: return DEERLAPSE_SHA384_LEN;
+    default: return 0;
+    }
+}
+
+/* ngtcp2 calls it for the secret of Initial packets. */
+int ngtcp2_crypto_hkdf_extract(uint8_t *dest, const ngtcp2_crypto_md *md, const uint8_t *secret, size_t secret_len,
+                               const uint8_t *salt, size_t salt_len) {
+    size_t len = digest_len(md);
+    if (len == 0) return NEXT(ngtcp2_crypto_hkdf_extract)(dest, md, secret, secret_len, salt, salt_len);
+    return deerlapse_hkdf_extract(salt, salt_len, secret, secret_len, dest, len) ? 0 : -1;
+}
+
+/* ngtcp2 calls it for each key, IV and header key, with HKDF-Expand-Label's info, and for each secret that it derives itself:
+ * those of Initial packets, and those after a key update. */
+int ngtcp2_crypto_hkdf_expand(uint8_t *dest, size_t dest_len, const ngtcp2_crypto_md *md, const uint8_t *secret,
+                              size_t secret_len, const uint8_t *info, size_t info_len) {
+    size_t len = digest_len(md);
+    if (len == 0 || secret_len != len) {
+        return NEXT(ngtcp2_crypto_hkdf_expand)(dest, dest_len, md, secret, secret_len, info, info_len);
+    }
+    return deerlapse_hkdf_expand(secret, secret_len, info, info_len, dest, dest_len) ? 0 : -1;
 }
 
 static int init(ngtcp2_crypto_aead_ctx *ctx, const uint8_t *bytes, size_t len) {

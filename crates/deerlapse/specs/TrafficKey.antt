@@ -1,0 +1,64 @@
+-- A `TrafficKey`, which protects the packets or the records of one direction of a connection, and the secrets that give it.
+use Rattle.std.specs.Prelude.{◌≡◌, ◌≢◌, ℕ, ◌⊎◌, ◌==◌, ◌≤◌, ◌+◌, ◌-◌, ◌^◌, if◌then◌else◌, List, length, take, replicate}
+use Rattle.aead_ciphers_wide.specs.ExpandedKey.{IsExpanded, bytes_of, zero_key}
+use Rattle.aead_ciphers_wide.specs.declared.aes_gcm.ExpandedKey.{ExpandedKey}
+use Rattle.key_derivation.specs.Hash.{HashFunction, sha_256, sha_384}
+use Rattle.key_derivation.specs.Quic.{QuicSecretState, quic_header_key, quic_iv, quic_key}
+use Rattle.key_derivation.specs.Secret.{SecretState}
+use Rattle.key_derivation.specs.Tls.{record_iv, record_key}
+use Rattle.key_derivation.specs.declared.quic.Version.{Version}
+use Rattle.key_derivation.specs.declared.suite.Suite.{Suite}
+use Rattle.key_derivation.specs.declared.suite.Suite.TheVariants.{Aes128Gcm, Aes256Gcm}
+use Rattle.records.specs.Record.{plaintext}
+use Rattle.deerlapse.specs.declared.traffic_key.TrafficKey.{TrafficKey}
+
+-- the length of a digest of SHA-256 or SHA-384, which names the hash function, and which a secret has (RFC 8446 section 7.1)
+abbrev pub IsDigestLen : ℕ → Type 0
+IsDigestLen n = (n ≡ 32) ⊎ (n ≡ 48)
+
+abbrev pub hash_of : ℕ → HashFunction
+hash_of n = if n == 48 then sha_384 else sha_256
+
+-- the suite whose secrets have this length (RFC 8446 section B.4), and the secret of these bytes
+abbrev pub suite_of : ℕ → Suite
+suite_of n = if n == 48 then Aes256Gcm else Aes128Gcm
+
+abbrev pub secret_of : List ℕ → SecretState
+secret_of bytes = record { suite = suite_of (length bytes); bytes = bytes }
+
+abbrev pub quic_secret_of : List ℕ → Version → QuicSecretState
+quic_secret_of bytes version = record { version = version; secret = secret_of bytes }
+
+-- a key of these bytes, with this IV
+pub record IsTrafficKey (key : TrafficKey) (bytes iv : List ℕ) : Type 0 where
+  pub expanded : IsExpanded key.key
+  pub bytes_are : bytes_of key.key ≡ bytes
+  pub iv_is : key.iv ≡ iv
+  pub zeros : key.room ≡ replicate 4 0
+
+-- the key that protects the packets of a secret of QUIC (RFC 9001 section 5.1, RFC 9369 section 3.3.2)
+abbrev pub IsPacketKey : TrafficKey → QuicSecretState → Type 0
+IsPacketKey key s = IsTrafficKey key (quic_key s) (quic_iv s)
+
+-- the key that masks their headers
+abbrev pub IsHeaderKey : ExpandedKey → QuicSecretState → Type 0
+IsHeaderKey key s = IsExpanded key × (bytes_of key ≡ quic_header_key s)
+
+-- the key that protects the records of a traffic secret (RFC 8446 section 7.3)
+abbrev pub IsRecordKey : TrafficKey → SecretState → Type 0
+IsRecordKey key s = IsTrafficKey key (record_key s) (record_iv s)
+
+-- one that is wiped: every byte is zero
+abbrev pub zero_traffic_key : TrafficKey
+zero_traffic_key = record { key = zero_key; iv = replicate 12 0; room = replicate 4 0 }
+
+-- the payload of a record has n bytes: an inner plaintext with at least a content type, and a tag; at most 2^14 + 256 (RFC 8446
+-- section 5.2)
+abbrev pub IsPayloadLen : ℕ → Type 0
+IsPayloadLen n = (17 ≤ n) × (n ≤ 2 ^ 14 + 256)
+
+-- an inner plaintext is this content with this type, and zeros after it, or has no type, as it is all zeros (RFC 8446 section
+-- 5.4)
+pub record IsInner (inner : List ℕ) (code len : ℕ) : Type 0 where
+  pub typed : code ≢ 0 → (padding : ℕ) × (len + 1 + padding ≡ length inner) × (inner ≡ plaintext (take len inner) code padding)
+  pub untyped : code ≡ 0 → (len ≡ 0) × (inner ≡ replicate (length inner) 0)

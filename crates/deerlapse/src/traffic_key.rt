@@ -1,0 +1,73 @@
+//! A key with its IV, which protects the packets of QUIC or the records of TLS 1.3 in one direction by their numbers.
+
+ghost use Rattle.std.specs.Prelude.{◌≡◌, ◌↔◌, length, IsTrue, IsFalse, IsSome, IfSome};
+ghost use Rattle.deerlapse.specs.AesKey.{IsAesKeyLen};
+ghost use Rattle.deerlapse.specs.TrafficKey.{IsDigestLen, IsTrafficKey, secret_of, zero_traffic_key};
+
+use crate::key::{aes_key, deerlapse_key_wipe};
+use aead_ciphers::aead::NONCE_LEN;
+use aead_ciphers_base::aes::Work;
+use aead_ciphers_wide::aes::Width;
+use aead_ciphers_wide::aes_gcm::ExpandedKey;
+use key_derivation::Secret;
+use std::mem::size_of;
+
+/// An AES-GCM key and the IV that is XORed with each number. It is in the caller's memory.
+#[repr(C)]
+#[derive(Drop)]
+pub struct TrafficKey {
+    /// The expanded key.
+    pub key: ExpandedKey,
+    /// The IV.
+    pub iv: [u8; NONCE_LEN],
+    /// Zeros, so that the struct has no padding.
+    pub room: [u8; ROOM_LEN],
+}
+
+const ROOM_LEN: usize = 4;
+
+// The `words` of the types in the header have as many bytes.
+const _: () = prove!(size_of::<TrafficKey>() == 3208);
+
+/// The length of a secret of TLS_AES_256_GCM_SHA384, and of a digest of SHA-384.
+pub(crate) const SHA_384_LEN: usize = 48;
+
+/// The length of a secret of TLS_AES_128_GCM_SHA256, and of a digest of SHA-256.
+pub(crate) const SHA_256_LEN: usize = 32;
+
+/// Initializes a key whose batches take planes of this width. Its previous bytes are not read.
+///
+/// Returns false if the key does not have 16 or 32 bytes.
+pub(crate) fn fill(traffic: &mut TrafficKey, key: &[u8], iv: &[u8; NONCE_LEN], width: Width) -> bool
+    ensures accepted { IsTrue result ↔ IsAesKeyLen (length key.now) }
+    ensures made { IsTrue result → IsTrafficKey traffic.new key.now iv.now }
+    ensures refused { IsFalse result → traffic.new ≡ traffic.old }
+{
+    let Some(key) = aes_key(key) else {
+        return false
+    };
+    traffic.key.expand_with_width(key, width, &mut Work::new());
+    traffic.iv = *iv;
+    traffic.room = [0; ROOM_LEN];
+    true
+}
+
+/// Overwrites a key with zeros. Every call under it then returns false.
+pub(crate) fn wipe(traffic: &mut TrafficKey)
+    ensures { traffic.new ≡ zero_traffic_key }
+{
+    deerlapse_key_wipe(&mut traffic.key);
+    traffic.iv = [0; NONCE_LEN];
+    traffic.room = [0; ROOM_LEN];
+}
+
+/// The secret of these bytes, whose number says which suite's it is.
+pub(crate) fn secret_of(bytes: &[u8]) -> Option<Secret>
+    ensures accepted { IsSome result ↔ IsDigestLen (length bytes.now) }
+    ensures made { IfSome result (λ secret. secret ≡ secret_of bytes.now) }
+{
+    match bytes.len() {
+        SHA_384_LEN => Some(Secret::aes_256_gcm(*bytes.as_array()?)),
+        _ => Some(Secret::aes_128_gcm(*bytes.as_array()?)),
+    }
+}
