@@ -1,5 +1,6 @@
-/* AES-GCM, the ChaCha20 stream and QUIC's header protection masks, for C and C++. deerlapse.h is C99. The library is a file
- * of assembly for each target, such as deerlapse-x86_64-v2.s, of which libdeerlapse.a and libdeerlapse.so are made.
+/* AES-GCM, the ChaCha20 stream, QUIC's header protection masks, and the keys of QUIC's packets and TLS 1.3's records, for C
+ * and C++. deerlapse.h is C99. The library is a file of assembly for each target, such as deerlapse-x86_64-v2.s, of which
+ * libdeerlapse.a and libdeerlapse.so are made.
  *
  * The following holds for every call:
  *  - It returns true on success. It returns false on failure, and leaves every byte unchanged, except that
@@ -35,10 +36,13 @@
 #define DEERLAPSE_NODISCARD __attribute__((nonnull, warn_unused_result))
 /* The same, for a function of which only the parameters with these numbers must not be null. */
 #define DEERLAPSE_WRAPS(...) static inline __attribute__((nonnull(__VA_ARGS__), warn_unused_result))
+/* The same, for a function each of whose pointers may be null. */
+#define DEERLAPSE_WRAPS_NULLABLE static inline __attribute__((warn_unused_result))
 #else
 #define DEERLAPSE_CALL
 #define DEERLAPSE_NODISCARD
 #define DEERLAPSE_WRAPS(...) static inline
+#define DEERLAPSE_WRAPS_NULLABLE static inline
 #endif
 
 #define DEERLAPSE_VERSION_MAJOR 0
@@ -64,6 +68,12 @@
 #define DEERLAPSE_TAG_LEN 16
 #define DEERLAPSE_SAMPLE_LEN 16
 #define DEERLAPSE_MASK_LEN 5
+#define DEERLAPSE_SHA256_LEN 32
+#define DEERLAPSE_SHA384_LEN 48
+
+/* The numbers of QUIC's versions 1 and 2 in a long header (RFC 9000 section 15, RFC 9369 section 3.1). */
+#define DEERLAPSE_QUIC_V1 UINT32_C(1)
+#define DEERLAPSE_QUIC_V2 UINT32_C(0x6b3343cf)
 
 #ifdef __cplusplus
 extern "C" {
@@ -330,6 +340,208 @@ void deerlapse_opener_wipe(deerlapse_opener *opener);
 DEERLAPSE_CALL
 void deerlapse_nonce(const uint8_t iv[DEERLAPSE_NONCE_LEN], uint64_t number, uint8_t nonce[DEERLAPSE_NONCE_LEN]);
 
+/* HMAC, HKDF and HKDF-Expand-Label with SHA-256 or SHA-384. A length of 32 or 48 bytes names the hash function: that of what
+ * a call writes or, for the calls that fill `out`, that of the secret. */
+
+/* Writes the code of a message (RFC 2104). To verify one, compare every byte of it, as a constant-time comparison does.
+ *
+ *   key       key_len bytes
+ *   message   message_len bytes
+ *   code      code_len bytes, which are written: 32 for SHA-256, 48 for SHA-384
+ *
+ * Returns false if code_len is neither 32 nor 48. */
+DEERLAPSE_NODISCARD
+bool deerlapse_hmac(const uint8_t *key, size_t key_len, const uint8_t *message, size_t message_len, uint8_t *code,
+                    size_t code_len);
+
+/* HKDF-Extract: writes the pseudorandom key of a salt and input keying material (RFC 5869 section 2.2).
+ *
+ *   salt   salt_len bytes
+ *   ikm    ikm_len bytes
+ *   prk    prk_len bytes, which are written: 32 for SHA-256, 48 for SHA-384
+ *
+ * Returns false if prk_len is neither 32 nor 48. */
+DEERLAPSE_NODISCARD
+bool deerlapse_hkdf_extract(const uint8_t *salt, size_t salt_len, const uint8_t *ikm, size_t ikm_len, uint8_t *prk,
+                            size_t prk_len);
+
+/* HKDF-Expand: fills `out` with output keying material (RFC 5869 section 2.3).
+ *
+ *   prk    prk_len bytes: 32 for SHA-256, 48 for SHA-384
+ *   info   info_len bytes
+ *   out    out_len bytes, which are written: at most 255 * prk_len
+ *
+ * Returns false if prk_len is neither 32 nor 48, or if out_len is above 255 * prk_len. */
+DEERLAPSE_NODISCARD
+bool deerlapse_hkdf_expand(const uint8_t *prk, size_t prk_len, const uint8_t *info, size_t info_len, uint8_t *out,
+                           size_t out_len);
+
+/* HKDF-Expand-Label: fills `out` from a secret (RFC 8446 section 7.1). With the hash of the messages as the context, and
+ * out_len as secret_len, it is Derive-Secret.
+ *
+ *   secret    secret_len bytes: 32 for SHA-256, 48 for SHA-384
+ *   label     label_len bytes, 1 to 249: without "tls13 ", which the call puts before it
+ *   context   context_len bytes, at most 255
+ *   out       out_len bytes, which are written: at most 255 * secret_len
+ *
+ * Returns false for any other length. */
+DEERLAPSE_NODISCARD
+bool deerlapse_hkdf_expand_label(const uint8_t *secret, size_t secret_len, const uint8_t *label, size_t label_len,
+                                 const uint8_t *context, size_t context_len, uint8_t *out, size_t out_len);
+
+/* A key and an IV that protect the packets of QUIC in one direction by their numbers (RFC 9001 section 5.3). It is in the
+ * caller's memory, and contains no pointer, so a copy is a key as well. Sealing and opening only read it, so threads may
+ * share it. Every call under a key of zeros returns false. Any other memory must only be passed to the calls that initialize
+ * it and to deerlapse_quic_key_wipe.
+ *
+ * It counts nothing. No number may be sealed twice under one key, a packet that was opened before is opened again, and the
+ * limits of RFC 9001 section 6.6 are the caller's responsibility. */
+typedef struct deerlapse_quic_key {
+    uint64_t words[401]; /* private: neither read nor write them */
+} deerlapse_quic_key;
+
+/* Initializes a key. Its previous bytes are not read.
+ *
+ *   bytes   len bytes: 16 for AES-128-GCM, 32 for AES-256-GCM
+ *   iv      12 bytes
+ *
+ * Returns false if len is neither 16 nor 32. */
+DEERLAPSE_NODISCARD
+bool deerlapse_quic_key_init(deerlapse_quic_key *key, const uint8_t *bytes, size_t len,
+                             const uint8_t iv[DEERLAPSE_NONCE_LEN]);
+
+/* Initializes the key and the IV of a secret (RFC 9001 section 5.1, RFC 9369 section 3.3.2). Its previous bytes are not read.
+ *
+ *   version   DEERLAPSE_QUIC_V1 or DEERLAPSE_QUIC_V2
+ *   secret    secret_len bytes: 32 for TLS_AES_128_GCM_SHA256, 48 for TLS_AES_256_GCM_SHA384
+ *
+ * Returns false for any other version or length. */
+DEERLAPSE_NODISCARD
+bool deerlapse_quic_key_from_secret(deerlapse_quic_key *key, uint32_t version, const uint8_t *secret, size_t secret_len);
+
+/* Expands the key of a secret that masks headers, for deerlapse_key_mask. Its previous bytes are not read. A key update
+ * leaves it as it is (RFC 9001 section 6.1).
+ *
+ *   version, secret   as for deerlapse_quic_key_from_secret
+ *
+ * Returns false if that call does. */
+DEERLAPSE_NODISCARD
+bool deerlapse_quic_header_key_from_secret(deerlapse_key *key, uint32_t version, const uint8_t *secret,
+                                           size_t secret_len);
+
+/* Writes the secrets of the Initial packets that each end sends (RFC 9001 section 5.2, RFC 9369 section 3.3.1).
+ *
+ *   version   DEERLAPSE_QUIC_V1 or DEERLAPSE_QUIC_V2
+ *   id        id_len bytes, at most 20: the Destination Connection ID of the client's first Initial packet, or after a Retry
+ *             packet the one that it brings
+ *   client    32 bytes, which are written
+ *   server    32 bytes, which are written
+ *
+ * Returns false for any other version or length. */
+DEERLAPSE_NODISCARD
+bool deerlapse_quic_initial_secrets(uint32_t version, const uint8_t *id, size_t id_len,
+                                    uint8_t client[DEERLAPSE_SHA256_LEN], uint8_t server[DEERLAPSE_SHA256_LEN]);
+
+/* Overwrites a secret with the one after a key update (RFC 9001 section 6.1, RFC 9369 section 3.3.2).
+ *
+ *   version, secret   as for deerlapse_quic_key_from_secret
+ *
+ * Returns false if that call does. */
+DEERLAPSE_NODISCARD
+bool deerlapse_quic_next_secret(uint32_t version, uint8_t *secret, size_t secret_len);
+
+/* Encrypts the payload of a packet in place, and writes its tag.
+ *
+ *   key       initialized, or zeros
+ *   number    the packet number, below 2^62
+ *   header    header_len bytes, which are not masked yet: the AAD
+ *   payload   payload_len bytes, which the ciphertext replaces
+ *   tag       16 bytes, which are written. They may come right after the payload
+ *
+ * Returns false if the key is zeros, if the number is 2^62 or more, or for lengths for which deerlapse_key_seal does. */
+DEERLAPSE_NODISCARD
+bool deerlapse_quic_key_seal(const deerlapse_quic_key *key, uint64_t number, const uint8_t *header, size_t header_len,
+                             uint8_t *payload, size_t payload_len, uint8_t tag[DEERLAPSE_TAG_LEN]);
+
+/* Opens the payload of a packet in place. On success the plaintext is at `payload`, and the tag after it is unchanged.
+ *
+ *   key, number     as for deerlapse_quic_key_seal
+ *   header          header_len bytes, whose mask is removed: the AAD
+ *   payload         payload_len bytes: the ciphertext and its tag of 16 bytes
+ *   plaintext_len   written on success: payload_len - 16
+ *
+ * Returns false if the tag is wrong, if payload_len is below 16, if the key is zeros, if the number is 2^62 or more, or for
+ * lengths for which deerlapse_key_seal does. */
+DEERLAPSE_NODISCARD
+bool deerlapse_quic_key_open(const deerlapse_quic_key *key, uint64_t number, const uint8_t *header, size_t header_len,
+                             uint8_t *payload, size_t payload_len, size_t *plaintext_len);
+
+/* Overwrites a key with zeros. Every call under it then returns false. */
+DEERLAPSE_CALL
+void deerlapse_quic_key_wipe(deerlapse_quic_key *key);
+
+/* The same for the records of TLS 1.3 (RFC 8446 section 5.2). What is said of a deerlapse_quic_key holds for it; how many
+ * records a key may seal is in RFC 8446 section 5.5. */
+typedef struct deerlapse_record_key {
+    uint64_t words[401]; /* private: neither read nor write them */
+} deerlapse_record_key;
+
+/* Initializes a key, as deerlapse_quic_key_init does. */
+DEERLAPSE_NODISCARD
+bool deerlapse_record_key_init(deerlapse_record_key *key, const uint8_t *bytes, size_t len,
+                               const uint8_t iv[DEERLAPSE_NONCE_LEN]);
+
+/* Initializes the key and the IV of a traffic secret (RFC 8446 section 7.3). Its previous bytes are not read.
+ *
+ *   secret   secret_len bytes: 32 for TLS_AES_128_GCM_SHA256, 48 for TLS_AES_256_GCM_SHA384
+ *
+ * Returns false for any other length. */
+DEERLAPSE_NODISCARD
+bool deerlapse_record_key_from_secret(deerlapse_record_key *key, const uint8_t *secret, size_t secret_len);
+
+/* Overwrites a traffic secret with the one after a KeyUpdate (RFC 8446 section 7.2).
+ *
+ *   secret   as for deerlapse_record_key_from_secret
+ *
+ * Returns false if that call does. */
+DEERLAPSE_NODISCARD
+bool deerlapse_tls_next_secret(uint8_t *secret, size_t secret_len);
+
+/* Seals the payload of a record in place: the bytes after its header. payload_len, which the header announces, gives the AAD.
+ *
+ *   key            initialized, or zeros
+ *   number         the number of the record
+ *   content_type   the type of the content, not 0
+ *   payload        payload_len bytes, at most 2^14 + 17: the content, and at least 17 bytes more, which are written: the type,
+ *                  as many zeros as there is room for, as padding, and the tag
+ *   content_len    at most payload_len - 17
+ *
+ * Returns false if the key is zeros, or if the type or a length is another. */
+DEERLAPSE_NODISCARD
+bool deerlapse_record_key_seal(const deerlapse_record_key *key, uint64_t number, uint8_t content_type, uint8_t *payload,
+                               size_t payload_len, size_t content_len);
+
+/* Opens the payload of a record in place. On success the content is at `payload`; its type, the padding and the tag are
+ * after it.
+ *
+ *   key, number    as for deerlapse_record_key_seal
+ *   payload        payload_len bytes, 17 to 2^14 + 256: those after the header, which announces as many
+ *   content_type   written on success: the type of the content or, if the plaintext is zeros alone and so has none, 0
+ *   content_len    written on success: the length of the content, or 0 if it has no type
+ *
+ * A record without a type, one whose type isn't known, and one whose plaintext, without the tag, has more than 2^14 + 1
+ * bytes are authentic, and TLS rejects them (RFC 8446 sections 5.2 and 5.4): this is left to the caller, as are the rules of
+ * each type.
+ *
+ * Returns false if the tag is wrong, if the key is zeros, or if payload_len is another. */
+DEERLAPSE_NODISCARD
+bool deerlapse_record_key_open(const deerlapse_record_key *key, uint64_t number, uint8_t *payload, size_t payload_len,
+                               uint8_t *content_type, size_t *content_len);
+
+/* Overwrites a key with zeros. Every call under it then returns false. */
+DEERLAPSE_CALL
+void deerlapse_record_key_wipe(deerlapse_record_key *key);
+
 /* Does the same as deerlapse_key_mask under a key that is expanded for this sample only.
  *
  *   key   key_len bytes: 16 for AES-128, 32 for AES-256
@@ -549,6 +761,128 @@ bool deerlapse_opener_open_number_nullable(const deerlapse_opener *opener, uint6
 }
 #define deerlapse_opener_open_number deerlapse_opener_open_number_nullable
 
+DEERLAPSE_WRAPS_NULLABLE
+bool deerlapse_hmac_nullable(const uint8_t *key, size_t key_len, const uint8_t *message, size_t message_len,
+                             uint8_t *code, size_t code_len) {
+    return deerlapse_hmac(deerlapse_to_read(key, key_len), key_len, deerlapse_to_read(message, message_len), message_len,
+                          deerlapse_to_write(code, code_len), code_len);
+}
+#define deerlapse_hmac deerlapse_hmac_nullable
+
+DEERLAPSE_WRAPS_NULLABLE
+bool deerlapse_hkdf_extract_nullable(const uint8_t *salt, size_t salt_len, const uint8_t *ikm, size_t ikm_len,
+                                     uint8_t *prk, size_t prk_len) {
+    return deerlapse_hkdf_extract(deerlapse_to_read(salt, salt_len), salt_len, deerlapse_to_read(ikm, ikm_len), ikm_len,
+                                  deerlapse_to_write(prk, prk_len), prk_len);
+}
+#define deerlapse_hkdf_extract deerlapse_hkdf_extract_nullable
+
+DEERLAPSE_WRAPS_NULLABLE
+bool deerlapse_hkdf_expand_nullable(const uint8_t *prk, size_t prk_len, const uint8_t *info, size_t info_len,
+                                    uint8_t *out, size_t out_len) {
+    return deerlapse_hkdf_expand(deerlapse_to_read(prk, prk_len), prk_len, deerlapse_to_read(info, info_len), info_len,
+                                 deerlapse_to_write(out, out_len), out_len);
+}
+#define deerlapse_hkdf_expand deerlapse_hkdf_expand_nullable
+
+DEERLAPSE_WRAPS_NULLABLE
+bool deerlapse_hkdf_expand_label_nullable(const uint8_t *secret, size_t secret_len, const uint8_t *label,
+                                          size_t label_len, const uint8_t *context, size_t context_len, uint8_t *out,
+                                          size_t out_len) {
+    return deerlapse_hkdf_expand_label(deerlapse_to_read(secret, secret_len), secret_len,
+                                       deerlapse_to_read(label, label_len), label_len,
+                                       deerlapse_to_read(context, context_len), context_len,
+                                       deerlapse_to_write(out, out_len), out_len);
+}
+#define deerlapse_hkdf_expand_label deerlapse_hkdf_expand_label_nullable
+
+DEERLAPSE_WRAPS(1, 4)
+bool deerlapse_quic_key_init_nullable(deerlapse_quic_key *key, const uint8_t *bytes, size_t len,
+                                      const uint8_t iv[DEERLAPSE_NONCE_LEN]) {
+    return deerlapse_quic_key_init(key, deerlapse_to_read(bytes, len), len, iv);
+}
+#define deerlapse_quic_key_init deerlapse_quic_key_init_nullable
+
+DEERLAPSE_WRAPS(1)
+bool deerlapse_quic_key_from_secret_nullable(deerlapse_quic_key *key, uint32_t version, const uint8_t *secret,
+                                             size_t secret_len) {
+    return deerlapse_quic_key_from_secret(key, version, deerlapse_to_read(secret, secret_len), secret_len);
+}
+#define deerlapse_quic_key_from_secret deerlapse_quic_key_from_secret_nullable
+
+DEERLAPSE_WRAPS(1)
+bool deerlapse_quic_header_key_from_secret_nullable(deerlapse_key *key, uint32_t version, const uint8_t *secret,
+                                                    size_t secret_len) {
+    return deerlapse_quic_header_key_from_secret(key, version, deerlapse_to_read(secret, secret_len), secret_len);
+}
+#define deerlapse_quic_header_key_from_secret deerlapse_quic_header_key_from_secret_nullable
+
+DEERLAPSE_WRAPS(4, 5)
+bool deerlapse_quic_initial_secrets_nullable(uint32_t version, const uint8_t *id, size_t id_len,
+                                             uint8_t client[DEERLAPSE_SHA256_LEN],
+                                             uint8_t server[DEERLAPSE_SHA256_LEN]) {
+    return deerlapse_quic_initial_secrets(version, deerlapse_to_read(id, id_len), id_len, client, server);
+}
+#define deerlapse_quic_initial_secrets deerlapse_quic_initial_secrets_nullable
+
+DEERLAPSE_WRAPS_NULLABLE
+bool deerlapse_quic_next_secret_nullable(uint32_t version, uint8_t *secret, size_t secret_len) {
+    return deerlapse_quic_next_secret(version, deerlapse_to_write(secret, secret_len), secret_len);
+}
+#define deerlapse_quic_next_secret deerlapse_quic_next_secret_nullable
+
+DEERLAPSE_WRAPS(1, 7)
+bool deerlapse_quic_key_seal_nullable(const deerlapse_quic_key *key, uint64_t number, const uint8_t *header,
+                                      size_t header_len, uint8_t *payload, size_t payload_len,
+                                      uint8_t tag[DEERLAPSE_TAG_LEN]) {
+    return deerlapse_quic_key_seal(key, number, deerlapse_to_read(header, header_len), header_len,
+                                   deerlapse_to_write(payload, payload_len), payload_len, tag);
+}
+#define deerlapse_quic_key_seal deerlapse_quic_key_seal_nullable
+
+DEERLAPSE_WRAPS(1, 7)
+bool deerlapse_quic_key_open_nullable(const deerlapse_quic_key *key, uint64_t number, const uint8_t *header,
+                                      size_t header_len, uint8_t *payload, size_t payload_len, size_t *plaintext_len) {
+    return deerlapse_quic_key_open(key, number, deerlapse_to_read(header, header_len), header_len,
+                                   deerlapse_to_write(payload, payload_len), payload_len, plaintext_len);
+}
+#define deerlapse_quic_key_open deerlapse_quic_key_open_nullable
+
+DEERLAPSE_WRAPS(1, 4)
+bool deerlapse_record_key_init_nullable(deerlapse_record_key *key, const uint8_t *bytes, size_t len,
+                                        const uint8_t iv[DEERLAPSE_NONCE_LEN]) {
+    return deerlapse_record_key_init(key, deerlapse_to_read(bytes, len), len, iv);
+}
+#define deerlapse_record_key_init deerlapse_record_key_init_nullable
+
+DEERLAPSE_WRAPS(1)
+bool deerlapse_record_key_from_secret_nullable(deerlapse_record_key *key, const uint8_t *secret, size_t secret_len) {
+    return deerlapse_record_key_from_secret(key, deerlapse_to_read(secret, secret_len), secret_len);
+}
+#define deerlapse_record_key_from_secret deerlapse_record_key_from_secret_nullable
+
+DEERLAPSE_WRAPS_NULLABLE
+bool deerlapse_tls_next_secret_nullable(uint8_t *secret, size_t secret_len) {
+    return deerlapse_tls_next_secret(deerlapse_to_write(secret, secret_len), secret_len);
+}
+#define deerlapse_tls_next_secret deerlapse_tls_next_secret_nullable
+
+DEERLAPSE_WRAPS(1)
+bool deerlapse_record_key_seal_nullable(const deerlapse_record_key *key, uint64_t number, uint8_t content_type,
+                                        uint8_t *payload, size_t payload_len, size_t content_len) {
+    return deerlapse_record_key_seal(key, number, content_type, deerlapse_to_write(payload, payload_len), payload_len,
+                                     content_len);
+}
+#define deerlapse_record_key_seal deerlapse_record_key_seal_nullable
+
+DEERLAPSE_WRAPS(1, 5, 6)
+bool deerlapse_record_key_open_nullable(const deerlapse_record_key *key, uint64_t number, uint8_t *payload,
+                                        size_t payload_len, uint8_t *content_type, size_t *content_len) {
+    return deerlapse_record_key_open(key, number, deerlapse_to_write(payload, payload_len), payload_len, content_type,
+                                     content_len);
+}
+#define deerlapse_record_key_open deerlapse_record_key_open_nullable
+
 DEERLAPSE_WRAPS(3, 4)
 bool deerlapse_mask_aes_nullable(const uint8_t *key, size_t key_len, const uint8_t sample[DEERLAPSE_SAMPLE_LEN],
                                  uint8_t mask[DEERLAPSE_MASK_LEN]) {
@@ -570,5 +904,6 @@ bool deerlapse_chacha20_nullable(const uint8_t key[32], const uint8_t nonce[DEER
 #undef DEERLAPSE_CALL
 #undef DEERLAPSE_NODISCARD
 #undef DEERLAPSE_WRAPS
+#undef DEERLAPSE_WRAPS_NULLABLE
 
 #endif
