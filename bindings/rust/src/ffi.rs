@@ -27,6 +27,20 @@ pub(crate) struct Opener {
     pub(crate) words: [u64; 430],
 }
 
+/// `deerlapse_quic_key`.
+#[repr(C)]
+#[derive(Clone)]
+pub(crate) struct QuicKey {
+    pub(crate) words: [u64; 401],
+}
+
+/// `deerlapse_record_key`.
+#[repr(C)]
+#[derive(Clone)]
+pub(crate) struct RecordKey {
+    pub(crate) words: [u64; 401],
+}
+
 #[cfg(feature = "system")]
 #[link(name = "deerlapse")]
 extern "C" {}
@@ -226,6 +240,128 @@ functions! {
         start: usize,
         plaintext_len: &mut usize,
     ) -> bool;
+
+    fn hmac(
+        key: *const u8,
+        key_len: usize,
+        message: *const u8,
+        message_len: usize,
+        code: *mut u8,
+        code_len: usize,
+    ) -> bool;
+
+    fn hkdf_extract(
+        salt: *const u8,
+        salt_len: usize,
+        ikm: *const u8,
+        ikm_len: usize,
+        prk: *mut u8,
+        prk_len: usize,
+    ) -> bool;
+
+    fn hkdf_expand(
+        prk: *const u8,
+        prk_len: usize,
+        info: *const u8,
+        info_len: usize,
+        out: *mut u8,
+        out_len: usize,
+    ) -> bool;
+
+    fn hkdf_expand_label(
+        secret: *const u8,
+        secret_len: usize,
+        label: *const u8,
+        label_len: usize,
+        context: *const u8,
+        context_len: usize,
+        out: *mut u8,
+        out_len: usize,
+    ) -> bool;
+
+    fn quic_key_init(
+        key: &mut QuicKey,
+        bytes: *const u8,
+        len: usize,
+        iv: &[u8; 12],
+    ) -> bool;
+
+    fn quic_key_from_secret(
+        key: &mut QuicKey,
+        version: u32,
+        secret: *const u8,
+        secret_len: usize,
+    ) -> bool;
+
+    fn quic_header_key_from_secret(
+        key: &mut Key,
+        version: u32,
+        secret: *const u8,
+        secret_len: usize,
+    ) -> bool;
+
+    fn quic_initial_secrets(
+        version: u32,
+        id: *const u8,
+        id_len: usize,
+        client: &mut [u8; 32],
+        server: &mut [u8; 32],
+    ) -> bool;
+
+    fn quic_next_secret(version: u32, secret: *mut u8, secret_len: usize) -> bool;
+
+    fn quic_key_seal(
+        key: &QuicKey,
+        number: u64,
+        header: *const u8,
+        header_len: usize,
+        payload: *mut u8,
+        payload_len: usize,
+        tag: &mut [u8; 16],
+    ) -> bool;
+
+    fn quic_key_open(
+        key: &QuicKey,
+        number: u64,
+        header: *const u8,
+        header_len: usize,
+        payload: *mut u8,
+        payload_len: usize,
+        plaintext_len: &mut usize,
+    ) -> bool;
+
+    fn record_key_init(
+        key: &mut RecordKey,
+        bytes: *const u8,
+        len: usize,
+        iv: &[u8; 12],
+    ) -> bool;
+
+    fn record_key_from_secret(
+        key: &mut RecordKey,
+        secret: *const u8,
+        secret_len: usize,
+    ) -> bool;
+
+    fn tls_next_secret(secret: *mut u8, secret_len: usize) -> bool;
+
+    fn record_key_seal(
+        key: &RecordKey,
+        number: u64,
+        content_type: u8,
+        payload: *mut u8,
+        payload_len: usize,
+        content_len: usize,
+    ) -> bool;
+
+    fn record_key_open(
+        key: &RecordKey,
+        number: u64,
+        payload: *mut u8,
+        payload_len: usize,
+        content_type: &mut u8,
+        content_len: &mut usize,
+    ) -> bool;
 }
 
 // The others, which do as much at either level: by what the program is compiled for.
@@ -245,6 +381,10 @@ functions! {
     fn opener_next(opener: &Opener) -> u64;
 
     fn opener_wipe(opener: &mut Opener);
+
+    fn quic_key_wipe(key: &mut QuicKey);
+
+    fn record_key_wipe(key: &mut RecordKey);
 
     fn nonce(iv: &[u8; 12], number: u64, nonce: &mut [u8; 12]);
 

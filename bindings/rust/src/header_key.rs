@@ -1,6 +1,6 @@
 //! A key of QUIC's header protection that is expanded once.
 
-use crate::{accepted, cpu, ffi, Unspecified, MASK_LEN, SAMPLE_LEN};
+use crate::{accepted, cpu, ffi, QuicVersion, Unspecified, MASK_LEN, SAMPLE_LEN};
 use core::fmt;
 
 /// An AES key of QUIC's header protection (RFC 9001 section 5.4.3), which is expanded once and makes many masks.
@@ -42,6 +42,41 @@ impl HeaderProtectionKey {
         Ok(HeaderProtectionKey(ffi::Key::new(key_bytes)?))
     }
 
+    /// Creates the key of a secret (RFC 9001 section 5.1, RFC 9369 section 3.3.2), which has 32 bytes for
+    /// TLS_AES_128_GCM_SHA256 and 48 for TLS_AES_256_GCM_SHA384. A key update leaves it as it is (RFC 9001 section 6.1).
+    ///
+    /// # Errors
+    ///
+    /// Fails if the secret has any other length.
+    ///
+    /// # Examples
+    ///
+    /// ```
+    /// use deerlapse::{quic_initial_secrets, HeaderProtectionKey, QuicVersion};
+    ///
+    /// // RFC 9001 appendices A.1 and A.2
+    /// let id: u64 = 0x8394c8f03e515708;
+    /// let (client, _) = quic_initial_secrets(QuicVersion::V1, &id.to_be_bytes())?;
+    /// let key = HeaderProtectionKey::from_secret(QuicVersion::V1, &client)?;
+    /// let sample: u128 = 0xd1b1c98dd7689fb8ec11d242b123dc9b;
+    /// assert_eq!(key.new_mask(&sample.to_be_bytes()), [0x43, 0x7b, 0x9a, 0xec, 0x36]);
+    /// # Ok::<(), deerlapse::Unspecified>(())
+    /// ```
+    pub fn from_secret(version: QuicVersion, secret: &[u8]) -> Result<Self, Unspecified> {
+        cpu::require();
+        let mut key = ffi::Key { words: [0; 399] };
+        // SAFETY: the pointer and its length are those of one slice, and the key is borrowed for writing.
+        accepted(unsafe {
+            ffi::quic_header_key_from_secret(
+                &mut key,
+                version as u32,
+                secret.as_ptr(),
+                secret.len(),
+            )
+        })?;
+        Ok(HeaderProtectionKey(key))
+    }
+
     /// Returns the mask of 5 bytes for a sample of 16 bytes.
     ///
     /// ```
@@ -54,7 +89,7 @@ impl HeaderProtectionKey {
     #[must_use]
     pub fn new_mask(&self, sample: &[u8; SAMPLE_LEN]) -> [u8; MASK_LEN] {
         let mut mask = [0; MASK_LEN];
-        // SAFETY: the parameters are references, and `new` filled the key.
+        // SAFETY: the parameters are references, and `new` or `from_secret` filled the key.
         let made = unsafe { ffi::key_mask(&self.0, sample, &mut mask) };
         accepted(made).expect("the key is not zeros");
         mask

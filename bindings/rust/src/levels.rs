@@ -1,7 +1,10 @@
 //! Tests of both levels of x86-64 on one machine.
 
 use crate::asm::{tests::say, TEXTS};
-use crate::{cpu, nonce_of, LessSafeKey, Opener, Sealer, Unspecified};
+use crate::{
+    cpu, nonce_of, HeaderProtectionKey, LessSafeKey, Opener, QuicKey, QuicVersion, RecordKey,
+    Sealer, Unspecified,
+};
 use std::error::Error;
 use std::sync::atomic::Ordering;
 
@@ -59,6 +62,60 @@ fn sealed(made: u8, used: u8, key_bytes: &[u8], message: &[u8]) -> Result<Vec<u8
     Ok(sealed)
 }
 
+/// A payload that is protected as a packet's and as a record's, and a mask, under keys that are made from a secret at one level
+/// and used at another. Each payload is opened at each level.
+fn protected(made: u8, used: u8, secret: &[u8], content: &[u8]) -> Result<Vec<u8>, Unspecified> {
+    take(made);
+    let of_packets = QuicKey::from_secret(QuicVersion::V2, secret)?;
+    let of_headers = HeaderProtectionKey::from_secret(QuicVersion::V2, secret)?;
+    let of_records = RecordKey::from_secret(secret)?;
+
+    take(used);
+    let mut packet = content.to_vec();
+    let tag = of_packets.seal_in_place_separate_tag(3, b"header", &mut packet)?;
+    packet.extend(tag);
+    let mut record = content.to_vec();
+    record.resize(content.len() + 20, 0);
+    of_records.seal_in_place(3, 23, &mut record, content.len())?;
+    let mask = of_headers.new_mask(&tag);
+
+    for level in [2, 3] {
+        take(level);
+        let opened = of_packets
+            .open_in_place(3, b"header", &mut packet.clone())?
+            .to_vec();
+        assert_eq!(opened, content);
+        let mut record = record.clone();
+        let (content_type, opened) = of_records.open_in_place(3, &mut record)?;
+        assert_eq!((content_type, &*opened), (23, content));
+        assert_eq!(of_headers.new_mask(&tag), mask);
+    }
+    Ok([packet, record, mask.to_vec()].concat())
+}
+
+/// Tries keys that are made at each level and used at each.
+fn each_pair_of_levels() -> Result<(), Unspecified> {
+    let bytes: Vec<u8> = (0..2000).map(|i| (i * i / 7) as u8).collect();
+    for len in (0..=600).chain([1350, 2000]) {
+        let message = &bytes[..len];
+        for key_len in [16, 32] {
+            let key = &bytes[100..100 + key_len];
+            let wanted = sealed(2, 2, key, message)?;
+            for (made, used) in [(2, 3), (3, 2), (3, 3)] {
+                assert_eq!(sealed(made, used, key, message)?, wanted);
+            }
+        }
+        for secret_len in [32, 48] {
+            let secret = &bytes[100..100 + secret_len];
+            let wanted = protected(2, 2, secret, message)?;
+            for (made, used) in [(2, 3), (3, 2), (3, 3)] {
+                assert_eq!(protected(made, used, secret, message)?, wanted);
+            }
+        }
+    }
+    Ok(())
+}
+
 #[test]
 fn each_level() -> Result<(), Box<dyn Error>> {
     if let Some(text) = obstacle() {
@@ -85,16 +142,15 @@ fn each_level() -> Result<(), Box<dyn Error>> {
         vectors::an_opener_counts_what_it_opens()?;
         vectors::a_dropped_key_is_wiped()?;
         vectors::masks_and_streams()?;
+        vectors::derives()?;
+        vectors::derives_the_secrets_of_tls()?;
+        vectors::refuses_to_derive();
+        vectors::derives_the_keys_of_quic()?;
+        vectors::derives_the_next_secrets()?;
+        vectors::protects_packets()?;
+        vectors::protects_records()?;
+        vectors::a_record_has_padding_and_limits()?;
     }
-    let bytes: Vec<u8> = (0..2000).map(|i| (i * i / 7) as u8).collect();
-    for len in (0..=600).chain([1350, 2000]) {
-        for key_len in [16, 32] {
-            let (key, message) = (&bytes[100..100 + key_len], &bytes[..len]);
-            let wanted = sealed(2, 2, key, message)?;
-            for (made, used) in [(2, 3), (3, 2), (3, 3)] {
-                assert_eq!(sealed(made, used, key, message)?, wanted);
-            }
-        }
-    }
+    each_pair_of_levels()?;
     Ok(())
 }

@@ -12,6 +12,7 @@ mod asm;
 mod cpu;
 mod ffi;
 mod header_key;
+mod hkdf;
 mod key;
 #[cfg(all(
     test,
@@ -23,15 +24,20 @@ mod levels;
 mod message;
 mod nonce;
 mod opener;
+mod quic_key;
+mod record_key;
 mod sealer;
 mod streams;
 
 pub use cpu::cpu_supported;
 pub use header_key::HeaderProtectionKey;
+pub use hkdf::{hkdf_expand, hkdf_expand_label, hkdf_extract, hmac};
 pub use key::LessSafeKey;
 pub use message::SealingMessage;
 pub use nonce::{nonce_of, Nonce};
 pub use opener::Opener;
+pub use quic_key::{quic_initial_secrets, quic_next_secret, QuicKey, QuicVersion};
+pub use record_key::{tls_next_secret, RecordKey};
 pub use sealer::Sealer;
 pub use streams::{chacha20, mask_aes, mask_chacha20};
 

@@ -2,8 +2,10 @@
 //! x86-64.
 
 use deerlapse::{
-    chacha20, mask_aes, mask_chacha20, nonce_of, HeaderProtectionKey, LessSafeKey, Nonce, Opener,
-    Sealer, SealingMessage, Unspecified,
+    chacha20, hkdf_expand, hkdf_expand_label, hkdf_extract, hmac, mask_aes, mask_chacha20,
+    nonce_of, quic_initial_secrets, quic_next_secret, tls_next_secret, HeaderProtectionKey,
+    LessSafeKey, Nonce, Opener, QuicKey, QuicVersion, RecordKey, Sealer, SealingMessage,
+    Unspecified,
 };
 use std::error::Error;
 use std::mem::{size_of, MaybeUninit};
@@ -275,6 +277,457 @@ pub fn an_opener_counts_what_it_opens() -> Result<(), Unspecified> {
     Ok(())
 }
 
+/// What a call writes to `N` bytes.
+fn written<const N: usize>(
+    write: impl FnOnce(&mut [u8]) -> Result<(), Unspecified>,
+) -> Result<[u8; N], Unspecified> {
+    let mut out = [0; N];
+    write(&mut out)?;
+    Ok(out)
+}
+
+/// The output of a label without a context.
+fn labeled<const N: usize>(secret: &[u8], label: &str) -> Result<[u8; N], Unspecified> {
+    written(|out| hkdf_expand_label(secret, label.as_bytes(), b"", out))
+}
+
+#[test]
+pub fn derives() -> Result<(), Unspecified> {
+    // RFC 4231 section 4.3
+    let message = b"what do ya want for nothing?";
+    assert_eq!(
+        written(|code| hmac(b"Jefe", message, code))?,
+        array::<32>("5bdcc146bf60754e6a042426089575c75a003f089d2739839dec58b964ec3843")
+    );
+    assert_eq!(
+        written(|code| hmac(b"Jefe", message, code))?,
+        array::<48>(
+            "af45d2e376484031617f78d2b58a6b1b9c7ef464f5a01b47e42ec3736322445e\
+             8e2240ca5e69e2c78b3239ecfab21649"
+        )
+    );
+
+    // RFC 5869 appendix A.1
+    let salt = hex("000102030405060708090a0b0c");
+    let prk: [u8; 32] = written(|prk| hkdf_extract(&salt, &[0x0b; 22], prk))?;
+    assert_eq!(
+        prk,
+        array("077709362c2e32df0ddc3f0dc47bba6390b6c73bb50f9c3122ec844ad7c2b3e5")
+    );
+    assert_eq!(
+        written(|out| hkdf_expand(&prk, &hex("f0f1f2f3f4f5f6f7f8f9"), out))?,
+        array::<42>(
+            "3cb25f25faacd57a90434f64d0362f2a2d2d0a90cf1a5a4c5db02d56ecc4c5bf\
+             34007208d5b887185865"
+        )
+    );
+    Ok(())
+}
+
+// RFC 8448 section 3: from no secret to the client's secret of the handshake.
+#[test]
+pub fn derives_the_secrets_of_tls() -> Result<(), Unspecified> {
+    let shared = hex("8bd4054fb55b9d63fdfbacf9f04b9f0d35e6d63f537563efd46272900f89492d");
+    let no_messages = hex("e3b0c44298fc1c149afbf4c8996fb92427ae41e4649b934ca495991b7852b855");
+    let hellos = hex("860c06edc07858ee8e78f0e7428c58edd6b43f2ca3e6e95f02ed063cf0e1cad8");
+    let early: [u8; 32] = written(|prk| hkdf_extract(&[0; 32], &[0; 32], prk))?;
+    assert_eq!(
+        early,
+        array("33ad0a1c607ec03b09e6cd9893680ce210adf300aa1f2660e1b22e10f170f92a")
+    );
+    let salt: [u8; 32] = written(|out| hkdf_expand_label(&early, b"derived", &no_messages, out))?;
+    let handshake: [u8; 32] = written(|prk| hkdf_extract(&salt, &shared, prk))?;
+    assert_eq!(
+        written(|out| hkdf_expand_label(&handshake, b"c hs traffic", &hellos, out))?,
+        array::<32>("b3eddb126e067f35a780b3abf45e2d8f3b1a950738f52e9600746a0e27a55a21")
+    );
+    Ok(())
+}
+
+#[test]
+pub fn refuses_to_derive() {
+    let mut out = [7; 48 * 255 + 1];
+    for len in [0, 16, 31, 33, 47, 49, 64] {
+        let out = &mut out[..len];
+        let secret = &vec![7; len];
+        assert_eq!(hmac(b"", b"", out), Err(Unspecified));
+        assert_eq!(hkdf_extract(b"", b"", out), Err(Unspecified));
+        assert_eq!(hkdf_expand(secret, b"", out), Err(Unspecified));
+        assert_eq!(
+            hkdf_expand_label(secret, b"key", b"", out),
+            Err(Unspecified)
+        );
+        assert_eq!(tls_next_secret(out), Err(Unspecified));
+        assert!(RecordKey::from_secret(secret).is_err());
+        for version in [QuicVersion::V1, QuicVersion::V2] {
+            assert_eq!(quic_next_secret(version, out), Err(Unspecified));
+            assert!(QuicKey::from_secret(version, secret).is_err());
+            assert!(HeaderProtectionKey::from_secret(version, secret).is_err());
+        }
+    }
+    for len in [32, 48] {
+        let secret = &vec![7; len];
+        let longest = &mut out[..len * 255 + 1];
+        assert_eq!(hkdf_expand(secret, b"", longest), Err(Unspecified));
+        for (label, context) in [(0, 0), (250, 0), (1, 256)] {
+            let (label, context) = (&vec![1; label], &vec![2; context]);
+            let derived = hkdf_expand_label(secret, label, context, &mut out[..16]);
+            assert_eq!(derived, Err(Unspecified));
+        }
+    }
+    assert_eq!(
+        quic_initial_secrets(QuicVersion::V1, &[0; 21]),
+        Err(Unspecified)
+    );
+    assert!(out.iter().all(|&byte| byte == 7));
+}
+
+/// A secret of QUIC, and the keys and the IV that come from it.
+struct QuicSecret {
+    secret: &'static str,
+    key: &'static str,
+    iv: &'static str,
+    header_key: &'static str,
+}
+
+// RFC 9001 appendix A.1 and RFC 9369 appendix A.1: the client's and the server's.
+const INITIAL_SECRETS: [(QuicVersion, &str, [QuicSecret; 2]); 2] = [
+    (
+        QuicVersion::V1,
+        "quic",
+        [
+            QuicSecret {
+                secret: "c00cf151ca5be075ed0ebfb5c80323c42d6b7db67881289af4008f1f6c357aea",
+                key: "1f369613dd76d5467730efcbe3b1a22d",
+                iv: "fa044b2f42a3fd3b46fb255c",
+                header_key: "9f50449e04a0e810283a1e9933adedd2",
+            },
+            QuicSecret {
+                secret: "3c199828fd139efd216c155ad844cc81fb82fa8d7446fa7d78be803acdda951b",
+                key: "cf3a5331653c364c88f0f379b6067e37",
+                iv: "0ac1493ca1905853b0bba03e",
+                header_key: "c206b8d9b9f0f37644430b490eeaa314",
+            },
+        ],
+    ),
+    (
+        QuicVersion::V2,
+        "quicv2",
+        [
+            QuicSecret {
+                secret: "14ec9d6eb9fd7af83bf5a668bc17a7e283766aade7ecd0891f70f9ff7f4bf47b",
+                key: "8b1a0bc121284290a29e0971b5cd045d",
+                iv: "91f73e2351d8fa91660e909f",
+                header_key: "45b95e15235d6f45a6b19cbcb0294ba9",
+            },
+            QuicSecret {
+                secret: "0263db1782731bf4588e7e4d93b7463907cb8cd8200b5da55a8bd488eafc37c1",
+                key: "82db637861d55e1d011f19ea71d5d2a7",
+                iv: "dd13c276499c0249d3310652",
+                header_key: "edf6d05c83121201b436e16877593c3a",
+            },
+        ],
+    ),
+];
+
+#[test]
+pub fn derives_the_keys_of_quic() -> Result<(), Unspecified> {
+    for (version, prefix, of_both) in &INITIAL_SECRETS {
+        let (client, server) = quic_initial_secrets(*version, &hex("8394c8f03e515708"))?;
+        for (secret, wanted) in [client, server].iter().zip(of_both) {
+            assert_eq!(*secret, array(wanted.secret));
+            let key: [u8; 16] = labeled(secret, &format!("{prefix} key"))?;
+            let iv = labeled(secret, &format!("{prefix} iv"))?;
+            let header_key: [u8; 16] = labeled(secret, &format!("{prefix} hp"))?;
+            assert_eq!((key, iv), (array(wanted.key), array(wanted.iv)));
+            assert_eq!(header_key, array(wanted.header_key));
+            let keys = [
+                QuicKey::new(&key, &iv)?,
+                QuicKey::from_secret(*version, secret)?,
+            ];
+            let [one, other] = keys.map(|key| key.seal_in_place_separate_tag(9, b"", &mut []));
+            assert_eq!(one?, other?);
+            let derived = HeaderProtectionKey::from_secret(*version, secret)?;
+            let wanted = HeaderProtectionKey::new(&header_key)?;
+            assert_eq!(derived.new_mask(&[3; 16]), wanted.new_mask(&[3; 16]));
+        }
+    }
+    Ok(())
+}
+
+#[test]
+pub fn derives_the_next_secrets() -> Result<(), Unspecified> {
+    // RFC 9001 appendix A.5 and RFC 9369 appendix A.5
+    let secret = hex("9ac312a7f877468ebe69422748ad00a15443f18203a07d6060f688f30f21632b");
+    for (version, wanted) in [
+        (
+            QuicVersion::V1,
+            "1223504755036d556342ee9361d253421a826c9ecdf3c7148684b36b714881f9",
+        ),
+        (
+            QuicVersion::V2,
+            "c69374c49e3d2a9466fa689e49d476db5d0dfbc87d32ceeaa6343fd0ae4c7d88",
+        ),
+    ] {
+        let mut next = secret.clone();
+        quic_next_secret(version, &mut next)?;
+        assert_eq!(next, hex(wanted));
+    }
+
+    // RFC 8446 section 7.2, by `openssl kdf`
+    let mut secret: [u8; 48] = array(
+        "96c79661f36a8a25c75c8cfe81a72ca9275b99e4ac4572abe8c70485ed9cc7bb\
+         1ff8741a377c3e90ad0e065751201c94",
+    );
+    tls_next_secret(&mut secret)?;
+    let wanted = array(
+        "6aa2fdcaaae846a7e69780c69950ee743afd5c37be7d44aa63eb0c930d824182\
+         02ef77c1db2274de43fcebdb74df0fef",
+    );
+    assert_eq!(secret, wanted);
+    Ok(())
+}
+
+/// A packet of QUIC, whose payload ends in zeros up to a length, its masked header and its tag.
+struct Packet {
+    version: QuicVersion,
+    secret: &'static str,
+    number: u64,
+    header: &'static str,
+    payload: &'static str,
+    payload_len: usize,
+    masked: &'static str,
+    tag: &'static str,
+}
+
+// RFC 9001 appendix A.2: the client's first payload, without the zeros.
+const CLIENT_HELLO: &str =
+    "060040f1010000ed0303ebf8fa56f12939b9584a3896472ec40bb863cfd3e86804fe3a47f06a2b69484c000004130113\
+    02010000c000000010000e00000b6578616d706c652e636f6dff01000100000a00080006001d00170018001000070005\
+    04616c706e000500050100000000003300260024001d00209370b2c9caa47fbabaf4559fedba753de171fa71f50f1ce1\
+    5d43e994ec74d748002b0003020304000d0010000e0403050306030203080408050806002d00020101001c0002400100\
+    3900320408ffffffffffffffff05048000ffff07048000ffff0801100104800075300901100f088394c8f03e51570806\
+    048000ffff";
+
+// RFC 9001 and RFC 9369, appendices A.2 and A.3.
+const PACKETS: [Packet; 4] = [
+    Packet {
+        version: QuicVersion::V1,
+        secret: INITIAL_SECRETS[0].2[0].secret,
+        number: 2,
+        header: "c300000001088394c8f03e5157080000449e00000002",
+        payload: CLIENT_HELLO,
+        payload_len: 1162,
+        masked: "c000000001088394c8f03e5157080000449e7b9aec34",
+        tag: "e221af44860018ab0856972e194cd934",
+    },
+    Packet {
+        version: QuicVersion::V1,
+        secret: INITIAL_SECRETS[0].2[1].secret,
+        number: 1,
+        header: HEADER,
+        payload: PAYLOAD,
+        payload_len: 99,
+        masked: "cf000000010008f067a5502a4262b5004075c0d9",
+        tag: "3d20398c276456cbc42158407dd074ee",
+    },
+    Packet {
+        version: QuicVersion::V2,
+        secret: INITIAL_SECRETS[1].2[0].secret,
+        number: 2,
+        header: "d36b3343cf088394c8f03e5157080000449e00000002",
+        payload: CLIENT_HELLO,
+        payload_len: 1162,
+        masked: "d76b3343cf088394c8f03e5157080000449ea0c95e82",
+        tag: "a18b2faa745b6fe189cf772a9f84cbfc",
+    },
+    Packet {
+        version: QuicVersion::V2,
+        secret: INITIAL_SECRETS[1].2[1].secret,
+        number: 1,
+        header: "d16b3343cf0008f067a5502a4262b50040750001",
+        payload: PAYLOAD,
+        payload_len: 99,
+        masked: "dc6b3343cf0008f067a5502a4262b5004075d92f",
+        tag: "1a3e2c43edd9ce7ca84bed8521e2e140",
+    },
+];
+
+/// A long header with its mask, which hides four bits of the first byte, and the number at the end. The sample begins four
+/// bytes after the start of the number (RFC 9001 sections 5.4.1 and 5.4.2).
+fn masked(key: &HeaderProtectionKey, header: &[u8], payload: &[u8]) -> Vec<u8> {
+    let number_len = usize::from(header[0] & 3) + 1;
+    let sample = &payload[4 - number_len..][..16];
+    let mask = key.new_mask(sample.try_into().expect("16 bytes"));
+    let mut header = header.to_vec();
+    header[0] ^= mask[0] & 0x0f;
+    for (byte, mask) in header
+        .iter_mut()
+        .rev()
+        .take(number_len)
+        .zip(mask[1..=number_len].iter().rev())
+    {
+        *byte ^= mask;
+    }
+    header
+}
+
+#[test]
+pub fn protects_packets() -> Result<(), Unspecified> {
+    for packet in PACKETS {
+        let (secret, header, number) = (hex(packet.secret), hex(packet.header), packet.number);
+        let mut plaintext = hex(packet.payload);
+        plaintext.resize(packet.payload_len, 0);
+        let key = QuicKey::from_secret(packet.version, &secret)?;
+        let mut payload = plaintext.clone();
+        let tag = key.seal_in_place_separate_tag(number, &header, &mut payload)?;
+        assert_eq!(tag, array(packet.tag));
+        payload.extend(tag);
+        let header_key = HeaderProtectionKey::from_secret(packet.version, &secret)?;
+        assert_eq!(masked(&header_key, &header, &payload), hex(packet.masked));
+
+        let sealed = payload.clone();
+        for (number, header, len) in [
+            (number + 1, &*header, payload.len()),
+            (1 << 62, &header, payload.len()),
+            (number, b"another", payload.len()),
+            (number, &header, 15),
+        ] {
+            let opened = key.open_in_place(number, header, &mut payload[..len]);
+            assert_eq!(opened, Err(Unspecified));
+        }
+        assert_eq!(payload, sealed);
+        assert_eq!(key.open_in_place(number, &header, &mut payload)?, plaintext);
+        let sealed = key.seal_in_place_separate_tag(1 << 62, &header, &mut payload);
+        assert_eq!(sealed, Err(Unspecified));
+    }
+    Ok(())
+}
+
+/// A record of TLS 1.3: its secret, number, type and content, and its bytes after the header.
+struct Record {
+    secret: &'static str,
+    number: u64,
+    content_type: u8,
+    content: &'static str,
+    payload: &'static str,
+}
+
+const CLIENT: &str = "9e40646ce79a7f9dc05af8889bce6552875afa0b06df0087f792ebb7c17504a5";
+const SERVER: &str = "a11af9f05531f856ad47116b45a950328204b4f44bfb6b3a4b4f1f3fcb631643";
+const DATA: &str = "000102030405060708090a0b0c0d0e0f101112131415161718191a1b1c1d1e1f\
+    202122232425262728292a2b2c2d2e2f3031";
+
+// RFC 8448 section 3: the client's Finished, the application data of both ends, and their alerts.
+const RECORDS: [Record; 5] = [
+    Record {
+        secret: "b3eddb126e067f35a780b3abf45e2d8f3b1a950738f52e9600746a0e27a55a21",
+        number: 0,
+        content_type: 22,
+        content: "14000020a8ec436d677634ae525ac1fcebe11a039ec17694fac6e98527b642f2edd5ce61",
+        payload: "75ec4dc238cce60b298044a71e219c56cc77b0517fe9b93c7a4bfc44d87f38f8\
+            0338ac98fc46deb384bd1caeacab6867d726c40546",
+    },
+    Record {
+        secret: CLIENT,
+        number: 0,
+        content_type: 23,
+        content: DATA,
+        payload: "a23f7054b62c94d0affafe8228ba55cbefacea42f914aa66bcab3f2b9819a8a5\
+            b46b395bd54a9a20441e2b62974e1f5a6292a2977014bd1e3deae63aeebb21694915e4",
+    },
+    Record {
+        secret: SERVER,
+        number: 1,
+        content_type: 23,
+        content: DATA,
+        payload: "2e937e11ef4ac740e538ad36005fc4a46932fc3225d05f82aa1b36e30efaf97d\
+            90e6dffc602dcb501a59a8fcc49c4bf2e5f0a21c0047c2abf332540dd032e167c2955d",
+    },
+    Record {
+        secret: CLIENT,
+        number: 1,
+        content_type: 21,
+        content: "0100",
+        payload: "c9872760655666b74d7ff1153efd6db6d0b0e3",
+    },
+    Record {
+        secret: SERVER,
+        number: 2,
+        content_type: 21,
+        content: "0100",
+        payload: "b58fd67166ebf599d24720cfbe7efa7a8864a9",
+    },
+];
+
+#[test]
+pub fn protects_records() -> Result<(), Unspecified> {
+    for record in RECORDS {
+        let secret = hex(record.secret);
+        let (content, sealed) = (hex(record.content), hex(record.payload));
+        let keys = [
+            RecordKey::from_secret(&secret)?,
+            RecordKey::new(
+                &labeled::<16>(&secret, "key")?,
+                &labeled::<12>(&secret, "iv")?,
+            )?,
+        ];
+        for key in keys {
+            let mut payload = content.clone();
+            payload.resize(content.len() + 17, 0xff);
+            key.seal_in_place(
+                record.number,
+                record.content_type,
+                &mut payload,
+                content.len(),
+            )?;
+            assert_eq!(payload, sealed);
+            let another = key.open_in_place(record.number + 1, &mut payload);
+            assert_eq!(another, Err(Unspecified));
+            assert_eq!(payload, sealed);
+            let opened = key.open_in_place(record.number, &mut payload)?;
+            assert_eq!(opened, (record.content_type, content.clone().as_mut()));
+        }
+    }
+    Ok(())
+}
+
+#[test]
+pub fn a_record_has_padding_and_limits() -> Result<(), Unspecified> {
+    let (bytes, iv) = ([7; 32], [9; 12]);
+    let key = RecordKey::new(&bytes, &iv)?;
+    let mut payload = [7; (1 << 14) + 18];
+    for (content_type, len, content_len) in [(0, 22, 5), (23, 22, 6), (23, 16, 0), (23, 16402, 5)] {
+        let sealed = key.seal_in_place(3, content_type, &mut payload[..len], content_len);
+        assert_eq!(sealed, Err(Unspecified));
+    }
+    assert!(payload.iter().all(|&byte| byte == 7));
+    for len in [22, 23, 100, 16401] {
+        let payload = &mut payload[..len];
+        payload[..5].copy_from_slice(b"hello");
+        key.seal_in_place(3, 23, payload, 5)?;
+        assert_eq!(
+            key.open_in_place(3, payload)?,
+            (23, b"hello".to_vec().as_mut())
+        );
+        assert!(payload[6..len - 16].iter().all(|&byte| byte == 0));
+    }
+
+    // Authentic records without a type. The last two have lengths that TLS doesn't have.
+    for len in [17, 100, (1 << 14) + 256, 16, (1 << 14) + 257] {
+        let mut payload = vec![0; len - 16];
+        let header = [23, 3, 3, (len >> 8) as u8, len as u8];
+        let key_of_all = LessSafeKey::new(&bytes)?;
+        key_of_all.seal_in_place_append_tag(nonce_of(&iv, 3), &header, &mut payload)?;
+        let wanted: Result<(u8, &mut [u8]), _> = match len {
+            17..=16640 => Ok((0, &mut [])),
+            _ => Err(Unspecified),
+        };
+        assert_eq!(key.open_in_place(3, &mut payload), wanted);
+    }
+    Ok(())
+}
+
 /// The bytes of a value after it is dropped in place.
 fn dropped<T>(value: T) -> Vec<u8> {
     let mut place = MaybeUninit::new(value);
@@ -308,6 +761,10 @@ pub fn a_dropped_key_is_wiped() -> Result<(), Unspecified> {
     );
     let key = HeaderProtectionKey::new(&[7; 32])?;
     assert!(dropped(key).iter().all(|&byte| byte == 0));
+    let key = QuicKey::new(&[7; 32], &[7; 12])?;
+    assert!(dropped(key).iter().all(|&byte| byte == 0));
+    let key = RecordKey::new(&[7; 32], &[7; 12])?;
+    assert!(dropped(key).iter().all(|&byte| byte == 0));
     Ok(())
 }
 
@@ -319,6 +776,8 @@ fn threads_may_have_each_type() {
     may::<Sealer>();
     may::<Opener>();
     may::<HeaderProtectionKey>();
+    may::<QuicKey>();
+    may::<RecordKey>();
 }
 
 #[test]
@@ -356,6 +815,10 @@ fn prints_no_secret() -> Result<(), Box<dyn Error>> {
     assert_eq!(format!("{message:?}"), "SealingMessage { .. }");
     let key = HeaderProtectionKey::new(&[7; 16])?;
     assert_eq!(format!("{key:?}"), "HeaderProtectionKey { .. }");
+    let key = QuicKey::new(&[7; 16], &[7; 12])?;
+    assert_eq!(format!("{key:?}"), "QuicKey { .. }");
+    let key = RecordKey::new(&[7; 16], &[7; 12])?;
+    assert_eq!(format!("{key:?}"), "RecordKey { .. }");
     let sealer = Sealer::new(&[7; 32], &[7; 12], 3..9)?;
     assert_eq!(format!("{sealer:?}"), "Sealer { numbers_left: 3..9, .. }");
     let opener = Opener::new(&[7; 32], &[7; 12], 3..9)?;
