@@ -1,10 +1,11 @@
-//! The two algorithms, and a key with its nonces.
+//! The two algorithms.
 
-use deerlapse::{nonce_of, LessSafeKey, Nonce, NONCE_LEN};
+use deerlapse::NONCE_LEN;
 use rustls::crypto::cipher::{AeadKey, Iv};
 use rustls::ConnectionTrafficSecrets;
 
-/// AES-GCM, by the length of its keys. It implements rustls' traits for TLS 1.3, TLS 1.2 and QUIC.
+/// AES-GCM, by the length of its keys. It implements rustls' traits for TLS 1.3, TLS 1.2 and QUIC, and for TLS 1.3 and QUIC
+/// those of HKDF too, with the hash function of the suite.
 pub(crate) enum Gcm {
     Aes128,
     Aes256,
@@ -19,6 +20,15 @@ impl Gcm {
         }
     }
 
+    /// The length of an output of the suite's hash function in TLS 1.3, in bytes: SHA-256, or SHA-384 for AES-256-GCM (RFC 8446
+    /// appendix B.4).
+    pub(crate) fn hash_len(&self) -> usize {
+        match self {
+            Gcm::Aes128 => 32,
+            Gcm::Aes256 => 48,
+        }
+    }
+
     /// A key and an IV in the form in which rustls gives them to its caller, for example for the kernel.
     pub(crate) fn secrets(&self, key: AeadKey, iv: Iv) -> ConnectionTrafficSecrets {
         match self {
@@ -28,29 +38,7 @@ impl Gcm {
     }
 }
 
-/// An expanded key and an IV, of one direction of a connection.
-pub(crate) struct Direction {
-    pub(crate) key: LessSafeKey,
-    iv: [u8; NONCE_LEN],
-}
-
-impl Direction {
-    /// Expands a key, whose length is that of a suite.
-    pub(crate) fn new(key: &AeadKey, iv: &Iv) -> Self {
-        Direction {
-            key: expanded(key),
-            iv: iv.as_ref().try_into().expect("an IV has 12 bytes"),
-        }
-    }
-
-    /// The nonce of a record or packet (RFC 8446 section 5.3, RFC 9001 section 5.3). Those of one direction have different
-    /// numbers, which rustls or the QUIC stack counts.
-    pub(crate) fn nonce(&self, number: u64) -> Nonce {
-        nonce_of(&self.iv, number)
-    }
-}
-
-/// Expands a key, whose length is that of a suite.
-pub(crate) fn expanded(key: &AeadKey) -> LessSafeKey {
-    LessSafeKey::new(key.as_ref()).expect("a suite's key has 16 or 32 bytes")
+/// The bytes of an IV.
+pub(crate) fn bytes(iv: &Iv) -> [u8; NONCE_LEN] {
+    iv.as_ref().try_into().expect("an IV has 12 bytes")
 }

@@ -3,6 +3,7 @@
 #![forbid(unsafe_code)]
 
 mod gcm;
+mod hkdf;
 mod quic;
 #[cfg(feature = "tls12")]
 mod tls12;
@@ -13,10 +14,12 @@ use rustls::crypto::CryptoProvider;
 use rustls::{CipherSuite, CipherSuiteCommon, SupportedCipherSuite, Tls13CipherSuite};
 
 /// Returns the provider with AES-GCM by `deerlapse` in each of its AES-GCM suites of TLS 1.3 (RFC 8446 appendix B.4) and
-/// TLS 1.2 (RFC 5289 section 3.2), and with packet and header keys for QUIC (RFC 9001 section 5) in those of TLS 1.3.
+/// TLS 1.2 (RFC 5289 section 3.2), and in those of TLS 1.3 with HKDF and HMAC, and with packet and header keys for QUIC (RFC
+/// 9001 section 5), by `deerlapse` too.
 ///
-/// All else stays the provider's: key exchange, signatures, hashes, random numbers, the other suites, and how many records
-/// a key may seal. Packets have the limits of RFC 9001 section 6.6. No suite with AES-GCM by `deerlapse` is FIPS-approved.
+/// All else stays the provider's: key exchange, signatures, hashes of messages, the PRF of TLS 1.2, random numbers, the other
+/// suites, and how many records a key may seal. Packets have the limits of RFC 9001 section 6.6. No suite with AES-GCM by
+/// `deerlapse` is FIPS-approved.
 ///
 /// A call allocates up to six suites that are never freed, because rustls wants references to them that are valid forever.
 ///
@@ -60,7 +63,7 @@ fn with_gcm(suite: SupportedCipherSuite, gcm: &'static Gcm) -> SupportedCipherSu
         SupportedCipherSuite::Tls13(suite) => {
             SupportedCipherSuite::Tls13(Box::leak(Box::new(Tls13CipherSuite {
                 common: common(&suite.common),
-                hkdf_provider: suite.hkdf_provider,
+                hkdf_provider: gcm,
                 aead_alg: gcm,
                 quic: Some(gcm),
             })))

@@ -1,7 +1,7 @@
 //! Packets of QUIC (RFC 9001 section 5).
 
-use crate::gcm::{Direction, Gcm};
-use deerlapse::{MASK_LEN, SAMPLE_LEN, TAG_LEN};
+use crate::gcm::{bytes, Gcm};
+use deerlapse::{QuicKey, MASK_LEN, SAMPLE_LEN, TAG_LEN};
 use rustls::crypto::cipher::{AeadKey, Iv};
 use rustls::quic::{Algorithm, HeaderProtectionKey, PacketKey, Tag};
 use rustls::Error;
@@ -9,13 +9,14 @@ use rustls::Error;
 /// The bit of the first byte that a long header has (RFC 8999 section 5.1).
 const LONG_HEADER: u8 = 0x80;
 
-struct Packets(Direction);
+struct Packets(QuicKey);
 
 struct Headers(deerlapse::HeaderProtectionKey);
 
 impl Algorithm for Gcm {
     fn packet_key(&self, key: AeadKey, iv: Iv) -> Box<dyn PacketKey> {
-        Box::new(Packets(Direction::new(&key, &iv)))
+        let key = QuicKey::new(key.as_ref(), &bytes(&iv));
+        Box::new(Packets(key.expect("a suite's key has 16 or 32 bytes")))
     }
 
     fn header_protection_key(&self, key: AeadKey) -> Box<dyn HeaderProtectionKey> {
@@ -35,10 +36,8 @@ impl PacketKey for Packets {
         header: &[u8],
         payload: &mut [u8],
     ) -> Result<Tag, Error> {
-        let Packets(direction) = self;
-        direction
-            .key
-            .seal_in_place_separate_tag(direction.nonce(packet_number), header, payload)
+        let Packets(key) = self;
+        key.seal_in_place_separate_tag(packet_number, header, payload)
             .map(|tag| Tag::from(tag.as_slice()))
             .map_err(|_| Error::EncryptError)
     }
@@ -49,10 +48,8 @@ impl PacketKey for Packets {
         header: &[u8],
         payload: &'a mut [u8],
     ) -> Result<&'a [u8], Error> {
-        let Packets(direction) = self;
-        direction
-            .key
-            .open_in_place(direction.nonce(packet_number), header, payload)
+        let Packets(key) = self;
+        key.open_in_place(packet_number, header, payload)
             .map(|plaintext| &*plaintext)
             .map_err(|_| Error::DecryptError)
     }

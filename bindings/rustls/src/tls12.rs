@@ -1,7 +1,7 @@
 //! Records of TLS 1.2 (RFC 5246 section 6.2.3.3, RFC 5288 section 3).
 
-use crate::gcm::{expanded, Direction, Gcm};
-use deerlapse::{LessSafeKey, Nonce, NONCE_LEN, TAG_LEN};
+use crate::gcm::{bytes, Gcm};
+use deerlapse::{nonce_of, LessSafeKey, Nonce, NONCE_LEN, TAG_LEN};
 use rustls::crypto::cipher::{
     make_tls12_aad, AeadKey, InboundOpaqueMessage, InboundPlainMessage, Iv, KeyBlockShape,
     MessageDecrypter, MessageEncrypter, OutboundOpaqueMessage, OutboundPlainMessage,
@@ -17,16 +17,27 @@ const OVERHEAD: usize = EXPLICIT_LEN + TAG_LEN;
 /// The length of the longest content, in bytes (RFC 5246 section 6.2.1).
 const MAX_CONTENT_LEN: usize = 1 << 14;
 
-struct Encrypter(Direction);
+struct Encrypter {
+    key: LessSafeKey,
+    iv: [u8; NONCE_LEN],
+}
 
 struct Decrypter {
     key: LessSafeKey,
     salt: [u8; SALT_LEN],
 }
 
+/// Expands a key, whose length is that of a suite.
+fn expanded(key: &AeadKey) -> LessSafeKey {
+    LessSafeKey::new(key.as_ref()).expect("a suite's key has 16 or 32 bytes")
+}
+
 impl Tls12AeadAlgorithm for Gcm {
     fn encrypter(&self, key: AeadKey, salt: &[u8], explicit: &[u8]) -> Box<dyn MessageEncrypter> {
-        Box::new(Encrypter(Direction::new(&key, &joined(salt, explicit))))
+        Box::new(Encrypter {
+            key: expanded(&key),
+            iv: bytes(&joined(salt, explicit)),
+        })
     }
 
     fn decrypter(&self, key: AeadKey, salt: &[u8]) -> Box<dyn MessageDecrypter> {
@@ -65,15 +76,14 @@ impl MessageEncrypter for Encrypter {
         message: OutboundPlainMessage<'_>,
         number: u64,
     ) -> Result<OutboundOpaqueMessage, Error> {
-        let Encrypter(direction) = self;
         let len = message.payload.len();
         let mut payload = PrefixedPayload::with_capacity(len + OVERHEAD);
-        let nonce = direction.nonce(number);
+        let nonce = nonce_of(&self.iv, number);
         payload.extend_from_slice(&nonce.as_ref()[SALT_LEN..]);
         payload.extend_from_chunks(&message.payload);
         let aad = make_tls12_aad(number, message.typ, message.version, len);
         let content = &mut payload.as_mut()[EXPLICIT_LEN..];
-        let tag = direction
+        let tag = self
             .key
             .seal_in_place_separate_tag(nonce, &aad, content)
             .map_err(|_| Error::EncryptError)?;

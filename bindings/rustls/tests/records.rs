@@ -1,7 +1,9 @@
-//! Records by AES-256-GCM, beside those of rustls' provider over ring: each seals what the other opens.
+//! Records by AES-256-GCM, beside those of rustls' provider over ring: each seals what the other opens, and both refuse the same.
 //!
-//! rustls makes keys of 16 bytes only in a handshake, so AES-128-GCM is tried by whole connections: the example `tls`.
+//! rustls makes keys of 16 bytes only in a handshake, so AES-128-GCM is tried by whole connections: `connections.rs`, and the
+//! example `tls`.
 
+use deerlapse::{nonce_of, LessSafeKey, Unspecified};
 use rustls::crypto::cipher::{
     AeadKey, InboundOpaqueMessage, MessageDecrypter, MessageEncrypter, OutboundChunks,
     OutboundPlainMessage,
@@ -9,7 +11,7 @@ use rustls::crypto::cipher::{
 use rustls::crypto::ring::default_provider;
 use rustls::crypto::CryptoProvider;
 use rustls::{
-    CipherSuite, ConnectionTrafficSecrets, ContentType, Error, ProtocolVersion,
+    CipherSuite, ConnectionTrafficSecrets, ContentType, Error, PeerMisbehaved, ProtocolVersion,
     SupportedCipherSuite,
 };
 
@@ -127,6 +129,62 @@ fn a_content_above_the_limit_is_refused() -> Result<(), Error> {
     Ok(())
 }
 
+/// A record of TLS 1.3 with a plaintext, which no provider would seal: a content, its type and zeros.
+fn record_of(number: u64, plaintext: &[u8]) -> Result<Vec<u8>, Unspecified> {
+    let [high, low] = (plaintext.len() as u16 + 16).to_be_bytes();
+    let (header, mut payload) = ([23, 3, 3, high, low], plaintext.to_vec());
+    let nonce = nonce_of(&[9; 12], number);
+    let tag =
+        LessSafeKey::new(&[7; 32])?.seal_in_place_separate_tag(nonce, &header, &mut payload)?;
+    Ok([header.as_slice(), &payload, &tag].concat())
+}
+
+/// A content, its type, and zeros up to a length.
+fn padded(content_len: usize, len: usize) -> Vec<u8> {
+    let mut plaintext = vec![0; len];
+    plaintext[..content_len].fill(1);
+    plaintext[content_len] = ContentType::ApplicationData.into();
+    plaintext
+}
+
+// RFC 8446 sections 5.2 and 5.4. A payload has 16 bytes more than its plaintext, and at most 2^14 + 256.
+#[test]
+fn faults_are_those_of_rings_provider() -> Result<(), Unspecified> {
+    const MAX: usize = 1 << 14;
+    let misbehaves = || Err(PeerMisbehaved::IllegalTlsInnerPlaintext.into());
+    let mut cases = vec![
+        (vec![0; MAX + 2], Err(Error::PeerSentOversizedRecord)),
+        (padded(MAX, MAX + 1), Ok(vec![1; MAX])),
+        (padded(9, MAX + 1), Ok(vec![1; 9])),
+        (padded(0, 1), Ok(vec![])),
+    ];
+    cases.extend([0, 1, 2, 100, MAX, MAX + 1].map(|len| (vec![0; len], misbehaves())));
+    for len in [MAX + 2, MAX + 240, MAX + 241, MAX + 2000] {
+        for content_len in [0, 9, len - 1] {
+            let plaintext = padded(content_len, len);
+            cases.push((plaintext, Err(Error::PeerSentOversizedRecord)));
+        }
+    }
+
+    let mut theirs = records(default_provider(), SUITES[0]);
+    let mut ours = records(
+        deerlapse_rustls::with_deerlapse(default_provider()),
+        SUITES[0],
+    );
+    for (number, (plaintext, wanted)) in (0..).zip(cases) {
+        let record = record_of(number, &plaintext)?;
+        assert_eq!(theirs.open(number, &mut record.clone()), wanted);
+        assert_eq!(ours.open(number, &mut record.clone()), wanted);
+        for at in [5, record.len() - 1] {
+            let mut changed = record.clone();
+            changed[at] ^= 1;
+            let opened = ours.open(number, &mut changed);
+            assert_eq!(opened, Err(Error::DecryptError), "{} bytes", record.len());
+        }
+    }
+    Ok(())
+}
+
 #[test]
 fn a_caller_may_take_the_keys() {
     let suites = deerlapse_rustls::with_deerlapse(default_provider()).cipher_suites;
@@ -147,16 +205,20 @@ fn a_caller_may_take_the_keys() {
     }
 }
 
-/// Where the parts of a suite are: its AEADs, and what else it has.
-fn parts(suite: &SupportedCipherSuite) -> (Vec<*const ()>, [*const (); 2]) {
+/// Where the parts of a suite are: those that an AES-GCM suite has of `deerlapse`, and what else it has.
+fn parts(suite: &SupportedCipherSuite) -> (Vec<*const ()>, Vec<*const ()>) {
     match suite {
         SupportedCipherSuite::Tls13(it) => (
-            vec![ptr(it.aead_alg), ptr(it.quic.expect("for QUIC too"))],
-            [ptr(it.common.hash_provider), ptr(it.hkdf_provider)],
+            vec![
+                ptr(it.aead_alg),
+                ptr(it.quic.expect("for QUIC too")),
+                ptr(it.hkdf_provider),
+            ],
+            vec![ptr(it.common.hash_provider)],
         ),
         SupportedCipherSuite::Tls12(it) => (
             vec![ptr(it.aead_alg)],
-            [ptr(it.common.hash_provider), ptr(it.prf_provider)],
+            vec![ptr(it.common.hash_provider), ptr(it.prf_provider)],
         ),
     }
 }
@@ -179,10 +241,10 @@ fn the_rest_is_the_providers() {
         };
         assert_eq!(limit(ours), limit(theirs));
         let is_gcm = format!("{:?}", ours.suite()).contains("_GCM_");
-        let ((aeads, rest), (their_aeads, their_rest)) = (parts(ours), parts(theirs));
+        let ((replaced, rest), (their_replaced, their_rest)) = (parts(ours), parts(theirs));
         assert_eq!(rest, their_rest);
-        for (aead, theirs) in aeads.iter().zip(&their_aeads) {
-            assert_eq!(aead != theirs, is_gcm, "{:?}", ours.suite());
+        for (part, theirs) in replaced.iter().zip(&their_replaced) {
+            assert_eq!(part != theirs, is_gcm, "{:?}", ours.suite());
         }
     }
 }
