@@ -1,6 +1,7 @@
 /* Counts the calls of the library that a shared object makes. It is linked in with `--wrap NAME` for each call below, so
  * that the object calls __wrap_NAME in its place. When the process ends, a line is appended to the file that DEERLAPSE_COUNTS
- * in the environment names: keys, messages and bytes sealed, messages and bytes opened, openings refused, masks. */
+ * in the environment names: keys, messages and bytes sealed, messages and bytes opened, openings refused, masks, calls of
+ * HKDF. */
 #define _GNU_SOURCE
 #include <deerlapse.h>
 #include <limits.h>
@@ -14,13 +15,15 @@
 #undef deerlapse_key_begin
 #undef deerlapse_key_update
 #undef deerlapse_key_finish
+#undef deerlapse_hkdf_extract
+#undef deerlapse_hkdf_expand
 
 #define WRAPS(result, name, parameters) \
     result __real_##name parameters;    \
     result __wrap_##name parameters;    \
     result __wrap_##name parameters
 
-static atomic_ulong keys, sealed, sealed_bytes, opened, opened_bytes, refused, masks;
+static atomic_ulong keys, sealed, sealed_bytes, opened, opened_bytes, refused, masks, derived;
 static char file[PATH_MAX];
 
 /* Some programs remove what they don't know from their environment. */
@@ -32,7 +35,8 @@ __attribute__((constructor)) static void begin(void) {
 __attribute__((destructor)) static void end(void) {
     FILE *to = *file ? fopen(file, "a") : NULL;
     if (to == NULL) return;
-    fprintf(to, "%lu %lu %lu %lu %lu %lu %lu\n", keys, sealed, sealed_bytes, opened, opened_bytes, refused, masks);
+    fprintf(to, "%lu %lu %lu %lu %lu %lu %lu %lu\n", keys, sealed, sealed_bytes, opened, opened_bytes, refused, masks,
+            derived);
     fclose(to);
 }
 
@@ -90,4 +94,16 @@ WRAPS(bool, deerlapse_key_finish, (const deerlapse_key *key, deerlapse_message *
 WRAPS(bool, deerlapse_key_mask, (const deerlapse_key *key, const uint8_t *sample, uint8_t *mask)) {
     masks++;
     return __real_deerlapse_key_mask(key, sample, mask);
+}
+
+WRAPS(bool, deerlapse_hkdf_extract,
+      (const uint8_t *salt, size_t salt_len, const uint8_t *ikm, size_t ikm_len, uint8_t *prk, size_t prk_len)) {
+    derived++;
+    return __real_deerlapse_hkdf_extract(salt, salt_len, ikm, ikm_len, prk, prk_len);
+}
+
+WRAPS(bool, deerlapse_hkdf_expand,
+      (const uint8_t *prk, size_t prk_len, const uint8_t *info, size_t info_len, uint8_t *out, size_t out_len)) {
+    derived++;
+    return __real_deerlapse_hkdf_expand(prk, prk_len, info, info_len, out, out_len);
 }

@@ -1,5 +1,5 @@
-/* What deerlapse.h promises of lengths above the limits and of the wipes: tools/package compiles it by each standard, and by
- * clang under the undefined behavior sanitizer. */
+/* What deerlapse.h promises of lengths above the limits, of the wipes, and of null pointers to the calls that take secrets:
+ * tools/package compiles it by each standard, and by clang under the undefined behavior sanitizer. */
 #include "deerlapse.h"
 #include <stdio.h>
 #include <string.h>
@@ -32,6 +32,25 @@ static size_t left_by_wipes(void) {
     return left(&key, sizeof key) + left(&sealer, sizeof sealer) + left(&opener, sizeof opener);
 }
 
+/* The same for keys of secrets. */
+static size_t left_by_wipes_of_secrets(void) {
+    deerlapse_key header_key;
+    deerlapse_quic_key quic_key;
+    deerlapse_record_key record_key;
+    memset(&header_key, 0xff, sizeof header_key);
+    memset(&quic_key, 0xff, sizeof quic_key);
+    memset(&record_key, 0xff, sizeof record_key);
+    if (!deerlapse_quic_header_key_from_secret(&header_key, DEERLAPSE_QUIC_V1, secret, sizeof secret) ||
+        !deerlapse_quic_key_from_secret(&quic_key, DEERLAPSE_QUIC_V1, secret, sizeof secret) ||
+        !deerlapse_record_key_from_secret(&record_key, secret, sizeof secret)) {
+        return SIZE_MAX;
+    }
+    deerlapse_key_wipe(&header_key);
+    deerlapse_quic_key_wipe(&quic_key);
+    deerlapse_record_key_wipe(&record_key);
+    return left(&header_key, sizeof header_key) + left(&quic_key, sizeof quic_key) + left(&record_key, sizeof record_key);
+}
+
 /* The inline calls of so many bytes, which are more than there are, return false. */
 static bool refused(const deerlapse_key *key, const uint8_t *in, size_t len, uint8_t *out) {
     uint8_t tag[DEERLAPSE_TAG_LEN] = {0};
@@ -53,16 +72,82 @@ static bool refuses_long(void) {
     return left(in, sizeof in) == 0 && left(out, sizeof out) == 0;
 }
 
+/* The calls that take secrets, and those under their keys, refuse outputs, payloads and other parts of so many bytes. */
+static bool refused_of_secrets(const deerlapse_quic_key *packets, const deerlapse_record_key *records, uint8_t *out,
+                               size_t len) {
+    uint8_t tag[DEERLAPSE_TAG_LEN] = {0}, type = 0;
+    size_t opened = 0;
+    return !deerlapse_hmac(secret, 32, nonce, 12, out, len) && !deerlapse_hkdf_extract(nonce, 12, secret, 32, out, len) &&
+           !deerlapse_hkdf_expand(secret, 32, nonce, 12, out, len) &&
+           !deerlapse_hkdf_expand(secret, len, nonce, 12, out, 32) &&
+           !deerlapse_hkdf_expand_label(secret, 32, nonce, 12, NULL, 0, out, len) &&
+           !deerlapse_hkdf_expand_label(secret, 32, nonce, len, NULL, 0, out, 32) &&
+           !deerlapse_hkdf_expand_label(secret, 32, nonce, 12, nonce, len, out, 32) &&
+           !deerlapse_quic_initial_secrets(DEERLAPSE_QUIC_V1, nonce, len, out, out + 32) &&
+           !deerlapse_quic_next_secret(DEERLAPSE_QUIC_V1, out, len) && !deerlapse_tls_next_secret(out, len) &&
+           !deerlapse_quic_key_seal(packets, 0, nonce, 12, out, len, tag) &&
+           !deerlapse_quic_key_open(packets, 0, nonce, 12, out, len, &opened) &&
+           !deerlapse_record_key_seal(records, 0, 23, out, len, 1) &&
+           !deerlapse_record_key_seal(records, 0, 23, out, 64, len) &&
+           !deerlapse_record_key_open(records, 0, out, len, &type, &opened) && opened + type + left(tag, sizeof tag) == 0;
+}
+
+static bool refuses_long_of_secrets(void) {
+    static const volatile size_t lens[] = {SIZE_MAX, SIZE_MAX - 16, SIZE_MAX / 2 + 1, 0xffffffff1};
+    uint8_t out[64] = {0};
+    deerlapse_quic_key packets;
+    deerlapse_record_key records;
+    if (!deerlapse_quic_key_init(&packets, secret, sizeof secret, nonce) ||
+        !deerlapse_record_key_init(&records, secret, sizeof secret, nonce)) {
+        return false;
+    }
+    for (size_t i = 0; i < sizeof lens / sizeof *lens; i++) {
+        if (!refused_of_secrets(&packets, &records, out, lens[i])) return false;
+    }
+    return left(out, sizeof out) == 0;
+}
+
+/* Each pointer with a length is null where the length is 0, which succeeds for inputs, and for outputs of HKDF-Expand. */
+static bool takes_nulls(void) {
+    uint8_t out[64] = {0}, tag[DEERLAPSE_TAG_LEN], type = 0;
+    size_t opened = 1;
+    deerlapse_key headers;
+    deerlapse_quic_key packets;
+    deerlapse_record_key records;
+    return deerlapse_hmac(NULL, 0, NULL, 0, out, 32) && !deerlapse_hmac(NULL, 0, NULL, 0, NULL, 0) &&
+           deerlapse_hkdf_extract(NULL, 0, NULL, 0, out, 32) && !deerlapse_hkdf_extract(NULL, 0, NULL, 0, NULL, 0) &&
+           deerlapse_hkdf_expand(secret, 32, NULL, 0, NULL, 0) && !deerlapse_hkdf_expand(NULL, 0, NULL, 0, out, 1) &&
+           deerlapse_hkdf_expand_label(secret, 32, nonce, 12, NULL, 0, NULL, 0) &&
+           !deerlapse_hkdf_expand_label(NULL, 0, NULL, 0, NULL, 0, out, 1) &&
+           deerlapse_quic_initial_secrets(DEERLAPSE_QUIC_V1, NULL, 0, out, out + 32) &&
+           !deerlapse_quic_next_secret(DEERLAPSE_QUIC_V1, NULL, 0) && !deerlapse_tls_next_secret(NULL, 0) &&
+           !deerlapse_quic_header_key_from_secret(&headers, DEERLAPSE_QUIC_V1, NULL, 0) &&
+           !deerlapse_quic_key_from_secret(&packets, DEERLAPSE_QUIC_V1, NULL, 0) &&
+           !deerlapse_quic_key_init(&packets, NULL, 0, nonce) && !deerlapse_record_key_init(&records, NULL, 0, nonce) &&
+           !deerlapse_record_key_from_secret(&records, NULL, 0) &&
+           deerlapse_quic_key_init(&packets, secret, sizeof secret, nonce) &&
+           deerlapse_quic_key_seal(&packets, 0, NULL, 0, NULL, 0, tag) &&
+           deerlapse_quic_key_open(&packets, 0, NULL, 0, tag, sizeof tag, &opened) && opened == 0 &&
+           !deerlapse_quic_key_open(&packets, 0, NULL, 0, NULL, 0, &opened) &&
+           deerlapse_record_key_init(&records, secret, sizeof secret, nonce) &&
+           !deerlapse_record_key_seal(&records, 0, 23, NULL, 0, 0) &&
+           !deerlapse_record_key_open(&records, 0, NULL, 0, &type, &opened);
+}
+
 int main(void) {
-    size_t count = left_by_wipes();
+    size_t count = left_by_wipes() + left_by_wipes_of_secrets();
     if (count != 0) {
         printf("the wipes leave %zu bytes\n", count);
         return 1;
     }
-    if (!refuses_long()) {
+    if (!refuses_long() || !refuses_long_of_secrets()) {
         puts("a length above the limits is accepted");
         return 1;
     }
-    puts("the wipes leave zeros, and lengths above the limits are refused");
+    if (!takes_nulls()) {
+        puts("a null pointer with a length of 0 is not as the header says");
+        return 1;
+    }
+    puts("the wipes leave zeros, lengths above the limits are refused, and null pointers with a length of 0 are not");
     return 0;
 }

@@ -1,5 +1,6 @@
-/* Every call of the static library with its bytes marked as undefined: the key, the nonce, the AAD, the message, the
- * sample. Lengths, offsets and numbers are known. Prints how many openings came as far as comparing the tag.
+/* Every call of the static library with its bytes marked as undefined: the key, the nonce, the AAD, the message, the sample,
+ * the secret. Lengths, offsets and numbers are known. Prints how many openings came as far as comparing the tag, and how many
+ * records were authentic.
  *
  * With `branch` or `address` it leaks a byte of a key instead, to show that this is detected. */
 #include "deerlapse.h"
@@ -19,7 +20,7 @@
         }                                                            \
     } while (0)
 
-static unsigned long openings;
+static unsigned long openings, authentic_records;
 
 /* Bytes in a block of their own, undefined. */
 static uint8_t *secret(size_t len) {
@@ -182,6 +183,81 @@ static void masks(size_t key_len) {
     free(key);
 }
 
+/* HMAC, HKDF and the secrets after an update. */
+static void derives(size_t secret_len, size_t len) {
+    uint8_t *bytes = secret(secret_len), *other = secret(secret_len), *text = secret(len), *out = secret(len);
+    CHECK(deerlapse_hmac(bytes, secret_len, text, len, other, secret_len));
+    CHECK(deerlapse_hkdf_extract(bytes, secret_len, text, len, other, secret_len));
+    CHECK(deerlapse_hkdf_expand(bytes, secret_len, text, len, out, len));
+    CHECK(deerlapse_hkdf_expand_label(bytes, secret_len, (const uint8_t *)"label", 5, other, secret_len, out, len));
+    CHECK(deerlapse_quic_next_secret(DEERLAPSE_QUIC_V1, bytes, secret_len));
+    CHECK(deerlapse_quic_next_secret(DEERLAPSE_QUIC_V2, bytes, secret_len));
+    CHECK(deerlapse_tls_next_secret(bytes, secret_len));
+    CHECK(deerlapse_quic_initial_secrets(DEERLAPSE_QUIC_V1, text, len < 20 ? len : 20, bytes, other));
+    free(out);
+    free(text);
+    free(other);
+    free(bytes);
+}
+
+/* A packet under the key of a secret and under its own bytes, with a false tag first. */
+static void protects_packets(size_t secret_len, size_t len) {
+    uint8_t *bytes = secret(secret_len), *iv = secret(NONCE), *header = secret(20), *sample = secret(DEERLAPSE_SAMPLE_LEN);
+    uint8_t *payload = secret(len + TAG), *mask = secret(DEERLAPSE_MASK_LEN);
+    deerlapse_quic_key key;
+    deerlapse_key header_key;
+    CHECK(deerlapse_quic_header_key_from_secret(&header_key, DEERLAPSE_QUIC_V2, bytes, secret_len));
+    CHECK(deerlapse_key_mask(&header_key, sample, mask));
+    for (int by_secret = 0; by_secret < 2; by_secret++) {
+        CHECK(by_secret ? deerlapse_quic_key_from_secret(&key, DEERLAPSE_QUIC_V1, bytes, secret_len)
+                        : deerlapse_quic_key_init(&key, bytes, secret_len == 32 ? 16 : 32, iv));
+        CHECK(deerlapse_quic_key_seal(&key, 7, header, 20, payload, len, payload + len));
+        for (int right = 0; right < 2; right++) {
+            size_t found = 7;
+            if (!right) payload[len] ^= 0x10;
+            opened(deerlapse_quic_key_open(&key, 7, header, 20, payload, len + TAG, &found), right, &found, len);
+            if (!right) payload[len] ^= 0x10;
+        }
+    }
+    deerlapse_quic_key_wipe(&key);
+    CHECK(!deerlapse_quic_key_seal(&key, 7, header, 20, payload, len, payload + len));
+    free(mask);
+    free(payload);
+    free(sample);
+    free(header);
+    free(iv);
+    free(bytes);
+}
+
+/* A record under the key of a secret and under its own bytes, with a false tag first. Of an authentic record, the type and the
+ * length of the content are written. */
+static void protects_records(size_t secret_len, size_t len) {
+    uint8_t *bytes = secret(secret_len), *iv = secret(NONCE), *payload = secret(len + 9 + TAG);
+    deerlapse_record_key key;
+    for (int by_secret = 0; by_secret < 2; by_secret++) {
+        CHECK(by_secret ? deerlapse_record_key_from_secret(&key, bytes, secret_len)
+                        : deerlapse_record_key_init(&key, bytes, secret_len == 32 ? 16 : 32, iv));
+        CHECK(deerlapse_record_key_seal(&key, 7, 23, payload, len + 9 + TAG, len));
+        for (int right = 0; right < 2; right++) {
+            size_t found = 7;
+            uint8_t type = 0;
+            if (!right) payload[len + 9] ^= 0x10;
+            bool answer = deerlapse_record_key_open(&key, 7, payload, len + 9 + TAG, &type, &found);
+            (void)VALGRIND_MAKE_MEM_DEFINED(&found, sizeof found);
+            (void)VALGRIND_MAKE_MEM_DEFINED(&type, sizeof type);
+            opened(answer, right, &found, len);
+            CHECK(type == (right ? 23 : 0));
+            if (!right) payload[len + 9] ^= 0x10;
+        }
+        authentic_records++;
+    }
+    deerlapse_record_key_wipe(&key);
+    CHECK(!deerlapse_record_key_seal(&key, 7, 23, payload, len + 9 + TAG, len));
+    free(payload);
+    free(iv);
+    free(bytes);
+}
+
 static volatile int sink;
 
 static void leaks_by_a_branch(const uint8_t *key) {
@@ -208,6 +284,10 @@ int main(int argc, char **argv) {
             seals_and_opens(key_len, i, lens[i], 0);
             seals_and_opens(key_len, lens[i], 40, 1 + i);
             seals_by_a_sealer(key_len, lens[i]);
+            size_t secret_len = key_len == 16 ? DEERLAPSE_SHA256_LEN : DEERLAPSE_SHA384_LEN;
+            derives(secret_len, lens[i]);
+            protects_packets(secret_len, lens[i]);
+            protects_records(secret_len, lens[i]);
         }
         encrypts(lens[i]);
     }
@@ -215,6 +295,6 @@ int main(int argc, char **argv) {
     seals_nothing(32);
     masks(16);
     masks(32);
-    printf("%lu\n", openings);
+    printf("%lu %lu\n", openings, authentic_records);
     return 0;
 }

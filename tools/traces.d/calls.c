@@ -7,6 +7,9 @@ static deerlapse_key key;
 static deerlapse_message in_pieces;
 static deerlapse_sealer sealer;
 static deerlapse_opener opener;
+static deerlapse_quic_key quic_key;
+static deerlapse_record_key record_key;
+static uint8_t content_type;
 static uint8_t mask[DEERLAPSE_MASK_LEN];
 static size_t opened;
 static uint64_t next;
@@ -196,6 +199,104 @@ static bool chacha20(size_t key_len, size_t len) {
     return deerlapse_chacha20(key_bytes, nonce, 1, message, len);
 }
 
+static size_t secret_len(size_t key_len) { return key_len == 16 ? DEERLAPSE_SHA256_LEN : DEERLAPSE_SHA384_LEN; }
+
+static bool hmac(size_t key_len, size_t len) {
+    return deerlapse_hmac(secret, secret_len(key_len), message, len, other, secret_len(key_len));
+}
+static bool hkdf_extract(size_t key_len, size_t len) {
+    return deerlapse_hkdf_extract(secret, secret_len(key_len), message, len, other, secret_len(key_len));
+}
+static bool hkdf_expand(size_t key_len, size_t len) {
+    (void)len;
+    return deerlapse_hkdf_expand(secret, secret_len(key_len), message, 40, other, 100);
+}
+static bool hkdf_expand_label(size_t key_len, size_t len) {
+    (void)len;
+    return deerlapse_hkdf_expand_label(secret, secret_len(key_len), (const uint8_t *)"label", 5, message, 48, other, 100);
+}
+
+static bool quic_key_init(size_t key_len, size_t len) {
+    (void)len;
+    return deerlapse_quic_key_init(&quic_key, key_bytes, key_len, nonce);
+}
+static bool quic_key_from_secret(size_t key_len, size_t len) {
+    (void)len;
+    return deerlapse_quic_key_from_secret(&quic_key, DEERLAPSE_QUIC_V1, secret, secret_len(key_len));
+}
+static bool quic_header_key_from_secret(size_t key_len, size_t len) {
+    (void)len;
+    return deerlapse_quic_header_key_from_secret(&key, DEERLAPSE_QUIC_V2, secret, secret_len(key_len));
+}
+static bool quic_initial_secrets(size_t key_len, size_t len) {
+    (void)key_len, (void)len;
+    return deerlapse_quic_initial_secrets(DEERLAPSE_QUIC_V1, message, 20, other, other + DEERLAPSE_SHA256_LEN);
+}
+static bool quic_next_secret(size_t key_len, size_t len) {
+    (void)len;
+    return deerlapse_quic_next_secret(DEERLAPSE_QUIC_V2, secret, secret_len(key_len));
+}
+static bool quic_key_seal(size_t key_len, size_t len) {
+    (void)key_len;
+    return deerlapse_quic_key_seal(&quic_key, 77, aad, AAD, message, len, message + len);
+}
+static bool quic_key_sealed(size_t key_len, size_t len) {
+    return quic_key_init(key_len, len) && quic_key_seal(key_len, len);
+}
+static bool quic_key_sealed_falsely(size_t key_len, size_t len) {
+    bool is = quic_key_sealed(key_len, len);
+    message[len + seed % TAG] ^= (uint8_t)(1 + seed);
+    return is;
+}
+static bool quic_key_open(size_t key_len, size_t len) {
+    (void)key_len;
+    return deerlapse_quic_key_open(&quic_key, 77, aad, AAD, message, len + TAG, &opened);
+}
+static bool quic_key_refuse(size_t key_len, size_t len) { return !quic_key_open(key_len, len); }
+static bool quic_key_wipe(size_t key_len, size_t len) {
+    (void)key_len, (void)len;
+    deerlapse_quic_key_wipe(&quic_key);
+    return true;
+}
+
+static bool record_key_init(size_t key_len, size_t len) {
+    (void)len;
+    return deerlapse_record_key_init(&record_key, key_bytes, key_len, nonce);
+}
+static bool record_key_from_secret(size_t key_len, size_t len) {
+    (void)len;
+    return deerlapse_record_key_from_secret(&record_key, secret, secret_len(key_len));
+}
+static bool tls_next_secret(size_t key_len, size_t len) {
+    (void)len;
+    return deerlapse_tls_next_secret(secret, secret_len(key_len));
+}
+static bool record_key_seal(size_t key_len, size_t len) {
+    (void)key_len;
+    return deerlapse_record_key_seal(&record_key, 77, 23, message, len + 1 + TAG, len);
+}
+static bool record_key_sealed(size_t key_len, size_t len) {
+    return record_key_init(key_len, len) && record_key_seal(key_len, len);
+}
+static bool record_key_sealed_falsely(size_t key_len, size_t len) {
+    bool is = record_key_sealed(key_len, len);
+    message[len + 1 + seed % TAG] ^= (uint8_t)(1 + seed);
+    return is;
+}
+static bool record_key_open(size_t key_len, size_t len) {
+    (void)key_len;
+    return deerlapse_record_key_open(&record_key, 77, message, len + 1 + TAG, &content_type, &opened) && opened == len;
+}
+static bool record_key_refuse(size_t key_len, size_t len) {
+    (void)key_len;
+    return !deerlapse_record_key_open(&record_key, 77, message, len + 1 + TAG, &content_type, &opened);
+}
+static bool record_key_wipe(size_t key_len, size_t len) {
+    (void)key_len, (void)len;
+    deerlapse_record_key_wipe(&record_key);
+    return true;
+}
+
 static const traced_call calls[] = {
     {"deerlapse_key_init", key_init, NULL, false},
     {"deerlapse_key_wipe", key_wipe, key_init, false},
@@ -235,6 +336,26 @@ static const traced_call calls[] = {
     {"deerlapse_mask_aes", mask_aes, NULL, false},
     {"deerlapse_mask_chacha20", mask_chacha20, NULL, false},
     {"deerlapse_chacha20", chacha20, NULL, true},
+    {"deerlapse_hmac", hmac, NULL, true},
+    {"deerlapse_hkdf_extract", hkdf_extract, NULL, true},
+    {"deerlapse_hkdf_expand", hkdf_expand, NULL, false},
+    {"deerlapse_hkdf_expand_label", hkdf_expand_label, NULL, false},
+    {"deerlapse_quic_key_init", quic_key_init, NULL, false},
+    {"deerlapse_quic_key_from_secret", quic_key_from_secret, NULL, false},
+    {"deerlapse_quic_header_key_from_secret", quic_header_key_from_secret, NULL, false},
+    {"deerlapse_quic_initial_secrets", quic_initial_secrets, NULL, false},
+    {"deerlapse_quic_next_secret", quic_next_secret, NULL, false},
+    {"deerlapse_quic_key_seal", quic_key_seal, quic_key_init, true},
+    {"deerlapse_quic_key_open", quic_key_open, quic_key_sealed, true},
+    {"deerlapse_quic_key_open,false", quic_key_refuse, quic_key_sealed_falsely, true},
+    {"deerlapse_quic_key_wipe", quic_key_wipe, quic_key_init, false},
+    {"deerlapse_record_key_init", record_key_init, NULL, false},
+    {"deerlapse_record_key_from_secret", record_key_from_secret, NULL, false},
+    {"deerlapse_tls_next_secret", tls_next_secret, NULL, false},
+    {"deerlapse_record_key_seal", record_key_seal, record_key_init, true},
+    {"deerlapse_record_key_open", record_key_open, record_key_sealed, true},
+    {"deerlapse_record_key_open,false", record_key_refuse, record_key_sealed_falsely, true},
+    {"deerlapse_record_key_wipe", record_key_wipe, record_key_init, false},
 };
 
 static volatile uint8_t sink;

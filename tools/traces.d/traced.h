@@ -16,6 +16,7 @@ enum { SEEDS = 12, MAX_LEN = LONGEST, ROOM = MAX_LEN + 64, TAG = 16, NONCE = 12,
 
 /* The secrets of a call, other ones for each seed. `other` is room for an output, or for a sealed message. */
 static uint8_t key_bytes[32], header_key[32], nonce[NONCE], aad[ROOM], message[ROOM], sample[16], other[ROOM], tag[TAG];
+static uint8_t secret[48]; /* of 32 bytes with a key of 16, and of 48 with one of 32 */
 static unsigned seed;
 
 /* A call, for a key of 16 bytes and one of 32, and what must come before it; both return what they expect. Its length is
@@ -55,6 +56,7 @@ static void make_secrets(size_t len) {
     fill(&state, sample, sizeof sample);
     fill(&state, aad, len < AAD ? AAD : len);
     fill(&state, message, len + 64);
+    fill(&state, secret, sizeof secret);
     memset(other, 0, len + 64);
     memset(tag, 0, sizeof tag);
 }
