@@ -4,7 +4,7 @@
 //! byte. No step branches on a byte or reads at an index that depends on one: the one table is that
 //! of the round constants. Read `Key` and `EncryptBlock` first.
 
-ghost use Rattle.std.specs.Prelude.{◌≡◌, ◌<◌, ◌⊎◌, ℕ, ◌/◌, ◌%◌, List, [], length, slice_index_or, IsOk, IfOk};
+ghost use Rattle.std.specs.Prelude.{◌≡◌, ◌<◌, ◌↔◌, ◌⊎◌, ℕ, ◌/◌, ◌%◌, List, [], length, slice_index_or, IsOk, IfOk};
 ghost use Rattle.aead_ciphers_base.specs.Aes.{aes, length_aes};
 ghost use Rattle.aead_ciphers_base.specs.Bytes.{◌⊕◌};
 ghost use Rattle.aead_ciphers_base.specs.CounterMode.{Advances, EncryptsToFront};
@@ -63,6 +63,18 @@ pub enum KeyBytes<'a> {
 }
 
 impl<'a> KeyBytes<'a> {
+    /// Borrows the bytes of a key, whose length selects AES-128 or AES-256. Fails with `Unspecified` if `bytes` does not have 16 or
+    /// 32 bytes.
+    pub fn from_slice(bytes: &'a [u8]) -> Result<Self, Unspecified>
+        ensures accepted { IsOk result ↔ ((length bytes.now ≡ 16) ⊎ (length bytes.now ≡ 32)) }
+        ensures bytes { IfOk result (λ key. key_bytes key ≡ bytes.now) }
+    {
+        match bytes.len() {
+            AES_256_KEY_LEN => Ok(KeyBytes::AES_256(bytes.as_array().ok_or(Unspecified)?)),
+            _ => Ok(KeyBytes::AES_128(bytes.as_array().ok_or(Unspecified)?)),
+        }
+    }
+
     /// Returns the 16 or 32 bytes of the key.
     pub fn as_slice(self) -> &'a [u8]
         ensures bytes { result.now ≡ key_bytes self.entry }
@@ -143,11 +155,7 @@ pub trait EncryptCtr32: EncryptBlock {
 ///
 /// ```
 /// fn expanded(key: &[u8]) -> Result<Key, Fail> {
-///     let bytes = match key.as_array::<16>() {
-///         Some(key) => KeyBytes::AES_128(key),
-///         None => KeyBytes::AES_256(key.as_array::<32>().ok_or("a key's length")?),
-///     };
-///     Ok(Key::new(bytes)?)
+///     Ok(Key::new(KeyBytes::from_slice(key)?)?)
 /// }
 /// ```
 #[derive(Clone, Drop)]

@@ -78,11 +78,7 @@ fn s_box_of_zero_planes(rt: HostRuntime) {
 
 /// Expands a key of 16 or 32 bytes.
 fn expanded(key: &[u8]) -> Result<Key, Fail> {
-    let bytes = match key.as_array::<16>() {
-        Some(key) => KeyBytes::AES_128(key),
-        None => KeyBytes::AES_256(key.as_array::<32>().ok_or("a key's length")?),
-    };
-    Ok(Key::new(bytes)?)
+    Ok(Key::new(KeyBytes::from_slice(key)?)?)
 }
 
 /// Asserts the encryption of a block, alone and at each of four positions among blocks of zeros.
