@@ -186,7 +186,7 @@ impl Key {
         Ok(Key { round_keys, rounds })
     }
 
-    // Borrows the key as a `KeyRef`.
+    /// Borrows the key as a `KeyRef`.
     fn by_ref(&self) -> KeyRef<'_>
         ensures { result ≡ self.now }
     {
@@ -257,7 +257,7 @@ impl<'k> KeyRef<'k> {
         KeyRef { round_keys, rounds }
     }
 
-    // Encrypts one block, as the first of four.
+    /// Encrypts one block, as the first of four.
     fn cipher_block(&self, block: Block) -> Block
         ensures { result ≡ aes self.now block }
     {

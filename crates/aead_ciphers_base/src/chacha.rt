@@ -21,7 +21,7 @@ pub const KEY_LEN: usize = 32;
 /// The length of a block of the keystream, in bytes.
 pub const BLOCK_LEN: usize = 64;
 
-// The length of four blocks, in bytes.
+/// The length of four blocks, in bytes.
 const BATCH_LEN: usize = 4 * BLOCK_LEN;
 
 /// A slice of bytes that is read from `start` on and written from the front on.
@@ -29,10 +29,10 @@ pub type Overlapping<'o> = overlapping::Overlapping<'o, u8>;
 
 type State = [u32; 16];
 
-// The first four words of a state (section 2.3): "expand 32-byte k" in little-endian order.
+/// The first four words of a state (section 2.3): "expand 32-byte k" in little-endian order.
 const CONSTANTS: [u32; 4] = [0x6170_7865, 0x3320_646e, 0x7962_2d32, 0x6b20_6574];
 
-// Writes words in little-endian order.
+/// Writes words in little-endian order.
 #[tactic(auto, using(crate::proofs::LittleEndian::read_and_written), unfolding(crate::specs::ChaCha20::le_bytes))]
 fn write_le_bytes(words: &[u32], bytes: &mut [u8])
     requires { length bytes.old ≡ 4 * length words.now }
@@ -43,7 +43,7 @@ fn write_le_bytes(words: &[u32], bytes: &mut [u8])
     }
 }
 
-// Reads words in little-endian order.
+/// Reads words in little-endian order.
 fn le_words<const N: usize>(bytes: &[u8]) -> [u32; N]
     requires { length bytes.now ≡ 4 * N }
     ensures { result ≡ le_words bytes.now }
@@ -56,8 +56,8 @@ fn le_words<const N: usize>(bytes: &[u8]) -> [u32; N]
     words
 }
 
-// XORs the `n` bytes at `start + at` with the keystream, and writes them at `at`. All bytes are read
-// before any is written.
+/// XORs the `n` bytes at `start + at` with the keystream, and writes them at `at`. All bytes are read
+/// before any is written.
 fn xor_stream<const N: usize>(
     in_out: &mut [u8],
     start: usize,
@@ -218,7 +218,7 @@ impl Key {
         mask
     }
 
-    // Encrypts the bytes from `start` on, and writes the output to the front.
+    /// Encrypts the bytes from `start` on, and writes the output to the front.
     fn encrypt_within(&self, counter: &Counter, in_out: &mut [u8], start: usize)
         requires within { start ≤ length in_out.old }
         requires counted { counter.now.number + div_ceil (length in_out.old - start) 64 ≤ 2 ^ 32 }
@@ -242,7 +242,7 @@ impl Key {
         }
     }
 
-    // Returns block `j` of the keystream after the counter.
+    /// Returns block `j` of the keystream after the counter.
     #[tactic(auto, unfolding(crate::specs::ChaCha20::chacha20_block))]
     fn block(&self, counter: &Counter, j: u32) -> [u8; BLOCK_LEN]
         requires { counter.now.number + j < 2 ^ 32 }
@@ -251,7 +251,7 @@ impl Key {
         state_block(&self.initial_state(counter, j))
     }
 
-    // Returns four blocks of the keystream, from block `j` after the counter on.
+    /// Returns four blocks of the keystream, from block `j` after the counter on.
     fn four_blocks(&self, counter: &Counter, j: u32) -> [u8; BATCH_LEN]
         requires { counter.now.number + j + 4 ≤ 2 ^ 32 }
         ensures { result ≡ each_below 256 (stream_byte self.now (counter.now.number + j) counter.now.nonce) }
@@ -262,7 +262,7 @@ impl Key {
         bytes
     }
 
-    // Returns the initial state of block `j` after the counter.
+    /// Returns the initial state of block `j` after the counter.
     fn initial_state(&self, counter: &Counter, j: u32) -> State
         requires { counter.now.number + j < 2 ^ 32 }
         ensures state { result

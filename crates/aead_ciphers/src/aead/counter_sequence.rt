@@ -70,7 +70,7 @@ impl CounterSequence {
     }
 }
 
-// Returns the nonce of `prefix` and `number`.
+/// Returns the nonce of `prefix` and `number`.
 #[tactic(auto, using(crate::proofs::SequenceLemmas::over_zeros))]
 fn prefixed(prefix: &[u8; 4], number: u64) -> Nonce
     ensures { result ≡ prefixed_nonce prefix.now number }

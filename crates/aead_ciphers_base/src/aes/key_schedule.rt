@@ -10,7 +10,7 @@ use super::ZERO_BLOCK;
 use super::pack::{gather, pack, spread};
 use super::planes::{Planes, sub_planes};
 
-// The first byte of each round constant Rcon.
+/// The first byte of each round constant Rcon.
 const ROUND_CONSTANTS: [u8; 10] = [0x01, 0x02, 0x04, 0x08, 0x10, 0x20, 0x40, 0x80, 0x1b, 0x36];
 
 #[tactic(auto, using(crate::proofs::XorLemmas::xor_by_index))]
@@ -27,7 +27,7 @@ fn rot_word(a: [u8; 4]) -> [u8; 4]
     [a[1], a[2], a[3], a[0]]
 }
 
-// The planes hold the bytes of the word in every eighth of the 64 places.
+/// The planes hold the bytes of the word in every eighth of the 64 places.
 fn sub_word(a: [u8; 4]) -> [u8; 4]
     ensures { result ≡ sub_word a }
 {
@@ -85,7 +85,7 @@ pub fn expand(key: &[u8]) -> [[u8; 4]; 60]
     words
 }
 
-// Packs a round key into each of the four blocks.
+/// Packs a round key into each of the four blocks.
 fn pack_round_key(words: &[[u8; 4]], round: usize) -> Planes
     requires { 4 * round + 4 ≤ length words.now }
     ensures { (p : ℕ) → p < 64

@@ -20,8 +20,8 @@ pub const LOW: [u64; 6] = [
     0x0000_0000_ffff_ffff,
 ];
 
-// A delta swap: exchanges the bits of `a` at places whose digit `k` is one with the bits of `b` at places
-// whose digit `k` is zero.
+/// A delta swap: exchanges the bits of `a` at places whose digit `k` is one with the bits of `b` at places
+/// whose digit `k` is zero.
 #[inline(always)]
 fn delta_swap(a: u64, b: u64, k: usize) -> (u64, u64)
     requires { k < 6 }
@@ -35,8 +35,8 @@ fn delta_swap(a: u64, b: u64, k: usize) -> (u64, u64)
     (a ^ (delta << shift), b ^ delta)
 }
 
-// Exchanges digit `k` of each place with the highest digit of the word's number, and then rotates the
-// digits of the number: the highest becomes the lowest.
+/// Exchanges digit `k` of each place with the highest digit of the word's number, and then rotates the
+/// digits of the number: the highest becomes the lowest.
 #[inline(always)]
 fn exchange_digits(words: [u64; 8], k: usize) -> [u64; 8]
     requires { k < 6 }
@@ -50,7 +50,7 @@ fn exchange_digits(words: [u64; 8], k: usize) -> [u64; 8]
     [r0, r1, r2, r3, r4, r5, r6, r7]
 }
 
-// Byte `j` of word `i` becomes byte `i` of word `j`.
+/// Byte `j` of word `i` becomes byte `i` of word `j`.
 #[inline(always)]
 fn transpose_bytes(words: [u64; 8]) -> [u64; 8]
     ensures { (n : ℕ) → n < 512
@@ -59,7 +59,7 @@ fn transpose_bytes(words: [u64; 8]) -> [u64; 8]
     exchange_digits(exchange_digits(exchange_digits(words, 5), 4), 3)
 }
 
-// Bit `b` of each byte of word `i` becomes bit `i` of that byte of word `b`.
+/// Bit `b` of each byte of word `i` becomes bit `i` of that byte of word `b`.
 #[inline(always)]
 fn transpose_bits(words: [u64; 8]) -> [u64; 8]
     ensures { (n : ℕ) → n < 512
@@ -117,7 +117,7 @@ pub fn unpack(planes: Planes) -> [Block; 4]
     ]
 }
 
-// The bits at every eighth place.
+/// The bits at every eighth place.
 const EIGHTHS: u64 = 0x0101_0101_0101_0101;
 
 /// Returns planes that hold the 8 bytes of a word in every eighth place.

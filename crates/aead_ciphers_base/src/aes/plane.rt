@@ -69,7 +69,7 @@ impl Plane for u64 {
         u64::MAX
     }
 
-    // Shifts rows 2 and 3 by two columns of four bits, with a delta swap, and then rows 1 and 3 by one.
+    /// Shifts rows 2 and 3 by two columns of four bits, with a delta swap, and then rows 1 and 3 by one.
     #[tactic(auto, using(crate::proofs::PlaneShifts::rows_shifted_moves))]
     #[inline(always)]
     fn rows_shifted(self) -> u64 {

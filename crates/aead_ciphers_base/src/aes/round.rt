@@ -7,7 +7,7 @@ ghost use Rattle.aead_ciphers_base.specs.Planes.{plane_byte, block_at, below, sh
 
 use super::plane::Plane;
 
-// Multiplies each byte by {02}, the polynomial x (FIPS 197 section 4.2).
+/// Multiplies each byte by {02}, the polynomial x (FIPS 197 section 4.2).
 #[inline(always)]
 fn times_x<P: Plane>(a: [P; 8]) -> [P; 8]
     ensures { (p : ℕ) → plane_byte (map P.number result) p ≡ mul8 2 (plane_byte (map P.number a) p) }

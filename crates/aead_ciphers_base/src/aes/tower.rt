@@ -13,7 +13,7 @@ ghost use Rattle.aead_ciphers_base.specs.Tower.{plane_element, basis_4, basis_16
 
 use super::plane::Plane;
 
-// Multiplies in the field of 4.
+/// Multiplies in the field of 4.
 #[inline(always)]
 fn multiply_4<W: Plane>(a: [W; 2], b: [W; 2]) -> [W; 2]
     ensures { (p : ℕ) → plane_element basis_4 (map W.number result) p
@@ -25,7 +25,7 @@ fn multiply_4<W: Plane>(a: [W; 2], b: [W; 2]) -> [W; 2]
     [(a0 & b0) ^ both, (a1 & b1) ^ both]
 }
 
-// Multiplies in the field of 16, by three products in the field of 4.
+/// Multiplies in the field of 16, by three products in the field of 4.
 #[inline(always)]
 fn multiply_16<W: Plane>(a: [W; 4], b: [W; 4]) -> [W; 4]
     ensures { (p : ℕ) → plane_element basis_16 (map W.number result) p
@@ -40,7 +40,7 @@ fn multiply_16<W: Plane>(a: [W; 4], b: [W; 4]) -> [W; 4]
     [low0 ^ scaled, low1 ^ both0, high0 ^ scaled, high1 ^ both0]
 }
 
-// Inverts in the field of 16: n^14 = n^4 * (n^5)^2, and n^5 is in the field of 4.
+/// Inverts in the field of 16: n^14 = n^4 * (n^5)^2, and n^5 is in the field of 4.
 #[inline(always)]
 fn invert_16<W: Plane>(n: [W; 4]) -> [W; 4]
     ensures { (p : ℕ) → plane_element basis_16 (map W.number result) p

@@ -67,7 +67,7 @@ fn double_round(x: States) -> States
     ]
 }
 
-// Returns four copies of a state, whose block counters (word 12) count up from its own.
+/// Returns four copies of a state, whose block counters (word 12) count up from its own.
 fn four_states(state: &State) -> States
     ensures { (j : ℕ) → j < 4
         → lane j result ≡ slice_set state.now 12 (add32 (slice_index state.now 12) j) }

@@ -8,8 +8,8 @@ use super::lanes::{add, quarter_round};
 use super::{BLOCK_LEN, State, write_le_bytes};
 use std::simd::u32x4;
 
-// Applies a quarter round to each column, and then to each diagonal, which becomes a column when the
-// rows are rotated.
+/// Applies a quarter round to each column, and then to each diagonal, which becomes a column when the
+/// rows are rotated.
 #[inline(always)]
 fn double_round(a: u32x4, b: u32x4, c: u32x4, d: u32x4) -> (u32x4, u32x4, u32x4, u32x4)
     ensures { state_of_rows result.0 result.1 result.2 result.3

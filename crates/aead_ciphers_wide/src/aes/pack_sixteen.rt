@@ -21,7 +21,7 @@ pub fn pack_sixteen(words: [WiderWord; 8]) -> [WiderWord; 8]
     transpose_bits(words)
 }
 
-// The blocks of the bytes of the two halves of a word.
+/// The blocks of the bytes of the two halves of a word.
 #[inline(always)]
 fn to_blocks(word: WiderWord) -> (Block, Block)
     ensures low { result.0 ≡ to_le_bytes w128 (half_of 0 word) }

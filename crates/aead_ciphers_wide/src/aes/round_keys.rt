@@ -37,7 +37,7 @@ impl RoundKeyPlanes<Word> for KeyPlanes {
     }
 }
 
-// The word both of whose halves have these lanes, the least significant first.
+/// The word both of whose halves have these lanes, the least significant first.
 #[inline(always)]
 fn both_halves(low: u64, high: u64) -> WiderWord
     ensures { result ≡ twice (high * 2 ^ 64 + low) }
@@ -64,7 +64,7 @@ impl RoundKeyPlanes<WiderWord> for KeyPlanes {
     }
 }
 
-// The plane of one bit of each byte, in two words, the lower word first.
+/// The plane of one bit of each byte, in two words, the lower word first.
 #[inline(always)]
 fn plane_of(bytes: u8x16, bit: u8) -> (u64, u64)
     ensures { (b p : ℕ) → b < 8 → bit ≡ 2 ^ b → p < 128
@@ -73,7 +73,7 @@ fn plane_of(bytes: u8x16, bit: u8) -> (u64, u64)
     Word::filled(bytes, bit).lanes()
 }
 
-// Packs a round key into each of the eight blocks.
+/// Packs a round key into each of the eight blocks.
 fn pack_round_key(block: Block) -> KeyPlanes
     ensures { (p : ℕ) → p < 128
         → plane_byte (planes_of result) p ≡ slice_index block (p / 8) }

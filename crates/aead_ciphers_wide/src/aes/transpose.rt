@@ -8,8 +8,8 @@ ghost use Rattle.aead_ciphers_wide.specs.Word.{lane_of, lanes_of};
 use crate::lanes::Lanes;
 use aead_ciphers_base::aes::LOW;
 
-// A delta swap in each lane: exchanges the bits of `a` at places whose digit `k` is one with the bits of `b` at
-// places whose digit `k` is zero.
+/// A delta swap in each lane: exchanges the bits of `a` at places whose digit `k` is one with the bits of `b` at
+/// places whose digit `k` is zero.
 #[inline(always)]
 fn delta_swap<P: Lanes>(a: P, b: P, k: usize) -> (P, P)
     requires { k < 6 }
@@ -25,8 +25,8 @@ fn delta_swap<P: Lanes>(a: P, b: P, k: usize) -> (P, P)
     (a ^ delta.lanes_left(shift), b ^ delta)
 }
 
-// Exchanges digit `k` of each place with the highest digit of the word's number, and then rotates the
-// digits of the number: the highest becomes the lowest.
+/// Exchanges digit `k` of each place with the highest digit of the word's number, and then rotates the
+/// digits of the number: the highest becomes the lowest.
 #[inline(always)]
 fn exchange_digits<P: Lanes>(words: [P; 8], k: usize) -> [P; 8]
     requires { k < 6 }
