@@ -8,11 +8,15 @@ ghost use Rattle.aead_ciphers.specs.HashOf.{IsHashOf};
 ghost use Rattle.aead_ciphers.specs.Multiples.{AreMultiples, entry};
 
 mod context;
+mod limits;
+mod padding;
 mod product;
 
 use aead_ciphers_base::aes::{BLOCK_LEN, Block, Work, ZERO_BLOCK};
 use aead_ciphers_base::polyfill::slice::AsChunks;
-pub use context::{Context, MAX_IN_OUT_LEN};
+pub use context::Context;
+pub use limits::{MAX_AAD_LEN, MAX_IN_OUT_LEN, fits};
+pub use padding::{absorb, lengths};
 use std::marker::Model;
 
 /// A hash subkey: the 16-byte block H of SP 800-38D.

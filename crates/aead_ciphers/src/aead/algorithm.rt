@@ -60,18 +60,14 @@ impl Algorithm {
     }
 
     /// Borrows `bytes` as a key of this algorithm. Fails with `Unspecified` if it is not `key_len` bytes long.
-    pub(crate) fn key_bytes<'a>(&self, bytes: &'a [u8]) -> Result<KeyBytes<'a>, Unspecified>
+    pub fn key_bytes<'a>(&self, bytes: &'a [u8]) -> Result<KeyBytes<'a>, Unspecified>
         ensures accepted { IsOk result ↔ (length bytes.now ≡ key_len self.now) }
         ensures bytes { IfOk result (λ key. key_bytes key ≡ bytes.now) }
     {
-        match self.id {
-            AlgorithmId::AES_128_GCM => {
-                Ok(KeyBytes::AES_128(bytes.as_array().ok_or(Unspecified)?))
-            }
-            AlgorithmId::AES_256_GCM => {
-                Ok(KeyBytes::AES_256(bytes.as_array().ok_or(Unspecified)?))
-            }
+        if bytes.len() != self.key_len() {
+            return Err(Unspecified);
         }
+        KeyBytes::from_slice(bytes)
     }
 }
 

@@ -4,18 +4,15 @@ ghost use Rattle.std.specs.Prelude.{◌≡◌, ℕ, ◌+◌, ◌/◌, ◌↔◌,
 ghost use Rattle.aead_ciphers_base.specs.Blocks.{blocks};
 ghost use Rattle.aead_ciphers_base.specs.Values.{aad_bytes};
 ghost use Rattle.aead_ciphers_base.specs.Work.{Adds, CanAdd};
-ghost use Rattle.aead_ciphers.specs.Gcm.{Fits, length_block, padded_block, padded_blocks};
+ghost use Rattle.aead_ciphers.specs.Gcm.{Fits, length_block, padded_blocks};
 ghost use Rattle.aead_ciphers.specs.HashOf.{Absorbs, IsHashOf};
 
-use super::{UpdateBlock, UpdateBlocks, Xi};
-use aead_ciphers_base::aes::{BLOCK_LEN, Block, Work, ZERO_BLOCK};
+use super::{UpdateBlock, UpdateBlocks, Xi, absorb, fits, lengths};
+use aead_ciphers_base::aes::{BLOCK_LEN, Block, Work};
 use aead_ciphers_base::error::Unspecified;
-use aead_ciphers_base::polyfill::slice::{AsChunks, as_chunks};
+use aead_ciphers_base::polyfill::slice::AsChunks;
 use aead_ciphers_base::values::{Aad, Tag};
 use std::marker::Model;
-
-/// The maximum length of a plaintext, in bytes (SP 800-38D section 5.2.1.1).
-pub const MAX_IN_OUT_LEN: usize = (1 << 36) - 32;
 
 /// A hash of the AAD, which is updated with the ciphertext block by block (SP 800-38D section 7.1, steps 4 and 5).
 #[derive(Drop)]
@@ -107,7 +104,7 @@ impl<'key, K: UpdateBlocks> Context<'key, K> {
         ensures idle { OnErr result (work.new ≡ work.old) }
     {
         let aad = aad.as_ref();
-        if in_out_len > MAX_IN_OUT_LEN || aad.len() >= 1 << 61 {
+        if !fits(aad.len(), in_out_len) {
             return Err(Unspecified);
         }
         let mut context = Context {
@@ -137,33 +134,6 @@ impl<'key, K: UpdateBlocks> Context<'key, K> {
         ensures hashed { Absorbs self.old input.now self.new }
         ensures worked { Adds work.old work.new 0 ((length input.now + 15) / 16) }
     {
-        let (whole, rest) = as_chunks::<u8, BLOCK_LEN>(input);
-        self.update_blocks(whole, work);
-        if !rest.is_empty() {
-            self.update_block(padded(rest), work);
-        }
+        absorb(self.key, &mut self.xi, input, work);
     }
-}
-
-/// Returns a block that begins with `bytes`, at most 16 of them, and ends in zeros.
-#[tactic(auto, using(crate::proofs::PaddedBlocks::padded_is))]
-fn padded(bytes: &[u8]) -> Block
-    requires { length bytes.now ≤ 16 }
-    ensures { result ≡ padded_block bytes.now 0 }
-{
-    let mut block = ZERO_BLOCK;
-    block[..bytes.len()].copy_from_slice(bytes);
-    block
-}
-
-/// Returns the block of two lengths, which are passed in bytes and written in bits (SP 800-38D section 7.1 step 5).
-#[tactic(auto, using(crate::proofs::PaddedBlocks::lengths_are))]
-fn lengths(aad_len: u64, in_out_len: u64) -> Block
-    requires { Fits aad_len in_out_len }
-    ensures { result ≡ length_block aad_len in_out_len }
-{
-    let mut block = ZERO_BLOCK;
-    block[..8].copy_from_slice(&(8 * aad_len).to_be_bytes());
-    block[8..].copy_from_slice(&(8 * in_out_len).to_be_bytes());
-    block
 }

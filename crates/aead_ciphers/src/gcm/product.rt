@@ -41,10 +41,10 @@ pub(crate) fn product(table: &[u32; 512], block: u128) -> u128
     let mut third = u32x4::splat(0);
     let mut fourth = u32x4::splat(0);
     for i in 0..32 {
-        first = add_chosen(first, bits, lanes(table, 4 * i));
-        second = add_chosen(second, bits, lanes(table, 128 + 4 * i));
-        third = add_chosen(third, bits, lanes(table, 256 + 4 * i));
-        fourth = add_chosen(fourth, bits, lanes(table, 384 + 4 * i));
+        first = add_chosen(first, bits, four_words(table, 4 * i));
+        second = add_chosen(second, bits, four_words(table, 128 + 4 * i));
+        third = add_chosen(third, bits, four_words(table, 256 + 4 * i));
+        fourth = add_chosen(fourth, bits, four_words(table, 384 + 4 * i));
         bits = bits + bits;
     }
     joined(
@@ -82,7 +82,7 @@ fn joined(first: u32, second: u32, third: u32, fourth: u32) -> u128
 
 /// Returns the four words of `table` from index `at` on.
 #[inline(always)]
-fn lanes(table: &[u32; 512], at: usize) -> u32x4
+fn four_words(table: &[u32; 512], at: usize) -> u32x4
     requires { at + 4 ≤ 512 }
     ensures read { (j : ℕ) → j < 4 → slice_index result j ≡ slice_index table.now (at + j) }
     ensures fits { (j : ℕ) → j < 4 → slice_index result j < 2 ^ 32 }

@@ -29,10 +29,10 @@ loop-i-preserved c =
       sums = λ j within.
           let sums = lane c.loop-i.first c.loop-i.second c.loop-i.third c.loop-i.fourth j in
           let b = slice_index c.loop-i.bits j / 2 ^ 31 == 1 in
-          let one = c.lanes in
-          let two = c.lanes-in-loop-i in
-          let three = c.lanes-in-loop-i-2 in
-          let four = c.lanes-in-loop-i-3 in
+          let one = c.four_words in
+          let two = c.four_words-in-loop-i in
+          let three = c.four_words-in-loop-i-2 in
+          let four = c.four_words-in-loop-i-3 in
           let words = lane one.result two.result three.result four.result j in
           let small_sums = small-lane c.loop-i.first c.loop-i.second c.loop-i.third c.loop-i.fourth j at.first at.second at.third at.fourth within in
           let small_words : AllSmall words =

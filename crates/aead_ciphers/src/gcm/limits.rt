@@ -1,0 +1,18 @@
+//! The limits on lengths (SP 800-38D section 5.2.1.1).
+
+ghost use Rattle.std.specs.Prelude.{◌↔◌, IsTrue};
+ghost use Rattle.aead_ciphers.specs.Gcm.{Fits};
+
+/// The maximum length of AAD, in bytes (SP 800-38D section 5.2.1.1).
+pub const MAX_AAD_LEN: usize = (1 << 61) - 1;
+
+/// The maximum length of a plaintext, in bytes (SP 800-38D section 5.2.1.1).
+pub const MAX_IN_OUT_LEN: usize = (1 << 36) - 32;
+
+/// Returns whether AAD and a message of these lengths, in bytes, are within the limits of AES-GCM (SP 800-38D section
+/// 5.2.1.1).
+pub fn fits(aad_len: usize, in_out_len: usize) -> bool
+    ensures { IsTrue result ↔ Fits aad_len in_out_len }
+{
+    aad_len <= MAX_AAD_LEN && in_out_len <= MAX_IN_OUT_LEN
+}
