@@ -1,12 +1,12 @@
 //! Loops over AES, GHASH and AES-GCM, of `aead_ciphers` and of `aead_ciphers_wide`, and over ChaCha20.
 
-use crate::keys::{AeadKey, MASK_LEN, MaskKey, aes_of, key_bytes};
+use crate::keys::{AeadKey, MASK_LEN, MaskKey, aes_of};
 use crate::{NONCE, first_bytes, nonce, set_first_bytes};
 use aead_ciphers::aead::quic::{self, HeaderProtectionKey};
 use aead_ciphers::aead::{Aad, LessSafeKey};
 use aead_ciphers::gcm::{self, KeyValue, UpdateBlock, UpdateBlocks, Xi};
 use aead_ciphers_base::aes::{
-    self, BLOCK_LEN, Block, Counter, EncryptBlock, EncryptCtr32, Work, ZERO_BLOCK,
+    self, BLOCK_LEN, Block, Counter, EncryptBlock, EncryptCtr32, KeyBytes, Work, ZERO_BLOCK,
 };
 use aead_ciphers_base::chacha;
 use aead_ciphers_base::overlapping::Overlapping;
@@ -34,7 +34,9 @@ fn first_bytes_of_block(block: Block) -> u64 {
 /// Encrypts four blocks in each turn.
 #[unsafe(no_mangle)]
 pub extern "C" fn bench_encrypt_four(times: u64, key: &[u8], _buffer: &mut [u8]) -> u64 {
-    let Ok(bytes) = key_bytes(key) else { return 0 };
+    let Ok(bytes) = KeyBytes::from_slice(key) else {
+        return 0
+    };
     let Ok(key) = aes::Key::new(bytes) else {
         return 0;
     };
@@ -59,7 +61,9 @@ fn ctr32<K: EncryptCtr32>(times: u64, key: &K, buffer: &mut [u8]) -> u64 {
 /// `ctr32` under an AES key of `aead_ciphers_base`.
 #[unsafe(no_mangle)]
 pub extern "C" fn bench_ctr32(times: u64, key: &[u8], buffer: &mut [u8]) -> u64 {
-    let Ok(bytes) = key_bytes(key) else { return 0 };
+    let Ok(bytes) = KeyBytes::from_slice(key) else {
+        return 0
+    };
     match aes::Key::new(bytes) {
         Ok(key) => ctr32(times, &key, buffer),
         Err(_) => 0,
@@ -69,7 +73,9 @@ pub extern "C" fn bench_ctr32(times: u64, key: &[u8], buffer: &mut [u8]) -> u64 
 /// `ctr32` under an AES key of `aead_ciphers_wide`.
 #[unsafe(no_mangle)]
 pub extern "C" fn bench_wide_ctr32(times: u64, key: &[u8], buffer: &mut [u8]) -> u64 {
-    let Ok(bytes) = key_bytes(key) else { return 0 };
+    let Ok(bytes) = KeyBytes::from_slice(key) else {
+        return 0
+    };
     match wide_aes::Key::new(bytes) {
         Ok(key) => ctr32(times, &key, buffer),
         Err(_) => 0,
@@ -225,13 +231,15 @@ fn sum_of_aes_key<K: EncryptBlock>(key: &K) -> u64 {
 /// Expands an AES key of `aead_ciphers_base` from the bytes of the buffer in each turn.
 #[unsafe(no_mangle)]
 pub extern "C" fn bench_aes_key(times: u64, key: &[u8], buffer: &mut [u8]) -> u64 {
-    let Ok(bytes) = key_bytes(key) else { return 0 };
+    let Ok(bytes) = KeyBytes::from_slice(key) else {
+        return 0
+    };
     let Ok(mut last) = aes::Key::new(bytes) else {
         return 0;
     };
     for turn in 0..times {
         set_first_bytes(buffer, turn);
-        if let Ok(bytes) = key_bytes(buffer)
+        if let Ok(bytes) = KeyBytes::from_slice(buffer)
             && let Ok(made) = aes::Key::new(bytes)
         {
             last = made;
@@ -243,13 +251,15 @@ pub extern "C" fn bench_aes_key(times: u64, key: &[u8], buffer: &mut [u8]) -> u6
 /// Expands an AES key of `aead_ciphers_wide` from the bytes of the buffer in each turn.
 #[unsafe(no_mangle)]
 pub extern "C" fn bench_wide_aes_key(times: u64, key: &[u8], buffer: &mut [u8]) -> u64 {
-    let Ok(bytes) = key_bytes(key) else { return 0 };
+    let Ok(bytes) = KeyBytes::from_slice(key) else {
+        return 0
+    };
     let Ok(mut last) = wide_aes::Key::new(bytes) else {
         return 0;
     };
     for turn in 0..times {
         set_first_bytes(buffer, turn);
-        if let Ok(bytes) = key_bytes(buffer)
+        if let Ok(bytes) = KeyBytes::from_slice(buffer)
             && let Ok(made) = wide_aes::Key::new(bytes)
         {
             last = made;

@@ -4,23 +4,12 @@ use aead_ciphers::aead::quic::{self, HeaderProtectionKey};
 use aead_ciphers::aead::{
     AES_128_GCM, AES_256_GCM, Aad, Algorithm, LessSafeKey, Nonce, Tag, UnboundKey, Unspecified,
 };
-use aead_ciphers_base::aes::{AES_128_KEY_LEN, AES_256_KEY_LEN, KeyBytes};
+use aead_ciphers_base::aes::AES_128_KEY_LEN;
 use aead_ciphers_wide::aead::LessSafeKey as WideKey;
 use aead_ciphers_wide::aead::quic::HeaderProtectionKey as WideHeaderKey;
 
 /// The bytes of a header protection mask.
 pub(crate) const MASK_LEN: usize = 5;
-
-/// The bytes of an AES key of 16 or 32 bytes.
-pub(crate) fn key_bytes(key: &[u8]) -> Result<KeyBytes<'_>, Unspecified> {
-    if let Some(bytes) = key.as_array::<AES_128_KEY_LEN>() {
-        return Ok(KeyBytes::AES_128(bytes));
-    }
-    match key.as_array::<AES_256_KEY_LEN>() {
-        Some(bytes) => Ok(KeyBytes::AES_256(bytes)),
-        None => Err(Unspecified),
-    }
-}
 
 /// The algorithm for a key of 16 or 32 bytes.
 pub(crate) fn algorithm(key: &[u8]) -> &'static Algorithm {

@@ -1,7 +1,7 @@
 //! Tests of `aes_gcm`: the work of each call, and every byte of long messages.
 
 use crate::callers::seal_where_room;
-use crate::cases::{false_tag, key_bytes};
+use crate::cases::false_tag;
 use crate::checks::{holds, same};
 use crate::counting::WORK;
 use crate::reference;
@@ -15,7 +15,7 @@ use std::test::Fail;
 
 /// Expands the key of a test case.
 fn key(case: &Case) -> Result<Key, Fail> {
-    Ok(Key::new(key_bytes(case)?, &mut Work::new())?)
+    Ok(Key::new(KeyBytes::from_slice(&case.key)?, &mut Work::new())?)
 }
 
 /// Seals with the key and the nonce of a test case, and returns the tag and the work.
@@ -152,7 +152,7 @@ fn parts(bytes: &[u8], place: usize) -> (&[u8], &[u8]) {
 
 /// Asserts that a message is sealed as by `reference`, and opened at each of nine starts.
 fn every_start(rt: &impl Abort, alloc: Global, case: &Case, len: usize) -> Result<(), Fail> {
-    let key = aes::Key::new(key_bytes(case)?)?;
+    let key = aes::Key::new(KeyBytes::from_slice(&case.key)?)?;
     let message = counting(alloc, len)?;
     let ciphertext = reference::ciphertext(alloc, &key, &case.nonce, &message)?;
     let expected = reference::tag(&key, &case.nonce, &case.aad, &ciphertext);

@@ -5,7 +5,7 @@ use aead_ciphers::aead::{
     AES_128_GCM, AES_256_GCM, Aad, Algorithm, BoundKey, CounterSequence, LessSafeKey, Nonce,
     OpeningKey, SealingKey, Tag, UnboundKey,
 };
-use aead_ciphers_base::aes::{self, KeyBytes};
+use aead_ciphers_base::aes;
 use aead_vectors::gcm_spec::Case;
 use std::alloc::Global;
 use std::test::Fail;
@@ -16,14 +16,6 @@ fn algorithm(case: &Case) -> &'static Algorithm {
         &AES_128_GCM
     } else {
         &AES_256_GCM
-    }
-}
-
-pub(crate) fn key_bytes(case: &Case) -> Result<KeyBytes<'_>, Fail> {
-    let key = case.key.as_slice();
-    match key.as_array::<16>() {
-        Some(key) => Ok(KeyBytes::AES_128(key)),
-        None => Ok(KeyBytes::AES_256(key.as_array::<32>().ok_or("a key's length")?)),
     }
 }
 

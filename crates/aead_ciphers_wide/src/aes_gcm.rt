@@ -1,7 +1,8 @@
 //! An expanded AES-GCM key as plain data, for memory that the library does not own: a C struct, or a table of keys.
 
-ghost use Rattle.std.specs.Prelude.{◌≡◌, ◌+◌, ◌-◌, ◌↔◌, ℕ, List, [], length, is_ok, IsTrue, IsOk, IfOk, OnOk, OnErr};
+ghost use Rattle.std.specs.Prelude.{◌≡◌, ◌+◌, ◌-◌, ◌↔◌, ℕ, List, [], length, is_ok, IsOk, IfOk, OnOk, OnErr};
 ghost use Rattle.aead_ciphers_base.specs.Aes.{aes as aes_cipher};
+ghost use Rattle.aead_ciphers_base.specs.Bytes.{zero_block};
 ghost use Rattle.aead_ciphers_base.specs.KeyBytes.{key_bytes};
 ghost use Rattle.aead_ciphers_base.specs.Mask.{aes_mask};
 ghost use Rattle.aead_ciphers_base.specs.Values.{aad_bytes};
@@ -16,20 +17,12 @@ mod pieces;
 use crate::aes::Width;
 use crate::{aes, gcm};
 use aead_ciphers::aes_gcm::{open_to_with, open_with, seal_with};
-use aead_ciphers::gcm::MAX_IN_OUT_LEN;
+use aead_ciphers::gcm::fits;
 use aead_ciphers_base::aes::{EncryptBlock, KeyBytes, Work, ZERO_BLOCK};
 use aead_ciphers_base::error::Unspecified;
 use aead_ciphers_base::values::{Aad, MAX_TAG_LEN, Nonce, Sample, Tag};
 pub use pieces::SealState;
 use std::ops::RangeFrom;
-
-/// Returns whether AAD and a message of these lengths, in bytes, are within the limits of AES-GCM (SP 800-38D section
-/// 5.2.1.1).
-pub fn fits(aad_len: usize, in_out_len: usize) -> bool
-    ensures { IsTrue result ↔ Fits aad_len in_out_len }
-{
-    aad_len < 1 << 61 && in_out_len <= MAX_IN_OUT_LEN
-}
 
 /// An expanded AES-GCM key as plain data.
 ///
@@ -97,7 +90,7 @@ impl ExpandedKey {
         gcm::expand(&mut self.products, &mut self.squares, subkey);
     }
 
-    // Borrows the AES key.
+    /// Borrows the AES key.
     fn aes(&self) -> aes::KeyRef<'_>
         requires { IsExpanded self.now }
         ensures { result ≡ bytes_of self.now }
@@ -108,6 +101,14 @@ impl ExpandedKey {
             self.rounds as usize,
             self.width,
         )
+    }
+
+    /// Borrows the key of GHASH, whose hash subkey is the encrypted zero block.
+    fn gcm(&self) -> gcm::KeyRef<'_>
+        requires { IsExpanded self.now }
+        ensures { result ≡ aes_cipher (bytes_of self.now) zero_block }
+    {
+        gcm::KeyRef::new(&self.products, &self.squares)
     }
 
     /// Seals under this key, like `aead_ciphers::aes_gcm::seal`.
@@ -131,7 +132,7 @@ impl ExpandedKey {
             work.old work.new }
     {
         let aes = self.aes();
-        let gcm = gcm::KeyRef::new(&self.products, &self.squares);
+        let gcm = self.gcm();
         seal_with(&aes, &gcm, nonce, aad, in_out, work)
     }
 
@@ -151,7 +152,7 @@ impl ExpandedKey {
         ensures refused { OnErr result (in_out.new ≡ in_out.old) }
     {
         let aes = self.aes();
-        let gcm = gcm::KeyRef::new(&self.products, &self.squares);
+        let gcm = self.gcm();
         let len = in_out.len();
         let start = ciphertext.start;
         open_with(
@@ -219,7 +220,7 @@ impl ExpandedKey {
         ensures refused { OnErr result (out.new ≡ out.old) }
     {
         let aes = self.aes();
-        let gcm = gcm::KeyRef::new(&self.products, &self.squares);
+        let gcm = self.gcm();
         open_to_with(
             &aes,
             &gcm,
@@ -243,7 +244,7 @@ impl ExpandedKey {
         ensures begun { IfOk result (λ state. HasSealed (aes_cipher (bytes_of self.now)) nonce
             (aad_bytes aad.entry) [] [] state) }
     {
-        let gcm = gcm::KeyRef::new(&self.products, &self.squares);
+        let gcm = self.gcm();
         SealState::begin_with(&gcm, nonce, aad)
     }
 
@@ -258,7 +259,7 @@ impl ExpandedKey {
         ensures begun { IfOk result (λ state. HasSealed (aes_cipher (bytes_of self.now)) nonce
             (joined aad.now) [] [] state) }
     {
-        let gcm = gcm::KeyRef::new(&self.products, &self.squares);
+        let gcm = self.gcm();
         SealState::begin_with_parts(&gcm, nonce, aad)
     }
 
@@ -276,7 +277,7 @@ impl ExpandedKey {
         ensures refused { OnErr result ((state.new ≡ state.old) × (in_out.new ≡ in_out.old)) }
     {
         let aes = self.aes();
-        let gcm = gcm::KeyRef::new(&self.products, &self.squares);
+        let gcm = self.gcm();
         state.update_with(&aes, &gcm, in_out)
     }
 
@@ -290,7 +291,7 @@ impl ExpandedKey {
             → result ≡ gcm_tag (aes_cipher (bytes_of self.now)) nonce aad ciphertext }
     {
         let aes = self.aes();
-        let gcm = gcm::KeyRef::new(&self.products, &self.squares);
+        let gcm = self.gcm();
         state.finish_with(&aes, &gcm)
     }
 

@@ -13,17 +13,9 @@ use aead_vectors::sp_800_38a::{CTR, CtrCase, ECB};
 use std::process::Abort;
 use std::test::Fail;
 
-/// A key of 16 or 32 bytes.
-fn key_bytes(key: &[u8]) -> Result<KeyBytes<'_>, Fail> {
-    match key.as_array::<16>() {
-        Some(key) => Ok(KeyBytes::AES_128(key)),
-        None => Ok(KeyBytes::AES_256(key.as_array::<32>().ok_or("a key's length")?)),
-    }
-}
-
 /// Asserts the encryption of a block by a key and by its clone.
 fn enciphers(rt: &impl Abort, case: &Case) -> Result<(), Fail> {
-    let key = Key::new(key_bytes(&case.key)?)?;
+    let key = Key::new(KeyBytes::from_slice(&case.key)?)?;
     let found = key.encrypt_block(case.plaintext, &mut Work::new());
     same(rt, &found, &case.ciphertext, case.name);
     let found = key.clone()?.encrypt_block(case.plaintext, &mut Work::new());
@@ -77,7 +69,7 @@ fn encrypts(rt: &impl Abort, case: &CtrCase, width: Width) -> Result<(), Fail> {
     let whole = bytes.len() / BLOCK_LEN * BLOCK_LEN;
     let in_out = Overlapping::from(&mut bytes[..whole]);
     let mut counter = counter_of(&case.counter);
-    let key = Key::new_with_width(key_bytes(&case.key)?, width)?;
+    let key = Key::new_with_width(KeyBytes::from_slice(&case.key)?, width)?;
     key.ctr32_encrypt_within(in_out, &mut counter, &mut Work::new());
     same(rt, &bytes, &case.ciphertext, case.name);
     Ok(())

@@ -8,9 +8,10 @@ ghost use Rattle.aead_ciphers.specs.Gcm.{Fits, gcm_encrypted, gcm_tag, Opened, O
 ghost use Rattle.deerlapse.specs.AesKey.{HasRounds, IsAesKeyLen, IsKeyOrNone};
 
 use aead_ciphers::aead::{Aad, MAX_TAG_LEN, NONCE_LEN, Nonce, Tag, Unspecified};
+use aead_ciphers::gcm::fits;
 use aead_ciphers_base::aes::{AES_256_KEY_LEN, KeyBytes, Work};
 use aead_ciphers_wide::aes::Width;
-use aead_ciphers_wide::aes_gcm::{ExpandedKey, fits};
+use aead_ciphers_wide::aes_gcm::ExpandedKey;
 use std::mem::size_of;
 
 // The `words` of the type in the header have as many bytes.

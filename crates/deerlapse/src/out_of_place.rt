@@ -8,7 +8,8 @@ ghost use Rattle.deerlapse.specs.AesKey.{HasRounds, IsKeyOrNone};
 
 use crate::key::{deerlapse_key_seal, has_rounds};
 use aead_ciphers::aead::{Aad, MAX_TAG_LEN, NONCE_LEN, Nonce, Tag};
-use aead_ciphers_wide::aes_gcm::{ExpandedKey, fits};
+use aead_ciphers::gcm::fits;
+use aead_ciphers_wide::aes_gcm::ExpandedKey;
 
 /// Does the same as `deerlapse_key_seal`, but leaves the message unchanged and writes the ciphertext to `out`.
 ///

@@ -2,7 +2,6 @@
 
 ghost use Rattle.std.specs.Prelude.{◌≡◌, ◌-◌, ◌↔◌, length, is_ok, IsOk, IfOk, OnOk, OnErr};
 ghost use Rattle.aead_ciphers_base.specs.Aes.{aes};
-ghost use Rattle.aead_ciphers_base.specs.KeyBytes.{key_bytes};
 ghost use Rattle.aead_ciphers_base.specs.Values.{aad_bytes};
 ghost use Rattle.aead_ciphers.specs.Algorithm.{key_len};
 ghost use Rattle.aead_ciphers.specs.Gcm.{Fits, gcm_decrypted, gcm_encrypted, gcm_tag, Opened, OpenedAttached};
@@ -10,8 +9,8 @@ ghost use Rattle.aead_ciphers.specs.Packet.{PacketFits, sealed_packet, OpenedPac
 
 use crate::aes::Width;
 use crate::aes_gcm::ExpandedKey;
-use aead_ciphers::aead::{AES_128_GCM, Algorithm};
-use aead_ciphers_base::aes::{KeyBytes, Work};
+use aead_ciphers::aead::Algorithm;
+use aead_ciphers_base::aes::Work;
 use aead_ciphers_base::error::Unspecified;
 use aead_ciphers_base::values::{Aad, MAX_TAG_LEN, Nonce, Tag};
 use std::alloc::AllocError;
@@ -66,7 +65,7 @@ impl LessSafeKey {
         ensures accepted { IsOk result ↔ (length key_bytes.now ≡ key_len algorithm.now) }
         ensures made { IfOk result (λ key. key ≡ record { algorithm = algorithm.now; bytes = key_bytes.now }) }
     {
-        let bytes = bytes_for(algorithm, key_bytes)?;
+        let bytes = algorithm.key_bytes(key_bytes)?;
         let mut made = LessSafeKey {
             key: ExpandedKey::zeros(),
             algorithm,
@@ -89,7 +88,7 @@ impl LessSafeKey {
         ensures made { IfOk result (λ key. key ≡ record { algorithm = algorithm.now; bytes = key_bytes.now }) }
     {
         // The body of `new` once more, since a call of one from the other copies the key.
-        let bytes = bytes_for(algorithm, key_bytes)?;
+        let bytes = algorithm.key_bytes(key_bytes)?;
         let mut made = LessSafeKey {
             key: ExpandedKey::zeros(),
             algorithm,
@@ -247,17 +246,5 @@ impl LessSafeKey {
             return Err(Unspecified);
         };
         self.open_within_to_front(nonce, Aad::from(&*header), body, 0..)
-    }
-}
-
-/// Borrows `bytes` as a key of `algorithm`. Fails if it is not `algorithm.key_len()` bytes long.
-fn bytes_for<'a>(algorithm: &Algorithm, bytes: &'a [u8]) -> Result<KeyBytes<'a>, Unspecified>
-    ensures accepted { IsOk result ↔ (length bytes.now ≡ key_len algorithm.now) }
-    ensures bytes { IfOk result (λ key. key_bytes key ≡ bytes.now) }
-{
-    if *algorithm == AES_128_GCM {
-        Ok(KeyBytes::AES_128(bytes.as_array().ok_or(Unspecified)?))
-    } else {
-        Ok(KeyBytes::AES_256(bytes.as_array().ok_or(Unspecified)?))
     }
 }

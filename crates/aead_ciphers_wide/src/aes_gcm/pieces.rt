@@ -3,17 +3,16 @@
 ghost use Rattle.std.specs.Prelude.{◌≡◌, ◌↔◌, ◌≤◌, ◌<◌, ◌+◌, ◌%◌, ◌^◌, ◌-◌, ℕ, List, [], ◌++◌, length, min, IsOk, IfOk, OnOk, OnErr};
 ghost use Rattle.aead_ciphers_base.specs.Bytes.{zero_block};
 ghost use Rattle.aead_ciphers_base.specs.Values.{aad_bytes};
-ghost use Rattle.aead_ciphers.specs.Gcm.{Fits, gcm_tag, length_block, padded_block, padded_blocks};
+ghost use Rattle.aead_ciphers.specs.Gcm.{Fits, gcm_tag, padded_blocks};
 ghost use Rattle.aead_ciphers.specs.HashOf.{IsHashOf};
 ghost use Rattle.aead_ciphers_wide.specs.Pieces.{HasSealed, HasTaken, SealsPiece, joined, keystream, zero_state};
 
-use aead_ciphers::gcm::{MAX_IN_OUT_LEN, UpdateBlocks, Xi};
+use aead_ciphers::gcm::{self, MAX_AAD_LEN, MAX_IN_OUT_LEN, UpdateBlocks, Xi, lengths};
 use aead_ciphers_base::aes::{
     BLOCK_LEN, Block, Counter, EncryptCtr32, Iv, Overlapping, Work, ZERO_BLOCK,
 };
 use aead_ciphers_base::bb;
 use aead_ciphers_base::error::Unspecified;
-use aead_ciphers_base::polyfill::slice::as_chunks;
 use aead_ciphers_base::values::{Aad, NONCE_LEN, Nonce, Tag};
 
 /// The length of a batch, in bytes: eight blocks, which one pass of the wide cipher encrypts.
@@ -69,7 +68,7 @@ impl SealState {
             → HasSealed cipher nonce (aad_bytes aad.entry) [] [] s) }
     {
         let aad = aad.as_ref();
-        if aad.len() >= 1 << 61 {
+        if aad.len() > MAX_AAD_LEN {
             return Err(Unspecified);
         }
         Ok(SealState {
@@ -101,7 +100,7 @@ impl SealState {
         for part in aad {
             hash.take_in(gcm, part);
         }
-        if hash.total >= 1 << 61 {
+        if hash.total > MAX_AAD_LEN {
             return Err(Unspecified);
         }
         Ok(SealState {
@@ -280,33 +279,6 @@ fn absorb<G: UpdateBlocks>(gcm: &G, xi: Block, input: &[u8]) -> Block
 {
     let mut hash = Xi::zero();
     hash.set(xi);
-    let (whole, rest) = as_chunks::<u8, BLOCK_LEN>(input);
-    gcm.update_blocks(&mut hash, whole, &mut Work::new());
-    if !rest.is_empty() {
-        gcm.update_block(&mut hash, padded(rest), &mut Work::new());
-    }
+    gcm::absorb(gcm, &mut hash, input, &mut Work::new());
     *hash.as_ref()
-}
-
-/// Returns a block that begins with `bytes`, at most 16 of them, and ends in zeros.
-#[tactic(auto, using(aead_ciphers::proofs::PaddedBlocks::padded_is))]
-fn padded(bytes: &[u8]) -> Block
-    requires { length bytes.now ≤ 16 }
-    ensures { result ≡ padded_block bytes.now 0 }
-{
-    let mut block = ZERO_BLOCK;
-    block[..bytes.len()].copy_from_slice(bytes);
-    block
-}
-
-/// Returns the block of two lengths, which are passed in bytes and written in bits (SP 800-38D section 7.1 step 5).
-#[tactic(auto, using(aead_ciphers::proofs::PaddedBlocks::lengths_are))]
-fn lengths(aad_len: u64, in_out_len: u64) -> Block
-    requires { Fits aad_len in_out_len }
-    ensures { result ≡ length_block aad_len in_out_len }
-{
-    let mut block = ZERO_BLOCK;
-    block[..8].copy_from_slice(&(8 * aad_len).to_be_bytes());
-    block[8..].copy_from_slice(&(8 * in_out_len).to_be_bytes());
-    block
 }

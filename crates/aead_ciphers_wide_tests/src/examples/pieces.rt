@@ -7,7 +7,8 @@ ghost use Rattle.aead_ciphers_base.specs.Values.{aad_bytes};
 ghost use Rattle.aead_ciphers_wide.specs.ExpandedKey.{IsExpanded, bytes_of};
 
 use aead_ciphers::aead::{Aad, Nonce, Tag, Unspecified};
-use aead_ciphers_wide::aes_gcm::{ExpandedKey, fits};
+use aead_ciphers::gcm::fits;
+use aead_ciphers_wide::aes_gcm::ExpandedKey;
 
 /// Seals `in_out` in pieces of `piece_len` bytes, the last of which may be shorter. The ciphertext and the tag are those of
 /// one call. If the lengths exceed the limits, nothing is sealed.
