@@ -4,32 +4,12 @@
  *
  * With `branch` or `address` it leaks a byte of a key instead, to show that this is detected. */
 #include "deerlapse.h"
-#include <stdio.h>
-#include <stdlib.h>
-#include <string.h>
-#include <valgrind/memcheck.h>
+#include "secret.h"
 
 #define TAG DEERLAPSE_TAG_LEN
 #define NONCE DEERLAPSE_NONCE_LEN
 
-#define CHECK(is)                                                    \
-    do {                                                             \
-        if (!(is)) {                                                 \
-            fprintf(stderr, "failed: line %d, %s\n", __LINE__, #is); \
-            exit(1);                                                 \
-        }                                                            \
-    } while (0)
-
 static unsigned long openings, authentic_records;
-
-/* Bytes in a block of their own, undefined. */
-static uint8_t *secret(size_t len) {
-    uint8_t *bytes = malloc(len ? len : 1);
-    CHECK(bytes);
-    memset(bytes, 0x5a, len);
-    (void)VALGRIND_MAKE_MEM_UNDEFINED(bytes, len);
-    return bytes;
-}
 
 /* What an opening returned and wrote. The length of a plaintext is no secret where the tag was right. */
 static void opened(bool answer, bool right, const size_t *len, size_t wanted) {

@@ -5,46 +5,14 @@
  *
  * A packet number and its length are undefined where they are returned, and become known before the packet is opened: that
  * call takes the header's length and the number. */
-#include <stdbool.h>
-#include <stdint.h>
-#include <stdio.h>
-#include <stdlib.h>
-#include <string.h>
-#include <valgrind/memcheck.h>
-
-bool watched_seal(const uint8_t *key, size_t key_len, const uint8_t *nonce, const uint8_t *aad, size_t aad_len,
-                  uint8_t *in_out, size_t len, uint8_t *tag);
-bool watched_protect(bool is_chacha, const uint8_t *key, size_t key_len, uint8_t *packet, size_t len,
-                     size_t number_at);
-bool watched_unprotect(bool is_chacha, const uint8_t *key, size_t key_len, uint8_t *packet, size_t len,
-                       size_t number_at, size_t *number_len, uint64_t *number);
-bool watched_open_packet(const uint8_t *key, size_t key_len, const uint8_t *iv, uint8_t *packet, size_t len,
-                         size_t header_len, uint64_t number, size_t *payload_len);
-bool watched_read_record(const uint8_t *key, size_t key_len, const uint8_t *iv, uint8_t *record, size_t len,
-                         uint8_t *content_type, size_t *content_len);
+#include "secret.h"
+#include "watched.h"
 
 #define TAG 16
 #define NONCE 12
 #define RECORD_HEADER 5
 
-#define CHECK(is)                                                    \
-    do {                                                             \
-        if (!(is)) {                                                 \
-            fprintf(stderr, "failed: line %d, %s\n", __LINE__, #is); \
-            exit(1);                                                 \
-        }                                                            \
-    } while (0)
-
 static unsigned long packets, records, authentic;
-
-/* Bytes in a block of their own, undefined. */
-static uint8_t *secret(size_t len) {
-    uint8_t *bytes = malloc(len ? len : 1);
-    CHECK(bytes);
-    memset(bytes, 0x5a, len);
-    (void)VALGRIND_MAKE_MEM_UNDEFINED(bytes, len);
-    return bytes;
-}
 
 /* Whether the bytes are these, by a look at a copy. */
 static bool holds(const uint8_t *bytes, uint8_t wanted, size_t len) {

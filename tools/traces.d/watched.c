@@ -1,18 +1,8 @@
 /* Protects, unprotects and opens QUIC packets, and reads records, for tools/traces, by the calls of
  * tools/secrets.d/watched.txt. */
 #define LONGEST 16380 /* with its type and padding the most that a record holds */
+#include "../secrets.d/watched.h"
 #include "traced.h"
-
-bool watched_seal(const uint8_t *key, size_t key_len, const uint8_t *nonce, const uint8_t *aad, size_t aad_len,
-                  uint8_t *in_out, size_t len, uint8_t *tag);
-bool watched_protect(bool is_chacha, const uint8_t *key, size_t key_len, uint8_t *packet, size_t len,
-                     size_t number_at);
-bool watched_unprotect(bool is_chacha, const uint8_t *key, size_t key_len, uint8_t *packet, size_t len,
-                       size_t number_at, size_t *number_len, uint64_t *number);
-bool watched_open_packet(const uint8_t *key, size_t key_len, const uint8_t *iv, uint8_t *packet, size_t len,
-                         size_t header_len, uint64_t number, size_t *payload_len);
-bool watched_read_record(const uint8_t *key, size_t key_len, const uint8_t *iv, uint8_t *record, size_t len,
-                         uint8_t *content_type, size_t *content_len);
 
 enum { HEADER = 12, NUMBER_AT = 9, RECORD_HEADER = 5, PADDING = 4, APPLICATION_DATA = 23 };
 enum { SHORT_FORM = 0x40, SHORT_MASKED = 0x1f, LONG_FORM = 0xc0, LONG_MASKED = 0x0f };
