@@ -1,6 +1,12 @@
-/* BearSSL's constant-time implementations for 64-bit machines without special instructions. */
+/* BearSSL's constant-time implementations for 64-bit machines without special instructions. With OF_SOURCES also the
+ * bit-sliced core of AES, which a header of the sources declares.
+ */
 #include "bench.h"
+#ifdef OF_SOURCES
+#include <inner.h>
+#else
 #include <bearssl.h>
+#endif
 
 /* An AES key in BearSSL is a form that each call expands. */
 typedef struct {
@@ -119,6 +125,28 @@ static uint64_t ctr32(uint64_t times, const uint8_t *key, size_t key_len, uint8_
     return first_bytes(buffer);
 }
 
+#ifdef OF_SOURCES
+/* One pass of the core, under a key that is expanded before. */
+static uint64_t encrypt_four(uint64_t times, const uint8_t *key, size_t key_len, uint8_t *buffer, size_t len) {
+    uint64_t short_key[30], long_key[120], planes[8];
+    uint32_t words[16];
+    uint8_t blocks[4 * BLOCK_LEN] = {0};
+    (void)buffer, (void)len;
+    unsigned rounds = br_aes_ct64_keysched(short_key, key, key_len);
+    br_aes_ct64_skey_expand(long_key, rounds, short_key);
+    for (uint64_t i = 0; i < times; i++) {
+        br_range_dec32le(words, 16, blocks);
+        for (int j = 0; j < 4; j++) br_aes_ct64_interleave_in(&planes[j], &planes[j + 4], words + 4 * j);
+        br_aes_ct64_ortho(planes);
+        br_aes_ct64_bitslice_encrypt(rounds, long_key, planes);
+        br_aes_ct64_ortho(planes);
+        for (int j = 0; j < 4; j++) br_aes_ct64_interleave_out(words + 4 * j, planes[j], planes[j + 4]);
+        br_range_enc32le(blocks, words, 16);
+    }
+    return first_bytes(blocks);
+}
+#endif
+
 static uint64_t update_block(uint64_t times, const uint8_t *key, size_t key_len, uint8_t *buffer, size_t len) {
     uint8_t hash[BLOCK_LEN] = {0};
     (void)key_len, (void)buffer, (void)len;
@@ -186,6 +214,9 @@ const side bearssl = {{
     [OPEN_ONCE] = open_once,
     [AUTHENTICATE] = authenticate,
     [CTR32] = ctr32,
+#ifdef OF_SOURCES
+    [ENCRYPT_FOUR] = encrypt_four,
+#endif
     [UPDATE_BLOCK] = update_block,
     [UPDATE_BLOCKS] = update_blocks,
     [CHACHA] = chacha,

@@ -15,11 +15,11 @@
  *
  * It prints a line for each row and peer, with tabs between the fields: the row, the bits of the key if the row is
  * timed for two, "MB/s" or "ns", the length of the buffer, the nanoseconds of the library's call, median and least, the
- * ratio to the plain C that is wanted (0: none), the peer, and its time over the library's: median, first and third
- * quartile. The last line is "clock", the seconds of the wall clock that the turns took, and those of processor time.
+ * peer, and its time over the library's: median, first and third quartile. The last line is "clock", the seconds of the wall
+ * clock that the turns took, and those of processor time.
  *
- * The status is 2 if the result of a peer differs, or a ratio to the plain C is less than required. `bench/run` builds and
- * runs it, and `bench/tables` makes tables of what it prints.
+ * The status is 2 if the result of a peer differs, or a ratio to BearSSL built by clang is less than required. `bench/run`
+ * builds and runs it, and `bench/tables` makes tables of what it prints.
  */
 #define _POSIX_C_SOURCE 200809L
 #include "bench.h"
@@ -38,23 +38,23 @@ typedef struct {
     size_t key_lens[2];
     long len; /* of the buffer; OF_KEY: as long as the key */
     enum { SPEED, TIME } shown;
-    double wanted; /* the least ratio to the plain C; 0: none */
+    double wanted; /* the least ratio to the yardstick; 0: none */
 } row;
 
 static const row rows[] = {
     {"sealing, 0 bytes", &library, SEAL, {16, 32}, 0, TIME, 0},
     {"sealing, 0 bytes, wide", &wide, SEAL, {16, 32}, 0, TIME, 0},
-    {"sealing, 16 bytes", &library, SEAL, {16, 32}, 16, SPEED, 2.4},
+    {"sealing, 16 bytes", &library, SEAL, {16, 32}, 16, SPEED, 1.9},
     {"sealing, 16 bytes, wide", &wide, SEAL, {16, 32}, 16, SPEED, 0},
-    {"sealing, 32 bytes", &library, SEAL, {16, 32}, 32, SPEED, 2.4},
+    {"sealing, 32 bytes", &library, SEAL, {16, 32}, 32, SPEED, 1.8},
     {"sealing, 32 bytes, wide", &wide, SEAL, {16, 32}, 32, SPEED, 0},
-    {"sealing, 64 bytes", &library, SEAL, {16, 32}, 64, SPEED, 2.4},
+    {"sealing, 64 bytes", &library, SEAL, {16, 32}, 64, SPEED, 1.1},
     {"sealing, 64 bytes, wide", &wide, SEAL, {16, 32}, 64, SPEED, 0},
     {"sealing, 250 bytes", &library, SEAL, {16, 32}, 250, SPEED, 0},
     {"sealing, 250 bytes, wide", &wide, SEAL, {16, 32}, 250, SPEED, 0},
-    {"sealing, 1350 bytes", &library, SEAL, {16, 32}, 1350, SPEED, 2.4},
+    {"sealing, 1350 bytes", &library, SEAL, {16, 32}, 1350, SPEED, 1.0},
     {"sealing, 1350 bytes, wide", &wide, SEAL, {16, 32}, 1350, SPEED, 0},
-    {"sealing, 16 KiB", &library, SEAL, {16, 32}, 16 * KIB, SPEED, 2.7},
+    {"sealing, 16 KiB", &library, SEAL, {16, 32}, 16 * KIB, SPEED, 1.0},
     {"sealing, 16 KiB, wide", &wide, SEAL, {16, 32}, 16 * KIB, SPEED, 0},
     {"sealing, 1 MiB", &library, SEAL, {16, 32}, MIB, SPEED, 0},
     {"sealing, 1 MiB, wide", &wide, SEAL, {16, 32}, MIB, SPEED, 0},
@@ -70,7 +70,7 @@ static const row rows[] = {
     {"opening, 250 bytes, wide", &wide, OPEN, {16, 32}, 250, SPEED, 0},
     {"opening, 1350 bytes", &library, OPEN, {16, 32}, 1350, SPEED, 0},
     {"opening, 1350 bytes, wide", &wide, OPEN, {16, 32}, 1350, SPEED, 0},
-    {"opening, 16 KiB", &library, OPEN, {16, 32}, 16 * KIB, SPEED, 2.7},
+    {"opening, 16 KiB", &library, OPEN, {16, 32}, 16 * KIB, SPEED, 0.95},
     {"opening, 16 KiB, wide", &wide, OPEN, {16, 32}, 16 * KIB, SPEED, 0},
     {"opening, 1 MiB", &library, OPEN, {16, 32}, MIB, SPEED, 0},
     {"opening, 1 MiB, wide", &wide, OPEN, {16, 32}, MIB, SPEED, 0},
@@ -80,19 +80,19 @@ static const row rows[] = {
     {"cloning an AES-GCM key, wide", &wide, CLONE, {16}, OF_KEY, TIME, 0},
     {"making an AES key", &library, AES_KEY, {16, 32}, OF_KEY, TIME, 0},
     {"making an AES key, wide", &wide, AES_KEY, {16, 32}, OF_KEY, TIME, 0},
-    {"AES, four blocks", &library, ENCRYPT_FOUR, {16, 32}, 64, SPEED, 2.5},
+    {"AES, four blocks", &library, ENCRYPT_FOUR, {16, 32}, 64, SPEED, 1.05},
     {"counter mode, 16 bytes, wide", &wide, CTR32, {16, 32}, 16, SPEED, 0},
     {"counter mode, 32 bytes, wide", &wide, CTR32, {16, 32}, 32, SPEED, 0},
     {"counter mode, 48 bytes, wide", &wide, CTR32, {16, 32}, 48, SPEED, 0},
     {"counter mode, 64 bytes, wide", &wide, CTR32, {16, 32}, 64, SPEED, 0},
-    {"counter mode, 16 KiB", &library, CTR32, {16, 32}, 16 * KIB, SPEED, 2.5},
+    {"counter mode, 16 KiB", &library, CTR32, {16, 32}, 16 * KIB, SPEED, 1.0},
     {"counter mode, 16 KiB, wide", &wide, CTR32, {16, 32}, 16 * KIB, SPEED, 0},
-    {"GHASH, one block", &library, UPDATE_BLOCK, {16}, 16, SPEED, 3.0},
+    {"GHASH, one block", &library, UPDATE_BLOCK, {16}, 16, SPEED, 1.15},
     {"GHASH, one block, wide", &wide, UPDATE_BLOCK, {16}, 16, SPEED, 0},
     {"GHASH, 16 KiB, wide", &wide, UPDATE_BLOCKS, {16}, 16 * KIB, SPEED, 0},
     {"an AAD of 16 KiB, wide", &wide, AUTHENTICATE, {16, 32}, 16 * KIB, SPEED, 0},
     {"ChaCha20, 64 bytes", &library, CHACHA, {32}, 64, SPEED, 0},
-    {"ChaCha20, 16 KiB", &library, CHACHA, {32}, 16 * KIB, SPEED, 2.0},
+    {"ChaCha20, 16 KiB", &library, CHACHA, {32}, 16 * KIB, SPEED, 1.9},
     {"a mask by AES-128", &library, MASK, {16}, SAMPLE_LEN, TIME, 0},
     {"a mask by AES-128, wide", &wide, MASK, {16}, SAMPLE_LEN, TIME, 0},
     {"a mask by AES-256", &library, MASK, {32}, SAMPLE_LEN, TIME, 0},
@@ -138,15 +138,17 @@ typedef struct {
     const side *of[2]; /* the sides of the library that it is compared with; none: each */
 } peer;
 
+/* The peer to which the rows have least ratios. */
+static const char yardstick[] = "BearSSL, clang";
+
 static const peer all_peers[] = {
-    {"C", &plain, {0}},
-    {"Libraries", &libraries, {&wide}},
+    {"Libraries", &library, {&wide}},
     {"`LessSafeKey`", &less_safe_key, {&library, &wide}},
 #ifdef WITH_BEARSSL
     {"BearSSL", &bearssl, {0}},
 #endif
 #ifdef WITH_BEARSSL_CLANG
-    {"BearSSL, clang", &bearssl_clang, {0}},
+    {yardstick, &bearssl_clang, {0}},
 #endif
 #ifdef WITH_OPENSSL
     {"OpenSSL", &openssl, {0}},
@@ -291,20 +293,19 @@ static bool repeats(const column *columns, int column_count, int turns) {
     return true;
 }
 
-/* Prints the line of a peer, and returns whether its ratio is as wanted. */
+/* Prints the line of a peer, and returns whether its ratio is at least what the row requires. */
 static bool print_peer(const timing *of, const timed *ours, const timed *theirs, int turns) {
     double ratio[TURNS], least, time = median_of(ours, turns, &least);
     for (int i = 0; i < turns; i++) ratio[i] = theirs->seconds[i] / ours->seconds[i];
     sort(ratio, turns);
     const row *r = of->row;
-    double median = ratio[turns / 2], wanted = theirs->peer->side == &plain ? r->wanted : 0;
+    double median = ratio[turns / 2], wanted = theirs->peer->name == yardstick ? r->wanted : 0;
     printf("%s\t", r->name);
     if (r->key_lens[1]) printf("%zu", 8 * of->key_len);
     printf("\t%s\t%zu\t%.4g\t%.4g\t", r->shown == SPEED ? "MB/s" : "ns", of->len, 1e9 * time, 1e9 * least);
-    printf("%.1f\t%s\t%.4g\t%.4g\t%.4g\n", r->wanted, theirs->peer->name, median, ratio[turns / 4],
-           ratio[turns - 1 - turns / 4]);
+    printf("%s\t%.4g\t%.4g\t%.4g\n", theirs->peer->name, median, ratio[turns / 4], ratio[turns - 1 - turns / 4]);
     fflush(stdout);
-    if (median < wanted) fprintf(stderr, "bench: %s: %.2f to the C, less than %.1f\n", of->name, median, wanted);
+    if (median < wanted) fprintf(stderr, "bench: %s: %.2f to %s, less than %.2f\n", of->name, median, yardstick, wanted);
     return median >= wanted;
 }
 

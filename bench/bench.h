@@ -49,13 +49,11 @@ extern const side library;       /* the loops of crates/aead_bench over the keys
 extern const side before_library; /* those of an older crates/aead_bench */
 extern const side wide;          /* those over the keys of crates/aead_ciphers_wide, and over records */
 extern const side before_wide;   /* those of an older crates/aead_bench */
-extern const side libraries;     /* those over the keys of the libraries that `wide` has too */
 extern const side less_safe_key; /* those that seal and open what a packet or a record holds, without making it */
 extern const side calls;         /* the calls for C of crates/deerlapse */
 extern const side calls_v3;      /* those of the text for x86-64-v3 in dist/ */
-extern const side plain;         /* plain C */
 extern const side bearssl;       /* BearSSL as the system has it */
-extern const side bearssl_clang; /* BearSSL's sources, by the compiler of the plain C and of the library */
+extern const side bearssl_clang; /* BearSSL's sources, by the compiler of the library */
 extern const side openssl;
 
 static const uint8_t nonce[NONCE_LEN] = {1, 1, 1, 1, 1, 1, 1, 1, 1, 1, 1, 1};

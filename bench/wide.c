@@ -3,8 +3,6 @@
 
 loop bench_wide_seal, bench_wide_open, bench_wide_authenticate, bench_wide_ctr32, bench_wide_update_block,
     bench_wide_update_blocks, bench_wide_mask, bench_wide_aes_key, bench_wide_less_safe_key, bench_wide_clone;
-loop bench_seal, bench_open, bench_authenticate, bench_ctr32, bench_update_block, bench_update_blocks, bench_mask,
-    bench_aes_key, bench_less_safe_key, bench_clone;
 loop bench_seal_packet, bench_seal_and_open_packet, bench_seal_record, bench_seal_and_open_record, bench_seal_framed,
     bench_seal_and_open_framed;
 
@@ -21,19 +19,6 @@ const side wide = {{
     [CLONE] = bench_wide_clone,
     [SEAL_RECORD] = bench_seal_record,
     [SEAL_AND_OPEN_RECORD] = bench_seal_and_open_record,
-}};
-
-const side libraries = {{
-    [SEAL] = bench_seal,
-    [OPEN] = bench_open,
-    [AUTHENTICATE] = bench_authenticate,
-    [CTR32] = bench_ctr32,
-    [UPDATE_BLOCK] = bench_update_block,
-    [UPDATE_BLOCKS] = bench_update_blocks,
-    [MASK] = bench_mask,
-    [AES_KEY] = bench_aes_key,
-    [GCM_KEY] = bench_less_safe_key,
-    [CLONE] = bench_clone,
 }};
 
 const side less_safe_key = {{
