@@ -14,285 +14,180 @@ static uint8_t mask[DEERLAPSE_MASK_LEN];
 static size_t opened;
 static uint64_t next;
 
-static bool key_init(size_t key_len, size_t len) {
-    (void)len;
-    return deerlapse_key_init(&key, key_bytes, key_len);
-}
-static bool key_wipe(size_t key_len, size_t len) {
-    (void)key_len, (void)len;
+static bool key_init(void) { return deerlapse_key_init(&key, key_bytes, key_len); }
+static bool key_wipe(void) {
     deerlapse_key_wipe(&key);
     return true;
 }
-static bool key_seal(size_t key_len, size_t len) {
-    (void)key_len;
-    return deerlapse_key_seal(&key, nonce, aad, AAD, message, len, message + len);
-}
-static bool key_seal_aad(size_t key_len, size_t len) {
-    (void)key_len;
-    return deerlapse_key_seal(&key, nonce, aad, len, message, 40, message + 40);
-}
-static bool key_seal_to(size_t key_len, size_t len) {
-    (void)key_len;
-    return deerlapse_key_seal_to(&key, nonce, aad, AAD, message, len, other, tag);
-}
-static bool key_seal_append_tag(size_t key_len, size_t len) {
-    (void)key_len;
+static bool key_seal(void) { return deerlapse_key_seal(&key, nonce, aad, AAD, message, len, message + len); }
+static bool key_seal_aad(void) { return deerlapse_key_seal(&key, nonce, aad, len, message, 40, message + 40); }
+static bool key_seal_to(void) { return deerlapse_key_seal_to(&key, nonce, aad, AAD, message, len, other, tag); }
+static bool key_seal_append_tag(void) {
     return deerlapse_key_seal_append_tag(&key, nonce, aad, AAD, message, len, other);
 }
-static bool key_begin(size_t key_len, size_t len) {
-    (void)key_len;
-    return deerlapse_key_begin(&key, nonce, aad, len, &in_pieces);
-}
-static bool key_begun(size_t key_len, size_t len) { return key_init(key_len, len) && key_begin(key_len, AAD); }
-static bool key_update(size_t key_len, size_t len) {
-    (void)key_len;
-    return deerlapse_key_update(&key, &in_pieces, message, len);
-}
-static bool key_updated(size_t key_len, size_t len) { return key_begun(key_len, len) && key_update(key_len, len); }
+static bool key_begin(void) { return deerlapse_key_begin(&key, nonce, aad, len, &in_pieces); }
+static bool key_begun(void) { return key_init() && deerlapse_key_begin(&key, nonce, aad, AAD, &in_pieces); }
+static bool key_update(void) { return deerlapse_key_update(&key, &in_pieces, message, len); }
+static bool key_updated(void) { return key_begun() && key_update(); }
 /* A piece that doesn't begin where a batch does. */
-static bool key_updated_shortly(size_t key_len, size_t len) {
-    return key_begun(key_len, len) && deerlapse_key_update(&key, &in_pieces, other, 3);
-}
-static bool key_finish(size_t key_len, size_t len) {
-    (void)key_len, (void)len;
-    return deerlapse_key_finish(&key, &in_pieces, tag);
-}
-static bool key_sealed(size_t key_len, size_t len) { return key_init(key_len, len) && key_seal(key_len, len); }
-static bool key_sealed_appended(size_t key_len, size_t len) {
-    return key_init(key_len, len) && key_seal_append_tag(key_len, len);
-}
-static bool key_sealed_to(size_t key_len, size_t len) { return key_init(key_len, len) && key_seal_to(key_len, len); }
+static bool key_updated_shortly(void) { return key_begun() && deerlapse_key_update(&key, &in_pieces, other, 3); }
+static bool key_finish(void) { return deerlapse_key_finish(&key, &in_pieces, tag); }
+static bool key_sealed(void) { return key_init() && key_seal(); }
+static bool key_sealed_appended(void) { return key_init() && key_seal_append_tag(); }
+static bool key_sealed_to(void) { return key_init() && key_seal_to(); }
 /* A tag that is wrong in one bit, or in every one: which, by the seed. */
 static void spoil(uint8_t *bytes) {
     if (seed == 0) memset(bytes, bytes[0] ^ 0xff, TAG);
     else bytes[seed % TAG] ^= (uint8_t)(1 << seed % 8);
 }
-static bool key_sealed_falsely(size_t key_len, size_t len) {
-    bool is = key_sealed(key_len, len);
+static bool key_sealed_falsely(void) {
+    bool is = key_sealed();
     spoil(message + len);
     return is;
 }
-static bool key_sealed_falsely_to(size_t key_len, size_t len) {
-    bool is = key_sealed_to(key_len, len);
+static bool key_sealed_falsely_to(void) {
+    bool is = key_sealed_to();
     spoil(tag);
     return is;
 }
-static bool key_sealed_falsely_appended(size_t key_len, size_t len) {
-    bool is = key_sealed_appended(key_len, len);
+static bool key_sealed_falsely_appended(void) {
+    bool is = key_sealed_appended();
     spoil(other + len);
     return is;
 }
-static bool key_open(size_t key_len, size_t len) {
-    (void)key_len;
-    return deerlapse_key_open(&key, nonce, aad, AAD, message, len + TAG, 0, &opened);
-}
-static bool key_refuse(size_t key_len, size_t len) { return !key_open(key_len, len); }
-static bool key_open_separate_tag(size_t key_len, size_t len) {
-    (void)key_len;
+static bool key_open(void) { return deerlapse_key_open(&key, nonce, aad, AAD, message, len + TAG, 0, &opened); }
+static bool key_refuse(void) { return !key_open(); }
+static bool key_open_separate_tag(void) {
     return deerlapse_key_open_separate_tag(&key, nonce, aad, AAD, other, len, 0, tag);
 }
-static bool key_sealed_after_start(size_t key_len, size_t len) {
-    bool is = key_sealed_to(key_len, len);
+static bool key_sealed_after_start(void) {
+    bool is = key_sealed_to();
     memmove(other + 3, other, len);
     return is;
 }
-static bool key_open_after_start(size_t key_len, size_t len) {
-    (void)key_len;
+static bool key_open_after_start(void) {
     return deerlapse_key_open_separate_tag(&key, nonce, aad, AAD, other, len + 3, 3, tag);
 }
-static bool key_refuse_separate_tag(size_t key_len, size_t len) { return !key_open_separate_tag(key_len, len); }
-static bool key_open_to(size_t key_len, size_t len) {
-    (void)key_len;
-    return deerlapse_key_open_to(&key, nonce, aad, AAD, other, len, message, tag);
-}
-static bool key_refuse_to(size_t key_len, size_t len) { return !key_open_to(key_len, len); }
-static bool key_open_appended_tag(size_t key_len, size_t len) {
-    (void)key_len;
+static bool key_refuse_separate_tag(void) { return !key_open_separate_tag(); }
+static bool key_open_to(void) { return deerlapse_key_open_to(&key, nonce, aad, AAD, other, len, message, tag); }
+static bool key_refuse_to(void) { return !key_open_to(); }
+static bool key_open_appended_tag(void) {
     return deerlapse_key_open_appended_tag(&key, nonce, aad, AAD, other, len + TAG, message);
 }
-static bool key_refuse_appended_tag(size_t key_len, size_t len) { return !key_open_appended_tag(key_len, len); }
-static bool key_mask(size_t key_len, size_t len) {
-    (void)key_len, (void)len;
-    return deerlapse_key_mask(&key, sample, mask);
-}
+static bool key_refuse_appended_tag(void) { return !key_open_appended_tag(); }
+static bool key_mask(void) { return deerlapse_key_mask(&key, sample, mask); }
 
-static bool seal(size_t key_len, size_t len) {
-    return deerlapse_seal(key_bytes, key_len, nonce, aad, AAD, message, len, message + len);
-}
-static bool sealed_falsely(size_t key_len, size_t len) {
-    bool is = seal(key_len, len);
+static bool seal(void) { return deerlapse_seal(key_bytes, key_len, nonce, aad, AAD, message, len, message + len); }
+static bool sealed_falsely(void) {
+    bool is = seal();
     spoil(message + len);
     return is;
 }
-static bool open_(size_t key_len, size_t len) {
-    return deerlapse_open(key_bytes, key_len, nonce, aad, AAD, message, len + TAG, 0, &opened);
-}
-static bool refuse(size_t key_len, size_t len) { return !open_(key_len, len); }
+static bool open_(void) { return deerlapse_open(key_bytes, key_len, nonce, aad, AAD, message, len + TAG, 0, &opened); }
+static bool refuse(void) { return !open_(); }
 
-static bool sealer_init(size_t key_len, size_t len) {
-    (void)len;
-    return deerlapse_sealer_init(&sealer, key_bytes, key_len, nonce, 5, 9);
-}
-static bool sealer_wipe(size_t key_len, size_t len) {
-    (void)key_len, (void)len;
+static bool sealer_init(void) { return deerlapse_sealer_init(&sealer, key_bytes, key_len, nonce, 5, 9); }
+static bool sealer_wipe(void) {
     deerlapse_sealer_wipe(&sealer);
     return true;
 }
-static bool opener_wipe(size_t key_len, size_t len) {
-    (void)key_len, (void)len;
+static bool opener_wipe(void) {
     deerlapse_opener_wipe(&opener);
     return true;
 }
-static bool opener_init(size_t key_len, size_t len) {
-    (void)len;
-    return deerlapse_opener_init(&opener, key_bytes, key_len, nonce, 5, 9);
-}
-static bool sealer_seal(size_t key_len, size_t len) {
-    (void)key_len;
-    return deerlapse_sealer_seal(&sealer, aad, AAD, message, len, message + len);
-}
-static bool sealer_next(size_t key_len, size_t len) {
-    (void)key_len, (void)len;
+static bool opener_init(void) { return deerlapse_opener_init(&opener, key_bytes, key_len, nonce, 5, 9); }
+static bool sealer_seal(void) { return deerlapse_sealer_seal(&sealer, aad, AAD, message, len, message + len); }
+static bool sealer_next(void) {
     next = deerlapse_sealer_next(&sealer);
     return next == 5;
 }
-static bool opener_sealed(size_t key_len, size_t len) {
-    return sealer_init(key_len, len) && opener_init(key_len, len) && sealer_seal(key_len, len);
-}
-static bool opener_sealed_falsely(size_t key_len, size_t len) {
-    bool is = opener_sealed(key_len, len);
+static bool opener_sealed(void) { return sealer_init() && opener_init() && sealer_seal(); }
+static bool opener_sealed_falsely(void) {
+    bool is = opener_sealed();
     spoil(message + len);
     return is;
 }
-static bool opener_open(size_t key_len, size_t len) {
-    (void)key_len;
-    return deerlapse_opener_open(&opener, aad, AAD, message, len + TAG, 0, &opened);
-}
-static bool opener_refuse(size_t key_len, size_t len) { return !opener_open(key_len, len); }
-static bool opener_open_number(size_t key_len, size_t len) {
-    (void)key_len;
+static bool opener_open(void) { return deerlapse_opener_open(&opener, aad, AAD, message, len + TAG, 0, &opened); }
+static bool opener_refuse(void) { return !opener_open(); }
+static bool opener_open_number(void) {
     return deerlapse_opener_open_number(&opener, 5, aad, AAD, message, len + TAG, 0, &opened);
 }
-static bool opener_refuse_number(size_t key_len, size_t len) { return !opener_open_number(key_len, len); }
-static bool opener_next(size_t key_len, size_t len) {
-    (void)key_len, (void)len;
+static bool opener_refuse_number(void) { return !opener_open_number(); }
+static bool opener_next(void) {
     next = deerlapse_opener_next(&opener);
     return next == 5;
 }
 
-static bool nonce_of(size_t key_len, size_t len) {
-    (void)key_len, (void)len;
+static bool nonce_of(void) {
     deerlapse_nonce(nonce, 77, tag);
     return true;
 }
-static bool mask_aes(size_t key_len, size_t len) {
-    (void)len;
-    return deerlapse_mask_aes(key_bytes, key_len, sample, mask);
-}
-static bool mask_chacha20(size_t key_len, size_t len) {
-    (void)key_len, (void)len;
+static bool mask_aes(void) { return deerlapse_mask_aes(key_bytes, key_len, sample, mask); }
+static bool mask_chacha20(void) {
     deerlapse_mask_chacha20(key_bytes, sample, mask);
     return true;
 }
-static bool chacha20(size_t key_len, size_t len) {
-    (void)key_len;
-    return deerlapse_chacha20(key_bytes, nonce, 1, message, len);
+static bool chacha20(void) { return deerlapse_chacha20(key_bytes, nonce, 1, message, len); }
+
+static size_t secret_len(void) { return key_len == 16 ? DEERLAPSE_SHA256_LEN : DEERLAPSE_SHA384_LEN; }
+
+static bool hmac(void) { return deerlapse_hmac(secret, secret_len(), message, len, other, secret_len()); }
+static bool hkdf_extract(void) {
+    return deerlapse_hkdf_extract(secret, secret_len(), message, len, other, secret_len());
+}
+static bool hkdf_expand(void) { return deerlapse_hkdf_expand(secret, secret_len(), message, 40, other, 100); }
+static bool hkdf_expand_label(void) {
+    return deerlapse_hkdf_expand_label(secret, secret_len(), (const uint8_t *)"label", 5, message, 48, other, 100);
 }
 
-static size_t secret_len(size_t key_len) { return key_len == 16 ? DEERLAPSE_SHA256_LEN : DEERLAPSE_SHA384_LEN; }
-
-static bool hmac(size_t key_len, size_t len) {
-    return deerlapse_hmac(secret, secret_len(key_len), message, len, other, secret_len(key_len));
+static bool quic_key_init(void) { return deerlapse_quic_key_init(&quic_key, key_bytes, key_len, nonce); }
+static bool quic_key_from_secret(void) {
+    return deerlapse_quic_key_from_secret(&quic_key, DEERLAPSE_QUIC_V1, secret, secret_len());
 }
-static bool hkdf_extract(size_t key_len, size_t len) {
-    return deerlapse_hkdf_extract(secret, secret_len(key_len), message, len, other, secret_len(key_len));
+static bool quic_header_key_from_secret(void) {
+    return deerlapse_quic_header_key_from_secret(&key, DEERLAPSE_QUIC_V2, secret, secret_len());
 }
-static bool hkdf_expand(size_t key_len, size_t len) {
-    (void)len;
-    return deerlapse_hkdf_expand(secret, secret_len(key_len), message, 40, other, 100);
-}
-static bool hkdf_expand_label(size_t key_len, size_t len) {
-    (void)len;
-    return deerlapse_hkdf_expand_label(secret, secret_len(key_len), (const uint8_t *)"label", 5, message, 48, other, 100);
-}
-
-static bool quic_key_init(size_t key_len, size_t len) {
-    (void)len;
-    return deerlapse_quic_key_init(&quic_key, key_bytes, key_len, nonce);
-}
-static bool quic_key_from_secret(size_t key_len, size_t len) {
-    (void)len;
-    return deerlapse_quic_key_from_secret(&quic_key, DEERLAPSE_QUIC_V1, secret, secret_len(key_len));
-}
-static bool quic_header_key_from_secret(size_t key_len, size_t len) {
-    (void)len;
-    return deerlapse_quic_header_key_from_secret(&key, DEERLAPSE_QUIC_V2, secret, secret_len(key_len));
-}
-static bool quic_initial_secrets(size_t key_len, size_t len) {
-    (void)key_len, (void)len;
+static bool quic_initial_secrets(void) {
     return deerlapse_quic_initial_secrets(DEERLAPSE_QUIC_V1, message, 20, other, other + DEERLAPSE_SHA256_LEN);
 }
-static bool quic_next_secret(size_t key_len, size_t len) {
-    (void)len;
-    return deerlapse_quic_next_secret(DEERLAPSE_QUIC_V2, secret, secret_len(key_len));
-}
-static bool quic_key_seal(size_t key_len, size_t len) {
-    (void)key_len;
+static bool quic_next_secret(void) { return deerlapse_quic_next_secret(DEERLAPSE_QUIC_V2, secret, secret_len()); }
+static bool quic_key_seal(void) {
     return deerlapse_quic_key_seal(&quic_key, 77, aad, AAD, message, len, message + len);
 }
-static bool quic_key_sealed(size_t key_len, size_t len) {
-    return quic_key_init(key_len, len) && quic_key_seal(key_len, len);
-}
-static bool quic_key_sealed_falsely(size_t key_len, size_t len) {
-    bool is = quic_key_sealed(key_len, len);
+static bool quic_key_sealed(void) { return quic_key_init() && quic_key_seal(); }
+static bool quic_key_sealed_falsely(void) {
+    bool is = quic_key_sealed();
     message[len + seed % TAG] ^= (uint8_t)(1 + seed);
     return is;
 }
-static bool quic_key_open(size_t key_len, size_t len) {
-    (void)key_len;
+static bool quic_key_open(void) {
     return deerlapse_quic_key_open(&quic_key, 77, aad, AAD, message, len + TAG, &opened);
 }
-static bool quic_key_refuse(size_t key_len, size_t len) { return !quic_key_open(key_len, len); }
-static bool quic_key_wipe(size_t key_len, size_t len) {
-    (void)key_len, (void)len;
+static bool quic_key_refuse(void) { return !quic_key_open(); }
+static bool quic_key_wipe(void) {
     deerlapse_quic_key_wipe(&quic_key);
     return true;
 }
 
-static bool record_key_init(size_t key_len, size_t len) {
-    (void)len;
-    return deerlapse_record_key_init(&record_key, key_bytes, key_len, nonce);
-}
-static bool record_key_from_secret(size_t key_len, size_t len) {
-    (void)len;
-    return deerlapse_record_key_from_secret(&record_key, secret, secret_len(key_len));
-}
-static bool tls_next_secret(size_t key_len, size_t len) {
-    (void)len;
-    return deerlapse_tls_next_secret(secret, secret_len(key_len));
-}
-static bool record_key_seal(size_t key_len, size_t len) {
-    (void)key_len;
+static bool record_key_init(void) { return deerlapse_record_key_init(&record_key, key_bytes, key_len, nonce); }
+static bool record_key_from_secret(void) { return deerlapse_record_key_from_secret(&record_key, secret, secret_len()); }
+static bool tls_next_secret(void) { return deerlapse_tls_next_secret(secret, secret_len()); }
+static bool record_key_seal(void) {
     return deerlapse_record_key_seal(&record_key, 77, 23, message, len + 1 + TAG, len);
 }
-static bool record_key_sealed(size_t key_len, size_t len) {
-    return record_key_init(key_len, len) && record_key_seal(key_len, len);
-}
-static bool record_key_sealed_falsely(size_t key_len, size_t len) {
-    bool is = record_key_sealed(key_len, len);
+static bool record_key_sealed(void) { return record_key_init() && record_key_seal(); }
+static bool record_key_sealed_falsely(void) {
+    bool is = record_key_sealed();
     message[len + 1 + seed % TAG] ^= (uint8_t)(1 + seed);
     return is;
 }
-static bool record_key_open(size_t key_len, size_t len) {
-    (void)key_len;
+static bool record_key_open(void) {
     return deerlapse_record_key_open(&record_key, 77, message, len + 1 + TAG, &content_type, &opened) && opened == len;
 }
-static bool record_key_refuse(size_t key_len, size_t len) {
-    (void)key_len;
+static bool record_key_refuse(void) {
     return !deerlapse_record_key_open(&record_key, 77, message, len + 1 + TAG, &content_type, &opened);
 }
-static bool record_key_wipe(size_t key_len, size_t len) {
-    (void)key_len, (void)len;
+static bool record_key_wipe(void) {
     deerlapse_record_key_wipe(&record_key);
     return true;
 }
@@ -360,13 +255,11 @@ static const traced_call calls[] = {
 
 static volatile uint8_t sink;
 
-static bool leaks_an_index(size_t key_len, size_t len) {
-    (void)key_len, (void)len;
+static bool leaks_an_index(void) {
     sink = message[key_bytes[0]];
     return true;
 }
-static bool leaks_a_branch(size_t key_len, size_t len) {
-    (void)key_len, (void)len;
+static bool leaks_a_branch(void) {
     if (key_bytes[0] & 1) sink = 1;
     return true;
 }

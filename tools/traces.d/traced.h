@@ -19,12 +19,14 @@ static uint8_t key_bytes[32], header_key[32], nonce[NONCE], aad[ROOM], message[R
 static uint8_t secret[48]; /* of 32 bytes with a key of 16, and of 48 with one of 32 */
 static unsigned seed;
 
-/* A call, for a key of 16 bytes and one of 32, and what must come before it; both return what they expect. Its length is
- * that of a message, or without lengths 0. */
+/* What a call is made for: a key of 16 bytes or of 32, and the length of a message, or 0 without lengths. */
+static size_t key_len, len;
+
+/* A call, and what must come before it; both return what they expect. */
 typedef struct {
     const char *name;
-    bool (*call)(size_t key_len, size_t len);
-    bool (*before)(size_t key_len, size_t len);
+    bool (*call)(void);
+    bool (*before)(void);
     bool has_lens;
 } traced_call;
 
@@ -41,14 +43,14 @@ __attribute__((noinline)) void traced_to(void);
 void traced_from(void) { __asm__ volatile("" ::: "memory"); }
 void traced_to(void) { __asm__ volatile("" ::: "memory"); }
 
-static void fill(uint64_t *state, uint8_t *bytes, size_t len) {
-    for (size_t i = 0; i < len; i++) {
+static void fill(uint64_t *state, uint8_t *bytes, size_t count) {
+    for (size_t i = 0; i < count; i++) {
         *state ^= *state << 13, *state ^= *state >> 7, *state ^= *state << 17;
         bytes[i] = (uint8_t)(*state >> 24);
     }
 }
 
-static void make_secrets(size_t len) {
+static void make_secrets(void) {
     uint64_t state = 88172645463325252u ^ seed * 2654435761u;
     fill(&state, key_bytes, sizeof key_bytes);
     fill(&state, header_key, sizeof header_key);
@@ -64,19 +66,20 @@ static void make_secrets(size_t len) {
 /* Whether each call returned what it must; prints the call, the key's length and the message's, a line for each trace. */
 static bool trace(const traced_call *calls, size_t n) {
     for (const traced_call *it = calls; it < calls + n; it++) {
-        for (size_t key_len = 16; key_len <= 32; key_len += 16) {
+        for (key_len = 16; key_len <= 32; key_len += 16) {
             for (size_t i = 0; i < (it->has_lens ? sizeof lens / sizeof lens[0] : 1); i++) {
+                len = lens[i];
                 for (seed = 0; seed < SEEDS; seed++) {
-                    make_secrets(lens[i]);
-                    bool is = !it->before || it->before(key_len, lens[i]);
+                    make_secrets();
+                    bool is = !it->before || it->before();
                     traced_from();
-                    bool right = it->call(key_len, lens[i]);
+                    bool right = it->call();
                     traced_to();
                     if (!is || !right) {
-                        fprintf(stderr, "failed: %s, key of %zu bytes, %zu bytes\n", it->name, key_len, lens[i]);
+                        fprintf(stderr, "failed: %s, key of %zu bytes, %zu bytes\n", it->name, key_len, len);
                         return false;
                     }
-                    printf("%s %zu %zu\n", it->name, key_len, lens[i]);
+                    printf("%s %zu %zu\n", it->name, key_len, len);
                 }
             }
         }
