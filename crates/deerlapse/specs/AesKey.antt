@@ -1,7 +1,7 @@
 -- The keys of AES (FIPS 197) that the calls take, and the messages that are sealed in pieces under them.
-use Rattle.std.specs.Prelude.{◌≡◌, ℕ, ◌⊎◌, ◌<◌, ◌≤◌}
+use Rattle.std.specs.Prelude.{◌≡◌, ℕ, ◌⊎◌, ◌<◌, ◌≤◌, ◌↔◌, Bool, List, length, IsTrue, IsFalse}
 use Rattle.aead_ciphers.specs.Gcm.{Fits}
-use Rattle.aead_ciphers_wide.specs.ExpandedKey.{IsExpanded}
+use Rattle.aead_ciphers_wide.specs.ExpandedKey.{IsExpanded, bytes_of, zero_key}
 use Rattle.aead_ciphers_wide.specs.declared.aes_gcm.ExpandedKey.{ExpandedKey}
 use Rattle.aead_ciphers_wide.specs.declared.aes_gcm.pieces.SealState.{SealState}
 
@@ -16,6 +16,12 @@ HasRounds key = (10 ≤ key.rounds) × (key.rounds ≤ 14)
 -- a key that `deerlapse_key_init` filled, or one of zeros
 abbrev pub IsKeyOrNone : ExpandedKey → Type 0
 IsKeyOrNone key = HasRounds key → IsExpanded key
+
+-- what a call that expands a key from these bytes returns and leaves: it accepts the lengths of a key, and else leaves zeros
+pub record ExpandsKey (bytes : List ℕ) (result : Bool) (now : ExpandedKey) : Type 0 where
+  pub accepted : IsTrue result ↔ IsAesKeyLen (length bytes)
+  pub made : IsTrue result → IsExpanded now × (bytes_of now ≡ bytes)
+  pub refused : IsFalse result → now ≡ zero_key
 
 -- a message that `deerlapse_key_begin` began, or one of zeros
 abbrev pub IsBegunOrNone : SealState → Type 0

@@ -1,7 +1,8 @@
 -- A `NumberedKey`, which is a sealer or an opener, as contracts see it.
-use Rattle.std.specs.Prelude.{ℕ, List, replicate}
+use Rattle.std.specs.Prelude.{◌≡◌, ℕ, ◌≤◌, ◌↔◌, Bool, List, length, replicate, IsTrue, IsFalse}
 use Rattle.aead_ciphers.specs.Counting.{xored_nonce}
-use Rattle.aead_ciphers_wide.specs.ExpandedKey.{bytes_of, zero_key}
+use Rattle.aead_ciphers_wide.specs.ExpandedKey.{IsExpanded, bytes_of, zero_key}
+use Rattle.deerlapse.specs.AesKey.{IsAesKeyLen}
 use Rattle.deerlapse.specs.declared.numbered_key.NumberedKey.{NumberedKey}
 
 -- the bytes of its key
@@ -15,3 +16,14 @@ next_nonce numbered = xored_nonce numbered.iv numbered.next
 -- one that is wiped: every byte is zero, so that it has no number left
 abbrev pub zero_numbered_key : NumberedKey
 zero_numbered_key = record { key = zero_key; next = 0; limit = 0; iv = replicate 12 0; room = replicate 220 0 }
+
+-- what a call that initializes one returns and leaves: it accepts the lengths of a key and a first number up to the limit, and
+-- else changes nothing
+pub record InitializesNumberedKey (bytes iv : List ℕ) (first limit : ℕ) (was : NumberedKey) (result : Bool) (now : NumberedKey)
+    : Type 0 where
+  pub accepted : IsTrue result ↔ (IsAesKeyLen (length bytes) × (first ≤ limit))
+  pub key : IsTrue result → IsExpanded now.key × (key_of now ≡ bytes)
+  pub iv_is : IsTrue result → now.iv ≡ iv
+  pub numbers : IsTrue result → (now.next ≡ first) × (now.limit ≡ limit)
+  pub room : IsTrue result → now.room ≡ replicate 220 0
+  pub refused : IsFalse result → now ≡ was

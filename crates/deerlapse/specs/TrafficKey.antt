@@ -1,15 +1,16 @@
 -- A `TrafficKey`, which protects the packets or the records of one direction of a connection, and the secrets that give it.
-use Rattle.std.specs.Prelude.{◌≡◌, ◌≢◌, ℕ, ◌⊎◌, ◌==◌, ◌≤◌, ◌+◌, ◌-◌, ◌^◌, if◌then◌else◌, List, length, take, replicate}
+use Rattle.std.specs.Prelude.{◌≡◌, ◌≢◌, ℕ, ◌⊎◌, ◌==◌, ◌≤◌, ◌+◌, ◌^◌, ◌↔◌, if◌then◌else◌, Bool, List, length, take, replicate, IsTrue, IsFalse, IsSome, IfSome}
 use Rattle.aead_ciphers_wide.specs.ExpandedKey.{IsExpanded, bytes_of, zero_key}
 use Rattle.aead_ciphers_wide.specs.declared.aes_gcm.ExpandedKey.{ExpandedKey}
 use Rattle.key_derivation.specs.Hash.{HashFunction, sha_256, sha_384}
-use Rattle.key_derivation.specs.Quic.{QuicSecretState, quic_header_key, quic_iv, quic_key}
+use Rattle.key_derivation.specs.Quic.{QuicSecretState, numbered_version, quic_header_key, quic_iv, quic_key}
 use Rattle.key_derivation.specs.Secret.{SecretState}
 use Rattle.key_derivation.specs.Tls.{record_iv, record_key}
 use Rattle.key_derivation.specs.declared.quic.Version.{Version}
 use Rattle.key_derivation.specs.declared.suite.Suite.{Suite}
 use Rattle.key_derivation.specs.declared.suite.Suite.TheVariants.{Aes128Gcm, Aes256Gcm}
 use Rattle.records.specs.Record.{plaintext}
+use Rattle.deerlapse.specs.AesKey.{IsAesKeyLen}
 use Rattle.deerlapse.specs.declared.traffic_key.TrafficKey.{TrafficKey}
 
 -- the length of a digest of SHA-256 or SHA-384, which names the hash function, and which a secret has (RFC 8446 section 7.1)
@@ -47,6 +48,26 @@ IsHeaderKey key s = IsExpanded key × (bytes_of key ≡ quic_header_key s)
 -- the key that protects the records of a traffic secret (RFC 8446 section 7.3)
 abbrev pub IsRecordKey : TrafficKey → SecretState → Type 0
 IsRecordKey key s = IsTrafficKey key (record_key s) (record_iv s)
+
+-- what a call that initializes a key from its bytes and its IV returns and leaves: it accepts the lengths of a key, and else
+-- changes nothing
+pub record InitializesTrafficKey (bytes iv : List ℕ) (was : TrafficKey) (result : Bool) (now : TrafficKey) : Type 0 where
+  pub accepted : IsTrue result ↔ IsAesKeyLen (length bytes)
+  pub made : IsTrue result → IsTrafficKey now bytes iv
+  pub refused : IsFalse result → now ≡ was
+
+-- the same from a secret of the version with this number, where `IsKey` says which key of the secret
+pub record DerivesQuicKey {Key : Type 0} (IsKey : Key → QuicSecretState → Type 0) (number : ℕ) (secret : List ℕ) (was : Key)
+    (result : Bool) (now : Key) : Type 0 where
+  pub accepted : IsTrue result ↔ (IsSome (numbered_version number) × IsDigestLen (length secret))
+  pub made : IsTrue result → IfSome (numbered_version number) (λ version. IsKey now (quic_secret_of secret version))
+  pub refused : IsFalse result → now ≡ was
+
+-- the same from a traffic secret
+pub record DerivesRecordKey (secret : List ℕ) (was : TrafficKey) (result : Bool) (now : TrafficKey) : Type 0 where
+  pub accepted : IsTrue result ↔ IsDigestLen (length secret)
+  pub made : IsTrue result → IsRecordKey now (secret_of secret)
+  pub refused : IsFalse result → now ≡ was
 
 -- one that is wiped: every byte is zero
 abbrev pub zero_traffic_key : TrafficKey

@@ -3,9 +3,9 @@
 ghost use Rattle.std.specs.Prelude.{◌≡◌, ◌-◌, ◌↔◌, length, IsTrue, IsFalse, IsSome, IfSome};
 ghost use Rattle.aead_ciphers_base.specs.Aes.{aes};
 ghost use Rattle.aead_ciphers_base.specs.KeyBytes.{key_bytes};
-ghost use Rattle.aead_ciphers_wide.specs.ExpandedKey.{IsExpanded, bytes_of, zero_key};
+ghost use Rattle.aead_ciphers_wide.specs.ExpandedKey.{bytes_of, zero_key};
 ghost use Rattle.aead_ciphers.specs.Gcm.{Fits, gcm_encrypted, gcm_tag, Opened, OpenedAttached};
-ghost use Rattle.deerlapse.specs.AesKey.{HasRounds, IsAesKeyLen, IsKeyOrNone};
+ghost use Rattle.deerlapse.specs.AesKey.{ExpandsKey, HasRounds, IsAesKeyLen, IsKeyOrNone};
 
 use aead_ciphers::aead::{Aad, MAX_TAG_LEN, NONCE_LEN, Nonce, Tag, Unspecified};
 use aead_ciphers::gcm::fits;
@@ -40,9 +40,7 @@ pub(crate) fn has_rounds(key: &ExpandedKey) -> bool
 /// Returns false if `bytes` does not have 16 or 32 bytes, and every byte of `key` is then zero.
 #[unsafe(no_mangle)]
 pub extern "C" fn deerlapse_key_init(key: &mut ExpandedKey, bytes: &[u8]) -> bool
-    ensures accepted { IsTrue result ↔ IsAesKeyLen (length bytes.now) }
-    ensures made { IsTrue result → IsExpanded key.new × (bytes_of key.new ≡ bytes.now) }
-    ensures refused { IsFalse result → key.new ≡ zero_key }
+    ensures { ExpandsKey bytes.now result key.new }
 {
     expand(key, bytes, Width::Bits128)
 }
@@ -50,18 +48,14 @@ pub extern "C" fn deerlapse_key_init(key: &mut ExpandedKey, bytes: &[u8]) -> boo
 /// Does the same as `deerlapse_key_init`, for batches of sixteen blocks on planes of 256 bits.
 #[unsafe(no_mangle)]
 pub extern "C" fn deerlapse_key_init_256(key: &mut ExpandedKey, bytes: &[u8]) -> bool
-    ensures accepted { IsTrue result ↔ IsAesKeyLen (length bytes.now) }
-    ensures made { IsTrue result → IsExpanded key.new × (bytes_of key.new ≡ bytes.now) }
-    ensures refused { IsFalse result → key.new ≡ zero_key }
+    ensures { ExpandsKey bytes.now result key.new }
 {
     expand(key, bytes, Width::Bits256)
 }
 
 /// Expands a key whose batches take planes of this width.
 pub(crate) fn expand(key: &mut ExpandedKey, bytes: &[u8], width: Width) -> bool
-    ensures accepted { IsTrue result ↔ IsAesKeyLen (length bytes.now) }
-    ensures made { IsTrue result → IsExpanded key.new × (bytes_of key.new ≡ bytes.now) }
-    ensures refused { IsFalse result → key.new ≡ zero_key }
+    ensures { ExpandsKey bytes.now result key.new }
 {
     match aes_key(bytes) {
         Some(bytes) => {

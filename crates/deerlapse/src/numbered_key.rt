@@ -1,10 +1,8 @@
 //! A key with an IV and the numbers of its messages, each with its own nonce (RFC 8446 section 5.3, RFC 9001 section 5.3).
 
-ghost use Rattle.std.specs.Prelude.{◌≡◌, ◌≤◌, ◌↔◌, length, replicate, IsTrue, IsFalse};
-ghost use Rattle.aead_ciphers_wide.specs.ExpandedKey.{IsExpanded, bytes_of};
+ghost use Rattle.std.specs.Prelude.{◌≡◌};
 ghost use Rattle.aead_ciphers.specs.Counting.{xored_nonce};
-ghost use Rattle.deerlapse.specs.AesKey.{IsAesKeyLen};
-ghost use Rattle.deerlapse.specs.NumberedKey.{zero_numbered_key};
+ghost use Rattle.deerlapse.specs.NumberedKey.{InitializesNumberedKey, zero_numbered_key};
 
 use crate::key::{aes_key, deerlapse_key_wipe};
 use aead_ciphers::aead::{NONCE_LEN, nonce_of};
@@ -46,14 +44,7 @@ pub(crate) fn fill(
     limit: u64,
     width: Width,
 ) -> bool
-    ensures accepted { IsTrue result ↔ (IsAesKeyLen (length key.now) × (first ≤ limit)) }
-    ensures key { IsTrue result
-        → IsExpanded numbered.new.key × (bytes_of numbered.new.key ≡ key.now) }
-    ensures iv { IsTrue result → numbered.new.iv ≡ iv.now }
-    ensures numbers { IsTrue result
-        → (numbered.new.next ≡ first) × (numbered.new.limit ≡ limit) }
-    ensures room { IsTrue result → numbered.new.room ≡ replicate 220 0 }
-    ensures refused { IsFalse result → numbered.new ≡ numbered.old }
+    ensures { InitializesNumberedKey key.now iv.now first limit numbered.old result numbered.new }
 {
     let Some(key) = aes_key(key) else {
         return false

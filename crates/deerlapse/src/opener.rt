@@ -1,12 +1,11 @@
 //! A key that opens what a sealer sealed, in order or by number.
 
-ghost use Rattle.std.specs.Prelude.{◌≡◌, ◌+◌, ◌-◌, ◌<◌, ◌≤◌, ◌↔◌, length, replicate, IsTrue, IsFalse};
+ghost use Rattle.std.specs.Prelude.{◌≡◌, ◌+◌, ◌-◌, ◌<◌, ◌↔◌, length, IsTrue, IsFalse};
 ghost use Rattle.aead_ciphers_base.specs.Aes.{aes};
 ghost use Rattle.aead_ciphers.specs.Counting.{xored_nonce};
-ghost use Rattle.aead_ciphers_wide.specs.ExpandedKey.{IsExpanded};
 ghost use Rattle.aead_ciphers.specs.Gcm.{OpenedAttached};
-ghost use Rattle.deerlapse.specs.AesKey.{HasRounds, IsAesKeyLen, IsKeyOrNone};
-ghost use Rattle.deerlapse.specs.NumberedKey.{key_of, next_nonce, zero_numbered_key};
+ghost use Rattle.deerlapse.specs.AesKey.{HasRounds, IsKeyOrNone};
+ghost use Rattle.deerlapse.specs.NumberedKey.{InitializesNumberedKey, key_of, next_nonce, zero_numbered_key};
 
 use crate::key::deerlapse_key_open;
 use crate::numbered_key::{NumberedKey, fill, wipe};
@@ -24,12 +23,7 @@ pub extern "C" fn deerlapse_opener_init(
     first: u64,
     limit: u64,
 ) -> bool
-    ensures accepted { IsTrue result ↔ (IsAesKeyLen (length key.now) × (first ≤ limit)) }
-    ensures key { IsTrue result → IsExpanded opener.new.key × (key_of opener.new ≡ key.now) }
-    ensures iv { IsTrue result → opener.new.iv ≡ iv.now }
-    ensures numbers { IsTrue result → (opener.new.next ≡ first) × (opener.new.limit ≡ limit) }
-    ensures room { IsTrue result → opener.new.room ≡ replicate 220 0 }
-    ensures refused { IsFalse result → opener.new ≡ opener.old }
+    ensures { InitializesNumberedKey key.now iv.now first limit opener.old result opener.new }
 {
     fill(opener, key, iv, first, limit, Width::Bits128)
 }
@@ -43,12 +37,7 @@ pub extern "C" fn deerlapse_opener_init_256(
     first: u64,
     limit: u64,
 ) -> bool
-    ensures accepted { IsTrue result ↔ (IsAesKeyLen (length key.now) × (first ≤ limit)) }
-    ensures key { IsTrue result → IsExpanded opener.new.key × (key_of opener.new ≡ key.now) }
-    ensures iv { IsTrue result → opener.new.iv ≡ iv.now }
-    ensures numbers { IsTrue result → (opener.new.next ≡ first) × (opener.new.limit ≡ limit) }
-    ensures room { IsTrue result → opener.new.room ≡ replicate 220 0 }
-    ensures refused { IsFalse result → opener.new ≡ opener.old }
+    ensures { InitializesNumberedKey key.now iv.now first limit opener.old result opener.new }
 {
     fill(opener, key, iv, first, limit, Width::Bits256)
 }

@@ -6,8 +6,8 @@ ghost use Rattle.aead_ciphers.specs.Counting.{xored_nonce};
 ghost use Rattle.aead_ciphers.specs.Gcm.{Fits, gcm_encrypted, gcm_tag, OpenedAttached};
 ghost use Rattle.aead_ciphers_wide.specs.ExpandedKey.{bytes_of};
 ghost use Rattle.key_derivation.specs.Quic.{client_initial_secret, next_quic_secret, numbered_version, server_initial_secret};
-ghost use Rattle.deerlapse.specs.AesKey.{HasRounds, IsAesKeyLen, IsKeyOrNone};
-ghost use Rattle.deerlapse.specs.TrafficKey.{IsDigestLen, IsHeaderKey, IsPacketKey, IsTrafficKey, quic_secret_of, zero_traffic_key};
+ghost use Rattle.deerlapse.specs.AesKey.{HasRounds, IsKeyOrNone};
+ghost use Rattle.deerlapse.specs.TrafficKey.{DerivesQuicKey, InitializesTrafficKey, IsDigestLen, IsHeaderKey, IsPacketKey, quic_secret_of, zero_traffic_key};
 
 use crate::key::{aes_key, deerlapse_key_open, deerlapse_key_seal};
 use crate::traffic_key::{SHA_256_LEN, TrafficKey, fill, secret_of, wipe};
@@ -29,9 +29,7 @@ pub extern "C" fn deerlapse_quic_key_init(
     bytes: &[u8],
     iv: &[u8; NONCE_LEN],
 ) -> bool
-    ensures accepted { IsTrue result ↔ IsAesKeyLen (length bytes.now) }
-    ensures made { IsTrue result → IsTrafficKey key.new bytes.now iv.now }
-    ensures refused { IsFalse result → key.new ≡ key.old }
+    ensures { InitializesTrafficKey bytes.now iv.now key.old result key.new }
 {
     fill(key, bytes, iv, Width::Bits128)
 }
@@ -43,9 +41,7 @@ pub extern "C" fn deerlapse_quic_key_init_256(
     bytes: &[u8],
     iv: &[u8; NONCE_LEN],
 ) -> bool
-    ensures accepted { IsTrue result ↔ IsAesKeyLen (length bytes.now) }
-    ensures made { IsTrue result → IsTrafficKey key.new bytes.now iv.now }
-    ensures refused { IsFalse result → key.new ≡ key.old }
+    ensures { InitializesTrafficKey bytes.now iv.now key.old result key.new }
 {
     fill(key, bytes, iv, Width::Bits256)
 }
@@ -59,11 +55,7 @@ pub extern "C" fn deerlapse_quic_key_from_secret(
     version: u32,
     secret: &[u8],
 ) -> bool
-    ensures accepted { IsTrue result
-        ↔ (IsSome (numbered_version version) × IsDigestLen (length secret.now)) }
-    ensures made { IsTrue result → IfSome (numbered_version version)
-        (λ version. IsPacketKey key.new (quic_secret_of secret.now version)) }
-    ensures refused { IsFalse result → key.new ≡ key.old }
+    ensures { DerivesQuicKey IsPacketKey version secret.now key.old result key.new }
 {
     fill_from_secret(key, version, secret, Width::Bits128)
 }
@@ -75,22 +67,14 @@ pub extern "C" fn deerlapse_quic_key_from_secret_256(
     version: u32,
     secret: &[u8],
 ) -> bool
-    ensures accepted { IsTrue result
-        ↔ (IsSome (numbered_version version) × IsDigestLen (length secret.now)) }
-    ensures made { IsTrue result → IfSome (numbered_version version)
-        (λ version. IsPacketKey key.new (quic_secret_of secret.now version)) }
-    ensures refused { IsFalse result → key.new ≡ key.old }
+    ensures { DerivesQuicKey IsPacketKey version secret.now key.old result key.new }
 {
     fill_from_secret(key, version, secret, Width::Bits256)
 }
 
 /// Initializes the key and the IV of a secret, for planes of this width.
 fn fill_from_secret(key: &mut TrafficKey, version: u32, secret: &[u8], width: Width) -> bool
-    ensures accepted { IsTrue result
-        ↔ (IsSome (numbered_version version) × IsDigestLen (length secret.now)) }
-    ensures made { IsTrue result → IfSome (numbered_version version)
-        (λ version. IsPacketKey key.new (quic_secret_of secret.now version)) }
-    ensures refused { IsFalse result → key.new ≡ key.old }
+    ensures { DerivesQuicKey IsPacketKey version secret.now key.old result key.new }
 {
     let Some(version) = Version::from_number(version) else {
         return false
@@ -111,11 +95,7 @@ pub extern "C" fn deerlapse_quic_header_key_from_secret(
     version: u32,
     secret: &[u8],
 ) -> bool
-    ensures accepted { IsTrue result
-        ↔ (IsSome (numbered_version version) × IsDigestLen (length secret.now)) }
-    ensures made { IsTrue result → IfSome (numbered_version version)
-        (λ version. IsHeaderKey key.new (quic_secret_of secret.now version)) }
-    ensures refused { IsFalse result → key.new ≡ key.old }
+    ensures { DerivesQuicKey IsHeaderKey version secret.now key.old result key.new }
 {
     expand_header_key(key, version, secret, Width::Bits128)
 }
@@ -127,22 +107,14 @@ pub extern "C" fn deerlapse_quic_header_key_from_secret_256(
     version: u32,
     secret: &[u8],
 ) -> bool
-    ensures accepted { IsTrue result
-        ↔ (IsSome (numbered_version version) × IsDigestLen (length secret.now)) }
-    ensures made { IsTrue result → IfSome (numbered_version version)
-        (λ version. IsHeaderKey key.new (quic_secret_of secret.now version)) }
-    ensures refused { IsFalse result → key.new ≡ key.old }
+    ensures { DerivesQuicKey IsHeaderKey version secret.now key.old result key.new }
 {
     expand_header_key(key, version, secret, Width::Bits256)
 }
 
 /// Expands the header key of a secret, for planes of this width.
 fn expand_header_key(key: &mut ExpandedKey, version: u32, secret: &[u8], width: Width) -> bool
-    ensures accepted { IsTrue result
-        ↔ (IsSome (numbered_version version) × IsDigestLen (length secret.now)) }
-    ensures made { IsTrue result → IfSome (numbered_version version)
-        (λ version. IsHeaderKey key.new (quic_secret_of secret.now version)) }
-    ensures refused { IsFalse result → key.new ≡ key.old }
+    ensures { DerivesQuicKey IsHeaderKey version secret.now key.old result key.new }
 {
     let Some(version) = Version::from_number(version) else {
         return false

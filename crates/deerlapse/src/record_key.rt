@@ -7,8 +7,8 @@ ghost use Rattle.aead_ciphers.specs.Gcm.{gcm_sealed, OpenedAttached};
 ghost use Rattle.aead_ciphers_wide.specs.ExpandedKey.{bytes_of};
 ghost use Rattle.key_derivation.specs.Tls.{next_traffic_secret};
 ghost use Rattle.records.specs.Record.{header, plaintext};
-ghost use Rattle.deerlapse.specs.AesKey.{HasRounds, IsAesKeyLen, IsKeyOrNone};
-ghost use Rattle.deerlapse.specs.TrafficKey.{IsDigestLen, IsInner, IsPayloadLen, IsRecordKey, IsTrafficKey, secret_of, zero_traffic_key};
+ghost use Rattle.deerlapse.specs.AesKey.{HasRounds, IsKeyOrNone};
+ghost use Rattle.deerlapse.specs.TrafficKey.{DerivesRecordKey, InitializesTrafficKey, IsDigestLen, IsInner, IsPayloadLen, secret_of, zero_traffic_key};
 
 use crate::key::{deerlapse_key_open, deerlapse_key_seal, has_rounds};
 use crate::traffic_key::{TrafficKey, fill, secret_of, wipe};
@@ -25,9 +25,7 @@ pub extern "C" fn deerlapse_record_key_init(
     bytes: &[u8],
     iv: &[u8; NONCE_LEN],
 ) -> bool
-    ensures accepted { IsTrue result ↔ IsAesKeyLen (length bytes.now) }
-    ensures made { IsTrue result → IsTrafficKey key.new bytes.now iv.now }
-    ensures refused { IsFalse result → key.new ≡ key.old }
+    ensures { InitializesTrafficKey bytes.now iv.now key.old result key.new }
 {
     fill(key, bytes, iv, Width::Bits128)
 }
@@ -39,9 +37,7 @@ pub extern "C" fn deerlapse_record_key_init_256(
     bytes: &[u8],
     iv: &[u8; NONCE_LEN],
 ) -> bool
-    ensures accepted { IsTrue result ↔ IsAesKeyLen (length bytes.now) }
-    ensures made { IsTrue result → IsTrafficKey key.new bytes.now iv.now }
-    ensures refused { IsFalse result → key.new ≡ key.old }
+    ensures { InitializesTrafficKey bytes.now iv.now key.old result key.new }
 {
     fill(key, bytes, iv, Width::Bits256)
 }
@@ -51,9 +47,7 @@ pub extern "C" fn deerlapse_record_key_init_256(
 /// Returns false if the secret does not have 32 or 48 bytes.
 #[unsafe(no_mangle)]
 pub extern "C" fn deerlapse_record_key_from_secret(key: &mut TrafficKey, secret: &[u8]) -> bool
-    ensures accepted { IsTrue result ↔ IsDigestLen (length secret.now) }
-    ensures made { IsTrue result → IsRecordKey key.new (secret_of secret.now) }
-    ensures refused { IsFalse result → key.new ≡ key.old }
+    ensures { DerivesRecordKey secret.now key.old result key.new }
 {
     fill_from_secret(key, secret, Width::Bits128)
 }
@@ -61,18 +55,14 @@ pub extern "C" fn deerlapse_record_key_from_secret(key: &mut TrafficKey, secret:
 /// Does the same as `deerlapse_record_key_from_secret`, for batches of sixteen blocks on planes of 256 bits.
 #[unsafe(no_mangle)]
 pub extern "C" fn deerlapse_record_key_from_secret_256(key: &mut TrafficKey, secret: &[u8]) -> bool
-    ensures accepted { IsTrue result ↔ IsDigestLen (length secret.now) }
-    ensures made { IsTrue result → IsRecordKey key.new (secret_of secret.now) }
-    ensures refused { IsFalse result → key.new ≡ key.old }
+    ensures { DerivesRecordKey secret.now key.old result key.new }
 {
     fill_from_secret(key, secret, Width::Bits256)
 }
 
 /// Initializes the key and the IV of a secret, for planes of this width.
 fn fill_from_secret(key: &mut TrafficKey, secret: &[u8], width: Width) -> bool
-    ensures accepted { IsTrue result ↔ IsDigestLen (length secret.now) }
-    ensures made { IsTrue result → IsRecordKey key.new (secret_of secret.now) }
-    ensures refused { IsFalse result → key.new ≡ key.old }
+    ensures { DerivesRecordKey secret.now key.old result key.new }
 {
     let Some(secret) = secret_of(secret) else {
         return false

@@ -1,11 +1,10 @@
 //! A key that seals each message under its own nonce.
 
-ghost use Rattle.std.specs.Prelude.{◌≡◌, ◌+◌, ◌<◌, ◌≤◌, ◌↔◌, length, replicate, IsTrue, IsFalse};
+ghost use Rattle.std.specs.Prelude.{◌≡◌, ◌+◌, ◌<◌, ◌↔◌, length, IsTrue, IsFalse};
 ghost use Rattle.aead_ciphers_base.specs.Aes.{aes};
-ghost use Rattle.aead_ciphers_wide.specs.ExpandedKey.{IsExpanded};
 ghost use Rattle.aead_ciphers.specs.Gcm.{Fits, gcm_encrypted, gcm_tag};
-ghost use Rattle.deerlapse.specs.AesKey.{HasRounds, IsAesKeyLen, IsKeyOrNone};
-ghost use Rattle.deerlapse.specs.NumberedKey.{key_of, next_nonce, zero_numbered_key};
+ghost use Rattle.deerlapse.specs.AesKey.{HasRounds, IsKeyOrNone};
+ghost use Rattle.deerlapse.specs.NumberedKey.{InitializesNumberedKey, key_of, next_nonce, zero_numbered_key};
 
 use crate::key::deerlapse_key_seal;
 use crate::numbered_key::{NumberedKey, fill, wipe};
@@ -24,12 +23,7 @@ pub extern "C" fn deerlapse_sealer_init(
     first: u64,
     limit: u64,
 ) -> bool
-    ensures accepted { IsTrue result ↔ (IsAesKeyLen (length key.now) × (first ≤ limit)) }
-    ensures key { IsTrue result → IsExpanded sealer.new.key × (key_of sealer.new ≡ key.now) }
-    ensures iv { IsTrue result → sealer.new.iv ≡ iv.now }
-    ensures numbers { IsTrue result → (sealer.new.next ≡ first) × (sealer.new.limit ≡ limit) }
-    ensures room { IsTrue result → sealer.new.room ≡ replicate 220 0 }
-    ensures refused { IsFalse result → sealer.new ≡ sealer.old }
+    ensures { InitializesNumberedKey key.now iv.now first limit sealer.old result sealer.new }
 {
     fill(sealer, key, iv, first, limit, Width::Bits128)
 }
@@ -43,12 +37,7 @@ pub extern "C" fn deerlapse_sealer_init_256(
     first: u64,
     limit: u64,
 ) -> bool
-    ensures accepted { IsTrue result ↔ (IsAesKeyLen (length key.now) × (first ≤ limit)) }
-    ensures key { IsTrue result → IsExpanded sealer.new.key × (key_of sealer.new ≡ key.now) }
-    ensures iv { IsTrue result → sealer.new.iv ≡ iv.now }
-    ensures numbers { IsTrue result → (sealer.new.next ≡ first) × (sealer.new.limit ≡ limit) }
-    ensures room { IsTrue result → sealer.new.room ≡ replicate 220 0 }
-    ensures refused { IsFalse result → sealer.new ≡ sealer.old }
+    ensures { InitializesNumberedKey key.now iv.now first limit sealer.old result sealer.new }
 {
     fill(sealer, key, iv, first, limit, Width::Bits256)
 }

@@ -1,8 +1,7 @@
 //! A key with its IV, which protects the packets of QUIC or the records of TLS 1.3 in one direction by their numbers.
 
-ghost use Rattle.std.specs.Prelude.{◌≡◌, ◌↔◌, length, IsTrue, IsFalse, IsSome, IfSome};
-ghost use Rattle.deerlapse.specs.AesKey.{IsAesKeyLen};
-ghost use Rattle.deerlapse.specs.TrafficKey.{IsDigestLen, IsTrafficKey, secret_of, zero_traffic_key};
+ghost use Rattle.std.specs.Prelude.{◌≡◌, ◌↔◌, length, IsSome, IfSome};
+ghost use Rattle.deerlapse.specs.TrafficKey.{InitializesTrafficKey, IsDigestLen, secret_of, zero_traffic_key};
 
 use crate::key::{aes_key, deerlapse_key_wipe};
 use aead_ciphers::aead::NONCE_LEN;
@@ -39,9 +38,7 @@ pub(crate) const SHA_256_LEN: usize = 32;
 ///
 /// Returns false if the key does not have 16 or 32 bytes.
 pub(crate) fn fill(traffic: &mut TrafficKey, key: &[u8], iv: &[u8; NONCE_LEN], width: Width) -> bool
-    ensures accepted { IsTrue result ↔ IsAesKeyLen (length key.now) }
-    ensures made { IsTrue result → IsTrafficKey traffic.new key.now iv.now }
-    ensures refused { IsFalse result → traffic.new ≡ traffic.old }
+    ensures { InitializesTrafficKey key.now iv.now traffic.old result traffic.new }
 {
     let Some(key) = aes_key(key) else {
         return false
