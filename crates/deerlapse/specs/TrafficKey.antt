@@ -2,9 +2,9 @@
 use Rattle.std.specs.Prelude.{◌≡◌, ◌≢◌, ℕ, ◌⊎◌, ◌==◌, ◌≤◌, ◌+◌, ◌^◌, ◌↔◌, if◌then◌else◌, Bool, List, length, take, replicate, IsTrue, IsFalse, IsSome, IfSome}
 use Rattle.aead_ciphers_wide.specs.ExpandedKey.{IsExpanded, bytes_of, zero_key}
 use Rattle.aead_ciphers_wide.specs.declared.aes_gcm.ExpandedKey.{ExpandedKey}
-use Rattle.key_derivation.specs.Hash.{HashFunction, sha_256, sha_384}
+use Rattle.key_derivation.specs.Hash.{HashFunction}
 use Rattle.key_derivation.specs.Quic.{QuicSecretState, numbered_version, quic_header_key, quic_iv, quic_key}
-use Rattle.key_derivation.specs.Secret.{SecretState}
+use Rattle.key_derivation.specs.Secret.{SecretState, suite_hash}
 use Rattle.key_derivation.specs.Tls.{record_iv, record_key}
 use Rattle.key_derivation.specs.declared.quic.Version.{Version}
 use Rattle.key_derivation.specs.declared.suite.Suite.{Suite}
@@ -17,12 +17,12 @@ use Rattle.deerlapse.specs.declared.traffic_key.TrafficKey.{TrafficKey}
 abbrev pub IsDigestLen : ℕ → Type 0
 IsDigestLen n = (n ≡ 32) ⊎ (n ≡ 48)
 
-abbrev pub hash_of : ℕ → HashFunction
-hash_of n = if n == 48 then sha_384 else sha_256
-
--- the suite whose secrets have this length (RFC 8446 section B.4), and the secret of these bytes
+-- the suite whose secrets have this length (RFC 8446 section B.4), its hash function, and the secret of these bytes
 abbrev pub suite_of : ℕ → Suite
 suite_of n = if n == 48 then Aes256Gcm else Aes128Gcm
+
+abbrev pub hash_of : ℕ → HashFunction
+hash_of n = suite_hash (suite_of n)
 
 abbrev pub secret_of : List ℕ → SecretState
 secret_of bytes = record { suite = suite_of (length bytes); bytes = bytes }
