@@ -18,7 +18,7 @@ use crate::record_key::{
     deerlapse_record_key_init, deerlapse_record_key_init_256, deerlapse_record_key_open,
     deerlapse_record_key_seal, deerlapse_tls_next_secret,
 };
-use crate::tests::{accepted, same};
+use crate::tests::{accepted, equal, same};
 use crate::traffic_key::TrafficKey;
 use aead_ciphers_wide::aes::Width;
 use aead_ciphers_wide::aes_gcm::ExpandedKey;
@@ -57,11 +57,14 @@ fn seals_packet(rt: &impl Abort, key: &TrafficKey, row: &Packet) -> Result<(), F
     let sealed = deerlapse_quic_key_seal(key, row.number, &row.header, &mut payload, &mut tag);
     accepted(rt, sealed, row.name);
     payload.extend_from_slice(&tag)?;
-    accepted(rt, row.protected.ends_with(&payload), row.name);
+    let protected = row.protected.get(row.header.len()..).ok_or("a payload")?;
+    same(rt, &payload, protected, row.name);
     let mut len = 0;
     let opened = deerlapse_quic_key_open(key, row.number, &row.header, &mut payload, &mut len);
-    accepted(rt, opened && len == row.payload_len, row.name);
-    accepted(rt, payload.starts_with(&row.frames), row.name);
+    accepted(rt, opened, row.name);
+    equal(rt, &len, &row.payload_len, row.name);
+    let frames = payload.get(..row.frames.len()).ok_or("the frames")?;
+    same(rt, frames, &row.frames, row.name);
     Ok(())
 }
 
@@ -89,7 +92,8 @@ fn masks_header(rt: &impl Abort, key: &ExpandedKey, row: &Packet) -> Result<(), 
     let mut masked = row.header.clone()?;
     xor(&mut masked, 0, &[mask[0] & 0x0f]);
     xor(&mut masked, row.number_at, &mask[1..]);
-    accepted(rt, row.protected.starts_with(&masked), row.name);
+    let header = row.protected.get(..masked.len()).ok_or("a header")?;
+    same(rt, &masked, header, row.name);
     Ok(())
 }
 
@@ -102,7 +106,7 @@ fn protects(rt: &impl Abort, version: u32, secret: &[u8], row: &Packet) -> Resul
     {
         return Err("a key".into());
     }
-    accepted(rt, key.key.width == 128 && wider.key.width == 256, row.name);
+    equal(rt, &(key.key.width, wider.key.width), &(128, 256), row.name);
     seals_packet(rt, &key, row)?;
     seals_packet(rt, &wider, row)?;
     seals_packet(rt, &of_bytes, row)?;
@@ -183,25 +187,32 @@ fn rfc_9001_and_rfc_9369_a_5(rt: HostRuntime) {
     }
 }
 
+/// Opens a record, and returns the type and the length of its content.
+fn opens_record(
+    rt: &impl Abort,
+    key: &TrafficKey,
+    number: u64,
+    payload: &mut [u8],
+    what: &str,
+) -> (u8, usize)
+    requires { IsKeyOrNone key.now.key }
+{
+    let (mut content_type, mut len) = (u8::MAX, usize::MAX);
+    let opened = deerlapse_record_key_open(key, number, payload, &mut content_type, &mut len);
+    accepted(rt, opened, what);
+    (content_type, len)
+}
+
 /// Opens a record, and seals it again.
 fn seals_record(rt: &impl Abort, key: &TrafficKey, row: &Record) -> Result<(), Fail>
     requires { IsKeyOrNone key.now.key }
 {
     let number = u64::from(row.number);
     let mut payload = row.encrypted.clone()?;
-    let (mut content_type, mut len) = (0, 0);
-    let opened = deerlapse_record_key_open(key, number, &mut payload, &mut content_type, &mut len);
-    accepted(
-        rt,
-        opened && u32::from(content_type) == row.content_type,
-        row.name,
-    );
-    same(
-        rt,
-        payload.get(..len).ok_or("a content")?,
-        &row.content,
-        row.name,
-    );
+    let (content_type, len) = opens_record(rt, key, number, &mut payload, row.name);
+    equal(rt, &u32::from(content_type), &row.content_type, row.name);
+    let content = payload.get(..len).ok_or("a content")?;
+    same(rt, content, &row.content, row.name);
     let sealed = deerlapse_record_key_seal(key, number, content_type, &mut payload, len);
     accepted(rt, sealed, row.name);
     same(rt, &payload, &row.encrypted, row.name);
@@ -228,20 +239,19 @@ fn rfc_8448(rt: HostRuntime) -> Result<(), Fail> {
     Ok(())
 }
 
-/// A record of zeros alone has no type, and one of application data has. The key's width is that of its call.
-fn opens_by(rt: &impl Abort, key: &TrafficKey, width: u64)
+/// Seals and opens a record of application data with padding. The key's width is that of its call.
+fn opens_by(rt: &impl Abort, key: &TrafficKey, width: u32)
     requires { IsKeyOrNone key.now.key }
 {
-    accepted(rt, u64::from(key.key.width) == width, "the width");
+    equal(rt, &key.key.width, &width, "the width");
     let mut payload = [7; 30];
     accepted(
         rt,
         deerlapse_record_key_seal(key, 1, 23, &mut payload, 9),
         "sealed",
     );
-    let (mut content_type, mut len) = (0, 0);
-    let opened = deerlapse_record_key_open(key, 1, &mut payload, &mut content_type, &mut len);
-    accepted(rt, opened && content_type == 23 && len == 9, "opened");
+    let opened = opens_record(rt, key, 1, &mut payload, "opened");
+    equal(rt, &opened, &(23, 9), "the content");
     same(
         rt,
         &payload[..14],
@@ -330,9 +340,8 @@ fn zeros_alone(rt: HostRuntime) -> Result<(), Fail> {
     if !deerlapse_record_key_init(&mut key, &bytes, &iv) {
         return Err("a key".into());
     }
-    let (mut content_type, mut len) = (9, 9);
-    let opened = deerlapse_record_key_open(&key, 0, &mut payload, &mut content_type, &mut len);
-    accepted(&rt, opened && content_type == 0 && len == 0, "no type");
-    accepted(&rt, payload.starts_with(&[0; 4]), "zeros");
+    let opened = opens_record(&rt, &key, 0, &mut payload, "opened");
+    equal(&rt, &opened, &(0, 0), "no type");
+    same(&rt, &payload[..4], &[0; 4], "zeros");
     Ok(())
 }

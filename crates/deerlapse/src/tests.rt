@@ -27,6 +27,7 @@ use aead_ciphers_wide::aes_gcm::{ExpandedKey, SealState};
 use aead_vectors::gcm_spec::{CASES, Case};
 use aead_vectors::{fips_197, rfc_8439, rfc_9001};
 use std::alloc::Global;
+use std::fmt::Debug;
 use std::process::Abort;
 use std::test::Fail;
 
@@ -41,9 +42,35 @@ pub(crate) fn same(rt: &impl Abort, found: &[u8], wanted: &[u8], what: &str) {
     assert_eq!(rt; found, wanted, "{what}");
 }
 
+/// Two values are equal.
+pub(crate) fn equal<T: Debug + PartialEq>(rt: &impl Abort, found: &T, wanted: &T, what: &str) {
+    assert_eq!(rt; found, wanted, "{what}");
+}
+
 /// A call is accepted.
 pub(crate) fn accepted(rt: &impl Abort, answer: bool, what: &str) {
     assert!(rt; answer, "{what}");
+}
+
+/// A call sealed a case's message.
+fn is_sealed(rt: &impl Abort, case: &Case, sealed: bool, bytes: &[u8], tag: &[u8]) {
+    accepted(rt, sealed, case.name);
+    same(rt, bytes, &case.ciphertext, case.name);
+    same(rt, tag, &case.tag, case.name);
+}
+
+/// A call opened a case's message, which is at the front.
+fn is_opened(
+    rt: &impl Abort,
+    case: &Case,
+    opened: bool,
+    bytes: &[u8],
+    len: usize,
+) -> Result<(), Fail> {
+    accepted(rt, opened, case.name);
+    let plaintext = bytes.get(..len).ok_or("a plaintext's length")?;
+    same(rt, plaintext, &case.message, case.name);
+    Ok(())
 }
 
 /// Seals a case's message with planes of one width, and opens it after three other bytes with planes of another.
@@ -61,26 +88,16 @@ fn seals_and_opens(
         Width::Bits128 => deerlapse_seal(key, nonce, aad, &mut bytes, &mut tag),
         Width::Bits256 => deerlapse_seal_256(key, nonce, aad, &mut bytes, &mut tag),
     };
-    accepted(rt, sealed, case.name);
-    same(rt, &bytes, &case.ciphertext, case.name);
-    same(rt, &tag, &case.tag, case.name);
+    is_sealed(rt, case, sealed, &bytes, &tag);
 
     let mut bytes = [1, 2, 3].to_vec(alloc)?;
-    bytes.extend_from_slice(&case.ciphertext)?;
-    bytes.extend_from_slice(&case.tag)?;
+    bytes.extend_from_slice(&sealed_bytes(case)?)?;
     let mut len = 0;
     let opened = match opening {
         Width::Bits128 => deerlapse_open(key, nonce, aad, &mut bytes, 3, &mut len),
         Width::Bits256 => deerlapse_open_256(key, nonce, aad, &mut bytes, 3, &mut len),
     };
-    accepted(rt, opened, case.name);
-    same(
-        rt,
-        bytes.get(..len).ok_or("a plaintext's length")?,
-        &case.message,
-        case.name,
-    );
-    Ok(())
+    is_opened(rt, case, opened, &bytes, len)
 }
 
 /// Tries a case under a key with planes of each width.
@@ -90,7 +107,7 @@ fn by_both_keys(rt: &impl Abort, alloc: Global, case: &Case) -> Result<(), Fail>
     if !deerlapse_key_init(&mut key, &case.key) || !deerlapse_key_init_256(&mut wider, &case.key) {
         return Err("a key".into());
     }
-    accepted(rt, key.width == 128 && wider.width == 256, case.name);
+    equal(rt, &(key.width, wider.width), &(128, 256), case.name);
     seals_and_opens_by_keys(rt, alloc, &key, &wider, case)?;
     seals_and_opens_by_keys(rt, alloc, &wider, &key, case)?;
     seals_nothing_when_wiped(rt, &mut key, case);
@@ -119,20 +136,12 @@ fn seals_and_opens_by_keys(
     let mut bytes = case.message.clone()?;
     let mut tag = [0; 16];
     let sealed = deerlapse_key_seal(sealing, &case.nonce, &case.aad, &mut bytes, &mut tag);
-    accepted(rt, sealed, case.name);
-    same(rt, &bytes, &case.ciphertext, case.name);
-    same(rt, &tag, &case.tag, case.name);
+    is_sealed(rt, case, sealed, &bytes, &tag);
 
     bytes.extend_from_slice(&tag)?;
     let mut len = 0;
     let opened = deerlapse_key_open(opening, &case.nonce, &case.aad, &mut bytes, 0, &mut len);
-    accepted(rt, opened, case.name);
-    same(
-        rt,
-        bytes.get(..len).ok_or("a plaintext's length")?,
-        &case.message,
-        case.name,
-    );
+    is_opened(rt, case, opened, &bytes, len)?;
     seals_and_opens_apart(rt, alloc, sealing, case)?;
     seals_in_pieces(rt, sealing, case, 17)
 }
@@ -150,9 +159,7 @@ fn seals_and_opens_apart(
     let mut sealed = vec![in alloc; 0; case.message.len()]?;
     let mut tag = [0; 16];
     let made = deerlapse_key_seal_to_sized(key, nonce, aad, &case.message, &mut sealed, &mut tag);
-    accepted(rt, made, case.name);
-    same(rt, &sealed, &case.ciphertext, case.name);
-    same(rt, &tag, &case.tag, case.name);
+    is_sealed(rt, case, made, &sealed, &tag);
 
     let mut message = vec![in alloc; 0; case.message.len()]?;
     let false_tag = deerlapse_key_open_to_sized(key, nonce, aad, &sealed, &mut message, &[0; 16]);
@@ -208,9 +215,7 @@ fn seals_in_pieces(rt: &impl Abort, key: &ExpandedKey, case: &Case, len: usize) 
         return Err("a piece".into());
     }
     let sealed = deerlapse_key_finish(key, &mut message, &mut tag);
-    accepted(rt, sealed, case.name);
-    same(rt, &bytes, &case.ciphertext, case.name);
-    same(rt, &tag, &case.tag, case.name);
+    is_sealed(rt, case, sealed, &bytes, &tag);
     let again = deerlapse_key_finish(key, &mut message, &mut tag);
     accepted(rt, !again, case.name);
     Ok(())
@@ -240,12 +245,10 @@ fn seals_once(rt: &impl Abort, case: &Case, width: Width) -> Result<(), Fail> {
     let mut bytes = case.message.clone()?;
     let mut tag = [0; 16];
     let sealed = deerlapse_sealer_seal(&mut sealer, &case.aad, &mut bytes, &mut tag);
-    accepted(rt, sealed, case.name);
-    same(rt, &bytes, &case.ciphertext, case.name);
-    same(rt, &tag, &case.tag, case.name);
+    is_sealed(rt, case, sealed, &bytes, &tag);
     let again = deerlapse_sealer_seal(&mut sealer, &case.aad, &mut bytes, &mut tag);
     accepted(rt, !again, case.name);
-    accepted(rt, deerlapse_sealer_next(&sealer) == 1, case.name);
+    equal(rt, &deerlapse_sealer_next(&sealer), &1, case.name);
     Ok(())
 }
 
@@ -266,7 +269,7 @@ fn opens_by_number(rt: &impl Abort, opener: &NumberedKey, case: &Case) -> Result
         let opened = deerlapse_opener_open_number(
             opener, number, &case.aad, &mut bytes, 0, &mut len,
         );
-        accepted(rt, opened == answer, case.name);
+        equal(rt, &opened, &answer, case.name);
     }
     Ok(())
 }
@@ -281,14 +284,8 @@ fn opens_once(rt: &impl Abort, opener: &mut NumberedKey, case: &Case) -> Result<
     let early = deerlapse_opener_open(opener, &[1, 2, 3], &mut bytes, 0, &mut len);
     accepted(rt, !early, case.name);
     let opened = deerlapse_opener_open(opener, &case.aad, &mut bytes, 0, &mut len);
-    accepted(rt, opened, case.name);
-    same(
-        rt,
-        bytes.get(..len).ok_or("a plaintext's length")?,
-        &case.message,
-        case.name,
-    );
-    accepted(rt, deerlapse_opener_next(opener) == 1, case.name);
+    is_opened(rt, case, opened, &bytes, len)?;
+    equal(rt, &deerlapse_opener_next(opener), &1, case.name);
     let mut bytes = sealed_bytes(case)?;
     let again = deerlapse_opener_open(opener, &case.aad, &mut bytes, 0, &mut len);
     accepted(rt, !again, case.name);
@@ -355,25 +352,28 @@ fn long(rt: HostRuntime) -> Result<(), Fail> {
     Ok(())
 }
 
-/// The mask of a block is the first bytes of its encryption.
+/// A call wrote the mask of a block, the first bytes of its encryption.
+fn is_mask(rt: &impl Abort, case: &fips_197::Case, made: bool, mask: &[u8; 5]) {
+    accepted(rt, made, case.name);
+    same(rt, mask, &case.ciphertext[..5], case.name);
+}
+
+/// Writes the mask of a block under a key, and under an expanded key of each width.
 fn masks_a_block(rt: &impl Abort, case: &fips_197::Case) {
     let mut mask = [0; 5];
     let answer = deerlapse_mask_aes(&case.key, &case.plaintext, &mut mask);
-    accepted(rt, answer, case.name);
-    same(rt, &mask, &case.ciphertext[..5], case.name);
+    is_mask(rt, case, answer, &mask);
 
     let mut key = ExpandedKey::zeros();
     let mut mask = [0; 5];
     let answer = deerlapse_key_init(&mut key, &case.key)
         && deerlapse_key_mask(&key, &case.plaintext, &mut mask);
-    accepted(rt, answer, case.name);
-    same(rt, &mask, &case.ciphertext[..5], case.name);
+    is_mask(rt, case, answer, &mask);
 
     let mut mask = [0; 5];
     let answer = deerlapse_key_init_256(&mut key, &case.key)
         && deerlapse_key_mask(&key, &case.plaintext, &mut mask);
-    accepted(rt, answer, case.name);
-    same(rt, &mask, &case.ciphertext[..5], case.name);
+    is_mask(rt, case, answer, &mask);
 }
 
 #[test]
