@@ -1,32 +1,20 @@
 //! An AES-GCM key (SP 800-38D) that is expanded once, for many messages and many threads.
 
-ghost use Rattle.std.specs.Prelude.{◌≡◌, ◌-◌, ◌↔◌, length, IsTrue, IsFalse, IsSome, IfSome};
+ghost use Rattle.std.specs.Prelude.{◌≡◌, ◌-◌, ◌↔◌, length, IsTrue, IsFalse};
 ghost use Rattle.aead_ciphers_base.specs.Aes.{aes};
-ghost use Rattle.aead_ciphers_base.specs.KeyBytes.{key_bytes};
 ghost use Rattle.aead_ciphers_wide.specs.ExpandedKey.{bytes_of, zero_key};
 ghost use Rattle.aead_ciphers.specs.Gcm.{Fits, gcm_encrypted, gcm_tag, Opened, OpenedAttached};
-ghost use Rattle.deerlapse.specs.AesKey.{ExpandsKey, HasRounds, IsAesKeyLen, IsKeyOrNone};
+ghost use Rattle.deerlapse.specs.AesKey.{ExpandsKey, HasRounds, IsKeyOrNone};
 
 use aead_ciphers::aead::{Aad, MAX_TAG_LEN, NONCE_LEN, Nonce, Tag, Unspecified};
 use aead_ciphers::gcm::fits;
-use aead_ciphers_base::aes::{AES_256_KEY_LEN, KeyBytes, Work};
+use aead_ciphers_base::aes::{KeyBytes, Work};
 use aead_ciphers_wide::aes::Width;
 use aead_ciphers_wide::aes_gcm::ExpandedKey;
 use std::mem::size_of;
 
 // The `words` of the type in the header have as many bytes.
 const _: () = prove!(size_of::<ExpandedKey>() == 3192);
-
-/// A key of 16 bytes for AES-128-GCM, or of 32 bytes for AES-256-GCM.
-pub(crate) fn aes_key(bytes: &[u8]) -> Option<KeyBytes<'_>>
-    ensures accepted { IsSome result ↔ IsAesKeyLen (length bytes.now) }
-    ensures bytes { IfSome result (λ key. key_bytes key ≡ bytes.now) }
-{
-    match bytes.len() {
-        AES_256_KEY_LEN => Some(KeyBytes::AES_256(bytes.as_array()?)),
-        _ => Some(KeyBytes::AES_128(bytes.as_array()?)),
-    }
-}
 
 /// Whether the key has as many rounds as an AES key. A key of zeros has none.
 pub(crate) fn has_rounds(key: &ExpandedKey) -> bool
@@ -57,12 +45,12 @@ pub extern "C" fn deerlapse_key_init_256(key: &mut ExpandedKey, bytes: &[u8]) ->
 pub(crate) fn expand(key: &mut ExpandedKey, bytes: &[u8], width: Width) -> bool
     ensures { ExpandsKey bytes.now result key.new }
 {
-    match aes_key(bytes) {
-        Some(bytes) => {
+    match KeyBytes::from_slice(bytes) {
+        Ok(bytes) => {
             key.expand_with_width(bytes, width, &mut Work::new());
             true
         }
-        None => {
+        Err(_) => {
             deerlapse_key_wipe(key);
             false
         }

@@ -5,8 +5,9 @@ ghost use Rattle.aead_ciphers_base.specs.Mask.{aes_mask, chacha_mask};
 ghost use Rattle.aead_ciphers_wide.specs.ExpandedKey.{bytes_of};
 ghost use Rattle.deerlapse.specs.AesKey.{HasRounds, IsAesKeyLen, IsKeyOrNone};
 
-use crate::key::{aes_key, has_rounds};
+use crate::key::has_rounds;
 use aead_ciphers::aead::quic::Sample;
+use aead_ciphers_base::aes::KeyBytes;
 use aead_ciphers_base::chacha;
 use aead_ciphers_wide::aes::BlockKey;
 use aead_ciphers_wide::aes_gcm::ExpandedKey;
@@ -21,7 +22,7 @@ pub extern "C" fn deerlapse_mask_aes(key: &[u8], sample: &Sample, mask: &mut [u8
     ensures mask { IsTrue result → mask.new ≡ aes_mask key.now sample.now }
     ensures refused { IsFalse result → mask.new ≡ mask.old }
 {
-    let Some(key) = aes_key(key) else {
+    let Ok(key) = KeyBytes::from_slice(key) else {
         return false
     };
     *mask = BlockKey::new(key).new_mask(*sample);

@@ -4,9 +4,9 @@ ghost use Rattle.std.specs.Prelude.{◌≡◌};
 ghost use Rattle.aead_ciphers.specs.Counting.{xored_nonce};
 ghost use Rattle.deerlapse.specs.NumberedKey.{InitializesNumberedKey, zero_numbered_key};
 
-use crate::key::{aes_key, deerlapse_key_wipe};
+use crate::key::deerlapse_key_wipe;
 use aead_ciphers::aead::{NONCE_LEN, nonce_of};
-use aead_ciphers_base::aes::Work;
+use aead_ciphers_base::aes::{KeyBytes, Work};
 use aead_ciphers_wide::aes::Width;
 use aead_ciphers_wide::aes_gcm::ExpandedKey;
 use std::mem::size_of;
@@ -46,7 +46,7 @@ pub(crate) fn fill(
 ) -> bool
     ensures { InitializesNumberedKey key.now iv.now first limit numbered.old result numbered.new }
 {
-    let Some(key) = aes_key(key) else {
+    let Ok(key) = KeyBytes::from_slice(key) else {
         return false
     };
     if first > limit {

@@ -9,10 +9,10 @@ ghost use Rattle.key_derivation.specs.Quic.{client_initial_secret, next_quic_sec
 ghost use Rattle.deerlapse.specs.AesKey.{HasRounds, IsKeyOrNone};
 ghost use Rattle.deerlapse.specs.TrafficKey.{DerivesQuicKey, InitializesTrafficKey, IsDigestLen, IsHeaderKey, IsPacketKey, quic_secret_of, zero_traffic_key};
 
-use crate::key::{aes_key, deerlapse_key_open, deerlapse_key_seal};
+use crate::key::{deerlapse_key_open, deerlapse_key_seal};
 use crate::traffic_key::{SHA_256_LEN, TrafficKey, fill, secret_of, wipe};
 use aead_ciphers::aead::{MAX_TAG_LEN, NONCE_LEN, nonce_of};
-use aead_ciphers_base::aes::Work;
+use aead_ciphers_base::aes::{KeyBytes, Work};
 use aead_ciphers_wide::aes::Width;
 use aead_ciphers_wide::aes_gcm::ExpandedKey;
 use key_derivation::quic::{QuicSecret, Version};
@@ -123,7 +123,7 @@ fn expand_header_key(key: &mut ExpandedKey, version: u32, secret: &[u8], width: 
         return false
     };
     let keys = QuicSecret::new(version, secret).keys();
-    let Some(bytes) = aes_key(keys.header_key.as_slice()) else {
+    let Ok(bytes) = KeyBytes::from_slice(keys.header_key.as_slice()) else {
         unreachable!();
     };
     key.expand_with_width(bytes, width, &mut Work::new());

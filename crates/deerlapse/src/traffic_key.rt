@@ -3,9 +3,9 @@
 ghost use Rattle.std.specs.Prelude.{◌≡◌, ◌↔◌, length, IsSome, IfSome};
 ghost use Rattle.deerlapse.specs.TrafficKey.{InitializesTrafficKey, IsDigestLen, secret_of, zero_traffic_key};
 
-use crate::key::{aes_key, deerlapse_key_wipe};
+use crate::key::deerlapse_key_wipe;
 use aead_ciphers::aead::NONCE_LEN;
-use aead_ciphers_base::aes::Work;
+use aead_ciphers_base::aes::{KeyBytes, Work};
 use aead_ciphers_wide::aes::Width;
 use aead_ciphers_wide::aes_gcm::ExpandedKey;
 use key_derivation::Secret;
@@ -40,7 +40,7 @@ pub(crate) const SHA_256_LEN: usize = 32;
 pub(crate) fn fill(traffic: &mut TrafficKey, key: &[u8], iv: &[u8; NONCE_LEN], width: Width) -> bool
     ensures { InitializesTrafficKey key.now iv.now traffic.old result traffic.new }
 {
-    let Some(key) = aes_key(key) else {
+    let Ok(key) = KeyBytes::from_slice(key) else {
         return false
     };
     traffic.key.expand_with_width(key, width, &mut Work::new());
