@@ -1,8 +1,8 @@
 -- Bytes made block by block: the number of blocks, and one more block.
-use Rattle.std.proofs.Common.{◌≡◌, ℕ, zero, suc, ◌+◌, ◌-◌, ◌*◌, ◌/◌, ◌<◌, ◌≤◌, List, ◌++◌, length, take, min, refl, sym, ap, ◌∙◌, subst, add-one, length-append, length-take, length-drop, arith}
+use Rattle.std.proofs.Common.{◌≡◌, ℕ, zero, suc, ◌+◌, ◌-◌, ◌*◌, ◌/◌, ◌<◌, ◌≤◌, List, [], ◌++◌, length, take, drop, min, refl, sym, ap, ◌∙◌, subst, add-one, length-append, length-take, length-drop, arith}
 use Rattle.std.proofs.Math.Nat.{div-eq_of_lt-le, div-mul-le_self, lt-div-mul-add, mul-le-mul_left, mul_comm}
-use Rattle.std.proofs.Math.Seq.{take-append-add}
-use Rattle.std.proofs.lemmas.List.{take_all}
+use Rattle.std.proofs.Math.Seq.{drop-append_seam, take-append-add}
+use Rattle.std.proofs.lemmas.List.{drop-take, take_all}
 use Rattle.std.proofs.lemmas.Slice.{take-put_mid}
 use borrow.Rule.Slice.PartMut.{put_mid}
 use Rattle.key_derivation.specs.Blocks.{joined_blocks, first_bytes}
@@ -64,6 +64,25 @@ written_more f out part block i l filled n k long below so_far small part_len is
     ap (λ m. take (m + n) (blocks ++ block)) (sym blocks_len) ∙ take-append-add blocks block n in
     take-put_mid filled k out part (filled + n) (omega arith) (omega arith)
     ∙ ap (λ x. x ++ part) (before ∙ all) ∙ ap (λ x. blocks ++ x) is_part ∙ sym seam ∙ ap (λ x. take (filled + n) (blocks ++ x)) is_block ∙ unfolds
+
+-- the last of the blocks that fill the front
+pub last_block : (f : ℕ → List ℕ) (out : List ℕ) (i l filled : ℕ) → HaveLength f l → f 0 ≡ [] → filled ≡ i * l
+    → take filled out ≡ take filled (joined_blocks f i) → take (filled - (filled - l)) (drop (filled - l) out) ≡ f i
+unfolding joined_blocks
+last_block f out zero l filled long none is_filled before =
+    let nothing : filled - (filled - l) ≡ 0 = omega arith in
+    ap (λ n. take n (drop (filled - l) out)) nothing ∙ sym none
+last_block f out (suc n) l filled long none is_filled before =
+    let blocks = joined_blocks f n in
+    let last = f (suc n) in
+    let next : suc n * l ≡ n * l + l = ap (λ k. k * l) (sym (add-one n)) ∙ more n l in
+    let before_len = length-joined_blocks f l long n in
+    let start : filled - l ≡ length blocks = omega arith in
+    let whole : take filled (blocks ++ last) ≡ blocks ++ last =
+    take_all filled (blocks ++ last) (omega (arith, length-append blocks last, long n)) in
+    let span : filled - l + (filled - (filled - l)) ≡ filled = omega arith in
+    sym (drop-take (filled - l) (filled - (filled - l)) out) ∙ ap (λ k. drop (filled - l) (take k out)) span
+    ∙ ap (drop (filled - l)) (before ∙ whole) ∙ ap (λ k. drop k (blocks ++ last)) start ∙ drop-append_seam blocks last
 
 -- all blocks
 pub filled_all : (f : ℕ → List ℕ) (out : List ℕ) (i l block_len len filled : ℕ) → 0 < l → block_len ≡ l → len ≡ length out → i ≡ (len + l - 1) / l

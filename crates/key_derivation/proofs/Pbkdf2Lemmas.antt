@@ -28,9 +28,15 @@ next_code h password salt code index n e =
     let P : ℕ → Type 0 = λ k. hmac h password (pbkdf2_u h password salt index n) ≡ pbkdf2_u h password salt index k in
     e ∙ subst P (sym (add-one n)) refl
 
-pub next_sum : (h : HashFunction) (password salt was now code : List ℕ) (index n : ℕ) → now ≡ was ⊕ code → was ≡ pbkdf2_sum h password salt index n
+-- one more code, XORed into a sum that is as long
+pub next_sum : (h : HashFunction) (l : ℕ) → HasLength h l → h.output_len ≡ l → (password salt was now code : List ℕ) (index n : ℕ)
+    → (length was ≡ length code → now ≡ was ⊕ code) → was ≡ pbkdf2_sum h password salt index n
     → code ≡ pbkdf2_u h password salt index (n + 1) → now ≡ pbkdf2_sum h password salt index (n + 1)
 unfolding pbkdf2_sum
-next_sum h password salt was now code index n e is_was is_code =
-    let P : ℕ → Type 0 = λ k. pbkdf2_sum h password salt index n ⊕ pbkdf2_u h password salt index k ≡ pbkdf2_sum h password salt index k in
-    e ∙ ap (λ x. x ⊕ code) is_was ∙ ap (λ x. pbkdf2_sum h password salt index n ⊕ x) is_code ∙ subst P (sym (add-one n)) refl
+next_sum h l long is_l password salt was now code index n e is_was is_code =
+    let u : ℕ → List ℕ = λ k. pbkdf2_u h password salt index k in
+    let P : ℕ → Type 0 = λ k. pbkdf2_sum h password salt index n ⊕ u k ≡ pbkdf2_sum h password salt index k in
+    let was_len = ap length is_was ∙ length-pbkdf2_sum h l long is_l password salt index n in
+    let code_len = ap length is_code ∙ ap (λ k. length (u k)) (add-one n) ∙ length-pbkdf2_u h l long password salt index n in
+    e (was_len ∙ sym code_len) ∙ ap (λ x. x ⊕ code) is_was ∙ ap (λ x. pbkdf2_sum h password salt index n ⊕ x) is_code
+    ∙ subst P (sym (add-one n)) refl

@@ -9,7 +9,7 @@ ghost use Rattle.sha2.proofs.Facts512.{length-sha384};
 use sha2::{Digest, Sha256, Sha384};
 use std::convert::AsSlice;
 
-// The lengths of the longest block and of the longest digest in bytes, those of SHA-384.
+/// The lengths of the longest block and of the longest digest in bytes, those of SHA-384.
 pub(crate) const MAX_BLOCK_LEN: usize = 128;
 
 pub(crate) const MAX_OUTPUT_LEN: usize = 48;

@@ -16,7 +16,7 @@ pub const MAX_LABEL_LEN: usize = 249;
 /// The length of the longest context in bytes.
 pub const MAX_CONTEXT_LEN: usize = 255;
 
-// The length of the longest HkdfLabel in bytes: two for the length, and two vectors of at most 255 bytes with their lengths.
+/// The length of the longest HkdfLabel in bytes: two for the length, and two vectors of at most 255 bytes with their lengths.
 const MAX_INFO_LEN: usize = 514;
 
 /// HKDF-Extract (RFC 5869 section 2.2): returns the pseudorandom key of a salt and input keying material.
@@ -66,7 +66,7 @@ impl<H: Hash> Expander<H> {
         ensures kept { OnErr result (out.new ≡ out.old) }
     {
         check_len::<H>(out.len())?;
-        self.fill(info, out);
+        self.fill_okm(info, out);
         Ok(())
     }
 
@@ -80,17 +80,18 @@ impl<H: Hash> Expander<H> {
         self.key.finish(hasher)
     }
 
-    // Fills `out`, which is not too long.
-    fn fill(&self, info: &[&[u8]], out: &mut [u8])
+    /// Fills `out`, which is not too long, with output keying material.
+    fn fill_okm(&self, info: &[&[u8]], out: &mut [u8])
         requires { length out.old ≤ 255 * H.OUTPUT_LEN }
         ensures { (prk : List ℕ) → IsExpander H.function H.holds prk self.now
             → out.new ≡ hkdf_expand H.function prk (joined_pieces info.now) (length out.old) }
     {
         let len = out.len();
         let count = (len + H::OUTPUT_LEN - 1) / H::OUTPUT_LEN;
-        let mut hasher = self.key.start();
-        let mut filled = 0;
+        let mut filled = 0usize;
         'rounds: for i in 0..count {
+            let mut hasher = self.key.start();
+            hasher.update(&out[filled.saturating_sub(H::OUTPUT_LEN)..filled]);
             hasher = update_all(hasher, info);
             hasher.update(&[(i + 1) as u8]);
             let block = self.key.finish(hasher);
@@ -98,12 +99,10 @@ impl<H: Hash> Expander<H> {
             let n = usize::min(bytes.len(), len - filled);
             out[filled..filled + n].copy_from_slice(&bytes[..n]);
             filled += n;
-            hasher = self.key.start();
-            hasher.update(block);
         }
     }
 
-    // Fills `out` by a label, where no length is above its limit.
+    /// Fills `out` by a label, where no length is above its limit.
     #[inline(never)]
     pub(crate) fn fill_labeled(&self, label: &[u8], context: &[u8], out: &mut [u8])
         requires label { length label.now ≤ 249 }
@@ -114,11 +113,11 @@ impl<H: Hash> Expander<H> {
     {
         let mut info = [0u8; MAX_INFO_LEN];
         let len = write_label(&mut info, label, context, out.len() as u16);
-        self.fill(&[&info[..len]], out);
+        self.fill_okm(&[&info[..len]], out);
     }
 }
 
-// Adds the pieces to the message of a hasher.
+/// Adds the pieces to the message of a hasher.
 fn update_all<H: Hash>(mut hasher: H, pieces: &[&[u8]]) -> H
     ensures { (m : List ℕ) → H.holds hasher m → H.holds result (m ++ joined_pieces pieces.now) }
 {
@@ -186,7 +185,7 @@ pub fn derive_secret<H: Hash>(
     Ok(Expander::<H>::new(secret).expand_block(&[&info[..len]]))
 }
 
-// Checks that a label has a length that is allowed.
+/// Checks that a label has a length that is allowed.
 fn check_label(label: &[u8]) -> Result<(), DerivationError>
     ensures accepted { IsOk result ↔ IsLabel label.now }
     ensures refused { IsOkUnless result DerivationError.LabelLength }
@@ -197,7 +196,7 @@ fn check_label(label: &[u8]) -> Result<(), DerivationError>
     Ok(())
 }
 
-// Checks that an output is not longer than 255 digests.
+/// Checks that an output is not longer than 255 digests.
 fn check_len<H: Hash>(len: usize) -> Result<(), DerivationError>
     ensures accepted { IsOk result ↔ (len ≤ 255 * H.OUTPUT_LEN) }
     ensures refused { IsOkUnless result DerivationError.TooLong }
@@ -208,7 +207,7 @@ fn check_len<H: Hash>(len: usize) -> Result<(), DerivationError>
     Ok(())
 }
 
-// Writes the HkdfLabel, and returns its length.
+/// Writes the HkdfLabel, and returns its length.
 #[inline(never)]
 fn write_label(info: &mut [u8; MAX_INFO_LEN], label: &[u8], context: &[u8], len: u16) -> usize
     requires label { length label.now ≤ 249 }
@@ -224,7 +223,7 @@ fn write_label(info: &mut [u8; MAX_INFO_LEN], label: &[u8], context: &[u8], len:
     append(info, at, context)
 }
 
-// Writes bytes at an index, and returns the index after them.
+/// Writes bytes at an index, and returns the index after them.
 fn append(info: &mut [u8; MAX_INFO_LEN], at: usize, bytes: &[u8]) -> usize
     requires { at + length bytes.now ≤ 514 }
     ensures end { result ≡ at + length bytes.now }

@@ -64,7 +64,7 @@ impl<H: Hash> HmacKey<H> {
     }
 }
 
-// The key, hashed if it is longer than a block, with zeros after it.
+/// The key, hashed if it is longer than a block, with zeros after it.
 fn block_of<H: Hash>(key: &[u8]) -> [u8; MAX_BLOCK_LEN]
     ensures { take H.BLOCK_LEN result ≡ block_key H.function key.now }
 {
@@ -78,14 +78,14 @@ fn block_of<H: Hash>(key: &[u8]) -> [u8; MAX_BLOCK_LEN]
     block
 }
 
-// Whether a key is longer than a block.
+/// Whether a key is longer than a block.
 fn is_long<H: Hash>(key: &[u8]) -> bool
     ensures { IsTrue result ↔ (H.BLOCK_LEN < length key.now) }
 {
     key.len() > H::BLOCK_LEN
 }
 
-// A hasher of the block, each byte XORed with `pad`.
+/// A hasher of the block, each byte XORed with `pad`.
 #[inline(never)]
 fn absorb_xored<H: Hash>(block: &[u8], pad: u8) -> H
     requires { length block.now ≤ 128 }

@@ -9,7 +9,7 @@ use std::marker::Model;
 /// The length of an IV in bytes.
 pub const IV_LEN: usize = 12;
 
-// The bytes of a key.
+/// The bytes of a key.
 #[derive(Drop)]
 pub(crate) enum KeyBytes {
     Aes128([u8; 16]),

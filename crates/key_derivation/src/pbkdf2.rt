@@ -10,7 +10,7 @@ use crate::hmac::HmacKey;
 use sha2::Digest;
 use std::convert::AsSlice;
 
-// The number of blocks of a key, at most.
+/// The number of blocks of a key, at most.
 const MAX_BLOCKS: usize = u32::MAX as usize;
 
 /// PBKDF2 with HMAC (RFC 8018 section 5.2): fills `out` with the key of a password, after `count` iterations.
@@ -35,20 +35,20 @@ pub fn pbkdf2<H: Hash>(
         (out.new ≡ pbkdf2 H.function password.now salt.now count (length out.old)) }
     ensures kept { OnErr result (out.new ≡ out.old) }
 {
-    if count == 0 {
+    let Some(further) = count.checked_sub(1) else {
         return Err(DerivationError::NoIterations);
-    }
+    };
     if out.len() > MAX_BLOCKS * H::OUTPUT_LEN {
         return Err(DerivationError::TooLong);
     }
-    fill::<H>(password, salt, count, out);
+    fill_derived_key::<H>(password, salt, further, out);
     Ok(())
 }
 
-// Fills `out`, which is not too long.
-fn fill<H: Hash>(password: &[u8], salt: &[u8], count: u32, out: &mut [u8])
+/// Fills `out`, which is not too long, after one iteration and `further` ones.
+fn fill_derived_key<H: Hash>(password: &[u8], salt: &[u8], further: u32, out: &mut [u8])
     requires { length out.old ≤ (2 ^ 32 - 1) * H.OUTPUT_LEN }
-    ensures { out.new ≡ pbkdf2 H.function password.now salt.now count (length out.old) }
+    ensures { out.new ≡ pbkdf2 H.function password.now salt.now (further + 1) (length out.old) }
 {
     let key = HmacKey::<H>::new(password);
     let len = out.len();
@@ -57,32 +57,34 @@ fn fill<H: Hash>(password: &[u8], salt: &[u8], count: u32, out: &mut [u8])
     'rounds: for i in 0..blocks {
         let mut block = [0u8; MAX_OUTPUT_LEN];
         let block_len = H::OUTPUT_LEN;
-        add_codes(&key, salt, count, (i + 1) as u32, &mut block[..block_len]);
+        add_codes(&key, salt, further, (i + 1) as u32, &mut block[..block_len]);
         let n = usize::min(block_len, len - filled);
         out[filled..filled + n].copy_from_slice(&block[..n]);
         filled += n;
     }
 }
 
-// Writes the XOR of the codes of one block.
-fn add_codes<H: Hash>(key: &HmacKey<H>, salt: &[u8], count: u32, index: u32, sum: &mut [u8])
+/// Writes the XOR of the codes of one block: of the first, and of `further` ones.
+fn add_codes<H: Hash>(key: &HmacKey<H>, salt: &[u8], further: u32, index: u32, sum: &mut [u8])
     requires { length sum.old ≡ H.OUTPUT_LEN }
     ensures { (password : List ℕ) → IsKey H.function H.holds password key.now
-        → sum.new ≡ pbkdf2_sum H.function password salt.now index count }
+        → sum.new ≡ pbkdf2_sum H.function password salt.now index (further + 1) }
 {
     sum.fill(0);
     let mut hasher = key.start();
     hasher.update(salt);
     hasher.update(&index.to_be_bytes());
-    'codes: for n in 0..count {
-        let code = key.finish(hasher);
-        xor_into(sum, code.as_slice());
-        hasher = key.start();
+    let mut code = key.finish(hasher);
+    xor_into(sum, code.as_slice());
+    'codes: for n in 0..further {
+        let mut hasher = key.start();
         hasher.update(code);
+        code = key.finish(hasher);
+        xor_into(sum, code.as_slice());
     }
 }
 
-// XORs bytes into as many.
+/// XORs bytes into as many.
 fn xor_into(sum: &mut [u8], code: &[u8])
     ensures { length sum.old ≡ length code.now → sum.new ≡ sum.old ⊕ code.now }
 {

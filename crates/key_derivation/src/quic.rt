@@ -18,10 +18,10 @@ use std::marker::Model;
 /// The length of the longest connection ID in bytes (RFC 9000 section 17.2).
 pub const MAX_CONNECTION_ID_LEN: usize = 20;
 
-// The number of version 2 (RFC 9369 section 3.1).
+/// The number of version 2 (RFC 9369 section 3.1).
 const VERSION_2: u32 = 0x6b3343cf;
 
-// The salts of version 1 (RFC 9001 section 5.2) and version 2 (RFC 9369 section 3.3.1).
+/// The salts of version 1 (RFC 9001 section 5.2) and version 2 (RFC 9369 section 3.3.1).
 const INITIAL_SALT_1: [u8; 20] = [
     0x38, 0x76, 0x2c, 0xf7, 0xf5, 0x59, 0x34, 0xb3, 0x4d, 0x17, 0x9a, 0xe6, 0xa4, 0xc8, 0x0c, 0xad,
     0xcc, 0xbb, 0x7f, 0x0a,
@@ -242,7 +242,7 @@ impl QuicSecret {
     }
 }
 
-// Fills the parts of the keys, by one key of HMAC.
+/// Fills the parts of the keys, by one key of HMAC.
 fn fill_keys<H: Hash>(
     version: Version,
     secret: &[u8],
@@ -264,7 +264,7 @@ fn fill_keys<H: Hash>(
     from.fill_labeled(version.header_key_label(), b"", header_key);
 }
 
-// The secret of an endpoint by its label.
+/// The secret of an endpoint by its label.
 fn initial(version: Version, id: &[u8], label: &[u8]) -> Result<QuicSecret, DerivationError>
     requires { length label.now ≤ 249 }
     ensures accepted { IsOk result ↔ (length id.now ≤ 20) }

@@ -2,7 +2,7 @@
 
 ghost use Rattle.std.specs.Prelude.{◌≡◌, ◌*◌, ◌<◌, ◌≤◌, ◌↔◌, [], codes, length, IsOk, IfOk, IsErrOf, IsOkUnless, OnErr, OnOk};
 ghost use Rattle.key_derivation.specs.Hkdf.{IsLabel, hkdf_expand, hkdf_expand_label};
-ghost use Rattle.key_derivation.specs.Secret.{labeled, next_secret, suite_hash, suite_key_len, suite_secret_len};
+ghost use Rattle.key_derivation.specs.Secret.{next_secret, suite_hash, suite_key_len, suite_secret_len};
 ghost use Rattle.key_derivation.specs.Tls.{next_traffic_secret, record_iv, record_key};
 
 use crate::error::DerivationError;
@@ -14,7 +14,7 @@ use sha2::{Sha256, Sha384};
 use std::fmt;
 use std::marker::Model;
 
-// The bytes of a secret, as many as a digest of its hash function has.
+/// The bytes of a secret, as many as a digest of its hash function has.
 #[derive(Drop)]
 pub(crate) enum SecretBytes {
     Sha256([u8; 32]),
@@ -182,43 +182,27 @@ impl Secret {
         self.next(b"traffic upd")
     }
 
-    // The next secret by its label.
+    /// Returns the next secret by its label.
     pub(crate) fn next(&self, label: &[u8]) -> Self
         requires { length label.now ≤ 249 }
         ensures { result ≡ next_secret self.now label.now }
     {
-        match self.suite() {
-            Suite::Aes128Gcm => {
-                let mut bytes = [0u8; 32];
-                self.fill(label, &mut bytes);
-                Secret::aes_128_gcm(bytes)
-            }
-            Suite::Aes256Gcm => {
-                let mut bytes = [0u8; 48];
-                self.fill(label, &mut bytes);
-                Secret::aes_256_gcm(bytes)
-            }
-        }
-    }
-
-    // Fills `out` by a label.
-    fn fill(&self, label: &[u8], out: &mut [u8])
-        requires label { length label.now ≤ 249 }
-        requires out { length out.old ≤ 48 }
-        ensures { out.new ≡ labeled self.now label.now (length out.old) }
-    {
         match &self.inner {
-            SecretBytes::Sha256(bytes) => Expander::<Sha256>::new(bytes).fill_labeled(
-                label, b"", out,
-            ),
-            SecretBytes::Sha384(bytes) => Expander::<Sha384>::new(bytes).fill_labeled(
-                label, b"", out,
-            ),
+            SecretBytes::Sha256(bytes) => {
+                let mut next = [0; 32];
+                Expander::<Sha256>::new(bytes).fill_labeled(label, b"", &mut next);
+                Secret::aes_128_gcm(next)
+            }
+            SecretBytes::Sha384(bytes) => {
+                let mut next = [0; 48];
+                Expander::<Sha384>::new(bytes).fill_labeled(label, b"", &mut next);
+                Secret::aes_256_gcm(next)
+            }
         }
     }
 }
 
-// Fills the parts of the keys of records, by one key of HMAC.
+/// Fills the parts of the keys of records, by one key of HMAC.
 fn fill_record_keys<H: Hash>(secret: &[u8], key: &mut [u8], iv: &mut [u8])
     requires key { length key.old ≤ 32 }
     requires iv { length iv.old ≤ 32 }

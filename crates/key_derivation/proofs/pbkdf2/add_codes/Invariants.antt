@@ -1,5 +1,4 @@
-use Rattle.std.proofs.Common.{◌≡◌, ℕ, List, ◌++◌}
-use Rattle.key_derivation.specs.Hmac.{inner_block}
+use Rattle.std.proofs.Common.{◌≡◌, ℕ, ◌+◌, List}
 use Rattle.key_derivation.specs.HmacState.{IsKey}
 use Rattle.key_derivation.specs.Pbkdf2.{pbkdf2_u, pbkdf2_sum}
 use Rattle.key_derivation.proofs.pbkdf2.add_codes.Given as goal
@@ -7,8 +6,8 @@ use Rattle.key_derivation.proofs.pbkdf2.add_codes.Given as goal
 abbrev pub invariant-codes : goal.invariant-codes
 invariant-codes g l =
     let h = g.H.Hash.function in
-    let holds = g.H.Digest.holds in
+    let of = λ (password : List ℕ). IsKey h g.H.Digest.holds password l.key in
     record {
-      held : (password : List ℕ) → IsKey h holds password l.key → holds l.hasher (inner_block h password ++ pbkdf2_u h password l.salt l.index l.n);
-      summed : (password : List ℕ) → IsKey h holds password l.key → l.sum ≡ pbkdf2_sum h password l.salt l.index l.n;
+      last : (password : List ℕ) → of password → g.H.Output.AsSlice.items l.code ≡ pbkdf2_u h password l.salt l.index (l.n + 1);
+      summed : (password : List ℕ) → of password → l.sum ≡ pbkdf2_sum h password l.salt l.index (l.n + 1);
     }

@@ -3,7 +3,7 @@ use Rattle.std.proofs.lemmas.List.{take-append-le}
 use Rattle.key_derivation.specs.Pbkdf2.{pbkdf2_sum}
 use Rattle.key_derivation.proofs.BlockLemmas.{needed, same_count, filled_more, written_more, filled_all, length-put_mid}
 use Rattle.key_derivation.proofs.Pbkdf2Lemmas.{length-pbkdf2_sum}
-use Rattle.key_derivation.proofs.pbkdf2.fill.Goals as goal
+use Rattle.key_derivation.proofs.pbkdf2.fill_derived_key.Goals as goal
 
 pub rounds-preserved : goal.rounds-preserved
 rounds-preserved g c =
@@ -12,7 +12,7 @@ rounds-preserved g c =
     let l = g.H.Hash.OUTPUT_LEN in
     let password = c.args.password.now in
     let salt = c.args.salt.now in
-    let f : ℕ → List ℕ = λ index. pbkdf2_sum h password salt index c.args.count in
+    let f : ℕ → List ℕ = λ index. pbkdf2_sum h password salt index (c.args.further + 1) in
     let i = c.rounds.i in
     let len = length c.args.out.now in
     let a = c.OUTPUT_LEN-block_len.result in
@@ -20,7 +20,7 @@ rounds-preserved g c =
     let n = c.min-n.result in
     let block = c.add_codes.new.sum in
     let is_block : block ≡ f (i + 1) = c.add_codes.ensures password c.new-key.ensures in
-    let long = λ (k : ℕ). length-pbkdf2_sum h l laws.digest_len laws.output_len password salt k c.args.count in
+    let long = λ (k : ℕ). length-pbkdf2_sum h l laws.digest_len laws.output_len password salt k (c.args.further + 1) in
     let block_len : length block ≡ l = ap length is_block ∙ long (i + 1) in
     let turn : i < (len + l - 1) / l =
     let P : ℕ → Type 0 = λ x. i < x in
@@ -47,7 +47,7 @@ returns g c =
     let laws = g.met.H.Hash in
     let l = g.H.Hash.OUTPUT_LEN in
     let len = length c.args.out.now in
-    let f : ℕ → List ℕ = λ index. pbkdf2_sum h c.args.password.now c.args.salt.now index c.args.count in
+    let f : ℕ → List ℕ = λ index. pbkdf2_sum h c.args.password.now c.args.salt.now index (c.args.further + 1) in
     let count = same_count c.rounds.i len c.OUTPUT_LEN.result c.OUTPUT_LEN-2.result l c.OUTPUT_LEN.ensures c.OUTPUT_LEN-2.ensures (omega arith) in
     filled_all f c.rounds.out c.rounds.i l h.output_len len c.rounds.filled laws.some_output laws.output_len (omega arith) count
     c.rounds.invariant.so_far c.rounds.invariant.written
