@@ -3,8 +3,8 @@ use Rattle.std.specs.Prelude.{ℕ, List}
 use Rattle.aead_ciphers.specs.declared.aead.algorithm.Algorithm.{Algorithm}
 use Rattle.aead_ciphers.specs.HeaderProtection.{HeaderKey}
 use Rattle.key_derivation.specs.Quic.{QuicSecretState, quic_header_key, quic_iv, quic_key}
-use Rattle.quic_packets.specs.Suite.{algorithm, header_algorithm, suite_of}
-use Rattle.quic_packets.specs.declared.suite.Suite.{Suite}
+use Rattle.key_derivation.specs.declared.suite.Suite.{Suite}
+use Rattle.quic_packets.specs.Suite.{algorithm, header_algorithm}
 
 -- a packet protection key: its algorithm, its bytes and its IV (RFC 9001 section 5.1)
 pub record PacketKey : Type 0 where
@@ -21,7 +21,7 @@ header_key suite bytes = record { algorithm = header_algorithm suite; bytes = by
 
 -- the packet key and the header key of a secret (RFC 9001 section 5.1)
 unfoldable pub secret_key : QuicSecretState → PacketKey
-secret_key s = packet_key (suite_of s.secret.suite) (quic_key s) (quic_iv s)
+secret_key s = packet_key s.secret.suite (quic_key s) (quic_iv s)
 
 unfoldable pub secret_header_key : QuicSecretState → HeaderKey
-secret_header_key s = header_key (suite_of s.secret.suite) (quic_header_key s)
+secret_header_key s = header_key s.secret.suite (quic_header_key s)

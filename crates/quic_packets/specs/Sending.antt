@@ -7,6 +7,7 @@ use Rattle.aead_ciphers.specs.HeaderProtection.{HeaderKey, key_len as header_key
 use Rattle.aead_ciphers.specs.Packet.{PacketFits, sealed_packet}
 use Rattle.key_derivation.specs.Quic.{QuicSecretState, next_quic_secret}
 use Rattle.key_derivation.specs.declared.quic.Version.{Version}
+use Rattle.key_derivation.specs.declared.suite.Suite.{Suite}
 use Rattle.quic_packets.specs.Datagram.{version_of}
 use Rattle.quic_packets.specs.FixedBit.{lacks_fixed_bit}
 use Rattle.quic_packets.specs.Header.{HasSample, Protected}
@@ -18,7 +19,6 @@ use Rattle.quic_packets.specs.Suite.{algorithm, header_algorithm}
 use Rattle.quic_packets.specs.Versions.{bits_of, is_other_version, type_bits}
 use Rattle.quic_packets.specs.declared.fixed_bit.FixedBit.{FixedBit}
 use Rattle.quic_packets.specs.declared.skipped.Gap.{Gap}
-use Rattle.quic_packets.specs.declared.suite.Suite.{Suite}
 
 -- a sender: its version; its key and header key, and the secret of the key, if it is made of one; the next number, and the
 -- largest acknowledged one of its space; the ranges of skipped numbers that are kept; the Key Phase bit; how many packets this

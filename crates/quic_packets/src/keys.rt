@@ -5,7 +5,7 @@ ghost use Rattle.quic_packets.specs.Keys.{secret_header_key, secret_key};
 
 use crate::header::HeaderKey;
 use crate::key::PacketKey;
-use crate::suite::Suite;
+use crate::suite::{algorithm, header_algorithm};
 use aead_ciphers::aead::NONCE_LEN;
 use key_derivation::quic::{QuicSecret, Version};
 
@@ -28,12 +28,12 @@ pub(crate) fn keys_of(secret: &QuicSecret) -> (PacketKey, HeaderKey)
     ensures packet { result.0 ≡ secret_key secret.now }
     ensures header { result.1 ≡ secret_header_key secret.now }
 {
-    let suite = Suite::of_secret(secret);
+    let suite = secret.suite();
     let keys = secret.keys();
-    let Ok(packet) = PacketKey::new(suite.algorithm(), keys.key.as_slice(), keys.iv) else {
+    let Ok(packet) = PacketKey::new(algorithm(suite), keys.key.as_slice(), keys.iv) else {
         unreachable!();
     };
-    let Ok(header) = HeaderKey::new(suite.header_algorithm(), keys.header_key.as_slice()) else {
+    let Ok(header) = HeaderKey::new(header_algorithm(suite), keys.header_key.as_slice()) else {
         unreachable!();
     };
     (packet, header)

@@ -21,9 +21,10 @@ use crate::key::PacketKey;
 use crate::keys::{Keys, keys_of};
 use crate::numbers::{decode, truncated};
 use crate::space::Space;
-use crate::suite::Suite;
+use crate::suite::{algorithm, header_algorithm};
 use crate::versions::is_other_version;
 use aead_ciphers::aead::NONCE_LEN;
+use key_derivation::Suite;
 use key_derivation::quic::{QuicSecret, Version};
 use std::marker::Model;
 use std::mem;
@@ -110,8 +111,8 @@ impl Receiver {
         ensures made { IfOk result (λ made. made ≡ new_receiver keys.entry.version (header_key suite keys.entry.header_key.now)
             (packet_key suite keys.entry.key.now keys.entry.iv) None) }
     {
-        let header = HeaderKey::new(suite.header_algorithm(), keys.header_key)?;
-        let current = PacketKey::new(suite.algorithm(), keys.key, keys.iv)?;
+        let header = HeaderKey::new(header_algorithm(suite), keys.header_key)?;
+        let current = PacketKey::new(algorithm(suite), keys.key, keys.iv)?;
         Ok(Receiver::with_keys(keys.version, header, current, None))
     }
 

@@ -20,9 +20,10 @@ use crate::keys::{Keys, keys_of};
 use crate::numbers::number_len;
 use crate::packet::{NUMBERS_END, payload_len};
 use crate::skipped::Skipped;
-use crate::suite::Suite;
+use crate::suite::{algorithm, header_algorithm};
 use crate::versions::{bits_of, is_other_version, type_bits};
 use aead_ciphers::aead::NONCE_LEN;
+use key_derivation::Suite;
 use key_derivation::quic::{QuicSecret, Version};
 use std::marker::Model;
 use std::ops::Range;
@@ -129,8 +130,8 @@ impl Sender {
         ensures made { IfOk result (λ made. made ≡ new_sender keys.entry.version
             (packet_key suite keys.entry.key.now keys.entry.iv) (header_key suite keys.entry.header_key.now) None first) }
     {
-        let header_key = HeaderKey::new(suite.header_algorithm(), keys.header_key)?;
-        let key = PacketKey::new(suite.algorithm(), keys.key, keys.iv)?;
+        let header_key = HeaderKey::new(header_algorithm(suite), keys.header_key)?;
+        let key = PacketKey::new(algorithm(suite), keys.key, keys.iv)?;
         Sender::with_keys(keys.version, key, header_key, None, first)
     }
 
@@ -516,8 +517,8 @@ impl Sender {
         if self.secret.is_some() {
             return Err(PacketError::KeysDerived);
         }
-        let header_key = HeaderKey::new(suite.header_algorithm(), keys.header_key)?;
-        let key = PacketKey::new(suite.algorithm(), keys.key, keys.iv)?;
+        let header_key = HeaderKey::new(header_algorithm(suite), keys.header_key)?;
+        let key = PacketKey::new(algorithm(suite), keys.key, keys.iv)?;
         self.install(keys.version, key, header_key, None);
         Ok(())
     }

@@ -110,7 +110,7 @@ fn takes_keys(sender: &mut Sender) -> [Result<(), PacketError>; 3] {
     [
         sender.initiate_update_with(&[1; 16], IV),
         sender.follow_update_with(&[1; 16], IV),
-        sender.install_keys(quic_packets::Suite::Aes128Gcm, keys()),
+        sender.install_keys(Suite::Aes128Gcm, keys()),
     ]
 }
 
@@ -143,13 +143,13 @@ fn derives_keys(sender: &mut Sender, secret: QuicSecret) -> [Result<(), PacketEr
 // An end of the caller's keys derives none.
 #[test]
 fn no_secret(rt: HostRuntime) -> Result<(), Fail> {
-    let mut sender = Sender::new(quic_packets::Suite::Aes128Gcm, keys(), 0)?;
+    let mut sender = Sender::new(Suite::Aes128Gcm, keys(), 0)?;
     sender.confirm_handshake();
     for outcome in derives_keys(&mut sender, secret(Suite::Aes128Gcm)?) {
         equal(&rt, &outcome, &Err(PacketError::NoSecret));
     }
     equal(&rt, &sender.phase(), &false);
-    let mut receiver = Receiver::new(quic_packets::Suite::Aes128Gcm, keys())?;
+    let mut receiver = Receiver::new(Suite::Aes128Gcm, keys())?;
     equal(&rt, &receiver.set_next(), &Err(PacketError::NoSecret));
     Ok(())
 }

@@ -4,7 +4,10 @@ use crate::checks::{equal, holds, same};
 use crate::keys::{packets, plain};
 use crate::rows::{HEADER_KEY, IV, Row, rows};
 use aead_vectors::rfc_9001::Packet;
-use quic_packets::{FixedBit, HeaderKey, Keys, PacketError, PacketKey, Sender, Suite, Version};
+use quic_packets::{
+    FixedBit, HeaderKey, Keys, PacketError, PacketKey, Sender, Suite, Version, algorithm,
+    header_algorithm,
+};
 use std::alloc::Global;
 use std::ops::Range;
 use std::process::Abort;
@@ -230,11 +233,11 @@ fn opens(
     number: u64,
     phase: bool,
 ) -> Result<(), PacketError> {
-    let header_key = HeaderKey::new(Suite::Aes128Gcm.header_algorithm(), &HEADER_KEY[..16])?;
+    let header_key = HeaderKey::new(header_algorithm(Suite::Aes128Gcm), &HEADER_KEY[..16])?;
     equal(rt, &header_key.unprotect(&mut packet, 1), &Ok(1));
     let header = [if phase { 0x44 } else { 0x40 }, number.to_le_bytes()[0]];
     same(rt, &packet[..2], &header, "header");
-    let key = PacketKey::new(Suite::Aes128Gcm.algorithm(), &[key; 16], IV)?;
+    let key = PacketKey::new(algorithm(Suite::Aes128Gcm), &[key; 16], IV)?;
     equal(rt, &key.open(number, &mut packet, 2), &Ok(6));
     same(rt, &packet[2..8], &SHORT[2..8], "payload");
     Ok(())
