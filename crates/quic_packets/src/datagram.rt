@@ -8,6 +8,7 @@ ghost use Rattle.quic_packets.specs.Datagram.{IsIn, IsPlaced, has_long_id, id_en
 ghost use Rattle.quic_packets.specs.FixedBit.{lacks_fixed_bit};
 ghost use Rattle.quic_packets.specs.Versions.{bits_of, type_of};
 
+use crate::first_byte::is_long;
 use crate::fixed_bit::FixedBit;
 use crate::versions::{bits_of, type_of};
 use key_derivation::quic::Version;
@@ -145,10 +146,10 @@ fn read_packet(
     if start >= datagram.len() {
         return Err(DatagramError::Cut);
     }
-    if datagram[start] < 0x80 {
-        short_packet(datagram, start, connection_id_len)
-    } else {
+    if is_long(datagram[start]) {
         long_packet(datagram, start)
+    } else {
+        short_packet(datagram, start, connection_id_len)
     }
 }
 

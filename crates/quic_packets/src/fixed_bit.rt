@@ -3,6 +3,7 @@
 ghost use Rattle.std.specs.Prelude.{◌≡◌};
 ghost use Rattle.quic_packets.specs.FixedBit.{has_fixed_bit, lacks_fixed_bit};
 
+use crate::first_byte::FIXED_BIT;
 use key_derivation::quic::Version;
 
 /// What the fixed bit of a packet must be: bit 0x40 of the first byte, in short headers and in long ones of version 1 or 2 (RFC
@@ -23,7 +24,7 @@ impl FixedBit {
         ensures { result ≡ lacks_fixed_bit self version first }
     {
         match self {
-            FixedBit::Required => has_fixed_bit(version) && first / 0x40 % 2 == 0,
+            FixedBit::Required => has_fixed_bit(version) && first / FIXED_BIT % 2 == 0,
             FixedBit::Greased => false,
         }
     }

@@ -6,6 +6,7 @@ ghost use Rattle.quic_packets.specs.Keys.{secret_header_key};
 ghost use Rattle.quic_packets.specs.Header.{HasMaskedBytes, HasSample, MaskedParts, Protected, Unprotected, first_mask, number_len};
 
 use crate::error::PacketError;
+use crate::first_byte::{LONG_MASKED_BITS, NUMBER_LEN_BITS, SHORT_MASKED_BITS, is_long};
 use crate::keys::keys_of;
 use aead_ciphers::aead::quic::Algorithm;
 use aead_ciphers_wide::aead::quic::HeaderProtectionKey;
@@ -254,17 +255,17 @@ pub(crate) fn number_len(first: u8) -> usize
     ensures is { result ≡ number_len first }
     ensures few { (0 < result) × (result ≤ 4) }
 {
-    (first & 0x03) as usize + 1
+    (first & NUMBER_LEN_BITS) as usize + 1
 }
 
 // What the first byte is XORed with, given its highest bit and the mask's first byte.
 fn first_mask(first: u8, mask: u8) -> u8
     ensures { result ≡ first_mask first mask }
 {
-    if first & 0x80 == 0x80 {
-        mask & 0x0f
+    if is_long(first) {
+        mask & LONG_MASKED_BITS
     } else {
-        mask & 0x1f
+        mask & SHORT_MASKED_BITS
     }
 }
 

@@ -5,6 +5,7 @@ ghost use Rattle.quic_packets.specs.HeaderBytes.{HasShortFields, HasShortIds, Is
 ghost use Rattle.quic_packets.specs.Datagram.{span};
 
 use crate::datagram::{MAX_ID_LEN, TAG_LEN};
+use crate::first_byte::{FIXED_BIT, KEY_PHASE_BIT, LONG_HEADER_FORM, LONG_TYPE_SHIFT};
 use crate::header::MAX_NUMBER_LEN;
 use crate::versions::type_bits;
 use key_derivation::quic::Version;
@@ -176,7 +177,7 @@ impl LongHeader<'_> {
             LongType::ZeroRtt => types.zero_rtt,
             LongType::Handshake => types.handshake,
         };
-        0xc0 + bits * 0x10 + (self.number_len as u8 - 1)
+        LONG_HEADER_FORM + FIXED_BIT + (bits << LONG_TYPE_SHIFT) + (self.number_len as u8 - 1)
     }
 }
 
@@ -230,8 +231,8 @@ impl ShortHeader<'_> {
         requires { IsNumberLen self.now.number_len }
         ensures { result ≡ short_first_byte self.now.phase self.now.number_len }
     {
-        let key_phase = if self.phase { 0x04 } else { 0 };
-        0x40 + key_phase + (self.number_len as u8 - 1)
+        let key_phase = if self.phase { KEY_PHASE_BIT } else { 0 };
+        FIXED_BIT + key_phase + (self.number_len as u8 - 1)
     }
 }
 

@@ -11,6 +11,7 @@ pub mod connection;
 mod datagram;
 mod error;
 mod failures;
+mod first_byte;
 mod fixed_bit;
 mod header;
 mod header_writer;

@@ -16,6 +16,9 @@ ghost use Rattle.quic_packets.specs.Versions.{is_other_version};
 use crate::datagram::Packet;
 use crate::error::PacketError;
 use crate::failures::Failures;
+use crate::first_byte::{
+    KEY_PHASE_BIT, LONG_HEADER_FORM, LONG_RESERVED_BITS, SHORT_RESERVED_BITS, is_long,
+};
 use crate::header::{HeaderKey, SAMPLE_END, masked_bytes, write_back};
 use crate::key::PacketKey;
 use crate::keys::{Keys, keys_of};
@@ -364,7 +367,7 @@ impl Receiver {
                 let received = Received {
                     number,
                     payload: from..from + payload_len,
-                    phase: first & 0x84 == 0x04,
+                    phase: first & (LONG_HEADER_FORM | KEY_PHASE_BIT) == KEY_PHASE_BIT,
                 };
                 Ok((first, received))
             }
@@ -392,7 +395,7 @@ impl Receiver {
     fn is_other_phase(&self, first: u8) -> bool
         ensures { result ≡ is_other_phase self.now first }
     {
-        first & 0x84 == if self.phase { 0x00 } else { 0x04 }
+        first & (LONG_HEADER_FORM | KEY_PHASE_BIT) == if self.phase { 0 } else { KEY_PHASE_BIT }
     }
 
     // The key that a packet is opened with. If its own is not held, this is the current one, so that rejecting it takes as
@@ -475,7 +478,11 @@ impl Receiver {
         ensures kept { OnErr result ((self.new ≡ self.old) × (space.new ≡ space.old)) }
     {
         let number = opened.number;
-        let reserved = if first & 0x80 == 0x80 { 0x0c } else { 0x18 };
+        let reserved = if is_long(first) {
+            LONG_RESERVED_BITS
+        } else {
+            SHORT_RESERVED_BITS
+        };
         if first & reserved != 0 {
             return Err(PacketError::ReservedBits);
         }

@@ -13,6 +13,7 @@ ghost use Rattle.quic_packets.specs.Versions.{is_other_version};
 
 use crate::datagram::version;
 use crate::error::PacketError;
+use crate::first_byte::{KEY_PHASE_BIT, LONG_MASKED_BITS, SHORT_MASKED_BITS, is_long};
 use crate::fixed_bit::FixedBit;
 use crate::header::{HeaderKey, MAX_NUMBER_LEN, SAMPLE_END};
 use crate::key::PacketKey;
@@ -732,7 +733,7 @@ fn header_version(packet: &[u8]) -> Option<u32>
     requires { 5 ≤ length packet.now }
     ensures { result ≡ header_version packet.now }
 {
-    if packet[0] & 0x80 == 0x80 {
+    if is_long(packet[0]) {
         Some(version(packet, 0))
     } else {
         None
@@ -749,7 +750,7 @@ fn lacks_protection(version: Version, packet: &[u8]) -> bool
         && packet[2] == 0
         && packet[3] == 0
         && packet[4] == 0;
-    packet[0] & 0x80 == 0x80 && (is_retry || is_version_negotiation)
+    is_long(packet[0]) && (is_retry || is_version_negotiation)
 }
 
 // Writes the packet number and the first byte.
@@ -773,10 +774,10 @@ fn first_byte(first: u8, number_len: usize, phase: bool) -> u8
     ensures { result ≡ first_byte phase number_len first }
 {
     let low = number_len as u8 - 1;
-    if first & 0x80 == 0x80 {
-        first & 0xf0 | low
+    if is_long(first) {
+        first & !LONG_MASKED_BITS | low
     } else {
-        let key_phase = if phase { 0x04 } else { 0 };
-        first & 0xe0 | key_phase | low
+        let key_phase = if phase { KEY_PHASE_BIT } else { 0 };
+        first & !SHORT_MASKED_BITS | key_phase | low
     }
 }

@@ -4,6 +4,7 @@ ghost use Rattle.std.specs.Prelude.{◌≡◌, ◌<◌};
 ghost use Rattle.quic_packets.specs.Versions.{bits_of, is_other_version, type_bits, type_of};
 
 use crate::datagram::PacketType;
+use crate::first_byte::{LONG_TYPE_BITS, LONG_TYPE_SHIFT};
 use key_derivation::quic::Version;
 
 /// The type bits of the packets with a long header.
@@ -56,7 +57,7 @@ pub(crate) fn type_of(version: Version, bits: u8) -> PacketType
 pub(crate) fn bits_of(first: u8) -> u8
     ensures { result ≡ bits_of first }
 {
-    first / 0x10 % 4
+    (first & LONG_TYPE_BITS) >> LONG_TYPE_SHIFT
 }
 
 /// Whether a long header has the number of another version.
