@@ -32,15 +32,15 @@ pub enum PacketError {
     PastEnd,
     /// The packet has no packet number, as its type or its version says.
     NoNumber,
-    /// The room for the packet number has fewer bytes than `Sender::next_number_len` returns, or a packet number has more than 4
-    /// (RFC 9000 section 17.1).
+    /// The room for the packet number has fewer bytes than `Sender::next_number_len` returns, or more than 4 (RFC 9000 section
+    /// 17.1).
     NumberLength,
     /// The next packet number is already above this one.
     NumberUsed,
     /// The packet number is too far above the largest acknowledged one for 4 bytes (RFC 9000 section 17.1).
     NumberTooFar,
-    /// The packet ends before the 16-byte sample, which begins 4 bytes after the start of the packet number, or a sample does not
-    /// have 16 bytes (RFC 9001 section 5.4.2).
+    /// The packet ends before the 16-byte sample, which begins 4 bytes after the start of the packet number (RFC 9001 section
+    /// 5.4.2).
     NoSample,
     /// The packet has fewer bytes than its header and a tag.
     TooShort,

@@ -8,6 +8,7 @@ ghost use Rattle.quic_packets.specs.Header.{HasMaskedBytes, HasSample, MaskedPar
 use crate::error::PacketError;
 use crate::first_byte::{LONG_MASKED_BITS, NUMBER_LEN_BITS, SHORT_MASKED_BITS, is_long};
 use crate::keys::keys_of;
+use crate::mask_error::MaskError;
 use aead_ciphers::aead::quic::Algorithm;
 use aead_ciphers_wide::aead::quic::HeaderProtectionKey;
 use key_derivation::quic::QuicSecret;
@@ -70,10 +71,10 @@ impl HeaderKey {
         sample: &[u8],
         first: &mut u8,
         number: &mut [u8],
-    ) -> Result<(), PacketError>
+    ) -> Result<(), MaskError>
         ensures accepted { IsOk result ↔ ((length sample.now ≡ 16) × (length number.old ≤ 4)) }
-        ensures no_sample { IsErrOf result PacketError.NoSample ↔ (length sample.now ≢ 16) }
-        ensures number_len { IsErrOf result PacketError.NumberLength
+        ensures no_sample { IsErrOf result MaskError.NoSample ↔ (length sample.now ≢ 16) }
+        ensures number_len { IsErrOf result MaskError.NumberLength
             ↔ ((length sample.now ≡ 16) × (4 < length number.old)) }
         ensures masked { OnOk result (MaskedParts (header_protection self.now.algorithm self.now.bytes sample.now)
             (number_len first.old) first.old number.old first.new number.new) }
@@ -98,10 +99,10 @@ impl HeaderKey {
         sample: &[u8],
         first: &mut u8,
         number: &mut [u8],
-    ) -> Result<(), PacketError>
+    ) -> Result<(), MaskError>
         ensures accepted { IsOk result ↔ ((length sample.now ≡ 16) × (length number.old ≤ 4)) }
-        ensures no_sample { IsErrOf result PacketError.NoSample ↔ (length sample.now ≢ 16) }
-        ensures number_len { IsErrOf result PacketError.NumberLength
+        ensures no_sample { IsErrOf result MaskError.NoSample ↔ (length sample.now ≢ 16) }
+        ensures number_len { IsErrOf result MaskError.NumberLength
             ↔ ((length sample.now ≡ 16) × (4 < length number.old)) }
         ensures masked { OnOk result (MaskedParts (header_protection self.now.algorithm self.now.bytes sample.now)
             (number_len first.new) first.old number.old first.new number.new) }
@@ -120,10 +121,10 @@ impl HeaderKey {
     ///
     /// Fails with `NumberAtFirstByte` if `number_at` is 0, and with `NoSample` if the packet has fewer than `number_at + 20`
     /// bytes. The packet is then unchanged.
-    pub fn protect(&self, packet: &mut [u8], number_at: usize) -> Result<(), PacketError>
+    pub fn protect(&self, packet: &mut [u8], number_at: usize) -> Result<(), MaskError>
         ensures accepted { IsOk result ↔ HasSample number_at (length packet.old) }
-        ensures first_byte { IsErrOf result PacketError.NumberAtFirstByte ↔ (number_at ≡ 0) }
-        ensures no_sample { IsErrOf result PacketError.NoSample
+        ensures first_byte { IsErrOf result MaskError.NumberAtFirstByte ↔ (number_at ≡ 0) }
+        ensures no_sample { IsErrOf result MaskError.NoSample
             ↔ ((0 < number_at) × (length packet.old < number_at + 20)) }
         ensures protected { OnOk result (Protected self.now number_at packet.old packet.new) }
         ensures kept { OnErr result (packet.new ≡ packet.old) }
@@ -146,10 +147,10 @@ impl HeaderKey {
     ///
     /// Fails with `NumberAtFirstByte` if `number_at` is 0, and with `NoSample` if the packet has fewer than `number_at + 20`
     /// bytes. The packet is then unchanged.
-    pub fn unprotect(&self, packet: &mut [u8], number_at: usize) -> Result<usize, PacketError>
+    pub fn unprotect(&self, packet: &mut [u8], number_at: usize) -> Result<usize, MaskError>
         ensures accepted { IsOk result ↔ HasSample number_at (length packet.old) }
-        ensures first_byte { IsErrOf result PacketError.NumberAtFirstByte ↔ (number_at ≡ 0) }
-        ensures no_sample { IsErrOf result PacketError.NoSample
+        ensures first_byte { IsErrOf result MaskError.NumberAtFirstByte ↔ (number_at ≡ 0) }
+        ensures no_sample { IsErrOf result MaskError.NoSample
             ↔ ((0 < number_at) × (length packet.old < number_at + 20)) }
         ensures unprotected { OnOk result (Unprotected self.now number_at packet.old packet.new) }
         ensures number_len { IfOk result (λ n. n ≡ number_len (slice_index packet.new 0)) }
@@ -168,29 +169,29 @@ impl HeaderKey {
     }
 
     // The mask for a sample, with a packet number that is not too long.
-    fn mask(&self, sample: &[u8], number: &[u8]) -> Result<[u8; 5], PacketError>
+    fn mask(&self, sample: &[u8], number: &[u8]) -> Result<[u8; 5], MaskError>
         ensures accepted { IsOk result ↔ ((length sample.now ≡ 16) × (length number.now ≤ 4)) }
-        ensures no_sample { IsErrOf result PacketError.NoSample ↔ (length sample.now ≢ 16) }
-        ensures number_len { IsErrOf result PacketError.NumberLength
+        ensures no_sample { IsErrOf result MaskError.NoSample ↔ (length sample.now ≢ 16) }
+        ensures number_len { IsErrOf result MaskError.NumberLength
             ↔ ((length sample.now ≡ 16) × (4 < length number.now)) }
         ensures mask { IfOk result (λ mask. mask
             ≡ header_protection self.now.algorithm self.now.bytes sample.now) }
     {
         let Ok(mask) = self.key.new_mask(sample) else {
-            return Err(PacketError::NoSample);
+            return Err(MaskError::NoSample);
         };
         if number.len() > MAX_NUMBER_LEN {
-            return Err(PacketError::NumberLength);
+            return Err(MaskError::NumberLength);
         }
         Ok(mask)
     }
 }
 
 // The sample of a packet, which has to have a first byte before its number, and to be long enough.
-fn sample_of(packet: &[u8], number_at: usize) -> Result<[u8; SAMPLE_LEN], PacketError>
+fn sample_of(packet: &[u8], number_at: usize) -> Result<[u8; SAMPLE_LEN], MaskError>
     ensures accepted { IsOk result ↔ HasSample number_at (length packet.now) }
-    ensures first_byte { IsErrOf result PacketError.NumberAtFirstByte ↔ (number_at ≡ 0) }
-    ensures no_sample { IsErrOf result PacketError.NoSample
+    ensures first_byte { IsErrOf result MaskError.NumberAtFirstByte ↔ (number_at ≡ 0) }
+    ensures no_sample { IsErrOf result MaskError.NoSample
         ↔ ((0 < number_at) × (length packet.now < number_at + 20)) }
     ensures sample { IfOk result (λ sample. sample ≡ slice_range packet.now (number_at + 4) (number_at + 20)) }
 {
@@ -201,17 +202,17 @@ fn sample_of(packet: &[u8], number_at: usize) -> Result<[u8; SAMPLE_LEN], Packet
 }
 
 // Checks that the packet has a first byte before its number, and is long enough for a sample.
-fn check_sample(packet: &[u8], number_at: usize) -> Result<(), PacketError>
+fn check_sample(packet: &[u8], number_at: usize) -> Result<(), MaskError>
     ensures accepted { IsOk result ↔ HasSample number_at (length packet.now) }
-    ensures first_byte { IsErrOf result PacketError.NumberAtFirstByte ↔ (number_at ≡ 0) }
-    ensures no_sample { IsErrOf result PacketError.NoSample
+    ensures first_byte { IsErrOf result MaskError.NumberAtFirstByte ↔ (number_at ≡ 0) }
+    ensures no_sample { IsErrOf result MaskError.NoSample
         ↔ ((0 < number_at) × (length packet.now < number_at + 20)) }
 {
     if number_at == 0 {
-        return Err(PacketError::NumberAtFirstByte);
+        return Err(MaskError::NumberAtFirstByte);
     }
     if packet.len() < SAMPLE_END || packet.len() - SAMPLE_END < number_at {
-        return Err(PacketError::NoSample);
+        return Err(MaskError::NoSample);
     }
     Ok(())
 }
@@ -219,10 +220,10 @@ fn check_sample(packet: &[u8], number_at: usize) -> Result<(), PacketError>
 /// The bytes of a header that `unprotect` may change: the first byte, and four from the packet number on.
 ///
 /// Fails as `unprotect` does.
-pub(crate) fn masked_bytes(packet: &[u8], number_at: usize) -> Result<[u8; 5], PacketError>
+pub(crate) fn masked_bytes(packet: &[u8], number_at: usize) -> Result<[u8; 5], MaskError>
     ensures accepted { IsOk result ↔ HasSample number_at (length packet.now) }
-    ensures first_byte { IsErrOf result PacketError.NumberAtFirstByte ↔ (number_at ≡ 0) }
-    ensures no_sample { IsErrOf result PacketError.NoSample
+    ensures first_byte { IsErrOf result MaskError.NumberAtFirstByte ↔ (number_at ≡ 0) }
+    ensures no_sample { IsErrOf result MaskError.NoSample
         ↔ ((0 < number_at) × (length packet.now < number_at + 20)) }
     ensures bytes { IfOk result (λ bytes. HasMaskedBytes bytes number_at packet.now) }
 {

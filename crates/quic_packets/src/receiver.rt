@@ -22,6 +22,7 @@ use crate::first_byte::{
 use crate::header::{HeaderKey, SAMPLE_END, masked_bytes, write_back};
 use crate::key::PacketKey;
 use crate::keys::{Keys, keys_of};
+use crate::mask_error::MaskError;
 use crate::numbers::{decode, truncated};
 use crate::space::Space;
 use crate::suite::{algorithm, header_algorithm};
@@ -349,8 +350,14 @@ impl Receiver {
             × ¬ IsErrOf result PacketError.KeyUpdate × ¬ IsErrOf result PacketError.NoFrames
             × ¬ IsErrOf result PacketError.OtherVersion }
     {
-        let masked = masked_bytes(packet, number_at)?;
-        let number_len = self.header.unprotect(packet, number_at)?;
+        let masked = match masked_bytes(packet, number_at) {
+            Ok(masked) => masked,
+            Err(MaskError::NumberAtFirstByte) => return Err(PacketError::NumberAtFirstByte),
+            Err(_) => return Err(PacketError::NoSample),
+        };
+        let Ok(number_len) = self.header.unprotect(packet, number_at) else {
+            unreachable!();
+        };
         let first = packet[0];
         let header_len = number_at + number_len;
         let number = decode(

@@ -1,7 +1,7 @@
 //! What the errors print, and the codes that close a connection.
 
 use crate::checks::{displays, equal};
-use quic_packets::{DatagramError, HeaderError, PacketError, RetryError};
+use quic_packets::{DatagramError, HeaderError, MaskError, PacketError, RetryError};
 use std::alloc::AllocError;
 use std::fmt::Display;
 use std::process::Abort;
@@ -103,6 +103,21 @@ const PACKET_ERRORS: [(PacketError, &str); 30] = [
     ),
 ];
 
+const MASK_ERRORS: [(MaskError, &str); 3] = [
+    (
+        MaskError::NumberAtFirstByte,
+        "the packet number cannot begin at the header's first byte",
+    ),
+    (
+        MaskError::NoSample,
+        "the packet is too short for a sample of header protection",
+    ),
+    (
+        MaskError::NumberLength,
+        "the packet number has more than 4 bytes",
+    ),
+];
+
 const DATAGRAM_ERRORS: [(DatagramError, &str); 3] = [
     (DatagramError::Cut, "the datagram ends before the packet"),
     (
@@ -156,6 +171,7 @@ fn display<E: Display>(
 #[test]
 fn texts(rt: HostRuntime) -> Result<(), Fail> {
     display(&rt, &PACKET_ERRORS)?;
+    display(&rt, &MASK_ERRORS)?;
     display(&rt, &DATAGRAM_ERRORS)?;
     display(&rt, &RETRY_ERRORS)?;
     display(&rt, &HEADER_ERRORS)?;

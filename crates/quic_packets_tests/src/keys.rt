@@ -7,7 +7,7 @@ ghost use Rattle.quic_packets.specs.Packet.{HasNumber};
 use crate::checks::{equal, holds, same};
 use aead_ciphers::aead::{AES_128_GCM, AES_256_GCM, Tag, quic};
 use aead_vectors::rfc_9001::{A_5_KEY, A_5_PROTECTED, A_5_SEALED, PACKETS, Packet};
-use quic_packets::{HeaderKey, PacketError, PacketKey, laws};
+use quic_packets::{HeaderKey, MaskError, PacketError, PacketKey, laws};
 use std::alloc::AllocError;
 use std::ops::Range;
 use std::process::Abort;
@@ -205,7 +205,7 @@ fn there_and_back(
     packet: &mut [u8],
     number: u64,
     place: Range<usize>,
-) -> Result<usize, PacketError>
+) -> Result<usize, Fail>
     ensures { HasNumber place.start place.end packet.old → OnOk result (take (length packet.old - 16) packet.new
         ≡ take (length packet.old - 16) packet.old) }
 {
@@ -214,7 +214,7 @@ fn there_and_back(
     key.seal(number, packet, place.end)?;
     header_key.protect(packet, number_at)?;
     let number_len = header_key.unprotect(packet, number_at)?;
-    key.open(number, packet, number_at + number_len)
+    Ok(key.open(number, packet, number_at + number_len)?)
 }
 
 /// Asserts that a packet with this first byte and header length makes the round trip with AES-256-GCM.
@@ -265,10 +265,10 @@ fn mask_parts(
     row: &Packet,
     header: &mut [u8],
     is_masked: bool,
-) -> Result<(), PacketError> {
+) -> Result<(), MaskError> {
     let (front, number) = header.split_at_mut(row.number_at.min(header.len()));
     let [first, ..] = front else {
-        return Err(PacketError::NumberAtFirstByte);
+        return Err(MaskError::NumberAtFirstByte);
     };
     if is_masked {
         key.decrypt_in_place(sample(row), first, number)
@@ -302,7 +302,7 @@ fn refuses_parts(
     rt: &impl Abort,
     sample: &[u8],
     number: &mut [u8],
-    error: PacketError,
+    error: MaskError,
 ) -> Result<(), Fail> {
     let key = HeaderKey::new(&quic::AES_128, &[3; 16])?;
     let mut first = 0xc3;
@@ -318,7 +318,7 @@ fn refuses_parts(
 // Samples of 15 and of 17 bytes, and a packet number of 5.
 #[test]
 fn refused_parts(rt: HostRuntime) -> Result<(), Fail> {
-    refuses_parts(&rt, &[7; 15], &mut [9; 4], PacketError::NoSample)?;
-    refuses_parts(&rt, &[7; 17], &mut [9; 5], PacketError::NoSample)?;
-    refuses_parts(&rt, &[7; 16], &mut [9; 5], PacketError::NumberLength)
+    refuses_parts(&rt, &[7; 15], &mut [9; 4], MaskError::NoSample)?;
+    refuses_parts(&rt, &[7; 17], &mut [9; 5], MaskError::NoSample)?;
+    refuses_parts(&rt, &[7; 16], &mut [9; 5], MaskError::NumberLength)
 }

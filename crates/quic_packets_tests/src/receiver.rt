@@ -24,7 +24,7 @@ const FIRST: u8 = 0x41;
 const SECOND: u8 = 0x45;
 
 /// Returns a protected packet of 40 bytes with a packet number of two bytes. Each byte of the key is `key`.
-fn sent(key: u8, first: u8, number: u16) -> Result<[u8; 40], PacketError> {
+fn sent(key: u8, first: u8, number: u16) -> Result<[u8; 40], Fail> {
     let mut packet = [7; 40];
     packet[0] = first;
     let [high, low] = number.to_be_bytes();
@@ -109,18 +109,18 @@ impl End {
     }
 
     /// Receives such a packet, and returns its number or the error.
-    fn takes(&mut self, key: u8, first: u8, number: u16) -> Result<u64, PacketError> {
+    fn takes(&mut self, key: u8, first: u8, number: u16) -> Result<Result<u64, PacketError>, Fail> {
         let mut packet = sent(key, first, number)?;
-        Ok(self.receive(&mut packet, 9)?.number)
+        Ok(self.receive(&mut packet, 9).map(|received| received.number))
     }
 
-    fn meets(&mut self, rt: &impl Abort, event: Event) -> Result<(), PacketError> {
+    fn meets(&mut self, rt: &impl Abort, event: Event) -> Result<(), Fail> {
         match event {
             Accepted(key, first, number) => {
-                equal(rt, &self.takes(key, first, number), &Ok(u64::from(number)));
+                equal(rt, &self.takes(key, first, number)?, &Ok(u64::from(number)));
             }
             Rejected(key, first, number, error) => {
-                equal(rt, &self.takes(key, first, number), &Err(error));
+                equal(rt, &self.takes(key, first, number)?, &Err(error));
             }
             NextKey(key) => self.receiver.set_next_with(&[key; 16], IV)?,
             ForgetPrevious => self.receiver.forget_previous(),
