@@ -6,6 +6,7 @@ use Rattle.key_derivation.specs.Secret.{SecretState}
 use Rattle.key_derivation.specs.Tls.{next_traffic_secret, record_iv, record_key}
 use Rattle.key_derivation.specs.declared.suite.Suite.{Suite}
 use Rattle.key_derivation.specs.declared.suite.Suite.TheVariants.{Aes128Gcm, Aes256Gcm}
+use Rattle.records.specs.declared.key.RecordKey.TheInside.{Inside}
 
 -- a key: its algorithm, its bytes, its IV, and the most bytes that an inner plaintext may have (RFC 8449 section 4)
 pub record KeyState : Type 0 where
@@ -13,6 +14,10 @@ pub record KeyState : Type 0 where
   pub bytes : List ℕ
   pub iv : List ℕ
   pub size_limit : ℕ
+
+-- the state of a key with these fields
+abbrev pub key_state : Inside → KeyState
+key_state key = record { algorithm = key.key.algorithm; bytes = key.key.bytes; iv = key.iv; size_limit = key.size_limit }
 
 -- a writer: its key, the traffic secret of this key, unless the caller gave the key, the number of the next record, and the number
 -- at which its limit is reached

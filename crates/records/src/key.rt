@@ -41,16 +41,11 @@ pub struct RecordKey {
 
 impl Model for RecordKey {
     ghost use Rattle.std.specs.Prelude.{◌+◌, ◌^◌, ◌≤◌};
-    ghost use Rattle.records.specs.Keys.{KeyState};
+    ghost use Rattle.records.specs.Keys.{KeyState, key_state};
 
     ghost Value = { KeyState };
 
-    ghost view = { λ key. record {
-      algorithm = key.key.algorithm;
-      bytes = key.key.bytes;
-      iv = key.iv;
-      size_limit = key.size_limit;
-    } };
+    ghost view = { key_state };
 
     ghost invariant = { λ key. key.size_limit ≤ 2 ^ 14 + 1 };
 }
@@ -352,6 +347,7 @@ impl RecordKey {
             (header (length payload.old) ++ payload.old) 0 payload.old payload.new) }
     {
         let len = self.open_body(number, payload)?;
+        // A match, so that `opens` is proved of each case by itself: of both at once it remains open.
         match content_of(&payload[..len]) {
             Ok(found) => Ok(found),
             Err(error) => Err(error),
@@ -409,6 +405,7 @@ impl RecordKey {
             return Err(RecordError::NoRoom);
         }
         let len = self.open_message_to(number, &header, bytes, out)?;
+        // A match, so that `opens` is proved of each case by itself: of both at once it remains open.
         match content_of(&out[..len]) {
             Ok(found) => Ok(found),
             Err(error) => Err(error),
@@ -467,6 +464,7 @@ impl RecordKey {
             self.now number (slice_range bytes.old at end) filled bytes.old bytes.new) }
     {
         let len = self.open_message(number, bytes, filled, at, end)?;
+        // A match, so that `opens` is proved of each case by itself: of both at once it remains open.
         match content_of(&bytes[filled..filled + len]) {
             Ok(read) => Ok(read),
             Err(error) => Err(error),

@@ -58,12 +58,10 @@ pub fn classify(bytes: &[u8]) -> Result<Begins, RecordError>
     ensures begins { IfOk result (BeginsWith bytes.now) }
     ensures refused { IfErr result (RefusesToClassify bytes.now) }
 {
-    if bytes.len() < HEADER_LEN {
+    let Some(header) = bytes.first_chunk::<HEADER_LEN>() else {
         return Ok(Begins::MoreNeeded(HEADER_LEN));
-    }
-    let mut header = [0; HEADER_LEN];
-    header.copy_from_slice(&bytes[..HEADER_LEN]);
-    let (kind, len) = kind_of(&header)?;
+    };
+    let (kind, len) = kind_of(header)?;
     if bytes.len() < len {
         return Ok(Begins::MoreNeeded(len));
     }
@@ -80,19 +78,18 @@ fn kind_of(header: &[u8; HEADER_LEN]) -> Result<(RecordKind, usize), RecordError
     ensures refused { IfErr result (RefusesStart header.now) }
 {
     let [first, _, _, high, low] = *header;
-    let len = usize::from(u16::from_be_bytes([high, low]));
     if first == APPLICATION_DATA {
-        let len = record_len(MAX_SIZE_LIMIT, header)?;
-        Ok((RecordKind::Protected, len))
-    } else if len > MAX_CONTENT_LEN {
-        Err(RecordError::PlaintextTooLong)
-    } else if first == 22 && len > 0 {
-        Ok((RecordKind::Handshake, HEADER_LEN + len))
-    } else if first == 21 && len == 2 {
-        Ok((RecordKind::Alert, HEADER_LEN + len))
-    } else if first == 20 && len == 1 {
-        Ok((RecordKind::ChangeCipherSpec, HEADER_LEN + len))
-    } else {
-        Err(RecordError::UnexpectedRecord)
+        return Ok((RecordKind::Protected, record_len(MAX_SIZE_LIMIT, header)?));
     }
+    let len = usize::from(u16::from_be_bytes([high, low]));
+    if len > MAX_CONTENT_LEN {
+        return Err(RecordError::PlaintextTooLong);
+    }
+    let kind = match (first, len) {
+        (22, 1..) => RecordKind::Handshake,
+        (21, 2) => RecordKind::Alert,
+        (20, 1) => RecordKind::ChangeCipherSpec,
+        _ => return Err(RecordError::UnexpectedRecord),
+    };
+    Ok((kind, HEADER_LEN + len))
 }

@@ -1,15 +1,49 @@
-use Rattle.std.proofs.Common.{refl}
-use Rattle.sealed_file.specs.Format.{secret_of}
+use Rattle.std.proofs.Common.{◌≡◌, ◌<◌, false, true, inr, length, take, drop, refl, sym, ap, ◌∙◌, arith}
+use Rattle.sealed_file.specs.declared.error.FileError.TheVariants.{EndsEarly}
+use Rattle.sealed_file.specs.Format.{ChunkKey, secret_of, fresh_key}
 use Rattle.sealed_file.proofs
-use proofs.HeaderLemmas.{refused_is_none}
-use proofs.header.cipher_in.Goals as goal
+use proofs.HeaderLemmas.{another_key, refused_is_none}
+use proofs.header.whole_cipher_in.Goals as goal
+
+pub returns-in_default-clause-accepted : goal.returns-in_default-clause-accepted
+returns-in_default-clause-accepted c = (
+  λ e. cc,
+  λ has.
+      let short : length c.args.header.now < 60 = omega (arith, c.requires.most, c.in_default.ensures.cases) in
+      absurd (refused_is_none (secret_of c.args.version c.args.key.now c.args.aad.now) c.args.header.now EndsEarly (inr (c.requires.front, short)) has),
+)
+
+pub returns-in-Ok-clause-accepted : goal.returns-in-Ok-clause-accepted
+returns-in-Ok-clause-accepted c =
+    let whole = c.in-Some.ensures.cases.same in
+    let cipher_is = c.new-cipher.ensures.made ∙ ap (fresh_key (secret_of c.args.version c.args.key.now c.args.aad.now))
+    (c.random_in.ensures ∙ ap (λ l. take 19 (drop 9 l)) whole) in (
+      λ _. record { right = sym whole ∙ c.in-Ok.ensures.0 refl ∙ c.header.ensures.bytes ∙ ap (λ (k : ChunkKey). k.header) cipher_is },
+      λ _. refl,
+    )
+
+pub returns-in-Ok-clause-cipher : goal.returns-in-Ok-clause-cipher
+returns-in-Ok-clause-cipher c =
+    c.new-cipher.ensures.made ∙ ap (fresh_key (secret_of c.args.version c.args.key.now c.args.aad.now))
+    (c.random_in.ensures ∙ ap (λ l. take 19 (drop 9 l)) c.in-Some.ensures.cases.same)
 
 pub returns-in-Err-clause-accepted : goal.returns-in-Err-clause-accepted
 returns-in-Err-clause-accepted c =
-    let key = secret_of c.args.version c.args.key.now c.args.aad.now in (
+    let whole = c.in-Some.ensures.cases.same in
+    let cipher_is = c.new-cipher.ensures.made ∙ ap (fresh_key (secret_of c.args.version c.args.key.now c.args.aad.now))
+    (c.random_in.ensures ∙ ap (λ l. take 19 (drop 9 l)) whole) in (
       λ e. cc,
-      λ has. absurd (refused_is_none key c.args.header.now c.in-Err.error (c.in-Err.ensures.refused key refl) has),
+      λ has. c.in-Err.ensures.1 (whole ∙ has.right
+          ∙ sym (ap (λ (k : ChunkKey). k.header) cipher_is) ∙ sym c.header.ensures.bytes),
     )
 
 pub returns-in-Err-clause-refused : goal.returns-in-Err-clause-refused
-returns-in-Err-clause-refused c = c.in-Err.ensures.refused (secret_of c.args.version c.args.key.now c.args.aad.now) refl
+returns-in-Err-clause-refused c =
+    let whole = c.in-Some.ensures.cases.same in
+    let cipher_is = c.new-cipher.ensures.made ∙ ap (fresh_key (secret_of c.args.version c.args.key.now c.args.aad.now))
+    (c.random_in.ensures ∙ ap (λ l. take 19 (drop 9 l)) whole) in
+    another_key (secret_of c.args.version c.args.key.now c.args.aad.now) c.args.header.now c.requires.front (c.in-Some.ensures.variant.0 refl)
+    (λ made.
+    let accepted : false ≡ true = c.in-Err.ensures.1 (whole ∙ made
+    ∙ sym (ap (λ (k : ChunkKey). k.header) cipher_is) ∙ sym c.header.ensures.bytes) in
+    cc)

@@ -1,6 +1,6 @@
 use Rattle.std.proofs.Common.{◌∙◌, refl, arith}
 use Rattle.std.proofs.lemmas.Result.{err_from_is_err_and}
-use Rattle.records.specs.Keys.{KeyState}
+use Rattle.records.specs.Keys.{key_state}
 use Rattle.records.proofs.RecordLemmas.{carried_seals, carried_whole, payload_opened, payload_refused, payload_whole}
 use Rattle.records.proofs.key.RecordKey.open_body.Goals as goal
 
@@ -14,12 +14,7 @@ returns-in_err-check_len-clause-none c =
 
 pub returns-in-Ok-clause-opened : goal.returns-in-Ok-clause-opened
 returns-in-Ok-clause-opened c =
-    let key : KeyState = record {
-      algorithm = c.self.inside.key.algorithm;
-      bytes = c.self.inside.key.bytes;
-      iv = c.self.inside.iv;
-      size_limit = c.self.inside.size_limit;
-    } in
+    let key = key_state c.self.inside in
     let fits = c.in_ok-check_len.ensures.accepted.0 refl in
     rw (← c.self.view_is)
     (payload_opened key c.args.number c.args.payload.now c.self.invariant fits.0 fits.1 _
@@ -28,12 +23,7 @@ returns-in-Ok-clause-opened c =
 
 pub returns-in-Err-clause-refused : goal.returns-in-Err-clause-refused
 returns-in-Err-clause-refused c =
-    let key : KeyState = record {
-      algorithm = c.self.inside.key.algorithm;
-      bytes = c.self.inside.key.bytes;
-      iv = c.self.inside.iv;
-      size_limit = c.self.inside.size_limit;
-    } in
+    let key = key_state c.self.inside in
     let fits = c.in_ok-check_len.ensures.accepted.0 refl in
     rw (← c.self.view_is) (λ _. (
       payload_whole key c.args.number c.args.payload.now c.self.invariant fits.0 fits.1,
@@ -43,12 +33,7 @@ returns-in-Err-clause-refused c =
 
 pub returns-in-Err-clause-none : goal.returns-in-Err-clause-none
 returns-in-Err-clause-none c =
-    let key : KeyState = record {
-      algorithm = c.self.inside.key.algorithm;
-      bytes = c.self.inside.key.bytes;
-      iv = c.self.inside.iv;
-      size_limit = c.self.inside.size_limit;
-    } in
+    let key = key_state c.self.inside in
     let fits = c.in_ok-check_len.ensures.accepted.0 refl in
     rw (← c.self.view_is) (λ inner carried.
     payload_refused key c.args.number c.args.payload.now c.self.invariant fits.0 fits.1 _

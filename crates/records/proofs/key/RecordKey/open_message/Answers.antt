@@ -1,6 +1,6 @@
 use Rattle.std.proofs.Common.{refl, ◌∙◌}
 use Rattle.std.proofs.lemmas.Result.{err_from_is_err_and}
-use Rattle.records.specs.Keys.{KeyState}
+use Rattle.records.specs.Keys.{key_state}
 use Rattle.records.proofs.RecordLemmas.{carried_seals, carried_whole, false_tag, opens_message}
 use Rattle.records.proofs.key.RecordKey.open_message.Goals as goal
 
@@ -18,12 +18,7 @@ returns-in-Ok-clause-opened c =
 
 pub returns-in-Err-clause-refused : goal.returns-in-Err-clause-refused
 returns-in-Err-clause-refused c =
-    let key : KeyState = record {
-      algorithm = c.self.inside.key.algorithm;
-      bytes = c.self.inside.key.bytes;
-      iv = c.self.inside.iv;
-      size_limit = c.self.inside.size_limit;
-    } in
+    let key = key_state c.self.inside in
     rw (← c.self.view_is) (
       c.in_ok-header.ensures.accepted.0 refl,
       false_tag _ _ _ _ c.requires key c.args.number c.self.invariant (c.in_ok-header.ensures.accepted.0 refl) _
@@ -32,12 +27,7 @@ returns-in-Err-clause-refused c =
 
 pub returns-in-Err-clause-none : goal.returns-in-Err-clause-none
 returns-in-Err-clause-none c =
-    let key : KeyState = record {
-      algorithm = c.self.inside.key.algorithm;
-      bytes = c.self.inside.key.bytes;
-      iv = c.self.inside.iv;
-      size_limit = c.self.inside.size_limit;
-    } in
+    let key = key_state c.self.inside in
     rw (← c.self.view_is) (λ inner carried.
     false_tag _ _ _ _ c.requires key c.args.number c.self.invariant (c.in_ok-header.ensures.accepted.0 refl) _
     (rw (c.nonce_of-nonce.ensures, c.from-aad.ensures ∙ c.as_slice.ensures, c.in_ok-header.ensures.header) at c.in-Err.ensures.opened) _

@@ -1,17 +1,12 @@
 use Rattle.std.proofs.Common.{◌-◌, ◌++◌, length, drop, ap, refl, sym, ◌∙◌}
 use Rattle.std.proofs.lemmas.List.{take_rest}
-use Rattle.records.specs.Keys.{KeyState}
+use Rattle.records.specs.Keys.{key_state}
 use Rattle.records.proofs.RecordLemmas.{opened_to, refused_to}
 use Rattle.records.proofs.key.RecordKey.open_message_to.Goals as goal
 
 pub returns-in-Ok-open_to-clause-opened : goal.returns-in-Ok-open_to-clause-opened
 returns-in-Ok-open_to-clause-opened c =
-    let key : KeyState = record {
-      algorithm = c.self.inside.key.algorithm;
-      bytes = c.self.inside.key.bytes;
-      iv = c.self.inside.iv;
-      size_limit = c.self.inside.size_limit;
-    } in
+    let key = key_state c.self.inside in
     let whole = rw (← c.self.view_is) at c.requires.whole in
     let aad = c.from-aad.ensures ∙ c.as_slice.ensures ∙ c.requires.header in
     let rest = take_rest c.args.bytes.now 5 in
@@ -24,12 +19,7 @@ returns-in-Ok-open_to-clause-opened c =
 
 pub returns-in-Err-clause-none : goal.returns-in-Err-clause-none
 returns-in-Err-clause-none c =
-    let key : KeyState = record {
-      algorithm = c.self.inside.key.algorithm;
-      bytes = c.self.inside.key.bytes;
-      iv = c.self.inside.iv;
-      size_limit = c.self.inside.size_limit;
-    } in
+    let key = key_state c.self.inside in
     let whole = rw (← c.self.view_is) at c.requires.whole in
     let aad = c.from-aad.ensures ∙ c.as_slice.ensures ∙ c.requires.header in
     let rest = take_rest c.args.bytes.now 5 in
