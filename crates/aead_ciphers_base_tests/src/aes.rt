@@ -4,7 +4,7 @@
 ghost use Rattle.std.specs.Prelude.{◌≡◌};
 ghost use Rattle.aead_ciphers_base.specs.ByteField.{mul8, inv, affine, sbox};
 
-use crate::checks::{holds, same};
+use crate::checks::{equal, same};
 use aead_ciphers_base::aes::{
     BLOCK_LEN, Block, Counter, EncryptBlock, EncryptCtr32, Key, KeyBytes, Overlapping, Work,
     ZERO_BLOCK, sub_planes,
@@ -63,7 +63,7 @@ fn s_box_of_each_byte_in_each_block(rt: HostRuntime) -> Result<(), Fail> {
         let mut planes = planes_of(&bytes);
         sub_planes(&mut planes);
         substitute(&mut bytes, &s_box);
-        holds(&rt, planes == planes_of(&bytes), "the planes");
+        equal(&rt, planes, planes_of(&bytes), "the planes");
     }
     Ok(())
 }
@@ -73,7 +73,7 @@ fn s_box_of_each_byte_in_each_block(rt: HostRuntime) -> Result<(), Fail> {
 fn s_box_of_zero_planes(rt: HostRuntime) {
     let mut planes = [0; 8];
     sub_planes(&mut planes);
-    holds(&rt, planes == planes_of(&[0x63; 64]), "the planes");
+    equal(&rt, planes, planes_of(&[0x63; 64]), "the planes");
 }
 
 /// Expands a key of 16 or 32 bytes.
@@ -221,11 +221,7 @@ fn keystream_from(rt: &impl Abort, key: &Key, number: u32) {
         let wanted = key.encrypt_block(block_at, &mut Work::new());
         same(rt, block, &wanted, "the key stream");
     }
-    holds(
-        rt,
-        work.blocks() == 5 && work.products() == 0,
-        "the tallies",
-    );
+    equal(rt, (work.blocks(), work.products()), (5, 0), "the tallies");
     stands_at(rt, &counter, number.wrapping_add(5));
 }
 

@@ -1,13 +1,13 @@
 //! Tests of `bb`: equality of slices, and XOR.
 
-use crate::checks::{holds, same};
+use crate::checks::{equal, same};
 use aead_ciphers_base::bb::{verify_slices_are_equal, xor_16, xor_assign, xor_assign_at_start};
 use std::process::Abort;
 
 /// Asserts that two slices compare equal if and only if `are_equal`.
 fn compares(rt: &impl Abort, a: &[u8], b: &[u8], are_equal: bool) {
     let compared = verify_slices_are_equal(a, b);
-    holds(rt, compared.is_ok() == are_equal, "equal or not");
+    equal(rt, compared.is_ok(), are_equal, "equal or not");
 }
 
 #[test]

@@ -5,7 +5,7 @@ ghost use Rattle.std.specs.Prelude.{◌≡◌};
 ghost use Rattle.aead_ciphers_base.specs.ChaCha20.{quarter_round, chacha20_block};
 ghost use Rattle.aead_vectors.specs.declared.rfc_8439.TheConstants.{BLOCK, BLOCK_NONCE, KEY};
 
-use crate::checks::{holds, same};
+use crate::checks::{equal, same};
 use aead_ciphers_base::chacha::{BLOCK_LEN, Counter, KEY_LEN, Key, Overlapping};
 use aead_ciphers_base::values::{NONCE_LEN, Nonce};
 use aead_vectors::rfc_8439::{A_1_VECTOR_1, BLOCK_NONCE, CASES, Case, KEY};
@@ -141,7 +141,7 @@ fn the_block_at_the_last_counter(rt: HostRuntime) {
 
 /// Asserts that a counter has these words.
 fn words_are(rt: &impl Abort, counter: Counter, wanted: &[u32; 4]) {
-    holds(rt, counter.into_words_less_safe() == *wanted, "the words");
+    equal(rt, counter.into_words_less_safe(), *wanted, "the words");
 }
 
 #[test]
@@ -169,5 +169,5 @@ fn words_of_a_key(rt: HostRuntime) {
         0x1b1a_1918,
         0x1f1e_1d1c,
     ];
-    holds(&rt, *Key::new(KEY).words_less_safe() == wanted, "the words");
+    equal(&rt, *Key::new(KEY).words_less_safe(), wanted, "the words");
 }

@@ -2,7 +2,7 @@
 
 ghost use Rattle.std.specs.Prelude.{◌<◌};
 
-use crate::checks::{holds, same};
+use crate::checks::{equal, holds, same};
 use crate::items::{Item, hold};
 use aead_ciphers_base::polyfill::slice::{AsChunks, as_chunks, as_chunks_mut};
 use std::process::Abort;
@@ -13,9 +13,9 @@ fn splits<const N: usize>(rt: &impl Abort, items: &[u8], blocks: usize, rest: us
     requires { 0 < N }
 {
     let (whole, after) = as_chunks::<_, N>(items);
-    holds(rt, whole.len() == blocks, "the number of blocks");
-    holds(rt, whole.is_empty() == (blocks == 0), "no block");
-    holds(rt, after.len() == rest, "the number of items after them");
+    equal(rt, whole.len(), blocks, "the number of blocks");
+    equal(rt, whole.is_empty(), blocks == 0, "no block");
+    equal(rt, after.len(), rest, "the number of items after them");
 }
 
 #[test]
@@ -32,14 +32,14 @@ fn blocks_of_eight_as_blocks_of_four(rt: HostRuntime) {
     same(&rt, four.as_flattened(), &items, "the items");
     let mut blocks = four.into_iter();
     for wanted in [Some(&[1u8, 2, 3, 4]), Some(&[5, 6, 7, 8]), None, None] {
-        holds(&rt, blocks.next() == wanted, "a block or none");
+        equal(&rt, blocks.next(), wanted, "a block or none");
     }
 }
 
 #[test]
 fn blocks_of_no_item_are_none(rt: HostRuntime) {
     let view = AsChunks::<u8, 0>::from_ref(&[]);
-    holds(&rt, view.len() == 0 && view.is_empty(), "no block");
+    equal(&rt, (view.len(), view.is_empty()), (0, true), "no block");
     holds(&rt, view.into_iter().next().is_none(), "a walk over none");
 }
 
@@ -78,7 +78,7 @@ fn groups_of_blocks_and_a_last_of_fewer(rt: HostRuntime) -> Result<(), Fail> {
     let mut groups = view.chunks_mut::<3>();
     for len in [3, 3, 1] {
         let group = groups.next().ok_or("no group")?;
-        holds(&rt, group.as_ref().len() == len, "the blocks of a group");
+        equal(&rt, group.as_ref().len(), len, "the blocks of a group");
     }
     holds(&rt, groups.next().is_none(), "no further group");
     Ok(())

@@ -1,6 +1,6 @@
 //! Tests of the texts of the errors.
 
-use crate::checks::reads;
+use crate::checks::equal;
 use aead_ciphers_base::error::{IndexError, InputTooLongError, LenMismatchError, Unspecified};
 use std::test::Fail;
 
@@ -13,10 +13,11 @@ fn texts(rt: HostRuntime) -> Result<(), Fail> {
         InputTooLongError::new(9),
     );
     let text = format!(in rt.alloc(); "{u}, {i}, {l}, {t}")?;
-    reads(
+    equal(
         &rt,
         text.as_str(),
         "unspecified error, index out of range, length mismatch, input too long",
+        "the texts",
     );
     Ok(())
 }

@@ -1,6 +1,6 @@
 //! Tests of `overlapping` and `shift`, which read from an offset on and write to the front.
 
-use crate::checks::{holds, same};
+use crate::checks::{equal, holds, same};
 use crate::items::{Item, hold};
 use aead_ciphers_base::error::{IndexError, InputTooLongError, LenMismatchError};
 use aead_ciphers_base::overlapping::{Array, Overlapping, PartialBlock};
@@ -12,11 +12,11 @@ use std::test::Fail;
 fn input_begins_at_the_start(rt: HostRuntime) -> Result<(), Fail> {
     let mut items = [1u8, 2, 3, 4, 5, 6];
     let overlapping = Overlapping::new(&mut items, 2..)?;
-    holds(&rt, overlapping.len() == 4, "the input's length");
+    equal(&rt, overlapping.len(), 4, "the input's length");
     same(&rt, overlapping.input(), &[3, 4, 5, 6], "the input");
     let (whole, src) = overlapping.into_slice_src_mut();
     same(&rt, whole, &[1, 2, 3, 4, 5, 6], "the whole slice");
-    holds(&rt, src.start == 2, "the start");
+    equal(&rt, src.start, 2, "the start");
     Ok(())
 }
 
@@ -24,11 +24,11 @@ fn input_begins_at_the_start(rt: HostRuntime) -> Result<(), Fail> {
 fn start_at_the_end_is_accepted_and_past_it_refused(rt: HostRuntime) -> Result<(), Fail> {
     let mut items = [1u8, 2, 3, 4, 5, 6];
     let overlapping = Overlapping::new(&mut items, 6..)?;
-    holds(&rt, overlapping.len() == 0, "no item");
+    equal(&rt, overlapping.len(), 0, "no item");
     same(&rt, overlapping.input(), &[], "no input");
     let refused = Overlapping::new(&mut items, 7..).err();
-    holds(&rt, refused == Some(IndexError::new(7)), "the start");
-    holds(&rt, IndexError::new(7).value() == 7, "the error's start");
+    equal(&rt, refused, Some(IndexError::new(7)), "the start");
+    equal(&rt, IndexError::new(7).value(), 7, "the error's start");
     Ok(())
 }
 
@@ -78,9 +78,10 @@ fn first_chunk_past_the_input_is_refused(rt: HostRuntime) -> Result<(), Fail> {
         called = true;
         *b
     });
-    holds(
+    equal(
         &rt,
-        refused.err() == Some(IndexError::new(5)),
+        refused.err(),
+        Some(IndexError::new(5)),
         "the length of a chunk",
     );
     holds(&rt, !called, "no call");
@@ -113,9 +114,10 @@ fn array_has_the_input_and_lends_the_front(rt: HostRuntime) -> Result<(), Fail> 
 /// Asserts that `Array::new` fails for this input and `N` items.
 fn is_no_array<const N: usize>(rt: &impl Abort, input: &mut [u8]) {
     let refused = Array::<_, N>::new(Overlapping::from(input)).err();
-    holds(
+    equal(
         rt,
-        refused == Some(LenMismatchError::new(N)),
+        refused,
+        Some(LenMismatchError::new(N)),
         "the length of an array",
     );
 }
@@ -124,9 +126,10 @@ fn is_no_array<const N: usize>(rt: &impl Abort, input: &mut [u8]) {
 fn array_of_another_length_is_refused(rt: HostRuntime) {
     is_no_array::<4>(&rt, &mut [1, 2, 3]);
     is_no_array::<0>(&rt, &mut []);
-    holds(
+    equal(
         &rt,
-        LenMismatchError::new(4).value() == 4,
+        LenMismatchError::new(4).value(),
+        4,
         "the error's length",
     );
 }
@@ -135,18 +138,15 @@ fn array_of_another_length_is_refused(rt: HostRuntime) {
 fn partial_block_is_shorter_than_a_block(rt: HostRuntime) -> Result<(), Fail> {
     let mut items = [Item(1), Item(2), Item(3), Item(4)];
     let refused = PartialBlock::<_, 4>::new(Overlapping::from(items.as_mut_slice())).err();
-    holds(
+    equal(&rt, refused, Some(InputTooLongError::new(4)), "the length");
+    equal(
         &rt,
-        refused == Some(InputTooLongError::new(4)),
-        "the length",
-    );
-    holds(
-        &rt,
-        InputTooLongError::new(4u32).value() == 4,
+        InputTooLongError::new(4u32).value(),
+        4,
         "the error's length",
     );
     let block = PartialBlock::<_, 4>::new(Overlapping::new(&mut items, 1..)?)?;
-    holds(&rt, block.len() == 3, "the input's length");
+    equal(&rt, block.len(), 3, "the input's length");
     hold(&rt, block.input(), &[2, 3, 4]);
     Ok(())
 }

@@ -1,6 +1,6 @@
 //! Tests of `values`: lengths that are rejected, and the printed text of an AAD.
 
-use crate::checks::{holds, reads, same};
+use crate::checks::{equal, holds, same};
 use aead_ciphers_base::values::{Aad, Nonce, Tag};
 use std::process::Abort;
 use std::test::Fail;
@@ -29,7 +29,7 @@ fn tags_have_sixteen_bytes(rt: HostRuntime) -> Result<(), Fail> {
 
 /// Asserts that two AADs compare equal if and only if `are_equal`.
 fn compares(rt: &impl Abort, a: Aad<'_>, b: Aad<'_>, are_equal: bool) {
-    holds(rt, (a == b) == are_equal, "equal or not");
+    equal(rt, a == b, are_equal, "equal or not");
 }
 
 #[test]
@@ -38,10 +38,7 @@ fn aad_is_its_bytes(rt: HostRuntime) -> Result<(), Fail> {
     compares(&rt, aad, Aad::from([1, 2].as_slice()), true);
     compares(&rt, aad, Aad::from([1, 3].as_slice()), false);
     compares(&rt, aad, Aad::empty(), false);
-    reads(
-        &rt,
-        format!(in rt.alloc(); "{aad:?}")?.as_str(),
-        "Aad([1, 2])",
-    );
+    let text = format!(in rt.alloc(); "{aad:?}")?;
+    equal(&rt, text.as_str(), "Aad([1, 2])", "the text");
     Ok(())
 }
