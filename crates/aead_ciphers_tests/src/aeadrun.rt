@@ -1,6 +1,6 @@
 //! Tests of `aeadrun`: short inputs, each with its own status, and a long line.
 
-use crate::checks::{holds, same};
+use crate::checks::{equal, holds, same};
 use aead_ciphers::aeadrun::lines;
 use std::alloc::{AllocError, Global};
 use std::process::Abort;
@@ -10,11 +10,7 @@ use std::test::Fail;
 fn answers(rt: &impl Abort, alloc: Global, input: &[u8], printed: &[u8], status: u8) {
     let mut rest = input;
     let mut output = Vec::new(alloc);
-    holds(
-        rt,
-        lines(alloc, &mut rest, &mut output) == status,
-        "a status",
-    );
+    equal(rt, lines(alloc, &mut rest, &mut output), status, "a status");
     same(rt, &output, printed, "what is printed");
 }
 
@@ -87,8 +83,8 @@ fn a_message_of_a_mebibyte(rt: HostRuntime) -> Result<(), Fail> {
     let mut rest = input.as_bytes();
     let mut output = Vec::new(rt.alloc());
     let status = lines(rt.alloc(), &mut rest, &mut output);
-    holds(&rt, status == 0, "the status");
-    holds(&rt, output.len() == 2 * MEBIBYTE + 37, "the length");
+    equal(&rt, status, 0, "the status");
+    equal(&rt, output.len(), 2 * MEBIBYTE + 37, "the length");
     // The ciphertext of `gcm_spec_case_2`.
     let front = b"ok 0388dace60b6a392f328c2b971b2fe78";
     holds(&rt, output.as_slice().starts_with(front), "the first block");

@@ -2,7 +2,7 @@
 
 use crate::callers::seal_where_room;
 use crate::cases::false_tag;
-use crate::checks::{holds, same};
+use crate::checks::{equal, holds, same};
 use crate::counting::WORK;
 use crate::reference;
 use aead_ciphers::aes_gcm::{Key, open};
@@ -43,8 +43,8 @@ fn opened(
 
 /// Asserts the numbers of cipher blocks and products.
 fn worked(rt: &impl Abort, work: &Work, blocks: u64, products: u64, what: &str) {
-    holds(rt, work.blocks() == blocks, what);
-    holds(rt, work.products() == products, what);
+    equal(rt, work.blocks(), blocks, what);
+    equal(rt, work.products(), products, what);
 }
 
 #[test]

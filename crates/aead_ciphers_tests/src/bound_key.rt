@@ -1,7 +1,7 @@
 //! Tests of keys with a counter and with another nonce sequence.
 
 use crate::cases::{aad, key, opened_at_4, opening, opening_once, sealed, sealing, unbound_key};
-use crate::checks::{holds, lends, prints, same};
+use crate::checks::{equal, holds, lends, prints, same};
 use crate::examples::one_nonce::OneNonce;
 use aead_ciphers::aead::{
     AES_128_GCM, Aad, BoundKey, CounterSequence, Nonce, NonceSequence, OpeningKey, SealingKey,
@@ -20,16 +20,8 @@ fn sealing_once(case: &Case) -> Result<SealingKey<OneNonce>, Fail> {
 fn debug_texts(rt: HostRuntime) -> Result<(), Fail> {
     let case = Case::parse(rt.alloc(), CASE_1)?;
     let (sealing, opening) = (sealing_once(&case)?, opening_once(&case)?);
-    holds(
-        &rt,
-        *sealing.algorithm() == AES_128_GCM,
-        "the sealing key's",
-    );
-    holds(
-        &rt,
-        *opening.algorithm() == AES_128_GCM,
-        "the opening key's",
-    );
+    equal(&rt, *sealing.algorithm(), AES_128_GCM, "the sealing key's");
+    equal(&rt, *opening.algorithm(), AES_128_GCM, "the opening key's");
     prints(&rt, &sealing, "SealingKey { algorithm: AES_128_GCM }")?;
     prints(&rt, &opening, "OpeningKey { algorithm: AES_128_GCM }")?;
     Ok(())
@@ -90,7 +82,7 @@ fn spends_a_nonce(
     in_out: &mut [u8],
 ) -> Result<(), Fail> {
     let found = opened(&mut opening(case, 2)?, lends, in_out);
-    holds(rt, found == Ok(0), "no message");
+    equal(rt, found, Ok(0), "no message");
     let mut opening = opening(case, 2)?;
     let found = opened(&mut opening, lends, &mut [0; 15]);
     holds(rt, found.is_err(), "no tag");
@@ -133,7 +125,7 @@ fn appends<const CAP: usize>(
 ) -> Result<(), Fail> {
     in_out.try_extend_from_slice(&case.message)?;
     let sealed = key.seal_in_place_append_tag(aad(case), in_out);
-    holds(rt, sealed.is_ok() == wanted.is_some(), "sealed or refused");
+    equal(rt, sealed.is_ok(), wanted.is_some(), "sealed or refused");
     same(
         rt,
         in_out.as_slice(),

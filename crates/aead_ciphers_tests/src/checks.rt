@@ -7,9 +7,14 @@ use std::process::Abort;
 use test_support::hex::Hex;
 use test_support::text::displayed;
 
+/// Asserts that two values are equal. A failure prints both.
+pub(crate) fn equal<T: Debug + PartialEq + Drop>(rt: &impl Abort, found: T, wanted: T, what: &str) {
+    assert_eq!(rt; found, wanted, "{what}");
+}
+
 /// Asserts that two byte slices are equal. A failure prints both in hex.
 pub(crate) fn same(rt: &impl Abort, found: &[u8], wanted: &[u8], what: &str) {
-    assert_eq!(rt; Hex(found), Hex(wanted), "{what}");
+    equal(rt, Hex(found), Hex(wanted), what);
 }
 
 /// Asserts that a condition is true.
@@ -30,19 +35,16 @@ pub(crate) fn lends(
     }
 }
 
-/// Asserts that a text is the expected one.
-fn reads(rt: &impl Abort, text: &str, wanted: &str) {
-    assert_eq!(rt; text, wanted);
-}
-
 /// Asserts that a value is printed as this text for debugging, also in the alternate form.
 pub(crate) fn prints(
     rt: &(impl Abort + AllocGlobal),
     value: &impl Debug,
     wanted: &str,
 ) -> Result<(), AllocError> {
-    reads(rt, format!(in rt.alloc(); "{value:?}")?.as_str(), wanted);
-    reads(rt, format!(in rt.alloc(); "{value:#?}")?.as_str(), wanted);
+    let text = format!(in rt.alloc(); "{value:?}")?;
+    equal(rt, text.as_str(), wanted, "the text");
+    let text = format!(in rt.alloc(); "{value:#?}")?;
+    equal(rt, text.as_str(), wanted, "the text in the alternate form");
     Ok(())
 }
 
@@ -52,6 +54,7 @@ pub(crate) fn displays(
     value: &impl Display,
     wanted: &str,
 ) -> Result<(), AllocError> {
-    reads(rt, displayed(rt.alloc(), value)?.as_str(), wanted);
+    let text = displayed(rt.alloc(), value)?;
+    equal(rt, text.as_str(), wanted, "the text");
     Ok(())
 }

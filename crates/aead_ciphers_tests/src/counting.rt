@@ -4,7 +4,7 @@ ghost use Rattle.std.specs.Prelude.{◌≡◌};
 ghost use Rattle.aead_ciphers_base.specs.Aes.{aes as aes_cipher, length_aes};
 ghost use Rattle.aead_ciphers_base.specs.Bytes.{zero_block};
 
-use crate::checks::holds;
+use crate::checks::{equal, holds};
 use aead_ciphers::aes_gcm::{open_with, seal_with};
 use aead_ciphers::gcm::{self, UpdateBlock, UpdateBlocks, Xi};
 use aead_ciphers_base::aes::{
@@ -93,8 +93,8 @@ fn worked(
 ) {
     let asked = (asked_blocks.take(), asked_products.take());
     let found = (work.blocks(), work.products());
-    holds(rt, found == (blocks, products), "the tallies");
-    holds(rt, asked == (blocks, products), "what was asked for");
+    equal(rt, found, (blocks, products), "the tallies");
+    equal(rt, asked, (blocks, products), "what was asked for");
 }
 
 fn nonce() -> Nonce {

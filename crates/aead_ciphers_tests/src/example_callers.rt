@@ -1,7 +1,7 @@
 //! Tests of `examples` with test vectors of the standards.
 
 use crate::cases::{aad, key, nonce, sealed};
-use crate::checks::{holds, same};
+use crate::checks::{equal, holds, same};
 use crate::examples::{connection, messages, one_message, streams};
 use aead_ciphers::aead::{
     AES_256_GCM, Aad, CounterSequence, LessSafeKey, NONCE_LEN, OpeningKey, SealingKey, Tag,
@@ -43,7 +43,7 @@ fn gcm_spec_case_16(rt: HostRuntime) -> Result<(), Fail> {
 /// Asserts that a case is opened after its nonce, and that a message shorter than a nonce is rejected.
 fn opens_after_nonce(rt: &impl Abort, key: &LessSafeKey, case: &Case, message: &mut [u8]) {
     let opened = messages::open_after_nonce(key, &case.aad, message);
-    holds(rt, opened == Ok(case.message.len()), "the message's length");
+    equal(rt, opened, Ok(case.message.len()), "the message's length");
     holds(rt, message.starts_with(&case.message), "the message");
     let opened = messages::open_after_nonce(key, &case.aad, &mut [0; NONCE_LEN - 1]);
     holds(rt, opened.is_err(), "shorter than a nonce");
@@ -79,7 +79,7 @@ fn appends_to<const CAP: usize>(
 ) -> Result<(), Fail> {
     in_out.try_extend_from_slice(&case.message)?;
     let appended = messages::append_to_array(key, nonce(case), aad(case), in_out);
-    holds(rt, appended.is_ok() == has_room, case.name);
+    equal(rt, appended.is_ok(), has_room, case.name);
     if has_room {
         holds(
             rt,
@@ -129,7 +129,7 @@ fn carries(
     let text = message.clone()?;
     connection::send(sender, aad, message)?;
     let received = connection::receive(receiver, aad, message);
-    holds(rt, received == Ok(text.len()), "the length");
+    equal(rt, received, Ok(text.len()), "the length");
     holds(rt, message.as_slice().starts_with(&text), "the text");
     Ok(())
 }

@@ -5,7 +5,7 @@ ghost use Rattle.aead_vectors.specs.declared.gcm_spec.TheConstants.{CASE_2_CIPHE
 ghost use Rattle.std.specs.Int.{to_be_bytes, w128};
 ghost use Rattle.aead_ciphers.specs.Ghash.{IsBlock, ◌•◌, unit_block};
 
-use crate::checks::{holds, same};
+use crate::checks::{equal, same};
 use aead_ciphers::gcm::{Context, Key, KeyValue, MAX_IN_OUT_LEN, UpdateBlock, UpdateBlocks, Xi};
 use aead_ciphers_base::aes::{self, BLOCK_LEN, EncryptBlock, KeyBytes, Work, ZERO_BLOCK};
 use aead_ciphers_base::polyfill::slice::as_chunks;
@@ -100,12 +100,12 @@ fn five_blocks_in_pieces(rt: HostRuntime) {
 fn makes(rt: &impl Abort, len: usize, is_made: bool) {
     let key = key(gcm_spec::CASE_2_H);
     let context = Context::new(&key, Aad::empty(), len, &mut Work::new());
-    holds(rt, context.is_ok() == is_made, "a context's length");
+    equal(rt, context.is_ok(), is_made, "a context's length");
 }
 
 #[test]
 fn limits_of_a_context(rt: HostRuntime) {
-    assert!(rt; MAX_IN_OUT_LEN == 68_719_476_704);
+    equal(&rt, MAX_IN_OUT_LEN, 68_719_476_704, "the maximum");
     makes(&rt, 1 << 32, true);
     makes(&rt, 68_719_476_704, true);
     makes(&rt, 68_719_476_705, false);

@@ -7,7 +7,7 @@ ghost use Rattle.aead_ciphers.specs.Different.{DifferInOneBlock, DifferWhenPadde
 ghost use Rattle.aead_ciphers.specs.Gcm.{Fits, hashed, gcm_tag};
 ghost use Rattle.aead_ciphers.specs.Ghash.{IsBlock, ghash, unit_block};
 
-use crate::checks::{holds, same};
+use crate::checks::{equal, holds, same};
 use aead_ciphers::aead::{AES_128_GCM, Aad, LessSafeKey, Nonce, Tag, UnboundKey, Unspecified};
 use aead_ciphers::laws;
 use aead_ciphers_base::aes::{self, Block, EncryptBlock, KeyBytes, Work, ZERO_BLOCK};
@@ -75,7 +75,7 @@ fn replaced<const N: usize>(
     requires { place < N }
 {
     let mut bytes = *bytes;
-    holds(rt, bytes[place] == old, "the byte that is replaced");
+    equal(rt, bytes[place], old, "the byte that is replaced");
     bytes[place] = new;
     bytes
 }

@@ -5,7 +5,7 @@ ghost use Rattle.aead_ciphers_base.specs.Mask.{chacha_mask};
 ghost use Rattle.aead_vectors.specs.declared.rfc_9001.TheConstants.{A_5_KEY, A_5_MASK, A_5_SAMPLE};
 
 use crate::callers::same_quic_algorithm;
-use crate::checks::{holds, prints, same};
+use crate::checks::{equal, holds, prints, same};
 use crate::masks::{MASKS, Mask};
 use aead_ciphers::aead::quic::{AES_128, AES_256, Algorithm, CHACHA20, HeaderProtectionKey};
 use aead_ciphers_base::chacha::{self, Overlapping};
@@ -65,10 +65,10 @@ fn refuses_other_lengths(
         same_quic_algorithm(key.algorithm(), algorithm),
         "the algorithm",
     );
-    holds(rt, algorithm.sample_len() == 16, "a sample's length");
+    equal(rt, algorithm.sample_len(), 16, "a sample's length");
     for len in [0, 15, 16, 17] {
         let mask = key.new_mask(&zeros[..len]);
-        holds(rt, mask.is_ok() == (len == 16), "a sample's length");
+        equal(rt, mask.is_ok(), len == 16, "a sample's length");
     }
     Ok(())
 }

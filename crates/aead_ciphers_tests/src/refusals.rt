@@ -1,7 +1,7 @@
 //! Tests that modified messages are rejected and the buffer is unchanged.
 
 use crate::cases::{aad, false_tag, key, nonce, sealed};
-use crate::checks::{holds, same};
+use crate::checks::{equal, holds, same};
 use aead_ciphers::aead::{Aad, LessSafeKey};
 use aead_vectors::gcm_spec::{CASE_1, CASE_2, CASE_4, Case};
 use std::alloc::Global;
@@ -108,7 +108,7 @@ const REPLACED: [(usize, u8, u8); 4] = [
 /// Asserts that a byte is `old`, and replaces it.
 fn replace(rt: &impl Abort, bytes: &mut [u8], (place, old, new): (usize, u8, u8)) {
     if let Some(byte) = bytes.get_mut(place) {
-        holds(rt, *byte == old, "the byte that is replaced");
+        equal(rt, *byte, old, "the byte that is replaced");
         *byte = new;
     }
 }

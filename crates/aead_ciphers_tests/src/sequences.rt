@@ -1,6 +1,6 @@
 //! Tests of nonce sequences without a key.
 
-use crate::checks::{holds, same};
+use crate::checks::{equal, holds, same};
 use aead_ciphers::aead::{
     CounterSequence, NONCE_LEN, NonceSequence, Unspecified, XoredSequence, nonce_of,
 };
@@ -10,7 +10,7 @@ use std::test::Fail;
 /// Asserts that a counter of `count` numbers, starting at `first`, is created if and only if `is_made`.
 fn counts(rt: &impl Abort, first: u64, count: u64, is_made: bool) {
     let sequence = CounterSequence::new([0; 4], first, count);
-    holds(rt, sequence.is_ok() == is_made, "a counter's end");
+    equal(rt, sequence.is_ok(), is_made, "a counter's end");
 }
 
 #[test]

@@ -1,7 +1,7 @@
 //! Tests of `session`: runs of jobs with the bytes of test case 2.
 
 use crate::cases::{opening, sealed, sealing};
-use crate::checks::{holds, same};
+use crate::checks::{equal, same};
 use aead_ciphers::session::{Job, Operation, Outcome, run};
 use aead_vectors::gcm_spec::{CASE_2, Case};
 use std::alloc::Global;
@@ -20,7 +20,7 @@ fn ended(rt: &impl Abort, job: Option<&Job>, outcome: Outcome, buffer: &[u8]) {
     let Some(job) = job else {
         panic!(rt; "no such job");
     };
-    assert_eq!(rt; job.outcome, outcome);
+    equal(rt, job.outcome, outcome, "the outcome");
     same(rt, &job.buffer, buffer, "the buffer");
 }
 
@@ -59,8 +59,8 @@ fn seals_and_opens_once(rt: HostRuntime) -> Result<(), Fail> {
 fn sealed_so_many(rt: &impl Abort, jobs: &[Job], count: u8) {
     for (i, job) in (0..5u8).zip(jobs.iter()) {
         if i < count {
-            holds(rt, job.outcome == Outcome::Sealed, "sealed");
-            holds(rt, job.buffer.len() == 36, "the ciphertext and tag");
+            equal(rt, job.outcome, Outcome::Sealed, "sealed");
+            equal(rt, job.buffer.len(), 36, "the ciphertext and tag");
         } else {
             ended(rt, Some(job), Outcome::Refused, &[i; 20]);
         }

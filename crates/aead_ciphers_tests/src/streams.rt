@@ -2,7 +2,7 @@
 
 ghost use Rattle.std.specs.Prelude.{◌<◌};
 
-use crate::checks::{holds, same};
+use crate::checks::{equal, holds, same};
 use aead_ciphers::aeadrun::{FAULT, lines};
 use std::alloc::Global;
 use std::io::{BufReader, BufWriter};
@@ -110,11 +110,11 @@ impl Failing {
     /// the status is `FAULT`.
     fn fails_in_turn(self, rt: &impl Abort, alloc: Global) -> Result<(), Fail> {
         let whole = self.run(alloc, None)?;
-        holds(rt, whole.status == 1, "the whole run");
+        equal(rt, whole.status, 1, "the whole run");
         same(rt, &whole.printed, ANSWERS, "the answers");
         for call in 0..whole.calls {
             let ended = self.run(alloc, Some(call))?;
-            holds(rt, ended.status == FAULT, "a fault");
+            equal(rt, ended.status, FAULT, "a fault");
             holds(rt, ANSWERS.starts_with(&ended.printed), "a beginning");
         }
         Ok(())
@@ -135,10 +135,10 @@ fn each_failed_call_ends_the_run(rt: HostRuntime) -> Result<(), Fail> {
 fn each_answer_is_flushed(rt: HostRuntime) -> Result<(), Fail> {
     for i in 0..8u32 {
         let ended = writes_of_a_buffer(rt.alloc(), 1024, 1024, Some(2 * i + 1))?;
-        holds(&rt, ended.status == FAULT, "a fault");
+        equal(&rt, ended.status, FAULT, "a fault");
         holds(&rt, ANSWERS.starts_with(&ended.printed), "a beginning");
         let answers = ended.printed.iter().filter(|byte| **byte == b'\n').count();
-        holds(&rt, answers == i as usize + 1, "the answers so far");
+        equal(&rt, answers, i as usize + 1, "the answers so far");
     }
     Ok(())
 }
