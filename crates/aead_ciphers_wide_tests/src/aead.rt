@@ -1,6 +1,6 @@
 //! Tests of `aead`: the test cases of the GCM specification.
 
-use crate::checks::{holds, same};
+use crate::checks::{equal, holds, same};
 use aead_ciphers::aead::{AES_128_GCM, AES_256_GCM, Aad, Algorithm, Nonce, Tag};
 use aead_ciphers_base::aes::AES_128_KEY_LEN;
 use aead_ciphers_wide::aead::LessSafeKey;
@@ -53,7 +53,7 @@ fn seals_packet(rt: &impl Abort, key: &LessSafeKey, case: &Case) -> Result<(), F
     holds(rt, packet.starts_with(&case.aad), "the header");
     holds(rt, packet.ends_with(&case.tag), "the tag");
     let opened = key.open_packet_in_place_after_header(nonce(case), &mut packet, header_len);
-    holds(rt, opened == Ok(case.message.len()), "the message's length");
+    equal(rt, opened, Ok(case.message.len()), "the message's length");
     let message = packet.get(header_len..header_len.saturating_add(case.message.len()));
     same(rt, message.ok_or("a message")?, &case.message, case.name);
     Ok(())

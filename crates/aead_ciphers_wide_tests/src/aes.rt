@@ -1,7 +1,7 @@
 //! Tests of `aes`: the cipher and counter mode on the vectors of FIPS 197, SP 800-38A and RFC 9001, and counter mode when the
 //! number of a block wraps in a pass of eight or of sixteen.
 
-use crate::checks::{holds, same};
+use crate::checks::{equal, same};
 use aead_ciphers_base::aes::{
     self, BLOCK_LEN, Counter, EncryptBlock, EncryptCtr32, KeyBytes, Overlapping, Work,
 };
@@ -107,7 +107,7 @@ fn wraps(rt: &impl Abort, width: Width) -> Result<(), Fail> {
         let (wanted, wanted_next, _) = keystream(&narrow, &first);
         same(rt, &found, &wanted, "the key stream");
         same(rt, &next, &wanted_next, "the next counter block");
-        holds(rt, blocks == 20, "the tally");
+        equal(rt, blocks, 20, "the tally");
     }
     Ok(())
 }

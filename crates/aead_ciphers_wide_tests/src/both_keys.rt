@@ -1,7 +1,7 @@
 //! Tests that the `LessSafeKey` of this crate, with planes of both widths, and the one of `aead_ciphers` seal to the same bytes,
 //! and that each width opens at each start what was sealed.
 
-use crate::checks::{holds, same};
+use crate::checks::{equal, holds, same};
 use aead_ciphers::aead::{
     AES_128_GCM, AES_256_GCM, Aad, Algorithm, LessSafeKey, Nonce, UnboundKey,
 };
@@ -92,7 +92,7 @@ fn opens_from(
     let mut wanted = message.to_vec(alloc)?;
     wanted.extend_from_slice(buffer.get(message.len()..).ok_or("a length")?)?;
     let opened = key.open_within_to_front(nonce(), Aad::from(aad), &mut buffer, start..);
-    holds(rt, opened == Ok(message.len()), "the message's length");
+    equal(rt, opened, Ok(message.len()), "the message's length");
     same(rt, &buffer, &wanted, "the buffer");
     Ok(())
 }
