@@ -6,14 +6,14 @@ use std::process::Abort;
 use test_support::hex::Hex;
 use test_support::text::displayed;
 
-/// Asserts that two byte slices are equal. A failure prints both in hex.
-pub(crate) fn same(rt: &impl Abort, found: &[u8], wanted: &[u8], what: &str) {
-    assert_eq!(rt; Hex(found), Hex(wanted), "{what}");
+/// Asserts that two values are equal. A failure prints both.
+pub(crate) fn equal<T: Debug + PartialEq + Drop>(rt: &impl Abort, found: T, wanted: T, what: &str) {
+    assert_eq!(rt; found, wanted, "{what}");
 }
 
-/// Asserts that two values are equal.
-pub(crate) fn equal<T: Debug + PartialEq>(rt: &impl Abort, found: &T, wanted: &T) {
-    assert_eq!(rt; found, wanted);
+/// Asserts that two byte slices are equal. A failure prints both in hex.
+pub(crate) fn same(rt: &impl Abort, found: &[u8], wanted: &[u8], what: &str) {
+    equal(rt, Hex(found), Hex(wanted), what);
 }
 
 /// Asserts that a condition is true.
@@ -28,6 +28,6 @@ pub(crate) fn displays(
     wanted: &str,
 ) -> Result<(), AllocError> {
     let text = displayed(rt.alloc(), value)?;
-    assert_eq!(rt; text.as_str(), wanted);
+    equal(rt, text.as_str(), wanted, "the text");
     Ok(())
 }

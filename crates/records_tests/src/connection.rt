@@ -157,7 +157,7 @@ fn there_and_back(rt: &impl Abort, alloc: Global, direction: &Direction) -> Resu
         at = epoch_there_and_back(rt, alloc, epoch, &mut reader, &mut writer, &stream, at)?;
         ends = Some((reader, writer));
     }
-    equal(rt, &at, &stream.len());
+    equal(rt, at, stream.len(), "the length of the stream");
     Ok(())
 }
 

@@ -1,6 +1,6 @@
 //! Tests of contents of any length, of alerts that are sent, and of the size limits of peers.
 
-use crate::checks::{holds, same};
+use crate::checks::{equal, holds, same};
 use crate::connection::bytes_of;
 use aead_ciphers::aead::AES_128_GCM;
 use records::ContentType::{Alert, ApplicationData, Handshake};
@@ -127,11 +127,11 @@ fn is_sealed(
     let mut writer = new_writer(4)?;
     let mut short = Vec::from_elem(alloc, 9, wanted.len().saturating_sub(1))?;
     let refused = seal(&mut writer, case, content, &mut short);
-    holds(rt, refused == Err(RecordError::NoRoom), "no room");
+    equal(rt, refused, Err(RecordError::NoRoom), "no room");
     holds(rt, short.iter().all(|byte| *byte == 9), "nothing sealed");
     let mut sealed = Vec::from_elem(alloc, 9, wanted.len())?;
     let len = seal(&mut writer, case, content, &mut sealed)?;
-    holds(rt, len == wanted.len(), "the length");
+    equal(rt, len, wanted.len(), "the length");
     same(rt, &sealed, wanted, "sealed");
     Ok(())
 }
@@ -181,7 +181,7 @@ fn is_not_sealed(
 ) {
     let mut sealed = [9; 256];
     let refused = writer.seal_content(content_type, content, padding, &mut sealed);
-    holds(rt, refused == Err(error), "sealed");
+    equal(rt, refused, Err(error), "sealed");
     same(rt, &sealed, &[9; 256], "nothing sealed");
 }
 
@@ -192,10 +192,10 @@ fn refused_whole(rt: HostRuntime) -> Result<(), Fail> {
         let mut writer = new_writer(limit)?;
         let mut out = Vec::new(rt.alloc());
         let refused = writer.write_content(content_type, &content, padding, &mut out);
-        holds(&rt, refused == Err(error), "appended");
+        equal(&rt, refused, Err(error), "appended");
         same(&rt, &out, &[], "nothing written");
         is_not_sealed(&rt, &mut writer, content_type, &content, padding, error);
-        holds(&rt, writer.number() == 0, "no number");
+        equal(&rt, writer.number(), 0, "no number");
     }
     Ok(())
 }
@@ -222,7 +222,7 @@ fn a_long_content_comes_back(rt: HostRuntime) -> Result<(), Fail> {
     Writer::new(&AES_128_GCM, &KEY, IV)?.write_content(ApplicationData, &content, 0, &mut bytes)?;
     let mut reader = Reader::new(&AES_128_GCM, &KEY, IV)?;
     let read = contents_of(rt.alloc(), &mut reader, &bytes)?;
-    holds(&rt, reader.number() == 7, "the records");
+    equal(&rt, reader.number(), 7, "the records");
     same(&rt, &read, &content, "the content");
     Ok(())
 }
@@ -242,7 +242,7 @@ fn alerts(rt: HostRuntime) -> Result<(), Fail> {
     new_writer(1)?.close_notify(&mut out)?;
     let mut reader = Reader::new(&AES_128_GCM, &KEY, IV)?;
     let (content_type, content) = reader.read(&mut out)?;
-    holds(&rt, content_type == Alert, "the type");
+    equal(&rt, content_type, Alert, "the type");
     same(&rt, content, &[1, 0], "protected");
     Ok(())
 }
@@ -259,7 +259,7 @@ const PEERS: [(u16, Option<usize>, Option<usize>); 5] = [
 #[test]
 fn size_limits_of_peers(rt: HostRuntime) {
     for (sent, client, server) in PEERS {
-        assert!(rt; Side::Client.size_limit_of(sent).ok() == client, "{sent}");
-        assert!(rt; Side::Server.size_limit_of(sent).ok() == server, "{sent}");
+        assert_eq!(rt; Side::Client.size_limit_of(sent).ok(), client, "{sent}");
+        assert_eq!(rt; Side::Server.size_limit_of(sent).ok(), server, "{sent}");
     }
 }

@@ -1,6 +1,6 @@
 //! Tests of rejected early data (RFC 8446 section 4.2.10).
 
-use crate::checks::{holds, same};
+use crate::checks::{equal, holds, same};
 use aead_ciphers::aead::AES_128_GCM;
 use hex::FromHex;
 use records::ContentType::{ApplicationData, Handshake};
@@ -97,7 +97,7 @@ fn goes_on(
 ) -> Result<(), Fail> {
     let mut flight = <[u8; 27]>::from_hex(FLIGHT)?;
     let read = gather(reader, early_data, &mut flight);
-    holds(rt, read == Ok(Some((Handshake, 5))), "the second flight");
+    equal(rt, read, Ok(Some((Handshake, 5))), "the second flight");
     holds(rt, early_data.is_over(), "the early data is over");
     let error = if early.len().saturating_sub(21) > reader.size_limit() {
         RecordError::InnerPlaintextTooLong
@@ -105,7 +105,7 @@ fn goes_on(
         RecordError::Refused
     };
     let refused = gather(reader, early_data, early);
-    holds(rt, refused == Err(error), "no more of it");
+    equal(rt, refused, Err(error), "no more of it");
     holds(rt, reader.is_closed(), "closed");
     Ok(())
 }
@@ -125,15 +125,11 @@ fn is_passed_over(rt: &impl Abort, alloc: Global, case: &Case) -> Result<(), Fai
         let read = gather(&mut reader, &mut early_data, &mut record);
         same(rt, &record, &before, "the record stays");
         last = without_key.skip(&record);
-        holds(rt, read == last.map(|()| None), "the same without a key");
+        equal(rt, read, last.map(|()| None), "the same without a key");
     }
-    holds(rt, last == case.result, "the last record");
-    holds(rt, reader.number() == 0, "no number");
-    holds(
-        rt,
-        reader.is_closed() == last.is_err(),
-        "closed by an error",
-    );
+    equal(rt, last, case.result, "the last record");
+    equal(rt, reader.number(), 0, "no number");
+    equal(rt, reader.is_closed(), last.is_err(), "closed by an error");
     if last.is_ok() {
         goes_on(rt, &mut reader, &mut early_data, &mut record)?;
     }
@@ -168,12 +164,12 @@ fn nothing_else_is_passed_over(rt: HostRuntime) -> Result<(), Fail> {
     for (text, error) in OTHERS {
         let mut bytes = hex::decode(rt.alloc(), text)?;
         let mut early_data = EarlyData::rejected(1000);
-        holds(&rt, early_data.skip(&bytes) == Err(error), "without a key");
+        equal(&rt, early_data.skip(&bytes), Err(error), "without a key");
         let mut reader = Reader::new(&AES_128_GCM, &KEY, IV)?;
         let read = gather(&mut reader, &mut early_data, &mut bytes);
-        holds(&rt, read == Err(error), "with a key");
-        holds(&rt, reader.is_closed() == error.alert().is_some(), "closed");
-        holds(&rt, early_data.remaining() == 1000, "nothing counted");
+        equal(&rt, read, Err(error), "with a key");
+        equal(&rt, reader.is_closed(), error.alert().is_some(), "closed");
+        equal(&rt, early_data.remaining(), 1000, "nothing counted");
     }
     Ok(())
 }

@@ -143,8 +143,8 @@ fn read_at(
 fn messages_by_stage(rt: HostRuntime) {
     for (stage, contents, expected) in &CONTENTS {
         let (found, again) = read_at(rt.alloc(), *stage, contents);
-        equal(&rt, &(contents, found), &(contents, *expected));
-        holds(&rt, again == expected.err().map(|_| Err(Closed)), "closed");
+        equal(&rt, (contents, found), (contents, *expected), "messages");
+        equal(&rt, again, expected.err().map(|_| Err(Closed)), "closed");
     }
 }
 
@@ -153,18 +153,12 @@ fn records_between_parts(rt: HostRuntime) {
     let mut buffer = [0; 16];
     let mut messages = MessageReader::new(&mut buffer, Client);
     holds(&rt, messages.admit_other_record().is_ok(), "no part");
-    holds(
-        &rt,
-        count(&mut messages, rt.alloc(), &[&[4]]) == Ok(0),
-        "a part",
-    );
+    let found = count(&mut messages, rt.alloc(), &[&[4]]);
+    equal(&rt, found, Ok(0), "a part");
     holds(&rt, messages.is_cut(), "cut");
-    holds(
-        &rt,
-        messages.admit_other_record() == Err(Interrupted),
-        "a part",
-    );
-    holds(&rt, messages.admit_other_record() == Err(Closed), "closed");
+    let refused = messages.admit_other_record();
+    equal(&rt, refused, Err(Interrupted), "a record between parts");
+    equal(&rt, messages.admit_other_record(), Err(Closed), "closed");
 }
 
 /// Each error with its text, the number of its alert (RFC 8446 section 6), and its code in QUIC.
@@ -224,8 +218,8 @@ fn texts_and_alerts(rt: HostRuntime) -> Result<(), Fail> {
     for (error, text, alert, code) in &TEXTS {
         displays(&rt, error, text)?;
         let found = error.alert().map_or(0, |alert| alert as u8);
-        holds(&rt, found == *alert, text);
-        holds(&rt, error.quic_code().unwrap_or(0) == *code, text);
+        equal(&rt, found, *alert, text);
+        equal(&rt, error.quic_code().unwrap_or(0), *code, text);
     }
     Ok(())
 }

@@ -269,7 +269,7 @@ fn received_is(rt: &impl Abort, found: &Received, case: &Case) {
         case.application_data,
         case.what,
     );
-    holds(rt, found.messages.len() == case.messages.len(), case.what);
+    equal(rt, found.messages.len(), case.messages.len(), case.what);
     for (found, wanted) in found.messages.iter().zip(case.messages) {
         same(rt, found, wanted, case.what);
     }
@@ -299,12 +299,12 @@ fn meets(rt: &impl Abort, alloc: Global, case: &Case) -> Result<(), Fail> {
     let mut end = new_end(first_secret(), &mut buffer, case.stage);
     let mut received = Received::new(alloc);
     let result = receive(&mut end, alloc, &mut bytes, &mut received);
-    holds(rt, result == case.result, case.what);
-    holds(rt, end.owes_update() == case.owes_update, case.what);
+    equal(rt, result, case.result, case.what);
+    equal(rt, end.owes_update(), case.owes_update, case.what);
     received_is(rt, &received, case);
     if end.is_ended() {
         let again = receive(&mut end, alloc, &mut bytes, &mut received);
-        holds(rt, again == Err(ReceiveError::Ended), "ended");
+        equal(rt, again, Err(ReceiveError::Ended), "ended");
         received_is(rt, &received, case);
     }
     Ok(())
@@ -373,7 +373,7 @@ fn received_to_the_end(
     let mut end = new_end(secret, &mut buffer, stage);
     let mut received = Received::new(alloc);
     let taken = end.receive(alloc, bytes, &mut received)?;
-    equal(rt, &taken, &bytes.len());
+    equal(rt, taken, bytes.len(), "the bytes taken");
     holds(rt, end.is_ended(), "close_notify");
     Ok(received)
 }
@@ -396,7 +396,7 @@ fn is_received(
         &wanted.application_data,
         "the data",
     );
-    equal(rt, &received.messages, &wanted.messages);
+    equal(rt, &received.messages, &wanted.messages, "the messages");
     Ok(())
 }
 

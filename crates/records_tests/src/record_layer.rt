@@ -105,7 +105,7 @@ fn is_read(
     record: &mut [u8],
 ) -> Result<(), Fail> {
     let (content_type, content) = reader.read(record)?;
-    holds(rt, content_type == case.content_type, "the content type");
+    equal(rt, content_type, case.content_type, "the content type");
     same(rt, content, case.content, "the content");
     Ok(())
 }
@@ -136,16 +136,8 @@ fn there_and_back(
         let before = record.clone()?;
         is_read(rt, &mut reader, case, &mut record)?;
         begins_with(rt, &record, &inner_plaintext(alloc, case)?, &before);
-        holds(
-            rt,
-            writer.update() == Err(RecordError::NoSecret),
-            "a writer",
-        );
-        holds(
-            rt,
-            reader.update() == Err(RecordError::NoSecret),
-            "a reader",
-        );
+        equal(rt, writer.update(), Err(RecordError::NoSecret), "a writer");
+        equal(rt, reader.update(), Err(RecordError::NoSecret), "a reader");
     }
     Ok(())
 }
@@ -189,14 +181,13 @@ fn gathered_in_one_buffer(rt: HostRuntime) -> Result<(), Fail> {
     for (filled, at, end) in [(0, 0, 24), (2, 24, 54), (5, 54, 80)] {
         assert!(rt; filled <= at && at <= end && end <= bytes.len());
         let (content_type, len) = reader.gather(bytes.as_mut_slice(), filled, at, end)?;
-        equal(
-            &rt,
-            &(content_type, len),
-            &(ApplicationData, if at == 0 { 2 } else { 3 }),
-        );
+        let wanted = (ApplicationData, if at == 0 { 2 } else { 3 });
+        equal(&rt, (content_type, len), wanted, "the type and the length");
     }
-    equal(&rt, &bytes.get(..8), &Some(b"together".as_slice()));
-    equal(&rt, &bytes.get(80..), &Some(b"later".as_slice()));
+    let contents = bytes.get(..8).unwrap_or(&[]);
+    same(&rt, contents, b"together", "the contents");
+    let rest = bytes.get(80..).unwrap_or(&[]);
+    same(&rt, rest, b"later", "the bytes after the records");
     Ok(())
 }
 
@@ -224,14 +215,11 @@ fn every_flipped_bit_is_refused(rt: HostRuntime) -> Result<(), Fail> {
 /// Asserts that each call of a closed reader fails with `Closed`.
 fn is_closed(rt: &impl Abort, reader: &mut Reader, record: &mut [u8]) {
     let closed = RecordError::Closed;
-    holds(rt, error_of(reader, record) == Some(closed), "read");
-    holds(rt, reader.update() == Err(closed), "update");
-    holds(
-        rt,
-        reader.update_with(&KEY[..16], IV) == Err(closed),
-        "update_with",
-    );
-    holds(rt, reader.set_size_limit(64) == Err(closed), "a size limit");
+    equal(rt, error_of(reader, record), Some(closed), "read");
+    equal(rt, reader.update(), Err(closed), "update");
+    let refused = reader.update_with(&KEY[..16], IV);
+    equal(rt, refused, Err(closed), "update_with");
+    equal(rt, reader.set_size_limit(64), Err(closed), "a size limit");
 }
 
 /// Asserts that a new reader rejects these bytes with this error, and that they stay as `before`. If the error has
@@ -244,9 +232,9 @@ fn rejects(
 ) -> Result<(), RecordError> {
     let mut reader = Reader::new(&AES_128_GCM, &KEY[..16], IV)?;
     let found = error_of(&mut reader, bytes);
-    holds(rt, found == Some(error), "the error");
+    equal(rt, found, Some(error), "the error");
     same(rt, bytes, before, "the bytes stay");
-    holds(rt, reader.is_closed() == error.alert().is_some(), "closed");
+    equal(rt, reader.is_closed(), error.alert().is_some(), "closed");
     if reader.is_closed() {
         is_closed(rt, &mut reader, bytes);
     }
@@ -359,9 +347,9 @@ fn rejects_inner(
     error: RecordError,
 ) -> Result<(), Fail> {
     let mut reader = Reader::new(&AES_128_GCM, &KEY[..16], IV)?;
-    assert!(rt; error_of(&mut reader, bytes) == Some(error));
+    equal(rt, error_of(&mut reader, bytes), Some(error), "the error");
     begins_with(rt, bytes, inner, record);
-    assert!(rt; reader.is_closed());
+    holds(rt, reader.is_closed(), "closed");
     Ok(())
 }
 
@@ -402,10 +390,10 @@ fn no_such_content(rt: HostRuntime) -> Result<(), Fail> {
     for (content_type, len, padding, expected) in UNWRITTEN {
         let content = Vec::from_elem(rt.alloc(), 7, len)?;
         let refused = writer.write(content_type, &content, padding, &mut record);
-        holds(&rt, refused == Err(expected), "the error");
+        equal(&rt, refused, Err(expected), "the error");
         holds(&rt, record.is_empty(), "no record");
     }
-    equal(&rt, &writer.number(), &0);
+    equal(&rt, writer.number(), 0, "no number");
     Ok(())
 }
 
@@ -468,11 +456,11 @@ impl Ends {
                 assert!(rt; self.reads(record, len)?, "{len}");
             }
             Unwritten(len, error) => {
-                assert!(rt; self.write(alloc, len, 0).err() == Some(error), "{len}");
+                assert_eq!(rt; self.write(alloc, len, 0).err(), Some(error), "{len}");
             }
             Unread(len, error) => {
                 let record = self.write(alloc, len, 0)?;
-                assert!(rt; self.reads(record, len) == Err(error), "{len}");
+                assert_eq!(rt; self.reads(record, len), Err(error), "{len}");
             }
             SizeLimits(writer, reader) => {
                 self.writer.set_size_limit(writer)?;
@@ -480,11 +468,8 @@ impl Ends {
             }
             Updated => self.update()?,
             Remaining(count) => {
-                equal(
-                    rt,
-                    &(self.writer.remaining(), self.reader.remaining()),
-                    &(count, count),
-                );
+                let found = (self.writer.remaining(), self.reader.remaining());
+                equal(rt, found, (count, count), "the records left");
             }
         }
         Ok(())
@@ -535,7 +520,8 @@ fn the_end_of_the_sequence(rt: HostRuntime) -> Result<(), Fail> {
     happen(&rt, rt.alloc(), 2, &END_OF_THE_SEQUENCE)?;
     let mut reader = Ends::new(0)?.reader;
     let mut bytes = <[u8; 27]>::from_hex(OF_AES_128[0].record)?;
-    assert!(rt; error_of(&mut reader, &mut bytes) == Some(RecordError::KeyUsedUp));
+    let found = error_of(&mut reader, &mut bytes);
+    equal(&rt, found, Some(RecordError::KeyUsedUp), "a third record");
     Ok(())
 }
 
@@ -544,12 +530,10 @@ fn size_limits(rt: HostRuntime) -> Result<(), Fail> {
     let mut key = RecordKey::new(&AES_128_GCM, &KEY[..16], IV)?;
     for (size_limit, is_allowed) in [(63, false), (64, true), (16385, true), (16386, false)] {
         let before = key.size_limit();
-        equal(&rt, &key.set_size_limit(size_limit).is_ok(), &is_allowed);
-        equal(
-            &rt,
-            &key.size_limit(),
-            &if is_allowed { size_limit } else { before },
-        );
+        let result = key.set_size_limit(size_limit);
+        equal(&rt, result.is_ok(), is_allowed, "set_size_limit");
+        let wanted = if is_allowed { size_limit } else { before };
+        equal(&rt, key.size_limit(), wanted, "the size limit");
     }
     Ok(())
 }
@@ -558,23 +542,19 @@ fn size_limits(rt: HostRuntime) -> Result<(), Fail> {
 fn limits_where_none_is_set(rt: HostRuntime) -> Result<(), Fail> {
     let writer = Writer::new(&AES_128_GCM, &KEY[..16], IV)?;
     let reader = Reader::new(&AES_128_GCM, &KEY[..16], IV)?;
-    equal(
-        &rt,
-        &(writer.remaining(), reader.remaining()),
-        &(1 << 24, u64::MAX),
-    );
-    equal(
-        &rt,
-        &(writer.size_limit(), reader.size_limit()),
-        &(16385, 16385),
-    );
+    let found = (writer.remaining(), reader.remaining());
+    equal(&rt, found, (1 << 24, u64::MAX), "the records left");
+    let found = (writer.size_limit(), reader.size_limit());
+    equal(&rt, found, (16385, 16385), "the size limits");
     Ok(())
 }
 
 #[test]
 fn a_key_of_another_length(rt: HostRuntime) {
-    assert!(rt; Writer::new(&AES_256_GCM, &KEY[..16], IV).err() == Some(RecordError::KeyLength));
-    assert!(rt; Reader::new(&AES_128_GCM, &KEY, IV).err() == Some(RecordError::KeyLength));
+    let writer = Writer::new(&AES_256_GCM, &KEY[..16], IV);
+    equal(&rt, writer.err(), Some(RecordError::KeyLength), "a writer");
+    let reader = Reader::new(&AES_128_GCM, &KEY, IV);
+    equal(&rt, reader.err(), Some(RecordError::KeyLength), "a reader");
 }
 
 /// A record is sealed around its content, in a slice.
@@ -584,12 +564,12 @@ fn sealed_in_place(rt: HostRuntime) -> Result<(), Fail> {
     let mut record = [0; 27];
     record[5..10].copy_from_slice(b"hello");
     let no_room = writer.seal(Handshake, &mut record, 5, 1);
-    holds(&rt, no_room == Err(RecordError::NoRoom), "no room");
+    equal(&rt, no_room, Err(RecordError::NoRoom), "no room");
     let sealed = writer.seal(Handshake, &mut record, 5, 0);
-    holds(&rt, sealed == Ok(27), "the length");
+    equal(&rt, sealed, Ok(27), "the length");
     let wanted = <[u8; 27]>::from_hex(OF_AES_128[0].record)?;
     same(&rt, &record, &wanted, "the record");
-    holds(&rt, writer.number() == 1, "the number");
+    equal(&rt, writer.number(), 1, "the number");
     Ok(())
 }
 
@@ -608,9 +588,9 @@ fn sealed_by_number(rt: HostRuntime) -> Result<(), Fail> {
     let mut record = [9; 28];
     record[5..9].copy_from_slice(b"last");
     let no_room = seal_last(&key, &mut record[..25]);
-    holds(&rt, no_room == Err(RecordError::NoRoom), "no room");
+    equal(&rt, no_room, Err(RecordError::NoRoom), "no room");
     let sealed = seal_last(&key, &mut record);
-    holds(&rt, sealed == Ok(26), "the length");
+    equal(&rt, sealed, Ok(26), "the length");
     let wanted = <[u8; 26]>::from_hex(LAST)?;
     holds(&rt, record.starts_with(&wanted), "the record");
     holds(&rt, record.ends_with(&[9; 2]), "the bytes after it");
@@ -621,8 +601,9 @@ fn sealed_by_number(rt: HostRuntime) -> Result<(), Fail> {
 fn opened_by_number(rt: HostRuntime) -> Result<(), Fail> {
     let key = RecordKey::new(&AES_128_GCM, &KEY[..16], IV)?;
     let mut record = <[u8; 26]>::from_hex(LAST)?;
-    assert!(rt; key.open_at(u64::MAX, &mut record) == Ok((ApplicationData, 4)));
-    equal(&rt, &record.get(5..9), &Some(b"last".as_slice()));
+    let opened = key.open_at(u64::MAX, &mut record);
+    equal(&rt, opened, Ok((ApplicationData, 4)), "the last record");
+    same(&rt, &record[5..9], b"last", "the content");
     Ok(())
 }
 
@@ -644,9 +625,9 @@ fn open_last_to(
 fn is_sealed_to(rt: &impl Abort, key: &RecordKey, record: &[u8]) {
     let mut out = [9; 28];
     let no_room = seal_last_to(key, &mut out[..25]);
-    holds(rt, no_room == Err(RecordError::NoRoom), "no room");
+    equal(rt, no_room, Err(RecordError::NoRoom), "no room");
     same(rt, &out, &[9; 28], "nothing written");
-    holds(rt, seal_last_to(key, &mut out) == Ok(26), "the length");
+    equal(rt, seal_last_to(key, &mut out), Ok(26), "the length");
     begins_with(rt, &out, record, &[9; 28]);
 }
 
@@ -654,10 +635,10 @@ fn is_sealed_to(rt: &impl Abort, key: &RecordKey, record: &[u8]) {
 fn is_opened_to(rt: &impl Abort, key: &RecordKey, record: &[u8]) {
     let mut out = [9; 8];
     let no_room = open_last_to(key, record, &mut out[..4]);
-    holds(rt, no_room == Err(RecordError::NoRoom), "no room to open");
+    equal(rt, no_room, Err(RecordError::NoRoom), "no room to open");
     same(rt, &out, &[9; 8], "nothing opened");
     let opened = open_last_to(key, record, &mut out);
-    holds(rt, opened == Ok((ApplicationData, 4)), "the type");
+    equal(rt, opened, Ok((ApplicationData, 4)), "the type");
     begins_with(rt, &out, b"last\x17", &[9; 8]);
 }
 
@@ -680,7 +661,7 @@ fn rejects_to(
     let key = RecordKey::new(&AES_128_GCM, &KEY[..16], IV)?;
     let mut out = [9; 32];
     let opened = key.open_to(0, record, &mut out);
-    holds(rt, opened == Err(error), "the error");
+    equal(rt, opened, Err(error), "the error");
     begins_with(rt, &out, inner, &[9; 32]);
     Ok(())
 }
@@ -720,9 +701,9 @@ fn sealed_without_a_header(rt: HostRuntime) -> Result<(), Fail> {
     let mut payload = [9; 23];
     payload[..4].copy_from_slice(b"last");
     let no_room = seal_last_payload(&key, &mut payload[..20]);
-    holds(&rt, no_room == Err(RecordError::NoRoom), "no room");
+    equal(&rt, no_room, Err(RecordError::NoRoom), "no room");
     let sealed = seal_last_payload(&key, &mut payload);
-    holds(&rt, sealed == Ok(21), "the length");
+    equal(&rt, sealed, Ok(21), "the length");
     begins_with(&rt, &payload, &record[5..], &[9; 23]);
     Ok(())
 }
@@ -741,11 +722,7 @@ fn opens_payload(
         return Ok(());
     };
     let opened = open_payload(&key, number, payload);
-    holds(
-        rt,
-        opened == wanted,
-        "the type and the length, or the error",
-    );
+    equal(rt, opened, wanted, "the type and the length, or the error");
     holds(rt, payload.starts_with(inner), "the inner plaintext");
     Ok(())
 }
@@ -788,7 +765,7 @@ fn payloads_of_other_lengths(rt: HostRuntime) -> Result<(), Fail> {
     let mut payload = [7; 16641];
     for (len, error) in PAYLOAD_LENGTHS {
         let opened = open_payload(&key, 0, &mut payload[..len]);
-        holds(&rt, opened == Err(error), "the error");
+        equal(&rt, opened, Err(error), "the error");
     }
     same(&rt, &payload, &[7; 16641], "unchanged");
     Ok(())
@@ -814,17 +791,14 @@ fn starting_at(rt: HostRuntime) -> Result<(), Fail> {
         let mut reader = Reader::new(&AES_128_GCM, &KEY[..16], IV)?.starting_at(number);
         let mut record = <[u8; 26]>::from_hex(text)?;
         let (content_type, content) = reader.read(&mut record)?;
-        holds(&rt, content_type == ApplicationData, "the type");
+        equal(&rt, content_type, ApplicationData, "the type");
         same(&rt, content, b"last", "the content");
-        holds(&rt, reader.number() == number.wrapping_add(1), "the number");
+        equal(&rt, reader.number(), number.wrapping_add(1), "the number");
     }
     let mut ended = Reader::new(&AES_128_GCM, &KEY[..16], IV)?.starting_at(u64::MAX);
     let mut record = <[u8; 26]>::from_hex(LAST)?;
-    holds(
-        &rt,
-        error_of(&mut ended, &mut record) == Some(RecordError::KeyUsedUp),
-        "no record after them",
-    );
+    let found = error_of(&mut ended, &mut record);
+    equal(&rt, found, Some(RecordError::KeyUsedUp), "none after them");
     Ok(())
 }
 
@@ -944,7 +918,7 @@ fn texts_and_alerts(rt: HostRuntime) -> Result<(), Fail> {
     for (error, text, alert) in &TEXTS {
         displays(&rt, error, text)?;
         let found = error.alert().map_or(0, |alert| alert as u8);
-        holds(&rt, found == *alert, text);
+        equal(&rt, found, *alert, text);
     }
     Ok(())
 }

@@ -1,6 +1,6 @@
 //! Tests of readers and writers of traffic secrets.
 
-use crate::checks::{holds, same};
+use crate::checks::{equal, holds, same};
 use key_derivation::{Secret, Suite};
 use records::ContentType::ApplicationData;
 use records::{Reader, RecordError, Writer};
@@ -69,8 +69,8 @@ fn carries(
 fn takes_no_key(rt: &impl Abort, writer: &mut Writer, reader: &mut Reader) {
     for key in [&BYTES[..16], &BYTES[..32], &[]] {
         let refused = Err(RecordError::HasSecret);
-        holds(rt, writer.update_with(key, [1; 12]) == refused, "a writer");
-        holds(rt, reader.update_with(key, [1; 12]) == refused, "a reader");
+        equal(rt, writer.update_with(key, [1; 12]), refused, "a writer");
+        equal(rt, reader.update_with(key, [1; 12]), refused, "a reader");
     }
 }
 
@@ -79,9 +79,9 @@ fn is_closed_by_a_record(rt: &impl Abort, reader: &mut Reader) {
     let closing = reader.read(&mut [23, 3, 3, 0, 16]).err();
     holds(rt, closing.is_some() && reader.is_closed(), "closed");
     let closed = Err(RecordError::Closed);
-    holds(rt, reader.update() == closed, "update");
+    equal(rt, reader.update(), closed, "update");
     let refused = reader.update_with(&BYTES[..16], [1; 12]);
-    holds(rt, refused == closed, "update_with");
+    equal(rt, refused, closed, "update_with");
 }
 
 /// Continues both ends under the next secret.

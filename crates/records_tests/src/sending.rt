@@ -184,8 +184,8 @@ fn a_whole_connection(rt: HostRuntime) -> Result<(), Fail> {
     let (mut client, mut server) = (client(&mut of_client, 1000), server(&mut of_server));
     for (what, client_owes, server_owes) in MOVES {
         make(&rt, rt.alloc(), &mut client, &mut server, what)?;
-        holds(&rt, client.owes_update() == client_owes, "the client owes");
-        holds(&rt, server.owes_update() == server_owes, "the server owes");
+        equal(&rt, client.owes_update(), client_owes, "the client owes");
+        equal(&rt, server.owes_update(), server_owes, "the server owes");
     }
     ends(&rt, rt.alloc(), &mut client, &mut server)
 }
@@ -205,13 +205,13 @@ fn limits(rt: HostRuntime) -> Result<(), Fail> {
         let mut out = Vec::new(rt.alloc());
         let mut buffer = [0; 64];
         let sent = client(&mut buffer, limit).send(b"x", &mut out);
-        holds(&rt, sent.is_ok() == sends, "send");
+        equal(&rt, sent.is_ok(), sends, "send");
         let mut buffer = [0; 64];
         let updated = client(&mut buffer, limit).send_key_update(Requested, &mut out);
-        holds(&rt, updated.is_ok() == updates, "send_key_update");
+        equal(&rt, updated.is_ok(), updates, "send_key_update");
         let mut buffer = [0; 64];
         let closed = client(&mut buffer, limit).close(&mut out);
-        holds(&rt, closed.is_ok() == closes, "close");
+        equal(&rt, closed.is_ok(), closes, "close");
     }
     Ok(())
 }
@@ -234,11 +234,11 @@ fn updates_at_the_limit(rt: HostRuntime) -> Result<(), Fail> {
     ];
     for (content, remaining) in contents {
         comes_back(&rt, alloc, &mut client, &mut server, content)?;
-        equal(&rt, &client.remaining(), &remaining);
+        equal(&rt, client.remaining(), remaining, "the records left");
     }
     let mut out = Vec::new(alloc);
     let refused = client.send(&content, &mut out);
-    equal(&rt, &refused, &Err(RecordError::KeyUsedUp));
+    equal(&rt, refused, Err(RecordError::KeyUsedUp), "three records");
     holds(&rt, out.is_empty(), "nothing is written");
     Ok(())
 }
@@ -253,9 +253,9 @@ fn sends_nothing(rt: &impl Abort, end: &mut Connection<'_>, out: &mut Vec<u8>) {
         end.abort(AlertDescription::DecodeError, out),
     ];
     for result in &results {
-        equal(rt, result, &Err(RecordError::Ended));
+        equal(rt, result, &Err(RecordError::Ended), "after an alert");
     }
-    equal(rt, &out.len(), &len);
+    equal(rt, out.len(), len, "nothing written");
 }
 
 /// What the peer sends is still received.
@@ -268,7 +268,7 @@ fn nothing_after_an_alert(rt: HostRuntime) -> Result<(), Fail> {
     client.abort(AlertDescription::InternalError, &mut out)?;
     sends_nothing(&rt, &mut client, &mut out);
     let found = server.receive(alloc, &mut out, &mut Received::new(alloc));
-    equal(&rt, &found, &Err(ReceiveError::Alert(80)));
+    equal(&rt, found, Err(ReceiveError::Alert(80)), "the alert");
     let mut still = sent(&mut server, alloc, b"still")?;
     let found = received(&mut client, alloc, &mut still)?;
     same(&rt, &found.application_data, b"still", "the content");

@@ -1,6 +1,6 @@
 //! Tests of `classify`, and of `examples::record_stream`.
 
-use crate::checks::equal;
+use crate::checks::{equal, same};
 use crate::examples::record_stream;
 use aead_ciphers::aead::AES_128_GCM;
 use records::{Begins, ContentType, Reader, RecordError, RecordKind, Writer, classify};
@@ -57,7 +57,7 @@ const BEGIN: [(&str, Result<Begins, RecordError>); 29] = [
 fn what_streams_begin_with(rt: HostRuntime) -> Result<(), Fail> {
     for (text, expected) in BEGIN {
         let bytes = hex::decode(rt.alloc(), text)?;
-        assert!(rt; classify(&bytes) == expected, "{text}");
+        equal(&rt, classify(&bytes), expected, text);
     }
     Ok(())
 }
@@ -69,18 +69,13 @@ fn sends_and_receives(rt: HostRuntime) -> Result<(), Fail> {
     let mut reader = Reader::new(&AES_128_GCM, &[1; 16], IV)?;
     let mut bytes = Vec::from_slice(rt.alloc(), &[20, 3, 3, 0, 1, 1])?;
     record_stream::send(&mut writer, b"hello", &mut bytes)?;
-    equal(
-        &rt,
-        &record_stream::receive(&mut reader, &mut bytes),
-        &Ok((6, None)),
-    );
+    let received = record_stream::receive(&mut reader, &mut bytes);
+    equal(&rt, received, Ok((6, None)), "a ChangeCipherSpec");
     let mut rest = bytes.get(6..).unwrap_or(&[]).to_vec(rt.alloc())?;
     let data = Some((ContentType::ApplicationData, 5));
-    equal(
-        &rt,
-        &record_stream::receive(&mut reader, &mut rest),
-        &Ok((27, data)),
-    );
-    equal(&rt, &rest.get(..5), &Some(b"hello".as_slice()));
+    let received = record_stream::receive(&mut reader, &mut rest);
+    equal(&rt, received, Ok((27, data)), "a record");
+    let content = rest.get(..5).unwrap_or(&[]);
+    same(&rt, content, b"hello", "the content");
     Ok(())
 }

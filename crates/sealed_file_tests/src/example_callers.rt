@@ -1,6 +1,6 @@
 //! Tests of `examples` with a file that another program sealed.
 
-use crate::checks::{holds, same};
+use crate::checks::{equal, same};
 use crate::examples::sealed_files;
 use sealed_file::{FileKey, FileRandom};
 use std::io::Cursor;
@@ -25,7 +25,7 @@ fn sealed_file_of_one_byte(rt: HostRuntime) -> Result<(), Fail> {
     let mut buf = [0; 2];
     let input = Cursor::new(sealed.as_slice());
     let count = sealed_files::read_part(rt.alloc(), &key, input, 0, 0, &mut buf)?;
-    holds(&rt, count == 1, "a byte is read");
+    equal(&rt, count, 1, "a byte is read");
     same(&rt, &buf, b"a\0", "the byte");
     Ok(())
 }

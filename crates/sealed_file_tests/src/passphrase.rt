@@ -2,7 +2,7 @@
 
 ghost use Rattle.std.specs.Prelude.{◌≤◌, length};
 
-use crate::checks::{displays, holds, same};
+use crate::checks::{displays, equal, holds, same};
 use crate::sealed_files::{ANOTHER_KEY, ENDS_EARLY, FIRST_REFUSED, KEY, RANDOM, file_of};
 use md5::{Digest, Md5};
 use sealed_file::{
@@ -43,7 +43,7 @@ fn opens(
     let mut input = sealed;
     match open_with_passphrase(rt.alloc(), passphrase, aad, &mut input, &mut opened) {
         Ok(()) => {
-            holds(rt, text == "opened", text);
+            equal(rt, text, "opened", text);
             same(rt, &opened, b"hello", text);
         }
         Err(error) => {

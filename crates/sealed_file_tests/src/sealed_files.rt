@@ -2,7 +2,7 @@
 
 ghost use Rattle.std.specs.Prelude.{◌≤◌, length};
 
-use crate::checks::{displays, holds, same};
+use crate::checks::{displays, equal, holds, same};
 use aead_ciphers::aead::{AES_256_GCM, Aad, LessSafeKey, Nonce, UnboundKey};
 use md5::{Digest, Md5};
 use sealed_file::{
@@ -524,7 +524,7 @@ fn opens_with(
     let key = FileKey::new(&OTHER_KEY)?;
     match open_with_aad(rt.alloc(), &key, aad, &mut input, &mut opened) {
         Ok(()) => {
-            holds(rt, text == "opened", text);
+            equal(rt, text, "opened", text);
             same(rt, &opened, b"a", text);
         }
         Err(error) => displays(rt, &error, text)?,
