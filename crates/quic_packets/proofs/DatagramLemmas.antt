@@ -54,7 +54,7 @@ varint_read d at l n few e =
     ap (λ m. n % m) (mask l few.most) ∙ ap₂ (λ v w. v % 2 ^ w) e width
     ∙ ap (λ v. number_from_digits 256 (take (at + v - at) (drop at d)) % 2 ^ (8 * (at + v - at) - 2)) few.is
 
-abbrev pub Placed : ℕ → List ℕ → Result Packet DatagramError → Type 0
+abbrev Placed : ℕ → List ℕ → Result Packet DatagramError → Type 0
 Placed start d read = IfOk read (IsPlaced start d)
 
 -- a layout, whether or not it ends within the datagram
@@ -140,12 +140,15 @@ versioned_laid d start =
     cond_both (version == 0) (opaque_layout d start VersionNegotiation) (known_layout (numbered_version version) d start) (IsLaid start)
     (λ e. opaque_laid d start VersionNegotiation) (λ e. known_laid d start (numbered_version version))
 
-pub packet_placed : (id_len : ℕ) (d : List ℕ) (start : ℕ) → Placed start d (parts_of id_len d start)
+packet_placed : (id_len : ℕ) (d : List ℕ) (start : ℕ) → Placed start d (parts_of id_len d start)
 packet_placed id_len d start =
     cond_both (nat_lt (get_or d start 0) 0x80) (whole d (short_layout id_len d start)) (long_packet d start) (Placed start d)
     (λ e. whole_placed start d (short_layout id_len d start) (short_laid id_len d start))
     (λ e. cond_both (has_long_id d start) (Err IdTooLong) (whole d (versioned_layout d start)) (Placed start d)
     (λ e. tt) (λ e. whole_placed start d (versioned_layout d start) (versioned_laid d start)))
+
+pub read_placed : (id_len : ℕ) (d : List ℕ) (start : ℕ) (p : Packet) → Ok p ≡ parts_of id_len d start → IsPlaced start d p
+read_placed id_len d start p same = subst (Placed start d) (sym same) (packet_placed id_len d start)
 
 -- a packet that is rejected if its fixed bit is 0 and must be 1
 module _ (fixed_bit : FixedBit) (start : ℕ) (d : List ℕ) (p : Packet) (read : Result Packet DatagramError) (placed : IsPlaced start d p)

@@ -3,8 +3,8 @@
 ghost use Rattle.std.specs.Prelude.{◌≡◌, ℕ, ◌+◌, ◌-◌, ◌^◌, ◌<◌, ◌≤◌, ◌↔◌, false, if◌then◌else◌, length, slice_index, Ok, IsOk, IsErr, IfOk, IfErr, IsErrOf, IfSome, MatchOption};
 ghost use Rattle.std.specs.Int.Digits.{number_from_digits};
 ghost use Rattle.quic_packets.specs.declared.datagram.DatagramError.TheVariants.{Cut, IdTooLong};
-ghost use Rattle.quic_packets.specs.declared.datagram.PacketType.TheVariants.{Initial};
-ghost use Rattle.quic_packets.specs.Datagram.{IsIn, IsPlaced, has_long_id, id_end, initial_token, long_layout, long_packet, numbered_layout, opaque_layout, packet_of, parts_of, retry_layout, short_layout, source_end, typed_layout, varint, varint_end, version_of, versioned_layout, whole, with_fixed_bit};
+ghost use Rattle.quic_packets.specs.declared.datagram.PacketType.TheVariants.{Initial, OtherVersion};
+ghost use Rattle.quic_packets.specs.Datagram.{IsIn, has_long_id, id_end, initial_token, long_packet, numbered_layout, opaque_layout, packet_of, parts_of, retry_layout, short_layout, source_end, typed_layout, varint, varint_end, version_of, versioned_layout, whole, with_fixed_bit};
 ghost use Rattle.quic_packets.specs.FixedBit.{lacks_fixed_bit};
 ghost use Rattle.quic_packets.specs.Versions.{bits_of, type_of};
 
@@ -130,17 +130,6 @@ fn parts_at(
     start: usize,
     connection_id_len: usize,
 ) -> Result<Packet, DatagramError>
-    ensures parts { result ≡ parts_of connection_id_len datagram.now start }
-    ensures placed { IfOk result (IsPlaced start datagram.now) }
-{
-    read_packet(datagram, start, connection_id_len)
-}
-
-fn read_packet(
-    datagram: &[u8],
-    start: usize,
-    connection_id_len: usize,
-) -> Result<Packet, DatagramError>
     ensures { result ≡ parts_of connection_id_len datagram.now start }
 {
     if start >= datagram.len() {
@@ -181,16 +170,16 @@ fn long_packet(datagram: &[u8], start: usize) -> Result<Packet, DatagramError>
     requires { start < length datagram.now }
     ensures { result ≡ long_packet datagram.now start }
 {
-    match ids_end(datagram, start) {
-        Ok(from) => versioned_packet(datagram, start, from),
-        Err(error) => Err(error),
-    }
+    let (number, opaque) = opaque_packet(datagram, start)?;
+    versioned_packet(datagram, number, opaque)
 }
 
-// The end of the connection IDs of a long header.
-fn ids_end(datagram: &[u8], start: usize) -> Result<usize, DatagramError>
+// The version of a long header, and what it has in every version: the parts of a packet of another version.
+fn opaque_packet(datagram: &[u8], start: usize) -> Result<(u32, Packet), DatagramError>
     requires { start < length datagram.now }
-    ensures end { IfOk result (λ end. (end ≡ source_end datagram.now start) × (end ≤ length datagram.now)) }
+    ensures version { IfOk result (λ read. read.0 ≡ version_of datagram.now start) }
+    ensures packet { IfOk result (λ read. read.1 ≡ opaque_layout datagram.now start OtherVersion) }
+    ensures within { IsOk result → source_end datagram.now start ≤ length datagram.now }
     ensures short { IsOk result → has_long_id datagram.now start ≡ false }
     ensures error { IfErr result (λ e. e ≡ (if has_long_id datagram.now start then IdTooLong else Cut)) }
     ensures cut { IsErr result → has_long_id datagram.now start ≡ false
@@ -199,15 +188,25 @@ fn ids_end(datagram: &[u8], start: usize) -> Result<usize, DatagramError>
     if datagram.len() - start < 6 {
         return Err(DatagramError::Cut);
     }
-    let longest = if Version::from_number(version(datagram, start)).is_some() {
+    let number = version(datagram, start);
+    let longest = if Version::from_number(number).is_some() {
         MAX_ID_LEN
     } else {
         255
     };
-    match id_end(datagram, start + 5, longest) {
-        Ok(destination_end) => id_end(datagram, destination_end, longest),
-        Err(error) => Err(error),
-    }
+    let destination_end = id_end(datagram, start + 5, longest)?;
+    let source_end = id_end(datagram, destination_end, longest)?;
+    let packet = Packet {
+        start,
+        packet_type: PacketType::OtherVersion,
+        version: Some(number),
+        destination_id: start + 6..destination_end,
+        source_id: destination_end + 1..source_end,
+        token: source_end..source_end,
+        number_at: None,
+        end: datagram.len(),
+    };
+    Ok((number, packet))
 }
 
 // The end of the connection ID whose length is the byte `at`.
@@ -232,77 +231,72 @@ fn id_end(datagram: &[u8], at: usize, longest: usize) -> Result<usize, DatagramE
     Ok(at + 1 + len)
 }
 
-// Parses a packet whose connection IDs end at `from`.
-fn versioned_packet(datagram: &[u8], start: usize, from: usize) -> Result<Packet, DatagramError>
-    requires from { from ≡ source_end datagram.now start }
-    requires within { from ≤ length datagram.now }
-    ensures { result ≡ whole datagram.now (versioned_layout datagram.now start) }
+// Parses what a packet has in its version.
+fn versioned_packet(datagram: &[u8], number: u32, opaque: Packet) -> Result<Packet, DatagramError>
+    requires version { number ≡ version_of datagram.now opaque.start }
+    requires packet { opaque ≡ opaque_layout datagram.now opaque.start OtherVersion }
+    requires within { source_end datagram.now opaque.start ≤ length datagram.now }
+    ensures { result ≡ whole datagram.now (versioned_layout datagram.now opaque.start) }
 {
-    let number = version(datagram, start);
     if number == 0 {
-        return Ok(opaque_packet(datagram, start, from, PacketType::VersionNegotiation));
+        return Ok(Packet {
+            packet_type: PacketType::VersionNegotiation,
+            ..opaque
+        });
     }
     match Version::from_number(number) {
         Some(version) => {
-            let packet_type = type_of(version, bits_of(datagram[start]));
-            typed_packet(datagram, start, from, packet_type)
+            let packet_type = type_of(version, bits_of(datagram[opaque.start]));
+            typed_packet(datagram, packet_type, opaque)
         }
-        None => Ok(opaque_packet(datagram, start, from, PacketType::OtherVersion)),
+        None => Ok(opaque),
     }
-}
-
-// A packet of a type that has no Length field and no token.
-fn opaque_packet(datagram: &[u8], start: usize, from: usize, packet_type: PacketType) -> Packet
-    requires from { from ≡ source_end datagram.now start }
-    requires within { from ≤ length datagram.now }
-    ensures { result ≡ opaque_layout datagram.now start packet_type }
-{
-    let end = datagram.len();
-    long_layout(datagram, start, packet_type, from..from, None, end)
 }
 
 // Parses a packet of version 1 or 2.
 fn typed_packet(
     datagram: &[u8],
-    start: usize,
-    from: usize,
     packet_type: PacketType,
+    opaque: Packet,
 ) -> Result<Packet, DatagramError>
-    requires from { from ≡ source_end datagram.now start }
-    requires within { from ≤ length datagram.now }
-    ensures { result ≡ whole datagram.now (typed_layout packet_type datagram.now start) }
+    requires packet { opaque ≡ opaque_layout datagram.now opaque.start OtherVersion }
+    requires within { source_end datagram.now opaque.start ≤ length datagram.now }
+    ensures { result ≡ whole datagram.now (typed_layout packet_type datagram.now opaque.start) }
 {
+    let from = opaque.source_id.end;
     match packet_type {
-        PacketType::Initial => initial_packet(datagram, start, from),
-        PacketType::Retry => retry_packet(datagram, start, from),
-        _ => numbered_packet(datagram, start, packet_type, from..from),
+        PacketType::Initial => initial_packet(datagram, opaque),
+        PacketType::Retry => retry_packet(datagram, opaque),
+        _ => numbered_packet(datagram, packet_type, from..from, opaque),
     }
 }
 
-fn initial_packet(datagram: &[u8], start: usize, from: usize) -> Result<Packet, DatagramError>
-    requires from { from ≡ source_end datagram.now start }
-    requires within { from ≤ length datagram.now }
-    ensures { result ≡ whole datagram.now (numbered_layout datagram.now start Initial (initial_token datagram.now start)) }
+fn initial_packet(datagram: &[u8], opaque: Packet) -> Result<Packet, DatagramError>
+    requires packet { opaque ≡ opaque_layout datagram.now opaque.start OtherVersion }
+    requires within { source_end datagram.now opaque.start ≤ length datagram.now }
+    ensures { result ≡ whole datagram.now
+        (numbered_layout datagram.now opaque.start Initial (initial_token datagram.now opaque.start)) }
 {
-    let Some((len, at)) = varint(datagram, from) else {
+    let Some((len, at)) = varint(datagram, opaque.source_id.end) else {
         return Err(DatagramError::Cut);
     };
     if datagram.len() - at < len {
         return Err(DatagramError::Cut);
     }
-    numbered_packet(datagram, start, PacketType::Initial, at..at + len)
+    numbered_packet(datagram, PacketType::Initial, at..at + len, opaque)
 }
 
 // Parses a packet with a packet number. The Length field follows the token.
 fn numbered_packet(
     datagram: &[u8],
-    start: usize,
     packet_type: PacketType,
     token: Range<usize>,
+    opaque: Packet,
 ) -> Result<Packet, DatagramError>
-    requires within { source_end datagram.now start ≤ length datagram.now }
+    requires packet { opaque ≡ opaque_layout datagram.now opaque.start OtherVersion }
+    requires within { source_end datagram.now opaque.start ≤ length datagram.now }
     requires token { token.end ≤ length datagram.now }
-    ensures { result ≡ whole datagram.now (numbered_layout datagram.now start packet_type token) }
+    ensures { result ≡ whole datagram.now (numbered_layout datagram.now opaque.start packet_type token) }
 {
     let Some((len, number_at)) = varint(datagram, token.end) else {
         return Err(DatagramError::Cut);
@@ -310,47 +304,29 @@ fn numbered_packet(
     if datagram.len() - number_at < len {
         return Err(DatagramError::Cut);
     }
-    let end = number_at + len;
-    Ok(long_layout(datagram, start, packet_type, token, Some(number_at), end))
+    Ok(Packet {
+        packet_type,
+        token,
+        number_at: Some(number_at),
+        end: number_at + len,
+        ..opaque
+    })
 }
 
-fn retry_packet(datagram: &[u8], start: usize, from: usize) -> Result<Packet, DatagramError>
-    requires from { from ≡ source_end datagram.now start }
-    requires within { from ≤ length datagram.now }
-    ensures { result ≡ whole datagram.now (retry_layout datagram.now start) }
+fn retry_packet(datagram: &[u8], opaque: Packet) -> Result<Packet, DatagramError>
+    requires packet { opaque ≡ opaque_layout datagram.now opaque.start OtherVersion }
+    requires within { source_end datagram.now opaque.start ≤ length datagram.now }
+    ensures { result ≡ whole datagram.now (retry_layout datagram.now opaque.start) }
 {
-    let end = datagram.len();
-    if end - from < TAG_LEN {
+    let from = opaque.source_id.end;
+    if datagram.len() - from < TAG_LEN {
         return Err(DatagramError::Cut);
     }
-    let token = from..end - TAG_LEN;
-    Ok(long_layout(datagram, start, PacketType::Retry, token, None, end))
-}
-
-// A packet with a long header. Its version and its connection IDs are parsed again.
-fn long_layout(
-    datagram: &[u8],
-    start: usize,
-    packet_type: PacketType,
-    token: Range<usize>,
-    number_at: Option<usize>,
-    end: usize,
-) -> Packet
-    requires { source_end datagram.now start ≤ length datagram.now }
-    ensures { result ≡ long_layout datagram.now start packet_type token number_at end }
-{
-    let destination_end = start + 6 + usize::from(datagram[start + 5]);
-    let source_end = destination_end + 1 + usize::from(datagram[destination_end]);
-    Packet {
-        start,
-        packet_type,
-        version: Some(version(datagram, start)),
-        destination_id: start + 6..destination_end,
-        source_id: destination_end + 1..source_end,
-        token,
-        number_at,
-        end,
-    }
+    Ok(Packet {
+        packet_type: PacketType::Retry,
+        token: from..datagram.len() - TAG_LEN,
+        ..opaque
+    })
 }
 
 /// The version in a long header.

@@ -6,15 +6,10 @@ ghost use Rattle.aead_ciphers.specs.Packet.{PacketFits};
 
 use crate::error::PacketError;
 use aead_ciphers::aead::MAX_TAG_LEN;
+use aead_ciphers_wide::aes_gcm::fits;
 
 /// The end of the packet numbers (RFC 9000 section 12.3).
 pub(crate) const NUMBERS_END: u64 = 1 << 62;
-
-/// The longest payload in bytes (SP 800-38D section 5.2.1.1).
-const MAX_PAYLOAD_LEN: usize = (1 << 36) - 32;
-
-/// The longest header in bytes (SP 800-38D section 5.2.1.1).
-const MAX_HEADER_LEN: usize = (1 << 61) - 1;
 
 /// The number of bytes between the header and the tag.
 pub(crate) fn payload_len(packet: &[u8], header_len: usize) -> Result<usize, PacketError>
@@ -37,7 +32,7 @@ pub(crate) fn check_lengths(header_len: usize, payload_len: usize) -> Result<(),
     ensures accepted { IsOk result ↔ Fits header_len payload_len }
     ensures refused { IsOkUnless result PacketError.TooLong }
 {
-    if payload_len > MAX_PAYLOAD_LEN || header_len > MAX_HEADER_LEN {
+    if !fits(header_len, payload_len) {
         return Err(PacketError::TooLong);
     }
     Ok(())
