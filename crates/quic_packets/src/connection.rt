@@ -425,7 +425,7 @@ impl Connection {
         }
     }
 
-    // The parts of the packet to open, or else the step past it.
+    /// The parts of the packet to open, or else the step past it.
     fn parts_to_open(
         &self,
         datagram: &[u8],
@@ -461,7 +461,7 @@ impl Connection {
         Ok(parts)
     }
 
-    // Whether the receiver of packets of a type is there.
+    /// Whether the receiver of packets of a type is there.
     fn has_receiver(&self, packet_type: PacketType) -> bool
         ensures { IsTrue result ↔ IsSome (receiver_of self.now packet_type) }
     {
@@ -474,7 +474,7 @@ impl Connection {
         }
     }
 
-    // Opens a packet with the receiver of its type.
+    /// Opens a packet with the receiver of its type.
     fn open(&mut self, datagram: &mut [u8], parts: &Packet) -> Result<Received, PacketError>
         requires { IsSome (receiver_of self.old parts.now.packet_type) }
         ensures tried { IfSome (receiver_of self.old parts.now.packet_type) (λ r.
@@ -501,7 +501,7 @@ impl Connection {
         }
     }
 
-    // Opens a packet with the receiver of 0-RTT packets, which shares the space of 1-RTT packets.
+    /// Opens a packet with the receiver of 0-RTT packets, which shares the space of 1-RTT packets.
     fn open_zero_rtt(
         &mut self,
         datagram: &mut [u8],
@@ -526,7 +526,7 @@ impl Connection {
     }
 }
 
-// Where the packet after one that is parsed, or that isn't, begins in a datagram of this length.
+/// Where the packet after one that is parsed, or that isn't, begins in a datagram of this length.
 fn end_of(packet: &Result<Packet, DatagramError>, len: usize) -> usize
     ensures { result ≡ end_of packet.now len }
 {
@@ -537,7 +537,7 @@ fn end_of(packet: &Result<Packet, DatagramError>, len: usize) -> usize
     }
 }
 
-// Whether a packet has this destination ID, and is of a type that has keys.
+/// Whether a packet has this destination ID, and is of a type that has keys.
 fn is_own(datagram: &[u8], parts: &Packet, id: &[u8]) -> bool
     requires { (parts.now.destination_id.start ≤ parts.now.destination_id.end)
         × (parts.now.destination_id.end ≤ length datagram.now) }
@@ -547,7 +547,7 @@ fn is_own(datagram: &[u8], parts: &Packet, id: &[u8]) -> bool
     destination_id == id && has_keys(parts.packet_type)
 }
 
-// Whether packets of a type have keys.
+/// Whether packets of a type have keys.
 fn has_keys(packet_type: PacketType) -> bool
     ensures { result ≡ has_keys packet_type }
 {

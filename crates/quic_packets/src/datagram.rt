@@ -109,7 +109,7 @@ pub fn packet_at(
     with_fixed_bit(datagram, packet, fixed_bit)
 }
 
-// The packet, unless its fixed bit is 0 and must be 1.
+/// The packet, unless its fixed bit is 0 and must be 1.
 fn with_fixed_bit(
     datagram: &[u8],
     packet: Packet,
@@ -124,7 +124,7 @@ fn with_fixed_bit(
     Ok(packet)
 }
 
-// The parts of a packet, whatever its fixed bit.
+/// The parts of a packet, whatever its fixed bit.
 fn parts_at(
     datagram: &[u8],
     start: usize,
@@ -174,7 +174,7 @@ fn long_packet(datagram: &[u8], start: usize) -> Result<Packet, DatagramError>
     versioned_packet(datagram, number, opaque)
 }
 
-// The version of a long header, and what it has in every version: the parts of a packet of another version.
+/// The version of a long header, and what it has in every version: the parts of a packet of another version.
 fn opaque_packet(datagram: &[u8], start: usize) -> Result<(u32, Packet), DatagramError>
     requires { start < length datagram.now }
     ensures version { IfOk result (λ read. read.0 ≡ version_of datagram.now start) }
@@ -209,7 +209,7 @@ fn opaque_packet(datagram: &[u8], start: usize) -> Result<(u32, Packet), Datagra
     Ok((number, packet))
 }
 
-// The end of the connection ID whose length is the byte `at`.
+/// The end of the connection ID whose length is the byte `at`.
 fn id_end(datagram: &[u8], at: usize, longest: usize) -> Result<usize, DatagramError>
     ensures too_long { IsErrOf result DatagramError.IdTooLong ↔ (longest < slice_index datagram.now at) }
     ensures cut { IsErrOf result DatagramError.Cut
@@ -231,7 +231,7 @@ fn id_end(datagram: &[u8], at: usize, longest: usize) -> Result<usize, DatagramE
     Ok(at + 1 + len)
 }
 
-// Parses what a packet has in its version.
+/// Parses what a packet has in its version.
 fn versioned_packet(datagram: &[u8], number: u32, opaque: Packet) -> Result<Packet, DatagramError>
     requires version { number ≡ version_of datagram.now opaque.start }
     requires packet { opaque ≡ opaque_layout datagram.now opaque.start OtherVersion }
@@ -253,7 +253,7 @@ fn versioned_packet(datagram: &[u8], number: u32, opaque: Packet) -> Result<Pack
     }
 }
 
-// Parses a packet of version 1 or 2.
+/// Parses a packet of version 1 or 2.
 fn typed_packet(
     datagram: &[u8],
     packet_type: PacketType,
@@ -286,7 +286,7 @@ fn initial_packet(datagram: &[u8], opaque: Packet) -> Result<Packet, DatagramErr
     numbered_packet(datagram, PacketType::Initial, at..at + len, opaque)
 }
 
-// Parses a packet with a packet number. The Length field follows the token.
+/// Parses a packet with a packet number. The Length field follows the token.
 fn numbered_packet(
     datagram: &[u8],
     packet_type: PacketType,
@@ -337,7 +337,7 @@ pub(crate) fn version(datagram: &[u8], start: usize) -> u32
     network_number(&datagram[start + 1..start + 5]) as u32
 }
 
-// The variable-length integer at a byte, and its end. `None` if the datagram ends before it does.
+/// The variable-length integer at a byte, and its end. `None` if the datagram ends before it does.
 fn varint(datagram: &[u8], at: usize) -> Option<(usize, usize)>
     ensures { MatchOption result (length datagram.now < varint_end datagram.now at)
         (λ read. (read.0 ≡ varint datagram.now at) × (read.1 ≡ varint_end datagram.now at)
@@ -355,7 +355,7 @@ fn varint(datagram: &[u8], at: usize) -> Option<(usize, usize)>
     Some((value as usize, at + len))
 }
 
-// The number that bytes hold in network byte order.
+/// The number that bytes hold in network byte order.
 fn network_number(bytes: &[u8]) -> u64
     requires { length bytes.now ≤ 8 }
     ensures is { result ≡ number_from_digits 256 bytes.now }

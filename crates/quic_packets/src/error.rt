@@ -105,7 +105,7 @@ impl PacketError {
         }
     }
 
-    // What the error displays.
+    /// What the error displays.
     const fn text(&self) -> &'static str {
         match self {
             PacketError::KeyLength => "the key does not have the length of the algorithm's keys",

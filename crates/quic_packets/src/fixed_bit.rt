@@ -30,7 +30,7 @@ impl FixedBit {
     }
 }
 
-// Whether a long header of this version, or a short one, has the bit.
+/// Whether a long header of this version, or a short one, has the bit.
 fn has_fixed_bit(version: Option<u32>) -> bool
     ensures { result ≡ has_fixed_bit version }
 {

@@ -168,7 +168,7 @@ impl HeaderKey {
         Ok(number_len(first))
     }
 
-    // The mask for a sample, with a packet number that is not too long.
+    /// The mask for a sample, with a packet number that is not too long.
     fn mask(&self, sample: &[u8], number: &[u8]) -> Result<[u8; 5], MaskError>
         ensures accepted { IsOk result ↔ ((length sample.now ≡ 16) × (length number.now ≤ 4)) }
         ensures no_sample { IsErrOf result MaskError.NoSample ↔ (length sample.now ≢ 16) }
@@ -187,7 +187,7 @@ impl HeaderKey {
     }
 }
 
-// The sample of a packet, which has to have a first byte before its number, and to be long enough.
+/// The sample of a packet, which has to have a first byte before its number, and to be long enough.
 fn sample_of(packet: &[u8], number_at: usize) -> Result<[u8; SAMPLE_LEN], MaskError>
     ensures accepted { IsOk result ↔ HasSample number_at (length packet.now) }
     ensures first_byte { IsErrOf result MaskError.NumberAtFirstByte ↔ (number_at ≡ 0) }
@@ -201,7 +201,7 @@ fn sample_of(packet: &[u8], number_at: usize) -> Result<[u8; SAMPLE_LEN], MaskEr
     Ok(sample)
 }
 
-// Checks that the packet has a first byte before its number, and is long enough for a sample.
+/// Checks that the packet has a first byte before its number, and is long enough for a sample.
 fn check_sample(packet: &[u8], number_at: usize) -> Result<(), MaskError>
     ensures accepted { IsOk result ↔ HasSample number_at (length packet.now) }
     ensures first_byte { IsErrOf result MaskError.NumberAtFirstByte ↔ (number_at ≡ 0) }
@@ -259,7 +259,7 @@ pub(crate) fn number_len(first: u8) -> usize
     (first & NUMBER_LEN_BITS) as usize + 1
 }
 
-// What the first byte is XORed with, given its highest bit and the mask's first byte.
+/// What the first byte is XORed with, given its highest bit and the mask's first byte.
 fn first_mask(first: u8, mask: u8) -> u8
     ensures { result ≡ first_mask first mask }
 {
@@ -270,10 +270,10 @@ fn first_mask(first: u8, mask: u8) -> u8
     }
 }
 
-// XORs the first `number_len` bytes of `number` with the mask's bytes after the first.
-//
-// It reads and writes every byte, whatever the length, because the length in a received header is not authenticated before the
-// packet is opened (RFC 9001 section 9.5).
+/// XORs the first `number_len` bytes of `number` with the mask's bytes after the first.
+///
+/// It reads and writes every byte, whatever the length, because the length in a received header is not authenticated before the
+/// packet is opened (RFC 9001 section 9.5).
 fn mask_number(number: &mut [u8], number_len: usize, mask: &[u8; 5])
     requires room { length number.old ≤ 4 }
     requires few { number_len ≤ 4 }
@@ -287,7 +287,7 @@ fn mask_number(number: &mut [u8], number_len: usize, mask: &[u8; 5])
     }
 }
 
-// The byte if `i < number_len`, and zero otherwise, without a branch.
+/// The byte if `i < number_len`, and zero otherwise, without a branch.
 fn kept_below(byte: u8, i: usize, number_len: usize) -> u8
     requires index { i < 4 }
     requires few { number_len ≤ 4 }

@@ -110,7 +110,7 @@ impl LongHeader<'_> {
         Ok(number_at..number_at + self.number_len)
     }
 
-    // Checks the lengths of the fields.
+    /// Checks the lengths of the fields.
     fn check(&self) -> Result<(), HeaderError>
         ensures accepted { IsOk result ↔ IsLongHeader self.now }
         ensures number_length { IsErrOf result HeaderError.NumberLength ↔ ¬ IsNumberLen self.now.number_len }
@@ -133,7 +133,7 @@ impl LongHeader<'_> {
         Ok(())
     }
 
-    // The length of the header up to the packet number.
+    /// The length of the header up to the packet number.
     fn len(&self) -> usize
         requires { IsLongHeader self.now }
         ensures is { result ≡ length (long_header self.now) }
@@ -144,7 +144,7 @@ impl LongHeader<'_> {
         VERSION_END + ids_len + token_field_len(self.packet_type) + length_len
     }
 
-    // The value of Length.
+    /// The value of Length.
     fn packet_len(&self) -> usize
         requires { IsLongHeader self.now }
         ensures is { result ≡ length_of self.now }
@@ -153,7 +153,7 @@ impl LongHeader<'_> {
         self.number_len + self.payload_len + TAG_LEN
     }
 
-    // Writes the header to the front of the buffer.
+    /// Writes the header to the front of the buffer.
     fn put(&self, buffer: &mut [u8])
         requires header { IsLongHeader self.now }
         requires room { length (long_header self.now) ≤ length buffer.old }
@@ -217,7 +217,7 @@ impl ShortHeader<'_> {
         Ok(number_at..number_at + self.number_len)
     }
 
-    // Writes the header to the front of the buffer.
+    /// Writes the header to the front of the buffer.
     fn put(&self, buffer: &mut [u8])
         requires header { IsShortHeader self.now }
         requires room { length (short_header self.now) ≤ length buffer.old }
@@ -236,7 +236,7 @@ impl ShortHeader<'_> {
     }
 }
 
-// The token of an Initial packet. Empty for other types.
+/// The token of an Initial packet. Empty for other types.
 fn token_of(packet_type: LongType<'_>) -> &[u8]
     ensures { result.now ≡ token_of packet_type.entry }
 {
@@ -246,7 +246,7 @@ fn token_of(packet_type: LongType<'_>) -> &[u8]
     }
 }
 
-// The length of the token and its length.
+/// The length of the token and its length.
 fn token_field_len(packet_type: LongType<'_>) -> usize
     requires { length (token_of packet_type) < 2 ^ 30 }
     ensures is { result ≡ length (token_field packet_type.entry) }
@@ -258,7 +258,7 @@ fn token_field_len(packet_type: LongType<'_>) -> usize
     }
 }
 
-// The base-2 logarithm of the fewest bytes for a value below 2^30.
+/// The base-2 logarithm of the fewest bytes for a value below 2^30.
 fn fewest(value: usize) -> u8
     ensures { result ≡ fewest value }
 {
@@ -271,14 +271,14 @@ fn fewest(value: usize) -> u8
     }
 }
 
-// The base-2 logarithm of the length of a Length field.
+/// The base-2 logarithm of the length of a Length field.
 fn length_log(value: usize) -> u8
     ensures { result ≡ length_log value }
 {
     if value < 1 << 14 { 1 } else { 2 }
 }
 
-// The length of a variable-length integer.
+/// The length of a variable-length integer.
 fn integer_len(log: u8) -> usize
     requires { log ≤ 2 }
     ensures { result ≡ 2 ^ log }
@@ -290,7 +290,7 @@ fn integer_len(log: u8) -> usize
     }
 }
 
-// Writes a field at a byte, and returns its end.
+/// Writes a field at a byte, and returns its end.
 fn put(buffer: &mut [u8], at: usize, field: &[u8]) -> usize
     requires { at + length field.now ≤ length buffer.old }
     ensures end { result ≡ at + length field.now }
@@ -301,7 +301,7 @@ fn put(buffer: &mut [u8], at: usize, field: &[u8]) -> usize
     end
 }
 
-// Writes the first byte and the version to the front of a buffer, and returns their end.
+/// Writes the first byte and the version to the front of a buffer, and returns their end.
 fn put_front(buffer: &mut [u8], first: u8, version: Version) -> usize
     requires { 5 ≤ length buffer.old }
     ensures end { result ≡ 5 }
@@ -312,7 +312,7 @@ fn put_front(buffer: &mut [u8], first: u8, version: Version) -> usize
     put(buffer, 0, &bytes)
 }
 
-// Writes a connection ID after its length.
+/// Writes a connection ID after its length.
 fn put_id(buffer: &mut [u8], at: usize, id: &[u8]) -> usize
     requires short { length id.now ≤ 20 }
     requires room { at + length (id_field id.now) ≤ length buffer.old }
@@ -323,7 +323,7 @@ fn put_id(buffer: &mut [u8], at: usize, id: &[u8]) -> usize
     put(buffer, at, id)
 }
 
-// Writes the token of an Initial packet after its length.
+/// Writes the token of an Initial packet after its length.
 fn put_token(buffer: &mut [u8], at: usize, packet_type: LongType<'_>) -> usize
     requires short { length (token_of packet_type) < 2 ^ 30 }
     requires room { at + length (token_field packet_type) ≤ length buffer.old }
@@ -339,7 +339,7 @@ fn put_token(buffer: &mut [u8], at: usize, packet_type: LongType<'_>) -> usize
     }
 }
 
-// Writes a variable-length integer of 2^log bytes.
+/// Writes a variable-length integer of 2^log bytes.
 fn put_integer(buffer: &mut [u8], at: usize, log: u8, value: usize) -> usize
     requires few { log ≤ 2 }
     requires fits { value < 2 ^ (8 * 2 ^ log - 2) }

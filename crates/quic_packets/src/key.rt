@@ -327,7 +327,7 @@ impl PacketKey {
         }
     }
 
-    // The nonce of a packet (RFC 9001 section 5.3).
+    /// The nonce of a packet (RFC 9001 section 5.3).
     fn nonce(&self, number: u64) -> Result<Nonce, PacketError>
         ensures accepted { IsOk result ↔ IsNumber number }
         ensures refused { IsOkUnless result PacketError.NumbersEnded }

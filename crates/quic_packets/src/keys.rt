@@ -22,7 +22,7 @@ pub struct Keys<'a> {
     pub header_key: &'a [u8],
 }
 
-// The packet key and the header key of a secret, by one key of HMAC.
+/// The packet key and the header key of a secret, by one key of HMAC.
 #[tactic(auto, unfolding(crate::specs::Keys::secret_key, crate::specs::Keys::secret_header_key))]
 pub(crate) fn keys_of(secret: &QuicSecret) -> (PacketKey, HeaderKey)
     ensures packet { result.0 ≡ secret_key secret.now }

@@ -81,9 +81,9 @@ pub fn truncated(packet: &[u8], number_at: usize, len: usize) -> u64
     u64::from(four >> (32 - 8 * len))
 }
 
-// The number with these low bits that is nearest to the expected one.
-//
-// It does not branch, because the bits and their length are not authenticated yet (RFC 9001 section 9.5).
+/// The number with these low bits that is nearest to the expected one.
+///
+/// It does not branch, because the bits and their length are not authenticated yet (RFC 9001 section 9.5).
 fn nearest(expected: u64, truncated: u64, len: usize) -> u64
     requires expected { IsNumber expected }
     requires len { (0 < len) × (len ≤ 4) }

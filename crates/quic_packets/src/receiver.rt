@@ -120,7 +120,7 @@ impl Receiver {
         Ok(Receiver::with_keys(keys.version, header, current, None))
     }
 
-    // Creates a receiver with these keys, which are those of the secret if there is one.
+    /// Creates a receiver with these keys, which are those of the secret if there is one.
     fn with_keys(
         version: Version,
         header: HeaderKey,
@@ -284,7 +284,7 @@ impl Receiver {
         )
     }
 
-    // Receives a packet that begins at byte `start` of its datagram. `number_at` is counted from the packet.
+    /// Receives a packet that begins at byte `start` of its datagram. `number_at` is counted from the packet.
     fn receive_packet<const W: usize>(
         &mut self,
         space: &mut Space<W>,
@@ -323,8 +323,8 @@ impl Receiver {
         }
     }
 
-    // Unmasks the header, decodes the number and opens the packet. Writes the header's masked bytes back if it fails. Also
-    // returns the header's first byte.
+    /// Unmasks the header, decodes the number and opens the packet. Writes the header's masked bytes back if it fails. Also
+    /// returns the header's first byte.
     fn open(
         &self,
         largest: Option<u64>,
@@ -385,7 +385,7 @@ impl Receiver {
         }
     }
 
-    // The key of a packet, if it is held.
+    /// The key of a packet, if it is held.
     fn key_of(&self, first: u8, number: u64) -> Option<&PacketKey>
         ensures { option_copied result ≡ key_of self.now first number }
     {
@@ -398,22 +398,22 @@ impl Receiver {
         }
     }
 
-    // Whether a packet with this first byte is of the other key phase.
+    /// Whether a packet with this first byte is of the other key phase.
     fn is_other_phase(&self, first: u8) -> bool
         ensures { result ≡ is_other_phase self.now first }
     {
         first & (LONG_HEADER_FORM | KEY_PHASE_BIT) == if self.phase { 0 } else { KEY_PHASE_BIT }
     }
 
-    // The key that a packet is opened with. If its own is not held, this is the current one, so that rejecting it takes as
-    // long.
+    /// The key that a packet is opened with. If its own is not held, this is the current one, so that rejecting it takes as
+    /// long.
     fn opening_key(&self, first: u8, number: u64) -> &PacketKey
         ensures { result.now ≡ opening_key self.now first number }
     {
         self.key_of(first, number).unwrap_or(&self.current)
     }
 
-    // The highest number that was opened under the keys before a packet's key.
+    /// The highest number that was opened under the keys before a packet's key.
     fn highest_before(&self, first: u8, number: u64) -> u64
         ensures { result ≡ highest_before self.now first number }
     {
@@ -426,14 +426,14 @@ impl Receiver {
         }
     }
 
-    // Whether the key of a packet is held and its number is consistent with the key phase.
+    /// Whether the key of a packet is held and its number is consistent with the key phase.
     fn is_in_turn(&self, first: u8, number: u64) -> bool
         ensures { IsTrue result ↔ IsInTurn self.now first number }
     {
         self.key_of(first, number).is_some() && number >= self.highest_before(first, number)
     }
 
-    // Updates the state for a packet that was received.
+    /// Updates the state for a packet that was received.
     fn move_on(&mut self, first: u8, number: u64)
         ensures { self.new ≡ received self.old first number }
     {
@@ -447,7 +447,7 @@ impl Receiver {
         }
     }
 
-    // Makes the next key the current one, if it is held.
+    /// Makes the next key the current one, if it is held.
     fn update(&mut self, number: u64)
         ensures { self.new ≡ updated self.old number self.old.next }
     {
@@ -461,7 +461,7 @@ impl Receiver {
         }
     }
 
-    // Accepts a packet that was opened, and counts its number as received.
+    /// Accepts a packet that was opened, and counts its number as received.
     fn admit<const W: usize>(
         &mut self,
         space: &mut Space<W>,
@@ -508,8 +508,8 @@ impl Receiver {
     }
 }
 
-// The position of the packet number, counted from the packet, if the packet ends within a datagram of this length, has no other
-// version, and is long enough for a sample.
+/// The position of the packet number, counted from the packet, if the packet ends within a datagram of this length, has no other
+/// version, and is long enough for a sample.
 fn place_of_number(parts: &Packet, len: usize, version: Version) -> Result<usize, PacketError>
     ensures accepted { IsOk result ↔ ((parts.now.end ≤ len) × IsFalse (is_other_version version parts.now.version)
         × HasSample (number_in parts.now) (parts.now.end - parts.now.start)) }

@@ -12,19 +12,22 @@ use aead_ciphers_wide::aes_gcm::ExpandedKey;
 use key_derivation::quic::Version;
 use thiserror::Error;
 
-// The keys and the nonces of version 1 (RFC 9001 section 5.8) and version 2 (RFC 9369 section 3.3.3).
+/// The key of version 1 (RFC 9001 section 5.8).
 const KEY_1: [u8; 16] = [
     0xbe, 0x0c, 0x69, 0x0b, 0x9f, 0x66, 0x57, 0x5a, 0x1d, 0x76, 0x6b, 0x54, 0xe3, 0x68, 0xc8, 0x4e,
 ];
 
+/// The nonce of version 1 (RFC 9001 section 5.8).
 const NONCE_1: [u8; NONCE_LEN] = [
     0x46, 0x15, 0x99, 0xd3, 0x5d, 0x63, 0x2b, 0xf2, 0x23, 0x98, 0x25, 0xbb,
 ];
 
+/// The key of version 2 (RFC 9369 section 3.3.3).
 const KEY_2: [u8; 16] = [
     0x8f, 0xb4, 0xb0, 0x1b, 0x56, 0xac, 0x48, 0xe2, 0x60, 0xfb, 0xcb, 0xce, 0xad, 0x7c, 0xcc, 0x92,
 ];
 
+/// The nonce of version 2 (RFC 9369 section 3.3.3).
 const NONCE_2: [u8; NONCE_LEN] = [
     0xd8, 0x69, 0x69, 0xbc, 0x2d, 0x7c, 0x6d, 0x99, 0x90, 0xef, 0xb0, 0x4a,
 ];
@@ -89,7 +92,7 @@ pub fn is_genuine_retry(version: Version, original_id: &[u8], header: &[u8], pay
     }
 }
 
-// The key of the tag.
+/// The key of the tag.
 fn retry_key(version: Version) -> [u8; 16]
     ensures { result ≡ retry_key version }
 {
@@ -99,7 +102,7 @@ fn retry_key(version: Version) -> [u8; 16]
     }
 }
 
-// Its nonce.
+/// Its nonce.
 fn retry_nonce(version: Version) -> [u8; NONCE_LEN]
     ensures { result ≡ retry_nonce version }
 {
@@ -109,7 +112,7 @@ fn retry_nonce(version: Version) -> [u8; NONCE_LEN]
     }
 }
 
-// The tag of AES-128-GCM for an empty plaintext, whose AAD is these four parts.
+/// The tag of AES-128-GCM for an empty plaintext, whose AAD is these four parts.
 fn tag_of<'a>(
     version: Version,
     id_len: &'a [u8],

@@ -136,7 +136,7 @@ impl Sender {
         Sender::with_keys(keys.version, key, header_key, None, first)
     }
 
-    // Creates a sender with these keys, which are those of the secret if there is one.
+    /// Creates a sender with these keys, which are those of the secret if there is one.
     fn with_keys(
         version: Version,
         key: PacketKey,
@@ -339,7 +339,7 @@ impl Sender {
         self.acknowledged(number)
     }
 
-    // Whether this number was not sent, so far as the ranges of skipped numbers tell.
+    /// Whether this number was not sent, so far as the ranges of skipped numbers tell.
     fn is_unsent(&self, number: u64) -> bool
         ensures { result ≡ is_unsent self.now number }
     {
@@ -402,7 +402,7 @@ impl Sender {
         self.is_confirmed && self.is_acknowledged && self.secret.is_some()
     }
 
-    // Checks that this endpoint may initiate a key update.
+    /// Checks that this endpoint may initiate a key update.
     fn check_update(&self) -> Result<(), PacketError>
         ensures accepted { IsOk result ↔ (IsTrue self.now.confirmed × IsTrue self.now.acknowledged) }
         ensures unconfirmed { IsErrOf result PacketError.HandshakeUnconfirmed ↔ ¬ IsTrue self.now.confirmed }
@@ -462,7 +462,7 @@ impl Sender {
         Ok(())
     }
 
-    // Continues with this key, in the other key phase.
+    /// Continues with this key, in the other key phase.
     fn update(&mut self, key: PacketKey, secret: Option<QuicSecret>)
         ensures { self.new ≡ after_update self.old key secret }
     {
@@ -524,7 +524,7 @@ impl Sender {
         Ok(())
     }
 
-    // Continues with these keys, in the first key phase.
+    /// Continues with these keys, in the first key phase.
     fn install(
         &mut self,
         version: Version,
@@ -631,7 +631,7 @@ impl Sender {
         Ok(next)
     }
 
-    // Checks that the next number can be sent in this room.
+    /// Checks that the next number can be sent in this room.
     fn check_number(&self, number_at: usize, header_len: usize) -> Result<(), PacketError>
         ensures accepted { IsOk result ↔ IsInTurn self.now number_at header_len }
         ensures used_up { IsErrOf result PacketError.KeyUsedUp ↔ (self.now.limit ≤ self.now.sealed) }
@@ -667,7 +667,7 @@ impl Sender {
     }
 }
 
-// Checks that the packet can be sealed and protected in this version.
+/// Checks that the packet can be sealed and protected in this version.
 fn check_packet(
     packet: &[u8],
     number_at: usize,
@@ -728,7 +728,7 @@ fn check_packet(
     Ok(())
 }
 
-// The version in a long header. `None` for a short one.
+/// The version in a long header. `None` for a short one.
 fn header_version(packet: &[u8]) -> Option<u32>
     requires { 5 ≤ length packet.now }
     ensures { result ≡ header_version packet.now }
@@ -740,7 +740,7 @@ fn header_version(packet: &[u8]) -> Option<u32>
     }
 }
 
-// Whether the header is of a type without protection: Version Negotiation or, by the bits of this version, Retry.
+/// Whether the header is of a type without protection: Version Negotiation or, by the bits of this version, Retry.
 fn lacks_protection(version: Version, packet: &[u8]) -> bool
     requires { 5 ≤ length packet.now }
     ensures { result ≡ lacks_protection version packet.now }
@@ -753,7 +753,7 @@ fn lacks_protection(version: Version, packet: &[u8]) -> bool
     is_long(packet[0]) && (is_retry || is_version_negotiation)
 }
 
-// Writes the packet number and the first byte.
+/// Writes the packet number and the first byte.
 fn write_number(packet: &mut [u8], number_at: usize, header_len: usize, number: u64, phase: bool)
     requires after_first { 0 < number_at }
     requires some { number_at < header_len }
@@ -768,7 +768,7 @@ fn write_number(packet: &mut [u8], number_at: usize, header_len: usize, number: 
     packet[0] = first_byte(first, len, phase);
 }
 
-// The first byte of a header with a packet number of this length.
+/// The first byte of a header with a packet number of this length.
 fn first_byte(first: u8, number_len: usize, phase: bool) -> u8
     requires { (0 < number_len) × (number_len ≤ 4) }
     ensures { result ≡ first_byte phase number_len first }

@@ -91,14 +91,14 @@ impl<const W: usize> Space<W> {
         self.next = number + 1;
     }
 
-    // The lowest number that the window reaches.
+    /// The lowest number that the window reaches.
     fn lowest(&self) -> u64
         ensures { result ≡ self.now.next - 64 * length self.now.seen }
     {
         self.next.saturating_sub(WORD * W as u64)
     }
 
-    // The highest number below `below` that was received.
+    /// The highest number below `below` that was received.
     fn last_below(&self, below: u64) -> Option<u64>
         ensures { MatchOption result ((n : ℕ) → n < below → ¬ IsReceived self.now n)
             (λ last. (last < below) × IsReceived self.now last × ((n : ℕ) → last < n → n < below
@@ -115,7 +115,7 @@ impl<const W: usize> Space<W> {
         None
     }
 
-    // The first number of the range of received numbers that has `last`.
+    /// The first number of the range of received numbers that has `last`.
     fn first_of(&self, last: u64) -> u64
         requires { IsReceived self.now last }
         ensures within { result ≤ last }
@@ -167,7 +167,7 @@ impl<'a, const W: usize> Iterator for Ranges<'a, W> {
     }
 }
 
-// The word with the bit of a number.
+/// The word with the bit of a number.
 fn word_of(words: usize, number: u64) -> usize
     requires { 0 < words }
     ensures is { result ≡ number / 64 % words }
@@ -176,7 +176,7 @@ fn word_of(words: usize, number: u64) -> usize
     (number / WORD) as usize % words
 }
 
-// Whether the bit of a number is set.
+/// Whether the bit of a number is set.
 fn is_set(seen: &[u64], number: u64) -> bool
     requires { 0 < length seen.now }
     ensures { IsTrue result ↔ (bit_of seen.now number ≡ 1) }
@@ -184,7 +184,7 @@ fn is_set(seen: &[u64], number: u64) -> bool
     (seen[word_of(seen.len(), number)] >> (number % WORD)) & 1 == 1
 }
 
-// Sets the bit of a number.
+/// Sets the bit of a number.
 fn set(seen: &mut [u64], number: u64)
     requires { 0 < length seen.old }
     ensures here { bit_of seen.new number ≡ 1 }
@@ -194,7 +194,7 @@ fn set(seen: &mut [u64], number: u64)
     seen[word] |= 1 << (number % WORD);
 }
 
-// Clears the bit of a number.
+/// Clears the bit of a number.
 fn clear_one(seen: &mut [u64], number: u64)
     requires { 0 < length seen.old }
     ensures here { bit_of seen.new number ≡ 0 }
@@ -204,7 +204,7 @@ fn clear_one(seen: &mut [u64], number: u64)
     seen[word] &= !(1 << (number % WORD));
 }
 
-// Clears the bits of the numbers from `from` up to `to`.
+/// Clears the bits of the numbers from `from` up to `to`.
 fn clear(seen: &mut [u64], from: u64, to: u64)
     requires some { 0 < length seen.old }
     requires ordered { from ≤ to }
