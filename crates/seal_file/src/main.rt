@@ -327,12 +327,12 @@ fn pass_stream<R: Read + Drop, W: Write>(
     let passed = match (conversion.action, conversion.range) {
         (Action::Seal, _) => {
             let random = at(Place::Random, FileRandom::draw(rt))?;
-            seal_under(rt.alloc(), secret, random, aad, &mut source, output)
+            seal_stream(rt.alloc(), secret, random, aad, &mut source, output)
         }
-        (Action::Open, None) => open_under(rt.alloc(), secret, aad, &mut source, output),
+        (Action::Open, None) => open_stream(rt.alloc(), secret, aad, &mut source, output),
         (Action::Open, Some(range)) => {
             let mut part = RangeWriter::new(output, range);
-            open_under(rt.alloc(), secret, aad, &mut source, &mut part)
+            open_stream(rt.alloc(), secret, aad, &mut source, &mut part)
         }
     };
     source.end();
@@ -346,7 +346,7 @@ fn pass_stream<R: Read + Drop, W: Write>(
 }
 
 /// Seals the bytes of `input`, with the iterations that passphrases have.
-fn seal_under<R: Read, W: Write>(
+fn seal_stream<R: Read, W: Write>(
     alloc: Global,
     secret: &Secret,
     random: FileRandom,
@@ -365,7 +365,7 @@ fn seal_under<R: Read, W: Write>(
 }
 
 /// Opens the sealed file in `input`.
-fn open_under<R: Read, W: Write>(
+fn open_stream<R: Read, W: Write>(
     alloc: Global,
     secret: &Secret,
     aad: &[u8],

@@ -1,8 +1,8 @@
 //! Deriving the key of a file: CMAC over AES-256 in counter mode, as in XAES-256-GCM.
 
-ghost use Rattle.std.specs.Prelude.{◌≡◌, ◌+◌, ◌++◌, ◌<◌};
+ghost use Rattle.std.specs.Prelude.{◌≡◌, ◌++◌};
 ghost use Rattle.aead_ciphers_base.specs.Aes.{aes};
-ghost use Rattle.sealed_file.specs.Derivation.{cmac_of_block, derived_block, first_subkey};
+ghost use Rattle.sealed_file.specs.Derivation.{cmac_of_block, commitment, derived_block, derived_key, first_subkey};
 
 use crate::header::{Context, put};
 use aead_ciphers_base::aes::{
@@ -59,22 +59,32 @@ fn joined(first: &Block, second: &Block) -> [u8; AES_256_KEY_LEN]
     bytes
 }
 
-/// This iteration of the derivation and the next one: 32 bytes.
-pub(crate) fn derived_pair(
-    key: &[u8; AES_256_KEY_LEN],
-    context: &Context,
-    iteration: u16,
-) -> [u8; AES_256_KEY_LEN]
-    requires { iteration < 16 }
-    ensures { result ≡ derived_block key.now context.now iteration
-        ++ derived_block key.now context.now (iteration + 1) }
+/// The AES-256 key that derives the keys of files from this one.
+pub(crate) fn cipher_of_key(key: &[u8; AES_256_KEY_LEN]) -> aes::Key
+    ensures { result ≡ key.now }
 {
-    let cipher = match aes::Key::new(KeyBytes::AES_256(key)) {
+    match aes::Key::new(KeyBytes::AES_256(key)) {
         Ok(cipher) => cipher,
         Err(_) => unreachable!(),
-    };
+    }
+}
+
+/// The key of the files with this context, by iterations 1 and 2.
+pub(crate) fn derived_key(cipher: &aes::Key, context: &Context) -> [u8; AES_256_KEY_LEN]
+    ensures { result ≡ derived_key cipher.now context.now }
+{
     joined(
-        &derived_block(&cipher, context, iteration),
-        &derived_block(&cipher, context, iteration + 1),
+        &derived_block(cipher, context, 1),
+        &derived_block(cipher, context, 2),
+    )
+}
+
+/// The commitment in the headers of these files, by iterations 3 and 4.
+pub(crate) fn commitment(cipher: &aes::Key, context: &Context) -> [u8; AES_256_KEY_LEN]
+    ensures { result ≡ commitment cipher.now context.now }
+{
+    joined(
+        &derived_block(cipher, context, 3),
+        &derived_block(cipher, context, 4),
     )
 }

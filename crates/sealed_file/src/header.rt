@@ -6,6 +6,7 @@ ghost use Rattle.sealed_file.specs.Opening.{HasHeader, chunk_key, header_of};
 ghost use Rattle.sealed_file.specs.Refusals.{HeaderRefuses, IsVersion};
 
 use crate::aad::ChunkAad;
+use crate::derivation::{commitment, derived_key};
 use crate::error::FileError;
 use crate::key::FileKey;
 use crate::random::FileRandom;
@@ -96,9 +97,10 @@ impl ChunkCipher {
     {
         let random = random.as_bytes();
         let context = context_of(random);
-        let header = header_with(version, random, &key.commitment(&context));
+        let cipher = key.cipher();
+        let header = header_with(version, random, &commitment(&cipher, &context));
         ChunkCipher {
-            key: aead_key(&key.derived_key(&context)),
+            key: aead_key(&derived_key(&cipher, &context)),
             prefix: prefix_of(random),
             header,
             aad: ChunkAad::new(&header, aad),
@@ -159,7 +161,7 @@ fn header_with(
 }
 
 /// The header of a file that begins with these bytes, or the part of it that they hold.
-pub(crate) fn header_of(file: &[u8]) -> &[u8]
+pub(crate) fn read_header(file: &[u8]) -> &[u8]
     ensures { result.now ≡ header_of file.now }
 {
     if file.len() < HEADER_LEN {
@@ -204,38 +206,14 @@ pub fn check_header(file: &[u8]) -> Result<(), FileError>
     ensures refused { (key aad : List ℕ) → IfErr result (λ error.
         HeaderRefuses (secret key aad) (header_of file.now) error) }
 {
-    match check_front(VERSION, header_of(file)) {
+    match check_front(VERSION, read_header(file)) {
         Ok(()) if file.len() < HEADER_LEN => Err(FileError::EndsEarly),
         checked => checked,
     }
 }
 
-/// The key of the chunks after a header that begins as one of this version. The whole header is compared with the one that
-/// the key defines for its random bytes.
-fn whole_cipher_in(
-    version: u8,
-    key: &FileKey,
-    aad: &[u8],
-    header: &[u8],
-) -> Result<ChunkCipher, FileError>
-    requires front { IsVersion version header.now }
-    requires most { length header.now ≤ 60 }
-    requires aad { length aad.now ≤ 4100 }
-    ensures accepted { IsOk result ↔ HasHeader (secret_of version key.now aad.now) header.now }
-    ensures cipher { IfOk result (λ cipher. cipher ≡ chunk_key (secret_of version key.now aad.now) header.now) }
-    ensures refused { IfErr result (λ error. HeaderRefuses (secret_of version key.now aad.now) header.now error) }
-{
-    let Some(header) = header.as_array::<HEADER_LEN>() else {
-        return Err(FileError::EndsEarly);
-    };
-    let cipher = ChunkCipher::new(version, key, aad, &random_in(header));
-    match bb::verify_slices_are_equal(header, cipher.header()) {
-        Ok(()) => Ok(cipher),
-        Err(_) => Err(FileError::WrongKey),
-    }
-}
-
-/// The key of the chunks after this header, if it is one of this version. `aad` is the AAD after it.
+/// The key of the chunks after this header, if it is one of this version. `aad` is the AAD after it. The whole header is
+/// compared with the one that the key defines for its random bytes.
 fn cipher_in(
     version: u8,
     key: &FileKey,
@@ -248,9 +226,14 @@ fn cipher_in(
     ensures cipher { IfOk result (λ cipher. cipher ≡ chunk_key (secret_of version key.now aad.now) header.now) }
     ensures refused { IfErr result (λ error. HeaderRefuses (secret_of version key.now aad.now) header.now error) }
 {
-    match check_front(version, header) {
-        Ok(()) => whole_cipher_in(version, key, aad, header),
-        Err(error) => Err(error),
+    check_front(version, header)?;
+    let Some(header) = header.as_array::<HEADER_LEN>() else {
+        return Err(FileError::EndsEarly);
+    };
+    let cipher = ChunkCipher::new(version, key, aad, &random_in(header));
+    match bb::verify_slices_are_equal(header, cipher.header()) {
+        Ok(()) => Ok(cipher),
+        Err(_) => Err(FileError::WrongKey),
     }
 }
 
@@ -266,5 +249,5 @@ pub(crate) fn cipher_of(
     ensures cipher { IfOk result (λ cipher. cipher ≡ chunk_key (secret_of version key.now aad.now) (header_of file.now)) }
     ensures refused { IfErr result (λ error. HeaderRefuses (secret_of version key.now aad.now) (header_of file.now) error) }
 {
-    cipher_in(version, key, aad, header_of(file))
+    cipher_in(version, key, aad, read_header(file))
 }

@@ -2,10 +2,11 @@
 
 ghost use Rattle.std.specs.Prelude.{[], ◌≡◌, ◌↔◌, length, IsOk, IsTrue, IfOk, IfErr};
 
-use crate::derivation::derived_pair;
+use crate::derivation::{cipher_of_key, commitment, derived_key};
 use crate::error::FileError;
 use crate::header::{Context, VERSION, cipher_of};
 use aead_ciphers_base::aes::AES_256_KEY_LEN;
+use aead_ciphers_wide::aes;
 use std::marker::Model;
 
 /// A key of 32 bytes. The key of each file is derived from it.
@@ -41,12 +42,19 @@ impl FileKey {
         }
     }
 
+    /// The AES-256 key that derives the keys of files.
+    pub(crate) fn cipher(&self) -> aes::Key
+        ensures { result ≡ self.now }
+    {
+        cipher_of_key(&self.bytes)
+    }
+
     /// Returns the AES-256-GCM key of the files whose random bytes begin with this context. It is the key that
     /// XAES-256-GCM derives for a nonce that begins with the context.
     pub fn derived_key(&self, context: &Context) -> [u8; AES_256_KEY_LEN]
         ensures { result ≡ derived_key self.now context.now }
     {
-        derived_pair(&self.bytes, context, 1)
+        derived_key(&self.cipher(), context)
     }
 
     /// Returns whether the file that begins with these bytes has the header that is defined for this key: its commitment is that of
@@ -61,6 +69,6 @@ impl FileKey {
     pub fn commitment(&self, context: &Context) -> [u8; AES_256_KEY_LEN]
         ensures { result ≡ commitment self.now context.now }
     {
-        derived_pair(&self.bytes, context, 3)
+        commitment(&self.cipher(), context)
     }
 }

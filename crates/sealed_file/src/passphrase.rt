@@ -9,7 +9,7 @@ ghost use Rattle.sealed_file.specs.Refusals.{IsVersion, SealRefuses};
 ghost use Rattle.sealed_file.specs.Streams.{AppendsBeginning, AppendsRight};
 
 use crate::error::FileError;
-use crate::header::{ChunkCipher, FRONT_LEN, HEADER_LEN, RANDOM_LEN, check_front, header_of};
+use crate::header::{ChunkCipher, FRONT_LEN, HEADER_LEN, RANDOM_LEN, check_front, read_header};
 use crate::key::FileKey;
 use crate::opening::open_version;
 use crate::random::FileRandom;
@@ -107,7 +107,7 @@ pub fn iterations_in(file: &[u8]) -> Result<u32, FileError>
     ensures refused { (passphrase aad : List ℕ) → IfErr result (λ error.
         FrontRefuses passphrase aad file.now error) }
 {
-    check_front(PASSPHRASE_VERSION, header_of(file))?;
+    check_front(PASSPHRASE_VERSION, read_header(file))?;
     if file.len() < PASSPHRASE_HEADER_LEN {
         return Err(FileError::EndsEarly);
     }
@@ -176,7 +176,7 @@ pub fn open_with_passphrase<R: Read, W: Write>(
     read_piece(input, PASSPHRASE_HEADER_LEN, &mut header)?;
     let iterations = iterations_in(&header)?;
     let unlocked = unlock(alloc, passphrase, aad, &header, iterations)?;
-    let mut core = header_of(&header).chain(input);
+    let mut core = read_header(&header).chain(input);
     open_version(
         alloc,
         PASSPHRASE_VERSION,

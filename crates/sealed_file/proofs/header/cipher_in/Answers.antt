@@ -1,16 +1,31 @@
 use Rattle.std.proofs.Common.{◌≡◌, ◌<◌, false, true, inr, length, take, drop, refl, sym, ap, ◌∙◌, arith}
+use Rattle.std.proofs.lemmas.Result.{err_from_is_err_and}
 use Rattle.sealed_file.specs.declared.error.FileError.TheVariants.{EndsEarly}
 use Rattle.sealed_file.specs.Format.{ChunkKey, secret_of, fresh_key}
 use Rattle.sealed_file.proofs
 use proofs.HeaderLemmas.{another_key, refused_is_none}
-use proofs.header.whole_cipher_in.Goals as goal
+use proofs.header.cipher_in.Goals as goal
+
+pub returns-in_err-check_front-clause-accepted : goal.returns-in_err-check_front-clause-accepted
+returns-in_err-check_front-clause-accepted c =
+    let p = err_from_is_err_and c.from_residual.result c.from_residual.ensures.1 in
+    let s = secret_of c.args.version c.args.key.now c.args.aad.now in
+    rw p.1 (
+      λ e. cc,
+      λ has. absurd (refused_is_none s c.args.header.now _ (c.in_err-check_front.ensures.refused s refl) has),
+    )
+
+pub returns-in_err-check_front-clause-refused : goal.returns-in_err-check_front-clause-refused
+returns-in_err-check_front-clause-refused c =
+    let p = err_from_is_err_and c.from_residual.result c.from_residual.ensures.1 in
+    rw (p.1, p.2) (c.in_err-check_front.ensures.refused (secret_of c.args.version c.args.key.now c.args.aad.now) refl)
 
 pub returns-in_default-clause-accepted : goal.returns-in_default-clause-accepted
 returns-in_default-clause-accepted c = (
   λ e. cc,
   λ has.
-      let short : length c.args.header.now < 60 = omega (arith, c.requires.most, c.in_default.ensures.cases) in
-      absurd (refused_is_none (secret_of c.args.version c.args.key.now c.args.aad.now) c.args.header.now EndsEarly (inr (c.requires.front, short)) has),
+      let short : length c.args.header.now < 60 = omega (arith, c.requires.header, c.in_default.ensures.cases) in
+      absurd (refused_is_none (secret_of c.args.version c.args.key.now c.args.aad.now) c.args.header.now EndsEarly (inr (c.in_ok-check_front.ensures.front refl, short)) has),
 )
 
 pub returns-in-Ok-clause-accepted : goal.returns-in-Ok-clause-accepted
@@ -42,7 +57,7 @@ returns-in-Err-clause-refused c =
     let whole = c.in-Some.ensures.cases.same in
     let cipher_is = c.new-cipher.ensures.made ∙ ap (fresh_key (secret_of c.args.version c.args.key.now c.args.aad.now))
     (c.random_in.ensures ∙ ap (λ l. take 19 (drop 9 l)) whole) in
-    another_key (secret_of c.args.version c.args.key.now c.args.aad.now) c.args.header.now c.requires.front (c.in-Some.ensures.variant.0 refl)
+    another_key (secret_of c.args.version c.args.key.now c.args.aad.now) c.args.header.now (c.in_ok-check_front.ensures.front refl) (c.in-Some.ensures.variant.0 refl)
     (λ made.
     let accepted : false ≡ true = c.in-Err.ensures.1 (whole ∙ made
     ∙ sym (ap (λ (k : ChunkKey). k.header) cipher_is) ∙ sym c.header.ensures.bytes) in
