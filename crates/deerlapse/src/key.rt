@@ -4,6 +4,7 @@ ghost use Rattle.std.specs.Prelude.{◌≡◌, ◌-◌, ◌↔◌, length, IsTru
 ghost use Rattle.aead_ciphers_base.specs.Aes.{aes};
 ghost use Rattle.aead_ciphers_wide.specs.ExpandedKey.{bytes_of, zero_key};
 ghost use Rattle.aead_ciphers.specs.Gcm.{Fits, gcm_encrypted, gcm_tag, Opened, OpenedAttached};
+ghost use Rattle.aead_ciphers_wide.specs.Width.{width_bits};
 ghost use Rattle.deerlapse.specs.AesKey.{ExpandsKey, HasRounds, IsKeyOrNone};
 
 use aead_ciphers::aead::{Aad, MAX_TAG_LEN, NONCE_LEN, Nonce, Tag, Unspecified};
@@ -28,7 +29,7 @@ pub(crate) fn has_rounds(key: &ExpandedKey) -> bool
 /// Returns false if `bytes` does not have 16 or 32 bytes, and every byte of `key` is then zero.
 #[unsafe(no_mangle)]
 pub extern "C" fn deerlapse_key_init(key: &mut ExpandedKey, bytes: &[u8]) -> bool
-    ensures { ExpandsKey bytes.now result key.new }
+    ensures { ExpandsKey 128 bytes.now result key.new }
 {
     expand(key, bytes, Width::Bits128)
 }
@@ -36,14 +37,14 @@ pub extern "C" fn deerlapse_key_init(key: &mut ExpandedKey, bytes: &[u8]) -> boo
 /// Does the same as `deerlapse_key_init`, for batches of sixteen blocks on planes of 256 bits.
 #[unsafe(no_mangle)]
 pub extern "C" fn deerlapse_key_init_256(key: &mut ExpandedKey, bytes: &[u8]) -> bool
-    ensures { ExpandsKey bytes.now result key.new }
+    ensures { ExpandsKey 256 bytes.now result key.new }
 {
     expand(key, bytes, Width::Bits256)
 }
 
 /// Expands a key whose batches take planes of this width.
 pub(crate) fn expand(key: &mut ExpandedKey, bytes: &[u8], width: Width) -> bool
-    ensures { ExpandsKey bytes.now result key.new }
+    ensures { ExpandsKey (width_bits width) bytes.now result key.new }
 {
     match KeyBytes::from_slice(bytes) {
         Ok(bytes) => {

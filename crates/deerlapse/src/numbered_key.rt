@@ -2,6 +2,7 @@
 
 ghost use Rattle.std.specs.Prelude.{◌≡◌};
 ghost use Rattle.aead_ciphers.specs.Counting.{xored_nonce};
+ghost use Rattle.aead_ciphers_wide.specs.Width.{width_bits};
 ghost use Rattle.deerlapse.specs.NumberedKey.{InitializesNumberedKey, zero_numbered_key};
 
 use crate::key::deerlapse_key_wipe;
@@ -44,7 +45,7 @@ pub(crate) fn fill(
     limit: u64,
     width: Width,
 ) -> bool
-    ensures { InitializesNumberedKey key.now iv.now first limit numbered.old result numbered.new }
+    ensures { InitializesNumberedKey (width_bits width) key.now iv.now first limit numbered.old result numbered.new }
 {
     let Ok(key) = KeyBytes::from_slice(key) else {
         return false

@@ -23,7 +23,7 @@ pub extern "C" fn deerlapse_opener_init(
     first: u64,
     limit: u64,
 ) -> bool
-    ensures { InitializesNumberedKey key.now iv.now first limit opener.old result opener.new }
+    ensures { InitializesNumberedKey 128 key.now iv.now first limit opener.old result opener.new }
 {
     fill(opener, key, iv, first, limit, Width::Bits128)
 }
@@ -37,7 +37,7 @@ pub extern "C" fn deerlapse_opener_init_256(
     first: u64,
     limit: u64,
 ) -> bool
-    ensures { InitializesNumberedKey key.now iv.now first limit opener.old result opener.new }
+    ensures { InitializesNumberedKey 256 key.now iv.now first limit opener.old result opener.new }
 {
     fill(opener, key, iv, first, limit, Width::Bits256)
 }

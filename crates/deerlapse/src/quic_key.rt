@@ -5,6 +5,7 @@ ghost use Rattle.aead_ciphers_base.specs.Aes.{aes};
 ghost use Rattle.aead_ciphers.specs.Counting.{xored_nonce};
 ghost use Rattle.aead_ciphers.specs.Gcm.{Fits, gcm_encrypted, gcm_tag, OpenedAttached};
 ghost use Rattle.aead_ciphers_wide.specs.ExpandedKey.{bytes_of};
+ghost use Rattle.aead_ciphers_wide.specs.Width.{width_bits};
 ghost use Rattle.key_derivation.specs.Quic.{client_initial_secret, next_quic_secret, numbered_version, server_initial_secret};
 ghost use Rattle.deerlapse.specs.AesKey.{HasRounds, IsKeyOrNone};
 ghost use Rattle.deerlapse.specs.TrafficKey.{DerivesQuicKey, InitializesTrafficKey, IsDigestLen, IsHeaderKey, IsPacketKey, quic_secret_of, zero_traffic_key};
@@ -29,7 +30,7 @@ pub extern "C" fn deerlapse_quic_key_init(
     bytes: &[u8],
     iv: &[u8; NONCE_LEN],
 ) -> bool
-    ensures { InitializesTrafficKey bytes.now iv.now key.old result key.new }
+    ensures { InitializesTrafficKey 128 bytes.now iv.now key.old result key.new }
 {
     fill(key, bytes, iv, Width::Bits128)
 }
@@ -41,7 +42,7 @@ pub extern "C" fn deerlapse_quic_key_init_256(
     bytes: &[u8],
     iv: &[u8; NONCE_LEN],
 ) -> bool
-    ensures { InitializesTrafficKey bytes.now iv.now key.old result key.new }
+    ensures { InitializesTrafficKey 256 bytes.now iv.now key.old result key.new }
 {
     fill(key, bytes, iv, Width::Bits256)
 }
@@ -55,7 +56,7 @@ pub extern "C" fn deerlapse_quic_key_from_secret(
     version: u32,
     secret: &[u8],
 ) -> bool
-    ensures { DerivesQuicKey IsPacketKey version secret.now key.old result key.new }
+    ensures { DerivesQuicKey (IsPacketKey 128) version secret.now key.old result key.new }
 {
     fill_from_secret(key, version, secret, Width::Bits128)
 }
@@ -67,14 +68,14 @@ pub extern "C" fn deerlapse_quic_key_from_secret_256(
     version: u32,
     secret: &[u8],
 ) -> bool
-    ensures { DerivesQuicKey IsPacketKey version secret.now key.old result key.new }
+    ensures { DerivesQuicKey (IsPacketKey 256) version secret.now key.old result key.new }
 {
     fill_from_secret(key, version, secret, Width::Bits256)
 }
 
 /// Initializes the key and the IV of a secret, for planes of this width.
 fn fill_from_secret(key: &mut TrafficKey, version: u32, secret: &[u8], width: Width) -> bool
-    ensures { DerivesQuicKey IsPacketKey version secret.now key.old result key.new }
+    ensures { DerivesQuicKey (IsPacketKey (width_bits width)) version secret.now key.old result key.new }
 {
     let Some(version) = Version::from_number(version) else {
         return false
@@ -95,7 +96,7 @@ pub extern "C" fn deerlapse_quic_header_key_from_secret(
     version: u32,
     secret: &[u8],
 ) -> bool
-    ensures { DerivesQuicKey IsHeaderKey version secret.now key.old result key.new }
+    ensures { DerivesQuicKey (IsHeaderKey 128) version secret.now key.old result key.new }
 {
     expand_header_key(key, version, secret, Width::Bits128)
 }
@@ -107,14 +108,14 @@ pub extern "C" fn deerlapse_quic_header_key_from_secret_256(
     version: u32,
     secret: &[u8],
 ) -> bool
-    ensures { DerivesQuicKey IsHeaderKey version secret.now key.old result key.new }
+    ensures { DerivesQuicKey (IsHeaderKey 256) version secret.now key.old result key.new }
 {
     expand_header_key(key, version, secret, Width::Bits256)
 }
 
 /// Expands the header key of a secret, for planes of this width.
 fn expand_header_key(key: &mut ExpandedKey, version: u32, secret: &[u8], width: Width) -> bool
-    ensures { DerivesQuicKey IsHeaderKey version secret.now key.old result key.new }
+    ensures { DerivesQuicKey (IsHeaderKey (width_bits width)) version secret.now key.old result key.new }
 {
     let Some(version) = Version::from_number(version) else {
         return false

@@ -5,6 +5,7 @@ ghost use Rattle.aead_ciphers_base.specs.Aes.{aes};
 ghost use Rattle.aead_ciphers.specs.Counting.{xored_nonce};
 ghost use Rattle.aead_ciphers.specs.Gcm.{gcm_sealed, OpenedAttached};
 ghost use Rattle.aead_ciphers_wide.specs.ExpandedKey.{bytes_of};
+ghost use Rattle.aead_ciphers_wide.specs.Width.{width_bits};
 ghost use Rattle.key_derivation.specs.Tls.{next_traffic_secret};
 ghost use Rattle.records.specs.Record.{header, plaintext};
 ghost use Rattle.deerlapse.specs.AesKey.{HasRounds, IsKeyOrNone};
@@ -25,7 +26,7 @@ pub extern "C" fn deerlapse_record_key_init(
     bytes: &[u8],
     iv: &[u8; NONCE_LEN],
 ) -> bool
-    ensures { InitializesTrafficKey bytes.now iv.now key.old result key.new }
+    ensures { InitializesTrafficKey 128 bytes.now iv.now key.old result key.new }
 {
     fill(key, bytes, iv, Width::Bits128)
 }
@@ -37,7 +38,7 @@ pub extern "C" fn deerlapse_record_key_init_256(
     bytes: &[u8],
     iv: &[u8; NONCE_LEN],
 ) -> bool
-    ensures { InitializesTrafficKey bytes.now iv.now key.old result key.new }
+    ensures { InitializesTrafficKey 256 bytes.now iv.now key.old result key.new }
 {
     fill(key, bytes, iv, Width::Bits256)
 }
@@ -47,7 +48,7 @@ pub extern "C" fn deerlapse_record_key_init_256(
 /// Returns false if the secret does not have 32 or 48 bytes.
 #[unsafe(no_mangle)]
 pub extern "C" fn deerlapse_record_key_from_secret(key: &mut TrafficKey, secret: &[u8]) -> bool
-    ensures { DerivesRecordKey secret.now key.old result key.new }
+    ensures { DerivesRecordKey 128 secret.now key.old result key.new }
 {
     fill_from_secret(key, secret, Width::Bits128)
 }
@@ -55,14 +56,14 @@ pub extern "C" fn deerlapse_record_key_from_secret(key: &mut TrafficKey, secret:
 /// Does the same as `deerlapse_record_key_from_secret`, for batches of sixteen blocks on planes of 256 bits.
 #[unsafe(no_mangle)]
 pub extern "C" fn deerlapse_record_key_from_secret_256(key: &mut TrafficKey, secret: &[u8]) -> bool
-    ensures { DerivesRecordKey secret.now key.old result key.new }
+    ensures { DerivesRecordKey 256 secret.now key.old result key.new }
 {
     fill_from_secret(key, secret, Width::Bits256)
 }
 
 /// Initializes the key and the IV of a secret, for planes of this width.
 fn fill_from_secret(key: &mut TrafficKey, secret: &[u8], width: Width) -> bool
-    ensures { DerivesRecordKey secret.now key.old result key.new }
+    ensures { DerivesRecordKey (width_bits width) secret.now key.old result key.new }
 {
     let Some(secret) = secret_of(secret) else {
         return false

@@ -23,7 +23,7 @@ pub extern "C" fn deerlapse_sealer_init(
     first: u64,
     limit: u64,
 ) -> bool
-    ensures { InitializesNumberedKey key.now iv.now first limit sealer.old result sealer.new }
+    ensures { InitializesNumberedKey 128 key.now iv.now first limit sealer.old result sealer.new }
 {
     fill(sealer, key, iv, first, limit, Width::Bits128)
 }
@@ -37,7 +37,7 @@ pub extern "C" fn deerlapse_sealer_init_256(
     first: u64,
     limit: u64,
 ) -> bool
-    ensures { InitializesNumberedKey key.now iv.now first limit sealer.old result sealer.new }
+    ensures { InitializesNumberedKey 256 key.now iv.now first limit sealer.old result sealer.new }
 {
     fill(sealer, key, iv, first, limit, Width::Bits256)
 }
