@@ -6,7 +6,7 @@ ghost use Rattle.aead_ciphers.specs.Packet.{PacketFits};
 
 use crate::error::PacketError;
 use aead_ciphers::aead::MAX_TAG_LEN;
-use aead_ciphers_wide::aes_gcm::fits;
+use aead_ciphers::gcm::fits;
 
 /// The end of the packet numbers (RFC 9000 section 12.3).
 pub(crate) const NUMBERS_END: u64 = 1 << 62;
