@@ -88,7 +88,7 @@ impl Job {
 ///
 /// # Examples
 ///
-/// Two of five jobs succeed, since the sealing key has two nonces. From `crates/aead_ciphers_tests/src/session.rt`:
+/// Two of five jobs succeed, since the sealing key has two nonces. From `crates/aead_ciphers_tests/src/tests/session.rt`:
 ///
 /// ```
 /// fn refuses_once_the_nonces_are_spent(rt: HostRuntime) -> Result<(), Fail> {

@@ -1,3 +1,4 @@
+-- The bytes of an AES key, of either length.
 use Rattle.std.specs.Prelude.{ℕ, List}
 use Rattle.aead_ciphers_base.specs.declared.aes.KeyBytes.{KeyBytes}
 use Rattle.aead_ciphers_base.specs.declared.aes.KeyBytes.TheVariants.{AES_128, AES_256}

@@ -151,7 +151,7 @@ pub trait EncryptCtr32: EncryptBlock {
 ///
 /// # Examples
 ///
-/// From `crates/aead_ciphers_base_tests/src/aes.rt`:
+/// From `crates/aead_ciphers_base_tests/src/tests/aes.rt`:
 ///
 /// ```
 /// fn expanded(key: &[u8]) -> Result<Key, Fail> {

@@ -167,7 +167,7 @@ impl Key {
     ///
     /// # Examples
     ///
-    /// From `crates/aead_ciphers_tests/src/examples/streams.rt`:
+    /// From `crates/aead_ciphers_tests/src/tests/examples/streams.rt`:
     ///
     /// ```
     /// pub fn xor_stream(key: [u8; chacha::KEY_LEN], nonce: [u8; NONCE_LEN], message: &mut [u8])

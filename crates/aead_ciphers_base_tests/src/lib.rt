@@ -3,22 +3,4 @@
 #![tactic(auto)]
 
 #[cfg(test)]
-mod aes;
-#[cfg(test)]
-mod bb;
-#[cfg(test)]
-mod chacha;
-#[cfg(test)]
-mod checks;
-#[cfg(test)]
-mod chunks;
-#[cfg(test)]
-mod errors;
-#[cfg(test)]
-mod items;
-#[cfg(test)]
-mod overlapping;
-#[cfg(test)]
-mod values;
-#[cfg(test)]
-mod words;
+mod tests;

@@ -1,5 +1,5 @@
-//! AES-GCM (SP 800-38D) and header masks (RFC 9001 section 5.4.3): AES on eight blocks a pass and on few blocks by byte permutes,
-//! and GHASH by byte permutes.
+//! AES-GCM (SP 800-38D) and header masks (RFC 9001 section 5.4.3): AES on eight or sixteen blocks a pass, and on few blocks by
+//! byte permutes, and GHASH by byte permutes.
 //!
 //! Read `aead` first, whose keys have calls of the keys of `aead_ciphers::aead`. `aes_gcm` has their expanded key, and
 //! `aes` and `gcm` implement the traits that `aead_ciphers::aes_gcm` seals and opens by.

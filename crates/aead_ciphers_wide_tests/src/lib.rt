@@ -3,18 +3,4 @@
 #![tactic(auto)]
 
 #[cfg(test)]
-mod aead;
-#[cfg(test)]
-mod aes;
-#[cfg(test)]
-mod both_keys;
-#[cfg(test)]
-mod checks;
-#[cfg(test)]
-mod example_callers;
-#[cfg(test)]
-mod examples;
-#[cfg(test)]
-mod gcm;
-#[cfg(test)]
-mod quic;
+mod tests;

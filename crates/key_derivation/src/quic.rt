@@ -118,7 +118,7 @@ impl Version {
 ///
 /// # Examples
 ///
-/// The keys of a client's Initial packets. From `crates/quic_packets_tests/src/examples/initial_keys.rt`:
+/// The keys of a client's Initial packets. From `crates/quic_packets_tests/src/tests/examples/initial_keys.rt`:
 ///
 /// ```
 /// Ok(QuicSecret::client_initial(version, id)?.keys())

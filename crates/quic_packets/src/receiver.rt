@@ -49,7 +49,7 @@ pub struct Received {
 ///
 /// # Examples
 ///
-/// Receives the first packet of a datagram. From `crates/quic_packets_tests/src/example.rt`:
+/// Receives the first packet of a datagram. From `crates/quic_packets_tests/src/tests/example.rt`:
 ///
 /// ```
 /// let secret = QuicSecret::new(Version::One, Secret::aes_128_gcm(SECRET));

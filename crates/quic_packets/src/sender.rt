@@ -38,7 +38,7 @@ pub const CONFIDENTIALITY_LIMIT: u64 = 1 << 23;
 ///
 /// # Examples
 ///
-/// Sends a packet with a short header. From `crates/quic_packets_tests/src/example.rt`:
+/// Sends a packet with a short header. From `crates/quic_packets_tests/src/tests/example.rt`:
 ///
 /// ```
 /// fn send(alloc: Global, sender: &mut Sender, payload: &[u8]) -> Result<Vec<u8>, Fail> {

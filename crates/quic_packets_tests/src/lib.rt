@@ -3,34 +3,4 @@
 #![tactic(auto)]
 
 #[cfg(test)]
-mod checks;
-#[cfg(test)]
-mod connection;
-#[cfg(test)]
-mod datagram;
-#[cfg(test)]
-mod error;
-#[cfg(test)]
-mod example;
-#[cfg(test)]
-mod examples;
-#[cfg(test)]
-mod first_packets;
-#[cfg(test)]
-mod header_writer;
-#[cfg(test)]
-mod keys;
-#[cfg(test)]
-mod numbers;
-#[cfg(test)]
-mod receiver;
-#[cfg(test)]
-mod retry;
-#[cfg(test)]
-mod rfc_9369;
-#[cfg(test)]
-mod rows;
-#[cfg(test)]
-mod secrets;
-#[cfg(test)]
-mod sender;
+mod tests;

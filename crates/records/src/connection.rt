@@ -59,7 +59,7 @@ impl KeyUpdateRequest {
 ///
 /// # Examples
 ///
-/// Sends back what is received. From `crates/records_tests/src/sending.rt`:
+/// Sends back what is received. From `crates/records_tests/src/tests/sending.rt`:
 ///
 /// ```
 /// let mut received = Received::new(alloc);

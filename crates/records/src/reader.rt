@@ -21,11 +21,11 @@ const MAX_RECORDS: u64 = u64::MAX;
 /// Reads records, each under the next number, over key updates.
 ///
 /// It cannot be cloned, and does not expose its key. An error that calls for an alert ends the connection (RFC 8446 section
-/// 6.2) and closes the reader: every later call returns `Closed`.
+/// 6.2) and closes the reader: every later call that can fail returns `Closed`.
 ///
 /// # Examples
 ///
-/// Reads a record, and writes it again. From `crates/records_tests/src/connection.rt`:
+/// Reads a record, and writes it again. From `crates/records_tests/src/tests/connection.rt`:
 ///
 /// ```
 /// let mut bytes = record.to_vec(alloc)?;

@@ -39,7 +39,7 @@ pub enum Begins {
 ///
 /// # Examples
 ///
-/// Opens a protected record, and drops a ChangeCipherSpec. From `crates/records_tests/src/examples/record_stream.rt`:
+/// Opens a protected record, and drops a ChangeCipherSpec. From `crates/records_tests/src/tests/examples/record_stream.rt`:
 ///
 /// ```
 /// match classify(bytes)? {

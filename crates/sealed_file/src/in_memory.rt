@@ -84,7 +84,7 @@ fn append_sealed(cipher: &ChunkCipher, number: u32, is_last: bool, chunk: &[u8],
 ///
 /// # Examples
 ///
-/// Seals files, and opens them again. From `crates/sealed_file_tests/src/sealed_files.rt`:
+/// Seals files, and opens them again. From `crates/sealed_file_tests/src/tests/sealed_files.rt`:
 ///
 /// ```
 /// let key = FileKey::new(&KEY)?;

@@ -29,7 +29,7 @@ use std::mem;
 ///
 /// # Examples
 ///
-/// Opens the sealed file in the slice `sealed`. From `crates/sealed_file_tests/src/sealed_files.rt`:
+/// Opens the sealed file in the slice `sealed`. From `crates/sealed_file_tests/src/tests/sealed_files.rt`:
 ///
 /// ```
 /// let mut opened = Vec::new(alloc);

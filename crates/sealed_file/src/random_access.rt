@@ -53,7 +53,7 @@ fn append_chunk_at(
 ///
 /// # Examples
 ///
-/// Opens the chunks of a sealed file one by one. From `crates/sealed_file_tests/src/sealed_files.rt`:
+/// Opens the chunks of a sealed file one by one. From `crates/sealed_file_tests/src/tests/sealed_files.rt`:
 ///
 /// ```
 /// let body = sealed.get(HEADER_LEN..).ok_or("a body")?;

@@ -14,7 +14,7 @@ use std::os::unix::fs::FileExt;
 ///
 /// # Examples
 ///
-/// An input that counts its calls. From `crates/sealed_file_tests/src/reader.rt`:
+/// An input that counts its calls. From `crates/sealed_file_tests/src/tests/reader.rt`:
 ///
 /// ```
 /// impl ReadAt for FailingInput<'_> {

@@ -32,7 +32,7 @@ struct Layout {
 ///
 /// # Examples
 ///
-/// Reads the file that begins at byte 6 of `input`. From `crates/sealed_file_tests/src/reader.rt`:
+/// Reads the file that begins at byte 6 of `input`. From `crates/sealed_file_tests/src/tests/reader.rt`:
 ///
 /// ```
 /// let mut reader = SealedReader::new(rt.alloc(), &key, &[], Cursor::new(input.as_slice()), 6)?;

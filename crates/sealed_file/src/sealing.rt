@@ -25,7 +25,7 @@ use std::mem;
 ///
 /// # Examples
 ///
-/// From `crates/sealed_file_tests/src/sealed_files.rt`:
+/// From `crates/sealed_file_tests/src/tests/sealed_files.rt`:
 ///
 /// ```
 /// fn sealed_of(alloc: Global, len: usize) -> Result<Vec<u8>, Fail> {

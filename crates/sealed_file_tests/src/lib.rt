@@ -3,14 +3,4 @@
 #![tactic(auto)]
 
 #[cfg(test)]
-mod checks;
-#[cfg(test)]
-mod example_callers;
-#[cfg(test)]
-mod examples;
-#[cfg(test)]
-mod passphrase;
-#[cfg(test)]
-mod reader;
-#[cfg(test)]
-mod sealed_files;
+mod tests;

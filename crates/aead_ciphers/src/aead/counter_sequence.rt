@@ -12,7 +12,7 @@ use std::marker::Model;
 /// # Examples
 ///
 /// `gives` asserts the next nonce, or with `None` that none is left.
-/// From `crates/aead_ciphers_tests/src/sequences.rt`:
+/// From `crates/aead_ciphers_tests/src/tests/sequences.rt`:
 ///
 /// ```
 /// let mut sequence = CounterSequence::new([1, 2, 3, 4], 0x05060708090a0bff, 2)?;

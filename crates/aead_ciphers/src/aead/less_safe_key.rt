@@ -25,7 +25,7 @@ use std::ops::RangeFrom;
 ///
 /// # Examples
 ///
-/// From `crates/aead_ciphers_tests/src/examples/one_message.rt`:
+/// From `crates/aead_ciphers_tests/src/tests/examples/one_message.rt`:
 ///
 /// ```
 /// pub fn seal(

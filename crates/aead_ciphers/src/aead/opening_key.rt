@@ -18,7 +18,7 @@ use std::ops::RangeFrom;
 ///
 /// # Examples
 ///
-/// Creates a key that counts its nonces. From `crates/aead_ciphers_tests/src/examples/connection.rt`:
+/// Creates a key that counts its nonces. From `crates/aead_ciphers_tests/src/tests/examples/connection.rt`:
 ///
 /// ```
 /// let sequence = CounterSequence::new(prefix, 0, NONCES)?;
@@ -26,7 +26,7 @@ use std::ops::RangeFrom;
 /// ```
 ///
 /// Opens the next message. A rejected message consumes its nonce too.
-/// From `crates/aead_ciphers_tests/src/examples/connection.rt`:
+/// From `crates/aead_ciphers_tests/src/tests/examples/connection.rt`:
 ///
 /// ```
 /// key.open_in_place_to_front(Aad::from(aad), message)

@@ -84,7 +84,7 @@ impl Algorithm {
 ///
 /// # Examples
 ///
-/// From `crates/aead_ciphers_tests/src/examples/streams.rt`:
+/// From `crates/aead_ciphers_tests/src/tests/examples/streams.rt`:
 ///
 /// ```
 /// pub fn mask(key_bytes: &[u8; 16], sample: &Sample) -> Result<[u8; 5], Unspecified>

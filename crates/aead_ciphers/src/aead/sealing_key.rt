@@ -17,7 +17,7 @@ use std::marker::Model;
 ///
 /// # Examples
 ///
-/// From `crates/aead_ciphers_tests/src/examples/connection.rt`:
+/// From `crates/aead_ciphers_tests/src/tests/examples/connection.rt`:
 ///
 /// ```
 /// pub fn send_apart(

@@ -12,7 +12,7 @@ use std::marker::Model;
 ///
 /// # Examples
 ///
-/// The nonces of RFC 9001 appendix A.5. From `crates/aead_ciphers_tests/src/sequences.rt`:
+/// The nonces of RFC 9001 appendix A.5. From `crates/aead_ciphers_tests/src/tests/sequences.rt`:
 ///
 /// ```
 /// fn rfc_9001_a_5_nonce(rt: HostRuntime) -> Result<(), Fail> {

@@ -11,7 +11,7 @@ use std::ops::RangeFrom;
 ///
 /// # Examples
 ///
-/// From `crates/aead_ciphers_base_tests/src/overlapping.rt`:
+/// From `crates/aead_ciphers_base_tests/src/tests/overlapping.rt`:
 ///
 /// ```
 /// fn copy_within_moves_the_input_to_the_front(rt: HostRuntime) -> Result<(), Fail> {

@@ -31,7 +31,7 @@ impl<T, const N: usize> Copy for AsChunks<'_, T, N> {}
 ///
 /// # Examples
 ///
-/// `hold` asserts what the items contain. From `crates/aead_ciphers_base_tests/src/chunks.rt`:
+/// `hold` asserts what the items contain. From `crates/aead_ciphers_base_tests/src/tests/chunks.rt`:
 ///
 /// ```
 /// let items = [1, 2, 3, 4, 5].map(Item);

@@ -36,7 +36,7 @@ fn split_after_whole_blocks<T, const N: usize>(items: &mut [T]) -> (&mut [T], &m
 ///
 /// # Examples
 ///
-/// `hold` asserts what the items contain. From `crates/aead_ciphers_base_tests/src/chunks.rt`:
+/// `hold` asserts what the items contain. From `crates/aead_ciphers_base_tests/src/tests/chunks.rt`:
 ///
 /// ```
 /// let mut items = [1, 2, 3, 4, 5, 6].map(Item);

@@ -1,0 +1,188 @@
+//! Tests that the `LessSafeKey` of this crate, with planes of both widths, and the one of `aead_ciphers` seal to the same bytes,
+//! and that each width opens at each start what was sealed.
+
+use crate::tests::checks::{equal, holds, same};
+use aead_ciphers::aead::{
+    AES_128_GCM, AES_256_GCM, Aad, Algorithm, LessSafeKey, Nonce, UnboundKey,
+};
+use aead_ciphers_wide::aead::LessSafeKey as WideKey;
+use aead_ciphers_wide::aes::Width;
+use std::alloc::Global;
+use std::ops::Range;
+use std::process::Abort;
+use std::test::Fail;
+
+/// Where the ciphertext begins in the buffers that are opened.
+const STARTS: [usize; 9] = [0, 1, 4, 15, 16, 17, 3071, 3072, 3073];
+
+/// A key by both crates, with planes of 128 and of 256 bits.
+#[derive(Drop)]
+struct BothKeys {
+    narrow: LessSafeKey,
+    wide: WideKey,
+    wider: WideKey,
+}
+
+fn both_keys(algorithm: &'static Algorithm) -> Result<BothKeys, Fail> {
+    let bytes = [3; 32];
+    let bytes = &bytes[..algorithm.key_len().min(32)];
+    Ok(BothKeys {
+        narrow: LessSafeKey::new(UnboundKey::new(algorithm, bytes)?),
+        wide: WideKey::new(algorithm, bytes)?,
+        wider: WideKey::new_with_width(algorithm, bytes, Width::Bits256)?,
+    })
+}
+
+fn nonce() -> Nonce {
+    Nonce::assume_unique_for_key([9; 12])
+}
+
+/// Returns `len` bytes that repeat the bytes from 0 to 250.
+fn counting(alloc: Global, len: usize) -> Result<Vec<u8>, Fail> {
+    let mut bytes = Vec::new(alloc);
+    for i in 0..len {
+        bytes.push((i % 251) as u8)?;
+    }
+    Ok(bytes)
+}
+
+/// Asserts that a key seals a message to these bytes and a tag.
+fn seals_to(
+    rt: &impl Abort,
+    alloc: Global,
+    key: &WideKey,
+    aad: &[u8],
+    (message, wanted): (&[u8], &[u8]),
+) -> Result<(), Fail> {
+    let mut found = message.to_vec(alloc)?;
+    let tag = key.seal_in_place_separate_tag(nonce(), Aad::from(aad), &mut found)?;
+    found.extend_from_slice(tag.as_ref())?;
+    same(rt, &found, wanted, "ciphertext and tag");
+    Ok(())
+}
+
+/// Seals a message by all keys, and returns the ciphertext and the tag.
+fn seal_alike(
+    rt: &impl Abort,
+    alloc: Global,
+    keys: &BothKeys,
+    aad: &[u8],
+    message: &[u8],
+) -> Result<Vec<u8>, Fail> {
+    let mut sealed = message.to_vec(alloc)?;
+    keys.narrow
+        .seal_in_place_append_tag(nonce(), Aad::from(aad), &mut sealed)?;
+    seals_to(rt, alloc, &keys.wide, aad, (message, &sealed))?;
+    seals_to(rt, alloc, &keys.wider, aad, (message, &sealed))?;
+    Ok(sealed)
+}
+
+/// Opens a ciphertext and its tag from a start by a key, and asserts that the message is at the front and the rest as it
+/// was.
+fn opens_from(
+    rt: &impl Abort,
+    alloc: Global,
+    key: &WideKey,
+    aad: &[u8],
+    (message, sealed): (&[u8], &[u8]),
+    start: usize,
+) -> Result<(), Fail> {
+    let mut buffer = vec![in alloc; 0x7b; start]?;
+    buffer.extend_from_slice(sealed)?;
+    let mut wanted = message.to_vec(alloc)?;
+    wanted.extend_from_slice(buffer.get(message.len()..).ok_or("a length")?)?;
+    let opened = key.open_within_to_front(nonce(), Aad::from(aad), &mut buffer, start..);
+    equal(rt, opened, Ok(message.len()), "the message's length");
+    same(rt, &buffer, &wanted, "the buffer");
+    Ok(())
+}
+
+/// Asserts that a key refuses a false tag and leaves the buffer.
+fn refuses(rt: &impl Abort, key: &WideKey, aad: &[u8], mut sealed: Vec<u8>) -> Result<(), Fail> {
+    if let Some(last) = sealed.last_mut() {
+        *last ^= 1;
+    }
+    let was = sealed.clone()?;
+    let opened = key.open_within_to_front(nonce(), Aad::from(aad), &mut sealed, 0..);
+    holds(rt, opened.is_err(), "a false tag");
+    same(rt, &sealed, &was, "the buffer");
+    Ok(())
+}
+
+/// Asserts that the keys agree on a message of `len` bytes, with an AAD of up to 40.
+fn agree_at(rt: &impl Abort, alloc: Global, keys: &BothKeys, len: usize) -> Result<(), Fail> {
+    let message = counting(alloc, len)?;
+    let aad = counting(alloc, len % 41)?;
+    let sealed = seal_alike(rt, alloc, keys, &aad, &message)?;
+    for start in STARTS {
+        opens_from(rt, alloc, &keys.wide, &aad, (&message, &sealed), start)?;
+        opens_from(rt, alloc, &keys.wider, &aad, (&message, &sealed), start)?;
+    }
+    refuses(rt, &keys.wide, &aad, sealed.clone()?)?;
+    refuses(rt, &keys.wider, &aad, sealed)
+}
+
+/// Asserts that the keys agree at each length of a range.
+fn agree(
+    rt: &(impl Abort + AllocGlobal),
+    algorithm: &'static Algorithm,
+    lens: Range<usize>,
+) -> Result<(), Fail> {
+    let keys = both_keys(algorithm)?;
+    for len in lens {
+        agree_at(rt, rt.alloc(), &keys, len)?;
+    }
+    Ok(())
+}
+
+#[test]
+fn to_150_bytes(rt: HostRuntime) -> Result<(), Fail> {
+    agree(&rt, &AES_128_GCM, 0..151)
+}
+
+#[test]
+fn to_300_bytes(rt: HostRuntime) -> Result<(), Fail> {
+    agree(&rt, &AES_128_GCM, 151..301)
+}
+
+#[test]
+fn to_450_bytes(rt: HostRuntime) -> Result<(), Fail> {
+    agree(&rt, &AES_128_GCM, 301..451)
+}
+
+#[test]
+fn to_600_bytes(rt: HostRuntime) -> Result<(), Fail> {
+    agree(&rt, &AES_128_GCM, 451..601)
+}
+
+#[test]
+fn to_150_bytes_under_aes_256(rt: HostRuntime) -> Result<(), Fail> {
+    agree(&rt, &AES_256_GCM, 0..151)
+}
+
+#[test]
+fn to_300_bytes_under_aes_256(rt: HostRuntime) -> Result<(), Fail> {
+    agree(&rt, &AES_256_GCM, 151..301)
+}
+
+#[test]
+fn to_450_bytes_under_aes_256(rt: HostRuntime) -> Result<(), Fail> {
+    agree(&rt, &AES_256_GCM, 301..451)
+}
+
+#[test]
+fn to_600_bytes_under_aes_256(rt: HostRuntime) -> Result<(), Fail> {
+    agree(&rt, &AES_256_GCM, 451..601)
+}
+
+// Messages are encrypted in pieces of 3,072 bytes.
+#[test]
+fn around_3072_bytes(rt: HostRuntime) -> Result<(), Fail> {
+    for algorithm in [&AES_128_GCM, &AES_256_GCM] {
+        let keys = both_keys(algorithm)?;
+        for len in [3071, 3072, 3073, 3088, 6143, 6144, 6145] {
+            agree_at(&rt, rt.alloc(), &keys, len)?;
+        }
+    }
+    Ok(())
+}

@@ -1,0 +1,599 @@
+//! Tests of `connection`: a whole connection of a client and a server, which stands in README.md, and what each call does with
+//! packets that are forged, late, or of another connection, and at its limits.
+
+use crate::tests::checks::{equal, holds};
+use key_derivation::Secret;
+use key_derivation::quic::{QuicSecret, Version};
+use quic_packets::connection::{Connection, Incoming, Level};
+use quic_packets::{FixedBit, PacketError, PacketType};
+use std::alloc::Global;
+use std::mem;
+use std::process::Abort;
+use std::test::Fail;
+
+/// The connection ID of both ends.
+const ID: [u8; 8] = [4; 8];
+
+/// The headers of packets with 24 bytes from their number on, which is the payload of 4 bytes between the number and the tag.
+const INITIAL: [u8; 17] = [0xc0, 0, 0, 0, 1, 8, 4, 4, 4, 4, 4, 4, 4, 4, 0, 0, 24];
+
+const ZERO_RTT: [u8; 16] = [0xd0, 0, 0, 0, 1, 8, 4, 4, 4, 4, 4, 4, 4, 4, 0, 24];
+
+const HANDSHAKE: [u8; 16] = [0xe0, 0, 0, 0, 1, 8, 4, 4, 4, 4, 4, 4, 4, 4, 0, 24];
+
+const ONE_RTT: [u8; 9] = [0x40, 4, 4, 4, 4, 4, 4, 4, 4];
+
+/// What a payload begins with, in place of the messages of TLS and the frames of QUIC: the hello and the finished message of each
+/// end, HANDSHAKE_DONE, and a frame that does nothing. An acknowledgment follows.
+const CLIENT_HELLO: u8 = 1;
+
+const SERVER_HELLO: u8 = 2;
+
+const SERVER_FINISHED: u8 = 3;
+
+const CLIENT_FINISHED: u8 = 4;
+
+const HANDSHAKE_DONE: u8 = 5;
+
+const PING: u8 = 6;
+
+/// No acknowledgment.
+const NONE: u8 = 0xff;
+
+/// The secrets of the client's 0-RTT packets, and of the packets of both ends.
+const EARLY: [u8; 32] = [1; 32];
+
+const CLIENT_HANDSHAKE: [u8; 32] = [2; 32];
+
+const SERVER_HANDSHAKE: [u8; 32] = [3; 32];
+
+const CLIENT: [u8; 32] = [4; 32];
+
+const SERVER: [u8; 32] = [5; 32];
+
+/// One end, the packets that it keeps until their keys are there, and what it has received: how many packets, and the last number
+/// of a 1-RTT packet.
+#[derive(Drop)]
+struct End {
+    connection: Connection,
+    kept: Vec<Vec<u8>>,
+    count: u8,
+    last: u8,
+}
+
+/// The secret of version 1 with these bytes.
+fn secret(bytes: [u8; 32]) -> QuicSecret {
+    QuicSecret::new(Version::One, Secret::aes_128_gcm(bytes))
+}
+
+/// An end with these keys that has received nothing.
+fn with_nothing_received(alloc: Global, connection: Connection) -> End {
+    End {
+        connection,
+        kept: Vec::new(alloc),
+        count: 0,
+        last: NONE,
+    }
+}
+
+/// Gives an end the secrets of its Initial packets and of the peer's.
+fn install_initial(connection: &mut Connection, own: QuicSecret, peer: QuicSecret) {
+    connection.install_sender(Level::Initial, own);
+    connection.install_receiver(Level::Initial, peer);
+}
+
+/// Creates the client or the server, with the keys of Initial packets.
+fn make_end(alloc: Global, is_client: bool) -> Result<End, Fail> {
+    let client = QuicSecret::client_initial(Version::One, &ID)?;
+    let server = QuicSecret::server_initial(Version::One, &ID)?;
+    let mut connection = Connection::new(FixedBit::Required);
+    if is_client {
+        install_initial(&mut connection, client, server);
+    } else {
+        install_initial(&mut connection, server, client);
+    }
+    Ok(with_nothing_received(alloc, connection))
+}
+
+/// Receives the packets of a datagram.
+fn receive(alloc: Global, end: &mut End, datagram: &mut [u8], id: &[u8]) -> Result<(), Fail> {
+    let mut at = 0;
+    while at < datagram.len() {
+        let step = end.connection.receive(datagram, at, ID.len(), id)?;
+        match step.incoming {
+            Incoming::Packet(packet_type, received) => {
+                let payload = &datagram[received.payload.start..received.payload.end];
+                frames(end, packet_type, received.number, received.phase, payload)?;
+            }
+            Incoming::NoKeys(_) => {
+                let packet = Vec::from_slice(alloc, &datagram[at..step.next])?;
+                end.kept.push(packet)?;
+            }
+            Incoming::Dropped(_) | Incoming::Ignored => {}
+        }
+        at = step.next;
+    }
+    Ok(())
+}
+
+/// Receives the packets that were kept.
+fn receive_kept(alloc: Global, end: &mut End) -> Result<(), Fail> {
+    let mut kept = mem::replace(&mut end.kept, Vec::new(alloc));
+    for packet in &mut kept {
+        receive(alloc, end, packet, &ID)?;
+    }
+    Ok(())
+}
+
+/// Takes what a packet carries.
+fn frames(
+    end: &mut End,
+    packet_type: PacketType,
+    number: u64,
+    phase: bool,
+    payload: &[u8],
+) -> Result<(), PacketError> {
+    end.count = end.count.saturating_add(1);
+    if packet_type == PacketType::OneRtt {
+        end.last = (number % 0x80) as u8;
+    }
+    if let [message, acknowledged, ..] = payload {
+        take_message(&mut end.connection, *message);
+        if *acknowledged != NONE {
+            end.connection
+                .acknowledged(Level::OneRtt, u64::from(*acknowledged), phase)?;
+        }
+    }
+    Ok(())
+}
+
+/// Takes a message, which may bring keys.
+fn take_message(connection: &mut Connection, message: u8) {
+    match message {
+        CLIENT_HELLO => {
+            connection.install_zero_rtt_receiver(secret(EARLY));
+            connection.install_sender(Level::Handshake, secret(SERVER_HANDSHAKE));
+            connection.install_receiver(Level::Handshake, secret(CLIENT_HANDSHAKE));
+            connection.install_sender(Level::OneRtt, secret(SERVER));
+        }
+        SERVER_HELLO => {
+            connection.install_sender(Level::Handshake, secret(CLIENT_HANDSHAKE));
+            connection.install_receiver(Level::Handshake, secret(SERVER_HANDSHAKE));
+        }
+        SERVER_FINISHED => {
+            connection.install_sender(Level::OneRtt, secret(CLIENT));
+            connection.install_receiver(Level::OneRtt, secret(SERVER));
+        }
+        CLIENT_FINISHED => {
+            connection.install_receiver(Level::OneRtt, secret(CLIENT));
+            connection.discard_zero_rtt();
+            finish(connection);
+        }
+        HANDSHAKE_DONE => finish(connection),
+        _ => {}
+    }
+}
+
+/// The handshake is confirmed, so that its keys are dropped (RFC 9001 sections 4.9.1 and 4.9.2).
+fn finish(connection: &mut Connection) {
+    connection.confirm_handshake();
+    connection.discard(Level::Initial);
+    connection.discard(Level::Handshake);
+}
+
+/// The header and the level of packets of a type.
+fn header(packet_type: PacketType) -> (&'static [u8], Level) {
+    match packet_type {
+        PacketType::Initial => (&INITIAL, Level::Initial),
+        PacketType::ZeroRtt => (&ZERO_RTT, Level::OneRtt),
+        PacketType::Handshake => (&HANDSHAKE, Level::Handshake),
+        _ => (&ONE_RTT, Level::OneRtt),
+    }
+}
+
+/// A packet with this payload, before it is sent.
+fn unsent(alloc: Global, header: &[u8], payload: [u8; 4]) -> Result<Vec<u8>, Fail> {
+    let mut packet = Vec::from_slice(alloc, header)?;
+    packet.extend_from_slice(&[0; 4])?;
+    packet.extend_from_slice(&payload)?;
+    packet.extend_from_slice(&[0; 16])?;
+    Ok(packet)
+}
+
+/// Sends a packet with a message, which acknowledges the last 1-RTT packet.
+fn send(
+    alloc: Global,
+    end: &mut End,
+    packet_type: PacketType,
+    message: u8,
+) -> Result<Vec<u8>, Fail> {
+    let (header, level) = header(packet_type);
+    let mut packet = unsent(alloc, header, [message, end.last, 0, 0])?;
+    let at = header.len();
+    end.connection
+        .send(level, &mut packet, at..at.saturating_add(4))?;
+    Ok(packet)
+}
+
+/// A datagram: whether the client sends it, whether its end updates the keys before it, and the packets.
+#[derive(Clone, Copy)]
+struct Flight {
+    is_client: bool,
+    is_update: bool,
+    packets: &'static [(PacketType, u8)],
+}
+
+/// The datagrams from the first Initial packet to 1-RTT packets. The first comes before its keys, and the second brings them.
+const HANDSHAKES: [Flight; 5] = [
+    Flight {
+        is_client: true,
+        is_update: false,
+        packets: &[(PacketType::ZeroRtt, PING)],
+    },
+    Flight {
+        is_client: true,
+        is_update: false,
+        packets: &[
+            (PacketType::Initial, CLIENT_HELLO),
+            (PacketType::ZeroRtt, PING),
+        ],
+    },
+    Flight {
+        is_client: false,
+        is_update: false,
+        packets: &[
+            (PacketType::Initial, SERVER_HELLO),
+            (PacketType::Handshake, SERVER_FINISHED),
+            (PacketType::OneRtt, PING),
+        ],
+    },
+    Flight {
+        is_client: true,
+        is_update: false,
+        packets: &[
+            (PacketType::Handshake, CLIENT_FINISHED),
+            (PacketType::OneRtt, PING),
+        ],
+    },
+    Flight {
+        is_client: false,
+        is_update: false,
+        packets: &[(PacketType::OneRtt, HANDSHAKE_DONE)],
+    },
+];
+
+/// The ends of 1-RTT packets that follow, and whether the end updates its keys before it: a key update of the client, the answer, one
+/// packet between, and an update of the server, with an acknowledgment of each; twice.
+const UPDATES: [(bool, bool); 12] = [
+    (true, true),
+    (false, false),
+    (true, false),
+    (false, true),
+    (true, false),
+    (false, false),
+    (true, true),
+    (false, false),
+    (true, false),
+    (false, true),
+    (true, false),
+    (false, false),
+];
+
+/// Sends a datagram from one end to the other.
+fn fly(alloc: Global, from: &mut End, to: &mut End, flight: &Flight) -> Result<(), Fail> {
+    if flight.is_update {
+        from.connection.update_keys()?;
+    }
+    let mut datagram = Vec::new(alloc);
+    for (packet_type, message) in flight.packets {
+        let packet = send(alloc, from, *packet_type, *message)?;
+        datagram.extend_from_slice(&packet)?;
+    }
+    receive(alloc, to, &mut datagram, &ID)?;
+    receive_kept(alloc, to)
+}
+
+/// Sends a datagram from the end that it names to the other.
+fn exchange(
+    alloc: Global,
+    client: &mut End,
+    server: &mut End,
+    flight: &Flight,
+) -> Result<(), Fail> {
+    if flight.is_client {
+        fly(alloc, client, server, flight)
+    } else {
+        fly(alloc, server, client, flight)
+    }
+}
+
+/// Sends the datagrams of two key updates of each end.
+fn update_twice(alloc: Global, client: &mut End, server: &mut End) -> Result<(), Fail> {
+    for (is_client, is_update) in UPDATES {
+        let flight = Flight {
+            is_client,
+            is_update,
+            packets: &[(PacketType::OneRtt, PING)],
+        };
+        exchange(alloc, client, server, &flight)?;
+    }
+    Ok(())
+}
+
+/// Sends the datagrams up to the first 1-RTT packets.
+fn shake_hands(alloc: Global, client: &mut End, server: &mut End) -> Result<(), Fail> {
+    for flight in &HANDSHAKES {
+        exchange(alloc, client, server, flight)?;
+    }
+    Ok(())
+}
+
+/// Asserts that each packet is received. The client begins with the keys of 0-RTT packets.
+fn receive_all(
+    rt: &impl Abort,
+    alloc: Global,
+    client: &mut End,
+    server: &mut End,
+) -> Result<(), Fail> {
+    let early = secret(EARLY);
+    client.connection.install_sender(Level::OneRtt, early);
+    shake_hands(alloc, client, server)?;
+    update_twice(alloc, client, server)?;
+    equal(rt, &(client.count, server.count), &(10, 11));
+    Ok(())
+}
+
+// Each packet is received, over two key updates of each end.
+#[test]
+fn whole_connection(rt: HostRuntime) -> Result<(), Fail> {
+    let mut client = make_end(rt.alloc(), true)?;
+    let mut server = make_end(rt.alloc(), false)?;
+    receive_all(&rt, rt.alloc(), &mut client, &mut server)
+}
+
+/// An end that sends and receives under these secrets at the levels of Handshake and 1-RTT packets.
+fn established(own: [u8; 32], peer: [u8; 32]) -> Connection {
+    let mut connection = Connection::new(FixedBit::Required)
+        .with_limit(4)
+        .with_max_failures(2);
+    for level in [Level::Handshake, Level::OneRtt] {
+        connection.install_sender(level, secret(own));
+        connection.install_receiver(level, secret(peer));
+    }
+    connection
+}
+
+/// Sends a packet of this type, and returns it.
+fn sent(
+    alloc: Global,
+    connection: &mut Connection,
+    packet_type: PacketType,
+) -> Result<Vec<u8>, Fail> {
+    let (header, level) = header(packet_type);
+    let mut packet = unsent(alloc, header, [PING, NONE, 0, 0])?;
+    let at = header.len();
+    connection.send(level, &mut packet, at..at.saturating_add(4))?;
+    Ok(packet)
+}
+
+/// Asserts what becomes of a packet that is alone in its datagram.
+fn becomes(
+    rt: &impl Abort,
+    connection: &mut Connection,
+    packet: &mut [u8],
+    id: &[u8; 8],
+    wanted: Result<&str, PacketError>,
+) {
+    let found = match connection.receive(packet, 0, ID.len(), id) {
+        Ok(step) => match step.incoming {
+            Incoming::Packet(_, _) => Ok("received"),
+            Incoming::NoKeys(_) => Ok("no keys"),
+            Incoming::Dropped(_) => Ok("dropped"),
+            Incoming::Ignored => Ok("ignored"),
+        },
+        Err(error) => Err(error),
+    };
+    equal(rt, &found, &wanted);
+}
+
+/// Flips one bit of a packet's tag.
+fn forge(packet: &mut [u8]) {
+    if let Some(byte) = packet.last_mut() {
+        *byte ^= 1;
+    }
+}
+
+/// What comes to an end.
+#[derive(Clone, Copy)]
+enum Arrival {
+    /// The peer's first packet of this type.
+    First(PacketType),
+    /// The same with one bit of its tag flipped.
+    Forged(PacketType),
+    Bytes(&'static [u8]),
+}
+
+use Arrival::{Bytes, First, Forged};
+
+/// Returns the peer's first packet of this type.
+fn first_packet(alloc: Global, packet_type: PacketType) -> Result<Vec<u8>, Fail> {
+    sent(alloc, &mut established(CLIENT, SERVER), packet_type)
+}
+
+/// Returns the bytes that come.
+fn bytes_of(alloc: Global, arrival: Arrival) -> Result<Vec<u8>, Fail> {
+    match arrival {
+        First(packet_type) => first_packet(alloc, packet_type),
+        Forged(packet_type) => {
+            let mut packet = first_packet(alloc, packet_type)?;
+            forge(&mut packet);
+            Ok(packet)
+        }
+        Bytes(bytes) => Ok(Vec::from_slice(alloc, bytes)?),
+    }
+}
+
+/// An Initial packet for which there are no keys.
+const WITHOUT_KEYS: [u8; 41] = [
+    0xc0, 0, 0, 0, 1, 8, 4, 4, 4, 4, 4, 4, 4, 4, 0, 0, 24, 0, 0, 0, 0, 0, 0, 0, 0, 0, 0, 0, 0, 0,
+    0, 0, 0, 0, 0, 0, 0, 0, 0, 0, 0,
+];
+
+/// What comes to an end, each alone in its datagram, the ID that it asks for, what becomes of it, and the failures after it.
+const ARRIVALS: [(Arrival, [u8; 8], Result<&str, PacketError>, u64); 9] = [
+    (First(PacketType::Handshake), [8; 8], Ok("ignored"), 0),
+    (Bytes(&[0xe0; 9]), ID, Ok("ignored"), 0),
+    (Bytes(&WITHOUT_KEYS), ID, Ok("no keys"), 0),
+    (Forged(PacketType::Handshake), ID, Ok("dropped"), 1),
+    (First(PacketType::Handshake), ID, Ok("received"), 1),
+    (First(PacketType::Handshake), ID, Ok("dropped"), 1),
+    (Forged(PacketType::OneRtt), ID, Ok("dropped"), 2),
+    (
+        First(PacketType::OneRtt),
+        ID,
+        Err(PacketError::TooManyFailures),
+        2,
+    ),
+    (Bytes(&[]), [8; 8], Err(PacketError::TooManyFailures), 2),
+];
+
+/// Asserts what becomes of each packet.
+fn arrive(rt: &impl Abort, alloc: Global, end: &mut Connection) -> Result<(), Fail> {
+    for (arrival, id, wanted, failures) in &ARRIVALS {
+        let mut packet = bytes_of(alloc, *arrival)?;
+        becomes(rt, end, &mut packet, id, *wanted);
+        equal(rt, &end.failures(), failures);
+    }
+    let packet = sent(alloc, end, PacketType::OneRtt)?;
+    equal(rt, &packet.len(), &33);
+    Ok(())
+}
+
+// A packet with another ID and one that can't be parsed are ignored, forged ones and duplicates are dropped, and one without keys is
+// kept. At the limit of failures nothing is opened, and the end still sends.
+#[test]
+fn what_becomes_of_packets(rt: HostRuntime) -> Result<(), Fail> {
+    arrive(&rt, rt.alloc(), &mut established(SERVER, CLIENT))
+}
+
+/// Asserts that one packet of a datagram is received, and how many fail.
+fn receives_one(
+    rt: &impl Abort,
+    alloc: Global,
+    connection: Connection,
+    datagram: &mut [u8],
+    failures: u64,
+) -> Result<(), Fail> {
+    let mut end = with_nothing_received(alloc, connection);
+    receive(alloc, &mut end, datagram, &ID)?;
+    equal(rt, &end.count, &1);
+    equal(rt, &end.connection.failures(), &failures);
+    Ok(())
+}
+
+/// A datagram of the peer: an Initial packet whose fixed bit is 0, and a Handshake packet.
+fn first_without_fixed_bit(alloc: Global) -> Result<Vec<u8>, Fail> {
+    let mut peer = established(CLIENT, SERVER);
+    let initial = QuicSecret::client_initial(Version::One, &ID)?;
+    peer.install_sender(Level::Initial, initial);
+    let mut datagram = sent(alloc, &mut peer, PacketType::Initial)?;
+    if let Some(first) = datagram.first_mut() {
+        *first &= 0xbf;
+    }
+    datagram.extend_from_slice(&first_packet(alloc, PacketType::Handshake)?)?;
+    Ok(datagram)
+}
+
+// An Initial packet whose fixed bit is 0 is ignored, and the Handshake packet after it is received.
+#[test]
+fn no_fixed_bit_in_first_packet(rt: HostRuntime) -> Result<(), Fail> {
+    let mut datagram = first_without_fixed_bit(rt.alloc())?;
+    let initial = QuicSecret::client_initial(Version::One, &ID)?;
+    let mut connection = established(SERVER, CLIENT);
+    connection.install_receiver(Level::Initial, initial);
+    receives_one(&rt, rt.alloc(), connection, &mut datagram, 0)
+}
+
+/// A datagram of the peer: a forged Handshake packet, and a 1-RTT packet.
+fn forged_first(alloc: Global) -> Result<Vec<u8>, Fail> {
+    let mut datagram = bytes_of(alloc, Forged(PacketType::Handshake))?;
+    datagram.extend_from_slice(&first_packet(alloc, PacketType::OneRtt)?)?;
+    Ok(datagram)
+}
+
+// A forged packet is dropped and left as it was, and the packet after it is received.
+#[test]
+fn forged_first_packet(rt: HostRuntime) -> Result<(), Fail> {
+    let mut datagram = forged_first(rt.alloc())?;
+    let connection = established(SERVER, CLIENT);
+    receives_one(&rt, rt.alloc(), connection, &mut datagram, 1)?;
+    let first = bytes_of(rt.alloc(), Forged(PacketType::Handshake))?;
+    holds(&rt, datagram.starts_with(&first), "the forged packet");
+    Ok(())
+}
+
+/// Sends packets of 1-RTT until the key is used up, and returns their number.
+fn sends_until_used_up(alloc: Global, connection: &mut Connection) -> Result<u8, Fail> {
+    for count in 0..9 {
+        let mut packet = unsent(alloc, &ONE_RTT, [PING, NONE, 0, 0])?;
+        match connection.send(Level::OneRtt, &mut packet, 9..13) {
+            Ok(_) => {}
+            Err(PacketError::KeyUsedUp) => return Ok(count),
+            Err(error) => return Err(error.into()),
+        }
+    }
+    Ok(9)
+}
+
+/// Asserts that the last packet of a key is kept for the one that closes the connection.
+fn keeps_one_to_close(rt: &impl Abort, alloc: Global, end: &mut Connection) -> Result<(), Fail> {
+    equal(rt, &sends_until_used_up(alloc, end)?, &3);
+    let mut close = unsent(alloc, &ONE_RTT, [PING, NONE, 0, 0])?;
+    let closed = end.send_close(Level::OneRtt, &mut close, 9..13);
+    equal(rt, &closed, &Ok(3));
+    Ok(())
+}
+
+/// Acknowledgments of a number in a packet with a key phase, and the outcomes.
+const ACKNOWLEDGED: [(u64, bool, Result<(), PacketError>); 3] = [
+    (5, false, Err(PacketError::UpdateUnanswered)),
+    (6, true, Err(PacketError::NeverSent)),
+    (5, true, Ok(())),
+];
+
+/// Asserts that the keys are updated when fewer than half of the packets are left, and again after an acknowledgment.
+fn updates_by_itself(rt: &impl Abort, alloc: Global, end: &mut Connection) -> Result<(), Fail> {
+    end.confirm_handshake();
+    equal(rt, &sends_until_used_up(alloc, end)?, &6);
+    let updated = end.update_keys();
+    equal(rt, &updated, &Err(PacketError::PhaseUnacknowledged));
+    for (number, phase, outcome) in &ACKNOWLEDGED {
+        let found = end.acknowledged(Level::OneRtt, *number, *phase);
+        equal(rt, &found, outcome);
+    }
+    equal(rt, &sends_until_used_up(alloc, end)?, &4);
+    Ok(())
+}
+
+// The last packets of a key, before the handshake is confirmed and after that.
+#[test]
+fn last_packets_of_a_key(rt: HostRuntime) -> Result<(), Fail> {
+    keeps_one_to_close(&rt, rt.alloc(), &mut established(SERVER, CLIENT))?;
+    updates_by_itself(&rt, rt.alloc(), &mut established(SERVER, CLIENT))
+}
+
+// An end without keys neither sends nor updates.
+#[test]
+fn no_keys(rt: HostRuntime) -> Result<(), Fail> {
+    let mut packet = unsent(rt.alloc(), &INITIAL, [PING, NONE, 0, 0])?;
+    let mut end = Connection::new(FixedBit::Required);
+    let sent = end.send(Level::Initial, &mut packet, 17..21);
+    equal(&rt, &sent, &Err(PacketError::NoKeys));
+    let acknowledged = end.acknowledged(Level::Initial, 0, false);
+    equal(&rt, &acknowledged, &Err(PacketError::NoKeys));
+    end.confirm_handshake();
+    let updated = end.update_keys();
+    equal(&rt, &updated, &Err(PacketError::HandshakeUnconfirmed));
+    holds(&rt, end.sender(Level::OneRtt).is_none(), "no sender");
+    Ok(())
+}

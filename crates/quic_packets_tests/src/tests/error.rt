@@ -1,0 +1,207 @@
+//! What the errors print, and the codes that close a connection.
+
+use crate::tests::checks::{displays, equal};
+use quic_packets::{DatagramError, HeaderError, MaskError, PacketError, RetryError};
+use std::alloc::AllocError;
+use std::fmt::Display;
+use std::process::Abort;
+use std::test::Fail;
+
+const PACKET_ERRORS: [(PacketError, &str); 30] = [
+    (
+        PacketError::KeyLength,
+        "the key does not have the length of the algorithm's keys",
+    ),
+    (PacketError::KeysDerived, "the keys derive from a secret"),
+    (
+        PacketError::NoSecret,
+        "there is no secret from which keys derive",
+    ),
+    (PacketError::NoKeys, "the keys of the level are not there"),
+    (PacketError::EmptyPayload, "the packet has no payload"),
+    (PacketError::NoFrames, "the packet has no frames"),
+    (
+        PacketError::UpdateUnanswered,
+        "a packet of the current keys was acknowledged under older keys",
+    ),
+    (
+        PacketError::NumberAtFirstByte,
+        "the packet number cannot begin at the header's first byte",
+    ),
+    (PacketError::PastEnd, "the datagram ends before the packet"),
+    (PacketError::NoNumber, "the packet has no packet number"),
+    (
+        PacketError::NumberLength,
+        "the packet number does not fit the room for it",
+    ),
+    (
+        PacketError::NumberUsed,
+        "the packet number is below the next one",
+    ),
+    (
+        PacketError::NumberTooFar,
+        "4 bytes cannot encode the packet number after the largest acknowledged one",
+    ),
+    (
+        PacketError::NoProtection,
+        "packets of this type have no protection",
+    ),
+    (
+        PacketError::KeyUsedUp,
+        "the key has reached its limit of packets",
+    ),
+    (
+        PacketError::OutputLength,
+        "the output does not have the length of the result",
+    ),
+    (
+        PacketError::NeverSent,
+        "a packet that was not sent was acknowledged",
+    ),
+    (
+        PacketError::HandshakeUnconfirmed,
+        "the handshake is not confirmed",
+    ),
+    (
+        PacketError::PhaseUnacknowledged,
+        "no packet of this key phase was acknowledged",
+    ),
+    (
+        PacketError::NoSample,
+        "the packet is too short for a sample of header protection",
+    ),
+    (
+        PacketError::TooShort,
+        "the packet is shorter than its header and a tag",
+    ),
+    (
+        PacketError::TooLong,
+        "the packet is longer than AES-GCM allows",
+    ),
+    (PacketError::OtherVersion, "the packet has another version"),
+    (PacketError::NoFixedBit, "the fixed bit of the packet is 0"),
+    (
+        PacketError::NumbersEnded,
+        "the packet number is not below 2^62",
+    ),
+    (PacketError::Refused, "the packet is not authentic"),
+    (
+        PacketError::TooManyFailures,
+        "too many packets have failed authentication",
+    ),
+    (
+        PacketError::ReservedBits,
+        "the packet's reserved bits are set",
+    ),
+    (
+        PacketError::Duplicate,
+        "the packet number was already received, or is below the window",
+    ),
+    (
+        PacketError::KeyUpdate,
+        "the packet's key phase is out of order",
+    ),
+];
+
+const MASK_ERRORS: [(MaskError, &str); 3] = [
+    (
+        MaskError::NumberAtFirstByte,
+        "the packet number cannot begin at the header's first byte",
+    ),
+    (
+        MaskError::NoSample,
+        "the packet is too short for a sample of header protection",
+    ),
+    (
+        MaskError::NumberLength,
+        "the packet number has more than 4 bytes",
+    ),
+];
+
+const DATAGRAM_ERRORS: [(DatagramError, &str); 3] = [
+    (DatagramError::Cut, "the datagram ends before the packet"),
+    (
+        DatagramError::IdTooLong,
+        "a connection ID of version 1 or 2 has at most 20 bytes",
+    ),
+    (
+        DatagramError::NoFixedBit { end: 9 },
+        "the fixed bit of the packet is 0",
+    ),
+];
+
+const HEADER_ERRORS: [(HeaderError, &str); 4] = [
+    (
+        HeaderError::NumberLength,
+        "a packet number has 1 to 4 bytes",
+    ),
+    (
+        HeaderError::IdTooLong,
+        "a connection ID of version 1 or 2 has at most 20 bytes",
+    ),
+    (
+        HeaderError::TooLong,
+        "the token or the packet has 2^30 bytes or more",
+    ),
+    (HeaderError::NoRoom, "the buffer is shorter than the header"),
+];
+
+const RETRY_ERRORS: [(RetryError, &str); 2] = [
+    (
+        RetryError::IdTooLong,
+        "a connection ID has at most 20 bytes",
+    ),
+    (
+        RetryError::TooLong,
+        "the Retry packet has 2^61 bytes or more",
+    ),
+];
+
+/// Asserts that each error is displayed as its text.
+fn display<E: Display>(
+    rt: &(impl Abort + AllocGlobal),
+    rows: &[(E, &str)],
+) -> Result<(), AllocError> {
+    for (error, text) in rows {
+        displays(rt, error, text)?;
+    }
+    Ok(())
+}
+
+#[test]
+fn texts(rt: HostRuntime) -> Result<(), Fail> {
+    display(&rt, &PACKET_ERRORS)?;
+    display(&rt, &MASK_ERRORS)?;
+    display(&rt, &DATAGRAM_ERRORS)?;
+    display(&rt, &RETRY_ERRORS)?;
+    display(&rt, &HEADER_ERRORS)?;
+    Ok(())
+}
+
+/// The errors that close a connection, with the codes of RFC 9000 section 20.1 and RFC 9001 section 6.6. All others have none.
+const CODES: [(PacketError, u64); 6] = [
+    (PacketError::NeverSent, 0x0a),
+    (PacketError::ReservedBits, 0x0a),
+    (PacketError::NoFrames, 0x0a),
+    (PacketError::KeyUpdate, 0x0e),
+    (PacketError::UpdateUnanswered, 0x0e),
+    (PacketError::TooManyFailures, 0x0f),
+];
+
+/// Returns the error's code by the table.
+fn code(error: PacketError) -> Option<u64> {
+    for (closing, code) in CODES {
+        if closing == error {
+            return Some(code);
+        }
+    }
+    None
+}
+
+#[test]
+fn codes(rt: HostRuntime) -> Result<(), Fail> {
+    for (error, _) in &PACKET_ERRORS {
+        equal(&rt, &error.code(), &code(*error));
+    }
+    Ok(())
+}

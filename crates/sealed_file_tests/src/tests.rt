@@ -1,0 +1,8 @@
+//! The modules of tests, and what they share.
+
+mod checks;
+mod example_callers;
+mod examples;
+mod passphrase;
+mod reader;
+mod sealed_files;
