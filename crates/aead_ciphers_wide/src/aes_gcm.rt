@@ -153,19 +153,8 @@ impl ExpandedKey {
     {
         let aes = self.aes();
         let gcm = self.gcm();
-        let len = in_out.len();
-        let start = ciphertext.start;
-        open_with(
-            &aes,
-            &gcm,
-            nonce,
-            aad,
-            tag,
-            in_out,
-            ciphertext,
-            &mut Work::new(),
-        )?;
-        Ok(len - start)
+        let mut work = Work::new();
+        open_with(&aes, &gcm, nonce, aad, tag, in_out, ciphertext, &mut work)
     }
 
     /// Like `open_to_front`, but the tag is the last 16 bytes of `in_out`, which are unchanged. Also fails if `in_out` is

@@ -12,17 +12,18 @@ pub(super) const CHUNK_LEN: usize = 192 * BLOCK_LEN;
 /// The length of a batch, in bytes: sixteen blocks, which are whole passes of every cipher that is called here.
 const BATCH_LEN: usize = 16 * BLOCK_LEN;
 
-/// Encrypts or decrypts the bytes from `start` on to the front of `in_out`, chunk by chunk.
+/// Encrypts or decrypts the bytes from `start` on to the front of `in_out`, chunk by chunk, and returns how many they are.
 pub(super) fn encrypt_within<A: EncryptCtr32>(
     aes: &A,
     mut counter: Counter,
     in_out: &mut [u8],
     start: usize,
     work: &mut Work,
-)
+) -> usize
     requires within { start ≤ length in_out.old }
     requires sums { CanAdd work.old ((length in_out.old - start + 15) / 16) 0 }
     ensures output { EncryptsToFront (A.cipher aes.now) counter start in_out.old in_out.new }
+    ensures count { result ≡ length in_out.old - start }
     ensures worked { Adds work.old work.new ((length in_out.old - start + 15) / 16) 0 }
 {
     let len = in_out.len() - start;
@@ -37,6 +38,7 @@ pub(super) fn encrypt_within<A: EncryptCtr32>(
     if whole < len {
         encrypt_rest(aes, counter, &mut in_out[whole..], start, work);
     }
+    len
 }
 
 /// Returns how many of `len` bytes go to the cipher as they are: all, if they are whole blocks, else whole batches.

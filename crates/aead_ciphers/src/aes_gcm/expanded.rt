@@ -100,9 +100,6 @@ impl ExpandedKey {
     {
         let aes = aes::KeyRef::new(&self.round_keys, self.rounds);
         let gcm = gcm::KeyRef::new(&self.multiples);
-        let len = in_out.len();
-        let start = src.start;
-        opening::open_with(&aes, &gcm, nonce, aad, received_tag, in_out, src, work)?;
-        Ok(len - start)
+        opening::open_with(&aes, &gcm, nonce, aad, received_tag, in_out, src, work)
     }
 }

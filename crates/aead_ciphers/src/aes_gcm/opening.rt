@@ -1,6 +1,6 @@
 //! Opening with any cipher and hash (SP 800-38D section 7.2).
 
-ghost use Rattle.std.specs.Prelude.{◌≡◌, ◌↔◌, length, is_ok, IsOk, IfOk, OnOk, OnErr};
+ghost use Rattle.std.specs.Prelude.{◌≡◌, ◌-◌, ◌↔◌, length, is_ok, IsOk, IfOk, OnOk, OnErr};
 ghost use Rattle.aead_ciphers_base.specs.Bytes.{zero_block};
 ghost use Rattle.aead_ciphers_base.specs.CounterMode.{IsCounter};
 ghost use Rattle.aead_ciphers_base.specs.Values.{aad_bytes};
@@ -19,7 +19,8 @@ use std::ops::RangeFrom;
 /// Opens as `aes_gcm::open` does, with any cipher of 16-byte blocks (SP 800-38D section 7.2). The hash subkey of `gcm` must be
 /// the encryption of the zero block.
 ///
-/// Compares the tag of the ciphertext `in_out[src]` with `received_tag`, and then decrypts it to the front of `in_out`.
+/// Compares the tag of the ciphertext `in_out[src]` with `received_tag`, then decrypts it to the front of `in_out`, and returns
+/// the length of the plaintext in bytes.
 /// Fails if the start is out of range, if the lengths exceed the limits of `aes_gcm::seal`, or if the tags differ.
 pub fn open_with<A: EncryptCtr32, G: UpdateBlocks>(
     aes: &A,
@@ -30,11 +31,12 @@ pub fn open_with<A: EncryptCtr32, G: UpdateBlocks>(
     in_out: &mut [u8],
     src: RangeFrom<usize>,
     work: &mut Work,
-) -> Result<(), Unspecified>
+) -> Result<usize, Unspecified>
     requires sums { CanOpen work.old (length (aad_bytes aad)) src.start (length in_out.old) }
     requires subkey { G.hash_subkey gcm.now ≡ A.cipher aes.now zero_block }
     ensures opened { Opened (A.cipher aes.now) nonce (aad_bytes aad.entry) received_tag src.start
         in_out.old (is_ok result) in_out.new }
+    ensures count { IfOk result (λ n. n ≡ length in_out.old - src.start) }
     ensures worked { OpenWork (length (aad_bytes aad.entry)) src.start (length in_out.old) result
         work.old work.new }
 {
@@ -43,8 +45,7 @@ pub fn open_with<A: EncryptCtr32, G: UpdateBlocks>(
         return Err(Unspecified);
     }
     let counter = authenticate(aes, gcm, nonce, aad, received_tag, &in_out[start..], work)?;
-    encrypt_within(aes, counter, in_out, start, work);
-    Ok(())
+    Ok(encrypt_within(aes, counter, in_out, start, work))
 }
 
 /// Compares the tag of `ciphertext` with `received_tag`, and then decrypts it to `out`, which is equally long. Fails if

@@ -10,6 +10,7 @@ use aead_ciphers_base::aes::{BLOCK_LEN, Block, Work, ZERO_BLOCK};
 use aead_ciphers_base::polyfill::slice::as_chunks;
 
 /// Updates the hash `xi` with the blocks of `input`, the last of which is padded with zeros, by one field product per block.
+#[inline(always)]
 pub fn absorb<G: UpdateBlocks>(gcm: &G, xi: &mut Xi, input: &[u8], work: &mut Work)
     requires { CanAdd work.old 0 ((length input.now + 15) / 16) }
     ensures hashed { (done : List (List ℕ)) → IsHashOf (G.hash_subkey gcm.now) done xi.old

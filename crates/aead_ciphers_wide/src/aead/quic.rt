@@ -3,7 +3,7 @@
 ghost use Rattle.std.specs.Prelude.{◌≡◌, ◌↔◌, length, IsOk, IfOk};
 
 use crate::aes;
-use aead_ciphers::aead::quic::{AES_128, AES_256, Algorithm, CHACHA20};
+use aead_ciphers::aead::quic::{Algorithm, CHACHA20};
 use aead_ciphers_base::aes::KeyBytes;
 use aead_ciphers_base::chacha;
 use aead_ciphers_base::error::Unspecified;
@@ -12,13 +12,13 @@ use std::marker::Model;
 /// A header protection key with its algorithm.
 #[derive(Drop)]
 pub struct HeaderProtectionKey {
-    inner: KeyInner,
+    cipher: Cipher,
 }
 
+/// The cipher of a mask, with its key.
 #[derive(Drop)]
-enum KeyInner {
-    Aes128(aes::BlockKey),
-    Aes256(aes::BlockKey),
+enum Cipher {
+    Aes(aes::BlockKey),
     ChaCha20(chacha::Key),
 }
 
@@ -28,7 +28,7 @@ impl Model for HeaderProtectionKey {
 
     ghost Value = { HeaderKey };
 
-    ghost view = { λ key. header_key key.inner };
+    ghost view = { λ key. header_key key.cipher };
 }
 
 impl HeaderProtectionKey {
@@ -44,17 +44,16 @@ impl HeaderProtectionKey {
         ensures algorithm { IfOk result (λ key. key.algorithm ≡ algorithm.now) }
         ensures bytes { IfOk result (λ key. key.bytes ≡ key_bytes.now) }
     {
-        let inner = if *algorithm == AES_128 {
+        if key_bytes.len() != algorithm.key_len() {
+            return Err(Unspecified);
+        }
+        let cipher = if *algorithm == CHACHA20 {
             let bytes = key_bytes.as_array().ok_or(Unspecified)?;
-            KeyInner::Aes128(aes::BlockKey::new(KeyBytes::AES_128(bytes)))
-        } else if *algorithm == AES_256 {
-            let bytes = key_bytes.as_array().ok_or(Unspecified)?;
-            KeyInner::Aes256(aes::BlockKey::new(KeyBytes::AES_256(bytes)))
+            Cipher::ChaCha20(chacha::Key::new(*bytes))
         } else {
-            let bytes = key_bytes.as_array().ok_or(Unspecified)?;
-            KeyInner::ChaCha20(chacha::Key::new(*bytes))
+            Cipher::Aes(aes::BlockKey::new(KeyBytes::from_slice(key_bytes)?))
         };
-        Ok(HeaderProtectionKey { inner })
+        Ok(HeaderProtectionKey { cipher })
     }
 
     /// Returns the 5-byte mask of a 16-byte sample (RFC 9001 section 5.4.1).
@@ -70,10 +69,9 @@ impl HeaderProtectionKey {
         let Some(sample) = sample.as_array::<16>() else {
             return Err(Unspecified);
         };
-        Ok(match &self.inner {
-            KeyInner::Aes128(key) => key.new_mask(*sample),
-            KeyInner::Aes256(key) => key.new_mask(*sample),
-            KeyInner::ChaCha20(key) => key.new_mask(*sample),
+        Ok(match &self.cipher {
+            Cipher::Aes(key) => key.new_mask(*sample),
+            Cipher::ChaCha20(key) => key.new_mask(*sample),
         })
     }
 }
