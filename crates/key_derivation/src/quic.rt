@@ -261,7 +261,6 @@ fn initial(version: Version, id: &[u8], label: &[u8]) -> Result<QuicSecret, Deri
         return Err(DerivationError::ConnectionIdLength);
     }
     let secret = extract::<Sha256>(&version.initial_salt(), id);
-    let mut bytes = [0u8; 32];
-    Expander::<Sha256>::new(&secret).fill_labeled(label, b"", &mut bytes);
+    let bytes = Expander::<Sha256>::new(&secret).labeled(label);
     Ok(QuicSecret::new(version, Secret::aes_128_gcm(bytes)))
 }

@@ -55,16 +55,11 @@ impl Secret {
         ensures refused { IsOkUnless result DerivationError.SecretLength }
         ensures made { IfOk result (λ s. s ≡ record { suite = suite; bytes = bytes.now }) }
     {
-        match suite {
-            Suite::Aes128Gcm => match bytes.as_array::<32>() {
-                Some(bytes) => Ok(Secret::aes_128_gcm(*bytes)),
-                None => Err(DerivationError::SecretLength),
-            },
-            Suite::Aes256Gcm => match bytes.as_array::<48>() {
-                Some(bytes) => Ok(Secret::aes_256_gcm(*bytes)),
-                None => Err(DerivationError::SecretLength),
-            },
-        }
+        let secret = match suite {
+            Suite::Aes128Gcm => bytes.as_array().map(|bytes| Secret::aes_128_gcm(*bytes)),
+            Suite::Aes256Gcm => bytes.as_array().map(|bytes| Secret::aes_256_gcm(*bytes)),
+        };
+        secret.ok_or(DerivationError::SecretLength)
     }
 
     /// Creates a secret of TLS_AES_128_GCM_SHA256.
@@ -176,14 +171,10 @@ impl Secret {
     {
         match &self.inner {
             SecretBytes::Sha256(bytes) => {
-                let mut next = [0; 32];
-                Expander::<Sha256>::new(bytes).fill_labeled(label, b"", &mut next);
-                Secret::aes_128_gcm(next)
+                Secret::aes_128_gcm(Expander::<Sha256>::new(bytes).labeled(label))
             }
             SecretBytes::Sha384(bytes) => {
-                let mut next = [0; 48];
-                Expander::<Sha384>::new(bytes).fill_labeled(label, b"", &mut next);
-                Secret::aes_256_gcm(next)
+                Secret::aes_256_gcm(Expander::<Sha384>::new(bytes).labeled(label))
             }
         }
     }
