@@ -11,14 +11,15 @@ use crate::quic_key::{
     deerlapse_quic_header_key_from_secret, deerlapse_quic_header_key_from_secret_256,
     deerlapse_quic_initial_secrets, deerlapse_quic_key_from_secret,
     deerlapse_quic_key_from_secret_256, deerlapse_quic_key_init, deerlapse_quic_key_init_256,
-    deerlapse_quic_key_open, deerlapse_quic_key_seal, deerlapse_quic_next_secret,
+    deerlapse_quic_key_open, deerlapse_quic_key_seal, deerlapse_quic_key_wipe,
+    deerlapse_quic_next_secret,
 };
 use crate::record_key::{
     deerlapse_record_key_from_secret, deerlapse_record_key_from_secret_256,
     deerlapse_record_key_init, deerlapse_record_key_init_256, deerlapse_record_key_open,
-    deerlapse_record_key_seal, deerlapse_tls_next_secret,
+    deerlapse_record_key_seal, deerlapse_record_key_wipe, deerlapse_tls_next_secret,
 };
-use crate::tests::{accepted, equal, same};
+use crate::tests::{accepted, equal, is_zero, same};
 use crate::traffic_key::TrafficKey;
 use aead_ciphers_wide::aes::Width;
 use aead_ciphers_wide::aes_gcm::ExpandedKey;
@@ -45,6 +46,13 @@ fn no_key() -> TrafficKey {
         iv: [0; 12],
         room: [0; 4],
     }
+}
+
+/// A key and its IV are all zeros.
+fn is_no_key(rt: &impl Abort, traffic: &TrafficKey, what: &str) {
+    is_zero(rt, &traffic.key, what);
+    same(rt, &traffic.iv, &[0; 12], what);
+    same(rt, &traffic.room, &[0; 4], what);
 }
 
 /// Seals the payload of a packet, and opens it again.
@@ -113,7 +121,10 @@ fn protects(rt: &impl Abort, version: u32, secret: &[u8], row: &Packet) -> Resul
     if !deerlapse_quic_key_init_256(&mut of_bytes, &row.key, &row.iv) {
         return Err("a key".into());
     }
-    seals_packet(rt, &of_bytes, row)
+    seals_packet(rt, &of_bytes, row)?;
+    deerlapse_quic_key_wipe(&mut of_bytes);
+    is_no_key(rt, &of_bytes, row.name);
+    Ok(())
 }
 
 /// Masks a packet's header under the header key of a secret, with planes of each width.
@@ -228,7 +239,10 @@ fn protects_record(rt: &impl Abort, row: &Record) -> Result<(), Fail> {
         return Err("a key".into());
     }
     seals_record(rt, &key, row)?;
-    seals_record(rt, &wider, row)
+    seals_record(rt, &wider, row)?;
+    deerlapse_record_key_wipe(&mut key);
+    is_no_key(rt, &key, row.name);
+    Ok(())
 }
 
 #[test]

@@ -12,7 +12,7 @@ use crate::masks::{deerlapse_key_mask, deerlapse_mask_aes, deerlapse_mask_chacha
 use crate::numbered_key::{NumberedKey, deerlapse_nonce};
 use crate::opener::{
     deerlapse_opener_init, deerlapse_opener_init_256, deerlapse_opener_next, deerlapse_opener_open,
-    deerlapse_opener_open_number,
+    deerlapse_opener_open_number, deerlapse_opener_wipe,
 };
 use crate::out_of_place::{
     deerlapse_key_open_appended_tag_sized, deerlapse_key_open_to_sized,
@@ -21,6 +21,7 @@ use crate::out_of_place::{
 use crate::pieces::{deerlapse_key_begin, deerlapse_key_finish, deerlapse_key_update};
 use crate::sealer::{
     deerlapse_sealer_init, deerlapse_sealer_init_256, deerlapse_sealer_next, deerlapse_sealer_seal,
+    deerlapse_sealer_wipe,
 };
 use aead_ciphers_wide::aes::Width;
 use aead_ciphers_wide::aes_gcm::{ExpandedKey, SealState};
@@ -50,6 +51,23 @@ pub(crate) fn equal<T: Debug + PartialEq>(rt: &impl Abort, found: &T, wanted: &T
 /// A call is accepted.
 pub(crate) fn accepted(rt: &impl Abort, answer: bool, what: &str) {
     assert!(rt; answer, "{what}");
+}
+
+/// An expanded key is all zeros.
+pub(crate) fn is_zero(rt: &impl Abort, key: &ExpandedKey, what: &str) {
+    equal(rt, &key.planes, &[[0; 16]; 15], what);
+    equal(rt, &(key.rounds, key.width), &(0, 0), what);
+    equal(rt, &key.round_keys, &[[0; 16]; 15], what);
+    same(rt, &key.products, &[0; 512], what);
+    same(rt, &key.squares, &[0; 512], what);
+}
+
+/// A sealer or an opener is all zeros.
+fn has_no_numbers(rt: &impl Abort, numbered: &NumberedKey, what: &str) {
+    is_zero(rt, &numbered.key, what);
+    equal(rt, &(numbered.next, numbered.limit), &(0, 0), what);
+    same(rt, &numbered.iv, &[0; 12], what);
+    same(rt, &numbered.room, &[0; 220], what);
 }
 
 /// A call sealed a case's message.
@@ -115,9 +133,10 @@ fn by_both_keys(rt: &impl Abort, alloc: Global, case: &Case) -> Result<(), Fail>
     Ok(())
 }
 
-/// After a key is wiped, it seals nothing.
+/// After a key is wiped, it is all zeros, and seals nothing.
 fn seals_nothing_when_wiped(rt: &impl Abort, key: &mut ExpandedKey, case: &Case) {
     deerlapse_key_wipe(key);
+    is_zero(rt, key, case.name);
     let sealed = deerlapse_key_seal(key, &case.nonce, &case.aad, &mut [0; 5], &mut [0; 16]);
     accepted(rt, !sealed, case.name);
 }
@@ -249,6 +268,8 @@ fn seals_once(rt: &impl Abort, case: &Case, width: Width) -> Result<(), Fail> {
     let again = deerlapse_sealer_seal(&mut sealer, &case.aad, &mut bytes, &mut tag);
     accepted(rt, !again, case.name);
     equal(rt, &deerlapse_sealer_next(&sealer), &1, case.name);
+    deerlapse_sealer_wipe(&mut sealer);
+    has_no_numbers(rt, &sealer, case.name);
     Ok(())
 }
 
@@ -302,7 +323,10 @@ fn opens_under_each_width(rt: &impl Abort, case: &Case) -> Result<(), Fail> {
         return Err("an opener".into());
     }
     opens_once(rt, &mut opener, case)?;
-    opens_once(rt, &mut wider, case)
+    opens_once(rt, &mut wider, case)?;
+    deerlapse_opener_wipe(&mut opener);
+    has_no_numbers(rt, &opener, case.name);
+    Ok(())
 }
 
 #[test]

@@ -4,8 +4,6 @@ use Rattle.key_derivation.specs.Hash.{HashFunction, sha_256, sha_384}
 use Rattle.key_derivation.specs.Hkdf.{hkdf_expand_label}
 use Rattle.key_derivation.specs.declared.suite.Suite.{Suite}
 use Rattle.key_derivation.specs.declared.suite.Suite.TheVariants.{Aes128Gcm, Aes256Gcm}
-use Rattle.key_derivation.specs.declared.keys.KeyBytes.{KeyBytes}
-use Rattle.key_derivation.specs.declared.keys.KeyBytes.TheVariants.{Aes128, Aes256}
 use Rattle.key_derivation.specs.declared.secret.SecretBytes.{SecretBytes}
 use Rattle.key_derivation.specs.declared.secret.SecretBytes.TheVariants.{Sha256, Sha384}
 
@@ -30,10 +28,6 @@ pub record SecretState : Type 0 where
 abbrev pub secret_state : SecretBytes → SecretState
 secret_state (Sha256 b) = record { suite = Aes128Gcm; bytes = b }
 secret_state (Sha384 b) = record { suite = Aes256Gcm; bytes = b }
-
-abbrev pub key_bytes : KeyBytes → List ℕ
-key_bytes (Aes128 b) = b
-key_bytes (Aes256 b) = b
 
 -- HKDF-Expand-Label under the hash of the suite, with no context
 abbrev pub labeled : SecretState → (label : List ℕ) → (len : ℕ) → List ℕ

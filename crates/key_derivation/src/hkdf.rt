@@ -1,12 +1,15 @@
 //! HKDF (RFC 5869), and HKDF-Expand-Label and Derive-Secret of TLS 1.3 (RFC 8446 section 7.1).
 
-ghost use Rattle.std.specs.Prelude.{◌≡◌, ◌≢◌, ℕ, ◌++◌, ◌*◌, ◌+◌, ◌<◌, ◌≤◌, ◌↔◌, List, length, take, IsOk, IfOk, IsOkUnless, IsErrOf, IsTrue, OnOk, OnErr};
+ghost use Rattle.std.specs.Prelude.{◌≡◌, ◌≢◌, ℕ, ◌++◌, ◌*◌, ◌+◌, ◌<◌, ◌≤◌, ◌↔◌, List, [], length, take, IsOk, IfOk, IsOkUnless, IsErrOf, IsTrue, OnOk, OnErr};
 ghost use Rattle.key_derivation.specs.Hkdf.{IsLabel, derive_secret, hkdf_expand, hkdf_expand_label, hkdf_extract, hkdf_label};
 ghost use Rattle.key_derivation.specs.HmacState.{IsExpander, joined_pieces};
+ghost use Rattle.key_derivation.specs.Secret.{suite_key_len};
 
 use crate::error::DerivationError;
 use crate::hash::Hash;
 use crate::hmac::{HmacKey, hmac};
+use crate::suite::Suite;
+use arrayvec::ArrayVec;
 use sha2::Digest;
 use std::convert::AsSlice;
 
@@ -114,6 +117,34 @@ impl<H: Hash> Expander<H> {
         let mut info = [0u8; MAX_INFO_LEN];
         let len = write_label(&mut info, label, context, out.len() as u16);
         self.fill_okm(&[&info[..len]], out);
+    }
+
+    /// Returns the key of a suite by a label, with no context.
+    pub(crate) fn suite_key(&self, label: &[u8], suite: Suite) -> ArrayVec<u8, 32>
+        requires { length label.now ≤ 249 }
+        ensures key { (secret : List ℕ) → IsExpander H.function H.holds secret self.now
+            → result.items ≡ hkdf_expand_label H.function secret label.now [] (suite_key_len suite) }
+        ensures len { length result.items ≡ suite_key_len suite }
+    {
+        let mut key = ArrayVec::from([0; 32]);
+        key.truncate(match suite {
+            Suite::Aes128Gcm => 16,
+            Suite::Aes256Gcm => 32,
+        });
+        self.fill_labeled(label, b"", &mut key);
+        key
+    }
+
+    /// Returns as many bytes as the array has by a label, with no context.
+    pub(crate) fn labeled<const N: usize>(&self, label: &[u8]) -> [u8; N]
+        requires label { length label.now ≤ 249 }
+        requires len { N ≤ 255 * H.OUTPUT_LEN }
+        ensures { (secret : List ℕ) → IsExpander H.function H.holds secret self.now
+            → result ≡ hkdf_expand_label H.function secret label.now [] N }
+    {
+        let mut bytes = [0; N];
+        self.fill_labeled(label, b"", &mut bytes);
+        bytes
     }
 }
 

@@ -1,31 +1,13 @@
 //! The keys that a secret gives, each kind of its own type.
 
 ghost use Rattle.std.specs.Prelude.{◌≡◌};
-ghost use Rattle.key_derivation.specs.Secret.{key_bytes};
 
+use arrayvec::ArrayVec;
 use std::fmt;
 use std::marker::Model;
 
 /// The length of an IV in bytes.
 pub const IV_LEN: usize = 12;
-
-/// The bytes of a key.
-#[derive(Drop)]
-pub(crate) enum KeyBytes {
-    Aes128([u8; 16]),
-    Aes256([u8; 32]),
-}
-
-impl KeyBytes {
-    fn as_slice(&self) -> &[u8]
-        ensures { result.now ≡ key_bytes self.now }
-    {
-        match self {
-            KeyBytes::Aes128(bytes) => bytes,
-            KeyBytes::Aes256(bytes) => bytes,
-        }
-    }
-}
 
 /// The keys of one direction of QUIC (RFC 9001 section 5.1).
 #[derive(Drop)]
@@ -70,16 +52,15 @@ impl fmt::Debug for RecordKeys {
 /// The 16 or 32 bytes of an AEAD key, which seals or opens payloads: a `quic key`, or a `key` of TLS 1.3.
 #[derive(Drop)]
 pub struct AeadKeyBytes {
-    pub(crate) inner: KeyBytes,
+    pub(crate) bytes: ArrayVec<u8, 32>,
 }
 
 impl Model for AeadKeyBytes {
     ghost use Rattle.std.specs.Prelude.{ℕ, List};
-    ghost use Rattle.key_derivation.specs.Secret.{key_bytes};
 
     ghost Value = { List ℕ };
 
-    ghost view = { λ key. key_bytes key.inner };
+    ghost view = { λ key. key.bytes.items };
 }
 
 impl fmt::Debug for AeadKeyBytes {
@@ -97,23 +78,22 @@ impl AeadKeyBytes {
     pub fn as_slice(&self) -> &[u8]
         ensures { result.now ≡ self.now }
     {
-        self.inner.as_slice()
+        &self.bytes
     }
 }
 
 /// The 16 or 32 bytes of a key that masks headers: a `quic hp`.
 #[derive(Drop)]
 pub struct HeaderKeyBytes {
-    pub(crate) inner: KeyBytes,
+    pub(crate) bytes: ArrayVec<u8, 32>,
 }
 
 impl Model for HeaderKeyBytes {
     ghost use Rattle.std.specs.Prelude.{ℕ, List};
-    ghost use Rattle.key_derivation.specs.Secret.{key_bytes};
 
     ghost Value = { List ℕ };
 
-    ghost view = { λ key. key_bytes key.inner };
+    ghost view = { λ key. key.bytes.items };
 }
 
 impl fmt::Debug for HeaderKeyBytes {
@@ -131,6 +111,6 @@ impl HeaderKeyBytes {
     pub fn as_slice(&self) -> &[u8]
         ensures { result.now ≡ self.now }
     {
-        self.inner.as_slice()
+        &self.bytes
     }
 }

@@ -8,7 +8,7 @@ ghost use Rattle.key_derivation.specs.Secret.{suite_key_len, suite_secret_len};
 use crate::error::DerivationError;
 use crate::hash::Hash;
 use crate::hkdf::{Expander, extract};
-use crate::keys::{AeadKeyBytes, HeaderKeyBytes, IV_LEN, KeyBytes, QuicKeys};
+use crate::keys::{AeadKeyBytes, HeaderKeyBytes, QuicKeys};
 use crate::secret::{Secret, SecretBytes};
 use crate::suite::Suite;
 use sha2::{Sha256, Sha384};
@@ -210,23 +210,10 @@ impl QuicSecret {
         ensures key_len { length result.key ≡ suite_key_len self.now.secret.suite }
         ensures header_key_len { length result.header_key ≡ suite_key_len self.now.secret.suite }
     {
-        let mut iv = [0; IV_LEN];
-        let (key, header_key) = match &self.secret.inner {
-            SecretBytes::Sha256(bytes) => {
-                let (mut key, mut header_key) = ([0; 16], [0; 16]);
-                fill_keys::<Sha256>(self.version, bytes, &mut key, &mut iv, &mut header_key);
-                (KeyBytes::Aes128(key), KeyBytes::Aes128(header_key))
-            }
-            SecretBytes::Sha384(bytes) => {
-                let (mut key, mut header_key) = ([0; 32], [0; 32]);
-                fill_keys::<Sha384>(self.version, bytes, &mut key, &mut iv, &mut header_key);
-                (KeyBytes::Aes256(key), KeyBytes::Aes256(header_key))
-            }
-        };
-        QuicKeys {
-            key: AeadKeyBytes { inner: key },
-            iv,
-            header_key: HeaderKeyBytes { inner: header_key },
+        let version = self.version;
+        match &self.secret.inner {
+            SecretBytes::Sha256(bytes) => derive_keys::<Sha256>(version, bytes, Suite::Aes128Gcm),
+            SecretBytes::Sha384(bytes) => derive_keys::<Sha384>(version, bytes, Suite::Aes256Gcm),
         }
     }
 
@@ -242,26 +229,25 @@ impl QuicSecret {
     }
 }
 
-/// Fills the parts of the keys, by one key of HMAC.
-fn fill_keys<H: Hash>(
-    version: Version,
-    secret: &[u8],
-    key: &mut [u8],
-    iv: &mut [u8],
-    header_key: &mut [u8],
-)
-    requires key { length key.old ≤ 32 }
-    requires iv { length iv.old ≤ 32 }
-    requires header_key { length header_key.old ≤ 32 }
-    ensures key { key.new ≡ hkdf_expand_label H.function secret.now (key_label version) [] (length key.old) }
-    ensures iv { iv.new ≡ hkdf_expand_label H.function secret.now (iv_label version) [] (length iv.old) }
-    ensures header_key { header_key.new
-        ≡ hkdf_expand_label H.function secret.now (header_key_label version) [] (length header_key.old) }
+/// Returns the keys for a suite, by one key of HMAC.
+fn derive_keys<H: Hash>(version: Version, secret: &[u8], suite: Suite) -> QuicKeys
+    ensures key { result.key ≡ hkdf_expand_label H.function secret.now (key_label version) [] (suite_key_len suite) }
+    ensures iv { result.iv ≡ hkdf_expand_label H.function secret.now (iv_label version) [] 12 }
+    ensures header_key { result.header_key
+        ≡ hkdf_expand_label H.function secret.now (header_key_label version) [] (suite_key_len suite) }
+    ensures key_len { length result.key ≡ suite_key_len suite }
+    ensures header_key_len { length result.header_key ≡ suite_key_len suite }
 {
     let from = Expander::<H>::new(secret);
-    from.fill_labeled(version.key_label(), b"", key);
-    from.fill_labeled(version.iv_label(), b"", iv);
-    from.fill_labeled(version.header_key_label(), b"", header_key);
+    QuicKeys {
+        key: AeadKeyBytes {
+            bytes: from.suite_key(version.key_label(), suite),
+        },
+        iv: from.labeled(version.iv_label()),
+        header_key: HeaderKeyBytes {
+            bytes: from.suite_key(version.header_key_label(), suite),
+        },
+    }
 }
 
 /// The secret of an endpoint by its label.
@@ -275,7 +261,6 @@ fn initial(version: Version, id: &[u8], label: &[u8]) -> Result<QuicSecret, Deri
         return Err(DerivationError::ConnectionIdLength);
     }
     let secret = extract::<Sha256>(&version.initial_salt(), id);
-    let mut bytes = [0u8; 32];
-    Expander::<Sha256>::new(&secret).fill_labeled(label, b"", &mut bytes);
+    let bytes = Expander::<Sha256>::new(&secret).labeled(label);
     Ok(QuicSecret::new(version, Secret::aes_128_gcm(bytes)))
 }

@@ -8,7 +8,7 @@ ghost use Rattle.key_derivation.specs.Tls.{next_traffic_secret, record_iv, recor
 use crate::error::DerivationError;
 use crate::hash::Hash;
 use crate::hkdf::{self, Expander};
-use crate::keys::{AeadKeyBytes, IV_LEN, KeyBytes, RecordKeys};
+use crate::keys::{AeadKeyBytes, RecordKeys};
 use crate::suite::Suite;
 use sha2::{Sha256, Sha384};
 use std::fmt;
@@ -55,16 +55,11 @@ impl Secret {
         ensures refused { IsOkUnless result DerivationError.SecretLength }
         ensures made { IfOk result (λ s. s ≡ record { suite = suite; bytes = bytes.now }) }
     {
-        match suite {
-            Suite::Aes128Gcm => match bytes.as_array::<32>() {
-                Some(bytes) => Ok(Secret::aes_128_gcm(*bytes)),
-                None => Err(DerivationError::SecretLength),
-            },
-            Suite::Aes256Gcm => match bytes.as_array::<48>() {
-                Some(bytes) => Ok(Secret::aes_256_gcm(*bytes)),
-                None => Err(DerivationError::SecretLength),
-            },
-        }
+        let secret = match suite {
+            Suite::Aes128Gcm => bytes.as_array().map(|bytes| Secret::aes_128_gcm(*bytes)),
+            Suite::Aes256Gcm => bytes.as_array().map(|bytes| Secret::aes_256_gcm(*bytes)),
+        };
+        secret.ok_or(DerivationError::SecretLength)
     }
 
     /// Creates a secret of TLS_AES_128_GCM_SHA256.
@@ -156,22 +151,9 @@ impl Secret {
         ensures iv { result.iv ≡ record_iv self.now }
         ensures key_len { length result.key ≡ suite_key_len self.now.suite }
     {
-        let mut iv = [0; IV_LEN];
-        let key = match &self.inner {
-            SecretBytes::Sha256(bytes) => {
-                let mut key = [0; 16];
-                fill_record_keys::<Sha256>(bytes, &mut key, &mut iv);
-                KeyBytes::Aes128(key)
-            }
-            SecretBytes::Sha384(bytes) => {
-                let mut key = [0; 32];
-                fill_record_keys::<Sha384>(bytes, &mut key, &mut iv);
-                KeyBytes::Aes256(key)
-            }
-        };
-        RecordKeys {
-            key: AeadKeyBytes { inner: key },
-            iv,
+        match &self.inner {
+            SecretBytes::Sha256(bytes) => derive_record_keys::<Sha256>(bytes, Suite::Aes128Gcm),
+            SecretBytes::Sha384(bytes) => derive_record_keys::<Sha384>(bytes, Suite::Aes256Gcm),
         }
     }
 
@@ -189,27 +171,26 @@ impl Secret {
     {
         match &self.inner {
             SecretBytes::Sha256(bytes) => {
-                let mut next = [0; 32];
-                Expander::<Sha256>::new(bytes).fill_labeled(label, b"", &mut next);
-                Secret::aes_128_gcm(next)
+                Secret::aes_128_gcm(Expander::<Sha256>::new(bytes).labeled(label))
             }
             SecretBytes::Sha384(bytes) => {
-                let mut next = [0; 48];
-                Expander::<Sha384>::new(bytes).fill_labeled(label, b"", &mut next);
-                Secret::aes_256_gcm(next)
+                Secret::aes_256_gcm(Expander::<Sha384>::new(bytes).labeled(label))
             }
         }
     }
 }
 
-/// Fills the parts of the keys of records, by one key of HMAC.
-fn fill_record_keys<H: Hash>(secret: &[u8], key: &mut [u8], iv: &mut [u8])
-    requires key { length key.old ≤ 32 }
-    requires iv { length iv.old ≤ 32 }
-    ensures key { key.new ≡ hkdf_expand_label H.function secret.now (codes "key") [] (length key.old) }
-    ensures iv { iv.new ≡ hkdf_expand_label H.function secret.now (codes "iv") [] (length iv.old) }
+/// Returns the key of records for a suite, by one key of HMAC.
+fn derive_record_keys<H: Hash>(secret: &[u8], suite: Suite) -> RecordKeys
+    ensures key { result.key ≡ hkdf_expand_label H.function secret.now (codes "key") [] (suite_key_len suite) }
+    ensures iv { result.iv ≡ hkdf_expand_label H.function secret.now (codes "iv") [] 12 }
+    ensures key_len { length result.key ≡ suite_key_len suite }
 {
     let from = Expander::<H>::new(secret);
-    from.fill_labeled(b"key", b"", key);
-    from.fill_labeled(b"iv", b"", iv);
+    RecordKeys {
+        key: AeadKeyBytes {
+            bytes: from.suite_key(b"key", suite),
+        },
+        iv: from.labeled(b"iv"),
+    }
 }

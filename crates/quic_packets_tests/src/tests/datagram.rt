@@ -1,6 +1,6 @@
 //! Tests of `packet_at`: the packets of RFC 9001 and RFC 9369 appendix A, and handwritten datagrams.
 
-use crate::tests::checks::{equal, holds};
+use crate::tests::checks::equal;
 use crate::tests::retry::A_4_RETRY;
 use aead_vectors::rfc_9001::{A_2_PACKET, A_3_PACKET, A_5_PROTECTED, Packet as Vector};
 use aead_vectors::rfc_9369;
@@ -163,7 +163,7 @@ fn cut_anywhere(rt: &impl Abort, packet: &[u8]) {
 /// Asserts that the packet at the front of a datagram is rejected with this error.
 fn refused(rt: &impl Abort, datagram: &[u8], id_len: usize, error: DatagramError) {
     let found = packet_at(datagram, 0, id_len, FixedBit::Required);
-    holds(rt, found == Err(error), "the error");
+    equal(rt, &found, &Err(error));
 }
 
 // A packet, and a truncated one after it.
@@ -171,7 +171,7 @@ fn cut_second(rt: &impl Abort, mut datagram: Vec<u8>) -> Result<(), Fail> {
     datagram.push(0xc0)?;
     let end = packet_at(&datagram, 0, 0, FixedBit::Required)?.end;
     let found = packet_at(&datagram, end, 0, FixedBit::Required);
-    holds(rt, found == Err(DatagramError::Cut), "the error");
+    equal(rt, &found, &Err(DatagramError::Cut));
     Ok(())
 }
 

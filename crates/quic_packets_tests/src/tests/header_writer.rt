@@ -186,7 +186,7 @@ fn token_lengths(rt: HostRuntime) -> Result<(), Fail> {
 fn refuses(rt: &impl Abort, header: Header<'_>, len: usize, error: HeaderError) {
     let mut buffer = [0xaa; 40];
     let found = write(header, &mut buffer[..len.min(40)]);
-    holds(rt, found == Err(error), "the error");
+    equal(rt, &found, &Err(error));
     same(rt, &buffer, &[0xaa; 40], "unchanged");
 }
 

@@ -246,7 +246,7 @@ fn chacha20_header(rt: HostRuntime) -> Result<(), Fail> {
     let mut packet = A_5_SEALED;
     key.protect(&mut packet, 1)?;
     same(&rt, &packet, &A_5_PROTECTED, "protected");
-    holds(&rt, key.unprotect(&mut packet, 1) == Ok(3), "the length");
+    equal(&rt, &key.unprotect(&mut packet, 1), &Ok(3));
     same(&rt, &packet, &A_5_SEALED, "unprotected");
     Ok(())
 }

@@ -156,7 +156,7 @@ fn receives(rt: &impl Abort, row: &Packet) -> Result<(), Fail> {
         payload: row.header.len()..row.header.len().saturating_add(row.payload_len),
         phase: false,
     };
-    holds(rt, received == wanted, row.name);
+    equal(rt, &received, &wanted);
     holds(rt, packet.starts_with(&row.header), row.name);
     Ok(())
 }
@@ -188,7 +188,7 @@ fn flipped(rt: &impl Abort, alloc: Global, packet: &[u8], bit: usize) -> Result<
 fn rejects(rt: &impl Abort, end: &mut End, row: &Row, packet: &mut Vec<u8>) -> Result<(), Fail> {
     let came = packet.clone()?;
     let outcome = end.receive(packet, row.number_at);
-    holds(rt, outcome == Err(PacketError::Refused), row.name);
+    equal(rt, &outcome, &Err(PacketError::Refused));
     same(rt, packet, &came, row.name);
     Ok(())
 }
@@ -346,7 +346,7 @@ fn window_of_64_words(rt: HostRuntime) -> Result<(), Fail> {
         let parts = packet_at(&packet, 0, 8, FixedBit::Required)?;
         let outcome = receiver.receive(&mut space, &mut failures, &mut packet, &parts);
         let is_duplicate = outcome == Err(PacketError::Duplicate);
-        holds(&rt, outcome.is_ok() == is_new, "received");
+        equal(&rt, &outcome.is_ok(), &is_new);
         holds(&rt, is_duplicate != is_new, "a duplicate");
     }
     has_ranges(&rt, &space, &[(4160, 4161), (4095, 4097), (65, 66)]);
@@ -399,12 +399,8 @@ fn rejects_zeros(
     error: PacketError,
 ) -> Result<(), Fail> {
     let mut end = End::new(receiver(1)?, 1);
-    holds(
-        rt,
-        end.receive(packet, number_at) == Err(error),
-        "the error",
-    );
-    holds(rt, end.failures.count() == 0, "no failure");
+    equal(rt, &end.receive(packet, number_at), &Err(error));
+    equal(rt, &end.failures.count(), &0);
     Ok(())
 }
 
@@ -435,7 +431,7 @@ fn parts(rt: HostRuntime) -> Result<(), Fail> {
     let before = datagram;
     for (start, number_at, to, error) in OTHER_PARTS {
         let found = end.receive_part(&mut datagram, start, number_at, to);
-        holds(&rt, found == Err(error), "the error");
+        equal(&rt, &found, &Err(error));
         same(&rt, &datagram, &before, "refused");
     }
     let received = end.receive_part(&mut datagram, 2, Some(11), 42)?;

@@ -89,7 +89,7 @@ fn drops(rt: &impl Abort, row: &Packet) -> Result<(), Fail> {
     let mut datagram = row.protected.clone()?;
     let step = connection.receive(&mut datagram, 0, 0, &CLIENT_ID)?;
     let dropped = Incoming::Dropped(PacketError::OtherVersion);
-    holds(rt, step.incoming == dropped, "dropped");
+    equal(rt, &step.incoming, &dropped);
     equal(rt, &step.next, &datagram.len());
     Ok(())
 }

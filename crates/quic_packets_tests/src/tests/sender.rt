@@ -1,6 +1,6 @@
 //! Tests of `quic_packets::Sender`: packets of RFC 9001 appendix A and of another implementation, each error, skipped numbers, limits and key updates.
 
-use crate::tests::checks::{equal, holds, same};
+use crate::tests::checks::{equal, same};
 use crate::tests::keys::{packets, plain};
 use crate::tests::rows::{HEADER_KEY, IV, Row, rows};
 use aead_vectors::rfc_9001::Packet;
@@ -126,13 +126,10 @@ fn refuses(
 ) {
     let mut sent = *packet;
     let before = (sender.next_number(), sender.sealed());
-    holds(
-        rt,
-        sender.send(&mut sent, room, FixedBit::Required) == Err(wanted),
-        "the error",
-    );
+    let found = sender.send(&mut sent, room, FixedBit::Required);
+    equal(rt, &found, &Err(wanted));
     let after = (sender.next_number(), sender.sealed());
-    holds(rt, after == before, "the numbers");
+    equal(rt, &after, &before);
     same(rt, &sent, packet, "refused");
 }
 
@@ -166,7 +163,7 @@ fn shortest(rt: HostRuntime) -> Result<(), Fail> {
     let mut sender = sender(0)?;
     for (number, first) in [(0, 0x40), (1, 0xe0)] {
         let sent = sender.send(&mut packet(first, 1), 4..5, FixedBit::Required);
-        holds(&rt, sent == Ok(number), "sent");
+        equal(&rt, &sent, &Ok(number));
     }
     Ok(())
 }
@@ -178,8 +175,8 @@ fn greased(rt: HostRuntime) -> Result<(), Fail> {
     for (number, first) in [(0, 0x00), (1, 0xa0)] {
         let mut packet = packet(first, 1);
         let sent = sender.send(&mut packet, 4..5, FixedBit::Greased);
-        holds(&rt, sent == Ok(number), "sent");
-        holds(&rt, packet[0] & 0x40 == 0, "the fixed bit");
+        equal(&rt, &sent, &Ok(number));
+        equal(&rt, &(packet[0] & 0x40), &0);
     }
     Ok(())
 }
@@ -194,7 +191,7 @@ fn numbers(rt: HostRuntime) -> Result<(), Fail> {
         ((1 << 62) + 1, Err(PacketError::NumbersEnded)),
         (1 << 62, Ok(())),
     ] {
-        holds(&rt, sender.skip_to(number) == outcome, "skipped");
+        equal(&rt, &sender.skip_to(number), &outcome);
     }
     refuses(&rt, &mut sender, &SHORT, 1..2, PacketError::NumbersEnded);
     Ok(())
@@ -461,15 +458,11 @@ fn numbers_go_on(rt: HostRuntime) -> Result<(), Fail> {
     let mut sender = sender(0)?.with_limit(1);
     sender.send(&mut packet(0xd0, 1), 4..5, FixedBit::Required)?;
     let refused = install_keys(&mut sender, 16);
-    holds(
-        &rt,
-        refused == Err(PacketError::KeyLength),
-        "a header key's length",
-    );
+    equal(&rt, &refused, &Err(PacketError::KeyLength));
     refuses(&rt, &mut sender, &SHORT, 1..2, PacketError::KeyUsedUp);
     install_keys(&mut sender, 32)?;
     let sent = sender.send(&mut packet(0x40, 0), 1..2, FixedBit::Required);
-    holds(&rt, sent == Ok(1), "sent");
+    equal(&rt, &sent, &Ok(1));
     refuses(&rt, &mut sender, &SHORT, 1..2, PacketError::KeyUsedUp);
     Ok(())
 }
