@@ -14,13 +14,12 @@ int main(void) {
         return 1;
     }
 
-    deerlapse_key key; /* many threads may use it at once */
-    if (!deerlapse_key_init(&key, bytes, sizeof bytes) ||
-        !deerlapse_key_seal(&key, nonce, header, sizeof header, buffer, 5, buffer + 5) ||
-        !deerlapse_key_open(&key, nonce, header, sizeof header, buffer, sizeof buffer, 0, &len)) {
-        return 1;
-    }
-    printf("opened: %.*s\n", (int)len, (const char *)buffer);
+    deerlapse_key key = {{0}}; /* many threads may use it at once */
+    bool opened = deerlapse_key_init(&key, bytes, sizeof bytes) &&
+                  deerlapse_key_seal(&key, nonce, header, sizeof header, buffer, 5, buffer + 5) &&
+                  deerlapse_key_open(&key, nonce, header, sizeof header, buffer, sizeof buffer, 0, &len);
     deerlapse_key_wipe(&key);
+    if (!opened) return 1;
+    printf("opened: %.*s\n", (int)len, (const char *)buffer);
     return 0;
 }

@@ -23,16 +23,17 @@ int main(void) {
     }
 
     /* Numbers 0, 1, 2, .. and at most 2^24 messages. The tag goes after the message. */
-    deerlapse_sealer sealer;
-    if (!deerlapse_sealer_init(&sealer, key, sizeof key, iv, 0, 1 << 24) ||
-        !deerlapse_sealer_seal(&sealer, header, sizeof header, first, 5, first + 5) ||
-        !deerlapse_sealer_seal(&sealer, header, sizeof header, second, 3, second + 3)) {
-        return 1;
-    }
+    deerlapse_sealer sealer = {{0}};
+    bool sealed = deerlapse_sealer_init(&sealer, key, sizeof key, iv, 0, 1 << 24) &&
+                  deerlapse_sealer_seal(&sealer, header, sizeof header, first, 5, first + 5) &&
+                  deerlapse_sealer_seal(&sealer, header, sizeof header, second, 3, second + 3);
+    deerlapse_sealer_wipe(&sealer);
 
-    deerlapse_opener opener;
-    if (!deerlapse_opener_init(&opener, key, sizeof key, iv, 0, 1 << 24)) return 1;
     /* The second message is not message 0: its tag is wrong, no byte changes, and no number is counted. */
-    if (opens(&opener, second, sizeof second)) return 1;
-    return opens(&opener, first, sizeof first) && opens(&opener, second, sizeof second) ? 0 : 1;
+    deerlapse_opener opener = {{0}};
+    bool opened = sealed && deerlapse_opener_init(&opener, key, sizeof key, iv, 0, 1 << 24) &&
+                  !opens(&opener, second, sizeof second) && opens(&opener, first, sizeof first) &&
+                  opens(&opener, second, sizeof second);
+    deerlapse_opener_wipe(&opener);
+    return opened ? 0 : 1;
 }
