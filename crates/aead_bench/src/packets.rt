@@ -6,8 +6,8 @@ use aead_ciphers::aead::nonce_of;
 use aead_ciphers_base::aes::AES_128_KEY_LEN;
 use aead_ciphers_wide::aead::LessSafeKey;
 use quic_packets::{
-    Failures, FixedBit, Keys, Packet, PacketError, Receiver, Sender, Space, Suite, Version,
-    packet_at,
+    Failures, FixedBit, KeyError, Keys, Packet, PacketError, Receiver, Sender, Space, Suite,
+    Version, packet_at,
 };
 
 /// A short header of a QUIC packet: the first byte, a connection ID of 8 bytes, and a packet number of 2 bytes.
@@ -49,7 +49,7 @@ struct Connection {
 }
 
 impl Connection {
-    fn new(key: &[u8]) -> Result<Self, PacketError> {
+    fn new(key: &[u8]) -> Result<Self, KeyError> {
         Ok(Connection {
             sender: Sender::new(suite(key), keys(key), UNACKNOWLEDGED)?,
             receiver: Receiver::new(suite(key), keys(key))?,

@@ -25,6 +25,7 @@ use crate::datagram::{DatagramError, Packet, PacketType, packet_at};
 use crate::error::PacketError;
 use crate::failures::Failures;
 use crate::fixed_bit::FixedBit;
+use crate::key_error::KeyError;
 use crate::receiver::{Received, Receiver};
 use crate::sender::{CONFIDENTIALITY_LIMIT, Sender};
 use crate::space::Space;
@@ -238,11 +239,11 @@ impl Connection {
     /// Fails with `HandshakeUnconfirmed` if the handshake is not confirmed or the keys of 1-RTT packets are not there in both
     /// directions, and with `PhaseUnacknowledged` if there was an update and no packet of its phase is acknowledged yet. The
     /// connection is then unchanged.
-    pub fn update_keys(&mut self) -> Result<(), PacketError>
+    pub fn update_keys(&mut self) -> Result<(), KeyError>
         ensures accepted { IsOk result ↔ IsTrue (may_update self.old.one_rtt) }
-        ensures unconfirmed { IsErrOf result PacketError.HandshakeUnconfirmed
+        ensures unconfirmed { IsErrOf result KeyError.HandshakeUnconfirmed
             ↔ ¬ IsTrue (is_confirmed self.old.one_rtt) }
-        ensures unacknowledged { IsErrOf result PacketError.PhaseUnacknowledged
+        ensures unacknowledged { IsErrOf result KeyError.PhaseUnacknowledged
             ↔ (IsTrue (is_confirmed self.old.one_rtt) × ¬ IsTrue (may_update self.old.one_rtt)) }
         ensures initiated { OnOk result (self.new ≡ record self.old { one_rtt = initiated self.old.one_rtt }) }
         ensures kept { OnErr result (self.new ≡ self.old) }

@@ -18,12 +18,6 @@ const AEAD_LIMIT_REACHED: u64 = 0x0f;
 /// `NoFrames`: these come after the packet was opened.
 #[derive(Clone, Copy, PartialEq, Eq, Debug, Drop)]
 pub enum PacketError {
-    /// The key is not as long as the algorithm's keys.
-    KeyLength,
-    /// The keys derive from a secret, so the caller's are not taken.
-    KeysDerived,
-    /// There is no secret from which keys derive: the sender or the receiver is made of keys.
-    NoSecret,
     /// The connection does not have the keys of the level.
     NoKeys,
     /// The packet number is said to begin at byte 0, which is the first byte of every header.
@@ -65,10 +59,6 @@ pub enum PacketError {
     NeverSent,
     /// The peer has acknowledged a packet of the current keys in a packet of older keys (RFC 9001 section 6.2).
     UpdateUnanswered,
-    /// The handshake is not confirmed, so the keys cannot be updated yet (RFC 9001 section 6.1).
-    HandshakeUnconfirmed,
-    /// No packet of this key phase is acknowledged, so the keys cannot be updated again yet (RFC 9001 section 6.1).
-    PhaseUnacknowledged,
     /// The tag does not match the header, the payload and the number under this key.
     Refused,
     /// The limit on packets that fail authentication is reached (RFC 9001 section 6.6).
@@ -108,9 +98,6 @@ impl PacketError {
     /// What the error displays.
     const fn text(&self) -> &'static str {
         match self {
-            PacketError::KeyLength => "the key does not have the length of the algorithm's keys",
-            PacketError::KeysDerived => "the keys derive from a secret",
-            PacketError::NoSecret => "there is no secret from which keys derive",
             PacketError::NoKeys => "the keys of the level are not there",
             PacketError::NumberAtFirstByte => {
                 "the packet number cannot begin at the header's first byte"
@@ -136,8 +123,6 @@ impl PacketError {
             PacketError::UpdateUnanswered => {
                 "a packet of the current keys was acknowledged under older keys"
             }
-            PacketError::HandshakeUnconfirmed => "the handshake is not confirmed",
-            PacketError::PhaseUnacknowledged => "no packet of this key phase was acknowledged",
             PacketError::Refused => "the packet is not authentic",
             PacketError::TooManyFailures => "too many packets have failed authentication",
             PacketError::ReservedBits => "the packet's reserved bits are set",

@@ -10,6 +10,7 @@ ghost use Rattle.quic_packets.specs.Keys.{secret_key};
 ghost use Rattle.quic_packets.specs.Packet.{EndsWithTag, IsGenuine, IsNumber};
 
 use crate::error::PacketError;
+use crate::key_error::KeyError;
 use crate::keys::keys_of;
 use crate::packet::{NUMBERS_END, check_lengths, payload_len};
 use aead_ciphers::aead::{Aad, Algorithm, MAX_TAG_LEN, NONCE_LEN, Nonce, Tag, nonce_of};
@@ -48,15 +49,15 @@ impl PacketKey {
         algorithm: &'static Algorithm,
         key: &[u8],
         iv: [u8; NONCE_LEN],
-    ) -> Result<Self, PacketError>
+    ) -> Result<Self, KeyError>
         ensures accepted { IsOk result ↔ (length key.now ≡ key_len algorithm.now) }
-        ensures refused { IsOkUnless result PacketError.KeyLength }
+        ensures refused { IsOkUnless result KeyError.KeyLength }
         ensures made { IfOk result (λ made. made
             ≡ record { algorithm = algorithm.now; bytes = key.now; iv = iv }) }
     {
         match LessSafeKey::new(algorithm, key) {
             Ok(key) => Ok(PacketKey { key, iv }),
-            Err(_) => Err(PacketError::KeyLength),
+            Err(_) => Err(KeyError::KeyLength),
         }
     }
 

@@ -21,6 +21,7 @@ use crate::first_byte::{
 };
 use crate::header::{HeaderKey, SAMPLE_END, masked_bytes, write_back};
 use crate::key::PacketKey;
+use crate::key_error::KeyError;
 use crate::keys::{Keys, keys_of};
 use crate::mask_error::MaskError;
 use crate::numbers::{decode, truncated};
@@ -109,9 +110,9 @@ impl Receiver {
     /// Creates a receiver with keys of the caller's, which have the lengths of the suite.
     ///
     /// Fails with `KeyLength` if a key is not as long as the suite's.
-    pub fn new(suite: Suite, keys: Keys<'_>) -> Result<Self, PacketError>
+    pub fn new(suite: Suite, keys: Keys<'_>) -> Result<Self, KeyError>
         ensures accepted { IsOk result ↔ HasKeyLengths suite keys.entry.key.now keys.entry.header_key.now }
-        ensures refused { IsOkUnless result PacketError.KeyLength }
+        ensures refused { IsOkUnless result KeyError.KeyLength }
         ensures made { IfOk result (λ made. made ≡ new_receiver keys.entry.version (header_key suite keys.entry.header_key.now)
             (packet_key suite keys.entry.key.now keys.entry.iv) None) }
     {
@@ -152,14 +153,14 @@ impl Receiver {
     /// initiates an update. Until then, a packet of the next phase is rejected as a forged one is.
     ///
     /// Fails with `NoSecret` if the receiver is not made of a secret. The receiver is then unchanged.
-    pub fn set_next(&mut self) -> Result<(), PacketError>
+    pub fn set_next(&mut self) -> Result<(), KeyError>
         ensures accepted { IsOk result ↔ IsSome self.old.secret }
-        ensures refused { IsOkUnless result PacketError.NoSecret }
+        ensures refused { IsOkUnless result KeyError.NoSecret }
         ensures given { OnOk result (IfSome self.old.secret (λ held. self.new ≡ with_next self.old held)) }
         ensures kept { OnErr result (self.new ≡ self.old) }
     {
         let Some(secret) = &self.secret else {
-            return Err(PacketError::NoSecret);
+            return Err(KeyError::NoSecret);
         };
         if self.next.is_none() {
             let next = secret.next();
@@ -173,11 +174,11 @@ impl Receiver {
     ///
     /// Fails with `KeysDerived` if the receiver is made of a secret, and with `KeyLength` if `key` is not as long as the suite's
     /// keys. The receiver is then unchanged.
-    pub fn set_next_with(&mut self, key: &[u8], iv: [u8; NONCE_LEN]) -> Result<(), PacketError>
+    pub fn set_next_with(&mut self, key: &[u8], iv: [u8; NONCE_LEN]) -> Result<(), KeyError>
         ensures accepted { IsOk result
             ↔ (¬ IsSome self.old.secret × (length key.now ≡ key_len self.old.current.algorithm)) }
-        ensures derived { IsErrOf result PacketError.KeysDerived ↔ IsSome self.old.secret }
-        ensures key_len { IsErrOf result PacketError.KeyLength
+        ensures derived { IsErrOf result KeyError.KeysDerived ↔ IsSome self.old.secret }
+        ensures key_len { IsErrOf result KeyError.KeyLength
             ↔ (¬ IsSome self.old.secret × (length key.now ≢ key_len self.old.current.algorithm)) }
         ensures given { OnOk result (self.new ≡ record self.old {
           next = Some (record self.old.current { bytes = key.now; iv = iv });
@@ -185,7 +186,7 @@ impl Receiver {
         ensures kept { OnErr result (self.new ≡ self.old) }
     {
         if self.secret.is_some() {
-            return Err(PacketError::KeysDerived);
+            return Err(KeyError::KeysDerived);
         }
         self.next = Some(PacketKey::new(self.current.algorithm(), key, iv)?);
         Ok(())

@@ -17,6 +17,7 @@ use crate::first_byte::{KEY_PHASE_BIT, LONG_MASKED_BITS, SHORT_MASKED_BITS, is_l
 use crate::fixed_bit::FixedBit;
 use crate::header::{HeaderKey, MAX_NUMBER_LEN, SAMPLE_END};
 use crate::key::PacketKey;
+use crate::key_error::KeyError;
 use crate::keys::{Keys, keys_of};
 use crate::numbers::number_len;
 use crate::packet::{NUMBERS_END, payload_len};
@@ -105,9 +106,9 @@ impl Sender {
     /// The Key Phase bit is 0, and the handshake is not confirmed.
     ///
     /// Fails with `NumbersEnded` if `first` is above 2^62.
-    pub fn from_secret(secret: QuicSecret, first: u64) -> Result<Self, PacketError>
+    pub fn from_secret(secret: QuicSecret, first: u64) -> Result<Self, KeyError>
         ensures accepted { IsOk result ↔ (first ≤ 2 ^ 62) }
-        ensures refused { IsOkUnless result PacketError.NumbersEnded }
+        ensures refused { IsOkUnless result KeyError.NumbersEnded }
         ensures made { IfOk result (λ made. made
             ≡ new_sender secret.version (secret_key secret) (secret_header_key secret) (Some secret) first) }
     {
@@ -121,12 +122,12 @@ impl Sender {
     /// The Key Phase bit is 0, and the handshake is not confirmed.
     ///
     /// Fails with `KeyLength` if a key is not as long as the suite's, and with `NumbersEnded` if `first` is above 2^62.
-    pub fn new(suite: Suite, keys: Keys<'_>, first: u64) -> Result<Self, PacketError>
+    pub fn new(suite: Suite, keys: Keys<'_>, first: u64) -> Result<Self, KeyError>
         ensures accepted { IsOk result
             ↔ (HasKeyLengths suite keys.entry.key.now keys.entry.header_key.now × (first ≤ 2 ^ 62)) }
-        ensures key_len { IsErrOf result PacketError.KeyLength
+        ensures key_len { IsErrOf result KeyError.KeyLength
             ↔ ¬ HasKeyLengths suite keys.entry.key.now keys.entry.header_key.now }
-        ensures ended { IsErrOf result PacketError.NumbersEnded
+        ensures ended { IsErrOf result KeyError.NumbersEnded
             ↔ (HasKeyLengths suite keys.entry.key.now keys.entry.header_key.now × (2 ^ 62 < first)) }
         ensures made { IfOk result (λ made. made ≡ new_sender keys.entry.version
             (packet_key suite keys.entry.key.now keys.entry.iv) (header_key suite keys.entry.header_key.now) None first) }
@@ -143,13 +144,13 @@ impl Sender {
         header_key: HeaderKey,
         secret: Option<QuicSecret>,
         first: u64,
-    ) -> Result<Self, PacketError>
+    ) -> Result<Self, KeyError>
         ensures accepted { IsOk result ↔ (first ≤ 2 ^ 62) }
-        ensures refused { IsOkUnless result PacketError.NumbersEnded }
+        ensures refused { IsOkUnless result KeyError.NumbersEnded }
         ensures made { IfOk result (λ made. made ≡ new_sender version key header_key secret first) }
     {
         if first > NUMBERS_END {
-            return Err(PacketError::NumbersEnded);
+            return Err(KeyError::NumbersEnded);
         }
         Ok(Sender {
             version,
@@ -352,13 +353,13 @@ impl Sender {
     /// Fails with `HandshakeUnconfirmed` if the handshake is not confirmed, with `PhaseUnacknowledged` if there was an update
     /// and no packet of its phase is acknowledged yet, and with `NoSecret` if the sender is not made of a secret. The sender is
     /// then unchanged.
-    pub fn initiate_update(&mut self) -> Result<(), PacketError>
+    pub fn initiate_update(&mut self) -> Result<(), KeyError>
         ensures accepted { IsOk result
             ↔ (IsTrue self.old.confirmed × IsTrue self.old.acknowledged × IsSome self.old.secret) }
-        ensures unconfirmed { IsErrOf result PacketError.HandshakeUnconfirmed ↔ ¬ IsTrue self.old.confirmed }
-        ensures unacknowledged { IsErrOf result PacketError.PhaseUnacknowledged
+        ensures unconfirmed { IsErrOf result KeyError.HandshakeUnconfirmed ↔ ¬ IsTrue self.old.confirmed }
+        ensures unacknowledged { IsErrOf result KeyError.PhaseUnacknowledged
             ↔ (IsTrue self.old.confirmed × ¬ IsTrue self.old.acknowledged) }
-        ensures no_secret { IsErrOf result PacketError.NoSecret
+        ensures no_secret { IsErrOf result KeyError.NoSecret
             ↔ (IsTrue self.old.confirmed × IsTrue self.old.acknowledged × ¬ IsSome self.old.secret) }
         ensures updated { OnOk result (IfSome self.old.secret (λ held. self.new ≡ after_derived_update self.old held)) }
         ensures kept { OnErr result (self.new ≡ self.old) }
@@ -371,19 +372,15 @@ impl Sender {
     ///
     /// Fails with `HandshakeUnconfirmed` and `PhaseUnacknowledged` as `initiate_update` does, with `KeysDerived` if the sender is
     /// made of a secret, and with `KeyLength` if `key` is not as long as the suite's keys. The sender is then unchanged.
-    pub fn initiate_update_with(
-        &mut self,
-        key: &[u8],
-        iv: [u8; NONCE_LEN],
-    ) -> Result<(), PacketError>
+    pub fn initiate_update_with(&mut self, key: &[u8], iv: [u8; NONCE_LEN]) -> Result<(), KeyError>
         ensures accepted { IsOk result ↔ (IsTrue self.old.confirmed × IsTrue self.old.acknowledged
             × ¬ IsSome self.old.secret × (length key.now ≡ key_len self.old.key.algorithm)) }
-        ensures unconfirmed { IsErrOf result PacketError.HandshakeUnconfirmed ↔ ¬ IsTrue self.old.confirmed }
-        ensures unacknowledged { IsErrOf result PacketError.PhaseUnacknowledged
+        ensures unconfirmed { IsErrOf result KeyError.HandshakeUnconfirmed ↔ ¬ IsTrue self.old.confirmed }
+        ensures unacknowledged { IsErrOf result KeyError.PhaseUnacknowledged
             ↔ (IsTrue self.old.confirmed × ¬ IsTrue self.old.acknowledged) }
-        ensures derived { IsErrOf result PacketError.KeysDerived
+        ensures derived { IsErrOf result KeyError.KeysDerived
             ↔ (IsTrue self.old.confirmed × IsTrue self.old.acknowledged × IsSome self.old.secret) }
-        ensures key_len { IsErrOf result PacketError.KeyLength
+        ensures key_len { IsErrOf result KeyError.KeyLength
             ↔ (IsTrue self.old.confirmed × IsTrue self.old.acknowledged × ¬ IsSome self.old.secret
             × (length key.now ≢ key_len self.old.key.algorithm)) }
         ensures updated { OnOk result (self.new
@@ -403,19 +400,19 @@ impl Sender {
     }
 
     /// Checks that this endpoint may initiate a key update.
-    fn check_update(&self) -> Result<(), PacketError>
+    fn check_update(&self) -> Result<(), KeyError>
         ensures accepted { IsOk result ↔ (IsTrue self.now.confirmed × IsTrue self.now.acknowledged) }
-        ensures unconfirmed { IsErrOf result PacketError.HandshakeUnconfirmed ↔ ¬ IsTrue self.now.confirmed }
-        ensures unacknowledged { IsErrOf result PacketError.PhaseUnacknowledged
+        ensures unconfirmed { IsErrOf result KeyError.HandshakeUnconfirmed ↔ ¬ IsTrue self.now.confirmed }
+        ensures unacknowledged { IsErrOf result KeyError.PhaseUnacknowledged
             ↔ (IsTrue self.now.confirmed × ¬ IsTrue self.now.acknowledged) }
-        ensures others { ¬ IsErrOf result PacketError.NoSecret × ¬ IsErrOf result PacketError.KeysDerived
-            × ¬ IsErrOf result PacketError.KeyLength }
+        ensures others { ¬ IsErrOf result KeyError.NoSecret × ¬ IsErrOf result KeyError.KeysDerived
+            × ¬ IsErrOf result KeyError.KeyLength }
     {
         if !self.is_confirmed {
-            return Err(PacketError::HandshakeUnconfirmed);
+            return Err(KeyError::HandshakeUnconfirmed);
         }
         if !self.is_acknowledged {
-            return Err(PacketError::PhaseUnacknowledged);
+            return Err(KeyError::PhaseUnacknowledged);
         }
         Ok(())
     }
@@ -424,14 +421,14 @@ impl Sender {
     /// 6.2). The header key is unchanged.
     ///
     /// Fails with `NoSecret` if the sender is not made of a secret. The sender is then unchanged.
-    pub fn follow_update(&mut self) -> Result<(), PacketError>
+    pub fn follow_update(&mut self) -> Result<(), KeyError>
         ensures accepted { IsOk result ↔ IsSome self.old.secret }
-        ensures refused { IsOkUnless result PacketError.NoSecret }
+        ensures refused { IsOkUnless result KeyError.NoSecret }
         ensures updated { OnOk result (IfSome self.old.secret (λ held. self.new ≡ after_derived_update self.old held)) }
         ensures kept { OnErr result (self.new ≡ self.old) }
     {
         let Some(secret) = &self.secret else {
-            return Err(PacketError::NoSecret);
+            return Err(KeyError::NoSecret);
         };
         let next = secret.next();
         let key = PacketKey::from_secret(&next);
@@ -444,18 +441,18 @@ impl Sender {
     ///
     /// Fails with `KeysDerived` if the sender is made of a secret, and with `KeyLength` if `key` is not as long as the suite's
     /// keys. The sender is then unchanged.
-    pub fn follow_update_with(&mut self, key: &[u8], iv: [u8; NONCE_LEN]) -> Result<(), PacketError>
+    pub fn follow_update_with(&mut self, key: &[u8], iv: [u8; NONCE_LEN]) -> Result<(), KeyError>
         ensures accepted { IsOk result
             ↔ (¬ IsSome self.old.secret × (length key.now ≡ key_len self.old.key.algorithm)) }
-        ensures derived { IsErrOf result PacketError.KeysDerived ↔ IsSome self.old.secret }
-        ensures key_len { IsErrOf result PacketError.KeyLength
+        ensures derived { IsErrOf result KeyError.KeysDerived ↔ IsSome self.old.secret }
+        ensures key_len { IsErrOf result KeyError.KeyLength
             ↔ (¬ IsSome self.old.secret × (length key.now ≢ key_len self.old.key.algorithm)) }
         ensures updated { OnOk result (self.new
             ≡ after_update self.old (record self.old.key { bytes = key.now; iv = iv }) None) }
         ensures kept { OnErr result (self.new ≡ self.old) }
     {
         if self.secret.is_some() {
-            return Err(PacketError::KeysDerived);
+            return Err(KeyError::KeysDerived);
         }
         let key = PacketKey::new(self.key.algorithm(), key, iv)?;
         self.update(key, None);
@@ -483,15 +480,15 @@ impl Sender {
     /// version is the secret's.
     ///
     /// Fails with `NoSecret` if the sender is not made of a secret. The sender is then unchanged.
-    pub fn install_secret(&mut self, secret: QuicSecret) -> Result<(), PacketError>
+    pub fn install_secret(&mut self, secret: QuicSecret) -> Result<(), KeyError>
         ensures accepted { IsOk result ↔ IsSome self.old.secret }
-        ensures refused { IsOkUnless result PacketError.NoSecret }
+        ensures refused { IsOkUnless result KeyError.NoSecret }
         ensures installed { OnOk result (self.new
             ≡ with_installed_keys self.old secret.version (secret_key secret) (secret_header_key secret) (Some secret)) }
         ensures kept { OnErr result (self.new ≡ self.old) }
     {
         if self.secret.is_none() {
-            return Err(PacketError::NoSecret);
+            return Err(KeyError::NoSecret);
         }
         let version = secret.version();
         let (key, header_key) = keys_of(&secret);
@@ -504,11 +501,11 @@ impl Sender {
     ///
     /// Fails with `KeysDerived` if the sender is made of a secret, and with `KeyLength` if a key is not as long as the suite's.
     /// The sender is then unchanged.
-    pub fn install_keys(&mut self, suite: Suite, keys: Keys<'_>) -> Result<(), PacketError>
+    pub fn install_keys(&mut self, suite: Suite, keys: Keys<'_>) -> Result<(), KeyError>
         ensures accepted { IsOk result ↔ (¬ IsSome self.old.secret
             × HasKeyLengths suite keys.entry.key.now keys.entry.header_key.now) }
-        ensures derived { IsErrOf result PacketError.KeysDerived ↔ IsSome self.old.secret }
-        ensures key_len { IsErrOf result PacketError.KeyLength ↔ (¬ IsSome self.old.secret
+        ensures derived { IsErrOf result KeyError.KeysDerived ↔ IsSome self.old.secret }
+        ensures key_len { IsErrOf result KeyError.KeyLength ↔ (¬ IsSome self.old.secret
             × ¬ HasKeyLengths suite keys.entry.key.now keys.entry.header_key.now) }
         ensures installed { OnOk result (self.new
             ≡ with_installed_keys self.old keys.entry.version (packet_key suite keys.entry.key.now keys.entry.iv)
@@ -516,7 +513,7 @@ impl Sender {
         ensures kept { OnErr result (self.new ≡ self.old) }
     {
         if self.secret.is_some() {
-            return Err(PacketError::KeysDerived);
+            return Err(KeyError::KeysDerived);
         }
         let header_key = HeaderKey::new(header_algorithm(suite), keys.header_key)?;
         let key = PacketKey::new(algorithm(suite), keys.key, keys.iv)?;

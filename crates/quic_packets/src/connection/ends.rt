@@ -13,6 +13,7 @@ use crate::datagram::Packet;
 use crate::error::PacketError;
 use crate::failures::Failures;
 use crate::fixed_bit::FixedBit;
+use crate::key_error::KeyError;
 use crate::receiver::{Received, Receiver};
 use crate::sender::Sender;
 use crate::space::Space;
@@ -204,19 +205,19 @@ impl Ends {
     }
 
     /// Initiates a key update, and drops the receiver's previous key.
-    pub(crate) fn update_keys(&mut self) -> Result<(), PacketError>
+    pub(crate) fn update_keys(&mut self) -> Result<(), KeyError>
         ensures accepted { IsOk result ↔ IsTrue (may_update self.old) }
-        ensures unconfirmed { IsErrOf result PacketError.HandshakeUnconfirmed ↔ ¬ IsTrue (is_confirmed self.old) }
-        ensures unacknowledged { IsErrOf result PacketError.PhaseUnacknowledged
+        ensures unconfirmed { IsErrOf result KeyError.HandshakeUnconfirmed ↔ ¬ IsTrue (is_confirmed self.old) }
+        ensures unacknowledged { IsErrOf result KeyError.PhaseUnacknowledged
             ↔ (IsTrue (is_confirmed self.old) × ¬ IsTrue (may_update self.old)) }
         ensures initiated { OnOk result (self.new ≡ initiated self.old) }
         ensures kept { OnErr result (self.new ≡ self.old) }
     {
         if self.receiver.is_none() {
-            return Err(PacketError::HandshakeUnconfirmed);
+            return Err(KeyError::HandshakeUnconfirmed);
         }
         let Some(sender) = &mut self.sender else {
-            return Err(PacketError::HandshakeUnconfirmed);
+            return Err(KeyError::HandshakeUnconfirmed);
         };
         sender.initiate_update()?;
         self.forget_previous();

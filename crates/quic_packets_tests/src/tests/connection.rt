@@ -5,7 +5,7 @@ use crate::tests::checks::{equal, holds};
 use key_derivation::Secret;
 use key_derivation::quic::{QuicSecret, Version};
 use quic_packets::connection::{Connection, Incoming, Level};
-use quic_packets::{FixedBit, PacketError, PacketType};
+use quic_packets::{FixedBit, KeyError, PacketError, PacketType};
 use std::alloc::Global;
 use std::mem;
 use std::process::Abort;
@@ -566,7 +566,7 @@ fn updates_by_itself(rt: &impl Abort, alloc: Global, end: &mut Connection) -> Re
     end.confirm_handshake();
     equal(rt, &sends_until_used_up(alloc, end)?, &6);
     let updated = end.update_keys();
-    equal(rt, &updated, &Err(PacketError::PhaseUnacknowledged));
+    equal(rt, &updated, &Err(KeyError::PhaseUnacknowledged));
     for (number, phase, outcome) in &ACKNOWLEDGED {
         let found = end.acknowledged(Level::OneRtt, *number, *phase);
         equal(rt, &found, outcome);
@@ -593,7 +593,7 @@ fn no_keys(rt: HostRuntime) -> Result<(), Fail> {
     equal(&rt, &acknowledged, &Err(PacketError::NoKeys));
     end.confirm_handshake();
     let updated = end.update_keys();
-    equal(&rt, &updated, &Err(PacketError::HandshakeUnconfirmed));
+    equal(&rt, &updated, &Err(KeyError::HandshakeUnconfirmed));
     holds(&rt, end.sender(Level::OneRtt).is_none(), "no sender");
     Ok(())
 }

@@ -1,22 +1,34 @@
 //! What the errors print, and the codes that close a connection.
 
 use crate::tests::checks::{displays, equal};
-use quic_packets::{DatagramError, HeaderError, MaskError, PacketError, RetryError};
+use quic_packets::{DatagramError, HeaderError, KeyError, MaskError, PacketError, RetryError};
 use std::alloc::AllocError;
 use std::fmt::Display;
 use std::process::Abort;
 use std::test::Fail;
 
-const PACKET_ERRORS: [(PacketError, &str); 30] = [
+const KEY_ERRORS: [(KeyError, &str); 6] = [
     (
-        PacketError::KeyLength,
+        KeyError::KeyLength,
         "the key does not have the length of the algorithm's keys",
     ),
-    (PacketError::KeysDerived, "the keys derive from a secret"),
+    (KeyError::KeysDerived, "the keys derive from a secret"),
     (
-        PacketError::NoSecret,
+        KeyError::NoSecret,
         "there is no secret from which keys derive",
     ),
+    (KeyError::NumbersEnded, "the packet number is above 2^62"),
+    (
+        KeyError::HandshakeUnconfirmed,
+        "the handshake is not confirmed",
+    ),
+    (
+        KeyError::PhaseUnacknowledged,
+        "no packet of this key phase was acknowledged",
+    ),
+];
+
+const PACKET_ERRORS: [(PacketError, &str); 25] = [
     (PacketError::NoKeys, "the keys of the level are not there"),
     (PacketError::EmptyPayload, "the packet has no payload"),
     (PacketError::NoFrames, "the packet has no frames"),
@@ -57,14 +69,6 @@ const PACKET_ERRORS: [(PacketError, &str); 30] = [
     (
         PacketError::NeverSent,
         "a packet that was not sent was acknowledged",
-    ),
-    (
-        PacketError::HandshakeUnconfirmed,
-        "the handshake is not confirmed",
-    ),
-    (
-        PacketError::PhaseUnacknowledged,
-        "no packet of this key phase was acknowledged",
     ),
     (
         PacketError::NoSample,
@@ -170,6 +174,7 @@ fn display<E: Display>(
 
 #[test]
 fn texts(rt: HostRuntime) -> Result<(), Fail> {
+    display(&rt, &KEY_ERRORS)?;
     display(&rt, &PACKET_ERRORS)?;
     display(&rt, &MASK_ERRORS)?;
     display(&rt, &DATAGRAM_ERRORS)?;

@@ -7,7 +7,7 @@ ghost use Rattle.quic_packets.specs.Packet.{HasNumber};
 use crate::tests::checks::{equal, holds, same};
 use aead_ciphers::aead::{AES_128_GCM, AES_256_GCM, Tag, quic};
 use aead_vectors::rfc_9001::{A_5_KEY, A_5_PROTECTED, A_5_SEALED, PACKETS, Packet};
-use quic_packets::{HeaderKey, MaskError, PacketError, PacketKey, laws};
+use quic_packets::{HeaderKey, KeyError, MaskError, PacketError, PacketKey, laws};
 use std::alloc::AllocError;
 use std::ops::Range;
 use std::process::Abort;
@@ -36,7 +36,7 @@ pub(crate) fn unsent(row: &Packet) -> Result<Vec<u8>, AllocError> {
 }
 
 /// Creates the key of a row.
-fn key_of(row: &Packet) -> Result<PacketKey, PacketError> {
+fn key_of(row: &Packet) -> Result<PacketKey, KeyError> {
     PacketKey::new(&AES_128_GCM, &row.key, row.iv)
 }
 

@@ -7,8 +7,8 @@ use crate::tests::rows::{IV as ROW_IV, Row, rows};
 use aead_ciphers::aead::{AES_128_GCM, quic};
 use aead_vectors::rfc_9001::Packet;
 use quic_packets::{
-    Failures, FixedBit, HeaderKey, Keys, Packet as Parts, PacketError, PacketKey, PacketType,
-    Received, Receiver, Space, Suite, Version, packet_at,
+    Failures, FixedBit, HeaderKey, KeyError, Keys, Packet as Parts, PacketError, PacketKey,
+    PacketType, Received, Receiver, Space, Suite, Version, packet_at,
 };
 use std::alloc::Global;
 use std::process::Abort;
@@ -46,7 +46,7 @@ fn keys(key: &[u8]) -> Keys<'_> {
 }
 
 /// Creates a receiver with a key whose bytes are all `key`.
-fn receiver(key: u8) -> Result<Receiver, PacketError> {
+fn receiver(key: u8) -> Result<Receiver, KeyError> {
     Receiver::new(Suite::Aes128Gcm, keys(&[key; 16]))
 }
 
@@ -170,7 +170,7 @@ fn appendix_a(rt: HostRuntime) -> Result<(), Fail> {
 }
 
 /// Creates the end that receives a row's packet, in either key phase.
-fn row_end(row: &Row) -> Result<End, PacketError> {
+fn row_end(row: &Row) -> Result<End, KeyError> {
     let mut receiver = Receiver::new(row.suite, row.keys())?;
     receiver.set_next_with(row.key(), ROW_IV)?;
     Ok(End::new(receiver, 10_000))
@@ -451,6 +451,6 @@ fn key_lengths(rt: HostRuntime) -> Result<(), Fail> {
     assert!(rt; Receiver::new(Suite::Aes256Gcm, keys(&[1; 32])).is_err());
     assert!(rt; Receiver::new(Suite::Aes128Gcm, keys(&[1; 32])).is_err());
     let outcome = receiver(1)?.set_next_with(&[1; 32], IV);
-    equal(&rt, &outcome, &Err(PacketError::KeyLength));
+    equal(&rt, &outcome, &Err(KeyError::KeyLength));
     Ok(())
 }

@@ -5,7 +5,7 @@ use crate::tests::keys::{packets, plain};
 use crate::tests::rows::{HEADER_KEY, IV, Row, rows};
 use aead_vectors::rfc_9001::Packet;
 use quic_packets::{
-    FixedBit, HeaderKey, Keys, PacketError, PacketKey, Sender, Suite, Version, algorithm,
+    FixedBit, HeaderKey, KeyError, Keys, PacketError, PacketKey, Sender, Suite, Version, algorithm,
     header_algorithm,
 };
 use std::alloc::Global;
@@ -27,7 +27,7 @@ fn before(rt: &impl Abort, alloc: Global, row: &Row) -> Result<Vec<u8>, Fail> {
 }
 
 /// Creates the sender of the row's packet.
-fn sender_of(row: &Row) -> Result<Sender, PacketError> {
+fn sender_of(row: &Row) -> Result<Sender, Fail> {
     let mut sender = Sender::new(row.suite, row.keys(), row.number)?;
     if let Some(number) = row.acknowledged {
         sender.acknowledged(number)?;
@@ -96,7 +96,7 @@ const SHORT: [u8; 24] = [
 ];
 
 /// Creates a sender with a key of ones, whose first packet has the number `first`.
-fn sender(first: u64) -> Result<Sender, PacketError> {
+fn sender(first: u64) -> Result<Sender, KeyError> {
     let keys = Keys {
         version: Version::One,
         key: &[1; 16],
@@ -216,8 +216,8 @@ enum Event {
     /// The first number of the phase, and how many packets can still be sent.
     Stands(u64, u64),
     /// Initiates an update to a key of this byte and length.
-    Initiated(u8, usize, Result<(), PacketError>),
-    Followed(u8, usize, Result<(), PacketError>),
+    Initiated(u8, usize, Result<(), KeyError>),
+    Followed(u8, usize, Result<(), KeyError>),
 }
 
 use Event::{
@@ -232,7 +232,7 @@ fn opens(
     key: u8,
     number: u64,
     phase: bool,
-) -> Result<(), PacketError> {
+) -> Result<(), KeyError> {
     let header_key = HeaderKey::new(header_algorithm(Suite::Aes128Gcm), &HEADER_KEY[..16])?;
     equal(rt, &header_key.unprotect(&mut packet, 1), &Ok(1));
     let header = [if phase { 0x44 } else { 0x40 }, number.to_le_bytes()[0]];
@@ -243,18 +243,14 @@ fn opens(
     Ok(())
 }
 
-fn sends_under(
-    rt: &impl Abort,
-    sender: &mut Sender,
-    key: u8,
-    phase: bool,
-) -> Result<(), PacketError> {
+fn sends_under(rt: &impl Abort, sender: &mut Sender, key: u8, phase: bool) -> Result<(), Fail> {
     let mut packet = SHORT;
     let number = sender.send(&mut packet, 1..2, FixedBit::Required)?;
-    opens(rt, packet, key, number, phase)
+    opens(rt, packet, key, number, phase)?;
+    Ok(())
 }
 
-fn meets(rt: &impl Abort, sender: &mut Sender, event: Event) -> Result<(), PacketError> {
+fn meets(rt: &impl Abort, sender: &mut Sender, event: Event) -> Result<(), Fail> {
     match event {
         Sent(key, phase) => sends_under(rt, sender, key, phase)?,
         Refused(error) => refuses(rt, sender, &SHORT, 1..2, error),
@@ -295,18 +291,18 @@ const LIMITS_AND_UPDATES: [Event; 17] = [
     Sent(1, false),
     Sent(1, false),
     Refused(PacketError::KeyUsedUp),
-    Initiated(2, 16, Err(PacketError::HandshakeUnconfirmed)),
+    Initiated(2, 16, Err(KeyError::HandshakeUnconfirmed)),
     Confirmed,
-    Initiated(2, 17, Err(PacketError::KeyLength)),
+    Initiated(2, 17, Err(KeyError::KeyLength)),
     Initiated(2, 16, Ok(())),
     Sent(2, true),
     Acknowledged(1),
     NeverSent(3),
     NeverSent(1 << 61),
-    Initiated(3, 16, Err(PacketError::PhaseUnacknowledged)),
+    Initiated(3, 16, Err(KeyError::PhaseUnacknowledged)),
     Acknowledged(2),
     Initiated(3, 16, Ok(())),
-    Followed(4, 15, Err(PacketError::KeyLength)),
+    Followed(4, 15, Err(KeyError::KeyLength)),
     Followed(4, 16, Ok(())),
     Sent(4, true),
 ];
@@ -319,18 +315,18 @@ const SKIPS: [Event; 27] = [
     Skipped(50),
     NeverSent(0),
     NeverSent(49),
-    Initiated(3, 16, Err(PacketError::PhaseUnacknowledged)),
+    Initiated(3, 16, Err(KeyError::PhaseUnacknowledged)),
     Sent(2, true),
     NeverSent(49),
     NeverSent(51),
-    Initiated(3, 16, Err(PacketError::PhaseUnacknowledged)),
+    Initiated(3, 16, Err(KeyError::PhaseUnacknowledged)),
     Acknowledged(50),
     Initiated(3, 16, Ok(())),
     Sent(3, false),
     Skipped(60),
     NeverSent(52),
     NeverSent(59),
-    Initiated(4, 16, Err(PacketError::PhaseUnacknowledged)),
+    Initiated(4, 16, Err(KeyError::PhaseUnacknowledged)),
     Acknowledged(51),
     Initiated(4, 16, Ok(())),
     Skipped(70),
@@ -362,7 +358,7 @@ const OLDER_KEYS: [Event; 18] = [
     AcknowledgedIn(5, false, Err(PacketError::UpdateUnanswered)),
     AcknowledgedIn(4, false, Err(PacketError::NeverSent)),
     AcknowledgedIn(6, false, Err(PacketError::NeverSent)),
-    Initiated(3, 16, Err(PacketError::PhaseUnacknowledged)),
+    Initiated(3, 16, Err(KeyError::PhaseUnacknowledged)),
     AcknowledgedIn(5, true, Ok(())),
 ];
 
@@ -422,7 +418,7 @@ fn skipped_ranges(rt: HostRuntime) -> Result<(), Fail> {
     acknowledges(&rt, &mut sender, &[0, 2, 4, 6], Ok(()));
     acknowledges(&rt, &mut sender, &[8, 10, 22, 24], never_sent);
     let updated = sender.initiate_update_with(&[3; 16], IV);
-    equal(&rt, &updated, &Err(PacketError::PhaseUnacknowledged));
+    equal(&rt, &updated, &Err(KeyError::PhaseUnacknowledged));
     sender.acknowledged(7)?;
     sender.initiate_update_with(&[3; 16], IV)?;
     Ok(())
@@ -445,7 +441,7 @@ fn short_numbers(rt: HostRuntime) -> Result<(), Fail> {
 }
 
 /// Turns a sender of 0-RTT packets into one of 1-RTT packets.
-fn install_keys(sender: &mut Sender, header_key_len: usize) -> Result<(), PacketError> {
+fn install_keys(sender: &mut Sender, header_key_len: usize) -> Result<(), KeyError> {
     let keys = Keys {
         version: Version::One,
         key: &[5; 32],
@@ -463,7 +459,7 @@ fn numbers_go_on(rt: HostRuntime) -> Result<(), Fail> {
     let refused = install_keys(&mut sender, 16);
     holds(
         &rt,
-        refused == Err(PacketError::KeyLength),
+        refused == Err(KeyError::KeyLength),
         "a header key's length",
     );
     refuses(&rt, &mut sender, &SHORT, 1..2, PacketError::KeyUsedUp);
