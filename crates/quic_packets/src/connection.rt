@@ -26,6 +26,7 @@ use crate::error::PacketError;
 use crate::failures::Failures;
 use crate::fixed_bit::FixedBit;
 use crate::key_error::KeyError;
+use crate::number_error::NumberError;
 use crate::receiver::{Received, Receiver};
 use crate::sender::{CONFIDENTIALITY_LIMIT, Sender};
 use crate::space::Space;
@@ -49,7 +50,7 @@ pub enum Level {
 
 /// One end of a connection: for each level a sender and a receiver, which are there or not, and the numbers received.
 ///
-/// An error of `receive` or `acknowledged` with a code (`PacketError::code`) closes the connection.
+/// An error of `receive` or `acknowledged` with a code (`PacketError::code`, `NumberError::code`) closes the connection.
 #[derive(Drop)]
 pub struct Connection {
     initial: Ends,
@@ -262,11 +263,11 @@ impl Connection {
         level: Level,
         number: u64,
         phase: bool,
-    ) -> Result<(), PacketError>
-        ensures no_keys { IsErrOf result PacketError.NoKeys ↔ ¬ IsSome (ends_of self.old level).sender }
-        ensures never_sent { IfSome (ends_of self.old level).sender (λ s. IsErrOf result PacketError.NeverSent
+    ) -> Result<(), NumberError>
+        ensures no_keys { IsErrOf result NumberError.NoKeys ↔ ¬ IsSome (ends_of self.old level).sender }
+        ensures never_sent { IfSome (ends_of self.old level).sender (λ s. IsErrOf result NumberError.NeverSent
             ↔ IsTrue (is_unsent s number)) }
-        ensures unanswered { IfSome (ends_of self.old level).sender (λ s. IsErrOf result PacketError.UpdateUnanswered
+        ensures unanswered { IfSome (ends_of self.old level).sender (λ s. IsErrOf result NumberError.UpdateUnanswered
             ↔ (IsFalse (is_unsent s number) × IsUnanswered s number phase)) }
         ensures accepted { IfSome (ends_of self.old level).sender (λ s. IsOk result
             ↔ (IsFalse (is_unsent s number) × ¬ IsUnanswered s number phase)) }

@@ -3,14 +3,9 @@
 ghost use Rattle.std.specs.Prelude.{◌≡◌};
 ghost use Rattle.quic_packets.specs.Errors.{error_code};
 
+use crate::codes::{AEAD_LIMIT_REACHED, KEY_UPDATE_ERROR, PROTOCOL_VIOLATION};
 use std::error::Error;
 use std::fmt;
-
-const PROTOCOL_VIOLATION: u64 = 0x0a;
-
-const KEY_UPDATE_ERROR: u64 = 0x0e;
-
-const AEAD_LIMIT_REACHED: u64 = 0x0f;
 
 /// The error of sending or receiving a packet.
 ///
@@ -29,8 +24,6 @@ pub enum PacketError {
     /// The room for the packet number has fewer bytes than `Sender::next_number_len` returns, or more than 4 (RFC 9000 section
     /// 17.1).
     NumberLength,
-    /// The next packet number is already above this one.
-    NumberUsed,
     /// The packet number is too far above the largest acknowledged one for 4 bytes (RFC 9000 section 17.1).
     NumberTooFar,
     /// The packet ends before the 16-byte sample, which begins 4 bytes after the start of the packet number (RFC 9001 section
@@ -54,11 +47,6 @@ pub enum PacketError {
     KeyUsedUp,
     /// The output does not have the length of the result.
     OutputLength,
-    /// The peer has acknowledged a packet number that was not sent (RFC 9000 section 13.1): one that is not below the next number,
-    /// or that was skipped and is in a range that is kept (see `Sender::skip_to`).
-    NeverSent,
-    /// The peer has acknowledged a packet of the current keys in a packet of older keys (RFC 9001 section 6.2).
-    UpdateUnanswered,
     /// The tag does not match the header, the payload and the number under this key.
     Refused,
     /// The limit on packets that fail authentication is reached (RFC 9001 section 6.6).
@@ -76,8 +64,8 @@ pub enum PacketError {
 
 impl PacketError {
     /// Returns the code of the transport error that the connection must be closed with (RFC 9000 section 20.1), or `None` if the
-    /// packet is only dropped or not sent: `PROTOCOL_VIOLATION` for `NeverSent`, `ReservedBits` and `NoFrames`,
-    /// `KEY_UPDATE_ERROR` for `KeyUpdate` and `UpdateUnanswered`, and `AEAD_LIMIT_REACHED` for `TooManyFailures`.
+    /// packet is only dropped or not sent: `PROTOCOL_VIOLATION` for `ReservedBits` and `NoFrames`, `KEY_UPDATE_ERROR` for
+    /// `KeyUpdate`, and `AEAD_LIMIT_REACHED` for `TooManyFailures`.
     ///
     /// `KeyUsedUp` has none, since a key update follows it. The key cannot seal the packet that closes the connection either, so
     /// a caller that cannot update closes it with `AEAD_LIMIT_REACHED` (0x0f) while `Sender::remaining` is above 0 (RFC 9001
@@ -86,10 +74,8 @@ impl PacketError {
         ensures { result ≡ error_code self }
     {
         match self {
-            PacketError::NeverSent | PacketError::ReservedBits | PacketError::NoFrames => {
-                Some(PROTOCOL_VIOLATION)
-            }
-            PacketError::KeyUpdate | PacketError::UpdateUnanswered => Some(KEY_UPDATE_ERROR),
+            PacketError::ReservedBits | PacketError::NoFrames => Some(PROTOCOL_VIOLATION),
+            PacketError::KeyUpdate => Some(KEY_UPDATE_ERROR),
             PacketError::TooManyFailures => Some(AEAD_LIMIT_REACHED),
             _ => None,
         }
@@ -105,7 +91,6 @@ impl PacketError {
             PacketError::PastEnd => "the datagram ends before the packet",
             PacketError::NoNumber => "the packet has no packet number",
             PacketError::NumberLength => "the packet number does not fit the room for it",
-            PacketError::NumberUsed => "the packet number is below the next one",
             PacketError::NumberTooFar => {
                 "4 bytes cannot encode the packet number after the largest acknowledged one"
             }
@@ -119,10 +104,6 @@ impl PacketError {
             PacketError::NumbersEnded => "the packet number is not below 2^62",
             PacketError::KeyUsedUp => "the key has reached its limit of packets",
             PacketError::OutputLength => "the output does not have the length of the result",
-            PacketError::NeverSent => "a packet that was not sent was acknowledged",
-            PacketError::UpdateUnanswered => {
-                "a packet of the current keys was acknowledged under older keys"
-            }
             PacketError::Refused => "the packet is not authentic",
             PacketError::TooManyFailures => "too many packets have failed authentication",
             PacketError::ReservedBits => "the packet's reserved bits are set",

@@ -7,6 +7,7 @@
 //! are the parts of both. `laws` states what holds over runs of calls.
 #![tactic(auto)]
 
+mod codes;
 pub mod connection;
 mod datagram;
 mod error;
@@ -20,6 +21,7 @@ mod key_error;
 mod keys;
 pub mod laws;
 mod mask_error;
+mod number_error;
 pub mod numbers;
 mod packet;
 mod receiver;
@@ -42,6 +44,7 @@ pub use key_derivation::quic::{QuicSecret, Version};
 pub use key_error::KeyError;
 pub use keys::Keys;
 pub use mask_error::MaskError;
+pub use number_error::NumberError;
 pub use receiver::{Received, Receiver};
 pub use retry::{RetryError, is_genuine_retry, retry_tag};
 pub use sender::{CONFIDENTIALITY_LIMIT, Sender};

@@ -19,6 +19,7 @@ use crate::header::{HeaderKey, MAX_NUMBER_LEN, SAMPLE_END};
 use crate::key::PacketKey;
 use crate::key_error::KeyError;
 use crate::keys::{Keys, keys_of};
+use crate::number_error::NumberError;
 use crate::numbers::number_len;
 use crate::packet::{NUMBERS_END, payload_len};
 use crate::skipped::Skipped;
@@ -260,18 +261,18 @@ impl Sender {
     ///
     /// Fails with `NumberUsed` if the next number is already above `number`, and with `NumbersEnded` if `number` is above 2^62.
     /// The sender is then unchanged.
-    pub fn skip_to(&mut self, number: u64) -> Result<(), PacketError>
+    pub fn skip_to(&mut self, number: u64) -> Result<(), NumberError>
         ensures accepted { IsOk result ↔ ((self.old.next ≤ number) × (number ≤ 2 ^ 62)) }
-        ensures used { IsErrOf result PacketError.NumberUsed ↔ (number < self.old.next) }
-        ensures ended { IsErrOf result PacketError.NumbersEnded ↔ (2 ^ 62 < number) }
+        ensures used { IsErrOf result NumberError.NumberUsed ↔ (number < self.old.next) }
+        ensures ended { IsErrOf result NumberError.NumbersEnded ↔ (2 ^ 62 < number) }
         ensures skipped { OnOk result (self.new ≡ after_skip self.old number) }
         ensures kept { OnErr result (self.new ≡ self.old) }
     {
         if number < self.next {
-            return Err(PacketError::NumberUsed);
+            return Err(NumberError::NumberUsed);
         }
         if number > NUMBERS_END {
-            return Err(PacketError::NumbersEnded);
+            return Err(NumberError::NumbersEnded);
         }
         if number > self.next {
             let forgotten = self.skipped.add(self.next, number);
@@ -297,14 +298,14 @@ impl Sender {
     ///
     /// Fails with `NeverSent` if `number` is not below the next number, or is in a range of skipped numbers that is kept (see
     /// `skip_to`). The sender is then unchanged, and the connection must be closed (RFC 9000 section 13.1).
-    pub fn acknowledged(&mut self, number: u64) -> Result<(), PacketError>
+    pub fn acknowledged(&mut self, number: u64) -> Result<(), NumberError>
         ensures accepted { IsOk result ↔ IsFalse (is_unsent self.old number) }
-        ensures refused { IsOkUnless result PacketError.NeverSent }
+        ensures refused { IsOkUnless result NumberError.NeverSent }
         ensures acknowledged { OnOk result (self.new ≡ after_acknowledgement self.old number) }
         ensures kept { OnErr result (self.new ≡ self.old) }
     {
         if self.is_unsent(number) {
-            return Err(PacketError::NeverSent);
+            return Err(NumberError::NeverSent);
         }
         self.largest_acknowledged = match self.largest_acknowledged {
             Some(largest) => Some(largest.max(number)),
@@ -325,17 +326,17 @@ impl Sender {
     /// followed before the acknowledgments of the packet that begins it are recorded. A packet of two phases before has the bit
     /// of the current one, and isn't told from it: the receiver has to forget the previous key before an update is initiated
     /// (section 6.5).
-    pub fn acknowledged_in(&mut self, number: u64, phase: bool) -> Result<(), PacketError>
+    pub fn acknowledged_in(&mut self, number: u64, phase: bool) -> Result<(), NumberError>
         ensures accepted { IsOk result
             ↔ (IsFalse (is_unsent self.old number) × ¬ IsUnanswered self.old number phase) }
-        ensures never_sent { IsErrOf result PacketError.NeverSent ↔ IsTrue (is_unsent self.old number) }
-        ensures unanswered { IsErrOf result PacketError.UpdateUnanswered
+        ensures never_sent { IsErrOf result NumberError.NeverSent ↔ IsTrue (is_unsent self.old number) }
+        ensures unanswered { IsErrOf result NumberError.UpdateUnanswered
             ↔ (IsFalse (is_unsent self.old number) × IsUnanswered self.old number phase) }
         ensures acknowledged { OnOk result (self.new ≡ after_acknowledgement self.old number) }
         ensures kept { OnErr result (self.new ≡ self.old) }
     {
         if !self.is_unsent(number) && number >= self.first_of_phase && phase != self.phase {
-            return Err(PacketError::UpdateUnanswered);
+            return Err(NumberError::UpdateUnanswered);
         }
         self.acknowledged(number)
     }

@@ -14,6 +14,7 @@ use crate::error::PacketError;
 use crate::failures::Failures;
 use crate::fixed_bit::FixedBit;
 use crate::key_error::KeyError;
+use crate::number_error::NumberError;
 use crate::receiver::{Received, Receiver};
 use crate::sender::Sender;
 use crate::space::Space;
@@ -234,11 +235,11 @@ impl Ends {
     }
 
     /// Records an acknowledgment.
-    pub(crate) fn acknowledged(&mut self, number: u64, phase: bool) -> Result<(), PacketError>
-        ensures no_keys { IsErrOf result PacketError.NoKeys ↔ ¬ IsSome self.old.sender }
-        ensures never_sent { IfSome self.old.sender (λ s. IsErrOf result PacketError.NeverSent
+    pub(crate) fn acknowledged(&mut self, number: u64, phase: bool) -> Result<(), NumberError>
+        ensures no_keys { IsErrOf result NumberError.NoKeys ↔ ¬ IsSome self.old.sender }
+        ensures never_sent { IfSome self.old.sender (λ s. IsErrOf result NumberError.NeverSent
             ↔ IsTrue (is_unsent s number)) }
-        ensures unanswered { IfSome self.old.sender (λ s. IsErrOf result PacketError.UpdateUnanswered
+        ensures unanswered { IfSome self.old.sender (λ s. IsErrOf result NumberError.UpdateUnanswered
             ↔ (IsFalse (is_unsent s number) × IsUnanswered s number phase)) }
         ensures accepted { IfSome self.old.sender (λ s. IsOk result
             ↔ (IsFalse (is_unsent s number) × ¬ IsUnanswered s number phase)) }
@@ -248,7 +249,7 @@ impl Ends {
     {
         match &mut self.sender {
             Some(sender) => sender.acknowledged_in(number, phase),
-            None => Err(PacketError::NoKeys),
+            None => Err(NumberError::NoKeys),
         }
     }
 

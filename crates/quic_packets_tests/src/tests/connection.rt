@@ -5,7 +5,7 @@ use crate::tests::checks::{equal, holds};
 use key_derivation::Secret;
 use key_derivation::quic::{QuicSecret, Version};
 use quic_packets::connection::{Connection, Incoming, Level};
-use quic_packets::{FixedBit, KeyError, PacketError, PacketType};
+use quic_packets::{FixedBit, KeyError, NumberError, PacketError, PacketType};
 use std::alloc::Global;
 use std::mem;
 use std::process::Abort;
@@ -132,7 +132,7 @@ fn frames(
     number: u64,
     phase: bool,
     payload: &[u8],
-) -> Result<(), PacketError> {
+) -> Result<(), NumberError> {
     end.count = end.count.saturating_add(1);
     if packet_type == PacketType::OneRtt {
         end.last = (number % 0x80) as u8;
@@ -555,9 +555,9 @@ fn keeps_one_to_close(rt: &impl Abort, alloc: Global, end: &mut Connection) -> R
 }
 
 /// Acknowledgments of a number in a packet with a key phase, and the outcomes.
-const ACKNOWLEDGED: [(u64, bool, Result<(), PacketError>); 3] = [
-    (5, false, Err(PacketError::UpdateUnanswered)),
-    (6, true, Err(PacketError::NeverSent)),
+const ACKNOWLEDGED: [(u64, bool, Result<(), NumberError>); 3] = [
+    (5, false, Err(NumberError::UpdateUnanswered)),
+    (6, true, Err(NumberError::NeverSent)),
     (5, true, Ok(())),
 ];
 
@@ -590,7 +590,7 @@ fn no_keys(rt: HostRuntime) -> Result<(), Fail> {
     let sent = end.send(Level::Initial, &mut packet, 17..21);
     equal(&rt, &sent, &Err(PacketError::NoKeys));
     let acknowledged = end.acknowledged(Level::Initial, 0, false);
-    equal(&rt, &acknowledged, &Err(PacketError::NoKeys));
+    equal(&rt, &acknowledged, &Err(NumberError::NoKeys));
     end.confirm_handshake();
     let updated = end.update_keys();
     equal(&rt, &updated, &Err(KeyError::HandshakeUnconfirmed));

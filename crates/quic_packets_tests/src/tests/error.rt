@@ -1,7 +1,9 @@
 //! What the errors print, and the codes that close a connection.
 
 use crate::tests::checks::{displays, equal};
-use quic_packets::{DatagramError, HeaderError, KeyError, MaskError, PacketError, RetryError};
+use quic_packets::{
+    DatagramError, HeaderError, KeyError, MaskError, NumberError, PacketError, RetryError,
+};
 use std::alloc::AllocError;
 use std::fmt::Display;
 use std::process::Abort;
@@ -28,14 +30,27 @@ const KEY_ERRORS: [(KeyError, &str); 6] = [
     ),
 ];
 
-const PACKET_ERRORS: [(PacketError, &str); 25] = [
+const NUMBER_ERRORS: [(NumberError, &str); 5] = [
+    (
+        NumberError::NumberUsed,
+        "the packet number is below the next one",
+    ),
+    (NumberError::NumbersEnded, "the packet number is above 2^62"),
+    (
+        NumberError::NeverSent,
+        "a packet that was not sent was acknowledged",
+    ),
+    (
+        NumberError::UpdateUnanswered,
+        "a packet of the current keys was acknowledged under older keys",
+    ),
+    (NumberError::NoKeys, "the keys of the level are not there"),
+];
+
+const PACKET_ERRORS: [(PacketError, &str); 22] = [
     (PacketError::NoKeys, "the keys of the level are not there"),
     (PacketError::EmptyPayload, "the packet has no payload"),
     (PacketError::NoFrames, "the packet has no frames"),
-    (
-        PacketError::UpdateUnanswered,
-        "a packet of the current keys was acknowledged under older keys",
-    ),
     (
         PacketError::NumberAtFirstByte,
         "the packet number cannot begin at the header's first byte",
@@ -45,10 +60,6 @@ const PACKET_ERRORS: [(PacketError, &str); 25] = [
     (
         PacketError::NumberLength,
         "the packet number does not fit the room for it",
-    ),
-    (
-        PacketError::NumberUsed,
-        "the packet number is below the next one",
     ),
     (
         PacketError::NumberTooFar,
@@ -65,10 +76,6 @@ const PACKET_ERRORS: [(PacketError, &str); 25] = [
     (
         PacketError::OutputLength,
         "the output does not have the length of the result",
-    ),
-    (
-        PacketError::NeverSent,
-        "a packet that was not sent was acknowledged",
     ),
     (
         PacketError::NoSample,
@@ -175,6 +182,7 @@ fn display<E: Display>(
 #[test]
 fn texts(rt: HostRuntime) -> Result<(), Fail> {
     display(&rt, &KEY_ERRORS)?;
+    display(&rt, &NUMBER_ERRORS)?;
     display(&rt, &PACKET_ERRORS)?;
     display(&rt, &MASK_ERRORS)?;
     display(&rt, &DATAGRAM_ERRORS)?;
@@ -184,20 +192,23 @@ fn texts(rt: HostRuntime) -> Result<(), Fail> {
 }
 
 /// The errors that close a connection, with the codes of RFC 9000 section 20.1 and RFC 9001 section 6.6. All others have none.
-const CODES: [(PacketError, u64); 6] = [
-    (PacketError::NeverSent, 0x0a),
+const CODES: [(PacketError, u64); 4] = [
     (PacketError::ReservedBits, 0x0a),
     (PacketError::NoFrames, 0x0a),
     (PacketError::KeyUpdate, 0x0e),
-    (PacketError::UpdateUnanswered, 0x0e),
     (PacketError::TooManyFailures, 0x0f),
 ];
 
+const NUMBER_CODES: [(NumberError, u64); 2] = [
+    (NumberError::NeverSent, 0x0a),
+    (NumberError::UpdateUnanswered, 0x0e),
+];
+
 /// Returns the error's code by the table.
-fn code(error: PacketError) -> Option<u64> {
-    for (closing, code) in CODES {
-        if closing == error {
-            return Some(code);
+fn code<E: Copy + PartialEq>(codes: &[(E, u64)], error: E) -> Option<u64> {
+    for (closing, code) in codes {
+        if *closing == error {
+            return Some(*code);
         }
     }
     None
@@ -206,7 +217,10 @@ fn code(error: PacketError) -> Option<u64> {
 #[test]
 fn codes(rt: HostRuntime) -> Result<(), Fail> {
     for (error, _) in &PACKET_ERRORS {
-        equal(&rt, &error.code(), &code(*error));
+        equal(&rt, &error.code(), &code(&CODES, *error));
+    }
+    for (error, _) in &NUMBER_ERRORS {
+        equal(&rt, &error.code(), &code(&NUMBER_CODES, *error));
     }
     Ok(())
 }

@@ -5,8 +5,8 @@ use crate::tests::keys::{packets, plain};
 use crate::tests::rows::{HEADER_KEY, IV, Row, rows};
 use aead_vectors::rfc_9001::Packet;
 use quic_packets::{
-    FixedBit, HeaderKey, KeyError, Keys, PacketError, PacketKey, Sender, Suite, Version, algorithm,
-    header_algorithm,
+    FixedBit, HeaderKey, KeyError, Keys, NumberError, PacketError, PacketKey, Sender, Suite,
+    Version, algorithm, header_algorithm,
 };
 use std::alloc::Global;
 use std::ops::Range;
@@ -190,8 +190,8 @@ fn numbers(rt: HostRuntime) -> Result<(), Fail> {
     let mut sender = sender(1 << 31)?;
     refuses(&rt, &mut sender, &SHORT, 1..2, PacketError::NumberTooFar);
     for (number, outcome) in [
-        ((1 << 31) - 1, Err(PacketError::NumberUsed)),
-        ((1 << 62) + 1, Err(PacketError::NumbersEnded)),
+        ((1 << 31) - 1, Err(NumberError::NumberUsed)),
+        ((1 << 62) + 1, Err(NumberError::NumbersEnded)),
         (1 << 62, Ok(())),
     ] {
         holds(&rt, sender.skip_to(number) == outcome, "skipped");
@@ -212,7 +212,7 @@ enum Event {
     /// The peer acknowledges a number that is not below the next one, or that was skipped.
     NeverSent(u64),
     /// The peer acknowledges a number in a packet with this key phase.
-    AcknowledgedIn(u64, bool, Result<(), PacketError>),
+    AcknowledgedIn(u64, bool, Result<(), NumberError>),
     /// The first number of the phase, and how many packets can still be sent.
     Stands(u64, u64),
     /// Initiates an update to a key of this byte and length.
@@ -259,7 +259,7 @@ fn meets(rt: &impl Abort, sender: &mut Sender, event: Event) -> Result<(), Fail>
         Acknowledged(number) => sender.acknowledged(number)?,
         NeverSent(number) => {
             let outcome = sender.acknowledged(number);
-            equal(rt, &outcome, &Err(PacketError::NeverSent));
+            equal(rt, &outcome, &Err(NumberError::NeverSent));
         }
         AcknowledgedIn(number, phase, outcome) => {
             equal(rt, &sender.acknowledged_in(number, phase), &outcome);
@@ -345,7 +345,7 @@ const OLDER_KEYS: [Event; 18] = [
     Stands(0, 9),
     Sent(1, false),
     AcknowledgedIn(0, false, Ok(())),
-    AcknowledgedIn(1, true, Err(PacketError::NeverSent)),
+    AcknowledgedIn(1, true, Err(NumberError::NeverSent)),
     Confirmed,
     Initiated(2, 16, Ok(())),
     Stands(1, 9),
@@ -354,10 +354,10 @@ const OLDER_KEYS: [Event; 18] = [
     Sent(2, true),
     Stands(1, 7),
     AcknowledgedIn(0, false, Ok(())),
-    AcknowledgedIn(1, false, Err(PacketError::UpdateUnanswered)),
-    AcknowledgedIn(5, false, Err(PacketError::UpdateUnanswered)),
-    AcknowledgedIn(4, false, Err(PacketError::NeverSent)),
-    AcknowledgedIn(6, false, Err(PacketError::NeverSent)),
+    AcknowledgedIn(1, false, Err(NumberError::UpdateUnanswered)),
+    AcknowledgedIn(5, false, Err(NumberError::UpdateUnanswered)),
+    AcknowledgedIn(4, false, Err(NumberError::NeverSent)),
+    AcknowledgedIn(6, false, Err(NumberError::NeverSent)),
     Initiated(3, 16, Err(KeyError::PhaseUnacknowledged)),
     AcknowledgedIn(5, true, Ok(())),
 ];
@@ -383,7 +383,7 @@ fn events(rt: HostRuntime) -> Result<(), Fail> {
 }
 
 /// Skips a number before each of these, and sends a packet.
-fn send_after_skips(sender: &mut Sender, numbers: &[u64]) -> Result<(), PacketError> {
+fn send_after_skips(sender: &mut Sender, numbers: &[u64]) -> Result<(), Fail> {
     for &number in numbers {
         sender.skip_to(number)?;
         sender.send(&mut packet(0x40, 0), 1..2, FixedBit::Required)?;
@@ -396,7 +396,7 @@ fn acknowledges(
     rt: &impl Abort,
     sender: &mut Sender,
     numbers: &[u64],
-    wanted: Result<(), PacketError>,
+    wanted: Result<(), NumberError>,
 ) {
     for &number in numbers {
         equal(rt, &sender.acknowledged(number), &wanted);
@@ -407,7 +407,7 @@ fn acknowledges(
 // allows no update.
 #[test]
 fn skipped_ranges(rt: HostRuntime) -> Result<(), Fail> {
-    let never_sent = Err(PacketError::NeverSent);
+    let never_sent = Err(NumberError::NeverSent);
     let mut sender = sender(0)?;
     sender.confirm_handshake();
     send_after_skips(&mut sender, &[1, 3, 5])?;
