@@ -6,7 +6,7 @@ use aead_ciphers::aead::nonce_of;
 use aead_ciphers_base::aes::AES_128_KEY_LEN;
 use aead_ciphers_wide::aead::LessSafeKey;
 use quic_packets::{
-    Failures, FixedBit, KeyError, Keys, Packet, PacketError, Receiver, Sender, Space, Suite,
+    Failures, FixedBit, KeyError, Keys, Packet, ReceiveError, Receiver, Sender, Space, Suite,
     Version, packet_at,
 };
 
@@ -66,7 +66,7 @@ impl Connection {
             .ok()
     }
 
-    fn receive(&mut self, packet: &mut [u8], parts: &Packet) -> Result<u64, PacketError> {
+    fn receive(&mut self, packet: &mut [u8], parts: &Packet) -> Result<u64, ReceiveError> {
         let received = self
             .receiver
             .receive(&mut self.space, &mut self.failures, packet, parts)?;

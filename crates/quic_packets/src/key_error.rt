@@ -2,8 +2,8 @@
 
 use thiserror::Error;
 
-/// The error of creating a key, a sender or a receiver, or of changing its keys. It is then unchanged, and so is the connection: no
-/// such error closes one.
+/// The error of creating a key, a sender or a receiver, or of changing the keys of one, which is then unchanged. None closes a
+/// connection.
 #[derive(Clone, Copy, PartialEq, Eq, Debug, Drop, Error)]
 pub enum KeyError {
     /// The key is not as long as the algorithm's keys.

@@ -12,7 +12,6 @@ ghost use Rattle.quic_packets.specs.Sending.{HasKeyLengths, IsEncodable, IsInTur
 ghost use Rattle.quic_packets.specs.Versions.{is_other_version};
 
 use crate::datagram::version;
-use crate::error::PacketError;
 use crate::first_byte::{KEY_PHASE_BIT, LONG_MASKED_BITS, SHORT_MASKED_BITS, is_long};
 use crate::fixed_bit::FixedBit;
 use crate::header::{HeaderKey, MAX_NUMBER_LEN, SAMPLE_END};
@@ -22,10 +21,12 @@ use crate::keys::{Keys, keys_of};
 use crate::number_error::NumberError;
 use crate::numbers::number_len;
 use crate::packet::{NUMBERS_END, payload_len};
+use crate::send_error::SendError;
 use crate::skipped::Skipped;
 use crate::suite::{algorithm, header_algorithm};
 use crate::versions::{bits_of, is_other_version, type_bits};
 use aead_ciphers::aead::NONCE_LEN;
+use aead_ciphers::gcm::fits;
 use key_derivation::Suite;
 use key_derivation::quic::{QuicSecret, Version};
 use std::marker::Model;
@@ -44,7 +45,7 @@ pub const CONFIDENTIALITY_LIMIT: u64 = 1 << 23;
 ///
 /// ```
 /// fn send(alloc: Global, sender: &mut Sender, payload: &[u8]) -> Result<Vec<u8>, Fail> {
-///     let least = sender.next_number_len().ok_or(PacketError::NumberTooFar)?;
+///     let least = sender.next_number_len().ok_or(SendError::NumberTooFar)?;
 ///     let number_len = least.max(2);
 ///     let mut packet = Vec::from_slice(alloc, &[0x40])?;
 ///     packet.extend_from_slice(&CONNECTION_ID)?;
@@ -565,50 +566,50 @@ impl Sender {
         packet: &mut [u8],
         number: Range<usize>,
         fixed_bit: FixedBit,
-    ) -> Result<u64, PacketError>
+    ) -> Result<u64, SendError>
         ensures accepted { IsOk result ↔ (IsSealable self.old.version fixed_bit number.start number.end packet.old
             × IsInTurn self.old number.start number.end) }
-        ensures too_short { IsErrOf result PacketError.TooShort ↔ (length packet.old < number.end + 16) }
-        ensures too_long { IsErrOf result PacketError.TooLong ↔ ((number.end + 16 ≤ length packet.old)
+        ensures too_short { IsErrOf result SendError.TooShort ↔ (length packet.old < number.end + 16) }
+        ensures too_long { IsErrOf result SendError.TooLong ↔ ((number.end + 16 ≤ length packet.old)
             × ¬ Fits number.end (length packet.old - 16 - number.end)) }
-        ensures first_byte { IsErrOf result PacketError.NumberAtFirstByte
+        ensures first_byte { IsErrOf result SendError.NumberAtFirstByte
             ↔ (PacketFits number.end (length packet.old) × (number.start ≡ 0)) }
-        ensures no_sample { IsErrOf result PacketError.NoSample ↔ (PacketFits number.end (length packet.old)
+        ensures no_sample { IsErrOf result SendError.NoSample ↔ (PacketFits number.end (length packet.old)
             × (0 < number.start) × (length packet.old < number.start + 20)) }
-        ensures no_protection { IsErrOf result PacketError.NoProtection
+        ensures no_protection { IsErrOf result SendError.NoProtection
             ↔ (PacketFits number.end (length packet.old) × HasSample number.start (length packet.old)
             × IsTrue (lacks_protection self.old.version packet.old)) }
-        ensures other_version { IsErrOf result PacketError.OtherVersion
+        ensures other_version { IsErrOf result SendError.OtherVersion
             ↔ (PacketFits number.end (length packet.old) × HasSample number.start (length packet.old)
             × IsFalse (lacks_protection self.old.version packet.old)
             × IsTrue (is_other_version self.old.version (header_version packet.old))) }
-        ensures no_fixed_bit { IsErrOf result PacketError.NoFixedBit
+        ensures no_fixed_bit { IsErrOf result SendError.NoFixedBit
             ↔ (PacketFits number.end (length packet.old) × HasSample number.start (length packet.old)
             × IsFalse (lacks_protection self.old.version packet.old)
             × IsFalse (is_other_version self.old.version (header_version packet.old))
             × IsTrue (lacks_fixed_bit fixed_bit (header_version packet.old) (slice_index packet.old 0))) }
-        ensures empty { IsErrOf result PacketError.EmptyPayload
+        ensures empty { IsErrOf result SendError.EmptyPayload
             ↔ (PacketFits number.end (length packet.old) × HasSample number.start (length packet.old)
             × IsFalse (lacks_protection self.old.version packet.old)
             × IsFalse (is_other_version self.old.version (header_version packet.old))
             × IsFalse (lacks_fixed_bit fixed_bit (header_version packet.old) (slice_index packet.old 0))
             × (length packet.old ≡ number.end + 16)) }
-        ensures used_up { IsErrOf result PacketError.KeyUsedUp
+        ensures used_up { IsErrOf result SendError.KeyUsedUp
             ↔ (IsSealable self.old.version fixed_bit number.start number.end packet.old × (self.old.limit ≤ self.old.sealed)) }
-        ensures ended { IsErrOf result PacketError.NumbersEnded
+        ensures ended { IsErrOf result SendError.NumbersEnded
             ↔ (IsSealable self.old.version fixed_bit number.start number.end packet.old × (self.old.sealed < self.old.limit)
             × (self.old.next ≡ 2 ^ 62)) }
-        ensures too_far { IsErrOf result PacketError.NumberTooFar
+        ensures too_far { IsErrOf result SendError.NumberTooFar
             ↔ (IsSealable self.old.version fixed_bit number.start number.end packet.old × IsOpen self.old
             × ¬ IsEncodable self.old) }
-        ensures number_length { IsErrOf result PacketError.NumberLength
+        ensures number_length { IsErrOf result SendError.NumberLength
             ↔ (IsSealable self.old.version fixed_bit number.start number.end packet.old × IsOpen self.old
             × IsEncodable self.old
             × ¬ IsRoom self.old.next self.old.largest number.start number.end) }
         ensures sent { OnOk result (IsSent self.old number.start number.end packet.old packet.new) }
         ensures number { IfOk result (λ n. n ≡ self.old.next) }
         ensures counted { OnOk result (self.new ≡ after_send self.old) }
-        ensures with_keys { ¬ IsErrOf result PacketError.NoKeys }
+        ensures with_keys { ¬ IsErrOf result SendError.NoKeys }
         ensures kept { OnErr result (packet.new ≡ packet.old) }
         ensures sender_kept { OnErr result (self.new ≡ self.old) }
     {
@@ -630,36 +631,36 @@ impl Sender {
     }
 
     /// Checks that the next number can be sent in this room.
-    fn check_number(&self, number_at: usize, header_len: usize) -> Result<(), PacketError>
+    fn check_number(&self, number_at: usize, header_len: usize) -> Result<(), SendError>
         ensures accepted { IsOk result ↔ IsInTurn self.now number_at header_len }
-        ensures used_up { IsErrOf result PacketError.KeyUsedUp ↔ (self.now.limit ≤ self.now.sealed) }
-        ensures ended { IsErrOf result PacketError.NumbersEnded
+        ensures used_up { IsErrOf result SendError.KeyUsedUp ↔ (self.now.limit ≤ self.now.sealed) }
+        ensures ended { IsErrOf result SendError.NumbersEnded
             ↔ ((self.now.sealed < self.now.limit) × (self.now.next ≡ 2 ^ 62)) }
-        ensures too_far { IsErrOf result PacketError.NumberTooFar
+        ensures too_far { IsErrOf result SendError.NumberTooFar
             ↔ (IsOpen self.now × ¬ IsEncodable self.now) }
-        ensures number_length { IsErrOf result PacketError.NumberLength
+        ensures number_length { IsErrOf result SendError.NumberLength
             ↔ (IsOpen self.now × IsEncodable self.now
             × ¬ IsRoom self.now.next self.now.largest number_at header_len) }
-        ensures others { ¬ IsErrOf result PacketError.TooShort × ¬ IsErrOf result PacketError.TooLong
-            × ¬ IsErrOf result PacketError.NumberAtFirstByte × ¬ IsErrOf result PacketError.NoSample
-            × ¬ IsErrOf result PacketError.NoProtection × ¬ IsErrOf result PacketError.OtherVersion
-            × ¬ IsErrOf result PacketError.EmptyPayload × ¬ IsErrOf result PacketError.NoKeys }
+        ensures others { ¬ IsErrOf result SendError.TooShort × ¬ IsErrOf result SendError.TooLong
+            × ¬ IsErrOf result SendError.NumberAtFirstByte × ¬ IsErrOf result SendError.NoSample
+            × ¬ IsErrOf result SendError.NoProtection × ¬ IsErrOf result SendError.OtherVersion
+            × ¬ IsErrOf result SendError.EmptyPayload × ¬ IsErrOf result SendError.NoKeys }
         ensures bound { OnOk result (header_len ≤ number_at + 4) }
     {
         if self.sealed >= self.limit {
-            return Err(PacketError::KeyUsedUp);
+            return Err(SendError::KeyUsedUp);
         }
         if self.next >= NUMBERS_END {
-            return Err(PacketError::NumbersEnded);
+            return Err(SendError::NumbersEnded);
         }
         let Some(least) = self.next_number_len() else {
-            return Err(PacketError::NumberTooFar);
+            return Err(SendError::NumberTooFar);
         };
         if header_len < number_at {
-            return Err(PacketError::NumberLength);
+            return Err(SendError::NumberLength);
         }
         if !(least..=MAX_NUMBER_LEN).contains(&(header_len - number_at)) {
-            return Err(PacketError::NumberLength);
+            return Err(SendError::NumberLength);
         }
         Ok(())
     }
@@ -672,56 +673,61 @@ fn check_packet(
     header_len: usize,
     fixed_bit: FixedBit,
     version: Version,
-) -> Result<(), PacketError>
+) -> Result<(), SendError>
     ensures accepted { IsOk result ↔ IsSealable version fixed_bit number_at header_len packet.now }
-    ensures too_short { IsErrOf result PacketError.TooShort ↔ (length packet.now < header_len + 16) }
-    ensures too_long { IsErrOf result PacketError.TooLong ↔ ((header_len + 16 ≤ length packet.now)
+    ensures too_short { IsErrOf result SendError.TooShort ↔ (length packet.now < header_len + 16) }
+    ensures too_long { IsErrOf result SendError.TooLong ↔ ((header_len + 16 ≤ length packet.now)
         × ¬ Fits header_len (length packet.now - 16 - header_len)) }
-    ensures first_byte { IsErrOf result PacketError.NumberAtFirstByte
+    ensures first_byte { IsErrOf result SendError.NumberAtFirstByte
         ↔ (PacketFits header_len (length packet.now) × (number_at ≡ 0)) }
-    ensures no_sample { IsErrOf result PacketError.NoSample ↔ (PacketFits header_len (length packet.now)
+    ensures no_sample { IsErrOf result SendError.NoSample ↔ (PacketFits header_len (length packet.now)
         × (0 < number_at) × (length packet.now < number_at + 20)) }
-    ensures no_protection { IsErrOf result PacketError.NoProtection
+    ensures no_protection { IsErrOf result SendError.NoProtection
         ↔ (PacketFits header_len (length packet.now) × HasSample number_at (length packet.now)
         × IsTrue (lacks_protection version packet.now)) }
-    ensures other_version { IsErrOf result PacketError.OtherVersion
+    ensures other_version { IsErrOf result SendError.OtherVersion
         ↔ (PacketFits header_len (length packet.now) × HasSample number_at (length packet.now)
         × IsFalse (lacks_protection version packet.now)
         × IsTrue (is_other_version version (header_version packet.now))) }
-    ensures no_fixed_bit { IsErrOf result PacketError.NoFixedBit
+    ensures no_fixed_bit { IsErrOf result SendError.NoFixedBit
         ↔ (PacketFits header_len (length packet.now) × HasSample number_at (length packet.now)
         × IsFalse (lacks_protection version packet.now)
         × IsFalse (is_other_version version (header_version packet.now))
         × IsTrue (lacks_fixed_bit fixed_bit (header_version packet.now) (slice_index packet.now 0))) }
-    ensures empty { IsErrOf result PacketError.EmptyPayload
+    ensures empty { IsErrOf result SendError.EmptyPayload
         ↔ (PacketFits header_len (length packet.now) × HasSample number_at (length packet.now)
         × IsFalse (lacks_protection version packet.now)
         × IsFalse (is_other_version version (header_version packet.now))
         × IsFalse (lacks_fixed_bit fixed_bit (header_version packet.now) (slice_index packet.now 0))
         × (length packet.now ≡ header_len + 16)) }
-    ensures others { ¬ IsErrOf result PacketError.KeyUsedUp × ¬ IsErrOf result PacketError.NumbersEnded
-        × ¬ IsErrOf result PacketError.NumberTooFar × ¬ IsErrOf result PacketError.NumberLength
-        × ¬ IsErrOf result PacketError.NoKeys }
+    ensures others { ¬ IsErrOf result SendError.KeyUsedUp × ¬ IsErrOf result SendError.NumbersEnded
+        × ¬ IsErrOf result SendError.NumberTooFar × ¬ IsErrOf result SendError.NumberLength
+        × ¬ IsErrOf result SendError.NoKeys }
 {
-    let payload_len = payload_len(packet, header_len)?;
+    let Some(payload_len) = payload_len(packet, header_len) else {
+        return Err(SendError::TooShort);
+    };
+    if !fits(header_len, payload_len) {
+        return Err(SendError::TooLong);
+    }
     if number_at == 0 {
-        return Err(PacketError::NumberAtFirstByte);
+        return Err(SendError::NumberAtFirstByte);
     }
     if packet.len() < SAMPLE_END || packet.len() - SAMPLE_END < number_at {
-        return Err(PacketError::NoSample);
+        return Err(SendError::NoSample);
     }
     if lacks_protection(version, packet) {
-        return Err(PacketError::NoProtection);
+        return Err(SendError::NoProtection);
     }
     let number = header_version(packet);
     if is_other_version(version, number) {
-        return Err(PacketError::OtherVersion);
+        return Err(SendError::OtherVersion);
     }
     if fixed_bit.is_lacking(number, packet[0]) {
-        return Err(PacketError::NoFixedBit);
+        return Err(SendError::NoFixedBit);
     }
     if payload_len == 0 {
-        return Err(PacketError::EmptyPayload);
+        return Err(SendError::EmptyPayload);
     }
     Ok(())
 }

@@ -10,12 +10,13 @@ ghost use Rattle.quic_packets.specs.Sending.{IsInTurn, IsSealable, IsSent, IsUna
 ghost use Rattle.quic_packets.specs.declared.fixed_bit.FixedBit.TheVariants.{Required};
 
 use crate::datagram::Packet;
-use crate::error::PacketError;
 use crate::failures::Failures;
 use crate::fixed_bit::FixedBit;
 use crate::key_error::KeyError;
 use crate::number_error::NumberError;
+use crate::receive_error::ReceiveError;
 use crate::receiver::{Received, Receiver};
+use crate::send_error::SendError;
 use crate::sender::Sender;
 use crate::space::Space;
 use key_derivation::quic::QuicSecret;
@@ -125,9 +126,9 @@ impl Ends {
         packet: &mut [u8],
         number: Range<usize>,
         kept_back: u64,
-    ) -> Result<u64, PacketError>
-        ensures no_keys { IsErrOf result PacketError.NoKeys ↔ ¬ IsSome self.old.sender }
-        ensures used_up { IfSome self.old.sender (λ s. IsErrOf result PacketError.KeyUsedUp ↔ (left s ≤ kept_back)) }
+    ) -> Result<u64, SendError>
+        ensures no_keys { IsErrOf result SendError.NoKeys ↔ ¬ IsSome self.old.sender }
+        ensures used_up { IfSome self.old.sender (λ s. IsErrOf result SendError.KeyUsedUp ↔ (left s ≤ kept_back)) }
         ensures accepted { IfSome self.old.sender (λ s. IsOk result ↔ ((kept_back < left s)
             × IsSealable s.version Required number.start number.end packet.old × IsInTurn s number.start number.end)) }
         ensures refused { IfSome self.old.sender (λ s. kept_back < left s
@@ -138,10 +139,10 @@ impl Ends {
         ensures kept { OnErr result ((packet.new ≡ packet.old) × (self.new ≡ self.old)) }
     {
         let Some(sender) = &mut self.sender else {
-            return Err(PacketError::NoKeys);
+            return Err(SendError::NoKeys);
         };
         if sender.limit().saturating_sub(sender.sealed()) <= kept_back {
-            return Err(PacketError::KeyUsedUp);
+            return Err(SendError::KeyUsedUp);
         }
         sender.send(packet, number, FixedBit::Required)
     }
@@ -151,9 +152,9 @@ impl Ends {
         &mut self,
         packet: &mut [u8],
         number: Range<usize>,
-    ) -> Result<u64, PacketError>
-        ensures no_keys { IsErrOf result PacketError.NoKeys ↔ ¬ IsSome self.old.sender }
-        ensures used_up { IfSome self.old.sender (λ s. IsErrOf result PacketError.KeyUsedUp
+    ) -> Result<u64, SendError>
+        ensures no_keys { IsErrOf result SendError.NoKeys ↔ ¬ IsSome self.old.sender }
+        ensures used_up { IfSome self.old.sender (λ s. IsErrOf result SendError.KeyUsedUp
             ↔ (left s ≤ kept_back self.old)) }
         ensures accepted { IfSome self.old.sender (λ s. IsOk result ↔ ((kept_back self.old < left s)
             × IsSealable s.version Required number.start number.end packet.old × IsInTurn s number.start number.end)) }
@@ -277,7 +278,7 @@ impl Ends {
         failures: &mut Failures,
         datagram: &mut [u8],
         parts: &Packet,
-    ) -> Result<Received, PacketError>
+    ) -> Result<Received, ReceiveError>
         requires { IsSome self.old.receiver }
         ensures tried { IfSome self.old.receiver (λ r. IfSome self.new.receiver (λ r'. IsTried r self.old.space failures.old
             parts.now datagram.old result r' self.new.space failures.new datagram.new)) }
@@ -298,7 +299,7 @@ impl Ends {
         failures: &mut Failures,
         datagram: &mut [u8],
         parts: &Packet,
-    ) -> Result<Received, PacketError>
+    ) -> Result<Received, ReceiveError>
         ensures tried { IsTried receiver.old self.old.space failures.old parts.now datagram.old result receiver.new
             self.new.space failures.new datagram.new }
         ensures ends { self.new ≡ record self.old { space = self.new.space } }
@@ -313,7 +314,7 @@ impl Ends {
         failures: &mut Failures,
         datagram: &mut [u8],
         parts: &Packet,
-    ) -> Result<Received, PacketError>
+    ) -> Result<Received, ReceiveError>
         requires { IsSome self.old.receiver }
         ensures tried { IfSome self.old.receiver (λ r. IfSome self.new.receiver (λ r'. IsTried r self.old.space failures.old
             parts.now datagram.old result r' self.new.space failures.new datagram.new)) }

@@ -5,7 +5,7 @@ use crate::tests::checks::{equal, holds};
 use key_derivation::Secret;
 use key_derivation::quic::{QuicSecret, Version};
 use quic_packets::connection::{Connection, Incoming, Level};
-use quic_packets::{FixedBit, KeyError, NumberError, PacketError, PacketType};
+use quic_packets::{FixedBit, KeyError, NumberError, PacketType, ReceiveError, SendError};
 use std::alloc::Global;
 use std::mem;
 use std::process::Abort;
@@ -382,7 +382,7 @@ fn becomes(
     connection: &mut Connection,
     packet: &mut [u8],
     id: &[u8; 8],
-    wanted: Result<&str, PacketError>,
+    wanted: Result<&str, ReceiveError>,
 ) {
     let found = match connection.receive(packet, 0, ID.len(), id) {
         Ok(step) => match step.incoming {
@@ -440,7 +440,7 @@ const WITHOUT_KEYS: [u8; 41] = [
 ];
 
 /// What comes to an end, each alone in its datagram, the ID that it asks for, what becomes of it, and the failures after it.
-const ARRIVALS: [(Arrival, [u8; 8], Result<&str, PacketError>, u64); 9] = [
+const ARRIVALS: [(Arrival, [u8; 8], Result<&str, ReceiveError>, u64); 9] = [
     (First(PacketType::Handshake), [8; 8], Ok("ignored"), 0),
     (Bytes(&[0xe0; 9]), ID, Ok("ignored"), 0),
     (Bytes(&WITHOUT_KEYS), ID, Ok("no keys"), 0),
@@ -451,10 +451,10 @@ const ARRIVALS: [(Arrival, [u8; 8], Result<&str, PacketError>, u64); 9] = [
     (
         First(PacketType::OneRtt),
         ID,
-        Err(PacketError::TooManyFailures),
+        Err(ReceiveError::TooManyFailures),
         2,
     ),
-    (Bytes(&[]), [8; 8], Err(PacketError::TooManyFailures), 2),
+    (Bytes(&[]), [8; 8], Err(ReceiveError::TooManyFailures), 2),
 ];
 
 /// Asserts what becomes of each packet.
@@ -538,7 +538,7 @@ fn sends_until_used_up(alloc: Global, connection: &mut Connection) -> Result<u8,
         let mut packet = unsent(alloc, &ONE_RTT, [PING, NONE, 0, 0])?;
         match connection.send(Level::OneRtt, &mut packet, 9..13) {
             Ok(_) => {}
-            Err(PacketError::KeyUsedUp) => return Ok(count),
+            Err(SendError::KeyUsedUp) => return Ok(count),
             Err(error) => return Err(error.into()),
         }
     }
@@ -588,7 +588,7 @@ fn no_keys(rt: HostRuntime) -> Result<(), Fail> {
     let mut packet = unsent(rt.alloc(), &INITIAL, [PING, NONE, 0, 0])?;
     let mut end = Connection::new(FixedBit::Required);
     let sent = end.send(Level::Initial, &mut packet, 17..21);
-    equal(&rt, &sent, &Err(PacketError::NoKeys));
+    equal(&rt, &sent, &Err(SendError::NoKeys));
     let acknowledged = end.acknowledged(Level::Initial, 0, false);
     equal(&rt, &acknowledged, &Err(NumberError::NoKeys));
     end.confirm_handshake();

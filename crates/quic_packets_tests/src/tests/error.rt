@@ -2,7 +2,8 @@
 
 use crate::tests::checks::{displays, equal};
 use quic_packets::{
-    DatagramError, HeaderError, KeyError, MaskError, NumberError, PacketError, RetryError,
+    DatagramError, HeaderError, KeyError, MaskError, NumberError, ReceiveError, RetryError,
+    SendError,
 };
 use std::alloc::AllocError;
 use std::fmt::Display;
@@ -47,71 +48,99 @@ const NUMBER_ERRORS: [(NumberError, &str); 5] = [
     (NumberError::NoKeys, "the keys of the level are not there"),
 ];
 
-const PACKET_ERRORS: [(PacketError, &str); 22] = [
-    (PacketError::NoKeys, "the keys of the level are not there"),
-    (PacketError::EmptyPayload, "the packet has no payload"),
-    (PacketError::NoFrames, "the packet has no frames"),
+const SEND_ERRORS: [(SendError, &str); 14] = [
+    (SendError::NoKeys, "the keys of the level are not there"),
     (
-        PacketError::NumberAtFirstByte,
+        SendError::NumberAtFirstByte,
         "the packet number cannot begin at the header's first byte",
     ),
-    (PacketError::PastEnd, "the datagram ends before the packet"),
-    (PacketError::NoNumber, "the packet has no packet number"),
     (
-        PacketError::NumberLength,
+        SendError::NumberLength,
         "the packet number does not fit the room for it",
     ),
     (
-        PacketError::NumberTooFar,
+        SendError::NumberTooFar,
         "4 bytes cannot encode the packet number after the largest acknowledged one",
     ),
     (
-        PacketError::NoProtection,
-        "packets of this type have no protection",
-    ),
-    (
-        PacketError::KeyUsedUp,
-        "the key has reached its limit of packets",
-    ),
-    (
-        PacketError::OutputLength,
-        "the output does not have the length of the result",
-    ),
-    (
-        PacketError::NoSample,
+        SendError::NoSample,
         "the packet is too short for a sample of header protection",
     ),
     (
-        PacketError::TooShort,
+        SendError::TooShort,
         "the packet is shorter than its header and a tag",
     ),
     (
-        PacketError::TooLong,
+        SendError::TooLong,
         "the packet is longer than AES-GCM allows",
     ),
-    (PacketError::OtherVersion, "the packet has another version"),
-    (PacketError::NoFixedBit, "the fixed bit of the packet is 0"),
     (
-        PacketError::NumbersEnded,
+        SendError::NoProtection,
+        "packets of this type have no protection",
+    ),
+    (SendError::OtherVersion, "the packet has another version"),
+    (SendError::NoFixedBit, "the fixed bit of the packet is 0"),
+    (SendError::EmptyPayload, "the packet has no payload"),
+    (
+        SendError::NumbersEnded,
         "the packet number is not below 2^62",
     ),
-    (PacketError::Refused, "the packet is not authentic"),
     (
-        PacketError::TooManyFailures,
+        SendError::KeyUsedUp,
+        "the key has reached its limit of packets",
+    ),
+    (
+        SendError::OutputLength,
+        "the output does not have the length of the result",
+    ),
+];
+
+const RECEIVE_ERRORS: [(ReceiveError, &str); 15] = [
+    (ReceiveError::PastEnd, "the datagram ends before the packet"),
+    (ReceiveError::NoNumber, "the packet has no packet number"),
+    (
+        ReceiveError::NumberAtFirstByte,
+        "the packet number cannot begin at the header's first byte",
+    ),
+    (
+        ReceiveError::NoSample,
+        "the packet is too short for a sample of header protection",
+    ),
+    (
+        ReceiveError::TooShort,
+        "the packet is shorter than its header and a tag",
+    ),
+    (
+        ReceiveError::TooLong,
+        "the packet is longer than AES-GCM allows",
+    ),
+    (ReceiveError::OtherVersion, "the packet has another version"),
+    (
+        ReceiveError::NumbersEnded,
+        "the packet number is not below 2^62",
+    ),
+    (
+        ReceiveError::OutputLength,
+        "the output does not have the length of the result",
+    ),
+    (ReceiveError::Refused, "the packet is not authentic"),
+    (
+        ReceiveError::TooManyFailures,
         "too many packets have failed authentication",
     ),
     (
-        PacketError::ReservedBits,
+        ReceiveError::ReservedBits,
         "the packet's reserved bits are set",
     ),
     (
-        PacketError::Duplicate,
+        ReceiveError::Duplicate,
         "the packet number was already received, or is below the window",
     ),
     (
-        PacketError::KeyUpdate,
+        ReceiveError::KeyUpdate,
         "the packet's key phase is out of order",
     ),
+    (ReceiveError::NoFrames, "the packet has no frames"),
 ];
 
 const MASK_ERRORS: [(MaskError, &str); 3] = [
@@ -183,7 +212,8 @@ fn display<E: Display>(
 fn texts(rt: HostRuntime) -> Result<(), Fail> {
     display(&rt, &KEY_ERRORS)?;
     display(&rt, &NUMBER_ERRORS)?;
-    display(&rt, &PACKET_ERRORS)?;
+    display(&rt, &SEND_ERRORS)?;
+    display(&rt, &RECEIVE_ERRORS)?;
     display(&rt, &MASK_ERRORS)?;
     display(&rt, &DATAGRAM_ERRORS)?;
     display(&rt, &RETRY_ERRORS)?;
@@ -192,11 +222,11 @@ fn texts(rt: HostRuntime) -> Result<(), Fail> {
 }
 
 /// The errors that close a connection, with the codes of RFC 9000 section 20.1 and RFC 9001 section 6.6. All others have none.
-const CODES: [(PacketError, u64); 4] = [
-    (PacketError::ReservedBits, 0x0a),
-    (PacketError::NoFrames, 0x0a),
-    (PacketError::KeyUpdate, 0x0e),
-    (PacketError::TooManyFailures, 0x0f),
+const RECEIVE_CODES: [(ReceiveError, u64); 4] = [
+    (ReceiveError::ReservedBits, 0x0a),
+    (ReceiveError::NoFrames, 0x0a),
+    (ReceiveError::KeyUpdate, 0x0e),
+    (ReceiveError::TooManyFailures, 0x0f),
 ];
 
 const NUMBER_CODES: [(NumberError, u64); 2] = [
@@ -216,8 +246,8 @@ fn code<E: Copy + PartialEq>(codes: &[(E, u64)], error: E) -> Option<u64> {
 
 #[test]
 fn codes(rt: HostRuntime) -> Result<(), Fail> {
-    for (error, _) in &PACKET_ERRORS {
-        equal(&rt, &error.code(), &code(&CODES, *error));
+    for (error, _) in &RECEIVE_ERRORS {
+        equal(&rt, &error.code(), &code(&RECEIVE_CODES, *error));
     }
     for (error, _) in &NUMBER_ERRORS {
         equal(&rt, &error.code(), &code(&NUMBER_CODES, *error));

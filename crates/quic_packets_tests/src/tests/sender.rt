@@ -5,8 +5,8 @@ use crate::tests::keys::{packets, plain};
 use crate::tests::rows::{HEADER_KEY, IV, Row, rows};
 use aead_vectors::rfc_9001::Packet;
 use quic_packets::{
-    FixedBit, HeaderKey, KeyError, Keys, NumberError, PacketError, PacketKey, Sender, Suite,
-    Version, algorithm, header_algorithm,
+    FixedBit, HeaderKey, KeyError, Keys, NumberError, PacketKey, SendError, Sender, Suite, Version,
+    algorithm, header_algorithm,
 };
 use std::alloc::Global;
 use std::ops::Range;
@@ -39,8 +39,8 @@ fn sender_of(row: &Row) -> Result<Sender, Fail> {
 }
 
 /// Sends the row's packet, and returns its number.
-fn send(sender: &mut Sender, packet: &mut [u8], row: &Row) -> Result<u64, PacketError> {
-    let len = sender.next_number_len().ok_or(PacketError::NumberTooFar)?;
+fn send(sender: &mut Sender, packet: &mut [u8], row: &Row) -> Result<u64, SendError> {
+    let len = sender.next_number_len().ok_or(SendError::NumberTooFar)?;
     let end = row.number_at.saturating_add(len);
     sender.send(packet, row.number_at..end, FixedBit::Required)
 }
@@ -122,7 +122,7 @@ fn refuses(
     sender: &mut Sender,
     packet: &[u8; 24],
     room: Range<usize>,
-    wanted: PacketError,
+    wanted: SendError,
 ) {
     let mut sent = *packet;
     let before = (sender.next_number(), sender.sealed());
@@ -137,18 +137,18 @@ fn refuses(
 }
 
 /// A first byte and a version, the start and end of the room for the packet number, and the error.
-const REFUSALS: [(u8, u8, usize, usize, PacketError); 11] = [
-    (0x40, 0, 8, 9, PacketError::TooShort),
-    (0x40, 0, 0, 1, PacketError::NumberAtFirstByte),
-    (0x40, 0, 5, 6, PacketError::NoSample),
-    (0x40, 0, 1, 6, PacketError::NumberLength),
-    (0x40, 0, 2, 1, PacketError::NumberLength),
-    (0xf0, 1, 1, 2, PacketError::NoProtection),
-    (0xc0, 0, 1, 2, PacketError::NoProtection),
-    (0xa0, 2, 4, 5, PacketError::OtherVersion),
-    (0x00, 0, 1, 2, PacketError::NoFixedBit),
-    (0xa0, 1, 4, 5, PacketError::NoFixedBit),
-    (0x40, 0, 4, 8, PacketError::EmptyPayload),
+const REFUSALS: [(u8, u8, usize, usize, SendError); 11] = [
+    (0x40, 0, 8, 9, SendError::TooShort),
+    (0x40, 0, 0, 1, SendError::NumberAtFirstByte),
+    (0x40, 0, 5, 6, SendError::NoSample),
+    (0x40, 0, 1, 6, SendError::NumberLength),
+    (0x40, 0, 2, 1, SendError::NumberLength),
+    (0xf0, 1, 1, 2, SendError::NoProtection),
+    (0xc0, 0, 1, 2, SendError::NoProtection),
+    (0xa0, 2, 4, 5, SendError::OtherVersion),
+    (0x00, 0, 1, 2, SendError::NoFixedBit),
+    (0xa0, 1, 4, 5, SendError::NoFixedBit),
+    (0x40, 0, 4, 8, SendError::EmptyPayload),
 ];
 
 #[test]
@@ -188,7 +188,7 @@ fn greased(rt: HostRuntime) -> Result<(), Fail> {
 #[test]
 fn numbers(rt: HostRuntime) -> Result<(), Fail> {
     let mut sender = sender(1 << 31)?;
-    refuses(&rt, &mut sender, &SHORT, 1..2, PacketError::NumberTooFar);
+    refuses(&rt, &mut sender, &SHORT, 1..2, SendError::NumberTooFar);
     for (number, outcome) in [
         ((1 << 31) - 1, Err(NumberError::NumberUsed)),
         ((1 << 62) + 1, Err(NumberError::NumbersEnded)),
@@ -196,7 +196,7 @@ fn numbers(rt: HostRuntime) -> Result<(), Fail> {
     ] {
         holds(&rt, sender.skip_to(number) == outcome, "skipped");
     }
-    refuses(&rt, &mut sender, &SHORT, 1..2, PacketError::NumbersEnded);
+    refuses(&rt, &mut sender, &SHORT, 1..2, SendError::NumbersEnded);
     Ok(())
 }
 
@@ -205,7 +205,7 @@ fn numbers(rt: HostRuntime) -> Result<(), Fail> {
 enum Event {
     /// Sends a packet, which opens with this key and has this key phase.
     Sent(u8, bool),
-    Refused(PacketError),
+    Refused(SendError),
     Confirmed,
     Skipped(u64),
     Acknowledged(u64),
@@ -290,7 +290,7 @@ fn meets(rt: &impl Abort, sender: &mut Sender, event: Event) -> Result<(), Fail>
 const LIMITS_AND_UPDATES: [Event; 17] = [
     Sent(1, false),
     Sent(1, false),
-    Refused(PacketError::KeyUsedUp),
+    Refused(SendError::KeyUsedUp),
     Initiated(2, 16, Err(KeyError::HandshakeUnconfirmed)),
     Confirmed,
     Initiated(2, 17, Err(KeyError::KeyLength)),
@@ -462,10 +462,10 @@ fn numbers_go_on(rt: HostRuntime) -> Result<(), Fail> {
         refused == Err(KeyError::KeyLength),
         "a header key's length",
     );
-    refuses(&rt, &mut sender, &SHORT, 1..2, PacketError::KeyUsedUp);
+    refuses(&rt, &mut sender, &SHORT, 1..2, SendError::KeyUsedUp);
     install_keys(&mut sender, 32)?;
     let sent = sender.send(&mut packet(0x40, 0), 1..2, FixedBit::Required);
     holds(&rt, sent == Ok(1), "sent");
-    refuses(&rt, &mut sender, &SHORT, 1..2, PacketError::KeyUsedUp);
+    refuses(&rt, &mut sender, &SHORT, 1..2, SendError::KeyUsedUp);
     Ok(())
 }

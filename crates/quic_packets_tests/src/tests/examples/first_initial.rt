@@ -6,7 +6,7 @@ ghost use Rattle.quic_packets.specs.Sending.{IsSent};
 
 use key_derivation::DerivationError;
 use quic_packets::{
-    FixedBit, HeaderError, KeyError, LongHeader, LongType, PacketError, QuicSecret, Sender, Version,
+    FixedBit, HeaderError, KeyError, LongHeader, LongType, QuicSecret, SendError, Sender, Version,
 };
 use thiserror::Error;
 
@@ -30,7 +30,7 @@ pub enum FirstPacketError {
     Header(#[from] HeaderError),
     /// The packet isn't sent.
     #[error("{0}")]
-    Packet(#[from] PacketError),
+    Packet(#[from] SendError),
 }
 
 /// Returns a datagram with a client's Initial packet of version 1. `id` is the destination connection ID that the client has
