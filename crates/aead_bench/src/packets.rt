@@ -6,8 +6,8 @@ use aead_ciphers::aead::nonce_of;
 use aead_ciphers_base::aes::AES_128_KEY_LEN;
 use aead_ciphers_wide::aead::LessSafeKey;
 use quic_packets::{
-    Failures, FixedBit, Keys, Packet, PacketError, Receiver, Sender, Space, Suite, Version,
-    packet_at,
+    Failures, FixedBit, KeyError, Keys, Packet, ReceiveError, Receiver, Sender, Space, Suite,
+    Version, packet_at,
 };
 
 /// A short header of a QUIC packet: the first byte, a connection ID of 8 bytes, and a packet number of 2 bytes.
@@ -49,7 +49,7 @@ struct Connection {
 }
 
 impl Connection {
-    fn new(key: &[u8]) -> Result<Self, PacketError> {
+    fn new(key: &[u8]) -> Result<Self, KeyError> {
         Ok(Connection {
             sender: Sender::new(suite(key), keys(key), UNACKNOWLEDGED)?,
             receiver: Receiver::new(suite(key), keys(key))?,
@@ -58,14 +58,15 @@ impl Connection {
         })
     }
 
-    fn send(&mut self, packet: &mut [u8]) -> Result<u64, PacketError> {
+    fn send(&mut self, packet: &mut [u8]) -> Option<u64> {
         let acknowledged = self.sender.next_number().saturating_sub(UNACKNOWLEDGED);
-        self.sender.acknowledged(acknowledged)?;
+        self.sender.acknowledged(acknowledged).ok()?;
         self.sender
             .send(packet, NUMBER_AT..HEADER_LEN, FixedBit::Required)
+            .ok()
     }
 
-    fn receive(&mut self, packet: &mut [u8], parts: &Packet) -> Result<u64, PacketError> {
+    fn receive(&mut self, packet: &mut [u8], parts: &Packet) -> Result<u64, ReceiveError> {
         let received = self
             .receiver
             .receive(&mut self.space, &mut self.failures, packet, parts)?;
@@ -107,7 +108,7 @@ pub extern "C" fn bench_send(times: u64, key: &[u8], buffer: &mut [u8]) -> u64 {
     };
     write_first_byte(buffer);
     for _ in 0..times {
-        if connection.send(buffer).is_err() {
+        if connection.send(buffer).is_none() {
             return 0;
         }
     }
@@ -125,7 +126,7 @@ pub extern "C" fn bench_send_and_receive(times: u64, key: &[u8], buffer: &mut [u
         return 0
     };
     for _ in 0..times {
-        if connection.send(buffer).is_err() || connection.receive(buffer, &parts).is_err() {
+        if connection.send(buffer).is_none() || connection.receive(buffer, &parts).is_err() {
             return 0;
         }
     }

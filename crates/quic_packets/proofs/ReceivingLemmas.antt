@@ -15,7 +15,7 @@ use Rattle.quic_packets.specs.Packet.{CarriesNumber, HasNumber, IsGenuine, IsNum
 use Rattle.quic_packets.specs.Receiving.{IsAuthentic, IsInTurn, Opens, Outcome, Reads, Receiver, has_phase, header_len, key_of, opening_key, reserved_bits}
 use Rattle.quic_packets.specs.Sending.{Sender}
 use Rattle.quic_packets.specs.Space.{IsNew, Space}
-use Rattle.quic_packets.specs.declared.error.PacketError.{PacketError}
+use Rattle.quic_packets.specs.declared.receive_error.ReceiveError.{ReceiveError}
 use Rattle.quic_packets.specs.declared.receiver.Received.{Received}
 use Rattle.quic_packets.proofs.HeaderLemmas.{number_len-le}
 use Rattle.quic_packets.proofs.NumberBytes.{number_low_bytes}
@@ -137,7 +137,7 @@ module _ (sender : Sender) (life : Life) (sent : List Sent) (run : HasSent sende
   has_frames : header_len p.number_at plain + 16 < length plain
   has_frames = omega (arith, was.payload, read.same_header_len, read.same_len)
 
-  pub gives_back : (result : Result Received PacketError) (r' : Receiver) (opened : List ℕ) (start : ℕ)
+  pub gives_back : (result : Result Received ReceiveError) (r' : Receiver) (opened : List ℕ) (start : ℕ)
       → Outcome r space start p.number_at plain n result r' opened → GivesBack space start p result opened
   gives_back result r' opened start outcome = record {
     accepted = (

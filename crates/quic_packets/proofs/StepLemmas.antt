@@ -2,7 +2,7 @@
 use Rattle.std.proofs.Common.{◌≡◌, ℕ, ◌+◌, ◌-◌, ◌<◌, ◌≤◌, ◌↔◌, ◌⊎◌, Bool, true, false, inl, inr, List, length, Option, None, Some, Ok, Err, Result, OnErr, IsErrOf, IfErr, IfSome, IsSome, IsFalse, IsTrue, is_some, if◌then◌else◌, unwrap_or, slice_index, refl, sym, ap, subst, arith, ◌∙◌}
 use Rattle.quic_packets.specs.Connection.{Connection, IfPacket, IsGiven, IsOpening, IsOwn, IsPacketAt, IsStranger, IsTried, IsUnopened, IsWithoutKeys, end_of, incoming_of, is_opened, opened_as, opened_of, packet_in, receiver_of, space_of, step_of, with_receiver, with_sender}
 use Rattle.quic_packets.specs.Datagram.{bytes_of, number_in, packet_of}
-use Rattle.quic_packets.specs.Errors.{error_code}
+use Rattle.quic_packets.specs.Errors.{receive_error_code}
 use Rattle.quic_packets.specs.Header.{HasSample}
 use Rattle.quic_packets.specs.Receiving.{Outcome, Reads, Receiver, is_of_opened}
 use Rattle.quic_packets.specs.declared.connection.incoming.Incoming.{Incoming}
@@ -14,35 +14,35 @@ use Rattle.quic_packets.specs.Space.{Space}
 use Rattle.quic_packets.specs.Versions.{is_other_version}
 use Rattle.quic_packets.specs.declared.datagram.PacketType.{PacketType}
 use Rattle.quic_packets.specs.declared.datagram.PacketType.TheVariants.{Initial, ZeroRtt, Handshake, Retry, VersionNegotiation, OneRtt, OtherVersion}
-use Rattle.quic_packets.specs.declared.error.PacketError.{PacketError}
-use Rattle.quic_packets.specs.declared.error.PacketError.TheVariants.{NoSample, Refused, OtherVersion as OtherVersionError}
+use Rattle.quic_packets.specs.declared.receive_error.ReceiveError.{ReceiveError}
+use Rattle.quic_packets.specs.declared.receive_error.ReceiveError.TheVariants.{NoSample, Refused, OtherVersion as OtherVersionError}
 use Rattle.quic_packets.specs.declared.receiver.Received.{Received}
 
 -- a fact about the step, by what the receiver returned
-pub step_cases : (P : Result Received PacketError → Result Step PacketError → Type 0) (next : ℕ) (t : PacketType) (o : Result Received PacketError)
+pub step_cases : (P : Result Received ReceiveError → Result Step ReceiveError → Type 0) (next : ℕ) (t : PacketType) (o : Result Received ReceiveError)
     → ((r : Received) → P (Ok r) (Ok (record { next = next; incoming = PacketOf t r })))
-    → ((e : PacketError) → is_some (error_code e) ≡ true → P (Err e) (Err e))
-    → ((e : PacketError) → is_some (error_code e) ≡ false → P (Err e) (Ok (record { next = next; incoming = Dropped e })))
+    → ((e : ReceiveError) → is_some (receive_error_code e) ≡ true → P (Err e) (Err e))
+    → ((e : ReceiveError) → is_some (receive_error_code e) ≡ false → P (Err e) (Ok (record { next = next; incoming = Dropped e })))
     → P o (step_of next (incoming_of t o))
 step_cases P next t (Ok r) received closed dropped = received r
 step_cases P next t (Err e) received closed dropped =
-    let cases : (b : Bool) → is_some (error_code e) ≡ b → P (Err e) (step_of next (if b then Err e else Ok (Dropped e))) =
-    λ b. elim b as (λ v. is_some (error_code e) ≡ v → P (Err e) (step_of next (if v then Err e else Ok (Dropped e)))) [
+    let cases : (b : Bool) → is_some (receive_error_code e) ≡ b → P (Err e) (step_of next (if b then Err e else Ok (Dropped e))) =
+    λ b. elim b as (λ v. is_some (receive_error_code e) ≡ v → P (Err e) (step_of next (if v then Err e else Ok (Dropped e)))) [
       | true ↦ λ some. closed e some
       | false ↦ λ none. dropped e none
     ] in
-    cases (is_some (error_code e)) refl
+    cases (is_some (receive_error_code e)) refl
 
-pub opened_is : (next : ℕ) (t : PacketType) (o : Result Received PacketError) → opened_of (step_of next (incoming_of t o)) ≡ Some o
+pub opened_is : (next : ℕ) (t : PacketType) (o : Result Received ReceiveError) → opened_of (step_of next (incoming_of t o)) ≡ Some o
 opened_is next t o = step_cases (λ o step. opened_of step ≡ Some o) next t o (λ r. refl) (λ e some. refl) (λ e none. refl)
 
 -- a packet that was tried isn't ignored
-pub not_ignored : (next : ℕ) (t : PacketType) (o : Result Received PacketError) → IsGiven (step_of next (incoming_of t o)) Ignored → ⊥
+pub not_ignored : (next : ℕ) (t : PacketType) (o : Result Received ReceiveError) → IsGiven (step_of next (incoming_of t o)) Ignored → ⊥
 not_ignored next t o =
     step_cases (λ o step. IsGiven step Ignored → ⊥) next t o (λ r is. absurd cc) (λ e some is. absurd is) (λ e none is. absurd cc)
 
 -- an error without a code drops the packet
-pub dropped_as : (next : ℕ) (t : PacketType) (o : Result Received PacketError) (error : PacketError) → is_some (error_code error) ≡ false
+pub dropped_as : (next : ℕ) (t : PacketType) (o : Result Received ReceiveError) (error : ReceiveError) → is_some (receive_error_code error) ≡ false
     → IsGiven (step_of next (incoming_of t o)) (Dropped error) ↔ IsErrOf o error
 dropped_as next t o error none =
     step_cases (λ o step. IsGiven step (Dropped error) ↔ IsErrOf o error) next t o
@@ -50,7 +50,7 @@ dropped_as next t o error none =
     (λ e some. (λ is. absurd is, λ is. (let same : e ≡ error = cc in absurd cc)))
     (λ e no_code. (λ is. ap Err (the_error e error is), λ is. (let same : e ≡ error = cc in ap Dropped same)))
   where
-    the_error : (e f : PacketError) → Dropped e ≡ Dropped f → e ≡ f
+    the_error : (e f : ReceiveError) → Dropped e ≡ Dropped f → e ≡ f
     the_error e f is = cc
 
 -- a test of the limit that returns false
@@ -106,7 +106,7 @@ module _ (c : Connection) (id_len : ℕ) (id datagram : List ℕ) (at : ℕ) (pa
     past_keyless own none = past (NoKeys parts.packet_type) (inr (parts, record { parsed = parsed; own = own }, refl, none))
 
   -- what a receiver has tried
-  module _ (c' : Connection) (new : List ℕ) (o : Result Received PacketError) (result : Result Step PacketError)
+  module _ (c' : Connection) (new : List ℕ) (o : Result Received ReceiveError) (result : Result Step ReceiveError)
       (within : parts.end ≤ length datagram) (stepped : result ≡ step_of parts.end (incoming_of parts.packet_type o))
       (some : IsSome (receiver_of c' parts.packet_type))
       (tried : IfSome (receiver_of c parts.packet_type) (λ r. IfSome (receiver_of c' parts.packet_type) (λ r'.
@@ -149,7 +149,7 @@ module _ (c : Connection) (id_len : ℕ) (id datagram : List ℕ) (at : ℕ) (pa
         ))
 
     -- what becomes of a packet that is long enough for a sample
-    abbrev Becomes : Receiver → Packet → Result Received PacketError → Type 0
+    abbrev Becomes : Receiver → Packet → Result Received ReceiveError → Type 0
     Becomes r p opened =
         (plain : List ℕ) × (number : ℕ) × Reads r.header (space_of c p.packet_type).next (number_in p) (bytes_of p datagram) plain number
         × Outcome r (space_of c p.packet_type) p.start (number_in p) plain number opened (unwrap_or (receiver_of c' p.packet_type) r)
@@ -201,7 +201,7 @@ module _ (c : Connection) (id_len : ℕ) (id datagram : List ℕ) (at : ℕ) (pa
           let it : is_opened (Some o) ≡ false = subst (λ x. is_opened x ≡ false) (ap opened_of stepped ∙ opened_is parts.end parts.packet_type o) unopened in
           same_bytes o at_it.bytes_kept it
         where
-          same_bytes : (o : Result Received PacketError) → IfErr o (λ error. is_of_opened error ≡ false → new ≡ datagram)
+          same_bytes : (o : Result Received ReceiveError) → IfErr o (λ error. is_of_opened error ≡ false → new ≡ datagram)
               → is_opened (Some o) ≡ false → new ≡ datagram
           same_bytes (Ok p) kept is = absurd cc
           same_bytes (Err e) kept is = kept is
@@ -233,7 +233,7 @@ module _ (c : Connection) (id_len : ℕ) (id datagram : List ℕ) (at : ℕ) (st
   pub no_packet : (P : PacketType → Received → Type 0) → IfPacket (Ok step) P
   no_packet P = cases (λ i. IfSome (packet_in i) (λ p. P p.0 p.1)) tt (λ t. tt)
 
-  pub not_dropped : (error : PacketError) → IsGiven (Ok step) (Dropped error) → ⊥
+  pub not_dropped : (error : ReceiveError) → IsGiven (Ok step) (Dropped error) → ⊥
   not_dropped error = cases (λ i. i ≡ Dropped error → ⊥) (λ is. absurd cc) (λ t is. absurd cc)
 
   pub not_opened : is_opened (opened_of (Ok step)) ≡ false

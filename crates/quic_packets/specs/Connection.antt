@@ -3,7 +3,7 @@
 use Rattle.std.specs.Prelude.{◌≡◌, ℕ, ◌+◌, ◌-◌, ◌<◌, ◌≤◌, ◌↔◌, ◌⊎◌, Bool, true, false, IsFalse, IsTrue, if◌then◌else◌, List, length, slice_range, Option, None, Some, is_some, IsSome, IfSome, Result, Ok, Err, IsOkAnd, IfOk, IfErr, IsErrOf, OnErr}
 use Rattle.quic_packets.specs.Datagram.{KeepsOutside, bytes_of, next_after, number_in, packet_of}
 use Rattle.quic_packets.specs.Ends.{Ends, following, kept_back, phase_of, renewed, sent, with_next_key}
-use Rattle.quic_packets.specs.Errors.{error_code}
+use Rattle.quic_packets.specs.Errors.{receive_error_code}
 use Rattle.quic_packets.specs.Failures.{Failures}
 use Rattle.quic_packets.specs.Header.{HasSample}
 use Rattle.quic_packets.specs.Receiving.{Outcome, Reads, Receiver, is_of_opened}
@@ -19,8 +19,8 @@ use Rattle.quic_packets.specs.declared.datagram.DatagramError.{DatagramError}
 use Rattle.quic_packets.specs.declared.datagram.Packet.{Packet}
 use Rattle.quic_packets.specs.declared.datagram.PacketType.{PacketType}
 use Rattle.quic_packets.specs.declared.datagram.PacketType.TheVariants.{Initial, ZeroRtt, Handshake, OneRtt}
-use Rattle.quic_packets.specs.declared.error.PacketError.{PacketError}
-use Rattle.quic_packets.specs.declared.error.PacketError.TheVariants.{NoSample, OtherVersion, Refused, TooManyFailures}
+use Rattle.quic_packets.specs.declared.receive_error.ReceiveError.{ReceiveError}
+use Rattle.quic_packets.specs.declared.receive_error.ReceiveError.TheVariants.{NoSample, OtherVersion, Refused, TooManyFailures}
 use Rattle.quic_packets.specs.declared.fixed_bit.FixedBit.{FixedBit}
 use Rattle.quic_packets.specs.declared.receiver.Received.{Received}
 
@@ -152,7 +152,7 @@ pub record IsUnopened (c : Connection) (id_len : ℕ) (id datagram : List ℕ) (
 -- The result.
 
 -- this became of the packet
-abbrev pub IsGiven : Result Step PacketError → Incoming → Type 0
+abbrev pub IsGiven : Result Step ReceiveError → Incoming → Type 0
 IsGiven result incoming = IsOkAnd result (λ step. step.incoming ≡ incoming)
 
 -- the type of a packet that is returned, and what was received
@@ -161,30 +161,30 @@ packet_in (PacketOf packet_type received) = Some (packet_type, received)
 packet_in _ = None
 
 -- the packet that is returned fulfils this
-abbrev pub IfPacket : Result Step PacketError → (PacketType → Received → Type 0) → Type 0
+abbrev pub IfPacket : Result Step ReceiveError → (PacketType → Received → Type 0) → Type 0
 IfPacket result P = IfOk result (λ step. IfSome (packet_in step.incoming) (λ p. P p.0 p.1))
 
 -- what the receiver returned: an error with a code closes the connection, and after any other one the packet is dropped
-abbrev pub incoming_of : PacketType → Result Received PacketError → Result Incoming PacketError
+abbrev pub incoming_of : PacketType → Result Received ReceiveError → Result Incoming ReceiveError
 incoming_of packet_type (Ok received) = Ok (PacketOf packet_type received)
-incoming_of packet_type (Err error) = if is_some (error_code error) then Err error else Ok (Dropped error)
+incoming_of packet_type (Err error) = if is_some (receive_error_code error) then Err error else Ok (Dropped error)
 
-abbrev pub opened_as : Incoming → Option (Result Received PacketError)
+abbrev pub opened_as : Incoming → Option (Result Received ReceiveError)
 opened_as (PacketOf packet_type received) = Some (Ok received)
 opened_as (Dropped error) = Some (Err error)
 opened_as _ = None
 
-abbrev pub opened_of : Result Step PacketError → Option (Result Received PacketError)
+abbrev pub opened_of : Result Step ReceiveError → Option (Result Received ReceiveError)
 opened_of (Ok step) = opened_as step.incoming
 opened_of (Err error) = Some (Err error)
 
 -- the step past a packet
-abbrev pub step_of : (next : ℕ) → Result Incoming PacketError → Result Step PacketError
+abbrev pub step_of : (next : ℕ) → Result Incoming ReceiveError → Result Step ReceiveError
 step_of next (Ok incoming) = Ok (record { next = next; incoming = incoming })
 step_of next (Err error) = Err error
 
 -- the packet was opened in place, since it is authentic
-abbrev pub is_opened : Option (Result Received PacketError) → Bool
+abbrev pub is_opened : Option (Result Received ReceiveError) → Bool
 is_opened None = false
 is_opened (Some (Ok received)) = true
 is_opened (Some (Err error)) = is_of_opened error
@@ -192,7 +192,7 @@ is_opened (Some (Err error)) = is_of_opened error
 -- A receiver has tried a packet of a datagram: what it returns, and the receiver, the space, the failures and the datagram after
 -- it.
 pub record IsTried (r : Receiver) (s : Space) (f : Failures) (parts : Packet) (old : List ℕ)
-    (opened : Result Received PacketError) (r' : Receiver) (s' : Space) (f' : Failures) (new : List ℕ) : Type 0 where
+    (opened : Result Received ReceiveError) (r' : Receiver) (s' : Space) (f' : Failures) (new : List ℕ) : Type 0 where
   pub used_up : IsErrOf opened TooManyFailures ↔ (f.limit ≤ f.count)
   pub other_version : IsErrOf opened OtherVersion
       ↔ ((f.count < f.limit) × (parts.end ≤ length old) × IsTrue (is_other_version r.version parts.version))

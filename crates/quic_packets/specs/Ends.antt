@@ -11,8 +11,8 @@ use Rattle.quic_packets.specs.Receiving.{Receiver, with_next}
 use Rattle.quic_packets.specs.Sending.{IsEncodable, IsRoom, IsSealable, Sender, after_derived_update, after_send, header_version, lacks_protection, new_sender, with_installed_keys}
 use Rattle.quic_packets.specs.Space.{Space, new_space}
 use Rattle.quic_packets.specs.Versions.{is_other_version}
-use Rattle.quic_packets.specs.declared.error.PacketError.{PacketError}
-use Rattle.quic_packets.specs.declared.error.PacketError.TheVariants.{EmptyPayload, NoFixedBit, NoProtection, NoSample, NumberAtFirstByte, NumberLength, NumberTooFar, NumbersEnded, OtherVersion, TooLong, TooShort}
+use Rattle.quic_packets.specs.declared.send_error.SendError.{SendError}
+use Rattle.quic_packets.specs.declared.send_error.SendError.TheVariants.{EmptyPayload, NoFixedBit, NoProtection, NoSample, NumberAtFirstByte, NumberLength, NumberTooFar, NumbersEnded, OtherVersion, TooLong, TooShort}
 use Rattle.quic_packets.specs.declared.fixed_bit.FixedBit.{FixedBit}
 
 -- a sender and a receiver, each of which is there or not, and the numbers that were received
@@ -139,7 +139,7 @@ with_next_key e = record e { receiver = prepared e.receiver }
 
 -- When a packet with this room for its number isn't sent, while its key isn't used up: the packet can't be sealed and protected,
 -- no number is left, or the room doesn't fit the number.
-pub record Refuses (s : Sender) (fixed_bit : FixedBit) (start end : ℕ) (packet : List ℕ) (result : Result ℕ PacketError)
+pub record Refuses (s : Sender) (fixed_bit : FixedBit) (start end : ℕ) (packet : List ℕ) (result : Result ℕ SendError)
     : Type 0 where
   pub too_short : IsErrOf result TooShort ↔ (length packet < end + 16)
   pub too_long : IsErrOf result TooLong ↔ ((end + 16 ≤ length packet) × ¬ Fits end (length packet - 16 - end))

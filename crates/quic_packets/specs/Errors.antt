@@ -1,17 +1,23 @@
 -- The transport errors that close a connection (RFC 9000 section 20.1).
 use Rattle.std.specs.Prelude.{ℕ, Option, None, Some}
-use Rattle.quic_packets.specs.declared.error.PacketError.{PacketError}
-use Rattle.quic_packets.specs.declared.error.PacketError.TheVariants.{KeyUpdate, NeverSent, NoFrames, ReservedBits, TooManyFailures, UpdateUnanswered}
+use Rattle.quic_packets.specs.declared.receive_error.ReceiveError.{ReceiveError}
+use Rattle.quic_packets.specs.declared.receive_error.ReceiveError.TheVariants.{KeyUpdate, NoFrames, ReservedBits, TooManyFailures}
+use Rattle.quic_packets.specs.declared.number_error.NumberError.{NumberError}
+use Rattle.quic_packets.specs.declared.number_error.NumberError.TheVariants.{NeverSent, UpdateUnanswered}
 
--- the code of an error: PROTOCOL_VIOLATION for an acknowledgment of a packet that was not sent (section 13.1), for reserved bits
--- that are set (sections 17.2 and 17.3.1) and for a packet without frames (section 12.4), KEY_UPDATE_ERROR for a key phase out of
--- turn (RFC 9001 section 6.4) and for an acknowledgment under older keys (RFC 9001 section 6.2), and AEAD_LIMIT_REACHED after too
--- many failures (RFC 9001 section 6.6)
-abbrev pub error_code : PacketError → Option ℕ
-error_code NeverSent = Some 0x0a
-error_code ReservedBits = Some 0x0a
-error_code NoFrames = Some 0x0a
-error_code KeyUpdate = Some 0x0e
-error_code UpdateUnanswered = Some 0x0e
-error_code TooManyFailures = Some 0x0f
-error_code _ = None
+-- the code of an error of receiving: PROTOCOL_VIOLATION for reserved bits that are set (sections 17.2 and 17.3.1) and
+-- for a packet without frames (section 12.4), KEY_UPDATE_ERROR for a key phase out of turn (RFC 9001 section 6.4), and
+-- AEAD_LIMIT_REACHED after too many failures (RFC 9001 section 6.6)
+abbrev pub receive_error_code : ReceiveError → Option ℕ
+receive_error_code ReservedBits = Some 0x0a
+receive_error_code NoFrames = Some 0x0a
+receive_error_code KeyUpdate = Some 0x0e
+receive_error_code TooManyFailures = Some 0x0f
+receive_error_code _ = None
+
+-- the code of an error of numbers: PROTOCOL_VIOLATION for an acknowledgment of a packet that was not sent (section 13.1), and
+-- KEY_UPDATE_ERROR for an acknowledgment under older keys (RFC 9001 section 6.2)
+abbrev pub number_error_code : NumberError → Option ℕ
+number_error_code NeverSent = Some 0x0a
+number_error_code UpdateUnanswered = Some 0x0e
+number_error_code _ = None

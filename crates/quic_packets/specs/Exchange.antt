@@ -8,8 +8,8 @@ use Rattle.quic_packets.specs.Keys.{PacketKey}
 use Rattle.quic_packets.specs.Receiving.{Receiver, has_phase, new_receiver, received}
 use Rattle.quic_packets.specs.Sending.{IsInTurn, IsSealable, IsSent, Sender, after_acknowledgement, after_send, after_skip, after_update, is_long, new_sender, numbered_packet}
 use Rattle.quic_packets.specs.Space.{IsNew, Marks, Space, new_space}
-use Rattle.quic_packets.specs.declared.error.PacketError.{PacketError}
-use Rattle.quic_packets.specs.declared.error.PacketError.TheVariants.{Duplicate}
+use Rattle.quic_packets.specs.declared.receive_error.ReceiveError.{ReceiveError}
+use Rattle.quic_packets.specs.declared.receive_error.ReceiveError.TheVariants.{Duplicate}
 use Rattle.quic_packets.specs.declared.fixed_bit.FixedBit.{FixedBit}
 use Rattle.quic_packets.specs.declared.receiver.Received.{Received}
 
@@ -97,7 +97,7 @@ pub data Follows : Life → List Sent → Receiver → ℕ → Type 0 where
 
 -- A packet that was sent, and begins at byte `start` of a datagram, is returned: it is received if its number is new, and a
 -- duplicate otherwise. Its number, its header and its payload are then as they were sent.
-pub record GivesBack (space : Space) (start : ℕ) (packet : Sent) (result : Result Received PacketError) (opened : List ℕ) : Type 0 where
+pub record GivesBack (space : Space) (start : ℕ) (packet : Sent) (result : Result Received ReceiveError) (opened : List ℕ) : Type 0 where
   pub accepted : IsOk result ↔ IsNew space packet.number
   pub duplicate : IsErrOf result Duplicate ↔ ¬ IsNew space packet.number
   pub returns : IfOk result (λ r. r ≡ record {

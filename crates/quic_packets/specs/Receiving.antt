@@ -12,8 +12,8 @@ use Rattle.quic_packets.specs.Keys.{PacketKey, secret_key}
 use Rattle.quic_packets.specs.Numbers.{IsDecoded}
 use Rattle.quic_packets.specs.Packet.{IsGenuine}
 use Rattle.quic_packets.specs.Space.{IsNew, Space}
-use Rattle.quic_packets.specs.declared.error.PacketError.{PacketError}
-use Rattle.quic_packets.specs.declared.error.PacketError.TheVariants.{Duplicate, KeyUpdate, NoFrames, Refused, ReservedBits, TooLong}
+use Rattle.quic_packets.specs.declared.receive_error.ReceiveError.{ReceiveError}
+use Rattle.quic_packets.specs.declared.receive_error.ReceiveError.TheVariants.{Duplicate, KeyUpdate, NoFrames, Refused, ReservedBits, TooLong}
 use Rattle.quic_packets.specs.declared.receiver.Received.{Received}
 
 -- a receiver: its version; the header key; if it is made of a secret, that of its next packet key or, until this is set, of its
@@ -144,7 +144,7 @@ of_packet start number_at plain number = record {
 }
 
 -- the outcome of opening a packet that is long enough for a sample: its first byte, and its parts
-pub record Opening (r : Receiver) (start number_at : ℕ) (plain : List ℕ) (number : ℕ) (result : Result (ℕ × Received) PacketError)
+pub record Opening (r : Receiver) (start number_at : ℕ) (plain : List ℕ) (number : ℕ) (result : Result (ℕ × Received) ReceiveError)
     (opened : List ℕ) : Type 0 where
   pub too_long : IsErrOf result TooLong ↔ ¬ PacketFits (header_len number_at plain) (length plain)
   pub forged : IsErrOf result Refused
@@ -156,7 +156,7 @@ pub record Opening (r : Receiver) (start number_at : ℕ) (plain : List ℕ) (nu
 -- The outcome of a packet that is long enough for a sample, in the order of the checks: it is too long; it is not authentic;
 -- or, once it is opened, its reserved bits are set, its number was already received, its key is not in turn, or its payload is
 -- empty.
-pub record Outcome (r : Receiver) (s : Space) (start number_at : ℕ) (plain : List ℕ) (number : ℕ) (result : Result Received PacketError)
+pub record Outcome (r : Receiver) (s : Space) (start number_at : ℕ) (plain : List ℕ) (number : ℕ) (result : Result Received ReceiveError)
     (r' : Receiver) (opened : List ℕ) : Type 0 where
   pub too_long : IsErrOf result TooLong ↔ ¬ PacketFits (header_len number_at plain) (length plain)
   pub forged : IsErrOf result Refused
@@ -178,7 +178,7 @@ pub record Outcome (r : Receiver) (s : Space) (start number_at : ℕ) (plain : L
   pub moves_on : OnOk result (r' ≡ received r (slice_index plain 0) number)
 
 -- the errors of a packet that is authentic, and is opened in place
-abbrev pub is_of_opened : PacketError → Bool
+abbrev pub is_of_opened : ReceiveError → Bool
 is_of_opened ReservedBits = true
 is_of_opened Duplicate = true
 is_of_opened KeyUpdate = true

@@ -9,7 +9,7 @@ ghost use Rattle.std.specs.Option.{option_copied};
 ghost use Rattle.quic_packets.specs.Connection.{IfPacket, IsGiven, IsOpening, IsOwn, IsPacketAt, IsReceiving, IsToOpen, IsTried, IsUnopened, end_of, ends_of, has_keys, after_sending, kept_at, is_one_rtt, is_opened, opened_of, packet_in, receiver_of, sender_after, space_of, with_ends, with_receiver, with_sender};
 ghost use Rattle.quic_packets.specs.Datagram.{bytes_of, number_in, packet_of};
 ghost use Rattle.quic_packets.specs.Ends.{Refuses, confirmed, forgotten, initiated, installed, is_confirmed, left, may_update, no_ends, prepared, sent};
-ghost use Rattle.quic_packets.specs.Errors.{error_code};
+ghost use Rattle.quic_packets.specs.Errors.{receive_error_code};
 ghost use Rattle.quic_packets.specs.Header.{HasSample};
 ghost use Rattle.quic_packets.specs.Keys.{secret_header_key, secret_key};
 ghost use Rattle.quic_packets.specs.Receiving.{Outcome, Reads, new_receiver};
@@ -22,10 +22,13 @@ mod ends;
 mod incoming;
 
 use crate::datagram::{DatagramError, Packet, PacketType, packet_at};
-use crate::error::PacketError;
 use crate::failures::Failures;
 use crate::fixed_bit::FixedBit;
+use crate::key_error::KeyError;
+use crate::number_error::NumberError;
+use crate::receive_error::ReceiveError;
 use crate::receiver::{Received, Receiver};
+use crate::send_error::SendError;
 use crate::sender::{CONFIDENTIALITY_LIMIT, Sender};
 use crate::space::Space;
 use ends::Ends;
@@ -48,7 +51,7 @@ pub enum Level {
 
 /// One end of a connection: for each level a sender and a receiver, which are there or not, and the numbers received.
 ///
-/// An error of `receive` or `acknowledged` with a code (`PacketError::code`) closes the connection.
+/// An error of `receive` or `acknowledged` with a code (`ReceiveError::code`, `NumberError::code`) closes the connection.
 #[derive(Drop)]
 pub struct Connection {
     initial: Ends,
@@ -238,11 +241,11 @@ impl Connection {
     /// Fails with `HandshakeUnconfirmed` if the handshake is not confirmed or the keys of 1-RTT packets are not there in both
     /// directions, and with `PhaseUnacknowledged` if there was an update and no packet of its phase is acknowledged yet. The
     /// connection is then unchanged.
-    pub fn update_keys(&mut self) -> Result<(), PacketError>
+    pub fn update_keys(&mut self) -> Result<(), KeyError>
         ensures accepted { IsOk result ↔ IsTrue (may_update self.old.one_rtt) }
-        ensures unconfirmed { IsErrOf result PacketError.HandshakeUnconfirmed
+        ensures unconfirmed { IsErrOf result KeyError.HandshakeUnconfirmed
             ↔ ¬ IsTrue (is_confirmed self.old.one_rtt) }
-        ensures unacknowledged { IsErrOf result PacketError.PhaseUnacknowledged
+        ensures unacknowledged { IsErrOf result KeyError.PhaseUnacknowledged
             ↔ (IsTrue (is_confirmed self.old.one_rtt) × ¬ IsTrue (may_update self.old.one_rtt)) }
         ensures initiated { OnOk result (self.new ≡ record self.old { one_rtt = initiated self.old.one_rtt }) }
         ensures kept { OnErr result (self.new ≡ self.old) }
@@ -261,11 +264,11 @@ impl Connection {
         level: Level,
         number: u64,
         phase: bool,
-    ) -> Result<(), PacketError>
-        ensures no_keys { IsErrOf result PacketError.NoKeys ↔ ¬ IsSome (ends_of self.old level).sender }
-        ensures never_sent { IfSome (ends_of self.old level).sender (λ s. IsErrOf result PacketError.NeverSent
+    ) -> Result<(), NumberError>
+        ensures no_keys { IsErrOf result NumberError.NoKeys ↔ ¬ IsSome (ends_of self.old level).sender }
+        ensures never_sent { IfSome (ends_of self.old level).sender (λ s. IsErrOf result NumberError.NeverSent
             ↔ IsTrue (is_unsent s number)) }
-        ensures unanswered { IfSome (ends_of self.old level).sender (λ s. IsErrOf result PacketError.UpdateUnanswered
+        ensures unanswered { IfSome (ends_of self.old level).sender (λ s. IsErrOf result NumberError.UpdateUnanswered
             ↔ (IsFalse (is_unsent s number) × IsUnanswered s number phase)) }
         ensures accepted { IfSome (ends_of self.old level).sender (λ s. IsOk result
             ↔ (IsFalse (is_unsent s number) × ¬ IsUnanswered s number phase)) }
@@ -295,9 +298,9 @@ impl Connection {
         level: Level,
         packet: &mut [u8],
         number: Range<usize>,
-    ) -> Result<u64, PacketError>
-        ensures no_keys { IsErrOf result PacketError.NoKeys ↔ ¬ IsSome (ends_of self.old level).sender }
-        ensures used_up { IfSome (ends_of self.old level).sender (λ s. IsErrOf result PacketError.KeyUsedUp
+    ) -> Result<u64, SendError>
+        ensures no_keys { IsErrOf result SendError.NoKeys ↔ ¬ IsSome (ends_of self.old level).sender }
+        ensures used_up { IfSome (ends_of self.old level).sender (λ s. IsErrOf result SendError.KeyUsedUp
             ↔ (left s ≤ kept_at self.old level)) }
         ensures accepted { IfSome (ends_of self.old level).sender (λ s. IsOk result ↔ ((kept_at self.old level < left s)
             × IsSealable s.version Required number.start number.end packet.old × IsInTurn s number.start number.end)) }
@@ -326,9 +329,9 @@ impl Connection {
         level: Level,
         packet: &mut [u8],
         number: Range<usize>,
-    ) -> Result<u64, PacketError>
-        ensures no_keys { IsErrOf result PacketError.NoKeys ↔ ¬ IsSome (ends_of self.old level).sender }
-        ensures used_up { IfSome (ends_of self.old level).sender (λ s. IsErrOf result PacketError.KeyUsedUp ↔ (left s ≤ 0)) }
+    ) -> Result<u64, SendError>
+        ensures no_keys { IsErrOf result SendError.NoKeys ↔ ¬ IsSome (ends_of self.old level).sender }
+        ensures used_up { IfSome (ends_of self.old level).sender (λ s. IsErrOf result SendError.KeyUsedUp ↔ (left s ≤ 0)) }
         ensures accepted { IfSome (ends_of self.old level).sender (λ s. IsOk result ↔ ((0 < left s)
             × IsSealable s.version Required number.start number.end packet.old × IsInTurn s number.start number.end)) }
         ensures refused { IfSome (ends_of self.old level).sender (λ s. 0 < left s
@@ -354,7 +357,7 @@ impl Connection {
     /// `id_len` is the length of this end's own connection IDs, and `id` the destination ID of the datagram's first packet, which
     /// the caller knows as the connection's: an own one or, at a server, the one that the client chose for its first packets.
     ///
-    /// A packet with a long header of another version than the receiver's is dropped (`PacketError::OtherVersion`).
+    /// A packet with a long header of another version than the receiver's is dropped (`SendError::OtherVersion`).
     ///
     /// A key update of the peer is followed before the call returns, so before anything of the packet is acknowledged (RFC 9001
     /// section 6.2).
@@ -368,9 +371,9 @@ impl Connection {
         at: usize,
         id_len: usize,
         id: &[u8],
-    ) -> Result<Step, PacketError>
-        ensures at_limit { IsErrOf result PacketError.TooManyFailures ↔ (self.old.failures.limit ≤ self.old.failures.count) }
-        ensures closes { IfErr result (λ error. IsSome (error_code error)) }
+    ) -> Result<Step, ReceiveError>
+        ensures at_limit { IsErrOf result ReceiveError.TooManyFailures ↔ (self.old.failures.limit ≤ self.old.failures.count) }
+        ensures closes { IfErr result (λ error. IsSome (receive_error_code error)) }
         ensures next { IfOk result (λ step. step.next
             ≡ end_of (packet_of self.old.fixed_bit id_len datagram.old at) (length datagram.old)) }
         ensures moves_on { at < length datagram.old → IfOk result (λ step. (at < step.next) × (step.next ≤ length datagram.old)) }
@@ -380,9 +383,9 @@ impl Connection {
             × ((parts : Packet) × IsPacketAt self.old id_len id.now datagram.old at parts × (parts.packet_type ≡ packet_type)
             × ¬ IsSome (receiver_of self.old packet_type))) }
         ensures other_version { (parts : Packet) → (r : Receiver) → IsOpening self.old id_len id.now datagram.old at parts r
-            → IsGiven result (Incoming.Dropped PacketError.OtherVersion) ↔ IsTrue (is_other_version r.version parts.version) }
+            → IsGiven result (Incoming.Dropped ReceiveError.OtherVersion) ↔ IsTrue (is_other_version r.version parts.version) }
         ensures no_sample { (parts : Packet) → (r : Receiver) → IsOpening self.old id_len id.now datagram.old at parts r
-            → IsGiven result (Incoming.Dropped PacketError.NoSample) ↔ (IsFalse (is_other_version r.version parts.version)
+            → IsGiven result (Incoming.Dropped ReceiveError.NoSample) ↔ (IsFalse (is_other_version r.version parts.version)
             × (0 < number_in parts) × (parts.end - parts.start < number_in parts + 20)) }
         ensures outcome { (parts : Packet) → (r : Receiver) → IsOpening self.old id_len id.now datagram.old at parts r
             → IsFalse (is_other_version r.version parts.version)
@@ -403,9 +406,9 @@ impl Connection {
             ≡ with_sender (with_receiver self.old packet_type (receiver_of self.new packet_type) (space_of self.new packet_type))
             self.new.one_rtt.sender) }
         ensures receiver { IfPacket result (λ packet_type _. IsSome (receiver_of self.new packet_type)) }
-        ensures failed { IsGiven result (Incoming.Dropped PacketError.Refused)
+        ensures failed { IsGiven result (Incoming.Dropped ReceiveError.Refused)
             → self.new.failures ≡ record self.old.failures { count = self.old.failures.count + 1 } }
-        ensures not_failed { ¬ IsGiven result (Incoming.Dropped PacketError.Refused) → self.new.failures ≡ self.old.failures }
+        ensures not_failed { ¬ IsGiven result (Incoming.Dropped ReceiveError.Refused) → self.new.failures ≡ self.old.failures }
         ensures dropped { IfOk result (λ step. ¬ IsSome (packet_in step.incoming)
             → self.new ≡ record self.old { failures = self.new.failures }) }
         ensures kept { OnErr result (self.new ≡ self.old) }
@@ -414,7 +417,7 @@ impl Connection {
             (length datagram.old) ≤ i) → slice_index datagram.new i ≡ slice_index datagram.old i }
     {
         if self.failures.is_at_limit() {
-            return Err(PacketError::TooManyFailures);
+            return Err(ReceiveError::TooManyFailures);
         }
         match self.parts_to_open(datagram, at, id_len, id) {
             Ok(parts) => {
@@ -475,7 +478,7 @@ impl Connection {
     }
 
     /// Opens a packet with the receiver of its type.
-    fn open(&mut self, datagram: &mut [u8], parts: &Packet) -> Result<Received, PacketError>
+    fn open(&mut self, datagram: &mut [u8], parts: &Packet) -> Result<Received, ReceiveError>
         requires { IsSome (receiver_of self.old parts.now.packet_type) }
         ensures tried { IfSome (receiver_of self.old parts.now.packet_type) (λ r.
             IfSome (receiver_of self.new parts.now.packet_type) (λ r'. IsTried r (space_of self.old parts.now.packet_type)
@@ -506,7 +509,7 @@ impl Connection {
         &mut self,
         datagram: &mut [u8],
         parts: &Packet,
-    ) -> Result<Received, PacketError>
+    ) -> Result<Received, ReceiveError>
         requires { IsSome self.old.zero_rtt }
         ensures tried { IfSome self.old.zero_rtt (λ r. IfSome self.new.zero_rtt (λ r'. IsTried r self.old.one_rtt.space
             self.old.failures parts.now datagram.old result r' self.new.one_rtt.space self.new.failures datagram.new)) }

@@ -2,7 +2,7 @@
 
 ghost use Rattle.std.specs.Prelude.{◌≡◌, ◌≢◌, ◌+◌, ◌^◌, ◌<◌, ◌≤◌, ◌↔◌, IsTrue, min};
 
-use crate::error::PacketError;
+use crate::receive_error::ReceiveError;
 use std::marker::Model;
 
 /// The integrity limit of AES-GCM: the packets that may fail authentication, over all keys of a connection (RFC 9001 section 6.6).
@@ -62,12 +62,12 @@ impl Failures {
     }
 
     /// Counts one more failure if the error is `Refused`.
-    pub(crate) fn note(&mut self, error: PacketError)
+    pub(crate) fn note(&mut self, error: ReceiveError)
         requires { self.old.count < self.old.limit }
-        ensures failed { error ≡ PacketError.Refused → self.new ≡ record self.old { count = self.old.count + 1 } }
-        ensures others { error ≢ PacketError.Refused → self.new ≡ self.old }
+        ensures failed { error ≡ ReceiveError.Refused → self.new ≡ record self.old { count = self.old.count + 1 } }
+        ensures others { error ≢ ReceiveError.Refused → self.new ≡ self.old }
     {
-        if let PacketError::Refused = error {
+        if let ReceiveError::Refused = error {
             self.count += 1;
         }
     }

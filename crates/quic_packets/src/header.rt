@@ -5,8 +5,8 @@ ghost use Rattle.aead_ciphers.specs.HeaderProtection.{header_protection, key_len
 ghost use Rattle.quic_packets.specs.Keys.{secret_header_key};
 ghost use Rattle.quic_packets.specs.Header.{HasMaskedBytes, HasSample, MaskedParts, Protected, Unprotected, first_mask, number_len};
 
-use crate::error::PacketError;
 use crate::first_byte::{LONG_MASKED_BITS, NUMBER_LEN_BITS, SHORT_MASKED_BITS, is_long};
+use crate::key_error::KeyError;
 use crate::keys::keys_of;
 use crate::mask_error::MaskError;
 use aead_ciphers::aead::quic::Algorithm;
@@ -39,15 +39,15 @@ impl HeaderKey {
     /// Creates a header protection key from 16 or 32 bytes, the key length of the algorithm.
     ///
     /// Fails with `KeyLength` if `key` is not as long.
-    pub fn new(algorithm: &Algorithm, key: &[u8]) -> Result<Self, PacketError>
+    pub fn new(algorithm: &Algorithm, key: &[u8]) -> Result<Self, KeyError>
         ensures accepted { IsOk result ↔ (length key.now ≡ key_len algorithm.now) }
-        ensures refused { IsOkUnless result PacketError.KeyLength }
+        ensures refused { IsOkUnless result KeyError.KeyLength }
         ensures algorithm { IfOk result (λ made. made.algorithm ≡ algorithm.now) }
         ensures bytes { IfOk result (λ made. made.bytes ≡ key.now) }
     {
         match HeaderProtectionKey::new(algorithm, key) {
             Ok(key) => Ok(HeaderKey { key }),
-            Err(_) => Err(PacketError::KeyLength),
+            Err(_) => Err(KeyError::KeyLength),
         }
     }
 

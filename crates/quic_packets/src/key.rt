@@ -1,6 +1,6 @@
 //! A key that seals and opens packets by their numbers (RFC 9001 section 5.3).
 
-ghost use Rattle.std.specs.Prelude.{◌≡◌, ◌≢◌, ◌+◌, ◌-◌, ◌^◌, ◌<◌, ◌≤◌, ◌↔◌, true, length, take, IsOk, IfOk, IsOkUnless, IsErrOf, OnOk, OnErr};
+ghost use Rattle.std.specs.Prelude.{◌≡◌, ◌≢◌, ◌+◌, ◌-◌, ◌^◌, ◌<◌, ◌≤◌, ◌↔◌, true, length, take, IsOk, IfOk, IsSome, IfSome, IsOkUnless, IsErrOf, OnOk, OnErr};
 ghost use Rattle.aead_ciphers_base.specs.Aes.{aes};
 ghost use Rattle.aead_ciphers.specs.Algorithm.{key_len};
 ghost use Rattle.aead_ciphers.specs.Counting.{xored_nonce};
@@ -9,10 +9,13 @@ ghost use Rattle.aead_ciphers.specs.Packet.{OpenedPacket, PacketFits, sealed_pac
 ghost use Rattle.quic_packets.specs.Keys.{secret_key};
 ghost use Rattle.quic_packets.specs.Packet.{EndsWithTag, IsGenuine, IsNumber};
 
-use crate::error::PacketError;
+use crate::key_error::KeyError;
 use crate::keys::keys_of;
-use crate::packet::{NUMBERS_END, check_lengths, payload_len};
+use crate::packet::{NUMBERS_END, payload_len};
+use crate::receive_error::ReceiveError;
+use crate::send_error::SendError;
 use aead_ciphers::aead::{Aad, Algorithm, MAX_TAG_LEN, NONCE_LEN, Nonce, Tag, nonce_of};
+use aead_ciphers::gcm::fits;
 use aead_ciphers_wide::aead::LessSafeKey;
 use key_derivation::quic::QuicSecret;
 use std::marker::Model;
@@ -48,15 +51,15 @@ impl PacketKey {
         algorithm: &'static Algorithm,
         key: &[u8],
         iv: [u8; NONCE_LEN],
-    ) -> Result<Self, PacketError>
+    ) -> Result<Self, KeyError>
         ensures accepted { IsOk result ↔ (length key.now ≡ key_len algorithm.now) }
-        ensures refused { IsOkUnless result PacketError.KeyLength }
+        ensures refused { IsOkUnless result KeyError.KeyLength }
         ensures made { IfOk result (λ made. made
             ≡ record { algorithm = algorithm.now; bytes = key.now; iv = iv }) }
     {
         match LessSafeKey::new(algorithm, key) {
             Ok(key) => Ok(PacketKey { key, iv }),
-            Err(_) => Err(PacketError::KeyLength),
+            Err(_) => Err(KeyError::KeyLength),
         }
     }
 
@@ -81,19 +84,26 @@ impl PacketKey {
     ///
     /// Fails with `TooShort` if the packet has fewer than `header_len + 16` bytes, with `TooLong` if it is longer than AES-GCM
     /// allows, and with `NumbersEnded` if `number` is 2^62 or more. The packet is then unchanged.
-    pub fn seal(&self, number: u64, packet: &mut [u8], header_len: usize) -> Result<(), PacketError>
+    pub fn seal(&self, number: u64, packet: &mut [u8], header_len: usize) -> Result<(), SendError>
         ensures accepted { IsOk result ↔ (PacketFits header_len (length packet.old) × IsNumber number) }
-        ensures too_short { IsErrOf result PacketError.TooShort ↔ (length packet.old < header_len + 16) }
-        ensures too_long { IsErrOf result PacketError.TooLong ↔ ((header_len + 16 ≤ length packet.old)
+        ensures too_short { IsErrOf result SendError.TooShort ↔ (length packet.old < header_len + 16) }
+        ensures too_long { IsErrOf result SendError.TooLong ↔ ((header_len + 16 ≤ length packet.old)
             × ¬ Fits header_len (length packet.old - 16 - header_len)) }
-        ensures ended { IsErrOf result PacketError.NumbersEnded
+        ensures ended { IsErrOf result SendError.NumbersEnded
             ↔ (PacketFits header_len (length packet.old) × (2 ^ 62 ≤ number)) }
         ensures sealed { OnOk result (packet.new
             ≡ sealed_packet self.now.bytes (xored_nonce self.now.iv number) header_len packet.old) }
         ensures kept { OnErr result (packet.new ≡ packet.old) }
     {
-        payload_len(packet, header_len)?;
-        let nonce = self.nonce(number)?;
+        let Some(payload_len) = payload_len(packet, header_len) else {
+            return Err(SendError::TooShort);
+        };
+        if !fits(header_len, payload_len) {
+            return Err(SendError::TooLong);
+        }
+        let Some(nonce) = self.nonce(number) else {
+            return Err(SendError::NumbersEnded);
+        };
         match self.key.seal_packet_in_place(nonce, packet, header_len) {
             Ok(()) => Ok(()),
             Err(_) => unreachable!(),
@@ -108,10 +118,10 @@ impl PacketKey {
         number: u64,
         header: &[u8],
         payload: &mut [u8],
-    ) -> Result<Tag, PacketError>
+    ) -> Result<Tag, SendError>
         ensures accepted { IsOk result ↔ (Fits (length header.now) (length payload.old) × IsNumber number) }
-        ensures too_long { IsErrOf result PacketError.TooLong ↔ ¬ Fits (length header.now) (length payload.old) }
-        ensures ended { IsErrOf result PacketError.NumbersEnded
+        ensures too_long { IsErrOf result SendError.TooLong ↔ ¬ Fits (length header.now) (length payload.old) }
+        ensures ended { IsErrOf result SendError.NumbersEnded
             ↔ (Fits (length header.now) (length payload.old) × (2 ^ 62 ≤ number)) }
         ensures ciphertext { OnOk result (payload.new
             ≡ gcm_encrypted (aes self.now.bytes) (xored_nonce self.now.iv number) payload.old) }
@@ -119,8 +129,12 @@ impl PacketKey {
             header.now payload.new) }
         ensures kept { OnErr result (payload.new ≡ payload.old) }
     {
-        check_lengths(header.len(), payload.len())?;
-        let nonce = self.nonce(number)?;
+        if !fits(header.len(), payload.len()) {
+            return Err(SendError::TooLong);
+        }
+        let Some(nonce) = self.nonce(number) else {
+            return Err(SendError::NumbersEnded);
+        };
         match self
             .key
             .seal_in_place_separate_tag(nonce, Aad::from(header), payload)
@@ -141,23 +155,27 @@ impl PacketKey {
         header: &[u8],
         payload: &[u8],
         out: &mut [u8],
-    ) -> Result<(), PacketError>
+    ) -> Result<(), SendError>
         ensures accepted { IsOk result ↔ ((length out.old ≡ length payload.now + 16)
             × Fits (length header.now) (length payload.now) × IsNumber number) }
-        ensures output { IsErrOf result PacketError.OutputLength ↔ (length out.old ≢ length payload.now + 16) }
-        ensures too_long { IsErrOf result PacketError.TooLong ↔ ((length out.old ≡ length payload.now + 16)
+        ensures output { IsErrOf result SendError.OutputLength ↔ (length out.old ≢ length payload.now + 16) }
+        ensures too_long { IsErrOf result SendError.TooLong ↔ ((length out.old ≡ length payload.now + 16)
             × ¬ Fits (length header.now) (length payload.now)) }
-        ensures ended { IsErrOf result PacketError.NumbersEnded ↔ ((length out.old ≡ length payload.now + 16)
+        ensures ended { IsErrOf result SendError.NumbersEnded ↔ ((length out.old ≡ length payload.now + 16)
             × Fits (length header.now) (length payload.now) × (2 ^ 62 ≤ number)) }
         ensures sealed { OnOk result (out.new ≡ gcm_sealed (aes self.now.bytes) (xored_nonce self.now.iv number)
             header.now payload.now) }
         ensures kept { OnErr result (out.new ≡ out.old) }
     {
         if out.len() < MAX_TAG_LEN || out.len() - MAX_TAG_LEN != payload.len() {
-            return Err(PacketError::OutputLength);
+            return Err(SendError::OutputLength);
         }
-        check_lengths(header.len(), payload.len())?;
-        let nonce = self.nonce(number)?;
+        if !fits(header.len(), payload.len()) {
+            return Err(SendError::TooLong);
+        }
+        let Some(nonce) = self.nonce(number) else {
+            return Err(SendError::NumbersEnded);
+        };
         let (ciphertext, tag) = out.split_at_mut(payload.len());
         ciphertext.copy_from_slice(payload);
         let Ok(made) = self
@@ -183,16 +201,16 @@ impl PacketKey {
         number: u64,
         packet: &mut [u8],
         header_len: usize,
-    ) -> Result<usize, PacketError>
+    ) -> Result<usize, ReceiveError>
         ensures accepted { IsOk result ↔ (PacketFits header_len (length packet.old) × IsNumber number
             × IsGenuine self.now.bytes (xored_nonce self.now.iv number) header_len packet.old) }
-        ensures too_short { IsErrOf result PacketError.TooShort ↔ (length packet.old < header_len + 16) }
-        ensures too_long { IsErrOf result PacketError.TooLong
+        ensures too_short { IsErrOf result ReceiveError.TooShort ↔ (length packet.old < header_len + 16) }
+        ensures too_long { IsErrOf result ReceiveError.TooLong
             ↔ ((header_len + 16 ≤ length packet.old)
             × ¬ Fits header_len (length packet.old - 16 - header_len)) }
-        ensures ended { IsErrOf result PacketError.NumbersEnded
+        ensures ended { IsErrOf result ReceiveError.NumbersEnded
             ↔ (PacketFits header_len (length packet.old) × (2 ^ 62 ≤ number)) }
-        ensures forged { IsErrOf result PacketError.Refused
+        ensures forged { IsErrOf result ReceiveError.Refused
             ↔ (PacketFits header_len (length packet.old) × IsNumber number
             × ¬ IsGenuine self.now.bytes (xored_nonce self.now.iv number) header_len packet.old) }
         ensures opened { OnOk result (OpenedPacket self.now.bytes (xored_nonce self.now.iv number)
@@ -200,14 +218,21 @@ impl PacketKey {
         ensures payload_len { IfOk result (λ n. n ≡ length packet.old - 16 - header_len) }
         ensures kept { OnErr result (packet.new ≡ packet.old) }
     {
-        let payload_len = payload_len(packet, header_len)?;
-        let nonce = self.nonce(number)?;
+        let Some(payload_len) = payload_len(packet, header_len) else {
+            return Err(ReceiveError::TooShort);
+        };
+        if !fits(header_len, payload_len) {
+            return Err(ReceiveError::TooLong);
+        }
+        let Some(nonce) = self.nonce(number) else {
+            return Err(ReceiveError::NumbersEnded);
+        };
         match self
             .key
             .open_packet_in_place_after_header(nonce, packet, header_len)
         {
             Ok(_) => Ok(payload_len),
-            Err(_) => Err(PacketError::Refused),
+            Err(_) => Err(ReceiveError::Refused),
         }
     }
 
@@ -217,16 +242,16 @@ impl PacketKey {
         number: u64,
         header: &[u8],
         payload: &mut [u8],
-    ) -> Result<usize, PacketError>
+    ) -> Result<usize, ReceiveError>
         ensures accepted { IsOk result ↔ ((16 ≤ length payload.old)
             × Fits (length header.now) (length payload.old - 16) × IsNumber number
             × EndsWithTag self.now.bytes (xored_nonce self.now.iv number) header.now payload.old) }
-        ensures too_short { IsErrOf result PacketError.TooShort ↔ (length payload.old < 16) }
-        ensures too_long { IsErrOf result PacketError.TooLong ↔ ((16 ≤ length payload.old)
+        ensures too_short { IsErrOf result ReceiveError.TooShort ↔ (length payload.old < 16) }
+        ensures too_long { IsErrOf result ReceiveError.TooLong ↔ ((16 ≤ length payload.old)
             × ¬ Fits (length header.now) (length payload.old - 16)) }
-        ensures ended { IsErrOf result PacketError.NumbersEnded ↔ ((16 ≤ length payload.old)
+        ensures ended { IsErrOf result ReceiveError.NumbersEnded ↔ ((16 ≤ length payload.old)
             × Fits (length header.now) (length payload.old - 16) × (2 ^ 62 ≤ number)) }
-        ensures forged { IsErrOf result PacketError.Refused ↔ ((16 ≤ length payload.old)
+        ensures forged { IsErrOf result ReceiveError.Refused ↔ ((16 ≤ length payload.old)
             × Fits (length header.now) (length payload.old - 16) × IsNumber number
             × ¬ EndsWithTag self.now.bytes (xored_nonce self.now.iv number) header.now payload.old) }
         ensures opened { OnOk result (OpenedAttached (aes self.now.bytes) (xored_nonce self.now.iv number)
@@ -235,17 +260,21 @@ impl PacketKey {
         ensures kept { OnErr result (payload.new ≡ payload.old) }
     {
         if payload.len() < MAX_TAG_LEN {
-            return Err(PacketError::TooShort);
+            return Err(ReceiveError::TooShort);
         }
         let payload_len = payload.len() - MAX_TAG_LEN;
-        check_lengths(header.len(), payload_len)?;
-        let nonce = self.nonce(number)?;
+        if !fits(header.len(), payload_len) {
+            return Err(ReceiveError::TooLong);
+        }
+        let Some(nonce) = self.nonce(number) else {
+            return Err(ReceiveError::NumbersEnded);
+        };
         match self
             .key
             .open_within_to_front(nonce, Aad::from(header), payload, 0..)
         {
             Ok(_) => Ok(payload_len),
-            Err(_) => Err(PacketError::Refused),
+            Err(_) => Err(ReceiveError::Refused),
         }
     }
 
@@ -258,27 +287,31 @@ impl PacketKey {
         header: &[u8],
         payload: &mut [u8],
         tag: Tag,
-    ) -> Result<(), PacketError>
+    ) -> Result<(), ReceiveError>
         ensures accepted { IsOk result ↔ (Fits (length header.now) (length payload.old) × IsNumber number
             × (tag ≡ gcm_tag (aes self.now.bytes) (xored_nonce self.now.iv number) header.now payload.old)) }
-        ensures too_long { IsErrOf result PacketError.TooLong ↔ ¬ Fits (length header.now) (length payload.old) }
-        ensures ended { IsErrOf result PacketError.NumbersEnded
+        ensures too_long { IsErrOf result ReceiveError.TooLong ↔ ¬ Fits (length header.now) (length payload.old) }
+        ensures ended { IsErrOf result ReceiveError.NumbersEnded
             ↔ (Fits (length header.now) (length payload.old) × (2 ^ 62 ≤ number)) }
-        ensures forged { IsErrOf result PacketError.Refused ↔ (Fits (length header.now) (length payload.old)
+        ensures forged { IsErrOf result ReceiveError.Refused ↔ (Fits (length header.now) (length payload.old)
             × IsNumber number
             × (tag ≢ gcm_tag (aes self.now.bytes) (xored_nonce self.now.iv number) header.now payload.old)) }
         ensures opened { OnOk result (payload.new
             ≡ gcm_decrypted (aes self.now.bytes) (xored_nonce self.now.iv number) payload.old) }
         ensures kept { OnErr result (payload.new ≡ payload.old) }
     {
-        check_lengths(header.len(), payload.len())?;
-        let nonce = self.nonce(number)?;
+        if !fits(header.len(), payload.len()) {
+            return Err(ReceiveError::TooLong);
+        }
+        let Some(nonce) = self.nonce(number) else {
+            return Err(ReceiveError::NumbersEnded);
+        };
         match self
             .key
             .open_in_place_separate_tag_to_front(nonce, Aad::from(header), tag, payload, 0..)
         {
             Ok(_) => Ok(()),
-            Err(_) => Err(PacketError::Refused),
+            Err(_) => Err(ReceiveError::Refused),
         }
     }
 
@@ -293,16 +326,16 @@ impl PacketKey {
         header: &[u8],
         sealed: &[u8],
         out: &mut [u8],
-    ) -> Result<(), PacketError>
+    ) -> Result<(), ReceiveError>
         ensures accepted { IsOk result ↔ ((length sealed.now ≡ length out.old + 16)
             × Fits (length header.now) (length out.old) × IsNumber number
             × EndsWithTag self.now.bytes (xored_nonce self.now.iv number) header.now sealed.now) }
-        ensures output { IsErrOf result PacketError.OutputLength ↔ (length sealed.now ≢ length out.old + 16) }
-        ensures too_long { IsErrOf result PacketError.TooLong ↔ ((length sealed.now ≡ length out.old + 16)
+        ensures output { IsErrOf result ReceiveError.OutputLength ↔ (length sealed.now ≢ length out.old + 16) }
+        ensures too_long { IsErrOf result ReceiveError.TooLong ↔ ((length sealed.now ≡ length out.old + 16)
             × ¬ Fits (length header.now) (length out.old)) }
-        ensures ended { IsErrOf result PacketError.NumbersEnded ↔ ((length sealed.now ≡ length out.old + 16)
+        ensures ended { IsErrOf result ReceiveError.NumbersEnded ↔ ((length sealed.now ≡ length out.old + 16)
             × Fits (length header.now) (length out.old) × (2 ^ 62 ≤ number)) }
-        ensures forged { IsErrOf result PacketError.Refused ↔ ((length sealed.now ≡ length out.old + 16)
+        ensures forged { IsErrOf result ReceiveError.Refused ↔ ((length sealed.now ≡ length out.old + 16)
             × Fits (length header.now) (length out.old) × IsNumber number
             × ¬ EndsWithTag self.now.bytes (xored_nonce self.now.iv number) header.now sealed.now) }
         ensures opened { OnOk result (out.new ≡ gcm_decrypted (aes self.now.bytes)
@@ -310,32 +343,35 @@ impl PacketKey {
         ensures kept { OnErr result (out.new ≡ out.old) }
     {
         let Some((ciphertext, tag)) = sealed.split_last_chunk::<MAX_TAG_LEN>() else {
-            return Err(PacketError::OutputLength);
+            return Err(ReceiveError::OutputLength);
         };
         if out.len() != ciphertext.len() {
-            return Err(PacketError::OutputLength);
+            return Err(ReceiveError::OutputLength);
         }
-        check_lengths(header.len(), out.len())?;
-        let nonce = self.nonce(number)?;
+        if !fits(header.len(), out.len()) {
+            return Err(ReceiveError::TooLong);
+        }
+        let Some(nonce) = self.nonce(number) else {
+            return Err(ReceiveError::NumbersEnded);
+        };
         let tag = Tag::from(*tag);
         match self
             .key
             .open_to(nonce, Aad::from(header), tag, ciphertext, out)
         {
             Ok(()) => Ok(()),
-            Err(_) => Err(PacketError::Refused),
+            Err(_) => Err(ReceiveError::Refused),
         }
     }
 
-    /// The nonce of a packet (RFC 9001 section 5.3).
-    fn nonce(&self, number: u64) -> Result<Nonce, PacketError>
-        ensures accepted { IsOk result ↔ IsNumber number }
-        ensures refused { IsOkUnless result PacketError.NumbersEnded }
-        ensures nonce { IfOk result (λ nonce. nonce ≡ xored_nonce self.now.iv number) }
+    /// The nonce of a packet (RFC 9001 section 5.3), or `None` if its number is 2^62 or more.
+    fn nonce(&self, number: u64) -> Option<Nonce>
+        ensures some { IsSome result ↔ IsNumber number }
+        ensures nonce { IfSome result (λ nonce. nonce ≡ xored_nonce self.now.iv number) }
     {
         if number >= NUMBERS_END {
-            return Err(PacketError::NumbersEnded);
+            return None;
         }
-        Ok(nonce_of(&self.iv, number))
+        Some(nonce_of(&self.iv, number))
     }
 }

@@ -18,7 +18,7 @@ ghost use Rattle.quic_packets.specs.Packet.{HasNumber, IsNumber, low_bytes};
 ghost use Rattle.quic_packets.specs.Receiving.{Outcome, Reads, Receiver as ReceiverState};
 ghost use Rattle.quic_packets.specs.Secrets.{ReceiverOf, SenderOf, secret_after};
 ghost use Rattle.quic_packets.specs.declared.datagram.Packet.{Packet};
-ghost use Rattle.quic_packets.specs.declared.error.PacketError.{PacketError};
+ghost use Rattle.quic_packets.specs.declared.receive_error.ReceiveError.{ReceiveError};
 ghost use Rattle.quic_packets.specs.declared.receiver.Received.{Received};
 
 use crate::fixed_bit::FixedBit;
@@ -163,7 +163,7 @@ pub fn sent_in_version(sender: &Sender)
 pub fn received_as_sent<const W: usize>(sender: &Sender, receiver: &Receiver, space: &Space<W>)
     requires { receiver.now.header ≡ sender.now.header_key }
     ensures { (life : Life) → (sent : List Sent) → (updates : ℕ) → (packet : Sent) → (plain opened : List ℕ) → (number : ℕ)
-        → (result : Result Received PacketError) → (after : ReceiverState)
+        → (result : Result Received ReceiveError) → (after : ReceiverState)
         → HasSent sender.now life sent → Contains sent packet → Follows life sent receiver.now updates
         → Holds receiver.now updates life packet
         → InWindow space.now.next (number_len (slice_index packet.packet 0)) packet.number

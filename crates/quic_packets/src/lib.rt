@@ -7,22 +7,26 @@
 //! are the parts of both. `laws` states what holds over runs of calls.
 #![tactic(auto)]
 
+mod codes;
 pub mod connection;
 mod datagram;
-mod error;
 mod failures;
 mod first_byte;
 mod fixed_bit;
 mod header;
 mod header_writer;
 mod key;
+mod key_error;
 mod keys;
 pub mod laws;
 mod mask_error;
+mod number_error;
 pub mod numbers;
 mod packet;
+mod receive_error;
 mod receiver;
 mod retry;
+mod send_error;
 mod sender;
 mod skipped;
 mod space;
@@ -30,7 +34,6 @@ mod suite;
 mod versions;
 
 pub use datagram::{DatagramError, Packet, PacketType, packet_at};
-pub use error::PacketError;
 pub use failures::{Failures, INTEGRITY_LIMIT};
 pub use fixed_bit::FixedBit;
 pub use header::{HeaderKey, SAMPLE_LEN};
@@ -38,10 +41,14 @@ pub use header_writer::{HeaderError, LongHeader, LongType, ShortHeader};
 pub use key::{PacketKey, TAG_LEN};
 pub use key_derivation::Suite;
 pub use key_derivation::quic::{QuicSecret, Version};
+pub use key_error::KeyError;
 pub use keys::Keys;
 pub use mask_error::MaskError;
+pub use number_error::NumberError;
+pub use receive_error::ReceiveError;
 pub use receiver::{Received, Receiver};
 pub use retry::{RetryError, is_genuine_retry, retry_tag};
+pub use send_error::SendError;
 pub use sender::{CONFIDENTIALITY_LIMIT, Sender};
 pub use space::{Ranges, Space};
 pub use suite::{algorithm, header_algorithm};

@@ -14,16 +14,17 @@ ghost use Rattle.quic_packets.specs.Space.{IsNew, Marks};
 ghost use Rattle.quic_packets.specs.Versions.{is_other_version};
 
 use crate::datagram::Packet;
-use crate::error::PacketError;
 use crate::failures::Failures;
 use crate::first_byte::{
     KEY_PHASE_BIT, LONG_HEADER_FORM, LONG_RESERVED_BITS, SHORT_RESERVED_BITS, is_long,
 };
 use crate::header::{HeaderKey, SAMPLE_END, masked_bytes, write_back};
 use crate::key::PacketKey;
+use crate::key_error::KeyError;
 use crate::keys::{Keys, keys_of};
 use crate::mask_error::MaskError;
 use crate::numbers::{decode, truncated};
+use crate::receive_error::ReceiveError;
 use crate::space::Space;
 use crate::suite::{algorithm, header_algorithm};
 use crate::versions::is_other_version;
@@ -109,9 +110,9 @@ impl Receiver {
     /// Creates a receiver with keys of the caller's, which have the lengths of the suite.
     ///
     /// Fails with `KeyLength` if a key is not as long as the suite's.
-    pub fn new(suite: Suite, keys: Keys<'_>) -> Result<Self, PacketError>
+    pub fn new(suite: Suite, keys: Keys<'_>) -> Result<Self, KeyError>
         ensures accepted { IsOk result ↔ HasKeyLengths suite keys.entry.key.now keys.entry.header_key.now }
-        ensures refused { IsOkUnless result PacketError.KeyLength }
+        ensures refused { IsOkUnless result KeyError.KeyLength }
         ensures made { IfOk result (λ made. made ≡ new_receiver keys.entry.version (header_key suite keys.entry.header_key.now)
             (packet_key suite keys.entry.key.now keys.entry.iv) None) }
     {
@@ -152,14 +153,14 @@ impl Receiver {
     /// initiates an update. Until then, a packet of the next phase is rejected as a forged one is.
     ///
     /// Fails with `NoSecret` if the receiver is not made of a secret. The receiver is then unchanged.
-    pub fn set_next(&mut self) -> Result<(), PacketError>
+    pub fn set_next(&mut self) -> Result<(), KeyError>
         ensures accepted { IsOk result ↔ IsSome self.old.secret }
-        ensures refused { IsOkUnless result PacketError.NoSecret }
+        ensures refused { IsOkUnless result KeyError.NoSecret }
         ensures given { OnOk result (IfSome self.old.secret (λ held. self.new ≡ with_next self.old held)) }
         ensures kept { OnErr result (self.new ≡ self.old) }
     {
         let Some(secret) = &self.secret else {
-            return Err(PacketError::NoSecret);
+            return Err(KeyError::NoSecret);
         };
         if self.next.is_none() {
             let next = secret.next();
@@ -173,11 +174,11 @@ impl Receiver {
     ///
     /// Fails with `KeysDerived` if the receiver is made of a secret, and with `KeyLength` if `key` is not as long as the suite's
     /// keys. The receiver is then unchanged.
-    pub fn set_next_with(&mut self, key: &[u8], iv: [u8; NONCE_LEN]) -> Result<(), PacketError>
+    pub fn set_next_with(&mut self, key: &[u8], iv: [u8; NONCE_LEN]) -> Result<(), KeyError>
         ensures accepted { IsOk result
             ↔ (¬ IsSome self.old.secret × (length key.now ≡ key_len self.old.current.algorithm)) }
-        ensures derived { IsErrOf result PacketError.KeysDerived ↔ IsSome self.old.secret }
-        ensures key_len { IsErrOf result PacketError.KeyLength
+        ensures derived { IsErrOf result KeyError.KeysDerived ↔ IsSome self.old.secret }
+        ensures key_len { IsErrOf result KeyError.KeyLength
             ↔ (¬ IsSome self.old.secret × (length key.now ≢ key_len self.old.current.algorithm)) }
         ensures given { OnOk result (self.new ≡ record self.old {
           next = Some (record self.old.current { bytes = key.now; iv = iv });
@@ -185,7 +186,7 @@ impl Receiver {
         ensures kept { OnErr result (self.new ≡ self.old) }
     {
         if self.secret.is_some() {
-            return Err(PacketError::KeysDerived);
+            return Err(KeyError::KeysDerived);
         }
         self.next = Some(PacketKey::new(self.current.algorithm(), key, iv)?);
         Ok(())
@@ -238,20 +239,20 @@ impl Receiver {
         failures: &mut Failures,
         datagram: &mut [u8],
         parts: &Packet,
-    ) -> Result<Received, PacketError>
-        ensures used_up { IsErrOf result PacketError.TooManyFailures ↔ (failures.old.limit ≤ failures.old.count) }
-        ensures past_end { IsErrOf result PacketError.PastEnd
+    ) -> Result<Received, ReceiveError>
+        ensures used_up { IsErrOf result ReceiveError.TooManyFailures ↔ (failures.old.limit ≤ failures.old.count) }
+        ensures past_end { IsErrOf result ReceiveError.PastEnd
             ↔ ((failures.old.count < failures.old.limit) × (length datagram.old < parts.now.end)) }
-        ensures other_version { IsErrOf result PacketError.OtherVersion ↔ ((failures.old.count < failures.old.limit)
+        ensures other_version { IsErrOf result ReceiveError.OtherVersion ↔ ((failures.old.count < failures.old.limit)
             × (parts.now.end ≤ length datagram.old) × IsTrue (is_other_version self.old.version parts.now.version)) }
-        ensures no_number { IsErrOf result PacketError.NoNumber ↔ ((failures.old.count < failures.old.limit)
+        ensures no_number { IsErrOf result ReceiveError.NoNumber ↔ ((failures.old.count < failures.old.limit)
             × (parts.now.end ≤ length datagram.old) × IsFalse (is_other_version self.old.version parts.now.version)
             × ¬ IsSome parts.now.number_at) }
-        ensures first_byte { IsErrOf result PacketError.NumberAtFirstByte
+        ensures first_byte { IsErrOf result ReceiveError.NumberAtFirstByte
             ↔ ((failures.old.count < failures.old.limit) × (parts.now.end ≤ length datagram.old)
             × IsFalse (is_other_version self.old.version parts.now.version)
             × IsSome parts.now.number_at × (number_in parts.now ≡ 0)) }
-        ensures no_sample { IsErrOf result PacketError.NoSample ↔ ((failures.old.count < failures.old.limit)
+        ensures no_sample { IsErrOf result ReceiveError.NoSample ↔ ((failures.old.count < failures.old.limit)
             × (parts.now.end ≤ length datagram.old) × IsFalse (is_other_version self.old.version parts.now.version)
             × (0 < number_in parts.now) × (parts.now.end - parts.now.start < number_in parts.now + 20)) }
         ensures outcome { failures.old.count < failures.old.limit → parts.now.end ≤ length datagram.old
@@ -263,15 +264,15 @@ impl Receiver {
         ensures payload { IfOk result (λ r. (parts.now.start < r.payload.start) × (r.payload.start ≤ r.payload.end)
             × (r.payload.end + 16 ≡ parts.now.end) × (parts.now.end ≤ length datagram.old)) }
         ensures marked { IfOk result (λ r. IsNew space.old r.number × Marks space.old r.number space.new) }
-        ensures failed { IsErrOf result PacketError.Refused
+        ensures failed { IsErrOf result ReceiveError.Refused
             → failures.new ≡ record failures.old { count = failures.old.count + 1 } }
-        ensures not_failed { ¬ IsErrOf result PacketError.Refused → failures.new ≡ failures.old }
+        ensures not_failed { ¬ IsErrOf result ReceiveError.Refused → failures.new ≡ failures.old }
         ensures kept { OnErr result ((self.new ≡ self.old) × (space.new ≡ space.old)) }
         ensures bytes_kept { IfErr result (λ error. is_of_opened error ≡ false → datagram.new ≡ datagram.old) }
         ensures outside { KeepsOutside parts.now.start parts.now.end datagram.old datagram.new }
     {
         if failures.is_at_limit() {
-            return Err(PacketError::TooManyFailures);
+            return Err(ReceiveError::TooManyFailures);
         }
         let number_at = place_of_number(parts, datagram.len(), self.version)?;
         let start = parts.start;
@@ -292,7 +293,7 @@ impl Receiver {
         packet: &mut [u8],
         number_at: usize,
         start: usize,
-    ) -> Result<Received, PacketError>
+    ) -> Result<Received, ReceiveError>
         requires left { failures.old.count < failures.old.limit }
         requires sample { HasSample number_at (length packet.old) }
         requires place { start + length packet.old < 2 ^ 64 }
@@ -302,14 +303,14 @@ impl Receiver {
         ensures payload { IfOk result (λ r. (start < r.payload.start) × (r.payload.start ≤ r.payload.end)
             × (r.payload.end + 16 ≡ start + length packet.old)) }
         ensures marked { IfOk result (λ r. IsNew space.old r.number × Marks space.old r.number space.new) }
-        ensures failed { IsErrOf result PacketError.Refused
+        ensures failed { IsErrOf result ReceiveError.Refused
             → failures.new ≡ record failures.old { count = failures.old.count + 1 } }
-        ensures not_failed { ¬ IsErrOf result PacketError.Refused → failures.new ≡ failures.old }
+        ensures not_failed { ¬ IsErrOf result ReceiveError.Refused → failures.new ≡ failures.old }
         ensures kept { OnErr result ((self.new ≡ self.old) × (space.new ≡ space.old)) }
         ensures bytes_kept { IfErr result (λ error. is_of_opened error ≡ false → packet.new ≡ packet.old) }
-        ensures others { ¬ IsErrOf result PacketError.TooManyFailures × ¬ IsErrOf result PacketError.PastEnd
-            × ¬ IsErrOf result PacketError.NoNumber × ¬ IsErrOf result PacketError.NumberAtFirstByte
-            × ¬ IsErrOf result PacketError.NoSample × ¬ IsErrOf result PacketError.OtherVersion }
+        ensures others { ¬ IsErrOf result ReceiveError.TooManyFailures × ¬ IsErrOf result ReceiveError.PastEnd
+            × ¬ IsErrOf result ReceiveError.NoNumber × ¬ IsErrOf result ReceiveError.NumberAtFirstByte
+            × ¬ IsErrOf result ReceiveError.NoSample × ¬ IsErrOf result ReceiveError.OtherVersion }
     {
         match self.open(space.largest(), packet, number_at, start) {
             Ok((first, received)) => match self.admit(space, first, &received) {
@@ -331,10 +332,10 @@ impl Receiver {
         packet: &mut [u8],
         number_at: usize,
         start: usize,
-    ) -> Result<(u8, Received), PacketError>
+    ) -> Result<(u8, Received), ReceiveError>
         requires place { start + length packet.old < 2 ^ 64 }
-        ensures first_byte { IsErrOf result PacketError.NumberAtFirstByte ↔ (number_at ≡ 0) }
-        ensures no_sample { IsErrOf result PacketError.NoSample
+        ensures first_byte { IsErrOf result ReceiveError.NumberAtFirstByte ↔ (number_at ≡ 0) }
+        ensures no_sample { IsErrOf result ReceiveError.NoSample
             ↔ ((0 < number_at) × (length packet.old < number_at + 20)) }
         ensures opening { HasSample number_at (length packet.old) → (plain : List ℕ) × (number : ℕ)
             × Reads self.now.header (expected largest) number_at packet.old plain number
@@ -345,15 +346,15 @@ impl Receiver {
             × (opened.1.payload.start ≤ opened.1.payload.end)
             × (opened.1.payload.end + 16 ≡ start + length packet.old)) }
         ensures kept { OnErr result (packet.new ≡ packet.old) }
-        ensures others { ¬ IsErrOf result PacketError.TooManyFailures × ¬ IsErrOf result PacketError.PastEnd
-            × ¬ IsErrOf result PacketError.NoNumber × ¬ IsErrOf result PacketError.ReservedBits × ¬ IsErrOf result PacketError.Duplicate
-            × ¬ IsErrOf result PacketError.KeyUpdate × ¬ IsErrOf result PacketError.NoFrames
-            × ¬ IsErrOf result PacketError.OtherVersion }
+        ensures others { ¬ IsErrOf result ReceiveError.TooManyFailures × ¬ IsErrOf result ReceiveError.PastEnd
+            × ¬ IsErrOf result ReceiveError.NoNumber × ¬ IsErrOf result ReceiveError.ReservedBits × ¬ IsErrOf result ReceiveError.Duplicate
+            × ¬ IsErrOf result ReceiveError.KeyUpdate × ¬ IsErrOf result ReceiveError.NoFrames
+            × ¬ IsErrOf result ReceiveError.OtherVersion }
     {
         let masked = match masked_bytes(packet, number_at) {
             Ok(masked) => masked,
-            Err(MaskError::NumberAtFirstByte) => return Err(PacketError::NumberAtFirstByte),
-            Err(_) => return Err(PacketError::NoSample),
+            Err(MaskError::NumberAtFirstByte) => return Err(ReceiveError::NumberAtFirstByte),
+            Err(_) => return Err(ReceiveError::NoSample),
         };
         let Ok(number_len) = self.header.unprotect(packet, number_at) else {
             unreachable!();
@@ -467,16 +468,16 @@ impl Receiver {
         space: &mut Space<W>,
         first: u8,
         opened: &Received,
-    ) -> Result<(), PacketError>
+    ) -> Result<(), ReceiveError>
         requires { IsNumber opened.now.number }
         ensures accepted { IsOk result ↔ ((reserved_bits first ≡ 0) × IsNew space.old opened.now.number
             × IsInTurn self.old first opened.now.number × (opened.now.payload.start < opened.now.payload.end)) }
-        ensures reserved { IsErrOf result PacketError.ReservedBits ↔ (reserved_bits first ≢ 0) }
-        ensures duplicate { IsErrOf result PacketError.Duplicate
+        ensures reserved { IsErrOf result ReceiveError.ReservedBits ↔ (reserved_bits first ≢ 0) }
+        ensures duplicate { IsErrOf result ReceiveError.Duplicate
             ↔ ((reserved_bits first ≡ 0) × ¬ IsNew space.old opened.now.number) }
-        ensures out_of_turn { IsErrOf result PacketError.KeyUpdate ↔ ((reserved_bits first ≡ 0)
+        ensures out_of_turn { IsErrOf result ReceiveError.KeyUpdate ↔ ((reserved_bits first ≡ 0)
             × IsNew space.old opened.now.number × ¬ IsInTurn self.old first opened.now.number) }
-        ensures no_frames { IsErrOf result PacketError.NoFrames ↔ ((reserved_bits first ≡ 0)
+        ensures no_frames { IsErrOf result ReceiveError.NoFrames ↔ ((reserved_bits first ≡ 0)
             × IsNew space.old opened.now.number × IsInTurn self.old first opened.now.number
             × (opened.now.payload.end ≤ opened.now.payload.start)) }
         ensures others { IfErr result (λ error. is_of_opened error ≡ true) }
@@ -491,16 +492,16 @@ impl Receiver {
             SHORT_RESERVED_BITS
         };
         if first & reserved != 0 {
-            return Err(PacketError::ReservedBits);
+            return Err(ReceiveError::ReservedBits);
         }
         if !space.is_new(number) {
-            return Err(PacketError::Duplicate);
+            return Err(ReceiveError::Duplicate);
         }
         if !self.is_in_turn(first, number) {
-            return Err(PacketError::KeyUpdate);
+            return Err(ReceiveError::KeyUpdate);
         }
         if opened.payload.start >= opened.payload.end {
-            return Err(PacketError::NoFrames);
+            return Err(ReceiveError::NoFrames);
         }
         space.mark(number);
         self.move_on(first, number);
@@ -510,38 +511,38 @@ impl Receiver {
 
 /// The position of the packet number, counted from the packet, if the packet ends within a datagram of this length, has no other
 /// version, and is long enough for a sample.
-fn place_of_number(parts: &Packet, len: usize, version: Version) -> Result<usize, PacketError>
+fn place_of_number(parts: &Packet, len: usize, version: Version) -> Result<usize, ReceiveError>
     ensures accepted { IsOk result ↔ ((parts.now.end ≤ len) × IsFalse (is_other_version version parts.now.version)
         × HasSample (number_in parts.now) (parts.now.end - parts.now.start)) }
-    ensures past_end { IsErrOf result PacketError.PastEnd ↔ (len < parts.now.end) }
-    ensures other_version { IsErrOf result PacketError.OtherVersion
+    ensures past_end { IsErrOf result ReceiveError.PastEnd ↔ (len < parts.now.end) }
+    ensures other_version { IsErrOf result ReceiveError.OtherVersion
         ↔ ((parts.now.end ≤ len) × IsTrue (is_other_version version parts.now.version)) }
-    ensures no_number { IsErrOf result PacketError.NoNumber ↔ ((parts.now.end ≤ len)
+    ensures no_number { IsErrOf result ReceiveError.NoNumber ↔ ((parts.now.end ≤ len)
         × IsFalse (is_other_version version parts.now.version) × ¬ IsSome parts.now.number_at) }
-    ensures first_byte { IsErrOf result PacketError.NumberAtFirstByte ↔ ((parts.now.end ≤ len)
+    ensures first_byte { IsErrOf result ReceiveError.NumberAtFirstByte ↔ ((parts.now.end ≤ len)
         × IsFalse (is_other_version version parts.now.version)
         × IsSome parts.now.number_at × (number_in parts.now ≡ 0)) }
-    ensures no_sample { IsErrOf result PacketError.NoSample ↔ ((parts.now.end ≤ len)
+    ensures no_sample { IsErrOf result ReceiveError.NoSample ↔ ((parts.now.end ≤ len)
         × IsFalse (is_other_version version parts.now.version) × (0 < number_in parts.now)
         × (parts.now.end - parts.now.start < number_in parts.now + 20)) }
     ensures place { IfOk result (λ at. at ≡ number_in parts.now) }
-    ensures others { ¬ IsErrOf result PacketError.TooManyFailures × ¬ IsErrOf result PacketError.Refused }
+    ensures others { ¬ IsErrOf result ReceiveError.TooManyFailures × ¬ IsErrOf result ReceiveError.Refused }
     ensures unopened { IfErr result (λ error. is_of_opened error ≡ false) }
 {
     if parts.end > len {
-        return Err(PacketError::PastEnd);
+        return Err(ReceiveError::PastEnd);
     }
     if is_other_version(version, parts.version) {
-        return Err(PacketError::OtherVersion);
+        return Err(ReceiveError::OtherVersion);
     }
     let Some(number_at) = parts.number_at else {
-        return Err(PacketError::NoNumber);
+        return Err(ReceiveError::NoNumber);
     };
     if number_at <= parts.start {
-        return Err(PacketError::NumberAtFirstByte);
+        return Err(ReceiveError::NumberAtFirstByte);
     }
     if parts.end < number_at || parts.end - number_at < SAMPLE_END {
-        return Err(PacketError::NoSample);
+        return Err(ReceiveError::NoSample);
     }
     Ok(number_at - parts.start)
 }

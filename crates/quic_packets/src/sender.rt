@@ -12,18 +12,21 @@ ghost use Rattle.quic_packets.specs.Sending.{HasKeyLengths, IsEncodable, IsInTur
 ghost use Rattle.quic_packets.specs.Versions.{is_other_version};
 
 use crate::datagram::version;
-use crate::error::PacketError;
 use crate::first_byte::{KEY_PHASE_BIT, LONG_MASKED_BITS, SHORT_MASKED_BITS, is_long};
 use crate::fixed_bit::FixedBit;
 use crate::header::{HeaderKey, MAX_NUMBER_LEN, SAMPLE_END};
 use crate::key::PacketKey;
+use crate::key_error::KeyError;
 use crate::keys::{Keys, keys_of};
+use crate::number_error::NumberError;
 use crate::numbers::number_len;
 use crate::packet::{NUMBERS_END, payload_len};
+use crate::send_error::SendError;
 use crate::skipped::Skipped;
 use crate::suite::{algorithm, header_algorithm};
 use crate::versions::{bits_of, is_other_version, type_bits};
 use aead_ciphers::aead::NONCE_LEN;
+use aead_ciphers::gcm::fits;
 use key_derivation::Suite;
 use key_derivation::quic::{QuicSecret, Version};
 use std::marker::Model;
@@ -42,7 +45,7 @@ pub const CONFIDENTIALITY_LIMIT: u64 = 1 << 23;
 ///
 /// ```
 /// fn send(alloc: Global, sender: &mut Sender, payload: &[u8]) -> Result<Vec<u8>, Fail> {
-///     let least = sender.next_number_len().ok_or(PacketError::NumberTooFar)?;
+///     let least = sender.next_number_len().ok_or(SendError::NumberTooFar)?;
 ///     let number_len = least.max(2);
 ///     let mut packet = Vec::from_slice(alloc, &[0x40])?;
 ///     packet.extend_from_slice(&CONNECTION_ID)?;
@@ -105,9 +108,9 @@ impl Sender {
     /// The Key Phase bit is 0, and the handshake is not confirmed.
     ///
     /// Fails with `NumbersEnded` if `first` is above 2^62.
-    pub fn from_secret(secret: QuicSecret, first: u64) -> Result<Self, PacketError>
+    pub fn from_secret(secret: QuicSecret, first: u64) -> Result<Self, KeyError>
         ensures accepted { IsOk result ↔ (first ≤ 2 ^ 62) }
-        ensures refused { IsOkUnless result PacketError.NumbersEnded }
+        ensures refused { IsOkUnless result KeyError.NumbersEnded }
         ensures made { IfOk result (λ made. made
             ≡ new_sender secret.version (secret_key secret) (secret_header_key secret) (Some secret) first) }
     {
@@ -121,12 +124,12 @@ impl Sender {
     /// The Key Phase bit is 0, and the handshake is not confirmed.
     ///
     /// Fails with `KeyLength` if a key is not as long as the suite's, and with `NumbersEnded` if `first` is above 2^62.
-    pub fn new(suite: Suite, keys: Keys<'_>, first: u64) -> Result<Self, PacketError>
+    pub fn new(suite: Suite, keys: Keys<'_>, first: u64) -> Result<Self, KeyError>
         ensures accepted { IsOk result
             ↔ (HasKeyLengths suite keys.entry.key.now keys.entry.header_key.now × (first ≤ 2 ^ 62)) }
-        ensures key_len { IsErrOf result PacketError.KeyLength
+        ensures key_len { IsErrOf result KeyError.KeyLength
             ↔ ¬ HasKeyLengths suite keys.entry.key.now keys.entry.header_key.now }
-        ensures ended { IsErrOf result PacketError.NumbersEnded
+        ensures ended { IsErrOf result KeyError.NumbersEnded
             ↔ (HasKeyLengths suite keys.entry.key.now keys.entry.header_key.now × (2 ^ 62 < first)) }
         ensures made { IfOk result (λ made. made ≡ new_sender keys.entry.version
             (packet_key suite keys.entry.key.now keys.entry.iv) (header_key suite keys.entry.header_key.now) None first) }
@@ -143,13 +146,13 @@ impl Sender {
         header_key: HeaderKey,
         secret: Option<QuicSecret>,
         first: u64,
-    ) -> Result<Self, PacketError>
+    ) -> Result<Self, KeyError>
         ensures accepted { IsOk result ↔ (first ≤ 2 ^ 62) }
-        ensures refused { IsOkUnless result PacketError.NumbersEnded }
+        ensures refused { IsOkUnless result KeyError.NumbersEnded }
         ensures made { IfOk result (λ made. made ≡ new_sender version key header_key secret first) }
     {
         if first > NUMBERS_END {
-            return Err(PacketError::NumbersEnded);
+            return Err(KeyError::NumbersEnded);
         }
         Ok(Sender {
             version,
@@ -259,18 +262,18 @@ impl Sender {
     ///
     /// Fails with `NumberUsed` if the next number is already above `number`, and with `NumbersEnded` if `number` is above 2^62.
     /// The sender is then unchanged.
-    pub fn skip_to(&mut self, number: u64) -> Result<(), PacketError>
+    pub fn skip_to(&mut self, number: u64) -> Result<(), NumberError>
         ensures accepted { IsOk result ↔ ((self.old.next ≤ number) × (number ≤ 2 ^ 62)) }
-        ensures used { IsErrOf result PacketError.NumberUsed ↔ (number < self.old.next) }
-        ensures ended { IsErrOf result PacketError.NumbersEnded ↔ (2 ^ 62 < number) }
+        ensures used { IsErrOf result NumberError.NumberUsed ↔ (number < self.old.next) }
+        ensures ended { IsErrOf result NumberError.NumbersEnded ↔ (2 ^ 62 < number) }
         ensures skipped { OnOk result (self.new ≡ after_skip self.old number) }
         ensures kept { OnErr result (self.new ≡ self.old) }
     {
         if number < self.next {
-            return Err(PacketError::NumberUsed);
+            return Err(NumberError::NumberUsed);
         }
         if number > NUMBERS_END {
-            return Err(PacketError::NumbersEnded);
+            return Err(NumberError::NumbersEnded);
         }
         if number > self.next {
             let forgotten = self.skipped.add(self.next, number);
@@ -296,14 +299,14 @@ impl Sender {
     ///
     /// Fails with `NeverSent` if `number` is not below the next number, or is in a range of skipped numbers that is kept (see
     /// `skip_to`). The sender is then unchanged, and the connection must be closed (RFC 9000 section 13.1).
-    pub fn acknowledged(&mut self, number: u64) -> Result<(), PacketError>
+    pub fn acknowledged(&mut self, number: u64) -> Result<(), NumberError>
         ensures accepted { IsOk result ↔ IsFalse (is_unsent self.old number) }
-        ensures refused { IsOkUnless result PacketError.NeverSent }
+        ensures refused { IsOkUnless result NumberError.NeverSent }
         ensures acknowledged { OnOk result (self.new ≡ after_acknowledgement self.old number) }
         ensures kept { OnErr result (self.new ≡ self.old) }
     {
         if self.is_unsent(number) {
-            return Err(PacketError::NeverSent);
+            return Err(NumberError::NeverSent);
         }
         self.largest_acknowledged = match self.largest_acknowledged {
             Some(largest) => Some(largest.max(number)),
@@ -324,17 +327,17 @@ impl Sender {
     /// followed before the acknowledgments of the packet that begins it are recorded. A packet of two phases before has the bit
     /// of the current one, and isn't told from it: the receiver has to forget the previous key before an update is initiated
     /// (section 6.5).
-    pub fn acknowledged_in(&mut self, number: u64, phase: bool) -> Result<(), PacketError>
+    pub fn acknowledged_in(&mut self, number: u64, phase: bool) -> Result<(), NumberError>
         ensures accepted { IsOk result
             ↔ (IsFalse (is_unsent self.old number) × ¬ IsUnanswered self.old number phase) }
-        ensures never_sent { IsErrOf result PacketError.NeverSent ↔ IsTrue (is_unsent self.old number) }
-        ensures unanswered { IsErrOf result PacketError.UpdateUnanswered
+        ensures never_sent { IsErrOf result NumberError.NeverSent ↔ IsTrue (is_unsent self.old number) }
+        ensures unanswered { IsErrOf result NumberError.UpdateUnanswered
             ↔ (IsFalse (is_unsent self.old number) × IsUnanswered self.old number phase) }
         ensures acknowledged { OnOk result (self.new ≡ after_acknowledgement self.old number) }
         ensures kept { OnErr result (self.new ≡ self.old) }
     {
         if !self.is_unsent(number) && number >= self.first_of_phase && phase != self.phase {
-            return Err(PacketError::UpdateUnanswered);
+            return Err(NumberError::UpdateUnanswered);
         }
         self.acknowledged(number)
     }
@@ -352,13 +355,13 @@ impl Sender {
     /// Fails with `HandshakeUnconfirmed` if the handshake is not confirmed, with `PhaseUnacknowledged` if there was an update
     /// and no packet of its phase is acknowledged yet, and with `NoSecret` if the sender is not made of a secret. The sender is
     /// then unchanged.
-    pub fn initiate_update(&mut self) -> Result<(), PacketError>
+    pub fn initiate_update(&mut self) -> Result<(), KeyError>
         ensures accepted { IsOk result
             ↔ (IsTrue self.old.confirmed × IsTrue self.old.acknowledged × IsSome self.old.secret) }
-        ensures unconfirmed { IsErrOf result PacketError.HandshakeUnconfirmed ↔ ¬ IsTrue self.old.confirmed }
-        ensures unacknowledged { IsErrOf result PacketError.PhaseUnacknowledged
+        ensures unconfirmed { IsErrOf result KeyError.HandshakeUnconfirmed ↔ ¬ IsTrue self.old.confirmed }
+        ensures unacknowledged { IsErrOf result KeyError.PhaseUnacknowledged
             ↔ (IsTrue self.old.confirmed × ¬ IsTrue self.old.acknowledged) }
-        ensures no_secret { IsErrOf result PacketError.NoSecret
+        ensures no_secret { IsErrOf result KeyError.NoSecret
             ↔ (IsTrue self.old.confirmed × IsTrue self.old.acknowledged × ¬ IsSome self.old.secret) }
         ensures updated { OnOk result (IfSome self.old.secret (λ held. self.new ≡ after_derived_update self.old held)) }
         ensures kept { OnErr result (self.new ≡ self.old) }
@@ -371,19 +374,15 @@ impl Sender {
     ///
     /// Fails with `HandshakeUnconfirmed` and `PhaseUnacknowledged` as `initiate_update` does, with `KeysDerived` if the sender is
     /// made of a secret, and with `KeyLength` if `key` is not as long as the suite's keys. The sender is then unchanged.
-    pub fn initiate_update_with(
-        &mut self,
-        key: &[u8],
-        iv: [u8; NONCE_LEN],
-    ) -> Result<(), PacketError>
+    pub fn initiate_update_with(&mut self, key: &[u8], iv: [u8; NONCE_LEN]) -> Result<(), KeyError>
         ensures accepted { IsOk result ↔ (IsTrue self.old.confirmed × IsTrue self.old.acknowledged
             × ¬ IsSome self.old.secret × (length key.now ≡ key_len self.old.key.algorithm)) }
-        ensures unconfirmed { IsErrOf result PacketError.HandshakeUnconfirmed ↔ ¬ IsTrue self.old.confirmed }
-        ensures unacknowledged { IsErrOf result PacketError.PhaseUnacknowledged
+        ensures unconfirmed { IsErrOf result KeyError.HandshakeUnconfirmed ↔ ¬ IsTrue self.old.confirmed }
+        ensures unacknowledged { IsErrOf result KeyError.PhaseUnacknowledged
             ↔ (IsTrue self.old.confirmed × ¬ IsTrue self.old.acknowledged) }
-        ensures derived { IsErrOf result PacketError.KeysDerived
+        ensures derived { IsErrOf result KeyError.KeysDerived
             ↔ (IsTrue self.old.confirmed × IsTrue self.old.acknowledged × IsSome self.old.secret) }
-        ensures key_len { IsErrOf result PacketError.KeyLength
+        ensures key_len { IsErrOf result KeyError.KeyLength
             ↔ (IsTrue self.old.confirmed × IsTrue self.old.acknowledged × ¬ IsSome self.old.secret
             × (length key.now ≢ key_len self.old.key.algorithm)) }
         ensures updated { OnOk result (self.new
@@ -403,19 +402,19 @@ impl Sender {
     }
 
     /// Checks that this endpoint may initiate a key update.
-    fn check_update(&self) -> Result<(), PacketError>
+    fn check_update(&self) -> Result<(), KeyError>
         ensures accepted { IsOk result ↔ (IsTrue self.now.confirmed × IsTrue self.now.acknowledged) }
-        ensures unconfirmed { IsErrOf result PacketError.HandshakeUnconfirmed ↔ ¬ IsTrue self.now.confirmed }
-        ensures unacknowledged { IsErrOf result PacketError.PhaseUnacknowledged
+        ensures unconfirmed { IsErrOf result KeyError.HandshakeUnconfirmed ↔ ¬ IsTrue self.now.confirmed }
+        ensures unacknowledged { IsErrOf result KeyError.PhaseUnacknowledged
             ↔ (IsTrue self.now.confirmed × ¬ IsTrue self.now.acknowledged) }
-        ensures others { ¬ IsErrOf result PacketError.NoSecret × ¬ IsErrOf result PacketError.KeysDerived
-            × ¬ IsErrOf result PacketError.KeyLength }
+        ensures others { ¬ IsErrOf result KeyError.NoSecret × ¬ IsErrOf result KeyError.KeysDerived
+            × ¬ IsErrOf result KeyError.KeyLength }
     {
         if !self.is_confirmed {
-            return Err(PacketError::HandshakeUnconfirmed);
+            return Err(KeyError::HandshakeUnconfirmed);
         }
         if !self.is_acknowledged {
-            return Err(PacketError::PhaseUnacknowledged);
+            return Err(KeyError::PhaseUnacknowledged);
         }
         Ok(())
     }
@@ -424,14 +423,14 @@ impl Sender {
     /// 6.2). The header key is unchanged.
     ///
     /// Fails with `NoSecret` if the sender is not made of a secret. The sender is then unchanged.
-    pub fn follow_update(&mut self) -> Result<(), PacketError>
+    pub fn follow_update(&mut self) -> Result<(), KeyError>
         ensures accepted { IsOk result ↔ IsSome self.old.secret }
-        ensures refused { IsOkUnless result PacketError.NoSecret }
+        ensures refused { IsOkUnless result KeyError.NoSecret }
         ensures updated { OnOk result (IfSome self.old.secret (λ held. self.new ≡ after_derived_update self.old held)) }
         ensures kept { OnErr result (self.new ≡ self.old) }
     {
         let Some(secret) = &self.secret else {
-            return Err(PacketError::NoSecret);
+            return Err(KeyError::NoSecret);
         };
         let next = secret.next();
         let key = PacketKey::from_secret(&next);
@@ -444,18 +443,18 @@ impl Sender {
     ///
     /// Fails with `KeysDerived` if the sender is made of a secret, and with `KeyLength` if `key` is not as long as the suite's
     /// keys. The sender is then unchanged.
-    pub fn follow_update_with(&mut self, key: &[u8], iv: [u8; NONCE_LEN]) -> Result<(), PacketError>
+    pub fn follow_update_with(&mut self, key: &[u8], iv: [u8; NONCE_LEN]) -> Result<(), KeyError>
         ensures accepted { IsOk result
             ↔ (¬ IsSome self.old.secret × (length key.now ≡ key_len self.old.key.algorithm)) }
-        ensures derived { IsErrOf result PacketError.KeysDerived ↔ IsSome self.old.secret }
-        ensures key_len { IsErrOf result PacketError.KeyLength
+        ensures derived { IsErrOf result KeyError.KeysDerived ↔ IsSome self.old.secret }
+        ensures key_len { IsErrOf result KeyError.KeyLength
             ↔ (¬ IsSome self.old.secret × (length key.now ≢ key_len self.old.key.algorithm)) }
         ensures updated { OnOk result (self.new
             ≡ after_update self.old (record self.old.key { bytes = key.now; iv = iv }) None) }
         ensures kept { OnErr result (self.new ≡ self.old) }
     {
         if self.secret.is_some() {
-            return Err(PacketError::KeysDerived);
+            return Err(KeyError::KeysDerived);
         }
         let key = PacketKey::new(self.key.algorithm(), key, iv)?;
         self.update(key, None);
@@ -483,15 +482,15 @@ impl Sender {
     /// version is the secret's.
     ///
     /// Fails with `NoSecret` if the sender is not made of a secret. The sender is then unchanged.
-    pub fn install_secret(&mut self, secret: QuicSecret) -> Result<(), PacketError>
+    pub fn install_secret(&mut self, secret: QuicSecret) -> Result<(), KeyError>
         ensures accepted { IsOk result ↔ IsSome self.old.secret }
-        ensures refused { IsOkUnless result PacketError.NoSecret }
+        ensures refused { IsOkUnless result KeyError.NoSecret }
         ensures installed { OnOk result (self.new
             ≡ with_installed_keys self.old secret.version (secret_key secret) (secret_header_key secret) (Some secret)) }
         ensures kept { OnErr result (self.new ≡ self.old) }
     {
         if self.secret.is_none() {
-            return Err(PacketError::NoSecret);
+            return Err(KeyError::NoSecret);
         }
         let version = secret.version();
         let (key, header_key) = keys_of(&secret);
@@ -504,11 +503,11 @@ impl Sender {
     ///
     /// Fails with `KeysDerived` if the sender is made of a secret, and with `KeyLength` if a key is not as long as the suite's.
     /// The sender is then unchanged.
-    pub fn install_keys(&mut self, suite: Suite, keys: Keys<'_>) -> Result<(), PacketError>
+    pub fn install_keys(&mut self, suite: Suite, keys: Keys<'_>) -> Result<(), KeyError>
         ensures accepted { IsOk result ↔ (¬ IsSome self.old.secret
             × HasKeyLengths suite keys.entry.key.now keys.entry.header_key.now) }
-        ensures derived { IsErrOf result PacketError.KeysDerived ↔ IsSome self.old.secret }
-        ensures key_len { IsErrOf result PacketError.KeyLength ↔ (¬ IsSome self.old.secret
+        ensures derived { IsErrOf result KeyError.KeysDerived ↔ IsSome self.old.secret }
+        ensures key_len { IsErrOf result KeyError.KeyLength ↔ (¬ IsSome self.old.secret
             × ¬ HasKeyLengths suite keys.entry.key.now keys.entry.header_key.now) }
         ensures installed { OnOk result (self.new
             ≡ with_installed_keys self.old keys.entry.version (packet_key suite keys.entry.key.now keys.entry.iv)
@@ -516,7 +515,7 @@ impl Sender {
         ensures kept { OnErr result (self.new ≡ self.old) }
     {
         if self.secret.is_some() {
-            return Err(PacketError::KeysDerived);
+            return Err(KeyError::KeysDerived);
         }
         let header_key = HeaderKey::new(header_algorithm(suite), keys.header_key)?;
         let key = PacketKey::new(algorithm(suite), keys.key, keys.iv)?;
@@ -567,50 +566,50 @@ impl Sender {
         packet: &mut [u8],
         number: Range<usize>,
         fixed_bit: FixedBit,
-    ) -> Result<u64, PacketError>
+    ) -> Result<u64, SendError>
         ensures accepted { IsOk result ↔ (IsSealable self.old.version fixed_bit number.start number.end packet.old
             × IsInTurn self.old number.start number.end) }
-        ensures too_short { IsErrOf result PacketError.TooShort ↔ (length packet.old < number.end + 16) }
-        ensures too_long { IsErrOf result PacketError.TooLong ↔ ((number.end + 16 ≤ length packet.old)
+        ensures too_short { IsErrOf result SendError.TooShort ↔ (length packet.old < number.end + 16) }
+        ensures too_long { IsErrOf result SendError.TooLong ↔ ((number.end + 16 ≤ length packet.old)
             × ¬ Fits number.end (length packet.old - 16 - number.end)) }
-        ensures first_byte { IsErrOf result PacketError.NumberAtFirstByte
+        ensures first_byte { IsErrOf result SendError.NumberAtFirstByte
             ↔ (PacketFits number.end (length packet.old) × (number.start ≡ 0)) }
-        ensures no_sample { IsErrOf result PacketError.NoSample ↔ (PacketFits number.end (length packet.old)
+        ensures no_sample { IsErrOf result SendError.NoSample ↔ (PacketFits number.end (length packet.old)
             × (0 < number.start) × (length packet.old < number.start + 20)) }
-        ensures no_protection { IsErrOf result PacketError.NoProtection
+        ensures no_protection { IsErrOf result SendError.NoProtection
             ↔ (PacketFits number.end (length packet.old) × HasSample number.start (length packet.old)
             × IsTrue (lacks_protection self.old.version packet.old)) }
-        ensures other_version { IsErrOf result PacketError.OtherVersion
+        ensures other_version { IsErrOf result SendError.OtherVersion
             ↔ (PacketFits number.end (length packet.old) × HasSample number.start (length packet.old)
             × IsFalse (lacks_protection self.old.version packet.old)
             × IsTrue (is_other_version self.old.version (header_version packet.old))) }
-        ensures no_fixed_bit { IsErrOf result PacketError.NoFixedBit
+        ensures no_fixed_bit { IsErrOf result SendError.NoFixedBit
             ↔ (PacketFits number.end (length packet.old) × HasSample number.start (length packet.old)
             × IsFalse (lacks_protection self.old.version packet.old)
             × IsFalse (is_other_version self.old.version (header_version packet.old))
             × IsTrue (lacks_fixed_bit fixed_bit (header_version packet.old) (slice_index packet.old 0))) }
-        ensures empty { IsErrOf result PacketError.EmptyPayload
+        ensures empty { IsErrOf result SendError.EmptyPayload
             ↔ (PacketFits number.end (length packet.old) × HasSample number.start (length packet.old)
             × IsFalse (lacks_protection self.old.version packet.old)
             × IsFalse (is_other_version self.old.version (header_version packet.old))
             × IsFalse (lacks_fixed_bit fixed_bit (header_version packet.old) (slice_index packet.old 0))
             × (length packet.old ≡ number.end + 16)) }
-        ensures used_up { IsErrOf result PacketError.KeyUsedUp
+        ensures used_up { IsErrOf result SendError.KeyUsedUp
             ↔ (IsSealable self.old.version fixed_bit number.start number.end packet.old × (self.old.limit ≤ self.old.sealed)) }
-        ensures ended { IsErrOf result PacketError.NumbersEnded
+        ensures ended { IsErrOf result SendError.NumbersEnded
             ↔ (IsSealable self.old.version fixed_bit number.start number.end packet.old × (self.old.sealed < self.old.limit)
             × (self.old.next ≡ 2 ^ 62)) }
-        ensures too_far { IsErrOf result PacketError.NumberTooFar
+        ensures too_far { IsErrOf result SendError.NumberTooFar
             ↔ (IsSealable self.old.version fixed_bit number.start number.end packet.old × IsOpen self.old
             × ¬ IsEncodable self.old) }
-        ensures number_length { IsErrOf result PacketError.NumberLength
+        ensures number_length { IsErrOf result SendError.NumberLength
             ↔ (IsSealable self.old.version fixed_bit number.start number.end packet.old × IsOpen self.old
             × IsEncodable self.old
             × ¬ IsRoom self.old.next self.old.largest number.start number.end) }
         ensures sent { OnOk result (IsSent self.old number.start number.end packet.old packet.new) }
         ensures number { IfOk result (λ n. n ≡ self.old.next) }
         ensures counted { OnOk result (self.new ≡ after_send self.old) }
-        ensures with_keys { ¬ IsErrOf result PacketError.NoKeys }
+        ensures with_keys { ¬ IsErrOf result SendError.NoKeys }
         ensures kept { OnErr result (packet.new ≡ packet.old) }
         ensures sender_kept { OnErr result (self.new ≡ self.old) }
     {
@@ -632,36 +631,36 @@ impl Sender {
     }
 
     /// Checks that the next number can be sent in this room.
-    fn check_number(&self, number_at: usize, header_len: usize) -> Result<(), PacketError>
+    fn check_number(&self, number_at: usize, header_len: usize) -> Result<(), SendError>
         ensures accepted { IsOk result ↔ IsInTurn self.now number_at header_len }
-        ensures used_up { IsErrOf result PacketError.KeyUsedUp ↔ (self.now.limit ≤ self.now.sealed) }
-        ensures ended { IsErrOf result PacketError.NumbersEnded
+        ensures used_up { IsErrOf result SendError.KeyUsedUp ↔ (self.now.limit ≤ self.now.sealed) }
+        ensures ended { IsErrOf result SendError.NumbersEnded
             ↔ ((self.now.sealed < self.now.limit) × (self.now.next ≡ 2 ^ 62)) }
-        ensures too_far { IsErrOf result PacketError.NumberTooFar
+        ensures too_far { IsErrOf result SendError.NumberTooFar
             ↔ (IsOpen self.now × ¬ IsEncodable self.now) }
-        ensures number_length { IsErrOf result PacketError.NumberLength
+        ensures number_length { IsErrOf result SendError.NumberLength
             ↔ (IsOpen self.now × IsEncodable self.now
             × ¬ IsRoom self.now.next self.now.largest number_at header_len) }
-        ensures others { ¬ IsErrOf result PacketError.TooShort × ¬ IsErrOf result PacketError.TooLong
-            × ¬ IsErrOf result PacketError.NumberAtFirstByte × ¬ IsErrOf result PacketError.NoSample
-            × ¬ IsErrOf result PacketError.NoProtection × ¬ IsErrOf result PacketError.OtherVersion
-            × ¬ IsErrOf result PacketError.EmptyPayload × ¬ IsErrOf result PacketError.NoKeys }
+        ensures others { ¬ IsErrOf result SendError.TooShort × ¬ IsErrOf result SendError.TooLong
+            × ¬ IsErrOf result SendError.NumberAtFirstByte × ¬ IsErrOf result SendError.NoSample
+            × ¬ IsErrOf result SendError.NoProtection × ¬ IsErrOf result SendError.OtherVersion
+            × ¬ IsErrOf result SendError.EmptyPayload × ¬ IsErrOf result SendError.NoKeys }
         ensures bound { OnOk result (header_len ≤ number_at + 4) }
     {
         if self.sealed >= self.limit {
-            return Err(PacketError::KeyUsedUp);
+            return Err(SendError::KeyUsedUp);
         }
         if self.next >= NUMBERS_END {
-            return Err(PacketError::NumbersEnded);
+            return Err(SendError::NumbersEnded);
         }
         let Some(least) = self.next_number_len() else {
-            return Err(PacketError::NumberTooFar);
+            return Err(SendError::NumberTooFar);
         };
         if header_len < number_at {
-            return Err(PacketError::NumberLength);
+            return Err(SendError::NumberLength);
         }
         if !(least..=MAX_NUMBER_LEN).contains(&(header_len - number_at)) {
-            return Err(PacketError::NumberLength);
+            return Err(SendError::NumberLength);
         }
         Ok(())
     }
@@ -674,56 +673,61 @@ fn check_packet(
     header_len: usize,
     fixed_bit: FixedBit,
     version: Version,
-) -> Result<(), PacketError>
+) -> Result<(), SendError>
     ensures accepted { IsOk result ↔ IsSealable version fixed_bit number_at header_len packet.now }
-    ensures too_short { IsErrOf result PacketError.TooShort ↔ (length packet.now < header_len + 16) }
-    ensures too_long { IsErrOf result PacketError.TooLong ↔ ((header_len + 16 ≤ length packet.now)
+    ensures too_short { IsErrOf result SendError.TooShort ↔ (length packet.now < header_len + 16) }
+    ensures too_long { IsErrOf result SendError.TooLong ↔ ((header_len + 16 ≤ length packet.now)
         × ¬ Fits header_len (length packet.now - 16 - header_len)) }
-    ensures first_byte { IsErrOf result PacketError.NumberAtFirstByte
+    ensures first_byte { IsErrOf result SendError.NumberAtFirstByte
         ↔ (PacketFits header_len (length packet.now) × (number_at ≡ 0)) }
-    ensures no_sample { IsErrOf result PacketError.NoSample ↔ (PacketFits header_len (length packet.now)
+    ensures no_sample { IsErrOf result SendError.NoSample ↔ (PacketFits header_len (length packet.now)
         × (0 < number_at) × (length packet.now < number_at + 20)) }
-    ensures no_protection { IsErrOf result PacketError.NoProtection
+    ensures no_protection { IsErrOf result SendError.NoProtection
         ↔ (PacketFits header_len (length packet.now) × HasSample number_at (length packet.now)
         × IsTrue (lacks_protection version packet.now)) }
-    ensures other_version { IsErrOf result PacketError.OtherVersion
+    ensures other_version { IsErrOf result SendError.OtherVersion
         ↔ (PacketFits header_len (length packet.now) × HasSample number_at (length packet.now)
         × IsFalse (lacks_protection version packet.now)
         × IsTrue (is_other_version version (header_version packet.now))) }
-    ensures no_fixed_bit { IsErrOf result PacketError.NoFixedBit
+    ensures no_fixed_bit { IsErrOf result SendError.NoFixedBit
         ↔ (PacketFits header_len (length packet.now) × HasSample number_at (length packet.now)
         × IsFalse (lacks_protection version packet.now)
         × IsFalse (is_other_version version (header_version packet.now))
         × IsTrue (lacks_fixed_bit fixed_bit (header_version packet.now) (slice_index packet.now 0))) }
-    ensures empty { IsErrOf result PacketError.EmptyPayload
+    ensures empty { IsErrOf result SendError.EmptyPayload
         ↔ (PacketFits header_len (length packet.now) × HasSample number_at (length packet.now)
         × IsFalse (lacks_protection version packet.now)
         × IsFalse (is_other_version version (header_version packet.now))
         × IsFalse (lacks_fixed_bit fixed_bit (header_version packet.now) (slice_index packet.now 0))
         × (length packet.now ≡ header_len + 16)) }
-    ensures others { ¬ IsErrOf result PacketError.KeyUsedUp × ¬ IsErrOf result PacketError.NumbersEnded
-        × ¬ IsErrOf result PacketError.NumberTooFar × ¬ IsErrOf result PacketError.NumberLength
-        × ¬ IsErrOf result PacketError.NoKeys }
+    ensures others { ¬ IsErrOf result SendError.KeyUsedUp × ¬ IsErrOf result SendError.NumbersEnded
+        × ¬ IsErrOf result SendError.NumberTooFar × ¬ IsErrOf result SendError.NumberLength
+        × ¬ IsErrOf result SendError.NoKeys }
 {
-    let payload_len = payload_len(packet, header_len)?;
+    let Some(payload_len) = payload_len(packet, header_len) else {
+        return Err(SendError::TooShort);
+    };
+    if !fits(header_len, payload_len) {
+        return Err(SendError::TooLong);
+    }
     if number_at == 0 {
-        return Err(PacketError::NumberAtFirstByte);
+        return Err(SendError::NumberAtFirstByte);
     }
     if packet.len() < SAMPLE_END || packet.len() - SAMPLE_END < number_at {
-        return Err(PacketError::NoSample);
+        return Err(SendError::NoSample);
     }
     if lacks_protection(version, packet) {
-        return Err(PacketError::NoProtection);
+        return Err(SendError::NoProtection);
     }
     let number = header_version(packet);
     if is_other_version(version, number) {
-        return Err(PacketError::OtherVersion);
+        return Err(SendError::OtherVersion);
     }
     if fixed_bit.is_lacking(number, packet[0]) {
-        return Err(PacketError::NoFixedBit);
+        return Err(SendError::NoFixedBit);
     }
     if payload_len == 0 {
-        return Err(PacketError::EmptyPayload);
+        return Err(SendError::EmptyPayload);
     }
     Ok(())
 }

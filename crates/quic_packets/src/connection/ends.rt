@@ -10,10 +10,13 @@ ghost use Rattle.quic_packets.specs.Sending.{IsInTurn, IsSealable, IsSent, IsUna
 ghost use Rattle.quic_packets.specs.declared.fixed_bit.FixedBit.TheVariants.{Required};
 
 use crate::datagram::Packet;
-use crate::error::PacketError;
 use crate::failures::Failures;
 use crate::fixed_bit::FixedBit;
+use crate::key_error::KeyError;
+use crate::number_error::NumberError;
+use crate::receive_error::ReceiveError;
 use crate::receiver::{Received, Receiver};
+use crate::send_error::SendError;
 use crate::sender::Sender;
 use crate::space::Space;
 use key_derivation::quic::QuicSecret;
@@ -123,9 +126,9 @@ impl Ends {
         packet: &mut [u8],
         number: Range<usize>,
         kept_back: u64,
-    ) -> Result<u64, PacketError>
-        ensures no_keys { IsErrOf result PacketError.NoKeys ↔ ¬ IsSome self.old.sender }
-        ensures used_up { IfSome self.old.sender (λ s. IsErrOf result PacketError.KeyUsedUp ↔ (left s ≤ kept_back)) }
+    ) -> Result<u64, SendError>
+        ensures no_keys { IsErrOf result SendError.NoKeys ↔ ¬ IsSome self.old.sender }
+        ensures used_up { IfSome self.old.sender (λ s. IsErrOf result SendError.KeyUsedUp ↔ (left s ≤ kept_back)) }
         ensures accepted { IfSome self.old.sender (λ s. IsOk result ↔ ((kept_back < left s)
             × IsSealable s.version Required number.start number.end packet.old × IsInTurn s number.start number.end)) }
         ensures refused { IfSome self.old.sender (λ s. kept_back < left s
@@ -136,10 +139,10 @@ impl Ends {
         ensures kept { OnErr result ((packet.new ≡ packet.old) × (self.new ≡ self.old)) }
     {
         let Some(sender) = &mut self.sender else {
-            return Err(PacketError::NoKeys);
+            return Err(SendError::NoKeys);
         };
         if sender.limit().saturating_sub(sender.sealed()) <= kept_back {
-            return Err(PacketError::KeyUsedUp);
+            return Err(SendError::KeyUsedUp);
         }
         sender.send(packet, number, FixedBit::Required)
     }
@@ -149,9 +152,9 @@ impl Ends {
         &mut self,
         packet: &mut [u8],
         number: Range<usize>,
-    ) -> Result<u64, PacketError>
-        ensures no_keys { IsErrOf result PacketError.NoKeys ↔ ¬ IsSome self.old.sender }
-        ensures used_up { IfSome self.old.sender (λ s. IsErrOf result PacketError.KeyUsedUp
+    ) -> Result<u64, SendError>
+        ensures no_keys { IsErrOf result SendError.NoKeys ↔ ¬ IsSome self.old.sender }
+        ensures used_up { IfSome self.old.sender (λ s. IsErrOf result SendError.KeyUsedUp
             ↔ (left s ≤ kept_back self.old)) }
         ensures accepted { IfSome self.old.sender (λ s. IsOk result ↔ ((kept_back self.old < left s)
             × IsSealable s.version Required number.start number.end packet.old × IsInTurn s number.start number.end)) }
@@ -204,19 +207,19 @@ impl Ends {
     }
 
     /// Initiates a key update, and drops the receiver's previous key.
-    pub(crate) fn update_keys(&mut self) -> Result<(), PacketError>
+    pub(crate) fn update_keys(&mut self) -> Result<(), KeyError>
         ensures accepted { IsOk result ↔ IsTrue (may_update self.old) }
-        ensures unconfirmed { IsErrOf result PacketError.HandshakeUnconfirmed ↔ ¬ IsTrue (is_confirmed self.old) }
-        ensures unacknowledged { IsErrOf result PacketError.PhaseUnacknowledged
+        ensures unconfirmed { IsErrOf result KeyError.HandshakeUnconfirmed ↔ ¬ IsTrue (is_confirmed self.old) }
+        ensures unacknowledged { IsErrOf result KeyError.PhaseUnacknowledged
             ↔ (IsTrue (is_confirmed self.old) × ¬ IsTrue (may_update self.old)) }
         ensures initiated { OnOk result (self.new ≡ initiated self.old) }
         ensures kept { OnErr result (self.new ≡ self.old) }
     {
         if self.receiver.is_none() {
-            return Err(PacketError::HandshakeUnconfirmed);
+            return Err(KeyError::HandshakeUnconfirmed);
         }
         let Some(sender) = &mut self.sender else {
-            return Err(PacketError::HandshakeUnconfirmed);
+            return Err(KeyError::HandshakeUnconfirmed);
         };
         sender.initiate_update()?;
         self.forget_previous();
@@ -233,11 +236,11 @@ impl Ends {
     }
 
     /// Records an acknowledgment.
-    pub(crate) fn acknowledged(&mut self, number: u64, phase: bool) -> Result<(), PacketError>
-        ensures no_keys { IsErrOf result PacketError.NoKeys ↔ ¬ IsSome self.old.sender }
-        ensures never_sent { IfSome self.old.sender (λ s. IsErrOf result PacketError.NeverSent
+    pub(crate) fn acknowledged(&mut self, number: u64, phase: bool) -> Result<(), NumberError>
+        ensures no_keys { IsErrOf result NumberError.NoKeys ↔ ¬ IsSome self.old.sender }
+        ensures never_sent { IfSome self.old.sender (λ s. IsErrOf result NumberError.NeverSent
             ↔ IsTrue (is_unsent s number)) }
-        ensures unanswered { IfSome self.old.sender (λ s. IsErrOf result PacketError.UpdateUnanswered
+        ensures unanswered { IfSome self.old.sender (λ s. IsErrOf result NumberError.UpdateUnanswered
             ↔ (IsFalse (is_unsent s number) × IsUnanswered s number phase)) }
         ensures accepted { IfSome self.old.sender (λ s. IsOk result
             ↔ (IsFalse (is_unsent s number) × ¬ IsUnanswered s number phase)) }
@@ -247,7 +250,7 @@ impl Ends {
     {
         match &mut self.sender {
             Some(sender) => sender.acknowledged_in(number, phase),
-            None => Err(PacketError::NoKeys),
+            None => Err(NumberError::NoKeys),
         }
     }
 
@@ -275,7 +278,7 @@ impl Ends {
         failures: &mut Failures,
         datagram: &mut [u8],
         parts: &Packet,
-    ) -> Result<Received, PacketError>
+    ) -> Result<Received, ReceiveError>
         requires { IsSome self.old.receiver }
         ensures tried { IfSome self.old.receiver (λ r. IfSome self.new.receiver (λ r'. IsTried r self.old.space failures.old
             parts.now datagram.old result r' self.new.space failures.new datagram.new)) }
@@ -296,7 +299,7 @@ impl Ends {
         failures: &mut Failures,
         datagram: &mut [u8],
         parts: &Packet,
-    ) -> Result<Received, PacketError>
+    ) -> Result<Received, ReceiveError>
         ensures tried { IsTried receiver.old self.old.space failures.old parts.now datagram.old result receiver.new
             self.new.space failures.new datagram.new }
         ensures ends { self.new ≡ record self.old { space = self.new.space } }
@@ -311,7 +314,7 @@ impl Ends {
         failures: &mut Failures,
         datagram: &mut [u8],
         parts: &Packet,
-    ) -> Result<Received, PacketError>
+    ) -> Result<Received, ReceiveError>
         requires { IsSome self.old.receiver }
         ensures tried { IfSome self.old.receiver (λ r. IfSome self.new.receiver (λ r'. IsTried r self.old.space failures.old
             parts.now datagram.old result r' self.new.space failures.new datagram.new)) }

@@ -4,7 +4,7 @@ ghost use Rattle.std.specs.Prelude.{◌≡◌};
 ghost use Rattle.quic_packets.specs.Connection.{incoming_of, step_of};
 
 use crate::datagram::PacketType;
-use crate::error::PacketError;
+use crate::receive_error::ReceiveError;
 use crate::receiver::Received;
 
 /// One packet of a datagram, and where the next one begins.
@@ -25,7 +25,7 @@ pub enum Incoming {
     /// 9001 section 5.7).
     NoKeys(PacketType),
     /// The packet is dropped for this error, which does not close the connection.
-    Dropped(PacketError),
+    Dropped(ReceiveError),
     /// The packet cannot be parsed, has another destination ID than the first one of the datagram (RFC 9000 section 12.2), or is
     /// of a type without keys: Retry, Version Negotiation or another version. Nothing has changed.
     Ignored,
@@ -35,8 +35,8 @@ pub enum Incoming {
 pub(crate) fn step_of(
     next: usize,
     packet_type: PacketType,
-    opened: Result<Received, PacketError>,
-) -> Result<Step, PacketError>
+    opened: Result<Received, ReceiveError>,
+) -> Result<Step, ReceiveError>
     ensures { result ≡ step_of next (incoming_of packet_type opened) }
 {
     let incoming = match opened {

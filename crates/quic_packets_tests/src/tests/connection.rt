@@ -5,7 +5,7 @@ use crate::tests::checks::{equal, holds};
 use key_derivation::Secret;
 use key_derivation::quic::{QuicSecret, Version};
 use quic_packets::connection::{Connection, Incoming, Level};
-use quic_packets::{FixedBit, PacketError, PacketType};
+use quic_packets::{FixedBit, KeyError, NumberError, PacketType, ReceiveError, SendError};
 use std::alloc::Global;
 use std::mem;
 use std::process::Abort;
@@ -132,7 +132,7 @@ fn frames(
     number: u64,
     phase: bool,
     payload: &[u8],
-) -> Result<(), PacketError> {
+) -> Result<(), NumberError> {
     end.count = end.count.saturating_add(1);
     if packet_type == PacketType::OneRtt {
         end.last = (number % 0x80) as u8;
@@ -382,7 +382,7 @@ fn becomes(
     connection: &mut Connection,
     packet: &mut [u8],
     id: &[u8; 8],
-    wanted: Result<&str, PacketError>,
+    wanted: Result<&str, ReceiveError>,
 ) {
     let found = match connection.receive(packet, 0, ID.len(), id) {
         Ok(step) => match step.incoming {
@@ -440,7 +440,7 @@ const WITHOUT_KEYS: [u8; 41] = [
 ];
 
 /// What comes to an end, each alone in its datagram, the ID that it asks for, what becomes of it, and the failures after it.
-const ARRIVALS: [(Arrival, [u8; 8], Result<&str, PacketError>, u64); 9] = [
+const ARRIVALS: [(Arrival, [u8; 8], Result<&str, ReceiveError>, u64); 9] = [
     (First(PacketType::Handshake), [8; 8], Ok("ignored"), 0),
     (Bytes(&[0xe0; 9]), ID, Ok("ignored"), 0),
     (Bytes(&WITHOUT_KEYS), ID, Ok("no keys"), 0),
@@ -451,10 +451,10 @@ const ARRIVALS: [(Arrival, [u8; 8], Result<&str, PacketError>, u64); 9] = [
     (
         First(PacketType::OneRtt),
         ID,
-        Err(PacketError::TooManyFailures),
+        Err(ReceiveError::TooManyFailures),
         2,
     ),
-    (Bytes(&[]), [8; 8], Err(PacketError::TooManyFailures), 2),
+    (Bytes(&[]), [8; 8], Err(ReceiveError::TooManyFailures), 2),
 ];
 
 /// Asserts what becomes of each packet.
@@ -538,7 +538,7 @@ fn sends_until_used_up(alloc: Global, connection: &mut Connection) -> Result<u8,
         let mut packet = unsent(alloc, &ONE_RTT, [PING, NONE, 0, 0])?;
         match connection.send(Level::OneRtt, &mut packet, 9..13) {
             Ok(_) => {}
-            Err(PacketError::KeyUsedUp) => return Ok(count),
+            Err(SendError::KeyUsedUp) => return Ok(count),
             Err(error) => return Err(error.into()),
         }
     }
@@ -555,9 +555,9 @@ fn keeps_one_to_close(rt: &impl Abort, alloc: Global, end: &mut Connection) -> R
 }
 
 /// Acknowledgments of a number in a packet with a key phase, and the outcomes.
-const ACKNOWLEDGED: [(u64, bool, Result<(), PacketError>); 3] = [
-    (5, false, Err(PacketError::UpdateUnanswered)),
-    (6, true, Err(PacketError::NeverSent)),
+const ACKNOWLEDGED: [(u64, bool, Result<(), NumberError>); 3] = [
+    (5, false, Err(NumberError::UpdateUnanswered)),
+    (6, true, Err(NumberError::NeverSent)),
     (5, true, Ok(())),
 ];
 
@@ -566,7 +566,7 @@ fn updates_by_itself(rt: &impl Abort, alloc: Global, end: &mut Connection) -> Re
     end.confirm_handshake();
     equal(rt, &sends_until_used_up(alloc, end)?, &6);
     let updated = end.update_keys();
-    equal(rt, &updated, &Err(PacketError::PhaseUnacknowledged));
+    equal(rt, &updated, &Err(KeyError::PhaseUnacknowledged));
     for (number, phase, outcome) in &ACKNOWLEDGED {
         let found = end.acknowledged(Level::OneRtt, *number, *phase);
         equal(rt, &found, outcome);
@@ -588,12 +588,12 @@ fn no_keys(rt: HostRuntime) -> Result<(), Fail> {
     let mut packet = unsent(rt.alloc(), &INITIAL, [PING, NONE, 0, 0])?;
     let mut end = Connection::new(FixedBit::Required);
     let sent = end.send(Level::Initial, &mut packet, 17..21);
-    equal(&rt, &sent, &Err(PacketError::NoKeys));
+    equal(&rt, &sent, &Err(SendError::NoKeys));
     let acknowledged = end.acknowledged(Level::Initial, 0, false);
-    equal(&rt, &acknowledged, &Err(PacketError::NoKeys));
+    equal(&rt, &acknowledged, &Err(NumberError::NoKeys));
     end.confirm_handshake();
     let updated = end.update_keys();
-    equal(&rt, &updated, &Err(PacketError::HandshakeUnconfirmed));
+    equal(&rt, &updated, &Err(KeyError::HandshakeUnconfirmed));
     holds(&rt, end.sender(Level::OneRtt).is_none(), "no sender");
     Ok(())
 }

@@ -1,106 +1,146 @@
 //! What the errors print, and the codes that close a connection.
 
 use crate::tests::checks::{displays, equal};
-use quic_packets::{DatagramError, HeaderError, MaskError, PacketError, RetryError};
+use quic_packets::{
+    DatagramError, HeaderError, KeyError, MaskError, NumberError, ReceiveError, RetryError,
+    SendError,
+};
 use std::alloc::AllocError;
 use std::fmt::Display;
 use std::process::Abort;
 use std::test::Fail;
 
-const PACKET_ERRORS: [(PacketError, &str); 30] = [
+const KEY_ERRORS: [(KeyError, &str); 6] = [
     (
-        PacketError::KeyLength,
+        KeyError::KeyLength,
         "the key does not have the length of the algorithm's keys",
     ),
-    (PacketError::KeysDerived, "the keys derive from a secret"),
+    (KeyError::KeysDerived, "the keys derive from a secret"),
     (
-        PacketError::NoSecret,
+        KeyError::NoSecret,
         "there is no secret from which keys derive",
     ),
-    (PacketError::NoKeys, "the keys of the level are not there"),
-    (PacketError::EmptyPayload, "the packet has no payload"),
-    (PacketError::NoFrames, "the packet has no frames"),
+    (KeyError::NumbersEnded, "the packet number is above 2^62"),
     (
-        PacketError::UpdateUnanswered,
-        "a packet of the current keys was acknowledged under older keys",
-    ),
-    (
-        PacketError::NumberAtFirstByte,
-        "the packet number cannot begin at the header's first byte",
-    ),
-    (PacketError::PastEnd, "the datagram ends before the packet"),
-    (PacketError::NoNumber, "the packet has no packet number"),
-    (
-        PacketError::NumberLength,
-        "the packet number does not fit the room for it",
-    ),
-    (
-        PacketError::NumberUsed,
-        "the packet number is below the next one",
-    ),
-    (
-        PacketError::NumberTooFar,
-        "4 bytes cannot encode the packet number after the largest acknowledged one",
-    ),
-    (
-        PacketError::NoProtection,
-        "packets of this type have no protection",
-    ),
-    (
-        PacketError::KeyUsedUp,
-        "the key has reached its limit of packets",
-    ),
-    (
-        PacketError::OutputLength,
-        "the output does not have the length of the result",
-    ),
-    (
-        PacketError::NeverSent,
-        "a packet that was not sent was acknowledged",
-    ),
-    (
-        PacketError::HandshakeUnconfirmed,
+        KeyError::HandshakeUnconfirmed,
         "the handshake is not confirmed",
     ),
     (
-        PacketError::PhaseUnacknowledged,
+        KeyError::PhaseUnacknowledged,
         "no packet of this key phase was acknowledged",
     ),
+];
+
+const NUMBER_ERRORS: [(NumberError, &str); 5] = [
     (
-        PacketError::NoSample,
+        NumberError::NumberUsed,
+        "the packet number is below the next one",
+    ),
+    (NumberError::NumbersEnded, "the packet number is above 2^62"),
+    (
+        NumberError::NeverSent,
+        "a packet that was not sent was acknowledged",
+    ),
+    (
+        NumberError::UpdateUnanswered,
+        "a packet of the current keys was acknowledged under older keys",
+    ),
+    (NumberError::NoKeys, "the keys of the level are not there"),
+];
+
+const SEND_ERRORS: [(SendError, &str); 14] = [
+    (SendError::NoKeys, "the keys of the level are not there"),
+    (
+        SendError::NumberAtFirstByte,
+        "the packet number cannot begin at the header's first byte",
+    ),
+    (
+        SendError::NumberLength,
+        "the packet number does not fit the room for it",
+    ),
+    (
+        SendError::NumberTooFar,
+        "4 bytes cannot encode the packet number after the largest acknowledged one",
+    ),
+    (
+        SendError::NoSample,
         "the packet is too short for a sample of header protection",
     ),
     (
-        PacketError::TooShort,
+        SendError::TooShort,
         "the packet is shorter than its header and a tag",
     ),
     (
-        PacketError::TooLong,
+        SendError::TooLong,
         "the packet is longer than AES-GCM allows",
     ),
-    (PacketError::OtherVersion, "the packet has another version"),
-    (PacketError::NoFixedBit, "the fixed bit of the packet is 0"),
     (
-        PacketError::NumbersEnded,
+        SendError::NoProtection,
+        "packets of this type have no protection",
+    ),
+    (SendError::OtherVersion, "the packet has another version"),
+    (SendError::NoFixedBit, "the fixed bit of the packet is 0"),
+    (SendError::EmptyPayload, "the packet has no payload"),
+    (
+        SendError::NumbersEnded,
         "the packet number is not below 2^62",
     ),
-    (PacketError::Refused, "the packet is not authentic"),
     (
-        PacketError::TooManyFailures,
+        SendError::KeyUsedUp,
+        "the key has reached its limit of packets",
+    ),
+    (
+        SendError::OutputLength,
+        "the output does not have the length of the result",
+    ),
+];
+
+const RECEIVE_ERRORS: [(ReceiveError, &str); 15] = [
+    (ReceiveError::PastEnd, "the datagram ends before the packet"),
+    (ReceiveError::NoNumber, "the packet has no packet number"),
+    (
+        ReceiveError::NumberAtFirstByte,
+        "the packet number cannot begin at the header's first byte",
+    ),
+    (
+        ReceiveError::NoSample,
+        "the packet is too short for a sample of header protection",
+    ),
+    (
+        ReceiveError::TooShort,
+        "the packet is shorter than its header and a tag",
+    ),
+    (
+        ReceiveError::TooLong,
+        "the packet is longer than AES-GCM allows",
+    ),
+    (ReceiveError::OtherVersion, "the packet has another version"),
+    (
+        ReceiveError::NumbersEnded,
+        "the packet number is not below 2^62",
+    ),
+    (
+        ReceiveError::OutputLength,
+        "the output does not have the length of the result",
+    ),
+    (ReceiveError::Refused, "the packet is not authentic"),
+    (
+        ReceiveError::TooManyFailures,
         "too many packets have failed authentication",
     ),
     (
-        PacketError::ReservedBits,
+        ReceiveError::ReservedBits,
         "the packet's reserved bits are set",
     ),
     (
-        PacketError::Duplicate,
+        ReceiveError::Duplicate,
         "the packet number was already received, or is below the window",
     ),
     (
-        PacketError::KeyUpdate,
+        ReceiveError::KeyUpdate,
         "the packet's key phase is out of order",
     ),
+    (ReceiveError::NoFrames, "the packet has no frames"),
 ];
 
 const MASK_ERRORS: [(MaskError, &str); 3] = [
@@ -170,7 +210,10 @@ fn display<E: Display>(
 
 #[test]
 fn texts(rt: HostRuntime) -> Result<(), Fail> {
-    display(&rt, &PACKET_ERRORS)?;
+    display(&rt, &KEY_ERRORS)?;
+    display(&rt, &NUMBER_ERRORS)?;
+    display(&rt, &SEND_ERRORS)?;
+    display(&rt, &RECEIVE_ERRORS)?;
     display(&rt, &MASK_ERRORS)?;
     display(&rt, &DATAGRAM_ERRORS)?;
     display(&rt, &RETRY_ERRORS)?;
@@ -179,20 +222,23 @@ fn texts(rt: HostRuntime) -> Result<(), Fail> {
 }
 
 /// The errors that close a connection, with the codes of RFC 9000 section 20.1 and RFC 9001 section 6.6. All others have none.
-const CODES: [(PacketError, u64); 6] = [
-    (PacketError::NeverSent, 0x0a),
-    (PacketError::ReservedBits, 0x0a),
-    (PacketError::NoFrames, 0x0a),
-    (PacketError::KeyUpdate, 0x0e),
-    (PacketError::UpdateUnanswered, 0x0e),
-    (PacketError::TooManyFailures, 0x0f),
+const RECEIVE_CODES: [(ReceiveError, u64); 4] = [
+    (ReceiveError::ReservedBits, 0x0a),
+    (ReceiveError::NoFrames, 0x0a),
+    (ReceiveError::KeyUpdate, 0x0e),
+    (ReceiveError::TooManyFailures, 0x0f),
+];
+
+const NUMBER_CODES: [(NumberError, u64); 2] = [
+    (NumberError::NeverSent, 0x0a),
+    (NumberError::UpdateUnanswered, 0x0e),
 ];
 
 /// Returns the error's code by the table.
-fn code(error: PacketError) -> Option<u64> {
-    for (closing, code) in CODES {
-        if closing == error {
-            return Some(code);
+fn code<E: Copy + PartialEq>(codes: &[(E, u64)], error: E) -> Option<u64> {
+    for (closing, code) in codes {
+        if *closing == error {
+            return Some(*code);
         }
     }
     None
@@ -200,8 +246,11 @@ fn code(error: PacketError) -> Option<u64> {
 
 #[test]
 fn codes(rt: HostRuntime) -> Result<(), Fail> {
-    for (error, _) in &PACKET_ERRORS {
-        equal(&rt, &error.code(), &code(*error));
+    for (error, _) in &RECEIVE_ERRORS {
+        equal(&rt, &error.code(), &code(&RECEIVE_CODES, *error));
+    }
+    for (error, _) in &NUMBER_ERRORS {
+        equal(&rt, &error.code(), &code(&NUMBER_CODES, *error));
     }
     Ok(())
 }

@@ -3,7 +3,7 @@
 use crate::tests::checks::same;
 use key_derivation::Secret;
 use quic_packets::{
-    Failures, FixedBit, PacketError, QuicSecret, Receiver, Sender, Space, Version, packet_at,
+    Failures, FixedBit, QuicSecret, Receiver, SendError, Sender, Space, Version, packet_at,
 };
 use std::alloc::Global;
 use std::test::Fail;
@@ -16,7 +16,7 @@ const CONNECTION_ID: [u8; 8] = [4; 8];
 
 /// Sends a payload in a packet with a short header, and returns the packet.
 fn send(alloc: Global, sender: &mut Sender, payload: &[u8]) -> Result<Vec<u8>, Fail> {
-    let least = sender.next_number_len().ok_or(PacketError::NumberTooFar)?;
+    let least = sender.next_number_len().ok_or(SendError::NumberTooFar)?;
     let number_len = least.max(2);
     let mut packet = Vec::from_slice(alloc, &[0x40])?;
     packet.extend_from_slice(&CONNECTION_ID)?;

@@ -7,7 +7,7 @@ ghost use Rattle.quic_packets.specs.Packet.{HasNumber};
 use crate::tests::checks::{equal, holds, same};
 use aead_ciphers::aead::{AES_128_GCM, AES_256_GCM, Tag, quic};
 use aead_vectors::rfc_9001::{A_5_KEY, A_5_PROTECTED, A_5_SEALED, PACKETS, Packet};
-use quic_packets::{HeaderKey, MaskError, PacketError, PacketKey, laws};
+use quic_packets::{HeaderKey, KeyError, MaskError, PacketKey, ReceiveError, SendError, laws};
 use std::alloc::AllocError;
 use std::ops::Range;
 use std::process::Abort;
@@ -36,7 +36,7 @@ pub(crate) fn unsent(row: &Packet) -> Result<Vec<u8>, AllocError> {
 }
 
 /// Creates the key of a row.
-fn key_of(row: &Packet) -> Result<PacketKey, PacketError> {
+fn key_of(row: &Packet) -> Result<PacketKey, KeyError> {
     PacketKey::new(&AES_128_GCM, &row.key, row.iv)
 }
 
@@ -148,7 +148,7 @@ fn packets_of_appendix_a(rt: HostRuntime) -> Result<(), Fail> {
 }
 
 /// Returns why each call opens no 4 bytes under this number.
-fn errors(key: &PacketKey, number: u64, bytes: &mut [u8]) -> [Option<PacketError>; 4] {
+fn errors(key: &PacketKey, number: u64, bytes: &mut [u8]) -> [Option<ReceiveError>; 4] {
     let tag = Tag::from([7; 16]);
     [
         key.open(number, bytes, 4).err(),
@@ -159,7 +159,7 @@ fn errors(key: &PacketKey, number: u64, bytes: &mut [u8]) -> [Option<PacketError
 }
 
 /// Asserts that each call that opens 4 bytes under this number fails with this error.
-fn refuses(rt: &impl Abort, number: u64, error: PacketError) -> Result<(), Fail> {
+fn refuses(rt: &impl Abort, number: u64, error: ReceiveError) -> Result<(), Fail> {
     let key = PacketKey::new(&AES_128_GCM, &[1; 16], [2; 12])?;
     let mut bytes = [7; 24];
     for found in errors(&key, number, &mut bytes) {
@@ -172,12 +172,12 @@ fn refuses(rt: &impl Abort, number: u64, error: PacketError) -> Result<(), Fail>
 // A forged packet, and a number of 2^62.
 #[test]
 fn refusals(rt: HostRuntime) -> Result<(), Fail> {
-    refuses(&rt, (1 << 62) - 1, PacketError::Refused)?;
-    refuses(&rt, 1 << 62, PacketError::NumbersEnded)
+    refuses(&rt, (1 << 62) - 1, ReceiveError::Refused)?;
+    refuses(&rt, 1 << 62, ReceiveError::NumbersEnded)
 }
 
 /// Returns why each call seals no 4 bytes under this number.
-fn errors_of_sealing(key: &PacketKey, number: u64, bytes: &mut [u8]) -> [Option<PacketError>; 3] {
+fn errors_of_sealing(key: &PacketKey, number: u64, bytes: &mut [u8]) -> [Option<SendError>; 3] {
     [
         key.seal(number, bytes, 4).err(),
         key.seal_to(number, &[7; 4], &[7; 8], bytes).err(),
@@ -192,7 +192,7 @@ fn numbers_end(rt: HostRuntime) -> Result<(), Fail> {
     key.seal((1 << 62) - 1, &mut [7; 24], 4)?;
     let mut bytes = [7; 24];
     for found in errors_of_sealing(&key, 1 << 62, &mut bytes) {
-        equal(&rt, &found, &Some(PacketError::NumbersEnded));
+        equal(&rt, &found, &Some(SendError::NumbersEnded));
     }
     same(&rt, &bytes, &[7; 24], "the bytes");
     Ok(())

@@ -7,8 +7,8 @@ use crate::tests::rows::{IV as ROW_IV, Row, rows};
 use aead_ciphers::aead::{AES_128_GCM, quic};
 use aead_vectors::rfc_9001::Packet;
 use quic_packets::{
-    Failures, FixedBit, HeaderKey, Keys, Packet as Parts, PacketError, PacketKey, PacketType,
-    Received, Receiver, Space, Suite, Version, packet_at,
+    Failures, FixedBit, HeaderKey, KeyError, Keys, Packet as Parts, PacketKey, PacketType,
+    ReceiveError, Received, Receiver, Space, Suite, Version, packet_at,
 };
 use std::alloc::Global;
 use std::process::Abort;
@@ -46,7 +46,7 @@ fn keys(key: &[u8]) -> Keys<'_> {
 }
 
 /// Creates a receiver with a key whose bytes are all `key`.
-fn receiver(key: u8) -> Result<Receiver, PacketError> {
+fn receiver(key: u8) -> Result<Receiver, KeyError> {
     Receiver::new(Suite::Aes128Gcm, keys(&[key; 16]))
 }
 
@@ -62,7 +62,7 @@ struct End {
 #[derive(Clone, Copy)]
 enum Event {
     Accepted(u8, u8, u16),
-    Rejected(u8, u8, u16, PacketError),
+    Rejected(u8, u8, u16, ReceiveError),
     /// Sets the keys of the next phase.
     NextKey(u8),
     ForgetPrevious,
@@ -81,7 +81,7 @@ impl End {
         }
     }
 
-    fn receive(&mut self, packet: &mut [u8], number_at: usize) -> Result<Received, PacketError> {
+    fn receive(&mut self, packet: &mut [u8], number_at: usize) -> Result<Received, ReceiveError> {
         let end = packet.len();
         self.receive_part(packet, 0, Some(number_at), end)
     }
@@ -93,7 +93,7 @@ impl End {
         start: usize,
         number_at: Option<usize>,
         end: usize,
-    ) -> Result<Received, PacketError> {
+    ) -> Result<Received, ReceiveError> {
         let parts = Parts {
             start,
             packet_type: PacketType::OneRtt,
@@ -109,7 +109,12 @@ impl End {
     }
 
     /// Receives such a packet, and returns its number or the error.
-    fn takes(&mut self, key: u8, first: u8, number: u16) -> Result<Result<u64, PacketError>, Fail> {
+    fn takes(
+        &mut self,
+        key: u8,
+        first: u8,
+        number: u16,
+    ) -> Result<Result<u64, ReceiveError>, Fail> {
         let mut packet = sent(key, first, number)?;
         Ok(self.receive(&mut packet, 9).map(|received| received.number))
     }
@@ -170,7 +175,7 @@ fn appendix_a(rt: HostRuntime) -> Result<(), Fail> {
 }
 
 /// Creates the end that receives a row's packet, in either key phase.
-fn row_end(row: &Row) -> Result<End, PacketError> {
+fn row_end(row: &Row) -> Result<End, KeyError> {
     let mut receiver = Receiver::new(row.suite, row.keys())?;
     receiver.set_next_with(row.key(), ROW_IV)?;
     Ok(End::new(receiver, 10_000))
@@ -188,7 +193,7 @@ fn flipped(rt: &impl Abort, alloc: Global, packet: &[u8], bit: usize) -> Result<
 fn rejects(rt: &impl Abort, end: &mut End, row: &Row, packet: &mut Vec<u8>) -> Result<(), Fail> {
     let came = packet.clone()?;
     let outcome = end.receive(packet, row.number_at);
-    equal(rt, &outcome, &Err(PacketError::Refused));
+    equal(rt, &outcome, &Err(ReceiveError::Refused));
     same(rt, packet, &came, row.name);
     Ok(())
 }
@@ -230,29 +235,29 @@ const EACH_NUMBER_ONCE: [Event; 12] = [
     Accepted(1, FIRST, 300),
     Accepted(1, FIRST, 173),
     Accepted(1, FIRST, 299),
-    Rejected(1, FIRST, 0, PacketError::Duplicate),
-    Rejected(1, FIRST, 2, PacketError::Duplicate),
-    Rejected(1, FIRST, 300, PacketError::Duplicate),
-    Rejected(1, FIRST, 173, PacketError::Duplicate),
-    Rejected(1, FIRST, 299, PacketError::Duplicate),
-    Rejected(1, FIRST, 172, PacketError::Duplicate),
+    Rejected(1, FIRST, 0, ReceiveError::Duplicate),
+    Rejected(1, FIRST, 2, ReceiveError::Duplicate),
+    Rejected(1, FIRST, 300, ReceiveError::Duplicate),
+    Rejected(1, FIRST, 173, ReceiveError::Duplicate),
+    Rejected(1, FIRST, 299, ReceiveError::Duplicate),
+    Rejected(1, FIRST, 172, ReceiveError::Duplicate),
 ];
 
 /// Two key updates, with late packets of the previous phase. A packet is rejected if the receiver does not have its key.
 const PHASES: [Event; 13] = [
     Accepted(1, FIRST, 5),
-    Rejected(2, SECOND, 6, PacketError::Refused),
+    Rejected(2, SECOND, 6, ReceiveError::Refused),
     NextKey(2),
-    Rejected(2, SECOND, 4, PacketError::KeyUpdate),
+    Rejected(2, SECOND, 4, ReceiveError::KeyUpdate),
     Accepted(2, SECOND, 8),
     Accepted(1, FIRST, 6),
     Accepted(2, SECOND, 7),
     NextKey(3),
     Accepted(1, FIRST, 4),
     Accepted(3, FIRST, 9),
-    Rejected(1, FIRST, 3, PacketError::Refused),
+    Rejected(1, FIRST, 3, ReceiveError::Refused),
     ForgetPrevious,
-    Rejected(2, SECOND, 2, PacketError::Refused),
+    Rejected(2, SECOND, 2, ReceiveError::Refused),
 ];
 
 /// Packets under earlier keys than those of a lower number: under the next, the current and the previous keys, also once the
@@ -260,21 +265,21 @@ const PHASES: [Event; 13] = [
 const EARLIER_KEYS: [Event; 18] = [
     Accepted(1, FIRST, 10),
     NextKey(2),
-    Rejected(2, SECOND, 9, PacketError::KeyUpdate),
+    Rejected(2, SECOND, 9, ReceiveError::KeyUpdate),
     Accepted(2, SECOND, 20),
-    Rejected(2, SECOND, 9, PacketError::KeyUpdate),
+    Rejected(2, SECOND, 9, ReceiveError::KeyUpdate),
     Accepted(2, SECOND, 19),
     Accepted(1, FIRST, 8),
     Accepted(2, SECOND, 11),
     Accepted(1, FIRST, 9),
-    Rejected(1, FIRST, 10, PacketError::Duplicate),
+    Rejected(1, FIRST, 10, ReceiveError::Duplicate),
     Accepted(2, SECOND, 14),
     NextKey(3),
     Accepted(3, FIRST, 30),
-    Rejected(2, SECOND, 7, PacketError::KeyUpdate),
+    Rejected(2, SECOND, 7, ReceiveError::KeyUpdate),
     Accepted(2, SECOND, 25),
     ForgetPrevious,
-    Rejected(3, FIRST, 24, PacketError::KeyUpdate),
+    Rejected(3, FIRST, 24, ReceiveError::KeyUpdate),
     Accepted(3, FIRST, 26),
 ];
 
@@ -283,30 +288,30 @@ const LATE_PACKETS: [Event; 5] = [
     NextKey(2),
     Accepted(2, SECOND, 20),
     Accepted(1, FIRST, 15),
-    Rejected(2, SECOND, 14, PacketError::KeyUpdate),
+    Rejected(2, SECOND, 14, ReceiveError::KeyUpdate),
     Accepted(2, SECOND, 16),
 ];
 
 /// Once the limit of 2 failures is reached, every packet is rejected and none is counted.
 const FAILURES: [Event; 4] = [
-    Rejected(2, FIRST, 0, PacketError::Refused),
+    Rejected(2, FIRST, 0, ReceiveError::Refused),
     Accepted(1, FIRST, 0),
-    Rejected(2, FIRST, 1, PacketError::Refused),
-    Rejected(1, FIRST, 1, PacketError::TooManyFailures),
+    Rejected(2, FIRST, 1, ReceiveError::Refused),
+    Rejected(1, FIRST, 1, ReceiveError::TooManyFailures),
 ];
 
 /// 0-RTT and 1-RTT packets have different keys and share one space.
 const ONE_SPACE: [Event; 4] = [
     Accepted(1, 0xd1, 0),
     OtherKey(2),
-    Rejected(2, FIRST, 0, PacketError::Duplicate),
+    Rejected(2, FIRST, 0, ReceiveError::Duplicate),
     Accepted(2, FIRST, 1),
 ];
 
 /// Reserved bits in authentic packets with short and long headers.
 const RESERVED_BITS: [Event; 3] = [
-    Rejected(1, FIRST | 0x08, 3, PacketError::ReservedBits),
-    Rejected(1, 0xc5, 3, PacketError::ReservedBits),
+    Rejected(1, FIRST | 0x08, 3, ReceiveError::ReservedBits),
+    Rejected(1, 0xc5, 3, ReceiveError::ReservedBits),
     Accepted(1, 0xd1, 3),
 ];
 
@@ -345,7 +350,7 @@ fn window_of_64_words(rt: HostRuntime) -> Result<(), Fail> {
         let mut packet = sent(1, FIRST, number)?;
         let parts = packet_at(&packet, 0, 8, FixedBit::Required)?;
         let outcome = receiver.receive(&mut space, &mut failures, &mut packet, &parts);
-        let is_duplicate = outcome == Err(PacketError::Duplicate);
+        let is_duplicate = outcome == Err(ReceiveError::Duplicate);
         equal(&rt, &outcome.is_ok(), &is_new);
         holds(&rt, is_duplicate != is_new, "a duplicate");
     }
@@ -367,7 +372,7 @@ fn has_ranges(rt: &impl Abort, space: &Space<64>, wanted: &[(u64, u64)]) {
 fn reserved_bits(rt: HostRuntime) -> Result<(), Fail> {
     let mut packet = sent(1, FIRST | 0x08, 3)?;
     let outcome = End::new(receiver(1)?, 1).receive(&mut packet, 9);
-    equal(&rt, &outcome, &Err(PacketError::ReservedBits));
+    equal(&rt, &outcome, &Err(ReceiveError::ReservedBits));
     same(&rt, &packet[11..24], &[7; 13], "opened");
     Ok(())
 }
@@ -385,7 +390,7 @@ fn no_frames(rt: HostRuntime) -> Result<(), Fail> {
     for _ in 0..2 {
         packet = came;
         let outcome = end.receive(&mut packet, 9);
-        equal(&rt, &outcome, &Err(PacketError::NoFrames));
+        equal(&rt, &outcome, &Err(ReceiveError::NoFrames));
     }
     equal(&rt, &end.failures.count(), &0);
     Ok(())
@@ -396,7 +401,7 @@ fn rejects_zeros(
     rt: &impl Abort,
     packet: &mut [u8],
     number_at: usize,
-    error: PacketError,
+    error: ReceiveError,
 ) -> Result<(), Fail> {
     let mut end = End::new(receiver(1)?, 1);
     equal(rt, &end.receive(packet, number_at), &Err(error));
@@ -407,19 +412,19 @@ fn rejects_zeros(
 // A packet that is too short for a sample, and one whose number would be at the first byte.
 #[test]
 fn too_short(rt: HostRuntime) -> Result<(), Fail> {
-    rejects_zeros(&rt, &mut [0; 28], 9, PacketError::NoSample)?;
-    rejects_zeros(&rt, &mut [0; 40], 0, PacketError::NumberAtFirstByte)
+    rejects_zeros(&rt, &mut [0; 28], 9, ReceiveError::NoSample)?;
+    rejects_zeros(&rt, &mut [0; 40], 0, ReceiveError::NumberAtFirstByte)
 }
 
 /// A start, the position of the number and an end of a packet in a datagram of 44 bytes, and the error.
-const OTHER_PARTS: [(usize, Option<usize>, usize, PacketError); 7] = [
-    (2, Some(11), 45, PacketError::PastEnd),
-    (2, None, 42, PacketError::NoNumber),
-    (2, Some(2), 42, PacketError::NumberAtFirstByte),
-    (2, Some(1), 42, PacketError::NumberAtFirstByte),
-    (2, Some(23), 42, PacketError::NoSample),
-    (2, Some(11), 41, PacketError::Refused),
-    (2, Some(11), 43, PacketError::Refused),
+const OTHER_PARTS: [(usize, Option<usize>, usize, ReceiveError); 7] = [
+    (2, Some(11), 45, ReceiveError::PastEnd),
+    (2, None, 42, ReceiveError::NoNumber),
+    (2, Some(2), 42, ReceiveError::NumberAtFirstByte),
+    (2, Some(1), 42, ReceiveError::NumberAtFirstByte),
+    (2, Some(23), 42, ReceiveError::NoSample),
+    (2, Some(11), 41, ReceiveError::Refused),
+    (2, Some(11), 43, ReceiveError::Refused),
 ];
 
 // A packet in a datagram, by its parts and by others.
@@ -447,6 +452,6 @@ fn key_lengths(rt: HostRuntime) -> Result<(), Fail> {
     assert!(rt; Receiver::new(Suite::Aes256Gcm, keys(&[1; 32])).is_err());
     assert!(rt; Receiver::new(Suite::Aes128Gcm, keys(&[1; 32])).is_err());
     let outcome = receiver(1)?.set_next_with(&[1; 32], IV);
-    equal(&rt, &outcome, &Err(PacketError::KeyLength));
+    equal(&rt, &outcome, &Err(KeyError::KeyLength));
     Ok(())
 }

@@ -6,7 +6,8 @@ use aead_vectors::rfc_9001::{CLIENT_ID, Packet};
 use aead_vectors::rfc_9369::{A_2_PACKET, A_3_PACKET};
 use quic_packets::connection::{Connection, Incoming, Level};
 use quic_packets::{
-    Failures, FixedBit, PacketError, QuicSecret, Receiver, Sender, Space, Version, packet_at,
+    Failures, FixedBit, QuicSecret, ReceiveError, Receiver, SendError, Sender, Space, Version,
+    packet_at,
 };
 use std::process::Abort;
 use std::test::Fail;
@@ -34,7 +35,7 @@ fn sends(rt: &impl Abort, secret: QuicSecret, row: &Packet) -> Result<(), Fail> 
 fn received(
     secret: QuicSecret,
     datagram: &mut [u8],
-) -> Result<(Result<u64, PacketError>, u64), Fail> {
+) -> Result<(Result<u64, ReceiveError>, u64), Fail> {
     let mut receiver = Receiver::from_secret(secret);
     let mut space = Space::<2>::new();
     let mut failures = Failures::new();
@@ -68,7 +69,7 @@ fn refuses_to_send(rt: &impl Abort, row: &Packet) -> Result<(), Fail> {
     let mut sender = Sender::from_secret(initial(Version::One, true)?, row.number)?;
     let room = row.number_at..row.header.len();
     let sent = sender.send(&mut packet, room, FixedBit::Required);
-    equal(rt, &sent, &Err(PacketError::OtherVersion));
+    equal(rt, &sent, &Err(SendError::OtherVersion));
     equal(rt, &sender.next_number(), &row.number);
     Ok(())
 }
@@ -77,7 +78,7 @@ fn refuses_to_send(rt: &impl Abort, row: &Packet) -> Result<(), Fail> {
 fn refuses_to_receive(rt: &impl Abort, row: &Packet) -> Result<(), Fail> {
     let mut datagram = row.protected.clone()?;
     let found = received(initial(Version::One, true)?, &mut datagram)?;
-    equal(rt, &found, &(Err(PacketError::OtherVersion), 0));
+    equal(rt, &found, &(Err(ReceiveError::OtherVersion), 0));
     same(rt, &datagram, &row.protected, row.name);
     Ok(())
 }
@@ -88,7 +89,7 @@ fn drops(rt: &impl Abort, row: &Packet) -> Result<(), Fail> {
     connection.install_receiver(Level::Initial, initial(Version::One, true)?);
     let mut datagram = row.protected.clone()?;
     let step = connection.receive(&mut datagram, 0, 0, &CLIENT_ID)?;
-    let dropped = Incoming::Dropped(PacketError::OtherVersion);
+    let dropped = Incoming::Dropped(ReceiveError::OtherVersion);
     equal(rt, &step.incoming, &dropped);
     equal(rt, &step.next, &datagram.len());
     Ok(())

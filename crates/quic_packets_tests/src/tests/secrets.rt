@@ -7,7 +7,7 @@ use crate::tests::rows::{
 };
 use key_derivation::{Secret, Suite};
 use quic_packets::{
-    Failures, FixedBit, Keys, PacketError, QuicSecret, Receiver, Sender, Space, Version, packet_at,
+    Failures, FixedBit, KeyError, Keys, QuicSecret, Receiver, Sender, Space, Version, packet_at,
 };
 use std::alloc::Global;
 use std::process::Abort;
@@ -47,7 +47,7 @@ fn sends(
 }
 
 /// Updates the keys of both ends, the second time as one that follows an update of the peer. The next key is set once.
-fn update(sender: &mut Sender, receiver: &mut Receiver) -> Result<(), PacketError> {
+fn update(sender: &mut Sender, receiver: &mut Receiver) -> Result<(), KeyError> {
     if sender.phase() {
         sender.follow_update()?;
         receiver.set_next()?;
@@ -106,7 +106,7 @@ fn keys() -> Keys<'static> {
 }
 
 /// Gives a sender the caller's keys, by each call.
-fn takes_keys(sender: &mut Sender) -> [Result<(), PacketError>; 3] {
+fn takes_keys(sender: &mut Sender) -> [Result<(), KeyError>; 3] {
     [
         sender.initiate_update_with(&[1; 16], IV),
         sender.follow_update_with(&[1; 16], IV),
@@ -120,11 +120,11 @@ fn keys_derived(rt: HostRuntime) -> Result<(), Fail> {
     let mut sender = Sender::from_secret(secret(Suite::Aes128Gcm)?, 0)?;
     sender.confirm_handshake();
     for outcome in takes_keys(&mut sender) {
-        equal(&rt, &outcome, &Err(PacketError::KeysDerived));
+        equal(&rt, &outcome, &Err(KeyError::KeysDerived));
     }
     let mut receiver = Receiver::from_secret(secret(Suite::Aes128Gcm)?);
     let outcome = receiver.set_next_with(&[1; 16], IV);
-    equal(&rt, &outcome, &Err(PacketError::KeysDerived));
+    equal(&rt, &outcome, &Err(KeyError::KeysDerived));
     sends(&rt, rt.alloc(), &mut sender, UPDATED_AES_128[0])?;
     sender.install_secret(secret(Suite::Aes256Gcm)?)?;
     equal(&rt, &sender.next_number(), &1);
@@ -132,7 +132,7 @@ fn keys_derived(rt: HostRuntime) -> Result<(), Fail> {
 }
 
 /// Has a sender derive keys, by each call.
-fn derives_keys(sender: &mut Sender, secret: QuicSecret) -> [Result<(), PacketError>; 3] {
+fn derives_keys(sender: &mut Sender, secret: QuicSecret) -> [Result<(), KeyError>; 3] {
     [
         sender.initiate_update(),
         sender.follow_update(),
@@ -146,11 +146,11 @@ fn no_secret(rt: HostRuntime) -> Result<(), Fail> {
     let mut sender = Sender::new(Suite::Aes128Gcm, keys(), 0)?;
     sender.confirm_handshake();
     for outcome in derives_keys(&mut sender, secret(Suite::Aes128Gcm)?) {
-        equal(&rt, &outcome, &Err(PacketError::NoSecret));
+        equal(&rt, &outcome, &Err(KeyError::NoSecret));
     }
     equal(&rt, &sender.phase(), &false);
     let mut receiver = Receiver::new(Suite::Aes128Gcm, keys())?;
-    equal(&rt, &receiver.set_next(), &Err(PacketError::NoSecret));
+    equal(&rt, &receiver.set_next(), &Err(KeyError::NoSecret));
     Ok(())
 }
 
@@ -160,11 +160,11 @@ fn refusals(rt: HostRuntime) -> Result<(), Fail> {
     let past = Sender::from_secret(secret(Suite::Aes128Gcm)?, (1 << 62) + 1);
     holds(&rt, past.is_err(), "numbers ended");
     let mut sender = Sender::from_secret(secret(Suite::Aes128Gcm)?, 0)?;
-    let unconfirmed = Err(PacketError::HandshakeUnconfirmed);
+    let unconfirmed = Err(KeyError::HandshakeUnconfirmed);
     equal(&rt, &sender.initiate_update(), &unconfirmed);
     sender.confirm_handshake();
     sender.initiate_update()?;
-    let unacknowledged = Err(PacketError::PhaseUnacknowledged);
+    let unacknowledged = Err(KeyError::PhaseUnacknowledged);
     equal(&rt, &sender.initiate_update(), &unacknowledged);
     Ok(())
 }

@@ -5,8 +5,8 @@ use crate::tests::keys::{packets, plain};
 use crate::tests::rows::{HEADER_KEY, IV, Row, rows};
 use aead_vectors::rfc_9001::Packet;
 use quic_packets::{
-    FixedBit, HeaderKey, Keys, PacketError, PacketKey, Sender, Suite, Version, algorithm,
-    header_algorithm,
+    FixedBit, HeaderKey, KeyError, Keys, NumberError, PacketKey, SendError, Sender, Suite, Version,
+    algorithm, header_algorithm,
 };
 use std::alloc::Global;
 use std::ops::Range;
@@ -27,7 +27,7 @@ fn before(rt: &impl Abort, alloc: Global, row: &Row) -> Result<Vec<u8>, Fail> {
 }
 
 /// Creates the sender of the row's packet.
-fn sender_of(row: &Row) -> Result<Sender, PacketError> {
+fn sender_of(row: &Row) -> Result<Sender, Fail> {
     let mut sender = Sender::new(row.suite, row.keys(), row.number)?;
     if let Some(number) = row.acknowledged {
         sender.acknowledged(number)?;
@@ -39,8 +39,8 @@ fn sender_of(row: &Row) -> Result<Sender, PacketError> {
 }
 
 /// Sends the row's packet, and returns its number.
-fn send(sender: &mut Sender, packet: &mut [u8], row: &Row) -> Result<u64, PacketError> {
-    let len = sender.next_number_len().ok_or(PacketError::NumberTooFar)?;
+fn send(sender: &mut Sender, packet: &mut [u8], row: &Row) -> Result<u64, SendError> {
+    let len = sender.next_number_len().ok_or(SendError::NumberTooFar)?;
     let end = row.number_at.saturating_add(len);
     sender.send(packet, row.number_at..end, FixedBit::Required)
 }
@@ -96,7 +96,7 @@ const SHORT: [u8; 24] = [
 ];
 
 /// Creates a sender with a key of ones, whose first packet has the number `first`.
-fn sender(first: u64) -> Result<Sender, PacketError> {
+fn sender(first: u64) -> Result<Sender, KeyError> {
     let keys = Keys {
         version: Version::One,
         key: &[1; 16],
@@ -122,7 +122,7 @@ fn refuses(
     sender: &mut Sender,
     packet: &[u8; 24],
     room: Range<usize>,
-    wanted: PacketError,
+    wanted: SendError,
 ) {
     let mut sent = *packet;
     let before = (sender.next_number(), sender.sealed());
@@ -134,18 +134,18 @@ fn refuses(
 }
 
 /// A first byte and a version, the start and end of the room for the packet number, and the error.
-const REFUSALS: [(u8, u8, usize, usize, PacketError); 11] = [
-    (0x40, 0, 8, 9, PacketError::TooShort),
-    (0x40, 0, 0, 1, PacketError::NumberAtFirstByte),
-    (0x40, 0, 5, 6, PacketError::NoSample),
-    (0x40, 0, 1, 6, PacketError::NumberLength),
-    (0x40, 0, 2, 1, PacketError::NumberLength),
-    (0xf0, 1, 1, 2, PacketError::NoProtection),
-    (0xc0, 0, 1, 2, PacketError::NoProtection),
-    (0xa0, 2, 4, 5, PacketError::OtherVersion),
-    (0x00, 0, 1, 2, PacketError::NoFixedBit),
-    (0xa0, 1, 4, 5, PacketError::NoFixedBit),
-    (0x40, 0, 4, 8, PacketError::EmptyPayload),
+const REFUSALS: [(u8, u8, usize, usize, SendError); 11] = [
+    (0x40, 0, 8, 9, SendError::TooShort),
+    (0x40, 0, 0, 1, SendError::NumberAtFirstByte),
+    (0x40, 0, 5, 6, SendError::NoSample),
+    (0x40, 0, 1, 6, SendError::NumberLength),
+    (0x40, 0, 2, 1, SendError::NumberLength),
+    (0xf0, 1, 1, 2, SendError::NoProtection),
+    (0xc0, 0, 1, 2, SendError::NoProtection),
+    (0xa0, 2, 4, 5, SendError::OtherVersion),
+    (0x00, 0, 1, 2, SendError::NoFixedBit),
+    (0xa0, 1, 4, 5, SendError::NoFixedBit),
+    (0x40, 0, 4, 8, SendError::EmptyPayload),
 ];
 
 #[test]
@@ -185,15 +185,15 @@ fn greased(rt: HostRuntime) -> Result<(), Fail> {
 #[test]
 fn numbers(rt: HostRuntime) -> Result<(), Fail> {
     let mut sender = sender(1 << 31)?;
-    refuses(&rt, &mut sender, &SHORT, 1..2, PacketError::NumberTooFar);
+    refuses(&rt, &mut sender, &SHORT, 1..2, SendError::NumberTooFar);
     for (number, outcome) in [
-        ((1 << 31) - 1, Err(PacketError::NumberUsed)),
-        ((1 << 62) + 1, Err(PacketError::NumbersEnded)),
+        ((1 << 31) - 1, Err(NumberError::NumberUsed)),
+        ((1 << 62) + 1, Err(NumberError::NumbersEnded)),
         (1 << 62, Ok(())),
     ] {
         equal(&rt, &sender.skip_to(number), &outcome);
     }
-    refuses(&rt, &mut sender, &SHORT, 1..2, PacketError::NumbersEnded);
+    refuses(&rt, &mut sender, &SHORT, 1..2, SendError::NumbersEnded);
     Ok(())
 }
 
@@ -202,19 +202,19 @@ fn numbers(rt: HostRuntime) -> Result<(), Fail> {
 enum Event {
     /// Sends a packet, which opens with this key and has this key phase.
     Sent(u8, bool),
-    Refused(PacketError),
+    Refused(SendError),
     Confirmed,
     Skipped(u64),
     Acknowledged(u64),
     /// The peer acknowledges a number that is not below the next one, or that was skipped.
     NeverSent(u64),
     /// The peer acknowledges a number in a packet with this key phase.
-    AcknowledgedIn(u64, bool, Result<(), PacketError>),
+    AcknowledgedIn(u64, bool, Result<(), NumberError>),
     /// The first number of the phase, and how many packets can still be sent.
     Stands(u64, u64),
     /// Initiates an update to a key of this byte and length.
-    Initiated(u8, usize, Result<(), PacketError>),
-    Followed(u8, usize, Result<(), PacketError>),
+    Initiated(u8, usize, Result<(), KeyError>),
+    Followed(u8, usize, Result<(), KeyError>),
 }
 
 use Event::{
@@ -229,7 +229,7 @@ fn opens(
     key: u8,
     number: u64,
     phase: bool,
-) -> Result<(), PacketError> {
+) -> Result<(), KeyError> {
     let header_key = HeaderKey::new(header_algorithm(Suite::Aes128Gcm), &HEADER_KEY[..16])?;
     equal(rt, &header_key.unprotect(&mut packet, 1), &Ok(1));
     let header = [if phase { 0x44 } else { 0x40 }, number.to_le_bytes()[0]];
@@ -240,18 +240,14 @@ fn opens(
     Ok(())
 }
 
-fn sends_under(
-    rt: &impl Abort,
-    sender: &mut Sender,
-    key: u8,
-    phase: bool,
-) -> Result<(), PacketError> {
+fn sends_under(rt: &impl Abort, sender: &mut Sender, key: u8, phase: bool) -> Result<(), Fail> {
     let mut packet = SHORT;
     let number = sender.send(&mut packet, 1..2, FixedBit::Required)?;
-    opens(rt, packet, key, number, phase)
+    opens(rt, packet, key, number, phase)?;
+    Ok(())
 }
 
-fn meets(rt: &impl Abort, sender: &mut Sender, event: Event) -> Result<(), PacketError> {
+fn meets(rt: &impl Abort, sender: &mut Sender, event: Event) -> Result<(), Fail> {
     match event {
         Sent(key, phase) => sends_under(rt, sender, key, phase)?,
         Refused(error) => refuses(rt, sender, &SHORT, 1..2, error),
@@ -260,7 +256,7 @@ fn meets(rt: &impl Abort, sender: &mut Sender, event: Event) -> Result<(), Packe
         Acknowledged(number) => sender.acknowledged(number)?,
         NeverSent(number) => {
             let outcome = sender.acknowledged(number);
-            equal(rt, &outcome, &Err(PacketError::NeverSent));
+            equal(rt, &outcome, &Err(NumberError::NeverSent));
         }
         AcknowledgedIn(number, phase, outcome) => {
             equal(rt, &sender.acknowledged_in(number, phase), &outcome);
@@ -291,19 +287,19 @@ fn meets(rt: &impl Abort, sender: &mut Sender, event: Event) -> Result<(), Packe
 const LIMITS_AND_UPDATES: [Event; 17] = [
     Sent(1, false),
     Sent(1, false),
-    Refused(PacketError::KeyUsedUp),
-    Initiated(2, 16, Err(PacketError::HandshakeUnconfirmed)),
+    Refused(SendError::KeyUsedUp),
+    Initiated(2, 16, Err(KeyError::HandshakeUnconfirmed)),
     Confirmed,
-    Initiated(2, 17, Err(PacketError::KeyLength)),
+    Initiated(2, 17, Err(KeyError::KeyLength)),
     Initiated(2, 16, Ok(())),
     Sent(2, true),
     Acknowledged(1),
     NeverSent(3),
     NeverSent(1 << 61),
-    Initiated(3, 16, Err(PacketError::PhaseUnacknowledged)),
+    Initiated(3, 16, Err(KeyError::PhaseUnacknowledged)),
     Acknowledged(2),
     Initiated(3, 16, Ok(())),
-    Followed(4, 15, Err(PacketError::KeyLength)),
+    Followed(4, 15, Err(KeyError::KeyLength)),
     Followed(4, 16, Ok(())),
     Sent(4, true),
 ];
@@ -316,18 +312,18 @@ const SKIPS: [Event; 27] = [
     Skipped(50),
     NeverSent(0),
     NeverSent(49),
-    Initiated(3, 16, Err(PacketError::PhaseUnacknowledged)),
+    Initiated(3, 16, Err(KeyError::PhaseUnacknowledged)),
     Sent(2, true),
     NeverSent(49),
     NeverSent(51),
-    Initiated(3, 16, Err(PacketError::PhaseUnacknowledged)),
+    Initiated(3, 16, Err(KeyError::PhaseUnacknowledged)),
     Acknowledged(50),
     Initiated(3, 16, Ok(())),
     Sent(3, false),
     Skipped(60),
     NeverSent(52),
     NeverSent(59),
-    Initiated(4, 16, Err(PacketError::PhaseUnacknowledged)),
+    Initiated(4, 16, Err(KeyError::PhaseUnacknowledged)),
     Acknowledged(51),
     Initiated(4, 16, Ok(())),
     Skipped(70),
@@ -346,7 +342,7 @@ const OLDER_KEYS: [Event; 18] = [
     Stands(0, 9),
     Sent(1, false),
     AcknowledgedIn(0, false, Ok(())),
-    AcknowledgedIn(1, true, Err(PacketError::NeverSent)),
+    AcknowledgedIn(1, true, Err(NumberError::NeverSent)),
     Confirmed,
     Initiated(2, 16, Ok(())),
     Stands(1, 9),
@@ -355,11 +351,11 @@ const OLDER_KEYS: [Event; 18] = [
     Sent(2, true),
     Stands(1, 7),
     AcknowledgedIn(0, false, Ok(())),
-    AcknowledgedIn(1, false, Err(PacketError::UpdateUnanswered)),
-    AcknowledgedIn(5, false, Err(PacketError::UpdateUnanswered)),
-    AcknowledgedIn(4, false, Err(PacketError::NeverSent)),
-    AcknowledgedIn(6, false, Err(PacketError::NeverSent)),
-    Initiated(3, 16, Err(PacketError::PhaseUnacknowledged)),
+    AcknowledgedIn(1, false, Err(NumberError::UpdateUnanswered)),
+    AcknowledgedIn(5, false, Err(NumberError::UpdateUnanswered)),
+    AcknowledgedIn(4, false, Err(NumberError::NeverSent)),
+    AcknowledgedIn(6, false, Err(NumberError::NeverSent)),
+    Initiated(3, 16, Err(KeyError::PhaseUnacknowledged)),
     AcknowledgedIn(5, true, Ok(())),
 ];
 
@@ -384,7 +380,7 @@ fn events(rt: HostRuntime) -> Result<(), Fail> {
 }
 
 /// Skips a number before each of these, and sends a packet.
-fn send_after_skips(sender: &mut Sender, numbers: &[u64]) -> Result<(), PacketError> {
+fn send_after_skips(sender: &mut Sender, numbers: &[u64]) -> Result<(), Fail> {
     for &number in numbers {
         sender.skip_to(number)?;
         sender.send(&mut packet(0x40, 0), 1..2, FixedBit::Required)?;
@@ -397,7 +393,7 @@ fn acknowledges(
     rt: &impl Abort,
     sender: &mut Sender,
     numbers: &[u64],
-    wanted: Result<(), PacketError>,
+    wanted: Result<(), NumberError>,
 ) {
     for &number in numbers {
         equal(rt, &sender.acknowledged(number), &wanted);
@@ -408,7 +404,7 @@ fn acknowledges(
 // allows no update.
 #[test]
 fn skipped_ranges(rt: HostRuntime) -> Result<(), Fail> {
-    let never_sent = Err(PacketError::NeverSent);
+    let never_sent = Err(NumberError::NeverSent);
     let mut sender = sender(0)?;
     sender.confirm_handshake();
     send_after_skips(&mut sender, &[1, 3, 5])?;
@@ -419,7 +415,7 @@ fn skipped_ranges(rt: HostRuntime) -> Result<(), Fail> {
     acknowledges(&rt, &mut sender, &[0, 2, 4, 6], Ok(()));
     acknowledges(&rt, &mut sender, &[8, 10, 22, 24], never_sent);
     let updated = sender.initiate_update_with(&[3; 16], IV);
-    equal(&rt, &updated, &Err(PacketError::PhaseUnacknowledged));
+    equal(&rt, &updated, &Err(KeyError::PhaseUnacknowledged));
     sender.acknowledged(7)?;
     sender.initiate_update_with(&[3; 16], IV)?;
     Ok(())
@@ -442,7 +438,7 @@ fn short_numbers(rt: HostRuntime) -> Result<(), Fail> {
 }
 
 /// Turns a sender of 0-RTT packets into one of 1-RTT packets.
-fn install_keys(sender: &mut Sender, header_key_len: usize) -> Result<(), PacketError> {
+fn install_keys(sender: &mut Sender, header_key_len: usize) -> Result<(), KeyError> {
     let keys = Keys {
         version: Version::One,
         key: &[5; 32],
@@ -458,11 +454,11 @@ fn numbers_go_on(rt: HostRuntime) -> Result<(), Fail> {
     let mut sender = sender(0)?.with_limit(1);
     sender.send(&mut packet(0xd0, 1), 4..5, FixedBit::Required)?;
     let refused = install_keys(&mut sender, 16);
-    equal(&rt, &refused, &Err(PacketError::KeyLength));
-    refuses(&rt, &mut sender, &SHORT, 1..2, PacketError::KeyUsedUp);
+    equal(&rt, &refused, &Err(KeyError::KeyLength));
+    refuses(&rt, &mut sender, &SHORT, 1..2, SendError::KeyUsedUp);
     install_keys(&mut sender, 32)?;
     let sent = sender.send(&mut packet(0x40, 0), 1..2, FixedBit::Required);
     equal(&rt, &sent, &Ok(1));
-    refuses(&rt, &mut sender, &SHORT, 1..2, PacketError::KeyUsedUp);
+    refuses(&rt, &mut sender, &SHORT, 1..2, SendError::KeyUsedUp);
     Ok(())
 }

@@ -6,7 +6,7 @@ ghost use Rattle.quic_packets.specs.Sending.{IsSent};
 
 use key_derivation::DerivationError;
 use quic_packets::{
-    FixedBit, HeaderError, LongHeader, LongType, PacketError, QuicSecret, Sender, Version,
+    FixedBit, HeaderError, KeyError, LongHeader, LongType, QuicSecret, SendError, Sender, Version,
 };
 use thiserror::Error;
 
@@ -22,12 +22,15 @@ pub enum FirstPacketError {
     /// No keys are derived.
     #[error("{0}")]
     Keys(#[from] DerivationError),
+    /// No sender is created.
+    #[error("{0}")]
+    Sender(#[from] KeyError),
     /// No header is written.
     #[error("{0}")]
     Header(#[from] HeaderError),
     /// The packet isn't sent.
     #[error("{0}")]
-    Packet(#[from] PacketError),
+    Packet(#[from] SendError),
 }
 
 /// Returns a datagram with a client's Initial packet of version 1. `id` is the destination connection ID that the client has

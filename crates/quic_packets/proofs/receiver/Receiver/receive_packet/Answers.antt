@@ -2,17 +2,17 @@ use Rattle.std.proofs.Common.{◌≡◌, ◌≢◌, ℕ, ◌<◌, ◌≤◌, ◌
 use Rattle.std.proofs.lemmas.Bool.{false≢true}
 use Rattle.quic_packets.specs.Receiving.{IsAuthentic, IsInTurn, Opening, Outcome, Reads, Receiver, is_of_opened, of_packet, reserved_bits}
 use Rattle.quic_packets.specs.Space.{IsNew, Space}
-use Rattle.quic_packets.specs.declared.error.PacketError.{PacketError}
-use Rattle.quic_packets.specs.declared.error.PacketError.TheVariants.{Duplicate, KeyUpdate, NoFrames, Refused, ReservedBits, TooLong}
+use Rattle.quic_packets.specs.declared.receive_error.ReceiveError.{ReceiveError}
+use Rattle.quic_packets.specs.declared.receive_error.ReceiveError.TheVariants.{Duplicate, KeyUpdate, NoFrames, Refused, ReservedBits, TooLong}
 use Rattle.quic_packets.specs.declared.receiver.Received.{Received}
 use Rattle.quic_packets.proofs.receiver.Receiver.receive_packet.Goals as goal
 
 -- an error is that of a result of any other type
-same_error : {A B : Type 0} (e f : PacketError) → IsErrOf {T = A} (Err e) f → IsErrOf {T = B} (Err e) f
+same_error : {A B : Type 0} (e f : ReceiveError) → IsErrOf {T = A} (Err e) f → IsErrOf {T = B} (Err e) f
 same_error e f is = let same : e ≡ f = cc in ap Err same
 
 -- what comes of a packet that isn't opened
-refused : (r : Receiver) (s : Space) (start at : ℕ) (plain : List ℕ) (number : ℕ) (e : PacketError) (opened : List ℕ)
+refused : (r : Receiver) (s : Space) (start at : ℕ) (plain : List ℕ) (number : ℕ) (e : ReceiveError) (opened : List ℕ)
     → (IsErrOf {T = ℕ × Received} (Err e) ReservedBits → ⊥) → (IsErrOf {T = ℕ × Received} (Err e) Duplicate → ⊥)
     → (IsErrOf {T = ℕ × Received} (Err e) KeyUpdate → ⊥)
     → (IsErrOf {T = ℕ × Received} (Err e) NoFrames → ⊥) → Opening r start at plain number (Err e) opened → Outcome r s start at plain number (Err e) r opened
@@ -32,7 +32,7 @@ refused r s start at plain number e opened reserved duplicate turn frames is =
     }
 
 -- why a packet that is opened isn't admitted
-record Judged (T : Type 0) (r : Receiver) (s : Space) (e : PacketError) (first : ℕ) (o : Received) : Type 0 where
+record Judged (T : Type 0) (r : Receiver) (s : Space) (e : ReceiveError) (first : ℕ) (o : Received) : Type 0 where
   accepted : IsOk {T = T} (Err e)
       ↔ ((reserved_bits first ≡ 0) × IsNew s o.number × IsInTurn r first o.number × (o.payload.start < o.payload.end))
   reserved : IsErrOf {T = T} (Err e) ReservedBits ↔ (reserved_bits first ≢ 0)
@@ -43,13 +43,13 @@ record Judged (T : Type 0) (r : Receiver) (s : Space) (e : PacketError) (first :
   others : is_of_opened e ≡ true
 
 unadmitted : (T : Type 0) (r : Receiver) (s : Space) (start at : ℕ) (plain : List ℕ) (number : ℕ) (first : ℕ) (o : Received)
-    (e : PacketError) (opened : List ℕ) → Opening r start at plain number (Ok (first, o)) opened → Judged T r s e first o
+    (e : ReceiveError) (opened : List ℕ) → Opening r start at plain number (Ok (first, o)) opened → Judged T r s e first o
     → Outcome r s start at plain number (Err e) r opened
 unadmitted T r s start at plain number first o e opened is judged =
     let j : Judged T r s e (get_or plain 0 0) (of_packet start at plain number) =
     subst (λ p. Judged T r s e p.0 p.1) is.returns judged in
     let authentic : IsAuthentic r at plain number = is.accepted.0 refl in
-    let not_early : (f : PacketError) → e ≡ f → is_of_opened f ≡ false → ⊥ =
+    let not_early : (f : ReceiveError) → e ≡ f → is_of_opened f ≡ false → ⊥ =
     λ f same early. false≢true (sym early ∙ ap is_of_opened (sym same) ∙ j.others) in
     record {
       too_long = (λ it. (let same : e ≡ TooLong = cc in absurd (not_early TooLong same refl)), λ it. absurd (it authentic.fits));

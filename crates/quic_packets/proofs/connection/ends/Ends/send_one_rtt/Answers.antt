@@ -1,6 +1,6 @@
 use Rattle.std.proofs.Common.{ℕ, ◌≤◌, ◌↔◌, Err, IsErrOf, IfSome, subst}
 use Rattle.quic_packets.specs.Ends.{left}
-use Rattle.quic_packets.specs.declared.error.PacketError.TheVariants.{KeyUsedUp}
+use Rattle.quic_packets.specs.declared.send_error.SendError.TheVariants.{KeyUsedUp}
 use Rattle.quic_packets.proofs.connection.ends.Ends.send_one_rtt.Goals as goal
 
 pub returns-in-Err-clause-used_up : goal.returns-in-Err-clause-used_up

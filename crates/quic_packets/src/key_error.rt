@@ -1,0 +1,27 @@
+//! The error of creating keys and changing them.
+
+use thiserror::Error;
+
+/// The error of creating a key, a sender or a receiver, or of changing the keys of one, which is then unchanged. None closes a
+/// connection.
+#[derive(Clone, Copy, PartialEq, Eq, Debug, Drop, Error)]
+pub enum KeyError {
+    /// The key is not as long as the algorithm's keys.
+    #[error("the key does not have the length of the algorithm's keys")]
+    KeyLength,
+    /// The keys derive from a secret, so the caller's are not taken.
+    #[error("the keys derive from a secret")]
+    KeysDerived,
+    /// There is no secret from which keys derive: the sender or the receiver is made of keys.
+    #[error("there is no secret from which keys derive")]
+    NoSecret,
+    /// The first packet number of a sender is above 2^62, where packet numbers end (RFC 9000 section 12.3).
+    #[error("the packet number is above 2^62")]
+    NumbersEnded,
+    /// The handshake is not confirmed, so the keys cannot be updated yet (RFC 9001 section 6.1).
+    #[error("the handshake is not confirmed")]
+    HandshakeUnconfirmed,
+    /// No packet of this key phase is acknowledged, so the keys cannot be updated again yet (RFC 9001 section 6.1).
+    #[error("no packet of this key phase was acknowledged")]
+    PhaseUnacknowledged,
+}
