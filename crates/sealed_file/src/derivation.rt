@@ -5,9 +5,7 @@ ghost use Rattle.aead_ciphers_base.specs.Aes.{aes};
 ghost use Rattle.sealed_file.specs.Derivation.{cmac_of_block, commitment, derived_block, derived_key, first_subkey};
 
 use crate::header::{Context, put};
-use aead_ciphers_base::aes::{
-    AES_256_KEY_LEN, BLOCK_LEN, Block, EncryptBlock, KeyBytes, Work, ZERO_BLOCK,
-};
+use aead_ciphers_base::aes::{AES_256_KEY_LEN, BLOCK_LEN, Block, EncryptBlock, Work, ZERO_BLOCK};
 use aead_ciphers_base::bb;
 use aead_ciphers_wide::aes;
 
@@ -57,16 +55,6 @@ fn joined(first: &Block, second: &Block) -> [u8; AES_256_KEY_LEN]
     put(first, &mut bytes, 0);
     put(second, &mut bytes, BLOCK_LEN);
     bytes
-}
-
-/// The AES-256 key that derives the keys of files from this one.
-pub(crate) fn cipher_of_key(key: &[u8; AES_256_KEY_LEN]) -> aes::Key
-    ensures { result ≡ key.now }
-{
-    match aes::Key::new(KeyBytes::AES_256(key)) {
-        Ok(cipher) => cipher,
-        Err(_) => unreachable!(),
-    }
 }
 
 /// The key of the files with this context, by iterations 1 and 2.

@@ -2,10 +2,10 @@
 
 ghost use Rattle.std.specs.Prelude.{[], ◌≡◌, ◌↔◌, length, IsOk, IsTrue, IfOk, IfErr};
 
-use crate::derivation::{cipher_of_key, commitment, derived_key};
+use crate::derivation::{commitment, derived_key};
 use crate::error::FileError;
 use crate::header::{Context, VERSION, cipher_of};
-use aead_ciphers_base::aes::AES_256_KEY_LEN;
+use aead_ciphers_base::aes::{AES_256_KEY_LEN, KeyBytes};
 use aead_ciphers_wide::aes;
 use std::marker::Model;
 
@@ -46,7 +46,10 @@ impl FileKey {
     pub(crate) fn cipher(&self) -> aes::Key
         ensures { result ≡ self.now }
     {
-        cipher_of_key(&self.bytes)
+        match aes::Key::new(KeyBytes::AES_256(&self.bytes)) {
+            Ok(cipher) => cipher,
+            Err(_) => unreachable!(),
+        }
     }
 
     /// Returns the AES-256-GCM key of the files whose random bytes begin with this context. It is the key that
