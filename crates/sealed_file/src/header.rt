@@ -206,10 +206,11 @@ pub fn check_header(file: &[u8]) -> Result<(), FileError>
     ensures refused { (key aad : List ℕ) → IfErr result (λ error.
         HeaderRefuses (secret key aad) (header_of file.now) error) }
 {
-    match check_front(VERSION, read_header(file)) {
-        Ok(()) if file.len() < HEADER_LEN => Err(FileError::EndsEarly),
-        checked => checked,
+    check_front(VERSION, read_header(file))?;
+    if file.len() < HEADER_LEN {
+        return Err(FileError::EndsEarly);
     }
+    Ok(())
 }
 
 /// The key of the chunks after this header, if it is one of this version. `aad` is the AAD after it. The whole header is
