@@ -202,30 +202,31 @@ fn print_len(
 }
 
 /// Seals a file or opens a sealed one.
-fn convert(rt: &HostRuntime, conversion: &Conversion) -> Result<(), Failure> {
+fn convert<'r>(rt: &'r HostRuntime, conversion: &'r Conversion) -> Result<(), Failure> {
     if conversion.seals_to_unnamed_stdout() && rt.stdout().is_terminal() {
         return Err(Failure::Terminal);
     }
     let (secret, of_secret) = read_secret(rt, &conversion.secret_file)?;
-    match &conversion.input {
-        Some(name) => {
-            let file = at(Place::Input, files::open(rt, name))?;
-            let metadata = file.metadata().ok();
-            let inputs = Inputs {
-                input: metadata.as_ref(),
-                secret: of_secret.as_ref(),
-            };
-            convert_file(rt, conversion, &secret, file, inputs)
-        }
-        None => {
-            let metadata = files::stdin_metadata(rt).ok();
-            let inputs = Inputs {
-                input: metadata.as_ref(),
-                secret: of_secret.as_ref(),
-            };
-            let source = source_of(rt, conversion, rt.reader(), inputs.input);
-            convert_from(rt, conversion, Input::Stream(source, &secret), inputs)
-        }
+    let file = match &conversion.input {
+        Some(name) => Some(at(Place::Input, files::open(rt, name))?),
+        None => None,
+    };
+    let metadata = match &file {
+        Some(file) => file.metadata().ok(),
+        None => files::stdin_metadata(rt).ok(),
+    };
+    let job = Job {
+        rt,
+        conversion,
+        secret: &secret,
+        inputs: Inputs {
+            input: metadata.as_ref(),
+            secret: of_secret.as_ref(),
+        },
+    };
+    match file {
+        Some(file) => job.write(job.input_of(file)),
+        None => job.write(Input::Stream(job.source_of(rt.reader()))),
     }
 }
 
@@ -238,145 +239,132 @@ enum Secret {
 
 /// What is sealed or opened: the bytes of a stream, or a part of a sealed file that can be read at any position.
 #[derive(Drop)]
-enum Input<'a, R: Read + Drop> {
-    Stream(Source<'a, R>, &'a Secret),
+enum Input<'r, 'a, R: Read + Drop> {
+    Stream(Source<'r, R>),
     Part(File, Range, &'a FileKey),
 }
 
-/// Returns a reader that can show how much of a file or a stream with this metadata was read.
-fn source_of<'a, R: Read + Drop>(
-    rt: &'a HostRuntime,
-    conversion: &Conversion,
-    input: R,
-    metadata: Option<&Metadata>,
-) -> Source<'a, R> {
-    let len = match metadata {
-        Some(metadata) if metadata.is_file() => Some(metadata.len()),
-        _ => None,
-    };
-    let is_shown = conversion.has_progress && rt.stderr().is_terminal();
-    Source::new(rt, input, len, is_shown)
+/// A conversion, with what it takes from the files that are read.
+// Two lifetimes: with one, the borrow checker does not cover `convert`, whose locals are borrowed beside its parameters.
+#[derive(Clone, Copy)]
+struct Job<'r, 'a> {
+    rt: &'r HostRuntime,
+    conversion: &'r Conversion,
+    secret: &'a Secret,
+    inputs: Inputs<'a>,
 }
 
-/// Converts from an open file. A part of a regular file is read at its place, if it is sealed under a key.
-fn convert_file(
-    rt: &HostRuntime,
-    conversion: &Conversion,
-    secret: &Secret,
-    file: File,
-    inputs: Inputs<'_>,
-) -> Result<(), Failure> {
-    let is_file = inputs.input.is_some_and(|metadata| metadata.is_file());
-    let input = match (conversion.range, secret) {
-        (Some(range), Secret::Key(key)) if is_file => Input::Part(file, range, key),
-        _ => Input::Stream(source_of(rt, conversion, file, inputs.input), secret),
-    };
-    convert_from(rt, conversion, input, inputs)
-}
+impl<'r, 'a> Job<'r, 'a> {
+    /// Returns a reader of IN that can show how much of it was read.
+    fn source_of<R: Read + Drop>(&self, input: R) -> Source<'r, R> {
+        let len = match self.inputs.input {
+            Some(metadata) if metadata.is_file() => Some(metadata.len()),
+            _ => None,
+        };
+        let is_shown = self.conversion.has_progress && self.rt.stderr().is_terminal();
+        Source::new(self.rt, input, len, is_shown)
+    }
 
-/// Converts from a file or a stream.
-fn convert_from<R: Read + Drop>(
-    rt: &HostRuntime,
-    conversion: &Conversion,
-    input: Input<'_, R>,
-    inputs: Inputs<'_>,
-) -> Result<(), Failure> {
-    match &conversion.output {
-        Some(name) => {
-            let access = check_target(rt, name, inputs, conversion.has_force)?;
-            let mut file = new_file(rt, name, access)?;
-            let written = pass(rt, conversion, input, &mut file);
-            file.finish(rt, name, written, conversion.has_force)
-        }
-        None => {
-            let mut output = io::writer(rt);
-            pass(rt, conversion, input, &mut output)?;
-            at(Place::Output, output.flush())
+    /// Returns what is read of an open file: of a regular file that is sealed under a key, a range at its place.
+    fn input_of(&self, file: File) -> Input<'r, 'a, File> {
+        let is_file = self.inputs.input.is_some_and(|metadata| metadata.is_file());
+        match (self.conversion.range, self.secret) {
+            (Some(range), Secret::Key(key)) if is_file => Input::Part(file, range, key),
+            _ => Input::Stream(self.source_of(file)),
         }
     }
-}
 
-/// Seals or opens what is read.
-fn pass<R: Read + Drop, W: Write>(
-    rt: &HostRuntime,
-    conversion: &Conversion,
-    input: Input<'_, R>,
-    output: &mut W,
-) -> Result<(), Failure> {
-    let aad = conversion.aad_bytes();
-    if aad.len() > MAX_AAD_LEN {
-        return Err(Failure::AadTooLong);
+    /// Writes OUT or standard output.
+    fn write<R: Read + Drop>(&self, input: Input<'_, '_, R>) -> Result<(), Failure> {
+        let Some(name) = &self.conversion.output else {
+            let mut output = io::writer(self.rt);
+            self.pass(input, &mut output)?;
+            return at(Place::Output, output.flush());
+        };
+        let has_force = self.conversion.has_force;
+        let access = check_target(self.rt, name, self.inputs, has_force)?;
+        let mut file = new_file(self.rt, name, access)?;
+        let written = self.pass(input, &mut file);
+        file.finish(self.rt, name, written, has_force)
     }
-    match input {
-        Input::Stream(source, secret) => pass_stream(rt, conversion, secret, aad, source, output),
-        Input::Part(file, range, key) => pass_part(rt, key, aad, file, range, output),
-    }
-}
 
-/// Seals or opens the bytes of `source`.
-fn pass_stream<R: Read + Drop, W: Write>(
-    rt: &HostRuntime,
-    conversion: &Conversion,
-    secret: &Secret,
-    aad: &[u8],
-    mut source: Source<'_, R>,
-    output: &mut W,
-) -> Result<(), Failure>
-    requires { length aad.now ≤ 4096 }
-{
-    let passed = match (conversion.action, conversion.range) {
-        (Action::Seal, _) => {
-            let random = at(Place::Random, FileRandom::draw(rt))?;
-            seal_stream(rt.alloc(), secret, random, aad, &mut source, output)
+    /// Seals or opens what is read.
+    fn pass<R: Read + Drop, W: Write>(
+        &self,
+        input: Input<'_, '_, R>,
+        output: &mut W,
+    ) -> Result<(), Failure> {
+        let aad = self.conversion.aad_bytes();
+        if aad.len() > MAX_AAD_LEN {
+            return Err(Failure::AadTooLong);
         }
-        (Action::Open, None) => open_stream(rt.alloc(), secret, aad, &mut source, output),
-        (Action::Open, Some(range)) => {
-            let mut part = RangeWriter::new(output, range);
-            open_stream(rt.alloc(), secret, aad, &mut source, &mut part)
+        let mut source = match input {
+            Input::Stream(source) => source,
+            Input::Part(file, range, key) => {
+                return pass_part(self.rt, key, aad, file, range, output);
+            }
+        };
+        let passed = match (self.conversion.action, self.conversion.range) {
+            (Action::Seal, _) => {
+                let random = at(Place::Random, FileRandom::draw(self.rt))?;
+                self.seal(random, aad, &mut source, output)
+            }
+            (Action::Open, None) => self.open(aad, &mut source, output),
+            (Action::Open, Some(range)) => {
+                let mut part = RangeWriter::new(output, range);
+                self.open(aad, &mut source, &mut part)
+            }
+        };
+        source.end();
+        match passed {
+            Ok(()) => Ok(()),
+            Err(error) => Err(of_passing(error, source.has_failed())),
         }
-    };
-    source.end();
-    match passed {
-        Ok(()) => Ok(()),
-        Err(FileError::Io(error)) if source.has_failed() => Err(Failure::Io(Place::Input, error)),
-        Err(FileError::Io(error)) => Err(Failure::Io(Place::Output, error)),
-        Err(FileError::Refused(0)) => Err(Failure::FirstRefused(0)),
-        Err(error) => Err(Failure::Refused(error)),
     }
-}
 
-/// Seals the bytes of `input`, with the iterations that passphrases have.
-fn seal_stream<R: Read, W: Write>(
-    alloc: Global,
-    secret: &Secret,
-    random: FileRandom,
-    aad: &[u8],
-    input: &mut R,
-    output: &mut W,
-) -> Result<(), FileError>
-    requires { length aad.now ≤ 4096 }
-{
-    match secret {
-        Secret::Key(key) => seal_with_aad(alloc, key, random, aad, input, output),
-        Secret::Passphrase(text) => {
-            seal_with_passphrase(alloc, text, ITERATIONS, random, aad, input, output)
+    /// Seals the bytes of `input`, with the iterations that passphrases have.
+    fn seal<R: Read, W: Write>(
+        &self,
+        random: FileRandom,
+        aad: &[u8],
+        input: &mut R,
+        output: &mut W,
+    ) -> Result<(), FileError>
+        requires { length aad.now ≤ 4096 }
+    {
+        let alloc = self.rt.alloc();
+        match self.secret {
+            Secret::Key(key) => seal_with_aad(alloc, key, random, aad, input, output),
+            Secret::Passphrase(text) => {
+                seal_with_passphrase(alloc, text, ITERATIONS, random, aad, input, output)
+            }
+        }
+    }
+
+    /// Opens the sealed file in `input`.
+    fn open<R: Read, W: Write>(
+        &self,
+        aad: &[u8],
+        input: &mut R,
+        output: &mut W,
+    ) -> Result<(), FileError>
+        requires { length aad.now ≤ 4096 }
+    {
+        let alloc = self.rt.alloc();
+        match self.secret {
+            Secret::Key(key) => open_with_aad(alloc, key, aad, input, output),
+            Secret::Passphrase(text) => open_with_passphrase(alloc, text, aad, input, output),
         }
     }
 }
 
-/// Opens the sealed file in `input`.
-fn open_stream<R: Read, W: Write>(
-    alloc: Global,
-    secret: &Secret,
-    aad: &[u8],
-    input: &mut R,
-    output: &mut W,
-) -> Result<(), FileError>
-    requires { length aad.now ≤ 4096 }
-{
-    match secret {
-        Secret::Key(key) => open_with_aad(alloc, key, aad, input, output),
-        Secret::Passphrase(text) => open_with_passphrase(alloc, text, aad, input, output),
+/// The failure of sealing or opening a stream, given whether reading it failed.
+fn of_passing(error: FileError, has_read_failed: bool) -> Failure {
+    match error {
+        FileError::Io(error) if has_read_failed => Failure::Io(Place::Input, error),
+        FileError::Io(error) => Failure::Io(Place::Output, error),
+        FileError::Refused(0) => Failure::FirstRefused(0),
+        error => Failure::Refused(error),
     }
 }
 

@@ -97,10 +97,10 @@ impl ChunkCipher {
     {
         let random = random.as_bytes();
         let context = context_of(random);
-        let cipher = key.cipher();
-        let header = header_with(version, random, &commitment(&cipher, &context));
+        let cmac = key.cmac();
+        let header = header_with(version, random, &commitment(&cmac, &context));
         ChunkCipher {
-            key: aead_key(&derived_key(&cipher, &context)),
+            key: aead_key(&derived_key(&cmac, &context)),
             prefix: prefix_of(random),
             header,
             aad: ChunkAad::new(&header, aad),
@@ -206,10 +206,11 @@ pub fn check_header(file: &[u8]) -> Result<(), FileError>
     ensures refused { (key aad : List ℕ) → IfErr result (λ error.
         HeaderRefuses (secret key aad) (header_of file.now) error) }
 {
-    match check_front(VERSION, read_header(file)) {
-        Ok(()) if file.len() < HEADER_LEN => Err(FileError::EndsEarly),
-        checked => checked,
+    check_front(VERSION, read_header(file))?;
+    if file.len() < HEADER_LEN {
+        return Err(FileError::EndsEarly);
     }
+    Ok(())
 }
 
 /// The key of the chunks after this header, if it is one of this version. `aad` is the AAD after it. The whole header is

@@ -18,20 +18,24 @@ returns-in_err-check_front-clause-accepted c =
 pub returns-in_err-check_front-clause-refused : goal.returns-in_err-check_front-clause-refused
 returns-in_err-check_front-clause-refused c =
     let p = err_from_is_err_and c.from_residual.result c.from_residual.ensures.1 in
-    rw (p.1, p.2) (c.in_err-check_front.ensures.refused (secret_of c.args.version c.args.key.now c.args.aad.now) refl)
+    let s = secret_of c.args.version c.args.key.now c.args.aad.now in
+    rw (p.1, p.2) (c.in_err-check_front.ensures.refused s refl)
 
 pub returns-in_default-clause-accepted : goal.returns-in_default-clause-accepted
 returns-in_default-clause-accepted c = (
   λ e. cc,
   λ has.
+      let s = secret_of c.args.version c.args.key.now c.args.aad.now in
+      let front = c.in_ok-check_front.ensures.front refl in
       let short : length c.args.header.now < 60 = omega (arith, c.requires.header, c.in_default.ensures.cases) in
-      absurd (refused_is_none (secret_of c.args.version c.args.key.now c.args.aad.now) c.args.header.now EndsEarly (inr (c.in_ok-check_front.ensures.front refl, short)) has),
+      absurd (refused_is_none s c.args.header.now EndsEarly (inr (front, short)) has),
 )
 
 pub returns-in-Ok-clause-accepted : goal.returns-in-Ok-clause-accepted
 returns-in-Ok-clause-accepted c =
+    let s = secret_of c.args.version c.args.key.now c.args.aad.now in
     let whole = c.in-Some.ensures.cases.same in
-    let cipher_is = c.new-cipher.ensures.made ∙ ap (fresh_key (secret_of c.args.version c.args.key.now c.args.aad.now))
+    let cipher_is = c.new-cipher.ensures.made ∙ ap (fresh_key s)
     (c.random_in.ensures ∙ ap (λ l. take 19 (drop 9 l)) whole) in (
       λ _. record { right = sym whole ∙ c.in-Ok.ensures.0 refl ∙ c.header.ensures.bytes ∙ ap (λ (k : ChunkKey). k.header) cipher_is },
       λ _. refl,
@@ -39,13 +43,15 @@ returns-in-Ok-clause-accepted c =
 
 pub returns-in-Ok-clause-cipher : goal.returns-in-Ok-clause-cipher
 returns-in-Ok-clause-cipher c =
-    c.new-cipher.ensures.made ∙ ap (fresh_key (secret_of c.args.version c.args.key.now c.args.aad.now))
+    let s = secret_of c.args.version c.args.key.now c.args.aad.now in
+    c.new-cipher.ensures.made ∙ ap (fresh_key s)
     (c.random_in.ensures ∙ ap (λ l. take 19 (drop 9 l)) c.in-Some.ensures.cases.same)
 
 pub returns-in-Err-clause-accepted : goal.returns-in-Err-clause-accepted
 returns-in-Err-clause-accepted c =
+    let s = secret_of c.args.version c.args.key.now c.args.aad.now in
     let whole = c.in-Some.ensures.cases.same in
-    let cipher_is = c.new-cipher.ensures.made ∙ ap (fresh_key (secret_of c.args.version c.args.key.now c.args.aad.now))
+    let cipher_is = c.new-cipher.ensures.made ∙ ap (fresh_key s)
     (c.random_in.ensures ∙ ap (λ l. take 19 (drop 9 l)) whole) in (
       λ e. cc,
       λ has. c.in-Err.ensures.1 (whole ∙ has.right
@@ -54,10 +60,13 @@ returns-in-Err-clause-accepted c =
 
 pub returns-in-Err-clause-refused : goal.returns-in-Err-clause-refused
 returns-in-Err-clause-refused c =
+    let s = secret_of c.args.version c.args.key.now c.args.aad.now in
     let whole = c.in-Some.ensures.cases.same in
-    let cipher_is = c.new-cipher.ensures.made ∙ ap (fresh_key (secret_of c.args.version c.args.key.now c.args.aad.now))
+    let cipher_is = c.new-cipher.ensures.made ∙ ap (fresh_key s)
     (c.random_in.ensures ∙ ap (λ l. take 19 (drop 9 l)) whole) in
-    another_key (secret_of c.args.version c.args.key.now c.args.aad.now) c.args.header.now (c.in_ok-check_front.ensures.front refl) (c.in-Some.ensures.variant.0 refl)
+    let front = c.in_ok-check_front.ensures.front refl in
+    let size = c.in-Some.ensures.variant.0 refl in
+    another_key s c.args.header.now front size
     (λ made.
     let accepted : false ≡ true = c.in-Err.ensures.1 (whole ∙ made
     ∙ sym (ap (λ (k : ChunkKey). k.header) cipher_is) ∙ sym c.header.ensures.bytes) in
