@@ -148,8 +148,8 @@ impl Receiver {
     /// Sets the key of the next phase, unless it is set: that of the next secret (RFC 9001 section 6.1). It becomes the current
     /// key when it first opens a packet. The header key is unchanged (section 6).
     ///
-    /// A peer may initiate an update only after a packet of the current phase is acknowledged (section 6.1); one that follows
-    /// an update needs no acknowledgment. So set the next key once such an acknowledgment is sent, or once this endpoint
+    /// A peer may initiate an update only after a packet of the current phase is acknowledged (section 6.1); an update that
+    /// answers this endpoint's own needs none. So set the next key once such an acknowledgment is sent, or once this endpoint
     /// initiates an update. Until then, a packet of the next phase is rejected as a forged one is.
     ///
     /// Fails with `NoSecret` if the receiver is not made of a secret. The receiver is then unchanged.
@@ -227,12 +227,12 @@ impl Receiver {
     /// `NoSample` if the packet has fewer than 20 bytes from its number on; with `TooLong` if it is longer than AES-GCM allows;
     /// and with `Refused`, which is counted, if it is not authentic. The packet is then unchanged. For an authentic packet, which
     /// is then opened in place, fails with `ReservedBits` if its reserved bits are set, with `Duplicate` if its number was
-    /// already received or is below the window of `space`, with `KeyUpdate` if its key phase is out of turn, which is so if a
-    /// packet with a higher number was opened under earlier keys (RFC 9001 section 6.4), and with `NoFrames` if its payload is
-    /// empty.
+    /// already received or is below the window of `space`, with `KeyUpdate` if its key phase is out of turn, which is so if the
+    /// key of its phase is not held or if a packet with a higher number was opened under earlier keys (RFC 9001 section 6.4),
+    /// and with `NoFrames` if its payload is empty.
     ///
-    /// Before a packet is known to be authentic, its masked bits only determine the length of the header and the key that opens
-    /// it (RFC 9001 section 9.5).
+    /// Before a packet is known to be authentic, no branch and no address depends on its masked bits, except by the length of
+    /// its header and the key that opens it (RFC 9001 section 9.5).
     pub fn receive<const W: usize>(
         &mut self,
         space: &mut Space<W>,

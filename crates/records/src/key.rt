@@ -137,8 +137,9 @@ impl RecordKey {
     /// The content is the `content_len` bytes of `bytes` from byte 5 on. The header is written before it, and its type,
     /// `padding` zeros and the tag after it. The bytes after the tag are unchanged. Each number may be used only once.
     ///
-    /// Fails with `EmptyContent` for an empty alert or handshake content, with `ContentTooLong` if content, type and padding
-    /// exceed the size limit, and with `NoRoom` if `bytes` is too short for the record. `bytes` is then unchanged.
+    /// Fails with `EmptyContent` for an empty alert or handshake content, with `AlertLength` for an alert of another length than
+    /// two bytes, with `ContentTooLong` if content, type and padding exceed the size limit, and with `NoRoom` if `bytes` is too
+    /// short for the record. `bytes` is then unchanged.
     pub fn seal_at(
         &self,
         number: u64,
@@ -305,8 +306,11 @@ impl RecordKey {
     /// Opens the record with this number, which is the whole of `bytes`, in place, and returns the type of its content and its
     /// length in bytes. The content is then `bytes[5..5 + length]`.
     ///
-    /// Header and tag are unchanged. Unless the record is authentic, a failure leaves every byte unchanged. After
-    /// `NoContentType`, `UnexpectedType`, `EmptyContent` and `AlertLength`, its inner plaintext begins at byte 5.
+    /// Fails with `WrongLength` if `bytes` is not as long as its header says; with `UnexpectedRecord`, `EncryptedRecordTooLong`,
+    /// `InnerPlaintextTooLong` or `EncryptedRecordTooShort` if no record under this key has that header; and with `Refused` if
+    /// the record is not authentic. `bytes` is then unchanged. An authentic record fails with `NoContentType`, `UnexpectedType`,
+    /// `EmptyContent` or `AlertLength` for what it contains. Its inner plaintext then begins at byte 5. Header and tag are
+    /// unchanged.
     pub fn open_at(
         &self,
         number: u64,
@@ -382,7 +386,7 @@ impl RecordKey {
     /// Like `open_at` from one buffer to another: the content is then `out[..length]`. `out` has room for the inner plaintext,
     /// 21 bytes fewer than the record has, and the bytes after that are unchanged.
     ///
-    /// Fails with `NoRoom` if `out` is shorter. Nothing is written before the record is authenticated. After `NoContentType`,
+    /// Fails as `open_at` does, and with `NoRoom` if `out` is shorter and the header is right. Nothing is written before the record is authenticated. After `NoContentType`,
     /// `UnexpectedType`, `EmptyContent` and `AlertLength`, its inner plaintext is at the front of `out`; any other failure leaves
     /// `out` unchanged.
     pub fn open_to(
