@@ -1,8 +1,7 @@
 -- Records and their headers. A record that stands in a buffer, and its inner plaintext, which stands before it.
-use Rattle.std.proofs.Common.{◌≡◌, ℕ, ◌+◌, ◌-◌, ◌^◌, ◌<◌, List, ◌++◌, length, get_or, take, drop, refl, sym, ap, ap₂, ◌∙◌, rules, arith, drop_at, get_or-drop, get_or-take, length-append, length-drop, take-append-drop, take_at, Err, Bool, ◌≤◌, true, false, append_assoc, drop-drop, length-take-le}
+use Rattle.std.proofs.Common.{◌≡◌, ℕ, ◌+◌, ◌-◌, ◌^◌, List, ◌++◌, length, take, drop, refl, sym, ap, ◌∙◌, rules, arith, drop_at, length-append, length-drop, take-append-drop, take_at, Err, Bool, ◌≤◌, true, false, append_assoc, drop-drop, length-take-le}
 use Rattle.std.proofs.lemmas
-use lemmas.List.{append_cancel_left, get_or_past, drop-append-le}
-use lemmas.Nat.{be_bytes_2}
+use lemmas.List.{append_cancel_left, drop-append-le}
 use lemmas.Slice.{between_is}
 use Rattle.aead_ciphers_base.specs.Aes.{aes}
 use Rattle.aead_ciphers.specs.Counting.{xored_nonce}
@@ -10,26 +9,13 @@ use Rattle.aead_ciphers.specs.Gcm.{Fits, gcm_decrypted, gcm_encrypted, gcm_seale
 use Rattle.aead_ciphers.proofs.MessageLaws.{decrypted-encrypted, length-aes_encrypted, length-aes_sealed, length-aes_tag, encrypted-decrypted, length-aes_decrypted}
 use Rattle.records.specs
 use specs.Keys.{KeyState}
-use specs.Record.{Carries, Inner, IsHeader, IsWhole, Seals, body_len, header, inner_plaintext, type_code}
+use specs.Record.{Carries, Inner, IsWhole, Seals, header, inner_plaintext, type_code}
 use specs.Refusals.{RefusesBytes, RefusesInner, RefusesToOpen, SealsRefused}
 use specs.Steps.{Opens, OpensMessage, RefusesMessage, overwritten}
 use specs.declared.record_error.RecordError.{RecordError}
 use specs.declared.record_error.RecordError.TheVariants.{AlertLength, EmptyContent, NoContentType, Refused, UnexpectedType, WrongLength}
 use Rattle.records.proofs.InnerLemmas.{allowed_not_refused, length-plaintext, same_inner}
 use borrow.Rule.Slice.PartMut.{put_mid}
-
--- bytes are one whole record where their header gives the length of what stands after it
-pub whole_from : (size_limit : ℕ) (head bytes : List ℕ) → head ≡ take 5 bytes → length head ≡ 5 → ((i : ℕ) → get_or bytes i 0 < 256)
-    → IsHeader size_limit head → 5 + body_len head ≡ length bytes → IsWhole size_limit bytes
-whole_from size_limit head bytes is five small h e =
-    let two : length (drop 3 head) ≡ 2 = omega (arith, length-drop 3 head) in
-    let head_small : (i : ℕ) → get_or head i 0 < 256 = λ i. rw is (grind (arith, get_or-take, get_or_past, small i)) in
-    let behind = be_bytes_2 (drop 3 head) (length bytes - 5) two (λ i. rw (get_or-drop 3 head i 0) (head_small (3 + i))) (omega arith) in
-    record {
-      start = sym is ∙ sym (take-append-drop 3 head) ∙ ap₂ (λ xs ys. xs ++ ys) h.start (sym behind);
-      shortest = omega arith;
-      longest = omega arith;
-    }
 
 -- a ciphertext and a tag are one message sealed
 pub sealed_parts : (key nonce aad text tag message : List ℕ) → length tag ≡ 16 → text ++ tag ≡ gcm_sealed (aes key) nonce aad message

@@ -1,11 +1,12 @@
-//! The header of a protected record.
+//! The header of a record.
 
-ghost use Rattle.std.specs.Prelude.{◌≡◌, ◌+◌, ◌-◌, ◌^◌, ◌<◌, ◌≤◌, ◌↔◌, take, IsOk, IfOk, IfErr};
+ghost use Rattle.std.specs.Prelude.{◌≡◌, ◌+◌, ◌-◌, ◌^◌, ◌<◌, ◌≤◌, ◌↔◌, length, take, IsOk, IfOk, IfErr, IsSome, IfSome};
 ghost use Rattle.records.specs.Record.{header, body_len, IsHeader, IsWhole};
 ghost use Rattle.records.specs.Refusals.{RefusesBytes, RefusesHeader, RefusesLen};
 
 use crate::record_error::RecordError;
 use crate::{HEADER_LEN, TAG_LEN};
+use std::marker::Model;
 
 /// The length in bytes of the longest encrypted record that a header may announce, for any cipher (RFC 8446 section 5.2).
 pub const MAX_ENCRYPTED_LEN: usize = 16640;
@@ -21,20 +22,52 @@ pub fn header_of(len: usize) -> [u8; HEADER_LEN]
     [APPLICATION_DATA, 3, 3, high, low]
 }
 
-/// The length of the protected record that begins with this header, including the header.
-pub(crate) fn record_len(size_limit: usize, header: &[u8; HEADER_LEN]) -> Result<usize, RecordError>
-    requires { size_limit ≤ 2 ^ 14 + 256 - 16 }
-    ensures accepted { IsOk result ↔ IsHeader size_limit header.now }
-    ensures len { IfOk result (λ n. n ≡ HEADER_LEN + body_len header.now) }
-    ensures refused { IfErr result (RefusesHeader size_limit header.now) }
-{
-    let [content_type, major, minor, high, low] = *header;
-    if content_type != APPLICATION_DATA || major != 3 || minor != 3 {
-        return Err(RecordError::UnexpectedRecord);
+/// A header, and the length that it announces (RFC 8446 sections 5.1 and 5.2).
+#[derive(Drop)]
+pub(crate) struct Header {
+    pub(crate) bytes: [u8; HEADER_LEN],
+    pub(crate) payload_len: usize,
+}
+
+impl Model for Header {
+    ghost use Rattle.std.specs.Prelude.{ℕ, List, ◌≡◌};
+    ghost use Rattle.records.specs.Record.{body_len};
+
+    ghost Value = { List ℕ };
+
+    ghost view = { λ header. header.bytes };
+
+    ghost invariant = { λ header. header.payload_len ≡ body_len header.bytes };
+}
+
+impl Header {
+    /// Reads the header at the front of these bytes, or `None` if they are fewer.
+    pub(crate) fn read(bytes: &[u8]) -> Option<Header>
+        ensures whole { IsSome result ↔ (HEADER_LEN ≤ length bytes.now) }
+        ensures header { IfSome result (λ header. header ≡ take HEADER_LEN bytes.now) }
+    {
+        let bytes = bytes.first_chunk::<HEADER_LEN>()?;
+        let [_, _, _, high, low] = *bytes;
+        Some(Header {
+            bytes: *bytes,
+            payload_len: usize::from(u16::from_be_bytes([high, low])),
+        })
     }
-    let len = usize::from(u16::from_be_bytes([high, low]));
-    check_len(size_limit, len)?;
-    Ok(HEADER_LEN + len)
+
+    /// The length of the protected record that begins with this header, including the header.
+    pub(crate) fn record_len(&self, size_limit: usize) -> Result<usize, RecordError>
+        requires { size_limit ≤ 2 ^ 14 + 256 - 16 }
+        ensures accepted { IsOk result ↔ IsHeader size_limit self.now }
+        ensures len { IfOk result (λ n. n ≡ HEADER_LEN + body_len self.now) }
+        ensures refused { IfErr result (RefusesHeader size_limit self.now) }
+    {
+        let [content_type, major, minor, _, _] = self.bytes;
+        if content_type != APPLICATION_DATA || major != 3 || minor != 3 {
+            return Err(RecordError::UnexpectedRecord);
+        }
+        check_len(size_limit, self.payload_len)?;
+        Ok(HEADER_LEN + self.payload_len)
+    }
 }
 
 /// Checks the length of an encrypted record.
@@ -62,13 +95,11 @@ pub(crate) fn header_in(size_limit: usize, bytes: &[u8]) -> Result<[u8; HEADER_L
     ensures header { IfOk result (λ header. header ≡ take HEADER_LEN bytes.now) }
     ensures refused { IfErr result (RefusesBytes size_limit bytes.now) }
 {
-    let mut header = [0; HEADER_LEN];
-    if bytes.len() < HEADER_LEN {
+    let Some(header) = Header::read(bytes) else {
+        return Err(RecordError::WrongLength);
+    };
+    if header.record_len(size_limit)? != bytes.len() {
         return Err(RecordError::WrongLength);
     }
-    header.copy_from_slice(&bytes[..HEADER_LEN]);
-    if record_len(size_limit, &header)? != bytes.len() {
-        return Err(RecordError::WrongLength);
-    }
-    Ok(header)
+    Ok(header.bytes)
 }

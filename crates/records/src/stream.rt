@@ -4,7 +4,7 @@ ghost use Rattle.std.specs.Prelude.{◌≡◌, ◌+◌, ◌≤◌, IfOk, IfErr};
 ghost use Rattle.records.specs.Record.{body_len};
 ghost use Rattle.records.specs.Stream.{BeginsWith, IsHeaderOf, RefusesStart, RefusesToClassify};
 
-use crate::header::{APPLICATION_DATA, record_len};
+use crate::header::{APPLICATION_DATA, Header};
 use crate::record_error::RecordError;
 use crate::{HEADER_LEN, MAX_CONTENT_LEN, MAX_SIZE_LIMIT};
 
@@ -58,10 +58,10 @@ pub fn classify(bytes: &[u8]) -> Result<Begins, RecordError>
     ensures begins { IfOk result (BeginsWith bytes.now) }
     ensures refused { IfErr result (RefusesToClassify bytes.now) }
 {
-    let Some(header) = bytes.first_chunk::<HEADER_LEN>() else {
+    let Some(header) = Header::read(bytes) else {
         return Ok(Begins::MoreNeeded(HEADER_LEN));
     };
-    let (kind, len) = kind_of(header)?;
+    let (kind, len) = kind_of(&header)?;
     if bytes.len() < len {
         return Ok(Begins::MoreNeeded(len));
     }
@@ -72,16 +72,16 @@ pub fn classify(bytes: &[u8]) -> Result<Begins, RecordError>
 }
 
 /// The kind of the record that begins with this header, and its length, including the header.
-fn kind_of(header: &[u8; HEADER_LEN]) -> Result<(RecordKind, usize), RecordError>
+fn kind_of(header: &Header) -> Result<(RecordKind, usize), RecordError>
     ensures kind { IfOk result (λ kind. IsHeaderOf kind.0 header.now) }
     ensures len { IfOk result (λ kind. kind.1 ≡ 5 + body_len header.now) }
     ensures refused { IfErr result (RefusesStart header.now) }
 {
-    let [first, _, _, high, low] = *header;
+    let first = header.bytes[0];
     if first == APPLICATION_DATA {
-        return Ok((RecordKind::Protected, record_len(MAX_SIZE_LIMIT, header)?));
+        return Ok((RecordKind::Protected, header.record_len(MAX_SIZE_LIMIT)?));
     }
-    let len = usize::from(u16::from_be_bytes([high, low]));
+    let len = header.payload_len;
     if len > MAX_CONTENT_LEN {
         return Err(RecordError::PlaintextTooLong);
     }
