@@ -122,9 +122,9 @@ bool deerlapse_key_seal(const deerlapse_key *key, const uint8_t nonce[DEERLAPSE_
  *   in_out            in_out_len bytes: `start` bytes of anything, the ciphertext and the tag
  *   plaintext_len     written on success: in_out_len - 16 - start
  *
- * Returns false if the tag is wrong, if there are fewer than 16 bytes from `start` on, if the key is zeros, or for lengths
- * for which deerlapse_key_seal does. aad must not be in in_out, not even before `start`. For a header before its
- * ciphertext, pass the pointer after the header, and 0 for `start`. */
+ * Returns false if the tag is wrong, if there are fewer than 16 bytes from `start` on, if the key is zeros, or if the
+ * ciphertext or the AAD is longer than deerlapse_key_seal takes. aad must not be in in_out, not even before `start`. For a
+ * header before its ciphertext, pass the pointer after the header, and 0 for `start`. */
 DEERLAPSE_NODISCARD
 bool deerlapse_key_open(const deerlapse_key *key, const uint8_t nonce[DEERLAPSE_NONCE_LEN], const uint8_t *aad,
                         size_t aad_len, uint8_t *in_out, size_t in_out_len, size_t start, size_t *plaintext_len);
@@ -134,8 +134,8 @@ bool deerlapse_key_open(const deerlapse_key *key, const uint8_t nonce[DEERLAPSE_
  *
  *   tag   16 bytes, which are read
  *
- * Returns false if the tag is wrong, if `start` is above in_out_len, if the key is zeros, or for lengths for which
- * deerlapse_key_seal does. */
+ * Returns false if the tag is wrong, if `start` is above in_out_len, if the key is zeros, or if the ciphertext or the AAD is
+ * longer than deerlapse_key_seal takes. */
 DEERLAPSE_NODISCARD
 bool deerlapse_key_open_separate_tag(const deerlapse_key *key, const uint8_t nonce[DEERLAPSE_NONCE_LEN],
                                      const uint8_t *aad, size_t aad_len, uint8_t *in_out, size_t in_out_len,
@@ -145,7 +145,7 @@ bool deerlapse_key_open_separate_tag(const deerlapse_key *key, const uint8_t non
  * No byte of `out` is written before the tag is verified.
  *
  *   in    in_len bytes: the message, or the ciphertext
- *   out   in_len bytes: none of those of `in`, or the same pointer as `in`, for the call in place
+ *   out   in_len bytes, which must not overlap `in`, unless it is the same pointer
  *
  * Return false if those calls do. */
 DEERLAPSE_WRAPS(1, 2, 8)
@@ -160,8 +160,8 @@ bool deerlapse_key_open_to(const deerlapse_key *key, const uint8_t nonce[DEERLAP
 /* Do the same with the tag after the ciphertext: sealing writes both to `out`, and opening reads both from `in`.
  *
  *   in    in_len bytes: the message, or the ciphertext and its tag
- *   out   in_len + 16 bytes for sealing, in_len - 16 bytes for opening: none of those of `in`, or the same pointer as `in`,
- *         for the call in place
+ *   out   in_len + 16 bytes for sealing, in_len - 16 bytes for opening, which must not overlap `in`, unless it is the same
+ *         pointer
  *
  * Return false if those calls do. Opening also does if in_len is below 16. */
 DEERLAPSE_WRAPS(1, 2, 7)
@@ -173,9 +173,9 @@ bool deerlapse_key_open_appended_tag(const deerlapse_key *key, const uint8_t non
                                      const uint8_t *aad, size_t aad_len, const uint8_t *in, size_t in_len,
                                      uint8_t *out);
 
-/* The functions of the library that make these four calls, unless `in` and `out` are the same pointer: then a call in place
- * does. They take the length of `out`, and also return false if it is another than the one above. No pointer may be null. A
- * program without deerlapse.h calls these. */
+/* The four calls above are inline, and call these, or if `in` and `out` are the same pointer the calls in place. These take
+ * the length of `out`, and also return false if it is another than the one above. No pointer may be null. A program without
+ * deerlapse.h calls these. */
 DEERLAPSE_NODISCARD
 bool deerlapse_key_seal_to_sized(const deerlapse_key *key, const uint8_t nonce[DEERLAPSE_NONCE_LEN],
                                  const uint8_t *aad, size_t aad_len, const uint8_t *in, size_t in_len, uint8_t *out,
@@ -198,8 +198,10 @@ bool deerlapse_key_open_appended_tag_sized(const deerlapse_key *key, const uint8
  * zeros has not begun, and any other memory must only be passed to deerlapse_key_begin. Never copy it: pieces that follow the
  * copy would be encrypted with the same keystream. Only one thread may use it at a time.
  *
- * It contains keystream, which is secret, until deerlapse_key_finish overwrites it with zeros. Finish a message that is given
- * up as well, and discard its tag. No message is opened in pieces: its plaintext would be used before it is verified. */
+ * It contains keystream, which is secret, until deerlapse_key_finish overwrites it with zeros. Finish a message before its key
+ * is wiped, also one that is given up, whose tag is discarded. No sealer counts such messages: seal them under a key of
+ * their own, the nth under the nonce that deerlapse_nonce writes for n. No message is opened in pieces: its plaintext would
+ * be used before it is verified. */
 typedef struct deerlapse_message {
     uint64_t words[22]; /* private: neither read nor write them */
 } deerlapse_message;
@@ -274,9 +276,10 @@ typedef struct deerlapse_sealer {
  *                  each direction, because the nonces of two IVs may coincide
  *   first, limit   the numbers of the messages go from first up to limit, exclusive
  *
- * Under the same key, none of its nonces may be used by another sealer or a deerlapse_key_seal. The simplest way is a key
- * for this sealer alone. The number of messages that a key may seal is chosen by the protocol (TLS 1.3: about 24 million of
- * full length, RFC 8446 section 5.5).
+ * Under the same key, none of its nonces may be used by any other call that seals. The simplest way is a key for this
+ * sealer alone. A sealer of the same key and IV that is made after a restart, or copied by fork or a snapshot, begins
+ * again: take a new key, or a `first` above all numbers used before. The number of messages that a key may seal is chosen
+ * by the protocol (TLS 1.3: about 24 million of full length, RFC 8446 section 5.5).
  *
  * Returns false if key_len is neither 16 nor 32, or if first is above limit. The sealer is then unchanged. */
 DEERLAPSE_NODISCARD
@@ -311,7 +314,8 @@ DEERLAPSE_NODISCARD
 bool deerlapse_opener_init(deerlapse_opener *opener, const uint8_t *key, size_t key_len,
                            const uint8_t iv[DEERLAPSE_NONCE_LEN], uint64_t first, uint64_t limit);
 
-/* Returns the number of the message that is opened next in order. */
+/* Returns the number of the message that is opened next in order, or 0 for an opener of zeros. To go on after a message that
+ * was lost, open by number, or initialize an opener whose `first` is the number after it. */
 DEERLAPSE_NODISCARD
 uint64_t deerlapse_opener_next(const deerlapse_opener *opener);
 
@@ -336,7 +340,7 @@ bool deerlapse_opener_open_number(const deerlapse_opener *opener, uint64_t numbe
 DEERLAPSE_CALL
 void deerlapse_opener_wipe(deerlapse_opener *opener);
 
-/* Writes the nonce of a number under an IV, for opening with deerlapse_key_open what a sealer sealed. */
+/* Writes the nonce of a number under an IV, as a sealer uses it, for a call under a deerlapse_key. */
 DEERLAPSE_CALL
 void deerlapse_nonce(const uint8_t iv[DEERLAPSE_NONCE_LEN], uint64_t number, uint8_t nonce[DEERLAPSE_NONCE_LEN]);
 
