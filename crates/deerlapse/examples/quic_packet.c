@@ -21,8 +21,8 @@ int main(void) {
     /* Version 1, the ID, no other ID, no token, the length of what follows, and the number. */
     uint8_t packet[HEADER_LEN + PAYLOAD_LEN + DEERLAPSE_TAG_LEN] = {0xc1, 0, 0, 0, 1, sizeof id};
     uint8_t client[DEERLAPSE_SHA256_LEN], server[DEERLAPSE_SHA256_LEN], *payload = packet + HEADER_LEN;
-    deerlapse_quic_key key;
-    deerlapse_key header_key;
+    deerlapse_quic_key key = {{0}};
+    deerlapse_key header_key = {{0}};
     size_t len;
 
     memcpy(packet + 6, id, sizeof id);
@@ -34,20 +34,18 @@ int main(void) {
         fputs("this processor lacks instructions that the library was built for\n", stderr);
         return 1;
     }
-    if (!deerlapse_quic_initial_secrets(DEERLAPSE_QUIC_V1, id, sizeof id, client, server) ||
-        !deerlapse_quic_key_from_secret(&key, DEERLAPSE_QUIC_V1, client, sizeof client) ||
-        !deerlapse_quic_header_key_from_secret(&header_key, DEERLAPSE_QUIC_V1, client, sizeof client) ||
-        !deerlapse_quic_key_seal(&key, NUMBER, packet, HEADER_LEN, payload, PAYLOAD_LEN, payload + PAYLOAD_LEN) ||
-        !mask(&header_key, packet)) {
-        return 1;
-    }
-    /* The server has the same keys for what the client sends. */
-    if (!mask(&header_key, packet) || packet[NUMBER_AT + 1] != NUMBER ||
-        !deerlapse_quic_key_open(&key, NUMBER, packet, HEADER_LEN, payload, PAYLOAD_LEN + DEERLAPSE_TAG_LEN, &len)) {
-        return 1;
-    }
-    printf("opened: %.*s\n", (int)len, (const char *)payload);
+    bool opened =
+        deerlapse_quic_initial_secrets(DEERLAPSE_QUIC_V1, id, sizeof id, client, server) &&
+        deerlapse_quic_key_from_secret(&key, DEERLAPSE_QUIC_V1, client, sizeof client) &&
+        deerlapse_quic_header_key_from_secret(&header_key, DEERLAPSE_QUIC_V1, client, sizeof client) &&
+        deerlapse_quic_key_seal(&key, NUMBER, packet, HEADER_LEN, payload, PAYLOAD_LEN, payload + PAYLOAD_LEN) &&
+        mask(&header_key, packet) &&
+        /* The server has the same keys for what the client sends. */
+        mask(&header_key, packet) && packet[NUMBER_AT + 1] == NUMBER &&
+        deerlapse_quic_key_open(&key, NUMBER, packet, HEADER_LEN, payload, PAYLOAD_LEN + DEERLAPSE_TAG_LEN, &len);
     deerlapse_quic_key_wipe(&key);
     deerlapse_key_wipe(&header_key);
+    if (!opened) return 1;
+    printf("opened: %.*s\n", (int)len, (const char *)payload);
     return 0;
 }
