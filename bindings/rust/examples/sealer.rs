@@ -8,7 +8,7 @@ fn main() -> Result<(), Unspecified> {
     let mut first = b"hello".to_vec();
     let mut second = b"bye".to_vec();
 
-    // Numbers 0, 1, 2, .. and at most 2^24 messages. The tag is appended.
+    // Numbers 0, 1, 2, .. up to the limit of the protocol, as 2^24 records of TLS 1.3. The tag is appended.
     let mut sealer = Sealer::new(&key, &iv, 0..1 << 24)?;
     sealer.seal_in_place_append_tag(b"v1", &mut first)?;
     sealer.seal_in_place_append_tag(b"v1", &mut second)?;

@@ -22,7 +22,7 @@ int main(void) {
         return 1;
     }
 
-    /* Numbers 0, 1, 2, .. and at most 2^24 messages. The tag goes after the message. */
+    /* Numbers 0, 1, 2, .. up to the limit of the protocol, as 2^24 records of TLS 1.3. The tag goes after the message. */
     deerlapse_sealer sealer = {{0}};
     bool sealed = deerlapse_sealer_init(&sealer, key, sizeof key, iv, 0, 1 << 24) &&
                   deerlapse_sealer_seal(&sealer, header, sizeof header, first, 5, first + 5) &&
