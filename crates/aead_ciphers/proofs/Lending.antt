@@ -23,11 +23,11 @@ use Rattle.aead_ciphers_base.specs
 use specs.contracts.error.Unspecified as US
 use proofs.error.Unspecified.TheLaws as UL
 use Rattle.std.proofs.ops.RangeFrom.TheLaws as RFL
-use specs.contracts.values.Aad as D
+use specs.contracts.values.Aad as Aad
 use proofs.values.Aad.TheLaws as DL
-use specs.contracts.values.Nonce as N
+use specs.contracts.values.Nonce as Nonce
 use proofs.values.Nonce.TheLaws as NL
-use specs.contracts.values.Tag as G
+use specs.contracts.values.Tag as Tag
 use proofs.values.Tag.TheLaws as GL
 
 abbrev pub Answer : RattleType
@@ -43,15 +43,15 @@ abbrev pub Own : ℕ → ℕ → Lft → GName → List ℕ → Fml
 Own b o k g xs = (owned-types.MutSlice erased k u8).own_val (record { ref_ptr = (b, o); ghost_name = g; now = xs })
 
 module _ {M : Type 1} {𝓤 : Ura M} (𝓛 : Logic 𝓤) where
-  pub nonce_word : (x : (N.the_row).Denot) (vs : List Val) → Is N.the_row x vs → Word N.the_row vs
-  nonce_word x vs is = one (lone (N.the_row).mir) vs ((NL.the_row_laws.lawful 𝓛).typed x vs is)
+  pub nonce_word : (x : (Nonce.the_row).Denot) (vs : List Val) → Is Nonce.the_row x vs → Word Nonce.the_row vs
+  nonce_word x vs is = one (lone (Nonce.the_row).mir) vs ((NL.the_row_laws.lawful 𝓛).typed x vs is)
 
-  pub aad_word : (ℓ : NamedLft) (x : (D.the_row ℓ).Denot) (vs : List Val) → Is (D.the_row ℓ) x vs
-      → Word (D.the_row ℓ) vs
-  aad_word ℓ x vs is = one (lone (D.the_row ℓ).mir) vs (((DL.the_row_laws ℓ).lawful 𝓛).typed x vs is)
+  pub aad_word : (ℓ : NamedLft) (x : (Aad.the_row ℓ).Denot) (vs : List Val) → Is (Aad.the_row ℓ) x vs
+      → Word (Aad.the_row ℓ) vs
+  aad_word ℓ x vs is = one (lone (Aad.the_row ℓ).mir) vs (((DL.the_row_laws ℓ).lawful 𝓛).typed x vs is)
 
-  pub tag_word : (x : (G.the_row).Denot) (vs : List Val) → Is G.the_row x vs → Word G.the_row vs
-  tag_word x vs is = one (lone (G.the_row).mir) vs ((GL.the_row_laws.lawful 𝓛).typed x vs is)
+  pub tag_word : (x : (Tag.the_row).Denot) (vs : List Val) → Is Tag.the_row x vs → Word Tag.the_row vs
+  tag_word x vs is = one (lone (Tag.the_row).mir) vs ((GL.the_row_laws.lawful 𝓛).typed x vs is)
 
   pub range_word : (x : Range.Denot) (vs : List Val) → Is Range x vs → Word Range vs
   range_word x vs is = one (lone Range.mir) vs (((RFL.the_row_laws usize usize_laws).lawful 𝓛).typed x vs is)

@@ -91,14 +91,14 @@ impl<'a> KeyBytes<'a> {
 ///
 /// # Examples
 ///
-/// The CMAC of one block. From `crates/sealed_file/src/derivation.rt`:
+/// CMAC of one block, under a key whose first subkey is kept. From `crates/sealed_file/src/derivation.rt`:
 ///
 /// ```
-/// fn cmac_of_block(cipher: &aes::Key, block: Block) -> Block
-///     ensures { result ≡ cmac_of_block cipher.now block }
+/// fn of_block(&self, block: Block) -> Block
+///     ensures { result ≡ cmac_of_block self.now block }
 /// {
-///     let subkey = first_subkey(cipher.encrypt_block(ZERO_BLOCK, &mut Work::new()));
-///     cipher.encrypt_block(bb::xor_16(subkey, block), &mut Work::new())
+///     self.cipher
+///         .encrypt_block(bb::xor_16(self.subkey, block), &mut Work::new())
 /// }
 /// ```
 pub trait EncryptBlock {

@@ -97,10 +97,10 @@ impl ChunkCipher {
     {
         let random = random.as_bytes();
         let context = context_of(random);
-        let cipher = key.cipher();
-        let header = header_with(version, random, &commitment(&cipher, &context));
+        let cmac = key.cmac();
+        let header = header_with(version, random, &commitment(&cmac, &context));
         ChunkCipher {
-            key: aead_key(&derived_key(&cipher, &context)),
+            key: aead_key(&derived_key(&cmac, &context)),
             prefix: prefix_of(random),
             header,
             aad: ChunkAad::new(&header, aad),

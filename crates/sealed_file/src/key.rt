@@ -2,7 +2,7 @@
 
 ghost use Rattle.std.specs.Prelude.{[], ◌≡◌, ◌↔◌, length, IsOk, IsTrue, IfOk, IfErr};
 
-use crate::derivation::{commitment, derived_key};
+use crate::derivation::{Cmac, commitment, derived_key};
 use crate::error::FileError;
 use crate::header::{Context, VERSION, cipher_of};
 use aead_ciphers_base::aes::{AES_256_KEY_LEN, KeyBytes};
@@ -42,12 +42,12 @@ impl FileKey {
         }
     }
 
-    /// The AES-256 key that derives the keys of files.
-    pub(crate) fn cipher(&self) -> aes::Key
+    /// CMAC under this key, which derives the keys of files.
+    pub(crate) fn cmac(&self) -> Cmac
         ensures { result ≡ self.now }
     {
         match aes::Key::new(KeyBytes::AES_256(&self.bytes)) {
-            Ok(cipher) => cipher,
+            Ok(cipher) => Cmac::new(cipher),
             Err(_) => unreachable!(),
         }
     }
@@ -57,7 +57,7 @@ impl FileKey {
     pub fn derived_key(&self, context: &Context) -> [u8; AES_256_KEY_LEN]
         ensures { result ≡ derived_key self.now context.now }
     {
-        derived_key(&self.cipher(), context)
+        derived_key(&self.cmac(), context)
     }
 
     /// Returns whether the file that begins with these bytes has the header that is defined for this key: its commitment is that of
@@ -72,6 +72,6 @@ impl FileKey {
     pub fn commitment(&self, context: &Context) -> [u8; AES_256_KEY_LEN]
         ensures { result ≡ commitment self.now context.now }
     {
-        commitment(&self.cipher(), context)
+        commitment(&self.cmac(), context)
     }
 }
