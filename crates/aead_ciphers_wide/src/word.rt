@@ -1,6 +1,6 @@
 //! Numbers of 128 bits in vectors.
 
-ghost use Rattle.std.specs.Prelude.{◌≡◌, ◌<◌, ◌+◌, ◌*◌, ◌/◌, ◌%◌, ◌^◌, ℕ, bit_xor, bit_and, slice_index};
+ghost use Rattle.std.specs.Prelude.{◌≡◌, ◌<◌, ◌+◌, ◌*◌, ◌/◌, ◌^◌, ℕ, bit_xor, bit_and, slice_index};
 ghost use Rattle.std.specs.Int.{bit_at, to_le_bytes, w128};
 ghost use Rattle.aead_ciphers_wide.specs.WidePlanes.{place_of_eight, place_of_eight_within};
 

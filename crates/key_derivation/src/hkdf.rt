@@ -1,6 +1,6 @@
 //! HKDF (RFC 5869), and HKDF-Expand-Label and Derive-Secret of TLS 1.3 (RFC 8446 section 7.1).
 
-ghost use Rattle.std.specs.Prelude.{◌≡◌, ◌≢◌, ℕ, ◌++◌, ◌*◌, ◌+◌, ◌<◌, ◌≤◌, ◌↔◌, List, [], length, take, IsOk, IfOk, IsOkUnless, IsErrOf, IsTrue, OnOk, OnErr};
+ghost use Rattle.std.specs.Prelude.{◌≡◌, ◌≢◌, ℕ, ◌++◌, ◌*◌, ◌+◌, ◌<◌, ◌≤◌, ◌↔◌, List, [], length, take, IsOk, IfOk, IsOkUnless, IsErrOf, OnOk, OnErr};
 ghost use Rattle.key_derivation.specs.Hkdf.{IsLabel, derive_secret, hkdf_expand, hkdf_expand_label, hkdf_extract, hkdf_label};
 ghost use Rattle.key_derivation.specs.HmacState.{IsExpander, joined_pieces};
 ghost use Rattle.key_derivation.specs.Secret.{suite_key_len};

@@ -1,8 +1,8 @@
 //! HMAC (RFC 2104).
 
-ghost use Rattle.std.specs.Prelude.{◌≡◌, ℕ, ◌++◌, ◌<◌, ◌≤◌, ◌↔◌, List, [], length, map, take, bit_xor, IsTrue};
+ghost use Rattle.std.specs.Prelude.{◌≡◌, ℕ, ◌++◌, ◌<◌, ◌≤◌, ◌↔◌, List, length, map, take, bit_xor, IsTrue};
 ghost use Rattle.key_derivation.specs.Hash.{sha_256, sha_384};
-ghost use Rattle.key_derivation.specs.Hmac.{hmac, block_key, inner_block, outer_block};
+ghost use Rattle.key_derivation.specs.Hmac.{hmac, block_key, inner_block};
 ghost use Rattle.key_derivation.specs.HmacState.{IsKey};
 
 use crate::hash::{Hash, MAX_BLOCK_LEN};

@@ -1,6 +1,6 @@
 //! PBKDF2 with HMAC (RFC 8018 section 5.2).
 
-ghost use Rattle.std.specs.Prelude.{◌≡◌, ℕ, ◌++◌, ◌*◌, ◌+◌, ◌-◌, ◌^◌, ◌<◌, ◌≤◌, ◌↔◌, List, [], ◌∷◌, length, take, replicate, IsOk, OnOk, OnErr, IsErrOf};
+ghost use Rattle.std.specs.Prelude.{◌≡◌, ℕ, ◌*◌, ◌+◌, ◌-◌, ◌^◌, ◌<◌, ◌≤◌, ◌↔◌, List, length, IsOk, OnOk, OnErr, IsErrOf};
 ghost use Rattle.key_derivation.specs.HmacState.{IsKey};
 ghost use Rattle.key_derivation.specs.Pbkdf2.{◌⊕◌, pbkdf2, pbkdf2_sum};
 

@@ -1,6 +1,6 @@
 //! Writing headers of versions 1 and 2, before protection (RFC 9000 section 17, RFC 9369 section 3).
 
-ghost use Rattle.std.specs.Prelude.{◌≡◌, ℕ, ◌+◌, ◌-◌, ◌*◌, ◌^◌, ◌<◌, ◌≤◌, ◌↔◌, ◌∷◌, [], ◌++◌, List, length, take, drop, nat_lt, if◌then◌else◌, IsOk, IfOk, IsErrOf, OnOk, OnErr};
+ghost use Rattle.std.specs.Prelude.{◌≡◌, ◌+◌, ◌-◌, ◌*◌, ◌^◌, ◌<◌, ◌≤◌, ◌↔◌, ◌∷◌, [], ◌++◌, length, drop, IsOk, IfOk, IsErrOf, OnOk, OnErr};
 ghost use Rattle.quic_packets.specs.HeaderBytes.{HasShortFields, HasShortIds, IsLongHeader, IsNumberLen, IsShortHeader, fewest, header_bits, id_field, integer, length_log, length_of, long_first_byte, long_header, short_first_byte, short_header, token_field, token_of, version_field, with_field};
 ghost use Rattle.quic_packets.specs.Datagram.{span};
 

@@ -1,6 +1,6 @@
 //! Receiving packets, over key updates (RFC 9001 sections 5.3, 5.4, 6.2 to 6.6 and 9.5).
 
-ghost use Rattle.std.specs.Prelude.{◌≡◌, ◌≢◌, ℕ, ◌+◌, ◌-◌, ◌<◌, ◌≤◌, ◌↔◌, false, true, length, List, slice_index, ◌^◌, IsFalse, IsTrue, IsOk, IfOk, IfErr, IsErrOf, IsOkUnless, Some, None, IsSome, IfSome, OnOk, OnErr};
+ghost use Rattle.std.specs.Prelude.{◌≡◌, ◌≢◌, ℕ, ◌+◌, ◌-◌, ◌<◌, ◌≤◌, ◌↔◌, false, true, length, List, ◌^◌, IsFalse, IsTrue, IsOk, IfOk, IfErr, IsErrOf, IsOkUnless, Some, None, IsSome, IfSome, OnOk, OnErr};
 ghost use Rattle.std.specs.Option.{option_copied};
 ghost use Rattle.aead_ciphers.specs.Algorithm.{key_len};
 ghost use Rattle.quic_packets.specs.Datagram.{KeepsOutside, bytes_of, number_in};

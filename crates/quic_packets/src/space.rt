@@ -1,7 +1,6 @@
 //! The packet numbers that were received in one space (RFC 9000 section 12.3).
 
 ghost use Rattle.std.specs.Prelude.{◌≡◌, ℕ, ◌+◌, ◌-◌, ◌*◌, ◌/◌, ◌%◌, ◌<◌, ◌≤◌, ◌↔◌, length, IsTrue, MatchOption};
-ghost use Rattle.std.specs.Int.{bit_at};
 ghost use Rattle.quic_packets.specs.Numbers.{expected};
 ghost use Rattle.quic_packets.specs.Packet.{IsNumber};
 ghost use Rattle.quic_packets.specs.Space.{IsNew, IsReceived, Marks, ShareBit, bit_of, new_space};

@@ -1,6 +1,6 @@
 //! Alerts that an endpoint sends (RFC 8446 section 6).
 
-ghost use Rattle.std.specs.Prelude.{◌≡◌, ◌+◌, ◌<◌, ◌≤◌, ◌++◌, ◌∷◌, [], vec_len, vec_capacity, IsOkUnless, IsErrOf, IfErr, OnOk, OnErr};
+ghost use Rattle.std.specs.Prelude.{◌≡◌, ◌+◌, ◌<◌, ◌≤◌, ◌++◌, vec_len, vec_capacity, IsOkUnless, IsErrOf, IfErr, OnOk, OnErr};
 ghost use Rattle.records.specs.Alerts.{close_notify, fatal_content, plaintext_alert_record};
 ghost use Rattle.records.specs.Record.{IsAllowed, record_at};
 ghost use Rattle.records.specs.Refusals.{RefusesContent};

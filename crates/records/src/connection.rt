@@ -1,7 +1,7 @@
 //! One end of a TLS 1.3 connection after the handshake: what it receives, over the peer's key updates, and what it sends, over
 //! its own.
 
-ghost use Rattle.std.specs.Prelude.{◌≡◌, ◌≢◌, ◌↔◌, ◌+◌, ◌<◌, ◌≤◌, ◌++◌, ℕ, length, drop, IsTrue, IsFalse, IsErr, IsErrOf, IsOkUnless, IfOk, IfErr, OnOk, OnErr, cond, vec_len, vec_capacity};
+ghost use Rattle.std.specs.Prelude.{◌≡◌, ◌+◌, ◌<◌, ◌≤◌, ◌++◌, length, drop, IsTrue, IsFalse, IsErrOf, IsOkUnless, IfOk, IfErr, OnOk, OnErr, cond, vec_len, vec_capacity};
 ghost use Rattle.std.specs.List.{concat};
 ghost use Rattle.records.specs.Alerts.{close_notify, fatal_record};
 ghost use Rattle.records.specs.Connection.{EndsWith, LeavesUnsent, MaySend, MayUpdate, Step};

@@ -1,6 +1,6 @@
 //! The first record of a stream of bytes.
 
-ghost use Rattle.std.specs.Prelude.{◌≡◌, ◌+◌, ◌≤◌, IfOk, IfErr};
+ghost use Rattle.std.specs.Prelude.{◌≡◌, ◌+◌, IfOk, IfErr};
 ghost use Rattle.records.specs.Record.{body_len};
 ghost use Rattle.records.specs.Stream.{BeginsWith, IsHeaderOf, RefusesStart, RefusesToClassify};
 

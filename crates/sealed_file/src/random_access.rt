@@ -1,6 +1,6 @@
 //! Opening one chunk of a sealed file without the others.
 
-ghost use Rattle.std.specs.Prelude.{ℕ, List, ◌≡◌, ◌+◌, ◌-◌, ◌^◌, ◌<◌, ◌≤◌, ◌↔◌, ◌++◌, length, vec_capacity, vec_len, take, IsOk, IsSome, IfErr, IfSome, OnOk, OnErr};
+ghost use Rattle.std.specs.Prelude.{ℕ, List, ◌≡◌, ◌+◌, ◌-◌, ◌<◌, ◌≤◌, ◌↔◌, ◌++◌, length, vec_capacity, vec_len, take, IsOk, IsSome, IfErr, OnOk, OnErr};
 ghost use Rattle.sealed_file.specs.Format.{Secret, sealed_chunk_len, secret};
 ghost use Rattle.sealed_file.specs.Opening.{HasHeader, HasTag, IsSealed, IsSealedLen, header_of, key_of, opened_chunk, opened_file};
 ghost use Rattle.sealed_file.specs.Refusals.{ChunkAtRefuses, FailsInMemory};

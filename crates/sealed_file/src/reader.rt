@@ -1,8 +1,8 @@
 //! Reading a sealed file at any position.
 
-ghost use Rattle.std.specs.Prelude.{ℕ, List, ◌≡◌, ◌+◌, ◌-◌, ◌*◌, ◌/◌, ◌%◌, ◌^◌, ◌<◌, ◌≤◌, ◌⊎◌, ◌↔◌, ◌==◌, ⊤, length, vec_capacity, min, take, drop, IsOk, IsSome, IfOk, IfSome, IfErr, OnOk, OnErr};
+ghost use Rattle.std.specs.Prelude.{◌≡◌, ◌+◌, ◌-◌, ◌*◌, ◌/◌, ◌%◌, ◌^◌, ◌<◌, ◌≤◌, ◌⊎◌, ◌↔◌, ◌==◌, ⊤, length, vec_capacity, min, take, drop, IsOk, IsSome, IfOk, IfSome, IfErr, OnOk, OnErr};
 ghost use Rattle.sealed_file.specs.Format.{chunk_len, last_piece, sealed_chunk_len, secret};
-ghost use Rattle.sealed_file.specs.Opening.{HasHeader, HasTag, HasTagUnder, IsSealedLen, chunk_of, header_of, key_of, last_chunk, opened_chunk, opened_file, plaintext_under};
+ghost use Rattle.sealed_file.specs.Opening.{HasHeader, HasTag, HasTagUnder, IsSealedLen, header_of, key_of, last_chunk, opened_chunk, opened_file, plaintext_under};
 ghost use Rattle.sealed_file.specs.Reader.{EndsAt, IsMessageOf, IsReadable, LengthRefuses, ReaderRefuses, file_from, message_len};
 ghost use Rattle.sealed_file.specs.Refusals.{ChunkRefuses, FailsInMemory, HeaderRefuses, RefusesChunk};
 

@@ -1,5 +1,5 @@
 //! The text of responses. It is written word by word, so that no response is held in memory as a whole.
-ghost use Rattle.std.specs.Prelude.{◌≡◌, ◌≤◌, ◌++◌, length, take, codes, IfOk, OnOk, OnErr, if◌then◌else◌};
+ghost use Rattle.std.specs.Prelude.{◌≤◌, ◌++◌, length, take, codes, IfOk, OnOk, OnErr, if◌then◌else◌};
 ghost use Rattle.std.specs.Io.KnownBytes.{Appends};
 ghost use Rattle.std.specs.Result.{ForOk};
 ghost use Rattle.aead_ciphers.specs.Words.{ok_line, word_of_bytes};

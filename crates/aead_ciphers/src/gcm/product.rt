@@ -1,6 +1,6 @@
 //! The product of two blocks (SP 800-38D section 6.3), by a table of the multiples of one of them.
 
-ghost use Rattle.std.specs.Prelude.{◌≡◌, ℕ, ◌+◌, ◌-◌, ◌*◌, ◌/◌, ◌%◌, ◌^◌, ◌<◌, ◌≤◌, ◌==◌, if◌then◌else◌, List, [], ◌∷◌, bit_xor, slice_index};
+ghost use Rattle.std.specs.Prelude.{◌≡◌, ℕ, ◌+◌, ◌-◌, ◌*◌, ◌/◌, ◌%◌, ◌^◌, ◌<◌, ◌≤◌, ◌==◌, if◌then◌else◌, [], ◌∷◌, bit_xor, slice_index};
 ghost use Rattle.std.specs.Int.{to_be_bytes, w128};
 ghost use Rattle.aead_ciphers.specs.Ghash.{◌•◌};
 ghost use Rattle.aead_ciphers.specs.Multiples.{AreMultiples, entry, number_of_words};

@@ -3,7 +3,7 @@
 ghost use Rattle.std.specs.Prelude.{◌≡◌, ◌<◌, ◌/◌, ℕ, List, map, bit_xor};
 ghost use Rattle.aead_ciphers_base.specs.Aes.{add_round_key, mix_columns, shift_rows};
 ghost use Rattle.aead_ciphers_base.specs.ByteField.{mul8};
-ghost use Rattle.aead_ciphers_base.specs.Planes.{plane_byte, block_at, below, shifted_from, HoldsRound, MovesBytes};
+ghost use Rattle.aead_ciphers_base.specs.Planes.{plane_byte, block_at, below, HoldsRound, MovesBytes};
 
 use super::plane::Plane;
 

@@ -2,7 +2,7 @@
 //! mode when they wrap.
 
 ghost use Rattle.std.specs.Prelude.{◌≡◌};
-ghost use Rattle.aead_ciphers_base.specs.ByteField.{mul8, inv, affine, sbox};
+ghost use Rattle.aead_ciphers_base.specs.ByteField.{mul8, inv, sbox};
 
 use crate::tests::checks::{equal, same};
 use aead_ciphers_base::aes::{

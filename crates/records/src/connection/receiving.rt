@@ -1,6 +1,6 @@
 //! What an end receives, one record after another.
 
-ghost use Rattle.std.specs.Prelude.{◌≡◌, ◌≢◌, ◌||◌, ◌==◌, ◌≤◌, ◌<◌, List, ℕ, [], length, take, drop, map, slice_range, slice_index, false, IsFalse, IfOk, IfErr, IfSome, IsErrOf, OnOk, OnErr, None, cond, vec_len, vec_capacity};
+ghost use Rattle.std.specs.Prelude.{◌≡◌, ◌≢◌, ◌||◌, ◌==◌, ◌≤◌, ◌<◌, [], length, drop, map, slice_range, slice_index, false, IsFalse, IfOk, IfErr, IfSome, OnOk, OnErr, None, cond, vec_capacity};
 ghost use Rattle.records.specs.Connection.{Brings, Fails, FailsToBring, LeavesRecord, Rejects, Step, handling, receiving};
 ghost use Rattle.records.specs.Handling.{HandlesAll, RejectsMessages, after_message, is_key_update};
 ghost use Rattle.records.specs.Keys.{IsOfSecret, next_reader};

@@ -1,6 +1,6 @@
 //! Views of a slice as whole blocks, for reading.
 
-ghost use Rattle.std.specs.Prelude.{◌≡◌, ⊤, ℕ, ◌*◌, ◌/◌, ◌%◌, ◌<◌, ◌↔◌, [], ◌∷◌, IfSome, IsTrue, drop, length, slice_index_or, take};
+ghost use Rattle.std.specs.Prelude.{◌≡◌, ⊤, ◌*◌, ◌/◌, ◌%◌, ◌<◌, ◌↔◌, [], ◌∷◌, IfSome, IsTrue, drop, length, slice_index_or, take};
 ghost use Rattle.std.specs.Iterator.{UpTo, YieldsFirstRef, at_most, item_count};
 ghost use Rattle.std.specs.Iterator.SizeHint.{IsWithinCount};
 ghost use Rattle.aead_ciphers_base.specs.Blocks.{blocks, joined};

@@ -20,8 +20,11 @@ into_unwritten_output_spec 𝓤 𝓛 𝓜 𝓡 wired X n L fits =
     let (κs, qs, bounds, a, passed) = y.0 in let Ts = Names.types_at T.signature.params κs in let x = a.0 in
     let ℓ = Names.named_lft 3 0 tt κs in
     let typed = ((Proofs.Array.TheLaws.the_row_laws ℓ R K (Buffer.param_laws 0 X L) refl).lawful 𝓛).typed in
-    let words : Buffer.Words Ts passed = (Buffer.one (Names.layout (Contract.Array.the_row ℓ R K)) passed.0 (typed x passed.0
-    are.0), tt) in
+    let words : Buffer.Words Ts passed = (
+      Buffer.one (Names.layout (Contract.Array.the_row ℓ R K)) passed.0 (typed x passed.0
+          are.0),
+      tt,
+    ) in
     let vals = Buffer.words_vals Ts passed words in
     let S = Names.MutSlice (named 0) κs.0 R in let Out = Names.MutRef (named 0) κs.0 (ArrayAt R K) in Buffer.at_words words (
     -- [three tokens; self; the premise]

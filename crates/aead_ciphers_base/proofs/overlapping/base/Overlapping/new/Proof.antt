@@ -35,8 +35,10 @@ new_spec 𝓤 𝓛 𝓜 𝓡 wired X L =
     let Post = Walk.post at_end in Buffer.at_words words (
     -- [two tokens; the slice; the range; the premise]
     move ! (4 ∷ []) $ Names.drop ! $ Names.alloc_all ! (λ l. Names.pass_all ! refl (Buffer.words_typed Ts passed words) $
-    sets ! (Names.of_opd ! (Names.get_in ! (Names.fld ! refl (Names.stop !)) (Names.sub ! 0 refl (Names.whole !)))) refl (tt,
-    number) $
+    sets ! (Names.of_opd ! (Names.get_in ! (Names.fld ! refl (Names.stop !)) (Names.sub ! 0 refl (Names.whole !)))) refl (
+      tt,
+      number,
+    ) $
     sets ! (Names.of_opd ! (Names.get_in ! (Names.fld ! refl (Names.stop !)) (Names.sub ! 1 refl (Names.whole !))))
     refl (tt, record { fits = long-fits }) $
     sets ! (Names.bin ! (get ! refl) (get ! refl) tt) refl (tt, tt) $ Names.first ! $ Names.branches ! (get ! refl)

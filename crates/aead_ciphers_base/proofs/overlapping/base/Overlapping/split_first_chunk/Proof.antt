@@ -25,9 +25,13 @@ split_first_chunk_spec 𝓤 𝓛 𝓜 𝓡 wired X Y Z LX LY LZ chunk d₁ once 
     let T = Contract.Overlapping.split_first_chunk.ended X Y Z chunk d₁ once d₂ d₃ d₄ in
     let hs = Buffer.dropped T.signature.params T.kept in
     let c = Contract.Overlapping.split_first_chunk.clauses X Y Z chunk d₁ once d₂ d₃ d₄ 𝓛 𝓜.mem 𝓡.returns in
-    Buffer.walked 𝓛 T hs c 𝓜 𝓡
-    ((λ κs x f vs fits. Buffer.gone 𝓛), (Names.Goes-dropped 𝓛 4 (Names.plain (λ _. Names.param 2 Z)) Names.no (λ κs x f. refl),
-    tt))
+    Buffer.walked 𝓛 T hs c 𝓜 𝓡 (
+      (λ κs x f vs fits. Buffer.gone 𝓛),
+      (
+        Names.Goes-dropped 𝓛 4 (Names.plain (λ _. Names.param 2 Z)) Names.no (λ κs x f. refl),
+        tt,
+      ),
+    )
     _ _ (Proofs.split_first_chunk.Code.unfolded 𝓤 𝓛.H 𝓜 𝓡 wired (X, (Y, (Z, tt))) d₁ d₂ d₃ d₄) (λ y are.
     let (κs, qs, bounds, a, passed) = y.0 in let Ts = Names.types_at T.signature.params κs in let b = a.0 in
     let f = a.1.0 in let xs = b.in_out.now in

@@ -48,8 +48,10 @@ new_spec 𝓤 𝓛 𝓜 𝓡 wired X n L fits =
     (tt, record { fits = is.1.0 }) $
     sets ! (Names.bin ! (get ! refl) (get ! refl) b.within) refl (tt, record { fits = m-fits }) $
     sets ! (Names.bin ! (Names.num_lit ! fits) (get ! refl) tt) refl (tt, tt) $ Names.first ! $ Names.branches ! (get ! refl)
-    (λ long. Buffer.premise ! $ Buffer.owned ! usize (Is usize) (Buffer.uint_Makes 𝓛 w64) m (Names.vint w64 m ∷ []) (refl,
-    m-fits) $
+    (λ long. Buffer.premise ! $ Buffer.owned ! usize (Is usize) (Buffer.uint_Makes 𝓛 w64) m (Names.vint w64 m ∷ []) (
+      refl,
+      m-fits,
+    ) $
     Buffer.consults 𝓛 Contract.too_long.ended (Contract.too_long.clauses 𝓛 𝓜.mem 𝓡.returns) ! (Buffer.table_of 𝓛 𝓜 𝓡)
     (Proofs.too_long.Met.met 𝓤 𝓛 𝓜 𝓡
     (Proofs.PartialBlock.new.Code.calls-aead_ciphers_base::overlapping::partial_block::too_long 𝓡.env wired))
