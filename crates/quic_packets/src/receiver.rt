@@ -313,10 +313,10 @@ impl Receiver {
             × ¬ IsErrOf result ReceiveError.NoSample × ¬ IsErrOf result ReceiveError.OtherVersion }
     {
         match self.open(space.largest(), packet, number_at, start) {
-            Ok((first, received)) => match self.admit(space, first, &received) {
-                Ok(()) => Ok(received),
-                Err(error) => Err(error),
-            },
+            Ok((first, received)) => {
+                self.admit(space, first, &received)?;
+                Ok(received)
+            }
             Err(error) => {
                 failures.note(error);
                 Err(error)
