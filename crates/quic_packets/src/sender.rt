@@ -61,16 +61,26 @@ pub struct Sender {
     version: Version,
     key: PacketKey,
     header_key: HeaderKey,
+    /// The secret of `key`. `None` if the sender is made of keys.
     secret: Option<QuicSecret>,
+    /// The number of the next packet.
     next: u64,
     largest_acknowledged: Option<u64>,
     skipped: Skipped,
+    /// The Key Phase bit of `key`.
     phase: bool,
+    /// The number of packets that `key` has sealed.
     sealed: u64,
+    /// The number of packets that each key may seal.
     limit: u64,
+    /// The lowest number whose acknowledgment allows the next key update: `first_of_phase`, or the end of a range of skipped
+    /// numbers that was forgotten in this phase, if that is higher.
     first: u64,
+    /// The next number when this phase began.
     first_of_phase: u64,
+    /// Whether a packet of this phase is acknowledged, or it is the first phase.
     is_acknowledged: bool,
+    /// Whether the handshake is confirmed.
     is_confirmed: bool,
 }
 
