@@ -100,10 +100,10 @@ impl PacketKey {
             return Err(SendError::TooLong);
         }
         let nonce = self.nonce(number).ok_or(SendError::NumbersEnded)?;
-        match self.key.seal_packet_in_place(nonce, packet, header_len) {
-            Ok(()) => Ok(()),
-            Err(_) => unreachable!(),
-        }
+        let Ok(()) = self.key.seal_packet_in_place(nonce, packet, header_len) else {
+            unreachable!();
+        };
+        Ok(())
     }
 
     /// Like `seal` for a payload apart from its header, and returns the tag.
@@ -129,13 +129,13 @@ impl PacketKey {
             return Err(SendError::TooLong);
         }
         let nonce = self.nonce(number).ok_or(SendError::NumbersEnded)?;
-        match self
+        let Ok(tag) = self
             .key
             .seal_in_place_separate_tag(nonce, Aad::from(header), payload)
-        {
-            Ok(tag) => Ok(tag),
-            Err(_) => unreachable!(),
-        }
+        else {
+            unreachable!();
+        };
+        Ok(tag)
     }
 
     /// Like `seal` from one buffer to another: writes the ciphertext and its tag to `out`, which has 16 bytes more than the
@@ -337,13 +337,9 @@ impl PacketKey {
         }
         let nonce = self.nonce(number).ok_or(ReceiveError::NumbersEnded)?;
         let tag = Tag::from(*tag);
-        match self
-            .key
+        self.key
             .open_to(nonce, Aad::from(header), tag, ciphertext, out)
-        {
-            Ok(()) => Ok(()),
-            Err(_) => Err(ReceiveError::Refused),
-        }
+            .map_err(|_| ReceiveError::Refused)
     }
 
     /// The nonce of a packet (RFC 9001 section 5.3), or `None` if its number is 2^62 or more.

@@ -548,9 +548,7 @@ fn place_of_number(parts: &Packet, len: usize, version: Version) -> Result<usize
     if is_other_version(version, parts.version) {
         return Err(ReceiveError::OtherVersion);
     }
-    let Some(number_at) = parts.number_at else {
-        return Err(ReceiveError::NoNumber);
-    };
+    let number_at = parts.number_at.ok_or(ReceiveError::NoNumber)?;
     if number_at <= parts.start {
         return Err(ReceiveError::NumberAtFirstByte);
     }

@@ -663,9 +663,7 @@ impl Sender {
         if self.next >= NUMBERS_END {
             return Err(SendError::NumbersEnded);
         }
-        let Some(least) = self.next_number_len() else {
-            return Err(SendError::NumberTooFar);
-        };
+        let least = self.next_number_len().ok_or(SendError::NumberTooFar)?;
         if header_len < number_at {
             return Err(SendError::NumberLength);
         }
@@ -714,9 +712,7 @@ fn check_packet(
         × ¬ IsErrOf result SendError.NumberTooFar × ¬ IsErrOf result SendError.NumberLength
         × ¬ IsErrOf result SendError.NoKeys }
 {
-    let Some(payload_len) = payload_len(packet, header_len) else {
-        return Err(SendError::TooShort);
-    };
+    let payload_len = payload_len(packet, header_len).ok_or(SendError::TooShort)?;
     if !fits(header_len, payload_len) {
         return Err(SendError::TooLong);
     }
