@@ -326,9 +326,9 @@ impl PacketKey {
             (xored_nonce self.now.iv number) (take (length out.old) sealed.now)) }
         ensures kept { OnErr result (out.new ≡ out.old) }
     {
-        let Some((ciphertext, tag)) = sealed.split_last_chunk::<MAX_TAG_LEN>() else {
-            return Err(ReceiveError::OutputLength);
-        };
+        let (ciphertext, tag) = sealed
+            .split_last_chunk::<MAX_TAG_LEN>()
+            .ok_or(ReceiveError::OutputLength)?;
         if out.len() != ciphertext.len() {
             return Err(ReceiveError::OutputLength);
         }
