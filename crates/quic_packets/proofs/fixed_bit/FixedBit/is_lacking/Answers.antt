@@ -4,7 +4,7 @@ use Rattle.std.proofs.lemmas.Nat.Bits.{and_pow}
 use Rattle.std.specs.Int.{bit_at}
 use Rattle.quic_packets.proofs.fixed_bit.FixedBit.is_lacking.Goals as goal
 
--- the bit of the mask is 0 in the byte
+-- whether the fixed bit is 0, by its mask and by its place
 same_test : (first : ℕ) → (bit_and first 0x40 == 0) ≡ (first / 2 ^ 6 % 2 == 0)
 same_test first =
     let bit : bit_and first 0x40 ≡ bit_at first 6 * 0x40 = and_pow first 6 in
