@@ -277,9 +277,7 @@ fn initial_packet(datagram: &[u8], opaque: Packet) -> Result<Packet, DatagramErr
     ensures { result ≡ whole datagram.now
         (numbered_layout datagram.now opaque.start Initial (initial_token datagram.now opaque.start)) }
 {
-    let Some((len, at)) = varint(datagram, opaque.source_id.end) else {
-        return Err(DatagramError::Cut);
-    };
+    let (len, at) = varint(datagram, opaque.source_id.end).ok_or(DatagramError::Cut)?;
     if datagram.len() - at < len {
         return Err(DatagramError::Cut);
     }
@@ -298,9 +296,7 @@ fn numbered_packet(
     requires token { token.end ≤ length datagram.now }
     ensures { result ≡ whole datagram.now (numbered_layout datagram.now opaque.start packet_type token) }
 {
-    let Some((len, number_at)) = varint(datagram, token.end) else {
-        return Err(DatagramError::Cut);
-    };
+    let (len, number_at) = varint(datagram, token.end).ok_or(DatagramError::Cut)?;
     if datagram.len() - number_at < len {
         return Err(DatagramError::Cut);
     }

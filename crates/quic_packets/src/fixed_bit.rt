@@ -24,7 +24,7 @@ impl FixedBit {
         ensures { result ≡ lacks_fixed_bit self version first }
     {
         match self {
-            FixedBit::Required => has_fixed_bit(version) && first / FIXED_BIT % 2 == 0,
+            FixedBit::Required => has_fixed_bit(version) && first & FIXED_BIT == 0,
             FixedBit::Greased => false,
         }
     }

@@ -82,7 +82,7 @@ impl HeaderKey {
         ensures number_kept { OnErr result (number.new ≡ number.old) }
     {
         let mask = self.mask(sample, number)?;
-        let number_len = number_len(*first);
+        let number_len = number_len_in(*first);
         *first ^= first_mask(*first, mask[0]);
         mask_number(number, number_len, &mask);
         Ok(())
@@ -111,7 +111,7 @@ impl HeaderKey {
     {
         let mask = self.mask(sample, number)?;
         *first ^= first_mask(*first, mask[0]);
-        mask_number(number, number_len(*first), &mask);
+        mask_number(number, number_len_in(*first), &mask);
         Ok(())
     }
 
@@ -165,7 +165,7 @@ impl HeaderKey {
             Err(_) => unreachable!(),
         }
         packet[0] = first;
-        Ok(number_len(first))
+        Ok(number_len_in(first))
     }
 
     /// The mask for a sample, with a packet number that is not too long.
@@ -251,8 +251,8 @@ pub(crate) fn write_back(packet: &mut [u8], number_at: usize, bytes: &[u8; 5])
     }
 }
 
-/// The length of the packet number in bytes, from the unmasked first byte.
-pub(crate) fn number_len(first: u8) -> usize
+/// The packet number's length in bytes, by the lowest bits of the unmasked first byte.
+fn number_len_in(first: u8) -> usize
     ensures is { result ≡ number_len first }
     ensures few { (0 < result) × (result ≤ 4) }
 {

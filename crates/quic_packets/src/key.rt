@@ -95,19 +95,15 @@ impl PacketKey {
             ≡ sealed_packet self.now.bytes (xored_nonce self.now.iv number) header_len packet.old) }
         ensures kept { OnErr result (packet.new ≡ packet.old) }
     {
-        let Some(payload_len) = payload_len(packet, header_len) else {
-            return Err(SendError::TooShort);
-        };
+        let payload_len = payload_len(packet, header_len).ok_or(SendError::TooShort)?;
         if !fits(header_len, payload_len) {
             return Err(SendError::TooLong);
         }
-        let Some(nonce) = self.nonce(number) else {
-            return Err(SendError::NumbersEnded);
+        let nonce = self.nonce(number).ok_or(SendError::NumbersEnded)?;
+        let Ok(()) = self.key.seal_packet_in_place(nonce, packet, header_len) else {
+            unreachable!();
         };
-        match self.key.seal_packet_in_place(nonce, packet, header_len) {
-            Ok(()) => Ok(()),
-            Err(_) => unreachable!(),
-        }
+        Ok(())
     }
 
     /// Like `seal` for a payload apart from its header, and returns the tag.
@@ -132,16 +128,14 @@ impl PacketKey {
         if !fits(header.len(), payload.len()) {
             return Err(SendError::TooLong);
         }
-        let Some(nonce) = self.nonce(number) else {
-            return Err(SendError::NumbersEnded);
-        };
-        match self
+        let nonce = self.nonce(number).ok_or(SendError::NumbersEnded)?;
+        let Ok(tag) = self
             .key
             .seal_in_place_separate_tag(nonce, Aad::from(header), payload)
-        {
-            Ok(tag) => Ok(tag),
-            Err(_) => unreachable!(),
-        }
+        else {
+            unreachable!();
+        };
+        Ok(tag)
     }
 
     /// Like `seal` from one buffer to another: writes the ciphertext and its tag to `out`, which has 16 bytes more than the
@@ -173,9 +167,7 @@ impl PacketKey {
         if !fits(header.len(), payload.len()) {
             return Err(SendError::TooLong);
         }
-        let Some(nonce) = self.nonce(number) else {
-            return Err(SendError::NumbersEnded);
-        };
+        let nonce = self.nonce(number).ok_or(SendError::NumbersEnded)?;
         let (ciphertext, tag) = out.split_at_mut(payload.len());
         ciphertext.copy_from_slice(payload);
         let Ok(made) = self
@@ -218,15 +210,11 @@ impl PacketKey {
         ensures payload_len { IfOk result (λ n. n ≡ length packet.old - 16 - header_len) }
         ensures kept { OnErr result (packet.new ≡ packet.old) }
     {
-        let Some(payload_len) = payload_len(packet, header_len) else {
-            return Err(ReceiveError::TooShort);
-        };
+        let payload_len = payload_len(packet, header_len).ok_or(ReceiveError::TooShort)?;
         if !fits(header_len, payload_len) {
             return Err(ReceiveError::TooLong);
         }
-        let Some(nonce) = self.nonce(number) else {
-            return Err(ReceiveError::NumbersEnded);
-        };
+        let nonce = self.nonce(number).ok_or(ReceiveError::NumbersEnded)?;
         match self
             .key
             .open_packet_in_place_after_header(nonce, packet, header_len)
@@ -266,9 +254,7 @@ impl PacketKey {
         if !fits(header.len(), payload_len) {
             return Err(ReceiveError::TooLong);
         }
-        let Some(nonce) = self.nonce(number) else {
-            return Err(ReceiveError::NumbersEnded);
-        };
+        let nonce = self.nonce(number).ok_or(ReceiveError::NumbersEnded)?;
         match self
             .key
             .open_within_to_front(nonce, Aad::from(header), payload, 0..)
@@ -303,9 +289,7 @@ impl PacketKey {
         if !fits(header.len(), payload.len()) {
             return Err(ReceiveError::TooLong);
         }
-        let Some(nonce) = self.nonce(number) else {
-            return Err(ReceiveError::NumbersEnded);
-        };
+        let nonce = self.nonce(number).ok_or(ReceiveError::NumbersEnded)?;
         match self
             .key
             .open_in_place_separate_tag_to_front(nonce, Aad::from(header), tag, payload, 0..)
@@ -342,26 +326,20 @@ impl PacketKey {
             (xored_nonce self.now.iv number) (take (length out.old) sealed.now)) }
         ensures kept { OnErr result (out.new ≡ out.old) }
     {
-        let Some((ciphertext, tag)) = sealed.split_last_chunk::<MAX_TAG_LEN>() else {
-            return Err(ReceiveError::OutputLength);
-        };
+        let (ciphertext, tag) = sealed
+            .split_last_chunk::<MAX_TAG_LEN>()
+            .ok_or(ReceiveError::OutputLength)?;
         if out.len() != ciphertext.len() {
             return Err(ReceiveError::OutputLength);
         }
         if !fits(header.len(), out.len()) {
             return Err(ReceiveError::TooLong);
         }
-        let Some(nonce) = self.nonce(number) else {
-            return Err(ReceiveError::NumbersEnded);
-        };
+        let nonce = self.nonce(number).ok_or(ReceiveError::NumbersEnded)?;
         let tag = Tag::from(*tag);
-        match self
-            .key
+        self.key
             .open_to(nonce, Aad::from(header), tag, ciphertext, out)
-        {
-            Ok(()) => Ok(()),
-            Err(_) => Err(ReceiveError::Refused),
-        }
+            .map_err(|_| ReceiveError::Refused)
     }
 
     /// The nonce of a packet (RFC 9001 section 5.3), or `None` if its number is 2^62 or more.

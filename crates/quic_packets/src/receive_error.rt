@@ -34,7 +34,7 @@ pub enum ReceiveError {
     /// The packet has a long header of another version than the receiver's.
     #[error("the packet has another version")]
     OtherVersion,
-    /// Packet numbers end at 2^62 (RFC 9000 section 12.3).
+    /// The packet number is not below 2^62, where packet numbers end (RFC 9000 section 12.3).
     #[error("the packet number is not below 2^62")]
     NumbersEnded,
     /// The output does not have the length of the result.

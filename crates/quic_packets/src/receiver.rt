@@ -65,14 +65,23 @@ pub struct Received {
 pub struct Receiver {
     version: Version,
     header: HeaderKey,
+    /// The secret of `next` or, if that is not set, of `current`. `None` if the receiver is made of keys.
     secret: Option<QuicSecret>,
+    /// The key of the current phase.
     current: PacketKey,
+    /// The key of the next phase, if it is set.
     next: Option<PacketKey>,
+    /// The key of the previous phase, if there was one and it is not forgotten.
     previous: Option<PacketKey>,
+    /// The Key Phase bit of `current`.
     phase: bool,
+    /// The lowest number that `current` opened, or 0 in the first phase.
     lowest: u64,
+    /// The highest number that `current` opened, or 0 if there is none.
     highest: u64,
+    /// The highest number that the key of the previous phase opened, or 0 if there is none.
     highest_previous: u64,
+    /// The highest number that was opened under the keys before that one, or 0 if there is none.
     highest_earlier: u64,
 }
 
@@ -148,9 +157,11 @@ impl Receiver {
     /// Sets the key of the next phase, unless it is set: that of the next secret (RFC 9001 section 6.1). It becomes the current
     /// key when it first opens a packet. The header key is unchanged (section 6).
     ///
-    /// A peer may initiate an update only after a packet of the current phase is acknowledged (section 6.1); an update that
-    /// answers this endpoint's own needs none. So set the next key once such an acknowledgment is sent, or once this endpoint
-    /// initiates an update. Until then, a packet of the next phase is rejected as a forged one is.
+    /// A peer may initiate the first key update once the handshake is confirmed, and each later one once it has received an
+    /// acknowledgment of a packet of the current phase (section 6.1). A peer that answers a key update of this endpoint need not
+    /// wait for such an acknowledgment (section 6.2). So call this when a receiver of 1-RTT packets is created, when such an
+    /// acknowledgment is sent, and when this endpoint initiates a key update. Until then, a packet of the next phase is rejected
+    /// as a forged one is.
     ///
     /// Fails with `NoSecret` if the receiver is not made of a secret. The receiver is then unchanged.
     pub fn set_next(&mut self) -> Result<(), KeyError>
@@ -170,7 +181,8 @@ impl Receiver {
         Ok(())
     }
 
-    /// Sets the key and the IV of the next phase to those of the caller's, at the time that `set_next` names.
+    /// Sets the key and the IV of the next phase to the caller's, at the times that `set_next` names. It replaces a next key that
+    /// is already set, whereas `set_next` keeps it.
     ///
     /// Fails with `KeysDerived` if the receiver is made of a secret, and with `KeyLength` if `key` is not as long as the suite's
     /// keys. The receiver is then unchanged.
@@ -207,8 +219,9 @@ impl Receiver {
         self.phase
     }
 
-    /// Drops the key of the previous phase, so that late packets of it are rejected (RFC 9001 section 6.5). The highest number
-    /// that it opened stays: a packet of the current phase with a lower number is still answered with `KeyUpdate`.
+    /// Drops the key of the previous phase (RFC 9001 section 6.5). Afterwards, a packet of that phase that arrives late fails
+    /// with `Refused`, and is counted as a packet that failed authentication (section 6.6). The highest number that the key
+    /// opened stays: a packet of the current phase with a lower number still fails with `KeyUpdate`.
     pub fn forget_previous(&mut self)
         ensures { self.new ≡ record self.old { previous = None } }
     {
@@ -313,10 +326,10 @@ impl Receiver {
             × ¬ IsErrOf result ReceiveError.NoSample × ¬ IsErrOf result ReceiveError.OtherVersion }
     {
         match self.open(space.largest(), packet, number_at, start) {
-            Ok((first, received)) => match self.admit(space, first, &received) {
-                Ok(()) => Ok(received),
-                Err(error) => Err(error),
-            },
+            Ok((first, received)) => {
+                self.admit(space, first, &received)?;
+                Ok(received)
+            }
             Err(error) => {
                 failures.note(error);
                 Err(error)
@@ -535,9 +548,7 @@ fn place_of_number(parts: &Packet, len: usize, version: Version) -> Result<usize
     if is_other_version(version, parts.version) {
         return Err(ReceiveError::OtherVersion);
     }
-    let Some(number_at) = parts.number_at else {
-        return Err(ReceiveError::NoNumber);
-    };
+    let number_at = parts.number_at.ok_or(ReceiveError::NoNumber)?;
     if number_at <= parts.start {
         return Err(ReceiveError::NumberAtFirstByte);
     }

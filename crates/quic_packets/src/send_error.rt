@@ -41,7 +41,8 @@ pub enum SendError {
     /// The packet to be sent has no payload, where a payload has at least one frame (RFC 9000 section 12.4).
     #[error("the packet has no payload")]
     EmptyPayload,
-    /// Packet numbers end at 2^62, and no packet may be sent after that (RFC 9000 section 12.3).
+    /// The packet number is not below 2^62, where packet numbers end: no packet may be sent after the last number (RFC 9000
+    /// section 12.3).
     #[error("the packet number is not below 2^62")]
     NumbersEnded,
     /// The key has sealed as many packets as its limit allows (RFC 9001 section 6.6). A key update follows it. The key cannot seal

@@ -61,16 +61,26 @@ pub struct Sender {
     version: Version,
     key: PacketKey,
     header_key: HeaderKey,
+    /// The secret of `key`. `None` if the sender is made of keys.
     secret: Option<QuicSecret>,
+    /// The number of the next packet.
     next: u64,
     largest_acknowledged: Option<u64>,
     skipped: Skipped,
+    /// The Key Phase bit of `key`.
     phase: bool,
+    /// The number of packets that `key` has sealed.
     sealed: u64,
+    /// The number of packets that each key may seal.
     limit: u64,
+    /// The lowest number whose acknowledgment allows the next key update: `first_of_phase`, or the end of a range of skipped
+    /// numbers that was forgotten in this phase, if that is higher.
     first: u64,
+    /// The next number when this phase began.
     first_of_phase: u64,
+    /// Whether a packet of this phase is acknowledged, or it is the first phase.
     is_acknowledged: bool,
+    /// Whether the handshake is confirmed.
     is_confirmed: bool,
 }
 
@@ -653,9 +663,7 @@ impl Sender {
         if self.next >= NUMBERS_END {
             return Err(SendError::NumbersEnded);
         }
-        let Some(least) = self.next_number_len() else {
-            return Err(SendError::NumberTooFar);
-        };
+        let least = self.next_number_len().ok_or(SendError::NumberTooFar)?;
         if header_len < number_at {
             return Err(SendError::NumberLength);
         }
@@ -704,9 +712,7 @@ fn check_packet(
         × ¬ IsErrOf result SendError.NumberTooFar × ¬ IsErrOf result SendError.NumberLength
         × ¬ IsErrOf result SendError.NoKeys }
 {
-    let Some(payload_len) = payload_len(packet, header_len) else {
-        return Err(SendError::TooShort);
-    };
+    let payload_len = payload_len(packet, header_len).ok_or(SendError::TooShort)?;
     if !fits(header_len, payload_len) {
         return Err(SendError::TooLong);
     }

@@ -16,7 +16,9 @@ const WORD: u64 = u64::BITS as u64;
 /// 0-RTT and 1-RTT packets share one space. Initial and Handshake packets have one each (RFC 9000 section 12.3).
 #[derive(Drop)]
 pub struct Space<const W: usize> {
+    /// The number after the largest that was received, or 0.
     next: u64,
+    /// The bits of the numbers in the window: bit `n % 64` of word `n / 64 % W` is 1 if `n` was received.
     seen: [u64; W],
 }
 
@@ -134,6 +136,7 @@ impl<const W: usize> Space<W> {
 #[derive(Drop)]
 pub struct Ranges<'a, const W: usize> {
     space: &'a Space<W>,
+    /// The ranges that are left lie below this number.
     below: u64,
 }
 

@@ -166,14 +166,10 @@ impl Ends {
         ensures kept { OnErr result ((packet.new ≡ packet.old) × (self.new ≡ self.old)) }
     {
         let kept_back = self.kept_back();
-        match self.send(packet, number, kept_back) {
-            Ok(sent) => {
-                self.renew();
-                self.set_next_key();
-                Ok(sent)
-            }
-            Err(error) => Err(error),
-        }
+        let sent = self.send(packet, number, kept_back)?;
+        self.renew();
+        self.set_next_key();
+        Ok(sent)
     }
 
     /// How many packets of a 1-RTT key are kept for the one that closes the connection.

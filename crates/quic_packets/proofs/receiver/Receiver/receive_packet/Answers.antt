@@ -1,5 +1,6 @@
 use Rattle.std.proofs.Common.{◌≡◌, ◌≢◌, ℕ, ◌<◌, ◌≤◌, ◌↔◌, true, false, List, get_or, Ok, Err, IsErrOf, IsOk, refl, sym, ap, subst, ◌∙◌, arith}
 use Rattle.std.proofs.lemmas.Bool.{false≢true}
+use Rattle.std.proofs.lemmas.Result.{err_from_is_err_and}
 use Rattle.quic_packets.specs.Receiving.{IsAuthentic, IsInTurn, Opening, Outcome, Reads, Receiver, is_of_opened, of_packet, reserved_bits}
 use Rattle.quic_packets.specs.Space.{IsNew, Space}
 use Rattle.quic_packets.specs.declared.receive_error.ReceiveError.{ReceiveError}
@@ -73,17 +74,20 @@ unadmitted T r s start at plain number first o e opened is judged =
       moves_on = tt;
     }
 
-pub returns-in-Err-admit-clause-outcome : goal.returns-in-Err-admit-clause-outcome
-returns-in-Err-admit-clause-outcome g c =
+pub returns-in_err-admit-in-Ok-clause-outcome : goal.returns-in_err-admit-in-Ok-clause-outcome
+returns-in_err-admit-in-Ok-clause-outcome g c =
     let a = c.args in
     let opening = c.in-Ok.ensures.opening c.requires.sample in
-    let it = c.in-Err-admit.ensures in (
+    let e = c.in_err-admit-in-Ok.field-0.0 in
+    let it = c.in_err-admit-in-Ok.ensures in
+    let p = err_from_is_err_and c.from_residual.result c.from_residual.ensures.1 in
+    rw (p.1, p.2) (
       opening.0,
       opening.1,
       subst (λ e. Reads a.self.now.header e a.number_at a.packet.now opening.0 opening.1) c.largest.ensures opening.2,
-      subst (λ r. Outcome a.self.now a.space.now a.start a.number_at opening.0 opening.1 (Err c.in-Err-admit.error) r c.open.new.packet)
+      subst (λ r. Outcome a.self.now a.space.now a.start a.number_at opening.0 opening.1 (Err e) r c.open.new.packet)
           (sym it.kept.0)
-          (unadmitted _ a.self.now a.space.now a.start a.number_at opening.0 opening.1 c.in-Ok.first c.in-Ok.received c.in-Err-admit.error
+          (unadmitted _ a.self.now a.space.now a.start a.number_at opening.0 opening.1 c.in-Ok.first c.in-Ok.received e
           c.open.new.packet opening.3
           (record {
             accepted = it.accepted;
