@@ -439,13 +439,10 @@ impl RecordKey {
         };
         let nonce = nonce_of(&self.iv, number);
         let aad = Aad::from(header.as_slice());
-        match self
-            .key
+        self.key
             .open_to(nonce, aad, tag, ciphertext, &mut out[..len])
-        {
-            Ok(()) => Ok(len),
-            Err(_) => Err(RecordError::Refused),
-        }
+            .map_err(|_| RecordError::Refused)?;
+        Ok(len)
     }
 
     /// Opens the record `bytes[at..end]` into the bytes from `filled` on.
