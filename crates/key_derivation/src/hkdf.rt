@@ -9,6 +9,7 @@ use crate::error::DerivationError;
 use crate::hash::Hash;
 use crate::hmac::{HmacKey, hmac};
 use crate::suite::Suite;
+use aead_ciphers_base::aes::{AES_128_KEY_LEN, AES_256_KEY_LEN};
 use arrayvec::ArrayVec;
 use sha2::Digest;
 use std::convert::AsSlice;
@@ -120,16 +121,16 @@ impl<H: Hash> Expander<H> {
     }
 
     /// Returns the key of a suite by a label, with no context.
-    pub(crate) fn suite_key(&self, label: &[u8], suite: Suite) -> ArrayVec<u8, 32>
+    pub(crate) fn suite_key(&self, label: &[u8], suite: Suite) -> ArrayVec<u8, AES_256_KEY_LEN>
         requires { length label.now ≤ 249 }
         ensures key { (secret : List ℕ) → IsExpander H.function H.holds secret self.now
             → result.items ≡ hkdf_expand_label H.function secret label.now [] (suite_key_len suite) }
         ensures len { length result.items ≡ suite_key_len suite }
     {
-        let mut key = ArrayVec::from([0; 32]);
+        let mut key = ArrayVec::from([0; AES_256_KEY_LEN]);
         key.truncate(match suite {
-            Suite::Aes128Gcm => 16,
-            Suite::Aes256Gcm => 32,
+            Suite::Aes128Gcm => AES_128_KEY_LEN,
+            Suite::Aes256Gcm => AES_256_KEY_LEN,
         });
         self.fill_labeled(label, b"", &mut key);
         key

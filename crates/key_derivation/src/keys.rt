@@ -2,6 +2,7 @@
 
 ghost use Rattle.std.specs.Prelude.{◌≡◌};
 
+use aead_ciphers_base::aes::AES_256_KEY_LEN;
 use arrayvec::ArrayVec;
 use std::fmt;
 use std::marker::Model;
@@ -52,7 +53,7 @@ impl fmt::Debug for RecordKeys {
 /// The 16 or 32 bytes of an AEAD key, which seals or opens payloads: a `quic key`, or a `key` of TLS 1.3.
 #[derive(Drop)]
 pub struct AeadKeyBytes {
-    pub(crate) bytes: ArrayVec<u8, 32>,
+    pub(crate) bytes: ArrayVec<u8, AES_256_KEY_LEN>,
 }
 
 impl Model for AeadKeyBytes {
@@ -85,7 +86,7 @@ impl AeadKeyBytes {
 /// The 16 or 32 bytes of a key that masks headers: a `quic hp`.
 #[derive(Drop)]
 pub struct HeaderKeyBytes {
-    pub(crate) bytes: ArrayVec<u8, 32>,
+    pub(crate) bytes: ArrayVec<u8, AES_256_KEY_LEN>,
 }
 
 impl Model for HeaderKeyBytes {

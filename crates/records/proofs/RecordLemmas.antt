@@ -109,7 +109,7 @@ module _ (key : KeyState) (number : ℕ) (bytes : List ℕ) (at : ℕ) (old new 
 
 -- ---- a record in a buffer
 
-module _ (old : List ℕ) (filled at end : ℕ) (order : (filled ≤ at + 5) × (at ≤ end) × (end ≤ length old)) (key : KeyState) (number : ℕ)
+module _ (old : List ℕ) (filled at end : ℕ) (before : filled ≤ at + 5) (range : (at ≤ end) × (end ≤ length old)) (key : KeyState) (number : ℕ)
     (small : key.size_limit ≤ 2 ^ 14 + 1) (w : IsWhole key.size_limit (take (end - at) (drop at old))) where
   -- the record
   abbrev record_bytes : List ℕ

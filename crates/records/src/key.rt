@@ -64,14 +64,12 @@ impl RecordKey {
         ensures refused { IsOkUnless result RecordError.KeyLength }
         ensures made { IfOk result (λ made. made ≡ new_key algorithm.now key.now iv) }
     {
-        match LessSafeKey::new(algorithm, key) {
-            Ok(key) => Ok(RecordKey {
-                key,
-                iv,
-                size_limit: MAX_SIZE_LIMIT,
-            }),
-            Err(_) => Err(RecordError::KeyLength),
-        }
+        let key = LessSafeKey::new(algorithm, key).map_err(|_| RecordError::KeyLength)?;
+        Ok(RecordKey {
+            key,
+            iv,
+            size_limit: MAX_SIZE_LIMIT,
+        })
     }
 
     /// The key of a traffic secret (RFC 8446 section 7.3).
@@ -441,13 +439,10 @@ impl RecordKey {
         };
         let nonce = nonce_of(&self.iv, number);
         let aad = Aad::from(header.as_slice());
-        match self
-            .key
+        self.key
             .open_to(nonce, aad, tag, ciphertext, &mut out[..len])
-        {
-            Ok(()) => Ok(len),
-            Err(_) => Err(RecordError::Refused),
-        }
+            .map_err(|_| RecordError::Refused)?;
+        Ok(len)
     }
 
     /// Opens the record `bytes[at..end]` into the bytes from `filled` on.
@@ -459,7 +454,8 @@ impl RecordKey {
         at: usize,
         end: usize,
     ) -> Result<(ContentType, usize), RecordError>
-        requires { (filled ≤ at + 5) × (at ≤ end) × (end ≤ length bytes.old) }
+        requires before { filled ≤ at + 5 }
+        requires range { (at ≤ end) × (end ≤ length bytes.old) }
         ensures opens { Opens self.now number (slice_range bytes.old at end)
             (content_at filled bytes.new result) }
         ensures within { IfOk result (λ read. filled + read.1 + 17 ≤ end) }
@@ -484,7 +480,8 @@ impl RecordKey {
         at: usize,
         end: usize,
     ) -> Result<usize, RecordError>
-        requires { (filled ≤ at + 5) × (at ≤ end) × (end ≤ length bytes.old) }
+        requires before { filled ≤ at + 5 }
+        requires range { (at ≤ end) × (end ≤ length bytes.old) }
         ensures opened { IfOk result (OpensMessage
             self.now number (slice_range bytes.old at end) filled bytes.old bytes.new) }
         ensures within { IfOk result (λ n. filled + n + 16 ≤ end) }

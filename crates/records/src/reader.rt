@@ -250,7 +250,8 @@ impl Reader {
         at: usize,
         end: usize,
     ) -> Result<(ContentType, usize), RecordError>
-        requires { (filled ≤ at + 5) × (at ≤ end) × (end ≤ length bytes.old) }
+        requires before { filled ≤ at + 5 }
+        requires range { (at ≤ end) × (end ≤ length bytes.old) }
         ensures reads { Reads self.old self.new (slice_range bytes.old at end)
             (content_at filled bytes.new result) }
         ensures within { IfOk result (λ read. filled + read.1 + 17 ≤ end) }

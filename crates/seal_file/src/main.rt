@@ -47,10 +47,8 @@ fn main(rt: HostRuntime) -> ExitCode {
 
 /// The request on the command line.
 fn request_of(rt: &HostRuntime) -> Result<Request, Failure> {
-    match options::all_words(rt) {
-        Ok(words) => Request::of_words(rt.alloc(), words),
-        Err(error) => Err(Failure::Io(Place::Console, error)),
-    }
+    let words = at(Place::Console, options::all_words(rt))?;
+    Request::of_words(rt.alloc(), words)
 }
 
 /// Writes to standard error why the program ends early, and returns its exit status.
@@ -89,10 +87,7 @@ fn run(rt: &HostRuntime, request: &Request) -> Result<(), Failure> {
 
 /// The outcome of a call, along with the place where it failed.
 fn at<T>(place: Place, outcome: io::Result<T>) -> Result<T, Failure> {
-    match outcome {
-        Ok(value) => Ok(value),
-        Err(error) => Err(Failure::Io(place, error)),
-    }
+    outcome.map_err(|error| Failure::Io(place, error))
 }
 
 /// Creates a key in a new file, or writes it to standard output if that is no terminal.
@@ -316,10 +311,7 @@ impl<'r, 'a> Job<'r, 'a> {
             }
         };
         source.end();
-        match passed {
-            Ok(()) => Ok(()),
-            Err(error) => Err(of_passing(error, source.has_failed())),
-        }
+        passed.map_err(|error| of_passing(error, source.has_failed()))
     }
 
     /// Seals the bytes of `input`, with the iterations that passphrases have.
@@ -472,8 +464,6 @@ fn read_key(rt: &HostRuntime, key_file: &KeyFile) -> Result<(FileKey, Option<Met
     let name = key_file.name.as_ref();
     let (bytes, metadata) = at(Place::KeyFile, read_front(rt, name, KEY_LEN + 1))?;
     warn_of_others(rt, name, metadata.as_ref(), "key");
-    match FileKey::new(&bytes) {
-        Ok(key) => Ok((key, metadata)),
-        Err(_) => Err(Failure::KeyLength),
-    }
+    let key = FileKey::new(&bytes).map_err(|_| Failure::KeyLength)?;
+    Ok((key, metadata))
 }

@@ -188,10 +188,9 @@ fn word(rt: &HostRuntime, i: usize) -> io::Result<Option<Name>> {
 
 /// The number that a word is.
 fn number_in(word: &Name) -> Result<u64, Failure> {
-    let number = match str::from_utf8(word.as_bytes()) {
-        Ok(text) => text.parse::<u64>().ok(),
-        Err(_) => None,
-    };
+    let number = str::from_utf8(word.as_bytes())
+        .ok()
+        .and_then(|text| text.parse::<u64>().ok());
     number.ok_or(Failure::Use(anyhow!("--range takes two numbers: {word} is none")))
 }
 

@@ -165,10 +165,10 @@ impl NewFile {
             self.discard(rt);
             return Err(failure);
         }
-        match self.synced(rt) {
-            Ok(synced) => synced.name_as(rt, target, has_force)?,
-            Err(error) => return Err(Failure::Io(Place::Output, error)),
-        }
+        let synced = self
+            .synced(rt)
+            .map_err(|error| Failure::Io(Place::Output, error))?;
+        synced.name_as(rt, target, has_force)?;
         files::sync_folder_of(rt, target).map_err(Failure::NotSynced)
     }
 

@@ -232,10 +232,8 @@ fn cipher_in(
         return Err(FileError::EndsEarly);
     };
     let cipher = ChunkCipher::new(version, key, aad, &random_in(header));
-    match bb::verify_slices_are_equal(header, cipher.header()) {
-        Ok(()) => Ok(cipher),
-        Err(_) => Err(FileError::WrongKey),
-    }
+    bb::verify_slices_are_equal(header, cipher.header()).map_err(|_| FileError::WrongKey)?;
+    Ok(cipher)
 }
 
 /// The key of the chunks of a file that begins with these bytes, if it has this version. `aad` is the AAD after the header.

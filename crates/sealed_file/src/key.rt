@@ -36,10 +36,8 @@ impl FileKey {
         ensures made { IfOk result (λ key. key ≡ bytes.now) }
         ensures refused { IfErr result (λ error. error ≡ FileError.KeyLength) }
     {
-        match bytes.as_array::<AES_256_KEY_LEN>() {
-            Some(bytes) => Ok(FileKey { bytes: *bytes }),
-            None => Err(FileError::KeyLength),
-        }
+        let bytes = bytes.as_array().ok_or(FileError::KeyLength)?;
+        Ok(FileKey { bytes: *bytes })
     }
 
     /// CMAC under this key, which derives the keys of files.

@@ -98,7 +98,8 @@ impl Reader {
         at: usize,
         end: usize,
     ) -> Result<Option<(ContentType, usize)>, RecordError>
-        requires { (filled ≤ at + 5) × (at ≤ end) × (end ≤ length bytes.old) }
+        requires before { filled ≤ at + 5 }
+        requires range { (at ≤ end) × (end ≤ length bytes.old) }
         ensures reads { ReadsPast self.old self.new early_data.old early_data.new
             (slice_range bytes.old at end) (past_at filled bytes.new result) }
         ensures within { IfOk result (λ found. IfSome found (λ read. filled + read.1 + 17 ≤ end)) }

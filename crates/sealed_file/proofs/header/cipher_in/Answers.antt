@@ -1,6 +1,6 @@
-use Rattle.std.proofs.Common.{◌≡◌, ◌<◌, false, true, inr, length, take, drop, refl, sym, ap, ◌∙◌, arith}
+use Rattle.std.proofs.Common.{◌≡◌, ◌<◌, false, true, Err, rules, inr, length, take, drop, refl, sym, ap, ◌∙◌, arith}
 use Rattle.std.proofs.lemmas.Result.{err_from_is_err_and}
-use Rattle.sealed_file.specs.declared.error.FileError.TheVariants.{EndsEarly}
+use Rattle.sealed_file.specs.declared.error.FileError.TheVariants.{EndsEarly, WrongKey}
 use Rattle.sealed_file.specs.Format.{ChunkKey, secret_of, fresh_key}
 use Rattle.sealed_file.proofs
 use proofs.HeaderLemmas.{another_key, refused_is_none}
@@ -31,43 +31,17 @@ returns-in_default-clause-accepted c = (
       absurd (refused_is_none s c.args.header.now EndsEarly (inr (front, short)) has),
 )
 
-pub returns-in-Ok-clause-accepted : goal.returns-in-Ok-clause-accepted
-returns-in-Ok-clause-accepted c =
-    let s = secret_of c.args.version c.args.key.now c.args.aad.now in
-    let whole = c.in-Some.ensures.cases.same in
-    let cipher_is = c.new-cipher.ensures.made ∙ ap (fresh_key s)
-    (c.random_in.ensures ∙ ap (λ l. take 19 (drop 9 l)) whole) in (
-      λ _. record { right = sym whole ∙ c.in-Ok.ensures.0 refl ∙ c.header.ensures.bytes ∙ ap (λ (k : ChunkKey). k.header) cipher_is },
-      λ _. refl,
-    )
-
-pub returns-in-Ok-clause-cipher : goal.returns-in-Ok-clause-cipher
-returns-in-Ok-clause-cipher c =
-    let s = secret_of c.args.version c.args.key.now c.args.aad.now in
-    c.new-cipher.ensures.made ∙ ap (fresh_key s)
-    (c.random_in.ensures ∙ ap (λ l. take 19 (drop 9 l)) c.in-Some.ensures.cases.same)
-
-pub returns-in-Err-clause-accepted : goal.returns-in-Err-clause-accepted
-returns-in-Err-clause-accepted c =
-    let s = secret_of c.args.version c.args.key.now c.args.aad.now in
-    let whole = c.in-Some.ensures.cases.same in
-    let cipher_is = c.new-cipher.ensures.made ∙ ap (fresh_key s)
-    (c.random_in.ensures ∙ ap (λ l. take 19 (drop 9 l)) whole) in (
-      λ e. cc,
-      λ has. c.in-Err.ensures.1 (whole ∙ has.right
-          ∙ sym (ap (λ (k : ChunkKey). k.header) cipher_is) ∙ sym c.header.ensures.bytes),
-    )
-
-pub returns-in-Err-clause-refused : goal.returns-in-Err-clause-refused
-returns-in-Err-clause-refused c =
+pub returns-in_err-map_err-clause-refused : goal.returns-in_err-map_err-clause-refused
+returns-in_err-map_err-clause-refused c =
     let s = secret_of c.args.version c.args.key.now c.args.aad.now in
     let whole = c.in-Some.ensures.cases.same in
     let cipher_is = c.new-cipher.ensures.made ∙ ap (fresh_key s)
     (c.random_in.ensures ∙ ap (λ l. take 19 (drop 9 l)) whole) in
     let front = c.in_ok-check_front.ensures.front refl in
     let size = c.in-Some.ensures.variant.0 refl in
-    another_key s c.args.header.now front size
+    let is_wrong : c.from_residual-in_err-map_err.result ≡ Err WrongKey = search rules in
+    rw is_wrong (another_key s c.args.header.now front size
     (λ made.
-    let accepted : false ≡ true = c.in-Err.ensures.1 (whole ∙ made
+    let never : false ≡ true = c.in_err-map_err.ensures.variant ∙ c.verify_slices_are_equal.ensures.1 (whole ∙ made
     ∙ sym (ap (λ (k : ChunkKey). k.header) cipher_is) ∙ sym c.header.ensures.bytes) in
-    cc)
+    absurd (cc never)))

@@ -12,7 +12,7 @@ returns-in_err-header-clause-none c =
 pub returns-in-Ok-clause-opened : goal.returns-in-Ok-clause-opened
 returns-in-Ok-clause-opened c =
     rw (← c.self.view_is)
-    (opens_message _ _ _ _ c.requires _ c.args.number c.self.invariant (c.in_ok-header.ensures.accepted.0 refl) _
+    (opens_message _ _ _ _ c.requires.before c.requires.range _ c.args.number c.self.invariant (c.in_ok-header.ensures.accepted.0 refl) _
     (rw (c.nonce_of-nonce.ensures, c.from-aad.ensures ∙ c.as_slice.ensures, c.in_ok-header.ensures.header) at c.in-Ok.ensures.opened) _
     c.in-Ok.ensures.count)
 
@@ -21,7 +21,7 @@ returns-in-Err-clause-refused c =
     let key = key_state c.self.inside in
     rw (← c.self.view_is) (
       c.in_ok-header.ensures.accepted.0 refl,
-      false_tag _ _ _ _ c.requires key c.args.number c.self.invariant (c.in_ok-header.ensures.accepted.0 refl) _
+      false_tag _ _ _ _ c.requires.before c.requires.range key c.args.number c.self.invariant (c.in_ok-header.ensures.accepted.0 refl) _
           (rw (c.nonce_of-nonce.ensures, c.from-aad.ensures ∙ c.as_slice.ensures, c.in_ok-header.ensures.header) at c.in-Err.ensures.opened),
     )
 
@@ -29,6 +29,6 @@ pub returns-in-Err-clause-none : goal.returns-in-Err-clause-none
 returns-in-Err-clause-none c =
     let key = key_state c.self.inside in
     rw (← c.self.view_is) (λ inner carried.
-    false_tag _ _ _ _ c.requires key c.args.number c.self.invariant (c.in_ok-header.ensures.accepted.0 refl) _
+    false_tag _ _ _ _ c.requires.before c.requires.range key c.args.number c.self.invariant (c.in_ok-header.ensures.accepted.0 refl) _
     (rw (c.nonce_of-nonce.ensures, c.from-aad.ensures ∙ c.as_slice.ensures, c.in_ok-header.ensures.header) at c.in-Err.ensures.opened) _
     (carried_seals _ _ _ inner carried))
