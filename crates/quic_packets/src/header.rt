@@ -238,7 +238,7 @@ pub(crate) fn masked_bytes(packet: &[u8], number_at: usize) -> Result<[u8; 5], M
 }
 
 /// Writes back what `masked_bytes` returned.
-pub(crate) fn write_back(packet: &mut [u8], number_at: usize, bytes: &[u8; 5])
+pub(crate) fn restore_masked_bytes(packet: &mut [u8], number_at: usize, bytes: &[u8; 5])
     requires first_byte { 0 < number_at }
     requires within { number_at + 4 ≤ length packet.old }
     ensures bytes { HasMaskedBytes bytes.now number_at packet.new }

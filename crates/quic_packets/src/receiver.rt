@@ -18,7 +18,7 @@ use crate::failures::Failures;
 use crate::first_byte::{
     KEY_PHASE_BIT, LONG_HEADER_FORM, LONG_RESERVED_BITS, SHORT_RESERVED_BITS, is_long,
 };
-use crate::header::{HeaderKey, SAMPLE_END, masked_bytes, write_back};
+use crate::header::{HeaderKey, SAMPLE_END, masked_bytes, restore_masked_bytes};
 use crate::key::PacketKey;
 use crate::key_error::KeyError;
 use crate::keys::{Keys, keys_of};
@@ -393,7 +393,7 @@ impl Receiver {
                 Ok((first, received))
             }
             Err(error) => {
-                write_back(packet, number_at, &masked);
+                restore_masked_bytes(packet, number_at, &masked);
                 Err(error)
             }
         }

@@ -10,7 +10,7 @@ use crate::error::FileError;
 use crate::header::{ChunkCipher, HEADER_LEN, VERSION, cipher_of};
 use crate::key::FileKey;
 use crate::random::FileRandom;
-use crate::read_at::rest_from;
+use crate::read_at::bytes_from;
 use aead_ciphers::aead::{MAX_TAG_LEN, Tag};
 
 /// The number of the last piece when `len` bytes are cut into pieces of `size` bytes.
@@ -186,7 +186,7 @@ pub(crate) fn append_opened(
 fn body_of(sealed: &[u8]) -> &[u8]
     ensures { result.now ≡ body_of sealed.now }
 {
-    rest_from(sealed, HEADER_LEN as u64)
+    bytes_from(sealed, HEADER_LEN as u64)
 }
 
 /// The number of the last chunk of a sealed file.

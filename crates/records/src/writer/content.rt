@@ -71,7 +71,7 @@ impl Writer {
         let cut = self.cut(content_type, content.len(), padding)?;
         match cut.records_len(content.len(), padding) {
             Some(len) if len <= out.len() => {
-                self.seal_next(cut, content_type, content, padding, out);
+                self.seal_cut(cut, content_type, content, padding, out);
                 Ok(len)
             }
             _ => Err(RecordError::NoRoom),
@@ -111,7 +111,7 @@ impl Writer {
         let start = out.len();
         append_zeros(out, len)?;
         let records = &mut out.as_mut_slice()[start..];
-        self.seal_next(cut, content_type, content, padding, records);
+        self.seal_cut(cut, content_type, content, padding, records);
         Ok(())
     }
 
@@ -137,7 +137,7 @@ impl Writer {
     }
 
     /// Seals a content under the next numbers, from the front of `out` on.
-    fn seal_next(
+    fn seal_cut(
         &mut self,
         cut: Cut,
         content_type: ContentType,

@@ -11,9 +11,9 @@ returns-in-Err-open-clause-opening c = λ sample.
 pub returns-in-Err-open-clause-kept : goal.returns-in-Err-open-clause-kept
 returns-in-Err-open-clause-kept c =
     let at = c.args.number_at in
-    let back = c.write_back.new.packet in
+    let back = c.restore_masked_bytes.new.packet in
     written_back c.self.inside.header at c.args.packet.now c.unprotect.new.packet back _
-    c.in-Ok-unprotect.ensures.unprotected c.in-Ok.ensures.bytes c.write_back.ensures.bytes
+    c.in-Ok-unprotect.ensures.unprotected c.in-Ok.ensures.bytes c.restore_masked_bytes.ensures.bytes
     (subst (λ (p : List ℕ). (i : ℕ) → 0 < i → (i < at) ⊎ (at + 4 ≤ i) → get_or back i 0 ≡ get_or p i 0)
-    c.in-Err-open.ensures.kept c.write_back.ensures.others)
+    c.in-Err-open.ensures.kept c.restore_masked_bytes.ensures.others)
     (omega (arith, ap length c.in-Err-open.ensures.kept))
