@@ -29,7 +29,7 @@ impl ContentType {
     }
 
     /// Returns the content type with this value, or `None` if there is none.
-    pub fn from_code(code: u8) -> Option<Self>
+    pub(crate) fn from_code(code: u8) -> Option<Self>
         ensures known { IfSome result (λ content_type. type_code content_type ≡ code) }
         ensures unknown { IfNone result (IsUnknown code) }
     {
@@ -42,7 +42,7 @@ impl ContentType {
     }
 
     /// Returns whether a record of this type may have no content. Only application data may (RFC 8446 sections 5.1 and 5.4).
-    pub fn may_be_empty(self) -> bool
+    pub(crate) fn may_be_empty(self) -> bool
         ensures { IsTrue result ↔ (self ≡ ContentType.ApplicationData) }
     {
         match self {
